@@ -1,12 +1,23 @@
-//! Labels of plain steps.
+//! Values without servers, words or copies, and labels of plain steps.
 
 ghost use Rattle.std.specs.Prelude.{◌≡◌, ◌+◌, ◌≤◌, ◌<◌, ◌++◌, [], ◌∷◌, length, slice_get, OnOk, OnErr, option_copied};
 
 use crate::memory::NoMemory;
 use crate::name::{MutexNo, ObjNo, ThreadNo};
-use crate::plain::Plain;
 use std::alloc::Global;
 use std::marker::Model;
+
+/// A value that can be owned, as labels and the plain machine show it.
+/// `Nothing` is what a move out leaves in a cell.
+#[derive(Clone, Copy, Debug, PartialEq, Eq)]
+pub enum Plain {
+    Nothing,
+    Unit,
+    Int(i64),
+    Box(ObjNo),
+    Mutex(MutexNo),
+    Task(ThreadNo),
+}
 
 /// What a plain step did that can be seen: objects made, loaded, stored and dropped, numbers printed, mutexes locked
 /// and unlocked, threads started and ended.
@@ -69,6 +80,8 @@ impl Labels {
         ensures room { 0 < self.old.spare → OnOk result (self.new.items ≡ self.old.items ++ label ∷ []) }
         ensures refused { OnErr result (self.new ≡ self.old) }
     {
+        // The check asks that each type inside a label is named where a label is moved.
+        let _inside: Option<Plain> = None;
         if self.items.reserve(1).is_err() {
             return Err(NoMemory);
         }

@@ -6,12 +6,10 @@ mod label;
 mod memory;
 mod name;
 mod place;
-mod plain;
 mod step;
 
-pub use label::{Label, Labels};
+pub use label::{Label, Labels, Plain};
 pub use memory::NoMemory;
 pub use name::{MutexNo, ObjNo, ThreadNo};
 pub use place::{Lval, Op};
-pub use plain::Plain;
 pub use step::{Ending3, Fresh, Wait};
