@@ -1,0 +1,2 @@
+//! Types, places and the typing of terms, as definitions, and their laws.
+#![tactic(auto)]
