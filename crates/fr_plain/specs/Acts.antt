@@ -1,0 +1,65 @@
+-- What a plain step does to the state: its act (Featherweight Rust's reductions; print and labels are this project's).
+use Rattle.std.specs.Prelude.{ℕ, ℤ, Bool, true, false, List, [], ◌∷◌, ◌++◌, Option, Some, None}
+use Rattle.fr_base.specs.declared.label.Plain.{Plain}
+use Rattle.fr_base.specs.declared.label.Plain.TheVariants as plain
+use Rattle.fr_base.specs.declared.label.Label.{Label}
+use Rattle.fr_base.specs.declared.label.Label.TheVariants as label
+use Rattle.fr_base.specs.declared.place.Lval.{Lval}
+use Rattle.fr_plain.specs.declared.value.Value.{Value}
+use Rattle.fr_plain.specs.declared.value.Value.TheVariants.{Own, ToSlot, ToObject}
+use Rattle.fr_plain.specs.Heap.{next_object, with_object}
+use Rattle.fr_plain.specs.State.{State, gone, Spot, value_at, with_value, loads, stores, drops, Reached, then_reached, locate, without, drop_value}
+
+pub data Act : Type 0 where
+  do_let : Value → Act
+  do_read : Lval → (take : Bool) → Act
+  do_assign : Lval → Value → Act
+  do_box : Value → Act
+  do_print : Value → Act
+  do_discard : Value → Act
+  do_drop : Act
+  do_end : Value → Act
+
+-- the value that the act leaves, the state after it, and its labels
+pub record Did : Type 0 where
+  pub value : Value
+  pub state : State
+  pub labels : List Label
+
+abbrev pub unit : Value
+unit = Own plain.Unit
+
+-- copied, or taken out
+abbrev pub read_did : State → Bool → Reached → Option Value → Option Did
+read_did s take r None = None
+read_did s false r (Some v) = Some (record { value = v; state = s; labels = r.passed ++ loads r.spot v })
+read_did s true r (Some v) = Some (record { value = v; state = with_value s r.spot gone; labels = r.passed ++ loads r.spot v ++ stores r.spot gone })
+
+-- the new value stands there, and the old one is dropped
+abbrev pub assign_did : State → Value → Reached → Option Value → Option Did
+assign_did s v r None = None
+assign_did s v r (Some old) = Some (record { value = unit; state = drop_value (with_value s r.spot v) old; labels = r.passed ++ drops old ++ stores r.spot v })
+
+abbrev pub box_did : State → Value → Option Did
+box_did s (Own v) =
+    Some (record { value = Own (plain.Box (next_object s.heap s.thread)); state = record s { heap = with_object s.heap s.thread v }; labels = label.Make (next_object s.heap s.thread) v ∷ [] })
+box_did s _ = None
+
+abbrev pub print_did : State → Value → Option Did
+print_did s (Own (plain.Int n)) = Some (record { value = unit; state = s; labels = label.Print n ∷ [] })
+print_did s _ = None
+
+-- the newest slot goes, and its value is dropped
+abbrev pub drop_did : State → List Value → Option Did
+drop_did s [] = None
+drop_did s (v ∷ vs) = Some (record { value = unit; state = drop_value (record s { slots = vs }) v; labels = drops v })
+
+abbrev pub act : Act → State → Option Did
+act (do_let v) s = Some (record { value = unit; state = record s { slots = v ∷ s.slots }; labels = [] })
+act (do_read w take) s = then_reached (locate s w) (λ r. read_did s take r (value_at s r.spot))
+act (do_assign w v) s = then_reached (locate s w) (λ r. assign_did s v r (value_at s r.spot))
+act (do_box v) s = box_did s v
+act (do_print v) s = print_did s v
+act (do_discard v) s = Some (record { value = unit; state = drop_value s v; labels = drops v })
+act do_drop s = drop_did s s.slots
+act (do_end v) s = Some (record { value = unit; state = drop_value s v; labels = drops v ++ label.End s.thread ∷ [] })

@@ -1,0 +1,5 @@
+pub mod Heap
+pub mod State
+pub mod Acts
+pub mod Run
+pub mod Whole

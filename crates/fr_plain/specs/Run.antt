@@ -1,0 +1,187 @@
+-- Running terms: terms with slots for names and with the values that steps left, and their moves (Featherweight Rust's
+-- reduction; that a block drops one slot a step is this project's rule).
+use Rattle.std.specs.Prelude.{ℕ, ℤ, zero, suc, ◌+◌, Bool, true, false, List, [], ◌∷◌, Option, Some, None}
+use Rattle.fr_base.specs.declared.label.Plain.TheVariants as plain
+use Rattle.fr_base.specs.declared.place.Lval.{Lval}
+use Rattle.fr_plain.specs.declared.value.Value.{Value}
+use Rattle.fr_plain.specs.declared.value.Value.TheVariants.{Own}
+use Rattle.fr_plain.specs.Acts.{Act, do_let, do_read, do_assign, do_box, do_print, do_discard, do_drop, do_end, unit}
+
+-- `temp` is a value that a step left; a block has the number of slots that it has still to drop
+mutual
+  pub data Run : Type 0 where
+    temp : Value → Run
+    unit_c : Run
+    number : ℤ → Run
+    read : Lval → (take : Bool) → Run
+    box_r : Run → Run
+    bind : Run → Run
+    print : Run → Run
+    assign : Lval → Run → Run
+    block : ℕ → Parts → Run
+
+  -- the items of a block; in `more` the first one has a `;` behind it
+  pub data Parts : Type 0 where
+    last : Run → Parts
+    more : Run → Parts → Parts
+
+-- a term that is done is a constant, or a temporary value
+pub data Now : Type 0 where
+  going : Now
+  constant : Value → Now
+  temporary : Value → Now
+
+module _ {A : Type 0} where
+  abbrev pub by_now : Now → A → (Value → A) → (Value → A) → A
+  by_now going a f g = a
+  by_now (constant v) a f g = f v
+  by_now (temporary v) a f g = g v
+
+  abbrev pub on_value : Now → (Value → A) → A → A
+  on_value n f a = by_now n a f f
+
+-- a constant before a `;` vanishes
+abbrev pub after : Now → Now → Now
+after going n = going
+after (constant v) n = n
+after (temporary v) n = going
+
+abbrev pub at_end : ℕ → Now → Now
+at_end zero n = n
+at_end (suc k) n = going
+
+abbrev mutual
+  pub now : Run → Now
+  now (temp v) = temporary v
+  now unit_c = constant unit
+  now (number n) = constant (Own (plain.Int n))
+  now (block k is) = at_end k (now_parts is)
+  now _ = going
+
+  pub now_parts : Parts → Now
+  now_parts (last r) = now r
+  now_parts (more r is) = after (now r) (now_parts is)
+
+-- WHAT NEEDS NO STEP
+-- a constant before a `;` vanishes, and a block that has dropped its slots is its last term
+
+abbrev pub settle_more : Now → Run → Parts → Parts → Parts
+settle_more going r is rest = more r is
+settle_more (constant v) r is rest = rest
+settle_more (temporary v) r is rest = more r is
+
+abbrev pub close_last : Now → Run → Run
+close_last going r = block zero (last r)
+close_last (constant v) r = r
+close_last (temporary v) r = r
+
+abbrev pub close : ℕ → Parts → Run
+close zero (last r) = close_last (now r) r
+close zero (more r is) = block zero (more r is)
+close (suc k) is = block (suc k) is
+
+abbrev mutual
+  pub settle : Run → Run
+  settle (temp v) = temp v
+  settle unit_c = unit_c
+  settle (number n) = number n
+  settle (read w take) = read w take
+  settle (box_r r) = box_r (settle r)
+  settle (bind r) = bind (settle r)
+  settle (print r) = print (settle r)
+  settle (assign w r) = assign w (settle r)
+  settle (block k is) = close k (settle_parts is)
+
+  pub settle_parts : Parts → Parts
+  settle_parts (last r) = last (settle r)
+  settle_parts (more r is) = settle_more (now (settle r)) (settle r) is (settle_parts is)
+
+-- THE NEXT ACT
+-- and what the term becomes with the value that the act leaves; neither sees the state
+
+pub record Move (P : Type 0) : Type 0 where
+  pub act : Act
+  pub plug : Value → P
+
+module _ {P Q : Type 0} where
+  abbrev pub next : (P → Q) → Option (Move P) → Option (Move Q)
+  next f None = None
+  next f (Some m) = Some (record { act = m.act; plug = λ v. f (m.plug v) })
+
+module _ {P : Type 0} where
+  abbrev pub alone : (Value → P) → Act → Option (Move P)
+  alone f a = Some (record { act = a; plug = f })
+
+-- a block whose items are done drops its slots
+abbrev pub block_end : ℕ → Parts → Option (Move Run)
+block_end zero is = None
+block_end (suc k) is = alone (λ v. block k is) do_drop
+
+abbrev mutual
+  -- a done term has none
+  pub move : Run → Option (Move Run)
+  move (temp v) = None
+  move unit_c = None
+  move (number n) = None
+  move (read w take) = alone temp (do_read w take)
+  move (box_r r) = on_value (now r) (λ v. alone temp (do_box v)) (next box_r (move r))
+  move (bind r) = on_value (now r) (λ v. alone (λ x. unit_c) (do_let v)) (next bind (move r))
+  move (print r) = on_value (now r) (λ v. alone (λ x. unit_c) (do_print v)) (next print (move r))
+  move (assign w r) = on_value (now r) (λ v. alone (λ x. unit_c) (do_assign w v)) (next (assign w) (move r))
+  move (block k is) = on_value (now_parts is) (λ v. block_end k is) (next (block k) (move_parts is))
+
+  pub move_parts : Parts → Option (Move Parts)
+  move_parts (last r) = next last (move r)
+  move_parts (more r is) = by_now (now r) (next (λ x. more x is) (move r)) (λ v. move_parts is) (λ v. alone (λ x. is) (do_discard v))
+
+-- a thread: its term in progress, or over
+pub data Life : Type 0 where
+  alive : Run → Life
+  over : Life
+
+abbrev pub settle_life : Life → Life
+settle_life (alive r) = alive (settle r)
+settle_life over = over
+
+abbrev pub life_move : Life → Option (Move Life)
+life_move (alive r) = on_value (now r) (λ v. alone (λ x. over) (do_end v)) (next alive (move r))
+life_move over = None
+
+-- HOW MANY STEPS ARE LEFT
+
+abbrev pub one_if_temporary : Bool → ℕ
+one_if_temporary true = 1
+one_if_temporary false = 0
+
+abbrev mutual
+  -- whether the term's value will be a temporary one
+  pub leaves : Run → Bool
+  leaves (temp v) = true
+  leaves (read w take) = true
+  leaves (box_r r) = true
+  leaves (block k is) = leaves_last is
+  leaves _ = false
+
+  pub leaves_last : Parts → Bool
+  leaves_last (last r) = leaves r
+  leaves_last (more r is) = leaves_last is
+
+abbrev mutual
+  pub steps_left : Run → ℕ
+  steps_left (temp v) = 0
+  steps_left unit_c = 0
+  steps_left (number n) = 0
+  steps_left (read w take) = 1
+  steps_left (box_r r) = steps_left r + 1
+  steps_left (bind r) = steps_left r + 1
+  steps_left (print r) = steps_left r + 1
+  steps_left (assign w r) = steps_left r + 1
+  steps_left (block k is) = steps_in is + k
+
+  pub steps_in : Parts → ℕ
+  steps_in (last r) = steps_left r
+  steps_in (more r is) = steps_left r + one_if_temporary (leaves r) + steps_in is
+
+abbrev pub life_left : Life → ℕ
+life_left (alive r) = steps_left r + 1
+life_left over = 0

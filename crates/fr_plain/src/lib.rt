@@ -1,0 +1,6 @@
+//! The plain machine as definitions: running terms, their moves, what an act does to the one heap, and whole runs.
+#![tactic(auto)]
+
+mod value;
+
+pub use value::Value;
