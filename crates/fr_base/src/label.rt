@@ -1,6 +1,6 @@
 //! Values without servers, words or copies, and labels of plain steps.
 
-ghost use Rattle.std.specs.Prelude.{◌≡◌, ◌+◌, ◌≤◌, ◌<◌, ◌++◌, [], ◌∷◌, length, slice_get, OnOk, OnErr, option_copied};
+ghost use Rattle.std.specs.Prelude.{◌≡◌, ◌+◌, ◌≤◌, ◌<◌, ◌++◌, [], ◌∷◌, length, slice_get, IsOk, OnOk, OnErr, option_copied};
 
 use crate::memory::NoMemory;
 use crate::name::{MutexNo, ObjNo, ThreadNo};
@@ -65,6 +65,8 @@ impl Labels {
     pub fn reserve(&mut self, n: usize) -> Result<(), NoMemory>
         ensures items { self.new.items ≡ self.old.items }
         ensures room { OnOk result (n ≤ self.new.spare) }
+        ensures had_room { n ≤ self.old.spare → IsOk result }
+        ensures spare { self.old.spare ≤ self.new.spare }
         ensures refused { OnErr result (self.new ≡ self.old) }
     {
         match self.items.reserve(n) {
@@ -77,7 +79,7 @@ impl Labels {
     pub fn push(&mut self, label: Label) -> Result<(), NoMemory>
         ensures pushed { OnOk result (self.new.items ≡ self.old.items ++ label ∷ []) }
         ensures spare { OnOk result (self.old.spare ≤ self.new.spare + 1) }
-        ensures room { 0 < self.old.spare → OnOk result (self.new.items ≡ self.old.items ++ label ∷ []) }
+        ensures room { 0 < self.old.spare → IsOk result }
         ensures refused { OnErr result (self.new ≡ self.old) }
     {
         // The check asks that each type inside a label is named where a label is moved.
