@@ -1,6 +1,6 @@
 -- Types and parts of Featherweight Rust, without the code's pointers. A reference's type names a set of places
 -- (one place until branches are joined), in rising order without repeats.
-use Rattle.std.specs.Prelude.{ℕ, Bool, true, false, ◌&&◌, ◌||◌, ◌==◌, nat_lt, List, [], ◌∷◌, Option, Some, None, if◌then◌else◌}
+use Rattle.std.specs.Prelude.{Bool, true, false, ◌&&◌, ◌||◌, ◌==◌, nat_lt, List, [], ◌∷◌, Option, Some, None, if◌then◌else◌}
 use Rattle.fr_base.specs.declared.place.Lval.{Lval}
 
 -- an owned type

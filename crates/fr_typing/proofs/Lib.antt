@@ -1,0 +1,4 @@
+pub mod Agree
+pub mod Outcomes
+pub mod OwnedLemmas
+pub mod PlaceLemmas

@@ -1,0 +1,63 @@
+-- The checks that typing makes (Featherweight Rust with this project's rules).
+use Rattle.std.specs.Prelude.{ℕ, suc, Bool, true, false, not, ◌&&◌, nat_lt, nat_le, ◌-◌, length, drop, Option, Some, if◌then◌else◌}
+use Rattle.std.specs.List.{list_any}
+use Rattle.fr_base.specs.declared.place.Lval.{Lval}
+use Rattle.fr_terms.specs.Terms.{Spot}
+use Rattle.fr_typing.specs.Kinds.{Owned, unit, int, box, mutex, task, same_owned, Kind, own, shared, mutable, Piece, whole}
+use Rattle.fr_typing.specs.Places.{Env, Shape, owned_shape, shared_to, mutable_to, kind_shape, piece_shape, shape_at, on_path, is_mutable, put_at}
+
+-- the place that a written place names, where its name is that of this slot
+abbrev pub place_of : Spot → ℕ → Lval
+place_of w s = record { slot = s; depth = w.stars }
+
+abbrev pub is_int : Kind → Bool
+is_int (own int) = true
+is_int _ = false
+
+abbrev pub is_owned : Kind → Bool
+is_owned (own o) = true
+is_owned _ = false
+
+-- unit and int have one level, each other type one more than what it holds
+abbrev pub owned_levels : Owned → ℕ
+owned_levels unit = 1
+owned_levels int = 1
+owned_levels (box o) = suc (owned_levels o)
+owned_levels (mutex o) = suc (owned_levels o)
+owned_levels (task o) = suc (owned_levels o)
+
+-- an owned type has at most 64 levels, so one of 64 can't be held by another
+abbrev pub is_full : Owned → Bool
+is_full o = nat_le 64 (owned_levels o)
+
+-- a reference or a view, to be written under a star
+abbrev pub is_kept_out : Kind → ℕ → Bool
+is_kept_out k stars = not (is_owned k) && nat_lt 0 stars
+
+abbrev pub same_shape : Shape → Shape → Bool
+same_shape (owned_shape a) (owned_shape b) = same_owned a b
+same_shape (shared_to a) (shared_to b) = same_shape a b
+same_shape (mutable_to a) (mutable_to b) = same_shape a b
+same_shape _ _ = false
+
+abbrev pub equal_shapes : Option Shape → Option Shape → Bool
+equal_shapes (Some a) (Some b) = same_shape a b
+equal_shapes _ _ = false
+
+-- a type has the shape of the part that it is to stand at
+abbrev pub has_shape_of : Env → Piece → Kind → Bool
+has_shape_of e p k = equal_shapes (piece_shape (shape_at e) p) (kind_shape (shape_at e) k)
+
+-- the type names this slot or a later one
+abbrev pub names_from : ℕ → Kind → Bool
+names_from n (shared us) = list_any (λ u. nat_le n u.slot) us
+names_from n (mutable us) = list_any (λ u. nat_le n u.slot) us
+names_from n _ = false
+
+-- the first n slots
+abbrev pub keep : ℕ → Env → Env
+keep n e = drop (length e - n) e
+
+-- what was written stands at the place, unless a mutable reference leads there
+abbrev pub set_through : Env → Lval → Kind → Env
+set_through e w k = if on_path is_mutable e w.slot w.depth then e else put_at e w (whole k)
