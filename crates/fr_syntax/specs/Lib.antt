@@ -2,6 +2,13 @@ pub mod Names
 pub mod Words
 pub mod Text
 pub mod Tokens
+pub mod TokenList
 pub mod NodeList
 pub mod Arena
 pub mod Meanings
+pub mod Grammar
+pub mod Source
+pub mod Reading
+pub mod Ordered
+pub mod Readable
+pub mod Growth

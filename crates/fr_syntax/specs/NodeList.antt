@@ -1,4 +1,4 @@
--- What contracts see of a list of node numbers.
+-- What contracts see of a list of node numbers (this project's rule).
 use Rattle.std.specs.Prelude.{ℕ, List}
 
 pub record NodeList : Type 0 where

@@ -1,4 +1,4 @@
--- The text of the first token.
+-- The text of the first token (this project's rule): the longest that can be one.
 use Rattle.std.specs.Prelude.{ℕ, ◌+◌, Bool, false, List, [], ◌∷◌, if◌then◌else◌}
 use Rattle.std.specs.List.{prefix_len}
 use Rattle.fr_syntax.specs.Words.{is_letter, is_digit, is_word_byte, is_blank}

@@ -1,4 +1,4 @@
--- What the tokens of a source are.
+-- What the tokens of a source are (this project's rule).
 use Rattle.std.specs.Prelude.{◌≡◌, ℕ, ◌+◌, ◌*◌, ◌<◌, ◌^◌, ◌-◌, nat_lt, nat_le, List, [], ◌∷◌, ◌++◌, length, drop, take, fold, Option, Some, None, is_some, Result, Ok, Err, if◌then◌else◌, pos}
 use Rattle.std.specs.List.{position_or_len}
 use Rattle.std.specs.Str.{bytes_eq}

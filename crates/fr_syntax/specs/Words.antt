@@ -1,4 +1,4 @@
--- Bytes, words and marks.
+-- Bytes, words and marks of the language (this project's rule).
 use Rattle.std.specs.Prelude.{ℕ, Bool, ◌||◌, ◌&&◌, ◌==◌, nat_le, List, [], ◌∷◌, Option, Some, None, if◌then◌else◌, codes}
 use Rattle.std.specs.Str.{bytes_eq}
 use Rattle.fr_syntax.specs.declared.kind.TokenKind.{TokenKind}

@@ -1,11 +1,15 @@
-//! What a token is.
+//! What a token is, and which texts are words and marks.
 
-ghost use Rattle.std.specs.Prelude.{◌≡◌, ◌<◌, ◌≤◌, length, IsTrue, ◌↔◌};
+ghost use Rattle.std.specs.Prelude.{◌≡◌, IfSome};
 ghost use Rattle.fr_syntax.specs.Words.{fixed_of, word_of, mark_of, is_letter, is_digit, is_word_byte, is_blank};
+ghost use Rattle.fr_syntax.specs.TokenList.{IsInner};
 
+/// What a token is: a name, a number, the end of the source, one of the fifteen words, or one of the eleven marks.
 #[derive(Clone, Copy, Debug, PartialEq, Eq)]
 pub enum TokenKind {
+    /// The number of a name: names are numbered from 0.
     Name(u32),
+    /// From 0 to 9223372036854775807.
     Number(i64),
     End,
     LetWord,
@@ -37,7 +41,8 @@ pub enum TokenKind {
 }
 
 fn word_of(text: &[u8]) -> Option<TokenKind>
-    ensures { result ≡ word_of text.now }
+    ensures kind { result ≡ word_of text.now }
+    ensures inner { IfSome result (IsInner 0) }
 {
     match text {
         b"let" => Some(TokenKind::LetWord),
@@ -60,7 +65,8 @@ fn word_of(text: &[u8]) -> Option<TokenKind>
 }
 
 fn mark_of(byte: u8) -> Option<TokenKind>
-    ensures { result ≡ mark_of byte }
+    ensures kind { result ≡ mark_of byte }
+    ensures inner { IfSome result (IsInner 0) }
 {
     match byte {
         b'{' => Some(TokenKind::OpenBrace),
@@ -80,7 +86,8 @@ fn mark_of(byte: u8) -> Option<TokenKind>
 
 /// The word or mark that this text is.
 pub(crate) fn fixed_of(text: &[u8]) -> Option<TokenKind>
-    ensures { result ≡ fixed_of text.now }
+    ensures kind { result ≡ fixed_of text.now }
+    ensures inner { IfSome result (IsInner 0) }
 {
     match text {
         [byte] if !is_letter(*byte) => mark_of(*byte),

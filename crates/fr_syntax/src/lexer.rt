@@ -1,39 +1,47 @@
 //! The tokens of a source.
 
-ghost use Rattle.std.specs.Prelude.{◌≤◌, length, IfOk, IfErr};
+ghost use Rattle.std.specs.Prelude.{◌+◌, ◌≤◌, length, IfOk, IfErr};
+ghost use Rattle.fr_syntax.specs.Readable.{HaveNoSigns};
+ghost use Rattle.fr_syntax.specs.TokenList.{EndsOnce};
 ghost use Rattle.fr_syntax.specs.Tokens.{AreTokens, IsRefusedOrNoMemory};
 
 use crate::kind::TokenKind;
-use crate::names::Names;
-use crate::token::{Token, TokenError, Tokens, first_text, kind_of};
+use crate::known::Known;
+use crate::list::Tokens;
+use crate::scan::{first_text, kind_of};
+use crate::token::{Token, TokenError};
 use std::alloc::Global;
 
-/// The tokens of the bytes, with the names numbered in the order in which they come first.
+/// The tokens of the bytes, of which there are at most 67,108,864. Names are numbered in the order in which they first come.
+/// A refusal names the first text that spells no token; want of memory comes at any time.
 pub fn tokens(alloc: Global, bytes: &[u8]) -> Result<Tokens, TokenError>
     requires { length bytes.now ≤ 67108864 }
-    ensures ok { IfOk result (λ t. AreTokens bytes.now t.items.items t.names) }
+    ensures ok { IfOk result (λ t. AreTokens bytes.now t.items t.names) }
+    ensures few { IfOk result (λ t. length t.items ≤ length bytes.now + 1) }
+    ensures ends { IfOk result (λ t. EndsOnce t.items) }
+    ensures unsigned { IfOk result (λ t. HaveNoSigns t.items) }
     ensures err { IfErr result (IsRefusedOrNoMemory bytes.now) }
 {
-    let mut items = Vec::new(alloc);
-    let mut names = Names::new(alloc);
+    let mut tokens = Tokens::new(alloc);
+    let mut known = Known::new(alloc);
     let mut place = 0usize;
     let mut rest = bytes;
     'each: loop {
         let (skipped, text, after) = first_text(rest);
-        let start = place + skipped;
+        let start = (place + skipped) as u32;
         if text.is_empty() {
-            items.push(Token {
+            tokens.push(Token {
                 kind: TokenKind::End,
-                start: start as u32,
-                end: start as u32,
+                start,
+                end: start,
             })?;
-            return Ok(Tokens { items, names });
+            return Ok(tokens);
         }
-        let kind = kind_of(&mut names, start as u32, text)?;
-        place = start + text.len();
-        items.push(Token {
+        let kind = kind_of(&mut tokens, &mut known, start, text)?;
+        place += skipped + text.len();
+        tokens.push(Token {
             kind,
-            start: start as u32,
+            start,
             end: place as u32,
         })?;
         rest = after;

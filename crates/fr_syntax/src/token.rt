@@ -1,18 +1,14 @@
-//! The tokens of a source.
+//! Tokens, and why a text has none.
 
-ghost use Rattle.std.specs.Prelude.{◌≡◌, ◌+◌, ◌<◌, ◌≤◌, ◌^◌, true, [], length, SomeIff, pos, IfOk, IfErr};
-ghost use Rattle.std.specs.List.{prefix_len};
-ghost use Rattle.std.specs.Str.{IsAscii};
-ghost use Rattle.fr_syntax.specs.Names.{with_text};
-ghost use Rattle.fr_syntax.specs.Words.{is_letter, is_digit, is_word_byte, is_blank};
-ghost use Rattle.fr_syntax.specs.Text.{blanks, text_len, head_is};
-ghost use Rattle.fr_syntax.specs.Tokens.{kind_at, name_at, names_after, Gives, number_value, first_text, after_text};
+ghost use Rattle.std.specs.Prelude.{◌≡◌};
 ghost use Rattle.fr_syntax.specs.declared.token.TokenError.TheVariants.{NoMemory};
 
-use crate::kind::{TokenKind, fixed_of, is_blank, is_digit, is_letter, is_word_byte};
-use crate::names::Names;
-use std::alloc::{AllocError, AllocFailed, Global};
+use crate::kind::TokenKind;
+use std::alloc::AllocError;
+use thiserror::Error;
 
+/// A token: what it is, and where its text lies in the source, from byte `start` to before byte `end`.
+/// The end has no text: both are the length of the source.
 #[derive(Clone, Copy, Debug, PartialEq, Eq)]
 pub struct Token {
     pub kind: TokenKind,
@@ -20,18 +16,29 @@ pub struct Token {
     pub end: u32,
 }
 
-#[derive(Drop)]
-pub struct Tokens {
-    pub items: Vec<Token>,
-    pub names: Names,
+/// Why a source has no tokens: its first text that spells none, by the place where it starts, a byte from 0.
+#[derive(Clone, Copy, Debug, PartialEq, Eq, Error)]
+pub enum TokenError {
+    /// The byte there begins no token.
+    #[error("byte {place} begins no token")]
+    BadByte { place: u32 },
+    /// The name there has more than 32 bytes.
+    #[error("the name at byte {place} has more than 32 bytes")]
+    NameTooLong { place: u32 },
+    /// The number there is above 9223372036854775807.
+    #[error("the number at byte {place} is above 9223372036854775807")]
+    NumberTooLarge { place: u32 },
+    /// There was no memory.
+    #[error("no memory")]
+    NoMemory,
 }
 
-#[derive(Clone, Copy, Debug, PartialEq, Eq)]
-pub enum TokenError {
-    BadByte { place: u32 },
-    NameTooLong { place: u32 },
-    NumberTooLarge { place: u32 },
-    NoMemory,
+impl From<fr_base::NoMemory> for TokenError {
+    ghost from_gives = { λ _ e. e ≡ NoMemory };
+
+    fn from(_error: fr_base::NoMemory) -> TokenError {
+        TokenError::NoMemory
+    }
 }
 
 impl From<AllocError> for TokenError {
@@ -40,117 +47,4 @@ impl From<AllocError> for TokenError {
     fn from(_error: AllocError) -> TokenError {
         TokenError::NoMemory
     }
-}
-
-impl<T: Drop> From<AllocFailed<T>> for TokenError {
-    ghost from_gives = { λ _ e. e ≡ NoMemory };
-
-    fn from(_error: AllocFailed<T>) -> TokenError {
-        TokenError::NoMemory
-    }
-}
-
-fn blanks(bytes: &[u8]) -> usize
-    ensures within { result ≤ length bytes.now }
-    ensures value { result ≡ blanks bytes.now }
-{
-    bytes.iter().take_while(|b| is_blank(**b)).count()
-}
-
-fn word_bytes(bytes: &[u8]) -> usize
-    ensures within { result ≤ length bytes.now }
-    ensures value { result ≡ prefix_len is_word_byte bytes.now }
-{
-    bytes.iter().take_while(|b| is_word_byte(**b)).count()
-}
-
-fn digits(bytes: &[u8]) -> usize
-    ensures within { result ≤ length bytes.now }
-    ensures value { result ≡ prefix_len is_digit bytes.now }
-{
-    bytes.iter().take_while(|b| is_digit(**b)).count()
-}
-
-fn text_len(bytes: &[u8]) -> usize
-    ensures within { result ≤ length bytes.now }
-    ensures value { result ≡ text_len bytes.now }
-{
-    match bytes {
-        [] => 0,
-        [b, rest @ ..] => {
-            if is_letter(*b) {
-                word_bytes(rest) + 1
-            } else if is_digit(*b) {
-                digits(rest) + 1
-            } else {
-                1
-            }
-        }
-    }
-}
-
-fn number_of(text: &[u8]) -> Option<i64>
-    ensures { SomeIff result (number_value text.now < 2 ^ 63) (pos (number_value text.now)) }
-{
-    let mut value = 0u64;
-    for d in text {
-        value = value
-            .saturating_mul(10)
-            .saturating_add(u64::from(d.saturating_sub(b'0')));
-    }
-    i64::try_from(value).ok()
-}
-
-pub(crate) fn kind_of(names: &mut Names, place: u32, text: &[u8]) -> Result<TokenKind, TokenError>
-    requires some { 0 < length text.now }
-    requires ascii { head_is is_letter text.now ≡ true → IsAscii text.now }
-    requires few { length names.old < 2 ^ 28 }
-    ensures kind { Gives result (kind_at names.old place text.now) }
-    ensures names { IfOk result (λ _. names.new ≡ names_after names.old text.now) }
-{
-    if let Some(kind) = fixed_of(text) {
-        return Ok(kind);
-    }
-    let first = text[0];
-    if is_letter(first) {
-        return name_of(names, place, text);
-    }
-    if !is_digit(first) {
-        return Err(TokenError::BadByte { place });
-    }
-    match number_of(text) {
-        Some(number) => Ok(TokenKind::Number(number)),
-        None => Err(TokenError::NumberTooLarge { place }),
-    }
-}
-
-fn name_of(names: &mut Names, place: u32, text: &[u8]) -> Result<TokenKind, TokenError>
-    requires ascii { IsAscii text.now }
-    requires few { length names.old < 2 ^ 28 }
-    ensures kind { Gives result (name_at names.old place text.now) }
-    ensures names { IfOk result (λ _. names.new ≡ with_text names.old text.now) }
-{
-    if text.len() > 32 {
-        return Err(TokenError::NameTooLong { place });
-    }
-    let Ok(name) = str::from_utf8(text) else {
-        unreachable!()
-    };
-    let number = names.number(name)?;
-    Ok(TokenKind::Name(number as u32))
-}
-
-/// How many blanks come first, then the longest text that can be a token, and what follows it.
-pub(crate) fn first_text(bytes: &[u8]) -> (usize, &[u8], &[u8])
-    ensures blanks { result.0 ≡ blanks bytes.now }
-    ensures text { result.1.now ≡ first_text bytes.now }
-    ensures after { result.2.now ≡ after_text bytes.now }
-    ensures all { result.0 + length result.1.now + length result.2.now ≡ length bytes.now }
-    ensures end { length result.1.now ≡ 0 → result.2.now ≡ [] }
-    ensures ascii { head_is is_letter result.1.now ≡ true → IsAscii result.1.now }
-{
-    let skipped = blanks(bytes);
-    let rest = &bytes[skipped..];
-    let (text, after) = rest.split_at(text_len(rest));
-    (skipped, text, after)
 }

@@ -1,6 +1,0 @@
-use Rattle.std.proofs.Common.{◌≡◌, ◌^◌, ◌-◌, min, take}
-use Rattle.fr_syntax.specs.Tokens.{number_value}
-use Rattle.fr_syntax.proofs.token.number_of.Given as goal
-
-abbrev pub invariant-loop-d : goal.invariant-loop-d
-invariant-loop-d l = l.value ≡ min (number_value (take l.d-index l.text)) (2 ^ 64 - 1)
