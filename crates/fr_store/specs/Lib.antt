@@ -1,0 +1,14 @@
+pub mod Keys
+pub mod Store
+pub mod Typed
+pub mod Changes
+pub mod Rows
+pub mod Below
+pub mod Thread
+pub mod OwnedRows
+pub mod ReferenceRows
+pub mod JoinRows
+pub mod OtherThreads
+pub mod Tidy
+pub mod ListState
+pub mod ListRows
