@@ -1,12 +1,11 @@
 -- Whole runs, computed.
-use Rattle.std.proofs.Common.{◌≡◌, false, ℕ, List, [], ◌∷◌, Option, Some, None, refl, pos}
+use Rattle.std.proofs.Common.{◌≡◌, false, [], ◌∷◌, Some, None, refl, pos}
 use Rattle.fr_base.specs.declared.label.Plain.TheVariants as plain
-use Rattle.fr_base.specs.declared.label.Label.{Label}
 use Rattle.fr_base.specs.declared.label.Label.TheVariants as label
 use Rattle.fr_base.specs.declared.name.ObjNo.{ObjNo}
 use Rattle.fr_base.specs.declared.place.Lval.{Lval}
 use Rattle.fr_plain.specs.Run.{Run, last, more, block, bind, box_r, number, assign, print, read, over, steps_left}
-use Rattle.fr_plain.specs.Whole.{Stepped, plain as plain_run, main_steps}
+use Rattle.fr_plain.specs.Whole.{plain as plain_run, main_steps}
 
 abbrev first_object : ObjNo
 first_object = record { thread = 0; count = 0 }

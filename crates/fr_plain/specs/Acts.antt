@@ -1,14 +1,13 @@
 -- What a plain step does to the state: its act (Featherweight Rust's reductions; print and labels are this project's).
-use Rattle.std.specs.Prelude.{ℕ, ℤ, Bool, true, false, List, [], ◌∷◌, ◌++◌, Option, Some, None}
-use Rattle.fr_base.specs.declared.label.Plain.{Plain}
+use Rattle.std.specs.Prelude.{Bool, true, false, List, [], ◌∷◌, ◌++◌, Option, Some, None}
 use Rattle.fr_base.specs.declared.label.Plain.TheVariants as plain
 use Rattle.fr_base.specs.declared.label.Label.{Label}
 use Rattle.fr_base.specs.declared.label.Label.TheVariants as label
 use Rattle.fr_base.specs.declared.place.Lval.{Lval}
 use Rattle.fr_plain.specs.declared.value.Value.{Value}
-use Rattle.fr_plain.specs.declared.value.Value.TheVariants.{Own, ToSlot, ToObject}
+use Rattle.fr_plain.specs.declared.value.Value.TheVariants.{Own}
 use Rattle.fr_plain.specs.Heap.{next_object, with_object}
-use Rattle.fr_plain.specs.State.{State, gone, Spot, value_at, with_value, loads, stores, drops, Reached, then_reached, locate, without, drop_value}
+use Rattle.fr_plain.specs.State.{State, gone, value_at, with_value, loads, stores, drops, Reached, then_reached, locate, drop_value}
 
 pub data Act : Type 0 where
   do_let : Value → Act

@@ -25,8 +25,9 @@ flat (Some cell) = cell
 abbrev pub cell_at : Heap → ObjNo → Option Plain
 cell_at h o = flat (slice_get (made_by h o.thread) o.count)
 
+-- a thread that has no entry gets one
 abbrev pub with_cells : Heap → ℕ → List (Option Plain) → Heap
-with_cells [] t cells = []
+with_cells [] t cells = record { thread = t; cells = cells } ∷ []
 with_cells (m ∷ ms) t cells = if m.thread == t then record m { cells = cells } ∷ ms else m ∷ with_cells ms t cells
 
 -- the heap with another value in an object's cell, or without the object

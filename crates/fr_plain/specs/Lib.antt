@@ -3,3 +3,4 @@ pub mod State
 pub mod Acts
 pub mod Run
 pub mod Whole
+pub mod Resolve

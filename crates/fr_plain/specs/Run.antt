@@ -1,6 +1,6 @@
 -- Running terms: terms with slots for names and with the values that steps left, and their moves (Featherweight Rust's
 -- reduction; that a block drops one slot a step is this project's rule).
-use Rattle.std.specs.Prelude.{ℕ, ℤ, zero, suc, ◌+◌, Bool, true, false, List, [], ◌∷◌, Option, Some, None}
+use Rattle.std.specs.Prelude.{ℕ, ℤ, zero, suc, ◌+◌, Bool, true, false, Option, Some, None}
 use Rattle.fr_base.specs.declared.label.Plain.TheVariants as plain
 use Rattle.fr_base.specs.declared.place.Lval.{Lval}
 use Rattle.fr_plain.specs.declared.value.Value.{Value}

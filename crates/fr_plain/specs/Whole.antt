@@ -1,5 +1,5 @@
 -- The plain machine whole: threads over one heap, steps of a thread under an order, and runs.
-use Rattle.std.specs.Prelude.{◌≡◌, ℕ, ℤ, zero, suc, Bool, true, false, ◌==◌, ◌&&◌, List, [], ◌∷◌, ◌++◌, Option, Some, None, if◌then◌else◌}
+use Rattle.std.specs.Prelude.{ℕ, ℤ, zero, suc, Bool, true, false, ◌==◌, ◌&&◌, List, [], ◌∷◌, ◌++◌, Option, Some, None, if◌then◌else◌}
 use Rattle.fr_base.specs.declared.label.Label.{Label}
 use Rattle.fr_base.specs.declared.label.Label.TheVariants as label
 use Rattle.fr_base.specs.declared.step.Fresh.{Fresh}
@@ -9,7 +9,7 @@ use Rattle.fr_base.specs.declared.step.Ending3.TheVariants as ending
 use Rattle.fr_plain.specs.declared.value.Value.{Value}
 use Rattle.fr_plain.specs.Heap.{Heap}
 use Rattle.fr_plain.specs.State.{State}
-use Rattle.fr_plain.specs.Acts.{Act, Did, act}
+use Rattle.fr_plain.specs.Acts.{Did, act}
 use Rattle.fr_plain.specs.Run.{Run, settle, Move, Life, alive, over, settle_life, life_move}
 
 -- a thread that was started
