@@ -1,0 +1,227 @@
+-- What the seen store becomes under each change of the state.
+use Rattle.std.proofs.Common.{◌≡◌, ◌≢◌, ℕ, zero, suc, ◌+◌, ◌<◌, ◌≤◌, Bool, true, false, List, [], ◌∷◌, ◌++◌, length, Option, Some, None, refl, sym, ap, ◌∙◌, arith, length-append}
+use Rattle.std.specs.Prelude.{◌==◌, if◌then◌else◌, slice_get, slice_set}
+use Rattle.std.proofs.Math.Seq.{get_or-append_seam}
+use Rattle.std.proofs.lemmas.List.{get_or-set_same, get_or-set_other, length-set}
+use Rattle.fr_base.specs.declared.label.Plain.{Plain}
+use Rattle.fr_base.specs.declared.label.Plain.TheVariants as plain
+use Rattle.fr_base.specs.declared.name.ObjNo.{ObjNo}
+use Rattle.fr_typing.proofs.PlaceLemmas.{eq_cases}
+use Rattle.fr_store.specs.Keys.{same_object}
+use Rattle.fr_store.specs.Store.{Val, gone_v, or_gone}
+use Rattle.fr_store.specs.ListState.{slot_value, put_slot, put_object, without_object, drop_objects, drop_rest}
+use Rattle.fr_store.proofs.Keys.{object_cases}
+use Rattle.fr_plain.specs.declared.value.Value.{Value}
+use Rattle.fr_plain.specs.Heap.{Heap, made_by, flat, cell_at, with_cells, with_cell, next_object, with_object, then_drop, drop_links, count_cells, live}
+use Rattle.fr_plain.specs.State.{slot_at, with_slot}
+use Rattle.fr_plain.proofs.HeapLemmas.{made_same, made_other, flat_is, flat_past, cell_there}
+use Rattle.fr_sound.specs.Seen.{owned_val, val_of, vals, seen_cell, heap_of}
+
+-- SLOTS
+
+pub length_vals : (t : ℕ) (vs : List Value) → length (vals t vs) ≡ length vs
+length_vals t [] = refl
+length_vals t (v ∷ vs) = ap suc (length_vals t vs)
+
+some_slot : (b : Bool) (t : ℕ) (v : Value) (x : Option Value) (w : Value) (rest : Val) → (x ≡ Some w → rest ≡ val_of t w) → (if b then Some v else x) ≡ Some w → (if b then val_of t v else rest) ≡ val_of t w
+some_slot true t v x w rest go h = let same : v ≡ w = cc in ap (val_of t) same
+some_slot false t v x w rest go h = go h
+
+-- a slot that is there is seen with its value
+pub slot_seen : (t : ℕ) (vs : List Value) (i : ℕ) (w : Value) → slot_at vs i ≡ Some w → slot_value (vals t vs) i ≡ val_of t w
+slot_seen t [] i w h = cc
+slot_seen t (v ∷ vs) i w h =
+    ap (λ n. if i == n then val_of t v else slot_value (vals t vs) i) (length_vals t vs) ∙ some_slot (i == length vs) t v (slot_at vs i) w (slot_value (vals t vs) i) (slot_seen t vs i w) h
+
+-- a slot below the number of slots is there
+pub slot_there : (vs : List Value) (i : ℕ) → i < length vs → (w : Value) × (slot_at vs i ≡ Some w)
+slot_there [] i lt = absurd (omega arith)
+slot_there (v ∷ vs) i lt =
+    eq_cases (λ b. (w : Value) × ((if b then Some v else slot_at vs i) ≡ Some w)) i (length vs) (λ e. (v, refl)) (λ ne. slot_there vs i (omega arith))
+
+pub vals_with : (t : ℕ) (vs : List Value) (i : ℕ) (w : Value) → vals t (with_slot vs i w) ≡ put_slot (vals t vs) i (val_of t w)
+vals_with t [] i w = refl
+vals_with t (v ∷ vs) i w =
+    eq_cases (λ b. vals t (if b then w ∷ vs else v ∷ with_slot vs i w) ≡ (if b then val_of t w ∷ vals t vs else val_of t v ∷ put_slot (vals t vs) i (val_of t w))) i (length vs) (λ e. refl) (λ ne. ap (λ x. val_of t v ∷ x) (vals_with t vs i w))
+    ∙ ap (λ n. if i == n then val_of t w ∷ vals t vs else val_of t v ∷ put_slot (vals t vs) i (val_of t w)) (sym (length_vals t vs))
+
+pub length_with_slot : (vs : List Value) (i : ℕ) (w : Value) → length (with_slot vs i w) ≡ length vs
+length_with_slot [] i w = refl
+length_with_slot (v ∷ vs) i w = eq_cases (λ b. length (if b then w ∷ vs else v ∷ with_slot vs i w) ≡ suc (length vs)) i (length vs) (λ e. refl) (λ ne. ap suc (length_with_slot vs i w))
+
+-- THE HEAP
+
+abbrev object_of : ℕ → ℕ → ObjNo
+object_of t c = record { thread = t; count = c }
+
+object_is : (x o : ObjNo) → x.thread ≡ o.thread → x.count ≡ o.count → x ≡ o
+object_is x o e f = ap (λ t. object_of t x.count) e ∙ ap (object_of o.thread) f
+
+-- an object's cell after a change
+pub cell_with : (h : Heap) (o x : ObjNo) (c : Option Plain) → o.count < length (made_by h o.thread) → cell_at (with_cell h o c) x ≡ (if same_object x o then c else cell_at h x)
+cell_with h o x c lt = object_cases (λ b. cell_at (with_cell h o c) x ≡ (if b then c else cell_at h x)) x o same other
+  where
+    xs : List (Option Plain)
+    xs = made_by h o.thread
+
+    same : x ≡ o → cell_at (with_cell h o c) x ≡ c
+    same e =
+        ap (cell_at (with_cell h o c)) e ∙ ap (λ ys. flat (slice_get ys o.count)) (made_same h o.thread (slice_set (made_by h o.thread) o.count c))
+        ∙ flat_is (slice_set (made_by h o.thread) o.count c) o.count ∙ get_or-set_same (made_by h o.thread) o.count c None lt
+
+    other : x ≢ o → cell_at (with_cell h o c) x ≡ cell_at h x
+    other ne =
+        eq_cases (λ b. cell_at (with_cell h o c) x ≡ cell_at h x) x.thread o.thread
+        (λ e. eq_cases (λ b. cell_at (with_cell h o c) x ≡ cell_at h x) x.count o.count
+        (λ f. let whole : x ≡ o = object_is x o e f in absurd (ne whole))
+        (λ off. ap (λ u. flat (slice_get (made_by (with_cell h o c) u) x.count)) e ∙ ap (λ ys. flat (slice_get ys x.count)) (made_same h o.thread (slice_set (made_by h o.thread) o.count c))
+        ∙ flat_is (slice_set (made_by h o.thread) o.count c) x.count ∙ get_or-set_other (made_by h o.thread) o.count x.count c None off ∙ sym (flat_is (made_by h o.thread) x.count) ∙ ap (λ u. flat (slice_get (made_by h u) x.count)) (sym e)))
+        (λ off. ap (λ ys. flat (slice_get ys x.count)) (made_other h o.thread x.thread (slice_set (made_by h o.thread) o.count c) off))
+
+seen_if : (b : Bool) (c d : Option Plain) → seen_cell (if b then c else d) ≡ (if b then seen_cell c else seen_cell d)
+seen_if true c d = refl
+seen_if false c d = refl
+
+-- a cell gets another value
+pub heap_put : (h : Heap) (o x : ObjNo) (v : Plain) → o.count < length (made_by h o.thread) → heap_of (with_cell h o (Some v)) x ≡ put_object (heap_of h) o (owned_val v) x
+heap_put h o x v lt = ap seen_cell (cell_with h o x (Some v) lt) ∙ seen_if (same_object x o) (Some v) (cell_at h x)
+
+-- an object goes
+pub heap_without : (h : Heap) (o x : ObjNo) → o.count < length (made_by h o.thread) → heap_of (with_cell h o None) x ≡ without_object (heap_of h) o x
+heap_without h o x lt = ap seen_cell (cell_with h o x None lt) ∙ seen_if (same_object x o) None (cell_at h x)
+
+-- a list of cells with one more
+flat_push : (xs : List (Option Plain)) (v : Plain) (i : ℕ) → i ≢ length xs → flat (slice_get (xs ++ Some v ∷ []) i) ≡ flat (slice_get xs i)
+flat_push [] v zero ne = absurd (ne refl)
+flat_push [] v (suc i) ne = flat_past [] i (omega arith)
+flat_push (x ∷ xs) v zero ne = refl
+flat_push (x ∷ xs) v (suc i) ne = flat_push xs v i (λ e. ne (ap suc e))
+
+-- a new object
+pub cell_made : (h : Heap) (t : ℕ) (x : ObjNo) (v : Plain) → cell_at (with_object h t v) x ≡ (if same_object x (next_object h t) then Some v else cell_at h x)
+cell_made h t x v = object_cases (λ b. cell_at (with_object h t v) x ≡ (if b then Some v else cell_at h x)) x (next_object h t) same other
+  where
+    same : x ≡ next_object h t → cell_at (with_object h t v) x ≡ Some v
+    same e =
+        ap (cell_at (with_object h t v)) e ∙ ap (λ ys. flat (slice_get ys (length (made_by h t)))) (made_same h t (made_by h t ++ Some v ∷ []))
+        ∙ flat_is (made_by h t ++ Some v ∷ []) (length (made_by h t)) ∙ get_or-append_seam (made_by h t) (Some v) [] None
+
+    other : x ≢ next_object h t → cell_at (with_object h t v) x ≡ cell_at h x
+    other ne =
+        eq_cases (λ b. cell_at (with_object h t v) x ≡ cell_at h x) x.thread t
+        (λ e. ap (λ u. flat (slice_get (made_by (with_object h t v) u) x.count)) e ∙ ap (λ ys. flat (slice_get ys x.count)) (made_same h t (made_by h t ++ Some v ∷ []))
+        ∙ flat_push (made_by h t) v x.count (λ f. ne (object_is x (next_object h t) e f)) ∙ ap (λ u. flat (slice_get (made_by h u) x.count)) (sym e))
+        (λ off. ap (λ ys. flat (slice_get ys x.count)) (made_other h t x.thread (made_by h t ++ Some v ∷ []) off))
+
+pub heap_made : (h : Heap) (t : ℕ) (x : ObjNo) (v : Plain) → heap_of (with_object h t v) x ≡ put_object (heap_of h) (next_object h t) (owned_val v) x
+heap_made h t x v = ap seen_cell (cell_made h t x v) ∙ seen_if (same_object x (next_object h t)) (Some v) (cell_at h x)
+
+-- a live cell is made
+pub live_made : (h : Heap) (o : ObjNo) (v : Plain) → cell_at h o ≡ Some v → o.count < length (made_by h o.thread)
+live_made h o v e = cell_there (made_by h o.thread) o.count v e
+
+-- HOW MANY HAVE BEEN MADE
+
+-- a change of a cell changes no length
+pub made_kept : (h : Heap) (o : ObjNo) (c : Option Plain) (u : ℕ) → length (made_by (with_cell h o c) u) ≡ length (made_by h u)
+made_kept h o c u =
+    eq_cases (λ b. length (made_by (with_cell h o c) u) ≡ length (made_by h u)) u o.thread
+    (λ e. ap (λ w. length (made_by (with_cell h o c) w)) e ∙ ap length (made_same h o.thread (slice_set (made_by h o.thread) o.count c)) ∙ length-set (made_by h o.thread) o.count c ∙ ap (λ w. length (made_by h w)) (sym e))
+    (λ ne. ap length (made_other h o.thread u (slice_set (made_by h o.thread) o.count c) ne))
+
+pub made_grows : (h : Heap) (t : ℕ) (v : Plain) (u : ℕ) → length (made_by h u) ≤ length (made_by (with_object h t v) u)
+made_grows h t v u =
+    eq_cases (λ b. length (made_by h u) ≤ length (made_by (with_object h t v) u)) u t
+    (λ e. let a = ap (λ w. length (made_by (with_object h t v) w)) e ∙ ap length (made_same h t (made_by h t ++ Some v ∷ [])) in
+    let b = ap (λ w. length (made_by h w)) e in
+    omega (arith, a, b, length-append (made_by h t) (Some v ∷ [])))
+    (λ ne. let a = ap length (made_other h t u (made_by h t ++ Some v ∷ []) ne) in omega (arith, a))
+
+pub made_next : (h : Heap) (t : ℕ) (v : Plain) → length (made_by h t) < length (made_by (with_object h t v) t)
+made_next h t v = let a = ap length (made_same h t (made_by h t ++ Some v ∷ [])) in omega (arith, a, length-append (made_by h t) (Some v ∷ []))
+
+-- DROPPING
+
+count_set : (xs : List (Option Plain)) (i : ℕ) (v : Plain) → flat (slice_get xs i) ≡ Some v → count_cells (slice_set xs i None) + 1 ≡ count_cells xs
+count_set [] i v h = cc
+count_set (None ∷ xs) zero v h = cc
+count_set (Some w ∷ xs) zero v h = omega arith
+count_set (None ∷ xs) (suc i) v h = count_set xs i v h
+count_set (Some w ∷ xs) (suc i) v h = let g = count_set xs i v h in omega (arith, g)
+
+live_cells : (h : Heap) (t : ℕ) (ys : List (Option Plain)) → live (with_cells h t ys) + count_cells (made_by h t) ≡ live h + count_cells ys
+live_cells [] t ys = omega arith
+live_cells (m ∷ ms) t ys =
+    eq_cases (λ b. live (if b then record m { cells = ys } ∷ ms else m ∷ with_cells ms t ys) + count_cells (if b then m.cells else made_by ms t) ≡ live (m ∷ ms) + count_cells ys) m.thread t
+    (λ e. omega arith) (λ ne. let g = live_cells ms t ys in omega (arith, g))
+
+-- each object that goes lived
+pub live_falls : (h : Heap) (o : ObjNo) (v : Plain) → cell_at h o ≡ Some v → live (with_cell h o None) + 1 ≡ live h
+live_falls h o v e =
+    let a = live_cells h o.thread (slice_set (made_by h o.thread) o.count None) in
+    let b = count_set (made_by h o.thread) o.count v e in
+    omega (arith, a, b)
+
+-- heaps that hold the same
+abbrev pub SameHeap : (ObjNo → Option Val) → (ObjNo → Option Val) → Type 0
+SameHeap f g = (x : ObjNo) → f x ≡ g x
+
+without_same : (f g : ObjNo → Option Val) (o : ObjNo) → SameHeap f g → SameHeap (without_object f o) (without_object g o)
+without_same f g o h x = ap (λ v. if same_object x o then None else v) (h x)
+
+without_none : (f : ObjNo → Option Val) (o : ObjNo) → f o ≡ None → SameHeap (without_object f o) f
+without_none f o h x = object_cases (λ b. (if b then None else f x) ≡ f x) x o (λ e. sym (ap f e ∙ h)) (λ ne. refl)
+
+drop_nothing : (n : ℕ) (f : ObjNo → Option Val) → drop_objects n gone_v f ≡ f
+drop_nothing zero f = refl
+drop_nothing (suc n) f = refl
+
+-- the same of one object less, with any number that is as large as the live objects
+abbrev GoesOn : ℕ → Heap → ObjNo → (ObjNo → Option Val) → Type 0
+GoesOn n h o f =
+    (k : ℕ) (w : Plain) → SameHeap (without_object f o) (heap_of (with_cell h o None)) → drop_rest n (owned_val w) (without_object f o) ≡ gone_v → live (with_cell h o None) ≤ k
+    → SameHeap (drop_objects n (owned_val w) (without_object f o)) (heap_of (drop_links k (with_cell h o None) w))
+
+-- how the plain machine drops a value is how the store does, where the store's number is enough and the machine's as large as the live objects
+pub drops_agree : (n m : ℕ) (h : Heap) (v : Plain) (f : ObjNo → Option Val) → SameHeap f (heap_of h) → drop_rest n (owned_val v) f ≡ gone_v → live h ≤ m → SameHeap (drop_objects n (owned_val v) f) (heap_of (drop_links m h v))
+drops_agree n m h plain.Nothing f same ends le = nothing n m
+  where
+    nothing : (n m : ℕ) → SameHeap (drop_objects n gone_v f) (heap_of (drop_links m h plain.Nothing))
+    nothing zero zero = same
+    nothing zero (suc m) = same
+    nothing (suc n) zero = same
+    nothing (suc n) (suc m) = same
+drops_agree zero m h plain.Unit f same ends le = cc
+drops_agree (suc n) zero h plain.Unit f same ends le = same
+drops_agree (suc n) (suc m) h plain.Unit f same ends le = same
+drops_agree zero m h (plain.Int z) f same ends le = cc
+drops_agree (suc n) zero h (plain.Int z) f same ends le = same
+drops_agree (suc n) (suc m) h (plain.Int z) f same ends le = same
+drops_agree zero m h (plain.Mutex z) f same ends le = cc
+drops_agree (suc n) zero h (plain.Mutex z) f same ends le = same
+drops_agree (suc n) (suc m) h (plain.Mutex z) f same ends le = same
+drops_agree zero m h (plain.Task z) f same ends le = cc
+drops_agree (suc n) zero h (plain.Task z) f same ends le = same
+drops_agree (suc n) (suc m) h (plain.Task z) f same ends le = same
+drops_agree zero m h (plain.Box o) f same ends le = cc
+drops_agree (suc n) m h (plain.Box o) f same ends le = by (λ k w g r l. drops_agree n k (with_cell h o None) w (without_object f o) g r l) (cell_at h o) refl m le
+  where
+    -- the object isn't there
+    none : cell_at h o ≡ None → SameHeap (drop_objects n (or_gone (f o)) (without_object f o)) (heap_of h)
+    none e x =
+        let fo : f o ≡ None = same o ∙ ap seen_cell e in
+        ap (λ v. drop_objects n (or_gone v) (without_object f o) x) fo ∙ ap (λ g. g x) (drop_nothing n (without_object f o)) ∙ without_none f o fo x ∙ same x
+
+    there : GoesOn n h o f → (w : Plain) (m : ℕ) → cell_at h o ≡ Some w → live h ≤ suc m → SameHeap (drop_objects n (or_gone (f o)) (without_object f o)) (heap_of (drop_links m (with_cell h o None) w))
+    there go w m e le x =
+        let fo : f o ≡ Some (owned_val w) = same o ∙ ap seen_cell e in
+        let l = live_falls h o w e in
+        let kept : SameHeap (without_object f o) (heap_of (with_cell h o None)) = λ y. without_same f (heap_of h) o same y ∙ sym (heap_without h o y (live_made h o w e)) in
+        let rest : drop_rest n (owned_val w) (without_object f o) ≡ gone_v = sym (ap (λ v. drop_rest n (or_gone v) (without_object f o)) fo) ∙ ends in
+        ap (λ v. drop_objects n (or_gone v) (without_object f o) x) fo ∙ go m w kept rest (omega (arith, l)) x
+
+    by : GoesOn n h o f → (c : Option Plain) → cell_at h o ≡ c → (m : ℕ) → live h ≤ m → SameHeap (drop_objects n (or_gone (f o)) (without_object f o)) (heap_of (drop_links m h (plain.Box o)))
+    by go None e zero le = none e
+    by go None e (suc m) le = λ x. none e x ∙ ap (λ c. heap_of (then_drop c h (drop_links m (with_cell h o None))) x) (sym e)
+    by go (Some w) e zero le = let l = live_falls h o w e in absurd (omega (arith, l))
+    by go (Some w) e (suc m) le = λ x. there go w m e le x ∙ ap (λ c. heap_of (then_drop c h (drop_links m (with_cell h o None))) x) (sym e)

@@ -1,0 +1,158 @@
+-- The whole machine: a typed state steps, or has ended.
+use Rattle.std.proofs.Common.{◌≡◌, ℕ, zero, suc, ◌-◌, Bool, true, false, [], ◌∷◌, ◌++◌, length, drop, Option, Some, None, refl, sym, ap, ◌∙◌, subst, arith}
+use Rattle.std.specs.Prelude.{◌==◌, ◌⊎◌, if◌then◌else◌, slice_get}
+use Rattle.fr_plain.proofs.HeapLemmas.{flat_past}
+use Rattle.std.proofs.Common.{inl, inr}
+use Rattle.fr_base.specs.declared.step.Fresh.TheVariants as fresh
+use Rattle.fr_terms.specs.Terms.{block_t, Items}
+use Rattle.fr_typing.specs.Kinds.{Owned, Kind}
+use Rattle.fr_typing.specs.Places.{Env}
+use Rattle.fr_typing.specs.Typing.{Types, types_block}
+use Rattle.fr_typing.proofs.PlaceLemmas.{eq_cases}
+use Rattle.fr_store.specs.Keys.{slot_k, hand_k}
+use Rattle.fr_store.specs.Store.{Alike, at_key, at_object, gone_v}
+use Rattle.fr_store.specs.ListState.{store_of}
+use Rattle.fr_store.specs.Typed.{KeyTypes, hole, owns}
+use Rattle.fr_store.proofs.OtherThreads.{start_row}
+use Rattle.fr_store.proofs.ListState.{list_start, Alike-then}
+use Rattle.fr_plain.specs.declared.value.Value.{Value}
+use Rattle.fr_plain.specs.Heap as plain_heap
+use Rattle.fr_plain.specs.State.{State}
+use Rattle.fr_plain.specs.Acts.{do_end, Did, act}
+use Rattle.fr_plain.specs.Run.{Run, Now, going, now, on_value, settle, Move, next, alone, move, Life, alive, over, settle_life, life_move}
+use Rattle.fr_plain.specs.Whole.{Thread, Stepped, thread_at, with_thread, prints, state_of, stepped, moved, step_of, step}
+use Rattle.fr_plain.specs.Resolve.{program}
+use Rattle.fr_sound.specs.RunTypes.{RunTypes, held, Operand, o_temp, a_end}
+use Rattle.fr_sound.specs.Seen.{seen_cell, heap_of, seen, rank_of, AreMade, Holds}
+use Rattle.fr_sound.specs.NeverStuck.{IsAlive, IsTypedLife, Steps, NeverStuck, StartsTyped}
+use Rattle.fr_sound.proofs.Redex.{quiet, Done, d_going, d_constant, d_temporary, done, Goes, GoesOr, g_going, g_constant, g_temporary, redex, settle_types, settle_holds}
+use Rattle.fr_sound.proofs.ActsHold.{after_holds, seen_heap, acts_hold}
+use Rattle.fr_sound.proofs.Bridge.{resolve_runs}
+
+-- A STEP OF A LIFE
+
+-- the life after the act is typed over the state after it
+pub record LifeSteps (l : Life) (st : State) : Type 0 where
+  pub move : Move Life
+  pub is : life_move l ≡ Some move
+  pub did : Did
+  pub acts : act move.act st ≡ Some did
+  pub same : did.state.thread ≡ st.thread
+  pub typed : IsTypedLife (settle_life (move.plug did.value)) did.state
+
+life_ends : {e : Env} {o : Option Owned} {h : Option Value} {x : Owned} (r : Run) (st : State) (v : Value) → Operand o h v x → Holds e o h st → e ≡ [] → (life_move (alive r) ≡ alone (λ u. over) (do_end v)) → LifeSteps (alive r) st
+life_ends {o = o} {h = h} r st v p y same is =
+    let y1 = subst (λ (f : Env). Holds f o h st) same y in
+    let a = acts_hold y1 (a_end p) in
+    record { move = record { act = do_end v; plug = λ u. over }; is = is; did = a.did; acts = a.is; same = a.same; typed = a.holds }
+
+life_goes : (r : Run) (st : State) (y : IsAlive r st) → now r ≡ going → Goes y.env y.temp (held r) y.type [] (move r) → LifeSteps (alive r) st
+life_goes r st y g m =
+    let a = acts_hold y.holds m.act in
+    let runs = m.goes a.did.value in
+    let holds : Holds m.env m.left (held (settle (m.next.plug a.did.value))) a.did.state =
+    subst (λ (h : Option Value). Holds m.env m.left h a.did.state) (sym (settle_holds (m.next.plug a.did.value) runs ∙ m.holds a.did.value)) a.holds in
+    record {
+      move = record { act = m.next.act; plug = λ v. alive (m.next.plug v) };
+      is = ap (λ n. on_value n (λ v. alone (λ x. over) (do_end v)) (next alive (move r))) g ∙ ap (next alive) m.is;
+      did = a.did;
+      acts = a.is;
+      same = a.same;
+      typed = record { env = m.env; temp = m.left; type = y.type; types = settle_types (m.next.plug a.did.value) runs; holds = holds };
+    }
+
+life_by : {n : Now} {e f : Env} {o : Option Owned} {h : Option Value} {x : Owned} (r : Run) (st : State) → now r ≡ n → Done n e o h x f → Holds e o h st → f ≡ [] → (n ≡ going → LifeSteps (alive r) st) → LifeSteps (alive r) st
+life_by r st e d_going y none go = go refl
+life_by r st e (d_constant p) y none go = life_ends r st _ p y none (ap (λ n. on_value n (λ v. alone (λ x. over) (do_end v)) (next alive (move r))) e)
+life_by r st e d_temporary y none go = life_ends r st _ o_temp y none (ap (λ n. on_value n (λ v. alone (λ x. over) (do_end v)) (next alive (move r))) e)
+
+goes_of : {n : Now} {e f : Env} {o : Option Owned} {h : Option Value} {x : Owned} {m : Option (Move Run)} → GoesOr n e o h x f m → n ≡ going → Goes e o h x f m
+goes_of (g_going g) e = g
+goes_of g_constant e = cc
+goes_of g_temporary e = cc
+
+life_steps : (r : Run) (st : State) → IsAlive r st → LifeSteps (alive r) st
+life_steps r st y = life_by r st refl (done r y.types) y.holds refl (λ e. life_goes r st y e (goes_of (redex r y.types) e))
+
+-- A STEP OF THE WHOLE
+
+same_thread : (t : Thread) (new : Thread) → t.number ≡ new.number → with_thread (t ∷ []) new ≡ new ∷ []
+same_thread t new e = eq_cases (λ b. (if b then new ∷ [] else t ∷ []) ≡ new ∷ []) t.number new.number (λ _. refl) (λ ne. absurd (ne e))
+
+only_thread : (t : Thread) → thread_at (t ∷ []) t.number ≡ Some t
+only_thread t = eq_cases (λ b. (if b then Some t else None) ≡ Some t) t.number t.number (λ _. refl) (λ ne. absurd (ne refl))
+
+pub never_stuck_lem : NeverStuck
+never_stuck_lem s y = by y.thread.life refl y.life
+  where
+    t : Thread
+    t = y.thread
+
+    after : (m : LifeSteps t.life (state_of s t)) → Steps s t.number
+    after m =
+        let next : Stepped = record {
+          state = record { threads = with_thread s.threads (record { number = t.number; life = settle_life (m.move.plug m.did.value); slots = m.did.state.slots }); heap = m.did.state.heap; output = s.output ++ prints m.did.labels };
+          labels = m.did.labels;
+        } in
+        let new : Thread = record { number = t.number; life = settle_life (m.move.plug m.did.value); slots = m.did.state.slots } in
+        let found : thread_at s.threads t.number ≡ Some t = ap (λ ts. thread_at ts t.number) y.only ∙ only_thread t in
+        let is : step s t.number fresh.None ≡ Some next = ap (step_of s) found ∙ ap (moved s t) m.is ∙ ap (stepped s t m.move) m.acts in
+        let only : next.state.threads ≡ new ∷ [] = ap (λ ts. with_thread ts new) y.only ∙ same_thread t new refl in
+        let st2 : State = record m.did.state { thread = t.number } in
+        let same : m.did.state ≡ st2 = ap (λ (n : ℕ). (let q : State = record m.did.state { thread = n } in q)) m.same in
+        record { next = next; is = is; typed = record { thread = new; only = only; life = subst (λ (q : State). IsTypedLife new.life q) same m.typed } }
+
+    by : (l : Life) → t.life ≡ l → IsTypedLife l (state_of s t) → (t.life ≡ over) ⊎ Steps s t.number
+    by over e z = inl e
+    by (alive r) e z = inr (after (subst (λ (l : Life). LifeSteps l (state_of s t)) (sym e) (life_steps r (state_of s t) z)))
+
+-- THE START
+
+empty_cell : (b : Bool) (i : ℕ) → plain_heap.flat (slice_get (if b then [] else []) i) ≡ None
+empty_cell true i = flat_past [] i (omega arith)
+empty_cell false i = flat_past [] i (omega arith)
+
+abbrev at_start : State
+at_start = record { thread = 0; slots = []; heap = record { thread = 0; cells = [] } ∷ [] }
+
+start_alike : Alike (record { at = λ _. gone_v; heap = λ _. None }) (seen at_start None)
+start_alike =
+    Alike-then (record { at = λ _. gone_v; heap = λ _. None }) (store_of 0 [] gone_v (λ _. None)) (seen at_start None) (list_start 0)
+    (seen_heap 0 [] gone_v (λ _. None) (heap_of at_start.heap) (λ q. sym (ap seen_cell (empty_cell (0 == q.thread) q.count))))
+
+start_holds : Holds [] None None at_start
+start_holds =
+    let e : KeyTypes = λ _. owns hole in
+    let y = start_row (slot_k 0) (rank_of 0) hand_k in
+    after_holds at_start [] None None 0 {E = e} {s = record { at = λ _. gone_v; heap = λ _. None }} (omega arith) (record { env = e; thread = y; others = λ j a b. refl; new = λ j m u g. cc }) start_alike refl no_box tt
+  where
+    no_box : AreMade at_start.heap (record { at = λ _. gone_v; heap = λ _. None })
+    no_box (at_key k) o e = cc
+    no_box (at_object q) o e = cc
+
+drop_all : (n : ℕ) (e : Env) → n ≡ length e → drop n e ≡ []
+drop_all zero [] h = refl
+drop_all zero (s ∷ e) h = absurd (omega arith)
+drop_all (suc n) [] h = refl
+drop_all (suc n) (s ∷ e) h = drop_all n e (omega arith)
+
+-- a block leaves the environment that it found, where that is empty
+block_leaves : {at : ℕ} {items : Items} {k : Kind} {f e : Env} → Types f (block_t at items) k e → f ≡ [] → e ≡ []
+block_leaves {f = f} (types_block {e1 = e1} y n) h = let z = ap length h in drop_all (length e1 - length f) e1 (omega (arith, z))
+
+pub starts_typed_lem : StartsTyped
+starts_typed_lem at items k e y =
+    let r = resolve_runs (block_t at items) y tt in
+    let runs : RunTypes [] None (program (block_t at items)) r.type [] = subst (λ (f : Env). RunTypes [] None (program (block_t at items)) r.type f) (block_leaves y refl) r.runs in
+    let settled = settle_types (program (block_t at items)) runs in
+    record {
+      thread = record { number = 0; life = alive (settle (program (block_t at items))); slots = [] };
+      only = refl;
+      life = record {
+        env = [];
+        temp = None;
+        type = r.type;
+        types = settled;
+        holds = subst (λ (h : Option Value). Holds [] None h at_start) (sym (settle_holds (program (block_t at items)) runs ∙ quiet (program (block_t at items)) runs)) start_holds;
+      };
+    }

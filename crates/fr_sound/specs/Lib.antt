@@ -1,0 +1,3 @@
+pub mod RunTypes
+pub mod Seen
+pub mod NeverStuck

@@ -1,0 +1,47 @@
+-- No thread of a typed program is ever stuck (Featherweight Rust's progress and preservation), for the forms that are
+-- accepted so far.
+use Rattle.std.specs.Prelude.{◌≡◌, ◌⊎◌, ℕ, [], ◌∷◌, Option, Some, None}
+use Rattle.fr_base.specs.declared.step.Fresh.TheVariants as fresh
+use Rattle.fr_terms.specs.Terms.{block_t, Items}
+use Rattle.fr_typing.specs.Kinds.{Owned, Kind}
+use Rattle.fr_typing.specs.Places.{Env}
+use Rattle.fr_typing.specs.Typing.{Types}
+use Rattle.fr_plain.specs.State.{State}
+use Rattle.fr_plain.specs.Run.{Run, Life, alive, over}
+use Rattle.fr_plain.specs.Whole.{Thread, Whole, Stepped, state_of, step, start}
+use Rattle.fr_plain.specs.Resolve.{program}
+use Rattle.fr_sound.specs.RunTypes.{RunTypes, held}
+use Rattle.fr_sound.specs.Seen.{Holds}
+
+-- a term in progress over a typed state: it will end with no slot left
+pub record IsAlive (r : Run) (st : State) : Type 0 where
+  pub env : Env
+  pub temp : Option Owned
+  pub type : Owned
+  pub types : RunTypes env temp r type []
+  pub holds : Holds env temp (held r) st
+
+-- a thread that has ended has no slot and no temporary value
+abbrev pub IsTypedLife : Life → State → Type 0
+IsTypedLife (alive r) st = IsAlive r st
+IsTypedLife over st = Holds [] None None st
+
+-- the one thread is typed over the heap
+pub record IsTyped (s : Whole) : Type 0 where
+  pub thread : Thread
+  pub only : s.threads ≡ thread ∷ []
+  pub life : IsTypedLife thread.life (state_of s thread)
+
+-- a typed state after a step of that thread
+pub record Steps (s : Whole) (t : ℕ) : Type 0 where
+  pub next : Stepped
+  pub is : step s t fresh.None ≡ Some next
+  pub typed : IsTyped next.state
+
+-- the thread has ended, or it steps, to a typed state
+abbrev pub NeverStuck : Type 0
+NeverStuck = (s : Whole) (typed : IsTyped s) → (typed.thread.life ≡ over) ⊎ Steps s typed.thread.number
+
+-- a program that typing types starts typed
+abbrev pub StartsTyped : Type 0
+StartsTyped = (at : ℕ) (items : Items) (k : Kind) (e : Env) → Types [] (block_t at items) k e → IsTyped (start (program (block_t at items)))

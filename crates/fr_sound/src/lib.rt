@@ -1,0 +1,7 @@
+//! No thread of a typed program is ever stuck, and each step keeps the typing. There is no code here: a law is the
+//! contract of a function with an empty body.
+#![tactic(auto)]
+
+mod laws;
+
+pub use laws::{never_stuck, starts_typed};
