@@ -1,0 +1,272 @@
+-- Forms that are made one after another, and the one of the tree's term.
+use Rattle.std.proofs.Common.{◌≡◌, ℕ, zero, suc, ◌+◌, ◌-◌, ◌<◌, ◌≤◌, List, [], ◌∷◌, ◌++◌, length, refl, sym, ap, ◌∙◌, subst, arith, length-append}
+use Rattle.std.specs.Prelude.{max, if◌then◌else◌}
+use Rattle.fr_terms.specs.Terms.{Text, block_t, let_t, assign_t, read_t, borrow_t, borrow_mut_t, number_t, unit_t, box_t, print_t, arith_t, join_t, mutex_t, dup_t, lock_t, spawn_t, par_t, Items, none, item}
+use Rattle.fr_terms.specs.Terms as terms
+use Rattle.fr_terms.specs.Limits.{levels, levels_of, IsWithinLimits}
+use Rattle.fr_typing.specs.Places.{Env}
+use Rattle.fr_typing.proofs.Agree.{exactly_one_lem}
+use Rattle.fr_syntax.specs.declared.tree.Term.{Term}
+use Rattle.fr_syntax.specs.declared.tree.Term.TheVariants.{Block, Let, Assign, Read, Dup, Borrow, BorrowMut, Number, Unit, Box, Print, Join, Mutex, Arith, Spawn, Par, Lock, Place, Capture}
+use Rattle.fr_syntax.specs.declared.tree.Node.{Node}
+use Rattle.fr_syntax.specs.Arena.{Arena, text_of}
+use Rattle.fr_syntax.specs.Ordered.{IsArena}
+use Rattle.fr_syntax.specs.Meanings.{a_term, as_term, captures_at, meanings, term_at, term_of, place_at, items_at, stands_for, needs, root_of, AreBelow}
+use Rattle.fr_syntax.proofs.TreeLemmas.{length_meanings}
+use Rattle.fr_plain.specs.Run.{Run, Parts}
+use Rattle.fr_typing.specs.Laws.{IsTyped}
+use Rattle.fr_plain.specs.Whole.{start}
+use Rattle.fr_sound.specs.NeverStuck.{IsTyped as IsTypedState}
+use Rattle.fr_sound.proofs.Whole.{starts_typed_lem}
+use Rattle.fr_plain.specs.Resolve.{lets_in, before, resolve, resolve_items, program, env_after}
+use Rattle.fr_meaning.specs.declared.forms.Form.{Form}
+use Rattle.fr_meaning.specs.declared.forms.Form.TheVariants as form
+use Rattle.fr_meaning.specs.Contexts.{depth, depth_in}
+use Rattle.fr_meaning.specs.FormTerms as forms
+use Rattle.fr_meaning.specs.FormTerms.{build, run_at, NamesBelow, AreStacked, AreInOrder}
+use Rattle.fr_meaning.specs.SlotOrder.{onto, newest_first}
+use Rattle.fr_meaning.specs.PoolView as pool
+use Rattle.fr_meaning.specs.Programs.{Program, IsBlock, IsChecked}
+use Rattle.fr_meaning.specs.Forming.{count_at, count_of, AreFew, IsBlockOf, IsMade}
+use Rattle.fr_meaning.specs.Resolved.{IsTypedIn, IsRun, AreCounts, IsBuilt}
+use Rattle.fr_meaning.proofs.ScopeLemmas.{eq_cases}
+use Rattle.fr_meaning.proofs.SlotLemmas.{length_onto}
+use Rattle.fr_meaning.proofs.FormLemmas.{push_same}
+use Rattle.fr_meaning.proofs.TermLemmas.{IsHere}
+use Rattle.fr_meaning.proofs.ResolveLemmas.{term_is, made_is, made_runs}
+
+-- ONE FORM MORE
+
+onto_push : (es fs : List Form) (f : Form) → onto es (fs ++ f ∷ []) ≡ f ∷ onto es fs
+onto_push es [] f = refl
+onto_push es (g ∷ fs) f = onto_push (g ∷ es) fs f
+
+newest_push : (fs : List Form) (f : Form) → newest_first (fs ++ f ∷ []) ≡ f ∷ newest_first fs
+newest_push fs f = onto_push [] fs f
+
+length_newest : (fs : List Form) → length (newest_first fs) ≡ length fs
+length_newest fs = omega (arith, length_onto [] fs)
+
+term_pushed : (fs : List Form) (f : Form) → forms.term_of (fs ++ f ∷ []) (length fs) ≡ build (forms.term_of fs) f
+term_pushed fs f =
+    ap (λ l. run_at l (length fs)) (newest_push fs f)
+    ∙ eq_cases (λ b. (if b then build (run_at (newest_first fs)) f else run_at (newest_first fs) (length fs)) ≡ build (run_at (newest_first fs)) f) (length fs) (length (newest_first fs)) (λ same. refl) (λ ne. absurd (ne (sym (length_newest fs))))
+
+term_kept : (fs : List Form) (f : Form) (i : ℕ) → i < length fs → forms.term_of fs i ≡ forms.term_of (fs ++ f ∷ []) i
+term_kept fs f i lt =
+    push_same f (newest_first fs) i (omega (arith, lt, length_newest fs)) ∙ ap (λ l. run_at l i) (sym (newest_push fs f))
+
+order_pushed : (fs : List Form) (f : Form) → AreInOrder fs → NamesBelow (length fs) f → AreInOrder (fs ++ f ∷ [])
+order_pushed fs f h below = subst AreStacked (sym (newest_push fs f)) (subst (λ n. NamesBelow n f) (sym (length_newest fs)) below, h)
+
+-- COUNTS
+
+count_kept : (cs : List ℕ) (c i : ℕ) → i < length cs → count_at (cs ++ c ∷ []) i ≡ count_at cs i
+count_kept [] c i lt = absurd (omega arith)
+count_kept (x ∷ cs) c zero lt = refl
+count_kept (x ∷ cs) c (suc i) lt = count_kept cs c i (omega arith)
+
+count_pushed : (cs : List ℕ) (c : ℕ) → count_at (cs ++ c ∷ []) (length cs) ≡ c
+count_pushed [] c = refl
+count_pushed (x ∷ cs) c = count_pushed cs c
+
+count_beyond : (cs : List ℕ) (i : ℕ) → length cs ≤ i → count_at cs i ≡ 0
+count_beyond [] i le = refl
+count_beyond (x ∷ cs) zero le = absurd (omega arith)
+count_beyond (x ∷ cs) (suc i) le = count_beyond cs i (omega arith)
+
+count_few : (cs : List ℕ) (at : ℕ) (f : Form) → AreFew cs → NamesBelow at f → count_of cs f ≤ at + 1
+count_few cs at (form.Let v) few below = omega (arith, few v, below)
+count_few cs at (form.Assign w v) few below = omega (arith, few v, below)
+count_few cs at (form.Box v) few below = omega (arith, few v, below)
+count_few cs at (form.Print v) few below = omega (arith, few v, below)
+count_few cs at (form.Number n) few below = omega arith
+count_few cs at form.Unit few below = omega arith
+count_few cs at (form.Read w t) few below = omega arith
+count_few cs at (form.Block is k) few below = omega arith
+count_few cs at form.Place few below = omega arith
+
+few_pushed : (cs : List ℕ) (c : ℕ) → AreFew cs → c ≤ length cs + 1 → AreFew (cs ++ c ∷ [])
+few_pushed cs c few le = λ i.
+    eq_cases (λ b. count_at (cs ++ c ∷ []) i ≤ i + 1) i (length cs)
+    (λ same. omega (arith, ap (count_at (cs ++ c ∷ [])) same, count_pushed cs c, le, same))
+    (λ ne. eq_cases (λ b. count_at (cs ++ c ∷ []) i ≤ i + 1) (length cs - i) 0
+    (λ gone. omega (arith, count_beyond (cs ++ c ∷ []) i (omega (arith, gone, ne, length-append cs (c ∷ [])))))
+    (λ here. omega (arith, count_kept cs c i (omega (arith, here)), few i)))
+
+-- a form with no variable of its own, of a term with none
+none_counted : (p : Program) (cs : List ℕ) (at : ℕ) (n : Node) (m : Term) (t : terms.Term) (f g : Form) → IsHere p.arena at n → n.term ≡ m → stands_for p.arena.names (meanings p.arena) n.place m ≡ a_term t → f ≡ g → count_of cs g ≡ 0 → lets_in t ≡ 0 → count_of cs f ≡ lets_in (term_at (meanings p.arena) at)
+none_counted p cs at n m t f g h is stands made zero_f zero_t = ap (count_of cs) made ∙ zero_f ∙ sym zero_t ∙ sym (ap lets_in (term_is p.arena at n m t h is stands))
+
+block_counted : (cs items : List ℕ) (f : Form) → IsBlockOf cs items f → count_of cs f ≡ 0
+block_counted cs items (form.Block is k) h = refl
+block_counted cs items (form.Number n) h = absurd h
+block_counted cs items form.Unit h = absurd h
+block_counted cs items (form.Read w t) h = absurd h
+block_counted cs items (form.Box v) h = absurd h
+block_counted cs items (form.Let v) h = absurd h
+block_counted cs items (form.Print v) h = absurd h
+block_counted cs items (form.Assign w v) h = absurd h
+block_counted cs items form.Place h = absurd h
+
+-- a form declares as many variables as its node's term
+made_counted : (p : Program) (cs : List ℕ) (at : ℕ) (n : Node) (f : Form) → IsHere p.arena at n → AreCounts p cs → length cs ≡ at → IsMade p cs at n.term f → (m : Term) → n.term ≡ m → count_of cs f ≡ lets_in (term_at (meanings p.arena) at)
+made_counted p cs at n f h c same made (Number v) is = none_counted p cs at n (Number v) (number_t n.place v) f (form.Number v) h is refl (made_is p cs at n (Number v) f is made) refl refl
+made_counted p cs at n f h c same made Unit is = none_counted p cs at n Unit (unit_t n.place) f form.Unit h is refl (made_is p cs at n Unit f is made) refl refl
+made_counted p cs at n f h c same made (Read from) is = ap (count_of cs) (made_is p cs at n (Read from) f is made) ∙ sym (ap lets_in (term_is p.arena at n (Read from) (read_t n.place (place_at (meanings p.arena) from)) h is refl))
+made_counted p cs at n f h c same made (Box v) is =
+    let lt : v < at = (subst (AreBelow (meanings p.arena) at) (ap needs is) h.parts).0 in
+    ap (count_of cs) (made_is p cs at n (Box v) f is made) ∙ c v (omega (arith, lt, same)) ∙ sym (ap lets_in (term_is p.arena at n (Box v) (box_t n.place (term_at (meanings p.arena) v)) h is refl))
+made_counted p cs at n f h c same made (Print v) is =
+    let lt : v < at = (subst (AreBelow (meanings p.arena) at) (ap needs is) h.parts).0 in
+    ap (count_of cs) (made_is p cs at n (Print v) f is made) ∙ c v (omega (arith, lt, same)) ∙ sym (ap lets_in (term_is p.arena at n (Print v) (print_t n.place (term_at (meanings p.arena) v)) h is refl))
+made_counted p cs at n f h c same made (Let name v) is =
+    let lt : v < at = (subst (AreBelow (meanings p.arena) at) (ap needs is) h.parts).0 in
+    let t = ap lets_in (term_is p.arena at n (Let name v) (let_t n.place (text_of p.arena.names name) (term_at (meanings p.arena) v)) h is refl) in
+    omega (arith, ap (count_of cs) (made_is p cs at n (Let name v) f is made), c v (omega (arith, lt, same)), t)
+made_counted p cs at n f h c same made (Assign to v) is =
+    let lt : v < at = (subst (AreBelow (meanings p.arena) at) (ap needs is) h.parts).2.0 in
+    ap (count_of cs) (made_is p cs at n (Assign to v) f is made) ∙ c v (omega (arith, lt, same)) ∙ sym (ap lets_in (term_is p.arena at n (Assign to v) (assign_t n.place (place_at (meanings p.arena) to) (term_at (meanings p.arena) v)) h is refl))
+made_counted p cs at n f h c same made (Block items) is =
+    block_counted cs items.items f (made_is p cs at n (Block items) f is made) ∙ sym (ap lets_in (term_is p.arena at n (Block items) (block_t n.place (items_at (meanings p.arena) items.items)) h is refl))
+made_counted p cs at n f h c same made (Dup of) is = none_counted p cs at n (Dup of) (dup_t n.place (place_at (meanings p.arena) of)) f form.Place h is refl (made_is p cs at n (Dup of) f is made) refl refl
+made_counted p cs at n f h c same made (Borrow of) is = none_counted p cs at n (Borrow of) (borrow_t n.place (place_at (meanings p.arena) of)) f form.Place h is refl (made_is p cs at n (Borrow of) f is made) refl refl
+made_counted p cs at n f h c same made (BorrowMut of) is = none_counted p cs at n (BorrowMut of) (borrow_mut_t n.place (place_at (meanings p.arena) of)) f form.Place h is refl (made_is p cs at n (BorrowMut of) f is made) refl refl
+made_counted p cs at n f h c same made (Join task) is = none_counted p cs at n (Join task) (join_t n.place (term_at (meanings p.arena) task)) f form.Place h is refl (made_is p cs at n (Join task) f is made) refl refl
+made_counted p cs at n f h c same made (Mutex v) is = none_counted p cs at n (Mutex v) (mutex_t n.place (term_at (meanings p.arena) v)) f form.Place h is refl (made_is p cs at n (Mutex v) f is made) refl refl
+made_counted p cs at n f h c same made (Arith op left right) is = none_counted p cs at n (Arith op left right) (arith_t n.place op (term_at (meanings p.arena) left) (term_at (meanings p.arena) right)) f form.Place h is refl (made_is p cs at n (Arith op left right) f is made) refl refl
+made_counted p cs at n f h c same made (Spawn captures body) is = none_counted p cs at n (Spawn captures body) (spawn_t n.place (captures_at (meanings p.arena) captures.items) (term_at (meanings p.arena) body)) f form.Place h is refl (made_is p cs at n (Spawn captures body) f is made) refl refl
+made_counted p cs at n f h c same made (Par captures body others other) is = none_counted p cs at n (Par captures body others other) (par_t n.place (captures_at (meanings p.arena) captures.items) (term_at (meanings p.arena) body) (captures_at (meanings p.arena) others.items) (term_at (meanings p.arena) other)) f form.Place h is refl (made_is p cs at n (Par captures body others other) f is made) refl refl
+made_counted p cs at n f h c same made (Lock of name body) is = none_counted p cs at n (Lock of name body) (lock_t n.place (place_at (meanings p.arena) of) (text_of p.arena.names name) (term_at (meanings p.arena) body)) f form.Place h is refl (made_is p cs at n (Lock of name body) f is made) refl refl
+made_counted p cs at n f h c same made (Place name stars) is =
+    ap (count_of cs) (made_is p cs at n (Place name stars) f is made) ∙ sym (ap (λ w. lets_in (as_term w)) (h.what ∙ ap (stands_for p.arena.names (meanings p.arena) n.place) is))
+made_counted p cs at n f h c same made (Capture name) is =
+    ap (count_of cs) (made_is p cs at n (Capture name) f is made) ∙ sym (ap (λ w. lets_in (as_term w)) (h.what ∙ ap (stands_for p.arena.names (meanings p.arena) n.place) is))
+
+counts_pushed : (p : Program) (cs : List ℕ) (c : ℕ) → AreCounts p cs → c ≡ lets_in (term_at (meanings p.arena) (length cs)) → AreCounts p (cs ++ c ∷ [])
+counts_pushed p cs c h is = λ i lt.
+    eq_cases (λ b. count_at (cs ++ c ∷ []) i ≡ lets_in (term_at (meanings p.arena) i)) i (length cs)
+    (λ same. ap (count_at (cs ++ c ∷ [])) same ∙ count_pushed cs c ∙ is ∙ ap (λ k. lets_in (term_at (meanings p.arena) k)) (sym same))
+    (λ ne. let here : i < length cs = omega (arith, lt, ne, length-append cs (c ∷ [])) in count_kept cs c i here ∙ h i here)
+
+-- BUILT
+
+pub nothing_built : (p : Program) → IsBuilt p [] []
+nothing_built p = record {
+  order = tt;
+  runs = λ i lt. absurd (omega (arith, lt));
+  same = refl;
+  counted = λ i lt. absurd (omega (arith, lt));
+  few = λ i. omega arith;
+}
+
+-- the next node's form
+pub built_push : (p : Program) (fs : List Form) (cs : List ℕ) (n : Node) (f : Form) (c : ℕ) → IsArena p.arena → IsHere p.arena (length fs) n → IsBuilt p fs cs → IsMade p cs (length fs) n.term f → NamesBelow (length fs) f → c ≡ count_of cs f → IsBuilt p (fs ++ f ∷ []) (cs ++ c ∷ [])
+built_push p fs cs n f c arena h b made below count =
+    let at = length fs in
+    let run : IsRun p at (forms.term_of (fs ++ f ∷ []) at) = subst (IsRun p at) (sym (term_pushed fs f)) (made_runs p at cs (forms.term_of fs) n f arena h b.counted b.same b.runs made) in
+    let counted = made_counted p cs at n f h b.counted b.same made n.term refl in
+    record {
+      order = order_pushed fs f b.order below;
+      runs = λ i lt.
+          eq_cases (λ x. IsRun p i (forms.term_of (fs ++ f ∷ []) i)) i at
+          (λ same. subst (λ k. IsRun p k (forms.term_of (fs ++ f ∷ []) k)) (sym same) run)
+          (λ ne. let here : i < at = omega (arith, lt, ne, length-append fs (f ∷ [])) in subst (IsRun p i) (term_kept fs f i here) (b.runs i here));
+      same = omega (arith, b.same, length-append fs (f ∷ []), length-append cs (c ∷ []));
+      counted = counts_pushed p cs c b.counted (count ∙ counted ∙ ap (λ k. lets_in (term_at (meanings p.arena) k)) (sym b.same));
+      few = few_pushed cs c b.few (omega (arith, count, b.same, count_few cs at f b.few below));
+    }
+
+-- the same as the code has it
+pub built_next : (p : Program) (a : Arena) (fs gs : List Form) (cs ds l k : List ℕ) (at : ℕ) (n : Node) (f : Form) (c : ℕ) → IsArena p.arena → a ≡ p.arena → IsHere a at n → IsBuilt p fs cs → length fs ≡ at → l ≡ cs → IsMade p l at n.term f → NamesBelow at f → k ≡ cs → c ≡ count_of k f → gs ≡ fs ++ f ∷ [] → ds ≡ cs ++ c ∷ [] → IsBuilt p gs ds × (length gs ≡ at + 1)
+built_next p a fs gs cs ds l k at n f c arena same h b long counts made below counts2 count pushed pushed2 =
+    let here = subst (λ x. IsHere x (length fs) n) same (subst (λ i. IsHere a i n) (sym long) h) in
+    let made2 = subst (λ x. IsMade p x (length fs) n.term f) counts (subst (λ i. IsMade p l i n.term f) (sym long) made) in
+    let next = built_push p fs cs n f c arena here b made2 (subst (λ i. NamesBelow i f) (sym long) below) (count ∙ ap (λ x. count_of x f) counts2) in
+    (subst (λ (x : List Form). IsBuilt p x ds) (sym pushed) (subst (λ x. IsBuilt p (fs ++ f ∷ []) x) (sym pushed2) next), omega (arith, ap length pushed, length-append fs (f ∷ []), long))
+
+-- THE TREE'S TERM
+
+root_typed : (p : Program) → IsChecked p → IsTypedIn p (root_of p.arena) []
+root_typed p h = record {
+  ready = record {
+    here = omega (arith, h.checkable.tree.some, length_meanings p.arena);
+    sort = h.checkable.tree.sort;
+    accepted = h.checkable.accepted;
+    own = h.checkable.tree.own;
+  };
+  kind = h.typed.kind;
+  after = h.typed.after;
+  typed = (exactly_one_lem.types (term_of p.arena) [] h.typed.kind h.typed.after h.checkable.accepted).0 h.typed.types;
+  used = h.used;
+}
+
+-- the last form's term is the program
+pub root_built : (p : Program) (fs : List Form) (cs : List ℕ) → IsChecked p → IsBuilt p fs cs → length fs ≡ length (meanings p.arena) → pool.root_of fs ≡ program (term_of p.arena)
+root_built p fs cs h b all =
+    let long = length_meanings p.arena in
+    let at : length fs - 1 ≡ root_of p.arena = omega (arith, all, long) in
+    let lt : root_of p.arena < length fs = omega (arith, all, long, h.checkable.tree.some) in
+    ap (forms.term_of fs) at ∙ b.runs (root_of p.arena) lt [] (root_typed p h)
+
+-- HOW DEEP
+
+before_few : (ts : Items) (r : Run) (rest : Parts) (n m : ℕ) → depth r ≤ n → depth_in rest ≤ m → depth_in (before ts r rest) ≤ max n m
+before_few none r rest n m le k = omega (arith, le)
+before_few (item t ts) r rest n m le k = omega (arith, le, k)
+
+mutual
+  depth_few : (t : terms.Term) (e : Env) → depth (resolve t e) ≤ levels t
+  depth_few (block_t at ts) e = omega (arith, items_few ts e)
+  depth_few (let_t at x t) e = omega (arith, depth_few t e)
+  depth_few (assign_t at w t) e = omega (arith, depth_few t e)
+  depth_few (box_t at t) e = omega (arith, depth_few t e)
+  depth_few (print_t at t) e = omega (arith, depth_few t e)
+  depth_few (read_t at w) e = omega arith
+  depth_few (borrow_t at w) e = omega arith
+  depth_few (borrow_mut_t at w) e = omega arith
+  depth_few (number_t at n) e = omega arith
+  depth_few (unit_t at) e = omega arith
+  depth_few (arith_t at op l r) e = omega arith
+  depth_few (join_t at t) e = omega arith
+  depth_few (mutex_t at t) e = omega arith
+  depth_few (dup_t at w) e = omega arith
+  depth_few (lock_t at w x t) e = omega arith
+  depth_few (spawn_t at cs t) e = omega arith
+  depth_few (par_t at cs t ds u) e = omega arith
+
+  items_few : (ts : Items) (e : Env) → depth_in (resolve_items ts e) ≤ levels_of ts
+  items_few none e = omega arith
+  items_few (item t ts) e = before_few ts (resolve t e) (resolve_items ts (env_after t e)) (levels t) (levels_of ts) (depth_few t e) (items_few ts (env_after t e))
+
+-- a program within the limits fits in 64 frames
+pub program_depth : (t : terms.Term) → IsWithinLimits t → depth (program t) ≤ 64
+program_depth t h = omega (arith, depth_few t [], h.depth)
+
+pub root_depth : (fs : List Form) (t : terms.Term) → IsWithinLimits t → pool.root_of fs ≡ program t → depth (pool.root_of fs) ≤ 64
+root_depth fs t h e = omega (arith, ap depth e, program_depth t h)
+
+-- TYPED
+
+-- a checked program starts typed
+starts : (t : terms.Term) → IsBlock t → IsTyped [] t → IsTypedState (start (program t))
+starts (block_t at ts) b h = starts_typed_lem at ts h.kind h.after h.types
+starts (let_t at x t) b h = absurd b
+starts (assign_t at w t) b h = absurd b
+starts (read_t at w) b h = absurd b
+starts (borrow_t at w) b h = absurd b
+starts (borrow_mut_t at w) b h = absurd b
+starts (number_t at n) b h = absurd b
+starts (unit_t at) b h = absurd b
+starts (box_t at t) b h = absurd b
+starts (print_t at t) b h = absurd b
+starts (arith_t at op l r) b h = absurd b
+starts (join_t at t) b h = absurd b
+starts (mutex_t at t) b h = absurd b
+starts (dup_t at w) b h = absurd b
+starts (lock_t at w x t) b h = absurd b
+starts (spawn_t at cs t) b h = absurd b
+starts (par_t at cs t ds u) b h = absurd b
+
+pub root_starts : (fs : List Form) (t : terms.Term) → IsBlock t → IsTyped [] t → pool.root_of fs ≡ program t → IsTypedState (start (pool.root_of fs))
+root_starts fs t b h e = subst (λ (r : Run). IsTypedState (start r)) (sym e) (starts t b h)

@@ -1,0 +1,146 @@
+-- A step of the thread is a step of the pool.
+use Rattle.std.proofs.Common.{◌≡◌, ℤ, ◌+◌, ◌≤◌, Bool, true, false, List, [], ◌∷◌, ◌++◌, Option, Some, None, refl, sym, ap, ◌∙◌, subst, arith}
+use Rattle.std.specs.Prelude.{IsSome, if◌then◌else◌}
+use Rattle.fr_base.specs.declared.label.Label.{Label}
+use Rattle.fr_base.specs.declared.step.Fresh.TheVariants as fresh
+use Rattle.fr_plain.specs.declared.value.Value.{Value}
+use Rattle.fr_plain.specs.Heap.{Heap}
+use Rattle.fr_plain.specs.State.{State}
+use Rattle.fr_plain.specs.Acts.{Did, act, do_end}
+use Rattle.fr_plain.specs.Run as run
+use Rattle.fr_plain.specs.Run.{Run, Now, going, constant, temporary, on_value, now, settle, Move, next, alone, move, Life, alive, settle_life, life_move, life_left}
+use Rattle.fr_plain.specs.Whole.{Thread, Stepped, prints, stepped, moved, step}
+use Rattle.fr_meaning.specs.declared.forms.Form.{Form}
+use Rattle.fr_meaning.specs.declared.frame.Frame.{Frame}
+use Rattle.fr_meaning.specs.declared.frame.Focus.{Focus}
+use Rattle.fr_meaning.specs.Contexts.{depth, IsSettled}
+use Rattle.fr_meaning.specs.FrameTerms.{wrapped, focus_run}
+use Rattle.fr_meaning.specs.PoolView.{View, run_of, life_of, whole_of, steps_left_of}
+use Rattle.fr_meaning.specs.SlotOrder.{newest_first}
+use Rattle.fr_meaning.specs.Turning.{state, Went, went_by, went, thread_step, goes_to}
+use Rattle.fr_meaning.proofs.SettledLemmas.{settle_settled, depth_settle, Within, move_depth}
+use Rattle.fr_meaning.proofs.StepsLeft.{life_falls}
+
+-- WHAT A STEP LEAVES
+
+-- a settled term, no deeper than before
+abbrev IsKept : Run → Run → Type 0
+IsKept r q = IsSettled q × (depth q ≤ depth r)
+
+-- lives of one term
+alive_same : (a b : Run) → alive a ≡ alive b → a ≡ b
+alive_same a b h = cc
+
+-- by what the act does
+kept_by : (r q : Run) (m : Move Run) (d : Option Did) (w : Went) → Within depth (depth r) (Some m) → went_by (record { act = m.act; plug = λ v. alive (m.plug v) }) d ≡ Some w → w.life ≡ alive q → IsKept r q
+kept_by r q m None w h e l = absurd cc
+kept_by r q m (Some d) w h e l =
+    let f : w.life ≡ alive (settle (m.plug d.value)) = cc in
+    let g = alive_same q (settle (m.plug d.value)) (sym l ∙ f) in
+    (subst IsSettled (sym g) (settle_settled (m.plug d.value)), omega (arith, ap depth g, depth_settle (m.plug d.value), h d.value))
+
+-- by the term's move
+kept_in : (r q : Run) (o : Option (Move Run)) (s : State) (w : Went) → Within depth (depth r) o → went (next alive o) s ≡ Some w → w.life ≡ alive q → IsKept r q
+kept_in r q None s w h e l = absurd cc
+kept_in r q (Some m) s w h e l = kept_by r q m (act m.act s) w h e l
+
+-- by whether the term is done
+kept_now : (n : Now) (r q : Run) (s : State) (w : Went) → went (on_value n (λ v. alone (λ x. run.over) (do_end v)) (next alive (move r))) s ≡ Some w → w.life ≡ alive q → IsKept r q
+kept_now going r q s w e l = kept_in r q (move r) s w (move_depth r) e l
+kept_now (constant v) r q s w e l = let f : w.life ≡ run.over = cc in let g : run.over ≡ alive q = sym f ∙ l in absurd cc
+kept_now (temporary v) r q s w e l = let f : w.life ≡ run.over = cc in let g : run.over ≡ alive q = sym f ∙ l in absurd cc
+
+-- a thread that goes on has a settled term, which is no deeper
+pub step_kept : (r q : Run) (s : State) (slots : List Value) (heap : Heap) (labels : List Label) → thread_step (alive r) s ≡ goes_to (alive q) slots heap labels → IsSettled q × (depth q ≤ depth r)
+step_kept r q s slots heap labels e = kept_now (now r) r q s (record { life = alive q; state = state slots heap; labels = labels }) e refl
+
+-- by what the act does
+left_by : (l : Life) (m : Move Life) (d : Option Did) (w : Went) → life_move l ≡ Some m → went_by m d ≡ Some w → life_left w.life + 1 ≡ life_left l
+left_by l m None w h e = absurd cc
+left_by l m (Some d) w h e =
+    let f : w.life ≡ settle_life (m.plug d.value) = cc in
+    omega (arith, ap life_left f, life_falls l m d.value h)
+
+-- by the thread's move
+left_in : (l : Life) (o : Option (Move Life)) (s : State) (w : Went) → life_move l ≡ o → went o s ≡ Some w → life_left w.life + 1 ≡ life_left l
+left_in l None s w h e = absurd cc
+left_in l (Some m) s w h e = left_by l m (act m.act s) w h e
+
+-- a step of a thread is one of those that are left
+step_left : (l k : Life) (s : State) (slots : List Value) (heap : Heap) (labels : List Label) → thread_step l s ≡ goes_to k slots heap labels → life_left k + 1 ≡ life_left l
+step_left l k s slots heap labels e = left_in l (life_move l) s (record { life = k; state = state slots heap; labels = labels }) refl e
+
+-- THE POOL
+
+-- what a step of the thread is to the whole
+abbrev pub told : List ℤ → Option Went → Option Stepped
+told output None = None
+told output (Some w) = Some (record { state = record { threads = record { number = 0; life = w.life; slots = w.state.slots } ∷ []; heap = w.state.heap; output = output ++ prints w.labels }; labels = w.labels })
+
+-- the pool's one thread
+abbrev main_of : View → Thread
+main_of v = record { number = 0; life = life_of v; slots = newest_first v.slots }
+
+-- what an act does to the whole
+stepped_told : (v : View) (m : Move Life) (d : Option Did) → stepped (whole_of v) (main_of v) m d ≡ told v.output (went_by m d)
+stepped_told v m None = refl
+stepped_told v m (Some d) = refl
+
+-- what a move does to the whole
+moved_told : (v : View) (o : Option (Move Life)) → moved (whole_of v) (main_of v) o ≡ told v.output (went o (state v.slots v.heap))
+moved_told v None = refl
+moved_told v (Some m) = stepped_told v m (act m.act (state v.slots v.heap))
+
+-- a step of the whole is that of its one thread
+pub whole_step : (v : View) → step (whole_of v) 0 fresh.None ≡ told v.output (thread_step (life_of v) (state v.slots v.heap))
+whole_step v = moved_told v (life_move (life_of v))
+
+-- a thread that has ended takes no step
+goes_on : (b : Bool) (r : Run) (s : State) (output : List ℤ) → IsSome (told output (thread_step (if b then run.over else alive r) s)) → (b ≡ false) × IsSome (thread_step (alive r) s)
+goes_on true r s output h = let f : false ≡ true = h in absurd cc
+goes_on false r s output h = (refl, by (thread_step (alive r) s) h)
+  where
+    by : (o : Option Went) → IsSome (told output o) → IsSome o
+    by None h = h
+    by (Some w) h = refl
+
+-- where the pool steps, its thread goes on and does
+pub pool_goes : (v : View) → IsSome (step (whole_of v) 0 fresh.None) → (v.ended ≡ false) × IsSome (thread_step (alive (run_of v)) (state v.slots v.heap))
+pool_goes v h = goes_on v.ended (run_of v) (state v.slots v.heap) v.output (subst (λ (o : Option Stepped). IsSome o) (whole_step v) h)
+
+-- a life that isn't over
+pub alive_of : (v : View) → v.ended ≡ false → life_of v ≡ alive (run_of v)
+alive_of v h = ap (λ b. if b then run.over else alive (run_of v)) h
+
+-- a step of a thread that goes on is a step of the pool
+pub pool_steps : (v w : View) (labels : List Label) → v.ended ≡ false → w.ended ≡ false → thread_step (alive (run_of v)) (state v.slots v.heap) ≡ goes_to (alive (run_of w)) w.slots w.heap labels → w.output ≡ v.output ++ prints labels →
+    step (whole_of v) 0 fresh.None ≡ Some (record { state = whole_of w; labels = labels })
+pool_steps v w labels a b h o =
+    whole_step v ∙ ap (λ l. told v.output (thread_step l (state v.slots v.heap))) (alive_of v a) ∙ ap (told v.output) h
+    ∙ ap (λ l. next_of l (v.output ++ prints labels)) (sym (alive_of w b)) ∙ ap (next_of (life_of w)) (sym o)
+  where
+    next_of : Life → List ℤ → Option Stepped
+    next_of l output = Some (record { state = record { threads = record { number = 0; life = l; slots = newest_first w.slots } ∷ []; heap = w.heap; output = output }; labels = labels })
+
+-- and one of those that are left
+pub pool_left : (v w : View) (labels : List Label) → v.ended ≡ false → w.ended ≡ false → thread_step (alive (run_of v)) (state v.slots v.heap) ≡ goes_to (alive (run_of w)) w.slots w.heap labels → steps_left_of w + 1 ≡ steps_left_of v
+pool_left v w labels a b h =
+    let e = ap life_left (alive_of v a) in
+    let f = ap life_left (alive_of w b) in
+    omega (arith, e, f, step_left (alive (run_of v)) (alive (run_of w)) (state v.slots v.heap) w.slots w.heap labels h)
+
+-- the same over equal forms, slots and heaps
+pub same_step : (fs fs2 : List Form) (gs hs : List Frame) (f g : Focus) (vs vs2 : List Value) (h h2 : Heap) (new : List Value) (heap : Heap) (labels : List Label) → fs ≡ fs2 → vs ≡ vs2 → h ≡ h2 →
+    thread_step (alive (wrapped fs gs (focus_run f))) (state vs h) ≡ goes_to (alive (wrapped fs hs (focus_run g))) new heap labels →
+    thread_step (alive (wrapped fs2 gs (focus_run f))) (state vs2 h2) ≡ goes_to (alive (wrapped fs2 hs (focus_run g))) new heap labels
+same_step fs fs2 gs hs f g vs vs2 h h2 new heap labels a b c e =
+    subst (λ (ks : List Form). thread_step (alive (wrapped ks gs (focus_run f))) (state vs2 h2) ≡ goes_to (alive (wrapped ks hs (focus_run g))) new heap labels) a
+    (subst (λ (us : List Value). thread_step (alive (wrapped fs gs (focus_run f))) (state us h2) ≡ goes_to (alive (wrapped fs hs (focus_run g))) new heap labels) b
+    (subst (λ (i : Heap). thread_step (alive (wrapped fs gs (focus_run f))) (state vs i) ≡ goes_to (alive (wrapped fs hs (focus_run g))) new heap labels) c e))
+
+-- whether the thread steps, over equal forms, slots and heaps
+pub same_goes : (fs fs2 : List Form) (gs : List Frame) (f : Focus) (vs vs2 : List Value) (h h2 : Heap) → fs ≡ fs2 → vs ≡ vs2 → h ≡ h2 → IsSome (thread_step (alive (wrapped fs2 gs (focus_run f))) (state vs2 h2)) → IsSome (thread_step (alive (wrapped fs gs (focus_run f))) (state vs h))
+same_goes fs fs2 gs f vs vs2 h h2 a b c e =
+    subst (λ (ks : List Form). IsSome (thread_step (alive (wrapped ks gs (focus_run f))) (state vs h))) (sym a)
+    (subst (λ (us : List Value). IsSome (thread_step (alive (wrapped fs2 gs (focus_run f))) (state us h))) (sym b)
+    (subst (λ (i : Heap). IsSome (thread_step (alive (wrapped fs2 gs (focus_run f))) (state vs2 i))) (sym c) e))

@@ -1,0 +1,173 @@
+-- A step is one of those that are left, and what needs no step is none.
+use Rattle.std.proofs.Common.{◌≡◌, ℕ, zero, suc, ◌+◌, Bool, true, false, Option, Some, None, refl, sym, ap, ◌∙◌, subst, arith}
+use Rattle.std.specs.Prelude.{⊤}
+use Rattle.fr_plain.specs.declared.value.Value.{Value}
+use Rattle.fr_plain.specs.Acts.{do_end, do_box, do_let, do_print, do_assign, do_discard}
+use Rattle.fr_plain.specs.Run.{Run, temp, unit_c, number, read, box_r, bind, print, assign, block, Parts, last, more, Now, going, constant, temporary, by_now, on_value, after, at_end, now, now_parts, settle_more, close_last, close, settle, settle_parts, Move, next, alone, block_end, move, move_parts, Life, alive, over, settle_life, life_move, one_if_temporary, leaves, leaves_last, steps_left, steps_in, life_left}
+
+-- a done term has no step left, and leaves a temporary value where it is one
+abbrev Done : Now → ℕ → Bool → Type 0
+Done going n b = ⊤
+Done (constant v) n b = (n ≡ 0) × (b ≡ false)
+Done (temporary v) n b = (n ≡ 0) × (b ≡ true)
+
+-- an item that is done, before others
+after_done : (n m : Now) (a : ℕ) (b : Bool) (x : ℕ) (y : Bool) → Done n a b → Done m x y → Done (after n m) (a + one_if_temporary b + x) y
+after_done going m a b x y h g = tt
+after_done (constant v) m a b x y h g =
+    let f = ap one_if_temporary h.1 in
+    let e : x ≡ a + one_if_temporary b + x = omega (arith, h.0, f) in
+    subst (λ k. Done m k y) e g
+after_done (temporary v) m a b x y h g = tt
+
+-- a block whose items are done
+at_end_done : (k : ℕ) (n : Now) (a : ℕ) (b : Bool) → Done n a b → Done (at_end k n) (a + k) b
+at_end_done zero n a b h = let e : a ≡ a + zero = omega arith in subst (λ m. Done n m b) e h
+at_end_done (suc k) n a b h = tt
+
+mutual
+  -- of a term
+  done_left : (r : Run) → Done (now r) (steps_left r) (leaves r)
+  done_left (temp v) = (refl, refl)
+  done_left unit_c = (refl, refl)
+  done_left (number n) = (refl, refl)
+  done_left (read w take) = tt
+  done_left (box_r r) = tt
+  done_left (bind r) = tt
+  done_left (print r) = tt
+  done_left (assign w r) = tt
+  done_left (block k is) = at_end_done k (now_parts is) (steps_in is) (leaves_last is) (done_in is)
+
+  -- of items
+  done_in : (is : Parts) → Done (now_parts is) (steps_in is) (leaves_last is)
+  done_in (last r) = done_left r
+  done_in (more r is) = after_done (now r) (now_parts is) (steps_left r) (leaves r) (steps_in is) (leaves_last is) (done_left r) (done_in is)
+
+-- SETTLING
+
+-- as many steps, and the same kind of value
+abbrev Same : Run → ℕ → Bool → Type 0
+Same q n b = (steps_left q ≡ n) × (leaves q ≡ b)
+
+-- at the last item
+close_last_same : (n : Now) (r : Run) (m : ℕ) (b : Bool) → Same r m b → Same (close_last n r) (m + 0) b
+close_last_same going r m b h = (ap (λ k. k + 0) h.0, h.1)
+close_last_same (constant v) r m b h = (omega (arith, h.0), h.1)
+close_last_same (temporary v) r m b h = (omega (arith, h.0), h.1)
+
+-- before the last item
+close_more_same : (k : ℕ) (r : Run) (is : Parts) (m : ℕ) (b : Bool) → Same r m b → Same (close k (more r is)) (m + one_if_temporary b + steps_in is + k) (leaves_last is)
+close_more_same zero r is m b h = (omega (arith, h.0, ap one_if_temporary h.1), refl)
+close_more_same (suc k) r is m b h = (omega (arith, h.0, ap one_if_temporary h.1), refl)
+
+-- an item before others
+more_same : (n : Now) (k : ℕ) (r : Run) (is rest : Parts) (m : ℕ) (b : Bool) → Done n (steps_left r) (leaves r) → Same r m b → Same (close k rest) (steps_in is + k) (leaves_last is) →
+    Same (close k (settle_more n r is rest)) (m + one_if_temporary b + steps_in is + k) (leaves_last is)
+more_same going k r is rest m b d h g = close_more_same k r is m b h
+more_same (constant v) k r is rest m b d h g = (omega (arith, g.0, h.0, d.0, ap one_if_temporary (sym h.1 ∙ d.1)), g.1)
+more_same (temporary v) k r is rest m b d h g = close_more_same k r is m b h
+
+mutual
+  -- settling is no step
+  pub settle_left : (r : Run) → Same (settle r) (steps_left r) (leaves r)
+  settle_left (temp v) = (refl, refl)
+  settle_left unit_c = (refl, refl)
+  settle_left (number n) = (refl, refl)
+  settle_left (read w take) = (refl, refl)
+  settle_left (box_r r) = (ap (λ n. n + 1) (settle_left r).0, refl)
+  settle_left (bind r) = (ap (λ n. n + 1) (settle_left r).0, refl)
+  settle_left (print r) = (ap (λ n. n + 1) (settle_left r).0, refl)
+  settle_left (assign w r) = (ap (λ n. n + 1) (settle_left r).0, refl)
+  settle_left (block k is) = close_left k is
+
+  -- nor is settling items
+  close_left : (k : ℕ) (is : Parts) → Same (close k (settle_parts is)) (steps_in is + k) (leaves_last is)
+  close_left zero (last r) = close_last_same (now (settle r)) (settle r) (steps_left r) (leaves r) (settle_left r)
+  close_left (suc k) (last r) = (ap (λ n. n + suc k) (settle_left r).0, (settle_left r).1)
+  close_left k (more r is) = more_same (now (settle r)) k (settle r) is (settle_parts is) (steps_left r) (leaves r) (done_left (settle r)) (settle_left r) (close_left k is)
+
+-- MOVES
+
+module _ {P : Type 0} (count : P → ℕ) (kind : P → Bool) where
+  -- a move is one step of n, and leaves the same kind of value
+  abbrev Falls : ℕ → Bool → Option (Move P) → Type 0
+  Falls n b None = ⊤
+  Falls n b (Some m) = (v : Value) → (count (m.plug v) + 1 ≡ n) × (kind (m.plug v) ≡ b)
+
+-- a move inside a move
+next_falls : {P Q : Type 0} (count : P → ℕ) (kind : P → Bool) (other : Q → ℕ) (sort : Q → Bool) (f : P → Q) (o : Option (Move P)) (n m : ℕ) (b c : Bool) →
+    ((q : P) → count q + 1 ≡ n → kind q ≡ b → (other (f q) + 1 ≡ m) × (sort (f q) ≡ c)) → Falls count kind n b o → Falls other sort m c (next f o)
+next_falls count kind other sort f None n m b c g h = tt
+next_falls count kind other sort f (Some x) n m b c g h = λ v. g (x.plug v) (h v).0 (h v).1
+
+-- a term with one part: its own step where the part is done, else the part's
+one_falls : (n : Now) (r : Run) (f : Run → Run) (own : Value → Option (Move Run)) (b : Bool) → Done n (steps_left r) (leaves r) → ((v : Value) → Falls steps_left leaves 1 b (own v)) →
+    ((q : Run) → steps_left (f q) ≡ steps_left q + 1) → ((q : Run) → leaves (f q) ≡ b) → Falls steps_left leaves (steps_left r) (leaves r) (move r) → Falls steps_left leaves (steps_left r + 1) b (on_value n own (next f (move r)))
+one_falls going r f own b d o g l h = next_falls steps_left leaves steps_left leaves f (move r) (steps_left r) (steps_left r + 1) (leaves r) b (λ q e k. (omega (arith, e, g q), l q)) h
+one_falls (constant v) r f own b d o g l h = let e : 1 ≡ steps_left r + 1 = omega (arith, d.0) in subst (λ n. Falls steps_left leaves n b (own v)) e (o v)
+one_falls (temporary v) r f own b d o g l h = let e : 1 ≡ steps_left r + 1 = omega (arith, d.0) in subst (λ n. Falls steps_left leaves n b (own v)) e (o v)
+
+-- dropping a slot is a step
+end_falls : (k : ℕ) (is : Parts) → Falls steps_left leaves (steps_in is + k) (leaves_last is) (block_end k is)
+end_falls zero is = tt
+end_falls (suc k) is = λ v. (omega arith, refl)
+
+-- of a block, by whether its items are done
+block_falls : (n : Now) (k : ℕ) (is : Parts) → Falls steps_in leaves_last (steps_in is) (leaves_last is) (move_parts is) → Falls steps_left leaves (steps_in is + k) (leaves_last is) (on_value n (λ v. block_end k is) (next (block k) (move_parts is)))
+block_falls going k is h = next_falls steps_in leaves_last steps_left leaves (block k) (move_parts is) (steps_in is) (steps_in is + k) (leaves_last is) (leaves_last is) (λ q e l. (omega (arith, e), l)) h
+block_falls (constant v) k is h = end_falls k is
+block_falls (temporary v) k is h = end_falls k is
+
+-- of items, by whether the first is done
+more_falls : (n : Now) (r : Run) (is : Parts) → Done n (steps_left r) (leaves r) → Falls steps_left leaves (steps_left r) (leaves r) (move r) → Falls steps_in leaves_last (steps_in is) (leaves_last is) (move_parts is) →
+    Falls steps_in leaves_last (steps_left r + one_if_temporary (leaves r) + steps_in is) (leaves_last is) (by_now n (next (λ x. more x is) (move r)) (λ v. move_parts is) (λ v. alone (λ x. is) (do_discard v)))
+more_falls going r is d h g =
+    next_falls steps_left leaves steps_in leaves_last (λ x. more x is) (move r) (steps_left r) (steps_left r + one_if_temporary (leaves r) + steps_in is) (leaves r) (leaves_last is)
+    (λ q e l. (omega (arith, e, ap one_if_temporary l), refl)) h
+more_falls (constant v) r is d h g =
+    let e : steps_in is ≡ steps_left r + one_if_temporary (leaves r) + steps_in is = omega (arith, d.0, ap one_if_temporary d.1) in
+    subst (λ n. Falls steps_in leaves_last n (leaves_last is) (move_parts is)) e g
+more_falls (temporary v) r is d h g = λ x. (omega (arith, d.0, ap one_if_temporary d.1), refl)
+
+mutual
+  -- a move of a term is a step of it
+  move_falls : (r : Run) → Falls steps_left leaves (steps_left r) (leaves r) (move r)
+  move_falls (temp v) = tt
+  move_falls unit_c = tt
+  move_falls (number n) = tt
+  move_falls (read w take) = λ v. (refl, refl)
+  move_falls (box_r r) = one_falls (now r) r box_r (λ v. alone temp (do_box v)) true (done_left r) (λ v x. (refl, refl)) (λ q. refl) (λ q. refl) (move_falls r)
+  move_falls (bind r) = one_falls (now r) r bind (λ v. alone (λ x. unit_c) (do_let v)) false (done_left r) (λ v x. (refl, refl)) (λ q. refl) (λ q. refl) (move_falls r)
+  move_falls (print r) = one_falls (now r) r print (λ v. alone (λ x. unit_c) (do_print v)) false (done_left r) (λ v x. (refl, refl)) (λ q. refl) (λ q. refl) (move_falls r)
+  move_falls (assign w r) = one_falls (now r) r (assign w) (λ v. alone (λ x. unit_c) (do_assign w v)) false (done_left r) (λ v x. (refl, refl)) (λ q. refl) (λ q. refl) (move_falls r)
+  move_falls (block k is) = block_falls (now_parts is) k is (parts_falls is)
+
+  -- a move of items is a step of them
+  parts_falls : (is : Parts) → Falls steps_in leaves_last (steps_in is) (leaves_last is) (move_parts is)
+  parts_falls (last r) = next_falls steps_left leaves steps_in leaves_last last (move r) (steps_left r) (steps_left r) (leaves r) (leaves r) (λ q e l. (e, l)) (move_falls r)
+  parts_falls (more r is) = more_falls (now r) r is (done_left r) (move_falls r) (parts_falls is)
+
+-- of a thread, by whether its term is done
+life_by : (n : Now) (r : Run) (m : Move Life) (v : Value) → Done n (steps_left r) (leaves r) → Falls steps_left leaves (steps_left r) (leaves r) (move r) →
+    on_value n (λ v. alone (λ x. over) (do_end v)) (next alive (move r)) ≡ Some m → life_left (settle_life (m.plug v)) + 1 ≡ steps_left r + 1
+life_by going r m v d h e = by (move r) h e
+  where
+    by : (o : Option (Move Run)) → Falls steps_left leaves (steps_left r) (leaves r) o → next alive o ≡ Some m → life_left (settle_life (m.plug v)) + 1 ≡ steps_left r + 1
+    by None h e = absurd cc
+    by (Some x) h e =
+        let f : m ≡ record { act = x.act; plug = λ u. alive (x.plug u) } = cc in
+        let g = ap (λ (y : Move Life). life_left (settle_life (y.plug v))) f in
+        omega (arith, g, (settle_left (x.plug v)).0, (h v).0)
+life_by (constant u) r m v d h e =
+    let f : m ≡ record { act = do_end u; plug = λ x. over } = cc in
+    let g = ap (λ (y : Move Life). life_left (settle_life (y.plug v))) f in
+    omega (arith, g, d.0)
+life_by (temporary u) r m v d h e =
+    let f : m ≡ record { act = do_end u; plug = λ x. over } = cc in
+    let g = ap (λ (y : Move Life). life_left (settle_life (y.plug v))) f in
+    omega (arith, g, d.0)
+
+-- after a step of a thread one step less is left, and settling changes none
+pub life_falls : (l : Life) (m : Move Life) (v : Value) → life_move l ≡ Some m → life_left (settle_life (m.plug v)) + 1 ≡ life_left l
+life_falls over m v e = absurd cc
+life_falls (alive r) m v e = life_by (now r) r m v (done_left r) (move_falls r) e

@@ -1,0 +1,78 @@
+use Rattle.std.proofs.Common.{◌≤◌, length, refl, ap, ◌∙◌, subst, arith, vec_capacity}
+use Rattle.std.specs.Prelude.{IsSome}
+use Rattle.fr_plain.specs.Acts.{do_read}
+use Rattle.fr_plain.specs.Run.{Run, alive, temp, read}
+use Rattle.fr_meaning.specs.declared.frame.Done.TheVariants as done
+use Rattle.fr_meaning.specs.declared.frame.Focus.{Focus}
+use Rattle.fr_meaning.specs.Contexts.{fill, depth, IsSettled}
+use Rattle.fr_meaning.specs.FrameTerms.{wrapped, all_around, around, over, focus_run, AreInside}
+use Rattle.fr_meaning.specs.Turning.{state, thread_step}
+use Rattle.fr_meaning.proofs.ActLemmas.{no_print}
+use Rattle.fr_meaning.proofs.ContextLemmas.{settled_wrap}
+use Rattle.fr_meaning.proofs.FrameLemmas.{inside_front, wrap_push, room_less}
+use Rattle.fr_meaning.proofs.StepLemmas.{step_in, goes_in_frames, read_goes, read_turns, settled_waits}
+use Rattle.fr_meaning.proofs.machine.advance.Goals as goal
+
+pub read-value-requires-clause-goes : goal.read-value-requires-clause-goes
+read-value-requires-clause-goes c =
+    let fs = c.args.forms.now in
+    let s = state c.args.slots.now.items c.args.heap.now.heap in
+    let goes = subst (λ (f : Focus). IsSome (thread_step (alive (wrapped fs c.args.frames.now.items (focus_run f))) s)) c.in-Read.is c.requires.goes in
+    read_goes c.in-Read.place c.in-Read.take s (goes_in_frames fs c.args.frames.now.items (read c.in-Read.place c.in-Read.take) s refl goes)
+
+pub leave-requires-clause-room : goal.leave-requires-clause-room
+leave-requires-clause-room c =
+    let fs = c.args.forms.now in
+    let room = subst (λ (f : Focus). depth (wrapped fs c.args.frames.now.items (focus_run f)) ≤ vec_capacity c.args.frames.now) c.in-Read.is c.requires.room in
+    room_less fs c.args.frames.now.items c.args.frames.now.items (read c.in-Read.place c.in-Read.take) (over (done.Temp c.read-value.result)) (vec_capacity c.args.frames.now) (vec_capacity c.args.frames.now) refl (omega arith) room refl
+
+pub returns-in-Read-clause-step : goal.returns-in-Read-clause-step
+returns-in-Read-clause-step c =
+    let fs = c.args.forms.now in
+    let s = state c.args.slots.now.items c.args.heap.now.heap in
+    ap (λ (f : Focus). thread_step (alive (wrapped fs c.args.frames.now.items (focus_run f))) s) c.in-Read.is
+    ∙ step_in fs c.args.frames.now.items (read c.in-Read.place c.in-Read.take) (temp c.read-value.result) (wrapped fs c.leave.new.frames.items (focus_run c.leave.result)) s c.read-value.new.slots.items c.read-value.new.heap.heap c.read-value.new.labels.items
+    refl (read_turns c.in-Read.place c.in-Read.take s c.read-value.result c.read-value.new.slots.items c.read-value.new.heap.heap c.read-value.new.labels.items c.read-value.ensures) c.leave.ensures.settles
+
+pub returns-in-Read-clause-output : goal.returns-in-Read-clause-output
+returns-in-Read-clause-output c =
+    no_print (do_read c.in-Read.place c.in-Read.take) (state c.args.slots.now.items c.args.heap.now.heap) c.read-value.result c.read-value.new.slots.items c.read-value.new.heap.heap c.read-value.new.labels.items c.args.output.now.items tt c.read-value.ensures
+
+pub step_frame-requires-clause-frame : goal.step_frame-requires-clause-frame
+step_frame-requires-clause-frame c =
+    (inside_front (length c.args.forms.now) c.pop.new.self.items c.in-Some.frame (subst (AreInside (length c.args.forms.now)) c.in-Some.ensures.items c.requires.frames)).1
+
+pub step_frame-requires-clause-frames : goal.step_frame-requires-clause-frames
+step_frame-requires-clause-frames c =
+    (inside_front (length c.args.forms.now) c.pop.new.self.items c.in-Some.frame (subst (AreInside (length c.args.forms.now)) c.in-Some.ensures.items c.requires.frames)).0
+
+pub step_frame-requires-clause-settled : goal.step_frame-requires-clause-settled
+step_frame-requires-clause-settled c =
+    let fs = c.args.forms.now in
+    let gs = c.pop.new.self.items in
+    let e = ap (λ (f : Focus). wrapped fs c.args.frames.now.items (focus_run f)) c.in-Over.is ∙ ap (λ ks. wrapped fs ks (over c.in-Over.done)) c.in-Some.ensures.items ∙ wrap_push fs gs c.in-Some.frame (over c.in-Over.done) in
+    settled_wrap (all_around fs gs) (fill (around fs c.in-Some.frame) (over c.in-Over.done)) (subst IsSettled e c.requires.settled)
+
+pub step_frame-requires-clause-room : goal.step_frame-requires-clause-room
+step_frame-requires-clause-room c =
+    let fs = c.args.forms.now in
+    let gs = c.pop.new.self.items in
+    let e = ap (λ (f : Focus). wrapped fs c.args.frames.now.items (focus_run f)) c.in-Over.is ∙ ap (λ ks. wrapped fs ks (over c.in-Over.done)) c.in-Some.ensures.items ∙ wrap_push fs gs c.in-Some.frame (over c.in-Over.done) in
+    let d = ap depth e in
+    omega (arith, d, c.requires.room, c.in-Some.ensures.capacity)
+
+pub step_frame-requires-clause-goes : goal.step_frame-requires-clause-goes
+step_frame-requires-clause-goes c =
+    let fs = c.args.forms.now in
+    let gs = c.pop.new.self.items in
+    let s = state c.args.slots.now.items c.args.heap.now.heap in
+    let e = ap (λ (f : Focus). wrapped fs c.args.frames.now.items (focus_run f)) c.in-Over.is ∙ ap (λ ks. wrapped fs ks (over c.in-Over.done)) c.in-Some.ensures.items ∙ wrap_push fs gs c.in-Some.frame (over c.in-Over.done) in
+    let settled = settled_wrap (all_around fs gs) (fill (around fs c.in-Some.frame) (over c.in-Over.done)) (subst IsSettled e c.requires.settled) in
+    goes_in_frames fs gs (fill (around fs c.in-Some.frame) (over c.in-Over.done)) s (settled_waits fs c.in-Some.frame c.in-Over.done settled) (subst (λ (r : Run). IsSome (thread_step (alive r) s)) e c.requires.goes)
+
+pub returns-in-Some-clause-step : goal.returns-in-Some-clause-step
+returns-in-Some-clause-step c =
+    let fs = c.args.forms.now in
+    let gs = c.pop.new.self.items in
+    let e = ap (λ (f : Focus). wrapped fs c.args.frames.now.items (focus_run f)) c.in-Over.is ∙ ap (λ ks. wrapped fs ks (over c.in-Over.done)) c.in-Some.ensures.items ∙ wrap_push fs gs c.in-Some.frame (over c.in-Over.done) in
+    ap (λ r. thread_step (alive r) (state c.args.slots.now.items c.args.heap.now.heap)) e ∙ c.step_frame.ensures.step

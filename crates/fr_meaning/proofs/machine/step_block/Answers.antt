@@ -1,0 +1,66 @@
+use Rattle.std.proofs.Common.{◌≡◌, ◌-◌, List, length, drop, refl, sym, ap, ◌∙◌, subst, arith, vec_capacity}
+use Rattle.fr_plain.specs.declared.value.Value.{Value}
+use Rattle.fr_plain.specs.Acts.{act, do_discard, unit}
+use Rattle.fr_plain.specs.Run.{block, settle}
+use Rattle.fr_meaning.specs.declared.frame.Frame.TheVariants as frame
+use Rattle.fr_meaning.specs.Contexts.{fill}
+use Rattle.fr_meaning.specs.FormTerms.{parts_of, term_of, items_at}
+use Rattle.fr_meaning.specs.FrameTerms.{wrapped, around_items, over, value_of, focus_run, AreInside}
+use Rattle.fr_meaning.specs.Turning.{state, did}
+use Rattle.fr_meaning.proofs.FormLemmas.{at_drop, all_dropped}
+use Rattle.fr_meaning.proofs.FrameLemmas.{inside_push, has_place_in, room_in, room_less, rest_below, depth_left, wrap_push, not_below}
+use Rattle.fr_meaning.proofs.StepLemmas.{step_in, held, opened, settled_waits, discard_turns, drop_turns}
+use Rattle.fr_meaning.proofs.machine.step_block.Goals as goal
+
+pub next_item-requires-clause-room : goal.next_item-requires-clause-room
+next_item-requires-clause-room c =
+    let fs = c.args.forms.now in
+    let js = drop c.args.next (items_at fs c.args.node) in
+    room_less fs c.args.frames.now.items c.args.frames.now.items (fill (around_items c.args.left (term_of fs) js) (over c.args.done)) (block c.args.left (parts_of (term_of fs) js)) (vec_capacity c.args.frames.now) (vec_capacity c.args.frames.now)
+    refl (rest_below c.args.left (term_of fs) js (over c.args.done)) c.requires.room refl
+
+pub returns-then-has_item-clause-step : goal.returns-then-has_item-clause-step
+returns-then-has_item-clause-step c =
+    let fs = c.args.forms.now in
+    let js = drop c.args.next (items_at fs c.args.node) in
+    let d = c.args.done in
+    let h = c.args.heap.now.heap in
+    let new = c.discard.new.heap.heap in
+    let ls = c.discard.new.labels.items in
+    let more = at_drop (items_at fs c.args.node) c.args.next 0 (c.has_item.ensures.0 c.if-has_item.true) in
+    let acts = subst (λ (vs : List Value). act (do_discard (value_of d)) (state vs h) ≡ did unit vs new ls) c.deref.ensures.value
+    (subst (λ (v : Value). act (do_discard v) (state c.deref.result.now h) ≡ did unit c.deref.result.now new ls) c.value_in.ensures c.discard.ensures) in
+    step_in fs c.args.frames.now.items (fill (around_items c.args.left (term_of fs) js) (over d)) (block c.args.left (parts_of (term_of fs) js)) (wrapped fs c.next_item.new.frames.items (focus_run c.next_item.result)) (state c.args.slots.now.items h) c.args.slots.now.items new ls
+    (settled_waits fs (frame.Block c.args.left c.args.node c.args.next) d c.requires.settled)
+    (discard_turns c.args.left (term_of fs) js _ _ d (state c.args.slots.now.items h) c.args.slots.now.items new ls more (held c.args.left (term_of fs) js _ _ d more c.requires.settled) acts)
+    c.next_item.ensures.settles
+
+pub push_reserved-requires : goal.push_reserved-requires
+push_reserved-requires c =
+    let p = has_place_in c.args.forms.now c.args.frames.now.items (frame.Block c.args.left c.args.node c.args.next) (over c.args.done) (vec_capacity c.args.frames.now) c.requires.room in
+    omega (arith, p, c.args.frames.now.ok)
+
+pub leave-requires-clause-frames : goal.leave-requires-clause-frames
+leave-requires-clause-frames c =
+    let n = length c.args.forms.now in
+    subst (AreInside n) (sym c.push_reserved.ensures.items) (inside_push n c.args.frames.now.items (frame.Block (c.args.left - 1) c.args.node c.args.next) c.requires.frames c.requires.inside)
+
+pub leave-requires-clause-room : goal.leave-requires-clause-room
+leave-requires-clause-room c =
+    let fs = c.args.forms.now in
+    let js = drop c.args.next (items_at fs c.args.node) in
+    room_in fs c.args.frames.now.items c.push_reserved.new.self.items (frame.Block (c.args.left - 1) c.args.node c.args.next) (fill (around_items c.args.left (term_of fs) js) (over c.args.done)) (over c.args.done) (vec_capacity c.args.frames.now) (vec_capacity c.push_reserved.new.self)
+    c.push_reserved.ensures.items (depth_left (c.args.left - 1) c.args.left (term_of fs) js (over c.args.done)) c.requires.room c.push_reserved.ensures.capacity
+
+pub returns-clause-step : goal.returns-clause-step
+returns-clause-step c =
+    let fs = c.args.forms.now in
+    let js = drop c.args.next (items_at fs c.args.node) in
+    let d = c.args.done in
+    let s = state c.args.slots.now.items c.args.heap.now.heap in
+    let less = frame.Block (c.args.left - 1) c.args.node c.args.next in
+    let none = all_dropped (items_at fs c.args.node) c.args.next (not_below c.has_item.result c.args.next _ c.has_item.ensures c.if-has_item.false) in
+    step_in fs c.args.frames.now.items (fill (around_items c.args.left (term_of fs) js) (over d)) (fill (around_items (c.args.left - 1) (term_of fs) js) (over d)) (wrapped fs c.leave.new.frames.items (focus_run c.leave.result)) s c.drop_slot.new.slots.items c.drop_slot.new.heap.heap c.drop_slot.new.labels.items
+    (settled_waits fs (frame.Block c.args.left c.args.node c.args.next) d c.requires.settled)
+    (drop_turns c.args.left (term_of fs) js d s c.drop_slot.new.slots.items c.drop_slot.new.heap.heap c.drop_slot.new.labels.items none (opened c.args.left (term_of fs) js d none c.requires.settled) c.drop_slot.ensures)
+    (c.leave.ensures.settles ∙ ap (λ gs. settle (wrapped fs gs (over d))) c.push_reserved.ensures.items ∙ ap settle (wrap_push fs c.args.frames.now.items less (over d)))

@@ -1,0 +1,73 @@
+-- A running term as the terms around its innermost one, how deep it is, and when it waits for a step.
+use Rattle.std.specs.Prelude.{ℕ, zero, suc, ◌+◌, max, ⊤, List, [], ◌∷◌}
+use Rattle.fr_base.specs.declared.place.Lval.{Lval}
+use Rattle.fr_plain.specs.Run.{Run, temp, unit_c, number, read, box_r, bind, print, assign, block, Parts, last, more, Now, going, constant, temporary, now}
+
+-- a term with a hole in it
+pub data Around : Type 0 where
+  in_box : Around
+  in_bind : Around
+  in_print : Around
+  in_assign : Lval → Around
+  in_last : ℕ → Around
+  in_more : ℕ → Parts → Around
+
+abbrev pub fill : Around → Run → Run
+fill in_box r = box_r r
+fill in_bind r = bind r
+fill in_print r = print r
+fill (in_assign w) r = assign w r
+fill (in_last k) r = block k (last r)
+fill (in_more k is) r = block k (more r is)
+
+-- the outermost first
+abbrev pub wrap : List Around → Run → Run
+wrap [] r = r
+wrap (c ∷ cs) r = fill c (wrap cs r)
+
+abbrev mutual
+  -- how many terms stand around its innermost one, at most
+  pub depth : Run → ℕ
+  depth (temp v) = 0
+  depth unit_c = 0
+  depth (number n) = 0
+  depth (read w take) = 0
+  depth (box_r r) = depth r + 1
+  depth (bind r) = depth r + 1
+  depth (print r) = depth r + 1
+  depth (assign w r) = depth r + 1
+  depth (block k is) = depth_in is + 1
+
+  pub depth_in : Parts → ℕ
+  depth_in (last r) = depth r
+  depth_in (more r is) = max (depth r) (depth_in is)
+
+-- a block with no slot left to drop isn't done
+abbrev pub IsOpen : ℕ → Now → Type 0
+IsOpen zero going = ⊤
+IsOpen zero (constant v) = ⊥
+IsOpen zero (temporary v) = ⊥
+IsOpen (suc k) n = ⊤
+
+-- no constant stands before a `;`
+abbrev pub IsHeld : Now → Type 0
+IsHeld going = ⊤
+IsHeld (constant v) = ⊥
+IsHeld (temporary v) = ⊤
+
+abbrev mutual
+  -- all that needs no step has vanished, as far as the term was entered
+  pub IsSettled : Run → Type 0
+  IsSettled (temp v) = ⊤
+  IsSettled unit_c = ⊤
+  IsSettled (number n) = ⊤
+  IsSettled (read w take) = ⊤
+  IsSettled (box_r r) = IsSettled r
+  IsSettled (bind r) = IsSettled r
+  IsSettled (print r) = IsSettled r
+  IsSettled (assign w r) = IsSettled r
+  IsSettled (block k is) = AreSettled k is
+
+  pub AreSettled : ℕ → Parts → Type 0
+  AreSettled k (last r) = IsSettled r × IsOpen k (now r)
+  AreSettled k (more r is) = IsSettled r × IsHeld (now r)

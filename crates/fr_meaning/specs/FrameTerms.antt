@@ -1,0 +1,90 @@
+-- What frames and the focus mean: the terms around the innermost term, and that term.
+use Rattle.std.specs.Prelude.{◌≡◌, ℕ, ◌<◌, ⊤, List, [], ◌∷◌, drop, Option, Some, None}
+use Rattle.fr_base.specs.declared.label.Plain.TheVariants as plain
+use Rattle.fr_plain.specs.declared.value.Value.{Value}
+use Rattle.fr_plain.specs.declared.value.Value.TheVariants.{Own}
+use Rattle.fr_plain.specs.Acts.{unit}
+use Rattle.fr_plain.specs.Run.{Run, temp, unit_c, number, read, going, now}
+use Rattle.fr_meaning.specs.declared.forms.Form.{Form}
+use Rattle.fr_meaning.specs.declared.frame.Done.{Done}
+use Rattle.fr_meaning.specs.declared.frame.Done.TheVariants as done
+use Rattle.fr_meaning.specs.declared.frame.Frame.{Frame}
+use Rattle.fr_meaning.specs.declared.frame.Frame.TheVariants as frame
+use Rattle.fr_meaning.specs.declared.frame.Focus.{Focus}
+use Rattle.fr_meaning.specs.declared.frame.Focus.TheVariants as focus
+use Rattle.fr_meaning.specs.declared.frame.Entered.{Entered}
+use Rattle.fr_meaning.specs.declared.frame.Entered.TheVariants as entered
+use Rattle.fr_meaning.specs.Contexts.{Around, in_box, in_bind, in_print, in_assign, in_last, in_more, wrap}
+use Rattle.fr_meaning.specs.FormTerms.{parts_from, term_of, items_at}
+
+-- a term that is done
+abbrev pub over : Done → Run
+over done.Unit = unit_c
+over (done.Number n) = number n
+over (done.Temp v) = temp v
+
+abbrev pub value_of : Done → Value
+value_of done.Unit = unit
+value_of (done.Number n) = Own (plain.Int n)
+value_of (done.Temp v) = v
+
+-- an item of a block that has still to drop so many slots, before the items after it
+abbrev pub around_items : ℕ → (ℕ → Run) → List ℕ → Around
+around_items left look [] = in_last left
+around_items left look (i ∷ is) = in_more left (parts_from look i is)
+
+abbrev pub around : List Form → Frame → Around
+around fs frame.Box = in_box
+around fs frame.Let = in_bind
+around fs frame.Print = in_print
+around fs (frame.Assign w) = in_assign w
+around fs (frame.Block left node next) = around_items left (term_of fs) (drop next (items_at fs node))
+
+abbrev pub all_around : List Form → List Frame → List Around
+all_around fs [] = []
+all_around fs (g ∷ gs) = around fs g ∷ all_around fs gs
+
+-- a term in frames, the outermost frame first
+abbrev pub wrapped : List Form → List Frame → Run → Run
+wrapped fs gs r = wrap (all_around fs gs) r
+
+abbrev pub focus_run : Focus → Run
+focus_run (focus.Over d) = over d
+focus_run (focus.Read w take) = read w take
+
+-- the block that a frame names is there
+abbrev pub IsInside : ℕ → Frame → Type 0
+IsInside n (frame.Block left node next) = node < n
+IsInside n _ = ⊤
+
+abbrev pub AreInside : ℕ → List Frame → Type 0
+AreInside n [] = ⊤
+AreInside n (g ∷ gs) = IsInside n g × AreInside n gs
+
+-- the frames of terms with one part
+abbrev pub HasOnePart : Frame → Type 0
+HasOnePart (frame.Block left node next) = ⊥
+HasOnePart _ = ⊤
+
+-- the settled term is done, with the frames as they were, or it is the focus in frames above the old ones
+abbrev pub Enters : List Form → List Frame → List Frame → Run → Entered → Type 0
+Enters fs old new r (entered.Ended d) = (r ≡ over d) × (new ≡ old)
+Enters fs old new r (entered.Waits f) = (now r ≡ going) × (wrapped fs new (focus_run f) ≡ wrapped fs old r)
+
+-- the same, or it is what follows
+abbrev pub EntersItem : List Form → List Frame → List Frame → Run → Run → Option Entered → Type 0
+EntersItem fs old new r following (Some x) = Enters fs old new r x
+EntersItem fs old new r following None = (r ≡ following) × (new ≡ old)
+
+abbrev pub waits_of : Entered → Entered
+waits_of (entered.Ended d) = entered.Waits (focus.Over d)
+waits_of (entered.Waits f) = entered.Waits f
+
+abbrev pub focus_of : Entered → Focus
+focus_of (entered.Ended d) = focus.Over d
+focus_of (entered.Waits f) = f
+
+-- the done term, where no frame is left
+abbrev pub end_of : Focus → List Frame → Option Done
+end_of (focus.Over d) [] = Some d
+end_of _ _ = None

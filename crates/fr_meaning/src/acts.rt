@@ -1,0 +1,285 @@
+//! What an act does to the slots and the heap, with its labels.
+
+ghost use Rattle.std.specs.Prelude.{◌≡◌, ◌<◌, ◌≤◌, ◌+◌, ◌++◌, ◌∷◌, [], Option, Some, None, IsSome, vec_len, vec_capacity};
+ghost use Rattle.fr_base.specs.declared.label.Label.TheVariants as label;
+ghost use Rattle.fr_plain.specs.State.{value_at, with_value, loads, stores, drops, led, locate, cell_of, without};
+ghost use Rattle.fr_plain.specs.Acts.{act, do_read, do_assign, do_box, do_print, do_drop, do_discard, do_end, unit};
+ghost use Rattle.fr_plain.specs.Whole.{prints};
+ghost use Rattle.fr_meaning.specs.Turning.{state, did, spot_of, IsReached};
+
+use crate::heap::Heap;
+use crate::spot::Where;
+use fr_base::{Label, Labels, Lval, Plain, ThreadNo};
+use fr_plain::Value;
+
+// The main thread.
+fn main_thread() -> ThreadNo
+    ensures { result ≡ 0 }
+{
+    ThreadNo::new(0, 0)
+}
+
+// A label more, for which there is room.
+fn note(labels: &mut Labels, label: Label)
+    requires { 0 < labels.old.spare }
+    ensures label { labels.new.items ≡ labels.old.items ++ label ∷ [] }
+    ensures spare { labels.old.spare ≤ labels.new.spare + 1 }
+{
+    match labels.push(label) {
+        Ok(()) => {}
+        Err(_) => unreachable!(),
+    }
+}
+
+// The label of a cell that is read.
+fn note_load(labels: &mut Labels, spot: &Where, value: &Value)
+    requires { 0 < labels.old.spare }
+    ensures label { labels.new.items ≡ labels.old.items ++ loads (spot_of spot.now) value.now }
+    ensures spare { labels.old.spare ≤ labels.new.spare + 1 }
+{
+    if let Where::Cell(object) = spot {
+        if let Value::Own(plain) = value {
+            note(labels, Label::Load(*object, *plain));
+        }
+    }
+}
+
+// The label of a cell that is written.
+fn note_store(labels: &mut Labels, spot: &Where, value: &Value)
+    requires { 0 < labels.old.spare }
+    ensures label { labels.new.items ≡ labels.old.items ++ stores (spot_of spot.now) value.now }
+    ensures spare { labels.old.spare ≤ labels.new.spare + 1 }
+{
+    if let Where::Cell(object) = spot {
+        if let Value::Own(plain) = value {
+            note(labels, Label::Store(*object, *plain));
+        }
+    }
+}
+
+// The label of a value that is dropped.
+fn note_drop(labels: &mut Labels, value: &Value)
+    requires { 0 < labels.old.spare }
+    ensures label { labels.new.items ≡ labels.old.items ++ drops value.now }
+    ensures spare { labels.old.spare ≤ labels.new.spare + 1 }
+{
+    if let Value::Own(Plain::Box(object)) = value {
+        note(labels, Label::Drop(*object));
+    }
+}
+
+// The value that stands there.
+fn value_there(slots: &[Value], heap: &Heap, spot: &Where) -> Option<Value>
+    ensures { result ≡ value_at (state slots.now heap.now.heap) (spot_of spot.now) }
+{
+    match spot {
+        Where::Slot(slot) => {
+            let at = *slot;
+            if at < slots.len() {
+                Some(slots[at])
+            } else {
+                None
+            }
+        }
+        Where::Cell(object) => match heap.get(object) {
+            Some(plain) => Some(Value::Own(plain)),
+            None => None,
+        },
+    }
+}
+
+// Puts another value where one stands.
+fn put(slots: &mut Vec<Value>, heap: &mut Heap, spot: &Where, value: Value)
+    requires stands { IsSome (value_at (state slots.old.items heap.old.heap) (spot_of spot.now)) }
+    ensures { state slots.new.items heap.new.heap ≡ with_value (state slots.old.items heap.old.heap) (spot_of spot.now) value }
+{
+    match spot {
+        Where::Slot(slot) => {
+            let at = *slot;
+            slots[at] = value;
+        }
+        Where::Cell(object) => heap.put(object, plain_of(value)),
+    }
+}
+
+// What a cell can hold of the value.
+fn plain_of(value: Value) -> Option<Plain>
+    ensures { result ≡ cell_of value }
+{
+    match value {
+        Value::Own(plain) => Some(plain),
+        Value::ToSlot(_) => None,
+        Value::ToObject(_) => None,
+    }
+}
+
+// Drops a value: an owned one with all that it owns.
+fn drop_value(heap: &mut Heap, value: Value)
+    ensures { heap.new.heap ≡ without heap.old.heap value }
+{
+    if let Value::Own(plain) = value {
+        heap.drop_plain(plain);
+    }
+}
+
+// Where a star more leads from there, with the label of the pointer that is read.
+fn lead(labels: &mut Labels, spot: &Where, value: &Value) -> Option<Where>
+    requires { 0 < labels.old.spare }
+    ensures leads { IsReached (led (record { spot = spot_of spot.now; passed = labels.old.items }) (Some value.now)) labels.new.items result }
+    ensures spare { labels.old.spare ≤ labels.new.spare + 1 }
+{
+    match value {
+        Value::ToSlot(slot) => Some(Where::Slot(*slot as usize)),
+        Value::ToObject(object) => Some(Where::Cell(*object)),
+        Value::Own(Plain::Box(object)) => {
+            note_load(labels, spot, value);
+            Some(Where::Cell(*object))
+        }
+        Value::Own(Plain::Nothing) => None,
+        Value::Own(Plain::Unit) => None,
+        Value::Own(Plain::Int(_)) => None,
+        Value::Own(Plain::Mutex(_)) => None,
+        Value::Own(Plain::Task(_)) => None,
+    }
+}
+
+// Follows a place star by star.
+fn find(slots: &[Value], heap: &Heap, place: Lval, labels: &mut Labels) -> Option<Where>
+    requires labels { labels.old.items ≡ [] }
+    requires room { place.depth ≤ labels.old.spare }
+    ensures leads { IsReached (locate (state slots.now heap.now.heap) place) labels.new.items result }
+    ensures spare { labels.old.spare ≤ labels.new.spare + place.depth }
+{
+    let mut spot = Where::Slot(place.slot as usize);
+    'stars: for star in 0..place.depth {
+        let Some(value) = value_there(slots, heap, &spot) else {
+            return None;
+        };
+        match lead(labels, &spot, &value) {
+            Some(next) => spot = next,
+            None => return None,
+        }
+    }
+    Some(spot)
+}
+
+/// Reads a place: copies the value, or takes it out.
+pub fn read(
+    slots: &mut Vec<Value>,
+    heap: &mut Heap,
+    labels: &mut Labels,
+    place: Lval,
+    take: bool,
+) -> Value
+    requires goes { IsSome (act (do_read place take) (state slots.old.items heap.old.heap)) }
+    requires labels { labels.old.items ≡ [] }
+    requires room { place.depth + 2 ≤ labels.old.spare }
+    ensures { act (do_read place take) (state slots.old.items heap.old.heap) ≡ did result slots.new.items heap.new.heap labels.new.items }
+{
+    let Some(spot) = find(slots, heap, place, labels) else {
+        unreachable!()
+    };
+    let Some(value) = value_there(slots, heap, &spot) else {
+        unreachable!()
+    };
+    note_load(labels, &spot, &value);
+    if take {
+        put(slots, heap, &spot, Value::Own(Plain::Nothing));
+        note_store(labels, &spot, &Value::Own(Plain::Nothing));
+    }
+    value
+}
+
+/// Writes a value to a place, and drops the old one.
+pub fn assign(
+    slots: &mut Vec<Value>,
+    heap: &mut Heap,
+    labels: &mut Labels,
+    place: Lval,
+    value: Value,
+)
+    requires goes { IsSome (act (do_assign place value) (state slots.old.items heap.old.heap)) }
+    requires labels { labels.old.items ≡ [] }
+    requires room { place.depth + 2 ≤ labels.old.spare }
+    ensures { act (do_assign place value) (state slots.old.items heap.old.heap) ≡ did unit slots.new.items heap.new.heap labels.new.items }
+{
+    let Some(spot) = find(slots, heap, place, labels) else {
+        unreachable!()
+    };
+    let Some(old) = value_there(slots, heap, &spot) else {
+        unreachable!()
+    };
+    note_drop(labels, &old);
+    note_store(labels, &spot, &value);
+    put(slots, heap, &spot, value);
+    drop_value(heap, old);
+}
+
+/// Makes an object with a value, and gives its box.
+pub fn make_box(slots: &[Value], heap: &mut Heap, labels: &mut Labels, value: Value) -> Value
+    requires goes { IsSome (act (do_box value) (state slots.now heap.old.heap)) }
+    requires labels { labels.old.items ≡ [] }
+    requires room { 0 < labels.old.spare }
+    requires heap { 0 < heap.old.spare }
+    ensures { act (do_box value) (state slots.now heap.old.heap) ≡ did result slots.now heap.new.heap labels.new.items }
+{
+    let Value::Own(plain) = value else {
+        unreachable!()
+    };
+    let content = plain;
+    let object = heap.make(content);
+    let name = object;
+    note(labels, Label::Make(name, plain));
+    Value::Own(Plain::Box(object))
+}
+
+/// Prints a number.
+pub fn print(slots: &[Value], heap: &Heap, output: &mut Vec<i64>, labels: &mut Labels, value: Value)
+    requires goes { IsSome (act (do_print value) (state slots.now heap.now.heap)) }
+    requires labels { labels.old.items ≡ [] }
+    requires room { 0 < labels.old.spare }
+    requires output { vec_len output.old < vec_capacity output.old }
+    ensures act { act (do_print value) (state slots.now heap.now.heap) ≡ did unit slots.now heap.now.heap labels.new.items }
+    ensures output { output.new.items ≡ output.old.items ++ prints labels.new.items }
+{
+    let Value::Own(Plain::Int(number)) = value else {
+        unreachable!()
+    };
+    output.push_reserved(number);
+    note(labels, Label::Print(number));
+}
+
+/// Drops the newest slot.
+pub fn drop_slot(slots: &mut Vec<Value>, heap: &mut Heap, labels: &mut Labels)
+    requires goes { IsSome (act do_drop (state slots.old.items heap.old.heap)) }
+    requires labels { labels.old.items ≡ [] }
+    requires room { 0 < labels.old.spare }
+    ensures { act do_drop (state slots.old.items heap.old.heap) ≡ did unit slots.new.items heap.new.heap labels.new.items }
+{
+    let Some(value) = slots.pop() else {
+        unreachable!()
+    };
+    note_drop(labels, &value);
+    drop_value(heap, value);
+}
+
+/// Drops the value of a term before a `;`.
+pub fn discard(slots: &[Value], heap: &mut Heap, labels: &mut Labels, value: Value)
+    requires labels { labels.old.items ≡ [] }
+    requires room { 0 < labels.old.spare }
+    ensures { act (do_discard value) (state slots.now heap.old.heap) ≡ did unit slots.now heap.new.heap labels.new.items }
+{
+    note_drop(labels, &value);
+    drop_value(heap, value);
+}
+
+/// Drops the result of the main thread, which is over.
+pub fn finish(slots: &[Value], heap: &mut Heap, labels: &mut Labels, value: Value)
+    requires labels { labels.old.items ≡ [] }
+    requires room { 2 ≤ labels.old.spare }
+    ensures { act (do_end value) (state slots.now heap.old.heap) ≡ did unit slots.now heap.new.heap labels.new.items }
+{
+    note_drop(labels, &value);
+    drop_value(heap, value);
+    note(labels, Label::End(main_thread()));
+}

@@ -1,0 +1,123 @@
+//! The forms of a checked program's nodes.
+
+ghost use Rattle.std.specs.Prelude.{◌≡◌, ℕ, ◌+◌, ◌<◌, ◌≤◌, ◌^◌, [], length, IfOk};
+ghost use Rattle.fr_syntax.specs.Meanings.{meanings, meaning_at, needs, sort_of, term_of, place_s, AreBelow};
+ghost use Rattle.fr_plain.specs.Resolve.{program};
+ghost use Rattle.fr_plain.specs.Whole.{start};
+ghost use Rattle.fr_sound.specs.NeverStuck.{IsTyped};
+ghost use Rattle.fr_meaning.specs.Contexts.{depth};
+ghost use Rattle.fr_meaning.specs.FormTerms.{AllBelow, AreInOrder, NamesBelow};
+ghost use Rattle.fr_meaning.specs.Forming.{count_of, place_in, AreFew, IsCount, IsMade};
+ghost use Rattle.fr_meaning.specs.PoolView.{root_of as root_run};
+
+use crate::checked::Checked;
+use crate::forms::Form;
+use fr_base::{Lval, NoMemory};
+use fr_syntax::{Nodes, Term};
+use std::alloc::Global;
+
+// The place of a place node.
+fn place(checked: &Checked, node: u32) -> Lval
+    requires here { node < length (meanings checked.now.arena) }
+    requires sort { sort_of (meaning_at (meanings checked.now.arena) node).what ≡ place_s }
+    ensures { result ≡ place_in checked.now node }
+{
+    let Some(place) = checked.lval(node) else {
+        unreachable!()
+    };
+    place
+}
+
+// The numbers of nodes, in a vector.
+fn numbers(alloc: Global, nodes: &Nodes) -> Result<Vec<u32>, NoMemory>
+    ensures { IfOk result (λ v. v.items ≡ nodes.now.items) }
+{
+    let mut numbers = Vec::new(alloc);
+    'nodes: for next in 0..nodes.len() {
+        let Some(node) = nodes.at(next) else {
+            unreachable!()
+        };
+        numbers.push(*node)?;
+    }
+    Ok(numbers)
+}
+
+// How many variables the items of a block declare.
+fn variables(nodes: &Nodes, counts: &[u32]) -> u32
+    requires { AllBelow (length counts.now) nodes.now.items }
+    ensures { IsCount counts.now nodes.now.items result }
+{
+    let mut count = 0u32;
+    'nodes: for next in 0..nodes.len() {
+        let Some(node) = nodes.at(next) else {
+            unreachable!()
+        };
+        count = count.saturating_add(counts[*node as usize]);
+    }
+    count
+}
+
+// How many variables a form's term declares outside of the blocks in it.
+fn count_in(counts: &[u32], form: &Form) -> u32
+    requires below { NamesBelow (length counts.now) form.now }
+    requires few { AreFew counts.now }
+    requires room { length counts.now < 2 ^ 28 }
+    ensures { result ≡ count_of counts.now form.now }
+{
+    match form {
+        Form::Let(value) => counts[*value as usize] + 1,
+        Form::Assign(_, value) => counts[*value as usize],
+        Form::Box(value) => counts[*value as usize],
+        Form::Print(value) => counts[*value as usize],
+        _ => 0,
+    }
+}
+
+// The form of a node. The nodes before it declare so many variables.
+fn form_of(
+    alloc: Global,
+    checked: &Checked,
+    at: u32,
+    term: &Term,
+    counts: &[u32],
+) -> Result<Form, NoMemory>
+    requires here { at < length (meanings checked.now.arena) }
+    requires parts { AreBelow (meanings checked.now.arena) at (needs term.now) }
+    requires counts { length counts.now ≡ at }
+    ensures made { IfOk result (IsMade checked.now counts.now at term.now) }
+    ensures below { IfOk result (NamesBelow at) }
+{
+    match term {
+        Term::Number(value) => Ok(Form::Number(*value)),
+        Term::Unit => Ok(Form::Unit),
+        Term::Read(from) => Ok(Form::Read(place(checked, *from), checked.takes(at))),
+        Term::Box(value) => Ok(Form::Box(*value)),
+        Term::Let(_, value) => Ok(Form::Let(*value)),
+        Term::Print(value) => Ok(Form::Print(*value)),
+        Term::Assign(to, value) => Ok(Form::Assign(place(checked, *to), *value)),
+        Term::Block(items) => Ok(Form::Block(numbers(alloc, items)?, variables(items, counts))),
+        _ => Ok(Form::Place),
+    }
+}
+
+/// The forms of a program, one for each node.
+pub fn forms_of(alloc: Global, checked: &Checked) -> Result<Vec<Form>, NoMemory>
+    ensures order { IfOk result (λ forms. AreInOrder forms.items) }
+    ensures some { IfOk result (λ forms. 0 < length forms.items) }
+    ensures root { IfOk result (λ forms. root_run forms.items ≡ program (term_of checked.now.arena)) }
+    ensures depth { IfOk result (λ forms. depth (root_run forms.items) ≤ 64) }
+    ensures typed { IfOk result (λ forms. IsTyped (start (root_run forms.items))) }
+{
+    let tree = checked.tree();
+    let mut forms = Vec::new(alloc);
+    let mut counts = Vec::new(alloc);
+    'nodes: for at in 0..tree.len() as u32 {
+        let Some(node) = tree.node(at) else {
+            unreachable!()
+        };
+        let form = form_of(alloc, checked, at, &node.term, &counts)?;
+        counts.push(count_in(&counts, &form))?;
+        forms.push(form)?;
+    }
+    Ok(forms)
+}

@@ -1,0 +1,21 @@
+//! The forms of a program.
+
+use fr_base::Lval;
+
+/// A term with slots for names. There is one form for each node of the tree, under the node's number, and its parts
+/// are numbers of forms that stand before it.
+#[derive(Drop)]
+pub enum Form {
+    Number(i64),
+    Unit,
+    /// The place, and whether the value is taken out of it.
+    Read(Lval, bool),
+    Box(u32),
+    Let(u32),
+    Print(u32),
+    Assign(Lval, u32),
+    /// The items in order, and how many of them are a `let`: so many slots are dropped at the block's end.
+    Block(Vec<u32>, u32),
+    /// The node of a place, which nobody enters.
+    Place,
+}

@@ -1,0 +1,37 @@
+//! Where a thread stands in its forms.
+
+use fr_base::Lval;
+use fr_plain::Value;
+
+/// A term that is done: a constant, or the value that a step left.
+#[derive(Clone, Copy)]
+pub enum Done {
+    Unit,
+    Number(i64),
+    Temp(Value),
+}
+
+/// A term that waits for a part of it.
+#[derive(Clone, Copy)]
+pub enum Frame {
+    Box,
+    Let,
+    Print,
+    Assign(Lval),
+    /// How many slots the block has still to drop, its form, and the item after the one in progress.
+    Block { left: u32, node: usize, next: usize },
+}
+
+/// The innermost term: it is done, or it reads a place, with or without taking the value out of it.
+#[derive(Clone, Copy)]
+pub enum Focus {
+    Over(Done),
+    Read(Lval, bool),
+}
+
+/// What entering a term comes to: it is done, or it waits at its innermost part.
+#[derive(Clone, Copy)]
+pub enum Entered {
+    Ended(Done),
+    Waits(Focus),
+}

@@ -1,0 +1,222 @@
+//! One step of a thread, over its parts.
+
+ghost use Rattle.std.specs.Prelude.{◌≡◌, ◌<◌, ◌≤◌, ◌+◌, ◌++◌, ◌∷◌, [], List, length, drop, vec_len, vec_capacity, IsSome};
+ghost use Rattle.fr_meaning.specs.declared.frame.Frame.{Frame};
+ghost use Rattle.fr_plain.specs.Run.{Run, settle, block, move, alive};
+ghost use Rattle.fr_plain.specs.Whole.{prints};
+ghost use Rattle.fr_meaning.specs.Contexts.{fill, depth, IsSettled};
+ghost use Rattle.fr_meaning.specs.FormTerms.{AreInOrder, term_of, parts_of, items_at};
+ghost use Rattle.fr_meaning.specs.FrameTerms.{wrapped, around, around_items, over, value_of, focus_run, AreInside, IsInside, HasOnePart, end_of};
+ghost use Rattle.fr_meaning.specs.Turning.{state, turned, turns_to, thread_step, goes_to, frame_labels, focus_labels};
+
+use crate::acts::{assign, discard, drop_slot, make_box, print, read};
+use crate::control::{enter_items, has_item, leave};
+use crate::forms::Form;
+use crate::frame::{Done, Entered, Focus, Frame};
+use crate::heap::Heap;
+use fr_base::{Labels, Plain};
+use fr_plain::Value;
+
+// The value of a term that is done.
+pub fn value_in(done: Done) -> Value
+    ensures { result ≡ value_of done }
+{
+    match done {
+        Done::Unit => Value::Own(Plain::Unit),
+        Done::Number(number) => Value::Own(Plain::Int(number)),
+        Done::Temp(value) => value,
+    }
+}
+
+// The done term, where no frame is left.
+pub fn end_in(focus: &Focus, frames: &[Frame]) -> Option<Done>
+    ensures { result ≡ end_of focus.now frames.now }
+{
+    match focus {
+        Focus::Over(done) => { if frames.is_empty() { Some(*done) } else { None } }
+        Focus::Read(_, _) => None,
+    }
+}
+
+/// How many labels the next step gives at most.
+pub fn labels_ahead(focus: &Focus, frames: &[Frame]) -> usize
+    ensures focus { focus_labels focus.now ≤ result }
+    ensures frame { (gs : List Frame) (g : Frame) → frames.now ≡ gs ++ g ∷ [] → frame_labels g ≤ result }
+{
+    let place = match focus {
+        Focus::Read(place, _) => place.depth as usize,
+        Focus::Over(_) => 0,
+    };
+    match frames {
+        [.., Frame::Assign(to)] => place + to.depth as usize + 2,
+        _ => place + 2,
+    }
+}
+
+// What the term of the frame does with its part.
+fn operate(
+    forms: &[Form],
+    frame: Frame,
+    done: Done,
+    slots: &mut Vec<Value>,
+    heap: &mut Heap,
+    output: &mut Vec<i64>,
+    labels: &mut Labels,
+) -> Done
+    requires part { HasOnePart frame }
+    requires goes { IsSome (turned (move (fill (around forms.now frame) (over done))) (state slots.old.items heap.old.heap)) }
+    requires slots { vec_len slots.old < vec_capacity slots.old }
+    requires heap { 0 < heap.old.spare }
+    requires output { vec_len output.old < vec_capacity output.old }
+    requires labels { labels.old.items ≡ [] }
+    requires room { frame_labels frame ≤ labels.old.spare }
+    ensures turns { turned (move (fill (around forms.now frame) (over done))) (state slots.old.items heap.old.heap) ≡ turns_to (over result) slots.new.items heap.new.heap labels.new.items }
+    ensures output { output.new.items ≡ output.old.items ++ prints labels.new.items }
+{
+    let value = value_in(done);
+    match frame {
+        Frame::Box => Done::Temp(make_box(slots, heap, labels, value)),
+        Frame::Let => {
+            slots.push_reserved(value);
+            Done::Unit
+        }
+        Frame::Print => {
+            print(slots, heap, output, labels, value);
+            Done::Unit
+        }
+        Frame::Assign(place) => {
+            assign(slots, heap, labels, place, value);
+            Done::Unit
+        }
+        Frame::Block { .. } => unreachable!(),
+    }
+}
+
+// Goes on with the next item of a block.
+fn next_item(forms: &[Form], frames: &mut Vec<Frame>, left: u32, node: usize, next: usize) -> Focus
+    requires order { AreInOrder forms.now }
+    requires inside { node < length forms.now }
+    requires frames { AreInside (length forms.now) frames.old.items }
+    requires room { depth (wrapped forms.now frames.old.items (block left (parts_of (term_of forms.now) (drop next (items_at forms.now node))))) ≤ vec_capacity frames.old }
+    ensures settles { wrapped forms.now frames.new.items (focus_run result) ≡ settle (wrapped forms.now frames.old.items (block left (parts_of (term_of forms.now) (drop next (items_at forms.now node))))) }
+    ensures capacity { vec_capacity frames.new ≡ vec_capacity frames.old }
+    ensures frames { AreInside (length forms.now) frames.new.items }
+{
+    match enter_items(forms, node, next, left, frames) {
+        Entered::Ended(done) => leave(forms, frames, done),
+        Entered::Waits(focus) => focus,
+    }
+}
+
+// A step of a block whose item is done: its value before a `;` is dropped, or after the last item a slot.
+fn step_block(
+    forms: &[Form],
+    frames: &mut Vec<Frame>,
+    left: u32,
+    node: usize,
+    next: usize,
+    done: Done,
+    slots: &mut Vec<Value>,
+    heap: &mut Heap,
+    labels: &mut Labels,
+) -> Focus
+    requires order { AreInOrder forms.now }
+    requires inside { node < length forms.now }
+    requires frames { AreInside (length forms.now) frames.old.items }
+    requires settled { IsSettled (fill (around_items left (term_of forms.now) (drop next (items_at forms.now node))) (over done)) }
+    requires room { depth (wrapped forms.now frames.old.items (fill (around_items left (term_of forms.now) (drop next (items_at forms.now node))) (over done))) ≤ vec_capacity frames.old }
+    requires goes { IsSome (turned (move (fill (around_items left (term_of forms.now) (drop next (items_at forms.now node))) (over done))) (state slots.old.items heap.old.heap)) }
+    requires labels { labels.old.items ≡ [] }
+    requires spare { 2 ≤ labels.old.spare }
+    ensures step { thread_step (alive (wrapped forms.now frames.old.items (fill (around_items left (term_of forms.now) (drop next (items_at forms.now node))) (over done)))) (state slots.old.items heap.old.heap) ≡ goes_to (alive (wrapped forms.now frames.new.items (focus_run result))) slots.new.items heap.new.heap labels.new.items }
+    ensures silent { prints labels.new.items ≡ [] }
+    ensures capacity { vec_capacity frames.new ≡ vec_capacity frames.old }
+    ensures frames { AreInside (length forms.now) frames.new.items }
+{
+    if has_item(forms, node, next) {
+        discard(slots, heap, labels, value_in(done));
+        return next_item(forms, frames, left, node, next);
+    }
+    drop_slot(slots, heap, labels);
+    frames.push_reserved(Frame::Block {
+        left: left - 1,
+        node,
+        next,
+    });
+    leave(forms, frames, done)
+}
+
+// A step of the term of a frame, whose part is done.
+fn step_frame(
+    forms: &[Form],
+    frames: &mut Vec<Frame>,
+    frame: Frame,
+    done: Done,
+    slots: &mut Vec<Value>,
+    heap: &mut Heap,
+    output: &mut Vec<i64>,
+    labels: &mut Labels,
+) -> Focus
+    requires order { AreInOrder forms.now }
+    requires frame { IsInside (length forms.now) frame }
+    requires frames { AreInside (length forms.now) frames.old.items }
+    requires settled { IsSettled (fill (around forms.now frame) (over done)) }
+    requires room { depth (wrapped forms.now frames.old.items (fill (around forms.now frame) (over done))) ≤ vec_capacity frames.old }
+    requires goes { IsSome (turned (move (fill (around forms.now frame) (over done))) (state slots.old.items heap.old.heap)) }
+    requires slots { vec_len slots.old < vec_capacity slots.old }
+    requires heap { 0 < heap.old.spare }
+    requires output { vec_len output.old < vec_capacity output.old }
+    requires labels { labels.old.items ≡ [] }
+    requires spare { frame_labels frame ≤ labels.old.spare }
+    ensures step { thread_step (alive (wrapped forms.now frames.old.items (fill (around forms.now frame) (over done)))) (state slots.old.items heap.old.heap) ≡ goes_to (alive (wrapped forms.now frames.new.items (focus_run result))) slots.new.items heap.new.heap labels.new.items }
+    ensures output { output.new.items ≡ output.old.items ++ prints labels.new.items }
+    ensures capacity { vec_capacity frames.new ≡ vec_capacity frames.old }
+    ensures frames { AreInside (length forms.now) frames.new.items }
+{
+    if let Frame::Block { left, node, next } = frame {
+        return step_block(forms, frames, left, node, next, done, slots, heap, labels);
+    }
+    let over = operate(forms, frame, done, slots, heap, output, labels);
+    leave(forms, frames, over)
+}
+
+/// One step of a thread that isn't over.
+pub fn advance(
+    forms: &[Form],
+    focus: Focus,
+    frames: &mut Vec<Frame>,
+    slots: &mut Vec<Value>,
+    heap: &mut Heap,
+    output: &mut Vec<i64>,
+    labels: &mut Labels,
+) -> Focus
+    requires order { AreInOrder forms.now }
+    requires frames { AreInside (length forms.now) frames.old.items }
+    requires settled { IsSettled (wrapped forms.now frames.old.items (focus_run focus)) }
+    requires room { depth (wrapped forms.now frames.old.items (focus_run focus)) ≤ vec_capacity frames.old }
+    requires goes { IsSome (thread_step (alive (wrapped forms.now frames.old.items (focus_run focus))) (state slots.old.items heap.old.heap)) }
+    requires on { end_of focus frames.old.items ≡ None }
+    requires slots { vec_len slots.old < vec_capacity slots.old }
+    requires heap { 0 < heap.old.spare }
+    requires output { vec_len output.old < vec_capacity output.old }
+    requires labels { labels.old.items ≡ [] }
+    requires spare { focus_labels focus ≤ labels.old.spare }
+    requires frame_spare { (gs : List Frame) (g : Frame) → frames.old.items ≡ gs ++ g ∷ [] → frame_labels g ≤ labels.old.spare }
+    ensures step { thread_step (alive (wrapped forms.now frames.old.items (focus_run focus))) (state slots.old.items heap.old.heap) ≡ goes_to (alive (wrapped forms.now frames.new.items (focus_run result))) slots.new.items heap.new.heap labels.new.items }
+    ensures output { output.new.items ≡ output.old.items ++ prints labels.new.items }
+    ensures capacity { vec_capacity frames.new ≡ vec_capacity frames.old }
+    ensures frames { AreInside (length forms.now) frames.new.items }
+{
+    match focus {
+        Focus::Read(place, take) => {
+            let value = read(slots, heap, labels, place, take);
+            leave(forms, frames, Done::Temp(value))
+        }
+        Focus::Over(done) => {
+            let Some(frame) = frames.pop() else {
+                unreachable!()
+            };
+            step_frame(forms, frames, frame, done, slots, heap, output, labels)
+        }
+    }
+}
