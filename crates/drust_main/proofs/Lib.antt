@@ -1,0 +1,5 @@
+pub mod Refusals
+pub mod Replies
+pub mod Checkable
+pub mod Stepping
+pub mod FewSteps

@@ -1,0 +1,34 @@
+-- What was read tells what the answer is.
+use Rattle.std.proofs.Common.{◌≡◌, ℕ, ◌+◌, ◌≤◌, true, List, ◌++◌, length, Option, Some, None, sym, ap, ◌∙◌, subst, arith}
+use Rattle.std.proofs.Common.{codes, length-append}
+use Rattle.std.proofs.lemmas.List.{append-nil}
+use Rattle.drust_io.specs.Flow.{ComesOff, NothingLeft, SomeComeOff}
+use Rattle.drust_main.specs.Words.{asks_run}
+use Rattle.drust_main.specs.Headline.{limit, Runs, NoSource, IsFaulty, Within, Told, Answers, run_finished, no_source, fault_found, too_long}
+use Rattle.drust_main.specs.Runs.{IsLeft, IsInput}
+
+told : (P : List ℕ → Type 0) (bytes : List ℕ) (left : Option (List ℕ)) → length bytes ≤ limit → P bytes → IsLeft bytes left → Told left (Within P)
+told P bytes None size p h = tt
+told P bytes (Some all) size p h = subst (λ (b : List ℕ). Within P b) (sym h) (record { size = size; holds = p })
+
+pub finished : (words : List (List ℕ)) (bytes : List ℕ) (left : Option (List ℕ)) (text : List ℕ) → IsInput words bytes left → length bytes ≤ limit → Runs bytes text → Answers words left 0 text
+finished words bytes left text i size r = run_finished i.asked (told (λ b. Runs b text) bytes left size r i.whole)
+
+pub syntax_refused : (words : List (List ℕ)) (bytes : List ℕ) (left : Option (List ℕ)) → IsInput words bytes left → length bytes ≤ limit → NoSource bytes → Answers words left 3 (codes "refused syntax\n")
+syntax_refused words bytes left i size r = no_source i.asked (told NoSource bytes left size r i.whole)
+
+pub type_refused : (words : List (List ℕ)) (bytes : List ℕ) (left : Option (List ℕ)) → IsInput words bytes left → length bytes ≤ limit → IsFaulty bytes → Answers words left 4 (codes "refused type\n")
+type_refused words bytes left i size r = fault_found i.asked (told IsFaulty bytes left size r i.whole)
+
+-- all that was left was read
+pub all_read : (words : List (List ℕ)) (bytes : List ℕ) (before after : Option (List ℕ)) → asks_run words ≡ true → ComesOff bytes before after → NothingLeft after → IsInput words bytes before
+all_read words bytes None after a c n = record { asked = a; whole = tt }
+all_read words bytes (Some all) None a c n = let e : None ≡ Some c.0 = c.1 in cc
+all_read words bytes (Some all) (Some rest) a c n =
+    let same : rest ≡ c.0 = let e : Some rest ≡ Some c.0 = c.1 in cc in
+    record { asked = a; whole = c.2 ∙ ap (λ x. bytes ++ x) (sym same ∙ n) ∙ append-nil bytes }
+
+-- more than the limit was left
+pub size_refused : (words : List (List ℕ)) (before after : Option (List ℕ)) → asks_run words ≡ true → SomeComeOff (limit + 1) before after → Answers words before 9 (codes "refused size\n")
+size_refused words None after a c = too_long a tt
+size_refused words (Some all) after a c = let e = ap length c.2.2 in too_long a (omega (arith, e, c.1, length-append c.0 c.2.0))

@@ -1,0 +1,97 @@
+-- THE HEADLINE: what the program answers. For every input that is the source of a typed program, what is written is the
+-- text of that program's run on one heap, to its end. Each other answer has its cause.
+use Rattle.std.specs.Prelude.{◌≡◌, ℕ, ◌<◌, ◌≤◌, ◌⊎◌, true, false, ⊤, List, [], length, take, codes, Option, Some, None}
+use Rattle.fr_base.specs.declared.step.Ending3.TheVariants as ending
+use Rattle.fr_terms.specs.Terms.{Term}
+use Rattle.fr_typing.specs.declared.reason.Reason.{Reason}
+use Rattle.fr_typing.specs.Kinds.{Kind}
+use Rattle.fr_typing.specs.Places.{Env}
+use Rattle.fr_typing.specs.Typing.{Types, Faults}
+use Rattle.fr_syntax.specs.Source.{IsSource}
+use Rattle.fr_plain.specs.Whole.{Stepped, plain, main_steps, ending_of}
+use Rattle.fr_plain.specs.Resolve.{program}
+use Rattle.drust_io.specs.Flow.{GoesOn}
+use Rattle.drust_main.specs.Report.{report}
+use Rattle.drust_main.specs.Words.{asks_run}
+
+-- the most bytes that an input may have
+abbrev pub limit : ℕ
+limit = 1048576
+
+-- the bytes are the source of this program, and typing types it
+pub record IsTyped (bytes : List ℕ) (t : Term) : Type 0 where
+  pub source : IsSource bytes t
+  pub kind : Kind
+  pub after : Env
+  pub types : Types [] t kind after
+
+-- the text is that of the plain run of the program that the bytes spell, to its end: the main thread steps alone
+pub record Runs (bytes text : List ℕ) : Type 0 where
+  pub term : Term
+  pub typed : IsTyped bytes term
+  pub steps : ℕ
+  pub last : Stepped
+  pub run : plain (program term) (main_steps steps) ≡ Some last
+  pub over : ending_of last.state ≡ ending.Finished
+  pub written : text ≡ report steps last.state.output
+
+-- the bytes are the source of no program
+abbrev pub NoSource : List ℕ → Type 0
+NoSource bytes = (t : Term) → IsSource bytes t → ⊥
+
+-- the bytes are the source of a program that has a fault of types
+pub record IsFaulty (bytes : List ℕ) : Type 0 where
+  pub term : Term
+  pub source : IsSource bytes term
+  pub at : ℕ
+  pub reason : Reason
+  pub faults : Faults [] term at reason
+
+-- of an input that is within the limit
+pub record Within (P : List ℕ → Type 0) (bytes : List ℕ) : Type 0 where
+  pub size : length bytes ≤ limit
+  pub holds : P bytes
+
+-- where the source of bytes tells what it has left
+abbrev pub Told : Option (List ℕ) → (List ℕ → Type 0) → Type 0
+Told None P = ⊤
+Told (Some bytes) P = P bytes
+
+-- THE ANSWERS: with these words and this input, the status and the text that is written, where no device fails and
+-- there is memory
+pub data Answers (words : List (List ℕ)) (left : Option (List ℕ)) : (status : ℕ) → (text : List ℕ) → Type 0 where
+  run_finished : {text : List ℕ} → asks_run words ≡ true → Told left (Within (λ bytes. Runs bytes text)) → Answers words left 0 text
+  no_source : asks_run words ≡ true → Told left (Within NoSource) → Answers words left 3 (codes "refused syntax\n")
+  fault_found : asks_run words ≡ true → Told left (Within IsFaulty) → Answers words left 4 (codes "refused type\n")
+  words_refused : asks_run words ≡ false → Answers words left 5 (codes "refused words\n")
+  too_long : asks_run words ≡ true → Told left (λ bytes. limit < length bytes) → Answers words left 9 (codes "refused size\n")
+
+-- an answer was written whole
+pub record Answered (words : List (List ℕ)) (left : Option (List ℕ)) (status : ℕ) (before after : Option (List ℕ)) : Type 0 where
+  pub text : List ℕ
+  pub answers : Answers words left status text
+  pub written : GoesOn text before after
+
+-- the first bytes of an answer were written
+pub record Broken (words : List (List ℕ)) (left : Option (List ℕ)) (before after : Option (List ℕ)) : Type 0 where
+  pub status : ℕ
+  pub text : List ℕ
+  pub answers : Answers words left status text
+  pub count : ℕ
+  pub written : GoesOn (take count text) before after
+
+-- the statuses of an answer that is written whole
+abbrev pub IsAnswer : ℕ → Type 0
+IsAnswer status = (status ≡ 0) ⊎ (status ≡ 3) ⊎ (status ≡ 4) ⊎ (status ≡ 5) ⊎ (status ≡ 9)
+
+-- and those of no answer: the source failed, the sink failed, there was no memory
+abbrev pub IsStatus : ℕ → Type 0
+IsStatus status = IsAnswer status ⊎ (status ≡ 6) ⊎ (status ≡ 7) ⊎ (status ≡ 8)
+
+-- the statuses at which nothing is written
+abbrev pub IsSilent : ℕ → Type 0
+IsSilent status = (status ≡ 6) ⊎ (status ≡ 8)
+
+-- the statuses that say what the input is
+abbrev pub IsOfInput : ℕ → Type 0
+IsOfInput status = (status ≡ 0) ⊎ (status ≡ 3) ⊎ (status ≡ 4)

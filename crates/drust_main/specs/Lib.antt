@@ -1,0 +1,4 @@
+pub mod Report
+pub mod Words
+pub mod Headline
+pub mod Runs

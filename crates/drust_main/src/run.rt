@@ -1,0 +1,127 @@
+//! A source, from its bytes to the text of its run.
+
+ghost use Rattle.std.specs.Prelude.{◌≡◌, ◌≢◌, ◌+◌, ◌≤◌, ◌<◌, ◌^◌, ℕ, List, Some, IfOk, IfErr, OnOk, length, string_bytes};
+ghost use Rattle.fr_base.specs.declared.step.Ending3.TheVariants as ending;
+ghost use Rattle.fr_terms.specs.Terms.{Text, Term as SourceTerm};
+ghost use Rattle.fr_syntax.specs.declared.token.Token.{Token};
+ghost use Rattle.fr_syntax.specs.Tokens.{AreTokens, IsRefusedOrNoMemory};
+ghost use Rattle.fr_syntax.specs.Source.{IsSource, Spelled};
+ghost use Rattle.fr_syntax.specs.Meanings.{term_of};
+ghost use Rattle.fr_plain.specs.Whole.{start, ending_of};
+ghost use Rattle.fr_plain.specs.Resolve.{program};
+ghost use Rattle.fr_meaning.specs.Programs.{IsFault};
+ghost use Rattle.fr_meaning.specs.PoolView.{whole_of, steps_left_of};
+ghost use Rattle.drust_main.specs.Headline.{IsTyped, Runs, limit};
+ghost use Rattle.drust_main.specs.Runs.{IsRefusedBy, Goes};
+
+use crate::report::report_text;
+use fr_base::{Ending3, Fresh, NoMemory, ThreadNo};
+use fr_meaning::{CheckError, Checked, Pool, StepError, check};
+use fr_syntax::{ParseError, TokenError, parse, tokens};
+use std::alloc::Global;
+
+/// Why a source has no run.
+#[derive(Clone, Copy, Debug, PartialEq, Eq)]
+pub enum Refused {
+    /// The bytes are the source of no program.
+    Syntax,
+    /// The program has a fault of types.
+    Fault,
+    NoMemory,
+}
+
+impl From<NoMemory> for Refused {
+    ghost use Rattle.std.specs.Prelude.{◌≡◌};
+    ghost use Rattle.drust_main.specs.declared.run.Refused.TheVariants.{NoMemory as WantsMemory};
+
+    ghost from_gives = { λ _ made. made ≡ WantsMemory };
+
+    fn from(_error: NoMemory) -> Refused {
+        Refused::NoMemory
+    }
+}
+
+// What a refusal of the tokens says of the source.
+#[tactic(auto, using(crate::proofs::Refusals::no_tokens))]
+fn refused_tokens(error: TokenError) -> Refused
+    ensures { (bytes : List ℕ) → IsRefusedOrNoMemory bytes error → IsRefusedBy bytes result }
+{
+    match error {
+        TokenError::BadByte { .. } => Refused::Syntax,
+        TokenError::NameTooLong { .. } => Refused::Syntax,
+        TokenError::NumberTooLarge { .. } => Refused::Syntax,
+        TokenError::NoMemory => Refused::NoMemory,
+    }
+}
+
+// What a refusal of the parser says of the source.
+#[tactic(auto, using(crate::proofs::Refusals::no_term))]
+fn refused_term(error: ParseError) -> Refused
+    ensures { (bytes : List ℕ) (ts : List Token) (names : List Text) → AreTokens bytes ts names → (error ≢ ParseError.NoMemory → (t : SourceTerm) → ¬ (Spelled names ts t)) → IsRefusedBy bytes result }
+{
+    match error {
+        ParseError::Syntax { .. } => Refused::Syntax,
+        ParseError::TooDeep { .. } => Refused::Syntax,
+        ParseError::NoMemory => Refused::NoMemory,
+    }
+}
+
+// What a refusal of the checker says of the source.
+#[tactic(auto, using(crate::proofs::Refusals::faulty))]
+fn refused_types(error: CheckError) -> Refused
+    ensures { (bytes : List ℕ) (t : SourceTerm) → IsSource bytes t → IsFault error t → IsRefusedBy bytes result }
+{
+    match error {
+        CheckError::Fault { .. } => Refused::Fault,
+        CheckError::NoMemory => Refused::NoMemory,
+    }
+}
+
+/// The tree of a source, checked. `Syntax` and `Fault` exactly by what the bytes are; want of memory at any time.
+fn checked_source(alloc: Global, bytes: &[u8]) -> Result<Checked, Refused>
+    requires { length bytes.now ≤ limit }
+    ensures typed { IfOk result (λ c. IsTyped bytes.now (term_of c.arena)) }
+    ensures refused { IfErr result (IsRefusedBy bytes.now) }
+{
+    let tokens = match tokens(alloc, bytes) {
+        Ok(tokens) => tokens,
+        Err(error) => return Err(refused_tokens(error)),
+    };
+    let tree = match parse(alloc, &tokens) {
+        Ok(tree) => tree,
+        Err(error) => return Err(refused_term(error)),
+    };
+    match check(alloc, tree) {
+        Ok(checked) => Ok(checked),
+        Err(error) => Err(refused_types(error)),
+    }
+}
+
+/// Steps the main thread to its end, and counts the steps.
+fn run_to_end(pool: &mut Pool) -> Result<u64, NoMemory>
+    requires { steps_left_of pool.old < 2 ^ 64 }
+    ensures goes { IfOk result (λ k. Goes (whole_of pool.old) k (whole_of pool.new)) }
+    ensures over { OnOk result (ending_of (whole_of pool.new) ≡ ending.Finished) }
+{
+    let mut steps = 0u64;
+    'steps: while pool.ending() == Ending3::Going {
+        match pool.step(ThreadNo::new(0, 0), Fresh::None) {
+            Ok(_) => steps += 1,
+            Err(StepError::NoMemory) => return Err(NoMemory),
+            Err(_) => unreachable!(),
+        }
+    }
+    Ok(steps)
+}
+
+/// The text of the run of a source's program, to its end.
+pub fn run_source(alloc: Global, bytes: &[u8]) -> Result<String, Refused>
+    requires { length bytes.now ≤ limit }
+    ensures runs { IfOk result (λ text. Runs bytes.now (string_bytes text)) }
+    ensures refused { IfErr result (IsRefusedBy bytes.now) }
+{
+    let checked = checked_source(alloc, bytes)?;
+    let mut pool = Pool::new(alloc, &checked)?;
+    let steps = run_to_end(&mut pool)?;
+    Ok(report_text(alloc, steps, pool.output())?)
+}

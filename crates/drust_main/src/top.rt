@@ -1,0 +1,91 @@
+//! The top call.
+
+ghost use Rattle.std.specs.Prelude.{◌≡◌, ◌≤◌, ℕ, List, Option, ◌⊎◌, true, false, map, take, length, codes, string_bytes};
+ghost use Rattle.drust_io.specs.Flow.{GoesOn, NothingLeft, Rose};
+ghost use Rattle.drust_main.specs.Words.{asks_run};
+ghost use Rattle.drust_main.specs.Headline.{Answers, Answered, Broken, IsAnswer, IsStatus, IsSilent, IsOfInput, limit};
+ghost use Rattle.drust_main.specs.Runs.{IsReply, IsInput};
+
+use crate::run::{Refused, run_source};
+use crate::words::asks_run;
+use drust_io::{Gate, ReadError, Sink, Source, read_all, write_all};
+use std::alloc::Global;
+use std::sync::Wait;
+use std::thread::Threads;
+
+/// What the program ended with: 0 where the run has finished, 3 to 9 where it has none (`drust` says when each comes).
+#[derive(Clone, Copy, Debug, PartialEq, Eq)]
+pub struct Outcome {
+    pub status: u8,
+}
+
+const LIMIT: usize = 1_048_576;
+
+/// Writes an answer whole, or its first bytes where the sink fails. No memory.
+fn reply<K: Sink>(sink: &mut K, status: u8, text: &[u8]) -> Outcome
+    requires { IsAnswer status }
+    ensures status { (result.status ≡ status) ⊎ (result.status ≡ 7) }
+    ensures answered { (words : List (List ℕ)) (left : Option (List ℕ)) → Answers words left status text.now → IsAnswer result.status → Answered words left result.status (K.written sink.old) (K.written sink.new) }
+    ensures broken { (words : List (List ℕ)) (left : Option (List ℕ)) → Answers words left status text.now → result.status ≡ 7 → Broken words left (K.written sink.old) (K.written sink.new) }
+    ensures fault { result.status ≡ 7 → Rose (K.fault_count sink.old) (K.fault_count sink.new) }
+{
+    match write_all(sink, text) {
+        Ok(()) => Outcome { status },
+        Err(_) => Outcome { status: 7 },
+    }
+}
+
+// The answer to an input that was read.
+fn answer<K: Sink>(alloc: Global, bytes: &[u8], sink: &mut K) -> Outcome
+    requires { length bytes.now ≤ limit }
+    ensures status { IsReply result.status }
+    ensures answered { (words : List (List ℕ)) (left : Option (List ℕ)) → IsInput words bytes.now left → IsAnswer result.status → Answered words left result.status (K.written sink.old) (K.written sink.new) }
+    ensures broken { (words : List (List ℕ)) (left : Option (List ℕ)) → IsInput words bytes.now left → result.status ≡ 7 → Broken words left (K.written sink.old) (K.written sink.new) }
+    ensures fault { result.status ≡ 7 → Rose (K.fault_count sink.old) (K.fault_count sink.new) }
+    ensures nothing { result.status ≡ 8 → K.written sink.new ≡ K.written sink.old }
+{
+    match run_source(alloc, bytes) {
+        Ok(text) => reply(sink, 0, text.as_bytes()),
+        Err(Refused::Syntax) => reply(sink, 3, b"refused syntax\n"),
+        Err(Refused::Fault) => reply(sink, 4, b"refused type\n"),
+        Err(Refused::NoMemory) => Outcome { status: 8 },
+    }
+}
+
+/// THE TOP CALL: runs the program that the words ask for on the source's input, and writes its text to the sink.
+///
+/// The one word that it takes is `run`. The whole input is read first (at most 1,048,576 bytes), and the whole text is
+/// made before the first write. It takes time in the input, in the steps of the run and in the text.
+///
+/// The statuses: 0, the run has finished and its report is written; 3, the input is no source; 4, its program has a fault
+/// of types; 5, the words are refused; 6, the source failed; 7, the sink failed; 8, there was no memory; 9, the input is
+/// too long. `Answers` has the causes of 0, 3, 4, 5 and 9, each with its text; at 6 and 8 nothing is written, at 7 the
+/// first bytes of the text that would have been.
+pub fn drust<S: Source, K: Sink, G: Gate + Sync, R: Threads + Wait + Sync>(
+    rt: &R,
+    alloc: Global,
+    words: &Vec<String>,
+    source: &mut S,
+    sink: &mut K,
+    gate: &G,
+) -> Outcome
+    ensures status { IsStatus result.status }
+    ensures answered { IsAnswer result.status → Answered (map string_bytes words.now.items) (S.left source.old) result.status (K.written sink.old) (K.written sink.new) }
+    ensures broken { result.status ≡ 7 → Broken (map string_bytes words.now.items) (S.left source.old) (K.written sink.old) (K.written sink.new) }
+    ensures sink_fault { result.status ≡ 7 → Rose (K.fault_count sink.old) (K.fault_count sink.new) }
+    ensures source_fault { result.status ≡ 6 → Rose (S.fault_count source.old) (S.fault_count source.new) }
+    ensures nothing_written { IsSilent result.status → K.written sink.new ≡ K.written sink.old }
+    ensures nothing_left { IsOfInput result.status → NothingLeft (S.left source.new) }
+    ensures nothing_read { asks_run (map string_bytes words.now.items) ≡ false → S.left source.new ≡ S.left source.old }
+    ensures words { asks_run (map string_bytes words.now.items) ≡ false → (result.status ≡ 5) ⊎ (result.status ≡ 7) }
+{
+    if !asks_run(words) {
+        return reply(sink, 5, b"refused words\n");
+    }
+    match read_all(alloc, source, LIMIT) {
+        Ok(bytes) => answer(alloc, &bytes, sink),
+        Err(ReadError::TooLong) => reply(sink, 9, b"refused size\n"),
+        Err(ReadError::ReadFault) => Outcome { status: 6 },
+        Err(ReadError::NoMemory) => Outcome { status: 8 },
+    }
+}
