@@ -1,0 +1,68 @@
+#!/usr/bin/env bash
+# How long the program takes on large sources: for each shape a quarter, a half and a whole megabyte, with the seconds,
+# the megabytes a second and how much longer twice the source takes. Needs the built program (./build).
+#   bench/front.sh            all shapes
+#   bench/front.sh lets       one of them: lets prints depth names list
+set -eu
+cd "$(dirname "$0")/.."
+program=crates/drust_main/out/drust_main
+[ -x "$program" ] || { echo "build the program first: ./build" >&2; exit 1; }
+work=$(mktemp -d)
+trap 'rm -rf "$work"' EXIT
+
+# a source of at most so many bytes, in that shape
+source_of() {
+  python3 - "$1" "$2" <<'PY'
+import sys
+shape, size = sys.argv[1], int(sys.argv[2])
+def block(head, item, tail):
+    parts, total, count = [], len(head) + len(tail), 0
+    while True:
+        text = item(count)
+        if total + len(text) > size:
+            break
+        parts.append(text)
+        total += len(text)
+        count += 1
+    return head + "".join(parts) + tail
+if shape == "lets":        # variables with boxes, all dropped at the end
+    print(block("{ ", lambda n: f"let mut v{n} = box {n}; ", "() }"))
+elif shape == "prints":    # assignments through a box, and prints
+    print(block("{ let mut x = box 0; ", lambda n: f"*x = {n}; print *x; ", "() }"))
+elif shape == "depth":     # 60 blocks in one another, again and again
+    deep = "{ " * 60 + "1" + " }" * 60 + "; "
+    print(block("{ ", lambda n: deep, "() }"))
+elif shape == "names":     # names of 32 bytes
+    print(block("{ ", lambda n: f"let mut {'n' * 25}{n:07d} = {n}; ", "() }"))
+else:                      # a long list of constants
+    print(block("{ ", lambda n: "1; ", "() }"))
+PY
+}
+
+printf '%-8s %10s %10s %10s %8s\n' shape bytes seconds MB/s growth
+for shape in ${1:-lets prints depth names list}; do
+  before=
+  for size in 262144 524288 1048000; do
+    source_of "$shape" "$size" > "$work/source"
+    python3 - "$program" "$work/source" "$shape" "$before" <<'PY' > "$work/line"
+import os, resource, subprocess, sys, time
+program, path, shape, before = sys.argv[1:5]
+best = None
+for _ in range(5):
+    with open(path, "rb") as source:
+        start = time.perf_counter()
+        status = subprocess.run([program, "run"], stdin=source, stdout=subprocess.DEVNULL).returncode
+        taken = time.perf_counter() - start
+    if status != 0:
+        sys.exit(f"status {status}")
+    best = taken if best is None else min(best, taken)
+size = os.path.getsize(path)
+peak = resource.getrusage(resource.RUSAGE_CHILDREN).ru_maxrss // 1024
+growth = f"{best / float(before):8.2f}" if before else "       -"
+print(f"{shape:8} {size:10} {best:10.3f} {size / best / 1e6:10.1f} {growth}   {peak} MB")
+print(best)
+PY
+    head -n 1 "$work/line"
+    before=$(tail -n 1 "$work/line")
+  done
+done
