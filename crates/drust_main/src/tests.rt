@@ -131,12 +131,49 @@ fn refuses_too_much_input(rt: HostRuntime) -> Result<(), Fail> {
     answers(&rt, rt.alloc(), &["run"], &more, 4096, 9, b"refused size\n")
 }
 
+// These bytes, and then others up to that length.
+fn rows(alloc: Global, first: &[u8], next: u8, until: usize) -> Result<Vec<u8>, Fail> {
+    let mut bytes = first.to_vec(alloc)?;
+    for _ in first.len()..until {
+        bytes.push(next)?;
+    }
+    Ok(bytes)
+}
+
+#[test]
+fn runs_an_empty_block(rt: HostRuntime) -> Result<(), Fail> {
+    let report = b"ended finished\nprints 0\norder 1\n0.0 1\nsteps 1\n";
+    answers(&rt, rt.alloc(), &["run"], b"{ }", 4096, 0, report)?;
+    let open = vec![in rt.alloc(); b'{'; 64]?;
+    let most = rows(rt.alloc(), &open, b'}', 128)?;
+    answers(&rt, rt.alloc(), &["run"], &most, 4096, 0, report)?;
+    let open = vec![in rt.alloc(); b'{'; 65]?;
+    let more = rows(rt.alloc(), &open, b'}', 130)?;
+    answers(
+        &rt,
+        rt.alloc(),
+        &["run"],
+        &more,
+        4096,
+        3,
+        b"refused syntax\n",
+    )
+}
+
+#[test]
+fn runs_the_longest_input(rt: HostRuntime) -> Result<(), Fail> {
+    let most = rows(rt.alloc(), FIRST, b' ', 1_048_576)?;
+    answers(&rt, rt.alloc(), &["run"], &most, 4096, 0, FIRST_REPORT)?;
+    let more = rows(rt.alloc(), FIRST, b' ', 1_048_577)?;
+    answers(&rt, rt.alloc(), &["run"], &more, 4096, 9, b"refused size\n")
+}
+
 #[test]
 fn tells_that_the_source_failed(rt: HostRuntime) -> Result<(), Fail> {
     let words = words_of(rt.alloc(), &["run"])?;
-    let failing = vec![in rt.alloc(); 2]?;
-    let mut source = MemorySource::new(FIRST.to_vec(rt.alloc())?, 4, failing);
-    let mut sink = MemorySink::new(rt.alloc(), 4, Vec::new(rt.alloc()));
+    let failing = vec![in rt.alloc(); 1]?;
+    let mut source = MemorySource::new(FIRST.to_vec(rt.alloc())?, 4096, failing);
+    let mut sink = MemorySink::new(rt.alloc(), 4096, Vec::new(rt.alloc()));
     let outcome = drust(&rt, rt.alloc(), &words, &mut source, &mut sink, &NoGate);
     assert_eq!(rt; outcome.status, 6);
     assert_eq!(rt; sink.bytes(), b"".as_slice());
@@ -147,11 +184,11 @@ fn tells_that_the_source_failed(rt: HostRuntime) -> Result<(), Fail> {
 fn tells_that_the_sink_failed(rt: HostRuntime) -> Result<(), Fail> {
     let words = words_of(rt.alloc(), &["run"])?;
     let none = Vec::new(rt.alloc());
-    let mut source = MemorySource::new(b"{ print 1".to_vec(rt.alloc())?, 4, none);
+    let mut source = MemorySource::new(FIRST.to_vec(rt.alloc())?, 4096, none);
     let failing = vec![in rt.alloc(); 2]?;
-    let mut sink = MemorySink::new(rt.alloc(), 4, failing);
+    let mut sink = MemorySink::new(rt.alloc(), 16, failing);
     let outcome = drust(&rt, rt.alloc(), &words, &mut source, &mut sink, &NoGate);
     assert_eq!(rt; outcome.status, 7);
-    assert_eq!(rt; sink.bytes(), b"refu".as_slice());
+    assert_eq!(rt; sink.bytes(), b"ended finished\np".as_slice());
     Ok(())
 }
