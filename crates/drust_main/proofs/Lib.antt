@@ -3,3 +3,4 @@ pub mod Replies
 pub mod Checkable
 pub mod Stepping
 pub mod FewSteps
+pub mod Determined

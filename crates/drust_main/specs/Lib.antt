@@ -2,3 +2,4 @@ pub mod Report
 pub mod Words
 pub mod Headline
 pub mod Runs
+pub mod OneAnswer

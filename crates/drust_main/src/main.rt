@@ -1,6 +1,7 @@
 //! The program `drust`: the words of its command line, one source, and the text that it writes.
 #![tactic(auto)]
 
+mod laws;
 mod report;
 mod run;
 #[cfg(test)]

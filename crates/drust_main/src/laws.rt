@@ -1,0 +1,10 @@
+//! What follows from the causes of the answers.
+
+ghost use Rattle.drust_main.specs.OneAnswer.{OneAnswer, TypedRuns};
+
+/// Words and an input have one answer at most: its status and its text are determined. Where the words ask for a run and
+/// the input is the source of a typed program, it is the run: status 0.
+pub fn one_answer()
+    ensures once { OneAnswer }
+    ensures typed { TypedRuns }
+{}
