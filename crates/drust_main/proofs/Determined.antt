@@ -1,21 +1,25 @@
 -- The causes of the answers exclude one another, and each leaves one text.
-use Rattle.std.proofs.Common.{◌≡◌, ℕ, zero, suc, Bool, true, false, List, [], ◌∷◌, ◌++◌, Option, Some, None, refl, sym, ap, ap₂, ◌∙◌, arith}
+use Rattle.std.proofs.Common.{◌≡◌, ℕ, zero, suc, Bool, true, false, List, [], ◌∷◌, ◌++◌, Option, Some, None, refl, sym, ap, ap₂, ◌∙◌, subst, arith}
 use Rattle.std.specs.Prelude.{◌==◌, if◌then◌else◌}
 use Rattle.std.proofs.lemmas.Bool.{and_parts}
 use Rattle.fr_base.specs.declared.label.Label.{Label}
 use Rattle.fr_base.specs.declared.step.Fresh.TheVariants as fresh
 use Rattle.fr_base.specs.declared.step.Ending3.TheVariants as ending
 use Rattle.fr_terms.specs.Terms.{Term}
+use Rattle.fr_typing.specs.declared.reason.Reason.{Reason}
 use Rattle.fr_typing.proofs.Agree.{exactly_one_lem}
 use Rattle.fr_typing.specs.Typing.{typed, fault, typing}
-use Rattle.fr_syntax.proofs.Programs.{source_once}
+use Rattle.fr_parse.proofs.Programs.{source_once}
 use Rattle.fr_plain.specs.Run.{Life, alive, over}
 use Rattle.fr_plain.specs.Whole.{Thread, Whole, Stepped, thread_at, is_over, all_over, step_of, step, then_labels, go_on, run, main_steps, ending_of, start}
 use Rattle.fr_plain.specs.Resolve.{program}
 use Rattle.drust_main.specs.Words.{asks_run}
 use Rattle.drust_main.specs.Report.{report}
-use Rattle.drust_main.specs.Headline.{IsTyped, Runs, IsFaulty, run_finished, no_source, fault_found, words_refused, too_long}
+use Rattle.drust_main.specs.declared.refused.Refused.{Refused}
+use Rattle.drust_main.specs.Refusals.{IsFaulty, HasCause, status_of, text_of}
+use Rattle.drust_main.specs.Headline.{IsTyped, Runs, Replies, run_finished, refused, replied, words_refused, too_long}
 use Rattle.drust_main.specs.OneAnswer.{OneAnswer, TypedRuns}
+use Rattle.drust_main.proofs.Refusals.{accepted_has_none, source_is_read, one_cause}
 
 -- A RUN HAS ONE END
 
@@ -96,48 +100,48 @@ one_text bytes x y h g =
 
 -- THE CAUSES EXCLUDE ONE ANOTHER
 
-not_faulty : (bytes : List ℕ) (t : Term) → IsTyped bytes t → IsFaulty bytes → ⊥
-not_faulty bytes t h f =
+-- a typed program has no fault
+not_faulty : (bytes : List ℕ) (t : Term) (at : ℕ) (why : Reason) → IsTyped bytes t → IsFaulty bytes at why → ⊥
+not_faulty bytes t at why h f =
     let same = source_once bytes t f.term h.source f.source in
-    let accepted = h.source.program.forms in
-    let a : typing t [] ≡ typed h.kind h.after = (exactly_one_lem.types t [] h.kind h.after accepted).0 h.types in
-    let b : typing f.term [] ≡ fault f.at f.reason = (exactly_one_lem.faults f.term [] f.at f.reason f.source.program.forms).0 f.faults in
-    let c : typed h.kind h.after ≡ fault f.at f.reason = sym a ∙ ap (λ u. typing u []) same ∙ b in
+    let a : typing t [] ≡ typed h.kind h.after = (exactly_one_lem.types t [] h.kind h.after h.accepted).0 h.types in
+    let b : typing f.term [] ≡ fault at why = (exactly_one_lem.faults f.term [] at why f.accepted).0 f.faults in
+    let c : typed h.kind h.after ≡ fault at why = sym a ∙ ap (λ u. typing u []) same ∙ b in
     cc
+
+-- the source of a typed program has no refusal
+typed_unrefused : (bytes : List ℕ) (t : Term) (why : Refused) → IsTyped bytes t → HasCause bytes why → ⊥
+typed_unrefused bytes t why h cause = source_is_read bytes t why h.source cause
+    (λ p r e. not_faulty bytes t p r h (subst (HasCause bytes) e cause))
+    (λ p e. accepted_has_none bytes t p h.source h.accepted (subst (HasCause bytes) e cause))
 
 not_both : {A : Type 0} (words : List (List ℕ)) → asks_run words ≡ true → asks_run words ≡ false → A
 not_both words a b = let e : true ≡ false = sym a ∙ b in absurd cc
 
+-- an input has one reply
+one_reply : (bytes : List ℕ) (s t : ℕ) (x y : List ℕ) → Replies bytes s x → Replies bytes t y → (s ≡ t) × (x ≡ y)
+one_reply bytes s t x y (run_finished h) (run_finished g) = (refl, one_text bytes x y h g)
+one_reply bytes s t x y (run_finished h) (refused why g) = absurd (typed_unrefused bytes h.term why h.typed g)
+one_reply bytes s t x y (refused why h) (run_finished g) = absurd (typed_unrefused bytes g.term why g.typed h)
+one_reply bytes s t x y (refused why h) (refused other g) = let same = one_cause bytes why other h g in (ap status_of same, ap text_of same)
+
 pub one : OneAnswer
-one words bytes s t x y (run_finished a h) (run_finished b g) = (refl, one_text bytes x y h.holds g.holds)
-one words bytes s t x y (run_finished a h) (no_source b g) = absurd (g.holds h.holds.term h.holds.typed.source)
-one words bytes s t x y (run_finished a h) (fault_found b g) = absurd (not_faulty bytes h.holds.term h.holds.typed g.holds)
-one words bytes s t x y (run_finished a h) (words_refused b) = not_both words a b
-one words bytes s t x y (run_finished a h) (too_long b g) = absurd (omega (arith, h.size, g))
-one words bytes s t x y (no_source a h) (run_finished b g) = absurd (h.holds g.holds.term g.holds.typed.source)
-one words bytes s t x y (no_source a h) (no_source b g) = (refl, refl)
-one words bytes s t x y (no_source a h) (fault_found b g) = absurd (h.holds g.holds.term g.holds.source)
-one words bytes s t x y (no_source a h) (words_refused b) = not_both words a b
-one words bytes s t x y (no_source a h) (too_long b g) = absurd (omega (arith, h.size, g))
-one words bytes s t x y (fault_found a h) (run_finished b g) = absurd (not_faulty bytes g.holds.term g.holds.typed h.holds)
-one words bytes s t x y (fault_found a h) (no_source b g) = absurd (g.holds h.holds.term h.holds.source)
-one words bytes s t x y (fault_found a h) (fault_found b g) = (refl, refl)
-one words bytes s t x y (fault_found a h) (words_refused b) = not_both words a b
-one words bytes s t x y (fault_found a h) (too_long b g) = absurd (omega (arith, h.size, g))
-one words bytes s t x y (words_refused a) (run_finished b g) = not_both words b a
-one words bytes s t x y (words_refused a) (no_source b g) = not_both words b a
-one words bytes s t x y (words_refused a) (fault_found b g) = not_both words b a
+one words bytes s t x y (replied a h) (replied b g) = one_reply bytes s t x y h.holds g.holds
+one words bytes s t x y (replied a h) (words_refused b) = not_both words a b
+one words bytes s t x y (replied a h) (too_long b g) = absurd (omega (arith, h.size, g))
+one words bytes s t x y (words_refused a) (replied b g) = not_both words b a
 one words bytes s t x y (words_refused a) (words_refused b) = (refl, refl)
 one words bytes s t x y (words_refused a) (too_long b g) = not_both words b a
-one words bytes s t x y (too_long a h) (run_finished b g) = absurd (omega (arith, g.size, h))
-one words bytes s t x y (too_long a h) (no_source b g) = absurd (omega (arith, g.size, h))
-one words bytes s t x y (too_long a h) (fault_found b g) = absurd (omega (arith, g.size, h))
+one words bytes s t x y (too_long a h) (replied b g) = absurd (omega (arith, g.size, h))
 one words bytes s t x y (too_long a h) (words_refused b) = not_both words a b
 one words bytes s t x y (too_long a h) (too_long b g) = (refl, refl)
 
+-- the source of a typed program has the reply of its run
+typed_reply : (bytes : List ℕ) (p : Term) (s : ℕ) (x : List ℕ) → IsTyped bytes p → Replies bytes s x → s ≡ 0
+typed_reply bytes p s x known (run_finished r) = refl
+typed_reply bytes p s x known (refused why cause) = absurd (typed_unrefused bytes p why known cause)
+
 pub runs : TypedRuns
-runs words bytes p s x asked size known (run_finished a h) = refl
-runs words bytes p s x asked size known (no_source a h) = absurd (h.holds p known.source)
-runs words bytes p s x asked size known (fault_found a h) = absurd (not_faulty bytes p known h.holds)
+runs words bytes p s x asked size known (replied a h) = typed_reply bytes p s x known h.holds
 runs words bytes p s x asked size known (words_refused a) = not_both words asked a
 runs words bytes p s x asked size known (too_long a h) = absurd (omega (arith, size, h))

@@ -9,9 +9,9 @@ use Rattle.fr_syntax.specs.declared.kind.TokenKind.TheVariants.{Name, End, LetWo
 use Rattle.fr_syntax.specs.declared.token.Token.{Token}
 use Rattle.fr_syntax.specs.Text.{blanks, text_len}
 use Rattle.fr_syntax.specs.Tokens.{unblanked, first_text, after_text, names_after, Leads, end_at, AreTokens}
-use Rattle.fr_syntax.specs.Grammar.{Has, SpellsPath, Spells, SpellsItems, SpellsMore}
-use Rattle.fr_syntax.specs.Source.{IsSource}
-use Rattle.fr_syntax.proofs.Complete.{takes_some}
+use Rattle.fr_parse.specs.Grammar.{Has, SpellsPath, Spells, SpellsItems, SpellsMore}
+use Rattle.fr_parse.specs.Source.{IsSource}
+use Rattle.fr_parse.proofs.Complete.{takes_some}
 use Rattle.fr_plain.specs.Run.{Run, temp, unit_c, number, read, box_r, bind, print, assign, block, Parts, last, more, Now, going, constant, temporary, now, settle_more, close_last, close, settle, settle_parts, alive, one_if_temporary, leaves, leaves_last, steps_left, steps_in, life_left}
 use Rattle.fr_plain.specs.Resolve.{env_after, lets_in, lets, before, resolve, resolve_items, program}
 
@@ -47,7 +47,7 @@ mutual
       omega (arith, path_has_one names to.stars to.name ts x place.1, has_one Equals x y eq, term_pays names false value y rest e h ok)
   term_pays names b (box_t at value) ts rest e (x, begins, h) ok = omega (arith, has_one BoxWord ts x begins.0, term_pays names false value x rest e h ok)
   term_pays names b (print_t at value) ts rest e (x, begins, h) ok = omega (arith, has_one PrintWord ts x begins.0, term_pays names false value x rest e h ok)
-  term_pays names b (number_t at value) ts rest e h ok = omega (arith, takes_some names b (number_t at value) ts rest h ok)
+  term_pays names b (number_t at value) ts rest e h ok = omega (arith, takes_some names b (number_t at value) ts rest h)
   term_pays names b (unit_t at) ts rest e (x, begins, h) ok = omega (arith, has_one OpenParen ts x begins.0, has_one CloseParen x rest h)
   term_pays names b t ts rest e h ok = absurd ok
 
@@ -131,17 +131,17 @@ tokens_few bytes ts names h =
     omega (arith, ap length h.all, length-append h.front (end_at (length bytes) ∷ []), bytes_pay [] 0 bytes h.front names h.place h.rest h.leads)
 
 -- a program has no more steps than its text has bytes, and one more to end
-pub steps_within : (bytes : List ℕ) (t : Term) → IsSource bytes t → life_left (alive (settle (program t))) ≤ length bytes + 1
-steps_within bytes t h =
+pub steps_within : (bytes : List ℕ) (t : Term) → IsSource bytes t → IsAccepted t → life_left (alive (settle (program t))) ≤ length bytes + 1
+steps_within bytes t h ok =
     let spelled = h.program.grammar.1 in
     omega (
       arith,
       (settle_fits (program t)).0,
-      term_pays h.names false t h.ts spelled.0 [] spelled.1 h.program.forms,
+      term_pays h.names false t h.ts spelled.0 [] spelled.1 ok,
       has_one End spelled.0 [] spelled.2,
       tokens_few bytes h.ts h.names h.tokens,
     )
 
 -- so that a counter of 64 bits holds them
-pub few_steps : (bytes : List ℕ) (t : Term) → IsSource bytes t → length bytes ≤ 1048576 → life_left (alive (settle (program t))) < 2 ^ 64
-few_steps bytes t h size = omega (arith, steps_within bytes t h, size)
+pub few_steps : (bytes : List ℕ) (t : Term) → IsSource bytes t → IsAccepted t → length bytes ≤ 1048576 → life_left (alive (settle (program t))) < 2 ^ 64
+few_steps bytes t h ok size = omega (arith, steps_within bytes t h ok, size)

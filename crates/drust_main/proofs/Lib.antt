@@ -4,3 +4,4 @@ pub mod Checkable
 pub mod Stepping
 pub mod FewSteps
 pub mod Determined
+pub mod FormLemmas

@@ -1,23 +1,102 @@
--- Why a source has no run.
-use Rattle.std.proofs.Common.{ℕ, List, []}
+-- Why a source has no run: causes, and that they exclude one another.
+use Rattle.std.proofs.Common.{◌≡◌, ◌≢◌, ℕ, List, [], Some, None, sym, ap, ap₂, ◌∙◌, refl, subst}
 use Rattle.fr_terms.specs.Terms.{Text, Term}
+use Rattle.fr_terms.specs.Limits.{IsAccepted}
 use Rattle.fr_typing.specs.declared.reason.Reason.{Reason}
 use Rattle.fr_typing.specs.Typing.{Faults}
+use Rattle.fr_typing.proofs.Outcomes.{one_outcome_lem}
 use Rattle.fr_syntax.specs.declared.token.Token.{Token}
 use Rattle.fr_syntax.specs.declared.token.TokenError.{TokenError}
 use Rattle.fr_syntax.specs.Tokens.{AreTokens, IsRefused}
-use Rattle.fr_syntax.specs.Source.{Spelled, IsSource}
-use Rattle.fr_syntax.proofs.Programs.{refused_no_source, unspelled_no_source}
-use Rattle.drust_main.specs.Headline.{NoSource, IsFaulty}
+use Rattle.fr_syntax.proofs.OneReading.{one_tokens, one_refusal, never_both}
+use Rattle.fr_parse.specs.declared.fault.ParseError.{ParseError}
+use Rattle.fr_parse.specs.Table.{refusal}
+use Rattle.fr_parse.specs.Source.{IsSource}
+use Rattle.fr_parse.proofs.Programs.{source_once, refused_no_source}
+use Rattle.fr_parse.proofs.FirstRefusal.{spelled_unrefused}
+use Rattle.drust_main.specs.declared.refused.Refused.{Refused}
+use Rattle.drust_main.specs.declared.refused.Refused.TheVariants.{Tokens, Grammar, Form, Fault, NoMemory}
+use Rattle.drust_main.specs.Forms.{later_form}
+use Rattle.drust_main.specs.Refusals.{IsUnparsed, HasLaterForm, IsFaulty, HasCause, status_of, text_of}
+use Rattle.drust_main.specs.Headline.{Replies, refused}
+use Rattle.drust_main.specs.Runs.{IsRefusedBy}
+use Rattle.drust_main.proofs.FormLemmas.{none_later}
 
--- bytes that have no tokens are no source
-pub no_tokens : (bytes : List ℕ) (e : TokenError) → IsRefused bytes e → NoSource bytes
-no_tokens bytes e refused t = refused_no_source bytes e t refused
+-- a refusal that is no want of memory has its cause
+pub has_cause : (bytes : List ℕ) (why : Refused) → why ≢ NoMemory → IsRefusedBy bytes why → HasCause bytes why
+has_cause bytes (Tokens e) other h = h
+has_cause bytes (Grammar e) other h = h
+has_cause bytes (Form place) other h = h
+has_cause bytes (Fault place why) other h = h
+has_cause bytes NoMemory other h = absurd (other refl)
 
--- bytes whose tokens spell nothing are no source
-pub no_term : (bytes : List ℕ) (ts : List Token) (names : List Text) → AreTokens bytes ts names → ((t : Term) → Spelled names ts t → ⊥) → NoSource bytes
-no_term bytes ts names tokens none = unspelled_no_source bytes ts names tokens none
+-- bytes that have tokens of a program have no refusal in the table
+parsed : (bytes : List ℕ) (t : Term) (e : ParseError) → IsSource bytes t → IsUnparsed bytes e → ⊥
+parsed bytes t e s h =
+    let same = one_tokens bytes s.ts h.ts s.names h.names s.tokens h.tokens in
+    let bad : None ≡ Some e = sym (spelled_unrefused s.names s.ts t s.program) ∙ ap refusal same ∙ h.first in
+    cc
+
+-- tokens have one first refusal
+one_unparsed : (bytes : List ℕ) (e f : ParseError) → IsUnparsed bytes e → IsUnparsed bytes f → e ≡ f
+one_unparsed bytes e f h g =
+    let same = one_tokens bytes h.ts g.ts h.names g.names h.tokens g.tokens in
+    let both : Some e ≡ Some f = sym h.first ∙ ap refusal same ∙ g.first in
+    cc
+
+-- a program has one first form that is not accepted
+one_form : (bytes : List ℕ) (p q : ℕ) → HasLaterForm bytes p → HasLaterForm bytes q → p ≡ q
+one_form bytes p q h g =
+    let both : Some p ≡ Some q = sym h.first ∙ ap later_form (source_once bytes h.term g.term h.source g.source) ∙ g.first in
+    cc
+
+-- the source of a program of accepted forms has none
+pub accepted_has_none : (bytes : List ℕ) (t : Term) (p : ℕ) → IsSource bytes t → IsAccepted t → HasLaterForm bytes p → ⊥
+accepted_has_none bytes t p s ok h =
+    let bad : None ≡ Some p = sym (none_later t ok) ∙ ap later_form (source_once bytes t h.term s h.source) ∙ h.first in
+    cc
 
 -- a source with a fault
-pub faulty : (bytes : List ℕ) (t : Term) (at : ℕ) (reason : Reason) → IsSource bytes t → Faults [] t at reason → IsFaulty bytes
-faulty bytes t at reason s f = record { term = t; source = s; at = at; reason = reason; faults = f }
+pub faulty : (bytes : List ℕ) (t : Term) (at : ℕ) (reason : Reason) → IsSource bytes t → IsAccepted t → Faults [] t at reason → IsFaulty bytes at reason
+faulty bytes t at reason s ok f = record { term = t; source = s; accepted = ok; faults = f }
+
+-- bytes have one first fault at most
+one_fault : (bytes : List ℕ) (p q : ℕ) (r s : Reason) → IsFaulty bytes p r → IsFaulty bytes q s → (p ≡ q) × (r ≡ s)
+one_fault bytes p q r s h g =
+    let same = source_once bytes h.term g.term h.source g.source in
+    let f = subst (λ t. Faults [] t p r) same h.faults in
+    (one_outcome_lem.same_place g.term [] p q r s f g.faults, one_outcome_lem.same_reason g.term [] p q r s f g.faults)
+
+-- the source of a program has no refusal of its text
+pub source_is_read : (bytes : List ℕ) (t : Term) (why : Refused) → IsSource bytes t → HasCause bytes why → ((p : ℕ) (r : Reason) → why ≡ Fault p r → ⊥) → ((p : ℕ) → why ≡ Form p → ⊥) → ⊥
+source_is_read bytes t (Tokens e) s h fault form = refused_no_source bytes e t h s
+source_is_read bytes t (Grammar e) s h fault form = parsed bytes t e s h
+source_is_read bytes t (Form p) s h fault form = form p refl
+source_is_read bytes t (Fault p r) s h fault form = fault p r refl
+source_is_read bytes t NoMemory s h fault form = h
+
+-- bytes have one cause at most
+pub one_cause : (bytes : List ℕ) (a b : Refused) → HasCause bytes a → HasCause bytes b → a ≡ b
+one_cause bytes (Tokens e) (Tokens f) h g = ap Tokens (one_refusal bytes e f h g)
+one_cause bytes (Tokens e) (Grammar f) h g = absurd (never_both bytes g.ts g.names e g.tokens h)
+one_cause bytes (Tokens e) (Form q) h g = absurd (refused_no_source bytes e g.term h g.source)
+one_cause bytes (Tokens e) (Fault q s) h g = absurd (refused_no_source bytes e g.term h g.source)
+one_cause bytes (Grammar e) (Tokens f) h g = absurd (never_both bytes h.ts h.names f h.tokens g)
+one_cause bytes (Grammar e) (Grammar f) h g = ap Grammar (one_unparsed bytes e f h g)
+one_cause bytes (Grammar e) (Form q) h g = absurd (parsed bytes g.term e g.source h)
+one_cause bytes (Grammar e) (Fault q s) h g = absurd (parsed bytes g.term e g.source h)
+one_cause bytes (Form p) (Tokens f) h g = absurd (refused_no_source bytes f h.term g h.source)
+one_cause bytes (Form p) (Grammar f) h g = absurd (parsed bytes h.term f h.source g)
+one_cause bytes (Form p) (Form q) h g = ap Form (one_form bytes p q h g)
+one_cause bytes (Form p) (Fault q s) h g = absurd (accepted_has_none bytes g.term p g.source g.accepted h)
+one_cause bytes (Fault p r) (Tokens f) h g = absurd (refused_no_source bytes f h.term g h.source)
+one_cause bytes (Fault p r) (Grammar f) h g = absurd (parsed bytes h.term f h.source g)
+one_cause bytes (Fault p r) (Form q) h g = absurd (accepted_has_none bytes h.term q h.source h.accepted g)
+one_cause bytes (Fault p r) (Fault q s) h g = let same = one_fault bytes p q r s h g in ap₂ Fault same.0 same.1
+one_cause bytes NoMemory b h g = absurd h
+one_cause bytes a NoMemory h g = absurd g
+
+-- what is written of a refusal
+pub refused_by : (bytes : List ℕ) (why : Refused) (status : ℕ) (text : List ℕ) → why ≢ NoMemory → IsRefusedBy bytes why → status ≡ status_of why → text ≡ text_of why → Replies bytes status text
+refused_by bytes why status text other h is says =
+    subst (λ s. Replies bytes s text) (sym is) (subst (Replies bytes (status_of why)) (sym says) (refused why (has_cause bytes why other h)))

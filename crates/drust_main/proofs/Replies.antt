@@ -4,21 +4,16 @@ use Rattle.std.proofs.Common.{codes, length-append}
 use Rattle.std.proofs.lemmas.List.{append-nil}
 use Rattle.drust_io.specs.Flow.{ComesOff, NothingLeft, SomeComeOff}
 use Rattle.drust_main.specs.Words.{asks_run}
-use Rattle.drust_main.specs.Headline.{limit, Runs, NoSource, IsFaulty, Within, Told, Answers, run_finished, no_source, fault_found, too_long}
+use Rattle.drust_main.specs.Headline.{limit, Replies, Within, Told, Answers, replied, too_long}
 use Rattle.drust_main.specs.Runs.{IsLeft, IsInput}
 
 told : (P : List ℕ → Type 0) (bytes : List ℕ) (left : Option (List ℕ)) → length bytes ≤ limit → P bytes → IsLeft bytes left → Told left (Within P)
 told P bytes None size p h = tt
 told P bytes (Some all) size p h = subst (λ (b : List ℕ). Within P b) (sym h) (record { size = size; holds = p })
 
-pub finished : (words : List (List ℕ)) (bytes : List ℕ) (left : Option (List ℕ)) (text : List ℕ) → IsInput words bytes left → length bytes ≤ limit → Runs bytes text → Answers words left 0 text
-finished words bytes left text i size r = run_finished i.asked (told (λ b. Runs b text) bytes left size r i.whole)
-
-pub syntax_refused : (words : List (List ℕ)) (bytes : List ℕ) (left : Option (List ℕ)) → IsInput words bytes left → length bytes ≤ limit → NoSource bytes → Answers words left 3 (codes "refused syntax\n")
-syntax_refused words bytes left i size r = no_source i.asked (told NoSource bytes left size r i.whole)
-
-pub type_refused : (words : List (List ℕ)) (bytes : List ℕ) (left : Option (List ℕ)) → IsInput words bytes left → length bytes ≤ limit → IsFaulty bytes → Answers words left 4 (codes "refused type\n")
-type_refused words bytes left i size r = fault_found i.asked (told IsFaulty bytes left size r i.whole)
+-- an input that is answered so
+pub answered : (words : List (List ℕ)) (bytes : List ℕ) (left : Option (List ℕ)) (status : ℕ) (text : List ℕ) → IsInput words bytes left → length bytes ≤ limit → Replies bytes status text → Answers words left status text
+answered words bytes left status text i size r = replied i.asked (told (λ b. Replies b status text) bytes left size r i.whole)
 
 -- all that was left was read
 pub all_read : (words : List (List ℕ)) (bytes : List ℕ) (before after : Option (List ℕ)) → asks_run words ≡ true → ComesOff bytes before after → NothingLeft after → IsInput words bytes before

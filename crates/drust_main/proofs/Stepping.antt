@@ -68,7 +68,7 @@ left_at_start v r h = ap (λ (w : Whole). life_left (first_life w.threads)) h
 
 -- a pool at the start of a source's program has fewer steps left than a counter can hold
 pub few_at_start : (bytes : List ℕ) (t : Term) (v : View) → IsTyped bytes t → length bytes ≤ 1048576 → whole_of v ≡ start (program t) → steps_left_of v < 2 ^ 64
-few_at_start bytes t v typed size h = subst (λ (n : ℕ). n < 2 ^ 64) (sym (left_at_start v (program t) h)) (few_steps bytes t typed.source size)
+few_at_start bytes t v typed size h = subst (λ (n : ℕ). n < 2 ^ 64) (sym (left_at_start v (program t) h)) (few_steps bytes t typed.source typed.accepted size)
 
 -- steps to the end of a typed program, and their report
 pub runs_to : (bytes : List ℕ) (t : Term) (from to : Whole) (steps : ℕ) (output : List ℤ) (text : List ℕ) → IsTyped bytes t → from ≡ start (program t) → Goes from steps to → ending_of to ≡ ending.Finished → output ≡ to.output → text ≡ report steps output → Runs bytes text

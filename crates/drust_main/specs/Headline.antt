@@ -3,24 +3,27 @@
 use Rattle.std.specs.Prelude.{◌≡◌, ℕ, ◌<◌, ◌≤◌, ◌⊎◌, true, false, ⊤, List, [], length, take, codes, Option, Some, None}
 use Rattle.fr_base.specs.declared.step.Ending3.TheVariants as ending
 use Rattle.fr_terms.specs.Terms.{Term}
-use Rattle.fr_typing.specs.declared.reason.Reason.{Reason}
+use Rattle.fr_terms.specs.Limits.{IsAccepted}
 use Rattle.fr_typing.specs.Kinds.{Kind}
 use Rattle.fr_typing.specs.Places.{Env}
-use Rattle.fr_typing.specs.Typing.{Types, Faults}
-use Rattle.fr_syntax.specs.Source.{IsSource}
+use Rattle.fr_typing.specs.Typing.{Types}
+use Rattle.fr_parse.specs.Source.{IsSource}
 use Rattle.fr_plain.specs.Whole.{Stepped, plain, main_steps, ending_of}
 use Rattle.fr_plain.specs.Resolve.{program}
 use Rattle.drust_io.specs.Flow.{GoesOn}
 use Rattle.drust_main.specs.Report.{report}
 use Rattle.drust_main.specs.Words.{asks_run}
+use Rattle.drust_main.specs.declared.refused.Refused.{Refused}
+use Rattle.drust_main.specs.Refusals.{HasCause, status_of, text_of}
 
 -- the most bytes that an input may have
 abbrev pub limit : ℕ
 limit = 1048576
 
--- the bytes are the source of this program, and typing types it
+-- the bytes are the source of this program of accepted forms, and typing types it
 pub record IsTyped (bytes : List ℕ) (t : Term) : Type 0 where
   pub source : IsSource bytes t
+  pub accepted : IsAccepted t
   pub kind : Kind
   pub after : Env
   pub types : Types [] t kind after
@@ -35,18 +38,6 @@ pub record Runs (bytes text : List ℕ) : Type 0 where
   pub over : ending_of last.state ≡ ending.Finished
   pub written : text ≡ report steps last.state.output
 
--- the bytes are the source of no program
-abbrev pub NoSource : List ℕ → Type 0
-NoSource bytes = (t : Term) → IsSource bytes t → ⊥
-
--- the bytes are the source of a program that has a fault of types
-pub record IsFaulty (bytes : List ℕ) : Type 0 where
-  pub term : Term
-  pub source : IsSource bytes term
-  pub at : ℕ
-  pub reason : Reason
-  pub faults : Faults [] term at reason
-
 -- of an input that is within the limit
 pub record Within (P : List ℕ → Type 0) (bytes : List ℕ) : Type 0 where
   pub size : length bytes ≤ limit
@@ -57,12 +48,16 @@ abbrev pub Told : Option (List ℕ) → (List ℕ → Type 0) → Type 0
 Told None P = ⊤
 Told (Some bytes) P = P bytes
 
+-- what an input is answered: the report of its run, or why it has none (a byte, a name or a number that is no token; a token without
+-- an entry in the table of the language, or beyond its limits; a form that is not accepted yet; a fault of types)
+pub data Replies (bytes : List ℕ) : (status : ℕ) → (text : List ℕ) → Type 0 where
+  run_finished : {text : List ℕ} → Runs bytes text → Replies bytes 0 text
+  refused : (why : Refused) → HasCause bytes why → Replies bytes (status_of why) (text_of why)
+
 -- THE ANSWERS: with these words and this input, the status and the text that is written, where no device fails and
 -- there is memory
 pub data Answers (words : List (List ℕ)) (left : Option (List ℕ)) : (status : ℕ) → (text : List ℕ) → Type 0 where
-  run_finished : {text : List ℕ} → asks_run words ≡ true → Told left (Within (λ bytes. Runs bytes text)) → Answers words left 0 text
-  no_source : asks_run words ≡ true → Told left (Within NoSource) → Answers words left 3 (codes "refused syntax\n")
-  fault_found : asks_run words ≡ true → Told left (Within IsFaulty) → Answers words left 4 (codes "refused type\n")
+  replied : {status : ℕ} {text : List ℕ} → asks_run words ≡ true → Told left (Within (λ bytes. Replies bytes status text)) → Answers words left status text
   words_refused : asks_run words ≡ false → Answers words left 5 (codes "refused words\n")
   too_long : asks_run words ≡ true → Told left (λ bytes. limit < length bytes) → Answers words left 9 (codes "refused size\n")
 
@@ -82,7 +77,7 @@ pub record Broken (words : List (List ℕ)) (left : Option (List ℕ)) (before a
 
 -- the statuses of an answer that is written whole
 abbrev pub IsAnswer : ℕ → Type 0
-IsAnswer status = (status ≡ 0) ⊎ (status ≡ 3) ⊎ (status ≡ 4) ⊎ (status ≡ 5) ⊎ (status ≡ 9)
+IsAnswer status = (status ≡ 0) ⊎ (status ≡ 3) ⊎ (status ≡ 4) ⊎ (status ≡ 5) ⊎ (status ≡ 9) ⊎ (status ≡ 11)
 
 -- and those of no answer: the source failed, the sink failed, there was no memory
 abbrev pub IsStatus : ℕ → Type 0
@@ -94,4 +89,4 @@ IsSilent status = (status ≡ 6) ⊎ (status ≡ 8)
 
 -- the statuses that say what the input is
 abbrev pub IsOfInput : ℕ → Type 0
-IsOfInput status = (status ≡ 0) ⊎ (status ≡ 3) ⊎ (status ≡ 4)
+IsOfInput status = (status ≡ 0) ⊎ (status ≡ 3) ⊎ (status ≡ 4) ⊎ (status ≡ 11)

@@ -3,3 +3,5 @@ pub mod Words
 pub mod Headline
 pub mod Runs
 pub mod OneAnswer
+pub mod Forms
+pub mod Refusals

@@ -1,7 +1,9 @@
 //! The program `drust`: the words of its command line, one source, and the text that it writes.
 #![tactic(auto)]
 
+mod forms;
 mod laws;
+mod refused;
 mod report;
 mod run;
 #[cfg(test)]

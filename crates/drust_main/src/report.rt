@@ -9,7 +9,7 @@ use itoa::Buffer;
 use std::alloc::Global;
 
 /// Adds a count in decimal digits.
-fn add_count(text: &mut String, count: u64) -> Result<(), NoMemory>
+pub(crate) fn add_count(text: &mut String, count: u64) -> Result<(), NoMemory>
     ensures { OnOk result (string_bytes text.new ≡ string_bytes text.old ++ decimal count) }
 {
     let mut buffer = Buffer::new();

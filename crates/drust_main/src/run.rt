@@ -3,81 +3,60 @@
 ghost use Rattle.std.specs.Prelude.{◌≡◌, ◌≢◌, ◌+◌, ◌≤◌, ◌<◌, ◌^◌, ℕ, List, Some, IfOk, IfErr, OnOk, length, string_bytes};
 ghost use Rattle.fr_base.specs.declared.step.Ending3.TheVariants as ending;
 ghost use Rattle.fr_terms.specs.Terms.{Text, Term as SourceTerm};
+ghost use Rattle.fr_terms.specs.Limits.{IsAccepted};
 ghost use Rattle.fr_syntax.specs.declared.token.Token.{Token};
 ghost use Rattle.fr_syntax.specs.Tokens.{AreTokens, IsRefusedOrNoMemory};
-ghost use Rattle.fr_syntax.specs.Source.{IsSource, Spelled};
+ghost use Rattle.fr_parse.specs.Source.{IsSource};
+ghost use Rattle.fr_parse.specs.Table.{refusal};
 ghost use Rattle.fr_syntax.specs.Meanings.{term_of};
 ghost use Rattle.fr_plain.specs.Whole.{start, ending_of};
 ghost use Rattle.fr_plain.specs.Resolve.{program};
 ghost use Rattle.fr_meaning.specs.Programs.{IsFault};
 ghost use Rattle.fr_meaning.specs.PoolView.{whole_of, steps_left_of};
-ghost use Rattle.drust_main.specs.Headline.{IsTyped, Runs, limit};
+ghost use Rattle.drust_main.specs.Headline.{IsTyped, Runs, Replies, limit};
 ghost use Rattle.drust_main.specs.Runs.{IsRefusedBy, Goes};
 
+use crate::forms::later_form;
+use crate::refused::Refused;
 use crate::report::report_text;
 use fr_base::{Ending3, Fresh, NoMemory, ThreadNo};
 use fr_meaning::{CheckError, Checked, Pool, StepError, check};
-use fr_syntax::{ParseError, TokenError, parse, tokens};
+use fr_parse::{ParseError, parse};
+use fr_syntax::{TokenError, tokens};
 use std::alloc::Global;
 
-/// Why a source has no run.
-#[derive(Clone, Copy, Debug, PartialEq, Eq)]
-pub enum Refused {
-    /// The bytes are the source of no program.
-    Syntax,
-    /// The program has a fault of types.
-    Fault,
-    NoMemory,
-}
-
-impl From<NoMemory> for Refused {
-    ghost use Rattle.std.specs.Prelude.{◌≡◌};
-    ghost use Rattle.drust_main.specs.declared.run.Refused.TheVariants.{NoMemory as WantsMemory};
-
-    ghost from_gives = { λ _ made. made ≡ WantsMemory };
-
-    fn from(_error: NoMemory) -> Refused {
-        Refused::NoMemory
-    }
-}
-
 // What a refusal of the tokens says of the source.
-#[tactic(auto, using(crate::proofs::Refusals::no_tokens))]
 fn refused_tokens(error: TokenError) -> Refused
     ensures { (bytes : List ℕ) → IsRefusedOrNoMemory bytes error → IsRefusedBy bytes result }
 {
     match error {
-        TokenError::BadByte { .. } => Refused::Syntax,
-        TokenError::NameTooLong { .. } => Refused::Syntax,
-        TokenError::NumberTooLarge { .. } => Refused::Syntax,
         TokenError::NoMemory => Refused::NoMemory,
+        _ => Refused::Tokens(error),
     }
 }
 
 // What a refusal of the parser says of the source.
-#[tactic(auto, using(crate::proofs::Refusals::no_term))]
 fn refused_term(error: ParseError) -> Refused
-    ensures { (bytes : List ℕ) (ts : List Token) (names : List Text) → AreTokens bytes ts names → (error ≢ ParseError.NoMemory → (t : SourceTerm) → ¬ (Spelled names ts t)) → IsRefusedBy bytes result }
+    ensures { (bytes : List ℕ) (ts : List Token) (names : List Text) → AreTokens bytes ts names → (error ≢ ParseError.NoMemory → refusal ts ≡ Some error) → IsRefusedBy bytes result }
 {
     match error {
-        ParseError::Syntax { .. } => Refused::Syntax,
-        ParseError::TooDeep { .. } => Refused::Syntax,
         ParseError::NoMemory => Refused::NoMemory,
+        _ => Refused::Grammar(error),
     }
 }
 
 // What a refusal of the checker says of the source.
 #[tactic(auto, using(crate::proofs::Refusals::faulty))]
 fn refused_types(error: CheckError) -> Refused
-    ensures { (bytes : List ℕ) (t : SourceTerm) → IsSource bytes t → IsFault error t → IsRefusedBy bytes result }
+    ensures { (bytes : List ℕ) (t : SourceTerm) → IsSource bytes t → IsAccepted t → IsFault error t → IsRefusedBy bytes result }
 {
     match error {
-        CheckError::Fault { .. } => Refused::Fault,
+        CheckError::Fault { place, reason } => Refused::Fault { place, reason },
         CheckError::NoMemory => Refused::NoMemory,
     }
 }
 
-/// The tree of a source, checked. `Syntax` and `Fault` exactly by what the bytes are; want of memory at any time.
+/// The tree of a source, checked. Each refusal exactly by what the bytes are; want of memory at any time.
 fn checked_source(alloc: Global, bytes: &[u8]) -> Result<Checked, Refused>
     requires { length bytes.now ≤ limit }
     ensures typed { IfOk result (λ c. IsTyped bytes.now (term_of c.arena)) }
@@ -91,6 +70,9 @@ fn checked_source(alloc: Global, bytes: &[u8]) -> Result<Checked, Refused>
         Ok(tree) => tree,
         Err(error) => return Err(refused_term(error)),
     };
+    if let Some(place) = later_form(&tree) {
+        return Err(Refused::Form { place });
+    }
     match check(alloc, tree) {
         Ok(checked) => Ok(checked),
         Err(error) => Err(refused_types(error)),
@@ -115,7 +97,7 @@ fn run_to_end(pool: &mut Pool) -> Result<u64, NoMemory>
 }
 
 /// The text of the run of a source's program, to its end.
-pub fn run_source(alloc: Global, bytes: &[u8]) -> Result<String, Refused>
+fn run_source(alloc: Global, bytes: &[u8]) -> Result<String, Refused>
     requires { length bytes.now ≤ limit }
     ensures runs { IfOk result (λ text. Runs bytes.now (string_bytes text)) }
     ensures refused { IfErr result (IsRefusedBy bytes.now) }
@@ -124,4 +106,15 @@ pub fn run_source(alloc: Global, bytes: &[u8]) -> Result<String, Refused>
     let mut pool = Pool::new(alloc, &checked)?;
     let steps = run_to_end(&mut pool)?;
     Ok(report_text(alloc, steps, pool.output())?)
+}
+
+/// The status and the text of a source's run, or of the refusal of it.
+pub fn reply_to(alloc: Global, bytes: &[u8]) -> Result<(u8, String), NoMemory>
+    requires { length bytes.now ≤ limit }
+    ensures { IfOk result (λ r. Replies bytes.now r.0 (string_bytes r.1)) }
+{
+    match run_source(alloc, bytes) {
+        Ok(text) => Ok((0, text)),
+        Err(refused) => Ok((refused.status(), refused.text(alloc)?)),
+    }
 }

@@ -2,6 +2,7 @@
 
 ghost use Rattle.std.specs.Prelude.{◌<◌};
 
+use crate::report::add_count;
 use crate::top::drust;
 use drust_io::{MemorySink, MemorySource, NoGate};
 use std::alloc::Global;
@@ -54,50 +55,127 @@ fn takes_and_gives_a_byte_at_a_time(rt: HostRuntime) -> Result<(), Fail> {
     answers(&rt, rt.alloc(), &["run"], FIRST, 1, 0, FIRST_REPORT)
 }
 
-#[test]
-fn refuses_faults_of_types(rt: HostRuntime) -> Result<(), Fail> {
-    answers(
-        &rt,
-        rt.alloc(),
-        &["run"],
-        b"{ print x }",
-        64,
-        4,
-        b"refused type\n",
-    )
+// Answers `run` and an input with a refusal: a status and a line.
+fn refuses<R: Threads + Wait + Abort + Sync>(
+    rt: &R,
+    alloc: Global,
+    input: &[u8],
+    status: u8,
+    text: &[u8],
+) -> Result<(), Fail> {
+    answers(rt, alloc, &["run"], input, 64, status, text)
 }
 
 #[test]
-fn refuses_what_is_no_source(rt: HostRuntime) -> Result<(), Fail> {
-    answers(
-        &rt,
-        rt.alloc(),
-        &["run"],
-        b"{ print 1",
-        64,
-        3,
-        b"refused syntax\n",
-    )?;
-    let borrow = b"{ let mut x = 1; let mut r = &x }";
-    answers(
-        &rt,
-        rt.alloc(),
-        &["run"],
-        borrow,
-        64,
-        3,
-        b"refused syntax\n",
-    )?;
-    answers(&rt, rt.alloc(), &["run"], b"", 64, 3, b"refused syntax\n")?;
-    answers(
-        &rt,
-        rt.alloc(),
-        &["run"],
-        b"{ print 1",
-        1,
-        3,
-        b"refused syntax\n",
-    )
+fn tells_the_first_fault_of_types(rt: HostRuntime) -> Result<(), Fail> {
+    for (input, text) in [
+        (
+            b"{ let mut x = box 1; let mut y = x; print *x }".as_slice(),
+            b"refused type at 42: not defined\n".as_slice(),
+        ),
+        (
+            b"{ print x }".as_slice(),
+            b"refused type at 8: unknown name\n".as_slice(),
+        ),
+        (
+            b"{ let mut x = 1; let mut x = 2 }".as_slice(),
+            b"refused type at 17: name in scope\n".as_slice(),
+        ),
+        (
+            b"{ let mut x = 1; print *x }".as_slice(),
+            b"refused type at 23: no target\n".as_slice(),
+        ),
+        (
+            b"{ let mut x = 1; x = box 2 }".as_slice(),
+            b"refused type at 21: wrong type\n".as_slice(),
+        ),
+        (
+            b"{ print box 1 }".as_slice(),
+            b"refused type at 8: wrong type\n".as_slice(),
+        ),
+        (
+            b"{ let mut x = box box 1; let mut y = *x; let mut z = x }".as_slice(),
+            b"refused type at 53: not defined\n".as_slice(),
+        ),
+        // the name comes before what is assigned to it, and is looked up after it
+        (
+            b"{ y = print z }".as_slice(),
+            b"refused type at 12: unknown name\n".as_slice(),
+        ),
+    ] {
+        refuses(&rt, rt.alloc(), input, 4, text)?;
+    }
+    Ok(())
+}
+
+#[test]
+fn tells_where_the_text_is_refused(rt: HostRuntime) -> Result<(), Fail> {
+    for (input, text) in [
+        (
+            b"{ print 1 # }".as_slice(),
+            b"refused byte at 10\n".as_slice(),
+        ),
+        (
+            b"{ let x = 1 }".as_slice(),
+            b"refused syntax at 6\n".as_slice(),
+        ),
+        (b"{ print 1".as_slice(), b"refused syntax at 9\n".as_slice()),
+        (b"".as_slice(), b"refused syntax at 0\n".as_slice()),
+        (
+            b"{ print 9223372036854775808 }".as_slice(),
+            b"refused number at 8\n".as_slice(),
+        ),
+        (
+            b"{ nnnnnnnnnnnnnnnnnnnnnnnnnnnnnnnnn }".as_slice(),
+            b"refused name at 2\n".as_slice(),
+        ),
+        (
+            b"{ let mut x = *********y }".as_slice(),
+            b"refused depth at 22\n".as_slice(),
+        ),
+        // the tokens of the whole source come before the parser
+        (b"} #".as_slice(), b"refused byte at 2\n".as_slice()),
+    ] {
+        refuses(&rt, rt.alloc(), input, 3, text)?;
+    }
+    Ok(())
+}
+
+#[test]
+fn tells_the_first_form_of_a_later_day(rt: HostRuntime) -> Result<(), Fail> {
+    for (input, text) in [
+        (
+            b"{ let mut h = spawn () { 3 } }".as_slice(),
+            b"refused form at 14\n".as_slice(),
+        ),
+        (
+            b"{ let mut x = 1; let mut r = &x }".as_slice(),
+            b"refused form at 29\n".as_slice(),
+        ),
+        (
+            b"{ print (1 + 2); &mut x }".as_slice(),
+            b"refused form at 8\n".as_slice(),
+        ),
+        (
+            b"{ { 1; box join h } ; dup m }".as_slice(),
+            b"refused form at 11\n".as_slice(),
+        ),
+        (
+            b"{ x = mutex 1 }".as_slice(),
+            b"refused form at 6\n".as_slice(),
+        ),
+        (
+            b"{ lock m as c { } }".as_slice(),
+            b"refused form at 2\n".as_slice(),
+        ),
+        (
+            b"{ par () { } () { } }".as_slice(),
+            b"refused form at 2\n".as_slice(),
+        ),
+    ] {
+        refuses(&rt, rt.alloc(), input, 11, text)?;
+    }
+    Ok(())
 }
 
 #[test]
@@ -125,7 +203,7 @@ fn refuses_too_much_input(rt: HostRuntime) -> Result<(), Fail> {
         &most,
         4096,
         3,
-        b"refused syntax\n",
+        b"refused syntax at 1048576\n",
     )?;
     let more = vec![in rt.alloc(); b' '; 1_048_577]?;
     answers(&rt, rt.alloc(), &["run"], &more, 4096, 9, b"refused size\n")
@@ -156,7 +234,7 @@ fn runs_an_empty_block(rt: HostRuntime) -> Result<(), Fail> {
         &more,
         4096,
         3,
-        b"refused syntax\n",
+        b"refused depth at 64\n",
     )
 }
 
@@ -190,5 +268,53 @@ fn tells_that_the_sink_failed(rt: HostRuntime) -> Result<(), Fail> {
     let outcome = drust(&rt, rt.alloc(), &words, &mut source, &mut sink, &NoGate);
     assert_eq!(rt; outcome.status, 7);
     assert_eq!(rt; sink.bytes(), b"ended finished\np".as_slice());
+    Ok(())
+}
+
+#[test]
+fn refuses_each_proper_prefix_at_its_end(rt: HostRuntime) -> Result<(), Fail> {
+    for len in 0..FIRST.len() {
+        // a word that is cut is a name: that matters where `mut` has to stand
+        let place = if len == 7 || len == 8 { 6 } else { len };
+        let mut text = String::from_str(rt.alloc(), "refused syntax at ")?;
+        add_count(&mut text, place as u64)?;
+        text.push_str("\n")?;
+        refuses(&rt, rt.alloc(), &FIRST[..len], 3, text.as_bytes())?;
+    }
+    Ok(())
+}
+
+#[test]
+fn answers_any_byte_at_any_place(rt: HostRuntime) -> Result<(), Fail> {
+    let words = words_of(rt.alloc(), &["run"])?;
+    for place in 0..FIRST.len() {
+        for byte in 0..=255u8 {
+            let mut input = FIRST.to_vec(rt.alloc())?;
+            input[place] = byte;
+            let mut source = MemorySource::new(input, 4096, Vec::new(rt.alloc()));
+            let mut sink = MemorySink::new(rt.alloc(), 4096, Vec::new(rt.alloc()));
+            let outcome = drust(&rt, rt.alloc(), &words, &mut source, &mut sink, &NoGate);
+            assert!(rt; matches!(outcome.status, 0 | 3 | 4 | 11));
+            assert!(rt; sink.bytes().ends_with(b"\n"));
+        }
+    }
+    Ok(())
+}
+
+#[test]
+fn refuses_a_megabyte_of_one_byte(rt: HostRuntime) -> Result<(), Fail> {
+    for (first, next, text) in [
+        (b"".as_slice(), b'{', b"refused depth at 64\n".as_slice()),
+        (b"".as_slice(), b'*', b"refused syntax at 0\n".as_slice()),
+        (b"{".as_slice(), b'*', b"refused depth at 9\n".as_slice()),
+        (b"{".as_slice(), b'(', b"refused depth at 64\n".as_slice()),
+        (b"{".as_slice(), b'n', b"refused name at 1\n".as_slice()),
+        (b"{".as_slice(), b'9', b"refused number at 1\n".as_slice()),
+        (b"{".as_slice(), b';', b"refused syntax at 1\n".as_slice()),
+        (b"{".as_slice(), b'&', b"refused syntax at 2\n".as_slice()),
+    ] {
+        let input = rows(rt.alloc(), first, next, 1_048_576)?;
+        answers(&rt, rt.alloc(), &["run"], &input, 4096, 3, text)?;
+    }
     Ok(())
 }

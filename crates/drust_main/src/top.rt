@@ -6,14 +6,15 @@ ghost use Rattle.drust_main.specs.Words.{asks_run};
 ghost use Rattle.drust_main.specs.Headline.{Answers, Answered, Broken, IsAnswer, IsStatus, IsSilent, IsOfInput, limit};
 ghost use Rattle.drust_main.specs.Runs.{IsReply, IsInput};
 
-use crate::run::{Refused, run_source};
+use crate::run::reply_to;
 use crate::words::asks_run;
 use drust_io::{Gate, ReadError, Sink, Source, read_all, write_all};
+use fr_base::NoMemory;
 use std::alloc::Global;
 use std::sync::Wait;
 use std::thread::Threads;
 
-/// What the program ended with: 0 where the run has finished, 3 to 9 where it has none (`drust` says when each comes).
+/// What the program ended with: 0 where the run has finished, 3 to 9 and 11 where it has none (`drust` says when each comes).
 #[derive(Clone, Copy, Debug, PartialEq, Eq)]
 pub struct Outcome {
     pub status: u8,
@@ -44,11 +45,9 @@ fn answer<K: Sink>(alloc: Global, bytes: &[u8], sink: &mut K) -> Outcome
     ensures fault { result.status ≡ 7 → Rose (K.fault_count sink.old) (K.fault_count sink.new) }
     ensures nothing { result.status ≡ 8 → K.written sink.new ≡ K.written sink.old }
 {
-    match run_source(alloc, bytes) {
-        Ok(text) => reply(sink, 0, text.as_bytes()),
-        Err(Refused::Syntax) => reply(sink, 3, b"refused syntax\n"),
-        Err(Refused::Fault) => reply(sink, 4, b"refused type\n"),
-        Err(Refused::NoMemory) => Outcome { status: 8 },
+    match reply_to(alloc, bytes) {
+        Ok((status, text)) => reply(sink, status, text.as_bytes()),
+        Err(NoMemory) => Outcome { status: 8 },
     }
 }
 
@@ -57,10 +56,11 @@ fn answer<K: Sink>(alloc: Global, bytes: &[u8], sink: &mut K) -> Outcome
 /// The one word that it takes is `run`. The whole input is read first (at most 1,048,576 bytes), and the whole text is
 /// made before the first write. It takes time in the input, in the steps of the run and in the text.
 ///
-/// The statuses: 0, the run has finished and its report is written; 3, the input is no source; 4, its program has a fault
-/// of types; 5, the words are refused; 6, the source failed; 7, the sink failed; 8, there was no memory; 9, the input is
-/// too long. `Answers` has the causes of 0, 3, 4, 5 and 9, each with its text; at 6 and 8 nothing is written, at 7 the
-/// first bytes of the text that would have been.
+/// The statuses: 0, the run has finished and its report is written; 3, the input is no source, with the place of the first
+/// byte, name, number or token that is refused; 4, its program has a fault of types; 5, the words are refused; 6, the source
+/// failed; 7, the sink failed; 8, there was no memory; 9, the input is too long; 11, the program has a form that isn't
+/// accepted yet, with the place of the first. `Answers` has the causes of 0, 3, 4, 5, 9 and 11, each with its text; at 6 and
+/// 8 nothing is written, at 7 the first bytes of the text that would have been.
 pub fn drust<S: Source, K: Sink, G: Gate + Sync, R: Threads + Wait + Sync>(
     rt: &R,
     alloc: Global,

@@ -19,6 +19,5 @@ pub mod ProgramLemmas
 pub mod NodeLemmas
 pub mod ResolveLemmas
 pub mod BuiltLemmas
-pub mod UsedLemmas
 pub mod PoolLaws
 pub mod TypedLemmas

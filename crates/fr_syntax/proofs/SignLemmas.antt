@@ -13,7 +13,7 @@ use Rattle.std.proofs.lemmas.Int.{ints}
 use Rattle.fr_syntax.specs.Words.{is_letter, is_digit, word_of, mark_of, fixed_of}
 use Rattle.fr_syntax.specs.Text.{head_is}
 use Rattle.fr_syntax.specs.Tokens.{number_value, name_at, number_at, free_at, kind_or, kind_at, names_after, first_text, after_text, Leads}
-use Rattle.fr_syntax.specs.Readable.{HasNoSign, HaveNoSigns}
+use Rattle.fr_syntax.specs.Signs.{HasNoSign, HaveNoSigns}
 
 -- a word or mark, if it is one, has no sign
 abbrev MaybeUnsigned : Option TokenKind → Type 0

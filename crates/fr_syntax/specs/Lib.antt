@@ -6,9 +6,5 @@ pub mod TokenList
 pub mod NodeList
 pub mod Arena
 pub mod Meanings
-pub mod Grammar
-pub mod Source
-pub mod Reading
 pub mod Ordered
-pub mod Readable
-pub mod Growth
+pub mod Signs

@@ -1,7 +1,7 @@
 //! The tokens of a source.
 
 ghost use Rattle.std.specs.Prelude.{◌+◌, ◌≤◌, length, IfOk, IfErr};
-ghost use Rattle.fr_syntax.specs.Readable.{HaveNoSigns};
+ghost use Rattle.fr_syntax.specs.Signs.{HaveNoSigns};
 ghost use Rattle.fr_syntax.specs.TokenList.{EndsOnce};
 ghost use Rattle.fr_syntax.specs.Tokens.{AreTokens, IsRefusedOrNoMemory};
 

@@ -1,0 +1,9 @@
+pub mod Grammar
+pub mod Source
+pub mod Reading
+pub mod Growth
+pub mod Readable
+pub mod Table
+pub mod Canonical
+pub mod Written
+pub mod Refusals
