@@ -38,8 +38,14 @@ fn programs_and_their_texts(rt: HostRuntime) {
         (b"{- 01}".as_slice(), "{ - 1 }"),
         (b"{-0}".as_slice(), "{ 0 }"),
         (b"{000}".as_slice(), "{ 0 }"),
-        (b"{9223372036854775807}".as_slice(), "{ 9223372036854775807 }"),
-        (b"{-9223372036854775807}".as_slice(), "{ - 9223372036854775807 }"),
+        (
+            b"{9223372036854775807}".as_slice(),
+            "{ 9223372036854775807 }",
+        ),
+        (
+            b"{-9223372036854775807}".as_slice(),
+            "{ - 9223372036854775807 }",
+        ),
         (b"{x}".as_slice(), "{ x }"),
         (b"{_}".as_slice(), "{ _ }"),
         (b"{x1;y_2}".as_slice(), "{ x1 ; y_2 }"),
@@ -51,7 +57,10 @@ fn programs_and_their_texts(rt: HostRuntime) {
         (b"{x=y=z}".as_slice(), "{ x = y = z }"),
         (b"{let mut x=1}".as_slice(), "{ let mut x = 1 }"),
         (b"{let mut x=x=1}".as_slice(), "{ let mut x = x = 1 }"),
-        (b"{let mut x={let mut y=1;y}}".as_slice(), "{ let mut x = { let mut y = 1 ; y } }"),
+        (
+            b"{let mut x={let mut y=1;y}}".as_slice(),
+            "{ let mut x = { let mut y = 1 ; y } }",
+        ),
         (b"{box box 1}".as_slice(), "{ box box 1 }"),
         (b"{print-1}".as_slice(), "{ print - 1 }"),
         (b"{join h}".as_slice(), "{ join h }"),
@@ -74,10 +83,22 @@ fn programs_and_their_texts(rt: HostRuntime) {
         (b"{lock m as c{c}}".as_slice(), "{ lock m as c { c } }"),
         (b"{lock**m as c{}}".as_slice(), "{ lock * * m as c { } }"),
         (b"{\tprint\r\n1\n}".as_slice(), "{ print 1 }"),
-        (b"{let mut h=spawn(x){*x=6;x};let mut y=join h;print*y}".as_slice(), "{ let mut h = spawn ( x ) { * x = 6 ; x } ; let mut y = join h ; print * y }"),
-        (b"{ let mut x = box 2 ; { let mut r = & * x ; par ( r ) { print * r } ( r ) { print * r } } ; * x = ( * x + 2 ) ; print * x }".as_slice(), "{ let mut x = box 2 ; { let mut r = & * x ; par ( r ) { print * r } ( r ) { print * r } } ; * x = ( * x + 2 ) ; print * x }"),
-        (b"{ let mut x = 1; let mut r = &x; { let mut y = 2; r = &y } }".as_slice(), "{ let mut x = 1 ; let mut r = & x ; { let mut y = 2 ; r = & y } }"),
-        (b"{ let mut x = box 1; let mut r = &x; let mut y = *r }".as_slice(), "{ let mut x = box 1 ; let mut r = & x ; let mut y = * r }"),
+        (
+            b"{let mut h=spawn(x){*x=6;x};let mut y=join h;print*y}".as_slice(),
+            "{ let mut h = spawn ( x ) { * x = 6 ; x } ; let mut y = join h ; print * y }",
+        ),
+        (
+            b"{ let mut x = box 2 ; { let mut r = & * x ; par ( r ) { print * r } ( r ) { print * r } } ; * x = ( * x + 2 ) ; print * x }".as_slice(),
+            "{ let mut x = box 2 ; { let mut r = & * x ; par ( r ) { print * r } ( r ) { print * r } } ; * x = ( * x + 2 ) ; print * x }",
+        ),
+        (
+            b"{ let mut x = 1; let mut r = &x; { let mut y = 2; r = &y } }".as_slice(),
+            "{ let mut x = 1 ; let mut r = & x ; { let mut y = 2 ; r = & y } }",
+        ),
+        (
+            b"{ let mut x = box 1; let mut r = &x; let mut y = *r }".as_slice(),
+            "{ let mut x = box 1 ; let mut r = & x ; let mut y = * r }",
+        ),
     ] {
         assert!(rt; source.len() < 400);
         is_printed(&rt, rt.alloc(), source, want);
@@ -166,42 +187,73 @@ fn ninth_stars(rt: HostRuntime) {
     }
 }
 
-// So many opening marks, then a text, then so many closing marks.
-fn nested(rt: &impl Abort, alloc: Global, open: usize, text: &[u8], close: usize) -> Vec<u8>
-    requires few { open ≤ 100 }
+// A text in so many blocks.
+fn nested(rt: &impl Abort, alloc: Global, levels: usize, text: &[u8]) -> Vec<u8>
+    requires few { levels ≤ 100 }
     requires short { length text.now ≤ 100 }
-    requires few_closing { close ≤ 100 }
     ensures { length result.items ≤ 300 }
 {
-    let mut bytes = vec![in alloc; b'{'; open].expect(rt, "no memory");
+    let mut bytes = vec![in alloc; b'{'; levels].expect(rt, "no memory");
     bytes.extend_from_slice(text).expect(rt, "no memory");
-    let end = vec![in alloc; b'}'; close].expect(rt, "no memory");
+    let end = vec![in alloc; b'}'; levels].expect(rt, "no memory");
     bytes.extend_from_slice(&end).expect(rt, "no memory");
     bytes
 }
 
 #[test]
 fn the_last_level_and_the_next(rt: HostRuntime) {
-    for (open, text, refused) in [
+    for (levels, text, refused) in [
         (64usize, b"".as_slice(), None),
         (65, b"".as_slice(), Some(ParseError::TooDeep { place: 64 })),
         (63, b"1".as_slice(), None),
         (64, b"1".as_slice(), Some(ParseError::TooDeep { place: 64 })),
-        (63, b"box 1".as_slice(), Some(ParseError::TooDeep { place: 67 })),
-        (63, b"box let".as_slice(), Some(ParseError::Syntax { place: 67 })),
-        (63, b"let mut x=1".as_slice(), Some(ParseError::TooDeep { place: 73 })),
-        (64, b"let mut x=1".as_slice(), Some(ParseError::TooDeep { place: 64 })),
-        (63, b"x=1".as_slice(), Some(ParseError::TooDeep { place: 65 })),
-        (63, b"(1+2)".as_slice(), Some(ParseError::TooDeep { place: 64 })),
+        (
+            63,
+            b"box 1".as_slice(),
+            Some(ParseError::TooDeep { place: 67 }),
+        ),
+        (
+            63,
+            b"box let".as_slice(),
+            Some(ParseError::Syntax { place: 67 }),
+        ),
+        (
+            63,
+            b"let mut x=1".as_slice(),
+            Some(ParseError::TooDeep { place: 73 }),
+        ),
+        (
+            64,
+            b"let mut x=1".as_slice(),
+            Some(ParseError::TooDeep { place: 64 }),
+        ),
+        (
+            63,
+            b"x=1".as_slice(),
+            Some(ParseError::TooDeep { place: 65 }),
+        ),
+        (
+            63,
+            b"(1+2)".as_slice(),
+            Some(ParseError::TooDeep { place: 64 }),
+        ),
         (62, b"(1+2)".as_slice(), None),
-        (63, b"spawn(){}".as_slice(), Some(ParseError::TooDeep { place: 70 })),
+        (
+            63,
+            b"spawn(){}".as_slice(),
+            Some(ParseError::TooDeep { place: 70 }),
+        ),
         (62, b"spawn(){}".as_slice(), None),
-        (63, b"spawn()1".as_slice(), Some(ParseError::Syntax { place: 70 })),
+        (
+            63,
+            b"spawn()1".as_slice(),
+            Some(ParseError::Syntax { place: 70 }),
+        ),
         (64, b";".as_slice(), Some(ParseError::Syntax { place: 64 })),
     ] {
         assert!(rt; text.len() <= 100);
-        assert!(rt; open <= 100);
-        let source = nested(&rt, rt.alloc(), open, text, open);
+        assert!(rt; levels <= 100);
+        let source = nested(&rt, rt.alloc(), levels, text);
         let list = tokens(rt.alloc(), &source).expect(&rt, "no tokens");
         assert_eq!(rt; parse(rt.alloc(), &list).err(), refused);
     }
