@@ -8,7 +8,8 @@ use Rattle.fr_base.specs.declared.step.Ending3.TheVariants as ending
 use Rattle.fr_terms.specs.Terms.{Term}
 use Rattle.fr_typing.specs.declared.reason.Reason.{Reason}
 use Rattle.fr_typing.proofs.Agree.{exactly_one_lem}
-use Rattle.fr_typing.specs.Typing.{typed, fault, typing}
+use Rattle.fr_typing.specs.Finding.{typed, fault}
+use Rattle.fr_typing.specs.Typing.{typing}
 use Rattle.fr_parse.proofs.Programs.{source_once}
 use Rattle.fr_plain.specs.Run.{Life, alive, over}
 use Rattle.fr_plain.specs.Whole.{Thread, Whole, Stepped, thread_at, is_over, all_over, step_of, step, then_labels, go_on, run, main_steps, ending_of, start}
@@ -104,8 +105,8 @@ one_text bytes x y h g =
 not_faulty : (bytes : List ℕ) (t : Term) (at : ℕ) (why : Reason) → IsTyped bytes t → IsFaulty bytes at why → ⊥
 not_faulty bytes t at why h f =
     let same = source_once bytes t f.term h.source f.source in
-    let a : typing t [] ≡ typed h.kind h.after = (exactly_one_lem.types t [] h.kind h.after h.accepted).0 h.types in
-    let b : typing f.term [] ≡ fault at why = (exactly_one_lem.faults f.term [] at why f.accepted).0 f.faults in
+    let a : typing t [] ≡ typed h.kind h.after = (exactly_one_lem.types t [] h.kind h.after).0 h.types in
+    let b : typing f.term [] ≡ fault at why = (exactly_one_lem.faults f.term [] at why).0 f.faults in
     let c : typed h.kind h.after ≡ fault at why = sym a ∙ ap (λ u. typing u []) same ∙ b in
     cc
 

@@ -12,7 +12,7 @@ use Rattle.fr_syntax.specs.Tokens.{unblanked, first_text, after_text, names_afte
 use Rattle.fr_parse.specs.Grammar.{Has, SpellsPath, Spells, SpellsItems, SpellsMore}
 use Rattle.fr_parse.specs.Source.{IsSource}
 use Rattle.fr_parse.proofs.Complete.{takes_some}
-use Rattle.fr_plain.specs.Run.{Run, temp, unit_c, number, read, box_r, bind, print, assign, block, Parts, last, more, Now, going, constant, temporary, now, settle_more, close_last, close, settle, settle_parts, alive, one_if_temporary, leaves, leaves_last, steps_left, steps_in, life_left}
+use Rattle.fr_plain.specs.Run.{Run, temp, unit_c, number, read, borrow, box_r, arith as arith_r, bind, print, assign, block, Parts, last, more, Now, going, constant, temporary, now, settle_more, settle_right, close_last, close, settle, settle_parts, alive, one_if_temporary, leaves, leaves_last, steps_left, steps_in, life_left}
 use Rattle.fr_plain.specs.Resolve.{env_after, lets_in, lets, before, resolve, resolve_items, program}
 
 -- TOKENS PAY FOR STEPS
@@ -90,6 +90,12 @@ more_fits going k r is rest m b h g = first_fits k r is m b h
 more_fits (constant v) k r is rest m b h g = (omega (arith, g.0), g.1)
 more_fits (temporary v) k r is rest m b h g = first_fits k r is m b h
 
+-- nor a right operand
+right_fits : (n : Now) (b rest : Run) → steps_left rest ≤ steps_left b → steps_left (settle_right n b rest) ≤ steps_left b
+right_fits going b rest h = omega arith
+right_fits (constant v) b rest h = h
+right_fits (temporary v) b rest h = h
+
 mutual
   -- settling a term adds no step
   settle_fits : (r : Run) → Fits (settle r) (steps_left r) (leaves r)
@@ -97,7 +103,9 @@ mutual
   settle_fits unit_c = (omega arith, refl)
   settle_fits (number n) = (omega arith, refl)
   settle_fits (read w take) = (omega arith, refl)
+  settle_fits (borrow w) = (omega arith, refl)
   settle_fits (box_r r) = (omega (arith, (settle_fits r).0), refl)
+  settle_fits (arith_r f a b) = (omega (arith, (settle_fits a).0, right_fits (now (settle a)) b (settle b) (settle_fits b).0), refl)
   settle_fits (bind r) = (omega (arith, (settle_fits r).0), refl)
   settle_fits (print r) = (omega (arith, (settle_fits r).0), refl)
   settle_fits (assign w r) = (omega (arith, (settle_fits r).0), refl)

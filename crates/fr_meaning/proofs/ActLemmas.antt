@@ -6,11 +6,12 @@ use Rattle.fr_base.specs.declared.label.Plain.TheVariants as plain
 use Rattle.fr_base.specs.declared.label.Label.{Label}
 use Rattle.fr_base.specs.declared.label.Label.TheVariants as label
 use Rattle.fr_base.specs.declared.place.Lval.{Lval}
+use Rattle.fr_base.specs.declared.place.Op.{Op}
 use Rattle.fr_plain.specs.declared.value.Value.{Value}
 use Rattle.fr_plain.specs.declared.value.Value.TheVariants.{Own, ToSlot, ToObject}
 use Rattle.fr_plain.specs.Heap.{Heap}
 use Rattle.fr_plain.specs.State.{State, gone, Spot, in_slot, in_cell, value_at, loads, stores, drops, Reached, then_reached, led, stars, locate}
-use Rattle.fr_plain.specs.Acts.{Act, do_let, do_read, do_assign, do_box, do_print, do_discard, do_drop, do_end, Did, read_did, assign_did, box_did, drop_did, act}
+use Rattle.fr_plain.specs.Acts.{Act, do_let, do_read, do_borrow, do_assign, do_box, do_arith, do_print, do_discard, do_drop, do_end, Did, read_did, borrow_did, assign_did, box_did, arith_did, drop_did, act}
 use Rattle.fr_plain.specs.Whole.{prints}
 use Rattle.fr_meaning.specs.declared.spot.Where.{Where}
 use Rattle.fr_meaning.specs.Turning.{IsReached, state, did}
@@ -129,6 +130,27 @@ box_silent s (Own v) = refl
 box_silent s (ToSlot i) = tt
 box_silent s (ToObject o) = tt
 
+-- nor does an operation
+arith_silent : (s : State) (f : Op) (a b : Value) → Silent (arith_did s f a b)
+arith_silent s f (Own (plain.Int n)) b = by b
+  where
+    by : (b : Value) → Silent (arith_did s f (Own (plain.Int n)) b)
+    by (Own plain.Nothing) = tt
+    by (Own plain.Unit) = tt
+    by (Own (plain.Int m)) = refl
+    by (Own (plain.Box o)) = tt
+    by (Own (plain.Mutex m)) = tt
+    by (Own (plain.Task t)) = tt
+    by (ToSlot i) = tt
+    by (ToObject o) = tt
+arith_silent s f (Own plain.Nothing) b = tt
+arith_silent s f (Own plain.Unit) b = tt
+arith_silent s f (Own (plain.Box o)) b = tt
+arith_silent s f (Own (plain.Mutex m)) b = tt
+arith_silent s f (Own (plain.Task t)) b = tt
+arith_silent s f (ToSlot i) b = tt
+arith_silent s f (ToObject o) b = tt
+
 -- a slot that goes prints nothing
 drop_silent : (s : State) (vs : List Value) → Silent (drop_did s vs)
 drop_silent s [] = tt
@@ -144,7 +166,9 @@ act_silent : (a : Act) (s : State) → IsSilent a → Silent (act a s)
 act_silent (do_let v) s h = refl
 act_silent (do_read w take) s h = reached_silent (locate s w) (λ r. read_did s take r (value_at s r.spot)) (stars_silent s w.slot w.depth) (λ r g. read_silent s take r (value_at s r.spot) g)
 act_silent (do_assign w v) s h = reached_silent (locate s w) (λ r. assign_did s v r (value_at s r.spot)) (stars_silent s w.slot w.depth) (λ r g. assign_silent s v r (value_at s r.spot) g)
+act_silent (do_borrow w) s h = reached_silent (locate s w) (borrow_did s) (stars_silent s w.slot w.depth) (λ r g. g)
 act_silent (do_box v) s h = box_silent s v
+act_silent (do_arith f a b) s h = arith_silent s f a b
 act_silent (do_print v) s h = absurd h
 act_silent (do_discard v) s h = drops_silent v
 act_silent do_drop s h = drop_silent s s.slots

@@ -3,9 +3,10 @@ use Rattle.std.proofs.Common.{◌≡◌, ℕ, zero, suc, ◌+◌, ◌-◌, ◌<�
 use Rattle.std.specs.Prelude.{max, if◌then◌else◌}
 use Rattle.fr_terms.specs.Terms.{Text, block_t, let_t, assign_t, read_t, borrow_t, borrow_mut_t, number_t, unit_t, box_t, print_t, arith_t, join_t, mutex_t, dup_t, lock_t, spawn_t, par_t, Items, none, item}
 use Rattle.fr_terms.specs.Terms as terms
-use Rattle.fr_terms.specs.Limits.{levels, levels_of, IsWithinLimits}
+use Rattle.fr_terms.specs.Limits.{levels, levels_of, IsWithinLimits, IsAccepted}
 use Rattle.fr_typing.specs.Places.{Env}
 use Rattle.fr_typing.proofs.Agree.{exactly_one_lem}
+use Rattle.fr_typing.proofs.Sequential.{accepted_items}
 use Rattle.fr_syntax.specs.declared.tree.Term.{Term}
 use Rattle.fr_syntax.specs.declared.tree.Term.TheVariants.{Block, Let, Assign, Read, Dup, Borrow, BorrowMut, Number, Unit, Box, Print, Join, Mutex, Arith, Spawn, Par, Lock, Place, Capture}
 use Rattle.fr_syntax.specs.declared.tree.Node.{Node}
@@ -110,44 +111,48 @@ block_counted cs items (form.Assign w v) h = absurd h
 block_counted cs items form.Place h = absurd h
 
 -- a form declares as many variables as its node's term
-made_counted : (p : Program) (cs : List ℕ) (at : ℕ) (n : Node) (f : Form) → IsHere p.arena at n → AreCounts p cs → length cs ≡ at → IsMade p cs at n.term f → (m : Term) → n.term ≡ m → count_of cs f ≡ lets_in (term_at (meanings p.arena) at)
-made_counted p cs at n f h c same made (Number v) is = none_counted p cs at n (Number v) (number_t n.place v) f (form.Number v) h is refl (made_is p cs at n (Number v) f is made) refl refl
-made_counted p cs at n f h c same made Unit is = none_counted p cs at n Unit (unit_t n.place) f form.Unit h is refl (made_is p cs at n Unit f is made) refl refl
-made_counted p cs at n f h c same made (Read from) is = ap (count_of cs) (made_is p cs at n (Read from) f is made) ∙ sym (ap lets_in (term_is p.arena at n (Read from) (read_t n.place (place_at (meanings p.arena) from)) h is refl))
-made_counted p cs at n f h c same made (Box v) is =
+made_counted : (p : Program) (cs : List ℕ) (at : ℕ) (n : Node) (f : Form) → IsHere p.arena at n → AreCounts p cs → length cs ≡ at → IsMade p cs at n.term f → (m : Term) → n.term ≡ m → IsAccepted (term_at (meanings p.arena) at) → count_of cs f ≡ lets_in (term_at (meanings p.arena) at)
+made_counted p cs at n f h c same made (Number v) is ok = none_counted p cs at n (Number v) (number_t n.place v) f (form.Number v) h is refl (made_is p cs at n (Number v) f is made) refl refl
+made_counted p cs at n f h c same made Unit is ok = none_counted p cs at n Unit (unit_t n.place) f form.Unit h is refl (made_is p cs at n Unit f is made) refl refl
+made_counted p cs at n f h c same made (Read from) is ok = ap (count_of cs) (made_is p cs at n (Read from) f is made) ∙ sym (ap lets_in (term_is p.arena at n (Read from) (read_t n.place (place_at (meanings p.arena) from)) h is refl))
+made_counted p cs at n f h c same made (Box v) is ok =
+    let part = subst IsAccepted (term_is p.arena at n (Box v) (box_t n.place (term_at (meanings p.arena) v)) h is refl) ok in
     let lt : v < at = (subst (AreBelow (meanings p.arena) at) (ap needs is) h.parts).0 in
-    ap (count_of cs) (made_is p cs at n (Box v) f is made) ∙ c v (omega (arith, lt, same)) ∙ sym (ap lets_in (term_is p.arena at n (Box v) (box_t n.place (term_at (meanings p.arena) v)) h is refl))
-made_counted p cs at n f h c same made (Print v) is =
+    ap (count_of cs) (made_is p cs at n (Box v) f is made) ∙ c v (omega (arith, lt, same)) part ∙ sym (ap lets_in (term_is p.arena at n (Box v) (box_t n.place (term_at (meanings p.arena) v)) h is refl))
+made_counted p cs at n f h c same made (Print v) is ok =
+    let part = subst IsAccepted (term_is p.arena at n (Print v) (print_t n.place (term_at (meanings p.arena) v)) h is refl) ok in
     let lt : v < at = (subst (AreBelow (meanings p.arena) at) (ap needs is) h.parts).0 in
-    ap (count_of cs) (made_is p cs at n (Print v) f is made) ∙ c v (omega (arith, lt, same)) ∙ sym (ap lets_in (term_is p.arena at n (Print v) (print_t n.place (term_at (meanings p.arena) v)) h is refl))
-made_counted p cs at n f h c same made (Let name v) is =
+    ap (count_of cs) (made_is p cs at n (Print v) f is made) ∙ c v (omega (arith, lt, same)) part ∙ sym (ap lets_in (term_is p.arena at n (Print v) (print_t n.place (term_at (meanings p.arena) v)) h is refl))
+made_counted p cs at n f h c same made (Let name v) is ok =
+    let part = subst IsAccepted (term_is p.arena at n (Let name v) (let_t n.place (text_of p.arena.names name) (term_at (meanings p.arena) v)) h is refl) ok in
     let lt : v < at = (subst (AreBelow (meanings p.arena) at) (ap needs is) h.parts).0 in
     let t = ap lets_in (term_is p.arena at n (Let name v) (let_t n.place (text_of p.arena.names name) (term_at (meanings p.arena) v)) h is refl) in
-    omega (arith, ap (count_of cs) (made_is p cs at n (Let name v) f is made), c v (omega (arith, lt, same)), t)
-made_counted p cs at n f h c same made (Assign to v) is =
+    omega (arith, ap (count_of cs) (made_is p cs at n (Let name v) f is made), c v (omega (arith, lt, same)) part, t)
+made_counted p cs at n f h c same made (Assign to v) is ok =
+    let part = subst IsAccepted (term_is p.arena at n (Assign to v) (assign_t n.place (place_at (meanings p.arena) to) (term_at (meanings p.arena) v)) h is refl) ok in
     let lt : v < at = (subst (AreBelow (meanings p.arena) at) (ap needs is) h.parts).2.0 in
-    ap (count_of cs) (made_is p cs at n (Assign to v) f is made) ∙ c v (omega (arith, lt, same)) ∙ sym (ap lets_in (term_is p.arena at n (Assign to v) (assign_t n.place (place_at (meanings p.arena) to) (term_at (meanings p.arena) v)) h is refl))
-made_counted p cs at n f h c same made (Block items) is =
+    ap (count_of cs) (made_is p cs at n (Assign to v) f is made) ∙ c v (omega (arith, lt, same)) part ∙ sym (ap lets_in (term_is p.arena at n (Assign to v) (assign_t n.place (place_at (meanings p.arena) to) (term_at (meanings p.arena) v)) h is refl))
+made_counted p cs at n f h c same made (Block items) is ok =
     block_counted cs items.items f (made_is p cs at n (Block items) f is made) ∙ sym (ap lets_in (term_is p.arena at n (Block items) (block_t n.place (items_at (meanings p.arena) items.items)) h is refl))
-made_counted p cs at n f h c same made (Dup of) is = none_counted p cs at n (Dup of) (dup_t n.place (place_at (meanings p.arena) of)) f form.Place h is refl (made_is p cs at n (Dup of) f is made) refl refl
-made_counted p cs at n f h c same made (Borrow of) is = none_counted p cs at n (Borrow of) (borrow_t n.place (place_at (meanings p.arena) of)) f form.Place h is refl (made_is p cs at n (Borrow of) f is made) refl refl
-made_counted p cs at n f h c same made (BorrowMut of) is = none_counted p cs at n (BorrowMut of) (borrow_mut_t n.place (place_at (meanings p.arena) of)) f form.Place h is refl (made_is p cs at n (BorrowMut of) f is made) refl refl
-made_counted p cs at n f h c same made (Join task) is = none_counted p cs at n (Join task) (join_t n.place (term_at (meanings p.arena) task)) f form.Place h is refl (made_is p cs at n (Join task) f is made) refl refl
-made_counted p cs at n f h c same made (Mutex v) is = none_counted p cs at n (Mutex v) (mutex_t n.place (term_at (meanings p.arena) v)) f form.Place h is refl (made_is p cs at n (Mutex v) f is made) refl refl
-made_counted p cs at n f h c same made (Arith op left right) is = none_counted p cs at n (Arith op left right) (arith_t n.place op (term_at (meanings p.arena) left) (term_at (meanings p.arena) right)) f form.Place h is refl (made_is p cs at n (Arith op left right) f is made) refl refl
-made_counted p cs at n f h c same made (Spawn captures body) is = none_counted p cs at n (Spawn captures body) (spawn_t n.place (captures_at (meanings p.arena) captures.items) (term_at (meanings p.arena) body)) f form.Place h is refl (made_is p cs at n (Spawn captures body) f is made) refl refl
-made_counted p cs at n f h c same made (Par captures body others other) is = none_counted p cs at n (Par captures body others other) (par_t n.place (captures_at (meanings p.arena) captures.items) (term_at (meanings p.arena) body) (captures_at (meanings p.arena) others.items) (term_at (meanings p.arena) other)) f form.Place h is refl (made_is p cs at n (Par captures body others other) f is made) refl refl
-made_counted p cs at n f h c same made (Lock of name body) is = none_counted p cs at n (Lock of name body) (lock_t n.place (place_at (meanings p.arena) of) (text_of p.arena.names name) (term_at (meanings p.arena) body)) f form.Place h is refl (made_is p cs at n (Lock of name body) f is made) refl refl
-made_counted p cs at n f h c same made (Place name stars) is =
+made_counted p cs at n f h c same made (Dup of) is ok = none_counted p cs at n (Dup of) (dup_t n.place (place_at (meanings p.arena) of)) f form.Place h is refl (made_is p cs at n (Dup of) f is made) refl refl
+made_counted p cs at n f h c same made (Borrow of) is ok = none_counted p cs at n (Borrow of) (borrow_t n.place (place_at (meanings p.arena) of)) f form.Place h is refl (made_is p cs at n (Borrow of) f is made) refl refl
+made_counted p cs at n f h c same made (BorrowMut of) is ok = none_counted p cs at n (BorrowMut of) (borrow_mut_t n.place (place_at (meanings p.arena) of)) f form.Place h is refl (made_is p cs at n (BorrowMut of) f is made) refl refl
+made_counted p cs at n f h c same made (Join task) is ok = none_counted p cs at n (Join task) (join_t n.place (term_at (meanings p.arena) task)) f form.Place h is refl (made_is p cs at n (Join task) f is made) refl refl
+made_counted p cs at n f h c same made (Mutex v) is ok = none_counted p cs at n (Mutex v) (mutex_t n.place (term_at (meanings p.arena) v)) f form.Place h is refl (made_is p cs at n (Mutex v) f is made) refl refl
+made_counted p cs at n f h c same made (Arith op left right) is ok = absurd (subst IsAccepted (term_is p.arena at n (Arith op left right) (arith_t n.place op (term_at (meanings p.arena) left) (term_at (meanings p.arena) right)) h is refl) ok)
+made_counted p cs at n f h c same made (Spawn captures body) is ok = none_counted p cs at n (Spawn captures body) (spawn_t n.place (captures_at (meanings p.arena) captures.items) (term_at (meanings p.arena) body)) f form.Place h is refl (made_is p cs at n (Spawn captures body) f is made) refl refl
+made_counted p cs at n f h c same made (Par captures body others other) is ok = none_counted p cs at n (Par captures body others other) (par_t n.place (captures_at (meanings p.arena) captures.items) (term_at (meanings p.arena) body) (captures_at (meanings p.arena) others.items) (term_at (meanings p.arena) other)) f form.Place h is refl (made_is p cs at n (Par captures body others other) f is made) refl refl
+made_counted p cs at n f h c same made (Lock of name body) is ok = none_counted p cs at n (Lock of name body) (lock_t n.place (place_at (meanings p.arena) of) (text_of p.arena.names name) (term_at (meanings p.arena) body)) f form.Place h is refl (made_is p cs at n (Lock of name body) f is made) refl refl
+made_counted p cs at n f h c same made (Place name stars) is ok =
     ap (count_of cs) (made_is p cs at n (Place name stars) f is made) ∙ sym (ap (λ w. lets_in (as_term w)) (h.what ∙ ap (stands_for p.arena.names (meanings p.arena) n.place) is))
-made_counted p cs at n f h c same made (Capture name) is =
+made_counted p cs at n f h c same made (Capture name) is ok =
     ap (count_of cs) (made_is p cs at n (Capture name) f is made) ∙ sym (ap (λ w. lets_in (as_term w)) (h.what ∙ ap (stands_for p.arena.names (meanings p.arena) n.place) is))
 
-counts_pushed : (p : Program) (cs : List ℕ) (c : ℕ) → AreCounts p cs → c ≡ lets_in (term_at (meanings p.arena) (length cs)) → AreCounts p (cs ++ c ∷ [])
-counts_pushed p cs c h is = λ i lt.
+counts_pushed : (p : Program) (cs : List ℕ) (c : ℕ) → AreCounts p cs → (IsAccepted (term_at (meanings p.arena) (length cs)) → c ≡ lets_in (term_at (meanings p.arena) (length cs))) → AreCounts p (cs ++ c ∷ [])
+counts_pushed p cs c h is = λ i lt ok.
     eq_cases (λ b. count_at (cs ++ c ∷ []) i ≡ lets_in (term_at (meanings p.arena) i)) i (length cs)
-    (λ same. ap (count_at (cs ++ c ∷ [])) same ∙ count_pushed cs c ∙ is ∙ ap (λ k. lets_in (term_at (meanings p.arena) k)) (sym same))
-    (λ ne. let here : i < length cs = omega (arith, lt, ne, length-append cs (c ∷ [])) in count_kept cs c i here ∙ h i here)
+    (λ same. ap (count_at (cs ++ c ∷ [])) same ∙ count_pushed cs c ∙ is (subst (λ k. IsAccepted (term_at (meanings p.arena) k)) same ok) ∙ ap (λ k. lets_in (term_at (meanings p.arena) k)) (sym same))
+    (λ ne. let here : i < length cs = omega (arith, lt, ne, length-append cs (c ∷ [])) in count_kept cs c i here ∙ h i here ok)
 
 -- BUILT
 
@@ -165,7 +170,7 @@ pub built_push : (p : Program) (fs : List Form) (cs : List ℕ) (n : Node) (f : 
 built_push p fs cs n f c arena h b made below count =
     let at = length fs in
     let run : IsRun p at (forms.term_of (fs ++ f ∷ []) at) = subst (IsRun p at) (sym (term_pushed fs f)) (made_runs p at cs (forms.term_of fs) n f arena h b.counted b.same b.runs made) in
-    let counted = made_counted p cs at n f h b.counted b.same made n.term refl in
+    let counted = λ (ok : IsAccepted (term_at (meanings p.arena) at)). made_counted p cs at n f h b.counted b.same made n.term refl ok in
     record {
       order = order_pushed fs f b.order below;
       runs = λ i lt.
@@ -173,7 +178,7 @@ built_push p fs cs n f c arena h b made below count =
           (λ same. subst (λ k. IsRun p k (forms.term_of (fs ++ f ∷ []) k)) (sym same) run)
           (λ ne. let here : i < at = omega (arith, lt, ne, length-append fs (f ∷ [])) in subst (IsRun p i) (term_kept fs f i here) (b.runs i here));
       same = omega (arith, b.same, length-append fs (f ∷ []), length-append cs (c ∷ []));
-      counted = counts_pushed p cs c b.counted (count ∙ counted ∙ ap (λ k. lets_in (term_at (meanings p.arena) k)) (sym b.same));
+      counted = counts_pushed p cs c b.counted (λ ok. count ∙ counted (subst (λ k. IsAccepted (term_at (meanings p.arena) k)) b.same ok) ∙ ap (λ k. lets_in (term_at (meanings p.arena) k)) (sym b.same));
       few = few_pushed cs c b.few (omega (arith, count, b.same, count_few cs at f b.few below));
     }
 
@@ -197,7 +202,7 @@ root_typed p h = record {
   };
   kind = h.typed.kind;
   after = h.typed.after;
-  typed = (exactly_one_lem.types (term_of p.arena) [] h.typed.kind h.typed.after h.checkable.accepted).0 h.typed.types;
+  typed = (exactly_one_lem.types (term_of p.arena) [] h.typed.kind h.typed.after).0 h.typed.types;
   used = h.used;
 }
 
@@ -227,7 +232,7 @@ mutual
   depth_few (borrow_mut_t at w) e = omega arith
   depth_few (number_t at n) e = omega arith
   depth_few (unit_t at) e = omega arith
-  depth_few (arith_t at op l r) e = omega arith
+  depth_few (arith_t at op l r) e = omega (arith, depth_few l e, depth_few r (env_after l e))
   depth_few (join_t at t) e = omega arith
   depth_few (mutex_t at t) e = omega arith
   depth_few (dup_t at w) e = omega arith
@@ -249,24 +254,24 @@ root_depth fs t h e = omega (arith, ap depth e, program_depth t h)
 -- TYPED
 
 -- a checked program starts typed
-starts : (t : terms.Term) → IsBlock t → IsTyped [] t → IsTypedState (start (program t))
-starts (block_t at ts) b h = starts_typed_lem at ts h.kind h.after h.types
-starts (let_t at x t) b h = absurd b
-starts (assign_t at w t) b h = absurd b
-starts (read_t at w) b h = absurd b
-starts (borrow_t at w) b h = absurd b
-starts (borrow_mut_t at w) b h = absurd b
-starts (number_t at n) b h = absurd b
-starts (unit_t at) b h = absurd b
-starts (box_t at t) b h = absurd b
-starts (print_t at t) b h = absurd b
-starts (arith_t at op l r) b h = absurd b
-starts (join_t at t) b h = absurd b
-starts (mutex_t at t) b h = absurd b
-starts (dup_t at w) b h = absurd b
-starts (lock_t at w x t) b h = absurd b
-starts (spawn_t at cs t) b h = absurd b
-starts (par_t at cs t ds u) b h = absurd b
+starts : (t : terms.Term) → IsBlock t → IsAccepted t → IsTyped [] t → IsTypedState (start (program t))
+starts (block_t at ts) b ok h = starts_typed_lem at ts h.kind h.after (accepted_items ts ok) h.types
+starts (let_t at x t) b ok h = absurd b
+starts (assign_t at w t) b ok h = absurd b
+starts (read_t at w) b ok h = absurd b
+starts (borrow_t at w) b ok h = absurd b
+starts (borrow_mut_t at w) b ok h = absurd b
+starts (number_t at n) b ok h = absurd b
+starts (unit_t at) b ok h = absurd b
+starts (box_t at t) b ok h = absurd b
+starts (print_t at t) b ok h = absurd b
+starts (arith_t at op l r) b ok h = absurd b
+starts (join_t at t) b ok h = absurd b
+starts (mutex_t at t) b ok h = absurd b
+starts (dup_t at w) b ok h = absurd b
+starts (lock_t at w x t) b ok h = absurd b
+starts (spawn_t at cs t) b ok h = absurd b
+starts (par_t at cs t ds u) b ok h = absurd b
 
-pub root_starts : (fs : List Form) (t : terms.Term) → IsBlock t → IsTyped [] t → pool.root_of fs ≡ program t → IsTypedState (start (pool.root_of fs))
-root_starts fs t b h e = subst (λ (r : Run). IsTypedState (start r)) (sym e) (starts t b h)
+pub root_starts : (fs : List Form) (t : terms.Term) → IsBlock t → IsAccepted t → IsTyped [] t → pool.root_of fs ≡ program t → IsTypedState (start (pool.root_of fs))
+root_starts fs t b ok h e = subst (λ (r : Run). IsTypedState (start r)) (sym e) (starts t b ok h)

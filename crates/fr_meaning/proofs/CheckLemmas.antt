@@ -5,7 +5,8 @@ use Rattle.fr_terms.specs.Terms.{block_t, let_t, assign_t, read_t, box_t, print_
 use Rattle.fr_terms.specs.Limits.{IsAccepted}
 use Rattle.fr_typing.specs.Kinds.{Kind}
 use Rattle.fr_typing.specs.Places.{Env}
-use Rattle.fr_typing.specs.Typing.{typed, typing}
+use Rattle.fr_typing.specs.Finding.{typed}
+use Rattle.fr_typing.specs.Typing.{typing}
 use Rattle.fr_syntax.specs.declared.tree.Term.TheVariants.{Block, Let, Assign, Read, Box, Print}
 use Rattle.fr_syntax.specs.declared.tree.Node.{Node}
 use Rattle.fr_syntax.specs.Arena.{Arena, text_of}

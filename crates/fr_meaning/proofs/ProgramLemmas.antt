@@ -2,10 +2,10 @@
 use Rattle.std.proofs.Common.{◌≡◌, ℕ, List, [], length, sym, ap, ◌∙◌, subst}
 use Rattle.std.specs.Prelude.{Err}
 use Rattle.fr_terms.specs.Terms as terms
-use Rattle.fr_terms.specs.Limits.{IsAccepted}
 use Rattle.fr_typing.specs.Kinds.{Kind}
 use Rattle.fr_typing.specs.Places.{Env}
-use Rattle.fr_typing.specs.Typing.{typed, typing}
+use Rattle.fr_typing.specs.Finding.{typed}
+use Rattle.fr_typing.specs.Typing.{typing}
 use Rattle.fr_typing.specs.Laws.{IsTyped}
 use Rattle.fr_typing.proofs.Agree.{exactly_one_lem}
 use Rattle.fr_syntax.specs.Arena.{Arena}
@@ -22,25 +22,25 @@ use Rattle.fr_meaning.specs.Programs.{IsCheckable, IsChecked, IsFault}
 use Rattle.fr_meaning.proofs.UsageLemmas.{used_of_written, written_long}
 
 -- a typed term has a type by the rules
-pub typed_by : (t : terms.Term) (k : Kind) (after : Env) → IsAccepted t → typing t [] ≡ typed k after → IsTyped [] t
-typed_by t k after accepted h = record {
+pub typed_by : (t : terms.Term) (k : Kind) (after : Env) → typing t [] ≡ typed k after → IsTyped [] t
+typed_by t k after h = record {
   kind = k;
   after = after;
-  types = (exactly_one_lem.types t [] k after accepted).1 h;
+  types = (exactly_one_lem.types t [] k after).1 h;
 }
 
 -- an error at the root is the tree's first fault
-pub fault_at_root : (a : Arena) (at : ℕ) (vs : List Variable) (e : CheckError) (after : Env) → IsAccepted (term_of a) → at ≡ root_of a → vs ≡ [] → Gives (Err e) (typing (term_at (meanings a) at) (env_of a.names vs)) after → IsFault e (term_of a)
-fault_at_root a at vs NoMemory after accepted root none h = tt
-fault_at_root a at vs (Fault p r) after accepted root none h =
+pub fault_at_root : (a : Arena) (at : ℕ) (vs : List Variable) (e : CheckError) (after : Env) → at ≡ root_of a → vs ≡ [] → Gives (Err e) (typing (term_at (meanings a) at) (env_of a.names vs)) after → IsFault e (term_of a)
+fault_at_root a at vs NoMemory after root none h = tt
+fault_at_root a at vs (Fault p r) after root none h =
     let start : typing (term_of a) [] ≡ typing (term_at (meanings a) at) (env_of a.names vs) =
     ap (λ n. typing (term_at (meanings a) n) []) (sym root) ∙ ap (λ l. typing (term_at (meanings a) at) (env_of a.names l)) (sym none) in
-    (exactly_one_lem.faults (term_of a) [] p r accepted).1 (start ∙ h)
+    (exactly_one_lem.faults (term_of a) [] p r).1 (start ∙ h)
 
 -- a type at the root is the tree's
-pub typed_at_root : (a : Arena) (at : ℕ) (vs : List Variable) (k : Kind) (after : Env) → IsAccepted (term_of a) → at ≡ root_of a → vs ≡ [] → typing (term_at (meanings a) at) (env_of a.names vs) ≡ typed k after → IsTyped [] (term_of a)
-typed_at_root a at vs k after accepted root none h =
-    typed_by (term_of a) k after accepted
+pub typed_at_root : (a : Arena) (at : ℕ) (vs : List Variable) (k : Kind) (after : Env) → at ≡ root_of a → vs ≡ [] → typing (term_at (meanings a) at) (env_of a.names vs) ≡ typed k after → IsTyped [] (term_of a)
+typed_at_root a at vs k after root none h =
+    typed_by (term_of a) k after
     (ap (λ n. typing (term_at (meanings a) n) []) (sym root) ∙ ap (λ l. typing (term_at (meanings a) at) (env_of a.names l)) (sym none) ∙ h)
 
 -- and the program is checked
@@ -54,7 +54,7 @@ checked_at_root a at vs k after old new arena checkable root none types wrote lo
     record {
       arena = arena;
       checkable = checkable;
-      typed = typed_at_root a at vs k after checkable.accepted root none types;
+      typed = typed_at_root a at vs k after root none types;
       used = subst (λ l. AreUsed l nodes usages) (sym here.same) (used_of_written old nodes usages checkable.tree.own here.each here.within);
       long = written_long old new nodes usages here ∙ long;
     }

@@ -5,13 +5,15 @@ use Rattle.std.proofs.lemmas.List.{append-nil}
 use Rattle.fr_base.specs.declared.place.Lval.{Lval}
 use Rattle.fr_terms.specs.Terms.{Text, Spot, block_t, let_t, assign_t, read_t, borrow_t, borrow_mut_t, number_t, unit_t, box_t, print_t, arith_t, join_t, mutex_t, dup_t, lock_t, spawn_t, par_t, Items, none, item, start_of}
 use Rattle.fr_terms.specs.Terms as terms
-use Rattle.fr_terms.specs.Limits.{IsAccepted}
+use Rattle.fr_terms.specs.Limits.{IsAccepted, AreAccepted}
 use Rattle.fr_typing.specs.Kinds.{Kind, copies, whole, gone, boxed, own, unit}
 use Rattle.fr_typing.specs.Places.{Env, Found, found, undefined, no_target, type_at, slot_of, read_blocked, write_blocked, is_own_path, put_at}
 use Rattle.fr_typing.specs.Checks.{place_of}
 use Rattle.fr_typing.specs.declared.reason.Reason.{Reason}
 use Rattle.fr_typing.specs.declared.reason.Reason.TheVariants.{ReadBlocked, WriteBlocked, MovedThrough}
-use Rattle.fr_typing.specs.Typing.{Outcome, typed, fault, unless, then_typed, with_slot, with_part, with_whole, read_rule, typing, typing_items, box_rule, print_rule, let_rule, assign_rule, end_rule}
+use Rattle.fr_typing.specs.Finding.{Outcome, typed, fault, unless, then_typed, with_slot, with_part, with_whole}
+use Rattle.fr_typing.specs.Rules.{read_rule, box_rule, print_rule, let_rule, assign_rule, end_rule}
+use Rattle.fr_typing.specs.Typing.{typing, typing_items}
 use Rattle.fr_syntax.specs.declared.tree.Term.{Term}
 use Rattle.fr_syntax.specs.declared.tree.Term.TheVariants.{Block, Let, Assign, Read, Dup, Borrow, BorrowMut, Number, Unit, Box, Print, Join, Mutex, Arith, Spawn, Par, Lock, Place, Capture}
 use Rattle.fr_syntax.specs.declared.tree.Node.{Node}
@@ -405,35 +407,35 @@ items_run p at look (i ∷ j ∷ is) e arena runs w =
 
 -- HOW MANY VARIABLES
 
-count_items : (p : Program) (counts : List ℕ) (at : ℕ) (ids : List ℕ) → AreCounts p counts → length counts ≡ at → AllBelow at ids → count_all counts ids ≡ lets (items_at (meanings p.arena) ids)
-count_items p counts at [] c same below = refl
-count_items p counts at (i ∷ is) c same below =
+count_items : (p : Program) (counts : List ℕ) (at : ℕ) (ids : List ℕ) → AreCounts p counts → length counts ≡ at → AllBelow at ids → AreAccepted (items_at (meanings p.arena) ids) → count_all counts ids ≡ lets (items_at (meanings p.arena) ids)
+count_items p counts at [] c same below ok = refl
+count_items p counts at (i ∷ is) c same below ok =
     let lt : i < at = below.0 in
-    omega (arith, c i (omega (arith, lt, same)), count_items p counts at is c same below.1)
+    omega (arith, c i (omega (arith, lt, same)) ok.0, count_items p counts at is c same below.1 ok.1)
 
 mutual
-  lets_few : (t : terms.Term) (e : Env) → lets_in t ≤ length (usages_of t e)
-  lets_few (let_t at x t) e = omega (arith, lets_few t e, length-append (usages_of t e) (None ∷ []))
-  lets_few (assign_t at w t) e = omega (arith, lets_few t e, length-append (usages_of t e) (None ∷ []))
-  lets_few (box_t at t) e = omega (arith, lets_few t e, length-append (usages_of t e) (None ∷ []))
-  lets_few (print_t at t) e = omega (arith, lets_few t e, length-append (usages_of t e) (None ∷ []))
-  lets_few (block_t at ts) e = omega arith
-  lets_few (read_t at w) e = omega arith
-  lets_few (borrow_t at w) e = omega arith
-  lets_few (borrow_mut_t at w) e = omega arith
-  lets_few (number_t at n) e = omega arith
-  lets_few (unit_t at) e = omega arith
-  lets_few (arith_t at op l r) e = omega arith
-  lets_few (join_t at t) e = omega arith
-  lets_few (mutex_t at t) e = omega arith
-  lets_few (dup_t at w) e = omega arith
-  lets_few (lock_t at w x t) e = omega arith
-  lets_few (spawn_t at cs t) e = omega arith
-  lets_few (par_t at cs t ds u) e = omega arith
+  lets_few : (t : terms.Term) (e : Env) → IsAccepted t → lets_in t ≤ length (usages_of t e)
+  lets_few (let_t at x t) e ok = omega (arith, lets_few t e ok, length-append (usages_of t e) (None ∷ []))
+  lets_few (assign_t at w t) e ok = omega (arith, lets_few t e ok, length-append (usages_of t e) (None ∷ []))
+  lets_few (box_t at t) e ok = omega (arith, lets_few t e ok, length-append (usages_of t e) (None ∷ []))
+  lets_few (print_t at t) e ok = omega (arith, lets_few t e ok, length-append (usages_of t e) (None ∷ []))
+  lets_few (block_t at ts) e ok = omega arith
+  lets_few (read_t at w) e ok = omega arith
+  lets_few (borrow_t at w) e ok = omega arith
+  lets_few (borrow_mut_t at w) e ok = omega arith
+  lets_few (number_t at n) e ok = omega arith
+  lets_few (unit_t at) e ok = omega arith
+  lets_few (arith_t at op l r) e ok = absurd ok
+  lets_few (join_t at t) e ok = omega arith
+  lets_few (mutex_t at t) e ok = omega arith
+  lets_few (dup_t at w) e ok = omega arith
+  lets_few (lock_t at w x t) e ok = omega arith
+  lets_few (spawn_t at cs t) e ok = omega arith
+  lets_few (par_t at cs t ds u) e ok = omega arith
 
-  items_few : (ts : Items) (e : Env) → lets ts ≤ length (usages_in ts e)
-  items_few none e = omega arith
-  items_few (item t ts) e = omega (arith, lets_few t e, items_few ts (env_after (typing t e)), length-append (usages_of t e) (usages_in ts (env_after (typing t e))))
+  items_few : (ts : Items) (e : Env) → AreAccepted ts → lets ts ≤ length (usages_in ts e)
+  items_few none e ok = omega arith
+  items_few (item t ts) e ok = omega (arith, lets_few t e ok.0, items_few ts (env_after (typing t e)) ok.1, length-append (usages_of t e) (usages_in ts (env_after (typing t e))))
 
 -- a block declares fewer variables than a 32-bit number tells
 block_few : (p : Program) (at : ℕ) (items : NodeList) (n : Node) (e : Env) → IsArena p.arena → IsHere p.arena at n → n.term ≡ Block items → IsTypedIn p at e → lets (items_at (meanings p.arena) items.items) < 2 ^ 32
@@ -463,7 +465,7 @@ block_run : (p : Program) (at : ℕ) (counts : List ℕ) (look : ℕ → Run) (i
     IsBlockOf counts items.items f → build look f ≡ block (lets (items_at (meanings p.arena) items.items)) (resolve_items (items_at (meanings p.arena) items.items) e)
 block_run p at counts look items n e (form.Block is k) arena h at_n w c same runs made =
     let s = block_typed p at items n e arena h at_n w in
-    let count = count_items p counts at items.items c same (below_of p.arena at items.items s.ready.parts) in
+    let count = count_items p counts at items.items c same (below_of p.arena at items.items s.ready.parts) s.ready.accepted in
     let few = block_few p at items n e arena h at_n w in
     let total : k ≡ lets (items_at (meanings p.arena) items.items) = made.1 (omega (arith, count, few)) ∙ count in
     ap₂ block total (ap (parts_of look) made.0 ∙ items_run p at look items.items e arena runs s)

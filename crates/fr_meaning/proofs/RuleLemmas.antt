@@ -7,7 +7,9 @@ use Rattle.fr_typing.specs.declared.reason.Reason.TheVariants.{UnknownName, Name
 use Rattle.fr_typing.specs.Kinds.{unit, same_owned, Kind, own, shared, mutable, view, Piece, whole, gone, boxed, copies}
 use Rattle.fr_typing.specs.Places.{Env, found, no_target, Shape, owned_shape, type_at, piece_shape, shape_at, put_at, slot_of}
 use Rattle.fr_typing.specs.Checks.{is_owned, is_kept_out, has_shape_of}
-use Rattle.fr_typing.specs.Typing.{Outcome, typed, fault, unless, with_slot, with_part, with_whole, find, find_whole, read_rule, let_rule, write_rule, assign_rule, end_rule, typing}
+use Rattle.fr_typing.specs.Finding.{Outcome, typed, fault, unless, with_slot, with_part, with_whole, find, find_whole}
+use Rattle.fr_typing.specs.Rules.{read_rule, let_rule, write_rule, assign_rule, end_rule}
+use Rattle.fr_typing.specs.Typing.{typing}
 use Rattle.fr_typing.specs.Owned.{IsOwnedPart, IsOwnedEnv}
 use Rattle.fr_typing.proofs.OwnedLemmas.{IsOwnedFound, stars_owned, is_writable_owned, is_own_path_owned, read_blocked_owned, write_blocked_owned, names_from_owned, set_through_owned}
 use Rattle.fr_syntax.specs.Arena.{text_of}

@@ -2,9 +2,9 @@
 use Rattle.std.proofs.Common.{◌≡◌, ℕ, zero, suc, ◌+◌, ◌≤◌, Option, Some, None, refl, sym, subst, arith}
 use Rattle.std.specs.Prelude.{max, ⊤}
 use Rattle.fr_plain.specs.declared.value.Value.{Value}
-use Rattle.fr_plain.specs.Acts.{do_box, do_let, do_print, do_assign, do_discard}
-use Rattle.fr_plain.specs.Run.{Run, temp, unit_c, number, read, box_r, bind, print, assign, block, Parts, last, more, Now, going, constant, temporary, on_value, by_now, now, now_parts, settle_more, close_last, close, settle, settle_parts, Move, next, alone, block_end, move, move_parts}
-use Rattle.fr_meaning.specs.Contexts.{depth, depth_in, IsOpen, IsHeld, IsSettled}
+use Rattle.fr_plain.specs.Acts.{do_box, do_arith, do_let, do_print, do_assign, do_discard}
+use Rattle.fr_plain.specs.Run.{Run, temp, unit_c, number, read, borrow, box_r, arith as arith_r, bind, print, assign, block, Parts, last, more, Now, going, constant, temporary, on_value, by_now, now, now_parts, settle_more, settle_right, close_last, close, settle, settle_parts, Move, next, alone, block_end, move, move_parts}
+use Rattle.fr_meaning.specs.Contexts.{depth, depth_in, IsOpen, IsHeld, RightSettled, IsSettled}
 
 -- WHAT IS SETTLED
 
@@ -25,6 +25,12 @@ more_settled going k r is rest e a b = close_more_settled k r is a (subst IsHeld
 more_settled (constant v) k r is rest e a b = b
 more_settled (temporary v) k r is rest e a b = close_more_settled k r is a (subst IsHeld (sym e) tt)
 
+-- a right operand
+right_settled : (n : Now) (b rest : Run) → IsSettled rest → RightSettled n (IsSettled (settle_right n b rest))
+right_settled going b rest h = tt
+right_settled (constant v) b rest h = h
+right_settled (temporary v) b rest h = h
+
 mutual
   -- settling leaves a settled term
   pub settle_settled : (r : Run) → IsSettled (settle r)
@@ -32,7 +38,9 @@ mutual
   settle_settled unit_c = tt
   settle_settled (number n) = tt
   settle_settled (read w take) = tt
+  settle_settled (borrow w) = tt
   settle_settled (box_r r) = settle_settled r
+  settle_settled (arith_r f a b) = (settle_settled a, right_settled (now (settle a)) b (settle b) (settle_settled b))
   settle_settled (bind r) = settle_settled r
   settle_settled (print r) = settle_settled r
   settle_settled (assign w r) = settle_settled r
@@ -63,6 +71,12 @@ more_depth going k r is rest m a b = omega (arith, a, close_depth k r is)
 more_depth (constant v) k r is rest m a b = b
 more_depth (temporary v) k r is rest m a b = omega (arith, a, close_depth k r is)
 
+-- nor does a right operand
+right_depth : (n : Now) (b rest : Run) → depth rest ≤ depth b → depth (settle_right n b rest) ≤ depth b
+right_depth going b rest h = omega arith
+right_depth (constant v) b rest h = h
+right_depth (temporary v) b rest h = h
+
 mutual
   -- settling makes no term deeper
   pub depth_settle : (r : Run) → depth (settle r) ≤ depth r
@@ -70,7 +84,9 @@ mutual
   depth_settle unit_c = omega arith
   depth_settle (number n) = omega arith
   depth_settle (read w take) = omega arith
+  depth_settle (borrow w) = omega arith
   depth_settle (box_r r) = omega (arith, depth_settle r)
+  depth_settle (arith_r f a b) = omega (arith, depth_settle a, right_depth (now (settle a)) b (settle b) (depth_settle b))
   depth_settle (bind r) = omega (arith, depth_settle r)
   depth_settle (print r) = omega (arith, depth_settle r)
   depth_settle (assign w r) = omega (arith, depth_settle r)
@@ -122,7 +138,12 @@ mutual
   move_depth unit_c = tt
   move_depth (number n) = tt
   move_depth (read w take) = λ v. omega arith
+  move_depth (borrow w) = λ v. omega arith
   move_depth (box_r r) = on_value_within depth (now r) (λ v. alone temp (do_box v)) (next box_r (move r)) (depth r + 1) (λ v x. omega arith) (next_within depth depth box_r (move r) (depth r) (depth r + 1) (λ q h. omega arith) (move_depth r))
+  move_depth (arith_r f a b) =
+      on_value_within depth (now a) (λ v. on_value (now b) (λ w. alone temp (do_arith f v w)) (next (arith_r f a) (move b))) (next (λ x. arith_r f x b) (move a)) (max (depth a) (depth b) + 1)
+      (λ v. on_value_within depth (now b) (λ w. alone temp (do_arith f v w)) (next (arith_r f a) (move b)) (max (depth a) (depth b) + 1) (λ w x. omega arith) (next_within depth depth (arith_r f a) (move b) (depth b) (max (depth a) (depth b) + 1) (λ q h. omega arith) (move_depth b)))
+      (next_within depth depth (λ x. arith_r f x b) (move a) (depth a) (max (depth a) (depth b) + 1) (λ q h. omega arith) (move_depth a))
   move_depth (bind r) = on_value_within depth (now r) (λ v. alone (λ x. unit_c) (do_let v)) (next bind (move r)) (depth r + 1) (λ v x. omega arith) (next_within depth depth bind (move r) (depth r) (depth r + 1) (λ q h. omega arith) (move_depth r))
   move_depth (print r) = on_value_within depth (now r) (λ v. alone (λ x. unit_c) (do_print v)) (next print (move r)) (depth r + 1) (λ v x. omega arith) (next_within depth depth print (move r) (depth r) (depth r + 1) (λ q h. omega arith) (move_depth r))
   move_depth (assign w r) = on_value_within depth (now r) (λ v. alone (λ x. unit_c) (do_assign w v)) (next (assign w) (move r)) (depth r + 1) (λ v x. omega arith) (next_within depth depth (assign w) (move r) (depth r) (depth r + 1) (λ q h. omega arith) (move_depth r))

@@ -1,9 +1,10 @@
 -- A step is one of those that are left, and what needs no step is none.
 use Rattle.std.proofs.Common.{◌≡◌, ℕ, zero, suc, ◌+◌, Bool, true, false, Option, Some, None, refl, sym, ap, ◌∙◌, subst, arith}
 use Rattle.std.specs.Prelude.{⊤}
+use Rattle.fr_base.specs.declared.place.Op.{Op}
 use Rattle.fr_plain.specs.declared.value.Value.{Value}
-use Rattle.fr_plain.specs.Acts.{do_end, do_box, do_let, do_print, do_assign, do_discard}
-use Rattle.fr_plain.specs.Run.{Run, temp, unit_c, number, read, box_r, bind, print, assign, block, Parts, last, more, Now, going, constant, temporary, by_now, on_value, after, at_end, now, now_parts, settle_more, close_last, close, settle, settle_parts, Move, next, alone, block_end, move, move_parts, Life, alive, over, settle_life, life_move, one_if_temporary, leaves, leaves_last, steps_left, steps_in, life_left}
+use Rattle.fr_plain.specs.Acts.{do_end, do_box, do_arith, do_let, do_print, do_assign, do_discard}
+use Rattle.fr_plain.specs.Run.{Run, temp, unit_c, number, read, borrow, box_r, arith as arith_r, bind, print, assign, block, Parts, last, more, Now, going, constant, temporary, by_now, on_value, after, at_end, now, now_parts, settle_more, settle_right, close_last, close, settle, settle_parts, Move, next, alone, block_end, move, move_parts, Life, alive, over, settle_life, life_move, one_if_temporary, leaves, leaves_last, steps_left, steps_in, life_left}
 
 -- a done term has no step left, and leaves a temporary value where it is one
 abbrev Done : Now → ℕ → Bool → Type 0
@@ -32,7 +33,9 @@ mutual
   done_left unit_c = (refl, refl)
   done_left (number n) = (refl, refl)
   done_left (read w take) = tt
+  done_left (borrow w) = tt
   done_left (box_r r) = tt
+  done_left (arith_r f a b) = tt
   done_left (bind r) = tt
   done_left (print r) = tt
   done_left (assign w r) = tt
@@ -67,6 +70,12 @@ more_same going k r is rest m b d h g = close_more_same k r is m b h
 more_same (constant v) k r is rest m b d h g = (omega (arith, g.0, h.0, d.0, ap one_if_temporary (sym h.1 ∙ d.1)), g.1)
 more_same (temporary v) k r is rest m b d h g = close_more_same k r is m b h
 
+-- settling a right operand
+right_left : (n : Now) (b rest : Run) → steps_left rest ≡ steps_left b → steps_left (settle_right n b rest) ≡ steps_left b
+right_left going b rest h = refl
+right_left (constant v) b rest h = h
+right_left (temporary v) b rest h = h
+
 mutual
   -- settling is no step
   pub settle_left : (r : Run) → Same (settle r) (steps_left r) (leaves r)
@@ -74,7 +83,9 @@ mutual
   settle_left unit_c = (refl, refl)
   settle_left (number n) = (refl, refl)
   settle_left (read w take) = (refl, refl)
+  settle_left (borrow w) = (refl, refl)
   settle_left (box_r r) = (ap (λ n. n + 1) (settle_left r).0, refl)
+  settle_left (arith_r f a b) = (omega (arith, (settle_left a).0, right_left (now (settle a)) b (settle b) (settle_left b).0), refl)
   settle_left (bind r) = (ap (λ n. n + 1) (settle_left r).0, refl)
   settle_left (print r) = (ap (λ n. n + 1) (settle_left r).0, refl)
   settle_left (assign w r) = (ap (λ n. n + 1) (settle_left r).0, refl)
@@ -129,6 +140,21 @@ more_falls (constant v) r is d h g =
     subst (λ n. Falls steps_in leaves_last n (leaves_last is) (move_parts is)) e g
 more_falls (temporary v) r is d h g = λ x. (omega (arith, d.0, ap one_if_temporary d.1), refl)
 
+-- of an operation whose left operand has no step left
+right_falls : (f : Op) (a b : Run) (v : Value) → steps_left a ≡ 0 → Falls steps_left leaves (steps_left b) (leaves b) (move b)
+    → Falls steps_left leaves (steps_left a + steps_left b + 1) true (on_value (now b) (λ w. alone temp (do_arith f v w)) (next (arith_r f a) (move b)))
+right_falls f a b v none g =
+    let same : steps_left b + 1 ≡ steps_left a + steps_left b + 1 = omega (arith, none) in
+    subst (λ n. Falls steps_left leaves n true (on_value (now b) (λ w. alone temp (do_arith f v w)) (next (arith_r f a) (move b)))) same
+    (one_falls (now b) b (arith_r f a) (λ w. alone temp (do_arith f v w)) true (done_left b) (λ w x. (refl, refl)) (λ q. omega (arith, none)) (λ q. refl) g)
+
+-- of an operation, by whether its left operand is done
+arith_falls : (n : Now) (f : Op) (a b : Run) → now a ≡ n → Done n (steps_left a) (leaves a) → Falls steps_left leaves (steps_left a) (leaves a) (move a) → Falls steps_left leaves (steps_left b) (leaves b) (move b)
+    → Falls steps_left leaves (steps_left a + steps_left b + 1) true (on_value n (λ v. on_value (now b) (λ w. alone temp (do_arith f v w)) (next (arith_r f a) (move b))) (next (λ x. arith_r f x b) (move a)))
+arith_falls going f a b e d h g = next_falls steps_left leaves steps_left leaves (λ x. arith_r f x b) (move a) (steps_left a) (steps_left a + steps_left b + 1) (leaves a) true (λ q k l. (omega (arith, k), refl)) h
+arith_falls (constant v) f a b e d h g = right_falls f a b v d.0 g
+arith_falls (temporary v) f a b e d h g = right_falls f a b v d.0 g
+
 mutual
   -- a move of a term is a step of it
   move_falls : (r : Run) → Falls steps_left leaves (steps_left r) (leaves r) (move r)
@@ -136,7 +162,9 @@ mutual
   move_falls unit_c = tt
   move_falls (number n) = tt
   move_falls (read w take) = λ v. (refl, refl)
+  move_falls (borrow w) = λ v. (refl, refl)
   move_falls (box_r r) = one_falls (now r) r box_r (λ v. alone temp (do_box v)) true (done_left r) (λ v x. (refl, refl)) (λ q. refl) (λ q. refl) (move_falls r)
+  move_falls (arith_r f a b) = arith_falls (now a) f a b refl (done_left a) (move_falls a) (move_falls b)
   move_falls (bind r) = one_falls (now r) r bind (λ v. alone (λ x. unit_c) (do_let v)) false (done_left r) (λ v x. (refl, refl)) (λ q. refl) (λ q. refl) (move_falls r)
   move_falls (print r) = one_falls (now r) r print (λ v. alone (λ x. unit_c) (do_print v)) false (done_left r) (λ v x. (refl, refl)) (λ q. refl) (λ q. refl) (move_falls r)
   move_falls (assign w r) = one_falls (now r) r (assign w) (λ v. alone (λ x. unit_c) (do_assign w v)) false (done_left r) (λ v x. (refl, refl)) (λ q. refl) (λ q. refl) (move_falls r)

@@ -8,7 +8,8 @@ use Rattle.fr_terms.specs.Limits.{IsAccepted, AreAccepted}
 use Rattle.fr_typing.specs.Kinds.{Kind, own, unit}
 use Rattle.fr_typing.specs.Places.{Env}
 use Rattle.fr_typing.specs.Checks.{is_owned}
-use Rattle.fr_typing.specs.Typing.{Outcome, typed, then_typed, typing, typing_items}
+use Rattle.fr_typing.specs.Finding.{Outcome, typed, then_typed}
+use Rattle.fr_typing.specs.Typing.{typing, typing_items}
 use Rattle.fr_syntax.specs.declared.tree.Node.{Node}
 use Rattle.fr_syntax.specs.Arena.{Arena}
 use Rattle.fr_syntax.specs.Meanings.{a_term, term_s, place_s, as_term, meaning_at, term_at, items_at, stands_for, need, all_need, needs, nodes_in, meanings, AreBelow, AreDifferent}

@@ -1,9 +1,9 @@
 -- A running term as the terms around its innermost one, how deep it is, and when it waits for a step.
 use Rattle.std.specs.Prelude.{ℕ, zero, suc, ◌+◌, max, ⊤, List, [], ◌∷◌}
 use Rattle.fr_base.specs.declared.place.Lval.{Lval}
-use Rattle.fr_plain.specs.Run.{Run, temp, unit_c, number, read, box_r, bind, print, assign, block, Parts, last, more, Now, going, constant, temporary, now}
+use Rattle.fr_plain.specs.Run.{Run, temp, unit_c, number, read, borrow, box_r, arith, bind, print, assign, block, Parts, last, more, Now, going, constant, temporary, now}
 
--- a term with a hole in it
+-- a term with a hole in it, of the forms that are accepted so far
 pub data Around : Type 0 where
   in_box : Around
   in_bind : Around
@@ -32,7 +32,9 @@ abbrev mutual
   depth unit_c = 0
   depth (number n) = 0
   depth (read w take) = 0
+  depth (borrow w) = 0
   depth (box_r r) = depth r + 1
+  depth (arith f a b) = max (depth a) (depth b) + 1
   depth (bind r) = depth r + 1
   depth (print r) = depth r + 1
   depth (assign w r) = depth r + 1
@@ -55,6 +57,12 @@ IsHeld going = ⊤
 IsHeld (constant v) = ⊥
 IsHeld (temporary v) = ⊤
 
+-- a right operand is entered where the left one is done
+abbrev pub RightSettled : Now → Type 0 → Type 0
+RightSettled going S = ⊤
+RightSettled (constant v) S = S
+RightSettled (temporary v) S = S
+
 abbrev mutual
   -- all that needs no step has vanished, as far as the term was entered
   pub IsSettled : Run → Type 0
@@ -62,7 +70,9 @@ abbrev mutual
   IsSettled unit_c = ⊤
   IsSettled (number n) = ⊤
   IsSettled (read w take) = ⊤
+  IsSettled (borrow w) = ⊤
   IsSettled (box_r r) = IsSettled r
+  IsSettled (arith f a b) = IsSettled a × RightSettled (now a) (IsSettled b)
   IsSettled (bind r) = IsSettled r
   IsSettled (print r) = IsSettled r
   IsSettled (assign w r) = IsSettled r

@@ -3,7 +3,7 @@ use Rattle.std.specs.Prelude.{◌≡◌, ℕ, Bool, false, not, ◌-◌, ◌==�
 use Rattle.fr_typing.specs.Kinds.{Owned, unit, int, box, mutex, task, Kind, own, shared, mutable, view, Piece, whole, gone, boxed, box_of, same_owned}
 use Rattle.fr_typing.specs.Places.{Env, Found, found, undefined, no_target}
 use Rattle.fr_typing.specs.Checks.{is_full}
-use Rattle.fr_typing.specs.Typing.{Outcome, typed, fault, with_part, with_whole}
+use Rattle.fr_typing.specs.Finding.{Outcome, typed, fault, with_part, with_whole}
 use Rattle.fr_meaning.specs.declared.check_error.CheckError.{CheckError}
 use Rattle.fr_meaning.specs.declared.check_error.CheckError.TheVariants.{Fault, NoMemory}
 use Rattle.fr_meaning.specs.declared.types.Ty.{Ty}

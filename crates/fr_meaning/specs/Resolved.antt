@@ -1,8 +1,10 @@
 -- When running terms are those of a checked program's nodes (this project's rule).
 use Rattle.std.specs.Prelude.{◌≡◌, ℕ, ◌<◌, List, length}
+use Rattle.fr_terms.specs.Limits.{IsAccepted}
 use Rattle.fr_typing.specs.Kinds.{Kind}
 use Rattle.fr_typing.specs.Places.{Env}
-use Rattle.fr_typing.specs.Typing.{typed, typing}
+use Rattle.fr_typing.specs.Finding.{typed}
+use Rattle.fr_typing.specs.Typing.{typing}
 use Rattle.fr_syntax.specs.Meanings.{meanings, meaning_at, term_at}
 use Rattle.fr_plain.specs.Run.{Run}
 use Rattle.fr_plain.specs.Resolve.{resolve, lets_in}
@@ -29,9 +31,9 @@ IsRun p at r = (e : Env) → IsTypedIn p at e → r ≡ resolve (term_at (meanin
 abbrev pub AreRuns : Program → ℕ → (ℕ → Run) → Type 0
 AreRuns p bound look = (i : ℕ) → i < bound → IsRun p i (look i)
 
--- the number of variables of each node before
+-- the number of variables of each node before, where its forms are accepted
 abbrev pub AreCounts : Program → List ℕ → Type 0
-AreCounts p counts = (i : ℕ) → i < length counts → count_at counts i ≡ lets_in (term_at (meanings p.arena) i)
+AreCounts p counts = (i : ℕ) → i < length counts → IsAccepted (term_at (meanings p.arena) i) → count_at counts i ≡ lets_in (term_at (meanings p.arena) i)
 
 -- the forms of the first nodes, with the number of variables that each one's term declares
 pub record IsBuilt (p : Program) (forms : List Form) (counts : List ℕ) : Type 0 where

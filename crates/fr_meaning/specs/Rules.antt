@@ -3,7 +3,8 @@ use Rattle.std.specs.Prelude.{◌≡◌, ℕ, ◌<◌, ⊤, List, length, Result
 use Rattle.fr_terms.specs.Terms.{Text, Spot, Items}
 use Rattle.fr_typing.specs.Kinds.{Kind, own, unit}
 use Rattle.fr_typing.specs.Places.{Env}
-use Rattle.fr_typing.specs.Typing.{Outcome, typed, fault, typing_items}
+use Rattle.fr_typing.specs.Finding.{Outcome, typed, fault}
+use Rattle.fr_typing.specs.Typing.{typing_items}
 use Rattle.fr_syntax.specs.Arena.{text_of}
 use Rattle.fr_meaning.specs.declared.check_error.CheckError.{CheckError}
 use Rattle.fr_meaning.specs.declared.check_error.CheckError.TheVariants.{Fault, NoMemory}

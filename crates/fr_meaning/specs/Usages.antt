@@ -3,7 +3,8 @@ use Rattle.std.specs.Prelude.{◌≡◌, ℕ, Bool, false, not, ⊤, List, [], �
 use Rattle.fr_terms.specs.Terms.{Spot, Term, block_t, let_t, assign_t, read_t, box_t, print_t, Items, none, item}
 use Rattle.fr_typing.specs.Kinds.{copies}
 use Rattle.fr_typing.specs.Places.{Env, slot_of}
-use Rattle.fr_typing.specs.Typing.{Outcome, typed, fault, typing}
+use Rattle.fr_typing.specs.Finding.{Outcome, typed, fault}
+use Rattle.fr_typing.specs.Typing.{typing}
 use Rattle.fr_syntax.specs.Meanings.{AllBelow}
 use Rattle.fr_meaning.specs.declared.usage.Usage.{Usage}
 

@@ -3,7 +3,7 @@
 ghost use Rattle.std.specs.Prelude.{◌≡◌, ℕ, ◌<◌, true, nat_le, IfOk};
 ghost use Rattle.fr_typing.specs.Kinds.{own, same_owned, box_of};
 ghost use Rattle.fr_typing.specs.Checks.{is_owned, owned_levels};
-ghost use Rattle.fr_typing.specs.Typing.{box_rule};
+ghost use Rattle.fr_typing.specs.Rules.{box_rule};
 ghost use Rattle.fr_typing.specs.Owned.{IsOwnedPart};
 ghost use Rattle.fr_meaning.specs.OwnedTypes.{owned_of};
 ghost use Rattle.fr_meaning.specs.Types.{kind_of, piece_of};

@@ -4,7 +4,9 @@ ghost use Rattle.std.specs.Prelude.{◌≡◌, ℕ, List, ◌-◌, ◌<◌, ◌�
 ghost use Rattle.fr_terms.specs.Terms.{Text, read_t};
 ghost use Rattle.fr_typing.specs.Kinds.{own, unit, copies};
 ghost use Rattle.fr_typing.specs.Checks.{is_owned};
-ghost use Rattle.fr_typing.specs.Typing.{typing, typed, let_rule, print_rule, end_rule, assign_rule};
+ghost use Rattle.fr_typing.specs.Finding.{typed};
+ghost use Rattle.fr_typing.specs.Rules.{let_rule, print_rule, end_rule, assign_rule};
+ghost use Rattle.fr_typing.specs.Typing.{typing};
 ghost use Rattle.fr_syntax.specs.Arena.{text_of};
 ghost use Rattle.fr_syntax.specs.Meanings.{meanings, meaning_at, place_at, sort_of, place_s};
 ghost use Rattle.fr_meaning.specs.Types.{kind_of};

@@ -4,3 +4,4 @@ pub mod Acts
 pub mod Run
 pub mod Whole
 pub mod Resolve
+pub mod Examples

@@ -2,12 +2,13 @@
 -- all as the typing has them (this project's rule).
 use Rattle.std.specs.Prelude.{ℕ, suc, ◌+◌, Bool, false, not, [], Option, Some, None}
 use Rattle.fr_base.specs.declared.place.Lval.{Lval}
-use Rattle.fr_terms.specs.Terms.{Spot, Term, block_t, let_t, assign_t, read_t, number_t, unit_t, box_t, print_t, Items, none, item}
+use Rattle.fr_terms.specs.Terms.{Spot, Term, block_t, let_t, assign_t, read_t, borrow_t, borrow_mut_t, number_t, unit_t, box_t, print_t, arith_t, Items, none, item}
 use Rattle.fr_typing.specs.Kinds.{whole, copies}
 use Rattle.fr_typing.specs.Places.{Env, Found, found, type_at, slot_of}
 use Rattle.fr_typing.specs.Checks.{place_of}
-use Rattle.fr_typing.specs.Typing.{Outcome, typed, fault, typing}
-use Rattle.fr_plain.specs.Run.{Run, unit_c, number, read, box_r, bind, print, assign, block, Parts, last, more}
+use Rattle.fr_typing.specs.Finding.{Outcome, typed, fault}
+use Rattle.fr_typing.specs.Typing.{typing}
+use Rattle.fr_plain.specs.Run.{Run, unit_c, number, read, borrow, box_r, arith, bind, print, assign, block, Parts, last, more}
 
 -- the environment that a typed term leaves
 abbrev pub env_of : Outcome → Env
@@ -40,6 +41,7 @@ abbrev mutual
   lets_in (box_t at t) = lets_in t
   lets_in (print_t at t) = lets_in t
   lets_in (assign_t at w t) = lets_in t
+  lets_in (arith_t at op a b) = lets_in a + lets_in b
   lets_in t = 0
 
   pub lets : Items → ℕ
@@ -52,12 +54,15 @@ before none r rest = last r
 before (item t ts) r rest = more r rest
 
 abbrev mutual
-  -- of forms that aren't accepted yet nobody asks
+  -- of forms with threads or mutexes nobody asks yet
   pub resolve : Term → Env → Run
   resolve (number_t at n) e = number n
   resolve (unit_t at) e = unit_c
   resolve (read_t at w) e = read (named e w) (moves e w)
+  resolve (borrow_t at w) e = borrow (named e w)
+  resolve (borrow_mut_t at w) e = borrow (named e w)
   resolve (box_t at t) e = box_r (resolve t e)
+  resolve (arith_t at op a b) e = arith op (resolve a e) (resolve b (env_after a e))
   resolve (print_t at t) e = print (resolve t e)
   resolve (let_t at x t) e = bind (resolve t e)
   resolve (assign_t at w t) e = assign (named (env_after t e) w) (resolve t e)

@@ -3,18 +3,21 @@
 use Rattle.std.specs.Prelude.{ℕ, ℤ, zero, suc, ◌+◌, Bool, true, false, Option, Some, None}
 use Rattle.fr_base.specs.declared.label.Plain.TheVariants as plain
 use Rattle.fr_base.specs.declared.place.Lval.{Lval}
+use Rattle.fr_base.specs.declared.place.Op.{Op}
 use Rattle.fr_plain.specs.declared.value.Value.{Value}
 use Rattle.fr_plain.specs.declared.value.Value.TheVariants.{Own}
-use Rattle.fr_plain.specs.Acts.{Act, do_let, do_read, do_assign, do_box, do_print, do_discard, do_drop, do_end, unit}
+use Rattle.fr_plain.specs.Acts.{Act, do_let, do_read, do_borrow, do_assign, do_box, do_arith, do_print, do_discard, do_drop, do_end, unit}
 
--- `temp` is a value that a step left; a block has the number of slots that it has still to drop
+-- `temp` is a value that a step left; a borrow of either kind is the same reference; a block has the number of slots that it has still to drop
 mutual
   pub data Run : Type 0 where
     temp : Value → Run
     unit_c : Run
     number : ℤ → Run
     read : Lval → (take : Bool) → Run
+    borrow : Lval → Run
     box_r : Run → Run
+    arith : Op → Run → Run → Run
     bind : Run → Run
     print : Run → Run
     assign : Lval → Run → Run
@@ -70,6 +73,12 @@ settle_more going r is rest = more r is
 settle_more (constant v) r is rest = rest
 settle_more (temporary v) r is rest = more r is
 
+-- a right operand waits until the left one is done
+abbrev pub settle_right : Now → Run → Run → Run
+settle_right going b rest = b
+settle_right (constant v) b rest = rest
+settle_right (temporary v) b rest = rest
+
 abbrev pub close_last : Now → Run → Run
 close_last going r = block zero (last r)
 close_last (constant v) r = r
@@ -86,7 +95,9 @@ abbrev mutual
   settle unit_c = unit_c
   settle (number n) = number n
   settle (read w take) = read w take
+  settle (borrow w) = borrow w
   settle (box_r r) = box_r (settle r)
+  settle (arith f a b) = arith f (settle a) (settle_right (now (settle a)) b (settle b))
   settle (bind r) = bind (settle r)
   settle (print r) = print (settle r)
   settle (assign w r) = assign w (settle r)
@@ -124,7 +135,9 @@ abbrev mutual
   move unit_c = None
   move (number n) = None
   move (read w take) = alone temp (do_read w take)
+  move (borrow w) = alone temp (do_borrow w)
   move (box_r r) = on_value (now r) (λ v. alone temp (do_box v)) (next box_r (move r))
+  move (arith f a b) = on_value (now a) (λ v. on_value (now b) (λ w. alone temp (do_arith f v w)) (next (arith f a) (move b))) (next (λ x. arith f x b) (move a))
   move (bind r) = on_value (now r) (λ v. alone (λ x. unit_c) (do_let v)) (next bind (move r))
   move (print r) = on_value (now r) (λ v. alone (λ x. unit_c) (do_print v)) (next print (move r))
   move (assign w r) = on_value (now r) (λ v. alone (λ x. unit_c) (do_assign w v)) (next (assign w) (move r))
@@ -158,7 +171,9 @@ abbrev mutual
   pub leaves : Run → Bool
   leaves (temp v) = true
   leaves (read w take) = true
+  leaves (borrow w) = true
   leaves (box_r r) = true
+  leaves (arith f a b) = true
   leaves (block k is) = leaves_last is
   leaves _ = false
 
@@ -172,7 +187,9 @@ abbrev mutual
   steps_left unit_c = 0
   steps_left (number n) = 0
   steps_left (read w take) = 1
+  steps_left (borrow w) = 1
   steps_left (box_r r) = steps_left r + 1
+  steps_left (arith f a b) = steps_left a + steps_left b + 1
   steps_left (bind r) = steps_left r + 1
   steps_left (print r) = steps_left r + 1
   steps_left (assign w r) = steps_left r + 1

@@ -1,6 +1,8 @@
 //! The plain machine as definitions: running terms, their moves, what an act does to the one heap, and whole runs.
 #![tactic(auto)]
 
+mod laws;
 mod value;
 
+pub use laws::runs_compute;
 pub use value::Value;

@@ -1,30 +1,39 @@
 -- A typed term of the source resolves to a typed running term.
-use Rattle.std.proofs.Common.{◌≡◌, ◌==◌, ℕ, zero, suc, ◌+◌, ◌-◌, ◌<◌, ◌≤◌, Bool, true, false, not, [], ◌∷◌, length, drop, Option, Some, None, refl, sym, ap, ◌∙◌, subst, arith, length-drop, add-zero}
-use Rattle.std.specs.Prelude.{if◌then◌else◌}
+use Rattle.std.proofs.Common.{◌≡◌, ◌==◌, ℕ, zero, suc, ◌+◌, ◌-◌, ◌<◌, ◌≤◌, Bool, true, false, not, [], ◌∷◌, List, length, drop, Option, Some, None, refl, sym, ap, ◌∙◌, subst, arith as numbers, length-drop, add-zero}
+use Rattle.std.specs.Prelude.{◌⊎◌, ◌||◌, nat_lt, nat_le, if◌then◌else◌}
+use Rattle.std.specs.List.{list_any}
+use Rattle.std.proofs.Common.{inl, inr}
+use Rattle.std.proofs.lemmas.Bool.{leb-false, ltb-false}
 use Rattle.fr_base.specs.declared.place.Lval.{Lval}
+use Rattle.fr_base.specs.declared.place.Op.{Op}
 use Rattle.fr_terms.specs.Terms.{Text, Spot, Term, block_t, let_t, assign_t, read_t, number_t, unit_t, box_t, print_t, borrow_t, borrow_mut_t, arith_t, join_t, mutex_t, dup_t, lock_t, spawn_t, par_t, Items, none, item}
+use Rattle.fr_typing.specs.Sequential.{IsSequential, AreSequential}
 use Rattle.fr_typing.specs.Kinds.{Owned, unit, int, box, mutex, task, same_owned, Kind, own, shared, mutable, view, Piece, whole, gone, copies}
-use Rattle.fr_typing.specs.Places.{Env, found, type_at, write_blocked, is_own_path, slot_of, same_name, put_under, put_at, Shape, owned_shape, shared_to, mutable_to, piece_shape, shape_at}
-use Rattle.fr_typing.specs.Checks.{place_of, is_int, is_owned, equal_shapes, has_shape_of, set_through}
-use Rattle.fr_typing.specs.Typing.{Has, Types, types_number, types_unit, types_copy, types_move, types_box, types_print, types_let, types_assign, types_block, TypesItems, types_none, types_item}
-use Rattle.fr_typing.specs.Owned.{IsOwnedEnv}
+use Rattle.fr_typing.specs.Places.{Env, found, type_at, write_blocked, on_path, is_lent, is_mutable, is_writable, is_own_path, slot_of, same_name, put_under, put_at, Shape, owned_shape, shared_to, mutable_to, piece_shape, shape_at, AreBelow, kind_places}
+use Rattle.fr_typing.specs.Checks.{place_of, is_int, is_owned, is_kept_out, equal_shapes, has_shape_of, names_from, set_through}
+use Rattle.fr_typing.specs.Finding.{Has, IsOpen, Shows}
+use Rattle.fr_typing.specs.Typing.{Types, types_number, types_unit, types_copy, types_move, types_borrow, types_borrow_mut, types_box, types_mutex, types_arith, types_print, types_let, types_assign, types_block, types_join, types_dup, types_lock, types_spawn, types_par, TypesItems, types_none, types_item}
 use Rattle.fr_typing.proofs.Agree.{typing_by}
-use Rattle.fr_typing.proofs.OwnedLemmas.{types_owned, is_own_path_owned, set_through_owned}
-use Rattle.fr_plain.specs.Run.{Run, unit_c, read, bind, assign, Parts, last as last_p, more}
+use Rattle.fr_store.proofs.Below.{or_false}
+use Rattle.fr_plain.specs.declared.value.Value.{Value}
+use Rattle.fr_plain.specs.Run.{Run, unit_c, read, borrow, arith, assign, last as last_p, more, Now, now}
 use Rattle.fr_plain.specs.Resolve.{env_of, env_after, named, moves, found_moves, or_zero, lets_in, lets, before, resolve, resolve_items}
-use Rattle.fr_sound.specs.RunTypes.{Assigns, Falls, f_none, f_one, RunTypes, t_unit, t_number, t_copy, t_move, t_box, t_let, t_print, t_assign, t_block, PartsTypes, p_last, p_more}
+use Rattle.fr_sound.specs.RunTypes.{Assigns, to_own, to_lent, to_variable, IsNumber, o_int, Falls, f_none, f_one, RunTypes, t_unit, t_number, t_copy, t_move, t_borrow, t_borrow_mut, t_box, t_left, t_right, t_let, t_print, t_assign, t_block, PartsTypes, p_last, p_more}
+use Rattle.fr_sound.proofs.DoneTerms.{Done, d_going, d_constant, done}
 
 -- SLOTS
 
 -- a slot that a name has is there
 slot_below_if : (b : Bool) (below : Env) (x : Text) (n : ℕ) → (slot_of below x ≡ Some n → n < length below) → (if b then Some (length below) else slot_of below x) ≡ Some n → n < suc (length below)
-slot_below_if true below x n go h = let e : length below ≡ n = cc in omega arith
-slot_below_if false below x n go h = let l = go h in omega arith
+slot_below_if true below x n go h = let e : length below ≡ n = cc in omega numbers
+slot_below_if false below x n go h = let l = go h in omega numbers
 
+-- a slot that a name has is there
 slot_below : (e : Env) (x : Text) (n : ℕ) → slot_of e x ≡ Some n → n < length e
 slot_below [] x n h = cc
 slot_below (s ∷ below) x n h = slot_below_if (same_name s.name x) below x n (slot_below below x n) h
 
+-- either of two environments of one length
 length_either : (b : Bool) (e f : Env) → length e ≡ length f → length (if b then e else f) ≡ length f
 length_either true e f h = h
 length_either false e f h = refl
@@ -37,6 +46,7 @@ length_put (s ∷ below) w new =
 
 -- SHAPES
 
+-- types that the test finds equal are equal
 same_owned_is : (a b : Owned) → same_owned a b ≡ true → a ≡ b
 same_owned_is unit unit h = refl
 same_owned_is int int h = refl
@@ -54,12 +64,7 @@ shape_is (Some (mutable_to y)) x h = cc
 
 -- KINDS
 
-owned_is : (k : Kind) → is_owned k ≡ true → (x : Owned) × (k ≡ own x)
-owned_is (own x) h = (x, refl)
-owned_is (shared us) h = cc
-owned_is (mutable us) h = cc
-owned_is (view x) h = cc
-
+-- a type that the test finds to be int is int
 int_is : (k : Kind) → is_int k ≡ true → k ≡ own int
 int_is (own int) h = refl
 int_is (own unit) h = cc
@@ -72,144 +77,230 @@ int_is (view x) h = cc
 
 -- THE LENGTHS
 
+-- the environment that typing computes is that of the relation
 env_is : {e e1 : Env} {t : Term} {k : Kind} → Types e t k e1 → env_after t e ≡ e1
 env_is t = ap env_of (typing_by t)
 
+-- an assignment adds no slot
+length_set : (e : Env) (w : Lval) (k : Kind) → length (set_through e w k) ≡ length e
+length_set e w k = by (on_path is_mutable e w.slot w.depth)
+  where
+    by : (b : Bool) → length (if b then e else put_at e w (whole k)) ≡ length e
+    by true = refl
+    by false = length_put e w (whole k)
+
 mutual
   -- a typed term leaves as many slots more as it declares variables
-  lets_add : {e e1 : Env} {t : Term} {k : Kind} → Types e t k e1 → IsOwnedEnv e → length e1 ≡ length e + lets_in t
-  lets_add types_number h = sym (add-zero _)
-  lets_add types_unit h = sym (add-zero _)
-  lets_add (types_copy f c b) h = sym (add-zero _)
-  lets_add (types_move {e = e} {w = w} {s = s} {k = k} f c b o) h = length_put e (place_of w s) (gone k) ∙ sym (add-zero _)
-  lets_add (types_box t f) h = lets_add t h
-  lets_add (types_print t i) h = lets_add t h
-  lets_add (types_let {e = e} {t = t} y n) h = let l = lets_add y h in omega (arith, l)
-  lets_add (types_assign {e1 = e1} {w = w} {k = k} {s = s} t f o kept shape out) h =
-      ap length (set_through_owned e1 (place_of w s) k (types_owned t h).1) ∙ length_put e1 (place_of w s) (whole k) ∙ lets_add t h
-  lets_add (types_block {e = e} {e1 = e1} ts n) h =
-      let l = lets_add_items ts h in
+  lets_add : {e e1 : Env} {t : Term} {k : Kind} → IsSequential t → Types e t k e1 → length e1 ≡ length e + lets_in t
+  lets_add a types_number = sym (add-zero _)
+  lets_add a types_unit = sym (add-zero _)
+  lets_add a (types_copy f c b) = sym (add-zero _)
+  lets_add a (types_move {e = e} {w = w} {s = s} {k = k} f c b o) = length_put e (place_of w s) (gone k) ∙ sym (add-zero _)
+  lets_add a (types_box t f) = lets_add a t
+  lets_add a (types_print t i) = lets_add a t
+  lets_add a (types_let {e = e} {t = t} y n) = let l = lets_add a y in omega (numbers, l)
+  lets_add a (types_assign {e1 = e1} {w = w} {k = k} {s = s} t f o kept shape out) = length_set e1 (place_of w s) k ∙ lets_add a t
+  lets_add a (types_block {e = e} {e1 = e1} ts n) =
+      let l = lets_add_items a ts in
       let d = length-drop (length e1 - length e) e1 in
-      omega (arith, l, d)
+      omega (numbers, l, d)
+  lets_add a (types_borrow f) = sym (add-zero _)
+  lets_add a (types_borrow_mut f o) = sym (add-zero _)
+  lets_add a (types_arith t i g j) = let l = lets_add a.0 t in let m = lets_add a.1 g in omega (numbers, l, m)
+  lets_add a (types_mutex t f) = absurd a
+  lets_add a (types_join t) = absurd a
+  lets_add a (types_dup f) = absurd a
+  lets_add a (types_lock f n t i g) = absurd a
+  lets_add a (types_spawn c t f) = absurd a
+  lets_add a (types_par c t g i j) = absurd a
 
-  lets_add_items : {e e1 : Env} {ts : Items} {k k1 : Kind} {last last1 : ℕ} → TypesItems e ts k last k1 last1 e1 → IsOwnedEnv e → length e1 ≡ length e + lets ts
-  lets_add_items types_none h = sym (add-zero _)
-  lets_add_items (types_item t ts) h = let a = lets_add t h in let b = lets_add_items ts (types_owned t h).1 in omega (arith, a, b)
+  -- and so do typed items
+  lets_add_items : {e e1 : Env} {ts : Items} {k k1 : Kind} {last last1 : ℕ} → AreSequential ts → TypesItems e ts k last k1 last1 e1 → length e1 ≡ length e + lets ts
+  lets_add_items a types_none = sym (add-zero _)
+  lets_add_items a (types_item t ts) = let l = lets_add a.0 t in let m = lets_add_items a.1 ts in omega (numbers, l, m)
 
 -- so many slots go where so many are there
 falls_to : (n : ℕ) (e : Env) → n ≤ length e → Falls n e (drop n e)
 falls_to zero e h = f_none
-falls_to (suc n) [] h = absurd (omega arith)
-falls_to (suc n) (s ∷ e) h = f_one (falls_to n e (omega arith))
+falls_to (suc n) [] h = absurd (omega numbers)
+falls_to (suc n) (s ∷ e) h = f_one (falls_to n e (omega numbers))
+
+-- WHAT A TYPE NAMES
+
+-- places that are none from n on are below n
+none_from : (n : ℕ) (us : List Lval) → list_any (λ u. nat_le n u.slot) us ≡ false → AreBelow n us
+none_from n [] h = tt
+none_from n (u ∷ us) h = let o = or_false (nat_le n u.slot) (list_any (λ v. nat_le n v.slot) us) h in (leb-false n u.slot o.0, none_from n us o.1)
+
+-- a type that names no slot from n on names lower slots
+names_below : (n : ℕ) (k : Kind) → names_from n k ≡ false → AreBelow n (kind_places k)
+names_below n (own x) h = tt
+names_below n (shared us) h = none_from n us h
+names_below n (mutable us) h = none_from n us h
+names_below n (view x) h = tt
+
+-- PATHS
+
+-- a sum of two sums, paired otherwise
+both_or : (a b c d : Bool) → ((a || b) || (c || d)) ≡ ((a || c) || (b || d))
+both_or true true true true = refl
+both_or true true true false = refl
+both_or true true false true = refl
+both_or true true false false = refl
+both_or true false true true = refl
+both_or true false true false = refl
+both_or true false false true = refl
+both_or true false false false = refl
+both_or false true true true = refl
+both_or false true true false = refl
+both_or false true false true = refl
+both_or false true false false = refl
+both_or false false true true = refl
+both_or false false true false = refl
+both_or false false false true = refl
+both_or false false false false = refl
+
+-- what is lent or mutable on the path
+on_path_or : (e : Env) (x d : ℕ) → on_path (λ f. is_lent f || is_mutable f) e x d ≡ (on_path is_lent e x d || on_path is_mutable e x d)
+on_path_or e x zero = refl
+on_path_or e x (suc d) =
+    let f = type_at e (record { slot = x; depth = d }) in
+    ap (λ b. b || (is_lent f || is_mutable f)) (on_path_or e x d) ∙ both_or (on_path is_lent e x d) (on_path is_mutable e x d) (is_lent f) (is_mutable f)
+
+-- a writable path is its own, or goes through a mutable reference
+own_or_through : (e : Env) (w : Lval) → is_writable e w ≡ true → ((is_own_path e w ≡ true) × (on_path is_mutable e w.slot w.depth ≡ false)) ⊎ ((is_own_path e w ≡ false) × (on_path is_mutable e w.slot w.depth ≡ true))
+own_or_through e w h = by (on_path is_lent e w.slot w.depth) (on_path is_mutable e w.slot w.depth) refl (ap not (on_path_or e w.slot w.depth)) h
+  where
+    by : (a b : Bool) → on_path is_mutable e w.slot w.depth ≡ b → is_own_path e w ≡ not (a || b) → not a ≡ true → ((is_own_path e w ≡ true) × (on_path is_mutable e w.slot w.depth ≡ false)) ⊎ ((is_own_path e w ≡ false) × (on_path is_mutable e w.slot w.depth ≡ true))
+    by true b m o h = cc
+    by false true m o h = inr (o, m)
+    by false false m o h = inl (o, m)
+
+-- what an assignment leaves, by whether a mutable reference is on the path
+set_if : (e : Env) (w : Lval) (k : Kind) (b : Bool) → on_path is_mutable e w.slot w.depth ≡ b → set_through e w k ≡ (if b then e else put_at e w (whole k))
+set_if e w k b h = ap (λ c. if c then e else put_at e w (whole k)) h
 
 -- THE TERMS
 
--- a term and its type
-pub record RunsAs (e : Env) (r : Run) (k : Kind) (e1 : Env) : Type 0 where
-  pub type : Owned
-  pub is : k ≡ own type
-  pub runs : RunTypes e None r type e1
+-- a read of a place that is named
+read_as : {e e1 : Env} {k : Kind} (w : Spot) (s : ℕ) (b : Bool) → slot_of e w.name ≡ Some s → moves e w ≡ b → RunTypes e None (read (place_of w s) b) k e1 → RunTypes e None (read (named e w) (moves e w)) k e1
+read_as {e = e} {e1 = e1} {k = k} w s b h m r = subst (λ (o : Option ℕ). RunTypes e None (read (place_of w (or_zero o)) (moves e w)) k e1) (sym h) (subst (λ (c : Bool). RunTypes e None (read (place_of w s) c) k e1) (sym m) r)
 
-read_as : {e e1 : Env} {k : Kind} (w : Spot) (s : ℕ) (b : Bool) → slot_of e w.name ≡ Some s → moves e w ≡ b → RunsAs e (read (place_of w s) b) k e1 → RunsAs e (read (named e w) (moves e w)) k e1
-read_as {e = e} {e1 = e1} {k = k} w s b h m r = subst (λ (o : Option ℕ). RunsAs e (read (place_of w (or_zero o)) (moves e w)) k e1) (sym h) (subst (λ (c : Bool). RunsAs e (read (place_of w s) c) k e1) (sym m) r)
-
+-- whether a read moves, by the type that is found
 found_at : {e : Env} {w : Spot} {s : ℕ} {k : Kind} → Has e w s (found (whole k)) → moves e w ≡ not (copies k)
 found_at {e = e} {w = w} h = ap (λ o. found_moves (type_at e (place_of w (or_zero o)))) h.named ∙ ap found_moves h.is
 
--- the part of a box, a print, a let: of an owned type
-owned_runs : {e e1 : Env} {r : Run} {x : Owned} → RunsAs e r (own x) e1 → RunTypes e None r x e1
-owned_runs {e = e} {e1 = e1} {r = r} {x = x} h = let same : h.type ≡ x = cc in subst (λ (y : Owned). RunTypes e None r y e1) same h.runs
+-- a read that copies
+copy_runs : {e : Env} {w : Spot} {s : ℕ} {k : Kind} → Has e w s (found (whole k)) → copies k ≡ true → RunTypes e None (read (named e w) (moves e w)) k e
+copy_runs {e = e} {w = w} {s = s} f c = read_as w s false f.named (found_at f ∙ ap not c) (t_copy (record { there = slot_below e w.name s f.named; is = f.is; copied = c }))
 
-copy_runs : {e : Env} {w : Spot} {s : ℕ} {k : Kind} → IsOwnedEnv e → Has e w s (found (whole k)) → copies k ≡ true → is_owned k ≡ true → RunsAs e (read (named e w) (moves e w)) k e
-copy_runs {e = e} {w = w} {s = s} {k = k} h f c o =
-    let x = owned_is k o in
-    let own_found : type_at e (place_of w s) ≡ found (whole (own x.0)) = f.is ∙ ap (λ q. found (whole q)) x.1 in
-    let own_copies : copies (own x.0) ≡ true = ap copies (sym x.1) ∙ c in
-    read_as w s false f.named (found_at f ∙ ap not c) (record { type = x.0; is = x.1; runs = t_copy (record { there = slot_below e w.name s f.named; is = own_found; copied = own_copies }) })
+-- a read that moves
+move_runs : {e : Env} {w : Spot} {s : ℕ} {k : Kind} → Has e w s (found (whole k)) → copies k ≡ false → write_blocked e s ≡ false → is_own_path e (place_of w s) ≡ true → RunTypes e None (read (named e w) (moves e w)) k (put_at e (place_of w s) (gone k))
+move_runs {e = e} {w = w} {s = s} f c b p =
+    read_as w s true f.named (found_at f ∙ ap not c) (t_move (record { there = slot_below e w.name s f.named; is = f.is; moved = c; free = b; own_path = p; after = refl }))
 
-move_runs : {e : Env} {w : Spot} {s : ℕ} {k : Kind} → IsOwnedEnv e → Has e w s (found (whole k)) → copies k ≡ false → write_blocked e s ≡ false → is_own_path e (place_of w s) ≡ true → is_owned k ≡ true → RunsAs e (read (named e w) (moves e w)) k (put_at e (place_of w s) (gone k))
-move_runs {e = e} {w = w} {s = s} {k = k} h f c b p o =
-    let x = owned_is k o in
-    let own_found : type_at e (place_of w s) ≡ found (whole (own x.0)) = f.is ∙ ap (λ q. found (whole q)) x.1 in
-    read_as w s true f.named (found_at f ∙ ap not c) (record {
-      type = x.0;
-      is = x.1;
-      runs = t_move (record { there = slot_below e w.name s f.named; is = own_found; free = b; own_path = p; after = ap (λ q. put_at e (place_of w s) (gone q)) x.1 });
+-- a borrow of a place that is named
+borrow_as : {e : Env} {k : Kind} (w : Spot) (s : ℕ) → slot_of e w.name ≡ Some s → RunTypes e None (borrow (place_of w s)) k e → RunTypes e None (borrow (named e w)) k e
+borrow_as {e = e} {k = k} w s h r = subst (λ (o : Option ℕ). RunTypes e None (borrow (place_of w (or_zero o))) k e) (sym h) r
+
+-- a shared borrow
+borrow_runs : {e : Env} {w : Spot} {s : ℕ} {k : Kind} → Shows e w s k → RunTypes e None (borrow (named e w)) (shared (place_of w s ∷ [])) e
+borrow_runs {e = e} {w = w} {s = s} {k = k} f = borrow_as w s f.is.named (t_borrow (record { kind = k; there = slot_below e w.name s f.is.named; is = f.is.is; free = f.free }))
+
+-- a mutable borrow
+borrow_mut_runs : {e : Env} {w : Spot} {s : ℕ} {k : Kind} → Has e w s (found (whole k)) → IsOpen e (place_of w s) → RunTypes e None (borrow (named e w)) (mutable (place_of w s ∷ [])) e
+borrow_mut_runs {e = e} {w = w} {s = s} {k = k} f o = borrow_as w s f.named (t_borrow_mut (record { kind = k; there = slot_below e w.name s f.named; is = f.is; free = o.free; writable = o.path }))
+
+-- an owned value is put on an own path, or written through mutable references
+assigns_owned : {e : Env} {w : Spot} {s : ℕ} {p : Piece} (x : Owned) → Has e w s (found p) → IsOpen e (place_of w s) → has_shape_of e p (own x) ≡ true → Assigns e (place_of w s) (own x) (set_through e (place_of w s) (own x))
+assigns_owned {e = e} {w = w} {s = s} {p = p} x f o shape = by (own_or_through e (place_of w s) o.path)
+  where
+    by : ((is_own_path e (place_of w s) ≡ true) × (on_path is_mutable e s w.stars ≡ false)) ⊎ ((is_own_path e (place_of w s) ≡ false) × (on_path is_mutable e s w.stars ≡ true)) → Assigns e (place_of w s) (own x) (set_through e (place_of w s) (own x))
+    by (inl z) = to_own (record { piece = p; there = slot_below e w.name s f.named; is = f.is; shape = shape_is (piece_shape (shape_at e) p) x shape; free = o.free; own_path = z.0; after = set_if e (place_of w s) (own x) false z.1 })
+    by (inr z) =
+        subst (Assigns e (place_of w s) (own x)) (sym (set_if e (place_of w s) (own x) true z.1))
+        (to_lent (record { piece = p; there = slot_below e w.name s f.named; is = f.is; shape = shape_is (piece_shape (shape_at e) p) x shape; free = o.free; writable = o.path; through = z.0 }))
+
+-- a reference is written to a variable
+assigns_reference : {e : Env} {w : Spot} {s : ℕ} {p : Piece} (k : Kind) → Has e w s (found p) → IsOpen e (place_of w s) → is_owned k ≡ false → nat_lt 0 w.stars ≡ false → names_from s k ≡ false → Assigns e (place_of w s) k (set_through e (place_of w s) k)
+assigns_reference {e = e} {w = w} {s = s} {p = p} k f o ref stars out =
+    let none = ltb-false 0 w.stars stars in
+    let depth : w.stars ≡ 0 = omega (numbers, none) in
+    to_variable (record {
+      piece = p;
+      there = slot_below e w.name s f.named;
+      variable = depth;
+      is = f.is;
+      reference = ref;
+      free = o.free;
+      below = names_below s k out;
+      after = set_if e (place_of w s) k false (ap (on_path is_mutable e s) depth);
     })
 
-assign_runs : {e e1 : Env} {w : Spot} {r : Run} {s : ℕ} {p : Piece} {k : Kind} → IsOwnedEnv e1 → RunsAs e r k e1 → Has e1 w s (found p) → write_blocked e1 s ≡ false → has_shape_of e1 p k ≡ true → RunsAs e (assign (named e1 w) r) (own unit) (set_through e1 (place_of w s) k)
-assign_runs {e = e} {e1 = e1} {w = w} {r = r} {s = s} {p = p} {k = k} h t f b shape =
-    let x = t.type in
-    let own_shape : has_shape_of e1 p (own x) ≡ true = ap (has_shape_of e1 p) (sym t.is) ∙ shape in
-    let a : Assigns e1 (place_of w s) x (set_through e1 (place_of w s) k) = record {
-      piece = p;
-      there = slot_below e1 w.name s f.named;
-      is = f.is;
-      shape = shape_is (piece_shape (shape_at e1) p) x own_shape;
-      free = b;
-      own_path = is_own_path_owned e1 (place_of w s) h;
-      after = set_through_owned e1 (place_of w s) k h ∙ ap (λ q. put_at e1 (place_of w s) (whole q)) t.is;
-    } in
-    let runs : RunTypes e None (assign (place_of w s) r) unit (set_through e1 (place_of w s) k) = t_assign t.runs a in
-    record { type = unit; is = refl; runs = subst (λ (o : Option ℕ). RunTypes e None (assign (place_of w (or_zero o)) r) unit (set_through e1 (place_of w s) k)) (sym f.named) runs }
+-- a value of any type that typing lets be assigned
+assigns : {e : Env} {w : Spot} {s : ℕ} {p : Piece} (k : Kind) → Has e w s (found p) → IsOpen e (place_of w s) → is_kept_out k w.stars ≡ false → has_shape_of e p k ≡ true → names_from s k ≡ false → Assigns e (place_of w s) k (set_through e (place_of w s) k)
+assigns (own x) f o kept shape out = assigns_owned x f o shape
+assigns (shared us) f o kept shape out = assigns_reference (shared us) f o refl kept out
+assigns (mutable us) f o kept shape out = assigns_reference (mutable us) f o refl kept out
+assigns (view x) f o kept shape out = assigns_reference (view x) f o refl kept out
 
--- a list of items and its type, of which the last one counts
-pub record PartsRunAs (e : Env) (ps : Parts) (k : Kind) (e1 : Env) : Type 0 where
-  pub type : Owned
-  pub is : k ≡ own type
-  pub run : PartsTypes e None ps type e1
+-- an assignment to a place that is named
+assign_as : {e e2 : Env} {r : Run} (e1 : Env) (w : Spot) (s : ℕ) → slot_of e1 w.name ≡ Some s → RunTypes e None (assign (place_of w s) r) (own unit) e2 → RunTypes e None (assign (named e1 w) r) (own unit) e2
+assign_as {e = e} {e2 = e2} {r = r} e1 w s h t = subst (λ (o : Option ℕ). RunTypes e None (assign (place_of w (or_zero o)) r) (own unit) e2) (sym h) t
 
-more_runs : {e e1 e2 : Env} {r : Run} {rest : Parts} {k k1 : Kind} → RunsAs e r k e1 → PartsRunAs e1 rest k1 e2 → PartsRunAs e (more r rest) k1 e2
-more_runs t q = record { type = q.type; is = q.is; run = p_more t.runs q.run }
+-- arithmetic: the left operand is a constant, or goes on
+arith_by : {n : Now} {e e1 e2 : Env} {h : Option Value} (f : Op) (a b : Run) → now a ≡ n → RunTypes e None a (own int) e1 → RunTypes e1 None b (own int) e2 → Done n e None h (own int) e1 → RunTypes e None (arith f a b) (own int) e2
+arith_by f a b same t u d_going = t_left same t u
+arith_by f a b same t u (d_constant o_int) = t_right (subst IsNumber (sym same) (_, refl)) u
 
--- what the items of a block come to, after a term of the first type
+-- a list of items, of which the last one counts
 abbrev ItemsRun : Items → Env → Kind → Kind → Env → Type 0
 ItemsRun none e k k1 e1 = (k ≡ k1) × (e ≡ e1)
-ItemsRun (item t ts) e k k1 e1 = PartsRunAs e (resolve_items (item t ts) e) k1 e1
+ItemsRun (item t ts) e k k1 e1 = PartsTypes e None (resolve_items (item t ts) e) k1 e1
 
-joins : {e e1 : Env} {r : Run} (ts : Items) (f : Env) (k k1 : Kind) (e2 : Env) → RunsAs e r k e1 → ItemsRun ts e1 k k1 e2 → f ≡ e1 → PartsRunAs e (before ts r (resolve_items ts f)) k1 e2
-joins {e = e} {e1 = e1} {r = r} none f k k1 e2 t q same =
-    let runs : RunTypes e None r t.type e2 = subst (λ (g : Env). RunTypes e None r t.type g) q.1 t.runs in
-    record { type = t.type; is = sym q.0 ∙ t.is; run = p_last runs }
-joins {e = e} {e1 = e1} {r = r} (item u us) f k k1 e2 t q same = subst (λ (g : Env). PartsRunAs e (more r (resolve_items (item u us) g)) k1 e2) (sym same) (more_runs t q)
+-- a term before items
+joins : {e e1 : Env} {r : Run} (ts : Items) (f : Env) (k k1 : Kind) (e2 : Env) → RunTypes e None r k e1 → ItemsRun ts e1 k k1 e2 → f ≡ e1 → PartsTypes e None (before ts r (resolve_items ts f)) k1 e2
+joins {e = e} {e1 = e1} {r = r} none f k k1 e2 t q same = p_last (subst (λ (l : Kind). RunTypes e None r l e2) q.0 (subst (λ (g : Env). RunTypes e None r k g) q.1 t))
+joins {e = e} {e1 = e1} {r = r} (item u us) f k k1 e2 t q same = subst (λ (g : Env). PartsTypes e None (more r (resolve_items (item u us) g)) k1 e2) (sym same) (p_more t q)
 
-block_runs : (ts : Items) (e : Env) (k1 : Kind) (e1 : Env) → ItemsRun ts e (own unit) k1 e1 → PartsRunAs e (resolve_items ts e) k1 e1
-block_runs none e k1 e1 q = record { type = unit; is = sym q.0; run = subst (λ (f : Env). PartsTypes e None (last_p unit_c) unit f) q.1 (p_last t_unit) }
+-- the items of a block, which may be none
+block_runs : (ts : Items) (e : Env) (k1 : Kind) (e1 : Env) → ItemsRun ts e (own unit) k1 e1 → PartsTypes e None (resolve_items ts e) k1 e1
+block_runs none e k1 e1 q = subst (λ (l : Kind). PartsTypes e None (last_p unit_c) l e1) q.0 (subst (λ (f : Env). PartsTypes e None (last_p unit_c) (own unit) f) q.1 (p_last t_unit))
 block_runs (item t ts) e k1 e1 q = q
 
 mutual
   -- a typed term of the source resolves to a typed running term
-  pub resolve_runs : (t : Term) {e e1 : Env} {k : Kind} → Types e t k e1 → IsOwnedEnv e → RunsAs e (resolve t e) k e1
-  resolve_runs (number_t at n) types_number h = record { type = int; is = refl; runs = t_number }
-  resolve_runs (unit_t at) types_unit h = record { type = unit; is = refl; runs = t_unit }
-  resolve_runs (read_t at w) (types_copy f c b) h = copy_runs h f c (types_owned (types_copy {at = at} f c b) h).0
-  resolve_runs (read_t at w) (types_move f c b o) h = move_runs h f c b o (types_owned (types_move {at = at} f c b o) h).0
-  resolve_runs (box_t at t) (types_box y f) h = record { type = box _; is = refl; runs = t_box (owned_runs (resolve_runs t y h)) }
-  resolve_runs (print_t at t) (types_print {e = e} {e1 = e1} {k = k} y i) h =
-      let r = resolve_runs t y h in
-      let same : own int ≡ own r.type = sym (int_is k i) ∙ r.is in
-      let is_int : r.type ≡ int = cc in
-      record { type = unit; is = refl; runs = t_print (subst (λ (y : Owned). RunTypes e None (resolve t e) y e1) is_int r.runs) }
-  resolve_runs (let_t at x t) (types_let {e = e} {e1 = e1} {k = k} y n) h =
-      let r = resolve_runs t y h in
-      record { type = unit; is = refl; runs = subst (λ (q : Kind). RunTypes e None (bind (resolve t e)) unit (record { name = Some x; part = whole q } ∷ e1)) (sym r.is) (t_let (Some x) r.runs) }
-  resolve_runs (assign_t at w t) (types_assign {e = e} {e1 = e1} {k = k} {s = s} y f o kept shape out) h =
-      subst (λ (f1 : Env). RunsAs e (assign (named f1 w) (resolve t e)) (own unit) (set_through e1 (place_of w s) k)) (sym (env_is y)) (assign_runs (types_owned y h).1 (resolve_runs t y h) f o.free shape)
-  resolve_runs (block_t at ts) (types_block {e = e} {e1 = e1} y n) h =
-      let q = block_runs ts e _ e1 (resolve_parts ts y h) in
-      let l = lets_add_items y h in
-      let d : length e1 - length e ≡ lets ts = omega (arith, l) in
-      record { type = q.type; is = q.is; runs = t_block q.run (subst (λ (m : ℕ). Falls (lets ts) e1 (drop m e1)) (sym d) (falls_to (lets ts) e1 (omega (arith, l)))) }
-  resolve_runs (borrow_t at w) y h = elim y [ ]
-  resolve_runs (borrow_mut_t at w) y h = elim y [ ]
-  resolve_runs (arith_t at op a b) y h = elim y [ ]
-  resolve_runs (join_t at t) y h = elim y [ ]
-  resolve_runs (mutex_t at t) y h = elim y [ ]
-  resolve_runs (dup_t at w) y h = elim y [ ]
-  resolve_runs (lock_t at w x t) y h = elim y [ ]
-  resolve_runs (spawn_t at cs t) y h = elim y [ ]
-  resolve_runs (par_t at cs t ds u) y h = elim y [ ]
+  pub resolve_runs : (t : Term) {e e1 : Env} {k : Kind} → IsSequential t → Types e t k e1 → RunTypes e None (resolve t e) k e1
+  resolve_runs (number_t at n) a types_number = t_number
+  resolve_runs (unit_t at) a types_unit = t_unit
+  resolve_runs (read_t at w) a (types_copy f c b) = copy_runs f c
+  resolve_runs (read_t at w) a (types_move f c b o) = move_runs f c b o
+  resolve_runs (borrow_t at w) a (types_borrow f) = borrow_runs f
+  resolve_runs (borrow_mut_t at w) a (types_borrow_mut f o) = borrow_mut_runs f o
+  resolve_runs (box_t at t) a (types_box y f) = t_box (resolve_runs t a y)
+  resolve_runs (print_t at t) a (types_print {e = e} {e1 = e1} {k = k} y i) = t_print (subst (λ (l : Kind). RunTypes e None (resolve t e) l e1) (int_is k i) (resolve_runs t a y))
+  resolve_runs (arith_t at f x y) a (types_arith {e = e} {e1 = e1} {e2 = e2} {k = k} {l = l} t i u j) =
+      let left : RunTypes e None (resolve x e) (own int) e1 = subst (λ (q : Kind). RunTypes e None (resolve x e) q e1) (int_is k i) (resolve_runs x a.0 t) in
+      let right : RunTypes e1 None (resolve y (env_after x e)) (own int) e2 = subst (λ (g : Env). RunTypes e1 None (resolve y g) (own int) e2) (sym (env_is t)) (subst (λ (q : Kind). RunTypes e1 None (resolve y e1) q e2) (int_is l j) (resolve_runs y a.1 u)) in
+      arith_by f (resolve x e) (resolve y (env_after x e)) refl left right (done (resolve x e) left)
+  resolve_runs (let_t at x t) a (types_let y n) = t_let (Some x) (resolve_runs t a y)
+  resolve_runs (assign_t at w t) a (types_assign {e = e} {e1 = e1} {k = k} {s = s} y f o kept shape out) =
+      subst (λ (g : Env). RunTypes e None (assign (named g w) (resolve t e)) (own unit) (set_through e1 (place_of w s) k)) (sym (env_is y)) (assign_as e1 w s f.named (t_assign (resolve_runs t a y) (assigns k f o kept shape out)))
+  resolve_runs (block_t at ts) a (types_block {e = e} {e1 = e1} {k = k} y n) =
+      let q = block_runs ts e _ e1 (resolve_parts ts a y) in
+      let l = lets_add_items a y in
+      let d : length e1 - length e ≡ lets ts = omega (numbers, l) in
+      let long = length-drop (length e1 - length e) e1 in
+      let same : length (drop (length e1 - length e) e1) ≡ length e = omega (numbers, l, long) in
+      t_block q (subst (λ (m : ℕ). Falls (lets ts) e1 (drop m e1)) (sym d) (falls_to (lets ts) e1 (omega (numbers, l)))) (subst (λ (m : ℕ). AreBelow m (kind_places k)) (sym same) (names_below (length e) k n))
+  resolve_runs (join_t at t) ok y = absurd ok
+  resolve_runs (mutex_t at t) ok y = absurd ok
+  resolve_runs (dup_t at w) ok y = absurd ok
+  resolve_runs (lock_t at w x t) ok y = absurd ok
+  resolve_runs (spawn_t at cs t) ok y = absurd ok
+  resolve_runs (par_t at cs t ds u) ok y = absurd ok
 
-  resolve_parts : (ts : Items) {e e1 : Env} {k k1 : Kind} {at last1 : ℕ} → TypesItems e ts k at k1 last1 e1 → IsOwnedEnv e → ItemsRun ts e k k1 e1
-  resolve_parts none types_none h = (refl, refl)
-  resolve_parts (item t ts) (types_item y z) h = joins ts _ _ _ _ (resolve_runs t y h) (resolve_parts ts z (types_owned y h).1) (env_is y)
+  -- and typed items to typed parts
+  resolve_parts : (ts : Items) {e e1 : Env} {k k1 : Kind} {at last1 : ℕ} → AreSequential ts → TypesItems e ts k at k1 last1 e1 → ItemsRun ts e k k1 e1
+  resolve_parts none a types_none = (refl, refl)
+  resolve_parts (item t ts) a (types_item y z) = joins ts _ _ _ _ (resolve_runs t a.0 y) (resolve_parts ts a.1 z) (env_is y)

@@ -1,27 +1,22 @@
 -- Where a place leads in the plain machine is where it leads in the seen store.
-use Rattle.std.proofs.Common.{◌≡◌, ℕ, zero, suc, ◌<◌, Bool, true, false, List, [], ◌∷◌, ◌++◌, length, Option, Some, None, refl, sym, ap, ◌∙◌, subst, arith}
-use Rattle.std.specs.Prelude.{◌==◌, ◌⊎◌, if◌then◌else◌}
-use Rattle.std.proofs.Common.{inl, inr}
+use Rattle.std.proofs.Common.{◌≡◌, ℕ, zero, suc, ◌<◌, Bool, true, false, List, [], ◌∷◌, ◌++◌, length, Option, Some, None, refl, sym, ap, ◌∙◌, subst}
+use Rattle.std.specs.Prelude.{◌==◌, if◌then◌else◌}
 use Rattle.fr_base.specs.declared.label.Plain.{Plain}
 use Rattle.fr_base.specs.declared.label.Plain.TheVariants as plain
-use Rattle.fr_base.specs.declared.name.ObjNo.{ObjNo}
 use Rattle.fr_base.specs.declared.place.Lval.{Lval}
-use Rattle.fr_typing.specs.Kinds.{Owned, own, shared, mutable, view, Piece, whole, gone, boxed}
+use Rattle.fr_typing.specs.Kinds.{Kind, Piece}
 use Rattle.fr_typing.specs.Places.{Env, found, type_at}
-use Rattle.fr_typing.specs.Owned.{IsOwnedPart, IsOwnedEnv}
-use Rattle.fr_typing.proofs.PlaceLemmas.{eq_cases}
-use Rattle.fr_store.specs.Keys.{Key, slot_k}
+use Rattle.fr_store.specs.Keys.{slot_k}
 use Rattle.fr_store.specs.Store.{Location, at_key, at_object, Val, gone_v, unit_v, int_v, box_v, mutex_v, task_v, ref_v, Store, value_at, then_location, star_target, star_hop, walk, below_key}
 use Rattle.fr_store.specs.Store as store
-use Rattle.fr_store.specs.ListState.{slot_value}
-use Rattle.fr_store.specs.Typed.{Tree, Exact, owns, refers, KeyTypes, Resolves, here, through}
-use Rattle.fr_store.specs.Below.{ExactOf, SlotsBelow}
+use Rattle.fr_store.specs.ListState.{slot_value, IsIn}
 use Rattle.fr_store.specs.Thread.{place_of}
-use Rattle.fr_store.proofs.Chains.{then_some, from_suc}
+use Rattle.fr_store.proofs.Chains.{then_some}
 use Rattle.fr_store.proofs.Sound.{walk_last}
 use Rattle.fr_store.proofs.Rows.{found_place}
 use Rattle.fr_store.proofs.Below.{mut_place, resolved}
 use Rattle.fr_store.proofs.ListDrop.{at_slot}
+use Rattle.fr_store.proofs.ListPlaces.{place_in}
 use Rattle.fr_plain.specs.declared.value.Value.{Value}
 use Rattle.fr_plain.specs.declared.value.Value.TheVariants.{Own, ToSlot, ToObject}
 use Rattle.fr_plain.specs.Heap.{cell_at}
@@ -37,6 +32,7 @@ abbrev pub maybe_val : ℕ → Option Value → Option Val
 maybe_val t None = None
 maybe_val t (Some v) = Some (val_of t v)
 
+-- where the test and the rest find none, gone is seen
 if_none : (b : Bool) (v : Value) (x : Option Value) (rest : Val) → (x ≡ None → rest ≡ gone_v) → (if b then Some v else x) ≡ None → (w : Val) → (if b then w else rest) ≡ gone_v
 if_none true v x rest go h w = cc
 if_none false v x rest go h w = go h
@@ -65,6 +61,7 @@ star_there st h (in_cell o) None e = by (cell_at st.heap o) e
     by None e = refl
     by (Some x) e = cc
 
+-- equal options have equal locations
 some_is : (a b : Location) → Some a ≡ Some b → a ≡ b
 some_is a b e = cc
 
@@ -74,6 +71,7 @@ pub record LedTo (t : ℕ) (r : Reached) (x : Option Value) (l : Location) : Typ
   pub is : led r x ≡ Some to
   pub spot : location_of t to.spot ≡ l
 
+-- a star leads the machine where it leads the store
 led_to : (t : ℕ) (r : Reached) (x : Option Value) (l : Location) → star_target (maybe_val t x) ≡ Some l → LedTo t r x l
 led_to t r None l e = cc
 led_to t r (Some (Own plain.Nothing)) l e = cc
@@ -106,6 +104,7 @@ pub record Leads (st : State) (slot n : ℕ) (l : Location) : Type 0 where
   pub is : stars st slot n ≡ Some reached
   pub spot : location_of st.thread reached.spot ≡ l
 
+-- stars lead the machine where they lead the store
 pub leads : (st : State) (h : Option Value) (slot n : ℕ) (l : Location) → walk (seen st h) n (at_key (slot_k st.thread slot)) ≡ Some l → Leads st slot n l
 leads st h slot zero l e = record { reached = record { spot = in_slot slot; passed = [] }; is = refl; spot = some_is (at_key (slot_k st.thread slot)) l e }
 leads st h slot (suc n) l e =
@@ -118,27 +117,6 @@ leads st h slot (suc n) l e =
 
 -- WHAT STANDS AT A PLACE
 
-exact_owns : (key : ℕ → Key) (E : KeyTypes) (q : Piece) (x : Exact) → ExactOf key E q x → IsOwnedPart q → (t : Tree) × (x ≡ owns t)
-exact_owns key E q (owns t) h o = (t, refl)
-exact_owns key E (whole (own y)) (refers m u) h o = absurd h
-exact_owns key E (whole (shared us)) (refers m u) h o = cc
-exact_owns key E (whole (mutable us)) (refers m u) h o = cc
-exact_owns key E (whole (view y)) (refers m u) h o = cc
-exact_owns key E (gone k) (refers m u) h o = absurd h
-exact_owns key E (boxed p) (refers m u) h o = absurd h
-
--- without references each slot owns a tree
-slot_owns : (key : ℕ → Key) (E : KeyTypes) (e : Env) (x : ℕ) → SlotsBelow key E e → IsOwnedEnv e → x < length e → (t : Tree) × (E (key x) ≡ owns t)
-slot_owns key E [] x h o lt = absurd (omega arith)
-slot_owns key E (s ∷ e) x h o lt =
-    eq_cases (λ b. (t : Tree) × (E (key x) ≡ owns t)) x (length e)
-    (λ is. let y = exact_owns key E s.part (E (key (length e))) h.0 o.0 in (y.0, ap (λ n. E (key n)) is ∙ y.1))
-    (λ ne. slot_owns key E e x h.1 o.1 (omega arith))
-
-only_here : {E : KeyTypes} {only : Bool} {k b : Key} {d n : ℕ} {p : Exact} (t : Tree) → E k ≡ owns t → Resolves E only k d b n p → (b ≡ k) × (n ≡ d)
-only_here t e (here h) = (refl, refl)
-only_here t e (through m u x js o de r) = let g : owns t ≡ refers m u = sym e ∙ js in absurd cc
-
 -- a place that has a type leads somewhere, in the machine and in the seen store, and the same value stands there
 pub record There (st : State) (h : Option Value) (w : Lval) : Type 0 where
   pub reached : Reached
@@ -147,48 +125,38 @@ pub record There (st : State) (h : Option Value) (w : Lval) : Type 0 where
   pub there : plain_state.value_at st reached.spot ≡ Some value
   pub at : store.locate (seen st h) (place_of (slot_k st.thread) w) ≡ Some (location_of st.thread reached.spot)
   pub stands : value_at (seen st h) (location_of st.thread reached.spot) ≡ Some (val_of st.thread value)
-  -- a slot is the variable's own
-  pub slot : (i : ℕ) → reached.spot ≡ in_slot i → i ≡ w.slot
+  -- a slot is there
+  pub slot : (i : ℕ) → reached.spot ≡ in_slot i → i < length st.slots
 
--- the location n boxes below a slot is the slot itself, or an object
-below_is : (s : Store) (k : Key) (n : ℕ) (l : Location) → below_key s k n ≡ Some l → (l ≡ at_key k) ⊎ ((o : ObjNo) × (l ≡ at_object o))
-below_is s k zero l e = inl (sym (some_is (at_key k) l e))
-below_is s k (suc n) l e = let x = from_suc s (at_key k) l n e in inr (x.1, x.4)
-
--- the value at a spot that is the variable's slot, or an object that is there
-pub record ValueAt (st : State) (x : ℕ) (p : Spot) : Type 0 where
+-- the value at a spot that is there
+pub record ValueAt (st : State) (p : Spot) : Type 0 where
   pub value : Value
   pub is : plain_state.value_at st p ≡ Some value
-  pub slot : (i : ℕ) → p ≡ in_slot i → i ≡ x
+  pub slot : (i : ℕ) → p ≡ in_slot i → i < length st.slots
 
-same_slot : (t i x : ℕ) → at_key (slot_k t i) ≡ at_key (slot_k t x) → i ≡ x
-same_slot t i x e = cc
-
-slot_value_at : (st : State) (x : ℕ) (p : Spot) → x < length st.slots → location_of st.thread p ≡ at_key (slot_k st.thread x) → ValueAt st x p
-slot_value_at st x (in_slot i) lt e =
-    let same : i ≡ x = same_slot st.thread i x e in
-    let v = slot_there st.slots x lt in
-    record { value = v.0; is = ap (slot_at st.slots) same ∙ v.1; slot = λ j f. let g : i ≡ j = cc in sym g ∙ same }
-slot_value_at st x (in_cell o) lt e = cc
-
-cell_value_at : (st : State) (h : Option Value) (x : ℕ) (p : Spot) (o : ObjNo) (v : Val) → location_of st.thread p ≡ at_object o → value_at (seen st h) (location_of st.thread p) ≡ Some v → ValueAt st x p
-cell_value_at st h x (in_slot i) o v e f = cc
-cell_value_at st h x (in_cell q) o v e f = by (cell_at st.heap q) refl f
+-- a location of the thread is a spot with a value
+spot_value : (st : State) (h : Option Value) (l : Location) (v : Val) (p : Spot) → IsIn st.thread (vals st.thread st.slots) l → location_of st.thread p ≡ l → value_at (seen st h) l ≡ Some v → ValueAt st p
+spot_value st h l v (in_slot i) inside e f =
+    let here : IsIn st.thread (vals st.thread st.slots) (at_key (slot_k st.thread i)) = subst (IsIn st.thread (vals st.thread st.slots)) (sym e) inside in
+    let lt : i < length st.slots = subst (λ n. i < n) (length_vals st.thread st.slots) here.1 in
+    let x = slot_there st.slots i lt in
+    record { value = x.0; is = x.1; slot = λ j g. let same : i ≡ j = cc in subst (λ n. n < length st.slots) same lt }
+spot_value st h l v (in_cell q) inside e f = by (cell_at st.heap q) refl (ap (value_at (seen st h)) e ∙ f)
   where
-    by : (c : Option Plain) → cell_at st.heap q ≡ c → seen_cell c ≡ Some v → ValueAt st x (in_cell q)
+    by : (c : Option Plain) → cell_at st.heap q ≡ c → seen_cell c ≡ Some v → ValueAt st (in_cell q)
     by None g k = cc
     by (Some y) g k = record { value = Own y; is = ap owned g; slot = λ j z. cc }
 
-pub there : {e : Env} {o : Option Owned} {h : Option Value} {st : State} (w : Lval) (q : Piece) → Holds e o h st → w.slot < length e → type_at e w ≡ found q → There st h w
-there {e = e} {h = h} {st = st} w q y lt is =
+-- each place that has a type leads there
+pub there : {e : Env} {o : Option Kind} {h : Option Value} {st : State} (w : Lval) (q : Piece) → Holds e o h st → w.slot < length e → type_at e w ≡ found q → There st h w
+there {e = e} {o = o} {h = h} {st = st} w q y lt is =
     let t = st.thread in
     let s = seen st h in
     let r = resolved (slot_k t) y.types (mut_place (rank_of y.high) y.types s y.thread.typed) e y.thread.nested y.thread.slots w q lt is in
-    let z = slot_owns (slot_k t) y.types e w.slot y.thread.slots y.owned lt in
-    let b = only_here z.0 z.1 r.res in
     let f = found_place (rank_of y.high) y.types s false (place_of (slot_k t) w) r.base r.boxes r.type y.thread.typed r.res in
     let l = leads st h w.slot w.depth f.loc f.at in
-    let v = by b.0 f.loc f.value (below_is s r.base r.boxes f.loc f.chain) l.reached.spot l.spot f.there in
+    let x = place_in t (rank_of y.high) e y.types (vals t st.slots) (hand_of t h) (heap_of st.heap) o y.thread w q f.loc (length_vals t st.slots ∙ y.slots) lt is f.at in
+    let v = spot_value st h f.loc f.value l.reached.spot x.0 l.spot f.there in
     record {
       reached = l.reached;
       is = l.is;
@@ -198,7 +166,3 @@ there {e = e} {h = h} {st = st} w q y lt is =
       at = f.at ∙ ap Some (sym l.spot);
       stands = value_there st h l.reached.spot v.value v.is;
     }
-  where
-    by : {k : Key} → k ≡ slot_k st.thread w.slot → (m : Location) (u : Val) → (m ≡ at_key k) ⊎ ((o : ObjNo) × (m ≡ at_object o)) → (p : Spot) → location_of st.thread p ≡ m → value_at (seen st h) m ≡ Some u → ValueAt st w.slot p
-    by same m u (inl g) p i j = slot_value_at st w.slot p (subst (λ n. w.slot < n) (sym y.slots) lt) (i ∙ g ∙ ap at_key same)
-    by same m u (inr g) p i j = cell_value_at st h w.slot p g.0 u (i ∙ g.1) (ap (value_at (seen st h)) i ∙ j)

@@ -1,7 +1,13 @@
+pub mod DoneTerms
+pub mod Settling
 pub mod Redex
 pub mod Bridge
 pub mod SeenLemmas
 pub mod FoundPlaces
 pub mod Boxes
+pub mod Hand
+pub mod ReadsHold
+pub mod WritesHold
 pub mod ActsHold
 pub mod Whole
+pub mod Example

@@ -1,287 +1,293 @@
 -- A typed term is done, or its next act is typed and what it becomes is typed again.
-use Rattle.std.proofs.Common.{◌≡◌, ℕ, zero, suc, true, false, ◌∷◌, Option, Some, None, refl, sym, ap, ◌∙◌, subst}
+use Rattle.std.proofs.Common.{◌≡◌, ℕ, zero, suc, ◌≤◌, true, false, ◌∷◌, length, Option, Some, None, refl, sym, ap, ◌∙◌, subst, arith as numbers}
 use Rattle.std.specs.Prelude.{⊤}
 use Rattle.fr_base.specs.declared.place.Lval.{Lval}
+use Rattle.fr_base.specs.declared.place.Op.{Op}
 use Rattle.fr_terms.specs.Terms.{Text}
-use Rattle.fr_typing.specs.Kinds.{Owned, unit, int, box, own, whole}
-use Rattle.fr_typing.specs.Places.{Slot, Env}
+use Rattle.fr_typing.specs.Kinds.{Owned, unit, int, box, mutex, task, Kind, own, shared, mutable, view, whole}
+use Rattle.fr_typing.specs.Places.{Slot, Env, AreBelow, kind_places}
+use Rattle.fr_typing.proofs.PlaceLemmas.{AreBelow-weaker}
+use Rattle.fr_store.specs.Thread.{temp_places}
 use Rattle.fr_plain.specs.declared.value.Value.{Value}
-use Rattle.fr_plain.specs.Acts.{Act, do_let, do_read, do_assign, do_box, do_print, do_discard, do_drop}
-use Rattle.fr_plain.specs.Run.{Run, temp, unit_c, number, read, box_r, bind, print, assign, block, Parts, last, more, Now, going, constant, temporary, by_now, on_value, after, at_end, now, now_parts, Move, next, alone, block_end, move, move_parts, settle, settle_parts, settle_more, close_last, close}
-use Rattle.fr_sound.specs.RunTypes.{Assigns, Falls, f_none, f_one, RunTypes, t_temp, t_unit, t_number, t_copy, t_move, t_box, t_let, t_print, t_assign, t_block, PartsTypes, p_last, p_more, first_of, held, held_in, Operand, o_temp, o_unit, o_int, ActTypes, a_let, a_copy, a_move, a_assign, a_box, a_print, a_discard, a_drop, held_after}
+use Rattle.fr_plain.specs.Acts.{Act, do_let, do_read, do_borrow, do_assign, do_box, do_arith, do_print, do_discard, do_drop}
+use Rattle.fr_plain.specs.State.{State}
+use Rattle.fr_plain.specs.Run.{Run, temp, unit_c, number, read, borrow, box_r, arith, bind, print, assign, block, Parts, last, more, Now, going, constant, temporary, by_now, on_value, after, at_end, now, now_parts, Move, next, alone, block_end, move, move_parts}
+use Rattle.fr_sound.specs.RunTypes.{Assigns, Falls, f_none, f_one, IsInt, IsNumber, RunTypes, t_temp, t_unit, t_copy, t_move, t_borrow, t_borrow_mut, t_box, t_left, t_right, t_let, t_print, t_assign, t_block, PartsTypes, p_last, p_more, first_of, held, held_in, Operand, o_temp, o_int, ActTypes, a_let, a_copy, a_move, a_borrow, a_borrow_mut, a_assign, a_box, a_arith, a_print, a_discard, a_drop, held_after}
+use Rattle.fr_sound.specs.Seen.{Holds}
+use Rattle.fr_sound.proofs.Hand.{hand_int, let_go_value}
+use Rattle.fr_sound.proofs.DoneTerms.{Done, d_going, d_constant, d_temporary, done, IsDone, anywhere_parts, done_parts, first_none, number_held, going_held, quiet, quiet_parts}
 
--- what a done term's typing says: its environment is left as it was, and its value is an operand
-pub data Done : Now → Env → Option Owned → Option Value → Owned → Env → Type 0 where
-  d_going : {e e1 : Env} {o : Option Owned} {h : Option Value} {x : Owned} → Done going e o h x e1
-  d_constant : {e : Env} {v : Value} {x : Owned} → Operand None None v x → Done (constant v) e None None x e
-  d_temporary : {e : Env} {v : Value} {x : Owned} → Done (temporary v) e (Some x) (Some v) x e
+-- INTEGERS LEAVE THE HAND
 
-at_end_done : {w : Now} {n : ℕ} {e e1 e2 : Env} {o : Option Owned} {h : Option Value} {x : Owned} → Falls n e1 e2 → Done w e o h x e1 → Done (at_end n w) e o h x e2
-at_end_done f_none d = d
-at_end_done (f_one f) d = d_going
+-- an integer at hand is known to be one
+abbrev pub IntAtHand : Option Kind → Option Value → Type 0
+IntAtHand (Some (own int)) (Some v) = IsInt v
+IntAtHand _ _ = ⊤
 
-after_done : {m w : Now} {e e1 e2 : Env} {o : Option Owned} {h g : Option Value} {x y : Owned} → Done m e o h x e1 → Done w e1 None g y e2 → Done (after m w) e o (first_of h g) y e2
-after_done d_going c = d_going
-after_done (d_constant v) c = c
-after_done d_temporary c = d_going
+-- it is, by the typing of the state
+pub int_at_hand : {e : Env} {st : State} (o : Option Kind) (h : Option Value) → Holds e o h st → IntAtHand o h
+int_at_hand None h y = tt
+int_at_hand (Some (own int)) None y = tt
+int_at_hand (Some (own int)) (Some v) y = hand_int y
+int_at_hand (Some (own unit)) h y = tt
+int_at_hand (Some (own (box x))) h y = tt
+int_at_hand (Some (own (mutex x))) h y = tt
+int_at_hand (Some (own (task x))) h y = tt
+int_at_hand (Some (shared us)) h y = tt
+int_at_hand (Some (mutable us)) h y = tt
+int_at_hand (Some (view x)) h y = tt
 
-mutual
-  -- a term that is done leaves its environment, and its value is an operand of its type
-  pub done : (r : Run) {e e1 : Env} {o : Option Owned} {x : Owned} → RunTypes e o r x e1 → Done (now r) e o (held r) x e1
-  done (temp v) t_temp = d_temporary
-  done unit_c t_unit = d_constant o_unit
-  done (number n) t_number = d_constant o_int
-  done (read w take) t = d_going
-  done (box_r r) t = d_going
-  done (bind r) t = d_going
-  done (print r) t = d_going
-  done (assign w r) t = d_going
-  done (block n is) (t_block p f) = at_end_done f (done_parts is p)
+-- the value at hand stays there, or is an integer that a left operand keeps
+pub data Passes : Option Kind → Option Value → Option Kind → Option Value → Type 0 where
+  stays : {o : Option Kind} {h : Option Value} → Passes o h o h
+  leaves_hand : {v : Value} → IsInt v → Passes (Some (own int)) (Some v) None None
 
-  pub done_parts : (is : Parts) {e e1 : Env} {o : Option Owned} {x : Owned} → PartsTypes e o is x e1 → Done (now_parts is) e o (held_in is) x e1
-  done_parts (last r) (p_last t) = done r t
-  done_parts (more r is) (p_more t p) = after_done (done r t) (done_parts is p)
+-- the state stays typed
+pub passes_hold : {e : Env} {o o2 : Option Kind} {h h2 : Option Value} {st : State} → Passes o h o2 h2 → Holds e o h st → Holds e o2 h2 st
+passes_hold stays y = y
+passes_hold (leaves_hand i) y = let_go_value y i
 
--- the next act is typed, and so is what the term becomes with any value that it leaves
-pub record Goes (e : Env) (o : Option Owned) (h : Option Value) (x : Owned) (e1 : Env) (move : Option (Move Run)) : Type 0 where
+-- what a term becomes is typed, where the value at hand is given with its type
+pub record Becomes (e : Env) (o : Option Kind) (h : Option Value) (r : Run) (k : Kind) (e1 : Env) : Type 0 where
+  pub hand : Option Kind
+  pub types : RunTypes e hand r k e1
+  pub passes : Passes o h hand (held r)
+
+pub record PartsBecome (e : Env) (o : Option Kind) (h : Option Value) (is : Parts) (k : Kind) (e1 : Env) : Type 0 where
+  pub hand : Option Kind
+  pub types : PartsTypes e hand is k e1
+  pub passes : Passes o h hand (held_in is)
+
+-- the next act is typed, and so is what the term becomes with the value that it leaves
+pub record Goes (e : Env) (o : Option Kind) (h : Option Value) (k : Kind) (e1 : Env) (move : Option (Move Run)) : Type 0 where
   pub next : Move Run
   pub is : move ≡ Some next
-  pub left : Option Owned
+  pub left : Option Kind
   pub env : Env
   pub act : ActTypes e o h next.act left env
-  pub goes : (v : Value) → RunTypes env left (next.plug v) x e1
-  pub holds : (v : Value) → held (next.plug v) ≡ held_after next.act h v
+  pub goes : (v : Value) → IntAtHand left (held_after next.act h v) → Becomes env left (held_after next.act h v) (next.plug v) k e1
 
-pub record PartsGo (e : Env) (o : Option Owned) (h : Option Value) (x : Owned) (e1 : Env) (move : Option (Move Parts)) : Type 0 where
+pub record PartsGo (e : Env) (o : Option Kind) (h : Option Value) (k : Kind) (e1 : Env) (move : Option (Move Parts)) : Type 0 where
   pub next : Move Parts
   pub is : move ≡ Some next
-  pub left : Option Owned
+  pub left : Option Kind
   pub env : Env
   pub act : ActTypes e o h next.act left env
-  pub goes : (v : Value) → PartsTypes env left (next.plug v) x e1
-  pub holds : (v : Value) → held_in (next.plug v) ≡ held_after next.act h v
+  pub goes : (v : Value) → IntAtHand left (held_after next.act h v) → PartsBecome env left (held_after next.act h v) (next.plug v) k e1
 
 -- a term that is done, or whose next act is typed
-pub data GoesOr : Now → Env → Option Owned → Option Value → Owned → Env → Option (Move Run) → Type 0 where
-  g_going : {e e1 : Env} {o : Option Owned} {h : Option Value} {x : Owned} {m : Option (Move Run)} → Goes e o h x e1 m → GoesOr going e o h x e1 m
-  g_constant : {e e1 : Env} {o : Option Owned} {h : Option Value} {x : Owned} {m : Option (Move Run)} {v : Value} → GoesOr (constant v) e o h x e1 m
-  g_temporary : {e e1 : Env} {o : Option Owned} {h : Option Value} {x : Owned} {m : Option (Move Run)} {v : Value} → GoesOr (temporary v) e o h x e1 m
+pub data GoesOr : Now → Env → Option Kind → Option Value → Kind → Env → Option (Move Run) → Type 0 where
+  g_going : {e e1 : Env} {o : Option Kind} {h : Option Value} {k : Kind} {m : Option (Move Run)} → Goes e o h k e1 m → GoesOr going e o h k e1 m
+  g_constant : {e e1 : Env} {o : Option Kind} {h : Option Value} {k : Kind} {m : Option (Move Run)} {v : Value} → GoesOr (constant v) e o h k e1 m
+  g_temporary : {e e1 : Env} {o : Option Kind} {h : Option Value} {k : Kind} {m : Option (Move Run)} {v : Value} → GoesOr (temporary v) e o h k e1 m
 
-pub data PartsGoOr : Now → Env → Option Owned → Option Value → Owned → Env → Option (Move Parts) → Type 0 where
-  q_going : {e e1 : Env} {o : Option Owned} {h : Option Value} {x : Owned} {m : Option (Move Parts)} → PartsGo e o h x e1 m → PartsGoOr going e o h x e1 m
-  q_constant : {e e1 : Env} {o : Option Owned} {h : Option Value} {x : Owned} {m : Option (Move Parts)} {v : Value} → PartsGoOr (constant v) e o h x e1 m
-  q_temporary : {e e1 : Env} {o : Option Owned} {h : Option Value} {x : Owned} {m : Option (Move Parts)} {v : Value} → PartsGoOr (temporary v) e o h x e1 m
+pub data PartsGoOr : Now → Env → Option Kind → Option Value → Kind → Env → Option (Move Parts) → Type 0 where
+  q_going : {e e1 : Env} {o : Option Kind} {h : Option Value} {k : Kind} {m : Option (Move Parts)} → PartsGo e o h k e1 m → PartsGoOr going e o h k e1 m
+  q_constant : {e e1 : Env} {o : Option Kind} {h : Option Value} {k : Kind} {m : Option (Move Parts)} {v : Value} → PartsGoOr (constant v) e o h k e1 m
+  q_temporary : {e e1 : Env} {o : Option Kind} {h : Option Value} {k : Kind} {m : Option (Move Parts)} {v : Value} → PartsGoOr (temporary v) e o h k e1 m
+
+-- a term that goes on has a next act
+pub goes_of : {n : Now} {e f : Env} {o : Option Kind} {h : Option Value} {k : Kind} {m : Option (Move Run)} → GoesOr n e o h k f m → n ≡ going → Goes e o h k f m
+goes_of (g_going g) e = g
+goes_of g_constant e = cc
+goes_of g_temporary e = cc
 
 -- an act of its own
-one : {e e1 env : Env} {o left : Option Owned} {h : Option Value} {x : Owned} (a : Act) (f : Value → Run) → ActTypes e o h a left env → ((v : Value) → RunTypes env left (f v) x e1) → ((v : Value) → held (f v) ≡ held_after a h v) → Goes e o h x e1 (alone f a)
-one a f t g k = record { next = record { act = a; plug = f }; is = refl; left = _; env = _; act = t; goes = g; holds = k }
+one : {e e1 env : Env} {o left : Option Kind} {h : Option Value} {k : Kind} (a : Act) (f : Value → Run) → ActTypes e o h a left env → ((v : Value) → RunTypes env left (f v) k e1) → ((v : Value) → held (f v) ≡ held_after a h v) → Goes e o h k e1 (alone f a)
+one {left = left} {h = h} a f t g same = record {
+  next = record { act = a; plug = f };
+  is = refl;
+  left = left;
+  env = _;
+  act = t;
+  goes = λ v i. record { hand = left; types = g v; passes = subst (Passes left (held_after a h v) left) (sym (same v)) stays };
+}
 
 -- an act of a part
-under : {e e1 e2 : Env} {o : Option Owned} {h : Option Value} {x y : Owned} {m : Option (Move Run)} (f : Run → Run) → ((q : Run) (env : Env) (left : Option Owned) → RunTypes env left q x e1 → RunTypes env left (f q) y e2) → ((q : Run) → held (f q) ≡ held q) → Goes e o h x e1 m → Goes e o h y e2 (next f m)
-under f t k g = record { next = record { act = g.next.act; plug = λ v. f (g.next.plug v) }; is = ap (next f) g.is; left = g.left; env = g.env; act = g.act; goes = λ v. t _ _ _ (g.goes v); holds = λ v. k (g.next.plug v) ∙ g.holds v }
+under : {e e1 e2 : Env} {o : Option Kind} {h : Option Value} {k l : Kind} {m : Option (Move Run)} (f : Run → Run) → ((q : Run) (env : Env) (left : Option Kind) → RunTypes env left q k e1 → RunTypes env left (f q) l e2) → ((q : Run) → held (f q) ≡ held q) → Goes e o h k e1 m → Goes e o h l e2 (next f m)
+under {h = h} f t same g = record {
+  next = record { act = g.next.act; plug = λ v. f (g.next.plug v) };
+  is = ap (next f) g.is;
+  left = g.left;
+  env = g.env;
+  act = g.act;
+  goes = λ v i. let b = g.goes v i in record { hand = b.hand; types = t _ _ _ b.types; passes = subst (Passes g.left (held_after g.next.act h v) b.hand) (sym (same (g.next.plug v))) b.passes };
+}
 
 -- a term with one part: its own act where the part is done, else the part's
-unary : {n : Now} {e e1 e2 : Env} {o : Option Owned} {h : Option Value} {x y : Owned} (m : Option (Move Run)) (f : Run → Run) (act : Value → Act) (plug : Value → Run) → Done n e o h x e1 → GoesOr n e o h x e1 m
-    → ((q : Run) (env : Env) (left : Option Owned) → RunTypes env left q x e1 → RunTypes env left (f q) y e2) → ((q : Run) → held (f q) ≡ held q)
-    → ((o1 : Option Owned) (h1 : Option Value) (v : Value) → Operand o1 h1 v x → Goes e1 o1 h1 y e2 (alone plug (act v)))
-    → Goes e o h y e2 (on_value n (λ v. alone plug (act v)) (next f m))
-unary m f act plug d_going (g_going g) t k finish = under f t k g
-unary m f act plug (d_constant p) g t k finish = finish None None _ p
-unary m f act plug d_temporary g t k finish = finish (Some _) (Some _) _ o_temp
-
--- DONE TERMS STAND ANYWHERE
-
-abbrev IsDone : Now → Type 0
-IsDone going = ⊥
-IsDone (constant v) = ⊤
-IsDone (temporary v) = ⊤
-
-both_done : (m w : Now) → IsDone (after m w) → IsDone m × IsDone w
-both_done going w d = absurd d
-both_done (constant v) w d = (tt, d)
-both_done (temporary v) w d = absurd d
-
-mutual
-  -- a done term has its type in every environment
-  anywhere : (r : Run) {e e1 : Env} {o : Option Owned} {x : Owned} (e2 : Env) → IsDone (now r) → RunTypes e o r x e1 → RunTypes e2 o r x e2
-  anywhere (temp v) e2 d t_temp = t_temp
-  anywhere unit_c e2 d t_unit = t_unit
-  anywhere (number n) e2 d t_number = t_number
-  anywhere (read w take) e2 d t = absurd d
-  anywhere (box_r r) e2 d t = absurd d
-  anywhere (bind r) e2 d t = absurd d
-  anywhere (print r) e2 d t = absurd d
-  anywhere (assign w r) e2 d t = absurd d
-  anywhere (block n is) e2 d (t_block p f_none) = t_block (anywhere_parts is e2 d p) f_none
-  anywhere (block n is) e2 d (t_block p (f_one f)) = absurd d
-
-  anywhere_parts : (is : Parts) {e e1 : Env} {o : Option Owned} {x : Owned} (e2 : Env) → IsDone (now_parts is) → PartsTypes e o is x e1 → PartsTypes e2 o is x e2
-  anywhere_parts (last r) e2 d (p_last t) = p_last (anywhere r e2 d t)
-  anywhere_parts (more r is) e2 d (p_more t p) = let b = both_done (now r) (now_parts is) d in p_more (anywhere r e2 b.0 t) (anywhere_parts is e2 b.1 p)
-
--- WITHOUT A TEMPORARY VALUE
-
-first_none : (a : Option Value) → first_of a None ≡ a
-first_none None = refl
-first_none (Some v) = refl
-
-mutual
-  -- a term typed without a temporary value has none
-  pub quiet : (r : Run) {e e1 : Env} {x : Owned} → RunTypes e None r x e1 → held r ≡ None
-  quiet (temp v) t = elim t [ ]
-  quiet unit_c t = refl
-  quiet (number n) t = refl
-  quiet (read w take) t = refl
-  quiet (box_r r) (t_box t) = quiet r t
-  quiet (bind r) (t_let name t) = quiet r t
-  quiet (print r) (t_print t) = quiet r t
-  quiet (assign w r) (t_assign t a) = quiet r t
-  quiet (block n is) (t_block p f) = quiet_parts is p
-
-  pub quiet_parts : (is : Parts) {e e1 : Env} {x : Owned} → PartsTypes e None is x e1 → held_in is ≡ None
-  quiet_parts (last r) (p_last t) = quiet r t
-  quiet_parts (more r is) (p_more t p) = ap (λ a. first_of a (held_in is)) (quiet r t) ∙ quiet_parts is p
+unary : {n : Now} {e e1 e2 : Env} {o : Option Kind} {h : Option Value} {k l : Kind} (m : Option (Move Run)) (f : Run → Run) (act : Value → Act) (plug : Value → Run) → Done n e o h k e1 → GoesOr n e o h k e1 m
+    → ((q : Run) (env : Env) (left : Option Kind) → RunTypes env left q k e1 → RunTypes env left (f q) l e2) → ((q : Run) → held (f q) ≡ held q)
+    → ((o1 : Option Kind) (h1 : Option Value) (v : Value) → Operand o1 h1 v k → Goes e1 o1 h1 l e2 (alone plug (act v)))
+    → Goes e o h l e2 (on_value n (λ v. alone plug (act v)) (next f m))
+unary m f act plug d_going (g_going g) t same finish = under f t same g
+unary m f act plug (d_constant p) g t same finish = finish None None _ p
+unary m f act plug d_temporary g t same finish = finish (Some _) (Some _) _ o_temp
 
 -- THE NEXT ACT
 
-box_finish : {e : Env} {x : Owned} (o : Option Owned) (h : Option Value) (v : Value) → Operand o h v x → Goes e o h (box x) e (alone temp (do_box v))
+-- the box of a value
+box_finish : {e : Env} {x : Owned} (o : Option Kind) (h : Option Value) (v : Value) → Operand o h v (own x) → Goes e o h (own (box x)) e (alone temp (do_box v))
 box_finish o h v p = one (do_box v) temp (a_box p) (λ w. t_temp) (λ w. refl)
 
-let_finish : {e : Env} {x : Owned} (name : Option Text) (o : Option Owned) (h : Option Value) (v : Value) → Operand o h v x → Goes e o h unit (record { name = name; part = whole (own x) } ∷ e) (alone (λ w. unit_c) (do_let v))
+-- the new slot of a value
+let_finish : {e : Env} {k : Kind} (name : Option Text) (o : Option Kind) (h : Option Value) (v : Value) → Operand o h v k → Goes e o h (own unit) (record { name = name; part = whole k } ∷ e) (alone (λ w. unit_c) (do_let v))
 let_finish name o h v p = one (do_let v) (λ w. unit_c) (a_let name p) (λ w. t_unit) (λ w. refl)
 
-print_finish : {e : Env} (o : Option Owned) (h : Option Value) (v : Value) → Operand o h v int → Goes e o h unit e (alone (λ w. unit_c) (do_print v))
+-- the print of a value
+print_finish : {e : Env} (o : Option Kind) (h : Option Value) (v : Value) → Operand o h v (own int) → Goes e o h (own unit) e (alone (λ w. unit_c) (do_print v))
 print_finish o h v p = one (do_print v) (λ w. unit_c) (a_print p) (λ w. t_unit) (λ w. refl)
 
-assign_finish : {e e2 : Env} {w : Lval} {x : Owned} → Assigns e w x e2 → (o : Option Owned) (h : Option Value) (v : Value) → Operand o h v x → Goes e o h unit e2 (alone (λ u. unit_c) (do_assign w v))
+-- the assignment of a value
+assign_finish : {e e2 : Env} {w : Lval} {k : Kind} → Assigns e w k e2 → (o : Option Kind) (h : Option Value) (v : Value) → Operand o h v k → Goes e o h (own unit) e2 (alone (λ u. unit_c) (do_assign w v))
 assign_finish a o h v p = one (do_assign _ v) (λ u. unit_c) (a_assign p a) (λ u. t_unit) (λ u. refl)
 
+-- ARITHMETIC
+
+-- where the left operand becomes done, its integer leaves the hand
+left_becomes : {n : Now} {e e1 e2 : Env} {o left : Option Kind} {h g : Option Value} (f : Op) (a b : Run) → now a ≡ n → held a ≡ g → Done n e o g (own int) e1 → RunTypes e o a (own int) e1 → Passes left h o g → IntAtHand left h → RunTypes e1 None b (own int) e2 → Becomes e left h (arith f a b) (own int) e2
+left_becomes {left = left} {h = h} f a b e same d_going t p i u =
+    record { hand = _; types = t_left e t u; passes = subst (Passes left h _) (sym (going_held f a b e ∙ same)) p }
+left_becomes {left = left} {h = h} f a b e same (d_constant o_int) t p i u =
+    let number : IsNumber (now a) = subst IsNumber (sym e) (_, refl) in
+    record { hand = None; types = t_right number u; passes = subst (Passes left h None) (sym (number_held (now a) (held a) (held b) number ∙ quiet b u)) p }
+left_becomes f a b e same d_temporary t stays i u =
+    let number : IsNumber (now a) = subst IsNumber (sym e) i in
+    record { hand = None; types = t_right number u; passes = subst (Passes (Some (own int)) (Some _) None) (sym (number_held (now a) (held a) (held b) number ∙ quiet b u)) (leaves_hand i) }
+
+-- an act of the left operand
+left_goes : {e e1 e2 : Env} {o : Option Kind} {h : Option Value} {m : Option (Move Run)} (f : Op) (b : Run) → RunTypes e1 None b (own int) e2 → Goes e o h (own int) e1 m → Goes e o h (own int) e2 (next (λ x. arith f x b) m)
+left_goes f b u g = record {
+  next = record { act = g.next.act; plug = λ v. arith f (g.next.plug v) b };
+  is = ap (next (λ x. arith f x b)) g.is;
+  left = g.left;
+  env = g.env;
+  act = g.act;
+  goes = λ v i. let c = g.goes v i in left_becomes f (g.next.plug v) b refl refl (done (g.next.plug v) c.types) c.types c.passes i u;
+}
+
+-- the operation on two values
+arith_finish : {e : Env} (f : Op) (v : Value) → IsInt v → (o : Option Kind) (h : Option Value) (w : Value) → Operand o h w (own int) → Goes e o h (own int) e (alone temp (do_arith f v w))
+arith_finish f v i o h w p = one (do_arith f v w) temp (a_arith i p) (λ u. t_temp) (λ u. refl)
+
+-- the left operand is done: an act of the right one, or the operation
+right_goes : (n : Now) {e e2 : Env} {o : Option Kind} (f : Op) (a b : Run) → now a ≡ n → IsNumber n → RunTypes e o b (own int) e2 → GoesOr (now b) e o (held b) (own int) e2 (move b)
+    → Goes e o (held b) (own int) e2 (on_value n (λ v. on_value (now b) (λ w. alone temp (do_arith f v w)) (next (arith f a) (move b))) (next (λ x. arith f x b) (move a)))
+right_goes going f a b e i t g = absurd i
+right_goes (constant v) f a b e i t g =
+    let number : IsNumber (now a) = subst IsNumber (sym e) i in
+    unary (move b) (arith f a) (do_arith f v) temp (done b t) g (λ q env left u. t_right number u) (λ q. number_held (now a) (held a) (held q) number) (arith_finish f v i)
+right_goes (temporary v) f a b e i t g =
+    let number : IsNumber (now a) = subst IsNumber (sym e) i in
+    unary (move b) (arith f a) (do_arith f v) temp (done b t) g (λ q env left u. t_right number u) (λ q. number_held (now a) (held a) (held q) number) (arith_finish f v i)
+
+-- an operation whose left operand goes on
+arith_left : {e e1 e2 : Env} {o : Option Kind} (f : Op) (a b : Run) → now a ≡ going → RunTypes e1 None b (own int) e2 → GoesOr (now a) e o (held a) (own int) e1 (move a) → Goes e o (held (arith f a b)) (own int) e2 (move (arith f a b))
+arith_left {e = e} {e2 = e2} {o = o} f a b same u g =
+    let moves : move (arith f a b) ≡ next (λ x. arith f x b) (move a) = ap (λ n. on_value n (λ v. on_value (now b) (λ w. alone temp (do_arith f v w)) (next (arith f a) (move b))) (next (λ x. arith f x b) (move a))) same in
+    subst (λ (h : Option Value). Goes e o h (own int) e2 (move (arith f a b))) (sym (going_held f a b same))
+    (subst (λ (m : Option (Move Run)). Goes e o (held a) (own int) e2 m) (sym moves) (left_goes f b u (goes_of g same)))
+
+-- an operation whose left operand is done
+arith_right : {e e2 : Env} {o : Option Kind} (f : Op) (a b : Run) → IsNumber (now a) → RunTypes e o b (own int) e2 → GoesOr (now b) e o (held b) (own int) e2 (move b) → Goes e o (held (arith f a b)) (own int) e2 (move (arith f a b))
+arith_right {e = e} {e2 = e2} {o = o} f a b i t g =
+    subst (λ (h : Option Value). Goes e o h (own int) e2 (move (arith f a b))) (sym (number_held (now a) (held a) (held b) i)) (right_goes (now a) f a b refl i t g)
+
+-- BLOCKS
+
+-- slots that go leave fewer
+falls_length : {n : ℕ} {e e2 : Env} → Falls n e e2 → length e2 ≤ length e
+falls_length f_none = omega numbers
+falls_length (f_one f) = let l = falls_length f in omega (numbers, l)
+
 -- a block: an act of its items, or the end of a slot
-inside_block : (n : ℕ) {e e1 e2 : Env} {o : Option Owned} {h : Option Value} {x : Owned} {m : Option (Move Parts)} → Falls n e1 e2 → PartsGo e o h x e1 m → Goes e o h x e2 (next (block n) m)
-inside_block n f g = record { next = record { act = g.next.act; plug = λ v. block n (g.next.plug v) }; is = ap (next (block n)) g.is; left = g.left; env = g.env; act = g.act; goes = λ v. t_block (g.goes v) f; holds = g.holds }
+inside_block : (n : ℕ) {e e1 e2 : Env} {o : Option Kind} {h : Option Value} {k : Kind} {m : Option (Move Parts)} → Falls n e1 e2 → AreBelow (length e2) (kind_places k) → PartsGo e o h k e1 m → Goes e o h k e2 (next (block n) m)
+inside_block n f below g = record {
+  next = record { act = g.next.act; plug = λ v. block n (g.next.plug v) };
+  is = ap (next (block n)) g.is;
+  left = g.left;
+  env = g.env;
+  act = g.act;
+  goes = λ v i. let b = g.goes v i in record { hand = b.hand; types = t_block b.types f below; passes = b.passes };
+}
 
-drops_slot : (k : ℕ) (is : Parts) {s : Slot} {e e2 : Env} {o : Option Owned} {h : Option Value} {x : Owned} → held_in is ≡ h → Falls k e e2 → PartsTypes e o is x e → Goes (s ∷ e) o h x e2 (alone (λ v. block k is) do_drop)
-drops_slot k is same f p = one do_drop (λ v. block k is) a_drop (λ v. t_block p f) (λ v. same)
+-- the end of a slot
+drops_slot : (n : ℕ) (is : Parts) {s : Slot} {e e2 : Env} {o : Option Kind} {h : Option Value} {k : Kind} → held_in is ≡ h → Falls n e e2 → AreBelow (length e2) (kind_places k) → AreBelow (length e) (temp_places o) → PartsTypes e o is k e → Goes (s ∷ e) o h k e2 (alone (λ v. block n is) do_drop)
+drops_slot n is same f below names p = one do_drop (λ v. block n is) (a_drop names) (λ v. t_block p f below) (λ v. same)
 
-block_goes : {w : Now} (n : ℕ) (is : Parts) {e e1 e2 : Env} {o : Option Owned} {h : Option Value} {x : Owned} (m : Option (Move Parts)) → w ≡ now_parts is → held_in is ≡ h → Done w e o h x e1 → PartsGoOr w e o h x e1 m → PartsTypes e o is x e1 → Falls n e1 e2
-    → GoesOr (at_end n w) e o h x e2 (on_value w (λ v. block_end n is) (next (block n) m))
-block_goes zero is m is_now same d_going (q_going g) p f = g_going (inside_block zero f g)
-block_goes (suc k) is m is_now same d_going (q_going g) p f = g_going (inside_block (suc k) f g)
-block_goes zero is m is_now same (d_constant v) g p f = g_constant
-block_goes (suc k) is m is_now same (d_constant v) g p (f_one f) = g_going (drops_slot k is same f (anywhere_parts is _ (subst IsDone is_now tt) p))
-block_goes zero is m is_now same d_temporary g p f = g_temporary
-block_goes (suc k) is m is_now same d_temporary g p (f_one f) = g_going (drops_slot k is same f (anywhere_parts is _ (subst IsDone is_now tt) p))
+-- a block, by whether its items are done
+block_goes : {w : Now} (n : ℕ) (is : Parts) {e e1 e2 : Env} {o : Option Kind} {h : Option Value} {k : Kind} (m : Option (Move Parts)) → w ≡ now_parts is → held_in is ≡ h → Done w e o h k e1 → PartsGoOr w e o h k e1 m → PartsTypes e o is k e1 → Falls n e1 e2 → AreBelow (length e2) (kind_places k)
+    → GoesOr (at_end n w) e o h k e2 (on_value w (λ v. block_end n is) (next (block n) m))
+block_goes zero is m is_now same d_going (q_going g) p f below = g_going (inside_block zero f below g)
+block_goes (suc n) is m is_now same d_going (q_going g) p f below = g_going (inside_block (suc n) f below g)
+block_goes zero is m is_now same (d_constant v) g p f below = g_constant
+block_goes (suc n) is {e2 = e2} {k = k} m is_now same (d_constant v) g p (f_one {e = e3} f) below =
+    g_going (drops_slot n is same f below tt (anywhere_parts is e3 (subst IsDone is_now tt) (AreBelow-weaker (length e2) (length e3) (kind_places k) (falls_length f) below) p))
+block_goes zero is m is_now same d_temporary g p f below = g_temporary
+block_goes (suc n) is {e2 = e2} {k = k} m is_now same d_temporary g p (f_one {e = e3} f) below =
+    let low = AreBelow-weaker (length e2) (length e3) (kind_places k) (falls_length f) below in
+    g_going (drops_slot n is same f below low (anywhere_parts is e3 (subst IsDone is_now tt) low p))
 
-in_last : {e e1 : Env} {o : Option Owned} {h : Option Value} {x : Owned} {m : Option (Move Run)} → Goes e o h x e1 m → PartsGo e o h x e1 (next last m)
-in_last g = record { next = record { act = g.next.act; plug = λ v. last (g.next.plug v) }; is = ap (next last) g.is; left = g.left; env = g.env; act = g.act; goes = λ v. p_last (g.goes v); holds = g.holds }
+-- an act of the last item
+in_last : {e e1 : Env} {o : Option Kind} {h : Option Value} {k : Kind} {m : Option (Move Run)} → Goes e o h k e1 m → PartsGo e o h k e1 (next last m)
+in_last g = record {
+  next = record { act = g.next.act; plug = λ v. last (g.next.plug v) };
+  is = ap (next last) g.is;
+  left = g.left;
+  env = g.env;
+  act = g.act;
+  goes = λ v i. let b = g.goes v i in record { hand = b.hand; types = p_last b.types; passes = b.passes };
+}
 
-last_goes : {w : Now} {e e1 : Env} {o : Option Owned} {h : Option Value} {x : Owned} (m : Option (Move Run)) → GoesOr w e o h x e1 m → PartsGoOr w e o h x e1 (next last m)
+-- the last item, by whether it is done
+last_goes : {w : Now} {e e1 : Env} {o : Option Kind} {h : Option Value} {k : Kind} (m : Option (Move Run)) → GoesOr w e o h k e1 m → PartsGoOr w e o h k e1 (next last m)
 last_goes m (g_going g) = q_going (in_last g)
 last_goes m g_constant = q_constant
 last_goes m g_temporary = q_temporary
 
-in_first : (is : Parts) {e e1 e2 : Env} {o : Option Owned} {h : Option Value} {x y : Owned} {m : Option (Move Run)} → PartsTypes e1 None is y e2 → Goes e o h x e1 m → PartsGo e o (first_of h (held_in is)) y e2 (next (λ q. more q is) m)
-in_first is {e = e} {o = o} {h = h} p g =
-    let q = quiet_parts is p in
-    let same : first_of h (held_in is) ≡ h = ap (first_of h) q ∙ first_none h in
-    record {
+-- an act of an item before others
+in_first : (is : Parts) {e e1 e2 : Env} {o : Option Kind} {h : Option Value} {k l : Kind} {m : Option (Move Run)} → PartsTypes e1 None is l e2 → Goes e o h k e1 m → PartsGo e o (first_of h (held_in is)) l e2 (next (λ q. more q is) m)
+in_first is {e = e} {e2 = e2} {o = o} {h = h} {l = l} {m = m} p g = subst (λ (x : Option Value). PartsGo e o x l e2 (next (λ q. more q is) m)) (sym (ap (first_of h) q ∙ first_none h)) at_first
+  where
+    q : held_in is ≡ None
+    q = quiet_parts is p
+
+    at_first : PartsGo e o h l e2 (next (λ q. more q is) m)
+    at_first = record {
       next = record { act = g.next.act; plug = λ v. more (g.next.plug v) is };
       is = ap (next (λ q. more q is)) g.is;
       left = g.left;
       env = g.env;
-      act = subst (λ (k : Option Value). ActTypes e o k g.next.act g.left g.env) (sym same) g.act;
-      goes = λ v. p_more (g.goes v) p;
-      holds = λ v. ap (first_of (held (g.next.plug v))) q ∙ first_none (held (g.next.plug v)) ∙ g.holds v ∙ ap (λ k. held_after g.next.act k v) (sym same);
+      act = g.act;
+      goes = λ v i. let b = g.goes v i in record { hand = b.hand; types = p_more b.types p; passes = subst (Passes g.left (held_after g.next.act h v) b.hand) (sym (ap (first_of (held (g.next.plug v))) q ∙ first_none (held (g.next.plug v)))) b.passes };
     }
 
-more_goes : {w : Now} (u : Now) (is : Parts) {e e1 e2 : Env} {o : Option Owned} {h : Option Value} {x y : Owned} (m : Option (Move Run)) (n : Option (Move Parts)) → Done w e o h x e1 → GoesOr w e o h x e1 m → PartsTypes e1 None is y e2
-    → PartsGoOr u e1 None (held_in is) y e2 n → PartsGoOr (after w u) e o (first_of h (held_in is)) y e2 (by_now w (next (λ q. more q is) m) (λ v. n) (λ v. alone (λ q. is) (do_discard v)))
-more_goes u is m n d_going (g_going g) p k = q_going (in_first is p g)
-more_goes u is m n (d_constant v) g p k = k
-more_goes u is m n d_temporary g p k =
-    q_going (record { next = record { act = do_discard _; plug = λ v. is }; is = refl; left = None; env = _; act = a_discard; goes = λ v. p; holds = λ v. quiet_parts is p })
+-- an item before others, by whether it is done
+more_goes : {w : Now} (u : Now) (is : Parts) {e e1 e2 : Env} {o : Option Kind} {h : Option Value} {k l : Kind} (m : Option (Move Run)) (n : Option (Move Parts)) → Done w e o h k e1 → GoesOr w e o h k e1 m → PartsTypes e1 None is l e2
+    → PartsGoOr u e1 None (held_in is) l e2 n → PartsGoOr (after w u) e o (first_of h (held_in is)) l e2 (by_now w (next (λ q. more q is) m) (λ v. n) (λ v. alone (λ q. is) (do_discard v)))
+more_goes u is m n d_going (g_going g) p c = q_going (in_first is p g)
+more_goes u is m n (d_constant v) g p c = c
+more_goes u is m n d_temporary g p c =
+    q_going (record { next = record { act = do_discard _; plug = λ v. is }; is = refl; left = None; env = _; act = a_discard; goes = λ v i. record { hand = None; types = p; passes = subst (Passes None None None) (sym (quiet_parts is p)) stays } })
 
 mutual
   -- a typed term is done, or its next act is typed
-  pub redex : (r : Run) {e e1 : Env} {o : Option Owned} {x : Owned} → RunTypes e o r x e1 → GoesOr (now r) e o (held r) x e1 (move r)
+  pub redex : (r : Run) {e e1 : Env} {o : Option Kind} {k : Kind} → RunTypes e o r k e1 → GoesOr (now r) e o (held r) k e1 (move r)
   redex (temp v) t = g_temporary
   redex unit_c t = g_constant
   redex (number n) t = g_constant
   redex (read w take) (t_copy c) = g_going (one (do_read w false) temp (a_copy c) (λ v. t_temp) (λ v. refl))
   redex (read w take) (t_move m) = g_going (one (do_read w true) temp (a_move m) (λ v. t_temp) (λ v. refl))
+  redex (borrow w) (t_borrow m) = g_going (one (do_borrow w) temp (a_borrow m) (λ v. t_temp) (λ v. refl))
+  redex (borrow w) (t_borrow_mut m) = g_going (one (do_borrow w) temp (a_borrow_mut m) (λ v. t_temp) (λ v. refl))
   redex (box_r r) (t_box t) = g_going (unary (move r) box_r do_box temp (done r t) (redex r t) (λ q env left. t_box) (λ q. refl) box_finish)
+  redex (arith f a b) (t_left same t u) = g_going (arith_left f a b same u (redex a t))
+  redex (arith f a b) (t_right i t) = g_going (arith_right f a b i t (redex b t))
   redex (bind r) (t_let name t) = g_going (unary (move r) bind do_let (λ w. unit_c) (done r t) (redex r t) (λ q env left. t_let name) (λ q. refl) (let_finish name))
   redex (print r) (t_print t) = g_going (unary (move r) print do_print (λ w. unit_c) (done r t) (redex r t) (λ q env left. t_print) (λ q. refl) print_finish)
   redex (assign w r) (t_assign t a) = g_going (unary (move r) (assign w) (do_assign w) (λ u. unit_c) (done r t) (redex r t) (λ q env left h. t_assign h a) (λ q. refl) (assign_finish a))
-  redex (block n is) (t_block p f) = block_goes n is (move_parts is) refl refl (done_parts is p) (redex_parts is p) p f
+  redex (block n is) (t_block p f below) = block_goes n is (move_parts is) refl refl (done_parts is p) (redex_parts is p) p f below
 
-  pub redex_parts : (is : Parts) {e e1 : Env} {o : Option Owned} {x : Owned} → PartsTypes e o is x e1 → PartsGoOr (now_parts is) e o (held_in is) x e1 (move_parts is)
+  -- and so are typed parts
+  pub redex_parts : (is : Parts) {e e1 : Env} {o : Option Kind} {k : Kind} → PartsTypes e o is k e1 → PartsGoOr (now_parts is) e o (held_in is) k e1 (move_parts is)
   redex_parts (last r) (p_last t) = last_goes (move r) (redex r t)
   redex_parts (more r is) (p_more t p) = more_goes (now_parts is) is (move r) (move_parts is) (done r t) (redex r t) p (redex_parts is p)
-
--- SETTLING
-
-settled_last : (w : Now) (r : Run) {e e1 e2 : Env} {o : Option Owned} {x : Owned} → RunTypes e o r x e1 → Falls zero e1 e2 → RunTypes e o (close_last w r) x e2
-settled_last going r t f = t_block (p_last t) f
-settled_last (constant v) r t f_none = t
-settled_last (temporary v) r t f_none = t
-
-closes : (n : ℕ) (is : Parts) {e e1 e2 : Env} {o : Option Owned} {x : Owned} → PartsTypes e o is x e1 → Falls n e1 e2 → RunTypes e o (close n is) x e2
-closes zero (last r) (p_last t) f = settled_last (now r) r t f
-closes zero (more r is) p f = t_block p f
-closes (suc n) is p f = t_block p f
-
-more_settles : {w : Now} (r : Run) (is rest : Parts) {e e1 e2 : Env} {o : Option Owned} {h : Option Value} {x y : Owned} → Done w e o h x e1 → RunTypes e o r x e1 → PartsTypes e1 None is y e2 → PartsTypes e1 None rest y e2 → PartsTypes e o (settle_more w r is rest) y e2
-more_settles r is rest d_going t p q = p_more t p
-more_settles r is rest (d_constant v) t p q = q
-more_settles r is rest d_temporary t p q = p_more t p
-
-mutual
-  -- settling keeps the typing
-  pub settle_types : (r : Run) {e e1 : Env} {o : Option Owned} {x : Owned} → RunTypes e o r x e1 → RunTypes e o (settle r) x e1
-  settle_types (temp v) t = t
-  settle_types unit_c t = t
-  settle_types (number n) t = t
-  settle_types (read w take) t = t
-  settle_types (box_r r) (t_box t) = t_box (settle_types r t)
-  settle_types (bind r) (t_let name t) = t_let name (settle_types r t)
-  settle_types (print r) (t_print t) = t_print (settle_types r t)
-  settle_types (assign w r) (t_assign t a) = t_assign (settle_types r t) a
-  settle_types (block n is) (t_block p f) = closes n (settle_parts is) (settle_parts_types is p) f
-
-  pub settle_parts_types : (is : Parts) {e e1 : Env} {o : Option Owned} {x : Owned} → PartsTypes e o is x e1 → PartsTypes e o (settle_parts is) x e1
-  settle_parts_types (last r) (p_last t) = p_last (settle_types r t)
-  settle_parts_types (more r is) (p_more t p) = let s = settle_types r t in more_settles (settle r) is (settle_parts is) (done (settle r) s) s p (settle_parts_types is p)
-
-held_last : (w : Now) (r : Run) → held (close_last w r) ≡ held r
-held_last going r = refl
-held_last (constant v) r = refl
-held_last (temporary v) r = refl
-
-held_close : (n : ℕ) (is : Parts) → held (close n is) ≡ held_in is
-held_close zero (last r) = held_last (now r) r
-held_close zero (more r is) = refl
-held_close (suc n) is = refl
-
-more_holds : {w : Now} (r : Run) (is rest : Parts) {e e1 : Env} {o : Option Owned} {h : Option Value} {x : Owned} → Done w e o h x e1 → held r ≡ h → held_in rest ≡ held_in is → held_in (settle_more w r is rest) ≡ first_of (held r) (held_in is)
-more_holds r is rest d_going same q = refl
-more_holds r is rest (d_constant v) same q = q ∙ sym (ap (λ a. first_of a (held_in is)) same)
-more_holds r is rest d_temporary same q = refl
-
-mutual
-  -- settling keeps the temporary value
-  pub settle_holds : (r : Run) {e e1 : Env} {o : Option Owned} {x : Owned} → RunTypes e o r x e1 → held (settle r) ≡ held r
-  settle_holds (temp v) t = refl
-  settle_holds unit_c t = refl
-  settle_holds (number n) t = refl
-  settle_holds (read w take) t = refl
-  settle_holds (box_r r) (t_box t) = settle_holds r t
-  settle_holds (bind r) (t_let name t) = settle_holds r t
-  settle_holds (print r) (t_print t) = settle_holds r t
-  settle_holds (assign w r) (t_assign t a) = settle_holds r t
-  settle_holds (block n is) (t_block p f) = held_close n (settle_parts is) ∙ settle_parts_hold is p
-
-  pub settle_parts_hold : (is : Parts) {e e1 : Env} {o : Option Owned} {x : Owned} → PartsTypes e o is x e1 → held_in (settle_parts is) ≡ held_in is
-  settle_parts_hold (last r) (p_last t) = settle_holds r t
-  settle_parts_hold (more r is) (p_more t p) =
-      more_holds (settle r) is (settle_parts is) (done (settle r) (settle_types r t)) refl (settle_parts_hold is p) ∙ ap (λ a. first_of a (held_in is)) (settle_holds r t)

@@ -19,10 +19,12 @@ use Rattle.fr_sound.specs.Seen.{owned_val, val_of, vals, seen_cell, heap_of}
 
 -- SLOTS
 
+-- as many slots are seen as there are
 pub length_vals : (t : ℕ) (vs : List Value) → length (vals t vs) ≡ length vs
 length_vals t [] = refl
 length_vals t (v ∷ vs) = ap suc (length_vals t vs)
 
+-- a slot that is found, by the test of its number
 some_slot : (b : Bool) (t : ℕ) (v : Value) (x : Option Value) (w : Value) (rest : Val) → (x ≡ Some w → rest ≡ val_of t w) → (if b then Some v else x) ≡ Some w → (if b then val_of t v else rest) ≡ val_of t w
 some_slot true t v x w rest go h = let same : v ≡ w = cc in ap (val_of t) same
 some_slot false t v x w rest go h = go h
@@ -39,21 +41,25 @@ slot_there [] i lt = absurd (omega arith)
 slot_there (v ∷ vs) i lt =
     eq_cases (λ b. (w : Value) × ((if b then Some v else slot_at vs i) ≡ Some w)) i (length vs) (λ e. (v, refl)) (λ ne. slot_there vs i (omega arith))
 
+-- the slots seen after a write
 pub vals_with : (t : ℕ) (vs : List Value) (i : ℕ) (w : Value) → vals t (with_slot vs i w) ≡ put_slot (vals t vs) i (val_of t w)
 vals_with t [] i w = refl
 vals_with t (v ∷ vs) i w =
     eq_cases (λ b. vals t (if b then w ∷ vs else v ∷ with_slot vs i w) ≡ (if b then val_of t w ∷ vals t vs else val_of t v ∷ put_slot (vals t vs) i (val_of t w))) i (length vs) (λ e. refl) (λ ne. ap (λ x. val_of t v ∷ x) (vals_with t vs i w))
     ∙ ap (λ n. if i == n then val_of t w ∷ vals t vs else val_of t v ∷ put_slot (vals t vs) i (val_of t w)) (sym (length_vals t vs))
 
+-- a write adds no slot
 pub length_with_slot : (vs : List Value) (i : ℕ) (w : Value) → length (with_slot vs i w) ≡ length vs
 length_with_slot [] i w = refl
 length_with_slot (v ∷ vs) i w = eq_cases (λ b. length (if b then w ∷ vs else v ∷ with_slot vs i w) ≡ suc (length vs)) i (length vs) (λ e. refl) (λ ne. ap suc (length_with_slot vs i w))
 
 -- THE HEAP
 
+-- an object by its thread and number
 abbrev object_of : ℕ → ℕ → ObjNo
 object_of t c = record { thread = t; count = c }
 
+-- an object is told by its thread and number
 object_is : (x o : ObjNo) → x.thread ≡ o.thread → x.count ≡ o.count → x ≡ o
 object_is x o e f = ap (λ t. object_of t x.count) e ∙ ap (object_of o.thread) f
 
@@ -78,6 +84,7 @@ cell_with h o x c lt = object_cases (λ b. cell_at (with_cell h o c) x ≡ (if b
         ∙ flat_is (slice_set (made_by h o.thread) o.count c) x.count ∙ get_or-set_other (made_by h o.thread) o.count x.count c None off ∙ sym (flat_is (made_by h o.thread) x.count) ∙ ap (λ u. flat (slice_get (made_by h u) x.count)) (sym e)))
         (λ off. ap (λ ys. flat (slice_get ys x.count)) (made_other h o.thread x.thread (slice_set (made_by h o.thread) o.count c) off))
 
+-- a cell is seen by the same test
 seen_if : (b : Bool) (c d : Option Plain) → seen_cell (if b then c else d) ≡ (if b then seen_cell c else seen_cell d)
 seen_if true c d = refl
 seen_if false c d = refl
@@ -113,6 +120,7 @@ cell_made h t x v = object_cases (λ b. cell_at (with_object h t v) x ≡ (if b 
         ∙ flat_push (made_by h t) v x.count (λ f. ne (object_is x (next_object h t) e f)) ∙ ap (λ u. flat (slice_get (made_by h u) x.count)) (sym e))
         (λ off. ap (λ ys. flat (slice_get ys x.count)) (made_other h t x.thread (made_by h t ++ Some v ∷ []) off))
 
+-- the heap seen after an object is made
 pub heap_made : (h : Heap) (t : ℕ) (x : ObjNo) (v : Plain) → heap_of (with_object h t v) x ≡ put_object (heap_of h) (next_object h t) (owned_val v) x
 heap_made h t x v = ap seen_cell (cell_made h t x v) ∙ seen_if (same_object x (next_object h t)) (Some v) (cell_at h x)
 
@@ -129,6 +137,7 @@ made_kept h o c u =
     (λ e. ap (λ w. length (made_by (with_cell h o c) w)) e ∙ ap length (made_same h o.thread (slice_set (made_by h o.thread) o.count c)) ∙ length-set (made_by h o.thread) o.count c ∙ ap (λ w. length (made_by h w)) (sym e))
     (λ ne. ap length (made_other h o.thread u (slice_set (made_by h o.thread) o.count c) ne))
 
+-- no thread has made fewer
 pub made_grows : (h : Heap) (t : ℕ) (v : Plain) (u : ℕ) → length (made_by h u) ≤ length (made_by (with_object h t v) u)
 made_grows h t v u =
     eq_cases (λ b. length (made_by h u) ≤ length (made_by (with_object h t v) u)) u t
@@ -137,11 +146,13 @@ made_grows h t v u =
     omega (arith, a, b, length-append (made_by h t) (Some v ∷ [])))
     (λ ne. let a = ap length (made_other h t u (made_by h t ++ Some v ∷ []) ne) in omega (arith, a))
 
+-- the next object was made
 pub made_next : (h : Heap) (t : ℕ) (v : Plain) → length (made_by h t) < length (made_by (with_object h t v) t)
 made_next h t v = let a = ap length (made_same h t (made_by h t ++ Some v ∷ [])) in omega (arith, a, length-append (made_by h t) (Some v ∷ []))
 
 -- DROPPING
 
+-- one object less
 count_set : (xs : List (Option Plain)) (i : ℕ) (v : Plain) → flat (slice_get xs i) ≡ Some v → count_cells (slice_set xs i None) + 1 ≡ count_cells xs
 count_set [] i v h = cc
 count_set (None ∷ xs) zero v h = cc
@@ -149,6 +160,7 @@ count_set (Some w ∷ xs) zero v h = omega arith
 count_set (None ∷ xs) (suc i) v h = count_set xs i v h
 count_set (Some w ∷ xs) (suc i) v h = let g = count_set xs i v h in omega (arith, g)
 
+-- the live objects after a change of a thread
 live_cells : (h : Heap) (t : ℕ) (ys : List (Option Plain)) → live (with_cells h t ys) + count_cells (made_by h t) ≡ live h + count_cells ys
 live_cells [] t ys = omega arith
 live_cells (m ∷ ms) t ys =
@@ -166,12 +178,15 @@ live_falls h o v e =
 abbrev pub SameHeap : (ObjNo → Option Val) → (ObjNo → Option Val) → Type 0
 SameHeap f g = (x : ObjNo) → f x ≡ g x
 
+-- the same object less
 without_same : (f g : ObjNo → Option Val) (o : ObjNo) → SameHeap f g → SameHeap (without_object f o) (without_object g o)
 without_same f g o h x = ap (λ v. if same_object x o then None else v) (h x)
 
+-- an object less that was not there
 without_none : (f : ObjNo → Option Val) (o : ObjNo) → f o ≡ None → SameHeap (without_object f o) f
 without_none f o h x = object_cases (λ b. (if b then None else f x) ≡ f x) x o (λ e. sym (ap f e ∙ h)) (λ ne. refl)
 
+-- dropping gone drops nothing
 drop_nothing : (n : ℕ) (f : ObjNo → Option Val) → drop_objects n gone_v f ≡ f
 drop_nothing zero f = refl
 drop_nothing (suc n) f = refl

@@ -5,7 +5,7 @@ use Rattle.fr_plain.proofs.HeapLemmas.{flat_past}
 use Rattle.std.proofs.Common.{inl, inr}
 use Rattle.fr_base.specs.declared.step.Fresh.TheVariants as fresh
 use Rattle.fr_terms.specs.Terms.{block_t, Items}
-use Rattle.fr_typing.specs.Kinds.{Owned, Kind}
+use Rattle.fr_typing.specs.Kinds.{Kind}
 use Rattle.fr_typing.specs.Places.{Env}
 use Rattle.fr_typing.specs.Typing.{Types, types_block}
 use Rattle.fr_typing.proofs.PlaceLemmas.{eq_cases}
@@ -22,11 +22,14 @@ use Rattle.fr_plain.specs.Acts.{do_end, Did, act}
 use Rattle.fr_plain.specs.Run.{Run, Now, going, now, on_value, settle, Move, next, alone, move, Life, alive, over, settle_life, life_move}
 use Rattle.fr_plain.specs.Whole.{Thread, Stepped, thread_at, with_thread, prints, state_of, stepped, moved, step_of, step}
 use Rattle.fr_plain.specs.Resolve.{program}
-use Rattle.fr_sound.specs.RunTypes.{RunTypes, held, Operand, o_temp, a_end}
+use Rattle.fr_sound.specs.RunTypes.{RunTypes, held, held_after, Operand, o_temp, a_end}
 use Rattle.fr_sound.specs.Seen.{seen_cell, heap_of, seen, rank_of, AreMade, Holds}
 use Rattle.fr_sound.specs.NeverStuck.{IsAlive, IsTypedLife, Steps, NeverStuck, StartsTyped}
-use Rattle.fr_sound.proofs.Redex.{quiet, Done, d_going, d_constant, d_temporary, done, Goes, GoesOr, g_going, g_constant, g_temporary, redex, settle_types, settle_holds}
-use Rattle.fr_sound.proofs.ActsHold.{after_holds, seen_heap, acts_hold}
+use Rattle.fr_sound.proofs.DoneTerms.{Done, d_going, d_constant, d_temporary, done, quiet}
+use Rattle.fr_sound.proofs.Settling.{settle_types, settle_holds}
+use Rattle.fr_sound.proofs.Redex.{int_at_hand, passes_hold, Goes, goes_of, redex}
+use Rattle.fr_sound.proofs.Hand.{after_holds, seen_heap}
+use Rattle.fr_sound.proofs.ActsHold.{acts_hold}
 use Rattle.fr_sound.proofs.Bridge.{resolve_runs}
 
 -- A STEP OF A LIFE
@@ -40,48 +43,51 @@ pub record LifeSteps (l : Life) (st : State) : Type 0 where
   pub same : did.state.thread ≡ st.thread
   pub typed : IsTypedLife (settle_life (move.plug did.value)) did.state
 
-life_ends : {e : Env} {o : Option Owned} {h : Option Value} {x : Owned} (r : Run) (st : State) (v : Value) → Operand o h v x → Holds e o h st → e ≡ [] → (life_move (alive r) ≡ alone (λ u. over) (do_end v)) → LifeSteps (alive r) st
+-- a thread whose term is done ends
+life_ends : {e : Env} {o : Option Kind} {h : Option Value} {k : Kind} (r : Run) (st : State) (v : Value) → Operand o h v k → Holds e o h st → e ≡ [] → (life_move (alive r) ≡ alone (λ u. over) (do_end v)) → LifeSteps (alive r) st
 life_ends {o = o} {h = h} r st v p y same is =
     let y1 = subst (λ (f : Env). Holds f o h st) same y in
     let a = acts_hold y1 (a_end p) in
     record { move = record { act = do_end v; plug = λ u. over }; is = is; did = a.did; acts = a.is; same = a.same; typed = a.holds }
 
+-- a thread whose term goes on steps
 life_goes : (r : Run) (st : State) (y : IsAlive r st) → now r ≡ going → Goes y.env y.temp (held r) y.type [] (move r) → LifeSteps (alive r) st
 life_goes r st y g m =
     let a = acts_hold y.holds m.act in
-    let runs = m.goes a.did.value in
-    let holds : Holds m.env m.left (held (settle (m.next.plug a.did.value))) a.did.state =
-    subst (λ (h : Option Value). Holds m.env m.left h a.did.state) (sym (settle_holds (m.next.plug a.did.value) runs ∙ m.holds a.did.value)) a.holds in
+    let q = m.next.plug a.did.value in
+    let b = m.goes a.did.value (int_at_hand m.left (held_after m.next.act (held r) a.did.value) a.holds) in
+    let holds : Holds m.env b.hand (held (settle q)) a.did.state =
+    subst (λ (h : Option Value). Holds m.env b.hand h a.did.state) (sym (settle_holds q b.types)) (passes_hold b.passes a.holds) in
     record {
       move = record { act = m.next.act; plug = λ v. alive (m.next.plug v) };
       is = ap (λ n. on_value n (λ v. alone (λ x. over) (do_end v)) (next alive (move r))) g ∙ ap (next alive) m.is;
       did = a.did;
       acts = a.is;
       same = a.same;
-      typed = record { env = m.env; temp = m.left; type = y.type; types = settle_types (m.next.plug a.did.value) runs; holds = holds };
+      typed = record { env = m.env; temp = b.hand; type = y.type; types = settle_types q b.types; holds = holds };
     }
 
-life_by : {n : Now} {e f : Env} {o : Option Owned} {h : Option Value} {x : Owned} (r : Run) (st : State) → now r ≡ n → Done n e o h x f → Holds e o h st → f ≡ [] → (n ≡ going → LifeSteps (alive r) st) → LifeSteps (alive r) st
+-- a thread, by whether its term is done
+life_by : {n : Now} {e f : Env} {o : Option Kind} {h : Option Value} {k : Kind} (r : Run) (st : State) → now r ≡ n → Done n e o h k f → Holds e o h st → f ≡ [] → (n ≡ going → LifeSteps (alive r) st) → LifeSteps (alive r) st
 life_by r st e d_going y none go = go refl
 life_by r st e (d_constant p) y none go = life_ends r st _ p y none (ap (λ n. on_value n (λ v. alone (λ x. over) (do_end v)) (next alive (move r))) e)
 life_by r st e d_temporary y none go = life_ends r st _ o_temp y none (ap (λ n. on_value n (λ v. alone (λ x. over) (do_end v)) (next alive (move r))) e)
 
-goes_of : {n : Now} {e f : Env} {o : Option Owned} {h : Option Value} {x : Owned} {m : Option (Move Run)} → GoesOr n e o h x f m → n ≡ going → Goes e o h x f m
-goes_of (g_going g) e = g
-goes_of g_constant e = cc
-goes_of g_temporary e = cc
-
+-- a thread that is alive steps
 life_steps : (r : Run) (st : State) → IsAlive r st → LifeSteps (alive r) st
 life_steps r st y = life_by r st refl (done r y.types) y.holds refl (λ e. life_goes r st y e (goes_of (redex r y.types) e))
 
 -- A STEP OF THE WHOLE
 
+-- the one thread is replaced
 same_thread : (t : Thread) (new : Thread) → t.number ≡ new.number → with_thread (t ∷ []) new ≡ new ∷ []
 same_thread t new e = eq_cases (λ b. (if b then new ∷ [] else t ∷ []) ≡ new ∷ []) t.number new.number (λ _. refl) (λ ne. absurd (ne e))
 
+-- the one thread is found
 only_thread : (t : Thread) → thread_at (t ∷ []) t.number ≡ Some t
 only_thread t = eq_cases (λ b. (if b then Some t else None) ≡ Some t) t.number t.number (λ _. refl) (λ ne. absurd (ne refl))
 
+-- a thread of a typed state has ended or steps
 pub never_stuck_lem : NeverStuck
 never_stuck_lem s y = by y.thread.life refl y.life
   where
@@ -108,28 +114,33 @@ never_stuck_lem s y = by y.thread.life refl y.life
 
 -- THE START
 
+-- no object is there at the start
 empty_cell : (b : Bool) (i : ℕ) → plain_heap.flat (slice_get (if b then [] else []) i) ≡ None
 empty_cell true i = flat_past [] i (omega arith)
 empty_cell false i = flat_past [] i (omega arith)
 
+-- the state at the start
 abbrev at_start : State
 at_start = record { thread = 0; slots = []; heap = record { thread = 0; cells = [] } ∷ [] }
 
+-- the store at the start is empty
 start_alike : Alike (record { at = λ _. gone_v; heap = λ _. None }) (seen at_start None)
 start_alike =
     Alike-then (record { at = λ _. gone_v; heap = λ _. None }) (store_of 0 [] gone_v (λ _. None)) (seen at_start None) (list_start 0)
     (seen_heap 0 [] gone_v (λ _. None) (heap_of at_start.heap) (λ q. sym (ap seen_cell (empty_cell (0 == q.thread) q.count))))
 
+-- the state at the start is typed
 start_holds : Holds [] None None at_start
 start_holds =
     let e : KeyTypes = λ _. owns hole in
     let y = start_row (slot_k 0) (rank_of 0) hand_k in
-    after_holds at_start [] None None 0 {E = e} {s = record { at = λ _. gone_v; heap = λ _. None }} (omega arith) (record { env = e; thread = y; others = λ j a b. refl; new = λ j m u g. cc }) start_alike refl no_box tt
+    after_holds at_start [] None None 0 {E = e} {s = record { at = λ _. gone_v; heap = λ _. None }} (omega arith) (record { env = e; thread = y; others = λ j a b. refl; new = λ j m u g. cc }) start_alike refl no_box
   where
     no_box : AreMade at_start.heap (record { at = λ _. gone_v; heap = λ _. None })
     no_box (at_key k) o e = cc
     no_box (at_object q) o e = cc
 
+-- an environment without its slots is empty
 drop_all : (n : ℕ) (e : Env) → n ≡ length e → drop n e ≡ []
 drop_all zero [] h = refl
 drop_all zero (s ∷ e) h = absurd (omega arith)
@@ -140,19 +151,19 @@ drop_all (suc n) (s ∷ e) h = drop_all n e (omega arith)
 block_leaves : {at : ℕ} {items : Items} {k : Kind} {f e : Env} → Types f (block_t at items) k e → f ≡ [] → e ≡ []
 block_leaves {f = f} (types_block {e1 = e1} y n) h = let z = ap length h in drop_all (length e1 - length f) e1 (omega (arith, z))
 
+-- a typed program starts typed
 pub starts_typed_lem : StartsTyped
-starts_typed_lem at items k e y =
-    let r = resolve_runs (block_t at items) y tt in
-    let runs : RunTypes [] None (program (block_t at items)) r.type [] = subst (λ (f : Env). RunTypes [] None (program (block_t at items)) r.type f) (block_leaves y refl) r.runs in
-    let settled = settle_types (program (block_t at items)) runs in
+starts_typed_lem at items k e a y =
+    let t = block_t at items in
+    let runs : RunTypes [] None (program t) k [] = subst (λ (f : Env). RunTypes [] None (program t) k f) (block_leaves y refl) (resolve_runs t a y) in
     record {
-      thread = record { number = 0; life = alive (settle (program (block_t at items))); slots = [] };
+      thread = record { number = 0; life = alive (settle (program t)); slots = [] };
       only = refl;
       life = record {
         env = [];
         temp = None;
-        type = r.type;
-        types = settled;
-        holds = subst (λ (h : Option Value). Holds [] None h at_start) (sym (settle_holds (program (block_t at items)) runs ∙ quiet (program (block_t at items)) runs)) start_holds;
+        type = k;
+        types = settle_types (program t) runs;
+        holds = subst (λ (h : Option Value). Holds [] None h at_start) (sym (settle_holds (program t) runs ∙ quiet (program t) runs)) start_holds;
       };
     }

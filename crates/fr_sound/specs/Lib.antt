@@ -1,3 +1,4 @@
 pub mod RunTypes
 pub mod Seen
 pub mod NeverStuck
+pub mod Example

@@ -1,9 +1,10 @@
--- No thread of a typed program is ever stuck (Featherweight Rust's progress and preservation), for the forms that are
--- accepted so far.
+-- No thread of a typed program is ever stuck (Featherweight Rust's progress and preservation), for the forms of
+-- one thread.
 use Rattle.std.specs.Prelude.{◌≡◌, ◌⊎◌, ℕ, [], ◌∷◌, Option, Some, None}
 use Rattle.fr_base.specs.declared.step.Fresh.TheVariants as fresh
 use Rattle.fr_terms.specs.Terms.{block_t, Items}
-use Rattle.fr_typing.specs.Kinds.{Owned, Kind}
+use Rattle.fr_typing.specs.Sequential.{IsSequential}
+use Rattle.fr_typing.specs.Kinds.{Kind}
 use Rattle.fr_typing.specs.Places.{Env}
 use Rattle.fr_typing.specs.Typing.{Types}
 use Rattle.fr_plain.specs.State.{State}
@@ -16,8 +17,8 @@ use Rattle.fr_sound.specs.Seen.{Holds}
 -- a term in progress over a typed state: it will end with no slot left
 pub record IsAlive (r : Run) (st : State) : Type 0 where
   pub env : Env
-  pub temp : Option Owned
-  pub type : Owned
+  pub temp : Option Kind
+  pub type : Kind
   pub types : RunTypes env temp r type []
   pub holds : Holds env temp (held r) st
 
@@ -42,6 +43,6 @@ pub record Steps (s : Whole) (t : ℕ) : Type 0 where
 abbrev pub NeverStuck : Type 0
 NeverStuck = (s : Whole) (typed : IsTyped s) → (typed.thread.life ≡ over) ⊎ Steps s typed.thread.number
 
--- a program that typing types starts typed
+-- a program of such forms that typing types starts typed
 abbrev pub StartsTyped : Type 0
-StartsTyped = (at : ℕ) (items : Items) (k : Kind) (e : Env) → Types [] (block_t at items) k e → IsTyped (start (program (block_t at items)))
+StartsTyped = (at : ℕ) (items : Items) (k : Kind) (e : Env) → IsSequential (block_t at items) → Types [] (block_t at items) k e → IsTyped (start (program (block_t at items)))

@@ -2,16 +2,51 @@
 use Rattle.std.specs.Prelude.{◌≡◌, ℕ, ℤ, zero, suc, ◌<◌, true, false, [], ◌∷◌, length, Option, Some, None}
 use Rattle.fr_base.specs.declared.label.Plain.TheVariants as plain
 use Rattle.fr_base.specs.declared.place.Lval.{Lval}
+use Rattle.fr_base.specs.declared.place.Op.{Op}
 use Rattle.fr_terms.specs.Terms.{Text}
-use Rattle.fr_typing.specs.Kinds.{Owned, unit, int, box, own, Piece, whole, gone, copies}
-use Rattle.fr_typing.specs.Places.{Slot, Env, found, type_at, write_blocked, is_own_path, put_at, owned_shape, piece_shape, shape_at}
+use Rattle.fr_typing.specs.Kinds.{Owned, unit, int, box, Kind, own, shared, mutable, Piece, whole, gone, copies}
+use Rattle.fr_typing.specs.Places.{Slot, Env, found, type_at, read_blocked, write_blocked, is_writable, is_own_path, put_at, owned_shape, piece_shape, shape_at, AreBelow, kind_places}
+use Rattle.fr_typing.specs.Checks.{is_owned}
+use Rattle.fr_store.specs.Thread.{temp_places}
 use Rattle.fr_plain.specs.declared.value.Value.{Value}
 use Rattle.fr_plain.specs.declared.value.Value.TheVariants.{Own}
-use Rattle.fr_plain.specs.Acts.{Act, do_let, do_read, do_assign, do_box, do_print, do_discard, do_drop, do_end, unit as unit_value}
-use Rattle.fr_plain.specs.Run.{Run, temp, unit_c, number, read, box_r, bind, print, assign, block, Parts, last, more}
+use Rattle.fr_plain.specs.Acts.{Act, do_let, do_read, do_borrow, do_assign, do_box, do_arith, do_print, do_discard, do_drop, do_end, unit as unit_value}
+use Rattle.fr_plain.specs.Run.{Run, temp, unit_c, number, read, borrow, box_r, arith, bind, print, assign, block, Parts, last, more, Now, going, constant, temporary, by_now, now}
+
+-- PLACES
+
+-- a value of type k may be copied from the place
+pub record Copies (e : Env) (w : Lval) (k : Kind) : Type 0 where
+  pub there : w.slot < length e
+  pub is : type_at e w ≡ found (whole k)
+  pub copied : copies k ≡ true
+
+-- a value of type k may be moved out of the place, which leaves the second environment
+pub record Moves (e : Env) (w : Lval) (k : Kind) (e2 : Env) : Type 0 where
+  pub there : w.slot < length e
+  pub is : type_at e w ≡ found (whole k)
+  pub moved : copies k ≡ false
+  pub free : write_blocked e w.slot ≡ false
+  pub own_path : is_own_path e w ≡ true
+  pub after : e2 ≡ put_at e w (gone k)
+
+-- the place may be lent to a shared reference
+pub record Lends (e : Env) (w : Lval) : Type 0 where
+  pub kind : Kind
+  pub there : w.slot < length e
+  pub is : type_at e w ≡ found (whole kind)
+  pub free : read_blocked e w.slot ≡ false
+
+-- the place may be lent to a mutable reference
+pub record LendsMut (e : Env) (w : Lval) : Type 0 where
+  pub kind : Kind
+  pub there : w.slot < length e
+  pub is : type_at e w ≡ found (whole kind)
+  pub free : write_blocked e w.slot ≡ false
+  pub writable : is_writable e w ≡ true
 
 -- an owned value of type x may be written at the place, along boxes alone, and leaves the second environment
-pub record Assigns (e : Env) (w : Lval) (x : Owned) (e2 : Env) : Type 0 where
+pub record Puts (e : Env) (w : Lval) (x : Owned) (e2 : Env) : Type 0 where
   pub piece : Piece
   pub there : w.slot < length e
   pub is : type_at e w ≡ found piece
@@ -20,43 +55,72 @@ pub record Assigns (e : Env) (w : Lval) (x : Owned) (e2 : Env) : Type 0 where
   pub own_path : is_own_path e w ≡ true
   pub after : e2 ≡ put_at e w (whole (own x))
 
--- an owned value of type x may be copied from the place
-pub record Copies (e : Env) (w : Lval) (x : Owned) : Type 0 where
+-- an owned value of type x may be written at the place, through mutable references
+pub record Writes (e : Env) (w : Lval) (x : Owned) : Type 0 where
+  pub piece : Piece
   pub there : w.slot < length e
-  pub is : type_at e w ≡ found (whole (own x))
-  pub copied : copies (own x) ≡ true
-
--- an owned value of type x may be moved out of the place, which leaves the second environment
-pub record Moves (e : Env) (w : Lval) (x : Owned) (e2 : Env) : Type 0 where
-  pub there : w.slot < length e
-  pub is : type_at e w ≡ found (whole (own x))
+  pub is : type_at e w ≡ found piece
+  pub shape : piece_shape (shape_at e) piece ≡ Some (owned_shape x)
   pub free : write_blocked e w.slot ≡ false
-  pub own_path : is_own_path e w ≡ true
-  pub after : e2 ≡ put_at e w (gone (own x))
+  pub writable : is_writable e w ≡ true
+  pub through : is_own_path e w ≡ false
+
+-- a reference of type k may be written to the variable, and leaves the second environment
+pub record Turns (e : Env) (w : Lval) (k : Kind) (e2 : Env) : Type 0 where
+  pub piece : Piece
+  pub there : w.slot < length e
+  pub variable : w.depth ≡ 0
+  pub is : type_at e w ≡ found piece
+  pub reference : is_owned k ≡ false
+  pub free : write_blocked e w.slot ≡ false
+  pub below : AreBelow w.slot (kind_places k)
+  pub after : e2 ≡ put_at e w (whole k)
+
+-- a value of type k may be assigned to the place, and leaves the second environment
+pub data Assigns : Env → Lval → Kind → Env → Type 0 where
+  to_own : {e e2 : Env} {w : Lval} {x : Owned} → Puts e w x e2 → Assigns e w (own x) e2
+  to_lent : {e : Env} {w : Lval} {x : Owned} → Writes e w x → Assigns e w (own x) e
+  to_variable : {e e2 : Env} {w : Lval} {k : Kind} → Turns e w k e2 → Assigns e w k e2
+
+-- TERMS
 
 -- so many of the newest slots go
 pub data Falls : ℕ → Env → Env → Type 0 where
   f_none : {e : Env} → Falls zero e e
   f_one : {n : ℕ} {s : Slot} {e e2 : Env} → Falls n e e2 → Falls (suc n) (s ∷ e) e2
 
+-- the value is an integer
+abbrev pub IsInt : Value → Type 0
+IsInt v = (n : ℤ) × (v ≡ Own (plain.Int n))
+
+-- a term that is done has an integer
+abbrev pub IsNumber : Now → Type 0
+IsNumber going = ⊥
+IsNumber (constant v) = IsInt v
+IsNumber (temporary v) = IsInt v
+
 mutual
   -- from e, where the term's temporary value has the first type (None where it has no such value), the term has the
-  -- owned type and leaves the second environment
-  pub data RunTypes : Env → Option Owned → Run → Owned → Env → Type 0 where
-    t_temp : {e : Env} {x : Owned} {v : Value} → RunTypes e (Some x) (temp v) x e
-    t_unit : {e : Env} → RunTypes e None unit_c unit e
-    t_number : {e : Env} {n : ℤ} → RunTypes e None (number n) int e
-    t_copy : {e : Env} {w : Lval} {x : Owned} → Copies e w x → RunTypes e None (read w false) x e
-    t_move : {e e2 : Env} {w : Lval} {x : Owned} → Moves e w x e2 → RunTypes e None (read w true) x e2
-    t_box : {e e1 : Env} {o : Option Owned} {r : Run} {x : Owned} → RunTypes e o r x e1 → RunTypes e o (box_r r) (box x) e1
-    t_let : {e e1 : Env} {o : Option Owned} {r : Run} {x : Owned} (name : Option Text) → RunTypes e o r x e1 → RunTypes e o (bind r) unit (record { name = name; part = whole (own x) } ∷ e1)
-    t_print : {e e1 : Env} {o : Option Owned} {r : Run} → RunTypes e o r int e1 → RunTypes e o (print r) unit e1
-    t_assign : {e e1 e2 : Env} {o : Option Owned} {w : Lval} {r : Run} {x : Owned} → RunTypes e o r x e1 → Assigns e1 w x e2 → RunTypes e o (assign w r) unit e2
-    t_block : {e e1 e2 : Env} {o : Option Owned} {n : ℕ} {is : Parts} {x : Owned} → PartsTypes e o is x e1 → Falls n e1 e2 → RunTypes e o (block n is) x e2
+  -- type and leaves the second environment. An operand that is done is known to be an integer and is no such value
+  pub data RunTypes : Env → Option Kind → Run → Kind → Env → Type 0 where
+    t_temp : {e : Env} {k : Kind} {v : Value} → RunTypes e (Some k) (temp v) k e
+    t_unit : {e : Env} → RunTypes e None unit_c (own unit) e
+    t_number : {e : Env} {n : ℤ} → RunTypes e None (number n) (own int) e
+    t_copy : {e : Env} {w : Lval} {k : Kind} → Copies e w k → RunTypes e None (read w false) k e
+    t_move : {e e2 : Env} {w : Lval} {k : Kind} → Moves e w k e2 → RunTypes e None (read w true) k e2
+    t_borrow : {e : Env} {w : Lval} → Lends e w → RunTypes e None (borrow w) (shared (w ∷ [])) e
+    t_borrow_mut : {e : Env} {w : Lval} → LendsMut e w → RunTypes e None (borrow w) (mutable (w ∷ [])) e
+    t_box : {e e1 : Env} {o : Option Kind} {r : Run} {x : Owned} → RunTypes e o r (own x) e1 → RunTypes e o (box_r r) (own (box x)) e1
+    t_left : {e e1 e2 : Env} {o : Option Kind} {f : Op} {a b : Run} → now a ≡ going → RunTypes e o a (own int) e1 → RunTypes e1 None b (own int) e2 → RunTypes e o (arith f a b) (own int) e2
+    t_right : {e e2 : Env} {o : Option Kind} {f : Op} {a b : Run} → IsNumber (now a) → RunTypes e o b (own int) e2 → RunTypes e o (arith f a b) (own int) e2
+    t_let : {e e1 : Env} {o : Option Kind} {r : Run} {k : Kind} (name : Option Text) → RunTypes e o r k e1 → RunTypes e o (bind r) (own unit) (record { name = name; part = whole k } ∷ e1)
+    t_print : {e e1 : Env} {o : Option Kind} {r : Run} → RunTypes e o r (own int) e1 → RunTypes e o (print r) (own unit) e1
+    t_assign : {e e1 e2 : Env} {o : Option Kind} {w : Lval} {r : Run} {k : Kind} → RunTypes e o r k e1 → Assigns e1 w k e2 → RunTypes e o (assign w r) (own unit) e2
+    t_block : {e e1 e2 : Env} {o : Option Kind} {n : ℕ} {is : Parts} {k : Kind} → PartsTypes e o is k e1 → Falls n e1 e2 → AreBelow (length e2) (kind_places k) → RunTypes e o (block n is) k e2
 
-  pub data PartsTypes : Env → Option Owned → Parts → Owned → Env → Type 0 where
-    p_last : {e e1 : Env} {o : Option Owned} {r : Run} {x : Owned} → RunTypes e o r x e1 → PartsTypes e o (last r) x e1
-    p_more : {e e1 e2 : Env} {o : Option Owned} {r : Run} {is : Parts} {x y : Owned} → RunTypes e o r x e1 → PartsTypes e1 None is y e2 → PartsTypes e o (more r is) y e2
+  pub data PartsTypes : Env → Option Kind → Parts → Kind → Env → Type 0 where
+    p_last : {e e1 : Env} {o : Option Kind} {r : Run} {k : Kind} → RunTypes e o r k e1 → PartsTypes e o (last r) k e1
+    p_more : {e e1 e2 : Env} {o : Option Kind} {r : Run} {is : Parts} {k l : Kind} → RunTypes e o r k e1 → PartsTypes e1 None is l e2 → PartsTypes e o (more r is) l e2
 
 -- THE TEMPORARY VALUE
 
@@ -65,13 +129,15 @@ first_of None b = b
 first_of (Some v) b = Some v
 
 abbrev mutual
-  -- the temporary value in a running term
+  -- the temporary value in a running term; a left operand's counts as long as it goes on
   pub held : Run → Option Value
   held (temp v) = Some v
   held unit_c = None
   held (number n) = None
   held (read w take) = None
+  held (borrow w) = None
   held (box_r r) = held r
+  held (arith f a b) = by_now (now a) (held a) (λ v. held b) (λ v. held b)
   held (bind r) = held r
   held (print r) = held r
   held (assign w r) = held r
@@ -81,27 +147,34 @@ abbrev mutual
   held_in (last r) = held r
   held_in (more r is) = first_of (held r) (held_in is)
 
+-- ACTS
+
 -- an operand: the temporary value, or a constant
-pub data Operand : Option Owned → Option Value → Value → Owned → Type 0 where
-  o_temp : {x : Owned} {v : Value} → Operand (Some x) (Some v) v x
-  o_unit : Operand None None unit_value unit
-  o_int : {n : ℤ} → Operand None None (Own (plain.Int n)) int
+pub data Operand : Option Kind → Option Value → Value → Kind → Type 0 where
+  o_temp : {k : Kind} {v : Value} → Operand (Some k) (Some v) v k
+  o_unit : Operand None None unit_value (own unit)
+  o_int : {n : ℤ} → Operand None None (Own (plain.Int n)) (own int)
 
 -- an act from e, where the temporary value is given with its type, leaves a temporary value of that type and the environment
-pub data ActTypes : Env → Option Owned → Option Value → Act → Option Owned → Env → Type 0 where
-  a_let : {e : Env} {o : Option Owned} {h : Option Value} {v : Value} {x : Owned} (name : Option Text) → Operand o h v x → ActTypes e o h (do_let v) None (record { name = name; part = whole (own x) } ∷ e)
-  a_copy : {e : Env} {w : Lval} {x : Owned} → Copies e w x → ActTypes e None None (do_read w false) (Some x) e
-  a_move : {e e2 : Env} {w : Lval} {x : Owned} → Moves e w x e2 → ActTypes e None None (do_read w true) (Some x) e2
-  a_assign : {e e2 : Env} {o : Option Owned} {h : Option Value} {w : Lval} {v : Value} {x : Owned} → Operand o h v x → Assigns e w x e2 → ActTypes e o h (do_assign w v) None e2
-  a_box : {e : Env} {o : Option Owned} {h : Option Value} {v : Value} {x : Owned} → Operand o h v x → ActTypes e o h (do_box v) (Some (box x)) e
-  a_print : {e : Env} {o : Option Owned} {h : Option Value} {v : Value} → Operand o h v int → ActTypes e o h (do_print v) None e
-  a_discard : {e : Env} {v : Value} {x : Owned} → ActTypes e (Some x) (Some v) (do_discard v) None e
-  a_drop : {s : Slot} {e : Env} {o : Option Owned} {h : Option Value} → ActTypes (s ∷ e) o h do_drop o e
-  a_end : {o : Option Owned} {h : Option Value} {v : Value} {x : Owned} → Operand o h v x → ActTypes [] o h (do_end v) None []
+pub data ActTypes : Env → Option Kind → Option Value → Act → Option Kind → Env → Type 0 where
+  a_let : {e : Env} {o : Option Kind} {h : Option Value} {v : Value} {k : Kind} (name : Option Text) → Operand o h v k → ActTypes e o h (do_let v) None (record { name = name; part = whole k } ∷ e)
+  a_copy : {e : Env} {w : Lval} {k : Kind} → Copies e w k → ActTypes e None None (do_read w false) (Some k) e
+  a_move : {e e2 : Env} {w : Lval} {k : Kind} → Moves e w k e2 → ActTypes e None None (do_read w true) (Some k) e2
+  a_borrow : {e : Env} {w : Lval} → Lends e w → ActTypes e None None (do_borrow w) (Some (shared (w ∷ []))) e
+  a_borrow_mut : {e : Env} {w : Lval} → LendsMut e w → ActTypes e None None (do_borrow w) (Some (mutable (w ∷ []))) e
+  a_assign : {e e2 : Env} {o : Option Kind} {h : Option Value} {w : Lval} {v : Value} {k : Kind} → Operand o h v k → Assigns e w k e2 → ActTypes e o h (do_assign w v) None e2
+  a_box : {e : Env} {o : Option Kind} {h : Option Value} {v : Value} {x : Owned} → Operand o h v (own x) → ActTypes e o h (do_box v) (Some (own (box x))) e
+  a_arith : {e : Env} {o : Option Kind} {h : Option Value} {f : Op} {v w : Value} → IsInt v → Operand o h w (own int) → ActTypes e o h (do_arith f v w) (Some (own int)) e
+  a_print : {e : Env} {o : Option Kind} {h : Option Value} {v : Value} → Operand o h v (own int) → ActTypes e o h (do_print v) None e
+  a_discard : {e : Env} {v : Value} {k : Kind} → ActTypes e (Some k) (Some v) (do_discard v) None e
+  a_drop : {s : Slot} {e : Env} {o : Option Kind} {h : Option Value} → AreBelow (length e) (temp_places o) → ActTypes (s ∷ e) o h do_drop o e
+  a_end : {o : Option Kind} {h : Option Value} {v : Value} {k : Kind} → Operand o h v k → ActTypes [] o h (do_end v) None []
 
 -- the temporary value after an act that left v: a dropped slot leaves it as it was
 abbrev pub held_after : Act → Option Value → Value → Option Value
 held_after (do_read w take) h v = Some v
+held_after (do_borrow w) h v = Some v
 held_after (do_box x) h v = Some v
+held_after (do_arith f a b) h v = Some v
 held_after do_drop h v = h
 held_after _ h v = None

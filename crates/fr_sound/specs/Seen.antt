@@ -4,9 +4,8 @@ use Rattle.std.specs.Prelude.{◌≡◌, ℕ, ◌<◌, ◌≤◌, List, [], ◌�
 use Rattle.fr_base.specs.declared.label.Plain.{Plain}
 use Rattle.fr_base.specs.declared.label.Plain.TheVariants as plain
 use Rattle.fr_base.specs.declared.name.ObjNo.{ObjNo}
-use Rattle.fr_typing.specs.Kinds.{Owned, Kind, own}
+use Rattle.fr_typing.specs.Kinds.{Kind}
 use Rattle.fr_typing.specs.Places.{Env}
-use Rattle.fr_typing.specs.Owned.{IsOwnedEnv}
 use Rattle.fr_store.specs.Keys.{Key, slot_k, hand_k}
 use Rattle.fr_store.specs.Store.{Location, at_key, at_object, Val, gone_v, unit_v, int_v, box_v, mutex_v, task_v, ref_v, Store, value_at}
 use Rattle.fr_store.specs.ListState.{store_of}
@@ -60,21 +59,15 @@ rank_of high (slot_k t i) = i
 rank_of high hand_k = high
 rank_of high _ = 0
 
-abbrev pub kind_of : Option Owned → Option Kind
-kind_of None = None
-kind_of (Some x) = Some (own x)
-
 -- each box that stands somewhere is of an object that was made
 abbrev pub AreMade : Heap → Store → Type 0
 AreMade h s = (l : Location) (o : ObjNo) → value_at s l ≡ Some (box_v o) → o.count < length (made_by h o.thread)
 
 -- the state is typed by the environment, and its temporary value by the type
-pub record Holds (e : Env) (o : Option Owned) (h : Option Value) (st : State) : Type 0 where
+pub record Holds (e : Env) (o : Option Kind) (h : Option Value) (st : State) : Type 0 where
   pub high : ℕ
   pub low : length e ≤ high
   pub types : KeyTypes
-  pub thread : ThreadTyped (slot_k st.thread) (rank_of high) hand_k e types (seen st h) (kind_of o)
+  pub thread : ThreadTyped (slot_k st.thread) (rank_of high) hand_k e types (seen st h) o
   pub slots : length st.slots ≡ length e
   pub made : AreMade st.heap (seen st h)
-  -- no reference stands in a slot
-  pub owned : IsOwnedEnv e

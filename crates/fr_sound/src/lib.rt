@@ -4,4 +4,4 @@
 
 mod laws;
 
-pub use laws::{never_stuck, starts_typed};
+pub use laws::{examples_start, never_stuck, starts_typed};

@@ -11,10 +11,10 @@ use Rattle.fr_store.specs.Below.{tree_of, Seen, RefOf, ExactOf, SlotsBelow}
 use Rattle.fr_store.specs.Thread.{place_of, ThreadTyped}
 use Rattle.fr_store.specs.ListState.{Objects, slot_value, put_slot, store_of, IsIn, put_in_slots, put_in_heap}
 use Rattle.fr_store.proofs.Chains.{from_suc}
-use Rattle.fr_store.proofs.Sound.{ref_at}
+use Rattle.fr_store.proofs.Sound.{ref_at, res_part}
 use Rattle.fr_store.proofs.Rows.{found_place, top_fits}
 use Rattle.fr_store.proofs.Below.{mut_place, resolved}
-use Rattle.fr_store.proofs.ThreadKept.{one_low}
+use Rattle.fr_store.proofs.ThreadKept.{one_low, ref_base}
 use Rattle.fr_store.proofs.ListState.{list_put_slot, list_put_object, list_swap_slot, list_swap_object}
 use Rattle.fr_store.proofs.ListDrop.{at_slot}
 use Rattle.fr_typing.proofs.PlaceLemmas.{eq_cases}
@@ -149,3 +149,15 @@ module _ (t : ℕ) (rank : Key → ℕ) (slots : List Slot) (E : KeyTypes) (vs :
       by : (p : Exact) → E hand_k ≡ p → ExactOf (slot_k t) E (whole (view o)) p → ⊥
       by (owns x) is f = f
       by (refers m u) is f = let c : Seen (slot_k t) E o u = f.1 in no_res E o false u.key u.depth c.base c.boxes (owns (tree_of o)) c.res (elsewhere u.key c.foreign (th.quiet hand_k m u is)) refl
+
+  -- nor at a place of a slot
+  pub no_view_at : (w : Lval) (o : Owned) → w.slot < length slots → type_at slots w ≡ found (whole (view o)) → ⊥
+  no_view_at w o lt is =
+      let r = resolved (slot_k t) E (mut_place rank E (store_of t vs v h) th.typed) slots th.nested th.slots w (whole (view o)) lt is in
+      by r.base r.boxes r.type (res_part E false (slot_k t w.slot) w.depth r.base r.boxes r.type r.res) r.exact
+    where
+      by : (b : Key) (n : ℕ) (p : Exact) → exact_under n (E b) ≡ Some p → ExactOf (slot_k t) E (whole (view o)) p → ⊥
+      by b n (owns x) e f = f
+      by b n (refers m u) e f =
+          let c : Seen (slot_k t) E o u = f.1 in
+          no_res E o false u.key u.depth c.base c.boxes (owns (tree_of o)) c.res (elsewhere u.key c.foreign (th.quiet b m u (ref_base n (E b) m u e))) refl

@@ -42,35 +42,43 @@ not_false true e = absurd cc
 own_test : Found → Bool
 own_test f = is_lent f || is_mutable f
 
+-- from a key that owns a tree a place leads down its boxes alone
+here_only : (E : KeyTypes) (only : Bool) (k : Key) (d : ℕ) (t : Tree) (b : Key) (n : ℕ) (p : Exact) → E k ≡ owns t → Resolves E only k d b n p → exact_under d (owns t) ≡ Some p
+here_only E only k d t _ _ p is (here e) = ap (exact_under d) (sym is) ∙ e
+here_only E only k d t b n p is (through m u x js o de r) = let g : owns t ≡ refers m u = sym is ∙ js in absurd cc
+
+-- the own path of a variable that holds a reference ends there
+zero_depth : (key : ℕ → Key) (E : KeyTypes) (e : List Slot) (x : ℕ) → SlotsBelow key E e → x < length e → (m : Bool) (u : Place) (d : ℕ) → E (key x) ≡ refers m u → not (on_path (λ f. is_lent f || is_mutable f) e x d) ≡ true → d ≡ zero
+zero_depth key E e x h lt m u zero is o = refl
+zero_depth key E e x h lt m u (suc d) is o =
+    let v = variable key E e x h lt in
+    let f = on_path_first (λ f. is_lent f || is_mutable f) e x d (not_false (on_path (λ f. is_lent f || is_mutable f) e x (suc d)) o) in
+    let l = lent_ref key E v.0 m u (subst (ExactOf key E v.0) is v.2) in
+    let g : true ≡ false = sym l ∙ ap (λ z. is_lent z || is_mutable z) (sym v.1) ∙ f in absurd cc
+
 -- on an own path an owned value is under the variable's own boxes
 own_part : (key : ℕ → Key) (E : KeyTypes) (e : List Slot) (w : Lval) (only : Bool) (b : Key) (n : ℕ) (t0 : Tree) → SlotsBelow key E e → w.slot < length e → is_own_path e w ≡ true → Resolves E only (key w.slot) w.depth b n (owns t0)
     → (t : Tree) × (E (key w.slot) ≡ owns t) × (tree_under w.depth t ≡ Some t0)
 own_part key E e w only b n t0 h lt mine r = by_type (E (key w.slot)) refl
   where
-    v : (q : Piece) × (type_at e (record { slot = w.slot; depth = 0 }) ≡ found q) × ExactOf key E q (E (key w.slot))
-    v = variable key E e w.slot h lt
-
-    here_only : (k : Key) (d : ℕ) (t : Tree) (b : Key) (n : ℕ) (p : Exact) → E k ≡ owns t → Resolves E only k d b n p → exact_under d (owns t) ≡ Some p
-    here_only k d t _ _ p is (here e) = ap (exact_under d) (sym is) ∙ e
-    here_only k d t b n p is (through m u x js o de r) = let g : owns t ≡ refers m u = sym is ∙ js in absurd cc
-
     no_ref : (m : Bool) (u : Place) (d : ℕ) (b : Key) (n : ℕ) (p : Exact) → E (key w.slot) ≡ refers m u → d ≡ zero → Resolves E only (key w.slot) d b n p → p ≡ owns t0 → ⊥
     no_ref m u d _ _ p is z (here e) f = let g : Some (refers m u) ≡ Some (owns t0) = ap (exact_under zero) (sym is) ∙ ap (λ y. exact_under y (E (key w.slot))) (sym z) ∙ e ∙ ap Some f in cc
     no_ref m u d b n p is z (through m2 u2 x js o de r) f = let g : zero ≡ suc x = sym z ∙ de in cc
 
-    zero_depth : (m : Bool) (u : Place) (d : ℕ) → E (key w.slot) ≡ refers m u → not (on_path (λ f. is_lent f || is_mutable f) e w.slot d) ≡ true → d ≡ zero
-    zero_depth m u zero is o = refl
-    zero_depth m u (suc d) is o =
-        let f = on_path_first (λ f. is_lent f || is_mutable f) e w.slot d (not_false (on_path (λ f. is_lent f || is_mutable f) e w.slot (suc d)) o) in
-        let l = lent_ref key E v.0 m u (subst (ExactOf key E v.0) is v.2) in
-        let g : true ≡ false = sym l ∙ ap (λ z. is_lent z || is_mutable z) (sym v.1) ∙ f in absurd cc
-
     by_type : (y : Exact) → E (key w.slot) ≡ y → (t : Tree) × (E (key w.slot) ≡ owns t) × (tree_under w.depth t ≡ Some t0)
     by_type (owns t) is =
-        let x = part_owns w.depth t (owns t0) (here_only (key w.slot) w.depth t b n (owns t0) is r) in
+        let x = part_owns w.depth t (owns t0) (here_only E only (key w.slot) w.depth t b n (owns t0) is r) in
         let g : t0 ≡ x.0 = let h : owns t0 ≡ owns x.0 = x.2 in cc in
         (t, is, x.1 ∙ ap Some (sym g))
-    by_type (refers m u) is = absurd (no_ref m u w.depth b n (owns t0) is (zero_depth m u w.depth is mine) r refl)
+    by_type (refers m u) is = absurd (no_ref m u w.depth b n (owns t0) is (zero_depth key E e w.slot h lt m u w.depth is mine) r refl)
+
+-- on an own path a reference stands in the variable itself
+pub own_reference : (key : ℕ → Key) (E : KeyTypes) (e : List Slot) (w : Lval) (only : Bool) (b : Key) (n : ℕ) (m : Bool) (u : Place) → SlotsBelow key E e → w.slot < length e → is_own_path e w ≡ true → Resolves E only (key w.slot) w.depth b n (refers m u) → w.depth ≡ zero
+own_reference key E e w only b n m u h lt mine r = by_type (E (key w.slot)) refl
+  where
+    by_type : (y : Exact) → E (key w.slot) ≡ y → w.depth ≡ zero
+    by_type (owns t) is = let x = part_owns w.depth t (refers m u) (here_only E only (key w.slot) w.depth t b n (refers m u) is r) in let g : refers m u ≡ owns x.0 = x.2 in absurd cc
+    by_type (refers q v) is = zero_depth key E e w.slot h lt q v w.depth is mine
 
 -- a box around a tree is a tree of the box around its part
 tree_box : (p : Piece) (t : Tree) → TreeOf p t → TreeOf (box_of p) (box_tree t)

@@ -102,3 +102,14 @@ long_put key e w new j u (inr z) = inr z
 -- a shared reference's type at any place names slots that are there
 pub places_any : (e : List Slot) (w : Lval) (us : List Lval) → IsNested e → type_at e w ≡ found (whole (shared us)) → w.slot < length e → AreBelow (length e) us
 places_any e w us n is lt = AreBelow-weaker w.slot (length e) us (omega arith) (subst (FoundBelow w.slot) is (type_at_below e w n))
+
+-- of two writes to a variable the last one counts
+pub put_twice : (e : List Slot) (x : ℕ) (a b : Piece) → put_at (put_at e (record { slot = x; depth = 0 }) a) (record { slot = x; depth = 0 }) b ≡ put_at e (record { slot = x; depth = 0 }) b
+put_twice [] x a b = refl
+put_twice (s ∷ e) x a b =
+    eq_cases (λ c. put_at (if c then record s { part = a } ∷ e else s ∷ put_at e w a) w b ≡ (if c then record s { part = b } ∷ e else s ∷ put_at e w b)) x (length e)
+    (λ same. eq_cases (λ c. (if c then record s { part = b } ∷ e else record s { part = a } ∷ put_at e w b) ≡ record s { part = b } ∷ e) x (length e) (λ _. refl) (λ ne. absurd (ne same)))
+    (λ ne. eq_cases (λ c. (if c then record s { part = b } ∷ put_at e w a else s ∷ put_at (put_at e w a) w b) ≡ s ∷ put_at e w b) x (length (put_at e w a)) (λ same. absurd (ne (same ∙ length_put e w a))) (λ _. ap (λ z. s ∷ z) (put_twice e x a b)))
+  where
+    w : Lval
+    w = record { slot = x; depth = 0 }

@@ -7,7 +7,7 @@ use Rattle.fr_store.specs.Below.{tree_of, OneOf, ExactOf}
 use Rattle.fr_store.specs.Rows.{with_type}
 use Rattle.fr_store.specs.Thread.{ThreadTyped, After, place_of, ThreadKeys, ThreadTyped, Known, After}
 use Rattle.fr_store.specs.OwnedRows.{UnitRow, ReadUnitRow, DropRow, BoxRow, IntRow, ReadIntRow}
-use Rattle.fr_store.specs.ReferenceRows.{CopyRow}
+use Rattle.fr_store.specs.ReferenceRows.{CopyRow, ForgetRow}
 use Rattle.fr_store.specs.Changes.{new_unit, New, new_int}
 use Rattle.std.proofs.Common.{◌<◌, Option, ◌≡◌, ◌≢◌, inl, ⊎_elim, ℕ, false, List, length, Some, None, refl, sym, ap, subst, ◌∙◌, arith}
 use Rattle.std.specs.Prelude.{if◌then◌else◌}
@@ -16,7 +16,7 @@ use Rattle.fr_typing.specs.Kinds.{unit, Owned, int, box, Kind, own, shared, whol
 use Rattle.fr_typing.specs.Places.{Slot, AreBelow, kind_places, found, type_at}
 use Rattle.fr_store.proofs.Sound.{res_part}
 use Rattle.fr_store.proofs.Changes.{set}
-use Rattle.fr_store.proofs.Rows.{found_place, unnamed_with, drop_hand, box_hand, copy_ref, put_other}
+use Rattle.fr_store.proofs.Rows.{found_place, forget, unnamed_with, drop_hand, box_hand, copy_ref, put_other}
 use Rattle.fr_store.proofs.Below.{mut_place, resolved}
 use Rattle.fr_store.proofs.PutAt.{places_any}
 use Rattle.fr_store.proofs.ThreadKept.{exact_owned, exact_with, known_ref, known_tree, ref_base, res_low, shared_found, slots_with, stood}
@@ -41,6 +41,25 @@ drop_row key rank a e E s o fuel ks y le =
         alone = λ j m u js ne. y.alone j m u (sym (key_other j a (owns hole) (E j) ne) ∙ js) ne;
       };
     }
+
+-- the end of a reference at hand
+pub forget_row : ForgetRow
+forget_row key rank a e E s k ks y = record {
+  env = with_type E a (owns hole);
+  others = λ j ja jk. key_other j a (owns hole) (E j) ja;
+  new = λ j m u js. stood key a E j m u (known_tree key a E a hole j m u js);
+  thread = record {
+    typed = forget rank E s a y.typed y.quiet;
+    nested = y.nested;
+    over = y.over;
+    slots = slots_with key E a (owns hole) e y.quiet (λ i _. ks.off i) y.slots;
+    above = λ i le. key_other (key i) a (owns hole) (E (key i)) (ks.off i) ∙ y.above i le;
+    temp = key_same a (owns hole) (E a);
+    names = tt;
+    quiet = unnamed_with E a hole a y.quiet;
+    alone = λ j m u js ne. y.alone j m u (sym (key_other j a (owns hole) (E j) ne) ∙ js) ne;
+  };
+}
 
 -- a box around the value at hand
 pub box_row : BoxRow

@@ -4,7 +4,7 @@ use Rattle.fr_base.specs.declared.place.Lval.{Lval}
 use Rattle.fr_typing.specs.Kinds.{Piece, unit, Kind, own, shared, mutable, whole, gone}
 use Rattle.fr_typing.specs.Places.{Slot, type_at, found, read_blocked, write_blocked, is_writable, put_at, AreBelow, kind_places}
 use Rattle.fr_store.specs.Keys.{Key}
-use Rattle.fr_store.specs.Store.{Location, at_key, Val, ref_v, Store, value_at, Place, locate, put_value, swap, drop_value}
+use Rattle.fr_store.specs.Store.{Location, at_key, Val, gone_v, ref_v, Store, value_at, Place, locate, put_value, swap, drop_value}
 use Rattle.fr_store.specs.Typed.{hole, owns, refers, KeyTypes, Unnamed}
 use Rattle.fr_store.specs.Rows.{with_type}
 use Rattle.fr_store.specs.Below.{piece_depth}
@@ -72,3 +72,10 @@ FillRow = (key : ℕ → Key) (rank : Key → ℕ) (hand : Key) (slots : List Sl
     → AreBelow x (kind_places k)
     → rank u.key < rank (key x)
     → After key rank hand E (put_at slots (record { slot = x; depth = 0 }) (whole k)) (swap s hand (at_key (key x))) None
+
+-- the end of a reference at hand. (What owns an object ends by the row of an owned value)
+abbrev pub ForgetRow : Type 0
+ForgetRow = (key : ℕ → Key) (rank : Key → ℕ) (hand : Key) (slots : List Slot) (E : KeyTypes) (s : Store) (k : Kind)
+    → ThreadKeys key rank hand
+    → ThreadTyped key rank hand slots E s (Some k)
+    → After key rank hand E slots (put_value s (at_key hand) gone_v) None

@@ -5,7 +5,7 @@ ghost use Rattle.fr_store.specs.JoinRows.{JoinRow, JoinTempRow};
 ghost use Rattle.fr_store.specs.ListRows.{AlikeList, AssignList, BoxList, DropList, EndList, IntList, LetList, MoveList, NoneList, ReadIntList, ReadUnitList, StartList, UnitList};
 ghost use Rattle.fr_store.specs.OtherThreads.{CaptureRow, NewThreadRow, OtherRow, SleepRow, StepRow, StepSleepRow, ViewRow, WakeRow};
 ghost use Rattle.fr_store.specs.OwnedRows.{AlikeRow, AssignRow, BoxRow, DropRow, EndRow, HandRow, IntRow, LetRow, MoveRow, NextRow, RaiseRow, ReadIntRow, ReadUnitRow, RoomRow, StartRow, UnitRow, WriteRow, WriteThroughRow};
-ghost use Rattle.fr_store.specs.ReferenceRows.{ClearRow, CopyRow, FillRow, MoveRefRow, MutableRow, SharedRow};
+ghost use Rattle.fr_store.specs.ReferenceRows.{ClearRow, CopyRow, FillRow, ForgetRow, MoveRefRow, MutableRow, SharedRow};
 ghost use Rattle.fr_store.specs.Rows.{BorrowLaw, BoxLaw, CopyLaw, DropLaw, ForgetLaw, FoundLaw, MoveRefLaw, SameLaw, SoleLaw, SwapOwnLaw, SwapThroughLaw};
 ghost use Rattle.fr_store.specs.Tidy.{FreshLaw, TidyAlikeLaw, TidyDropLaw, TidyMakeLaw, TidySetLaw, TidySwapLaw, TidyUnboxLaw};
 
@@ -51,7 +51,7 @@ pub fn rows_law()
 {}
 
 /// Each step that the types of Featherweight Rust allow a thread can be done, and leaves the thread typed as they say: on
-/// owned values (`start` to `end_slot`), on references (`shared` to `fill`), where branches meet (`join`, `join_temp`),
+/// owned values (`start` to `end_slot`), on references (`shared` to `forget`), where branches meet (`join`, `join_temp`),
 /// and beside other threads, which it leaves as they were (`new_thread` to `step_sleep`).
 pub fn thread_law()
     ensures start { StartRow }
@@ -78,6 +78,7 @@ pub fn thread_law()
     ensures move_ref { MoveRefRow }
     ensures clear { ClearRow }
     ensures fill { FillRow }
+    ensures forget { ForgetRow }
     ensures join { JoinRow }
     ensures join_temp { JoinTempRow }
     ensures new_thread { NewThreadRow }

@@ -4,7 +4,8 @@ use Rattle.fr_terms.specs.Terms.{Term}
 use Rattle.fr_typing.specs.declared.reason.Reason.{Reason}
 use Rattle.fr_typing.specs.Kinds.{Kind}
 use Rattle.fr_typing.specs.Places.{Env}
-use Rattle.fr_typing.specs.Typing.{Types, Faults, Outcome, typed, fault, typing}
+use Rattle.fr_typing.specs.Finding.{Outcome, typed, fault}
+use Rattle.fr_typing.specs.Typing.{Types, Faults, typing}
 use Rattle.fr_typing.specs.Laws.{IsTyped, HasFault, OneOutcome}
 use Rattle.fr_typing.proofs.Agree.{Says, says, typing_by, fault_by}
 
@@ -23,7 +24,7 @@ fault_alike t e p q r s h g = sym (fault_by h) ∙ fault_by g
 
 pub one_outcome_lem : OneOutcome
 one_outcome_lem = record {
-  some = λ t e a. some_outcome t e (typing t e) (says t e a);
+  some = λ t e. some_outcome t e (typing t e) (says t e);
   not_both = never_both;
   same_kind = λ t e e1 e2 k l h g. cc (typed_alike t e e1 e2 k l h g);
   same_after = λ t e e1 e2 k l h g. cc (typed_alike t e e1 e2 k l h g);

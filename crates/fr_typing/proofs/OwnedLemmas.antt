@@ -3,11 +3,13 @@ use Rattle.std.proofs.Common.{◌≡◌, ℕ, zero, suc, Bool, true, false, [], 
 use Rattle.std.specs.Prelude.{not, ◌||◌, ◌==◌, ◌-◌, ⊤, drop, if◌then◌else◌}
 use Rattle.fr_base.specs.declared.place.Lval.{Lval}
 use Rattle.fr_terms.specs.Terms.{Spot, Term, Items}
+use Rattle.fr_terms.specs.Limits.{IsAccepted, AreAccepted}
 use Rattle.fr_typing.specs.declared.reason.Reason.{Reason}
 use Rattle.fr_typing.specs.Kinds.{unit, int, box, mutex, task, Kind, own, shared, mutable, view, Piece, whole, gone, boxed, box_of}
 use Rattle.fr_typing.specs.Places.{Env, Found, found, undefined, no_target, then_found, star, stars, type_at, blocks_read, blocks_write, read_blocked, write_blocked, on_path, is_lent, is_mutable, is_writable, is_own_path, put_under, put_at}
 use Rattle.fr_typing.specs.Checks.{place_of, is_owned, names_from, set_through}
-use Rattle.fr_typing.specs.Typing.{Has, Misses, misses_name, misses_value, misses_target, Lacks, lacks_place, lacks_all, lacks_part, Types, types_number, types_unit, types_copy, types_move, types_box, types_print, types_let, types_assign, types_block, TypesItems, types_none, types_item, Faults, faults_read, faults_copy, faults_move, faults_path, faults_in_box, faults_box_owned, faults_box_full, faults_in_print, faults_print, faults_in_let, faults_let, faults_in_assign, faults_assign_place, faults_assign_blocked, faults_assign_path, faults_assign_kept, faults_assign_shape, faults_assign_outlives, faults_in_block, faults_block, FaultsItems, faults_first, faults_rest}
+use Rattle.fr_typing.specs.Finding.{Has, Misses, misses_name, misses_value, misses_target, Lacks, lacks_place, lacks_all, lacks_part}
+use Rattle.fr_typing.specs.Typing.{Types, types_number, types_unit, types_copy, types_move, types_borrow, types_borrow_mut, types_box, types_mutex, types_arith, types_print, types_let, types_assign, types_block, types_join, types_dup, types_lock, types_spawn, types_par, TypesItems, types_none, types_item, Faults, faults_read, faults_copy, faults_move, faults_path, faults_borrow, faults_borrow_mut, faults_borrow_mut_blocked, faults_borrow_mut_path, faults_in_box, faults_box_owned, faults_box_full, faults_in_mutex, faults_mutex_owned, faults_mutex_full, faults_in_left, faults_left, faults_in_right, faults_right, faults_in_print, faults_print, faults_in_let, faults_let, faults_in_assign, faults_assign_place, faults_assign_blocked, faults_assign_path, faults_assign_kept, faults_assign_shape, faults_assign_outlives, faults_in_block, faults_block, faults_in_join, faults_join, faults_dup, faults_dup_kind, faults_lock, faults_lock_kind, faults_lock_name, faults_in_lock, faults_lock_owned, faults_lock_full, faults_spawn, faults_in_spawn, faults_spawn_owned, faults_spawn_full, faults_par, faults_in_ours, faults_in_theirs, faults_ours, faults_theirs, FaultsItems, faults_first, faults_rest}
 use Rattle.fr_typing.specs.Owned.{IsOwnedPart, IsOwnedEnv, is_of_references, OnlyOwned}
 
 -- what is found is of an owned type
@@ -153,22 +155,31 @@ abbrev BothOwned : Kind → Env → Type 0
 BothOwned k e = (is_owned k ≡ true) × IsOwnedEnv e
 
 mutual
-  pub types_owned : {e e1 : Env} {t : Term} {k : Kind} → Types e t k e1 → IsOwnedEnv e → BothOwned k e1
-  types_owned types_number h = (refl, h)
-  types_owned types_unit h = (refl, h)
-  types_owned (types_copy f c b) h = (whole_owned h f, h)
-  types_owned (types_move {e = e} {w = w} {s = s} {k = k} f c b o) h = (whole_owned h f, put_at_owned e (place_of w s) (gone k) (whole_owned h f) h)
-  types_owned (types_box t f) h = (refl, (types_owned t h).1)
-  types_owned (types_print t i) h = (refl, (types_owned t h).1)
-  types_owned (types_let t n) h = let r = types_owned t h in (refl, (r.0, r.1))
-  types_owned (types_assign {e1 = e1} {w = w} {k = k} {s = s} t f o kept shape out) h =
-      let r = types_owned t h in
+  pub types_owned : {e e1 : Env} {t : Term} {k : Kind} → IsAccepted t → Types e t k e1 → IsOwnedEnv e → BothOwned k e1
+  types_owned a types_number h = (refl, h)
+  types_owned a types_unit h = (refl, h)
+  types_owned a (types_copy f c b) h = (whole_owned h f, h)
+  types_owned a (types_move {e = e} {w = w} {s = s} {k = k} f c b o) h = (whole_owned h f, put_at_owned e (place_of w s) (gone k) (whole_owned h f) h)
+  types_owned a (types_box t f) h = (refl, (types_owned a t h).1)
+  types_owned a (types_print t i) h = (refl, (types_owned a t h).1)
+  types_owned a (types_let t n) h = let r = types_owned a t h in (refl, (r.0, r.1))
+  types_owned a (types_assign {e1 = e1} {w = w} {k = k} {s = s} t f o kept shape out) h =
+      let r = types_owned a t h in
       (refl, subst IsOwnedEnv (sym (set_through_owned e1 (place_of w s) k r.1)) (put_at_owned e1 (place_of w s) (whole k) r.0 r.1))
-  types_owned (types_block {e = e} {e1 = e1} ts n) h = let r = items_owned ts refl h in (r.0, drop_owned (length e1 - length e) e1 r.1)
+  types_owned a (types_block {e = e} {e1 = e1} ts n) h = let r = items_owned a ts refl h in (r.0, drop_owned (length e1 - length e) e1 r.1)
+  types_owned a (types_borrow f) h = absurd a
+  types_owned a (types_borrow_mut f o) h = absurd a
+  types_owned a (types_mutex t f) h = absurd a
+  types_owned a (types_arith t i g j) h = absurd a
+  types_owned a (types_join t) h = absurd a
+  types_owned a (types_dup f) h = absurd a
+  types_owned a (types_lock f n t i g) h = absurd a
+  types_owned a (types_spawn c t f) h = absurd a
+  types_owned a (types_par c t g i j) h = absurd a
 
-  items_owned : {e e1 : Env} {ts : Items} {k k1 : Kind} {last last1 : ℕ} → TypesItems e ts k last k1 last1 e1 → is_owned k ≡ true → IsOwnedEnv e → BothOwned k1 e1
-  items_owned types_none g h = (g, h)
-  items_owned (types_item t ts) g h = let r = types_owned t h in items_owned ts r.0 r.1
+  items_owned : {e e1 : Env} {ts : Items} {k k1 : Kind} {last last1 : ℕ} → AreAccepted ts → TypesItems e ts k last k1 last1 e1 → is_owned k ≡ true → IsOwnedEnv e → BothOwned k1 e1
+  items_owned a types_none g h = (g, h)
+  items_owned a (types_item t ts) g h = let r = types_owned a.0 t h in items_owned a.1 ts r.0 r.1
 
 misses_owned : {e : Env} {w : Spot} {r : Reason} → Misses e w r → is_of_references r ≡ false
 misses_owned (misses_name h) = refl
@@ -185,35 +196,65 @@ not_true : {A : Type 0} (b : Bool) → b ≡ false → b ≡ true → A
 not_true b f t = absurd cc
 
 mutual
-  pub faults_owned : {e : Env} {t : Term} {p : ℕ} {r : Reason} → Faults e t p r → IsOwnedEnv e → is_of_references r ≡ false
-  faults_owned (faults_read l) h = lacks_owned l
-  faults_owned (faults_copy {e = e} {s = s} f c b) h = not_true (read_blocked e s) (read_blocked_owned e s h) b
-  faults_owned (faults_move {e = e} {s = s} f c b) h = not_true (write_blocked e s) (write_blocked_owned e s h) b
-  faults_owned (faults_path {e = e} {w = w} {s = s} f c b o) h = not_true (is_own_path e (place_of w s)) o (is_own_path_owned e (place_of w s) h)
-  faults_owned (faults_in_box f) h = faults_owned f h
-  faults_owned (faults_box_owned t o) h = refl
-  faults_owned (faults_box_full t o) h = refl
-  faults_owned (faults_in_print f) h = faults_owned f h
-  faults_owned (faults_print t i) h = refl
-  faults_owned (faults_in_let f) h = faults_owned f h
-  faults_owned (faults_let t n) h = refl
-  faults_owned (faults_in_assign f) h = faults_owned f h
-  faults_owned (faults_assign_place t m) h = misses_owned m
-  faults_owned (faults_assign_blocked {e1 = e1} {s = s} t f b) h = not_true (write_blocked e1 s) (write_blocked_owned e1 s (types_owned t h).1) b
-  faults_owned (faults_assign_path {e1 = e1} {w = w} {s = s} t f b o) h = not_true (is_writable e1 (place_of w s)) o (is_writable_owned e1 (place_of w s) (types_owned t h).1)
-  faults_owned (faults_assign_kept t f o kept) h = refl
-  faults_owned (faults_assign_shape t f o kept shape) h = refl
-  faults_owned (faults_assign_outlives {k = k} {s = s} t f o kept shape out) h = not_true (names_from s k) (names_from_owned s k (types_owned t h).0) out
-  faults_owned (faults_in_block fs) h = faults_items_owned fs h
-  faults_owned (faults_block {e = e} {k = k} ts n) h = not_true (names_from (length e) k) (names_from_owned (length e) k (items_owned ts refl h).0) n
+  pub faults_owned : {e : Env} {t : Term} {p : ℕ} {r : Reason} → IsAccepted t → Faults e t p r → IsOwnedEnv e → is_of_references r ≡ false
+  faults_owned a (faults_read l) h = lacks_owned l
+  faults_owned a (faults_copy {e = e} {s = s} f c b) h = not_true (read_blocked e s) (read_blocked_owned e s h) b
+  faults_owned a (faults_move {e = e} {s = s} f c b) h = not_true (write_blocked e s) (write_blocked_owned e s h) b
+  faults_owned a (faults_path {e = e} {w = w} {s = s} f c b o) h = not_true (is_own_path e (place_of w s)) o (is_own_path_owned e (place_of w s) h)
+  faults_owned a (faults_in_box f) h = faults_owned a f h
+  faults_owned a (faults_box_owned t o) h = refl
+  faults_owned a (faults_box_full t o) h = refl
+  faults_owned a (faults_in_print f) h = faults_owned a f h
+  faults_owned a (faults_print t i) h = refl
+  faults_owned a (faults_in_let f) h = faults_owned a f h
+  faults_owned a (faults_let t n) h = refl
+  faults_owned a (faults_in_assign f) h = faults_owned a f h
+  faults_owned a (faults_assign_place t m) h = misses_owned m
+  faults_owned a (faults_assign_blocked {e1 = e1} {s = s} t f b) h = not_true (write_blocked e1 s) (write_blocked_owned e1 s (types_owned a t h).1) b
+  faults_owned a (faults_assign_path {e1 = e1} {w = w} {s = s} t f b o) h = not_true (is_writable e1 (place_of w s)) o (is_writable_owned e1 (place_of w s) (types_owned a t h).1)
+  faults_owned a (faults_assign_kept t f o kept) h = refl
+  faults_owned a (faults_assign_shape t f o kept shape) h = refl
+  faults_owned a (faults_assign_outlives {k = k} {s = s} t f o kept shape out) h = not_true (names_from s k) (names_from_owned s k (types_owned a t h).0) out
+  faults_owned a (faults_in_block fs) h = faults_items_owned a fs h
+  faults_owned a (faults_block {e = e} {k = k} ts n) h = not_true (names_from (length e) k) (names_from_owned (length e) k (items_owned a ts refl h).0) n
+  faults_owned a (faults_borrow f) h = absurd a
+  faults_owned a (faults_borrow_mut f) h = absurd a
+  faults_owned a (faults_borrow_mut_blocked f b) h = absurd a
+  faults_owned a (faults_borrow_mut_path f b o) h = absurd a
+  faults_owned a (faults_in_mutex f) h = absurd a
+  faults_owned a (faults_mutex_owned t o) h = absurd a
+  faults_owned a (faults_mutex_full t o) h = absurd a
+  faults_owned a (faults_in_left f) h = absurd a
+  faults_owned a (faults_left t i) h = absurd a
+  faults_owned a (faults_in_right t i f) h = absurd a
+  faults_owned a (faults_right t i g j) h = absurd a
+  faults_owned a (faults_in_join f) h = absurd a
+  faults_owned a (faults_join t o) h = absurd a
+  faults_owned a (faults_dup f) h = absurd a
+  faults_owned a (faults_dup_kind f o) h = absurd a
+  faults_owned a (faults_lock f) h = absurd a
+  faults_owned a (faults_lock_kind f o) h = absurd a
+  faults_owned a (faults_lock_name f n) h = absurd a
+  faults_owned a (faults_in_lock f n g) h = absurd a
+  faults_owned a (faults_lock_owned f n t i) h = absurd a
+  faults_owned a (faults_lock_full f n t i g) h = absurd a
+  faults_owned a (faults_spawn f) h = absurd a
+  faults_owned a (faults_in_spawn c f) h = absurd a
+  faults_owned a (faults_spawn_owned c t o) h = absurd a
+  faults_owned a (faults_spawn_full c t o) h = absurd a
+  faults_owned a (faults_par f) h = absurd a
+  faults_owned a (faults_in_ours c f) h = absurd a
+  faults_owned a (faults_in_theirs c t f) h = absurd a
+  faults_owned a (faults_ours c t g i) h = absurd a
+  faults_owned a (faults_theirs c t g i j) h = absurd a
 
-  faults_items_owned : {e : Env} {ts : Items} {p : ℕ} {r : Reason} → FaultsItems e ts p r → IsOwnedEnv e → is_of_references r ≡ false
-  faults_items_owned (faults_first f) h = faults_owned f h
-  faults_items_owned (faults_rest t fs) h = faults_items_owned fs (types_owned t h).1
+  faults_items_owned : {e : Env} {ts : Items} {p : ℕ} {r : Reason} → AreAccepted ts → FaultsItems e ts p r → IsOwnedEnv e → is_of_references r ≡ false
+  faults_items_owned a (faults_first f) h = faults_owned a.0 f h
+  faults_items_owned a (faults_rest t fs) h = faults_items_owned a.1 fs (types_owned a.0 t h).1
 
 pub only_owned_lem : OnlyOwned
 only_owned_lem = record {
-  kind = λ t e e1 k h d. (types_owned d h).0;
-  after = λ t e e1 k h d. (types_owned d h).1;
-  reason = λ t e p r h f. faults_owned f h;
+  kind = λ t e e1 k a h d. (types_owned a d h).0;
+  after = λ t e e1 k a h d. (types_owned a d h).1;
+  reason = λ t e p r a h f. faults_owned a f h;
 }

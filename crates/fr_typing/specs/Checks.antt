@@ -1,10 +1,10 @@
 -- The checks that typing makes (Featherweight Rust with this project's rules).
-use Rattle.std.specs.Prelude.{ℕ, suc, Bool, true, false, not, ◌&&◌, nat_lt, nat_le, ◌-◌, length, drop, Option, Some, if◌then◌else◌}
+use Rattle.std.specs.Prelude.{ℕ, suc, [], ◌∷◌, Bool, true, false, not, ◌&&◌, nat_lt, nat_le, ◌-◌, length, drop, Option, Some, None, if◌then◌else◌}
 use Rattle.std.specs.List.{list_any}
 use Rattle.fr_base.specs.declared.place.Lval.{Lval}
-use Rattle.fr_terms.specs.Terms.{Spot}
+use Rattle.fr_terms.specs.Terms.{Text, Spot}
 use Rattle.fr_typing.specs.Kinds.{Owned, unit, int, box, mutex, task, same_owned, Kind, own, shared, mutable, Piece, whole}
-use Rattle.fr_typing.specs.Places.{Env, Shape, owned_shape, shared_to, mutable_to, kind_shape, piece_shape, shape_at, on_path, is_mutable, put_at}
+use Rattle.fr_typing.specs.Places.{Env, Found, found, type_at, Shape, owned_shape, shared_to, mutable_to, kind_shape, piece_shape, shape_at, on_path, is_mutable, put_at}
 
 -- the place that a written place names, where its name is that of this slot
 abbrev pub place_of : Spot → ℕ → Lval
@@ -13,6 +13,19 @@ place_of w s = record { slot = s; depth = w.stars }
 abbrev pub is_int : Kind → Bool
 is_int (own int) = true
 is_int _ = false
+
+abbrev pub is_unit : Kind → Bool
+is_unit (own unit) = true
+is_unit _ = false
+
+-- what a mutex holds, and what a task gives
+abbrev pub mutex_of : Kind → Option Owned
+mutex_of (own (mutex o)) = Some o
+mutex_of _ = None
+
+abbrev pub task_of : Kind → Option Owned
+task_of (own (task o)) = Some o
+task_of _ = None
 
 abbrev pub is_owned : Kind → Bool
 is_owned (own o) = true
@@ -61,3 +74,15 @@ keep n e = drop (length e - n) e
 -- what was written stands at the place, unless a mutable reference leads there
 abbrev pub set_through : Env → Lval → Kind → Env
 set_through e w k = if on_path is_mutable e w.slot w.depth then e else put_at e w (whole k)
+
+-- the two slots of a lock: one without a name, which refers to the mutex, and one for the content
+abbrev pub with_lock : Env → Lval → Text → Owned → Env
+with_lock e x name o = record { name = Some name; part = whole (own o) } ∷ record { name = None; part = whole (shared (x ∷ [])) } ∷ e
+
+abbrev pub is_whole : Found → Bool
+is_whole (found (whole k)) = true
+is_whole f = false
+
+-- the content of a lock, which stands above its hidden slot and `base` others, is whole
+abbrev pub has_content : ℕ → Env → Bool
+has_content base e = is_whole (type_at e (record { slot = suc base; depth = 0 }))

@@ -1,28 +1,60 @@
 -- What typing gives for some programs, each written above its term.
 use Rattle.std.specs.Prelude.{◌≡◌, ℕ, ◌+◌, pos, suc, zero, List, [], ◌∷◌, Some}
-use Rattle.fr_terms.specs.Terms.{Text, Spot, Term, block_t, let_t, assign_t, read_t, number_t, box_t, print_t, Items, none, item}
+use Rattle.fr_terms.specs.Terms.{Text, Spot, Captured, Term, block_t, let_t, assign_t, read_t, number_t, box_t, print_t, Items, none, item}
 use Rattle.fr_typing.specs.declared.reason.Reason.TheVariants.{UnknownName, NameInScope, NotDefined, NoTarget, WrongType, NotOwned}
 use Rattle.fr_typing.specs.Kinds.{unit, int, box, own, whole, gone, boxed}
 use Rattle.fr_typing.specs.Places.{Env}
-use Rattle.fr_typing.specs.Typing.{typed, fault, typing}
+use Rattle.fr_typing.specs.Finding.{typed, fault}
+use Rattle.fr_typing.specs.Typing.{typing}
 
-abbrev items : List Term → Items
+abbrev pub items : List Term → Items
 items [] = none
 items (t ∷ ts) = item t (items ts)
 
--- the names x and y
-abbrev x : Text
+-- the names
+abbrev pub x : Text
 x = 120 ∷ []
 
-abbrev y : Text
+abbrev pub y : Text
 y = 121 ∷ []
 
+abbrev pub c : Text
+c = 99 ∷ []
+
+abbrev pub h : Text
+h = 104 ∷ []
+
+abbrev pub m : Text
+m = 109 ∷ []
+
+abbrev pub n : Text
+n = 110 ∷ []
+
+abbrev pub q : Text
+q = 113 ∷ []
+
+abbrev pub r : Text
+r = 114 ∷ []
+
+abbrev pub s : Text
+s = 115 ∷ []
+
+abbrev pub t : Text
+t = 116 ∷ []
+
+abbrev pub z : Text
+z = 122 ∷ []
+
 -- a place at a byte of the source
-abbrev spot : ℕ → Text → ℕ → Spot
+abbrev pub spot : ℕ → Text → ℕ → Spot
 spot at name stars = record { at = at; name = name; stars = stars }
 
-abbrev read : ℕ → Text → ℕ → Term
+abbrev pub read : ℕ → Text → ℕ → Term
 read at name stars = read_t at (spot at name stars)
+
+-- a captured name at a byte of the source
+abbrev pub name : ℕ → Text → Captured
+name at text = record { at = at; name = text }
 
 -- { let mut x = box 1; *x = 2; print *x }
 abbrev written : Term

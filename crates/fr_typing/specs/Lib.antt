@@ -1,7 +1,13 @@
 pub mod Kinds
 pub mod Places
 pub mod Checks
+pub mod Finding
+pub mod Captures
+pub mod Rules
 pub mod Typing
 pub mod Laws
 pub mod Owned
 pub mod Examples
+pub mod BorrowExamples
+pub mod ThreadExamples
+pub mod Sequential

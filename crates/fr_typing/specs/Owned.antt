@@ -1,6 +1,7 @@
 -- Environments in which no reference stands, as those of all forms that are accepted so far (this project's rule).
 use Rattle.std.specs.Prelude.{◌≡◌, ℕ, Bool, true, false, ⊤, [], ◌∷◌}
 use Rattle.fr_terms.specs.Terms.{Term}
+use Rattle.fr_terms.specs.Limits.{IsAccepted}
 use Rattle.fr_typing.specs.declared.reason.Reason.{Reason}
 use Rattle.fr_typing.specs.declared.reason.Reason.TheVariants.{ReadBlocked, WriteBlocked, MovedThrough, NotWritable, Outlives}
 use Rattle.fr_typing.specs.Kinds.{Kind, Piece, whole, gone, boxed}
@@ -28,8 +29,8 @@ is_of_references NotWritable = true
 is_of_references Outlives = true
 is_of_references r = false
 
--- no reference arises, so no check of references fails
+-- by the forms that are accepted so far no reference arises, so no check of references fails
 pub record OnlyOwned : Type 0 where
-  pub kind : (t : Term) (e e1 : Env) (k : Kind) → IsOwnedEnv e → Types e t k e1 → is_owned k ≡ true
-  pub after : (t : Term) (e e1 : Env) (k : Kind) → IsOwnedEnv e → Types e t k e1 → IsOwnedEnv e1
-  pub reason : (t : Term) (e : Env) (p : ℕ) (r : Reason) → IsOwnedEnv e → Faults e t p r → is_of_references r ≡ false
+  pub kind : (t : Term) (e e1 : Env) (k : Kind) → IsAccepted t → IsOwnedEnv e → Types e t k e1 → is_owned k ≡ true
+  pub after : (t : Term) (e e1 : Env) (k : Kind) → IsAccepted t → IsOwnedEnv e → Types e t k e1 → IsOwnedEnv e1
+  pub reason : (t : Term) (e : Env) (p : ℕ) (r : Reason) → IsAccepted t → IsOwnedEnv e → Faults e t p r → is_of_references r ≡ false

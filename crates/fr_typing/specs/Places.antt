@@ -1,6 +1,6 @@
 -- The type of a place, and when a place is blocked.
 use Rattle.std.specs.Prelude.{ℕ, ◌<◌, zero, suc, Bool, true, false, not, ◌||◌, ◌==◌, List, [], ◌∷◌, length, Option, Some, None, if◌then◌else◌}
-use Rattle.std.specs.List.{list_any}
+use Rattle.std.specs.List.{list_all, list_any}
 use Rattle.fr_base.specs.declared.place.Lval.{Lval}
 use Rattle.fr_terms.specs.Terms.{Text, same_text}
 use Rattle.fr_typing.specs.Kinds.{Owned, box, Kind, own, shared, mutable, view, Piece, whole, gone, boxed, box_of, join_piece, map_some}
@@ -108,6 +108,34 @@ is_writable e w = not (on_path is_lent e w.slot w.depth)
 abbrev pub is_own_path : Env → Lval → Bool
 is_own_path e w = not (on_path (λ f. is_lent f || is_mutable f) e w.slot w.depth)
 
+-- what stands at a place leads into the heap: a box or a view, or a reference to heap places alone
+abbrev pub leads_to_heap : (Lval → Bool) → Found → Bool
+leads_to_heap look (found (boxed p)) = true
+leads_to_heap look (found (whole (own (box o)))) = true
+leads_to_heap look (found (whole (view o))) = true
+leads_to_heap look (found (whole (shared us))) = list_all look us
+leads_to_heap look (found (whole (mutable us))) = list_all look us
+leads_to_heap look f = false
+
+-- what stands one star less far leads there
+abbrev pub leads_by_star : (Lval → Bool) → Env → ℕ → ℕ → Bool
+leads_by_star look e x zero = false
+leads_by_star look e x (suc n) = leads_to_heap look (type_at e (record { slot = x; depth = n }))
+
+-- the place is in the heap, whoever owns it (this project's rule)
+abbrev pub is_heap_place : Env → Lval → Bool
+is_heap_place [] w = false
+is_heap_place (s ∷ below) w =
+    if w.slot == length below then leads_by_star (is_heap_place below) (s ∷ below) w.slot w.depth else is_heap_place below w
+
+abbrev pub whole_owned : Found → Option Owned
+whole_owned (found (whole (own o))) = Some o
+whole_owned f = None
+
+-- the one owned type that the places of a set have, where all are heap places
+abbrev pub heap_type : Env → List Lval → Option Owned
+heap_type e us = if list_all (is_heap_place e) us then whole_owned (join_set (type_at e) us) else None
+
 -- a part with what stands under `n` boxes replaced
 abbrev pub put_under : ℕ → Piece → Piece → Piece
 put_under zero new p = new
@@ -155,14 +183,22 @@ piece_shape look (whole k) = kind_shape look k
 piece_shape look (gone k) = kind_shape look k
 piece_shape look (boxed p) = same_owned_shape (piece_shape look p)
 
-abbrev pub found_shape : (Lval → Option Shape) → Found → Option Shape
-found_shape look (found p) = piece_shape look p
-found_shape look _ = None
+-- so many stars on a shape: a box to what it holds, a reference to what it is to
+abbrev pub star_shape : Option Shape → Option Shape
+star_shape (Some (owned_shape (box o))) = Some (owned_shape o)
+star_shape (Some (shared_to a)) = Some a
+star_shape (Some (mutable_to a)) = Some a
+star_shape _ = None
 
+abbrev pub stars_shape : ℕ → Option Shape → Option Shape
+stars_shape zero a = a
+stars_shape (suc n) a = star_shape (stars_shape n a)
+
+-- the shape of a place, which has one also where something on its path is gone: the shape of a slot never changes
 abbrev pub shape_at : Env → Lval → Option Shape
 shape_at [] w = None
 shape_at (s ∷ below) w =
-    if w.slot == length below then found_shape (shape_at below) (type_at (s ∷ below) w) else shape_at below w
+    if w.slot == length below then stars_shape w.depth (piece_shape (shape_at below) s.part) else shape_at below w
 
 -- the places that a type names
 abbrev pub kind_places : Kind → List Lval

@@ -1,37 +1,18 @@
 -- The typing of terms (Featherweight Rust with this project's rules): from an environment a term has a type and leaves
 -- an environment, or its first failing check is a fault at a place of the source, for a reason.
-use Rattle.std.specs.Prelude.{◌≡◌, ℕ, ℤ, Bool, true, false, not, is_some, ◌∷◌, length, Option, Some, None, if◌then◌else◌}
-use Rattle.fr_base.specs.declared.place.Lval.{Lval}
-use Rattle.fr_terms.specs.Terms.{Text, Spot, Term, block_t, let_t, assign_t, read_t, number_t, unit_t, box_t, print_t, Items, none, item, start_of}
+use Rattle.std.specs.Prelude.{◌≡◌, ℕ, ℤ, true, false, List, [], ◌∷◌, length, Some, None}
+use Rattle.fr_base.specs.declared.place.Op.{Op}
+use Rattle.fr_terms.specs.Terms.{Text, Spot, Captured, Term, block_t, let_t, assign_t, read_t, borrow_t, borrow_mut_t, number_t, unit_t, box_t, print_t, arith_t, join_t, mutex_t, dup_t, lock_t, spawn_t, par_t, Items, none, item, start_of}
 use Rattle.fr_typing.specs.declared.reason.Reason.{Reason}
-use Rattle.fr_typing.specs.declared.reason.Reason.TheVariants.{UnknownName, NameInScope, NotDefined, NoTarget, ReadBlocked, WriteBlocked, MovedThrough, NotWritable, WrongType, Outlives, NotOwned}
-use Rattle.fr_typing.specs.Kinds.{Owned, unit, int, box, Kind, own, shared, mutable, view, Piece, whole, gone, boxed, copies}
-use Rattle.fr_typing.specs.Places.{Env, Found, found, undefined, no_target, type_at, read_blocked, write_blocked, is_writable, is_own_path, put_at, slot_of}
-use Rattle.fr_typing.specs.Checks.{place_of, is_int, is_owned, is_full, is_kept_out, has_shape_of, names_from, keep, set_through}
+use Rattle.fr_typing.specs.declared.reason.Reason.TheVariants.{NameInScope, ReadBlocked, WriteBlocked, MovedThrough, NotWritable, WrongType, Outlives, NotOwned, NotFull}
+use Rattle.fr_typing.specs.Kinds.{Owned, unit, int, box, mutex, task, Kind, own, shared, mutable, Piece, whole, gone, copies}
+use Rattle.fr_typing.specs.Places.{Env, found, read_blocked, write_blocked, is_writable, is_own_path, put_at, slot_of}
+use Rattle.fr_typing.specs.Checks.{place_of, is_int, is_unit, is_owned, is_full, mutex_of, task_of, is_kept_out, has_shape_of, names_from, keep, set_through, with_lock, has_content}
+use Rattle.fr_typing.specs.Finding.{Has, Misses, Lacks, IsOpen, Shows, Withholds, Outcome, typed, then_typed, find_whole, find_shown}
+use Rattle.fr_typing.specs.Captures.{by_spawn, CapturesAll, CapturesBoth, DeniesAll, DeniesBoth, capture_all, capture_both}
+use Rattle.fr_typing.specs.Rules.{read_rule, borrow_rule, borrow_mut_rule, held_rule, box_rule, int_rule, print_rule, arith_rule, let_rule, assign_rule, end_rule, join_rule, dup_rule, lock_rule, unlock_rule, par_rule}
 
 -- AS A RELATION
-
--- the written place names this slot, and this is the type of the place there
-pub record Has (e : Env) (w : Spot) (s : ℕ) (f : Found) : Type 0 where
-  pub named : slot_of e w.name ≡ Some s
-  pub is : type_at e (place_of w s) ≡ f
-
--- the written place isn't found
-pub data Misses : Env → Spot → Reason → Type 0 where
-  misses_name : {e : Env} {w : Spot} → slot_of e w.name ≡ None → Misses e w UnknownName
-  misses_value : {e : Env} {w : Spot} {s : ℕ} → Has e w s undefined → Misses e w NotDefined
-  misses_target : {e : Env} {w : Spot} {s : ℕ} → Has e w s no_target → Misses e w NoTarget
-
--- the written place isn't found, or isn't whole
-pub data Lacks : Env → Spot → Reason → Type 0 where
-  lacks_place : {e : Env} {w : Spot} {r : Reason} → Misses e w r → Lacks e w r
-  lacks_all : {e : Env} {w : Spot} {s : ℕ} {k : Kind} → Has e w s (found (gone k)) → Lacks e w NotDefined
-  lacks_part : {e : Env} {w : Spot} {s : ℕ} {p : Piece} → Has e w s (found (boxed p)) → Lacks e w NotDefined
-
--- the slot may be written to at this place
-pub record IsOpen (e : Env) (x : Lval) : Type 0 where
-  pub free : write_blocked e x.slot ≡ false
-  pub path : is_writable e x ≡ true
 
 mutual
   -- from an environment a term has this type, and leaves that environment
@@ -45,6 +26,15 @@ mutual
     types_let : {e e1 : Env} {at : ℕ} {x : Text} {t : Term} {k : Kind} → Types e t k e1 → slot_of e1 x ≡ None → Types e (let_t at x t) (own unit) (record { name = Some x; part = whole k } ∷ e1)
     types_assign : {e e1 : Env} {at : ℕ} {w : Spot} {t : Term} {k : Kind} {s : ℕ} {p : Piece} → Types e t k e1 → Has e1 w s (found p) → IsOpen e1 (place_of w s) → is_kept_out k w.stars ≡ false → has_shape_of e1 p k ≡ true → names_from s k ≡ false → Types e (assign_t at w t) (own unit) (set_through e1 (place_of w s) k)
     types_block : {e e1 : Env} {at last : ℕ} {ts : Items} {k : Kind} → TypesItems e ts (own unit) at k last e1 → names_from (length e) k ≡ false → Types e (block_t at ts) k (keep (length e) e1)
+    types_borrow : {e : Env} {at : ℕ} {w : Spot} {s : ℕ} {k : Kind} → Shows e w s k → Types e (borrow_t at w) (shared (place_of w s ∷ [])) e
+    types_borrow_mut : {e : Env} {at : ℕ} {w : Spot} {s : ℕ} {k : Kind} → Has e w s (found (whole k)) → IsOpen e (place_of w s) → Types e (borrow_mut_t at w) (mutable (place_of w s ∷ [])) e
+    types_mutex : {e e1 : Env} {at : ℕ} {t : Term} {o : Owned} → Types e t (own o) e1 → is_full o ≡ false → Types e (mutex_t at t) (own (mutex o)) e1
+    types_arith : {e e1 e2 : Env} {at : ℕ} {op : Op} {a b : Term} {k l : Kind} → Types e a k e1 → is_int k ≡ true → Types e1 b l e2 → is_int l ≡ true → Types e (arith_t at op a b) (own int) e2
+    types_join : {e e1 : Env} {at : ℕ} {t : Term} {o : Owned} → Types e t (own (task o)) e1 → Types e (join_t at t) (own o) e1
+    types_dup : {e : Env} {at : ℕ} {w : Spot} {s : ℕ} {o : Owned} → Shows e w s (own (mutex o)) → Types e (dup_t at w) (own (mutex o)) e
+    types_lock : {e e1 : Env} {at : ℕ} {w : Spot} {x : Text} {b : Term} {s : ℕ} {o : Owned} {k : Kind} → Shows e w s (own (mutex o)) → slot_of e x ≡ None → Types (with_lock e (place_of w s) x o) b k e1 → is_owned k ≡ true → has_content (length e) e1 ≡ true → Types e (lock_t at w x b) k (keep (length e) e1)
+    types_spawn : {e e1 n n1 : Env} {at : ℕ} {cs : List Captured} {b : Term} {o : Owned} → CapturesAll by_spawn e [] cs e1 n → Types n b (own o) n1 → is_full o ≡ false → Types e (spawn_t at cs b) (own (task o)) e1
+    types_par : {e e2 n n1 m m1 : Env} {at : ℕ} {cs ds : List Captured} {a b : Term} {k l : Kind} → CapturesBoth e cs ds n m e2 → Types n a k n1 → Types m b l m1 → is_unit k ≡ true → is_unit l ≡ true → Types e (par_t at cs a ds b) (own unit) e2
 
   -- the same for items in order: before them this is the last type and its place, after them that
   pub data TypesItems : Env → Items → Kind → ℕ → Kind → ℕ → Env → Type 0 where
@@ -74,6 +64,36 @@ mutual
     faults_assign_outlives : {e e1 : Env} {at : ℕ} {w : Spot} {t : Term} {k : Kind} {s : ℕ} {p : Piece} → Types e t k e1 → Has e1 w s (found p) → IsOpen e1 (place_of w s) → is_kept_out k w.stars ≡ false → has_shape_of e1 p k ≡ true → names_from s k ≡ true → Faults e (assign_t at w t) (start_of t) Outlives
     faults_in_block : {e : Env} {at : ℕ} {ts : Items} {p : ℕ} {r : Reason} → FaultsItems e ts p r → Faults e (block_t at ts) p r
     faults_block : {e e1 : Env} {at last : ℕ} {ts : Items} {k : Kind} → TypesItems e ts (own unit) at k last e1 → names_from (length e) k ≡ true → Faults e (block_t at ts) last Outlives
+    faults_borrow : {e : Env} {at : ℕ} {w : Spot} {r : Reason} → Withholds e w r → Faults e (borrow_t at w) w.at r
+    faults_borrow_mut : {e : Env} {at : ℕ} {w : Spot} {r : Reason} → Lacks e w r → Faults e (borrow_mut_t at w) w.at r
+    faults_borrow_mut_blocked : {e : Env} {at : ℕ} {w : Spot} {s : ℕ} {k : Kind} → Has e w s (found (whole k)) → write_blocked e s ≡ true → Faults e (borrow_mut_t at w) w.at WriteBlocked
+    faults_borrow_mut_path : {e : Env} {at : ℕ} {w : Spot} {s : ℕ} {k : Kind} → Has e w s (found (whole k)) → write_blocked e s ≡ false → is_writable e (place_of w s) ≡ false → Faults e (borrow_mut_t at w) w.at NotWritable
+    faults_in_mutex : {e : Env} {at : ℕ} {t : Term} {p : ℕ} {r : Reason} → Faults e t p r → Faults e (mutex_t at t) p r
+    faults_mutex_owned : {e e1 : Env} {at : ℕ} {t : Term} {k : Kind} → Types e t k e1 → is_owned k ≡ false → Faults e (mutex_t at t) (start_of t) NotOwned
+    faults_mutex_full : {e e1 : Env} {at : ℕ} {t : Term} {o : Owned} → Types e t (own o) e1 → is_full o ≡ true → Faults e (mutex_t at t) (start_of t) NotOwned
+    faults_in_left : {e : Env} {at : ℕ} {op : Op} {a b : Term} {p : ℕ} {r : Reason} → Faults e a p r → Faults e (arith_t at op a b) p r
+    faults_left : {e e1 : Env} {at : ℕ} {op : Op} {a b : Term} {k : Kind} → Types e a k e1 → is_int k ≡ false → Faults e (arith_t at op a b) (start_of a) WrongType
+    faults_in_right : {e e1 : Env} {at : ℕ} {op : Op} {a b : Term} {k : Kind} {p : ℕ} {r : Reason} → Types e a k e1 → is_int k ≡ true → Faults e1 b p r → Faults e (arith_t at op a b) p r
+    faults_right : {e e1 e2 : Env} {at : ℕ} {op : Op} {a b : Term} {k l : Kind} → Types e a k e1 → is_int k ≡ true → Types e1 b l e2 → is_int l ≡ false → Faults e (arith_t at op a b) (start_of b) WrongType
+    faults_in_join : {e : Env} {at : ℕ} {t : Term} {p : ℕ} {r : Reason} → Faults e t p r → Faults e (join_t at t) p r
+    faults_join : {e e1 : Env} {at : ℕ} {t : Term} {k : Kind} → Types e t k e1 → task_of k ≡ None → Faults e (join_t at t) (start_of t) WrongType
+    faults_dup : {e : Env} {at : ℕ} {w : Spot} {r : Reason} → Withholds e w r → Faults e (dup_t at w) w.at r
+    faults_dup_kind : {e : Env} {at : ℕ} {w : Spot} {s : ℕ} {k : Kind} → Shows e w s k → mutex_of k ≡ None → Faults e (dup_t at w) w.at WrongType
+    faults_lock : {e : Env} {at : ℕ} {w : Spot} {x : Text} {b : Term} {r : Reason} → Withholds e w r → Faults e (lock_t at w x b) w.at r
+    faults_lock_kind : {e : Env} {at : ℕ} {w : Spot} {x : Text} {b : Term} {s : ℕ} {k : Kind} → Shows e w s k → mutex_of k ≡ None → Faults e (lock_t at w x b) w.at WrongType
+    faults_lock_name : {e : Env} {at : ℕ} {w : Spot} {x : Text} {b : Term} {s i : ℕ} {o : Owned} → Shows e w s (own (mutex o)) → slot_of e x ≡ Some i → Faults e (lock_t at w x b) at NameInScope
+    faults_in_lock : {e : Env} {at : ℕ} {w : Spot} {x : Text} {b : Term} {s : ℕ} {o : Owned} {p : ℕ} {r : Reason} → Shows e w s (own (mutex o)) → slot_of e x ≡ None → Faults (with_lock e (place_of w s) x o) b p r → Faults e (lock_t at w x b) p r
+    faults_lock_owned : {e e1 : Env} {at : ℕ} {w : Spot} {x : Text} {b : Term} {s : ℕ} {o : Owned} {k : Kind} → Shows e w s (own (mutex o)) → slot_of e x ≡ None → Types (with_lock e (place_of w s) x o) b k e1 → is_owned k ≡ false → Faults e (lock_t at w x b) (start_of b) NotOwned
+    faults_lock_full : {e e1 : Env} {at : ℕ} {w : Spot} {x : Text} {b : Term} {s : ℕ} {o : Owned} {k : Kind} → Shows e w s (own (mutex o)) → slot_of e x ≡ None → Types (with_lock e (place_of w s) x o) b k e1 → is_owned k ≡ true → has_content (length e) e1 ≡ false → Faults e (lock_t at w x b) at NotFull
+    faults_spawn : {e : Env} {at : ℕ} {cs : List Captured} {b : Term} {p : ℕ} {r : Reason} → DeniesAll by_spawn e [] cs p r → Faults e (spawn_t at cs b) p r
+    faults_in_spawn : {e e1 n : Env} {at : ℕ} {cs : List Captured} {b : Term} {p : ℕ} {r : Reason} → CapturesAll by_spawn e [] cs e1 n → Faults n b p r → Faults e (spawn_t at cs b) p r
+    faults_spawn_owned : {e e1 n n1 : Env} {at : ℕ} {cs : List Captured} {b : Term} {k : Kind} → CapturesAll by_spawn e [] cs e1 n → Types n b k n1 → is_owned k ≡ false → Faults e (spawn_t at cs b) (start_of b) NotOwned
+    faults_spawn_full : {e e1 n n1 : Env} {at : ℕ} {cs : List Captured} {b : Term} {o : Owned} → CapturesAll by_spawn e [] cs e1 n → Types n b (own o) n1 → is_full o ≡ true → Faults e (spawn_t at cs b) (start_of b) NotOwned
+    faults_par : {e : Env} {at : ℕ} {cs ds : List Captured} {a b : Term} {p : ℕ} {r : Reason} → DeniesBoth e cs ds p r → Faults e (par_t at cs a ds b) p r
+    faults_in_ours : {e e2 n m : Env} {at : ℕ} {cs ds : List Captured} {a b : Term} {p : ℕ} {r : Reason} → CapturesBoth e cs ds n m e2 → Faults n a p r → Faults e (par_t at cs a ds b) p r
+    faults_in_theirs : {e e2 n n1 m : Env} {at : ℕ} {cs ds : List Captured} {a b : Term} {k : Kind} {p : ℕ} {r : Reason} → CapturesBoth e cs ds n m e2 → Types n a k n1 → Faults m b p r → Faults e (par_t at cs a ds b) p r
+    faults_ours : {e e2 n n1 m m1 : Env} {at : ℕ} {cs ds : List Captured} {a b : Term} {k l : Kind} → CapturesBoth e cs ds n m e2 → Types n a k n1 → Types m b l m1 → is_unit k ≡ false → Faults e (par_t at cs a ds b) (start_of a) WrongType
+    faults_theirs : {e e2 n n1 m m1 : Env} {at : ℕ} {cs ds : List Captured} {a b : Term} {k l : Kind} → CapturesBoth e cs ds n m e2 → Types n a k n1 → Types m b l m1 → is_unit k ≡ true → is_unit l ≡ false → Faults e (par_t at cs a ds b) (start_of b) WrongType
 
   -- the first of these items that has a fault has this one
   pub data FaultsItems : Env → Items → ℕ → Reason → Type 0 where
@@ -82,89 +102,30 @@ mutual
 
 -- AS A FUNCTION
 
--- a type and the environment after, or the first fault
-pub data Outcome : Type 0 where
-  typed : Kind → Env → Outcome
-  fault : (at : ℕ) → Reason → Outcome
-
-abbrev pub then_typed : Outcome → (Kind → Env → Outcome) → Outcome
-then_typed (typed k e) go = go k e
-then_typed (fault at r) go = fault at r
-
--- a check: a fault where the test holds
-abbrev pub unless : Bool → ℕ → Reason → Outcome → Outcome
-unless true at r rest = fault at r
-unless false at r rest = rest
-
-abbrev pub with_slot : ℕ → Option ℕ → (ℕ → Outcome) → Outcome
-with_slot at None go = fault at UnknownName
-with_slot at (Some s) go = go s
-
-abbrev pub with_part : ℕ → Found → (Piece → Outcome) → Outcome
-with_part at (found p) go = go p
-with_part at undefined go = fault at NotDefined
-with_part at no_target go = fault at NoTarget
-
-abbrev pub with_whole : ℕ → Piece → (Kind → Outcome) → Outcome
-with_whole at (whole k) go = go k
-with_whole at (gone k) go = fault at NotDefined
-with_whole at (boxed p) go = fault at NotDefined
-
--- the place that is written, and what stands there
-abbrev pub find : Env → Spot → (Lval → Piece → Outcome) → Outcome
-find e w go = with_slot w.at (slot_of e w.name) (λ s. with_part w.at (type_at e (place_of w s)) (go (place_of w s)))
-
--- the same for a place that has to be whole
-abbrev pub find_whole : Env → Spot → (Lval → Kind → Outcome) → Outcome
-find_whole e w go = find e w (λ x p. with_whole w.at p (go x))
-
--- what follows in each row of the table, after its parts
-abbrev pub read_rule : Env → Spot → Lval → Kind → Outcome
-read_rule e w x k =
-    if copies k then unless (read_blocked e x.slot) w.at ReadBlocked (typed k e)
-    else unless (write_blocked e x.slot) w.at WriteBlocked
-    (unless (not (is_own_path e x)) w.at MovedThrough
-    (typed k (put_at e x (gone k))))
-
-abbrev pub box_rule : ℕ → Kind → Env → Outcome
-box_rule at (own o) e = unless (is_full o) at NotOwned (typed (own (box o)) e)
-box_rule at (shared us) e = fault at NotOwned
-box_rule at (mutable us) e = fault at NotOwned
-box_rule at (view o) e = fault at NotOwned
-
-abbrev pub print_rule : ℕ → Kind → Env → Outcome
-print_rule at k e = unless (not (is_int k)) at WrongType (typed (own unit) e)
-
-abbrev pub let_rule : ℕ → Text → Kind → Env → Outcome
-let_rule at x k e = unless (is_some (slot_of e x)) at NameInScope (typed (own unit) (record { name = Some x; part = whole k } ∷ e))
-
-abbrev pub write_rule : Env → Spot → ℕ → Kind → Lval → Piece → Outcome
-write_rule e w at k x p =
-    unless (write_blocked e x.slot) w.at WriteBlocked
-    (unless (not (is_writable e x)) w.at NotWritable
-    (unless (is_kept_out k x.depth) at NotOwned
-    (unless (not (has_shape_of e p k)) at WrongType
-    (unless (names_from x.slot k) at Outlives
-    (typed (own unit) (set_through e x k))))))
-
-abbrev pub assign_rule : Spot → ℕ → Kind → Env → Outcome
-assign_rule w at k e = find e w (write_rule e w at k)
-
-abbrev pub end_rule : ℕ → Kind → ℕ → Env → Outcome
-end_rule base k last e = unless (names_from base k) last Outlives (typed k (keep base e))
-
 abbrev mutual
-  -- what the table gives; of forms that aren't accepted yet nobody asks
+  -- what the table gives
   pub typing : Term → Env → Outcome
   typing (number_t at n) e = typed (own int) e
   typing (unit_t at) e = typed (own unit) e
   typing (read_t at w) e = find_whole e w (read_rule e w)
+  typing (borrow_t at w) e = find_shown e w (borrow_rule e)
+  typing (borrow_mut_t at w) e = find_whole e w (borrow_mut_rule e w)
   typing (box_t at t) e = then_typed (typing t e) (box_rule (start_of t))
+  typing (mutex_t at t) e = then_typed (typing t e) (held_rule mutex (start_of t))
+  typing (arith_t at op a b) e =
+      then_typed (typing a e) (λ k e1. int_rule (start_of a) k (then_typed (typing b e1) (arith_rule (start_of b))))
   typing (print_t at t) e = then_typed (typing t e) (print_rule (start_of t))
   typing (let_t at x t) e = then_typed (typing t e) (let_rule at x)
   typing (assign_t at w t) e = then_typed (typing t e) (assign_rule w (start_of t))
   typing (block_t at ts) e = typing_items ts (own unit) at e (end_rule (length e))
-  typing t e = fault (start_of t) WrongType
+  typing (join_t at t) e = then_typed (typing t e) (join_rule (start_of t))
+  typing (dup_t at w) e = find_shown e w (dup_rule e w.at)
+  typing (lock_t at w x b) e =
+      find_shown e w (lock_rule at e w x (λ e1. then_typed (typing b e1) (unlock_rule at (start_of b) (length e))))
+  typing (spawn_t at cs b) e =
+      capture_all by_spawn cs e [] (λ e1 n. then_typed (typing b n) (λ k n1. held_rule task (start_of b) k e1))
+  typing (par_t at cs a ds b) e =
+      capture_both cs ds e (λ n m e2. then_typed (typing a n) (λ k n1. then_typed (typing b m) (λ l m1. par_rule (start_of a) (start_of b) k l e2)))
 
   -- the items in order; the type and the place are those of what came before
   pub typing_items : Items → Kind → ℕ → Env → (Kind → ℕ → Env → Outcome) → Outcome

@@ -9,7 +9,7 @@ invariant_of-result c =
     c.len.ensures.arena c.requires c.root.ensures c.new-scope.ensures c.in-Ok.ensures.gives c.in-Ok.ensures.usages (c.in_ok-usages.ensures ∙ c.len.ensures.meanings)
 
 pub returns-in-Ok-clause-typed : goal.returns-in-Ok-clause-typed
-returns-in-Ok-clause-typed c = typed_at_root c.args.tree c.root.result c.new-scope.result (kind_of c.in-Ok.field-0) _ c.requires.accepted c.root.ensures c.new-scope.ensures c.in-Ok.ensures.gives
+returns-in-Ok-clause-typed c = typed_at_root c.args.tree c.root.result c.new-scope.result (kind_of c.in-Ok.field-0) _ c.root.ensures c.new-scope.ensures c.in-Ok.ensures.gives
 
 pub returns-in-Err-clause-fault : goal.returns-in-Err-clause-fault
-returns-in-Err-clause-fault c = fault_at_root c.args.tree c.root.result c.new-scope.result c.in-Err.e _ c.requires.accepted c.root.ensures c.new-scope.ensures c.in-Err.ensures.gives
+returns-in-Err-clause-fault c = fault_at_root c.args.tree c.root.result c.new-scope.result c.in-Err.e _ c.root.ensures c.new-scope.ensures c.in-Err.ensures.gives

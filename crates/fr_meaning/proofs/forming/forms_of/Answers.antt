@@ -22,4 +22,4 @@ returns-clause-depth c =
 
 pub returns-clause-typed : goal.returns-clause-typed
 returns-clause-typed c =
-    root_starts c.nodes.forms.items (term_of c.args.checked.now.arena) c.tree-tree.ensures.checked.checkable.block c.tree-tree.ensures.checked.typed (returns-clause-root c)
+    root_starts c.nodes.forms.items (term_of c.args.checked.now.arena) c.tree-tree.ensures.checked.checkable.block c.tree-tree.ensures.checked.checkable.accepted c.tree-tree.ensures.checked.typed (returns-clause-root c)

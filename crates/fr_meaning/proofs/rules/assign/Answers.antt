@@ -1,6 +1,6 @@
 use Rattle.std.proofs.Common.{subst, ap, set, Err, true, false}
 use Rattle.fr_typing.specs.Kinds.{Piece}
-use Rattle.fr_typing.specs.Typing.{write_rule}
+use Rattle.fr_typing.specs.Rules.{write_rule}
 use Rattle.fr_syntax.specs.Meanings.{meanings, place_at}
 use Rattle.fr_meaning.specs.Types.{kind_of, piece_of}
 use Rattle.fr_meaning.specs.Parts.{under, Fits}

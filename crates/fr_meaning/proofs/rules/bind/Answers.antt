@@ -1,7 +1,7 @@
 use Rattle.std.proofs.Common.{sym, ◌∙◌, ap}
 use Rattle.std.specs.Prelude.{is_some}
 use Rattle.fr_typing.specs.Kinds.{own, unit}
-use Rattle.fr_typing.specs.Typing.{typed}
+use Rattle.fr_typing.specs.Finding.{typed}
 use Rattle.fr_meaning.specs.States.{env_of}
 use Rattle.fr_meaning.specs.Types.{kind_of}
 use Rattle.fr_meaning.proofs.RuleLemmas.{bind_typed, bind_fault}

@@ -1,7 +1,7 @@
 use Rattle.std.proofs.Common.{◌≡◌, subst, ap, set, Err}
 use Rattle.fr_typing.specs.Kinds.{Piece, whole}
 use Rattle.fr_typing.specs.Places.{found}
-use Rattle.fr_typing.specs.Typing.{read_rule}
+use Rattle.fr_typing.specs.Rules.{read_rule}
 use Rattle.fr_syntax.specs.Meanings.{meanings, place_at}
 use Rattle.fr_meaning.specs.declared.usage.Usage.{Usage}
 use Rattle.fr_meaning.specs.Types.{kind_of}

@@ -8,7 +8,7 @@ use Rattle.fr_store.proofs.ReferenceRows.{move_ref_row, clear_row, fill_row}
 use Rattle.fr_store.proofs.SlotRows.{let_row, end_row, rank_next}
 use Rattle.fr_store.proofs.Step.{step_row, step_sleep_row}
 use Rattle.fr_store.proofs.Through.{write_through_row}
-use Rattle.fr_store.proofs.ValueRows.{int_row, unit_row, read_int_row, read_unit_row, copy_row, drop_row, box_row}
+use Rattle.fr_store.proofs.ValueRows.{int_row, unit_row, read_int_row, read_unit_row, copy_row, drop_row, forget_row, box_row}
 
 pub returns : goal.returns
 returns c = record {
@@ -36,6 +36,7 @@ returns c = record {
   move_ref = move_ref_row;
   clear = clear_row;
   fill = fill_row;
+  forget = forget_row;
   join = join_row;
   join_temp = join_temp_row;
   new_thread = new_thread_row;

@@ -9,4 +9,4 @@ pub from_forms-requires-clause-typed : goal.from_forms-requires-clause-typed
 from_forms-requires-clause-typed g c =
     let p = c.push.ensures.items in
     let q = rw (c.expect.ensures, c.new-forms.ensures.items) at p in
-    rw (q, c.new.ensures.items) (starts_typed_lem 0 none (own unit) [] (types_block {at = 0} {last = 0} types_none refl))
+    rw (q, c.new.ensures.items) (starts_typed_lem 0 none (own unit) [] tt (types_block {at = 0} {last = 0} types_none refl))

@@ -1,0 +1,5 @@
+pub mod Issued
+pub mod Partition
+pub mod Runs
+pub mod States
+pub mod View
