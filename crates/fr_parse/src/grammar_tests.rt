@@ -20,7 +20,8 @@ fn read(rt: &impl Abort, alloc: Global, bytes: &[u8]) -> Result<Tree, ParseError
 fn is_printed(rt: &impl Abort, alloc: Global, bytes: &[u8], want: &str)
     requires { length bytes.now ≤ 67108864 }
 {
-    let tree = read(rt, alloc, bytes).expect(rt, "no program");
+    let list = tokens(alloc, bytes).expect(rt, "no tokens");
+    let tree = parse(alloc, &list).expect(rt, "no program");
     let text = print(alloc, &tree).expect(rt, "no memory");
     assert_eq!(rt; text.strip_suffix("\n"), Some(want));
 }
