@@ -1,0 +1,7 @@
+use Rattle.fr_types.specs.Types.{piece_of}
+use Rattle.std.proofs.Common.{sym}
+use Rattle.fr_types.proofs.PutLemmas.{put_part_zero}
+use Rattle.fr_types.proofs.put.+put_under.Goals as goal
+
+pub returns-then-stars-eq0 : goal.returns-then-stars-eq0
+returns-then-stars-eq0 t c = sym (put_part_zero c.args.stars (piece_of c.args.new) (piece_of c.args.part.now) c.if-stars-eq0.true)

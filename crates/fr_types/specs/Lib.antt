@@ -1,0 +1,10 @@
+pub mod Rising
+pub mod OwnedTypes
+pub mod Types
+pub mod Answers
+pub mod Parts
+pub mod States
+pub mod Codes
+pub mod Inside
+pub mod Paths
+pub mod Shapes

@@ -1,0 +1,217 @@
+//! The environment.
+
+ghost use Rattle.std.specs.Prelude.{◌≡◌, ℕ, ◌<◌, ◌≤◌, ◌↔◌, [], ◌∷◌, List, length, drop, slice_index_or, IsSome, IfOk, OnOk, OnErr, IfSome, None};
+ghost use Rattle.std.specs.List.{list_any};
+ghost use Rattle.fr_terms.specs.Terms.{Text};
+ghost use Rattle.fr_typing.specs.Places.{AreBelow, piece_places, read_blocked, write_blocked, put_at, blocks_read, blocks_write};
+ghost use Rattle.fr_types.specs.Types.{piece_of};
+ghost use Rattle.fr_types.specs.States.{slot_in, part_in, put_in, env_of, IsNew, AreNested};
+ghost use Rattle.fr_types.specs.Inside.{HasRoom, with_entry};
+
+use crate::put::{blocks_read, blocks_write, put_under};
+use crate::types::Part;
+use crate::variable::Variable;
+use fr_base::{Lval, NoMemory};
+use std::alloc::Global;
+use std::marker::Model;
+use std::mem;
+
+/// The slots of an environment. Each part names only slots below its own, and no two slots have the same name.
+/// Contracts see the slots, the last one first.
+#[derive(Debug, Drop)]
+pub struct Env {
+    slots: Vec<Variable>,
+    // by name: its slot
+    slot_of: Vec<Option<u32>>,
+}
+
+impl Model for Env {
+    ghost use Rattle.std.specs.Prelude.{List};
+    ghost use Rattle.fr_types.specs.States.{Held};
+    ghost use Rattle.fr_types.specs.Codes.{env_code};
+    ghost use Rattle.fr_types.specs.Inside.{newest, IsKept};
+
+    ghost Value = { List Held };
+
+    ghost coded = { env_code };
+
+    ghost view = { λ e. newest e.slots.items };
+
+    ghost invariant = { λ e. IsKept (newest e.slots.items) e.slot_of.items };
+}
+
+impl Env {
+    /// No slot.
+    pub fn new(alloc: Global) -> Env
+        ensures { result ≡ [] }
+    {
+        Env {
+            slots: Vec::new(alloc),
+            slot_of: Vec::new(alloc),
+        }
+    }
+
+    /// How many slots there are, at most 268,435,456.
+    #[tactic(auto, using(crate::proofs::EnvLemmas::length_newest))]
+    pub fn len(&self) -> u32
+        ensures len { result ≡ length self.now }
+        ensures few { result ≤ 268435456 }
+        ensures nested { AreNested self.now }
+    {
+        self.slots.len() as u32
+    }
+
+    /// The slot of the name, found without a search. `None`: no slot has it.
+    pub fn find(&self, name: u32) -> Option<u32>
+        ensures slot { result ≡ slot_in self.now name }
+        ensures here { IfSome result (λ s. s < length self.now) }
+    {
+        let at = name as usize;
+        if at < self.slot_of.len() {
+            self.slot_of[at]
+        } else {
+            None
+        }
+    }
+
+    /// The part of the slot. `None`: there is no such slot.
+    pub fn slot(&self, no: u32) -> Option<&Part>
+        ensures some { IsSome result ↔ (no < length self.now) }
+        ensures part { IfSome result (λ p. piece_of p.now ≡ part_in self.now no) }
+        ensures below { IfSome result (λ p. AreBelow no (piece_places (piece_of p.now))) }
+        ensures nested { AreNested self.now }
+    {
+        let at = no as usize;
+        if at < self.slots.len() {
+            Some(&self.slots[at].part)
+        } else {
+            None
+        }
+    }
+
+    /// A new slot above the others; the names' table grows to the name's number. A refusal changes nothing.
+    pub fn push(&mut self, name: Option<u32>, part: Part) -> Result<(), NoMemory>
+        requires below { AreBelow (length self.old) (piece_places (piece_of part)) }
+        requires new { IsNew self.old name }
+        requires few { length self.old < 268435456 }
+        ensures pushed { OnOk result (self.new ≡ record { name = name; part = piece_of part } ∷ self.old) }
+        ensures refused { OnErr result (self.new ≡ self.old) }
+    {
+        let slot = self.slots.len() as u32;
+        make_room(&mut self.slot_of, name)?;
+        self.slots.push(Variable { name, part })?;
+        note(&mut self.slot_of, name, Some(slot));
+        Ok(())
+    }
+
+    /// Another part at the slot.
+    pub fn set(&mut self, no: u32, part: Part)
+        requires here { no < length self.old }
+        requires below { AreBelow no (piece_places (piece_of part)) }
+        ensures { self.new ≡ put_in self.old no (piece_of part) }
+    {
+        drop(mem::replace(&mut self.slots[no as usize].part, part));
+    }
+
+    /// The last slot goes, and its part is the answer. `None`: there is no slot.
+    pub fn pop(&mut self) -> Option<Part>
+        ensures some { IsSome result ↔ (0 < length self.old) }
+        ensures part { IfSome result (λ p. piece_of p ≡ part_in self.old (length self.new)) }
+        ensures rest { self.new ≡ drop 1 self.old }
+    {
+        let Some(variable) = self.slots.pop() else {
+            return None;
+        };
+        let Variable { name, part } = variable;
+        note(&mut self.slot_of, name, None);
+        Some(part)
+    }
+
+    /// An equal environment.
+    pub fn copy(&self, alloc: Global) -> Result<Env, NoMemory>
+        ensures { IfOk result (λ e. e ≡ self.now) }
+    {
+        let slot_of = copied(&self.slot_of)?;
+        let mut slots = Vec::new(alloc);
+        'slots: for at in 0..self.slots.len() {
+            let Variable { name, part } = &self.slots[at];
+            slots.push(Variable {
+                name: *name,
+                part: part.copy(alloc)?,
+            })?;
+        }
+        Ok(Env { slots, slot_of })
+    }
+
+    /// Whether some slot has a mutable reference that starts at this one.
+    pub fn read_blocked(&self, no: u32) -> bool
+        ensures { (names : List Text) → result ≡ read_blocked (env_of names self.now) no }
+    {
+        any_blocks_read(self.slots.as_slice(), no)
+    }
+
+    /// Whether some slot has a reference that starts at this one.
+    pub fn write_blocked(&self, no: u32) -> bool
+        ensures { (names : List Text) → result ≡ write_blocked (env_of names self.now) no }
+    {
+        any_blocks_write(self.slots.as_slice(), no)
+    }
+
+    /// Puts the part at a place whose path is its own; a refusal changes nothing.
+    pub fn put(&mut self, alloc: Global, w: Lval, part: Part) -> Result<(), NoMemory>
+        requires here { w.slot < length self.old }
+        requires below { AreBelow w.slot (piece_places (piece_of part)) }
+        ensures put { OnOk result ((names : List Text) → env_of names self.new ≡ put_at (env_of names self.old) w (piece_of part)) }
+        ensures names { (name : ℕ) → slot_in self.new name ≡ slot_in self.old name }
+        ensures refused { OnErr result (self.new ≡ self.old) }
+    {
+        let Some(old) = self.slot(w.slot) else {
+            unreachable!()
+        };
+        let new = put_under(alloc, old, w.depth, part)?;
+        self.set(w.slot, new);
+        Ok(())
+    }
+}
+
+fn copied(slot_of: &Vec<Option<u32>>) -> Result<Vec<Option<u32>>, NoMemory>
+    ensures { IfOk result (λ xs. xs.items ≡ slot_of.now.items) }
+{
+    Ok(slot_of.clone()?)
+}
+
+// Places that hold nothing, up to that of the name.
+fn make_room(slot_of: &mut Vec<Option<u32>>, name: Option<u32>) -> Result<(), NoMemory>
+    ensures same { (at : ℕ) → slice_index_or slot_of.new.items at None ≡ slice_index_or slot_of.old.items at None }
+    ensures room { OnOk result (HasRoom name slot_of.new.items) }
+{
+    let Some(name) = name else {
+        return Ok(());
+    };
+    'names: while slot_of.len() <= name as usize {
+        slot_of.push(None)?;
+    }
+    Ok(())
+}
+
+// The name's entry is this one.
+fn note(slot_of: &mut Vec<Option<u32>>, name: Option<u32>, slot: Option<u32>)
+    requires { HasRoom name slot_of.old.items }
+    ensures { slot_of.new.items ≡ with_entry slot_of.old.items name slot }
+{
+    if let Some(name) = name {
+        slot_of[name as usize] = slot;
+    }
+}
+
+fn any_blocks_read(slots: &[Variable], no: u32) -> bool
+    ensures { result ≡ list_any (λ v. blocks_read no (piece_of v.part)) slots.now }
+{
+    slots.iter().any(|v| blocks_read(no, &v.part))
+}
+
+fn any_blocks_write(slots: &[Variable], no: u32) -> bool
+    ensures { result ≡ list_any (λ v. blocks_write no (piece_of v.part)) slots.now }
+{
+    slots.iter().any(|v| blocks_write(no, &v.part))
+}
