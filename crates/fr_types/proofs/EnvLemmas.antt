@@ -1,16 +1,14 @@
 -- The slots of an environment, and the table that has them by name.
 use Rattle.std.proofs.Common.{◌≡◌, ℕ, zero, suc, ◌+◌, ◌<◌, ◌≤◌, Bool, true, false, List, [], ◌∷◌, ◌++◌, length, drop, get_or, set, Option, Some, None, refl, sym, ap, ◌∙◌, subst, arith}
-use Rattle.std.specs.Prelude.{◌==◌, ◌||◌, ◌↔◌, IfSome, take, if◌then◌else◌}
-use Rattle.std.specs.List.{list_any}
+use Rattle.std.specs.Prelude.{◌==◌, ◌↔◌, IfSome, take, if◌then◌else◌}
 use Rattle.std.proofs.lemmas.List.{get_or-set_same, get_or-set_other, get_or_default, take_more, take_all}
 use Rattle.fr_typing.specs.Kinds.{Piece}
-use Rattle.fr_terms.specs.Terms.{Text}
 use Rattle.fr_typing.specs.Places.{piece_places, AreBelow}
 use Rattle.fr_typing.proofs.PlaceLemmas.{eq_cases}
 use Rattle.fr_types.specs.declared.types.Part.{Part}
 use Rattle.fr_types.specs.declared.variable.Variable.{Variable}
 use Rattle.fr_types.specs.Types.{piece_of}
-use Rattle.fr_types.specs.States.{Held, env_of, is_named, slot_in, IsNew, part_in, put_in, AreNested, AreApart}
+use Rattle.fr_types.specs.States.{Held, is_named, slot_in, IsNew, part_in, put_in, AreNested, AreApart}
 use Rattle.fr_types.specs.Inside.{held_of, onto, newest, IsKept, HasRoom, with_entry}
 
 -- a fact of a choice, by both values
@@ -152,16 +150,16 @@ put_in-at below (w ∷ vs) (suc i) slot v q lt at is = put_in-at (held_of w ∷ 
 pub put_in-newest : (vs : List Variable) (i : ℕ) (v : Variable) (q : Part) → i < length vs → v ≡ get_or vs i v → newest (set vs i (record v { part = q })) ≡ put_in (newest vs) i (piece_of q)
 put_in-newest vs i v q lt is = put_in-at [] vs i i v q lt (omega arith) is
 
-pub length-put_in : (vs : List Held) (slot : ℕ) (p : Piece) → length (put_in vs slot p) ≡ length vs
-length-put_in [] slot p = refl
-length-put_in (s ∷ below) slot p = either (λ l. length l ≡ suc (length below)) (slot == length below) (record s { part = p } ∷ below) (s ∷ put_in below slot p) refl (ap suc (length-put_in below slot p))
+pub length_put_in : (vs : List Held) (slot : ℕ) (p : Piece) → length (put_in vs slot p) ≡ length vs
+length_put_in [] slot p = refl
+length_put_in (s ∷ below) slot p = either (λ l. length l ≡ suc (length below)) (slot == length below) (record s { part = p } ∷ below) (s ∷ put_in below slot p) refl (ap suc (length_put_in below slot p))
 
 -- names stay where they are
 pub slot_in-put_in : (vs : List Held) (slot name : ℕ) (p : Piece) → slot_in (put_in vs slot p) name ≡ slot_in vs name
 slot_in-put_in [] slot name p = refl
 slot_in-put_in (s ∷ below) slot name p =
     either (λ l. slot_in l name ≡ slot_in (s ∷ below) name) (slot == length below) (record s { part = p } ∷ below) (s ∷ put_in below slot p) refl
-    (ap (λ n. if is_named s.name name then Some n else slot_in (put_in below slot p) name) (length-put_in below slot p)
+    (ap (λ n. if is_named s.name name then Some n else slot_in (put_in below slot p) name) (length_put_in below slot p)
     ∙ ap (λ o. if is_named s.name name then Some (length below) else o) (slot_in-put_in below slot name p))
 
 new-put_in : (vs : List Held) (slot : ℕ) (p : Piece) (name : Option ℕ) → IsNew vs name → IsNew (put_in vs slot p) name
@@ -174,12 +172,12 @@ apart-put_in (s ∷ below) slot p h =
     either AreApart (slot == length below) (record s { part = p } ∷ below) (s ∷ put_in below slot p) h
     (new-put_in below slot p s.name h.0, apart-put_in below slot p h.1)
 
-nested-put_in : (vs : List Held) (slot : ℕ) (p : Piece) → AreBelow slot (piece_places p) → AreNested vs → AreNested (put_in vs slot p)
+pub nested-put_in : (vs : List Held) (slot : ℕ) (p : Piece) → AreBelow slot (piece_places p) → AreNested vs → AreNested (put_in vs slot p)
 nested-put_in [] slot p g h = tt
 nested-put_in (s ∷ below) slot p g h =
     eq_cases (λ b. AreNested (if b then record s { part = p } ∷ below else s ∷ put_in below slot p)) slot (length below)
     (λ e. (subst (λ n. AreBelow n (piece_places p)) e g, h.1))
-    (λ ne. (subst (λ n. AreBelow n (piece_places s.part)) (sym (length-put_in below slot p)) h.0, nested-put_in below slot p g h.1))
+    (λ ne. (subst (λ n. AreBelow n (piece_places s.part)) (sym (length_put_in below slot p)) h.0, nested-put_in below slot p g h.1))
 
 -- another part at a slot
 pub kept_put : (vs : List Held) (xs : List (Option ℕ)) (slot : ℕ) (p : Piece) → IsKept vs xs → AreBelow slot (piece_places p) → IsKept (put_in vs slot p) xs
@@ -187,7 +185,7 @@ kept_put vs xs slot p h g = record {
   found = λ name. h.found name ∙ sym (slot_in-put_in vs slot name p);
   apart = apart-put_in vs slot p h.apart;
   nested = nested-put_in vs slot p g h.nested;
-  few = let same = length-put_in vs slot p in let few : length vs ≤ 268435456 = h.few in omega arith;
+  few = let same = length_put_in vs slot p in let few : length vs ≤ 268435456 = h.few in omega arith;
 }
 
 -- WHAT CONTRACTS SEE
@@ -271,30 +269,6 @@ copy_step vs new v w i same lt is held =
     ∙ ap (λ l. held_of w ∷ l) same
     ∙ ap (λ (x : Variable). held_of x ∷ newest (take i new)) is
     ∙ sym (ap newest (take_more new i w lt) ∙ newest-push (take i new) (get_or new i w))
-
--- BLOCKED
-
-or_swap : (a b c : Bool) → (a || (b || c)) ≡ ((b || a) || c)
-or_swap true true c = refl
-or_swap true false c = refl
-or_swap false true c = refl
-or_swap false false c = refl
-
-any_onto : (test : Piece → Bool) (names : List Text) (below : List Held) (vs : List Variable) → list_any (λ s. test s.part) (env_of names (onto below vs)) ≡ (list_any (λ v. test (piece_of v.part)) vs || list_any (λ s. test s.part) (env_of names below))
-any_onto test names below [] = refl
-any_onto test names below (v ∷ vs) =
-    any_onto test names (held_of v ∷ below) vs
-    ∙ or_swap (list_any (λ v. test (piece_of v.part)) vs) (test (piece_of v.part)) (list_any (λ s. test s.part) (env_of names below))
-
-or_false : (b : Bool) → (b || false) ≡ b
-or_false true = refl
-or_false false = refl
-
--- whether some slot of the code's is such
-pub any_newest : (test : Piece → Bool) (names : List Text) (vs : List Variable) (all : List Held) → newest vs ≡ all → list_any (λ v. test (piece_of v.part)) vs ≡ list_any (λ s. test s.part) (env_of names all)
-any_newest test names vs all e =
-    sym (any_onto test names [] vs ∙ or_false (list_any (λ v. test (piece_of v.part)) vs))
-    ∙ ap (λ l. list_any (λ s. test s.part) (env_of names l)) e
 
 -- an equal environment, when all are copied
 pub copy_seen : (vs new : List Variable) (all : List Held) (i : ℕ) → newest vs ≡ newest (take i new) → length new ≤ i → newest new ≡ all → newest vs ≡ all

@@ -2,5 +2,16 @@ pub mod SetLemmas
 pub mod PutLemmas
 pub mod EnvLemmas
 pub mod LookLemmas
+pub mod BaseLemmas
+pub mod AimLemmas
+pub mod RenewLemmas
+pub mod LoanLemmas
+pub mod CountLemmas
+pub mod TableLemmas
+pub mod InsideLemmas
 pub mod PathLemmas
 pub mod ShapeLemmas
+pub mod ShapeTableLemmas
+pub mod ShapeNodeLemmas
+pub mod NumberedLemmas
+pub mod ShapedLemmas

@@ -75,23 +75,11 @@ found_places e i n p h is = subst (FoundBelow i) is (type_at_below e (record { s
 
 -- the same of the code's slots
 
-inside : (names : List Text) (vs : List Held) (i : ℕ) → i < length vs → i < length (env_of names vs)
-inside names vs i lt = subst (λ n. i < n) (sym (length-env_of names vs)) lt
+pub inside_env : (names : List Text) (vs : List Held) (i : ℕ) → i < length vs → i < length (env_of names vs)
+inside_env names vs i lt = subst (λ n. i < n) (sym (length-env_of names vs)) lt
 
 pub start_seen : (names : List Text) (vs : List Held) (i : ℕ) (p q : Piece) → i < length vs → q ≡ part_in vs i → p ≡ q → type_at (env_of names vs) (record { slot = i; depth = 0 }) ≡ found p
 start_seen names vs i p q lt is same = type_at_slot names vs i lt ∙ ap found (sym is) ∙ ap found (sym same)
-
-pub step_seen : (names : List Text) (vs : List Held) (i n : ℕ) (p q : Piece) → AreNested vs → i < length vs → type_at (env_of names vs) (record { slot = i; depth = n }) ≡ found p → star (type_at (env_of names vs)) p ≡ found q → type_at (env_of names vs) (record { slot = i; depth = n + 1 }) ≡ found q
-step_seen names vs i n p q h lt is next = star_step (env_of names vs) i n p (nested_env names vs h) (inside names vs i lt) is ∙ next
-
-pub below_next : (vs : List Held) (i n : ℕ) (p q : Piece) → AreNested vs → i < length vs → ((names : List Text) → type_at (env_of names vs) (record { slot = i; depth = n }) ≡ found p) → ((names : List Text) → star (type_at (env_of names vs)) p ≡ found q) → AreBelow i (piece_places q)
-below_next vs i n p q h lt is next =
-    found_places (env_of [] vs) i (n + 1) q (nested_env [] vs h) (step_seen [] vs i n p q h lt (is []) (next []))
-
-pub error_seen : (names : List Text) (vs : List Held) (i n m : ℕ) (p : Piece) (r : TypeError) → AreNested vs → i < length vs → n < m → type_at (env_of names vs) (record { slot = i; depth = n }) ≡ found p → IsFound (Err r) (star (type_at (env_of names vs)) p) → IsFound (Err r) (type_at (env_of names vs) (record { slot = i; depth = m }))
-error_seen names vs i n m p r h lt le is err =
-    answer_stays (env_of names vs) i (n + 1) m r (nested_env names vs h) (inside names vs i lt) (omega arith)
-    (subst (IsFound (Err r)) (sym (star_step (env_of names vs) i n p (nested_env names vs h) (inside names vs i lt) is)) err)
 
 -- SETS
 

@@ -16,7 +16,7 @@ use Rattle.fr_types.proofs.LookLemmas.{length-env_of}
 
 -- PLACES
 
-abbrev SameShapes : ℕ → (Lval → Option Shape) → (Lval → Option Shape) → Type 0
+abbrev pub SameShapes : ℕ → (Lval → Option Shape) → (Lval → Option Shape) → Type 0
 SameShapes n a b = (u : Lval) → u.slot < n → a u ≡ b u
 
 first_same : (n : ℕ) (a b : Lval → Option Shape) (us : List Lval) → SameShapes n a b → AreBelow n us → first_shape a us ≡ first_shape b us
@@ -29,7 +29,8 @@ kind_same n a b (view o) s h = refl
 kind_same n a b (shared us) s h = ap (map_some shared_to) (first_same n a b us s h)
 kind_same n a b (mutable us) s h = ap (map_some mutable_to) (first_same n a b us s h)
 
-piece_same : (n : ℕ) (a b : Lval → Option Shape) (p : Piece) → SameShapes n a b → AreBelow n (piece_places p) → piece_shape a p ≡ piece_shape b p
+-- so parts have the shapes that lower places have
+pub piece_same : (n : ℕ) (a b : Lval → Option Shape) (p : Piece) → SameShapes n a b → AreBelow n (piece_places p) → piece_shape a p ≡ piece_shape b p
 piece_same n a b (whole k) s h = kind_same n a b k s h
 piece_same n a b (gone k) s h = kind_same n a b k s h
 piece_same n a b (boxed p) s h = ap same_owned_shape (piece_same n a b p s h)
@@ -38,7 +39,7 @@ shape_push : (s : Slot) (e : Env) (u : Lval) → u.slot < length e → shape_at 
 shape_push s e u lt = eq_cases (λ b. (if b then stars_shape u.depth (piece_shape (shape_at e) s.part) else shape_at e u) ≡ shape_at e u) u.slot (length e) (λ h. absurd (omega arith)) (λ ne. refl)
 
 -- a slot's part names only lower slots
-part_below : (n : ℕ) (vs : List Held) (i : ℕ) → AreNested vs → i < length vs → length vs ≤ n → AreBelow n (piece_places (part_in vs i))
+pub part_below : (n : ℕ) (vs : List Held) (i : ℕ) → AreNested vs → i < length vs → length vs ≤ n → AreBelow n (piece_places (part_in vs i))
 part_below n [] i h lt le = absurd (omega arith)
 part_below n (s ∷ below) i h lt le =
     eq_cases (λ b. AreBelow n (piece_places (if b then s.part else part_in below i))) i (length below)

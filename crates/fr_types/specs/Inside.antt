@@ -3,6 +3,11 @@ use Rattle.std.specs.Prelude.{◌≡◌, ℕ, ◌<◌, ◌≤◌, ⊤, List, [],
 use Rattle.fr_types.specs.declared.variable.Variable.{Variable}
 use Rattle.fr_types.specs.Types.{piece_of}
 use Rattle.fr_types.specs.States.{Held, slot_in, AreNested, AreApart}
+use Rattle.fr_types.specs.declared.loans.Loans.{Loans}
+use Rattle.fr_types.specs.declared.resolved.Starred.{Starred}
+use Rattle.fr_types.specs.Lent.{AreCounted}
+use Rattle.fr_types.specs.Bases.{AreAimed}
+use Rattle.fr_types.specs.SlotShapes.{Known, AreShapes}
 
 abbrev pub held_of : Variable → Held
 held_of v = record { name = v.name; part = piece_of v.part }
@@ -22,6 +27,18 @@ pub record IsKept (vs : List Held) (slots : List (Option ℕ)) : Type 0 where
   pub apart : AreApart vs
   pub nested : AreNested vs
   pub few : length vs ≤ 268435456
+
+-- the tables of names, of loans and of targets are those of the slots
+pub record IsTabled (vs : List Held) (slots : List (Option ℕ)) (loans : List Loans) (targets : List (Option Starred)) : Type 0 where
+  pub kept : IsKept vs slots
+  pub counted : AreCounted vs loans
+  pub aimed : AreAimed vs targets
+  pub small : length targets ≤ 268435456
+
+-- and the slots' shapes, where they are known
+pub record IsInside (vs : List Held) (slots : List (Option ℕ)) (loans : List Loans) (targets : List (Option Starred)) (shapes : Known) : Type 0 where
+  pub tabled : IsTabled vs slots loans targets
+  pub shaped : AreShapes vs shapes
 
 -- the table has room for the name
 abbrev pub HasRoom : Option ℕ → List (Option ℕ) → Type 0

@@ -4,7 +4,13 @@ pub mod Types
 pub mod Answers
 pub mod Parts
 pub mod States
+pub mod Lent
+pub mod Bases
 pub mod Codes
 pub mod Inside
 pub mod Paths
 pub mod Shapes
+pub mod ShapeTables
+pub mod ShapeCodes
+pub mod ShapeNodes
+pub mod SlotShapes

@@ -1,15 +1,20 @@
 //! The environment.
 
 ghost use Rattle.std.specs.Prelude.{◌≡◌, ℕ, ◌<◌, ◌≤◌, ◌↔◌, [], ◌∷◌, List, length, drop, slice_index_or, IsSome, IfOk, OnOk, OnErr, IfSome, None};
-ghost use Rattle.std.specs.List.{list_any};
 ghost use Rattle.fr_terms.specs.Terms.{Text};
-ghost use Rattle.fr_typing.specs.Places.{AreBelow, piece_places, read_blocked, write_blocked, put_at, blocks_read, blocks_write};
-ghost use Rattle.fr_types.specs.Types.{piece_of};
+ghost use Rattle.fr_typing.specs.Places.{AreBelow, piece_places, read_blocked, write_blocked, put_at, kind_shape, shape_at};
+ghost use Rattle.fr_typing.specs.Checks.{equal_shapes, has_shape_of};
+ghost use Rattle.fr_types.specs.Types.{kind_of, piece_of};
 ghost use Rattle.fr_types.specs.States.{slot_in, part_in, put_in, env_of, IsNew, AreNested};
 ghost use Rattle.fr_types.specs.Inside.{HasRoom, with_entry};
+ghost use Rattle.fr_types.specs.Lent.{loans_at};
+ghost use Rattle.fr_types.specs.Bases.{starred, base, target_at};
 
-use crate::put::{blocks_read, blocks_write, put_under};
-use crate::types::Part;
+use crate::loans::{Loans, give_back, lend};
+use crate::put::put_under;
+use crate::resolved::{Starred, aim, renew, resolve};
+use crate::slot_shapes::SlotShapes;
+use crate::types::{Part, Ty};
 use crate::variable::Variable;
 use fr_base::{Lval, NoMemory};
 use std::alloc::Global;
@@ -23,13 +28,19 @@ pub struct Env {
     slots: Vec<Variable>,
     // by name: its slot
     slot_of: Vec<Option<u32>>,
+    // by slot: the references to it
+    loans: Vec<Loans>,
+    // by slot: where it leads, if it has a whole reference to one place
+    targets: Vec<Option<Starred>>,
+    // by slot: its shape
+    shapes: SlotShapes,
 }
 
 impl Model for Env {
     ghost use Rattle.std.specs.Prelude.{List};
     ghost use Rattle.fr_types.specs.States.{Held};
     ghost use Rattle.fr_types.specs.Codes.{env_code};
-    ghost use Rattle.fr_types.specs.Inside.{newest, IsKept};
+    ghost use Rattle.fr_types.specs.Inside.{newest, IsInside};
 
     ghost Value = { List Held };
 
@@ -37,7 +48,7 @@ impl Model for Env {
 
     ghost view = { λ e. newest e.slots.items };
 
-    ghost invariant = { λ e. IsKept (newest e.slots.items) e.slot_of.items };
+    ghost invariant = { λ e. IsInside (newest e.slots.items) e.slot_of.items e.loans.items e.targets.items e.shapes };
 }
 
 impl Env {
@@ -48,6 +59,9 @@ impl Env {
         Env {
             slots: Vec::new(alloc),
             slot_of: Vec::new(alloc),
+            loans: Vec::new(alloc),
+            targets: Vec::new(alloc),
+            shapes: SlotShapes::new(alloc),
         }
     }
 
@@ -89,7 +103,8 @@ impl Env {
         }
     }
 
-    /// A new slot above the others; the names' table grows to the name's number. A refusal changes nothing.
+    /// A new slot above the others; the names' table grows to the name's number. It also costs the places of the part, the stars
+    /// of the first one and the levels of an owned type. A refusal changes nothing.
     pub fn push(&mut self, name: Option<u32>, part: Part) -> Result<(), NoMemory>
         requires below { AreBelow (length self.old) (piece_places (piece_of part)) }
         requires new { IsNew self.old name }
@@ -99,18 +114,32 @@ impl Env {
     {
         let slot = self.slots.len() as u32;
         make_room(&mut self.slot_of, name)?;
-        self.slots.push(Variable { name, part })?;
+        make_space(&mut self.loans, slot)?;
+        make_targets(&mut self.targets, slot)?;
+        self.slots.reserve(1)?;
+        self.shapes.push(&part)?;
+        lend(&mut self.loans, &part);
+        let target = aim(self.targets.as_slice(), &part);
+        self.targets[slot as usize] = target;
+        self.slots.push_reserved(Variable { name, part });
         note(&mut self.slot_of, name, Some(slot));
         Ok(())
     }
 
-    /// Another part at the slot.
+    /// Another part at the slot. It costs the places of both parts, the stars of the first ones and the levels of owned types;
+    /// where a reference leads to the slot and the new part leads elsewhere than the old one, also the slots above.
     pub fn set(&mut self, no: u32, part: Part)
         requires here { no < length self.old }
         requires below { AreBelow no (piece_places (piece_of part)) }
         ensures { self.new ≡ put_in self.old no (piece_of part) }
     {
-        drop(mem::replace(&mut self.slots[no as usize].part, part));
+        let at = no as usize;
+        let is_lent = self.write_blocked(no);
+        give_back(&mut self.loans, &self.slots[at].part);
+        lend(&mut self.loans, &part);
+        self.shapes.change(&self.slots[at].part, &part);
+        drop(mem::replace(&mut self.slots[at].part, part));
+        renew(&mut self.targets, self.slots.as_slice(), at, is_lent);
     }
 
     /// The last slot goes, and its part is the answer. `None`: there is no slot.
@@ -123,6 +152,10 @@ impl Env {
             return None;
         };
         let Variable { name, part } = variable;
+        give_back(&mut self.loans, &part);
+        self.shapes.pop();
+        let at = self.slots.len();
+        self.targets[at] = None;
         note(&mut self.slot_of, name, None);
         Some(part)
     }
@@ -132,6 +165,9 @@ impl Env {
         ensures { IfOk result (λ e. e ≡ self.now) }
     {
         let slot_of = copied(&self.slot_of)?;
+        let loans = copied_loans(&self.loans)?;
+        let targets = copied_targets(&self.targets)?;
+        let shapes = self.shapes.copy()?;
         let mut slots = Vec::new(alloc);
         'slots: for at in 0..self.slots.len() {
             let Variable { name, part } = &self.slots[at];
@@ -140,21 +176,54 @@ impl Env {
                 part: part.copy(alloc)?,
             })?;
         }
-        Ok(Env { slots, slot_of })
+        Ok(Env {
+            slots,
+            slot_of,
+            loans,
+            targets,
+            shapes,
+        })
     }
 
-    /// Whether some slot has a mutable reference that starts at this one.
+    /// Whether some slot has a mutable reference that starts at this one, by its count.
     pub fn read_blocked(&self, no: u32) -> bool
         ensures { (names : List Text) → result ≡ read_blocked (env_of names self.now) no }
     {
-        any_blocks_read(self.slots.as_slice(), no)
+        let at = no as usize;
+        at < self.loans.len() && 0 < self.loans[at].mutable
     }
 
-    /// Whether some slot has a reference that starts at this one.
+    /// Whether some slot has a reference that starts at this one, by its count.
     pub fn write_blocked(&self, no: u32) -> bool
         ensures { (names : List Text) → result ≡ write_blocked (env_of names self.now) no }
     {
-        any_blocks_write(self.slots.as_slice(), no)
+        let at = no as usize;
+        at < self.loans.len() && 0 < self.loans[at].any
+    }
+
+    // Where the place really is: its type is the same there. It costs the place's stars.
+    pub(crate) fn resolve(&self, w: Lval) -> Starred
+        requires here { w.slot < length self.now }
+        ensures slot { result.slot ≤ w.slot }
+        ensures base { result ≡ base self.now (starred w) }
+        ensures nested { AreNested self.now }
+    {
+        resolve(self.targets.as_slice(), w)
+    }
+
+    // Whether both types have a shape, and the same one; it costs the stars of two places, or the levels of an owned type.
+    // `None`: the shapes of slots aren't known.
+    pub(crate) fn same_shapes(&self, a: &Ty, b: &Ty) -> Option<bool>
+        ensures { (names : List Text) → IfSome result (λ same. same ≡ equal_shapes (kind_shape (shape_at (env_of names self.now)) (kind_of a.now)) (kind_shape (shape_at (env_of names self.now)) (kind_of b.now))) }
+    {
+        self.shapes.same(a, b)
+    }
+
+    // The same for a part and a type.
+    pub(crate) fn fits(&self, part: &Part, t: &Ty) -> Option<bool>
+        ensures { (names : List Text) → IfSome result (λ same. same ≡ has_shape_of (env_of names self.now) (piece_of part.now) (kind_of t.now)) }
+    {
+        self.shapes.fits(part, t)
     }
 
     /// Puts the part at a place whose path is its own; a refusal changes nothing.
@@ -204,14 +273,41 @@ fn note(slot_of: &mut Vec<Option<u32>>, name: Option<u32>, slot: Option<u32>)
     }
 }
 
-fn any_blocks_read(slots: &[Variable], no: u32) -> bool
-    ensures { result ≡ list_any (λ v. blocks_read no (piece_of v.part)) slots.now }
+fn copied_loans(loans: &Vec<Loans>) -> Result<Vec<Loans>, NoMemory>
+    ensures { IfOk result (λ xs. xs.items ≡ loans.now.items) }
 {
-    slots.iter().any(|v| blocks_read(no, &v.part))
+    Ok(loans.clone()?)
 }
 
-fn any_blocks_write(slots: &[Variable], no: u32) -> bool
-    ensures { result ≡ list_any (λ v. blocks_write no (piece_of v.part)) slots.now }
+fn copied_targets(targets: &Vec<Option<Starred>>) -> Result<Vec<Option<Starred>>, NoMemory>
+    ensures { IfOk result (λ xs. xs.items ≡ targets.now.items) }
 {
-    slots.iter().any(|v| blocks_write(no, &v.part))
+    Ok(targets.clone()?)
+}
+
+// Slots to which no reference is, up to this one.
+fn make_space(loans: &mut Vec<Loans>, slot: u32) -> Result<(), NoMemory>
+    ensures same { (at : ℕ) → loans_at loans.new.items at ≡ loans_at loans.old.items at }
+    ensures longer { length loans.old.items ≤ length loans.new.items }
+    ensures room { OnOk result (slot < length loans.new.items) }
+{
+    'slots: while loans.len() <= slot as usize {
+        loans.push(Loans { mutable: 0, any: 0 })?;
+    }
+    Ok(())
+}
+
+// Slots that lead nowhere, up to this one.
+fn make_targets(targets: &mut Vec<Option<Starred>>, slot: u32) -> Result<(), NoMemory>
+    requires few { slot < 268435456 }
+    requires small { length targets.old.items ≤ 268435456 }
+    ensures same { (at : ℕ) → target_at targets.new.items at ≡ target_at targets.old.items at }
+    ensures longer { length targets.old.items ≤ length targets.new.items }
+    ensures small { length targets.new.items ≤ 268435456 }
+    ensures room { OnOk result (slot < length targets.new.items) }
+{
+    'slots: while targets.len() <= slot as usize {
+        targets.push(None)?;
+    }
+    Ok(())
 }

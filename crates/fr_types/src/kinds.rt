@@ -1,10 +1,11 @@
 //! What a checker asks of types.
 
 ghost use Rattle.std.specs.Prelude.{◌≡◌, ◌&&◌, nat_le, ℕ, IfOk};
-ghost use Rattle.fr_typing.specs.Kinds.{same_owned, box_of, copies};
+ghost use Rattle.fr_typing.specs.Kinds.{own, same_owned, box_of, copies};
 ghost use Rattle.fr_typing.specs.Checks.{is_owned, is_int, is_full, owned_levels, names_from};
 ghost use Rattle.fr_types.specs.OwnedTypes.{owned_of};
 ghost use Rattle.fr_types.specs.Types.{kind_of, piece_of};
+ghost use Rattle.fr_types.specs.Shapes.{same_kind};
 ghost use Rattle.std.specs.List.{list_any};
 ghost use Rattle.fr_base.specs.declared.place.Lval.{Lval};
 
@@ -69,6 +70,34 @@ pub fn same_owned(a: &O, b: &O) -> bool
         (O::Box(a), O::Box(b)) => same_owned(a, b),
         (O::Mutex(a), O::Mutex(b)) => same_owned(a, b),
         (O::Task(a), O::Task(b)) => same_owned(a, b),
+        _ => false,
+    }
+}
+
+/// Whether both are owned types, and equal.
+pub fn same_type(a: &Ty, b: &Ty) -> bool
+    ensures { result ≡ same_kind (kind_of a.now) (kind_of b.now) }
+{
+    match (a, b) {
+        (Ty::Unit, Ty::Unit) => true,
+        (Ty::Int, Ty::Int) => true,
+        (Ty::Box(o), Ty::Box(q)) => same_owned(o, q),
+        (Ty::Mutex(o), Ty::Mutex(q)) => same_owned(o, q),
+        (Ty::Task(o), Ty::Task(q)) => same_owned(o, q),
+        _ => false,
+    }
+}
+
+/// Whether the type is this owned one.
+pub fn is_type(t: &Ty, o: &O) -> bool
+    ensures { result ≡ same_kind (kind_of t.now) (own (owned_of o.now)) }
+{
+    match (t, o) {
+        (Ty::Unit, O::Unit) => true,
+        (Ty::Int, O::Int) => true,
+        (Ty::Box(o), O::Box(q)) => same_owned(o, q),
+        (Ty::Mutex(o), O::Mutex(q)) => same_owned(o, q),
+        (Ty::Task(o), O::Task(q)) => same_owned(o, q),
         _ => false,
     }
 }

@@ -6,11 +6,23 @@ mod env;
 mod error;
 mod join;
 mod kinds;
+mod loans;
+mod numbered;
 mod path;
 mod place;
 mod places;
 mod put;
+mod resolved;
 mod shape;
+mod shape_node;
+mod shape_table;
+#[cfg(test)]
+mod shape_table_tests;
+#[cfg(test)]
+mod shape_tests;
+mod slot_shapes;
+#[cfg(test)]
+mod tests;
 mod types;
 mod variable;
 

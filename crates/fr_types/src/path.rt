@@ -2,14 +2,14 @@
 
 ghost use Rattle.std.specs.Prelude.{◌≡◌, ◌<◌, List, length, true, false, IfOk, not};
 ghost use Rattle.fr_terms.specs.Terms.{Text};
-ghost use Rattle.fr_typing.specs.Places.{found, type_at, on_path, is_lent, is_mutable, is_writable, is_own_path};
+ghost use Rattle.fr_typing.specs.Places.{found, on_path, is_lent, is_mutable, is_writable, is_own_path};
 ghost use Rattle.fr_types.specs.Types.{piece_of};
-ghost use Rattle.fr_types.specs.States.{env_of};
+ghost use Rattle.fr_types.specs.States.{env_of, part_in, AreNested};
 ghost use Rattle.fr_types.specs.Paths.{test_of};
 
 use crate::env::Env;
 use crate::error::TypeError;
-use crate::place::lval_type;
+use crate::place::star;
 use crate::types::{Part, Ty};
 use fr_base::{Lval, NoMemory};
 use std::alloc::Global;
@@ -46,46 +46,48 @@ pub fn goes_through_mutable(alloc: Global, env: &Env, w: Lval) -> Result<bool, N
     on_path(alloc, env, w, Test::Mutable)
 }
 
-// Whether a place with fewer stars has such a type.
+// Whether a place with fewer stars has such a type; the slot itself is looked at without a copy.
 fn on_path(alloc: Global, env: &Env, w: Lval, test: Test) -> Result<bool, NoMemory>
     requires here { w.slot < length env.now }
     ensures { (names : List Text) → IfOk result (λ b. b ≡ on_path (test_of test) (env_of names env.now) w.slot w.depth) }
 {
-    'stars: for depth in 0..w.depth {
-        let met = match stands(
-            alloc,
-            env,
-            Lval {
-                slot: w.slot,
-                depth,
-            },
-            test,
-        ) {
-            Ok(met) => met,
-            Err(e) => return Err(e),
+    if w.depth == 0 {
+        return Ok(false);
+    }
+    let Some(part) = env.slot(w.slot) else {
+        unreachable!()
+    };
+    if meets(part, test) {
+        return Ok(true);
+    }
+    if w.depth == 1 {
+        return Ok(false);
+    }
+    met_below(alloc, env, part.copy(alloc)?, w, test)
+}
+
+// The same, where the slot has this part, which is no such one.
+fn met_below(alloc: Global, env: &Env, part: Part, w: Lval, test: Test) -> Result<bool, NoMemory>
+    requires here { w.slot < length env.now }
+    requires part { piece_of part ≡ part_in env.now w.slot }
+    requires other { test_of test (found (piece_of part)) ≡ false }
+    requires nested { AreNested env.now }
+    ensures { (names : List Text) → IfOk result (λ b. b ≡ on_path (test_of test) (env_of names env.now) w.slot w.depth) }
+{
+    let mut part = part;
+    'stars: for _ in 1..w.depth {
+        part = match star(alloc, env, part, w.slot) {
+            Ok(part) => part,
+            Err(TypeError::NotDefined) => return Ok(false),
+            Err(TypeError::NoTarget) => return Ok(false),
+            Err(TypeError::NoMemory) => return Err(NoMemory),
         };
-        if met {
+        if meets(&part, test) {
+            drop(part);
             return Ok(true);
         }
     }
     Ok(false)
-}
-
-// Whether the place has such a type.
-fn stands(alloc: Global, env: &Env, w: Lval, test: Test) -> Result<bool, NoMemory>
-    requires here { w.slot < length env.now }
-    ensures { (names : List Text) → IfOk result (λ b. b ≡ test_of test (type_at (env_of names env.now) w)) }
-{
-    match lval_type(alloc, env, w) {
-        Ok(part) => {
-            let met = meets(&part, test);
-            drop(part);
-            Ok(met)
-        }
-        Err(TypeError::NotDefined) => Ok(false),
-        Err(TypeError::NoTarget) => Ok(false),
-        Err(TypeError::NoMemory) => Err(NoMemory),
-    }
 }
 
 // Whether the part is such a one.

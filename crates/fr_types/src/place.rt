@@ -1,21 +1,26 @@
 //! The type of a place.
 
-ghost use Rattle.std.specs.Prelude.{◌≡◌, ◌<◌, ◌≤◌, List, length, IfOk};
+ghost use Rattle.std.specs.Prelude.{◌≡◌, ◌<◌, ◌≤◌, ◌-◌, List, length, IfOk};
 ghost use Rattle.fr_terms.specs.Terms.{Text};
-ghost use Rattle.fr_typing.specs.Places.{AreBelow, piece_places, type_at, star, join_set, join_found, found};
-ghost use Rattle.fr_types.specs.Types.{piece_of};
+ghost use Rattle.fr_typing.specs.Places.{AreBelow, piece_places, type_at, Found, star, stars, join_set, join_found, found};
+ghost use Rattle.fr_base.specs.declared.place.Lval.{Lval};
+ghost use Rattle.fr_typing.specs.Kinds.{own, whole};
+ghost use Rattle.fr_types.specs.OwnedTypes.{owned_of};
+ghost use Rattle.fr_types.specs.Types.{kind_of, piece_of};
 ghost use Rattle.fr_types.specs.States.{env_of, AreNested};
 ghost use Rattle.fr_types.specs.Answers.{IsFound};
 
 use crate::env::Env;
 use crate::error::TypeError;
 use crate::join::join_parts;
-use crate::types::{Part, Ty};
-use fr_base::Lval;
+use crate::types::{O, Part, Ty};
+use fr_base::{Lval, NoMemory};
 use std::alloc::Global;
 
 /// The type of what stands at the place: `NotDefined` exactly at a star on something gone, `NoTarget` exactly at a star on
-/// another part that leads nowhere, or where the types of the places of a set have no join.
+/// another part that leads nowhere, or where the types of the places of a set have no join. Through references to one place
+/// it costs the place's stars and the levels of what it gives, however long the way is; each place of a larger set is looked
+/// up.
 #[cycle(place)]
 pub fn lval_type(alloc: Global, env: &Env, w: Lval) -> Result<Part, TypeError>
     requires here { w.slot < length env.now }
@@ -23,12 +28,13 @@ pub fn lval_type(alloc: Global, env: &Env, w: Lval) -> Result<Part, TypeError>
     ensures below { IfOk result (λ p. AreBelow w.slot (piece_places (piece_of p))) }
     ensures nested { AreNested env.now }
 {
-    let Some(part) = env.slot(w.slot) else {
+    let at = env.resolve(w);
+    let Some(part) = env.slot(at.slot) else {
         unreachable!()
     };
-    let mut part = part.copy(alloc)?;
-    'stars: for _ in 0..w.depth {
-        part = match star(alloc, env, part, w.slot) {
+    let (mut part, left) = inside(alloc, part, at.stars)?;
+    'stars: for _ in 0..left {
+        part = match star(alloc, env, part, at.slot) {
             Ok(part) => part,
             Err(e) => return Err(e),
         };
@@ -36,9 +42,44 @@ pub fn lval_type(alloc: Global, env: &Env, w: Lval) -> Result<Part, TypeError>
     Ok(part)
 }
 
-// What a star takes a part to, which names only slots below the bound.
+// What stands in a part under so many stars, or as far down as boxes lead: and how many stars are left there.
+fn inside(alloc: Global, part: &Part, depth: u64) -> Result<(Part, u64), NoMemory>
+    ensures left { IfOk result (λ p. p.1 ≤ depth) }
+    ensures part { IfOk result (λ p. (look : Lval → Found) → stars look (depth - p.1) (piece_of part.now) ≡ found (piece_of p.0)) }
+{
+    match part {
+        Part::Box(p) if 0 < depth => inside(alloc, p, depth - 1),
+        Part::Whole(t) => inside_type(alloc, t, depth),
+        part => Ok((part.copy(alloc)?, depth)),
+    }
+}
+
+// The same in a whole part.
+fn inside_type(alloc: Global, t: &Ty, depth: u64) -> Result<(Part, u64), NoMemory>
+    ensures left { IfOk result (λ p. p.1 ≤ depth) }
+    ensures part { IfOk result (λ p. (look : Lval → Found) → stars look (depth - p.1) (whole (kind_of t.now)) ≡ found (piece_of p.0)) }
+{
+    match t {
+        Ty::Box(o) if 0 < depth => inside_owned(alloc, o, depth - 1),
+        Ty::View(o) if 0 < depth => inside_owned(alloc, o, depth - 1),
+        t => Ok((Part::Whole(t.copy(alloc)?), depth)),
+    }
+}
+
+// The same in a whole part of an owned type.
+fn inside_owned(alloc: Global, o: &O, depth: u64) -> Result<(Part, u64), NoMemory>
+    ensures left { IfOk result (λ p. p.1 ≤ depth) }
+    ensures part { IfOk result (λ p. (look : Lval → Found) → stars look (depth - p.1) (whole (own (owned_of o.now))) ≡ found (piece_of p.0)) }
+{
+    match o {
+        O::Box(o) if 0 < depth => inside_owned(alloc, o, depth - 1),
+        o => Ok((Part::Whole(o.copy(alloc)?.into_type()), depth)),
+    }
+}
+
+/// What a star takes a part to, which names only slots below the bound.
 #[cycle(place)]
-fn star(alloc: Global, env: &Env, part: Part, bound: u32) -> Result<Part, TypeError>
+pub fn star(alloc: Global, env: &Env, part: Part, bound: u32) -> Result<Part, TypeError>
     requires below { AreBelow bound (piece_places (piece_of part)) }
     requires here { bound ≤ length env.now }
     ensures { (names : List Text) → IsFound result (star (type_at (env_of names env.now)) (piece_of part)) }

@@ -1,44 +1,14 @@
-//! Parts with something else in them, and the loans that parts make.
+//! Parts with something else in them.
 
-ghost use Rattle.std.specs.Prelude.{◌≡◌, ◌==◌, ℕ, IfOk};
-ghost use Rattle.fr_base.specs.declared.place.Lval.{Lval};
-ghost use Rattle.fr_typing.specs.Places.{starts_at, blocks_read, blocks_write};
+ghost use Rattle.std.specs.Prelude.{◌≡◌, IfOk};
 ghost use Rattle.fr_types.specs.Parts.{put_owned, put_part};
 ghost use Rattle.fr_types.specs.OwnedTypes.{owned_of};
 ghost use Rattle.fr_types.specs.Types.{piece_of};
 
 use crate::kinds::boxed;
 use crate::types::{O, Part, Ty};
-use fr_base::{Lval, NoMemory};
+use fr_base::NoMemory;
 use std::alloc::Global;
-
-// Whether some place of the set starts at the slot.
-fn starts_at(slot: u32, us: &[Lval]) -> bool
-    ensures { result ≡ starts_at slot us.now }
-{
-    us.iter().any(|u| u.slot == slot)
-}
-
-/// Whether the part is a whole mutable reference that starts at the slot.
-pub fn blocks_read(slot: u32, part: &Part) -> bool
-    ensures { result ≡ blocks_read slot (piece_of part.now) }
-{
-    match part {
-        Part::Whole(Ty::Mut(us)) => starts_at(slot, us.as_slice()),
-        _ => false,
-    }
-}
-
-/// Whether the part is a whole reference that starts at the slot.
-pub fn blocks_write(slot: u32, part: &Part) -> bool
-    ensures { result ≡ blocks_write slot (piece_of part.now) }
-{
-    match part {
-        Part::Whole(Ty::Shared(us)) => starts_at(slot, us.as_slice()),
-        Part::Whole(Ty::Mut(us)) => starts_at(slot, us.as_slice()),
-        _ => false,
-    }
-}
 
 // A whole part of an owned type, with another one under so many stars.
 fn put_owned(alloc: Global, o: &O, stars: u8, new: Part) -> Result<Part, NoMemory>

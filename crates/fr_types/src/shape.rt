@@ -2,26 +2,29 @@
 
 ghost use Rattle.std.specs.Prelude.{◌≡◌, ◌<◌, ◌≤◌, ◌-◌, List, length, true, IfOk, IfSome};
 ghost use Rattle.fr_terms.specs.Terms.{Text};
-ghost use Rattle.fr_typing.specs.Kinds.{same_owned};
 ghost use Rattle.fr_typing.specs.Places.{AreBelow, kind_places, piece_places, kind_shape, shape_at, star_shape};
 ghost use Rattle.fr_typing.specs.Checks.{is_owned, equal_shapes, has_shape_of};
 ghost use Rattle.fr_types.specs.Types.{kind_of, piece_of};
 ghost use Rattle.fr_types.specs.Answers.{kind_in};
 ghost use Rattle.fr_types.specs.States.{env_of};
-ghost use Rattle.fr_types.specs.Shapes.{shape_in, rank_of, held_kind, held_box, same_kind, may_go, pair_equal, PairBelow, PairFalls, KindBelow};
+ghost use Rattle.fr_types.specs.Shapes.{shape_in, rank_of, held_kind, held_box, may_go, pair_equal, PairBelow, PairFalls, KindBelow};
 
 use crate::env::Env;
-use crate::kinds::{is_owned, same_owned};
+use crate::kinds::{is_owned, same_type};
 use crate::types::{Part, Ty};
 use fr_base::{Lval, NoMemory};
 use std::alloc::Global;
 
-/// Whether both types have a shape, and the same one; it costs a look-up for each reference on the way.
+/// Whether both types have a shape, and the same one. It costs the stars of two places or the levels of an owned type, while
+/// each part that was put at a slot had the shape of the one before it; else a look-up for each reference on the way.
 pub fn same_shape(alloc: Global, env: &Env, a: &Ty, b: &Ty) -> Result<bool, NoMemory>
     requires left { AreBelow (length env.now) (kind_places (kind_of a.now)) }
     requires right { AreBelow (length env.now) (kind_places (kind_of b.now)) }
     ensures { (names : List Text) → IfOk result (λ same. same ≡ equal_shapes (kind_shape (shape_at (env_of names env.now)) (kind_of a.now)) (kind_shape (shape_at (env_of names env.now)) (kind_of b.now))) }
 {
+    if let Some(same) = env.same_shapes(a, b) {
+        return Ok(same);
+    }
     if !may_go(a, b) {
         return Ok(same_type(a, b));
     }
@@ -32,12 +35,16 @@ pub fn same_shape(alloc: Global, env: &Env, a: &Ty, b: &Ty) -> Result<bool, NoMe
     }
 }
 
-/// Whether the type has the shape of the part, as a value must have that is written over it.
+/// Whether the type has the shape of the part, as a value must have that is written over it. It costs as `same_shape`, and the
+/// part's levels.
 pub fn has_shape_of(alloc: Global, env: &Env, part: &Part, t: &Ty) -> Result<bool, NoMemory>
     requires part { AreBelow (length env.now) (piece_places (piece_of part.now)) }
     requires kind { AreBelow (length env.now) (kind_places (kind_of t.now)) }
     ensures { (names : List Text) → IfOk result (λ same. same ≡ has_shape_of (env_of names env.now) (piece_of part.now) (kind_of t.now)) }
 {
+    if let Some(same) = env.fits(part, t) {
+        return Ok(same);
+    }
     match held_type(alloc, part) {
         Ok(Some(u)) => {
             let same = same_shape(alloc, env, &u, t);
@@ -183,20 +190,6 @@ fn may_go(a: &Ty, b: &Ty) -> bool
     match (a, b) {
         (Ty::Shared(_) | Ty::View(_), Ty::Shared(_) | Ty::View(_)) => true,
         (Ty::Mut(_), Ty::Mut(_)) => true,
-        _ => false,
-    }
-}
-
-// Whether both are owned types, and equal.
-fn same_type(a: &Ty, b: &Ty) -> bool
-    ensures { result ≡ same_kind (kind_of a.now) (kind_of b.now) }
-{
-    match (a, b) {
-        (Ty::Unit, Ty::Unit) => true,
-        (Ty::Int, Ty::Int) => true,
-        (Ty::Box(o), Ty::Box(q)) => same_owned(o, q),
-        (Ty::Mutex(o), Ty::Mutex(q)) => same_owned(o, q),
-        (Ty::Task(o), Ty::Task(q)) => same_owned(o, q),
         _ => false,
     }
 }

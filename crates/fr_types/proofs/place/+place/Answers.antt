@@ -1,10 +1,12 @@
-use Rattle.std.proofs.Common.{◌<◌, get_or, sym, ap, ◌∙◌, subst, arith}
+use Rattle.std.proofs.Common.{◌<◌, ◌-◌, length, get_or, ap, ◌∙◌, arith}
 use Rattle.fr_base.specs.declared.place.Lval.{Lval}
-use Rattle.fr_typing.specs.Places.{AreBelow, piece_places, type_at}
+use Rattle.fr_typing.specs.Places.{piece_places, type_at}
 use Rattle.fr_types.specs.declared.types.Part.TheVariants.{Whole}
 use Rattle.fr_types.specs.Types.{piece_of}
 use Rattle.fr_types.specs.States.{env_of}
-use Rattle.fr_types.proofs.LookLemmas.{start_seen, step_seen, below_next, error_seen, below_at, set_start, set_start_error, set_step, set_error, set_end, shared_seen, mut_seen}
+use Rattle.fr_typing.proofs.PlaceLemmas.{AreBelow-weaker}
+use Rattle.fr_types.proofs.InsideLemmas.{inside_below, inside_seen, more_below, more_seen, resolved_seen, resolved_error}
+use Rattle.fr_types.proofs.LookLemmas.{below_at, set_start, set_start_error, set_step, set_error, set_end, shared_seen, mut_seen}
 use Rattle.fr_types.proofs.place.+place.Goals as goal
 
 -- what stands for a place past the end
@@ -12,21 +14,33 @@ abbrev none : Lval
 none = record { slot = 0; depth = 0 }
 
 pub lval_type-stars-init : goal.lval_type-stars-init
-lval_type-stars-init t c = record {
-  nested = c.slot.ensures.nested;
-  below = subst (λ p. AreBelow c.args.w.slot (piece_places p)) (sym c.in_ok-part.ensures) c.in-Some.ensures.below;
-  same = λ names. start_seen names c.args.env.now c.args.w.slot (piece_of c.in_ok-part.part) (piece_of c.in-Some.part.now) c.requires.here c.in-Some.ensures.part c.in_ok-part.ensures;
-}
+lval_type-stars-init t c =
+    let lt : c.resolve-at.result.slot < length c.args.env.now = omega (arith, c.resolve-at.ensures.slot, c.requires.here) in
+    record {
+      nested = c.resolve-at.ensures.nested;
+      below = inside_below c.args.env.now c.resolve-at.result.slot (c.resolve-at.result.stars - c.in_ok-part.left) (piece_of c.in-Some.part.now) (piece_of c.in_ok-part.part) c.resolve-at.ensures.nested lt c.in-Some.ensures.part c.in_ok-part.ensures.part;
+      same = λ names. inside_seen names c.args.env.now c.resolve-at.result.slot (c.resolve-at.result.stars - c.in_ok-part.left) (piece_of c.in-Some.part.now) (piece_of c.in_ok-part.part) c.resolve-at.ensures.nested lt c.in-Some.ensures.part c.in_ok-part.ensures.part;
+    }
 
 pub lval_type-stars-preserved : goal.lval_type-stars-preserved
-lval_type-stars-preserved t c = record {
-  nested = c.stars.invariant.nested;
-  below = below_next c.args.env.now c.args.w.slot c.stars.counter (piece_of c.stars.part) (piece_of c.in-Ok.part) c.stars.invariant.nested c.requires.here c.stars.invariant.same c.in-Ok.ensures;
-  same = λ names. step_seen names c.args.env.now c.args.w.slot c.stars.counter (piece_of c.stars.part) (piece_of c.in-Ok.part) c.stars.invariant.nested c.requires.here (c.stars.invariant.same names) (c.in-Ok.ensures names);
-}
+lval_type-stars-preserved t c =
+    let lt : c.resolve-at.result.slot < length c.args.env.now = omega (arith, c.resolve-at.ensures.slot, c.requires.here) in
+    record {
+      nested = c.stars.invariant.nested;
+      below = more_below c.args.env.now c.resolve-at.result.slot (c.resolve-at.result.stars - c.in_ok-part.left) c.stars.counter (piece_of c.stars.part) (piece_of c.in-Ok.part) c.stars.invariant.nested lt c.stars.invariant.same c.in-Ok.ensures;
+      same = λ names. more_seen names c.args.env.now c.resolve-at.result.slot (c.resolve-at.result.stars - c.in_ok-part.left) c.stars.counter (piece_of c.stars.part) (piece_of c.in-Ok.part) c.stars.invariant.nested lt (c.stars.invariant.same names) (c.in-Ok.ensures names);
+    }
 
 pub lval_type-returns-in-Err-clause-kind : goal.lval_type-returns-in-Err-clause-kind
-lval_type-returns-in-Err-clause-kind t c = λ names. error_seen names c.args.env.now c.args.w.slot c.stars.counter c.args.w.depth (piece_of c.stars.part) c.in-Err.e c.stars.invariant.nested c.requires.here (omega arith) (c.stars.invariant.same names) (c.in-Err.ensures names)
+lval_type-returns-in-Err-clause-kind t c = λ names.
+    resolved_error names c.args.env.now c.args.w c.resolve-at.result c.in_ok-part.left c.stars.counter (piece_of c.stars.part) c.in-Err.e c.stars.invariant.nested c.requires.here c.resolve-at.ensures.base c.resolve-at.ensures.slot c.in_ok-part.ensures.left (omega arith) (c.stars.invariant.same names) (c.in-Err.ensures names)
+
+pub lval_type-returns-clause-kind : goal.lval_type-returns-clause-kind
+lval_type-returns-clause-kind t c = λ names.
+    resolved_seen names c.args.env.now c.args.w c.resolve-at.result c.in_ok-part.left c.stars.counter (piece_of c.stars.part) c.stars.invariant.nested c.requires.here c.resolve-at.ensures.base c.in_ok-part.ensures.left (omega arith) (c.stars.invariant.same names)
+
+pub lval_type-returns-clause-below : goal.lval_type-returns-clause-below
+lval_type-returns-clause-below t c = AreBelow-weaker c.resolve-at.result.slot c.args.w.slot (piece_places (piece_of c.stars.part)) c.resolve-at.ensures.slot c.stars.invariant.below
 
 pub join_set-returns-in-Err : goal.join_set-returns-in-Err
 join_set-returns-in-Err t c = λ names. set_start_error (type_at (env_of names c.args.env.now)) c.args.us.now none c.in-Err.e c.requires.some (c.in-Err.ensures.kind names)

@@ -1,4 +1,4 @@
-use Rattle.std.proofs.Common.{◌≡◌, ◌+◌, ◌*◌, List, drop}
+use Rattle.std.proofs.Common.{◌≡◌, ◌+◌, ◌-◌, ◌*◌, List, drop}
 use Rattle.fr_terms.specs.Terms.{Text}
 use Rattle.fr_typing.specs.Places.{AreBelow, piece_places, type_at, join_set, join_all, found}
 use Rattle.fr_types.specs.Types.{piece_of}
@@ -20,8 +20,8 @@ decreases-join_with l = 4 * l.u.slot + 4
 abbrev pub invariant-lval_type-stars : goal.invariant-lval_type-stars
 invariant-lval_type-stars l = record {
   nested : AreNested l.env;
-  below : AreBelow l.w.slot (piece_places (piece_of l.part));
-  same : (names : List Text) → type_at (env_of names l.env) (record { slot = l.w.slot; depth = l.counter }) ≡ found (piece_of l.part);
+  below : AreBelow l.at.slot (piece_places (piece_of l.part));
+  same : (names : List Text) → type_at (env_of names l.env) (record { slot = l.at.slot; depth = l.at.stars - l.left + l.counter }) ≡ found (piece_of l.part);
 }
 
 abbrev pub invariant-join_set-places : goal.invariant-join_set-places

@@ -9,7 +9,7 @@ pub returns-then-at-len-clause-part : goal.returns-then-at-len-clause-part
 returns-then-at-len-clause-part c = part_seen c.self.inside.slots.items c.args.self.now c.args.no _ c.self.view_is (omega arith) c.index.ensures
 
 pub returns-then-at-len-clause-below : goal.returns-then-at-len-clause-below
-returns-then-at-len-clause-below c = below_seen c.self.inside.slots.items c.args.self.now c.self.inside.slot_of.items c.args.no _ c.self.invariant c.self.view_is (omega arith) c.index.ensures
+returns-then-at-len-clause-below c = below_seen c.self.inside.slots.items c.args.self.now c.self.inside.slot_of.items c.args.no _ c.self.invariant.tabled.kept c.self.view_is (omega arith) c.index.ensures
 
 pub returns-else-at-len-clause-some : goal.returns-else-at-len-clause-some
 returns-else-at-len-clause-some c = let same = ap length c.self.view_is in not_there c.args.no (length c.args.self.now) (omega (arith, length_newest c.self.inside.slots.items))
