@@ -1,0 +1,10 @@
+pub mod Tools
+pub mod NumberLemmas
+pub mod TextLemmas
+pub mod NameLemmas
+pub mod StepLemmas
+pub mod LineLemmas
+pub mod OrderLemmas
+pub mod OneReading
+pub mod Examples
+pub mod WholeLines

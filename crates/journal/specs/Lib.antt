@@ -1,0 +1,3 @@
+pub mod OrderText
+pub mod OrderReading
+pub mod OrderList
