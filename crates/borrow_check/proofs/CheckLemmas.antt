@@ -1,0 +1,169 @@
+-- The forms of terms, one after another: their parts are ready to be checked, and their usages are written.
+use Rattle.std.proofs.Common.{◌≡◌, ℕ, ◌<◌, false, List, [], ◌∷◌, ◌++◌, ◌+◌, ◌≤◌, length, Some, None, sym, ap, ◌∙◌, subst, arith, length-append}
+use Rattle.std.specs.Prelude.{Result, Ok, Err, OnOk}
+use Rattle.fr_base.specs.declared.place.Op.{Op}
+use Rattle.fr_terms.specs.Terms.{block_t, let_t, assign_t, box_t, print_t, arith_t}
+use Rattle.fr_typing.specs.Sequential.{IsSequential}
+use Rattle.fr_typing.specs.Kinds.{Kind}
+use Rattle.fr_typing.specs.Places.{Env}
+use Rattle.fr_typing.specs.Finding.{typed}
+use Rattle.fr_typing.specs.Typing.{typing}
+use Rattle.fr_syntax.specs.declared.tree.Term.TheVariants.{Block, Let, Assign, Box, Print, Arith}
+use Rattle.fr_syntax.specs.declared.tree.Node.{Node}
+use Rattle.fr_syntax.specs.Arena.{Arena, text_of}
+use Rattle.fr_syntax.specs.NodeList.{NodeList}
+use Rattle.fr_syntax.specs.Meanings.{meaning_at, term_at, place_at, items_at, stands_for, Sort, term_s, place_s, need, all_need, needs, nodes_in, meanings, AreBelow}
+use Rattle.borrow_check.specs.declared.usage.Usage.{Usage}
+use Rattle.fr_types.specs.declared.types.Ty.{Ty}
+use Rattle.borrow_check.specs.declared.check_error.CheckError.{CheckError}
+use Rattle.borrow_check.specs.Rules.{Gives}
+use Rattle.borrow_check.specs.Nodes.{IsReady, AreReady}
+use Rattle.borrow_check.specs.Usages.{env_after, usage_of, usages_of, usages_in, write, AreWritten}
+use Rattle.borrow_check.proofs.UsageLemmas.{written_both}
+use Rattle.borrow_check.proofs.TermLemmas.{left_part, right_part, arith_written, IsHere, term_here, one_part, value_part, items_part, one_written, block_written, assign_written}
+
+pub on_ok : {A E : Type 0} (P : Type 0) (r : Result A E) → P → OnOk r P
+on_ok P (Ok x) h = h
+on_ok P (Err e) h = tt
+
+pub on_ok_both : {A E : Type 0} (P Q R : Type 0) (r : Result A E) → OnOk r P → OnOk r Q → (P → Q → R) → OnOk r R
+on_ok_both P Q R (Ok x) h g both = both h g
+on_ok_both P Q R (Err e) h g both = tt
+
+pub here_by : (a : Arena) (at : ℕ) (n : Node) → (meaning_at (meanings a) at).what ≡ stands_for a.names (meanings a) n.place n.term → (meaning_at (meanings a) at).nodes ≡ nodes_in (meanings a) (needs n.term) ++ at ∷ [] → AreBelow (meanings a) at (needs n.term) → IsHere a at n
+here_by a at n what nodes parts = record { what = what; nodes = nodes; parts = parts }
+
+-- a node's number is that of a place of the list of usages
+pub at_inside : (a : Arena) (at : ℕ) (us : List Usage) → IsReady a at → length us ≡ length (meanings a) → at < length us
+at_inside a at us ready long = omega (arith, ready.here)
+
+-- a term part stands before its node and is ready
+pub record IsPart (a : Arena) (at v : ℕ) : Type 0 where
+  pub before : v < at
+  pub ready : IsReady a v
+  pub count : length (meaning_at (meanings a) v).nodes + 1 ≤ length (meaning_at (meanings a) at).nodes
+
+one_before : (a : Arena) (at v : ℕ) (n : Node) → IsHere a at n → needs n.term ≡ need term_s v ∷ [] → v < at
+one_before a at v n h e = (subst (AreBelow (meanings a) at) e h.parts).0
+
+one_count : (a : Arena) (at v : ℕ) (n : Node) → IsHere a at n → needs n.term ≡ need term_s v ∷ [] → length (meaning_at (meanings a) v).nodes + 1 ≤ length (meaning_at (meanings a) at).nodes
+one_count a at v n h e =
+    let own = (meaning_at (meanings a) v).nodes in
+    let nodes : (meaning_at (meanings a) at).nodes ≡ (own ++ []) ++ at ∷ [] = h.nodes ∙ ap (λ l. nodes_in (meanings a) l ++ at ∷ []) e in
+    omega (arith, ap length nodes, length-append (own ++ []) (at ∷ []), length-append own [])
+
+two_count : (a : Arena) (at l r : ℕ) (s : Sort) (n : Node) → IsHere a at n → needs n.term ≡ need s l ∷ need term_s r ∷ [] → length (meaning_at (meanings a) l).nodes + length (meaning_at (meanings a) r).nodes + 1 ≤ length (meaning_at (meanings a) at).nodes
+two_count a at l r s n h e =
+    let first = (meaning_at (meanings a) l).nodes in
+    let second = (meaning_at (meanings a) r).nodes in
+    let nodes : (meaning_at (meanings a) at).nodes ≡ (first ++ (second ++ [])) ++ at ∷ [] = h.nodes ∙ ap (λ l. nodes_in (meanings a) l ++ at ∷ []) e in
+    omega (arith, ap length nodes, length-append (first ++ (second ++ [])) (at ∷ []), length-append first (second ++ []), length-append second [])
+
+pub box_part : (a : Arena) (at v : ℕ) (n : Node) → IsHere a at n → n.term ≡ Box v → IsReady a at → IsPart a at v
+box_part a at v n h is ready = record {
+  before = one_before a at v n h (ap needs is);
+  ready = one_part a at v n h (ap needs is) ready (subst IsSequential (term_here a at n (box_t n.place (term_at (meanings a) v)) h (ap (stands_for a.names (meanings a) n.place) is)) ready.sequential);
+  count = one_count a at v n h (ap needs is);
+}
+
+pub print_part : (a : Arena) (at v : ℕ) (n : Node) → IsHere a at n → n.term ≡ Print v → IsReady a at → IsPart a at v
+print_part a at v n h is ready = record {
+  before = one_before a at v n h (ap needs is);
+  ready = one_part a at v n h (ap needs is) ready (subst IsSequential (term_here a at n (print_t n.place (term_at (meanings a) v)) h (ap (stands_for a.names (meanings a) n.place) is)) ready.sequential);
+  count = one_count a at v n h (ap needs is);
+}
+
+pub let_part : (a : Arena) (at name v : ℕ) (n : Node) → IsHere a at n → n.term ≡ Let name v → IsReady a at → IsPart a at v
+let_part a at name v n h is ready = record {
+  before = one_before a at v n h (ap needs is);
+  ready = one_part a at v n h (ap needs is) ready (subst IsSequential (term_here a at n (let_t n.place (text_of a.names name) (term_at (meanings a) v)) h (ap (stands_for a.names (meanings a) n.place) is)) ready.sequential);
+  count = one_count a at v n h (ap needs is);
+}
+
+pub assign_part : (a : Arena) (at to v : ℕ) (n : Node) → IsHere a at n → n.term ≡ Assign to v → IsReady a at → IsPart a at v
+assign_part a at to v n h is ready = record {
+  before = (subst (AreBelow (meanings a) at) (ap needs is) h.parts).2.0;
+  ready = value_part a at to v n h (ap needs is) ready (subst IsSequential (term_here a at n (assign_t n.place (place_at (meanings a) to) (term_at (meanings a) v)) h (ap (stands_for a.names (meanings a) n.place) is)) ready.sequential);
+  count = omega (arith, two_count a at to v place_s n h (ap needs is));
+}
+
+-- both operands stand before their node and are ready
+pub record ArePair (a : Arena) (at l r : ℕ) : Type 0 where
+  pub left_before : l < at
+  pub right_before : r < at
+  pub left_ready : IsReady a l
+  pub right_ready : IsReady a r
+  pub count : length (meaning_at (meanings a) l).nodes + length (meaning_at (meanings a) r).nodes + 1 ≤ length (meaning_at (meanings a) at).nodes
+
+arith_here : (a : Arena) (at l r : ℕ) (op : Op) (n : Node) → IsHere a at n → n.term ≡ Arith op l r → term_at (meanings a) at ≡ arith_t n.place op (term_at (meanings a) l) (term_at (meanings a) r)
+arith_here a at l r op n h is = term_here a at n (arith_t n.place op (term_at (meanings a) l) (term_at (meanings a) r)) h (ap (stands_for a.names (meanings a) n.place) is)
+
+pub arith_parts : (a : Arena) (at l r : ℕ) (op : Op) (n : Node) → IsHere a at n → n.term ≡ Arith op l r → IsReady a at → ArePair a at l r
+arith_parts a at l r op n h is ready =
+    let e : needs n.term ≡ need term_s l ∷ need term_s r ∷ [] = ap needs is in
+    let below = subst (AreBelow (meanings a) at) e h.parts in
+    let both : IsSequential (arith_t n.place op (term_at (meanings a) l) (term_at (meanings a) r)) = subst IsSequential (arith_here a at l r op n h is) ready.sequential in
+    record {
+      left_before = below.0;
+      right_before = below.2.0;
+      left_ready = left_part a at l r n h e ready both.0;
+      right_ready = right_part a at l r n h e ready both.1;
+      count = two_count a at l r term_s n h e;
+    }
+
+pub block_parts : (a : Arena) (at : ℕ) (items : NodeList) (n : Node) → IsHere a at n → n.term ≡ Block items → IsReady a at → AreReady a at items.items
+block_parts a at items n h is ready =
+    items_part a at items.items n h (ap needs is) ready (subst IsSequential (term_here a at n (block_t n.place (items_at (meanings a) items.items)) h (ap (stands_for a.names (meanings a) n.place) is)) ready.sequential)
+
+pub block_count : (a : Arena) (at : ℕ) (items : NodeList) (n : Node) → IsHere a at n → n.term ≡ Block items → length (nodes_in (meanings a) (all_need term_s items.items)) + 1 ≤ length (meaning_at (meanings a) at).nodes
+block_count a at items n h is =
+    let own = nodes_in (meanings a) (all_need term_s items.items) in
+    let nodes : (meaning_at (meanings a) at).nodes ≡ own ++ at ∷ [] = h.nodes ∙ ap (λ l. nodes_in (meanings a) l ++ at ∷ []) (ap needs is) in
+    omega (arith, ap length nodes, length-append own (at ∷ []))
+
+-- ANSWERS
+
+-- arithmetic is typed as its operands are
+pub arith_gives : (a : Arena) (at l r : ℕ) (op : Op) (n : Node) (e e1 : Env) (result : Result Ty CheckError) → IsHere a at n → n.term ≡ Arith op l r → Gives result (typing (arith_t 0 op (term_at (meanings a) l) (term_at (meanings a) r)) e) e1 → Gives result (typing (term_at (meanings a) at) e) e1
+arith_gives a at l r op n e e1 result h is gives = subst (λ t. Gives result (typing t e) e1) (sym (arith_here a at l r op n h is)) gives
+
+-- USAGES
+
+pub box_used : (a : Arena) (at v : ℕ) (n : Node) (e : Env) (old new : List Usage) → IsHere a at n → n.term ≡ Box v → at < length old → AreWritten old new (meaning_at (meanings a) v).nodes (usages_of (term_at (meanings a) v) e) → AreWritten old new (meaning_at (meanings a) at).nodes (usages_of (term_at (meanings a) at) e)
+box_used a at v n e old new h is lt part =
+    subst (λ t. AreWritten old new (meaning_at (meanings a) at).nodes (usages_of t e)) (sym (term_here a at n (box_t n.place (term_at (meanings a) v)) h (ap (stands_for a.names (meanings a) n.place) is)))
+    (one_written a at v n old new (usages_of (term_at (meanings a) v) e) h (ap needs is) lt part)
+
+pub print_used : (a : Arena) (at v : ℕ) (n : Node) (e : Env) (old new : List Usage) → IsHere a at n → n.term ≡ Print v → at < length old → AreWritten old new (meaning_at (meanings a) v).nodes (usages_of (term_at (meanings a) v) e) → AreWritten old new (meaning_at (meanings a) at).nodes (usages_of (term_at (meanings a) at) e)
+print_used a at v n e old new h is lt part =
+    subst (λ t. AreWritten old new (meaning_at (meanings a) at).nodes (usages_of t e)) (sym (term_here a at n (print_t n.place (term_at (meanings a) v)) h (ap (stands_for a.names (meanings a) n.place) is)))
+    (one_written a at v n old new (usages_of (term_at (meanings a) v) e) h (ap needs is) lt part)
+
+pub let_used : (a : Arena) (at name v : ℕ) (n : Node) (e : Env) (old new : List Usage) → IsHere a at n → n.term ≡ Let name v → at < length old → AreWritten old new (meaning_at (meanings a) v).nodes (usages_of (term_at (meanings a) v) e) → AreWritten old new (meaning_at (meanings a) at).nodes (usages_of (term_at (meanings a) at) e)
+let_used a at name v n e old new h is lt part =
+    subst (λ t. AreWritten old new (meaning_at (meanings a) at).nodes (usages_of t e)) (sym (term_here a at n (let_t n.place (text_of a.names name) (term_at (meanings a) v)) h (ap (stands_for a.names (meanings a) n.place) is)))
+    (one_written a at v n old new (usages_of (term_at (meanings a) v) e) h (ap needs is) lt part)
+
+pub block_used : (a : Arena) (at : ℕ) (items : NodeList) (n : Node) (e : Env) (old new : List Usage) → IsHere a at n → n.term ≡ Block items → at < length old → AreWritten old new (nodes_in (meanings a) (all_need term_s items.items)) (usages_in (items_at (meanings a) items.items) e) → AreWritten old new (meaning_at (meanings a) at).nodes (usages_of (term_at (meanings a) at) e)
+block_used a at items n e old new h is lt part =
+    subst (λ t. AreWritten old new (meaning_at (meanings a) at).nodes (usages_of t e)) (sym (term_here a at n (block_t n.place (items_at (meanings a) items.items)) h (ap (stands_for a.names (meanings a) n.place) is)))
+    (block_written a at items.items n old new (usages_in (items_at (meanings a) items.items) e) h (ap needs is) lt part)
+
+pub operands_used : (a : Arena) (l r : ℕ) (k : Kind) (e e1 : Env) (old mid new : List Usage) → typing (term_at (meanings a) l) e ≡ typed k e1 → AreWritten old mid (meaning_at (meanings a) l).nodes (usages_of (term_at (meanings a) l) e) → AreWritten mid new (meaning_at (meanings a) r).nodes (usages_of (term_at (meanings a) r) e1) → AreWritten old new ((meaning_at (meanings a) l).nodes ++ (meaning_at (meanings a) r).nodes) (usages_of (term_at (meanings a) l) e ++ usages_of (term_at (meanings a) r) (env_after (typing (term_at (meanings a) l) e)))
+operands_used a l r k e e1 old mid new types first second =
+    subst (λ f. AreWritten old new ((meaning_at (meanings a) l).nodes ++ (meaning_at (meanings a) r).nodes) (usages_of (term_at (meanings a) l) e ++ usages_of (term_at (meanings a) r) f)) (sym (ap env_after types))
+    (written_both old mid new (meaning_at (meanings a) l).nodes (meaning_at (meanings a) r).nodes (usages_of (term_at (meanings a) l) e) (usages_of (term_at (meanings a) r) e1) first second)
+
+pub arith_used : (a : Arena) (at l r : ℕ) (op : Op) (n : Node) (e : Env) (old new : List Usage) → IsHere a at n → n.term ≡ Arith op l r → at < length old → AreWritten old new ((meaning_at (meanings a) l).nodes ++ (meaning_at (meanings a) r).nodes) (usages_of (term_at (meanings a) l) e ++ usages_of (term_at (meanings a) r) (env_after (typing (term_at (meanings a) l) e))) → AreWritten old new (meaning_at (meanings a) at).nodes (usages_of (term_at (meanings a) at) e)
+arith_used a at l r op n e old new h is lt both =
+    subst (λ t. AreWritten old new (meaning_at (meanings a) at).nodes (usages_of t e)) (sym (arith_here a at l r op n h is))
+    (arith_written a at l r n old new (usages_of (term_at (meanings a) l) e ++ usages_of (term_at (meanings a) r) (env_after (typing (term_at (meanings a) l) e))) h (ap needs is) lt both)
+
+pub assign_used_at : (a : Arena) (at to v : ℕ) (n : Node) (k : Kind) (e e1 : Env) (old mid new : List Usage) → IsHere a at n → n.term ≡ Assign to v → (meaning_at (meanings a) to).nodes ≡ to ∷ [] → IsReady a at → at < length old → typing (term_at (meanings a) v) e ≡ typed k e1 → AreWritten old mid (meaning_at (meanings a) v).nodes (usages_of (term_at (meanings a) v) e) → new ≡ write mid to (Some (usage_of e1 (place_at (meanings a) to) false)) → AreWritten old new (meaning_at (meanings a) at).nodes (usages_of (term_at (meanings a) at) e)
+assign_used_at a at to v n k e e1 old mid new h is place ready lt types part wrote =
+    let before : to < at = (subst (AreBelow (meanings a) at) (ap needs is) h.parts).0 in
+    let u = usage_of e1 (place_at (meanings a) to) false in
+    let same : u ≡ usage_of (env_after (typing (term_at (meanings a) v) e)) (place_at (meanings a) to) false = ap (λ l. usage_of l (place_at (meanings a) to) false) (sym (ap env_after types)) in
+    subst (λ t. AreWritten old new (meaning_at (meanings a) at).nodes (usages_of t e)) (sym (term_here a at n (assign_t n.place (place_at (meanings a) to) (term_at (meanings a) v)) h (ap (stands_for a.names (meanings a) n.place) is)))
+    (subst (λ w. AreWritten old new (meaning_at (meanings a) at).nodes (Some w ∷ usages_of (term_at (meanings a) v) e ++ None ∷ [])) same
+    (assign_written a at to v n old mid new u (usages_of (term_at (meanings a) v) e) h (ap needs is) place ready lt (omega arith) part wrote))

@@ -1,0 +1,7 @@
+pub mod ScopeLemmas
+pub mod RuleLemmas
+pub mod UsageLemmas
+pub mod TermLemmas
+pub mod NodeLemmas
+pub mod CheckLemmas
+pub mod ProgramLemmas

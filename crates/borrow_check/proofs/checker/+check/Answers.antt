@@ -1,0 +1,156 @@
+use Rattle.std.proofs.Common.{◌<◌, ◌+◌, drop, sym, ap, ◌∙◌, subst, arith}
+use Rattle.std.proofs.lemmas.List.{drop_all}
+use Rattle.std.proofs.lemmas.Result.{err_from_is_err_and}
+use Rattle.fr_syntax.specs.Meanings.{meanings, meaning_at, term_at, needs, AreBelow}
+use Rattle.fr_types.specs.declared.types.Ty.{Ty}
+use Rattle.fr_types.specs.Types.{kind_of}
+use Rattle.fr_types.specs.States.{env_of}
+use Rattle.borrow_check.specs.Usages.{usages_of}
+use Rattle.borrow_check.proofs.UsageLemmas.{written_long}
+use Rattle.borrow_check.proofs.RuleLemmas.{on_ok_map}
+use Rattle.borrow_check.proofs.TermLemmas.{IsAlong, along_few, along_step, along_written, along_fails, first_ready, next_first}
+use Rattle.borrow_check.proofs.CheckLemmas.{on_ok, on_ok_both, here_by, at_inside, box_part, print_part, let_part, assign_part, block_parts, block_count, arith_parts, arith_gives, operands_used, arith_used, box_used, print_used, let_used, block_used, assign_used_at}
+use Rattle.borrow_check.proofs.checker.+check.Goals as goal
+
+pub check_term-check_term-requires : goal.check_term-check_term-requires
+check_term-check_term-requires t c =
+    let h = here_by c.args.tree.now c.args.at c.in-Some.node.now c.in-Some.ensures.what c.in-Some.ensures.nodes c.in-Some.ensures.parts in
+    let part = box_part c.args.tree.now c.args.at c.in-Box.value c.in-Some.node.now h c.in-Box.is c.requires.ready in
+    (omega (arith, c.decreases, part.before), (part.ready, (c.requires.scope, (c.requires.usages, omega (arith, c.requires.few, part.count)))))
+
+pub check_term-check_term-requires-in-Print : goal.check_term-check_term-requires-in-Print
+check_term-check_term-requires-in-Print t c =
+    let h = here_by c.args.tree.now c.args.at c.in-Some.node.now c.in-Some.ensures.what c.in-Some.ensures.nodes c.in-Some.ensures.parts in
+    let part = print_part c.args.tree.now c.args.at c.in-Print.value c.in-Some.node.now h c.in-Print.is c.requires.ready in
+    (omega (arith, c.decreases, part.before), (part.ready, (c.requires.scope, (c.requires.usages, omega (arith, c.requires.few, part.count)))))
+
+pub check_term-check_term-requires-in-Let : goal.check_term-check_term-requires-in-Let
+check_term-check_term-requires-in-Let t c =
+    let h = here_by c.args.tree.now c.args.at c.in-Some.node.now c.in-Some.ensures.what c.in-Some.ensures.nodes c.in-Some.ensures.parts in
+    let part = let_part c.args.tree.now c.args.at c.in-Let.name c.in-Let.value c.in-Some.node.now h c.in-Let.is c.requires.ready in
+    (omega (arith, c.decreases, part.before), (part.ready, (c.requires.scope, (c.requires.usages, omega (arith, c.requires.few, part.count)))))
+
+pub check_term-check_term-requires-in-Assign : goal.check_term-check_term-requires-in-Assign
+check_term-check_term-requires-in-Assign t c =
+    let h = here_by c.args.tree.now c.args.at c.in-Some.node.now c.in-Some.ensures.what c.in-Some.ensures.nodes c.in-Some.ensures.parts in
+    let part = assign_part c.args.tree.now c.args.at c.in-Assign.to c.in-Assign.value c.in-Some.node.now h c.in-Assign.is c.requires.ready in
+    (omega (arith, c.decreases, part.before), (part.ready, (c.requires.scope, (c.requires.usages, omega (arith, c.requires.few, part.count)))))
+
+pub check_term-check_items-requires : goal.check_term-check_items-requires
+check_term-check_items-requires t c =
+    let h = here_by c.args.tree.now c.args.at c.in-Some.node.now c.in-Some.ensures.what c.in-Some.ensures.nodes c.in-Some.ensures.parts in
+    (omega (arith, c.decreases), (block_parts c.args.tree.now c.args.at c.in-Block.items c.in-Some.node.now h c.in-Block.is c.requires.ready, (c.requires.scope, (c.requires.usages, omega (arith, c.requires.few, block_count c.args.tree.now c.args.at c.in-Block.items c.in-Some.node.now h c.in-Block.is)))))
+
+pub check_term-check_arith-requires : goal.check_term-check_arith-requires
+check_term-check_arith-requires t c =
+    let h = here_by c.args.tree.now c.args.at c.in-Some.node.now c.in-Some.ensures.what c.in-Some.ensures.nodes c.in-Some.ensures.parts in
+    let parts = arith_parts c.args.tree.now c.args.at c.in-Arith.left c.in-Arith.right c.in-Arith.field-0 c.in-Some.node.now h c.in-Arith.is c.requires.ready in
+    (omega (arith, c.decreases), (parts.left_before, (parts.right_before, (parts.left_ready, (parts.right_ready, (c.requires.scope, (c.requires.usages, omega (arith, c.requires.few, parts.count))))))))
+
+pub check_term-returns-in-Arith-clause-gives : goal.check_term-returns-in-Arith-clause-gives
+check_term-returns-in-Arith-clause-gives t c =
+    let h = here_by c.args.tree.now c.args.at c.in-Some.node.now c.in-Some.ensures.what c.in-Some.ensures.nodes c.in-Some.ensures.parts in
+    arith_gives c.args.tree.now c.args.at c.in-Arith.left c.in-Arith.right c.in-Arith.field-0 c.in-Some.node.now (env_of c.args.tree.now.names c.args.env.now) (env_of c.args.tree.now.names c.check_arith.new.env) c.check_arith.result h c.in-Arith.is (c.check_arith.ensures.gives c.in-Arith.field-0)
+
+pub check_term-returns-in-Arith-clause-usages : goal.check_term-returns-in-Arith-clause-usages
+check_term-returns-in-Arith-clause-usages t c =
+    let h = here_by c.args.tree.now c.args.at c.in-Some.node.now c.in-Some.ensures.what c.in-Some.ensures.nodes c.in-Some.ensures.parts in
+    on_ok_map _ _ c.check_arith.result
+    (arith_used c.args.tree.now c.args.at c.in-Arith.left c.in-Arith.right c.in-Arith.field-0 c.in-Some.node.now (env_of c.args.tree.now.names c.args.env.now) c.args.usages.now.items c.check_arith.new.usages.items h c.in-Arith.is
+    (at_inside c.args.tree.now c.args.at c.args.usages.now.items c.requires.ready c.requires.usages)) c.check_arith.ensures.usages
+
+pub check_arith-check_term-requires-2 : goal.check_arith-check_term-requires-2
+check_arith-check_term-requires-2 t c = (
+  omega (arith, c.decreases, c.requires.right),
+  (
+    c.requires.right_ready,
+    (
+      c.in_ok-first.ensures.scope,
+      (
+        written_long c.args.usages.now.items c.check_term.new.usages.items (meaning_at (meanings c.args.tree.now) c.args.left).nodes (usages_of (term_at (meanings c.args.tree.now) c.args.left) (env_of c.args.tree.now.names c.args.env.now)) c.in_ok-first.ensures.usages ∙ c.requires.usages,
+        omega (arith, c.requires.few, c.in_ok-first.ensures.few),
+      ),
+    ),
+  ),
+)
+
+pub check_arith-returns-clause-usages : goal.check_arith-returns-clause-usages
+check_arith-returns-clause-usages t c =
+    on_ok _ c.combined.result
+    (operands_used c.args.tree.now c.args.left c.args.right (kind_of c.in_ok-first.first) (env_of c.args.tree.now.names c.args.env.now) (env_of c.args.tree.now.names c.check_term.new.env) c.args.usages.now.items c.check_term.new.usages.items c.check_term-2.new.usages.items
+    c.in_ok-first.ensures.gives c.in_ok-first.ensures.usages c.in_ok-second.ensures.usages)
+
+pub check_term-assign-requires-clause-usages : goal.check_term-assign-requires-clause-usages
+check_term-assign-requires-clause-usages t c =
+    let below : AreBelow (meanings c.args.tree.now) c.args.at (needs c.in-Some.node.now.term) = c.in-Some.ensures.parts in
+    let before : c.in-Assign.to < c.args.at = (subst (AreBelow (meanings c.args.tree.now) c.args.at) (ap needs c.in-Assign.is) below).0 in
+    omega (arith, c.requires.ready.here, c.requires.usages, written_long c.args.usages.now.items c.check_term-in-Assign.new.usages.items (meaning_at (meanings c.args.tree.now) c.in-Assign.value).nodes (usages_of (term_at (meanings c.args.tree.now) c.in-Assign.value) (env_of c.args.tree.now.names c.args.env.now)) c.in_ok-t-in-Assign.ensures.usages)
+
+pub check_term-returns-in_ok-t-in-Box-clause-usages : goal.check_term-returns-in_ok-t-in-Box-clause-usages
+check_term-returns-in_ok-t-in-Box-clause-usages t c =
+    let h = here_by c.args.tree.now c.args.at c.in-Some.node.now c.in-Some.ensures.what c.in-Some.ensures.nodes c.in-Some.ensures.parts in
+    on_ok _ c.in_box.result
+    (box_used c.args.tree.now c.args.at c.in-Box.value c.in-Some.node.now (env_of c.args.tree.now.names c.args.env.now) c.args.usages.now.items c.check_term.new.usages.items h c.in-Box.is
+    (at_inside c.args.tree.now c.args.at c.args.usages.now.items c.requires.ready c.requires.usages) c.in_ok-t-in-Box.ensures.usages)
+
+pub check_term-returns-in_ok-t-in-Print-clause-usages : goal.check_term-returns-in_ok-t-in-Print-clause-usages
+check_term-returns-in_ok-t-in-Print-clause-usages t c =
+    let h = here_by c.args.tree.now c.args.at c.in-Some.node.now c.in-Some.ensures.what c.in-Some.ensures.nodes c.in-Some.ensures.parts in
+    on_ok _ c.printed.result
+    (print_used c.args.tree.now c.args.at c.in-Print.value c.in-Some.node.now (env_of c.args.tree.now.names c.args.env.now) c.args.usages.now.items c.check_term-in-Print.new.usages.items h c.in-Print.is
+    (at_inside c.args.tree.now c.args.at c.args.usages.now.items c.requires.ready c.requires.usages) c.in_ok-t-in-Print.ensures.usages)
+
+pub check_term-returns-in_ok-t-in-Let-clause-usages : goal.check_term-returns-in_ok-t-in-Let-clause-usages
+check_term-returns-in_ok-t-in-Let-clause-usages t c =
+    let h = here_by c.args.tree.now c.args.at c.in-Some.node.now c.in-Some.ensures.what c.in-Some.ensures.nodes c.in-Some.ensures.parts in
+    on_ok _ c.bind.result
+    (let_used c.args.tree.now c.args.at c.in-Let.name c.in-Let.value c.in-Some.node.now (env_of c.args.tree.now.names c.args.env.now) c.args.usages.now.items c.check_term-in-Let.new.usages.items h c.in-Let.is
+    (at_inside c.args.tree.now c.args.at c.args.usages.now.items c.requires.ready c.requires.usages) c.in_ok-t-in-Let.ensures.usages)
+
+pub check_term-returns-in_ok-t-in-Assign-clause-usages : goal.check_term-returns-in_ok-t-in-Assign-clause-usages
+check_term-returns-in_ok-t-in-Assign-clause-usages t c =
+    let h = here_by c.args.tree.now c.args.at c.in-Some.node.now c.in-Some.ensures.what c.in-Some.ensures.nodes c.in-Some.ensures.parts in
+    on_ok_both _ _ _ c.assign.result c.assign.ensures.place c.assign.ensures.usages
+    (λ place wrote. assign_used_at c.args.tree.now c.args.at c.in-Assign.to c.in-Assign.value c.in-Some.node.now (kind_of c.in_ok-t-in-Assign.t) (env_of c.args.tree.now.names c.args.env.now) (env_of c.args.tree.now.names c.check_term-in-Assign.new.env) c.args.usages.now.items c.check_term-in-Assign.new.usages.items c.assign.new.usages.items h c.in-Assign.is place c.requires.ready
+    (at_inside c.args.tree.now c.args.at c.args.usages.now.items c.requires.ready c.requires.usages) c.in_ok-t-in-Assign.ensures.gives c.in_ok-t-in-Assign.ensures.usages wrote)
+
+pub check_term-returns-in_ok-t-in-Block-clause-scope : goal.check_term-returns-in_ok-t-in-Block-clause-scope
+check_term-returns-in_ok-t-in-Block-clause-scope t c = on_ok_map _ _ c.end_block.result (λ f. f c.args.tree.now.names c.in_ok-t-in-Block.ensures.scope) c.end_block.ensures.scope
+
+pub check_term-returns-in_ok-t-in-Block-clause-usages : goal.check_term-returns-in_ok-t-in-Block-clause-usages
+check_term-returns-in_ok-t-in-Block-clause-usages t c =
+    let h = here_by c.args.tree.now c.args.at c.in-Some.node.now c.in-Some.ensures.what c.in-Some.ensures.nodes c.in-Some.ensures.parts in
+    on_ok _ c.end_block.result
+    (block_used c.args.tree.now c.args.at c.in-Block.items c.in-Some.node.now (env_of c.args.tree.now.names c.args.env.now) c.args.usages.now.items c.check_items.new.usages.items h c.in-Block.is
+    (at_inside c.args.tree.now c.args.at c.args.usages.now.items c.requires.ready c.requires.usages) c.in_ok-t-in-Block.ensures.usages)
+
+pub check_items-check_term-requires : goal.check_items-check_term-requires
+check_items-check_term-requires t c =
+    let e = next_first c.args.items.now.items c.items.next c.in-Some.item.now (sym c.in-Some.ensures) in
+    let along = subst (λ l. IsAlong c.args.tree.now c.args.bound c.args.place c.args.items.now.items l c.args.env.now c.items.env c.args.usages.now.items c.items.usages.items (kind_of c.items.t) c.items.last) e c.items.invariant in
+    (omega (arith, c.decreases, along.ready.parts.0), (first_ready c.args.tree.now c.args.bound c.in-Some.item.now (drop (c.items.next + 1) c.args.items.now.items) along.ready, (c.items.invariant.scope, (c.items.invariant.long, along_few c.args.tree.now c.args.bound c.args.place c.in-Some.item.now c.args.items.now.items (drop (c.items.next + 1) c.args.items.now.items) c.args.env.now c.items.env c.args.usages.now.items c.items.usages.items (kind_of c.items.t) c.items.last along c.requires.few))))
+
+pub check_items-returns-in_err-found-clause-gives : goal.check_items-returns-in_err-found-clause-gives
+check_items-returns-in_err-found-clause-gives t c =
+    let e = next_first c.args.items.now.items c.items.next c.in-Some.item.now (sym c.in-Some.ensures) in
+    let along = subst (λ l. IsAlong c.args.tree.now c.args.bound c.args.place c.args.items.now.items l c.args.env.now c.items.env c.args.usages.now.items c.items.usages.items (kind_of c.items.t) c.items.last) e c.items.invariant in
+    let p = err_from_is_err_and c.from_residual.result c.from_residual.ensures.1 in
+    rw (p.1, p.2) (along_fails c.args.tree.now c.args.bound c.args.place c.in-Some.item.now c.args.items.now.items (drop (c.items.next + 1) c.args.items.now.items) c.args.env.now c.items.env c.args.usages.now.items c.items.usages.items (kind_of c.items.t) c.items.last c.in_err-found.field-0.0 _ _ along c.in_err-found.ensures.gives)
+
+pub check_items-start-last-requires-clause-sort : goal.check_items-start-last-requires-clause-sort
+check_items-start-last-requires-clause-sort t c =
+    let e = next_first c.args.items.now.items c.items.next c.in-Some.item.now (sym c.in-Some.ensures) in
+    let along = subst (λ l. IsAlong c.args.tree.now c.args.bound c.args.place c.args.items.now.items l c.args.env.now c.items.env c.args.usages.now.items c.items.usages.items (kind_of c.items.t) c.items.last) e c.items.invariant in
+    (first_ready c.args.tree.now c.args.bound c.in-Some.item.now (drop (c.items.next + 1) c.args.items.now.items) along.ready).sort
+
+pub check_items-items-preserved : goal.check_items-items-preserved
+check_items-items-preserved t c =
+    let e = next_first c.args.items.now.items c.items.next c.in-Some.item.now (sym c.in-Some.ensures) in
+    let along = subst (λ l. IsAlong c.args.tree.now c.args.bound c.args.place c.args.items.now.items l c.args.env.now c.items.env c.args.usages.now.items c.items.usages.items (kind_of c.items.t) c.items.last) e c.items.invariant in
+    let next = along_step c.args.tree.now c.args.bound c.args.place c.in-Some.item.now c.args.items.now.items (drop (c.items.next + 1) c.args.items.now.items) c.args.env.now c.items.env c.check_term.new.env c.args.usages.now.items c.items.usages.items c.check_term.new.usages.items (kind_of c.items.t) (kind_of c.in_ok-found.found) c.items.last c.start-last.result along c.in_ok-found.ensures.gives c.in_ok-found.ensures.below c.in_ok-found.ensures.scope c.in_ok-found.ensures.grows c.in_ok-found.ensures.few c.in_ok-found.ensures.usages c.start-last.ensures in
+    subst (λ (u : Ty). IsAlong c.args.tree.now c.args.bound c.args.place c.args.items.now.items (drop (c.items.next + 1) c.args.items.now.items) c.args.env.now c.check_term.new.env c.args.usages.now.items c.check_term.new.usages.items (kind_of u) c.start-last.result) (sym c.replace.ensures.after) next
+
+pub check_items-returns-clause-usages : goal.check_items-returns-clause-usages
+check_items-returns-clause-usages t c =
+    along_written c.args.tree.now c.args.bound c.args.place c.args.items.now.items (drop c.items.next c.args.items.now.items) c.args.env.now c.items.env c.args.usages.now.items c.items.usages.items (kind_of c.items.t) c.items.last c.items.invariant
+    (drop_all c.items.next c.args.items.now.items (omega arith))

@@ -1,0 +1,4 @@
+pub mod Usages
+pub mod Rules
+pub mod Nodes
+pub mod Programs

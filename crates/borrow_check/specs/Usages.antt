@@ -1,0 +1,71 @@
+-- How the nodes of a typed term use their places (this project's rule).
+use Rattle.std.specs.Prelude.{◌≡◌, ℕ, Bool, false, not, ⊤, List, [], ◌∷◌, ◌++◌, length, slice_set, slice_get, Option, Some, None, unwrap_or}
+use Rattle.fr_terms.specs.Terms.{Spot, Term, block_t, let_t, assign_t, read_t, borrow_t, borrow_mut_t, box_t, print_t, arith_t, Items, none, item}
+use Rattle.fr_typing.specs.Kinds.{copies}
+use Rattle.fr_typing.specs.Places.{Env, slot_of}
+use Rattle.fr_typing.specs.Finding.{Outcome, typed, fault}
+use Rattle.fr_typing.specs.Typing.{typing}
+use Rattle.fr_syntax.specs.Meanings.{AllBelow}
+use Rattle.borrow_check.specs.declared.usage.Usage.{Usage}
+
+-- the environment after a typed term; after another nobody asks
+abbrev pub env_after : Outcome → Env
+env_after (typed k e) = e
+env_after (fault at r) = []
+
+-- a typed read that moves
+abbrev pub is_taken : Outcome → Bool
+is_taken (typed k e) = not (copies k)
+is_taken (fault at r) = false
+
+-- a place that is found in an environment, and whether it is taken out
+abbrev pub usage_of : Env → Spot → Bool → Usage
+usage_of e w taken = record { slot = unwrap_or (slot_of e w.name) 0; takes = taken }
+
+abbrev pub read_usage : Spot → Env → Usage
+read_usage w e = usage_of e w (is_taken (typing (read_t 0 w) e))
+
+abbrev mutual
+  -- for each node of a term, in the order of its nodes, the usage where it is a place or a read, from the environment before the term
+  pub usages_of : Term → Env → List (Option Usage)
+  usages_of (block_t at ts) e = usages_in ts e ++ None ∷ []
+  usages_of (let_t at x t) e = usages_of t e ++ None ∷ []
+  usages_of (assign_t at w t) e = Some (usage_of (env_after (typing t e)) w false) ∷ usages_of t e ++ None ∷ []
+  usages_of (read_t at w) e = Some (read_usage w e) ∷ Some (read_usage w e) ∷ []
+  usages_of (borrow_t at w) e = Some (usage_of e w false) ∷ None ∷ []
+  usages_of (borrow_mut_t at w) e = Some (usage_of e w false) ∷ None ∷ []
+  usages_of (box_t at t) e = usages_of t e ++ None ∷ []
+  usages_of (print_t at t) e = usages_of t e ++ None ∷ []
+  usages_of (arith_t at op a b) e = (usages_of a e ++ usages_of b (env_after (typing a e))) ++ None ∷ []
+  usages_of t e = None ∷ []
+
+  pub usages_in : Items → Env → List (Option Usage)
+  usages_in none e = []
+  usages_in (item t ts) e = usages_of t e ++ usages_in ts (env_after (typing t e))
+
+-- these usages, at these nodes, in a list by node
+abbrev pub IsUsed : List Usage → ℕ → Option Usage → Type 0
+IsUsed us n None = ⊤
+IsUsed us n (Some u) = slice_get us n ≡ Some u
+
+abbrev pub AreUsed : List Usage → List ℕ → List (Option Usage) → Type 0
+AreUsed us [] [] = ⊤
+AreUsed us (n ∷ ns) (m ∷ ms) = IsUsed us n m × AreUsed us ns ms
+AreUsed us [] (m ∷ ms) = ⊥
+AreUsed us (n ∷ ns) [] = ⊥
+
+-- the list with these usages written one after another
+abbrev pub write : List Usage → ℕ → Option Usage → List Usage
+write us n None = us
+write us n (Some u) = slice_set us n u
+
+abbrev pub written : List Usage → List ℕ → List (Option Usage) → List Usage
+written us [] ms = us
+written us (n ∷ ns) [] = us
+written us (n ∷ ns) (m ∷ ms) = written (write us n m) ns ms
+
+-- a term's usages were written, one for each of its nodes
+pub record AreWritten (old new : List Usage) (ns : List ℕ) (ms : List (Option Usage)) : Type 0 where
+  pub same : new ≡ written old ns ms
+  pub each : length ns ≡ length ms
+  pub within : AllBelow (length old) ns

@@ -1,0 +1,156 @@
+//! The types of a tree's terms.
+
+ghost use Rattle.std.specs.Prelude.{◌≡◌, ◌<◌, ◌≤◌, ◌+◌, ◌++◌, length, IfOk, OnOk};
+ghost use Rattle.fr_base.specs.declared.place.Op.{Op};
+ghost use Rattle.fr_terms.specs.Terms.{arith_t, start_of};
+ghost use Rattle.fr_typing.specs.Places.{AreBelow, kind_places};
+ghost use Rattle.fr_typing.specs.Typing.{typing};
+ghost use Rattle.fr_syntax.specs.Meanings.{meanings, meaning_at, term_at, items_at, sort_of, term_s, all_need, nodes_in};
+ghost use Rattle.fr_types.specs.Types.{kind_of};
+ghost use Rattle.fr_types.specs.States.{env_of};
+ghost use Rattle.borrow_check.specs.Rules.{IsInScope, Gives, GivesItems};
+ghost use Rattle.borrow_check.specs.Nodes.{IsReady, AreReady};
+ghost use Rattle.borrow_check.specs.Usages.{env_after, usages_of, usages_in, AreWritten};
+
+use crate::check_error::CheckError;
+use crate::nodes::{assign, borrow, borrow_mut, read};
+use crate::rules::{bind, combined, end_block, in_box, number, printed};
+use crate::usage::Usage;
+use fr_syntax::{Nodes, Term, Tree};
+use fr_types::{Env, Ty};
+use std::alloc::Global;
+use std::mem;
+
+// Where the first token of a term stands.
+fn start(tree: &Tree, at: u32) -> u32
+    requires here { at < length (meanings tree.now) }
+    requires sort { sort_of (meaning_at (meanings tree.now) at).what ≡ term_s }
+    ensures { result ≡ start_of (term_at (meanings tree.now) at) }
+{
+    let Some(node) = tree.node(at) else {
+        unreachable!()
+    };
+    node.place
+}
+
+/// The type of the term of a node, or its first fault. Each slot that it leaves has a node of its own.
+#[cycle(check)]
+pub fn check_term(
+    alloc: Global,
+    tree: &Tree,
+    at: u32,
+    env: &mut Env,
+    usages: &mut Vec<Usage>,
+) -> Result<Ty, CheckError>
+    requires ready { IsReady tree.now at }
+    requires scope { IsInScope tree.now.names env.old }
+    requires usages { length usages.old.items ≡ length (meanings tree.now) }
+    requires few { length env.old + length (meaning_at (meanings tree.now) at).nodes ≤ 268435456 }
+    ensures gives { Gives result (typing (term_at (meanings tree.now) at) (env_of tree.now.names env.old)) (env_of tree.now.names env.new) }
+    ensures below { IfOk result (λ t. AreBelow (length env.new) (kind_places (kind_of t))) }
+    ensures scope { OnOk result (IsInScope tree.now.names env.new) }
+    ensures grows { OnOk result (length env.old ≤ length env.new) }
+    ensures few { OnOk result (length env.new ≤ length env.old + length (meaning_at (meanings tree.now) at).nodes) }
+    ensures usages { OnOk result (AreWritten usages.old.items usages.new.items (meaning_at (meanings tree.now) at).nodes (usages_of (term_at (meanings tree.now) at) (env_of tree.now.names env.old))) }
+{
+    let Some(node) = tree.node(at) else {
+        unreachable!()
+    };
+    match &node.term {
+        Term::Number(_) => Ok(Ty::Int),
+        Term::Unit => Ok(Ty::Unit),
+        Term::Read(from) => read(alloc, tree, env, usages, at, *from),
+        Term::Borrow(of) => borrow(alloc, tree, env, usages, *of),
+        Term::BorrowMut(of) => borrow_mut(alloc, tree, env, usages, *of),
+        Term::Box(value) => {
+            let t = check_term(alloc, tree, *value, env, usages)?;
+            in_box(alloc, t, start(tree, *value))
+        }
+        Term::Print(value) => {
+            let t = check_term(alloc, tree, *value, env, usages)?;
+            printed(&t, start(tree, *value))
+        }
+        Term::Arith(_, left, right) => check_arith(alloc, tree, *left, *right, at, env, usages),
+        Term::Let(name, value) => {
+            let t = check_term(alloc, tree, *value, env, usages)?;
+            bind(env, *name, t, node.place)
+        }
+        Term::Assign(to, value) => {
+            let t = check_term(alloc, tree, *value, env, usages)?;
+            assign(alloc, tree, env, usages, *to, t, start(tree, *value))
+        }
+        Term::Block(items) => {
+            let base = env.len();
+            let (t, last) = check_items(alloc, tree, items, node.place, at, env, usages)?;
+            end_block(env, base, t, last)
+        }
+        _ => unreachable!(),
+    }
+}
+
+// The operands, which stand before this node: the right one is typed in the environment that the left one leaves.
+#[cycle(check)]
+fn check_arith(
+    alloc: Global,
+    tree: &Tree,
+    left: u32,
+    right: u32,
+    bound: u32,
+    env: &mut Env,
+    usages: &mut Vec<Usage>,
+) -> Result<Ty, CheckError>
+    requires left { left < bound }
+    requires right { right < bound }
+    requires left_ready { IsReady tree.now left }
+    requires right_ready { IsReady tree.now right }
+    requires scope { IsInScope tree.now.names env.old }
+    requires usages { length usages.old.items ≡ length (meanings tree.now) }
+    requires few { length env.old + length (meaning_at (meanings tree.now) left).nodes + length (meaning_at (meanings tree.now) right).nodes ≤ 268435456 }
+    ensures gives { (op : Op) → Gives result (typing (arith_t 0 op (term_at (meanings tree.now) left) (term_at (meanings tree.now) right)) (env_of tree.now.names env.old)) (env_of tree.now.names env.new) }
+    ensures below { IfOk result (λ t. AreBelow (length env.new) (kind_places (kind_of t))) }
+    ensures scope { OnOk result (IsInScope tree.now.names env.new) }
+    ensures grows { OnOk result (length env.old ≤ length env.new) }
+    ensures few { OnOk result (length env.new ≤ length env.old + length (meaning_at (meanings tree.now) left).nodes + length (meaning_at (meanings tree.now) right).nodes) }
+    ensures usages { OnOk result (AreWritten usages.old.items usages.new.items ((meaning_at (meanings tree.now) left).nodes ++ (meaning_at (meanings tree.now) right).nodes) (usages_of (term_at (meanings tree.now) left) (env_of tree.now.names env.old) ++ usages_of (term_at (meanings tree.now) right) (env_after (typing (term_at (meanings tree.now) left) (env_of tree.now.names env.old))))) }
+{
+    let first = check_term(alloc, tree, left, env, usages)?;
+    number(&first, start(tree, left))?;
+    drop(first);
+    let second = check_term(alloc, tree, right, env, usages)?;
+    combined(&second, start(tree, right))
+}
+
+// The items in order: the last one's type and place.
+#[cycle(check)]
+fn check_items(
+    alloc: Global,
+    tree: &Tree,
+    items: &Nodes,
+    place: u32,
+    bound: u32,
+    env: &mut Env,
+    usages: &mut Vec<Usage>,
+) -> Result<(Ty, u32), CheckError>
+    requires ready { AreReady tree.now bound items.now.items }
+    requires scope { IsInScope tree.now.names env.old }
+    requires usages { length usages.old.items ≡ length (meanings tree.now) }
+    requires few { length env.old + length (nodes_in (meanings tree.now) (all_need term_s items.now.items)) ≤ 268435456 }
+    ensures gives { GivesItems result (items_at (meanings tree.now) items.now.items) place (env_of tree.now.names env.old) (env_of tree.now.names env.new) }
+    ensures below { IfOk result (λ p. AreBelow (length env.new) (kind_places (kind_of p.0))) }
+    ensures scope { OnOk result (IsInScope tree.now.names env.new) }
+    ensures grows { OnOk result (length env.old ≤ length env.new) }
+    ensures few { OnOk result (length env.new ≤ length env.old + length (nodes_in (meanings tree.now) (all_need term_s items.now.items))) }
+    ensures usages { OnOk result (AreWritten usages.old.items usages.new.items (nodes_in (meanings tree.now) (all_need term_s items.now.items)) (usages_in (items_at (meanings tree.now) items.now.items) (env_of tree.now.names env.old))) }
+{
+    let mut t = Ty::Unit;
+    let mut last = place;
+    'items: for next in 0..items.len() {
+        let Some(item) = items.at(next) else {
+            unreachable!()
+        };
+        let found = check_term(alloc, tree, *item, env, usages)?;
+        drop(mem::replace(&mut t, found));
+        last = start(tree, *item);
+    }
+    Ok((t, last))
+}

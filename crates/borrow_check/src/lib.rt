@@ -1,0 +1,17 @@
+//! The borrow checker: a tree of the forms of one thread is checked, or the answer is its first fault, exactly as typing has it.
+#![tactic(auto)]
+
+mod check_error;
+mod checked;
+mod checker;
+mod finding;
+mod nodes;
+mod rules;
+#[cfg(test)]
+mod tests;
+mod usage;
+mod written;
+
+pub use check_error::CheckError;
+pub use checked::{Checked, check};
+pub use usage::Usage;

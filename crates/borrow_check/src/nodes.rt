@@ -1,0 +1,145 @@
+//! Nodes with a place: its use is noted, and the rule follows.
+
+ghost use Rattle.std.specs.Prelude.{◌≡◌, ◌<◌, ◌∷◌, [], length, Some, false, IfOk, OnOk};
+ghost use Rattle.fr_terms.specs.Terms.{read_t, borrow_t, borrow_mut_t};
+ghost use Rattle.fr_typing.specs.Kinds.{own, unit};
+ghost use Rattle.fr_typing.specs.Places.{AreBelow, kind_places};
+ghost use Rattle.fr_typing.specs.Rules.{assign_rule};
+ghost use Rattle.fr_typing.specs.Typing.{typing};
+ghost use Rattle.fr_syntax.specs.Meanings.{meanings, meaning_at, place_at, sort_of, place_s};
+ghost use Rattle.fr_types.specs.Types.{kind_of};
+ghost use Rattle.fr_types.specs.States.{env_of};
+ghost use Rattle.borrow_check.specs.Rules.{IsInScope, Gives};
+ghost use Rattle.borrow_check.specs.Usages.{write, usage_of, read_usage};
+
+use crate::check_error::CheckError;
+use crate::finding::{find, find_whole, written_at};
+use crate::rules::{borrow_mut_whole, borrow_whole, read_whole, write};
+use crate::usage::Usage;
+use fr_base::Lval;
+use fr_syntax::Tree;
+use fr_types::{Env, Ty, copies};
+use std::alloc::Global;
+
+// The use of a place where nothing is taken out.
+fn used(x: Lval) -> Usage
+    ensures { result ≡ record { slot = x.slot; takes = false } }
+{
+    Usage {
+        slot: x.slot,
+        takes: false,
+    }
+}
+
+/// Types a read node of the place of a node, and notes its use at both.
+pub fn read(
+    alloc: Global,
+    tree: &Tree,
+    env: &mut Env,
+    usages: &mut Vec<Usage>,
+    at: u32,
+    from: u32,
+) -> Result<Ty, CheckError>
+    requires here { from < length (meanings tree.now) }
+    requires sort { sort_of (meaning_at (meanings tree.now) from).what ≡ place_s }
+    requires scope { IsInScope tree.now.names env.old }
+    requires usages { from < length usages.old.items }
+    requires read { at < length usages.old.items }
+    ensures gives { Gives result (typing (read_t 0 (place_at (meanings tree.now) from)) (env_of tree.now.names env.old)) (env_of tree.now.names env.new) }
+    ensures below { IfOk result (λ t. AreBelow (length env.new) (kind_places (kind_of t))) }
+    ensures scope { OnOk result (IsInScope tree.now.names env.new) }
+    ensures same { OnOk result (length env.new ≡ length env.old) }
+    ensures place { OnOk result ((meaning_at (meanings tree.now) from).nodes ≡ from ∷ []) }
+    ensures usages { let usage = Some (read_usage (place_at (meanings tree.now) from) (env_of tree.now.names env.old)) in
+        OnOk result (usages.new.items ≡ write (write usages.old.items from usage) at usage) }
+{
+    let w = written_at(tree, from);
+    let (x, t) = find_whole(alloc, env, w)?;
+    let usage = Usage {
+        slot: x.slot,
+        takes: !copies(&t),
+    };
+    let t = read_whole(alloc, env, w, x, t)?;
+    usages[from as usize] = usage;
+    usages[at as usize] = usage;
+    Ok(t)
+}
+
+/// Types a shared borrow of the place of a node, and notes its use there.
+pub fn borrow(
+    alloc: Global,
+    tree: &Tree,
+    env: &Env,
+    usages: &mut Vec<Usage>,
+    of: u32,
+) -> Result<Ty, CheckError>
+    requires here { of < length (meanings tree.now) }
+    requires sort { sort_of (meaning_at (meanings tree.now) of).what ≡ place_s }
+    requires scope { IsInScope tree.now.names env.now }
+    requires usages { of < length usages.old.items }
+    ensures gives { Gives result (typing (borrow_t 0 (place_at (meanings tree.now) of)) (env_of tree.now.names env.now)) (env_of tree.now.names env.now) }
+    ensures below { IfOk result (λ t. AreBelow (length env.now) (kind_places (kind_of t))) }
+    ensures place { OnOk result ((meaning_at (meanings tree.now) of).nodes ≡ of ∷ []) }
+    ensures usages { OnOk result (usages.new.items ≡ write usages.old.items of (Some (usage_of (env_of tree.now.names env.now) (place_at (meanings tree.now) of) false))) }
+{
+    let w = written_at(tree, of);
+    let (x, t) = find_whole(alloc, env, w)?;
+    drop(t);
+    let t = borrow_whole(alloc, env, w, x)?;
+    usages[of as usize] = used(x);
+    Ok(t)
+}
+
+/// The same of a mutable borrow.
+pub fn borrow_mut(
+    alloc: Global,
+    tree: &Tree,
+    env: &Env,
+    usages: &mut Vec<Usage>,
+    of: u32,
+) -> Result<Ty, CheckError>
+    requires here { of < length (meanings tree.now) }
+    requires sort { sort_of (meaning_at (meanings tree.now) of).what ≡ place_s }
+    requires scope { IsInScope tree.now.names env.now }
+    requires usages { of < length usages.old.items }
+    ensures gives { Gives result (typing (borrow_mut_t 0 (place_at (meanings tree.now) of)) (env_of tree.now.names env.now)) (env_of tree.now.names env.now) }
+    ensures below { IfOk result (λ t. AreBelow (length env.now) (kind_places (kind_of t))) }
+    ensures place { OnOk result ((meaning_at (meanings tree.now) of).nodes ≡ of ∷ []) }
+    ensures usages { OnOk result (usages.new.items ≡ write usages.old.items of (Some (usage_of (env_of tree.now.names env.now) (place_at (meanings tree.now) of) false))) }
+{
+    let w = written_at(tree, of);
+    let (x, t) = find_whole(alloc, env, w)?;
+    drop(t);
+    let t = borrow_mut_whole(alloc, env, w, x)?;
+    usages[of as usize] = used(x);
+    Ok(t)
+}
+
+/// Types an assignment to the place of a node, after its value, and notes the use of the place.
+pub fn assign(
+    alloc: Global,
+    tree: &Tree,
+    env: &mut Env,
+    usages: &mut Vec<Usage>,
+    to: u32,
+    t: Ty,
+    value: u32,
+) -> Result<Ty, CheckError>
+    requires here { to < length (meanings tree.now) }
+    requires sort { sort_of (meaning_at (meanings tree.now) to).what ≡ place_s }
+    requires scope { IsInScope tree.now.names env.old }
+    requires below { AreBelow (length env.old) (kind_places (kind_of t)) }
+    requires usages { to < length usages.old.items }
+    ensures gives { Gives result (assign_rule (place_at (meanings tree.now) to) value (kind_of t) (env_of tree.now.names env.old)) (env_of tree.now.names env.new) }
+    ensures unit { IfOk result (λ u. kind_of u ≡ own unit) }
+    ensures scope { OnOk result (IsInScope tree.now.names env.new) }
+    ensures same { OnOk result (length env.new ≡ length env.old) }
+    ensures place { OnOk result ((meaning_at (meanings tree.now) to).nodes ≡ to ∷ []) }
+    ensures usages { OnOk result (usages.new.items ≡ write usages.old.items to (Some (usage_of (env_of tree.now.names env.old) (place_at (meanings tree.now) to) false))) }
+{
+    let w = written_at(tree, to);
+    let (x, part) = find(alloc, env, w)?;
+    drop(write(alloc, env, w, x, part, t, value)?);
+    usages[to as usize] = used(x);
+    Ok(Ty::Unit)
+}

@@ -1,0 +1,291 @@
+//! The rules of the typing table, after the parts of a term.
+
+ghost use Rattle.std.specs.Prelude.{◌≡◌, ℕ, ◌-◌, ◌+◌, ◌<◌, ◌≤◌, [], List, length, drop, false, IfOk, OnOk};
+ghost use Rattle.fr_terms.specs.Terms.{Text};
+ghost use Rattle.fr_typing.specs.declared.reason.Reason.TheVariants.{ReadBlocked};
+ghost use Rattle.fr_typing.specs.Kinds.{Kind, own, unit};
+ghost use Rattle.fr_typing.specs.Places.{AreBelow, kind_places, piece_places, read_blocked};
+ghost use Rattle.fr_typing.specs.Checks.{is_kept_out, names_from, set_through};
+ghost use Rattle.fr_typing.specs.Finding.{Outcome, typed, unless};
+ghost use Rattle.fr_typing.specs.Rules.{read_rule, borrow_rule, borrow_mut_rule, box_rule, int_rule, print_rule, arith_rule, let_rule, write_rule, end_rule};
+ghost use Rattle.fr_syntax.specs.Arena.{text_of};
+ghost use Rattle.fr_types.specs.Types.{kind_of, piece_of};
+ghost use Rattle.fr_types.specs.States.{slot_in, env_of};
+ghost use Rattle.borrow_check.specs.Rules.{spot_of, when_open, when_fitting, IsInScope, Gives, Follows, Passes};
+
+use crate::check_error::CheckError;
+use crate::written::Written;
+use fr_base::{Lval, NoMemory};
+use fr_types::{
+    Env, Part, Places, Ty, copies, goes_through_mutable, has_shape_of, is_full, is_int,
+    is_own_path, is_owned, is_writable, names_from,
+};
+use fr_typing::Reason;
+use std::alloc::Global;
+
+/// A read of a whole place: the type copies where the place may be read, or moves out where nothing refers to it.
+pub fn read_whole(
+    alloc: Global,
+    env: &mut Env,
+    w: Written,
+    x: Lval,
+    t: Ty,
+) -> Result<Ty, CheckError>
+    requires here { x.slot < length env.old }
+    requires below { AreBelow x.slot (kind_places (kind_of t)) }
+    ensures gives { (names : List Text) → Gives result (read_rule (env_of names env.old) (spot_of names w) x (kind_of t)) (env_of names env.new) }
+    ensures kind { IfOk result (λ u. kind_of u ≡ kind_of t) }
+    ensures names { OnOk result ((name : ℕ) → slot_in env.new name ≡ slot_in env.old name) }
+    ensures same { OnOk result (length env.new ≡ length env.old) }
+{
+    if copies(&t) {
+        if env.read_blocked(x.slot) {
+            return Err(CheckError::Fault {
+                place: w.place,
+                reason: Reason::ReadBlocked,
+            });
+        }
+        return Ok(t);
+    }
+    if env.write_blocked(x.slot) {
+        return Err(CheckError::Fault {
+            place: w.place,
+            reason: Reason::WriteBlocked,
+        });
+    }
+    if !is_own_path(alloc, env, x)? {
+        return Err(CheckError::Fault {
+            place: w.place,
+            reason: Reason::MovedThrough,
+        });
+    }
+    let gone = t.copy(alloc)?;
+    env.put(alloc, x, Part::Gone(gone))?;
+    Ok(t)
+}
+
+/// A shared reference to a whole place.
+pub fn borrow_whole(alloc: Global, env: &Env, w: Written, to: Lval) -> Result<Ty, CheckError>
+    requires here { to.slot < length env.now }
+    ensures gives { (names : List Text) (k : Kind) → Gives result (unless (read_blocked (env_of names env.now) to.slot) w.place ReadBlocked (borrow_rule (env_of names env.now) to k)) (env_of names env.now) }
+    ensures below { IfOk result (λ t. AreBelow (length env.now) (kind_places (kind_of t))) }
+{
+    if env.read_blocked(to.slot) {
+        return Err(CheckError::Fault {
+            place: w.place,
+            reason: Reason::ReadBlocked,
+        });
+    }
+    Ok(Ty::Shared(Places::one(alloc, to)?))
+}
+
+/// A mutable reference to a whole place.
+pub fn borrow_mut_whole(alloc: Global, env: &Env, w: Written, x: Lval) -> Result<Ty, CheckError>
+    requires here { x.slot < length env.now }
+    ensures gives { (names : List Text) (k : Kind) → Gives result (borrow_mut_rule (env_of names env.now) (spot_of names w) x k) (env_of names env.now) }
+    ensures below { IfOk result (λ t. AreBelow (length env.now) (kind_places (kind_of t))) }
+{
+    may_open(alloc, env, w.place, x)?;
+    Ok(Ty::Mut(Places::one(alloc, x)?))
+}
+
+/// The type of a box around a value of this type; a fault stands at this place.
+pub fn in_box(alloc: Global, t: Ty, place: u32) -> Result<Ty, CheckError>
+    ensures follows { Follows result (box_rule place (kind_of t)) }
+    ensures below { IfOk result (λ u. kind_places (kind_of u) ≡ []) }
+{
+    if !is_owned(&t) {
+        return Err(CheckError::Fault {
+            place,
+            reason: Reason::NotOwned,
+        });
+    }
+    let held = t.into_owned(alloc)?;
+    if is_full(&held) {
+        return Err(CheckError::Fault {
+            place,
+            reason: Reason::NotOwned,
+        });
+    }
+    Ok(Ty::Box(held))
+}
+
+/// The check that a value of this type is a number; a fault stands at this place.
+pub fn number(t: &Ty, place: u32) -> Result<(), CheckError>
+    ensures { (rest : Outcome) → Passes result (int_rule place (kind_of t.now) rest) rest }
+{
+    if is_int(t) {
+        Ok(())
+    } else {
+        Err(CheckError::Fault {
+            place,
+            reason: Reason::WrongType,
+        })
+    }
+}
+
+/// The type of a print of a value of this type; a fault stands at this place.
+pub fn printed(t: &Ty, place: u32) -> Result<Ty, CheckError>
+    ensures follows { Follows result (print_rule place (kind_of t.now)) }
+    ensures below { IfOk result (λ u. kind_places (kind_of u) ≡ []) }
+{
+    number(t, place)?;
+    Ok(Ty::Unit)
+}
+
+/// The type of arithmetic with a right operand of this type; a fault stands at this place.
+pub fn combined(t: &Ty, place: u32) -> Result<Ty, CheckError>
+    ensures follows { Follows result (arith_rule place (kind_of t.now)) }
+    ensures below { IfOk result (λ u. kind_places (kind_of u) ≡ []) }
+{
+    number(t, place)?;
+    Ok(Ty::Int)
+}
+
+/// A new variable of that type, by a `let` at this place.
+pub fn bind(env: &mut Env, name: u32, t: Ty, place: u32) -> Result<Ty, CheckError>
+    requires below { AreBelow (length env.old) (kind_places (kind_of t)) }
+    requires few { length env.old < 268435456 }
+    ensures gives { (names : List Text) → IsInScope names env.old → name < length names → Gives result (let_rule place (text_of names name) (kind_of t) (env_of names env.old)) (env_of names env.new) }
+    ensures unit { IfOk result (λ u. kind_of u ≡ own unit) }
+    ensures scope { OnOk result ((names : List Text) → IsInScope names env.old → name < length names → IsInScope names env.new) }
+    ensures one { OnOk result (length env.new ≡ length env.old + 1) }
+{
+    if env.find(name).is_some() {
+        return Err(CheckError::Fault {
+            place,
+            reason: Reason::NameInScope,
+        });
+    }
+    env.push(Some(name), Part::Whole(t))?;
+    Ok(Ty::Unit)
+}
+
+// The checks that the place may be written to.
+fn may_open(alloc: Global, env: &Env, at: u32, to: Lval) -> Result<(), CheckError>
+    requires here { to.slot < length env.now }
+    ensures { (names : List Text) (rest : Outcome) → Passes result (when_open (env_of names env.now) at to rest) rest }
+{
+    if env.write_blocked(to.slot) {
+        return Err(CheckError::Fault {
+            place: at,
+            reason: Reason::WriteBlocked,
+        });
+    }
+    if !is_writable(alloc, env, to)? {
+        return Err(CheckError::Fault {
+            place: at,
+            reason: Reason::NotWritable,
+        });
+    }
+    Ok(())
+}
+
+// Whether the type is a reference or a view, to be written under a star.
+fn is_kept_out(t: &Ty, stars: u8) -> bool
+    ensures { result ≡ is_kept_out (kind_of t.now) stars }
+{
+    !is_owned(t) && stars > 0
+}
+
+// The checks that the type may be written at a place where this part stands.
+fn may_hold(
+    alloc: Global,
+    env: &Env,
+    at: u32,
+    x: Lval,
+    part: &Part,
+    t: &Ty,
+) -> Result<(), CheckError>
+    requires part { AreBelow (length env.now) (piece_places (piece_of part.now)) }
+    requires below { AreBelow (length env.now) (kind_places (kind_of t.now)) }
+    ensures passes { (names : List Text) (rest : Outcome) → Passes result (when_fitting (env_of names env.now) at x (piece_of part.now) (kind_of t.now) rest) rest }
+    ensures stays { OnOk result (names_from x.slot (kind_of t.now) ≡ false) }
+{
+    if is_kept_out(t, x.depth) {
+        return Err(CheckError::Fault {
+            place: at,
+            reason: Reason::NotOwned,
+        });
+    }
+    if !has_shape_of(alloc, env, part, t)? {
+        return Err(CheckError::Fault {
+            place: at,
+            reason: Reason::WrongType,
+        });
+    }
+    if names_from(t, x.slot) {
+        return Err(CheckError::Fault {
+            place: at,
+            reason: Reason::Outlives,
+        });
+    }
+    Ok(())
+}
+
+// What was written stands at the place, unless a mutable reference leads there.
+fn set_through(alloc: Global, env: &mut Env, x: Lval, t: Ty) -> Result<(), NoMemory>
+    requires here { x.slot < length env.old }
+    requires below { AreBelow x.slot (kind_places (kind_of t)) }
+    ensures set { OnOk result ((names : List Text) → env_of names env.new ≡ set_through (env_of names env.old) x (kind_of t)) }
+    ensures names { OnOk result ((name : ℕ) → slot_in env.new name ≡ slot_in env.old name) }
+    ensures same { OnOk result (length env.new ≡ length env.old) }
+{
+    if goes_through_mutable(alloc, env, x)? {
+        return Ok(());
+    }
+    env.put(alloc, x, Part::Whole(t))
+}
+
+/// An assignment of a value of this type to a place that is found, where this part stands.
+pub fn write(
+    alloc: Global,
+    env: &mut Env,
+    w: Written,
+    x: Lval,
+    part: Part,
+    t: Ty,
+    value: u32,
+) -> Result<Ty, CheckError>
+    requires here { x.slot < length env.old }
+    requires part { AreBelow (length env.old) (piece_places (piece_of part)) }
+    requires below { AreBelow (length env.old) (kind_places (kind_of t)) }
+    ensures gives { (names : List Text) → Gives result (write_rule (env_of names env.old) (spot_of names w) value (kind_of t) x (piece_of part)) (env_of names env.new) }
+    ensures unit { IfOk result (λ u. kind_of u ≡ own unit) }
+    ensures names { OnOk result ((name : ℕ) → slot_in env.new name ≡ slot_in env.old name) }
+    ensures same { OnOk result (length env.new ≡ length env.old) }
+{
+    may_open(alloc, env, w.place, x)?;
+    may_hold(alloc, env, value, x, &part, &t)?;
+    drop(part);
+    set_through(alloc, env, x, t)?;
+    Ok(Ty::Unit)
+}
+
+// Only the first slots stay, so many of them.
+fn keep(env: &mut Env, base: u32)
+    requires { base ≤ length env.old }
+    ensures { env.new ≡ drop (length env.old - base) env.old }
+{
+    'slots: while env.len() > base {
+        drop(env.pop());
+    }
+}
+
+/// The end of a block that began with so many slots and ends with a value of this type, from an item at `last`.
+pub fn end_block(env: &mut Env, base: u32, t: Ty, last: u32) -> Result<Ty, CheckError>
+    requires base { base ≤ length env.old }
+    ensures gives { (names : List Text) → Gives result (end_rule base (kind_of t) last (env_of names env.old)) (env_of names env.new) }
+    ensures below { IfOk result (λ u. AreBelow (length env.new) (kind_places (kind_of u))) }
+    ensures scope { OnOk result ((names : List Text) → IsInScope names env.old → IsInScope names env.new) }
+    ensures base { OnOk result (length env.new ≡ base) }
+{
+    if names_from(&t, base) {
+        return Err(CheckError::Fault {
+            place: last,
+            reason: Reason::Outlives,
+        });
+    }
+    keep(env, base);
+    Ok(t)
+}
