@@ -8,8 +8,8 @@ use Rattle.fr_parse.specs.Grammar as grammar
 use Rattle.fr_syntax.specs.Tokens.{AreTokens}
 use Rattle.fr_parse.specs.Source.{Spelled}
 use Rattle.fr_syntax.proofs.NameTexts.{names_apart}
-use Rattle.fr_meaning.specs.Rules.{AreDifferentTexts}
-use Rattle.fr_meaning.specs.Programs.{IsBlock, IsCheckable}
+use Rattle.borrow_check.specs.Rules.{AreDifferentTexts}
+use Rattle.borrow_check.specs.Programs.{IsBlock, IsCheckable}
 use Rattle.drust_main.specs.Forms.{later_form}
 use Rattle.drust_main.proofs.FormLemmas.{accepted_by}
 
@@ -23,7 +23,7 @@ checkable bytes ts names tree tokens spelled none same whole =
     record {
       tree = whole;
       within = spelled.limits;
-      accepted = accepted_by (term_of tree) none;
+      sequential = accepted_by (term_of tree) none;
       block = is_block (term_of tree) spelled.grammar.0;
       names = subst AreDifferentTexts (sym same) (names_apart bytes ts names tokens);
     }

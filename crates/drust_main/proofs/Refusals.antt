@@ -1,7 +1,7 @@
 -- Why a source has no run: causes, and that they exclude one another.
 use Rattle.std.proofs.Common.{◌≡◌, ◌≢◌, ℕ, List, [], Some, None, sym, ap, ap₂, ◌∙◌, refl, subst}
 use Rattle.fr_terms.specs.Terms.{Text, Term}
-use Rattle.fr_terms.specs.Limits.{IsAccepted}
+use Rattle.fr_typing.specs.Sequential.{IsSequential}
 use Rattle.fr_typing.specs.declared.reason.Reason.{Reason}
 use Rattle.fr_typing.specs.Typing.{Faults}
 use Rattle.fr_typing.proofs.Outcomes.{one_outcome_lem}
@@ -51,13 +51,13 @@ one_form bytes p q h g =
     cc
 
 -- the source of a program of accepted forms has none
-pub accepted_has_none : (bytes : List ℕ) (t : Term) (p : ℕ) → IsSource bytes t → IsAccepted t → HasLaterForm bytes p → ⊥
+pub accepted_has_none : (bytes : List ℕ) (t : Term) (p : ℕ) → IsSource bytes t → IsSequential t → HasLaterForm bytes p → ⊥
 accepted_has_none bytes t p s ok h =
     let bad : None ≡ Some p = sym (none_later t ok) ∙ ap later_form (source_once bytes t h.term s h.source) ∙ h.first in
     cc
 
 -- a source with a fault
-pub faulty : (bytes : List ℕ) (t : Term) (at : ℕ) (reason : Reason) → IsSource bytes t → IsAccepted t → Faults [] t at reason → IsFaulty bytes at reason
+pub faulty : (bytes : List ℕ) (t : Term) (at : ℕ) (reason : Reason) → IsSource bytes t → IsSequential t → Faults [] t at reason → IsFaulty bytes at reason
 faulty bytes t at reason s ok f = record { term = t; source = s; accepted = ok; faults = f }
 
 -- bytes have one first fault at most

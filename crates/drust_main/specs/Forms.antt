@@ -14,9 +14,9 @@ abbrev mutual
   later_form (unit_t at) = None
   later_form (box_t at value) = later_form value
   later_form (print_t at value) = later_form value
-  later_form (borrow_t at of) = Some at
-  later_form (borrow_mut_t at of) = Some at
-  later_form (arith_t at op left right) = Some at
+  later_form (borrow_t at of) = None
+  later_form (borrow_mut_t at of) = None
+  later_form (arith_t at op left right) = option_or (later_form left) (later_form right)
   later_form (join_t at task) = Some at
   later_form (mutex_t at value) = Some at
   later_form (dup_t at of) = Some at

@@ -3,7 +3,7 @@
 use Rattle.std.specs.Prelude.{◌≡◌, ℕ, ◌<◌, ◌≤◌, ◌⊎◌, true, false, ⊤, List, [], length, take, codes, Option, Some, None}
 use Rattle.fr_base.specs.declared.step.Ending3.TheVariants as ending
 use Rattle.fr_terms.specs.Terms.{Term}
-use Rattle.fr_terms.specs.Limits.{IsAccepted}
+use Rattle.fr_typing.specs.Sequential.{IsSequential}
 use Rattle.fr_typing.specs.Kinds.{Kind}
 use Rattle.fr_typing.specs.Places.{Env}
 use Rattle.fr_typing.specs.Typing.{Types}
@@ -23,7 +23,7 @@ limit = 1048576
 -- the bytes are the source of this program of accepted forms, and typing types it
 pub record IsTyped (bytes : List ℕ) (t : Term) : Type 0 where
   pub source : IsSource bytes t
-  pub accepted : IsAccepted t
+  pub accepted : IsSequential t
   pub kind : Kind
   pub after : Env
   pub types : Types [] t kind after

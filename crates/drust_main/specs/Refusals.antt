@@ -1,7 +1,7 @@
 -- Why a source has no run, and what is written then (this project's format). A place is a byte of the input, from 0.
 use Rattle.std.specs.Prelude.{◌≡◌, ℕ, List, [], ◌++◌, Some, codes, decimal}
 use Rattle.fr_terms.specs.Terms.{Text, Term}
-use Rattle.fr_terms.specs.Limits.{IsAccepted}
+use Rattle.fr_typing.specs.Sequential.{IsSequential}
 use Rattle.fr_typing.specs.declared.reason.Reason.{Reason}
 use Rattle.fr_typing.specs.declared.reason.Reason.TheVariants.{UnknownName, NameInScope, NotDefined, NoTarget, ReadBlocked, WriteBlocked, MovedThrough, NotWritable, WrongType, Outlives, NotOwned, NotFull}
 use Rattle.fr_typing.specs.Typing.{Faults}
@@ -34,7 +34,7 @@ pub record HasLaterForm (bytes : List ℕ) (place : ℕ) : Type 0 where
 pub record IsFaulty (bytes : List ℕ) (place : ℕ) (why : Reason) : Type 0 where
   pub term : Term
   pub source : IsSource bytes term
-  pub accepted : IsAccepted term
+  pub accepted : IsSequential term
   pub faults : Faults [] term place why
 
 -- the cause of a refusal

@@ -26,9 +26,14 @@ fn later_at(tree: &Tree, at: u32) -> Option<u32>
         unreachable!()
     };
     match &node.term {
-        Term::Number(_) | Term::Unit | Term::Read(_) => None,
+        Term::Number(_) | Term::Unit => None,
+        Term::Read(_) | Term::Borrow(_) | Term::BorrowMut(_) => None,
         Term::Let(_, value) | Term::Assign(_, value) => later_at(tree, *value),
         Term::Box(value) | Term::Print(value) => later_at(tree, *value),
+        Term::Arith(_, left, right) => match later_at(tree, *left) {
+            Some(place) => Some(place),
+            None => later_at(tree, *right),
+        },
         Term::Block(items) => later_among(tree, at, items),
         _ => Some(node.place),
     }

@@ -7,8 +7,12 @@ mod refused;
 mod report;
 mod run;
 #[cfg(test)]
+mod run_tests;
+#[cfg(test)]
 mod tests;
 mod top;
+#[cfg(test)]
+mod typing_tests;
 mod words;
 
 use crate::top::drust;

@@ -3,7 +3,7 @@
 ghost use Rattle.std.specs.Prelude.{◌≡◌, ◌≢◌, ◌+◌, ◌≤◌, ◌<◌, ◌^◌, ℕ, List, Some, IfOk, IfErr, OnOk, length, string_bytes};
 ghost use Rattle.fr_base.specs.declared.step.Ending3.TheVariants as ending;
 ghost use Rattle.fr_terms.specs.Terms.{Text, Term as SourceTerm};
-ghost use Rattle.fr_terms.specs.Limits.{IsAccepted};
+ghost use Rattle.fr_typing.specs.Sequential.{IsSequential};
 ghost use Rattle.fr_syntax.specs.declared.token.Token.{Token};
 ghost use Rattle.fr_syntax.specs.Tokens.{AreTokens, IsRefusedOrNoMemory};
 ghost use Rattle.fr_parse.specs.Source.{IsSource};
@@ -11,7 +11,7 @@ ghost use Rattle.fr_parse.specs.Table.{refusal};
 ghost use Rattle.fr_syntax.specs.Meanings.{term_of};
 ghost use Rattle.fr_plain.specs.Whole.{start, ending_of};
 ghost use Rattle.fr_plain.specs.Resolve.{program};
-ghost use Rattle.fr_meaning.specs.Programs.{IsFault};
+ghost use Rattle.borrow_check.specs.Programs.{IsFault};
 ghost use Rattle.fr_meaning.specs.PoolView.{whole_of, steps_left_of};
 ghost use Rattle.drust_main.specs.Headline.{IsTyped, Runs, Replies, limit};
 ghost use Rattle.drust_main.specs.Runs.{IsRefusedBy, Goes};
@@ -19,8 +19,9 @@ ghost use Rattle.drust_main.specs.Runs.{IsRefusedBy, Goes};
 use crate::forms::later_form;
 use crate::refused::Refused;
 use crate::report::report_text;
+use borrow_check::{CheckError, Checked, check};
 use fr_base::{Ending3, Fresh, NoMemory, ThreadNo};
-use fr_meaning::{CheckError, Checked, Pool, StepError, check};
+use fr_meaning::{Pool, StepError};
 use fr_parse::{ParseError, parse};
 use fr_syntax::{TokenError, tokens};
 use std::alloc::Global;
@@ -48,7 +49,7 @@ fn refused_term(error: ParseError) -> Refused
 // What a refusal of the checker says of the source.
 #[tactic(auto, using(crate::proofs::Refusals::faulty))]
 fn refused_types(error: CheckError) -> Refused
-    ensures { (bytes : List ℕ) (t : SourceTerm) → IsSource bytes t → IsAccepted t → IsFault error t → IsRefusedBy bytes result }
+    ensures { (bytes : List ℕ) (t : SourceTerm) → IsSource bytes t → IsSequential t → IsFault error t → IsRefusedBy bytes result }
 {
     match error {
         CheckError::Fault { place, reason } => Refused::Fault { place, reason },

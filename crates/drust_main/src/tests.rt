@@ -24,8 +24,8 @@ fn words_of(alloc: Global, texts: &[&str]) -> Result<Vec<String>, Fail> {
     Ok(words)
 }
 
-// Answers words and an input, of which a call gives or takes `most` bytes.
-fn answers<R: Threads + Wait + Abort + Sync>(
+/// Answers words and an input, of which a call gives or takes `most` bytes.
+pub fn answers<R: Threads + Wait + Abort + Sync>(
     rt: &R,
     alloc: Global,
     words: &[&str],
@@ -55,8 +55,8 @@ fn takes_and_gives_a_byte_at_a_time(rt: HostRuntime) -> Result<(), Fail> {
     answers(&rt, rt.alloc(), &["run"], FIRST, 1, 0, FIRST_REPORT)
 }
 
-// Answers `run` and an input with a refusal: a status and a line.
-fn refuses<R: Threads + Wait + Abort + Sync>(
+/// Answers `run` and an input with a refusal: a status and a line.
+pub fn refuses<R: Threads + Wait + Abort + Sync>(
     rt: &R,
     alloc: Global,
     input: &[u8],
@@ -64,6 +64,20 @@ fn refuses<R: Threads + Wait + Abort + Sync>(
     text: &[u8],
 ) -> Result<(), Fail> {
     answers(rt, alloc, &["run"], input, 64, status, text)
+}
+
+/// Runs an input to its end, whatever it prints.
+pub fn accepts<R: Threads + Wait + Abort + Sync>(
+    rt: &R,
+    alloc: Global,
+    input: &[u8],
+) -> Result<(), Fail> {
+    let words = words_of(alloc, &["run"])?;
+    let mut source = MemorySource::new(input.to_vec(alloc)?, 4096, Vec::new(alloc));
+    let mut sink = MemorySink::new(alloc, 4096, Vec::new(alloc));
+    let outcome = drust(rt, alloc, &words, &mut source, &mut sink, &NoGate);
+    assert_eq!(rt; outcome.status, 0);
+    Ok(())
 }
 
 #[test]
@@ -149,12 +163,12 @@ fn tells_the_first_form_of_a_later_day(rt: HostRuntime) -> Result<(), Fail> {
             b"refused form at 14\n".as_slice(),
         ),
         (
-            b"{ let mut x = 1; let mut r = &x }".as_slice(),
-            b"refused form at 29\n".as_slice(),
+            b"{ let mut x = 1; let mut r = &x; print (dup r + join h) }".as_slice(),
+            b"refused form at 40\n".as_slice(),
         ),
         (
-            b"{ print (1 + 2); &mut x }".as_slice(),
-            b"refused form at 8\n".as_slice(),
+            b"{ print (1 + join h); &mut x }".as_slice(),
+            b"refused form at 13\n".as_slice(),
         ),
         (
             b"{ { 1; box join h } ; dup m }".as_slice(),

@@ -3,10 +3,10 @@ use Rattle.std.proofs.Common.{◌≡◌, ℕ, zero, suc, ◌+◌, ◌-◌, ◌<�
 use Rattle.std.specs.Prelude.{max, if◌then◌else◌}
 use Rattle.fr_terms.specs.Terms.{Text, block_t, let_t, assign_t, read_t, borrow_t, borrow_mut_t, number_t, unit_t, box_t, print_t, arith_t, join_t, mutex_t, dup_t, lock_t, spawn_t, par_t, Items, none, item}
 use Rattle.fr_terms.specs.Terms as terms
-use Rattle.fr_terms.specs.Limits.{levels, levels_of, IsWithinLimits, IsAccepted}
+use Rattle.fr_terms.specs.Limits.{levels, levels_of, IsWithinLimits}
+use Rattle.fr_typing.specs.Sequential.{IsSequential}
 use Rattle.fr_typing.specs.Places.{Env}
 use Rattle.fr_typing.proofs.Agree.{exactly_one_lem}
-use Rattle.fr_typing.proofs.Sequential.{accepted_items}
 use Rattle.fr_syntax.specs.declared.tree.Term.{Term}
 use Rattle.fr_syntax.specs.declared.tree.Term.TheVariants.{Block, Let, Assign, Read, Dup, Borrow, BorrowMut, Number, Unit, Box, Print, Join, Mutex, Arith, Spawn, Par, Lock, Place, Capture}
 use Rattle.fr_syntax.specs.declared.tree.Node.{Node}
@@ -27,13 +27,13 @@ use Rattle.fr_meaning.specs.FormTerms as forms
 use Rattle.fr_meaning.specs.FormTerms.{build, run_at, NamesBelow, AreStacked, AreInOrder}
 use Rattle.fr_meaning.specs.SlotOrder.{onto, newest_first}
 use Rattle.fr_meaning.specs.PoolView as pool
-use Rattle.fr_meaning.specs.Programs.{Program, IsBlock, IsChecked}
-use Rattle.fr_meaning.specs.Forming.{count_at, count_of, AreFew, IsBlockOf, IsMade}
+use Rattle.borrow_check.specs.Programs.{Program, takes_of, IsBlock, IsChecked}
+use Rattle.fr_meaning.specs.Forming.{place_in, clipped, count_at, count_of, IsBlockOf, IsMade}
 use Rattle.fr_meaning.specs.Resolved.{IsTypedIn, IsRun, AreCounts, IsBuilt}
-use Rattle.fr_meaning.proofs.ScopeLemmas.{eq_cases}
+use Rattle.fr_typing.proofs.PlaceLemmas.{eq_cases}
 use Rattle.fr_meaning.proofs.SlotLemmas.{length_onto}
 use Rattle.fr_meaning.proofs.FormLemmas.{push_same}
-use Rattle.fr_meaning.proofs.TermLemmas.{IsHere}
+use Rattle.borrow_check.proofs.TermLemmas.{IsHere}
 use Rattle.fr_meaning.proofs.ResolveLemmas.{term_is, made_is, made_runs}
 
 -- ONE FORM MORE
@@ -71,87 +71,88 @@ count_pushed : (cs : List ℕ) (c : ℕ) → count_at (cs ++ c ∷ []) (length c
 count_pushed [] c = refl
 count_pushed (x ∷ cs) c = count_pushed cs c
 
-count_beyond : (cs : List ℕ) (i : ℕ) → length cs ≤ i → count_at cs i ≡ 0
-count_beyond [] i le = refl
-count_beyond (x ∷ cs) zero le = absurd (omega arith)
-count_beyond (x ∷ cs) (suc i) le = count_beyond cs i (omega arith)
-
-count_few : (cs : List ℕ) (at : ℕ) (f : Form) → AreFew cs → NamesBelow at f → count_of cs f ≤ at + 1
-count_few cs at (form.Let v) few below = omega (arith, few v, below)
-count_few cs at (form.Assign w v) few below = omega (arith, few v, below)
-count_few cs at (form.Box v) few below = omega (arith, few v, below)
-count_few cs at (form.Print v) few below = omega (arith, few v, below)
-count_few cs at (form.Number n) few below = omega arith
-count_few cs at form.Unit few below = omega arith
-count_few cs at (form.Read w t) few below = omega arith
-count_few cs at (form.Block is k) few below = omega arith
-count_few cs at form.Place few below = omega arith
-
-few_pushed : (cs : List ℕ) (c : ℕ) → AreFew cs → c ≤ length cs + 1 → AreFew (cs ++ c ∷ [])
-few_pushed cs c few le = λ i.
-    eq_cases (λ b. count_at (cs ++ c ∷ []) i ≤ i + 1) i (length cs)
-    (λ same. omega (arith, ap (count_at (cs ++ c ∷ [])) same, count_pushed cs c, le, same))
-    (λ ne. eq_cases (λ b. count_at (cs ++ c ∷ []) i ≤ i + 1) (length cs - i) 0
-    (λ gone. omega (arith, count_beyond (cs ++ c ∷ []) i (omega (arith, gone, ne, length-append cs (c ∷ [])))))
-    (λ here. omega (arith, count_kept cs c i (omega (arith, here)), few i)))
-
 -- a form with no variable of its own, of a term with none
-none_counted : (p : Program) (cs : List ℕ) (at : ℕ) (n : Node) (m : Term) (t : terms.Term) (f g : Form) → IsHere p.arena at n → n.term ≡ m → stands_for p.arena.names (meanings p.arena) n.place m ≡ a_term t → f ≡ g → count_of cs g ≡ 0 → lets_in t ≡ 0 → count_of cs f ≡ lets_in (term_at (meanings p.arena) at)
-none_counted p cs at n m t f g h is stands made zero_f zero_t = ap (count_of cs) made ∙ zero_f ∙ sym zero_t ∙ sym (ap lets_in (term_is p.arena at n m t h is stands))
+none_counted : (p : Program) (cs : List ℕ) (at : ℕ) (n : Node) (m : Term) (t : terms.Term) (f g : Form) → IsHere p.arena at n → n.term ≡ m → stands_for p.arena.names (meanings p.arena) n.place m ≡ a_term t → f ≡ g → count_of cs g ≡ 0 → lets_in t ≡ 0 → count_of cs f ≡ clipped (lets_in (term_at (meanings p.arena) at))
+none_counted p cs at n m t f g h is stands made zero_f zero_t =
+    let e = ap lets_in (term_is p.arena at n m t h is stands) in
+    omega (arith, ap (count_of cs) made, zero_f, zero_t, e)
 
 block_counted : (cs items : List ℕ) (f : Form) → IsBlockOf cs items f → count_of cs f ≡ 0
 block_counted cs items (form.Block is k) h = refl
 block_counted cs items (form.Number n) h = absurd h
 block_counted cs items form.Unit h = absurd h
 block_counted cs items (form.Read w t) h = absurd h
+block_counted cs items (form.Borrow w) h = absurd h
+block_counted cs items (form.Arith op l r) h = absurd h
 block_counted cs items (form.Box v) h = absurd h
 block_counted cs items (form.Let v) h = absurd h
 block_counted cs items (form.Print v) h = absurd h
 block_counted cs items (form.Assign w v) h = absurd h
 block_counted cs items form.Place h = absurd h
 
--- a form declares as many variables as its node's term
-made_counted : (p : Program) (cs : List ℕ) (at : ℕ) (n : Node) (f : Form) → IsHere p.arena at n → AreCounts p cs → length cs ≡ at → IsMade p cs at n.term f → (m : Term) → n.term ≡ m → IsAccepted (term_at (meanings p.arena) at) → count_of cs f ≡ lets_in (term_at (meanings p.arena) at)
+-- the forms of a term of this node
+sequential_here : (p : Program) (at : ℕ) (n : Node) (m : Term) (t : terms.Term) → IsHere p.arena at n → n.term ≡ m → stands_for p.arena.names (meanings p.arena) n.place m ≡ a_term t → IsSequential (term_at (meanings p.arena) at) → IsSequential t
+sequential_here p at n m t h is stands ok = subst IsSequential (term_is p.arena at n m t h is stands) ok
+
+-- a form with one part, of a term that declares as many variables as its part
+one_counted : (p : Program) (cs : List ℕ) (at v : ℕ) (n : Node) (m : Term) (t : terms.Term) (f g : Form) → IsHere p.arena at n → AreCounts p cs → length cs ≡ at → n.term ≡ m → stands_for p.arena.names (meanings p.arena) n.place m ≡ a_term t → f ≡ g → count_of cs g ≡ count_at cs v → lets_in t ≡ lets_in (term_at (meanings p.arena) v) → v < at → IsSequential (term_at (meanings p.arena) v) → count_of cs f ≡ clipped (lets_in (term_at (meanings p.arena) at))
+one_counted p cs at v n m t f g h c same is stands made one lets lt part =
+    let e = ap lets_in (term_is p.arena at n m t h is stands) in
+    omega (arith, ap (count_of cs) made, one, c v (omega (arith, lt, same)) part, e, lets)
+
+-- a form declares as many variables as its node's term, as far as a 32-bit number tells
+made_counted : (p : Program) (cs : List ℕ) (at : ℕ) (n : Node) (f : Form) → IsHere p.arena at n → AreCounts p cs → length cs ≡ at → IsMade p cs at n.term f → (m : Term) → n.term ≡ m → IsSequential (term_at (meanings p.arena) at) → count_of cs f ≡ clipped (lets_in (term_at (meanings p.arena) at))
 made_counted p cs at n f h c same made (Number v) is ok = none_counted p cs at n (Number v) (number_t n.place v) f (form.Number v) h is refl (made_is p cs at n (Number v) f is made) refl refl
 made_counted p cs at n f h c same made Unit is ok = none_counted p cs at n Unit (unit_t n.place) f form.Unit h is refl (made_is p cs at n Unit f is made) refl refl
-made_counted p cs at n f h c same made (Read from) is ok = ap (count_of cs) (made_is p cs at n (Read from) f is made) ∙ sym (ap lets_in (term_is p.arena at n (Read from) (read_t n.place (place_at (meanings p.arena) from)) h is refl))
+made_counted p cs at n f h c same made (Read from) is ok = none_counted p cs at n (Read from) (read_t n.place (place_at (meanings p.arena) from)) f (form.Read (place_in p from) (takes_of p at)) h is refl (made_is p cs at n (Read from) f is made) refl refl
+made_counted p cs at n f h c same made (Borrow of) is ok = none_counted p cs at n (Borrow of) (borrow_t n.place (place_at (meanings p.arena) of)) f (form.Borrow (place_in p of)) h is refl (made_is p cs at n (Borrow of) f is made) refl refl
+made_counted p cs at n f h c same made (BorrowMut of) is ok = none_counted p cs at n (BorrowMut of) (borrow_mut_t n.place (place_at (meanings p.arena) of)) f (form.Borrow (place_in p of)) h is refl (made_is p cs at n (BorrowMut of) f is made) refl refl
 made_counted p cs at n f h c same made (Box v) is ok =
-    let part = subst IsAccepted (term_is p.arena at n (Box v) (box_t n.place (term_at (meanings p.arena) v)) h is refl) ok in
-    let lt : v < at = (subst (AreBelow (meanings p.arena) at) (ap needs is) h.parts).0 in
-    ap (count_of cs) (made_is p cs at n (Box v) f is made) ∙ c v (omega (arith, lt, same)) part ∙ sym (ap lets_in (term_is p.arena at n (Box v) (box_t n.place (term_at (meanings p.arena) v)) h is refl))
+    let t = box_t n.place (term_at (meanings p.arena) v) in
+    let part : IsSequential (term_at (meanings p.arena) v) = sequential_here p at n (Box v) t h is refl ok in
+    one_counted p cs at v n (Box v) t f (form.Box v) h c same is refl (made_is p cs at n (Box v) f is made) refl refl (subst (AreBelow (meanings p.arena) at) (ap needs is) h.parts).0 part
 made_counted p cs at n f h c same made (Print v) is ok =
-    let part = subst IsAccepted (term_is p.arena at n (Print v) (print_t n.place (term_at (meanings p.arena) v)) h is refl) ok in
-    let lt : v < at = (subst (AreBelow (meanings p.arena) at) (ap needs is) h.parts).0 in
-    ap (count_of cs) (made_is p cs at n (Print v) f is made) ∙ c v (omega (arith, lt, same)) part ∙ sym (ap lets_in (term_is p.arena at n (Print v) (print_t n.place (term_at (meanings p.arena) v)) h is refl))
-made_counted p cs at n f h c same made (Let name v) is ok =
-    let part = subst IsAccepted (term_is p.arena at n (Let name v) (let_t n.place (text_of p.arena.names name) (term_at (meanings p.arena) v)) h is refl) ok in
-    let lt : v < at = (subst (AreBelow (meanings p.arena) at) (ap needs is) h.parts).0 in
-    let t = ap lets_in (term_is p.arena at n (Let name v) (let_t n.place (text_of p.arena.names name) (term_at (meanings p.arena) v)) h is refl) in
-    omega (arith, ap (count_of cs) (made_is p cs at n (Let name v) f is made), c v (omega (arith, lt, same)) part, t)
+    let t = print_t n.place (term_at (meanings p.arena) v) in
+    let part : IsSequential (term_at (meanings p.arena) v) = sequential_here p at n (Print v) t h is refl ok in
+    one_counted p cs at v n (Print v) t f (form.Print v) h c same is refl (made_is p cs at n (Print v) f is made) refl refl (subst (AreBelow (meanings p.arena) at) (ap needs is) h.parts).0 part
 made_counted p cs at n f h c same made (Assign to v) is ok =
-    let part = subst IsAccepted (term_is p.arena at n (Assign to v) (assign_t n.place (place_at (meanings p.arena) to) (term_at (meanings p.arena) v)) h is refl) ok in
-    let lt : v < at = (subst (AreBelow (meanings p.arena) at) (ap needs is) h.parts).2.0 in
-    ap (count_of cs) (made_is p cs at n (Assign to v) f is made) ∙ c v (omega (arith, lt, same)) part ∙ sym (ap lets_in (term_is p.arena at n (Assign to v) (assign_t n.place (place_at (meanings p.arena) to) (term_at (meanings p.arena) v)) h is refl))
+    let t = assign_t n.place (place_at (meanings p.arena) to) (term_at (meanings p.arena) v) in
+    let part : IsSequential (term_at (meanings p.arena) v) = sequential_here p at n (Assign to v) t h is refl ok in
+    one_counted p cs at v n (Assign to v) t f (form.Assign (place_in p to) v) h c same is refl (made_is p cs at n (Assign to v) f is made) refl refl (subst (AreBelow (meanings p.arena) at) (ap needs is) h.parts).2.0 part
+made_counted p cs at n f h c same made (Let name v) is ok =
+    let t = let_t n.place (text_of p.arena.names name) (term_at (meanings p.arena) v) in
+    let part : IsSequential (term_at (meanings p.arena) v) = sequential_here p at n (Let name v) t h is refl ok in
+    let lt : v < at = (subst (AreBelow (meanings p.arena) at) (ap needs is) h.parts).0 in
+    let e = ap lets_in (term_is p.arena at n (Let name v) t h is refl) in
+    omega (arith, ap (count_of cs) (made_is p cs at n (Let name v) f is made), c v (omega (arith, lt, same)) part, e)
+made_counted p cs at n f h c same made (Arith op left right) is ok =
+    let t = arith_t n.place op (term_at (meanings p.arena) left) (term_at (meanings p.arena) right) in
+    let both : IsSequential (term_at (meanings p.arena) left) × IsSequential (term_at (meanings p.arena) right) = sequential_here p at n (Arith op left right) t h is refl ok in
+    let below = subst (AreBelow (meanings p.arena) at) (ap needs is) h.parts in
+    let first : left < at = below.0 in
+    let second : right < at = below.2.0 in
+    let e = ap lets_in (term_is p.arena at n (Arith op left right) t h is refl) in
+    omega (arith, ap (count_of cs) (made_is p cs at n (Arith op left right) f is made), c left (omega (arith, first, same)) both.0, c right (omega (arith, second, same)) both.1, e)
 made_counted p cs at n f h c same made (Block items) is ok =
-    block_counted cs items.items f (made_is p cs at n (Block items) f is made) ∙ sym (ap lets_in (term_is p.arena at n (Block items) (block_t n.place (items_at (meanings p.arena) items.items)) h is refl))
-made_counted p cs at n f h c same made (Dup of) is ok = none_counted p cs at n (Dup of) (dup_t n.place (place_at (meanings p.arena) of)) f form.Place h is refl (made_is p cs at n (Dup of) f is made) refl refl
-made_counted p cs at n f h c same made (Borrow of) is ok = none_counted p cs at n (Borrow of) (borrow_t n.place (place_at (meanings p.arena) of)) f form.Place h is refl (made_is p cs at n (Borrow of) f is made) refl refl
-made_counted p cs at n f h c same made (BorrowMut of) is ok = none_counted p cs at n (BorrowMut of) (borrow_mut_t n.place (place_at (meanings p.arena) of)) f form.Place h is refl (made_is p cs at n (BorrowMut of) f is made) refl refl
-made_counted p cs at n f h c same made (Join task) is ok = none_counted p cs at n (Join task) (join_t n.place (term_at (meanings p.arena) task)) f form.Place h is refl (made_is p cs at n (Join task) f is made) refl refl
-made_counted p cs at n f h c same made (Mutex v) is ok = none_counted p cs at n (Mutex v) (mutex_t n.place (term_at (meanings p.arena) v)) f form.Place h is refl (made_is p cs at n (Mutex v) f is made) refl refl
-made_counted p cs at n f h c same made (Arith op left right) is ok = absurd (subst IsAccepted (term_is p.arena at n (Arith op left right) (arith_t n.place op (term_at (meanings p.arena) left) (term_at (meanings p.arena) right)) h is refl) ok)
-made_counted p cs at n f h c same made (Spawn captures body) is ok = none_counted p cs at n (Spawn captures body) (spawn_t n.place (captures_at (meanings p.arena) captures.items) (term_at (meanings p.arena) body)) f form.Place h is refl (made_is p cs at n (Spawn captures body) f is made) refl refl
-made_counted p cs at n f h c same made (Par captures body others other) is ok = none_counted p cs at n (Par captures body others other) (par_t n.place (captures_at (meanings p.arena) captures.items) (term_at (meanings p.arena) body) (captures_at (meanings p.arena) others.items) (term_at (meanings p.arena) other)) f form.Place h is refl (made_is p cs at n (Par captures body others other) f is made) refl refl
-made_counted p cs at n f h c same made (Lock of name body) is ok = none_counted p cs at n (Lock of name body) (lock_t n.place (place_at (meanings p.arena) of) (text_of p.arena.names name) (term_at (meanings p.arena) body)) f form.Place h is refl (made_is p cs at n (Lock of name body) f is made) refl refl
+    let e = ap lets_in (term_is p.arena at n (Block items) (block_t n.place (items_at (meanings p.arena) items.items)) h is refl) in
+    omega (arith, block_counted cs items.items f (made_is p cs at n (Block items) f is made), e)
+made_counted p cs at n f h c same made (Dup of) is ok = absurd (sequential_here p at n (Dup of) (dup_t n.place (place_at (meanings p.arena) of)) h is refl ok)
+made_counted p cs at n f h c same made (Join task) is ok = absurd (sequential_here p at n (Join task) (join_t n.place (term_at (meanings p.arena) task)) h is refl ok)
+made_counted p cs at n f h c same made (Mutex v) is ok = absurd (sequential_here p at n (Mutex v) (mutex_t n.place (term_at (meanings p.arena) v)) h is refl ok)
+made_counted p cs at n f h c same made (Spawn captures body) is ok = absurd (sequential_here p at n (Spawn captures body) (spawn_t n.place (captures_at (meanings p.arena) captures.items) (term_at (meanings p.arena) body)) h is refl ok)
+made_counted p cs at n f h c same made (Par captures body others other) is ok = absurd (sequential_here p at n (Par captures body others other) (par_t n.place (captures_at (meanings p.arena) captures.items) (term_at (meanings p.arena) body) (captures_at (meanings p.arena) others.items) (term_at (meanings p.arena) other)) h is refl ok)
+made_counted p cs at n f h c same made (Lock of name body) is ok = absurd (sequential_here p at n (Lock of name body) (lock_t n.place (place_at (meanings p.arena) of) (text_of p.arena.names name) (term_at (meanings p.arena) body)) h is refl ok)
 made_counted p cs at n f h c same made (Place name stars) is ok =
-    ap (count_of cs) (made_is p cs at n (Place name stars) f is made) ∙ sym (ap (λ w. lets_in (as_term w)) (h.what ∙ ap (stands_for p.arena.names (meanings p.arena) n.place) is))
+    let e = ap (λ w. lets_in (as_term w)) (h.what ∙ ap (stands_for p.arena.names (meanings p.arena) n.place) is) in
+    omega (arith, ap (count_of cs) (made_is p cs at n (Place name stars) f is made), e)
 made_counted p cs at n f h c same made (Capture name) is ok =
-    ap (count_of cs) (made_is p cs at n (Capture name) f is made) ∙ sym (ap (λ w. lets_in (as_term w)) (h.what ∙ ap (stands_for p.arena.names (meanings p.arena) n.place) is))
+    let e = ap (λ w. lets_in (as_term w)) (h.what ∙ ap (stands_for p.arena.names (meanings p.arena) n.place) is) in
+    omega (arith, ap (count_of cs) (made_is p cs at n (Capture name) f is made), e)
 
-counts_pushed : (p : Program) (cs : List ℕ) (c : ℕ) → AreCounts p cs → (IsAccepted (term_at (meanings p.arena) (length cs)) → c ≡ lets_in (term_at (meanings p.arena) (length cs))) → AreCounts p (cs ++ c ∷ [])
+counts_pushed : (p : Program) (cs : List ℕ) (c : ℕ) → AreCounts p cs → (IsSequential (term_at (meanings p.arena) (length cs)) → c ≡ clipped (lets_in (term_at (meanings p.arena) (length cs)))) → AreCounts p (cs ++ c ∷ [])
 counts_pushed p cs c h is = λ i lt ok.
-    eq_cases (λ b. count_at (cs ++ c ∷ []) i ≡ lets_in (term_at (meanings p.arena) i)) i (length cs)
-    (λ same. ap (count_at (cs ++ c ∷ [])) same ∙ count_pushed cs c ∙ is (subst (λ k. IsAccepted (term_at (meanings p.arena) k)) same ok) ∙ ap (λ k. lets_in (term_at (meanings p.arena) k)) (sym same))
+    eq_cases (λ b. count_at (cs ++ c ∷ []) i ≡ clipped (lets_in (term_at (meanings p.arena) i))) i (length cs)
+    (λ same. ap (count_at (cs ++ c ∷ [])) same ∙ count_pushed cs c ∙ is (subst (λ k. IsSequential (term_at (meanings p.arena) k)) same ok) ∙ ap (λ k. clipped (lets_in (term_at (meanings p.arena) k))) (sym same))
     (λ ne. let here : i < length cs = omega (arith, lt, ne, length-append cs (c ∷ [])) in count_kept cs c i here ∙ h i here ok)
 
 -- BUILT
@@ -162,7 +163,6 @@ nothing_built p = record {
   runs = λ i lt. absurd (omega (arith, lt));
   same = refl;
   counted = λ i lt. absurd (omega (arith, lt));
-  few = λ i. omega arith;
 }
 
 -- the next node's form
@@ -170,7 +170,7 @@ pub built_push : (p : Program) (fs : List Form) (cs : List ℕ) (n : Node) (f : 
 built_push p fs cs n f c arena h b made below count =
     let at = length fs in
     let run : IsRun p at (forms.term_of (fs ++ f ∷ []) at) = subst (IsRun p at) (sym (term_pushed fs f)) (made_runs p at cs (forms.term_of fs) n f arena h b.counted b.same b.runs made) in
-    let counted = λ (ok : IsAccepted (term_at (meanings p.arena) at)). made_counted p cs at n f h b.counted b.same made n.term refl ok in
+    let counted = λ (ok : IsSequential (term_at (meanings p.arena) at)). made_counted p cs at n f h b.counted b.same made n.term refl ok in
     record {
       order = order_pushed fs f b.order below;
       runs = λ i lt.
@@ -178,8 +178,7 @@ built_push p fs cs n f c arena h b made below count =
           (λ same. subst (λ k. IsRun p k (forms.term_of (fs ++ f ∷ []) k)) (sym same) run)
           (λ ne. let here : i < at = omega (arith, lt, ne, length-append fs (f ∷ [])) in subst (IsRun p i) (term_kept fs f i here) (b.runs i here));
       same = omega (arith, b.same, length-append fs (f ∷ []), length-append cs (c ∷ []));
-      counted = counts_pushed p cs c b.counted (λ ok. count ∙ counted (subst (λ k. IsAccepted (term_at (meanings p.arena) k)) b.same ok) ∙ ap (λ k. lets_in (term_at (meanings p.arena) k)) (sym b.same));
-      few = few_pushed cs c b.few (omega (arith, count, b.same, count_few cs at f b.few below));
+      counted = counts_pushed p cs c b.counted (λ ok. count ∙ counted (subst (λ k. IsSequential (term_at (meanings p.arena) k)) b.same ok) ∙ ap (λ k. clipped (lets_in (term_at (meanings p.arena) k))) (sym b.same));
     }
 
 -- the same as the code has it
@@ -192,12 +191,16 @@ built_next p a fs gs cs ds l k at n f c arena same h b long counts made below co
 
 -- THE TREE'S TERM
 
+-- its forms are those of one thread
+pub checked_sequential : (p : Program) → IsChecked p → IsSequential (term_of p.arena)
+checked_sequential p h = h.checkable.sequential
+
 root_typed : (p : Program) → IsChecked p → IsTypedIn p (root_of p.arena) []
 root_typed p h = record {
   ready = record {
     here = omega (arith, h.checkable.tree.some, length_meanings p.arena);
     sort = h.checkable.tree.sort;
-    accepted = h.checkable.accepted;
+    sequential = checked_sequential p h;
     own = h.checkable.tree.own;
   };
   kind = h.typed.kind;
@@ -254,8 +257,8 @@ root_depth fs t h e = omega (arith, ap depth e, program_depth t h)
 -- TYPED
 
 -- a checked program starts typed
-starts : (t : terms.Term) → IsBlock t → IsAccepted t → IsTyped [] t → IsTypedState (start (program t))
-starts (block_t at ts) b ok h = starts_typed_lem at ts h.kind h.after (accepted_items ts ok) h.types
+starts : (t : terms.Term) → IsBlock t → IsSequential t → IsTyped [] t → IsTypedState (start (program t))
+starts (block_t at ts) b ok h = starts_typed_lem at ts h.kind h.after ok h.types
 starts (let_t at x t) b ok h = absurd b
 starts (assign_t at w t) b ok h = absurd b
 starts (read_t at w) b ok h = absurd b
@@ -273,5 +276,5 @@ starts (lock_t at w x t) b ok h = absurd b
 starts (spawn_t at cs t) b ok h = absurd b
 starts (par_t at cs t ds u) b ok h = absurd b
 
-pub root_starts : (fs : List Form) (t : terms.Term) → IsBlock t → IsAccepted t → IsTyped [] t → pool.root_of fs ≡ program t → IsTypedState (start (pool.root_of fs))
+pub root_starts : (fs : List Form) (t : terms.Term) → IsBlock t → IsSequential t → IsTyped [] t → pool.root_of fs ≡ program t → IsTypedState (start (pool.root_of fs))
 root_starts fs t b ok h e = subst (λ (r : Run). IsTypedState (start r)) (sym e) (starts t b ok h)

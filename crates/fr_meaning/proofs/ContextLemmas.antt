@@ -1,7 +1,8 @@
 -- Moves, settling and depth inside a context.
 use Rattle.std.proofs.Common.{◌≡◌, zero, suc, ◌<◌, ◌≤◌, List, [], ◌∷◌, Option, Some, None, refl, ap, ◌∙◌, arith}
 use Rattle.fr_plain.specs.Run.{Run, block, last, more, going, after, now, now_parts, settle, Move, next, move}
-use Rattle.fr_meaning.specs.Contexts.{Around, in_box, in_bind, in_print, in_assign, in_last, in_more, fill, wrap, depth, IsSettled}
+use Rattle.fr_meaning.specs.declared.frame.Done.TheVariants as done
+use Rattle.fr_meaning.specs.Contexts.{Around, in_box, in_bind, in_print, in_assign, in_left, in_right, in_last, in_more, fill, wrap, depth, IsSettled}
 
 -- a term around one that goes on goes on
 pub now_fill : (c : Around) (r : Run) → now r ≡ going → now (fill c r) ≡ going
@@ -9,6 +10,8 @@ now_fill in_box r h = refl
 now_fill in_bind r h = refl
 now_fill in_print r h = refl
 now_fill (in_assign w) r h = refl
+now_fill (in_left f b) r h = refl
+now_fill (in_right f d) r h = refl
 now_fill (in_last zero) r h = h
 now_fill (in_last (suc k)) r h = refl
 now_fill (in_more zero is) r h = ap (λ n. after n (now_parts is)) h
@@ -35,6 +38,10 @@ move_fill in_box r h = rw h refl
 move_fill in_bind r h = rw h refl
 move_fill in_print r h = rw h refl
 move_fill (in_assign w) r h = rw h refl
+move_fill (in_left f b) r h = rw h refl
+move_fill (in_right f done.Unit) r h = rw h refl
+move_fill (in_right f (done.Number n)) r h = rw h refl
+move_fill (in_right f (done.Temp v)) r h = rw h refl
 move_fill (in_last k) r h = rw h (next_next (block k) last (move r))
 move_fill (in_more k is) r h = rw h (next_next (block k) (λ x. more x is) (move r))
 
@@ -49,6 +56,10 @@ settle_fill in_box r h = refl
 settle_fill in_bind r h = refl
 settle_fill in_print r h = refl
 settle_fill (in_assign w) r h = refl
+settle_fill (in_left f b) r h = rw h refl
+settle_fill (in_right f done.Unit) r h = refl
+settle_fill (in_right f (done.Number n)) r h = refl
+settle_fill (in_right f (done.Temp v)) r h = refl
 settle_fill (in_last zero) r h = rw h refl
 settle_fill (in_last (suc k)) r h = refl
 settle_fill (in_more zero is) r h = rw h refl
@@ -67,6 +78,10 @@ settle_same_fill in_box r q h = rw h refl
 settle_same_fill in_bind r q h = rw h refl
 settle_same_fill in_print r q h = rw h refl
 settle_same_fill (in_assign w) r q h = rw h refl
+settle_same_fill (in_left f b) r q h = rw h refl
+settle_same_fill (in_right f done.Unit) r q h = rw h refl
+settle_same_fill (in_right f (done.Number n)) r q h = rw h refl
+settle_same_fill (in_right f (done.Temp v)) r q h = rw h refl
 settle_same_fill (in_last k) r q h = rw h refl
 settle_same_fill (in_more k is) r q h = rw h refl
 
@@ -81,6 +96,10 @@ settled_fill in_box r h = h
 settled_fill in_bind r h = h
 settled_fill in_print r h = h
 settled_fill (in_assign w) r h = h
+settled_fill (in_left f b) r h = h.0
+settled_fill (in_right f done.Unit) r h = h.1
+settled_fill (in_right f (done.Number n)) r h = h.1
+settled_fill (in_right f (done.Temp v)) r h = h.1
 settled_fill (in_last k) r h = h.0
 settled_fill (in_more k is) r h = h.0
 
@@ -95,6 +114,8 @@ depth_fill in_box q r h = omega arith
 depth_fill in_bind q r h = omega arith
 depth_fill in_print q r h = omega arith
 depth_fill (in_assign w) q r h = omega arith
+depth_fill (in_left f b) q r h = omega arith
+depth_fill (in_right f d) q r h = omega arith
 depth_fill (in_last k) q r h = omega arith
 depth_fill (in_more k is) q r h = omega arith
 
@@ -104,6 +125,8 @@ depth_above in_box r = omega arith
 depth_above in_bind r = omega arith
 depth_above in_print r = omega arith
 depth_above (in_assign w) r = omega arith
+depth_above (in_left f b) r = omega arith
+depth_above (in_right f d) r = omega arith
 depth_above (in_last k) r = omega arith
 depth_above (in_more k is) r = omega arith
 

@@ -1,8 +1,8 @@
 -- The term that a form stands for.
-use Rattle.std.proofs.Common.{◌≡◌, ◌≢◌, ℕ, zero, suc, ◌+◌, ◌<◌, ◌≤◌, Bool, true, false, List, [], ◌∷◌, length, get_or, drop, Option, Some, None, refl, sym, ap, ◌∙◌, subst, arith, add-one, drop-cons, ⊎_elim}
+use Rattle.std.proofs.Common.{◌≡◌, ◌≢◌, ℕ, zero, suc, ◌+◌, ◌<◌, ◌≤◌, Bool, true, false, List, [], ◌∷◌, length, get_or, drop, Option, Some, None, refl, sym, ap, ap₂, ◌∙◌, subst, arith, add-one, drop-cons, ⊎_elim}
 use Rattle.std.specs.Prelude.{◌==◌, if◌then◌else◌}
 use Rattle.std.proofs.lemmas.Bool.Decides.{eqb_tells}
-use Rattle.fr_plain.specs.Run.{Run, box_r, bind, print, assign, block, last, more}
+use Rattle.fr_plain.specs.Run.{Run, box_r, arith as arith_r, bind, print, assign, block, last, more}
 use Rattle.fr_meaning.specs.declared.forms.Form.{Form}
 use Rattle.fr_meaning.specs.declared.forms.Form.TheVariants as form
 use Rattle.fr_meaning.specs.SlotOrder.{onto, newest_first}
@@ -32,10 +32,12 @@ build_same : (n : ℕ) (a b : ℕ → Run) (m : Form) → Same n a b → NamesBe
 build_same n a b (form.Number x) s h = refl
 build_same n a b form.Unit s h = refl
 build_same n a b (form.Read w take) s h = refl
+build_same n a b (form.Borrow w) s h = refl
 build_same n a b (form.Box t) s h = ap box_r (s t h)
 build_same n a b (form.Let t) s h = ap bind (s t h)
 build_same n a b (form.Print t) s h = ap print (s t h)
 build_same n a b (form.Assign w t) s h = ap (assign w) (s t h)
+build_same n a b (form.Arith f left right) s h = ap₂ (arith_r f) (s left h.0) (s right h.1)
 build_same n a b (form.Block items lets) s h = ap (block lets) (parts_same n a b items.items s h)
 build_same n a b form.Place s h = refl
 
@@ -68,10 +70,12 @@ NamesBelow-weaker : (m n : ℕ) (k : Form) → m ≤ n → NamesBelow m k → Na
 NamesBelow-weaker m n (form.Number x) le h = h
 NamesBelow-weaker m n form.Unit le h = h
 NamesBelow-weaker m n (form.Read w take) le h = h
+NamesBelow-weaker m n (form.Borrow w) le h = h
 NamesBelow-weaker m n (form.Box t) le h = omega arith
 NamesBelow-weaker m n (form.Let t) le h = omega arith
 NamesBelow-weaker m n (form.Print t) le h = omega arith
 NamesBelow-weaker m n (form.Assign w t) le h = omega arith
+NamesBelow-weaker m n (form.Arith f left right) le h = (omega (arith, h.0), omega (arith, h.1))
 NamesBelow-weaker m n (form.Block items lets) le h = AllBelow-weaker m n items.items le h
 NamesBelow-weaker m n form.Place le h = h
 
@@ -148,10 +152,12 @@ item_below ns at is k a lt e h = by (get_or ns at form.Unit) refl
     all (form.Number x) q = tt
     all form.Unit q = tt
     all (form.Read w take) q = tt
+    all (form.Borrow w) q = tt
     all (form.Box x) q = tt
     all (form.Let x) q = tt
     all (form.Print x) q = tt
     all (form.Assign w x) q = tt
+    all (form.Arith f x y) q = tt
     all form.Place q = tt
 
     by : (m : Form) → get_or ns at form.Unit ≡ m → get_or is k 0 < at

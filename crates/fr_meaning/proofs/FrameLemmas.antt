@@ -1,7 +1,8 @@
 -- Terms in frames, and what entering one comes to.
 use Rattle.std.proofs.Common.{◌≡◌, ◌≢◌, ℕ, zero, suc, ◌+◌, ◌<◌, ◌≤◌, Bool, true, false, List, [], ◌∷◌, ◌++◌, length, get_or, drop, Option, None, refl, sym, ap, ◌∙◌, subst, arith}
 use Rattle.std.specs.Prelude.{◌↔◌, IsTrue}
-use Rattle.fr_plain.specs.Run.{Run, block, last, more, going, constant, temporary, now, settle, leaves}
+use Rattle.fr_base.specs.declared.place.Op.{Op}
+use Rattle.fr_plain.specs.Run.{Run, arith as arith_r, block, last, more, going, constant, temporary, now, settle, leaves}
 use Rattle.fr_meaning.specs.declared.forms.Form.{Form}
 use Rattle.fr_meaning.specs.declared.frame.Done.{Done}
 use Rattle.fr_meaning.specs.declared.frame.Done.TheVariants as done
@@ -13,7 +14,8 @@ use Rattle.fr_meaning.specs.declared.frame.Entered.{Entered}
 use Rattle.fr_meaning.specs.declared.frame.Entered.TheVariants as entered
 use Rattle.fr_meaning.specs.Contexts.{fill, depth, depth_in}
 use Rattle.fr_meaning.specs.FormTerms.{parts_from, parts_of, term_of, items_at}
-use Rattle.fr_meaning.specs.FrameTerms.{over, value_of, around_items, around, all_around, wrapped, focus_run, IsInside, AreInside, HasOnePart, Enters, EntersItem, waits_of, focus_of}
+use Rattle.fr_meaning.specs.DoneTerms.{over, value_of}
+use Rattle.fr_meaning.specs.FrameTerms.{around_items, around, all_around, wrapped, focus_run, IsInside, AreInside, HasLastPart, IsPastLeft, TopIsPastLeft, HasMadeWay, Enters, EntersItem, waits_of, focus_of}
 use Rattle.fr_meaning.proofs.FormLemmas.{at_drop}
 use Rattle.fr_meaning.proofs.ContextLemmas.{settle_wrap, settle_same, depth_above, depth_wrap}
 
@@ -163,42 +165,68 @@ rest_below left look (j ∷ js) r = omega arith
 
 -- ENTERING
 
--- a term with one part isn't done
-pub one_part_waits : (fs : List Form) (g : Frame) (r : Run) → HasOnePart g → now (fill (around fs g) r) ≡ going
-one_part_waits fs frame.Box r h = refl
-one_part_waits fs frame.Let r h = refl
-one_part_waits fs frame.Print r h = refl
-one_part_waits fs (frame.Assign w) r h = refl
-one_part_waits fs (frame.Block left node next) r h = absurd h
-
--- its frame names no form
-pub one_part_inside : (n : ℕ) (g : Frame) → HasOnePart g → IsInside n g
-one_part_inside n frame.Box h = tt
-one_part_inside n frame.Let h = tt
-one_part_inside n frame.Print h = tt
-one_part_inside n (frame.Assign w) h = tt
-one_part_inside n (frame.Block left node next) h = absurd h
+-- a term that waits for its last part isn't done
+pub last_part_waits : (fs : List Form) (g : Frame) (r : Run) → HasLastPart g → now (fill (around fs g) r) ≡ going
+last_part_waits fs frame.Box r h = refl
+last_part_waits fs frame.Let r h = refl
+last_part_waits fs frame.Print r h = refl
+last_part_waits fs (frame.Assign w) r h = refl
+last_part_waits fs (frame.Right f d) r h = refl
+last_part_waits fs (frame.Left f right) r h = absurd h
+last_part_waits fs (frame.Block left node next) r h = absurd h
 
 -- it settles as its part does
-pub one_part_settles : (fs : List Form) (g : Frame) (r : Run) → HasOnePart g → settle (fill (around fs g) r) ≡ fill (around fs g) (settle r)
-one_part_settles fs frame.Box r h = refl
-one_part_settles fs frame.Let r h = refl
-one_part_settles fs frame.Print r h = refl
-one_part_settles fs (frame.Assign w) r h = refl
-one_part_settles fs (frame.Block left node next) r h = absurd h
+pub last_part_settles : (fs : List Form) (g : Frame) (r : Run) → HasLastPart g → settle (fill (around fs g) r) ≡ fill (around fs g) (settle r)
+last_part_settles fs frame.Box r h = refl
+last_part_settles fs frame.Let r h = refl
+last_part_settles fs frame.Print r h = refl
+last_part_settles fs (frame.Assign w) r h = refl
+last_part_settles fs (frame.Right f done.Unit) r h = refl
+last_part_settles fs (frame.Right f (done.Number n)) r h = refl
+last_part_settles fs (frame.Right f (done.Temp v)) r h = refl
+last_part_settles fs (frame.Left f right) r h = absurd h
+last_part_settles fs (frame.Block left node next) r h = absurd h
+
+-- its frame waits for no left operand
+pub last_part_past : (g : Frame) → HasLastPart g → IsPastLeft g
+last_part_past frame.Box h = tt
+last_part_past frame.Let h = tt
+last_part_past frame.Print h = tt
+last_part_past (frame.Assign w) h = tt
+last_part_past (frame.Right f d) h = tt
+last_part_past (frame.Left f right) h = absurd h
+last_part_past (frame.Block left node next) h = absurd h
+
+-- the top one of frames
+past_top : (gs : List Frame) (g : Frame) → IsPastLeft g → TopIsPastLeft (gs ++ g ∷ [])
+past_top [] g h = h
+past_top (k ∷ []) g h = h
+past_top (k ∷ l ∷ gs) g h = past_top (l ∷ gs) g h
+
+-- the frame on top is the top one
+pub top_past : (gs : List Frame) (g : Frame) → TopIsPastLeft (gs ++ g ∷ []) → IsPastLeft g
+top_past [] g h = h
+top_past (k ∷ []) g h = h
+top_past (k ∷ l ∷ gs) g h = top_past (l ∷ gs) g h
 
 -- a part was entered: the whole is the focus in more frames
-part_waits : (fs : List Form) (old new : List Frame) (g : Frame) (r : Run) (x : Entered) → Enters fs (old ++ g ∷ []) new r x → now (fill (around fs g) r) ≡ going → Enters fs old new (fill (around fs g) r) (waits_of x)
-part_waits fs old new g r (entered.Ended d) h n =
-    (n, ap (λ ks. wrapped fs ks (over d)) h.1 ∙ wrap_push fs old g (over d) ∙ ap (λ q. wrapped fs old (fill (around fs g) q)) (sym h.0))
-part_waits fs old new g r (entered.Waits f) h n = (n, h.1 ∙ wrap_push fs old g r)
+part_waits : (fs : List Form) (old new : List Frame) (g : Frame) (r : Run) (x : Entered) → IsPastLeft g → Enters fs (old ++ g ∷ []) new r x → now (fill (around fs g) r) ≡ going → Enters fs old new (fill (around fs g) r) (waits_of x)
+part_waits fs old new g r (entered.Ended d) p h n =
+    (n, ap (λ ks. wrapped fs ks (over d)) h.1 ∙ wrap_push fs old g (over d) ∙ ap (λ q. wrapped fs old (fill (around fs g) q)) (sym h.0), subst TopIsPastLeft (sym h.1) (past_top old g p))
+part_waits fs old new g r (entered.Waits f) p h n = (n, h.1 ∙ wrap_push fs old g r, h.2)
 
 -- a part was entered under a new frame, and the whole waits
-pub goes_in : (fs : List Form) (old pushed new : List Frame) (g : Frame) (q r : Run) (x y : Entered) → Enters fs pushed new r x → pushed ≡ old ++ g ∷ [] → q ≡ fill (around fs g) r → now (fill (around fs g) r) ≡ going → waits_of x ≡ y → Enters fs old new q y
-goes_in fs old pushed new g q r x y h p e n w =
+pub goes_in : (fs : List Form) (old pushed new : List Frame) (g : Frame) (q r : Run) (x y : Entered) → IsPastLeft g → Enters fs pushed new r x → pushed ≡ old ++ g ∷ [] → q ≡ fill (around fs g) r → now (fill (around fs g) r) ≡ going → waits_of x ≡ y → Enters fs old new q y
+goes_in fs old pushed new g q r x y past h p e n w =
     subst (λ (z : Entered). Enters fs old new q z) w
     (subst (λ (s : Run). Enters fs old new s (waits_of x)) (sym e)
-    (part_waits fs old new g r x (subst (λ (ks : List Frame). Enters fs ks new r x) p h) n))
+    (part_waits fs old new g r x past (subst (λ (ks : List Frame). Enters fs ks new r x) p h) n))
+
+-- a part was entered under a new frame, and waits
+pub goes_on_in : (fs : List Form) (old pushed new : List Frame) (g : Frame) (q r : Run) (x : Entered) (f : Focus) → Enters fs pushed new r x → x ≡ entered.Waits f → pushed ≡ old ++ g ∷ [] → q ≡ fill (around fs g) r → now (fill (around fs g) r) ≡ going → Enters fs old new q (entered.Waits f)
+goes_on_in fs old pushed new g q r x f h i p e n =
+    let w = subst (λ (y : Entered). Enters fs pushed new r y) i h in
+    (ap now e ∙ n, w.1 ∙ ap (λ ks. wrapped fs ks r) p ∙ wrap_push fs old g r ∙ ap (wrapped fs old) (sym e), w.2)
 
 -- what was entered is done
 pub entered_over : (fs : List Form) (old new : List Frame) (r : Run) (x : Entered) (d : Done) → Enters fs old new r x → x ≡ entered.Ended d → (r ≡ over d) × (new ≡ old)
@@ -208,9 +236,13 @@ entered_over fs old new r x d h i = subst (λ (y : Entered). Enters fs old new r
 pub entered_waits : (fs : List Form) (old new : List Frame) (r : Run) (x : Entered) (f : Focus) → Enters fs old new r x → x ≡ entered.Waits f → now r ≡ going
 entered_waits fs old new r x f h i = (subst (λ (y : Entered). Enters fs old new r y) i h).0
 
+-- where what was entered waits, no left operand that is done is waited for
+pub waits_way : (fs : List Form) (old new : List Frame) (r : Run) (x : Entered) (f : Focus) → Enters fs old new r x → x ≡ entered.Waits f → HasMadeWay new f
+waits_way fs old new r x f h i = (subst (λ (y : Entered). Enters fs old new r y) i h).2
+
 -- the frame stays on top
-pub stays : (fs : List Form) (old new : List Frame) (g : Frame) (d : Done) (r : Run) (x : Entered) → new ≡ old ++ g ∷ [] → x ≡ entered.Waits (focus.Over d) → r ≡ fill (around fs g) (over d) → now (fill (around fs g) (over d)) ≡ going → Enters fs old new r x
-stays fs old new g d r x p h i n = goes_in fs old new new g r (over d) (entered.Ended d) x (refl, refl) p i n (sym h)
+pub stays : (fs : List Form) (old new : List Frame) (g : Frame) (d : Done) (r : Run) (x : Entered) → IsPastLeft g → new ≡ old ++ g ∷ [] → x ≡ entered.Waits (focus.Over d) → r ≡ fill (around fs g) (over d) → now (fill (around fs g) (over d)) ≡ going → Enters fs old new r x
+stays fs old new g d r x past p h i n = goes_in fs old new new g r (over d) (entered.Ended d) x past (refl, refl) p i n (sym h)
 
 -- an item vanished
 pub goes_by : (fs : List Form) (old new : List Frame) (r following : Run) (x : Option Entered) → EntersItem fs old new r following x → x ≡ None → (r ≡ following) × (new ≡ old)
@@ -237,17 +269,34 @@ pub enters_first : (fs : List Form) (old new : List Frame) (r : Run) (x : Entere
 enters_first fs old new r (entered.Ended d) o h = ap (λ ks. wrapped fs ks (over d)) (h.1 ∙ o) ∙ sym h.0
 enters_first fs old new r (entered.Waits f) o h = h.1 ∙ ap (λ ks. wrapped fs ks r) o
 
+-- nor is then a left operand that is done waited for
+pub first_way : (fs : List Form) (old new : List Frame) (r : Run) (x : Entered) → old ≡ [] → Enters fs old new r x → HasMadeWay new (focus_of x)
+first_way fs old new r (entered.Ended d) o h = subst TopIsPastLeft (sym (h.1 ∙ o)) tt
+first_way fs old new r (entered.Waits f) o h = h.2
+
 -- an item of a form's block, and the frame around it
 pub item_row : (fs : List Form) (node left k : ℕ) (is : List ℕ) → is ≡ items_at fs node → k < length is → block left (parts_of (term_of fs) (drop k is)) ≡ fill (around fs (frame.Block left node (k + 1))) (term_of fs (get_or is k 0))
 item_row fs node left k is e lt = items_fill left (term_of fs) is k 0 lt ∙ ap (λ l. fill (around_items left (term_of fs) (drop (k + 1) l)) (term_of fs (get_or is k 0))) e
 
--- every frame but a block's has one part
-pub one_part : (g : Frame) → ((left node next : ℕ) → g ≡ frame.Block left node next → ⊥) → HasOnePart g
-one_part frame.Box h = tt
-one_part frame.Let h = tt
-one_part frame.Print h = tt
-one_part (frame.Assign w) h = tt
-one_part (frame.Block left node next) h = h left node next refl
+-- every frame but a block's and a left operand's waits for a last part
+pub last_part : (g : Frame) → ((f : Op) (right : ℕ) → g ≡ frame.Left f right → ⊥) → ((left node next : ℕ) → g ≡ frame.Block left node next → ⊥) → HasLastPart g
+last_part frame.Box l h = tt
+last_part frame.Let l h = tt
+last_part frame.Print l h = tt
+last_part (frame.Assign w) l h = tt
+last_part (frame.Right f d) l h = tt
+last_part (frame.Left f right) l h = l f right refl
+last_part (frame.Block left node next) l h = h left node next refl
+
+-- a left operand that is done makes way for the right one
+pub left_done : (f : Op) (r b : Run) (d : Done) → settle r ≡ over d → settle (arith_r f r b) ≡ arith_r f (over d) (settle b)
+left_done f r b done.Unit h = rw h refl
+left_done f r b (done.Number n) h = rw h refl
+left_done f r b (done.Temp v) h = rw h refl
+
+-- a right operand with the left one done is no deeper than the operation
+pub right_shallow : (f : Op) (a b : Run) (d : Done) → depth (arith_r f (over d) b) ≤ depth (arith_r f a b)
+right_shallow f a b d = omega (arith, depth_over d)
 
 -- a list of no length
 pub no_items : {A : Type 0} (xs : List A) → length xs ≡ 0 → xs ≡ []

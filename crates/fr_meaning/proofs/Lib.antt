@@ -1,5 +1,3 @@
-pub mod PartLemmas
-pub mod ScopeLemmas
 pub mod FormLemmas
 pub mod ContextLemmas
 pub mod HeapLemmas
@@ -10,13 +8,8 @@ pub mod StepLemmas
 pub mod SettledLemmas
 pub mod StepsLeft
 pub mod PoolLemmas
-pub mod EnvLemmas
-pub mod RuleLemmas
-pub mod UsageLemmas
-pub mod TermLemmas
-pub mod CheckLemmas
-pub mod ProgramLemmas
 pub mod NodeLemmas
+pub mod ReadyLemmas
 pub mod ResolveLemmas
 pub mod BuiltLemmas
 pub mod PoolLaws

@@ -3,16 +3,17 @@ use Rattle.std.proofs.Common.{◌≡◌, ℕ, ℤ, zero, suc, ◌+◌, ◌<◌, 
 use Rattle.std.specs.Prelude.{not, slice_get, slice_index_or, unwrap_or, if◌then◌else◌}
 use Rattle.std.proofs.lemmas.List.{append-nil}
 use Rattle.fr_base.specs.declared.place.Lval.{Lval}
+use Rattle.fr_base.specs.declared.place.Op.{Op}
 use Rattle.fr_terms.specs.Terms.{Text, Spot, block_t, let_t, assign_t, read_t, borrow_t, borrow_mut_t, number_t, unit_t, box_t, print_t, arith_t, join_t, mutex_t, dup_t, lock_t, spawn_t, par_t, Items, none, item, start_of}
 use Rattle.fr_terms.specs.Terms as terms
-use Rattle.fr_terms.specs.Limits.{IsAccepted, AreAccepted}
+use Rattle.fr_typing.specs.Sequential.{IsSequential, AreSequential}
 use Rattle.fr_typing.specs.Kinds.{Kind, copies, whole, gone, boxed, own, unit}
 use Rattle.fr_typing.specs.Places.{Env, Found, found, undefined, no_target, type_at, slot_of, read_blocked, write_blocked, is_own_path, put_at}
-use Rattle.fr_typing.specs.Checks.{place_of}
+use Rattle.fr_typing.specs.Checks.{place_of, is_int}
 use Rattle.fr_typing.specs.declared.reason.Reason.{Reason}
-use Rattle.fr_typing.specs.declared.reason.Reason.TheVariants.{ReadBlocked, WriteBlocked, MovedThrough}
+use Rattle.fr_typing.specs.declared.reason.Reason.TheVariants.{ReadBlocked, WriteBlocked, MovedThrough, WrongType}
 use Rattle.fr_typing.specs.Finding.{Outcome, typed, fault, unless, then_typed, with_slot, with_part, with_whole}
-use Rattle.fr_typing.specs.Rules.{read_rule, box_rule, print_rule, let_rule, assign_rule, end_rule}
+use Rattle.fr_typing.specs.Rules.{read_rule, box_rule, int_rule, print_rule, arith_rule, let_rule, assign_rule, end_rule}
 use Rattle.fr_typing.specs.Typing.{typing, typing_items}
 use Rattle.fr_syntax.specs.declared.tree.Term.{Term}
 use Rattle.fr_syntax.specs.declared.tree.Term.TheVariants.{Block, Let, Assign, Read, Dup, Borrow, BorrowMut, Number, Unit, Box, Print, Join, Mutex, Arith, Spawn, Par, Lock, Place, Capture}
@@ -21,32 +22,36 @@ use Rattle.fr_syntax.specs.Arena.{Arena, text_of}
 use Rattle.fr_syntax.specs.Ordered.{IsArena}
 use Rattle.fr_syntax.specs.NodeList.{NodeList}
 use Rattle.fr_syntax.specs.Meanings.{a_term, Meaning, term_s, place_s, capture_s, sort_of, captures_at, meanings, meaning_at, term_at, place_at, items_at, stands_for, need, all_need, needs, nodes_in, AreBelow, AllBelow}
-use Rattle.fr_plain.specs.Run.{Run, unit_c, number, read, box_r, bind, print, assign, block, last, more}
+use Rattle.fr_plain.specs.Run.{Run, unit_c, number, read, borrow, box_r, arith as arith_r, bind, print, assign, block, last, more}
 use Rattle.fr_plain.specs.Resolve.{or_zero, named, found_moves, moves, lets_in, lets, before, resolve, resolve_items}
 use Rattle.fr_plain.specs.Resolve as plain
-use Rattle.fr_meaning.specs.declared.usage.Usage.{Usage}
+use Rattle.borrow_check.specs.declared.usage.Usage.{Usage}
 use Rattle.fr_meaning.specs.declared.forms.Form.{Form}
 use Rattle.fr_meaning.specs.declared.forms.Form.TheVariants as form
 use Rattle.fr_meaning.specs.FormTerms as forms
 use Rattle.fr_meaning.specs.FormTerms.{parts_from, parts_of, build}
-use Rattle.fr_meaning.specs.Nodes.{IsReady, AreReady}
-use Rattle.fr_meaning.specs.Usages.{env_after, is_taken, usage_of, read_usage, usages_of, usages_in, AreUsed}
-use Rattle.fr_meaning.specs.Programs.{Program, usage_at, is_taking, lval_of, takes_of}
-use Rattle.fr_meaning.specs.Programs as programs
+use Rattle.borrow_check.specs.Nodes.{IsReady, AreReady}
+use Rattle.borrow_check.specs.Usages.{env_after, is_taken, usage_of, read_usage, usages_of, usages_in, AreUsed}
+use Rattle.borrow_check.specs.Programs.{Program, usage_at, is_taking, lval_of, takes_of}
+use Rattle.borrow_check.specs.Programs as programs
 use Rattle.fr_meaning.specs.Forming.{count_all, IsBlockOf, IsMade, place_in}
 use Rattle.fr_meaning.specs.Resolved.{IsTypedIn, IsRun, AreRuns, AreCounts}
 use Rattle.fr_syntax.proofs.TreeLemmas.{length_meanings}
-use Rattle.fr_meaning.proofs.TermLemmas.{IsHere, term_here, first_ready, rest_ready}
-use Rattle.fr_meaning.proofs.CheckLemmas.{IsPart, box_part, print_part, let_part, assign_part, block_parts}
-use Rattle.fr_meaning.proofs.NodeLemmas.{here, nodes_below, at_most, place_alone, as_place_is}
+use Rattle.borrow_check.proofs.TermLemmas.{IsHere, term_here}
+use Rattle.fr_meaning.proofs.ReadyLemmas.{IsPart, box_part, print_part, let_part, assign_part, left_part, right_part, block_parts, first_ready, rest_ready}
+use Rattle.borrow_check.proofs.NodeLemmas.{here, nodes_below, at_most}
+use Rattle.fr_meaning.proofs.NodeLemmas.{place_alone, as_place_is}
 
--- ACCEPTED NODES
+-- NODES OF ONE THREAD'S FORMS
 
 -- which form a node is of that is ready
 pub data Row (n : Node) : Type 0 where
   a_number : (v : ℤ) → n.term ≡ Number v → Row n
   a_unit : n.term ≡ Unit → Row n
   a_read : (from : ℕ) → n.term ≡ Read from → Row n
+  a_borrow : (of : ℕ) → n.term ≡ Borrow of → Row n
+  a_borrow_mut : (of : ℕ) → n.term ≡ BorrowMut of → Row n
+  an_arith : (op : Op) (left right : ℕ) → n.term ≡ Arith op left right → Row n
   a_box : (v : ℕ) → n.term ≡ Box v → Row n
   a_let : (name v : ℕ) → n.term ≡ Let name v → Row n
   a_print : (v : ℕ) → n.term ≡ Print v → Row n
@@ -60,8 +65,8 @@ term_is a at n m t h is e = term_here a at n t h (ap (stands_for a.names (meanin
 nodes_are : (a : Arena) (at : ℕ) (n : Node) (m : Term) → IsHere a at n → n.term ≡ m → (meaning_at (meanings a) at).nodes ≡ nodes_in (meanings a) (needs m) ++ at ∷ []
 nodes_are a at n m h is = h.nodes ∙ ap (λ x. nodes_in (meanings a) (needs x) ++ at ∷ []) is
 
-refused : (a : Arena) (at : ℕ) (n : Node) (m : Term) (t : terms.Term) → IsHere a at n → IsReady a at → n.term ≡ m → stands_for a.names (meanings a) n.place m ≡ a_term t → IsAccepted t
-refused a at n m t h r is e = subst IsAccepted (term_is a at n m t h is e) r.accepted
+refused : (a : Arena) (at : ℕ) (n : Node) (m : Term) (t : terms.Term) → IsHere a at n → IsReady a at → n.term ≡ m → stands_for a.names (meanings a) n.place m ≡ a_term t → IsSequential t
+refused a at n m t h r is e = subst IsSequential (term_is a at n m t h is e) r.sequential
 
 other_sort : (a : Arena) (at : ℕ) (n : Node) (m : Term) → IsHere a at n → IsReady a at → n.term ≡ m → sort_of (stands_for a.names (meanings a) n.place m) ≡ term_s
 other_sort a at n m h r is = sym (ap sort_of (h.what ∙ ap (stands_for a.names (meanings a) n.place) is)) ∙ r.sort
@@ -76,11 +81,11 @@ row_of a at n h r (Print v) is = a_print v is
 row_of a at n h r (Assign to v) is = an_assign to v is
 row_of a at n h r (Block items) is = a_block items is
 row_of a at n h r (Dup of) is = absurd (refused a at n (Dup of) (dup_t n.place (place_at (meanings a) of)) h r is refl)
-row_of a at n h r (Borrow of) is = absurd (refused a at n (Borrow of) (borrow_t n.place (place_at (meanings a) of)) h r is refl)
-row_of a at n h r (BorrowMut of) is = absurd (refused a at n (BorrowMut of) (borrow_mut_t n.place (place_at (meanings a) of)) h r is refl)
+row_of a at n h r (Borrow of) is = a_borrow of is
+row_of a at n h r (BorrowMut of) is = a_borrow_mut of is
 row_of a at n h r (Join task) is = absurd (refused a at n (Join task) (join_t n.place (term_at (meanings a) task)) h r is refl)
 row_of a at n h r (Mutex v) is = absurd (refused a at n (Mutex v) (mutex_t n.place (term_at (meanings a) v)) h r is refl)
-row_of a at n h r (Arith op left right) is = absurd (refused a at n (Arith op left right) (arith_t n.place op (term_at (meanings a) left) (term_at (meanings a) right)) h r is refl)
+row_of a at n h r (Arith op left right) is = an_arith op left right is
 row_of a at n h r (Spawn captures body) is = absurd (refused a at n (Spawn captures body) (spawn_t n.place (captures_at (meanings a) captures.items) (term_at (meanings a) body)) h r is refl)
 row_of a at n h r (Par captures body others other) is = absurd (refused a at n (Par captures body others other) (par_t n.place (captures_at (meanings a) captures.items) (term_at (meanings a) body) (captures_at (meanings a) others.items) (term_at (meanings a) other)) h r is refl)
 row_of a at n h r (Lock of name body) is = absurd (refused a at n (Lock of name body) (lock_t n.place (place_at (meanings a) of) (text_of a.names name) (term_at (meanings a) body)) h r is refl)
@@ -120,6 +125,15 @@ items_long a at (i ∷ is) e r below =
       length-append (usages_of t e) (usages_in (items_at (meanings a) is) e1),
     )
 
+-- a reference's node, and that of its place
+place_long : (a : Arena) (at of : ℕ) (n : Node) (m : Term) (t : terms.Term) (e : Env) (u : Usage) → IsArena a → IsHere a at n → n.term ≡ m → needs m ≡ need place_s of ∷ [] → stands_for a.names (meanings a) n.place m ≡ a_term t → usages_of t e ≡ Some u ∷ None ∷ [] → IsReady a at → length (meaning_at (meanings a) at).nodes ≡ length (usages_of (term_at (meanings a) at) e)
+place_long a at of n m t e u arena h is one stands usages r =
+    let parts = subst (AreBelow (meanings a) at) (ap needs is ∙ one) h.parts in
+    let lt : of < at = parts.0 in
+    let alone = place_alone a of arena (omega (arith, lt, r.here)) parts.1 in
+    ap length (nodes_are a at n m h is ∙ ap (λ l. nodes_in (meanings a) l ++ at ∷ []) one ∙ ap (λ l. (l ++ []) ++ at ∷ []) alone)
+    ∙ sym (ap (λ x. length (usages_of x e)) (term_is a at n m t h is stands) ∙ ap length usages)
+
 long_row : (a : Arena) (at : ℕ) (n : Node) (e : Env) → IsArena a → IsHere a at n → IsReady a at → LongBelow a at → Row n → length (meaning_at (meanings a) at).nodes ≡ length (usages_of (term_at (meanings a) at) e)
 long_row a at n e arena h r below (a_number v is) =
     ap length (nodes_are a at n (Number v) h is) ∙ sym (ap (λ t. length (usages_of t e)) (term_is a at n (Number v) (number_t n.place v) h is refl))
@@ -130,6 +144,30 @@ long_row a at n e arena h r below (a_read from is) =
     let lt : from < at = parts.0 in
     let alone = place_alone a from arena (omega (arith, lt, r.here)) parts.1 in
     ap length (nodes_are a at n (Read from) h is ∙ ap (λ l. (l ++ []) ++ at ∷ []) alone) ∙ sym (ap (λ t. length (usages_of t e)) (term_is a at n (Read from) (read_t n.place (place_at (meanings a) from)) h is refl))
+long_row a at n e arena h r below (a_borrow of is) = place_long a at of n (Borrow of) (borrow_t n.place (place_at (meanings a) of)) e (usage_of e (place_at (meanings a) of) false) arena h is refl refl refl r
+long_row a at n e arena h r below (a_borrow_mut of is) = place_long a at of n (BorrowMut of) (borrow_mut_t n.place (place_at (meanings a) of)) e (usage_of e (place_at (meanings a) of) false) arena h is refl refl refl r
+long_row a at n e arena h r below (an_arith op left right is) =
+    let e1 = env_after (typing (term_at (meanings a) left) e) in
+    let first = left_part a at left right op n h is r in
+    let second = right_part a at left right op n h is r in
+    let ns = (meaning_at (meanings a) left).nodes in
+    let ks = (meaning_at (meanings a) right).nodes in
+    let us = usages_of (term_at (meanings a) left) e in
+    let vs = usages_of (term_at (meanings a) right) e1 in
+    let nodes = ap length (nodes_are a at n (Arith op left right) h is) in
+    let uses = ap (λ t. length (usages_of t e)) (term_is a at n (Arith op left right) (arith_t n.place op (term_at (meanings a) left) (term_at (meanings a) right)) h is refl) in
+    omega (
+      arith,
+      nodes,
+      uses,
+      below left first.before first.ready e,
+      below right second.before second.ready e1,
+      length-append (ns ++ (ks ++ [])) (at ∷ []),
+      length-append ns (ks ++ []),
+      length-append ks [],
+      length-append (us ++ vs) (None ∷ []),
+      length-append us vs,
+    )
 long_row a at n e arena h r below (a_box v is) = one_long a at v n (Box v) (box_t n.place (term_at (meanings a) v)) e h is refl refl refl (box_part a at v n h is r) below
 long_row a at n e arena h r below (a_let name v is) = one_long a at v n (Let name v) (let_t n.place (text_of a.names name) (term_at (meanings a) v)) e h is refl refl refl (let_part a at name v n h is r) below
 long_row a at n e arena h r below (a_print v is) = one_long a at v n (Print v) (print_t n.place (term_at (meanings a) v)) e h is refl refl refl (print_part a at v n h is r) below
@@ -251,6 +289,57 @@ assign_typed p at to v n e arena h is w =
         used = (used_both p.usages ns [] us [] long (subst (λ l. AreUsed p.usages (ns ++ []) l) (sym (append-nil us)) front)).0;
       };
       place = all.0;
+    }
+
+-- the usage of a reference's place
+pub lent_place : (p : Program) (at of : ℕ) (n : Node) (m : Term) (t : terms.Term) (e : Env) → IsArena p.arena → IsHere p.arena at n → n.term ≡ m → needs m ≡ need place_s of ∷ [] → stands_for p.arena.names (meanings p.arena) n.place m ≡ a_term t →
+    usages_of t e ≡ Some (usage_of e (place_at (meanings p.arena) of) false) ∷ None ∷ [] → IsTypedIn p at e → slice_get p.usages of ≡ Some (usage_of e (place_at (meanings p.arena) of) false)
+lent_place p at of n m t e arena h is one stands usages w =
+    let a = p.arena in
+    let u = usage_of e (place_at (meanings a) of) false in
+    let parts = subst (AreBelow (meanings a) at) (ap needs is ∙ one) h.parts in
+    let lt : of < at = parts.0 in
+    let alone = place_alone a of arena (omega (arith, lt, w.ready.here)) parts.1 in
+    let nodes : (meaning_at (meanings a) at).nodes ≡ of ∷ at ∷ [] = nodes_are a at n m h is ∙ ap (λ l. nodes_in (meanings a) l ++ at ∷ []) one ∙ ap (λ l. (l ++ []) ++ at ∷ []) alone in
+    let all : AreUsed p.usages (of ∷ at ∷ []) (Some u ∷ None ∷ []) = subst (λ l. AreUsed p.usages (of ∷ at ∷ []) l) (ap (λ x. usages_of x e) (term_is a at n m t h is stands) ∙ usages) (subst (λ l. AreUsed p.usages l (usages_of (term_at (meanings a) at) e)) nodes w.used) in
+    all.0
+
+-- the operands of an operation, the right one in the environment after the left one
+pub record Operands (p : Program) (left right : ℕ) (e : Env) : Type 0 where
+  pub first : IsTypedIn p left e
+  pub second : IsTypedIn p right (env_after (typing (term_at (meanings p.arena) left) e))
+
+-- a check that holds
+passed : (b : Bool) (at : ℕ) (r : Reason) (rest : Outcome) (k : Kind) (e : Env) → unless b at r rest ≡ typed k e → rest ≡ typed k e
+passed true at r rest k e h = absurd cc
+passed false at r rest k e h = h
+
+pub arith_typed : (p : Program) (at left right : ℕ) (op : Op) (n : Node) (e : Env) → IsArena p.arena → IsHere p.arena at n → n.term ≡ Arith op left right → IsTypedIn p at e → Operands p left right e
+arith_typed p at left right op n e arena h is w =
+    let a = p.arena in
+    let t = term_at (meanings a) left in
+    let u = term_at (meanings a) right in
+    let e1 = env_after (typing t e) in
+    let ns = (meaning_at (meanings a) left).nodes in
+    let ks = (meaning_at (meanings a) right).nodes in
+    let us = usages_of t e in
+    let vs = usages_of u e1 in
+    let first = left_part a at left right op n h is w.ready in
+    let second = right_part a at left right op n h is w.ready in
+    let term = term_is a at n (Arith op left right) (arith_t n.place op t u) h is refl in
+    let f = first_typed (typing t e) (λ k x. int_rule (start_of t) k (then_typed (typing u x) (arith_rule (start_of u)))) w.kind w.after (sym (ap (λ x. typing x e) term) ∙ w.typed) in
+    let env : f.env ≡ e1 = sym (ap env_after f.typed_first) in
+    let follows = subst (λ x. then_typed (typing u x) (arith_rule (start_of u)) ≡ typed w.kind w.after) env (passed (not (is_int f.kind)) (start_of t) WrongType (then_typed (typing u f.env) (arith_rule (start_of u))) w.kind w.after f.follows) in
+    let g = first_typed (typing u e1) (arith_rule (start_of u)) w.kind w.after follows in
+    let nodes : (meaning_at (meanings a) at).nodes ≡ (ns ++ (ks ++ [])) ++ at ∷ [] = nodes_are a at n (Arith op left right) h is in
+    let all : AreUsed p.usages ((ns ++ (ks ++ [])) ++ at ∷ []) (us ++ vs ++ None ∷ []) = subst (λ l. AreUsed p.usages ((ns ++ (ks ++ [])) ++ at ∷ []) l) (ap (λ x. usages_of x e) term) (subst (λ l. AreUsed p.usages l (usages_of (term_at (meanings a) at) e)) nodes w.used) in
+    let long1 = long_below a arena at left first.before first.ready e in
+    let long2 = long_below a arena at right second.before second.ready e1 in
+    let front = (used_both p.usages (ns ++ (ks ++ [])) (at ∷ []) (us ++ vs) (None ∷ []) (omega (arith, long1, long2, length-append ns (ks ++ []), length-append ks [], length-append us vs)) all).0 in
+    let both = used_both p.usages ns (ks ++ []) us vs long1 front in
+    record {
+      first = record { ready = first.ready; kind = f.kind; after = f.env; typed = f.typed_first; used = both.0 };
+      second = record { ready = second.ready; kind = g.kind; after = g.env; typed = g.typed_first; used = subst (λ l. AreUsed p.usages l vs) (append-nil ks) both.1 };
     }
 
 -- the usages of a read and of its place
@@ -407,14 +496,14 @@ items_run p at look (i ∷ j ∷ is) e arena runs w =
 
 -- HOW MANY VARIABLES
 
-count_items : (p : Program) (counts : List ℕ) (at : ℕ) (ids : List ℕ) → AreCounts p counts → length counts ≡ at → AllBelow at ids → AreAccepted (items_at (meanings p.arena) ids) → count_all counts ids ≡ lets (items_at (meanings p.arena) ids)
-count_items p counts at [] c same below ok = refl
-count_items p counts at (i ∷ is) c same below ok =
+count_items : (p : Program) (counts : List ℕ) (at : ℕ) (ids : List ℕ) → AreCounts p counts → length counts ≡ at → AllBelow at ids → AreSequential (items_at (meanings p.arena) ids) → lets (items_at (meanings p.arena) ids) < 2 ^ 32 → count_all counts ids ≡ lets (items_at (meanings p.arena) ids)
+count_items p counts at [] c same below ok few = refl
+count_items p counts at (i ∷ is) c same below ok few =
     let lt : i < at = below.0 in
-    omega (arith, c i (omega (arith, lt, same)) ok.0, count_items p counts at is c same below.1 ok.1)
+    omega (arith, few, c i (omega (arith, lt, same)) ok.0, count_items p counts at is c same below.1 ok.1 (omega (arith, few)))
 
 mutual
-  lets_few : (t : terms.Term) (e : Env) → IsAccepted t → lets_in t ≤ length (usages_of t e)
+  lets_few : (t : terms.Term) (e : Env) → IsSequential t → lets_in t ≤ length (usages_of t e)
   lets_few (let_t at x t) e ok = omega (arith, lets_few t e ok, length-append (usages_of t e) (None ∷ []))
   lets_few (assign_t at w t) e ok = omega (arith, lets_few t e ok, length-append (usages_of t e) (None ∷ []))
   lets_few (box_t at t) e ok = omega (arith, lets_few t e ok, length-append (usages_of t e) (None ∷ []))
@@ -425,7 +514,9 @@ mutual
   lets_few (borrow_mut_t at w) e ok = omega arith
   lets_few (number_t at n) e ok = omega arith
   lets_few (unit_t at) e ok = omega arith
-  lets_few (arith_t at op l r) e ok = absurd ok
+  lets_few (arith_t at op l r) e ok =
+      let e1 = env_after (typing l e) in
+      omega (arith, lets_few l e ok.0, lets_few r e1 ok.1, length-append (usages_of l e ++ usages_of r e1) (None ∷ []), length-append (usages_of l e) (usages_of r e1))
   lets_few (join_t at t) e ok = omega arith
   lets_few (mutex_t at t) e ok = omega arith
   lets_few (dup_t at w) e ok = omega arith
@@ -433,7 +524,7 @@ mutual
   lets_few (spawn_t at cs t) e ok = omega arith
   lets_few (par_t at cs t ds u) e ok = omega arith
 
-  items_few : (ts : Items) (e : Env) → AreAccepted ts → lets ts ≤ length (usages_in ts e)
+  items_few : (ts : Items) (e : Env) → AreSequential ts → lets ts ≤ length (usages_in ts e)
   items_few none e ok = omega arith
   items_few (item t ts) e ok = omega (arith, lets_few t e ok.0, items_few ts (env_after (typing t e)) ok.1, length-append (usages_of t e) (usages_in ts (env_after (typing t e))))
 
@@ -465,13 +556,15 @@ block_run : (p : Program) (at : ℕ) (counts : List ℕ) (look : ℕ → Run) (i
     IsBlockOf counts items.items f → build look f ≡ block (lets (items_at (meanings p.arena) items.items)) (resolve_items (items_at (meanings p.arena) items.items) e)
 block_run p at counts look items n e (form.Block is k) arena h at_n w c same runs made =
     let s = block_typed p at items n e arena h at_n w in
-    let count = count_items p counts at items.items c same (below_of p.arena at items.items s.ready.parts) s.ready.accepted in
     let few = block_few p at items n e arena h at_n w in
+    let count = count_items p counts at items.items c same (below_of p.arena at items.items s.ready.parts) s.ready.sequential few in
     let total : k ≡ lets (items_at (meanings p.arena) items.items) = made.1 (omega (arith, count, few)) ∙ count in
     ap₂ block total (ap (parts_of look) made.0 ∙ items_run p at look items.items e arena runs s)
 block_run p at counts look items n e (form.Number v) arena h at_n w c same runs made = absurd made
 block_run p at counts look items n e form.Unit arena h at_n w c same runs made = absurd made
 block_run p at counts look items n e (form.Read x t) arena h at_n w c same runs made = absurd made
+block_run p at counts look items n e (form.Borrow x) arena h at_n w c same runs made = absurd made
+block_run p at counts look items n e (form.Arith op l r) arena h at_n w c same runs made = absurd made
 block_run p at counts look items n e (form.Box v) arena h at_n w c same runs made = absurd made
 block_run p at counts look items n e (form.Let v) arena h at_n w c same runs made = absurd made
 block_run p at counts look items n e (form.Print v) arena h at_n w c same runs made = absurd made
@@ -504,6 +597,27 @@ run_row p at counts look n e f arena h w c same runs made (a_read from is) =
     ∙ sym (read_moves spot e w.kind w.after (sym (ap (λ x. typing x e) term) ∙ w.typed)) in
     resolved p at n (Read from) (read_t n.place spot) e (build look f) (read (named e spot) (moves e spot)) h is refl
     (ap (build look) (made_is p counts at n (Read from) f is made) ∙ ap₂ read place takes) refl
+run_row p at counts look n e f arena h w c same runs made (a_borrow of is) =
+    let spot = place_at (meanings p.arena) of in
+    let parts = subst (AreBelow (meanings p.arena) at) (ap needs is) h.parts in
+    let used = lent_place p at of n (Borrow of) (borrow_t n.place spot) e arena h is refl refl refl w in
+    resolved p at n (Borrow of) (borrow_t n.place spot) e (build look f) (borrow (named e spot)) h is refl
+    (ap (build look) (made_is p counts at n (Borrow of) f is made) ∙ ap borrow (place_named p of e false parts.1 used)) refl
+run_row p at counts look n e f arena h w c same runs made (a_borrow_mut of is) =
+    let spot = place_at (meanings p.arena) of in
+    let parts = subst (AreBelow (meanings p.arena) at) (ap needs is) h.parts in
+    let used = lent_place p at of n (BorrowMut of) (borrow_mut_t n.place spot) e arena h is refl refl refl w in
+    resolved p at n (BorrowMut of) (borrow_mut_t n.place spot) e (build look f) (borrow (named e spot)) h is refl
+    (ap (build look) (made_is p counts at n (BorrowMut of) f is made) ∙ ap borrow (place_named p of e false parts.1 used)) refl
+run_row p at counts look n e f arena h w c same runs made (an_arith op left right is) =
+    let t = term_at (meanings p.arena) left in
+    let u = term_at (meanings p.arena) right in
+    let first = left_part p.arena at left right op n h is w.ready in
+    let second = right_part p.arena at left right op n h is w.ready in
+    let o = arith_typed p at left right op n e arena h is w in
+    let after = ap (λ x. resolve u x) (same_after (typing t e)) in
+    resolved p at n (Arith op left right) (arith_t n.place op t u) e (build look f) (arith_r op (resolve t e) (resolve u (plain.env_after t e))) h is refl
+    (ap (build look) (made_is p counts at n (Arith op left right) f is made) ∙ ap₂ (arith_r op) (runs left first.before e o.first) (runs right second.before (env_after (typing t e)) o.second ∙ after)) refl
 run_row p at counts look n e f arena h w c same runs made (a_box v is) =
     let t = term_at (meanings p.arena) v in
     let part = box_part p.arena at v n h is w.ready in

@@ -6,9 +6,9 @@ use Rattle.fr_base.specs.declared.place.Lval.{Lval}
 use Rattle.fr_plain.specs.declared.value.Value.{Value}
 use Rattle.fr_plain.specs.Heap.{Heap}
 use Rattle.fr_plain.specs.State.{State}
-use Rattle.fr_plain.specs.Acts.{Did, act, do_read, do_discard, do_drop, do_end, unit}
+use Rattle.fr_plain.specs.Acts.{Did, act, do_read, do_borrow, do_discard, do_drop, do_end, unit}
 use Rattle.fr_plain.specs.Run as run
-use Rattle.fr_plain.specs.Run.{Run, temp, read, block, Parts, last, more, Now, going, constant, temporary, now, settle, leaves, Move, next, alone, move, Life, alive, on_value}
+use Rattle.fr_plain.specs.Run.{Run, temp, read, borrow, block, Parts, last, more, Now, going, constant, temporary, now, settle, leaves, Move, next, alone, move, Life, alive, on_value}
 use Rattle.fr_meaning.specs.declared.forms.Form.{Form}
 use Rattle.fr_meaning.specs.declared.frame.Done.{Done}
 use Rattle.fr_meaning.specs.declared.frame.Done.TheVariants as done
@@ -16,7 +16,8 @@ use Rattle.fr_meaning.specs.declared.frame.Frame.{Frame}
 use Rattle.fr_meaning.specs.declared.frame.Frame.TheVariants as frame
 use Rattle.fr_meaning.specs.Contexts.{Around, fill, wrap, IsOpen, IsHeld, IsSettled}
 use Rattle.fr_meaning.specs.FormTerms.{parts_from, parts_of, term_of, items_at}
-use Rattle.fr_meaning.specs.FrameTerms.{over, value_of, around_items, around, all_around, wrapped}
+use Rattle.fr_meaning.specs.DoneTerms.{over, value_of}
+use Rattle.fr_meaning.specs.FrameTerms.{around_items, around, all_around, wrapped}
 use Rattle.fr_meaning.specs.Turning.{did, Turned, turned_by, turned, turns_to, Went, went_by, went, thread_step, goes_to}
 use Rattle.fr_meaning.proofs.ContextLemmas.{now_wrap, move_wrap}
 use Rattle.fr_meaning.proofs.FrameLemmas.{now_temporary, last_waits, more_waits}
@@ -72,6 +73,14 @@ read_goes w take s h = turned_goes (record { act = do_read w take; plug = temp }
 pub read_turns : (w : Lval) (take : Bool) (s : State) (v : Value) (slots : List Value) (heap : Heap) (labels : List Label) → act (do_read w take) s ≡ did v slots heap labels → turned (move (read w take)) s ≡ turns_to (temp v) slots heap labels
 read_turns w take s v slots heap labels h = ap (turned_by (record { act = do_read w take; plug = temp })) h
 
+-- a reference that is made is defined
+pub borrow_goes : (w : Lval) (s : State) → IsSome (turned (move (borrow w)) s) → IsSome (act (do_borrow w) s)
+borrow_goes w s h = turned_goes (record { act = do_borrow w; plug = temp }) (act (do_borrow w) s) h
+
+-- and is a temporary value
+pub borrow_turns : (w : Lval) (s : State) (v : Value) (slots : List Value) (heap : Heap) (labels : List Label) → act (do_borrow w) s ≡ did v slots heap labels → turned (move (borrow w)) s ≡ turns_to (temp v) slots heap labels
+borrow_turns w s v slots heap labels h = ap (turned_by (record { act = do_borrow w; plug = temp })) h
+
 -- a settled block whose item is done holds a temporary value before a `;`, and has slots to drop after its last item
 pub held : (left : ℕ) (look : ℕ → Run) (js : List ℕ) (j : ℕ) (ks : List ℕ) (d : Done) → js ≡ j ∷ ks → IsSettled (fill (around_items left look js) (over d)) → leaves (over d) ≡ true
 held left look js j ks d e h = by d (subst (λ (l : List ℕ). IsSettled (fill (around_items left look l) (over d))) e h).1
@@ -97,6 +106,8 @@ settled_waits fs frame.Box d h = refl
 settled_waits fs frame.Let d h = refl
 settled_waits fs frame.Print d h = refl
 settled_waits fs (frame.Assign w) d h = refl
+settled_waits fs (frame.Left f right) d h = refl
+settled_waits fs (frame.Right f left) d h = refl
 settled_waits fs (frame.Block left node next) d h = by (drop next (items_at fs node)) refl h
   where
     by : (js : List ℕ) → js ≡ js → IsSettled (fill (around_items left (term_of fs) js) (over d)) → now (fill (around_items left (term_of fs) js) (over d)) ≡ going

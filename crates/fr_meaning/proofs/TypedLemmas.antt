@@ -20,7 +20,8 @@ use Rattle.fr_meaning.specs.declared.frame.Done.TheVariants as done
 use Rattle.fr_meaning.specs.declared.frame.Frame.{Frame}
 use Rattle.fr_meaning.specs.declared.frame.Focus.{Focus}
 use Rattle.fr_meaning.specs.declared.frame.Focus.TheVariants as focus
-use Rattle.fr_meaning.specs.FrameTerms.{over, value_of, wrapped, focus_run, end_of}
+use Rattle.fr_meaning.specs.DoneTerms.{over, value_of}
+use Rattle.fr_meaning.specs.FrameTerms.{wrapped, focus_run, end_of}
 use Rattle.fr_meaning.specs.PoolView.{View, run_of, life_of, whole_of, refusal}
 use Rattle.fr_meaning.specs.SlotOrder.{newest_first}
 use Rattle.fr_meaning.specs.Turning.{state, did, went_by, thread_step, goes_to}
@@ -80,6 +81,8 @@ run_end fs (focus.Over x) [] d h = let e : x ≡ d = cc in ap over e
 run_end fs (focus.Over x) (g ∷ gs) d h = absurd cc
 run_end fs (focus.Read w take) [] d h = absurd cc
 run_end fs (focus.Read w take) (g ∷ gs) d h = absurd cc
+run_end fs (focus.Borrow w) [] d h = absurd cc
+run_end fs (focus.Borrow w) (g ∷ gs) d h = absurd cc
 
 -- a thread whose term is done ends
 thread_ends : (d : Done) (s : State) (slots : List Value) (heap : Heap) (labels : List Label) → act (do_end (value_of d)) s ≡ did unit slots heap labels → thread_step (alive (over d)) s ≡ goes_to run.over slots heap labels

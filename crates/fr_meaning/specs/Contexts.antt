@@ -1,14 +1,19 @@
 -- A running term as the terms around its innermost one, how deep it is, and when it waits for a step.
 use Rattle.std.specs.Prelude.{ℕ, zero, suc, ◌+◌, max, ⊤, List, [], ◌∷◌}
 use Rattle.fr_base.specs.declared.place.Lval.{Lval}
+use Rattle.fr_base.specs.declared.place.Op.{Op}
 use Rattle.fr_plain.specs.Run.{Run, temp, unit_c, number, read, borrow, box_r, arith, bind, print, assign, block, Parts, last, more, Now, going, constant, temporary, now}
+use Rattle.fr_meaning.specs.declared.frame.Done.{Done}
+use Rattle.fr_meaning.specs.DoneTerms.{over}
 
--- a term with a hole in it, of the forms that are accepted so far
+-- a term with a hole in it: of an operation, the left operand before the right one, or the right one after the left one, which is done
 pub data Around : Type 0 where
   in_box : Around
   in_bind : Around
   in_print : Around
   in_assign : Lval → Around
+  in_left : Op → Run → Around
+  in_right : Op → Done → Around
   in_last : ℕ → Around
   in_more : ℕ → Parts → Around
 
@@ -17,6 +22,8 @@ fill in_box r = box_r r
 fill in_bind r = bind r
 fill in_print r = print r
 fill (in_assign w) r = assign w r
+fill (in_left f b) r = arith f r b
+fill (in_right f d) r = arith f (over d) r
 fill (in_last k) r = block k (last r)
 fill (in_more k is) r = block k (more r is)
 

@@ -1,6 +1,6 @@
 -- The running term of a form (this project's rule): a form names lower ones, and its term is made of theirs.
 use Rattle.std.specs.Prelude.{ℕ, ◌<◌, ◌==◌, ⊤, List, [], ◌∷◌, length, slice_index_or, if◌then◌else◌}
-use Rattle.fr_plain.specs.Run.{Run, unit_c, number, read, box_r, bind, print, assign, block, Parts, last, more}
+use Rattle.fr_plain.specs.Run.{Run, unit_c, number, read, borrow, box_r, arith, bind, print, assign, block, Parts, last, more}
 use Rattle.fr_meaning.specs.declared.forms.Form.{Form}
 use Rattle.fr_meaning.specs.declared.forms.Form.TheVariants as form
 use Rattle.fr_meaning.specs.SlotOrder.{newest_first}
@@ -20,10 +20,12 @@ abbrev pub build : (ℕ → Run) → Form → Run
 build look (form.Number n) = number n
 build look form.Unit = unit_c
 build look (form.Read w take) = read w take
+build look (form.Borrow w) = borrow w
 build look (form.Box value) = box_r (look value)
 build look (form.Let value) = bind (look value)
 build look (form.Print value) = print (look value)
 build look (form.Assign w value) = assign w (look value)
+build look (form.Arith f left right) = arith f (look left) (look right)
 build look (form.Block items lets) = block lets (parts_of look items.items)
 build look form.Place = unit_c
 
@@ -45,6 +47,7 @@ NamesBelow n (form.Box value) = value < n
 NamesBelow n (form.Let value) = value < n
 NamesBelow n (form.Print value) = value < n
 NamesBelow n (form.Assign w value) = value < n
+NamesBelow n (form.Arith f left right) = (left < n) × (right < n)
 NamesBelow n (form.Block items lets) = AllBelow n items.items
 NamesBelow n _ = ⊤
 

@@ -1,20 +1,25 @@
 -- The forms of a checked program's nodes (this project's rule): each names those of its parts, which stand before it.
-use Rattle.std.specs.Prelude.{◌≡◌, ℕ, ◌+◌, ◌<◌, ◌≤◌, ◌^◌, List, [], ◌∷◌, slice_index_or, unwrap_or}
+use Rattle.std.specs.Prelude.{◌≡◌, ℕ, ◌+◌, ◌-◌, ◌<◌, ◌^◌, min, List, [], ◌∷◌, slice_index_or, unwrap_or}
 use Rattle.fr_base.specs.declared.place.Lval.{Lval}
 use Rattle.fr_syntax.specs.declared.tree.Term.{Term}
-use Rattle.fr_syntax.specs.declared.tree.Term.TheVariants.{Block, Let, Assign, Read, Number, Unit, Box, Print}
+use Rattle.fr_syntax.specs.declared.tree.Term.TheVariants.{Block, Let, Assign, Read, Borrow, BorrowMut, Number, Unit, Box, Print, Arith}
 use Rattle.fr_meaning.specs.declared.forms.Form.{Form}
 use Rattle.fr_meaning.specs.declared.forms.Form.TheVariants as form
-use Rattle.fr_meaning.specs.Programs.{Program, lval_of, takes_of}
+use Rattle.borrow_check.specs.Programs.{Program, lval_of, takes_of}
 
 -- HOW MANY VARIABLES
 
 abbrev pub count_at : List ℕ → ℕ → ℕ
 count_at counts i = slice_index_or counts i 0
 
+-- as far as a 32-bit number tells
+abbrev pub clipped : ℕ → ℕ
+clipped n = min n (2 ^ 32 - 1)
+
 -- how many variables a form's term declares outside of the blocks in it, from those of the forms before it
 abbrev pub count_of : List ℕ → Form → ℕ
-count_of counts (form.Let value) = count_at counts value + 1
+count_of counts (form.Let value) = clipped (count_at counts value + 1)
+count_of counts (form.Arith f left right) = clipped (count_at counts left + count_at counts right)
 count_of counts (form.Assign w value) = count_at counts value
 count_of counts (form.Box value) = count_at counts value
 count_of counts (form.Print value) = count_at counts value
@@ -24,11 +29,7 @@ abbrev pub count_all : List ℕ → List ℕ → ℕ
 count_all counts [] = 0
 count_all counts (i ∷ is) = count_at counts i + count_all counts is
 
--- a term declares at most as many variables as there are nodes up to its own
-abbrev pub AreFew : List ℕ → Type 0
-AreFew counts = (i : ℕ) → count_at counts i ≤ i + 1
-
--- the variables of these items, as far as a 32-bit number tells them
+-- the variables of these items, where a 32-bit number tells them
 abbrev pub IsCount : List ℕ → List ℕ → ℕ → Type 0
 IsCount counts items k = count_all counts items < 2 ^ 32 → k ≡ count_all counts items
 
@@ -43,14 +44,17 @@ abbrev pub IsBlockOf : List ℕ → List ℕ → Form → Type 0
 IsBlockOf counts items (form.Block is k) = (is.items ≡ items) × IsCount counts items k
 IsBlockOf counts items _ = ⊥
 
--- the form of a node, from how many variables the terms before it declare; forms that aren't accepted yet have none
+-- the form of a node, from how many variables the terms before it declare; those with threads or mutexes have none
 abbrev pub IsMade : Program → List ℕ → ℕ → Term → Form → Type 0
 IsMade p counts at (Number n) f = f ≡ form.Number n
 IsMade p counts at Unit f = f ≡ form.Unit
 IsMade p counts at (Read from) f = f ≡ form.Read (place_in p from) (takes_of p at)
+IsMade p counts at (Borrow of) f = f ≡ form.Borrow (place_in p of)
+IsMade p counts at (BorrowMut of) f = f ≡ form.Borrow (place_in p of)
 IsMade p counts at (Box value) f = f ≡ form.Box value
 IsMade p counts at (Let name value) f = f ≡ form.Let value
 IsMade p counts at (Print value) f = f ≡ form.Print value
 IsMade p counts at (Assign to value) f = f ≡ form.Assign (place_in p to) value
+IsMade p counts at (Arith op left right) f = f ≡ form.Arith op left right
 IsMade p counts at (Block items) f = IsBlockOf counts items.items f
 IsMade p counts at _ f = f ≡ form.Place

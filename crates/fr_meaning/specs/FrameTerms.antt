@@ -1,32 +1,17 @@
 -- What frames and the focus mean: the terms around the innermost term, and that term.
 use Rattle.std.specs.Prelude.{◌≡◌, ℕ, ◌<◌, ⊤, List, [], ◌∷◌, drop, Option, Some, None}
-use Rattle.fr_base.specs.declared.label.Plain.TheVariants as plain
-use Rattle.fr_plain.specs.declared.value.Value.{Value}
-use Rattle.fr_plain.specs.declared.value.Value.TheVariants.{Own}
-use Rattle.fr_plain.specs.Acts.{unit}
-use Rattle.fr_plain.specs.Run.{Run, temp, unit_c, number, read, going, now}
+use Rattle.fr_plain.specs.Run.{Run, read, borrow, going, now}
 use Rattle.fr_meaning.specs.declared.forms.Form.{Form}
 use Rattle.fr_meaning.specs.declared.frame.Done.{Done}
-use Rattle.fr_meaning.specs.declared.frame.Done.TheVariants as done
 use Rattle.fr_meaning.specs.declared.frame.Frame.{Frame}
 use Rattle.fr_meaning.specs.declared.frame.Frame.TheVariants as frame
 use Rattle.fr_meaning.specs.declared.frame.Focus.{Focus}
 use Rattle.fr_meaning.specs.declared.frame.Focus.TheVariants as focus
 use Rattle.fr_meaning.specs.declared.frame.Entered.{Entered}
 use Rattle.fr_meaning.specs.declared.frame.Entered.TheVariants as entered
-use Rattle.fr_meaning.specs.Contexts.{Around, in_box, in_bind, in_print, in_assign, in_last, in_more, wrap}
+use Rattle.fr_meaning.specs.DoneTerms.{over}
+use Rattle.fr_meaning.specs.Contexts.{Around, in_box, in_bind, in_print, in_assign, in_left, in_right, in_last, in_more, wrap}
 use Rattle.fr_meaning.specs.FormTerms.{parts_from, term_of, items_at}
-
--- a term that is done
-abbrev pub over : Done → Run
-over done.Unit = unit_c
-over (done.Number n) = number n
-over (done.Temp v) = temp v
-
-abbrev pub value_of : Done → Value
-value_of done.Unit = unit
-value_of (done.Number n) = Own (plain.Int n)
-value_of (done.Temp v) = v
 
 -- an item of a block that has still to drop so many slots, before the items after it
 abbrev pub around_items : ℕ → (ℕ → Run) → List ℕ → Around
@@ -38,6 +23,8 @@ around fs frame.Box = in_box
 around fs frame.Let = in_bind
 around fs frame.Print = in_print
 around fs (frame.Assign w) = in_assign w
+around fs (frame.Left f right) = in_left f (term_of fs right)
+around fs (frame.Right f left) = in_right f left
 around fs (frame.Block left node next) = around_items left (term_of fs) (drop next (items_at fs node))
 
 abbrev pub all_around : List Form → List Frame → List Around
@@ -51,9 +38,11 @@ wrapped fs gs r = wrap (all_around fs gs) r
 abbrev pub focus_run : Focus → Run
 focus_run (focus.Over d) = over d
 focus_run (focus.Read w take) = read w take
+focus_run (focus.Borrow w) = borrow w
 
--- the block that a frame names is there
+-- the form that a frame names is there
 abbrev pub IsInside : ℕ → Frame → Type 0
+IsInside n (frame.Left f right) = right < n
 IsInside n (frame.Block left node next) = node < n
 IsInside n _ = ⊤
 
@@ -61,15 +50,32 @@ abbrev pub AreInside : ℕ → List Frame → Type 0
 AreInside n [] = ⊤
 AreInside n (g ∷ gs) = IsInside n g × AreInside n gs
 
--- the frames of terms with one part
-abbrev pub HasOnePart : Frame → Type 0
-HasOnePart (frame.Block left node next) = ⊥
-HasOnePart _ = ⊤
+-- the part that the frame waits for is its term's only or last one
+abbrev pub HasLastPart : Frame → Type 0
+HasLastPart (frame.Left f right) = ⊥
+HasLastPart (frame.Block left node next) = ⊥
+HasLastPart _ = ⊤
+
+-- the frame doesn't wait for a left operand
+abbrev pub IsPastLeft : Frame → Type 0
+IsPastLeft (frame.Left f right) = ⊥
+IsPastLeft _ = ⊤
+
+-- nor does the top one of these, which is the last
+abbrev pub TopIsPastLeft : List Frame → Type 0
+TopIsPastLeft [] = ⊤
+TopIsPastLeft (g ∷ []) = IsPastLeft g
+TopIsPastLeft (g ∷ h ∷ gs) = TopIsPastLeft (h ∷ gs)
+
+-- a left operand that is done has made way for the right one
+abbrev pub HasMadeWay : List Frame → Focus → Type 0
+HasMadeWay gs (focus.Over d) = TopIsPastLeft gs
+HasMadeWay gs _ = ⊤
 
 -- the settled term is done, with the frames as they were, or it is the focus in frames above the old ones
 abbrev pub Enters : List Form → List Frame → List Frame → Run → Entered → Type 0
 Enters fs old new r (entered.Ended d) = (r ≡ over d) × (new ≡ old)
-Enters fs old new r (entered.Waits f) = (now r ≡ going) × (wrapped fs new (focus_run f) ≡ wrapped fs old r)
+Enters fs old new r (entered.Waits f) = (now r ≡ going) × (wrapped fs new (focus_run f) ≡ wrapped fs old r) × HasMadeWay new f
 
 -- the same, or it is what follows
 abbrev pub EntersItem : List Form → List Frame → List Frame → Run → Run → Option Entered → Type 0

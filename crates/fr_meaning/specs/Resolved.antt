@@ -1,6 +1,6 @@
 -- When running terms are those of a checked program's nodes (this project's rule).
 use Rattle.std.specs.Prelude.{◌≡◌, ℕ, ◌<◌, List, length}
-use Rattle.fr_terms.specs.Limits.{IsAccepted}
+use Rattle.fr_typing.specs.Sequential.{IsSequential}
 use Rattle.fr_typing.specs.Kinds.{Kind}
 use Rattle.fr_typing.specs.Places.{Env}
 use Rattle.fr_typing.specs.Finding.{typed}
@@ -10,10 +10,10 @@ use Rattle.fr_plain.specs.Run.{Run}
 use Rattle.fr_plain.specs.Resolve.{resolve, lets_in}
 use Rattle.fr_meaning.specs.declared.forms.Form.{Form}
 use Rattle.fr_meaning.specs.FormTerms.{term_of, AreInOrder}
-use Rattle.fr_meaning.specs.Nodes.{IsReady}
-use Rattle.fr_meaning.specs.Usages.{usages_of, AreUsed}
-use Rattle.fr_meaning.specs.Programs.{Program}
-use Rattle.fr_meaning.specs.Forming.{count_at, AreFew}
+use Rattle.borrow_check.specs.Nodes.{IsReady}
+use Rattle.borrow_check.specs.Usages.{usages_of, AreUsed}
+use Rattle.borrow_check.specs.Programs.{Program}
+use Rattle.fr_meaning.specs.Forming.{clipped, count_at}
 
 -- the node's term is typed in this environment, with the usages that the program has
 pub record IsTypedIn (p : Program) (at : ℕ) (e : Env) : Type 0 where
@@ -31,9 +31,9 @@ IsRun p at r = (e : Env) → IsTypedIn p at e → r ≡ resolve (term_at (meanin
 abbrev pub AreRuns : Program → ℕ → (ℕ → Run) → Type 0
 AreRuns p bound look = (i : ℕ) → i < bound → IsRun p i (look i)
 
--- the number of variables of each node before, where its forms are accepted
+-- the number of variables of each node before, where its forms are those of one thread
 abbrev pub AreCounts : Program → List ℕ → Type 0
-AreCounts p counts = (i : ℕ) → i < length counts → IsAccepted (term_at (meanings p.arena) i) → count_at counts i ≡ lets_in (term_at (meanings p.arena) i)
+AreCounts p counts = (i : ℕ) → i < length counts → IsSequential (term_at (meanings p.arena) i) → count_at counts i ≡ clipped (lets_in (term_at (meanings p.arena) i))
 
 -- the forms of the first nodes, with the number of variables that each one's term declares
 pub record IsBuilt (p : Program) (forms : List Form) (counts : List ℕ) : Type 0 where
@@ -41,4 +41,3 @@ pub record IsBuilt (p : Program) (forms : List Form) (counts : List ℕ) : Type 
   pub runs : AreRuns p (length forms) (term_of forms)
   pub same : length counts ≡ length forms
   pub counted : AreCounts p counts
-  pub few : AreFew counts

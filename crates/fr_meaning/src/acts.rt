@@ -3,13 +3,13 @@
 ghost use Rattle.std.specs.Prelude.{◌≡◌, ◌<◌, ◌≤◌, ◌+◌, ◌++◌, ◌∷◌, [], Option, Some, None, IsSome, vec_len, vec_capacity};
 ghost use Rattle.fr_base.specs.declared.label.Label.TheVariants as label;
 ghost use Rattle.fr_plain.specs.State.{value_at, with_value, loads, stores, drops, led, locate, cell_of, without};
-ghost use Rattle.fr_plain.specs.Acts.{act, do_read, do_assign, do_box, do_print, do_drop, do_discard, do_end, unit};
+ghost use Rattle.fr_plain.specs.Acts.{act, do_read, do_borrow, do_assign, do_box, do_arith, do_print, do_drop, do_discard, do_end, result_of, unit};
 ghost use Rattle.fr_plain.specs.Whole.{prints};
 ghost use Rattle.fr_meaning.specs.Turning.{state, did, spot_of, IsReached};
 
 use crate::heap::Heap;
 use crate::spot::Where;
-use fr_base::{Label, Labels, Lval, Plain, ThreadNo};
+use fr_base::{Label, Labels, Lval, Op, Plain, ThreadNo};
 use fr_plain::Value;
 
 // The main thread.
@@ -74,7 +74,7 @@ fn value_there(slots: &[Value], heap: &Heap, spot: &Where) -> Option<Value>
 {
     match spot {
         Where::Slot(slot) => {
-            let at = *slot;
+            let at = *slot as usize;
             if at < slots.len() {
                 Some(slots[at])
             } else {
@@ -95,7 +95,7 @@ fn put(slots: &mut Vec<Value>, heap: &mut Heap, spot: &Where, value: Value)
 {
     match spot {
         Where::Slot(slot) => {
-            let at = *slot;
+            let at = *slot as usize;
             slots[at] = value;
         }
         Where::Cell(object) => heap.put(object, plain_of(value)),
@@ -129,7 +129,7 @@ fn lead(labels: &mut Labels, spot: &Where, value: &Value) -> Option<Where>
     ensures spare { labels.old.spare ≤ labels.new.spare + 1 }
 {
     match value {
-        Value::ToSlot(slot) => Some(Where::Slot(*slot as usize)),
+        Value::ToSlot(slot) => Some(Where::Slot(*slot)),
         Value::ToObject(object) => Some(Where::Cell(*object)),
         Value::Own(Plain::Box(object)) => {
             note_load(labels, spot, value);
@@ -150,7 +150,7 @@ fn find(slots: &[Value], heap: &Heap, place: Lval, labels: &mut Labels) -> Optio
     ensures leads { IsReached (locate (state slots.now heap.now.heap) place) labels.new.items result }
     ensures spare { labels.old.spare ≤ labels.new.spare + place.depth }
 {
-    let mut spot = Where::Slot(place.slot as usize);
+    let mut spot = Where::Slot(place.slot);
     'stars: for star in 0..place.depth {
         let Some(value) = value_there(slots, heap, &spot) else {
             return None;
@@ -188,6 +188,22 @@ pub fn read(
         note_store(labels, &spot, &Value::Own(Plain::Nothing));
     }
     value
+}
+
+/// Makes a reference to what stands at a place.
+pub fn borrow(slots: &[Value], heap: &Heap, labels: &mut Labels, place: Lval) -> Value
+    requires goes { IsSome (act (do_borrow place) (state slots.now heap.now.heap)) }
+    requires labels { labels.old.items ≡ [] }
+    requires room { place.depth ≤ labels.old.spare }
+    ensures { act (do_borrow place) (state slots.now heap.now.heap) ≡ did result slots.now heap.now.heap labels.new.items }
+{
+    let Some(spot) = find(slots, heap, place, labels) else {
+        unreachable!()
+    };
+    match spot {
+        Where::Slot(slot) => Value::ToSlot(slot),
+        Where::Cell(object) => Value::ToObject(object),
+    }
 }
 
 /// Writes a value to a place, and drops the old one.
@@ -231,6 +247,31 @@ pub fn make_box(slots: &[Value], heap: &mut Heap, labels: &mut Labels, value: Va
     let name = object;
     note(labels, Label::Make(name, plain));
     Value::Own(Plain::Box(object))
+}
+
+/// The sum, the difference or the product of two numbers; each wraps at 64 bits.
+pub fn arith(slots: &[Value], heap: &Heap, op: Op, left: Value, right: Value) -> Value
+    requires { IsSome (act (do_arith op left right) (state slots.now heap.now.heap)) }
+    ensures { act (do_arith op left right) (state slots.now heap.now.heap) ≡ did result slots.now heap.now.heap [] }
+{
+    let Value::Own(Plain::Int(a)) = left else {
+        unreachable!()
+    };
+    let Value::Own(Plain::Int(b)) = right else {
+        unreachable!()
+    };
+    Value::Own(Plain::Int(wrapped(op, a, b)))
+}
+
+// What the operator makes of two numbers.
+fn wrapped(op: Op, left: i64, right: i64) -> i64
+    ensures { result ≡ result_of op left right }
+{
+    match op {
+        Op::Add => left.wrapping_add(right),
+        Op::Sub => left.wrapping_sub(right),
+        Op::Mul => left.wrapping_mul(right),
+    }
 }
 
 /// Prints a number.

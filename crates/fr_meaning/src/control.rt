@@ -5,13 +5,15 @@ ghost use Rattle.fr_meaning.specs.declared.frame.Frame.{Frame};
 ghost use Rattle.fr_meaning.specs.declared.frame.Done.TheVariants as done;
 ghost use Rattle.fr_meaning.specs.declared.frame.Entered.TheVariants as entered;
 ghost use Rattle.fr_meaning.specs.declared.frame.Focus.TheVariants as focus;
-ghost use Rattle.fr_plain.specs.Run.{settle, block, last, leaves};
+ghost use Rattle.fr_plain.specs.Run.{settle, arith, block, last, leaves};
 ghost use Rattle.fr_meaning.specs.Contexts.{fill, depth};
 ghost use Rattle.fr_meaning.specs.FormTerms.{AreInOrder, term_of, parts_of, items_at};
-ghost use Rattle.fr_meaning.specs.FrameTerms.{Enters, EntersItem, waits_of, wrapped, around, over, focus_run, AreInside, IsInside, HasOnePart};
+ghost use Rattle.fr_meaning.specs.DoneTerms.{over};
+ghost use Rattle.fr_meaning.specs.FrameTerms.{Enters, EntersItem, waits_of, wrapped, around, focus_run, AreInside, IsInside, HasMadeWay};
 
 use crate::forms::Form;
 use crate::frame::{Done, Entered, Focus, Frame};
+use fr_base::Op;
 
 // The term around it waits.
 fn waits(entered: Entered) -> Entered
@@ -118,42 +120,61 @@ pub fn enter(forms: &[Form], at: usize, frames: &mut Vec<Frame>) -> Entered
         Form::Unit => Entered::Ended(Done::Unit),
         Form::Place => Entered::Ended(Done::Unit),
         Form::Read(place, take) => Entered::Waits(Focus::Read(*place, *take)),
-        Form::Box(part) => enter_part(forms, *part as usize, frames, Frame::Box, at),
-        Form::Let(part) => enter_part(forms, *part as usize, frames, Frame::Let, at),
-        Form::Print(part) => enter_part(forms, *part as usize, frames, Frame::Print, at),
-        Form::Assign(place, part) => enter_part(
+        Form::Borrow(place) => Entered::Waits(Focus::Borrow(*place)),
+        Form::Box(part) => {
+            frames.push_reserved(Frame::Box);
+            waits(enter(forms, *part as usize, frames))
+        }
+        Form::Let(part) => {
+            frames.push_reserved(Frame::Let);
+            waits(enter(forms, *part as usize, frames))
+        }
+        Form::Print(part) => {
+            frames.push_reserved(Frame::Print);
+            waits(enter(forms, *part as usize, frames))
+        }
+        Form::Assign(place, part) => {
+            frames.push_reserved(Frame::Assign(*place));
+            waits(enter(forms, *part as usize, frames))
+        }
+        Form::Arith(op, left, right) => enter_operands(
             forms,
-            *part as usize,
+            *op,
+            *left as usize,
+            *right as usize,
             frames,
-            Frame::Assign(*place),
-            at,
         ),
         Form::Block(_, lets) => enter_items(forms, at, 0, *lets, frames),
     }
 }
 
-// Goes into the part that the frame waits for.
+// Goes into the left operand, and where that is done into the right one.
 #[cycle(enter)]
-fn enter_part(
+fn enter_operands(
     forms: &[Form],
-    part: usize,
+    op: Op,
+    left: usize,
+    right: usize,
     frames: &mut Vec<Frame>,
-    frame: Frame,
-    bound: usize,
 ) -> Entered
     requires order { AreInOrder forms.now }
-    requires below { part < bound }
-    requires inside { bound ≤ length forms.now }
-    requires frame { HasOnePart frame }
+    requires left { left < length forms.now }
+    requires right { right < length forms.now }
     requires frames { AreInside (length forms.now) frames.old.items }
-    requires room { depth (wrapped forms.now frames.old.items (fill (around forms.now frame) (term_of forms.now part))) ≤ vec_capacity frames.old }
-    ensures enters { Enters forms.now frames.old.items frames.new.items (fill (around forms.now frame) (settle (term_of forms.now part))) result }
+    requires room { depth (wrapped forms.now frames.old.items (arith op (term_of forms.now left) (term_of forms.now right))) ≤ vec_capacity frames.old }
+    ensures enters { Enters forms.now frames.old.items frames.new.items (settle (arith op (term_of forms.now left) (term_of forms.now right))) result }
     ensures capacity { vec_capacity frames.new ≡ vec_capacity frames.old }
     ensures frames { AreInside (length forms.now) frames.new.items }
 {
-    frames.push_reserved(frame);
-    let entered = enter(forms, part, frames);
-    waits(entered)
+    frames.push_reserved(Frame::Left { op, right });
+    match enter(forms, left, frames) {
+        Entered::Waits(focus) => Entered::Waits(focus),
+        Entered::Ended(done) => {
+            leave_top(frames);
+            frames.push_reserved(Frame::Right { op, left: done });
+            waits(enter(forms, right, frames))
+        }
+    }
 }
 
 /// Goes into the items of a block, from one of them on; the block has still to drop `left` slots.
@@ -237,6 +258,10 @@ fn leave_frame(forms: &[Form], frames: &mut Vec<Frame>, frame: Frame, done: Done
     ensures capacity { vec_capacity frames.new ≡ vec_capacity frames.old }
     ensures frames { AreInside (length forms.now) frames.new.items }
 {
+    if let Frame::Left { op, right } = frame {
+        frames.push_reserved(Frame::Right { op, left: done });
+        return waits(enter(forms, right, frames));
+    }
     let Frame::Block { left, node, next } = frame else {
         return stay(frames, frame, done);
     };
@@ -255,6 +280,7 @@ pub fn leave(forms: &[Form], frames: &mut Vec<Frame>, done: Done) -> Focus
     requires frames { AreInside (length forms.now) frames.old.items }
     requires room { depth (wrapped forms.now frames.old.items (over done)) ≤ vec_capacity frames.old }
     ensures settles { wrapped forms.now frames.new.items (focus_run result) ≡ settle (wrapped forms.now frames.old.items (over done)) }
+    ensures way { HasMadeWay frames.new.items result }
     ensures capacity { vec_capacity frames.new ≡ vec_capacity frames.old }
     ensures frames { AreInside (length forms.now) frames.new.items }
 {

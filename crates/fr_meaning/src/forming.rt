@@ -1,17 +1,17 @@
 //! The forms of a checked program's nodes.
 
-ghost use Rattle.std.specs.Prelude.{◌≡◌, ℕ, ◌+◌, ◌<◌, ◌≤◌, ◌^◌, [], length, IfOk};
+ghost use Rattle.std.specs.Prelude.{◌≡◌, ◌<◌, ◌≤◌, length, IfOk};
 ghost use Rattle.fr_syntax.specs.Meanings.{meanings, meaning_at, needs, sort_of, term_of, place_s, AreBelow};
 ghost use Rattle.fr_plain.specs.Resolve.{program};
 ghost use Rattle.fr_plain.specs.Whole.{start};
 ghost use Rattle.fr_sound.specs.NeverStuck.{IsTyped};
 ghost use Rattle.fr_meaning.specs.Contexts.{depth};
 ghost use Rattle.fr_meaning.specs.FormTerms.{AllBelow, AreInOrder, NamesBelow};
-ghost use Rattle.fr_meaning.specs.Forming.{count_of, place_in, AreFew, IsCount, IsMade};
+ghost use Rattle.fr_meaning.specs.Forming.{count_of, place_in, IsCount, IsMade};
 ghost use Rattle.fr_meaning.specs.PoolView.{root_of as root_run};
 
-use crate::checked::Checked;
 use crate::forms::Form;
+use borrow_check::Checked;
 use fr_base::{Lval, NoMemory};
 use fr_syntax::{Nodes, Term};
 use std::alloc::Global;
@@ -60,12 +60,13 @@ fn variables(nodes: &Nodes, counts: &[u32]) -> u32
 // How many variables a form's term declares outside of the blocks in it.
 fn count_in(counts: &[u32], form: &Form) -> u32
     requires below { NamesBelow (length counts.now) form.now }
-    requires few { AreFew counts.now }
-    requires room { length counts.now < 2 ^ 28 }
     ensures { result ≡ count_of counts.now form.now }
 {
     match form {
-        Form::Let(value) => counts[*value as usize] + 1,
+        Form::Let(value) => counts[*value as usize].saturating_add(1),
+        Form::Arith(_, left, right) => {
+            counts[*left as usize].saturating_add(counts[*right as usize])
+        }
         Form::Assign(_, value) => counts[*value as usize],
         Form::Box(value) => counts[*value as usize],
         Form::Print(value) => counts[*value as usize],
@@ -91,10 +92,13 @@ fn form_of(
         Term::Number(value) => Ok(Form::Number(*value)),
         Term::Unit => Ok(Form::Unit),
         Term::Read(from) => Ok(Form::Read(place(checked, *from), checked.takes(at))),
+        Term::Borrow(of) => Ok(Form::Borrow(place(checked, *of))),
+        Term::BorrowMut(of) => Ok(Form::Borrow(place(checked, *of))),
         Term::Box(value) => Ok(Form::Box(*value)),
         Term::Let(_, value) => Ok(Form::Let(*value)),
         Term::Print(value) => Ok(Form::Print(*value)),
         Term::Assign(to, value) => Ok(Form::Assign(place(checked, *to), *value)),
+        Term::Arith(op, left, right) => Ok(Form::Arith(*op, *left, *right)),
         Term::Block(items) => Ok(Form::Block(numbers(alloc, items)?, variables(items, counts))),
         _ => Ok(Form::Place),
     }

@@ -1,6 +1,6 @@
 //! The forms of a program.
 
-use fr_base::Lval;
+use fr_base::{Lval, Op};
 
 /// A term with slots for names. There is one form for each node of the tree, under the node's number, and its parts
 /// are numbers of forms that stand before it.
@@ -10,10 +10,14 @@ pub enum Form {
     Unit,
     /// The place, and whether the value is taken out of it.
     Read(Lval, bool),
+    /// The place that the reference leads to, of either kind.
+    Borrow(Lval),
     Box(u32),
     Let(u32),
     Print(u32),
     Assign(Lval, u32),
+    /// The left operand and the right one.
+    Arith(Op, u32, u32),
     /// The items in order, and how many of them are a `let`: so many slots are dropped at the block's end.
     Block(Vec<u32>, u32),
     /// The node of a place, which nobody enters.

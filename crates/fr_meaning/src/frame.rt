@@ -1,6 +1,6 @@
 //! Where a thread stands in its forms.
 
-use fr_base::Lval;
+use fr_base::{Lval, Op};
 use fr_plain::Value;
 
 /// A term that is done: a constant, or the value that a step left.
@@ -18,15 +18,21 @@ pub enum Frame {
     Let,
     Print,
     Assign(Lval),
+    /// The left operand is in progress; the form of the right one, which comes after it.
+    Left { op: Op, right: usize },
+    /// The right operand is in progress, and the left one is done.
+    Right { op: Op, left: Done },
     /// How many slots the block has still to drop, its form, and the item after the one in progress.
     Block { left: u32, node: usize, next: usize },
 }
 
-/// The innermost term: it is done, or it reads a place, with or without taking the value out of it.
+/// The innermost term: it is done, or it reads a place, with or without taking the value out of it, or makes a
+/// reference to one.
 #[derive(Clone, Copy)]
 pub enum Focus {
     Over(Done),
     Read(Lval, bool),
+    Borrow(Lval),
 }
 
 /// What entering a term comes to: it is done, or it waits at its innermost part.

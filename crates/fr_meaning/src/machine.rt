@@ -6,10 +6,11 @@ ghost use Rattle.fr_plain.specs.Run.{Run, settle, block, move, alive};
 ghost use Rattle.fr_plain.specs.Whole.{prints};
 ghost use Rattle.fr_meaning.specs.Contexts.{fill, depth, IsSettled};
 ghost use Rattle.fr_meaning.specs.FormTerms.{AreInOrder, term_of, parts_of, items_at};
-ghost use Rattle.fr_meaning.specs.FrameTerms.{wrapped, around, around_items, over, value_of, focus_run, AreInside, IsInside, HasOnePart, end_of};
+ghost use Rattle.fr_meaning.specs.DoneTerms.{over, value_of};
+ghost use Rattle.fr_meaning.specs.FrameTerms.{wrapped, around, around_items, focus_run, AreInside, IsInside, HasLastPart, IsPastLeft, HasMadeWay, end_of};
 ghost use Rattle.fr_meaning.specs.Turning.{state, turned, turns_to, thread_step, goes_to, frame_labels, focus_labels};
 
-use crate::acts::{assign, discard, drop_slot, make_box, print, read};
+use crate::acts::{arith, assign, borrow, discard, drop_slot, make_box, print, read};
 use crate::control::{enter_items, has_item, leave};
 use crate::forms::Form;
 use crate::frame::{Done, Entered, Focus, Frame};
@@ -35,6 +36,7 @@ pub fn end_in(focus: &Focus, frames: &[Frame]) -> Option<Done>
     match focus {
         Focus::Over(done) => { if frames.is_empty() { Some(*done) } else { None } }
         Focus::Read(_, _) => None,
+        Focus::Borrow(_) => None,
     }
 }
 
@@ -45,6 +47,7 @@ pub fn labels_ahead(focus: &Focus, frames: &[Frame]) -> usize
 {
     let place = match focus {
         Focus::Read(place, _) => place.depth as usize,
+        Focus::Borrow(place) => place.depth as usize,
         Focus::Over(_) => 0,
     };
     match frames {
@@ -63,7 +66,7 @@ fn operate(
     output: &mut Vec<i64>,
     labels: &mut Labels,
 ) -> Done
-    requires part { HasOnePart frame }
+    requires part { HasLastPart frame }
     requires goes { IsSome (turned (move (fill (around forms.now frame) (over done))) (state slots.old.items heap.old.heap)) }
     requires slots { vec_len slots.old < vec_capacity slots.old }
     requires heap { 0 < heap.old.spare }
@@ -88,6 +91,8 @@ fn operate(
             assign(slots, heap, labels, place, value);
             Done::Unit
         }
+        Frame::Right { op, left } => Done::Temp(arith(slots, heap, op, value_in(left), value)),
+        Frame::Left { .. } => unreachable!(),
         Frame::Block { .. } => unreachable!(),
     }
 }
@@ -99,6 +104,7 @@ fn next_item(forms: &[Form], frames: &mut Vec<Frame>, left: u32, node: usize, ne
     requires frames { AreInside (length forms.now) frames.old.items }
     requires room { depth (wrapped forms.now frames.old.items (block left (parts_of (term_of forms.now) (drop next (items_at forms.now node))))) ≤ vec_capacity frames.old }
     ensures settles { wrapped forms.now frames.new.items (focus_run result) ≡ settle (wrapped forms.now frames.old.items (block left (parts_of (term_of forms.now) (drop next (items_at forms.now node))))) }
+    ensures way { HasMadeWay frames.new.items result }
     ensures capacity { vec_capacity frames.new ≡ vec_capacity frames.old }
     ensures frames { AreInside (length forms.now) frames.new.items }
 {
@@ -130,6 +136,7 @@ fn step_block(
     requires spare { 2 ≤ labels.old.spare }
     ensures step { thread_step (alive (wrapped forms.now frames.old.items (fill (around_items left (term_of forms.now) (drop next (items_at forms.now node))) (over done)))) (state slots.old.items heap.old.heap) ≡ goes_to (alive (wrapped forms.now frames.new.items (focus_run result))) slots.new.items heap.new.heap labels.new.items }
     ensures silent { prints labels.new.items ≡ [] }
+    ensures way { HasMadeWay frames.new.items result }
     ensures capacity { vec_capacity frames.new ≡ vec_capacity frames.old }
     ensures frames { AreInside (length forms.now) frames.new.items }
 {
@@ -159,6 +166,7 @@ fn step_frame(
 ) -> Focus
     requires order { AreInOrder forms.now }
     requires frame { IsInside (length forms.now) frame }
+    requires past { IsPastLeft frame }
     requires frames { AreInside (length forms.now) frames.old.items }
     requires settled { IsSettled (fill (around forms.now frame) (over done)) }
     requires room { depth (wrapped forms.now frames.old.items (fill (around forms.now frame) (over done))) ≤ vec_capacity frames.old }
@@ -170,6 +178,7 @@ fn step_frame(
     requires spare { frame_labels frame ≤ labels.old.spare }
     ensures step { thread_step (alive (wrapped forms.now frames.old.items (fill (around forms.now frame) (over done)))) (state slots.old.items heap.old.heap) ≡ goes_to (alive (wrapped forms.now frames.new.items (focus_run result))) slots.new.items heap.new.heap labels.new.items }
     ensures output { output.new.items ≡ output.old.items ++ prints labels.new.items }
+    ensures way { HasMadeWay frames.new.items result }
     ensures capacity { vec_capacity frames.new ≡ vec_capacity frames.old }
     ensures frames { AreInside (length forms.now) frames.new.items }
 {
@@ -192,6 +201,7 @@ pub fn advance(
 ) -> Focus
     requires order { AreInOrder forms.now }
     requires frames { AreInside (length forms.now) frames.old.items }
+    requires way { HasMadeWay frames.old.items focus }
     requires settled { IsSettled (wrapped forms.now frames.old.items (focus_run focus)) }
     requires room { depth (wrapped forms.now frames.old.items (focus_run focus)) ≤ vec_capacity frames.old }
     requires goes { IsSome (thread_step (alive (wrapped forms.now frames.old.items (focus_run focus))) (state slots.old.items heap.old.heap)) }
@@ -204,12 +214,17 @@ pub fn advance(
     requires frame_spare { (gs : List Frame) (g : Frame) → frames.old.items ≡ gs ++ g ∷ [] → frame_labels g ≤ labels.old.spare }
     ensures step { thread_step (alive (wrapped forms.now frames.old.items (focus_run focus))) (state slots.old.items heap.old.heap) ≡ goes_to (alive (wrapped forms.now frames.new.items (focus_run result))) slots.new.items heap.new.heap labels.new.items }
     ensures output { output.new.items ≡ output.old.items ++ prints labels.new.items }
+    ensures way { HasMadeWay frames.new.items result }
     ensures capacity { vec_capacity frames.new ≡ vec_capacity frames.old }
     ensures frames { AreInside (length forms.now) frames.new.items }
 {
     match focus {
         Focus::Read(place, take) => {
             let value = read(slots, heap, labels, place, take);
+            leave(forms, frames, Done::Temp(value))
+        }
+        Focus::Borrow(place) => {
+            let value = borrow(slots, heap, labels, place);
             leave(forms, frames, Done::Temp(value))
         }
         Focus::Over(done) => {

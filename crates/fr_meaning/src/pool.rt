@@ -14,7 +14,6 @@ ghost use Rattle.fr_meaning.specs.FrameTerms.{focus_of};
 ghost use Rattle.fr_meaning.specs.PoolView.{root_of, whole_of, steps_left_of, refusal, need_of};
 
 use crate::acts::finish;
-use crate::checked::Checked;
 use crate::control::enter;
 use crate::error::StepError;
 use crate::forming::forms_of;
@@ -23,6 +22,7 @@ use crate::frame::{Entered, Focus, Frame};
 use crate::heap::Heap;
 use crate::machine::{advance, end_in, labels_ahead, value_in};
 use crate::need::Need;
+use borrow_check::Checked;
 use fr_base::{Ending3, Fresh, Labels, NoMemory, ThreadNo};
 use fr_plain::Value;
 use std::alloc::Global;
@@ -200,35 +200,4 @@ fn is_main(thread: ThreadNo) -> bool
 }
 
 #[cfg(test)]
-mod tests {
-    use super::*;
-
-    // { }
-    #[test]
-    fn steps_and_refuses(rt: HostRuntime) {
-        let alloc = rt.alloc();
-        let main = ThreadNo::new(0, 0);
-        let other = ThreadNo::new(0, 1);
-        let mut forms = Vec::new(alloc);
-        forms
-            .push(Form::Block(Vec::new(alloc), 0))
-            .expect(&rt, "memory");
-        let mut pool = Pool::from_forms(alloc, forms).expect(&rt, "memory");
-        assert!(rt; pool.needs(main) == Some(Need::Nothing));
-        assert!(rt; pool.needs(other).is_none());
-        assert!(rt; pool.ending() == Ending3::Going);
-        assert!(rt; matches!(pool.step(other, Fresh::None), Err(StepError::NoThread)));
-        assert!(rt;
-            matches!(
-                pool.step(main, Fresh::Thread(other)),
-                Err(StepError::NameKind)
-            )
-        );
-        let labels = pool.step(main, Fresh::None).expect(&rt, "memory");
-        assert_eq!(rt; labels.len(), 1);
-        assert_eq!(rt; pool.output().len(), 0);
-        assert!(rt; pool.ending() == Ending3::Finished);
-        assert!(rt; pool.needs(main).is_none());
-        assert!(rt; matches!(pool.step(main, Fresh::None), Err(StepError::Ended)));
-    }
-}
+mod tests;

@@ -5,6 +5,6 @@ use fr_base::ObjNo;
 /// A slot, from 0, or the cell of an object.
 #[derive(Clone, Copy)]
 pub enum Where {
-    Slot(usize),
+    Slot(u32),
     Cell(ObjNo),
 }

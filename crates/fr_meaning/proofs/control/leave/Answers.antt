@@ -1,8 +1,9 @@
 use Rattle.std.proofs.Common.{length, sym, ap, ◌∙◌, subst, arith, vec_capacity}
 use Rattle.fr_plain.specs.Run.{settle}
 use Rattle.fr_meaning.specs.Contexts.{fill, depth}
-use Rattle.fr_meaning.specs.FrameTerms.{wrapped, around, over, AreInside}
-use Rattle.fr_meaning.proofs.FrameLemmas.{inside_front, wrap_push, no_items, settle_over, depth_over, room_less, entered_over, frame_ended, frame_waits}
+use Rattle.fr_meaning.specs.DoneTerms.{over}
+use Rattle.fr_meaning.specs.FrameTerms.{wrapped, around, AreInside, TopIsPastLeft}
+use Rattle.fr_meaning.proofs.FrameLemmas.{inside_front, wrap_push, no_items, settle_over, depth_over, room_less, entered_over, frame_ended, frame_waits, waits_way}
 use Rattle.fr_meaning.proofs.control.leave.Goals as goal
 
 pub leave_frame-requires-clause-frame : goal.leave_frame-requires-clause-frame
@@ -48,3 +49,13 @@ returns-clause-settles c =
     let new = no_items c.pop.new.self.items (omega (arith, c.in_default.ensures.cases.1, c.pop.new.self.ok)) in
     let old = no_items c.outer.frames.items (omega (arith, c.in_default.ensures.cases.0, c.outer.frames.ok)) in
     ap (λ gs. wrapped fs gs (over c.outer.done)) new ∙ sym (settle_over c.outer.done) ∙ sym (ap (λ gs. settle (wrapped fs gs (over c.outer.done))) old) ∙ c.outer.invariant.settles
+
+pub returns-in-Waits-clause-way : goal.returns-in-Waits-clause-way
+returns-in-Waits-clause-way c =
+    let whole = fill (around c.args.forms.now c.in-Some.frame) (over c.outer.done) in
+    waits_way c.args.forms.now c.pop.new.self.items c.leave_frame.new.frames.items (settle whole) c.leave_frame.result c.in-Waits.focus c.leave_frame.ensures.enters c.in-Waits.is
+
+pub returns-clause-way : goal.returns-clause-way
+returns-clause-way c =
+    let new = no_items c.pop.new.self.items (omega (arith, c.in_default.ensures.cases.1, c.pop.new.self.ok)) in
+    subst TopIsPastLeft (sym new) tt

@@ -1,8 +1,8 @@
 use Rattle.std.proofs.Common.{length, ap, arith}
 use Rattle.fr_syntax.specs.Arena.{Arena}
 use Rattle.fr_syntax.specs.Meanings.{meanings, term_of}
-use Rattle.fr_meaning.proofs.CheckLemmas.{here_by}
-use Rattle.fr_meaning.proofs.BuiltLemmas.{built_next, root_built, root_depth, root_starts}
+use Rattle.borrow_check.proofs.CheckLemmas.{here_by}
+use Rattle.fr_meaning.proofs.BuiltLemmas.{built_next, checked_sequential, root_built, root_depth, root_starts}
 use Rattle.fr_meaning.proofs.forming.forms_of.Goals as goal
 
 pub nodes-preserved : goal.nodes-preserved
@@ -22,4 +22,4 @@ returns-clause-depth c =
 
 pub returns-clause-typed : goal.returns-clause-typed
 returns-clause-typed c =
-    root_starts c.nodes.forms.items (term_of c.args.checked.now.arena) c.tree-tree.ensures.checked.checkable.block c.tree-tree.ensures.checked.checkable.accepted c.tree-tree.ensures.checked.typed (returns-clause-root c)
+    root_starts c.nodes.forms.items (term_of c.args.checked.now.arena) c.tree-tree.ensures.checked.checkable.block (checked_sequential c.args.checked.now c.tree-tree.ensures.checked) c.tree-tree.ensures.checked.typed (returns-clause-root c)

@@ -1,6 +1,6 @@
 use Rattle.std.proofs.Common.{length, sym, ap, arith}
 use Rattle.fr_meaning.specs.Forming.{count_all}
-use Rattle.fr_meaning.proofs.TermLemmas.{next_first}
+use Rattle.borrow_check.proofs.TermLemmas.{next_first}
 use Rattle.fr_meaning.proofs.NodeLemmas.{all_at}
 use Rattle.fr_meaning.proofs.forming.variables.Goals as goal
 

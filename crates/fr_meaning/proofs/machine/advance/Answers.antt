@@ -1,16 +1,18 @@
-use Rattle.std.proofs.Common.{◌≤◌, length, refl, ap, ◌∙◌, subst, arith, vec_capacity}
+use Rattle.std.proofs.Common.{◌≡◌, ◌≤◌, List, length, refl, sym, ap, ◌∙◌, subst, arith, vec_capacity}
 use Rattle.std.specs.Prelude.{IsSome}
-use Rattle.fr_plain.specs.Acts.{do_read}
-use Rattle.fr_plain.specs.Run.{Run, alive, temp, read}
+use Rattle.fr_plain.specs.declared.value.Value.{Value}
+use Rattle.fr_plain.specs.Acts.{act, do_read, do_borrow}
+use Rattle.fr_plain.specs.Run.{Run, alive, temp, read, borrow}
 use Rattle.fr_meaning.specs.declared.frame.Done.TheVariants as done
 use Rattle.fr_meaning.specs.declared.frame.Focus.{Focus}
 use Rattle.fr_meaning.specs.Contexts.{fill, depth, IsSettled}
-use Rattle.fr_meaning.specs.FrameTerms.{wrapped, all_around, around, over, focus_run, AreInside}
-use Rattle.fr_meaning.specs.Turning.{state, thread_step}
+use Rattle.fr_meaning.specs.DoneTerms.{over}
+use Rattle.fr_meaning.specs.FrameTerms.{wrapped, all_around, around, focus_run, AreInside, TopIsPastLeft, HasMadeWay}
+use Rattle.fr_meaning.specs.Turning.{state, did, thread_step}
 use Rattle.fr_meaning.proofs.ActLemmas.{no_print}
 use Rattle.fr_meaning.proofs.ContextLemmas.{settled_wrap}
-use Rattle.fr_meaning.proofs.FrameLemmas.{inside_front, wrap_push, room_less}
-use Rattle.fr_meaning.proofs.StepLemmas.{step_in, goes_in_frames, read_goes, read_turns, settled_waits}
+use Rattle.fr_meaning.proofs.FrameLemmas.{inside_front, wrap_push, room_less, top_past}
+use Rattle.fr_meaning.proofs.StepLemmas.{step_in, goes_in_frames, read_goes, read_turns, borrow_goes, borrow_turns, settled_waits}
 use Rattle.fr_meaning.proofs.machine.advance.Goals as goal
 
 pub read-value-requires-clause-goes : goal.read-value-requires-clause-goes
@@ -37,6 +39,41 @@ returns-in-Read-clause-step c =
 pub returns-in-Read-clause-output : goal.returns-in-Read-clause-output
 returns-in-Read-clause-output c =
     no_print (do_read c.in-Read.place c.in-Read.take) (state c.args.slots.now.items c.args.heap.now.heap) c.read-value.result c.read-value.new.slots.items c.read-value.new.heap.heap c.read-value.new.labels.items c.args.output.now.items tt c.read-value.ensures
+
+pub borrow-value-requires-clause-goes : goal.borrow-value-requires-clause-goes
+borrow-value-requires-clause-goes c =
+    let fs = c.args.forms.now in
+    let s = state c.args.slots.now.items c.args.heap.now.heap in
+    let goes = subst (λ (f : Focus). IsSome (thread_step (alive (wrapped fs c.args.frames.now.items (focus_run f))) s)) c.in-Borrow.is c.requires.goes in
+    subst (λ (vs : List Value). IsSome (act (do_borrow c.in-Borrow.place) (state vs c.args.heap.now.heap))) (sym c.deref.ensures.value)
+    (borrow_goes c.in-Borrow.place s (goes_in_frames fs c.args.frames.now.items (borrow c.in-Borrow.place) s refl goes))
+
+pub leave-requires-in-Borrow-clause-room : goal.leave-requires-in-Borrow-clause-room
+leave-requires-in-Borrow-clause-room c =
+    let fs = c.args.forms.now in
+    let room = subst (λ (f : Focus). depth (wrapped fs c.args.frames.now.items (focus_run f)) ≤ vec_capacity c.args.frames.now) c.in-Borrow.is c.requires.room in
+    room_less fs c.args.frames.now.items c.args.frames.now.items (borrow c.in-Borrow.place) (over (done.Temp c.borrow-value.result)) (vec_capacity c.args.frames.now) (vec_capacity c.args.frames.now) refl (omega arith) room refl
+
+pub returns-in-Borrow-clause-step : goal.returns-in-Borrow-clause-step
+returns-in-Borrow-clause-step c =
+    let fs = c.args.forms.now in
+    let h = c.args.heap.now.heap in
+    let s = state c.args.slots.now.items h in
+    let ls = c.borrow-value.new.labels.items in
+    let acts = subst (λ (vs : List Value). act (do_borrow c.in-Borrow.place) (state vs h) ≡ did c.borrow-value.result vs h ls) c.deref.ensures.value c.borrow-value.ensures in
+    ap (λ (f : Focus). thread_step (alive (wrapped fs c.args.frames.now.items (focus_run f))) s) c.in-Borrow.is
+    ∙ step_in fs c.args.frames.now.items (borrow c.in-Borrow.place) (temp c.borrow-value.result) (wrapped fs c.leave-in-Borrow.new.frames.items (focus_run c.leave-in-Borrow.result)) s c.args.slots.now.items h ls
+    refl (borrow_turns c.in-Borrow.place s c.borrow-value.result c.args.slots.now.items h ls acts) c.leave-in-Borrow.ensures.settles
+
+pub returns-in-Borrow-clause-output : goal.returns-in-Borrow-clause-output
+returns-in-Borrow-clause-output c =
+    no_print (do_borrow c.in-Borrow.place) (state c.deref.result.now c.args.heap.now.heap) c.borrow-value.result c.deref.result.now c.args.heap.now.heap c.borrow-value.new.labels.items c.args.output.now.items tt c.borrow-value.ensures
+
+pub step_frame-requires-clause-past : goal.step_frame-requires-clause-past
+step_frame-requires-clause-past c =
+    let gs = c.pop.new.self.items in
+    let way = subst (λ (f : Focus). HasMadeWay c.args.frames.now.items f) c.in-Over.is c.requires.way in
+    top_past gs c.in-Some.frame (subst TopIsPastLeft c.in-Some.ensures.items way)
 
 pub step_frame-requires-clause-frame : goal.step_frame-requires-clause-frame
 step_frame-requires-clause-frame c =

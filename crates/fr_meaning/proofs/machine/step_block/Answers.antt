@@ -5,7 +5,8 @@ use Rattle.fr_plain.specs.Run.{block, settle}
 use Rattle.fr_meaning.specs.declared.frame.Frame.TheVariants as frame
 use Rattle.fr_meaning.specs.Contexts.{fill}
 use Rattle.fr_meaning.specs.FormTerms.{parts_of, term_of, items_at}
-use Rattle.fr_meaning.specs.FrameTerms.{wrapped, around_items, over, value_of, focus_run, AreInside}
+use Rattle.fr_meaning.specs.DoneTerms.{over, value_of}
+use Rattle.fr_meaning.specs.FrameTerms.{wrapped, around_items, focus_run, AreInside}
 use Rattle.fr_meaning.specs.Turning.{state, did}
 use Rattle.fr_meaning.proofs.FormLemmas.{at_drop, all_dropped}
 use Rattle.fr_meaning.proofs.FrameLemmas.{inside_push, has_place_in, room_in, room_less, rest_below, depth_left, wrap_push, not_below}
@@ -34,6 +35,14 @@ returns-then-has_item-clause-step c =
     (settled_waits fs (frame.Block c.args.left c.args.node c.args.next) d c.requires.settled)
     (discard_turns c.args.left (term_of fs) js _ _ d (state c.args.slots.now.items h) c.args.slots.now.items new ls more (held c.args.left (term_of fs) js _ _ d more c.requires.settled) acts)
     c.next_item.ensures.settles
+
+pub overflow_sub-left : goal.overflow_sub-left
+overflow_sub-left c =
+    let fs = c.args.forms.now in
+    let js = drop c.args.next (items_at fs c.args.node) in
+    let none = all_dropped (items_at fs c.args.node) c.args.next (not_below c.has_item.result c.args.next _ c.has_item.ensures c.if-has_item.false) in
+    let some = opened c.args.left (term_of fs) js c.args.done none c.requires.settled in
+    omega (arith, some)
 
 pub push_reserved-requires : goal.push_reserved-requires
 push_reserved-requires c =

@@ -1,6 +1,7 @@
 use Rattle.std.proofs.Common.{refl, arith, vec_capacity}
 use Rattle.fr_meaning.specs.Contexts.{fill}
-use Rattle.fr_meaning.specs.FrameTerms.{wrapped, around, over, focus_run}
+use Rattle.fr_meaning.specs.DoneTerms.{over}
+use Rattle.fr_meaning.specs.FrameTerms.{wrapped, around, focus_run}
 use Rattle.fr_meaning.specs.Turning.{state}
 use Rattle.fr_meaning.proofs.FrameLemmas.{depth_over, room_less}
 use Rattle.fr_meaning.proofs.StepLemmas.{step_in, settled_waits}
@@ -22,6 +23,7 @@ returns c =
       step = step_in fs c.args.frames.now.items (fill (around fs c.args.frame) (over c.args.done)) (over c.operate-over.result) (wrapped fs c.leave.new.frames.items (focus_run c.leave.result)) (state c.args.slots.now.items c.args.heap.now.heap)
           c.operate-over.new.slots.items c.operate-over.new.heap.heap c.operate-over.new.labels.items (settled_waits fs c.args.frame c.args.done c.requires.settled) c.operate-over.ensures.turns c.leave.ensures.settles;
       output = c.operate-over.ensures.output;
+      way = c.leave.ensures.way;
       capacity = c.leave.ensures.capacity;
       frames = c.leave.ensures.frames;
     }

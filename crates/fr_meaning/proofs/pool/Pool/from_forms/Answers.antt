@@ -4,11 +4,11 @@ use Rattle.fr_meaning.specs.declared.forms.Form.{Form}
 use Rattle.fr_meaning.specs.declared.frame.Focus.{Focus}
 use Rattle.fr_meaning.specs.Contexts.{depth, IsSettled}
 use Rattle.fr_meaning.specs.FormTerms.{term_of}
-use Rattle.fr_meaning.specs.FrameTerms.{wrapped, focus_run, AreInside}
+use Rattle.fr_meaning.specs.FrameTerms.{wrapped, focus_run, AreInside, HasMadeWay}
 use Rattle.fr_sound.specs.NeverStuck.{IsTyped}
 use Rattle.fr_meaning.specs.PoolView.{View, root_of}
 use Rattle.fr_meaning.proofs.TypedLemmas.{start_whole}
-use Rattle.fr_meaning.proofs.FrameLemmas.{enters_first}
+use Rattle.fr_meaning.proofs.FrameLemmas.{enters_first, first_way}
 use Rattle.fr_meaning.proofs.SettledLemmas.{settle_settled, depth_settle}
 use Rattle.fr_meaning.proofs.pool.Pool.from_forms.Goals as goal
 
@@ -30,6 +30,8 @@ invariant_of-result c =
     record {
       order = c.requires.order;
       frames = subst (λ (ms : List Form). AreInside (length ms) c.enter.new.frames.items) c.deref.ensures.value c.enter.ensures.frames;
+      way = subst (λ (f : Focus). HasMadeWay c.enter.new.frames.items f) (sym c.focus_in-focus.ensures)
+          (first_way fs _ c.enter.new.frames.items (settle r) c.enter.result (c.in_ok-reserve.ensures.items ∙ c.new-frames.ensures.items) c.enter.ensures.enters);
       settled = subst (λ (ms : List Form). IsSettled (wrapped ms c.enter.new.frames.items (focus_run c.focus_in-focus.result))) c.deref.ensures.value (subst IsSettled (sym e) (settle_settled r));
       typed = subst IsTyped (sym (start_whole v (root_of c.args.forms.items) refl run c.new.ensures.items c.new-2.ensures c.new-3.ensures.items)) c.requires.typed;
       room = omega (arith, d1, d2, d3, d4, d5, c.requires.depth, c.enter.ensures.capacity, c.in_ok-reserve.ensures.capacity, c.in_ok-reserve.ensures.ok);

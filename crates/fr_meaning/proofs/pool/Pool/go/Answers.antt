@@ -2,7 +2,8 @@ use Rattle.std.proofs.Common.{◌≡◌, true, refl, ◌+◌, ◌++◌, List, So
 use Rattle.fr_base.specs.declared.step.Fresh.TheVariants as fresh
 use Rattle.fr_plain.specs.Whole.{prints, step}
 use Rattle.fr_meaning.specs.declared.forms.Form.{Form}
-use Rattle.fr_meaning.specs.FrameTerms.{wrapped, focus_run, AreInside, value_of, end_of}
+use Rattle.fr_meaning.specs.DoneTerms.{value_of}
+use Rattle.fr_meaning.specs.FrameTerms.{wrapped, focus_run, AreInside, end_of}
 use Rattle.fr_meaning.specs.PoolView.{View, whole_of, steps_left_of, refusal}
 use Rattle.fr_meaning.specs.Turning.{state}
 use Rattle.fr_meaning.proofs.PoolLemmas.{step_kept, pool_goes, pool_steps, pool_left, same_step, same_goes}
@@ -29,6 +30,7 @@ invariant_of-self-2 c =
     record {
       order = c.self.invariant.order;
       frames = subst (λ (fs : List Form). AreInside (length fs) a.new.frames.items) c.deref-3.ensures.value a.ensures.frames;
+      way = a.ensures.way;
       settled = kept.0;
       room = omega (arith, kept.1, c.self.invariant.room, a.ensures.capacity);
       typed = typed_kept old new a.new.labels.items c.self.invariant.typed on (pool_steps old new a.new.labels.items on on steps (a.ensures.output ∙ ap (λ ns. ns ++ prints a.new.labels.items) c.in_ok-reserve-4.ensures.items));
@@ -48,6 +50,7 @@ invariant_of-self-in-Some c =
     record {
       order = c.self.invariant.order;
       frames = c.self.invariant.frames;
+      way = c.self.invariant.way;
       settled = c.self.invariant.settled;
       room = c.self.invariant.room;
       typed = typed_kept old new labels c.self.invariant.typed on (pool_ends old new d labels on refl e h c.in_ok-reserve-4.ensures.items);

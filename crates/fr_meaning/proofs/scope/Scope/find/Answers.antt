@@ -1,7 +1,0 @@
-use Rattle.std.proofs.Common.{arith}
-use Rattle.fr_meaning.specs.States.{newest}
-use Rattle.fr_meaning.proofs.ScopeLemmas.{found_below}
-use Rattle.fr_meaning.proofs.scope.Scope.find.Goals as goal
-
-pub returns-then-at-len-clause-here : goal.returns-then-at-len-clause-here
-returns-then-at-len-clause-here c = found_below (newest c.self.inside.slots.items) _ c.self.inside.slot_of.items c.args.name _ c.self.invariant c.self.view_is (omega arith) c.index.ensures

@@ -1,9 +1,0 @@
-//! Places as they are written.
-
-/// A name's number and the stars before it, and the byte of the source where the first token stands.
-#[derive(Clone, Copy, Debug)]
-pub struct Written {
-    pub name: u32,
-    pub stars: u8,
-    pub place: u32,
-}
