@@ -40,6 +40,28 @@ elif shape == "list":      # a long list of constants
 elif shape == "sums":      # arithmetic, 60 levels deep, again and again
     deep = "(" * 60 + "1" + " + 1)" * 60 + "; "
     print(block("{ ", lambda n: deep, "() }"))
+elif shape == "reborrows": # each reference is borrowed again from the one before it
+    print(block("{ let mut v0 = 1; let mut v1 = &v0; ", lambda n: f"let mut v{n + 2} = &*v{n + 1}; ", "() }"))
+elif shape == "mutably":   # the same, mutably
+    print(block("{ let mut v0 = 1; let mut v1 = &mut v0; ", lambda n: f"let mut v{n + 2} = &mut *v{n + 1}; ", "() }"))
+elif shape == "chain":     # each reference is to the one before it
+    print(block("{ let mut v0 = 1; ", lambda n: f"let mut v{n + 1} = &v{n}; ", "() }"))
+elif shape == "towers":    # boxes 60 levels deep, each moved once
+    deep = "box " * 60
+    print(block("{ ", lambda n: f"let mut v{n} = {deep}{n}; let mut w{n} = v{n}; ", "() }"))
+elif shape == "moves":     # a box of 60 levels that is moved again and again
+    deep = "box " * 60
+    print(block("{ let mut v0 = " + deep + "1; ", lambda n: f"let mut v{n + 1} = v{n}; ", "() }"))
+elif shape == "loans":     # many loans of one variable
+    print(block("{ let mut x = box 1; ", lambda n: f"let mut v{n} = &*x; print *v{n}; ", "() }"))
+elif shape == "blocks":    # loans that end with their block, again and again
+    print(block("{ let mut x = 1; ", lambda n: "{ let mut r = &mut x; *r = (*r + 1) }; ", "print x }"))
+elif shape == "turns":     # assignments to references at the end of two long chains
+    count = size // 64
+    head = "{ let mut a0 = 1; let mut b0 = 1; "
+    head += "".join(f"let mut a{n + 1} = &a{n}; let mut b{n + 1} = &b{n}; " for n in range(count))
+    last = f"let mut r = &a{count}; "
+    print(block(head + last, lambda n: f"r = &b{count}; r = &a{count}; ", "() }"))
 elif shape == "captures":  # one capture list
     print(block("{ spawn (x", lambda n: f", x{n}", ") { } }"))
 elif shape == "threads":   # threads and locks
@@ -59,8 +81,8 @@ else:                      # a number of as many digits as fit
 PY
 }
 
-printf '%-8s %10s %10s %10s %8s\n' shape bytes seconds MB/s growth
-for row in lets:0 prints:0 depth:0 names:0 list:0 sums:11 captures:11 threads:11 open:3 stars:3 parens:3 reads:3 long:3 digits:3; do
+printf '%-9s %10s %10s %10s %8s\n' shape bytes seconds MB/s growth
+for row in lets:0 prints:0 depth:0 names:0 list:0 sums:0 reborrows:0 mutably:0 chain:0 towers:0 moves:0 loans:0 blocks:0 turns:0 captures:11 threads:11 open:3 stars:3 parens:3 reads:3 long:3 digits:3; do
   shape=${row%:*} status=${row#*:}
   [ "${1:-$shape}" = "$shape" ] || continue
   before=
@@ -81,7 +103,7 @@ for _ in range(5):
 size = os.path.getsize(path)
 peak = resource.getrusage(resource.RUSAGE_CHILDREN).ru_maxrss // 1024
 growth = f"{best / float(before):8.2f}" if before else "       -"
-print(f"{shape:8} {size:10} {best:10.3f} {size / best / 1e6:10.1f} {growth}   {peak} MB")
+print(f"{shape:9} {size:10} {best:10.3f} {size / best / 1e6:10.1f} {growth}   {peak} MB")
 print(best)
 PY
     head -n 1 "$work/line"
