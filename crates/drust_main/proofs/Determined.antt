@@ -11,8 +11,9 @@ use Rattle.fr_typing.proofs.Agree.{exactly_one_lem}
 use Rattle.fr_typing.specs.Finding.{typed, fault}
 use Rattle.fr_typing.specs.Typing.{typing}
 use Rattle.fr_parse.proofs.Programs.{source_once}
-use Rattle.fr_plain.specs.Run.{Life, alive, over}
-use Rattle.fr_plain.specs.Whole.{Thread, Whole, Stepped, thread_at, is_over, all_over, step_of, step, then_labels, go_on, run, main_steps, ending_of, start}
+use Rattle.fr_plain.specs.Run as run_terms
+use Rattle.fr_plain.specs.Run.{Life, alive, over, owing, loose}
+use Rattle.fr_plain.specs.Whole.{Thread, Whole, Stepped, thread_at, is_over, all_over, all_wait, step_of, step, then_labels, go_on, run, main_steps, ending_of, start}
 use Rattle.fr_plain.specs.Resolve.{program}
 use Rattle.drust_main.specs.Words.{asks_run}
 use Rattle.drust_main.specs.Report.{report}
@@ -24,26 +25,30 @@ use Rattle.drust_main.proofs.Refusals.{accepted_has_none, source_is_read, one_ca
 
 -- A RUN HAS ONE END
 
-over_stays : (l : Life) (s : Whole) (t : Thread) → t.life ≡ l → is_over l ≡ true → step_of s (Some t) ≡ None
+over_stays : (l : Life) (s : Whole) (t : Thread) → t.life ≡ l → is_over l ≡ true → step_of s fresh.None (Some t) ≡ None
 over_stays over s t e h = rw e refl
+over_stays (run_terms.ended v) s t e h = rw e refl
 over_stays (alive r) s t e h = absurd cc
+over_stays (owing r) s t e h = absurd cc
+over_stays (loose r) s t e h = absurd cc
 
-chosen : (b : Bool) (s : Whole) (t : Thread) (o : Option Thread) → step_of s (Some t) ≡ None → step_of s o ≡ None → step_of s (if b then Some t else o) ≡ None
+chosen : (b : Bool) (s : Whole) (t : Thread) (o : Option Thread) → step_of s fresh.None (Some t) ≡ None → step_of s fresh.None o ≡ None → step_of s fresh.None (if b then Some t else o) ≡ None
 chosen true s t o h g = h
 chosen false s t o h g = g
 
-none_goes : (s : Whole) (ts : List Thread) (n : ℕ) → all_over ts ≡ true → step_of s (thread_at ts n) ≡ None
+none_goes : (s : Whole) (ts : List Thread) (n : ℕ) → all_over ts ≡ true → step_of s fresh.None (thread_at ts n) ≡ None
 none_goes s [] n h = refl
 none_goes s (t ∷ ts) n h =
     let parts = and_parts (is_over t.life) (all_over ts) h in
     chosen (t.number == n) s t (thread_at ts n) (over_stays t.life s t refl parts.0) (none_goes s ts n parts.1)
 
 ended : (s : Whole) → ending_of s ≡ ending.Finished → step s 0 fresh.None ≡ None
-ended s h = none_goes s s.threads 0 (by (all_over s.threads) h)
+ended s h = none_goes s s.threads 0 (by (all_over s.threads) (all_wait s s.threads) h)
   where
-    by : (b : Bool) → (if b then ending.Finished else ending.Going) ≡ ending.Finished → b ≡ true
-    by true e = refl
-    by false e = absurd cc
+    by : (b c : Bool) → (if b then ending.Finished else if c then ending.Deadlocked else ending.Going) ≡ ending.Finished → b ≡ true
+    by true c e = refl
+    by false true e = absurd cc
+    by false false e = absurd cc
 
 record Ends (s : Whole) (k : ℕ) (x : Stepped) : Type 0 where
   pub run : run s (main_steps k) ≡ Some x

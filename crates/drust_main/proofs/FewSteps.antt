@@ -12,7 +12,7 @@ use Rattle.fr_syntax.specs.Tokens.{unblanked, first_text, after_text, names_afte
 use Rattle.fr_parse.specs.Grammar.{mark_of_op, Has, SpellsPath, Spells, SpellsItems, SpellsMore}
 use Rattle.fr_parse.specs.Source.{IsSource}
 use Rattle.fr_parse.proofs.Complete.{takes_some}
-use Rattle.fr_plain.specs.Run.{Run, temp, unit_c, number, read, borrow, box_r, arith as arith_r, bind, print, assign, block, Parts, last, more, Now, going, constant, temporary, now, settle_more, settle_right, close_last, close, settle, settle_parts, alive, one_if_temporary, leaves, leaves_last, steps_left, steps_in, life_left}
+use Rattle.fr_plain.specs.Run.{Run, temp, unit_c, number, read, borrow, box_r, arith as arith_r, bind, print, assign, block, spawn, join_r, Parts, last, more, Now, going, constant, temporary, now, settle_more, settle_right, close_last, close, settle, settle_parts, alive, one_if_temporary, leaves, leaves_last, steps_left, steps_in, life_left}
 use Rattle.fr_plain.specs.Resolve.{env_after, lets_in, lets, before, resolve, resolve_items, program}
 
 -- TOKENS PAY FOR STEPS
@@ -122,6 +122,8 @@ mutual
   settle_fits (print r) = (omega (arith, (settle_fits r).0), refl)
   settle_fits (assign w r) = (omega (arith, (settle_fits r).0), refl)
   settle_fits (block k is) = close_fits k is
+  settle_fits (spawn cs r) = (omega arith, refl)
+  settle_fits (join_r r) = (omega (arith, (settle_fits r).0), refl)
 
   -- nor does settling the items of a block and closing it
   close_fits : (k : ℕ) (is : Parts) → Fits (close k (settle_parts is)) (steps_in is + k) (leaves_last is)

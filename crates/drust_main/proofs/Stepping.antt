@@ -1,26 +1,18 @@
 -- Steps of the main thread, one after another.
-use Rattle.std.proofs.Common.{◌≡◌, ℕ, zero, suc, ◌+◌, ◌<◌, ◌≤◌, ◌^◌, Bool, true, false, List, [], ◌∷◌, ◌++◌, Option, Some, None, ℤ, length, refl, sym, ap, ◌∙◌, subst, add-one}
+use Rattle.std.proofs.Common.{◌≡◌, ℕ, zero, suc, ◌+◌, ◌<◌, ◌≤◌, ◌^◌, List, [], ◌∷◌, ◌++◌, Option, Some, None, ℤ, length, refl, sym, ap, ◌∙◌, subst, add-one}
 use Rattle.std.proofs.lemmas.List.{append-nil, append_assoc}
 use Rattle.fr_base.specs.declared.label.Label.{Label}
 use Rattle.fr_base.specs.declared.step.Fresh.TheVariants as fresh
 use Rattle.fr_base.specs.declared.step.Ending3.TheVariants as ending
 use Rattle.fr_plain.specs.Run.{Run, Life, over, alive, settle, life_left}
 use Rattle.fr_plain.specs.Whole.{Thread, Whole, Stepped, step, then_labels, go_on, run, start, main_steps, ending_of}
-use Rattle.fr_meaning.specs.PoolView.{View, whole_of, steps_left_of, refusal}
+use Rattle.fr_meaning.specs.PoolView.{View, whole_of, steps_left_of}
 use Rattle.fr_terms.specs.Terms.{Term}
 use Rattle.fr_plain.specs.Resolve.{program}
 use Rattle.drust_main.specs.Report.{report}
 use Rattle.drust_main.specs.Headline.{IsTyped, Runs}
 use Rattle.drust_main.specs.Runs.{Goes}
 use Rattle.drust_main.proofs.FewSteps.{few_steps}
-
--- while the state goes on, nothing but want of memory refuses a step of the main thread without names
-pub going_steps : (v : View) → ending_of (whole_of v) ≡ ending.Going → refusal (whole_of v) 0 fresh.None ≡ None
-going_steps v h = by v.ended refl
-  where
-    by : (b : Bool) → v.ended ≡ b → refusal (whole_of v) 0 fresh.None ≡ None
-    by true e = let f : ending.Finished ≡ ending.Going = rw e at h in absurd cc
-    by false e = rw e refl
 
 -- what is left of a run after its first step
 rest_of : (ls : List Label) (o : Option Stepped) (x : Stepped) → then_labels ls o ≡ Some x → (u : Stepped) × (o ≡ Some u) × (x ≡ record { state = u.state; labels = ls ++ u.labels })

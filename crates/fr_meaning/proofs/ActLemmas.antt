@@ -11,7 +11,7 @@ use Rattle.fr_plain.specs.declared.value.Value.{Value}
 use Rattle.fr_plain.specs.declared.value.Value.TheVariants.{Own, ToSlot, ToObject}
 use Rattle.fr_plain.specs.Heap.{Heap}
 use Rattle.fr_plain.specs.State.{State, gone, Spot, in_slot, in_cell, value_at, loads, stores, drops, Reached, then_reached, led, stars, locate}
-use Rattle.fr_plain.specs.Acts.{Act, do_let, do_read, do_borrow, do_assign, do_box, do_arith, do_print, do_discard, do_drop, do_end, Did, read_did, borrow_did, assign_did, box_did, arith_did, drop_did, act}
+use Rattle.fr_plain.specs.Acts.{Act, do_let, do_read, do_borrow, do_assign, do_box, do_arith, do_print, do_discard, do_drop, do_end, do_spawn, do_join, do_finish, do_leave, Did, read_did, borrow_did, assign_did, box_did, arith_did, drop_did, act}
 use Rattle.fr_plain.specs.Whole.{prints}
 use Rattle.fr_meaning.specs.declared.spot.Where.{Where}
 use Rattle.fr_meaning.specs.Turning.{IsReached, state, did}
@@ -173,6 +173,10 @@ act_silent (do_print v) s h = absurd h
 act_silent (do_discard v) s h = drops_silent v
 act_silent do_drop s h = drop_silent s s.slots
 act_silent (do_end v) s h = two_silent (drops v) (label.End s.thread ∷ []) (drops_silent v) refl
+act_silent (do_spawn cs r) s h = tt
+act_silent (do_join v) s h = tt
+act_silent (do_finish v) s h = refl
+act_silent (do_leave v) s h = refl
 
 -- such an act's labels print nothing
 pub silent : (a : Act) (s : State) (d : Did) → IsSilent a → act a s ≡ Some d → prints d.labels ≡ []

@@ -236,7 +236,7 @@ mutual
   depth_few (number_t at n) e = omega arith
   depth_few (unit_t at) e = omega arith
   depth_few (arith_t at op l r) e = omega (arith, depth_few l e, depth_few r (env_after l e))
-  depth_few (join_t at t) e = omega arith
+  depth_few (join_t at t) e = omega (arith, depth_few t e)
   depth_few (mutex_t at t) e = omega arith
   depth_few (dup_t at w) e = omega arith
   depth_few (lock_t at w x t) e = omega arith

@@ -6,6 +6,7 @@ pub mod ActLemmas
 pub mod FrameLemmas
 pub mod StepLemmas
 pub mod SettledLemmas
+pub mod OneThread
 pub mod StepsLeft
 pub mod PoolLemmas
 pub mod NodeLemmas

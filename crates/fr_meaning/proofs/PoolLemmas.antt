@@ -1,15 +1,15 @@
 -- A step of the thread is a step of the pool.
-use Rattle.std.proofs.Common.{◌≡◌, ℤ, ◌+◌, ◌≤◌, Bool, true, false, List, [], ◌∷◌, ◌++◌, Option, Some, None, refl, sym, ap, ◌∙◌, subst, arith}
+use Rattle.std.proofs.Common.{◌≡◌, ℕ, ℤ, ◌+◌, ◌≤◌, Bool, true, false, List, [], ◌∷◌, ◌++◌, Option, Some, None, refl, sym, ap, ◌∙◌, subst, arith}
 use Rattle.std.specs.Prelude.{IsSome, if◌then◌else◌}
 use Rattle.fr_base.specs.declared.label.Label.{Label}
 use Rattle.fr_base.specs.declared.step.Fresh.TheVariants as fresh
 use Rattle.fr_plain.specs.declared.value.Value.{Value}
 use Rattle.fr_plain.specs.Heap.{Heap}
 use Rattle.fr_plain.specs.State.{State}
-use Rattle.fr_plain.specs.Acts.{Did, act, do_end}
+use Rattle.fr_plain.specs.Acts.{Did, act, do_end, lets_go}
 use Rattle.fr_plain.specs.Run as run
 use Rattle.fr_plain.specs.Run.{Run, Now, going, constant, temporary, on_value, now, settle, Move, next, alone, move, Life, alive, settle_life, life_move, life_left}
-use Rattle.fr_plain.specs.Whole.{Thread, Stepped, prints, stepped, moved, step}
+use Rattle.fr_plain.specs.Whole.{Thread, Whole, Stepped, prints, stepped, then_released, moved, step}
 use Rattle.fr_meaning.specs.declared.forms.Form.{Form}
 use Rattle.fr_meaning.specs.declared.frame.Frame.{Frame}
 use Rattle.fr_meaning.specs.declared.frame.Focus.{Focus}
@@ -19,6 +19,7 @@ use Rattle.fr_meaning.specs.PoolView.{View, run_of, life_of, whole_of, steps_lef
 use Rattle.fr_meaning.specs.SlotOrder.{newest_first}
 use Rattle.fr_meaning.specs.Turning.{state, Went, went_by, went, thread_step, goes_to}
 use Rattle.fr_meaning.proofs.SettledLemmas.{settle_settled, depth_settle, Within, move_depth}
+use Rattle.fr_meaning.proofs.OneThread.{IsLone, Owns, Mains, pool_lone, main_owns, own_done, none_goes, main_mains}
 use Rattle.fr_meaning.proofs.StepsLeft.{life_falls}
 
 -- WHAT A STEP LEAVES
@@ -55,20 +56,20 @@ pub step_kept : (r q : Run) (s : State) (slots : List Value) (heap : Heap) (labe
 step_kept r q s slots heap labels e = kept_now (now r) r q s (record { life = alive q; state = state slots heap; labels = labels }) e refl
 
 -- by what the act does
-left_by : (l : Life) (m : Move Life) (d : Option Did) (w : Went) → life_move l ≡ Some m → went_by m d ≡ Some w → life_left w.life + 1 ≡ life_left l
-left_by l m None w h e = absurd cc
-left_by l m (Some d) w h e =
+left_by : (r : Run) (m : Move Life) (d : Option Did) (w : Went) → IsLone r → life_move (alive r) ≡ Some m → went_by m d ≡ Some w → life_left w.life + 1 ≡ life_left (alive r)
+left_by r m None w y h e = absurd cc
+left_by r m (Some d) w y h e =
     let f : w.life ≡ settle_life (m.plug d.value) = cc in
-    omega (arith, ap life_left f, life_falls l m d.value h)
+    omega (arith, ap life_left f, life_falls r m d.value y h)
 
 -- by the thread's move
-left_in : (l : Life) (o : Option (Move Life)) (s : State) (w : Went) → life_move l ≡ o → went o s ≡ Some w → life_left w.life + 1 ≡ life_left l
-left_in l None s w h e = absurd cc
-left_in l (Some m) s w h e = left_by l m (act m.act s) w h e
+left_in : (r : Run) (o : Option (Move Life)) (s : State) (w : Went) → IsLone r → life_move (alive r) ≡ o → went o s ≡ Some w → life_left w.life + 1 ≡ life_left (alive r)
+left_in r None s w y h e = absurd cc
+left_in r (Some m) s w y h e = left_by r m (act m.act s) w y h e
 
 -- a step of a thread is one of those that are left
-step_left : (l k : Life) (s : State) (slots : List Value) (heap : Heap) (labels : List Label) → thread_step l s ≡ goes_to k slots heap labels → life_left k + 1 ≡ life_left l
-step_left l k s slots heap labels e = left_in l (life_move l) s (record { life = k; state = state slots heap; labels = labels }) refl e
+step_left : (r : Run) (k : Life) (s : State) (slots : List Value) (heap : Heap) (labels : List Label) → IsLone r → thread_step (alive r) s ≡ goes_to k slots heap labels → life_left k + 1 ≡ life_left (alive r)
+step_left r k s slots heap labels y e = left_in r (life_move (alive r)) s (record { life = k; state = state slots heap; labels = labels }) y refl e
 
 -- THE POOL
 
@@ -81,19 +82,24 @@ told output (Some w) = Some (record { state = record { threads = record { number
 abbrev main_of : View → Thread
 main_of v = record { number = 0; life = life_of v; slots = newest_first v.slots }
 
--- what an act does to the whole
-stepped_told : (v : View) (m : Move Life) (d : Option Did) → stepped (whole_of v) (main_of v) m d ≡ told v.output (went_by m d)
-stepped_told v m None = refl
-stepped_told v m (Some d) = refl
+-- what an act does to the whole, whatever task it drops
+stepped_told : (v : View) (m : Move Life) (u : Option ℕ) (d : Option Did) → Mains (Some m) → then_released u (stepped (whole_of v) (main_of v) m d) ≡ told v.output (went_by m d)
+stepped_told v m u None h = refl
+stepped_told v m u (Some d) h =
+    let new : Thread = record { number = 0; life = settle_life (m.plug d.value); slots = d.state.slots } in
+    let after : Whole = record { threads = new ∷ []; heap = d.state.heap; output = v.output ++ prints d.labels } in
+    ap (λ (s : Whole). (let x : Stepped = record { state = s; labels = d.labels } in Some x)) (none_goes 1 after new refl (h d.value) u)
 
 -- what a move does to the whole
-moved_told : (v : View) (o : Option (Move Life)) → moved (whole_of v) (main_of v) o ≡ told v.output (went o (state v.slots v.heap))
-moved_told v None = refl
-moved_told v (Some m) = stepped_told v m (act m.act (state v.slots v.heap))
+moved_told : (v : View) (o : Option (Move Life)) → Owns o → Mains o → moved (whole_of v) (main_of v) fresh.None o ≡ told v.output (went o (state v.slots v.heap))
+moved_told v None y h = refl
+moved_told v (Some m) y h =
+    own_done (whole_of v) (main_of v) m m.act y
+    ∙ stepped_told v m (lets_go m.act (state v.slots v.heap)) (act m.act (state v.slots v.heap)) h
 
 -- a step of the whole is that of its one thread
 pub whole_step : (v : View) → step (whole_of v) 0 fresh.None ≡ told v.output (thread_step (life_of v) (state v.slots v.heap))
-whole_step v = moved_told v (life_move (life_of v))
+whole_step v = moved_told v (life_move (life_of v)) (main_owns v) (main_mains v)
 
 -- a thread that has ended takes no step
 goes_on : (b : Bool) (r : Run) (s : State) (output : List ℤ) → IsSome (told output (thread_step (if b then run.over else alive r) s)) → (b ≡ false) × IsSome (thread_step (alive r) s)
@@ -127,7 +133,7 @@ pub pool_left : (v w : View) (labels : List Label) → v.ended ≡ false → w.e
 pool_left v w labels a b h =
     let e = ap life_left (alive_of v a) in
     let f = ap life_left (alive_of w b) in
-    omega (arith, e, f, step_left (alive (run_of v)) (alive (run_of w)) (state v.slots v.heap) w.slots w.heap labels h)
+    omega (arith, e, f, step_left (run_of v) (alive (run_of w)) (state v.slots v.heap) w.slots w.heap labels (pool_lone v) h)
 
 -- the same over equal forms, slots and heaps
 pub same_step : (fs fs2 : List Form) (gs hs : List Frame) (f g : Focus) (vs vs2 : List Value) (h h2 : Heap) (new : List Value) (heap : Heap) (labels : List Label) → fs ≡ fs2 → vs ≡ vs2 → h ≡ h2 →

@@ -4,7 +4,8 @@ use Rattle.std.specs.Prelude.{⊤}
 use Rattle.fr_base.specs.declared.place.Op.{Op}
 use Rattle.fr_plain.specs.declared.value.Value.{Value}
 use Rattle.fr_plain.specs.Acts.{do_end, do_box, do_arith, do_let, do_print, do_assign, do_discard}
-use Rattle.fr_plain.specs.Run.{Run, temp, unit_c, number, read, borrow, box_r, arith as arith_r, bind, print, assign, block, Parts, last, more, Now, going, constant, temporary, by_now, on_value, after, at_end, now, now_parts, settle_more, settle_right, close_last, close, settle, settle_parts, Move, next, alone, block_end, move, move_parts, Life, alive, over, settle_life, life_move, one_if_temporary, leaves, leaves_last, steps_left, steps_in, life_left}
+use Rattle.fr_plain.specs.Run.{Run, temp, unit_c, number, read, borrow, box_r, arith as arith_r, bind, print, assign, block, spawn, join_r, Parts, last, more, Now, going, constant, temporary, by_now, on_value, after, at_end, now, now_parts, settle_more, settle_right, close_last, close, settle, settle_parts, Move, next, alone, block_end, move, move_parts, Life, alive, over, settle_life, life_move, one_if_temporary, leaves, leaves_last, steps_left, steps_in, life_left}
+use Rattle.fr_meaning.proofs.OneThread.{IsLone, AreLone}
 
 -- a done term has no step left, and leaves a temporary value where it is one
 abbrev Done : Now → ℕ → Bool → Type 0
@@ -40,6 +41,8 @@ mutual
   done_left (print r) = tt
   done_left (assign w r) = tt
   done_left (block k is) = at_end_done k (now_parts is) (steps_in is) (leaves_last is) (done_in is)
+  done_left (spawn cs r) = tt
+  done_left (join_r r) = tt
 
   -- of items
   done_in : (is : Parts) → Done (now_parts is) (steps_in is) (leaves_last is)
@@ -90,6 +93,8 @@ mutual
   settle_left (print r) = (ap (λ n. n + 1) (settle_left r).0, refl)
   settle_left (assign w r) = (ap (λ n. n + 1) (settle_left r).0, refl)
   settle_left (block k is) = close_left k is
+  settle_left (spawn cs r) = (refl, refl)
+  settle_left (join_r r) = (ap (λ n. n + 1) (settle_left r).0, refl)
 
   -- nor is settling items
   close_left : (k : ℕ) (is : Parts) → Same (close k (settle_parts is)) (steps_in is + k) (leaves_last is)
@@ -156,24 +161,26 @@ arith_falls (constant v) f a b e d h g = right_falls f a b v d.0 g
 arith_falls (temporary v) f a b e d h g = right_falls f a b v d.0 g
 
 mutual
-  -- a move of a term is a step of it
-  move_falls : (r : Run) → Falls steps_left leaves (steps_left r) (leaves r) (move r)
-  move_falls (temp v) = tt
-  move_falls unit_c = tt
-  move_falls (number n) = tt
-  move_falls (read w take) = λ v. (refl, refl)
-  move_falls (borrow w) = λ v. (refl, refl)
-  move_falls (box_r r) = one_falls (now r) r box_r (λ v. alone temp (do_box v)) true (done_left r) (λ v x. (refl, refl)) (λ q. refl) (λ q. refl) (move_falls r)
-  move_falls (arith_r f a b) = arith_falls (now a) f a b refl (done_left a) (move_falls a) (move_falls b)
-  move_falls (bind r) = one_falls (now r) r bind (λ v. alone (λ x. unit_c) (do_let v)) false (done_left r) (λ v x. (refl, refl)) (λ q. refl) (λ q. refl) (move_falls r)
-  move_falls (print r) = one_falls (now r) r print (λ v. alone (λ x. unit_c) (do_print v)) false (done_left r) (λ v x. (refl, refl)) (λ q. refl) (λ q. refl) (move_falls r)
-  move_falls (assign w r) = one_falls (now r) r (assign w) (λ v. alone (λ x. unit_c) (do_assign w v)) false (done_left r) (λ v x. (refl, refl)) (λ q. refl) (λ q. refl) (move_falls r)
-  move_falls (block k is) = block_falls (now_parts is) k is (parts_falls is)
+  -- a move of a term that starts and joins no threads is a step of it
+  move_falls : (r : Run) → IsLone r → Falls steps_left leaves (steps_left r) (leaves r) (move r)
+  move_falls (temp v) h = tt
+  move_falls unit_c h = tt
+  move_falls (number n) h = tt
+  move_falls (read w take) h = λ v. (refl, refl)
+  move_falls (borrow w) h = λ v. (refl, refl)
+  move_falls (box_r r) h = one_falls (now r) r box_r (λ v. alone temp (do_box v)) true (done_left r) (λ v x. (refl, refl)) (λ q. refl) (λ q. refl) (move_falls r h)
+  move_falls (arith_r f a b) h = arith_falls (now a) f a b refl (done_left a) (move_falls a h.0) (move_falls b h.1)
+  move_falls (bind r) h = one_falls (now r) r bind (λ v. alone (λ x. unit_c) (do_let v)) false (done_left r) (λ v x. (refl, refl)) (λ q. refl) (λ q. refl) (move_falls r h)
+  move_falls (print r) h = one_falls (now r) r print (λ v. alone (λ x. unit_c) (do_print v)) false (done_left r) (λ v x. (refl, refl)) (λ q. refl) (λ q. refl) (move_falls r h)
+  move_falls (assign w r) h = one_falls (now r) r (assign w) (λ v. alone (λ x. unit_c) (do_assign w v)) false (done_left r) (λ v x. (refl, refl)) (λ q. refl) (λ q. refl) (move_falls r h)
+  move_falls (block k is) h = block_falls (now_parts is) k is (parts_falls is h)
+  move_falls (spawn cs r) h = absurd h
+  move_falls (join_r r) h = absurd h
 
   -- a move of items is a step of them
-  parts_falls : (is : Parts) → Falls steps_in leaves_last (steps_in is) (leaves_last is) (move_parts is)
-  parts_falls (last r) = next_falls steps_left leaves steps_in leaves_last last (move r) (steps_left r) (steps_left r) (leaves r) (leaves r) (λ q e l. (e, l)) (move_falls r)
-  parts_falls (more r is) = more_falls (now r) r is (done_left r) (move_falls r) (parts_falls is)
+  parts_falls : (is : Parts) → AreLone is → Falls steps_in leaves_last (steps_in is) (leaves_last is) (move_parts is)
+  parts_falls (last r) h = next_falls steps_left leaves steps_in leaves_last last (move r) (steps_left r) (steps_left r) (leaves r) (leaves r) (λ q e l. (e, l)) (move_falls r h)
+  parts_falls (more r is) h = more_falls (now r) r is (done_left r) (move_falls r h.0) (parts_falls is h.1)
 
 -- of a thread, by whether its term is done
 life_by : (n : Now) (r : Run) (m : Move Life) (v : Value) → Done n (steps_left r) (leaves r) → Falls steps_left leaves (steps_left r) (leaves r) (move r) →
@@ -195,7 +202,6 @@ life_by (temporary u) r m v d h e =
     let g = ap (λ (y : Move Life). life_left (settle_life (y.plug v))) f in
     omega (arith, g, d.0)
 
--- after a step of a thread one step less is left, and settling changes none
-pub life_falls : (l : Life) (m : Move Life) (v : Value) → life_move l ≡ Some m → life_left (settle_life (m.plug v)) + 1 ≡ life_left l
-life_falls over m v e = absurd cc
-life_falls (alive r) m v e = life_by (now r) r m v (done_left r) (move_falls r) e
+-- after a step of a thread that starts and joins no threads one step less is left, and settling changes none
+pub life_falls : (r : Run) (m : Move Life) (v : Value) → IsLone r → life_move (alive r) ≡ Some m → life_left (settle_life (m.plug v)) + 1 ≡ life_left (alive r)
+life_falls r m v h e = life_by (now r) r m v (done_left r) (move_falls r h) e

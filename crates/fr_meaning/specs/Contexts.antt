@@ -2,7 +2,7 @@
 use Rattle.std.specs.Prelude.{ℕ, zero, suc, ◌+◌, max, ⊤, List, [], ◌∷◌}
 use Rattle.fr_base.specs.declared.place.Lval.{Lval}
 use Rattle.fr_base.specs.declared.place.Op.{Op}
-use Rattle.fr_plain.specs.Run.{Run, temp, unit_c, number, read, borrow, box_r, arith, bind, print, assign, block, Parts, last, more, Now, going, constant, temporary, now}
+use Rattle.fr_plain.specs.Run.{Run, temp, unit_c, number, read, borrow, box_r, arith, bind, print, assign, block, spawn, join_r, Parts, last, more, Now, going, constant, temporary, now}
 use Rattle.fr_meaning.specs.declared.frame.Done.{Done}
 use Rattle.fr_meaning.specs.DoneTerms.{over}
 
@@ -46,6 +46,8 @@ abbrev mutual
   depth (print r) = depth r + 1
   depth (assign w r) = depth r + 1
   depth (block k is) = depth_in is + 1
+  depth (spawn cs r) = 0
+  depth (join_r r) = depth r + 1
 
   pub depth_in : Parts → ℕ
   depth_in (last r) = depth r
@@ -84,6 +86,8 @@ abbrev mutual
   IsSettled (print r) = IsSettled r
   IsSettled (assign w r) = IsSettled r
   IsSettled (block k is) = AreSettled k is
+  IsSettled (spawn cs r) = ⊤
+  IsSettled (join_r r) = IsSettled r
 
   pub AreSettled : ℕ → Parts → Type 0
   AreSettled k (last r) = IsSettled r × IsOpen k (now r)

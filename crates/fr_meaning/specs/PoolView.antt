@@ -1,17 +1,17 @@
 -- What a pool is to its callers: a plain state, of one thread so far.
-use Rattle.std.specs.Prelude.{ℕ, ℤ, ◌-◌, Bool, List, [], ◌∷◌, length, Option, Some, None, if◌then◌else◌}
+use Rattle.std.specs.Prelude.{ℕ, ℤ, ◌-◌, Bool, true, false, List, [], ◌∷◌, length, Option, Some, None, option_map, if◌then◌else◌}
 use Rattle.fr_base.specs.declared.step.Fresh.{Fresh}
 use Rattle.fr_plain.specs.declared.value.Value.{Value}
 use Rattle.fr_plain.specs.Heap.{Heap}
-use Rattle.fr_plain.specs.Run.{Run, Life, alive, over, life_left}
-use Rattle.fr_plain.specs.Whole.{Thread, Whole, thread_at, is_nameless}
+use Rattle.fr_plain.specs.Run.{Run, Life, alive, over, life_move, life_left}
+use Rattle.fr_plain.specs.Whole.{Thread, Whole, thread_at, is_over, takes_name, Refusal, no_thread, has_ended, waits, name_kind, name_used, refused}
 use Rattle.fr_meaning.specs.declared.forms.Form.{Form}
 use Rattle.fr_meaning.specs.declared.frame.Frame.{Frame}
 use Rattle.fr_meaning.specs.declared.frame.Focus.{Focus}
 use Rattle.fr_meaning.specs.declared.need.Need.{Need}
-use Rattle.fr_meaning.specs.declared.need.Need.TheVariants.{Nothing}
+use Rattle.fr_meaning.specs.declared.need.Need.TheVariants as need
 use Rattle.fr_meaning.specs.declared.error.StepError.{StepError}
-use Rattle.fr_meaning.specs.declared.error.StepError.TheVariants.{NoThread, Ended, NameKind}
+use Rattle.fr_meaning.specs.declared.error.StepError.TheVariants as error
 use Rattle.fr_meaning.specs.FormTerms.{term_of}
 use Rattle.fr_meaning.specs.FrameTerms.{wrapped, focus_run}
 use Rattle.fr_meaning.specs.SlotOrder.{newest_first}
@@ -45,21 +45,27 @@ steps_left_of v = life_left (life_of v)
 abbrev pub root_of : List Form → Run
 root_of fs = term_of fs (length fs - 1)
 
-module _ {A : Type 0} where
-  abbrev pub by_life : Life → A → A → A
-  by_life over ended running = ended
-  by_life (alive r) ended running = running
+-- what a call says of a refusal
+abbrev pub error_of : Refusal → StepError
+error_of no_thread = error.NoThread
+error_of has_ended = error.Ended
+error_of (waits w) = error.Waits w
+error_of name_kind = error.NameKind
+error_of name_used = error.NameUsed
 
-  -- a thread isn't there, has ended, or is in progress
-  abbrev pub by_thread : Option Thread → A → A → A → A
-  by_thread None absent ended running = absent
-  by_thread (Some t) absent ended running = by_life t.life ended running
-
--- why a thread of a plain state can't step with these new names, the first cause: it isn't there, it has ended, or
--- the names aren't of the kind that it takes (no step takes one so far, and none waits)
+-- why a thread of a plain state can't step with these new names, the first cause
 abbrev pub refusal : Whole → ℕ → Fresh → Option StepError
-refusal s t names = by_thread (thread_at s.threads t) (Some NoThread) (Some Ended) (if is_nameless names then None else Some NameKind)
+refusal s t names = option_map error_of (refused s t names)
+
+-- a step that takes a name takes that of one thread
+abbrev pub kind_of : (takes : Bool) → Need
+kind_of true = need.Thread
+kind_of false = need.Nothing
+
+abbrev pub need_in : Option Thread → Option Need
+need_in None = None
+need_in (Some t) = if is_over t.life then None else Some (kind_of (takes_name (life_move t.life)))
 
 -- the kind of names that a thread's next step takes, where it is there and hasn't ended
 abbrev pub need_of : Whole → ℕ → Option Need
-need_of s t = by_thread (thread_at s.threads t) None None (Some Nothing)
+need_of s t = need_in (thread_at s.threads t)

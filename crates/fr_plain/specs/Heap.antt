@@ -64,3 +64,18 @@ drop_links (suc n) h v = h
 -- no more objects can go than live
 abbrev pub dropped : Heap → Plain → Heap
 dropped h v = drop_links (live h) h v
+
+-- what a drop of the value drops last: what stands at the end of its boxes, at most so many
+abbrev pub then_link : Option Plain → (Plain → Plain) → Plain
+then_link None go = plain.Nothing
+then_link (Some v) go = go v
+
+abbrev pub last_link : ℕ → Heap → Plain → Plain
+last_link zero h v = v
+last_link (suc n) h (plain.Box o) = then_link (cell_at h o) (last_link n (with_cell h o None))
+last_link (suc n) h v = v
+
+-- the thread of a task
+abbrev pub task_of : Plain → Option ℕ
+task_of (plain.Task t) = Some t
+task_of _ = None

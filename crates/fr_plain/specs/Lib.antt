@@ -1,7 +1,10 @@
 pub mod Heap
 pub mod State
+pub mod RunningTerms
 pub mod Acts
 pub mod Run
+pub mod Threads
 pub mod Whole
 pub mod Resolve
 pub mod Examples
+pub mod ThreadRuns

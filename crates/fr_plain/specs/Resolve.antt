@@ -1,14 +1,15 @@
--- The running term of a source: slots for names, how many variables a block has, and for each read whether it moves,
--- all as the typing has them (this project's rule).
-use Rattle.std.specs.Prelude.{ℕ, suc, ◌+◌, Bool, false, not, [], Option, Some, None}
+-- The running term of a source: slots for names, how many variables a block has, and for each read and capture whether
+-- it moves, all as the typing has them (this project's rule).
+use Rattle.std.specs.Prelude.{ℕ, suc, ◌+◌, Bool, false, not, List, [], ◌∷◌, length, Option, Some, None}
 use Rattle.fr_base.specs.declared.place.Lval.{Lval}
-use Rattle.fr_terms.specs.Terms.{Spot, Term, block_t, let_t, assign_t, read_t, borrow_t, borrow_mut_t, number_t, unit_t, box_t, print_t, arith_t, Items, none, item}
-use Rattle.fr_typing.specs.Kinds.{whole, copies}
+use Rattle.fr_terms.specs.Terms.{Spot, Term, block_t, let_t, assign_t, read_t, borrow_t, borrow_mut_t, number_t, unit_t, box_t, print_t, arith_t, join_t, spawn_t, Captured, Items, none, item}
+use Rattle.fr_typing.specs.Kinds.{unit, own, whole, copies}
 use Rattle.fr_typing.specs.Places.{Env, Found, found, type_at, slot_of}
 use Rattle.fr_typing.specs.Checks.{place_of}
 use Rattle.fr_typing.specs.Finding.{Outcome, typed, fault}
+use Rattle.fr_typing.specs.Captures.{by_spawn, spot_of, capture, capture_all}
 use Rattle.fr_typing.specs.Typing.{typing}
-use Rattle.fr_plain.specs.Run.{Run, unit_c, number, read, borrow, box_r, arith, bind, print, assign, block, Parts, last, more}
+use Rattle.fr_plain.specs.Run.{Capture, Run, unit_c, number, read, borrow, box_r, arith, bind, print, assign, block, spawn, join_r, Parts, last, more}
 
 -- the environment that a typed term leaves
 abbrev pub env_of : Outcome → Env
@@ -34,6 +35,26 @@ found_moves _ = false
 abbrev pub moves : Env → Spot → Bool
 moves e w = found_moves (type_at e (named e w))
 
+-- CAPTURES
+
+-- what a captured name leaves of the environment, and the new environment with it
+abbrev pub env_left : Env → Env → Captured → Env
+env_left e n c = env_of (capture by_spawn e n c (λ e1 n1. typed (own unit) e1))
+
+abbrev pub env_new : Env → Env → Captured → Env
+env_new e n c = env_of (capture by_spawn e n c (λ e1 n1. typed (own unit) n1))
+
+-- the new environment of all captured names
+abbrev pub env_of_all : Env → List Captured → Env
+env_of_all e cs = env_of (capture_all by_spawn cs e [] (λ e1 n1. typed (own unit) n1))
+
+-- each captured name's slot, and whether its value is taken
+abbrev pub captures : Env → Env → List Captured → List Capture
+captures e n [] = []
+captures e n (c ∷ cs) = record { slot = (named e (spot_of c)).slot; take = moves e (spot_of c) } ∷ captures (env_left e n c) (env_new e n c) cs
+
+-- TERMS
+
 abbrev mutual
   -- how many variables a term declares outside of the blocks in it
   pub lets_in : Term → ℕ
@@ -42,6 +63,7 @@ abbrev mutual
   lets_in (print_t at t) = lets_in t
   lets_in (assign_t at w t) = lets_in t
   lets_in (arith_t at op a b) = lets_in a + lets_in b
+  lets_in (join_t at t) = lets_in t
   lets_in t = 0
 
   pub lets : Items → ℕ
@@ -54,7 +76,8 @@ before none r rest = last r
 before (item t ts) r rest = more r rest
 
 abbrev mutual
-  -- of forms with threads or mutexes nobody asks yet
+  -- of forms with mutexes or views nobody asks yet. A new thread's term drops what it declares
+  -- and its captures at its end
   pub resolve : Term → Env → Run
   resolve (number_t at n) e = number n
   resolve (unit_t at) e = unit_c
@@ -67,6 +90,8 @@ abbrev mutual
   resolve (let_t at x t) e = bind (resolve t e)
   resolve (assign_t at w t) e = assign (named (env_after t e) w) (resolve t e)
   resolve (block_t at ts) e = block (lets ts) (resolve_items ts e)
+  resolve (spawn_t at cs t) e = spawn (captures e [] cs) (block (length cs + lets_in t) (last (resolve t (env_of_all e cs))))
+  resolve (join_t at t) e = join_r (resolve t e)
   resolve t e = unit_c
 
   -- a block without items is the constant unit

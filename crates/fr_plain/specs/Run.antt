@@ -1,32 +1,11 @@
--- Running terms: terms with slots for names and with the values that steps left, and their moves (Featherweight Rust's
--- reduction; that a block drops one slot a step is this project's rule).
-use Rattle.std.specs.Prelude.{ℕ, ℤ, zero, suc, ◌+◌, Bool, true, false, Option, Some, None}
+-- The moves of running terms (Featherweight Rust's reduction; that a block drops one slot a step, and threads, are this
+-- project's rules).
+use Rattle.std.specs.Prelude.{ℕ, zero, suc, ◌+◌, Bool, true, false, Option, Some, None}
 use Rattle.fr_base.specs.declared.label.Plain.TheVariants as plain
-use Rattle.fr_base.specs.declared.place.Lval.{Lval}
-use Rattle.fr_base.specs.declared.place.Op.{Op}
 use Rattle.fr_plain.specs.declared.value.Value.{Value}
 use Rattle.fr_plain.specs.declared.value.Value.TheVariants.{Own}
-use Rattle.fr_plain.specs.Acts.{Act, do_let, do_read, do_borrow, do_assign, do_box, do_arith, do_print, do_discard, do_drop, do_end, unit}
-
--- `temp` is a value that a step left; a borrow of either kind is the same reference; a block has the number of slots that it has still to drop
-mutual
-  pub data Run : Type 0 where
-    temp : Value → Run
-    unit_c : Run
-    number : ℤ → Run
-    read : Lval → (take : Bool) → Run
-    borrow : Lval → Run
-    box_r : Run → Run
-    arith : Op → Run → Run → Run
-    bind : Run → Run
-    print : Run → Run
-    assign : Lval → Run → Run
-    block : ℕ → Parts → Run
-
-  -- the items of a block; in `more` the first one has a `;` behind it
-  pub data Parts : Type 0 where
-    last : Run → Parts
-    more : Run → Parts → Parts
+use Rattle.fr_plain.specs.Acts.{Act, do_let, do_read, do_borrow, do_assign, do_box, do_arith, do_print, do_discard, do_drop, do_end, do_spawn, do_join, do_finish, do_leave, unit}
+pub use Rattle.fr_plain.specs.RunningTerms.{Capture, Run, temp, unit_c, number, read, borrow, box_r, arith, bind, print, assign, block, spawn, join_r, Parts, last, more}
 
 -- a term that is done is a constant, or a temporary value
 pub data Now : Type 0 where
@@ -102,6 +81,8 @@ abbrev mutual
   settle (print r) = print (settle r)
   settle (assign w r) = assign w (settle r)
   settle (block k is) = close k (settle_parts is)
+  settle (spawn cs r) = spawn cs r
+  settle (join_r r) = join_r (settle r)
 
   pub settle_parts : Parts → Parts
   settle_parts (last r) = last (settle r)
@@ -142,23 +123,36 @@ abbrev mutual
   move (print r) = on_value (now r) (λ v. alone (λ x. unit_c) (do_print v)) (next print (move r))
   move (assign w r) = on_value (now r) (λ v. alone (λ x. unit_c) (do_assign w v)) (next (assign w) (move r))
   move (block k is) = on_value (now_parts is) (λ v. block_end k is) (next (block k) (move_parts is))
+  move (spawn cs r) = alone temp (do_spawn cs r)
+  move (join_r r) = on_value (now r) (λ v. alone temp (do_join v)) (next join_r (move r))
 
   pub move_parts : Parts → Option (Move Parts)
   move_parts (last r) = next last (move r)
   move_parts (more r is) = by_now (now r) (next (λ x. more x is) (move r)) (λ v. move_parts is) (λ v. alone (λ x. is) (do_discard v))
 
--- a thread: its term in progress, or over
+-- a thread: its term in progress, or it has ended. The main thread is `alive` until it is `over`. Another thread is
+-- `owing` as long as somebody has its task, and then `ended` with its result; it is `loose` once its task was dropped, and
+-- nobody will have its result. It is `over` once its result was joined or dropped
 pub data Life : Type 0 where
   alive : Run → Life
   over : Life
+  owing : Run → Life
+  loose : Run → Life
+  ended : Value → Life
 
 abbrev pub settle_life : Life → Life
 settle_life (alive r) = alive (settle r)
 settle_life over = over
+settle_life (owing r) = owing (settle r)
+settle_life (loose r) = loose (settle r)
+settle_life (ended v) = ended v
 
 abbrev pub life_move : Life → Option (Move Life)
 life_move (alive r) = on_value (now r) (λ v. alone (λ x. over) (do_end v)) (next alive (move r))
 life_move over = None
+life_move (owing r) = on_value (now r) (λ v. alone ended (do_finish v)) (next owing (move r))
+life_move (loose r) = on_value (now r) (λ v. alone (λ x. over) (do_leave v)) (next loose (move r))
+life_move (ended v) = None
 
 -- HOW MANY STEPS ARE LEFT
 
@@ -175,6 +169,8 @@ abbrev mutual
   leaves (box_r r) = true
   leaves (arith f a b) = true
   leaves (block k is) = leaves_last is
+  leaves (spawn cs r) = true
+  leaves (join_r r) = true
   leaves _ = false
 
   pub leaves_last : Parts → Bool
@@ -194,6 +190,9 @@ abbrev mutual
   steps_left (print r) = steps_left r + 1
   steps_left (assign w r) = steps_left r + 1
   steps_left (block k is) = steps_in is + k
+  -- the new thread's steps, its end, and its start
+  steps_left (spawn cs r) = steps_left r + 2
+  steps_left (join_r r) = steps_left r + 1
 
   pub steps_in : Parts → ℕ
   steps_in (last r) = steps_left r
@@ -202,3 +201,6 @@ abbrev mutual
 abbrev pub life_left : Life → ℕ
 life_left (alive r) = steps_left r + 1
 life_left over = 0
+life_left (owing r) = steps_left r + 1
+life_left (loose r) = steps_left r + 1
+life_left (ended v) = 0

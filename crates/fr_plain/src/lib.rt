@@ -4,5 +4,5 @@
 mod laws;
 mod value;
 
-pub use laws::runs_compute;
+pub use laws::{runs_compute, threads_run};
 pub use value::Value;

@@ -5,8 +5,8 @@ use Rattle.fr_base.specs.declared.place.Op.{Op}
 use Rattle.fr_typing.specs.Kinds.{Kind}
 use Rattle.fr_typing.specs.Places.{Env, AreBelow, kind_places}
 use Rattle.fr_plain.specs.declared.value.Value.{Value}
-use Rattle.fr_plain.specs.Run.{Run, temp, unit_c, number, read, borrow, box_r, arith, bind, print, assign, block, Parts, last, more, Now, going, constant, temporary, by_now, after, at_end, now, now_parts}
-use Rattle.fr_sound.specs.RunTypes.{Falls, f_none, f_one, IsNumber, RunTypes, t_temp, t_unit, t_number, t_box, t_left, t_right, t_let, t_print, t_assign, t_block, PartsTypes, p_last, p_more, first_of, held, held_in, Operand, o_unit, o_int}
+use Rattle.fr_plain.specs.Run.{Run, temp, unit_c, number, read, borrow, box_r, arith, bind, print, assign, block, spawn, join_r, Parts, last, more, Now, going, constant, temporary, by_now, after, at_end, now, now_parts}
+use Rattle.fr_sound.specs.RunTypes.{Forms, t_join, Falls, f_none, f_one, IsNumber, RunTypes, t_temp, t_unit, t_number, t_box, t_left, t_right, t_let, t_print, t_assign, t_block, PartsTypes, p_last, p_more, first_of, held, held_in, Operand, o_unit, o_int}
 
 -- what a done term's typing says: its environment is left as it was, and its value is an operand
 pub data Done : Now → Env → Option Kind → Option Value → Kind → Env → Type 0 where
@@ -27,7 +27,7 @@ after_done d_temporary c = d_going
 
 mutual
   -- a term that is done leaves its environment, and its value is an operand of its type
-  pub done : (r : Run) {e e1 : Env} {o : Option Kind} {k : Kind} → RunTypes e o r k e1 → Done (now r) e o (held r) k e1
+  pub done : {forms : Forms} (r : Run) {e e1 : Env} {o : Option Kind} {k : Kind} → RunTypes forms e o r k e1 → Done (now r) e o (held r) k e1
   done (temp v) t_temp = d_temporary
   done unit_c t_unit = d_constant o_unit
   done (number n) t_number = d_constant o_int
@@ -39,9 +39,11 @@ mutual
   done (print r) t = d_going
   done (assign w r) t = d_going
   done (block n is) (t_block p f below) = at_end_done f (done_parts is p)
+  done (spawn cs r) t = d_going
+  done (join_r r) t = d_going
 
   -- and so do parts that are done
-  pub done_parts : (is : Parts) {e e1 : Env} {o : Option Kind} {k : Kind} → PartsTypes e o is k e1 → Done (now_parts is) e o (held_in is) k e1
+  pub done_parts : {forms : Forms} (is : Parts) {e e1 : Env} {o : Option Kind} {k : Kind} → PartsTypes forms e o is k e1 → Done (now_parts is) e o (held_in is) k e1
   done_parts (last r) (p_last t) = done r t
   done_parts (more r is) (p_more t p) = after_done (done r t) (done_parts is p)
 
@@ -80,7 +82,7 @@ constant_places m c d_temporary = absurd c
 
 mutual
   -- a done term has its type in every environment in which its type's places are
-  pub anywhere : (r : Run) {e e1 : Env} {o : Option Kind} {k : Kind} (e2 : Env) → IsDone (now r) → AreBelow (length e2) (kind_places k) → RunTypes e o r k e1 → RunTypes e2 o r k e2
+  pub anywhere : {forms : Forms} (r : Run) {e e1 : Env} {o : Option Kind} {k : Kind} (e2 : Env) → IsDone (now r) → AreBelow (length e2) (kind_places k) → RunTypes forms e o r k e1 → RunTypes forms e2 o r k e2
   anywhere (temp v) e2 d b t_temp = t_temp
   anywhere unit_c e2 d b t_unit = t_unit
   anywhere (number n) e2 d b t_number = t_number
@@ -93,9 +95,11 @@ mutual
   anywhere (assign w r) e2 d b t = absurd d
   anywhere (block n is) e2 d b (t_block p f_none below) = t_block (anywhere_parts is e2 d b p) f_none b
   anywhere (block n is) e2 d b (t_block p (f_one f) below) = absurd d
+  anywhere (spawn cs r) e2 d b t = absurd d
+  anywhere (join_r r) e2 d b t = absurd d
 
   -- and so have parts that are done
-  pub anywhere_parts : (is : Parts) {e e1 : Env} {o : Option Kind} {k : Kind} (e2 : Env) → IsDone (now_parts is) → AreBelow (length e2) (kind_places k) → PartsTypes e o is k e1 → PartsTypes e2 o is k e2
+  pub anywhere_parts : {forms : Forms} (is : Parts) {e e1 : Env} {o : Option Kind} {k : Kind} (e2 : Env) → IsDone (now_parts is) → AreBelow (length e2) (kind_places k) → PartsTypes forms e o is k e1 → PartsTypes forms e2 o is k e2
   anywhere_parts (last r) e2 d b (p_last t) = p_last (anywhere r e2 d b t)
   anywhere_parts (more r is) e2 d b (p_more t p) =
       let c = both_done (now r) (now_parts is) d in p_more (anywhere r e2 (constant_done (now r) c.0) (constant_places (length e2) c.0 (done r t)) t) (anywhere_parts is e2 c.1 b p)
@@ -119,7 +123,7 @@ going_held f a b e = ap (λ n. by_now n (held a) (λ v. held b) (λ v. held b)) 
 
 mutual
   -- a term typed without a temporary value has none
-  pub quiet : (r : Run) {e e1 : Env} {k : Kind} → RunTypes e None r k e1 → held r ≡ None
+  pub quiet : {forms : Forms} (r : Run) {e e1 : Env} {k : Kind} → RunTypes forms e None r k e1 → held r ≡ None
   quiet (temp v) t = elim t [ ]
   quiet unit_c t = refl
   quiet (number n) t = refl
@@ -132,8 +136,10 @@ mutual
   quiet (print r) (t_print t) = quiet r t
   quiet (assign w r) (t_assign t a) = quiet r t
   quiet (block n is) (t_block p f below) = quiet_parts is p
+  quiet (spawn cs r) t = refl
+  quiet (join_r r) (t_join t) = quiet r t
 
   -- and so have parts
-  pub quiet_parts : (is : Parts) {e e1 : Env} {k : Kind} → PartsTypes e None is k e1 → held_in is ≡ None
+  pub quiet_parts : {forms : Forms} (is : Parts) {e e1 : Env} {k : Kind} → PartsTypes forms e None is k e1 → held_in is ≡ None
   quiet_parts (last r) (p_last t) = quiet r t
   quiet_parts (more r is) (p_more t p) = ap (λ a. first_of a (held_in is)) (quiet r t) ∙ quiet_parts is p

@@ -15,22 +15,22 @@ use Rattle.fr_store.proofs.Chains.{then_some}
 use Rattle.fr_store.proofs.Sound.{walk_last}
 use Rattle.fr_store.proofs.Rows.{found_place}
 use Rattle.fr_store.proofs.Below.{mut_place, resolved}
-use Rattle.fr_store.proofs.ListDrop.{at_slot}
+use Rattle.fr_store.proofs.ListState.{at_slot}
 use Rattle.fr_store.proofs.ListPlaces.{place_in}
 use Rattle.fr_plain.specs.declared.value.Value.{Value}
 use Rattle.fr_plain.specs.declared.value.Value.TheVariants.{Own, ToSlot, ToObject}
 use Rattle.fr_plain.specs.Heap.{cell_at}
 use Rattle.fr_plain.specs.State.{State, slot_at, Spot, in_slot, in_cell, owned, Reached, then_reached, led, stars, loads}
 use Rattle.fr_plain.specs.State as plain_state
-use Rattle.fr_sound.specs.Seen.{val_of, vals, hand_of, seen_cell, heap_of, seen, location_of, rank_of, Holds}
+use Rattle.fr_sound.specs.Seen.{Gives, Beside, val_of, vals, hand_of, seen_cell, heap_of, seen, location_of, rank_of, Holds}
 use Rattle.fr_sound.proofs.SeenLemmas.{length_vals, slot_seen, slot_there}
 
 -- VALUES
 
 -- what a value of the machine is, where it is there
-abbrev pub maybe_val : ℕ → Option Value → Option Val
-maybe_val t None = None
-maybe_val t (Some v) = Some (val_of t v)
+abbrev pub maybe_val : Gives → ℕ → Option Value → Option Val
+maybe_val g t None = None
+maybe_val g t (Some v) = Some (val_of g t v)
 
 -- where the test and the rest find none, gone is seen
 if_none : (b : Bool) (v : Value) (x : Option Value) (rest : Val) → (x ≡ None → rest ≡ gone_v) → (if b then Some v else x) ≡ None → (w : Val) → (if b then w else rest) ≡ gone_v
@@ -38,26 +38,26 @@ if_none true v x rest go h w = cc
 if_none false v x rest go h w = go h
 
 -- a slot that isn't there is seen as gone
-slot_missing : (t : ℕ) (vs : List Value) (i : ℕ) → slot_at vs i ≡ None → slot_value (vals t vs) i ≡ gone_v
-slot_missing t [] i h = refl
-slot_missing t (v ∷ vs) i h = ap (λ n. if i == n then val_of t v else slot_value (vals t vs) i) (length_vals t vs) ∙ if_none (i == length vs) v (slot_at vs i) (slot_value (vals t vs) i) (slot_missing t vs i) h (val_of t v)
+slot_missing : (g : Gives) (t : ℕ) (vs : List Value) (i : ℕ) → slot_at vs i ≡ None → slot_value (vals g t vs) i ≡ gone_v
+slot_missing g t [] i h = refl
+slot_missing g t (v ∷ vs) i h = ap (λ n. if i == n then val_of g t v else slot_value (vals g t vs) i) (length_vals g t vs) ∙ if_none (i == length vs) v (slot_at vs i) (slot_value (vals g t vs) i) (slot_missing g t vs i) h (val_of g t v)
 
 -- what stands at a spot of the machine stands at its location
-pub value_there : (st : State) (h : Option Value) (p : Spot) (v : Value) → plain_state.value_at st p ≡ Some v → value_at (seen st h) (location_of st.thread p) ≡ Some (val_of st.thread v)
-value_there st h (in_slot i) v e = ap Some (at_slot st.thread (vals st.thread st.slots) (hand_of st.thread h) (heap_of st.heap) i ∙ slot_seen st.thread st.slots i v e)
-value_there st h (in_cell o) v e = by (cell_at st.heap o) e
+pub value_there : (beside : Beside) (st : State) (h : Option Value) (p : Spot) (v : Value) → plain_state.value_at st p ≡ Some v → value_at (seen beside st h) (location_of st.thread p) ≡ Some (val_of beside.gives st.thread v)
+value_there beside st h (in_slot i) v e = ap Some (at_slot beside.at st.thread (vals beside.gives st.thread st.slots) (hand_of beside.gives st.thread h) (heap_of beside.gives st.heap) i ∙ slot_seen beside.gives st.thread st.slots i v e)
+value_there beside st h (in_cell o) v e = by (cell_at st.heap o) e
   where
-    by : (c : Option Plain) → owned c ≡ Some v → seen_cell c ≡ Some (val_of st.thread v)
+    by : (c : Option Plain) → owned c ≡ Some v → seen_cell beside.gives c ≡ Some (val_of beside.gives st.thread v)
     by None e = cc
-    by (Some x) e = let same : Own x ≡ v = cc in ap (λ w. Some (val_of st.thread w)) same
+    by (Some x) e = let same : Own x ≡ v = cc in ap (λ w. Some (val_of beside.gives st.thread w)) same
 
 -- a star leads on from a spot as it does from its location
-star_there : (st : State) (h : Option Value) (p : Spot) (x : Option Value) → plain_state.value_at st p ≡ x → star_target (value_at (seen st h) (location_of st.thread p)) ≡ star_target (maybe_val st.thread x)
-star_there st h p (Some v) e = ap star_target (value_there st h p v e)
-star_there st h (in_slot i) None e = ap (λ w. star_target (Some w)) (at_slot st.thread (vals st.thread st.slots) (hand_of st.thread h) (heap_of st.heap) i ∙ slot_missing st.thread st.slots i e)
-star_there st h (in_cell o) None e = by (cell_at st.heap o) e
+star_there : (beside : Beside) (st : State) (h : Option Value) (p : Spot) (x : Option Value) → plain_state.value_at st p ≡ x → star_target (value_at (seen beside st h) (location_of st.thread p)) ≡ star_target (maybe_val beside.gives st.thread x)
+star_there beside st h p (Some v) e = ap star_target (value_there beside st h p v e)
+star_there beside st h (in_slot i) None e = ap (λ w. star_target (Some w)) (at_slot beside.at st.thread (vals beside.gives st.thread st.slots) (hand_of beside.gives st.thread h) (heap_of beside.gives st.heap) i ∙ slot_missing beside.gives st.thread st.slots i e)
+star_there beside st h (in_cell o) None e = by (cell_at st.heap o) e
   where
-    by : (c : Option Plain) → owned c ≡ None → star_target (seen_cell c) ≡ None
+    by : (c : Option Plain) → owned c ≡ None → star_target (seen_cell beside.gives c) ≡ None
     by None e = refl
     by (Some x) e = cc
 
@@ -72,16 +72,16 @@ pub record LedTo (t : ℕ) (r : Reached) (x : Option Value) (l : Location) : Typ
   pub spot : location_of t to.spot ≡ l
 
 -- a star leads the machine where it leads the store
-led_to : (t : ℕ) (r : Reached) (x : Option Value) (l : Location) → star_target (maybe_val t x) ≡ Some l → LedTo t r x l
-led_to t r None l e = cc
-led_to t r (Some (Own plain.Nothing)) l e = cc
-led_to t r (Some (Own plain.Unit)) l e = cc
-led_to t r (Some (Own (plain.Int n))) l e = cc
-led_to t r (Some (Own (plain.Mutex n))) l e = cc
-led_to t r (Some (Own (plain.Task n))) l e = cc
-led_to t r (Some (Own (plain.Box o))) l e = record { to = record { spot = in_cell o; passed = r.passed ++ loads r.spot (Own (plain.Box o)) }; is = refl; spot = some_is (at_object o) l e }
-led_to t r (Some (ToSlot i)) l e = record { to = record { spot = in_slot i; passed = r.passed }; is = refl; spot = some_is (at_key (slot_k t i)) l e }
-led_to t r (Some (ToObject o)) l e = record { to = record { spot = in_cell o; passed = r.passed }; is = refl; spot = some_is (at_object o) l e }
+led_to : (g : Gives) (t : ℕ) (r : Reached) (x : Option Value) (l : Location) → star_target (maybe_val g t x) ≡ Some l → LedTo t r x l
+led_to g t r None l e = cc
+led_to g t r (Some (Own plain.Nothing)) l e = cc
+led_to g t r (Some (Own plain.Unit)) l e = cc
+led_to g t r (Some (Own (plain.Int n))) l e = cc
+led_to g t r (Some (Own (plain.Mutex n))) l e = cc
+led_to g t r (Some (Own (plain.Task n))) l e = cc
+led_to g t r (Some (Own (plain.Box o))) l e = record { to = record { spot = in_cell o; passed = r.passed ++ loads r.spot (Own (plain.Box o)) }; is = refl; spot = some_is (at_object o) l e }
+led_to g t r (Some (ToSlot i)) l e = record { to = record { spot = in_slot i; passed = r.passed }; is = refl; spot = some_is (at_key (slot_k t i)) l e }
+led_to g t r (Some (ToObject o)) l e = record { to = record { spot = in_cell o; passed = r.passed }; is = refl; spot = some_is (at_object o) l e }
 
 -- PLACES
 
@@ -105,26 +105,26 @@ pub record Leads (st : State) (slot n : ℕ) (l : Location) : Type 0 where
   pub spot : location_of st.thread reached.spot ≡ l
 
 -- stars lead the machine where they lead the store
-pub leads : (st : State) (h : Option Value) (slot n : ℕ) (l : Location) → walk (seen st h) n (at_key (slot_k st.thread slot)) ≡ Some l → Leads st slot n l
-leads st h slot zero l e = record { reached = record { spot = in_slot slot; passed = [] }; is = refl; spot = some_is (at_key (slot_k st.thread slot)) l e }
-leads st h slot (suc n) l e =
-    let w = walk_before (seen st h) n (at_key (slot_k st.thread slot)) l e in
-    let r = leads st h slot n w.0 w.1 in
+pub leads : (beside : Beside) (st : State) (h : Option Value) (slot n : ℕ) (l : Location) → walk (seen beside st h) n (at_key (slot_k st.thread slot)) ≡ Some l → Leads st slot n l
+leads beside st h slot zero l e = record { reached = record { spot = in_slot slot; passed = [] }; is = refl; spot = some_is (at_key (slot_k st.thread slot)) l e }
+leads beside st h slot (suc n) l e =
+    let w = walk_before (seen beside st h) n (at_key (slot_k st.thread slot)) l e in
+    let r = leads beside st h slot n w.0 w.1 in
     let x = plain_state.value_at st r.reached.spot in
-    let target : star_target (maybe_val st.thread x) ≡ Some l = sym (star_there st h r.reached.spot x refl) ∙ ap (λ m. star_hop (seen st h) m) r.spot ∙ w.2 in
-    let t = led_to st.thread r.reached x l target in
+    let target : star_target (maybe_val beside.gives st.thread x) ≡ Some l = sym (star_there beside st h r.reached.spot x refl) ∙ ap (λ m. star_hop (seen beside st h) m) r.spot ∙ w.2 in
+    let t = led_to beside.gives st.thread r.reached x l target in
     record { reached = t.to; is = ap (λ y. then_reached y (λ r. led r (plain_state.value_at st r.spot))) r.is ∙ t.is; spot = t.spot }
 
 -- WHAT STANDS AT A PLACE
 
 -- a place that has a type leads somewhere, in the machine and in the seen store, and the same value stands there
-pub record There (st : State) (h : Option Value) (w : Lval) : Type 0 where
+pub record There (beside : Beside) (st : State) (h : Option Value) (w : Lval) : Type 0 where
   pub reached : Reached
   pub is : plain_state.locate st w ≡ Some reached
   pub value : Value
   pub there : plain_state.value_at st reached.spot ≡ Some value
-  pub at : store.locate (seen st h) (place_of (slot_k st.thread) w) ≡ Some (location_of st.thread reached.spot)
-  pub stands : value_at (seen st h) (location_of st.thread reached.spot) ≡ Some (val_of st.thread value)
+  pub at : store.locate (seen beside st h) (place_of (slot_k st.thread) w) ≡ Some (location_of st.thread reached.spot)
+  pub stands : value_at (seen beside st h) (location_of st.thread reached.spot) ≡ Some (val_of beside.gives st.thread value)
   -- a slot is there
   pub slot : (i : ℕ) → reached.spot ≡ in_slot i → i < length st.slots
 
@@ -135,28 +135,28 @@ pub record ValueAt (st : State) (p : Spot) : Type 0 where
   pub slot : (i : ℕ) → p ≡ in_slot i → i < length st.slots
 
 -- a location of the thread is a spot with a value
-spot_value : (st : State) (h : Option Value) (l : Location) (v : Val) (p : Spot) → IsIn st.thread (vals st.thread st.slots) l → location_of st.thread p ≡ l → value_at (seen st h) l ≡ Some v → ValueAt st p
-spot_value st h l v (in_slot i) inside e f =
-    let here : IsIn st.thread (vals st.thread st.slots) (at_key (slot_k st.thread i)) = subst (IsIn st.thread (vals st.thread st.slots)) (sym e) inside in
-    let lt : i < length st.slots = subst (λ n. i < n) (length_vals st.thread st.slots) here.1 in
+spot_value : (beside : Beside) (st : State) (h : Option Value) (l : Location) (v : Val) (p : Spot) → IsIn st.thread (vals beside.gives st.thread st.slots) l → location_of st.thread p ≡ l → value_at (seen beside st h) l ≡ Some v → ValueAt st p
+spot_value beside st h l v (in_slot i) inside e f =
+    let here : IsIn st.thread (vals beside.gives st.thread st.slots) (at_key (slot_k st.thread i)) = subst (IsIn st.thread (vals beside.gives st.thread st.slots)) (sym e) inside in
+    let lt : i < length st.slots = subst (λ n. i < n) (length_vals beside.gives st.thread st.slots) here.1 in
     let x = slot_there st.slots i lt in
     record { value = x.0; is = x.1; slot = λ j g. let same : i ≡ j = cc in subst (λ n. n < length st.slots) same lt }
-spot_value st h l v (in_cell q) inside e f = by (cell_at st.heap q) refl (ap (value_at (seen st h)) e ∙ f)
+spot_value beside st h l v (in_cell q) inside e f = by (cell_at st.heap q) refl (ap (value_at (seen beside st h)) e ∙ f)
   where
-    by : (c : Option Plain) → cell_at st.heap q ≡ c → seen_cell c ≡ Some v → ValueAt st (in_cell q)
+    by : (c : Option Plain) → cell_at st.heap q ≡ c → seen_cell beside.gives c ≡ Some v → ValueAt st (in_cell q)
     by None g k = cc
     by (Some y) g k = record { value = Own y; is = ap owned g; slot = λ j z. cc }
 
 -- each place that has a type leads there
-pub there : {e : Env} {o : Option Kind} {h : Option Value} {st : State} (w : Lval) (q : Piece) → Holds e o h st → w.slot < length e → type_at e w ≡ found q → There st h w
-there {e = e} {o = o} {h = h} {st = st} w q y lt is =
+pub there : {beside : Beside} {e : Env} {o : Option Kind} {h : Option Value} {st : State} (w : Lval) (q : Piece) → Holds beside e o h st → w.slot < length e → type_at e w ≡ found q → There beside st h w
+there {beside = beside} {e = e} {o = o} {h = h} {st = st} w q y lt is =
     let t = st.thread in
-    let s = seen st h in
+    let s = seen beside st h in
     let r = resolved (slot_k t) y.types (mut_place (rank_of y.high) y.types s y.thread.typed) e y.thread.nested y.thread.slots w q lt is in
     let f = found_place (rank_of y.high) y.types s false (place_of (slot_k t) w) r.base r.boxes r.type y.thread.typed r.res in
-    let l = leads st h w.slot w.depth f.loc f.at in
-    let x = place_in t (rank_of y.high) e y.types (vals t st.slots) (hand_of t h) (heap_of st.heap) o y.thread w q f.loc (length_vals t st.slots ∙ y.slots) lt is f.at in
-    let v = spot_value st h f.loc f.value l.reached.spot x.0 l.spot f.there in
+    let l = leads beside st h w.slot w.depth f.loc f.at in
+    let x = place_in beside.at t (rank_of y.high) e y.types (vals beside.gives t st.slots) (hand_of beside.gives t h) (heap_of beside.gives st.heap) o y.beside.own y.thread w q f.loc (length_vals beside.gives t st.slots ∙ y.slots) lt is f.at in
+    let v = spot_value beside st h f.loc f.value l.reached.spot x.0 l.spot f.there in
     record {
       reached = l.reached;
       is = l.is;
@@ -164,5 +164,5 @@ there {e = e} {o = o} {h = h} {st = st} w q y lt is =
       there = v.is;
       slot = v.slot;
       at = f.at ∙ ap Some (sym l.spot);
-      stands = value_there st h l.reached.spot v.value v.is;
+      stands = value_there beside st h l.reached.spot v.value v.is;
     }

@@ -8,32 +8,33 @@ use Rattle.fr_base.specs.declared.label.Plain.TheVariants as plain
 use Rattle.fr_base.specs.declared.name.ObjNo.{ObjNo}
 use Rattle.fr_typing.proofs.PlaceLemmas.{eq_cases}
 use Rattle.fr_store.specs.Keys.{same_object}
-use Rattle.fr_store.specs.Store.{Val, gone_v, or_gone}
-use Rattle.fr_store.specs.ListState.{slot_value, put_slot, put_object, without_object, drop_objects, drop_rest}
+use Rattle.fr_store.specs.Store.{Val, gone_v, task_v, or_gone}
+use Rattle.fr_store.specs.Below.{tree_of}
+use Rattle.fr_store.specs.ListState.{slot_value, put_slot, put_object, without_object, drop_objects, drop_last, drop_rest}
 use Rattle.fr_store.proofs.Keys.{object_cases}
 use Rattle.fr_plain.specs.declared.value.Value.{Value}
-use Rattle.fr_plain.specs.Heap.{Heap, made_by, flat, cell_at, with_cells, with_cell, next_object, with_object, then_drop, drop_links, count_cells, live}
+use Rattle.fr_plain.specs.Heap.{Heap, made_by, flat, cell_at, with_cells, with_cell, next_object, with_object, then_drop, drop_links, then_link, last_link, count_cells, live}
 use Rattle.fr_plain.specs.State.{slot_at, with_slot}
 use Rattle.fr_plain.proofs.HeapLemmas.{made_same, made_other, flat_is, flat_past, cell_there}
-use Rattle.fr_sound.specs.Seen.{owned_val, val_of, vals, seen_cell, heap_of}
+use Rattle.fr_sound.specs.Seen.{Gives, owned_val, val_of, vals, seen_cell, heap_of}
 
 -- SLOTS
 
 -- as many slots are seen as there are
-pub length_vals : (t : ℕ) (vs : List Value) → length (vals t vs) ≡ length vs
-length_vals t [] = refl
-length_vals t (v ∷ vs) = ap suc (length_vals t vs)
+pub length_vals : (g : Gives) (t : ℕ) (vs : List Value) → length (vals g t vs) ≡ length vs
+length_vals g t [] = refl
+length_vals g t (v ∷ vs) = ap suc (length_vals g t vs)
 
 -- a slot that is found, by the test of its number
-some_slot : (b : Bool) (t : ℕ) (v : Value) (x : Option Value) (w : Value) (rest : Val) → (x ≡ Some w → rest ≡ val_of t w) → (if b then Some v else x) ≡ Some w → (if b then val_of t v else rest) ≡ val_of t w
-some_slot true t v x w rest go h = let same : v ≡ w = cc in ap (val_of t) same
-some_slot false t v x w rest go h = go h
+some_slot : (g : Gives) (b : Bool) (t : ℕ) (v : Value) (x : Option Value) (w : Value) (rest : Val) → (x ≡ Some w → rest ≡ val_of g t w) → (if b then Some v else x) ≡ Some w → (if b then val_of g t v else rest) ≡ val_of g t w
+some_slot g true t v x w rest go h = let same : v ≡ w = cc in ap (val_of g t) same
+some_slot g false t v x w rest go h = go h
 
 -- a slot that is there is seen with its value
-pub slot_seen : (t : ℕ) (vs : List Value) (i : ℕ) (w : Value) → slot_at vs i ≡ Some w → slot_value (vals t vs) i ≡ val_of t w
-slot_seen t [] i w h = cc
-slot_seen t (v ∷ vs) i w h =
-    ap (λ n. if i == n then val_of t v else slot_value (vals t vs) i) (length_vals t vs) ∙ some_slot (i == length vs) t v (slot_at vs i) w (slot_value (vals t vs) i) (slot_seen t vs i w) h
+pub slot_seen : (g : Gives) (t : ℕ) (vs : List Value) (i : ℕ) (w : Value) → slot_at vs i ≡ Some w → slot_value (vals g t vs) i ≡ val_of g t w
+slot_seen g t [] i w h = cc
+slot_seen g t (v ∷ vs) i w h =
+    ap (λ n. if i == n then val_of g t v else slot_value (vals g t vs) i) (length_vals g t vs) ∙ some_slot g (i == length vs) t v (slot_at vs i) w (slot_value (vals g t vs) i) (slot_seen g t vs i w) h
 
 -- a slot below the number of slots is there
 pub slot_there : (vs : List Value) (i : ℕ) → i < length vs → (w : Value) × (slot_at vs i ≡ Some w)
@@ -42,11 +43,11 @@ slot_there (v ∷ vs) i lt =
     eq_cases (λ b. (w : Value) × ((if b then Some v else slot_at vs i) ≡ Some w)) i (length vs) (λ e. (v, refl)) (λ ne. slot_there vs i (omega arith))
 
 -- the slots seen after a write
-pub vals_with : (t : ℕ) (vs : List Value) (i : ℕ) (w : Value) → vals t (with_slot vs i w) ≡ put_slot (vals t vs) i (val_of t w)
-vals_with t [] i w = refl
-vals_with t (v ∷ vs) i w =
-    eq_cases (λ b. vals t (if b then w ∷ vs else v ∷ with_slot vs i w) ≡ (if b then val_of t w ∷ vals t vs else val_of t v ∷ put_slot (vals t vs) i (val_of t w))) i (length vs) (λ e. refl) (λ ne. ap (λ x. val_of t v ∷ x) (vals_with t vs i w))
-    ∙ ap (λ n. if i == n then val_of t w ∷ vals t vs else val_of t v ∷ put_slot (vals t vs) i (val_of t w)) (sym (length_vals t vs))
+pub vals_with : (g : Gives) (t : ℕ) (vs : List Value) (i : ℕ) (w : Value) → vals g t (with_slot vs i w) ≡ put_slot (vals g t vs) i (val_of g t w)
+vals_with g t [] i w = refl
+vals_with g t (v ∷ vs) i w =
+    eq_cases (λ b. vals g t (if b then w ∷ vs else v ∷ with_slot vs i w) ≡ (if b then val_of g t w ∷ vals g t vs else val_of g t v ∷ put_slot (vals g t vs) i (val_of g t w))) i (length vs) (λ e. refl) (λ ne. ap (λ x. val_of g t v ∷ x) (vals_with g t vs i w))
+    ∙ ap (λ n. if i == n then val_of g t w ∷ vals g t vs else val_of g t v ∷ put_slot (vals g t vs) i (val_of g t w)) (sym (length_vals g t vs))
 
 -- a write adds no slot
 pub length_with_slot : (vs : List Value) (i : ℕ) (w : Value) → length (with_slot vs i w) ≡ length vs
@@ -85,17 +86,17 @@ cell_with h o x c lt = object_cases (λ b. cell_at (with_cell h o c) x ≡ (if b
         (λ off. ap (λ ys. flat (slice_get ys x.count)) (made_other h o.thread x.thread (slice_set (made_by h o.thread) o.count c) off))
 
 -- a cell is seen by the same test
-seen_if : (b : Bool) (c d : Option Plain) → seen_cell (if b then c else d) ≡ (if b then seen_cell c else seen_cell d)
-seen_if true c d = refl
-seen_if false c d = refl
+seen_if : (g : Gives) (b : Bool) (c d : Option Plain) → seen_cell g (if b then c else d) ≡ (if b then seen_cell g c else seen_cell g d)
+seen_if g true c d = refl
+seen_if g false c d = refl
 
 -- a cell gets another value
-pub heap_put : (h : Heap) (o x : ObjNo) (v : Plain) → o.count < length (made_by h o.thread) → heap_of (with_cell h o (Some v)) x ≡ put_object (heap_of h) o (owned_val v) x
-heap_put h o x v lt = ap seen_cell (cell_with h o x (Some v) lt) ∙ seen_if (same_object x o) (Some v) (cell_at h x)
+pub heap_put : (g : Gives) (h : Heap) (o x : ObjNo) (v : Plain) → o.count < length (made_by h o.thread) → heap_of g (with_cell h o (Some v)) x ≡ put_object (heap_of g h) o (owned_val g v) x
+heap_put g h o x v lt = ap (seen_cell g) (cell_with h o x (Some v) lt) ∙ seen_if g (same_object x o) (Some v) (cell_at h x)
 
 -- an object goes
-pub heap_without : (h : Heap) (o x : ObjNo) → o.count < length (made_by h o.thread) → heap_of (with_cell h o None) x ≡ without_object (heap_of h) o x
-heap_without h o x lt = ap seen_cell (cell_with h o x None lt) ∙ seen_if (same_object x o) None (cell_at h x)
+pub heap_without : (g : Gives) (h : Heap) (o x : ObjNo) → o.count < length (made_by h o.thread) → heap_of g (with_cell h o None) x ≡ without_object (heap_of g h) o x
+heap_without g h o x lt = ap (seen_cell g) (cell_with h o x None lt) ∙ seen_if g (same_object x o) None (cell_at h x)
 
 -- a list of cells with one more
 flat_push : (xs : List (Option Plain)) (v : Plain) (i : ℕ) → i ≢ length xs → flat (slice_get (xs ++ Some v ∷ []) i) ≡ flat (slice_get xs i)
@@ -121,8 +122,8 @@ cell_made h t x v = object_cases (λ b. cell_at (with_object h t v) x ≡ (if b 
         (λ off. ap (λ ys. flat (slice_get ys x.count)) (made_other h t x.thread (made_by h t ++ Some v ∷ []) off))
 
 -- the heap seen after an object is made
-pub heap_made : (h : Heap) (t : ℕ) (x : ObjNo) (v : Plain) → heap_of (with_object h t v) x ≡ put_object (heap_of h) (next_object h t) (owned_val v) x
-heap_made h t x v = ap seen_cell (cell_made h t x v) ∙ seen_if (same_object x (next_object h t)) (Some v) (cell_at h x)
+pub heap_made : (g : Gives) (h : Heap) (t : ℕ) (x : ObjNo) (v : Plain) → heap_of g (with_object h t v) x ≡ put_object (heap_of g h) (next_object h t) (owned_val g v) x
+heap_made g h t x v = ap (seen_cell g) (cell_made h t x v) ∙ seen_if g (same_object x (next_object h t)) (Some v) (cell_at h x)
 
 -- a live cell is made
 pub live_made : (h : Heap) (o : ObjNo) (v : Plain) → cell_at h o ≡ Some v → o.count < length (made_by h o.thread)
@@ -158,14 +159,14 @@ count_set [] i v h = cc
 count_set (None ∷ xs) zero v h = cc
 count_set (Some w ∷ xs) zero v h = omega arith
 count_set (None ∷ xs) (suc i) v h = count_set xs i v h
-count_set (Some w ∷ xs) (suc i) v h = let g = count_set xs i v h in omega (arith, g)
+count_set (Some w ∷ xs) (suc i) v h = let rest = count_set xs i v h in omega (arith, rest)
 
 -- the live objects after a change of a thread
 live_cells : (h : Heap) (t : ℕ) (ys : List (Option Plain)) → live (with_cells h t ys) + count_cells (made_by h t) ≡ live h + count_cells ys
 live_cells [] t ys = omega arith
 live_cells (m ∷ ms) t ys =
     eq_cases (λ b. live (if b then record m { cells = ys } ∷ ms else m ∷ with_cells ms t ys) + count_cells (if b then m.cells else made_by ms t) ≡ live (m ∷ ms) + count_cells ys) m.thread t
-    (λ e. omega arith) (λ ne. let g = live_cells ms t ys in omega (arith, g))
+    (λ e. omega arith) (λ ne. let rest = live_cells ms t ys in omega (arith, rest))
 
 -- each object that goes lived
 pub live_falls : (h : Heap) (o : ObjNo) (v : Plain) → cell_at h o ≡ Some v → live (with_cell h o None) + 1 ≡ live h
@@ -176,11 +177,11 @@ live_falls h o v e =
 
 -- heaps that hold the same
 abbrev pub SameHeap : (ObjNo → Option Val) → (ObjNo → Option Val) → Type 0
-SameHeap f g = (x : ObjNo) → f x ≡ g x
+SameHeap f h = (x : ObjNo) → f x ≡ h x
 
 -- the same object less
-without_same : (f g : ObjNo → Option Val) (o : ObjNo) → SameHeap f g → SameHeap (without_object f o) (without_object g o)
-without_same f g o h x = ap (λ v. if same_object x o then None else v) (h x)
+without_same : (f h : ObjNo → Option Val) (o : ObjNo) → SameHeap f h → SameHeap (without_object f o) (without_object h o)
+without_same f h o same x = ap (λ v. if same_object x o then None else v) (same x)
 
 -- an object less that was not there
 without_none : (f : ObjNo → Option Val) (o : ObjNo) → f o ≡ None → SameHeap (without_object f o) f
@@ -192,51 +193,79 @@ drop_nothing zero f = refl
 drop_nothing (suc n) f = refl
 
 -- the same of one object less, with any number that is as large as the live objects
-abbrev GoesOn : ℕ → Heap → ObjNo → (ObjNo → Option Val) → Type 0
-GoesOn n h o f =
-    (k : ℕ) (w : Plain) → SameHeap (without_object f o) (heap_of (with_cell h o None)) → drop_rest n (owned_val w) (without_object f o) ≡ gone_v → live (with_cell h o None) ≤ k
-    → SameHeap (drop_objects n (owned_val w) (without_object f o)) (heap_of (drop_links k (with_cell h o None) w))
+abbrev GoesOn : Gives → ℕ → Heap → ObjNo → (ObjNo → Option Val) → Type 0
+GoesOn g n h o f =
+    (k : ℕ) (w : Plain) → SameHeap (without_object f o) (heap_of g (with_cell h o None)) → drop_rest n (owned_val g w) (without_object f o) ≡ gone_v → live (with_cell h o None) ≤ k
+    → SameHeap (drop_objects n (owned_val g w) (without_object f o)) (heap_of g (drop_links k (with_cell h o None) w))
 
 -- how the plain machine drops a value is how the store does, where the store's number is enough and the machine's as large as the live objects
-pub drops_agree : (n m : ℕ) (h : Heap) (v : Plain) (f : ObjNo → Option Val) → SameHeap f (heap_of h) → drop_rest n (owned_val v) f ≡ gone_v → live h ≤ m → SameHeap (drop_objects n (owned_val v) f) (heap_of (drop_links m h v))
-drops_agree n m h plain.Nothing f same ends le = nothing n m
+pub drops_agree : (g : Gives) (n m : ℕ) (h : Heap) (v : Plain) (f : ObjNo → Option Val) → SameHeap f (heap_of g h) → drop_rest n (owned_val g v) f ≡ gone_v → live h ≤ m → SameHeap (drop_objects n (owned_val g v) f) (heap_of g (drop_links m h v))
+drops_agree g n m h plain.Nothing f same ends le = nothing n m
   where
-    nothing : (n m : ℕ) → SameHeap (drop_objects n gone_v f) (heap_of (drop_links m h plain.Nothing))
+    nothing : (n m : ℕ) → SameHeap (drop_objects n gone_v f) (heap_of g (drop_links m h plain.Nothing))
     nothing zero zero = same
     nothing zero (suc m) = same
     nothing (suc n) zero = same
     nothing (suc n) (suc m) = same
-drops_agree zero m h plain.Unit f same ends le = cc
-drops_agree (suc n) zero h plain.Unit f same ends le = same
-drops_agree (suc n) (suc m) h plain.Unit f same ends le = same
-drops_agree zero m h (plain.Int z) f same ends le = cc
-drops_agree (suc n) zero h (plain.Int z) f same ends le = same
-drops_agree (suc n) (suc m) h (plain.Int z) f same ends le = same
-drops_agree zero m h (plain.Mutex z) f same ends le = cc
-drops_agree (suc n) zero h (plain.Mutex z) f same ends le = same
-drops_agree (suc n) (suc m) h (plain.Mutex z) f same ends le = same
-drops_agree zero m h (plain.Task z) f same ends le = cc
-drops_agree (suc n) zero h (plain.Task z) f same ends le = same
-drops_agree (suc n) (suc m) h (plain.Task z) f same ends le = same
-drops_agree zero m h (plain.Box o) f same ends le = cc
-drops_agree (suc n) m h (plain.Box o) f same ends le = by (λ k w g r l. drops_agree n k (with_cell h o None) w (without_object f o) g r l) (cell_at h o) refl m le
+drops_agree g zero m h plain.Unit f same ends le = cc
+drops_agree g (suc n) zero h plain.Unit f same ends le = same
+drops_agree g (suc n) (suc m) h plain.Unit f same ends le = same
+drops_agree g zero m h (plain.Int z) f same ends le = cc
+drops_agree g (suc n) zero h (plain.Int z) f same ends le = same
+drops_agree g (suc n) (suc m) h (plain.Int z) f same ends le = same
+drops_agree g zero m h (plain.Mutex z) f same ends le = cc
+drops_agree g (suc n) zero h (plain.Mutex z) f same ends le = same
+drops_agree g (suc n) (suc m) h (plain.Mutex z) f same ends le = same
+drops_agree g zero m h (plain.Task z) f same ends le = cc
+drops_agree g (suc n) zero h (plain.Task z) f same ends le = same
+drops_agree g (suc n) (suc m) h (plain.Task z) f same ends le = same
+drops_agree g zero m h (plain.Box o) f same ends le = cc
+drops_agree g (suc n) m h (plain.Box o) f same ends le = by (λ k w left r l. drops_agree g n k (with_cell h o None) w (without_object f o) left r l) (cell_at h o) refl m le
   where
     -- the object isn't there
-    none : cell_at h o ≡ None → SameHeap (drop_objects n (or_gone (f o)) (without_object f o)) (heap_of h)
+    none : cell_at h o ≡ None → SameHeap (drop_objects n (or_gone (f o)) (without_object f o)) (heap_of g h)
     none e x =
-        let fo : f o ≡ None = same o ∙ ap seen_cell e in
-        ap (λ v. drop_objects n (or_gone v) (without_object f o) x) fo ∙ ap (λ g. g x) (drop_nothing n (without_object f o)) ∙ without_none f o fo x ∙ same x
+        let fo : f o ≡ None = same o ∙ ap (seen_cell g) e in
+        ap (λ v. drop_objects n (or_gone v) (without_object f o) x) fo ∙ ap (λ left. left x) (drop_nothing n (without_object f o)) ∙ without_none f o fo x ∙ same x
 
-    there : GoesOn n h o f → (w : Plain) (m : ℕ) → cell_at h o ≡ Some w → live h ≤ suc m → SameHeap (drop_objects n (or_gone (f o)) (without_object f o)) (heap_of (drop_links m (with_cell h o None) w))
+    there : GoesOn g n h o f → (w : Plain) (m : ℕ) → cell_at h o ≡ Some w → live h ≤ suc m → SameHeap (drop_objects n (or_gone (f o)) (without_object f o)) (heap_of g (drop_links m (with_cell h o None) w))
     there go w m e le x =
-        let fo : f o ≡ Some (owned_val w) = same o ∙ ap seen_cell e in
+        let fo : f o ≡ Some (owned_val g w) = same o ∙ ap (seen_cell g) e in
         let l = live_falls h o w e in
-        let kept : SameHeap (without_object f o) (heap_of (with_cell h o None)) = λ y. without_same f (heap_of h) o same y ∙ sym (heap_without h o y (live_made h o w e)) in
-        let rest : drop_rest n (owned_val w) (without_object f o) ≡ gone_v = sym (ap (λ v. drop_rest n (or_gone v) (without_object f o)) fo) ∙ ends in
+        let kept : SameHeap (without_object f o) (heap_of g (with_cell h o None)) = λ y. without_same f (heap_of g h) o same y ∙ sym (heap_without g h o y (live_made h o w e)) in
+        let rest : drop_rest n (owned_val g w) (without_object f o) ≡ gone_v = sym (ap (λ v. drop_rest n (or_gone v) (without_object f o)) fo) ∙ ends in
         ap (λ v. drop_objects n (or_gone v) (without_object f o) x) fo ∙ go m w kept rest (omega (arith, l)) x
 
-    by : GoesOn n h o f → (c : Option Plain) → cell_at h o ≡ c → (m : ℕ) → live h ≤ m → SameHeap (drop_objects n (or_gone (f o)) (without_object f o)) (heap_of (drop_links m h (plain.Box o)))
+    by : GoesOn g n h o f → (c : Option Plain) → cell_at h o ≡ c → (m : ℕ) → live h ≤ m → SameHeap (drop_objects n (or_gone (f o)) (without_object f o)) (heap_of g (drop_links m h (plain.Box o)))
     by go None e zero le = none e
-    by go None e (suc m) le = λ x. none e x ∙ ap (λ c. heap_of (then_drop c h (drop_links m (with_cell h o None))) x) (sym e)
+    by go None e (suc m) le = λ x. none e x ∙ ap (λ c. heap_of g (then_drop c h (drop_links m (with_cell h o None))) x) (sym e)
     by go (Some w) e zero le = let l = live_falls h o w e in absurd (omega (arith, l))
-    by go (Some w) e (suc m) le = λ x. there go w m e le x ∙ ap (λ c. heap_of (then_drop c h (drop_links m (with_cell h o None))) x) (sym e)
+    by go (Some w) e (suc m) le = λ x. there go w m e le x ∙ ap (λ c. heap_of g (then_drop c h (drop_links m (with_cell h o None))) x) (sym e)
+
+-- the task that the plain machine drops last is the one that the store drops last
+pub lasts_agree : (g : Gives) (n m : ℕ) (h : Heap) (v : Plain) (f : ObjNo → Option Val) (u : ℕ) → SameHeap f (heap_of g h) → drop_rest n (owned_val g v) f ≡ gone_v → live h ≤ m → last_link m h v ≡ plain.Task u → drop_last n (owned_val g v) f ≡ task_v u (tree_of (g u))
+lasts_agree g n zero h plain.Nothing f u same ends le e = cc
+lasts_agree g n (suc m) h plain.Nothing f u same ends le e = cc
+lasts_agree g n zero h plain.Unit f u same ends le e = cc
+lasts_agree g n (suc m) h plain.Unit f u same ends le e = cc
+lasts_agree g n zero h (plain.Int z) f u same ends le e = cc
+lasts_agree g n (suc m) h (plain.Int z) f u same ends le e = cc
+lasts_agree g n zero h (plain.Mutex z) f u same ends le e = cc
+lasts_agree g n (suc m) h (plain.Mutex z) f u same ends le e = cc
+lasts_agree g zero m h (plain.Task z) f u same ends le e = cc
+lasts_agree g (suc n) zero h (plain.Task z) f u same ends le e = let i : z ≡ u = cc in ap (λ t. task_v t (tree_of (g t))) i
+lasts_agree g (suc n) (suc m) h (plain.Task z) f u same ends le e = let i : z ≡ u = cc in ap (λ t. task_v t (tree_of (g t))) i
+lasts_agree g zero m h (plain.Box o) f u same ends le e = cc
+lasts_agree g (suc n) zero h (plain.Box o) f u same ends le e = cc
+lasts_agree g (suc n) (suc m) h (plain.Box o) f u same ends le e = by (cell_at h o) refl e (λ w k r l. lasts_agree g n m (with_cell h o None) w (without_object f o) u k r l)
+  where
+    by : (c : Option Plain) → cell_at h o ≡ c → then_link c (last_link m (with_cell h o None)) ≡ plain.Task u
+        → ((w : Plain) → SameHeap (without_object f o) (heap_of g (with_cell h o None)) → drop_rest n (owned_val g w) (without_object f o) ≡ gone_v → live (with_cell h o None) ≤ m → last_link m (with_cell h o None) w ≡ plain.Task u → drop_last n (owned_val g w) (without_object f o) ≡ task_v u (tree_of (g u)))
+        → drop_last n (or_gone (f o)) (without_object f o) ≡ task_v u (tree_of (g u))
+    by None c k go = cc
+    by (Some w) c k go =
+        let fo : f o ≡ Some (owned_val g w) = same o ∙ ap (seen_cell g) c in
+        let l = live_falls h o w c in
+        let kept : SameHeap (without_object f o) (heap_of g (with_cell h o None)) = λ y. without_same f (heap_of g h) o same y ∙ sym (heap_without g h o y (live_made h o w c)) in
+        let rest : drop_rest n (owned_val g w) (without_object f o) ≡ gone_v = sym (ap (λ v. drop_rest n (or_gone v) (without_object f o)) fo) ∙ ends in
+        ap (λ v. drop_last n (or_gone v) (without_object f o)) fo ∙ go w kept rest (omega (arith, l)) k

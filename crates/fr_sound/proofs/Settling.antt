@@ -3,8 +3,8 @@ use Rattle.std.proofs.Common.{◌≡◌, ℕ, zero, suc, length, Option, None, r
 use Rattle.fr_typing.specs.Kinds.{int, Kind, own}
 use Rattle.fr_typing.specs.Places.{Env, AreBelow, kind_places}
 use Rattle.fr_plain.specs.declared.value.Value.{Value}
-use Rattle.fr_plain.specs.Run.{Run, temp, unit_c, number, read, borrow, box_r, arith, bind, print, assign, block, Parts, last, more, Now, going, constant, temporary, after, at_end, now, now_parts, settle, settle_parts, settle_more, settle_right, close_last, close}
-use Rattle.fr_sound.specs.RunTypes.{Falls, f_none, IsNumber, RunTypes, t_box, t_left, t_right, t_let, t_print, t_assign, t_block, PartsTypes, p_last, p_more, first_of, held, held_in}
+use Rattle.fr_plain.specs.Run.{Run, temp, unit_c, number, read, borrow, box_r, arith, bind, print, assign, block, spawn, join_r, Parts, last, more, Now, going, constant, temporary, after, at_end, now, now_parts, settle, settle_parts, settle_more, settle_right, close_last, close}
+use Rattle.fr_sound.specs.RunTypes.{Forms, t_join, Falls, f_none, IsNumber, RunTypes, t_box, t_left, t_right, t_let, t_print, t_assign, t_block, PartsTypes, p_last, p_more, first_of, held, held_in}
 use Rattle.fr_sound.proofs.DoneTerms.{Done, d_going, d_constant, d_temporary, done, number_held, going_held}
 
 -- WHAT IS DONE STAYS DONE
@@ -40,6 +40,8 @@ mutual
   now_settle (bind r) = refl
   now_settle (print r) = refl
   now_settle (assign w r) = refl
+  now_settle (spawn cs r) = refl
+  now_settle (join_r r) = refl
   now_settle (block n is) = now_close n (settle_parts is) ∙ ap (at_end n) (now_settle_parts is)
 
   -- and so with parts
@@ -56,45 +58,47 @@ right_settles (temporary v) b rest i = refl
 -- THE TYPING
 
 -- a block that is closed round its last item
-settled_last : (w : Now) (r : Run) {e e1 e2 : Env} {o : Option Kind} {k : Kind} → RunTypes e o r k e1 → Falls zero e1 e2 → AreBelow (length e2) (kind_places k) → RunTypes e o (close_last w r) k e2
+settled_last : {forms : Forms} (w : Now) (r : Run) {e e1 e2 : Env} {o : Option Kind} {k : Kind} → RunTypes forms e o r k e1 → Falls zero e1 e2 → AreBelow (length e2) (kind_places k) → RunTypes forms e o (close_last w r) k e2
 settled_last going r t f below = t_block (p_last t) f below
 settled_last (constant v) r t f_none below = t
 settled_last (temporary v) r t f_none below = t
 
 -- a block that is closed
-closes : (n : ℕ) (is : Parts) {e e1 e2 : Env} {o : Option Kind} {k : Kind} → PartsTypes e o is k e1 → Falls n e1 e2 → AreBelow (length e2) (kind_places k) → RunTypes e o (close n is) k e2
+closes : {forms : Forms} (n : ℕ) (is : Parts) {e e1 e2 : Env} {o : Option Kind} {k : Kind} → PartsTypes forms e o is k e1 → Falls n e1 e2 → AreBelow (length e2) (kind_places k) → RunTypes forms e o (close n is) k e2
 closes zero (last r) (p_last t) f below = settled_last (now r) r t f below
 closes zero (more r is) p f below = t_block p f below
 closes (suc n) is p f below = t_block p f below
 
 -- an item before others
-more_settles : {w : Now} (r : Run) (is rest : Parts) {e e1 e2 : Env} {o : Option Kind} {h : Option Value} {k l : Kind} → Done w e o h k e1 → RunTypes e o r k e1 → PartsTypes e1 None is l e2 → PartsTypes e1 None rest l e2 → PartsTypes e o (settle_more w r is rest) l e2
+more_settles : {forms : Forms} {w : Now} (r : Run) (is rest : Parts) {e e1 e2 : Env} {o : Option Kind} {h : Option Value} {k l : Kind} → Done w e o h k e1 → RunTypes forms e o r k e1 → PartsTypes forms e1 None is l e2 → PartsTypes forms e1 None rest l e2 → PartsTypes forms e o (settle_more w r is rest) l e2
 more_settles r is rest d_going t p q = p_more t p
 more_settles r is rest (d_constant v) t p q = q
 more_settles r is rest d_temporary t p q = p_more t p
 
 mutual
   -- settling keeps the typing
-  pub settle_types : (r : Run) {e e1 : Env} {o : Option Kind} {k : Kind} → RunTypes e o r k e1 → RunTypes e o (settle r) k e1
+  pub settle_types : {forms : Forms} (r : Run) {e e1 : Env} {o : Option Kind} {k : Kind} → RunTypes forms e o r k e1 → RunTypes forms e o (settle r) k e1
   settle_types (temp v) t = t
   settle_types unit_c t = t
   settle_types (number n) t = t
   settle_types (read w take) t = t
   settle_types (borrow w) t = t
   settle_types (box_r r) (t_box t) = t_box (settle_types r t)
-  settle_types (arith f a b) {e = e} {e1 = e1} {o = o} (t_left g t u) =
+  settle_types {forms = forms} (arith f a b) {e = e} {e1 = e1} {o = o} (t_left g t u) =
       let same = now_settle a ∙ g in
-      subst (λ (q : Run). RunTypes e o (arith f (settle a) q) (own int) e1) (sym (ap (λ n. settle_right n b (settle b)) same)) (t_left same (settle_types a t) u)
-  settle_types (arith f a b) {e = e} {e1 = e1} {o = o} (t_right i t) =
+      subst (λ (q : Run). RunTypes forms e o (arith f (settle a) q) (own int) e1) (sym (ap (λ n. settle_right n b (settle b)) same)) (t_left same (settle_types a t) u)
+  settle_types {forms = forms} (arith f a b) {e = e} {e1 = e1} {o = o} (t_right i t) =
       let j = subst IsNumber (sym (now_settle a)) i in
-      subst (λ (q : Run). RunTypes e o (arith f (settle a) q) (own int) e1) (sym (right_settles (now (settle a)) b (settle b) j)) (t_right j (settle_types b t))
+      subst (λ (q : Run). RunTypes forms e o (arith f (settle a) q) (own int) e1) (sym (right_settles (now (settle a)) b (settle b) j)) (t_right j (settle_types b t))
   settle_types (bind r) (t_let name t) = t_let name (settle_types r t)
   settle_types (print r) (t_print t) = t_print (settle_types r t)
   settle_types (assign w r) (t_assign t a) = t_assign (settle_types r t) a
+  settle_types (spawn cs r) t = t
+  settle_types (join_r r) (t_join t) = t_join (settle_types r t)
   settle_types (block n is) (t_block p f below) = closes n (settle_parts is) (settle_parts_types is p) f below
 
   -- and that of parts
-  pub settle_parts_types : (is : Parts) {e e1 : Env} {o : Option Kind} {k : Kind} → PartsTypes e o is k e1 → PartsTypes e o (settle_parts is) k e1
+  pub settle_parts_types : {forms : Forms} (is : Parts) {e e1 : Env} {o : Option Kind} {k : Kind} → PartsTypes forms e o is k e1 → PartsTypes forms e o (settle_parts is) k e1
   settle_parts_types (last r) (p_last t) = p_last (settle_types r t)
   settle_parts_types (more r is) (p_more t p) = let s = settle_types r t in more_settles (settle r) is (settle_parts is) (done (settle r) s) s p (settle_parts_types is p)
 
@@ -120,7 +124,7 @@ more_holds r is rest d_temporary same q = refl
 
 mutual
   -- settling keeps the temporary value
-  pub settle_holds : (r : Run) {e e1 : Env} {o : Option Kind} {k : Kind} → RunTypes e o r k e1 → held (settle r) ≡ held r
+  pub settle_holds : {forms : Forms} (r : Run) {e e1 : Env} {o : Option Kind} {k : Kind} → RunTypes forms e o r k e1 → held (settle r) ≡ held r
   settle_holds (temp v) t = refl
   settle_holds unit_c t = refl
   settle_holds (number n) t = refl
@@ -134,10 +138,12 @@ mutual
   settle_holds (bind r) (t_let name t) = settle_holds r t
   settle_holds (print r) (t_print t) = settle_holds r t
   settle_holds (assign w r) (t_assign t a) = settle_holds r t
+  settle_holds (spawn cs r) t = refl
+  settle_holds (join_r r) (t_join t) = settle_holds r t
   settle_holds (block n is) (t_block p f below) = held_close n (settle_parts is) ∙ settle_parts_hold is p
 
   -- and that of parts
-  pub settle_parts_hold : (is : Parts) {e e1 : Env} {o : Option Kind} {k : Kind} → PartsTypes e o is k e1 → held_in (settle_parts is) ≡ held_in is
+  pub settle_parts_hold : {forms : Forms} (is : Parts) {e e1 : Env} {o : Option Kind} {k : Kind} → PartsTypes forms e o is k e1 → held_in (settle_parts is) ≡ held_in is
   settle_parts_hold (last r) (p_last t) = settle_holds r t
   settle_parts_hold (more r is) (p_more t p) =
       more_holds (settle r) is (settle_parts is) (done (settle r) (settle_types r t)) refl (settle_parts_hold is p) ∙ ap (λ a. first_of a (held_in is)) (settle_holds r t)

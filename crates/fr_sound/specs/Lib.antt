@@ -1,4 +1,7 @@
+pub mod Threaded
 pub mod RunTypes
 pub mod Seen
 pub mod NeverStuck
 pub mod Example
+pub mod Together
+pub mod ThreadExample

@@ -8,24 +8,27 @@ use Rattle.fr_typing.specs.Kinds.{Kind}
 use Rattle.fr_typing.specs.Places.{Env}
 use Rattle.fr_typing.specs.Typing.{Types}
 use Rattle.fr_plain.specs.State.{State}
-use Rattle.fr_plain.specs.Run.{Run, Life, alive, over}
+use Rattle.fr_plain.specs.Run.{Run, Life, alive, over, owing, loose, ended}
 use Rattle.fr_plain.specs.Whole.{Thread, Whole, Stepped, state_of, step, start}
 use Rattle.fr_plain.specs.Resolve.{program}
-use Rattle.fr_sound.specs.RunTypes.{RunTypes, held}
-use Rattle.fr_sound.specs.Seen.{Holds}
+use Rattle.fr_sound.specs.RunTypes.{one_thread, RunTypes, held}
+use Rattle.fr_sound.specs.Seen.{lone, Holds}
 
 -- a term in progress over a typed state: it will end with no slot left
 pub record IsAlive (r : Run) (st : State) : Type 0 where
   pub env : Env
   pub temp : Option Kind
   pub type : Kind
-  pub types : RunTypes env temp r type []
-  pub holds : Holds env temp (held r) st
+  pub types : RunTypes one_thread env temp r type []
+  pub holds : Holds lone env temp (held r) st
 
--- a thread that has ended has no slot and no temporary value
+-- a thread that has ended has no slot and no temporary value; the only thread is the main one, whose result nobody has
 abbrev pub IsTypedLife : Life → State → Type 0
 IsTypedLife (alive r) st = IsAlive r st
-IsTypedLife over st = Holds [] None None st
+IsTypedLife over st = Holds lone [] None None st
+IsTypedLife (owing r) st = ⊥
+IsTypedLife (loose r) st = ⊥
+IsTypedLife (ended v) st = ⊥
 
 -- the one thread is typed over the heap
 pub record IsTyped (s : Whole) : Type 0 where

@@ -4,4 +4,6 @@
 
 mod laws;
 
-pub use laws::{examples_start, never_stuck, starts_typed};
+pub use laws::{
+    examples_start, never_stuck, never_stuck_together, starts_together, starts_typed, threads_start,
+};

@@ -1,16 +1,17 @@
 -- A captured variable goes from one thread's slots to another's; joins of temporaries.
 use Rattle.fr_store.proofs.Keys.{decide_key, key_same, key_other}
 use Rattle.fr_typing.proofs.PlaceLemmas.{eq_cases}
-use Rattle.std.proofs.Common.{◌≡◌, ◌≢◌, ◌⊎◌, inl, inr, ⊎_elim, ℕ, suc, ◌<◌, ◌≤◌, Bool, List, length, Some, None, refl, sym, ap, subst, ◌∙◌, arith}
+use Rattle.std.proofs.Common.{◌≡◌, ◌≢◌, ◌⊎◌, inl, inr, ⊎_elim, ℕ, suc, ◌<◌, ◌≤◌, Bool, false, List, ◌∷◌, Option, length, Some, None, refl, sym, ap, subst, ◌∙◌, arith}
 use Rattle.fr_base.specs.declared.place.Lval.{Lval}
-use Rattle.fr_typing.specs.Kinds.{Kind, own, whole, gone, map_some}
-use Rattle.fr_typing.specs.Places.{Slot, found_or_none, put_at, IsNested, AreBelow, kind_places}
+use Rattle.fr_typing.specs.Kinds.{Owned, Kind, own, whole, gone, map_some}
+use Rattle.fr_typing.specs.Places.{Slot, type_at, found, write_blocked, found_or_none, put_at, IsNested, AreBelow, kind_places}
 use Rattle.fr_store.specs.Keys.{Key}
-use Rattle.fr_store.specs.Store.{at_key, Store, Place}
+use Rattle.fr_store.specs.Store.{at_key, Store, Place, swap}
 use Rattle.fr_store.specs.Typed.{Tree, hole, owns, refers, KeyTypes}
 use Rattle.fr_store.specs.Below.{tree_of, ExactOf, SlotsBelow}
 use Rattle.fr_store.specs.Rows.{with_type}
-use Rattle.fr_store.specs.Thread.{ThreadTyped}
+use Rattle.fr_store.specs.Thread.{ThreadKeys, ThreadTyped}
+use Rattle.fr_terms.specs.Terms.{Text}
 use Rattle.fr_store.specs.OtherThreads.{CaptureRow}
 use Rattle.fr_store.specs.JoinRows.{JoinTempRow}
 use Rattle.fr_store.proofs.Rows.{swap_own, unnamed_with}
@@ -19,9 +20,26 @@ use Rattle.fr_store.proofs.JoinRows.{slots_join}
 use Rattle.fr_store.proofs.PutAt.{slots_gone, nested_put, length_put, long_put}
 use Rattle.fr_store.proofs.ThreadKept.{exact_owned, unnamed_key, last_unnamed, slots_with, no_temp}
 
--- spawn's capture of an owned variable
-pub capture_row : CaptureRow
-capture_row key key2 rank a a2 e e2 E s x name o ks ks2 t t2 apart ka2 k2a top lt is free =
+-- the exact types after a capture of an owned variable
+abbrev pub captured_types : (ℕ → Key) → (ℕ → Key) → List Slot → KeyTypes → ℕ → Owned → KeyTypes
+captured_types key key2 e2 E x o = with_type (with_type E (key x) (owns hole)) (key2 (length e2)) (owns (tree_of o))
+
+-- both threads after spawn's capture of an owned variable
+pub capture_typed : (key key2 : ℕ → Key) (rank : Key → ℕ) (hand hand2 : Key) (slots slots2 : List Slot) (E : KeyTypes) (s : Store) (x : ℕ) (name : Option Text) (o : Owned)
+    → ThreadKeys key rank hand
+    → ThreadKeys key2 rank hand2
+    → ThreadTyped key rank hand slots E s None
+    → ThreadTyped key2 rank hand2 slots2 E s None
+    → ((i j : ℕ) → key i ≢ key2 j)
+    → ((i : ℕ) → key i ≢ hand2)
+    → ((i : ℕ) → key2 i ≢ hand)
+    → rank (key2 (length slots2)) < rank hand2
+    → x < length slots
+    → type_at slots (record { slot = x; depth = 0 }) ≡ found (whole (own o))
+    → write_blocked slots x ≡ false
+    → ThreadTyped key rank hand (put_at slots (record { slot = x; depth = 0 }) (gone (own o))) (captured_types key key2 slots2 E x o) (swap s (key2 (length slots2)) (at_key (key x))) None
+    × ThreadTyped key2 rank hand2 (record { name = name; part = whole (own o) } ∷ slots2) (captured_types key key2 slots2 E x o) (swap s (key2 (length slots2)) (at_key (key x))) None
+capture_typed key key2 rank a a2 e e2 E s x name o ks ks2 t t2 apart ka2 k2a top lt is free =
     let w : Lval = record { slot = x; depth = 0 } in
     let c = key2 (length e2) in
     let y = key x in
@@ -35,7 +53,6 @@ capture_row key key2 rank a a2 e e2 E s x name o ks ks2 t t2 apart ka2 k2a top l
     let E2 = with_type E1 c (owns tree) in
     let fc1 = unnamed_with E y hole c fc in
     let typed = swap_own rank E s c y 0 hole tree tree (at_key y) t.typed fc cy ec fy ey refl refl in (
-      E2,
       record {
         typed = typed;
         nested = nested_put e w (gone (own o)) tt t.nested;
@@ -89,6 +106,11 @@ capture_row key key2 rank a a2 e e2 E s x name o ks ks2 t t2 apart ka2 k2a top l
     wider : (j : Key) (u : Place) → ((i : ℕ) × (i < length e2) × (j ≡ key2 i)) ⊎ ((x : ℕ) → u.key ≢ key2 x) → ((i : ℕ) × (i < suc (length e2)) × (j ≡ key2 i)) ⊎ ((x : ℕ) → u.key ≢ key2 x)
     wider j u (inl z) = let lt = z.1 in inl (z.0, omega arith, z.2)
     wider j u (inr z) = inr z
+
+-- spawn's capture of an owned variable
+pub capture_row : CaptureRow
+capture_row key key2 rank a a2 e e2 E s x name o ks ks2 t t2 apart ka2 k2a top lt is free =
+    let c = capture_typed key key2 rank a a2 e e2 E s x name o ks ks2 t t2 apart ka2 k2a top lt is free in (captured_types key key2 e2 E x o, c.0, c.1)
 
 -- JOINS WITH A TEMPORARY
 

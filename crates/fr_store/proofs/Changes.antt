@@ -3,9 +3,9 @@ use Rattle.fr_store.proofs.Keys.{decide_key}
 use Rattle.fr_base.specs.declared.name.ObjNo.{ObjNo}
 use Rattle.std.proofs.Common.{◌≡◌, ◌≢◌, ◌⊎◌, inl, inr, ℕ, zero, suc, ◌<◌, Bool, true, false, Some, None, refl, sym, ap, subst, ◌∙◌}
 use Rattle.fr_store.specs.Keys.{Key}
-use Rattle.fr_store.specs.Store.{Location, at_key, at_object, Val, gone_v, unit_v, int_v, box_v, ref_v, Store, value_at, Place, below_location, below_key, add}
-use Rattle.fr_store.specs.Typed.{Tree, hole, unit_tree, int_tree, box_tree, Exact, owns, refers, KeyTypes, tree_under, some_owns, exact_under, TopFits, RefFits, Stands, Typed, Unnamed}
-use Rattle.fr_store.specs.Changes.{TypesBut, SameBut, New, new_hole, new_unit, new_int, new_ref, SetLaw, UnboxLaw, MakeLaw}
+use Rattle.fr_store.specs.Store.{Location, at_key, at_object, Val, gone_v, unit_v, int_v, box_v, task_v, ref_v, Store, value_at, Place, below_location, below_key, add}
+use Rattle.fr_store.specs.Typed.{Tree, hole, unit_tree, int_tree, task_tree, box_tree, Exact, owns, refers, KeyTypes, tree_under, some_owns, exact_under, TopFits, RefFits, Stands, Typed, Unnamed}
+use Rattle.fr_store.specs.Changes.{TypesBut, SameBut, New, new_hole, new_unit, new_int, new_task, new_ref, SetLaw, UnboxLaw, MakeLaw}
 use Rattle.fr_store.proofs.Chains.{decide_location, from_same, from_add, from_moved, from_box, from_suc}
 use Rattle.fr_store.proofs.Sound.{res_part}
 use Rattle.fr_store.proofs.Frame.{part_owns, apart, levels, stands_move, Frame, res_in, fits_kept, stands_kept}
@@ -85,6 +85,7 @@ set rank E E2 s s2 a t free types same new = one_typed rank E E2 s s2 a t free t
     by_stands _ _ new_hole is n p e = flat hole gone_v n p is refl (λ i. refl) e
     by_stands _ _ new_unit is n p e = flat unit_tree unit_v n p is refl (λ i. refl) e
     by_stands _ _ (new_int x) is n p e = flat int_tree (int_v x) n p is (x, refl) (λ i. refl) e
+    by_stands _ _ (new_task x g) is n p e = flat (task_tree g) (task_v x g) n p is (x, refl) (λ i. refl) e
     by_stands _ v (new_ref m u _ r ne lt alone) is zero p e =
         let g : refers m u ≡ p = cc in
         let refs = one_refs rank E E2 s s2 a t free types values in
@@ -97,6 +98,7 @@ set rank E E2 s s2 a t free types same new = one_typed rank E E2 s s2 a t free t
     by_new _ _ new_hole m u e = absurd cc
     by_new _ _ new_unit m u e = absurd cc
     by_new _ _ (new_int x) m u e = absurd cc
+    by_new _ _ (new_task x g) m u e = absurd cc
     by_new _ _ (new_ref m2 u2 _ r ne lt alone) m u e =
         let sm : m2 ≡ m = cc in
         let su : u2 ≡ u = cc in
@@ -106,6 +108,7 @@ set rank E E2 s s2 a t free types same new = one_typed rank E E2 s s2 a t free t
     not_box _ _ new_hole o e = cc
     not_box _ _ new_unit o e = cc
     not_box _ _ (new_int x) o e = cc
+    not_box _ _ (new_task x g) o e = cc
     not_box _ _ (new_ref m u v r ne lt alone) o e = let g : ref_v r.target ≡ box_v o = sym r.is ∙ e in cc
 
     origin : (l : Location) (o : ObjNo) → value_at s2 l ≡ Some (box_v o) → value_at s l ≡ Some (box_v o)

@@ -31,7 +31,7 @@ shared_way (slot_k (suc t) n) = owns hole
 shared_way (temp_k t n) = owns hole
 shared_way (content_k t n) = owns hole
 shared_way (result_k t) = owns hole
-shared_way hand_k = owns hole
+shared_way (hand_k t) = owns hole
 
 -- only slots refer
 in_slot : (k : Key) (m : Bool) (u : Place) → shared_way k ≡ refers m u → (n : ℕ) × (k ≡ slot_k 0 n) × (numbered n ≡ refers m u)
@@ -40,7 +40,7 @@ in_slot (slot_k (suc t) n) m u e = absurd cc
 in_slot (temp_k t n) m u e = absurd cc
 in_slot (content_k t n) m u e = absurd cc
 in_slot (result_k t) m u e = absurd cc
-in_slot hand_k m u e = absurd cc
+in_slot (hand_k t) m u e = absurd cc
 
 -- slots of different numbers differ
 slot_differs : (n m : ℕ) → n ≢ m → slot_k 0 n ≡ slot_k 0 m → ⊥

@@ -3,18 +3,14 @@ use Rattle.std.proofs.Common.{◌≡◌, ℕ, zero, suc, ◌<◌, ◌≤◌, Lis
 use Rattle.std.specs.Prelude.{if◌then◌else◌}
 use Rattle.fr_base.specs.declared.name.ObjNo.{ObjNo}
 use Rattle.fr_store.specs.Keys.{Key, slot_k, hand_k, same_key, same_object}
-use Rattle.fr_store.specs.Store.{Alike, at_key, at_object, Val, gone_v, unit_v, int_v, box_v, mutex_v, task_v, ref_v, Store, put_value, or_gone, unbox, drop_link, drop_value}
+use Rattle.fr_store.specs.Store.{Alike, at_key, at_object, Val, gone_v, unit_v, int_v, box_v, mutex_v, task_v, ref_v, Store, or_gone, unbox, drop_link, drop_value}
 use Rattle.fr_store.specs.Typed.{Tree, hole, owns, KeyTypes, Typed, Unnamed}
 use Rattle.fr_store.specs.Rows.{with_type, tree_depth}
-use Rattle.fr_store.specs.ListState.{Objects, slot_value, put_slot, store_of, without_object, drop_objects, drop_rest}
+use Rattle.fr_store.specs.ListState.{Objects, slot_value, put_slot, store_beside, without_object, drop_objects, drop_rest}
 use Rattle.fr_store.proofs.Keys.{key_same}
 use Rattle.fr_store.proofs.Rows.{top_fits, drop_hand}
-use Rattle.fr_store.proofs.ListState.{length_put_slot, slot_put, list_put_slot, list_put_hand, list_unbox, list_unbox_slot, list_pop, Alike-then}
+use Rattle.fr_store.proofs.ListState.{length_put_slot, slot_put, at_hand, at_slot, Some-value, put_alike, list_put_slot, list_put_hand, list_unbox, list_unbox_slot, list_pop, Alike-then}
 use Rattle.fr_typing.proofs.PlaceLemmas.{eq_cases}
-
--- equal options have equal values
-Some-value : (a b : Val) → Some a ≡ Some b → a ≡ b
-Some-value a b e = cc
 
 -- DROPPING ANYWHERE
 
@@ -23,11 +19,6 @@ unbox_alike : (s s2 : Store) (k : Key) (o : ObjNo) → Alike s s2 → Alike (unb
 unbox_alike s s2 k o f (at_key j) =
     ap Some (ap (λ x. if same_key j k then or_gone x else s2.at j) (f (at_object o)) ∙ ap (λ x. if same_key j k then or_gone (s.heap o) else x) (Some-value (s2.at j) (s.at j) (f (at_key j))))
 unbox_alike s s2 k o f (at_object q) = ap (λ x. if same_object q o then None else x) (f (at_object q))
-
--- so does a write
-put_alike : (s s2 : Store) (k : Key) (v : Val) → Alike s s2 → Alike (put_value s (at_key k) v) (put_value s2 (at_key k) v)
-put_alike s s2 k v f (at_key j) = ap Some (ap (λ x. if same_key j k then v else x) (Some-value (s2.at j) (s.at j) (f (at_key j))))
-put_alike s s2 k v f (at_object q) = f (at_object q)
 
 -- a drop sees only what stands at each location
 pub drop_alike : (n : ℕ) (k : Key) (s s2 : Store) → Alike s s2 → Alike (drop_value n k s) (drop_value n k s2)
@@ -41,7 +32,7 @@ drop_alike (suc n) k s s2 f =
     by unit_v g = put_alike s s2 k gone_v f
     by (int_v m) g = put_alike s s2 k gone_v f
     by (mutex_v m) g = put_alike s s2 k gone_v f
-    by (task_v m) g = put_alike s s2 k gone_v f
+    by (task_v m u) g = put_alike s s2 k gone_v f
     by (ref_v m) g = put_alike s s2 k gone_v f
 
 -- what is left at the key
@@ -55,7 +46,7 @@ drop_at (suc n) k s = by (s.at k) (λ o. drop_at n k (unbox s k o))
     by unit_v g = key_same k gone_v (s.at k)
     by (int_v m) g = key_same k gone_v (s.at k)
     by (mutex_v m) g = key_same k gone_v (s.at k)
-    by (task_v m) g = key_same k gone_v (s.at k)
+    by (task_v m u) g = key_same k gone_v (s.at k)
     by (ref_v m) g = key_same k gone_v (s.at k)
 
 -- a number that is enough is enough, and a larger one drops the same
@@ -71,7 +62,7 @@ drop_enough (suc n) (suc m) gone_v h e le = (refl, refl)
 drop_enough (suc n) (suc m) unit_v h e le = (refl, refl)
 drop_enough (suc n) (suc m) (int_v x) h e le = (refl, refl)
 drop_enough (suc n) (suc m) (mutex_v x) h e le = (refl, refl)
-drop_enough (suc n) (suc m) (task_v x) h e le = (refl, refl)
+drop_enough (suc n) (suc m) (task_v x u) h e le = (refl, refl)
 drop_enough (suc n) (suc m) (ref_v x) h e le = (refl, refl)
 
 -- in a typed store the depth of its tree is enough
@@ -82,17 +73,29 @@ drop_ends rank E s a t n ty free is le =
 -- IN A LIST OF SLOTS
 
 -- the value in the term is dropped
-pub list_drop : (n t : ℕ) (vs : List Val) (v : Val) (h : Objects) → Alike (drop_value n hand_k (store_of t vs v h)) (store_of t vs (drop_rest n v h) (drop_objects n v h))
-list_drop zero t vs v h = λ l. refl
-list_drop (suc n) t vs (box_v o) h =
-    Alike-then (drop_value n hand_k (unbox (store_of t vs (box_v o) h) hand_k o)) (drop_value n hand_k (store_of t vs (or_gone (h o)) (without_object h o))) (store_of t vs (drop_rest n (or_gone (h o)) (without_object h o)) (drop_objects n (or_gone (h o)) (without_object h o)))
-    (drop_alike n hand_k (unbox (store_of t vs (box_v o) h) hand_k o) (store_of t vs (or_gone (h o)) (without_object h o)) (list_unbox t vs (box_v o) h o)) (list_drop n t vs (or_gone (h o)) (without_object h o))
-list_drop (suc n) t vs gone_v h = list_put_hand t vs gone_v h gone_v
-list_drop (suc n) t vs unit_v h = list_put_hand t vs unit_v h gone_v
-list_drop (suc n) t vs (int_v m) h = list_put_hand t vs (int_v m) h gone_v
-list_drop (suc n) t vs (mutex_v m) h = list_put_hand t vs (mutex_v m) h gone_v
-list_drop (suc n) t vs (task_v m) h = list_put_hand t vs (task_v m) h gone_v
-list_drop (suc n) t vs (ref_v m) h = list_put_hand t vs (ref_v m) h gone_v
+pub list_drop : (n : ℕ) (rest : Key → Val) (t : ℕ) (vs : List Val) (v : Val) (h : Objects) → Alike (drop_value n (hand_k t) (store_beside rest t vs v h)) (store_beside rest t vs (drop_rest n v h) (drop_objects n v h))
+list_drop zero rest t vs v h = λ l. refl
+list_drop (suc n) rest t vs v h =
+    subst (λ x. Alike (drop_link (drop_value n k) s k x) (store_beside rest t vs (drop_rest (suc n) v h) (drop_objects (suc n) v h))) (sym (at_hand rest t vs v h))
+    (by v (λ o. list_drop n rest t vs (or_gone (h o)) (without_object h o)))
+  where
+    k : Key
+    k = hand_k t
+
+    s : Store
+    s = store_beside rest t vs v h
+
+    by : (w : Val) → ((o : ObjNo) → Alike (drop_value n k (store_beside rest t vs (or_gone (h o)) (without_object h o))) (store_beside rest t vs (drop_rest n (or_gone (h o)) (without_object h o)) (drop_objects n (or_gone (h o)) (without_object h o))))
+        → Alike (drop_link (drop_value n k) s k w) (store_beside rest t vs (drop_rest (suc n) w h) (drop_objects (suc n) w h))
+    by (box_v o) g =
+        Alike-then (drop_value n k (unbox s k o)) (drop_value n k (store_beside rest t vs (or_gone (h o)) (without_object h o))) (store_beside rest t vs (drop_rest n (or_gone (h o)) (without_object h o)) (drop_objects n (or_gone (h o)) (without_object h o)))
+        (drop_alike n k (unbox s k o) (store_beside rest t vs (or_gone (h o)) (without_object h o)) (list_unbox rest t vs v h o)) (g o)
+    by gone_v g = list_put_hand rest t vs v h gone_v
+    by unit_v g = list_put_hand rest t vs v h gone_v
+    by (int_v m) g = list_put_hand rest t vs v h gone_v
+    by (mutex_v m) g = list_put_hand rest t vs v h gone_v
+    by (task_v m u) g = list_put_hand rest t vs v h gone_v
+    by (ref_v m) g = list_put_hand rest t vs v h gone_v
 
 -- of two writes to a slot the second one counts
 pub put_slot_twice : (vs : List Val) (m : ℕ) (v w : Val) → put_slot (put_slot vs m v) m w ≡ put_slot vs m w
@@ -111,50 +114,46 @@ put_slot_same (x ∷ vs) m = eq_cases (λ b. (if b then (if b then x else slot_v
 pub slot_put_same : (vs : List Val) (m : ℕ) (w : Val) → m < length vs → slot_value (put_slot vs m w) m ≡ w
 slot_put_same vs m w lt = slot_put vs m m w lt ∙ eq_cases (λ b. (if b then w else slot_value vs m) ≡ w) m m (λ _. refl) (λ ne. absurd (ne refl))
 
--- what stands at a slot's key
-pub at_slot : (t : ℕ) (vs : List Val) (v : Val) (h : Objects) (m : ℕ) → (store_of t vs v h).at (slot_k t m) ≡ slot_value vs m
-at_slot t vs v h m = eq_cases (λ b. (if b then slot_value vs m else gone_v) ≡ slot_value vs m) t t (λ _. refl) (λ ne. absurd (ne refl))
-
 -- the value of a slot is dropped
-pub list_drop_slot : (n t : ℕ) (vs : List Val) (v : Val) (h : Objects) (m : ℕ) → m < length vs
-    → Alike (drop_value n (slot_k t m) (store_of t vs v h)) (store_of t (put_slot vs m (drop_rest n (slot_value vs m) h)) v (drop_objects n (slot_value vs m) h))
-list_drop_slot zero t vs v h m lt = subst (λ x. Alike (store_of t vs v h) (store_of t x v h)) (sym (put_slot_same vs m)) (λ l. refl)
-list_drop_slot (suc n) t vs v h m lt =
-    subst (λ x. Alike (drop_link (drop_value n k) s k x) (store_of t (put_slot vs m (drop_rest (suc n) (slot_value vs m) h)) v (drop_objects (suc n) (slot_value vs m) h))) (sym (at_slot t vs v h m))
-    (by (slot_value vs m) (λ o. list_drop_slot n t (put_slot vs m (or_gone (h o))) v (without_object h o) m (subst (λ x. m < x) (sym (length_put_slot vs m (or_gone (h o)))) lt)))
+pub list_drop_slot : (n : ℕ) (rest : Key → Val) (t : ℕ) (vs : List Val) (v : Val) (h : Objects) (m : ℕ) → m < length vs
+    → Alike (drop_value n (slot_k t m) (store_beside rest t vs v h)) (store_beside rest t (put_slot vs m (drop_rest n (slot_value vs m) h)) v (drop_objects n (slot_value vs m) h))
+list_drop_slot zero rest t vs v h m lt = subst (λ x. Alike (store_beside rest t vs v h) (store_beside rest t x v h)) (sym (put_slot_same vs m)) (λ l. refl)
+list_drop_slot (suc n) rest t vs v h m lt =
+    subst (λ x. Alike (drop_link (drop_value n k) s k x) (store_beside rest t (put_slot vs m (drop_rest (suc n) (slot_value vs m) h)) v (drop_objects (suc n) (slot_value vs m) h))) (sym (at_slot rest t vs v h m))
+    (by (slot_value vs m) (λ o. list_drop_slot n rest t (put_slot vs m (or_gone (h o))) v (without_object h o) m (subst (λ x. m < x) (sym (length_put_slot vs m (or_gone (h o)))) lt)))
   where
     k : Key
     k = slot_k t m
 
     s : Store
-    s = store_of t vs v h
+    s = store_beside rest t vs v h
 
     by : (w : Val)
-        → ((o : ObjNo) → Alike (drop_value n k (store_of t (put_slot vs m (or_gone (h o))) v (without_object h o))) (store_of t (put_slot (put_slot vs m (or_gone (h o))) m (drop_rest n (slot_value (put_slot vs m (or_gone (h o))) m) (without_object h o))) v (drop_objects n (slot_value (put_slot vs m (or_gone (h o))) m) (without_object h o))))
-        → Alike (drop_link (drop_value n k) s k w) (store_of t (put_slot vs m (drop_rest (suc n) w h)) v (drop_objects (suc n) w h))
+        → ((o : ObjNo) → Alike (drop_value n k (store_beside rest t (put_slot vs m (or_gone (h o))) v (without_object h o))) (store_beside rest t (put_slot (put_slot vs m (or_gone (h o))) m (drop_rest n (slot_value (put_slot vs m (or_gone (h o))) m) (without_object h o))) v (drop_objects n (slot_value (put_slot vs m (or_gone (h o))) m) (without_object h o))))
+        → Alike (drop_link (drop_value n k) s k w) (store_beside rest t (put_slot vs m (drop_rest (suc n) w h)) v (drop_objects (suc n) w h))
     by (box_v o) g =
         let x = or_gone (h o) in
         let hw = without_object h o in
         let r = drop_rest n x hw in
-        Alike-then (drop_value n k (unbox s k o)) (drop_value n k (store_of t (put_slot vs m x) v hw)) (store_of t (put_slot vs m r) v (drop_objects n x hw))
-        (drop_alike n k (unbox s k o) (store_of t (put_slot vs m x) v hw) (list_unbox_slot t vs v h m o lt))
-        (subst (λ z. Alike (drop_value n k (store_of t (put_slot vs m x) v hw)) (store_of t z v (drop_objects n x hw))) (put_slot_twice vs m x r)
-        (subst (λ z. Alike (drop_value n k (store_of t (put_slot vs m x) v hw)) (store_of t (put_slot (put_slot vs m x) m (drop_rest n z hw)) v (drop_objects n z hw))) (slot_put_same vs m x lt) (g o)))
-    by gone_v g = list_put_slot t vs v h m gone_v lt
-    by unit_v g = list_put_slot t vs v h m gone_v lt
-    by (int_v z) g = list_put_slot t vs v h m gone_v lt
-    by (mutex_v z) g = list_put_slot t vs v h m gone_v lt
-    by (task_v z) g = list_put_slot t vs v h m gone_v lt
-    by (ref_v z) g = list_put_slot t vs v h m gone_v lt
+        Alike-then (drop_value n k (unbox s k o)) (drop_value n k (store_beside rest t (put_slot vs m x) v hw)) (store_beside rest t (put_slot vs m r) v (drop_objects n x hw))
+        (drop_alike n k (unbox s k o) (store_beside rest t (put_slot vs m x) v hw) (list_unbox_slot rest t vs v h m o lt))
+        (subst (λ z. Alike (drop_value n k (store_beside rest t (put_slot vs m x) v hw)) (store_beside rest t z v (drop_objects n x hw))) (put_slot_twice vs m x r)
+        (subst (λ z. Alike (drop_value n k (store_beside rest t (put_slot vs m x) v hw)) (store_beside rest t (put_slot (put_slot vs m x) m (drop_rest n z hw)) v (drop_objects n z hw))) (slot_put_same vs m x lt) (g o)))
+    by gone_v g = list_put_slot rest t vs v h m gone_v lt
+    by unit_v g = list_put_slot rest t vs v h m gone_v lt
+    by (int_v z) g = list_put_slot rest t vs v h m gone_v lt
+    by (mutex_v z) g = list_put_slot rest t vs v h m gone_v lt
+    by (task_v z u) g = list_put_slot rest t vs v h m gone_v lt
+    by (ref_v z) g = list_put_slot rest t vs v h m gone_v lt
 
 -- a block's end: the newest slot is dropped and goes
-pub list_end : (n t : ℕ) (w : Val) (vs : List Val) (v : Val) (h : Objects) → drop_rest n w h ≡ gone_v → Alike (drop_value n (slot_k t (length vs)) (store_of t (w ∷ vs) v h)) (store_of t vs v (drop_objects n w h))
-list_end n t w vs v h ends =
-    Alike-then (drop_value n (slot_k t (length vs)) (store_of t (w ∷ vs) v h)) (store_of t (gone_v ∷ vs) v (drop_objects n w h)) (store_of t vs v (drop_objects n w h))
-    (subst (λ x. Alike (drop_value n (slot_k t (length vs)) (store_of t (w ∷ vs) v h)) (store_of t (x ∷ vs) v (drop_objects n w h))) ends
-    (subst (λ x. Alike (drop_value n (slot_k t (length vs)) (store_of t (w ∷ vs) v h)) (store_of t x v (drop_objects n w h))) (newest (drop_rest n w h))
-    (subst (λ x. Alike (drop_value n (slot_k t (length vs)) (store_of t (w ∷ vs) v h)) (store_of t (put_slot (w ∷ vs) (length vs) (drop_rest n x h)) v (drop_objects n x h))) value (list_drop_slot n t (w ∷ vs) v h (length vs) (omega arith)))))
-    (list_pop t vs v (drop_objects n w h))
+pub list_end : (n : ℕ) (rest : Key → Val) (t : ℕ) (w : Val) (vs : List Val) (v : Val) (h : Objects) → drop_rest n w h ≡ gone_v → Alike (drop_value n (slot_k t (length vs)) (store_beside rest t (w ∷ vs) v h)) (store_beside rest t vs v (drop_objects n w h))
+list_end n rest t w vs v h ends =
+    Alike-then (drop_value n (slot_k t (length vs)) (store_beside rest t (w ∷ vs) v h)) (store_beside rest t (gone_v ∷ vs) v (drop_objects n w h)) (store_beside rest t vs v (drop_objects n w h))
+    (subst (λ x. Alike (drop_value n (slot_k t (length vs)) (store_beside rest t (w ∷ vs) v h)) (store_beside rest t (x ∷ vs) v (drop_objects n w h))) ends
+    (subst (λ x. Alike (drop_value n (slot_k t (length vs)) (store_beside rest t (w ∷ vs) v h)) (store_beside rest t x v (drop_objects n w h))) (newest (drop_rest n w h))
+    (subst (λ x. Alike (drop_value n (slot_k t (length vs)) (store_beside rest t (w ∷ vs) v h)) (store_beside rest t (put_slot (w ∷ vs) (length vs) (drop_rest n x h)) v (drop_objects n x h))) value (list_drop_slot n rest t (w ∷ vs) v h (length vs) (omega arith)))))
+    (list_pop rest t vs v (drop_objects n w h))
   where
     value : slot_value (w ∷ vs) (length vs) ≡ w
     value = eq_cases (λ b. (if b then w else slot_value vs (length vs)) ≡ w) (length vs) (length vs) (λ _. refl) (λ ne. absurd (ne refl))

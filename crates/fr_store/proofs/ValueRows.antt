@@ -1,18 +1,18 @@
 -- A value at the temporary: constants, copies, a box around it, its end.
 use Rattle.fr_store.proofs.Keys.{decide_key, key_same, key_other}
 use Rattle.fr_store.specs.Keys.{same_key, Key}
-use Rattle.fr_store.specs.Store.{unit_v, Val, Location, at_key, Store, Place, put_value, int_v, locate, value_at}
+use Rattle.fr_store.specs.Store.{task_v, unit_v, Val, Location, at_key, Store, Place, put_value, int_v, locate, value_at}
 use Rattle.fr_store.specs.Typed.{TopFits, hole, box_tree, owns, refers, KeyTypes, Resolves, Typed}
 use Rattle.fr_store.specs.Below.{tree_of, OneOf, ExactOf}
 use Rattle.fr_store.specs.Rows.{with_type}
 use Rattle.fr_store.specs.Thread.{ThreadTyped, After, place_of, ThreadKeys, ThreadTyped, Known, After}
 use Rattle.fr_store.specs.OwnedRows.{UnitRow, ReadUnitRow, DropRow, BoxRow, IntRow, ReadIntRow}
 use Rattle.fr_store.specs.ReferenceRows.{CopyRow, ForgetRow}
-use Rattle.fr_store.specs.Changes.{new_unit, New, new_int}
+use Rattle.fr_store.specs.Changes.{new_task, new_unit, New, new_int}
 use Rattle.std.proofs.Common.{◌<◌, Option, ◌≡◌, ◌≢◌, inl, ⊎_elim, ℕ, false, List, length, Some, None, refl, sym, ap, subst, ◌∙◌, arith}
 use Rattle.std.specs.Prelude.{if◌then◌else◌}
 use Rattle.fr_base.specs.declared.place.Lval.{Lval}
-use Rattle.fr_typing.specs.Kinds.{unit, Owned, int, box, Kind, own, shared, whole}
+use Rattle.fr_typing.specs.Kinds.{task, unit, Owned, int, box, Kind, own, shared, whole}
 use Rattle.fr_typing.specs.Places.{Slot, AreBelow, kind_places, found, type_at}
 use Rattle.fr_store.proofs.Sound.{res_part}
 use Rattle.fr_store.proofs.Changes.{set}
@@ -125,7 +125,7 @@ copy_row key rank a e E s w us ks t lt is =
     )
 
 -- a value at hand that owns no object and refers to nothing
-constant : (key : ℕ → Key) (rank : Key → ℕ) (a : Key) (e : List Slot) (E : KeyTypes) (s : Store) (o : Owned) (v : Val) → ThreadKeys key rank a → ThreadTyped key rank a e E s None → New rank E s a (owns (tree_of o)) v
+pub constant : (key : ℕ → Key) (rank : Key → ℕ) (a : Key) (e : List Slot) (E : KeyTypes) (s : Store) (o : Owned) (v : Val) → ThreadKeys key rank a → ThreadTyped key rank a e E s None → New rank E s a (owns (tree_of o)) v
     → After key rank a E e (put_value s (at_key a) v) (Some (own o))
 constant key rank a e E s o v ks t n =
     let p = owns (tree_of o) in
@@ -175,3 +175,7 @@ pub read_unit_row : ReadUnitRow
 read_unit_row key rank a e E s temp w ks t lt is =
     let f = owned_place key rank a e E s temp w unit t lt is in
     (f.0, f.2, f.3 ∙ ap Some f.4)
+
+-- a task
+pub task_row : (key : ℕ → Key) (rank : Key → ℕ) (a : Key) (e : List Slot) (E : KeyTypes) (s : Store) (o : Owned) (n : ℕ) → ThreadKeys key rank a → ThreadTyped key rank a e E s None → After key rank a E e (put_value s (at_key a) (task_v n (tree_of o))) (Some (own (task o)))
+task_row key rank a e E s o n ks t = constant key rank a e E s (task o) (task_v n (tree_of o)) ks t (new_task n (tree_of o))

@@ -2,8 +2,8 @@
 use Rattle.std.specs.Prelude.{◌≡◌, ◌≢◌, ℕ, zero, suc, ℤ, ◌<◌, ◌≤◌, Bool, false, Some, None}
 use Rattle.fr_base.specs.declared.name.ObjNo.{ObjNo}
 use Rattle.fr_store.specs.Keys.{Key}
-use Rattle.fr_store.specs.Store.{Location, at_key, at_object, Val, gone_v, unit_v, int_v, box_v, Store, value_at, Place, below_key}
-use Rattle.fr_store.specs.Typed.{Tree, hole, unit_tree, int_tree, box_tree, Exact, owns, refers, KeyTypes, tree_under, exact_under, Resolves, RefFits, Typed, Unnamed}
+use Rattle.fr_store.specs.Store.{Location, at_key, at_object, Val, gone_v, unit_v, int_v, box_v, task_v, Store, value_at, Place, below_key}
+use Rattle.fr_store.specs.Typed.{Tree, hole, unit_tree, int_tree, task_tree, box_tree, Exact, owns, refers, KeyTypes, tree_under, exact_under, Resolves, RefFits, Typed, Unnamed}
 
 -- the types are the same but at one key
 abbrev pub TypesBut : Key → KeyTypes → KeyTypes → Type 0
@@ -27,12 +27,13 @@ put_tree zero new t = new
 put_tree (suc n) new (box_tree t) = box_tree (put_tree n new t)
 put_tree (suc n) new t = t
 
--- a type and a value that own no object. A new reference is to a place whose key no type names, or, where it is shared,
+-- a type and a value that own no object (a task owns none). A new reference is to a place whose key no type names, or, where it is shared,
 -- no mutable reference's type
 pub data New (rank : Key → ℕ) (E : KeyTypes) (s : Store) (a : Key) : Exact → Val → Type 0 where
   new_hole : New rank E s a (owns hole) gone_v
   new_unit : New rank E s a (owns unit_tree) unit_v
   new_int : (n : ℤ) → New rank E s a (owns int_tree) (int_v n)
+  new_task : (m : ℕ) (t : Tree) → New rank E s a (owns (task_tree t)) (task_v m t)
   new_ref : (m : Bool) (u : Place) (v : Val) → RefFits E s m u v → u.key ≢ a → rank u.key < rank a
       → ((j : Key) (q : Bool) (w : Place) → E j ≡ refers q w → j ≢ a → w.key ≡ u.key → (m ≡ false) × (q ≡ false)) → New rank E s a (refers m u) v
 

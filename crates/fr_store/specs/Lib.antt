@@ -1,4 +1,5 @@
 pub mod Keys
+pub mod Trees
 pub mod Store
 pub mod Typed
 pub mod Changes
@@ -11,4 +12,5 @@ pub mod JoinRows
 pub mod OtherThreads
 pub mod Tidy
 pub mod ListState
+pub mod Local
 pub mod ListRows

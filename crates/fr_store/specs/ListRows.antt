@@ -18,8 +18,8 @@ use Rattle.fr_store.specs.ListState.{Objects, store_of, put_in_slots, put_in_hea
 pub record StateTyped (thread : ℕ) (slots : List Slot) (vs : List Val) (v : Val) (heap : Objects) (temp : Option Kind) : Type 0 where
   pub rank : Key → ℕ
   pub types : KeyTypes
-  pub keys : ThreadKeys (slot_k thread) rank hand_k
-  pub typed : ThreadTyped (slot_k thread) rank hand_k slots types (store_of thread vs v heap) temp
+  pub keys : ThreadKeys (slot_k thread) rank (hand_k thread)
+  pub typed : ThreadTyped (slot_k thread) rank (hand_k thread) slots types (store_of thread vs v heap) temp
   -- each slot has a value, and each object an owner
   pub long : length vs ≡ length slots
   pub tidy : Tidy (store_of thread vs v heap)

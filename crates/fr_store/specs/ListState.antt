@@ -1,5 +1,5 @@
--- The store of one thread that runs alone (Featherweight Rust's state): its slots as a list, the newest first, the value in its
--- running term, and the heap.
+-- The store of one thread (Featherweight Rust's state): its slots as a list, the newest first, the value in its running term,
+-- and the heap. Other threads may have values beside it (this project's rule).
 use Rattle.std.specs.Prelude.{◌≡◌, ◌<◌, ℕ, zero, suc, ◌==◌, List, [], ◌∷◌, length, Option, Some, None, if◌then◌else◌}
 use Rattle.fr_base.specs.declared.name.ObjNo.{ObjNo}
 use Rattle.fr_store.specs.Keys.{Key, slot_k, temp_k, content_k, result_k, hand_k, same_object}
@@ -19,17 +19,26 @@ abbrev pub put_slot : List Val → ℕ → Val → List Val
 put_slot [] n w = []
 put_slot (v ∷ vs) n w = if n == length vs then w ∷ vs else v ∷ put_slot vs n w
 
--- what stands at a key: one of the slots, the value in the term, or nothing
-abbrev pub key_value : ℕ → List Val → Val → Key → Val
-key_value thread vs v (slot_k t n) = if t == thread then slot_value vs n else gone_v
-key_value thread vs v (temp_k t n) = gone_v
-key_value thread vs v (content_k h n) = gone_v
-key_value thread vs v (result_k t) = gone_v
-key_value thread vs v hand_k = v
+-- what stands at a key: one of the slots, the value in the term, or what others have there
+abbrev pub key_value : (Key → Val) → ℕ → List Val → Val → Key → Val
+key_value rest thread vs v (slot_k t n) = if t == thread then slot_value vs n else rest (slot_k t n)
+key_value rest thread vs v (temp_k t n) = rest (temp_k t n)
+key_value rest thread vs v (content_k h n) = rest (content_k h n)
+key_value rest thread vs v (result_k t) = rest (result_k t)
+key_value rest thread vs v (hand_k t) = if t == thread then v else rest (hand_k t)
 
--- the store: the slots at the thread's slot keys, the value in the term at the hand (gone where there is none), and nothing at other keys
+-- the store: the slots at the thread's slot keys, the value in the term at its hand (gone where there is none), and what
+-- others have at other keys
+abbrev pub store_beside : (Key → Val) → ℕ → List Val → Val → Objects → Store
+store_beside rest thread vs v heap = record { at = key_value rest thread vs v; heap = heap }
+
+-- others have nothing
+abbrev pub nothing : Key → Val
+nothing k = gone_v
+
+-- the store of a thread that runs alone
 abbrev pub store_of : ℕ → List Val → Val → Objects → Store
-store_of thread vs v heap = record { at = key_value thread vs v; heap = heap }
+store_of thread vs v heap = store_beside nothing thread vs v heap
 
 -- the heap with another value in an object
 abbrev pub put_object : Objects → ObjNo → Val → Objects
@@ -46,6 +55,12 @@ drop_objects zero v heap = heap
 drop_objects (suc n) (box_v o) heap = drop_objects n (or_gone (heap o)) (without_object heap o)
 drop_objects (suc n) v heap = heap
 
+-- what such a drop ends with, after so many objects
+abbrev pub drop_last : ℕ → Val → Objects → Val
+drop_last zero v heap = v
+drop_last (suc n) (box_v o) heap = drop_last n (or_gone (heap o)) (without_object heap o)
+drop_last (suc n) v heap = v
+
 -- what is left to drop after so many objects: nothing where the number is large enough
 abbrev pub drop_rest : ℕ → Val → Objects → Val
 drop_rest zero v heap = v
@@ -59,7 +74,7 @@ IsIn thread vs (at_key (slot_k t n)) = (t ≡ thread) × (n < length vs)
 IsIn thread vs (at_key (temp_k t n)) = ⊥
 IsIn thread vs (at_key (content_k h n)) = ⊥
 IsIn thread vs (at_key (result_k t)) = ⊥
-IsIn thread vs (at_key hand_k) = ⊥
+IsIn thread vs (at_key (hand_k t)) = ⊥
 
 -- the slots with another value at such a location
 abbrev pub put_in_slots : Location → Val → List Val → List Val
@@ -68,7 +83,7 @@ put_in_slots (at_key (slot_k t n)) w vs = put_slot vs n w
 put_in_slots (at_key (temp_k t n)) w vs = vs
 put_in_slots (at_key (content_k h n)) w vs = vs
 put_in_slots (at_key (result_k t)) w vs = vs
-put_in_slots (at_key hand_k) w vs = vs
+put_in_slots (at_key (hand_k t)) w vs = vs
 
 -- and the heap
 abbrev pub put_in_heap : Location → Val → Objects → Objects

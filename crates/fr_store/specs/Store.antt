@@ -3,20 +3,22 @@ use Rattle.std.specs.Prelude.{◌≡◌, ℕ, zero, suc, ℤ, Option, Some, None
 use Rattle.fr_base.specs.declared.name.ObjNo.{ObjNo}
 use Rattle.fr_base.specs.declared.name.MutexNo.{MutexNo}
 use Rattle.fr_store.specs.Keys.{Key, same_key, same_object}
+use Rattle.fr_store.specs.Trees.{Tree}
 
 -- a location (Featherweight Rust): where a value stands
 pub data Location : Type 0 where
   at_key : (k : Key) → Location
   at_object : (o : ObjNo) → Location
 
--- a value (Featherweight Rust; mutexes and tasks are this project's). Gone is what a value leaves that has moved away
+-- a value (Featherweight Rust; mutexes and tasks are this project's). Gone is what a value leaves that has moved away; a
+-- task tells the tree of the result that its thread will have
 pub data Val : Type 0 where
   gone_v : Val
   unit_v : Val
   int_v : (n : ℤ) → Val
   box_v : (o : ObjNo) → Val
   mutex_v : (m : MutexNo) → Val
-  task_v : (t : ℕ) → Val
+  task_v : (t : ℕ) (result : Tree) → Val
   ref_v : (l : Location) → Val
 
 -- a store (Featherweight Rust): what stands at each key, and the objects that are there

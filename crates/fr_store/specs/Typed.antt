@@ -4,18 +4,10 @@ use Rattle.std.specs.Prelude.{◌≡◌, ◌≢◌, ℕ, zero, suc, ℤ, ◌<◌
 use Rattle.fr_base.specs.declared.name.ObjNo.{ObjNo}
 use Rattle.fr_base.specs.declared.name.MutexNo.{MutexNo}
 use Rattle.fr_store.specs.Keys.{Key}
+pub use Rattle.fr_store.specs.Trees.{Tree, hole, unit_tree, int_tree, mutex_tree, task_tree, box_tree}
 use Rattle.fr_store.specs.Store.{Location, at_key, Val, gone_v, unit_v, int_v, box_v, mutex_v, task_v, ref_v, Store, value_at, Place, below_location, below_key, add}
 
 -- EXACT TYPES
-
--- an owned type, with holes where something has moved away; a box around a whole tree is whole
-pub data Tree : Type 0 where
-  hole : Tree
-  unit_tree : Tree
-  int_tree : Tree
-  mutex_tree : Tree → Tree
-  task_tree : Tree → Tree
-  box_tree : Tree → Tree
 
 -- the exact type of a key: owned, or a reference (mutable where m is true) to the one place that it leads to.
 -- A view is a shared reference to a place of another thread. A key that is not in use owns a hole
@@ -81,7 +73,7 @@ TopFits hole v = v ≡ gone_v
 TopFits unit_tree v = v ≡ unit_v
 TopFits int_tree v = (n : ℤ) × (v ≡ int_v n)
 TopFits (mutex_tree t) v = (m : MutexNo) × (v ≡ mutex_v m)
-TopFits (task_tree t) v = (m : ℕ) × (v ≡ task_v m)
+TopFits (task_tree t) v = (m : ℕ) × (v ≡ task_v m t)
 TopFits (box_tree t) v = (o : ObjNo) × (v ≡ box_v o)
 
 -- a reference leads to what its place leads to, which is whole; the place of a mutable one is reached over mutable references alone

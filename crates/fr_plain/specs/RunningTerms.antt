@@ -1,0 +1,34 @@
+-- Running terms: terms with slots for names and with the values that steps left (Featherweight Rust's, with this
+-- project's threads).
+use Rattle.std.specs.Prelude.{ℕ, ℤ, Bool, List}
+use Rattle.fr_base.specs.declared.place.Lval.{Lval}
+use Rattle.fr_base.specs.declared.place.Op.{Op}
+use Rattle.fr_plain.specs.declared.value.Value.{Value}
+
+-- a slot that a new thread captures: its value is taken, or copied
+pub record Capture : Type 0 where
+  pub slot : ℕ
+  pub take : Bool
+
+-- `temp` is a value that a step left; a borrow of either kind is the same reference; a block has the number of slots that it has still to drop;
+-- the term of a new thread has slots of its own
+mutual
+  pub data Run : Type 0 where
+    temp : Value → Run
+    unit_c : Run
+    number : ℤ → Run
+    read : Lval → (take : Bool) → Run
+    borrow : Lval → Run
+    box_r : Run → Run
+    arith : Op → Run → Run → Run
+    bind : Run → Run
+    print : Run → Run
+    assign : Lval → Run → Run
+    block : ℕ → Parts → Run
+    spawn : List Capture → Run → Run
+    join_r : Run → Run
+
+  -- the items of a block; in `more` the first one has a `;` behind it
+  pub data Parts : Type 0 where
+    last : Run → Parts
+    more : Run → Parts → Parts

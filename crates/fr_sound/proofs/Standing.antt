@@ -1,0 +1,93 @@
+-- A thread has ended, waits, or steps.
+use Rattle.std.specs.Prelude.{is_some, if◌then◌else◌}
+use Rattle.std.proofs.Common.{◌≡◌, ℕ, suc, ◌+◌, ◌≤◌, Bool, true, false, List, [], ◌∷◌, Option, Some, None, refl, sym, ap, ◌∙◌, arith}
+use Rattle.fr_base.specs.declared.label.Plain.TheVariants as plain
+use Rattle.fr_base.specs.declared.step.Fresh.{Fresh}
+use Rattle.fr_base.specs.declared.step.Fresh.TheVariants as fresh
+use Rattle.fr_base.specs.declared.step.Wait.{Wait}
+use Rattle.fr_base.specs.declared.step.Wait.TheVariants as wait
+use Rattle.fr_typing.proofs.PlaceLemmas.{eq_cases}
+use Rattle.fr_plain.specs.declared.value.Value.{Value}
+use Rattle.fr_plain.specs.declared.value.Value.TheVariants.{Own, ToSlot, ToObject}
+use Rattle.fr_plain.specs.Acts.{Act, do_let, do_read, do_borrow, do_assign, do_box, do_arith, do_print, do_discard, do_drop, do_end, do_spawn, do_join, do_finish, do_leave}
+use Rattle.fr_plain.specs.Run.{Move, Life, life_move}
+use Rattle.fr_plain.specs.Threads.{unless_some, join_waits, act_waits, move_waits}
+use Rattle.fr_plain.specs.Whole.{Thread, Whole, thread_at, result_at, is_over, waits_for, has_ended as refused_ended, name_used, takes_name, refused_names, refused_wait, refused_of, refused}
+use Rattle.fr_sound.specs.Together.{Stands, has_ended, is_waiting, is_going, OneOfThree}
+use Rattle.fr_sound.proofs.Together.{never_stuck_together_lem, waits_for_living_lem}
+
+-- A NEW NAME
+
+-- a number above those of all threads
+abbrev above : List Thread → ℕ
+above [] = 0
+above (x ∷ xs) = suc (x.number + above xs)
+
+-- no thread has such a number
+none_above : (ts : List Thread) (n : ℕ) → above ts ≤ n → thread_at ts n ≡ None
+none_above [] n le = refl
+none_above (x ∷ xs) n le = eq_cases (λ b. (if b then Some x else thread_at xs n) ≡ None) x.number n (λ e. absurd (omega (arith, e, le))) (λ _. none_above xs n (omega (arith, le)))
+
+-- names that a step takes
+abbrev names_for : Whole → Bool → Fresh
+names_for s true = fresh.Thread (above s.threads)
+names_for s false = fresh.None
+
+-- are not refused
+names_free : (s : Whole) (b : Bool) → refused_names s b (names_for s b) ≡ None
+names_free s true = ap (λ (q : Option Thread). if is_some q then Some name_used else None) (none_above s.threads (above s.threads) (omega arith))
+names_free s false = refl
+
+-- WAITING
+
+-- a thread waits for a join alone
+waits_join : (s : Whole) (m : Option (Move Life)) (w : Wait) → move_waits s m ≡ Some w → (u : ℕ) × (w ≡ wait.Join u)
+waits_join s None w e = cc
+waits_join s (Some m) w e = by m.act e
+  where
+    by_result : (o : Option Value) (t : ℕ) → unless_some o (wait.Join t) ≡ Some w → (u : ℕ) × (w ≡ wait.Join u)
+    by_result None t f = (t, (let q : wait.Join t ≡ w = cc in sym q))
+    by_result (Some v) t f = cc
+
+    by_value : (v : Value) → join_waits s v ≡ Some w → (u : ℕ) × (w ≡ wait.Join u)
+    by_value (Own (plain.Task t)) f = by_result (result_at s.threads t) t f
+    by_value (Own plain.Nothing) f = cc
+    by_value (Own plain.Unit) f = cc
+    by_value (Own (plain.Int n)) f = cc
+    by_value (Own (plain.Box o)) f = cc
+    by_value (Own (plain.Mutex n)) f = cc
+    by_value (ToSlot i) f = cc
+    by_value (ToObject o) f = cc
+
+    by : (a : Act) → act_waits s a ≡ Some w → (u : ℕ) × (w ≡ wait.Join u)
+    by (do_join v) f = by_value v f
+    by (do_let v) f = cc
+    by (do_read p take) f = cc
+    by (do_borrow p) f = cc
+    by (do_assign p v) f = cc
+    by (do_box v) f = cc
+    by (do_arith o a b) f = cc
+    by (do_print v) f = cc
+    by (do_discard v) f = cc
+    by do_drop f = cc
+    by (do_end v) f = cc
+    by (do_spawn cs r) f = cc
+    by (do_finish v) f = cc
+    by (do_leave v) f = cc
+
+-- each thread has ended, waits for another one that has not, or steps
+pub one_of_three_lem : OneOfThree
+one_of_three_lem s y t x found = by (is_over x.life) refl (waits_for s x) refl
+  where
+    by : (b : Bool) → is_over x.life ≡ b → (w : Option Wait) → waits_for s x ≡ w → Stands s t x
+    by true e w f = has_ended e
+    by false e (Some w) f =
+        let j = waits_join s (life_move x.life) w f in
+        let living = waits_for_living_lem s y t j.0 x found (f ∙ ap Some j.1) in
+        is_waiting j.0 living.0 (f ∙ ap Some j.1) living.1 living.2
+    by false e None f =
+        let b = takes_name (life_move x.life) in
+        let names = names_for s b in
+        let free : refused s t names ≡ None =
+        ap (refused_of s names) found ∙ ap (λ q. if q then Some refused_ended else refused_wait (waits_for s x) (refused_names s b names)) e ∙ ap (λ q. refused_wait q (refused_names s b names)) f ∙ names_free s b in
+        is_going names (never_stuck_together_lem s y t names free)
