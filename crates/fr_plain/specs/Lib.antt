@@ -8,3 +8,4 @@ pub mod Whole
 pub mod Resolve
 pub mod Examples
 pub mod ThreadRuns
+pub mod Refusing

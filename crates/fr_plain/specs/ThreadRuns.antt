@@ -38,10 +38,10 @@ join name = join_t 0 (read name 0)
 -- so many steps of a thread, and the one that starts another thread
 abbrev pub steps : ℕ → ℕ → List Turn
 steps t zero = []
-steps t (suc k) = record { thread = t; names = fresh.None } ∷ steps t k
+steps t (suc k) = (t, fresh.None) ∷ steps t k
 
 abbrev pub starts : ℕ → ℕ → List Turn
-starts t new = record { thread = t; names = fresh.Thread new } ∷ []
+starts t new = (t, fresh.Thread new) ∷ []
 
 -- the objects that a thread makes
 abbrev object : ℕ → ℕ → ObjNo

@@ -134,10 +134,9 @@ refused s t names = refused_of s names (thread_at s.threads t)
 
 -- RUNS
 
--- one step of an order
-pub record Turn : Type 0 where
-  pub thread : ℕ
-  pub names : Fresh
+-- one step of an order: of which thread, and with which new names
+abbrev pub Turn : Type 0
+Turn = ℕ × Fresh
 
 abbrev pub then_labels : List Label → Option Stepped → Option Stepped
 then_labels ls None = None
@@ -150,7 +149,7 @@ go_on (Some x) f = then_labels x.labels (f x.state)
 -- the steps of an order; None from the first on that isn't enabled
 abbrev pub run : Whole → List Turn → Option Stepped
 run s [] = Some (record { state = s; labels = [] })
-run s (t ∷ ts) = go_on (step s t.thread t.names) (λ x. run x ts)
+run s (t ∷ ts) = go_on (step s t.0 t.1) (λ x. run x ts)
 
 -- the main thread alone, at the start of its term
 abbrev pub start : Run → Whole
@@ -163,7 +162,7 @@ plain r order = run (start r) order
 -- so many steps of the main thread, none with a name
 abbrev pub main_steps : ℕ → List Turn
 main_steps zero = []
-main_steps (suc k) = record { thread = 0; names = fresh.None } ∷ main_steps k
+main_steps (suc k) = (0, fresh.None) ∷ main_steps k
 
 -- finished where all threads have ended, deadlocked where each other one waits, else going
 abbrev pub ending_of : Whole → Ending3

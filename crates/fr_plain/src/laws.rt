@@ -1,6 +1,7 @@
 //! Laws of the plain machine's definitions.
 
 ghost use Rattle.fr_plain.specs.Examples.{RunsCompute};
+ghost use Rattle.fr_plain.specs.Refusing.{RefusedIsNoStep};
 ghost use Rattle.fr_plain.specs.ThreadRuns.{ThreadsRun};
 
 /// Some whole runs, with their steps, prints and labels.
@@ -11,4 +12,9 @@ pub fn runs_compute()
 /// Some whole runs with threads, and steps that are refused there.
 pub fn threads_run()
     ensures { ThreadsRun }
+{}
+
+/// A step that is refused is no plain step.
+pub fn refused_steps()
+    ensures { RefusedIsNoStep }
 {}
