@@ -15,12 +15,10 @@ use Rattle.fr_plain.specs.Run as run_terms
 use Rattle.fr_plain.specs.Run.{Life, alive, over, owing, loose}
 use Rattle.fr_plain.specs.Whole.{Thread, Whole, Stepped, thread_at, is_over, all_over, all_wait, step_of, step, then_labels, go_on, run, main_steps, ending_of, start}
 use Rattle.fr_plain.specs.Resolve.{program}
-use Rattle.drust_main.specs.Words.{asks_run}
 use Rattle.drust_main.specs.Report.{report}
 use Rattle.drust_main.specs.declared.refused.Refused.{Refused}
 use Rattle.drust_main.specs.Refusals.{IsFaulty, HasCause, status_of, text_of}
-use Rattle.drust_main.specs.Headline.{IsTyped, Runs, Replies, run_finished, refused, replied, words_refused, too_long}
-use Rattle.drust_main.specs.OneAnswer.{OneAnswer, TypedRuns}
+use Rattle.drust_main.specs.Headline.{IsTyped, Runs, Replies, run_finished, refused}
 use Rattle.drust_main.proofs.Refusals.{accepted_has_none, source_is_read, one_cause}
 
 -- A RUN HAS ONE END
@@ -116,38 +114,19 @@ not_faulty bytes t at why h f =
     cc
 
 -- the source of a typed program has no refusal
-typed_unrefused : (bytes : List ℕ) (t : Term) (why : Refused) → IsTyped bytes t → HasCause bytes why → ⊥
+pub typed_unrefused : (bytes : List ℕ) (t : Term) (why : Refused) → IsTyped bytes t → HasCause bytes why → ⊥
 typed_unrefused bytes t why h cause = source_is_read bytes t why h.source cause
     (λ p r e. not_faulty bytes t p r h (subst (HasCause bytes) e cause))
     (λ p e. accepted_has_none bytes t p h.source h.accepted (subst (HasCause bytes) e cause))
 
-not_both : {A : Type 0} (words : List (List ℕ)) → asks_run words ≡ true → asks_run words ≡ false → A
-not_both words a b = let e : true ≡ false = sym a ∙ b in absurd cc
-
 -- an input has one reply
-one_reply : (bytes : List ℕ) (s t : ℕ) (x y : List ℕ) → Replies bytes s x → Replies bytes t y → (s ≡ t) × (x ≡ y)
+pub one_reply : (bytes : List ℕ) (s t : ℕ) (x y : List ℕ) → Replies bytes s x → Replies bytes t y → (s ≡ t) × (x ≡ y)
 one_reply bytes s t x y (run_finished h) (run_finished g) = (refl, one_text bytes x y h g)
 one_reply bytes s t x y (run_finished h) (refused why g) = absurd (typed_unrefused bytes h.term why h.typed g)
 one_reply bytes s t x y (refused why h) (run_finished g) = absurd (typed_unrefused bytes g.term why g.typed h)
 one_reply bytes s t x y (refused why h) (refused other g) = let same = one_cause bytes why other h g in (ap status_of same, ap text_of same)
 
-pub one : OneAnswer
-one words bytes s t x y (replied a h) (replied b g) = one_reply bytes s t x y h.holds g.holds
-one words bytes s t x y (replied a h) (words_refused b) = not_both words a b
-one words bytes s t x y (replied a h) (too_long b g) = absurd (omega (arith, h.size, g))
-one words bytes s t x y (words_refused a) (replied b g) = not_both words b a
-one words bytes s t x y (words_refused a) (words_refused b) = (refl, refl)
-one words bytes s t x y (words_refused a) (too_long b g) = not_both words b a
-one words bytes s t x y (too_long a h) (replied b g) = absurd (omega (arith, g.size, h))
-one words bytes s t x y (too_long a h) (words_refused b) = not_both words a b
-one words bytes s t x y (too_long a h) (too_long b g) = (refl, refl)
-
 -- the source of a typed program has the reply of its run
-typed_reply : (bytes : List ℕ) (p : Term) (s : ℕ) (x : List ℕ) → IsTyped bytes p → Replies bytes s x → s ≡ 0
+pub typed_reply : (bytes : List ℕ) (p : Term) (s : ℕ) (x : List ℕ) → IsTyped bytes p → Replies bytes s x → s ≡ 0
 typed_reply bytes p s x known (run_finished r) = refl
 typed_reply bytes p s x known (refused why cause) = absurd (typed_unrefused bytes p why known cause)
-
-pub runs : TypedRuns
-runs words bytes p s x asked size known (replied a h) = typed_reply bytes p s x known h.holds
-runs words bytes p s x asked size known (words_refused a) = not_both words asked a
-runs words bytes p s x asked size known (too_long a h) = absurd (omega (arith, size, h))

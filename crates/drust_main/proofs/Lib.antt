@@ -5,3 +5,7 @@ pub mod Stepping
 pub mod FewSteps
 pub mod Determined
 pub mod FormLemmas
+pub mod Following
+pub mod Marks
+pub mod Replaying
+pub mod OneAnswer

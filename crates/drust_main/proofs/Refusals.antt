@@ -15,11 +15,15 @@ use Rattle.fr_parse.specs.Source.{IsSource}
 use Rattle.fr_parse.proofs.Programs.{source_once, refused_no_source}
 use Rattle.fr_parse.proofs.FirstRefusal.{spelled_unrefused}
 use Rattle.drust_main.specs.declared.refused.Refused.{Refused}
-use Rattle.drust_main.specs.declared.refused.Refused.TheVariants.{Tokens, Grammar, Form, Fault, NoMemory}
+use Rattle.drust_main.specs.declared.refused.Refused.TheVariants.{Tokens, Grammar, Form, Fault, Order, NoMemory}
 use Rattle.drust_main.specs.Forms.{later_form}
-use Rattle.drust_main.specs.Refusals.{IsUnparsed, HasLaterForm, IsFaulty, HasCause, status_of, text_of}
-use Rattle.drust_main.specs.Headline.{Replies, refused}
-use Rattle.drust_main.specs.Runs.{IsRefusedBy}
+use Rattle.fr_plain.specs.Whole.{start}
+use Rattle.fr_plain.specs.Resolve.{program}
+use Rattle.journal.specs.declared.order.OrderLine.{OrderLine}
+use Rattle.drust_main.specs.Replay.{source_in, source_length, HasLines, bad_step, IsBadBehind}
+use Rattle.drust_main.specs.Refusals.{IsUnparsed, HasLaterForm, IsFaulty, HasCause, HasReplayCause, status_of, text_of}
+use Rattle.drust_main.specs.Headline.{IsTyped, Replies, refused, Replayed, unfollowed}
+use Rattle.drust_main.specs.Runs.{IsRefusedBy, IsUnfollowedBy, IsUnordered, IsStoppedIn}
 use Rattle.drust_main.proofs.FormLemmas.{none_later}
 
 -- a refusal that is no want of memory has its cause
@@ -28,7 +32,45 @@ has_cause bytes (Tokens e) other h = h
 has_cause bytes (Grammar e) other h = h
 has_cause bytes (Form place) other h = h
 has_cause bytes (Fault place why) other h = h
+has_cause bytes (Order place) other h = h
 has_cause bytes NoMemory other h = absurd (other refl)
+
+-- the same of a source with an order behind it
+pub has_replay_cause : (bytes : List ℕ) (why : Refused) → why ≢ NoMemory → IsUnfollowedBy bytes why → HasReplayCause bytes why
+has_replay_cause bytes (Tokens e) other h = h
+has_replay_cause bytes (Grammar e) other h = h
+has_replay_cause bytes (Form place) other h = h
+has_replay_cause bytes (Fault place why) other h = h
+has_replay_cause bytes (Order place) other h = h
+has_replay_cause bytes NoMemory other h = absurd (other refl)
+
+-- a source that has no run has none under an order either
+pub unfollowed_source : (bytes : List ℕ) (why : Refused) → IsRefusedBy (source_in bytes) why → IsUnfollowedBy bytes why
+unfollowed_source bytes (Tokens e) h = h
+unfollowed_source bytes (Grammar e) h = h
+unfollowed_source bytes (Form place) h = h
+unfollowed_source bytes (Fault place why) h = h
+unfollowed_source bytes (Order place) h = absurd h
+unfollowed_source bytes NoMemory h = tt
+
+-- nor has one with no order behind it
+pub unordered : (bytes : List ℕ) (t : Term) (why : Refused) → IsTyped (source_in bytes) t → IsUnordered bytes why → IsUnfollowedBy bytes why
+unordered bytes t (Order place) typed h = record { term = t; typed = typed; bad = h t }
+unordered bytes t (Tokens e) typed h = absurd h
+unordered bytes t (Grammar e) typed h = absurd h
+unordered bytes t (Form place) typed h = absurd h
+unordered bytes t (Fault place why) typed h = absurd h
+unordered bytes t NoMemory typed h = tt
+
+-- nor one whose order is no list of plain steps
+pub unfollowed_order : (bytes : List ℕ) (t : Term) (lines : List OrderLine) (why : Refused) → IsTyped (source_in bytes) t → HasLines bytes lines → IsStoppedIn (start (program t)) lines why → IsUnfollowedBy bytes why
+unfollowed_order bytes t lines (Order place) typed h s =
+    record { term = t; typed = typed; bad = subst (λ rest. IsBadBehind t (source_length bytes) rest place) (sym h.marked) (bad_step lines h.spelled s) }
+unfollowed_order bytes t lines (Tokens e) typed h s = absurd s
+unfollowed_order bytes t lines (Grammar e) typed h s = absurd s
+unfollowed_order bytes t lines (Form place) typed h s = absurd s
+unfollowed_order bytes t lines (Fault place why) typed h s = absurd s
+unfollowed_order bytes t lines NoMemory typed h s = tt
 
 -- bytes that have tokens of a program have no refusal in the table
 parsed : (bytes : List ℕ) (t : Term) (e : ParseError) → IsSource bytes t → IsUnparsed bytes e → ⊥
@@ -73,6 +115,7 @@ source_is_read bytes t (Tokens e) s h fault form = refused_no_source bytes e t h
 source_is_read bytes t (Grammar e) s h fault form = parsed bytes t e s h
 source_is_read bytes t (Form p) s h fault form = form p refl
 source_is_read bytes t (Fault p r) s h fault form = fault p r refl
+source_is_read bytes t (Order p) s h fault form = h
 source_is_read bytes t NoMemory s h fault form = h
 
 -- bytes have one cause at most
@@ -93,10 +136,17 @@ one_cause bytes (Fault p r) (Tokens f) h g = absurd (refused_no_source bytes f h
 one_cause bytes (Fault p r) (Grammar f) h g = absurd (parsed bytes h.term f h.source g)
 one_cause bytes (Fault p r) (Form q) h g = absurd (accepted_has_none bytes h.term q h.source h.accepted g)
 one_cause bytes (Fault p r) (Fault q s) h g = let same = one_fault bytes p q r s h g in ap₂ Fault same.0 same.1
+one_cause bytes (Order p) b h g = absurd h
 one_cause bytes NoMemory b h g = absurd h
+one_cause bytes a (Order q) h g = absurd g
 one_cause bytes a NoMemory h g = absurd g
 
 -- what is written of a refusal
 pub refused_by : (bytes : List ℕ) (why : Refused) (status : ℕ) (text : List ℕ) → why ≢ NoMemory → IsRefusedBy bytes why → status ≡ status_of why → text ≡ text_of why → Replies bytes status text
 refused_by bytes why status text other h is says =
     subst (λ s. Replies bytes s text) (sym is) (subst (Replies bytes (status_of why)) (sym says) (refused why (has_cause bytes why other h)))
+
+-- and of a replay
+pub unfollowed_by : (bytes : List ℕ) (why : Refused) (status : ℕ) (text : List ℕ) → why ≢ NoMemory → IsUnfollowedBy bytes why → status ≡ status_of why → text ≡ text_of why → Replayed bytes status text
+unfollowed_by bytes why status text other h is says =
+    subst (λ s. Replayed bytes s text) (sym is) (subst (Replayed bytes (status_of why)) (sym says) (unfollowed why (has_replay_cause bytes why other h)))

@@ -5,3 +5,5 @@ pub mod Runs
 pub mod OneAnswer
 pub mod Forms
 pub mod Refusals
+pub mod Typed
+pub mod Replay

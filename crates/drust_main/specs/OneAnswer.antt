@@ -1,7 +1,12 @@
 -- What follows from the causes of the answers: they exclude one another, and each leaves one text.
-use Rattle.std.specs.Prelude.{◌≡◌, ℕ, ◌≤◌, true, List, length, Some}
+use Rattle.std.specs.Prelude.{◌≡◌, ℕ, ◌≤◌, List, length, Some}
 use Rattle.fr_terms.specs.Terms.{Term}
-use Rattle.drust_main.specs.Words.{asks_run}
+use Rattle.fr_plain.specs.Whole.{Stepped, plain, ending_of}
+use Rattle.fr_plain.specs.Resolve.{program}
+use Rattle.journal.specs.declared.order.OrderLine.{OrderLine}
+use Rattle.drust_main.specs.declared.words.Command.TheVariants.{Run, Replay}
+use Rattle.drust_main.specs.Words.{asked}
+use Rattle.drust_main.specs.Replay.{HasOrder, turns, status_of_ending}
 use Rattle.drust_main.specs.Headline.{IsTyped, Answers, limit}
 
 -- words and an input have one answer at most
@@ -10,4 +15,9 @@ OneAnswer = (words : List (List ℕ)) (bytes : List ℕ) (s t : ℕ) (x y : List
 
 -- the source of a typed program that is asked to run is answered by its run alone
 abbrev pub TypedRuns : Type 0
-TypedRuns = (words : List (List ℕ)) (bytes : List ℕ) (p : Term) (s : ℕ) (x : List ℕ) → asks_run words ≡ true → length bytes ≤ limit → IsTyped bytes p → Answers words (Some bytes) s x → s ≡ 0
+TypedRuns = (words : List (List ℕ)) (bytes : List ℕ) (p : Term) (s : ℕ) (x : List ℕ) → asked words ≡ Some Run → length bytes ≤ limit → IsTyped bytes p → Answers words (Some bytes) s x → s ≡ 0
+
+-- with an order behind it that is asked to be followed, and whose steps are plain steps, it is answered by the run under that
+-- order alone
+abbrev pub TypedFollows : Type 0
+TypedFollows = (words : List (List ℕ)) (bytes : List ℕ) (p : Term) (lines : List OrderLine) (last : Stepped) (s : ℕ) (x : List ℕ) → asked words ≡ Some Replay → length bytes ≤ limit → HasOrder bytes p lines → plain (program p) (turns lines) ≡ Some last → Answers words (Some bytes) s x → s ≡ status_of_ending (ending_of last.state)

@@ -14,8 +14,9 @@ use Rattle.fr_parse.specs.declared.fault.ParseError.TheVariants as parse
 use Rattle.fr_parse.specs.Table.{refusal}
 use Rattle.fr_parse.specs.Source.{IsSource}
 use Rattle.drust_main.specs.Forms.{later_form}
+use Rattle.drust_main.specs.Replay.{source_in, HasBadOrder}
 use Rattle.drust_main.specs.declared.refused.Refused.{Refused}
-use Rattle.drust_main.specs.declared.refused.Refused.TheVariants.{Tokens, Grammar, Form, Fault, NoMemory}
+use Rattle.drust_main.specs.declared.refused.Refused.TheVariants.{Tokens, Grammar, Form, Fault, Order, NoMemory}
 
 -- the bytes have tokens, and of these the table of the language has this first refusal
 pub record IsUnparsed (bytes : List ℕ) (error : ParseError) : Type 0 where
@@ -37,19 +38,26 @@ pub record IsFaulty (bytes : List ℕ) (place : ℕ) (why : Reason) : Type 0 whe
   pub accepted : IsSequential term
   pub faults : Faults [] term place why
 
--- the cause of a refusal
+-- the cause of a refusal of a source
 abbrev pub HasCause : List ℕ → Refused → Type 0
 HasCause bytes (Tokens error) = IsRefused bytes error
 HasCause bytes (Grammar error) = IsUnparsed bytes error
 HasCause bytes (Form place) = HasLaterForm bytes place
 HasCause bytes (Fault place why) = IsFaulty bytes place why
+HasCause bytes (Order place) = ⊥
 HasCause bytes NoMemory = ⊥
+
+-- the cause of a refusal of a source with an order behind it: of the order, or of the source in front of it
+abbrev pub HasReplayCause : List ℕ → Refused → Type 0
+HasReplayCause bytes (Order place) = HasBadOrder bytes place
+HasReplayCause bytes why = HasCause (source_in bytes) why
 
 abbrev pub status_of : Refused → ℕ
 status_of (Tokens error) = 3
 status_of (Grammar error) = 3
 status_of (Form place) = 11
 status_of (Fault place why) = 4
+status_of (Order place) = 10
 status_of NoMemory = 8
 
 -- what is refused, and where
@@ -86,5 +94,6 @@ abbrev pub text_of : Refused → List ℕ
 text_of (Tokens error) = token_text error
 text_of (Grammar error) = grammar_text error
 text_of (Form place) = at_place (codes "form") place
+text_of (Order place) = at_place (codes "order") place
 text_of (Fault place why) = codes "refused type at " ++ decimal place ++ codes ": " ++ reason_text why ++ codes "\n"
 text_of NoMemory = []

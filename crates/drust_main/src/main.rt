@@ -4,6 +4,9 @@
 mod forms;
 mod laws;
 mod refused;
+mod replay;
+#[cfg(test)]
+mod replay_tests;
 mod report;
 mod run;
 #[cfg(test)]

@@ -22,6 +22,9 @@ pub enum Refused {
     Form { place: u32 },
     /// The program has a fault of types: its first check that fails.
     Fault { place: u32, reason: Reason },
+    /// The order behind the source is none: no mark or no newline before it, a line that isn't in the format, or the first line
+    /// whose steps are not all plain steps.
+    Order { place: usize },
     NoMemory,
 }
 
@@ -37,13 +40,13 @@ impl From<NoMemory> for Refused {
 }
 
 // What is refused, and where.
-fn placed(alloc: Global, what: &str, place: u32) -> Result<String, NoMemory>
+fn placed(alloc: Global, what: &str, place: u64) -> Result<String, NoMemory>
     ensures { IfOk result (λ text. string_bytes text ≡ at_place what.now place) }
 {
     let mut text = String::from_str(alloc, "refused ")?;
     text.push_str(what)?;
     text.push_str(" at ")?;
-    add_count(&mut text, place as u64)?;
+    add_count(&mut text, place)?;
     text.push_str("\n")?;
     Ok(text)
 }
@@ -52,9 +55,9 @@ fn token_text(alloc: Global, error: TokenError) -> Result<String, NoMemory>
     ensures { IfOk result (λ text. string_bytes text ≡ token_text error) }
 {
     match error {
-        TokenError::BadByte { place } => placed(alloc, "byte", place),
-        TokenError::NameTooLong { place } => placed(alloc, "name", place),
-        TokenError::NumberTooLarge { place } => placed(alloc, "number", place),
+        TokenError::BadByte { place } => placed(alloc, "byte", u64::from(place)),
+        TokenError::NameTooLong { place } => placed(alloc, "name", u64::from(place)),
+        TokenError::NumberTooLarge { place } => placed(alloc, "number", u64::from(place)),
         TokenError::NoMemory => Err(NoMemory),
     }
 }
@@ -63,8 +66,8 @@ fn grammar_text(alloc: Global, error: ParseError) -> Result<String, NoMemory>
     ensures { IfOk result (λ text. string_bytes text ≡ grammar_text error) }
 {
     match error {
-        ParseError::Syntax { place } => placed(alloc, "syntax", place),
-        ParseError::TooDeep { place } => placed(alloc, "depth", place),
+        ParseError::Syntax { place } => placed(alloc, "syntax", u64::from(place)),
+        ParseError::TooDeep { place } => placed(alloc, "depth", u64::from(place)),
         ParseError::NoMemory => Err(NoMemory),
     }
 }
@@ -109,6 +112,7 @@ impl Refused {
             Refused::Tokens(_) | Refused::Grammar(_) => 3,
             Refused::Form { .. } => 11,
             Refused::Fault { .. } => 4,
+            Refused::Order { .. } => 10,
             Refused::NoMemory => 8,
         }
     }
@@ -121,7 +125,8 @@ impl Refused {
         match self {
             Refused::Tokens(error) => token_text(alloc, error),
             Refused::Grammar(error) => grammar_text(alloc, error),
-            Refused::Form { place } => placed(alloc, "form", place),
+            Refused::Form { place } => placed(alloc, "form", u64::from(place)),
+            Refused::Order { place } => placed(alloc, "order", place as u64),
             Refused::Fault { place, reason } => fault_text(alloc, place, reason),
             Refused::NoMemory => Err(NoMemory),
         }

@@ -28,7 +28,7 @@ fn add_number(text: &mut String, number: i64) -> Result<(), NoMemory>
 }
 
 /// Adds the printed numbers, a line each.
-fn add_numbers(text: &mut String, printed: &[i64]) -> Result<(), NoMemory>
+pub(crate) fn add_numbers(text: &mut String, printed: &[i64]) -> Result<(), NoMemory>
     ensures { OnOk result (string_bytes text.new ≡ string_bytes text.old ++ number_lines printed.now) }
 {
     'numbers: for number in printed {

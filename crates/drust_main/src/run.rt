@@ -58,7 +58,7 @@ fn refused_types(error: CheckError) -> Refused
 }
 
 /// The tree of a source, checked. Each refusal exactly by what the bytes are; want of memory at any time.
-fn checked_source(alloc: Global, bytes: &[u8]) -> Result<Checked, Refused>
+pub fn checked_source(alloc: Global, bytes: &[u8]) -> Result<Checked, Refused>
     requires { length bytes.now ≤ limit }
     ensures typed { IfOk result (λ c. IsTyped bytes.now (term_of c.arena)) }
     ensures refused { IfErr result (IsRefusedBy bytes.now) }

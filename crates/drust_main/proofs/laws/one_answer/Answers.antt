@@ -1,8 +1,5 @@
-use Rattle.drust_main.proofs.Determined.{one, runs}
+use Rattle.drust_main.proofs.OneAnswer.{one, runs, follows}
 use Rattle.drust_main.proofs.laws.one_answer.Goals as goal
 
-pub returns-clause-once : goal.returns-clause-once
-returns-clause-once c = one
-
-pub returns-clause-typed : goal.returns-clause-typed
-returns-clause-typed c = runs
+pub returns : goal.returns
+returns c = record { once = one; typed = runs; followed = follows }
