@@ -50,9 +50,9 @@ nodes_append ms (x ∷ xs) ys =
     ap (λ l. (meaning_at ms x.node).nodes ++ l) (nodes_append ms xs ys) ∙ sym (append_assoc (meaning_at ms x.node).nodes (nodes_in ms xs) (nodes_in ms ys))
 
 -- parts that stand before a node, taken apart
-needs_append : (ms : List Meaning) (n : ℕ) (xs ys : List Need) → AreBelow ms n (xs ++ ys) → AreBelow ms n xs × AreBelow ms n ys
+pub needs_append : (ms : List Meaning) (n : ℕ) (xs ys : List Need) → AreBelow ms n (xs ++ ys) → AreBelow ms n xs × AreBelow ms n ys
 needs_append ms n [] ys h = (tt, h)
-needs_append ms n (x ∷ xs) ys h = let rest = needs_append ms n xs ys h.2 in ((h.0, (h.1, rest.0)), rest.1)
+needs_append ms n (x ∷ xs) ys h = let rest = needs_append ms n xs ys h.2 in ((h.0, h.1, rest.0), rest.1)
 
 -- a term part stands before its node and is ready
 pub record IsPart (a : Arena) (at v : ℕ) : Type 0 where
@@ -190,30 +190,9 @@ arith_gives a at l r op n e e1 result h is gives = subst (λ t. Gives result (ty
 pub spawn_gives : (a : Arena) (at : ℕ) (captures : NodeList) (v : ℕ) (n : Node) (e e1 : Env) (result : Result Ty CheckError) → IsHere a at n → n.term ≡ Spawn captures v → Gives result (typing (spawn_t 0 (captures_at (meanings a) captures.items) (term_at (meanings a) v)) e) e1 → Gives result (typing (term_at (meanings a) at) e) e1
 spawn_gives a at captures v n e e1 result h is gives = subst (λ t. Gives result (typing t e) e1) (sym (spawn_here a at captures v n h is)) gives
 
--- what follows the names that a new thread captures
-abbrev body_rule : terms.Term → Env → Env → Outcome
-body_rule b e1 n = then_typed (typing b n) (λ k n1. held_rule task (start_of b) k e1)
-
 -- names are captured into an environment without slots
 into_none : (names : List Text) (ns : List Held) (e e1 n : Env) (cs : List Captured) → ns ≡ [] → ((go : Env → Env → Outcome) → capture_all by_spawn cs e (env_of names ns) go ≡ go e1 n) → (go : Env → Env → Outcome) → capture_all by_spawn cs e [] go ≡ go e1 n
 into_none names ns e e1 n cs none goes = λ go. ap (λ (l : List Held). capture_all by_spawn cs e (env_of names l) go) (sym none) ∙ goes go
-
--- a new thread's term, from its names and its body
-pub thread_gives : (names : List Text) (ns : List Held) (e e1 n n1 : Env) (cs : List Captured) (b : terms.Term) (k : Kind) (place : ℕ) (result : Result Ty CheckError) → ns ≡ [] → ((go : Env → Env → Outcome) → capture_all by_spawn cs e (env_of names ns) go ≡ go e1 n) → typing b n ≡ typed k n1 → place ≡ start_of b → Follows result (held_rule task place k) → Gives result (typing (spawn_t 0 cs b) e) e1
-thread_gives names ns e e1 n n1 cs b k place result none goes body at follows =
-    let is : typing (spawn_t 0 cs b) e ≡ held_rule task place k e1 =
-    into_none names ns e e1 n cs none goes (body_rule b) ∙ ap (λ o. then_typed o (λ k n1. held_rule task (start_of b) k e1)) body ∙ ap (λ p. held_rule task p k e1) (sym at) in
-    subst (λ (o : Outcome). Gives result o e1) (sym is) (follows_gives result (held_rule task place k) e1 follows)
-
--- a name of it is denied
-pub thread_denied : (A : Type 0) (names : List Text) (ns : List Held) (e e1 n e2 : Env) (cs : List Captured) (b : terms.Term) (error : CheckError) → ns ≡ [] → GoesOn {A = A} (Err error) (capture_all by_spawn cs e (env_of names ns)) e1 n → Gives (Err error) (typing (spawn_t 0 cs b) e) e2
-thread_denied A names ns e e1 n e2 cs b (Fault p r) none h = ap (λ (l : List Held). capture_all by_spawn cs e (env_of names l) (body_rule b)) (sym none) ∙ h (body_rule b)
-thread_denied A names ns e e1 n e2 cs b NoMemory none h = tt
-
--- its body has a fault
-pub thread_fails : (names : List Text) (ns : List Held) (e e1 n n1 e2 : Env) (cs : List Captured) (b : terms.Term) (error : CheckError) → ns ≡ [] → ((go : Env → Env → Outcome) → capture_all by_spawn cs e (env_of names ns) go ≡ go e1 n) → Gives (Err error) (typing b n) n1 → Gives (Err error) (typing (spawn_t 0 cs b) e) e2
-thread_fails names ns e e1 n n1 e2 cs b (Fault p r) none goes fails = into_none names ns e e1 n cs none goes (body_rule b) ∙ ap (λ o. then_typed o (λ k n1. held_rule task (start_of b) k e1)) fails
-thread_fails names ns e e1 n n1 e2 cs b NoMemory none goes fails = tt
 
 -- USAGES
 
