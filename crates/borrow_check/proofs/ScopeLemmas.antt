@@ -93,6 +93,10 @@ named_push : (n m name slot : ℕ) (vs : List Held) (test : Bool) → AreNamed n
 named_push n m name slot vs true h same lt is = subst (λ k. k < n) (same refl) lt
 named_push n m name slot vs false h same lt is = h name slot is
 
+-- no slot
+pub scope_none : (names : List Text) (vs new : List Held) → IsInScope names vs → new ≡ [] → IsInScope names new
+scope_none names vs new h is = record { different = h.different; named = subst (AreNamed (length names)) (sym is) (λ name slot there. absurd cc) }
+
 -- a new slot
 pub scope_push : (names : List Text) (vs new : List Held) (name : ℕ) (p : Piece) → IsInScope names vs → name < length names → new ≡ record { name = Some name; part = p } ∷ vs → IsInScope names new
 scope_push names vs new name p h lt is = record {

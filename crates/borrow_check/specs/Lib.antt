@@ -2,3 +2,4 @@ pub mod Usages
 pub mod Rules
 pub mod Nodes
 pub mod Programs
+pub mod Capturing

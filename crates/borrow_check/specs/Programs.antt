@@ -5,7 +5,7 @@ use Rattle.fr_terms.specs.Terms.{block_t, read_t}
 use Rattle.fr_terms.specs.Terms as terms
 use Rattle.fr_terms.specs.Limits.{IsWithinLimits}
 use Rattle.fr_typing.specs.Typing.{Faults}
-use Rattle.fr_typing.specs.Sequential.{IsSequential}
+use Rattle.fr_typing.specs.Threaded.{IsThreaded}
 use Rattle.fr_typing.specs.Laws.{IsTyped}
 use Rattle.fr_syntax.specs.Arena.{Arena}
 use Rattle.fr_syntax.specs.Ordered.{IsArena}
@@ -20,11 +20,12 @@ abbrev pub IsBlock : terms.Term → Type 0
 IsBlock (block_t at items) = ⊤
 IsBlock t = ⊥
 
--- each term has a node of its own; the tree's term is a block of forms of one thread within the limits; its names are different
+-- each term has a node of its own; the tree's term is a block within the limits, of the forms of one thread and of starting
+-- and joining threads; its names are different
 pub record IsCheckable (a : Arena) : Type 0 where
   pub tree : IsTree a
   pub within : IsWithinLimits (term_of a)
-  pub sequential : IsSequential (term_of a)
+  pub threaded : IsThreaded (term_of a)
   pub block : IsBlock (term_of a)
   pub names : AreDifferentTexts a.names
 
@@ -33,7 +34,7 @@ abbrev pub IsFault : CheckError → terms.Term → Type 0
 IsFault (Fault place reason) t = Faults [] t place reason
 IsFault NoMemory t = ⊤
 
--- a program: its tree, and how each node that is a place or a read is used
+-- a program: its tree, and how each node that is a place, a read or a captured name is used
 pub record Program : Type 0 where
   pub arena : Arena
   pub usages : List Usage
@@ -49,18 +50,25 @@ pub record IsChecked (p : Program) : Type 0 where
 abbrev pub usage_at : Program → ℕ → Usage
 usage_at p node = slice_index_or p.usages node (record { slot = 0; takes = false })
 
--- the place of a place node: its variable's slot under its stars
+-- the nodes with a place: places and captured names
+abbrev pub HasPlace : What → Type 0
+HasPlace (a_place w) = ⊤
+HasPlace (a_capture c) = ⊤
+HasPlace (a_term t) = ⊥
+
+-- the place of a place node is its variable's slot under its stars, that of a captured name the variable that is captured
 abbrev pub place_of : What → Usage → Option Lval
 place_of (a_place w) u = Some (record { slot = u.slot; depth = w.stars })
 place_of (a_term t) u = None
-place_of (a_capture c) u = None
+place_of (a_capture c) u = Some (record { slot = u.slot; depth = 0 })
 
 abbrev pub lval_of : Program → ℕ → Option Lval
 lval_of p node = place_of (meaning_at (meanings p.arena) node).what (usage_at p node)
 
--- a read takes out what it reads
+-- a read takes out what it reads, and a captured name its variable's value
 abbrev pub is_taking : What → Usage → Bool
 is_taking (a_term (read_t at w)) u = u.takes
+is_taking (a_capture c) u = u.takes
 is_taking w u = false
 
 abbrev pub takes_of : Program → ℕ → Bool

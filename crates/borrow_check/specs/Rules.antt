@@ -3,14 +3,16 @@ use Rattle.std.specs.Prelude.{◌≡◌, ℕ, ◌<◌, ⊤, not, List, length, S
 use Rattle.fr_base.specs.declared.place.Lval.{Lval}
 use Rattle.fr_terms.specs.Terms.{Text, Spot, Items}
 use Rattle.fr_typing.specs.declared.reason.Reason.TheVariants.{WriteBlocked, NotWritable, NotOwned, WrongType, Outlives}
-use Rattle.fr_typing.specs.Kinds.{Kind, own, unit, Piece, whole, gone, boxed}
+use Rattle.fr_typing.specs.Kinds.{Owned, Kind, own, unit, Piece, whole, gone, boxed}
 use Rattle.fr_typing.specs.Places.{Env, found, write_blocked, is_writable}
 use Rattle.fr_typing.specs.Checks.{place_of, is_kept_out, has_shape_of, names_from}
 use Rattle.fr_typing.specs.Finding.{Has, Misses, Lacks, Outcome, typed, fault, unless}
 use Rattle.fr_typing.specs.Typing.{typing_items}
 use Rattle.fr_syntax.specs.Arena.{text_of}
+use Rattle.fr_types.specs.declared.types.O.{O}
 use Rattle.fr_types.specs.declared.types.Ty.{Ty}
 use Rattle.fr_types.specs.declared.types.Part.{Part}
+use Rattle.fr_types.specs.OwnedTypes.{owned_of}
 use Rattle.fr_types.specs.Types.{kind_of, piece_of}
 use Rattle.fr_types.specs.States.{Held, slot_in}
 use Rattle.borrow_check.specs.declared.check_error.CheckError.{CheckError}
@@ -70,6 +72,12 @@ abbrev pub Follows : Result Ty CheckError → (Env → Outcome) → Type 0
 Follows (Ok t) rule = (e : Env) → rule e ≡ typed (kind_of t) e
 Follows (Err (Fault p r)) rule = (e : Env) → rule e ≡ fault p r
 Follows (Err NoMemory) rule = ⊤
+
+-- the type may be held, and becomes this owned type, or the outcome is the fault; or memory ran out
+abbrev pub IsHeld : Result O CheckError → Outcome → (Owned → Owned) → Env → Type 0
+IsHeld (Ok o) out hold e = out ≡ typed (own (hold (owned_of o))) e
+IsHeld (Err (Fault p r)) out hold e = out ≡ fault p r
+IsHeld (Err NoMemory) out hold e = ⊤
 
 -- the checks pass, so that the outcome is the rest, or it is the fault; or memory ran out
 abbrev pub Passes : {A : Type 0} → Result A CheckError → Outcome → Outcome → Type 0

@@ -1,9 +1,11 @@
 -- How the nodes of a typed term use their places (this project's rule).
 use Rattle.std.specs.Prelude.{◌≡◌, ℕ, Bool, false, not, ⊤, List, [], ◌∷◌, ◌++◌, length, slice_set, slice_get, Option, Some, None, unwrap_or}
-use Rattle.fr_terms.specs.Terms.{Spot, Term, block_t, let_t, assign_t, read_t, borrow_t, borrow_mut_t, box_t, print_t, arith_t, Items, none, item}
-use Rattle.fr_typing.specs.Kinds.{copies}
-use Rattle.fr_typing.specs.Places.{Env, slot_of}
+use Rattle.fr_terms.specs.Terms.{Spot, Captured, Term, block_t, let_t, assign_t, read_t, borrow_t, borrow_mut_t, box_t, print_t, arith_t, join_t, spawn_t, Items, none, item}
+use Rattle.fr_typing.specs.Kinds.{own, unit, whole, copies}
+use Rattle.fr_typing.specs.Places.{Env, Found, found, type_at, slot_of}
+use Rattle.fr_typing.specs.Checks.{place_of}
 use Rattle.fr_typing.specs.Finding.{Outcome, typed, fault}
+use Rattle.fr_typing.specs.Captures.{by_spawn, spot_of, capture, capture_all}
 use Rattle.fr_typing.specs.Typing.{typing}
 use Rattle.fr_syntax.specs.Meanings.{AllBelow}
 use Rattle.borrow_check.specs.declared.usage.Usage.{Usage}
@@ -25,8 +27,38 @@ usage_of e w taken = record { slot = unwrap_or (slot_of e w.name) 0; takes = tak
 abbrev pub read_usage : Spot → Env → Usage
 read_usage w e = usage_of e w (is_taken (typing (read_t 0 w) e))
 
+-- CAPTURES
+
+-- a whole variable of a type that moves
+abbrev pub is_moved : Found → Bool
+is_moved (found (whole k)) = not (copies k)
+is_moved f = false
+
+-- a captured name's slot, and whether its value goes to the new thread
+abbrev pub capture_usage : Env → Captured → Usage
+capture_usage e c = usage_of e (spot_of c) (is_moved (type_at e (place_of (spot_of c) (unwrap_or (slot_of e c.name) 0))))
+
+-- what a captured name leaves of the environment, and the new environment with it
+abbrev pub env_left : Env → Env → Captured → Env
+env_left e n c = env_after (capture by_spawn e n c (λ e1 n1. typed (own unit) e1))
+
+abbrev pub env_new : Env → Env → Captured → Env
+env_new e n c = env_after (capture by_spawn e n c (λ e1 n1. typed (own unit) n1))
+
+-- the new environment of all captured names
+abbrev pub env_of_all : Env → List Captured → Env
+env_of_all e cs = env_after (capture_all by_spawn cs e [] (λ e1 n1. typed (own unit) n1))
+
+-- for each captured name its usage, from the environments before it
+abbrev pub capture_usages : Env → Env → List Captured → List (Option Usage)
+capture_usages e n [] = []
+capture_usages e n (c ∷ cs) = Some (capture_usage e c) ∷ capture_usages (env_left e n c) (env_new e n c) cs
+
+-- TERMS
+
 abbrev mutual
-  -- for each node of a term, in the order of its nodes, the usage where it is a place or a read, from the environment before the term
+  -- for each node of a term, in the order of its nodes, the usage where it is a place, a read or a captured name, from the environment before
+  -- the term
   pub usages_of : Term → Env → List (Option Usage)
   usages_of (block_t at ts) e = usages_in ts e ++ None ∷ []
   usages_of (let_t at x t) e = usages_of t e ++ None ∷ []
@@ -37,6 +69,8 @@ abbrev mutual
   usages_of (box_t at t) e = usages_of t e ++ None ∷ []
   usages_of (print_t at t) e = usages_of t e ++ None ∷ []
   usages_of (arith_t at op a b) e = (usages_of a e ++ usages_of b (env_after (typing a e))) ++ None ∷ []
+  usages_of (join_t at t) e = usages_of t e ++ None ∷ []
+  usages_of (spawn_t at cs b) e = (capture_usages e [] cs ++ usages_of b (env_of_all e cs)) ++ None ∷ []
   usages_of t e = None ∷ []
 
   pub usages_in : Items → Env → List (Option Usage)

@@ -2,8 +2,8 @@
 
 ghost use Rattle.std.specs.Prelude.{◌≡◌, ◌↔◌, ◌<◌, [], length, IsSome, IfOk, IfErr, OnOk};
 ghost use Rattle.fr_typing.specs.Laws.{IsTyped};
-ghost use Rattle.fr_syntax.specs.Meanings.{meanings, meaning_at, sort_of, place_s, term_of};
-ghost use Rattle.borrow_check.specs.Programs.{IsCheckable, IsChecked, IsFault, lval_of, takes_of};
+ghost use Rattle.fr_syntax.specs.Meanings.{meanings, meaning_at, term_of};
+ghost use Rattle.borrow_check.specs.Programs.{IsCheckable, IsChecked, IsFault, HasPlace, lval_of, takes_of};
 
 use crate::check_error::CheckError;
 use crate::checker::check_term;
@@ -14,7 +14,7 @@ use fr_types::Env;
 use std::alloc::Global;
 use std::marker::Model;
 
-/// A program whose terms have types. Contracts see its tree, and by node how the places and reads are used.
+/// A program whose terms have types. Contracts see its tree, and by node how the places, reads and captured names are used.
 #[derive(Drop)]
 pub struct Checked {
     tree: Tree,
@@ -40,11 +40,12 @@ impl Checked {
         &self.tree
     }
 
-    /// The place of a node: its variable's slot under its stars. `None` exactly for a node without a place.
+    /// The place of a node: its variable's slot under its stars; of a captured name the variable that is captured. `None` exactly for a
+    /// node without a place.
     pub fn lval(&self, node: u32) -> Option<Lval>
         requires { node < length self.now.arena.nodes }
         ensures value { result ≡ lval_of self.now node }
-        ensures place { IsSome result ↔ (sort_of (meaning_at (meanings self.now.arena) node).what ≡ place_s) }
+        ensures place { IsSome result ↔ HasPlace (meaning_at (meanings self.now.arena) node).what }
     {
         let Some(found) = self.tree.node(node) else {
             unreachable!()
@@ -54,11 +55,15 @@ impl Checked {
                 slot: self.usages[node as usize].slot,
                 depth: stars,
             }),
+            Term::Capture(_) => Some(Lval {
+                slot: self.usages[node as usize].slot,
+                depth: 0,
+            }),
             _ => None,
         }
     }
 
-    /// Whether the node is a read of a type that moves, which takes out what it reads.
+    /// Whether the node is a read of a type that moves, which takes out what it reads, or a captured name whose variable moves.
     pub fn takes(&self, node: u32) -> bool
         requires { node < length self.now.arena.nodes }
         ensures { result ≡ takes_of self.now node }
@@ -67,7 +72,7 @@ impl Checked {
             unreachable!()
         };
         match found.term {
-            Term::Read(_) => self.usages[node as usize].takes,
+            Term::Read(_) | Term::Capture(_) => self.usages[node as usize].takes,
             _ => false,
         }
     }

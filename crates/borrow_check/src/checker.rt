@@ -1,20 +1,22 @@
 //! The types of a tree's terms.
 
-ghost use Rattle.std.specs.Prelude.{◌≡◌, ◌<◌, ◌≤◌, ◌+◌, ◌++◌, length, IfOk, OnOk};
+ghost use Rattle.std.specs.Prelude.{◌≡◌, ◌<◌, ◌≤◌, ◌+◌, ◌++◌, [], length, IfOk, OnOk};
 ghost use Rattle.fr_base.specs.declared.place.Op.{Op};
-ghost use Rattle.fr_terms.specs.Terms.{arith_t, start_of};
+ghost use Rattle.fr_terms.specs.Terms.{arith_t, spawn_t, start_of};
 ghost use Rattle.fr_typing.specs.Places.{AreBelow, kind_places};
 ghost use Rattle.fr_typing.specs.Typing.{typing};
-ghost use Rattle.fr_syntax.specs.Meanings.{meanings, meaning_at, term_at, items_at, sort_of, term_s, all_need, nodes_in};
+ghost use Rattle.fr_syntax.specs.Meanings.{meanings, meaning_at, term_at, items_at, captures_at, sort_of, term_s, capture_s, all_need, nodes_in};
 ghost use Rattle.fr_types.specs.Types.{kind_of};
 ghost use Rattle.fr_types.specs.States.{env_of};
 ghost use Rattle.borrow_check.specs.Rules.{IsInScope, Gives, GivesItems};
 ghost use Rattle.borrow_check.specs.Nodes.{IsReady, AreReady};
-ghost use Rattle.borrow_check.specs.Usages.{env_after, usages_of, usages_in, AreWritten};
+ghost use Rattle.borrow_check.specs.Capturing.{AreNames};
+ghost use Rattle.borrow_check.specs.Usages.{env_after, env_of_all, capture_usages, usages_of, usages_in, AreWritten};
 
+use crate::captures::capture_all;
 use crate::check_error::CheckError;
 use crate::nodes::{assign, borrow, borrow_mut, read};
-use crate::rules::{bind, combined, end_block, in_box, number, printed};
+use crate::rules::{bind, combined, end_block, in_box, in_task, joined, number, printed};
 use crate::usage::Usage;
 use fr_syntax::{Nodes, Term, Tree};
 use fr_types::{Env, Ty};
@@ -79,6 +81,11 @@ pub fn check_term(
             let t = check_term(alloc, tree, *value, env, usages)?;
             assign(alloc, tree, env, usages, *to, t, start(tree, *value))
         }
+        Term::Join(task) => {
+            let t = check_term(alloc, tree, *task, env, usages)?;
+            joined(t, start(tree, *task))
+        }
+        Term::Spawn(captures, body) => check_spawn(alloc, tree, captures, *body, at, env, usages),
         Term::Block(items) => {
             let base = env.len();
             let (t, last) = check_items(alloc, tree, items, node.place, at, env, usages)?;
@@ -118,6 +125,35 @@ fn check_arith(
     drop(first);
     let second = check_term(alloc, tree, right, env, usages)?;
     combined(&second, start(tree, right))
+}
+
+// A new thread's captures and its body, which stand before this node: the body is typed in an environment of the captures alone.
+#[cycle(check)]
+fn check_spawn(
+    alloc: Global,
+    tree: &Tree,
+    captures: &Nodes,
+    body: u32,
+    bound: u32,
+    env: &mut Env,
+    usages: &mut Vec<Usage>,
+) -> Result<Ty, CheckError>
+    requires body { body < bound }
+    requires names { AreNames tree.now bound captures.now.items }
+    requires ready { IsReady tree.now body }
+    requires scope { IsInScope tree.now.names env.old }
+    requires usages { length usages.old.items ≡ length (meanings tree.now) }
+    requires few { length (nodes_in (meanings tree.now) (all_need capture_s captures.now.items)) + length (meaning_at (meanings tree.now) body).nodes ≤ 268435456 }
+    ensures gives { Gives result (typing (spawn_t 0 (captures_at (meanings tree.now) captures.now.items) (term_at (meanings tree.now) body)) (env_of tree.now.names env.old)) (env_of tree.now.names env.new) }
+    ensures below { IfOk result (λ t. kind_places (kind_of t) ≡ []) }
+    ensures scope { OnOk result (IsInScope tree.now.names env.new) }
+    ensures same { OnOk result (length env.new ≡ length env.old) }
+    ensures usages { OnOk result (AreWritten usages.old.items usages.new.items (nodes_in (meanings tree.now) (all_need capture_s captures.now.items) ++ (meaning_at (meanings tree.now) body).nodes) (capture_usages (env_of tree.now.names env.old) [] (captures_at (meanings tree.now) captures.now.items) ++ usages_of (term_at (meanings tree.now) body) (env_of_all (env_of tree.now.names env.old) (captures_at (meanings tree.now) captures.now.items)))) }
+{
+    let mut new = Env::new(alloc);
+    capture_all(alloc, tree, captures, bound, env, &mut new, usages)?;
+    let t = check_term(alloc, tree, body, &mut new, usages)?;
+    in_task(alloc, t, start(tree, body))
 }
 
 // The items in order: the last one's type and place.

@@ -1,6 +1,7 @@
-//! The borrow checker: a tree of the forms of one thread is checked, or the answer is its first fault, exactly as typing has it.
+//! The borrow checker: a tree of the forms of one thread, and of starting and joining threads, is checked, or the answer is its first fault, exactly as typing has it.
 #![tactic(auto)]
 
+mod captures;
 mod check_error;
 mod checked;
 mod checker;

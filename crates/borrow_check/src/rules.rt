@@ -3,21 +3,21 @@
 ghost use Rattle.std.specs.Prelude.{◌≡◌, ℕ, ◌-◌, ◌+◌, ◌<◌, ◌≤◌, [], List, length, drop, false, IfOk, OnOk};
 ghost use Rattle.fr_terms.specs.Terms.{Text};
 ghost use Rattle.fr_typing.specs.declared.reason.Reason.TheVariants.{ReadBlocked};
-ghost use Rattle.fr_typing.specs.Kinds.{Kind, own, unit};
-ghost use Rattle.fr_typing.specs.Places.{AreBelow, kind_places, piece_places, read_blocked};
+ghost use Rattle.fr_typing.specs.Kinds.{Owned, task, Kind, own, unit};
+ghost use Rattle.fr_typing.specs.Places.{AreBelow, kind_places, piece_places, read_blocked, Env as TypingEnv};
 ghost use Rattle.fr_typing.specs.Checks.{is_kept_out, names_from, set_through};
 ghost use Rattle.fr_typing.specs.Finding.{Outcome, typed, unless};
-ghost use Rattle.fr_typing.specs.Rules.{read_rule, borrow_rule, borrow_mut_rule, box_rule, int_rule, print_rule, arith_rule, let_rule, write_rule, end_rule};
+ghost use Rattle.fr_typing.specs.Rules.{read_rule, borrow_rule, borrow_mut_rule, held_rule, box_rule, int_rule, print_rule, arith_rule, let_rule, write_rule, end_rule, join_rule};
 ghost use Rattle.fr_syntax.specs.Arena.{text_of};
 ghost use Rattle.fr_types.specs.Types.{kind_of, piece_of};
 ghost use Rattle.fr_types.specs.States.{slot_in, env_of};
-ghost use Rattle.borrow_check.specs.Rules.{spot_of, when_open, when_fitting, IsInScope, Gives, Follows, Passes};
+ghost use Rattle.borrow_check.specs.Rules.{spot_of, when_open, when_fitting, IsInScope, Gives, Follows, Passes, IsHeld};
 
 use crate::check_error::CheckError;
 use crate::written::Written;
 use fr_base::{Lval, NoMemory};
 use fr_types::{
-    Env, Part, Places, Ty, copies, goes_through_mutable, has_shape_of, is_full, is_int,
+    Env, O, Part, Places, Ty, copies, goes_through_mutable, has_shape_of, is_full, is_int,
     is_own_path, is_owned, is_writable, names_from,
 };
 use fr_typing::Reason;
@@ -89,10 +89,9 @@ pub fn borrow_mut_whole(alloc: Global, env: &Env, w: Written, x: Lval) -> Result
     Ok(Ty::Mut(Places::one(alloc, x)?))
 }
 
-/// The type of a box around a value of this type; a fault stands at this place.
-pub fn in_box(alloc: Global, t: Ty, place: u32) -> Result<Ty, CheckError>
-    ensures follows { Follows result (box_rule place (kind_of t)) }
-    ensures below { IfOk result (λ u. kind_places (kind_of u) ≡ []) }
+// The owned type of a value that something may hold: one of fewer than 64 levels. A fault stands at this place.
+fn held(alloc: Global, t: Ty, place: u32) -> Result<O, CheckError>
+    ensures { (hold : Owned → Owned) (e : TypingEnv) → IsHeld result (held_rule hold place (kind_of t) e) hold e }
 {
     if !is_owned(&t) {
         return Err(CheckError::Fault {
@@ -100,14 +99,49 @@ pub fn in_box(alloc: Global, t: Ty, place: u32) -> Result<Ty, CheckError>
             reason: Reason::NotOwned,
         });
     }
-    let held = t.into_owned(alloc)?;
-    if is_full(&held) {
+    let owned = t.into_owned(alloc)?;
+    if is_full(&owned) {
         return Err(CheckError::Fault {
             place,
             reason: Reason::NotOwned,
         });
     }
-    Ok(Ty::Box(held))
+    Ok(owned)
+}
+
+/// The type of a box around a value of this type; a fault stands at this place.
+pub fn in_box(alloc: Global, t: Ty, place: u32) -> Result<Ty, CheckError>
+    ensures follows { Follows result (box_rule place (kind_of t)) }
+    ensures below { IfOk result (λ u. kind_places (kind_of u) ≡ []) }
+{
+    let o = held(alloc, t, place)?;
+    Ok(Ty::Box(o))
+}
+
+/// The type of a thread that ends with a value of this type; a fault stands at this place.
+pub fn in_task(alloc: Global, t: Ty, place: u32) -> Result<Ty, CheckError>
+    ensures follows { Follows result (held_rule task place (kind_of t)) }
+    ensures below { IfOk result (λ u. kind_places (kind_of u) ≡ []) }
+{
+    let o = held(alloc, t, place)?;
+    Ok(Ty::Task(o))
+}
+
+/// The type of what a thread of this type ends with; a fault stands at this place.
+pub fn joined(t: Ty, place: u32) -> Result<Ty, CheckError>
+    ensures follows { Follows result (join_rule place (kind_of t)) }
+    ensures below { IfOk result (λ u. kind_places (kind_of u) ≡ []) }
+{
+    match t {
+        Ty::Task(o) => Ok(o.into_type()),
+        other => {
+            drop(other);
+            Err(CheckError::Fault {
+                place,
+                reason: Reason::WrongType,
+            })
+        }
+    }
 }
 
 /// The check that a value of this type is a number; a fault stands at this place.

@@ -7,3 +7,10 @@ pub struct Written {
     pub stars: u8,
     pub place: u32,
 }
+
+/// The number of a captured name, and the byte of the source where it stands.
+#[derive(Clone, Copy, Debug)]
+pub struct Name {
+    pub name: u32,
+    pub place: u32,
+}

@@ -1,6 +1,7 @@
 -- What is read from tokens can be checked.
-use Rattle.std.proofs.Common.{◌≡◌, ℕ, List, None, sym, subst}
+use Rattle.std.proofs.Common.{◌≡◌, ℕ, List, sym, subst}
 use Rattle.fr_terms.specs.Terms.{Text, Term, block_t}
+use Rattle.fr_typing.specs.Threaded.{IsThreaded}
 use Rattle.fr_syntax.specs.declared.token.Token.{Token}
 use Rattle.fr_syntax.specs.Arena.{Arena}
 use Rattle.fr_syntax.specs.Meanings.{term_of, IsTree}
@@ -10,20 +11,18 @@ use Rattle.fr_parse.specs.Source.{Spelled}
 use Rattle.fr_syntax.proofs.NameTexts.{names_apart}
 use Rattle.borrow_check.specs.Rules.{AreDifferentTexts}
 use Rattle.borrow_check.specs.Programs.{IsBlock, IsCheckable}
-use Rattle.drust_main.specs.Forms.{later_form}
-use Rattle.drust_main.proofs.FormLemmas.{accepted_by}
 
 -- a program is a block
 is_block : (t : Term) → grammar.IsBlock t → IsBlock t
 is_block (block_t at items) h = tt
 is_block t h = absurd h
 
-pub checkable : (bytes : List ℕ) (ts : List Token) (names : List Text) (tree : Arena) → AreTokens bytes ts names → Spelled names ts (term_of tree) → later_form (term_of tree) ≡ None → tree.names ≡ names → IsTree tree → IsCheckable tree
-checkable bytes ts names tree tokens spelled none same whole =
+pub checkable : (bytes : List ℕ) (ts : List Token) (names : List Text) (tree : Arena) → AreTokens bytes ts names → Spelled names ts (term_of tree) → IsThreaded (term_of tree) → tree.names ≡ names → IsTree tree → IsCheckable tree
+checkable bytes ts names tree tokens spelled threaded same whole =
     record {
       tree = whole;
       within = spelled.limits;
-      sequential = accepted_by (term_of tree) none;
+      threaded = threaded;
       block = is_block (term_of tree) spelled.grammar.0;
       names = subst AreDifferentTexts (sym same) (names_apart bytes ts names tokens);
     }

@@ -13,6 +13,8 @@ mod run;
 mod run_tests;
 #[cfg(test)]
 mod tests;
+#[cfg(test)]
+mod thread_typing_tests;
 mod top;
 #[cfg(test)]
 mod typing_tests;

@@ -191,16 +191,12 @@ built_next p a fs gs cs ds l k at n f c arena same h b long counts made below co
 
 -- THE TREE'S TERM
 
--- its forms are those of one thread
-pub checked_sequential : (p : Program) → IsChecked p → IsSequential (term_of p.arena)
-checked_sequential p h = h.checkable.sequential
-
-root_typed : (p : Program) → IsChecked p → IsTypedIn p (root_of p.arena) []
-root_typed p h = record {
+root_typed : (p : Program) → IsChecked p → IsSequential (term_of p.arena) → IsTypedIn p (root_of p.arena) []
+root_typed p h sequential = record {
   ready = record {
     here = omega (arith, h.checkable.tree.some, length_meanings p.arena);
     sort = h.checkable.tree.sort;
-    sequential = checked_sequential p h;
+    sequential = sequential;
     own = h.checkable.tree.own;
   };
   kind = h.typed.kind;
@@ -210,12 +206,12 @@ root_typed p h = record {
 }
 
 -- the last form's term is the program
-pub root_built : (p : Program) (fs : List Form) (cs : List ℕ) → IsChecked p → IsBuilt p fs cs → length fs ≡ length (meanings p.arena) → pool.root_of fs ≡ program (term_of p.arena)
-root_built p fs cs h b all =
+pub root_built : (p : Program) (fs : List Form) (cs : List ℕ) → IsChecked p → IsSequential (term_of p.arena) → IsBuilt p fs cs → length fs ≡ length (meanings p.arena) → pool.root_of fs ≡ program (term_of p.arena)
+root_built p fs cs h sequential b all =
     let long = length_meanings p.arena in
     let at : length fs - 1 ≡ root_of p.arena = omega (arith, all, long) in
     let lt : root_of p.arena < length fs = omega (arith, all, long, h.checkable.tree.some) in
-    ap (forms.term_of fs) at ∙ b.runs (root_of p.arena) lt [] (root_typed p h)
+    ap (forms.term_of fs) at ∙ b.runs (root_of p.arena) lt [] (root_typed p h sequential)
 
 -- HOW DEEP
 

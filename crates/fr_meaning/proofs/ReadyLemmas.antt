@@ -10,7 +10,7 @@ use Rattle.fr_syntax.specs.declared.tree.Node.{Node}
 use Rattle.fr_syntax.specs.Arena.{Arena, text_of}
 use Rattle.fr_syntax.specs.NodeList.{NodeList}
 use Rattle.fr_syntax.specs.Meanings.{a_term, Sort, meaning_at, term_at, place_at, items_at, stands_for, term_s, place_s, need, all_need, needs, nodes_in, meanings, AreBelow, AreDifferent}
-use Rattle.borrow_check.specs.Nodes.{IsReady, AreReady}
+use Rattle.fr_meaning.specs.Ready.{IsReady, AreReady}
 use Rattle.borrow_check.proofs.UsageLemmas.{different_front, different_back}
 use Rattle.borrow_check.proofs.TermLemmas.{IsHere, term_here}
 

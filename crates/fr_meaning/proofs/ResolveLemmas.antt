@@ -30,7 +30,7 @@ use Rattle.fr_meaning.specs.declared.forms.Form.{Form}
 use Rattle.fr_meaning.specs.declared.forms.Form.TheVariants as form
 use Rattle.fr_meaning.specs.FormTerms as forms
 use Rattle.fr_meaning.specs.FormTerms.{parts_from, parts_of, build}
-use Rattle.borrow_check.specs.Nodes.{IsReady, AreReady}
+use Rattle.fr_meaning.specs.Ready.{IsReady, AreReady}
 use Rattle.borrow_check.specs.Usages.{env_after, is_taken, usage_of, read_usage, usages_of, usages_in, AreUsed}
 use Rattle.borrow_check.specs.Programs.{Program, usage_at, is_taking, lval_of, takes_of}
 use Rattle.borrow_check.specs.Programs as programs

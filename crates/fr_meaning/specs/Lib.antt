@@ -1,3 +1,4 @@
+pub mod Ready
 pub mod SlotOrder
 pub mod FormTerms
 pub mod DoneTerms

@@ -10,7 +10,7 @@ use Rattle.fr_plain.specs.Run.{Run}
 use Rattle.fr_plain.specs.Resolve.{resolve, lets_in}
 use Rattle.fr_meaning.specs.declared.forms.Form.{Form}
 use Rattle.fr_meaning.specs.FormTerms.{term_of, AreInOrder}
-use Rattle.borrow_check.specs.Nodes.{IsReady}
+use Rattle.fr_meaning.specs.Ready.{IsReady}
 use Rattle.borrow_check.specs.Usages.{usages_of, AreUsed}
 use Rattle.borrow_check.specs.Programs.{Program}
 use Rattle.fr_meaning.specs.Forming.{clipped, count_at}

@@ -1,6 +1,7 @@
 //! The forms of a checked program's nodes.
 
 ghost use Rattle.std.specs.Prelude.{◌≡◌, ◌<◌, ◌≤◌, length, IfOk};
+ghost use Rattle.fr_typing.specs.Sequential.{IsSequential};
 ghost use Rattle.fr_syntax.specs.Meanings.{meanings, meaning_at, needs, sort_of, term_of, place_s, AreBelow};
 ghost use Rattle.fr_plain.specs.Resolve.{program};
 ghost use Rattle.fr_plain.specs.Whole.{start};
@@ -106,6 +107,7 @@ fn form_of(
 
 /// The forms of a program, one for each node.
 pub fn forms_of(alloc: Global, checked: &Checked) -> Result<Vec<Form>, NoMemory>
+    requires sequential { IsSequential (term_of checked.now.arena) }
     ensures order { IfOk result (λ forms. AreInOrder forms.items) }
     ensures some { IfOk result (λ forms. 0 < length forms.items) }
     ensures root { IfOk result (λ forms. root_run forms.items ≡ program (term_of checked.now.arena)) }

@@ -2,6 +2,7 @@
 
 ghost use Rattle.std.specs.Prelude.{◌≡◌, ◌<◌, ◌≤◌, ◌+◌, ◌-◌, ◌==◌, [], length, Option, Some, None, IsSome, IfOk, IfErr, OnOk, OnErr};
 ghost use Rattle.fr_base.specs.declared.step.Fresh.TheVariants as fresh_;
+ghost use Rattle.fr_typing.specs.Sequential.{IsSequential};
 ghost use Rattle.fr_syntax.specs.Meanings.{term_of};
 ghost use Rattle.fr_plain.specs.Whole.{start, step, ending_of};
 ghost use Rattle.fr_plain.specs.Resolve.{program};
@@ -65,8 +66,9 @@ fn focus_in(entered: Entered) -> Focus
 
 impl Pool {
     /// The main thread at the start of a checked program's term, alone over an empty heap. Takes time in the program's
-    /// nodes.
+    /// nodes. The forms of several threads don't run yet.
     pub fn new(alloc: Global, checked: &Checked) -> Result<Pool, NoMemory>
+        requires sequential { IsSequential (term_of checked.now.arena) }
         ensures { IfOk result (λ p. whole_of p ≡ start (program (term_of checked.now.arena))) }
     {
         let forms = forms_of(alloc, checked)?;

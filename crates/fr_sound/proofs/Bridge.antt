@@ -20,7 +20,7 @@ use Rattle.fr_store.proofs.Below.{or_false}
 use Rattle.fr_plain.specs.declared.value.Value.{Value}
 use Rattle.fr_plain.specs.Run.{Capture, Run, unit_c, read, borrow, arith, assign, block, last as last_p, more, Now, now}
 use Rattle.fr_plain.specs.Resolve.{env_of, env_after, named, moves, found_moves, or_zero, lets_in, lets, before, env_left, env_new, env_of_all, captures, resolve, resolve_items}
-use Rattle.fr_sound.specs.Threaded.{IsThreaded, AreThreaded}
+use Rattle.fr_typing.specs.Threaded.{IsThreaded, AreThreaded}
 use Rattle.fr_sound.specs.RunTypes.{Forms, one_thread, threads, RunCaptures, c_none, c_copy, c_move, t_spawn, t_join, Assigns, to_own, to_lent, to_variable, IsNumber, o_int, Falls, f_none, f_one, RunTypes, t_unit, t_number, t_copy, t_move, t_borrow, t_borrow_mut, t_box, t_left, t_right, t_let, t_print, t_assign, t_block, PartsTypes, p_last, p_more}
 use Rattle.fr_sound.proofs.DoneTerms.{Done, d_going, d_constant, done}
 

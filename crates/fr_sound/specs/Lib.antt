@@ -1,4 +1,3 @@
-pub mod Threaded
 pub mod RunTypes
 pub mod Seen
 pub mod NeverStuck

@@ -19,7 +19,7 @@ use Rattle.fr_plain.specs.Run.{Run, Life, alive, over, owing, loose, ended}
 use Rattle.fr_plain.specs.Threads.{result_of_life}
 use Rattle.fr_plain.specs.Whole.{Thread, Whole, Stepped, thread_at, is_over, waits_for, step, refused, start}
 use Rattle.fr_plain.specs.Resolve.{program}
-use Rattle.fr_sound.specs.Threaded.{IsThreaded}
+use Rattle.fr_typing.specs.Threaded.{IsThreaded}
 use Rattle.fr_sound.specs.RunTypes.{threads, RunTypes, held}
 use Rattle.fr_sound.specs.Seen.{Gives, vals, hand_of, heap_of, rank_of, IsKnown, AreKnown}
 

@@ -5,3 +5,4 @@ pub mod Outcomes
 pub mod OwnedLemmas
 pub mod PlaceLemmas
 pub mod Sequential
+pub mod Threaded

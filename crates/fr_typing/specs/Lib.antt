@@ -11,3 +11,4 @@ pub mod Examples
 pub mod BorrowExamples
 pub mod ThreadExamples
 pub mod Sequential
+pub mod Threaded

@@ -1,15 +1,15 @@
-use Rattle.std.proofs.Common.{◌<◌, ◌+◌, drop, sym, ap, ◌∙◌, subst, arith}
+use Rattle.std.proofs.Common.{◌<◌, ◌+◌, length, drop, sym, ap, ◌∙◌, subst, arith}
 use Rattle.std.proofs.lemmas.List.{drop_all}
 use Rattle.std.proofs.lemmas.Result.{err_from_is_err_and}
-use Rattle.fr_syntax.specs.Meanings.{meanings, meaning_at, term_at, needs, AreBelow}
+use Rattle.fr_syntax.specs.Meanings.{meanings, meaning_at, term_at, captures_at, needs, capture_s, all_need, nodes_in, AreBelow}
 use Rattle.fr_types.specs.declared.types.Ty.{Ty}
 use Rattle.fr_types.specs.Types.{kind_of}
 use Rattle.fr_types.specs.States.{env_of}
-use Rattle.borrow_check.specs.Usages.{usages_of}
+use Rattle.borrow_check.specs.Usages.{capture_usages, usages_of}
 use Rattle.borrow_check.proofs.UsageLemmas.{written_long}
 use Rattle.borrow_check.proofs.RuleLemmas.{on_ok_map}
 use Rattle.borrow_check.proofs.TermLemmas.{IsAlong, along_few, along_step, along_written, along_fails, first_ready, next_first}
-use Rattle.borrow_check.proofs.CheckLemmas.{on_ok, on_ok_both, here_by, at_inside, box_part, print_part, let_part, assign_part, block_parts, block_count, arith_parts, arith_gives, operands_used, arith_used, box_used, print_used, let_used, block_used, assign_used_at}
+use Rattle.borrow_check.proofs.CheckLemmas.{on_ok, on_ok_both, here_by, at_inside, box_part, print_part, join_part, let_part, assign_part, spawn_parts, spawn_gives, thread_used, spawn_used, join_used, block_parts, block_count, arith_parts, arith_gives, operands_used, arith_used, box_used, print_used, let_used, block_used, assign_used_at}
 use Rattle.borrow_check.proofs.checker.+check.Goals as goal
 
 pub check_term-check_term-requires : goal.check_term-check_term-requires
@@ -35,6 +35,60 @@ check_term-check_term-requires-in-Assign t c =
     let h = here_by c.args.tree.now c.args.at c.in-Some.node.now c.in-Some.ensures.what c.in-Some.ensures.nodes c.in-Some.ensures.parts in
     let part = assign_part c.args.tree.now c.args.at c.in-Assign.to c.in-Assign.value c.in-Some.node.now h c.in-Assign.is c.requires.ready in
     (omega (arith, c.decreases, part.before), (part.ready, (c.requires.scope, (c.requires.usages, omega (arith, c.requires.few, part.count)))))
+
+pub check_term-check_term-requires-in-Join : goal.check_term-check_term-requires-in-Join
+check_term-check_term-requires-in-Join t c =
+    let h = here_by c.args.tree.now c.args.at c.in-Some.node.now c.in-Some.ensures.what c.in-Some.ensures.nodes c.in-Some.ensures.parts in
+    let part = join_part c.args.tree.now c.args.at c.in-Join.task c.in-Some.node.now h c.in-Join.is c.requires.ready in
+    (omega (arith, c.decreases, part.before), (part.ready, (c.requires.scope, (c.requires.usages, omega (arith, c.requires.few, part.count)))))
+
+pub check_term-check_spawn-requires : goal.check_term-check_spawn-requires
+check_term-check_spawn-requires t c =
+    let h = here_by c.args.tree.now c.args.at c.in-Some.node.now c.in-Some.ensures.what c.in-Some.ensures.nodes c.in-Some.ensures.parts in
+    let parts = spawn_parts c.args.tree.now c.args.at c.in-Spawn.captures c.in-Spawn.body c.in-Some.node.now h c.in-Spawn.is c.requires.ready in
+    (omega (arith, c.decreases), (parts.before, (parts.names, (parts.ready, (c.requires.scope, (c.requires.usages, omega (arith, c.requires.few, parts.count)))))))
+
+pub check_term-returns-in-Spawn-clause-gives : goal.check_term-returns-in-Spawn-clause-gives
+check_term-returns-in-Spawn-clause-gives t c =
+    let h = here_by c.args.tree.now c.args.at c.in-Some.node.now c.in-Some.ensures.what c.in-Some.ensures.nodes c.in-Some.ensures.parts in
+    spawn_gives c.args.tree.now c.args.at c.in-Spawn.captures c.in-Spawn.body c.in-Some.node.now (env_of c.args.tree.now.names c.args.env.now) (env_of c.args.tree.now.names c.check_spawn.new.env) c.check_spawn.result h c.in-Spawn.is c.check_spawn.ensures.gives
+
+pub check_term-returns-in-Spawn-clause-usages : goal.check_term-returns-in-Spawn-clause-usages
+check_term-returns-in-Spawn-clause-usages t c =
+    let h = here_by c.args.tree.now c.args.at c.in-Some.node.now c.in-Some.ensures.what c.in-Some.ensures.nodes c.in-Some.ensures.parts in
+    on_ok_map _ _ c.check_spawn.result
+    (spawn_used c.args.tree.now c.args.at c.in-Spawn.captures c.in-Spawn.body c.in-Some.node.now (env_of c.args.tree.now.names c.args.env.now) c.args.usages.now.items c.check_spawn.new.usages.items h c.in-Spawn.is
+    (at_inside c.args.tree.now c.args.at c.args.usages.now.items c.requires.ready c.requires.usages)) c.check_spawn.ensures.usages
+
+pub check_spawn-check_term-requires : goal.check_spawn-check_term-requires
+check_spawn-check_term-requires t c = (
+  omega (arith, c.decreases, c.requires.body),
+  (
+    c.requires.ready,
+    (
+      c.in_ok-capture_all.ensures.new_scope,
+      (
+        written_long c.args.usages.now.items c.capture_all.new.usages.items (nodes_in (meanings c.args.tree.now) (all_need capture_s c.args.captures.now.items)) (capture_usages (env_of c.args.tree.now.names c.args.env.now) (env_of c.args.tree.now.names c.new-new.result) (captures_at (meanings c.args.tree.now) c.args.captures.now.items)) c.in_ok-capture_all.ensures.usages ∙ c.requires.usages,
+        omega (arith, c.requires.few, c.in_ok-capture_all.ensures.few, ap length c.new-new.ensures),
+      ),
+    ),
+  ),
+)
+
+pub check_spawn-returns-clause-usages : goal.check_spawn-returns-clause-usages
+check_spawn-returns-clause-usages t c =
+    let names = c.args.tree.now.names in
+    let ms = meanings c.args.tree.now in
+    on_ok _ c.in_task.result
+    (thread_used names c.new-new.result (env_of names c.args.env.now) (env_of names c.capture_all.new.env) (env_of names c.capture_all.new.new) (captures_at ms c.args.captures.now.items) (term_at ms c.args.body) c.args.usages.now.items c.capture_all.new.usages.items c.check_term.new.usages.items
+    (nodes_in ms (all_need capture_s c.args.captures.now.items)) (meaning_at ms c.args.body).nodes c.new-new.ensures c.in_ok-capture_all.ensures.goes_on c.in_ok-capture_all.ensures.usages c.in_ok-t.ensures.usages)
+
+pub check_term-returns-in_ok-t-in-Join-clause-usages : goal.check_term-returns-in_ok-t-in-Join-clause-usages
+check_term-returns-in_ok-t-in-Join-clause-usages t c =
+    let h = here_by c.args.tree.now c.args.at c.in-Some.node.now c.in-Some.ensures.what c.in-Some.ensures.nodes c.in-Some.ensures.parts in
+    on_ok _ c.joined.result
+    (join_used c.args.tree.now c.args.at c.in-Join.task c.in-Some.node.now (env_of c.args.tree.now.names c.args.env.now) c.args.usages.now.items c.check_term-in-Join.new.usages.items h c.in-Join.is
+    (at_inside c.args.tree.now c.args.at c.args.usages.now.items c.requires.ready c.requires.usages) c.in_ok-t-in-Join.ensures.usages)
 
 pub check_term-check_items-requires : goal.check_term-check_items-requires
 check_term-check_items-requires t c =

@@ -9,6 +9,9 @@ decreases-check_term l = 2 * l.at + 1
 abbrev pub decreases-check_arith : goal.decreases-check_arith
 decreases-check_arith l = 2 * l.bound
 
+abbrev pub decreases-check_spawn : goal.decreases-check_spawn
+decreases-check_spawn l = 2 * l.bound
+
 abbrev pub decreases-check_items : goal.decreases-check_items
 decreases-check_items l = 2 * l.bound
 

@@ -1,4 +1,5 @@
 use Rattle.std.proofs.Common.{sym, ◌∙◌}
+use Rattle.fr_typing.proofs.Threaded.{sequential_threaded}
 use Rattle.fr_syntax.specs.Meanings.{term_of}
 use Rattle.drust_main.proofs.Checkable.{checkable}
 use Rattle.drust_main.proofs.FormLemmas.{accepted_by}
@@ -8,7 +9,8 @@ pub returns-in-Err-clause-refused : goal.returns-in-Err-clause-refused
 returns-in-Err-clause-refused c = c.refused_tokens.ensures c.args.bytes.now c.in-Err.ensures.err
 
 pub check-requires : goal.check-requires
-check-requires c = checkable c.args.bytes.now c.in-Ok.tokens.items c.in-Ok.tokens.names c.in-Ok-parse.tree c.in-Ok.ensures.ok c.in-Ok-parse.ensures.spelled (sym c.later_form.ensures ∙ c.in_default.is) c.in-Ok-parse.ensures.names c.in-Ok-parse.ensures.tree
+check-requires c = checkable c.args.bytes.now c.in-Ok.tokens.items c.in-Ok.tokens.names c.in-Ok-parse.tree c.in-Ok.ensures.ok c.in-Ok-parse.ensures.spelled
+    (sequential_threaded (term_of c.in-Ok-parse.tree) (accepted_by (term_of c.in-Ok-parse.tree) (sym c.later_form.ensures ∙ c.in_default.is))) c.in-Ok-parse.ensures.names c.in-Ok-parse.ensures.tree
 
 pub returns-clause-refused : goal.returns-clause-refused
 returns-clause-refused c =
