@@ -1,0 +1,5 @@
+pub mod Finished
+pub mod Following
+pub mod Settling
+pub mod Threads
+pub mod Wholes

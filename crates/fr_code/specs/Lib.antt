@@ -1,0 +1,4 @@
+pub mod Steps
+pub mod StandsFor
+pub mod Machine
+pub mod Laws
