@@ -3,3 +3,4 @@ pub mod Following
 pub mod Settling
 pub mod Threads
 pub mod Wholes
+pub mod Codes

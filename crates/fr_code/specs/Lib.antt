@@ -2,3 +2,4 @@ pub mod Steps
 pub mod StandsFor
 pub mod Machine
 pub mod Laws
+pub mod Examples

@@ -1,5 +1,6 @@
 //! Laws of compiled code.
 
+ghost use Rattle.fr_code.specs.Examples.{CodesCompute};
 ghost use Rattle.fr_code.specs.Laws.{MovesAlike, RunsAlike, SettlingStands, StartsAlike, StepsAlike};
 
 /// A state of the code and the state of the plain machine that it stands for take the same steps, with the same labels, and
@@ -14,4 +15,9 @@ pub fn steps_alike()
 pub fn runs_alike()
     ensures starts { StartsAlike }
     ensures runs { RunsAlike }
+{}
+
+/// The codes of some small programs.
+pub fn codes_compute()
+    ensures { CodesCompute }
 {}

@@ -4,4 +4,4 @@
 
 mod laws;
 
-pub use laws::{runs_alike, steps_alike};
+pub use laws::{codes_compute, runs_alike, steps_alike};
