@@ -4,3 +4,4 @@ pub mod Settling
 pub mod Threads
 pub mod Wholes
 pub mod Codes
+pub mod Typed

@@ -16,6 +16,10 @@ use Rattle.fr_code.proofs.Finished.{OperandNow, operand_now, Finished, finished}
 use Rattle.fr_code.proofs.Following.{StandsIn, Match, Same, fetch, Takes, follows}
 use Rattle.fr_code.proofs.Settling.{settling_stands}
 
+-- the instruction at the end of a thread, whose term is done with that value
+pub end_move : (code : List Instr) (p : ℕ) (us : List Value) (r : Run) (v : Value) → (h : Stands code p us r) → ((go : Value → List Value → Option CodeMove) → with_operand (operand_of r) (temps_in r []) go ≡ go v []) → h.to ≡ p → code_move code p us ≡ quiet p [] (stops v)
+end_move code p us r v h take e = fetch code (instr.End (operand_of r)) h.to p us h.over e ∙ ap (λ z. with_operand (operand_of r) z (λ w vs. quiet p vs (stops w))) h.temps ∙ take (λ w vs. quiet p vs (stops w))
+
 module _ (code : List Instr) (place : ℕ → List Value → CodeLife) (end : Value → Act) (after : Value → CodeLife) where
   -- an act of a term isn't the thread's end
   goes : {a : Act} {b : CodeAct} → SameAct code a b → (c : CodeMove) → goes_on place end after c b ≡ record { act = b; next = λ v. place (c.at v) (c.temps v) }
@@ -42,13 +46,10 @@ module _ (code : List Instr) (place : ℕ → List Value → CodeLife) (end : Va
       moves : (p : ℕ) (us : List Value) (r : Run) → Stands code p us r → SameMoves code (on_value (now r) (λ v. alone stop (end v)) (next lives (move r))) (moves_on place end after (code_move code p us))
       moves p us r h = by (now r) refl (operand_now code r) (finished code r p h.to [] h.at)
         where
-          last_move : (v : Value) → ((go : Value → List Value → Option CodeMove) → with_operand (operand_of r) (temps_in r []) go ≡ go v []) → h.to ≡ p → code_move code p us ≡ quiet p [] (stops v)
-          last_move v take e = fetch code (instr.End (operand_of r)) h.to p us h.over e ∙ ap (λ z. with_operand (operand_of r) z (λ w vs. quiet p vs (stops w))) h.temps ∙ take (λ w vs. quiet p vs (stops w))
-
           by : (n : Now) → now r ≡ n → OperandNow code n (operand_of r) → Finished code n (temps_in r []) [] p h.to → SameMoves code (on_value n (λ v. alone stop (end v)) (next lives (move r))) (moves_on place end after (code_move code p us))
           by going e o f = inside h.to (operand_of r) h.over (move r) (code_move code p us) (subst (λ z. Same code (StandsIn code h.to [] (operand_of r)) (move r) (code_move code p z)) (sym h.temps) (follows code r p h.to [] e h.at))
-          by (constant v) e o f = ended_moves v p [] (code_move code p us) (last_move v (λ go. o.0 (temps_in r []) go ∙ ap (go v) f.0) f.1)
-          by (temporary v) e o f = ended_moves v p [] (code_move code p us) (last_move v (λ go. ap (λ z. with_operand z (temps_in r []) go) o ∙ ap (λ z. with_operand operand.Pop z go) f.0) f.1)
+          by (constant v) e o f = ended_moves v p [] (code_move code p us) (end_move code p us r v h (λ go. o.0 (temps_in r []) go ∙ ap (go v) f.0) f.1)
+          by (temporary v) e o f = ended_moves v p [] (code_move code p us) (end_move code p us r v h (λ go. ap (λ z. with_operand z (temps_in r []) go) o ∙ ap (λ z. with_operand operand.Pop z go) f.0) f.1)
 
 -- a thread and its code make the same move
 pub moves_alike : MovesAlike

@@ -3,3 +3,4 @@ pub mod StandsFor
 pub mod Machine
 pub mod Laws
 pub mod Examples
+pub mod TypedCode
