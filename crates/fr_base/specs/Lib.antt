@@ -1,1 +1,5 @@
 pub mod Labels
+pub mod Captures
+pub mod Code
+pub mod Waits
+pub mod Kinds

@@ -1,15 +1,32 @@
-//! Names that every layer speaks of: threads, mutexes and objects, places, plain values, labels of steps.
+//! Names that every layer speaks of: threads, mutexes and objects, places, plain values, labels of steps, instructions, kinds
+//! of messages, and what a run is asked to be like.
 //! No call here has a refusal but want of memory, and a number's parts are what it was made of.
 #![tactic(auto)]
 
+mod captured;
+mod instruction;
+mod instructions;
 mod label;
 mod memory;
+mod message;
 mod name;
 mod place;
+mod release;
+mod settings;
 mod step;
+#[cfg(test)]
+mod tests;
+mod waiting;
 
+pub use captured::Captures;
+pub use instruction::{Instr, Operand};
+pub use instructions::Code;
 pub use label::{Label, Labels, Plain};
 pub use memory::NoMemory;
+pub use message::Kind;
 pub use name::{MutexNo, ObjNo, ThreadNo};
 pub use place::{Lval, Op};
-pub use step::{Ending3, Fresh, Wait};
+pub use release::Released;
+pub use settings::Options;
+pub use step::{Ending, Ending3, Fresh, Wait};
+pub use waiting::Waits;

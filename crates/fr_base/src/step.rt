@@ -26,3 +26,11 @@ pub enum Ending3 {
     Deadlocked,
     Going,
 }
+
+/// How a run ended: all threads have ended, none can step, or it was not run to an end.
+#[derive(Clone, Copy, Debug, PartialEq, Eq)]
+pub enum Ending {
+    Finished,
+    Deadlocked,
+    Unfinished,
+}

@@ -166,7 +166,7 @@ act_silent : (a : Act) (s : State) → IsSilent a → Silent (act a s)
 act_silent (do_let v) s h = refl
 act_silent (do_read w take) s h = reached_silent (locate s w) (λ r. read_did s take r (value_at s r.spot)) (stars_silent s w.slot w.depth) (λ r g. read_silent s take r (value_at s r.spot) g)
 act_silent (do_assign w v) s h = reached_silent (locate s w) (λ r. assign_did s v r (value_at s r.spot)) (stars_silent s w.slot w.depth) (λ r g. assign_silent s v r (value_at s r.spot) g)
-act_silent (do_borrow w) s h = reached_silent (locate s w) (borrow_did s) (stars_silent s w.slot w.depth) (λ r g. g)
+act_silent (do_borrow w is_mut) s h = reached_silent (locate s w) (borrow_did s) (stars_silent s w.slot w.depth) (λ r g. g)
 act_silent (do_box v) s h = box_silent s v
 act_silent (do_arith f a b) s h = arith_silent s f a b
 act_silent (do_print v) s h = absurd h

@@ -1,5 +1,5 @@
 -- Forms that are made one after another, and the one of the tree's term.
-use Rattle.std.proofs.Common.{◌≡◌, ℕ, zero, suc, ◌+◌, ◌-◌, ◌<◌, ◌≤◌, List, [], ◌∷◌, ◌++◌, length, refl, sym, ap, ◌∙◌, subst, arith, length-append}
+use Rattle.std.proofs.Common.{◌≡◌, ℕ, zero, suc, ◌+◌, ◌-◌, ◌<◌, ◌≤◌, true, false, List, [], ◌∷◌, ◌++◌, length, refl, sym, ap, ◌∙◌, subst, arith, length-append}
 use Rattle.std.specs.Prelude.{max, if◌then◌else◌}
 use Rattle.fr_terms.specs.Terms.{Text, block_t, let_t, assign_t, read_t, borrow_t, borrow_mut_t, number_t, unit_t, box_t, print_t, arith_t, join_t, mutex_t, dup_t, lock_t, spawn_t, par_t, Items, none, item}
 use Rattle.fr_terms.specs.Terms as terms
@@ -82,7 +82,7 @@ block_counted cs items (form.Block is k) h = refl
 block_counted cs items (form.Number n) h = absurd h
 block_counted cs items form.Unit h = absurd h
 block_counted cs items (form.Read w t) h = absurd h
-block_counted cs items (form.Borrow w) h = absurd h
+block_counted cs items (form.Borrow w is_mut) h = absurd h
 block_counted cs items (form.Arith op l r) h = absurd h
 block_counted cs items (form.Box v) h = absurd h
 block_counted cs items (form.Let v) h = absurd h
@@ -105,8 +105,8 @@ made_counted : (p : Program) (cs : List ℕ) (at : ℕ) (n : Node) (f : Form) �
 made_counted p cs at n f h c same made (Number v) is ok = none_counted p cs at n (Number v) (number_t n.place v) f (form.Number v) h is refl (made_is p cs at n (Number v) f is made) refl refl
 made_counted p cs at n f h c same made Unit is ok = none_counted p cs at n Unit (unit_t n.place) f form.Unit h is refl (made_is p cs at n Unit f is made) refl refl
 made_counted p cs at n f h c same made (Read from) is ok = none_counted p cs at n (Read from) (read_t n.place (place_at (meanings p.arena) from)) f (form.Read (place_in p from) (takes_of p at)) h is refl (made_is p cs at n (Read from) f is made) refl refl
-made_counted p cs at n f h c same made (Borrow of) is ok = none_counted p cs at n (Borrow of) (borrow_t n.place (place_at (meanings p.arena) of)) f (form.Borrow (place_in p of)) h is refl (made_is p cs at n (Borrow of) f is made) refl refl
-made_counted p cs at n f h c same made (BorrowMut of) is ok = none_counted p cs at n (BorrowMut of) (borrow_mut_t n.place (place_at (meanings p.arena) of)) f (form.Borrow (place_in p of)) h is refl (made_is p cs at n (BorrowMut of) f is made) refl refl
+made_counted p cs at n f h c same made (Borrow of) is ok = none_counted p cs at n (Borrow of) (borrow_t n.place (place_at (meanings p.arena) of)) f (form.Borrow (place_in p of) false) h is refl (made_is p cs at n (Borrow of) f is made) refl refl
+made_counted p cs at n f h c same made (BorrowMut of) is ok = none_counted p cs at n (BorrowMut of) (borrow_mut_t n.place (place_at (meanings p.arena) of)) f (form.Borrow (place_in p of) true) h is refl (made_is p cs at n (BorrowMut of) f is made) refl refl
 made_counted p cs at n f h c same made (Box v) is ok =
     let t = box_t n.place (term_at (meanings p.arena) v) in
     let part : IsSequential (term_at (meanings p.arena) v) = sequential_here p at n (Box v) t h is refl ok in

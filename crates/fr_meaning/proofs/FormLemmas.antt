@@ -32,7 +32,7 @@ build_same : (n : ℕ) (a b : ℕ → Run) (m : Form) → Same n a b → NamesBe
 build_same n a b (form.Number x) s h = refl
 build_same n a b form.Unit s h = refl
 build_same n a b (form.Read w take) s h = refl
-build_same n a b (form.Borrow w) s h = refl
+build_same n a b (form.Borrow w is_mut) s h = refl
 build_same n a b (form.Box t) s h = ap box_r (s t h)
 build_same n a b (form.Let t) s h = ap bind (s t h)
 build_same n a b (form.Print t) s h = ap print (s t h)
@@ -70,7 +70,7 @@ NamesBelow-weaker : (m n : ℕ) (k : Form) → m ≤ n → NamesBelow m k → Na
 NamesBelow-weaker m n (form.Number x) le h = h
 NamesBelow-weaker m n form.Unit le h = h
 NamesBelow-weaker m n (form.Read w take) le h = h
-NamesBelow-weaker m n (form.Borrow w) le h = h
+NamesBelow-weaker m n (form.Borrow w is_mut) le h = h
 NamesBelow-weaker m n (form.Box t) le h = omega arith
 NamesBelow-weaker m n (form.Let t) le h = omega arith
 NamesBelow-weaker m n (form.Print t) le h = omega arith
@@ -152,7 +152,7 @@ item_below ns at is k a lt e h = by (get_or ns at form.Unit) refl
     all (form.Number x) q = tt
     all form.Unit q = tt
     all (form.Read w take) q = tt
-    all (form.Borrow w) q = tt
+    all (form.Borrow w is_mut) q = tt
     all (form.Box x) q = tt
     all (form.Let x) q = tt
     all (form.Print x) q = tt

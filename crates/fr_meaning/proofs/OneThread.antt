@@ -32,7 +32,7 @@ abbrev mutual
   IsLone unit_c = ⊤
   IsLone (number n) = ⊤
   IsLone (read w take) = ⊤
-  IsLone (borrow w) = ⊤
+  IsLone (borrow w is_mut) = ⊤
   IsLone (box_r r) = IsLone r
   IsLone (arith f a b) = IsLone a × IsLone b
   IsLone (bind r) = IsLone r
@@ -61,7 +61,7 @@ build_lone : (look : ℕ → Run) (f : Form) → ((j : ℕ) → IsLone (look j))
 build_lone look (form.Number n) h = tt
 build_lone look form.Unit h = tt
 build_lone look (form.Read w take) h = tt
-build_lone look (form.Borrow w) h = tt
+build_lone look (form.Borrow w is_mut) h = tt
 build_lone look (form.Box value) h = h value
 build_lone look (form.Let value) h = h value
 build_lone look (form.Print value) h = h value
@@ -112,7 +112,7 @@ wrapped_lone fs (g ∷ gs) r h = around_lone fs g (wrapped fs gs r) (wrapped_lon
 focus_lone : (f : Focus) → IsLone (focus_run f)
 focus_lone (focus.Over d) = over_lone d
 focus_lone (focus.Read w take) = tt
-focus_lone (focus.Borrow w) = tt
+focus_lone (focus.Borrow w is_mut) = tt
 
 -- a pool's running term starts and joins no thread
 pub pool_lone : (v : View) → IsLone (run_of v)
@@ -161,7 +161,7 @@ mutual
   move_owns unit_c h = tt
   move_owns (number n) h = tt
   move_owns (read w take) h = tt
-  move_owns (borrow w) h = tt
+  move_owns (borrow w is_mut) h = tt
   move_owns (box_r r) h = on_value_owns (now r) (λ v. alone temp (do_box v)) (next box_r (move r)) (λ v. tt) (next_owns box_r (move r) (move_owns r h))
   move_owns (arith f a b) h =
       on_value_owns (now a) (λ v. on_value (now b) (λ w. alone temp (do_arith f v w)) (next (arith f a) (move b))) (next (λ x. arith f x b) (move a))
@@ -196,7 +196,7 @@ main_owns v = by v.ended
 pub own_done : (s : Whole) (t : Thread) (m : Move Life) (a : Act) → IsOwn a → done_act s t fresh.None m a ≡ alone_stepped s t m a
 own_done s t m (do_let v) h = refl
 own_done s t m (do_read w take) h = refl
-own_done s t m (do_borrow w) h = refl
+own_done s t m (do_borrow w is_mut) h = refl
 own_done s t m (do_assign w v) h = refl
 own_done s t m (do_box v) h = refl
 own_done s t m (do_arith f a b) h = refl
@@ -213,7 +213,7 @@ own_done s t m (do_join v) h = absurd h
 act_free : (s : Whole) (a : Act) → IsOwn a → (act_waits s a ≡ None) × (starts_thread a ≡ false)
 act_free s (do_let v) h = (refl, refl)
 act_free s (do_read w take) h = (refl, refl)
-act_free s (do_borrow w) h = (refl, refl)
+act_free s (do_borrow w is_mut) h = (refl, refl)
 act_free s (do_assign w v) h = (refl, refl)
 act_free s (do_box v) h = (refl, refl)
 act_free s (do_arith f a b) h = (refl, refl)

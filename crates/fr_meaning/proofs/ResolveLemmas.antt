@@ -563,7 +563,7 @@ block_run p at counts look items n e (form.Block is k) arena h at_n w c same run
 block_run p at counts look items n e (form.Number v) arena h at_n w c same runs made = absurd made
 block_run p at counts look items n e form.Unit arena h at_n w c same runs made = absurd made
 block_run p at counts look items n e (form.Read x t) arena h at_n w c same runs made = absurd made
-block_run p at counts look items n e (form.Borrow x) arena h at_n w c same runs made = absurd made
+block_run p at counts look items n e (form.Borrow x is_mut) arena h at_n w c same runs made = absurd made
 block_run p at counts look items n e (form.Arith op l r) arena h at_n w c same runs made = absurd made
 block_run p at counts look items n e (form.Box v) arena h at_n w c same runs made = absurd made
 block_run p at counts look items n e (form.Let v) arena h at_n w c same runs made = absurd made
@@ -601,14 +601,14 @@ run_row p at counts look n e f arena h w c same runs made (a_borrow of is) =
     let spot = place_at (meanings p.arena) of in
     let parts = subst (AreBelow (meanings p.arena) at) (ap needs is) h.parts in
     let used = lent_place p at of n (Borrow of) (borrow_t n.place spot) e arena h is refl refl refl w in
-    resolved p at n (Borrow of) (borrow_t n.place spot) e (build look f) (borrow (named e spot)) h is refl
-    (ap (build look) (made_is p counts at n (Borrow of) f is made) ∙ ap borrow (place_named p of e false parts.1 used)) refl
+    resolved p at n (Borrow of) (borrow_t n.place spot) e (build look f) (borrow (named e spot) false) h is refl
+    (ap (build look) (made_is p counts at n (Borrow of) f is made) ∙ ap (λ z. borrow z false) (place_named p of e false parts.1 used)) refl
 run_row p at counts look n e f arena h w c same runs made (a_borrow_mut of is) =
     let spot = place_at (meanings p.arena) of in
     let parts = subst (AreBelow (meanings p.arena) at) (ap needs is) h.parts in
     let used = lent_place p at of n (BorrowMut of) (borrow_mut_t n.place spot) e arena h is refl refl refl w in
-    resolved p at n (BorrowMut of) (borrow_mut_t n.place spot) e (build look f) (borrow (named e spot)) h is refl
-    (ap (build look) (made_is p counts at n (BorrowMut of) f is made) ∙ ap borrow (place_named p of e false parts.1 used)) refl
+    resolved p at n (BorrowMut of) (borrow_mut_t n.place spot) e (build look f) (borrow (named e spot) true) h is refl
+    (ap (build look) (made_is p counts at n (BorrowMut of) f is made) ∙ ap (λ z. borrow z true) (place_named p of e false parts.1 used)) refl
 run_row p at counts look n e f arena h w c same runs made (an_arith op left right is) =
     let t = term_at (meanings p.arena) left in
     let u = term_at (meanings p.arena) right in

@@ -38,7 +38,7 @@ mutual
   settle_settled unit_c = tt
   settle_settled (number n) = tt
   settle_settled (read w take) = tt
-  settle_settled (borrow w) = tt
+  settle_settled (borrow w is_mut) = tt
   settle_settled (box_r r) = settle_settled r
   settle_settled (arith_r f a b) = (settle_settled a, right_settled (now (settle a)) b (settle b) (settle_settled b))
   settle_settled (bind r) = settle_settled r
@@ -86,7 +86,7 @@ mutual
   depth_settle unit_c = omega arith
   depth_settle (number n) = omega arith
   depth_settle (read w take) = omega arith
-  depth_settle (borrow w) = omega arith
+  depth_settle (borrow w is_mut) = omega arith
   depth_settle (box_r r) = omega (arith, depth_settle r)
   depth_settle (arith_r f a b) = omega (arith, depth_settle a, right_depth (now (settle a)) b (settle b) (depth_settle b))
   depth_settle (bind r) = omega (arith, depth_settle r)
@@ -142,7 +142,7 @@ mutual
   move_depth unit_c = tt
   move_depth (number n) = tt
   move_depth (read w take) = λ v. omega arith
-  move_depth (borrow w) = λ v. omega arith
+  move_depth (borrow w is_mut) = λ v. omega arith
   move_depth (box_r r) = on_value_within depth (now r) (λ v. alone temp (do_box v)) (next box_r (move r)) (depth r + 1) (λ v x. omega arith) (next_within depth depth box_r (move r) (depth r) (depth r + 1) (λ q h. omega arith) (move_depth r))
   move_depth (arith_r f a b) =
       on_value_within depth (now a) (λ v. on_value (now b) (λ w. alone temp (do_arith f v w)) (next (arith_r f a) (move b))) (next (λ x. arith_r f x b) (move a)) (max (depth a) (depth b) + 1)

@@ -74,12 +74,12 @@ pub read_turns : (w : Lval) (take : Bool) (s : State) (v : Value) (slots : List 
 read_turns w take s v slots heap labels h = ap (turned_by (record { act = do_read w take; plug = temp })) h
 
 -- a reference that is made is defined
-pub borrow_goes : (w : Lval) (s : State) → IsSome (turned (move (borrow w)) s) → IsSome (act (do_borrow w) s)
-borrow_goes w s h = turned_goes (record { act = do_borrow w; plug = temp }) (act (do_borrow w) s) h
+pub borrow_goes : (w : Lval) (is_mut : Bool) (s : State) → IsSome (turned (move (borrow w is_mut)) s) → IsSome (act (do_borrow w is_mut) s)
+borrow_goes w is_mut s h = turned_goes (record { act = do_borrow w is_mut; plug = temp }) (act (do_borrow w is_mut) s) h
 
 -- and is a temporary value
-pub borrow_turns : (w : Lval) (s : State) (v : Value) (slots : List Value) (heap : Heap) (labels : List Label) → act (do_borrow w) s ≡ did v slots heap labels → turned (move (borrow w)) s ≡ turns_to (temp v) slots heap labels
-borrow_turns w s v slots heap labels h = ap (turned_by (record { act = do_borrow w; plug = temp })) h
+pub borrow_turns : (w : Lval) (is_mut : Bool) (s : State) (v : Value) (slots : List Value) (heap : Heap) (labels : List Label) → act (do_borrow w is_mut) s ≡ did v slots heap labels → turned (move (borrow w is_mut)) s ≡ turns_to (temp v) slots heap labels
+borrow_turns w is_mut s v slots heap labels h = ap (turned_by (record { act = do_borrow w is_mut; plug = temp })) h
 
 -- a settled block whose item is done holds a temporary value before a `;`, and has slots to drop after its last item
 pub held : (left : ℕ) (look : ℕ → Run) (js : List ℕ) (j : ℕ) (ks : List ℕ) (d : Done) → js ≡ j ∷ ks → IsSettled (fill (around_items left look js) (over d)) → leaves (over d) ≡ true

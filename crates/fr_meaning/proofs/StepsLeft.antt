@@ -34,7 +34,7 @@ mutual
   done_left unit_c = (refl, refl)
   done_left (number n) = (refl, refl)
   done_left (read w take) = tt
-  done_left (borrow w) = tt
+  done_left (borrow w is_mut) = tt
   done_left (box_r r) = tt
   done_left (arith_r f a b) = tt
   done_left (bind r) = tt
@@ -86,7 +86,7 @@ mutual
   settle_left unit_c = (refl, refl)
   settle_left (number n) = (refl, refl)
   settle_left (read w take) = (refl, refl)
-  settle_left (borrow w) = (refl, refl)
+  settle_left (borrow w is_mut) = (refl, refl)
   settle_left (box_r r) = (ap (λ n. n + 1) (settle_left r).0, refl)
   settle_left (arith_r f a b) = (omega (arith, (settle_left a).0, right_left (now (settle a)) b (settle b) (settle_left b).0), refl)
   settle_left (bind r) = (ap (λ n. n + 1) (settle_left r).0, refl)
@@ -167,7 +167,7 @@ mutual
   move_falls unit_c h = tt
   move_falls (number n) h = tt
   move_falls (read w take) h = λ v. (refl, refl)
-  move_falls (borrow w) h = λ v. (refl, refl)
+  move_falls (borrow w is_mut) h = λ v. (refl, refl)
   move_falls (box_r r) h = one_falls (now r) r box_r (λ v. alone temp (do_box v)) true (done_left r) (λ v x. (refl, refl)) (λ q. refl) (λ q. refl) (move_falls r h)
   move_falls (arith_r f a b) h = arith_falls (now a) f a b refl (done_left a) (move_falls a h.0) (move_falls b h.1)
   move_falls (bind r) h = one_falls (now r) r bind (λ v. alone (λ x. unit_c) (do_let v)) false (done_left r) (λ v x. (refl, refl)) (λ q. refl) (λ q. refl) (move_falls r h)

@@ -81,8 +81,8 @@ run_end fs (focus.Over x) [] d h = let e : x ≡ d = cc in ap over e
 run_end fs (focus.Over x) (g ∷ gs) d h = absurd cc
 run_end fs (focus.Read w take) [] d h = absurd cc
 run_end fs (focus.Read w take) (g ∷ gs) d h = absurd cc
-run_end fs (focus.Borrow w) [] d h = absurd cc
-run_end fs (focus.Borrow w) (g ∷ gs) d h = absurd cc
+run_end fs (focus.Borrow w is_mut) [] d h = absurd cc
+run_end fs (focus.Borrow w is_mut) (g ∷ gs) d h = absurd cc
 
 -- a thread whose term is done ends
 thread_ends : (d : Done) (s : State) (slots : List Value) (heap : Heap) (labels : List Label) → act (do_end (value_of d)) s ≡ did unit slots heap labels → thread_step (alive (over d)) s ≡ goes_to run.over slots heap labels

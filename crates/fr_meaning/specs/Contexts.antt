@@ -39,7 +39,7 @@ abbrev mutual
   depth unit_c = 0
   depth (number n) = 0
   depth (read w take) = 0
-  depth (borrow w) = 0
+  depth (borrow w is_mut) = 0
   depth (box_r r) = depth r + 1
   depth (arith f a b) = max (depth a) (depth b) + 1
   depth (bind r) = depth r + 1
@@ -79,7 +79,7 @@ abbrev mutual
   IsSettled unit_c = ⊤
   IsSettled (number n) = ⊤
   IsSettled (read w take) = ⊤
-  IsSettled (borrow w) = ⊤
+  IsSettled (borrow w is_mut) = ⊤
   IsSettled (box_r r) = IsSettled r
   IsSettled (arith f a b) = IsSettled a × RightSettled (now a) (IsSettled b)
   IsSettled (bind r) = IsSettled r

@@ -20,7 +20,7 @@ abbrev pub build : (ℕ → Run) → Form → Run
 build look (form.Number n) = number n
 build look form.Unit = unit_c
 build look (form.Read w take) = read w take
-build look (form.Borrow w) = borrow w
+build look (form.Borrow w is_mut) = borrow w is_mut
 build look (form.Box value) = box_r (look value)
 build look (form.Let value) = bind (look value)
 build look (form.Print value) = print (look value)

@@ -1,5 +1,5 @@
 -- The forms of a checked program's nodes (this project's rule): each names those of its parts, which stand before it.
-use Rattle.std.specs.Prelude.{◌≡◌, ℕ, ◌+◌, ◌-◌, ◌<◌, ◌^◌, min, List, [], ◌∷◌, slice_index_or, unwrap_or}
+use Rattle.std.specs.Prelude.{◌≡◌, ℕ, ◌+◌, ◌-◌, ◌<◌, ◌^◌, true, false, min, List, [], ◌∷◌, slice_index_or, unwrap_or}
 use Rattle.fr_base.specs.declared.place.Lval.{Lval}
 use Rattle.fr_syntax.specs.declared.tree.Term.{Term}
 use Rattle.fr_syntax.specs.declared.tree.Term.TheVariants.{Block, Let, Assign, Read, Borrow, BorrowMut, Number, Unit, Box, Print, Arith}
@@ -49,8 +49,8 @@ abbrev pub IsMade : Program → List ℕ → ℕ → Term → Form → Type 0
 IsMade p counts at (Number n) f = f ≡ form.Number n
 IsMade p counts at Unit f = f ≡ form.Unit
 IsMade p counts at (Read from) f = f ≡ form.Read (place_in p from) (takes_of p at)
-IsMade p counts at (Borrow of) f = f ≡ form.Borrow (place_in p of)
-IsMade p counts at (BorrowMut of) f = f ≡ form.Borrow (place_in p of)
+IsMade p counts at (Borrow of) f = f ≡ form.Borrow (place_in p of) false
+IsMade p counts at (BorrowMut of) f = f ≡ form.Borrow (place_in p of) true
 IsMade p counts at (Box value) f = f ≡ form.Box value
 IsMade p counts at (Let name value) f = f ≡ form.Let value
 IsMade p counts at (Print value) f = f ≡ form.Print value

@@ -38,7 +38,7 @@ wrapped fs gs r = wrap (all_around fs gs) r
 abbrev pub focus_run : Focus → Run
 focus_run (focus.Over d) = over d
 focus_run (focus.Read w take) = read w take
-focus_run (focus.Borrow w) = borrow w
+focus_run (focus.Borrow w is_mut) = borrow w is_mut
 
 -- the form that a frame names is there
 abbrev pub IsInside : ℕ → Frame → Type 0

@@ -1,6 +1,6 @@
 //! What an act does to the slots and the heap, with its labels.
 
-ghost use Rattle.std.specs.Prelude.{◌≡◌, ◌<◌, ◌≤◌, ◌+◌, ◌++◌, ◌∷◌, [], Option, Some, None, IsSome, vec_len, vec_capacity};
+ghost use Rattle.std.specs.Prelude.{◌≡◌, ◌<◌, ◌≤◌, ◌+◌, ◌++◌, ◌∷◌, [], false, Option, Some, None, IsSome, vec_len, vec_capacity};
 ghost use Rattle.fr_base.specs.declared.label.Label.TheVariants as label;
 ghost use Rattle.fr_plain.specs.State.{value_at, with_value, loads, stores, drops, led, locate, cell_of, without};
 ghost use Rattle.fr_plain.specs.Acts.{act, do_read, do_borrow, do_assign, do_box, do_arith, do_print, do_drop, do_discard, do_end, result_of, unit};
@@ -192,10 +192,10 @@ pub fn read(
 
 /// Makes a reference to what stands at a place.
 pub fn borrow(slots: &[Value], heap: &Heap, labels: &mut Labels, place: Lval) -> Value
-    requires goes { IsSome (act (do_borrow place) (state slots.now heap.now.heap)) }
+    requires goes { IsSome (act (do_borrow place false) (state slots.now heap.now.heap)) }
     requires labels { labels.old.items ≡ [] }
     requires room { place.depth ≤ labels.old.spare }
-    ensures { act (do_borrow place) (state slots.now heap.now.heap) ≡ did result slots.now heap.now.heap labels.new.items }
+    ensures { act (do_borrow place false) (state slots.now heap.now.heap) ≡ did result slots.now heap.now.heap labels.new.items }
 {
     let Some(spot) = find(slots, heap, place, labels) else {
         unreachable!()

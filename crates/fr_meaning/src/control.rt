@@ -120,7 +120,7 @@ pub fn enter(forms: &[Form], at: usize, frames: &mut Vec<Frame>) -> Entered
         Form::Unit => Entered::Ended(Done::Unit),
         Form::Place => Entered::Ended(Done::Unit),
         Form::Read(place, take) => Entered::Waits(Focus::Read(*place, *take)),
-        Form::Borrow(place) => Entered::Waits(Focus::Borrow(*place)),
+        Form::Borrow(place, is_mut) => Entered::Waits(Focus::Borrow(*place, *is_mut)),
         Form::Box(part) => {
             frames.push_reserved(Frame::Box);
             waits(enter(forms, *part as usize, frames))

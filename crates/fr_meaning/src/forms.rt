@@ -10,8 +10,8 @@ pub enum Form {
     Unit,
     /// The place, and whether the value is taken out of it.
     Read(Lval, bool),
-    /// The place that the reference leads to, of either kind.
-    Borrow(Lval),
+    /// The place that the reference leads to, and whether it is a mutable one.
+    Borrow(Lval, bool),
     Box(u32),
     Let(u32),
     Print(u32),

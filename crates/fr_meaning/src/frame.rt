@@ -32,7 +32,7 @@ pub enum Frame {
 pub enum Focus {
     Over(Done),
     Read(Lval, bool),
-    Borrow(Lval),
+    Borrow(Lval, bool),
 }
 
 /// What entering a term comes to: it is done, or it waits at its innermost part.

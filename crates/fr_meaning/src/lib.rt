@@ -14,5 +14,7 @@ mod pool;
 mod spot;
 
 pub use error::StepError;
+pub use forming::forms_of;
+pub use forms::Form;
 pub use need::Need;
 pub use pool::Pool;

@@ -36,7 +36,7 @@ pub fn end_in(focus: &Focus, frames: &[Frame]) -> Option<Done>
     match focus {
         Focus::Over(done) => { if frames.is_empty() { Some(*done) } else { None } }
         Focus::Read(_, _) => None,
-        Focus::Borrow(_) => None,
+        Focus::Borrow(_, _) => None,
     }
 }
 
@@ -47,7 +47,7 @@ pub fn labels_ahead(focus: &Focus, frames: &[Frame]) -> usize
 {
     let place = match focus {
         Focus::Read(place, _) => place.depth as usize,
-        Focus::Borrow(place) => place.depth as usize,
+        Focus::Borrow(place, _) => place.depth as usize,
         Focus::Over(_) => 0,
     };
     match frames {
@@ -223,7 +223,7 @@ pub fn advance(
             let value = read(slots, heap, labels, place, take);
             leave(forms, frames, Done::Temp(value))
         }
-        Focus::Borrow(place) => {
+        Focus::Borrow(place, _) => {
             let value = borrow(slots, heap, labels, place);
             leave(forms, frames, Done::Temp(value))
         }

@@ -33,7 +33,7 @@ by_names s t (fresh.Threads u v) m (do_spawn cs r) why h = refl
 by_names s t (fresh.Mutex n) m (do_spawn cs r) why h = refl
 by_names s t names m (do_let v) why h = nameless s names _ why h
 by_names s t names m (do_read w take) why h = nameless s names _ why h
-by_names s t names m (do_borrow w) why h = nameless s names _ why h
+by_names s t names m (do_borrow w is_mut) why h = nameless s names _ why h
 by_names s t names m (do_assign w v) why h = nameless s names _ why h
 by_names s t names m (do_box v) why h = nameless s names _ why h
 by_names s t names m (do_arith f v w) why h = nameless s names _ why h
@@ -70,7 +70,7 @@ by_wait : (s : Whole) (t : Thread) (names : Fresh) (m : Move Life) (a : Act) (w 
 by_wait s t names m (do_join v) w h = either (is_nameless names) (joined s t m v) (join_stops s t m v w h)
 by_wait s t names m (do_let v) w h = absurd cc
 by_wait s t names m (do_read u take) w h = absurd cc
-by_wait s t names m (do_borrow u) w h = absurd cc
+by_wait s t names m (do_borrow u is_mut) w h = absurd cc
 by_wait s t names m (do_assign u v) w h = absurd cc
 by_wait s t names m (do_box v) w h = absurd cc
 by_wait s t names m (do_arith f v u) w h = absurd cc

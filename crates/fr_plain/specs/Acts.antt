@@ -19,7 +19,7 @@ use Rattle.fr_plain.specs.State.{State, Spot, in_slot, in_cell, gone, value_at, 
 pub data Act : Type 0 where
   do_let : Value → Act
   do_read : Lval → (take : Bool) → Act
-  do_borrow : Lval → Act
+  do_borrow : Lval → (is_mut : Bool) → Act
   do_assign : Lval → Value → Act
   do_box : Value → Act
   do_arith : Op → Value → Value → Act
@@ -89,7 +89,7 @@ drop_did s (v ∷ vs) = Some (record { value = unit; state = drop_value (record 
 abbrev pub act : Act → State → Option Did
 act (do_let v) s = Some (record { value = unit; state = record s { slots = v ∷ s.slots }; labels = [] })
 act (do_read w take) s = then_reached (locate s w) (λ r. read_did s take r (value_at s r.spot))
-act (do_borrow w) s = then_reached (locate s w) (borrow_did s)
+act (do_borrow w is_mut) s = then_reached (locate s w) (borrow_did s)
 act (do_assign w v) s = then_reached (locate s w) (λ r. assign_did s v r (value_at s r.spot))
 act (do_box v) s = box_did s v
 act (do_arith f a b) s = arith_did s f a b

@@ -1,6 +1,6 @@
 -- The running term of a source: slots for names, how many variables a block has, and for each read and capture whether
 -- it moves, all as the typing has them (this project's rule).
-use Rattle.std.specs.Prelude.{ℕ, suc, ◌+◌, Bool, false, not, List, [], ◌∷◌, length, Option, Some, None}
+use Rattle.std.specs.Prelude.{ℕ, suc, ◌+◌, Bool, true, false, not, List, [], ◌∷◌, length, Option, Some, None}
 use Rattle.fr_base.specs.declared.place.Lval.{Lval}
 use Rattle.fr_terms.specs.Terms.{Spot, Term, block_t, let_t, assign_t, read_t, borrow_t, borrow_mut_t, number_t, unit_t, box_t, print_t, arith_t, join_t, spawn_t, Captured, Items, none, item}
 use Rattle.fr_typing.specs.Kinds.{unit, own, whole, copies}
@@ -82,8 +82,8 @@ abbrev mutual
   resolve (number_t at n) e = number n
   resolve (unit_t at) e = unit_c
   resolve (read_t at w) e = read (named e w) (moves e w)
-  resolve (borrow_t at w) e = borrow (named e w)
-  resolve (borrow_mut_t at w) e = borrow (named e w)
+  resolve (borrow_t at w) e = borrow (named e w) false
+  resolve (borrow_mut_t at w) e = borrow (named e w) true
   resolve (box_t at t) e = box_r (resolve t e)
   resolve (arith_t at op a b) e = arith op (resolve a e) (resolve b (env_after a e))
   resolve (print_t at t) e = print (resolve t e)

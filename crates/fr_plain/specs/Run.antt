@@ -74,7 +74,7 @@ abbrev mutual
   settle unit_c = unit_c
   settle (number n) = number n
   settle (read w take) = read w take
-  settle (borrow w) = borrow w
+  settle (borrow w is_mut) = borrow w is_mut
   settle (box_r r) = box_r (settle r)
   settle (arith f a b) = arith f (settle a) (settle_right (now (settle a)) b (settle b))
   settle (bind r) = bind (settle r)
@@ -116,7 +116,7 @@ abbrev mutual
   move unit_c = None
   move (number n) = None
   move (read w take) = alone temp (do_read w take)
-  move (borrow w) = alone temp (do_borrow w)
+  move (borrow w is_mut) = alone temp (do_borrow w is_mut)
   move (box_r r) = on_value (now r) (λ v. alone temp (do_box v)) (next box_r (move r))
   move (arith f a b) = on_value (now a) (λ v. on_value (now b) (λ w. alone temp (do_arith f v w)) (next (arith f a) (move b))) (next (λ x. arith f x b) (move a))
   move (bind r) = on_value (now r) (λ v. alone (λ x. unit_c) (do_let v)) (next bind (move r))
@@ -165,7 +165,7 @@ abbrev mutual
   pub leaves : Run → Bool
   leaves (temp v) = true
   leaves (read w take) = true
-  leaves (borrow w) = true
+  leaves (borrow w is_mut) = true
   leaves (box_r r) = true
   leaves (arith f a b) = true
   leaves (block k is) = leaves_last is
@@ -183,7 +183,7 @@ abbrev mutual
   steps_left unit_c = 0
   steps_left (number n) = 0
   steps_left (read w take) = 1
-  steps_left (borrow w) = 1
+  steps_left (borrow w is_mut) = 1
   steps_left (box_r r) = steps_left r + 1
   steps_left (arith f a b) = steps_left a + steps_left b + 1
   steps_left (bind r) = steps_left r + 1

@@ -10,7 +10,7 @@ pub record Capture : Type 0 where
   pub slot : ℕ
   pub take : Bool
 
--- `temp` is a value that a step left; a borrow of either kind is the same reference; a block has the number of slots that it has still to drop;
+-- `temp` is a value that a step left; a borrow of either kind leaves the same reference; a block has the number of slots that it has still to drop;
 -- the term of a new thread has slots of its own
 mutual
   pub data Run : Type 0 where
@@ -18,7 +18,7 @@ mutual
     unit_c : Run
     number : ℤ → Run
     read : Lval → (take : Bool) → Run
-    borrow : Lval → Run
+    borrow : Lval → (is_mut : Bool) → Run
     box_r : Run → Run
     arith : Op → Run → Run → Run
     bind : Run → Run

@@ -295,16 +295,16 @@ move_runs {e = e} {w = w} {s = s} f c b p =
     read_as w s true f.named (found_at f ∙ ap not c) (t_move (record { there = slot_below e w.name s f.named; is = f.is; moved = c; free = b; own_path = p; after = refl }))
 
 -- a borrow of a place that is named
-borrow_as : {forms : Forms} {e : Env} {k : Kind} (w : Spot) (s : ℕ) → slot_of e w.name ≡ Some s → RunTypes forms e None (borrow (place_of w s)) k e → RunTypes forms e None (borrow (named e w)) k e
-borrow_as {forms = forms} {e = e} {k = k} w s h r = subst (λ (o : Option ℕ). RunTypes forms e None (borrow (place_of w (or_zero o))) k e) (sym h) r
+borrow_as : {forms : Forms} {e : Env} {k : Kind} (m : Bool) (w : Spot) (s : ℕ) → slot_of e w.name ≡ Some s → RunTypes forms e None (borrow (place_of w s) m) k e → RunTypes forms e None (borrow (named e w) m) k e
+borrow_as {forms = forms} {e = e} {k = k} m w s h r = subst (λ (o : Option ℕ). RunTypes forms e None (borrow (place_of w (or_zero o)) m) k e) (sym h) r
 
 -- a shared borrow
-borrow_runs : {forms : Forms} {e : Env} {w : Spot} {s : ℕ} {k : Kind} → Shows e w s k → RunTypes forms e None (borrow (named e w)) (shared (place_of w s ∷ [])) e
-borrow_runs {e = e} {w = w} {s = s} {k = k} f = borrow_as w s f.is.named (t_borrow (record { kind = k; there = slot_below e w.name s f.is.named; is = f.is.is; free = f.free }))
+borrow_runs : {forms : Forms} {e : Env} {w : Spot} {s : ℕ} {k : Kind} → Shows e w s k → RunTypes forms e None (borrow (named e w) false) (shared (place_of w s ∷ [])) e
+borrow_runs {e = e} {w = w} {s = s} {k = k} f = borrow_as false w s f.is.named (t_borrow (record { kind = k; there = slot_below e w.name s f.is.named; is = f.is.is; free = f.free }))
 
 -- a mutable borrow
-borrow_mut_runs : {forms : Forms} {e : Env} {w : Spot} {s : ℕ} {k : Kind} → Has e w s (found (whole k)) → IsOpen e (place_of w s) → RunTypes forms e None (borrow (named e w)) (mutable (place_of w s ∷ [])) e
-borrow_mut_runs {e = e} {w = w} {s = s} {k = k} f o = borrow_as w s f.named (t_borrow_mut (record { kind = k; there = slot_below e w.name s f.named; is = f.is; free = o.free; writable = o.path }))
+borrow_mut_runs : {forms : Forms} {e : Env} {w : Spot} {s : ℕ} {k : Kind} → Has e w s (found (whole k)) → IsOpen e (place_of w s) → RunTypes forms e None (borrow (named e w) true) (mutable (place_of w s ∷ [])) e
+borrow_mut_runs {e = e} {w = w} {s = s} {k = k} f o = borrow_as true w s f.named (t_borrow_mut (record { kind = k; there = slot_below e w.name s f.named; is = f.is; free = o.free; writable = o.path }))
 
 -- an owned value is put on an own path, or written through mutable references
 assigns_owned : {e : Env} {w : Spot} {s : ℕ} {p : Piece} (x : Owned) → Has e w s (found p) → IsOpen e (place_of w s) → has_shape_of e p (own x) ≡ true → Assigns e (place_of w s) (own x) (set_through e (place_of w s) (own x))

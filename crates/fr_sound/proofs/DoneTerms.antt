@@ -32,7 +32,7 @@ mutual
   done unit_c t_unit = d_constant o_unit
   done (number n) t_number = d_constant o_int
   done (read w take) t = d_going
-  done (borrow w) t = d_going
+  done (borrow w is_mut) t = d_going
   done (box_r r) t = d_going
   done (arith f a b) t = d_going
   done (bind r) t = d_going
@@ -87,7 +87,7 @@ mutual
   anywhere unit_c e2 d b t_unit = t_unit
   anywhere (number n) e2 d b t_number = t_number
   anywhere (read w take) e2 d b t = absurd d
-  anywhere (borrow w) e2 d b t = absurd d
+  anywhere (borrow w is_mut) e2 d b t = absurd d
   anywhere (box_r r) e2 d b t = absurd d
   anywhere (arith f x y) e2 d b t = absurd d
   anywhere (bind r) e2 d b t = absurd d
@@ -128,7 +128,7 @@ mutual
   quiet unit_c t = refl
   quiet (number n) t = refl
   quiet (read w take) t = refl
-  quiet (borrow w) t = refl
+  quiet (borrow w is_mut) t = refl
   quiet (box_r r) (t_box t) = quiet r t
   quiet (arith f a b) (t_left e t u) = going_held f a b e ∙ quiet a t
   quiet (arith f a b) (t_right i t) = number_held (now a) (held a) (held b) i ∙ quiet b t

@@ -208,10 +208,10 @@ reference_val g t (in_slot i) = refl
 reference_val g t (in_cell o) = refl
 
 -- a reference to the place comes to hand
-lent_acts : {beside : Beside} {e : Env} {st : State} {w : Lval} (k l : Kind) → (y : Holds beside e None None st) → w.slot < length e → type_at e w ≡ found (whole l)
+lent_acts : {beside : Beside} {e : Env} {st : State} {w : Lval} (m : Bool) (k l : Kind) → (y : Holds beside e None None st) → w.slot < length e → type_at e w ≡ found (whole l)
     → ((z : Location) × (store.locate (seen beside st None) (place_of (slot_k st.thread) w) ≡ Some z) × After (slot_k st.thread) (rank_of y.high) (hand_k st.thread) y.types e (put_value (seen beside st None) (at_key (hand_k st.thread)) (ref_v z)) (Some k))
-    → Acted beside (do_borrow w) None st (Some k) e
-lent_acts {beside = beside} {e = e} {st = st} {w = w} k l y lt is f =
+    → Acted beside (do_borrow w m) None st (Some k) e
+lent_acts {beside = beside} {e = e} {st = st} {w = w} m k l y lt is f =
     let t = st.thread in
     let p = there w (whole l) y lt is in
     let same : location_of t p.reached.spot ≡ f.0 = same_location (location_of t p.reached.spot) f.0 (sym p.at ∙ f.1) in
@@ -227,11 +227,11 @@ lent_acts {beside = beside} {e = e} {st = st} {w = w} k l y lt is f =
     }
 
 -- a shared reference comes to hand
-pub borrow_acts : {beside : Beside} {e : Env} {st : State} {w : Lval} → Holds beside e None None st → Lends e w → Acted beside (do_borrow w) None st (Some (shared (w ∷ []))) e
+pub borrow_acts : {beside : Beside} {e : Env} {st : State} {w : Lval} → Holds beside e None None st → Lends e w → Acted beside (do_borrow w false) None st (Some (shared (w ∷ []))) e
 borrow_acts {beside = beside} {e = e} {st = st} {w = w} y m =
-    lent_acts (shared (w ∷ [])) m.kind y m.there m.is (shared_row (slot_k st.thread) (rank_of y.high) (hand_k st.thread) e y.types (seen beside st None) w m.kind (keys_of st.thread y.high) y.thread m.there m.is m.free)
+    lent_acts false (shared (w ∷ [])) m.kind y m.there m.is (shared_row (slot_k st.thread) (rank_of y.high) (hand_k st.thread) e y.types (seen beside st None) w m.kind (keys_of st.thread y.high) y.thread m.there m.is m.free)
 
 -- a mutable reference comes to hand
-pub borrow_mut_acts : {beside : Beside} {e : Env} {st : State} {w : Lval} → Holds beside e None None st → LendsMut e w → Acted beside (do_borrow w) None st (Some (mutable (w ∷ []))) e
+pub borrow_mut_acts : {beside : Beside} {e : Env} {st : State} {w : Lval} → Holds beside e None None st → LendsMut e w → Acted beside (do_borrow w true) None st (Some (mutable (w ∷ []))) e
 borrow_mut_acts {beside = beside} {e = e} {st = st} {w = w} y m =
-    lent_acts (mutable (w ∷ [])) m.kind y m.there m.is (mutable_row (slot_k st.thread) (rank_of y.high) (hand_k st.thread) e y.types (seen beside st None) w m.kind (keys_of st.thread y.high) y.thread m.there m.is m.free m.writable)
+    lent_acts true (mutable (w ∷ [])) m.kind y m.there m.is (mutable_row (slot_k st.thread) (rank_of y.high) (hand_k st.thread) e y.types (seen beside st None) w m.kind (keys_of st.thread y.high) y.thread m.there m.is m.free m.writable)

@@ -285,8 +285,8 @@ mutual
   redex (number n) t = g_constant
   redex (read w take) (t_copy c) = g_going (one (do_read w false) temp (a_copy c) (λ v. t_temp) (λ v. refl))
   redex (read w take) (t_move m) = g_going (one (do_read w true) temp (a_move m) (λ v. t_temp) (λ v. refl))
-  redex (borrow w) (t_borrow m) = g_going (one (do_borrow w) temp (a_borrow m) (λ v. t_temp) (λ v. refl))
-  redex (borrow w) (t_borrow_mut m) = g_going (one (do_borrow w) temp (a_borrow_mut m) (λ v. t_temp) (λ v. refl))
+  redex (borrow w false) (t_borrow m) = g_going (one (do_borrow w false) temp (a_borrow m) (λ v. t_temp) (λ v. refl))
+  redex (borrow w true) (t_borrow_mut m) = g_going (one (do_borrow w true) temp (a_borrow_mut m) (λ v. t_temp) (λ v. refl))
   redex (box_r r) (t_box t) = g_going (unary (move r) box_r do_box temp (done r t) (redex r t) (λ q env left. t_box) (λ q. refl) box_finish)
   redex (arith f a b) (t_left same t u) = g_going (arith_left f a b same u (redex a t))
   redex (arith f a b) (t_right i t) = g_going (arith_right f a b i t (redex b t))

@@ -34,7 +34,7 @@ mutual
   now_settle unit_c = refl
   now_settle (number n) = refl
   now_settle (read w take) = refl
-  now_settle (borrow w) = refl
+  now_settle (borrow w is_mut) = refl
   now_settle (box_r r) = refl
   now_settle (arith f a b) = refl
   now_settle (bind r) = refl
@@ -82,7 +82,7 @@ mutual
   settle_types unit_c t = t
   settle_types (number n) t = t
   settle_types (read w take) t = t
-  settle_types (borrow w) t = t
+  settle_types (borrow w is_mut) t = t
   settle_types (box_r r) (t_box t) = t_box (settle_types r t)
   settle_types {forms = forms} (arith f a b) {e = e} {e1 = e1} {o = o} (t_left g t u) =
       let same = now_settle a ∙ g in
@@ -129,7 +129,7 @@ mutual
   settle_holds unit_c t = refl
   settle_holds (number n) t = refl
   settle_holds (read w take) t = refl
-  settle_holds (borrow w) t = refl
+  settle_holds (borrow w is_mut) t = refl
   settle_holds (box_r r) (t_box t) = settle_holds r t
   settle_holds (arith f a b) (t_left g t u) = going_held f (settle a) (settle_right (now (settle a)) b (settle b)) (now_settle a ∙ g) ∙ settle_holds a t ∙ sym (going_held f a b g)
   settle_holds (arith f a b) (t_right i t) =

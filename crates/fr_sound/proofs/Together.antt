@@ -58,7 +58,7 @@ named s (fresh.Threads u v) e = cc
 named s (fresh.Mutex m) e = cc
 
 -- an act of a thread's own starts no thread, and doesn't wait
-own_names : {e e2 : Env} {o o2 : Option Kind} {h : Option Value} {a : Act} → ActTypes e o h a o2 e2 → (starts_thread a ≡ false) × ((s : Whole) → act_waits s a ≡ None)
+pub own_names : {e e2 : Env} {o o2 : Option Kind} {h : Option Value} {a : Act} → ActTypes e o h a o2 e2 → (starts_thread a ≡ false) × ((s : Whole) → act_waits s a ≡ None)
 own_names (a_let name p) = (refl, λ s. refl)
 own_names (a_copy c) = (refl, λ s. refl)
 own_names (a_move c) = (refl, λ s. refl)

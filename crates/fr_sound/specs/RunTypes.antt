@@ -122,8 +122,8 @@ mutual
     t_number : {forms : Forms} {e : Env} {n : ℤ} → RunTypes forms e None (number n) (own int) e
     t_copy : {forms : Forms} {e : Env} {w : Lval} {k : Kind} → Copies e w k → RunTypes forms e None (read w false) k e
     t_move : {forms : Forms} {e e2 : Env} {w : Lval} {k : Kind} → Moves e w k e2 → RunTypes forms e None (read w true) k e2
-    t_borrow : {forms : Forms} {e : Env} {w : Lval} → Lends e w → RunTypes forms e None (borrow w) (shared (w ∷ [])) e
-    t_borrow_mut : {forms : Forms} {e : Env} {w : Lval} → LendsMut e w → RunTypes forms e None (borrow w) (mutable (w ∷ [])) e
+    t_borrow : {forms : Forms} {e : Env} {w : Lval} → Lends e w → RunTypes forms e None (borrow w false) (shared (w ∷ [])) e
+    t_borrow_mut : {forms : Forms} {e : Env} {w : Lval} → LendsMut e w → RunTypes forms e None (borrow w true) (mutable (w ∷ [])) e
     t_box : {forms : Forms} {e e1 : Env} {o : Option Kind} {r : Run} {x : Owned} → RunTypes forms e o r (own x) e1 → RunTypes forms e o (box_r r) (own (box x)) e1
     t_left : {forms : Forms} {e e1 e2 : Env} {o : Option Kind} {f : Op} {a b : Run} → now a ≡ going → RunTypes forms e o a (own int) e1 → RunTypes forms e1 None b (own int) e2 → RunTypes forms e o (arith f a b) (own int) e2
     t_right : {forms : Forms} {e e2 : Env} {o : Option Kind} {f : Op} {a b : Run} → IsNumber (now a) → RunTypes forms e o b (own int) e2 → RunTypes forms e o (arith f a b) (own int) e2
@@ -152,7 +152,7 @@ abbrev mutual
   held unit_c = None
   held (number n) = None
   held (read w take) = None
-  held (borrow w) = None
+  held (borrow w is_mut) = None
   held (box_r r) = held r
   held (arith f a b) = by_now (now a) (held a) (λ v. held b) (λ v. held b)
   held (bind r) = held r
@@ -179,8 +179,8 @@ pub data ActTypes : Env → Option Kind → Option Value → Act → Option Kind
   a_let : {e : Env} {o : Option Kind} {h : Option Value} {v : Value} {k : Kind} (name : Option Text) → Operand o h v k → ActTypes e o h (do_let v) None (record { name = name; part = whole k } ∷ e)
   a_copy : {e : Env} {w : Lval} {k : Kind} → Copies e w k → ActTypes e None None (do_read w false) (Some k) e
   a_move : {e e2 : Env} {w : Lval} {k : Kind} → Moves e w k e2 → ActTypes e None None (do_read w true) (Some k) e2
-  a_borrow : {e : Env} {w : Lval} → Lends e w → ActTypes e None None (do_borrow w) (Some (shared (w ∷ []))) e
-  a_borrow_mut : {e : Env} {w : Lval} → LendsMut e w → ActTypes e None None (do_borrow w) (Some (mutable (w ∷ []))) e
+  a_borrow : {e : Env} {w : Lval} → Lends e w → ActTypes e None None (do_borrow w false) (Some (shared (w ∷ []))) e
+  a_borrow_mut : {e : Env} {w : Lval} → LendsMut e w → ActTypes e None None (do_borrow w true) (Some (mutable (w ∷ []))) e
   a_assign : {e e2 : Env} {o : Option Kind} {h : Option Value} {w : Lval} {v : Value} {k : Kind} → Operand o h v k → Assigns e w k e2 → ActTypes e o h (do_assign w v) None e2
   a_box : {e : Env} {o : Option Kind} {h : Option Value} {v : Value} {x : Owned} → Operand o h v (own x) → ActTypes e o h (do_box v) (Some (own (box x))) e
   a_arith : {e : Env} {o : Option Kind} {h : Option Value} {f : Op} {v w : Value} → IsInt v → Operand o h w (own int) → ActTypes e o h (do_arith f v w) (Some (own int)) e
@@ -199,7 +199,7 @@ pub data NextTypes : Forms → Env → Option Kind → Option Value → Act → 
 -- the temporary value after an act that left v: a dropped slot leaves it as it was
 abbrev pub held_after : Act → Option Value → Value → Option Value
 held_after (do_read w take) h v = Some v
-held_after (do_borrow w) h v = Some v
+held_after (do_borrow w is_mut) h v = Some v
 held_after (do_box x) h v = Some v
 held_after (do_arith f a b) h v = Some v
 held_after do_drop h v = h

@@ -45,14 +45,14 @@ borrow-value-requires-clause-goes c =
     let fs = c.args.forms.now in
     let s = state c.args.slots.now.items c.args.heap.now.heap in
     let goes = subst (λ (f : Focus). IsSome (thread_step (alive (wrapped fs c.args.frames.now.items (focus_run f))) s)) c.in-Borrow.is c.requires.goes in
-    subst (λ (vs : List Value). IsSome (act (do_borrow c.in-Borrow.place) (state vs c.args.heap.now.heap))) (sym c.deref.ensures.value)
-    (borrow_goes c.in-Borrow.place s (goes_in_frames fs c.args.frames.now.items (borrow c.in-Borrow.place) s refl goes))
+    subst (λ (vs : List Value). IsSome (act (do_borrow c.in-Borrow.place c.in-Borrow.field-1) (state vs c.args.heap.now.heap))) (sym c.deref.ensures.value)
+    (borrow_goes c.in-Borrow.place c.in-Borrow.field-1 s (goes_in_frames fs c.args.frames.now.items (borrow c.in-Borrow.place c.in-Borrow.field-1) s refl goes))
 
 pub leave-requires-in-Borrow-clause-room : goal.leave-requires-in-Borrow-clause-room
 leave-requires-in-Borrow-clause-room c =
     let fs = c.args.forms.now in
     let room = subst (λ (f : Focus). depth (wrapped fs c.args.frames.now.items (focus_run f)) ≤ vec_capacity c.args.frames.now) c.in-Borrow.is c.requires.room in
-    room_less fs c.args.frames.now.items c.args.frames.now.items (borrow c.in-Borrow.place) (over (done.Temp c.borrow-value.result)) (vec_capacity c.args.frames.now) (vec_capacity c.args.frames.now) refl (omega arith) room refl
+    room_less fs c.args.frames.now.items c.args.frames.now.items (borrow c.in-Borrow.place c.in-Borrow.field-1) (over (done.Temp c.borrow-value.result)) (vec_capacity c.args.frames.now) (vec_capacity c.args.frames.now) refl (omega arith) room refl
 
 pub returns-in-Borrow-clause-step : goal.returns-in-Borrow-clause-step
 returns-in-Borrow-clause-step c =
@@ -60,14 +60,14 @@ returns-in-Borrow-clause-step c =
     let h = c.args.heap.now.heap in
     let s = state c.args.slots.now.items h in
     let ls = c.borrow-value.new.labels.items in
-    let acts = subst (λ (vs : List Value). act (do_borrow c.in-Borrow.place) (state vs h) ≡ did c.borrow-value.result vs h ls) c.deref.ensures.value c.borrow-value.ensures in
+    let acts = subst (λ (vs : List Value). act (do_borrow c.in-Borrow.place c.in-Borrow.field-1) (state vs h) ≡ did c.borrow-value.result vs h ls) c.deref.ensures.value c.borrow-value.ensures in
     ap (λ (f : Focus). thread_step (alive (wrapped fs c.args.frames.now.items (focus_run f))) s) c.in-Borrow.is
-    ∙ step_in fs c.args.frames.now.items (borrow c.in-Borrow.place) (temp c.borrow-value.result) (wrapped fs c.leave-in-Borrow.new.frames.items (focus_run c.leave-in-Borrow.result)) s c.args.slots.now.items h ls
-    refl (borrow_turns c.in-Borrow.place s c.borrow-value.result c.args.slots.now.items h ls acts) c.leave-in-Borrow.ensures.settles
+    ∙ step_in fs c.args.frames.now.items (borrow c.in-Borrow.place c.in-Borrow.field-1) (temp c.borrow-value.result) (wrapped fs c.leave-in-Borrow.new.frames.items (focus_run c.leave-in-Borrow.result)) s c.args.slots.now.items h ls
+    refl (borrow_turns c.in-Borrow.place c.in-Borrow.field-1 s c.borrow-value.result c.args.slots.now.items h ls acts) c.leave-in-Borrow.ensures.settles
 
 pub returns-in-Borrow-clause-output : goal.returns-in-Borrow-clause-output
 returns-in-Borrow-clause-output c =
-    no_print (do_borrow c.in-Borrow.place) (state c.deref.result.now c.args.heap.now.heap) c.borrow-value.result c.deref.result.now c.args.heap.now.heap c.borrow-value.new.labels.items c.args.output.now.items tt c.borrow-value.ensures
+    no_print (do_borrow c.in-Borrow.place c.in-Borrow.field-1) (state c.deref.result.now c.args.heap.now.heap) c.borrow-value.result c.deref.result.now c.args.heap.now.heap c.borrow-value.new.labels.items c.args.output.now.items tt c.borrow-value.ensures
 
 pub step_frame-requires-clause-past : goal.step_frame-requires-clause-past
 step_frame-requires-clause-past c =

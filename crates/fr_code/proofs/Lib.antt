@@ -1,0 +1,7 @@
+pub mod Finished
+pub mod Following
+pub mod Settling
+pub mod Threads
+pub mod Wholes
+pub mod Codes
+pub mod Typed

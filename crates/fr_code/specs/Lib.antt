@@ -1,0 +1,6 @@
+pub mod Steps
+pub mod StandsFor
+pub mod Machine
+pub mod Laws
+pub mod Examples
+pub mod TypedCode

@@ -1,0 +1,68 @@
+-- Typed states of the code: those that stand for a typed state of the plain machine (this project's rule).
+use Rattle.std.specs.Prelude.{◌≡◌, ℕ, false, List, [], Option, Some, None}
+use Rattle.fr_base.specs.declared.step.Fresh.{Fresh}
+use Rattle.fr_base.specs.declared.instruction.Instr.{Instr}
+use Rattle.fr_terms.specs.Terms.{block_t, Items}
+use Rattle.fr_typing.specs.Kinds.{Owned, Kind, own}
+use Rattle.fr_typing.specs.Places.{Env}
+use Rattle.fr_typing.specs.Typing.{Types}
+use Rattle.fr_plain.specs.declared.value.Value.{Value}
+use Rattle.fr_plain.specs.Acts.{Act}
+use Rattle.fr_plain.specs.Run.{Capture, Run}
+use Rattle.fr_plain.specs.Whole.{Whole, starts_thread, refused}
+use Rattle.fr_plain.specs.Resolve.{program}
+use Rattle.fr_sound.specs.Threaded.{IsThreaded}
+use Rattle.fr_sound.specs.RunTypes.{threads, RunCaptures, RunTypes, held, Operand, NextTypes}
+use Rattle.fr_sound.specs.Together.{seen_all, IsRunning, AreTyped}
+use Rattle.fr_code.specs.Steps.{CodeAct, does, starts, stops, CodeMove, code_move, CodeLife, alive_at, owing_at, loose_at}
+use Rattle.fr_code.specs.Machine.{CodeThread, CodeWhole, CodeStepped, code_thread, code_step, code_start}
+use Rattle.fr_code.specs.StandsFor.{IsCodeFrom, IsCodeOf}
+use Rattle.fr_code.specs.Laws.{StandsWhole}
+
+-- the state stands for a typed one
+pub record AreTypedCode (code : List Instr) (c : CodeWhole) : Type 0 where
+  pub plain : Whole
+  pub typed : AreTyped plain
+  pub stands : StandsWhole code plain c
+
+-- from an environment, where the temporary value is given with its type, an act is what a row of the typing grants; the code
+-- of a new thread is that of a typed term
+pub data IsTypedAct (code : List Instr) : Env → Option Kind → Option Value → CodeAct → Type 0 where
+  typed_does : {e e2 : Env} {o o2 : Option Kind} {h : Option Value} {a : Act} → starts_thread a ≡ false → NextTypes threads e o h a o2 e2 → IsTypedAct code e o h (does a)
+  typed_start : {e e2 n : Env} {cs : List Capture} {r : Run} {x : Owned} {body : ℕ} → RunCaptures e [] cs e2 n → RunTypes threads n None r (own x) [] → IsCodeFrom code body r → IsTypedAct code e None None (starts cs body)
+  typed_stop : {o : Option Kind} {h : Option Value} {v : Value} {k : Kind} → Operand o h v k → IsTypedAct code [] o h (stops v)
+
+-- the thread is at that instruction with these temporary values
+abbrev pub IsAt : CodeLife → ℕ → List Value → Type 0
+IsAt (alive_at pc ts) p us = (pc ≡ p) × (ts ≡ us)
+IsAt (owing_at pc ts) p us = (pc ≡ p) × (ts ≡ us)
+IsAt (loose_at pc ts) p us = (pc ≡ p) × (ts ≡ us)
+IsAt _ p us = ⊥
+
+-- the thread's slots and its temporary value are typed, and so is the act
+pub record IsTypedMove (code : List Instr) (s : Whole) (y : AreTyped s) (t : ℕ) (slots : List Value) (a : CodeAct) : Type 0 where
+  pub run : Run
+  pub kind : Kind
+  pub running : IsRunning y.gives y.high y.types (seen_all y.gives s) t slots run kind
+  pub act : IsTypedAct code running.env running.temp (held run) a
+
+-- a typed state after an instruction of that thread
+pub record CodeStepsOn (code : List Instr) (c : CodeWhole) (t : ℕ) (names : Fresh) : Type 0 where
+  pub next : CodeStepped
+  pub is : code_step code c t names ≡ Some next
+  pub typed : AreTypedCode code next.state
+
+-- THE LAWS
+
+-- the next act of each thread of a typed state is typed
+abbrev pub ActsAreTyped : Type 0
+ActsAreTyped = (code : List Instr) (c : CodeWhole) (w : AreTypedCode code c) (t : ℕ) (y : CodeThread) → code_thread c.threads t ≡ Some y → (p : ℕ) (us : List Value) → IsAt y.life p us → (m : CodeMove) → code_move code p us ≡ Some m
+    → IsTypedMove code w.plain w.typed t y.slots m.act
+
+-- a step that is not refused can be done, and leaves a typed state
+abbrev pub CodeNeverStuck : Type 0
+CodeNeverStuck = (code : List Instr) (c : CodeWhole) (w : AreTypedCode code c) (t : ℕ) (names : Fresh) → refused w.plain t names ≡ None → CodeStepsOn code c t names
+
+-- the code of a typed program of such forms starts typed
+abbrev pub CodeStartsTyped : Type 0
+CodeStartsTyped = (code : List Instr) (at : ℕ) (items : Items) (k : Kind) (e : Env) → IsThreaded (block_t at items) → Types [] (block_t at items) k e → IsCodeOf code (program (block_t at items)) → AreTypedCode code code_start

@@ -1,0 +1,129 @@
+//! The instructions of a form.
+
+ghost use Rattle.std.specs.Prelude.{◌≡◌, ◌<◌, ◌≤◌, ◌++◌, [], ◌∷◌, length, IfOk, OnOk};
+ghost use Rattle.fr_base.specs.declared.instruction.Operand.TheVariants as operand;
+ghost use Rattle.fr_meaning.specs.FormTerms.{term_of, parts_of, AreInOrder, AllBelow};
+ghost use Rattle.fr_code.specs.StandsFor.{borrowing};
+ghost use Rattle.fr_compile.specs.Emitting.{drop_slots, ArePartsEmitted, IsDiscarded, IsEmitted};
+
+use fr_base::{Code, Instr, Lval, NoMemory, Operand};
+use fr_meaning::Form;
+
+// Adds an instruction that leaves a temporary value.
+fn leave(code: &mut Code, instr: Instr) -> Result<Operand, NoMemory>
+    ensures code { OnOk result (code.new.items ≡ code.old.items ++ instr ∷ []) }
+    ensures value { IfOk result (λ value. value ≡ operand.Pop) }
+{
+    code.push(instr)?;
+    Ok(Operand::Pop)
+}
+
+// Adds an instruction whose value is the constant unit.
+fn finish(code: &mut Code, instr: Instr) -> Result<Operand, NoMemory>
+    ensures code { OnOk result (code.new.items ≡ code.old.items ++ instr ∷ []) }
+    ensures value { IfOk result (λ value. value ≡ operand.Unit) }
+{
+    code.push(instr)?;
+    Ok(Operand::Unit)
+}
+
+// A constant.
+fn constant(value: &i64) -> Operand
+    ensures { result ≡ operand.Const value.now }
+{
+    Operand::Const(*value)
+}
+
+// A reference of either kind.
+fn borrow(place: Lval, is_mut: bool) -> Instr
+    ensures { result ≡ borrowing place is_mut }
+{
+    if is_mut {
+        Instr::BorrowMut(place)
+    } else {
+        Instr::Borrow(place)
+    }
+}
+
+// Gives up the value of a term before a `;`.
+fn discard(code: &mut Code, value: Operand) -> Result<(), NoMemory>
+    ensures { OnOk result (IsDiscarded code.old.items value code.new.items) }
+{
+    match value {
+        Operand::Pop => code.push(Instr::Discard),
+        _ => Ok(()),
+    }
+}
+
+// Drops so many slots.
+fn drop_all(code: &mut Code, slots: u32) -> Result<(), NoMemory>
+    ensures { OnOk result (code.new.items ≡ code.old.items ++ drop_slots slots) }
+{
+    'slots: for _ in 0..slots {
+        code.push(Instr::DropSlot)?;
+    }
+    Ok(())
+}
+
+// Adds the code of a block's items, which are forms below that number, and says where the last one's value is found.
+#[cycle(emit)]
+fn emit_items(
+    forms: &[Form],
+    items: &[u32],
+    bound: usize,
+    code: &mut Code,
+) -> Result<Operand, NoMemory>
+    requires order { AreInOrder forms.now }
+    requires inside { bound ≤ length forms.now }
+    requires below { AllBelow bound items.now }
+    ensures { IfOk result (λ value. ArePartsEmitted code.old.items code.new.items value (parts_of (term_of forms.now) items.now)) }
+{
+    let mut value = Operand::Unit;
+    'items: for next in 0..items.len() {
+        discard(code, value)?;
+        value = emit(forms, items[next] as usize, code)?;
+    }
+    Ok(value)
+}
+
+/// Adds the code of a form, and says where its value is found.
+#[cycle(emit)]
+pub fn emit(forms: &[Form], node: usize, code: &mut Code) -> Result<Operand, NoMemory>
+    requires order { AreInOrder forms.now }
+    requires here { node < length forms.now }
+    ensures { IfOk result (λ value. IsEmitted code.old.items code.new.items value (term_of forms.now node)) }
+{
+    match &forms[node] {
+        Form::Number(value) => Ok(constant(value)),
+        Form::Unit => Ok(Operand::Unit),
+        Form::Place => Ok(Operand::Unit),
+        Form::Read(place, take) => leave(code, Instr::Read(*place, *take)),
+        Form::Borrow(place, is_mut) => leave(code, borrow(*place, *is_mut)),
+        Form::Box(part) => {
+            let value = emit(forms, *part as usize, code)?;
+            leave(code, Instr::Box(value))
+        }
+        Form::Let(part) => {
+            let value = emit(forms, *part as usize, code)?;
+            finish(code, Instr::Let(value))
+        }
+        Form::Print(part) => {
+            let value = emit(forms, *part as usize, code)?;
+            finish(code, Instr::Print(value))
+        }
+        Form::Assign(place, part) => {
+            let value = emit(forms, *part as usize, code)?;
+            finish(code, Instr::Assign(*place, value))
+        }
+        Form::Arith(op, left, right) => {
+            let left = emit(forms, *left as usize, code)?;
+            let right = emit(forms, *right as usize, code)?;
+            leave(code, Instr::Arith(*op, left, right))
+        }
+        Form::Block(items, lets) => {
+            let value = emit_items(forms, items, node, code)?;
+            drop_all(code, *lets)?;
+            Ok(value)
+        }
+    }
+}

@@ -1,0 +1,7 @@
+//! The compiler: from a checked program to instructions that do its steps.
+#![tactic(auto)]
+
+mod compiler;
+mod emitting;
+
+pub use compiler::compile;
