@@ -275,7 +275,7 @@ then_same code (Some a) (Some b) f g e h = by (f a.state) (g b.state) (h a.state
 
 run_alike : (code : List Instr) (s : Whole) (c : CodeWhole) → StandsWhole code s c → (order : List Turn) → SameSteps code (run s order) (code_run code c order)
 run_alike code s c h [] = (refl, h)
-run_alike code s c h (t ∷ ts) = then_same code (step s t.thread t.names) (code_step code c t.thread t.names) (λ z. run z ts) (λ z. code_run code z ts) (steps_alike code s c h t.thread t.names) (λ a b k. run_alike code a b k ts)
+run_alike code s c h (t ∷ ts) = then_same code (step s t.0 t.1) (code_step code c t.0 t.1) (λ z. run z ts) (λ z. code_run code z ts) (steps_alike code s c h t.0 t.1) (λ a b k. run_alike code a b k ts)
 
 -- under each order the code of a program runs as the program does
 pub runs_alike : RunsAlike

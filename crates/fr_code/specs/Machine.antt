@@ -150,7 +150,7 @@ code_goes_on (Some x) f = then_code_labels x.labels (f x.state)
 -- the steps of an order; None from the first on that isn't enabled
 abbrev pub code_run : List Instr → CodeWhole → List Turn → Option CodeStepped
 code_run code c [] = Some (record { state = c; labels = [] })
-code_run code c (t ∷ ts) = code_goes_on (code_step code c t.thread t.names) (λ d. code_run code d ts)
+code_run code c (t ∷ ts) = code_goes_on (code_step code c t.0 t.1) (λ d. code_run code d ts)
 
 -- the main thread alone, at the first instruction
 abbrev pub code_start : CodeWhole
