@@ -11,7 +11,7 @@ use Rattle.fr_plain.specs.Acts.{Act}
 use Rattle.fr_plain.specs.Run.{Capture, Run}
 use Rattle.fr_plain.specs.Whole.{Whole, starts_thread, refused}
 use Rattle.fr_plain.specs.Resolve.{program}
-use Rattle.fr_sound.specs.Threaded.{IsThreaded}
+use Rattle.fr_typing.specs.Threaded.{IsThreaded}
 use Rattle.fr_sound.specs.RunTypes.{threads, RunCaptures, RunTypes, held, Operand, NextTypes}
 use Rattle.fr_sound.specs.Together.{seen_all, IsRunning, AreTyped}
 use Rattle.fr_code.specs.Steps.{CodeAct, does, starts, stops, CodeMove, code_move, CodeLife, alive_at, owing_at, loose_at}
