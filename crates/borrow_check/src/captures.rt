@@ -102,7 +102,7 @@ fn hand_on(alloc: Global, env: &mut Env, x: Lval, t: &Ty, place: u32) -> Result<
     Ok(())
 }
 
-/// Captures a name: what its variable holds stands in a new slot of the new environment. The answer is how the variable is used.
+// Captures a name: what its variable holds stands in a new slot of the new environment. The answer is how the variable is used.
 fn capture(
     alloc: Global,
     env: &mut Env,
