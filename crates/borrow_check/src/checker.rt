@@ -74,7 +74,9 @@ pub fn check_term(
             let t = check_term(alloc, tree, *value, env, usages, spare)?;
             printed(&t, start(tree, *value))
         }
-        Term::Arith(_, left, right) => check_arith(alloc, tree, *left, *right, at, env, usages, spare),
+        Term::Arith(_, left, right) => check_arith(
+            alloc, tree, *left, *right, at, env, usages, spare,
+        ),
         Term::Let(name, value) => {
             let t = check_term(alloc, tree, *value, env, usages, spare)?;
             bind(env, *name, t, node.place)
@@ -87,7 +89,9 @@ pub fn check_term(
             let t = check_term(alloc, tree, *task, env, usages, spare)?;
             joined(t, start(tree, *task))
         }
-        Term::Spawn(captures, body) => check_spawn(alloc, tree, captures, *body, at, env, usages, spare),
+        Term::Spawn(captures, body) => check_spawn(
+            alloc, tree, captures, *body, at, env, usages, spare,
+        ),
         Term::Block(items) => {
             let base = env.len();
             let (t, last) = check_items(alloc, tree, items, node.place, at, env, usages, spare)?;

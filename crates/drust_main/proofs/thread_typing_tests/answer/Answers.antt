@@ -2,7 +2,7 @@ use Rattle.std.proofs.Common.{subst}
 use Rattle.fr_typing.specs.Threaded.{IsThreaded}
 use Rattle.fr_syntax.specs.Meanings.{meanings, term_at}
 use Rattle.drust_main.proofs.Checkable.{checkable}
-use Rattle.drust_main.proofs.thread_typing_tests.fault.Goals as goal
+use Rattle.drust_main.proofs.thread_typing_tests.answer.Goals as goal
 
 pub check-requires : goal.check-requires
 check-requires c =
