@@ -1,8 +1,8 @@
 -- Captured names: what typing has of them, from what the functions of the code find.
-use Rattle.std.proofs.Common.{◌≡◌, ℕ, suc, ◌+◌, ◌<◌, ◌≤◌, Bool, true, false, List, [], ◌∷◌, ◌++◌, length, Option, Some, None, refl, sym, ap, ◌∙◌, subst, arith, length-append}
-use Rattle.std.specs.Prelude.{not, is_some, unwrap_or, Result, Ok, Err}
+use Rattle.std.proofs.Common.{◌≡◌, ℕ, suc, ◌+◌, ◌<◌, ◌≤◌, Bool, true, false, List, [], ◌∷◌, ◌++◌, length, Some, refl, sym, ap, ◌∙◌, subst, arith}
+use Rattle.std.specs.Prelude.{not, is_some, unwrap_or, Ok, Err}
 use Rattle.fr_base.specs.declared.place.Lval.{Lval}
-use Rattle.fr_terms.specs.Terms.{Text, Captured}
+use Rattle.fr_terms.specs.Terms.{Captured}
 use Rattle.fr_typing.specs.declared.reason.Reason.TheVariants.{NameInScope, NotOwned}
 use Rattle.fr_typing.specs.Kinds.{Kind, own, unit, shared, mutable, view, Piece, whole, copies}
 use Rattle.fr_typing.specs.Places.{AreBelow as NamesBelow, Env, found, type_at, slot_of, kind_places}
@@ -12,7 +12,7 @@ use Rattle.fr_typing.specs.Captures.{by_spawn, spot_of, captured_kind, captured_
 use Rattle.fr_typing.specs.Rules.{let_rule}
 use Rattle.fr_typing.proofs.FindingLemmas.{find_by, misses_by}
 use Rattle.fr_syntax.specs.Arena.{Arena}
-use Rattle.fr_syntax.specs.Meanings.{meanings, meaning_at, captures_at, capture_s, all_need, nodes_in, AreBelow}
+use Rattle.fr_syntax.specs.Meanings.{meanings, meaning_at, captures_at, capture_s, all_need, nodes_in}
 use Rattle.fr_types.specs.declared.types.Ty.{Ty}
 use Rattle.fr_types.specs.Types.{kind_of}
 use Rattle.fr_types.specs.States.{Held, env_of}
@@ -21,8 +21,8 @@ use Rattle.borrow_check.specs.declared.check_error.CheckError.TheVariants.{Fault
 use Rattle.borrow_check.specs.declared.usage.Usage.{Usage}
 use Rattle.borrow_check.specs.Rules.{IsInScope, Finds, Gives, Passes}
 use Rattle.borrow_check.specs.Capturing.{capture_at, AreNames, IsHanded, when_free, GoesOn}
-use Rattle.borrow_check.specs.Usages.{env_after, usage_of, is_moved, capture_usage, env_left, env_new, env_of_all, capture_usages, write, AreWritten}
-use Rattle.borrow_check.proofs.UsageLemmas.{written_none, written_both, written_long, length-write}
+use Rattle.borrow_check.specs.Usages.{env_after, usage_of, is_moved, capture_usage, env_left, env_new, capture_usages, write, AreWritten}
+use Rattle.borrow_check.proofs.UsageLemmas.{written_none, written_both, length-write}
 
 -- ONE NAME
 

@@ -6,11 +6,10 @@ use Rattle.fr_base.specs.declared.place.Op.{Op}
 use Rattle.fr_terms.specs.Terms as terms
 use Rattle.fr_terms.specs.Terms.{Text, Captured, start_of, block_t, let_t, assign_t, box_t, print_t, arith_t, join_t, spawn_t}
 use Rattle.fr_typing.specs.Threaded.{IsThreaded}
-use Rattle.fr_typing.specs.Kinds.{task, Kind, own, unit}
+use Rattle.fr_typing.specs.Kinds.{Kind, own, unit}
 use Rattle.fr_typing.specs.Places.{Env}
-use Rattle.fr_typing.specs.Finding.{Outcome, typed, then_typed}
+use Rattle.fr_typing.specs.Finding.{Outcome, typed}
 use Rattle.fr_typing.specs.Captures.{by_spawn, capture_all}
-use Rattle.fr_typing.specs.Rules.{held_rule}
 use Rattle.fr_typing.specs.Typing.{typing}
 use Rattle.fr_syntax.specs.declared.tree.Term.TheVariants.{Block, Let, Assign, Box, Print, Arith, Join, Spawn}
 use Rattle.fr_syntax.specs.declared.tree.Node.{Node}
@@ -21,12 +20,12 @@ use Rattle.borrow_check.specs.declared.usage.Usage.{Usage}
 use Rattle.fr_types.specs.declared.types.Ty.{Ty}
 use Rattle.fr_types.specs.States.{Held, env_of}
 use Rattle.borrow_check.specs.declared.check_error.CheckError.{CheckError}
-use Rattle.borrow_check.specs.Rules.{Gives, Follows}
-use Rattle.borrow_check.specs.Capturing.{AreNames, GoesOn}
+use Rattle.borrow_check.specs.Rules.{Gives}
+use Rattle.borrow_check.specs.Capturing.{AreNames}
 use Rattle.borrow_check.specs.Nodes.{IsReady, AreReady}
 use Rattle.borrow_check.specs.Usages.{env_after, env_of_all, usage_of, capture_usages, usages_of, usages_in, write, AreWritten}
 use Rattle.borrow_check.proofs.UsageLemmas.{written_both, written_node, different_front, different_back}
-use Rattle.borrow_check.proofs.TermLemmas.{left_part, right_part, arith_written, IsHere, term_here, one_part, value_part, items_part, follows_gives, one_written, block_written, assign_written}
+use Rattle.borrow_check.proofs.TermLemmas.{left_part, right_part, arith_written, IsHere, term_here, one_part, value_part, items_part, one_written, block_written, assign_written}
 
 pub on_ok : {A E : Type 0} (P : Type 0) (r : Result A E) → P → OnOk r P
 on_ok P (Ok x) h = h

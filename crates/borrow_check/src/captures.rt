@@ -102,13 +102,8 @@ fn hand_on(alloc: Global, env: &mut Env, x: Lval, t: &Ty, place: u32) -> Result<
     Ok(())
 }
 
-/// Captures a name: what its variable holds stands in a new slot of the new environment. The answer is how the variable is used.
-fn capture(
-    alloc: Global,
-    env: &mut Env,
-    new: &mut Env,
-    captured: Name,
-) -> Result<Usage, CheckError>
+// Captures a name: what its variable holds stands in a new slot of the new environment. The answer is how the variable is used.
+fn capture(alloc: Global, env: &mut Env, new: &mut Env, captured: Name) -> Result<Usage, CheckError>
     requires few { length new.old < 268435456 }
     ensures goes_on { (names : List Text) → IsInScope names env.old → IsInScope names new.old → captured.name < length names → GoesOn result (capture by_spawn (env_of names env.old) (env_of names new.old) (captured_of names captured)) (env_of names env.new) (env_of names new.new) }
     ensures usage { IfOk result (λ u. (names : List Text) → IsInScope names env.old → captured.name < length names → u ≡ capture_usage (env_of names env.old) (captured_of names captured)) }

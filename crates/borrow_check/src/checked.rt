@@ -7,6 +7,7 @@ ghost use Rattle.borrow_check.specs.Programs.{IsCheckable, IsChecked, IsFault, H
 
 use crate::check_error::CheckError;
 use crate::checker::check_term;
+use crate::spare::Spare;
 use crate::usage::Usage;
 use fr_base::{Lval, NoMemory};
 use fr_syntax::{Term, Tree};
@@ -98,7 +99,8 @@ pub fn check(alloc: Global, tree: Tree) -> Result<Checked, CheckError>
 {
     let mut usages = no_usages(alloc, tree.len())?;
     let mut env = Env::new(alloc);
-    match check_term(alloc, &tree, tree.root(), &mut env, &mut usages) {
+    let mut spare = Spare::new(alloc);
+    match check_term(alloc, &tree, tree.root(), &mut env, &mut usages, &mut spare) {
         Ok(_) => Ok(Checked { tree, usages }),
         Err(e) => Err(e),
     }

@@ -17,6 +17,7 @@ use crate::captures::capture_all;
 use crate::check_error::CheckError;
 use crate::nodes::{assign, borrow, borrow_mut, read};
 use crate::rules::{bind, combined, end_block, in_box, in_task, joined, number, printed};
+use crate::spare::Spare;
 use crate::usage::Usage;
 use fr_syntax::{Nodes, Term, Tree};
 use fr_types::{Env, Ty};
@@ -43,6 +44,7 @@ pub fn check_term(
     at: u32,
     env: &mut Env,
     usages: &mut Vec<Usage>,
+    spare: &mut Spare,
 ) -> Result<Ty, CheckError>
     requires ready { IsReady tree.now at }
     requires scope { IsInScope tree.now.names env.old }
@@ -65,30 +67,34 @@ pub fn check_term(
         Term::Borrow(of) => borrow(alloc, tree, env, usages, *of),
         Term::BorrowMut(of) => borrow_mut(alloc, tree, env, usages, *of),
         Term::Box(value) => {
-            let t = check_term(alloc, tree, *value, env, usages)?;
+            let t = check_term(alloc, tree, *value, env, usages, spare)?;
             in_box(alloc, t, start(tree, *value))
         }
         Term::Print(value) => {
-            let t = check_term(alloc, tree, *value, env, usages)?;
+            let t = check_term(alloc, tree, *value, env, usages, spare)?;
             printed(&t, start(tree, *value))
         }
-        Term::Arith(_, left, right) => check_arith(alloc, tree, *left, *right, at, env, usages),
+        Term::Arith(_, left, right) => check_arith(
+            alloc, tree, *left, *right, at, env, usages, spare,
+        ),
         Term::Let(name, value) => {
-            let t = check_term(alloc, tree, *value, env, usages)?;
+            let t = check_term(alloc, tree, *value, env, usages, spare)?;
             bind(env, *name, t, node.place)
         }
         Term::Assign(to, value) => {
-            let t = check_term(alloc, tree, *value, env, usages)?;
+            let t = check_term(alloc, tree, *value, env, usages, spare)?;
             assign(alloc, tree, env, usages, *to, t, start(tree, *value))
         }
         Term::Join(task) => {
-            let t = check_term(alloc, tree, *task, env, usages)?;
+            let t = check_term(alloc, tree, *task, env, usages, spare)?;
             joined(t, start(tree, *task))
         }
-        Term::Spawn(captures, body) => check_spawn(alloc, tree, captures, *body, at, env, usages),
+        Term::Spawn(captures, body) => check_spawn(
+            alloc, tree, captures, *body, at, env, usages, spare,
+        ),
         Term::Block(items) => {
             let base = env.len();
-            let (t, last) = check_items(alloc, tree, items, node.place, at, env, usages)?;
+            let (t, last) = check_items(alloc, tree, items, node.place, at, env, usages, spare)?;
             end_block(env, base, t, last)
         }
         _ => unreachable!(),
@@ -105,6 +111,7 @@ fn check_arith(
     bound: u32,
     env: &mut Env,
     usages: &mut Vec<Usage>,
+    spare: &mut Spare,
 ) -> Result<Ty, CheckError>
     requires left { left < bound }
     requires right { right < bound }
@@ -120,10 +127,10 @@ fn check_arith(
     ensures few { OnOk result (length env.new ≤ length env.old + length (meaning_at (meanings tree.now) left).nodes + length (meaning_at (meanings tree.now) right).nodes) }
     ensures usages { OnOk result (AreWritten usages.old.items usages.new.items ((meaning_at (meanings tree.now) left).nodes ++ (meaning_at (meanings tree.now) right).nodes) (usages_of (term_at (meanings tree.now) left) (env_of tree.now.names env.old) ++ usages_of (term_at (meanings tree.now) right) (env_after (typing (term_at (meanings tree.now) left) (env_of tree.now.names env.old))))) }
 {
-    let first = check_term(alloc, tree, left, env, usages)?;
+    let first = check_term(alloc, tree, left, env, usages, spare)?;
     number(&first, start(tree, left))?;
     drop(first);
-    let second = check_term(alloc, tree, right, env, usages)?;
+    let second = check_term(alloc, tree, right, env, usages, spare)?;
     combined(&second, start(tree, right))
 }
 
@@ -137,6 +144,7 @@ fn check_spawn(
     bound: u32,
     env: &mut Env,
     usages: &mut Vec<Usage>,
+    spare: &mut Spare,
 ) -> Result<Ty, CheckError>
     requires body { body < bound }
     requires names { AreNames tree.now bound captures.now.items }
@@ -150,9 +158,10 @@ fn check_spawn(
     ensures same { OnOk result (length env.new ≡ length env.old) }
     ensures usages { OnOk result (AreWritten usages.old.items usages.new.items (nodes_in (meanings tree.now) (all_need capture_s captures.now.items) ++ (meaning_at (meanings tree.now) body).nodes) (capture_usages (env_of tree.now.names env.old) [] (captures_at (meanings tree.now) captures.now.items) ++ usages_of (term_at (meanings tree.now) body) (env_of_all (env_of tree.now.names env.old) (captures_at (meanings tree.now) captures.now.items)))) }
 {
-    let mut new = Env::new(alloc);
+    let mut new = spare.take();
     capture_all(alloc, tree, captures, bound, env, &mut new, usages)?;
-    let t = check_term(alloc, tree, body, &mut new, usages)?;
+    let t = check_term(alloc, tree, body, &mut new, usages, spare)?;
+    spare.put(new)?;
     in_task(alloc, t, start(tree, body))
 }
 
@@ -166,6 +175,7 @@ fn check_items(
     bound: u32,
     env: &mut Env,
     usages: &mut Vec<Usage>,
+    spare: &mut Spare,
 ) -> Result<(Ty, u32), CheckError>
     requires ready { AreReady tree.now bound items.now.items }
     requires scope { IsInScope tree.now.names env.old }
@@ -184,7 +194,7 @@ fn check_items(
         let Some(item) = items.at(next) else {
             unreachable!()
         };
-        let found = check_term(alloc, tree, *item, env, usages)?;
+        let found = check_term(alloc, tree, *item, env, usages, spare)?;
         drop(mem::replace(&mut t, found));
         last = start(tree, *item);
     }

@@ -8,6 +8,7 @@ mod checker;
 mod finding;
 mod nodes;
 mod rules;
+mod spare;
 #[cfg(test)]
 mod tests;
 mod usage;

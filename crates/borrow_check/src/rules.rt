@@ -296,8 +296,8 @@ pub fn write(
     Ok(Ty::Unit)
 }
 
-// Only the first slots stay, so many of them.
-fn keep(env: &mut Env, base: u32)
+/// Only the first slots stay, so many of them.
+pub fn keep(env: &mut Env, base: u32)
     requires { base ≤ length env.old }
     ensures { env.new ≡ drop (length env.old - base) env.old }
 {

@@ -121,31 +121,6 @@ fn lent_to_outside(alloc: Global) -> Result<Tree, NoMemory>
     Ok(tree)
 }
 
-// The tree of `{ let mut x = box 1; let mut y = 2; spawn (y, x) { x } }`.
-fn thread_started(alloc: Global) -> Result<Tree, NoMemory>
-    ensures { IfOk result IsCheckable }
-{
-    let mut tree = Tree::new(alloc);
-    let x = tree.add_name("x")?;
-    let y = tree.add_name("y")?;
-    let mut items = Nodes::new(alloc);
-    let number = tree.add(Term::Number(1), 18)?;
-    let boxed = tree.add(Term::Box(number), 14)?;
-    items.push(tree.add(Term::Let(x, boxed), 2)?)?;
-    let other = tree.add(Term::Number(2), 33)?;
-    items.push(tree.add(Term::Let(y, other), 21)?)?;
-    let mut captures = Nodes::new(alloc);
-    captures.push(tree.add(Term::Capture(y), 43)?)?;
-    captures.push(tree.add(Term::Capture(x), 46)?)?;
-    let place = tree.add(Term::Place(x, 0), 51)?;
-    let mut inner = Nodes::new(alloc);
-    inner.push(tree.add(Term::Read(place), 51)?)?;
-    let body = tree.add(Term::Block(inner), 49)?;
-    items.push(tree.add(Term::Spawn(captures, body), 36)?)?;
-    tree.add(Term::Block(items), 0)?;
-    Ok(tree)
-}
-
 // The fault of a tree.
 fn fault(alloc: Global, tree: Tree) -> Option<CheckError>
     requires { IsCheckable tree }
@@ -220,19 +195,5 @@ fn no_reference_leaves_its_block(rt: HostRuntime) -> Result<(), Fail> {
         fault(rt.alloc(), lent_to_outside(rt.alloc())?),
         Some(expected)
     );
-    Ok(())
-}
-
-#[test]
-fn captures_have_their_variables(rt: HostRuntime) -> Result<(), Fail> {
-    let checked = check(rt.alloc(), thread_started(rt.alloc())?)?;
-    assert_eq!(rt; checked.tree().len(), 12);
-    assert_eq!(rt; checked.lval(5), Some(Lval { slot: 1, depth: 0 }));
-    assert_eq!(rt; checked.lval(6), Some(Lval { slot: 0, depth: 0 }));
-    assert!(rt; !checked.takes(5));
-    assert!(rt; checked.takes(6));
-    assert_eq!(rt; checked.lval(7), Some(Lval { slot: 1, depth: 0 }));
-    assert!(rt; checked.takes(8));
-    assert_eq!(rt; checked.lval(10), None);
     Ok(())
 }

@@ -1,16 +1,19 @@
 -- What is read from tokens can be checked.
-use Rattle.std.proofs.Common.{◌≡◌, ℕ, List, sym, subst}
+use Rattle.std.proofs.Common.{◌≡◌, ℕ, List, [], sym, subst}
 use Rattle.fr_terms.specs.Terms.{Text, Term, block_t}
+use Rattle.fr_typing.specs.Sequential.{IsSequential}
 use Rattle.fr_typing.specs.Threaded.{IsThreaded}
+use Rattle.fr_typing.specs.Laws as laws
 use Rattle.fr_syntax.specs.declared.token.Token.{Token}
 use Rattle.fr_syntax.specs.Arena.{Arena}
 use Rattle.fr_syntax.specs.Meanings.{term_of, IsTree}
 use Rattle.fr_parse.specs.Grammar as grammar
 use Rattle.fr_syntax.specs.Tokens.{AreTokens}
-use Rattle.fr_parse.specs.Source.{Spelled}
+use Rattle.fr_parse.specs.Source.{Spelled, IsSource}
 use Rattle.fr_syntax.proofs.NameTexts.{names_apart}
 use Rattle.borrow_check.specs.Rules.{AreDifferentTexts}
 use Rattle.borrow_check.specs.Programs.{IsBlock, IsCheckable}
+use Rattle.drust_main.specs.Headline.{IsTyped}
 
 -- a program is a block
 is_block : (t : Term) → grammar.IsBlock t → IsBlock t
@@ -26,3 +29,9 @@ checkable bytes ts names tree tokens spelled threaded same whole =
       block = is_block (term_of tree) spelled.grammar.0;
       names = subst AreDifferentTexts (sym same) (names_apart bytes ts names tokens);
     }
+
+-- and its program is that of a source, once it has a type
+pub typed_source : (bytes : List ℕ) (tree checked : Arena) → IsSource bytes (term_of tree) → IsSequential (term_of tree) → laws.IsTyped [] (term_of tree) → checked ≡ tree → IsTyped bytes (term_of checked)
+typed_source bytes tree checked source accepted h same =
+    subst (λ (a : Arena). IsTyped bytes (term_of a)) (sym same)
+    (record { source = source; accepted = accepted; kind = h.kind; after = h.after; types = h.types })

@@ -1,4 +1,4 @@
-use Rattle.std.proofs.Common.{length, [], Err}
+use Rattle.std.proofs.Common.{length, []}
 use Rattle.std.proofs.lemmas.Result.{err_from_is_err_and}
 use Rattle.fr_types.specs.Types.{kind_of, piece_of}
 use Rattle.fr_types.specs.States.{env_of}

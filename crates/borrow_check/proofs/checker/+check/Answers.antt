@@ -68,8 +68,8 @@ check_spawn-check_term-requires t c = (
     (
       c.in_ok-capture_all.ensures.new_scope,
       (
-        written_long c.args.usages.now.items c.capture_all.new.usages.items (nodes_in (meanings c.args.tree.now) (all_need capture_s c.args.captures.now.items)) (capture_usages (env_of c.args.tree.now.names c.args.env.now) (env_of c.args.tree.now.names c.new-new.result) (captures_at (meanings c.args.tree.now) c.args.captures.now.items)) c.in_ok-capture_all.ensures.usages ∙ c.requires.usages,
-        omega (arith, c.requires.few, c.in_ok-capture_all.ensures.few, ap length c.new-new.ensures),
+        written_long c.args.usages.now.items c.capture_all.new.usages.items (nodes_in (meanings c.args.tree.now) (all_need capture_s c.args.captures.now.items)) (capture_usages (env_of c.args.tree.now.names c.args.env.now) (env_of c.args.tree.now.names c.take-new.result) (captures_at (meanings c.args.tree.now) c.args.captures.now.items)) c.in_ok-capture_all.ensures.usages ∙ c.requires.usages,
+        omega (arith, c.requires.few, c.in_ok-capture_all.ensures.few, ap length c.take-new.ensures),
       ),
     ),
   ),
@@ -80,8 +80,8 @@ check_spawn-returns-clause-usages t c =
     let names = c.args.tree.now.names in
     let ms = meanings c.args.tree.now in
     on_ok _ c.in_task.result
-    (thread_used names c.new-new.result (env_of names c.args.env.now) (env_of names c.capture_all.new.env) (env_of names c.capture_all.new.new) (captures_at ms c.args.captures.now.items) (term_at ms c.args.body) c.args.usages.now.items c.capture_all.new.usages.items c.check_term.new.usages.items
-    (nodes_in ms (all_need capture_s c.args.captures.now.items)) (meaning_at ms c.args.body).nodes c.new-new.ensures c.in_ok-capture_all.ensures.goes_on c.in_ok-capture_all.ensures.usages c.in_ok-t.ensures.usages)
+    (thread_used names c.take-new.result (env_of names c.args.env.now) (env_of names c.capture_all.new.env) (env_of names c.capture_all.new.new) (captures_at ms c.args.captures.now.items) (term_at ms c.args.body) c.args.usages.now.items c.capture_all.new.usages.items c.check_term.new.usages.items
+    (nodes_in ms (all_need capture_s c.args.captures.now.items)) (meaning_at ms c.args.body).nodes c.take-new.ensures c.in_ok-capture_all.ensures.goes_on c.in_ok-capture_all.ensures.usages c.in_ok-t.ensures.usages)
 
 pub check_term-returns-in_ok-t-in-Join-clause-usages : goal.check_term-returns-in_ok-t-in-Join-clause-usages
 check_term-returns-in_ok-t-in-Join-clause-usages t c =
