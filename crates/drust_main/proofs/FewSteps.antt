@@ -115,7 +115,7 @@ mutual
   settle_fits unit_c = (omega arith, refl)
   settle_fits (number n) = (omega arith, refl)
   settle_fits (read w take) = (omega arith, refl)
-  settle_fits (borrow w) = (omega arith, refl)
+  settle_fits (borrow w is_mut) = (omega arith, refl)
   settle_fits (box_r r) = (omega (arith, (settle_fits r).0), refl)
   settle_fits (arith_r f a b) = (omega (arith, (settle_fits a).0, right_fits (now (settle a)) b (settle b) (settle_fits b).0), refl)
   settle_fits (bind r) = (omega (arith, (settle_fits r).0), refl)

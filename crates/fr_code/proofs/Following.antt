@@ -1,5 +1,5 @@
 -- The code's next move is the term's.
-use Rattle.std.proofs.Common.{◌≡◌, ◌≢◌, ℕ, zero, suc, ◌+◌, Bool, true, false, List, [], ◌∷◌, Option, Some, None, refl, sym, ap, ◌∙◌, subst}
+use Rattle.std.proofs.Common.{◌≡◌, ◌≢◌, ℕ, zero, suc, ◌+◌, Bool, true, false, List, ◌∷◌, Option, Some, None, refl, sym, ap, ◌∙◌, subst}
 use Rattle.std.specs.Prelude.{⊤, slice_get}
 use Rattle.fr_base.specs.declared.place.Lval.{Lval}
 use Rattle.fr_base.specs.declared.place.Op.{Op}
@@ -11,8 +11,8 @@ use Rattle.fr_plain.specs.declared.value.Value.{Value}
 use Rattle.fr_plain.specs.Acts.{Act, do_let, do_read, do_borrow, do_assign, do_box, do_arith, do_print, do_discard, do_drop, do_spawn, do_join}
 use Rattle.fr_plain.specs.Run.{Capture, Run, temp, unit_c, number, read, borrow, box_r, arith, bind, print, assign, block, spawn, join_r, Parts, last, more, Now, going, constant, temporary, by_now, on_value, after, now, now_parts, Move, next, alone, block_end, move, move_parts}
 use Rattle.fr_plain.specs.Whole.{starts_thread}
-use Rattle.fr_code.specs.Steps.{CodeAct, does, starts, captured, CodeMove, with_operand, went, quiet, loud, run_instr, code_move}
-use Rattle.fr_code.specs.StandsFor.{operand_of, operand_of_last, temps_in, temps_in_parts, IsSource, AreSource, Later, LaterParts, Discards, DropsAt, borrowing, At, AtParts}
+use Rattle.fr_code.specs.Steps.{does, starts, captured, CodeMove, with_operand, went, quiet, loud, run_instr, code_move}
+use Rattle.fr_code.specs.StandsFor.{operand_of, operand_of_last, temps_in, temps_in_parts, IsSource, AreSource, LaterParts, Discards, DropsAt, At, AtParts}
 use Rattle.fr_code.specs.Laws.{SameAct, same_act, same_start}
 use Rattle.fr_code.proofs.Finished.{source_temps, sources_temps, later, later_parts, is_later, done_later, OperandNow, operand_now, operand_last_now, Finished, finished, finished_parts, anywhere, parts_anywhere, done_stands}
 
@@ -100,7 +100,7 @@ module _ (code : List Instr) where
       one Fits (now r) (operand_of r) us ts p m (λ v. alone T (a v)) (next F (move r)) x (operand_now code r) (finished code r p m ts at)
       (λ e. under Fits (StandsIn code m ts (operand_of r)) F (move r) x (λ l vs y f. subst (λ z. Fits l z (F y)) (sym f.temps) (form y l f.at (i ∙ ap (λ o. Some (I o)) (sym f.operand)))) (ih e))
       (λ v ne take e. acts Fits (a v) T (λ w. p + 1) (λ w. k w ts) x (fetch (I (operand_of r)) m p us i e ∙ runs (operand_of r) us ∙ take (λ w vs. went (λ y. p + 1) (λ y. k y vs) (does (a w)))) (own v)
-          (λ w. value w (p + 1) (len ∙ ap (λ n. n + 1) e)))
+      (λ w. value w (p + 1) (len ∙ ap (λ n. n + 1) e)))
 
   box_follows : (r : Run) → Follows r → Follows (box_r r)
   box_follows r ih p q ts g h =
@@ -141,11 +141,11 @@ module _ (code : List Instr) where
       let x = code_move code p us in
       one Fits (now b) (operand_of b) us (temps_in a ts) p n (λ w. alone temp (do_arith f v w)) (next (arith f a) (move b)) x (operand_now code b) (finished code b p n (temps_in a ts) at)
       (λ e. under Fits (StandsIn code n (temps_in a ts) (operand_of b)) (arith f a) (move b) x
-          (λ l vs y g. record { at = (l, n, done_stands code (now a) (λ z. At code z a z) ne (anywhere code a) l, g.at, i ∙ ap (λ o. Some (instr.Arith f (operand_of a) o)) (sym g.operand), len, done_later (now a) (IsSource y) ne); temps = g.temps; operand = refl })
-          (ih p n (temps_in a ts) e at))
+      (λ l vs y g. record { at = (l, n, done_stands code (now a) (λ z. At code z a z) ne (anywhere code a) l, g.at, i ∙ ap (λ o. Some (instr.Arith f (operand_of a) o)) (sym g.operand), len, done_later (now a) (IsSource y) ne); temps = g.temps; operand = refl })
+      (ih p n (temps_in a ts) e at))
       (λ w ne2 take2 e. acts Fits (do_arith f v w) temp (λ y. p + 1) (λ y. y ∷ ts) x
-          (fetch (instr.Arith f (operand_of a) (operand_of b)) n p us i e ∙ take2 (λ w us. with_operand (operand_of a) us (λ v vs. loud (p + 1) vs (does (do_arith f v w)))) ∙ take (λ v vs. loud (p + 1) vs (does (do_arith f v w)))) refl
-          (λ y. record { at = len ∙ ap (λ z. z + 1) e; temps = refl; operand = refl }))
+      (fetch (instr.Arith f (operand_of a) (operand_of b)) n p us i e ∙ take2 (λ w us. with_operand (operand_of a) us (λ v vs. loud (p + 1) vs (does (do_arith f v w)))) ∙ take (λ v vs. loud (p + 1) vs (does (do_arith f v w)))) refl
+      (λ y. record { at = len ∙ ap (λ z. z + 1) e; temps = refl; operand = refl }))
 
   arith_follows : (f : Op) (a b : Run) → Follows a → Follows b → Follows (arith f a b)
   arith_follows f a b iha ihb p q ts g h =
@@ -155,10 +155,10 @@ module _ (code : List Instr) where
       let x = code_move code p (temps_in b (temps_in a ts)) in
       one Fits (now a) (operand_of a) (temps_in a ts) ts p m (λ v. on_value (now b) (λ w. alone temp (do_arith f v w)) (next (arith f a) (move b))) (next (λ y. arith f y b) (move a)) x (operand_now code a) (finished code a p m ts h.2)
       (λ e.
-          let src = is_later (now a) (IsSource b) e h.6 in
-          under Fits (StandsIn code m ts (operand_of a)) (λ y. arith f y b) (move a) x
-          (λ l vs y g. record { at = (m, n, g.at, h.3, h.4 ∙ ap (λ o. Some (instr.Arith f o (operand_of b))) (sym g.operand), h.5, later (now y) (IsSource b) src); temps = g.temps ∙ sym (source_temps b (temps_in y ts) src); operand = refl })
-          (subst (λ us. Same code (StandsIn code m ts (operand_of a)) (move a) (code_move code p us)) (sym (source_temps b (temps_in a ts) src)) (iha p m ts e h.2)))
+      let src = is_later (now a) (IsSource b) e h.6 in
+      under Fits (StandsIn code m ts (operand_of a)) (λ y. arith f y b) (move a) x
+      (λ l vs y g. record { at = (m, n, g.at, h.3, h.4 ∙ ap (λ o. Some (instr.Arith f o (operand_of b))) (sym g.operand), h.5, later (now y) (IsSource b) src); temps = g.temps ∙ sym (source_temps b (temps_in y ts) src); operand = refl })
+      (subst (λ us. Same code (StandsIn code m ts (operand_of a)) (move a) (code_move code p us)) (sym (source_temps b (temps_in a ts) src)) (iha p m ts e h.2)))
       (λ v ne take e. arith_right f a b ihb p m n q ts v ne take e (subst (λ z. At code z b n) e h.3) h.4 h.5)
 
   end_follows : (k : ℕ) (is : Parts) (p q : ℕ) (ts us : List Value) → now (block k is) ≡ going → now_parts is ≢ going → us ≡ temps_in_parts is ts → DropsAt code p k q

@@ -1,19 +1,18 @@
 -- A thread and its code make the same move, also at the thread's end.
-use Rattle.std.proofs.Common.{◌≡◌, ◌≢◌, ℕ, zero, suc, ◌+◌, Bool, true, false, List, [], ◌∷◌, Option, Some, None, refl, sym, ap, ◌∙◌, subst}
-use Rattle.std.specs.Prelude.{⊤}
+use Rattle.std.proofs.Common.{◌≡◌, ℕ, false, List, [], Option, Some, None, refl, sym, ap, ◌∙◌, subst}
 use Rattle.fr_base.specs.declared.instruction.Operand.{Operand}
 use Rattle.fr_base.specs.declared.instruction.Operand.TheVariants as operand
 use Rattle.fr_base.specs.declared.instruction.Instr.{Instr}
 use Rattle.fr_base.specs.declared.instruction.Instr.TheVariants as instr
 use Rattle.fr_plain.specs.declared.value.Value.{Value}
 use Rattle.fr_plain.specs.Acts.{Act, do_end, do_finish, do_leave}
-use Rattle.fr_plain.specs.Run.{Run, Now, going, constant, temporary, now, on_value, Move, next, alone, move, settle, Life, alive, over, owing, loose, ended, settle_life, life_move}
+use Rattle.fr_plain.specs.Run.{Run, Now, going, constant, temporary, now, on_value, Move, next, alone, move, Life, alive, over, owing, loose, ended, settle_life}
 use Rattle.fr_plain.specs.Whole.{starts_thread}
-use Rattle.fr_code.specs.Steps.{CodeAct, does, stops, CodeMove, with_operand, quiet, run_instr, code_move, CodeLife, alive_at, owing_at, loose_at, result, gone, LifeMove, goes_on, moves_on, life_code_move}
-use Rattle.fr_code.specs.StandsFor.{operand_of, temps_in, Ends, At, Stands}
+use Rattle.fr_code.specs.Steps.{CodeAct, stops, CodeMove, with_operand, quiet, code_move, CodeLife, alive_at, owing_at, loose_at, result, gone, goes_on, moves_on}
+use Rattle.fr_code.specs.StandsFor.{operand_of, temps_in, Ends, Stands}
 use Rattle.fr_code.specs.Laws.{StandsLife, stands_alive, stands_owing, stands_loose, stands_ended, stands_over, SameAct, same_act, same_start, SameMove, SameMoves, MovesAlike}
 use Rattle.fr_code.proofs.Finished.{OperandNow, operand_now, Finished, finished}
-use Rattle.fr_code.proofs.Following.{StandsIn, Match, Same, fetch, Takes, follows}
+use Rattle.fr_code.proofs.Following.{StandsIn, Same, fetch, follows}
 use Rattle.fr_code.proofs.Settling.{settling_stands}
 
 -- the instruction at the end of a thread, whose term is done with that value

@@ -1,33 +1,29 @@
 -- A typed code state: its threads' acts are typed, and its steps lead to typed states.
-use Rattle.std.proofs.Common.{◌≡◌, ◌≢◌, ℕ, Bool, true, false, List, [], ◌∷◌, Option, Some, None, refl, sym, ap, ◌∙◌, subst}
-use Rattle.std.specs.Prelude.{⊤}
+use Rattle.std.proofs.Common.{◌≡◌, ℕ, true, false, List, [], Option, Some, None, refl, sym, ap, ◌∙◌, subst}
 use Rattle.fr_base.specs.declared.step.Fresh.{Fresh}
 use Rattle.fr_base.specs.declared.instruction.Operand.TheVariants as operand
 use Rattle.fr_base.specs.declared.instruction.Instr.{Instr}
 use Rattle.fr_terms.specs.Terms.{block_t}
 use Rattle.fr_typing.specs.Kinds.{Kind, own}
 use Rattle.fr_typing.specs.Places.{Env}
-use Rattle.fr_store.specs.Typed.{KeyTypes}
-use Rattle.fr_store.specs.Store.{Store}
 use Rattle.fr_plain.specs.declared.value.Value.{Value}
-use Rattle.fr_plain.specs.Acts.{Act, do_spawn}
-use Rattle.fr_plain.specs.Run.{Run, Now, going, constant, temporary, now, Move, move, Life, alive, over, owing, loose, ended}
-use Rattle.fr_plain.specs.Whole.{Thread, Whole, Stepped, thread_at, starts_thread, step, start}
+use Rattle.fr_plain.specs.Acts.{Act}
+use Rattle.fr_plain.specs.Run.{Run, Now, going, constant, temporary, now, Move, move, Life}
+use Rattle.fr_plain.specs.Whole.{Thread, Whole, Stepped, thread_at, start}
 use Rattle.fr_plain.specs.Resolve.{program}
-use Rattle.fr_sound.specs.RunTypes.{threads, RunTypes, held, Operand, o_temp, NextTypes, n_own, n_spawn}
-use Rattle.fr_sound.specs.Seen.{Gives}
+use Rattle.fr_sound.specs.RunTypes.{threads, RunTypes, held, o_temp, NextTypes, n_own, n_spawn}
 use Rattle.fr_sound.specs.Together.{seen_all, IsRunning, IsTypedIn, AreTyped}
 use Rattle.fr_sound.proofs.DoneTerms.{Done, d_constant, d_temporary, done}
 use Rattle.fr_sound.proofs.Redex.{goes_of, redex}
 use Rattle.fr_sound.proofs.Together.{own_names, never_stuck_together_lem}
 use Rattle.fr_sound.proofs.Starting.{starts_together_lem}
-use Rattle.fr_code.specs.Steps.{CodeAct, does, starts, stops, unlocks, CodeMove, with_operand, quiet, code_move, CodeLife, alive_at, owing_at, loose_at, result, gone}
-use Rattle.fr_code.specs.Machine.{CodeThread, CodeWhole, CodeStepped, code_thread, code_step, code_start}
-use Rattle.fr_code.specs.StandsFor.{operand_of, temps_in, At, Stands}
-use Rattle.fr_code.specs.Laws.{StandsLife, stands_alive, stands_owing, stands_loose, stands_ended, stands_over, StandsThread, SameAct, same_act, same_start, SameSteps}
-use Rattle.fr_code.specs.TypedCode.{AreTypedCode, IsTypedAct, typed_does, typed_start, typed_stop, IsAt, IsTypedMove, CodeStepsOn, ActsAreTyped, CodeNeverStuck, CodeStartsTyped}
+use Rattle.fr_code.specs.Steps.{CodeAct, stops, unlocks, CodeMove, with_operand, quiet, code_move, CodeLife}
+use Rattle.fr_code.specs.Machine.{CodeThread, CodeWhole, CodeStepped, code_step}
+use Rattle.fr_code.specs.StandsFor.{operand_of, temps_in, Stands}
+use Rattle.fr_code.specs.Laws.{StandsLife, stands_alive, stands_owing, stands_loose, stands_ended, stands_over, SameAct, same_act, same_start, SameSteps}
+use Rattle.fr_code.specs.TypedCode.{IsTypedAct, typed_does, typed_start, typed_stop, IsAt, IsTypedMove, CodeStepsOn, ActsAreTyped, CodeNeverStuck, CodeStartsTyped}
 use Rattle.fr_code.proofs.Finished.{OperandNow, operand_now, Finished, finished}
-use Rattle.fr_code.proofs.Following.{StandsIn, Match, Same, follows}
+use Rattle.fr_code.proofs.Following.{StandsIn, Same, follows}
 use Rattle.fr_code.proofs.Threads.{end_move}
 use Rattle.fr_code.proofs.Wholes.{SameFound, same_found, steps_alike, starts_alike}
 

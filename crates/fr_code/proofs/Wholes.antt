@@ -8,15 +8,15 @@ use Rattle.fr_base.specs.declared.instruction.Instr.{Instr}
 use Rattle.fr_plain.specs.declared.value.Value.{Value}
 use Rattle.fr_plain.specs.declared.value.Value.TheVariants.{Own, ToSlot, ToObject}
 use Rattle.fr_plain.specs.Heap.{Heap}
-use Rattle.fr_plain.specs.State.{State, without}
+use Rattle.fr_plain.specs.State.{without}
 use Rattle.fr_plain.specs.Acts.{Act, do_let, do_read, do_borrow, do_assign, do_box, do_arith, do_print, do_discard, do_drop, do_end, do_spawn, do_join, do_finish, do_leave, Did, act, task_in, lets_go}
-use Rattle.fr_plain.specs.Run.{Run, settle, Move, Life, alive, over, owing, loose, ended, settle_life, life_move}
+use Rattle.fr_plain.specs.Run.{Run, settle, Move, Life, over, owing, loose, ended, settle_life, life_move}
 use Rattle.fr_plain.specs.Threads.{Passed, pass, result_of_life, result_in, released, released_in}
-use Rattle.fr_plain.specs.Whole.{Thread, Whole, Stepped, Turn, thread_at, with_thread, is_given, result_at, with_life, let_threads_go, let_go, prints, state_of, stepped, then_released, alone_stepped, started_with, started, joined_with, joined, is_nameless, starts_thread, done_act, moved, step_of, step, then_labels, go_on, run, start, plain}
-use Rattle.fr_code.specs.Steps.{CodeAct, does, starts, CodeLife, alive_at, owing_at, loose_at, result, gone, LifeMove, life_code_move}
+use Rattle.fr_plain.specs.Whole.{Thread, Whole, Stepped, Turn, thread_at, with_thread, is_given, result_at, with_life, let_threads_go, let_go, prints, state_of, stepped, then_released, alone_stepped, started_with, started, joined_with, joined, is_nameless, starts_thread, done_act, moved, step_of, step, then_labels, go_on, run, start}
+use Rattle.fr_code.specs.Steps.{CodeAct, does, CodeLife, owing_at, loose_at, gone, LifeMove, life_code_move}
 use Rattle.fr_code.specs.Machine.{CodeThread, CodeWhole, CodeStepped, code_thread, with_code_thread, with_code_life, code_state, code_result, code_result_in, code_released, code_released_in, code_threads_go, code_let_go, code_stepped, then_code_released, code_alone, code_started_with, code_started, code_joined_with, code_joined, code_done, code_moved, code_step_of, code_step, then_code_labels, code_goes_on, code_run, code_start}
-use Rattle.fr_code.specs.StandsFor.{Stands, IsCodeFrom, IsCodeOf}
-use Rattle.fr_code.specs.Laws.{StandsLife, stands_alive, stands_owing, stands_loose, stands_ended, stands_over, StandsThread, StandThreads, StandsWhole, SameAct, same_act, same_start, SameMove, SameMoves, SameSteps, StepsAlike, StartsAlike, RunsAlike}
+use Rattle.fr_code.specs.StandsFor.{IsCodeFrom}
+use Rattle.fr_code.specs.Laws.{StandsLife, stands_alive, stands_owing, stands_loose, stands_ended, stands_over, StandsThread, StandThreads, StandsWhole, SameAct, same_act, same_start, SameMoves, SameSteps, StepsAlike, StartsAlike, RunsAlike}
 use Rattle.fr_code.proofs.Finished.{source_temps}
 use Rattle.fr_code.proofs.Settling.{settling_stands}
 use Rattle.fr_code.proofs.Threads.{moves_alike}
@@ -110,7 +110,7 @@ module _ (code : List Instr) where
   same_released f g go s c h x y k (stands_ended {v = v}) =
       let after = record c { threads = with_code_thread c.threads (with_code_life y gone); heap = without c.heap v } in
       subst (λ (z : Heap). StandsWhole code (released f s x (ended v)) (g after (task_in z v))) h.heap (go (record s { threads = with_thread s.threads (with_life x over); heap = without s.heap v }) after
-          (record { threads = same_put s.threads c.threads (with_life x over) (with_code_life y gone) h.threads (record { number = k.number; life = stands_over; slots = k.slots }); heap = ap (λ z. without z v) h.heap; output = h.output }) (task_in s.heap v))
+      (record { threads = same_put s.threads c.threads (with_life x over) (with_code_life y gone) h.threads (record { number = k.number; life = stands_over; slots = k.slots }); heap = ap (λ z. without z v) h.heap; output = h.output }) (task_in s.heap v))
 
   same_released_in : (f : Whole → Option ℕ → Whole) (g : CodeWhole → Option ℕ → CodeWhole) → SameGo f g → (s : Whole) (c : CodeWhole) → StandsWhole code s c → (p : Option Thread) (q : Option CodeThread) → SameFound p q → StandsWhole code (released_in f s p) (code_released_in g c q)
   same_released_in f g go s c h None None k = h
@@ -138,11 +138,14 @@ module _ (code : List Instr) where
   module _ (s : Whole) (c : CodeWhole) (x : Thread) (y : CodeThread) (m : Move Life) (n : LifeMove) (h : StandsWhole code s c) (k : StandsThread code x y) (fits : (v : Value) → StandsLife code (settle_life (m.plug v)) (n.next v)) where
     same_stepped : (d : Option Did) → SameSteps code (stepped s x m d) (code_stepped c y n d)
     same_stepped None = tt
-    same_stepped (Some d) = (refl, record {
-      threads = same_put s.threads c.threads (record { number = x.number; life = settle_life (m.plug d.value); slots = d.state.slots }) (record { number = y.number; life = n.next d.value; slots = d.state.slots }) h.threads (record { number = k.number; life = fits d.value; slots = refl });
-      heap = refl;
-      output = ap (λ o. o ++ prints d.labels) h.output;
-    })
+    same_stepped (Some d) = (
+      refl,
+      record {
+        threads = same_put s.threads c.threads (record { number = x.number; life = settle_life (m.plug d.value); slots = d.state.slots }) (record { number = y.number; life = n.next d.value; slots = d.state.slots }) h.threads (record { number = k.number; life = fits d.value; slots = refl });
+        heap = refl;
+        output = ap (λ o. o ++ prints d.labels) h.output;
+      },
+    )
 
     same_then : (t : Option ℕ) (p : Option Stepped) (q : Option CodeStepped) → SameSteps code p q → SameSteps code (then_released t p) (then_code_released t q)
     same_then t None None e = tt
@@ -158,13 +161,16 @@ module _ (code : List Instr) where
     -- starting a thread
     same_started_with : (r : Run) (body u : ℕ) → IsCodeFrom code body r → (p : Option Passed) → SameSteps code (started_with s x m r u p) (code_started_with c y n body u p)
     same_started_with r body u f None = tt
-    same_started_with r body u f (Some p) = (refl, record {
-      threads = same_more (with_thread s.threads (record { number = x.number; life = settle_life (m.plug (Own (plain_value.Task u))); slots = p.left })) (with_code_thread c.threads (record { number = y.number; life = n.next (Own (plain_value.Task u)); slots = p.left })) (record { number = u; life = owing (settle r); slots = p.new }) (record { number = u; life = owing_at body []; slots = p.new })
-          (same_put s.threads c.threads (record { number = x.number; life = settle_life (m.plug (Own (plain_value.Task u))); slots = p.left }) (record { number = y.number; life = n.next (Own (plain_value.Task u)); slots = p.left }) h.threads (record { number = k.number; life = fits (Own (plain_value.Task u)); slots = refl }))
-          (record { number = refl; life = stands_owing (settling_stands code body [] r (record { to = f.to; at = f.at; temps = sym (source_temps r [] f.source); over = f.over })); slots = refl });
-      heap = h.heap;
-      output = h.output;
-    })
+    same_started_with r body u f (Some p) = (
+      refl,
+      record {
+        threads = same_more (with_thread s.threads (record { number = x.number; life = settle_life (m.plug (Own (plain_value.Task u))); slots = p.left })) (with_code_thread c.threads (record { number = y.number; life = n.next (Own (plain_value.Task u)); slots = p.left })) (record { number = u; life = owing (settle r); slots = p.new }) (record { number = u; life = owing_at body []; slots = p.new })
+            (same_put s.threads c.threads (record { number = x.number; life = settle_life (m.plug (Own (plain_value.Task u))); slots = p.left }) (record { number = y.number; life = n.next (Own (plain_value.Task u)); slots = p.left }) h.threads (record { number = k.number; life = fits (Own (plain_value.Task u)); slots = refl }))
+            (record { number = refl; life = stands_owing (settling_stands code body [] r (record { to = f.to; at = f.at; temps = sym (source_temps r [] f.source); over = f.over })); slots = refl });
+        heap = h.heap;
+        output = h.output;
+      },
+    )
 
     unless_given : (a b : Bool) (p : Option Stepped) (q : Option CodeStepped) → a ≡ b → SameSteps code p q → SameSteps code (if a then None else p) (if b then None else q)
     unless_given true true p q e f = tt
@@ -186,13 +192,16 @@ module _ (code : List Instr) where
     same_joined_with None (Some b) e v = absurd e
     same_joined_with (Some a) None e v = absurd e
     same_joined_with (Some a) (Some b) e None = tt
-    same_joined_with (Some a) (Some b) e (Some v) = (refl, record {
-      threads = same_put (with_thread s.threads (with_life a over)) (with_code_thread c.threads (with_code_life b gone)) (record { number = x.number; life = settle_life (m.plug v); slots = x.slots }) (record { number = y.number; life = n.next v; slots = y.slots })
-          (same_put s.threads c.threads (with_life a over) (with_code_life b gone) h.threads (record { number = e.number; life = stands_over; slots = e.slots }))
-          (record { number = k.number; life = fits v; slots = k.slots });
-      heap = h.heap;
-      output = h.output;
-    })
+    same_joined_with (Some a) (Some b) e (Some v) = (
+      refl,
+      record {
+        threads = same_put (with_thread s.threads (with_life a over)) (with_code_thread c.threads (with_code_life b gone)) (record { number = x.number; life = settle_life (m.plug v); slots = x.slots }) (record { number = y.number; life = n.next v; slots = y.slots })
+            (same_put s.threads c.threads (with_life a over) (with_code_life b gone) h.threads (record { number = e.number; life = stands_over; slots = e.slots }))
+            (record { number = k.number; life = fits v; slots = k.slots });
+        heap = h.heap;
+        output = h.output;
+      },
+    )
 
     same_joined : (v : Value) → SameSteps code (joined s x m v) (code_joined c y n v)
     same_joined (Own (plain_value.Task u)) =

@@ -1,5 +1,5 @@
 -- The codes of some small programs, each written above it.
-use Rattle.std.specs.Prelude.{ℕ, pos, Bool, true, false, List, [], ◌∷◌}
+use Rattle.std.specs.Prelude.{ℕ, pos, true, false, List, [], ◌∷◌}
 use Rattle.fr_base.specs.declared.place.Lval.{Lval}
 use Rattle.fr_base.specs.declared.place.Op.TheVariants as op
 use Rattle.fr_base.specs.declared.instruction.Operand.{Operand}

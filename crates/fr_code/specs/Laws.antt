@@ -1,5 +1,5 @@
 -- When a state of the code stands for a state of the plain machine, and that both take the same steps (this project's rule).
-use Rattle.std.specs.Prelude.{◌≡◌, ⊤, ℕ, true, false, List, [], ◌∷◌, Option, Some, None}
+use Rattle.std.specs.Prelude.{◌≡◌, ⊤, ℕ, false, List, [], ◌∷◌, Option, Some, None}
 use Rattle.fr_base.specs.declared.step.Fresh.{Fresh}
 use Rattle.fr_base.specs.declared.instruction.Instr.{Instr}
 use Rattle.fr_plain.specs.declared.value.Value.{Value}

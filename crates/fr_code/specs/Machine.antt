@@ -1,6 +1,6 @@
 -- The machine of compiled code over one heap: the threads, their steps, and runs under an order (this project's rule). It is the
 -- plain machine with instructions in place of terms.
-use Rattle.std.specs.Prelude.{ℕ, ℤ, zero, suc, Bool, true, false, is_some, ◌==◌, List, [], ◌∷◌, ◌++◌, length, Option, Some, None, if◌then◌else◌}
+use Rattle.std.specs.Prelude.{ℕ, ℤ, zero, suc, is_some, ◌==◌, List, [], ◌∷◌, ◌++◌, length, Option, Some, None, if◌then◌else◌}
 use Rattle.fr_base.specs.declared.label.Plain.TheVariants.{Task}
 use Rattle.fr_base.specs.declared.label.Label.{Label}
 use Rattle.fr_base.specs.declared.label.Label.TheVariants as label

@@ -3,5 +3,7 @@
 
 mod compiler;
 mod emitting;
+#[cfg(test)]
+mod tests;
 
 pub use compiler::compile;
