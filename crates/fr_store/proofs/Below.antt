@@ -2,7 +2,7 @@
 use Rattle.std.proofs.Common.{◌≡◌, ◌≢◌, ◌⊎◌, inl, inr, ⊎_elim, ℕ, zero, suc, ◌<◌, ◌≤◌, Bool, true, false, List, [], ◌∷◌, length, Option, Some, None, refl, sym, ap, subst, ◌∙◌, arith}
 use Rattle.std.specs.Prelude.{◌==◌, ◌||◌, not, if◌then◌else◌}
 use Rattle.fr_base.specs.declared.place.Lval.{Lval}
-use Rattle.fr_typing.specs.Kinds.{Owned, unit, int, box, mutex, task, same_owned, Kind, own, shared, mutable, view, Piece, whole, gone, boxed, lval_lt, insert_lval, union, join_kind, join_piece, map_some}
+use Rattle.fr_typing.specs.Kinds.{Owned, unit, int, box, mutex, task, same_owned, Kind, own, shared, mutable, view, Piece, whole, gone, boxed, lval_lt, insert_lval, union, SetTest, join_kind, join_piece, map_some}
 use Rattle.fr_typing.specs.Places.{Slot, Found, found, undefined, no_target, then_found, found_or_none, join_found, join_all, join_set, star, type_at, alike, starts_at, blocks_read, blocks_write, read_blocked, write_blocked, on_path, is_lent, is_writable, piece_places, AreBelow, IsNested}
 use Rattle.fr_store.specs.Keys.{Key}
 use Rattle.fr_store.specs.Store.{Place, add, Store}
@@ -210,7 +210,7 @@ module _ (key : ℕ → Key) (E : Key → Exact) where
       record { left = λ y x. subst (λ z. ExactOf key E z y) h (f y x); right = λ y x. subst (λ z. ExactOf key E z y) h (g y x) }
 
   -- the join of two parts is wider than both
-  pub join_parts : (same : List Lval → List Lval → Bool) (a b q : Piece) → found_or_none (join_piece same a b) ≡ found q → JoinOf a b q
+  pub join_parts : (same : SetTest) (a b q : Piece) → found_or_none (join_piece same a b) ≡ found q → JoinOf a b q
   join_parts same (whole (own a)) (whole (own b)) q e = join_same (whole (own a)) (whole (own b)) q (own a) (same_owned a b) (λ t. (refl, ap (λ z. whole (own z)) (sym (same_owned_is a b t)))) e
   join_parts same (whole (view a)) (whole (view b)) q e = join_same (whole (view a)) (whole (view b)) q (view a) (same_owned a b) (λ t. (refl, ap (λ z. whole (view z)) (sym (same_owned_is a b t)))) e
   join_parts same (whole (shared a)) (whole (shared b)) q e =
@@ -238,7 +238,7 @@ module _ (key : ℕ → Key) (E : Key → Exact) where
     wider : Wider piece q
 
   -- the join of what two places have comes from what each has
-  join_found_parts : (same : List Lval → List Lval → Bool) (f g : Found) (q : Piece) → join_found same f g ≡ found q → PartOf f q × PartOf g q
+  join_found_parts : (same : SetTest) (f g : Found) (q : Piece) → join_found same f g ≡ found q → PartOf f q × PartOf g q
   join_found_parts same (found a) (found b) q e = let j = join_parts same a b q e in (record { piece = a; is = refl; wider = j.left }, record { piece = b; is = refl; wider = j.right })
   join_found_parts same (found a) undefined q e = absurd cc
   join_found_parts same (found a) no_target q e = absurd cc
@@ -250,7 +250,7 @@ module _ (key : ℕ → Key) (E : Key → Exact) where
   wider_part f a q w p = record { piece = p.piece; is = p.is; wider = λ x h. w x (p.wider x h) }
 
   -- the join over a list of places comes from what each of them has
-  join_all_parts : (same : List Lval → List Lval → Bool) (look : Lval → Found) (f : Found) (us : List Lval) (q : Piece) → join_all same look f us ≡ found q → PartOf f q × ((u : Lval) → In u us → PartOf (look u) q)
+  join_all_parts : (same : SetTest) (look : Lval → Found) (f : Found) (us : List Lval) (q : Piece) → join_all same look f us ≡ found q → PartOf f q × ((u : Lval) → In u us → PartOf (look u) q)
   join_all_parts same look f [] q e = (record { piece = q; is = e; wider = λ x h. h }, λ u h. absurd h)
   join_all_parts same look f (v ∷ us) q e =
       let r = join_all_parts same look (join_found same f (look v)) us q e in
@@ -262,7 +262,7 @@ module _ (key : ℕ → Key) (E : Key → Exact) where
       by more first u (inr h) = more u h
 
   -- the join over a set of places comes from what each of them has
-  join_set_parts : (same : List Lval → List Lval → Bool) (look : Lval → Found) (us : List Lval) (q : Piece) → join_set same look us ≡ found q → (u : Lval) → In u us → PartOf (look u) q
+  join_set_parts : (same : SetTest) (look : Lval → Found) (us : List Lval) (q : Piece) → join_set same look us ≡ found q → (u : Lval) → In u us → PartOf (look u) q
   join_set_parts same look [] q e u h = absurd h
   join_set_parts same look (v ∷ us) q e u (inl h) = subst (λ z. PartOf (look z) q) (sym h) (join_all_parts same look (look v) us q e).0
   join_set_parts same look (v ∷ us) q e u (inr h) = (join_all_parts same look (look v) us q e).1 u h
@@ -310,7 +310,7 @@ module _ (key : ℕ → Key) (E : Key → Exact) (mut : (k : Key) (u : Place) �
   widen only w a q f r = record { base = r.base; boxes = r.boxes; type = r.type; res = r.res; exact = f r.type r.exact }
 
   -- one star on a reference
-  star_set : (only m : Bool) (x d : ℕ) (b : Key) (n : ℕ) (v : Place) (us : List Lval) (same : List Lval → List Lval → Bool) (look : Lval → Found) (q : Piece) → Resolves E only (key x) d b n (refers m v) → OneOf key us v → (only ≡ true → m ≡ true)
+  star_set : (only m : Bool) (x d : ℕ) (b : Key) (n : ℕ) (v : Place) (us : List Lval) (same : SetTest) (look : Lval → Found) (q : Piece) → Resolves E only (key x) d b n (refers m v) → OneOf key us v → (only ≡ true → m ≡ true)
       → join_set same look us ≡ found q → ((u : Lval) → In u us → (a : Piece) → look u ≡ found a → Resolved key E false u a) → Resolved key E only (record { slot = x; depth = suc d }) q
   star_set only m x d b n v us same look q r o ok j ih =
       let p = join_set_parts key E same look us q j o.place o.among in
@@ -331,7 +331,7 @@ module _ (key : ℕ → Key) (E : Key → Exact) (mut : (k : Key) (u : Place) �
   not_mutable only m f e = absurd (f e)
 
   -- one star more on a place that resolves
-  star_resolved : (only : Bool) (x d : ℕ) (p q : Piece) (same : List Lval → List Lval → Bool) (look : Lval → Found) → Resolved key E only (record { slot = x; depth = d }) p → star same look p ≡ found q → (is_lent (found p) ≡ true → only ≡ true → ⊥)
+  star_resolved : (only : Bool) (x d : ℕ) (p q : Piece) (same : SetTest) (look : Lval → Found) → Resolved key E only (record { slot = x; depth = d }) p → star same look p ≡ found q → (is_lent (found p) ≡ true → only ≡ true → ⊥)
       → ((u : Lval) → In u (piece_places p) → (a : Piece) → look u ≡ found a → Resolved key E false u a) → Resolved key E only (record { slot = x; depth = suc d }) q
   star_resolved only x d p q same look r e lent ih = by p r.type r.res r.exact e lent ih
     where

@@ -3,7 +3,7 @@ use Rattle.std.proofs.Common.{◌≡◌, ◌≢◌, ℕ, zero, suc, ◌<◌, ◌
 use Rattle.std.specs.Prelude.{◌==◌, ◌&&◌, if◌then◌else◌}
 use Rattle.std.proofs.lemmas.Bool.Decides.{eqb_tells}
 use Rattle.fr_base.specs.declared.place.Lval.{Lval}
-use Rattle.fr_typing.specs.Kinds.{unit, int, box, mutex, task, same_owned, Kind, own, shared, mutable, view, Piece, whole, gone, boxed, lval_lt, insert_lval, union, join_kind, join_piece, map_some}
+use Rattle.fr_typing.specs.Kinds.{unit, int, box, mutex, task, same_owned, Kind, own, shared, mutable, view, Piece, whole, gone, boxed, lval_lt, insert_lval, union, SetTest, join_kind, join_piece, map_some}
 use Rattle.fr_typing.specs.Places.{kind_places, piece_places, AreBelow, IsNested, Slot, Env, Found, found, undefined, no_target, then_found, found_or_none, join_found, join_all, join_set, star, stars, type_at, Shape, first_shape, piece_shape, stars_shape, shape_at, equal_shapes, have_shape, have_one_shape, alike}
 
 -- a choice by whether two numbers are equal
@@ -51,17 +51,13 @@ abbrev KindBelow : ℕ → Option Kind → Type 0
 KindBelow n None = Unit {0}
 KindBelow n (Some k) = AreBelow n (kind_places k)
 
--- a test of two sets of places
-abbrev pub Test : Type 0
-Test = List Lval → List Lval → Bool
-
 -- a type that may not be there names only slots below n
 some_join : (n : ℕ) (k : Kind) (b : Bool) → AreBelow n (kind_places k) → KindBelow n (if b then Some k else None)
 some_join n k true h = h
 some_join n k false h = tt
 
 -- a join of types names what they name
-join_kind_below : (n : ℕ) (same : Test) (k m : Kind) → AreBelow n (kind_places k) → AreBelow n (kind_places m) → KindBelow n (join_kind same k m)
+join_kind_below : (n : ℕ) (same : SetTest) (k m : Kind) → AreBelow n (kind_places k) → AreBelow n (kind_places m) → KindBelow n (join_kind same k m)
 join_kind_below n same (own a) (own b) h g = some_join n (own a) (same_owned a b) tt
 join_kind_below n same (view a) (view b) h g = some_join n (view a) (same_owned a b) tt
 join_kind_below n same (shared us) (shared vs) h g = some_join n (shared (union us vs)) (same us vs) (union_below n us vs h g)
@@ -84,14 +80,14 @@ boxed_below n None h = tt
 boxed_below n (Some k) h = h
 
 -- a join of parts names what they name
-join_piece_below : (n : ℕ) (same : Test) (p q : Piece) → AreBelow n (piece_places p) → AreBelow n (piece_places q) → FoundBelow n (found_or_none (join_piece same p q))
+join_piece_below : (n : ℕ) (same : SetTest) (p q : Piece) → AreBelow n (piece_places p) → AreBelow n (piece_places q) → FoundBelow n (found_or_none (join_piece same p q))
 join_piece_below n same (whole a) (whole b) h g = whole_below n (join_kind same a b) (join_kind_below n same a b h g)
 join_piece_below n same (gone a) (gone b) h g = gone_below n (join_kind same a b) (join_kind_below n same a b h g)
 join_piece_below n same (boxed p) (boxed q) h g = boxed_below n (join_piece same p q) (join_piece_below n same p q h g)
 join_piece_below n same _ _ h g = tt
 
 -- a join of what two places have names what they name
-join_found_below : (n : ℕ) (same : Test) (f g : Found) → FoundBelow n f → FoundBelow n g → FoundBelow n (join_found same f g)
+join_found_below : (n : ℕ) (same : SetTest) (f g : Found) → FoundBelow n f → FoundBelow n g → FoundBelow n (join_found same f g)
 join_found_below n same (found p) (found q) h k = join_piece_below n same p q h k
 join_found_below n same (found p) undefined h k = tt
 join_found_below n same (found p) no_target h k = tt
@@ -107,21 +103,21 @@ abbrev pub LooksSame : ℕ → (Lval → Found) → (Lval → Found) → Type 0
 LooksSame n a b = (u : Lval) → u.slot < n → a u ≡ b u
 
 -- two tests agree on sets of places below n
-abbrev pub TestsSame : ℕ → Test → Test → Type 0
+abbrev pub TestsSame : ℕ → SetTest → SetTest → Type 0
 TestsSame n s t = (us vs : List Lval) → AreBelow n us → AreBelow n vs → s us vs ≡ t us vs
 
 -- a join over a list of places names only slots below n
-pub join_all_below : (n : ℕ) (same : Test) (look : Lval → Found) (f : Found) (us : List Lval) → LooksBelow n look → FoundBelow n f → AreBelow n us → FoundBelow n (join_all same look f us)
+pub join_all_below : (n : ℕ) (same : SetTest) (look : Lval → Found) (f : Found) (us : List Lval) → LooksBelow n look → FoundBelow n f → AreBelow n us → FoundBelow n (join_all same look f us)
 join_all_below n same look f [] c h b = h
 join_all_below n same look f (u ∷ us) c h b = join_all_below n same look (join_found same f (look u)) us c (join_found_below n same f (look u) h (c u b.0)) b.1
 
 -- and so a join over a set
-pub join_set_below : (n : ℕ) (same : Test) (look : Lval → Found) (us : List Lval) → LooksBelow n look → AreBelow n us → FoundBelow n (join_set same look us)
+pub join_set_below : (n : ℕ) (same : SetTest) (look : Lval → Found) (us : List Lval) → LooksBelow n look → AreBelow n us → FoundBelow n (join_set same look us)
 join_set_below n same look [] c b = tt
 join_set_below n same look (u ∷ us) c b = join_all_below n same look (look u) us c (c u b.0) b.1
 
 -- one star more
-pub star_below : (n : ℕ) (same : Test) (look : Lval → Found) (p : Piece) → LooksBelow n look → AreBelow n (piece_places p) → FoundBelow n (star same look p)
+pub star_below : (n : ℕ) (same : SetTest) (look : Lval → Found) (p : Piece) → LooksBelow n look → AreBelow n (piece_places p) → FoundBelow n (star same look p)
 star_below n same look (whole (own unit)) c h = tt
 star_below n same look (whole (own int)) c h = tt
 star_below n same look (whole (own (box o))) c h = tt
@@ -134,20 +130,20 @@ star_below n same look (gone k) c h = tt
 star_below n same look (boxed p) c h = h
 
 -- one star more on what is found
-then_below : (n : ℕ) (same : Test) (look : Lval → Found) (f : Found) → LooksBelow n look → FoundBelow n f → FoundBelow n (then_found f (star same look))
+then_below : (n : ℕ) (same : SetTest) (look : Lval → Found) (f : Found) → LooksBelow n look → FoundBelow n f → FoundBelow n (then_found f (star same look))
 then_below n same look (found p) c h = star_below n same look p c h
 then_below n same look undefined c h = tt
 then_below n same look no_target c h = tt
 
 -- so many stars
-pub stars_below : (n : ℕ) (same : Test) (look : Lval → Found) (d : ℕ) (p : Piece) → LooksBelow n look → AreBelow n (piece_places p) → FoundBelow n (stars same look d p)
+pub stars_below : (n : ℕ) (same : SetTest) (look : Lval → Found) (d : ℕ) (p : Piece) → LooksBelow n look → AreBelow n (piece_places p) → FoundBelow n (stars same look d p)
 stars_below n same look zero p c h = h
 stars_below n same look (suc d) p c h = then_below n same look (stars same look d p) c (stars_below n same look d p c h)
 
 -- only the types and the shapes of places below n count
 
 -- a join of types that name only slots below n
-join_kind_same : (n : ℕ) (s t : Test) (k m : Kind) → TestsSame n s t → AreBelow n (kind_places k) → AreBelow n (kind_places m) → join_kind s k m ≡ join_kind t k m
+join_kind_same : (n : ℕ) (s t : SetTest) (k m : Kind) → TestsSame n s t → AreBelow n (kind_places k) → AreBelow n (kind_places m) → join_kind s k m ≡ join_kind t k m
 join_kind_same n s t (shared us) (shared vs) z h g = ap (λ b. if b then Some (shared (union us vs)) else None) (z us vs h g)
 join_kind_same n s t (mutable us) (mutable vs) z h g = ap (λ b. if b then Some (mutable (union us vs)) else None) (z us vs h g)
 join_kind_same n s t (own a) m z h g = refl
@@ -156,7 +152,7 @@ join_kind_same n s t (shared us) _ z h g = refl
 join_kind_same n s t (mutable us) _ z h g = refl
 
 -- of such parts
-join_piece_same : (n : ℕ) (s t : Test) (p q : Piece) → TestsSame n s t → AreBelow n (piece_places p) → AreBelow n (piece_places q) → join_piece s p q ≡ join_piece t p q
+join_piece_same : (n : ℕ) (s t : SetTest) (p q : Piece) → TestsSame n s t → AreBelow n (piece_places p) → AreBelow n (piece_places q) → join_piece s p q ≡ join_piece t p q
 join_piece_same n s t (whole a) (whole b) z h g = ap (map_some whole) (join_kind_same n s t a b z h g)
 join_piece_same n s t (gone a) (gone b) z h g = ap (map_some gone) (join_kind_same n s t a b z h g)
 join_piece_same n s t (boxed p) (boxed q) z h g = ap (map_some boxed) (join_piece_same n s t p q z h g)
@@ -165,7 +161,7 @@ join_piece_same n s t (gone a) _ z h g = refl
 join_piece_same n s t (boxed p) _ z h g = refl
 
 -- of what two places have
-join_found_same : (n : ℕ) (s t : Test) (f g : Found) → TestsSame n s t → FoundBelow n f → FoundBelow n g → join_found s f g ≡ join_found t f g
+join_found_same : (n : ℕ) (s t : SetTest) (f g : Found) → TestsSame n s t → FoundBelow n f → FoundBelow n g → join_found s f g ≡ join_found t f g
 join_found_same n s t (found p) (found q) z h k = ap found_or_none (join_piece_same n s t p q z h k)
 join_found_same n s t (found p) undefined z h k = refl
 join_found_same n s t (found p) no_target z h k = refl
@@ -173,7 +169,7 @@ join_found_same n s t undefined g z h k = refl
 join_found_same n s t no_target g z h k = refl
 
 -- a join over a list of places below n
-join_all_same : (n : ℕ) (s t : Test) (a b : Lval → Found) (f : Found) (us : List Lval) → TestsSame n s t → LooksBelow n a → LooksSame n a b → FoundBelow n f → AreBelow n us → join_all s a f us ≡ join_all t b f us
+join_all_same : (n : ℕ) (s t : SetTest) (a b : Lval → Found) (f : Found) (us : List Lval) → TestsSame n s t → LooksBelow n a → LooksSame n a b → FoundBelow n f → AreBelow n us → join_all s a f us ≡ join_all t b f us
 join_all_same n s t a b f [] z c e g h = refl
 join_all_same n s t a b f (u ∷ us) z c e g h =
     join_all_same n s t a b (join_found s f (a u)) us z c e (join_found_below n s f (a u) g (c u h.0)) h.1
@@ -181,12 +177,12 @@ join_all_same n s t a b f (u ∷ us) z c e g h =
     ∙ ap (λ x. join_all t b (join_found t f x) us) (e u h.0)
 
 -- a join over a set of places below n
-join_set_same : (n : ℕ) (s t : Test) (a b : Lval → Found) (us : List Lval) → TestsSame n s t → LooksBelow n a → LooksSame n a b → AreBelow n us → join_set s a us ≡ join_set t b us
+join_set_same : (n : ℕ) (s t : SetTest) (a b : Lval → Found) (us : List Lval) → TestsSame n s t → LooksBelow n a → LooksSame n a b → AreBelow n us → join_set s a us ≡ join_set t b us
 join_set_same n s t a b [] z c e h = refl
 join_set_same n s t a b (u ∷ us) z c e h = join_all_same n s t a b (a u) us z c e (c u h.0) h.1 ∙ ap (λ x. join_all t b x us) (e u h.0)
 
 -- one star
-star_same : (n : ℕ) (s t : Test) (a b : Lval → Found) (p : Piece) → TestsSame n s t → LooksBelow n a → LooksSame n a b → AreBelow n (piece_places p) → star s a p ≡ star t b p
+star_same : (n : ℕ) (s t : SetTest) (a b : Lval → Found) (p : Piece) → TestsSame n s t → LooksBelow n a → LooksSame n a b → AreBelow n (piece_places p) → star s a p ≡ star t b p
 star_same n s t a b (whole (own unit)) z c e h = refl
 star_same n s t a b (whole (own int)) z c e h = refl
 star_same n s t a b (whole (own (box o))) z c e h = refl
@@ -199,13 +195,13 @@ star_same n s t a b (gone k) z c e h = refl
 star_same n s t a b (boxed p) z c e h = refl
 
 -- one star on what is found
-then_same : (n : ℕ) (s t : Test) (a b : Lval → Found) (f : Found) → TestsSame n s t → LooksBelow n a → LooksSame n a b → FoundBelow n f → then_found f (star s a) ≡ then_found f (star t b)
+then_same : (n : ℕ) (s t : SetTest) (a b : Lval → Found) (f : Found) → TestsSame n s t → LooksBelow n a → LooksSame n a b → FoundBelow n f → then_found f (star s a) ≡ then_found f (star t b)
 then_same n s t a b (found p) z c e h = star_same n s t a b p z c e h
 then_same n s t a b undefined z c e h = refl
 then_same n s t a b no_target z c e h = refl
 
 -- so many stars
-pub stars_same : (n : ℕ) (s t : Test) (a b : Lval → Found) (d : ℕ) (p : Piece) → TestsSame n s t → LooksBelow n a → LooksSame n a b → AreBelow n (piece_places p) → stars s a d p ≡ stars t b d p
+pub stars_same : (n : ℕ) (s t : SetTest) (a b : Lval → Found) (d : ℕ) (p : Piece) → TestsSame n s t → LooksBelow n a → LooksSame n a b → AreBelow n (piece_places p) → stars s a d p ≡ stars t b d p
 stars_same n s t a b zero p z c e h = refl
 stars_same n s t a b (suc d) p z c e h =
     then_same n s t a b (stars s a d p) z c e (stars_below n s a d p c h)

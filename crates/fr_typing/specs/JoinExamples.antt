@@ -14,7 +14,7 @@ star_at x = record { slot = x; depth = 1 }
 abbrev slot : Kind → Slot
 slot k = record { name = None; part = whole k }
 
--- slots 0 and 1 hold an integer, 2 a box; 3, 4 and 5 refer to these; 6 and 7 refer to 3 and to 5; 8 may refer to 3 or 4, which have one shape,
+-- slots 0 and 1 hold an integer, 2 a box; 3, 4 and 5 refer to these, 6 and 7 to 3 and 5; 8 refers to 3 or 4, which have one shape,
 -- 9 to 3 or 5 and 10 to 6 or 7, which have two
 abbrev slots : Env
 slots =

@@ -3,7 +3,7 @@ use Rattle.std.specs.Prelude.{ℕ, ◌<◌, zero, suc, Bool, true, false, not, �
 use Rattle.std.specs.List.{list_all, list_any}
 use Rattle.fr_base.specs.declared.place.Lval.{Lval}
 use Rattle.fr_terms.specs.Terms.{Text, same_text}
-use Rattle.fr_typing.specs.Kinds.{Owned, box, same_owned, Kind, own, shared, mutable, view, Piece, whole, gone, boxed, box_of, join_piece, map_some}
+use Rattle.fr_typing.specs.Kinds.{Owned, box, same_owned, Kind, own, shared, mutable, view, Piece, whole, gone, boxed, box_of, SetTest, join_piece, map_some}
 
 -- a slot: its name, where it has one, and its part
 pub record Slot : Type 0 where
@@ -97,35 +97,35 @@ found_or_none None = no_target
 found_or_none (Some p) = found p
 
 -- the join of what two places have
-abbrev pub join_found : (List Lval → List Lval → Bool) → Found → Found → Found
+abbrev pub join_found : SetTest → Found → Found → Found
 join_found same (found p) (found q) = found_or_none (join_piece same p q)
 join_found same (found p) f = f
 join_found same f g = f
 
 -- the join of what the places of a set have
-abbrev pub join_all : (List Lval → List Lval → Bool) → (Lval → Found) → Found → List Lval → Found
+abbrev pub join_all : SetTest → (Lval → Found) → Found → List Lval → Found
 join_all same look f [] = f
 join_all same look f (u ∷ us) = join_all same look (join_found same f (look u)) us
 
-abbrev pub join_set : (List Lval → List Lval → Bool) → (Lval → Found) → List Lval → Found
+abbrev pub join_set : SetTest → (Lval → Found) → List Lval → Found
 join_set same look [] = no_target
 join_set same look (u ∷ us) = join_all same look (look u) us
 
 -- what a star takes a type to: `look` gives the types of lower places, `same` tells which sets of them have one shape
-abbrev pub star_kind : (List Lval → List Lval → Bool) → (Lval → Found) → Kind → Found
+abbrev pub star_kind : SetTest → (Lval → Found) → Kind → Found
 star_kind same look (own (box o)) = found (whole (own o))
 star_kind same look (own o) = no_target
 star_kind same look (view o) = found (whole (own o))
 star_kind same look (shared us) = join_set same look us
 star_kind same look (mutable us) = join_set same look us
 
-abbrev pub star : (List Lval → List Lval → Bool) → (Lval → Found) → Piece → Found
+abbrev pub star : SetTest → (Lval → Found) → Piece → Found
 star same look (whole k) = star_kind same look k
 star same look (gone k) = undefined
 star same look (boxed p) = found p
 
 -- so many stars on a part, from the inside
-abbrev pub stars : (List Lval → List Lval → Bool) → (Lval → Found) → ℕ → Piece → Found
+abbrev pub stars : SetTest → (Lval → Found) → ℕ → Piece → Found
 stars same look zero p = found p
 stars same look (suc n) p = then_found (stars same look n p) (star same look)
 
