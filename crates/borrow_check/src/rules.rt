@@ -223,16 +223,7 @@ fn is_kept_out(t: &Ty, stars: u8) -> bool
 }
 
 // The checks that the type may be written at a place where this part stands.
-fn may_hold(
-    alloc: Global,
-    env: &Env,
-    at: u32,
-    x: Lval,
-    part: &Part,
-    t: &Ty,
-) -> Result<(), CheckError>
-    requires part { AreBelow (length env.now) (piece_places (piece_of part.now)) }
-    requires below { AreBelow (length env.now) (kind_places (kind_of t.now)) }
+fn may_hold(env: &Env, at: u32, x: Lval, part: &Part, t: &Ty) -> Result<(), CheckError>
     ensures passes { (names : List Text) (rest : Outcome) → Passes result (when_fitting (env_of names env.now) at x (piece_of part.now) (kind_of t.now) rest) rest }
     ensures stays { OnOk result (names_from x.slot (kind_of t.now) ≡ false) }
 {
@@ -242,7 +233,7 @@ fn may_hold(
             reason: Reason::NotOwned,
         });
     }
-    if !has_shape_of(alloc, env, part, t)? {
+    if !has_shape_of(env, part, t) {
         return Err(CheckError::Fault {
             place: at,
             reason: Reason::WrongType,
@@ -290,7 +281,7 @@ pub fn write(
     ensures same { OnOk result (length env.new ≡ length env.old) }
 {
     may_open(alloc, env, w.place, x)?;
-    may_hold(alloc, env, value, x, &part, &t)?;
+    may_hold(env, value, x, &part, &t)?;
     drop(part);
     set_through(alloc, env, x, t)?;
     Ok(Ty::Unit)

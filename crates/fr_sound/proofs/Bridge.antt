@@ -11,8 +11,8 @@ use Rattle.fr_typing.specs.Sequential.{IsSequential, AreSequential}
 use Rattle.fr_typing.specs.Captures.{by_spawn, Capturer, spot_of, captured_kind, captured_slot, Captures, captures_copy, captures_move, CapturesAll, captures_none, captures_next}
 use Rattle.fr_typing.proofs.CaptureLemmas.{capture_by, capture_all_by}
 use Rattle.fr_typing.specs.Kinds.{Owned, unit, int, box, mutex, task, same_owned, Kind, own, shared, mutable, view, Piece, whole, gone, copies}
-use Rattle.fr_typing.specs.Places.{Env, found, type_at, write_blocked, on_path, is_lent, is_mutable, is_writable, is_own_path, slot_of, same_name, put_under, put_at, Shape, owned_shape, shared_to, mutable_to, piece_shape, shape_at, AreBelow, kind_places}
-use Rattle.fr_typing.specs.Checks.{place_of, is_int, is_owned, is_kept_out, equal_shapes, has_shape_of, names_from, set_through}
+use Rattle.fr_typing.specs.Places.{Env, found, type_at, write_blocked, on_path, is_lent, is_mutable, is_writable, is_own_path, slot_of, same_name, put_under, put_at, Shape, owned_shape, shared_to, mutable_to, piece_shape, shape_at, AreBelow, kind_places, equal_shapes}
+use Rattle.fr_typing.specs.Checks.{place_of, is_int, is_owned, is_kept_out, has_shape_of, names_from, set_through}
 use Rattle.fr_typing.specs.Finding.{typed, Has, IsOpen, Shows}
 use Rattle.fr_typing.specs.Typing.{Types, types_number, types_unit, types_copy, types_move, types_borrow, types_borrow_mut, types_box, types_mutex, types_arith, types_print, types_let, types_assign, types_block, types_join, types_dup, types_lock, types_spawn, types_par, TypesItems, types_none, types_item}
 use Rattle.fr_typing.proofs.Agree.{typing_by}

@@ -2,8 +2,8 @@
 use Rattle.std.proofs.Common.{◌≡◌, ◌≢◌, ◌⊎◌, inl, inr, ⊎_elim, ℕ, zero, suc, ◌<◌, ◌≤◌, Bool, true, false, List, [], ◌∷◌, length, Option, Some, None, refl, sym, ap, subst, ◌∙◌, arith}
 use Rattle.std.specs.Prelude.{◌==◌, ◌||◌, not, if◌then◌else◌}
 use Rattle.fr_base.specs.declared.place.Lval.{Lval}
-use Rattle.fr_typing.specs.Kinds.{Owned, unit, int, box, mutex, task, same_owned, Kind, own, shared, mutable, view, Piece, whole, gone, boxed, lval_lt, insert_lval, union, join_kind, join_piece, map_some}
-use Rattle.fr_typing.specs.Places.{Slot, Found, found, undefined, no_target, then_found, found_or_none, join_found, join_all, join_set, star, type_at, starts_at, blocks_read, blocks_write, read_blocked, write_blocked, on_path, is_lent, is_writable, piece_places, AreBelow, IsNested}
+use Rattle.fr_typing.specs.Kinds.{Owned, unit, int, box, mutex, task, same_owned, Kind, own, shared, mutable, view, Piece, whole, gone, boxed, lval_lt, insert_lval, union, SetTest, join_kind, join_piece, map_some}
+use Rattle.fr_typing.specs.Places.{Slot, Found, found, undefined, no_target, then_found, found_or_none, join_found, join_all, join_set, star, type_at, alike, starts_at, blocks_read, blocks_write, read_blocked, write_blocked, on_path, is_lent, is_writable, piece_places, AreBelow, IsNested}
 use Rattle.fr_store.specs.Keys.{Key}
 use Rattle.fr_store.specs.Store.{Place, add, Store}
 use Rattle.fr_store.specs.Typed.{KeyTypes, Tree, hole, unit_tree, int_tree, mutex_tree, task_tree, box_tree, Exact, owns, refers, exact_under, tree_under, some_owns, Resolves, here, through, Typed}
@@ -202,22 +202,27 @@ module _ (key : ℕ → Key) (E : Key → Exact) where
       let g : whole k ≡ q = cc in
       record { left = λ y h. subst (λ z. ExactOf key E z y) (x.0 ∙ g) h; right = λ y h. subst (λ z. ExactOf key E z y) (x.1 ∙ g) h }
 
+  -- a join that is there, of which each side is a part, is wider than both
+  join_either : (a b q : Piece) (k : Kind) (t : Bool) → Wider a (whole k) → Wider b (whole k) → found_or_none (map_some whole (if t then Some k else None)) ≡ found q → JoinOf a b q
+  join_either a b q k false f g e = absurd cc
+  join_either a b q k true f g e =
+      let h : whole k ≡ q = cc in
+      record { left = λ y x. subst (λ z. ExactOf key E z y) h (f y x); right = λ y x. subst (λ z. ExactOf key E z y) h (g y x) }
+
   -- the join of two parts is wider than both
-  pub join_parts : (a b q : Piece) → found_or_none (join_piece a b) ≡ found q → JoinOf a b q
-  join_parts (whole (own a)) (whole (own b)) q e = join_same (whole (own a)) (whole (own b)) q (own a) (same_owned a b) (λ t. (refl, ap (λ z. whole (own z)) (sym (same_owned_is a b t)))) e
-  join_parts (whole (view a)) (whole (view b)) q e = join_same (whole (view a)) (whole (view b)) q (view a) (same_owned a b) (λ t. (refl, ap (λ z. whole (view z)) (sym (same_owned_is a b t)))) e
-  join_parts (whole (shared a)) (whole (shared b)) q e =
-      let g : whole (shared (union a b)) ≡ q = cc in
-      record { left = λ y h. subst (λ z. ExactOf key E z y) g (wider_shared a (union a b) (λ w. in_left w a b) y h); right = λ y h. subst (λ z. ExactOf key E z y) g (wider_shared b (union a b) (λ w. in_right w a b) y h) }
-  join_parts (whole (mutable a)) (whole (mutable b)) q e =
-      let g : whole (mutable (union a b)) ≡ q = cc in
-      record { left = λ y h. subst (λ z. ExactOf key E z y) g (wider_mutable a (union a b) (λ w. in_left w a b) y h); right = λ y h. subst (λ z. ExactOf key E z y) g (wider_mutable b (union a b) (λ w. in_right w a b) y h) }
-  join_parts (gone a) (gone b) q e = by (join_kind a b) e
+  pub join_parts : (same : SetTest) (a b q : Piece) → found_or_none (join_piece same a b) ≡ found q → JoinOf a b q
+  join_parts same (whole (own a)) (whole (own b)) q e = join_same (whole (own a)) (whole (own b)) q (own a) (same_owned a b) (λ t. (refl, ap (λ z. whole (own z)) (sym (same_owned_is a b t)))) e
+  join_parts same (whole (view a)) (whole (view b)) q e = join_same (whole (view a)) (whole (view b)) q (view a) (same_owned a b) (λ t. (refl, ap (λ z. whole (view z)) (sym (same_owned_is a b t)))) e
+  join_parts same (whole (shared a)) (whole (shared b)) q e =
+      join_either (whole (shared a)) (whole (shared b)) q (shared (union a b)) (same a b) (wider_shared a (union a b) (λ w. in_left w a b)) (wider_shared b (union a b) (λ w. in_right w a b)) e
+  join_parts same (whole (mutable a)) (whole (mutable b)) q e =
+      join_either (whole (mutable a)) (whole (mutable b)) q (mutable (union a b)) (same a b) (wider_mutable a (union a b) (λ w. in_left w a b)) (wider_mutable b (union a b) (λ w. in_right w a b)) e
+  join_parts same (gone a) (gone b) q e = by (join_kind same a b) e
     where
       by : (o : Option Kind) → found_or_none (map_some gone o) ≡ found q → JoinOf (gone a) (gone b) q
       by None e = absurd cc
       by (Some k) e = let g : gone k ≡ q = cc in record { left = λ y h. subst (λ z. ExactOf key E z y) g (wider_gone a k y h); right = λ y h. subst (λ z. ExactOf key E z y) g (wider_gone b k y h) }
-  join_parts (boxed a) (boxed b) q e = by (join_piece a b) e (join_parts a b)
+  join_parts same (boxed a) (boxed b) q e = by (join_piece same a b) e (join_parts same a b)
     where
       by : (o : Option Piece) → found_or_none (map_some boxed o) ≡ found q → ((r : Piece) → found_or_none o ≡ found r → JoinOf a b r) → JoinOf (boxed a) (boxed b) q
       by None e ih = absurd cc
@@ -225,7 +230,7 @@ module _ (key : ℕ → Key) (E : Key → Exact) where
           let g : boxed r ≡ q = cc in
           let j = ih r refl in
           record { left = λ y h. subst (λ z. ExactOf key E z y) g (wider_boxed a r j.left y h); right = λ y h. subst (λ z. ExactOf key E z y) g (wider_boxed b r j.right y h) }
-  join_parts _ _ q e = absurd cc
+  join_parts same _ _ q e = absurd cc
 
   pub record PartOf (f : Found) (q : Piece) : Type 0 where
     piece : Piece
@@ -233,23 +238,23 @@ module _ (key : ℕ → Key) (E : Key → Exact) where
     wider : Wider piece q
 
   -- the join of what two places have comes from what each has
-  join_found_parts : (f g : Found) (q : Piece) → join_found f g ≡ found q → PartOf f q × PartOf g q
-  join_found_parts (found a) (found b) q e = let j = join_parts a b q e in (record { piece = a; is = refl; wider = j.left }, record { piece = b; is = refl; wider = j.right })
-  join_found_parts (found a) undefined q e = absurd cc
-  join_found_parts (found a) no_target q e = absurd cc
-  join_found_parts undefined g q e = absurd cc
-  join_found_parts no_target g q e = absurd cc
+  join_found_parts : (same : SetTest) (f g : Found) (q : Piece) → join_found same f g ≡ found q → PartOf f q × PartOf g q
+  join_found_parts same (found a) (found b) q e = let j = join_parts same a b q e in (record { piece = a; is = refl; wider = j.left }, record { piece = b; is = refl; wider = j.right })
+  join_found_parts same (found a) undefined q e = absurd cc
+  join_found_parts same (found a) no_target q e = absurd cc
+  join_found_parts same undefined g q e = absurd cc
+  join_found_parts same no_target g q e = absurd cc
 
   -- what a place has is an exact type of each wider part
   wider_part : (f : Found) (a q : Piece) → Wider a q → PartOf f a → PartOf f q
   wider_part f a q w p = record { piece = p.piece; is = p.is; wider = λ x h. w x (p.wider x h) }
 
   -- the join over a list of places comes from what each of them has
-  join_all_parts : (look : Lval → Found) (f : Found) (us : List Lval) (q : Piece) → join_all look f us ≡ found q → PartOf f q × ((u : Lval) → In u us → PartOf (look u) q)
-  join_all_parts look f [] q e = (record { piece = q; is = e; wider = λ x h. h }, λ u h. absurd h)
-  join_all_parts look f (v ∷ us) q e =
-      let r = join_all_parts look (join_found f (look v)) us q e in
-      let j = join_found_parts f (look v) r.0.piece r.0.is in
+  join_all_parts : (same : SetTest) (look : Lval → Found) (f : Found) (us : List Lval) (q : Piece) → join_all same look f us ≡ found q → PartOf f q × ((u : Lval) → In u us → PartOf (look u) q)
+  join_all_parts same look f [] q e = (record { piece = q; is = e; wider = λ x h. h }, λ u h. absurd h)
+  join_all_parts same look f (v ∷ us) q e =
+      let r = join_all_parts same look (join_found same f (look v)) us q e in
+      let j = join_found_parts same f (look v) r.0.piece r.0.is in
       (wider_part f r.0.piece q r.0.wider j.0, by r.1 (wider_part (look v) r.0.piece q r.0.wider j.1))
     where
       by : ((u : Lval) → In u us → PartOf (look u) q) → PartOf (look v) q → (u : Lval) → In u (v ∷ us) → PartOf (look u) q
@@ -257,10 +262,10 @@ module _ (key : ℕ → Key) (E : Key → Exact) where
       by more first u (inr h) = more u h
 
   -- the join over a set of places comes from what each of them has
-  join_set_parts : (look : Lval → Found) (us : List Lval) (q : Piece) → join_set look us ≡ found q → (u : Lval) → In u us → PartOf (look u) q
-  join_set_parts look [] q e u h = absurd h
-  join_set_parts look (v ∷ us) q e u (inl h) = subst (λ z. PartOf (look z) q) (sym h) (join_all_parts look (look v) us q e).0
-  join_set_parts look (v ∷ us) q e u (inr h) = (join_all_parts look (look v) us q e).1 u h
+  join_set_parts : (same : SetTest) (look : Lval → Found) (us : List Lval) (q : Piece) → join_set same look us ≡ found q → (u : Lval) → In u us → PartOf (look u) q
+  join_set_parts same look [] q e u h = absurd h
+  join_set_parts same look (v ∷ us) q e u (inl h) = subst (λ z. PartOf (look z) q) (sym h) (join_all_parts same look (look v) us q e).0
+  join_set_parts same look (v ∷ us) q e u (inr h) = (join_all_parts same look (look v) us q e).1 u h
 
 -- WHAT THE TYPE OF A PLACE SAYS IS RESOLVED
 
@@ -305,10 +310,10 @@ module _ (key : ℕ → Key) (E : Key → Exact) (mut : (k : Key) (u : Place) �
   widen only w a q f r = record { base = r.base; boxes = r.boxes; type = r.type; res = r.res; exact = f r.type r.exact }
 
   -- one star on a reference
-  star_set : (only m : Bool) (x d : ℕ) (b : Key) (n : ℕ) (v : Place) (us : List Lval) (look : Lval → Found) (q : Piece) → Resolves E only (key x) d b n (refers m v) → OneOf key us v → (only ≡ true → m ≡ true)
-      → join_set look us ≡ found q → ((u : Lval) → In u us → (a : Piece) → look u ≡ found a → Resolved key E false u a) → Resolved key E only (record { slot = x; depth = suc d }) q
-  star_set only m x d b n v us look q r o ok j ih =
-      let p = join_set_parts key E look us q j o.place o.among in
+  star_set : (only m : Bool) (x d : ℕ) (b : Key) (n : ℕ) (v : Place) (us : List Lval) (same : SetTest) (look : Lval → Found) (q : Piece) → Resolves E only (key x) d b n (refers m v) → OneOf key us v → (only ≡ true → m ≡ true)
+      → join_set same look us ≡ found q → ((u : Lval) → In u us → (a : Piece) → look u ≡ found a → Resolved key E false u a) → Resolved key E only (record { slot = x; depth = suc d }) q
+  star_set only m x d b n v us same look q r o ok j ih =
+      let p = join_set_parts key E same look us q j o.place o.among in
       let y = widen false o.place p.piece q p.wider (ih o.place o.among p.piece p.is) in
       let there : Resolves E false v.key v.depth y.base y.boxes y.type = subst (λ (z : Place). Resolves E false z.key z.depth y.base y.boxes y.type) (sym o.is) y.res in
       by only m ok (part_ref n (E b) m v (res_part E only (key x) d b n (refers m v) r)).1 r y.base y.boxes y.type there y.exact
@@ -326,14 +331,14 @@ module _ (key : ℕ → Key) (E : Key → Exact) (mut : (k : Key) (u : Place) �
   not_mutable only m f e = absurd (f e)
 
   -- one star more on a place that resolves
-  star_resolved : (only : Bool) (x d : ℕ) (p q : Piece) (look : Lval → Found) → Resolved key E only (record { slot = x; depth = d }) p → star look p ≡ found q → (is_lent (found p) ≡ true → only ≡ true → ⊥)
+  star_resolved : (only : Bool) (x d : ℕ) (p q : Piece) (same : SetTest) (look : Lval → Found) → Resolved key E only (record { slot = x; depth = d }) p → star same look p ≡ found q → (is_lent (found p) ≡ true → only ≡ true → ⊥)
       → ((u : Lval) → In u (piece_places p) → (a : Piece) → look u ≡ found a → Resolved key E false u a) → Resolved key E only (record { slot = x; depth = suc d }) q
-  star_resolved only x d p q look r e lent ih = by p r.type r.res r.exact e lent ih
+  star_resolved only x d p q same look r e lent ih = by p r.type r.res r.exact e lent ih
     where
       into : (b : Key) (n : ℕ) (t y : Tree) → Resolves E only (key x) d b n (owns t) → t ≡ box_tree y → ExactOf key E q (owns y) → Resolved key E only (record { slot = x; depth = suc d }) q
       into b n t y g is f = record { base = b; boxes = suc n; type = owns y; res = res_box E only (key x) d b n (owns t) y g (ap owns is); exact = f }
 
-      by : (p : Piece) (t : Exact) → Resolves E only (key x) d r.base r.boxes t → ExactOf key E p t → star look p ≡ found q → (is_lent (found p) ≡ true → only ≡ true → ⊥)
+      by : (p : Piece) (t : Exact) → Resolves E only (key x) d r.base r.boxes t → ExactOf key E p t → star same look p ≡ found q → (is_lent (found p) ≡ true → only ≡ true → ⊥)
           → ((u : Lval) → In u (piece_places p) → (a : Piece) → look u ≡ found a → Resolved key E false u a) → Resolved key E only (record { slot = x; depth = suc d }) q
       by (whole (own (box o))) (owns t) g f e lent ih = let h : whole (own o) ≡ q = cc in into r.base r.boxes t (tree_of o) g f (subst (λ z. ExactOf key E z (owns (tree_of o))) h refl)
       by (whole (own (box o))) (refers m u) g f e lent ih = absurd f
@@ -342,9 +347,9 @@ module _ (key : ℕ → Key) (E : Key → Exact) (mut : (k : Key) (u : Place) �
       by (whole (own (mutex o))) t g f e lent ih = absurd cc
       by (whole (own (task o))) t g f e lent ih = absurd cc
       by (whole (shared us)) (owns t) g f e lent ih = absurd f
-      by (whole (shared us)) (refers m u) g f e lent ih = star_set only m x d r.base r.boxes u us look q g f.1 (not_mutable only m (lent refl)) e ih
+      by (whole (shared us)) (refers m u) g f e lent ih = star_set only m x d r.base r.boxes u us same look q g f.1 (not_mutable only m (lent refl)) e ih
       by (whole (mutable us)) (owns t) g f e lent ih = absurd f
-      by (whole (mutable us)) (refers m u) g f e lent ih = star_set only m x d r.base r.boxes u us look q g f.1 (λ _. f.0) e ih
+      by (whole (mutable us)) (refers m u) g f e lent ih = star_set only m x d r.base r.boxes u us same look q g f.1 (λ _. f.0) e ih
       by (whole (view o)) (owns t) g f e lent ih = absurd f
       by (whole (view o)) (refers m u) g f e lent ih =
           let h : whole (own o) ≡ q = cc in
@@ -378,10 +383,10 @@ module _ (key : ℕ → Key) (E : Key → Exact) (mut : (k : Key) (u : Place) �
         → (only : Bool) (d : ℕ) (q : Piece) → Free only x d → type_at e (record { slot = x; depth = d }) ≡ found q → Resolved key E only (record { slot = x; depth = d }) q
     by_stars x lt ih only zero q free t = record { base = key x; boxes = zero; type = E (key x); res = here (part_zero (E (key x))); exact = slot_exact e x q fits t }
     by_stars x lt ih only (suc d) q free t =
-        let y = found_in (type_at e (record { slot = x; depth = d })) (star (type_at e)) q (sym (type_at-star e x d nested lt) ∙ t) in
+        let y = found_in (type_at e (record { slot = x; depth = d })) (star (alike e) (type_at e)) q (sym (type_at-star e x d nested lt) ∙ t) in
         let names = subst (FoundBelow x) y.1 (type_at_below e (record { slot = x; depth = d }) nested) in
         let r = by_stars x lt ih only d y.0 (λ z. (or_false (on_path is_lent e x d) (is_lent (type_at e (record { slot = x; depth = d }))) (free z)).0) y.1 in
-        star_resolved only x d y.0 q (type_at e) r y.2
+        star_resolved only x d y.0 q (alike e) (type_at e) r y.2
         (λ l z. let g = (or_false (on_path is_lent e x d) (is_lent (type_at e (record { slot = x; depth = d }))) (free z)).1 in let h : true ≡ false = sym l ∙ ap is_lent (sym y.1) ∙ g in absurd cc)
         (λ u i a f. ih u (below_in x (piece_places y.0) u names i) a f)
 

@@ -4,7 +4,7 @@ use Rattle.fr_typing.proofs.PlaceLemmas.{eq_cases}
 use Rattle.std.proofs.Common.{◌≡◌, ◌≢◌, ◌⊎◌, inl, inr, ⊎_elim, ℕ, suc, ◌<◌, ◌≤◌, Bool, false, List, ◌∷◌, Option, length, Some, None, refl, sym, ap, subst, ◌∙◌, arith}
 use Rattle.fr_base.specs.declared.place.Lval.{Lval}
 use Rattle.fr_typing.specs.Kinds.{Owned, Kind, own, whole, gone, map_some}
-use Rattle.fr_typing.specs.Places.{Slot, type_at, found, write_blocked, found_or_none, put_at, IsNested, AreBelow, kind_places}
+use Rattle.fr_typing.specs.Places.{Slot, type_at, found, write_blocked, found_or_none, put_at, IsNested, AreBelow, kind_places, alike}
 use Rattle.fr_store.specs.Keys.{Key}
 use Rattle.fr_store.specs.Store.{at_key, Store, Place, swap}
 use Rattle.fr_store.specs.Typed.{Tree, hole, owns, refers, KeyTypes}
@@ -137,10 +137,10 @@ pub join_temp_row : JoinTempRow
 join_temp_row key rank a e1 e2 e E s k1 k2 k j jk n low = (
   (λ f.
       let r = slots_join key f.env e1 e2 e j in
-      let d = join_parts key f.env (whole k1) (whole k2) (whole k) (ap (λ z. found_or_none (map_some whole z)) jk) in
+      let d = join_parts key f.env (alike e) (whole k1) (whole k2) (whole k) (ap (λ z. found_or_none (map_some whole z)) jk) in
       record { env = f.env; others = f.others; new = f.new; thread = joined key rank a e1 e f.env s k1 k r.0 n (r.2 f.thread.slots) low (d.left (f.env a) f.thread.temp) f.thread }),
   (λ f.
       let r = slots_join key f.env e1 e2 e j in
-      let d = join_parts key f.env (whole k1) (whole k2) (whole k) (ap (λ z. found_or_none (map_some whole z)) jk) in
+      let d = join_parts key f.env (alike e) (whole k1) (whole k2) (whole k) (ap (λ z. found_or_none (map_some whole z)) jk) in
       record { env = f.env; others = f.others; new = f.new; thread = joined key rank a e2 e f.env s k2 k r.1 n (r.3 f.thread.slots) low (d.right (f.env a) f.thread.temp) f.thread }),
 )

@@ -1,4 +1,4 @@
--- The limits of a source, and the forms that are accepted so far (this project's rules).
+-- The limits of a source (this project's rules).
 use Rattle.std.specs.Prelude.{ℕ, ◌+◌, ◌≤◌, max, ⊤}
 use Rattle.fr_terms.specs.Terms.{Spot, Term, block_t, let_t, assign_t, read_t, borrow_t, borrow_mut_t, number_t, unit_t, box_t, print_t, arith_t, join_t, mutex_t, dup_t, lock_t, spawn_t, par_t, Items, none, item}
 
@@ -59,28 +59,3 @@ abbrev mutual
 pub record IsWithinLimits (t : Term) : Type 0 where
   pub depth : levels t ≤ 64
   pub places : HasShortPlaces t
-
-abbrev mutual
-  -- blocks, let, assignment, reads, box, print, numbers and ()
-  pub IsAccepted : Term → Type 0
-  IsAccepted (block_t at items) = AreAccepted items
-  IsAccepted (let_t at name value) = IsAccepted value
-  IsAccepted (assign_t at to value) = IsAccepted value
-  IsAccepted (read_t at from) = ⊤
-  IsAccepted (number_t at value) = ⊤
-  IsAccepted (unit_t at) = ⊤
-  IsAccepted (box_t at value) = IsAccepted value
-  IsAccepted (print_t at value) = IsAccepted value
-  IsAccepted (borrow_t at of) = ⊥
-  IsAccepted (borrow_mut_t at of) = ⊥
-  IsAccepted (arith_t at op left right) = ⊥
-  IsAccepted (join_t at task) = ⊥
-  IsAccepted (mutex_t at value) = ⊥
-  IsAccepted (dup_t at of) = ⊥
-  IsAccepted (lock_t at of name body) = ⊥
-  IsAccepted (spawn_t at captures body) = ⊥
-  IsAccepted (par_t at captures body others other) = ⊥
-
-  pub AreAccepted : Items → Type 0
-  AreAccepted none = ⊤
-  AreAccepted (item first rest) = IsAccepted first × AreAccepted rest

@@ -3,8 +3,8 @@ use Rattle.std.proofs.Common.{◌≡◌, ℕ, zero, suc, ◌+◌, ◌<◌, ◌�
 use Rattle.std.specs.Prelude.{⊤, if◌then◌else◌}
 use Rattle.fr_base.specs.declared.place.Lval.{Lval}
 use Rattle.fr_terms.specs.Terms.{Text}
-use Rattle.fr_typing.specs.Kinds.{unit, own, shared, mutable, view, Piece, whole, gone, boxed}
-use Rattle.fr_typing.specs.Places.{Env, Found, then_found, join_set, star, stars, type_at, piece_places, AreBelow, IsNested}
+use Rattle.fr_typing.specs.Kinds.{unit, own, shared, mutable, view, Piece, whole, gone, boxed, SetTest}
+use Rattle.fr_typing.specs.Places.{Env, Found, then_found, join_set, star, stars, type_at, alike, piece_places, AreBelow, IsNested}
 use Rattle.fr_typing.proofs.PlaceLemmas.{eq_cases, type_at-push, type_at-star}
 use Rattle.fr_types.specs.declared.resolved.Starred.{Starred}
 use Rattle.fr_types.specs.States.{Held, slot_view, env_of, part_in, AreNested}
@@ -127,34 +127,34 @@ base_under vs u v (suc n) h lt lt2 e =
 
 -- THE TYPE THERE
 
-star_single : (look : Lval → Found) (us : List Lval) (u : Starred) → single us ≡ Some u → join_set look us ≡ look (place u)
-star_single look [] u h = absurd cc
-star_single look (v ∷ []) u h = ap (λ w. look (place w)) (same (starred v) u h)
+star_single : (same : SetTest) (look : Lval → Found) (us : List Lval) (u : Starred) → single us ≡ Some u → join_set same look us ≡ look (place u)
+star_single same look [] u h = absurd cc
+star_single same look (v ∷ []) u h = ap (λ w. look (place w)) (equal (starred v) u h)
   where
-    same : (a b : Starred) → Some a ≡ Some b → a ≡ b
-    same a b h = cc
-star_single look (v ∷ w ∷ us) u h = absurd cc
+    equal : (a b : Starred) → Some a ≡ Some b → a ≡ b
+    equal a b h = cc
+star_single same look (v ∷ w ∷ us) u h = absurd cc
 
-star_target : (look : Lval → Found) (p : Piece) (u : Starred) → target p ≡ Some u → star look p ≡ look (place u)
-star_target look (whole (own o)) u h = absurd cc
-star_target look (whole (view o)) u h = absurd cc
-star_target look (whole (shared us)) u h = star_single look us u h
-star_target look (whole (mutable us)) u h = star_single look us u h
-star_target look (gone k) u h = absurd cc
-star_target look (boxed p) u h = absurd cc
+star_target : (same : SetTest) (look : Lval → Found) (p : Piece) (u : Starred) → target p ≡ Some u → star same look p ≡ look (place u)
+star_target same look (whole (own o)) u h = absurd cc
+star_target same look (whole (view o)) u h = absurd cc
+star_target same look (whole (shared us)) u h = star_single same look us u h
+star_target same look (whole (mutable us)) u h = star_single same look us u h
+star_target same look (gone k) u h = absurd cc
+star_target same look (boxed p) u h = absurd cc
 
 -- stars on a reference to one place are stars on that place
-stars_target : (e : Env) (p : Piece) (u : Starred) (n : ℕ) → IsNested e → u.slot < length e → target p ≡ Some u → stars (type_at e) (suc n) p ≡ type_at e (place (under u n))
-stars_target e p u zero h lt is = star_target (type_at e) p u is ∙ ap (λ w. type_at e (place w)) (sym (under_none u))
+stars_target : (e : Env) (p : Piece) (u : Starred) (n : ℕ) → IsNested e → u.slot < length e → target p ≡ Some u → stars (alike e) (type_at e) (suc n) p ≡ type_at e (place (under u n))
+stars_target e p u zero h lt is = star_target (alike e) (type_at e) p u is ∙ ap (λ w. type_at e (place w)) (sym (under_none u))
 stars_target e p u (suc n) h lt is =
     let next : suc (u.stars + n) ≡ u.stars + suc n = omega arith in
-    ap (λ f. then_found f (star (type_at e))) (stars_target e p u n h lt is)
+    ap (λ f. then_found f (star (alike e) (type_at e))) (stars_target e p u n h lt is)
     ∙ sym (type_at-star e u.slot (u.stars + n) h lt)
     ∙ ap (λ m. type_at e (record { slot = u.slot; depth = m })) next
 
-type_here : (names : List Text) (s : Held) (below : List Held) (x n : ℕ) → x ≡ length below → type_at (env_of names (s ∷ below)) (record { slot = x; depth = n }) ≡ stars (type_at (env_of names below)) n s.part
+type_here : (names : List Text) (s : Held) (below : List Held) (x n : ℕ) → x ≡ length below → type_at (env_of names (s ∷ below)) (record { slot = x; depth = n }) ≡ stars (alike (env_of names below)) (type_at (env_of names below)) n s.part
 type_here names s below x n e =
-    is_here x (length (env_of names below)) (stars (type_at (env_of names below)) n s.part) (type_at (env_of names below) (record { slot = x; depth = n })) (e ∙ sym (length-env_of names below))
+    is_here x (length (env_of names below)) (stars (alike (env_of names below)) (type_at (env_of names below)) n s.part) (type_at (env_of names below) (record { slot = x; depth = n })) (e ∙ sym (length-env_of names below))
 
 type_push : (names : List Text) (s : Held) (below : List Held) (w : Lval) → w.slot < length below → type_at (env_of names (s ∷ below)) w ≡ type_at (env_of names below) w
 type_push names s below w lt = type_at-push (slot_view names s) (env_of names below) w (subst (λ n. w.slot < n) (sym (length-env_of names below)) lt)

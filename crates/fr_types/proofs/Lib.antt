@@ -15,3 +15,5 @@ pub mod ShapeTableLemmas
 pub mod ShapeNodeLemmas
 pub mod NumberedLemmas
 pub mod ShapedLemmas
+pub mod WalkLemmas
+pub mod JoinLemmas

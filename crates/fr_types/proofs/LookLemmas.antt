@@ -4,8 +4,8 @@ use Rattle.std.specs.Prelude.{◌==◌, ⊤, if◌then◌else◌}
 use Rattle.std.proofs.lemmas.List.{drop_more, drop_all}
 use Rattle.fr_base.specs.declared.place.Lval.{Lval}
 use Rattle.fr_terms.specs.Terms.{Text}
-use Rattle.fr_typing.specs.Kinds.{Piece}
-use Rattle.fr_typing.specs.Places.{Env, Found, found, undefined, no_target, then_found, join_found, join_all, join_set, star, type_at, put_under, put_at, piece_places, AreBelow, IsNested}
+use Rattle.fr_typing.specs.Kinds.{Piece, SetTest}
+use Rattle.fr_typing.specs.Places.{Env, Found, found, undefined, no_target, then_found, join_found, join_all, join_set, star, type_at, alike, put_under, put_at, piece_places, AreBelow, IsNested}
 use Rattle.fr_typing.proofs.PlaceLemmas.{eq_cases, FoundBelow, type_at_below, type_at-star}
 use Rattle.fr_types.specs.declared.error.TypeError.{TypeError}
 use Rattle.fr_types.specs.declared.error.TypeError.TheVariants.{NotDefined, NoTarget, NoMemory}
@@ -52,7 +52,7 @@ error_stays e i n zero f h lt err is = let same : n ≡ 0 + n = omega arith in s
 error_stays e i n (suc k) f h lt err is =
     let next : suc (k + n) ≡ suc k + n = omega arith in
     subst (λ m. type_at e (record { slot = i; depth = m }) ≡ f) next
-    (type_at-star e i (k + n) h lt ∙ ap (λ g. then_found g (star (type_at e))) (error_stays e i n k f h lt err is) ∙ then_error f (star (type_at e)) err)
+    (type_at-star e i (k + n) h lt ∙ ap (λ g. then_found g (star (alike e) (type_at e))) (error_stays e i n k f h lt err is) ∙ then_error f (star (alike e) (type_at e)) err)
 
 -- and so the answer that an error is
 pub answer_stays : (e : Env) (i n m : ℕ) (r : TypeError) → IsNested e → i < length e → n ≤ m → IsFound (Err r) (type_at e (record { slot = i; depth = n })) → IsFound (Err r) (type_at e (record { slot = i; depth = m }))
@@ -63,11 +63,11 @@ answer_stays e i n m NoMemory h lt le is = tt
 -- STARS
 
 -- one star more on what was found
-pub star_step : (e : Env) (i n : ℕ) (p : Piece) → IsNested e → i < length e → type_at e (record { slot = i; depth = n }) ≡ found p → type_at e (record { slot = i; depth = n + 1 }) ≡ star (type_at e) p
+pub star_step : (e : Env) (i n : ℕ) (p : Piece) → IsNested e → i < length e → type_at e (record { slot = i; depth = n }) ≡ found p → type_at e (record { slot = i; depth = n + 1 }) ≡ star (alike e) (type_at e) p
 star_step e i n p h lt is =
     let next : suc n ≡ n + 1 = omega arith in
-    subst (λ m. type_at e (record { slot = i; depth = m }) ≡ star (type_at e) p) next
-    (type_at-star e i n h lt ∙ ap (λ f. then_found f (star (type_at e))) is)
+    subst (λ m. type_at e (record { slot = i; depth = m }) ≡ star (alike e) (type_at e) p) next
+    (type_at-star e i n h lt ∙ ap (λ f. then_found f (star (alike e) (type_at e))) is)
 
 -- what is found names only slots below its own
 pub found_places : (e : Env) (i n : ℕ) (p : Piece) → IsNested e → type_at e (record { slot = i; depth = n }) ≡ found p → AreBelow i (piece_places p)
@@ -90,49 +90,49 @@ below_at n zero (v ∷ us) d h lt = h.0
 below_at n (suc i) (v ∷ us) d h lt = below_at n i us d h.1 (omega arith)
 
 -- the first place of a set
-pub set_start : (look : Lval → Found) (us : List Lval) (d : Lval) (p : Piece) → 0 < length us → look (get_or us 0 d) ≡ found p → join_all look (found p) (drop 1 us) ≡ join_set look us
-set_start look [] d p some h = absurd (omega arith)
-set_start look (v ∷ us) d p some h = ap (λ f. join_all look f us) (sym h)
+pub set_start : (same : SetTest) (look : Lval → Found) (us : List Lval) (d : Lval) (p : Piece) → 0 < length us → look (get_or us 0 d) ≡ found p → join_all same look (found p) (drop 1 us) ≡ join_set same look us
+set_start same look [] d p some h = absurd (omega arith)
+set_start same look (v ∷ us) d p some h = ap (λ f. join_all same look f us) (sym h)
 
-all_undefined : (look : Lval → Found) (us : List Lval) → join_all look undefined us ≡ undefined
-all_undefined look [] = refl
-all_undefined look (u ∷ us) = all_undefined look us
+all_undefined : (same : SetTest) (look : Lval → Found) (us : List Lval) → join_all same look undefined us ≡ undefined
+all_undefined same look [] = refl
+all_undefined same look (u ∷ us) = all_undefined same look us
 
-all_no_target : (look : Lval → Found) (us : List Lval) → join_all look no_target us ≡ no_target
-all_no_target look [] = refl
-all_no_target look (u ∷ us) = all_no_target look us
+all_no_target : (same : SetTest) (look : Lval → Found) (us : List Lval) → join_all same look no_target us ≡ no_target
+all_no_target same look [] = refl
+all_no_target same look (u ∷ us) = all_no_target same look us
 
-pub set_start_error : (look : Lval → Found) (us : List Lval) (d : Lval) (r : TypeError) → 0 < length us → IsFound (Err r) (look (get_or us 0 d)) → IsFound (Err r) (join_set look us)
-set_start_error look [] d r some h = absurd (omega arith)
-set_start_error look (v ∷ us) d NotDefined some h = ap (λ f. join_all look f us) h ∙ all_undefined look us
-set_start_error look (v ∷ us) d NoTarget some h = ap (λ f. join_all look f us) h ∙ all_no_target look us
-set_start_error look (v ∷ us) d NoMemory some h = tt
+pub set_start_error : (same : SetTest) (look : Lval → Found) (us : List Lval) (d : Lval) (r : TypeError) → 0 < length us → IsFound (Err r) (look (get_or us 0 d)) → IsFound (Err r) (join_set same look us)
+set_start_error same look [] d r some h = absurd (omega arith)
+set_start_error same look (v ∷ us) d NotDefined some h = ap (λ f. join_all same look f us) h ∙ all_undefined same look us
+set_start_error same look (v ∷ us) d NoTarget some h = ap (λ f. join_all same look f us) h ∙ all_no_target same look us
+set_start_error same look (v ∷ us) d NoMemory some h = tt
 
 -- one place more
-pub set_step : (look : Lval → Found) (us : List Lval) (i : ℕ) (d : Lval) (p r : Piece) → i < length us → join_found (found p) (look (get_or us i d)) ≡ found r → join_all look (found p) (drop i us) ≡ join_set look us → join_all look (found r) (drop (i + 1) us) ≡ join_set look us
-set_step look us i d p r lt joined so_far =
-    ap (λ f. join_all look f (drop (i + 1) us)) (sym joined)
-    ∙ ap (join_all look (found p)) (sym (drop_more us i d lt))
+pub set_step : (same : SetTest) (look : Lval → Found) (us : List Lval) (i : ℕ) (d : Lval) (p r : Piece) → i < length us → join_found same (found p) (look (get_or us i d)) ≡ found r → join_all same look (found p) (drop i us) ≡ join_set same look us → join_all same look (found r) (drop (i + 1) us) ≡ join_set same look us
+set_step same look us i d p r lt joined so_far =
+    ap (λ f. join_all same look f (drop (i + 1) us)) (sym joined)
+    ∙ ap (join_all same look (found p)) (sym (drop_more us i d lt))
     ∙ so_far
 
 -- a place without a type, or without a join
-pub set_error : (look : Lval → Found) (us : List Lval) (i : ℕ) (d : Lval) (p : Piece) (r : TypeError) → i < length us → IsFound (Err r) (join_found (found p) (look (get_or us i d))) → join_all look (found p) (drop i us) ≡ join_set look us → IsFound (Err r) (join_set look us)
-set_error look us i d p NoMemory lt joined so_far = tt
-set_error look us i d p NotDefined lt joined so_far =
-    sym so_far ∙ ap (join_all look (found p)) (drop_more us i d lt) ∙ ap (λ f. join_all look f (drop (i + 1) us)) joined ∙ all_undefined look (drop (i + 1) us)
-set_error look us i d p NoTarget lt joined so_far =
-    sym so_far ∙ ap (join_all look (found p)) (drop_more us i d lt) ∙ ap (λ f. join_all look f (drop (i + 1) us)) joined ∙ all_no_target look (drop (i + 1) us)
+pub set_error : (same : SetTest) (look : Lval → Found) (us : List Lval) (i : ℕ) (d : Lval) (p : Piece) (r : TypeError) → i < length us → IsFound (Err r) (join_found same (found p) (look (get_or us i d))) → join_all same look (found p) (drop i us) ≡ join_set same look us → IsFound (Err r) (join_set same look us)
+set_error same look us i d p NoMemory lt joined so_far = tt
+set_error same look us i d p NotDefined lt joined so_far =
+    sym so_far ∙ ap (join_all same look (found p)) (drop_more us i d lt) ∙ ap (λ f. join_all same look f (drop (i + 1) us)) joined ∙ all_undefined same look (drop (i + 1) us)
+set_error same look us i d p NoTarget lt joined so_far =
+    sym so_far ∙ ap (join_all same look (found p)) (drop_more us i d lt) ∙ ap (λ f. join_all same look f (drop (i + 1) us)) joined ∙ all_no_target same look (drop (i + 1) us)
 
 -- all places are joined
-pub set_end : (look : Lval → Found) (us : List Lval) (i : ℕ) (p : Piece) → length us ≤ i → join_all look (found p) (drop i us) ≡ join_set look us → join_set look us ≡ found p
-set_end look us i p le so_far = sym so_far ∙ ap (join_all look (found p)) (drop_all i us le)
+pub set_end : (same : SetTest) (look : Lval → Found) (us : List Lval) (i : ℕ) (p : Piece) → length us ≤ i → join_all same look (found p) (drop i us) ≡ join_set same look us → join_set same look us ≡ found p
+set_end same look us i p le so_far = sym so_far ∙ ap (join_all same look (found p)) (drop_all i us le)
 
 -- a star on a reference
-pub shared_seen : (look : Lval → Found) (p : Part) (us xs : List Lval) (r : Result Part TypeError) → p ≡ Whole (Shared us) → xs ≡ us → IsFound r (join_set look xs) → IsFound r (star look (piece_of p))
-shared_seen look p us xs r is same h = subst (λ q. IsFound r (star look (piece_of q))) (sym is) (subst (λ l. IsFound r (join_set look l)) same h)
+pub shared_seen : (same : SetTest) (look : Lval → Found) (p : Part) (us xs : List Lval) (r : Result Part TypeError) → p ≡ Whole (Shared us) → xs ≡ us → IsFound r (join_set same look xs) → IsFound r (star same look (piece_of p))
+shared_seen same look p us xs r is e h = subst (λ q. IsFound r (star same look (piece_of q))) (sym is) (subst (λ l. IsFound r (join_set same look l)) e h)
 
-pub mut_seen : (look : Lval → Found) (p : Part) (us xs : List Lval) (r : Result Part TypeError) → p ≡ Whole (Mut us) → xs ≡ us → IsFound r (join_set look xs) → IsFound r (star look (piece_of p))
-mut_seen look p us xs r is same h = subst (λ q. IsFound r (star look (piece_of q))) (sym is) (subst (λ l. IsFound r (join_set look l)) same h)
+pub mut_seen : (same : SetTest) (look : Lval → Found) (p : Part) (us xs : List Lval) (r : Result Part TypeError) → p ≡ Whole (Mut us) → xs ≡ us → IsFound r (join_set same look xs) → IsFound r (star same look (piece_of p))
+mut_seen same look p us xs r is e h = subst (λ q. IsFound r (star same look (piece_of q))) (sym is) (subst (λ l. IsFound r (join_set same look l)) e h)
 
 -- WRITES
 

@@ -1,16 +1,15 @@
 -- The shapes of slots by their numbers.
 use Rattle.std.proofs.Common.{◌≡◌, ℕ, zero, suc, ◌+◌, ◌-◌, ◌<◌, ◌≤◌, Bool, true, false, List, [], ◌∷◌, ◌++◌, length, get_or, Option, Some, None, refl, sym, ap, ◌∙◌, subst, arith}
-use Rattle.std.specs.Prelude.{◌==◌, IsSome, option_to_list, drop, if◌then◌else◌}
+use Rattle.std.specs.Prelude.{IsSome, option_to_list, drop, if◌then◌else◌}
 use Rattle.fr_base.specs.declared.place.Lval.{Lval}
-use Rattle.fr_typing.specs.Kinds.{Owned, box, Kind, shared, view, Piece, boxed, map_some}
-use Rattle.fr_typing.specs.Places.{Shape, owned_shape, shared_to, mutable_to, first_shape, kind_shape, piece_shape, star_shape, stars_shape, same_owned_shape}
-use Rattle.fr_typing.specs.Checks.{equal_shapes}
+use Rattle.fr_typing.specs.Kinds.{Owned, Kind, shared, view, Piece, map_some}
+use Rattle.fr_typing.specs.Places.{Shape, owned_shape, shared_to, first_shape, kind_shape, piece_shape, star_shape, stars_shape, equal_shapes}
 use Rattle.fr_typing.proofs.PlaceLemmas.{eq_cases}
 use Rattle.fr_types.specs.declared.shape_node.Sort.{Sort}
 use Rattle.fr_types.specs.ShapeTables.{shape_no, shape_of_no, IsNumber, wrapped, wrapped_in, wrapped_no, Keeps}
 use Rattle.fr_types.specs.SlotShapes.{slot_shape, place_shape, Known, with_part, without_last, shapes_above, shapes_by, AreNumbers, when_known}
 use Rattle.fr_types.proofs.ShapeLemmas.{first_place}
-use Rattle.fr_types.proofs.ShapeTableLemmas.{shape_no_there, same_shape_comm, equal_comm}
+use Rattle.fr_types.proofs.ShapeTableLemmas.{shape_no_there, equal_comm}
 
 -- SLOTS
 
@@ -24,7 +23,7 @@ slot_shape-push s below i lt = eq_cases (λ b. (if b then s else slot_shape belo
 slot_shape-last : (s : Option Shape) (below : List (Option Shape)) (i : ℕ) → i ≡ length below → slot_shape (s ∷ below) i ≡ s
 slot_shape-last s below i e = eq_cases (λ b. (if b then s else slot_shape below i) ≡ s) i (length below) (λ e2. refl) (λ ne. absurd (ne e))
 
-slot_shape-past : (ss : List (Option Shape)) (i : ℕ) → length ss ≤ i → slot_shape ss i ≡ None
+pub slot_shape-past : (ss : List (Option Shape)) (i : ℕ) → length ss ≤ i → slot_shape ss i ≡ None
 slot_shape-past [] i le = refl
 slot_shape-past (s ∷ below) i le = eq_cases (λ b. (if b then s else slot_shape below i) ≡ None) i (length below) (λ e. absurd (omega arith)) (λ ne. slot_shape-past below i (omega arith))
 

@@ -3,7 +3,7 @@ use Rattle.std.proofs.Common.{◌≡◌, ℕ, zero, suc, ◌+◌, ◌-◌, ◌<�
 use Rattle.std.specs.Prelude.{◌||◌}
 use Rattle.fr_terms.specs.Terms.{Text}
 use Rattle.fr_typing.specs.Kinds.{Piece}
-use Rattle.fr_typing.specs.Places.{Env, Found, found, undefined, no_target, star, type_at, on_path, piece_places, AreBelow}
+use Rattle.fr_typing.specs.Places.{Env, Found, found, undefined, no_target, star, type_at, alike, on_path, piece_places, AreBelow}
 use Rattle.fr_types.specs.declared.path.Test.{Test}
 use Rattle.fr_types.specs.declared.path.Test.TheVariants.{Lent, Mutable, Any}
 use Rattle.fr_types.specs.Paths.{test_of}
@@ -61,24 +61,24 @@ path_end test e x n (suc k) f miss stays h =
 
 -- AS THE CODE SEES IT
 
-pub next_seen : (names : List Text) (vs : List Held) (x c : ℕ) (p : Piece) (f : Found) → AreNested vs → x < length vs → 0 < c → type_at (env_of names vs) (record { slot = x; depth = c - 1 }) ≡ found p → star (type_at (env_of names vs)) p ≡ f → type_at (env_of names vs) (record { slot = x; depth = c }) ≡ f
+pub next_seen : (names : List Text) (vs : List Held) (x c : ℕ) (p : Piece) (f : Found) → AreNested vs → x < length vs → 0 < c → type_at (env_of names vs) (record { slot = x; depth = c - 1 }) ≡ found p → star (alike (env_of names vs)) (type_at (env_of names vs)) p ≡ f → type_at (env_of names vs) (record { slot = x; depth = c }) ≡ f
 next_seen names vs x c p f h lt some is next =
     let here : c - 1 + 1 ≡ c = omega (arith, some) in
     subst (λ n. type_at (env_of names vs) (record { slot = x; depth = n }) ≡ f) here
     (star_step (env_of names vs) x (c - 1) p (nested_env names vs h) (inside_env names vs x lt) is ∙ next)
 
-pub none_after : (test : Found → Bool) (names : List Text) (vs : List Held) (x c m : ℕ) (p : Piece) (f : Found) → IsError f → test f ≡ false → AreNested vs → x < length vs → 0 < c → c < m → type_at (env_of names vs) (record { slot = x; depth = c - 1 }) ≡ found p → star (type_at (env_of names vs)) p ≡ f → on_path test (env_of names vs) x c ≡ false → false ≡ on_path test (env_of names vs) x m
+pub none_after : (test : Found → Bool) (names : List Text) (vs : List Held) (x c m : ℕ) (p : Piece) (f : Found) → IsError f → test f ≡ false → AreNested vs → x < length vs → 0 < c → c < m → type_at (env_of names vs) (record { slot = x; depth = c - 1 }) ≡ found p → star (alike (env_of names vs)) (type_at (env_of names vs)) p ≡ f → on_path test (env_of names vs) x c ≡ false → false ≡ on_path test (env_of names vs) x m
 none_after test names vs x c m p f err miss h lt some more is next so_far =
     let e = env_of names vs in
     let all : m - c + c ≡ m = omega (arith, more) in
     sym (subst (λ n. on_path test e x n ≡ false) all
     (path_end test e x c (m - c) f miss (λ j. error_stays e x c j f (nested_env names vs h) (inside_env names vs x lt) err (next_seen names vs x c p f h lt some is next)) so_far))
 
-pub met_after : (test : Found → Bool) (names : List Text) (vs : List Held) (x c m : ℕ) (p q : Piece) → AreNested vs → x < length vs → 0 < c → c < m → type_at (env_of names vs) (record { slot = x; depth = c - 1 }) ≡ found p → star (type_at (env_of names vs)) p ≡ found q → true ≡ test (found q) → true ≡ on_path test (env_of names vs) x m
+pub met_after : (test : Found → Bool) (names : List Text) (vs : List Held) (x c m : ℕ) (p q : Piece) → AreNested vs → x < length vs → 0 < c → c < m → type_at (env_of names vs) (record { slot = x; depth = c - 1 }) ≡ found p → star (alike (env_of names vs)) (type_at (env_of names vs)) p ≡ found q → true ≡ test (found q) → true ≡ on_path test (env_of names vs) x m
 met_after test names vs x c m p q h lt some more is next met =
     met_path test (env_of names vs) x c m more (met ∙ ap test (sym (next_seen names vs x c p (found q) h lt some is next)))
 
-pub not_met : (test : Found → Bool) (names : List Text) (vs : List Held) (x c : ℕ) (p q : Piece) → AreNested vs → x < length vs → 0 < c → type_at (env_of names vs) (record { slot = x; depth = c - 1 }) ≡ found p → star (type_at (env_of names vs)) p ≡ found q → false ≡ test (found q) → on_path test (env_of names vs) x c ≡ false → on_path test (env_of names vs) x (c + 1) ≡ false
+pub not_met : (test : Found → Bool) (names : List Text) (vs : List Held) (x c : ℕ) (p q : Piece) → AreNested vs → x < length vs → 0 < c → type_at (env_of names vs) (record { slot = x; depth = c - 1 }) ≡ found p → star (alike (env_of names vs)) (type_at (env_of names vs)) p ≡ found q → false ≡ test (found q) → on_path test (env_of names vs) x c ≡ false → on_path test (env_of names vs) x (c + 1) ≡ false
 not_met test names vs x c p q h lt some is next miss so_far =
     path_step test (env_of names vs) x c so_far (miss ∙ ap test (sym (next_seen names vs x c p (found q) h lt some is next)))
 

@@ -2,8 +2,8 @@
 use Rattle.std.proofs.Common.{◌≡◌, ◌≢◌, ◌⊎◌, ℕ, suc, ◌<◌, ◌≤◌, Bool, true, false, List, [], ◌∷◌, length, Option, Some, None, refl, sym, ap, ◌∙◌, subst, arith, inl, inr, ⊎_elim}
 use Rattle.std.specs.Prelude.{◌==◌, IsSome, if◌then◌else◌}
 use Rattle.fr_typing.specs.Kinds.{Owned, unit, int, box, mutex, task, same_owned}
-use Rattle.fr_typing.specs.Places.{Shape, owned_shape, shared_to, mutable_to, star_shape}
-use Rattle.fr_typing.specs.Checks.{same_shape, equal_shapes, owned_levels}
+use Rattle.fr_typing.specs.Places.{Shape, owned_shape, shared_to, mutable_to, star_shape, same_shape, equal_shapes}
+use Rattle.fr_typing.specs.Checks.{owned_levels}
 use Rattle.fr_typing.proofs.PlaceLemmas.{eq_cases}
 use Rattle.fr_types.specs.declared.shape_node.Sort.{Sort}
 use Rattle.fr_types.specs.declared.shape_node.Sort.TheVariants.{Box, Mutex, Task, Shared, Mut}

@@ -1,22 +1,24 @@
 -- The shapes of an environment's slots.
-use Rattle.std.proofs.Common.{◌≡◌, ℕ, zero, suc, ◌<◌, ◌≤◌, Bool, true, false, List, [], ◌∷◌, ◌++◌, length, get_or, set, Option, Some, None, refl, sym, ap, ◌∙◌, subst, arith}
+use Rattle.std.proofs.Common.{◌≡◌, ℕ, suc, ◌<◌, ◌≤◌, Bool, true, false, List, [], ◌∷◌, ◌++◌, length, get_or, set, Option, Some, None, refl, sym, ap, ◌∙◌, subst, arith, ⊎_elim}
 use Rattle.std.specs.Prelude.{◌==◌, IfSome, if◌then◌else◌}
 use Rattle.fr_base.specs.declared.place.Lval.{Lval}
 use Rattle.fr_terms.specs.Terms.{Text}
 use Rattle.fr_typing.specs.Kinds.{Kind, own, shared, mutable, view, Piece, whole, gone, boxed, map_some}
-use Rattle.fr_typing.specs.Places.{Shape, shared_to, mutable_to, same_owned_shape, first_shape, kind_shape, piece_shape, star_shape, stars_shape, shape_at, piece_places, AreBelow}
-use Rattle.fr_typing.specs.Checks.{equal_shapes, has_shape_of}
+use Rattle.fr_typing.specs.Places.{Shape, shared_to, mutable_to, same_owned_shape, first_shape, kind_shape, piece_shape, stars_shape, shape_at, piece_places, AreBelow, equal_shapes}
+use Rattle.fr_typing.specs.Checks.{has_shape_of}
 use Rattle.fr_typing.proofs.PlaceLemmas.{eq_cases, AreBelow-weaker}
 use Rattle.fr_types.specs.declared.types.Part.{Part}
 use Rattle.fr_types.specs.declared.variable.Variable.{Variable}
 use Rattle.fr_types.specs.Types.{piece_of}
 use Rattle.fr_types.specs.Inside.{held_of, newest}
-use Rattle.fr_types.specs.States.{Held, slot_view, env_of, part_in, put_in, AreNested}
-use Rattle.fr_types.specs.SlotShapes.{slot_shape, place_shape, shapes_in, Known, with_part, without_last, with_change, known_same, known_fits, AreShapes}
+use Rattle.fr_types.specs.States.{Held, env_of, part_in, put_in, AreNested}
+use Rattle.fr_types.specs.SlotShapes.{slot_shape, place_shape, shapes_in, Known, with_part, without_last, with_change, known_same, known_fits, known_places, AreShapes}
 use Rattle.fr_types.proofs.EnvLemmas.{length_newest, newest-push, part_in-newest, put_in-newest}
 use Rattle.fr_types.proofs.LookLemmas.{length-env_of}
-use Rattle.fr_types.proofs.ShapeLemmas.{SameShapes, piece_same, part_below}
+use Rattle.fr_types.proofs.ShapeLemmas.{SameShapes, piece_same, part_below, stars_none}
 use Rattle.fr_types.proofs.ShapeTableLemmas.{shape_cases}
+use Rattle.fr_types.proofs.NumberedLemmas.{slot_shape-past}
+use Rattle.std.proofs.lemmas.Bool.{cases_lt}
 
 -- PLACES
 
@@ -37,10 +39,6 @@ piece_all : (a b : Lval → Option Shape) (p : Piece) → AllSame a b → piece_
 piece_all a b (whole k) s = kind_all a b k s
 piece_all a b (gone k) s = kind_all a b k s
 piece_all a b (boxed p) s = ap same_owned_shape (piece_all a b p s)
-
-stars_none : (n : ℕ) → stars_shape n None ≡ None
-stars_none zero = refl
-stars_none (suc n) = ap star_shape (stars_none n)
 
 length-shapes_in : (vs : List Held) → length (shapes_in vs) ≡ length vs
 length-shapes_in [] = refl
@@ -129,6 +127,21 @@ fits_seen names vs all (Some ss) p m (Some same) h e is =
     known
     ∙ ap (λ s. equal_shapes s (kind_shape (place_shape ss) m)) (piece_all (place_shape ss) (shape_at (env_of names all)) p look)
     ∙ ap (equal_shapes (piece_shape (shape_at (env_of names all)) p)) (kind_all (place_shape ss) (shape_at (env_of names all)) m look)
+
+pub places_seen : (names : List Text) (vs all : List Held) (k : Known) (u v : Lval) (r : Option Bool) → AreShapes vs k → vs ≡ all → r ≡ known_places k u v → IfSome r (λ same. same ≡ equal_shapes (shape_at (env_of names all) u) (shape_at (env_of names all) v))
+places_seen names vs all k u v None h e is = tt
+places_seen names vs all None u v (Some same) h e is = absurd cc
+places_seen names vs all (Some ss) u v (Some same) h e is =
+    let look : AllSame (place_shape ss) (shape_at (env_of names all)) = λ w. ap (λ l. place_shape l w) h ∙ look_same names vs w ∙ ap (λ (l : List Held). shape_at (env_of names l) w) e in
+    let known : same ≡ equal_shapes (place_shape ss u) (place_shape ss v) = cc in
+    known ∙ ap (λ s. equal_shapes s (place_shape ss v)) (look u) ∙ ap (equal_shapes (shape_at (env_of names all) u)) (look v)
+
+-- no place starts at a slot that isn't there
+pub place_past : (names : List Text) (vs : List Held) (u : Lval) → (u.slot < length vs → ⊥) → shape_at (env_of names vs) u ≡ None
+place_past names vs u h =
+    sym (look_same names vs u)
+    ∙ ap (stars_shape u.depth) (slot_shape-past (shapes_in vs) u.slot (⊎_elim (λ (z : u.slot < length vs). absurd (h z)) (λ (z : length vs ≤ u.slot). omega (arith, z, length-shapes_in vs)) (cases_lt u.slot (length vs))))
+    ∙ stars_none u.depth
 
 -- WHAT THE CODE KEEPS
 

@@ -14,3 +14,4 @@ pub mod ShapeTables
 pub mod ShapeCodes
 pub mod ShapeNodes
 pub mod SlotShapes
+pub mod Walks

@@ -1,8 +1,7 @@
 -- Numbers of shapes: a list of different shapes, the last one first, in which a shape's number is how many stand before it.
 use Rattle.std.specs.Prelude.{◌≡◌, ℕ, ◌==◌, ◌<◌, ◌≤◌, ⊤, List, [], ◌∷◌, length, Bool, true, false, Option, Some, None, if◌then◌else◌}
 use Rattle.fr_typing.specs.Kinds.{box, mutex, task}
-use Rattle.fr_typing.specs.Places.{Shape, owned_shape, shared_to, mutable_to}
-use Rattle.fr_typing.specs.Checks.{same_shape}
+use Rattle.fr_typing.specs.Places.{Shape, owned_shape, shared_to, mutable_to, same_shape}
 use Rattle.fr_types.specs.declared.shape_node.Sort.{Sort}
 use Rattle.fr_types.specs.declared.shape_node.Sort.TheVariants.{Box, Mutex, Task, Shared, Mut}
 

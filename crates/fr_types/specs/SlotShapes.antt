@@ -2,8 +2,7 @@
 use Rattle.std.specs.Prelude.{◌≡◌, ℕ, ◌==◌, Bool, ⊤, List, [], ◌∷◌, length, drop, Option, Some, None, if◌then◌else◌}
 use Rattle.fr_base.specs.declared.place.Lval.{Lval}
 use Rattle.fr_typing.specs.Kinds.{Kind, Piece}
-use Rattle.fr_typing.specs.Places.{Shape, kind_shape, piece_shape, stars_shape}
-use Rattle.fr_typing.specs.Checks.{equal_shapes}
+use Rattle.fr_typing.specs.Places.{Shape, kind_shape, piece_shape, stars_shape, equal_shapes}
 use Rattle.fr_types.specs.States.{Held}
 use Rattle.fr_types.specs.ShapeTables.{shape_of_no, IsNumber}
 
@@ -48,6 +47,11 @@ known_same (Some ss) a b = Some (equal_shapes (kind_shape (place_shape ss) a) (k
 abbrev pub known_fits : Known → Piece → Kind → Option Bool
 known_fits None p k = None
 known_fits (Some ss) p k = Some (equal_shapes (piece_shape (place_shape ss) p) (kind_shape (place_shape ss) k))
+
+-- and two places
+abbrev pub known_places : Known → Lval → Lval → Option Bool
+known_places None u v = None
+known_places (Some ss) u v = Some (equal_shapes (place_shape ss u) (place_shape ss v))
 
 -- what is known is right
 abbrev pub AreShapes : List Held → Known → Type 0

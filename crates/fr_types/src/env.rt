@@ -2,8 +2,8 @@
 
 ghost use Rattle.std.specs.Prelude.{◌≡◌, ℕ, ◌<◌, ◌≤◌, ◌↔◌, [], ◌∷◌, List, length, drop, slice_index_or, IsSome, IfOk, OnOk, OnErr, IfSome, None};
 ghost use Rattle.fr_terms.specs.Terms.{Text};
-ghost use Rattle.fr_typing.specs.Places.{AreBelow, piece_places, read_blocked, write_blocked, put_at, kind_shape, shape_at};
-ghost use Rattle.fr_typing.specs.Checks.{equal_shapes, has_shape_of};
+ghost use Rattle.fr_typing.specs.Places.{AreBelow, piece_places, read_blocked, write_blocked, put_at, kind_shape, shape_at, equal_shapes};
+ghost use Rattle.fr_typing.specs.Checks.{has_shape_of};
 ghost use Rattle.fr_types.specs.Types.{kind_of, piece_of};
 ghost use Rattle.fr_types.specs.States.{slot_in, part_in, put_in, env_of, IsNew, AreNested};
 ghost use Rattle.fr_types.specs.Inside.{HasRoom, with_entry};
@@ -224,6 +224,13 @@ impl Env {
         ensures { (names : List Text) → IfSome result (λ same. same ≡ has_shape_of (env_of names self.now) (piece_of part.now) (kind_of t.now)) }
     {
         self.shapes.fits(part, t)
+    }
+
+    // The same for two places.
+    pub(crate) fn same_places(&self, u: Lval, v: Lval) -> Option<bool>
+        ensures { (names : List Text) → IfSome result (λ same. same ≡ equal_shapes (shape_at (env_of names self.now) u) (shape_at (env_of names self.now) v)) }
+    {
+        self.shapes.same_places(u, v)
     }
 
     /// Puts the part at a place whose path is its own; a refusal changes nothing.

@@ -25,6 +25,7 @@ mod slot_shapes;
 mod tests;
 mod types;
 mod variable;
+mod walk;
 
 pub use env::Env;
 pub use error::TypeError;

@@ -1,8 +1,7 @@
 //! Shapes by their numbers in a table: the shapes of slots are there.
 
 ghost use Rattle.std.specs.Prelude.{◌≡◌, Option, Some, None, IsSome, IfOk, slice_index_or};
-ghost use Rattle.fr_typing.specs.Places.{Shape, owned_shape, kind_shape, piece_shape};
-ghost use Rattle.fr_typing.specs.Checks.{equal_shapes};
+ghost use Rattle.fr_typing.specs.Places.{Shape, owned_shape, kind_shape, piece_shape, equal_shapes};
 ghost use Rattle.fr_types.specs.OwnedTypes.{owned_of};
 ghost use Rattle.fr_types.specs.Types.{kind_of, piece_of};
 ghost use Rattle.fr_types.specs.ShapeTables.{shape_of_no, wrapped, wrapped_in, is_owned_shape, IsNumber, Keeps};
@@ -112,8 +111,8 @@ pub fn add_part(
     }
 }
 
-// Whether both places have a shape, and the same one.
-fn same_places(table: &ShapeTable, numbers: &[Option<u32>], u: Lval, v: Lval) -> bool
+/// Whether both places have a shape, and the same one; it costs their stars.
+pub fn same_places(table: &ShapeTable, numbers: &[Option<u32>], u: Lval, v: Lval) -> bool
     requires numbers { AreNumbers table.now numbers.now }
     ensures { result ≡ equal_shapes (place_shape (shapes_by table.now numbers.now) u) (place_shape (shapes_by table.now numbers.now) v) }
 {
@@ -185,8 +184,8 @@ fn holds(part: &Part, o: &O) -> bool
     }
 }
 
-// Whether the part has the shape of some owned type.
-fn is_owned_part(part: &Part) -> bool
+/// Whether the part has the shape of some owned type.
+pub fn is_owned_part(part: &Part) -> bool
     ensures { (look : Lval → Option Shape) → result ≡ is_owned_shape (piece_shape look (piece_of part.now)) }
 {
     match part {

@@ -2,9 +2,9 @@
 
 ghost use Rattle.std.specs.Prelude.{◌≡◌, ◌<◌, ◌≤◌, ◌-◌, List, length, IfOk};
 ghost use Rattle.fr_terms.specs.Terms.{Text};
-ghost use Rattle.fr_typing.specs.Places.{AreBelow, piece_places, type_at, Found, star, stars, join_set, join_found, found};
+ghost use Rattle.fr_typing.specs.Places.{AreBelow, piece_places, type_at, alike, Found, star, stars, join_set, join_found, found};
 ghost use Rattle.fr_base.specs.declared.place.Lval.{Lval};
-ghost use Rattle.fr_typing.specs.Kinds.{own, whole};
+ghost use Rattle.fr_typing.specs.Kinds.{own, whole, SetTest};
 ghost use Rattle.fr_types.specs.OwnedTypes.{owned_of};
 ghost use Rattle.fr_types.specs.Types.{kind_of, piece_of};
 ghost use Rattle.fr_types.specs.States.{env_of, AreNested};
@@ -18,7 +18,7 @@ use fr_base::{Lval, NoMemory};
 use std::alloc::Global;
 
 /// The type of what stands at the place: `NotDefined` exactly at a star on something gone, `NoTarget` exactly at a star on
-/// another part that leads nowhere, or where the types of the places of a set have no join. Through references to one place
+/// another part that leads nowhere, or where the types of the places of a set have no join, as those of references to places of two shapes. Through references to one place
 /// it costs the place's stars and the levels of what it gives, however long the way is; each place of a larger set is looked
 /// up.
 #[cycle(place)]
@@ -45,7 +45,7 @@ pub fn lval_type(alloc: Global, env: &Env, w: Lval) -> Result<Part, TypeError>
 // What stands in a part under so many stars, or as far down as boxes lead: and how many stars are left there.
 fn inside(alloc: Global, part: &Part, depth: u64) -> Result<(Part, u64), NoMemory>
     ensures left { IfOk result (λ p. p.1 ≤ depth) }
-    ensures part { IfOk result (λ p. (look : Lval → Found) → stars look (depth - p.1) (piece_of part.now) ≡ found (piece_of p.0)) }
+    ensures part { IfOk result (λ p. (same : SetTest) (look : Lval → Found) → stars same look (depth - p.1) (piece_of part.now) ≡ found (piece_of p.0)) }
 {
     match part {
         Part::Box(p) if 0 < depth => inside(alloc, p, depth - 1),
@@ -57,7 +57,7 @@ fn inside(alloc: Global, part: &Part, depth: u64) -> Result<(Part, u64), NoMemor
 // The same in a whole part.
 fn inside_type(alloc: Global, t: &Ty, depth: u64) -> Result<(Part, u64), NoMemory>
     ensures left { IfOk result (λ p. p.1 ≤ depth) }
-    ensures part { IfOk result (λ p. (look : Lval → Found) → stars look (depth - p.1) (whole (kind_of t.now)) ≡ found (piece_of p.0)) }
+    ensures part { IfOk result (λ p. (same : SetTest) (look : Lval → Found) → stars same look (depth - p.1) (whole (kind_of t.now)) ≡ found (piece_of p.0)) }
 {
     match t {
         Ty::Box(o) if 0 < depth => inside_owned(alloc, o, depth - 1),
@@ -69,7 +69,7 @@ fn inside_type(alloc: Global, t: &Ty, depth: u64) -> Result<(Part, u64), NoMemor
 // The same in a whole part of an owned type.
 fn inside_owned(alloc: Global, o: &O, depth: u64) -> Result<(Part, u64), NoMemory>
     ensures left { IfOk result (λ p. p.1 ≤ depth) }
-    ensures part { IfOk result (λ p. (look : Lval → Found) → stars look (depth - p.1) (whole (own (owned_of o.now))) ≡ found (piece_of p.0)) }
+    ensures part { IfOk result (λ p. (same : SetTest) (look : Lval → Found) → stars same look (depth - p.1) (whole (own (owned_of o.now))) ≡ found (piece_of p.0)) }
 {
     match o {
         O::Box(o) if 0 < depth => inside_owned(alloc, o, depth - 1),
@@ -82,7 +82,7 @@ fn inside_owned(alloc: Global, o: &O, depth: u64) -> Result<(Part, u64), NoMemor
 pub fn star(alloc: Global, env: &Env, part: Part, bound: u32) -> Result<Part, TypeError>
     requires below { AreBelow bound (piece_places (piece_of part)) }
     requires here { bound ≤ length env.now }
-    ensures { (names : List Text) → IsFound result (star (type_at (env_of names env.now)) (piece_of part)) }
+    ensures { (names : List Text) → IsFound result (star (alike (env_of names env.now)) (type_at (env_of names env.now)) (piece_of part)) }
 {
     match part {
         Part::Whole(Ty::Box(o)) => Ok(Part::Whole(o.into_type())),
@@ -101,7 +101,7 @@ fn join_set(alloc: Global, env: &Env, us: &[Lval], bound: u32) -> Result<Part, T
     requires some { 0 < length us.now }
     requires below { AreBelow bound us.now }
     requires here { bound ≤ length env.now }
-    ensures { (names : List Text) → IsFound result (join_set (type_at (env_of names env.now)) us.now) }
+    ensures { (names : List Text) → IsFound result (join_set (alike (env_of names env.now)) (type_at (env_of names env.now)) us.now) }
 {
     let mut part = match lval_type(alloc, env, us[0]) {
         Ok(part) => part,
@@ -120,10 +120,10 @@ fn join_set(alloc: Global, env: &Env, us: &[Lval], bound: u32) -> Result<Part, T
 #[cycle(place)]
 fn join_with(alloc: Global, env: &Env, part: Part, u: Lval) -> Result<Part, TypeError>
     requires here { u.slot < length env.now }
-    ensures { (names : List Text) → IsFound result (join_found (found (piece_of part)) (type_at (env_of names env.now) u)) }
+    ensures { (names : List Text) → IsFound result (join_found (alike (env_of names env.now)) (found (piece_of part)) (type_at (env_of names env.now) u)) }
 {
     match lval_type(alloc, env, u) {
-        Ok(other) => join_found(alloc, part, other),
+        Ok(other) => join_found(alloc, env, part, other),
         Err(e) => {
             drop(part);
             Err(e)
@@ -132,10 +132,10 @@ fn join_with(alloc: Global, env: &Env, part: Part, u: Lval) -> Result<Part, Type
 }
 
 // The join of two parts.
-fn join_found(alloc: Global, p: Part, q: Part) -> Result<Part, TypeError>
-    ensures { IsFound result (join_found (found (piece_of p)) (found (piece_of q))) }
+fn join_found(alloc: Global, env: &Env, p: Part, q: Part) -> Result<Part, TypeError>
+    ensures { (names : List Text) → IsFound result (join_found (alike (env_of names env.now)) (found (piece_of p)) (found (piece_of q))) }
 {
-    let joined = join_parts(alloc, &p, &q);
+    let joined = join_parts(alloc, env, &p, &q);
     drop(p);
     drop(q);
     match joined? {

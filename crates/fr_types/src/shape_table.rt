@@ -2,8 +2,7 @@
 
 ghost use Rattle.std.specs.Prelude.{◌≡◌, ◌<◌, [], length, Option, IsSome, IfOk, OnOk, OnErr, Some};
 ghost use Rattle.fr_typing.specs.Kinds.{unit, int};
-ghost use Rattle.fr_typing.specs.Places.{Shape, owned_shape, star_shape};
-ghost use Rattle.fr_typing.specs.Checks.{equal_shapes};
+ghost use Rattle.fr_typing.specs.Places.{Shape, owned_shape, star_shape, equal_shapes};
 ghost use Rattle.fr_types.specs.OwnedTypes.{owned_of};
 ghost use Rattle.fr_types.specs.ShapeTables.{shape_no, shape_of_no, number_in, number_at, wrapped_in, wrapped_no, is_owned_shape, with_shape, IsNumber, AreDifferent, Keeps};
 

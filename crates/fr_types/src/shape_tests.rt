@@ -32,7 +32,7 @@ fn same(alloc: Global, env: &Env, u: Lval, v: Lval) -> Result<bool, NoMemory> {
     }
     let a = Ty::Shared(Places::one(alloc, u)?);
     let b = Ty::Shared(Places::one(alloc, v)?);
-    same_shape(alloc, env, &a, &b)
+    Ok(same_shape(env, &a, &b))
 }
 
 fn at(slot: u32, depth: u8) -> Lval {
@@ -83,5 +83,28 @@ fn a_slot_that_changes_its_shape_is_compared(rt: HostRuntime) -> Result<(), Fail
     assert!(rt; !same(alloc, &env, at(0, 0), at(1, 0))?);
     assert!(rt; same(alloc, &env, at(0, 0), at(2, 1))?);
     assert!(rt; !same(alloc, &env, at(1, 0), at(2, 1))?);
+    Ok(())
+}
+
+#[test]
+fn a_long_chain_is_compared_without_numbers(rt: HostRuntime) -> Result<(), Fail> {
+    let alloc = rt.alloc();
+    let mut env = Env::new(alloc);
+    number(&mut env)?;
+    lend(alloc, &mut env, 0, 0)?;
+    for slot in 1..50000 {
+        lend(alloc, &mut env, slot, 1)?;
+    }
+    for slot in 50000..50040 {
+        lend(alloc, &mut env, slot, 0)?;
+    }
+    assert!(rt; 0 < env.len());
+    env.set(0, Part::Whole(Ty::Unit));
+    assert!(rt; same(alloc, &env, at(1, 0), at(50000, 0))?);
+    assert!(rt; !same(alloc, &env, at(50000, 1), at(50000, 0))?);
+    assert!(rt; same(alloc, &env, at(50040, 40), at(1, 0))?);
+    assert!(rt; same(alloc, &env, at(50040, 41), at(0, 0))?);
+    assert!(rt; !same(alloc, &env, at(50040, 42), at(0, 0))?);
+    assert!(rt; !same(alloc, &env, at(50040, 0), at(50039, 0))?);
     Ok(())
 }

@@ -2,12 +2,12 @@
 
 ghost use Rattle.std.specs.Prelude.{◌≡◌, [], Some, IfOk, OnOk, OnErr};
 ghost use Rattle.fr_types.specs.Types.{kind_of, piece_of};
-ghost use Rattle.fr_types.specs.SlotShapes.{with_part, without_last, with_change, known_same, known_fits};
+ghost use Rattle.fr_types.specs.SlotShapes.{with_part, without_last, with_change, known_same, known_fits, known_places};
 
-use crate::numbered::{add_part, fits, same_parts, same_types};
+use crate::numbered::{add_part, fits, same_parts, same_places, same_types};
 use crate::shape_table::ShapeTable;
 use crate::types::{Part, Ty};
-use fr_base::NoMemory;
+use fr_base::{Lval, NoMemory};
 use std::alloc::Global;
 use std::marker::Model;
 
@@ -94,6 +94,17 @@ impl SlotShapes {
     {
         if self.is_known {
             Some(fits(&self.table, self.numbers.as_slice(), part, t))
+        } else {
+            None
+        }
+    }
+
+    /// Whether two places have a shape, and the same one. `None`: the shapes of slots aren't known.
+    pub fn same_places(&self, u: Lval, v: Lval) -> Option<bool>
+        ensures { result ≡ known_places self.now u v }
+    {
+        if self.is_known {
+            Some(same_places(&self.table, self.numbers.as_slice(), u, v))
         } else {
             None
         }

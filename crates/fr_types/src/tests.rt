@@ -191,3 +191,34 @@ fn several_places_of_a_slot_lend_it_once(rt: HostRuntime) -> Result<(), Fail> {
     assert!(rt; !env.write_blocked(0) && !env.write_blocked(1));
     Ok(())
 }
+
+#[test]
+fn references_to_two_shapes_have_no_join(rt: HostRuntime) -> Result<(), Fail> {
+    let alloc = rt.alloc();
+    let mut env = Env::new(alloc);
+    hold(&mut env, Ty::Int)?;
+    hold(&mut env, Ty::Int)?;
+    hold(&mut env, Ty::Box(O::Int))?;
+    share(alloc, &mut env, at(0, 0))?;
+    share(alloc, &mut env, at(1, 0))?;
+    share(alloc, &mut env, at(2, 0))?;
+    share_both(alloc, &mut env, at(3, 0), at(4, 0))?;
+    share_both(alloc, &mut env, at(3, 0), at(5, 0))?;
+    assert!(rt; has_number(alloc, &env, at(6, 2))?);
+    assert_eq!(rt;
+        has_number(alloc, &env, at(7, 1)).err(),
+        Some(TypeError::NoTarget)
+    );
+    change(&mut env, 1, Ty::Unit);
+    assert_eq!(rt;
+        has_number(alloc, &env, at(6, 1)).err(),
+        Some(TypeError::NoTarget)
+    );
+    change(&mut env, 1, Ty::Int);
+    assert!(rt; has_number(alloc, &env, at(6, 2))?);
+    assert_eq!(rt;
+        has_number(alloc, &env, at(7, 1)).err(),
+        Some(TypeError::NoTarget)
+    );
+    Ok(())
+}

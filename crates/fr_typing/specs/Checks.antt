@@ -3,8 +3,8 @@ use Rattle.std.specs.Prelude.{ℕ, suc, [], ◌∷◌, Bool, true, false, not, �
 use Rattle.std.specs.List.{list_any}
 use Rattle.fr_base.specs.declared.place.Lval.{Lval}
 use Rattle.fr_terms.specs.Terms.{Text, Spot}
-use Rattle.fr_typing.specs.Kinds.{Owned, unit, int, box, mutex, task, same_owned, Kind, own, shared, mutable, Piece, whole}
-use Rattle.fr_typing.specs.Places.{Env, Found, found, type_at, Shape, owned_shape, shared_to, mutable_to, kind_shape, piece_shape, shape_at, on_path, is_mutable, put_at}
+use Rattle.fr_typing.specs.Kinds.{Owned, unit, int, box, mutex, task, Kind, own, shared, mutable, Piece, whole}
+use Rattle.fr_typing.specs.Places.{Env, Found, found, type_at, kind_shape, piece_shape, shape_at, equal_shapes, on_path, is_mutable, put_at}
 
 -- the place that a written place names, where its name is that of this slot
 abbrev pub place_of : Spot → ℕ → Lval
@@ -46,16 +46,6 @@ is_full o = nat_le 64 (owned_levels o)
 -- a reference or a view, to be written under a star
 abbrev pub is_kept_out : Kind → ℕ → Bool
 is_kept_out k stars = not (is_owned k) && nat_lt 0 stars
-
-abbrev pub same_shape : Shape → Shape → Bool
-same_shape (owned_shape a) (owned_shape b) = same_owned a b
-same_shape (shared_to a) (shared_to b) = same_shape a b
-same_shape (mutable_to a) (mutable_to b) = same_shape a b
-same_shape _ _ = false
-
-abbrev pub equal_shapes : Option Shape → Option Shape → Bool
-equal_shapes (Some a) (Some b) = same_shape a b
-equal_shapes _ _ = false
 
 -- a type has the shape of the part that it is to stand at
 abbrev pub has_shape_of : Env → Piece → Kind → Bool

@@ -50,24 +50,28 @@ abbrev pub union : List Lval → List Lval → List Lval
 union [] vs = vs
 union (u ∷ us) vs = insert_lval u (union us vs)
 
--- the join of two types
-abbrev pub join_kind : Kind → Kind → Option Kind
-join_kind (own a) (own b) = if same_owned a b then Some (own a) else None
-join_kind (view a) (view b) = if same_owned a b then Some (view a) else None
-join_kind (shared us) (shared vs) = Some (shared (union us vs))
-join_kind (mutable us) (mutable vs) = Some (mutable (union us vs))
-join_kind _ _ = None
+-- a test of two sets of places
+abbrev pub SetTest : Type 0
+SetTest = List Lval → List Lval → Bool
+
+-- the join of two types, where `same` tells whether the places of two sets have one shape
+abbrev pub join_kind : SetTest → Kind → Kind → Option Kind
+join_kind same (own a) (own b) = if same_owned a b then Some (own a) else None
+join_kind same (view a) (view b) = if same_owned a b then Some (view a) else None
+join_kind same (shared us) (shared vs) = if same us vs then Some (shared (union us vs)) else None
+join_kind same (mutable us) (mutable vs) = if same us vs then Some (mutable (union us vs)) else None
+join_kind same _ _ = None
 
 abbrev pub map_some : {A B : Type 0} → (A → B) → Option A → Option B
 map_some f None = None
 map_some f (Some x) = Some (f x)
 
 -- the join of two parts: both whole, both gone or both boxes
-abbrev pub join_piece : Piece → Piece → Option Piece
-join_piece (whole a) (whole b) = map_some whole (join_kind a b)
-join_piece (gone a) (gone b) = map_some gone (join_kind a b)
-join_piece (boxed p) (boxed q) = map_some boxed (join_piece p q)
-join_piece _ _ = None
+abbrev pub join_piece : SetTest → Piece → Piece → Option Piece
+join_piece same (whole a) (whole b) = map_some whole (join_kind same a b)
+join_piece same (gone a) (gone b) = map_some gone (join_kind same a b)
+join_piece same (boxed p) (boxed q) = map_some boxed (join_piece same p q)
+join_piece same _ _ = None
 
 -- copied when read; all other types are moved
 abbrev pub copies : Kind → Bool

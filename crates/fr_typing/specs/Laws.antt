@@ -1,8 +1,6 @@
 -- What is proved of typing.
 use Rattle.std.specs.Prelude.{◌≡◌, ◌↔◌, ◌⊎◌, ℕ}
 use Rattle.fr_terms.specs.Terms.{Term}
-use Rattle.fr_terms.specs.Limits.{IsAccepted}
-use Rattle.fr_typing.specs.Sequential.{IsSequential}
 use Rattle.fr_typing.specs.declared.reason.Reason.{Reason}
 use Rattle.fr_typing.specs.Kinds.{Kind}
 use Rattle.fr_typing.specs.Places.{Env}
@@ -33,7 +31,3 @@ pub record OneOutcome : Type 0 where
   pub same_after : (t : Term) (e e1 e2 : Env) (k l : Kind) → Types e t k e1 → Types e t l e2 → e1 ≡ e2
   pub same_place : (t : Term) (e : Env) (p q : ℕ) (r s : Reason) → Faults e t p r → Faults e t q s → p ≡ q
   pub same_reason : (t : Term) (e : Env) (p q : ℕ) (r s : Reason) → Faults e t p r → Faults e t q s → r ≡ s
-
--- a term of accepted forms is one of the forms of one thread
-abbrev pub AcceptedSequential : Type 0
-AcceptedSequential = (t : Term) → IsAccepted t → IsSequential t

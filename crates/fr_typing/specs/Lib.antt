@@ -6,9 +6,9 @@ pub mod Captures
 pub mod Rules
 pub mod Typing
 pub mod Laws
-pub mod Owned
 pub mod Examples
 pub mod BorrowExamples
 pub mod ThreadExamples
+pub mod JoinExamples
 pub mod Sequential
 pub mod Threaded

@@ -1,9 +1,9 @@
--- The type of a place, and when a place is blocked.
-use Rattle.std.specs.Prelude.{ℕ, ◌<◌, zero, suc, Bool, true, false, not, ◌||◌, ◌==◌, List, [], ◌∷◌, length, Option, Some, None, if◌then◌else◌}
+-- The shape and the type of a place, and when a place is blocked.
+use Rattle.std.specs.Prelude.{ℕ, ◌<◌, zero, suc, Bool, true, false, not, ◌&&◌, ◌||◌, ◌==◌, List, [], ◌∷◌, length, Option, Some, None, if◌then◌else◌}
 use Rattle.std.specs.List.{list_all, list_any}
 use Rattle.fr_base.specs.declared.place.Lval.{Lval}
 use Rattle.fr_terms.specs.Terms.{Text, same_text}
-use Rattle.fr_typing.specs.Kinds.{Owned, box, Kind, own, shared, mutable, view, Piece, whole, gone, boxed, box_of, join_piece, map_some}
+use Rattle.fr_typing.specs.Kinds.{Owned, box, same_owned, Kind, own, shared, mutable, view, Piece, whole, gone, boxed, box_of, SetTest, join_piece, map_some}
 
 -- a slot: its name, where it has one, and its part
 pub record Slot : Type 0 where
@@ -13,6 +13,73 @@ pub record Slot : Type 0 where
 -- the slots, the last one first; a slot's number is the number of slots before it
 abbrev pub Env : Type 0
 Env = List Slot
+
+-- SHAPES
+
+pub data Shape : Type 0 where
+  owned_shape : Owned → Shape
+  shared_to : Shape → Shape
+  mutable_to : Shape → Shape
+
+abbrev pub same_owned_shape : Option Shape → Option Shape
+same_owned_shape (Some (owned_shape o)) = Some (owned_shape (box o))
+same_owned_shape _ = None
+
+abbrev pub first_shape : (Lval → Option Shape) → List Lval → Option Shape
+first_shape look [] = None
+first_shape look (u ∷ us) = look u
+
+abbrev pub kind_shape : (Lval → Option Shape) → Kind → Option Shape
+kind_shape look (own o) = Some (owned_shape o)
+kind_shape look (view o) = Some (shared_to (owned_shape o))
+kind_shape look (shared us) = map_some shared_to (first_shape look us)
+kind_shape look (mutable us) = map_some mutable_to (first_shape look us)
+
+abbrev pub piece_shape : (Lval → Option Shape) → Piece → Option Shape
+piece_shape look (whole k) = kind_shape look k
+piece_shape look (gone k) = kind_shape look k
+piece_shape look (boxed p) = same_owned_shape (piece_shape look p)
+
+-- so many stars on a shape: a box to what it holds, a reference to what it is to
+abbrev pub star_shape : Option Shape → Option Shape
+star_shape (Some (owned_shape (box o))) = Some (owned_shape o)
+star_shape (Some (shared_to a)) = Some a
+star_shape (Some (mutable_to a)) = Some a
+star_shape _ = None
+
+abbrev pub stars_shape : ℕ → Option Shape → Option Shape
+stars_shape zero a = a
+stars_shape (suc n) a = star_shape (stars_shape n a)
+
+-- the shape of a place, which has one also where something on its path is gone: the shape of a slot never changes
+abbrev pub shape_at : Env → Lval → Option Shape
+shape_at [] w = None
+shape_at (s ∷ below) w =
+    if w.slot == length below then stars_shape w.depth (piece_shape (shape_at below) s.part) else shape_at below w
+
+abbrev pub same_shape : Shape → Shape → Bool
+same_shape (owned_shape a) (owned_shape b) = same_owned a b
+same_shape (shared_to a) (shared_to b) = same_shape a b
+same_shape (mutable_to a) (mutable_to b) = same_shape a b
+same_shape _ _ = false
+
+abbrev pub equal_shapes : Option Shape → Option Shape → Bool
+equal_shapes (Some a) (Some b) = same_shape a b
+equal_shapes _ _ = false
+
+-- each place of a set has this shape
+abbrev pub have_shape : (Lval → Option Shape) → Option Shape → List Lval → Bool
+have_shape look a us = list_all (λ u. equal_shapes a (look u)) us
+
+-- the places of two sets have one shape: that of the first one
+abbrev pub have_one_shape : (Lval → Option Shape) → List Lval → List Lval → Bool
+have_one_shape look us vs = have_shape look (first_shape look us) us && have_shape look (first_shape look us) vs
+
+-- the same in an environment
+abbrev pub alike : Env → List Lval → List Lval → Bool
+alike e us vs = have_one_shape (shape_at e) us vs
+
+-- TYPES
 
 -- the type of a place
 pub data Found : Type 0 where
@@ -30,42 +97,42 @@ found_or_none None = no_target
 found_or_none (Some p) = found p
 
 -- the join of what two places have
-abbrev pub join_found : Found → Found → Found
-join_found (found p) (found q) = found_or_none (join_piece p q)
-join_found (found p) f = f
-join_found f g = f
+abbrev pub join_found : SetTest → Found → Found → Found
+join_found same (found p) (found q) = found_or_none (join_piece same p q)
+join_found same (found p) f = f
+join_found same f g = f
 
 -- the join of what the places of a set have
-abbrev pub join_all : (Lval → Found) → Found → List Lval → Found
-join_all look f [] = f
-join_all look f (u ∷ us) = join_all look (join_found f (look u)) us
+abbrev pub join_all : SetTest → (Lval → Found) → Found → List Lval → Found
+join_all same look f [] = f
+join_all same look f (u ∷ us) = join_all same look (join_found same f (look u)) us
 
-abbrev pub join_set : (Lval → Found) → List Lval → Found
-join_set look [] = no_target
-join_set look (u ∷ us) = join_all look (look u) us
+abbrev pub join_set : SetTest → (Lval → Found) → List Lval → Found
+join_set same look [] = no_target
+join_set same look (u ∷ us) = join_all same look (look u) us
 
--- what a star takes a type to, where `look` gives the types of lower places
-abbrev pub star_kind : (Lval → Found) → Kind → Found
-star_kind look (own (box o)) = found (whole (own o))
-star_kind look (own o) = no_target
-star_kind look (view o) = found (whole (own o))
-star_kind look (shared us) = join_set look us
-star_kind look (mutable us) = join_set look us
+-- what a star takes a type to: `look` gives the types of lower places, `same` tells which sets of them have one shape
+abbrev pub star_kind : SetTest → (Lval → Found) → Kind → Found
+star_kind same look (own (box o)) = found (whole (own o))
+star_kind same look (own o) = no_target
+star_kind same look (view o) = found (whole (own o))
+star_kind same look (shared us) = join_set same look us
+star_kind same look (mutable us) = join_set same look us
 
-abbrev pub star : (Lval → Found) → Piece → Found
-star look (whole k) = star_kind look k
-star look (gone k) = undefined
-star look (boxed p) = found p
+abbrev pub star : SetTest → (Lval → Found) → Piece → Found
+star same look (whole k) = star_kind same look k
+star same look (gone k) = undefined
+star same look (boxed p) = found p
 
 -- so many stars on a part, from the inside
-abbrev pub stars : (Lval → Found) → ℕ → Piece → Found
-stars look zero p = found p
-stars look (suc n) p = then_found (stars look n p) (star look)
+abbrev pub stars : SetTest → (Lval → Found) → ℕ → Piece → Found
+stars same look zero p = found p
+stars same look (suc n) p = then_found (stars same look n p) (star same look)
 
 -- the type of the variable of number `slot` under `n` stars
 abbrev pub type_at : Env → Lval → Found
 type_at [] w = no_target
-type_at (s ∷ below) w = if w.slot == length below then stars (type_at below) w.depth s.part else type_at below w
+type_at (s ∷ below) w = if w.slot == length below then stars (alike below) (type_at below) w.depth s.part else type_at below w
 
 -- some place of the set starts at this variable
 abbrev pub starts_at : ℕ → List Lval → Bool
@@ -134,7 +201,7 @@ whole_owned f = None
 
 -- the one owned type that the places of a set have, where all are heap places
 abbrev pub heap_type : Env → List Lval → Option Owned
-heap_type e us = if list_all (is_heap_place e) us then whole_owned (join_set (type_at e) us) else None
+heap_type e us = if list_all (is_heap_place e) us then whole_owned (join_set (alike e) (type_at e) us) else None
 
 -- a part with what stands under `n` boxes replaced
 abbrev pub put_under : ℕ → Piece → Piece → Piece
@@ -157,48 +224,6 @@ same_name (Some y) x = same_text y x
 abbrev pub slot_of : Env → Text → Option ℕ
 slot_of [] x = None
 slot_of (s ∷ below) x = if same_name s.name x then Some (length below) else slot_of below x
-
--- shapes
-pub data Shape : Type 0 where
-  owned_shape : Owned → Shape
-  shared_to : Shape → Shape
-  mutable_to : Shape → Shape
-
-abbrev pub same_owned_shape : Option Shape → Option Shape
-same_owned_shape (Some (owned_shape o)) = Some (owned_shape (box o))
-same_owned_shape _ = None
-
-abbrev pub first_shape : (Lval → Option Shape) → List Lval → Option Shape
-first_shape look [] = None
-first_shape look (u ∷ us) = look u
-
-abbrev pub kind_shape : (Lval → Option Shape) → Kind → Option Shape
-kind_shape look (own o) = Some (owned_shape o)
-kind_shape look (view o) = Some (shared_to (owned_shape o))
-kind_shape look (shared us) = map_some shared_to (first_shape look us)
-kind_shape look (mutable us) = map_some mutable_to (first_shape look us)
-
-abbrev pub piece_shape : (Lval → Option Shape) → Piece → Option Shape
-piece_shape look (whole k) = kind_shape look k
-piece_shape look (gone k) = kind_shape look k
-piece_shape look (boxed p) = same_owned_shape (piece_shape look p)
-
--- so many stars on a shape: a box to what it holds, a reference to what it is to
-abbrev pub star_shape : Option Shape → Option Shape
-star_shape (Some (owned_shape (box o))) = Some (owned_shape o)
-star_shape (Some (shared_to a)) = Some a
-star_shape (Some (mutable_to a)) = Some a
-star_shape _ = None
-
-abbrev pub stars_shape : ℕ → Option Shape → Option Shape
-stars_shape zero a = a
-stars_shape (suc n) a = star_shape (stars_shape n a)
-
--- the shape of a place, which has one also where something on its path is gone: the shape of a slot never changes
-abbrev pub shape_at : Env → Lval → Option Shape
-shape_at [] w = None
-shape_at (s ∷ below) w =
-    if w.slot == length below then stars_shape w.depth (piece_shape (shape_at below) s.part) else shape_at below w
 
 -- the places that a type names
 abbrev pub kind_places : Kind → List Lval

@@ -3,7 +3,7 @@ use Rattle.std.specs.Prelude.{⊤}
 use Rattle.fr_terms.specs.Terms.{Term, block_t, let_t, assign_t, read_t, borrow_t, borrow_mut_t, number_t, unit_t, box_t, print_t, arith_t, join_t, mutex_t, dup_t, lock_t, spawn_t, par_t, Items, none, item}
 
 abbrev mutual
-  -- the forms of one thread: the accepted ones, both borrows and arithmetic (no threads, no mutexes)
+  -- all but those of threads, tasks and mutexes
   pub IsSequential : Term → Type 0
   IsSequential (block_t at items) = AreSequential items
   IsSequential (let_t at name value) = IsSequential value

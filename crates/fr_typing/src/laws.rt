@@ -1,10 +1,10 @@
 //! Laws of typing.
 
-ghost use Rattle.fr_typing.specs.Laws.{AcceptedSequential, ExactlyOne, OneOutcome};
-ghost use Rattle.fr_typing.specs.Owned.{OnlyOwned};
+ghost use Rattle.fr_typing.specs.Laws.{ExactlyOne, OneOutcome};
 ghost use Rattle.fr_typing.specs.Examples.{ExamplesCompute};
 ghost use Rattle.fr_typing.specs.BorrowExamples.{BorrowsCompute};
 ghost use Rattle.fr_typing.specs.ThreadExamples.{ThreadsCompute};
+ghost use Rattle.fr_typing.specs.JoinExamples.{JoinsCompute};
 
 /// The relation of typing is what the function gives.
 pub fn exactly_one()
@@ -16,19 +16,10 @@ pub fn one_outcome()
     ensures { OneOutcome }
 {}
 
-/// Where no slot holds a reference, none arises by the forms that are accepted so far.
-pub fn only_owned()
-    ensures { OnlyOwned }
-{}
-
-/// The forms that are accepted so far are forms of one thread.
-pub fn accepted_sequential()
-    ensures { AcceptedSequential }
-{}
-
-/// What typing gives for some whole programs.
+/// What typing gives for some whole programs, and which references have a join.
 pub fn examples_compute()
     ensures owned { ExamplesCompute }
     ensures borrows { BorrowsCompute }
     ensures threads { ThreadsCompute }
+    ensures joins { JoinsCompute }
 {}

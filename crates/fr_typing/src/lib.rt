@@ -4,5 +4,5 @@
 mod laws;
 mod reason;
 
-pub use laws::{accepted_sequential, exactly_one, examples_compute, one_outcome, only_owned};
+pub use laws::{exactly_one, examples_compute, one_outcome};
 pub use reason::Reason;

@@ -1,5 +1,4 @@
-use Rattle.std.proofs.Common.{ℕ, Option, sym, ap, ◌∙◌, subst, arith}
-use Rattle.fr_typing.specs.Places.{stars_shape}
+use Rattle.std.proofs.Common.{sym, ap, ◌∙◌, subst, arith}
 use Rattle.fr_types.specs.ShapeTables.{shape_of_no, IsNumber}
 use Rattle.fr_types.specs.SlotShapes.{slot_shape, shapes_by}
 use Rattle.fr_types.proofs.NumberedLemmas.{slot_number, is_number, none_under, star_under}

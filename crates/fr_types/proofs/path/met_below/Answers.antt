@@ -1,5 +1,5 @@
 use Rattle.std.proofs.Common.{◌∙◌, Err, refl, sym, ap, subst, arith}
-use Rattle.fr_typing.specs.Places.{undefined, no_target, found, star, type_at}
+use Rattle.fr_typing.specs.Places.{undefined, no_target, found, star, type_at, alike}
 use Rattle.fr_types.specs.Types.{piece_of}
 use Rattle.fr_types.specs.Paths.{test_of}
 use Rattle.fr_types.specs.States.{env_of}
@@ -17,11 +17,11 @@ stars-init c = record {
 
 pub returns-in-Err-NotDefined : goal.returns-in-Err-NotDefined
 returns-in-Err-NotDefined c = λ names.
-    none_after (test_of c.args.test) names c.args.env.now c.args.w.slot c.stars.counter c.args.w.depth (piece_of c.stars.part) undefined tt (test_undefined c.args.test) c.requires.nested c.requires.here (omega arith) (omega arith) (c.stars.invariant.same names) (subst (λ r. IsFound (Err r) (star (type_at (env_of names c.args.env.now)) (piece_of c.stars.part))) c.in-Err-NotDefined.field-0-is (c.in-Err-NotDefined.ensures names)) (c.stars.invariant.none names)
+    none_after (test_of c.args.test) names c.args.env.now c.args.w.slot c.stars.counter c.args.w.depth (piece_of c.stars.part) undefined tt (test_undefined c.args.test) c.requires.nested c.requires.here (omega arith) (omega arith) (c.stars.invariant.same names) (subst (λ r. IsFound (Err r) (star (alike (env_of names c.args.env.now)) (type_at (env_of names c.args.env.now)) (piece_of c.stars.part))) c.in-Err-NotDefined.field-0-is (c.in-Err-NotDefined.ensures names)) (c.stars.invariant.none names)
 
 pub returns-in-Err-NoTarget : goal.returns-in-Err-NoTarget
 returns-in-Err-NoTarget c = λ names.
-    none_after (test_of c.args.test) names c.args.env.now c.args.w.slot c.stars.counter c.args.w.depth (piece_of c.stars.part) no_target tt (test_no_target c.args.test) c.requires.nested c.requires.here (omega arith) (omega arith) (c.stars.invariant.same names) (subst (λ r. IsFound (Err r) (star (type_at (env_of names c.args.env.now)) (piece_of c.stars.part))) c.in-Err-NoTarget.field-0-is (c.in-Err-NoTarget.ensures names)) (c.stars.invariant.none names)
+    none_after (test_of c.args.test) names c.args.env.now c.args.w.slot c.stars.counter c.args.w.depth (piece_of c.stars.part) no_target tt (test_no_target c.args.test) c.requires.nested c.requires.here (omega arith) (omega arith) (c.stars.invariant.same names) (subst (λ r. IsFound (Err r) (star (alike (env_of names c.args.env.now)) (type_at (env_of names c.args.env.now)) (piece_of c.stars.part))) c.in-Err-NoTarget.field-0-is (c.in-Err-NoTarget.ensures names)) (c.stars.invariant.none names)
 
 pub returns-then-meets : goal.returns-then-meets
 returns-then-meets c = λ names.

@@ -7,5 +7,5 @@ use Rattle.fr_types.proofs.place.+inside.Goals as goal
 pub returns-in-Box-clause-part : goal.returns-in-Box-clause-part
 returns-in-Box-clause-part t c =
     inside_step c.inside.result c.args.depth (piece_of c.args.part.now) (piece_of c.deref.result.now) c.if-depth-gt0.true
-    (λ look. ap (λ p. star look (piece_of p)) c.in-Box.is ∙ ap (λ p. found (piece_of p)) (sym c.deref.ensures))
+    (λ same look. ap (λ p. star same look (piece_of p)) c.in-Box.is ∙ ap (λ p. found (piece_of p)) (sym c.deref.ensures))
     c.inside.ensures.left c.inside.ensures.part

@@ -8,5 +8,5 @@ use Rattle.fr_types.proofs.place.+inside_owned.Goals as goal
 pub returns-in-Box-clause-part : goal.returns-in-Box-clause-part
 returns-in-Box-clause-part t c =
     inside_step c.inside_owned.result c.args.depth (whole (own (owned_of c.args.o.now))) (whole (own (owned_of c.deref.result.now))) c.if-depth-gt0.true
-    (λ look. ap (λ o. star look (whole (own (owned_of o)))) c.in-Box.is ∙ ap (λ o. found (whole (own (owned_of o)))) (sym c.deref.ensures))
+    (λ same look. ap (λ o. star same look (whole (own (owned_of o)))) c.in-Box.is ∙ ap (λ o. found (whole (own (owned_of o)))) (sym c.deref.ensures))
     c.inside_owned.ensures.left c.inside_owned.ensures.part

@@ -1,6 +1,6 @@
 use Rattle.std.proofs.Common.{◌<◌, ◌-◌, length, get_or, ap, ◌∙◌, arith}
 use Rattle.fr_base.specs.declared.place.Lval.{Lval}
-use Rattle.fr_typing.specs.Places.{piece_places, type_at}
+use Rattle.fr_typing.specs.Places.{piece_places, type_at, alike}
 use Rattle.fr_types.specs.declared.types.Part.TheVariants.{Whole}
 use Rattle.fr_types.specs.Types.{piece_of}
 use Rattle.fr_types.specs.States.{env_of}
@@ -43,10 +43,10 @@ pub lval_type-returns-clause-below : goal.lval_type-returns-clause-below
 lval_type-returns-clause-below t c = AreBelow-weaker c.resolve-at.result.slot c.args.w.slot (piece_places (piece_of c.stars.part)) c.resolve-at.ensures.slot c.stars.invariant.below
 
 pub join_set-returns-in-Err : goal.join_set-returns-in-Err
-join_set-returns-in-Err t c = λ names. set_start_error (type_at (env_of names c.args.env.now)) c.args.us.now none c.in-Err.e c.requires.some (c.in-Err.ensures.kind names)
+join_set-returns-in-Err t c = λ names. set_start_error (alike (env_of names c.args.env.now)) (type_at (env_of names c.args.env.now)) c.args.us.now none c.in-Err.e c.requires.some (c.in-Err.ensures.kind names)
 
 pub join_set-places-init : goal.join_set-places-init
-join_set-places-init t c = λ names. set_start (type_at (env_of names c.args.env.now)) c.args.us.now none (piece_of c.in-Ok.part) c.requires.some (c.in-Ok.ensures.kind names)
+join_set-places-init t c = λ names. set_start (alike (env_of names c.args.env.now)) (type_at (env_of names c.args.env.now)) c.args.us.now none (piece_of c.in-Ok.part) c.requires.some (c.in-Ok.ensures.kind names)
 
 pub join_set-join_with-requires : goal.join_set-join_with-requires
 join_set-join_with-requires t c =
@@ -54,16 +54,16 @@ join_set-join_with-requires t c =
     (omega (arith, c.decreases), omega (arith, lt, c.requires.here))
 
 pub join_set-returns-in-Err-join_with : goal.join_set-returns-in-Err-join_with
-join_set-returns-in-Err-join_with t c = λ names. set_error (type_at (env_of names c.args.env.now)) c.args.us.now c.places.at none (piece_of c.places.part) c.in-Err-join_with.e c.places-test.true (c.in-Err-join_with.ensures names) (c.places.invariant names)
+join_set-returns-in-Err-join_with t c = λ names. set_error (alike (env_of names c.args.env.now)) (type_at (env_of names c.args.env.now)) c.args.us.now c.places.at none (piece_of c.places.part) c.in-Err-join_with.e c.places-test.true (c.in-Err-join_with.ensures names) (c.places.invariant names)
 
 pub join_set-places-preserved : goal.join_set-places-preserved
-join_set-places-preserved t c = λ names. set_step (type_at (env_of names c.args.env.now)) c.args.us.now c.places.at none (piece_of c.places.part) (piece_of c.in-Ok-join_with.part) c.places-test.true (c.in-Ok-join_with.ensures names) (c.places.invariant names)
+join_set-places-preserved t c = λ names. set_step (alike (env_of names c.args.env.now)) (type_at (env_of names c.args.env.now)) c.args.us.now c.places.at none (piece_of c.places.part) (piece_of c.in-Ok-join_with.part) c.places-test.true (c.in-Ok-join_with.ensures names) (c.places.invariant names)
 
 pub join_set-returns : goal.join_set-returns
-join_set-returns t c = λ names. set_end (type_at (env_of names c.args.env.now)) c.args.us.now c.places.at (piece_of c.places.part) (omega arith) (c.places.invariant names)
+join_set-returns t c = λ names. set_end (alike (env_of names c.args.env.now)) (type_at (env_of names c.args.env.now)) c.args.us.now c.places.at (piece_of c.places.part) (omega arith) (c.places.invariant names)
 
 pub star-returns-in-Whole-Shared : goal.star-returns-in-Whole-Shared
-star-returns-in-Whole-Shared t c = λ names. shared_seen (type_at (env_of names c.args.env.now)) c.args.part c.in-Whole-Shared.us c.as_slice.result.now c.join_set.result (c.in-Whole-Shared.is ∙ ap Whole c.in-Whole-Shared.field-0-is) c.as_slice.ensures.same (c.join_set.ensures names)
+star-returns-in-Whole-Shared t c = λ names. shared_seen (alike (env_of names c.args.env.now)) (type_at (env_of names c.args.env.now)) c.args.part c.in-Whole-Shared.us c.as_slice.result.now c.join_set.result (c.in-Whole-Shared.is ∙ ap Whole c.in-Whole-Shared.field-0-is) c.as_slice.ensures.same (c.join_set.ensures names)
 
 pub star-returns-in-Whole-Mut : goal.star-returns-in-Whole-Mut
-star-returns-in-Whole-Mut t c = λ names. mut_seen (type_at (env_of names c.args.env.now)) c.args.part c.in-Whole-Mut.us c.as_slice-in-Whole-Mut.result.now c.join_set-in-Whole-Mut.result (c.in-Whole-Mut.is ∙ ap Whole c.in-Whole-Mut.field-0-is) c.as_slice-in-Whole-Mut.ensures.same (c.join_set-in-Whole-Mut.ensures names)
+star-returns-in-Whole-Mut t c = λ names. mut_seen (alike (env_of names c.args.env.now)) (type_at (env_of names c.args.env.now)) c.args.part c.in-Whole-Mut.us c.as_slice-in-Whole-Mut.result.now c.join_set-in-Whole-Mut.result (c.in-Whole-Mut.is ∙ ap Whole c.in-Whole-Mut.field-0-is) c.as_slice-in-Whole-Mut.ensures.same (c.join_set-in-Whole-Mut.ensures names)

@@ -1,6 +1,6 @@
 use Rattle.std.proofs.Common.{◌≡◌, ◌+◌, ◌-◌, ◌*◌, List, drop}
 use Rattle.fr_terms.specs.Terms.{Text}
-use Rattle.fr_typing.specs.Places.{AreBelow, piece_places, type_at, join_set, join_all, found}
+use Rattle.fr_typing.specs.Places.{AreBelow, piece_places, type_at, alike, join_set, join_all, found}
 use Rattle.fr_types.specs.Types.{piece_of}
 use Rattle.fr_types.specs.States.{env_of, AreNested}
 use Rattle.fr_types.proofs.place.+place.Given as goal
@@ -25,4 +25,4 @@ invariant-lval_type-stars l = record {
 }
 
 abbrev pub invariant-join_set-places : goal.invariant-join_set-places
-invariant-join_set-places l = (names : List Text) → join_all (type_at (env_of names l.env)) (found (piece_of l.part)) (drop l.at l.us) ≡ join_set (type_at (env_of names l.env)) l.us
+invariant-join_set-places l = (names : List Text) → join_all (alike (env_of names l.env)) (type_at (env_of names l.env)) (found (piece_of l.part)) (drop l.at l.us) ≡ join_set (alike (env_of names l.env)) (type_at (env_of names l.env)) l.us

@@ -9,9 +9,9 @@ use Rattle.fr_types.proofs.place.inside_type.Goals as goal
 pub returns-in-Box-clause-part : goal.returns-in-Box-clause-part
 returns-in-Box-clause-part c =
     inside_step c.inside_owned.result c.args.depth (whole (kind_of c.args.t.now)) (whole (own (owned_of c.in-Box.o))) c.if-depth-gt0.true
-    (λ look. ap (λ t. star look (whole (kind_of t))) c.in-Box.is) c.inside_owned.ensures.left c.inside_owned.ensures.part
+    (λ same look. ap (λ t. star same look (whole (kind_of t))) c.in-Box.is) c.inside_owned.ensures.left c.inside_owned.ensures.part
 
 pub returns-in-View-clause-part : goal.returns-in-View-clause-part
 returns-in-View-clause-part c =
     inside_step c.inside_owned-in-View.result c.args.depth (whole (kind_of c.args.t.now)) (whole (own (owned_of c.in-View.o))) c.if-depth-gt0-2.true
-    (λ look. ap (λ t. star look (whole (kind_of t))) c.in-View.is) c.inside_owned-in-View.ensures.left c.inside_owned-in-View.ensures.part
+    (λ same look. ap (λ t. star same look (whole (kind_of t))) c.in-View.is) c.inside_owned-in-View.ensures.left c.inside_owned-in-View.ensures.part
