@@ -1,7 +1,7 @@
 -- Where branches meet.
 use Rattle.std.proofs.Common.{◌≡◌, ◌≢◌, ◌⊎◌, inl, inr, ℕ, suc, ◌<◌, ◌≤◌, List, [], ◌∷◌, length, Option, Some, None, refl, sym, ap, subst}
 use Rattle.fr_typing.specs.Kinds.{Piece}
-use Rattle.fr_typing.specs.Places.{Slot, found, IsNested}
+use Rattle.fr_typing.specs.Places.{Slot, IsNested}
 use Rattle.fr_store.specs.Keys.{Key}
 use Rattle.fr_store.specs.Store.{Store, Place}
 use Rattle.fr_store.specs.Typed.{KeyTypes}

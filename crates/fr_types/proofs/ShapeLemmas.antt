@@ -1,11 +1,11 @@
--- Shapes, level by level, are the shapes of places and types.
+-- The shapes of places.
 use Rattle.std.proofs.Common.{◌≡◌, ℕ, zero, suc, ◌<◌, ◌≤◌, List, [], ◌∷◌, length, get_or, Option, None, refl, sym, ap, ◌∙◌, subst, arith}
 use Rattle.std.specs.Prelude.{◌==◌, if◌then◌else◌}
 use Rattle.fr_base.specs.declared.place.Lval.{Lval}
 use Rattle.fr_terms.specs.Terms.{Text}
 use Rattle.fr_typing.specs.Kinds.{Kind, own, shared, mutable, view, Piece, whole, gone, boxed, map_some}
-use Rattle.fr_typing.specs.Places.{Env, Slot, Shape, shared_to, mutable_to, same_owned_shape, first_shape, kind_shape, piece_shape, star_shape, stars_shape, shape_at, kind_places, piece_places, AreBelow}
-use Rattle.fr_typing.proofs.PlaceLemmas.{eq_cases, AreBelow-weaker}
+use Rattle.fr_typing.specs.Places.{Env, Shape, shared_to, mutable_to, same_owned_shape, first_shape, kind_shape, piece_shape, star_shape, stars_shape, shape_at, kind_places, piece_places, AreBelow}
+use Rattle.fr_typing.proofs.PlaceLemmas.{eq_cases, AreBelow-weaker, ShapesSame, first_same, shape_at-push}
 use Rattle.fr_types.specs.States.{Held, slot_view, env_of, part_in, AreNested}
 use Rattle.fr_types.proofs.LookLemmas.{length-env_of}
 
@@ -16,27 +16,17 @@ pub stars_none : (n : ℕ) → stars_shape n None ≡ None
 stars_none zero = refl
 stars_none (suc n) = ap star_shape (stars_none n)
 
-abbrev pub SameShapes : ℕ → (Lval → Option Shape) → (Lval → Option Shape) → Type 0
-SameShapes n a b = (u : Lval) → u.slot < n → a u ≡ b u
-
-first_same : (n : ℕ) (a b : Lval → Option Shape) (us : List Lval) → SameShapes n a b → AreBelow n us → first_shape a us ≡ first_shape b us
-first_same n a b [] s h = refl
-first_same n a b (u ∷ us) s h = s u h.0
-
-kind_same : (n : ℕ) (a b : Lval → Option Shape) (k : Kind) → SameShapes n a b → AreBelow n (kind_places k) → kind_shape a k ≡ kind_shape b k
+kind_same : (n : ℕ) (a b : Lval → Option Shape) (k : Kind) → ShapesSame n a b → AreBelow n (kind_places k) → kind_shape a k ≡ kind_shape b k
 kind_same n a b (own o) s h = refl
 kind_same n a b (view o) s h = refl
 kind_same n a b (shared us) s h = ap (map_some shared_to) (first_same n a b us s h)
 kind_same n a b (mutable us) s h = ap (map_some mutable_to) (first_same n a b us s h)
 
 -- so parts have the shapes that lower places have
-pub piece_same : (n : ℕ) (a b : Lval → Option Shape) (p : Piece) → SameShapes n a b → AreBelow n (piece_places p) → piece_shape a p ≡ piece_shape b p
+pub piece_same : (n : ℕ) (a b : Lval → Option Shape) (p : Piece) → ShapesSame n a b → AreBelow n (piece_places p) → piece_shape a p ≡ piece_shape b p
 piece_same n a b (whole k) s h = kind_same n a b k s h
 piece_same n a b (gone k) s h = kind_same n a b k s h
 piece_same n a b (boxed p) s h = ap same_owned_shape (piece_same n a b p s h)
-
-shape_push : (s : Slot) (e : Env) (u : Lval) → u.slot < length e → shape_at (s ∷ e) u ≡ shape_at e u
-shape_push s e u lt = eq_cases (λ b. (if b then stars_shape u.depth (piece_shape (shape_at e) s.part) else shape_at e u) ≡ shape_at e u) u.slot (length e) (λ h. absurd (omega arith)) (λ ne. refl)
 
 -- a slot's part names only lower slots
 pub part_below : (n : ℕ) (vs : List Held) (i : ℕ) → AreNested vs → i < length vs → length vs ≤ n → AreBelow n (piece_places (part_in vs i))
@@ -57,7 +47,7 @@ shape_star (s ∷ below) i n lt =
 pub shape_start : (names : List Text) (vs : List Held) (i : ℕ) → AreNested vs → i < length vs → shape_at (env_of names vs) (record { slot = i; depth = 0 }) ≡ piece_shape (shape_at (env_of names vs)) (part_in vs i)
 shape_start names [] i h lt = absurd (omega arith)
 shape_start names (s ∷ below) i h lt =
-    let same : SameShapes (length below) (shape_at (env_of names below)) (shape_at (env_of names (s ∷ below))) = λ v less. sym (shape_push (slot_view names s) (env_of names below) v (subst (λ n. v.slot < n) (sym (length-env_of names below)) less)) in
+    let same : ShapesSame (length below) (shape_at (env_of names below)) (shape_at (env_of names (s ∷ below))) = λ v less. sym (shape_at-push (slot_view names s) (env_of names below) v (subst (λ n. v.slot < n) (sym (length-env_of names below)) less)) in
     subst (λ n. (if i == n then piece_shape (shape_at (env_of names below)) s.part else shape_at (env_of names below) (record { slot = i; depth = 0 })) ≡ piece_shape (shape_at (env_of names (s ∷ below))) (if i == length below then s.part else part_in below i)) (sym (length-env_of names below))
     (eq_cases (λ b. (if b then piece_shape (shape_at (env_of names below)) s.part else shape_at (env_of names below) (record { slot = i; depth = 0 })) ≡ piece_shape (shape_at (env_of names (s ∷ below))) (if b then s.part else part_in below i)) i (length below)
     (λ e. piece_same (length below) (shape_at (env_of names below)) (shape_at (env_of names (s ∷ below))) s.part same h.0)

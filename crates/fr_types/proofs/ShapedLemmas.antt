@@ -6,7 +6,7 @@ use Rattle.fr_terms.specs.Terms.{Text}
 use Rattle.fr_typing.specs.Kinds.{Kind, own, shared, mutable, view, Piece, whole, gone, boxed, map_some}
 use Rattle.fr_typing.specs.Places.{Shape, shared_to, mutable_to, same_owned_shape, first_shape, kind_shape, piece_shape, stars_shape, shape_at, piece_places, AreBelow, equal_shapes}
 use Rattle.fr_typing.specs.Checks.{has_shape_of}
-use Rattle.fr_typing.proofs.PlaceLemmas.{eq_cases, AreBelow-weaker}
+use Rattle.fr_typing.proofs.PlaceLemmas.{eq_cases, AreBelow-weaker, ShapesSame}
 use Rattle.fr_types.specs.declared.types.Part.{Part}
 use Rattle.fr_types.specs.declared.variable.Variable.{Variable}
 use Rattle.fr_types.specs.Types.{piece_of}
@@ -15,7 +15,7 @@ use Rattle.fr_types.specs.States.{Held, env_of, part_in, put_in, AreNested}
 use Rattle.fr_types.specs.SlotShapes.{slot_shape, place_shape, shapes_in, Known, with_part, without_last, with_change, known_same, known_fits, known_places, AreShapes}
 use Rattle.fr_types.proofs.EnvLemmas.{length_newest, newest-push, part_in-newest, put_in-newest}
 use Rattle.fr_types.proofs.LookLemmas.{length-env_of}
-use Rattle.fr_types.proofs.ShapeLemmas.{SameShapes, piece_same, part_below, stars_none}
+use Rattle.fr_types.proofs.ShapeLemmas.{piece_same, part_below, stars_none}
 use Rattle.fr_types.proofs.ShapeTableLemmas.{shape_cases}
 use Rattle.fr_types.proofs.NumberedLemmas.{slot_shape-past}
 use Rattle.std.proofs.lemmas.Bool.{cases_lt}
@@ -64,7 +64,7 @@ shaped_pop vs s None h = tt
 shaped_pop vs s (Some []) h = absurd cc
 shaped_pop vs s (Some (t ∷ ss)) h = cc
 
-look_push : (x : Option Shape) (vs : List Held) → SameShapes (length vs) (place_shape (x ∷ shapes_in vs)) (place_shape (shapes_in vs))
+look_push : (x : Option Shape) (vs : List Held) → ShapesSame (length vs) (place_shape (x ∷ shapes_in vs)) (place_shape (shapes_in vs))
 look_push x vs u lt =
     eq_cases (λ b. stars_shape u.depth (if b then x else slot_shape (shapes_in vs) u.slot) ≡ place_shape (shapes_in vs) u) u.slot (length (shapes_in vs))
     (λ e. absurd (omega (arith, length-shapes_in vs))) (λ ne. refl)

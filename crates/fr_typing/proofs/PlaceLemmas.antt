@@ -214,7 +214,7 @@ abbrev pub ShapesSame : ℕ → (Lval → Option Shape) → (Lval → Option Sha
 ShapesSame n a b = (u : Lval) → u.slot < n → a u ≡ b u
 
 -- the first place of a set below n
-first_same : (n : ℕ) (a b : Lval → Option Shape) (us : List Lval) → ShapesSame n a b → AreBelow n us → first_shape a us ≡ first_shape b us
+pub first_same : (n : ℕ) (a b : Lval → Option Shape) (us : List Lval) → ShapesSame n a b → AreBelow n us → first_shape a us ≡ first_shape b us
 first_same n a b [] e h = refl
 first_same n a b (u ∷ us) e h = e u h.0
 
