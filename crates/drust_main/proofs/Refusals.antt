@@ -1,13 +1,10 @@
 -- Why a source has no run: causes, and that they exclude one another.
 use Rattle.std.proofs.Common.{◌≡◌, ◌≢◌, ℕ, List, [], Some, None, sym, ap, ap₂, ◌∙◌, refl, subst}
-use Rattle.fr_terms.specs.Terms.{Text, Term}
+use Rattle.fr_terms.specs.Terms.{Term}
 use Rattle.fr_typing.specs.Sequential.{IsSequential}
 use Rattle.fr_typing.specs.declared.reason.Reason.{Reason}
 use Rattle.fr_typing.specs.Typing.{Faults}
 use Rattle.fr_typing.proofs.Outcomes.{one_outcome_lem}
-use Rattle.fr_syntax.specs.declared.token.Token.{Token}
-use Rattle.fr_syntax.specs.declared.token.TokenError.{TokenError}
-use Rattle.fr_syntax.specs.Tokens.{AreTokens, IsRefused}
 use Rattle.fr_syntax.proofs.OneReading.{one_tokens, one_refusal, never_both}
 use Rattle.fr_parse.specs.declared.fault.ParseError.{ParseError}
 use Rattle.fr_parse.specs.Table.{refusal}

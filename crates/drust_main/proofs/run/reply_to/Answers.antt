@@ -1,6 +1,5 @@
-use Rattle.std.proofs.Common.{string_bytes, sym, subst, ap, ◌∙◌, ℕ, List}
-use Rattle.drust_main.specs.Refusals.{status_of, text_of}
-use Rattle.drust_main.specs.Headline.{Replies, run_finished, refused}
+use Rattle.std.proofs.Common.{string_bytes}
+use Rattle.drust_main.specs.Headline.{run_finished}
 use Rattle.drust_main.proofs.Refusals.{refused_by}
 use Rattle.drust_main.proofs.run.reply_to.Goals as goal
 
