@@ -23,3 +23,4 @@ pub mod Together
 pub mod Starting
 pub mod Standing
 pub mod Example
+pub mod Apart

@@ -4,3 +4,4 @@ pub mod NeverStuck
 pub mod Example
 pub mod Together
 pub mod ThreadExample
+pub mod Apart

@@ -1,5 +1,6 @@
 //! Laws of the plain machine.
 
+ghost use Rattle.fr_sound.specs.Apart.{ThreadsApart};
 ghost use Rattle.fr_sound.specs.Example.{ExamplesStart};
 ghost use Rattle.fr_sound.specs.NeverStuck.{NeverStuck, StartsTyped};
 ghost use Rattle.fr_sound.specs.ThreadExample.{ThreadsStart};
@@ -37,4 +38,10 @@ pub fn starts_together()
 /// Some programs with threads start typed.
 pub fn threads_start()
     ensures { ThreadsStart }
+{}
+
+/// Two threads of a typed state share no object: no place of one leads to an object to which a place of the other leads. So
+/// none writes what another one reads.
+pub fn threads_apart()
+    ensures { ThreadsApart }
 {}
