@@ -3,7 +3,9 @@ pub mod FormTerms
 pub mod DoneTerms
 pub mod Contexts
 pub mod FrameTerms
+pub mod Places
 pub mod HeapRoom
+pub mod HeapInside
 pub mod Turning
 pub mod PoolView
 pub mod PoolInside

@@ -27,7 +27,7 @@ pub record View : Type 0 where
 
 -- the running term
 abbrev pub run_of : View → Run
-run_of v = wrapped v.forms v.frames (focus_run v.focus)
+run_of v = wrapped v.forms v.frames (focus_run v.forms v.focus)
 
 -- the main thread: in progress, or over
 abbrev pub life_of : View → Life
@@ -40,10 +40,6 @@ whole_of v = record { threads = record { number = 0; life = life_of v; slots = n
 -- how many steps the main thread has still to do
 abbrev pub steps_left_of : View → ℕ
 steps_left_of v = life_left (life_of v)
-
--- the term of the last form
-abbrev pub root_of : List Form → Run
-root_of fs = term_of fs (length fs - 1)
 
 -- what a call says of a refusal
 abbrev pub error_of : Refusal → StepError

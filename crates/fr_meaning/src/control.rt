@@ -14,6 +14,7 @@ ghost use Rattle.fr_meaning.specs.FrameTerms.{Enters, EntersItem, waits_of, wrap
 use crate::forms::Form;
 use crate::frame::{Done, Entered, Focus, Frame};
 use fr_base::Op;
+use std::slice;
 
 // The term around it waits.
 fn waits(entered: Entered) -> Entered
@@ -44,13 +45,14 @@ fn stay(frames: &mut Vec<Frame>, frame: Frame, done: Done) -> Entered
     Entered::Waits(Focus::Over(done))
 }
 
-// The items of a block; of another form, none.
+// The items of a block, and the body of a new thread; of another form, none.
 fn items_of(forms: &[Form], node: usize) -> &[u32]
     requires { node < length forms.now }
     ensures { result.now ≡ items_at forms.now node }
 {
     match &forms[node] {
         Form::Block(items, _) => items.as_slice(),
+        Form::Spawn(_, body, _) => slice::from_ref(body),
         _ => &[],
     }
 }
@@ -121,6 +123,7 @@ pub fn enter(forms: &[Form], at: usize, frames: &mut Vec<Frame>) -> Entered
         Form::Place => Entered::Ended(Done::Unit),
         Form::Read(place, take) => Entered::Waits(Focus::Read(*place, *take)),
         Form::Borrow(place) => Entered::Waits(Focus::Borrow(*place)),
+        Form::Spawn(_, _, _) => Entered::Waits(Focus::Spawn(at)),
         Form::Box(part) => {
             frames.push_reserved(Frame::Box);
             waits(enter(forms, *part as usize, frames))
@@ -131,6 +134,10 @@ pub fn enter(forms: &[Form], at: usize, frames: &mut Vec<Frame>) -> Entered
         }
         Form::Print(part) => {
             frames.push_reserved(Frame::Print);
+            waits(enter(forms, *part as usize, frames))
+        }
+        Form::Join(part) => {
+            frames.push_reserved(Frame::Join);
             waits(enter(forms, *part as usize, frames))
         }
         Form::Assign(place, part) => {
@@ -279,8 +286,8 @@ pub fn leave(forms: &[Form], frames: &mut Vec<Frame>, done: Done) -> Focus
     requires order { AreInOrder forms.now }
     requires frames { AreInside (length forms.now) frames.old.items }
     requires room { depth (wrapped forms.now frames.old.items (over done)) ≤ vec_capacity frames.old }
-    ensures settles { wrapped forms.now frames.new.items (focus_run result) ≡ settle (wrapped forms.now frames.old.items (over done)) }
-    ensures way { HasMadeWay frames.new.items result }
+    ensures settles { wrapped forms.now frames.new.items (focus_run forms.now result) ≡ settle (wrapped forms.now frames.old.items (over done)) }
+    ensures way { HasMadeWay forms.now frames.new.items result }
     ensures capacity { vec_capacity frames.new ≡ vec_capacity frames.old }
     ensures frames { AreInside (length forms.now) frames.new.items }
 {

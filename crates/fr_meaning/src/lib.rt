@@ -10,6 +10,7 @@ mod frame;
 mod heap;
 mod machine;
 mod need;
+mod places;
 mod pool;
 mod spot;
 
