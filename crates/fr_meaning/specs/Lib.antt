@@ -7,6 +7,7 @@ pub mod Places
 pub mod HeapRoom
 pub mod HeapInside
 pub mod Turning
+pub mod Threads
 pub mod PoolView
 pub mod PoolInside
 pub mod Forming

@@ -9,7 +9,7 @@ ghost use Rattle.fr_plain.specs.Run.{settle, arith, block, last, leaves};
 ghost use Rattle.fr_meaning.specs.Contexts.{fill, depth};
 ghost use Rattle.fr_meaning.specs.FormTerms.{AreInOrder, term_of, parts_of, items_at};
 ghost use Rattle.fr_meaning.specs.DoneTerms.{over};
-ghost use Rattle.fr_meaning.specs.FrameTerms.{Enters, EntersItem, waits_of, wrapped, around, focus_run, AreInside, IsInside, HasMadeWay};
+ghost use Rattle.fr_meaning.specs.FrameTerms.{Enters, EntersItem, waits_of, focus_of, wrapped, around, focus_run, AreInside, IsInside, HasMadeWay};
 
 use crate::forms::Form;
 use crate::frame::{Done, Entered, Focus, Frame};
@@ -23,6 +23,16 @@ fn waits(entered: Entered) -> Entered
     match entered {
         Entered::Ended(done) => Entered::Waits(Focus::Over(done)),
         Entered::Waits(focus) => Entered::Waits(focus),
+    }
+}
+
+/// The innermost term, done or not.
+pub fn focus_in(entered: Entered) -> Focus
+    ensures { result ≡ focus_of entered }
+{
+    match entered {
+        Entered::Ended(done) => Focus::Over(done),
+        Entered::Waits(focus) => focus,
     }
 }
 

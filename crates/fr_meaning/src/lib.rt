@@ -13,6 +13,7 @@ mod need;
 mod places;
 mod pool;
 mod spot;
+mod thread;
 
 pub use error::StepError;
 pub use need::Need;

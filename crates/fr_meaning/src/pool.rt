@@ -10,15 +10,14 @@ ghost use Rattle.fr_meaning.specs.declared.error.StepError.{StepError};
 ghost use Rattle.fr_meaning.specs.declared.error.StepError.TheVariants as step_error;
 ghost use Rattle.fr_meaning.specs.Contexts.{depth};
 ghost use Rattle.fr_meaning.specs.FormTerms.{AreInOrder, root_of};
-ghost use Rattle.fr_meaning.specs.FrameTerms.{focus_of};
 ghost use Rattle.fr_meaning.specs.PoolView.{whole_of, steps_left_of, refusal, need_of};
 
 use crate::acts::finish;
-use crate::control::enter;
+use crate::control::{enter, focus_in};
 use crate::error::StepError;
 use crate::forming::forms_of;
 use crate::forms::Form;
-use crate::frame::{Entered, Focus, Frame};
+use crate::frame::{Focus, Frame};
 use crate::heap::Heap;
 use crate::machine::{advance, end_in, labels_ahead, value_in};
 use crate::need::Need;
@@ -51,16 +50,6 @@ impl Model for Pool {
     ghost view = { pool_view };
 
     ghost invariant = { IsPool };
-}
-
-// The innermost term, done or not.
-fn focus_in(entered: Entered) -> Focus
-    ensures { result ≡ focus_of entered }
-{
-    match entered {
-        Entered::Ended(done) => Focus::Over(done),
-        Entered::Waits(focus) => focus,
-    }
 }
 
 impl Pool {
