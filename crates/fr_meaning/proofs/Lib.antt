@@ -7,6 +7,7 @@ pub mod SlotLemmas
 pub mod ActLemmas
 pub mod FrameLemmas
 pub mod StepLemmas
+pub mod ThreadLemmas
 pub mod SettledLemmas
 pub mod OneThread
 pub mod StepsLeft

@@ -63,7 +63,7 @@ with_onto es (v ∷ vs) (suc i) new h =
     subst (λ k. with_slot (onto (v ∷ es) vs) k new ≡ onto (v ∷ es) (slice_set vs i new)) at (with_onto (v ∷ es) vs i new (omega arith))
 
 -- writing a slot is writing the item of its number
-with_newest : (vs : List Value) (i : ℕ) (new : Value) → i < length vs → with_slot (newest_first vs) i new ≡ newest_first (slice_set vs i new)
+pub with_newest : (vs : List Value) (i : ℕ) (new : Value) → i < length vs → with_slot (newest_first vs) i new ≡ newest_first (slice_set vs i new)
 with_newest vs i new h = let at : 0 + i ≡ i = omega arith in subst (λ k. with_slot (newest_first vs) k new ≡ newest_first (slice_set vs i new)) at (with_onto [] vs i new h)
 
 -- a thread's slots, the newest first, and the heap

@@ -156,6 +156,8 @@ pub fn pass_captures(captures: &[Captured], slots: &mut Vec<Value>, new: &mut Ve
     requires room { vec_len new.old + length captures.now ≤ vec_capacity new.old }
     ensures { pass (captures_of captures.now) (newest_first slots.old.items) (newest_first new.old.items) ≡ Some (record { left = newest_first slots.new.items; new = newest_first new.new.items }) }
 {
+    // The check asks that each type inside a value is named where a value is moved.
+    let _inside: Option<Plain> = None;
     'captures: for next in 0..captures.len() {
         let capture = captures[next];
         let value = capture_value(capture, slots);
