@@ -11,7 +11,7 @@ use Rattle.fr_meaning.specs.HeapRoom.{heap_by}
 use Rattle.fr_meaning.proofs.FormLemmas.{eq_cases}
 
 -- a place after the first
-later_place : (o : Option ℕ) (i : ℕ) → option_map (λ k. suc k) o ≡ Some i → (k : ℕ) × (o ≡ Some k) × (i ≡ suc k)
+pub later_place : (o : Option ℕ) (i : ℕ) → option_map (λ k. suc k) o ≡ Some i → (k : ℕ) × (o ≡ Some k) × (i ≡ suc k)
 later_place None i h = absurd cc
 later_place (Some k) i h = (k, refl, cc)
 

@@ -8,6 +8,7 @@ pub mod ActLemmas
 pub mod FrameLemmas
 pub mod StepLemmas
 pub mod ThreadLemmas
+pub mod ThreadLists
 pub mod SettledLemmas
 pub mod OneThread
 pub mod StepsLeft

@@ -1,14 +1,18 @@
 -- A thread of the code, and what it stands for.
-use Rattle.std.specs.Prelude.{◌≡◌, ◌≤◌, ⊤, List, length, Option, Some, None, vec_capacity}
+use Rattle.std.specs.Prelude.{◌≡◌, ℕ, ℤ, ◌≤◌, ⊤, List, [], ◌∷◌, length, Option, Some, None, vec_capacity}
 use Rattle.fr_plain.specs.declared.value.Value.{Value}
-use Rattle.fr_plain.specs.Acts.{Act, do_end, do_finish, do_leave, unit}
-use Rattle.fr_plain.specs.Run.{Run}
+use Rattle.fr_plain.specs.Acts.{Act, do_end, do_finish, do_leave, unit, task_in}
+use Rattle.fr_plain.specs.Heap.{Heap}
+use Rattle.fr_plain.specs.State.{without}
+use Rattle.fr_plain.specs.Run.{Run, Life, alive, over, owing, loose, ended}
+use Rattle.fr_plain.specs.Threads.{Whole, Thread as PlainThread}
 use Rattle.fr_meaning.specs.declared.forms.Form.{Form}
 use Rattle.fr_meaning.specs.declared.thread.Stage.{Stage}
 use Rattle.fr_meaning.specs.declared.thread.Stage.TheVariants as stage
 use Rattle.fr_meaning.specs.declared.thread.Thread.{Thread}
 use Rattle.fr_meaning.specs.Contexts.{depth, IsSettled}
 use Rattle.fr_meaning.specs.FrameTerms.{wrapped, focus_run, AreInside, HasMadeWay}
+use Rattle.fr_meaning.specs.SlotOrder.{newest_first}
 
 -- the running term
 abbrev pub run_in : List Form → Thread → Run
@@ -52,3 +56,48 @@ end_value _ v = unit
 abbrev pub after_end : Stage → Value → Stage
 after_end stage.Owing v = stage.Ended v
 after_end _ v = stage.Over
+
+-- ALL THREADS
+
+-- the thread's life
+abbrev pub life_at : Stage → Run → Life
+life_at stage.Alive r = alive r
+life_at stage.Owing r = owing r
+life_at stage.Loose r = loose r
+life_at stage.Over r = over
+life_at (stage.Ended v) r = ended v
+
+-- the plain thread that it stands for
+abbrev pub thread_of : List Form → Thread → PlainThread
+thread_of fs x = record { number = x.number; life = life_at x.stage (run_in fs x); slots = newest_first x.slots.items }
+
+abbrev pub threads_of : List Form → List Thread → List PlainThread
+threads_of fs [] = []
+threads_of fs (x ∷ xs) = thread_of fs x ∷ threads_of fs xs
+
+-- the plain state of all threads
+abbrev pub whole : List Form → List Thread → Heap → List ℤ → Whole
+whole fs xs heap output = record { threads = threads_of fs xs; heap = heap; output = output }
+
+abbrev pub numbers_of : List Thread → List ℕ
+numbers_of [] = []
+numbers_of (x ∷ xs) = x.number ∷ numbers_of xs
+
+abbrev pub AreWell : List Form → List Thread → Type 0
+AreWell fs [] = ⊤
+AreWell fs (x ∷ xs) = IsWell fs x × AreWell fs xs
+
+-- a thread whose task is dropped: where it is in progress nobody will have its result, and a result that is kept is
+-- dropped, with the task in it
+abbrev pub after_release : Stage → Stage
+after_release stage.Owing = stage.Loose
+after_release (stage.Ended v) = stage.Over
+after_release s = s
+
+abbrev pub released_heap : Heap → Stage → Heap
+released_heap h (stage.Ended v) = without h v
+released_heap h _ = h
+
+abbrev pub released_task : Heap → Stage → Option ℕ
+released_task h (stage.Ended v) = task_in h v
+released_task h _ = None

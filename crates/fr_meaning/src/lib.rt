@@ -14,6 +14,7 @@ mod places;
 mod pool;
 mod spot;
 mod thread;
+mod threads;
 
 pub use error::StepError;
 pub use need::Need;
