@@ -12,6 +12,7 @@ pub mod ThreadLists
 pub mod SettledLemmas
 pub mod OneThread
 pub mod StepsLeft
+pub mod WholeSteps
 pub mod PoolLemmas
 pub mod NodeLemmas
 pub mod ReadyLemmas

@@ -1,5 +1,6 @@
 -- A thread of the code, and what it stands for.
-use Rattle.std.specs.Prelude.{◌≡◌, ℕ, ℤ, ◌≤◌, ⊤, List, [], ◌∷◌, length, Option, Some, None, vec_capacity}
+use Rattle.std.specs.Prelude.{◌≡◌, ℕ, ℤ, ◌<◌, ◌≤◌, ⊤, List, [], ◌∷◌, ◌++◌, length, Option, Some, None, IsSome, vec_len, vec_capacity}
+use Rattle.fr_base.specs.Labels.{LabelList}
 use Rattle.fr_plain.specs.declared.value.Value.{Value}
 use Rattle.fr_plain.specs.Acts.{Act, do_end, do_finish, do_leave, unit, task_in}
 use Rattle.fr_plain.specs.Heap.{Heap}
@@ -11,7 +12,10 @@ use Rattle.fr_meaning.specs.declared.thread.Stage.{Stage}
 use Rattle.fr_meaning.specs.declared.thread.Stage.TheVariants as stage
 use Rattle.fr_meaning.specs.declared.thread.Thread.{Thread}
 use Rattle.fr_meaning.specs.Contexts.{depth, IsSettled}
-use Rattle.fr_meaning.specs.FrameTerms.{wrapped, focus_run, AreInside, HasMadeWay}
+use Rattle.fr_meaning.specs.declared.frame.Frame.{Frame}
+use Rattle.fr_meaning.specs.HeapRoom.{HeapRoom}
+use Rattle.fr_meaning.specs.FrameTerms.{wrapped, focus_run, AreInside, HasMadeWay, end_of}
+use Rattle.fr_meaning.specs.Turning.{state, term_step, focus_labels, frame_labels}
 use Rattle.fr_meaning.specs.SlotOrder.{newest_first}
 
 -- the running term
@@ -101,3 +105,13 @@ released_heap h _ = h
 abbrev pub released_task : Heap → Stage → Option ℕ
 released_task h (stage.Ended v) = task_in h v
 released_task h _ = None
+
+-- the thread's own step can be done, and there is room for what it makes
+pub record CanGo (fs : List Form) (x : Thread) (heap : HeapRoom) (labels : LabelList) : Type 0 where
+  pub on : IsGoingOn x.stage
+  pub at_step : end_of x.focus x.frames.items ≡ None
+  pub goes : IsSome (term_step (run_in fs x) (state x.number x.slots.items heap.heap))
+  pub slots : vec_len x.slots < vec_capacity x.slots
+  pub ready : heap.ready ≡ Some x.number
+  pub spare : focus_labels x.focus ≤ labels.spare
+  pub frame_spare : (gs : List Frame) (g : Frame) → x.frames.items ≡ gs ++ g ∷ [] → frame_labels g ≤ labels.spare

@@ -1,15 +1,22 @@
 //! What threads do to each other.
 
-ghost use Rattle.std.specs.Prelude.{◌≡◌, ◌<◌, ◌≤◌, List, ℤ, length};
-ghost use Rattle.fr_plain.specs.Whole.{let_go};
+ghost use Rattle.std.specs.Prelude.{◌≡◌, ◌<◌, ◌≤◌, [], List, ℤ, length, Some, slice_index_or, vec_len, vec_capacity};
+ghost use Rattle.fr_base.specs.declared.step.Fresh.TheVariants as fresh;
+ghost use Rattle.fr_plain.specs.Whole.{let_go, step};
+ghost use Rattle.fr_meaning.specs.declared.thread.Thread.{Thread};
+ghost use Rattle.fr_meaning.specs.FormTerms.{AreInOrder};
+ghost use Rattle.fr_meaning.specs.FrameTerms.{end_of};
+ghost use Rattle.fr_meaning.specs.Places.{place_of};
 ghost use Rattle.fr_meaning.specs.declared.forms.Form.{Form};
-ghost use Rattle.fr_meaning.specs.Threads.{AreWell, after_release, released_heap, released_task, whole, numbers_of};
+ghost use Rattle.fr_meaning.specs.Threads.{AreWell, CanGo, IsGoingOn, after_release, released_heap, released_task, whole, numbers_of};
 
 use crate::acts::drop_value;
 use crate::heap::Heap;
 use crate::places::Places;
-use crate::thread::{Stage, Thread};
-use fr_base::ThreadNo;
+use crate::forms::Form;
+use crate::frame::Done;
+use crate::thread::{Stage, Thread, end, step_alone};
+use fr_base::{Labels, ThreadNo};
 
 // Lets a thread go whose task was dropped. Gives the thread whose task goes with its result.
 fn release(thread: &mut Thread, heap: &mut Heap) -> Option<ThreadNo>
@@ -59,4 +66,57 @@ pub fn let_threads_go(
         };
         task = release(&mut threads[place], heap);
     }
+}
+
+/// A step of a thread that it does alone, and not its end.
+pub fn go_alone(
+    forms: &[Form],
+    threads: &mut Vec<Thread>,
+    places: &Places,
+    thread: ThreadNo,
+    at: usize,
+    heap: &mut Heap,
+    output: &mut Vec<i64>,
+    labels: &mut Labels,
+)
+    requires order { AreInOrder forms.now }
+    requires numbers { places.now.numbers ≡ numbers_of threads.old.items }
+    requires place { place_of places.now.numbers thread ≡ Some at }
+    requires inside { at < length threads.old.items }
+    requires well { AreWell forms.now threads.old.items }
+    requires goes { (x : Thread) → x ≡ slice_index_or threads.old.items at x → CanGo forms.now x heap.old labels.old }
+    requires output { vec_len output.old < vec_capacity output.old }
+    requires labels { labels.old.items ≡ [] }
+    ensures step { step (whole forms.now threads.old.items heap.old.heap output.old.items) thread fresh.None ≡ Some (record { state = whole forms.now threads.new.items heap.new.heap output.new.items; labels = labels.new.items }) }
+    ensures numbers { numbers_of threads.new.items ≡ numbers_of threads.old.items }
+    ensures well { AreWell forms.now threads.new.items }
+{
+    let task = step_alone(forms, &mut threads[at], heap, output, labels);
+    let_threads_go(threads, places, heap, task);
+}
+
+/// The end of a thread whose term is done.
+pub fn go_end(
+    forms: &[Form],
+    threads: &mut Vec<Thread>,
+    places: &Places,
+    thread: ThreadNo,
+    at: usize,
+    heap: &mut Heap,
+    labels: &mut Labels,
+    done: Done,
+)
+    requires numbers { places.now.numbers ≡ numbers_of threads.old.items }
+    requires place { place_of places.now.numbers thread ≡ Some at }
+    requires inside { at < length threads.old.items }
+    requires well { AreWell forms.now threads.old.items }
+    requires on { (x : Thread) → x ≡ slice_index_or threads.old.items at x → IsGoingOn x.stage × (end_of x.focus x.frames.items ≡ Some done) }
+    requires labels { labels.old.items ≡ [] }
+    requires room { 2 ≤ labels.old.spare }
+    ensures step { (output : List ℤ) → step (whole forms.now threads.old.items heap.old.heap output) thread fresh.None ≡ Some (record { state = whole forms.now threads.new.items heap.new.heap output; labels = labels.new.items }) }
+    ensures numbers { numbers_of threads.new.items ≡ numbers_of threads.old.items }
+    ensures well { AreWell forms.now threads.new.items }
+{
+    let task = end(&mut threads[at], heap, labels, done);
+    let_threads_go(threads, places, heap, task);
 }
