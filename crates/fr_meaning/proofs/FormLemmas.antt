@@ -132,7 +132,7 @@ pub form_below : (ns : List Form) (i : ℕ) (e m : Form) → AreInOrder ns → i
 form_below ns i e m a lt is h = subst (NamesBelow i) h (form_is_below (newest_first ns) i e a (newest_form ns i e lt is))
 
 -- inside a list no default is used
-get_or-any : (ns : List Form) (i : ℕ) (d e : Form) → i < length ns → get_or ns i d ≡ get_or ns i e
+pub get_or-any : (ns : List Form) (i : ℕ) (d e : Form) → i < length ns → get_or ns i d ≡ get_or ns i e
 get_or-any [] i d e lt = absurd (omega arith)
 get_or-any (n ∷ ns) zero d e lt = refl
 get_or-any (n ∷ ns) (suc i) d e lt = get_or-any ns i d e (omega arith)

@@ -37,7 +37,7 @@ inside_front n [] g a = (tt, a.0)
 inside_front n (h ∷ gs) g a = let i = inside_front n gs g a.1 in ((a.0, i.0), i.1)
 
 -- there are no more frames than the term is deep
-length_depth : (fs : List Form) (gs : List Frame) (r : Run) → length gs + depth r ≤ depth (wrapped fs gs r)
+pub length_depth : (fs : List Form) (gs : List Frame) (r : Run) → length gs + depth r ≤ depth (wrapped fs gs r)
 length_depth fs [] r = omega arith
 length_depth fs (g ∷ gs) r = omega (arith, length_depth fs gs r, depth_above (around fs g) (wrapped fs gs r))
 

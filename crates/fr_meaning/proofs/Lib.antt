@@ -13,6 +13,7 @@ pub mod SettledLemmas
 pub mod OneThread
 pub mod StepsLeft
 pub mod WholeSteps
+pub mod StartLemmas
 pub mod PoolLemmas
 pub mod NodeLemmas
 pub mod ReadyLemmas

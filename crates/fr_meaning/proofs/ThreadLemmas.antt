@@ -26,7 +26,7 @@ same a b h = cc
 -- by what the act does
 kept_by : (r q : Run) (m : Move Run) (u w : Option ℕ) (d : Option Did) (t : ℕ) (slots : List Value) (heap : Heap) (labels : List Label) → Within depth (depth r) (Some m) → settled (turned_by m w d) ≡ turns_to q t slots heap labels u → IsKept r q
 kept_by r q m u w None t slots heap labels h e = absurd cc
-kept_by r q m u w (Some d) t slots heap labels h e = 
+kept_by r q m u w (Some d) t slots heap labels h e =
     let f = same (record { run = settle (m.plug d.value); state = d.state; labels = d.labels; task = w }) (record { run = q; state = state t slots heap; labels = labels; task = u }) e in
     settle_kept r q (m.plug d.value) (sym (ap (λ (x : Turned). x.run) f)) (h d.value)
 

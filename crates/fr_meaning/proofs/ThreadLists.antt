@@ -1,5 +1,5 @@
 -- Threads of the code at their places, and the plain threads that they stand for.
-use Rattle.std.proofs.Common.{◌≡◌, ◌≢◌, ℕ, ℤ, zero, suc, ◌+◌, ◌-◌, ◌<◌, ◌≤◌, Bool, true, false, List, [], ◌∷◌, length, get_or, Option, Some, None, refl, sym, ap, ◌∙◌, subst, arith}
+use Rattle.std.proofs.Common.{◌≡◌, ◌≢◌, ℕ, ℤ, zero, suc, ◌+◌, ◌-◌, ◌<◌, ◌≤◌, Bool, true, false, List, [], ◌∷◌, ◌++◌, length, get_or, Option, Some, None, refl, sym, ap, ◌∙◌, subst, arith}
 use Rattle.std.specs.Prelude.{◌==◌, option_map, slice_set, vec_capacity, if◌then◌else◌}
 use Rattle.fr_plain.specs.declared.value.Value.{Value}
 use Rattle.fr_plain.specs.Heap.{Heap}
@@ -17,7 +17,7 @@ use Rattle.fr_meaning.specs.Contexts.{depth, IsSettled}
 use Rattle.fr_meaning.specs.FrameTerms.{wrapped, focus_run, AreInside, HasMadeWay}
 use Rattle.fr_meaning.specs.SlotOrder.{newest_first}
 use Rattle.fr_meaning.specs.Places.{place_of}
-use Rattle.fr_meaning.specs.Threads.{run_in, IsWell, life_at, thread_of, threads_of, whole, numbers_of, AreWell, after_release, released_heap, released_task}
+use Rattle.fr_meaning.specs.Threads.{run_in, IsGoingOn, IsEnded, IsWell, life_at, thread_of, threads_of, whole, numbers_of, AreWell, after_release, released_heap, released_task}
 use Rattle.fr_meaning.proofs.FormLemmas.{eq_cases}
 use Rattle.fr_meaning.proofs.HeapParts.{later_place}
 
@@ -99,6 +99,26 @@ numbers_set [] i x y is n = refl
 numbers_set (u ∷ xs) zero x y is n = ap (λ k. k ∷ numbers_of xs) (n ∙ ap (λ (w : Thread). w.number) is)
 numbers_set (u ∷ xs) (suc i) x y is n = ap (λ ks. u.number ∷ ks) (numbers_set xs i x y is n)
 
+-- a thread in progress hasn't ended
+stages_differ : (g : Stage) → IsGoingOn g → IsEnded g → ⊥
+stages_differ stage.Alive on e = e
+stages_differ stage.Owing on e = e
+stages_differ stage.Loose on e = e
+stages_differ stage.Over on e = e
+stages_differ (stage.Ended v) on e = on
+
+-- so that it stands elsewhere
+pub places_differ : (xs : List Thread) (i k : ℕ) (z : Thread) → ((x : Thread) → x ≡ get_or xs i x → IsGoingOn x.stage) → z ≡ get_or xs k z → IsEnded z.stage → i ≢ k
+places_differ xs i k z on is e = λ same. stages_differ z.stage (on z (is ∙ ap (λ n. get_or xs n z) (sym same))) e
+
+-- what stands elsewhere stays
+pub other_at : (xs : List Thread) (i k : ℕ) (z x : Thread) → i ≢ k → x ≡ get_or (slice_set xs k z) i x → x ≡ get_or xs i x
+other_at [] i k z x ne is = is
+other_at (u ∷ xs) zero zero z x ne is = absurd (ne refl)
+other_at (u ∷ xs) zero (suc k) z x ne is = is
+other_at (u ∷ xs) (suc i) zero z x ne is = is
+other_at (u ∷ xs) (suc i) (suc k) z x ne is = other_at xs i k z x (λ e. ne (ap suc e)) is
+
 -- each thread is well
 pub well_at : (fs : List Form) (xs : List Thread) (i : ℕ) (x : Thread) → i < length xs → x ≡ get_or xs i x → AreWell fs xs → IsWell fs x
 well_at fs [] i x lt is w = absurd (omega arith)
@@ -158,3 +178,17 @@ one_goes n fs xs heap output t i x y h is m e =
     ap (released_in (let_threads_go n) (whole fs xs heap output)) there.0
     ∙ release_by n fs (whole fs xs heap output) x x.stage refl here
     ∙ ap (λ ts. let_threads_go n (record { threads = ts; heap = released_heap heap x.stage; output = output }) (released_task heap x.stage)) (ap (with_thread (threads_of fs xs)) (sym e) ∙ set_at fs xs t i y h (m ∙ there.1))
+
+-- ONE MORE
+
+pub threads_push : (fs : List Form) (xs : List Thread) (y : Thread) → threads_of fs (xs ++ y ∷ []) ≡ threads_of fs xs ++ thread_of fs y ∷ []
+threads_push fs [] y = refl
+threads_push fs (x ∷ xs) y = ap (λ ts. thread_of fs x ∷ ts) (threads_push fs xs y)
+
+pub numbers_push : (xs : List Thread) (y : Thread) → numbers_of (xs ++ y ∷ []) ≡ numbers_of xs ++ y.number ∷ []
+numbers_push [] y = refl
+numbers_push (x ∷ xs) y = ap (λ ns. x.number ∷ ns) (numbers_push xs y)
+
+pub well_push : (fs : List Form) (xs : List Thread) (y : Thread) → AreWell fs xs → IsWell fs y → AreWell fs (xs ++ y ∷ [])
+well_push fs [] y w h = (h, tt)
+well_push fs (x ∷ xs) y w h = (w.0, well_push fs xs y w.1 h)

@@ -1,6 +1,6 @@
 -- A step of a thread of the code is a step of the plain state.
 use Rattle.std.proofs.Common.{◌≡◌, ◌≢◌, ℕ, ℤ, zero, suc, ◌+◌, ◌<◌, ◌≤◌, Bool, true, false, List, [], ◌∷◌, ◌++◌, length, get_or, Option, Some, None, refl, sym, ap, ◌∙◌, subst, arith}
-use Rattle.std.specs.Prelude.{⊤, IsSome, slice_set, if◌then◌else◌}
+use Rattle.std.specs.Prelude.{⊤, IsSome, is_some, slice_set, if◌then◌else◌}
 use Rattle.fr_base.specs.declared.label.Label.{Label}
 use Rattle.fr_base.specs.declared.label.Label.TheVariants as label
 use Rattle.fr_base.specs.declared.label.Plain.TheVariants.{Task}
@@ -12,9 +12,9 @@ use Rattle.fr_plain.specs.Heap.{Heap}
 use Rattle.fr_plain.specs.State.{State}
 use Rattle.fr_plain.specs.Acts.{Act, do_let, do_read, do_borrow, do_assign, do_box, do_arith, do_print, do_discard, do_drop, do_end, do_spawn, do_join, do_finish, do_leave, Did, act, lets_go}
 use Rattle.fr_plain.specs.Run as run
-use Rattle.fr_plain.specs.Run.{Run, Now, going, on_value, now, settle, Move, next, alone, move, Life, settle_life, life_move}
-use Rattle.fr_plain.specs.Threads.{Whole, Thread as PlainThread, thread_at, with_thread}
-use Rattle.fr_plain.specs.Whole.{Stepped, prints, let_go, then_released, stepped, alone_stepped, moved, step_of, step, state_of}
+use Rattle.fr_plain.specs.Run.{Capture, Run, Now, going, on_value, now, settle, Move, next, alone, move, Life, settle_life, life_move}
+use Rattle.fr_plain.specs.Threads.{Whole, Thread as PlainThread, thread_at, with_thread, with_life, Passed, pass, result_of_life, result_in as result_in_plain}
+use Rattle.fr_plain.specs.Whole.{Stepped, prints, let_go, then_released, stepped, alone_stepped, moved, step_of, step, state_of, joined, joined_with, started_with}
 use Rattle.fr_meaning.specs.declared.forms.Form.{Form}
 use Rattle.fr_meaning.specs.declared.frame.Done.{Done}
 use Rattle.fr_meaning.specs.declared.frame.Done.TheVariants as done
@@ -24,14 +24,17 @@ use Rattle.fr_meaning.specs.declared.thread.Thread.{Thread}
 use Rattle.fr_meaning.specs.DoneTerms.{over, value_of}
 use Rattle.fr_meaning.specs.Places.{place_of}
 use Rattle.fr_meaning.specs.SlotOrder.{newest_first}
-use Rattle.fr_meaning.specs.Threads.{run_in, IsGoingOn, end_act, end_value, after_end, life_at, thread_of, threads_of, whole, numbers_of}
+use Rattle.fr_meaning.specs.Threads.{run_in, IsGoingOn, result_in, end_act, end_value, after_end, life_at, thread_of, threads_of, whole, numbers_of}
 use Rattle.fr_meaning.specs.Turning.{state, did, Turned, turned_by, turned, turns_to, settled, term_step}
 use Rattle.std.proofs.lemmas.List.{append-nil}
-use Rattle.fr_meaning.specs.FrameTerms.{end_of}
+use Rattle.fr_meaning.specs.declared.frame.Frame.{Frame}
+use Rattle.fr_meaning.specs.Contexts.{wrap}
+use Rattle.fr_meaning.specs.FrameTerms.{wrapped, all_around, end_of}
+use Rattle.fr_meaning.proofs.ContextLemmas.{now_wrap, move_wrap}
 use Rattle.fr_meaning.proofs.ActLemmas.{IsSilent, silent}
 use Rattle.fr_meaning.proofs.StepLemmas.{run_end}
 use Rattle.fr_meaning.proofs.OneThread.{IsOwn, own_done}
-use Rattle.fr_meaning.proofs.ThreadLists.{there_at, set_at}
+use Rattle.fr_meaning.proofs.ThreadLists.{none_there, there_at, set_at, numbers_set, threads_push}
 
 -- LIVES
 
@@ -192,3 +195,89 @@ whole_end fs xs heap new output t i x y d labels u h is on e a task n same =
 
     left_with : List PlainThread → Option Stepped
     left_with ts = Some (record { state = let_go (record { threads = ts; heap = new; output = output }) u; labels = labels })
+
+-- JOINING
+
+-- the move of a join whose part is done
+join_moves : (d : Done) → move (run.join_r (over d)) ≡ alone run.temp (do_join (value_of d))
+join_moves done.Unit = refl
+join_moves (done.Number n) = refl
+join_moves (done.Temp v) = refl
+
+-- the result that is kept
+kept_result : (g : Stage) (r : Run) → result_of_life (life_at g r) ≡ result_in g
+kept_result stage.Alive r = refl
+kept_result stage.Owing r = refl
+kept_result stage.Loose r = refl
+kept_result stage.Over r = refl
+kept_result (stage.Ended v) r = refl
+
+-- a join is a step of the plain state
+pub whole_join : (fs : List Form) (xs : List Thread) (heap : Heap) (output : List ℤ) (t i u k : ℕ) (x y z w : Thread) (gs : List Frame) (d : Done) (v : Value) →
+    place_of (numbers_of xs) t ≡ Some i → x ≡ get_or xs i x → IsGoingOn x.stage → run_in fs x ≡ wrapped fs gs (run.join_r (over d)) → value_of d ≡ Own (Task u) →
+    place_of (numbers_of xs) u ≡ Some k → z ≡ get_or xs k z → result_in z.stage ≡ Some v → thread_of fs w ≡ with_life (thread_of fs z) run.over → w.number ≡ z.number →
+    run_in fs y ≡ settle (wrapped fs gs (run.temp v)) → y.number ≡ x.number → y.stage ≡ x.stage → y.slots.items ≡ x.slots.items →
+    step (whole fs xs heap output) t fresh.None ≡ stepped_to (whole fs (slice_set (slice_set xs k w) i y) heap output) []
+whole_join fs xs heap output t i u k x y z w gs d v h is on top task hz isz kept over_w nw goes ny gy sy =
+    let s = whole fs xs heap output in
+    let there = there_at fs xs t i x h is in
+    let other = there_at fs xs u k z hz isz in
+    let cs = all_around fs gs in
+    let go = now_wrap cs (run.join_r (over d)) refl in
+    let m : Move Life = record { act = do_join (value_of d); plug = λ q. life_at x.stage (wrap cs (run.temp q)) } in
+    let X = thread_of fs x in
+    ap (step_of s fresh.None) there.0 ∙ ap (λ r. moved s X fresh.None (life_move (life_at x.stage r))) top
+    ∙ ap (moved s X fresh.None) (life_moves x.stage (wrapped fs gs (run.join_r (over d))) on go ∙ ap (next (life_at x.stage)) (move_wrap cs (run.join_r (over d)) refl ∙ ap (next (wrap cs)) (join_moves d)))
+    ∙ ap (λ q. joined s X m q) task
+    ∙ ap (λ o. joined_with s X m o (result_in_plain o)) other.0 ∙ ap (λ o. joined_with s X m (Some (thread_of fs z)) o) (kept_result z.stage (run_in fs z) ∙ kept)
+    ∙ ap (λ ts. after_join (with_thread ts (record { number = x.number; life = settle_life (life_at x.stage (wrapped fs gs (run.temp v))); slots = X.slots }))) (ap (with_thread (threads_of fs xs)) (sym over_w) ∙ set_at fs xs u k w hz (nw ∙ other.1))
+    ∙ ap (λ l. after_join (with_thread (threads_of fs (slice_set xs k w)) (record { number = x.number; life = l; slots = X.slots }))) (life_settles x.stage (wrapped fs gs (run.temp v)) on ∙ ap (life_at x.stage) (sym goes))
+    ∙ ap (λ (q : PlainThread). after_join (with_thread (threads_of fs (slice_set xs k w)) q)) (again x y ny gy sy)
+    ∙ ap after_join (set_at fs (slice_set xs k w) t i y (ap (λ ns. place_of ns t) (numbers_set xs k z w isz nw) ∙ h) (ny ∙ there.1))
+  where
+    after_join : List PlainThread → Option Stepped
+    after_join ts = Some (record { state = record { threads = ts; heap = heap; output = output }; labels = [] })
+
+    parts : ℕ → Stage → List Value → Thread → PlainThread
+    parts n g vs y = record { number = n; life = life_at g (run_in fs y); slots = newest_first vs }
+
+    again : (x y : Thread) → y.number ≡ x.number → y.stage ≡ x.stage → y.slots.items ≡ x.slots.items → parts x.number x.stage x.slots.items y ≡ thread_of fs y
+    again x y a b c = ap (λ n. parts n x.stage x.slots.items y) (sym a) ∙ ap (λ g. parts y.number g x.slots.items y) (sym b) ∙ ap (λ vs. parts y.number y.stage vs y) (sym c)
+
+-- STARTING
+
+-- the start of a thread is a step of the plain state
+pub whole_start : (fs : List Form) (xs : List Thread) (heap : Heap) (output : List ℤ) (t i u : ℕ) (x y n : Thread) (gs : List Frame) (cs : List Capture) (r : Run) (p : Passed) →
+    place_of (numbers_of xs) t ≡ Some i → x ≡ get_or xs i x → IsGoingOn x.stage → run_in fs x ≡ wrapped fs gs (run.spawn cs r) → place_of (numbers_of xs) u ≡ None → pass cs (newest_first x.slots.items) [] ≡ Some p →
+    run_in fs y ≡ settle (wrapped fs gs (run.temp (Own (Task u)))) → y.number ≡ x.number → y.stage ≡ x.stage → newest_first y.slots.items ≡ p.left → thread_of fs n ≡ record { number = u; life = run.owing (settle r); slots = p.new } →
+    step (whole fs xs heap output) t (fresh.Thread u) ≡ stepped_to (whole fs (slice_set xs i y ++ n ∷ []) heap output) (label.Start u ∷ [])
+whole_start fs xs heap output t i u x y n gs cs r p h is on top none passes goes ny gy sy new =
+    let s = whole fs xs heap output in
+    let there = there_at fs xs t i x h is in
+    let around = all_around fs gs in
+    let go = now_wrap around (run.spawn cs r) refl in
+    let m : Move Life = record { act = do_spawn cs r; plug = λ q. life_at x.stage (wrap around (run.temp q)) } in
+    let X = thread_of fs x in
+    ap (step_of s (fresh.Thread u)) there.0 ∙ ap (λ q. moved s X (fresh.Thread u) (life_move (life_at x.stage q))) top
+    ∙ ap (moved s X (fresh.Thread u)) (life_moves x.stage (wrapped fs gs (run.spawn cs r)) on go ∙ ap (next (life_at x.stage)) (move_wrap around (run.spawn cs r) refl))
+    ∙ ap (λ o. given (is_some o) s X m) (none_there fs xs u none)
+    ∙ ap (started_with s X m r u) passes
+    ∙ ap (λ l. after_start (with_thread s.threads (record { number = x.number; life = l; slots = p.left })) (record { number = u; life = run.owing (settle r); slots = p.new })) (life_settles x.stage (wrapped fs gs (run.temp (Own (Task u)))) on ∙ ap (life_at x.stage) (sym goes))
+    ∙ ap (λ q. after_start (with_thread s.threads q) (record { number = u; life = run.owing (settle r); slots = p.new })) (again x y ny gy sy)
+    ∙ ap (λ ts. after_start ts (record { number = u; life = run.owing (settle r); slots = p.new })) (set_at fs xs t i y h (ny ∙ there.1))
+    ∙ ap (after_start (threads_of fs (slice_set xs i y))) (sym new) ∙ ap after_all (sym (threads_push fs (slice_set xs i y) n))
+  where
+    given : Bool → Whole → PlainThread → Move Life → Option Stepped
+    given b s X m = if b then None else started_with s X m r u (pass cs X.slots [])
+
+    after_all : List PlainThread → Option Stepped
+    after_all ts = Some (record { state = record { threads = ts; heap = heap; output = output }; labels = label.Start u ∷ [] })
+
+    after_start : List PlainThread → PlainThread → Option Stepped
+    after_start ts q = after_all (ts ++ q ∷ [])
+
+    parts : ℕ → Stage → List Value → Thread → PlainThread
+    parts k g vs y = record { number = k; life = life_at g (run_in fs y); slots = vs }
+
+    again : (x y : Thread) → y.number ≡ x.number → y.stage ≡ x.stage → newest_first y.slots.items ≡ p.left → parts x.number x.stage p.left y ≡ thread_of fs y
+    again x y a b c = ap (λ k. parts k x.stage p.left y) (sym a) ∙ ap (λ g. parts y.number g p.left y) (sym b) ∙ ap (λ vs. parts y.number y.stage vs y) (sym c)

@@ -87,3 +87,11 @@ items_at fs node = items_in (slice_index_or fs node form.Unit)
 abbrev pub IsSpawn : Form → Type 0
 IsSpawn (form.Spawn captures body drops) = ⊤
 IsSpawn _ = ⊥
+
+-- the captured slots of the thread that the form starts
+abbrev pub captures_in : Form → List Captured
+captures_in (form.Spawn captures body drops) = captures.items
+captures_in _ = []
+
+abbrev pub captures_at : List Form → ℕ → List Captured
+captures_at fs node = captures_in (slice_index_or fs node form.Unit)

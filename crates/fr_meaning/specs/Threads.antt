@@ -6,13 +6,20 @@ use Rattle.fr_plain.specs.Acts.{Act, do_end, do_finish, do_leave, unit, task_in}
 use Rattle.fr_plain.specs.Heap.{Heap}
 use Rattle.fr_plain.specs.State.{without}
 use Rattle.fr_plain.specs.Run.{Run, Life, alive, over, owing, loose, ended}
-use Rattle.fr_plain.specs.Threads.{Whole, Thread as PlainThread}
+use Rattle.fr_plain.specs.Threads.{Whole, Thread as PlainThread, pass}
+use Rattle.fr_meaning.specs.FormTerms.{captures_of, captures_at}
 use Rattle.fr_meaning.specs.declared.forms.Form.{Form}
 use Rattle.fr_meaning.specs.declared.thread.Stage.{Stage}
 use Rattle.fr_meaning.specs.declared.thread.Stage.TheVariants as stage
 use Rattle.fr_meaning.specs.declared.thread.Thread.{Thread}
 use Rattle.fr_meaning.specs.Contexts.{depth, IsSettled}
+use Rattle.fr_base.specs.declared.label.Plain.TheVariants.{Task}
+use Rattle.fr_plain.specs.declared.value.Value.TheVariants.{Own}
+use Rattle.fr_meaning.specs.declared.frame.Done.{Done}
 use Rattle.fr_meaning.specs.declared.frame.Frame.{Frame}
+use Rattle.fr_meaning.specs.declared.frame.Frame.TheVariants as frame
+use Rattle.fr_meaning.specs.declared.frame.Focus.TheVariants as focus
+use Rattle.fr_meaning.specs.DoneTerms.{value_of}
 use Rattle.fr_meaning.specs.HeapRoom.{HeapRoom}
 use Rattle.fr_meaning.specs.FrameTerms.{wrapped, focus_run, AreInside, HasMadeWay, end_of}
 use Rattle.fr_meaning.specs.Turning.{state, term_step, focus_labels, frame_labels}
@@ -115,3 +122,18 @@ pub record CanGo (fs : List Form) (x : Thread) (heap : HeapRoom) (labels : Label
   pub ready : heap.ready ≡ Some x.number
   pub spare : focus_labels x.focus ≤ labels.spare
   pub frame_spare : (gs : List Frame) (g : Frame) → x.frames.items ≡ gs ++ g ∷ [] → frame_labels g ≤ labels.spare
+
+-- the thread joins that one next
+pub record Joins (x : Thread) (joined : ℕ) : Type 0 where
+  pub on : IsGoingOn x.stage
+  pub around : List Frame
+  pub top : x.frames.items ≡ around ++ frame.Join ∷ []
+  pub done : Done
+  pub at_end : x.focus ≡ focus.Over done
+  pub task : value_of done ≡ Own (Task joined)
+
+-- the thread starts the one of that form next
+pub record Starts (fs : List Form) (x : Thread) (node : ℕ) : Type 0 where
+  pub on : IsGoingOn x.stage
+  pub at_start : x.focus ≡ focus.Spawn node
+  pub passes : IsSome (pass (captures_of (captures_at fs node)) (newest_first x.slots.items) [])

@@ -12,8 +12,8 @@ use crate::spot::Where;
 use fr_base::{Label, Labels, Lval, Op, Plain, ThreadNo};
 use fr_plain::Value;
 
-// A label more, for which there is room.
-fn note(labels: &mut Labels, label: Label)
+/// A label more, for which there is room.
+pub fn note(labels: &mut Labels, label: Label)
     requires { 0 < labels.old.spare }
     ensures label { labels.new.items ≡ labels.old.items ++ label ∷ [] }
     ensures spare { labels.old.spare ≤ labels.new.spare + 1 }

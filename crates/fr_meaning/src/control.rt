@@ -36,8 +36,8 @@ pub fn focus_in(entered: Entered) -> Focus
     }
 }
 
-// The frame on top goes.
-fn leave_top(frames: &mut Vec<Frame>)
+/// The frame on top goes.
+pub fn leave_top(frames: &mut Vec<Frame>)
     ensures frames { (gs : List Frame) (g : Frame) → frames.old.items ≡ gs ++ g ∷ [] → frames.new.items ≡ gs }
     ensures capacity { vec_capacity frames.new ≡ vec_capacity frames.old }
 {

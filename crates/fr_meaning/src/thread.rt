@@ -132,7 +132,7 @@ pub fn end(
 pub fn take_result(thread: &mut Thread) -> Value
     requires ended { IsEnded thread.old.stage }
     ensures result { Some result ≡ result_in thread.old.stage }
-    ensures stage { result_in thread.new.stage ≡ None }
+    ensures stage { thread.new.stage ≡ stage_.Over }
     ensures number { thread.new.number ≡ thread.old.number }
     ensures frames { thread.new.frames ≡ thread.old.frames }
     ensures focus { thread.new.focus ≡ thread.old.focus }
