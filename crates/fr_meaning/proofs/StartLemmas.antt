@@ -1,8 +1,8 @@
 -- What is known where a thread starts another.
-use Rattle.std.proofs.Common.{Vec, Global, ◌≡◌, ℕ, ◌<◌, ◌≤◌, ◌+◌, List, [], ◌∷◌, length, get_or, Option, Some, None, refl, sym, ap, ◌∙◌, subst, arith}
+use Rattle.std.proofs.Common.{Vec, Global, ◌≡◌, ℕ, ◌<◌, ◌≤◌, List, [], length, get_or, Some, refl, sym, ap, ◌∙◌, subst, arith}
 use Rattle.std.specs.Prelude.{IsSome}
 use Rattle.fr_plain.specs.declared.value.Value.{Value}
-use Rattle.fr_plain.specs.Run.{Capture, Run, Life, owing, spawn}
+use Rattle.fr_plain.specs.Run.{Run, owing}
 use Rattle.fr_plain.specs.Threads.{Passed, pass, Thread as PlainThread}
 use Rattle.fr_meaning.specs.declared.forms.Captured.{Captured}
 use Rattle.fr_meaning.specs.declared.forms.Form.{Form}
@@ -12,11 +12,11 @@ use Rattle.fr_meaning.specs.declared.thread.Stage.{Stage}
 use Rattle.fr_meaning.specs.declared.thread.Stage.TheVariants as stage
 use Rattle.fr_meaning.specs.declared.thread.Thread.{Thread}
 use Rattle.fr_meaning.specs.Contexts.{depth}
-use Rattle.fr_meaning.specs.FormTerms.{captures_of, captures_in, captures_at, term_of, AreInOrder, IsSpawn}
+use Rattle.fr_meaning.specs.FormTerms.{captures_of, captures_in, captures_at, term_of, IsSpawn}
 use Rattle.fr_meaning.specs.FrameTerms.{wrapped, focus_run, HasMadeWay}
 use Rattle.fr_meaning.specs.SlotOrder.{newest_first}
 use Rattle.fr_meaning.specs.Threads.{run_in, IsWell, life_at, thread_of, AreWell, Starts}
-use Rattle.fr_meaning.proofs.FormLemmas.{get_or-any, spawn_run}
+use Rattle.fr_meaning.proofs.FormLemmas.{get_or-any}
 use Rattle.fr_meaning.proofs.FrameLemmas.{length_depth}
 use Rattle.fr_meaning.proofs.ThreadLists.{well_at}
 

@@ -7,7 +7,7 @@ use Rattle.fr_plain.specs.declared.value.Value.{Value}
 use Rattle.fr_plain.specs.Heap.{Heap}
 use Rattle.fr_plain.specs.State.{State}
 use Rattle.fr_plain.specs.Acts.{Did, act, lets_go, do_read, do_borrow, do_discard, do_drop, unit}
-use Rattle.fr_plain.specs.Run.{Run, temp, read, borrow, block, Parts, last, more, Now, going, constant, temporary, now, settle, leaves, Move, next, alone, move, on_value}
+use Rattle.fr_plain.specs.Run.{Run, temp, read, borrow, block, Parts, last, more, going, temporary, now, settle, leaves, Move, next, alone, move}
 use Rattle.fr_meaning.specs.declared.forms.Form.{Form}
 use Rattle.fr_meaning.specs.declared.forms.Form.TheVariants as form
 use Rattle.fr_meaning.specs.declared.frame.Done.{Done}

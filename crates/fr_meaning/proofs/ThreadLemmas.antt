@@ -1,5 +1,5 @@
 -- What a step leaves of a term, and passing captures.
-use Rattle.std.proofs.Common.{◌≡◌, ℕ, ◌≤◌, List, [], ◌∷◌, Option, Some, None, refl, sym, ap, ◌∙◌, subst, arith}
+use Rattle.std.proofs.Common.{◌≡◌, ℕ, ◌≤◌, List, ◌∷◌, Option, Some, None, refl, sym, ap, ◌∙◌, subst, arith}
 use Rattle.std.specs.Prelude.{IsSome}
 use Rattle.fr_base.specs.declared.label.Label.{Label}
 use Rattle.fr_plain.specs.declared.value.Value.{Value}
@@ -7,7 +7,7 @@ use Rattle.fr_plain.specs.Heap.{Heap}
 use Rattle.fr_plain.specs.State.{State, slot_at}
 use Rattle.fr_plain.specs.Acts.{Did, act, lets_go}
 use Rattle.fr_plain.specs.Run.{Capture, Run, Move, move, settle}
-use Rattle.fr_plain.specs.Threads.{Passed, left_after, then_passed, pass}
+use Rattle.fr_plain.specs.Threads.{left_after, then_passed, pass}
 use Rattle.fr_meaning.specs.Contexts.{depth, IsSettled}
 use Rattle.fr_meaning.specs.Turning.{state, Turned, turned_by, turned, turns_to, settled, term_step}
 use Rattle.fr_meaning.proofs.SettledLemmas.{settle_settled, depth_settle, Within, move_depth}

@@ -1,12 +1,9 @@
 -- Threads of the code at their places, and the plain threads that they stand for.
-use Rattle.std.proofs.Common.{◌≡◌, ◌≢◌, ℕ, ℤ, zero, suc, ◌+◌, ◌-◌, ◌<◌, ◌≤◌, Bool, true, false, List, [], ◌∷◌, ◌++◌, length, get_or, Option, Some, None, refl, sym, ap, ◌∙◌, subst, arith}
+use Rattle.std.proofs.Common.{◌≡◌, ◌≢◌, ℕ, ℤ, zero, suc, ◌<◌, List, [], ◌∷◌, ◌++◌, length, get_or, Option, Some, None, refl, sym, ap, ◌∙◌, subst, arith}
 use Rattle.std.specs.Prelude.{◌==◌, option_map, slice_set, vec_capacity, if◌then◌else◌}
 use Rattle.fr_plain.specs.declared.value.Value.{Value}
 use Rattle.fr_plain.specs.Heap.{Heap}
-use Rattle.fr_plain.specs.State.{without}
-use Rattle.fr_plain.specs.Acts.{task_in}
-use Rattle.fr_plain.specs.Run.{Life, loose, over}
-use Rattle.fr_plain.specs.Threads.{Thread as PlainThread, Whole, thread_at, with_thread, with_life, released, released_in, let_threads_go}
+use Rattle.fr_plain.specs.Threads.{Thread as PlainThread, Whole, thread_at, with_thread, released, released_in, let_threads_go}
 use Rattle.fr_meaning.specs.declared.forms.Form.{Form}
 use Rattle.fr_meaning.specs.declared.thread.Stage.{Stage}
 use Rattle.fr_meaning.specs.declared.thread.Stage.TheVariants as stage

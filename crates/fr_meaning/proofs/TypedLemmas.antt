@@ -14,14 +14,10 @@ use Rattle.fr_plain.specs.Whole.{Thread, Whole, Stepped, prints, step, start}
 use Rattle.fr_sound.specs.NeverStuck.{IsTyped, Steps}
 use Rattle.fr_sound.proofs.Whole.{never_stuck_lem}
 use Rattle.fr_meaning.specs.declared.error.StepError.TheVariants.{Ended}
-use Rattle.fr_meaning.specs.declared.forms.Form.{Form}
 use Rattle.fr_meaning.specs.declared.frame.Done.{Done}
 use Rattle.fr_meaning.specs.declared.frame.Done.TheVariants as done
-use Rattle.fr_meaning.specs.declared.frame.Frame.{Frame}
-use Rattle.fr_meaning.specs.declared.frame.Focus.{Focus}
-use Rattle.fr_meaning.specs.declared.frame.Focus.TheVariants as focus
 use Rattle.fr_meaning.specs.DoneTerms.{over, value_of}
-use Rattle.fr_meaning.specs.FrameTerms.{wrapped, focus_run, end_of}
+use Rattle.fr_meaning.specs.FrameTerms.{end_of}
 use Rattle.fr_meaning.specs.PoolView.{View, run_of, life_of, whole_of, refusal}
 use Rattle.fr_meaning.specs.SlotOrder.{newest_first}
 use Rattle.fr_meaning.specs.Turning.{state, did}

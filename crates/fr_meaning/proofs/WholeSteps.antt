@@ -1,10 +1,9 @@
 -- A step of a thread of the code is a step of the plain state.
-use Rattle.std.proofs.Common.{◌≡◌, ◌≢◌, ℕ, ℤ, zero, suc, ◌+◌, ◌<◌, ◌≤◌, Bool, true, false, List, [], ◌∷◌, ◌++◌, length, get_or, Option, Some, None, refl, sym, ap, ◌∙◌, subst, arith}
-use Rattle.std.specs.Prelude.{⊤, IsSome, is_some, slice_set, if◌then◌else◌}
+use Rattle.std.proofs.Common.{◌≡◌, ℕ, ℤ, Bool, List, [], ◌∷◌, ◌++◌, get_or, Option, Some, None, refl, sym, ap, ◌∙◌}
+use Rattle.std.specs.Prelude.{is_some, slice_set, if◌then◌else◌}
 use Rattle.fr_base.specs.declared.label.Label.{Label}
 use Rattle.fr_base.specs.declared.label.Label.TheVariants as label
 use Rattle.fr_base.specs.declared.label.Plain.TheVariants.{Task}
-use Rattle.fr_base.specs.declared.step.Fresh.{Fresh}
 use Rattle.fr_base.specs.declared.step.Fresh.TheVariants as fresh
 use Rattle.fr_plain.specs.declared.value.Value.{Value}
 use Rattle.fr_plain.specs.declared.value.Value.TheVariants.{Own}
@@ -13,7 +12,7 @@ use Rattle.fr_plain.specs.State.{State}
 use Rattle.fr_plain.specs.Acts.{Act, do_let, do_read, do_borrow, do_assign, do_box, do_arith, do_print, do_discard, do_drop, do_end, do_spawn, do_join, do_finish, do_leave, Did, act, lets_go}
 use Rattle.fr_plain.specs.Run as run
 use Rattle.fr_plain.specs.Run.{Capture, Run, Now, going, on_value, now, settle, Move, next, alone, move, Life, settle_life, life_move}
-use Rattle.fr_plain.specs.Threads.{Whole, Thread as PlainThread, thread_at, with_thread, with_life, Passed, pass, result_of_life, result_in as result_in_plain}
+use Rattle.fr_plain.specs.Threads.{Whole, Thread as PlainThread, with_thread, with_life, Passed, pass, result_of_life, result_in as result_in_plain}
 use Rattle.fr_plain.specs.Whole.{Stepped, prints, let_go, then_released, stepped, alone_stepped, moved, step_of, step, state_of, joined, joined_with, started_with}
 use Rattle.fr_meaning.specs.declared.forms.Form.{Form}
 use Rattle.fr_meaning.specs.declared.frame.Done.{Done}

@@ -1,5 +1,5 @@
 -- A heap's fields.
-use Rattle.std.specs.Prelude.{◌≡◌, ℕ, ◌<◌, ◌-◌, ⊤, List, [], ◌∷◌, length, map, Option, Some, None, slice_index_or, vec_len, vec_capacity}
+use Rattle.std.specs.Prelude.{◌≡◌, ℕ, ◌<◌, ◌-◌, ⊤, List, [], length, map, Option, Some, None, slice_index_or, vec_len, vec_capacity}
 use Rattle.fr_base.specs.declared.label.Plain.{Plain}
 use Rattle.fr_meaning.specs.declared.heap.Heap.TheInside.{Inside}
 use Rattle.fr_meaning.specs.Places.{place_of}

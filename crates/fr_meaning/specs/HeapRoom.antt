@@ -1,5 +1,5 @@
 -- What contracts see of the heap.
-use Rattle.std.specs.Prelude.{◌≡◌, ℕ, ◌<◌, ⊤, List, [], ◌∷◌, length, Option, Some, None, slice_index_or, vec_len, vec_capacity}
+use Rattle.std.specs.Prelude.{ℕ, List, [], ◌∷◌, Option}
 use Rattle.fr_base.specs.declared.label.Plain.{Plain}
 use Rattle.fr_plain.specs.Heap.{Heap}
 

@@ -1,5 +1,5 @@
 -- What a pool is to its callers: a plain state, of one thread so far.
-use Rattle.std.specs.Prelude.{ℕ, ℤ, ◌-◌, Bool, true, false, List, [], ◌∷◌, length, Option, Some, None, option_map, if◌then◌else◌}
+use Rattle.std.specs.Prelude.{ℕ, ℤ, Bool, true, false, List, [], ◌∷◌, Option, Some, None, option_map, if◌then◌else◌}
 use Rattle.fr_base.specs.declared.step.Fresh.{Fresh}
 use Rattle.fr_plain.specs.declared.value.Value.{Value}
 use Rattle.fr_plain.specs.Heap.{Heap}
@@ -12,7 +12,6 @@ use Rattle.fr_meaning.specs.declared.need.Need.{Need}
 use Rattle.fr_meaning.specs.declared.need.Need.TheVariants as need
 use Rattle.fr_meaning.specs.declared.error.StepError.{StepError}
 use Rattle.fr_meaning.specs.declared.error.StepError.TheVariants as error
-use Rattle.fr_meaning.specs.FormTerms.{term_of}
 use Rattle.fr_meaning.specs.FrameTerms.{wrapped, focus_run}
 use Rattle.fr_meaning.specs.SlotOrder.{newest_first}
 

@@ -1,4 +1,4 @@
-use Rattle.std.proofs.Common.{◌≡◌, ◌<◌, Some, sym, ap, ◌∙◌, arith}
+use Rattle.std.proofs.Common.{Some, sym, ap, ◌∙◌, arith}
 use Rattle.fr_plain.specs.State.{gone}
 use Rattle.fr_plain.specs.Threads.{left_after}
 use Rattle.fr_meaning.specs.SlotOrder.{newest_first}

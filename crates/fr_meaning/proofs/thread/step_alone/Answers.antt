@@ -1,4 +1,4 @@
-use Rattle.std.proofs.Common.{◌≡◌, ◌≤◌, length, arith, ◌∙◌}
+use Rattle.std.proofs.Common.{arith}
 use Rattle.fr_meaning.specs.Threads.{run_in}
 use Rattle.fr_meaning.specs.Turning.{state}
 use Rattle.fr_meaning.specs.FrameTerms.{wrapped, focus_run}

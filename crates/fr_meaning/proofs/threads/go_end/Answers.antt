@@ -1,4 +1,4 @@
-use Rattle.std.proofs.Common.{◌≡◌, sym, ap, ◌∙◌}
+use Rattle.std.proofs.Common.{sym, ap, ◌∙◌}
 use Rattle.fr_meaning.specs.Places.{place_of}
 use Rattle.fr_meaning.proofs.ThreadLists.{numbers_set, well_at, well_set, well_same}
 use Rattle.fr_meaning.proofs.WholeSteps.{whole_end, stepped_to}

@@ -1,20 +1,18 @@
-use Rattle.std.proofs.Common.{◌≡◌, ℕ, ◌<◌, ◌≤◌, ◌+◌, ◌*◌, ◌++◌, ◌∷◌, [], List, length, get_or, Some, refl, sym, ap, ◌∙◌, subst, arith}
+use Rattle.std.proofs.Common.{◌++◌, ◌∷◌, [], length, sym, ap, ◌∙◌, subst, arith}
 use Rattle.std.specs.Prelude.{slice_set}
-use Rattle.fr_base.specs.declared.label.Label.{Label}
 use Rattle.fr_base.specs.declared.label.Label.TheVariants as label
 use Rattle.fr_base.specs.declared.label.Plain.TheVariants.{Task}
 use Rattle.fr_plain.specs.declared.value.Value.TheVariants.{Own}
-use Rattle.fr_plain.specs.Run.{Run, temp, block, last, settle}
+use Rattle.fr_plain.specs.Run.{temp, block, last, settle}
 use Rattle.fr_plain.specs.Threads.{Passed}
-use Rattle.fr_meaning.specs.declared.forms.Form.{Form}
 use Rattle.fr_meaning.specs.declared.forms.Form.TheVariants as form
 use Rattle.fr_meaning.specs.Contexts.{depth}
-use Rattle.fr_meaning.specs.FormTerms.{captures_of, term_of, parts_of, items_at, IsSpawn}
+use Rattle.fr_meaning.specs.FormTerms.{captures_of, term_of, parts_of}
 use Rattle.fr_meaning.specs.FrameTerms.{wrapped, all_around}
 use Rattle.fr_meaning.specs.SlotOrder.{newest_first}
 use Rattle.fr_meaning.specs.Places.{place_of}
 use Rattle.fr_meaning.specs.Threads.{whole, AreWell, numbers_of}
-use Rattle.fr_meaning.proofs.FormLemmas.{form_term, items_here, spawn_here, get_or-any}
+use Rattle.fr_meaning.proofs.FormLemmas.{form_term, items_here}
 use Rattle.fr_meaning.proofs.ContextLemmas.{depth_wrap}
 use Rattle.fr_meaning.proofs.ThreadLists.{numbers_set, numbers_push, well_set, well_push}
 use Rattle.fr_meaning.proofs.WholeSteps.{whole_start, stepped_to}

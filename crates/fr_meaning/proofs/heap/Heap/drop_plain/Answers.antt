@@ -1,5 +1,5 @@
 use Rattle.std.proofs.Common.{sym, ap, ◌∙◌, arith}
-use Rattle.fr_plain.specs.Heap.{dropped, live, last_link, task_of}
+use Rattle.fr_plain.specs.Heap.{dropped, live, last_link}
 use Rattle.fr_meaning.proofs.HeapLemmas.{live_without, dropped_box, link_box}
 use Rattle.fr_meaning.proofs.heap.Heap.drop_plain.Goals as goal
 

@@ -1,5 +1,5 @@
 use Rattle.std.proofs.Common.{◌≡◌}
-use Rattle.fr_plain.specs.Heap.{dropped, live, last_link, task_of}
+use Rattle.fr_plain.specs.Heap.{dropped, live, last_link}
 use Rattle.fr_meaning.proofs.heap.Heap.drop_plain.Given as goal
 
 abbrev pub invariant-links : goal.invariant-links

@@ -1,4 +1,4 @@
-use Rattle.std.proofs.Common.{◌≡◌, ◌<◌, ◌≤◌, List, Option, None, length, sym, ap, ◌∙◌, subst, arith}
+use Rattle.std.proofs.Common.{sym, ap, ◌∙◌, arith}
 use Rattle.fr_plain.specs.Heap.{cell_at}
 use Rattle.fr_meaning.specs.HeapRoom.{HeapRoom}
 use Rattle.fr_meaning.specs.HeapInside.{cells_of}

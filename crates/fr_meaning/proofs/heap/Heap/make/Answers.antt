@@ -1,8 +1,8 @@
-use Rattle.std.proofs.Common.{◌≡◌, ℕ, ◌<◌, ◌≤◌, ◌-◌, ◌++◌, ◌∷◌, [], List, Option, Some, None, length, refl, sym, ap, ◌∙◌, subst, arith, vec_capacity}
+use Rattle.std.proofs.Common.{◌≡◌, ℕ, ◌-◌, ◌++◌, ◌∷◌, [], List, Option, Some, length, sym, ap, ◌∙◌, subst, arith, vec_capacity}
 use Rattle.std.specs.Prelude.{vec_len, map}
 use Rattle.fr_base.specs.declared.label.Plain.{Plain}
 use Rattle.fr_base.specs.declared.name.ObjNo.{ObjNo}
-use Rattle.fr_plain.specs.Heap.{made_by, with_cells, next_object, with_object}
+use Rattle.fr_plain.specs.Heap.{made_by, next_object, with_object}
 use Rattle.fr_meaning.specs.HeapRoom.{HeapRoom, heap_by}
 use Rattle.fr_meaning.specs.HeapInside.{cells_of, IsReady}
 use Rattle.fr_meaning.proofs.HeapParts.{none_made, made_there, cells_set, cells_added, room_there}

@@ -1,4 +1,4 @@
-use Rattle.std.proofs.Common.{◌≡◌, ◌<◌, ◌≤◌, List, Option, None, length, sym, ap, ◌∙◌, subst, arith}
+use Rattle.std.proofs.Common.{Option, sym, ap, ◌∙◌, subst, arith}
 use Rattle.std.specs.Prelude.{slice_set, IsSome}
 use Rattle.fr_base.specs.declared.label.Plain.{Plain}
 use Rattle.fr_plain.specs.Heap.{cell_at, with_cell}

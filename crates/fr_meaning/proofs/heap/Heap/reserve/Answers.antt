@@ -1,6 +1,5 @@
-use Rattle.std.proofs.Common.{◌≡◌, ℕ, ◌+◌, ◌<◌, ◌≤◌, ◌-◌, List, Option, Some, None, length, get_or, sym, ap, ap₂, ◌∙◌, subst, arith, vec_capacity}
+use Rattle.std.proofs.Common.{◌≡◌, ℕ, ◌<◌, ◌-◌, Some, length, get_or, sym, ap, ap₂, ◌∙◌, subst, arith, vec_capacity}
 use Rattle.std.specs.Prelude.{vec_len, map, slice_set}
-use Rattle.fr_meaning.specs.Places.{place_of}
 use Rattle.fr_meaning.specs.HeapRoom.{HeapRoom, heap_by}
 use Rattle.fr_meaning.proofs.HeapParts.{same_cells, room_set, length_set}
 use Rattle.fr_meaning.proofs.heap.Heap.reserve.Goals as goal

@@ -1,4 +1,4 @@
-use Rattle.std.proofs.Common.{sym, ◌∙◌, ap, nat_eq, ◌≡◌, None, ℕ}
+use Rattle.std.proofs.Common.{◌∙◌, ap, nat_eq}
 use Rattle.std.specs.Prelude.{◌++◌, ◌∷◌, []}
 use Rattle.indexmap.specs.IndexSet.{insert_key}
 use Rattle.fr_meaning.specs.Places.{place_of, Numbers}

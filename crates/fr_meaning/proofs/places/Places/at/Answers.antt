@@ -1,4 +1,4 @@
-use Rattle.std.proofs.Common.{sym, ◌∙◌, ap, nat_eq}
+use Rattle.std.proofs.Common.{◌∙◌, ap, nat_eq}
 use Rattle.std.specs.List.{position}
 use Rattle.fr_meaning.specs.Places.{place_of, Numbers}
 use Rattle.fr_meaning.proofs.PlaceLemmas.{position_place}
