@@ -12,6 +12,7 @@ ghost use Rattle.fr_syntax.specs.Meanings.{term_of};
 ghost use Rattle.fr_plain.specs.Whole.{start, ending_of};
 ghost use Rattle.fr_plain.specs.Resolve.{program};
 ghost use Rattle.borrow_check.specs.Programs.{IsFault};
+ghost use Rattle.fr_sound.specs.NeverStuck.{IsTyped as IsTypedState};
 ghost use Rattle.fr_meaning.specs.PoolView.{whole_of, steps_left_of};
 ghost use Rattle.drust_main.specs.Headline.{IsTyped, Runs, Replies, limit};
 ghost use Rattle.drust_main.specs.Runs.{IsRefusedBy, Goes};
@@ -82,7 +83,8 @@ pub fn checked_source(alloc: Global, bytes: &[u8]) -> Result<Checked, Refused>
 
 /// Steps the main thread to its end, and counts the steps.
 fn run_to_end(pool: &mut Pool) -> Result<u64, NoMemory>
-    requires { steps_left_of pool.old < 2 ^ 64 }
+    requires few { steps_left_of pool.old < 2 ^ 64 }
+    requires typed { IsTypedState (whole_of pool.old) }
     ensures goes { IfOk result (λ k. Goes (whole_of pool.old) k (whole_of pool.new)) }
     ensures over { OnOk result (ending_of (whole_of pool.new) ≡ ending.Finished) }
 {

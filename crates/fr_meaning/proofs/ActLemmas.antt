@@ -183,5 +183,5 @@ pub silent : (a : Act) (s : State) (d : Did) → IsSilent a → act a s ≡ Some
 silent a s d h e = subst Silent e (act_silent a s h)
 
 -- the output of such an act is as before
-pub no_print : (a : Act) (s : State) (v : Value) (slots : List Value) (heap : Heap) (labels : List Label) (output : List ℤ) → IsSilent a → act a s ≡ did v slots heap labels → output ≡ output ++ prints labels
-no_print a s v slots heap labels output h e = sym (ap (λ ns. output ++ ns) (silent a s (record { value = v; state = state slots heap; labels = labels }) h e) ∙ append-nil output)
+pub no_print : (a : Act) (s : State) (v : Value) (t : ℕ) (slots : List Value) (heap : Heap) (labels : List Label) (output : List ℤ) → IsSilent a → act a s ≡ did v t slots heap labels → output ≡ output ++ prints labels
+no_print a s v t slots heap labels output h e = sym (ap (λ ns. output ++ ns) (silent a s (record { value = v; state = state t slots heap; labels = labels }) h e) ∙ append-nil output)

@@ -19,14 +19,13 @@ use Rattle.fr_typing.specs.Laws.{IsTyped}
 use Rattle.fr_plain.specs.Whole.{start}
 use Rattle.fr_sound.specs.NeverStuck.{IsTyped as IsTypedState}
 use Rattle.fr_sound.proofs.Whole.{starts_typed_lem}
-use Rattle.fr_plain.specs.Resolve.{lets_in, before, resolve, resolve_items, program, env_after}
+use Rattle.fr_plain.specs.Resolve.{lets_in, before, resolve, resolve_items, program, env_after, env_of_all}
 use Rattle.fr_meaning.specs.declared.forms.Form.{Form}
 use Rattle.fr_meaning.specs.declared.forms.Form.TheVariants as form
 use Rattle.fr_meaning.specs.Contexts.{depth, depth_in}
 use Rattle.fr_meaning.specs.FormTerms as forms
 use Rattle.fr_meaning.specs.FormTerms.{build, run_at, NamesBelow, AreStacked, AreInOrder}
 use Rattle.fr_meaning.specs.SlotOrder.{onto, newest_first}
-use Rattle.fr_meaning.specs.PoolView as pool
 use Rattle.borrow_check.specs.Programs.{Program, takes_of, IsBlock, IsChecked}
 use Rattle.fr_meaning.specs.Forming.{place_in, clipped, count_at, count_of, IsBlockOf, IsMade}
 use Rattle.fr_meaning.specs.Resolved.{IsTypedIn, IsRun, AreCounts, IsBuilt}
@@ -88,6 +87,8 @@ block_counted cs items (form.Box v) h = absurd h
 block_counted cs items (form.Let v) h = absurd h
 block_counted cs items (form.Print v) h = absurd h
 block_counted cs items (form.Assign w v) h = absurd h
+block_counted cs items (form.Join v) h = absurd h
+block_counted cs items (form.Spawn ds b k) h = absurd h
 block_counted cs items form.Place h = absurd h
 
 -- the forms of a term of this node
@@ -206,7 +207,7 @@ root_typed p h sequential = record {
 }
 
 -- the last form's term is the program
-pub root_built : (p : Program) (fs : List Form) (cs : List ℕ) → IsChecked p → IsSequential (term_of p.arena) → IsBuilt p fs cs → length fs ≡ length (meanings p.arena) → pool.root_of fs ≡ program (term_of p.arena)
+pub root_built : (p : Program) (fs : List Form) (cs : List ℕ) → IsChecked p → IsSequential (term_of p.arena) → IsBuilt p fs cs → length fs ≡ length (meanings p.arena) → forms.root_of fs ≡ program (term_of p.arena)
 root_built p fs cs h sequential b all =
     let long = length_meanings p.arena in
     let at : length fs - 1 ≡ root_of p.arena = omega (arith, all, long) in
@@ -236,7 +237,7 @@ mutual
   depth_few (mutex_t at t) e = omega arith
   depth_few (dup_t at w) e = omega arith
   depth_few (lock_t at w x t) e = omega arith
-  depth_few (spawn_t at cs t) e = omega arith
+  depth_few (spawn_t at cs t) e = omega (arith, depth_few t (env_of_all e cs))
   depth_few (par_t at cs t ds u) e = omega arith
 
   items_few : (ts : Items) (e : Env) → depth_in (resolve_items ts e) ≤ levels_of ts
@@ -247,7 +248,7 @@ mutual
 pub program_depth : (t : terms.Term) → IsWithinLimits t → depth (program t) ≤ 64
 program_depth t h = omega (arith, depth_few t [], h.depth)
 
-pub root_depth : (fs : List Form) (t : terms.Term) → IsWithinLimits t → pool.root_of fs ≡ program t → depth (pool.root_of fs) ≤ 64
+pub root_depth : (fs : List Form) (t : terms.Term) → IsWithinLimits t → forms.root_of fs ≡ program t → depth (forms.root_of fs) ≤ 64
 root_depth fs t h e = omega (arith, ap depth e, program_depth t h)
 
 -- TYPED
@@ -272,5 +273,5 @@ starts (lock_t at w x t) b ok h = absurd b
 starts (spawn_t at cs t) b ok h = absurd b
 starts (par_t at cs t ds u) b ok h = absurd b
 
-pub root_starts : (fs : List Form) (t : terms.Term) → IsBlock t → IsSequential t → IsTyped [] t → pool.root_of fs ≡ program t → IsTypedState (start (pool.root_of fs))
+pub root_starts : (fs : List Form) (t : terms.Term) → IsBlock t → IsSequential t → IsTyped [] t → forms.root_of fs ≡ program t → IsTypedState (start (forms.root_of fs))
 root_starts fs t b ok h e = subst (λ (r : Run). IsTypedState (start r)) (sym e) (starts t b ok h)

@@ -2,13 +2,14 @@
 use Rattle.std.proofs.Common.{◌≡◌, zero, suc, ◌<◌, ◌≤◌, List, [], ◌∷◌, Option, Some, None, refl, ap, ◌∙◌, arith}
 use Rattle.fr_plain.specs.Run.{Run, block, last, more, going, after, now, now_parts, settle, Move, next, move}
 use Rattle.fr_meaning.specs.declared.frame.Done.TheVariants as done
-use Rattle.fr_meaning.specs.Contexts.{Around, in_box, in_bind, in_print, in_assign, in_left, in_right, in_last, in_more, fill, wrap, depth, IsSettled}
+use Rattle.fr_meaning.specs.Contexts.{Around, in_box, in_bind, in_print, in_join, in_assign, in_left, in_right, in_last, in_more, fill, wrap, depth, IsSettled}
 
 -- a term around one that goes on goes on
 pub now_fill : (c : Around) (r : Run) → now r ≡ going → now (fill c r) ≡ going
 now_fill in_box r h = refl
 now_fill in_bind r h = refl
 now_fill in_print r h = refl
+now_fill in_join r h = refl
 now_fill (in_assign w) r h = refl
 now_fill (in_left f b) r h = refl
 now_fill (in_right f d) r h = refl
@@ -37,6 +38,7 @@ pub move_fill : (c : Around) (r : Run) → now r ≡ going → move (fill c r) �
 move_fill in_box r h = rw h refl
 move_fill in_bind r h = rw h refl
 move_fill in_print r h = rw h refl
+move_fill in_join r h = rw h refl
 move_fill (in_assign w) r h = rw h refl
 move_fill (in_left f b) r h = rw h refl
 move_fill (in_right f done.Unit) r h = rw h refl
@@ -55,6 +57,7 @@ pub settle_fill : (c : Around) (r : Run) → now (settle r) ≡ going → settle
 settle_fill in_box r h = refl
 settle_fill in_bind r h = refl
 settle_fill in_print r h = refl
+settle_fill in_join r h = refl
 settle_fill (in_assign w) r h = refl
 settle_fill (in_left f b) r h = rw h refl
 settle_fill (in_right f done.Unit) r h = refl
@@ -77,6 +80,7 @@ pub settle_same_fill : (c : Around) (r q : Run) → settle r ≡ settle q → se
 settle_same_fill in_box r q h = rw h refl
 settle_same_fill in_bind r q h = rw h refl
 settle_same_fill in_print r q h = rw h refl
+settle_same_fill in_join r q h = rw h refl
 settle_same_fill (in_assign w) r q h = rw h refl
 settle_same_fill (in_left f b) r q h = rw h refl
 settle_same_fill (in_right f done.Unit) r q h = rw h refl
@@ -91,10 +95,11 @@ settle_same [] r q h = h
 settle_same (c ∷ cs) r q h = settle_same_fill c (wrap cs r) (wrap cs q) (settle_same cs r q h)
 
 -- a settled term has settled parts
-settled_fill : (c : Around) (r : Run) → IsSettled (fill c r) → IsSettled r
+pub settled_fill : (c : Around) (r : Run) → IsSettled (fill c r) → IsSettled r
 settled_fill in_box r h = h
 settled_fill in_bind r h = h
 settled_fill in_print r h = h
+settled_fill in_join r h = h
 settled_fill (in_assign w) r h = h
 settled_fill (in_left f b) r h = h.0
 settled_fill (in_right f done.Unit) r h = h.1
@@ -113,6 +118,7 @@ depth_fill : (c : Around) (q r : Run) → depth q ≤ depth r → depth (fill c 
 depth_fill in_box q r h = omega arith
 depth_fill in_bind q r h = omega arith
 depth_fill in_print q r h = omega arith
+depth_fill in_join q r h = omega arith
 depth_fill (in_assign w) q r h = omega arith
 depth_fill (in_left f b) q r h = omega arith
 depth_fill (in_right f d) q r h = omega arith
@@ -124,6 +130,7 @@ pub depth_above : (c : Around) (r : Run) → depth r < depth (fill c r)
 depth_above in_box r = omega arith
 depth_above in_bind r = omega arith
 depth_above in_print r = omega arith
+depth_above in_join r = omega arith
 depth_above (in_assign w) r = omega arith
 depth_above (in_left f b) r = omega arith
 depth_above (in_right f d) r = omega arith

@@ -2,11 +2,11 @@
 use Rattle.std.proofs.Common.{◌≡◌, ◌≢◌, ℕ, zero, suc, ◌+◌, ◌<◌, ◌≤◌, Bool, true, false, List, [], ◌∷◌, length, get_or, drop, Option, Some, None, refl, sym, ap, ap₂, ◌∙◌, subst, arith, add-one, drop-cons, ⊎_elim}
 use Rattle.std.specs.Prelude.{◌==◌, if◌then◌else◌}
 use Rattle.std.proofs.lemmas.Bool.Decides.{eqb_tells}
-use Rattle.fr_plain.specs.Run.{Run, box_r, arith as arith_r, bind, print, assign, block, last, more}
+use Rattle.fr_plain.specs.Run.{Capture, Run, box_r, arith as arith_r, bind, print, assign, block, spawn, join_r, last, more}
 use Rattle.fr_meaning.specs.declared.forms.Form.{Form}
 use Rattle.fr_meaning.specs.declared.forms.Form.TheVariants as form
 use Rattle.fr_meaning.specs.SlotOrder.{onto, newest_first}
-use Rattle.fr_meaning.specs.FormTerms.{parts_from, parts_of, build, run_at, term_of, AllBelow, NamesBelow, AreStacked, AreInOrder, items_in, items_at}
+use Rattle.fr_meaning.specs.FormTerms.{IsSpawn, captures_of, parts_from, parts_of, build, run_at, term_of, AllBelow, NamesBelow, AreStacked, AreInOrder, items_in, items_at}
 
 -- a choice by whether two numbers are equal
 pub eq_cases : (P : Bool → Type 0) (a b : ℕ) → (a ≡ b → P true) → (a ≢ b → P false) → P (a == b)
@@ -36,9 +36,11 @@ build_same n a b (form.Borrow w is_mut) s h = refl
 build_same n a b (form.Box t) s h = ap box_r (s t h)
 build_same n a b (form.Let t) s h = ap bind (s t h)
 build_same n a b (form.Print t) s h = ap print (s t h)
+build_same n a b (form.Join t) s h = ap join_r (s t h)
 build_same n a b (form.Assign w t) s h = ap (assign w) (s t h)
 build_same n a b (form.Arith f left right) s h = ap₂ (arith_r f) (s left h.0) (s right h.1)
 build_same n a b (form.Block items lets) s h = ap (block lets) (parts_same n a b items.items s h)
+build_same n a b (form.Spawn cs body drops) s h = ap (λ r. spawn (captures_of cs.items) (block drops (last r))) (s body h)
 build_same n a b form.Place s h = refl
 
 -- the form of that number
@@ -74,9 +76,11 @@ NamesBelow-weaker m n (form.Borrow w is_mut) le h = h
 NamesBelow-weaker m n (form.Box t) le h = omega arith
 NamesBelow-weaker m n (form.Let t) le h = omega arith
 NamesBelow-weaker m n (form.Print t) le h = omega arith
+NamesBelow-weaker m n (form.Join t) le h = omega arith
 NamesBelow-weaker m n (form.Assign w t) le h = omega arith
 NamesBelow-weaker m n (form.Arith f left right) le h = (omega (arith, h.0), omega (arith, h.1))
 NamesBelow-weaker m n (form.Block items lets) le h = AllBelow-weaker m n items.items le h
+NamesBelow-weaker m n (form.Spawn cs body drops) le h = omega arith
 NamesBelow-weaker m n form.Place le h = h
 
 -- a form names lower forms
@@ -128,7 +132,7 @@ pub form_below : (ns : List Form) (i : ℕ) (e m : Form) → AreInOrder ns → i
 form_below ns i e m a lt is h = subst (NamesBelow i) h (form_is_below (newest_first ns) i e a (newest_form ns i e lt is))
 
 -- inside a list no default is used
-get_or-any : (ns : List Form) (i : ℕ) (d e : Form) → i < length ns → get_or ns i d ≡ get_or ns i e
+pub get_or-any : (ns : List Form) (i : ℕ) (d e : Form) → i < length ns → get_or ns i d ≡ get_or ns i e
 get_or-any [] i d e lt = absurd (omega arith)
 get_or-any (n ∷ ns) zero d e lt = refl
 get_or-any (n ∷ ns) (suc i) d e lt = get_or-any ns i d e (omega arith)
@@ -136,6 +140,30 @@ get_or-any (n ∷ ns) (suc i) d e lt = get_or-any ns i d e (omega arith)
 -- the items of the form that stands there
 pub items_here : (ns : List Form) (i : ℕ) (e m : Form) → i < length ns → e ≡ get_or ns i e → e ≡ m → items_at ns i ≡ items_in m
 items_here ns i e m lt is h = ap items_in (get_or-any ns i form.Unit e lt ∙ sym is ∙ h)
+
+-- the form that stands there starts a thread
+pub spawn_here : (ns : List Form) (i : ℕ) (e m : Form) → i < length ns → e ≡ get_or ns i e → e ≡ m → IsSpawn m → IsSpawn (get_or ns i form.Unit)
+spawn_here ns i e m lt is h s = subst IsSpawn (sym (get_or-any ns i form.Unit e lt ∙ sym is ∙ h)) s
+
+-- its term starts one
+pub spawn_run : (ns : List Form) (i : ℕ) → AreInOrder ns → i < length ns → IsSpawn (get_or ns i form.Unit) → (cs : List Capture) × (r : Run) × (term_of ns i ≡ spawn cs r)
+spawn_run ns i a lt s = by (get_or ns i form.Unit) refl
+  where
+    by : (m : Form) → get_or ns i form.Unit ≡ m → (cs : List Capture) × (r : Run) × (term_of ns i ≡ spawn cs r)
+    by (form.Spawn cs body drops) q =
+        (captures_of cs.items, block drops (last (term_of ns body)), form_term ns i (get_or ns i form.Unit) (form.Spawn cs body drops) a lt (get_or-any ns i form.Unit (get_or ns i form.Unit) lt) q)
+    by (form.Number x) q = absurd (subst IsSpawn q s)
+    by form.Unit q = absurd (subst IsSpawn q s)
+    by (form.Read w take) q = absurd (subst IsSpawn q s)
+    by (form.Borrow w is_mut) q = absurd (subst IsSpawn q s)
+    by (form.Box x) q = absurd (subst IsSpawn q s)
+    by (form.Let x) q = absurd (subst IsSpawn q s)
+    by (form.Print x) q = absurd (subst IsSpawn q s)
+    by (form.Join x) q = absurd (subst IsSpawn q s)
+    by (form.Assign w x) q = absurd (subst IsSpawn q s)
+    by (form.Arith f x y) q = absurd (subst IsSpawn q s)
+    by (form.Block items lets) q = absurd (subst IsSpawn q s)
+    by form.Place q = absurd (subst IsSpawn q s)
 
 -- each item is below what all are below
 below_at : (n : ℕ) (is : List ℕ) (k d : ℕ) → k < length is → AllBelow n is → get_or is k d < n
@@ -156,8 +184,10 @@ item_below ns at is k a lt e h = by (get_or ns at form.Unit) refl
     all (form.Box x) q = tt
     all (form.Let x) q = tt
     all (form.Print x) q = tt
+    all (form.Join x) q = tt
     all (form.Assign w x) q = tt
     all (form.Arith f x y) q = tt
+    all (form.Spawn cs body drops) q = (form_below ns at (get_or ns at form.Unit) (form.Spawn cs body drops) a lt (get_or-any ns at form.Unit (get_or ns at form.Unit) lt) q, tt)
     all form.Place q = tt
 
     by : (m : Form) → get_or ns at form.Unit ≡ m → get_or is k 0 < at

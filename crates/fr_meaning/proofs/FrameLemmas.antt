@@ -37,7 +37,7 @@ inside_front n [] g a = (tt, a.0)
 inside_front n (h ∷ gs) g a = let i = inside_front n gs g a.1 in ((a.0, i.0), i.1)
 
 -- there are no more frames than the term is deep
-length_depth : (fs : List Form) (gs : List Frame) (r : Run) → length gs + depth r ≤ depth (wrapped fs gs r)
+pub length_depth : (fs : List Form) (gs : List Frame) (r : Run) → length gs + depth r ≤ depth (wrapped fs gs r)
 length_depth fs [] r = omega arith
 length_depth fs (g ∷ gs) r = omega (arith, length_depth fs gs r, depth_above (around fs g) (wrapped fs gs r))
 
@@ -170,6 +170,7 @@ pub last_part_waits : (fs : List Form) (g : Frame) (r : Run) → HasLastPart g �
 last_part_waits fs frame.Box r h = refl
 last_part_waits fs frame.Let r h = refl
 last_part_waits fs frame.Print r h = refl
+last_part_waits fs frame.Join r h = refl
 last_part_waits fs (frame.Assign w) r h = refl
 last_part_waits fs (frame.Right f d) r h = refl
 last_part_waits fs (frame.Left f right) r h = absurd h
@@ -180,6 +181,7 @@ pub last_part_settles : (fs : List Form) (g : Frame) (r : Run) → HasLastPart g
 last_part_settles fs frame.Box r h = refl
 last_part_settles fs frame.Let r h = refl
 last_part_settles fs frame.Print r h = refl
+last_part_settles fs frame.Join r h = refl
 last_part_settles fs (frame.Assign w) r h = refl
 last_part_settles fs (frame.Right f done.Unit) r h = refl
 last_part_settles fs (frame.Right f (done.Number n)) r h = refl
@@ -192,6 +194,7 @@ pub last_part_past : (g : Frame) → HasLastPart g → IsPastLeft g
 last_part_past frame.Box h = tt
 last_part_past frame.Let h = tt
 last_part_past frame.Print h = tt
+last_part_past frame.Join h = tt
 last_part_past (frame.Assign w) h = tt
 last_part_past (frame.Right f d) h = tt
 last_part_past (frame.Left f right) h = absurd h
@@ -237,7 +240,7 @@ pub entered_waits : (fs : List Form) (old new : List Frame) (r : Run) (x : Enter
 entered_waits fs old new r x f h i = (subst (λ (y : Entered). Enters fs old new r y) i h).0
 
 -- where what was entered waits, no left operand that is done is waited for
-pub waits_way : (fs : List Form) (old new : List Frame) (r : Run) (x : Entered) (f : Focus) → Enters fs old new r x → x ≡ entered.Waits f → HasMadeWay new f
+pub waits_way : (fs : List Form) (old new : List Frame) (r : Run) (x : Entered) (f : Focus) → Enters fs old new r x → x ≡ entered.Waits f → HasMadeWay fs new f
 waits_way fs old new r x f h i = (subst (λ (y : Entered). Enters fs old new r y) i h).2
 
 -- the frame stays on top
@@ -255,7 +258,7 @@ pub frame_ended : (fs : List Form) (gs : List Frame) (r : Run) (d : Done) → se
 frame_ended fs gs r d h = settle_same (all_around fs gs) (over d) r (settle_over d ∙ sym h)
 
 -- what was entered waits: the whole is settled
-pub frame_waits : (fs : List Form) (gs new : List Frame) (r : Run) (x : Entered) (f : Focus) → Enters fs gs new (settle r) x → x ≡ entered.Waits f → wrapped fs new (focus_run f) ≡ settle (wrapped fs gs r)
+pub frame_waits : (fs : List Form) (gs new : List Frame) (r : Run) (x : Entered) (f : Focus) → Enters fs gs new (settle r) x → x ≡ entered.Waits f → wrapped fs new (focus_run fs f) ≡ settle (wrapped fs gs r)
 frame_waits fs gs new r x f h i =
     let g = subst (λ (y : Entered). Enters fs gs new (settle r) y) i h in
     g.1 ∙ sym (settle_wrap (all_around fs gs) r g.0)
@@ -265,12 +268,12 @@ pub not_below : (b : Bool) (k n : ℕ) → (IsTrue b ↔ (k < n)) → b ≡ fals
 not_below b k n h f = grind arith
 
 -- what was entered with no frame around it
-pub enters_first : (fs : List Form) (old new : List Frame) (r : Run) (x : Entered) → old ≡ [] → Enters fs old new r x → wrapped fs new (focus_run (focus_of x)) ≡ r
+pub enters_first : (fs : List Form) (old new : List Frame) (r : Run) (x : Entered) → old ≡ [] → Enters fs old new r x → wrapped fs new (focus_run fs (focus_of x)) ≡ r
 enters_first fs old new r (entered.Ended d) o h = ap (λ ks. wrapped fs ks (over d)) (h.1 ∙ o) ∙ sym h.0
 enters_first fs old new r (entered.Waits f) o h = h.1 ∙ ap (λ ks. wrapped fs ks r) o
 
 -- nor is then a left operand that is done waited for
-pub first_way : (fs : List Form) (old new : List Frame) (r : Run) (x : Entered) → old ≡ [] → Enters fs old new r x → HasMadeWay new (focus_of x)
+pub first_way : (fs : List Form) (old new : List Frame) (r : Run) (x : Entered) → old ≡ [] → Enters fs old new r x → HasMadeWay fs new (focus_of x)
 first_way fs old new r (entered.Ended d) o h = subst TopIsPastLeft (sym (h.1 ∙ o)) tt
 first_way fs old new r (entered.Waits f) o h = h.2
 
@@ -283,6 +286,7 @@ pub last_part : (g : Frame) → ((f : Op) (right : ℕ) → g ≡ frame.Left f r
 last_part frame.Box l h = tt
 last_part frame.Let l h = tt
 last_part frame.Print l h = tt
+last_part frame.Join l h = tt
 last_part (frame.Assign w) l h = tt
 last_part (frame.Right f d) l h = tt
 last_part (frame.Left f right) l h = l f right refl

@@ -4,7 +4,7 @@ use Rattle.std.specs.Prelude.{slice_get, slice_set, if◌then◌else◌}
 use Rattle.fr_base.specs.declared.label.Plain.{Plain}
 use Rattle.fr_base.specs.declared.label.Plain.TheVariants as plain
 use Rattle.fr_base.specs.declared.name.ObjNo.{ObjNo}
-use Rattle.fr_plain.specs.Heap.{Heap, made_by, flat, cell_at, with_cells, with_cell, count_cells, live, then_drop, drop_links, dropped}
+use Rattle.fr_plain.specs.Heap.{Heap, made_by, flat, cell_at, with_cells, with_cell, count_cells, live, then_drop, drop_links, dropped, then_link, last_link, task_of}
 use Rattle.fr_meaning.proofs.FormLemmas.{eq_cases}
 
 -- one object less lives
@@ -43,3 +43,30 @@ dropped_none h o e = by (live h)
     by : (n : ℕ) → drop_links n h (plain.Box o) ≡ h
     by zero = refl
     by (suc n) = ap (λ c. then_drop c h (drop_links n (with_cell h o None))) e
+
+-- at the end of a box stands what stands at the end of what was in it
+pub link_box : (h : Heap) (o : ObjNo) (v : Plain) → cell_at h o ≡ Some v → last_link (live h) h (plain.Box o) ≡ last_link (live (with_cell h o None)) (with_cell h o None) v
+link_box h o v e =
+    let n : live h ≡ suc (live (with_cell h o None)) = omega (arith, live_without h o v e) in
+    ap (λ k. last_link k h (plain.Box o)) n ∙ ap (λ c. then_link c (last_link (live (with_cell h o None)) (with_cell h o None))) e
+
+-- a box of no object has no task at its end
+pub link_none : (h : Heap) (o : ObjNo) → cell_at h o ≡ None → task_of (last_link (live h) h (plain.Box o)) ≡ None
+link_none h o e = by (live h)
+  where
+    by : (n : ℕ) → task_of (last_link n h (plain.Box o)) ≡ None
+    by zero = refl
+    by (suc n) = ap (λ c. task_of (then_link c (last_link n (with_cell h o None)))) e
+
+-- what is no box is its own end
+pub link_end : (h : Heap) (v : Plain) → ((o : ObjNo) → v ≡ plain.Box o → ⊥) → last_link (live h) h v ≡ v
+link_end h v n = by (live h) v n
+  where
+    by : (k : ℕ) (v : Plain) → ((o : ObjNo) → v ≡ plain.Box o → ⊥) → last_link k h v ≡ v
+    by zero v n = refl
+    by (suc k) plain.Nothing n = refl
+    by (suc k) plain.Unit n = refl
+    by (suc k) (plain.Int i) n = refl
+    by (suc k) (plain.Box o) n = absurd (n o refl)
+    by (suc k) (plain.Mutex m) n = refl
+    by (suc k) (plain.Task t) n = refl

@@ -1,27 +1,19 @@
--- Forms start and join no threads: the one thread takes no names, never waits, and lets no thread go.
-use Rattle.std.proofs.Common.{◌≡◌, ℕ, zero, suc, Bool, true, false, List, [], ◌∷◌, drop, Option, Some, None, refl, ap, ◌∙◌}
-use Rattle.std.specs.Prelude.{⊤, ◌==◌, length, if◌then◌else◌}
+-- Terms of one thread's types start and join no threads: the one thread takes no names, never waits, and lets no thread go.
+use Rattle.std.proofs.Common.{◌≡◌, ℕ, zero, suc, Bool, true, false, [], ◌∷◌, Option, Some, None, refl, ap, ◌∙◌}
+use Rattle.std.specs.Prelude.{⊤, ◌==◌, if◌then◌else◌}
 use Rattle.fr_base.specs.declared.step.Fresh.TheVariants as fresh
 use Rattle.fr_plain.specs.declared.value.Value.{Value}
 use Rattle.fr_plain.specs.Acts.{Act, do_let, do_read, do_borrow, do_assign, do_box, do_arith, do_print, do_discard, do_drop, do_end, do_spawn, do_join, do_finish, do_leave}
 use Rattle.fr_plain.specs.Run as run
-use Rattle.fr_plain.specs.Run.{Run, temp, unit_c, number, read, borrow, box_r, arith, bind, print, assign, block, spawn, join_r, Parts, last, more, Now, going, constant, temporary, on_value, by_now, now, now_parts, Move, next, alone, block_end, move, move_parts, Life, alive, owing, loose, ended, settle_life, life_move}
+use Rattle.fr_plain.specs.Run.{Run, temp, unit_c, number, read, borrow, box_r, arith, bind, print, assign, block, spawn, join_r, Parts, last, more, Now, going, constant, temporary, after, at_end, on_value, by_now, now, now_parts, Move, next, alone, block_end, move, move_parts, Life, alive, owing, loose, ended, settle_life, life_move}
 use Rattle.fr_plain.specs.Threads.{act_waits, move_waits, released, released_in}
 use Rattle.fr_plain.specs.Whole.{Thread, Whole, thread_at, let_threads_go, alone_stepped, done_act, starts_thread, takes_name}
-use Rattle.fr_meaning.specs.declared.forms.Form.{Form}
-use Rattle.fr_meaning.specs.declared.forms.Form.TheVariants as form
-use Rattle.fr_meaning.specs.declared.frame.Done.{Done}
-use Rattle.fr_meaning.specs.declared.frame.Done.TheVariants as done
-use Rattle.fr_meaning.specs.declared.frame.Frame.{Frame}
-use Rattle.fr_meaning.specs.declared.frame.Frame.TheVariants as frame
-use Rattle.fr_meaning.specs.declared.frame.Focus.{Focus}
-use Rattle.fr_meaning.specs.declared.frame.Focus.TheVariants as focus
-use Rattle.fr_meaning.specs.Contexts.{fill}
-use Rattle.fr_meaning.specs.DoneTerms.{over}
-use Rattle.fr_meaning.specs.FormTerms.{parts_from, parts_of, build, run_at, term_of, items_at}
-use Rattle.fr_meaning.specs.FrameTerms.{around_items, around, wrapped, focus_run}
-use Rattle.fr_meaning.specs.PoolView.{View, run_of, life_of}
-use Rattle.fr_meaning.specs.SlotOrder.{newest_first}
+use Rattle.fr_typing.specs.Kinds.{Kind, own, int}
+use Rattle.fr_typing.specs.Places.{Env}
+use Rattle.fr_plain.specs.State.{State}
+use Rattle.fr_plain.specs.Whole.{state_of}
+use Rattle.fr_sound.specs.RunTypes.{one_thread, RunTypes, PartsTypes, IsNumber, t_box, t_left, t_right, t_let, t_print, t_assign, t_block, p_last, p_more}
+use Rattle.fr_sound.specs.NeverStuck.{IsTyped, IsTypedLife}
 
 -- TERMS
 
@@ -46,77 +38,89 @@ abbrev mutual
   AreLone (last r) = IsLone r
   AreLone (more r is) = IsLone r × AreLone is
 
--- so it is with an item and those after it
-from_lone : (look : ℕ → Run) (i : ℕ) (is : List ℕ) → ((j : ℕ) → IsLone (look j)) → AreLone (parts_from look i is)
-from_lone look i [] h = h i
-from_lone look i (j ∷ is) h = (h i, from_lone look j is h)
+-- BY TYPES
 
--- with the items of a block
-parts_lone : (look : ℕ → Run) (is : List ℕ) → ((j : ℕ) → IsLone (look j)) → AreLone (parts_of look is)
-parts_lone look [] h = tt
-parts_lone look (i ∷ is) h = from_lone look i is h
+-- whether a term of these outcomes is done
+abbrev IsOver : Now → Type 0
+IsOver going = ⊥
+IsOver (constant v) = ⊤
+IsOver (temporary v) = ⊤
 
--- with a form's term
-build_lone : (look : ℕ → Run) (f : Form) → ((j : ℕ) → IsLone (look j)) → IsLone (build look f)
-build_lone look (form.Number n) h = tt
-build_lone look form.Unit h = tt
-build_lone look (form.Read w take) h = tt
-build_lone look (form.Borrow w is_mut) h = tt
-build_lone look (form.Box value) h = h value
-build_lone look (form.Let value) h = h value
-build_lone look (form.Print value) h = h value
-build_lone look (form.Assign w value) h = h value
-build_lone look (form.Arith f left right) h = (h left, h right)
-build_lone look (form.Block items lets) h = parts_lone look items.items h
-build_lone look form.Place h = tt
+after_over : (n m : Now) → IsOver (after n m) → IsOver n × IsOver m
+after_over going m h = absurd h
+after_over (constant v) m h = (tt, h)
+after_over (temporary v) m h = absurd h
 
--- with one of two terms
-either_lone : (b : Bool) (r q : Run) → IsLone r → IsLone q → IsLone (if b then r else q)
-either_lone true r q h g = h
-either_lone false r q h g = g
+end_over : (k : ℕ) (n : Now) → IsOver (at_end k n) → IsOver n
+end_over zero n h = h
+end_over (suc k) n h = absurd h
 
--- with the term of a form's number
-run_lone : (fs : List Form) (i : ℕ) → IsLone (run_at fs i)
-run_lone [] i = tt
-run_lone (f ∷ below) i = either_lone (i == length below) (build (run_at below) f) (run_at below i) (build_lone (run_at below) f (λ j. run_lone below j)) (run_lone below i)
+mutual
+  -- a term that is done starts and joins none
+  over_lone : (r : Run) → IsOver (now r) → IsLone r
+  over_lone (temp v) h = tt
+  over_lone unit_c h = tt
+  over_lone (number n) h = tt
+  over_lone (read w take) h = tt
+  over_lone (borrow w is_mut) h = tt
+  over_lone (box_r r) h = absurd h
+  over_lone (arith f a b) h = absurd h
+  over_lone (bind r) h = absurd h
+  over_lone (print r) h = absurd h
+  over_lone (assign w r) h = absurd h
+  over_lone (block k is) h = all_over_lone is (end_over k (now_parts is) h)
+  over_lone (spawn cs r) h = absurd h
+  over_lone (join_r r) h = absurd h
 
-term_lone : (fs : List Form) (i : ℕ) → IsLone (term_of fs i)
-term_lone fs i = run_lone (newest_first fs) i
+  all_over_lone : (is : Parts) → IsOver (now_parts is) → AreLone is
+  all_over_lone (last r) h = over_lone r h
+  all_over_lone (more r is) h = let g = after_over (now r) (now_parts is) h in (over_lone r g.0, all_over_lone is g.1)
 
--- with a term that is done
-over_lone : (d : Done) → IsLone (over d)
-over_lone done.Unit = tt
-over_lone (done.Number n) = tt
-over_lone (done.Temp v) = tt
+number_over : (n : Now) → IsNumber n → IsOver n
+number_over going h = absurd h
+number_over (constant v) h = tt
+number_over (temporary v) h = tt
 
--- with a block around such an item
-items_lone : (left : ℕ) (look : ℕ → Run) (is : List ℕ) (r : Run) → ((j : ℕ) → IsLone (look j)) → IsLone r → IsLone (fill (around_items left look is) r)
-items_lone left look [] r h g = g
-items_lone left look (i ∷ is) r h g = (g, from_lone look i is h)
+mutual
+  -- nor does a term of one thread's types
+  typed_lone : (e : Env) (o : Option Kind) (r : Run) (k : Kind) (e2 : Env) → RunTypes one_thread e o r k e2 → IsLone r
+  typed_lone e o (temp v) k e2 h = tt
+  typed_lone e o unit_c k e2 h = tt
+  typed_lone e o (number n) k e2 h = tt
+  typed_lone e o (read w take) k e2 h = tt
+  typed_lone e o (borrow w is_mut) k e2 h = tt
+  typed_lone e o (box_r r) _ e2 (t_box {x = x} h) = typed_lone e o r (own x) e2 h
+  typed_lone e o (arith f a b) _ e2 (t_left {e1 = e1} n h g) = (typed_lone e o a (own int) e1 h, typed_lone e1 None b (own int) e2 g)
+  typed_lone e o (arith f a b) _ e2 (t_right n h) = (over_lone a (number_over (now a) n), typed_lone e o b (own int) e2 h)
+  typed_lone e o (bind r) _ _ (t_let {e1 = e1} {k = k} name h) = typed_lone e o r k e1 h
+  typed_lone e o (print r) _ e2 (t_print h) = typed_lone e o r (own int) e2 h
+  typed_lone e o (assign w r) _ e2 (t_assign {e1 = e1} {k = k} h g) = typed_lone e o r k e1 h
+  typed_lone e o (block n is) k e2 (t_block {e1 = e1} h f g) = parts_typed_lone e o is k e1 h
+  typed_lone e o (spawn cs r) k e2 h = elim h [ ]
+  typed_lone e o (join_r r) k e2 h = elim h [ ]
 
--- with a frame around such a term
-around_lone : (fs : List Form) (g : Frame) (r : Run) → IsLone r → IsLone (fill (around fs g) r)
-around_lone fs frame.Box r h = h
-around_lone fs frame.Let r h = h
-around_lone fs frame.Print r h = h
-around_lone fs (frame.Assign w) r h = h
-around_lone fs (frame.Left f right) r h = (h, term_lone fs right)
-around_lone fs (frame.Right f left) r h = (over_lone left, h)
-around_lone fs (frame.Block left node next) r h = items_lone left (term_of fs) (drop next (items_at fs node)) r (term_lone fs) h
+  parts_typed_lone : (e : Env) (o : Option Kind) (is : Parts) (k : Kind) (e2 : Env) → PartsTypes one_thread e o is k e2 → AreLone is
+  parts_typed_lone e o (last r) k e2 (p_last h) = typed_lone e o r k e2 h
+  parts_typed_lone e o (more r is) l e2 (p_more {e1 = e1} {k = k} h g) = (typed_lone e o r k e1 h, parts_typed_lone e1 None is l e2 g)
 
--- and with frames
-wrapped_lone : (fs : List Form) (gs : List Frame) (r : Run) → IsLone r → IsLone (wrapped fs gs r)
-wrapped_lone fs [] r h = h
-wrapped_lone fs (g ∷ gs) r h = around_lone fs g (wrapped fs gs r) (wrapped_lone fs gs r h)
+-- a life of one thread's types
+abbrev pub IsLoneLife : Life → Type 0
+IsLoneLife (alive r) = IsLone r
+IsLoneLife run.over = ⊤
+IsLoneLife (owing r) = ⊥
+IsLoneLife (loose r) = ⊥
+IsLoneLife (ended v) = ⊥
 
-focus_lone : (f : Focus) → IsLone (focus_run f)
-focus_lone (focus.Over d) = over_lone d
-focus_lone (focus.Read w take) = tt
-focus_lone (focus.Borrow w is_mut) = tt
+life_lone : (l : Life) (st : State) → IsTypedLife l st → IsLoneLife l
+life_lone (alive r) st h = typed_lone h.env h.temp r h.type [] h.types
+life_lone run.over st h = tt
+life_lone (owing r) st h = h
+life_lone (loose r) st h = h
+life_lone (ended v) st h = h
 
--- a pool's running term starts and joins no thread
-pub pool_lone : (v : View) → IsLone (run_of v)
-pool_lone v = wrapped_lone v.forms v.frames (focus_run v.focus) (focus_lone v.focus)
+-- the thread of a typed state starts and joins none
+pub state_lone : (s : Whole) (y : IsTyped s) → IsLoneLife y.thread.life
+state_lone s y = life_lone y.thread.life (state_of s y.thread) y.life
 
 -- MOVES
 
@@ -185,12 +189,12 @@ alive_owns : (r : Run) → IsLone r → Owns (life_move (alive r))
 alive_owns r h = on_value_owns (now r) (λ v. alone (λ x. run.over) (do_end v)) (next alive (move r)) (λ v. tt) (next_owns alive (move r) (move_owns r h))
 
 -- of the one thread, which does each act alone
-pub main_owns : (v : View) → Owns (life_move (life_of v))
-main_owns v = by v.ended
-  where
-    by : (b : Bool) → Owns (life_move (if b then run.over else alive (run_of v)))
-    by true = tt
-    by false = alive_owns (run_of v) (pool_lone v)
+pub main_owns : (l : Life) → IsLoneLife l → Owns (life_move l)
+main_owns (alive r) h = alive_owns r h
+main_owns run.over h = tt
+main_owns (owing r) h = absurd h
+main_owns (loose r) h = absurd h
+main_owns (ended v) h = absurd h
 
 -- such an act is done so
 pub own_done : (s : Whole) (t : Thread) (m : Move Life) (a : Act) → IsOwn a → done_act s t fresh.None m a ≡ alone_stepped s t m a
@@ -232,8 +236,8 @@ move_free s None h = (refl, refl)
 move_free s (Some m) h = act_free s m.act h
 
 -- the one thread neither waits nor takes a name
-pub main_free : (s : Whole) (v : View) → (move_waits s (life_move (life_of v)) ≡ None) × (takes_name (life_move (life_of v)) ≡ false)
-main_free s v = move_free s (life_move (life_of v)) (main_owns v)
+pub main_free : (s : Whole) (l : Life) → IsLoneLife l → (move_waits s (life_move l) ≡ None) × (takes_name (life_move l) ≡ false)
+main_free s l h = move_free s (life_move l) (main_owns l h)
 
 -- LETTING GO
 
@@ -271,9 +275,9 @@ alive_mains going (Some m) = λ v. tt
 alive_mains (constant u) o = λ v. tt
 alive_mains (temporary u) o = λ v. tt
 
-pub main_mains : (v : View) → Mains (life_move (life_of v))
-main_mains v = by v.ended
-  where
-    by : (b : Bool) → Mains (life_move (if b then run.over else alive (run_of v)))
-    by true = tt
-    by false = alive_mains (now (run_of v)) (move (run_of v))
+pub main_mains : (l : Life) → IsLoneLife l → Mains (life_move l)
+main_mains (alive r) h = alive_mains (now r) (move r)
+main_mains run.over h = tt
+main_mains (owing r) h = absurd h
+main_mains (loose r) h = absurd h
+main_mains (ended v) h = absurd h

@@ -1,7 +1,7 @@
 -- What a caller's loop over a pool's steps rests on.
 use Rattle.std.proofs.Common.{◌≡◌, ◌≢◌, ℕ, zero, suc, Bool, true, false, List, [], ◌++◌, Option, Some, None, refl, sym, ap, ◌∙◌, subst}
 use Rattle.std.proofs.lemmas.List.{append-nil, append_assoc}
-use Rattle.std.specs.Prelude.{◌==◌, ◌||◌, ◌&&◌, is_some, option_map, if◌then◌else◌}
+use Rattle.std.specs.Prelude.{IsSome, ◌==◌, ◌||◌, ◌&&◌, is_some, option_map, if◌then◌else◌}
 use Rattle.fr_base.specs.declared.label.Label.{Label}
 use Rattle.fr_base.specs.declared.step.Fresh.{Fresh}
 use Rattle.fr_base.specs.declared.step.Fresh.TheVariants as fresh
@@ -19,7 +19,10 @@ use Rattle.fr_meaning.specs.declared.need.Need.TheVariants as need
 use Rattle.fr_meaning.specs.PoolView.{View, run_of, life_of, whole_of, error_of, refusal, kind_of, need_in, need_of}
 use Rattle.fr_meaning.specs.SlotOrder.{newest_first}
 use Rattle.fr_meaning.proofs.FormLemmas.{eq_cases}
-use Rattle.fr_meaning.proofs.OneThread.{main_free}
+use Rattle.fr_sound.specs.NeverStuck.{IsTyped}
+use Rattle.fr_meaning.proofs.OneThread.{IsLoneLife, main_free}
+use Rattle.fr_meaning.proofs.PoolLemmas.{pool_goes}
+use Rattle.fr_meaning.proofs.TypedLemmas.{pool_lone, typed_kept}
 
 -- THE ONE THREAD
 
@@ -54,15 +57,15 @@ by_over s true names = refl
 by_over s false names = named s names
 
 -- why the step of a thread is refused
-pub refusal_is : (v : View) (t : ℕ) (names : Fresh) → refusal (whole_of v) t names ≡ (if 0 == t then refusal_by v.ended names else Some error.NoThread)
-refusal_is v t names = by (0 == t)
+pub refusal_is : (v : View) → IsLoneLife (life_of v) → (t : ℕ) (names : Fresh) → refusal (whole_of v) t names ≡ (if 0 == t then refusal_by v.ended names else Some error.NoThread)
+refusal_is v y t names = by (0 == t)
   where
     main : Thread
     main = record { number = 0; life = life_of v; slots = newest_first v.slots }
 
     by : (b : Bool) → option_map error_of (refused_of (whole_of v) names (if b then Some main else None)) ≡ (if b then refusal_by v.ended names else Some error.NoThread)
     by true =
-        ap (option_map error_of) (refused_free (whole_of v) (life_of v) (newest_first v.slots) names (main_free (whole_of v) v).0 (main_free (whole_of v) v).1)
+        ap (option_map error_of) (refused_free (whole_of v) (life_of v) (newest_first v.slots) names (main_free (whole_of v) (life_of v) y).0 (main_free (whole_of v) (life_of v) y).1)
         ∙ ap (λ b. option_map error_of (if b then Some has_ended else refused_names (whole_of v) false names)) (over_is v.ended (run_of v)) ∙ by_over (whole_of v) v.ended names
     by false = refl
 
@@ -71,8 +74,8 @@ zero_is : (t : ℕ) → 0 == t ≡ true → t ≡ 0
 zero_is t h = eq_cases (λ b. b ≡ true → t ≡ 0) 0 t (λ e g. sym e) (λ ne g. absurd cc) h
 
 -- where it isn't, the thread is the main one, and there are no names
-free_is : (v : View) (t : ℕ) (names : Fresh) → refusal (whole_of v) t names ≡ None → (t ≡ 0) × (names ≡ fresh.None)
-free_is v t names h = by (0 == t) v.ended names refl refl (sym (refusal_is v t names) ∙ h)
+free_is : (v : View) → IsLoneLife (life_of v) → (t : ℕ) (names : Fresh) → refusal (whole_of v) t names ≡ None → (t ≡ 0) × (names ≡ fresh.None)
+free_is v y t names h = by (0 == t) v.ended names refl refl (sym (refusal_is v y t names) ∙ h)
   where
     by : (b c : Bool) (n : Fresh) → 0 == t ≡ b → names ≡ n → (if b then refusal_by c n else Some error.NoThread) ≡ None → (t ≡ 0) × (names ≡ fresh.None)
     by false c n e g k = absurd cc
@@ -83,34 +86,34 @@ free_is v t names h = by (0 == t) v.ended names refl refl (sym (refusal_is v t n
     by true false (fresh.Mutex m) e g k = absurd cc
 
 -- so that the main thread steps without names
-pub free_main : (v : View) (t : ℕ) (names : Fresh) → refusal (whole_of v) t names ≡ None → refusal (whole_of v) 0 fresh.None ≡ None
-free_main v t names h =
-    let f = free_is v t names h in
+pub free_main : (v : View) → IsLoneLife (life_of v) → (t : ℕ) (names : Fresh) → refusal (whole_of v) t names ≡ None → refusal (whole_of v) 0 fresh.None ≡ None
+free_main v y t names h =
+    let f = free_is v y t names h in
     subst (λ (n : ℕ). refusal (whole_of v) n fresh.None ≡ None) f.0 (subst (λ (n : Fresh). refusal (whole_of v) t n ≡ None) f.1 h)
 
 -- and its step is the one that was asked for
-pub free_step : (v : View) (t : ℕ) (names : Fresh) (x : Option Stepped) → refusal (whole_of v) t names ≡ None → step (whole_of v) 0 fresh.None ≡ x → step (whole_of v) t names ≡ x
-free_step v t names x h g =
-    let f = free_is v t names h in
+pub free_step : (v : View) → IsLoneLife (life_of v) → (t : ℕ) (names : Fresh) (x : Option Stepped) → refusal (whole_of v) t names ≡ None → step (whole_of v) 0 fresh.None ≡ x → step (whole_of v) t names ≡ x
+free_step v y t names x h g =
+    let f = free_is v y t names h in
     ap (λ (n : ℕ). step (whole_of v) n names) f.0 ∙ ap (step (whole_of v) 0) f.1 ∙ g
 
 -- which names the step of a thread takes
-pub need_is : (v : View) (t : ℕ) → need_of (whole_of v) t ≡ (if 0 == t then (if v.ended then None else Some need.Nothing) else None)
-need_is v t = by (0 == t)
+pub need_is : (v : View) → IsLoneLife (life_of v) → (t : ℕ) → need_of (whole_of v) t ≡ (if 0 == t then (if v.ended then None else Some need.Nothing) else None)
+need_is v y t = by (0 == t)
   where
     main : Thread
     main = record { number = 0; life = life_of v; slots = newest_first v.slots }
 
     by : (b : Bool) → need_in (if b then Some main else None) ≡ (if b then (if v.ended then None else Some need.Nothing) else None)
     by true =
-        ap (λ c. (let found : Option Need = if is_over (life_of v) then None else Some (kind_of c) in found)) (main_free (whole_of v) v).1
+        ap (λ c. (let found : Option Need = if is_over (life_of v) then None else Some (kind_of c) in found)) (main_free (whole_of v) (life_of v) y).1
         ∙ ap (λ c. (let found : Option Need = if c then None else Some need.Nothing in found)) (over_is v.ended (run_of v))
     by false = refl
 
 -- how the state stands
-pub ending_is : (v : View) → ending_of (whole_of v) ≡ (if v.ended then ending.Finished else ending.Going)
-ending_is v =
-    ap (λ (o : Option Wait). (let found : Ending3 = if (is_over (life_of v) && true) then ending.Finished else if ((is_over (life_of v) || is_some o) && true) then ending.Deadlocked else ending.Going in found)) (main_free (whole_of v) v).0
+pub ending_is : (v : View) → IsLoneLife (life_of v) → ending_of (whole_of v) ≡ (if v.ended then ending.Finished else ending.Going)
+ending_is v y =
+    ap (λ (o : Option Wait). (let found : Ending3 = if (is_over (life_of v) && true) then ending.Finished else if ((is_over (life_of v) || is_some o) && true) then ending.Deadlocked else ending.Going in found)) (main_free (whole_of v) (life_of v) y).0
     ∙ ap (λ c. (let found : Ending3 = if (c && true) then ending.Finished else if ((c || false) && true) then ending.Deadlocked else ending.Going in found)) (over_is v.ended (run_of v)) ∙ by v.ended
   where
     by : (c : Bool) → (if (c && true) then ending.Finished else if ((c || false) && true) then ending.Deadlocked else ending.Going) ≡ (if c then ending.Finished else ending.Going)
@@ -118,11 +121,11 @@ ending_is v =
     by false = refl
 
 -- what stands at the main thread's number while it goes on
-pub main_need : (v : View) (t : ℕ) → t ≡ 0 → v.ended ≡ false → need_of (whole_of v) t ≡ Some need.Nothing
-main_need v t z e = need_is v t ∙ ap (λ (n : ℕ). (let found : Option Need = if 0 == n then (if v.ended then None else Some need.Nothing) else None in found)) z ∙ ap (λ b. (let found : Option Need = if b then None else Some need.Nothing in found)) e
+pub main_need : (v : View) → IsLoneLife (life_of v) → (t : ℕ) → t ≡ 0 → v.ended ≡ false → need_of (whole_of v) t ≡ Some need.Nothing
+main_need v y t z e = need_is v y t ∙ ap (λ (n : ℕ). (let found : Option Need = if 0 == n then (if v.ended then None else Some need.Nothing) else None in found)) z ∙ ap (λ b. (let found : Option Need = if b then None else Some need.Nothing in found)) e
 
-pub main_refusal : (v : View) (t : ℕ) (names : Fresh) → t ≡ 0 → v.ended ≡ false → refusal (whole_of v) t names ≡ name_error names
-main_refusal v t names z e = refusal_is v t names ∙ ap (λ (n : ℕ). (let found : Option StepError = if 0 == n then refusal_by v.ended names else Some error.NoThread in found)) z ∙ ap (λ b. refusal_by b names) e
+pub main_refusal : (v : View) → IsLoneLife (life_of v) → (t : ℕ) (names : Fresh) → t ≡ 0 → v.ended ≡ false → refusal (whole_of v) t names ≡ name_error names
+main_refusal v y t names z e = refusal_is v y t names ∙ ap (λ (n : ℕ). (let found : Option StepError = if 0 == n then refusal_by v.ended names else Some error.NoThread in found)) z ∙ ap (λ b. refusal_by b names) e
 
 -- names for a step that takes none
 pub other_names : (names : Fresh) → names ≢ fresh.None → name_error names ≡ Some error.NameKind
@@ -132,28 +135,34 @@ other_names (fresh.Threads t u) h = refl
 other_names (fresh.Mutex m) h = refl
 
 -- while the state goes on, nothing but want of memory refuses a step of the main thread without names
-pub going_steps : (v : View) → ending_of (whole_of v) ≡ ending.Going → refusal (whole_of v) 0 fresh.None ≡ None
-going_steps v h = refusal_is v 0 fresh.None ∙ by v.ended (sym (ending_is v) ∙ h)
+pub going_steps : (v : View) → IsTyped (whole_of v) → ending_of (whole_of v) ≡ ending.Going → refusal (whole_of v) 0 fresh.None ≡ None
+going_steps v typed h = let y = pool_lone v typed in refusal_is v y 0 fresh.None ∙ by v.ended (sym (ending_is v y) ∙ h)
   where
     by : (b : Bool) → (if b then ending.Finished else ending.Going) ≡ ending.Going → refusal_by b fresh.None ≡ None
     by true e = absurd cc
     by false e = refl
 
 -- a state that doesn't go on is finished: the one thread never waits
-pub not_going : (v : View) → ending_of (whole_of v) ≢ ending.Going → ending_of (whole_of v) ≡ ending.Finished
-not_going v h = ending_is v ∙ by v.ended (λ e. h (ending_is v ∙ e))
+pub not_going : (v : View) → IsTyped (whole_of v) → ending_of (whole_of v) ≢ ending.Going → ending_of (whole_of v) ≡ ending.Finished
+not_going v typed h = let y = pool_lone v typed in ending_is v y ∙ by v.ended (λ e. h (ending_is v y ∙ e))
   where
     by : (b : Bool) → (if b then ending.Finished else ending.Going) ≢ ending.Going → (if b then ending.Finished else ending.Going) ≡ ending.Finished
     by true n = refl
     by false n = absurd (n refl)
 
 -- and one that isn't finished goes on
-pub not_finished : (v : View) → ending_of (whole_of v) ≢ ending.Finished → ending_of (whole_of v) ≡ ending.Going
-not_finished v h = ending_is v ∙ by v.ended (λ e. h (ending_is v ∙ e))
+pub not_finished : (v : View) → IsTyped (whole_of v) → ending_of (whole_of v) ≢ ending.Finished → ending_of (whole_of v) ≡ ending.Going
+not_finished v typed h = let y = pool_lone v typed in ending_is v y ∙ by v.ended (λ e. h (ending_is v y ∙ e))
   where
     by : (b : Bool) → (if b then ending.Finished else ending.Going) ≢ ending.Finished → (if b then ending.Finished else ending.Going) ≡ ending.Going
     by true n = absurd (n refl)
     by false n = refl
+
+-- a step of the main thread keeps its state typed
+pub step_typed : (v w : View) (labels : List Label) → IsTyped (whole_of v) → step (whole_of v) 0 fresh.None ≡ Some (record { state = whole_of w; labels = labels }) → IsTyped (whole_of w)
+step_typed v w labels typed h =
+    let goes = pool_goes v (pool_lone v typed) (subst (λ (o : Option Stepped). IsSome o) (sym h) refl) in
+    typed_kept v w labels typed goes.0 h
 
 -- a state with labels
 abbrev at : Whole → List Label → Option Stepped

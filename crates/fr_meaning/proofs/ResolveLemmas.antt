@@ -569,6 +569,8 @@ block_run p at counts look items n e (form.Box v) arena h at_n w c same runs mad
 block_run p at counts look items n e (form.Let v) arena h at_n w c same runs made = absurd made
 block_run p at counts look items n e (form.Print v) arena h at_n w c same runs made = absurd made
 block_run p at counts look items n e (form.Assign x v) arena h at_n w c same runs made = absurd made
+block_run p at counts look items n e (form.Join v) arena h at_n w c same runs made = absurd made
+block_run p at counts look items n e (form.Spawn cs b d) arena h at_n w c same runs made = absurd made
 block_run p at counts look items n e form.Place arena h at_n w c same runs made = absurd made
 
 -- what a form's term is

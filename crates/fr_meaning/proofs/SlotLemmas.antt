@@ -63,16 +63,16 @@ with_onto es (v ∷ vs) (suc i) new h =
     subst (λ k. with_slot (onto (v ∷ es) vs) k new ≡ onto (v ∷ es) (slice_set vs i new)) at (with_onto (v ∷ es) vs i new (omega arith))
 
 -- writing a slot is writing the item of its number
-with_newest : (vs : List Value) (i : ℕ) (new : Value) → i < length vs → with_slot (newest_first vs) i new ≡ newest_first (slice_set vs i new)
+pub with_newest : (vs : List Value) (i : ℕ) (new : Value) → i < length vs → with_slot (newest_first vs) i new ≡ newest_first (slice_set vs i new)
 with_newest vs i new h = let at : 0 + i ≡ i = omega arith in subst (λ k. with_slot (newest_first vs) k new ≡ newest_first (slice_set vs i new)) at (with_onto [] vs i new h)
 
--- the main thread's slots, the newest first, and the heap
-abbrev state_with : List Value → Heap → State
-state_with us h = record { thread = 0; slots = us; heap = h }
+-- a thread's slots, the newest first, and the heap
+abbrev state_with : ℕ → List Value → Heap → State
+state_with t us h = record { thread = t; slots = us; heap = h }
 
 -- the state with a slot written
-pub put_slot : (vs : List Value) (h : Heap) (i : ℕ) (new : Value) → i < length vs → with_value (state vs h) (in_slot i) new ≡ state (slice_set vs i new) h
-put_slot vs h i new lt = ap (λ us. state_with us h) (with_newest vs i new lt)
+pub put_slot : (t : ℕ) (vs : List Value) (h : Heap) (i : ℕ) (new : Value) → i < length vs → with_value (state t vs h) (in_slot i) new ≡ state t (slice_set vs i new) h
+put_slot t vs h i new lt = ap (λ us. state_with t us h) (with_newest vs i new lt)
 
 -- a slot that stands has a number below their count
 slot_within : (vs : List Value) (i : ℕ) → IsSome (slot_at vs i) → i < length vs

@@ -1,5 +1,5 @@
 -- A typed pool steps, and stays typed.
-use Rattle.std.proofs.Common.{◌≡◌, ℤ, Bool, true, false, List, [], ◌∷◌, ◌++◌, Option, Some, None, inl, inr, refl, sym, ap, ◌∙◌, subst}
+use Rattle.std.proofs.Common.{◌≡◌, ℕ, ℤ, Bool, true, false, List, [], ◌∷◌, ◌++◌, Option, Some, None, inl, inr, refl, sym, ap, ◌∙◌, subst}
 use Rattle.std.proofs.lemmas.List.{append-nil}
 use Rattle.std.specs.Prelude.{◌⊎◌, IsSome, if◌then◌else◌}
 use Rattle.fr_base.specs.declared.label.Label.{Label}
@@ -14,19 +14,17 @@ use Rattle.fr_plain.specs.Whole.{Thread, Whole, Stepped, prints, step, start}
 use Rattle.fr_sound.specs.NeverStuck.{IsTyped, Steps}
 use Rattle.fr_sound.proofs.Whole.{never_stuck_lem}
 use Rattle.fr_meaning.specs.declared.error.StepError.TheVariants.{Ended}
-use Rattle.fr_meaning.specs.declared.forms.Form.{Form}
 use Rattle.fr_meaning.specs.declared.frame.Done.{Done}
 use Rattle.fr_meaning.specs.declared.frame.Done.TheVariants as done
-use Rattle.fr_meaning.specs.declared.frame.Frame.{Frame}
-use Rattle.fr_meaning.specs.declared.frame.Focus.{Focus}
-use Rattle.fr_meaning.specs.declared.frame.Focus.TheVariants as focus
 use Rattle.fr_meaning.specs.DoneTerms.{over, value_of}
-use Rattle.fr_meaning.specs.FrameTerms.{wrapped, focus_run, end_of}
+use Rattle.fr_meaning.specs.FrameTerms.{end_of}
 use Rattle.fr_meaning.specs.PoolView.{View, run_of, life_of, whole_of, refusal}
 use Rattle.fr_meaning.specs.SlotOrder.{newest_first}
-use Rattle.fr_meaning.specs.Turning.{state, did, went_by, thread_step, goes_to}
+use Rattle.fr_meaning.specs.Turning.{state, did}
 use Rattle.fr_meaning.proofs.ActLemmas.{silent}
-use Rattle.fr_meaning.proofs.PoolLemmas.{told, whole_step, alive_of}
+use Rattle.fr_meaning.proofs.OneThread.{IsLoneLife, state_lone}
+use Rattle.fr_meaning.proofs.StepLemmas.{run_end}
+use Rattle.fr_meaning.proofs.PoolLemmas.{went_by, thread_step, goes_to, told, whole_step, alive_of}
 
 -- one thread stands there
 head_same : (a b : Thread) → a ∷ [] ≡ b ∷ [] → a ≡ b
@@ -55,6 +53,10 @@ typed_goes v y e = by (never_stuck_lem (whole_of v) y)
     by (inl o) = absurd (not_over (run_of v) (sym (alive_of v e) ∙ ap (λ (t : Thread). t.life) same ∙ o))
     by (inr z) = subst (λ n. Steps (whole_of v) n) (sym (ap (λ (t : Thread). t.number) same)) z
 
+-- a typed thread starts and joins none
+pub pool_lone : (v : View) → IsTyped (whole_of v) → IsLoneLife (life_of v)
+pool_lone v y = subst (λ (t : Thread). IsLoneLife t.life) (sym (head_same (record { number = 0; life = life_of v; slots = newest_first v.slots }) y.thread y.only)) (state_lone (whole_of v) y)
+
 -- so its step is defined
 pub typed_some : (v : View) → IsTyped (whole_of v) → v.ended ≡ false → IsSome (step (whole_of v) 0 fresh.None)
 typed_some v y e = subst (λ (o : Option Stepped). IsSome o) (sym (typed_goes v y e).is) refl
@@ -75,29 +77,20 @@ typed_kept v w labels y e h =
 abbrev whole_with : Life → List Value → Heap → List ℤ → Whole
 whole_with l vs h ns = record { threads = record { number = 0; life = l; slots = newest_first vs } ∷ []; heap = h; output = ns }
 
--- with no frame left the term is the focus
-run_end : (fs : List Form) (f : Focus) (gs : List Frame) (d : Done) → end_of f gs ≡ Some d → wrapped fs gs (focus_run f) ≡ over d
-run_end fs (focus.Over x) [] d h = let e : x ≡ d = cc in ap over e
-run_end fs (focus.Over x) (g ∷ gs) d h = absurd cc
-run_end fs (focus.Read w take) [] d h = absurd cc
-run_end fs (focus.Read w take) (g ∷ gs) d h = absurd cc
-run_end fs (focus.Borrow w is_mut) [] d h = absurd cc
-run_end fs (focus.Borrow w is_mut) (g ∷ gs) d h = absurd cc
-
 -- a thread whose term is done ends
-thread_ends : (d : Done) (s : State) (slots : List Value) (heap : Heap) (labels : List Label) → act (do_end (value_of d)) s ≡ did unit slots heap labels → thread_step (alive (over d)) s ≡ goes_to run.over slots heap labels
+thread_ends : (d : Done) (s : State) (slots : List Value) (heap : Heap) (labels : List Label) → act (do_end (value_of d)) s ≡ did unit 0 slots heap labels → thread_step (alive (over d)) s ≡ goes_to run.over slots heap labels
 thread_ends done.Unit s slots heap labels h = ap (went_by (record { act = do_end (value_of done.Unit); plug = λ x. run.over })) h
 thread_ends (done.Number n) s slots heap labels h = ap (went_by (record { act = do_end (value_of (done.Number n)); plug = λ x. run.over })) h
 thread_ends (done.Temp v) s slots heap labels h = ap (went_by (record { act = do_end v; plug = λ x. run.over })) h
 
 -- the step of a thread whose term is done ends it
-pub pool_ends : (v w : View) (d : Done) (labels : List Label) → v.ended ≡ false → w.ended ≡ true → end_of v.focus v.frames ≡ Some d → act (do_end (value_of d)) (state v.slots v.heap) ≡ did unit w.slots w.heap labels → w.output ≡ v.output →
+pub pool_ends : (v w : View) (d : Done) (labels : List Label) → IsLoneLife (life_of v) → v.ended ≡ false → w.ended ≡ true → end_of v.focus v.frames ≡ Some d → act (do_end (value_of d)) (state 0 v.slots v.heap) ≡ did unit 0 w.slots w.heap labels → w.output ≡ v.output →
     step (whole_of v) 0 fresh.None ≡ Some (record { state = whole_of w; labels = labels })
-pool_ends v w d labels a b e h o =
-    let quiet = silent (do_end (value_of d)) (state v.slots v.heap) (record { value = unit; state = state w.slots w.heap; labels = labels }) tt h in
+pool_ends v w d labels y a b e h o =
+    let quiet = silent (do_end (value_of d)) (state 0 v.slots v.heap) (record { value = unit; state = state 0 w.slots w.heap; labels = labels }) tt h in
     let same : v.output ++ prints labels ≡ w.output = ap (λ ns. v.output ++ ns) quiet ∙ append-nil v.output ∙ sym o in
-    whole_step v ∙ ap (λ l. told v.output (thread_step l (state v.slots v.heap))) (alive_of v a ∙ ap alive (run_end v.forms v.focus v.frames d e))
-    ∙ ap (told v.output) (thread_ends d (state v.slots v.heap) w.slots w.heap labels h)
+    whole_step v y ∙ ap (λ l. told v.output (thread_step l (state 0 v.slots v.heap))) (alive_of v a ∙ ap alive (run_end v.forms v.focus v.frames d e))
+    ∙ ap (told v.output) (thread_ends d (state 0 v.slots v.heap) w.slots w.heap labels h)
     ∙ ap (λ ns. at (whole_with run.over w.slots w.heap ns) labels) same
     ∙ ap (λ (l : Life). at (whole_with l w.slots w.heap w.output) labels) (sym (ap (λ c. if c then run.over else alive (run_of w)) b))
   where
@@ -115,9 +108,10 @@ start_whole v r a e s h o =
     ∙ ap (λ ns. whole_with (alive (settle r)) [] (record { thread = 0; cells = [] } ∷ []) ns) o
 
 -- the same end over equal values, slots and heaps
-pub same_end : (v v2 : Value) (vs ws vs2 : List Value) (h h2 new : Heap) (labels : List Label) → v ≡ v2 → vs ≡ ws → ws ≡ vs2 → h ≡ h2 → act (do_end v) (state vs h) ≡ did unit vs new labels → act (do_end v2) (state vs2 h2) ≡ did unit ws new labels
-same_end v v2 vs ws vs2 h h2 new labels a b c d e =
-    subst (λ (u : Value). act (do_end u) (state vs2 h2) ≡ did unit ws new labels) a
-    (subst (λ (us : List Value). act (do_end v) (state us h2) ≡ did unit ws new labels) c
-    (subst (λ (us : List Value). act (do_end v) (state us h2) ≡ did unit us new labels) b
-    (subst (λ (i : Heap). act (do_end v) (state vs i) ≡ did unit vs new labels) d e)))
+pub same_end : (t : ℕ) (v v2 : Value) (vs ws vs2 : List Value) (h h2 new : Heap) (labels : List Label) → t ≡ 0 → v ≡ v2 → vs ≡ ws → ws ≡ vs2 → h ≡ h2 → act (do_end v) (state t vs h) ≡ did unit t vs new labels → act (do_end v2) (state 0 vs2 h2) ≡ did unit 0 ws new labels
+same_end t v v2 vs ws vs2 h h2 new labels z a b c d e =
+    subst (λ (u : Value). act (do_end u) (state 0 vs2 h2) ≡ did unit 0 ws new labels) a
+    (subst (λ (us : List Value). act (do_end v) (state 0 us h2) ≡ did unit 0 ws new labels) c
+    (subst (λ (us : List Value). act (do_end v) (state 0 us h2) ≡ did unit 0 us new labels) b
+    (subst (λ (n : ℕ). act (do_end v) (state n vs h2) ≡ did unit n vs new labels) z
+    (subst (λ (i : Heap). act (do_end v) (state t vs i) ≡ did unit t vs new labels) d e))))

@@ -11,6 +11,7 @@ pub data Around : Type 0 where
   in_box : Around
   in_bind : Around
   in_print : Around
+  in_join : Around
   in_assign : Lval → Around
   in_left : Op → Run → Around
   in_right : Op → Done → Around
@@ -21,6 +22,7 @@ abbrev pub fill : Around → Run → Run
 fill in_box r = box_r r
 fill in_bind r = bind r
 fill in_print r = print r
+fill in_join r = join_r r
 fill (in_assign w) r = assign w r
 fill (in_left f b) r = arith f r b
 fill (in_right f d) r = arith f (over d) r
@@ -46,7 +48,7 @@ abbrev mutual
   depth (print r) = depth r + 1
   depth (assign w r) = depth r + 1
   depth (block k is) = depth_in is + 1
-  depth (spawn cs r) = 0
+  depth (spawn cs r) = depth r
   depth (join_r r) = depth r + 1
 
   pub depth_in : Parts → ℕ

@@ -1,7 +1,8 @@
 -- What frames and the focus mean: the terms around the innermost term, and that term.
-use Rattle.std.specs.Prelude.{◌≡◌, ℕ, ◌<◌, ⊤, List, [], ◌∷◌, drop, Option, Some, None}
+use Rattle.std.specs.Prelude.{◌≡◌, ℕ, ◌<◌, ⊤, List, [], ◌∷◌, length, drop, slice_index_or, Option, Some, None}
 use Rattle.fr_plain.specs.Run.{Run, read, borrow, going, now}
 use Rattle.fr_meaning.specs.declared.forms.Form.{Form}
+use Rattle.fr_meaning.specs.declared.forms.Form.TheVariants as form
 use Rattle.fr_meaning.specs.declared.frame.Done.{Done}
 use Rattle.fr_meaning.specs.declared.frame.Frame.{Frame}
 use Rattle.fr_meaning.specs.declared.frame.Frame.TheVariants as frame
@@ -10,8 +11,8 @@ use Rattle.fr_meaning.specs.declared.frame.Focus.TheVariants as focus
 use Rattle.fr_meaning.specs.declared.frame.Entered.{Entered}
 use Rattle.fr_meaning.specs.declared.frame.Entered.TheVariants as entered
 use Rattle.fr_meaning.specs.DoneTerms.{over}
-use Rattle.fr_meaning.specs.Contexts.{Around, in_box, in_bind, in_print, in_assign, in_left, in_right, in_last, in_more, wrap}
-use Rattle.fr_meaning.specs.FormTerms.{parts_from, term_of, items_at}
+use Rattle.fr_meaning.specs.Contexts.{Around, in_box, in_bind, in_print, in_join, in_assign, in_left, in_right, in_last, in_more, wrap}
+use Rattle.fr_meaning.specs.FormTerms.{parts_from, term_of, items_at, IsSpawn}
 
 -- an item of a block that has still to drop so many slots, before the items after it
 abbrev pub around_items : ℕ → (ℕ → Run) → List ℕ → Around
@@ -22,6 +23,7 @@ abbrev pub around : List Form → Frame → Around
 around fs frame.Box = in_box
 around fs frame.Let = in_bind
 around fs frame.Print = in_print
+around fs frame.Join = in_join
 around fs (frame.Assign w) = in_assign w
 around fs (frame.Left f right) = in_left f (term_of fs right)
 around fs (frame.Right f left) = in_right f left
@@ -35,10 +37,12 @@ all_around fs (g ∷ gs) = around fs g ∷ all_around fs gs
 abbrev pub wrapped : List Form → List Frame → Run → Run
 wrapped fs gs r = wrap (all_around fs gs) r
 
-abbrev pub focus_run : Focus → Run
-focus_run (focus.Over d) = over d
-focus_run (focus.Read w take) = read w take
-focus_run (focus.Borrow w is_mut) = borrow w is_mut
+-- a new thread is a form
+abbrev pub focus_run : List Form → Focus → Run
+focus_run fs (focus.Over d) = over d
+focus_run fs (focus.Read w take) = read w take
+focus_run fs (focus.Borrow w is_mut) = borrow w is_mut
+focus_run fs (focus.Spawn node) = term_of fs node
 
 -- the form that a frame names is there
 abbrev pub IsInside : ℕ → Frame → Type 0
@@ -67,15 +71,16 @@ TopIsPastLeft [] = ⊤
 TopIsPastLeft (g ∷ []) = IsPastLeft g
 TopIsPastLeft (g ∷ h ∷ gs) = TopIsPastLeft (h ∷ gs)
 
--- a left operand that is done has made way for the right one
-abbrev pub HasMadeWay : List Frame → Focus → Type 0
-HasMadeWay gs (focus.Over d) = TopIsPastLeft gs
-HasMadeWay gs _ = ⊤
+-- a left operand that is done has made way for the right one, and a new thread is a form that is there
+abbrev pub HasMadeWay : List Form → List Frame → Focus → Type 0
+HasMadeWay fs gs (focus.Over d) = TopIsPastLeft gs
+HasMadeWay fs gs (focus.Spawn node) = (node < length fs) × IsSpawn (slice_index_or fs node form.Unit)
+HasMadeWay fs gs _ = ⊤
 
 -- the settled term is done, with the frames as they were, or it is the focus in frames above the old ones
 abbrev pub Enters : List Form → List Frame → List Frame → Run → Entered → Type 0
 Enters fs old new r (entered.Ended d) = (r ≡ over d) × (new ≡ old)
-Enters fs old new r (entered.Waits f) = (now r ≡ going) × (wrapped fs new (focus_run f) ≡ wrapped fs old r) × HasMadeWay new f
+Enters fs old new r (entered.Waits f) = (now r ≡ going) × (wrapped fs new (focus_run fs f) ≡ wrapped fs old r) × HasMadeWay fs new f
 
 -- the same, or it is what follows
 abbrev pub EntersItem : List Form → List Frame → List Frame → Run → Run → Option Entered → Type 0

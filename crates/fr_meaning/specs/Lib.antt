@@ -4,8 +4,11 @@ pub mod FormTerms
 pub mod DoneTerms
 pub mod Contexts
 pub mod FrameTerms
+pub mod Places
 pub mod HeapRoom
+pub mod HeapInside
 pub mod Turning
+pub mod Threads
 pub mod PoolView
 pub mod PoolInside
 pub mod Forming

@@ -15,7 +15,7 @@ pool_view p = record { forms = p.forms.items; frames = p.frames.items; focus = p
 pub record IsPool (p : Inside) : Type 0 where
   pub order : AreInOrder p.forms.items
   pub frames : AreInside (length p.forms.items) p.frames.items
-  pub way : HasMadeWay p.frames.items p.focus
-  pub settled : IsSettled (wrapped p.forms.items p.frames.items (focus_run p.focus))
-  pub room : depth (wrapped p.forms.items p.frames.items (focus_run p.focus)) ≤ vec_capacity p.frames
+  pub way : HasMadeWay p.forms.items p.frames.items p.focus
+  pub settled : IsSettled (wrapped p.forms.items p.frames.items (focus_run p.forms.items p.focus))
+  pub room : depth (wrapped p.forms.items p.frames.items (focus_run p.forms.items p.focus)) ≤ vec_capacity p.frames
   pub typed : IsTyped (whole_of (pool_view p))

@@ -1,5 +1,5 @@
 -- What a pool is to its callers: a plain state, of one thread so far.
-use Rattle.std.specs.Prelude.{ℕ, ℤ, ◌-◌, Bool, true, false, List, [], ◌∷◌, length, Option, Some, None, option_map, if◌then◌else◌}
+use Rattle.std.specs.Prelude.{ℕ, ℤ, Bool, true, false, List, [], ◌∷◌, Option, Some, None, option_map, if◌then◌else◌}
 use Rattle.fr_base.specs.declared.step.Fresh.{Fresh}
 use Rattle.fr_plain.specs.declared.value.Value.{Value}
 use Rattle.fr_plain.specs.Heap.{Heap}
@@ -12,7 +12,6 @@ use Rattle.fr_meaning.specs.declared.need.Need.{Need}
 use Rattle.fr_meaning.specs.declared.need.Need.TheVariants as need
 use Rattle.fr_meaning.specs.declared.error.StepError.{StepError}
 use Rattle.fr_meaning.specs.declared.error.StepError.TheVariants as error
-use Rattle.fr_meaning.specs.FormTerms.{term_of}
 use Rattle.fr_meaning.specs.FrameTerms.{wrapped, focus_run}
 use Rattle.fr_meaning.specs.SlotOrder.{newest_first}
 
@@ -27,7 +26,7 @@ pub record View : Type 0 where
 
 -- the running term
 abbrev pub run_of : View → Run
-run_of v = wrapped v.forms v.frames (focus_run v.focus)
+run_of v = wrapped v.forms v.frames (focus_run v.forms v.focus)
 
 -- the main thread: in progress, or over
 abbrev pub life_of : View → Life
@@ -40,10 +39,6 @@ whole_of v = record { threads = record { number = 0; life = life_of v; slots = n
 -- how many steps the main thread has still to do
 abbrev pub steps_left_of : View → ℕ
 steps_left_of v = life_left (life_of v)
-
--- the term of the last form
-abbrev pub root_of : List Form → Run
-root_of fs = term_of fs (length fs - 1)
 
 -- what a call says of a refusal
 abbrev pub error_of : Refusal → StepError

@@ -1,11 +1,12 @@
--- A step of the one thread, from its parts: its term, its slots (the newest last), the heap, and the labels.
+-- A step that a thread does alone, from its parts: its term, its slots (the newest last), the heap, the labels, and the
+-- thread whose task is dropped.
 use Rattle.std.specs.Prelude.{ℕ, ◌+◌, ◌≡◌, List, Option, Some, None}
 use Rattle.fr_base.specs.declared.label.Label.{Label}
 use Rattle.fr_plain.specs.declared.value.Value.{Value}
 use Rattle.fr_plain.specs.Heap.{Heap}
 use Rattle.fr_plain.specs.State.{State, Spot, in_slot, in_cell, Reached}
-use Rattle.fr_plain.specs.Acts.{Did, act}
-use Rattle.fr_plain.specs.Run.{Run, Move, Life, settle_life, life_move}
+use Rattle.fr_plain.specs.Acts.{Did, act, lets_go}
+use Rattle.fr_plain.specs.Run.{Run, Move, move, settle}
 use Rattle.fr_meaning.specs.declared.frame.Frame.{Frame}
 use Rattle.fr_meaning.specs.declared.frame.Frame.TheVariants as frame
 use Rattle.fr_meaning.specs.declared.frame.Focus.{Focus}
@@ -14,50 +15,39 @@ use Rattle.fr_meaning.specs.declared.spot.Where.{Where}
 use Rattle.fr_meaning.specs.declared.spot.Where.TheVariants as where_
 use Rattle.fr_meaning.specs.SlotOrder.{newest_first}
 
--- the main thread's slots, and the heap
-abbrev pub state : List Value → Heap → State
-state slots heap = record { thread = 0; slots = newest_first slots; heap = heap }
+-- a thread's slots, and the heap
+abbrev pub state : ℕ → List Value → Heap → State
+state t slots heap = record { thread = t; slots = newest_first slots; heap = heap }
 
-abbrev pub did : Value → List Value → Heap → List Label → Option Did
-did v slots heap labels = Some (record { value = v; state = state slots heap; labels = labels })
+abbrev pub did : Value → ℕ → List Value → Heap → List Label → Option Did
+did v t slots heap labels = Some (record { value = v; state = state t slots heap; labels = labels })
 
--- where a move leads before what needs no step has vanished
+-- where a move leads before what needs no step has vanished, and the thread whose task it drops
 pub record Turned : Type 0 where
   pub run : Run
   pub state : State
   pub labels : List Label
+  pub task : Option ℕ
 
-abbrev pub turned_by : Move Run → Option Did → Option Turned
-turned_by m None = None
-turned_by m (Some d) = Some (record { run = m.plug d.value; state = d.state; labels = d.labels })
+abbrev pub turned_by : Move Run → Option ℕ → Option Did → Option Turned
+turned_by m u None = None
+turned_by m u (Some d) = Some (record { run = m.plug d.value; state = d.state; labels = d.labels; task = u })
 
 abbrev pub turned : Option (Move Run) → State → Option Turned
 turned None s = None
-turned (Some m) s = turned_by m (act m.act s)
+turned (Some m) s = turned_by m (lets_go m.act s) (act m.act s)
 
-abbrev pub turns_to : Run → List Value → Heap → List Label → Option Turned
-turns_to r slots heap labels = Some (record { run = r; state = state slots heap; labels = labels })
+abbrev pub turns_to : Run → ℕ → List Value → Heap → List Label → Option ℕ → Option Turned
+turns_to r t slots heap labels u = Some (record { run = r; state = state t slots heap; labels = labels; task = u })
 
--- where a thread is after a step
-pub record Went : Type 0 where
-  pub life : Life
-  pub state : State
-  pub labels : List Label
+-- what needs no step has vanished
+abbrev pub settled : Option Turned → Option Turned
+settled None = None
+settled (Some x) = Some (record { run = settle x.run; state = x.state; labels = x.labels; task = x.task })
 
-abbrev pub went_by : Move Life → Option Did → Option Went
-went_by m None = None
-went_by m (Some d) = Some (record { life = settle_life (m.plug d.value); state = d.state; labels = d.labels })
-
-abbrev pub went : Option (Move Life) → State → Option Went
-went None s = None
-went (Some m) s = went_by m (act m.act s)
-
--- one step of the thread
-abbrev pub thread_step : Life → State → Option Went
-thread_step l s = went (life_move l) s
-
-abbrev pub goes_to : Life → List Value → Heap → List Label → Option Went
-goes_to l slots heap labels = Some (record { life = l; state = state slots heap; labels = labels })
+-- one step of a term that goes on, which the thread does alone
+abbrev pub term_step : Run → State → Option Turned
+term_step r s = settled (turned (move r) s)
 
 -- what stands where the code says
 abbrev pub spot_of : Where → Spot

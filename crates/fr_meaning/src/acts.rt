@@ -3,7 +3,7 @@
 ghost use Rattle.std.specs.Prelude.{◌≡◌, ◌<◌, ◌≤◌, ◌+◌, ◌++◌, ◌∷◌, [], false, Option, Some, None, IsSome, vec_len, vec_capacity};
 ghost use Rattle.fr_base.specs.declared.label.Label.TheVariants as label;
 ghost use Rattle.fr_plain.specs.State.{value_at, with_value, loads, stores, drops, led, locate, cell_of, without};
-ghost use Rattle.fr_plain.specs.Acts.{act, do_read, do_borrow, do_assign, do_box, do_arith, do_print, do_drop, do_discard, do_end, result_of, unit};
+ghost use Rattle.fr_plain.specs.Acts.{act, do_read, do_borrow, do_assign, do_box, do_arith, do_print, do_drop, do_discard, do_end, do_finish, do_leave, result_of, unit, lets_go, task_in};
 ghost use Rattle.fr_plain.specs.Whole.{prints};
 ghost use Rattle.fr_meaning.specs.Turning.{state, did, spot_of, IsReached};
 
@@ -12,15 +12,8 @@ use crate::spot::Where;
 use fr_base::{Label, Labels, Lval, Op, Plain, ThreadNo};
 use fr_plain::Value;
 
-// The main thread.
-fn main_thread() -> ThreadNo
-    ensures { result ≡ 0 }
-{
-    ThreadNo::new(0, 0)
-}
-
-// A label more, for which there is room.
-fn note(labels: &mut Labels, label: Label)
+/// A label more, for which there is room.
+pub fn note(labels: &mut Labels, label: Label)
     requires { 0 < labels.old.spare }
     ensures label { labels.new.items ≡ labels.old.items ++ label ∷ [] }
     ensures spare { labels.old.spare ≤ labels.new.spare + 1 }
@@ -69,8 +62,8 @@ fn note_drop(labels: &mut Labels, value: &Value)
 }
 
 // The value that stands there.
-fn value_there(slots: &[Value], heap: &Heap, spot: &Where) -> Option<Value>
-    ensures { result ≡ value_at (state slots.now heap.now.heap) (spot_of spot.now) }
+fn value_there(thread: ThreadNo, slots: &[Value], heap: &Heap, spot: &Where) -> Option<Value>
+    ensures { result ≡ value_at (state thread slots.now heap.now.heap) (spot_of spot.now) }
 {
     match spot {
         Where::Slot(slot) => {
@@ -89,9 +82,9 @@ fn value_there(slots: &[Value], heap: &Heap, spot: &Where) -> Option<Value>
 }
 
 // Puts another value where one stands.
-fn put(slots: &mut Vec<Value>, heap: &mut Heap, spot: &Where, value: Value)
-    requires stands { IsSome (value_at (state slots.old.items heap.old.heap) (spot_of spot.now)) }
-    ensures { state slots.new.items heap.new.heap ≡ with_value (state slots.old.items heap.old.heap) (spot_of spot.now) value }
+fn put(thread: ThreadNo, slots: &mut Vec<Value>, heap: &mut Heap, spot: &Where, value: Value)
+    requires stands { IsSome (value_at (state thread slots.old.items heap.old.heap) (spot_of spot.now)) }
+    ensures { state thread slots.new.items heap.new.heap ≡ with_value (state thread slots.old.items heap.old.heap) (spot_of spot.now) value }
 {
     match spot {
         Where::Slot(slot) => {
@@ -113,12 +106,15 @@ fn plain_of(value: Value) -> Option<Plain>
     }
 }
 
-// Drops a value: an owned one with all that it owns.
-fn drop_value(heap: &mut Heap, value: Value)
-    ensures { heap.new.heap ≡ without heap.old.heap value }
+/// Drops a value: an owned one with all that it owns. Gives the thread whose task was dropped.
+pub fn drop_value(heap: &mut Heap, value: Value) -> Option<ThreadNo>
+    ensures heap { heap.new.heap ≡ without heap.old.heap value }
+    ensures task { result ≡ task_in heap.old.heap value }
 {
-    if let Value::Own(plain) = value {
-        heap.drop_plain(plain);
+    match value {
+        Value::Own(plain) => heap.drop_plain(plain),
+        Value::ToSlot(_) => None,
+        Value::ToObject(_) => None,
     }
 }
 
@@ -144,15 +140,21 @@ fn lead(labels: &mut Labels, spot: &Where, value: &Value) -> Option<Where>
 }
 
 // Follows a place star by star.
-fn find(slots: &[Value], heap: &Heap, place: Lval, labels: &mut Labels) -> Option<Where>
+fn find(
+    thread: ThreadNo,
+    slots: &[Value],
+    heap: &Heap,
+    place: Lval,
+    labels: &mut Labels,
+) -> Option<Where>
     requires labels { labels.old.items ≡ [] }
     requires room { place.depth ≤ labels.old.spare }
-    ensures leads { IsReached (locate (state slots.now heap.now.heap) place) labels.new.items result }
+    ensures leads { IsReached (locate (state thread slots.now heap.now.heap) place) labels.new.items result }
     ensures spare { labels.old.spare ≤ labels.new.spare + place.depth }
 {
     let mut spot = Where::Slot(place.slot);
     'stars: for star in 0..place.depth {
-        let Some(value) = value_there(slots, heap, &spot) else {
+        let Some(value) = value_there(thread, slots, heap, &spot) else {
             return None;
         };
         match lead(labels, &spot, &value) {
@@ -165,39 +167,46 @@ fn find(slots: &[Value], heap: &Heap, place: Lval, labels: &mut Labels) -> Optio
 
 /// Reads a place: copies the value, or takes it out.
 pub fn read(
+    thread: ThreadNo,
     slots: &mut Vec<Value>,
     heap: &mut Heap,
     labels: &mut Labels,
     place: Lval,
     take: bool,
 ) -> Value
-    requires goes { IsSome (act (do_read place take) (state slots.old.items heap.old.heap)) }
+    requires goes { IsSome (act (do_read place take) (state thread slots.old.items heap.old.heap)) }
     requires labels { labels.old.items ≡ [] }
     requires room { place.depth + 2 ≤ labels.old.spare }
-    ensures { act (do_read place take) (state slots.old.items heap.old.heap) ≡ did result slots.new.items heap.new.heap labels.new.items }
+    ensures { act (do_read place take) (state thread slots.old.items heap.old.heap) ≡ did result thread slots.new.items heap.new.heap labels.new.items }
 {
-    let Some(spot) = find(slots, heap, place, labels) else {
+    let Some(spot) = find(thread, slots, heap, place, labels) else {
         unreachable!()
     };
-    let Some(value) = value_there(slots, heap, &spot) else {
+    let Some(value) = value_there(thread, slots, heap, &spot) else {
         unreachable!()
     };
     note_load(labels, &spot, &value);
     if take {
-        put(slots, heap, &spot, Value::Own(Plain::Nothing));
+        put(thread, slots, heap, &spot, Value::Own(Plain::Nothing));
         note_store(labels, &spot, &Value::Own(Plain::Nothing));
     }
     value
 }
 
 /// Makes a reference to what stands at a place.
-pub fn borrow(slots: &[Value], heap: &Heap, labels: &mut Labels, place: Lval) -> Value
-    requires goes { IsSome (act (do_borrow place false) (state slots.now heap.now.heap)) }
+pub fn borrow(
+    thread: ThreadNo,
+    slots: &[Value],
+    heap: &Heap,
+    labels: &mut Labels,
+    place: Lval,
+) -> Value
+    requires goes { IsSome (act (do_borrow place false) (state thread slots.now heap.now.heap)) }
     requires labels { labels.old.items ≡ [] }
     requires room { place.depth ≤ labels.old.spare }
-    ensures { act (do_borrow place false) (state slots.now heap.now.heap) ≡ did result slots.now heap.now.heap labels.new.items }
+    ensures { act (do_borrow place false) (state thread slots.now heap.now.heap) ≡ did result thread slots.now heap.now.heap labels.new.items }
 {
-    let Some(spot) = find(slots, heap, place, labels) else {
+    let Some(spot) = find(thread, slots, heap, place, labels) else {
         unreachable!()
     };
     match spot {
@@ -206,53 +215,68 @@ pub fn borrow(slots: &[Value], heap: &Heap, labels: &mut Labels, place: Lval) ->
     }
 }
 
-/// Writes a value to a place, and drops the old one.
+/// Writes a value to a place, and drops the old one. Gives the thread whose task was dropped.
 pub fn assign(
+    thread: ThreadNo,
     slots: &mut Vec<Value>,
     heap: &mut Heap,
     labels: &mut Labels,
     place: Lval,
     value: Value,
-)
-    requires goes { IsSome (act (do_assign place value) (state slots.old.items heap.old.heap)) }
+) -> Option<ThreadNo>
+    requires goes { IsSome (act (do_assign place value) (state thread slots.old.items heap.old.heap)) }
     requires labels { labels.old.items ≡ [] }
     requires room { place.depth + 2 ≤ labels.old.spare }
-    ensures { act (do_assign place value) (state slots.old.items heap.old.heap) ≡ did unit slots.new.items heap.new.heap labels.new.items }
+    ensures act { act (do_assign place value) (state thread slots.old.items heap.old.heap) ≡ did unit thread slots.new.items heap.new.heap labels.new.items }
+    ensures task { result ≡ lets_go (do_assign place value) (state thread slots.old.items heap.old.heap) }
 {
-    let Some(spot) = find(slots, heap, place, labels) else {
+    let Some(spot) = find(thread, slots, heap, place, labels) else {
         unreachable!()
     };
-    let Some(old) = value_there(slots, heap, &spot) else {
+    let Some(old) = value_there(thread, slots, heap, &spot) else {
         unreachable!()
     };
     note_drop(labels, &old);
     note_store(labels, &spot, &value);
-    put(slots, heap, &spot, value);
-    drop_value(heap, old);
+    put(thread, slots, heap, &spot, value);
+    drop_value(heap, old)
 }
 
 /// Makes an object with a value, and gives its box.
-pub fn make_box(slots: &[Value], heap: &mut Heap, labels: &mut Labels, value: Value) -> Value
-    requires goes { IsSome (act (do_box value) (state slots.now heap.old.heap)) }
+pub fn make_box(
+    thread: ThreadNo,
+    slots: &[Value],
+    heap: &mut Heap,
+    labels: &mut Labels,
+    value: Value,
+) -> Value
+    requires goes { IsSome (act (do_box value) (state thread slots.now heap.old.heap)) }
     requires labels { labels.old.items ≡ [] }
     requires room { 0 < labels.old.spare }
-    requires heap { 0 < heap.old.spare }
-    ensures { act (do_box value) (state slots.now heap.old.heap) ≡ did result slots.now heap.new.heap labels.new.items }
+    requires heap { heap.old.ready ≡ Some thread }
+    ensures { act (do_box value) (state thread slots.now heap.old.heap) ≡ did result thread slots.now heap.new.heap labels.new.items }
 {
     let Value::Own(plain) = value else {
         unreachable!()
     };
     let content = plain;
-    let object = heap.make(content);
+    let object = heap.make(thread, content);
     let name = object;
     note(labels, Label::Make(name, plain));
     Value::Own(Plain::Box(object))
 }
 
 /// The sum, the difference or the product of two numbers; each wraps at 64 bits.
-pub fn arith(slots: &[Value], heap: &Heap, op: Op, left: Value, right: Value) -> Value
-    requires { IsSome (act (do_arith op left right) (state slots.now heap.now.heap)) }
-    ensures { act (do_arith op left right) (state slots.now heap.now.heap) ≡ did result slots.now heap.now.heap [] }
+pub fn arith(
+    thread: ThreadNo,
+    slots: &[Value],
+    heap: &Heap,
+    op: Op,
+    left: Value,
+    right: Value,
+) -> Value
+    requires { IsSome (act (do_arith op left right) (state thread slots.now heap.now.heap)) }
+    ensures { act (do_arith op left right) (state thread slots.now heap.now.heap) ≡ did result thread slots.now heap.now.heap [] }
 {
     let Value::Own(Plain::Int(a)) = left else {
         unreachable!()
@@ -275,12 +299,19 @@ fn wrapped(op: Op, left: i64, right: i64) -> i64
 }
 
 /// Prints a number.
-pub fn print(slots: &[Value], heap: &Heap, output: &mut Vec<i64>, labels: &mut Labels, value: Value)
-    requires goes { IsSome (act (do_print value) (state slots.now heap.now.heap)) }
+pub fn print(
+    thread: ThreadNo,
+    slots: &[Value],
+    heap: &Heap,
+    output: &mut Vec<i64>,
+    labels: &mut Labels,
+    value: Value,
+)
+    requires goes { IsSome (act (do_print value) (state thread slots.now heap.now.heap)) }
     requires labels { labels.old.items ≡ [] }
     requires room { 0 < labels.old.spare }
     requires output { vec_len output.old < vec_capacity output.old }
-    ensures act { act (do_print value) (state slots.now heap.now.heap) ≡ did unit slots.now heap.now.heap labels.new.items }
+    ensures act { act (do_print value) (state thread slots.now heap.now.heap) ≡ did unit thread slots.now heap.now.heap labels.new.items }
     ensures output { output.new.items ≡ output.old.items ++ prints labels.new.items }
 {
     let Value::Own(Plain::Int(number)) = value else {
@@ -290,37 +321,90 @@ pub fn print(slots: &[Value], heap: &Heap, output: &mut Vec<i64>, labels: &mut L
     note(labels, Label::Print(number));
 }
 
-/// Drops the newest slot.
-pub fn drop_slot(slots: &mut Vec<Value>, heap: &mut Heap, labels: &mut Labels)
-    requires goes { IsSome (act do_drop (state slots.old.items heap.old.heap)) }
+/// Drops the newest slot. Gives the thread whose task was dropped.
+pub fn drop_slot(
+    thread: ThreadNo,
+    slots: &mut Vec<Value>,
+    heap: &mut Heap,
+    labels: &mut Labels,
+) -> Option<ThreadNo>
+    requires goes { IsSome (act do_drop (state thread slots.old.items heap.old.heap)) }
     requires labels { labels.old.items ≡ [] }
     requires room { 0 < labels.old.spare }
-    ensures { act do_drop (state slots.old.items heap.old.heap) ≡ did unit slots.new.items heap.new.heap labels.new.items }
+    ensures act { act do_drop (state thread slots.old.items heap.old.heap) ≡ did unit thread slots.new.items heap.new.heap labels.new.items }
+    ensures task { result ≡ lets_go do_drop (state thread slots.old.items heap.old.heap) }
 {
     let Some(value) = slots.pop() else {
         unreachable!()
     };
     note_drop(labels, &value);
-    drop_value(heap, value);
+    drop_value(heap, value)
 }
 
-/// Drops the value of a term before a `;`.
-pub fn discard(slots: &[Value], heap: &mut Heap, labels: &mut Labels, value: Value)
+/// Drops the value of a term before a `;`. Gives the thread whose task was dropped.
+pub fn discard(
+    thread: ThreadNo,
+    slots: &[Value],
+    heap: &mut Heap,
+    labels: &mut Labels,
+    value: Value,
+) -> Option<ThreadNo>
     requires labels { labels.old.items ≡ [] }
     requires room { 0 < labels.old.spare }
-    ensures { act (do_discard value) (state slots.now heap.old.heap) ≡ did unit slots.now heap.new.heap labels.new.items }
+    ensures act { act (do_discard value) (state thread slots.now heap.old.heap) ≡ did unit thread slots.now heap.new.heap labels.new.items }
+    ensures task { result ≡ lets_go (do_discard value) (state thread slots.now heap.old.heap) }
 {
     note_drop(labels, &value);
-    drop_value(heap, value);
+    drop_value(heap, value)
 }
 
-/// Drops the result of the main thread, which is over.
-pub fn finish(slots: &[Value], heap: &mut Heap, labels: &mut Labels, value: Value)
+/// Drops the result of the main thread, which is over. Gives the thread whose task was dropped.
+pub fn finish(
+    thread: ThreadNo,
+    slots: &[Value],
+    heap: &mut Heap,
+    labels: &mut Labels,
+    value: Value,
+) -> Option<ThreadNo>
     requires labels { labels.old.items ≡ [] }
     requires room { 2 ≤ labels.old.spare }
-    ensures { act (do_end value) (state slots.now heap.old.heap) ≡ did unit slots.now heap.new.heap labels.new.items }
+    ensures act { act (do_end value) (state thread slots.now heap.old.heap) ≡ did unit thread slots.now heap.new.heap labels.new.items }
+    ensures task { result ≡ lets_go (do_end value) (state thread slots.now heap.old.heap) }
 {
     note_drop(labels, &value);
-    drop_value(heap, value);
-    note(labels, Label::End(main_thread()));
+    note(labels, Label::End(thread));
+    drop_value(heap, value)
+}
+
+/// The end of a thread whose result is kept.
+pub fn keep_result(
+    thread: ThreadNo,
+    slots: &[Value],
+    heap: &Heap,
+    labels: &mut Labels,
+    value: Value,
+) -> Value
+    requires labels { labels.old.items ≡ [] }
+    requires room { 0 < labels.old.spare }
+    ensures { act (do_finish value) (state thread slots.now heap.now.heap) ≡ did result thread slots.now heap.now.heap labels.new.items }
+{
+    note(labels, Label::End(thread));
+    value
+}
+
+/// Drops the result of a thread that was let go, which is over. Gives the thread whose task was dropped.
+pub fn drop_result(
+    thread: ThreadNo,
+    slots: &[Value],
+    heap: &mut Heap,
+    labels: &mut Labels,
+    value: Value,
+) -> Option<ThreadNo>
+    requires labels { labels.old.items ≡ [] }
+    requires room { 0 < labels.old.spare }
+    ensures act { act (do_leave value) (state thread slots.now heap.old.heap) ≡ did unit thread slots.now heap.new.heap labels.new.items }
+    ensures task { result ≡ lets_go (do_leave value) (state thread slots.now heap.old.heap) }
+{
+    note(labels, Label::End(thread));
+    drop_value(heap, value)
 }

@@ -9,11 +9,12 @@ ghost use Rattle.fr_plain.specs.Run.{settle, arith, block, last, leaves};
 ghost use Rattle.fr_meaning.specs.Contexts.{fill, depth};
 ghost use Rattle.fr_meaning.specs.FormTerms.{AreInOrder, term_of, parts_of, items_at};
 ghost use Rattle.fr_meaning.specs.DoneTerms.{over};
-ghost use Rattle.fr_meaning.specs.FrameTerms.{Enters, EntersItem, waits_of, wrapped, around, focus_run, AreInside, IsInside, HasMadeWay};
+ghost use Rattle.fr_meaning.specs.FrameTerms.{Enters, EntersItem, waits_of, focus_of, wrapped, around, focus_run, AreInside, IsInside, HasMadeWay};
 
 use crate::forms::Form;
 use crate::frame::{Done, Entered, Focus, Frame};
 use fr_base::Op;
+use std::slice;
 
 // The term around it waits.
 fn waits(entered: Entered) -> Entered
@@ -25,8 +26,18 @@ fn waits(entered: Entered) -> Entered
     }
 }
 
-// The frame on top goes.
-fn leave_top(frames: &mut Vec<Frame>)
+/// The innermost term, done or not.
+pub fn focus_in(entered: Entered) -> Focus
+    ensures { result ≡ focus_of entered }
+{
+    match entered {
+        Entered::Ended(done) => Focus::Over(done),
+        Entered::Waits(focus) => focus,
+    }
+}
+
+/// The frame on top goes.
+pub fn leave_top(frames: &mut Vec<Frame>)
     ensures frames { (gs : List Frame) (g : Frame) → frames.old.items ≡ gs ++ g ∷ [] → frames.new.items ≡ gs }
     ensures capacity { vec_capacity frames.new ≡ vec_capacity frames.old }
 {
@@ -44,13 +55,14 @@ fn stay(frames: &mut Vec<Frame>, frame: Frame, done: Done) -> Entered
     Entered::Waits(Focus::Over(done))
 }
 
-// The items of a block; of another form, none.
+// The items of a block, and the body of a new thread; of another form, none.
 fn items_of(forms: &[Form], node: usize) -> &[u32]
     requires { node < length forms.now }
     ensures { result.now ≡ items_at forms.now node }
 {
     match &forms[node] {
         Form::Block(items, _) => items.as_slice(),
+        Form::Spawn(_, body, _) => slice::from_ref(body),
         _ => &[],
     }
 }
@@ -121,6 +133,7 @@ pub fn enter(forms: &[Form], at: usize, frames: &mut Vec<Frame>) -> Entered
         Form::Place => Entered::Ended(Done::Unit),
         Form::Read(place, take) => Entered::Waits(Focus::Read(*place, *take)),
         Form::Borrow(place, is_mut) => Entered::Waits(Focus::Borrow(*place, *is_mut)),
+        Form::Spawn(_, _, _) => Entered::Waits(Focus::Spawn(at)),
         Form::Box(part) => {
             frames.push_reserved(Frame::Box);
             waits(enter(forms, *part as usize, frames))
@@ -131,6 +144,10 @@ pub fn enter(forms: &[Form], at: usize, frames: &mut Vec<Frame>) -> Entered
         }
         Form::Print(part) => {
             frames.push_reserved(Frame::Print);
+            waits(enter(forms, *part as usize, frames))
+        }
+        Form::Join(part) => {
+            frames.push_reserved(Frame::Join);
             waits(enter(forms, *part as usize, frames))
         }
         Form::Assign(place, part) => {
@@ -279,8 +296,8 @@ pub fn leave(forms: &[Form], frames: &mut Vec<Frame>, done: Done) -> Focus
     requires order { AreInOrder forms.now }
     requires frames { AreInside (length forms.now) frames.old.items }
     requires room { depth (wrapped forms.now frames.old.items (over done)) ≤ vec_capacity frames.old }
-    ensures settles { wrapped forms.now frames.new.items (focus_run result) ≡ settle (wrapped forms.now frames.old.items (over done)) }
-    ensures way { HasMadeWay frames.new.items result }
+    ensures settles { wrapped forms.now frames.new.items (focus_run forms.now result) ≡ settle (wrapped forms.now frames.old.items (over done)) }
+    ensures way { HasMadeWay forms.now frames.new.items result }
     ensures capacity { vec_capacity frames.new ≡ vec_capacity frames.old }
     ensures frames { AreInside (length forms.now) frames.new.items }
 {

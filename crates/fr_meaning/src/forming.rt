@@ -9,7 +9,7 @@ ghost use Rattle.fr_sound.specs.NeverStuck.{IsTyped};
 ghost use Rattle.fr_meaning.specs.Contexts.{depth};
 ghost use Rattle.fr_meaning.specs.FormTerms.{AllBelow, AreInOrder, NamesBelow};
 ghost use Rattle.fr_meaning.specs.Forming.{count_of, place_in, IsCount, IsMade};
-ghost use Rattle.fr_meaning.specs.PoolView.{root_of as root_run};
+ghost use Rattle.fr_meaning.specs.FormTerms.{root_of as root_run};
 
 use crate::forms::Form;
 use borrow_check::Checked;

@@ -2,6 +2,13 @@
 
 use fr_base::{Lval, Op};
 
+/// A slot that a new thread captures, and whether the value is taken out of it.
+#[derive(Clone, Copy)]
+pub struct Captured {
+    pub slot: u32,
+    pub take: bool,
+}
+
 /// A term with slots for names. There is one form for each node of the tree, under the node's number, and its parts
 /// are numbers of forms that stand before it.
 #[derive(Drop)]
@@ -15,11 +22,15 @@ pub enum Form {
     Box(u32),
     Let(u32),
     Print(u32),
+    Join(u32),
     Assign(Lval, u32),
     /// The left operand and the right one.
     Arith(Op, u32, u32),
     /// The items in order, and how many of them are a `let`: so many slots are dropped at the block's end.
     Block(Vec<u32>, u32),
+    /// The captured slots in order, the body of the new thread, and how many slots the thread drops at its end: the
+    /// captured ones and the variables of the body.
+    Spawn(Vec<Captured>, u32, u32),
     /// The node of a place, which nobody enters.
     Place,
 }

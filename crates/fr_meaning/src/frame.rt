@@ -17,6 +17,7 @@ pub enum Frame {
     Box,
     Let,
     Print,
+    Join,
     Assign(Lval),
     /// The left operand is in progress; the form of the right one, which comes after it.
     Left { op: Op, right: usize },
@@ -27,12 +28,13 @@ pub enum Frame {
 }
 
 /// The innermost term: it is done, or it reads a place, with or without taking the value out of it, or makes a
-/// reference to one.
+/// reference to one, or starts the thread of a form.
 #[derive(Clone, Copy)]
 pub enum Focus {
     Over(Done),
     Read(Lval, bool),
     Borrow(Lval, bool),
+    Spawn(usize),
 }
 
 /// What entering a term comes to: it is done, or it waits at its innermost part.

@@ -1,48 +1,90 @@
-//! The objects of the main thread.
+//! The objects of all threads.
 
-ghost use Rattle.std.specs.Prelude.{◌≡◌, ◌+◌, ◌<◌, ◌≤◌, ◌==◌, [], ◌∷◌, OnOk, OnErr, IsSome};
-ghost use Rattle.fr_plain.specs.Heap.{cell_at, with_cell, next_object, with_object, dropped, live};
+ghost use Rattle.std.specs.Prelude.{◌≡◌, ◌+◌, ◌<◌, ◌≤◌, ◌==◌, [], ◌∷◌, Some, None, IfOk, OnOk, OnErr, IsSome};
+ghost use Rattle.fr_plain.specs.Heap.{cell_at, with_cell, next_object, with_object, dropped, live, last_link, task_of};
 
+use crate::places::Places;
 use fr_base::{NoMemory, ObjNo, Plain, ThreadNo};
 use std::alloc::Global;
 use std::marker::Model;
+use std::mem;
 
-/// The objects that the main thread has made, each at its count; nothing stands where one was dropped.
-/// Contracts see the one heap, and beside it how many more objects fit without memory.
+/// The objects that each thread has made, each at its count; nothing stands where one was dropped. The threads stand in
+/// the order in which they first made something. A look-up takes no time in the number of threads or objects.
+/// Contracts see the one heap, and beside it the thread whose next object fits without memory.
 #[derive(Drop)]
 pub struct Heap {
-    cells: Vec<Option<Plain>>,
+    alloc: Global,
+    places: Places,
+    cells: Vec<Vec<Option<Plain>>>,
+    first: Vec<Option<Plain>>,
+    ready: Option<ThreadNo>,
 }
 
 impl Model for Heap {
-    ghost use Rattle.std.specs.Prelude.{◌-◌, vec_len, [], ◌∷◌};
-    ghost use Rattle.std.specs.Vec.{vec_capacity};
     ghost use Rattle.fr_meaning.specs.HeapRoom.{HeapRoom};
+    ghost use Rattle.fr_meaning.specs.HeapInside.{heap_view, IsHeap};
 
     ghost Value = { HeapRoom };
 
-    ghost view = { λ h. record { heap = record { thread = 0; cells = h.cells.items } ∷ []; spare = vec_capacity h.cells - vec_len h.cells } };
+    ghost view = { heap_view };
+
+    ghost invariant = { IsHeap };
+}
+
+// The thread of a task.
+fn task_in(value: &Plain) -> Option<ThreadNo>
+    ensures { result ≡ task_of value.now }
+{
+    match value {
+        Plain::Task(thread) => Some(*thread),
+        Plain::Nothing => None,
+        Plain::Unit => None,
+        Plain::Int(_) => None,
+        Plain::Box(_) => None,
+        Plain::Mutex(_) => None,
+    }
 }
 
 impl Heap {
-    /// No object was made, and no memory is taken yet.
-    pub fn new(alloc: Global) -> Heap
-        ensures { result.heap ≡ record { thread = 0; cells = [] } ∷ [] }
+    /// The main thread has made no object yet.
+    pub fn new(alloc: Global) -> Result<Heap, NoMemory>
+        ensures { IfOk result (λ h. h.heap ≡ record { thread = 0; cells = [] } ∷ []) }
     {
-        Heap {
-            cells: Vec::new(alloc),
-        }
+        let mut places = Places::new(alloc);
+        places.reserve()?;
+        places.add(ThreadNo::new(0, 0));
+        let mut cells = Vec::new(alloc);
+        cells.reserve(1)?;
+        cells.push_reserved(Vec::new(alloc));
+        Ok(Heap {
+            alloc,
+            places,
+            cells,
+            first: Vec::new(alloc),
+            ready: None,
+        })
     }
 
-    /// Makes room for `n` more objects; a refusal changes nothing.
-    pub fn reserve(&mut self, n: usize) -> Result<(), NoMemory>
+    /// Makes room for the next object of a thread; a refusal changes no object.
+    pub fn reserve(&mut self, thread: ThreadNo) -> Result<(), NoMemory>
         ensures heap { self.new.heap ≡ self.old.heap }
-        ensures room { OnOk result (n ≤ self.new.spare) }
-        ensures refused { OnErr result (self.new ≡ self.old) }
+        ensures ready { OnOk result (self.new.ready ≡ Some thread) }
     {
-        match self.cells.reserve(n) {
-            Ok(()) => Ok(()),
-            Err(_) => Err(NoMemory),
+        self.ready = None;
+        self.places.reserve()?;
+        self.cells.reserve(1)?;
+        self.first.reserve(1)?;
+        match self.places.at(thread) {
+            Some(place) => {
+                self.cells[place].reserve(1)?;
+                self.ready = Some(thread);
+                Ok(())
+            }
+            None => {
+                self.ready = Some(thread);
+                Ok(())
+            }
         }
     }
 
@@ -50,41 +92,53 @@ impl Heap {
     pub fn get(&self, object: &ObjNo) -> Option<Plain>
         ensures { result ≡ cell_at self.now.heap object.now }
     {
+        let Some(place) = self.places.at(object.thread) else {
+            return None;
+        };
+        let cells = &self.cells[place];
         let at = object.count as usize;
-        if is_of_main(object) && at < self.cells.len() {
-            self.cells[at]
-        } else {
-            None
-        }
+        if at < cells.len() { cells[at] } else { None }
     }
 
     /// Puts another value into a living object's cell, or nothing, which is dropping it.
     pub fn put(&mut self, object: &ObjNo, cell: Option<Plain>)
         requires lives { IsSome (cell_at self.old.heap object.now) }
-        ensures cell { self.new.heap ≡ with_cell self.old.heap object.now cell }
-        ensures spare { self.new.spare ≡ self.old.spare }
+        ensures { self.new.heap ≡ with_cell self.old.heap object.now cell }
     {
+        self.ready = None;
+        let Some(place) = self.places.at(object.thread) else {
+            unreachable!()
+        };
         let at = object.count as usize;
-        self.cells[at] = cell;
+        let cells = &mut self.cells[place];
+        cells[at] = cell;
     }
 
-    /// Makes an object with this value.
-    pub fn make(&mut self, value: Plain) -> ObjNo
-        requires { 0 < self.old.spare }
-        ensures object { result ≡ next_object self.old.heap 0 }
-        ensures made { self.new.heap ≡ with_object self.old.heap 0 value }
+    /// Makes an object of a thread with this value.
+    pub fn make(&mut self, thread: ThreadNo, value: Plain) -> ObjNo
+        requires { self.old.ready ≡ Some thread }
+        ensures object { result ≡ next_object self.old.heap thread }
+        ensures made { self.new.heap ≡ with_object self.old.heap thread value }
     {
-        let count = self.cells.len() as u64;
-        self.cells.push_reserved(Some(value));
-        ObjNo {
-            thread: ThreadNo::new(0, 0),
-            count,
-        }
+        self.ready = None;
+        let Some(place) = self.places.at(thread) else {
+            let mut cells = mem::replace(&mut self.first, Vec::new(self.alloc));
+            cells.push_reserved(Some(value));
+            self.places.add(thread);
+            self.cells.push_reserved(cells);
+            return ObjNo { thread, count: 0 };
+        };
+        let cells = &mut self.cells[place];
+        let count = cells.len() as u64;
+        cells.push_reserved(Some(value));
+        ObjNo { thread, count }
     }
 
-    /// Drops a value: a box's object goes, and then the value that was in it.
-    pub fn drop_plain(&mut self, value: Plain)
-        ensures { self.new.heap ≡ dropped self.old.heap value }
+    /// Drops a value: a box's object goes, and then the value that was in it. Gives the thread whose task stood at the
+    /// end of the boxes.
+    pub fn drop_plain(&mut self, value: Plain) -> Option<ThreadNo>
+        ensures heap { self.new.heap ≡ dropped self.old.heap value }
+        ensures task { result ≡ task_of (last_link (live self.old.heap) self.old.heap value) }
     {
         let mut value = value;
         'links: while let Plain::Box(object) = value {
@@ -93,15 +147,9 @@ impl Heap {
                     self.put(&object, None);
                     value = inner;
                 }
-                None => return,
+                None => return None,
             }
         }
+        task_in(&value)
     }
-}
-
-// Whether the main thread made the object.
-fn is_of_main(object: &ObjNo) -> bool
-    ensures { result ≡ (0 == object.now.thread) }
-{
-    object.thread.server() == 0 && object.thread.count() == 0
 }

@@ -10,8 +10,11 @@ mod frame;
 mod heap;
 mod machine;
 mod need;
+mod places;
 mod pool;
 mod spot;
+mod thread;
+mod threads;
 
 pub use error::StepError;
 pub use forming::forms_of;

@@ -1,21 +1,21 @@
 //! One step of a thread, over its parts.
 
-ghost use Rattle.std.specs.Prelude.{◌≡◌, ◌<◌, ◌≤◌, ◌+◌, ◌++◌, ◌∷◌, [], List, length, drop, vec_len, vec_capacity, IsSome};
+ghost use Rattle.std.specs.Prelude.{◌≡◌, ◌<◌, ◌≤◌, ◌+◌, ◌++◌, ◌∷◌, [], List, length, drop, vec_len, vec_capacity, Some, None, IsSome};
 ghost use Rattle.fr_meaning.specs.declared.frame.Frame.{Frame};
-ghost use Rattle.fr_plain.specs.Run.{Run, settle, block, move, alive};
+ghost use Rattle.fr_plain.specs.Run.{Run, settle, block, move};
 ghost use Rattle.fr_plain.specs.Whole.{prints};
 ghost use Rattle.fr_meaning.specs.Contexts.{fill, depth, IsSettled};
 ghost use Rattle.fr_meaning.specs.FormTerms.{AreInOrder, term_of, parts_of, items_at};
 ghost use Rattle.fr_meaning.specs.DoneTerms.{over, value_of};
 ghost use Rattle.fr_meaning.specs.FrameTerms.{wrapped, around, around_items, focus_run, AreInside, IsInside, HasLastPart, IsPastLeft, HasMadeWay, end_of};
-ghost use Rattle.fr_meaning.specs.Turning.{state, turned, turns_to, thread_step, goes_to, frame_labels, focus_labels};
+ghost use Rattle.fr_meaning.specs.Turning.{state, turned, turns_to, term_step, frame_labels, focus_labels};
 
 use crate::acts::{arith, assign, borrow, discard, drop_slot, make_box, print, read};
 use crate::control::{enter_items, has_item, leave};
 use crate::forms::Form;
 use crate::frame::{Done, Entered, Focus, Frame};
 use crate::heap::Heap;
-use fr_base::{Labels, Plain};
+use fr_base::{Labels, Plain, ThreadNo};
 use fr_plain::Value;
 
 // The value of a term that is done.
@@ -37,6 +37,7 @@ pub fn end_in(focus: &Focus, frames: &[Frame]) -> Option<Done>
         Focus::Over(done) => { if frames.is_empty() { Some(*done) } else { None } }
         Focus::Read(_, _) => None,
         Focus::Borrow(_, _) => None,
+        Focus::Spawn(_) => None,
     }
 }
 
@@ -49,6 +50,7 @@ pub fn labels_ahead(focus: &Focus, frames: &[Frame]) -> usize
         Focus::Read(place, _) => place.depth as usize,
         Focus::Borrow(place, _) => place.depth as usize,
         Focus::Over(_) => 0,
+        Focus::Spawn(_) => 0,
     };
     match frames {
         [.., Frame::Assign(to)] => place + to.depth as usize + 2,
@@ -59,39 +61,50 @@ pub fn labels_ahead(focus: &Focus, frames: &[Frame]) -> usize
 // What the term of the frame does with its part.
 fn operate(
     forms: &[Form],
+    thread: ThreadNo,
     frame: Frame,
     done: Done,
     slots: &mut Vec<Value>,
     heap: &mut Heap,
     output: &mut Vec<i64>,
     labels: &mut Labels,
+    dropped: &mut Option<ThreadNo>,
 ) -> Done
     requires part { HasLastPart frame }
-    requires goes { IsSome (turned (move (fill (around forms.now frame) (over done))) (state slots.old.items heap.old.heap)) }
+    requires goes { IsSome (turned (move (fill (around forms.now frame) (over done))) (state thread slots.old.items heap.old.heap)) }
     requires slots { vec_len slots.old < vec_capacity slots.old }
-    requires heap { 0 < heap.old.spare }
+    requires heap { heap.old.ready ≡ Some thread }
     requires output { vec_len output.old < vec_capacity output.old }
     requires labels { labels.old.items ≡ [] }
+    requires task { dropped.old ≡ None }
     requires room { frame_labels frame ≤ labels.old.spare }
-    ensures turns { turned (move (fill (around forms.now frame) (over done))) (state slots.old.items heap.old.heap) ≡ turns_to (over result) slots.new.items heap.new.heap labels.new.items }
+    ensures turns { turned (move (fill (around forms.now frame) (over done))) (state thread slots.old.items heap.old.heap) ≡ turns_to (over result) thread slots.new.items heap.new.heap labels.new.items dropped.new }
     ensures output { output.new.items ≡ output.old.items ++ prints labels.new.items }
 {
     let value = value_in(done);
     match frame {
-        Frame::Box => Done::Temp(make_box(slots, heap, labels, value)),
+        Frame::Box => Done::Temp(make_box(thread, slots, heap, labels, value)),
         Frame::Let => {
             slots.push_reserved(value);
             Done::Unit
         }
         Frame::Print => {
-            print(slots, heap, output, labels, value);
+            print(thread, slots, heap, output, labels, value);
             Done::Unit
         }
         Frame::Assign(place) => {
-            assign(slots, heap, labels, place, value);
+            *dropped = assign(thread, slots, heap, labels, place, value);
             Done::Unit
         }
-        Frame::Right { op, left } => Done::Temp(arith(slots, heap, op, value_in(left), value)),
+        Frame::Right { op, left } => Done::Temp(arith(
+            thread,
+            slots,
+            heap,
+            op,
+            value_in(left),
+            value,
+        )),
+        Frame::Join => unreachable!(),
         Frame::Left { .. } => unreachable!(),
         Frame::Block { .. } => unreachable!(),
     }
@@ -103,8 +116,8 @@ fn next_item(forms: &[Form], frames: &mut Vec<Frame>, left: u32, node: usize, ne
     requires inside { node < length forms.now }
     requires frames { AreInside (length forms.now) frames.old.items }
     requires room { depth (wrapped forms.now frames.old.items (block left (parts_of (term_of forms.now) (drop next (items_at forms.now node))))) ≤ vec_capacity frames.old }
-    ensures settles { wrapped forms.now frames.new.items (focus_run result) ≡ settle (wrapped forms.now frames.old.items (block left (parts_of (term_of forms.now) (drop next (items_at forms.now node))))) }
-    ensures way { HasMadeWay frames.new.items result }
+    ensures settles { wrapped forms.now frames.new.items (focus_run forms.now result) ≡ settle (wrapped forms.now frames.old.items (block left (parts_of (term_of forms.now) (drop next (items_at forms.now node))))) }
+    ensures way { HasMadeWay forms.now frames.new.items result }
     ensures capacity { vec_capacity frames.new ≡ vec_capacity frames.old }
     ensures frames { AreInside (length forms.now) frames.new.items }
 {
@@ -117,6 +130,7 @@ fn next_item(forms: &[Form], frames: &mut Vec<Frame>, left: u32, node: usize, ne
 // A step of a block whose item is done: its value before a `;` is dropped, or after the last item a slot.
 fn step_block(
     forms: &[Form],
+    thread: ThreadNo,
     frames: &mut Vec<Frame>,
     left: u32,
     node: usize,
@@ -125,26 +139,28 @@ fn step_block(
     slots: &mut Vec<Value>,
     heap: &mut Heap,
     labels: &mut Labels,
+    dropped: &mut Option<ThreadNo>,
 ) -> Focus
     requires order { AreInOrder forms.now }
     requires inside { node < length forms.now }
     requires frames { AreInside (length forms.now) frames.old.items }
     requires settled { IsSettled (fill (around_items left (term_of forms.now) (drop next (items_at forms.now node))) (over done)) }
     requires room { depth (wrapped forms.now frames.old.items (fill (around_items left (term_of forms.now) (drop next (items_at forms.now node))) (over done))) ≤ vec_capacity frames.old }
-    requires goes { IsSome (turned (move (fill (around_items left (term_of forms.now) (drop next (items_at forms.now node))) (over done))) (state slots.old.items heap.old.heap)) }
+    requires goes { IsSome (turned (move (fill (around_items left (term_of forms.now) (drop next (items_at forms.now node))) (over done))) (state thread slots.old.items heap.old.heap)) }
     requires labels { labels.old.items ≡ [] }
+    requires task { dropped.old ≡ None }
     requires spare { 2 ≤ labels.old.spare }
-    ensures step { thread_step (alive (wrapped forms.now frames.old.items (fill (around_items left (term_of forms.now) (drop next (items_at forms.now node))) (over done)))) (state slots.old.items heap.old.heap) ≡ goes_to (alive (wrapped forms.now frames.new.items (focus_run result))) slots.new.items heap.new.heap labels.new.items }
+    ensures step { term_step (wrapped forms.now frames.old.items (fill (around_items left (term_of forms.now) (drop next (items_at forms.now node))) (over done))) (state thread slots.old.items heap.old.heap) ≡ turns_to (wrapped forms.now frames.new.items (focus_run forms.now result)) thread slots.new.items heap.new.heap labels.new.items dropped.new }
     ensures silent { prints labels.new.items ≡ [] }
-    ensures way { HasMadeWay frames.new.items result }
+    ensures way { HasMadeWay forms.now frames.new.items result }
     ensures capacity { vec_capacity frames.new ≡ vec_capacity frames.old }
     ensures frames { AreInside (length forms.now) frames.new.items }
 {
     if has_item(forms, node, next) {
-        discard(slots, heap, labels, value_in(done));
+        *dropped = discard(thread, slots, heap, labels, value_in(done));
         return next_item(forms, frames, left, node, next);
     }
-    drop_slot(slots, heap, labels);
+    *dropped = drop_slot(thread, slots, heap, labels);
     frames.push_reserved(Frame::Block {
         left: left - 1,
         node,
@@ -156,6 +172,7 @@ fn step_block(
 // A step of the term of a frame, whose part is done.
 fn step_frame(
     forms: &[Form],
+    thread: ThreadNo,
     frames: &mut Vec<Frame>,
     frame: Frame,
     done: Done,
@@ -163,6 +180,7 @@ fn step_frame(
     heap: &mut Heap,
     output: &mut Vec<i64>,
     labels: &mut Labels,
+    dropped: &mut Option<ThreadNo>,
 ) -> Focus
     requires order { AreInOrder forms.now }
     requires frame { IsInside (length forms.now) frame }
@@ -170,68 +188,79 @@ fn step_frame(
     requires frames { AreInside (length forms.now) frames.old.items }
     requires settled { IsSettled (fill (around forms.now frame) (over done)) }
     requires room { depth (wrapped forms.now frames.old.items (fill (around forms.now frame) (over done))) ≤ vec_capacity frames.old }
-    requires goes { IsSome (turned (move (fill (around forms.now frame) (over done))) (state slots.old.items heap.old.heap)) }
+    requires goes { IsSome (turned (move (fill (around forms.now frame) (over done))) (state thread slots.old.items heap.old.heap)) }
     requires slots { vec_len slots.old < vec_capacity slots.old }
-    requires heap { 0 < heap.old.spare }
+    requires heap { heap.old.ready ≡ Some thread }
     requires output { vec_len output.old < vec_capacity output.old }
     requires labels { labels.old.items ≡ [] }
+    requires task { dropped.old ≡ None }
     requires spare { frame_labels frame ≤ labels.old.spare }
-    ensures step { thread_step (alive (wrapped forms.now frames.old.items (fill (around forms.now frame) (over done)))) (state slots.old.items heap.old.heap) ≡ goes_to (alive (wrapped forms.now frames.new.items (focus_run result))) slots.new.items heap.new.heap labels.new.items }
+    ensures step { term_step (wrapped forms.now frames.old.items (fill (around forms.now frame) (over done))) (state thread slots.old.items heap.old.heap) ≡ turns_to (wrapped forms.now frames.new.items (focus_run forms.now result)) thread slots.new.items heap.new.heap labels.new.items dropped.new }
     ensures output { output.new.items ≡ output.old.items ++ prints labels.new.items }
-    ensures way { HasMadeWay frames.new.items result }
+    ensures way { HasMadeWay forms.now frames.new.items result }
     ensures capacity { vec_capacity frames.new ≡ vec_capacity frames.old }
     ensures frames { AreInside (length forms.now) frames.new.items }
 {
     if let Frame::Block { left, node, next } = frame {
-        return step_block(forms, frames, left, node, next, done, slots, heap, labels);
+        return step_block(
+            forms, thread, frames, left, node, next, done, slots, heap, labels, dropped,
+        );
     }
-    let over = operate(forms, frame, done, slots, heap, output, labels);
+    let over = operate(
+        forms, thread, frame, done, slots, heap, output, labels, dropped,
+    );
     leave(forms, frames, over)
 }
 
-/// One step of a thread that isn't over.
+/// One step that a thread does alone, which isn't its end. Tells the thread whose task was dropped.
 pub fn advance(
     forms: &[Form],
+    thread: ThreadNo,
     focus: Focus,
     frames: &mut Vec<Frame>,
     slots: &mut Vec<Value>,
     heap: &mut Heap,
     output: &mut Vec<i64>,
     labels: &mut Labels,
+    dropped: &mut Option<ThreadNo>,
 ) -> Focus
     requires order { AreInOrder forms.now }
     requires frames { AreInside (length forms.now) frames.old.items }
-    requires way { HasMadeWay frames.old.items focus }
-    requires settled { IsSettled (wrapped forms.now frames.old.items (focus_run focus)) }
-    requires room { depth (wrapped forms.now frames.old.items (focus_run focus)) ≤ vec_capacity frames.old }
-    requires goes { IsSome (thread_step (alive (wrapped forms.now frames.old.items (focus_run focus))) (state slots.old.items heap.old.heap)) }
+    requires way { HasMadeWay forms.now frames.old.items focus }
+    requires settled { IsSettled (wrapped forms.now frames.old.items (focus_run forms.now focus)) }
+    requires room { depth (wrapped forms.now frames.old.items (focus_run forms.now focus)) ≤ vec_capacity frames.old }
+    requires goes { IsSome (term_step (wrapped forms.now frames.old.items (focus_run forms.now focus)) (state thread slots.old.items heap.old.heap)) }
     requires on { end_of focus frames.old.items ≡ None }
     requires slots { vec_len slots.old < vec_capacity slots.old }
-    requires heap { 0 < heap.old.spare }
+    requires heap { heap.old.ready ≡ Some thread }
     requires output { vec_len output.old < vec_capacity output.old }
     requires labels { labels.old.items ≡ [] }
+    requires task { dropped.old ≡ None }
     requires spare { focus_labels focus ≤ labels.old.spare }
     requires frame_spare { (gs : List Frame) (g : Frame) → frames.old.items ≡ gs ++ g ∷ [] → frame_labels g ≤ labels.old.spare }
-    ensures step { thread_step (alive (wrapped forms.now frames.old.items (focus_run focus))) (state slots.old.items heap.old.heap) ≡ goes_to (alive (wrapped forms.now frames.new.items (focus_run result))) slots.new.items heap.new.heap labels.new.items }
+    ensures step { term_step (wrapped forms.now frames.old.items (focus_run forms.now focus)) (state thread slots.old.items heap.old.heap) ≡ turns_to (wrapped forms.now frames.new.items (focus_run forms.now result)) thread slots.new.items heap.new.heap labels.new.items dropped.new }
     ensures output { output.new.items ≡ output.old.items ++ prints labels.new.items }
-    ensures way { HasMadeWay frames.new.items result }
+    ensures way { HasMadeWay forms.now frames.new.items result }
     ensures capacity { vec_capacity frames.new ≡ vec_capacity frames.old }
     ensures frames { AreInside (length forms.now) frames.new.items }
 {
     match focus {
         Focus::Read(place, take) => {
-            let value = read(slots, heap, labels, place, take);
+            let value = read(thread, slots, heap, labels, place, take);
             leave(forms, frames, Done::Temp(value))
         }
+        Focus::Spawn(_) => unreachable!(),
         Focus::Borrow(place, _) => {
-            let value = borrow(slots, heap, labels, place);
+            let value = borrow(thread, slots, heap, labels, place);
             leave(forms, frames, Done::Temp(value))
         }
         Focus::Over(done) => {
             let Some(frame) = frames.pop() else {
                 unreachable!()
             };
-            step_frame(forms, frames, frame, done, slots, heap, output, labels)
+            step_frame(
+                forms, thread, frames, frame, done, slots, heap, output, labels, dropped,
+            )
         }
     }
 }

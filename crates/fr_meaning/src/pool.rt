@@ -10,16 +10,15 @@ ghost use Rattle.fr_sound.specs.NeverStuck.{IsTyped};
 ghost use Rattle.fr_meaning.specs.declared.error.StepError.{StepError};
 ghost use Rattle.fr_meaning.specs.declared.error.StepError.TheVariants as step_error;
 ghost use Rattle.fr_meaning.specs.Contexts.{depth};
-ghost use Rattle.fr_meaning.specs.FormTerms.{AreInOrder};
-ghost use Rattle.fr_meaning.specs.FrameTerms.{focus_of};
-ghost use Rattle.fr_meaning.specs.PoolView.{root_of, whole_of, steps_left_of, refusal, need_of};
+ghost use Rattle.fr_meaning.specs.FormTerms.{AreInOrder, root_of};
+ghost use Rattle.fr_meaning.specs.PoolView.{whole_of, steps_left_of, refusal, need_of};
 
 use crate::acts::finish;
-use crate::control::enter;
+use crate::control::{enter, focus_in};
 use crate::error::StepError;
 use crate::forming::forms_of;
 use crate::forms::Form;
-use crate::frame::{Entered, Focus, Frame};
+use crate::frame::{Focus, Frame};
 use crate::heap::Heap;
 use crate::machine::{advance, end_in, labels_ahead, value_in};
 use crate::need::Need;
@@ -54,22 +53,13 @@ impl Model for Pool {
     ghost invariant = { IsPool };
 }
 
-// The innermost term, done or not.
-fn focus_in(entered: Entered) -> Focus
-    ensures { result ≡ focus_of entered }
-{
-    match entered {
-        Entered::Ended(done) => Focus::Over(done),
-        Entered::Waits(focus) => focus,
-    }
-}
-
 impl Pool {
     /// The main thread at the start of a checked program's term, alone over an empty heap. Takes time in the program's
     /// nodes. The forms of several threads don't run yet.
     pub fn new(alloc: Global, checked: &Checked) -> Result<Pool, NoMemory>
         requires sequential { IsSequential (term_of checked.now.arena) }
-        ensures { IfOk result (λ p. whole_of p ≡ start (program (term_of checked.now.arena))) }
+        ensures start { IfOk result (λ p. whole_of p ≡ start (program (term_of checked.now.arena))) }
+        ensures typed { IfOk result (λ p. IsTyped (whole_of p)) }
     {
         let forms = forms_of(alloc, checked)?;
         Pool::from_forms(alloc, forms)
@@ -81,19 +71,21 @@ impl Pool {
         requires root { 0 < length forms.items }
         requires depth { depth (root_of forms.items) ≤ 64 }
         requires typed { IsTyped (start (root_of forms.items)) }
-        ensures { IfOk result (λ p. whole_of p ≡ start (root_of forms.items)) }
+        ensures start { IfOk result (λ p. whole_of p ≡ start (root_of forms.items)) }
+        ensures typed { IfOk result (λ p. IsTyped (whole_of p)) }
     {
         let mut frames = Vec::new(alloc);
         frames.reserve(64)?;
         let root = forms.len() - 1;
         let focus = focus_in(enter(&forms, root, &mut frames));
+        let heap = Heap::new(alloc)?;
         Ok(Pool {
             alloc,
             forms,
             frames,
             focus,
             slots: Vec::new(alloc),
-            heap: Heap::new(alloc),
+            heap,
             output: Vec::new(alloc),
             ended: false,
         })
@@ -120,7 +112,8 @@ impl Pool {
 
     // Why the thread can't step with these names.
     fn refused(&self, thread: ThreadNo, fresh: Fresh) -> Option<StepError>
-        ensures { result ≡ refusal (whole_of self.now) thread fresh }
+        ensures cause { result ≡ refusal (whole_of self.now) thread fresh }
+        ensures main { result ≡ None → (thread ≡ 0) × (fresh ≡ fresh_.None) }
     {
         if !is_main(thread) {
             return Some(StepError::NoThread);
@@ -141,25 +134,35 @@ impl Pool {
         ensures left { OnOk result (steps_left_of self.new + 1 ≡ steps_left_of self.old) }
         ensures err { OnErr result (self.new ≡ self.old) }
     {
+        let main = main_thread();
         let mut labels = Labels::new(self.alloc);
         labels.reserve(labels_ahead(&self.focus, &self.frames))?;
         self.slots.reserve(1)?;
-        self.heap.reserve(1)?;
+        self.heap.reserve(main)?;
         self.output.reserve(1)?;
         if let Some(done) = end_in(&self.focus, &self.frames) {
-            finish(&self.slots, &mut self.heap, &mut labels, value_in(done));
+            finish(
+                main,
+                &self.slots,
+                &mut self.heap,
+                &mut labels,
+                value_in(done),
+            );
             self.ended = true;
             return Ok(labels);
         }
         let focus = self.focus;
+        let mut dropped = None;
         self.focus = advance(
             &self.forms,
+            main,
             focus,
             &mut self.frames,
             &mut self.slots,
             &mut self.heap,
             &mut self.output,
             &mut labels,
+            &mut dropped,
         );
         Ok(labels)
     }
@@ -192,6 +195,13 @@ impl Pool {
             Ending3::Going
         }
     }
+}
+
+// The main thread.
+fn main_thread() -> ThreadNo
+    ensures { result ≡ 0 }
+{
+    ThreadNo::new(0, 0)
 }
 
 // Whether it is the main thread.

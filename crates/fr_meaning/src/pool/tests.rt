@@ -6,8 +6,7 @@ ghost use Rattle.fr_plain.specs.Whole.{start};
 ghost use Rattle.fr_plain.specs.Resolve.{program};
 ghost use Rattle.fr_sound.specs.NeverStuck.{IsTyped};
 ghost use Rattle.fr_meaning.specs.Contexts.{depth};
-ghost use Rattle.fr_meaning.specs.FormTerms.{AreInOrder};
-ghost use Rattle.fr_meaning.specs.PoolView.{root_of};
+ghost use Rattle.fr_meaning.specs.FormTerms.{AreInOrder, root_of};
 
 use super::Pool;
 use crate::error::StepError;

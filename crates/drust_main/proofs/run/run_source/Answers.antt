@@ -4,10 +4,10 @@ use Rattle.fr_meaning.specs.PoolView.{whole_of}
 use Rattle.drust_main.proofs.Stepping.{few_at_start, runs_to}
 use Rattle.drust_main.proofs.run.run_source.Goals as goal
 
-pub run_to_end-requires : goal.run_to_end-requires
-run_to_end-requires c = few_at_start c.args.bytes.now (term_of c.in_ok-checked.checked.arena) c.in_ok-pool.pool c.in_ok-checked.ensures.typed c.requires c.in_ok-pool.ensures
+pub run_to_end-requires-clause-few : goal.run_to_end-requires-clause-few
+run_to_end-requires-clause-few c = few_at_start c.args.bytes.now (term_of c.in_ok-checked.checked.arena) c.in_ok-pool.pool c.in_ok-checked.ensures.typed c.requires c.in_ok-pool.ensures.start
 
 pub returns-clause-runs : goal.returns-clause-runs
 returns-clause-runs c =
     runs_to c.args.bytes.now (term_of c.in_ok-checked.checked.arena) (whole_of c.in_ok-pool.pool) (whole_of c.run_to_end.new.pool) c.in_ok-steps.steps c.output.result.now (string_bytes c.in_ok-report_text.field-0)
-    c.in_ok-checked.ensures.typed c.in_ok-pool.ensures c.in_ok-steps.ensures.goes c.in_ok-steps.ensures.over c.output.ensures c.in_ok-report_text.ensures
+    c.in_ok-checked.ensures.typed c.in_ok-pool.ensures.start c.in_ok-steps.ensures.goes c.in_ok-steps.ensures.over c.output.ensures c.in_ok-report_text.ensures

@@ -5,6 +5,6 @@ use Rattle.fr_meaning.proofs.acts.find.Given as goal
 
 abbrev pub invariant-stars : goal.invariant-stars
 invariant-stars l = record {
-  leads : stars (state l.slots l.heap.heap) l.fn.place.slot l.star ≡ Some (record { spot = spot_of l.spot; passed = l.labels.items });
+  leads : stars (state l.fn.thread l.slots l.heap.heap) l.fn.place.slot l.star ≡ Some (record { spot = spot_of l.spot; passed = l.labels.items });
   spare : l.initial.labels.spare ≤ l.labels.spare + l.star;
 }

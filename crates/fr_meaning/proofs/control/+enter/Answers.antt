@@ -7,7 +7,7 @@ use Rattle.fr_meaning.specs.Contexts.{in_left, fill, depth, depth_in}
 use Rattle.fr_meaning.specs.FormTerms.{parts_of, term_of, items_at}
 use Rattle.fr_meaning.specs.DoneTerms.{over}
 use Rattle.fr_meaning.specs.FrameTerms.{Enters, wrapped, around, waits_of, AreInside}
-use Rattle.fr_meaning.proofs.FormLemmas.{form_term, form_below, items_here, item_below, at_drop, all_dropped}
+use Rattle.fr_meaning.proofs.FormLemmas.{form_term, form_below, items_here, spawn_here, item_below, at_drop, all_dropped}
 use Rattle.fr_meaning.proofs.ContextLemmas.{now_fill, settle_fill}
 use Rattle.fr_meaning.proofs.FrameLemmas.{inside_push, has_place, has_place_in, room_in, room_less, item_row, last_ends, last_stays, last_waits, more_stays, more_waits, more_vanishes, fewer_shallow, right_shallow, left_done, entered_over, entered_waits, goes_in, goes_on_in, goes_by}
 use Rattle.fr_meaning.proofs.control.+enter.Goals as goal
@@ -85,6 +85,13 @@ enter-push_reserved-requires-in-Print t c =
     let p = has_place_in fs c.args.frames.now.items frame.Print (term_of fs c.in-Print.part) (vec_capacity c.args.frames.now) room in
     omega (arith, p, c.args.frames.now.ok)
 
+pub enter-push_reserved-requires-in-Join : goal.enter-push_reserved-requires-in-Join
+enter-push_reserved-requires-in-Join t c =
+    let fs = c.args.forms.now in
+    let room = subst (λ (r : Run). depth (wrapped fs c.args.frames.now.items r) ≤ vec_capacity c.args.frames.now) (form_term fs c.args.at c.index-forms-at.result _ c.requires.order c.requires.inside c.index-forms-at.is c.in-Join.is) c.requires.room in
+    let p = has_place_in fs c.args.frames.now.items frame.Join (term_of fs c.in-Join.part) (vec_capacity c.args.frames.now) room in
+    omega (arith, p, c.args.frames.now.ok)
+
 pub enter-enter-requires-in-Print : goal.enter-enter-requires-in-Print
 enter-enter-requires-in-Print t c =
     let fs = c.args.forms.now in
@@ -104,12 +111,38 @@ enter-enter-requires-in-Print t c =
       ),
     )
 
+pub enter-enter-requires-in-Join : goal.enter-enter-requires-in-Join
+enter-enter-requires-in-Join t c =
+    let fs = c.args.forms.now in
+    let v = c.in-Join.part in
+    let below : v < c.args.at = form_below fs c.args.at c.index-forms-at.result _ c.requires.order c.requires.inside c.index-forms-at.is c.in-Join.is in
+    let room = subst (λ (r : Run). depth (wrapped fs c.args.frames.now.items r) ≤ vec_capacity c.args.frames.now) (form_term fs c.args.at c.index-forms-at.result _ c.requires.order c.requires.inside c.index-forms-at.is c.in-Join.is) c.requires.room in (
+      omega (arith, c.decreases),
+      (
+        c.requires.order,
+        (
+          omega arith,
+          (
+            subst (AreInside (length fs)) (sym c.push_reserved-in-Join.ensures.items) (inside_push (length fs) c.args.frames.now.items frame.Join c.requires.frames tt),
+            room_in fs c.args.frames.now.items c.push_reserved-in-Join.new.self.items frame.Join (fill (around fs frame.Join) (term_of fs v)) (term_of fs v) (vec_capacity c.args.frames.now) (vec_capacity c.push_reserved-in-Join.new.self) c.push_reserved-in-Join.ensures.items (omega arith) room c.push_reserved-in-Join.ensures.capacity,
+          ),
+        ),
+      ),
+    )
+
 pub enter-returns-in-Print-clause-enters : goal.enter-returns-in-Print-clause-enters
 enter-returns-in-Print-clause-enters t c =
     let fs = c.args.forms.now in
     let r = settle (term_of fs c.in-Print.part) in
     goes_in fs c.args.frames.now.items c.push_reserved-in-Print.new.self.items c.enter-in-Print.new.frames.items frame.Print (settle (term_of fs c.args.at)) r c.enter-in-Print.result c.waits-in-Print.result
     tt c.enter-in-Print.ensures.enters c.push_reserved-in-Print.ensures.items (ap settle (form_term fs c.args.at c.index-forms-at.result _ c.requires.order c.requires.inside c.index-forms-at.is c.in-Print.is)) refl (sym c.waits-in-Print.ensures)
+
+pub enter-returns-in-Join-clause-enters : goal.enter-returns-in-Join-clause-enters
+enter-returns-in-Join-clause-enters t c =
+    let fs = c.args.forms.now in
+    let r = settle (term_of fs c.in-Join.part) in
+    goes_in fs c.args.frames.now.items c.push_reserved-in-Join.new.self.items c.enter-in-Join.new.frames.items frame.Join (settle (term_of fs c.args.at)) r c.enter-in-Join.result c.waits-in-Join.result
+    tt c.enter-in-Join.ensures.enters c.push_reserved-in-Join.ensures.items (ap settle (form_term fs c.args.at c.index-forms-at.result _ c.requires.order c.requires.inside c.index-forms-at.is c.in-Join.is)) refl (sym c.waits-in-Join.ensures)
 
 pub enter-push_reserved-requires-in-Assign : goal.enter-push_reserved-requires-in-Assign
 enter-push_reserved-requires-in-Assign t c =
@@ -253,6 +286,13 @@ enter-returns-in-Borrow-clause-enters t c =
     let fs = c.args.forms.now in
     let e = form_term fs c.args.at c.index-forms-at.result _ c.requires.order c.requires.inside c.index-forms-at.is c.in-Borrow.is in
     rw e (refl, refl, tt)
+
+pub enter-returns-in-Spawn-clause-enters : goal.enter-returns-in-Spawn-clause-enters
+enter-returns-in-Spawn-clause-enters t c =
+    let fs = c.args.forms.now in
+    let e = form_term fs c.args.at c.index-forms-at.result _ c.requires.order c.requires.inside c.index-forms-at.is c.in-Spawn.is in
+    let here = spawn_here fs c.args.at c.index-forms-at.result _ c.requires.inside c.index-forms-at.is c.in-Spawn.is tt in
+    (rw e refl, rw e refl, (c.requires.inside, here))
 
 pub enter-enter_items-requires : goal.enter-enter_items-requires
 enter-enter_items-requires t c =

@@ -1,6 +1,6 @@
 use Rattle.std.proofs.Common.{◌≡◌, ◌-◌, List, length, drop, refl, sym, ap, ◌∙◌, subst, arith, vec_capacity}
 use Rattle.fr_plain.specs.declared.value.Value.{Value}
-use Rattle.fr_plain.specs.Acts.{act, do_discard, unit}
+use Rattle.fr_plain.specs.Acts.{act, lets_go, do_discard, unit}
 use Rattle.fr_plain.specs.Run.{block, settle}
 use Rattle.fr_meaning.specs.declared.frame.Frame.TheVariants as frame
 use Rattle.fr_meaning.specs.Contexts.{fill}
@@ -29,11 +29,12 @@ returns-then-has_item-clause-step c =
     let new = c.discard.new.heap.heap in
     let ls = c.discard.new.labels.items in
     let more = at_drop (items_at fs c.args.node) c.args.next 0 (c.has_item.ensures.0 c.if-has_item.true) in
-    let acts = subst (λ (vs : List Value). act (do_discard (value_of d)) (state vs h) ≡ did unit vs new ls) c.deref.ensures.value
-    (subst (λ (v : Value). act (do_discard v) (state c.deref.result.now h) ≡ did unit c.deref.result.now new ls) c.value_in.ensures c.discard.ensures) in
-    step_in fs c.args.frames.now.items (fill (around_items c.args.left (term_of fs) js) (over d)) (block c.args.left (parts_of (term_of fs) js)) (wrapped fs c.next_item.new.frames.items (focus_run c.next_item.result)) (state c.args.slots.now.items h) c.args.slots.now.items new ls
+    let acts = subst (λ (vs : List Value). act (do_discard (value_of d)) (state c.args.thread vs h) ≡ did unit c.args.thread vs new ls) c.deref.ensures.value
+    (subst (λ (v : Value). act (do_discard v) (state c.args.thread c.deref.result.now h) ≡ did unit c.args.thread c.deref.result.now new ls) c.value_in.ensures c.discard.ensures.act) in
+    let task = c.discard.ensures.task ∙ ap (λ (v : Value). lets_go (do_discard v) (state c.args.thread c.deref.result.now h)) c.value_in.ensures ∙ ap (λ vs. lets_go (do_discard (value_of d)) (state c.args.thread vs h)) c.deref.ensures.value in
+    step_in fs c.args.frames.now.items (fill (around_items c.args.left (term_of fs) js) (over d)) (block c.args.left (parts_of (term_of fs) js)) (wrapped fs c.next_item.new.frames.items (focus_run fs c.next_item.result)) (state c.args.thread c.args.slots.now.items h) c.args.thread c.args.slots.now.items new ls c.discard.result
     (settled_waits fs (frame.Block c.args.left c.args.node c.args.next) d c.requires.settled)
-    (discard_turns c.args.left (term_of fs) js _ _ d (state c.args.slots.now.items h) c.args.slots.now.items new ls more (held c.args.left (term_of fs) js _ _ d more c.requires.settled) acts)
+    (discard_turns c.args.left (term_of fs) js _ _ d (state c.args.thread c.args.slots.now.items h) c.args.thread c.args.slots.now.items new ls c.discard.result more (held c.args.left (term_of fs) js _ _ d more c.requires.settled) acts task)
     c.next_item.ensures.settles
 
 pub overflow_sub-left : goal.overflow_sub-left
@@ -66,10 +67,10 @@ returns-clause-step c =
     let fs = c.args.forms.now in
     let js = drop c.args.next (items_at fs c.args.node) in
     let d = c.args.done in
-    let s = state c.args.slots.now.items c.args.heap.now.heap in
+    let s = state c.args.thread c.args.slots.now.items c.args.heap.now.heap in
     let less = frame.Block (c.args.left - 1) c.args.node c.args.next in
     let none = all_dropped (items_at fs c.args.node) c.args.next (not_below c.has_item.result c.args.next _ c.has_item.ensures c.if-has_item.false) in
-    step_in fs c.args.frames.now.items (fill (around_items c.args.left (term_of fs) js) (over d)) (fill (around_items (c.args.left - 1) (term_of fs) js) (over d)) (wrapped fs c.leave.new.frames.items (focus_run c.leave.result)) s c.drop_slot.new.slots.items c.drop_slot.new.heap.heap c.drop_slot.new.labels.items
+    step_in fs c.args.frames.now.items (fill (around_items c.args.left (term_of fs) js) (over d)) (fill (around_items (c.args.left - 1) (term_of fs) js) (over d)) (wrapped fs c.leave.new.frames.items (focus_run fs c.leave.result)) s c.args.thread c.drop_slot.new.slots.items c.drop_slot.new.heap.heap c.drop_slot.new.labels.items c.drop_slot.result
     (settled_waits fs (frame.Block c.args.left c.args.node c.args.next) d c.requires.settled)
-    (drop_turns c.args.left (term_of fs) js d s c.drop_slot.new.slots.items c.drop_slot.new.heap.heap c.drop_slot.new.labels.items none (opened c.args.left (term_of fs) js d none c.requires.settled) c.drop_slot.ensures)
+    (drop_turns c.args.left (term_of fs) js d s c.args.thread c.drop_slot.new.slots.items c.drop_slot.new.heap.heap c.drop_slot.new.labels.items c.drop_slot.result none (opened c.args.left (term_of fs) js d none c.requires.settled) c.drop_slot.ensures.act c.drop_slot.ensures.task)
     (c.leave.ensures.settles ∙ ap (λ gs. settle (wrapped fs gs (over d))) c.push_reserved.ensures.items ∙ ap settle (wrap_push fs c.args.frames.now.items less (over d)))

@@ -20,8 +20,8 @@ pub returns : goal.returns
 returns c =
     let fs = c.args.forms.now in
     record {
-      step = step_in fs c.args.frames.now.items (fill (around fs c.args.frame) (over c.args.done)) (over c.operate-over.result) (wrapped fs c.leave.new.frames.items (focus_run c.leave.result)) (state c.args.slots.now.items c.args.heap.now.heap)
-          c.operate-over.new.slots.items c.operate-over.new.heap.heap c.operate-over.new.labels.items (settled_waits fs c.args.frame c.args.done c.requires.settled) c.operate-over.ensures.turns c.leave.ensures.settles;
+      step = step_in fs c.args.frames.now.items (fill (around fs c.args.frame) (over c.args.done)) (over c.operate-over.result) (wrapped fs c.leave.new.frames.items (focus_run fs c.leave.result)) (state c.args.thread c.args.slots.now.items c.args.heap.now.heap)
+          c.args.thread c.operate-over.new.slots.items c.operate-over.new.heap.heap c.operate-over.new.labels.items c.operate-over.new.dropped (settled_waits fs c.args.frame c.args.done c.requires.settled) c.operate-over.ensures.turns c.leave.ensures.settles;
       output = c.operate-over.ensures.output;
       way = c.leave.ensures.way;
       capacity = c.leave.ensures.capacity;

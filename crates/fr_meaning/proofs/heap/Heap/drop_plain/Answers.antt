@@ -1,16 +1,23 @@
 use Rattle.std.proofs.Common.{sym, ap, ◌∙◌, arith}
-use Rattle.fr_plain.specs.Heap.{dropped, live}
-use Rattle.fr_meaning.proofs.HeapLemmas.{live_without, dropped_box}
+use Rattle.fr_plain.specs.Heap.{dropped, live, last_link}
+use Rattle.fr_meaning.proofs.HeapLemmas.{live_without, dropped_box, link_box}
 use Rattle.fr_meaning.proofs.heap.Heap.drop_plain.Goals as goal
 
 pub links-smaller : goal.links-smaller
 links-smaller c =
     let less = live_without c.links.self.heap c.in-Box.object c.in-Some.inner (sym c.get.ensures ∙ c.in-Some.is) in
-    let e = ap live c.put.ensures.cell in
+    let e = ap live c.put.ensures in
     omega (arith, less, e)
 
 pub links-preserved : goal.links-preserved
 links-preserved c =
-    ap (λ h. dropped h c.in-Some.inner) c.put.ensures.cell
-    ∙ sym (dropped_box c.links.self.heap c.in-Box.object c.in-Some.inner (sym c.get.ensures ∙ c.in-Some.is))
-    ∙ ap (dropped c.links.self.heap) (sym c.in-Box.is) ∙ c.links.invariant
+    record {
+      heap =
+          ap (λ h. dropped h c.in-Some.inner) c.put.ensures
+          ∙ sym (dropped_box c.links.self.heap c.in-Box.object c.in-Some.inner (sym c.get.ensures ∙ c.in-Some.is))
+          ∙ ap (dropped c.links.self.heap) (sym c.in-Box.is) ∙ c.links.invariant.heap;
+      task =
+          ap (λ h. last_link (live h) h c.in-Some.inner) c.put.ensures
+          ∙ sym (link_box c.links.self.heap c.in-Box.object c.in-Some.inner (sym c.get.ensures ∙ c.in-Some.is))
+          ∙ ap (last_link (live c.links.self.heap) c.links.self.heap) (sym c.in-Box.is) ∙ c.links.invariant.task;
+    }

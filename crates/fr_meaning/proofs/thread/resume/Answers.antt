@@ -1,0 +1,19 @@
+use Rattle.std.proofs.Common.{arith}
+use Rattle.fr_plain.specs.Run.{temp}
+use Rattle.fr_meaning.specs.FrameTerms.{wrapped, focus_run}
+use Rattle.fr_meaning.proofs.ThreadLemmas.{settle_kept}
+use Rattle.fr_meaning.proofs.thread.resume.Goals as goal
+
+pub returns-clause-well : goal.returns-clause-well
+returns-clause-well c =
+    let fs = c.args.forms.now in
+    let p = wrapped fs c.args.thread.now.frames.items (temp c.args.value) in
+    let l = c.leave-thread in
+    let kept = settle_kept p (wrapped fs l.new.frames.items (focus_run fs l.result)) p l.ensures.settles (omega arith) in
+    record {
+      frames = l.ensures.frames;
+      way = l.ensures.way;
+      settled = kept.0;
+      depth = omega (arith, kept.1, c.requires.room);
+      room = omega (arith, l.ensures.capacity, c.requires.capacity);
+    }

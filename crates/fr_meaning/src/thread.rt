@@ -1,0 +1,226 @@
+//! A thread, and what it does alone.
+
+ghost use Rattle.std.specs.Prelude.{◌≡◌, ◌<◌, ◌≤◌, ◌+◌, ◌++◌, ◌∷◌, [], List, length, vec_len, vec_capacity, Some, None, IsSome};
+ghost use Rattle.fr_plain.specs.Acts.{act, lets_go};
+ghost use Rattle.fr_plain.specs.Run.{settle, block, last, temp};
+ghost use Rattle.fr_plain.specs.State.{slot_at};
+ghost use Rattle.fr_plain.specs.Threads.{pass, left_after};
+ghost use Rattle.fr_meaning.specs.declared.thread.Stage.TheVariants as stage_;
+ghost use Rattle.fr_plain.specs.Whole.{prints};
+ghost use Rattle.fr_meaning.specs.declared.frame.Frame.{Frame};
+ghost use Rattle.fr_meaning.specs.Contexts.{depth};
+ghost use Rattle.fr_meaning.specs.FormTerms.{AreInOrder, captures_of, term_of, items_at, parts_of};
+ghost use Rattle.fr_meaning.specs.DoneTerms.{value_of};
+ghost use Rattle.fr_meaning.specs.FrameTerms.{AreInside, wrapped, end_of};
+ghost use Rattle.fr_meaning.specs.SlotOrder.{newest_first};
+ghost use Rattle.fr_meaning.specs.Threads.{IsWell, IsGoingOn, IsEnded, run_in, end_act, end_value, after_end, result_in};
+ghost use Rattle.fr_meaning.specs.Turning.{state, did, turns_to, term_step, frame_labels, focus_labels};
+
+use crate::acts::{drop_result, finish, keep_result};
+use crate::control::{enter_items, focus_in, leave};
+use crate::forms::{Captured, Form};
+use crate::frame::{Done, Focus, Frame};
+use crate::heap::Heap;
+use crate::machine::{advance, value_in};
+use fr_base::{Labels, Plain, ThreadNo};
+use fr_plain::Value;
+
+/// How a thread's life stands.
+#[derive(Clone, Copy)]
+pub enum Stage {
+    /// The main thread, in progress.
+    Alive,
+    /// Another thread in progress, whose task somebody has.
+    Owing,
+    /// Another thread in progress, whose task was dropped.
+    Loose,
+    /// It has ended, and nobody will have its result.
+    Over,
+    /// It has ended with a result, which is kept for whoever joins it.
+    Ended(Value),
+}
+
+/// A thread: its term in frames around the innermost one, and its slots, the newest last.
+#[derive(Drop)]
+pub struct Thread {
+    pub number: ThreadNo,
+    pub stage: Stage,
+    pub frames: Vec<Frame>,
+    pub focus: Focus,
+    pub slots: Vec<Value>,
+}
+
+/// A step of a thread's term that the thread does alone. Gives the thread whose task was dropped.
+pub fn step_alone(
+    forms: &[Form],
+    thread: &mut Thread,
+    heap: &mut Heap,
+    output: &mut Vec<i64>,
+    labels: &mut Labels,
+) -> Option<ThreadNo>
+    requires order { AreInOrder forms.now }
+    requires well { IsWell forms.now thread.old }
+    requires on { end_of thread.old.focus thread.old.frames.items ≡ None }
+    requires goes { IsSome (term_step (run_in forms.now thread.old) (state thread.old.number thread.old.slots.items heap.old.heap)) }
+    requires slots { vec_len thread.old.slots < vec_capacity thread.old.slots }
+    requires heap { heap.old.ready ≡ Some thread.old.number }
+    requires output { vec_len output.old < vec_capacity output.old }
+    requires labels { labels.old.items ≡ [] }
+    requires spare { focus_labels thread.old.focus ≤ labels.old.spare }
+    requires frame_spare { (gs : List Frame) (g : Frame) → thread.old.frames.items ≡ gs ++ g ∷ [] → frame_labels g ≤ labels.old.spare }
+    ensures step { term_step (run_in forms.now thread.old) (state thread.old.number thread.old.slots.items heap.old.heap) ≡ turns_to (run_in forms.now thread.new) thread.old.number thread.new.slots.items heap.new.heap labels.new.items result }
+    ensures output { output.new.items ≡ output.old.items ++ prints labels.new.items }
+    ensures well { IsWell forms.now thread.new }
+    ensures number { thread.new.number ≡ thread.old.number }
+    ensures stage { thread.new.stage ≡ thread.old.stage }
+{
+    let mut dropped = None;
+    let focus = thread.focus;
+    thread.focus = advance(
+        forms,
+        thread.number,
+        focus,
+        &mut thread.frames,
+        &mut thread.slots,
+        heap,
+        output,
+        labels,
+        &mut dropped,
+    );
+    dropped
+}
+
+/// The end of a thread whose term is done. Gives the thread whose task was dropped.
+pub fn end(
+    thread: &mut Thread,
+    heap: &mut Heap,
+    labels: &mut Labels,
+    done: Done,
+) -> Option<ThreadNo>
+    requires goes { IsGoingOn thread.old.stage }
+    requires labels { labels.old.items ≡ [] }
+    requires room { 2 ≤ labels.old.spare }
+    ensures act { act (end_act thread.old.stage (value_of done)) (state thread.old.number thread.old.slots.items heap.old.heap) ≡ did (end_value thread.old.stage (value_of done)) thread.old.number thread.new.slots.items heap.new.heap labels.new.items }
+    ensures task { result ≡ lets_go (end_act thread.old.stage (value_of done)) (state thread.old.number thread.old.slots.items heap.old.heap) }
+    ensures stage { thread.new.stage ≡ after_end thread.old.stage (value_of done) }
+    ensures number { thread.new.number ≡ thread.old.number }
+    ensures frames { thread.new.frames ≡ thread.old.frames }
+    ensures focus { thread.new.focus ≡ thread.old.focus }
+    ensures slots { thread.new.slots ≡ thread.old.slots }
+{
+    let value = value_in(done);
+    match thread.stage {
+        Stage::Alive => {
+            thread.stage = Stage::Over;
+            finish(thread.number, &thread.slots, heap, labels, value)
+        }
+        Stage::Owing => {
+            let result = keep_result(thread.number, &thread.slots, heap, labels, value);
+            thread.stage = Stage::Ended(result);
+            None
+        }
+        Stage::Loose => {
+            thread.stage = Stage::Over;
+            drop_result(thread.number, &thread.slots, heap, labels, value)
+        }
+        Stage::Over => unreachable!(),
+        Stage::Ended(_) => unreachable!(),
+    }
+}
+
+/// The result of a thread that has ended, which nobody will have again.
+pub fn take_result(thread: &mut Thread) -> Value
+    requires ended { IsEnded thread.old.stage }
+    ensures result { Some result ≡ result_in thread.old.stage }
+    ensures stage { thread.new.stage ≡ stage_.Over }
+    ensures number { thread.new.number ≡ thread.old.number }
+    ensures frames { thread.new.frames ≡ thread.old.frames }
+    ensures focus { thread.new.focus ≡ thread.old.focus }
+    ensures slots { thread.new.slots ≡ thread.old.slots }
+{
+    match thread.stage {
+        Stage::Ended(value) => {
+            thread.stage = Stage::Over;
+            value
+        }
+        Stage::Alive => unreachable!(),
+        Stage::Owing => unreachable!(),
+        Stage::Loose => unreachable!(),
+        Stage::Over => unreachable!(),
+    }
+}
+
+/// Passes the captured values to a new thread, the last one newest.
+pub fn pass_captures(captures: &[Captured], slots: &mut Vec<Value>, new: &mut Vec<Value>)
+    requires goes { IsSome (pass (captures_of captures.now) (newest_first slots.old.items) (newest_first new.old.items)) }
+    requires room { vec_len new.old + length captures.now ≤ vec_capacity new.old }
+    ensures { pass (captures_of captures.now) (newest_first slots.old.items) (newest_first new.old.items) ≡ Some (record { left = newest_first slots.new.items; new = newest_first new.new.items }) }
+{
+    // The check asks that each type inside a value is named where a value is moved.
+    let _inside: Option<Plain> = None;
+    'captures: for next in 0..captures.len() {
+        let capture = captures[next];
+        let value = capture_value(capture, slots);
+        new.push_reserved(value);
+    }
+}
+
+// The value of a captured slot, copied or taken out.
+fn capture_value(capture: Captured, slots: &mut Vec<Value>) -> Value
+    requires goes { IsSome (slot_at (newest_first slots.old.items) capture.slot) }
+    ensures value { slot_at (newest_first slots.old.items) capture.slot ≡ Some result }
+    ensures left { newest_first slots.new.items ≡ left_after capture.take (newest_first slots.old.items) capture.slot }
+{
+    let at = capture.slot as usize;
+    let value = slots[at];
+    if capture.take {
+        slots[at] = Value::Own(Plain::Nothing);
+    }
+    value
+}
+
+/// A new thread at the start of a form's body, with its captured values as slots.
+pub fn start(
+    forms: &[Form],
+    node: usize,
+    drops: u32,
+    number: ThreadNo,
+    frames: Vec<Frame>,
+    slots: Vec<Value>,
+) -> Thread
+    requires order { AreInOrder forms.now }
+    requires inside { node < length forms.now }
+    requires none { frames.items ≡ [] }
+    requires room { 64 ≤ vec_capacity frames }
+    requires depth { depth (block drops (parts_of (term_of forms.now) (items_at forms.now node))) ≤ 64 }
+    ensures run { run_in forms.now result ≡ settle (block drops (parts_of (term_of forms.now) (items_at forms.now node))) }
+    ensures well { IsWell forms.now result }
+    ensures number { result.number ≡ number }
+    ensures stage { result.stage ≡ stage_.Owing }
+    ensures slots { result.slots.items ≡ slots.items }
+{
+    let mut frames = frames;
+    let focus = focus_in(enter_items(forms, node, 0, drops, &mut frames));
+    Thread {
+        number,
+        stage: Stage::Owing,
+        frames,
+        focus,
+        slots,
+    }
+}
+
+/// A thread goes on with the value of a join, or of the start of another thread.
+pub fn resume(forms: &[Form], thread: &mut Thread, value: Value)
+    requires order { AreInOrder forms.now }
+    requires inside { AreInside (length forms.now) thread.old.frames.items }
+    requires room { depth (wrapped forms.now thread.old.frames.items (temp value)) ≤ 64 }
+    requires capacity { 64 ≤ vec_capacity thread.old.frames }
+    ensures run { run_in forms.now thread.new ≡ settle (wrapped forms.now thread.old.frames.items (temp value)) }
+    ensures well { IsWell forms.now thread.new }
+    ensures number { thread.new.number ≡ thread.old.number }
+    ensures stage { thread.new.stage ≡ thread.old.stage }
+    ensures slots { thread.new.slots ≡ thread.old.slots }
+{
+    thread.focus = leave(forms, &mut thread.frames, Done::Temp(value));
+}
