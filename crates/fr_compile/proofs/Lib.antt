@@ -1,3 +1,4 @@
 pub mod Sources
 pub mod Codes
 pub mod Forms
+pub mod Alone

@@ -27,6 +27,8 @@ module _ (look : ℕ → Run) (sources : (i : ℕ) → IsSource (look i)) where
   build_source (form.Box value) = sources value
   build_source (form.Let value) = sources value
   build_source (form.Print value) = sources value
+  build_source (form.Join value) = sources value
+  build_source (form.Spawn cs body drops) = sources body
   build_source (form.Assign w value) = sources value
   build_source (form.Arith f left right) = (sources left, sources right)
   build_source (form.Block items lets) = all_source items.items

@@ -4,6 +4,7 @@ ghost use Rattle.std.specs.Prelude.{◌≡◌, ◌<◌, ◌≤◌, ◌++◌, [],
 ghost use Rattle.fr_base.specs.declared.instruction.Operand.TheVariants as operand;
 ghost use Rattle.fr_meaning.specs.FormTerms.{term_of, parts_of, AreInOrder, AllBelow};
 ghost use Rattle.fr_code.specs.StandsFor.{borrowing};
+ghost use Rattle.fr_compile.specs.Alone.{AreAlone, IsAlone};
 ghost use Rattle.fr_compile.specs.Emitting.{drop_slots, ArePartsEmitted, IsDiscarded, IsEmitted};
 
 use fr_base::{Code, Instr, Lval, NoMemory, Operand};
@@ -76,6 +77,7 @@ fn emit_items(
     requires order { AreInOrder forms.now }
     requires inside { bound ≤ length forms.now }
     requires below { AllBelow bound items.now }
+    requires alone { AreAlone (parts_of (term_of forms.now) items.now) }
     ensures { IfOk result (λ value. ArePartsEmitted code.old.items code.new.items value (parts_of (term_of forms.now) items.now)) }
 {
     let mut value = Operand::Unit;
@@ -91,6 +93,7 @@ fn emit_items(
 pub fn emit(forms: &[Form], node: usize, code: &mut Code) -> Result<Operand, NoMemory>
     requires order { AreInOrder forms.now }
     requires here { node < length forms.now }
+    requires alone { IsAlone (term_of forms.now node) }
     ensures { IfOk result (λ value. IsEmitted code.old.items code.new.items value (term_of forms.now node)) }
 {
     match &forms[node] {
@@ -103,6 +106,11 @@ pub fn emit(forms: &[Form], node: usize, code: &mut Code) -> Result<Operand, NoM
             let value = emit(forms, *part as usize, code)?;
             leave(code, Instr::Box(value))
         }
+        Form::Join(part) => {
+            let value = emit(forms, *part as usize, code)?;
+            leave(code, Instr::Join(value))
+        }
+        Form::Spawn(_, _, _) => unreachable!(),
         Form::Let(part) => {
             let value = emit(forms, *part as usize, code)?;
             finish(code, Instr::Let(value))

@@ -3,11 +3,13 @@ use Rattle.fr_base.specs.declared.instruction.Operand.{Operand}
 use Rattle.fr_base.specs.declared.instruction.Operand.TheVariants as operand
 use Rattle.fr_base.specs.declared.instruction.Instr.{Instr}
 use Rattle.fr_base.specs.declared.instruction.Instr.TheVariants as instr
-use Rattle.fr_plain.specs.Run.{Run, number, unit_c, read, borrow, box_r, bind, print, assign, arith as arith_r, block}
+use Rattle.fr_plain.specs.Run.{Run, number, unit_c, read, borrow, box_r, join_r, bind, print, assign, arith as arith_r, block}
 use Rattle.fr_meaning.specs.FormTerms.{term_of, parts_of, AllBelow}
 use Rattle.fr_meaning.proofs.FormLemmas.{form_term, form_below, all_dropped}
 use Rattle.fr_code.specs.StandsFor.{borrowing}
 use Rattle.fr_compile.specs.Emitting.{IsEmitted, IsDiscarded, ArePartsEmitted, drop_slots}
+use Rattle.fr_compile.specs.Alone.{IsAlone, AreAlone}
+use Rattle.fr_compile.proofs.Alone.{item_alone}
 use Rattle.fr_compile.proofs.Sources.{term_source}
 use Rattle.fr_compile.proofs.Codes.{constant_emitted, leaf_emitted, unary_emitted, arith_emitted, block_emitted, all_added}
 use Rattle.fr_compile.proofs.Forms.{on_added, Leads, leads_on, item_lower}
@@ -17,43 +19,60 @@ pub emit-emit-requires : goal.emit-emit-requires
 emit-emit-requires t c =
     let fs = c.args.forms.now in
     let parts = form_below fs c.args.node c.index-forms-node.result _ c.requires.order c.requires.here c.index-forms-node.is c.in-Box.is in
-    (omega (arith, c.decreases, parts), (c.requires.order, omega (arith, parts, c.requires.here)))
+    (omega (arith, c.decreases, parts), (c.requires.order, (omega (arith, parts, c.requires.here), subst (λ (r : Run). IsAlone r) (form_term fs c.args.node c.index-forms-node.result _ c.requires.order c.requires.here c.index-forms-node.is c.in-Box.is) c.requires.alone)))
+
+pub emit-emit-requires-in-Join : goal.emit-emit-requires-in-Join
+emit-emit-requires-in-Join t c =
+    let fs = c.args.forms.now in
+    let parts = form_below fs c.args.node c.index-forms-node.result _ c.requires.order c.requires.here c.index-forms-node.is c.in-Join.is in
+    (omega (arith, c.decreases, parts), (c.requires.order, (omega (arith, parts, c.requires.here), subst (λ (r : Run). IsAlone r) (form_term fs c.args.node c.index-forms-node.result _ c.requires.order c.requires.here c.index-forms-node.is c.in-Join.is) c.requires.alone)))
+
+pub emit-returns-in_ok-value-in-Join : goal.emit-returns-in_ok-value-in-Join
+emit-returns-in_ok-value-in-Join t c =
+    let fs = c.args.forms.now in
+    let a = c.args.code.now.items in
+    let is = form_term fs c.args.node c.index-forms-node.result _ c.requires.order c.requires.here c.index-forms-node.is c.in-Join.is in
+    let d = c.emit-in-Join.new.code.items in
+    let f = c.leave-in-Join.new.code.items in
+    let part = term_of fs c.in-Join.part in
+    on_added c.leave-in-Join.result operand.Pop _ (λ (o : Operand). IsEmitted a f o (term_of fs c.args.node)) c.leave-in-Join.ensures.code c.leave-in-Join.ensures.value
+    (λ e. subst (λ (r : Run). IsEmitted a f operand.Pop r) (sym is) (unary_emitted a d f instr.Join c.in_ok-value-in-Join.value operand.Pop part (join_r part) c.in_ok-value-in-Join.ensures e refl (λ b p m q h i l. (m, h, i, l))))
 
 pub emit-emit-requires-in-Let : goal.emit-emit-requires-in-Let
 emit-emit-requires-in-Let t c =
     let fs = c.args.forms.now in
     let parts = form_below fs c.args.node c.index-forms-node.result _ c.requires.order c.requires.here c.index-forms-node.is c.in-Let.is in
-    (omega (arith, c.decreases, parts), (c.requires.order, omega (arith, parts, c.requires.here)))
+    (omega (arith, c.decreases, parts), (c.requires.order, (omega (arith, parts, c.requires.here), subst (λ (r : Run). IsAlone r) (form_term fs c.args.node c.index-forms-node.result _ c.requires.order c.requires.here c.index-forms-node.is c.in-Let.is) c.requires.alone)))
 
 pub emit-emit-requires-in-Print : goal.emit-emit-requires-in-Print
 emit-emit-requires-in-Print t c =
     let fs = c.args.forms.now in
     let parts = form_below fs c.args.node c.index-forms-node.result _ c.requires.order c.requires.here c.index-forms-node.is c.in-Print.is in
-    (omega (arith, c.decreases, parts), (c.requires.order, omega (arith, parts, c.requires.here)))
+    (omega (arith, c.decreases, parts), (c.requires.order, (omega (arith, parts, c.requires.here), subst (λ (r : Run). IsAlone r) (form_term fs c.args.node c.index-forms-node.result _ c.requires.order c.requires.here c.index-forms-node.is c.in-Print.is) c.requires.alone)))
 
 pub emit-emit-requires-in-Assign : goal.emit-emit-requires-in-Assign
 emit-emit-requires-in-Assign t c =
     let fs = c.args.forms.now in
     let parts = form_below fs c.args.node c.index-forms-node.result _ c.requires.order c.requires.here c.index-forms-node.is c.in-Assign.is in
-    (omega (arith, c.decreases, parts), (c.requires.order, omega (arith, parts, c.requires.here)))
+    (omega (arith, c.decreases, parts), (c.requires.order, (omega (arith, parts, c.requires.here), subst (λ (r : Run). IsAlone r) (form_term fs c.args.node c.index-forms-node.result _ c.requires.order c.requires.here c.index-forms-node.is c.in-Assign.is) c.requires.alone)))
 
 pub emit-emit-requires-in-Arith : goal.emit-emit-requires-in-Arith
 emit-emit-requires-in-Arith t c =
     let fs = c.args.forms.now in
     let parts = form_below fs c.args.node c.index-forms-node.result _ c.requires.order c.requires.here c.index-forms-node.is c.in-Arith.is in
-    (omega (arith, c.decreases, parts.0), (c.requires.order, omega (arith, parts.0, c.requires.here)))
+    (omega (arith, c.decreases, parts.0), (c.requires.order, (omega (arith, parts.0, c.requires.here), (subst (λ (r : Run). IsAlone r) (form_term fs c.args.node c.index-forms-node.result _ c.requires.order c.requires.here c.index-forms-node.is c.in-Arith.is) c.requires.alone).0)))
 
 pub emit-emit-requires-in-Arith-2 : goal.emit-emit-requires-in-Arith-2
 emit-emit-requires-in-Arith-2 t c =
     let fs = c.args.forms.now in
     let parts = form_below fs c.args.node c.index-forms-node.result _ c.requires.order c.requires.here c.index-forms-node.is c.in-Arith.is in
-    (omega (arith, c.decreases, parts.1), (c.requires.order, omega (arith, parts.1, c.requires.here)))
+    (omega (arith, c.decreases, parts.1), (c.requires.order, (omega (arith, parts.1, c.requires.here), (subst (λ (r : Run). IsAlone r) (form_term fs c.args.node c.index-forms-node.result _ c.requires.order c.requires.here c.index-forms-node.is c.in-Arith.is) c.requires.alone).1)))
 
 pub emit-emit_items-requires : goal.emit-emit_items-requires
 emit-emit_items-requires t c =
     let fs = c.args.forms.now in
     let parts = form_below fs c.args.node c.index-forms-node.result _ c.requires.order c.requires.here c.index-forms-node.is c.in-Block.is in
-    (omega (arith, c.decreases), (c.requires.order, (omega (arith, c.requires.here), subst (AllBelow c.args.node) (sym c.deref.ensures.value) parts)))
+    (omega (arith, c.decreases), (c.requires.order, (omega (arith, c.requires.here), (subst (AllBelow c.args.node) (sym c.deref.ensures.value) parts, subst (λ (is : List ℕ). AreAlone (parts_of (term_of fs) is)) (sym c.deref.ensures.value) (subst (λ (r : Run). IsAlone r) (form_term fs c.args.node c.index-forms-node.result _ c.requires.order c.requires.here c.index-forms-node.is c.in-Block.is) c.requires.alone)))))
 
 pub emit-returns-in-Number : goal.emit-returns-in-Number
 emit-returns-in-Number t c =
@@ -169,7 +188,7 @@ emit_items-items-init t c = λ f v h. all_added (term_of c.args.forms.now) (term
 pub emit_items-emit-requires : goal.emit_items-emit-requires
 emit_items-emit-requires t c =
     let low = item_lower c.args.bound c.args.items.now c.items.next 0 c.items-test.true c.requires.below in
-    (omega (arith, c.decreases, low), (c.requires.order, omega (arith, low, c.requires.inside)))
+    (omega (arith, c.decreases, low), (c.requires.order, (omega (arith, low, c.requires.inside), item_alone (term_of c.args.forms.now) c.args.items.now c.items.next c.items-test.true c.requires.alone)))
 
 pub emit_items-items-preserved : goal.emit_items-items-preserved
 emit_items-items-preserved t c =
@@ -179,3 +198,9 @@ pub emit_items-returns : goal.emit_items-returns
 emit_items-returns t c =
     let all = all_dropped c.args.items.now c.items.next c.items-test.false in
     subst (λ (rest : List ℕ). Leads (term_of c.args.forms.now) c.args.items.now c.args.code.now.items rest c.items.code.items c.items.value) all c.items.invariant c.items.code.items c.items.value (refl, refl)
+
+pub emit-unreachable-requires : goal.emit-unreachable-requires
+emit-unreachable-requires t c =
+    let fs = c.args.forms.now in
+    let is = form_term fs c.args.node c.index-forms-node.result _ c.requires.order c.requires.here c.index-forms-node.is c.in-Spawn.is in
+    subst (λ (r : Run). IsAlone r) is c.requires.alone
