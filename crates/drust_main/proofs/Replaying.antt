@@ -38,9 +38,10 @@ one_replay : (bytes : List ℕ) (s t : ℕ) (x y : List ℕ) → Replays bytes s
 one_replay bytes s t x y h g =
     let term = source_once (source_in bytes) h.term g.term h.order.typed.source g.order.typed.source in
     let lines = lines_once bytes h.lines g.lines h.order.behind g.order.behind in
-    let last : h.last ≡ g.last = Some-same h.last g.last (sym h.goes ∙ ap₂ (λ p ls. plain (program p) (turns ls)) term lines ∙ g.goes) in
-    (h.stands ∙ ap (λ (e : Stepped). status_of_ending (ending_of e.state)) last ∙ sym g.stands,
-     h.written ∙ ap₂ (λ ls (e : Stepped). replay_text (ending_of e.state) (length (turns ls)) e.state.output) lines last ∙ sym g.written)
+    let last : h.last ≡ g.last = Some-same h.last g.last (sym h.goes ∙ ap₂ (λ p ls. plain (program p) (turns ls)) term lines ∙ g.goes) in (
+      h.stands ∙ ap (λ (e : Stepped). status_of_ending (ending_of e.state)) last ∙ sym g.stands,
+      h.written ∙ ap₂ (λ ls (e : Stepped). replay_text (ending_of e.state) (length (turns ls)) e.state.output) lines last ∙ sym g.written,
+    )
 
 -- ONE PLACE
 

@@ -120,7 +120,12 @@ fn status_of(ending: Ending3) -> u8
 }
 
 // The text of a replay after so many steps.
-fn replay_text(alloc: Global, ending: Ending3, steps: u64, printed: &[i64]) -> Result<String, NoMemory>
+fn replay_text(
+    alloc: Global,
+    ending: Ending3,
+    steps: u64,
+    printed: &[i64],
+) -> Result<String, NoMemory>
     ensures { IfOk result (λ text. string_bytes text ≡ text_of_replay ending steps printed.now) }
 {
     let mut text = String::from_str(alloc, "ended ")?;

@@ -78,30 +78,96 @@ fn orders_that_are_refused(rt: HostRuntime) -> Result<(), Fail> {
         (b"{ }".as_slice(), b"refused order at 3\n".as_slice()),
         (b"{ }\n".as_slice(), b"refused order at 4\n".as_slice()),
         (b"{ }%".as_slice(), b"refused order at 4\n".as_slice()),
-        (b"{ }%0.0 1\n".as_slice(), b"refused order at 4\n".as_slice()),
-        (b"{ }% \n0.0 1\n".as_slice(), b"refused order at 4\n".as_slice()),
-        (b"{ }%%\n0.0 1\n".as_slice(), b"refused order at 4\n".as_slice()),
+        (
+            b"{ }%0.0 1\n".as_slice(),
+            b"refused order at 4\n".as_slice(),
+        ),
+        (
+            b"{ }% \n0.0 1\n".as_slice(),
+            b"refused order at 4\n".as_slice(),
+        ),
+        (
+            b"{ }%%\n0.0 1\n".as_slice(),
+            b"refused order at 4\n".as_slice(),
+        ),
         (b"{ }%\n%\n".as_slice(), b"refused order at 5\n".as_slice()),
-        (b"{ }%\n0.0 2\n".as_slice(), b"refused order at 5\n".as_slice()),
-        (b"{ }%\n0.1 1\n".as_slice(), b"refused order at 5\n".as_slice()),
-        (b"{ }%\n1.0 1\n".as_slice(), b"refused order at 5\n".as_slice()),
-        (b"{ }%\n0.0 thread 0.1\n".as_slice(), b"refused order at 5\n".as_slice()),
-        (b"{ }%\n0.0 mutex 0.1\n".as_slice(), b"refused order at 5\n".as_slice()),
-        (b"{ }%\n0.0 threads 0.1 0.2\n".as_slice(), b"refused order at 5\n".as_slice()),
-        (b"{ }%\n0.0 1\n0.0 1\n".as_slice(), b"refused order at 11\n".as_slice()),
-        (b"{ }%\n0.0 1\n0.0 0\n".as_slice(), b"refused order at 11\n".as_slice()),
-        (b"{ }%\n0.0 2\n0.0 0\n".as_slice(), b"refused order at 11\n".as_slice()),
-        (b"{ }%\n0.0 1\n0.0 1".as_slice(), b"refused order at 11\n".as_slice()),
-        (b"{ }%\n0.0 01\n".as_slice(), b"refused order at 5\n".as_slice()),
-        (b"{ }%\n0.0  1\n".as_slice(), b"refused order at 5\n".as_slice()),
-        (b"{ }%\n0.0 1000000001\n".as_slice(), b"refused order at 5\n".as_slice()),
-        (b"{ }%\n0.0 1000000000\n".as_slice(), b"refused order at 5\n".as_slice()),
-        (b"{ }%\n256.0 1\n".as_slice(), b"refused order at 5\n".as_slice()),
-        (b"{ }%\n0.4294967296 1\n".as_slice(), b"refused order at 5\n".as_slice()),
-        (b"{ }%\n9.9 1\n".as_slice(), b"refused order at 5\n".as_slice()),
-        (b"{ }%\n0.0 1".as_slice(), b"refused order at 5\n".as_slice()),
+        (
+            b"{ }%\n0.0 2\n".as_slice(),
+            b"refused order at 5\n".as_slice(),
+        ),
+        (
+            b"{ }%\n0.1 1\n".as_slice(),
+            b"refused order at 5\n".as_slice(),
+        ),
+        (
+            b"{ }%\n1.0 1\n".as_slice(),
+            b"refused order at 5\n".as_slice(),
+        ),
+        (
+            b"{ }%\n0.0 thread 0.1\n".as_slice(),
+            b"refused order at 5\n".as_slice(),
+        ),
+        (
+            b"{ }%\n0.0 mutex 0.1\n".as_slice(),
+            b"refused order at 5\n".as_slice(),
+        ),
+        (
+            b"{ }%\n0.0 threads 0.1 0.2\n".as_slice(),
+            b"refused order at 5\n".as_slice(),
+        ),
+        (
+            b"{ }%\n0.0 1\n0.0 1\n".as_slice(),
+            b"refused order at 11\n".as_slice(),
+        ),
+        (
+            b"{ }%\n0.0 1\n0.0 0\n".as_slice(),
+            b"refused order at 11\n".as_slice(),
+        ),
+        (
+            b"{ }%\n0.0 2\n0.0 0\n".as_slice(),
+            b"refused order at 11\n".as_slice(),
+        ),
+        (
+            b"{ }%\n0.0 1\n0.0 1".as_slice(),
+            b"refused order at 11\n".as_slice(),
+        ),
+        (
+            b"{ }%\n0.0 01\n".as_slice(),
+            b"refused order at 5\n".as_slice(),
+        ),
+        (
+            b"{ }%\n0.0  1\n".as_slice(),
+            b"refused order at 5\n".as_slice(),
+        ),
+        (
+            b"{ }%\n0.0 1000000001\n".as_slice(),
+            b"refused order at 5\n".as_slice(),
+        ),
+        (
+            b"{ }%\n0.0 1000000000\n".as_slice(),
+            b"refused order at 5\n".as_slice(),
+        ),
+        (
+            b"{ }%\n256.0 1\n".as_slice(),
+            b"refused order at 5\n".as_slice(),
+        ),
+        (
+            b"{ }%\n0.4294967296 1\n".as_slice(),
+            b"refused order at 5\n".as_slice(),
+        ),
+        (
+            b"{ }%\n9.9 1\n".as_slice(),
+            b"refused order at 5\n".as_slice(),
+        ),
+        (
+            b"{ }%\n0.0 1".as_slice(),
+            b"refused order at 5\n".as_slice(),
+        ),
         (b"{ }%\n\n".as_slice(), b"refused order at 5\n".as_slice()),
-        (b"{ print 1 }%\n0.0 1\n0.0 2\n".as_slice(), b"refused order at 19\n".as_slice()),
+        (
+            b"{ print 1 }%\n0.0 1\n0.0 2\n".as_slice(),
+            b"refused order at 19\n".as_slice(),
+        ),
     ] {
         replays(&rt, rt.alloc(), input, 10, text)?;
     }
@@ -113,10 +179,26 @@ fn orders_that_are_refused(rt: HostRuntime) -> Result<(), Fail> {
 fn sources_that_are_refused(rt: HostRuntime) -> Result<(), Fail> {
     for (input, status, text) in [
         (b"".as_slice(), 3, b"refused syntax at 0\n".as_slice()),
-        (b"%\n0.0 1\n".as_slice(), 3, b"refused syntax at 0\n".as_slice()),
-        (b"{ $ }%\n0.0 0\n".as_slice(), 3, b"refused byte at 2\n".as_slice()),
-        (b"{ print x }%".as_slice(), 4, b"refused type at 8: unknown name\n".as_slice()),
-        (b"{ join x }%\n0.0 1\n".as_slice(), 11, b"refused form at 2\n".as_slice()),
+        (
+            b"%\n0.0 1\n".as_slice(),
+            3,
+            b"refused syntax at 0\n".as_slice(),
+        ),
+        (
+            b"{ $ }%\n0.0 0\n".as_slice(),
+            3,
+            b"refused byte at 2\n".as_slice(),
+        ),
+        (
+            b"{ print x }%".as_slice(),
+            4,
+            b"refused type at 8: unknown name\n".as_slice(),
+        ),
+        (
+            b"{ join x }%\n0.0 1\n".as_slice(),
+            11,
+            b"refused form at 2\n".as_slice(),
+        ),
     ] {
         replays(&rt, rt.alloc(), input, status, text)?;
     }
@@ -125,5 +207,13 @@ fn sources_that_are_refused(rt: HostRuntime) -> Result<(), Fail> {
 
 #[test]
 fn a_run_takes_no_order(rt: HostRuntime) -> Result<(), Fail> {
-    answers(&rt, rt.alloc(), &["run"], b"{ }%\n0.0 1\n", 64, 3, b"refused byte at 3\n")
+    answers(
+        &rt,
+        rt.alloc(),
+        &["run"],
+        b"{ }%\n0.0 1\n",
+        64,
+        3,
+        b"refused byte at 3\n",
+    )
 }

@@ -158,7 +158,7 @@ module _ (rank : Key → ℕ) (E : KeyTypes) (s : Store) (typed : Typed rank E s
 belongs : (s : Whole) (a : AreTyped s) (x : Thread) → thread_at s.threads x.number ≡ Some x → (w : Lval) (p : Reached) (o : ObjNo) → locate (state_of s x) w ≡ Some p → p.spot ≡ in_cell o → BelongsTo (seen_all a.gives s) x.number (at_object o)
 belongs s a x found w p o h at =
     let seen_there = λ (q : Spot) (v : Value) (e : plain_state.value_at (state_of s x) q ≡ Some v).
-        sym (focus_alike a.gives a.types s x found (location_of x.number q)) ∙ value_there (beside_of a.gives a.types s.threads) (state_of s x) (held_life x.life) q v e in
+    sym (focus_alike a.gives a.types s x found (location_of x.number q)) ∙ value_there (beside_of a.gives a.types s.threads) (state_of s x) (held_life x.life) q v e in
     subst (λ q. BelongsTo (seen_all a.gives s) x.number (location_of x.number q)) at
     (leads_to_own (rank_of a.high) a.types (seen_all a.gives s) a.typed a.local a.gives (state_of s x) seen_there w.slot w.depth p h)
 

@@ -5,6 +5,6 @@
 mod laws;
 
 pub use laws::{
-    examples_start, never_stuck, never_stuck_together, starts_together, starts_typed, threads_apart,
-    threads_start,
+    examples_start, never_stuck, never_stuck_together, starts_together, starts_typed,
+    threads_apart, threads_start,
 };
