@@ -1,7 +1,6 @@
 -- What is read from tokens can be checked.
 use Rattle.std.proofs.Common.{◌≡◌, ℕ, List, [], sym, subst}
 use Rattle.fr_terms.specs.Terms.{Text, Term, block_t}
-use Rattle.fr_typing.specs.Sequential.{IsSequential}
 use Rattle.fr_typing.specs.Threaded.{IsThreaded}
 use Rattle.fr_typing.specs.Laws as laws
 use Rattle.fr_syntax.specs.declared.token.Token.{Token}
@@ -13,7 +12,8 @@ use Rattle.fr_parse.specs.Source.{Spelled, IsSource}
 use Rattle.fr_syntax.proofs.NameTexts.{names_apart}
 use Rattle.borrow_check.specs.Rules.{AreDifferentTexts}
 use Rattle.borrow_check.specs.Programs.{IsBlock, IsCheckable}
-use Rattle.drust_main.specs.Headline.{IsTyped}
+use Rattle.drust_main.specs.declared.words.Command.{Command}
+use Rattle.drust_main.specs.Headline.{IsAccepted, IsTyped}
 
 -- a program is a block
 is_block : (t : Term) → grammar.IsBlock t → IsBlock t
@@ -31,7 +31,7 @@ checkable bytes ts names tree tokens spelled threaded same whole =
     }
 
 -- and its program is that of a source, once it has a type
-pub typed_source : (bytes : List ℕ) (tree checked : Arena) → IsSource bytes (term_of tree) → IsSequential (term_of tree) → laws.IsTyped [] (term_of tree) → checked ≡ tree → IsTyped bytes (term_of checked)
-typed_source bytes tree checked source accepted h same =
-    subst (λ (a : Arena). IsTyped bytes (term_of a)) (sym same)
+pub typed_source : (c : Command) (bytes : List ℕ) (tree checked : Arena) → IsSource bytes (term_of tree) → IsAccepted c (term_of tree) → laws.IsTyped [] (term_of tree) → checked ≡ tree → IsTyped c bytes (term_of checked)
+typed_source c bytes tree checked source accepted h same =
+    subst (λ (a : Arena). IsTyped c bytes (term_of a)) (sym same)
     (record { source = source; accepted = accepted; kind = h.kind; after = h.after; types = h.types })

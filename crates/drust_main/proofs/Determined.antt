@@ -16,6 +16,8 @@ use Rattle.fr_plain.specs.Run.{Life, alive, over, owing, loose}
 use Rattle.fr_plain.specs.Whole.{Thread, Whole, Stepped, thread_at, is_over, all_over, all_wait, step_of, step, then_labels, go_on, run, main_steps, ending_of, start}
 use Rattle.fr_plain.specs.Resolve.{program}
 use Rattle.drust_main.specs.Report.{report}
+use Rattle.drust_main.specs.declared.words.Command.{Command}
+use Rattle.drust_main.specs.declared.words.Command.TheVariants.{Run}
 use Rattle.drust_main.specs.declared.refused.Refused.{Refused}
 use Rattle.drust_main.specs.Refusals.{IsFaulty, HasCause, status_of, text_of}
 use Rattle.drust_main.specs.Headline.{IsTyped, Runs, Replies, run_finished, refused}
@@ -105,28 +107,28 @@ one_text bytes x y h g =
 -- THE CAUSES EXCLUDE ONE ANOTHER
 
 -- a typed program has no fault
-not_faulty : (bytes : List ℕ) (t : Term) (at : ℕ) (why : Reason) → IsTyped bytes t → IsFaulty bytes at why → ⊥
-not_faulty bytes t at why h f =
+not_faulty : (c : Command) (bytes : List ℕ) (t : Term) (at : ℕ) (why : Reason) → IsTyped c bytes t → IsFaulty c bytes at why → ⊥
+not_faulty c bytes t at why h f =
     let same = source_once bytes t f.term h.source f.source in
     let a : typing t [] ≡ typed h.kind h.after = (exactly_one_lem.types t [] h.kind h.after).0 h.types in
     let b : typing f.term [] ≡ fault at why = (exactly_one_lem.faults f.term [] at why).0 f.faults in
-    let c : typed h.kind h.after ≡ fault at why = sym a ∙ ap (λ u. typing u []) same ∙ b in
+    let d : typed h.kind h.after ≡ fault at why = sym a ∙ ap (λ u. typing u []) same ∙ b in
     cc
 
 -- the source of a typed program has no refusal
-pub typed_unrefused : (bytes : List ℕ) (t : Term) (why : Refused) → IsTyped bytes t → HasCause bytes why → ⊥
-typed_unrefused bytes t why h cause = source_is_read bytes t why h.source cause
-    (λ p r e. not_faulty bytes t p r h (subst (HasCause bytes) e cause))
-    (λ p e. accepted_has_none bytes t p h.source h.accepted (subst (HasCause bytes) e cause))
+pub typed_unrefused : (c : Command) (bytes : List ℕ) (t : Term) (why : Refused) → IsTyped c bytes t → HasCause c bytes why → ⊥
+typed_unrefused c bytes t why h cause = source_is_read c bytes t why h.source cause
+    (λ p r e. not_faulty c bytes t p r h (subst (HasCause c bytes) e cause))
+    (λ p e. accepted_has_none c bytes t p h.source h.accepted (subst (HasCause c bytes) e cause))
 
 -- an input has one reply
 pub one_reply : (bytes : List ℕ) (s t : ℕ) (x y : List ℕ) → Replies bytes s x → Replies bytes t y → (s ≡ t) × (x ≡ y)
 one_reply bytes s t x y (run_finished h) (run_finished g) = (refl, one_text bytes x y h g)
-one_reply bytes s t x y (run_finished h) (refused why g) = absurd (typed_unrefused bytes h.term why h.typed g)
-one_reply bytes s t x y (refused why h) (run_finished g) = absurd (typed_unrefused bytes g.term why g.typed h)
-one_reply bytes s t x y (refused why h) (refused other g) = let same = one_cause bytes why other h g in (ap status_of same, ap text_of same)
+one_reply bytes s t x y (run_finished h) (refused why g) = absurd (typed_unrefused Run bytes h.term why h.typed g)
+one_reply bytes s t x y (refused why h) (run_finished g) = absurd (typed_unrefused Run bytes g.term why g.typed h)
+one_reply bytes s t x y (refused why h) (refused other g) = let same = one_cause Run bytes why other h g in (ap status_of same, ap text_of same)
 
 -- the source of a typed program has the reply of its run
-pub typed_reply : (bytes : List ℕ) (p : Term) (s : ℕ) (x : List ℕ) → IsTyped bytes p → Replies bytes s x → s ≡ 0
+pub typed_reply : (bytes : List ℕ) (p : Term) (s : ℕ) (x : List ℕ) → IsTyped Run bytes p → Replies bytes s x → s ≡ 0
 typed_reply bytes p s x known (run_finished r) = refl
-typed_reply bytes p s x known (refused why cause) = absurd (typed_unrefused bytes p why known cause)
+typed_reply bytes p s x known (refused why cause) = absurd (typed_unrefused Run bytes p why known cause)

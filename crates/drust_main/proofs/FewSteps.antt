@@ -1,19 +1,19 @@
 -- The text of a program bounds its steps: a token pays for each, and each token has a byte.
 use Rattle.std.proofs.Common.{◌≡◌, ℕ, zero, suc, ◌+◌, ◌<◌, ◌≤◌, ◌^◌, Bool, true, false, List, [], ◌∷◌, length, take, drop, refl, sym, ap, ap₂, ◌∙◌, inl, inr, arith, length-append}
 use Rattle.std.proofs.lemmas.List.{take-append-drop}
-use Rattle.fr_terms.specs.Terms.{Text, Term, block_t, let_t, assign_t, read_t, borrow_t, borrow_mut_t, arith_t, number_t, unit_t, box_t, print_t, Items, none, item}
-use Rattle.fr_typing.specs.Sequential.{IsSequential, AreSequential}
+use Rattle.fr_terms.specs.Terms.{Text, Term, block_t, let_t, assign_t, read_t, borrow_t, borrow_mut_t, arith_t, number_t, unit_t, box_t, print_t, join_t, spawn_t, Captured, Items, none, item}
+use Rattle.fr_typing.specs.Threaded.{IsThreaded, AreThreaded}
 use Rattle.fr_typing.specs.Places.{Env}
 use Rattle.fr_syntax.specs.declared.kind.TokenKind.{TokenKind}
-use Rattle.fr_syntax.specs.declared.kind.TokenKind.TheVariants.{Name, End, LetWord, MutWord, BoxWord, PrintWord, OpenBrace, CloseBrace, OpenParen, CloseParen, Semicolon, Equals, Amp, Star}
+use Rattle.fr_syntax.specs.declared.kind.TokenKind.TheVariants.{Name, End, LetWord, MutWord, BoxWord, PrintWord, SpawnWord, JoinWord, OpenBrace, CloseBrace, OpenParen, CloseParen, Semicolon, Comma, Equals, Amp, Star}
 use Rattle.fr_syntax.specs.declared.token.Token.{Token}
 use Rattle.fr_syntax.specs.Text.{blanks, text_len}
 use Rattle.fr_syntax.specs.Tokens.{unblanked, first_text, after_text, names_after, Leads, end_at, AreTokens}
-use Rattle.fr_parse.specs.Grammar.{mark_of_op, Has, SpellsPath, Spells, SpellsItems, SpellsMore}
+use Rattle.fr_parse.specs.Grammar.{mark_of_op, Has, SpellsPath, SpellsOthers, SpellsNames, SpellsCaptures, Spells, SpellsItems, SpellsMore}
 use Rattle.fr_parse.specs.Source.{IsSource}
 use Rattle.fr_parse.proofs.Complete.{takes_some}
 use Rattle.fr_plain.specs.Run.{Run, temp, unit_c, number, read, borrow, box_r, arith as arith_r, bind, print, assign, block, spawn, join_r, Parts, last, more, Now, going, constant, temporary, now, settle_more, settle_right, close_last, close, settle, settle_parts, alive, one_if_temporary, leaves, leaves_last, steps_left, steps_in, life_left}
-use Rattle.fr_plain.specs.Resolve.{env_after, lets_in, lets, before, resolve, resolve_items, program}
+use Rattle.fr_plain.specs.Resolve.{env_after, env_of_all, lets_in, lets, before, resolve, resolve_items, program}
 
 -- TOKENS PAY FOR STEPS
 
@@ -27,6 +27,18 @@ path_has_one : (names : List Text) (n : ℕ) (name : Text) (ts rest : List Token
 path_has_one names zero name ts rest h = omega (arith, has_one (Name h.0) ts rest h.2)
 path_has_one names (suc n) name ts rest h = omega (arith, has_one Star ts h.0 h.1, path_has_one names n name h.0 rest h.2)
 
+-- captured names have a token each, and the list has its marks
+others_pay : (names : List Text) (cs : List Captured) (ts rest : List Token) → SpellsOthers names cs ts rest → length cs + 1 + length rest ≤ length ts
+others_pay names [] ts rest h = omega (arith, has_one CloseParen ts rest h)
+others_pay names (c ∷ cs) ts rest (x, y, comma, at, name, more) = omega (arith, has_one Comma ts x comma, has_one (Name name.0) x y name.2, others_pay names cs y rest more)
+
+names_pay : (names : List Text) (cs : List Captured) (ts rest : List Token) → SpellsNames names cs ts rest → length cs + 1 + length rest ≤ length ts
+names_pay names [] ts rest h = omega (arith, has_one CloseParen ts rest h)
+names_pay names (c ∷ cs) ts rest (x, at, name, more) = omega (arith, has_one (Name name.0) ts x name.2, others_pay names cs x rest more)
+
+captures_pay : (names : List Text) (cs : List Captured) (ts rest : List Token) → SpellsCaptures names cs ts rest → length cs + 2 + length rest ≤ length ts
+captures_pay names cs ts rest (x, open_, h) = omega (arith, has_one OpenParen ts x open_, names_pay names cs x rest h)
+
 -- a value that an item leaves is dropped in one step
 one_at_most : (b : Bool) → one_if_temporary b ≤ 1
 one_at_most true = omega arith
@@ -38,7 +50,7 @@ unit_is_free first items place e unit over = ap₂ (λ t ts. steps_in (resolve_i
 
 mutual
   -- a term has a token for each of its steps, and for each variable that it declares in the block around it
-  term_pays : (names : List Text) (b : Bool) (t : Term) (ts rest : List Token) (e : Env) → Spells names b t ts rest → IsSequential t → steps_left (resolve t e) + lets_in t + length rest ≤ length ts
+  term_pays : (names : List Text) (b : Bool) (t : Term) (ts rest : List Token) (e : Env) → Spells names b t ts rest → IsThreaded t → steps_left (resolve t e) + lets_in t + length rest ≤ length ts
   term_pays names b (let_t at name value) ts rest e (x, y, z, w, is, begins, mut, named, eq, h) ok =
       omega (arith, has_one LetWord ts x begins.0, has_one MutWord x y mut, has_one (Name named.0) y z named.2, has_one Equals z w eq, term_pays names false value w rest e h ok)
   term_pays names b (block_t at items) ts rest e (x, begins, h) ok = omega (arith, has_one OpenBrace ts x begins.0, items_pay names items x rest e h ok)
@@ -47,6 +59,10 @@ mutual
       omega (arith, path_has_one names to.stars to.name ts x place.1, has_one Equals x y eq, term_pays names false value y rest e h ok)
   term_pays names b (box_t at value) ts rest e (x, begins, h) ok = omega (arith, has_one BoxWord ts x begins.0, term_pays names false value x rest e h ok)
   term_pays names b (print_t at value) ts rest e (x, begins, h) ok = omega (arith, has_one PrintWord ts x begins.0, term_pays names false value x rest e h ok)
+  term_pays names b (join_t at task) ts rest e (x, begins, h) ok = omega (arith, has_one JoinWord ts x begins.0, term_pays names false task x rest e h ok)
+  -- a new thread's steps, the drops of its captures, its end and its start
+  term_pays names b (spawn_t at captures body) ts rest e (x, y, begins, list, block, h) ok =
+      omega (arith, has_one SpawnWord ts x begins.0, captures_pay names captures x y list, term_pays names false body y rest (env_of_all e captures) h ok)
   term_pays names b (borrow_t at of) ts rest e (x, begins, place) ok = omega (arith, has_one Amp ts x begins.0, path_has_one names of.stars of.name x rest place.1)
   term_pays names b (borrow_mut_t at of) ts rest e (x, y, begins, mut, place) ok =
       omega (arith, has_one Amp ts x begins.0, has_one MutWord x y mut, path_has_one names of.stars of.name y rest place.1)
@@ -64,13 +80,13 @@ mutual
   term_pays names b t ts rest e h ok = absurd ok
 
   -- the items of a block have a token for each of their steps, and for each variable that the block drops
-  items_pay : (names : List Text) (items : Items) (ts rest : List Token) (e : Env) → SpellsItems names items ts rest → AreSequential items → steps_in (resolve_items items e) + lets items + length rest ≤ length ts
+  items_pay : (names : List Text) (items : Items) (ts rest : List Token) (e : Env) → SpellsItems names items ts rest → AreThreaded items → steps_in (resolve_items items e) + lets items + length rest ≤ length ts
   items_pay names none ts rest e h ok = omega (arith, has_one CloseBrace ts rest h)
   items_pay names (item first items) ts rest e (x, h, next) ok =
       omega (arith, term_pays names true first ts x e h ok.0, more_pay names items (resolve first e) x rest (env_after first e) next ok.1)
 
   -- and so do those behind an item, where a semicolon pays for the value that the item leaves
-  more_pay : (names : List Text) (items : Items) (r : Run) (ts rest : List Token) (e : Env) → SpellsMore names items ts rest → AreSequential items →
+  more_pay : (names : List Text) (items : Items) (r : Run) (ts rest : List Token) (e : Env) → SpellsMore names items ts rest → AreThreaded items →
       steps_in (before items r (resolve_items items e)) + lets items + length rest ≤ steps_left r + length ts
   more_pay names none r ts rest e h ok = omega (arith, has_one CloseBrace ts rest h)
   more_pay names (item first items) r ts rest e (x, mark, inl (y, h, next)) ok =
@@ -153,7 +169,7 @@ tokens_few bytes ts names h =
     omega (arith, ap length h.all, length-append h.front (end_at (length bytes) ∷ []), bytes_pay [] 0 bytes h.front names h.place h.rest h.leads)
 
 -- a program has no more steps than its text has bytes, and one more to end
-pub steps_within : (bytes : List ℕ) (t : Term) → IsSource bytes t → IsSequential t → life_left (alive (settle (program t))) ≤ length bytes + 1
+pub steps_within : (bytes : List ℕ) (t : Term) → IsSource bytes t → IsThreaded t → life_left (alive (settle (program t))) ≤ length bytes + 1
 steps_within bytes t h ok =
     let spelled = h.program.grammar.1 in
     omega (
@@ -165,5 +181,5 @@ steps_within bytes t h ok =
     )
 
 -- so that a counter of 64 bits holds them
-pub few_steps : (bytes : List ℕ) (t : Term) → IsSource bytes t → IsSequential t → length bytes ≤ 1048576 → life_left (alive (settle (program t))) < 2 ^ 64
+pub few_steps : (bytes : List ℕ) (t : Term) → IsSource bytes t → IsThreaded t → length bytes ≤ 1048576 → life_left (alive (settle (program t))) < 2 ^ 64
 few_steps bytes t h ok size = omega (arith, steps_within bytes t h ok, size)

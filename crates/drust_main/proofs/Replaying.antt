@@ -9,6 +9,7 @@ use Rattle.fr_plain.specs.Whole.{Whole, Stepped, Turn, then_labels, go_on, run, 
 use Rattle.journal.specs.declared.order.OrderLine.{OrderLine}
 use Rattle.journal.specs.OrderText.{IsOrder, IsRefused}
 use Rattle.journal.proofs.OneReading.{one_lines, one_fault, never_both}
+use Rattle.drust_main.specs.declared.words.Command.TheVariants.{Replay}
 use Rattle.drust_main.specs.declared.refused.Refused.{Refused}
 use Rattle.drust_main.specs.declared.refused.Refused.TheVariants.{Tokens, Grammar, Form, Fault, Order, NoMemory}
 use Rattle.drust_main.specs.Replay.{source_in, source_length, behind_source, order_start, turns, status_of_ending, replay_text, HasLines, HasOrder, Replays, IsNoStep, IsBadOrder, bad_line, bad_step, IsBadAfter, IsBadBehind, HasBadOrder}
@@ -164,7 +165,7 @@ followed_unrefused bytes t ls x p h goes b =
 -- ONE ANSWER
 
 -- a cause is that of the order, or of the source
-of_order : (bytes : List ℕ) (why : Refused) → HasReplayCause bytes why → ((p : ℕ) × (why ≡ Order p) × HasBadOrder bytes p) ⊎ HasCause (source_in bytes) why
+of_order : (bytes : List ℕ) (why : Refused) → HasReplayCause bytes why → ((p : ℕ) × (why ≡ Order p) × HasBadOrder bytes p) ⊎ HasCause Replay (source_in bytes) why
 of_order bytes (Tokens e) h = inr h
 of_order bytes (Grammar e) h = inr h
 of_order bytes (Form p) h = inr h
@@ -172,11 +173,11 @@ of_order bytes (Fault p why) h = inr h
 of_order bytes (Order p) h = inl (p, refl, h)
 of_order bytes NoMemory h = inr h
 
-both_of : (bytes : List ℕ) (a b : Refused) → ((p : ℕ) × (a ≡ Order p) × HasBadOrder bytes p) ⊎ HasCause (source_in bytes) a → ((q : ℕ) × (b ≡ Order q) × HasBadOrder bytes q) ⊎ HasCause (source_in bytes) b → a ≡ b
+both_of : (bytes : List ℕ) (a b : Refused) → ((p : ℕ) × (a ≡ Order p) × HasBadOrder bytes p) ⊎ HasCause Replay (source_in bytes) a → ((q : ℕ) × (b ≡ Order q) × HasBadOrder bytes q) ⊎ HasCause Replay (source_in bytes) b → a ≡ b
 both_of bytes a b (inl h) (inl g) = h.1 ∙ ap Order (one_bad_order bytes h.0 g.0 h.2 g.2) ∙ sym g.1
-both_of bytes a b (inl h) (inr g) = absurd (typed_unrefused (source_in bytes) h.2.term b h.2.typed g)
-both_of bytes a b (inr h) (inl g) = absurd (typed_unrefused (source_in bytes) g.2.term a g.2.typed h)
-both_of bytes a b (inr h) (inr g) = one_cause (source_in bytes) a b h g
+both_of bytes a b (inl h) (inr g) = absurd (typed_unrefused Replay (source_in bytes) h.2.term b h.2.typed g)
+both_of bytes a b (inr h) (inl g) = absurd (typed_unrefused Replay (source_in bytes) g.2.term a g.2.typed h)
+both_of bytes a b (inr h) (inr g) = one_cause Replay (source_in bytes) a b h g
 
 one_replay_cause : (bytes : List ℕ) (a b : Refused) → HasReplayCause bytes a → HasReplayCause bytes b → a ≡ b
 one_replay_cause bytes a b h g = both_of bytes a b (of_order bytes a h) (of_order bytes b g)
@@ -185,9 +186,9 @@ one_replay_cause bytes a b h g = both_of bytes a b (of_order bytes a h) (of_orde
 follows_unrefused : (bytes : List ℕ) (t : Term) (ls : List OrderLine) (x : Stepped) (why : Refused) → HasOrder bytes t ls → plain (program t) (turns ls) ≡ Some x → HasReplayCause bytes why → ⊥
 follows_unrefused bytes t ls x why h goes cause = by (of_order bytes why cause)
   where
-    by : ((p : ℕ) × (why ≡ Order p) × HasBadOrder bytes p) ⊎ HasCause (source_in bytes) why → ⊥
+    by : ((p : ℕ) × (why ≡ Order p) × HasBadOrder bytes p) ⊎ HasCause Replay (source_in bytes) why → ⊥
     by (inl c) = followed_unrefused bytes t ls x c.0 h goes c.2
-    by (inr c) = typed_unrefused (source_in bytes) t why h.typed c
+    by (inr c) = typed_unrefused Replay (source_in bytes) t why h.typed c
 
 -- an input has one reply
 pub one_replied : (bytes : List ℕ) (s t : ℕ) (x y : List ℕ) → Replayed bytes s x → Replayed bytes t y → (s ≡ t) × (x ≡ y)

@@ -11,7 +11,7 @@ use Rattle.drust_main.specs.Report.{report}
 use Rattle.drust_main.specs.declared.words.Command.{Command}
 use Rattle.drust_main.specs.declared.words.Command.TheVariants.{Run, Replay}
 use Rattle.drust_main.specs.Words.{asked}
-pub use Rattle.drust_main.specs.Typed.{IsTyped}
+pub use Rattle.drust_main.specs.Typed.{IsAccepted, IsTyped}
 use Rattle.drust_main.specs.Replay.{Replays}
 use Rattle.drust_main.specs.declared.refused.Refused.{Refused}
 use Rattle.drust_main.specs.Refusals.{HasCause, HasReplayCause, status_of, text_of}
@@ -23,7 +23,7 @@ limit = 1048576
 -- the text is that of the plain run of the program that the bytes spell, to its end: the main thread steps alone
 pub record Runs (bytes text : List ℕ) : Type 0 where
   pub term : Term
-  pub typed : IsTyped bytes term
+  pub typed : IsTyped Run bytes term
   pub steps : ℕ
   pub last : Stepped
   pub run : plain (program term) (main_steps steps) ≡ Some last
@@ -45,7 +45,7 @@ Told (Some bytes) P = P bytes
 -- types)
 pub data Replies (bytes : List ℕ) : (status : ℕ) → (text : List ℕ) → Type 0 where
   run_finished : {text : List ℕ} → Runs bytes text → Replies bytes 0 text
-  refused : (why : Refused) → HasCause bytes why → Replies bytes (status_of why) (text_of why)
+  refused : (why : Refused) → HasCause Run bytes why → Replies bytes (status_of why) (text_of why)
 
 -- what an input is answered that is to be replayed: the text of its run under the order behind the source, or why it has none (why
 -- the source has none, or where the order is refused)

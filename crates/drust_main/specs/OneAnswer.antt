@@ -15,7 +15,7 @@ OneAnswer = (words : List (List ℕ)) (bytes : List ℕ) (s t : ℕ) (x y : List
 
 -- the source of a typed program that is asked to run is answered by its run alone
 abbrev pub TypedRuns : Type 0
-TypedRuns = (words : List (List ℕ)) (bytes : List ℕ) (p : Term) (s : ℕ) (x : List ℕ) → asked words ≡ Some Run → length bytes ≤ limit → IsTyped bytes p → Answers words (Some bytes) s x → s ≡ 0
+TypedRuns = (words : List (List ℕ)) (bytes : List ℕ) (p : Term) (s : ℕ) (x : List ℕ) → asked words ≡ Some Run → length bytes ≤ limit → IsTyped Run bytes p → Answers words (Some bytes) s x → s ≡ 0
 
 -- with an order behind it that is asked to be followed, and whose steps are plain steps, it is answered by the run under that
 -- order alone

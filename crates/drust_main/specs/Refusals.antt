@@ -1,7 +1,6 @@
 -- Why a source has no run, and what is written then (this project's format). A place is a byte of the input, from 0.
 use Rattle.std.specs.Prelude.{◌≡◌, ℕ, List, [], ◌++◌, Some, codes, decimal}
 use Rattle.fr_terms.specs.Terms.{Text, Term}
-use Rattle.fr_typing.specs.Sequential.{IsSequential}
 use Rattle.fr_typing.specs.declared.reason.Reason.{Reason}
 use Rattle.fr_typing.specs.declared.reason.Reason.TheVariants.{UnknownName, NameInScope, NotDefined, NoTarget, ReadBlocked, WriteBlocked, MovedThrough, NotWritable, WrongType, Outlives, NotOwned, NotFull}
 use Rattle.fr_typing.specs.Typing.{Faults}
@@ -13,6 +12,9 @@ use Rattle.fr_parse.specs.declared.fault.ParseError.{ParseError}
 use Rattle.fr_parse.specs.declared.fault.ParseError.TheVariants as parse
 use Rattle.fr_parse.specs.Table.{refusal}
 use Rattle.fr_parse.specs.Source.{IsSource}
+use Rattle.drust_main.specs.declared.words.Command.{Command}
+use Rattle.drust_main.specs.declared.words.Command.TheVariants.{Replay}
+use Rattle.drust_main.specs.Typed.{IsAccepted}
 use Rattle.drust_main.specs.Forms.{later_form}
 use Rattle.drust_main.specs.Replay.{source_in, HasBadOrder}
 use Rattle.drust_main.specs.declared.refused.Refused.{Refused}
@@ -25,32 +27,32 @@ pub record IsUnparsed (bytes : List ℕ) (error : ParseError) : Type 0 where
   pub tokens : AreTokens bytes ts names
   pub first : refusal ts ≡ Some error
 
--- the bytes are the source of a program, and its first term of a form that is not accepted yet begins there
-pub record HasLaterForm (bytes : List ℕ) (place : ℕ) : Type 0 where
+-- the bytes are the source of a program, and its first term of a form that the command does not accept yet begins there
+pub record HasLaterForm (command : Command) (bytes : List ℕ) (place : ℕ) : Type 0 where
   pub term : Term
   pub source : IsSource bytes term
-  pub first : later_form term ≡ Some place
+  pub first : later_form command term ≡ Some place
 
 -- the bytes are the source of a program of accepted forms, of which this is the first fault of types
-pub record IsFaulty (bytes : List ℕ) (place : ℕ) (why : Reason) : Type 0 where
+pub record IsFaulty (command : Command) (bytes : List ℕ) (place : ℕ) (why : Reason) : Type 0 where
   pub term : Term
   pub source : IsSource bytes term
-  pub accepted : IsSequential term
+  pub accepted : IsAccepted command term
   pub faults : Faults [] term place why
 
--- the cause of a refusal of a source
-abbrev pub HasCause : List ℕ → Refused → Type 0
-HasCause bytes (Tokens error) = IsRefused bytes error
-HasCause bytes (Grammar error) = IsUnparsed bytes error
-HasCause bytes (Form place) = HasLaterForm bytes place
-HasCause bytes (Fault place why) = IsFaulty bytes place why
-HasCause bytes (Order place) = ⊥
-HasCause bytes NoMemory = ⊥
+-- the cause of a refusal of a source by a command
+abbrev pub HasCause : Command → List ℕ → Refused → Type 0
+HasCause c bytes (Tokens error) = IsRefused bytes error
+HasCause c bytes (Grammar error) = IsUnparsed bytes error
+HasCause c bytes (Form place) = HasLaterForm c bytes place
+HasCause c bytes (Fault place why) = IsFaulty c bytes place why
+HasCause c bytes (Order place) = ⊥
+HasCause c bytes NoMemory = ⊥
 
 -- the cause of a refusal of a source with an order behind it: of the order, or of the source in front of it
 abbrev pub HasReplayCause : List ℕ → Refused → Type 0
 HasReplayCause bytes (Order place) = HasBadOrder bytes place
-HasReplayCause bytes why = HasCause (source_in bytes) why
+HasReplayCause bytes why = HasCause Replay (source_in bytes) why
 
 abbrev pub status_of : Refused → ℕ
 status_of (Tokens error) = 3

@@ -10,6 +10,7 @@ use Rattle.fr_plain.specs.Resolve.{program}
 use Rattle.journal.specs.declared.order.OrderLine.{OrderLine}
 use Rattle.journal.specs.OrderText.{IsOrder, IsRefused, steps_of}
 use Rattle.drust_main.specs.Report.{number_lines}
+use Rattle.drust_main.specs.declared.words.Command.TheVariants.{Replay}
 use Rattle.drust_main.specs.Typed.{IsTyped}
 
 -- THE TWO PARTS OF AN INPUT
@@ -66,7 +67,7 @@ pub record HasLines (bytes : List ℕ) (lines : List OrderLine) : Type 0 where
 
 -- the bytes are the source of a typed program with an order of these lines behind it
 pub record HasOrder (bytes : List ℕ) (t : Term) (lines : List OrderLine) : Type 0 where
-  pub typed : IsTyped (source_in bytes) t
+  pub typed : IsTyped Replay (source_in bytes) t
   pub behind : HasLines bytes lines
 
 -- each step of the order is a plain step of the program; the text tells the state that they lead to
@@ -111,5 +112,5 @@ IsBadBehind t at (mark ∷ byte ∷ order) place = IsBadAfter (byte == 10) t at 
 -- the source of a typed program, whose order is refused at that place
 pub record HasBadOrder (bytes : List ℕ) (place : ℕ) : Type 0 where
   pub term : Term
-  pub typed : IsTyped (source_in bytes) term
+  pub typed : IsTyped Replay (source_in bytes) term
   pub bad : IsBadBehind term (source_length bytes) (behind_source bytes) place

@@ -24,10 +24,10 @@ pub record Follows (from : Whole) (order : List Turn) (to : Whole) : Type 0 wher
   pub labels : List Label
   pub is : run from order ≡ Some (record { state = to; labels = labels })
 
--- a refusal has its cause; of want of memory nothing is said
-abbrev pub IsRefusedBy : List ℕ → Refused → Type 0
-IsRefusedBy bytes NoMemory = ⊤
-IsRefusedBy bytes why = HasCause bytes why
+-- a refusal by a command has its cause; of want of memory nothing is said
+abbrev pub IsRefusedBy : Command → List ℕ → Refused → Type 0
+IsRefusedBy c bytes NoMemory = ⊤
+IsRefusedBy c bytes why = HasCause c bytes why
 
 -- the same of a source with an order behind it
 abbrev pub IsUnfollowedBy : List ℕ → Refused → Type 0

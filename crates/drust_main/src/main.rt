@@ -14,6 +14,8 @@ mod run_tests;
 #[cfg(test)]
 mod tests;
 #[cfg(test)]
+mod thread_replay_tests;
+#[cfg(test)]
 mod thread_typing_tests;
 mod top;
 #[cfg(test)]

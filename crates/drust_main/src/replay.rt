@@ -10,6 +10,7 @@ ghost use Rattle.drust_main.specs.Runs.{Follows, IsUnfollowedBy, IsStop, IsStopp
 use crate::refused::Refused;
 use crate::report::{add_count, add_numbers};
 use crate::run::checked_source;
+use crate::words::Command;
 use fr_base::{Ending3, NoMemory};
 use fr_meaning::{Pool, StepError};
 use journal::{Order, OrderError, OrderLine, read_order};
@@ -147,7 +148,7 @@ fn follow_source(alloc: Global, bytes: &[u8]) -> Result<(u8, String), Refused>
     ensures refused { IfErr result (IsUnfollowedBy bytes.now) }
 {
     let source = source_length(bytes);
-    let checked = checked_source(alloc, &bytes[..source])?;
+    let checked = checked_source(alloc, Command::Replay, &bytes[..source])?;
     let order = order_behind(alloc, bytes, source)?;
     let mut pool = Pool::new(alloc, &checked)?;
     let steps = follow(&mut pool, &order)?;

@@ -195,7 +195,7 @@ fn sources_that_are_refused(rt: HostRuntime) -> Result<(), Fail> {
             b"refused type at 8: unknown name\n".as_slice(),
         ),
         (
-            b"{ join x }%\n0.0 1\n".as_slice(),
+            b"{ mutex x }%\n0.0 1\n".as_slice(),
             11,
             b"refused form at 2\n".as_slice(),
         ),

@@ -3,7 +3,6 @@
 ghost use Rattle.std.specs.Prelude.{◌≡◌, ◌≢◌, ◌+◌, ◌≤◌, ◌<◌, ◌^◌, ℕ, List, Some, IfOk, IfErr, OnOk, length, string_bytes};
 ghost use Rattle.fr_base.specs.declared.step.Ending3.TheVariants as ending;
 ghost use Rattle.fr_terms.specs.Terms.{Text, Term as SourceTerm};
-ghost use Rattle.fr_typing.specs.Sequential.{IsSequential};
 ghost use Rattle.fr_syntax.specs.declared.token.Token.{Token};
 ghost use Rattle.fr_syntax.specs.Tokens.{AreTokens, IsRefusedOrNoMemory};
 ghost use Rattle.fr_parse.specs.Source.{IsSource};
@@ -14,12 +13,14 @@ ghost use Rattle.fr_plain.specs.Resolve.{program};
 ghost use Rattle.borrow_check.specs.Programs.{IsFault};
 ghost use Rattle.fr_sound.specs.NeverStuck.{IsTyped as IsTypedState};
 ghost use Rattle.fr_meaning.specs.PoolView.{whole_of, steps_left_of};
-ghost use Rattle.drust_main.specs.Headline.{IsTyped, Runs, Replies, limit};
+ghost use Rattle.drust_main.specs.declared.words.Command.{Command};
+ghost use Rattle.drust_main.specs.Headline.{IsAccepted, IsTyped, Runs, Replies, limit};
 ghost use Rattle.drust_main.specs.Runs.{IsRefusedBy, Goes};
 
 use crate::forms::later_form;
 use crate::refused::Refused;
 use crate::report::report_text;
+use crate::words::Command;
 use borrow_check::{CheckError, Checked, check};
 use fr_base::{Ending3, Fresh, NoMemory, ThreadNo};
 use fr_meaning::{Pool, StepError};
@@ -29,7 +30,7 @@ use std::alloc::Global;
 
 // What a refusal of the tokens says of the source.
 fn refused_tokens(error: TokenError) -> Refused
-    ensures { (bytes : List ℕ) → IsRefusedOrNoMemory bytes error → IsRefusedBy bytes result }
+    ensures { (command : Command) (bytes : List ℕ) → IsRefusedOrNoMemory bytes error → IsRefusedBy command bytes result }
 {
     match error {
         TokenError::NoMemory => Refused::NoMemory,
@@ -39,7 +40,7 @@ fn refused_tokens(error: TokenError) -> Refused
 
 // What a refusal of the parser says of the source.
 fn refused_term(error: ParseError) -> Refused
-    ensures { (bytes : List ℕ) (ts : List Token) (names : List Text) → AreTokens bytes ts names → (error ≢ ParseError.NoMemory → refusal ts ≡ Some error) → IsRefusedBy bytes result }
+    ensures { (command : Command) (bytes : List ℕ) (ts : List Token) (names : List Text) → AreTokens bytes ts names → (error ≢ ParseError.NoMemory → refusal ts ≡ Some error) → IsRefusedBy command bytes result }
 {
     match error {
         ParseError::NoMemory => Refused::NoMemory,
@@ -50,7 +51,7 @@ fn refused_term(error: ParseError) -> Refused
 // What a refusal of the checker says of the source.
 #[tactic(auto, using(crate::proofs::Refusals::faulty))]
 fn refused_types(error: CheckError) -> Refused
-    ensures { (bytes : List ℕ) (t : SourceTerm) → IsSource bytes t → IsSequential t → IsFault error t → IsRefusedBy bytes result }
+    ensures { (command : Command) (bytes : List ℕ) (t : SourceTerm) → IsSource bytes t → IsAccepted command t → IsFault error t → IsRefusedBy command bytes result }
 {
     match error {
         CheckError::Fault { place, reason } => Refused::Fault { place, reason },
@@ -58,11 +59,12 @@ fn refused_types(error: CheckError) -> Refused
     }
 }
 
-/// The tree of a source, checked. Each refusal exactly by what the bytes are; want of memory at any time.
-pub fn checked_source(alloc: Global, bytes: &[u8]) -> Result<Checked, Refused>
+/// The tree of a source of forms that the command accepts, checked. Each refusal exactly by what the bytes are; want of memory at
+/// any time.
+pub fn checked_source(alloc: Global, command: Command, bytes: &[u8]) -> Result<Checked, Refused>
     requires { length bytes.now ≤ limit }
-    ensures typed { IfOk result (λ c. IsTyped bytes.now (term_of c.arena)) }
-    ensures refused { IfErr result (IsRefusedBy bytes.now) }
+    ensures typed { IfOk result (λ c. IsTyped command bytes.now (term_of c.arena)) }
+    ensures refused { IfErr result (IsRefusedBy command bytes.now) }
 {
     let tokens = match tokens(alloc, bytes) {
         Ok(tokens) => tokens,
@@ -72,7 +74,7 @@ pub fn checked_source(alloc: Global, bytes: &[u8]) -> Result<Checked, Refused>
         Ok(tree) => tree,
         Err(error) => return Err(refused_term(error)),
     };
-    if let Some(place) = later_form(&tree) {
+    if let Some(place) = later_form(command, &tree) {
         return Err(Refused::Form { place });
     }
     match check(alloc, tree) {
@@ -103,9 +105,9 @@ fn run_to_end(pool: &mut Pool) -> Result<u64, NoMemory>
 fn run_source(alloc: Global, bytes: &[u8]) -> Result<String, Refused>
     requires { length bytes.now ≤ limit }
     ensures runs { IfOk result (λ text. Runs bytes.now (string_bytes text)) }
-    ensures refused { IfErr result (IsRefusedBy bytes.now) }
+    ensures refused { IfErr result (IsRefusedBy Command.Run bytes.now) }
 {
-    let checked = checked_source(alloc, bytes)?;
+    let checked = checked_source(alloc, Command::Run, bytes)?;
     let mut pool = Pool::new(alloc, &checked)?;
     let steps = run_to_end(&mut pool)?;
     Ok(report_text(alloc, steps, pool.output())?)

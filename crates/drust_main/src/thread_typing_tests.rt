@@ -1,63 +1,16 @@
 //! Small programs that start and join threads, by the rows of the typing table: those that have a type, and the first fault of the others.
-//! Places and reasons were worked out by hand. They don't run yet, so the checker is asked itself.
+//! Places and reasons were worked out by hand, and the checker is asked itself.
 
-ghost use Rattle.std.specs.Prelude.{◌≡◌, ◌<◌, ◌≤◌, length, true};
-ghost use Rattle.fr_typing.specs.Threaded.{IsThreaded, AreThreaded};
-ghost use Rattle.fr_syntax.specs.Meanings.{meanings, meaning_at, term_at, items_at, sort_of, term_s, all_need, AreBelow};
-
+use crate::forms::later_form;
+use crate::words::Command;
 use borrow_check::{CheckError, Checked, check};
 use fr_base::Lval;
 use fr_parse::parse;
-use fr_syntax::{Nodes, Term, Tree, tokens};
+use fr_syntax::tokens;
 use fr_typing::Reason;
 use std::alloc::Global;
 use std::process::Abort;
 use std::test::Fail;
-
-// Whether the term of a node has the forms of one thread alone, and those that start and join threads.
-#[cycle(threaded)]
-fn is_threaded(tree: &Tree, at: u32) -> bool
-    requires here { at < length (meanings tree.now) }
-    requires sort { sort_of (meaning_at (meanings tree.now) at).what ≡ term_s }
-    ensures { result ≡ true → IsThreaded (term_at (meanings tree.now) at) }
-{
-    let Some(node) = tree.node(at) else {
-        unreachable!()
-    };
-    match &node.term {
-        Term::Number(_) | Term::Unit => true,
-        Term::Read(_) | Term::Borrow(_) | Term::BorrowMut(_) => true,
-        Term::Let(_, value) | Term::Assign(_, value) => is_threaded(tree, *value),
-        Term::Box(value) | Term::Print(value) | Term::Join(value) => is_threaded(tree, *value),
-        Term::Arith(_, left, right) => {
-            if is_threaded(tree, *left) {
-                return is_threaded(tree, *right);
-            }
-            false
-        }
-        Term::Spawn(_, body) => is_threaded(tree, *body),
-        Term::Block(items) => are_threaded(tree, at, items),
-        _ => false,
-    }
-}
-
-// The same of items, which stand before a node.
-#[cycle(threaded)]
-fn are_threaded(tree: &Tree, bound: u32, items: &Nodes) -> bool
-    requires inside { bound ≤ length (meanings tree.now) }
-    requires parts { AreBelow (meanings tree.now) bound (all_need term_s items.now.items) }
-    ensures { result ≡ true → AreThreaded (items_at (meanings tree.now) items.now.items) }
-{
-    'items: for next in 0..items.len() {
-        let Some(item) = items.at(next) else {
-            unreachable!()
-        };
-        if !is_threaded(tree, *item) {
-            return false;
-        }
-    }
-    true
-}
 
 // The checker's answer to a source. Where it is too long or has other forms, the answer is one that no test expects.
 fn answer(alloc: Global, input: &[u8]) -> Result<Result<Checked, CheckError>, Fail> {
@@ -66,7 +19,7 @@ fn answer(alloc: Global, input: &[u8]) -> Result<Result<Checked, CheckError>, Fa
     }
     let tokens = tokens(alloc, input)?;
     let tree = parse(alloc, &tokens)?;
-    if !is_threaded(&tree, tree.root()) {
+    if later_form(Command::Replay, &tree).is_some() {
         return Ok(Err(CheckError::NoMemory));
     }
     Ok(check(alloc, tree))

@@ -14,8 +14,8 @@ pub later_among-returns-in-Some-later_at : goal.later_among-returns-in-Some-late
 later_among-returns-in-Some-later_at t c =
     let ms = meanings c.args.tree.now in
     let ids = c.args.items.now.items in
-    ap (λ o. option_or o (later_among (items_at ms (drop (c.items.next + 1) ids)))) c.in-Some-later_at.ensures
-    ∙ sym (next_later ms ids c.items.next c.in-Some.item.now c.in-Some.ensures) ∙ c.items.invariant.first
+    ap (λ o. option_or o (later_among c.args.command (items_at ms (drop (c.items.next + 1) ids)))) c.in-Some-later_at.ensures
+    ∙ sym (next_later c.args.command ms ids c.items.next c.in-Some.item.now c.in-Some.ensures) ∙ c.items.invariant.first
 
 pub later_among-items-preserved : goal.later_among-items-preserved
 later_among-items-preserved t c =
@@ -25,6 +25,6 @@ later_among-items-preserved t c =
     record {
       parts = next.2;
       first =
-          ap (λ o. option_or o (later_among (items_at ms (drop (c.items.next + 1) ids)))) (sym c.in_default-later_at.is ∙ c.later_at.ensures)
-          ∙ sym (next_later ms ids c.items.next c.in-Some.item.now c.in-Some.ensures) ∙ c.items.invariant.first;
+          ap (λ o. option_or o (later_among c.args.command (items_at ms (drop (c.items.next + 1) ids)))) (sym c.in_default-later_at.is ∙ c.later_at.ensures)
+          ∙ sym (next_later c.args.command ms ids c.items.next c.in-Some.item.now c.in-Some.ensures) ∙ c.items.invariant.first;
     }

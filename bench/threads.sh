@@ -1,0 +1,71 @@
+#!/usr/bin/env bash
+# How long replays over many threads take: a source that starts some 250, 500 and 1,000 threads of 1,000 steps each, with an order
+# behind it in which each of them steps to its end, the last one started first. Beside each stands the time up to the end of the
+# checker (the same source with a fault in its last term), so that the difference is the replay; and the memory of both. Then the
+# same number of steps under orders of more and more lines. Needs the built program (./build).
+#   bench/threads.sh
+set -eu
+cd "$(dirname "$0")/.."
+program=crates/drust_main/out/drust_main
+[ -x "$program" ] || { echo "build the program first: ./build" >&2; exit 1; }
+exec python3 - "$program" <<'PY'
+import os, subprocess, sys, time
+program = sys.argv[1]
+# a thread reads its one variable and drops what it read, again and again, drops the variable, and ends
+READS = 499
+STEPS = 2 * READS + 2
+
+def source(threads, last):
+    body = "x;" * READS + "()"
+    return "{let mut x=1;" + f"spawn(x){{{body}}};" * threads + last + "}"
+
+# main starts all threads, then each of them steps to its end, `lines` lines each, and then main ends
+def order(threads, lines):
+    text, part = ["0.0 1\n"], STEPS // lines
+    for n in range(1, threads + 1):
+        text.append(f"0.0 thread 0.{n}\n0.0 1\n")
+    for n in range(threads, 0, -1):
+        text.append(f"0.{n} {part}\n" * (lines - 1) + f"0.{n} {STEPS - part * (lines - 1)}\n")
+    text.append("0.0 4\n")
+    return "".join(text)
+
+# the steps: main's own, those that start and discard a task, and the threads'
+def steps(threads):
+    return 1 + 2 * threads + STEPS * threads + 4
+
+def timed(text):
+    if len(text) > 1_048_576:
+        sys.exit(f"{len(text)} bytes are too many")
+    best, peak = None, 0
+    for _ in range(5):
+        start = time.perf_counter()
+        process = subprocess.Popen([program, "replay"], stdin=subprocess.PIPE, stdout=subprocess.PIPE)
+        process.stdin.write(text.encode())
+        process.stdin.close()
+        out = process.stdout.read()
+        _, status, usage = os.wait4(process.pid, 0)
+        taken = time.perf_counter() - start
+        best = taken if best is None else min(best, taken)
+        peak = usage.ru_maxrss // 1024
+    return best, os.waitstatus_to_exitcode(status), out.decode(), peak
+
+def row(threads, lines, before):
+    text = source(threads, "print x") + "%\n" + order(threads, lines)
+    whole, status, out, peak = timed(text)
+    if status != 0 or int(out.split()[-1]) != steps(threads):
+        sys.exit(f"status {status}: {out}")
+    front, status, _, front_peak = timed(source(threads, "print y") + "%\n" + order(threads, lines))
+    if status != 4:
+        sys.exit(f"status {status} of the refused source")
+    run = whole - front
+    growth = f"{run / before:7.2f}" if before else "      -"
+    print(f"{threads:7} {steps(threads):9} {2 * threads + threads * lines + 2:7} {len(text):9} {whole:8.3f} {front:8.3f} {run:8.3f} {growth} {peak:6} {front_peak:6}")
+    return run
+
+print(f"{'threads':>7} {'steps':>9} {'lines':>7} {'bytes':>9} {'seconds':>8} {'checked':>8} {'replay':>8} {'growth':>7} {'MB':>6} {'checked':>6}")
+before = None
+for threads in (250, 500, 1000):
+    before = row(threads, 1, before)
+for lines in (1, 10, 100):
+    row(250, lines, None)
+PY
