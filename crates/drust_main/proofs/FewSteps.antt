@@ -30,11 +30,11 @@ path_has_one names (suc n) name ts rest h = omega (arith, has_one Star ts h.0 h.
 -- captured names have a token each, and the list has its marks
 others_pay : (names : List Text) (cs : List Captured) (ts rest : List Token) → SpellsOthers names cs ts rest → length cs + 1 + length rest ≤ length ts
 others_pay names [] ts rest h = omega (arith, has_one CloseParen ts rest h)
-others_pay names (c ∷ cs) ts rest (x, y, comma, at, name, more) = omega (arith, has_one Comma ts x comma, has_one (Name name.0) x y name.2, others_pay names cs y rest more)
+others_pay names (c ∷ cs) ts rest (x, y, comma, at, name, next) = omega (arith, has_one Comma ts x comma, has_one (Name name.0) x y name.2, others_pay names cs y rest next)
 
 names_pay : (names : List Text) (cs : List Captured) (ts rest : List Token) → SpellsNames names cs ts rest → length cs + 1 + length rest ≤ length ts
 names_pay names [] ts rest h = omega (arith, has_one CloseParen ts rest h)
-names_pay names (c ∷ cs) ts rest (x, at, name, more) = omega (arith, has_one (Name name.0) ts x name.2, others_pay names cs x rest more)
+names_pay names (c ∷ cs) ts rest (x, at, name, next) = omega (arith, has_one (Name name.0) ts x name.2, others_pay names cs x rest next)
 
 captures_pay : (names : List Text) (cs : List Captured) (ts rest : List Token) → SpellsCaptures names cs ts rest → length cs + 2 + length rest ≤ length ts
 captures_pay names cs ts rest (x, open_, h) = omega (arith, has_one OpenParen ts x open_, names_pay names cs x rest h)
@@ -61,7 +61,7 @@ mutual
   term_pays names b (print_t at value) ts rest e (x, begins, h) ok = omega (arith, has_one PrintWord ts x begins.0, term_pays names false value x rest e h ok)
   term_pays names b (join_t at task) ts rest e (x, begins, h) ok = omega (arith, has_one JoinWord ts x begins.0, term_pays names false task x rest e h ok)
   -- a new thread's steps, the drops of its captures, its end and its start
-  term_pays names b (spawn_t at captures body) ts rest e (x, y, begins, list, block, h) ok =
+  term_pays names b (spawn_t at captures body) ts rest e (x, y, begins, list, is_block, h) ok =
       omega (arith, has_one SpawnWord ts x begins.0, captures_pay names captures x y list, term_pays names false body y rest (env_of_all e captures) h ok)
   term_pays names b (borrow_t at of) ts rest e (x, begins, place) ok = omega (arith, has_one Amp ts x begins.0, path_has_one names of.stars of.name x rest place.1)
   term_pays names b (borrow_mut_t at of) ts rest e (x, y, begins, mut, place) ok =

@@ -18,6 +18,7 @@ use Rattle.fr_base.specs.declared.step.Ending3.{Ending3}
 use Rattle.fr_terms.specs.Terms.{Term}
 use Rattle.fr_plain.specs.Resolve.{program}
 use Rattle.fr_plain.specs.Whole.{start, ending_of}
+use Rattle.drust_main.specs.declared.words.Command.TheVariants.{Replay}
 use Rattle.drust_main.specs.Replay.{source_in, turns, status_of_ending, replay_text, HasLines, Replays}
 use Rattle.drust_main.specs.Typed.{IsTyped}
 use Rattle.drust_main.specs.declared.refused.Refused.{Refused}
@@ -146,7 +147,7 @@ stops_in s m ls n l (Form place) h f g = absurd g
 stops_in s m ls n l (Fault place why) h f g = absurd g
 
 -- a typed program that follows an order is replayed
-pub replays_to : (bytes : List ℕ) (t : Term) (lines : List OrderLine) (from to : Whole) (steps : ℕ) (end : Ending3) (output : List ℤ) (status : ℕ) (text : List ℕ) → IsTyped (source_in bytes) t → HasLines bytes lines → from ≡ start (program t) → Follows from (turns lines) to → steps ≡ length (turns lines) → end ≡ ending_of to → output ≡ to.output → status ≡ status_of_ending end → text ≡ replay_text end steps output → Replays bytes status text
+pub replays_to : (bytes : List ℕ) (t : Term) (lines : List OrderLine) (from to : Whole) (steps : ℕ) (end : Ending3) (output : List ℤ) (status : ℕ) (text : List ℕ) → IsTyped Replay (source_in bytes) t → HasLines bytes lines → from ≡ start (program t) → Follows from (turns lines) to → steps ≡ length (turns lines) → end ≡ ending_of to → output ≡ to.output → status ≡ status_of_ending end → text ≡ replay_text end steps output → Replays bytes status text
 replays_to bytes t lines from to steps end output status text typed h begins goes counted ends printed is written =
     record {
       term = t;

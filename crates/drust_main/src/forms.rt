@@ -2,7 +2,7 @@
 
 ghost use Rattle.std.specs.Prelude.{◌≡◌, ◌<◌, ◌≤◌, length};
 ghost use Rattle.fr_syntax.specs.Meanings.{meanings, meaning_at, term_at, items_at, sort_of, term_s, all_need, term_of, AreBelow, IsTree};
-ghost use Rattle.drust_main.specs.Forms.{later_form as first_later, later_among as first_among};
+ghost use Rattle.drust_main.specs.Forms.{in_threads, later_form as first_later, later_among as first_among};
 
 use crate::words::Command;
 use fr_syntax::{Nodes, Term, Tree};
@@ -14,6 +14,16 @@ pub fn later_form(command: Command, tree: &Tree) -> Option<u32>
     ensures { result ≡ first_later command (term_of tree.now) }
 {
     later_at(command, tree, tree.root())
+}
+
+// The first place in a term that starts or joins a thread and begins there, from the first one in its part.
+fn in_threads(command: Command, place: u32, part: Option<u32>) -> Option<u32>
+    ensures { result ≡ in_threads command place part }
+{
+    match command {
+        Command::Run => Some(place),
+        Command::Replay => part,
+    }
 }
 
 // The same of the term of a node.
@@ -36,10 +46,8 @@ fn later_at(command: Command, tree: &Tree, at: u32) -> Option<u32>
             None => later_at(command, tree, *right),
         },
         Term::Block(items) => later_among(command, tree, at, items),
-        Term::Join(part) | Term::Spawn(_, part) => match command {
-            Command::Run => Some(node.place),
-            Command::Replay => later_at(command, tree, *part),
-        },
+        Term::Join(task) => in_threads(command, node.place, later_at(command, tree, *task)),
+        Term::Spawn(_, body) => in_threads(command, node.place, later_at(command, tree, *body)),
         _ => Some(node.place),
     }
 }
