@@ -42,7 +42,8 @@ none_goes s (t ∷ ts) n h =
     let parts = and_parts (is_over t.life) (all_over ts) h in
     chosen (t.number == n) s t (thread_at ts n) (over_stays t.life s t refl parts.0) (none_goes s ts n parts.1)
 
-ended : (s : Whole) → ending_of s ≡ ending.Finished → step s 0 fresh.None ≡ None
+-- a finished state has no step of the main thread
+pub ended : (s : Whole) → ending_of s ≡ ending.Finished → step s 0 fresh.None ≡ None
 ended s h = none_goes s s.threads 0 (by (all_over s.threads) (all_wait s s.threads) h)
   where
     by : (b c : Bool) → (if b then ending.Finished else if c then ending.Deadlocked else ending.Going) ≡ ending.Finished → b ≡ true

@@ -9,3 +9,4 @@ pub mod Following
 pub mod Marks
 pub mod Replaying
 pub mod OneAnswer
+pub mod OneThread

@@ -3,6 +3,7 @@ use Rattle.std.specs.Prelude.{◌≡◌, ◌⊎◌, ℕ, List, [], ◌∷◌, Op
 use Rattle.fr_base.specs.declared.label.Label.{Label}
 use Rattle.fr_terms.specs.Terms.{Term}
 use Rattle.fr_plain.specs.Whole.{Whole, Turn, run, main_steps}
+use Rattle.fr_sound.specs.NeverStuck.{IsTyped as IsTypedState}
 use Rattle.fr_meaning.specs.declared.error.StepError.{StepError}
 use Rattle.fr_meaning.specs.declared.error.StepError.TheVariants as error
 use Rattle.journal.specs.declared.order.OrderLine.{OrderLine}
@@ -18,6 +19,11 @@ use Rattle.drust_main.specs.Refusals.{HasCause, HasReplayCause}
 pub record Goes (from : Whole) (steps : ℕ) (to : Whole) : Type 0 where
   pub labels : List Label
   pub is : run from (main_steps steps) ≡ Some (record { state = to; labels = labels })
+
+-- the main thread stands alone in a typed state
+pub record IsMain (s : Whole) : Type 0 where
+  pub typed : IsTypedState s
+  pub main : typed.thread.number ≡ 0
 
 -- these steps lead from one state to another
 pub record Follows (from : Whole) (order : List Turn) (to : Whole) : Type 0 where

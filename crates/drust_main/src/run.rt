@@ -11,11 +11,10 @@ ghost use Rattle.fr_syntax.specs.Meanings.{term_of};
 ghost use Rattle.fr_plain.specs.Whole.{start, ending_of};
 ghost use Rattle.fr_plain.specs.Resolve.{program};
 ghost use Rattle.borrow_check.specs.Programs.{IsFault};
-ghost use Rattle.fr_sound.specs.NeverStuck.{IsTyped as IsTypedState};
 ghost use Rattle.fr_meaning.specs.PoolView.{whole_of, steps_left_of};
 ghost use Rattle.drust_main.specs.declared.words.Command.{Command};
 ghost use Rattle.drust_main.specs.Headline.{IsAccepted, IsTyped, Runs, Replies, limit};
-ghost use Rattle.drust_main.specs.Runs.{IsRefusedBy, Goes};
+ghost use Rattle.drust_main.specs.Runs.{IsRefusedBy, Goes, IsMain};
 
 use crate::forms::later_form;
 use crate::refused::Refused;
@@ -86,7 +85,7 @@ pub fn checked_source(alloc: Global, command: Command, bytes: &[u8]) -> Result<C
 /// Steps the main thread to its end, and counts the steps.
 fn run_to_end(pool: &mut Pool) -> Result<u64, NoMemory>
     requires few { steps_left_of pool.old < 2 ^ 64 }
-    requires typed { IsTypedState (whole_of pool.old) }
+    requires main { IsMain (whole_of pool.old) }
     ensures goes { IfOk result (λ k. Goes (whole_of pool.old) k (whole_of pool.new)) }
     ensures over { OnOk result (ending_of (whole_of pool.new) ≡ ending.Finished) }
 {

@@ -1,13 +1,12 @@
 use Rattle.std.proofs.Common.{◌≡◌, ◌+◌}
-use Rattle.fr_sound.specs.NeverStuck.{IsTyped}
 use Rattle.fr_meaning.specs.PoolView.{whole_of, steps_left_of}
-use Rattle.drust_main.specs.Runs.{Goes}
+use Rattle.drust_main.specs.Runs.{Goes, IsMain}
 use Rattle.drust_main.proofs.run.run_to_end.Given as goal
 
 abbrev pub invariant-steps : goal.invariant-steps
 invariant-steps l = record {
   goes : Goes (whole_of l.initial.pool) l.steps (whole_of l.pool);
-  typed : IsTyped (whole_of l.pool);
+  main : IsMain (whole_of l.pool);
   left : l.steps + steps_left_of l.pool ≡ steps_left_of l.initial.pool;
 }
 
