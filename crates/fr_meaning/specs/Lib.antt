@@ -9,7 +9,10 @@ pub mod HeapRoom
 pub mod HeapInside
 pub mod Turning
 pub mod Threads
+pub mod Next
 pub mod PoolView
+pub mod Entries
+pub mod Running
 pub mod PoolInside
 pub mod Forming
 pub mod Resolved
