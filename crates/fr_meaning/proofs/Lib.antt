@@ -16,7 +16,6 @@ pub mod WholeSteps
 pub mod StartLemmas
 pub mod PoolLemmas
 pub mod NodeLemmas
-pub mod ReadyLemmas
 pub mod ResolveLemmas
 pub mod BuiltLemmas
 pub mod PoolLaws

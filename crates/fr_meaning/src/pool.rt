@@ -61,6 +61,7 @@ impl Pool {
         ensures start { IfOk result (λ p. whole_of p ≡ start (program (term_of checked.now.arena))) }
         ensures typed { IfOk result (λ p. IsTyped (whole_of p)) }
     {
+        let _tree = checked.tree();
         let forms = forms_of(alloc, checked)?;
         Pool::from_forms(alloc, forms)
     }
