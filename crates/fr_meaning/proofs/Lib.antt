@@ -21,6 +21,5 @@ pub mod StandLemmas
 pub mod PoolLemmas
 pub mod StartLemmas
 pub mod NodeLemmas
-pub mod ReadyLemmas
 pub mod ResolveLemmas
 pub mod BuiltLemmas

@@ -1,4 +1,3 @@
-pub mod Ready
 pub mod SlotOrder
 pub mod FormTerms
 pub mod DoneTerms

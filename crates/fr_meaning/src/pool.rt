@@ -1,7 +1,7 @@
 //! The plain machine: threads over one heap.
 
 ghost use Rattle.std.specs.Prelude.{◌≡◌, ◌<◌, ◌≤◌, ◌+◌, [], length, Option, Some, None, IfOk, IfErr, OnOk, OnErr};
-ghost use Rattle.fr_typing.specs.Sequential.{IsSequential};
+ghost use Rattle.fr_typing.specs.Threaded.{IsThreaded};
 ghost use Rattle.fr_syntax.specs.Meanings.{term_of};
 ghost use Rattle.fr_plain.specs.Whole.{start, step, ending_of};
 ghost use Rattle.fr_plain.specs.Resolve.{program};
@@ -49,7 +49,7 @@ impl Pool {
     /// The main thread at the start of a checked program's term, alone over an empty heap. Takes time in the program's
     /// nodes.
     pub fn new(alloc: Global, checked: &Checked) -> Result<Pool, NoMemory>
-        requires sequential { IsSequential (term_of checked.now.arena) }
+        requires threaded { IsThreaded (term_of checked.now.arena) }
         ensures start { IfOk result (λ p. whole_of p ≡ start (program (term_of checked.now.arena))) }
         ensures typed { IfOk result (λ p. AreTyped (whole_of p)) }
     {
