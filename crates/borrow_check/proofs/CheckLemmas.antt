@@ -145,7 +145,7 @@ spawn_here : (a : Arena) (at : ℕ) (captures : NodeList) (v : ℕ) (n : Node) �
 spawn_here a at captures v n h is = term_here a at n (spawn_t n.place (captures_at (meanings a) captures.items) (term_at (meanings a) v)) h (ap (stands_for a.names (meanings a) n.place) is)
 
 -- the nodes of a new thread's term: those of its names, those of its body, and itself
-spawn_nodes : (a : Arena) (at : ℕ) (captures : NodeList) (v : ℕ) (n : Node) → IsHere a at n → n.term ≡ Spawn captures v → (meaning_at (meanings a) at).nodes ≡ (nodes_in (meanings a) (all_need capture_s captures.items) ++ (meaning_at (meanings a) v).nodes) ++ at ∷ []
+pub spawn_nodes : (a : Arena) (at : ℕ) (captures : NodeList) (v : ℕ) (n : Node) → IsHere a at n → n.term ≡ Spawn captures v → (meaning_at (meanings a) at).nodes ≡ (nodes_in (meanings a) (all_need capture_s captures.items) ++ (meaning_at (meanings a) v).nodes) ++ at ∷ []
 spawn_nodes a at captures v n h is =
     let own = (meaning_at (meanings a) v).nodes in
     h.nodes ∙ ap (λ t. nodes_in (meanings a) (needs t) ++ at ∷ []) is

@@ -5,6 +5,7 @@ use Rattle.fr_terms.specs.Terms.{Text, block_t, let_t, assign_t, read_t, borrow_
 use Rattle.fr_terms.specs.Terms as terms
 use Rattle.fr_terms.specs.Limits.{levels, levels_of, IsWithinLimits}
 use Rattle.fr_typing.specs.Sequential.{IsSequential}
+use Rattle.fr_typing.specs.Threaded.{IsThreaded}
 use Rattle.fr_typing.specs.Places.{Env}
 use Rattle.fr_typing.proofs.Agree.{exactly_one_lem}
 use Rattle.fr_syntax.specs.declared.tree.Term.{Term}
@@ -19,7 +20,10 @@ use Rattle.fr_typing.specs.Laws.{IsTyped}
 use Rattle.fr_plain.specs.Whole.{start}
 use Rattle.fr_sound.specs.NeverStuck.{IsTyped as IsTypedState}
 use Rattle.fr_sound.proofs.Whole.{starts_typed_lem}
+use Rattle.fr_sound.specs.Together.{AreTyped}
+use Rattle.fr_sound.proofs.Starting.{starts_together_lem}
 use Rattle.fr_plain.specs.Resolve.{lets_in, before, resolve, resolve_items, program, env_after, env_of_all}
+use Rattle.fr_meaning.specs.declared.forms.Captured.{Captured}
 use Rattle.fr_meaning.specs.declared.forms.Form.{Form}
 use Rattle.fr_meaning.specs.declared.forms.Form.TheVariants as form
 use Rattle.fr_meaning.specs.Contexts.{depth, depth_in}
@@ -27,7 +31,7 @@ use Rattle.fr_meaning.specs.FormTerms as forms
 use Rattle.fr_meaning.specs.FormTerms.{build, run_at, NamesBelow, AreStacked, AreInOrder}
 use Rattle.fr_meaning.specs.SlotOrder.{onto, newest_first}
 use Rattle.borrow_check.specs.Programs.{Program, takes_of, IsBlock, IsChecked}
-use Rattle.fr_meaning.specs.Forming.{place_in, clipped, count_at, count_of, IsBlockOf, IsMade}
+use Rattle.fr_meaning.specs.Forming.{place_in, captured_all, drops_of, clipped, count_at, count_of, IsBlockOf, IsSpawnOf, IsMade}
 use Rattle.fr_meaning.specs.Resolved.{IsTypedIn, IsRun, AreCounts, IsBuilt}
 use Rattle.fr_typing.proofs.PlaceLemmas.{eq_cases}
 use Rattle.fr_meaning.proofs.SlotLemmas.{length_onto}
@@ -91,18 +95,33 @@ block_counted cs items (form.Join v) h = absurd h
 block_counted cs items (form.Spawn ds b k) h = absurd h
 block_counted cs items form.Place h = absurd h
 
+spawn_counted : (cs : List ℕ) (ds : List Captured) (b k : ℕ) (f : Form) → IsSpawnOf ds b k f → count_of cs f ≡ 0
+spawn_counted cs ds b k (form.Spawn es v d) h = refl
+spawn_counted cs ds b k (form.Number n) h = absurd h
+spawn_counted cs ds b k form.Unit h = absurd h
+spawn_counted cs ds b k (form.Read w t) h = absurd h
+spawn_counted cs ds b k (form.Borrow w is_mut) h = absurd h
+spawn_counted cs ds b k (form.Arith op l r) h = absurd h
+spawn_counted cs ds b k (form.Box v) h = absurd h
+spawn_counted cs ds b k (form.Let v) h = absurd h
+spawn_counted cs ds b k (form.Print v) h = absurd h
+spawn_counted cs ds b k (form.Assign w v) h = absurd h
+spawn_counted cs ds b k (form.Join v) h = absurd h
+spawn_counted cs ds b k (form.Block is lets) h = absurd h
+spawn_counted cs ds b k form.Place h = absurd h
+
 -- the forms of a term of this node
-sequential_here : (p : Program) (at : ℕ) (n : Node) (m : Term) (t : terms.Term) → IsHere p.arena at n → n.term ≡ m → stands_for p.arena.names (meanings p.arena) n.place m ≡ a_term t → IsSequential (term_at (meanings p.arena) at) → IsSequential t
-sequential_here p at n m t h is stands ok = subst IsSequential (term_is p.arena at n m t h is stands) ok
+threaded_here : (p : Program) (at : ℕ) (n : Node) (m : Term) (t : terms.Term) → IsHere p.arena at n → n.term ≡ m → stands_for p.arena.names (meanings p.arena) n.place m ≡ a_term t → IsThreaded (term_at (meanings p.arena) at) → IsThreaded t
+threaded_here p at n m t h is stands ok = subst IsThreaded (term_is p.arena at n m t h is stands) ok
 
 -- a form with one part, of a term that declares as many variables as its part
-one_counted : (p : Program) (cs : List ℕ) (at v : ℕ) (n : Node) (m : Term) (t : terms.Term) (f g : Form) → IsHere p.arena at n → AreCounts p cs → length cs ≡ at → n.term ≡ m → stands_for p.arena.names (meanings p.arena) n.place m ≡ a_term t → f ≡ g → count_of cs g ≡ count_at cs v → lets_in t ≡ lets_in (term_at (meanings p.arena) v) → v < at → IsSequential (term_at (meanings p.arena) v) → count_of cs f ≡ clipped (lets_in (term_at (meanings p.arena) at))
+one_counted : (p : Program) (cs : List ℕ) (at v : ℕ) (n : Node) (m : Term) (t : terms.Term) (f g : Form) → IsHere p.arena at n → AreCounts p cs → length cs ≡ at → n.term ≡ m → stands_for p.arena.names (meanings p.arena) n.place m ≡ a_term t → f ≡ g → count_of cs g ≡ count_at cs v → lets_in t ≡ lets_in (term_at (meanings p.arena) v) → v < at → IsThreaded (term_at (meanings p.arena) v) → count_of cs f ≡ clipped (lets_in (term_at (meanings p.arena) at))
 one_counted p cs at v n m t f g h c same is stands made one lets lt part =
     let e = ap lets_in (term_is p.arena at n m t h is stands) in
     omega (arith, ap (count_of cs) made, one, c v (omega (arith, lt, same)) part, e, lets)
 
 -- a form declares as many variables as its node's term, as far as a 32-bit number tells
-made_counted : (p : Program) (cs : List ℕ) (at : ℕ) (n : Node) (f : Form) → IsHere p.arena at n → AreCounts p cs → length cs ≡ at → IsMade p cs at n.term f → (m : Term) → n.term ≡ m → IsSequential (term_at (meanings p.arena) at) → count_of cs f ≡ clipped (lets_in (term_at (meanings p.arena) at))
+made_counted : (p : Program) (cs : List ℕ) (at : ℕ) (n : Node) (f : Form) → IsHere p.arena at n → AreCounts p cs → length cs ≡ at → IsMade p cs at n.term f → (m : Term) → n.term ≡ m → IsThreaded (term_at (meanings p.arena) at) → count_of cs f ≡ clipped (lets_in (term_at (meanings p.arena) at))
 made_counted p cs at n f h c same made (Number v) is ok = none_counted p cs at n (Number v) (number_t n.place v) f (form.Number v) h is refl (made_is p cs at n (Number v) f is made) refl refl
 made_counted p cs at n f h c same made Unit is ok = none_counted p cs at n Unit (unit_t n.place) f form.Unit h is refl (made_is p cs at n Unit f is made) refl refl
 made_counted p cs at n f h c same made (Read from) is ok = none_counted p cs at n (Read from) (read_t n.place (place_at (meanings p.arena) from)) f (form.Read (place_in p from) (takes_of p at)) h is refl (made_is p cs at n (Read from) f is made) refl refl
@@ -110,25 +129,29 @@ made_counted p cs at n f h c same made (Borrow of) is ok = none_counted p cs at 
 made_counted p cs at n f h c same made (BorrowMut of) is ok = none_counted p cs at n (BorrowMut of) (borrow_mut_t n.place (place_at (meanings p.arena) of)) f (form.Borrow (place_in p of) true) h is refl (made_is p cs at n (BorrowMut of) f is made) refl refl
 made_counted p cs at n f h c same made (Box v) is ok =
     let t = box_t n.place (term_at (meanings p.arena) v) in
-    let part : IsSequential (term_at (meanings p.arena) v) = sequential_here p at n (Box v) t h is refl ok in
+    let part : IsThreaded (term_at (meanings p.arena) v) = threaded_here p at n (Box v) t h is refl ok in
     one_counted p cs at v n (Box v) t f (form.Box v) h c same is refl (made_is p cs at n (Box v) f is made) refl refl (subst (AreBelow (meanings p.arena) at) (ap needs is) h.parts).0 part
 made_counted p cs at n f h c same made (Print v) is ok =
     let t = print_t n.place (term_at (meanings p.arena) v) in
-    let part : IsSequential (term_at (meanings p.arena) v) = sequential_here p at n (Print v) t h is refl ok in
+    let part : IsThreaded (term_at (meanings p.arena) v) = threaded_here p at n (Print v) t h is refl ok in
     one_counted p cs at v n (Print v) t f (form.Print v) h c same is refl (made_is p cs at n (Print v) f is made) refl refl (subst (AreBelow (meanings p.arena) at) (ap needs is) h.parts).0 part
+made_counted p cs at n f h c same made (Join v) is ok =
+    let t = join_t n.place (term_at (meanings p.arena) v) in
+    let part : IsThreaded (term_at (meanings p.arena) v) = threaded_here p at n (Join v) t h is refl ok in
+    one_counted p cs at v n (Join v) t f (form.Join v) h c same is refl (made_is p cs at n (Join v) f is made) refl refl (subst (AreBelow (meanings p.arena) at) (ap needs is) h.parts).0 part
 made_counted p cs at n f h c same made (Assign to v) is ok =
     let t = assign_t n.place (place_at (meanings p.arena) to) (term_at (meanings p.arena) v) in
-    let part : IsSequential (term_at (meanings p.arena) v) = sequential_here p at n (Assign to v) t h is refl ok in
+    let part : IsThreaded (term_at (meanings p.arena) v) = threaded_here p at n (Assign to v) t h is refl ok in
     one_counted p cs at v n (Assign to v) t f (form.Assign (place_in p to) v) h c same is refl (made_is p cs at n (Assign to v) f is made) refl refl (subst (AreBelow (meanings p.arena) at) (ap needs is) h.parts).2.0 part
 made_counted p cs at n f h c same made (Let name v) is ok =
     let t = let_t n.place (text_of p.arena.names name) (term_at (meanings p.arena) v) in
-    let part : IsSequential (term_at (meanings p.arena) v) = sequential_here p at n (Let name v) t h is refl ok in
+    let part : IsThreaded (term_at (meanings p.arena) v) = threaded_here p at n (Let name v) t h is refl ok in
     let lt : v < at = (subst (AreBelow (meanings p.arena) at) (ap needs is) h.parts).0 in
     let e = ap lets_in (term_is p.arena at n (Let name v) t h is refl) in
     omega (arith, ap (count_of cs) (made_is p cs at n (Let name v) f is made), c v (omega (arith, lt, same)) part, e)
 made_counted p cs at n f h c same made (Arith op left right) is ok =
     let t = arith_t n.place op (term_at (meanings p.arena) left) (term_at (meanings p.arena) right) in
-    let both : IsSequential (term_at (meanings p.arena) left) × IsSequential (term_at (meanings p.arena) right) = sequential_here p at n (Arith op left right) t h is refl ok in
+    let both : IsThreaded (term_at (meanings p.arena) left) × IsThreaded (term_at (meanings p.arena) right) = threaded_here p at n (Arith op left right) t h is refl ok in
     let below = subst (AreBelow (meanings p.arena) at) (ap needs is) h.parts in
     let first : left < at = below.0 in
     let second : right < at = below.2.0 in
@@ -137,12 +160,13 @@ made_counted p cs at n f h c same made (Arith op left right) is ok =
 made_counted p cs at n f h c same made (Block items) is ok =
     let e = ap lets_in (term_is p.arena at n (Block items) (block_t n.place (items_at (meanings p.arena) items.items)) h is refl) in
     omega (arith, block_counted cs items.items f (made_is p cs at n (Block items) f is made), e)
-made_counted p cs at n f h c same made (Dup of) is ok = absurd (sequential_here p at n (Dup of) (dup_t n.place (place_at (meanings p.arena) of)) h is refl ok)
-made_counted p cs at n f h c same made (Join task) is ok = absurd (sequential_here p at n (Join task) (join_t n.place (term_at (meanings p.arena) task)) h is refl ok)
-made_counted p cs at n f h c same made (Mutex v) is ok = absurd (sequential_here p at n (Mutex v) (mutex_t n.place (term_at (meanings p.arena) v)) h is refl ok)
-made_counted p cs at n f h c same made (Spawn captures body) is ok = absurd (sequential_here p at n (Spawn captures body) (spawn_t n.place (captures_at (meanings p.arena) captures.items) (term_at (meanings p.arena) body)) h is refl ok)
-made_counted p cs at n f h c same made (Par captures body others other) is ok = absurd (sequential_here p at n (Par captures body others other) (par_t n.place (captures_at (meanings p.arena) captures.items) (term_at (meanings p.arena) body) (captures_at (meanings p.arena) others.items) (term_at (meanings p.arena) other)) h is refl ok)
-made_counted p cs at n f h c same made (Lock of name body) is ok = absurd (sequential_here p at n (Lock of name body) (lock_t n.place (place_at (meanings p.arena) of) (text_of p.arena.names name) (term_at (meanings p.arena) body)) h is refl ok)
+made_counted p cs at n f h c same made (Dup of) is ok = absurd (threaded_here p at n (Dup of) (dup_t n.place (place_at (meanings p.arena) of)) h is refl ok)
+made_counted p cs at n f h c same made (Mutex v) is ok = absurd (threaded_here p at n (Mutex v) (mutex_t n.place (term_at (meanings p.arena) v)) h is refl ok)
+made_counted p cs at n f h c same made (Spawn names body) is ok =
+    let e = ap lets_in (term_is p.arena at n (Spawn names body) (spawn_t n.place (captures_at (meanings p.arena) names.items) (term_at (meanings p.arena) body)) h is refl) in
+    omega (arith, spawn_counted cs (captured_all p names.items) body (drops_of cs names.items body) f (made_is p cs at n (Spawn names body) f is made), e)
+made_counted p cs at n f h c same made (Par captures body others other) is ok = absurd (threaded_here p at n (Par captures body others other) (par_t n.place (captures_at (meanings p.arena) captures.items) (term_at (meanings p.arena) body) (captures_at (meanings p.arena) others.items) (term_at (meanings p.arena) other)) h is refl ok)
+made_counted p cs at n f h c same made (Lock of name body) is ok = absurd (threaded_here p at n (Lock of name body) (lock_t n.place (place_at (meanings p.arena) of) (text_of p.arena.names name) (term_at (meanings p.arena) body)) h is refl ok)
 made_counted p cs at n f h c same made (Place name stars) is ok =
     let e = ap (λ w. lets_in (as_term w)) (h.what ∙ ap (stands_for p.arena.names (meanings p.arena) n.place) is) in
     omega (arith, ap (count_of cs) (made_is p cs at n (Place name stars) f is made), e)
@@ -150,10 +174,10 @@ made_counted p cs at n f h c same made (Capture name) is ok =
     let e = ap (λ w. lets_in (as_term w)) (h.what ∙ ap (stands_for p.arena.names (meanings p.arena) n.place) is) in
     omega (arith, ap (count_of cs) (made_is p cs at n (Capture name) f is made), e)
 
-counts_pushed : (p : Program) (cs : List ℕ) (c : ℕ) → AreCounts p cs → (IsSequential (term_at (meanings p.arena) (length cs)) → c ≡ clipped (lets_in (term_at (meanings p.arena) (length cs)))) → AreCounts p (cs ++ c ∷ [])
+counts_pushed : (p : Program) (cs : List ℕ) (c : ℕ) → AreCounts p cs → (IsThreaded (term_at (meanings p.arena) (length cs)) → c ≡ clipped (lets_in (term_at (meanings p.arena) (length cs)))) → AreCounts p (cs ++ c ∷ [])
 counts_pushed p cs c h is = λ i lt ok.
     eq_cases (λ b. count_at (cs ++ c ∷ []) i ≡ clipped (lets_in (term_at (meanings p.arena) i))) i (length cs)
-    (λ same. ap (count_at (cs ++ c ∷ [])) same ∙ count_pushed cs c ∙ is (subst (λ k. IsSequential (term_at (meanings p.arena) k)) same ok) ∙ ap (λ k. clipped (lets_in (term_at (meanings p.arena) k))) (sym same))
+    (λ same. ap (count_at (cs ++ c ∷ [])) same ∙ count_pushed cs c ∙ is (subst (λ k. IsThreaded (term_at (meanings p.arena) k)) same ok) ∙ ap (λ k. clipped (lets_in (term_at (meanings p.arena) k))) (sym same))
     (λ ne. let here : i < length cs = omega (arith, lt, ne, length-append cs (c ∷ [])) in count_kept cs c i here ∙ h i here ok)
 
 -- BUILT
@@ -171,7 +195,7 @@ pub built_push : (p : Program) (fs : List Form) (cs : List ℕ) (n : Node) (f : 
 built_push p fs cs n f c arena h b made below count =
     let at = length fs in
     let run : IsRun p at (forms.term_of (fs ++ f ∷ []) at) = subst (IsRun p at) (sym (term_pushed fs f)) (made_runs p at cs (forms.term_of fs) n f arena h b.counted b.same b.runs made) in
-    let counted = λ (ok : IsSequential (term_at (meanings p.arena) at)). made_counted p cs at n f h b.counted b.same made n.term refl ok in
+    let counted = λ (ok : IsThreaded (term_at (meanings p.arena) at)). made_counted p cs at n f h b.counted b.same made n.term refl ok in
     record {
       order = order_pushed fs f b.order below;
       runs = λ i lt.
@@ -179,7 +203,7 @@ built_push p fs cs n f c arena h b made below count =
           (λ same. subst (λ k. IsRun p k (forms.term_of (fs ++ f ∷ []) k)) (sym same) run)
           (λ ne. let here : i < at = omega (arith, lt, ne, length-append fs (f ∷ [])) in subst (IsRun p i) (term_kept fs f i here) (b.runs i here));
       same = omega (arith, b.same, length-append fs (f ∷ []), length-append cs (c ∷ []));
-      counted = counts_pushed p cs c b.counted (λ ok. count ∙ counted (subst (λ k. IsSequential (term_at (meanings p.arena) k)) b.same ok) ∙ ap (λ k. clipped (lets_in (term_at (meanings p.arena) k))) (sym b.same));
+      counted = counts_pushed p cs c b.counted (λ ok. count ∙ counted (subst (λ k. IsThreaded (term_at (meanings p.arena) k)) b.same ok) ∙ ap (λ k. clipped (lets_in (term_at (meanings p.arena) k))) (sym b.same));
     }
 
 -- the same as the code has it
@@ -192,12 +216,12 @@ built_next p a fs gs cs ds l k at n f c arena same h b long counts made below co
 
 -- THE TREE'S TERM
 
-root_typed : (p : Program) → IsChecked p → IsSequential (term_of p.arena) → IsTypedIn p (root_of p.arena) []
-root_typed p h sequential = record {
+root_typed : (p : Program) → IsChecked p → IsThreaded (term_of p.arena) → IsTypedIn p (root_of p.arena) []
+root_typed p h threaded = record {
   ready = record {
     here = omega (arith, h.checkable.tree.some, length_meanings p.arena);
     sort = h.checkable.tree.sort;
-    sequential = sequential;
+    threaded = threaded;
     own = h.checkable.tree.own;
   };
   kind = h.typed.kind;
@@ -207,12 +231,12 @@ root_typed p h sequential = record {
 }
 
 -- the last form's term is the program
-pub root_built : (p : Program) (fs : List Form) (cs : List ℕ) → IsChecked p → IsSequential (term_of p.arena) → IsBuilt p fs cs → length fs ≡ length (meanings p.arena) → forms.root_of fs ≡ program (term_of p.arena)
-root_built p fs cs h sequential b all =
+pub root_built : (p : Program) (fs : List Form) (cs : List ℕ) → IsChecked p → IsThreaded (term_of p.arena) → IsBuilt p fs cs → length fs ≡ length (meanings p.arena) → forms.root_of fs ≡ program (term_of p.arena)
+root_built p fs cs h threaded b all =
     let long = length_meanings p.arena in
     let at : length fs - 1 ≡ root_of p.arena = omega (arith, all, long) in
     let lt : root_of p.arena < length fs = omega (arith, all, long, h.checkable.tree.some) in
-    ap (forms.term_of fs) at ∙ b.runs (root_of p.arena) lt [] (root_typed p h sequential)
+    ap (forms.term_of fs) at ∙ b.runs (root_of p.arena) lt [] (root_typed p h threaded)
 
 -- HOW DEEP
 
@@ -253,25 +277,34 @@ root_depth fs t h e = omega (arith, ap depth e, program_depth t h)
 
 -- TYPED
 
--- a checked program starts typed
-starts : (t : terms.Term) → IsBlock t → IsSequential t → IsTyped [] t → IsTypedState (start (program t))
-starts (block_t at ts) b ok h = starts_typed_lem at ts h.kind h.after ok h.types
-starts (let_t at x t) b ok h = absurd b
-starts (assign_t at w t) b ok h = absurd b
-starts (read_t at w) b ok h = absurd b
-starts (borrow_t at w) b ok h = absurd b
-starts (borrow_mut_t at w) b ok h = absurd b
-starts (number_t at n) b ok h = absurd b
-starts (unit_t at) b ok h = absurd b
-starts (box_t at t) b ok h = absurd b
-starts (print_t at t) b ok h = absurd b
-starts (arith_t at op l r) b ok h = absurd b
-starts (join_t at t) b ok h = absurd b
-starts (mutex_t at t) b ok h = absurd b
-starts (dup_t at w) b ok h = absurd b
-starts (lock_t at w x t) b ok h = absurd b
-starts (spawn_t at cs t) b ok h = absurd b
-starts (par_t at cs t ds u) b ok h = absurd b
+-- what holds of blocks holds of a term that is one
+of_block : (P : terms.Term → Type 0) (t : terms.Term) → IsBlock t → ((at : ℕ) (ts : Items) → P (block_t at ts)) → P t
+of_block P (block_t at ts) b h = h at ts
+of_block P (let_t at x t) b h = absurd b
+of_block P (assign_t at w t) b h = absurd b
+of_block P (read_t at w) b h = absurd b
+of_block P (borrow_t at w) b h = absurd b
+of_block P (borrow_mut_t at w) b h = absurd b
+of_block P (number_t at n) b h = absurd b
+of_block P (unit_t at) b h = absurd b
+of_block P (box_t at t) b h = absurd b
+of_block P (print_t at t) b h = absurd b
+of_block P (arith_t at op l r) b h = absurd b
+of_block P (join_t at t) b h = absurd b
+of_block P (mutex_t at t) b h = absurd b
+of_block P (dup_t at w) b h = absurd b
+of_block P (lock_t at w x t) b h = absurd b
+of_block P (spawn_t at cs t) b h = absurd b
+of_block P (par_t at cs t ds u) b h = absurd b
 
-pub root_starts : (fs : List Form) (t : terms.Term) → IsBlock t → IsSequential t → IsTyped [] t → forms.root_of fs ≡ program t → IsTypedState (start (forms.root_of fs))
-root_starts fs t b ok h e = subst (λ (r : Run). IsTypedState (start r)) (sym e) (starts t b ok h)
+-- a checked program starts typed
+pub root_starts : (fs : List Form) (t : terms.Term) → IsBlock t → IsThreaded t → IsTyped [] t → forms.root_of fs ≡ program t → AreTyped (start (forms.root_of fs))
+root_starts fs t b ok h e =
+    subst (λ (r : Run). AreTyped (start r)) (sym e)
+    (of_block (λ x. IsThreaded x → IsTyped [] x → AreTyped (start (program x))) t b (λ at ts ok h. starts_together_lem at ts h.kind h.after ok h.types) ok h)
+
+-- one of a single thread's forms starts as one thread
+pub root_alone : (fs : List Form) (t : terms.Term) → IsBlock t → IsSequential t → IsTyped [] t → forms.root_of fs ≡ program t → IsTypedState (start (forms.root_of fs))
+root_alone fs t b ok h e =
+    subst (λ (r : Run). IsTypedState (start r)) (sym e)
+    (of_block (λ x. IsSequential x → IsTyped [] x → IsTypedState (start (program x))) t b (λ at ts ok h. starts_typed_lem at ts h.kind h.after ok h.types) ok h)

@@ -117,7 +117,7 @@ settled_waits fs (frame.Block left node next) d h = by (drop next (items_at fs n
     by (j ∷ ks) e i = more_waits left (term_of fs) (j ∷ ks) j ks d refl (held left (term_of fs) (j ∷ ks) j ks d refl i)
 
 -- the move at a temporary value before a `;`
-discard_move : (k : ℕ) (r : Run) (is : Parts) (v : Value) → now r ≡ temporary v → move (block k (more r is)) ≡ alone (λ x. block k is) (do_discard v)
+pub discard_move : (k : ℕ) (r : Run) (is : Parts) (v : Value) → now r ≡ temporary v → move (block k (more r is)) ≡ alone (λ x. block k is) (do_discard v)
 discard_move k r is v h = rw h refl
 
 -- a temporary value before a `;` is dropped, and the block goes on with the next item
@@ -159,12 +159,12 @@ drop_turns left look js d s t slots heap labels u e n h g =
 -- WHERE A THREAD GOES ON
 
 -- a term whose part is done has a step of its own
-over_waits : (fs : List Form) (g : Frame) (gs : List Frame) (d : Done) → IsSettled (wrapped fs (g ∷ gs) (over d)) → now (wrapped fs (g ∷ gs) (over d)) ≡ going
+pub over_waits : (fs : List Form) (g : Frame) (gs : List Frame) (d : Done) → IsSettled (wrapped fs (g ∷ gs) (over d)) → now (wrapped fs (g ∷ gs) (over d)) ≡ going
 over_waits fs g [] d h = settled_waits fs g d h
 over_waits fs g (k ∷ gs) d h = now_fill (around fs g) (wrapped fs (k ∷ gs) (over d)) (over_waits fs k gs d (settled_fill (around fs g) (wrapped fs (k ∷ gs) (over d)) h))
 
 -- a thread that starts another isn't done
-spawn_now : (fs : List Form) (node : ℕ) → AreInOrder fs → (node < length fs) × IsSpawn (slice_index_or fs node form.Unit) → now (term_of fs node) ≡ going
+pub spawn_now : (fs : List Form) (node : ℕ) → AreInOrder fs → (node < length fs) × IsSpawn (slice_index_or fs node form.Unit) → now (term_of fs node) ≡ going
 spawn_now fs node a h = ap now (spawn_run fs node a h.0 h.1).2
 
 -- a settled term goes on, unless it is done with no frame left

@@ -3,9 +3,8 @@ use Rattle.std.proofs.Common.{◌≡◌, ℕ, zero, suc, ◌+◌, Bool, true, fa
 use Rattle.std.specs.Prelude.{⊤}
 use Rattle.fr_base.specs.declared.place.Op.{Op}
 use Rattle.fr_plain.specs.declared.value.Value.{Value}
-use Rattle.fr_plain.specs.Acts.{do_end, do_box, do_arith, do_let, do_print, do_assign, do_discard}
-use Rattle.fr_plain.specs.Run.{Run, temp, unit_c, number, read, borrow, box_r, arith as arith_r, bind, print, assign, block, spawn, join_r, Parts, last, more, Now, going, constant, temporary, by_now, on_value, after, at_end, now, now_parts, settle_more, settle_right, close_last, close, settle, settle_parts, Move, next, alone, block_end, move, move_parts, Life, alive, over, settle_life, life_move, one_if_temporary, leaves, leaves_last, steps_left, steps_in, life_left}
-use Rattle.fr_meaning.proofs.OneThread.{IsLone, AreLone}
+use Rattle.fr_plain.specs.Acts.{Act, do_end, do_box, do_arith, do_let, do_print, do_assign, do_discard, do_spawn, do_join, do_finish, do_leave}
+use Rattle.fr_plain.specs.Run.{Run, temp, unit_c, number, read, borrow, box_r, arith as arith_r, bind, print, assign, block, spawn, join_r, Parts, last, more, Now, going, constant, temporary, by_now, on_value, after, at_end, now, now_parts, settle_more, settle_right, close_last, close, settle, settle_parts, Move, next, alone, block_end, move, move_parts, Life, alive, over, owing, loose, ended, settle_life, life_move, one_if_temporary, leaves, leaves_last, steps_left, steps_in, life_left}
 
 -- a done term has no step left, and leaves a temporary value where it is one
 abbrev Done : Now → ℕ → Bool → Type 0
@@ -104,22 +103,27 @@ mutual
 
 -- MOVES
 
+-- the steps of a thread that the act starts, and its end
+abbrev pub born : Act → ℕ
+born (do_spawn cs r) = steps_left r + 1
+born _ = 0
+
 module _ {P : Type 0} (count : P → ℕ) (kind : P → Bool) where
-  -- a move is one step of n, and leaves the same kind of value
+  -- a move is one step of n, a thread that it starts takes its steps with it, and it leaves the same kind of value
   abbrev Falls : ℕ → Bool → Option (Move P) → Type 0
   Falls n b None = ⊤
-  Falls n b (Some m) = (v : Value) → (count (m.plug v) + 1 ≡ n) × (kind (m.plug v) ≡ b)
+  Falls n b (Some m) = (v : Value) → (count (m.plug v) + 1 + born m.act ≡ n) × (kind (m.plug v) ≡ b)
 
 -- a move inside a move
 next_falls : {P Q : Type 0} (count : P → ℕ) (kind : P → Bool) (other : Q → ℕ) (sort : Q → Bool) (f : P → Q) (o : Option (Move P)) (n m : ℕ) (b c : Bool) →
-    ((q : P) → count q + 1 ≡ n → kind q ≡ b → (other (f q) + 1 ≡ m) × (sort (f q) ≡ c)) → Falls count kind n b o → Falls other sort m c (next f o)
+    ((q : P) (k : ℕ) → count q + 1 + k ≡ n → kind q ≡ b → (other (f q) + 1 + k ≡ m) × (sort (f q) ≡ c)) → Falls count kind n b o → Falls other sort m c (next f o)
 next_falls count kind other sort f None n m b c g h = tt
-next_falls count kind other sort f (Some x) n m b c g h = λ v. g (x.plug v) (h v).0 (h v).1
+next_falls count kind other sort f (Some x) n m b c g h = λ v. g (x.plug v) (born x.act) (h v).0 (h v).1
 
 -- a term with one part: its own step where the part is done, else the part's
 one_falls : (n : Now) (r : Run) (f : Run → Run) (own : Value → Option (Move Run)) (b : Bool) → Done n (steps_left r) (leaves r) → ((v : Value) → Falls steps_left leaves 1 b (own v)) →
     ((q : Run) → steps_left (f q) ≡ steps_left q + 1) → ((q : Run) → leaves (f q) ≡ b) → Falls steps_left leaves (steps_left r) (leaves r) (move r) → Falls steps_left leaves (steps_left r + 1) b (on_value n own (next f (move r)))
-one_falls going r f own b d o g l h = next_falls steps_left leaves steps_left leaves f (move r) (steps_left r) (steps_left r + 1) (leaves r) b (λ q e k. (omega (arith, e, g q), l q)) h
+one_falls going r f own b d o g l h = next_falls steps_left leaves steps_left leaves f (move r) (steps_left r) (steps_left r + 1) (leaves r) b (λ q k e x. (omega (arith, e, g q), l q)) h
 one_falls (constant v) r f own b d o g l h = let e : 1 ≡ steps_left r + 1 = omega (arith, d.0) in subst (λ n. Falls steps_left leaves n b (own v)) e (o v)
 one_falls (temporary v) r f own b d o g l h = let e : 1 ≡ steps_left r + 1 = omega (arith, d.0) in subst (λ n. Falls steps_left leaves n b (own v)) e (o v)
 
@@ -130,7 +134,7 @@ end_falls (suc k) is = λ v. (omega arith, refl)
 
 -- of a block, by whether its items are done
 block_falls : (n : Now) (k : ℕ) (is : Parts) → Falls steps_in leaves_last (steps_in is) (leaves_last is) (move_parts is) → Falls steps_left leaves (steps_in is + k) (leaves_last is) (on_value n (λ v. block_end k is) (next (block k) (move_parts is)))
-block_falls going k is h = next_falls steps_in leaves_last steps_left leaves (block k) (move_parts is) (steps_in is) (steps_in is + k) (leaves_last is) (leaves_last is) (λ q e l. (omega (arith, e), l)) h
+block_falls going k is h = next_falls steps_in leaves_last steps_left leaves (block k) (move_parts is) (steps_in is) (steps_in is + k) (leaves_last is) (leaves_last is) (λ q n e l. (omega (arith, e), l)) h
 block_falls (constant v) k is h = end_falls k is
 block_falls (temporary v) k is h = end_falls k is
 
@@ -139,7 +143,7 @@ more_falls : (n : Now) (r : Run) (is : Parts) → Done n (steps_left r) (leaves 
     Falls steps_in leaves_last (steps_left r + one_if_temporary (leaves r) + steps_in is) (leaves_last is) (by_now n (next (λ x. more x is) (move r)) (λ v. move_parts is) (λ v. alone (λ x. is) (do_discard v)))
 more_falls going r is d h g =
     next_falls steps_left leaves steps_in leaves_last (λ x. more x is) (move r) (steps_left r) (steps_left r + one_if_temporary (leaves r) + steps_in is) (leaves r) (leaves_last is)
-    (λ q e l. (omega (arith, e, ap one_if_temporary l), refl)) h
+    (λ q k e l. (omega (arith, e, ap one_if_temporary l), refl)) h
 more_falls (constant v) r is d h g =
     let e : steps_in is ≡ steps_left r + one_if_temporary (leaves r) + steps_in is = omega (arith, d.0, ap one_if_temporary d.1) in
     subst (λ n. Falls steps_in leaves_last n (leaves_last is) (move_parts is)) e g
@@ -156,52 +160,61 @@ right_falls f a b v none g =
 -- of an operation, by whether its left operand is done
 arith_falls : (n : Now) (f : Op) (a b : Run) → now a ≡ n → Done n (steps_left a) (leaves a) → Falls steps_left leaves (steps_left a) (leaves a) (move a) → Falls steps_left leaves (steps_left b) (leaves b) (move b)
     → Falls steps_left leaves (steps_left a + steps_left b + 1) true (on_value n (λ v. on_value (now b) (λ w. alone temp (do_arith f v w)) (next (arith_r f a) (move b))) (next (λ x. arith_r f x b) (move a)))
-arith_falls going f a b e d h g = next_falls steps_left leaves steps_left leaves (λ x. arith_r f x b) (move a) (steps_left a) (steps_left a + steps_left b + 1) (leaves a) true (λ q k l. (omega (arith, k), refl)) h
+arith_falls going f a b e d h g = next_falls steps_left leaves steps_left leaves (λ x. arith_r f x b) (move a) (steps_left a) (steps_left a + steps_left b + 1) (leaves a) true (λ q n k l. (omega (arith, k), refl)) h
 arith_falls (constant v) f a b e d h g = right_falls f a b v d.0 g
 arith_falls (temporary v) f a b e d h g = right_falls f a b v d.0 g
 
 mutual
-  -- a move of a term that starts and joins no threads is a step of it
-  move_falls : (r : Run) → IsLone r → Falls steps_left leaves (steps_left r) (leaves r) (move r)
-  move_falls (temp v) h = tt
-  move_falls unit_c h = tt
-  move_falls (number n) h = tt
-  move_falls (read w take) h = λ v. (refl, refl)
-  move_falls (borrow w is_mut) h = λ v. (refl, refl)
-  move_falls (box_r r) h = one_falls (now r) r box_r (λ v. alone temp (do_box v)) true (done_left r) (λ v x. (refl, refl)) (λ q. refl) (λ q. refl) (move_falls r h)
-  move_falls (arith_r f a b) h = arith_falls (now a) f a b refl (done_left a) (move_falls a h.0) (move_falls b h.1)
-  move_falls (bind r) h = one_falls (now r) r bind (λ v. alone (λ x. unit_c) (do_let v)) false (done_left r) (λ v x. (refl, refl)) (λ q. refl) (λ q. refl) (move_falls r h)
-  move_falls (print r) h = one_falls (now r) r print (λ v. alone (λ x. unit_c) (do_print v)) false (done_left r) (λ v x. (refl, refl)) (λ q. refl) (λ q. refl) (move_falls r h)
-  move_falls (assign w r) h = one_falls (now r) r (assign w) (λ v. alone (λ x. unit_c) (do_assign w v)) false (done_left r) (λ v x. (refl, refl)) (λ q. refl) (λ q. refl) (move_falls r h)
-  move_falls (block k is) h = block_falls (now_parts is) k is (parts_falls is h)
-  move_falls (spawn cs r) h = absurd h
-  move_falls (join_r r) h = absurd h
+  -- a move of a term is a step of it
+  move_falls : (r : Run) → Falls steps_left leaves (steps_left r) (leaves r) (move r)
+  move_falls (temp v) = tt
+  move_falls unit_c = tt
+  move_falls (number n) = tt
+  move_falls (read w take) = λ v. (refl, refl)
+  move_falls (borrow w is_mut) = λ v. (refl, refl)
+  move_falls (box_r r) = one_falls (now r) r box_r (λ v. alone temp (do_box v)) true (done_left r) (λ v x. (refl, refl)) (λ q. refl) (λ q. refl) (move_falls r)
+  move_falls (arith_r f a b) = arith_falls (now a) f a b refl (done_left a) (move_falls a) (move_falls b)
+  move_falls (bind r) = one_falls (now r) r bind (λ v. alone (λ x. unit_c) (do_let v)) false (done_left r) (λ v x. (refl, refl)) (λ q. refl) (λ q. refl) (move_falls r)
+  move_falls (print r) = one_falls (now r) r print (λ v. alone (λ x. unit_c) (do_print v)) false (done_left r) (λ v x. (refl, refl)) (λ q. refl) (λ q. refl) (move_falls r)
+  move_falls (assign w r) = one_falls (now r) r (assign w) (λ v. alone (λ x. unit_c) (do_assign w v)) false (done_left r) (λ v x. (refl, refl)) (λ q. refl) (λ q. refl) (move_falls r)
+  move_falls (block k is) = block_falls (now_parts is) k is (parts_falls is)
+  move_falls (spawn cs r) = λ v. (omega arith, refl)
+  move_falls (join_r r) = one_falls (now r) r join_r (λ v. alone temp (do_join v)) true (done_left r) (λ v x. (refl, refl)) (λ q. refl) (λ q. refl) (move_falls r)
 
   -- a move of items is a step of them
-  parts_falls : (is : Parts) → AreLone is → Falls steps_in leaves_last (steps_in is) (leaves_last is) (move_parts is)
-  parts_falls (last r) h = next_falls steps_left leaves steps_in leaves_last last (move r) (steps_left r) (steps_left r) (leaves r) (leaves r) (λ q e l. (e, l)) (move_falls r h)
-  parts_falls (more r is) h = more_falls (now r) r is (done_left r) (move_falls r h.0) (parts_falls is h.1)
+  parts_falls : (is : Parts) → Falls steps_in leaves_last (steps_in is) (leaves_last is) (move_parts is)
+  parts_falls (last r) = next_falls steps_left leaves steps_in leaves_last last (move r) (steps_left r) (steps_left r) (leaves r) (leaves r) (λ q k e l. (e, l)) (move_falls r)
+  parts_falls (more r is) = more_falls (now r) r is (done_left r) (move_falls r) (parts_falls is)
 
 -- of a thread, by whether its term is done
-life_by : (n : Now) (r : Run) (m : Move Life) (v : Value) → Done n (steps_left r) (leaves r) → Falls steps_left leaves (steps_left r) (leaves r) (move r) →
-    on_value n (λ v. alone (λ x. over) (do_end v)) (next alive (move r)) ≡ Some m → life_left (settle_life (m.plug v)) + 1 ≡ steps_left r + 1
-life_by going r m v d h e = by (move r) h e
+life_by : (n : Now) (r : Run) (wrap : Run → Life) (f : Value → Life) (a : Value → Act) (m : Move Life) (v : Value) → Done n (steps_left r) (leaves r) → Falls steps_left leaves (steps_left r) (leaves r) (move r) →
+    ((q : Run) → life_left (settle_life (wrap q)) ≡ steps_left q + 1) → ((u : Value) → life_left (settle_life (f u)) ≡ 0) → ((u : Value) → born (a u) ≡ 0) →
+    on_value n (λ u. alone f (a u)) (next wrap (move r)) ≡ Some m → life_left (settle_life (m.plug v)) + 1 + born m.act ≡ steps_left r + 1
+life_by going r wrap f a m v d h w z k e = by (move r) h e
   where
-    by : (o : Option (Move Run)) → Falls steps_left leaves (steps_left r) (leaves r) o → next alive o ≡ Some m → life_left (settle_life (m.plug v)) + 1 ≡ steps_left r + 1
+    by : (o : Option (Move Run)) → Falls steps_left leaves (steps_left r) (leaves r) o → next wrap o ≡ Some m → life_left (settle_life (m.plug v)) + 1 + born m.act ≡ steps_left r + 1
     by None h e = absurd cc
     by (Some x) h e =
-        let f : m ≡ record { act = x.act; plug = λ u. alive (x.plug u) } = cc in
-        let g = ap (λ (y : Move Life). life_left (settle_life (y.plug v))) f in
-        omega (arith, g, (settle_left (x.plug v)).0, (h v).0)
-life_by (constant u) r m v d h e =
-    let f : m ≡ record { act = do_end u; plug = λ x. over } = cc in
-    let g = ap (λ (y : Move Life). life_left (settle_life (y.plug v))) f in
-    omega (arith, g, d.0)
-life_by (temporary u) r m v d h e =
-    let f : m ≡ record { act = do_end u; plug = λ x. over } = cc in
-    let g = ap (λ (y : Move Life). life_left (settle_life (y.plug v))) f in
-    omega (arith, g, d.0)
+        let same : m ≡ record { act = x.act; plug = λ u. wrap (x.plug u) } = cc in
+        let g = ap (λ (y : Move Life). life_left (settle_life (y.plug v)) + 1 + born y.act) same in
+        omega (arith, g, w (x.plug v), (h v).0)
+life_by (constant u) r wrap f a m v d h w z k e =
+    let same : m ≡ record { act = a u; plug = f } = cc in
+    let g = ap (λ (y : Move Life). life_left (settle_life (y.plug v)) + 1 + born y.act) same in
+    omega (arith, g, z v, k u, d.0)
+life_by (temporary u) r wrap f a m v d h w z k e =
+    let same : m ≡ record { act = a u; plug = f } = cc in
+    let g = ap (λ (y : Move Life). life_left (settle_life (y.plug v)) + 1 + born y.act) same in
+    omega (arith, g, z v, k u, d.0)
 
--- after a step of a thread that starts and joins no threads one step less is left, and settling changes none
-pub life_falls : (r : Run) (m : Move Life) (v : Value) → IsLone r → life_move (alive r) ≡ Some m → life_left (settle_life (m.plug v)) + 1 ≡ life_left (alive r)
-life_falls r m v h e = life_by (now r) r m v (done_left r) (move_falls r h) e
+-- settling leaves as many steps of a thread in progress
+settled_left : (q : Run) → steps_left (settle q) + 1 ≡ steps_left q + 1
+settled_left q = ap (λ n. n + 1) (settle_left q).0
+
+-- after a step of a thread one step less is left, beside those that it gave to a thread that it starts
+pub life_falls : (l : Life) (m : Move Life) (v : Value) → life_move l ≡ Some m → life_left (settle_life (m.plug v)) + 1 + born m.act ≡ life_left l
+life_falls (alive r) m v e = life_by (now r) r alive (λ x. over) do_end m v (done_left r) (move_falls r) settled_left (λ u. refl) (λ u. refl) e
+life_falls (owing r) m v e = life_by (now r) r owing ended do_finish m v (done_left r) (move_falls r) settled_left (λ u. refl) (λ u. refl) e
+life_falls (loose r) m v e = life_by (now r) r loose (λ x. over) do_leave m v (done_left r) (move_falls r) settled_left (λ u. refl) (λ u. refl) e
+life_falls over m v e = absurd cc
+life_falls (ended u) m v e = absurd cc

@@ -32,13 +32,13 @@ use Rattle.fr_meaning.specs.FrameTerms.{wrapped, all_around, end_of}
 use Rattle.fr_meaning.proofs.ContextLemmas.{now_wrap, move_wrap}
 use Rattle.fr_meaning.proofs.ActLemmas.{IsSilent, silent}
 use Rattle.fr_meaning.proofs.StepLemmas.{run_end}
-use Rattle.fr_meaning.proofs.OneThread.{IsOwn, own_done}
+use Rattle.fr_meaning.proofs.OwnActs.{IsOwn, own_done}
 use Rattle.fr_meaning.proofs.ThreadLists.{none_there, there_at, set_at, numbers_set, threads_push}
 
 -- LIVES
 
 -- the move of a life in progress is that of its term
-life_moves : (g : Stage) (r : Run) → IsGoingOn g → now r ≡ going → life_move (life_at g r) ≡ next (life_at g) (move r)
+pub life_moves : (g : Stage) (r : Run) → IsGoingOn g → now r ≡ going → life_move (life_at g r) ≡ next (life_at g) (move r)
 life_moves stage.Alive r on h = rw h refl
 life_moves stage.Owing r on h = rw h refl
 life_moves stage.Loose r on h = rw h refl
@@ -46,7 +46,7 @@ life_moves stage.Over r on h = absurd on
 life_moves (stage.Ended v) r on h = absurd on
 
 -- and settles as its term does
-life_settles : (g : Stage) (r : Run) → IsGoingOn g → settle_life (life_at g r) ≡ life_at g (settle r)
+pub life_settles : (g : Stage) (r : Run) → IsGoingOn g → settle_life (life_at g r) ≡ life_at g (settle r)
 life_settles stage.Alive r on = refl
 life_settles stage.Owing r on = refl
 life_settles stage.Loose r on = refl
@@ -76,7 +76,7 @@ turned_same : (a b : Turned) → Some a ≡ Some b → a ≡ b
 turned_same a b h = cc
 
 -- the thread of a move's life
-abbrev moved_to : Stage → Move Run → Move Life
+abbrev pub moved_to : Stage → Move Run → Move Life
 moved_to g m = record { act = m.act; plug = λ v. life_at g (m.plug v) }
 
 -- a state after a step
@@ -139,7 +139,7 @@ whole_alone fs xs heap new output t i x y labels u h is on go e n same =
 -- THE END
 
 -- the move of a life whose term is done
-end_moves : (g : Stage) (d : Done) → IsGoingOn g → life_move (life_at g (over d)) ≡ Some (record { act = end_act g (value_of d); plug = λ v. life_at (after_end g v) (over d) })
+pub end_moves : (g : Stage) (d : Done) → IsGoingOn g → life_move (life_at g (over d)) ≡ Some (record { act = end_act g (value_of d); plug = λ v. life_at (after_end g v) (over d) })
 end_moves stage.Alive done.Unit on = refl
 end_moves stage.Alive (done.Number n) on = refl
 end_moves stage.Alive (done.Temp v) on = refl
@@ -153,7 +153,7 @@ end_moves stage.Over d on = absurd on
 end_moves (stage.Ended v) d on = absurd on
 
 -- the act at the end is the thread's own, and prints nothing
-own_end : (g : Stage) (v : Value) → IsOwn (end_act g v) × IsSilent (end_act g v)
+pub own_end : (g : Stage) (v : Value) → IsOwn (end_act g v) × IsSilent (end_act g v)
 own_end stage.Alive v = (tt, tt)
 own_end stage.Owing v = (tt, tt)
 own_end stage.Loose v = (tt, tt)
@@ -198,13 +198,13 @@ whole_end fs xs heap new output t i x y d labels u h is on e a task n same =
 -- JOINING
 
 -- the move of a join whose part is done
-join_moves : (d : Done) → move (run.join_r (over d)) ≡ alone run.temp (do_join (value_of d))
+pub join_moves : (d : Done) → move (run.join_r (over d)) ≡ alone run.temp (do_join (value_of d))
 join_moves done.Unit = refl
 join_moves (done.Number n) = refl
 join_moves (done.Temp v) = refl
 
 -- the result that is kept
-kept_result : (g : Stage) (r : Run) → result_of_life (life_at g r) ≡ result_in g
+pub kept_result : (g : Stage) (r : Run) → result_of_life (life_at g r) ≡ result_in g
 kept_result stage.Alive r = refl
 kept_result stage.Owing r = refl
 kept_result stage.Loose r = refl

@@ -1,4 +1,3 @@
-pub mod Ready
 pub mod SlotOrder
 pub mod FormTerms
 pub mod DoneTerms
@@ -9,7 +8,10 @@ pub mod HeapRoom
 pub mod HeapInside
 pub mod Turning
 pub mod Threads
+pub mod Next
 pub mod PoolView
+pub mod Entries
+pub mod Running
 pub mod PoolInside
 pub mod Forming
 pub mod Resolved

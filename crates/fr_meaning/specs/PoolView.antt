@@ -1,44 +1,59 @@
--- What a pool is to its callers: a plain state, of one thread so far.
-use Rattle.std.specs.Prelude.{ℕ, ℤ, Bool, true, false, List, [], ◌∷◌, Option, Some, None, option_map, if◌then◌else◌}
+-- What a pool is to its callers: a plain state of many threads.
+use Rattle.std.specs.Prelude.{ℕ, ℤ, ◌+◌, Bool, true, false, List, [], ◌∷◌, Option, Some, None, option_map, if◌then◌else◌}
 use Rattle.fr_base.specs.declared.step.Fresh.{Fresh}
 use Rattle.fr_plain.specs.declared.value.Value.{Value}
 use Rattle.fr_plain.specs.Heap.{Heap}
-use Rattle.fr_plain.specs.Run.{Run, Life, alive, over, life_move, life_left}
-use Rattle.fr_plain.specs.Whole.{Thread, Whole, thread_at, is_over, takes_name, Refusal, no_thread, has_ended, waits, name_kind, name_used, refused}
+use Rattle.fr_plain.specs.Run.{Run, life_move, life_left}
+use Rattle.fr_plain.specs.Whole.{Thread as PlainThread, Whole, thread_at, is_over, takes_name, Refusal, no_thread, has_ended, waits, name_kind, name_used, refused}
 use Rattle.fr_meaning.specs.declared.forms.Form.{Form}
 use Rattle.fr_meaning.specs.declared.frame.Frame.{Frame}
 use Rattle.fr_meaning.specs.declared.frame.Focus.{Focus}
+use Rattle.fr_meaning.specs.declared.thread.Stage.{Stage}
 use Rattle.fr_meaning.specs.declared.need.Need.{Need}
 use Rattle.fr_meaning.specs.declared.need.Need.TheVariants as need
 use Rattle.fr_meaning.specs.declared.error.StepError.{StepError}
 use Rattle.fr_meaning.specs.declared.error.StepError.TheVariants as error
 use Rattle.fr_meaning.specs.FrameTerms.{wrapped, focus_run}
 use Rattle.fr_meaning.specs.SlotOrder.{newest_first}
+use Rattle.fr_meaning.specs.Threads.{life_at}
 
-pub record View : Type 0 where
-  pub forms : List Form
+-- a thread, without what room it has
+pub record Entry : Type 0 where
+  pub number : ℕ
+  pub stage : Stage
   pub frames : List Frame
   pub focus : Focus
   pub slots : List Value
+
+pub record View : Type 0 where
+  pub forms : List Form
+  pub threads : List Entry
   pub heap : Heap
   pub output : List ℤ
-  pub ended : Bool
 
 -- the running term
-abbrev pub run_of : View → Run
-run_of v = wrapped v.forms v.frames (focus_run v.forms v.focus)
+abbrev pub run_of : List Form → Entry → Run
+run_of fs e = wrapped fs e.frames (focus_run fs e.focus)
 
--- the main thread: in progress, or over
-abbrev pub life_of : View → Life
-life_of v = if v.ended then over else alive (run_of v)
+-- the plain thread that an entry stands for
+abbrev pub thread_in : List Form → Entry → PlainThread
+thread_in fs e = record { number = e.number; life = life_at e.stage (run_of fs e); slots = newest_first e.slots }
+
+abbrev pub threads_in : List Form → List Entry → List PlainThread
+threads_in fs [] = []
+threads_in fs (e ∷ es) = thread_in fs e ∷ threads_in fs es
 
 -- the plain state that a pool stands for
 abbrev pub whole_of : View → Whole
-whole_of v = record { threads = record { number = 0; life = life_of v; slots = newest_first v.slots } ∷ []; heap = v.heap; output = v.output }
+whole_of v = record { threads = threads_in v.forms v.threads; heap = v.heap; output = v.output }
 
--- how many steps the main thread has still to do
+-- how many steps these threads have still to do, with those of the threads that they start
+abbrev pub total_left : List PlainThread → ℕ
+total_left [] = 0
+total_left (x ∷ xs) = life_left x.life + total_left xs
+
 abbrev pub steps_left_of : View → ℕ
-steps_left_of v = life_left (life_of v)
+steps_left_of v = total_left (whole_of v).threads
 
 -- what a call says of a refusal
 abbrev pub error_of : Refusal → StepError
@@ -57,7 +72,7 @@ abbrev pub kind_of : (takes : Bool) → Need
 kind_of true = need.Thread
 kind_of false = need.Nothing
 
-abbrev pub need_in : Option Thread → Option Need
+abbrev pub need_in : Option PlainThread → Option Need
 need_in None = None
 need_in (Some t) = if is_over t.life then None else Some (kind_of (takes_name (life_move t.life)))
 

@@ -1,6 +1,6 @@
 -- When running terms are those of a checked program's nodes (this project's rule).
 use Rattle.std.specs.Prelude.{◌≡◌, ℕ, ◌<◌, List, length}
-use Rattle.fr_typing.specs.Sequential.{IsSequential}
+use Rattle.fr_typing.specs.Threaded.{IsThreaded}
 use Rattle.fr_typing.specs.Kinds.{Kind}
 use Rattle.fr_typing.specs.Places.{Env}
 use Rattle.fr_typing.specs.Finding.{typed}
@@ -10,7 +10,7 @@ use Rattle.fr_plain.specs.Run.{Run}
 use Rattle.fr_plain.specs.Resolve.{resolve, lets_in}
 use Rattle.fr_meaning.specs.declared.forms.Form.{Form}
 use Rattle.fr_meaning.specs.FormTerms.{term_of, AreInOrder}
-use Rattle.fr_meaning.specs.Ready.{IsReady}
+use Rattle.borrow_check.specs.Nodes.{IsReady}
 use Rattle.borrow_check.specs.Usages.{usages_of, AreUsed}
 use Rattle.borrow_check.specs.Programs.{Program}
 use Rattle.fr_meaning.specs.Forming.{clipped, count_at}
@@ -31,9 +31,9 @@ IsRun p at r = (e : Env) → IsTypedIn p at e → r ≡ resolve (term_at (meanin
 abbrev pub AreRuns : Program → ℕ → (ℕ → Run) → Type 0
 AreRuns p bound look = (i : ℕ) → i < bound → IsRun p i (look i)
 
--- the number of variables of each node before, where its forms are those of one thread
+-- the number of variables of each node before, where it is of the forms of one thread and of starting and joining threads
 abbrev pub AreCounts : Program → List ℕ → Type 0
-AreCounts p counts = (i : ℕ) → i < length counts → IsSequential (term_at (meanings p.arena) i) → count_at counts i ≡ clipped (lets_in (term_at (meanings p.arena) i))
+AreCounts p counts = (i : ℕ) → i < length counts → IsThreaded (term_at (meanings p.arena) i) → count_at counts i ≡ clipped (lets_in (term_at (meanings p.arena) i))
 
 -- the forms of the first nodes, with the number of variables that each one's term declares
 pub record IsBuilt (p : Program) (forms : List Form) (counts : List ℕ) : Type 0 where

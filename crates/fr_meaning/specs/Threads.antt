@@ -1,5 +1,5 @@
 -- A thread of the code, and what it stands for.
-use Rattle.std.specs.Prelude.{◌≡◌, ℕ, ℤ, ◌<◌, ◌≤◌, ⊤, List, [], ◌∷◌, ◌++◌, length, Option, Some, None, IsSome, vec_len, vec_capacity}
+use Rattle.std.specs.Prelude.{◌≡◌, ℕ, ℤ, ◌<◌, ◌≤◌, ⊤, Bool, true, false, List, [], ◌∷◌, ◌++◌, length, Option, Some, None, IsSome, vec_len, vec_capacity}
 use Rattle.fr_base.specs.Labels.{LabelList}
 use Rattle.fr_plain.specs.declared.value.Value.{Value}
 use Rattle.fr_plain.specs.Acts.{Act, do_end, do_finish, do_leave, unit, task_in}
@@ -49,6 +49,12 @@ IsGoingOn _ = ⊥
 abbrev pub result_in : Stage → Option Value
 result_in (stage.Ended v) = Some v
 result_in _ = None
+
+-- it has ended
+abbrev pub is_done : Stage → Bool
+is_done stage.Over = true
+is_done (stage.Ended v) = true
+is_done _ = false
 
 abbrev pub IsEnded : Stage → Type 0
 IsEnded (stage.Ended v) = ⊤

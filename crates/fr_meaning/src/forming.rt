@@ -1,17 +1,17 @@
 //! The forms of a checked program's nodes.
 
-ghost use Rattle.std.specs.Prelude.{◌≡◌, ◌<◌, ◌≤◌, length, IfOk};
-ghost use Rattle.fr_typing.specs.Sequential.{IsSequential};
-ghost use Rattle.fr_syntax.specs.Meanings.{meanings, meaning_at, needs, sort_of, term_of, place_s, AreBelow};
+ghost use Rattle.std.specs.Prelude.{◌≡◌, ◌+◌, ◌<◌, ◌≤◌, length, IfOk};
+ghost use Rattle.fr_typing.specs.Threaded.{IsThreaded};
+ghost use Rattle.fr_syntax.specs.Meanings.{meanings, meaning_at, needs, all_need, sort_of, term_of, place_s, capture_s, AreBelow};
 ghost use Rattle.fr_plain.specs.Resolve.{program};
 ghost use Rattle.fr_plain.specs.Whole.{start};
-ghost use Rattle.fr_sound.specs.NeverStuck.{IsTyped};
+ghost use Rattle.fr_sound.specs.Together.{AreTyped};
 ghost use Rattle.fr_meaning.specs.Contexts.{depth};
 ghost use Rattle.fr_meaning.specs.FormTerms.{AllBelow, AreInOrder, NamesBelow};
-ghost use Rattle.fr_meaning.specs.Forming.{count_of, place_in, IsCount, IsMade};
+ghost use Rattle.fr_meaning.specs.Forming.{clipped, count_of, place_in, captured_in, captured_all, IsCount, IsMade};
 ghost use Rattle.fr_meaning.specs.FormTerms.{root_of as root_run};
 
-use crate::forms::Form;
+use crate::forms::{Captured, Form};
 use borrow_check::Checked;
 use fr_base::{Lval, NoMemory};
 use fr_syntax::{Nodes, Term};
@@ -27,6 +27,47 @@ fn place(checked: &Checked, node: u32) -> Lval
         unreachable!()
     };
     place
+}
+
+// The slot of a captured name's variable, and whether its value goes to the new thread.
+fn captured_slot(checked: &Checked, node: u32) -> Captured
+    requires here { node < length (meanings checked.now.arena) }
+    requires sort { sort_of (meaning_at (meanings checked.now.arena) node).what ≡ capture_s }
+    ensures { result ≡ captured_in checked.now node }
+{
+    let Some(place) = checked.lval(node) else {
+        unreachable!()
+    };
+    Captured {
+        slot: place.slot,
+        take: checked.takes(node),
+    }
+}
+
+// The captured slots of a new thread, in order.
+fn captured_slots(
+    alloc: Global,
+    checked: &Checked,
+    names: &Nodes,
+) -> Result<Vec<Captured>, NoMemory>
+    requires { AreBelow (meanings checked.now.arena) (length (meanings checked.now.arena)) (all_need capture_s names.now.items) }
+    ensures { IfOk result (λ v. v.items ≡ captured_all checked.now names.now.items) }
+{
+    let mut captures = Vec::new(alloc);
+    'names: for next in 0..names.len() {
+        let Some(node) = names.at(next) else {
+            unreachable!()
+        };
+        captures.push(captured_slot(checked, *node))?;
+    }
+    Ok(captures)
+}
+
+// How many slots a new thread drops at its end, which captures so many names and whose body declares so many variables.
+fn drops(names: u64, variables: u32) -> u32
+    ensures { result ≡ clipped (names + variables) }
+{
+    names.saturating_add(variables as u64).min(u32::MAX as u64) as u32
 }
 
 // The numbers of nodes, in a vector.
@@ -71,6 +112,7 @@ fn count_in(counts: &[u32], form: &Form) -> u32
         Form::Assign(_, value) => counts[*value as usize],
         Form::Box(value) => counts[*value as usize],
         Form::Print(value) => counts[*value as usize],
+        Form::Join(value) => counts[*value as usize],
         _ => 0,
     }
 }
@@ -98,21 +140,27 @@ fn form_of(
         Term::Box(value) => Ok(Form::Box(*value)),
         Term::Let(_, value) => Ok(Form::Let(*value)),
         Term::Print(value) => Ok(Form::Print(*value)),
+        Term::Join(task) => Ok(Form::Join(*task)),
         Term::Assign(to, value) => Ok(Form::Assign(place(checked, *to), *value)),
         Term::Arith(op, left, right) => Ok(Form::Arith(*op, *left, *right)),
         Term::Block(items) => Ok(Form::Block(numbers(alloc, items)?, variables(items, counts))),
+        Term::Spawn(names, body) => Ok(Form::Spawn(
+            captured_slots(alloc, checked, names)?,
+            *body,
+            drops(names.len(), counts[*body as usize]),
+        )),
         _ => Ok(Form::Place),
     }
 }
 
-/// The forms of a program, one for each node.
+/// The forms of a program without mutexes and views, one for each node. Takes time in the number of nodes.
 pub fn forms_of(alloc: Global, checked: &Checked) -> Result<Vec<Form>, NoMemory>
-    requires sequential { IsSequential (term_of checked.now.arena) }
+    requires threaded { IsThreaded (term_of checked.now.arena) }
     ensures order { IfOk result (λ forms. AreInOrder forms.items) }
     ensures some { IfOk result (λ forms. 0 < length forms.items) }
     ensures root { IfOk result (λ forms. root_run forms.items ≡ program (term_of checked.now.arena)) }
     ensures depth { IfOk result (λ forms. depth (root_run forms.items) ≤ 64) }
-    ensures typed { IfOk result (λ forms. IsTyped (start (root_run forms.items))) }
+    ensures typed { IfOk result (λ forms. AreTyped (start (root_run forms.items))) }
 {
     let tree = checked.tree();
     let mut forms = Vec::new(alloc);

@@ -31,6 +31,6 @@ pub enum Form {
     /// The captured slots in order, the body of the new thread, and how many slots the thread drops at its end: the
     /// captured ones and the variables of the body.
     Spawn(Vec<Captured>, u32, u32),
-    /// The node of a place, which nobody enters.
+    /// The node of a place or of a captured name, which nobody enters.
     Place,
 }

@@ -10,9 +10,12 @@ mod frame;
 mod heap;
 mod machine;
 mod need;
+mod next;
 mod places;
 mod pool;
+mod running;
 mod spot;
+mod standing;
 mod thread;
 mod threads;
 

@@ -1,44 +1,36 @@
-//! The plain machine, one thread of it so far.
+//! The plain machine: threads over one heap.
 
-ghost use Rattle.std.specs.Prelude.{◌≡◌, ◌<◌, ◌≤◌, ◌+◌, ◌-◌, ◌==◌, [], length, Option, Some, None, IsSome, IfOk, IfErr, OnOk, OnErr};
-ghost use Rattle.fr_base.specs.declared.step.Fresh.TheVariants as fresh_;
-ghost use Rattle.fr_typing.specs.Sequential.{IsSequential};
+ghost use Rattle.std.specs.Prelude.{◌≡◌, ◌<◌, ◌≤◌, ◌+◌, [], length, Option, Some, None, IfOk, IfErr, OnOk, OnErr};
+ghost use Rattle.fr_typing.specs.Threaded.{IsThreaded};
 ghost use Rattle.fr_syntax.specs.Meanings.{term_of};
 ghost use Rattle.fr_plain.specs.Whole.{start, step, ending_of};
 ghost use Rattle.fr_plain.specs.Resolve.{program};
-ghost use Rattle.fr_sound.specs.NeverStuck.{IsTyped};
+ghost use Rattle.fr_sound.specs.Together.{AreTyped};
 ghost use Rattle.fr_meaning.specs.declared.error.StepError.{StepError};
 ghost use Rattle.fr_meaning.specs.declared.error.StepError.TheVariants as step_error;
 ghost use Rattle.fr_meaning.specs.Contexts.{depth};
 ghost use Rattle.fr_meaning.specs.FormTerms.{AreInOrder, root_of};
 ghost use Rattle.fr_meaning.specs.PoolView.{whole_of, steps_left_of, refusal, need_of};
 
-use crate::acts::finish;
-use crate::control::{enter, focus_in};
 use crate::error::StepError;
 use crate::forming::forms_of;
 use crate::forms::Form;
-use crate::frame::{Focus, Frame};
-use crate::heap::Heap;
-use crate::machine::{advance, end_in, labels_ahead, value_in};
 use crate::need::Need;
+use crate::running::{Running, go, run_alone};
+use crate::standing::{ending_in, need_in, refused_by};
+use crate::thread::main_thread;
 use borrow_check::Checked;
 use fr_base::{Ending3, Fresh, Labels, NoMemory, ThreadNo};
-use fr_plain::Value;
 use std::alloc::Global;
 use std::marker::Model;
 
-/// A program and its plain state: the threads, of which there is the main one so far, the one heap and the output.
+/// A program and its plain state: the threads in the order in which they were started, the one heap and the output.
+/// Contracts see the plain state, and not what room there is.
 #[derive(Drop)]
 pub struct Pool {
     alloc: Global,
     forms: Vec<Form>,
-    frames: Vec<Frame>,
-    focus: Focus,
-    slots: Vec<Value>,
-    heap: Heap,
-    output: Vec<i64>,
-    ended: bool,
+    running: Running,
 }
 
 impl Model for Pool {
@@ -55,11 +47,11 @@ impl Model for Pool {
 
 impl Pool {
     /// The main thread at the start of a checked program's term, alone over an empty heap. Takes time in the program's
-    /// nodes. The forms of several threads don't run yet.
+    /// nodes.
     pub fn new(alloc: Global, checked: &Checked) -> Result<Pool, NoMemory>
-        requires sequential { IsSequential (term_of checked.now.arena) }
+        requires threaded { IsThreaded (term_of checked.now.arena) }
         ensures start { IfOk result (λ p. whole_of p ≡ start (program (term_of checked.now.arena))) }
-        ensures typed { IfOk result (λ p. IsTyped (whole_of p)) }
+        ensures typed { IfOk result (λ p. AreTyped (whole_of p)) }
     {
         let forms = forms_of(alloc, checked)?;
         Pool::from_forms(alloc, forms)
@@ -70,30 +62,25 @@ impl Pool {
         requires order { AreInOrder forms.items }
         requires root { 0 < length forms.items }
         requires depth { depth (root_of forms.items) ≤ 64 }
-        requires typed { IsTyped (start (root_of forms.items)) }
+        requires typed { AreTyped (start (root_of forms.items)) }
         ensures start { IfOk result (λ p. whole_of p ≡ start (root_of forms.items)) }
-        ensures typed { IfOk result (λ p. IsTyped (whole_of p)) }
+        ensures typed { IfOk result (λ p. AreTyped (whole_of p)) }
     {
         let mut frames = Vec::new(alloc);
         frames.reserve(64)?;
-        let root = forms.len() - 1;
-        let focus = focus_in(enter(&forms, root, &mut frames));
-        let heap = Heap::new(alloc)?;
+        let main = main_thread(&forms, frames, Vec::new(alloc));
+        let running = run_alone(alloc, main)?;
         Ok(Pool {
             alloc,
             forms,
-            frames,
-            focus,
-            slots: Vec::new(alloc),
-            heap,
-            output: Vec::new(alloc),
-            ended: false,
+            running,
         })
     }
 
     /// One step of a thread under these new names, with its labels. The refusals, in this order, each with the pool
-    /// unchanged: `NoThread` (no such thread was started), `Ended`, `Waits` (never so far), `NameKind` (a name for a
-    /// step that takes none), `NameUsed` (never so far), and `NoMemory`.
+    /// unchanged: `NoThread` (no such thread was started), `Ended`, `Waits` (it joins a thread that goes on), `NameKind`
+    /// (the names aren't of the kind that the step takes), `NameUsed` (the name was given before), and `NoMemory`. Takes no
+    /// time in the number of threads, but for those that go because their tasks are dropped.
     pub fn step(&mut self, thread: ThreadNo, fresh: Fresh) -> Result<Labels, StepError>
         ensures stepped { IfOk result (λ l. step (whole_of self.old) thread fresh ≡ Some (record { state = whole_of self.new; labels = l.items })) }
         ensures left { OnOk result (steps_left_of self.new + 1 ≡ steps_left_of self.old) }
@@ -101,114 +88,54 @@ impl Pool {
         ensures free { refusal (whole_of self.old) thread fresh ≡ None → IfErr result (λ e. e ≡ step_error.NoMemory) }
         ensures err { OnErr result (self.new ≡ self.old) }
     {
-        if let Some(error) = self.refused(thread, fresh) {
+        if let Some(error) = self.refused(thread, &fresh) {
             return Err(error);
         }
-        match self.go() {
+        match self.go(thread, fresh) {
             Ok(labels) => Ok(labels),
             Err(_) => Err(StepError::NoMemory),
         }
     }
 
     // Why the thread can't step with these names.
-    fn refused(&self, thread: ThreadNo, fresh: Fresh) -> Option<StepError>
-        ensures cause { result ≡ refusal (whole_of self.now) thread fresh }
-        ensures main { result ≡ None → (thread ≡ 0) × (fresh ≡ fresh_.None) }
+    fn refused(&self, thread: ThreadNo, fresh: &Fresh) -> Option<StepError>
+        ensures { result ≡ refusal (whole_of self.now) thread fresh.now }
     {
-        if !is_main(thread) {
-            return Some(StepError::NoThread);
-        }
-        if self.ended {
-            return Some(StepError::Ended);
-        }
-        match fresh {
-            Fresh::None => None,
-            _ => Some(StepError::NameKind),
-        }
+        refused_by(&self.running, thread, fresh)
     }
 
-    // One step of the main thread.
-    fn go(&mut self) -> Result<Labels, NoMemory>
-        requires { refusal (whole_of self.old) 0 fresh_.None ≡ None }
-        ensures stepped { IfOk result (λ l. step (whole_of self.old) 0 fresh_.None ≡ Some (record { state = whole_of self.new; labels = l.items })) }
+    // One step that is not refused.
+    fn go(&mut self, thread: ThreadNo, fresh: Fresh) -> Result<Labels, NoMemory>
+        requires { refusal (whole_of self.old) thread fresh ≡ None }
+        ensures stepped { IfOk result (λ l. step (whole_of self.old) thread fresh ≡ Some (record { state = whole_of self.new; labels = l.items })) }
         ensures left { OnOk result (steps_left_of self.new + 1 ≡ steps_left_of self.old) }
         ensures err { OnErr result (self.new ≡ self.old) }
     {
-        let main = main_thread();
-        let mut labels = Labels::new(self.alloc);
-        labels.reserve(labels_ahead(&self.focus, &self.frames))?;
-        self.slots.reserve(1)?;
-        self.heap.reserve(main)?;
-        self.output.reserve(1)?;
-        if let Some(done) = end_in(&self.focus, &self.frames) {
-            finish(
-                main,
-                &self.slots,
-                &mut self.heap,
-                &mut labels,
-                value_in(done),
-            );
-            self.ended = true;
-            return Ok(labels);
-        }
-        let focus = self.focus;
-        let mut dropped = None;
-        self.focus = advance(
-            &self.forms,
-            main,
-            focus,
-            &mut self.frames,
-            &mut self.slots,
-            &mut self.heap,
-            &mut self.output,
-            &mut labels,
-            &mut dropped,
-        );
-        Ok(labels)
+        go(self.alloc, &self.forms, &mut self.running, thread, fresh)
     }
 
     /// The kind of new names that the thread's next step takes; `None` exactly where the thread isn't there or has
-    /// ended.
+    /// ended. No memory.
     pub fn needs(&self, thread: ThreadNo) -> Option<Need>
         ensures { result ≡ need_of (whole_of self.now) thread }
     {
-        if !is_main(thread) || self.ended {
-            return None;
-        }
-        Some(Need::Nothing)
+        need_in(&self.running, thread)
     }
 
     /// The numbers that were printed, in order.
     pub fn output(&self) -> &[i64]
         ensures { result.now ≡ (whole_of self.now).output }
     {
-        self.output.as_slice()
+        self.running.output.as_slice()
     }
 
-    /// How the state stands: finished where all threads have ended, else going (no thread waits so far).
+    /// How the state stands: finished where all threads have ended, deadlocked where each other one waits, else going.
+    /// Takes time in the number of threads, and no memory.
     pub fn ending(&self) -> Ending3
         ensures { result ≡ ending_of (whole_of self.now) }
     {
-        if self.ended {
-            Ending3::Finished
-        } else {
-            Ending3::Going
-        }
+        ending_in(&self.running)
     }
-}
-
-// The main thread.
-fn main_thread() -> ThreadNo
-    ensures { result ≡ 0 }
-{
-    ThreadNo::new(0, 0)
-}
-
-// Whether it is the main thread.
-fn is_main(thread: ThreadNo) -> bool
-    ensures { result ≡ (thread == 0) }
-{
-    thread.server() == 0 && thread.count() == 0
 }
 
 #[cfg(test)]

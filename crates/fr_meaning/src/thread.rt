@@ -9,7 +9,7 @@ ghost use Rattle.fr_meaning.specs.declared.thread.Stage.TheVariants as stage_;
 ghost use Rattle.fr_plain.specs.Whole.{prints};
 ghost use Rattle.fr_meaning.specs.declared.frame.Frame.{Frame};
 ghost use Rattle.fr_meaning.specs.Contexts.{depth};
-ghost use Rattle.fr_meaning.specs.FormTerms.{AreInOrder, captures_of, term_of, items_at, parts_of};
+ghost use Rattle.fr_meaning.specs.FormTerms.{AreInOrder, captures_of, term_of, items_at, parts_of, root_of};
 ghost use Rattle.fr_meaning.specs.DoneTerms.{value_of};
 ghost use Rattle.fr_meaning.specs.FrameTerms.{AreInside, wrapped, end_of};
 ghost use Rattle.fr_meaning.specs.SlotOrder.{newest_first};
@@ -17,7 +17,7 @@ ghost use Rattle.fr_meaning.specs.Threads.{IsWell, IsGoingOn, IsEnded, run_in, e
 ghost use Rattle.fr_meaning.specs.Turning.{state, did, turns_to, term_step, frame_labels, focus_labels};
 
 use crate::acts::{drop_result, finish, keep_result};
-use crate::control::{enter_items, focus_in, leave};
+use crate::control::{enter, enter_items, focus_in, leave};
 use crate::forms::{Captured, Form};
 use crate::frame::{Done, Focus, Frame};
 use crate::heap::Heap;
@@ -204,6 +204,31 @@ pub fn start(
     Thread {
         number,
         stage: Stage::Owing,
+        frames,
+        focus,
+        slots,
+    }
+}
+
+/// The main thread at the start of the last form's term.
+pub fn main_thread(forms: &[Form], frames: Vec<Frame>, slots: Vec<Value>) -> Thread
+    requires order { AreInOrder forms.now }
+    requires root { 0 < length forms.now }
+    requires none { frames.items ≡ [] }
+    requires room { 64 ≤ vec_capacity frames }
+    requires depth { depth (root_of forms.now) ≤ 64 }
+    ensures run { run_in forms.now result ≡ settle (root_of forms.now) }
+    ensures well { IsWell forms.now result }
+    ensures number { result.number ≡ 0 }
+    ensures stage { result.stage ≡ stage_.Alive }
+    ensures slots { result.slots.items ≡ slots.items }
+{
+    let mut frames = frames;
+    let root = forms.len() - 1;
+    let focus = focus_in(enter(forms, root, &mut frames));
+    Thread {
+        number: ThreadNo::new(0, 0),
+        stage: Stage::Alive,
         frames,
         focus,
         slots,

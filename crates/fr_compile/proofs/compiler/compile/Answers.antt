@@ -1,5 +1,6 @@
 use Rattle.std.proofs.Common.{◌≡◌, ◌-◌, ℕ, List, [], length, refl, sym, ap, ◌∙◌, subst, arith}
 use Rattle.fr_base.specs.declared.instruction.Instr.{Instr}
+use Rattle.fr_typing.proofs.Threaded.{sequential_threaded}
 use Rattle.fr_syntax.specs.Meanings.{term_of}
 use Rattle.fr_plain.specs.Run.{Run}
 use Rattle.fr_plain.specs.Resolve.{program}
@@ -11,6 +12,9 @@ use Rattle.fr_compile.proofs.Alone.{resolve_alone}
 use Rattle.fr_compile.proofs.Sources.{term_source}
 use Rattle.fr_compile.proofs.Codes.{program_emitted}
 use Rattle.fr_compile.proofs.compiler.compile.Goals as goal
+
+pub forms_of-requires : goal.forms_of-requires
+forms_of-requires c = record { threaded = sequential_threaded (term_of c.args.checked.now.arena) c.requires.sequential }
 
 pub returns : goal.returns
 returns c =

@@ -13,7 +13,7 @@ nodes-preserved c =
     record { built = next.0; so_many = next.1 }
 
 pub returns-clause-root : goal.returns-clause-root
-returns-clause-root c = root_built c.args.checked.now c.nodes.forms.items c.nodes.counts.items c.tree-tree.ensures.checked c.requires.sequential c.nodes.invariant.built
+returns-clause-root c = root_built c.args.checked.now c.nodes.forms.items c.nodes.counts.items c.tree-tree.ensures.checked c.requires.threaded c.nodes.invariant.built
     (omega (arith, c.nodes.invariant.so_many, c.nodes.auto.at-end, c.nodes-test.false, c.len-at-end.ensures.meanings, ap (λ (a : Arena). length (meanings a)) c.tree-tree.ensures.tree))
 
 pub returns-clause-depth : goal.returns-clause-depth
@@ -22,4 +22,4 @@ returns-clause-depth c =
 
 pub returns-clause-typed : goal.returns-clause-typed
 returns-clause-typed c =
-    root_starts c.nodes.forms.items (term_of c.args.checked.now.arena) c.tree-tree.ensures.checked.checkable.block c.requires.sequential c.tree-tree.ensures.checked.typed (returns-clause-root c)
+    root_starts c.nodes.forms.items (term_of c.args.checked.now.arena) c.tree-tree.ensures.checked.checkable.block c.requires.threaded c.tree-tree.ensures.checked.typed (returns-clause-root c)

@@ -1,93 +1,65 @@
-use Rattle.std.proofs.Common.{◌≡◌, true, refl, ◌+◌, ◌++◌, List, Some, None, length, sym, ap, ◌∙◌, subst, arith}
-use Rattle.fr_base.specs.declared.step.Fresh.TheVariants as fresh
-use Rattle.fr_plain.specs.Whole.{prints, step}
+use Rattle.std.proofs.Common.{◌≡◌, ◌+◌, List, Some, None, sym, ap, ◌∙◌, subst}
+use Rattle.std.proofs.lemmas.Result.{on_err_weaker}
+use Rattle.std.specs.Prelude.{IsSome, IfOk, OnOk, OnErr}
+use Rattle.fr_base.specs.Labels.{LabelList}
+use Rattle.fr_plain.specs.Whole.{Whole, step}
+use Rattle.fr_sound.specs.Together.{AreTyped}
 use Rattle.fr_meaning.specs.declared.forms.Form.{Form}
-use Rattle.fr_meaning.specs.DoneTerms.{value_of}
-use Rattle.fr_meaning.specs.FrameTerms.{AreInside, HasMadeWay, end_of}
-use Rattle.fr_meaning.specs.PoolView.{View, run_of, whole_of, steps_left_of, refusal}
-use Rattle.fr_meaning.specs.Turning.{state}
-use Rattle.fr_meaning.proofs.PoolLemmas.{alive_steps, alive_goes, step_kept, pool_goes, pool_steps, pool_left, same_step, same_goes}
-use Rattle.fr_meaning.proofs.StepLemmas.{not_done}
-use Rattle.fr_meaning.proofs.TypedLemmas.{pool_lone, not_ended, typed_some, typed_kept, pool_ends, same_end}
+use Rattle.fr_meaning.specs.PoolView.{whole_of, total_left, refusal}
+use Rattle.fr_meaning.specs.Running.{plain_of, view_of, Stands}
+use Rattle.fr_meaning.proofs.EntryLemmas.{entries_whole, same_whole}
+use Rattle.fr_meaning.proofs.PoolLemmas.{typed_goes, typed_either, left_of}
 use Rattle.fr_meaning.proofs.pool.Pool.go.Goals as goal
 
-pub advance-self-inside-requires-clause-goes : goal.advance-self-inside-requires-clause-goes
-advance-self-inside-requires-clause-goes c =
+pub go-requires-clause-goes : goal.go-requires-clause-goes
+go-requires-clause-goes c =
     let p = c.self.inside in
-    let old : View = record { forms = p.forms.items; frames = p.frames.items; focus = p.focus; slots = p.slots.items; heap = p.heap.heap; output = p.output.items; ended = p.ended } in
-    let goes = pool_goes old (pool_lone old c.self.invariant.typed) (typed_some old c.self.invariant.typed (not_ended old (subst (λ (v : View). refusal (whole_of v) 0 fresh.None ≡ None) (sym c.self.view_is) c.requires))) in
-    let none = ap (λ gs. end_of p.focus gs) (sym c.deref-2.ensures.value) ∙ sym c.end_in.ensures ∙ c.in_default.is in
-    let going = not_done p.forms.items p.frames.items p.focus c.self.invariant.order c.self.invariant.settled c.self.invariant.way none in
-    same_goes c.deref-3.result.now p.forms.items p.frames.items p.focus c.main_thread-main.result c.reserve-2.new.self.items p.slots.items c.reserve-3.new.self.heap p.heap.heap c.deref-3.ensures.value c.main_thread-main.ensures c.in_ok-reserve-2.ensures.items c.in_ok-reserve-3.ensures.heap
-    (alive_goes (run_of old) (state 0 p.slots.items p.heap.heap) going goes.1)
+    let fs = p.forms.items in
+    let r = p.running in
+    let before = sym (ap whole_of c.self.view_is) ∙ entries_whole fs r.threads.items r.heap.heap r.output.items in
+    let free = subst (λ (w : Whole). refusal w c.args.thread c.args.fresh ≡ None) before c.requires in
+    let typed = subst AreTyped (entries_whole fs r.threads.items r.heap.heap r.output.items) c.self.invariant.typed in
+    subst (λ (ms : List Form). IsSome (step (plain_of ms r) c.args.thread c.args.fresh)) (sym c.deref.ensures.value) (typed_goes (plain_of fs r) c.args.thread c.args.fresh typed free)
 
-pub invariant_of-self-2 : goal.invariant_of-self-2
-invariant_of-self-2 c =
+pub invariant_of-self : goal.invariant_of-self
+invariant_of-self c =
     let p = c.self.inside in
-    let a = c.advance-self-inside in
-    let old : View = record { forms = p.forms.items; frames = p.frames.items; focus = p.focus; slots = p.slots.items; heap = p.heap.heap; output = p.output.items; ended = p.ended } in
-    let new : View = record { forms = p.forms.items; frames = a.new.frames.items; focus = a.result; slots = a.new.slots.items; heap = a.new.heap.heap; output = a.new.output.items; ended = p.ended } in
-    let on = not_ended old (subst (λ (v : View). refusal (whole_of v) 0 fresh.None ≡ None) (sym c.self.view_is) c.requires) in
-    let steps = same_step c.deref-3.result.now p.forms.items p.frames.items a.new.frames.items p.focus a.result c.main_thread-main.result c.reserve-2.new.self.items p.slots.items c.reserve-3.new.self.heap p.heap.heap a.new.slots.items a.new.heap.heap a.new.labels.items a.new.dropped
-    c.deref-3.ensures.value c.main_thread-main.ensures c.in_ok-reserve-2.ensures.items c.in_ok-reserve-3.ensures.heap a.ensures.step in
-    let none = ap (λ gs. end_of p.focus gs) (sym c.deref-2.ensures.value) ∙ sym c.end_in.ensures ∙ c.in_default.is in
-    let going = not_done p.forms.items p.frames.items p.focus c.self.invariant.order c.self.invariant.settled c.self.invariant.way none in
-    let lives = alive_steps (run_of old) (run_of new) (state 0 p.slots.items p.heap.heap) a.new.slots.items a.new.heap.heap a.new.labels.items a.new.dropped going steps in
-    let kept = step_kept (run_of old) (run_of new) (state 0 p.slots.items p.heap.heap) a.new.slots.items a.new.heap.heap a.new.labels.items lives in
+    let fs = p.forms.items in
+    let r = p.running in
+    let before = sym (ap whole_of c.self.view_is) ∙ entries_whole fs r.threads.items r.heap.heap r.output.items in
+    let free = subst (λ (w : Whole). refusal w c.args.thread c.args.fresh ≡ None) before c.requires in
+    let typed = subst AreTyped (entries_whole fs r.threads.items r.heap.heap r.output.items) c.self.invariant.typed in
+    let n = c.go.new.running in
+    let after = entries_whole fs n.threads.items n.heap.heap n.output.items in
+    let steps = subst (λ (ms : List Form). IfOk c.go.result (λ (l : LabelList). step (plain_of ms r) c.args.thread c.args.fresh ≡ Some (record { state = plain_of ms n; labels = l.items }))) c.deref.ensures.value c.go.ensures.step in
+    let err = subst (λ (ms : List Form). OnErr c.go.result (view_of ms n ≡ view_of ms r)) c.deref.ensures.value c.go.ensures.err in
+    let same = on_err_weaker c.go.result (same_whole fs r.threads.items n.threads.items r.heap.heap n.heap.heap r.output.items n.output.items) err in
     record {
       order = c.self.invariant.order;
-      frames = subst (λ (fs : List Form). AreInside (length fs) a.new.frames.items) c.deref-3.ensures.value a.ensures.frames;
-      way = subst (λ (fs : List Form). HasMadeWay fs a.new.frames.items a.result) c.deref-3.ensures.value a.ensures.way;
-      settled = kept.0;
-      room = omega (arith, kept.1, c.self.invariant.room, a.ensures.capacity);
-      typed = typed_kept old new a.new.labels.items c.self.invariant.typed on (pool_steps old new a.new.labels.items (pool_lone old c.self.invariant.typed) on on lives (a.ensures.output ∙ ap (λ ns. ns ++ prints a.new.labels.items) c.in_ok-reserve-4.ensures.items));
-    }
-
-pub invariant_of-self-in-Some : goal.invariant_of-self-in-Some
-invariant_of-self-in-Some c =
-    let p = c.self.inside in
-    let d = c.in-Some.done in
-    let labels = c.finish.new.labels.items in
-    let old : View = record { forms = p.forms.items; frames = p.frames.items; focus = p.focus; slots = p.slots.items; heap = p.heap.heap; output = p.output.items; ended = p.ended } in
-    let new : View = record { forms = p.forms.items; frames = p.frames.items; focus = p.focus; slots = c.reserve-2.new.self.items; heap = c.finish.new.heap.heap; output = c.reserve-4.new.self.items; ended = true } in
-    let on = not_ended old (subst (λ (v : View). refusal (whole_of v) 0 fresh.None ≡ None) (sym c.self.view_is) c.requires) in
-    let e = ap (λ gs. end_of p.focus gs) (sym c.deref-2.ensures.value) ∙ sym c.end_in.ensures ∙ c.in-Some.is in
-    let h = same_end c.main_thread-main.result c.value_in.result (value_of d) c.deref-in-Some.result.now c.reserve-2.new.self.items p.slots.items c.reserve-3.new.self.heap p.heap.heap c.finish.new.heap.heap labels
-    c.main_thread-main.ensures c.value_in.ensures c.deref-in-Some.ensures.value c.in_ok-reserve-2.ensures.items c.in_ok-reserve-3.ensures.heap c.finish.ensures.act in
-    record {
-      order = c.self.invariant.order;
-      frames = c.self.invariant.frames;
-      way = c.self.invariant.way;
-      settled = c.self.invariant.settled;
-      room = c.self.invariant.room;
-      typed = typed_kept old new labels c.self.invariant.typed on (pool_ends old new d labels (pool_lone old c.self.invariant.typed) on refl e h c.in_ok-reserve-4.ensures.items);
+      stands = subst (λ (ms : List Form). Stands ms n) c.deref.ensures.value c.go.ensures.stands;
+      typed = subst AreTyped (sym after) (typed_either c.go.result (plain_of fs r) (plain_of fs n) c.args.thread c.args.fresh typed free steps same);
     }
 
 pub returns-clause-stepped : goal.returns-clause-stepped
 returns-clause-stepped c =
     let p = c.self.inside in
-    let a = c.advance-self-inside in
-    let old : View = record { forms = p.forms.items; frames = p.frames.items; focus = p.focus; slots = p.slots.items; heap = p.heap.heap; output = p.output.items; ended = p.ended } in
-    let new : View = record { forms = p.forms.items; frames = a.new.frames.items; focus = a.result; slots = a.new.slots.items; heap = a.new.heap.heap; output = a.new.output.items; ended = p.ended } in
-    let goes = pool_goes old (pool_lone old c.self.invariant.typed) (typed_some old c.self.invariant.typed (not_ended old (subst (λ (v : View). refusal (whole_of v) 0 fresh.None ≡ None) (sym c.self.view_is) c.requires))) in
-    let steps = same_step c.deref-3.result.now p.forms.items p.frames.items a.new.frames.items p.focus a.result c.main_thread-main.result c.reserve-2.new.self.items p.slots.items c.reserve-3.new.self.heap p.heap.heap a.new.slots.items a.new.heap.heap a.new.labels.items a.new.dropped
-    c.deref-3.ensures.value c.main_thread-main.ensures c.in_ok-reserve-2.ensures.items c.in_ok-reserve-3.ensures.heap a.ensures.step in
-    let none = ap (λ gs. end_of p.focus gs) (sym c.deref-2.ensures.value) ∙ sym c.end_in.ensures ∙ c.in_default.is in
-    let going = not_done p.forms.items p.frames.items p.focus c.self.invariant.order c.self.invariant.settled c.self.invariant.way none in
-    let lives = alive_steps (run_of old) (run_of new) (state 0 p.slots.items p.heap.heap) a.new.slots.items a.new.heap.heap a.new.labels.items a.new.dropped going steps in
-    subst (λ (v : View). step (whole_of v) 0 fresh.None ≡ Some (record { state = whole_of new; labels = a.new.labels.items })) c.self.view_is
-    (pool_steps old new a.new.labels.items (pool_lone old c.self.invariant.typed) goes.0 goes.0 lives (a.ensures.output ∙ ap (λ ns. ns ++ prints a.new.labels.items) c.in_ok-reserve-4.ensures.items))
+    let fs = p.forms.items in
+    let r = p.running in
+    let before = sym (ap whole_of c.self.view_is) ∙ entries_whole fs r.threads.items r.heap.heap r.output.items in
+    let n = c.go.new.running in
+    let after = entries_whole fs n.threads.items n.heap.heap n.output.items in
+    let steps = subst (λ (ms : List Form). IfOk c.go.result (λ (l : LabelList). step (plain_of ms r) c.args.thread c.args.fresh ≡ Some (record { state = plain_of ms n; labels = l.items }))) c.deref.ensures.value c.go.ensures.step in
+    subst (λ (s : Whole). IfOk c.go.result (λ (l : LabelList). step s c.args.thread c.args.fresh ≡ Some (record { state = whole_of (view_of fs n); labels = l.items }))) (sym before)
+    (subst (λ (s : Whole). IfOk c.go.result (λ (l : LabelList). step (plain_of fs r) c.args.thread c.args.fresh ≡ Some (record { state = s; labels = l.items }))) (sym after) steps)
 
 pub returns-clause-left : goal.returns-clause-left
 returns-clause-left c =
     let p = c.self.inside in
-    let a = c.advance-self-inside in
-    let old : View = record { forms = p.forms.items; frames = p.frames.items; focus = p.focus; slots = p.slots.items; heap = p.heap.heap; output = p.output.items; ended = p.ended } in
-    let new : View = record { forms = p.forms.items; frames = a.new.frames.items; focus = a.result; slots = a.new.slots.items; heap = a.new.heap.heap; output = a.new.output.items; ended = p.ended } in
-    let goes = pool_goes old (pool_lone old c.self.invariant.typed) (typed_some old c.self.invariant.typed (not_ended old (subst (λ (v : View). refusal (whole_of v) 0 fresh.None ≡ None) (sym c.self.view_is) c.requires))) in
-    let steps = same_step c.deref-3.result.now p.forms.items p.frames.items a.new.frames.items p.focus a.result c.main_thread-main.result c.reserve-2.new.self.items p.slots.items c.reserve-3.new.self.heap p.heap.heap a.new.slots.items a.new.heap.heap a.new.labels.items a.new.dropped
-    c.deref-3.ensures.value c.main_thread-main.ensures c.in_ok-reserve-2.ensures.items c.in_ok-reserve-3.ensures.heap a.ensures.step in
-    let none = ap (λ gs. end_of p.focus gs) (sym c.deref-2.ensures.value) ∙ sym c.end_in.ensures ∙ c.in_default.is in
-    let going = not_done p.forms.items p.frames.items p.focus c.self.invariant.order c.self.invariant.settled c.self.invariant.way none in
-    let lives = alive_steps (run_of old) (run_of new) (state 0 p.slots.items p.heap.heap) a.new.slots.items a.new.heap.heap a.new.labels.items a.new.dropped going steps in
-    subst (λ (v : View). steps_left_of new + 1 ≡ steps_left_of v) c.self.view_is (pool_left old new a.new.labels.items (pool_lone old c.self.invariant.typed) goes.0 goes.0 lives)
+    let fs = p.forms.items in
+    let r = p.running in
+    let before = sym (ap whole_of c.self.view_is) ∙ entries_whole fs r.threads.items r.heap.heap r.output.items in
+    let n = c.go.new.running in
+    let after = entries_whole fs n.threads.items n.heap.heap n.output.items in
+    let steps = subst (λ (ms : List Form). IfOk c.go.result (λ (l : LabelList). step (plain_of ms r) c.args.thread c.args.fresh ≡ Some (record { state = plain_of ms n; labels = l.items }))) c.deref.ensures.value c.go.ensures.step in
+    subst (λ (s : Whole). OnOk c.go.result (total_left (whole_of (view_of fs n)).threads + 1 ≡ total_left s.threads)) (sym before)
+    (subst (λ (s : Whole). OnOk c.go.result (total_left s.threads + 1 ≡ total_left (plain_of fs r).threads)) (sym after) (left_of c.go.result (plain_of fs r) (plain_of fs n) c.args.thread c.args.fresh steps))

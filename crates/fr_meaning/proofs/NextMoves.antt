@@ -1,0 +1,157 @@
+-- The move of a thread, by what it does next.
+use Rattle.std.proofs.Common.{◌≡◌, ◌≢◌, ℕ, zero, suc, ◌<◌, Bool, true, false, List, [], ◌∷◌, ◌++◌, length, get_or, drop, Option, Some, None, refl, sym, ap, ◌∙◌, subst}
+use Rattle.fr_base.specs.declared.step.Wait.{Wait}
+use Rattle.fr_plain.specs.declared.value.Value.{Value}
+use Rattle.fr_plain.specs.Acts.{do_end, do_spawn, do_join, do_box, do_let, do_print, do_assign, do_arith, do_discard}
+use Rattle.fr_plain.specs.Run as run
+use Rattle.fr_plain.specs.Run.{Capture, Run, going, on_value, now, Move, next, alone, block_end, move, Life, life_move}
+use Rattle.fr_plain.specs.Threads.{act_waits, move_waits}
+use Rattle.fr_plain.specs.Whole.{Whole, takes_name, starts_thread}
+use Rattle.fr_meaning.specs.declared.forms.Form.{Form}
+use Rattle.fr_meaning.specs.declared.forms.Form.TheVariants as form
+use Rattle.fr_meaning.specs.declared.frame.Done.{Done}
+use Rattle.fr_meaning.specs.declared.frame.Done.TheVariants as done
+use Rattle.fr_meaning.specs.declared.frame.Frame.{Frame}
+use Rattle.fr_meaning.specs.declared.frame.Frame.TheVariants as frame
+use Rattle.fr_meaning.specs.declared.frame.Focus.{Focus}
+use Rattle.fr_meaning.specs.declared.frame.Focus.TheVariants as focus
+use Rattle.fr_meaning.specs.declared.next.Next.{Next}
+use Rattle.fr_meaning.specs.declared.next.Next.TheVariants as next_
+use Rattle.fr_meaning.specs.declared.thread.Stage.{Stage}
+use Rattle.fr_meaning.specs.declared.thread.Thread.{Thread}
+use Rattle.fr_meaning.specs.Contexts.{fill, wrap, IsSettled}
+use Rattle.fr_meaning.specs.FormTerms.{AreInOrder, term_of, items_at, captures_of, captures_in, captures_at, parts_from, IsSpawn}
+use Rattle.fr_meaning.specs.DoneTerms.{over, value_of}
+use Rattle.fr_meaning.specs.FrameTerms.{around, around_items, all_around, wrapped, focus_run, IsPastLeft, TopIsPastLeft, HasMadeWay, end_of}
+use Rattle.fr_meaning.specs.Next.{IsNext, OwnNext, JoinsNext, next_waits, starts}
+use Rattle.fr_meaning.specs.Threads.{run_in, IsWell, IsGoingOn, end_act, after_end, life_at}
+use Rattle.fr_meaning.proofs.ContextLemmas.{now_wrap, move_fill, move_wrap, settled_fill}
+use Rattle.fr_meaning.proofs.FormLemmas.{form_term, get_or-any}
+use Rattle.fr_meaning.proofs.FrameLemmas.{wrap_push, now_temporary}
+use Rattle.fr_meaning.proofs.OwnActs.{IsOwn, Owns, next_owns, move_free}
+use Rattle.fr_meaning.proofs.StepLemmas.{held, discard_move, over_waits, spawn_now, not_done, run_end}
+use Rattle.fr_meaning.proofs.WholeSteps.{life_moves, end_moves, own_end, join_moves}
+
+-- AN ACT OF ITS OWN
+
+-- a done term has its value
+done_value : {A : Type 0} (d : Done) (f : Value → A) (a : A) → on_value (now (over d)) f a ≡ f (value_of d)
+done_value done.Unit f a = refl
+done_value (done.Number n) f a = refl
+done_value (done.Temp v) f a = refl
+
+-- a move that is one of the thread's own
+own_move : (o p : Option (Move Run)) → o ≡ p → Owns p → Owns o
+own_move o p e h = subst (λ (q : Option (Move Run)). Owns q) (sym e) h
+
+-- dropping a slot
+end_owns : (k : ℕ) (d : Done) → Owns (block_end k (run.last (over d)))
+end_owns zero d = tt
+end_owns (suc k) d = tt
+
+-- the term of a frame whose part is done, unless it joins
+frame_owns : (fs : List Form) (g : Frame) (d : Done) → IsPastLeft g → g ≢ frame.Join → IsSettled (fill (around fs g) (over d)) → Owns (move (fill (around fs g) (over d)))
+frame_owns fs frame.Box d p j h = own_move (move (run.box_r (over d))) (alone run.temp (do_box (value_of d))) (done_value d (λ v. alone run.temp (do_box v)) (next run.box_r (move (over d)))) tt
+frame_owns fs frame.Let d p j h = own_move (move (run.bind (over d))) (alone (λ x. run.unit_c) (do_let (value_of d))) (done_value d (λ v. alone (λ x. run.unit_c) (do_let v)) (next run.bind (move (over d)))) tt
+frame_owns fs frame.Print d p j h = own_move (move (run.print (over d))) (alone (λ x. run.unit_c) (do_print (value_of d))) (done_value d (λ v. alone (λ x. run.unit_c) (do_print v)) (next run.print (move (over d)))) tt
+frame_owns fs frame.Join d p j h = absurd (j refl)
+frame_owns fs (frame.Assign w) d p j h =
+    own_move (move (run.assign w (over d))) (alone (λ x. run.unit_c) (do_assign w (value_of d))) (done_value d (λ v. alone (λ x. run.unit_c) (do_assign w v)) (next (run.assign w) (move (over d)))) tt
+frame_owns fs (frame.Left f right) d p j h = absurd p
+frame_owns fs (frame.Right f left) d p j h =
+    own_move (move (run.arith f (over left) (over d))) (alone run.temp (do_arith f (value_of left) (value_of d)))
+    (done_value left (λ v. on_value (now (over d)) (λ w. alone run.temp (do_arith f v w)) (next (run.arith f (over left)) (move (over d)))) (next (λ x. run.arith f x (over d)) (move (over left)))
+    ∙ done_value d (λ w. alone run.temp (do_arith f (value_of left) w)) (next (run.arith f (over left)) (move (over d)))) tt
+frame_owns fs (frame.Block left node at) d p j h = by (drop at (items_at fs node)) h
+  where
+    by : (is : List ℕ) → IsSettled (fill (around_items left (term_of fs) is) (over d)) → Owns (move (fill (around_items left (term_of fs) is) (over d)))
+    by [] s =
+        own_move (move (run.block left (run.last (over d)))) (block_end left (run.last (over d))) (done_value d (λ v. block_end left (run.last (over d))) (next (run.block left) (next run.last (move (over d))))) (end_owns left d)
+    by (i ∷ is) s =
+        own_move (move (run.block left (run.more (over d) (parts_from (term_of fs) i is)))) (alone (λ x. run.block left (parts_from (term_of fs) i is)) (do_discard (value_of d)))
+        (discard_move left (over d) (parts_from (term_of fs) i is) (value_of d) (now_temporary d (held left (term_of fs) (i ∷ is) i is d refl s))) tt
+
+-- a term in frames whose innermost part is done, unless the top one joins
+over_owns : (fs : List Form) (g : Frame) (gs : List Frame) (d : Done) → TopIsPastLeft (g ∷ gs) → ((around : List Frame) → g ∷ gs ≡ around ++ frame.Join ∷ [] → ⊥) → IsSettled (wrapped fs (g ∷ gs) (over d)) → Owns (move (wrapped fs (g ∷ gs) (over d)))
+over_owns fs g [] d p other h = frame_owns fs g d p (λ e. other [] (ap (λ k. k ∷ []) e)) h
+over_owns fs g (k ∷ gs) d p other h =
+    let inner = wrapped fs (k ∷ gs) (over d) in
+    let settled = settled_fill (around fs g) inner h in
+    own_move (move (fill (around fs g) inner)) (next (fill (around fs g)) (move inner)) (move_fill (around fs g) inner (over_waits fs k gs d settled))
+    (next_owns (fill (around fs g)) (move inner) (over_owns fs k gs d p (λ a e. other (g ∷ a) (ap (λ ks. g ∷ ks) e)) settled))
+
+-- a move inside frames
+in_frames : (fs : List Form) (gs : List Frame) (r : Run) → now r ≡ going → Owns (move r) → Owns (move (wrapped fs gs r))
+in_frames fs gs r g h = own_move (move (wrapped fs gs r)) (next (wrap (all_around fs gs)) (move r)) (move_wrap (all_around fs gs) r g) (next_owns (wrap (all_around fs gs)) (move r) h)
+
+-- a thread that neither ends nor starts nor joins one does an act of its own
+pub run_owns : (fs : List Form) (gs : List Frame) (f : Focus) → IsSettled (wrapped fs gs (focus_run fs f)) → HasMadeWay fs gs f → OwnNext f gs → Owns (move (wrapped fs gs (focus_run fs f)))
+run_owns fs [] (focus.Over d) h w o = let e = o.goes_on in absurd cc
+run_owns fs (g ∷ gs) (focus.Over d) h w o = over_owns fs g gs d w (λ a e. o.no_join a d e refl) h
+run_owns fs gs (focus.Read w take) h y o = in_frames fs gs (run.read w take) refl tt
+run_owns fs gs (focus.Borrow w is_mut) h y o = in_frames fs gs (run.borrow w is_mut) refl tt
+run_owns fs gs (focus.Spawn node) h w o = absurd (o.no_start node refl)
+
+-- MOVES
+
+-- the move of a life, from that of the innermost term
+frame_moves : (fs : List Form) (gs : List Frame) (g : Stage) (r : Run) (m : Move Run) → IsGoingOn g → now r ≡ going → move r ≡ Some m → life_move (life_at g (wrapped fs gs r)) ≡ Some (record { act = m.act; plug = λ v. life_at g (wrapped fs gs (m.plug v)) })
+frame_moves fs gs g r m on go e =
+    life_moves g (wrapped fs gs r) on (now_wrap (all_around fs gs) r go) ∙ ap (next (life_at g)) (move_wrap (all_around fs gs) r go ∙ ap (next (wrap (all_around fs gs))) e)
+
+-- the term of a form that starts a thread, with its captures
+pub spawn_captures : (fs : List Form) (i : ℕ) → AreInOrder fs → i < length fs → IsSpawn (get_or fs i form.Unit) → (r : Run) × (term_of fs i ≡ run.spawn (captures_of (captures_at fs i)) r)
+spawn_captures fs i a lt s = by (get_or fs i form.Unit) refl
+  where
+    by : (m : Form) → get_or fs i form.Unit ≡ m → (r : Run) × (term_of fs i ≡ run.spawn (captures_of (captures_at fs i)) r)
+    by (form.Spawn cs body drops) q =
+        (run.block drops (run.last (term_of fs body)),
+        form_term fs i (get_or fs i form.Unit) (form.Spawn cs body drops) a lt (get_or-any fs i form.Unit (get_or fs i form.Unit) lt) q
+        ∙ ap (λ ds. run.spawn (captures_of ds) (run.block drops (run.last (term_of fs body)))) (sym (ap captures_in q)))
+    by (form.Number x) q = absurd (subst IsSpawn q s)
+    by form.Unit q = absurd (subst IsSpawn q s)
+    by (form.Read w take) q = absurd (subst IsSpawn q s)
+    by (form.Borrow w is_mut) q = absurd (subst IsSpawn q s)
+    by (form.Box x) q = absurd (subst IsSpawn q s)
+    by (form.Let x) q = absurd (subst IsSpawn q s)
+    by (form.Print x) q = absurd (subst IsSpawn q s)
+    by (form.Join x) q = absurd (subst IsSpawn q s)
+    by (form.Assign w x) q = absurd (subst IsSpawn q s)
+    by (form.Arith f x y) q = absurd (subst IsSpawn q s)
+    by (form.Block items lets) q = absurd (subst IsSpawn q s)
+    by form.Place q = absurd (subst IsSpawn q s)
+
+-- the act by what comes next: a join, a start, or one of the thread's own
+abbrev pub Moves : List Form → Next → Option (Move Life) → Type 0
+Moves fs (next_.End d) o = Owns o
+Moves fs (next_.Join v) o = (m : Move Life) × (o ≡ Some m) × (m.act ≡ do_join v)
+Moves fs (next_.Start node) o = (m : Move Life) × (r : Run) × (o ≡ Some m) × (m.act ≡ do_spawn (captures_of (captures_at fs node)) r)
+Moves fs next_.Own o = Owns o
+
+-- a thread in progress makes the move that comes next
+pub next_moves : (fs : List Form) (x : Thread) (n : Next) → AreInOrder fs → IsWell fs x → IsGoingOn x.stage → IsNext x.focus x.frames.items n → Moves fs n (life_move (life_at x.stage (run_in fs x)))
+next_moves fs x (next_.End d) a w on h =
+    let e = ap (λ r. life_move (life_at x.stage r)) (run_end fs x.focus x.frames.items d h) ∙ end_moves x.stage d on in
+    subst (λ (o : Option (Move Life)). Owns o) (sym e) (own_end x.stage (value_of d)).0
+next_moves fs x (next_.Join v) a w on h =
+    let top = ap (λ f. wrapped fs x.frames.items (focus_run fs f)) h.at_end ∙ ap (λ gs. wrapped fs gs (over h.done)) h.top ∙ wrap_push fs h.around frame.Join (over h.done) in
+    let m : Move Run = record { act = do_join (value_of h.done); plug = run.temp } in
+    let e = ap (λ r. life_move (life_at x.stage r)) top ∙ frame_moves fs h.around x.stage (run.join_r (over h.done)) m on refl (join_moves h.done) in
+    (record { act = do_join (value_of h.done); plug = λ u. life_at x.stage (wrapped fs h.around (run.temp u)) }, e, ap do_join h.value)
+next_moves fs x (next_.Start node) a w on h =
+    let way = subst (λ f. HasMadeWay fs x.frames.items f) h w.way in
+    let s = spawn_captures fs node a way.0 way.1 in
+    let m : Move Run = record { act = do_spawn (captures_of (captures_at fs node)) s.0; plug = run.temp } in
+    let e = ap (λ r. life_move (life_at x.stage r)) (ap (λ f. wrapped fs x.frames.items (focus_run fs f)) h ∙ ap (wrapped fs x.frames.items) s.1)
+    ∙ frame_moves fs x.frames.items x.stage (run.spawn (captures_of (captures_at fs node)) s.0) m on refl refl in
+    (record { act = do_spawn (captures_of (captures_at fs node)) s.0; plug = λ u. life_at x.stage (wrapped fs x.frames.items (run.temp u)) }, s.0, e, refl)
+next_moves fs x next_.Own a w on h =
+    let e = life_moves x.stage (run_in fs x) on (not_done fs x.frames.items x.focus a w.settled w.way h.goes_on) in
+    subst (λ (o : Option (Move Life)). Owns o) (sym e) (next_owns (life_at x.stage) (move (run_in fs x)) (run_owns fs x.frames.items x.focus w.settled w.way h))
+
+-- it waits at a join alone, and takes a name at a start alone
+pub moves_wait : (fs : List Form) (s : Whole) (n : Next) (o : Option (Move Life)) → Moves fs n o → (move_waits s o ≡ next_waits s n) × (takes_name o ≡ starts n)
+moves_wait fs s (next_.End d) o h = move_free s o h
+moves_wait fs s (next_.Join v) o h = (ap (move_waits s) h.1 ∙ ap (act_waits s) h.2, ap takes_name h.1 ∙ ap starts_thread h.2)
+moves_wait fs s (next_.Start node) o h = (ap (move_waits s) h.2 ∙ ap (act_waits s) h.3, ap takes_name h.2 ∙ ap starts_thread h.3)
+moves_wait fs s next_.Own o h = move_free s o h

@@ -1,0 +1,144 @@
+-- How a thread stands: what it waits for, why its step is refused, and which names it takes.
+use Rattle.std.proofs.Common.{◌≡◌, ℕ, ℤ, Bool, true, false, List, [], ◌∷◌, length, get_or, Option, Some, None, refl, sym, ap, ◌∙◌, subst}
+use Rattle.std.specs.Prelude.{is_some, ◌||◌, option_map, if◌then◌else◌}
+use Rattle.fr_base.specs.declared.label.Plain.TheVariants as plain
+use Rattle.fr_base.specs.declared.step.Fresh.{Fresh}
+use Rattle.fr_base.specs.declared.step.Wait.{Wait}
+use Rattle.fr_base.specs.declared.step.Wait.TheVariants as wait
+use Rattle.fr_plain.specs.declared.value.Value.{Value}
+use Rattle.fr_plain.specs.declared.value.Value.TheVariants.{Own, ToSlot, ToObject}
+use Rattle.fr_plain.specs.Heap.{Heap}
+use Rattle.fr_plain.specs.Run.{Run, life_move}
+use Rattle.fr_plain.specs.Threads.{unless_some, join_waits, result_of_life, result_in as result_in_plain}
+use Rattle.fr_plain.specs.Whole.{Thread as PlainThread, Whole, thread_at, result_at, is_over, waits_for, Refusal, no_thread, has_ended, waits, takes_name, refused_names, refused_wait, refused_of, refused}
+use Rattle.fr_meaning.specs.declared.error.StepError.{StepError}
+use Rattle.fr_meaning.specs.declared.error.StepError.TheVariants as error
+use Rattle.fr_meaning.specs.declared.forms.Form.{Form}
+use Rattle.fr_meaning.specs.declared.need.Need.{Need}
+use Rattle.fr_meaning.specs.declared.next.Next.{Next}
+use Rattle.fr_meaning.specs.declared.thread.Stage.{Stage}
+use Rattle.fr_meaning.specs.declared.thread.Stage.TheVariants as stage
+use Rattle.fr_meaning.specs.declared.thread.Thread.{Thread}
+use Rattle.fr_meaning.specs.FormTerms.{AreInOrder}
+use Rattle.fr_meaning.specs.Next.{IsNext, next_waits, starts, task_named}
+use Rattle.fr_meaning.specs.Places.{place_of}
+use Rattle.fr_meaning.specs.PoolView.{error_of, refusal, kind_of, need_in, need_of}
+use Rattle.fr_meaning.specs.Threads.{run_in, IsWell, IsGoingOn, is_done, result_in, life_at, thread_of, threads_of, whole, numbers_of}
+use Rattle.fr_meaning.proofs.NextMoves.{next_moves, moves_wait}
+use Rattle.fr_meaning.proofs.ThreadLists.{none_there, there_at}
+use Rattle.fr_meaning.proofs.WholeSteps.{kept_result}
+
+-- A THREAD
+
+pub life_done : (g : Stage) (r : Run) → is_over (life_at g r) ≡ is_done g
+life_done stage.Alive r = refl
+life_done stage.Owing r = refl
+life_done stage.Loose r = refl
+life_done stage.Over r = refl
+life_done (stage.Ended v) r = refl
+
+pub not_done_on : (g : Stage) → is_done g ≡ false → IsGoingOn g
+not_done_on stage.Alive h = tt
+not_done_on stage.Owing h = tt
+not_done_on stage.Loose h = tt
+not_done_on stage.Over h = absurd cc
+not_done_on (stage.Ended v) h = absurd cc
+
+-- what a thread in progress waits for and which names it takes, by what it does next
+pub stands : (fs : List Form) (s : Whole) (x : Thread) (n : Next) → AreInOrder fs → IsWell fs x → is_done x.stage ≡ false → IsNext x.focus x.frames.items n → (waits_for s (thread_of fs x) ≡ next_waits s n) × (takes_name (life_move (thread_of fs x).life) ≡ starts n)
+stands fs s x n a w g h = moves_wait fs s n (life_move (life_at x.stage (run_in fs x))) (next_moves fs x n a w (not_done_on x.stage g) h)
+
+-- A JOIN
+
+-- a task waits for its thread's result
+task_waits : (s : Whole) (v : Value) (u : ℕ) → task_named v ≡ Some u → join_waits s v ≡ unless_some (result_at s.threads u) (wait.Join u)
+task_waits s (Own (plain.Task t)) u h = let same : t ≡ u = cc in ap (λ k. unless_some (result_at s.threads k) (wait.Join k)) same
+task_waits s (Own plain.Nothing) u h = absurd cc
+task_waits s (Own plain.Unit) u h = absurd cc
+task_waits s (Own (plain.Int n)) u h = absurd cc
+task_waits s (Own (plain.Box o)) u h = absurd cc
+task_waits s (Own (plain.Mutex n)) u h = absurd cc
+task_waits s (ToSlot n) u h = absurd cc
+task_waits s (ToObject o) u h = absurd cc
+
+-- a value that is no task
+pub no_task : (s : Whole) (v : Value) → task_named v ≡ None → join_waits s v ≡ None
+no_task s (Own (plain.Task t)) h = absurd cc
+no_task s (Own plain.Nothing) h = refl
+no_task s (Own plain.Unit) h = refl
+no_task s (Own (plain.Int n)) h = refl
+no_task s (Own (plain.Box o)) h = refl
+no_task s (Own (plain.Mutex n)) h = refl
+no_task s (ToSlot n) h = refl
+no_task s (ToObject o) h = refl
+
+-- a thread that isn't there
+pub waits_nowhere : (fs : List Form) (xs : List Thread) (heap : Heap) (output : List ℤ) (v : Value) (u : ℕ) → task_named v ≡ Some u → place_of (numbers_of xs) u ≡ None → join_waits (whole fs xs heap output) v ≡ Some (wait.Join u)
+waits_nowhere fs xs heap output v u h e = task_waits (whole fs xs heap output) v u h ∙ ap (λ o. unless_some (result_in_plain o) (wait.Join u)) (none_there fs xs u e)
+
+waits_by : (o : Option Value) (b : Bool) (w : Wait) → is_some o ≡ b → unless_some o w ≡ (if b then None else Some w)
+waits_by None true w h = absurd cc
+waits_by None false w h = refl
+waits_by (Some v) true w h = refl
+waits_by (Some v) false w h = absurd cc
+
+-- a thread at its place, by whether its result is kept
+pub waits_there : (fs : List Form) (xs : List Thread) (heap : Heap) (output : List ℤ) (v : Value) (u k : ℕ) (z : Thread) (b : Bool) → task_named v ≡ Some u → place_of (numbers_of xs) u ≡ Some k → z ≡ get_or xs k z → is_some (result_in z.stage) ≡ b →
+    join_waits (whole fs xs heap output) v ≡ (if b then None else Some (wait.Join u))
+waits_there fs xs heap output v u k z b h e is r =
+    task_waits (whole fs xs heap output) v u h ∙ ap (λ o. unless_some (result_in_plain o) (wait.Join u)) (there_at fs xs u k z e is).0
+    ∙ ap (λ o. unless_some o (wait.Join u)) (kept_result z.stage (run_in fs z)) ∙ waits_by (result_in z.stage) b (wait.Join u) r
+
+-- REFUSALS
+
+pub refused_nowhere : (fs : List Form) (xs : List Thread) (heap : Heap) (output : List ℤ) (t : ℕ) (names : Fresh) → place_of (numbers_of xs) t ≡ None → refusal (whole fs xs heap output) t names ≡ Some error.NoThread
+refused_nowhere fs xs heap output t names h = ap (λ o. option_map error_of (refused_of (whole fs xs heap output) names o)) (none_there fs xs t h)
+
+-- by whether it has ended, what it waits for, and the names that it takes
+abbrev by_causes : Whole → Fresh → Bool → Option Wait → Bool → Option StepError
+by_causes s names over w takes = option_map error_of (if over then Some has_ended else refused_wait w (refused_names s takes names))
+
+pub refused_ended : (fs : List Form) (xs : List Thread) (heap : Heap) (output : List ℤ) (t : ℕ) (names : Fresh) (i : ℕ) (x : Thread) → place_of (numbers_of xs) t ≡ Some i → x ≡ get_or xs i x → is_done x.stage ≡ true → refusal (whole fs xs heap output) t names ≡ Some error.Ended
+refused_ended fs xs heap output t names i x h is e =
+    let s = whole fs xs heap output in
+    ap (λ o. option_map error_of (refused_of s names o)) (there_at fs xs t i x h is).0
+    ∙ ap (λ b. by_causes s names b (waits_for s (thread_of fs x)) (takes_name (life_move (thread_of fs x).life))) (life_done x.stage (run_in fs x) ∙ e)
+
+pub refused_there : (fs : List Form) (xs : List Thread) (heap : Heap) (output : List ℤ) (t : ℕ) (names : Fresh) (i : ℕ) (x : Thread) (n : Next) (w : Option Wait) → AreInOrder fs → IsWell fs x → place_of (numbers_of xs) t ≡ Some i → x ≡ get_or xs i x → is_done x.stage ≡ false → IsNext x.focus x.frames.items n →
+    next_waits (whole fs xs heap output) n ≡ w → refusal (whole fs xs heap output) t names ≡ option_map error_of (refused_wait w (refused_names (whole fs xs heap output) (starts n) names))
+refused_there fs xs heap output t names i x n w a well h is e comes stays =
+    let s = whole fs xs heap output in
+    let st = stands fs s x n a well e comes in
+    ap (λ o. option_map error_of (refused_of s names o)) (there_at fs xs t i x h is).0
+    ∙ ap (λ b. by_causes s names b (waits_for s (thread_of fs x)) (takes_name (life_move (thread_of fs x).life))) (life_done x.stage (run_in fs x) ∙ e)
+    ∙ ap (λ o. by_causes s names false o (takes_name (life_move (thread_of fs x).life))) (st.0 ∙ stays) ∙ ap (λ b. by_causes s names false w b) st.1
+
+-- NAMES
+
+pub need_nowhere : (fs : List Form) (xs : List Thread) (heap : Heap) (output : List ℤ) (t : ℕ) → place_of (numbers_of xs) t ≡ None → need_of (whole fs xs heap output) t ≡ None
+need_nowhere fs xs heap output t h = ap need_in (none_there fs xs t h)
+
+abbrev by_need : Bool → Bool → Option Need
+by_need over takes = if over then None else Some (kind_of takes)
+
+pub need_ended : (fs : List Form) (xs : List Thread) (heap : Heap) (output : List ℤ) (t i : ℕ) (x : Thread) → place_of (numbers_of xs) t ≡ Some i → x ≡ get_or xs i x → is_done x.stage ≡ true → need_of (whole fs xs heap output) t ≡ None
+need_ended fs xs heap output t i x h is e = ap need_in (there_at fs xs t i x h is).0 ∙ ap (λ b. by_need b (takes_name (life_move (thread_of fs x).life))) (life_done x.stage (run_in fs x) ∙ e)
+
+pub need_there : (fs : List Form) (xs : List Thread) (heap : Heap) (output : List ℤ) (t i : ℕ) (x : Thread) (n : Next) (takes : Bool) → AreInOrder fs → IsWell fs x → place_of (numbers_of xs) t ≡ Some i → x ≡ get_or xs i x → is_done x.stage ≡ false → IsNext x.focus x.frames.items n →
+    starts n ≡ takes → need_of (whole fs xs heap output) t ≡ Some (kind_of takes)
+need_there fs xs heap output t i x n takes a well h is e comes same =
+    ap need_in (there_at fs xs t i x h is).0 ∙ ap (λ b. by_need b (takes_name (life_move (thread_of fs x).life))) (life_done x.stage (run_in fs x) ∙ e)
+    ∙ ap (by_need false) ((stands fs (whole fs xs heap output) x n a well e comes).1 ∙ same)
+
+-- STANDING STILL
+
+-- it has ended or waits
+abbrev pub still : Whole → PlainThread → Bool
+still s x = is_over x.life || is_some (waits_for s x)
+
+pub still_ended : (fs : List Form) (s : Whole) (x : Thread) → is_done x.stage ≡ true → still s (thread_of fs x) ≡ true
+still_ended fs s x e = ap (λ b. b || is_some (waits_for s (thread_of fs x))) (life_done x.stage (run_in fs x) ∙ e)
+
+pub still_waits : (fs : List Form) (s : Whole) (x : Thread) (n : Next) (w : Option Wait) → AreInOrder fs → IsWell fs x → is_done x.stage ≡ false → IsNext x.focus x.frames.items n → next_waits s n ≡ w → still s (thread_of fs x) ≡ is_some w
+still_waits fs s x n w a well e comes h =
+    ap (λ b. b || is_some (waits_for s (thread_of fs x))) (life_done x.stage (run_in fs x) ∙ e) ∙ ap is_some ((stands fs s x n a well e comes).0 ∙ h)

@@ -1,0 +1,274 @@
+//! All that runs: its steps, with the room for each made first.
+
+ghost use Rattle.std.specs.Prelude.{◌≡◌, ◌<◌, ◌≤◌, ◌∷◌, [], List, length, slice_index_or, vec_len, vec_capacity, Some, None, IsSome, IfOk, OnOk, OnErr};
+ghost use Rattle.fr_base.specs.declared.step.Fresh.TheVariants as fresh_;
+ghost use Rattle.fr_plain.specs.Whole.{step};
+ghost use Rattle.fr_meaning.specs.declared.forms.Form.{Form};
+ghost use Rattle.fr_meaning.specs.declared.thread.Thread.{Thread};
+ghost use Rattle.fr_meaning.specs.declared.next.Next.TheVariants as next_;
+ghost use Rattle.fr_meaning.specs.FormTerms.{AreInOrder, captures_at};
+ghost use Rattle.fr_meaning.specs.Next.{IsNext};
+ghost use Rattle.fr_meaning.specs.Places.{place_of};
+ghost use Rattle.fr_meaning.specs.Threads.{IsWell, numbers_of};
+ghost use Rattle.fr_meaning.specs.Entries.{entry_of};
+ghost use Rattle.fr_meaning.specs.Running.{plain_of, view_of, Stands};
+
+use crate::forms::Form;
+use crate::frame::Done;
+use crate::heap::Heap;
+use crate::machine::labels_ahead;
+use crate::next::{Next, next_of, task_named_by};
+use crate::places::Places;
+use crate::thread::Thread;
+use crate::threads::{go_alone, go_end, go_join, go_start};
+use fr_base::{Fresh, Labels, NoMemory, ThreadNo};
+use fr_plain::Value;
+use std::alloc::Global;
+
+/// The threads in the order in which they were started, the place of each, the one heap and the output.
+#[derive(Drop)]
+pub struct Running {
+    pub threads: Vec<Thread>,
+    pub places: Places,
+    pub heap: Heap,
+    pub output: Vec<i64>,
+}
+
+/// A thread alone over an empty heap.
+pub fn run_alone(alloc: Global, main: Thread) -> Result<Running, NoMemory>
+    ensures threads { IfOk result (λ r. r.threads.items ≡ main ∷ []) }
+    ensures places { IfOk result (λ r. r.places.numbers ≡ main.number ∷ []) }
+    ensures heap { IfOk result (λ r. r.heap.heap ≡ record { thread = 0; cells = [] } ∷ []) }
+    ensures output { IfOk result (λ r. r.output.items ≡ []) }
+{
+    let mut places = Places::new(alloc);
+    places.reserve()?;
+    places.add(main.number);
+    let heap = Heap::new(alloc)?;
+    let mut threads = Vec::new(alloc);
+    threads.reserve(1)?;
+    threads.push_reserved(main);
+    Ok(Running {
+        threads,
+        places,
+        heap,
+        output: Vec::new(alloc),
+    })
+}
+
+// Makes room for a slot more.
+fn reserve_slot(thread: &mut Thread) -> Result<(), NoMemory>
+    ensures entry { entry_of thread.new ≡ entry_of thread.old }
+    ensures well { (fs : List Form) → IsWell fs thread.old → IsWell fs thread.new }
+    ensures room { OnOk result (vec_len thread.new.slots < vec_capacity thread.new.slots) }
+{
+    thread.slots.reserve(1)?;
+    Ok(())
+}
+
+// Makes room for what an act of the thread alone makes: a slot, an object and a number of the output.
+fn reserve_act(running: &mut Running, thread: ThreadNo, at: usize) -> Result<(), NoMemory>
+    requires inside { at < length running.old.threads.items }
+    ensures view { (fs : List Form) → view_of fs running.new ≡ view_of fs running.old }
+    ensures places { running.new.places ≡ running.old.places }
+    ensures stands { (fs : List Form) → Stands fs running.old → Stands fs running.new }
+    ensures slots { OnOk result ((x : Thread) → x ≡ slice_index_or running.new.threads.items at x → vec_len x.slots < vec_capacity x.slots) }
+    ensures ready { OnOk result (running.new.heap.ready ≡ Some thread) }
+    ensures output { OnOk result (vec_len running.new.output < vec_capacity running.new.output) }
+{
+    reserve_slot(&mut running.threads[at])?;
+    running.heap.reserve(thread)?;
+    running.output.reserve(1)?;
+    Ok(())
+}
+
+// An act of the thread alone.
+fn go_own(
+    alloc: Global,
+    forms: &[Form],
+    running: &mut Running,
+    thread: ThreadNo,
+    at: usize,
+) -> Result<Labels, NoMemory>
+    requires order { AreInOrder forms.now }
+    requires stands { Stands forms.now running.old }
+    requires place { place_of running.old.places.numbers thread ≡ Some at }
+    requires inside { at < length running.old.threads.items }
+    requires next { (x : Thread) → x ≡ slice_index_or running.old.threads.items at x → IsNext x.focus x.frames.items next_.Own }
+    requires goes { IsSome (step (plain_of forms.now running.old) thread fresh_.None) }
+    ensures step { IfOk result (λ l. step (plain_of forms.now running.old) thread fresh_.None ≡ Some (record { state = plain_of forms.now running.new; labels = l.items })) }
+    ensures stands { Stands forms.now running.new }
+    ensures err { OnErr result (view_of forms.now running.new ≡ view_of forms.now running.old) }
+{
+    reserve_act(running, thread, at)?;
+    let mut labels = Labels::new(alloc);
+    labels.reserve(labels_ahead(
+        &running.threads[at].focus,
+        &running.threads[at].frames,
+    ))?;
+    go_alone(
+        forms,
+        &mut running.threads,
+        &running.places,
+        thread,
+        at,
+        &mut running.heap,
+        &mut running.output,
+        &mut labels,
+    );
+    Ok(labels)
+}
+
+// The end of the thread.
+fn go_to_end(
+    alloc: Global,
+    forms: &[Form],
+    running: &mut Running,
+    thread: ThreadNo,
+    at: usize,
+    done: Done,
+) -> Result<Labels, NoMemory>
+    requires order { AreInOrder forms.now }
+    requires stands { Stands forms.now running.old }
+    requires place { place_of running.old.places.numbers thread ≡ Some at }
+    requires inside { at < length running.old.threads.items }
+    requires next { (x : Thread) → x ≡ slice_index_or running.old.threads.items at x → IsNext x.focus x.frames.items (next_.End done) }
+    requires goes { IsSome (step (plain_of forms.now running.old) thread fresh_.None) }
+    ensures step { IfOk result (λ l. step (plain_of forms.now running.old) thread fresh_.None ≡ Some (record { state = plain_of forms.now running.new; labels = l.items })) }
+    ensures stands { Stands forms.now running.new }
+    ensures err { OnErr result (view_of forms.now running.new ≡ view_of forms.now running.old) }
+{
+    let mut labels = Labels::new(alloc);
+    labels.reserve(2)?;
+    go_end(
+        forms,
+        &mut running.threads,
+        &running.places,
+        thread,
+        at,
+        &mut running.heap,
+        &mut labels,
+        done,
+    );
+    Ok(labels)
+}
+
+// A join of the thread whose task the value is.
+fn go_joining(
+    forms: &[Form],
+    running: &mut Running,
+    thread: ThreadNo,
+    at: usize,
+    value: Value,
+)
+    requires order { AreInOrder forms.now }
+    requires stands { Stands forms.now running.old }
+    requires place { place_of running.old.places.numbers thread ≡ Some at }
+    requires inside { at < length running.old.threads.items }
+    requires next { (x : Thread) → x ≡ slice_index_or running.old.threads.items at x → IsNext x.focus x.frames.items (next_.Join value) }
+    requires goes { IsSome (step (plain_of forms.now running.old) thread fresh_.None) }
+    ensures step { step (plain_of forms.now running.old) thread fresh_.None ≡ Some (record { state = plain_of forms.now running.new; labels = [] }) }
+    ensures stands { Stands forms.now running.new }
+{
+    let Some(joined) = task_named_by(&value) else {
+        unreachable!()
+    };
+    let Some(from) = running.places.at(joined) else {
+        unreachable!()
+    };
+    go_join(
+        forms,
+        &mut running.threads,
+        &running.places,
+        thread,
+        at,
+        joined,
+        from,
+    );
+}
+
+// How many slots the new thread of a form captures.
+fn captured(forms: &[Form], node: usize) -> usize
+    requires { node < length forms.now }
+    ensures { result ≡ length (captures_at forms.now node) }
+{
+    match &forms[node] {
+        Form::Spawn(captures, _, _) => captures.len(),
+        _ => 0,
+    }
+}
+
+// The start of a thread under a new name.
+fn go_starting(
+    alloc: Global,
+    forms: &[Form],
+    running: &mut Running,
+    thread: ThreadNo,
+    at: usize,
+    node: usize,
+    fresh: Fresh,
+) -> Result<Labels, NoMemory>
+    requires order { AreInOrder forms.now }
+    requires stands { Stands forms.now running.old }
+    requires place { place_of running.old.places.numbers thread ≡ Some at }
+    requires inside { at < length running.old.threads.items }
+    requires next { (x : Thread) → x ≡ slice_index_or running.old.threads.items at x → IsNext x.focus x.frames.items (next_.Start node) }
+    requires goes { IsSome (step (plain_of forms.now running.old) thread fresh) }
+    ensures step { IfOk result (λ l. step (plain_of forms.now running.old) thread fresh ≡ Some (record { state = plain_of forms.now running.new; labels = l.items })) }
+    ensures stands { Stands forms.now running.new }
+    ensures err { OnErr result (view_of forms.now running.new ≡ view_of forms.now running.old) }
+{
+    let Fresh::Thread(number) = fresh else {
+        unreachable!()
+    };
+    let mut labels = Labels::new(alloc);
+    labels.reserve(1)?;
+    let mut frames = Vec::new(alloc);
+    frames.reserve(64)?;
+    let mut slots = Vec::new(alloc);
+    slots.reserve(captured(forms, node))?;
+    running.threads.reserve(1)?;
+    running.places.reserve()?;
+    go_start(
+        forms,
+        &mut running.threads,
+        &mut running.places,
+        thread,
+        at,
+        node,
+        number,
+        frames,
+        slots,
+        &mut labels,
+    );
+    Ok(labels)
+}
+
+/// One step of a thread under these new names. Where memory is refused nothing is changed but what room there is.
+pub fn go(
+    alloc: Global,
+    forms: &[Form],
+    running: &mut Running,
+    thread: ThreadNo,
+    fresh: Fresh,
+) -> Result<Labels, NoMemory>
+    requires order { AreInOrder forms.now }
+    requires stands { Stands forms.now running.old }
+    requires goes { IsSome (step (plain_of forms.now running.old) thread fresh) }
+    ensures step { IfOk result (λ l. step (plain_of forms.now running.old) thread fresh ≡ Some (record { state = plain_of forms.now running.new; labels = l.items })) }
+    ensures stands { Stands forms.now running.new }
+    ensures err { OnErr result (view_of forms.now running.new ≡ view_of forms.now running.old) }
+{
+    let Some(at) = running.places.at(thread) else {
+        unreachable!()
+    };
+    match next_of(&running.threads[at].focus, &running.threads[at].frames) {
+        Next::End(done) => go_to_end(alloc, forms, running, thread, at, done),
+        Next::Join(value) => {
+            go_joining(forms, running, thread, at, value);
+            Ok(Labels::new(alloc))
+        }
+        Next::Start(node) => go_starting(alloc, forms, running, thread, at, node, fresh),
+        Next::Own => go_own(alloc, forms, running, thread, at),
+    }
+}

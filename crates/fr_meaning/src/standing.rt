@@ -1,0 +1,174 @@
+//! How threads stand: what they wait for, why their steps are refused, and how a run ends.
+
+ghost use Rattle.std.specs.Prelude.{◌≡◌, ◌<◌, ◌||◌, ℕ, ℤ, List, length, slice_index_or, is_some, option_map};
+ghost use Rattle.fr_plain.specs.Heap.{Heap as PlainHeap};
+ghost use Rattle.fr_plain.specs.Whole.{Whole, is_given, is_over as life_is_over, waits_for, all_over as all_are_over, all_wait as all_are_waiting, ending_of, refused_names as names_refused};
+ghost use Rattle.fr_meaning.specs.declared.forms.Form.{Form};
+ghost use Rattle.fr_meaning.specs.declared.thread.Thread.{Thread};
+ghost use Rattle.fr_meaning.specs.FormTerms.{AreInOrder};
+ghost use Rattle.fr_meaning.specs.Next.{next_waits};
+ghost use Rattle.fr_meaning.specs.Places.{place_of};
+ghost use Rattle.fr_meaning.specs.PoolView.{error_of, refusal, need_of};
+ghost use Rattle.fr_meaning.specs.Running.{plain_of, Stands};
+ghost use Rattle.fr_meaning.specs.Threads.{result_in, is_done, numbers_of, thread_of, threads_of};
+
+use crate::error::StepError;
+use crate::need::Need;
+use crate::next::{Next, next_of, takes_name, task_named_by};
+use crate::places::Places;
+use crate::running::Running;
+use crate::thread::{Stage, Thread};
+use fr_base::{Ending3, Fresh, ThreadNo, Wait};
+
+// The thread has ended.
+fn is_over(stage: &Stage) -> bool
+    ensures { result ≡ is_done stage.now }
+{
+    match stage {
+        Stage::Alive => false,
+        Stage::Owing => false,
+        Stage::Loose => false,
+        Stage::Over => true,
+        Stage::Ended(_) => true,
+    }
+}
+
+// The thread's result is kept.
+fn has_result(stage: &Stage) -> bool
+    ensures { result ≡ is_some (result_in stage.now) }
+{
+    match stage {
+        Stage::Alive => false,
+        Stage::Owing => false,
+        Stage::Loose => false,
+        Stage::Over => false,
+        Stage::Ended(_) => true,
+    }
+}
+
+// What a thread with this next step waits for: a join for a result.
+fn wait_of(running: &Running, next: &Next) -> Option<Wait>
+    requires numbers { running.now.places.numbers ≡ numbers_of running.now.threads.items }
+    ensures { (fs : List Form) → result ≡ next_waits (plain_of fs running.now) next.now }
+{
+    let Next::Join(value) = next else {
+        return None;
+    };
+    let Some(joined) = task_named_by(value) else {
+        return None;
+    };
+    let Some(place) = running.places.at(joined) else {
+        return Some(Wait::Join(joined));
+    };
+    if has_result(&running.threads[place].stage) {
+        return None;
+    }
+    Some(Wait::Join(joined))
+}
+
+// Why a step can't take these names.
+fn refused_names(places: &Places, takes: bool, fresh: &Fresh) -> Option<StepError>
+    ensures { (s : Whole) → ((u : ℕ) → is_given s u ≡ is_some (place_of places.now.numbers u)) → result ≡ option_map error_of (names_refused s takes fresh.now) }
+{
+    match fresh {
+        Fresh::None => { if takes { Some(StepError::NameKind) } else { None } }
+        Fresh::Thread(number) => {
+            if !takes {
+                return Some(StepError::NameKind);
+            }
+            if places.at(*number).is_some() {
+                return Some(StepError::NameUsed);
+            }
+            None
+        }
+        Fresh::Threads(_, _) => Some(StepError::NameKind),
+        Fresh::Mutex(_) => Some(StepError::NameKind),
+    }
+}
+
+/// Why the thread can't step with these names, the first cause.
+pub fn refused_by(running: &Running, thread: ThreadNo, fresh: &Fresh) -> Option<StepError>
+    requires numbers { running.now.places.numbers ≡ numbers_of running.now.threads.items }
+    ensures { (fs : List Form) → AreInOrder fs → Stands fs running.now → result ≡ refusal (plain_of fs running.now) thread fresh.now }
+{
+    let Some(at) = running.places.at(thread) else {
+        return Some(StepError::NoThread);
+    };
+    let standing = &running.threads[at];
+    if is_over(&standing.stage) {
+        return Some(StepError::Ended);
+    }
+    let next = next_of(&standing.focus, &standing.frames);
+    if let Some(wait) = wait_of(running, &next) {
+        return Some(StepError::Waits(wait));
+    }
+    refused_names(&running.places, takes_name(&next), fresh)
+}
+
+/// The kind of names that the thread's next step takes.
+pub fn need_in(running: &Running, thread: ThreadNo) -> Option<Need>
+    requires numbers { running.now.places.numbers ≡ numbers_of running.now.threads.items }
+    ensures { (fs : List Form) → AreInOrder fs → Stands fs running.now → result ≡ need_of (plain_of fs running.now) thread }
+{
+    let Some(at) = running.places.at(thread) else {
+        return None;
+    };
+    let standing = &running.threads[at];
+    if is_over(&standing.stage) {
+        return None;
+    }
+    if takes_name(&next_of(&standing.focus, &standing.frames)) {
+        return Some(Need::Thread);
+    }
+    Some(Need::Nothing)
+}
+
+// All threads have ended.
+fn all_over(threads: &[Thread]) -> bool
+    ensures { (fs : List Form) → result ≡ all_are_over (threads_of fs threads.now) }
+{
+    'each: for at in 0..threads.len() {
+        if !is_over(&threads[at].stage) {
+            return false;
+        }
+    }
+    true
+}
+
+// The thread has ended, or waits.
+fn stands_still(running: &Running, thread: &Thread) -> bool
+    requires numbers { running.now.places.numbers ≡ numbers_of running.now.threads.items }
+    ensures { (fs : List Form) (i : ℕ) → AreInOrder fs → Stands fs running.now → i < length running.now.threads.items → thread.now ≡ slice_index_or running.now.threads.items i thread.now → result ≡ life_is_over (thread_of fs thread.now).life || is_some (waits_for (plain_of fs running.now) (thread_of fs thread.now)) }
+{
+    if is_over(&thread.stage) {
+        return true;
+    }
+    wait_of(running, &next_of(&thread.focus, &thread.frames)).is_some()
+}
+
+// All threads have ended or wait.
+fn all_wait(running: &Running) -> bool
+    requires numbers { running.now.places.numbers ≡ numbers_of running.now.threads.items }
+    ensures { (fs : List Form) → AreInOrder fs → Stands fs running.now → result ≡ all_are_waiting (plain_of fs running.now) (threads_of fs running.now.threads.items) }
+{
+    'each: for at in 0..running.threads.len() {
+        if !stands_still(running, &running.threads[at]) {
+            return false;
+        }
+    }
+    true
+}
+
+/// How the state stands. Takes time in the number of threads.
+pub fn ending_in(running: &Running) -> Ending3
+    requires numbers { running.now.places.numbers ≡ numbers_of running.now.threads.items }
+    ensures { (fs : List Form) → AreInOrder fs → Stands fs running.now → result ≡ ending_of (plain_of fs running.now) }
+{
+    if all_over(&running.threads) {
+        return Ending3::Finished;
+    }
+    if all_wait(running) {
+        return Ending3::Deadlocked;
+    }
+    Ending3::Going
+}
