@@ -1,12 +1,12 @@
 -- Steps of the main thread, one after another.
-use Rattle.std.proofs.Common.{◌≡◌, ℕ, zero, suc, ◌+◌, ◌<◌, ◌≤◌, ◌^◌, List, [], ◌∷◌, ◌++◌, Option, Some, None, ℤ, length, refl, sym, ap, ◌∙◌, subst, add-one}
+use Rattle.std.proofs.Common.{◌≡◌, ℕ, zero, suc, ◌+◌, ◌<◌, ◌≤◌, ◌^◌, List, [], ◌∷◌, ◌++◌, Option, Some, None, ℤ, length, refl, sym, ap, ◌∙◌, subst, add-one, arith}
 use Rattle.std.proofs.lemmas.List.{append-nil, append_assoc}
 use Rattle.fr_base.specs.declared.label.Label.{Label}
 use Rattle.fr_base.specs.declared.step.Fresh.TheVariants as fresh
 use Rattle.fr_base.specs.declared.step.Ending3.TheVariants as ending
 use Rattle.fr_plain.specs.Run.{Run, Life, over, alive, settle, life_left}
 use Rattle.fr_plain.specs.Whole.{Thread, Whole, Stepped, step, then_labels, go_on, run, start, main_steps, ending_of}
-use Rattle.fr_meaning.specs.PoolView.{View, whole_of, steps_left_of}
+use Rattle.fr_meaning.specs.PoolView.{View, whole_of, total_left, steps_left_of}
 use Rattle.fr_terms.specs.Terms.{Term}
 use Rattle.fr_plain.specs.Resolve.{program}
 use Rattle.drust_main.specs.Report.{report}
@@ -52,14 +52,9 @@ one_more k s m e ls g next =
     let longer : Goes s (suc k) e = record { labels = g.labels ++ ls; is = run_more k s (record { state = m; labels = g.labels }) (record { state = e; labels = ls }) g.is next } in
     subst (λ n. Goes s n e) (sym (add-one k)) longer
 
--- the life of the main thread
-abbrev first_life : List Thread → Life
-first_life [] = over
-first_life (t ∷ ts) = t.life
-
 -- a pool at the start of a term has that term's steps left
 pub left_at_start : (v : View) (r : Run) → whole_of v ≡ start r → steps_left_of v ≡ life_left (alive (settle r))
-left_at_start v r h = ap (λ (w : Whole). life_left (first_life w.threads)) h
+left_at_start v r h = omega (arith, ap (λ (w : Whole). total_left w.threads) h)
 
 -- a pool at the start of a source's program has fewer steps left than a counter can hold
 pub few_at_start : (c : Command) (bytes : List ℕ) (t : Term) (v : View) → IsTyped c bytes t → length bytes ≤ 1048576 → whole_of v ≡ start (program t) → steps_left_of v < 2 ^ 64
