@@ -16,6 +16,7 @@ pub mod WholeSteps
 pub mod StartLemmas
 pub mod PoolLemmas
 pub mod NodeLemmas
+pub mod PartLemmas
 pub mod ResolveLemmas
 pub mod BuiltLemmas
 pub mod PoolLaws
