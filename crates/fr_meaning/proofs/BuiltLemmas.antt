@@ -37,7 +37,8 @@ use Rattle.fr_typing.proofs.PlaceLemmas.{eq_cases}
 use Rattle.fr_meaning.proofs.SlotLemmas.{length_onto}
 use Rattle.fr_meaning.proofs.FormLemmas.{push_same}
 use Rattle.borrow_check.proofs.TermLemmas.{IsHere}
-use Rattle.fr_meaning.proofs.ResolveLemmas.{term_is, made_is, made_runs}
+use Rattle.fr_meaning.proofs.PartLemmas.{term_is}
+use Rattle.fr_meaning.proofs.ResolveLemmas.{made_is, made_runs}
 
 -- ONE FORM MORE
 

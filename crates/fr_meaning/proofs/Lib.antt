@@ -21,5 +21,6 @@ pub mod StandLemmas
 pub mod PoolLemmas
 pub mod StartLemmas
 pub mod NodeLemmas
+pub mod PartLemmas
 pub mod ResolveLemmas
 pub mod BuiltLemmas
