@@ -19,6 +19,7 @@ pub mod StepFacts
 pub mod EntryLemmas
 pub mod StandLemmas
 pub mod PoolLemmas
+pub mod ExampleLemmas
 pub mod StartLemmas
 pub mod NodeLemmas
 pub mod PartLemmas

@@ -1,8 +1,7 @@
 -- The move of a thread, by what it does next.
-use Rattle.std.proofs.Common.{◌≡◌, ◌≢◌, ℕ, zero, suc, ◌<◌, Bool, true, false, List, [], ◌∷◌, ◌++◌, length, get_or, drop, Option, Some, None, refl, sym, ap, ◌∙◌, subst}
-use Rattle.fr_base.specs.declared.step.Wait.{Wait}
+use Rattle.std.proofs.Common.{◌≡◌, ◌≢◌, ℕ, zero, suc, ◌<◌, List, [], ◌∷◌, ◌++◌, length, get_or, drop, Option, Some, refl, sym, ap, ◌∙◌, subst}
 use Rattle.fr_plain.specs.declared.value.Value.{Value}
-use Rattle.fr_plain.specs.Acts.{do_end, do_spawn, do_join, do_box, do_let, do_print, do_assign, do_arith, do_discard}
+use Rattle.fr_plain.specs.Acts.{do_spawn, do_join, do_box, do_let, do_print, do_assign, do_arith, do_discard}
 use Rattle.fr_plain.specs.Run as run
 use Rattle.fr_plain.specs.Run.{Capture, Run, going, on_value, now, Move, next, alone, block_end, move, Life, life_move}
 use Rattle.fr_plain.specs.Threads.{act_waits, move_waits}
@@ -22,14 +21,14 @@ use Rattle.fr_meaning.specs.declared.thread.Thread.{Thread}
 use Rattle.fr_meaning.specs.Contexts.{fill, wrap, IsSettled}
 use Rattle.fr_meaning.specs.FormTerms.{AreInOrder, term_of, items_at, captures_of, captures_in, captures_at, parts_from, IsSpawn}
 use Rattle.fr_meaning.specs.DoneTerms.{over, value_of}
-use Rattle.fr_meaning.specs.FrameTerms.{around, around_items, all_around, wrapped, focus_run, IsPastLeft, TopIsPastLeft, HasMadeWay, end_of}
-use Rattle.fr_meaning.specs.Next.{IsNext, OwnNext, JoinsNext, next_waits, starts}
-use Rattle.fr_meaning.specs.Threads.{run_in, IsWell, IsGoingOn, end_act, after_end, life_at}
+use Rattle.fr_meaning.specs.FrameTerms.{around, around_items, all_around, wrapped, focus_run, IsPastLeft, TopIsPastLeft, HasMadeWay}
+use Rattle.fr_meaning.specs.Next.{IsNext, OwnNext, next_waits, starts}
+use Rattle.fr_meaning.specs.Threads.{run_in, IsWell, IsGoingOn, life_at}
 use Rattle.fr_meaning.proofs.ContextLemmas.{now_wrap, move_fill, move_wrap, settled_fill}
 use Rattle.fr_meaning.proofs.FormLemmas.{form_term, get_or-any}
 use Rattle.fr_meaning.proofs.FrameLemmas.{wrap_push, now_temporary}
-use Rattle.fr_meaning.proofs.OwnActs.{IsOwn, Owns, next_owns, move_free}
-use Rattle.fr_meaning.proofs.StepLemmas.{held, discard_move, over_waits, spawn_now, not_done, run_end}
+use Rattle.fr_meaning.proofs.OwnActs.{Owns, next_owns, move_free}
+use Rattle.fr_meaning.proofs.StepLemmas.{held, discard_move, over_waits, not_done, run_end}
 use Rattle.fr_meaning.proofs.WholeSteps.{life_moves, end_moves, own_end, join_moves}
 
 -- AN ACT OF ITS OWN
@@ -104,10 +103,11 @@ pub spawn_captures : (fs : List Form) (i : ℕ) → AreInOrder fs → i < length
 spawn_captures fs i a lt s = by (get_or fs i form.Unit) refl
   where
     by : (m : Form) → get_or fs i form.Unit ≡ m → (r : Run) × (term_of fs i ≡ run.spawn (captures_of (captures_at fs i)) r)
-    by (form.Spawn cs body drops) q =
-        (run.block drops (run.last (term_of fs body)),
-        form_term fs i (get_or fs i form.Unit) (form.Spawn cs body drops) a lt (get_or-any fs i form.Unit (get_or fs i form.Unit) lt) q
-        ∙ ap (λ ds. run.spawn (captures_of ds) (run.block drops (run.last (term_of fs body)))) (sym (ap captures_in q)))
+    by (form.Spawn cs body drops) q = (
+      run.block drops (run.last (term_of fs body)),
+      form_term fs i (get_or fs i form.Unit) (form.Spawn cs body drops) a lt (get_or-any fs i form.Unit (get_or fs i form.Unit) lt) q
+          ∙ ap (λ ds. run.spawn (captures_of ds) (run.block drops (run.last (term_of fs body)))) (sym (ap captures_in q)),
+    )
     by (form.Number x) q = absurd (subst IsSpawn q s)
     by form.Unit q = absurd (subst IsSpawn q s)
     by (form.Read w take) q = absurd (subst IsSpawn q s)

@@ -1,5 +1,5 @@
 -- How a thread stands: what it waits for, why its step is refused, and which names it takes.
-use Rattle.std.proofs.Common.{◌≡◌, ℕ, ℤ, Bool, true, false, List, [], ◌∷◌, length, get_or, Option, Some, None, refl, sym, ap, ◌∙◌, subst}
+use Rattle.std.proofs.Common.{◌≡◌, ℕ, ℤ, Bool, true, false, List, get_or, Option, Some, None, refl, ap, ◌∙◌}
 use Rattle.std.specs.Prelude.{is_some, ◌||◌, option_map, if◌then◌else◌}
 use Rattle.fr_base.specs.declared.label.Plain.TheVariants as plain
 use Rattle.fr_base.specs.declared.step.Fresh.{Fresh}
@@ -9,8 +9,8 @@ use Rattle.fr_plain.specs.declared.value.Value.{Value}
 use Rattle.fr_plain.specs.declared.value.Value.TheVariants.{Own, ToSlot, ToObject}
 use Rattle.fr_plain.specs.Heap.{Heap}
 use Rattle.fr_plain.specs.Run.{Run, life_move}
-use Rattle.fr_plain.specs.Threads.{unless_some, join_waits, result_of_life, result_in as result_in_plain}
-use Rattle.fr_plain.specs.Whole.{Thread as PlainThread, Whole, thread_at, result_at, is_over, waits_for, Refusal, no_thread, has_ended, waits, takes_name, refused_names, refused_wait, refused_of, refused}
+use Rattle.fr_plain.specs.Threads.{unless_some, join_waits, result_in as result_in_plain}
+use Rattle.fr_plain.specs.Whole.{Thread as PlainThread, Whole, result_at, is_over, waits_for, has_ended, takes_name, refused_names, refused_wait, refused_of}
 use Rattle.fr_meaning.specs.declared.error.StepError.{StepError}
 use Rattle.fr_meaning.specs.declared.error.StepError.TheVariants as error
 use Rattle.fr_meaning.specs.declared.forms.Form.{Form}
@@ -23,7 +23,7 @@ use Rattle.fr_meaning.specs.FormTerms.{AreInOrder}
 use Rattle.fr_meaning.specs.Next.{IsNext, next_waits, starts, task_named}
 use Rattle.fr_meaning.specs.Places.{place_of}
 use Rattle.fr_meaning.specs.PoolView.{error_of, refusal, kind_of, need_in, need_of}
-use Rattle.fr_meaning.specs.Threads.{run_in, IsWell, IsGoingOn, is_done, result_in, life_at, thread_of, threads_of, whole, numbers_of}
+use Rattle.fr_meaning.specs.Threads.{run_in, IsWell, IsGoingOn, is_done, result_in, life_at, thread_of, whole, numbers_of}
 use Rattle.fr_meaning.proofs.NextMoves.{next_moves, moves_wait}
 use Rattle.fr_meaning.proofs.ThreadLists.{none_there, there_at}
 use Rattle.fr_meaning.proofs.WholeSteps.{kept_result}

@@ -1,6 +1,6 @@
 -- What is known of a thread whose step can be done.
 use Rattle.std.proofs.Common.{◌≡◌, ℕ, ℤ, zero, suc, ◌<◌, Bool, true, false, List, [], ◌∷◌, length, get_or, Option, Some, None, refl, sym, ap, ◌∙◌, subst, arith}
-use Rattle.std.specs.Prelude.{IsSome, is_some, ◌==◌, option_map, if◌then◌else◌}
+use Rattle.std.specs.Prelude.{IsSome, is_some, option_map, if◌then◌else◌}
 use Rattle.fr_base.specs.declared.label.Plain.TheVariants as plain
 use Rattle.fr_base.specs.declared.step.Fresh.{Fresh}
 use Rattle.fr_base.specs.declared.step.Fresh.TheVariants as fresh
@@ -10,7 +10,7 @@ use Rattle.fr_plain.specs.Heap.{Heap}
 use Rattle.fr_plain.specs.Acts.{Act, do_spawn, do_join, Did, act, lets_go}
 use Rattle.fr_plain.specs.Run.{Run, Move, next, move, Life, life_move}
 use Rattle.fr_plain.specs.Threads.{Passed, result_of_life, result_in as result_in_plain}
-use Rattle.fr_plain.specs.Whole.{Thread as PlainThread, Whole, Stepped, thread_at, is_given, pass, result_at, stepped, then_released, alone_stepped, started, started_with, joined, joined_with, is_nameless, done_act, moved, step_of, step, state_of}
+use Rattle.fr_plain.specs.Whole.{Thread as PlainThread, Whole, Stepped, thread_at, is_given, pass, stepped, then_released, alone_stepped, started_with, joined, joined_with, done_act, moved, step_of, step, state_of}
 use Rattle.fr_meaning.specs.declared.forms.Form.{Form}
 use Rattle.fr_meaning.specs.declared.frame.Frame.{Frame}
 use Rattle.fr_meaning.specs.declared.next.Next.{Next}
@@ -19,7 +19,7 @@ use Rattle.fr_meaning.specs.declared.thread.Stage.{Stage}
 use Rattle.fr_meaning.specs.declared.thread.Stage.TheVariants as stage
 use Rattle.fr_meaning.specs.declared.thread.Thread.{Thread}
 use Rattle.fr_meaning.specs.FormTerms.{AreInOrder, captures_of, captures_at}
-use Rattle.fr_meaning.specs.Next.{IsNext, OwnNext, JoinsNext, starts, task_named}
+use Rattle.fr_meaning.specs.Next.{IsNext, starts, task_named}
 use Rattle.fr_meaning.specs.Places.{place_of}
 use Rattle.fr_meaning.specs.SlotOrder.{newest_first}
 use Rattle.fr_meaning.specs.Threads.{run_in, IsWell, AreWell, IsGoingOn, IsEnded, result_in, life_at, thread_of, threads_of, whole, numbers_of}

@@ -102,10 +102,7 @@ fn go_own(
 {
     reserve_act(running, thread, at)?;
     let mut labels = Labels::new(alloc);
-    labels.reserve(labels_ahead(
-        &running.threads[at].focus,
-        &running.threads[at].frames,
-    ))?;
+    labels.reserve(labels_ahead(&running.threads[at].focus, &running.threads[at].frames))?;
     go_alone(
         forms,
         &mut running.threads,
@@ -154,13 +151,7 @@ fn go_to_end(
 }
 
 // A join of the thread whose task the value is.
-fn go_joining(
-    forms: &[Form],
-    running: &mut Running,
-    thread: ThreadNo,
-    at: usize,
-    value: Value,
-)
+fn go_joining(forms: &[Form], running: &mut Running, thread: ThreadNo, at: usize, value: Value)
     requires order { AreInOrder forms.now }
     requires stands { Stands forms.now running.old }
     requires place { place_of running.old.places.numbers thread ≡ Some at }

@@ -71,7 +71,13 @@ fn refused_names(places: &Places, takes: bool, fresh: &Fresh) -> Option<StepErro
     ensures { (s : Whole) → ((u : ℕ) → is_given s u ≡ is_some (place_of places.now.numbers u)) → result ≡ option_map error_of (names_refused s takes fresh.now) }
 {
     match fresh {
-        Fresh::None => { if takes { Some(StepError::NameKind) } else { None } }
+        Fresh::None => {
+            if takes {
+                Some(StepError::NameKind)
+            } else {
+                None
+            }
+        }
         Fresh::Thread(number) => {
             if !takes {
                 return Some(StepError::NameKind);

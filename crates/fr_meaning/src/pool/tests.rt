@@ -2,9 +2,10 @@
 
 ghost use Rattle.std.specs.Prelude.{◌≡◌, ◌<◌, ◌≤◌, length, IfOk};
 ghost use Rattle.fr_plain.specs.Examples.{left_first, again_lent};
+ghost use Rattle.fr_plain.specs.ThreadRuns.{joined};
 ghost use Rattle.fr_plain.specs.Whole.{start};
 ghost use Rattle.fr_plain.specs.Resolve.{program};
-ghost use Rattle.fr_sound.specs.NeverStuck.{IsTyped};
+ghost use Rattle.fr_sound.specs.Together.{AreTyped};
 ghost use Rattle.fr_meaning.specs.Contexts.{depth};
 ghost use Rattle.fr_meaning.specs.FormTerms.{AreInOrder, root_of};
 
@@ -63,12 +64,32 @@ fn again_lent(alloc: Global) -> Result<Vec<Form>, NoMemory>
     ]?)
 }
 
+// { let mut h = spawn () { 3 }; print join h }
+fn joined(alloc: Global) -> Result<Vec<Form>, NoMemory>
+    ensures order { IfOk result (λ forms. AreInOrder forms.items) }
+    ensures some { IfOk result (λ forms. 0 < length forms.items) }
+    ensures root { IfOk result (λ forms. root_of forms.items ≡ program joined) }
+{
+    let body = vec![in alloc; 0]?;
+    let items = vec![in alloc; 3, 6]?;
+    Ok(vec![in alloc;
+        Form::Number(3),
+        Form::Block(body, 0),
+        Form::Spawn(Vec::new(alloc), 1, 0),
+        Form::Let(2),
+        Form::Read(Lval { slot: 0, depth: 0 }, true),
+        Form::Join(4),
+        Form::Print(5),
+        Form::Block(items, 1),
+    ]?)
+}
+
 // What the program prints, which ends after so many steps.
 fn printed<R: Abort>(rt: &R, alloc: Global, forms: Vec<Form>, steps: u32) -> i64
     requires order { AreInOrder forms.items }
     requires root { 0 < length forms.items }
     requires depth { depth (root_of forms.items) ≤ 64 }
-    requires typed { IsTyped (start (root_of forms.items)) }
+    requires typed { AreTyped (start (root_of forms.items)) }
 {
     let mut pool = Pool::from_forms(alloc, forms).expect(rt, "memory");
     for _ in 0..steps {
@@ -120,4 +141,34 @@ fn steps_and_refuses(rt: HostRuntime) {
     assert!(rt; pool.ending() == Ending3::Finished);
     assert!(rt; pool.needs(main).is_none());
     assert!(rt; matches!(pool.step(main, Fresh::None), Err(StepError::Ended)));
+}
+
+#[test]
+fn starts_and_joins(rt: HostRuntime) {
+    let main = ThreadNo::new(0, 0);
+    let other = ThreadNo::new(0, 1);
+    let forms = joined(rt.alloc()).expect(&rt, "memory");
+    let mut pool = Pool::from_forms(rt.alloc(), forms).expect(&rt, "memory");
+    assert!(rt; pool.needs(main) == Some(Need::Thread));
+    assert!(rt; matches!(pool.step(main, Fresh::None), Err(StepError::NameKind)));
+    assert!(rt;
+        matches!(
+            pool.step(main, Fresh::Thread(main)),
+            Err(StepError::NameUsed)
+        )
+    );
+    pool.step(main, Fresh::Thread(other)).expect(&rt, "memory");
+    pool.step(main, Fresh::None).expect(&rt, "memory");
+    pool.step(main, Fresh::None).expect(&rt, "memory");
+    assert!(rt; matches!(pool.step(main, Fresh::None), Err(StepError::Waits(_))));
+    assert!(rt; pool.needs(other) == Some(Need::Nothing));
+    pool.step(other, Fresh::None).expect(&rt, "memory");
+    assert!(rt; pool.needs(other).is_none());
+    for _ in 0..4 {
+        assert!(rt; pool.ending() == Ending3::Going);
+        pool.step(main, Fresh::None).expect(&rt, "memory");
+    }
+    assert!(rt; pool.ending() == Ending3::Finished);
+    assert_eq!(rt; pool.output().len(), 1);
+    assert_eq!(rt; pool.output()[0], 3);
 }

@@ -1,4 +1,4 @@
-use Rattle.std.proofs.Common.{◌≡◌, Some, None, length, sym, ap, ◌∙◌, subst, arith}
+use Rattle.std.proofs.Common.{sym, ap, ◌∙◌}
 use Rattle.fr_base.specs.declared.label.Plain.TheVariants.{Task}
 use Rattle.fr_base.specs.declared.step.Fresh.TheVariants as fresh
 use Rattle.fr_plain.specs.declared.value.Value.TheVariants.{Own}

@@ -1,4 +1,4 @@
-use Rattle.std.proofs.Common.{◌≡◌, List, get_or, ap, ◌∙◌, subst}
+use Rattle.std.proofs.Common.{List, get_or, ap, ◌∙◌, subst}
 use Rattle.fr_meaning.specs.declared.next.Next.TheVariants as next
 use Rattle.fr_meaning.specs.declared.frame.Focus.{Focus}
 use Rattle.fr_meaning.specs.declared.thread.Thread.{Thread}

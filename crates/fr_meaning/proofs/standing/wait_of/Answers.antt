@@ -1,4 +1,4 @@
-use Rattle.std.proofs.Common.{◌≡◌, true, false, Some, None, List, refl, sym, ap, ◌∙◌, subst, arith}
+use Rattle.std.proofs.Common.{true, false, sym, ap, ◌∙◌, arith}
 use Rattle.fr_meaning.specs.Places.{place_of}
 use Rattle.fr_meaning.specs.Running.{plain_of}
 use Rattle.fr_meaning.specs.Next.{next_waits}

@@ -1,11 +1,11 @@
 use Rattle.std.proofs.Common.{sym, subst}
 use Rattle.fr_plain.specs.Run.{Run}
 use Rattle.fr_plain.specs.Whole.{start}
-use Rattle.fr_sound.specs.NeverStuck.{IsTyped}
-use Rattle.fr_sound.proofs.Example.{examples_start_lem}
+use Rattle.fr_sound.specs.Together.{AreTyped}
+use Rattle.fr_meaning.proofs.ExampleLemmas.{left_first_starts}
 use Rattle.fr_meaning.proofs.pool.tests.left_operand_is_first.Goals as goal
 
 pub printed-requires-clause-typed : goal.printed-requires-clause-typed
 printed-requires-clause-typed g c =
     let e = rw c.expect-forms.ensures at c.left_first.ensures.root in
-    subst (λ (r : Run). IsTyped (start r)) (sym e) examples_start_lem.left_first
+    subst (λ (r : Run). AreTyped (start r)) (sym e) left_first_starts
