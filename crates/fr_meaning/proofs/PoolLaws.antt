@@ -15,15 +15,11 @@ use Rattle.fr_plain.specs.Whole.{Thread, Whole, Stepped, thread_at, with_thread,
 use Rattle.fr_sound.specs.NeverStuck.{IsTyped, Steps}
 use Rattle.fr_sound.proofs.Whole.{never_stuck_lem}
 use Rattle.fr_meaning.specs.declared.error.StepError.{StepError}
+use Rattle.fr_meaning.specs.MainAlone.{IsMainAlone}
 use Rattle.fr_meaning.specs.PoolView.{error_of, refusal}
 use Rattle.fr_meaning.proofs.FormLemmas.{eq_cases}
 use Rattle.fr_meaning.proofs.OneThread.{state_lone, main_owns, main_free}
 use Rattle.fr_meaning.proofs.OwnActs.{Owns, own_done}
-
--- the main thread alone, and typed
-pub record IsMainAlone (s : Whole) : Type 0 where
-  pub typed : IsTyped s
-  pub main : typed.thread.number ≡ 0
 
 head_same : (a b : ℕ) → a ∷ [] ≡ b ∷ [] → a ≡ b
 head_same a b h = cc
