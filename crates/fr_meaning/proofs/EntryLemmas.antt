@@ -54,18 +54,6 @@ same_whole fs xs ys heap new output more e = sym (entries_whole fs ys new more) 
 pub same_entries : (fs : List Form) (xs ys : List Thread) (heap new : Heap) (output more : List ℤ) → viewed fs ys new more ≡ viewed fs xs heap output → entries_of ys ≡ entries_of xs
 same_entries fs xs ys heap new output more e = ap (λ (v : View). v.threads) e
 
--- and have the same numbers
-abbrev numbers_in : List Entry → List ℕ
-numbers_in [] = []
-numbers_in (e ∷ es) = e.number ∷ numbers_in es
-
-numbers_entries : (xs : List Thread) → numbers_in (entries_of xs) ≡ numbers_of xs
-numbers_entries [] = refl
-numbers_entries (x ∷ xs) = ap (λ ns. x.number ∷ ns) (numbers_entries xs)
-
-pub same_numbers : (xs ys : List Thread) → entries_of xs ≡ entries_of ys → numbers_of xs ≡ numbers_of ys
-same_numbers xs ys e = sym (numbers_entries xs) ∙ ap numbers_in e ∙ numbers_entries ys
-
 -- a thread that only has more room
 pub reserved : (fs : List Form) (xs : List Thread) (i : ℕ) (x y : Thread) → i < length xs → x ≡ get_or xs i x → entry_of y ≡ entry_of x → (IsWell fs x → IsWell fs y) → AreWell fs xs → (numbers_of (slice_set xs i y) ≡ numbers_of xs) × AreWell fs (slice_set xs i y)
 reserved fs xs i x y lt is e well all = (numbers_set xs i x y is (ap (λ (q : Entry). q.number) e), well_set fs xs i y (well (well_at fs xs i x lt is all)) all)
@@ -79,8 +67,8 @@ pub same_length : (fs : List Form) (xs ys : List Thread) (heap new : Heap) (outp
 same_length fs xs ys heap new output more e = sym (length_entries ys) ∙ ap length (same_entries fs xs ys heap new output more e) ∙ length_entries xs
 
 -- what comes next of each is the same
-pub own_comes : (n : Next) (xs ys : List Thread) (i : ℕ) → entries_of ys ≡ entries_of xs → i < length ys → ((x : Thread) → x ≡ get_or xs i x → IsNext x.focus x.frames.items n) → (y : Thread) → y ≡ get_or ys i y → IsNext y.focus y.frames.items n
-own_comes n xs ys i e lt h y is =
+pub same_comes : (n : Next) (xs ys : List Thread) (i : ℕ) → entries_of ys ≡ entries_of xs → i < length ys → ((x : Thread) → x ≡ get_or xs i x → IsNext x.focus x.frames.items n) → (y : Thread) → y ≡ get_or ys i y → IsNext y.focus y.frames.items n
+same_comes n xs ys i e lt h y is =
     let k = entries_at ys xs i y e lt is in
     subst (λ (q : Entry). IsNext q.focus q.frames n) (sym k.2) (h k.0 k.1)
 

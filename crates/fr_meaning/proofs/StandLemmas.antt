@@ -61,17 +61,6 @@ task_waits s (Own (plain.Mutex n)) u h = absurd cc
 task_waits s (ToSlot n) u h = absurd cc
 task_waits s (ToObject o) u h = absurd cc
 
--- a value that is no task
-pub no_task : (s : Whole) (v : Value) → task_named v ≡ None → join_waits s v ≡ None
-no_task s (Own (plain.Task t)) h = absurd cc
-no_task s (Own plain.Nothing) h = refl
-no_task s (Own plain.Unit) h = refl
-no_task s (Own (plain.Int n)) h = refl
-no_task s (Own (plain.Box o)) h = refl
-no_task s (Own (plain.Mutex n)) h = refl
-no_task s (ToSlot n) h = refl
-no_task s (ToObject o) h = refl
-
 -- a thread that isn't there
 pub waits_nowhere : (fs : List Form) (xs : List Thread) (heap : Heap) (output : List ℤ) (v : Value) (u : ℕ) → task_named v ≡ Some u → place_of (numbers_of xs) u ≡ None → join_waits (whole fs xs heap output) v ≡ Some (wait.Join u)
 waits_nowhere fs xs heap output v u h e = task_waits (whole fs xs heap output) v u h ∙ ap (λ o. unless_some (result_in_plain o) (wait.Join u)) (none_there fs xs u e)
@@ -135,9 +124,6 @@ need_there fs xs heap output t i x n takes a well h is e comes same =
 -- it has ended or waits
 abbrev pub still : Whole → PlainThread → Bool
 still s x = is_over x.life || is_some (waits_for s x)
-
-pub still_ended : (fs : List Form) (s : Whole) (x : Thread) → is_done x.stage ≡ true → still s (thread_of fs x) ≡ true
-still_ended fs s x e = ap (λ b. b || is_some (waits_for s (thread_of fs x))) (life_done x.stage (run_in fs x) ∙ e)
 
 pub still_waits : (fs : List Form) (s : Whole) (x : Thread) (n : Next) (w : Option Wait) → AreInOrder fs → IsWell fs x → is_done x.stage ≡ false → IsNext x.focus x.frames.items n → next_waits s n ≡ w → still s (thread_of fs x) ≡ is_some w
 still_waits fs s x n w a well e comes h =

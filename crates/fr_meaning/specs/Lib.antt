@@ -13,5 +13,6 @@ pub mod PoolView
 pub mod Entries
 pub mod Running
 pub mod PoolInside
+pub mod MainAlone
 pub mod Forming
 pub mod Resolved

@@ -29,18 +29,6 @@ pub fn value_in(done: Done) -> Value
     }
 }
 
-// The done term, where no frame is left.
-pub fn end_in(focus: &Focus, frames: &[Frame]) -> Option<Done>
-    ensures { result ≡ end_of focus.now frames.now }
-{
-    match focus {
-        Focus::Over(done) => { if frames.is_empty() { Some(*done) } else { None } }
-        Focus::Read(_, _) => None,
-        Focus::Borrow(_, _) => None,
-        Focus::Spawn(_) => None,
-    }
-}
-
 /// How many labels the next step gives at most.
 pub fn labels_ahead(focus: &Focus, frames: &[Frame]) -> usize
     ensures focus { focus_labels focus.now ≤ result }

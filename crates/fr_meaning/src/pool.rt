@@ -46,8 +46,8 @@ impl Model for Pool {
 }
 
 impl Pool {
-    /// The main thread at the start of a checked program's term, alone over an empty heap. Takes time in the program's
-    /// nodes.
+    /// The main thread at the start of a checked program's term, alone over an empty heap; the program has no mutexes and
+    /// no views. Takes time in the program's nodes.
     pub fn new(alloc: Global, checked: &Checked) -> Result<Pool, NoMemory>
         requires threaded { IsThreaded (term_of checked.now.arena) }
         ensures start { IfOk result (λ p. whole_of p ≡ start (program (term_of checked.now.arena))) }

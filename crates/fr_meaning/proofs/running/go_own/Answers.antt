@@ -6,7 +6,7 @@ use Rattle.fr_meaning.specs.declared.next.Next.TheVariants as next
 use Rattle.fr_meaning.specs.declared.thread.Thread.{Thread}
 use Rattle.fr_meaning.specs.Places.{Numbers, place_of}
 use Rattle.fr_meaning.specs.Turning.{focus_labels}
-use Rattle.fr_meaning.proofs.EntryLemmas.{same_whole, same_entries, same_length, own_comes, at_same, on_err}
+use Rattle.fr_meaning.proofs.EntryLemmas.{same_whole, same_entries, same_length, same_comes, at_same, on_err}
 use Rattle.fr_meaning.proofs.ThreadLists.{there_at}
 use Rattle.fr_meaning.proofs.StepFacts.{steps_at, is_on, own_steps}
 use Rattle.fr_meaning.proofs.running.go_own.Goals as goal
@@ -60,7 +60,7 @@ go_alone-requires-clause-goes c = λ x is. (
     let inside : c.args.at < length n.threads.items = omega (arith, same_length fs r.threads.items n.threads.items r.heap.heap n.heap.heap r.output.items n.output.items view, c.requires.inside) in
     let whole = same_whole fs r.threads.items n.threads.items r.heap.heap n.heap.heap r.output.items n.output.items view in
     let place = ap (λ (p : Numbers). place_of p.numbers c.args.thread) c.reserve_act.ensures.places ∙ c.requires.place in
-    let comes = own_comes next.Own r.threads.items n.threads.items c.args.at (same_entries fs r.threads.items n.threads.items r.heap.heap n.heap.heap r.output.items n.output.items view) inside c.requires.next in
+    let comes = same_comes next.Own r.threads.items n.threads.items c.args.at (same_entries fs r.threads.items n.threads.items r.heap.heap n.heap.heap r.output.items n.output.items view) inside c.requires.next in
     let goes = subst (λ (w : Whole). IsSome (step w c.args.thread fresh.None)) (sym whole) c.requires.goes in
     let s = steps_at fs n.threads.items n.heap.heap n.output.items c.args.thread fresh.None c.args.at next.Own n.places.numbers c.requires.order stands.well stands.numbers place inside comes goes x is in
     let first = at_same n.threads.items c.args.at c.index.result.now x inside c.index.ensures is in
