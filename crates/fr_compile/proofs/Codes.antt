@@ -1,18 +1,25 @@
 -- Code that grows: what was added stands there, for each form of a term.
-use Rattle.std.proofs.Common.{◌≡◌, ℕ, zero, suc, ◌+◌, ◌<◌, ◌≤◌, List, [], ◌∷◌, ◌++◌, length, Option, Some, refl, sym, ap, ◌∙◌, subst, arith, length-append}
-use Rattle.std.specs.Prelude.{⊤, slice_get}
+use Rattle.std.proofs.Common.{◌≡◌, ℕ, zero, suc, ◌+◌, ◌<◌, ◌≤◌, Bool, true, false, List, [], ◌∷◌, ◌++◌, length, Some, refl, sym, ap, ◌∙◌, subst, arith, length-append}
+use Rattle.std.specs.Prelude.{slice_get}
 use Rattle.std.proofs.lemmas.List.{append_assoc, append-nil}
+use Rattle.fr_base.specs.declared.place.Lval.{Lval}
 use Rattle.fr_base.specs.declared.place.Op.{Op}
 use Rattle.fr_base.specs.declared.instruction.Operand.{Operand}
 use Rattle.fr_base.specs.declared.instruction.Operand.TheVariants as operand
 use Rattle.fr_base.specs.declared.instruction.Instr.{Instr}
 use Rattle.fr_base.specs.declared.instruction.Instr.TheVariants as instr
-use Rattle.fr_plain.specs.Run.{Run, unit_c, arith as arith_r, block, Parts, last, more, now}
-use Rattle.fr_meaning.specs.FormTerms.{parts_from, parts_of}
-use Rattle.fr_code.specs.StandsFor.{operand_of, operand_of_last, IsSource, AreSource, Discards, DropsAt, Ends, At, AtParts, IsCodeFrom, IsCodeOf}
+use Rattle.fr_base.specs.Captures.{CaptureList}
+use Rattle.fr_plain.specs.Run.{Run, temp, unit_c, number, read, borrow, box_r, arith as arith_r, bind, print, assign, block, spawn, join_r, Parts, last, more, now, one_if_temporary, leaves, leaves_last, steps_left}
+use Rattle.fr_meaning.specs.declared.forms.Form.{Form}
+use Rattle.fr_meaning.specs.FormTerms.{parts_from, parts_of, term_of}
+use Rattle.fr_code.specs.Steps.{captured}
+use Rattle.fr_code.specs.StandsFor.{borrowing, operand_of, operand_of_last, IsSource, AreSource, Discards, DropsAt, At}
 use Rattle.fr_code.proofs.Finished.{later, later_parts}
+use Rattle.fr_compile.specs.declared.body.Body.{Body}
+use Rattle.fr_compile.specs.Bodies.{is_hole, thread_steps}
 use Rattle.fr_compile.specs.Emitting.{Agrees, Grows, IsEmitted, ArePartsEmitted, IsDiscarded, drop_slots, AreAdded}
-use Rattle.fr_compile.proofs.Sources.{parts_source}
+use Rattle.fr_compile.proofs.Bodies.{holes_kept, holes_join, started_first, started_last, steps_join}
+use Rattle.fr_compile.proofs.Sources.{parts_source, term_source}
 
 -- LONGER CODE
 
@@ -21,78 +28,74 @@ append_grows [] b m i h = absurd cc
 append_grows (j ∷ a) b zero i h = h
 append_grows (j ∷ a) b (suc m) i h = append_grows a b m i h
 
-append_at : (a : List Instr) (i : Instr) (b : List Instr) → slice_get (a ++ i ∷ b) (length a) ≡ Some i
+pub append_at : (a : List Instr) (i : Instr) (b : List Instr) → slice_get (a ++ i ∷ b) (length a) ≡ Some i
 append_at [] i b = refl
 append_at (j ∷ a) i b = append_at a i b
 
 pub grows_same : (a : List Instr) → Grows a a
-grows_same a = record { longer = omega arith; same = λ k i lo hi h. h }
+grows_same a = record { longer = omega arith; same = λ k i h. h }
 
 pub grows_append : (a b f : List Instr) → f ≡ a ++ b → Grows a f
 grows_append a b f e =
-    subst (Grows a) (sym e) (record { longer = omega (arith, length-append a b); same = λ k i lo hi h. append_grows a b k i h })
+    subst (Grows a) (sym e) (record { longer = omega (arith, length-append a b); same = λ k i h. append_grows a b k i h })
 
 pub grows_on : (a c f : List Instr) → Grows a c → Grows c f → Grows a f
-grows_on a c f g h = record { longer = omega (arith, g.longer, h.longer); same = λ k i lo hi e. h.same k i lo (omega (arith, hi, g.longer)) (g.same k i lo hi e) }
+grows_on a c f g h = record { longer = omega (arith, g.longer, h.longer); same = λ k i e. h.same k i (g.same k i e) }
 
 -- a later code has a part's instructions where it has all of them
-part_agrees : (c f b : List Instr) (p q m n : ℕ) → Grows c f → n ≤ length c → p ≤ m → n ≤ q → Agrees f b p q → Agrees c b m n
-part_agrees c f b p q m n g le lo hi ag = λ k i l h e. ag k i (omega (arith, l, lo)) (omega (arith, h, hi)) (g.same k i (omega arith) (omega (arith, h, le)) e)
+pub part_agrees : (c f b : List Instr) (p q m n : ℕ) → Grows c f → p ≤ m → n ≤ q → Agrees f b p q → Agrees c b m n
+part_agrees c f b p q m n g lo hi ag = λ k i l h e z. ag k i (omega (arith, l, lo)) (omega (arith, h, hi)) (g.same k i e) z
 
 -- an instruction that was added
-pushed_at : (a f b : List Instr) (i : Instr) (p : ℕ) → f ≡ a ++ i ∷ [] → p ≤ length a → Agrees f b p (length f) → slice_get b (length a) ≡ Some i
-pushed_at a f b i p e le ag =
+pub pushed_at : (a f b : List Instr) (i : Instr) (p : ℕ) → f ≡ a ++ i ∷ [] → is_hole i ≡ false → p ≤ length a → Agrees f b p (length f) → slice_get b (length a) ≡ Some i
+pushed_at a f b i p e known le ag =
     let len : length f ≡ length a + 1 = ap length e ∙ length-append a (i ∷ []) in
-    ag (length a) i le (omega (arith, len)) (subst (λ z. slice_get z (length a) ≡ Some i) (sym e) (append_at a i []))
+    ag (length a) i le (omega (arith, len)) (subst (λ z. slice_get z (length a) ≡ Some i) (sym e) (append_at a i [])) known
 
-pushed_len : (a f : List Instr) (i : Instr) → f ≡ a ++ i ∷ [] → length f ≡ length a + 1
+pub pushed_len : (a f : List Instr) (i : Instr) → f ≡ a ++ i ∷ [] → length f ≡ length a + 1
 pushed_len a f i e = ap length e ∙ length-append a (i ∷ [])
 
--- TERMS
+-- a value that is given up
+discards_at : (c d b : List Instr) (o : Operand) → IsDiscarded c o d → Agrees d b (length c) (length d) → Discards b o (length c) (length d)
+discards_at c d b operand.Pop e ag = (pushed_at c d b instr.Discard (length c) e refl (omega arith) ag, pushed_len c d instr.Discard e)
+discards_at c d b (operand.Const n) e ag = ap length e
+discards_at c d b operand.Unit e ag = ap length e
 
--- a constant has no instruction
-pub constant_emitted : (a : List Instr) (o : Operand) (r : Run) → o ≡ operand_of r → ((b : List Instr) (p : ℕ) → At b p r p) → IsEmitted a a o r
-constant_emitted a o r e stands = record { grows = grows_same a; operand = e; at = λ b ag. stands b (length a) }
+discard_grows : (c d : List Instr) (o : Operand) → IsDiscarded c o d → Grows c d
+discard_grows c d operand.Pop e = grows_append c (instr.Discard ∷ []) d e
+discard_grows c d (operand.Const n) e = subst (Grows c) (sym e) (grows_same c)
+discard_grows c d operand.Unit e = subst (Grows c) (sym e) (grows_same c)
 
--- a term of one instruction
-pub leaf_emitted : (a f : List Instr) (i : Instr) (o : Operand) (r : Run) → f ≡ a ++ i ∷ [] → o ≡ operand_of r → ((b : List Instr) (p q : ℕ) → slice_get b p ≡ Some i → q ≡ p + 1 → At b p r q) → IsEmitted a f o r
-leaf_emitted a f i o r e same stands = record {
-  grows = grows_append a (i ∷ []) f e;
-  operand = same;
-  at = λ b ag. stands b (length a) (length f) (pushed_at a f b i (length a) e (omega arith) ag) (pushed_len a f i e);
-}
+-- a temporary value is given up in a step
+abbrev given_up : Operand → ℕ
+given_up operand.Pop = 1
+given_up (operand.Const n) = 0
+given_up operand.Unit = 0
 
--- a term of one part and one instruction
-pub unary_emitted : (a c f : List Instr) (I : Operand → Instr) (v o : Operand) (r s : Run) → IsEmitted a c v r → f ≡ c ++ I v ∷ [] → o ≡ operand_of s
-    → ((b : List Instr) (p m q : ℕ) → At b p r m → slice_get b m ≡ Some (I (operand_of r)) → q ≡ m + 1 → At b p s q) → IsEmitted a f o s
-unary_emitted a c f I v o r s h e same stands =
-    let g = grows_append c (I v ∷ []) f e in
-    record {
-      grows = grows_on a c f h.grows g;
-      operand = same;
-      at = λ b ag. stands b (length a) (length c) (length f) (h.at b (part_agrees c f b (length a) (length f) (length a) (length c) g (omega arith) (omega arith) g.longer ag)) (pushed_at c f b (I v) (length a) e h.grows.longer ag ∙ ap (λ z. Some (I z)) h.operand) (pushed_len c f (I v) e);
-    }
+discard_len : (c d : List Instr) (o : Operand) → IsDiscarded c o d → length d ≡ length c + given_up o
+discard_len c d operand.Pop e = pushed_len c d instr.Discard e
+discard_len c d (operand.Const n) e = omega (arith, ap length e)
+discard_len c d operand.Unit e = omega (arith, ap length e)
 
--- a term of two parts and one instruction
-pub arith_emitted : (a c d f : List Instr) (op : Op) (v w : Operand) (x y : Run) → IsEmitted a c v x → IsEmitted c d w y → f ≡ d ++ instr.Arith op v w ∷ [] → IsSource y → IsEmitted a f operand.Pop (arith_r op x y)
-arith_emitted a c d f op v w x y h k e src =
-    let g = grows_append d (instr.Arith op v w ∷ []) f e in
-    let gc = grows_on c d f k.grows g in
-    record {
-      grows = grows_on a c f h.grows gc;
-      operand = refl;
-      at = λ b ag. (
-        length c,
-        length d,
-        h.at b (part_agrees c f b (length a) (length f) (length a) (length c) gc (omega arith) (omega arith) gc.longer ag),
-        k.at b (part_agrees d f b (length a) (length f) (length c) (length d) g (omega arith) h.grows.longer g.longer ag),
-        pushed_at d f b (instr.Arith op v w) (length a) e (omega (arith, h.grows.longer, k.grows.longer)) ag ∙ ap (λ z. Some (instr.Arith op z w)) h.operand ∙ ap (λ z. Some (instr.Arith op (operand_of x) z)) k.operand,
-        pushed_len d f (instr.Arith op v w) e,
-        later (now x) (IsSource y) src,
-      );
-    }
+mutual
+  leaves_one : (r : Run) → given_up (operand_of r) ≡ one_if_temporary (leaves r)
+  leaves_one (temp v) = refl
+  leaves_one unit_c = refl
+  leaves_one (number n) = refl
+  leaves_one (read w take) = refl
+  leaves_one (borrow w is_mut) = refl
+  leaves_one (box_r r) = refl
+  leaves_one (arith_r f a b) = refl
+  leaves_one (bind r) = refl
+  leaves_one (print r) = refl
+  leaves_one (assign w r) = refl
+  leaves_one (block k is) = last_leaves_one is
+  leaves_one (spawn cs r) = refl
+  leaves_one (join_r r) = refl
 
--- BLOCKS
+  last_leaves_one : (is : Parts) → given_up (operand_of_last is) ≡ one_if_temporary (leaves_last is)
+  last_leaves_one (last r) = leaves_one r
+  last_leaves_one (more r is) = last_leaves_one is
 
 -- slots that are dropped
 drops_at : (k : ℕ) (c f b : List Instr) → f ≡ c ++ drop_slots k → Agrees f b (length c) (length f) → DropsAt b (length c) k (length f)
@@ -103,9 +106,13 @@ drops_at (suc k) c f b e ag =
     let rest : f ≡ d ++ drop_slots k = e ∙ sym (append_assoc c (instr.DropSlot ∷ []) (drop_slots k)) in
     let g = grows_append d (drop_slots k) f rest in
     let first : slice_get f (length c) ≡ Some instr.DropSlot = subst (λ z. slice_get z (length c) ≡ Some instr.DropSlot) (sym e) (append_at c instr.DropSlot (drop_slots k)) in (
-      ag (length c) instr.DropSlot (omega arith) (omega (arith, g.longer, len)) first,
-      subst (λ z. DropsAt b z k (length f)) len (drops_at k d f b rest (λ j i lo hi h. ag j i (omega (arith, lo, len)) hi h)),
+      ag (length c) instr.DropSlot (omega arith) (omega (arith, g.longer, len)) first refl,
+      subst (λ z. DropsAt b z k (length f)) len (drops_at k d f b rest (λ j i lo hi h z. ag j i (omega (arith, lo, len)) hi h z)),
     )
+
+drops_len : (k : ℕ) → length (drop_slots k) ≡ k
+drops_len zero = refl
+drops_len (suc k) = ap suc (drops_len k)
 
 -- one slot more
 more_drop : (k : ℕ) → instr.DropSlot ∷ drop_slots k ≡ drop_slots k ++ instr.DropSlot ∷ []
@@ -118,67 +125,164 @@ one_more_drop k = let e : k + 1 ≡ suc k = omega arith in ap drop_slots e ∙ m
 pub dropped_next : (a c f : List Instr) (k : ℕ) → c ≡ a ++ drop_slots k → f ≡ c ++ instr.DropSlot ∷ [] → f ≡ a ++ drop_slots (k + 1)
 dropped_next a c f k e h = h ∙ ap (λ z. z ++ instr.DropSlot ∷ []) e ∙ append_assoc a (drop_slots k) (instr.DropSlot ∷ []) ∙ ap (λ z. a ++ z) (sym (one_more_drop k))
 
--- a block's items, and its slots dropped
-pub block_emitted : (a c f : List Instr) (o : Operand) (is : Parts) (k : ℕ) → ArePartsEmitted a c o is → f ≡ c ++ drop_slots k → IsEmitted a f o (block k is)
-block_emitted a c f o is k h e =
-    let g = grows_append c (drop_slots k) f e in
-    record {
-      grows = grows_on a c f h.grows g;
-      operand = h.operand;
-      at = λ b ag. (length c, h.at b (part_agrees c f b (length a) (length f) (length a) (length c) g (omega arith) (omega arith) g.longer ag), drops_at k c f b e (λ j i lo hi q. ag j i (omega (arith, lo, h.grows.longer)) hi q));
-    }
+-- a reference starts no thread
+pub no_borrow : (w : Lval) (is_mut : Bool) → is_hole (borrowing w is_mut) ≡ false
+no_borrow w true = refl
+no_borrow w false = refl
 
--- a value that is given up
-discards_at : (c d b : List Instr) (o : Operand) → IsDiscarded c o d → Agrees d b (length c) (length d) → Discards b o (length c) (length d)
-discards_at c d b operand.Pop e ag = (pushed_at c d b instr.Discard (length c) e (omega arith) ag, pushed_len c d instr.Discard e)
-discards_at c d b (operand.Const n) e ag = ap length e
-discards_at c d b operand.Unit e ag = ap length e
+module _ (fs : List Form) where
+  -- TERMS
 
-discard_grows : (c d : List Instr) (o : Operand) → IsDiscarded c o d → Grows c d
-discard_grows c d operand.Pop e = grows_append c (instr.Discard ∷ []) d e
-discard_grows c d (operand.Const n) e = subst (Grows c) (sym e) (grows_same c)
-discard_grows c d operand.Unit e = subst (Grows c) (sym e) (grows_same c)
+  -- a constant has no instruction
+  pub constant_emitted : (a : List Instr) (bs : List Body) (o : Operand) (r : Run) → o ≡ operand_of r → steps_left r ≡ 0 → ((b : List Instr) (p : ℕ) → At b p r p) → IsEmitted fs a a bs bs o r
+  constant_emitted a bs o r e none stands = record {
+    grows = grows_same a;
+    operand = e;
+    owed = [];
+    added = sym (append-nil bs);
+    holes = omega arith;
+    steps = omega (arith, none);
+    at = λ b ag st. stands b (length a);
+  }
 
--- an item before others
-more_emitted : (a c d f : List Instr) (o v : Operand) (r : Run) (is : Parts) → IsEmitted a c o r → IsDiscarded c o d → ArePartsEmitted d f v is → AreSource is → ArePartsEmitted a f v (more r is)
-more_emitted a c d f o v r is h e k src =
-    let gd = discard_grows c d o e in
-    let gc = grows_on c d f gd k.grows in
-    record {
-      grows = grows_on a c f h.grows gc;
-      operand = k.operand;
-      at = λ b ag. (
-        length c,
-        length d,
-        h.at b (part_agrees c f b (length a) (length f) (length a) (length c) gc (omega arith) (omega arith) gc.longer ag),
-        subst (λ z. Discards b z (length c) (length d)) h.operand (discards_at c d b o e (part_agrees d f b (length a) (length f) (length c) (length d) k.grows (omega arith) h.grows.longer k.grows.longer ag)),
-        k.at b (λ j i lo hi q. ag j i (omega (arith, lo, h.grows.longer, gd.longer)) hi q),
-        later_parts (now r) (AreSource is) src,
-      );
-    }
+  -- a term of one instruction
+  pub leaf_emitted : (a f : List Instr) (bs : List Body) (i : Instr) (o : Operand) (r : Run) → f ≡ a ++ i ∷ [] → is_hole i ≡ false → o ≡ operand_of r → steps_left r ≡ 1 →
+      ((b : List Instr) (p q : ℕ) → slice_get b p ≡ Some i → q ≡ p + 1 → At b p r q) → IsEmitted fs a f bs bs o r
+  leaf_emitted a f bs i o r e known same one stands =
+      let len = pushed_len a f i e in
+      record {
+        grows = grows_append a (i ∷ []) f e;
+        operand = same;
+        owed = [];
+        added = sym (append-nil bs);
+        holes = omega (arith, len);
+        steps = omega (arith, len, one);
+        at = λ b ag st. stands b (length a) (length f) (pushed_at a f b i (length a) e known (omega arith) ag) len;
+      }
 
-module _ (look : ℕ → Run) (sources : (i : ℕ) → IsSource (look i)) where
+  -- a term that starts a thread: the thread's body is still to come
+  pub spawn_emitted : (a f : List Instr) (bs cs : List Body) (b : Body) (xs : CaptureList) (body r : Run) → f ≡ a ++ instr.Spawn xs 0 ∷ [] → b.hole ≡ length a → b.form < length fs → term_of fs b.form ≡ r → r ≡ spawn (captured xs.items) body →
+      cs ≡ bs ++ b ∷ [] → IsEmitted fs a f bs cs operand.Pop r
+  spawn_emitted a f bs cs b xs body r e place here is spawns pushed =
+      let len = pushed_len a f (instr.Spawn xs 0) e in
+      let there = subst (λ z. slice_get z (length a) ≡ Some (instr.Spawn xs 0)) (sym e) (append_at a (instr.Spawn xs 0) []) in
+      let next : b.hole + 1 ≡ length f = omega (arith, place, len) in
+      record {
+        grows = grows_append a (instr.Spawn xs 0 ∷ []) f e;
+        operand = ap operand_of (sym spawns);
+        owed = b ∷ [];
+        added = pushed;
+        holes = (
+          omega (arith, place),
+          record { here = here; captures = xs; body = body; term = is ∙ spawns; there = subst (λ k. slice_get f k ≡ Some (instr.Spawn xs 0)) (sym place) there },
+          omega (arith, next),
+        );
+        steps = omega (arith, len, ap thread_steps (is ∙ spawns), ap steps_left spawns);
+        at = λ d ag st. subst (λ p. At d p r (length f)) place (subst (λ q. At d b.hole r q) next (subst (λ s. At d b.hole s (b.hole + 1)) is st.0));
+      }
+
+  -- a term of one part and one instruction
+  pub unary_emitted : (a c f : List Instr) (bs cs : List Body) (I : Operand → Instr) (v o : Operand) (r s : Run) → IsEmitted fs a c bs cs v r → f ≡ c ++ I v ∷ [] → is_hole (I v) ≡ false → o ≡ operand_of s → steps_left s ≡ steps_left r + 1 →
+      ((b : List Instr) (p m q : ℕ) → At b p r m → slice_get b m ≡ Some (I (operand_of r)) → q ≡ m + 1 → At b p s q) → IsEmitted fs a f bs cs o s
+  unary_emitted a c f bs cs I v o r s h e known same one stands =
+      let g = grows_append c (I v ∷ []) f e in
+      let len = pushed_len c f (I v) e in
+      record {
+        grows = grows_on a c f h.grows g;
+        operand = same;
+        owed = h.owed;
+        added = h.added;
+        holes = holes_kept fs c f (length a) (length c) (length f) h.owed (λ k i lo. g.same k i) g.longer h.holes;
+        steps = omega (arith, len, one, h.steps);
+        at = λ b ag st. stands b (length a) (length c) (length f) (h.at b (part_agrees c f b (length a) (length f) (length a) (length c) g (omega arith) g.longer ag) st) (pushed_at c f b (I v) (length a) e known h.grows.longer ag ∙ ap (λ z. Some (I z)) h.operand) len;
+      }
+
+  -- a term of two parts and one instruction
+  pub arith_emitted : (a c d f : List Instr) (bs cs ds : List Body) (op : Op) (v w : Operand) (x y : Run) → IsEmitted fs a c bs cs v x → IsEmitted fs c d cs ds w y → f ≡ d ++ instr.Arith op v w ∷ [] → IsSource y →
+      IsEmitted fs a f bs ds operand.Pop (arith_r op x y)
+  arith_emitted a c d f bs cs ds op v w x y h k e src =
+      let g = grows_append d (instr.Arith op v w ∷ []) f e in
+      let gc = grows_on c d f k.grows g in
+      let len = pushed_len d f (instr.Arith op v w) e in
+      record {
+        grows = grows_on a c f h.grows gc;
+        operand = refl;
+        owed = h.owed ++ k.owed;
+        added = k.added ∙ ap (λ z. z ++ k.owed) h.added ∙ append_assoc bs h.owed k.owed;
+        holes = holes_join fs f (length a) (length c) (length f) h.owed k.owed
+            (holes_kept fs c f (length a) (length c) (length c) h.owed (λ n i lo. gc.same n i) (omega arith) h.holes)
+            (holes_kept fs d f (length c) (length d) (length f) k.owed (λ n i lo. g.same n i) g.longer k.holes);
+        steps = omega (arith, len, h.steps, k.steps, steps_join fs h.owed k.owed);
+        at = λ b ag st. (
+          length c,
+          length d,
+          h.at b (part_agrees c f b (length a) (length f) (length a) (length c) gc (omega arith) gc.longer ag) (started_first fs b h.owed k.owed st),
+          k.at b (part_agrees d f b (length a) (length f) (length c) (length d) g h.grows.longer g.longer ag) (started_last fs b h.owed k.owed st),
+          pushed_at d f b (instr.Arith op v w) (length a) e refl (omega (arith, h.grows.longer, k.grows.longer)) ag ∙ ap (λ z. Some (instr.Arith op z w)) h.operand ∙ ap (λ z. Some (instr.Arith op (operand_of x) z)) k.operand,
+          len,
+          later (now x) (IsSource y) src,
+        );
+      }
+
+  -- BLOCKS
+
+  -- a block's items, and its slots dropped
+  pub block_emitted : (a c f : List Instr) (bs cs : List Body) (o : Operand) (is : Parts) (k : ℕ) → ArePartsEmitted fs a c bs cs o is → f ≡ c ++ drop_slots k → IsEmitted fs a f bs cs o (block k is)
+  block_emitted a c f bs cs o is k h e =
+      let g = grows_append c (drop_slots k) f e in
+      let len : length f ≡ length c + k = ap length e ∙ length-append c (drop_slots k) ∙ ap (λ n. length c + n) (drops_len k) in
+      record {
+        grows = grows_on a c f h.grows g;
+        operand = h.operand;
+        owed = h.owed;
+        added = h.added;
+        holes = holes_kept fs c f (length a) (length c) (length f) h.owed (λ n i lo. g.same n i) g.longer h.holes;
+        steps = omega (arith, len, h.steps);
+        at = λ b ag st. (length c, h.at b (part_agrees c f b (length a) (length f) (length a) (length c) g (omega arith) g.longer ag) st, drops_at k c f b e (λ j i lo hi q z. ag j i (omega (arith, lo, h.grows.longer)) hi q z));
+      }
+
+  -- the last item
+  pub last_emitted : (a f : List Instr) (bs cs : List Body) (o : Operand) (r : Run) → IsEmitted fs a f bs cs o r → ArePartsEmitted fs a f bs cs o (last r)
+  last_emitted a f bs cs o r h = record { grows = h.grows; operand = h.operand; owed = h.owed; added = h.added; holes = h.holes; steps = h.steps; at = h.at }
+
+  -- an item before others
+  more_emitted : (a c d f : List Instr) (bs cs ds : List Body) (o v : Operand) (r : Run) (is : Parts) → IsEmitted fs a c bs cs o r → IsDiscarded c o d → ArePartsEmitted fs d f cs ds v is → AreSource is → ArePartsEmitted fs a f bs ds v (more r is)
+  more_emitted a c d f bs cs ds o v r is h e k src =
+      let gd = discard_grows c d o e in
+      let gc = grows_on c d f gd k.grows in
+      let len = discard_len c d o e in
+      let up = ap given_up h.operand ∙ leaves_one r in
+      record {
+        grows = grows_on a c f h.grows gc;
+        operand = k.operand;
+        owed = h.owed ++ k.owed;
+        added = k.added ∙ ap (λ z. z ++ k.owed) h.added ∙ append_assoc bs h.owed k.owed;
+        holes = holes_join fs f (length a) (length d) (length f) h.owed k.owed (holes_kept fs c f (length a) (length c) (length d) h.owed (λ n i lo. gc.same n i) gd.longer h.holes) k.holes;
+        steps = omega (arith, len, up, h.steps, k.steps, steps_join fs h.owed k.owed);
+        at = λ b ag st. (
+          length c,
+          length d,
+          h.at b (part_agrees c f b (length a) (length f) (length a) (length c) gc (omega arith) gc.longer ag) (started_first fs b h.owed k.owed st),
+          subst (λ z. Discards b z (length c) (length d)) h.operand (discards_at c d b o e (part_agrees d f b (length a) (length f) (length c) (length d) k.grows h.grows.longer k.grows.longer ag)),
+          k.at b (λ j i lo hi q z. ag j i (omega (arith, lo, h.grows.longer, gd.longer)) hi q z) (started_last fs b h.owed k.owed st),
+          later_parts (now r) (AreSource is) src,
+        );
+      }
+
   -- items behind one that was added
-  added_from : (i : ℕ) (is : List ℕ) (a c f : List Instr) (o v : Operand) → IsEmitted a c o (look i) → AreAdded look is c o f v → ArePartsEmitted a f v (parts_from look i is)
-  added_from i [] a c f o v h e =
-      let k : ArePartsEmitted a c o (last (look i)) = record { grows = h.grows; operand = h.operand; at = h.at } in
-      subst (λ z. ArePartsEmitted a z v (last (look i))) (sym e.0) (subst (λ z. ArePartsEmitted a c z (last (look i))) (sym e.1) k)
-  added_from i (j ∷ is) a c f o v h e = more_emitted a c e.0 f o v (look i) (parts_from look j is) h e.3 (added_from j is e.0 e.1 f e.2 v e.4 e.5) (parts_source look sources j is)
+  added_from : (i : ℕ) (is : List ℕ) (a c f : List Instr) (bs cs ds : List Body) (o v : Operand) → IsEmitted fs a c bs cs o (term_of fs i) → AreAdded fs is c cs o f ds v → ArePartsEmitted fs a f bs ds v (parts_from (term_of fs) i is)
+  added_from i [] a c f bs cs ds o v h e =
+      let k = last_emitted a c bs cs o (term_of fs i) h in
+      subst (λ z. ArePartsEmitted fs a z bs ds v (last (term_of fs i))) (sym e.0) (subst (λ z. ArePartsEmitted fs a c bs z v (last (term_of fs i))) (sym e.1) (subst (λ z. ArePartsEmitted fs a c bs cs z (last (term_of fs i))) (sym e.2) k))
+  added_from i (j ∷ is) a c f bs cs ds o v h e =
+      more_emitted a c e.0 f bs cs ds o v (term_of fs i) (parts_from (term_of fs) j is) h e.4 (added_from j is e.0 e.1 f cs e.2 ds e.3 v e.5 e.6) (parts_source (term_of fs) (term_source fs) j is)
+
+  -- no item
+  nothing_added : (a : List Instr) (bs : List Body) → ArePartsEmitted fs a a bs bs operand.Unit (last unit_c)
+  nothing_added a bs = last_emitted a a bs bs operand.Unit unit_c (constant_emitted a bs operand.Unit unit_c refl refl (λ b p. refl))
 
   -- all items of a block
-  pub all_added : (is : List ℕ) (a f : List Instr) (v : Operand) → AreAdded look is a operand.Unit f v → ArePartsEmitted a f v (parts_of look is)
-  all_added [] a f v e = subst (λ z. ArePartsEmitted a z v (last unit_c)) (sym e.0) (record { grows = grows_same a; operand = e.1; at = λ b ag. refl })
-  all_added (i ∷ is) a f v e = subst (λ z. ArePartsEmitted z f v (parts_from look i is)) e.3 (added_from i is e.0 e.1 f e.2 v e.4 e.5)
-
--- PROGRAMS
-
--- the code of a program's term, and its end
-pub program_emitted : (a f : List Instr) (o : Operand) (r s : Run) → IsEmitted [] a o r → f ≡ a ++ instr.End o ∷ [] → r ≡ s → IsSource r → IsCodeOf f s
-program_emitted a f o r s h e same src =
-    let g = grows_append a (instr.End o ∷ []) f e in
-    subst (IsCodeOf f) same (record {
-      to = length a;
-      at = h.at f (λ k i lo hi q. g.same k i lo hi q);
-      over = subst (Ends f (length a)) h.operand (subst (λ z. slice_get z (length a) ≡ Some (instr.End o)) (sym e) (append_at a (instr.End o) []));
-      source = src;
-    })
+  pub all_added : (is : List ℕ) (a f : List Instr) (bs ds : List Body) (v : Operand) → AreAdded fs is a bs operand.Unit f ds v → ArePartsEmitted fs a f bs ds v (parts_of (term_of fs) is)
+  all_added [] a f bs ds v e =
+      subst (λ z. ArePartsEmitted fs a z bs ds v (last unit_c)) (sym e.0) (subst (λ z. ArePartsEmitted fs a a bs z v (last unit_c)) (sym e.1) (subst (λ z. ArePartsEmitted fs a a bs bs z (last unit_c)) (sym e.2) (nothing_added a bs)))
+  all_added (i ∷ is) a f bs ds v e = subst (λ z. ArePartsEmitted fs z f bs ds v (parts_from (term_of fs) i is)) e.4 (added_from i is e.0 e.1 f bs e.2 ds e.3 v e.5 e.6)

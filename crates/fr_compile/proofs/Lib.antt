@@ -1,4 +1,7 @@
 pub mod Sources
+pub mod Bodies
+pub mod Captured
 pub mod Codes
+pub mod Queue
 pub mod Forms
-pub mod Alone
+pub mod Few

@@ -1,5 +1,5 @@
 -- In the term of a form no step was made.
-use Rattle.std.proofs.Common.{◌≡◌, ℕ, ◌==◌, Bool, true, false, List, [], ◌∷◌, length}
+use Rattle.std.proofs.Common.{ℕ, ◌==◌, Bool, true, false, List, [], ◌∷◌, length}
 use Rattle.std.specs.Prelude.{if◌then◌else◌}
 use Rattle.fr_plain.specs.Run.{Run}
 use Rattle.fr_meaning.specs.declared.forms.Form.{Form}

@@ -1,26 +1,27 @@
 //! The code of a program.
 
 ghost use Rattle.std.specs.Prelude.{IfOk};
-ghost use Rattle.fr_typing.specs.Sequential.{IsSequential};
+ghost use Rattle.fr_typing.specs.Threaded.{IsThreaded};
 ghost use Rattle.fr_syntax.specs.Meanings.{term_of};
 ghost use Rattle.fr_plain.specs.Resolve.{program};
 ghost use Rattle.fr_code.specs.StandsFor.{IsCodeOf};
 
-use crate::emitting::emit;
+use crate::threads::emit_threads;
 use borrow_check::Checked;
-use fr_base::{Code, Instr, NoMemory};
+use fr_base::{Code, NoMemory};
 use fr_meaning::forms_of;
 use std::alloc::Global;
 
-/// The code of a checked program of one thread's forms: it stands for the program, so it does the program's steps. It takes time in the number of nodes, and stack in the depth of the program, which is at
-/// most 64.
+/// The code of a checked program: it stands for the program, so it does the program's steps. The main thread's code comes first and ends with its `End`; behind it stands the code of each new thread, in the
+/// order in which the instructions that start them stand in the code. It takes time in the number of nodes and captured names, and stack in the depth of the program, which is at most 64.
 pub fn compile(alloc: Global, checked: &Checked) -> Result<Code, NoMemory>
-    requires sequential { IsSequential (term_of checked.now.arena) }
+    requires threaded { IsThreaded (term_of checked.now.arena) }
     ensures { IfOk result (λ code. IsCodeOf code.items (program (term_of checked.now.arena))) }
 {
     let forms = forms_of(alloc, checked)?;
     let mut code = Code::new(alloc);
-    let value = emit(&forms, forms.len() - 1, &mut code)?;
-    code.push(Instr::End(value))?;
+    // In most programs there are about as many instructions as nodes.
+    code.reserve(checked.tree().len() as usize)?;
+    emit_threads(alloc, &forms, &mut code)?;
     Ok(code)
 }

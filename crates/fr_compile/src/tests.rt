@@ -1,7 +1,7 @@
 //! The codes of small programs.
 
 ghost use Rattle.std.specs.Prelude.{◌≤◌, length, IfOk};
-ghost use Rattle.fr_typing.specs.Sequential.{IsSequential};
+ghost use Rattle.fr_typing.specs.Threaded.{IsThreaded};
 ghost use Rattle.fr_syntax.specs.Meanings.{term_of};
 ghost use Rattle.borrow_check.specs.Programs.{IsCheckable};
 
@@ -16,7 +16,7 @@ use std::test::Fail;
 // The tree of `{ let mut x = box 1; *x = 2; print *x }`.
 fn boxed(alloc: Global) -> Result<Tree, NoMemory>
     ensures checkable { IfOk result IsCheckable }
-    ensures sequential { IfOk result (λ tree. IsSequential (term_of tree)) }
+    ensures threaded { IfOk result (λ tree. IsThreaded (term_of tree)) }
 {
     let mut tree = Tree::new(alloc);
     let x = tree.add_name("x")?;
@@ -37,7 +37,7 @@ fn boxed(alloc: Global) -> Result<Tree, NoMemory>
 // The tree of `{ let mut x = 1; &mut x; print x }`.
 fn lent(alloc: Global) -> Result<Tree, NoMemory>
     ensures checkable { IfOk result IsCheckable }
-    ensures sequential { IfOk result (λ tree. IsSequential (term_of tree)) }
+    ensures threaded { IfOk result (λ tree. IsThreaded (term_of tree)) }
 {
     let mut tree = Tree::new(alloc);
     let x = tree.add_name("x")?;
@@ -53,8 +53,8 @@ fn lent(alloc: Global) -> Result<Tree, NoMemory>
     Ok(tree)
 }
 
-// The code has these instructions and no other.
-fn has_code<R: Abort>(rt: &R, alloc: Global, code: &Code, expected: &[&str]) -> Result<(), Fail>
+/// The code has these instructions and no other.
+pub fn has_code<R: Abort>(rt: &R, alloc: Global, code: &Code, expected: &[&str]) -> Result<(), Fail>
     requires few { length expected.now ≤ 100 }
 {
     assert_eq!(rt; code.len(), expected.len() as u64);

@@ -1,5 +1,4 @@
 use Rattle.std.proofs.Common.{◌+◌, ◌*◌, drop}
-use Rattle.fr_meaning.specs.FormTerms.{term_of}
 use Rattle.fr_compile.proofs.Forms.{Leads}
 use Rattle.fr_compile.proofs.emitting.+emit.Given as goal
 
@@ -11,4 +10,4 @@ decreases-emit_items l = 2 * l.bound
 
 -- whatever comes of the items that are left comes of the block
 abbrev pub invariant-emit_items-items : goal.invariant-emit_items-items
-invariant-emit_items-items l = Leads (term_of l.forms) l.items l.initial.code.items (drop l.next l.items) l.code.items l.value
+invariant-emit_items-items l = Leads l.forms l.items l.initial.code.items l.initial.bodies.items (drop l.next l.items) l.code.items l.bodies.items l.value
