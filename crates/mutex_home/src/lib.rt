@@ -1,0 +1,2 @@
+//! The mutexes of one server: content, shares and who waits (this project's rules). So far the definitions alone.
+#![tactic(auto)]
