@@ -1,0 +1,87 @@
+-- Clusters that each break one sentence, and no other.
+use Rattle.std.specs.Prelude.{◌≡◌, ℕ, ◌+◌, ◌*◌, ◌^◌, Bool, true, false, ℤ, pos, List, [], ◌∷◌, ◌++◌, Option, Some, None, slice_set}
+use Rattle.fr_base.specs.declared.name.MutexNo.{MutexNo}
+use Rattle.fr_base.specs.declared.release.Released.TheVariants as released
+use Rattle.fr_base.specs.declared.instruction.Operand.TheVariants as operand
+use Rattle.fr_base.specs.declared.instruction.Instr.{Instr}
+use Rattle.fr_base.specs.declared.instruction.Instr.TheVariants as instr
+use Rattle.global_addr.specs.Words.{word_of}
+use Rattle.heap_partition.specs.declared.value.Cell.{Cell}
+use Rattle.heap_partition.specs.declared.value.Owned.{Owned}
+use Rattle.heap_partition.specs.declared.value.Owned.TheVariants as owned
+use Rattle.thread_state.specs.View.{ThreadView, new_thread}
+use Rattle.thread_state.specs.declared.value.Value.{Value}
+use Rattle.thread_state.specs.declared.value.Value.TheVariants as value
+use Rattle.thread_state.specs.declared.phase.Phase.{Phase}
+use Rattle.thread_state.specs.declared.phase.Phase.TheVariants as phase
+use Rattle.read_cache.specs.Cache.{Copy}
+use Rattle.mutex_home.specs.Mutexes.{Mutex}
+use Rattle.join_home.specs.Tasks.{Task, going, let_go, kept, asked, in_pair}
+use Rattle.server_msgs.specs.declared.message.Message.{Message}
+use Rattle.server_msgs.specs.declared.message.Message.TheVariants.{Fetch, Fetched, Move, Moved, Drop, Lock, Granted, Unlock, Dup, Dupped, Release, Start, Join, Joined, Finished, Migrate}
+use Rattle.server_model.specs.Servers.{Sent, Server, Cluster}
+use Rattle.heap_law.specs.Coherent.{Sentence, broken, home_of_each, owner_of_each, owned_are_live, are_issued, below_limit, same_word, lead_home, one_state, first_at_holder, different_words, dirty_alone, copies_agree, served_are_clean, passed_lie_here, passed_not_copied, passed_not_stale, passed_in_a_walk, passed_within, walk_empty, parcels_ready, place_followed, waits_in_turn, asks_others, users_counted, uses_cached, one_answer, asked_answers, carry_what_is_asked, go_right, return_right, askers_stand, phases_stand, par_ends, pairs_noted, cells_awaited, taken_stands, taken_is_new, gifts_got, gifts_fit, named_are_there, at_their_home, one_content, shares_counted, queue_while_out, content_without_shares, thread_homes, noted_go_on, kept_at_home, results_after_end, one_task_value, task_values_owed, one_result, pairs_ended, joined_ended, recorded_stand, numbers_differ, objects_made, names_counted, few_names, counts_bounded, parts_are_typed}
+use Rattle.heap_law.specs.Clusters.{place, thread_no, object, int, cell, box, the_mutex, word_0, word_1, word_2, word_3, dirty_reference, shared_reference, main_slots, main_waiting, reader, locker, joiner, worker, partition_0, partition_1, copy_of, held_mutex, task, server_0, server_1, cluster, middle}
+use Rattle.heap_law.specs.Busy.{busy_partition, busy_0, busy_1, of_busy}
+
+-- server 0 of the middle of a run with other cells, with another message behind its own, with another main thread
+abbrev with_cells : List (Option Cell) → Server
+with_cells cs = record server_0 { partition = record partition_0 { cells = cs } }
+
+abbrev with_message : Server → Message → Server
+with_message s m = record s { inbox = s.inbox ++ m ∷ [] }
+
+abbrev with_main : ThreadView → Server
+with_main t = record server_0 { threads = t ∷ locker ∷ worker ∷ [] }
+
+abbrev with_slot : ℕ → Value → Server
+with_slot i v = with_main (record main_waiting { slots = slice_set main_slots i v })
+
+abbrev with_worker : ThreadView → Server
+with_worker t = record server_0 { threads = main_waiting ∷ locker ∷ t ∷ [] }
+
+abbrev with_reader : ThreadView → Server
+with_reader t = record server_1 { threads = t ∷ joiner ∷ [] }
+
+abbrev with_copies : List Copy → Server
+with_copies cs = record server_1 { cache = cs }
+
+abbrev with_locker : ThreadView → Server
+with_locker t = record server_0 { threads = main_waiting ∷ t ∷ worker ∷ [] }
+
+abbrev with_mutex : Mutex → Server
+with_mutex m = record server_0 { mutexes = record { home = 0; made = 1; there = m ∷ [] } }
+
+-- THE MEMORY
+
+-- the cluster breaks that sentence alone
+abbrev Breaks : Sentence → Cluster → Type 0
+Breaks n k = broken k ≡ n ∷ []
+
+pub record MemoryBreaks : Type 0 where
+  -- object 0 is under way and lies at its old address
+  pub two_homes : Breaks home_of_each (of_busy (record busy_0 { partition = record busy_partition { cells = cell 0 (int 1) ∷ None ∷ cell 2 (int 5) ∷ cell 3 (int 6) ∷ []; free = (1, 1) ∷ [] } }) busy_1)
+  -- a second box of object 1
+  pub two_owners : Breaks owner_of_each (cluster (with_locker (record locker { slots = value.Own (owned.Mutex the_mutex) ∷ value.Held the_mutex ∷ value.Own (box word_1 1) ∷ [] })) server_1)
+  -- a dropped object without its message, so no pointer to it has a word
+  pub no_owner : broken (cluster (record server_0 { inbox = [] }) server_1) ≡ owner_of_each ∷ lead_home ∷ []
+  -- a box of an object that isn't there
+  pub no_object : Breaks owned_are_live (cluster (with_locker (record locker { slots = value.Own (owned.Mutex the_mutex) ∷ value.Held the_mutex ∷ value.Own (box word_1 9) ∷ [] })) server_1)
+  -- a copy under a word that was never issued
+  pub not_issued : Breaks are_issued (cluster server_0 (with_copies (copy_of (word_of 3 0 1) 1 (int 5) 0 ∷ copy_of word_3 3 (int 3) 1 ∷ [])))
+  -- a free address goes on from the colour limit
+  pub no_colour : Breaks below_limit (cluster (record server_0 { partition = record partition_0 { free = (5, 4) ∷ [] } }) server_1)
+  -- a shared reference with an older word
+  pub two_words : Breaks same_word (cluster (with_slot 3 (value.Shared (record shared_reference { word = word_of 0 0 0 }))) server_1)
+  -- the owner's word leads to another address
+  pub elsewhere : Breaks lead_home (cluster (record server_0 { partition = record partition_0 { cells = cell 0 (int 1) ∷ cell 1 (int 5) ∷ cell 2 (int 6) ∷ None ∷ cell 3 (int 3) ∷ None ∷ [] } }) server_1)
+  -- a live address is free
+  pub live_and_free : Breaks one_state (cluster (record server_0 { partition = record partition_0 { free = (5, 1) ∷ (3, 1) ∷ [] } }) server_1)
+  -- a reference was made from another word
+  pub other_first : Breaks first_at_holder (cluster (with_slot 2 (value.Mut (record dirty_reference { first = word_of 0 0 0 }))) server_1)
+  -- a dirty reference beside a shared one to its object
+  pub dirty_shared : Breaks dirty_alone (cluster (with_slot 3 (value.Shared (record { word = word_0; object = object 0; pinned = false }))) server_1)
+  -- a clean reference made from a dirty one
+  pub dirty_below : Breaks dirty_alone (cluster (with_slot 3 (value.Mut (record { word = word_0; first = word_0; object = object 0; dirty = false; holder = place 2 0 }))) server_1)
+  -- a copy with an old value under the object's word
+  pub old_copy : Breaks copies_agree (cluster server_0 (with_copies (copy_of word_1 1 (int 4) 0 ∷ copy_of word_3 3 (int 3) 1 ∷ [])))

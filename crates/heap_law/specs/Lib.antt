@@ -1,0 +1,17 @@
+pub mod Names
+pub mod Things
+pub mod Follow
+pub mod Stale
+pub mod Sight
+pub mod Weights
+pub mod Paths
+pub mod Placing
+pub mod Walking
+pub mod Requests
+pub mod Sharing
+pub mod Naming
+pub mod Coherent
+pub mod Clusters
+pub mod Busy
+pub mod Sound
+pub mod Broken
