@@ -19,11 +19,13 @@ use Rattle.server_model.specs.Servers.{Server, Cluster}
 use Rattle.heap_law.specs.Clusters.{place, thread_no, object, int, cell, box, options, the_mutex, copy_of, task}
 
 -- instructions by their places: 0 a write through slot 0's box, 1 a mutable borrow there, 2 the end of a par, 3 a lock, 4 a dup, 5 a join, 6 a read through
--- slot 0's box, 7 an end
+-- slot 0's box, 7 an end, 8 a write through slot 1's reference,
+-- 9 a mutable borrow of what two boxes lead to
 abbrev pub busy_code : List Instr
 busy_code =
     instr.Assign (place 0 1) (operand.Const (pos 2)) ∷ instr.BorrowMut (place 0 1) ∷ instr.ParEnd ∷ instr.Lock (place 0 0) ∷ instr.Dup (place 0 0)
-    ∷ instr.Join operand.Pop ∷ instr.Read (place 0 1) false ∷ instr.End operand.Unit ∷ []
+    ∷ instr.Join operand.Pop ∷ instr.Read (place 0 1) false ∷ instr.End operand.Unit ∷ instr.Assign (place 1 1) (operand.Const (pos 2))
+    ∷ instr.BorrowMut (place 0 2) ∷ []
 
 -- object 0 flies from server 0 to 1; object 1 was pulled to server 1; objects 2 and 3 lie at server 0
 abbrev pub old_0 : ℕ

@@ -15,3 +15,4 @@ pub mod Clusters
 pub mod Busy
 pub mod Sound
 pub mod Broken
+pub mod BrokenRest

@@ -1,7 +1,8 @@
 //! Laws of coherent memory.
 
 ghost use Rattle.heap_law.specs.Sound.{SoundCompute};
-ghost use Rattle.heap_law.specs.Broken.{MemoryBreaks};
+ghost use Rattle.heap_law.specs.Broken.{MemoryBreaks, WalksBreak};
+ghost use Rattle.heap_law.specs.BrokenRest.{RequestsBreak, SharingBreaks, NamesBreak};
 
 /// Clusters that break no sentence.
 pub fn sound_compute()
@@ -11,4 +12,8 @@ pub fn sound_compute()
 /// Clusters that each break one sentence, and no other.
 pub fn breaks_compute()
     ensures memory { MemoryBreaks }
+    ensures walks { WalksBreak }
+    ensures requests { RequestsBreak }
+    ensures sharing { SharingBreaks }
+    ensures names { NamesBreak }
 {}
