@@ -4,6 +4,7 @@
 
 mod event;
 mod hop;
+pub mod laws;
 
 pub use event::{Event, What};
 pub use hop::Hop;
