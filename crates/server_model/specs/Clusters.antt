@@ -1,6 +1,5 @@
 -- Events of a cluster (this project's rules): an event is done at its server, and its messages then wait at theirs.
-use Rattle.std.specs.Prelude.{ℕ, ◌+◌, ◌==◌, if◌then◌else◌, List, [], ◌∷◌, ◌++◌, length, Option, Some, None, option_map}
-use Rattle.fr_base.specs.declared.instruction.Instr.{Instr}
+use Rattle.std.specs.Prelude.{◌==◌, if◌then◌else◌, List, [], ◌∷◌, ◌++◌, Option, None, option_map}
 use Rattle.server_msgs.specs.declared.message.Message.{Message}
 use Rattle.journal.specs.declared.entry.Entry.{Entry}
 use Rattle.server_model.specs.declared.event.Event.{Event}

@@ -15,7 +15,6 @@ use Rattle.fr_base.specs.declared.instruction.Instr.TheVariants as instr
 use Rattle.fr_base.specs.Captures.{CaptureList}
 use Rattle.fr_plain.specs.Acts.{result_of}
 use Rattle.heap_partition.specs.Plain.{plain_of}
-use Rattle.heap_partition.specs.declared.value.BoxPtr.{BoxPtr}
 use Rattle.heap_partition.specs.declared.value.Cell.{Cell}
 use Rattle.heap_partition.specs.declared.value.Owned.{Owned}
 use Rattle.heap_partition.specs.declared.value.Owned.TheVariants as owned
@@ -29,7 +28,7 @@ use Rattle.thread_state.specs.declared.value.Value.{Value}
 use Rattle.thread_state.specs.declared.value.Value.TheVariants as value
 use Rattle.server_msgs.specs.declared.message.Message.TheVariants as message
 use Rattle.journal.specs.declared.act.Act.TheVariants as act
-use Rattle.server_model.specs.Work.{Work, Hand, send, note, label_all, with_partition, with_mutexes, with_tasks, with_cache, can_grow, working, with_phase, with_slots, with_temps, push_slot, push_temp, last_of, front_of, then_some, pop, unpin_all}
+use Rattle.server_model.specs.Work.{Hand, send, note, label_all, with_partition, with_mutexes, with_tasks, with_cache, can_grow, working, with_phase, with_slots, with_temps, push_slot, push_temp, last_of, front_of, then_some, pop, unpin_all}
 use Rattle.server_model.specs.Places.{Spot, in_slot, nowhere, cell_at, value_at, load_at, put_slot, put_at, took}
 use Rattle.server_model.specs.Drop.{home_of, let_go, drop_labels, drop_value}
 use Rattle.server_model.specs.Start.{next_thread, start_thread, copied, capture}
@@ -154,13 +153,13 @@ next_object h = record { thread = h.thread.number; count = h.thread.made }
 abbrev make_box : Owned → Hand → Option Hand
 make_box v h =
     if can_grow h.work.server.partition
-        then Some (push_temp (value.Own (owned.Box (record { word = new_word h.work.server.partition; object = next_object h })))
-            (record h {
-              work = label_all (label.Make (next_object h) (plain_of v) ∷ []) (note (act.Make (next_object h) (new_word h.work.server.partition))
-                  (with_partition (made h.work.server.partition (record { object = next_object h; value = v })) h.work));
-              thread = record h.thread { made = h.thread.made + 1 };
-            }))
-        else None
+    then Some (push_temp (value.Own (owned.Box (record { word = new_word h.work.server.partition; object = next_object h })))
+    (record h {
+      work = label_all (label.Make (next_object h) (plain_of v) ∷ []) (note (act.Make (next_object h) (new_word h.work.server.partition))
+          (with_partition (made h.work.server.partition (record { object = next_object h; value = v })) h.work));
+      thread = record h.thread { made = h.thread.made + 1 };
+    }))
+    else None
 
 abbrev box_up : Operand → Hand → Option Hand
 box_up o h = pop o h (λ v h2. owned_then v (λ u. make_box u h2))
@@ -215,7 +214,7 @@ par_with servers pc other a b h first second =
 abbrev par : ℕ → CaptureList → ℕ → CaptureList → ℕ → Hand → Committed
 par servers cs pc ds other h =
     finished (fresh.Threads (next_thread h.work.server) (next_thread h.work.server + 1))
-        (then_some (capture true cs.items h.thread.slots) (λ first. then_some (capture true ds.items first.1) (par_with servers pc other (next_thread h.work.server) (next_thread h.work.server + 1) h first.0)))
+    (then_some (capture true cs.items h.thread.slots) (λ first. then_some (capture true ds.items first.1) (par_with servers pc other (next_thread h.work.server) (next_thread h.work.server + 1) h first.0)))
 
 abbrev par_end : Phase → Hand → Option Hand
 par_end (phase.GotPar a b) h = Some h
@@ -235,8 +234,8 @@ end_thread o h = finished fresh.None (option_map (with_phase phase.Over) (pop o 
 abbrev mutex_made : Owned → Hand → Option Hand
 mutex_made v h =
     if can_make h.work.server.mutexes
-        then Some (push_temp (value.Own (owned.Mutex (next_mutex h.work.server.mutexes))) (working (with_mutexes (make h.work.server.mutexes v)) h))
-        else None
+    then Some (push_temp (value.Own (owned.Mutex (next_mutex h.work.server.mutexes))) (working (with_mutexes (make h.work.server.mutexes v)) h))
+    else None
 
 abbrev mutex : Operand → Hand → Committed
 mutex o h = finished (fresh.Mutex (next_mutex h.work.server.mutexes)) (option_map go_on (pop o h (λ v h2. owned_then v (λ u. mutex_made u h2))))

@@ -1,5 +1,5 @@
 -- Events (this project's rules): which ones a server can do, and what each does to the server, with its entry of the journal.
-use Rattle.std.specs.Prelude.{ℕ, ◌+◌, ◌==◌, ◌&&◌, not, nat_lt, Bool, true, false, if◌then◌else◌, List, [], ◌∷◌, length, Option, Some, None, slice_get}
+use Rattle.std.specs.Prelude.{ℕ, ◌+◌, ◌==◌, ◌&&◌, not, nat_lt, Bool, true, false, if◌then◌else◌, List, [], length, Option, Some, None, slice_get}
 use Rattle.fr_base.specs.declared.instruction.Instr.{Instr}
 use Rattle.fr_base.specs.declared.label.Label.{Label}
 use Rattle.fr_base.specs.declared.release.Released.{Released}
@@ -19,7 +19,6 @@ use Rattle.server_model.specs.declared.event.What.{What}
 use Rattle.server_model.specs.declared.event.What.TheVariants.{Step, Deliver, Evict, Migrate}
 use Rattle.server_model.specs.Servers.{Server}
 use Rattle.server_model.specs.Work.{Work, Hand, receive, note, without_hops, with_cache, thread_in, take_up, put_back, then_some}
-use Rattle.server_model.specs.Places.{Spot}
 use Rattle.server_model.specs.Prepare.{Prepared, ready, asked, nothing, access_of, prepare}
 use Rattle.server_model.specs.Commit.{Committed, done, waits, refused, commit, settle}
 use Rattle.server_model.specs.Objects.{fetch, fetched, move, moved, drop}
@@ -55,14 +54,16 @@ enabled o s (Migrate t target) = has_phase is_ready (thread_in s.threads t) && (
 -- THE ENTRY OF AN EVENT
 
 abbrev entry : Option ℕ → Option Fresh → List Act → List Label → Work → Server × Entry
-entry thread names acts labels w =
-    (record w.server { events = w.server.events + 1 }, record {
-      server = w.server.number;
-      thread = thread;
-      done = names;
-      acts = record { items = acts; spare = 0 };
-      labels = record { items = labels; spare = 0 };
-    })
+entry thread names acts labels w = (
+  record w.server { events = w.server.events + 1 },
+  record {
+    server = w.server.number;
+    thread = thread;
+    done = names;
+    acts = record { items = acts; spare = 0 };
+    labels = record { items = labels; spare = 0 };
+  },
+)
 
 abbrev begin_work : Server → Work
 begin_work s = record { server = s; acts = []; labels = [] }

@@ -1,5 +1,5 @@
 -- Runs of a cluster under an order of events given by hand, and the figures that a report shows of a run.
-use Rattle.std.specs.Prelude.{ℕ, ℤ, zero, suc, ◌+◌, ◌==◌, ◌&&◌, Bool, true, false, if◌then◌else◌, List, [], ◌∷◌, ◌++◌, length, Option, Some, None, is_some}
+use Rattle.std.specs.Prelude.{ℕ, ℤ, zero, suc, ◌+◌, ◌==◌, ◌&&◌, Bool, true, false, List, [], ◌∷◌, ◌++◌, length, Option, Some, None, is_some}
 use Rattle.fr_base.specs.Kinds.{kind_number}
 use Rattle.fr_base.specs.declared.instruction.Instr.{Instr}
 use Rattle.fr_base.specs.declared.settings.Options.{Options}
@@ -142,6 +142,10 @@ pub record Figures : Type 0 where
   pub prints : List ℤ
   pub finished : Bool
   pub retired : ℕ
+
+-- a run of which nothing is left and that did nothing
+abbrev pub idle : Figures
+idle = record { steps = 0; events = 0; issued = 0; renewed = 0; hits = 0; evictions = 0; messages = 0; by_kind = []; prints = []; finished = true; retired = 0 }
 
 abbrev pub figures_of : Ran → Figures
 figures_of r = record {

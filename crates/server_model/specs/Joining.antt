@@ -1,6 +1,6 @@
 -- Messages about threads (this project's rules): they start, move and end, and their results go to those that ask. Each function
 -- is what the delivery of one message does; None where that can't be done.
-use Rattle.std.specs.Prelude.{ℕ, ◌==◌, ◌||◌, Bool, true, false, if◌then◌else◌, Option, Some, None, option_map}
+use Rattle.std.specs.Prelude.{ℕ, ◌==◌, ◌||◌, Bool, false, if◌then◌else◌, Option, Some, None, option_map}
 use Rattle.heap_partition.specs.declared.value.Owned.{Owned}
 use Rattle.join_home.specs.Tasks.{ask, ended, let_go_of}
 use Rattle.join_home.specs.declared.answers.EndedAs.{EndedAs}
@@ -10,7 +10,7 @@ use Rattle.thread_state.specs.declared.phase.Phase.{Phase}
 use Rattle.thread_state.specs.declared.phase.Phase.TheVariants as phase
 use Rattle.server_msgs.specs.declared.message.Message.TheVariants as message
 use Rattle.journal.specs.declared.act.Act.TheVariants as act
-use Rattle.server_model.specs.Work.{Work, Hand, send, note, with_tasks, take_up, put_back, stand, with_phase, then_some}
+use Rattle.server_model.specs.Work.{Work, send, note, with_tasks, take_up, put_back, stand, with_phase, then_some}
 use Rattle.server_model.specs.Drop.{let_go}
 use Rattle.server_model.specs.Sharing.{given, let_go_content}
 

@@ -1,5 +1,5 @@
 -- A thread leaves for another server (this project's rules): it takes no use of a cached copy along.
-use Rattle.std.specs.Prelude.{ℕ, Bool, true, false, List, [], ◌∷◌, ◌++◌, Option, Some, None, map, option_map}
+use Rattle.std.specs.Prelude.{ℕ, Bool, true, false, List, [], ◌∷◌, ◌++◌, Option, map, option_map}
 use Rattle.read_cache.specs.Cache.{Copy}
 use Rattle.mut_borrow.specs.declared.shared.SharedRef.{SharedRef}
 use Rattle.thread_state.specs.View.{ThreadView}
@@ -7,7 +7,7 @@ use Rattle.thread_state.specs.declared.value.Value.{Value}
 use Rattle.thread_state.specs.declared.value.Value.TheVariants as value
 use Rattle.server_msgs.specs.declared.message.Message.TheVariants as message
 use Rattle.journal.specs.declared.act.Act.TheVariants as act
-use Rattle.server_model.specs.Work.{Work, Hand, send, note, with_cache, take_up, then_some, unpin_all}
+use Rattle.server_model.specs.Work.{Work, send, note, with_cache, take_up, then_some, unpin_all}
 use Rattle.server_model.specs.Start.{copied}
 
 abbrev pinned_word : SharedRef → Bool → List ℕ → List ℕ

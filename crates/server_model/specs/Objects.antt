@@ -1,12 +1,11 @@
 -- Messages about objects: copies served and filled, objects that leave and come, blocks that are freed (in the manner of DRust; the
 -- words and their order are this project's rules). Each function is what the delivery of one message does; None where that can't
 -- be done.
-use Rattle.std.specs.Prelude.{ℕ, zero, suc, ◌+◌, ◌-◌, ◌==◌, Bool, true, false, if◌then◌else◌, List, [], ◌∷◌, Option, Some, None, slice_get, option_map}
+use Rattle.std.specs.Prelude.{ℕ, zero, suc, ◌+◌, ◌-◌, ◌==◌, Bool, true, false, if◌then◌else◌, List, Option, Some, None, slice_get, option_map}
 use Rattle.fr_base.specs.declared.name.ObjNo.{ObjNo}
 use Rattle.fr_base.specs.declared.place.Lval.{Lval}
 use Rattle.fr_base.specs.declared.instruction.Instr.{Instr}
 use Rattle.heap_partition.specs.declared.value.Cell.{Cell}
-use Rattle.owner_box.specs.View.{PartitionView}
 use Rattle.owner_box.specs.Partition.{made, freed, new_word}
 use Rattle.read_cache.specs.Cache.{can_fill, fill}
 use Rattle.mut_borrow.specs.declared.mutable.MutRef.{MutRef}
@@ -132,9 +131,9 @@ instr_access h (Some i) = access_of i h.thread
 abbrev came : List Instr → ℕ → Cell → Hand → Option Hand
 came code old c h =
     if can_grow h.work.server.partition
-        then arrived (instr_access h (slice_get code h.thread.pc)) (new_word h.work.server.partition)
-            (working (λ x. note (act.Take c.object old (new_word x.server.partition)) (with_partition (made x.server.partition c) x)) h)
-        else None
+    then arrived (instr_access h (slice_get code h.thread.pc)) (new_word h.work.server.partition)
+    (working (λ x. note (act.Take c.object old (new_word x.server.partition)) (with_partition (made x.server.partition c) x)) h)
+    else None
 
 -- the object comes here, under a new word
 abbrev pub moved : List Instr → ℕ → Cell → ℕ → Work → Option Work

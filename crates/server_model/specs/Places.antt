@@ -1,5 +1,5 @@
 -- Where a place leads inside a server, and how the pointer there gets another word (this project's rules).
-use Rattle.std.specs.Prelude.{ℕ, Bool, true, false, nat_lt, if◌then◌else◌, List, [], ◌∷◌, ◌++◌, length, Option, Some, None, slice_get, slice_set, option_map}
+use Rattle.std.specs.Prelude.{ℕ, true, false, nat_lt, if◌then◌else◌, List, [], ◌∷◌, ◌++◌, length, Option, Some, None, slice_get, slice_set}
 use Rattle.fr_base.specs.declared.label.Label.{Label}
 use Rattle.fr_base.specs.declared.label.Label.TheVariants as label
 use Rattle.heap_partition.specs.Plain.{plain_of}
@@ -10,10 +10,9 @@ use Rattle.heap_partition.specs.declared.value.Owned.TheVariants as owned
 use Rattle.owner_box.specs.Partition.{stored}
 use Rattle.read_cache.specs.Cache.{hit}
 use Rattle.mut_borrow.specs.declared.mutable.MutRef.{MutRef}
-use Rattle.thread_state.specs.View.{ThreadView}
 use Rattle.thread_state.specs.declared.value.Value.{Value}
 use Rattle.thread_state.specs.declared.value.Value.TheVariants as value
-use Rattle.server_model.specs.Work.{Work, Hand, with_partition, look, leads_here, working, with_slots, with_temps, last_of, front_of, then_some, label_all}
+use Rattle.server_model.specs.Work.{Hand, with_partition, look, leads_here, working, with_slots, with_temps, last_of, front_of, then_some, label_all}
 
 -- where a value stands that a thread follows: in a slot; on top of its temporary values; in a cell that lies here, under the word
 -- that led to it, with the slot of the mutable reference where one led straight to it; in a cached copy. `nowhere` is for what

@@ -1,6 +1,6 @@
 -- Making an instruction's place ready (in the manner of DRust; this project's rules): the place is followed star by star, each
 -- hop is made ready for a read or a write, and where something isn't here one request is sent, and the event ends with it.
-use Rattle.std.specs.Prelude.{ℕ, zero, suc, ◌+◌, ◌-◌, ◌==◌, Bool, true, false, nat_lt, if◌then◌else◌, List, [], ◌∷◌, length, Option, Some, None, slice_get}
+use Rattle.std.specs.Prelude.{ℕ, zero, suc, ◌+◌, ◌-◌, ◌==◌, Bool, true, false, nat_lt, if◌then◌else◌, [], length, Option, Some, None, slice_get}
 use Rattle.fr_base.specs.declared.place.Lval.{Lval}
 use Rattle.fr_base.specs.declared.instruction.Instr.{Instr}
 use Rattle.fr_base.specs.declared.instruction.Instr.TheVariants as instr
@@ -24,7 +24,7 @@ use Rattle.journal.specs.declared.act.Act.TheVariants as act
 use Rattle.server_model.specs.declared.hop.Hop.{Hop}
 use Rattle.server_model.specs.declared.hop.Hop.TheVariants as hop
 use Rattle.server_model.specs.Hops.{read_hop, write_hop}
-use Rattle.server_model.specs.Work.{Work, Hand, send, note, with_partition, with_cache, leads_here, can_grow, working, with_phase, last_of, then_some, use_word}
+use Rattle.server_model.specs.Work.{Work, Hand, send, note, with_partition, with_cache, leads_here, can_grow, working, with_phase, last_of, use_word}
 use Rattle.server_model.specs.Places.{Spot, in_slot, on_top, in_cell, in_copy, nowhere, value_at, load_at, put_at, pointer_of, set_pointer, slot_in}
 
 -- what an instruction needs of a place before it can be done: all its pointers read; those of a shared borrow, up to the pointer
@@ -101,12 +101,12 @@ is_last p w = colour_of w + 1 == p.limit
 abbrev pub renew : Spot → BoxPtr → Hand → Option Hand
 renew s p h =
     if leads_here h.work.server.partition p.word
-        then (if is_last h.work.server.partition p.word
-            then (if can_grow h.work.server.partition
-                then set_pointer s (new_word (freed h.work.server.partition p.word)) (working (λ w. note (act.Renew p.object p.word (new_word (freed w.server.partition p.word))) (with_partition (renewed w.server.partition p.word) w)) h)
-                else None)
-            else None)
-        else None
+    then (if is_last h.work.server.partition p.word
+    then (if can_grow h.work.server.partition
+    then set_pointer s (new_word (freed h.work.server.partition p.word)) (working (λ w. note (act.Renew p.object p.word (new_word (freed w.server.partition p.word))) (with_partition (renewed w.server.partition p.word) w)) h)
+    else None)
+    else None)
+    else None
 
 -- the pointer at a spot gets the next colour
 abbrev pub tint : Spot → BoxPtr → Hand → Option Hand

@@ -1,10 +1,10 @@
 -- Messages about mutexes (this project's rules): the home grants the content in the order of asking, and drops it once no share is
 -- left and the content is in. Each function is what the delivery of one message does; None where that can't be done.
-use Rattle.std.specs.Prelude.{ℕ, ◌==◌, ◌&&◌, Bool, true, false, if◌then◌else◌, Option, Some, None, option_map}
+use Rattle.std.specs.Prelude.{ℕ, Bool, false, if◌then◌else◌, Option, Some, None, option_map}
 use Rattle.fr_base.specs.declared.name.MutexNo.{MutexNo}
 use Rattle.heap_partition.specs.declared.value.Owned.{Owned}
 use Rattle.heap_partition.specs.declared.value.Owned.TheVariants as owned
-use Rattle.mutex_home.specs.Mutexes.{Mutexes, is_mutex, ask, give_back, more, less}
+use Rattle.mutex_home.specs.Mutexes.{is_mutex, ask, give_back, more, less}
 use Rattle.mutex_home.specs.declared.answers.Asked.{Asked}
 use Rattle.mutex_home.specs.declared.answers.Asked.TheVariants.{Queued, Granted}
 use Rattle.mutex_home.specs.declared.answers.Back.{Back}

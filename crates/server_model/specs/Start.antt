@@ -21,7 +21,7 @@ server_for servers s = (s.number + (s.started + 1)) % servers
 abbrev pub start_thread : ℕ → ℕ → List Value → Work → Work
 start_thread servers pc slots w =
     send (server_for servers w.server) (message.Start (new_thread (next_thread w.server) pc slots))
-        (label_all (label.Start (next_thread w.server) ∷ []) (note (act.Start (next_thread w.server) (server_for servers w.server)) (record w { server = record w.server { started = w.server.started + 1 } })))
+    (label_all (label.Start (next_thread w.server) ∷ []) (note (act.Start (next_thread w.server) (server_for servers w.server)) (record w { server = record w.server { started = w.server.started + 1 } })))
 
 -- a copy of a shared reference pins nothing
 abbrev pub copied : Value → Value

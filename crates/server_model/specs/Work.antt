@@ -1,6 +1,6 @@
 -- A server in the middle of an event: what the event has done so far (this project's rules). The functions are small, and the
 -- server's code has one of the same name for each.
-use Rattle.std.specs.Prelude.{ℕ, ◌+◌, ◌-◌, ◌^◌, ◌==◌, ◌&&◌, Bool, true, false, nat_lt, is_some, if◌then◌else◌, List, [], ◌∷◌, ◌++◌, length, take, remove, Option, Some, None, slice_get}
+use Rattle.std.specs.Prelude.{ℕ, ◌-◌, ◌^◌, ◌==◌, ◌&&◌, Bool, true, false, nat_lt, is_some, if◌then◌else◌, List, [], ◌∷◌, ◌++◌, length, take, remove, Option, Some, None, slice_get}
 use Rattle.fr_base.specs.declared.label.Label.{Label}
 use Rattle.fr_base.specs.declared.instruction.Operand.{Operand}
 use Rattle.fr_base.specs.declared.instruction.Operand.TheVariants as operand
@@ -19,7 +19,7 @@ use Rattle.thread_state.specs.declared.value.Value.TheVariants as value
 use Rattle.server_msgs.specs.declared.message.Message.{Message}
 use Rattle.journal.specs.declared.act.Act.{Act}
 use Rattle.journal.specs.declared.act.Act.TheVariants as act
-use Rattle.server_model.specs.Servers.{Server, Sent}
+use Rattle.server_model.specs.Servers.{Server}
 
 -- the server, and the acts and labels of its event so far
 pub record Work : Type 0 where
@@ -167,8 +167,8 @@ abbrev used_once : ℕ → Bool → Hand → Option Hand
 used_once w true h = Some h
 used_once w false h =
     if can_pin h.work.server.cache w
-        then Some (record { work = with_cache (pin h.work.server.cache w) h.work; thread = record h.thread { walk = h.thread.walk ++ w ∷ [] } })
-        else None
+    then Some (record { work = with_cache (pin h.work.server.cache w) h.work; thread = record h.thread { walk = h.thread.walk ++ w ∷ [] } })
+    else None
 
 -- the thread uses the copy until its step is done; a word of its walk isn't used twice
 abbrev pub use_word : ℕ → Hand → Option Hand
