@@ -1,2 +1,6 @@
 //! The mutexes of one server: content, shares and who waits (this project's rules). So far the definitions alone.
 #![tactic(auto)]
+
+mod answers;
+
+pub use answers::{Asked, Back};

@@ -1,1 +1,17 @@
 pub mod Servers
+pub mod Hops
+pub mod Work
+pub mod Places
+pub mod Prepare
+pub mod Drop
+pub mod Start
+pub mod Commit
+pub mod Objects
+pub mod Sharing
+pub mod Joining
+pub mod Moving
+pub mod Events
+pub mod Clusters
+pub mod Figures
+pub mod Programs
+pub mod Rows
