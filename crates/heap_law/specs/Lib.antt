@@ -16,3 +16,4 @@ pub mod Busy
 pub mod Sound
 pub mod Broken
 pub mod BrokenRest
+pub mod Along

@@ -1,5 +1,6 @@
 //! Laws of coherent memory.
 
+ghost use Rattle.heap_law.specs.Along.{RowsStayCoherent};
 ghost use Rattle.heap_law.specs.Sound.{SoundCompute};
 ghost use Rattle.heap_law.specs.Broken.{MemoryBreaks, WalksBreak};
 ghost use Rattle.heap_law.specs.BrokenRest.{RequestsBreak, SharingBreaks, NamesBreak};
@@ -16,4 +17,9 @@ pub fn breaks_compute()
     ensures requests { RequestsBreak }
     ensures sharing { SharingBreaks }
     ensures names { NamesBreak }
+{}
+
+/// After each event of the rows no sentence is broken.
+pub fn rows_stay_coherent()
+    ensures { RowsStayCoherent }
 {}

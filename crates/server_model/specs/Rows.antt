@@ -14,51 +14,51 @@ Gives code o es f = figures_in (run code o es) ≡ Some f
 -- main is thread 0, and server s starts the threads s * 2^32 + 1 and so on
 
 -- thread 1 at server 1 begins, and asks server 0 for an object or a copy, which comes
-abbrev begins_and_asks : List Event
+abbrev pub begins_and_asks : List Event
 begins_and_asks = deliver 1 0 ++ steps_of 1 1 1 ++ deliver 0 0 ++ deliver 1 0
 
 -- main waits in a join of thread 1, which reads
-abbrev reading_elsewhere : List Event
+abbrev pub reading_elsewhere : List Event
 reading_elsewhere =
     steps_of 0 0 6 ++ deliver 0 0 ++ begins_and_asks ++ steps_of 1 1 6 ++ deliver 0 0 ++ deliver 0 0 ++ deliver 0 0 ++ steps_of 0 0 4
 
 -- the same, and thread 1 writes; then main reads what lies at server 1
-abbrev writing_elsewhere : List Event
+abbrev pub writing_elsewhere : List Event
 writing_elsewhere =
     steps_of 0 0 6 ++ deliver 0 0 ++ begins_and_asks ++ steps_of 1 1 4 ++ deliver 0 0 ++ deliver 0 0 ++ steps_of 0 0 3 ++ deliver 1 0 ++ deliver 0 0 ++ steps_of 0 0 6 ++ deliver 1 0
 
 -- a branch at another server reads, and ends
-abbrev branch_at : (server thread : ℕ) → List Event
+abbrev pub branch_at : (server thread : ℕ) → List Event
 branch_at s t = deliver s 0 ++ steps_of s t 1 ++ deliver 0 0 ++ deliver s 0 ++ steps_of s t 4 ++ deliver 0 0
 
 -- branches at servers 1 and 2, then at 0 and 1
-abbrev reading_by_pairs : List Event
+abbrev pub reading_by_pairs : List Event
 reading_by_pairs =
     steps_of 0 0 5 ++ branch_at 1 1 ++ branch_at 2 2 ++ steps_of 0 0 6 ++ deliver 0 0 ++ steps_of 0 3 4 ++ deliver 0 0 ++ branch_at 1 4 ++ steps_of 0 0 4 ++ deliver 0 0
 
 -- main goes to server 1 and reads there through its reference, goes back and writes, and goes there again
-abbrev moving : List Event
+abbrev pub moving : List Event
 moving =
     steps_of 0 0 5 ++ migrate 0 0 1 ++ deliver 1 0 ++ steps_of 1 0 1 ++ deliver 0 0 ++ deliver 1 0 ++ steps_of 1 0 2
     ++ migrate 1 0 0 ++ deliver 0 0 ++ steps_of 0 0 1 ++ migrate 0 0 1 ++ deliver 1 0 ++ steps_of 1 0 1 ++ deliver 0 0 ++ deliver 1 0 ++ steps_of 1 0 7 ++ deliver 0 0
 
 -- the second branch ends at server 0; the first reads at server 1, where one copy is evicted once its reference is dropped
-abbrev evicting : List Event
+abbrev pub evicting : List Event
 evicting =
     steps_of 0 0 9 ++ deliver 0 0 ++ steps_of 0 2 1 ++ deliver 0 0
     ++ deliver 1 0 ++ steps_of 1 1 1 ++ deliver 0 0 ++ deliver 1 0 ++ steps_of 1 1 3 ++ deliver 0 0 ++ deliver 1 0 ++ steps_of 1 1 7 ++ evict 1 1 ++ steps_of 1 1 2
     ++ deliver 0 0 ++ steps_of 0 0 6 ++ deliver 0 0 ++ deliver 0 0
 
 -- main waits in its second lock
-abbrev locking_twice : List Event
+abbrev pub locking_twice : List Event
 locking_twice = steps_of 0 0 3 ++ deliver 0 0 ++ deliver 0 0 ++ steps_of 0 0 2 ++ deliver 0 0
 
 -- until `unlock` and `release` wait at server 0
-abbrev locking_elsewhere : List Event
+abbrev pub locking_elsewhere : List Event
 locking_elsewhere = steps_of 0 0 7 ++ deliver 0 0 ++ begins_and_asks ++ steps_of 1 1 2 ++ deliver 0 0 ++ deliver 1 0 ++ steps_of 1 1 3
 
 -- thread 1 ends, what the mutex held is freed, and main goes on
-abbrev unlocked : List Event
+abbrev pub unlocked : List Event
 unlocked = deliver 1 0 ++ steps_of 1 1 1 ++ deliver 0 0 ++ deliver 0 0 ++ steps_of 0 0 4
 
 -- FIGURES
