@@ -17,3 +17,5 @@ pub mod Sound
 pub mod Broken
 pub mod BrokenRest
 pub mod Along
+pub mod OneHeap
+pub mod OneHeapRuns

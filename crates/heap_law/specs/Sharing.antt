@@ -247,7 +247,7 @@ is_task t None = false
 is_task t (Some u) = t == u
 
 -- the result of that thread is the gift of a join
-abbrev gift_result : Sight → ℕ → Standing → ℕ
+abbrev pub gift_result : Sight → ℕ → Standing → ℕ
 gift_result s t x = if_so (is_some x.thread.gift) (one (is_task t (joined_thread (instr_of s x) x.thread)))
 
 abbrev joined_of : ℕ → Message → ℕ
@@ -300,7 +300,7 @@ abbrev result_noted : ℕ → Thing → ℕ
 result_noted t (noted r x) = if_so (x.thread == t) (kept_note x.state)
 result_noted t x = 0
 
-abbrev got_phase : ℕ → Phase → ℕ
+abbrev pub got_phase : ℕ → Phase → ℕ
 got_phase t (phase.GotPar a b) = one (a == t) + one (b == t)
 got_phase t p = 0
 

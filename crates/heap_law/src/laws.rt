@@ -1,6 +1,7 @@
 //! Laws of coherent memory.
 
 ghost use Rattle.heap_law.specs.Along.{RowsStayCoherent};
+ghost use Rattle.heap_law.specs.OneHeapRuns.{OneHeapsCompute};
 ghost use Rattle.heap_law.specs.Sound.{SoundCompute};
 ghost use Rattle.heap_law.specs.Broken.{MemoryBreaks, WalksBreak};
 ghost use Rattle.heap_law.specs.BrokenRest.{RequestsBreak, SharingBreaks, NamesBreak};
@@ -22,4 +23,10 @@ pub fn breaks_compute()
 /// After each event of the rows no sentence is broken.
 pub fn rows_stay_coherent()
     ensures { RowsStayCoherent }
+{}
+
+/// The one heap of a cluster is the state of the machine of compiled code, after each event of the rows without mutexes and pairs of threads,
+/// and the journal's labels are that machine's.
+pub fn one_heaps_compute()
+    ensures { OneHeapsCompute }
 {}
