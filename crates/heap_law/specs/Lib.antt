@@ -16,6 +16,7 @@ pub mod Busy
 pub mod Sound
 pub mod Broken
 pub mod BrokenRest
+pub mod Laws
 pub mod Along
 pub mod OneHeap
 pub mod OneHeapRuns

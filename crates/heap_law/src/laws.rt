@@ -1,6 +1,7 @@
 //! Laws of coherent memory.
 
 ghost use Rattle.heap_law.specs.Along.{RowsStayCoherent};
+ghost use Rattle.heap_law.specs.Laws.{HandOverLaw, StartLaw};
 ghost use Rattle.heap_law.specs.OneHeapRuns.{OneHeapsCompute};
 ghost use Rattle.heap_law.specs.Sound.{SoundCompute};
 ghost use Rattle.heap_law.specs.Broken.{MemoryBreaks, WalksBreak};
@@ -29,4 +30,10 @@ pub fn rows_stay_coherent()
 /// and the journal's labels are that machine's.
 pub fn one_heaps_compute()
     ensures { OneHeapsCompute }
+{}
+
+/// Handing messages over changes no sum, and the start of any code has one home and one owner for each object, no copy and no user.
+pub fn sums_stay()
+    ensures handed { HandOverLaw }
+    ensures starts { StartLaw }
 {}

@@ -68,7 +68,7 @@ empty_servers o s (suc n) = empty_server o s ∷ empty_servers o (s + 1) n
 abbrev pub main_thread : ThreadView
 main_thread = new_thread 0 0 []
 
-abbrev with_main : List Server → List Server
+abbrev pub with_main : List Server → List Server
 with_main [] = []
 with_main (s ∷ ss) = record s { threads = main_thread ∷ [] } ∷ ss
 
