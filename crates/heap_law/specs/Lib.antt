@@ -19,4 +19,6 @@ pub mod BrokenRest
 pub mod Laws
 pub mod Along
 pub mod OneHeap
+pub mod Colours
+pub mod LeftBy
 pub mod OneHeapRuns

@@ -277,7 +277,7 @@ made_by r n (counts q next old started made events) = one (q == r && nat_le n ma
 made_by r n x = 0
 
 -- the given names: main, and the threads and mutexes that the servers have counted, from 1
-abbrev is_given_thread : Sight → ℕ → Bool
+abbrev pub is_given_thread : Sight → ℕ → Bool
 is_given_thread s t = t == 0 || (not (t % 2 ^ 32 == 0) && some (tot (started_by (home_of t) (t % 2 ^ 32)) s.things))
 
 abbrev is_given_mutex : Sight → MutexNo → Bool
