@@ -22,3 +22,4 @@ pub mod OneHeap
 pub mod Colours
 pub mod LeftBy
 pub mod OneHeapRuns
+pub mod LeftRuns

@@ -73,11 +73,11 @@ shown_and f go None = []
 shown_and f go (Some r) = f r ++ go (Some r)
 
 -- what f shows after each event
-abbrev along : {A : Type 0} → (Ran → List A) → List Event → Option Ran → List A
+abbrev pub along : {A : Type 0} → (Ran → List A) → List Event → Option Ran → List A
 along f [] r = []
 along f (e ∷ es) r = shown_and f (along f es) (run_event r e)
 
-abbrev starts : List Instr → Options → Option Ran
+abbrev pub starts : List Instr → Options → Option Ran
 starts code o = Some (record { cluster = start_of code o; journal = []; kinds = [] })
 
 -- these threads and these objects are in the one heap, after each event, what they are in the code machine's state

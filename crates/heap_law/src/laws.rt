@@ -2,6 +2,7 @@
 
 ghost use Rattle.heap_law.specs.Along.{RowsStayCoherent};
 ghost use Rattle.heap_law.specs.Laws.{HandOverLaw, StartLaw};
+ghost use Rattle.heap_law.specs.LeftRuns.{RunsAreLeft};
 ghost use Rattle.heap_law.specs.OneHeapRuns.{OneHeapsCompute};
 ghost use Rattle.heap_law.specs.Sound.{SoundCompute};
 ghost use Rattle.heap_law.specs.Broken.{MemoryBreaks, WalksBreak};
@@ -36,4 +37,9 @@ pub fn one_heaps_compute()
 pub fn sums_stay()
     ensures handed { HandOverLaw }
     ensures starts { StartLaw }
+{}
+
+/// After each event of the rows the coloured heap of the cluster is the state that the journal leaves, and the counts agree.
+pub fn runs_are_left()
+    ensures { RunsAreLeft }
 {}
