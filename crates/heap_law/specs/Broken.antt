@@ -23,7 +23,7 @@ use Rattle.server_msgs.specs.declared.message.Message.TheVariants.{Fetch, Fetche
 use Rattle.server_model.specs.Servers.{Sent, Server, Cluster}
 use Rattle.heap_law.specs.Coherent.{Sentence, broken, home_of_each, owner_of_each, owned_are_live, are_issued, below_limit, same_word, lead_home, one_state, first_at_holder, different_words, dirty_alone, copies_agree, served_are_clean, passed_lie_here, passed_not_copied, passed_not_stale, passed_in_a_walk, passed_within, walk_empty, parcels_ready, place_followed, waits_in_turn, asks_others, users_counted, uses_cached, one_answer, asked_answers, carry_what_is_asked, go_right, return_right, askers_stand, phases_stand, par_ends, pairs_noted, cells_awaited, taken_stands, taken_is_new, gifts_got, gifts_fit, named_are_there, at_their_home, one_content, shares_counted, queue_while_out, content_without_shares, thread_homes, noted_go_on, kept_at_home, results_after_end, one_task_value, task_values_owed, one_result, pairs_ended, joined_ended, recorded_stand, numbers_differ, objects_made, names_counted, few_names, counts_bounded, parts_are_typed}
 use Rattle.heap_law.specs.Clusters.{place, thread_no, object, int, cell, box, the_mutex, word_0, word_1, word_2, word_3, dirty_reference, shared_reference, main_slots, main_waiting, reader, locker, joiner, worker, partition_0, partition_1, copy_of, held_mutex, task, server_0, server_1, cluster, middle}
-use Rattle.heap_law.specs.Busy.{old_0, old_1, new_1, at_2, at_3, has_task, parent, writer, lender, viewer, ended, gifted, dupper, joined, fetcher, dropped, mover, shared_mutex, busy_partition, busy_notes, busy_0, busy_1, of_busy}
+use Rattle.heap_law.specs.Busy.{old_0, old_1, new_1, at_2, at_3, at_4, has_task, parent, writer, lender, viewer, ended, gifted, dupper, joined, fetcher, dropped, mover, shared_mutex, busy_partition, busy_notes, busy_0, busy_1, of_busy}
 
 -- server 0 of the middle of a run with other cells, with another message behind its own, with another main thread
 abbrev with_cells : List (Option Cell) → Server
@@ -82,7 +82,7 @@ Breaks n k = broken k ≡ n ∷ []
 
 pub record MemoryBreaks : Type 0 where
   -- object 0 is under way and lies at its old address
-  pub two_homes : Breaks home_of_each (of_busy (record busy_0 { partition = record busy_partition { cells = cell 0 (int 1) ∷ None ∷ cell 2 (int 5) ∷ cell 3 (int 6) ∷ []; free = (1, 1) ∷ [] } }) busy_1)
+  pub two_homes : Breaks home_of_each (of_busy (record busy_0 { partition = record busy_partition { cells = cell 0 (int 1) ∷ None ∷ cell 2 (box at_4 4) ∷ cell 3 (int 6) ∷ cell 4 (int 8) ∷ []; free = (1, 1) ∷ [] } }) busy_1)
   -- a second box of object 1
   pub two_owners : Breaks owner_of_each (cluster (with_locker (record locker { slots = value.Own (owned.Mutex the_mutex) ∷ value.Held the_mutex ∷ value.Own (box word_1 1) ∷ [] })) server_1)
   -- a dropped object without its message, so no pointer to it has a word
@@ -116,7 +116,7 @@ pub record WalksBreak : Type 0 where
   -- a hop that is passed is over an object elsewhere
   pub passed_away : Breaks passed_lie_here (of_busy no_fetch (with_fetcher (passed_writer 0 1)))
   -- a copy of a box that is passed is left
-  pub passed_copied : Breaks passed_not_copied (of_busy (writing_here (passed_writer 0 1)) (without_fetcher (copy_of at_2 2 (int 5) 1 ∷ copy_of at_3 3 (int 6) 0 ∷ [])))
+  pub passed_copied : Breaks passed_not_copied (of_busy (writing_here (passed_writer 0 1)) (without_fetcher (copy_of at_2 2 (box at_4 4) 1 ∷ copy_of at_3 3 (int 6) 0 ∷ [])))
   -- a reference that is passed is stale
   pub passed_stale : Breaks passed_not_stale (of_busy (writing_here (record (passed_writer 8 1) { slots = value.Own (box at_3 3) ∷ value.Mut (reference at_3 3 false 0) ∷ value.Mut (reference at_3 3 true 1) ∷ [] })) (without_fetcher busy_1.cache))
   -- a thread that is ready has passed a hop
@@ -124,15 +124,15 @@ pub record WalksBreak : Type 0 where
   -- a read has passed a hop
   pub passed_reading : Breaks passed_within (of_busy (writing_here (passed_writer 6 1)) (without_fetcher busy_1.cache))
   -- a thread that is ready uses a word
-  pub ready_walk : Breaks walk_empty (of_busy busy_0 (record busy_1 { cache = copy_of at_2 2 (int 5) 2 ∷ []; threads = writer ∷ lender ∷ record viewer { walk = at_2 ∷ [] } ∷ gifted ∷ joined ∷ fetcher ∷ ended 1 2 ∷ [] }))
+  pub ready_walk : Breaks walk_empty (of_busy busy_0 (record busy_1 { cache = copy_of at_2 2 (box at_4 4) 2 ∷ []; threads = writer ∷ lender ∷ record viewer { walk = at_2 ∷ [] } ∷ gifted ∷ joined ∷ fetcher ∷ ended 1 2 ∷ [] }))
   -- a parcel in the middle of a step
   pub busy_parcel : Breaks parcels_ready (of_busy busy_0 (record busy_1 { outbox = record { target = 0; message = Migrate (record mover { phase = phase.Got }) } ∷ [] }))
   -- an object was taken, but the pointer before it leads neither here nor to a copy in use
   pub not_followed : Breaks place_followed (of_busy
-    (record no_fetch { partition = record busy_partition { cells = None ∷ None ∷ cell 2 (int 5) ∷ cell 3 (box old_1 1) ∷ [] } })
+    (record no_fetch { partition = record busy_partition { cells = None ∷ None ∷ cell 2 (box at_4 4) ∷ cell 3 (box old_1 1) ∷ cell 4 (int 8) ∷ [] } })
     (record busy_1 { threads = writer ∷ record lender { pc = 9; slots = value.Own (box at_3 3) ∷ [] } ∷ viewer ∷ gifted ∷ joined ∷ record fetcher { pc = 7; slots = []; phase = phase.Ready } ∷ ended 1 2 ∷ [] }))
   -- a read waits for a copy that is cached
-  pub needless : Breaks waits_in_turn (of_busy busy_0 (record busy_1 { cache = copy_of at_2 2 (int 5) 1 ∷ copy_of at_3 3 (int 6) 0 ∷ [] }))
+  pub needless : Breaks waits_in_turn (of_busy busy_0 (record busy_1 { cache = copy_of at_2 2 (box at_4 4) 1 ∷ copy_of at_3 3 (int 6) 0 ∷ [] }))
   -- a thread asks its own server for an object
   pub asks_here : Breaks asks_others (of_busy (record (writing_here (record fetcher { pc = 0 })) { inbox = Dupped the_mutex (thread_no 0 6) ∷ Move at_3 (object 3) 0 (thread_no 0 8) ∷ [] }) (without_fetcher busy_1.cache))
   -- a copy in use without a user

@@ -23,7 +23,7 @@ use Rattle.server_msgs.specs.declared.message.Message.TheVariants.{Fetch, Fetche
 use Rattle.server_model.specs.Servers.{Sent, Server, Cluster}
 use Rattle.heap_law.specs.Coherent.{Sentence, broken, home_of_each, owner_of_each, owned_are_live, are_issued, below_limit, same_word, lead_home, one_state, first_at_holder, different_words, dirty_alone, copies_agree, served_are_clean, passed_lie_here, passed_not_copied, passed_not_stale, passed_in_a_walk, passed_within, walk_empty, parcels_ready, place_followed, waits_in_turn, asks_others, users_counted, uses_cached, one_answer, asked_answers, carry_what_is_asked, go_right, return_right, askers_stand, phases_stand, par_ends, pairs_noted, cells_awaited, taken_stands, taken_is_new, gifts_got, gifts_fit, named_are_there, at_their_home, one_content, shares_counted, queue_while_out, content_without_shares, thread_homes, noted_go_on, kept_at_home, results_after_end, one_task_value, task_values_owed, one_result, pairs_ended, joined_ended, recorded_stand, numbers_differ, objects_made, names_counted, few_names, counts_bounded, parts_are_typed}
 use Rattle.heap_law.specs.Clusters.{place, thread_no, object, int, cell, box, the_mutex, word_0, word_1, word_2, word_3, dirty_reference, shared_reference, main_slots, main_waiting, reader, locker, joiner, worker, partition_0, partition_1, copy_of, held_mutex, task, server_0, server_1, cluster, middle}
-use Rattle.heap_law.specs.Busy.{old_0, old_1, new_1, at_2, at_3, has_task, parent, writer, lender, viewer, ended, gifted, dupper, joined, fetcher, dropped, mover, shared_mutex, busy_partition, busy_notes, busy_0, busy_1, of_busy}
+use Rattle.heap_law.specs.Busy.{old_0, old_1, new_1, at_2, at_3, at_4, has_task, parent, writer, lender, viewer, ended, gifted, dupper, joined, fetcher, dropped, mover, shared_mutex, busy_partition, busy_notes, busy_0, busy_1, of_busy}
 
 use Rattle.heap_law.specs.Broken.{Breaks}
 

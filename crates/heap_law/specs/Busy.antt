@@ -27,7 +27,7 @@ busy_code =
     ∷ instr.Join operand.Pop ∷ instr.Read (place 0 1) false ∷ instr.End operand.Unit ∷ instr.Assign (place 1 1) (operand.Const (pos 2))
     ∷ instr.BorrowMut (place 0 2) ∷ []
 
--- object 0 flies from server 0 to 1; object 1 was pulled to server 1; objects 2 and 3 lie at server 0
+-- object 0 flies from server 0 to 1; object 1 was pulled to server 1; objects 2, 3 and 4 lie at server 0, and 2 owns 4
 abbrev pub old_0 : ℕ
 old_0 = word_of 0 0 0
 
@@ -43,6 +43,9 @@ at_2 = word_of 0 0 2
 abbrev pub at_3 : ℕ
 at_3 = word_of 0 0 3
 
+abbrev pub at_4 : ℕ
+at_4 = word_of 0 0 4
+
 abbrev pub has_task : ℕ → ℕ → Value
 has_task s n = value.Own (owned.Task (thread_no s n))
 
@@ -53,7 +56,7 @@ parent_slots =
     ∷ has_task 0 7 ∷ has_task 0 8 ∷ []
 
 abbrev pub parent : ThreadView
-parent = record (new_thread 0 2 parent_slots) { phase = phase.WaitPar (thread_no 0 3) (thread_no 0 4); made = 4 }
+parent = record (new_thread 0 2 parent_slots) { phase = phase.WaitPar (thread_no 0 3) (thread_no 0 4); made = 5 }
 
 -- waits for object 0, which is under way
 abbrev pub writer : ThreadView
@@ -101,7 +104,7 @@ abbrev pub busy_partition : PartitionView
 busy_partition = record {
   server = 0;
   limit = 4;
-  cells = None ∷ None ∷ cell 2 (int 5) ∷ cell 3 (int 6) ∷ [];
+  cells = None ∷ None ∷ cell 2 (box at_4 4) ∷ cell 3 (int 6) ∷ cell 4 (int 8) ∷ [];
   free = (0, 1) ∷ (1, 1) ∷ [];
   retired = 0;
   spare = 0;
@@ -130,7 +133,7 @@ abbrev pub busy_1 : Server
 busy_1 = record {
   number = 1;
   partition = record { server = 1; limit = 4; cells = cell 1 (int 4) ∷ []; free = []; retired = 0; spare = 0 };
-  cache = copy_of at_2 2 (int 5) 1 ∷ [];
+  cache = copy_of at_2 2 (box at_4 4) 1 ∷ [];
   mutexes = record { home = 1; made = 0; there = [] };
   tasks = task (thread_no 1 2) going ∷ task (thread_no 1 3) going ∷ task (thread_no 1 4) going ∷ [];
   threads = writer ∷ lender ∷ viewer ∷ gifted ∷ joined ∷ fetcher ∷ ended 1 2 ∷ [];

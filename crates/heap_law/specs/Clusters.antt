@@ -168,3 +168,28 @@ cluster a b = record { code = some_code; options = options 2; servers = a ∷ b 
 
 abbrev pub middle : Cluster
 middle = cluster server_0 server_1
+
+-- A REFERENCE MADE THROUGH A REFERENCE TO A SLOT
+
+-- slot 1 refers to slot 0, which owns object 0, and slot 2 was made from slot 0's box, through slot 1; its object has got another word
+abbrev pub relent_slots : List Value
+relent_slots =
+    value.Own (box (word_of 0 0 0) 0) ∷ value.MutSlot 0
+    ∷ value.Mut (record { word = word_of 1 0 0; first = word_of 0 0 0; object = object 0; dirty = false; holder = place 1 1 }) ∷ []
+
+abbrev pub relent_server : Server
+relent_server = record {
+  number = 0;
+  partition = record { server = 0; limit = 4; cells = cell 0 (int 1) ∷ []; free = []; retired = 0; spare = 0 };
+  cache = [];
+  mutexes = record { home = 0; made = 0; there = [] };
+  tasks = [];
+  threads = record (new_thread 0 2 relent_slots) { made = 1 } ∷ [];
+  inbox = [];
+  outbox = [];
+  started = 0;
+  events = 8;
+}
+
+abbrev pub relent : Cluster
+relent = record { code = some_code; options = options 1; servers = relent_server ∷ [] }

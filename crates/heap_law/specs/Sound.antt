@@ -2,7 +2,7 @@
 use Rattle.std.specs.Prelude.{◌≡◌, [], List}
 use Rattle.server_model.specs.Servers.{start_of}
 use Rattle.heap_law.specs.Coherent.{Sentence, broken}
-use Rattle.heap_law.specs.Clusters.{boxed_code, options, middle}
+use Rattle.heap_law.specs.Clusters.{boxed_code, options, middle, relent}
 use Rattle.heap_law.specs.Busy.{busy}
 
 pub record SoundCompute : Type 0 where
@@ -14,3 +14,5 @@ pub record SoundCompute : Type 0 where
   -- all kinds of waiting, gifts and messages beside each other: an object under way, one taken for a mutable borrow, a par, a view that is pinned, a
   -- lock granted, a dup answered, a result joined and one under way, a task let go, a thread that moves
   pub waits : broken busy ≡ []
+  -- a box is stale through a reference that was made from it, however the place was written
+  pub lends_again : broken relent ≡ []
