@@ -21,11 +21,18 @@ use Rattle.join_home.specs.Tasks.{Task, going, let_go, kept, asked, in_pair}
 use Rattle.server_msgs.specs.declared.message.Message.{Message}
 use Rattle.server_msgs.specs.declared.message.Message.TheVariants.{Fetch, Fetched, Move, Moved, Drop, Lock, Granted, Unlock, Dup, Dupped, Release, Start, Join, Joined, Finished, Migrate}
 use Rattle.server_model.specs.Servers.{Sent, Server, Cluster}
-use Rattle.heap_law.specs.Coherent.{Sentence, broken, home_of_each, owner_of_each, owned_are_live, are_issued, below_limit, same_word, lead_home, one_state, first_at_holder, different_words, dirty_alone, copies_agree, served_are_clean, passed_lie_here, passed_not_copied, passed_not_stale, passed_in_a_walk, passed_within, walk_empty, parcels_ready, place_followed, waits_in_turn, asks_others, users_counted, uses_cached, one_answer, asked_answers, carry_what_is_asked, go_right, return_right, askers_stand, phases_stand, par_ends, pairs_noted, cells_awaited, taken_stands, taken_is_new, gifts_got, gifts_fit, named_are_there, at_their_home, one_content, shares_counted, queue_while_out, content_without_shares, thread_homes, noted_go_on, kept_at_home, results_after_end, one_task_value, task_values_owed, one_result, pairs_ended, joined_ended, recorded_stand, numbers_differ, objects_made, names_counted, few_names, counts_bounded, parts_are_typed}
+use Rattle.heap_law.specs.Coherent.{Sentence, broken, home_of_each, owner_of_each, owned_are_live, are_issued, below_limit, same_word, lead_home, one_state, first_at_holder, different_words, dirty_alone, copies_agree, served_are_clean, passed_lie_here, passed_not_copied, passed_not_stale, passed_in_a_walk, passed_within, walk_empty, parcels_ready, place_followed, waits_in_turn, asks_others, users_counted, uses_cached, one_answer, asked_answers, carry_what_is_asked, go_right, return_right, askers_stand, phases_stand, par_ends, pairs_noted, cells_awaited, taken_stands, taken_is_new, gifts_got, gifts_fit, named_are_there, at_their_home, one_content, shares_counted, queue_while_out, content_without_shares, thread_homes, noted_go_on, kept_at_home, results_after_end, one_task_value, task_values_owed, one_result, pairs_ended, joined_ended, recorded_stand, over_are_bare, none_owns_itself, parents_end, branches_give_unit, numbers_differ, objects_made, names_counted, few_names, counts_bounded, parts_are_typed}
 use Rattle.heap_law.specs.Clusters.{place, thread_no, object, int, cell, box, the_mutex, word_0, word_1, word_2, word_3, dirty_reference, shared_reference, main_slots, main_waiting, reader, locker, joiner, worker, partition_0, partition_1, copy_of, held_mutex, task, server_0, server_1, cluster, middle}
 use Rattle.heap_law.specs.Busy.{old_0, old_1, new_1, at_2, at_3, at_4, has_task, parent, writer, lender, viewer, ended, gifted, dupper, joined, fetcher, dropped, mover, shared_mutex, busy_partition, busy_notes, busy_0, busy_1, of_busy}
 
 use Rattle.heap_law.specs.Broken.{Breaks}
+
+-- words of two objects more
+abbrev at_5 : ℕ
+at_5 = word_of 0 0 5
+
+abbrev at_6 : ℕ
+at_6 = word_of 0 0 6
 
 abbrev busy_inbox : List Message → Cluster
 busy_inbox ms = of_busy (record busy_0 { inbox = ms }) busy_1
@@ -121,6 +128,18 @@ pub record SharingBreaks : Type 0 where
   pub early_join : broken (of_busy (busy_threads_0 (parent ∷ ended 0 4 ∷ dupper ∷ record (ended 1 1) { phase = phase.Ready } ∷ dropped ∷ [])) busy_1) ≡ noted_go_on ∷ joined_ended ∷ []
   -- a branch that is noted as over stands nowhere
   pub nobody : Breaks recorded_stand (of_busy (busy_threads_0 (parent ∷ dupper ∷ ended 1 1 ∷ dropped ∷ [])) busy_1)
+
+-- ROOTED
+
+pub record RootedBreaks : Type 0 where
+  -- a thread that is over has a slot
+  pub over_with_slot : Breaks over_are_bare (of_busy (busy_threads_0 (parent ∷ record (ended 0 4) { slots = value.Gone ∷ [] } ∷ dupper ∷ ended 1 1 ∷ dropped ∷ [])) busy_1)
+  -- two boxes hold each other
+  pub in_a_circle : Breaks none_owns_itself (of_busy (record busy_0 { partition = record busy_partition { cells = None ∷ None ∷ cell 2 (box at_4 4) ∷ cell 3 (int 6) ∷ cell 4 (int 8) ∷ cell 5 (box at_6 6) ∷ cell 6 (box at_5 5) ∷ [] }; threads = record parent { made = 7 } ∷ ended 0 4 ∷ dupper ∷ ended 1 1 ∷ dropped ∷ [] }) busy_1)
+  -- a branch is its own parent
+  pub own_parent : broken (of_busy (record busy_0 { tasks = slice_set busy_notes 2 (task (thread_no 0 3) (in_pair (thread_no 0 3) false)) }) busy_1) ≡ one_answer ∷ asked_answers ∷ pairs_noted ∷ parents_end ∷ []
+  -- a branch gives a number
+  pub branch_number : Breaks branches_give_unit (of_busy (record busy_0 { inbox = busy_0.inbox ++ Finished (thread_no 0 3) (int 1) ∷ [] }) (record busy_1 { threads = writer ∷ lender ∷ record (ended 0 3) { pc = 7 } ∷ gifted ∷ joined ∷ fetcher ∷ ended 1 2 ∷ []; cache = copy_of at_2 2 (box at_4 4) 0 ∷ [] }))
 
 -- NAMES
 

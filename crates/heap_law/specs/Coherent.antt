@@ -9,6 +9,7 @@ use Rattle.heap_law.specs.Placing.{homes_wrong, owners_wrong, owned_wrong, issue
 use Rattle.heap_law.specs.Walking.{passed_wrong, passed_boxes_wrong, passed_references_wrong, passed_phase_wrong, passed_count_wrong, walk_phase_wrong, parcels_wrong, followed_wrong, turn_wrong, own_requests_wrong, users_wrong, uncached_wrong}
 use Rattle.heap_law.specs.Requests.{answers_wrong, unasked_wrong, carried_wrong, routes_wrong, returns_wrong, askers_wrong, phases_wrong, par_ends_wrong, pairs_wrong, cells_wrong, taken_wrong, taken_words_wrong, gift_phases_wrong, gifts_wrong}
 use Rattle.heap_law.specs.Sharing.{named_wrong, mutex_homes_wrong, contents_wrong, shares_wrong, queues_wrong, last_shares_wrong, thread_homes_wrong, noted_wrong, kept_wrong, early_wrong, tasks_wrong, owed_wrong, results_wrong, got_pairs_wrong, joined_wrong, recorded_wrong}
+use Rattle.heap_law.specs.Rooted.{over_wrong, ownership_wrong, parents_wrong, branches_wrong}
 use Rattle.heap_law.specs.Naming.{numbers_wrong, made_wrong, counted_wrong, names_count_wrong, large_wrong, parts_wrong}
 
 -- the sentences, part by part
@@ -76,6 +77,11 @@ pub data Sentence : Type 0 where
   pairs_ended : Sentence
   joined_ended : Sentence
   recorded_stand : Sentence
+  -- what can be counted of types
+  over_are_bare : Sentence
+  none_owns_itself : Sentence
+  parents_end : Sentence
+  branches_give_unit : Sentence
   -- names
   numbers_differ : Sentence
   objects_made : Sentence
@@ -142,6 +148,10 @@ breaches_in k s one_result = results_wrong s
 breaches_in k s pairs_ended = got_pairs_wrong s
 breaches_in k s joined_ended = joined_wrong s
 breaches_in k s recorded_stand = recorded_wrong s
+breaches_in k s over_are_bare = over_wrong s
+breaches_in k s none_owns_itself = ownership_wrong s
+breaches_in k s parents_end = parents_wrong s
+breaches_in k s branches_give_unit = branches_wrong s
 breaches_in k s numbers_differ = numbers_wrong s
 breaches_in k s objects_made = made_wrong s
 breaches_in k s names_counted = counted_wrong s
@@ -227,6 +237,12 @@ pub record MutexesAndTasks (k : Cluster) : Type 0 where
   pub joined_ended : Holds k joined_ended
   pub recorded_stand : Holds k recorded_stand
 
+pub record Rooted (k : Cluster) : Type 0 where
+  pub over_are_bare : Holds k over_are_bare
+  pub none_owns_itself : Holds k none_owns_itself
+  pub parents_end : Holds k parents_end
+  pub branches_give_unit : Holds k branches_give_unit
+
 pub record Names (k : Cluster) : Type 0 where
   pub numbers_differ : Holds k numbers_differ
   pub objects_made : Holds k objects_made
@@ -237,8 +253,8 @@ pub record Names (k : Cluster) : Type 0 where
 pub record Parts (k : Cluster) : Type 0 where
   pub parts_are_typed : Holds k parts_are_typed
 
--- a cluster keeps all parts that can be counted. The part on types is not among them: it speaks of typing, and stands beside this record
--- where a statement needs it
+-- a cluster keeps all that can be counted. That is coherence but for the part on types, of which `rooted` is what can be counted: that each thread's
+-- values have the types of its instruction, and that all values agree on the types of objects, mutexes and results, is not said here
 pub record IsSound (k : Cluster) : Type 0 where
   pub one_home : OneHome k
   pub one_owner : OneOwner k
@@ -248,6 +264,7 @@ pub record IsSound (k : Cluster) : Type 0 where
   pub users : Users k
   pub requests : Requests k
   pub mutexes_and_tasks : MutexesAndTasks k
+  pub rooted : Rooted k
   pub names : Names k
   pub parts : Parts k
 
@@ -277,6 +294,9 @@ requests_sentences = one_answer ∷ asked_answers ∷ carry_what_is_asked ∷ go
 abbrev pub mutexes_and_tasks_sentences : List Sentence
 mutexes_and_tasks_sentences = named_are_there ∷ at_their_home ∷ one_content ∷ shares_counted ∷ queue_while_out ∷ content_without_shares ∷ thread_homes ∷ noted_go_on ∷ kept_at_home ∷ results_after_end ∷ one_task_value ∷ task_values_owed ∷ one_result ∷ pairs_ended ∷ joined_ended ∷ recorded_stand ∷ []
 
+abbrev pub rooted_sentences : List Sentence
+rooted_sentences = over_are_bare ∷ none_owns_itself ∷ parents_end ∷ branches_give_unit ∷ []
+
 abbrev pub names_sentences : List Sentence
 names_sentences = numbers_differ ∷ objects_made ∷ names_counted ∷ few_names ∷ counts_bounded ∷ []
 
@@ -292,7 +312,7 @@ broken_among k s [] = []
 broken_among k s (n ∷ ns) = if_broken (some (breaches_in k s n)) n (broken_among k s ns)
 
 abbrev pub all_sentences : List Sentence
-all_sentences = one_home_sentences ++ one_owner_sentences ++ words_sentences ++ copies_sentences ++ walks_sentences ++ users_sentences ++ requests_sentences ++ mutexes_and_tasks_sentences ++ names_sentences ++ parts_sentences
+all_sentences = one_home_sentences ++ one_owner_sentences ++ words_sentences ++ copies_sentences ++ walks_sentences ++ users_sentences ++ requests_sentences ++ mutexes_and_tasks_sentences ++ rooted_sentences ++ names_sentences ++ parts_sentences
 
 -- the sentences that a cluster breaks
 abbrev pub broken : Cluster → List Sentence

@@ -19,6 +19,7 @@ pub mod BrokenRest
 pub mod Laws
 pub mod Along
 pub mod OneHeap
+pub mod Rooted
 pub mod Colours
 pub mod LeftBy
 pub mod OneHeapRuns

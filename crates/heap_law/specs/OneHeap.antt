@@ -104,7 +104,7 @@ spot_owner s (as_result t) = inside (task_n t)
 spot_owner s in_hand = a_thread
 
 -- the owner of a thing's owned value. (What a `drop` message or a `release` names is owned by nobody in the state)
-abbrev owner_of : Sight → Thing → Owner
+abbrev pub owner_of : Sight → Thing → Owner
 owner_of s (holds p v) = spot_owner s p
 owner_of s (lies r a c) = inside (object_n c.object)
 owner_of s (flies w c) = inside (object_n c.object)
@@ -225,7 +225,7 @@ abbrev in_pair_of : ℕ → Thing → ℕ
 in_pair_of t (noted r x) = if_so (x.thread == t) (pair_note x.state)
 in_pair_of t x = 0
 
-abbrev is_branch : Sight → ℕ → Bool
+abbrev pub is_branch : Sight → ℕ → Bool
 is_branch s t = some (tot (in_pair_of t) s.things)
 
 -- the result of a branch that is over, until its par is done

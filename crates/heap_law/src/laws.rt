@@ -6,7 +6,7 @@ ghost use Rattle.heap_law.specs.LeftRuns.{RunsAreLeft};
 ghost use Rattle.heap_law.specs.OneHeapRuns.{OneHeapsCompute};
 ghost use Rattle.heap_law.specs.Sound.{SoundCompute};
 ghost use Rattle.heap_law.specs.Broken.{MemoryBreaks, WalksBreak};
-ghost use Rattle.heap_law.specs.BrokenRest.{RequestsBreak, SharingBreaks, NamesBreak};
+ghost use Rattle.heap_law.specs.BrokenRest.{RequestsBreak, SharingBreaks, RootedBreaks, NamesBreak};
 
 /// Clusters that break no sentence.
 pub fn sound_compute()
@@ -19,6 +19,7 @@ pub fn breaks_compute()
     ensures walks { WalksBreak }
     ensures requests { RequestsBreak }
     ensures sharing { SharingBreaks }
+    ensures rooted { RootedBreaks }
     ensures names { NamesBreak }
 {}
 

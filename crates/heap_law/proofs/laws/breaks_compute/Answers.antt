@@ -13,5 +13,8 @@ returns-clause-requests c = record { unanswered = refl; unasked = refl; other_ob
 pub returns-clause-sharing : goal.returns-clause-sharing
 returns-clause-sharing c = record { no_mutex = refl; mutex_away = refl; two_contents = refl; share_lost = refl; queued_inside = refl; content_kept = refl; other_home = refl; main_noted = refl; result_away = refl; early_result = refl; two_tasks = refl; not_owed = refl; two_results = refl; early_pair = refl; early_join = refl; nobody = refl }
 
+pub returns-clause-rooted : goal.returns-clause-rooted
+returns-clause-rooted c = record { over_with_slot = refl; in_a_circle = refl; own_parent = refl; branch_number = refl }
+
 pub returns-clause-names : goal.returns-clause-names
 returns-clause-names c = record { twice = refl; not_made = refl; not_started = refl; many = refl; no_event = refl; cached_twice = refl }
