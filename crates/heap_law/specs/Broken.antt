@@ -131,8 +131,8 @@ pub record WalksBreak : Type 0 where
   pub not_followed : Breaks place_followed (of_busy
     (record no_fetch { partition = record busy_partition { cells = None ∷ None ∷ cell 2 (box at_4 4) ∷ cell 3 (box old_1 1) ∷ cell 4 (int 8) ∷ [] } })
     (record busy_1 { threads = writer ∷ record lender { pc = 9; slots = value.Own (box at_3 3) ∷ [] } ∷ viewer ∷ gifted ∷ joined ∷ record fetcher { pc = 7; slots = []; phase = phase.Ready } ∷ ended 1 2 ∷ [] }))
-  -- a read waits for a copy that is cached
-  pub needless : Breaks waits_in_turn (of_busy busy_0 (record busy_1 { cache = copy_of at_2 2 (box at_4 4) 1 ∷ copy_of at_3 3 (int 6) 0 ∷ [] }))
+  -- a read waits for a copy that it uses
+  pub needless : Breaks waits_in_turn (of_busy busy_0 (record (with_fetcher (record fetcher { walk = at_3 ∷ [] })) { cache = copy_of at_2 2 (box at_4 4) 1 ∷ copy_of at_3 3 (int 6) 1 ∷ [] }))
   -- a thread asks its own server for an object
   pub asks_here : Breaks asks_others (of_busy (record (writing_here (record fetcher { pc = 0 })) { inbox = Dupped the_mutex (thread_no 0 6) ∷ Move at_3 (object 3) 0 (thread_no 0 8) ∷ [] }) (without_fetcher busy_1.cache))
   -- a copy in use without a user

@@ -24,3 +24,4 @@ pub mod Colours
 pub mod LeftBy
 pub mod OneHeapRuns
 pub mod LeftRuns
+pub mod Chosen

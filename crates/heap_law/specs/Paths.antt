@@ -13,10 +13,9 @@ use Rattle.mut_borrow.specs.declared.mutable.MutRef.{MutRef}
 use Rattle.thread_state.specs.View.{ThreadView}
 use Rattle.thread_state.specs.declared.value.Value.{Value}
 use Rattle.thread_state.specs.declared.value.Value.TheVariants as value
-use Rattle.heap_law.specs.Names.{tot, some}
+use Rattle.heap_law.specs.Names.{is_in}
 use Rattle.heap_law.specs.Things.{Location, at_slot, at_temp, Thing}
 use Rattle.heap_law.specs.Follow.{Standing, Ground, hops, value_in}
-use Rattle.heap_law.specs.Weights.{cached}
 
 -- the last element: the last slot, or the temporary value on top
 abbrev pub last : {A : Type 0} → List A → Option A
@@ -130,14 +129,14 @@ followed g t (reads w) = hops g t w w.depth
 followed g t (lends w) = hops g t w (w.depth - 1)
 followed g t p = []
 
--- can be read at that server: it leads there, or a copy is cached there and the pointer isn't a dirty reference
-abbrev pub is_readable : List Thing → ℕ → Awaited → Bool
-is_readable b s a = (server_of a.word == s) || (not a.comes && some (tot (cached s a.word) b))
+-- can be read at that server: it leads there, or the thread keeps a copy under its word and the pointer isn't a dirty reference
+abbrev pub is_readable : List ℕ → ℕ → Awaited → Bool
+is_readable kept s a = (server_of a.word == s) || (not a.comes && is_in a.word kept)
 
 -- the first of these that isn't readable
-abbrev pub first_unreadable : List Thing → ℕ → List Awaited → Option Awaited
-first_unreadable b s [] = None
-first_unreadable b s (a ∷ rest) = if is_readable b s a then first_unreadable b s rest else Some a
+abbrev pub first_unreadable : List ℕ → ℕ → List Awaited → Option Awaited
+first_unreadable kept s [] = None
+first_unreadable kept s (a ∷ rest) = if is_readable kept s a then first_unreadable kept s rest else Some a
 
 -- the first one with that word
 abbrev pub awaited_under : List Awaited → ℕ → Option Awaited

@@ -199,14 +199,15 @@ abbrev waits_in_turn : Sight → Standing → ℕ → Path → ℕ
 waits_in_turn s x w no_path = 0
 waits_in_turn s x w (writes p) = other (is_next_hop s x w p)
 waits_in_turn s x w (ends r) = other (r.word == w || is_next_hop s x w r.holder)
-waits_in_turn s x w p = other (is_awaited w (first_unreadable s.things x.server (awaited s.ground x.thread.number p)))
+waits_in_turn s x w p = other (is_awaited w (first_unreadable (kept_words x.thread) x.server (awaited s.ground x.thread.number p)))
 
 abbrev out_of_turn : Sight → Standing → Phase → ℕ
 out_of_turn s x (phase.WaitCell w) = waits_in_turn s x w (path s x)
 out_of_turn s x p = 0
 
 -- a write that waits for a pull waits for the object of its first hop that isn't passed, or for that of the reference that it ends; a read
--- waits for its first hop that is neither here nor cached
+-- waits for its first hop that is neither here nor in a copy that the thread keeps. (A copy under the word that it waits for may have come here for
+-- another thread in the meantime)
 abbrev pub turn_wrong : Sight → ℕ
 turn_wrong s = sum_threads s (λ x. out_of_turn s x x.thread.phase)
 

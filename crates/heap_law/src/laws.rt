@@ -2,6 +2,7 @@
 
 ghost use Rattle.heap_law.specs.Along.{RowsStayCoherent};
 ghost use Rattle.heap_law.specs.Laws.{HandOverLaw, StartLaw};
+ghost use Rattle.heap_law.specs.Chosen.{ChosenStayCoherent};
 ghost use Rattle.heap_law.specs.LeftRuns.{RunsAreLeft};
 ghost use Rattle.heap_law.specs.OneHeapRuns.{OneHeapsCompute};
 ghost use Rattle.heap_law.specs.Sound.{SoundCompute};
@@ -43,4 +44,9 @@ pub fn sums_stay()
 /// After each event of the rows the coloured heap of the cluster is the state that the journal leaves, and the counts agree.
 pub fn runs_are_left()
     ensures { RunsAreLeft }
+{}
+
+/// After each of many events that were chosen among all enabled ones no sentence is broken.
+pub fn chosen_stay_coherent()
+    ensures { ChosenStayCoherent }
 {}
