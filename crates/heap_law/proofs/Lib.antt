@@ -1,2 +1,4 @@
 mod Sums
 mod Starts
+mod ChosenRuns
+mod ChosenEndRuns

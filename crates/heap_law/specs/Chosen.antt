@@ -1,7 +1,12 @@
 -- Runs under chosen events stay coherent: at each turn one of all enabled events of all servers is taken, steps, deliveries, evictions and migrations
 -- alike, by a number that goes on from turn to turn.
-use Rattle.std.specs.Prelude.{◌≡◌, ℕ, zero, suc, ◌+◌, ◌*◌, ◌/◌, ◌%◌, ◌==◌, Bool, true, false, if◌then◌else◌, List, [], ◌∷◌, ◌++◌, length, Option, Some, None, slice_get}
+use Rattle.std.specs.Prelude.{◌≡◌, pos, ℕ, zero, suc, ◌+◌, ◌*◌, ◌/◌, ◌%◌, ◌==◌, Bool, true, false, if◌then◌else◌, List, [], ◌∷◌, ◌++◌, length, Option, Some, None, slice_get}
+use Rattle.fr_base.specs.declared.place.Lval.{Lval}
+use Rattle.fr_base.specs.Captures.{CaptureList}
+use Rattle.fr_base.specs.declared.instruction.Operand.{Operand}
+use Rattle.fr_base.specs.declared.instruction.Operand.TheVariants as operand
 use Rattle.fr_base.specs.declared.instruction.Instr.{Instr}
+use Rattle.fr_base.specs.declared.instruction.Instr.TheVariants as instr
 use Rattle.fr_base.specs.declared.settings.Options.{Options}
 use Rattle.thread_state.specs.View.{ThreadView}
 use Rattle.read_cache.specs.Cache.{Copy}
@@ -49,16 +54,16 @@ evictions o s (c ∷ cs) = kept_if o s (Evict c.word) ++ evictions o s cs
 abbrev events_at : Options → Server → List Event
 events_at o s = steps o s s.threads ++ steps o s s.threads ++ deliveries o s 0 s.inbox ++ evictions o s s.cache ++ moves o s s.threads
 
-abbrev all_events : Options → List Server → List Event
+abbrev pub all_events : Options → List Server → List Event
 all_events o [] = []
 all_events o (s ∷ ss) = events_at o s ++ all_events o ss
 
 -- TURNS
 
-abbrev next_number : ℕ → ℕ
+abbrev pub next_number : ℕ → ℕ
 next_number n = (n * 1103515245 + 12345) % 2147483648
 
-abbrev chosen : ℕ → List Event → Option Event
+abbrev pub chosen : ℕ → List Event → Option Event
 chosen n [] = None
 chosen n (e ∷ es) = slice_get (e ∷ es) ((n / 65536) % length (e ∷ es))
 
@@ -79,7 +84,39 @@ abbrev turns : ℕ → ℕ → Cluster → List Fault
 turns zero seed k = []
 turns (suc n) seed k = take_turn (turns n (next_number seed)) n k (chosen seed (all_events k.options k.servers))
 
-abbrev Stays : List Instr → Options → ℕ → ℕ → Type 0
+-- PROGRAMS
+
+abbrev at_place : ℕ → ℕ → Lval
+at_place slot depth = record { slot = slot; depth = depth }
+
+abbrev number : ℕ → Operand
+number n = operand.Const (pos n)
+
+abbrev takes_slot : ℕ → CaptureList
+takes_slot slot = record { items = (slot, true) ∷ []; spare = 0 }
+
+-- { let mut x = box box 1; { let mut r = &mut *x; { let mut s = &mut **r; *s = 5; print *s; { let mut u = &mut *s; *u = 6 }; print *s }; *r = box 9 };
+--   print **x; { let mut h = spawn (x) { **x = 7; *x; () } }; () }
+abbrev pub lent_deep : List Instr
+lent_deep =
+    instr.Box (number 1) ∷ instr.Box operand.Pop ∷ instr.Let operand.Pop
+    ∷ instr.BorrowMut (at_place 0 1) ∷ instr.Let operand.Pop ∷ instr.BorrowMut (at_place 1 2) ∷ instr.Let operand.Pop
+    ∷ instr.Assign (at_place 2 1) (number 5) ∷ instr.Read (at_place 2 1) false ∷ instr.Print operand.Pop
+    ∷ instr.BorrowMut (at_place 2 1) ∷ instr.Let operand.Pop ∷ instr.Assign (at_place 3 1) (number 6) ∷ instr.DropSlot ∷ instr.Read (at_place 2 1) false ∷ instr.Print operand.Pop
+    ∷ instr.DropSlot ∷ instr.Box (number 9) ∷ instr.Assign (at_place 1 1) operand.Pop ∷ instr.DropSlot ∷ instr.Read (at_place 0 2) false ∷ instr.Print operand.Pop
+    ∷ instr.Spawn (takes_slot 0) 27 ∷ instr.Let operand.Pop ∷ instr.DropSlot ∷ instr.DropSlot ∷ instr.End operand.Unit
+    ∷ instr.Assign (at_place 0 2) (number 7) ∷ instr.Read (at_place 0 1) true ∷ instr.Discard ∷ instr.DropSlot ∷ instr.End operand.Unit ∷ []
+
+-- { let mut m = mutex box 1; let mut a = dup m; let mut h = spawn (a) { lock a as c { *c = 8 }; a }; lock m as d { *d = 3; print *d };
+--   let mut b = join h; () }
+abbrev pub locked_by_two : List Instr
+locked_by_two =
+    instr.Box (number 1) ∷ instr.Mutex operand.Pop ∷ instr.Let operand.Pop ∷ instr.Dup (at_place 0 0) ∷ instr.Let operand.Pop ∷ instr.Spawn (takes_slot 1) 20 ∷ instr.Let operand.Pop
+    ∷ instr.Lock (at_place 0 0) ∷ instr.Assign (at_place 4 1) (number 3) ∷ instr.Read (at_place 4 1) false ∷ instr.Print operand.Pop ∷ instr.Unlock
+    ∷ instr.Read (at_place 2 0) true ∷ instr.Join operand.Pop ∷ instr.Let operand.Pop ∷ instr.DropSlot ∷ instr.DropSlot ∷ instr.DropSlot ∷ instr.DropSlot ∷ instr.End operand.Unit
+    ∷ instr.Lock (at_place 0 0) ∷ instr.Assign (at_place 2 1) (number 8) ∷ instr.Unlock ∷ instr.Read (at_place 0 0) true ∷ instr.DropSlot ∷ instr.End operand.Pop ∷ []
+
+abbrev pub Stays : List Instr → Options → ℕ → ℕ → Type 0
 Stays code o n seed = turns n seed (start_of code o) ≡ []
 
 pub record ChosenStayCoherent : Type 0 where
@@ -95,3 +132,8 @@ pub record ChosenStayCoherent : Type 0 where
   pub two_1 : Stays read_two (with_servers 2 2) 80 10
   pub locks_1 : Stays locked_elsewhere (with_servers 2 2) 80 11
   pub locks_2 : Stays locked_elsewhere (with_servers 3 65536) 80 12
+  pub deep_1 : Stays lent_deep (with_servers 2 2) 100 21
+  pub deep_2 : Stays lent_deep (with_servers 3 1) 100 22
+  pub deep_3 : Stays lent_deep (with_servers 3 65536) 100 23
+  pub shared_1 : Stays locked_by_two (with_servers 2 2) 100 31
+  pub shared_2 : Stays locked_by_two (with_servers 3 1) 100 32

@@ -106,16 +106,16 @@ show_state r s c = record {
   messages = all_messages r.journal - deliveries r.journal;
 }
 
-abbrev cluster_side : Ran → Option Coloured → List Shown
+abbrev pub cluster_side : Ran → Option Coloured → List Shown
 cluster_side r None = []
 cluster_side r (Some c) = show_cluster (sight r.cluster) c ∷ []
 
-abbrev journal_side : Ran → Option Coloured → List Shown
+abbrev pub journal_side : Ran → Option Coloured → List Shown
 journal_side r None = []
 journal_side r (Some c) = show_state r (sight r.cluster) c ∷ []
 
 -- how many events have a legal journal
-abbrev legal_events : Ran → List ℕ
+abbrev pub legal_events : Ran → List ℕ
 legal_events r = one (is_some (journal_after r.cluster.options r.journal)) ∷ []
 
 abbrev ones : List Event → List ℕ

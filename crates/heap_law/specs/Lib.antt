@@ -25,3 +25,4 @@ pub mod LeftBy
 pub mod OneHeapRuns
 pub mod LeftRuns
 pub mod Chosen
+pub mod ChosenEnds

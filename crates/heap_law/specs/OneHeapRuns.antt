@@ -59,10 +59,10 @@ pub record Shown : Type 0 where
   pub threads : List (Option PlainLife)
   pub objects : List (Option Plain)
 
-abbrev show : List ℕ → List ObjNo → PlainState → Shown
+abbrev pub show : List ℕ → List ObjNo → PlainState → Shown
 show ts os s = record { threads = map s.thread ts; objects = map s.object os }
 
-abbrev show_code : List ℕ → List ObjNo → Option CodeStepped → List Shown
+abbrev pub show_code : List ℕ → List ObjNo → Option CodeStepped → List Shown
 show_code ts os None = []
 show_code ts os (Some d) = show ts os (state_of_code d.state) ∷ []
 
@@ -85,7 +85,7 @@ abbrev Follows : List Instr → Options → List Event → List ℕ → List Obj
 Follows code o es ts os =
     along (λ r. show ts os (one_heap r.cluster) ∷ []) es (starts code o) ≡ along (λ r. show_code ts os (code_run code code_start (order r.journal))) es (starts code o)
 
-abbrev labels_in : Option CodeStepped → List (List Label)
+abbrev pub labels_in : Option CodeStepped → List (List Label)
 labels_in None = []
 labels_in (Some d) = d.labels ∷ []
 

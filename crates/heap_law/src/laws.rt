@@ -3,6 +3,7 @@
 ghost use Rattle.heap_law.specs.Along.{RowsStayCoherent};
 ghost use Rattle.heap_law.specs.Laws.{HandOverLaw, StartLaw};
 ghost use Rattle.heap_law.specs.Chosen.{ChosenStayCoherent};
+ghost use Rattle.heap_law.specs.ChosenEnds.{ChosenEnd};
 ghost use Rattle.heap_law.specs.LeftRuns.{RunsAreLeft};
 ghost use Rattle.heap_law.specs.OneHeapRuns.{OneHeapsCompute};
 ghost use Rattle.heap_law.specs.Sound.{SoundCompute};
@@ -49,4 +50,9 @@ pub fn runs_are_left()
 /// After each of many events that were chosen among all enabled ones no sentence is broken.
 pub fn chosen_stay_coherent()
     ensures { ChosenStayCoherent }
+{}
+
+/// The journal of a run under chosen events leaves the cluster's coloured heap, and its one heap is the state of the machine of compiled code.
+pub fn chosen_ends_are_left()
+    ensures { ChosenEnd }
 {}
