@@ -2,3 +2,4 @@ mod Sums
 mod Starts
 mod ChosenRuns
 mod ChosenEndRuns
+mod StaleRounds

@@ -1,13 +1,13 @@
 -- Sums over the things of servers, and that handing over changes none.
-use Rattle.std.proofs.Common.{◌≡◌, ℕ, zero, suc, ◌+◌, ◌==◌, Bool, true, false, if◌then◌else◌, List, [], ◌∷◌, ◌++◌, length, Option, Some, None, IsSome, refl, ap, subst, sym, arith}
+use Rattle.std.proofs.Common.{◌≡◌, ℕ, ◌+◌, ◌==◌, Bool, true, false, if◌then◌else◌, List, [], ◌∷◌, ◌++◌, length, Some, IsSome, refl, subst, arith}
 use Rattle.std.proofs.lemmas.Bool.Decides.{nat_tests}
 use Rattle.std.specs.List.{AllByRecursion}
 use Rattle.server_msgs.specs.declared.message.Message.{Message}
-use Rattle.server_model.specs.Servers.{Sent, Server, Cluster, server_at}
-use Rattle.server_model.specs.Clusters.{accept, accept_at, accept_all, outboxes, sent_off, hand_over}
+use Rattle.server_model.specs.Servers.{Sent, Server, server_at}
+use Rattle.server_model.specs.Clusters.{accept, accept_at, accept_all, outboxes, sent_off}
 use Rattle.heap_law.specs.Names.{tot}
-use Rattle.heap_law.specs.Things.{Thing, counts, things_at, message_things, waiting_things, leaving_things, partition_things, copy_things, mutex_things, task_things, standing_things, server_things, servers_things, things_of}
-use Rattle.heap_law.specs.Laws.{GoToServers, HandOverLaw}
+use Rattle.heap_law.specs.Things.{Thing, counts, things_at, message_things, waiting_things, leaving_things, partition_things, copy_things, mutex_things, task_things, standing_things, server_things, servers_things}
+use Rattle.heap_law.specs.Laws.{HandOverLaw}
 
 pub tot-append : {A : Type 0} (f : A → ℕ) (xs ys : List A) → tot f (xs ++ ys) ≡ tot f xs + tot f ys
 tot-append f [] ys = omega arith
@@ -35,8 +35,8 @@ seven f n p c m t x i o =
 pub server_parts : (f : Thing → ℕ) (s : Server) → tot f (server_things s) ≡ rest_of f s + inbox_of f s + all_sent f s.outbox
 server_parts f s =
     seven f (f (counts s.number (length s.partition.cells) s.partition.retired s.started s.mutexes.made s.events)) (partition_things s.number s.partition)
-      (things_at (copy_things s.number) 0 s.cache) (things_at (mutex_things s.number) 0 s.mutexes.there) (things_at (task_things s.number) 0 s.tasks)
-      (things_at (standing_things s.number) 0 s.threads) (things_at (waiting_things s.number) 0 s.inbox) (things_at leaving_things 0 s.outbox)
+    (things_at (copy_things s.number) 0 s.cache) (things_at (mutex_things s.number) 0 s.mutexes.there) (things_at (task_things s.number) 0 s.tasks)
+    (things_at (standing_things s.number) 0 s.threads) (things_at (waiting_things s.number) 0 s.inbox) (things_at leaving_things 0 s.outbox)
 
 -- a message put last
 pub waiting_pushed : (f : Thing → ℕ) (s i : ℕ) (ms : List Message) (m : Message)

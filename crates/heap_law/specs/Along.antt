@@ -6,7 +6,7 @@ use Rattle.journal.specs.declared.entry.Entry.{Entry}
 use Rattle.server_model.specs.declared.event.Event.{Event}
 use Rattle.server_model.specs.Servers.{Cluster, start_of}
 use Rattle.server_model.specs.Clusters.{apply}
-use Rattle.server_model.specs.Figures.{steps_of, deliver, evict, migrate}
+use Rattle.server_model.specs.Figures.{steps_of, deliver}
 use Rattle.server_model.specs.Programs.{with_servers, written_box, empty, lent_slot, read_elsewhere, written_elsewhere, read_by_pairs, often_written, lent_box, read_two, locked_twice, locked_elsewhere}
 use Rattle.server_model.specs.Rows.{reading_elsewhere, writing_elsewhere, reading_by_pairs, moving, evicting, locking_twice, locking_elsewhere, unlocked}
 use Rattle.heap_law.specs.Coherent.{Sentence, broken}

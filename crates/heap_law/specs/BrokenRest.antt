@@ -1,30 +1,19 @@
 -- Clusters that each break one sentence on requests, mutexes, tasks or names; where two can't be broken apart, the second of the same part too.
-use Rattle.std.specs.Prelude.{◌≡◌, ℕ, ◌+◌, ◌*◌, ◌^◌, Bool, true, false, ℤ, pos, List, [], ◌∷◌, ◌++◌, Option, Some, None, slice_set}
-use Rattle.fr_base.specs.declared.name.MutexNo.{MutexNo}
+use Rattle.std.specs.Prelude.{◌≡◌, ℕ, false, List, [], ◌∷◌, ◌++◌, Some, None, slice_set}
 use Rattle.fr_base.specs.declared.release.Released.TheVariants as released
-use Rattle.fr_base.specs.declared.instruction.Operand.TheVariants as operand
-use Rattle.fr_base.specs.declared.instruction.Instr.{Instr}
-use Rattle.fr_base.specs.declared.instruction.Instr.TheVariants as instr
 use Rattle.global_addr.specs.Words.{word_of}
-use Rattle.heap_partition.specs.declared.value.Cell.{Cell}
-use Rattle.heap_partition.specs.declared.value.Owned.{Owned}
 use Rattle.heap_partition.specs.declared.value.Owned.TheVariants as owned
-use Rattle.mut_borrow.specs.declared.mutable.MutRef.{MutRef}
-use Rattle.thread_state.specs.View.{ThreadView, new_thread}
-use Rattle.thread_state.specs.declared.value.Value.{Value}
+use Rattle.thread_state.specs.View.{ThreadView}
 use Rattle.thread_state.specs.declared.value.Value.TheVariants as value
-use Rattle.thread_state.specs.declared.phase.Phase.{Phase}
 use Rattle.thread_state.specs.declared.phase.Phase.TheVariants as phase
-use Rattle.read_cache.specs.Cache.{Copy}
 use Rattle.mutex_home.specs.Mutexes.{Mutex}
 use Rattle.join_home.specs.Tasks.{Task, going, let_go, kept, asked, in_pair}
 use Rattle.server_msgs.specs.declared.message.Message.{Message}
-use Rattle.server_msgs.specs.declared.message.Message.TheVariants.{Fetch, Fetched, Move, Moved, Drop, Lock, Granted, Unlock, Dup, Dupped, Release, Start, Join, Joined, Finished, Migrate}
-use Rattle.server_model.specs.Servers.{Sent, Server, Cluster}
-use Rattle.heap_law.specs.Coherent.{Sentence, broken, home_of_each, owner_of_each, owned_are_live, are_issued, below_limit, same_word, lead_home, one_state, first_at_holder, different_words, dirty_alone, copies_agree, served_are_clean, passed_lie_here, passed_not_copied, passed_not_stale, passed_in_a_walk, passed_within, walk_empty, parcels_ready, place_followed, waits_in_turn, asks_others, users_counted, uses_cached, one_answer, asked_answers, carry_what_is_asked, go_right, return_right, askers_stand, phases_stand, par_ends, pairs_noted, cells_awaited, taken_stands, taken_is_new, gifts_got, gifts_fit, named_are_there, at_their_home, one_content, shares_counted, queue_while_out, content_without_shares, thread_homes, noted_go_on, kept_at_home, results_after_end, one_task_value, task_values_owed, one_result, pairs_ended, joined_ended, recorded_stand, over_are_bare, none_owns_itself, parents_end, branches_give_unit, numbers_differ, objects_made, names_counted, few_names, counts_bounded, parts_are_typed}
-use Rattle.heap_law.specs.Clusters.{place, thread_no, object, int, cell, box, the_mutex, word_0, word_1, word_2, word_3, dirty_reference, shared_reference, main_slots, main_waiting, reader, locker, joiner, worker, partition_0, partition_1, copy_of, held_mutex, task, server_0, server_1, cluster, middle}
-use Rattle.heap_law.specs.Busy.{old_0, old_1, new_1, at_2, at_3, at_4, has_task, parent, writer, lender, viewer, ended, gifted, dupper, joined, fetcher, dropped, mover, shared_mutex, busy_partition, busy_notes, busy_0, busy_1, of_busy}
-
+use Rattle.server_msgs.specs.declared.message.Message.TheVariants.{Fetch, Move, Moved, Drop, Dupped, Release, Finished}
+use Rattle.server_model.specs.Servers.{Server, Cluster}
+use Rattle.heap_law.specs.Coherent.{broken, one_answer, asked_answers, carry_what_is_asked, go_right, return_right, askers_stand, phases_stand, par_ends, pairs_noted, cells_awaited, taken_stands, taken_is_new, gifts_got, gifts_fit, named_are_there, at_their_home, one_content, shares_counted, queue_while_out, content_without_shares, thread_homes, noted_go_on, kept_at_home, results_after_end, one_task_value, task_values_owed, one_result, pairs_ended, joined_ended, recorded_stand, over_are_bare, none_owns_itself, parents_end, branches_give_unit, numbers_differ, objects_made, names_counted, few_names, counts_bounded, parts_are_typed}
+use Rattle.heap_law.specs.Clusters.{thread_no, object, int, cell, box, the_mutex, word_1, word_2, word_3, main_waiting, reader, locker, joiner, worker, copy_of, held_mutex, task, server_0, server_1, cluster}
+use Rattle.heap_law.specs.Busy.{old_0, new_1, at_2, at_3, at_4, has_task, parent, writer, lender, viewer, ended, gifted, dupper, joined, fetcher, dropped, shared_mutex, busy_partition, busy_notes, busy_0, busy_1, of_busy}
 use Rattle.heap_law.specs.Broken.{Breaks}
 
 -- words of two objects more

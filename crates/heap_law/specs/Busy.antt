@@ -1,5 +1,5 @@
 -- A cluster in which all kinds of waiting, of gifts and of messages under way stand beside each other.
-use Rattle.std.specs.Prelude.{ℕ, Bool, true, false, pos, List, [], ◌∷◌, Option, Some, None}
+use Rattle.std.specs.Prelude.{ℕ, true, false, pos, List, [], ◌∷◌, Some, None}
 use Rattle.fr_base.specs.declared.release.Released.TheVariants as released
 use Rattle.fr_base.specs.declared.instruction.Operand.TheVariants as operand
 use Rattle.fr_base.specs.declared.instruction.Instr.{Instr}
@@ -13,7 +13,6 @@ use Rattle.thread_state.specs.declared.value.Value.TheVariants as value
 use Rattle.thread_state.specs.declared.phase.Phase.TheVariants as phase
 use Rattle.mutex_home.specs.Mutexes.{Mutex}
 use Rattle.join_home.specs.Tasks.{Task, going, in_pair}
-use Rattle.server_msgs.specs.declared.message.Message.{Message}
 use Rattle.server_msgs.specs.declared.message.Message.TheVariants.{Fetch, Moved, Dupped, Release, Finished, Migrate}
 use Rattle.server_model.specs.Servers.{Server, Cluster}
 use Rattle.heap_law.specs.Clusters.{place, thread_no, object, int, cell, box, options, the_mutex, copy_of, task}

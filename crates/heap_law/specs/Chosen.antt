@@ -1,6 +1,6 @@
 -- Runs under chosen events stay coherent: at each turn one of all enabled events of all servers is taken, steps, deliveries, evictions and migrations
 -- alike, by a number that goes on from turn to turn.
-use Rattle.std.specs.Prelude.{◌≡◌, pos, ℕ, zero, suc, ◌+◌, ◌*◌, ◌/◌, ◌%◌, ◌==◌, Bool, true, false, if◌then◌else◌, List, [], ◌∷◌, ◌++◌, length, Option, Some, None, slice_get}
+use Rattle.std.specs.Prelude.{◌≡◌, pos, ℕ, zero, suc, ◌+◌, ◌*◌, ◌/◌, ◌%◌, Bool, true, false, List, [], ◌∷◌, ◌++◌, length, Option, Some, None, slice_get}
 use Rattle.fr_base.specs.declared.place.Lval.{Lval}
 use Rattle.fr_base.specs.Captures.{CaptureList}
 use Rattle.fr_base.specs.declared.instruction.Operand.{Operand}

@@ -6,9 +6,8 @@ use Rattle.fr_base.specs.declared.instruction.Instr.{Instr}
 use Rattle.fr_base.specs.declared.settings.Options.{Options}
 use Rattle.journal.specs.Journals.{order, labels}
 use Rattle.server_model.specs.declared.event.Event.{Event}
-use Rattle.server_model.specs.Servers.{Cluster}
 use Rattle.server_model.specs.Figures.{Ran, run_event}
-use Rattle.server_model.specs.Programs.{with_servers, written_elsewhere, read_by_pairs, lent_box, read_two, locked_elsewhere}
+use Rattle.server_model.specs.Programs.{with_servers, written_elsewhere, read_by_pairs}
 use Rattle.coloured_heap.specs.Legal.{journal_after}
 use Rattle.fr_code.specs.Machine.{code_run, code_start}
 use Rattle.heap_law.specs.OneHeap.{one_heap}
@@ -25,6 +24,7 @@ abbrev pub run_of : ℕ → ℕ → Option Ran → Option Ran
 run_of n seed None = None
 run_of zero seed (Some r) = Some r
 run_of (suc n) seed (Some r) = run_of n (next_number seed) (taken (chosen seed (all_events r.cluster.options r.cluster.servers)) r)
+
 abbrev pub of_run : {A : Type 0} → (Ran → List A) → Option Ran → List A
 of_run f None = []
 of_run f (Some r) = f r
@@ -43,7 +43,7 @@ objects =
 
 -- its one heap is the code machine's state, with the labels
 pub record FollowsTo (code : List Instr) (o : Options) (n seed : ℕ) : Type 0 where
-  pub there : of_run (λ q. 1 ∷ []) (run_of n seed (starts code o)) ≡ 1 ∷ []
+  pub there : of_run {A = ℕ} (λ q. 1 ∷ []) (run_of n seed (starts code o)) ≡ 1 ∷ []
   pub state : of_run (λ q. show threads objects (one_heap q.cluster) ∷ []) (run_of n seed (starts code o)) ≡ of_run (λ q. show_code threads objects (code_run code code_start (order q.journal))) (run_of n seed (starts code o))
   pub labels : of_run (λ q. labels q.journal ∷ []) (run_of n seed (starts code o)) ≡ of_run (λ q. labels_in (code_run code code_start (order q.journal))) (run_of n seed (starts code o))
 

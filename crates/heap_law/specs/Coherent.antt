@@ -1,7 +1,7 @@
 -- COHERENT: what every event of a cluster keeps (in the manner of DRust, OSDI 2024; the exact sentences are this project's). Each sentence
 -- is counted: the number of things that break it in a cluster is a number that computes, and the sentence says that it is 0. In plain words
 -- each stands above the function that counts it.
-use Rattle.std.specs.Prelude.{◌≡◌, ℕ, ◌==◌, Bool, true, false, ◌&&◌, List, [], ◌∷◌, ◌++◌}
+use Rattle.std.specs.Prelude.{◌≡◌, ℕ, Bool, true, false, List, [], ◌∷◌, ◌++◌}
 use Rattle.server_model.specs.Servers.{Cluster}
 use Rattle.heap_law.specs.Names.{some}
 use Rattle.heap_law.specs.Sight.{Sight, sight}

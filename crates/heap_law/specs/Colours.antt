@@ -1,17 +1,17 @@
 -- THE COLOURED HEAP of a cluster: the state of the shared memory, as acts leave it, that the cluster stands for (in the manner of DRust; the state is
 -- this project's).
-use Rattle.std.specs.Prelude.{◌≡◌, ◌≢◌, ℕ, ◌+◌, ◌==◌, Bool, true, false, not, ◌&&◌, ◌||◌, List, [], ◌∷◌, Option, Some, None, is_some}
+use Rattle.std.specs.Prelude.{◌≡◌, ℕ, ◌==◌, Bool, true, false, not, ◌&&◌, List, [], ◌∷◌, Option, Some, None, is_some}
 use Rattle.fr_base.specs.declared.name.ObjNo.{ObjNo}
 use Rattle.fr_base.specs.declared.name.MutexNo.{MutexNo}
 use Rattle.heap_partition.specs.Plain.{plain_of}
 use Rattle.heap_partition.specs.declared.value.Cell.{Cell}
 use Rattle.join_home.specs.Tasks.{TaskState, asked}
 use Rattle.server_msgs.specs.declared.message.Message.{Message}
-use Rattle.server_msgs.specs.declared.message.Message.TheVariants.{Fetch, Fetched, Move, Moved, Drop, Lock, Granted, Dup, Join}
+use Rattle.server_msgs.specs.declared.message.Message.TheVariants.{Fetch, Fetched, Move, Moved, Lock, Granted, Dup, Join}
 use Rattle.server_model.specs.Servers.{Cluster}
 use Rattle.coloured_heap.specs.Lists.{same_plain}
-use Rattle.coloured_heap.specs.Heap.{Place, Lies, Flies, Living, Copied, Wish, ForCopy, ForObject, ForContent, ForShare, ForResult, Running, Guarded, Coloured, object_at, copy_at, thread_at, same_wish, mutex_at}
-use Rattle.heap_law.specs.Names.{tot, one, if_so, some, same_object, same_mutex, is_in}
+use Rattle.coloured_heap.specs.Heap.{Place, Lies, Flies, Living, Copied, Wish, ForCopy, ForObject, ForContent, ForShare, ForResult, Running, Coloured, object_at, copy_at, thread_at, same_wish, mutex_at}
+use Rattle.heap_law.specs.Names.{tot, one, some, same_object, same_mutex, is_in}
 use Rattle.heap_law.specs.Things.{Thing, lies, copied, sent, locks, at_home, queued, noted}
 use Rattle.heap_law.specs.Follow as follow
 use Rattle.heap_law.specs.Follow.{Standing}
@@ -42,6 +42,7 @@ dropped_by o x = 0
 abbrev living_as : Sight → ObjNo → Cell → Place → Option Living
 living_as s o c p =
     if_some (same_object c.object o) (record { object = o; place = p; word = word_or_zero (word s o); value = plain_of c.value; is_condemned = some (tot (dropped_by o) s.things) })
+
 -- it lies at a server, or flies to the one that its message goes to
 abbrev moved_living : Sight → ObjNo → ℕ → Message → Option Living
 moved_living s o r (Moved w c t) = living_as s o c (Flies r)
@@ -118,6 +119,7 @@ all_wishes s = tot (λ x. one (is_some (wish_in x))) s.things
 abbrev running_as : ℕ → Option Standing → Option Running
 running_as t None = None
 running_as t (Some x) = if_some (not (is_over x.thread.phase)) (record { thread = t; server = x.server; has_ended = false })
+
 -- the server of a thread that isn't over
 abbrev pub running_of : Sight → ℕ → Option Running
 running_of s t = running_as t (follow.thread_at s.ground.threads t)

@@ -1,6 +1,6 @@
 -- Whole runs are left by their journals: after each event the coloured heap of the cluster is the state that the journal leaves, at all names and words
 -- that the run has, and the counts of events and messages agree.
-use Rattle.std.specs.Prelude.{◌≡◌, ℕ, ◌+◌, ◌-◌, ◌==◌, Bool, true, false, List, [], ◌∷◌, ◌++◌, map, Option, Some, None, is_some}
+use Rattle.std.specs.Prelude.{◌≡◌, ℕ, ◌-◌, Bool, true, false, List, [], ◌∷◌, ◌++◌, map, Option, Some, None, is_some}
 use Rattle.fr_base.specs.declared.name.ObjNo.{ObjNo}
 use Rattle.fr_base.specs.declared.name.MutexNo.{MutexNo}
 use Rattle.fr_base.specs.declared.instruction.Instr.{Instr}
@@ -9,11 +9,10 @@ use Rattle.global_addr.specs.Words.{word_of}
 use Rattle.server_msgs.specs.declared.message.Message.{Message}
 use Rattle.server_msgs.specs.declared.message.Message.TheVariants.{Fetched}
 use Rattle.server_model.specs.declared.event.Event.{Event}
-use Rattle.server_model.specs.Servers.{Cluster}
 use Rattle.server_model.specs.Figures.{Ran, steps_of, deliver}
 use Rattle.server_model.specs.Programs.{with_servers, written_box, read_elsewhere, written_elsewhere, read_by_pairs, often_written, lent_box, read_two, locked_twice, locked_elsewhere}
 use Rattle.server_model.specs.Rows.{reading_elsewhere, writing_elsewhere, reading_by_pairs, moving, evicting, locking_twice, locking_elsewhere, unlocked}
-use Rattle.coloured_heap.specs.Heap.{Living, Copied, Wish, Running, Guarded, Coloured, object_at, copy_at, thread_at, same_wish, mutex_at}
+use Rattle.coloured_heap.specs.Heap.{Living, Copied, Running, Guarded, Coloured, object_at, copy_at, thread_at, same_wish, mutex_at}
 use Rattle.coloured_heap.specs.Legal.{journal_after}
 use Rattle.coloured_heap.specs.Reach.{is_all_reached}
 use Rattle.coloured_heap.specs.Sends.{all_messages}

@@ -1,25 +1,22 @@
 -- NAMES, and what the types of a server's parts keep (this project's rules). Each function counts what breaks the sentence above it.
-use Rattle.std.specs.Prelude.{ℕ, zero, suc, ◌+◌, ◌*◌, ◌/◌, ◌%◌, ◌^◌, ◌==◌, nat_lt, nat_le, Bool, true, false, not, ◌&&◌, ◌||◌, List, [], ◌∷◌, ◌++◌, length, Option, Some, None, is_some}
+use Rattle.std.specs.Prelude.{ℕ, ◌+◌, ◌*◌, ◌%◌, ◌^◌, ◌==◌, nat_lt, nat_le, Bool, true, ◌&&◌, ◌||◌, List, [], ◌∷◌, Option, Some, None}
 use Rattle.fr_base.specs.declared.name.ObjNo.{ObjNo}
 use Rattle.fr_base.specs.declared.name.MutexNo.{MutexNo}
 use Rattle.fr_base.specs.declared.release.Released.{Released}
 use Rattle.fr_base.specs.declared.release.Released.TheVariants as released
-use Rattle.fr_base.specs.declared.settings.Options.{Options}
 use Rattle.heap_partition.specs.declared.value.Owned.{Owned}
 use Rattle.heap_partition.specs.declared.value.Owned.TheVariants as owned
-use Rattle.owner_box.specs.View.{PartitionView}
-use Rattle.thread_state.specs.View.{ThreadView, is_pinned}
+use Rattle.thread_state.specs.View.{is_pinned}
 use Rattle.thread_state.specs.declared.value.Value.{Value}
 use Rattle.thread_state.specs.declared.phase.Phase.{Phase}
 use Rattle.thread_state.specs.declared.phase.Phase.TheVariants as phase
 use Rattle.read_cache.specs.Cache.{Copy}
-use Rattle.mutex_home.specs.Mutexes.{Mutex}
-use Rattle.join_home.specs.Tasks.{Task, TaskState, asked, in_pair}
+use Rattle.join_home.specs.Tasks.{TaskState, asked, in_pair}
 use Rattle.server_msgs.specs.declared.message.Message.{Message}
-use Rattle.server_msgs.specs.declared.message.Message.TheVariants.{Fetch, Fetched, Move, Moved, Lock, Granted, Dup, Dupped, Release, Start, Join, Joined, Finished, Migrate}
+use Rattle.server_msgs.specs.declared.message.Message.TheVariants.{Fetch, Fetched, Move, Moved, Lock, Granted, Dup, Dupped, Release, Join, Joined, Finished}
 use Rattle.server_model.specs.Servers.{Server, Cluster}
-use Rattle.heap_law.specs.Names.{tot, one, other, if_so, some, same_object, same_mutex}
-use Rattle.heap_law.specs.Things.{Thing, holds, locks, lies, flies, copied, sent, stands, at_home, queued, noted, retired, vacant, counts}
+use Rattle.heap_law.specs.Names.{tot, one, other, if_so, some}
+use Rattle.heap_law.specs.Things.{Thing, holds, lies, flies, copied, sent, stands, at_home, queued, noted, retired, counts}
 use Rattle.heap_law.specs.Follow.{Standing, thread_at}
 use Rattle.heap_law.specs.Sight.{Sight}
 use Rattle.heap_law.specs.Weights.{is_thread}

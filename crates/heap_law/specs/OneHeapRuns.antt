@@ -1,8 +1,7 @@
 -- The one heap of a cluster along whole runs: after each event it is the state of the machine of compiled code under the order of the journal,
 -- which runs what starts and joins threads.
-use Rattle.std.specs.Prelude.{◌≡◌, ℕ, Bool, true, false, List, [], ◌∷◌, ◌++◌, length, map, Option, Some, None}
+use Rattle.std.specs.Prelude.{◌≡◌, ℕ, true, false, List, [], ◌∷◌, ◌++◌, length, map, Option, Some, None}
 use Rattle.fr_base.specs.declared.name.ObjNo.{ObjNo}
-use Rattle.fr_base.specs.declared.name.MutexNo.{MutexNo}
 use Rattle.fr_base.specs.declared.label.Label.{Label}
 use Rattle.fr_base.specs.declared.label.Plain.{Plain}
 use Rattle.fr_base.specs.declared.label.Plain.TheVariants as plain
@@ -19,7 +18,7 @@ use Rattle.server_model.specs.Servers.{start_of}
 use Rattle.server_model.specs.Figures.{Ran, run_event, steps_of, deliver}
 use Rattle.server_model.specs.Programs.{with_servers, written_box, lent_slot, read_elsewhere, written_elsewhere, often_written, lent_box}
 use Rattle.server_model.specs.Rows.{reading_elsewhere, writing_elsewhere, moving}
-use Rattle.heap_law.specs.OneHeap.{PlainValue, own, to_slot, to_object, PlainLife, runs, ended, taken, PlainMutex, PlainState, one_heap}
+use Rattle.heap_law.specs.OneHeap.{PlainValue, own, to_slot, to_object, PlainLife, runs, ended, taken, PlainState, one_heap}
 
 -- THE STATE OF THE CODE MACHINE
 

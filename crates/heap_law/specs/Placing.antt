@@ -1,13 +1,12 @@
 -- ONE HOME, ONE OWNER, and the words that lead there (in the manner of DRust; colours and stale pointers are this project's rules).
 -- Each function counts what breaks the sentence above it.
-use Rattle.std.specs.Prelude.{ℕ, ◌+◌, ◌==◌, nat_lt, nat_le, Bool, true, false, not, ◌&&◌, ◌||◌, List, [], ◌∷◌, Option, Some, None, is_some}
+use Rattle.std.specs.Prelude.{ℕ, ◌+◌, ◌==◌, nat_lt, Bool, true, false, not, ◌&&◌, List, [], ◌∷◌, Option, Some, None, is_some}
 use Rattle.fr_base.specs.declared.name.ObjNo.{ObjNo}
-use Rattle.global_addr.specs.Words.{colour_of, server_of, address_of, spot_of}
+use Rattle.global_addr.specs.Words.{colour_of, server_of, address_of}
 use Rattle.heap_partition.specs.declared.value.Cell.{Cell}
 use Rattle.heap_partition.specs.declared.value.Owned.{Owned}
 use Rattle.heap_partition.specs.declared.value.Owned.TheVariants as owned
 use Rattle.mut_borrow.specs.declared.mutable.MutRef.{MutRef}
-use Rattle.thread_state.specs.View.{ThreadView}
 use Rattle.thread_state.specs.declared.value.Value.{Value}
 use Rattle.thread_state.specs.declared.value.Value.TheVariants as value
 use Rattle.thread_state.specs.declared.phase.Phase.{Phase}
@@ -15,10 +14,10 @@ use Rattle.thread_state.specs.declared.phase.Phase.TheVariants as phase
 use Rattle.server_msgs.specs.declared.message.Message.{Message}
 use Rattle.server_msgs.specs.declared.message.Message.TheVariants.{Fetch, Fetched, Move, Drop}
 use Rattle.heap_law.specs.Names.{tot, one, other, if_so, some, same_object, same_cell}
-use Rattle.heap_law.specs.Things.{Location, Thing, holds, shares, borrows, lies, flies, vacant, retired, copied, uses, sent, stands, counts}
-use Rattle.heap_law.specs.Follow.{Ground, value_behind, cell_of}
+use Rattle.heap_law.specs.Things.{Location, Thing, holds, shares, borrows, lies, flies, vacant, copied, uses, sent, stands}
+use Rattle.heap_law.specs.Follow.{Ground, value_behind}
 use Rattle.heap_law.specs.Stale.{Reference, references, is_among}
-use Rattle.heap_law.specs.Sight.{Sight, Pointer, is_stale, is_word, word_of_object, cell_of_word, is_object_among, word, issued}
+use Rattle.heap_law.specs.Sight.{Sight, Pointer, is_stale, is_word, cell_of_word, is_object_among, word, issued}
 use Rattle.heap_law.specs.Weights.{cells, owners, states}
 
 -- the sum over all things

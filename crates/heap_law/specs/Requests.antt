@@ -1,6 +1,6 @@
 -- REQUESTS: what a waiting thread will be answered by, and what messages carry and where they go (this project's rules). Each
 -- function counts what breaks the sentence above it.
-use Rattle.std.specs.Prelude.{ℕ, zero, suc, ◌+◌, ◌*◌, ◌/◌, ◌%◌, ◌^◌, ◌==◌, nat_lt, Bool, true, false, not, ◌&&◌, ◌||◌, List, [], ◌∷◌, Option, Some, None, is_some}
+use Rattle.std.specs.Prelude.{ℕ, zero, suc, ◌+◌, ◌/◌, ◌%◌, ◌^◌, ◌==◌, nat_lt, Bool, true, false, not, ◌&&◌, Option, Some, None, is_some}
 use Rattle.fr_base.specs.declared.name.ObjNo.{ObjNo}
 use Rattle.fr_base.specs.declared.name.MutexNo.{MutexNo}
 use Rattle.fr_base.specs.declared.release.Released.{Released}
@@ -11,17 +11,16 @@ use Rattle.fr_base.specs.declared.place.Lval.{Lval}
 use Rattle.global_addr.specs.Words.{server_of}
 use Rattle.heap_partition.specs.declared.value.Owned.{Owned}
 use Rattle.heap_partition.specs.declared.value.Owned.TheVariants as owned
-use Rattle.thread_state.specs.View.{ThreadView}
 use Rattle.thread_state.specs.declared.value.Value.{Value}
 use Rattle.thread_state.specs.declared.value.Value.TheVariants as value
 use Rattle.thread_state.specs.declared.phase.Phase.{Phase}
 use Rattle.thread_state.specs.declared.phase.Phase.TheVariants as phase
-use Rattle.join_home.specs.Tasks.{Task, TaskState, asked, in_pair}
+use Rattle.join_home.specs.Tasks.{TaskState, asked, in_pair}
 use Rattle.server_msgs.specs.declared.message.Message.{Message}
-use Rattle.server_msgs.specs.declared.message.Message.TheVariants.{Fetch, Fetched, Move, Moved, Drop, Lock, Granted, Unlock, Dup, Dupped, Release, Start, Join, Joined, Finished, Migrate}
+use Rattle.server_msgs.specs.declared.message.Message.TheVariants.{Fetch, Fetched, Move, Moved, Drop, Lock, Granted, Unlock, Dup, Dupped, Release, Start, Join, Joined, Finished}
 use Rattle.heap_law.specs.Names.{tot, one, other, if_so, some, same_object, same_mutex, same_owned}
-use Rattle.heap_law.specs.Things.{Location, in_cell, Thing, sent, stands, queued, noted}
-use Rattle.heap_law.specs.Follow.{Standing, Ground, thread_at, place_at, value_at, hop_at}
+use Rattle.heap_law.specs.Things.{Location, in_cell, Thing, sent, queued, noted}
+use Rattle.heap_law.specs.Follow.{Standing, thread_at, place_at, value_at, hop_at}
 use Rattle.heap_law.specs.Sight.{Sight, is_word, word}
 use Rattle.heap_law.specs.Weights.{lies_at}
 use Rattle.heap_law.specs.Paths.{Awaited, awaited, awaited_under, joined_thread}
@@ -318,7 +317,7 @@ over_at r t x = 0
 abbrev is_pair : Sight → Standing → Phase → ℕ
 is_pair s x (phase.WaitPar a b) =
     other (((some (sum_over s (half_at x.server x.thread.number a)) && some (sum_over s (half_at x.server x.thread.number b)))
-      && not (a == b)) && not (some (sum_over s (over_at x.server a)) && some (sum_over s (over_at x.server b))))
+    && not (a == b)) && not (some (sum_over s (over_at x.server a)) && some (sum_over s (over_at x.server b))))
 is_pair s x p = 0
 
 -- in `WaitPar(a, b)` the threads a and b are the pair of that thread at its server, and not both are noted there as over

@@ -1,6 +1,6 @@
 -- ROOTED: what can be counted of the part on types (this project's rules). The rest of that part speaks of typing and isn't here. Each function
 -- counts what breaks the sentence above it.
-use Rattle.std.specs.Prelude.{ℕ, zero, suc, ◌+◌, ◌==◌, Bool, true, false, not, ◌&&◌, ◌||◌, List, [], ◌∷◌, length, Option, Some, None, is_some}
+use Rattle.std.specs.Prelude.{ℕ, zero, suc, ◌+◌, ◌==◌, Bool, true, false, ◌&&◌, List, [], ◌∷◌, length, Option, Some, None, is_some}
 use Rattle.fr_base.specs.declared.instruction.Instr.{Instr}
 use Rattle.fr_base.specs.declared.instruction.Instr.TheVariants as instr
 use Rattle.heap_partition.specs.declared.value.Owned.{Owned}
@@ -8,7 +8,7 @@ use Rattle.heap_partition.specs.declared.value.Owned.TheVariants as owned
 use Rattle.join_home.specs.Tasks.{TaskState, kept, in_pair}
 use Rattle.server_msgs.specs.declared.message.Message.{Message}
 use Rattle.server_msgs.specs.declared.message.Message.TheVariants.{Finished}
-use Rattle.heap_law.specs.Names.{tot, one, other, if_so, some}
+use Rattle.heap_law.specs.Names.{one, other, if_so}
 use Rattle.heap_law.specs.Things.{Thing, lies, flies, sent, at_home, noted}
 use Rattle.heap_law.specs.Follow.{Standing}
 use Rattle.heap_law.specs.Sight.{Sight}

@@ -1,24 +1,21 @@
 -- MUTEXES AND TASKS: contents, shares, results and what their homes have noted (this project's rules). Each function counts what breaks
 -- the sentence above it.
-use Rattle.std.specs.Prelude.{ℕ, zero, suc, ◌+◌, ◌/◌, ◌%◌, ◌^◌, ◌==◌, nat_lt, nat_le, Bool, true, false, not, ◌&&◌, ◌||◌, List, [], ◌∷◌, length, Option, Some, None, is_some}
+use Rattle.std.specs.Prelude.{ℕ, ◌+◌, ◌==◌, nat_le, Bool, true, false, not, ◌&&◌, ◌||◌, length, Option, Some, None, is_some}
 use Rattle.fr_base.specs.declared.name.MutexNo.{MutexNo}
 use Rattle.fr_base.specs.declared.release.Released.{Released}
 use Rattle.fr_base.specs.declared.release.Released.TheVariants as released
-use Rattle.fr_base.specs.declared.instruction.Instr.{Instr}
-use Rattle.fr_base.specs.declared.instruction.Instr.TheVariants as instr
 use Rattle.heap_partition.specs.declared.value.Owned.{Owned}
 use Rattle.heap_partition.specs.declared.value.Owned.TheVariants as owned
-use Rattle.thread_state.specs.View.{ThreadView}
 use Rattle.thread_state.specs.declared.phase.Phase.{Phase}
 use Rattle.thread_state.specs.declared.phase.Phase.TheVariants as phase
-use Rattle.join_home.specs.Tasks.{Task, TaskState, going, let_go, kept, asked, in_pair}
+use Rattle.join_home.specs.Tasks.{TaskState, going, let_go, kept, asked, in_pair}
 use Rattle.server_msgs.specs.declared.message.Message.{Message}
 use Rattle.server_msgs.specs.declared.message.Message.TheVariants.{Lock, Granted, Unlock, Dup, Dupped, Release, Joined, Finished}
-use Rattle.heap_law.specs.Names.{tot, one, other, if_so, some, same_mutex}
-use Rattle.heap_law.specs.Things.{Spot, as_gift, as_content, Thing, holds, locks, lies, flies, sent, stands, at_home, queued, noted}
+use Rattle.heap_law.specs.Names.{one, other, if_so, some, same_mutex}
+use Rattle.heap_law.specs.Things.{Spot, as_content, Thing, holds, locks, lies, flies, sent, stands, at_home, queued, noted}
 use Rattle.heap_law.specs.Follow.{Standing, thread_at}
 use Rattle.heap_law.specs.Sight.{Sight}
-use Rattle.heap_law.specs.Weights.{is_home_of, shares_of, tasks_of}
+use Rattle.heap_law.specs.Weights.{shares_of, tasks_of}
 use Rattle.heap_law.specs.Paths.{joined_thread}
 use Rattle.heap_law.specs.Placing.{sum_over}
 use Rattle.heap_law.specs.Walking.{sum_threads, instr_of}

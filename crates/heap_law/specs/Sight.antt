@@ -1,5 +1,5 @@
 -- What the laws of coherent memory look at in a cluster: its things, where its stale pointers stand, and the word of each object.
-use Rattle.std.specs.Prelude.{◌≡◌, ℕ, zero, suc, ◌+◌, ◌==◌, nat_lt, nat_le, Bool, true, false, not, ◌&&◌, ◌||◌, if◌then◌else◌, List, [], ◌∷◌, ◌++◌, Option, Some, None, slice_get}
+use Rattle.std.specs.Prelude.{ℕ, ◌==◌, nat_lt, nat_le, Bool, true, false, not, ◌&&◌, ◌||◌, if◌then◌else◌, List, [], ◌∷◌, ◌++◌, Option, Some, None, slice_get}
 use Rattle.fr_base.specs.declared.name.ObjNo.{ObjNo}
 use Rattle.fr_base.specs.declared.settings.Options.{Options}
 use Rattle.fr_base.specs.declared.instruction.Instr.{Instr}

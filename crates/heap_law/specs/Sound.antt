@@ -1,7 +1,7 @@
 -- Clusters that break no sentence.
-use Rattle.std.specs.Prelude.{◌≡◌, [], List}
+use Rattle.std.specs.Prelude.{◌≡◌, []}
 use Rattle.server_model.specs.Servers.{start_of}
-use Rattle.heap_law.specs.Coherent.{Sentence, broken}
+use Rattle.heap_law.specs.Coherent.{broken}
 use Rattle.heap_law.specs.Clusters.{boxed_code, options, middle, relent}
 use Rattle.heap_law.specs.Busy.{busy}
 

@@ -1,12 +1,11 @@
 -- Stale pointers (this project's rule): a pointer is stale while its object is written or gets another word through a mutable
 -- reference that was made from it. Which pointer a reference was made from is a location, however the place was written.
-use Rattle.std.specs.Prelude.{◌≡◌, ℕ, zero, suc, ◌==◌, Bool, true, false, ◌&&◌, ◌||◌, List, [], ◌∷◌, ◌++◌, length, Option, Some, None, slice_get}
+use Rattle.std.specs.Prelude.{◌≡◌, ◌⊎◌, ℕ, zero, suc, ◌==◌, Bool, true, false, ◌&&◌, ◌||◌, List, [], ◌∷◌, ◌++◌, length, Option, Some, None, slice_get}
 use Rattle.fr_base.specs.declared.place.Lval.{Lval}
 use Rattle.fr_base.specs.declared.instruction.Instr.{Instr}
 use Rattle.fr_base.specs.declared.instruction.Instr.TheVariants as instr
 use Rattle.mut_borrow.specs.declared.mutable.MutRef.{MutRef}
 use Rattle.mut_borrow.specs.Refs.{changed}
-use Rattle.thread_state.specs.View.{ThreadView}
 use Rattle.thread_state.specs.declared.phase.Phase.{Phase}
 use Rattle.thread_state.specs.declared.phase.Phase.TheVariants as phase
 use Rattle.heap_law.specs.Names.{same_object}
@@ -59,16 +58,26 @@ lent_places code g (x ∷ xs) = with_place (lent_place g x.thread.number x.threa
 
 -- THE RULE
 
+-- a reference was made from the pointer at that location
+abbrev pub is_held_at : Location → Option Location → Bool
+is_held_at l None = false
+is_held_at l (Some h) = same_location h l
+
+-- it is one of these
+abbrev pub IsOf : Reference → List Reference → Type 0
+IsOf r [] = ⊥
+IsOf r (q ∷ qs) = (q ≡ r) ⊎ IsOf r qs
+
 -- a pointer at a location is stale exactly where a mutable reference made from it is alive whose word isn't its first or which
 -- is dirty, or which is itself stale; or where a thread has taken the object for a mutable borrow from it
 pub data Stale (lent : List Location) (rs : List Reference) : Location → Type 0 where
-  changed_above : {l : Location} (n : ℕ) (r : Reference) → slice_get rs n ≡ Some r → r.holder ≡ Some l → changed r.reference ≡ true → Stale lent rs l
-  stale_above : {l : Location} (n : ℕ) (r : Reference) → slice_get rs n ≡ Some r → r.holder ≡ Some l → Stale lent rs r.at → Stale lent rs l
-  taken_above : {l : Location} (n : ℕ) → slice_get lent n ≡ Some l → Stale lent rs l
+  changed_above : {l : Location} (r : Reference) → IsOf r rs → is_held_at l r.holder ≡ true → changed r.reference ≡ true → Stale lent rs l
+  stale_above : {l : Location} (r : Reference) → IsOf r rs → is_held_at l r.holder ≡ true → Stale lent rs r.at → Stale lent rs l
+  taken_above : {l : Location} → is_among l lent ≡ true → Stale lent rs l
 
 -- THE SAME BY ROUNDS
 
-abbrev if_holder : Bool → Option Location → List Location → List Location
+abbrev pub if_holder : Bool → Option Location → List Location → List Location
 if_holder true (Some l) ls = l ∷ ls
 if_holder _ _ ls = ls
 
@@ -85,3 +94,8 @@ stale_rounds (suc n) lent rs = lent ++ holders (stale_rounds n lent rs) rs
 -- where stale pointers stand
 abbrev pub stale_places : List Instr → Ground → List Thing → List Location
 stale_places code g b = let rs = references g b in stale_rounds (length rs) (lent_places code g g.threads) rs
+
+-- the rounds find what the rule says: what some number of rounds finds is stale, and what is stale is found after some number of rounds
+pub record RoundsLaw : Type 0 where
+  pub sound : (lent : List Location) (rs : List Reference) (n : ℕ) (l : Location) → is_among l (stale_rounds n lent rs) ≡ true → Stale lent rs l
+  pub complete : (lent : List Location) (rs : List Reference) (l : Location) → Stale lent rs l → (n : ℕ) × (is_among l (stale_rounds n lent rs) ≡ true)

@@ -1,6 +1,6 @@
 -- All that stands anywhere in a cluster, as one list of things (this project's rule). What a coherent cluster keeps is said by
 -- sums over this list, so it does not depend on the order of the list, nor on which list of a server a message stands in.
-use Rattle.std.specs.Prelude.{ℕ, ◌+◌, ◌/◌, ◌%◌, ◌^◌, ◌==◌, ◌||◌, Bool, true, false, if◌then◌else◌, List, [], ◌∷◌, ◌++◌, length, Option, Some, None}
+use Rattle.std.specs.Prelude.{ℕ, ◌+◌, ◌==◌, ◌||◌, Bool, true, false, if◌then◌else◌, List, [], ◌∷◌, ◌++◌, length, Option, Some, None}
 use Rattle.fr_base.specs.declared.name.ObjNo.{ObjNo}
 use Rattle.fr_base.specs.declared.name.MutexNo.{MutexNo}
 use Rattle.heap_partition.specs.declared.value.Cell.{Cell}
@@ -12,10 +12,10 @@ use Rattle.thread_state.specs.View.{ThreadView}
 use Rattle.thread_state.specs.declared.value.Value.{Value}
 use Rattle.thread_state.specs.declared.value.Value.TheVariants as value
 use Rattle.read_cache.specs.Cache.{Copy}
-use Rattle.mutex_home.specs.Mutexes.{Mutex, Mutexes}
-use Rattle.join_home.specs.Tasks.{Task, TaskState, going, let_go, kept, asked, in_pair}
+use Rattle.mutex_home.specs.Mutexes.{Mutex}
+use Rattle.join_home.specs.Tasks.{Task, TaskState, kept}
 use Rattle.server_msgs.specs.declared.message.Message.{Message}
-use Rattle.server_msgs.specs.declared.message.Message.TheVariants.{Fetch, Fetched, Move, Moved, Drop, Lock, Granted, Unlock, Dup, Dupped, Release, Start, Join, Joined, Finished, Migrate}
+use Rattle.server_msgs.specs.declared.message.Message.TheVariants.{Moved, Granted, Unlock, Start, Joined, Finished, Migrate}
 use Rattle.server_model.specs.Servers.{Sent, Server, Cluster}
 
 -- where a pointer can stand that a place leads to: a slot or a temporary value of a thread, the cell of an object, wherever

@@ -1,13 +1,12 @@
 -- WALKS AND USERS: what a thread in the middle of a step has made ready, and which cached words are in use (this project's rules).
 -- Each function counts what breaks the sentence above it.
-use Rattle.std.specs.Prelude.{ℕ, zero, suc, ◌+◌, ◌-◌, ◌==◌, nat_lt, nat_le, Bool, true, false, not, ◌&&◌, ◌||◌, List, [], ◌∷◌, ◌++◌, length, take, Option, Some, None, slice_get, is_some}
+use Rattle.std.specs.Prelude.{ℕ, zero, suc, ◌+◌, ◌==◌, nat_lt, nat_le, Bool, true, false, not, ◌&&◌, ◌||◌, List, [], ◌∷◌, ◌++◌, length, Option, Some, None, slice_get}
 use Rattle.fr_base.specs.declared.place.Lval.{Lval}
 use Rattle.fr_base.specs.declared.instruction.Instr.{Instr}
 use Rattle.fr_base.specs.declared.instruction.Instr.TheVariants as instr
 use Rattle.global_addr.specs.Words.{server_of}
 use Rattle.heap_partition.specs.declared.value.Owned.{Owned}
 use Rattle.heap_partition.specs.declared.value.Owned.TheVariants as owned
-use Rattle.mut_borrow.specs.declared.mutable.MutRef.{MutRef}
 use Rattle.thread_state.specs.View.{ThreadView}
 use Rattle.thread_state.specs.declared.value.Value.{Value}
 use Rattle.thread_state.specs.declared.value.Value.TheVariants as value
@@ -16,11 +15,11 @@ use Rattle.thread_state.specs.declared.phase.Phase.TheVariants as phase
 use Rattle.server_msgs.specs.declared.message.Message.{Message}
 use Rattle.server_msgs.specs.declared.message.Message.TheVariants.{Fetch, Move}
 use Rattle.heap_law.specs.Names.{tot, one, other, if_so, some, is_in}
-use Rattle.heap_law.specs.Things.{Location, Thing, copied, uses, sent, stands}
+use Rattle.heap_law.specs.Things.{Location, Thing, copied, uses, sent}
 use Rattle.heap_law.specs.Follow.{Standing, Ground, locate, value_behind, hop_at}
 use Rattle.heap_law.specs.Sight.{Sight, is_stale}
 use Rattle.heap_law.specs.Weights.{lies_at, copies, cached, uses_of}
-use Rattle.heap_law.specs.Paths.{Path, no_path, reads, shares, lends, writes, ends, path_of, written_place, Awaited, awaited, followed, first_unreadable, awaited_under}
+use Rattle.heap_law.specs.Paths.{Path, no_path, lends, writes, ends, path_of, written_place, Awaited, awaited, followed, first_unreadable}
 use Rattle.heap_law.specs.Placing.{sum_over}
 
 -- the sum over all threads, those in parcels too

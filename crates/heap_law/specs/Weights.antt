@@ -1,14 +1,13 @@
 -- Weights of things: how much each thing counts for a sentence of coherent memory. Their sums over all things say the sentence.
-use Rattle.std.specs.Prelude.{ℕ, ◌+◌, ◌==◌, nat_lt, nat_le, Bool, true, false, not, ◌&&◌, ◌||◌, if◌then◌else◌, List, [], ◌∷◌, Option, Some, None}
+use Rattle.std.specs.Prelude.{ℕ, ◌==◌, ◌&&◌}
 use Rattle.fr_base.specs.declared.name.ObjNo.{ObjNo}
 use Rattle.fr_base.specs.declared.name.MutexNo.{MutexNo}
 use Rattle.fr_base.specs.declared.release.Released.{Released}
 use Rattle.fr_base.specs.declared.release.Released.TheVariants as released
-use Rattle.heap_partition.specs.declared.value.Owned.{Owned}
 use Rattle.server_msgs.specs.declared.message.Message.{Message}
-use Rattle.server_msgs.specs.declared.message.Message.TheVariants.{Fetch, Fetched, Move, Moved, Drop, Lock, Granted, Unlock, Dup, Dupped, Release, Start, Join, Joined, Finished, Migrate}
-use Rattle.heap_law.specs.Names.{one, other, if_so, same_object, same_mutex, boxes, mutex_values, task_values}
-use Rattle.heap_law.specs.Things.{Thing, holds, shares, borrows, locks, lies, flies, vacant, retired, copied, uses, sent, stands, at_home, queued, noted, counts}
+use Rattle.server_msgs.specs.declared.message.Message.TheVariants.{Fetched, Drop, Dupped, Release}
+use Rattle.heap_law.specs.Names.{one, same_object, same_mutex, boxes, mutex_values, task_values}
+use Rattle.heap_law.specs.Things.{Thing, holds, lies, flies, vacant, retired, copied, uses, sent, stands, at_home}
 
 -- CELLS AND OWNERS
 

@@ -6,6 +6,7 @@ ghost use Rattle.heap_law.specs.Chosen.{ChosenStayCoherent};
 ghost use Rattle.heap_law.specs.ChosenEnds.{ChosenEnd};
 ghost use Rattle.heap_law.specs.LeftRuns.{RunsAreLeft};
 ghost use Rattle.heap_law.specs.OneHeapRuns.{OneHeapsCompute};
+ghost use Rattle.heap_law.specs.Stale.{RoundsLaw};
 ghost use Rattle.heap_law.specs.Sound.{SoundCompute};
 ghost use Rattle.heap_law.specs.Broken.{MemoryBreaks, WalksBreak};
 ghost use Rattle.heap_law.specs.BrokenRest.{RequestsBreak, SharingBreaks, RootedBreaks, NamesBreak};
@@ -55,4 +56,9 @@ pub fn chosen_stay_coherent()
 /// The journal of a run under chosen events leaves the cluster's coloured heap, and its one heap is the state of the machine of compiled code.
 pub fn chosen_ends_are_left()
     ensures { ChosenEnd }
+{}
+
+/// The rounds that tell stale pointers find what the rule says.
+pub fn rounds_tell_stale()
+    ensures { RoundsLaw }
 {}
