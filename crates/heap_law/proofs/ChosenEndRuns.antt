@@ -1,7 +1,7 @@
 -- Where runs under chosen events lead, one by one.
 use Rattle.std.proofs.Common.{refl}
 use Rattle.server_model.specs.Programs.{with_servers, written_elsewhere, read_by_pairs}
-use Rattle.heap_law.specs.Chosen.{lent_deep, locked_by_two}
+use Rattle.heap_law.specs.Chosen.{lent_deep, locked_by_two, viewed_twice, locked_in_box}
 use Rattle.heap_law.specs.ChosenEnds.{Leaves, FollowsTo, ChosenEnd}
 
 deep_30 : Leaves lent_deep (with_servers 2 2) 30 21
@@ -28,6 +28,12 @@ pairs_45 = record { legal = refl; same = refl }
 pairs_80 : Leaves read_by_pairs (with_servers 2 2) 80 42
 pairs_80 = record { legal = refl; same = refl }
 
+viewed_60 : Leaves viewed_twice (with_servers 2 2) 60 43
+viewed_60 = record { legal = refl; same = refl }
+
+boxed_50 : Leaves locked_in_box (with_servers 2 1) 50 53
+boxed_50 = record { legal = refl; same = refl }
+
 plain_deep_20 : FollowsTo lent_deep (with_servers 2 2) 20 51
 plain_deep_20 = record { there = refl; state = refl; labels = refl }
 
@@ -53,4 +59,4 @@ plain_written_60 : FollowsTo written_elsewhere (with_servers 3 2) 60 62
 plain_written_60 = record { there = refl; state = refl; labels = refl }
 
 pub chosen_end : ChosenEnd
-chosen_end = record { deep_30 = deep_30; deep_60 = deep_60; deep_90 = deep_90; shared_30 = shared_30; shared_60 = shared_60; shared_90 = shared_90; pairs_45 = pairs_45; pairs_80 = pairs_80; plain_deep_20 = plain_deep_20; plain_deep_40 = plain_deep_40; plain_deep_60 = plain_deep_60; plain_deep_80 = plain_deep_80; plain_deep_100 = plain_deep_100; plain_deep_120 = plain_deep_120; plain_written_30 = plain_written_30; plain_written_60 = plain_written_60 }
+chosen_end = record { deep_30 = deep_30; deep_60 = deep_60; deep_90 = deep_90; shared_30 = shared_30; shared_60 = shared_60; shared_90 = shared_90; pairs_45 = pairs_45; pairs_80 = pairs_80; viewed_60 = viewed_60; boxed_50 = boxed_50; plain_deep_20 = plain_deep_20; plain_deep_40 = plain_deep_40; plain_deep_60 = plain_deep_60; plain_deep_80 = plain_deep_80; plain_deep_100 = plain_deep_100; plain_deep_120 = plain_deep_120; plain_written_30 = plain_written_30; plain_written_60 = plain_written_60 }

@@ -19,12 +19,12 @@ use Rattle.heap_law.specs.Clusters.{place, thread_no, object, int, cell, box, op
 
 -- instructions by their places: 0 a write through slot 0's box, 1 a mutable borrow there, 2 the end of a par, 3 a lock, 4 a dup, 5 a join, 6 a read through
 -- slot 0's box, 7 an end, 8 a write through slot 1's reference,
--- 9 a mutable borrow of what two boxes lead to
+-- 9 a mutable borrow of what two boxes lead to, 10 a read through two boxes, 11 a mutable borrow and 12 its slot
 abbrev pub busy_code : List Instr
 busy_code =
     instr.Assign (place 0 1) (operand.Const (pos 2)) ∷ instr.BorrowMut (place 0 1) ∷ instr.ParEnd ∷ instr.Lock (place 0 0) ∷ instr.Dup (place 0 0)
     ∷ instr.Join operand.Pop ∷ instr.Read (place 0 1) false ∷ instr.End operand.Unit ∷ instr.Assign (place 1 1) (operand.Const (pos 2))
-    ∷ instr.BorrowMut (place 0 2) ∷ []
+    ∷ instr.BorrowMut (place 0 2) ∷ instr.Read (place 0 2) false ∷ instr.BorrowMut (place 0 1) ∷ instr.Let operand.Pop ∷ []
 
 -- object 0 flies from server 0 to 1; object 1 was pulled to server 1; objects 2, 3 and 4 lie at server 0, and 2 owns 4
 abbrev pub old_0 : ℕ
@@ -63,11 +63,11 @@ writer = record (new_thread (thread_no 0 1) 0 (value.Own (box old_0 0) ∷ [])) 
 
 -- has taken object 1 for a mutable borrow
 abbrev pub lender : ThreadView
-lender = record (new_thread (thread_no 0 2) 1 (value.Own (box old_1 1) ∷ [])) { phase = phase.Taken new_1 }
+lender = record (new_thread (thread_no 0 2) 11 (value.Own (box old_1 1) ∷ [])) { phase = phase.Taken new_1 }
 
 -- a branch with a view that it has read through
 abbrev pub viewer : ThreadView
-viewer = new_thread (thread_no 0 3) 6 (value.Shared (record { word = at_2; object = object 2; pinned = true }) ∷ [])
+viewer = new_thread (thread_no 0 3) 10 (value.Shared (record { word = at_2; object = object 2; pinned = true }) ∷ [])
 
 -- a thread that is over
 abbrev pub ended : ℕ → ℕ → ThreadView

@@ -95,6 +95,12 @@ number n = operand.Const (pos n)
 abbrev takes_slot : ℕ → CaptureList
 takes_slot slot = record { items = (slot, true) ∷ []; spare = 0 }
 
+abbrev copies_slot : ℕ → CaptureList
+copies_slot slot = record { items = (slot, false) ∷ []; spare = 0 }
+
+abbrev no_slot : CaptureList
+no_slot = record { items = []; spare = 0 }
+
 -- { let mut x = box box 1; { let mut r = &mut *x; { let mut s = &mut **r; *s = 5; print *s; { let mut u = &mut *s; *u = 6 }; print *s }; *r = box 9 };
 --   print **x; { let mut h = spawn (x) { **x = 7; *x; () } }; () }
 abbrev pub lent_deep : List Instr
@@ -115,6 +121,25 @@ locked_by_two =
     ∷ instr.Lock (at_place 0 0) ∷ instr.Assign (at_place 4 1) (number 3) ∷ instr.Read (at_place 4 1) false ∷ instr.Print operand.Pop ∷ instr.Unlock
     ∷ instr.Read (at_place 2 0) true ∷ instr.Join operand.Pop ∷ instr.Let operand.Pop ∷ instr.DropSlot ∷ instr.DropSlot ∷ instr.DropSlot ∷ instr.DropSlot ∷ instr.End operand.Unit
     ∷ instr.Lock (at_place 0 0) ∷ instr.Assign (at_place 2 1) (number 8) ∷ instr.Unlock ∷ instr.Read (at_place 0 0) true ∷ instr.DropSlot ∷ instr.End operand.Pop ∷ []
+
+-- { let mut x = box box 4; { let mut r = &*x; par (r) { let mut s = &**r; par (s) { print *s } () { }; print **r } (r) { print **r } }; **x = 5 }
+abbrev pub viewed_twice : List Instr
+viewed_twice =
+    instr.Box (number 4) ∷ instr.Box operand.Pop ∷ instr.Let operand.Pop ∷ instr.Borrow (at_place 0 1) ∷ instr.Let operand.Pop
+    ∷ instr.Par (copies_slot 1) 11 (copies_slot 1) 20 ∷ instr.ParEnd ∷ instr.DropSlot ∷ instr.Assign (at_place 0 2) (number 5) ∷ instr.DropSlot ∷ instr.End operand.Unit
+    ∷ instr.Borrow (at_place 0 2) ∷ instr.Let operand.Pop ∷ instr.Par (copies_slot 1) 24 no_slot 28 ∷ instr.ParEnd ∷ instr.Read (at_place 0 2) false ∷ instr.Print operand.Pop
+    ∷ instr.DropSlot ∷ instr.DropSlot ∷ instr.End operand.Unit
+    ∷ instr.Read (at_place 0 2) false ∷ instr.Print operand.Pop ∷ instr.DropSlot ∷ instr.End operand.Unit
+    ∷ instr.Read (at_place 0 1) false ∷ instr.Print operand.Pop ∷ instr.DropSlot ∷ instr.End operand.Unit
+    ∷ instr.End operand.Unit ∷ []
+
+-- { let mut x = box mutex box 1; let mut m = dup *x; { let mut h = spawn (x) { lock *x as c { *c = 8; print *c } }; lock m as d { *d = 3 } } }
+abbrev pub locked_in_box : List Instr
+locked_in_box =
+    instr.Box (number 1) ∷ instr.Mutex operand.Pop ∷ instr.Box operand.Pop ∷ instr.Let operand.Pop ∷ instr.Dup (at_place 0 1) ∷ instr.Let operand.Pop
+    ∷ instr.Spawn (takes_slot 0) 15 ∷ instr.Let operand.Pop ∷ instr.Lock (at_place 1 0) ∷ instr.Assign (at_place 4 1) (number 3) ∷ instr.Unlock
+    ∷ instr.DropSlot ∷ instr.DropSlot ∷ instr.DropSlot ∷ instr.End operand.Unit
+    ∷ instr.Lock (at_place 0 1) ∷ instr.Assign (at_place 2 1) (number 8) ∷ instr.Read (at_place 2 1) false ∷ instr.Print operand.Pop ∷ instr.Unlock ∷ instr.DropSlot ∷ instr.End operand.Unit ∷ []
 
 abbrev pub Stays : List Instr → Options → ℕ → ℕ → Type 0
 Stays code o n seed = turns n seed (start_of code o) ≡ []
@@ -137,3 +162,7 @@ pub record ChosenStayCoherent : Type 0 where
   pub deep_3 : Stays lent_deep (with_servers 3 65536) 100 23
   pub shared_1 : Stays locked_by_two (with_servers 2 2) 100 31
   pub shared_2 : Stays locked_by_two (with_servers 3 1) 100 32
+  pub viewed_1 : Stays viewed_twice (with_servers 3 65536) 100 41
+  pub viewed_2 : Stays viewed_twice (with_servers 2 1) 100 42
+  pub boxed_1 : Stays locked_in_box (with_servers 2 2) 100 51
+  pub boxed_2 : Stays locked_in_box (with_servers 3 1) 100 52

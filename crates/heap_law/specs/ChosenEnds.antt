@@ -13,7 +13,7 @@ use Rattle.fr_code.specs.Machine.{code_run, code_start}
 use Rattle.heap_law.specs.OneHeap.{one_heap}
 use Rattle.heap_law.specs.OneHeapRuns.{starts, show, show_code, labels_in}
 use Rattle.heap_law.specs.LeftRuns.{legal_events, cluster_side, journal_side}
-use Rattle.heap_law.specs.Chosen.{next_number, chosen, all_events, lent_deep, locked_by_two}
+use Rattle.heap_law.specs.Chosen.{next_number, chosen, all_events, lent_deep, locked_by_two, viewed_twice, locked_in_box}
 
 abbrev taken : Option Event → Ran → Option Ran
 taken None r = Some r
@@ -56,6 +56,8 @@ pub record ChosenEnd : Type 0 where
   pub shared_90 : Leaves locked_by_two (with_servers 2 2) 90 33
   pub pairs_45 : Leaves read_by_pairs (with_servers 3 2) 45 41
   pub pairs_80 : Leaves read_by_pairs (with_servers 2 2) 80 42
+  pub viewed_60 : Leaves viewed_twice (with_servers 2 2) 60 43
+  pub boxed_50 : Leaves locked_in_box (with_servers 2 1) 50 53
   pub plain_deep_20 : FollowsTo lent_deep (with_servers 2 2) 20 51
   pub plain_deep_40 : FollowsTo lent_deep (with_servers 2 2) 40 51
   pub plain_deep_60 : FollowsTo lent_deep (with_servers 2 2) 60 52

@@ -26,3 +26,4 @@ pub mod OneHeapRuns
 pub mod LeftRuns
 pub mod Chosen
 pub mod ChosenEnds
+pub mod OneEvent

@@ -7,6 +7,7 @@ ghost use Rattle.heap_law.specs.ChosenEnds.{ChosenEnd};
 ghost use Rattle.heap_law.specs.LeftRuns.{RunsAreLeft};
 ghost use Rattle.heap_law.specs.OneHeapRuns.{OneHeapsCompute};
 ghost use Rattle.heap_law.specs.Stale.{RoundsLaw};
+ghost use Rattle.heap_law.specs.OneEvent.{OneEventKeeps};
 ghost use Rattle.heap_law.specs.Sound.{SoundCompute};
 ghost use Rattle.heap_law.specs.Broken.{MemoryBreaks, WalksBreak};
 ghost use Rattle.heap_law.specs.BrokenRest.{RequestsBreak, SharingBreaks, RootedBreaks, NamesBreak};
@@ -61,4 +62,9 @@ pub fn chosen_ends_are_left()
 /// The rounds that tell stale pointers find what the rule says.
 pub fn rounds_tell_stale()
     ensures { RoundsLaw }
+{}
+
+/// From clusters that no run need reach, each enabled event leaves no sentence broken.
+pub fn one_event_keeps()
+    ensures { OneEventKeeps }
 {}
