@@ -28,7 +28,7 @@ use Rattle.server_model.specs.Moving.{migrate}
 
 -- WHICH EVENTS ARE ENABLED
 
-abbrev can_step : Phase → Bool
+abbrev pub can_step : Phase → Bool
 can_step phase.Ready = true
 can_step phase.Got = true
 can_step (phase.GotPar a b) = true

@@ -15,3 +15,4 @@ pub mod Clusters
 pub mod Figures
 pub mod Programs
 pub mod Rows
+pub mod Trials

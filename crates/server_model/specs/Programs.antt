@@ -119,3 +119,67 @@ abbrev pub locked_elsewhere : List Instr
 locked_elsewhere =
     instr.Box (number 7) ∷ instr.Mutex operand.Pop ∷ instr.Let operand.Pop ∷ spawned 10 ++ joined 1 ++ dropped ++ dropped ++ instr.End operand.Pop ∷ []
     ++ instr.Lock (place 0 0) ∷ set (place 2 1) 8 ++ instr.Unlock ∷ dropped ++ over
+
+-- { let mut x = box 1; let mut h = spawn (x) { { let mut r = &mut *x; *r = 2 }; print *x }; join h }
+abbrev pub lent_elsewhere : List Instr
+lent_elsewhere =
+    boxed 1 ++ spawned 9 ++ joined 1 ++ dropped ++ dropped ++ instr.End operand.Pop ∷ []
+    ++ lent (place 0 1) ++ set (place 1 1) 2 ++ dropped ++ printed (place 0 1) ++ dropped ++ over
+
+-- { let mut x = box 1; { let mut r = &mut *x; *r = 2 }; print *x }
+abbrev pub lent_once : List Instr
+lent_once = boxed 1 ++ lent (place 0 1) ++ set (place 1 1) 2 ++ dropped ++ printed (place 0 1) ++ dropped ++ over
+
+-- { let mut x = box 1; let mut r = &mut *x; *r = 2; print *r }
+abbrev pub read_dirty : List Instr
+read_dirty = boxed 1 ++ lent (place 0 1) ++ set (place 1 1) 2 ++ printed (place 1 1) ++ dropped ++ dropped ++ over
+
+-- { let mut x = box 1; let mut r = &mut *x; *r = 2; { let mut s = &*r; print *s }; *r = 3; print *r }
+abbrev pub shared_dirty : List Instr
+shared_dirty =
+    boxed 1 ++ lent (place 0 1) ++ set (place 1 1) 2 ++ borrowed (place 1 1) ++ printed (place 2 1) ++ dropped ++ set (place 1 1) 3 ++ printed (place 1 1) ++ dropped ++ dropped ++ over
+
+-- { let mut x = box box 1; { let mut r = &mut *x; { let mut y = &mut **r; *y = 2 }; print **r }; print **x }
+abbrev pub lent_inside : List Instr
+lent_inside =
+    instr.Box (number 1) ∷ instr.Box operand.Pop ∷ instr.Let operand.Pop ∷ lent (place 0 1) ++ lent (place 1 2) ++ set (place 2 1) 2 ++ dropped ++ printed (place 1 2) ++ dropped ++ printed (place 0 2) ++ dropped ++ over
+
+-- { let mut x = box 1; let mut r = &mut *x; print *r; *r = 2; let mut s = &mut *r; print *s }
+abbrev pub lent_dirty : List Instr
+lent_dirty =
+    boxed 1 ++ lent (place 0 1) ++ printed (place 1 1) ++ set (place 1 1) 2 ++ lent (place 1 1) ++ printed (place 2 1) ++ dropped ++ dropped ++ dropped ++ over
+
+-- { let mut x = box box 1; let mut y = *x; print *y }
+abbrev pub moved_out : List Instr
+moved_out =
+    instr.Box (number 1) ∷ instr.Box operand.Pop ∷ instr.Let operand.Pop ∷ instr.Read (place 0 1) true ∷ instr.Let operand.Pop ∷ printed (place 1 1) ++ dropped ++ dropped ++ over
+
+-- { let mut m = mutex 1; let mut n = dup m; let mut h = spawn (m) { lock m as a { a = (a + 1) } };
+--   lock n as b { b = (b + 10) }; join h; lock n as c { print c } }
+abbrev pub counted_up : List Instr
+counted_up =
+    instr.Mutex (number 1) ∷ instr.Let operand.Pop ∷ instr.Dup (place 0 0) ∷ instr.Let operand.Pop ∷ spawned 22
+    ++ instr.Lock (place 1 0) ∷ instr.Read (place 4 0) false ∷ instr.Arith op.Add operand.Pop (number 10) ∷ instr.Assign (place 4 0) operand.Pop ∷ instr.Unlock
+    ∷ joined 2 ++ instr.Discard ∷ instr.Lock (place 1 0) ∷ printed (place 4 0) ++ instr.Unlock ∷ dropped ++ dropped ++ dropped ++ over
+    ++ instr.Lock (place 0 0) ∷ instr.Read (place 2 0) false ∷ instr.Arith op.Add operand.Pop (number 1) ∷ instr.Assign (place 2 0) operand.Pop ∷ instr.Unlock ∷ dropped ++ over
+
+-- { let mut h = spawn () { box 1 }; print 3 }
+abbrev pub task_dropped : List Instr
+task_dropped =
+    instr.Spawn (captures []) 5 ∷ instr.Let operand.Pop ∷ instr.Print (number 3) ∷ dropped ++ over ++ instr.Box (number 1) ∷ instr.End operand.Pop ∷ []
+
+-- { let mut x = box box 1; let mut h = spawn (x) { **x = 5; print **x }; join h }
+abbrev pub written_deep : List Instr
+written_deep =
+    instr.Box (number 1) ∷ instr.Box operand.Pop ∷ instr.Let operand.Pop ∷ spawned 10 ++ joined 1 ++ dropped ++ dropped ++ instr.End operand.Pop ∷ []
+    ++ set (place 0 2) 5 ++ printed (place 0 2) ++ dropped ++ over
+
+-- { let mut x = box 1; let mut y = box 2; { let mut r = &mut *x; *r = 5; r = &mut *y; *r = 6 }; print *x; print *y }
+abbrev pub turned : List Instr
+turned =
+    boxed 1 ++ boxed 2 ++ lent (place 0 1) ++ set (place 2 1) 5 ++ instr.BorrowMut (place 1 1) ∷ instr.Assign (place 2 0) operand.Pop ∷ set (place 2 1) 6 ++ dropped
+    ++ printed (place 0 1) ++ printed (place 1 1) ++ dropped ++ dropped ++ over
+
+-- { let mut x = box 1; let mut r = &*x; print *r; print *r; print *r }
+abbrev pub read_thrice : List Instr
+read_thrice = boxed 1 ++ borrowed (place 0 1) ++ printed (place 1 1) ++ printed (place 1 1) ++ printed (place 1 1) ++ dropped ++ dropped ++ over
