@@ -16,3 +16,4 @@ pub mod Figures
 pub mod Programs
 pub mod Rows
 pub mod Trials
+pub mod Laws

@@ -1,5 +1,6 @@
 //! Laws of servers and of events.
 
+ghost use Rattle.server_model.specs.Laws.{ActingLeavesOthers, ApplyingLeavesOthers, HandingOverDelivers, HandingOverKeeps, ReceivingTakes, SendingAdds, SendingToItself, SendingToOthers};
 ghost use Rattle.server_model.specs.Rows.{RowsCompute};
 ghost use Rattle.server_model.specs.Trials.{TrialsCompute};
 
@@ -11,4 +12,26 @@ pub fn rows_compute()
 /// Some whole runs of borrows, of places with several stars, and of tasks and mutexes, each with what a report shows of it.
 pub fn trials_compute()
     ensures { TrialsCompute }
+{}
+
+/// A message to the server itself waits there last, and one to another server stands last in the outbox. Sending adds that message
+/// alone and receiving takes that one alone, whatever is counted of the messages.
+pub fn messages_are_kept()
+    ensures itself { SendingToItself }
+    ensures others { SendingToOthers }
+    ensures sending { SendingAdds }
+    ensures receiving { ReceivingTakes }
+{}
+
+/// Handing over empties each outbox and puts each message last at its server, in order. It loses and repeats no message, and
+/// changes nothing else.
+pub fn handing_over()
+    ensures keeps { HandingOverKeeps }
+    ensures delivers { HandingOverDelivers }
+{}
+
+/// An event changes its own server. Of the others it changes the waiting messages alone, once its own are handed over.
+pub fn others_are_left()
+    ensures acting { ActingLeavesOthers }
+    ensures applying { ApplyingLeavesOthers }
 {}
