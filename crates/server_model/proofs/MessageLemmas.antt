@@ -1,11 +1,10 @@
 -- Messages that are sent, received and handed over.
-use Rattle.std.proofs.Common.{◌≡◌, ◌≢◌, ℕ, zero, suc, ◌+◌, List, [], ◌∷◌, ◌++◌, Option, Some, None, refl, sym, ap, subst, ◌∙◌, arith, Bool, true, false, append_assoc, append-nil}
-use Rattle.std.specs.Prelude.{◌==◌, if◌then◌else◌, is_some, slice_get, option_map, remove, take, drop, ⊤}
+use Rattle.std.proofs.Common.{◌≡◌, ℕ, zero, suc, ◌+◌, List, [], ◌∷◌, ◌++◌, Option, Some, None, refl, sym, ap, ◌∙◌, arith, true, append_assoc, append-nil}
+use Rattle.std.specs.Prelude.{◌==◌, if◌then◌else◌, is_some, slice_get, option_map, remove}
 use Rattle.fr_typing.proofs.PlaceLemmas.{eq_cases}
 use Rattle.server_msgs.specs.declared.message.Message.{Message}
-use Rattle.server_model.specs.Servers.{Sent, Server, Cluster, server_at}
-use Rattle.server_model.specs.Work.{sent_from, receive}
-use Rattle.server_model.specs.Clusters.{accept, accept_at, accept_all, outboxes, sent_off, hand_over}
+use Rattle.server_model.specs.Servers.{Sent, Server, server_at}
+use Rattle.server_model.specs.Clusters.{accept, accept_at, accept_all, outboxes, sent_off}
 use Rattle.server_model.specs.Laws.{sum_waiting, sum_sent, sum_at, sum_of, SendingToItself, SendingToOthers, SendingAdds, ReceivingTakes, AreRouted, HandingOverKeeps, messages_to, with_messages, HandingOverDelivers}
 
 -- SENDING
@@ -49,11 +48,11 @@ accepted_at [] x n = refl
 accepted_at (s ∷ ss) x n =
     eq_cases (λ b. server_at (if b then accept x.message s ∷ ss else s ∷ accept_at ss x) n ≡ option_map (λ y. if x.target == n then accept x.message y else y) (if s.number == n then Some s else server_at ss n)) s.number x.target
     (λ e. eq_cases (λ b. (if b then Some (accept x.message s) else server_at ss n) ≡ option_map (λ y. if x.target == n then accept x.message y else y) (if b then Some s else server_at ss n)) s.number n
-        (λ here. eq_cases (λ b. Some (accept x.message s) ≡ Some (if b then accept x.message s else s)) x.target n (λ _. refl) (λ ne. absurd (ne (sym e ∙ here))))
-        (λ off. eq_cases (λ b. server_at ss n ≡ option_map (λ y. if b then accept x.message y else y) (server_at ss n)) x.target n (λ t. absurd (off (e ∙ t))) (λ _. kept (server_at ss n))))
+    (λ here. eq_cases (λ b. Some (accept x.message s) ≡ Some (if b then accept x.message s else s)) x.target n (λ _. refl) (λ ne. absurd (ne (sym e ∙ here))))
+    (λ off. eq_cases (λ b. server_at ss n ≡ option_map (λ y. if b then accept x.message y else y) (server_at ss n)) x.target n (λ t. absurd (off (e ∙ t))) (λ _. kept (server_at ss n))))
     (λ ne. eq_cases (λ b. (if b then Some s else server_at (accept_at ss x) n) ≡ option_map (λ y. if x.target == n then accept x.message y else y) (if b then Some s else server_at ss n)) s.number n
-        (λ here. eq_cases (λ b. Some s ≡ Some (if b then accept x.message s else s)) x.target n (λ t. absurd (ne (here ∙ sym t))) (λ _. refl))
-        (λ _. accepted_at ss x n))
+    (λ here. eq_cases (λ b. Some s ≡ Some (if b then accept x.message s else s)) x.target n (λ t. absurd (ne (here ∙ sym t))) (λ _. refl))
+    (λ _. accepted_at ss x n))
   where
     kept : (o : Option Server) → o ≡ option_map (λ y. y) o
     kept None = refl

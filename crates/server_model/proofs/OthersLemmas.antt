@@ -1,13 +1,13 @@
 -- What an event leaves of the other servers.
 use Rattle.std.proofs.Common.{◌≡◌, ◌≢◌, ℕ, zero, suc, List, [], ◌∷◌, ◌++◌, Option, Some, None, refl, sym, ap, subst, ◌∙◌, append_assoc, append-nil}
-use Rattle.std.specs.Prelude.{◌==◌, if◌then◌else◌, slice_get, option_map}
+use Rattle.std.specs.Prelude.{if◌then◌else◌, slice_get, option_map}
 use Rattle.fr_typing.proofs.PlaceLemmas.{eq_cases}
 use Rattle.server_msgs.specs.declared.message.Message.{Message}
 use Rattle.journal.specs.declared.entry.Entry.{Entry}
 use Rattle.server_model.specs.declared.event.Event.{Event}
 use Rattle.server_model.specs.Servers.{Sent, Server, Cluster, server_at}
 use Rattle.server_model.specs.Work.{then_some}
-use Rattle.server_model.specs.Clusters.{with_server, accept, accept_at, accept_all, outboxes, sent_off, hand_over, done_at, act_at, apply}
+use Rattle.server_model.specs.Clusters.{with_server, accept, accept_at, accept_all, outboxes, sent_off, hand_over, done_at, act_at}
 use Rattle.server_model.specs.Laws.{with_messages, ActingLeavesOthers, ApplyingLeavesOthers}
 use Rattle.server_model.proofs.MessageLemmas.{added}
 

@@ -10,7 +10,9 @@ use Rattle.heap_partition.specs.declared.value.Cell.{Cell}
 use Rattle.journal.specs.declared.act.Act.{Act}
 use Rattle.journal.specs.declared.act.Act.TheVariants as act
 use Rattle.journal.specs.declared.entry.Entry.{Entry}
-use Rattle.journal.specs.Journals.{prints}
+use Rattle.fr_base.specs.declared.label.Label.{Label}
+use Rattle.read_cache.specs.Cache.{Copy}
+use Rattle.journal.specs.Journals.{labels, prints}
 use Rattle.server_msgs.specs.Messages.{kind_of}
 use Rattle.server_msgs.specs.declared.message.Message.{Message}
 use Rattle.server_model.specs.declared.event.Event.{Event}
@@ -167,6 +169,47 @@ figures_of r = record {
 abbrev pub figures_in : Option Ran → Option Figures
 figures_in None = None
 figures_in (Some r) = Some (figures_of r)
+
+-- WHAT ELSE A RUN SHOWS
+
+abbrev pub labels_of : Option Ran → List Label
+labels_of None = []
+labels_of (Some r) = labels r.journal
+
+abbrev acts_each : List Entry → List (List Act)
+acts_each [] = []
+acts_each (e ∷ es) = e.acts.items ∷ acts_each es
+
+-- the acts of each event
+abbrev pub acts_of : Option Ran → List (List Act)
+acts_of None = []
+acts_of (Some r) = acts_each r.journal
+
+abbrev flags_at : List ThreadView → List Bool
+flags_at [] = []
+flags_at (t ∷ ts) = t.moved_since_step ∷ flags_at ts
+
+abbrev flags_in : List Server → List Bool
+flags_in [] = []
+flags_in (s ∷ ss) = flags_at s.threads ++ flags_in ss
+
+-- whether each thread has moved since its last plain step
+abbrev pub moved_flags : Option Ran → List Bool
+moved_flags None = []
+moved_flags (Some r) = flags_in r.cluster.servers
+
+abbrev users_at : List Copy → List (ℕ × ℕ)
+users_at [] = []
+users_at (c ∷ cs) = (c.word, c.users) ∷ users_at cs
+
+abbrev users_of : List Server → List (ℕ × ℕ)
+users_of [] = []
+users_of (s ∷ ss) = users_at s.cache ++ users_of ss
+
+-- the cached words of all servers, with how many use each
+abbrev pub cached_users : Option Ran → List (ℕ × ℕ)
+cached_users None = []
+cached_users (Some r) = users_of r.cluster.servers
 
 -- EVENTS BY HAND
 

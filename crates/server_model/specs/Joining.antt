@@ -19,10 +19,10 @@ abbrev pub arrive : ThreadView → Work → Option Work
 arrive t w = Some (stand t w)
 
 -- the result of a thread goes to that thread at that server
-abbrev answer : ℕ → ℕ → ℕ → Owned → Work → Work
+abbrev pub answer : ℕ → ℕ → ℕ → Owned → Work → Work
 answer u s by v w = send s (message.Joined u v by) (note (act.Answer u by s) w)
 
-abbrev answer_join : ℕ → ℕ → ℕ → Option Owned → Work → Work
+abbrev pub answer_join : ℕ → ℕ → ℕ → Option Owned → Work → Work
 answer_join u s by None w = w
 answer_join u s by (Some v) w = answer u s by v w
 
@@ -30,7 +30,7 @@ answer_join u s by (Some v) w = answer u s by v w
 abbrev pub join : ℕ → ℕ → ℕ → Work → Option Work
 join u s by w = option_map (λ a. answer_join u s by a.1 (with_tasks a.0 w)) (ask w.server.tasks u s by)
 
-abbrev waits_for_join : Phase → ℕ → Bool
+abbrev pub waits_for_join : Phase → ℕ → Bool
 waits_for_join (phase.WaitJoin x) u = x == u
 waits_for_join p u = false
 
@@ -41,15 +41,15 @@ joined u v by w = then_some (take_up w by) (λ h. if waits_for_join h.thread.pha
 abbrev pub release_task : ℕ → Work → Option Work
 release_task u w = option_map (λ a. let_go_content a.1 (with_tasks a.0 w)) (let_go_of w.server.tasks u)
 
-abbrev got_par : ℕ → Phase → Option Phase
+abbrev pub got_par : ℕ → Phase → Option Phase
 got_par u (phase.WaitPar a b) = if (a == u) || (b == u) then Some (phase.GotPar a b) else None
 got_par u p = None
 
 -- the parent of a pair, which is here, goes on
-abbrev tell_parent : ℕ → ℕ → Work → Option Work
+abbrev pub tell_parent : ℕ → ℕ → Work → Option Work
 tell_parent u parent w = then_some (take_up w parent) (λ h. option_map (λ p. put_back (with_phase p h)) (got_par u h.thread.phase))
 
-abbrev end_answer : ℕ → EndedAs → Work → Option Work
+abbrev pub end_answer : ℕ → EndedAs → Work → Option Work
 end_answer u (Answer s by v) w = Some (answer u s by v w)
 end_answer u (Both parent) w = tell_parent u parent w
 end_answer u (LetGo v) w = Some (let_go v w)

@@ -1,5 +1,5 @@
 -- What sending, receiving and handing over do to the messages of a cluster, and what an event leaves as it was.
-use Rattle.std.specs.Prelude.{◌≡◌, ◌≢◌, ℕ, ◌+◌, ⊤, ◌==◌, if◌then◌else◌, is_some, true, List, [], ◌∷◌, ◌++◌, All, Option, Some, None, slice_get, option_map}
+use Rattle.std.specs.Prelude.{◌≡◌, ◌≢◌, ℕ, ◌+◌, ⊤, ◌==◌, if◌then◌else◌, is_some, true, List, [], ◌∷◌, ◌++◌, Some, slice_get, option_map}
 use Rattle.server_msgs.specs.declared.message.Message.{Message}
 use Rattle.journal.specs.declared.entry.Entry.{Entry}
 use Rattle.server_model.specs.declared.event.Event.{Event}

@@ -17,3 +17,4 @@ pub mod Programs
 pub mod Rows
 pub mod Trials
 pub mod Laws
+pub mod Traces

@@ -30,7 +30,7 @@ cell_at h (in_cell w through) = look h.work.server.partition w
 cell_at h (in_copy w) = hit h.work.server.cache w
 cell_at h s = None
 
-abbrev value_in : Option Cell → Option Value
+abbrev pub value_in : Option Cell → Option Value
 value_in None = None
 value_in (Some c) = Some (value.Own c.value)
 
@@ -40,7 +40,7 @@ value_at h (in_slot i) = slice_get h.thread.slots i
 value_at h on_top = last_of h.thread.temps
 value_at h s = value_in (cell_at h s)
 
-abbrev load_of : Option Cell → List Label
+abbrev pub load_of : Option Cell → List Label
 load_of None = []
 load_of (Some c) = label.Load c.object (plain_of c.value) ∷ []
 
@@ -50,11 +50,11 @@ load_at s h = working (label_all (load_of (cell_at h s))) h
 
 -- PUTTING VALUES
 
-abbrev written : Value → Value
+abbrev pub written : Value → Value
 written (value.Mut r) = value.Mut (record r { dirty = true })
 written v = v
 
-abbrev note_slot : List Value → ℕ → Option Value → List Value
+abbrev pub note_slot : List Value → ℕ → Option Value → List Value
 note_slot slots i None = slots
 note_slot slots i (Some v) = slice_set slots i (written v)
 

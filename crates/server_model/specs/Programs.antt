@@ -183,3 +183,9 @@ turned =
 -- { let mut x = box 1; let mut r = &*x; print *r; print *r; print *r }
 abbrev pub read_thrice : List Instr
 read_thrice = boxed 1 ++ borrowed (place 0 1) ++ printed (place 1 1) ++ printed (place 1 1) ++ printed (place 1 1) ++ dropped ++ dropped ++ over
+
+-- { let mut x = box box 1; let mut h = spawn (x) { print **x }; join h }
+abbrev pub read_deep : List Instr
+read_deep =
+    instr.Box (number 1) ∷ instr.Box operand.Pop ∷ instr.Let operand.Pop ∷ spawned 10 ++ joined 1 ++ dropped ++ dropped ++ instr.End operand.Pop ∷ []
+    ++ printed (place 0 2) ++ dropped ++ over

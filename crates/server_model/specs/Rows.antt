@@ -14,7 +14,7 @@ Gives code o es f = figures_in (run code o es) ≡ Some f
 -- main is thread 0, and server s starts the threads s * 2^32 + 1 and so on
 
 -- thread 1 at server 1 begins, and asks server 0 for an object or a copy, which comes
-abbrev begins_and_asks : List Event
+abbrev pub begins_and_asks : List Event
 begins_and_asks = deliver 1 0 ++ steps_of 1 1 1 ++ deliver 0 0 ++ deliver 1 0
 
 -- main waits in a join of thread 1, which reads
@@ -37,7 +37,7 @@ reading_by_pairs =
     steps_of 0 0 5 ++ branch_at 1 1 ++ branch_at 2 2 ++ steps_of 0 0 6 ++ deliver 0 0 ++ steps_of 0 3 4 ++ deliver 0 0 ++ branch_at 1 4 ++ steps_of 0 0 4 ++ deliver 0 0
 
 -- main goes to server 1 and reads there through its reference, goes back and writes, and goes there again
-abbrev moving : List Event
+abbrev pub moving : List Event
 moving =
     steps_of 0 0 5 ++ migrate 0 0 1 ++ deliver 1 0 ++ steps_of 1 0 1 ++ deliver 0 0 ++ deliver 1 0 ++ steps_of 1 0 2
     ++ migrate 1 0 0 ++ deliver 0 0 ++ steps_of 0 0 1 ++ migrate 0 0 1 ++ deliver 1 0 ++ steps_of 1 0 1 ++ deliver 0 0 ++ deliver 1 0 ++ steps_of 1 0 7 ++ deliver 0 0
@@ -54,11 +54,11 @@ abbrev locking_twice : List Event
 locking_twice = steps_of 0 0 3 ++ deliver 0 0 ++ deliver 0 0 ++ steps_of 0 0 2 ++ deliver 0 0
 
 -- until `unlock` and `release` wait at server 0
-abbrev locking_elsewhere : List Event
+abbrev pub locking_elsewhere : List Event
 locking_elsewhere = steps_of 0 0 7 ++ deliver 0 0 ++ begins_and_asks ++ steps_of 1 1 2 ++ deliver 0 0 ++ deliver 1 0 ++ steps_of 1 1 3
 
 -- thread 1 ends, what the mutex held is freed, and main goes on
-abbrev unlocked : List Event
+abbrev pub unlocked : List Event
 unlocked = deliver 1 0 ++ steps_of 1 1 1 ++ deliver 0 0 ++ deliver 0 0 ++ steps_of 0 0 4
 
 -- FIGURES

@@ -1,7 +1,7 @@
 -- Whole runs of borrows, of places with several stars, and of tasks and mutexes, each with its figures.
-use Rattle.std.specs.Prelude.{◌≡◌, ℕ, pos, List, [], ◌∷◌, ◌++◌, Option, Some, None}
+use Rattle.std.specs.Prelude.{◌≡◌, pos, List, [], ◌∷◌, ◌++◌, Option, Some, None}
 use Rattle.server_model.specs.declared.event.Event.{Event}
-use Rattle.server_model.specs.Figures.{Ran, Figures, idle, run, run_from, figures_in, steps_of, deliver, evict, migrate, first_goes_on, last_goes_on}
+use Rattle.server_model.specs.Figures.{Ran, Figures, idle, run, figures_in, steps_of, deliver, evict, migrate, first_goes_on, last_goes_on}
 use Rattle.server_model.specs.Programs.{with_servers, lent_elsewhere, lent_once, read_dirty, shared_dirty, lent_inside, lent_dirty, moved_out, counted_up, task_dropped, written_deep, turned, read_thrice}
 
 abbrev Comes : Option Ran → Figures → Type 0
@@ -10,7 +10,7 @@ Comes r f = figures_in r ≡ Some f
 -- SCHEDULES
 
 -- main makes an object, borrows it, writes it and goes to server 1
-abbrev writes_and_goes : List Event
+abbrev pub writes_and_goes : List Event
 writes_and_goes = steps_of 0 0 5 ++ migrate 0 0 1 ++ deliver 1 0
 
 -- main at server 1 sends a request to server 0, and is answered
@@ -27,11 +27,11 @@ contending =
     steps_of 0 0 3 ++ deliver 0 0 ++ deliver 0 0 ++ steps_of 0 0 5 ++ deliver 0 0 ++ deliver 0 0 ++ steps_of 0 0 1 ++ deliver 1 0 ++ steps_of 1 1 1 ++ deliver 0 0
 
 -- main reads at server 1 through a shared reference
-abbrev pinning : List Event
+abbrev pub pinning : List Event
 pinning = steps_of 0 0 4 ++ migrate 0 0 1 ++ deliver 1 0 ++ asks_from_one ++ steps_of 1 0 2
 
 -- it goes back and reads there, and then the copy can be evicted
-abbrev unpinning : List Event
+abbrev pub unpinning : List Event
 unpinning = migrate 1 0 0 ++ deliver 0 0 ++ steps_of 0 0 2 ++ evict 1 0 ++ migrate 0 0 1 ++ deliver 1 0
 
 -- FIGURES

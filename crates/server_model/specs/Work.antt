@@ -52,7 +52,7 @@ abbrev pub label_all : List Label → Work → Work
 label_all ls w = record w { labels = w.labels ++ ls }
 
 -- a hop counts where the plain step is done, and in no event that ends with a request
-abbrev is_hop : Act → Bool
+abbrev pub is_hop : Act → Bool
 is_hop (act.Local o w) = true
 is_hop (act.Hit o w) = true
 is_hop a = false
@@ -102,7 +102,7 @@ abbrev pub with_thread : List ThreadView → ThreadView → List ThreadView
 with_thread [] new = new ∷ []
 with_thread (x ∷ xs) new = if nat_lt new.number x.number then new ∷ x ∷ xs else x ∷ with_thread xs new
 
-abbrev taken_up : Work → Option ThreadView → Option Hand
+abbrev pub taken_up : Work → Option ThreadView → Option Hand
 taken_up w None = None
 taken_up w (Some t) = Some (record { work = record w { server = record w.server { threads = without_thread w.server.threads t.number } }; thread = t })
 
@@ -163,7 +163,7 @@ abbrev pub is_word_in : List ℕ → ℕ → Bool
 is_word_in [] w = false
 is_word_in (x ∷ xs) w = if x == w then true else is_word_in xs w
 
-abbrev used_once : ℕ → Bool → Hand → Option Hand
+abbrev pub used_once : ℕ → Bool → Hand → Option Hand
 used_once w true h = Some h
 used_once w false h =
     if can_pin h.work.server.cache w

@@ -2,6 +2,7 @@
 
 ghost use Rattle.server_model.specs.Laws.{ActingLeavesOthers, ApplyingLeavesOthers, HandingOverDelivers, HandingOverKeeps, ReceivingTakes, SendingAdds, SendingToItself, SendingToOthers};
 ghost use Rattle.server_model.specs.Rows.{RowsCompute};
+ghost use Rattle.server_model.specs.Traces.{TracesCompute};
 ghost use Rattle.server_model.specs.Trials.{TrialsCompute};
 
 /// Some whole runs under a given order of events, each with what a report shows of it.
@@ -12,6 +13,11 @@ pub fn rows_compute()
 /// Some whole runs of borrows, of places with several stars, and of tasks and mutexes, each with what a report shows of it.
 pub fn trials_compute()
     ensures { TrialsCompute }
+{}
+
+/// What some runs show in full: the acts of each event, the labels, which threads have moved, and the users of copies.
+pub fn traces_compute()
+    ensures { TracesCompute }
 {}
 
 /// A message to the server itself waits there last, and one to another server stands last in the outbox. Sending adds that message
