@@ -18,3 +18,4 @@ pub mod Rows
 pub mod Trials
 pub mod Laws
 pub mod Traces
+pub mod Chances

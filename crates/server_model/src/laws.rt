@@ -1,5 +1,6 @@
 //! Laws of servers and of events.
 
+ghost use Rattle.server_model.specs.Chances.{ChancesCompute};
 ghost use Rattle.server_model.specs.Laws.{ActingLeavesOthers, ApplyingLeavesOthers, HandingOverDelivers, HandingOverKeeps, ReceivingTakes, SendingAdds, SendingToItself, SendingToOthers};
 ghost use Rattle.server_model.specs.Rows.{RowsCompute};
 ghost use Rattle.server_model.specs.Traces.{TracesCompute};
@@ -18,6 +19,12 @@ pub fn trials_compute()
 /// What some runs show in full: the acts of each event, the labels, which threads have moved, and the users of copies.
 pub fn traces_compute()
     ensures { TracesCompute }
+{}
+
+/// Runs of the small programs whose events are drawn by a small generator, evictions and migrations among them: each event has a
+/// result, and the prints are always the same.
+pub fn chances_compute()
+    ensures { ChancesCompute }
 {}
 
 /// A message to the server itself waits there last, and one to another server stands last in the outbox. Sending adds that message

@@ -1,0 +1,28 @@
+use Rattle.std.proofs.Common.{refl}
+use Rattle.server_model.proofs.laws.chances_compute.Goals as goal
+
+pub returns : goal.returns
+returns c = record {
+  of_written_box = refl;
+  of_lent_slot = refl;
+  of_read_elsewhere = refl;
+  of_written_elsewhere = refl;
+  of_read_by_pairs = refl;
+  of_often_written = refl;
+  of_lent_box = refl;
+  of_read_two = refl;
+  of_locked_elsewhere = refl;
+  of_lent_elsewhere = refl;
+  of_lent_once = refl;
+  of_read_dirty = refl;
+  of_shared_dirty = refl;
+  of_lent_inside = refl;
+  of_lent_dirty = refl;
+  of_moved_out = refl;
+  of_counted_up = refl;
+  of_task_dropped = refl;
+  of_written_deep = refl;
+  of_turned = refl;
+  of_read_thrice = refl;
+  of_read_deep = refl;
+}
