@@ -13,6 +13,7 @@ use Rattle.server_model.specs.Servers.{Server, Cluster, start_of}
 use Rattle.server_model.specs.Events.{can_step, is_ready}
 use Rattle.server_model.specs.Figures.{Ran, Figures, run, run_event, figures_of}
 use Rattle.server_model.specs.Programs.{with_servers, written_box, lent_slot, read_elsewhere, written_elsewhere, read_by_pairs, often_written, lent_box, read_two, locked_elsewhere, lent_elsewhere, lent_once, read_dirty, shared_dirty, lent_inside, lent_dirty, moved_out, counted_up, task_dropped, written_deep, turned, read_thrice, read_deep}
+use Rattle.server_model.specs.Larger.{lent_on, raised_by_two, pair_in_pair, result_on, filled_again, shared_in_turns, lent_through_slot, all_dropped}
 
 -- THE ENABLED EVENTS
 
@@ -104,3 +105,11 @@ pub record ChancesCompute : Type 0 where
   pub of_turned : each_way turned (5 ∷ 6 ∷ []) 19001 ≡ true
   pub of_read_thrice : each_way read_thrice (1 ∷ 1 ∷ 1 ∷ []) 20001 ≡ true
   pub of_read_deep : each_way read_deep (1 ∷ []) 21001 ≡ true
+  pub of_lent_on : each_way lent_on (5 ∷ 5 ∷ 5 ∷ []) 50001 ≡ true
+  pub of_raised_by_two : each_way raised_by_two (12 ∷ []) 51001 ≡ true
+  pub of_pair_in_pair : each_way pair_in_pair (3 ∷ 3 ∷ 4 ∷ []) 52001 ≡ true
+  pub of_result_on : each_way result_on (7 ∷ []) 53001 ≡ true
+  pub of_filled_again : each_way filled_again (7 ∷ 9 ∷ []) 54001 ≡ true
+  pub of_shared_in_turns : each_way shared_in_turns (2 ∷ 2 ∷ 3 ∷ 3 ∷ []) 55001 ≡ true
+  pub of_lent_through_slot : each_way lent_through_slot (4 ∷ []) 56001 ≡ true
+  pub of_all_dropped : each_way all_dropped (1 ∷ []) 57001 ≡ true

@@ -18,4 +18,5 @@ pub mod Rows
 pub mod Trials
 pub mod Laws
 pub mod Traces
+pub mod Larger
 pub mod Chances

@@ -9,13 +9,13 @@ use Rattle.fr_base.specs.declared.instruction.Instr.{Instr}
 use Rattle.fr_base.specs.declared.instruction.Instr.TheVariants as instr
 use Rattle.fr_base.specs.Captures.{CaptureList}
 
-abbrev place : ℕ → ℕ → Lval
+abbrev pub place : ℕ → ℕ → Lval
 place slot depth = record { slot = slot; depth = depth }
 
-abbrev number : ℕ → Operand
+abbrev pub number : ℕ → Operand
 number n = operand.Const (pos n)
 
-abbrev captures : List (ℕ × Bool) → CaptureList
+abbrev pub captures : List (ℕ × Bool) → CaptureList
 captures xs = record { items = xs; spare = 0 }
 
 -- so many servers, with so many colours; no definition of an event looks at the other options
@@ -23,19 +23,19 @@ abbrev pub with_servers : (servers colours : ℕ) → Options
 with_servers servers colours = record { servers = servers; workers = 1; colours = colours; cache = 64; quantum = 16; turns = 1000000; balance = 0; choice = 0; trace = false }
 
 -- let mut x = box n, printing a place, and assigning a number through a star
-abbrev boxed : ℕ → List Instr
+abbrev pub boxed : ℕ → List Instr
 boxed n = instr.Box (number n) ∷ instr.Let operand.Pop ∷ []
 
-abbrev printed : Lval → List Instr
+abbrev pub printed : Lval → List Instr
 printed w = instr.Read w false ∷ instr.Print operand.Pop ∷ []
 
-abbrev set : Lval → ℕ → List Instr
+abbrev pub set : Lval → ℕ → List Instr
 set w n = instr.Assign w (number n) ∷ []
 
-abbrev dropped : List Instr
+abbrev pub dropped : List Instr
 dropped = instr.DropSlot ∷ []
 
-abbrev over : List Instr
+abbrev pub over : List Instr
 over = instr.End operand.Unit ∷ []
 
 -- { let mut x = box 1; *x = 2; print *x }
@@ -50,18 +50,18 @@ empty = over
 abbrev pub lent_slot : List Instr
 lent_slot = instr.Let (number 1) ∷ instr.BorrowMut (place 0 0) ∷ instr.Let operand.Pop ∷ set (place 1 1) 2 ++ dropped ++ printed (place 0 0) ++ dropped ++ over
 
-abbrev borrowed : Lval → List Instr
+abbrev pub borrowed : Lval → List Instr
 borrowed w = instr.Borrow w ∷ instr.Let operand.Pop ∷ []
 
-abbrev lent : Lval → List Instr
+abbrev pub lent : Lval → List Instr
 lent w = instr.BorrowMut w ∷ instr.Let operand.Pop ∷ []
 
 -- let mut h = spawn (first slot, which is moved) { code at that place }
-abbrev spawned : ℕ → List Instr
+abbrev pub spawned : ℕ → List Instr
 spawned body = instr.Spawn (captures ((0, true) ∷ [])) body ∷ instr.Let operand.Pop ∷ []
 
 -- join of the task in that slot
-abbrev joined : ℕ → List Instr
+abbrev pub joined : ℕ → List Instr
 joined slot = instr.Read (place slot 0) true ∷ instr.Join operand.Pop ∷ []
 
 -- par (slot) .. (slot) ..
@@ -80,7 +80,7 @@ written_elsewhere =
     boxed 5 ++ spawned 13 ++ joined 1 ++ instr.Let operand.Pop ∷ printed (place 2 1) ++ dropped ++ dropped ++ dropped ++ over
     ++ set (place 0 1) 6 ++ instr.Read (place 0 0) true ∷ dropped ++ instr.End operand.Pop ∷ []
 
-abbrev prints_first : List Instr
+abbrev pub prints_first : List Instr
 prints_first = printed (place 0 1) ++ dropped ++ over
 
 -- { let mut x = box 1; { let mut r = &*x; par (r) { print *r } (r) { print *r } }; *x = 2;

@@ -25,4 +25,12 @@ returns c = record {
   of_turned = refl;
   of_read_thrice = refl;
   of_read_deep = refl;
+  of_lent_on = refl;
+  of_raised_by_two = refl;
+  of_pair_in_pair = refl;
+  of_result_on = refl;
+  of_filled_again = refl;
+  of_shared_in_turns = refl;
+  of_lent_through_slot = refl;
+  of_all_dropped = refl;
 }
