@@ -1,17 +1,16 @@
 -- Runs of the small programs in which each next event is drawn by a small generator from all enabled ones, evictions and migrations
 -- too, for each number of servers up to three and each of some numbers of colours. None of them may be without a result, and
 -- all of them end with the same prints and nothing left.
-use Rattle.std.specs.Prelude.{◌≡◌, ℕ, ℤ, zero, suc, pos, negsuc, ◌+◌, ◌*◌, ◌/◌, ◌%◌, ◌==◌, ◌&&◌, not, Bool, true, false, if◌then◌else◌, List, [], ◌∷◌, ◌++◌, length, Option, Some, None, slice_get}
+use Rattle.std.specs.Prelude.{◌≡◌, ℕ, ℤ, zero, suc, pos, ◌+◌, ◌*◌, ◌/◌, ◌%◌, ◌==◌, ◌&&◌, not, Bool, true, false, if◌then◌else◌, List, [], ◌∷◌, ◌++◌, length, Option, Some, None, slice_get}
 use Rattle.fr_base.specs.declared.instruction.Instr.{Instr}
-use Rattle.fr_base.specs.declared.settings.Options.{Options}
 use Rattle.read_cache.specs.Cache.{Copy}
 use Rattle.thread_state.specs.View.{ThreadView}
 use Rattle.server_msgs.specs.declared.message.Message.{Message}
 use Rattle.server_model.specs.declared.event.Event.{Event}
 use Rattle.server_model.specs.declared.event.What.TheVariants.{Step, Deliver, Evict, Migrate}
-use Rattle.server_model.specs.Servers.{Server, Cluster, start_of}
+use Rattle.server_model.specs.Servers.{Server}
 use Rattle.server_model.specs.Events.{can_step, is_ready}
-use Rattle.server_model.specs.Figures.{Ran, Figures, run, run_event, figures_of}
+use Rattle.server_model.specs.Figures.{Ran, run, run_event, figures_of}
 use Rattle.server_model.specs.Programs.{with_servers, written_box, lent_slot, read_elsewhere, written_elsewhere, read_by_pairs, often_written, lent_box, read_two, locked_elsewhere, lent_elsewhere, lent_once, read_dirty, shared_dirty, lent_inside, lent_dirty, moved_out, counted_up, task_dropped, written_deep, turned, read_thrice, read_deep}
 use Rattle.server_model.specs.Larger.{lent_on, raised_by_two, pair_in_pair, result_on, filled_again, shared_in_turns, lent_through_slot, all_dropped}
 
@@ -82,7 +81,7 @@ each_colour code ns servers x = one_way code ns servers 1 x && (one_way code ns 
 abbrev pub each_way : List Instr → List ℕ → ℕ → Bool
 each_way code ns x = each_colour code ns 1 x && (each_colour code ns 2 (x + 7) && each_colour code ns 3 (x + 11))
 
-pub record ChancesCompute : Type 0 where
+pub record SmallOnesCome : Type 0 where
   pub of_written_box : each_way written_box (2 ∷ []) 1 ≡ true
   pub of_lent_slot : each_way lent_slot (2 ∷ []) 1001 ≡ true
   pub of_read_elsewhere : each_way read_elsewhere (5 ∷ 5 ∷ []) 2001 ≡ true
@@ -105,6 +104,8 @@ pub record ChancesCompute : Type 0 where
   pub of_turned : each_way turned (5 ∷ 6 ∷ []) 19001 ≡ true
   pub of_read_thrice : each_way read_thrice (1 ∷ 1 ∷ 1 ∷ []) 20001 ≡ true
   pub of_read_deep : each_way read_deep (1 ∷ []) 21001 ≡ true
+
+pub record LargerOnesCome : Type 0 where
   pub of_lent_on : each_way lent_on (5 ∷ 5 ∷ 5 ∷ []) 50001 ≡ true
   pub of_raised_by_two : each_way raised_by_two (12 ∷ []) 51001 ≡ true
   pub of_pair_in_pair : each_way pair_in_pair (3 ∷ 3 ∷ 4 ∷ []) 52001 ≡ true

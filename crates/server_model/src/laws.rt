@@ -1,6 +1,6 @@
 //! Laws of servers and of events.
 
-ghost use Rattle.server_model.specs.Chances.{ChancesCompute};
+ghost use Rattle.server_model.specs.Chances.{LargerOnesCome, SmallOnesCome};
 ghost use Rattle.server_model.specs.Laws.{ActingLeavesOthers, ApplyingLeavesOthers, HandingOverDelivers, HandingOverKeeps, ReceivingTakes, SendingAdds, SendingToItself, SendingToOthers};
 ghost use Rattle.server_model.specs.Rows.{RowsCompute};
 ghost use Rattle.server_model.specs.Traces.{TracesCompute};
@@ -21,10 +21,11 @@ pub fn traces_compute()
     ensures { TracesCompute }
 {}
 
-/// Runs of the small programs whose events are drawn by a small generator, evictions and migrations among them: each event has a
+/// Runs of small and of larger programs whose events are drawn by a small generator, evictions and migrations among them: each event has a
 /// result, and the prints are always the same.
 pub fn chances_compute()
-    ensures { ChancesCompute }
+    ensures small { SmallOnesCome }
+    ensures larger { LargerOnesCome }
 {}
 
 /// A message to the server itself waits there last, and one to another server stands last in the outbox. Sending adds that message

@@ -1,8 +1,8 @@
 use Rattle.std.proofs.Common.{refl}
 use Rattle.server_model.proofs.laws.chances_compute.Goals as goal
 
-pub returns : goal.returns
-returns c = record {
+pub returns-clause-small : goal.returns-clause-small
+returns-clause-small c = record {
   of_written_box = refl;
   of_lent_slot = refl;
   of_read_elsewhere = refl;
@@ -25,6 +25,10 @@ returns c = record {
   of_turned = refl;
   of_read_thrice = refl;
   of_read_deep = refl;
+}
+
+pub returns-clause-larger : goal.returns-clause-larger
+returns-clause-larger c = record {
   of_lent_on = refl;
   of_raised_by_two = refl;
   of_pair_in_pair = refl;
