@@ -19,6 +19,7 @@ with_server (s ∷ ss) n new = if s.number == n then new ∷ ss else s ∷ with_
 abbrev pub accept : Message → Server → Server
 accept m s = record s { inbox = s.inbox ++ m ∷ [] }
 
+-- a message waits last at the server that it goes to
 abbrev pub accept_at : List Server → Sent → List Server
 accept_at [] x = []
 accept_at (s ∷ ss) x = if s.number == x.target then accept x.message s ∷ ss else s ∷ accept_at ss x
@@ -28,10 +29,12 @@ abbrev pub accept_all : List Server → List Sent → List Server
 accept_all ss [] = ss
 accept_all ss (x ∷ xs) = accept_all (accept_at ss x) xs
 
+-- all messages in outboxes, in the order of the servers
 abbrev pub outboxes : List Server → List Sent
 outboxes [] = []
 outboxes (s ∷ ss) = s.outbox ++ outboxes ss
 
+-- no message is in an outbox
 abbrev pub sent_off : List Server → List Server
 sent_off [] = []
 sent_off (s ∷ ss) = record s { outbox = [] } ∷ sent_off ss

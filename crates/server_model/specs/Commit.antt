@@ -44,6 +44,7 @@ pub data Committed : Type 0 where
 abbrev pub go_on : Hand → Hand
 go_on h = record h { thread = record h.thread { pc = h.thread.pc + 1; phase = phase.Ready } }
 
+-- the step is done, unless something failed
 abbrev pub finished : Fresh → Option Hand → Committed
 finished names None = refused
 finished names (Some h) = done names h
@@ -52,6 +53,7 @@ finished names (Some h) = done names h
 abbrev pub goes_on : Option Hand → Committed
 goes_on h = finished fresh.None (option_map go_on h)
 
+-- the thread waits, unless something failed
 abbrev pub waiting : Option Hand → Committed
 waiting None = refused
 waiting (Some h) = waits h
@@ -63,6 +65,7 @@ owned_then v go = None
 
 -- SLOTS, PLACES AND REFERENCES
 
+-- a new variable
 abbrev pub let_slot : Operand → Hand → Option Hand
 let_slot o h = pop o h (λ v h2. Some (push_slot v h2))
 
@@ -70,6 +73,7 @@ let_slot o h = pop o h (λ v h2. Some (push_slot v h2))
 abbrev pub replace_slot : ℕ → Spot → Value → Hand → Option Hand
 replace_slot i holder v h = then_some (slice_get h.thread.slots i) (λ old. then_some (drop_value holder old h) (put_slot i v))
 
+-- the label of a store
 abbrev pub store_labels : Option Cell → Owned → List Label
 store_labels None v = []
 store_labels (Some c) v = label.Store c.object (plain_of v) ∷ []
@@ -82,10 +86,12 @@ store_at s v h = put_at s (value.Own v) (working (label_all (store_labels (cell_
 abbrev pub replace_at : Spot → Value → Hand → Option Hand
 replace_at s v h = owned_then v (λ u. then_some (value_at h s) (λ old. then_some (drop_value nowhere old h) (store_at s u)))
 
+-- to a variable, or through a star
 abbrev pub assign_to : Lval → ℕ → Spot → Value → Hand → Option Hand
 assign_to w zero s v h = replace_slot w.slot s v h
 assign_to w (suc d) s v h = replace_at s v h
 
+-- an assignment
 abbrev pub assign : Lval → Operand → Spot → Hand → Option Hand
 assign w o s h = pop o h (assign_to w w.depth s)
 
@@ -94,10 +100,12 @@ abbrev pub take_out : Spot → Hand → Option Hand
 take_out (in_slot i) h = put_slot i value.Gone h
 take_out s h = store_at s owned.Nothing h
 
+-- a copy, or the value itself
 abbrev pub read_as : Bool → Spot → Value → Hand → Option Hand
 read_as false s v h = Some (push_temp (copied v) h)
 read_as true s v h = option_map (push_temp v) (take_out s h)
 
+-- the value at a place
 abbrev pub read : Bool → Spot → Hand → Option Hand
 read take s h = then_some (value_at h s) (λ v. read_as take s v (load_at s h))
 
@@ -110,10 +118,12 @@ shared_from (value.Shared r) = Some (value.Shared (record { word = r.word; objec
 shared_from (value.Mut r) = Some (value.Shared (record { word = r.word; object = r.object; pinned = false }))
 shared_from v = None
 
+-- of a variable, or from a pointer
 abbrev pub borrow_from : Lval → ℕ → Spot → Hand → Option Hand
 borrow_from w zero s h = Some (push_temp (value.SharedSlot w.slot) h)
 borrow_from w (suc d) s h = then_some (value_at h s) (λ v. option_map (λ r. push_temp r h) (shared_from v))
 
+-- a shared borrow
 abbrev pub borrow : Lval → Spot → Hand → Option Hand
 borrow w s h = borrow_from w w.depth s h
 
@@ -122,6 +132,7 @@ abbrev pub lent_word : Phase → MutRef → MutRef
 lent_word (phase.Taken w) r = took r w
 lent_word p r = r
 
+-- a new mutable reference
 abbrev pub lent : Phase → ℕ → ObjNo → Bool → Lval → Value
 lent p w o dirty holder = value.Mut (lent_word p (record { word = w; first = w; object = o; dirty = dirty; holder = holder }))
 
@@ -132,24 +143,30 @@ mutable_from p holder (value.Own (owned.Box b)) = Some (lent p b.word b.object f
 mutable_from p holder (value.Mut r) = Some (lent p r.word r.object r.dirty holder)
 mutable_from p holder v = None
 
+-- of a variable, or from a pointer
 abbrev pub borrow_mut_from : Lval → ℕ → Spot → Hand → Option Hand
 borrow_mut_from w zero s h = Some (push_temp (value.MutSlot w.slot) h)
 borrow_mut_from w (suc d) s h = then_some (value_at h s) (λ v. option_map (λ r. push_temp r h) (mutable_from h.thread.phase (record w { depth = d }) v))
 
+-- a mutable borrow
 abbrev pub borrow_mut : Lval → Spot → Hand → Option Hand
 borrow_mut w s h = borrow_mut_from w w.depth s h
 
+-- the temporary value on top is dropped
 abbrev pub discard : Spot → Hand → Option Hand
 discard s h = then_some (last_of h.thread.temps) (λ v. drop_value s v (with_temps (front_of h.thread.temps) h))
 
+-- the last slot is dropped
 abbrev pub drop_slot : Spot → Hand → Option Hand
 drop_slot s h = then_some (last_of h.thread.slots) (λ v. drop_value s v (with_slots (front_of h.thread.slots) h))
 
 -- OBJECTS AND NUMBERS
 
+-- the name of the thread's next object
 abbrev pub next_object : Hand → ObjNo
 next_object h = record { thread = h.thread.number; count = h.thread.made }
 
+-- a new object here
 abbrev pub make_box : Owned → Hand → Option Hand
 make_box v h =
     if can_grow h.work.server.partition
@@ -161,9 +178,11 @@ make_box v h =
     }))
     else None
 
+-- a box of an owned value
 abbrev pub box_up : Operand → Hand → Option Hand
 box_up o h = pop o h (λ v h2. owned_then v (λ u. make_box u h2))
 
+-- an integer is needed
 abbrev pub int_then : Value → (ℤ → Option Hand) → Option Hand
 int_then (value.Own (owned.Int n)) go = go n
 int_then v go = None
@@ -173,18 +192,22 @@ abbrev pub arith : Op → Operand → Operand → Hand → Option Hand
 arith f a b h =
     pop b h (λ y h2. pop a h2 (λ x h3. int_then x (λ m. int_then y (λ n. Some (push_temp (value.Own (owned.Int (result_of f m n))) h3)))))
 
+-- a number is printed
 abbrev pub print : Operand → Hand → Option Hand
 print o h = pop o h (λ v h2. int_then v (λ n. Some (working (label_all (label.Print n ∷ [])) h2)))
 
 -- THREADS
 
+-- the thread that starts is noted here, its home
 abbrev pub begun : Hand → Option Hand
 begun h =
     if can_begin h.work.server.tasks (next_thread h.work.server) then Some (working (with_tasks (begin h.work.server.tasks (next_thread h.work.server))) h) else None
 
+-- a thread starts, and its task is a temporary value
 abbrev pub spawn_with : ℕ → ℕ → ℕ → Hand → List Value × List Value → Option Hand
 spawn_with servers pc u h new = option_map (λ h2. push_temp (value.Own (owned.Task u)) (working (start_thread servers pc new.0) (with_slots new.1 h2))) (begun h)
 
+-- a thread starts with owned values
 abbrev pub spawn : ℕ → CaptureList → ℕ → Hand → Committed
 spawn servers cs pc h =
     finished (fresh.Thread (next_thread h.work.server)) (option_map go_on (then_some (capture false cs.items h.thread.slots) (spawn_with servers pc (next_thread h.work.server) h)))
@@ -193,6 +216,7 @@ spawn servers cs pc h =
 abbrev pub ask_join : ℕ → Hand → Option Hand
 ask_join u h = Some (with_phase (phase.WaitJoin u) (working (λ w. send (home_of u) (message.Join u w.server.number h.thread.number) (note (act.AskJoin u) w)) h))
 
+-- a task is needed
 abbrev pub task_then : Value → (ℕ → Option Hand) → Option Hand
 task_then (value.Own (owned.Task u)) go = go u
 task_then v go = None
@@ -202,10 +226,12 @@ abbrev pub join : Operand → Option Owned → Hand → Committed
 join o None h = waiting (pop o h (λ v h2. task_then v (λ u. ask_join u h)))
 join o (Some result) h = goes_on (pop o h (λ v h2. task_then v (λ u. Some (push_temp (value.Own result) h2))))
 
+-- both threads are noted here, their home
 abbrev pub pair_begun : Hand → ℕ → ℕ → Option Hand
 pair_begun h a b =
     if can_begin_pair h.work.server.tasks h.thread.number a b then Some (working (with_tasks (begin_pair h.work.server.tasks h.thread.number a b)) h) else None
 
+-- both start, and the thread waits for them
 abbrev pub par_with : ℕ → ℕ → ℕ → ℕ → ℕ → Hand → List Value → List Value × List Value → Option Hand
 par_with servers pc other a b h first second =
     option_map (λ h2. with_phase (phase.WaitPar a b) (go_on (working (λ w. start_thread servers other second.0 (start_thread servers pc first w)) (with_slots second.1 h2)))) (pair_begun h a b)
@@ -216,6 +242,7 @@ par servers cs pc ds other h =
     finished (fresh.Threads (next_thread h.work.server) (next_thread h.work.server + 1))
     (then_some (capture true cs.items h.thread.slots) (λ first. then_some (capture true ds.items first.1) (par_with servers pc other (next_thread h.work.server) (next_thread h.work.server + 1) h first.0)))
 
+-- both have ended
 abbrev pub par_end : Phase → Hand → Option Hand
 par_end (phase.GotPar a b) h = Some h
 par_end p h = None
@@ -226,24 +253,29 @@ end_with true v h = Some (working (λ w. label_all (label.End h.thread.number �
 end_with false v h =
     Some (working (λ w. send h.thread.home (message.Finished h.thread.number v) (label_all (label.End h.thread.number ∷ []) (note (act.Finish h.thread.number) w))) h)
 
+-- the thread is over
 abbrev pub end_thread : Operand → Hand → Committed
 end_thread o h = finished fresh.None (option_map (with_phase phase.Over) (pop o h (λ v h2. owned_then v (λ u. end_with (h2.thread.number == 0) u h2))))
 
 -- MUTEXES
 
+-- a new mutex here, its home
 abbrev pub mutex_made : Owned → Hand → Option Hand
 mutex_made v h =
     if can_make h.work.server.mutexes
     then Some (push_temp (value.Own (owned.Mutex (next_mutex h.work.server.mutexes))) (working (with_mutexes (make h.work.server.mutexes v)) h))
     else None
 
+-- a mutex of an owned value
 abbrev pub mutex : Operand → Hand → Committed
 mutex o h = finished (fresh.Mutex (next_mutex h.work.server.mutexes)) (option_map go_on (pop o h (λ v h2. owned_then v (λ u. mutex_made u h2))))
 
+-- a mutex is needed
 abbrev pub mutex_then : Option Value → (MutexNo → Option Hand) → Option Hand
 mutex_then (Some (value.Own (owned.Mutex m))) go = go m
 mutex_then v go = None
 
+-- the request of a dup
 abbrev pub ask_dup : Hand → MutexNo → Option Hand
 ask_dup h m = Some (with_phase (phase.WaitDup m) (working (λ w. send m.home (message.Dup m w.server.number h.thread.number) (note (act.AskDup m) w)) h))
 
@@ -252,6 +284,7 @@ abbrev pub dup : Spot → Option Owned → Hand → Committed
 dup s None h = waiting (mutex_then (value_at h s) (ask_dup h))
 dup s (Some share) h = goes_on (mutex_then (value_at h s) (λ m. Some (push_temp (value.Own share) (load_at s h))))
 
+-- the request of a lock
 abbrev pub ask_lock : Hand → MutexNo → Option Hand
 ask_lock h m = Some (with_phase (phase.WaitLock m) (working (λ w. send m.home (message.Lock m w.server.number h.thread.number) (note (act.AskLock m) w)) h))
 
@@ -261,6 +294,7 @@ lock s None h = waiting (mutex_then (value_at h s) (ask_lock h))
 lock s (Some content) h =
     goes_on (mutex_then (value_at h s) (λ m. Some (push_slot (value.Own content) (push_slot (value.Held m) (working (label_all (label.Lock m ∷ [])) (load_at s h))))))
 
+-- the content goes to the home of the mutex in the hidden slot
 abbrev pub give_back_to : Owned → Option Value → Hand → Option Hand
 give_back_to v (Some (value.Held m)) h =
     Some (with_slots (front_of h.thread.slots) (working (λ w. send m.home (message.Unlock m v) (label_all (label.Unlock m ∷ []) (note (act.GiveBack m) w))) h))

@@ -28,6 +28,7 @@ use Rattle.server_model.specs.Moving.{migrate}
 
 -- WHICH EVENTS ARE ENABLED
 
+-- it doesn't wait
 abbrev pub can_step : Phase → Bool
 can_step phase.Ready = true
 can_step phase.Got = true
@@ -35,10 +36,12 @@ can_step (phase.GotPar a b) = true
 can_step (phase.Taken w) = true
 can_step p = false
 
+-- no step is begun
 abbrev pub is_ready : Phase → Bool
 is_ready phase.Ready = true
 is_ready p = false
 
+-- the thread is here, in such a phase
 abbrev pub has_phase : (Phase → Bool) → Option ThreadView → Bool
 has_phase f None = false
 has_phase f (Some t) = f t.phase
@@ -53,6 +56,7 @@ enabled o s (Migrate t target) = has_phase is_ready (thread_in s.threads t) && (
 
 -- THE ENTRY OF AN EVENT
 
+-- the server has done one event more
 abbrev pub entry : Option ℕ → Option Fresh → List Act → List Label → Work → Server × Entry
 entry thread names acts labels w = (
   record w.server { events = w.server.events + 1 },
@@ -65,6 +69,7 @@ entry thread names acts labels w = (
   },
 )
 
+-- nothing is done yet
 abbrev pub begin_work : Server → Work
 begin_work s = record { server = s; acts = []; labels = [] }
 
@@ -84,16 +89,19 @@ done_step names (Some h) = Some (entry (Some h.thread.number) (Some names) h.wor
 abbrev pub wait_step : Hand → Option (Server × Entry)
 wait_step h = Some (entry (Some h.thread.number) None (without_hops h.work.acts) [] (put_back h))
 
+-- what became of the plain step
 abbrev pub committed : Committed → Option (Server × Entry)
 committed (done names h) = done_step names (settle h)
 committed (waits h) = wait_step h
 committed refused = None
 
+-- what became of the place: the plain step follows where it is ready
 abbrev pub prepared : ℕ → Instr → Prepared → Option (Server × Entry)
 prepared servers i (ready h s) = committed (commit servers i s h)
 prepared servers i (asked h) = wait_step h
 prepared servers i nothing = None
 
+-- the step of an instruction
 abbrev pub step_of : ℕ → Option Instr → Hand → Option (Server × Entry)
 step_of servers None h = None
 step_of servers (Some i) h = prepared servers i (prepare (access_of i h.thread) h)
@@ -104,6 +112,7 @@ step code servers t w = then_some (take_up w t) (λ h. step_of servers (slice_ge
 
 -- DELIVERIES
 
+-- a mutex value or a task was dropped
 abbrev pub release : Released → Work → Option Work
 release (released.Mutex m) w = release_mutex m w
 release (released.Task u) w = release_task u w
@@ -133,6 +142,7 @@ deliver code i s = then_some (slice_get s.inbox i) (λ m. deliver_message code m
 
 -- ALL EVENTS
 
+-- the copy goes
 abbrev pub evict_copy : ℕ → Work → Work
 evict_copy c w = note (act.Evict c) (with_cache (evict w.server.cache c) w)
 

@@ -9,6 +9,7 @@ use Rattle.read_cache.specs.Cache.{Copy, is_cached}
 use Rattle.server_model.specs.declared.hop.Hop.{Hop}
 use Rattle.server_model.specs.declared.hop.Hop.TheVariants.{Slot, Direct, Hit, NeedCopy, NeedMove, NeedTint, AtCell}
 
+-- to a copy, or a copy is needed
 abbrev pub by_copy : List Copy → ℕ → Hop
 by_copy cache w = if is_cached cache w then Hit w else NeedCopy w
 

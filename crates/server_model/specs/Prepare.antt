@@ -37,6 +37,7 @@ pub data Access : Type 0 where
   LendTo : Lval → Access
   EndRef : Spot → Access
 
+-- a mutable reference at that spot ends
 abbrev pub ending : Spot → Option Value → Option Access
 ending s (Some (value.Mut r)) = Some (EndRef s)
 ending s v = None
@@ -69,11 +70,13 @@ pub data Prepared : Type 0 where
   asked : Hand → Prepared
   nothing : Prepared
 
+-- goes on where all is ready
 abbrev pub and_then : (Hand → Spot → Prepared) → Prepared → Prepared
 and_then go (ready h s) = go h s
 and_then go (asked h) = asked h
 and_then go nothing = nothing
 
+-- ready there, unless something failed
 abbrev pub ready_at : Spot → Option Hand → Prepared
 ready_at s None = nothing
 ready_at s (Some h) = ready h s
@@ -88,12 +91,14 @@ ask_copy p h = with_phase (phase.WaitCell p.word) (working (λ w. send (server_o
 abbrev pub ask_object : BoxPtr → Hand → Hand
 ask_object p h = with_phase (phase.WaitCell p.word) (working (λ w. send (server_of p.word) (message.Move p.word p.object w.server.number h.thread.number) (note (act.Pull p.object p.word) w)) h)
 
+-- a request for the pointer's object
 abbrev pub asked_by : (BoxPtr → Hand → Hand) → Hand → Option BoxPtr → Prepared
 asked_by request h None = nothing
 asked_by request h (Some p) = asked (request p h)
 
 -- NEW WORDS
 
+-- the word has the last colour
 abbrev pub is_last : PartitionView → ℕ → Bool
 is_last p w = colour_of w + 1 == p.limit
 
@@ -121,6 +126,7 @@ abbrev pub clean_last : Spot → MutRef → Hand → Prepared
 clean_last s r h =
     if server_of r.word == h.work.server.number then ready_at s (renew s (record { word = r.word; object = r.object }) h) else asked (ask_object (record { word = r.word; object = r.object }) h)
 
+-- what is done by the answer of cleaning
 abbrev pub cleaned_by : Cleaned → Spot → MutRef → Hand → Prepared
 cleaned_by Same s r h = ready h s
 cleaned_by (Tinted w) s r h = ready_at s (put_at s (value.Mut (cleaned_ref (Tinted w) r)) (working (note (act.Tint r.object r.word w)) h))
@@ -131,12 +137,14 @@ abbrev pub clean : Spot → MutRef → Hand → Prepared
 clean s r h =
     if nat_lt (colour_of r.word) h.work.server.partition.limit then cleaned_by (cleaned_answer h.work.server.partition.limit r) s r h else nothing
 
+-- a mutable reference is cleaned, and other values stay
 abbrev pub clean_value : Spot → Option Value → Hand → Prepared
 clean_value s (Some (value.Mut r)) h = clean s r h
 clean_value s v h = ready h s
 
 -- READING
 
+-- a reference that isn't pinned pins its copy
 abbrev pub pinned_once : Spot → SharedRef → Bool → Hand → Option Hand
 pinned_once s r true h = Some h
 pinned_once s r false h =
@@ -152,12 +160,15 @@ abbrev pub hopped : (BoxPtr → Work → Work) → Option BoxPtr → Hand → Ha
 hopped f None h = h
 hopped f (Some p) h = working (f p) h
 
+-- the pointer leads to an object here
 abbrev pub local : Value → Hand → Hand
 local v h = hopped (λ p. note (act.Local p.object p.word)) (pointer_of v) h
 
+-- the pointer leads to a copy here
 abbrev pub hit_by : Value → Hand → Hand
 hit_by v h = hopped (λ p. note (act.Hit p.object p.word)) (pointer_of v) h
 
+-- one hop of a read, by its kind
 abbrev pub read_by : Spot → Value → Option Hop → Hand → Prepared
 read_by s v (Some (hop.Slot i)) h = ready h (in_slot i)
 read_by s v (Some (hop.Direct w)) h = ready (local v h) (in_cell w None)
@@ -165,14 +176,17 @@ read_by s v (Some (hop.Hit w)) h = ready_at (in_copy w) (use_copy s v w (hit_by 
 read_by s v (Some (hop.NeedCopy w)) h = asked_by ask_copy h (pointer_of v)
 read_by s v k h = nothing
 
+-- one hop of a read from a value
 abbrev pub read_value : Spot → Option Value → Hand → Prepared
 read_value s None h = nothing
 read_value s (Some v) h = read_by s v (read_hop h.work.server.number h.work.server.cache v) h
 
+-- a dirty reference to an object elsewhere is cleaned
 abbrev pub read_clean : Spot → Value → Option Hop → Hand → Prepared
 read_clean s v (Some (hop.NeedTint w)) h = clean_value s (Some v) h
 read_clean s v k h = ready h s
 
+-- the same for the value at a spot
 abbrev pub tinted_first : Spot → Option Value → Hand → Prepared
 tinted_first s None h = nothing
 tinted_first s (Some v) h = read_clean s v (read_hop h.work.server.number h.work.server.cache v) h
@@ -196,6 +210,7 @@ passing n h = record h { thread = record h.thread { passed = n } }
 abbrev pub box_word : PartitionView → ℕ → ℕ
 box_word p w = if nat_lt (colour_of w + 1) p.limit then next_word w else new_word (freed p w)
 
+-- a box whose object is here gets its new word
 abbrev pub box_ready : ℕ → Spot → Option BoxPtr → Hand → Prepared
 box_ready k s None h = nothing
 box_ready k s (Some p) h = ready_at (in_cell (box_word h.work.server.partition p.word) None) (recolour s p (passing (k + 1) h))
@@ -215,6 +230,7 @@ pass_by s v (Some (hop.NeedTint w)) h = ready h (in_cell w None)
 pass_by s v (Some (hop.AtCell w)) h = ready (local v h) (in_cell w (slot_in s))
 pass_by s v o h = nothing
 
+-- hop number k of a write from a value
 abbrev pub write_value : ℕ → Spot → Option Value → Hand → Prepared
 write_value k s None h = nothing
 write_value k s (Some v) h =
@@ -241,11 +257,13 @@ abbrev pub is_taken : Phase → Bool
 is_taken (phase.Taken w) = true
 is_taken p = false
 
+-- the pointer of a mutable borrow, by its hop
 abbrev pub lend_by : Spot → Value → Option Hop → Hand → Prepared
 lend_by s v None h = nothing
 lend_by s v (Some (hop.NeedMove w)) h = if is_taken h.thread.phase then ready h s else asked_by ask_object h (pointer_of v)
 lend_by s v (Some k) h = ready h s
 
+-- the same from a value
 abbrev pub lend_value : Spot → Option Value → Hand → Prepared
 lend_value s None h = nothing
 lend_value s (Some v) h = lend_by s v (write_hop h.work.server.number v) h
@@ -257,10 +275,12 @@ lend_pointer w (suc d) h = and_then (λ h2 s. lend_value s (value_at h2 s) (load
 
 -- THE END OF A MUTABLE REFERENCE
 
+-- the holder's place is followed where its pointer gets a word
 abbrev pub follow_holder : MutRef → Option ℕ → Hand → Prepared
 follow_holder r None h = ready h nowhere
 follow_holder r (Some w) h = write_stars r.holder.depth 0 h (in_slot r.holder.slot)
 
+-- the same for the value at a spot
 abbrev pub follow_ended : Option Value → Hand → Prepared
 follow_ended (Some (value.Mut r)) h = follow_holder r (finish_word r) h
 follow_ended v h = nothing

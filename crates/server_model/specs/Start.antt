@@ -34,6 +34,7 @@ captured branch (value.Own v) = Some (value.Own v)
 captured true (value.Shared r) = Some (copied (value.Shared r))
 captured branch v = None
 
+-- what a capture leaves of the slots
 abbrev pub left_after : Bool → List Value → ℕ → List Value
 left_after true slots i = slice_set slots i value.Gone
 left_after false slots i = slots
@@ -43,5 +44,6 @@ abbrev pub capture_from : Bool → List Value → List (ℕ × Bool) → List Va
 capture_from branch new [] slots = Some (new, slots)
 capture_from branch new (c ∷ cs) slots = then_some (slice_get slots c.0) (λ v. then_some (captured branch v) (λ u. capture_from branch (new ++ u ∷ []) cs (left_after c.1 slots c.0)))
 
+-- the captures of a new thread, and the slots that are left to its parent
 abbrev pub capture : (branch : Bool) → List (ℕ × Bool) → List Value → Option (List Value × List Value)
 capture branch cs slots = capture_from branch [] cs slots
