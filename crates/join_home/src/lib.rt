@@ -3,5 +3,7 @@
 #![tactic(auto)]
 
 mod answers;
+mod laws;
 
 pub use answers::EndedAs;
+pub use laws::tasks_compute;

@@ -2,5 +2,7 @@
 #![tactic(auto)]
 
 mod answers;
+mod laws;
 
 pub use answers::{Asked, Back};
+pub use laws::mutexes_compute;

@@ -44,65 +44,73 @@ pub data Committed : Type 0 where
 abbrev pub go_on : Hand → Hand
 go_on h = record h { thread = record h.thread { pc = h.thread.pc + 1; phase = phase.Ready } }
 
-abbrev finished : Fresh → Option Hand → Committed
+-- the step is done, unless something failed
+abbrev pub finished : Fresh → Option Hand → Committed
 finished names None = refused
 finished names (Some h) = done names h
 
 -- a step without new names
-abbrev goes_on : Option Hand → Committed
+abbrev pub goes_on : Option Hand → Committed
 goes_on h = finished fresh.None (option_map go_on h)
 
-abbrev waiting : Option Hand → Committed
+-- the thread waits, unless something failed
+abbrev pub waiting : Option Hand → Committed
 waiting None = refused
 waiting (Some h) = waits h
 
 -- an owned value is needed
-abbrev owned_then : Value → (Owned → Option Hand) → Option Hand
+abbrev pub owned_then : Value → (Owned → Option Hand) → Option Hand
 owned_then (value.Own v) go = go v
 owned_then v go = None
 
 -- SLOTS, PLACES AND REFERENCES
 
-abbrev let_slot : Operand → Hand → Option Hand
+-- a new variable
+abbrev pub let_slot : Operand → Hand → Option Hand
 let_slot o h = pop o h (λ v h2. Some (push_slot v h2))
 
 -- a variable gets a value, and what stood there is dropped
-abbrev replace_slot : ℕ → Spot → Value → Hand → Option Hand
+abbrev pub replace_slot : ℕ → Spot → Value → Hand → Option Hand
 replace_slot i holder v h = then_some (slice_get h.thread.slots i) (λ old. then_some (drop_value holder old h) (put_slot i v))
 
-abbrev store_labels : Option Cell → Owned → List Label
+-- the label of a store
+abbrev pub store_labels : Option Cell → Owned → List Label
 store_labels None v = []
 store_labels (Some c) v = label.Store c.object (plain_of v) ∷ []
 
 -- an owned value is put at a spot; in a cell that is a store
-abbrev store_at : Spot → Owned → Hand → Option Hand
+abbrev pub store_at : Spot → Owned → Hand → Option Hand
 store_at s v h = put_at s (value.Own v) (working (label_all (store_labels (cell_at h s) v)) h)
 
 -- what a place leads to gets an owned value, and what stood there is dropped
-abbrev replace_at : Spot → Value → Hand → Option Hand
+abbrev pub replace_at : Spot → Value → Hand → Option Hand
 replace_at s v h = owned_then v (λ u. then_some (value_at h s) (λ old. then_some (drop_value nowhere old h) (store_at s u)))
 
-abbrev assign_to : Lval → ℕ → Spot → Value → Hand → Option Hand
+-- to a variable, or through a star
+abbrev pub assign_to : Lval → ℕ → Spot → Value → Hand → Option Hand
 assign_to w zero s v h = replace_slot w.slot s v h
 assign_to w (suc d) s v h = replace_at s v h
 
-abbrev assign : Lval → Operand → Spot → Hand → Option Hand
+-- an assignment
+abbrev pub assign : Lval → Operand → Spot → Hand → Option Hand
 assign w o s h = pop o h (assign_to w w.depth s)
 
 -- a move out leaves `Gone` in a slot and `Nothing` in a cell
-abbrev take_out : Spot → Hand → Option Hand
+abbrev pub take_out : Spot → Hand → Option Hand
 take_out (in_slot i) h = put_slot i value.Gone h
 take_out s h = store_at s owned.Nothing h
 
-abbrev read_as : Bool → Spot → Value → Hand → Option Hand
+-- a copy, or the value itself
+abbrev pub read_as : Bool → Spot → Value → Hand → Option Hand
 read_as false s v h = Some (push_temp (copied v) h)
 read_as true s v h = option_map (push_temp v) (take_out s h)
 
-abbrev read : Bool → Spot → Hand → Option Hand
+-- the value at a place
+abbrev pub read : Bool → Spot → Hand → Option Hand
 read take s h = then_some (value_at h s) (λ v. read_as take s v (load_at s h))
 
 -- a shared reference from a pointer has its word, and pins nothing
-abbrev shared_from : Value → Option Value
+abbrev pub shared_from : Value → Option Value
 shared_from (value.SharedSlot i) = Some (value.SharedSlot i)
 shared_from (value.MutSlot i) = Some (value.SharedSlot i)
 shared_from (value.Own (owned.Box p)) = Some (value.Shared (record { word = p.word; object = p.object; pinned = false }))
@@ -110,47 +118,56 @@ shared_from (value.Shared r) = Some (value.Shared (record { word = r.word; objec
 shared_from (value.Mut r) = Some (value.Shared (record { word = r.word; object = r.object; pinned = false }))
 shared_from v = None
 
-abbrev borrow_from : Lval → ℕ → Spot → Hand → Option Hand
+-- of a variable, or from a pointer
+abbrev pub borrow_from : Lval → ℕ → Spot → Hand → Option Hand
 borrow_from w zero s h = Some (push_temp (value.SharedSlot w.slot) h)
 borrow_from w (suc d) s h = then_some (value_at h s) (λ v. option_map (λ r. push_temp r h) (shared_from v))
 
-abbrev borrow : Lval → Spot → Hand → Option Hand
+-- a shared borrow
+abbrev pub borrow : Lval → Spot → Hand → Option Hand
 borrow w s h = borrow_from w w.depth s h
 
 -- the object came for this borrow: the reference has its new word, and is clean
-abbrev lent_word : Phase → MutRef → MutRef
+abbrev pub lent_word : Phase → MutRef → MutRef
 lent_word (phase.Taken w) r = took r w
 lent_word p r = r
 
-abbrev lent : Phase → ℕ → ObjNo → Bool → Lval → Value
+-- a new mutable reference
+abbrev pub lent : Phase → ℕ → ObjNo → Bool → Lval → Value
 lent p w o dirty holder = value.Mut (lent_word p (record { word = w; first = w; object = o; dirty = dirty; holder = holder }))
 
 -- a mutable reference from a pointer has its word and, from a mutable reference, its mark; its holder is the pointer's place
-abbrev mutable_from : Phase → Lval → Value → Option Value
+abbrev pub mutable_from : Phase → Lval → Value → Option Value
 mutable_from p holder (value.MutSlot i) = Some (value.MutSlot i)
 mutable_from p holder (value.Own (owned.Box b)) = Some (lent p b.word b.object false holder)
 mutable_from p holder (value.Mut r) = Some (lent p r.word r.object r.dirty holder)
 mutable_from p holder v = None
 
-abbrev borrow_mut_from : Lval → ℕ → Spot → Hand → Option Hand
+-- of a variable, or from a pointer
+abbrev pub borrow_mut_from : Lval → ℕ → Spot → Hand → Option Hand
 borrow_mut_from w zero s h = Some (push_temp (value.MutSlot w.slot) h)
 borrow_mut_from w (suc d) s h = then_some (value_at h s) (λ v. option_map (λ r. push_temp r h) (mutable_from h.thread.phase (record w { depth = d }) v))
 
-abbrev borrow_mut : Lval → Spot → Hand → Option Hand
+-- a mutable borrow
+abbrev pub borrow_mut : Lval → Spot → Hand → Option Hand
 borrow_mut w s h = borrow_mut_from w w.depth s h
 
-abbrev discard : Spot → Hand → Option Hand
+-- the temporary value on top is dropped
+abbrev pub discard : Spot → Hand → Option Hand
 discard s h = then_some (last_of h.thread.temps) (λ v. drop_value s v (with_temps (front_of h.thread.temps) h))
 
-abbrev drop_slot : Spot → Hand → Option Hand
+-- the last slot is dropped
+abbrev pub drop_slot : Spot → Hand → Option Hand
 drop_slot s h = then_some (last_of h.thread.slots) (λ v. drop_value s v (with_slots (front_of h.thread.slots) h))
 
 -- OBJECTS AND NUMBERS
 
-abbrev next_object : Hand → ObjNo
+-- the name of the thread's next object
+abbrev pub next_object : Hand → ObjNo
 next_object h = record { thread = h.thread.number; count = h.thread.made }
 
-abbrev make_box : Owned → Hand → Option Hand
+-- a new object here
+abbrev pub make_box : Owned → Hand → Option Hand
 make_box v h =
     if can_grow h.work.server.partition
     then Some (push_temp (value.Own (owned.Box (record { word = new_word h.work.server.partition; object = next_object h })))
@@ -161,113 +178,130 @@ make_box v h =
     }))
     else None
 
-abbrev box_up : Operand → Hand → Option Hand
+-- a box of an owned value
+abbrev pub box_up : Operand → Hand → Option Hand
 box_up o h = pop o h (λ v h2. owned_then v (λ u. make_box u h2))
 
-abbrev int_then : Value → (ℤ → Option Hand) → Option Hand
+-- an integer is needed
+abbrev pub int_then : Value → (ℤ → Option Hand) → Option Hand
 int_then (value.Own (owned.Int n)) go = go n
 int_then v go = None
 
 -- the right operand is on top
-abbrev arith : Op → Operand → Operand → Hand → Option Hand
+abbrev pub arith : Op → Operand → Operand → Hand → Option Hand
 arith f a b h =
     pop b h (λ y h2. pop a h2 (λ x h3. int_then x (λ m. int_then y (λ n. Some (push_temp (value.Own (owned.Int (result_of f m n))) h3)))))
 
-abbrev print : Operand → Hand → Option Hand
+-- a number is printed
+abbrev pub print : Operand → Hand → Option Hand
 print o h = pop o h (λ v h2. int_then v (λ n. Some (working (label_all (label.Print n ∷ [])) h2)))
 
 -- THREADS
 
-abbrev begun : Hand → Option Hand
+-- the thread that starts is noted here, its home
+abbrev pub begun : Hand → Option Hand
 begun h =
     if can_begin h.work.server.tasks (next_thread h.work.server) then Some (working (with_tasks (begin h.work.server.tasks (next_thread h.work.server))) h) else None
 
-abbrev spawn_with : ℕ → ℕ → ℕ → Hand → List Value × List Value → Option Hand
+-- a thread starts, and its task is a temporary value
+abbrev pub spawn_with : ℕ → ℕ → ℕ → Hand → List Value × List Value → Option Hand
 spawn_with servers pc u h new = option_map (λ h2. push_temp (value.Own (owned.Task u)) (working (start_thread servers pc new.0) (with_slots new.1 h2))) (begun h)
 
-abbrev spawn : ℕ → CaptureList → ℕ → Hand → Committed
+-- a thread starts with owned values
+abbrev pub spawn : ℕ → CaptureList → ℕ → Hand → Committed
 spawn servers cs pc h =
     finished (fresh.Thread (next_thread h.work.server)) (option_map go_on (then_some (capture false cs.items h.thread.slots) (spawn_with servers pc (next_thread h.work.server) h)))
 
 -- the thread's phase names its request, and the request goes to a home
-abbrev ask_join : ℕ → Hand → Option Hand
+abbrev pub ask_join : ℕ → Hand → Option Hand
 ask_join u h = Some (with_phase (phase.WaitJoin u) (working (λ w. send (home_of u) (message.Join u w.server.number h.thread.number) (note (act.AskJoin u) w)) h))
 
-abbrev task_then : Value → (ℕ → Option Hand) → Option Hand
+-- a task is needed
+abbrev pub task_then : Value → (ℕ → Option Hand) → Option Hand
 task_then (value.Own (owned.Task u)) go = go u
 task_then v go = None
 
 -- a join asks for the result, and takes it once it is there
-abbrev join : Operand → Option Owned → Hand → Committed
+abbrev pub join : Operand → Option Owned → Hand → Committed
 join o None h = waiting (pop o h (λ v h2. task_then v (λ u. ask_join u h)))
 join o (Some result) h = goes_on (pop o h (λ v h2. task_then v (λ u. Some (push_temp (value.Own result) h2))))
 
-abbrev pair_begun : Hand → ℕ → ℕ → Option Hand
+-- both threads are noted here, their home
+abbrev pub pair_begun : Hand → ℕ → ℕ → Option Hand
 pair_begun h a b =
     if can_begin_pair h.work.server.tasks h.thread.number a b then Some (working (with_tasks (begin_pair h.work.server.tasks h.thread.number a b)) h) else None
 
-abbrev par_with : ℕ → ℕ → ℕ → ℕ → ℕ → Hand → List Value → List Value × List Value → Option Hand
+-- both start, and the thread waits for them
+abbrev pub par_with : ℕ → ℕ → ℕ → ℕ → ℕ → Hand → List Value → List Value × List Value → Option Hand
 par_with servers pc other a b h first second =
     option_map (λ h2. with_phase (phase.WaitPar a b) (go_on (working (λ w. start_thread servers other second.0 (start_thread servers pc first w)) (with_slots second.1 h2)))) (pair_begun h a b)
 
 -- two threads start, the first list's first, and their parent waits for both
-abbrev par : ℕ → CaptureList → ℕ → CaptureList → ℕ → Hand → Committed
+abbrev pub par : ℕ → CaptureList → ℕ → CaptureList → ℕ → Hand → Committed
 par servers cs pc ds other h =
     finished (fresh.Threads (next_thread h.work.server) (next_thread h.work.server + 1))
     (then_some (capture true cs.items h.thread.slots) (λ first. then_some (capture true ds.items first.1) (par_with servers pc other (next_thread h.work.server) (next_thread h.work.server + 1) h first.0)))
 
-abbrev par_end : Phase → Hand → Option Hand
+-- both have ended
+abbrev pub par_end : Phase → Hand → Option Hand
 par_end (phase.GotPar a b) h = Some h
 par_end p h = None
 
 -- the result of main is dropped; another thread's goes to its home
-abbrev end_with : Bool → Owned → Hand → Option Hand
+abbrev pub end_with : Bool → Owned → Hand → Option Hand
 end_with true v h = Some (working (λ w. label_all (label.End h.thread.number ∷ []) (let_go v (label_all (drop_labels v) w))) h)
 end_with false v h =
     Some (working (λ w. send h.thread.home (message.Finished h.thread.number v) (label_all (label.End h.thread.number ∷ []) (note (act.Finish h.thread.number) w))) h)
 
-abbrev end_thread : Operand → Hand → Committed
+-- the thread is over
+abbrev pub end_thread : Operand → Hand → Committed
 end_thread o h = finished fresh.None (option_map (with_phase phase.Over) (pop o h (λ v h2. owned_then v (λ u. end_with (h2.thread.number == 0) u h2))))
 
 -- MUTEXES
 
-abbrev mutex_made : Owned → Hand → Option Hand
+-- a new mutex here, its home
+abbrev pub mutex_made : Owned → Hand → Option Hand
 mutex_made v h =
     if can_make h.work.server.mutexes
     then Some (push_temp (value.Own (owned.Mutex (next_mutex h.work.server.mutexes))) (working (with_mutexes (make h.work.server.mutexes v)) h))
     else None
 
-abbrev mutex : Operand → Hand → Committed
+-- a mutex of an owned value
+abbrev pub mutex : Operand → Hand → Committed
 mutex o h = finished (fresh.Mutex (next_mutex h.work.server.mutexes)) (option_map go_on (pop o h (λ v h2. owned_then v (λ u. mutex_made u h2))))
 
-abbrev mutex_then : Option Value → (MutexNo → Option Hand) → Option Hand
+-- a mutex is needed
+abbrev pub mutex_then : Option Value → (MutexNo → Option Hand) → Option Hand
 mutex_then (Some (value.Own (owned.Mutex m))) go = go m
 mutex_then v go = None
 
-abbrev ask_dup : Hand → MutexNo → Option Hand
+-- the request of a dup
+abbrev pub ask_dup : Hand → MutexNo → Option Hand
 ask_dup h m = Some (with_phase (phase.WaitDup m) (working (λ w. send m.home (message.Dup m w.server.number h.thread.number) (note (act.AskDup m) w)) h))
 
 -- a dup asks for one share more, and takes it once it is there
-abbrev dup : Spot → Option Owned → Hand → Committed
+abbrev pub dup : Spot → Option Owned → Hand → Committed
 dup s None h = waiting (mutex_then (value_at h s) (ask_dup h))
 dup s (Some share) h = goes_on (mutex_then (value_at h s) (λ m. Some (push_temp (value.Own share) (load_at s h))))
 
-abbrev ask_lock : Hand → MutexNo → Option Hand
+-- the request of a lock
+abbrev pub ask_lock : Hand → MutexNo → Option Hand
 ask_lock h m = Some (with_phase (phase.WaitLock m) (working (λ w. send m.home (message.Lock m w.server.number h.thread.number) (note (act.AskLock m) w)) h))
 
 -- a lock asks for the content, and takes it once it is there, with the hidden slot below it
-abbrev lock : Spot → Option Owned → Hand → Committed
+abbrev pub lock : Spot → Option Owned → Hand → Committed
 lock s None h = waiting (mutex_then (value_at h s) (ask_lock h))
 lock s (Some content) h =
     goes_on (mutex_then (value_at h s) (λ m. Some (push_slot (value.Own content) (push_slot (value.Held m) (working (label_all (label.Lock m ∷ [])) (load_at s h))))))
 
-abbrev give_back_to : Owned → Option Value → Hand → Option Hand
+-- the content goes to the home of the mutex in the hidden slot
+abbrev pub give_back_to : Owned → Option Value → Hand → Option Hand
 give_back_to v (Some (value.Held m)) h =
     Some (with_slots (front_of h.thread.slots) (working (λ w. send m.home (message.Unlock m v) (label_all (label.Unlock m ∷ []) (note (act.GiveBack m) w))) h))
 give_back_to v held h = None
 
 -- the last slot's value goes back as the content, and both slots go
-abbrev unlock : Hand → Option Hand
+abbrev pub unlock : Hand → Option Hand
 unlock h = then_some (last_of h.thread.slots) (λ v. owned_then v (λ u. give_back_to u (last_of (front_of h.thread.slots)) (with_slots (front_of h.thread.slots) h)))
 
 -- ALL INSTRUCTIONS

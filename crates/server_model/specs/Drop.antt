@@ -34,11 +34,13 @@ abbrev pub drop_labels : Owned → List Label
 drop_labels (owned.Box p) = label.Drop p.object ∷ []
 drop_labels v = []
 
-abbrev unpinned : SharedRef → Bool → Hand → Option Hand
+-- a pinned reference gives its use back
+abbrev pub unpinned : SharedRef → Bool → Hand → Option Hand
 unpinned r false h = Some h
 unpinned r true h = if can_unpin h.work.server.cache r.word then Some (working (with_cache (unpin h.work.server.cache r.word)) h) else None
 
-abbrev finished_at : Spot → Option ℕ → Hand → Option Hand
+-- the pointer at the holder gets a word
+abbrev pub finished_at : Spot → Option ℕ → Hand → Option Hand
 finished_at holder None h = Some h
 finished_at holder (Some w) h = set_pointer holder w h
 

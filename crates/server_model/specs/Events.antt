@@ -28,18 +28,21 @@ use Rattle.server_model.specs.Moving.{migrate}
 
 -- WHICH EVENTS ARE ENABLED
 
-abbrev can_step : Phase → Bool
+-- it doesn't wait
+abbrev pub can_step : Phase → Bool
 can_step phase.Ready = true
 can_step phase.Got = true
 can_step (phase.GotPar a b) = true
 can_step (phase.Taken w) = true
 can_step p = false
 
-abbrev is_ready : Phase → Bool
+-- no step is begun
+abbrev pub is_ready : Phase → Bool
 is_ready phase.Ready = true
 is_ready p = false
 
-abbrev has_phase : (Phase → Bool) → Option ThreadView → Bool
+-- the thread is here, in such a phase
+abbrev pub has_phase : (Phase → Bool) → Option ThreadView → Bool
 has_phase f None = false
 has_phase f (Some t) = f t.phase
 
@@ -53,7 +56,8 @@ enabled o s (Migrate t target) = has_phase is_ready (thread_in s.threads t) && (
 
 -- THE ENTRY OF AN EVENT
 
-abbrev entry : Option ℕ → Option Fresh → List Act → List Label → Work → Server × Entry
+-- the server has done one event more
+abbrev pub entry : Option ℕ → Option Fresh → List Act → List Label → Work → Server × Entry
 entry thread names acts labels w = (
   record w.server { events = w.server.events + 1 },
   record {
@@ -65,46 +69,51 @@ entry thread names acts labels w = (
   },
 )
 
-abbrev begin_work : Server → Work
+-- nothing is done yet
+abbrev pub begin_work : Server → Work
 begin_work s = record { server = s; acts = []; labels = [] }
 
 -- an event that does no plain step has no labels
-abbrev ended : Option ℕ → Option Work → Option (Server × Entry)
+abbrev pub ended : Option ℕ → Option Work → Option (Server × Entry)
 ended thread None = None
 ended thread (Some w) = Some (entry thread None w.acts [] w)
 
 -- STEPS
 
 -- the step is done: its labels and all its hops are in this entry
-abbrev done_step : Fresh → Option Hand → Option (Server × Entry)
+abbrev pub done_step : Fresh → Option Hand → Option (Server × Entry)
 done_step names None = None
 done_step names (Some h) = Some (entry (Some h.thread.number) (Some names) h.work.acts h.work.labels (put_back h))
 
 -- the thread waits: what was made ready stays so, and the hops count later
-abbrev wait_step : Hand → Option (Server × Entry)
+abbrev pub wait_step : Hand → Option (Server × Entry)
 wait_step h = Some (entry (Some h.thread.number) None (without_hops h.work.acts) [] (put_back h))
 
-abbrev committed : Committed → Option (Server × Entry)
+-- what became of the plain step
+abbrev pub committed : Committed → Option (Server × Entry)
 committed (done names h) = done_step names (settle h)
 committed (waits h) = wait_step h
 committed refused = None
 
-abbrev prepared : ℕ → Instr → Prepared → Option (Server × Entry)
+-- what became of the place: the plain step follows where it is ready
+abbrev pub prepared : ℕ → Instr → Prepared → Option (Server × Entry)
 prepared servers i (ready h s) = committed (commit servers i s h)
 prepared servers i (asked h) = wait_step h
 prepared servers i nothing = None
 
-abbrev step_of : ℕ → Option Instr → Hand → Option (Server × Entry)
+-- the step of an instruction
+abbrev pub step_of : ℕ → Option Instr → Hand → Option (Server × Entry)
 step_of servers None h = None
 step_of servers (Some i) h = prepared servers i (prepare (access_of i h.thread) h)
 
 -- a thread goes on with its plain step as far as it can here: the step is done, or one request is sent
-abbrev step : List Instr → ℕ → ℕ → Work → Option (Server × Entry)
+abbrev pub step : List Instr → ℕ → ℕ → Work → Option (Server × Entry)
 step code servers t w = then_some (take_up w t) (λ h. step_of servers (slice_get code h.thread.pc) h)
 
 -- DELIVERIES
 
-abbrev release : Released → Work → Option Work
+-- a mutex value or a task was dropped
+abbrev pub release : Released → Work → Option Work
 release (released.Mutex m) w = release_mutex m w
 release (released.Task u) w = release_task u w
 
@@ -128,12 +137,13 @@ deliver_message code (message.Finished u v) x = finished u v x
 deliver_message code (message.Migrate p) x = arrive p x
 
 -- a message is taken out of the waiting ones, and does what it says
-abbrev deliver : List Instr → ℕ → Server → Option Work
+abbrev pub deliver : List Instr → ℕ → Server → Option Work
 deliver code i s = then_some (slice_get s.inbox i) (λ m. deliver_message code m (begin_work (receive s i)))
 
 -- ALL EVENTS
 
-abbrev evict_copy : ℕ → Work → Work
+-- the copy goes
+abbrev pub evict_copy : ℕ → Work → Work
 evict_copy c w = note (act.Evict c) (with_cache (evict w.server.cache c) w)
 
 -- what an enabled event does to a server, and its entry. None where a condition fails of one of the calls that it makes on the

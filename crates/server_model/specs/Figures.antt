@@ -1,5 +1,5 @@
 -- Runs of a cluster under an order of events given by hand, and the figures that a report shows of a run.
-use Rattle.std.specs.Prelude.{ℕ, ℤ, zero, suc, ◌+◌, ◌==◌, ◌&&◌, Bool, true, false, List, [], ◌∷◌, ◌++◌, length, Option, Some, None, is_some}
+use Rattle.std.specs.Prelude.{ℕ, ℤ, zero, suc, ◌+◌, ◌==◌, ◌&&◌, Bool, true, false, List, [], ◌∷◌, ◌++◌, length, Option, Some, None, is_some, if◌then◌else◌}
 use Rattle.fr_base.specs.Kinds.{kind_number}
 use Rattle.fr_base.specs.declared.instruction.Instr.{Instr}
 use Rattle.fr_base.specs.declared.settings.Options.{Options}
@@ -10,12 +10,16 @@ use Rattle.heap_partition.specs.declared.value.Cell.{Cell}
 use Rattle.journal.specs.declared.act.Act.{Act}
 use Rattle.journal.specs.declared.act.Act.TheVariants as act
 use Rattle.journal.specs.declared.entry.Entry.{Entry}
-use Rattle.journal.specs.Journals.{prints}
+use Rattle.fr_base.specs.declared.label.Label.{Label}
+use Rattle.read_cache.specs.Cache.{Copy}
+use Rattle.journal.specs.Journals.{labels, prints}
 use Rattle.server_msgs.specs.Messages.{kind_of}
+use Rattle.server_msgs.specs.declared.message.Message.{Message}
 use Rattle.server_model.specs.declared.event.Event.{Event}
 use Rattle.server_model.specs.declared.event.What.{What}
 use Rattle.server_model.specs.declared.event.What.TheVariants.{Step, Deliver, Evict, Migrate}
 use Rattle.server_model.specs.Servers.{Sent, Server, Cluster, start_of}
+use Rattle.server_model.specs.Events.{can_step}
 use Rattle.server_model.specs.Clusters.{act_at, hand_over, outboxes}
 
 -- RUNS
@@ -166,6 +170,47 @@ abbrev pub figures_in : Option Ran → Option Figures
 figures_in None = None
 figures_in (Some r) = Some (figures_of r)
 
+-- WHAT ELSE A RUN SHOWS
+
+abbrev pub labels_of : Option Ran → List Label
+labels_of None = []
+labels_of (Some r) = labels r.journal
+
+abbrev acts_each : List Entry → List (List Act)
+acts_each [] = []
+acts_each (e ∷ es) = e.acts.items ∷ acts_each es
+
+-- the acts of each event
+abbrev pub acts_of : Option Ran → List (List Act)
+acts_of None = []
+acts_of (Some r) = acts_each r.journal
+
+abbrev flags_at : List ThreadView → List Bool
+flags_at [] = []
+flags_at (t ∷ ts) = t.moved_since_step ∷ flags_at ts
+
+abbrev flags_in : List Server → List Bool
+flags_in [] = []
+flags_in (s ∷ ss) = flags_at s.threads ++ flags_in ss
+
+-- whether each thread has moved since its last plain step
+abbrev pub moved_flags : Option Ran → List Bool
+moved_flags None = []
+moved_flags (Some r) = flags_in r.cluster.servers
+
+abbrev users_at : List Copy → List (ℕ × ℕ)
+users_at [] = []
+users_at (c ∷ cs) = (c.word, c.users) ∷ users_at cs
+
+abbrev users_of : List Server → List (ℕ × ℕ)
+users_of [] = []
+users_of (s ∷ ss) = users_at s.cache ++ users_of ss
+
+-- the cached words of all servers, with how many use each
+abbrev pub cached_users : Option Ran → List (ℕ × ℕ)
+cached_users None = []
+cached_users (Some r) = users_of r.cluster.servers
+
 -- EVENTS BY HAND
 
 abbrev at : ℕ → What → Event
@@ -184,3 +229,46 @@ evict s w = at s (Evict w) ∷ []
 
 abbrev pub migrate : (server thread target : ℕ) → List Event
 migrate s t target = at s (Migrate t target) ∷ []
+
+-- EVENTS AS THEY COME
+
+abbrev step_first : List ThreadView → ℕ → Option Event
+step_first [] s = None
+step_first (t ∷ ts) s = if can_step t.phase then Some (at s (Step t.number)) else step_first ts s
+
+-- a server delivers its oldest message, and else its first thread that can steps
+abbrev event_of : List Message → Server → Option Event
+event_of [] s = step_first s.threads s.number
+event_of (m ∷ ms) s = Some (at s.number (Deliver 0))
+
+abbrev or_else : Option Event → Option Event → Option Event
+or_else None e = e
+or_else (Some e) f = Some e
+
+abbrev first_event : List Server → Option Event
+first_event [] = None
+first_event (s ∷ ss) = or_else (event_of s.inbox s) (first_event ss)
+
+abbrev last_event : List Server → Option Event
+last_event [] = None
+last_event (s ∷ ss) = or_else (last_event ss) (event_of s.inbox s)
+
+abbrev next_of : (List Server → Option Event) → Option Ran → Option Event
+next_of choose None = None
+next_of choose (Some r) = choose r.cluster.servers
+
+abbrev chosen : (Option Ran → Option Ran) → Option Ran → Option Event → Option Ran
+chosen go r None = r
+chosen go r (Some e) = go (run_event r e)
+
+-- at most so many events, each at the server that is chosen
+abbrev run_on : (List Server → Option Event) → ℕ → Option Ran → Option Ran
+run_on choose zero r = r
+run_on choose (suc n) r = chosen (run_on choose n) r (next_of choose r)
+
+-- a run goes on as long as an event is enabled, at most 100 events: the first server that can goes on, or the last one
+abbrev pub first_goes_on : Option Ran → Option Ran
+first_goes_on r = run_on first_event 100 r
+
+abbrev pub last_goes_on : Option Ran → Option Ran
+last_goes_on r = run_on last_event 100 r

@@ -9,15 +9,16 @@ use Rattle.read_cache.specs.Cache.{Copy, is_cached}
 use Rattle.server_model.specs.declared.hop.Hop.{Hop}
 use Rattle.server_model.specs.declared.hop.Hop.TheVariants.{Slot, Direct, Hit, NeedCopy, NeedMove, NeedTint, AtCell}
 
-abbrev by_copy : List Copy → ℕ → Hop
+-- to a copy, or a copy is needed
+abbrev pub by_copy : List Copy → ℕ → Hop
 by_copy cache w = if is_cached cache w then Hit w else NeedCopy w
 
 -- a pointer whose object has no change that its word doesn't show
-abbrev clean_hop : ℕ → List Copy → ℕ → Hop
+abbrev pub clean_hop : ℕ → List Copy → ℕ → Hop
 clean_hop server cache w = if server_of w == server then Direct w else by_copy cache w
 
 -- a copy under a dirty reference's word would be old, so the reference is cleaned first
-abbrev dirty_hop : ℕ → ℕ → Hop
+abbrev pub dirty_hop : ℕ → ℕ → Hop
 dirty_hop server w = if server_of w == server then Direct w else NeedTint w
 
 -- how a pointer is followed by a read; None where the value is no pointer

@@ -19,10 +19,11 @@ abbrev pub arrive : ThreadView → Work → Option Work
 arrive t w = Some (stand t w)
 
 -- the result of a thread goes to that thread at that server
-abbrev answer : ℕ → ℕ → ℕ → Owned → Work → Work
+abbrev pub answer : ℕ → ℕ → ℕ → Owned → Work → Work
 answer u s by v w = send s (message.Joined u v by) (note (act.Answer u by s) w)
 
-abbrev answer_join : ℕ → ℕ → ℕ → Option Owned → Work → Work
+-- the answer to a join, where the thread has ended
+abbrev pub answer_join : ℕ → ℕ → ℕ → Option Owned → Work → Work
 answer_join u s by None w = w
 answer_join u s by (Some v) w = answer u s by v w
 
@@ -30,10 +31,12 @@ answer_join u s by (Some v) w = answer u s by v w
 abbrev pub join : ℕ → ℕ → ℕ → Work → Option Work
 join u s by w = option_map (λ a. answer_join u s by a.1 (with_tasks a.0 w)) (ask w.server.tasks u s by)
 
-abbrev waits_for_join : Phase → ℕ → Bool
+-- it waits for the result of that thread
+abbrev pub waits_for_join : Phase → ℕ → Bool
 waits_for_join (phase.WaitJoin x) u = x == u
 waits_for_join p u = false
 
+-- the result is the gift of the thread
 abbrev pub joined : ℕ → Owned → ℕ → Work → Option Work
 joined u v by w = then_some (take_up w by) (λ h. if waits_for_join h.thread.phase u then Some (given v h) else None)
 
@@ -41,15 +44,17 @@ joined u v by w = then_some (take_up w by) (λ h. if waits_for_join h.thread.pha
 abbrev pub release_task : ℕ → Work → Option Work
 release_task u w = option_map (λ a. let_go_content a.1 (with_tasks a.0 w)) (let_go_of w.server.tasks u)
 
-abbrev got_par : ℕ → Phase → Option Phase
+-- the phase of the parent of a pair with that thread
+abbrev pub got_par : ℕ → Phase → Option Phase
 got_par u (phase.WaitPar a b) = if (a == u) || (b == u) then Some (phase.GotPar a b) else None
 got_par u p = None
 
 -- the parent of a pair, which is here, goes on
-abbrev tell_parent : ℕ → ℕ → Work → Option Work
+abbrev pub tell_parent : ℕ → ℕ → Work → Option Work
 tell_parent u parent w = then_some (take_up w parent) (λ h. option_map (λ p. put_back (with_phase p h)) (got_par u h.thread.phase))
 
-abbrev end_answer : ℕ → EndedAs → Work → Option Work
+-- where the result goes
+abbrev pub end_answer : ℕ → EndedAs → Work → Option Work
 end_answer u (Answer s by v) w = Some (answer u s by v w)
 end_answer u (Both parent) w = tell_parent u parent w
 end_answer u (LetGo v) w = Some (let_go v w)

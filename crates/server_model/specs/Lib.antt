@@ -15,3 +15,8 @@ pub mod Clusters
 pub mod Figures
 pub mod Programs
 pub mod Rows
+pub mod Trials
+pub mod Laws
+pub mod Traces
+pub mod Larger
+pub mod Chances

@@ -10,7 +10,8 @@ use Rattle.journal.specs.declared.act.Act.TheVariants as act
 use Rattle.server_model.specs.Work.{Work, send, note, with_cache, take_up, then_some, unpin_all}
 use Rattle.server_model.specs.Start.{copied}
 
-abbrev pinned_word : SharedRef → Bool → List ℕ → List ℕ
+-- the word that a reference keeps in use
+abbrev pub pinned_word : SharedRef → Bool → List ℕ → List ℕ
 pinned_word r true ws = r.word ∷ ws
 pinned_word r false ws = ws
 
@@ -32,7 +33,8 @@ packed t = record t { walk = []; slots = map copied t.slots; temps = map copied 
 abbrev pub pack_thread : ThreadView → List Copy → Option (ThreadView × List Copy)
 pack_thread t cs = option_map (λ left. (packed t, left)) (unpin_all (used_words t) cs)
 
-abbrev sent_off : ℕ → Work → ThreadView × List Copy → Work
+-- the parcel goes to that server
+abbrev pub sent_off : ℕ → Work → ThreadView × List Copy → Work
 sent_off target w p = send target (message.Migrate p.0) (note (act.Depart p.0.number target) (with_cache p.1 w))
 
 -- the thread leaves for that server; it is noted that it has moved since its last step

@@ -30,7 +30,8 @@ cell_at h (in_cell w through) = look h.work.server.partition w
 cell_at h (in_copy w) = hit h.work.server.cache w
 cell_at h s = None
 
-abbrev value_in : Option Cell → Option Value
+-- the value of a cell
+abbrev pub value_in : Option Cell → Option Value
 value_in None = None
 value_in (Some c) = Some (value.Own c.value)
 
@@ -40,7 +41,8 @@ value_at h (in_slot i) = slice_get h.thread.slots i
 value_at h on_top = last_of h.thread.temps
 value_at h s = value_in (cell_at h s)
 
-abbrev load_of : Option Cell → List Label
+-- the load of a cell
+abbrev pub load_of : Option Cell → List Label
 load_of None = []
 load_of (Some c) = label.Load c.object (plain_of c.value) ∷ []
 
@@ -50,11 +52,13 @@ load_at s h = working (label_all (load_of (cell_at h s))) h
 
 -- PUTTING VALUES
 
-abbrev written : Value → Value
+-- a mutable reference that was written through
+abbrev pub written : Value → Value
 written (value.Mut r) = value.Mut (record r { dirty = true })
 written v = v
 
-abbrev note_slot : List Value → ℕ → Option Value → List Value
+-- the reference in that slot was written through
+abbrev pub note_slot : List Value → ℕ → Option Value → List Value
 note_slot slots i None = slots
 note_slot slots i (Some v) = slice_set slots i (written v)
 
@@ -68,6 +72,7 @@ abbrev pub put_cell : ℕ → Option ℕ → Owned → Hand → Option Hand
 put_cell w through v h =
     if leads_here h.work.server.partition w then Some (note_write through (working (with_partition (stored h.work.server.partition w v)) h)) else None
 
+-- a slot gets a value
 abbrev pub put_slot : ℕ → Value → Hand → Option Hand
 put_slot i v h = if nat_lt i (length h.thread.slots) then Some (with_slots (slice_set h.thread.slots i v) h) else None
 

@@ -23,10 +23,11 @@ given v h = put_back (with_phase phase.Got (record h { thread = record h.thread 
 -- LOCKS
 
 -- the content goes to that thread at that server
-abbrev grant : MutexNo → ℕ → ℕ → Owned → Work → Work
+abbrev pub grant : MutexNo → ℕ → ℕ → Owned → Work → Work
 grant m s t v w = send s (message.Granted m v t) (note (act.Grant m t s) w)
 
-abbrev answer_lock : MutexNo → ℕ → ℕ → Asked → Work → Work
+-- the answer to a lock, where there is one
+abbrev pub answer_lock : MutexNo → ℕ → ℕ → Asked → Work → Work
 answer_lock m s t Queued w = w
 answer_lock m s t (Granted v) w = grant m s t v w
 
@@ -34,14 +35,17 @@ answer_lock m s t (Granted v) w = grant m s t v w
 abbrev pub lock : MutexNo → ℕ → ℕ → Work → Option Work
 lock m s t w = option_map (λ a. answer_lock m s t a.1 (with_mutexes a.0 w)) (ask w.server.mutexes m s t)
 
-abbrev waits_for_lock : Phase → MutexNo → Bool
+-- it waits for that mutex
+abbrev pub waits_for_lock : Phase → MutexNo → Bool
 waits_for_lock (phase.WaitLock n) m = is_mutex n m
 waits_for_lock p m = false
 
+-- the content is the gift of the thread
 abbrev pub granted : MutexNo → Owned → ℕ → Work → Option Work
 granted m v t w = then_some (take_up w t) (λ h. if waits_for_lock h.thread.phase m then Some (given v h) else None)
 
-abbrev answer_back : MutexNo → Back → Work → Work
+-- what follows once a content is back
+abbrev pub answer_back : MutexNo → Back → Work → Work
 answer_back m (Next s t v) w = grant m s t v w
 answer_back m (Ended v) w = let_go v w
 answer_back m Kept w = w
@@ -52,16 +56,20 @@ unlock m v w = option_map (λ a. answer_back m a.1 (with_mutexes a.0 w)) (give_b
 
 -- SHARES
 
+-- the home counts one share more, and answers
 abbrev pub dup : MutexNo → ℕ → ℕ → Work → Option Work
 dup m s t w = option_map (λ ms. send s (message.Dupped m t) (note (act.Dupped m t s) (with_mutexes ms w))) (more w.server.mutexes m)
 
-abbrev waits_for_dup : Phase → MutexNo → Bool
+-- it waits for a share of that mutex
+abbrev pub waits_for_dup : Phase → MutexNo → Bool
 waits_for_dup (phase.WaitDup n) m = is_mutex n m
 waits_for_dup p m = false
 
+-- the share is the gift of the thread
 abbrev pub dupped : MutexNo → ℕ → Work → Option Work
 dupped m t w = then_some (take_up w t) (λ h. if waits_for_dup h.thread.phase m then Some (given (owned.Mutex m) h) else None)
 
+-- what is left over is dropped
 abbrev pub let_go_content : Option Owned → Work → Work
 let_go_content None w = w
 let_go_content (Some v) w = let_go v w

@@ -29,19 +29,21 @@ copied (value.Shared r) = value.Shared (record r { pinned = false })
 copied v = v
 
 -- what a new thread captures: owned values, and branches of a pair shared references to objects too
-abbrev captured : (branch : Bool) → Value → Option Value
+abbrev pub captured : (branch : Bool) → Value → Option Value
 captured branch (value.Own v) = Some (value.Own v)
 captured true (value.Shared r) = Some (copied (value.Shared r))
 captured branch v = None
 
-abbrev left_after : Bool → List Value → ℕ → List Value
+-- what a capture leaves of the slots
+abbrev pub left_after : Bool → List Value → ℕ → List Value
 left_after true slots i = slice_set slots i value.Gone
 left_after false slots i = slots
 
 -- the captured values in order, and the slots that are left
-abbrev capture_from : Bool → List Value → List (ℕ × Bool) → List Value → Option (List Value × List Value)
+abbrev pub capture_from : Bool → List Value → List (ℕ × Bool) → List Value → Option (List Value × List Value)
 capture_from branch new [] slots = Some (new, slots)
 capture_from branch new (c ∷ cs) slots = then_some (slice_get slots c.0) (λ v. then_some (captured branch v) (λ u. capture_from branch (new ++ u ∷ []) cs (left_after c.1 slots c.0)))
 
+-- the captures of a new thread, and the slots that are left to its parent
 abbrev pub capture : (branch : Bool) → List (ℕ × Bool) → List Value → Option (List Value × List Value)
 capture branch cs slots = capture_from branch [] cs slots
