@@ -1,14 +1,18 @@
 -- Journals taken entry by entry.
 use Rattle.std.proofs.Common.{arith, ◌≡◌, ◌+◌, ◌++◌, ℕ, zero, suc, List, [], ◌∷◌, take, Option, Some, None, refl, ap, sym, subst}
 use Rattle.std.specs.Prelude.{IsSome, IsNone, Bool, true, false, ◌&&◌, is_none}
+use Rattle.fr_base.specs.declared.label.Label.TheVariants as label
 use Rattle.fr_base.specs.declared.settings.Options.{Options}
+use Rattle.coloured_heap.specs.Rules.{allows}
+use Rattle.coloured_heap.specs.Changes.{after_act, with_value}
+use Rattle.std.specs.Prelude.{if◌then◌else◌}
 use Rattle.journal.specs.declared.entry.Entry.{Entry}
 use Rattle.coloured_heap.specs.Heap.{Coloured, start}
-use Rattle.coloured_heap.specs.Legal.{entry_after, onward, otherwise, journal_from, journal_after, illegal_from, is_legal}
+use Rattle.coloured_heap.specs.Legal.{acts_after, entry_after, onward, otherwise, journal_from, journal_after, illegal_from, is_legal}
 use Rattle.coloured_heap.specs.Lists.{holds}
 use Rattle.coloured_heap.specs.Driven.{is_driven_entry, resting, driven_from}
 use Rattle.coloured_heap.specs.Reach.{is_reached, reached_from}
-use Rattle.coloured_heap.specs.Laws.{GoesOn, LegalHasState, FirstBreaks, DrivenIsLegal, ReachedIsLegal}
+use Rattle.coloured_heap.specs.Laws.{GoesOn, ActsGoOn, StoresGoOn, LegalHasState, FirstBreaks, DrivenIsLegal, ReachedIsLegal}
 
 -- first one part of a journal, then the other
 pub goes_on : GoesOn
@@ -18,6 +22,27 @@ goes_on o s (e ∷ es) fs = by (λ a. goes_on o a es fs) (entry_after o s e)
     by : ((a : Coloured) → journal_from o a (es ++ fs) ≡ onward (journal_from o a es) (λ b. journal_from o b fs)) → (r : Option Coloured) → onward r (λ a. journal_from o a (es ++ fs)) ≡ onward (onward r (λ a. journal_from o a es)) (λ a. journal_from o a fs)
     by f None = refl
     by f (Some a) = f a
+
+pub acts : ActsGoOn
+acts o e [] back s = refl
+acts o e (a ∷ front) back s = by (allows o e s a) (acts o e front back (after_act e s a))
+  where
+    by : (b : Bool) → acts_after o e (front ++ back) (after_act e s a) ≡ onward (acts_after o e front (after_act e s a)) (λ after. acts_after o e back after)
+        → (if b then acts_after o e (front ++ back) (after_act e s a) else None) ≡ onward (if b then acts_after o e front (after_act e s a) else None) (λ after. acts_after o e back after)
+    by true f = f
+    by false f = refl
+
+pub stores : StoresGoOn
+stores [] ms s = refl
+stores (label.Make p v ∷ ls) ms s = stores ls ms s
+stores (label.Load p v ∷ ls) ms s = stores ls ms s
+stores (label.Store p v ∷ ls) ms s = stores ls ms (with_value s p v)
+stores (label.Drop p ∷ ls) ms s = stores ls ms s
+stores (label.Print n ∷ ls) ms s = stores ls ms s
+stores (label.Lock m ∷ ls) ms s = stores ls ms s
+stores (label.Unlock m ∷ ls) ms s = stores ls ms s
+stores (label.Start t ∷ ls) ms s = stores ls ms s
+stores (label.End t ∷ ls) ms s = stores ls ms s
 
 -- no entry breaks a rule exactly where there is a state at the end
 state_of : (o : Options) (s : Coloured) (k : ℕ) (es : List Entry) → illegal_from o s k es ≡ None → IsSome (journal_from o s es)

@@ -170,6 +170,7 @@ pub record GiveRules : Type 0 where
   pub asked_for_copy : Breaks asked (event 0 (act.Give x (w 0 0) 1 ∷ []))
   pub twice : Breaks given (event 0 (act.Give x (w 0 0) 1 ∷ []))
   pub another : Breaks pulled (event 0 (act.Give x (w 0 0) 0 ∷ []))
+  pub elsewhere : Breaks pulled (event 1 (act.Give x (w 0 0) 1 ∷ []))
   pub old_word : Breaks (pulled ++ main (act.Tint x (w 0 0) (w 0 1) ∷ []) ∷ []) (event 0 (act.Give x (w 0 0) 1 ∷ []))
 
 pub record TakeRules : Type 0 where
@@ -186,6 +187,7 @@ pub record TintRules : Type 0 where
   pub next : Goes made (main (act.Tint x (w 0 0) (w 0 1) ∷ []))
   pub from_afar : Goes made (other (act.Tint x (w 0 0) (w 0 1) ∷ []))
   pub same : Breaks made (main (act.Tint x (w 0 0) (w 0 0) ∷ []))
+  pub another_word : Breaks made (main (act.Tint x (w 1 0) (w 1 1) ∷ []))
   pub leaps : Breaks made (main (act.Tint x (w 0 0) (w 0 2) ∷ []))
   pub old_word : Breaks tinted (main (act.Tint x (w 0 0) (w 0 1) ∷ []))
   pub issued : Breaks (made ++ main (act.Make y (w 0 1) ∷ []) ∷ []) (main (act.Tint x (w 0 0) (w 0 1) ∷ []))
@@ -228,6 +230,7 @@ pub record LockRules : Type 0 where
   pub not_asked : Breaks guarded (event 0 (act.Grant m 1 1 ∷ []))
   pub to_another : Breaks locking (event 0 (act.Grant m 0 1 ∷ []))
   pub to_elsewhere : Breaks locking (event 0 (act.Grant m 1 0 ∷ []))
+  pub another_mutex : Breaks (locking ++ naming 0 0 (fresh.Mutex (mutex 0 2)) [] [] ∷ []) (event 0 (act.Grant (mutex 0 2) 1 1 ∷ []))
   pub not_home : Breaks locking (event 1 (act.Grant m 1 1 ∷ []))
   pub not_made : Breaks (started ++ turn 1 1 (act.AskLock m ∷ []) ∷ []) (event 0 (act.Grant m 1 1 ∷ []))
   pub out : Breaks (locked ++ turn 0 0 (act.AskLock m ∷ []) ∷ []) (event 0 (act.Grant m 0 0 ∷ []))
@@ -265,6 +268,7 @@ pub record JoinRules : Type 0 where
   pub answered : Goes joining (event 0 (act.Answer 1 0 0 ∷ []))
   pub not_asked : Breaks finished (event 0 (act.Answer 1 0 0 ∷ []))
   pub twice : Breaks (joining ++ event 0 (act.Answer 1 0 0 ∷ []) ∷ []) (event 0 (act.Answer 1 0 0 ∷ []))
+  pub to_another : Breaks joining (event 0 (act.Answer 1 1 0 ∷ []))
   pub to_elsewhere : Breaks joining (event 0 (act.Answer 1 0 1 ∷ []))
   pub not_home : Breaks joining (event 1 (act.Answer 1 0 0 ∷ []))
   pub goes_on : Breaks (started ++ turn 0 0 (act.AskJoin 1 ∷ []) ∷ []) (event 0 (act.Answer 1 0 0 ∷ []))
@@ -279,7 +283,7 @@ pub record DepartRules : Type 0 where
   pub leaves : Goes started (turn 1 1 (act.Depart 1 0 ∷ []))
   pub stays : Breaks started (turn 1 1 (act.Depart 1 1 ∷ []))
   pub nowhere : Breaks started (turn 1 1 (act.Depart 1 2 ∷ []))
-  pub of_another : Breaks started (turn 0 0 (act.Depart 1 0 ∷ []))
+  pub of_another : Breaks started (turn 0 0 (act.Depart 1 1 ∷ []))
 
 -- where an entry stands, and which mutex its step may make
 pub record PlaceRules : Type 0 where

@@ -36,8 +36,8 @@ with_value s p v = change s p (λ x. record x { value = v })
 abbrev pub wishing : Coloured → Wish → Coloured
 wishing s a = record s { wishes = a ∷ s.wishes }
 
-abbrev pub granting : Coloured → Wish → Coloured
-granting s a = record s { wishes = less_first (same_wish a) s.wishes }
+abbrev pub answering : Coloured → Wish → Coloured
+answering s a = record s { wishes = less_first (same_wish a) s.wishes }
 
 -- under way to a server, with the value that the object has now
 abbrev pub serving : Coloured → ObjNo → ℕ → ℕ → Coloured
@@ -71,10 +71,10 @@ changed_by e s (act.Make p w) = with_object s (record { object = p; place = Lies
 changed_by e s (act.Local p w) = s
 changed_by e s (act.Hit p w) = s
 changed_by e s (act.Ask p w) = wishing s (ForCopy p w e.server)
-changed_by e s (act.Serve p w there) = serving (granting s (ForCopy p w there)) p w there
+changed_by e s (act.Serve p w there) = serving (answering s (ForCopy p w there)) p w there
 changed_by e s (act.Fill p w) = filling s p w e.server
 changed_by e s (act.Pull p w) = wishing s (ForObject p w e.server)
-changed_by e s (act.Give p w there) = change (granting s (ForObject p w there)) p (λ x. record x { place = Flies there })
+changed_by e s (act.Give p w there) = change (answering s (ForObject p w there)) p (λ x. record x { place = Flies there })
 changed_by e s (act.Take p old new) = change s p (λ x. record x { place = Lies e.server; word = new })
 changed_by e s (act.Tint p old new) = change s p (λ x. record x { word = new })
 changed_by e s (act.Renew p old new) = change s p (λ x. record x { word = new })
@@ -82,14 +82,14 @@ changed_by e s (act.Condemn p w) = change s p (λ x. record x { is_condemned = t
 changed_by e s (act.Free p w) = record s { living = less_all (is_object p) s.living }
 changed_by e s (act.Evict w) = record s { cached = less_all (is_under e.server w) s.cached }
 changed_by e s (act.AskLock m) = wishing s (ForContent m (asker_of e.thread) e.server)
-changed_by e s (act.Grant m t there) = with_holder (granting s (ForContent m t there)) m (Some t)
+changed_by e s (act.Grant m t there) = with_holder (answering s (ForContent m t there)) m (Some t)
 changed_by e s (act.GiveBack m) = with_holder s m None
 changed_by e s (act.AskDup m) = wishing s (ForShare m (asker_of e.thread) e.server)
-changed_by e s (act.Dupped m t there) = granting s (ForShare m t there)
+changed_by e s (act.Dupped m t there) = answering s (ForShare m t there)
 changed_by e s (act.LetGo x) = s
 changed_by e s (act.Start t there) = record s { threads = record { thread = t; server = there; has_ended = false } ∷ s.threads }
 changed_by e s (act.AskJoin t) = wishing s (ForResult t (asker_of e.thread) e.server)
-changed_by e s (act.Answer t asker there) = granting s (ForResult t asker there)
+changed_by e s (act.Answer t asker there) = answering s (ForResult t asker there)
 changed_by e s (act.Finish t) = change_thread s t (λ r. record r { has_ended = true })
 changed_by e s (act.Depart t there) = change_thread s t (λ r. record r { server = there })
 

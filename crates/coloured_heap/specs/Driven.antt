@@ -1,6 +1,6 @@
 -- What the drivers keep to (this project's rule): a copy is evicted where the cache holds more than its share, and a thread does a plain
 -- step between two moves.
-use Rattle.std.specs.Prelude.{ℕ, Bool, true, not, ◌&&◌, ◌==◌, nat_lt, List, [], ◌∷◌, Option, Some}
+use Rattle.std.specs.Prelude.{ℕ, Bool, true, not, ◌&&◌, ◌==◌, nat_lt, List, [], ◌∷◌, ◌++◌, Option, Some}
 use Rattle.fr_base.specs.declared.step.Fresh.{Fresh}
 use Rattle.fr_base.specs.declared.settings.Options.{Options}
 use Rattle.journal.specs.declared.act.Act.{Act}
@@ -39,20 +39,18 @@ abbrev pub may_depart : List ℕ → List ℕ → Bool
 may_depart moved [] = true
 may_depart moved (t ∷ ts) = not (has (λ u. u == t) moved) && may_depart (t ∷ moved) ts
 
+-- a plain step of a thread takes it out
 abbrev stepped : Option ℕ → Option Fresh → List ℕ → List ℕ
 stepped (Some t) (Some names) moved = less_all (λ u. u == t) moved
 stepped _ _ moved = moved
 
-abbrev joined : List ℕ → List ℕ → List ℕ
-joined [] moved = moved
-joined (t ∷ ts) moved = t ∷ joined ts moved
-
 -- the threads that moved and did no plain step since, after an entry
 abbrev pub resting : Entry → List ℕ → List ℕ
-resting e moved = joined (departing e.acts.items) (stepped e.thread e.done moved)
+resting e moved = departing e.acts.items ++ stepped e.thread e.done moved
 
 -- JOURNALS
 
+-- an entry's evictions are due, and its threads may move
 abbrev pub is_driven_entry : Options → Coloured → List ℕ → Entry → Bool
 is_driven_entry o s moved e = are_due o e e.acts.items s && may_depart moved (departing e.acts.items)
 

@@ -1,13 +1,16 @@
 -- What holds of all journals.
 use Rattle.std.specs.Prelude.{◌≡◌, ◌↔◌, ℕ, suc, ◌≤◌, ◌==◌, Bool, true, ◌++◌, List, take, Some, None, IsSome, IsNone}
+use Rattle.fr_base.specs.declared.label.Label.{Label}
 use Rattle.fr_base.specs.declared.name.MutexNo.{MutexNo}
 use Rattle.fr_base.specs.declared.name.ObjNo.{ObjNo}
 use Rattle.fr_base.specs.declared.settings.Options.{Options}
+use Rattle.journal.specs.declared.act.Act.{Act}
 use Rattle.journal.specs.declared.act.Act.TheVariants as act
 use Rattle.journal.specs.declared.entry.Entry.{Entry}
 use Rattle.coloured_heap.specs.Lists.{tot, one}
 use Rattle.coloured_heap.specs.Heap.{Living, Running, Guarded, Copied, Coloured, is_object, is_thread, is_mutex, is_under}
-use Rattle.coloured_heap.specs.Legal.{onward, journal_from, journal_after, first_illegal, is_legal}
+use Rattle.coloured_heap.specs.Changes.{stored}
+use Rattle.coloured_heap.specs.Legal.{acts_after, onward, journal_from, journal_after, first_illegal, is_legal}
 use Rattle.coloured_heap.specs.Sends.{sends, count, messages}
 use Rattle.coloured_heap.specs.Driven.{is_driven}
 use Rattle.coloured_heap.specs.Reach.{is_all_reached}
@@ -28,6 +31,13 @@ pub record SendNothing : Type 0 where
 -- a journal goes on from the state that its first part leaves
 abbrev pub GoesOn : Type 0
 GoesOn = (o : Options) (s : Coloured) (es fs : List Entry) → journal_from o s (es ++ fs) ≡ onward (journal_from o s es) (λ after. journal_from o after fs)
+
+-- and so do the acts of an entry, and its stores
+abbrev pub ActsGoOn : Type 0
+ActsGoOn = (o : Options) (e : Entry) (front back : List Act) (s : Coloured) → acts_after o e (front ++ back) s ≡ onward (acts_after o e front s) (λ after. acts_after o e back after)
+
+abbrev pub StoresGoOn : Type 0
+StoresGoOn = (ls ms : List Label) (s : Coloured) → stored (ls ++ ms) s ≡ stored ms (stored ls s)
 
 -- a journal has a state after it exactly where no entry breaks a rule
 abbrev pub LegalHasState : Type 0

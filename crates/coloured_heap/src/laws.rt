@@ -2,7 +2,7 @@
 
 ghost use Rattle.coloured_heap.specs.Broken.{ReachAndDrivers, RulesRefuse};
 ghost use Rattle.coloured_heap.specs.Examples.{JournalsCompute};
-ghost use Rattle.coloured_heap.specs.Laws.{DrivenIsLegal, FirstBreaks, GoesOn, IssuedOnce, KindsAddUp, LegalHasState, ListedOnce, ReachedIsLegal, SendNothing};
+ghost use Rattle.coloured_heap.specs.Laws.{ActsGoOn, DrivenIsLegal, FirstBreaks, GoesOn, IssuedOnce, KindsAddUp, LegalHasState, ListedOnce, ReachedIsLegal, SendNothing, StoresGoOn};
 
 /// Journals of whole runs: they are legal and driven, they reach what they load and store, and their figures are those of the runs.
 pub fn journals_compute()
@@ -24,9 +24,11 @@ pub fn send_nothing()
     ensures { SendNothing }
 {}
 
-/// How a journal goes on, where it has a state after it, and which entry is the first that breaks a rule.
+/// How a journal, an entry's acts and its stores go on, where a journal has a state after it, and which entry is the first that breaks a rule.
 pub fn first_breaks()
     ensures goes_on { GoesOn }
+    ensures acts { ActsGoOn }
+    ensures stores { StoresGoOn }
     ensures has_state { LegalHasState }
     ensures first { FirstBreaks }
 {}
