@@ -1,9 +1,14 @@
-//! Orders: which thread takes which steps, as a text of lines.
+//! The journal of a run: what every event did, entry after entry, with its acts and labels. And orders: which thread takes which
+//! steps, as a text of lines.
 //! A text is read exactly where it is the texts of lines one after another, and there is one list of such lines; else the first
 //! line that isn't in the format is named by its place.
 #![tactic(auto)]
 
+mod act;
+mod acts;
 mod cursor;
+mod entries;
+mod entry;
 mod fault;
 mod laws;
 mod order;
@@ -11,6 +16,10 @@ mod reading;
 #[cfg(test)]
 mod tests;
 
+pub use act::Act;
+pub use acts::Acts;
+pub use entries::Journal;
+pub use entry::Entry;
 pub use fault::OrderError;
 pub use laws::{by_lines, one_order, same_steps};
 pub use order::{Order, OrderLine};

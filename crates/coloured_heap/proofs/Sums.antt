@@ -1,0 +1,85 @@
+-- Sums over kinds, entries and acts in any order.
+use Rattle.std.proofs.Common.{arith, ◌≡◌, ◌+◌, ◌==◌, ◌&&◌, ℕ, Bool, true, false, List, [], ◌∷◌, Option, Some, None, refl, sym, ◌∙◌}
+use Rattle.fr_base.specs.Kinds.{kind_number}
+use Rattle.fr_base.specs.declared.message.Kind.{Kind}
+use Rattle.fr_base.specs.declared.message.Kind.TheVariants as kind
+use Rattle.journal.specs.declared.act.Act.{Act}
+use Rattle.journal.specs.declared.entry.Entry.{Entry}
+use Rattle.coloured_heap.specs.Lists.{holds, tot, one}
+use Rattle.coloured_heap.specs.Sends.{Sending, sends, leaves, counts}
+use Rattle.coloured_heap.specs.Figures.{kinds}
+use Rattle.coloured_heap.specs.Laws.{KindsAddUp}
+
+-- SUMS
+
+tot_zero : {A : Type 0} (xs : List A) → tot (λ x. 0) xs ≡ 0
+tot_zero [] = refl
+tot_zero (x ∷ xs) = omega (arith, tot_zero xs)
+
+tot_plus : {A : Type 0} (f g : A → ℕ) (xs : List A) → tot (λ x. f x + g x) xs ≡ tot f xs + tot g xs
+tot_plus f g [] = refl
+tot_plus f g (x ∷ xs) = omega (arith, tot_plus f g xs)
+
+tot_same : {A : Type 0} (f g : A → ℕ) (xs : List A) → ((x : A) → f x ≡ g x) → tot f xs ≡ tot g xs
+tot_same f g [] same = refl
+tot_same f g (x ∷ xs) same = omega (arith, same x, tot_same f g xs same)
+
+-- a sum of sums the other way round
+tot_swap : {A B : Type 0} (f : A → B → ℕ) (xs : List A) (ys : List B) → tot (λ x. tot (λ y. f x y) ys) xs ≡ tot (λ y. tot (λ x. f x y) xs) ys
+tot_swap f [] ys = sym (tot_zero ys)
+tot_swap f (x ∷ xs) ys = let rest = tot_swap f xs ys in let parts = tot_plus (λ y. f x y) (λ y. tot (λ z. f z y) xs) ys in omega (arith, rest, parts)
+
+-- ONE MESSAGE
+
+-- it has one kind
+of_one_kind : (k : Kind) (b : Bool) → one b ≡ tot (λ j. one ((kind_number k == kind_number j) && b)) kinds
+of_one_kind kind.Fetch true = refl
+of_one_kind kind.Fetch false = refl
+of_one_kind kind.Fetched true = refl
+of_one_kind kind.Fetched false = refl
+of_one_kind kind.Move true = refl
+of_one_kind kind.Move false = refl
+of_one_kind kind.Moved true = refl
+of_one_kind kind.Moved false = refl
+of_one_kind kind.Drop true = refl
+of_one_kind kind.Drop false = refl
+of_one_kind kind.Lock true = refl
+of_one_kind kind.Lock false = refl
+of_one_kind kind.Granted true = refl
+of_one_kind kind.Granted false = refl
+of_one_kind kind.Unlock true = refl
+of_one_kind kind.Unlock false = refl
+of_one_kind kind.Dup true = refl
+of_one_kind kind.Dup false = refl
+of_one_kind kind.Dupped true = refl
+of_one_kind kind.Dupped false = refl
+of_one_kind kind.Release true = refl
+of_one_kind kind.Release false = refl
+of_one_kind kind.Start true = refl
+of_one_kind kind.Start false = refl
+of_one_kind kind.Join true = refl
+of_one_kind kind.Join false = refl
+of_one_kind kind.Joined true = refl
+of_one_kind kind.Joined false = refl
+of_one_kind kind.Finished true = refl
+of_one_kind kind.Finished false = refl
+of_one_kind kind.Migrate true = refl
+of_one_kind kind.Migrate false = refl
+
+by_kinds : (here : ℕ) (m : Option Sending) → one (holds (leaves here) m) ≡ tot (λ k. one (holds (counts here k) m)) kinds
+by_kinds here None = refl
+by_kinds here (Some m) = of_one_kind m.kind (leaves here m)
+
+-- ALL OF THEM
+
+abbrev sent : Entry → Act → Kind → ℕ
+sent e a k = one (holds (counts e.server k) (sends a))
+
+abbrev of_entry : Entry → Kind → ℕ
+of_entry e k = tot (λ a. sent e a k) e.acts.items
+
+by_entry : (e : Entry) → tot (λ a. one (holds (leaves e.server) (sends a))) e.acts.items ≡ tot (λ k. of_entry e k) kinds
+by_entry e = tot_same (λ a. one (holds (leaves e.server) (sends a))) (λ a. tot (λ k. sent e a k) kinds) e.acts.items (λ a. by_kinds e.server (sends a)) ∙ tot_swap (λ a k. sent e a k) e.acts.items kinds
+
+pub kinds_add_up : KindsAddUp
+kinds_add_up es = tot_same (λ e. tot (λ a. one (holds (leaves e.server) (sends a))) e.acts.items) (λ e. tot (λ k. of_entry e k) kinds) es by_entry ∙ tot_swap (λ e k. of_entry e k) es kinds

@@ -1,0 +1,14 @@
+pub mod Lists
+pub mod Heap
+pub mod Rules
+pub mod Changes
+pub mod Legal
+pub mod Sends
+pub mod Driven
+pub mod Reach
+pub mod Figures
+pub mod Writing
+pub mod WholeRuns
+pub mod Examples
+pub mod Broken
+pub mod Laws

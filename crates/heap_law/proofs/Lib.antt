@@ -1,0 +1,5 @@
+mod Sums
+mod Starts
+mod ChosenRuns
+mod ChosenEndRuns
+mod StaleRounds

@@ -1,0 +1,147 @@
+-- Clusters that each break one sentence on requests, mutexes, tasks or names; where two can't be broken apart, the second of the same part too.
+use Rattle.std.specs.Prelude.{◌≡◌, ℕ, false, List, [], ◌∷◌, ◌++◌, Some, None, slice_set}
+use Rattle.fr_base.specs.declared.release.Released.TheVariants as released
+use Rattle.global_addr.specs.Words.{word_of}
+use Rattle.heap_partition.specs.declared.value.Owned.TheVariants as owned
+use Rattle.thread_state.specs.View.{ThreadView}
+use Rattle.thread_state.specs.declared.value.Value.TheVariants as value
+use Rattle.thread_state.specs.declared.phase.Phase.TheVariants as phase
+use Rattle.mutex_home.specs.Mutexes.{Mutex}
+use Rattle.join_home.specs.Tasks.{Task, going, let_go, kept, asked, in_pair}
+use Rattle.server_msgs.specs.declared.message.Message.{Message}
+use Rattle.server_msgs.specs.declared.message.Message.TheVariants.{Fetch, Move, Moved, Drop, Dupped, Release, Finished}
+use Rattle.server_model.specs.Servers.{Server, Cluster}
+use Rattle.heap_law.specs.Coherent.{broken, one_answer, asked_answers, carry_what_is_asked, go_right, return_right, askers_stand, phases_stand, par_ends, pairs_noted, cells_awaited, taken_stands, taken_is_new, gifts_got, gifts_fit, named_are_there, at_their_home, one_content, shares_counted, queue_while_out, content_without_shares, thread_homes, noted_go_on, kept_at_home, results_after_end, one_task_value, task_values_owed, one_result, pairs_ended, joined_ended, recorded_stand, over_are_bare, none_owns_itself, parents_end, branches_give_unit, numbers_differ, objects_made, names_counted, few_names, counts_bounded, parts_are_typed}
+use Rattle.heap_law.specs.Clusters.{thread_no, object, int, cell, box, the_mutex, word_1, word_2, word_3, main_waiting, reader, locker, joiner, worker, copy_of, held_mutex, task, server_0, server_1, cluster}
+use Rattle.heap_law.specs.Busy.{old_0, new_1, at_2, at_3, at_4, has_task, parent, writer, lender, viewer, ended, gifted, dupper, joined, fetcher, dropped, shared_mutex, busy_partition, busy_notes, busy_0, busy_1, of_busy}
+use Rattle.heap_law.specs.Broken.{Breaks}
+
+-- words of two objects more
+abbrev at_5 : ℕ
+at_5 = word_of 0 0 5
+
+abbrev at_6 : ℕ
+at_6 = word_of 0 0 6
+
+abbrev busy_inbox : List Message → Cluster
+busy_inbox ms = of_busy (record busy_0 { inbox = ms }) busy_1
+
+abbrev busy_threads_0 : List ThreadView → Server
+busy_threads_0 ts = record busy_0 { threads = ts }
+
+abbrev with_dupper : ThreadView → Cluster
+with_dupper t = of_busy (record busy_0 { threads = parent ∷ ended 0 4 ∷ t ∷ ended 1 1 ∷ dropped ∷ []; inbox = Fetch at_3 (object 3) 1 (thread_no 0 8) ∷ []; mutexes = record { home = 0; made = 1; there = record shared_mutex { shares = 2 } ∷ [] } }) busy_1
+
+abbrev with_parent : ThreadView → Cluster
+with_parent t = of_busy (busy_threads_0 (t ∷ ended 0 4 ∷ dupper ∷ ended 1 1 ∷ dropped ∷ [])) busy_1
+
+abbrev with_lender : ThreadView → Cluster
+with_lender t = of_busy busy_0 (record busy_1 { threads = writer ∷ t ∷ viewer ∷ gifted ∷ joined ∷ fetcher ∷ ended 1 2 ∷ [] })
+
+abbrev with_gifted : ThreadView → Cluster
+with_gifted t = of_busy busy_0 (record busy_1 { threads = writer ∷ lender ∷ viewer ∷ t ∷ joined ∷ fetcher ∷ ended 1 2 ∷ [] })
+
+abbrev busy_mutexes : List Mutex → Cluster
+busy_mutexes ms = of_busy (record busy_0 { mutexes = record { home = 0; made = 1; there = ms } }) busy_1
+
+abbrev with_worker : ThreadView → Cluster
+with_worker t = cluster (record server_0 { threads = main_waiting ∷ locker ∷ t ∷ [] }) server_1
+
+abbrev with_notes : List Task → Cluster
+with_notes ts = cluster (record server_0 { tasks = ts }) server_1
+
+-- REQUESTS
+
+pub record RequestsBreak : Type 0 where
+  -- a dup that nobody answers
+  pub unanswered : Breaks one_answer (with_dupper dupper)
+  -- a queue place of a thread that is ready
+  pub unasked : broken (cluster (record server_0 { mutexes = record { home = 0; made = 1; there = record held_mutex { queue = (0, 0) ∷ (0, thread_no 1 1) ∷ [] } ∷ [] } }) server_1) ≡ asked_answers ∷ carry_what_is_asked ∷ []
+  -- a request for another object
+  pub other_object : Breaks carry_what_is_asked (busy_inbox (Dupped the_mutex (thread_no 0 6) ∷ Fetch at_3 (object 2) 1 (thread_no 0 8) ∷ []))
+  -- a `drop` that waits at another server
+  pub misrouted : Breaks go_right (cluster (record server_0 { inbox = [] }) (record server_1 { inbox = Drop word_2 (object 2) ∷ [] }))
+  -- an answer at another server than its thread
+  pub astray : Breaks return_right (of_busy (record busy_0 { inbox = Fetch at_3 (object 3) 1 (thread_no 0 8) ∷ [] }) (record busy_1 { inbox = busy_1.inbox ++ Dupped the_mutex (thread_no 0 6) ∷ [] }))
+  -- an asker noted at another server than its own
+  pub asker_away : Breaks askers_stand (cluster server_0 (record server_1 { tasks = task (thread_no 1 1) (asked 0 (thread_no 0 3)) ∷ [] }))
+  -- a thread waits for a lock at a print
+  pub no_lock : Breaks phases_stand (cluster (record server_0 { threads = record main_waiting { pc = 2 } ∷ locker ∷ worker ∷ [] }) server_1)
+  -- a thread waits for its branches at its end
+  pub no_par_end : Breaks par_ends (with_parent (record parent { pc = 7 }))
+  -- a thread waits for one that isn't of its pair
+  pub no_pair : Breaks pairs_noted (with_parent (record parent { phase = phase.WaitPar (thread_no 0 3) (thread_no 0 5) }))
+  -- a read asks for the object itself
+  pub pulls_to_read : Breaks cells_awaited (busy_inbox (Dupped the_mutex (thread_no 0 6) ∷ Move at_3 (object 3) 1 (thread_no 0 8) ∷ []))
+  -- the object that was taken lies elsewhere
+  pub taken_elsewhere : Breaks taken_stands (of_busy (busy_threads_0 (parent ∷ lender ∷ ended 0 4 ∷ dupper ∷ ended 1 1 ∷ dropped ∷ [])) (record busy_1 { threads = writer ∷ viewer ∷ gifted ∷ joined ∷ fetcher ∷ ended 1 2 ∷ [] }))
+  -- the object that was taken has no new word
+  pub taken_old : Breaks taken_is_new (with_lender (record lender { slots = value.Own (box new_1 1) ∷ [] }))
+  -- a gift of a thread that is ready
+  pub ready_gift : Breaks gifts_got (with_gifted (record gifted { phase = phase.Ready }))
+  -- a dup gives something else
+  pub other_gift : Breaks gifts_fit (with_dupper (record dupper { phase = phase.Got; gift = Some owned.Unit }))
+
+-- MUTEXES AND TASKS
+
+pub record SharingBreaks : Type 0 where
+  -- the mutex isn't there
+  pub no_mutex : Breaks named_are_there (busy_mutexes [])
+  -- the mutex is also at another server
+  pub mutex_away : Breaks at_their_home (of_busy busy_0 (record busy_1 { mutexes = record { home = 1; made = 0; there = shared_mutex ∷ [] } }))
+  -- the content was granted and is in
+  pub two_contents : Breaks one_content (busy_mutexes (record shared_mutex { content = Some (int 9) } ∷ []))
+  -- a share that isn't counted
+  pub share_lost : Breaks shares_counted (busy_mutexes (record shared_mutex { shares = 2 } ∷ []))
+  -- a thread is queued while the content is in
+  pub queued_inside : Breaks queue_while_out (cluster (record server_0 { mutexes = record { home = 0; made = 1; there = record held_mutex { content = Some (int 9) } ∷ [] }; threads = main_waiting ∷ record locker { slots = value.Own (owned.Mutex the_mutex) ∷ [] } ∷ worker ∷ [] }) server_1)
+  -- the content of a mutex without a share is in
+  pub content_kept : Breaks content_without_shares (cluster (record server_0 { mutexes = record { home = 0; made = 2; there = held_mutex ∷ record { number = record { home = 0; count = 2 }; content = Some owned.Unit; shares = 0; queue = [] } ∷ [] } }) server_1)
+  -- a thread with another home
+  pub other_home : Breaks thread_homes (with_worker (record worker { home = 0 }))
+  -- main is noted
+  pub main_noted : Breaks noted_go_on (with_notes (task 0 let_go ∷ server_0.tasks))
+  -- a result kept away from its thread's home
+  pub result_away : Breaks kept_at_home (of_busy (record busy_0 { tasks = busy_notes ++ task (thread_no 1 2) (kept (int 3)) ∷ [] }) (record busy_1 { tasks = task (thread_no 1 3) going ∷ task (thread_no 1 4) going ∷ []; inbox = Moved old_0 (record { object = object 0; value = int 1 }) (thread_no 0 1) ∷ Release (released.Task (thread_no 1 3)) ∷ [] }))
+  -- the result of a thread that goes on
+  pub early_result : broken (with_notes (task (thread_no 0 1) (kept (int 3)) ∷ task (thread_no 0 2) going ∷ task (thread_no 0 3) going ∷ [])) ≡ noted_go_on ∷ results_after_end ∷ []
+  -- two task values of a thread
+  pub two_tasks : Breaks one_task_value (with_worker (record worker { slots = has_task 0 1 ∷ [] }))
+  -- a task value of a thread of which nothing is noted
+  pub not_owed : Breaks task_values_owed (with_worker (record worker { slots = has_task 0 0 ∷ [] }))
+  -- a result that was joined is still kept
+  pub two_results : Breaks one_result (of_busy busy_0 (record busy_1 { tasks = task (thread_no 1 1) (kept owned.Unit) ∷ busy_1.tasks }))
+  -- a par has ended while a branch goes on
+  pub early_pair : broken (of_busy (record busy_0 { tasks = task (thread_no 0 1) going ∷ task (thread_no 0 2) going ∷ task (thread_no 0 5) going ∷ task (thread_no 0 6) going ∷ task (thread_no 0 7) going ∷ task (thread_no 0 8) going ∷ []; threads = record parent { phase = phase.GotPar (thread_no 0 3) (thread_no 0 4) } ∷ ended 0 4 ∷ dupper ∷ ended 1 1 ∷ dropped ∷ [] }) busy_1) ≡ noted_go_on ∷ pairs_ended ∷ []
+  -- a thread that was joined goes on
+  pub early_join : broken (of_busy (busy_threads_0 (parent ∷ ended 0 4 ∷ dupper ∷ record (ended 1 1) { phase = phase.Ready } ∷ dropped ∷ [])) busy_1) ≡ noted_go_on ∷ joined_ended ∷ []
+  -- a branch that is noted as over stands nowhere
+  pub nobody : Breaks recorded_stand (of_busy (busy_threads_0 (parent ∷ dupper ∷ ended 1 1 ∷ dropped ∷ [])) busy_1)
+
+-- ROOTED
+
+pub record RootedBreaks : Type 0 where
+  -- a thread that is over has a slot
+  pub over_with_slot : Breaks over_are_bare (of_busy (busy_threads_0 (parent ∷ record (ended 0 4) { slots = value.Gone ∷ [] } ∷ dupper ∷ ended 1 1 ∷ dropped ∷ [])) busy_1)
+  -- two boxes hold each other
+  pub in_a_circle : Breaks none_owns_itself (of_busy (record busy_0 { partition = record busy_partition { cells = None ∷ None ∷ cell 2 (box at_4 4) ∷ cell 3 (int 6) ∷ cell 4 (int 8) ∷ cell 5 (box at_6 6) ∷ cell 6 (box at_5 5) ∷ [] }; threads = record parent { made = 7 } ∷ ended 0 4 ∷ dupper ∷ ended 1 1 ∷ dropped ∷ [] }) busy_1)
+  -- a branch is its own parent
+  pub own_parent : broken (of_busy (record busy_0 { tasks = slice_set busy_notes 2 (task (thread_no 0 3) (in_pair (thread_no 0 3) false)) }) busy_1) ≡ one_answer ∷ asked_answers ∷ pairs_noted ∷ parents_end ∷ []
+  -- a branch gives a number
+  pub branch_number : Breaks branches_give_unit (of_busy (record busy_0 { inbox = busy_0.inbox ++ Finished (thread_no 0 3) (int 1) ∷ [] }) (record busy_1 { threads = writer ∷ lender ∷ record (ended 0 3) { pc = 7 } ∷ gifted ∷ joined ∷ fetcher ∷ ended 1 2 ∷ []; cache = copy_of at_2 2 (box at_4 4) 0 ∷ [] }))
+
+-- NAMES
+
+pub record NamesBreak : Type 0 where
+  -- a thread stands at two servers
+  pub twice : Breaks numbers_differ (cluster server_0 (record server_1 { threads = reader ∷ joiner ∷ worker ∷ [] }))
+  -- an object that its thread hasn't made
+  pub not_made : Breaks objects_made (cluster (record server_0 { threads = record main_waiting { made = 3 } ∷ locker ∷ worker ∷ [] }) server_1)
+  -- a thread that its server hasn't started
+  pub not_started : Breaks names_counted (cluster (record server_0 { started = 2 }) server_1)
+  -- more names than the events could give
+  pub many : Breaks few_names (cluster (record server_0 { events = 1 }) (record server_1 { events = 0 }))
+  -- addresses and names without an event
+  pub no_event : broken (cluster (record server_0 { events = 0 }) (record server_1 { events = 0 })) ≡ few_names ∷ counts_bounded ∷ []
+  -- a word is cached twice
+  pub cached_twice : Breaks parts_are_typed (cluster server_0 (record server_1 { cache = copy_of word_1 1 (int 5) 0 ∷ copy_of word_1 1 (int 5) 0 ∷ copy_of word_3 3 (int 3) 1 ∷ [] }))

@@ -1,0 +1,168 @@
+-- Runs under chosen events stay coherent: at each turn one of all enabled events of all servers is taken, steps, deliveries, evictions and migrations
+-- alike, by a number that goes on from turn to turn.
+use Rattle.std.specs.Prelude.{◌≡◌, pos, ℕ, zero, suc, ◌+◌, ◌*◌, ◌/◌, ◌%◌, Bool, true, false, List, [], ◌∷◌, ◌++◌, length, Option, Some, None, slice_get}
+use Rattle.fr_base.specs.declared.place.Lval.{Lval}
+use Rattle.fr_base.specs.Captures.{CaptureList}
+use Rattle.fr_base.specs.declared.instruction.Operand.{Operand}
+use Rattle.fr_base.specs.declared.instruction.Operand.TheVariants as operand
+use Rattle.fr_base.specs.declared.instruction.Instr.{Instr}
+use Rattle.fr_base.specs.declared.instruction.Instr.TheVariants as instr
+use Rattle.fr_base.specs.declared.settings.Options.{Options}
+use Rattle.thread_state.specs.View.{ThreadView}
+use Rattle.read_cache.specs.Cache.{Copy}
+use Rattle.server_msgs.specs.declared.message.Message.{Message}
+use Rattle.journal.specs.declared.entry.Entry.{Entry}
+use Rattle.server_model.specs.declared.event.Event.{Event}
+use Rattle.server_model.specs.declared.event.What.{What}
+use Rattle.server_model.specs.declared.event.What.TheVariants.{Step, Deliver, Evict, Migrate}
+use Rattle.server_model.specs.Servers.{Server, Cluster, start_of}
+use Rattle.server_model.specs.Events.{enabled}
+use Rattle.server_model.specs.Clusters.{apply}
+use Rattle.server_model.specs.Programs.{with_servers, read_elsewhere, written_elsewhere, read_by_pairs, often_written, lent_box, read_two, locked_elsewhere}
+use Rattle.heap_law.specs.Coherent.{Sentence, broken}
+use Rattle.heap_law.specs.Along.{Fault, breaks, no_result}
+
+-- THE ENABLED EVENTS
+
+abbrev kept : Bool → Server → What → List Event
+kept true s w = record { server = s.number; what = w } ∷ []
+kept false s w = []
+
+abbrev kept_if : Options → Server → What → List Event
+kept_if o s w = kept (enabled o s w) s w
+
+abbrev steps : Options → Server → List ThreadView → List Event
+steps o s [] = []
+steps o s (t ∷ ts) = kept_if o s (Step t.number) ++ steps o s ts
+
+abbrev moves_to : Options → Server → ℕ → ℕ → List Event
+moves_to o s t zero = []
+moves_to o s t (suc n) = kept_if o s (Migrate t n) ++ moves_to o s t n
+
+abbrev moves : Options → Server → List ThreadView → List Event
+moves o s [] = []
+moves o s (t ∷ ts) = moves_to o s t.number o.servers ++ moves o s ts
+
+abbrev deliveries : Options → Server → ℕ → List Message → List Event
+deliveries o s i [] = []
+deliveries o s i (m ∷ ms) = kept_if o s (Deliver i) ++ deliveries o s (i + 1) ms
+
+abbrev evictions : Options → Server → List Copy → List Event
+evictions o s [] = []
+evictions o s (c ∷ cs) = kept_if o s (Evict c.word) ++ evictions o s cs
+
+abbrev events_at : Options → Server → List Event
+events_at o s = steps o s s.threads ++ steps o s s.threads ++ deliveries o s 0 s.inbox ++ evictions o s s.cache ++ moves o s s.threads
+
+abbrev pub all_events : Options → List Server → List Event
+all_events o [] = []
+all_events o (s ∷ ss) = events_at o s ++ all_events o ss
+
+-- TURNS
+
+abbrev pub next_number : ℕ → ℕ
+next_number n = (n * 1103515245 + 12345) % 2147483648
+
+abbrev pub chosen : ℕ → List Event → Option Event
+chosen n [] = None
+chosen n (e ∷ es) = slice_get (e ∷ es) ((n / 65536) % length (e ∷ es))
+
+abbrev with_fault : ℕ → List Sentence → List Fault → List Fault
+with_fault n [] fs = fs
+with_fault n (s ∷ ss) fs = breaks n (s ∷ ss) ∷ []
+
+abbrev after : (Cluster → List Fault) → ℕ → Option (Cluster × Entry) → List Fault
+after go n None = no_result n ∷ []
+after go n (Some d) = with_fault n (broken d.0) (go d.0)
+
+abbrev take_turn : (Cluster → List Fault) → ℕ → Cluster → Option Event → List Fault
+take_turn go n k None = []
+take_turn go n k (Some e) = after go n (apply k e)
+
+-- the first fault within so many turns
+abbrev turns : ℕ → ℕ → Cluster → List Fault
+turns zero seed k = []
+turns (suc n) seed k = take_turn (turns n (next_number seed)) n k (chosen seed (all_events k.options k.servers))
+
+-- PROGRAMS
+
+abbrev at_place : ℕ → ℕ → Lval
+at_place slot depth = record { slot = slot; depth = depth }
+
+abbrev number : ℕ → Operand
+number n = operand.Const (pos n)
+
+abbrev takes_slot : ℕ → CaptureList
+takes_slot slot = record { items = (slot, true) ∷ []; spare = 0 }
+
+abbrev copies_slot : ℕ → CaptureList
+copies_slot slot = record { items = (slot, false) ∷ []; spare = 0 }
+
+abbrev no_slot : CaptureList
+no_slot = record { items = []; spare = 0 }
+
+-- { let mut x = box box 1; { let mut r = &mut *x; { let mut s = &mut **r; *s = 5; print *s; { let mut u = &mut *s; *u = 6 }; print *s }; *r = box 9 };
+--   print **x; { let mut h = spawn (x) { **x = 7; *x; () } }; () }
+abbrev pub lent_deep : List Instr
+lent_deep =
+    instr.Box (number 1) ∷ instr.Box operand.Pop ∷ instr.Let operand.Pop
+    ∷ instr.BorrowMut (at_place 0 1) ∷ instr.Let operand.Pop ∷ instr.BorrowMut (at_place 1 2) ∷ instr.Let operand.Pop
+    ∷ instr.Assign (at_place 2 1) (number 5) ∷ instr.Read (at_place 2 1) false ∷ instr.Print operand.Pop
+    ∷ instr.BorrowMut (at_place 2 1) ∷ instr.Let operand.Pop ∷ instr.Assign (at_place 3 1) (number 6) ∷ instr.DropSlot ∷ instr.Read (at_place 2 1) false ∷ instr.Print operand.Pop
+    ∷ instr.DropSlot ∷ instr.Box (number 9) ∷ instr.Assign (at_place 1 1) operand.Pop ∷ instr.DropSlot ∷ instr.Read (at_place 0 2) false ∷ instr.Print operand.Pop
+    ∷ instr.Spawn (takes_slot 0) 27 ∷ instr.Let operand.Pop ∷ instr.DropSlot ∷ instr.DropSlot ∷ instr.End operand.Unit
+    ∷ instr.Assign (at_place 0 2) (number 7) ∷ instr.Read (at_place 0 1) true ∷ instr.Discard ∷ instr.DropSlot ∷ instr.End operand.Unit ∷ []
+
+-- { let mut m = mutex box 1; let mut a = dup m; let mut h = spawn (a) { lock a as c { *c = 8 }; a }; lock m as d { *d = 3; print *d };
+--   let mut b = join h; () }
+abbrev pub locked_by_two : List Instr
+locked_by_two =
+    instr.Box (number 1) ∷ instr.Mutex operand.Pop ∷ instr.Let operand.Pop ∷ instr.Dup (at_place 0 0) ∷ instr.Let operand.Pop ∷ instr.Spawn (takes_slot 1) 20 ∷ instr.Let operand.Pop
+    ∷ instr.Lock (at_place 0 0) ∷ instr.Assign (at_place 4 1) (number 3) ∷ instr.Read (at_place 4 1) false ∷ instr.Print operand.Pop ∷ instr.Unlock
+    ∷ instr.Read (at_place 2 0) true ∷ instr.Join operand.Pop ∷ instr.Let operand.Pop ∷ instr.DropSlot ∷ instr.DropSlot ∷ instr.DropSlot ∷ instr.DropSlot ∷ instr.End operand.Unit
+    ∷ instr.Lock (at_place 0 0) ∷ instr.Assign (at_place 2 1) (number 8) ∷ instr.Unlock ∷ instr.Read (at_place 0 0) true ∷ instr.DropSlot ∷ instr.End operand.Pop ∷ []
+
+-- { let mut x = box box 4; { let mut r = &*x; par (r) { let mut s = &**r; par (s) { print *s } () { }; print **r } (r) { print **r } }; **x = 5 }
+abbrev pub viewed_twice : List Instr
+viewed_twice =
+    instr.Box (number 4) ∷ instr.Box operand.Pop ∷ instr.Let operand.Pop ∷ instr.Borrow (at_place 0 1) ∷ instr.Let operand.Pop
+    ∷ instr.Par (copies_slot 1) 11 (copies_slot 1) 20 ∷ instr.ParEnd ∷ instr.DropSlot ∷ instr.Assign (at_place 0 2) (number 5) ∷ instr.DropSlot ∷ instr.End operand.Unit
+    ∷ instr.Borrow (at_place 0 2) ∷ instr.Let operand.Pop ∷ instr.Par (copies_slot 1) 24 no_slot 28 ∷ instr.ParEnd ∷ instr.Read (at_place 0 2) false ∷ instr.Print operand.Pop
+    ∷ instr.DropSlot ∷ instr.DropSlot ∷ instr.End operand.Unit
+    ∷ instr.Read (at_place 0 2) false ∷ instr.Print operand.Pop ∷ instr.DropSlot ∷ instr.End operand.Unit
+    ∷ instr.Read (at_place 0 1) false ∷ instr.Print operand.Pop ∷ instr.DropSlot ∷ instr.End operand.Unit
+    ∷ instr.End operand.Unit ∷ []
+
+-- { let mut x = box mutex box 1; let mut m = dup *x; { let mut h = spawn (x) { lock *x as c { *c = 8; print *c } }; lock m as d { *d = 3 } } }
+abbrev pub locked_in_box : List Instr
+locked_in_box =
+    instr.Box (number 1) ∷ instr.Mutex operand.Pop ∷ instr.Box operand.Pop ∷ instr.Let operand.Pop ∷ instr.Dup (at_place 0 1) ∷ instr.Let operand.Pop
+    ∷ instr.Spawn (takes_slot 0) 15 ∷ instr.Let operand.Pop ∷ instr.Lock (at_place 1 0) ∷ instr.Assign (at_place 4 1) (number 3) ∷ instr.Unlock
+    ∷ instr.DropSlot ∷ instr.DropSlot ∷ instr.DropSlot ∷ instr.End operand.Unit
+    ∷ instr.Lock (at_place 0 1) ∷ instr.Assign (at_place 2 1) (number 8) ∷ instr.Read (at_place 2 1) false ∷ instr.Print operand.Pop ∷ instr.Unlock ∷ instr.DropSlot ∷ instr.End operand.Unit ∷ []
+
+abbrev pub Stays : List Instr → Options → ℕ → ℕ → Type 0
+Stays code o n seed = turns n seed (start_of code o) ≡ []
+
+pub record ChosenStayCoherent : Type 0 where
+  pub reads_1 : Stays read_elsewhere (with_servers 2 65536) 70 1
+  pub writes_1 : Stays written_elsewhere (with_servers 2 2) 80 2
+  pub writes_2 : Stays written_elsewhere (with_servers 3 2) 80 3
+  pub pairs_1 : Stays read_by_pairs (with_servers 3 2) 90 4
+  pub pairs_2 : Stays read_by_pairs (with_servers 2 65536) 90 5
+  pub often_1 : Stays often_written (with_servers 2 2) 60 6
+  pub lends_1 : Stays lent_box (with_servers 2 65536) 80 7
+  pub lends_2 : Stays lent_box (with_servers 2 2) 80 8
+  pub lends_3 : Stays lent_box (with_servers 3 1) 80 9
+  pub two_1 : Stays read_two (with_servers 2 2) 80 10
+  pub locks_1 : Stays locked_elsewhere (with_servers 2 2) 80 11
+  pub locks_2 : Stays locked_elsewhere (with_servers 3 65536) 80 12
+  pub deep_1 : Stays lent_deep (with_servers 2 2) 100 21
+  pub deep_2 : Stays lent_deep (with_servers 3 1) 100 22
+  pub deep_3 : Stays lent_deep (with_servers 3 65536) 100 23
+  pub shared_1 : Stays locked_by_two (with_servers 2 2) 100 31
+  pub shared_2 : Stays locked_by_two (with_servers 3 1) 100 32
+  pub viewed_1 : Stays viewed_twice (with_servers 3 65536) 100 41
+  pub viewed_2 : Stays viewed_twice (with_servers 2 1) 100 42
+  pub boxed_1 : Stays locked_in_box (with_servers 2 2) 100 51
+  pub boxed_2 : Stays locked_in_box (with_servers 3 1) 100 52

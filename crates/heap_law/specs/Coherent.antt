@@ -1,0 +1,319 @@
+-- COHERENT: what every event of a cluster keeps (in the manner of DRust, OSDI 2024; the exact sentences are this project's). Each sentence
+-- is counted: the number of things that break it in a cluster is a number that computes, and the sentence says that it is 0. In plain words
+-- each stands above the function that counts it.
+use Rattle.std.specs.Prelude.{◌≡◌, ℕ, Bool, true, false, List, [], ◌∷◌, ◌++◌}
+use Rattle.server_model.specs.Servers.{Cluster}
+use Rattle.heap_law.specs.Names.{some}
+use Rattle.heap_law.specs.Sight.{Sight, sight}
+use Rattle.heap_law.specs.Placing.{homes_wrong, owners_wrong, owned_wrong, issued_wrong, colours_wrong, same_word_wrong, homeward_wrong, states_wrong, first_wrong, different_words_wrong, dirty_wrong, copies_wrong, served_wrong}
+use Rattle.heap_law.specs.Walking.{passed_wrong, passed_boxes_wrong, passed_references_wrong, passed_phase_wrong, passed_count_wrong, walk_phase_wrong, parcels_wrong, followed_wrong, turn_wrong, own_requests_wrong, users_wrong, uncached_wrong}
+use Rattle.heap_law.specs.Requests.{answers_wrong, unasked_wrong, carried_wrong, routes_wrong, returns_wrong, askers_wrong, phases_wrong, par_ends_wrong, pairs_wrong, cells_wrong, taken_wrong, taken_words_wrong, gift_phases_wrong, gifts_wrong}
+use Rattle.heap_law.specs.Sharing.{named_wrong, mutex_homes_wrong, contents_wrong, shares_wrong, queues_wrong, last_shares_wrong, thread_homes_wrong, noted_wrong, kept_wrong, early_wrong, tasks_wrong, owed_wrong, results_wrong, got_pairs_wrong, joined_wrong, recorded_wrong}
+use Rattle.heap_law.specs.Rooted.{over_wrong, ownership_wrong, parents_wrong, branches_wrong}
+use Rattle.heap_law.specs.Naming.{numbers_wrong, made_wrong, counted_wrong, names_count_wrong, large_wrong, parts_wrong}
+
+-- the sentences, part by part
+pub data Sentence : Type 0 where
+  -- one home
+  home_of_each : Sentence
+  -- one owner
+  owner_of_each : Sentence
+  owned_are_live : Sentence
+  -- words
+  are_issued : Sentence
+  below_limit : Sentence
+  same_word : Sentence
+  lead_home : Sentence
+  one_state : Sentence
+  first_at_holder : Sentence
+  different_words : Sentence
+  dirty_alone : Sentence
+  -- copies
+  copies_agree : Sentence
+  served_are_clean : Sentence
+  -- walks
+  passed_lie_here : Sentence
+  passed_not_copied : Sentence
+  passed_not_stale : Sentence
+  passed_in_a_walk : Sentence
+  passed_within : Sentence
+  walk_empty : Sentence
+  parcels_ready : Sentence
+  place_followed : Sentence
+  waits_in_turn : Sentence
+  asks_others : Sentence
+  -- users
+  users_counted : Sentence
+  uses_cached : Sentence
+  -- requests
+  one_answer : Sentence
+  asked_answers : Sentence
+  carry_what_is_asked : Sentence
+  go_right : Sentence
+  return_right : Sentence
+  askers_stand : Sentence
+  phases_stand : Sentence
+  par_ends : Sentence
+  pairs_noted : Sentence
+  cells_awaited : Sentence
+  taken_stands : Sentence
+  taken_is_new : Sentence
+  gifts_got : Sentence
+  gifts_fit : Sentence
+  -- mutexes and tasks
+  named_are_there : Sentence
+  at_their_home : Sentence
+  one_content : Sentence
+  shares_counted : Sentence
+  queue_while_out : Sentence
+  content_without_shares : Sentence
+  thread_homes : Sentence
+  noted_go_on : Sentence
+  kept_at_home : Sentence
+  results_after_end : Sentence
+  one_task_value : Sentence
+  task_values_owed : Sentence
+  one_result : Sentence
+  pairs_ended : Sentence
+  joined_ended : Sentence
+  recorded_stand : Sentence
+  -- what can be counted of types
+  over_are_bare : Sentence
+  none_owns_itself : Sentence
+  parents_end : Sentence
+  branches_give_unit : Sentence
+  -- names
+  numbers_differ : Sentence
+  objects_made : Sentence
+  names_counted : Sentence
+  few_names : Sentence
+  counts_bounded : Sentence
+  -- what the types of the servers' parts keep
+  parts_are_typed : Sentence
+
+-- how many things of a cluster break a sentence
+abbrev pub breaches_in : Cluster → Sight → Sentence → ℕ
+breaches_in k s home_of_each = homes_wrong s
+breaches_in k s owner_of_each = owners_wrong s
+breaches_in k s owned_are_live = owned_wrong s
+breaches_in k s are_issued = issued_wrong s
+breaches_in k s below_limit = colours_wrong s
+breaches_in k s same_word = same_word_wrong s
+breaches_in k s lead_home = homeward_wrong s
+breaches_in k s one_state = states_wrong s
+breaches_in k s first_at_holder = first_wrong s
+breaches_in k s different_words = different_words_wrong s
+breaches_in k s dirty_alone = dirty_wrong s
+breaches_in k s copies_agree = copies_wrong s
+breaches_in k s served_are_clean = served_wrong s
+breaches_in k s passed_lie_here = passed_wrong s
+breaches_in k s passed_not_copied = passed_boxes_wrong s
+breaches_in k s passed_not_stale = passed_references_wrong s
+breaches_in k s passed_in_a_walk = passed_phase_wrong s
+breaches_in k s passed_within = passed_count_wrong s
+breaches_in k s walk_empty = walk_phase_wrong s
+breaches_in k s parcels_ready = parcels_wrong s
+breaches_in k s place_followed = followed_wrong s
+breaches_in k s waits_in_turn = turn_wrong s
+breaches_in k s asks_others = own_requests_wrong s
+breaches_in k s users_counted = users_wrong s
+breaches_in k s uses_cached = uncached_wrong s
+breaches_in k s one_answer = answers_wrong s
+breaches_in k s asked_answers = unasked_wrong s
+breaches_in k s carry_what_is_asked = carried_wrong s
+breaches_in k s go_right = routes_wrong s
+breaches_in k s return_right = returns_wrong s
+breaches_in k s askers_stand = askers_wrong s
+breaches_in k s phases_stand = phases_wrong s
+breaches_in k s par_ends = par_ends_wrong s
+breaches_in k s pairs_noted = pairs_wrong s
+breaches_in k s cells_awaited = cells_wrong s
+breaches_in k s taken_stands = taken_wrong s
+breaches_in k s taken_is_new = taken_words_wrong s
+breaches_in k s gifts_got = gift_phases_wrong s
+breaches_in k s gifts_fit = gifts_wrong s
+breaches_in k s named_are_there = named_wrong s
+breaches_in k s at_their_home = mutex_homes_wrong s
+breaches_in k s one_content = contents_wrong s
+breaches_in k s shares_counted = shares_wrong s
+breaches_in k s queue_while_out = queues_wrong s
+breaches_in k s content_without_shares = last_shares_wrong s
+breaches_in k s thread_homes = thread_homes_wrong s
+breaches_in k s noted_go_on = noted_wrong s
+breaches_in k s kept_at_home = kept_wrong s
+breaches_in k s results_after_end = early_wrong s
+breaches_in k s one_task_value = tasks_wrong s
+breaches_in k s task_values_owed = owed_wrong s
+breaches_in k s one_result = results_wrong s
+breaches_in k s pairs_ended = got_pairs_wrong s
+breaches_in k s joined_ended = joined_wrong s
+breaches_in k s recorded_stand = recorded_wrong s
+breaches_in k s over_are_bare = over_wrong s
+breaches_in k s none_owns_itself = ownership_wrong s
+breaches_in k s parents_end = parents_wrong s
+breaches_in k s branches_give_unit = branches_wrong s
+breaches_in k s numbers_differ = numbers_wrong s
+breaches_in k s objects_made = made_wrong s
+breaches_in k s names_counted = counted_wrong s
+breaches_in k s few_names = names_count_wrong s
+breaches_in k s counts_bounded = large_wrong s
+breaches_in k s parts_are_typed = parts_wrong k s
+
+abbrev pub breaches : Cluster → Sentence → ℕ
+breaches k n = breaches_in k (sight k) n
+
+-- the sentence holds
+abbrev pub Holds : Cluster → Sentence → Type 0
+Holds k n = breaches k n ≡ 0
+
+pub record OneHome (k : Cluster) : Type 0 where
+  pub home_of_each : Holds k home_of_each
+
+pub record OneOwner (k : Cluster) : Type 0 where
+  pub owner_of_each : Holds k owner_of_each
+  pub owned_are_live : Holds k owned_are_live
+
+pub record Words (k : Cluster) : Type 0 where
+  pub are_issued : Holds k are_issued
+  pub below_limit : Holds k below_limit
+  pub same_word : Holds k same_word
+  pub lead_home : Holds k lead_home
+  pub one_state : Holds k one_state
+  pub first_at_holder : Holds k first_at_holder
+  pub different_words : Holds k different_words
+  pub dirty_alone : Holds k dirty_alone
+
+pub record Copies (k : Cluster) : Type 0 where
+  pub copies_agree : Holds k copies_agree
+  pub served_are_clean : Holds k served_are_clean
+
+pub record Walks (k : Cluster) : Type 0 where
+  pub passed_lie_here : Holds k passed_lie_here
+  pub passed_not_copied : Holds k passed_not_copied
+  pub passed_not_stale : Holds k passed_not_stale
+  pub passed_in_a_walk : Holds k passed_in_a_walk
+  pub passed_within : Holds k passed_within
+  pub walk_empty : Holds k walk_empty
+  pub parcels_ready : Holds k parcels_ready
+  pub place_followed : Holds k place_followed
+  pub waits_in_turn : Holds k waits_in_turn
+  pub asks_others : Holds k asks_others
+
+pub record Users (k : Cluster) : Type 0 where
+  pub users_counted : Holds k users_counted
+  pub uses_cached : Holds k uses_cached
+
+pub record Requests (k : Cluster) : Type 0 where
+  pub one_answer : Holds k one_answer
+  pub asked_answers : Holds k asked_answers
+  pub carry_what_is_asked : Holds k carry_what_is_asked
+  pub go_right : Holds k go_right
+  pub return_right : Holds k return_right
+  pub askers_stand : Holds k askers_stand
+  pub phases_stand : Holds k phases_stand
+  pub par_ends : Holds k par_ends
+  pub pairs_noted : Holds k pairs_noted
+  pub cells_awaited : Holds k cells_awaited
+  pub taken_stands : Holds k taken_stands
+  pub taken_is_new : Holds k taken_is_new
+  pub gifts_got : Holds k gifts_got
+  pub gifts_fit : Holds k gifts_fit
+
+pub record MutexesAndTasks (k : Cluster) : Type 0 where
+  pub named_are_there : Holds k named_are_there
+  pub at_their_home : Holds k at_their_home
+  pub one_content : Holds k one_content
+  pub shares_counted : Holds k shares_counted
+  pub queue_while_out : Holds k queue_while_out
+  pub content_without_shares : Holds k content_without_shares
+  pub thread_homes : Holds k thread_homes
+  pub noted_go_on : Holds k noted_go_on
+  pub kept_at_home : Holds k kept_at_home
+  pub results_after_end : Holds k results_after_end
+  pub one_task_value : Holds k one_task_value
+  pub task_values_owed : Holds k task_values_owed
+  pub one_result : Holds k one_result
+  pub pairs_ended : Holds k pairs_ended
+  pub joined_ended : Holds k joined_ended
+  pub recorded_stand : Holds k recorded_stand
+
+pub record Rooted (k : Cluster) : Type 0 where
+  pub over_are_bare : Holds k over_are_bare
+  pub none_owns_itself : Holds k none_owns_itself
+  pub parents_end : Holds k parents_end
+  pub branches_give_unit : Holds k branches_give_unit
+
+pub record Names (k : Cluster) : Type 0 where
+  pub numbers_differ : Holds k numbers_differ
+  pub objects_made : Holds k objects_made
+  pub names_counted : Holds k names_counted
+  pub few_names : Holds k few_names
+  pub counts_bounded : Holds k counts_bounded
+
+pub record Parts (k : Cluster) : Type 0 where
+  pub parts_are_typed : Holds k parts_are_typed
+
+-- a cluster keeps all that can be counted. That is coherence but for the part on types, of which `rooted` is what can be counted: that each thread's
+-- values have the types of its instruction, and that all values agree on the types of objects, mutexes and results, is not said here
+pub record IsSound (k : Cluster) : Type 0 where
+  pub one_home : OneHome k
+  pub one_owner : OneOwner k
+  pub words : Words k
+  pub copies : Copies k
+  pub walks : Walks k
+  pub users : Users k
+  pub requests : Requests k
+  pub mutexes_and_tasks : MutexesAndTasks k
+  pub rooted : Rooted k
+  pub names : Names k
+  pub parts : Parts k
+
+-- THE SAME AS LISTS
+
+abbrev pub one_home_sentences : List Sentence
+one_home_sentences = home_of_each ∷ []
+
+abbrev pub one_owner_sentences : List Sentence
+one_owner_sentences = owner_of_each ∷ owned_are_live ∷ []
+
+abbrev pub words_sentences : List Sentence
+words_sentences = are_issued ∷ below_limit ∷ same_word ∷ lead_home ∷ one_state ∷ first_at_holder ∷ different_words ∷ dirty_alone ∷ []
+
+abbrev pub copies_sentences : List Sentence
+copies_sentences = copies_agree ∷ served_are_clean ∷ []
+
+abbrev pub walks_sentences : List Sentence
+walks_sentences = passed_lie_here ∷ passed_not_copied ∷ passed_not_stale ∷ passed_in_a_walk ∷ passed_within ∷ walk_empty ∷ parcels_ready ∷ place_followed ∷ waits_in_turn ∷ asks_others ∷ []
+
+abbrev pub users_sentences : List Sentence
+users_sentences = users_counted ∷ uses_cached ∷ []
+
+abbrev pub requests_sentences : List Sentence
+requests_sentences = one_answer ∷ asked_answers ∷ carry_what_is_asked ∷ go_right ∷ return_right ∷ askers_stand ∷ phases_stand ∷ par_ends ∷ pairs_noted ∷ cells_awaited ∷ taken_stands ∷ taken_is_new ∷ gifts_got ∷ gifts_fit ∷ []
+
+abbrev pub mutexes_and_tasks_sentences : List Sentence
+mutexes_and_tasks_sentences = named_are_there ∷ at_their_home ∷ one_content ∷ shares_counted ∷ queue_while_out ∷ content_without_shares ∷ thread_homes ∷ noted_go_on ∷ kept_at_home ∷ results_after_end ∷ one_task_value ∷ task_values_owed ∷ one_result ∷ pairs_ended ∷ joined_ended ∷ recorded_stand ∷ []
+
+abbrev pub rooted_sentences : List Sentence
+rooted_sentences = over_are_bare ∷ none_owns_itself ∷ parents_end ∷ branches_give_unit ∷ []
+
+abbrev pub names_sentences : List Sentence
+names_sentences = numbers_differ ∷ objects_made ∷ names_counted ∷ few_names ∷ counts_bounded ∷ []
+
+abbrev pub parts_sentences : List Sentence
+parts_sentences = parts_are_typed ∷ []
+
+abbrev if_broken : Bool → Sentence → List Sentence → List Sentence
+if_broken true n ns = n ∷ ns
+if_broken false n ns = ns
+
+abbrev broken_among : Cluster → Sight → List Sentence → List Sentence
+broken_among k s [] = []
+broken_among k s (n ∷ ns) = if_broken (some (breaches_in k s n)) n (broken_among k s ns)
+
+abbrev pub all_sentences : List Sentence
+all_sentences = one_home_sentences ++ one_owner_sentences ++ words_sentences ++ copies_sentences ++ walks_sentences ++ users_sentences ++ requests_sentences ++ mutexes_and_tasks_sentences ++ rooted_sentences ++ names_sentences ++ parts_sentences
+
+-- the sentences that a cluster breaks
+abbrev pub broken : Cluster → List Sentence
+broken k = broken_among k (sight k) all_sentences

@@ -1,0 +1,73 @@
+-- LEFT BY: a cluster is what a journal leaves (this project's rule).
+use Rattle.std.specs.Prelude.{◌≡◌, ℕ, ◌+◌, Bool, true, false, List, [], ◌∷◌, Option, Some, None}
+use Rattle.fr_base.specs.declared.label.Label.{Label}
+use Rattle.fr_base.specs.declared.step.Fresh.{Fresh}
+use Rattle.journal.specs.declared.act.Act.{Act}
+use Rattle.journal.specs.declared.act.Act.TheVariants as act
+use Rattle.journal.specs.declared.entry.Entry.{Entry}
+use Rattle.journal.specs.Journals.{order, labels}
+use Rattle.server_model.specs.Servers.{Cluster}
+use Rattle.coloured_heap.specs.Heap.{Coloured}
+use Rattle.coloured_heap.specs.Legal.{journal_after}
+use Rattle.coloured_heap.specs.Reach.{is_all_reached}
+use Rattle.coloured_heap.specs.Sends.{all_messages}
+use Rattle.heap_law.specs.Names.{tot, other}
+use Rattle.heap_law.specs.Things.{Thing, sent}
+use Rattle.heap_law.specs.Sight.{Sight, sight}
+use Rattle.heap_law.specs.Naming.{events_of}
+use Rattle.heap_law.specs.OneHeap.{PlainState, SameState, one_heap}
+use Rattle.heap_law.specs.Colours.{StandsColoured}
+
+-- a plain run of a program: the state and the labels that an order of threads leads to, where it leads somewhere. The plain machine gives it, once it
+-- runs mutexes and pairs of threads
+abbrev pub PlainRun : Type 0
+PlainRun = List (ℕ × Fresh) → Option (PlainState × List Label)
+
+-- the order is one of plain steps; they leave that state, with these labels
+pub record LeadsTo (run : PlainRun) (steps : List (ℕ × Fresh)) (s : PlainState) (ls : List Label) : Type 0 where
+  pub state : PlainState
+  pub runs : run steps ≡ Some (state, ls)
+  pub same : SameState state s
+
+-- the journal is legal, and the state that it leaves is the cluster's coloured heap
+pub record LeavesColoured (k : Cluster) (es : List Entry) : Type 0 where
+  pub state : Coloured
+  pub legal : journal_after k.options es ≡ Some state
+  pub stands : StandsColoured k state
+
+abbrev is_message : Thing → ℕ
+is_message (sent r m) = 1
+is_message x = 0
+
+-- the messages that wait or are on their way
+abbrev pub messages_of : Sight → ℕ
+messages_of s = tot is_message s.things
+
+abbrev has_evict : List Act → Bool
+has_evict [] = false
+has_evict (act.Evict w ∷ rest) = true
+has_evict (a ∷ rest) = has_evict rest
+
+abbrev delivers : Option ℕ → List Act → ℕ
+delivers (Some t) acts = 0
+delivers None acts = other (has_evict acts)
+
+-- the deliveries among entries: those that name no thread and evict nothing
+abbrev pub deliveries : List Entry → ℕ
+deliveries es = tot (λ e. delivers e.thread e.acts.items) es
+
+abbrev pub entry_count : List Entry → ℕ
+entry_count es = tot (λ (e : Entry). 1) es
+
+-- the cluster is left by the journal under a plain run of its program
+pub record LeftBy (run : PlainRun) (k : Cluster) (es : List Entry) : Type 0 where
+  -- the plain run under the journal's order is there; its state is the cluster's one heap, and its labels are the journal's
+  pub plain : LeadsTo run (order es) (one_heap k) (labels es)
+  -- each entry reaches what it loads and stores
+  pub reached : is_all_reached k.options es ≡ true
+  -- the journal is legal, and leaves the cluster's coloured heap
+  pub coloured : LeavesColoured k es
+  -- the cluster has done as many events as the journal has entries
+  pub events : events_of (sight k) ≡ entry_count es
+  -- the messages that wait or are on their way, and the deliveries, are together as many as the acts of the journal send, those within one server too
+  pub messages : messages_of (sight k) + deliveries es ≡ all_messages es

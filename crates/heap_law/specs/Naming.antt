@@ -1,0 +1,199 @@
+-- NAMES, and what the types of a server's parts keep (this project's rules). Each function counts what breaks the sentence above it.
+use Rattle.std.specs.Prelude.{ℕ, ◌+◌, ◌*◌, ◌%◌, ◌^◌, ◌==◌, nat_lt, nat_le, Bool, true, ◌&&◌, ◌||◌, List, [], ◌∷◌, Option, Some, None}
+use Rattle.fr_base.specs.declared.name.ObjNo.{ObjNo}
+use Rattle.fr_base.specs.declared.name.MutexNo.{MutexNo}
+use Rattle.fr_base.specs.declared.release.Released.{Released}
+use Rattle.fr_base.specs.declared.release.Released.TheVariants as released
+use Rattle.heap_partition.specs.declared.value.Owned.{Owned}
+use Rattle.heap_partition.specs.declared.value.Owned.TheVariants as owned
+use Rattle.thread_state.specs.View.{is_pinned}
+use Rattle.thread_state.specs.declared.value.Value.{Value}
+use Rattle.thread_state.specs.declared.phase.Phase.{Phase}
+use Rattle.thread_state.specs.declared.phase.Phase.TheVariants as phase
+use Rattle.read_cache.specs.Cache.{Copy}
+use Rattle.join_home.specs.Tasks.{TaskState, asked, in_pair}
+use Rattle.server_msgs.specs.declared.message.Message.{Message}
+use Rattle.server_msgs.specs.declared.message.Message.TheVariants.{Fetch, Fetched, Move, Moved, Lock, Granted, Dup, Dupped, Release, Join, Joined, Finished}
+use Rattle.server_model.specs.Servers.{Server, Cluster}
+use Rattle.heap_law.specs.Names.{tot, one, other, if_so, some}
+use Rattle.heap_law.specs.Things.{Thing, holds, lies, flies, copied, sent, stands, at_home, queued, noted, retired, counts}
+use Rattle.heap_law.specs.Follow.{Standing, thread_at}
+use Rattle.heap_law.specs.Sight.{Sight}
+use Rattle.heap_law.specs.Weights.{is_thread}
+use Rattle.heap_law.specs.Placing.{sum_over}
+use Rattle.heap_law.specs.Walking.{sum_threads}
+use Rattle.heap_law.specs.Requests.{home_of}
+use Rattle.heap_law.specs.Sharing.{mutexes, is_over}
+
+-- NUMBERS
+
+abbrev twice : Sight → Standing → ℕ
+twice s x = other (sum_over s (is_thread x.thread.number) == 1)
+
+-- no two threads or parcels have the same number
+abbrev pub numbers_wrong : Sight → ℕ
+numbers_wrong s = sum_threads s (twice s)
+
+abbrev was_made : ObjNo → Option Standing → Bool
+was_made o None = true
+was_made o (Some x) = is_over x.thread.phase || nat_lt o.count x.thread.made
+
+abbrev not_made : Sight → Thing → ℕ
+not_made s (lies r a c) = other (was_made c.object (thread_at s.ground.threads c.object.thread))
+not_made s (flies w c) = other (was_made c.object (thread_at s.ground.threads c.object.thread))
+not_made s x = 0
+
+-- the number of each object is below the `made` of the thread that made it, where that thread isn't over
+abbrev pub made_wrong : Sight → ℕ
+made_wrong s = sum_over s (not_made s)
+
+-- COUNTS
+
+-- the threads that a thing names, with a weight
+abbrev owned_thread : (ℕ → ℕ) → Owned → ℕ
+owned_thread f (owned.Task t) = f t
+owned_thread f (owned.Box p) = f p.object.thread
+owned_thread f v = 0
+
+abbrev released_thread : (ℕ → ℕ) → Released → ℕ
+released_thread f (released.Mutex m) = 0
+released_thread f (released.Task t) = f t
+
+abbrev message_thread : (ℕ → ℕ) → Message → ℕ
+message_thread f (Fetch w o s t) = f t
+message_thread f (Fetched w c t) = f t
+message_thread f (Move w o s t) = f t
+message_thread f (Moved w c t) = f t
+message_thread f (Lock m s t) = f t
+message_thread f (Granted m v t) = f t
+message_thread f (Dup m s t) = f t
+message_thread f (Dupped m t) = f t
+message_thread f (Release x) = released_thread f x
+message_thread f (Join u s t) = f u + f t
+message_thread f (Joined u v t) = f u + f t
+message_thread f (Finished t v) = f t
+message_thread f m = 0
+
+abbrev phase_thread : (ℕ → ℕ) → Phase → ℕ
+phase_thread f (phase.WaitJoin t) = f t
+phase_thread f (phase.WaitPar a b) = f a + f b
+phase_thread f (phase.GotPar a b) = f a + f b
+phase_thread f p = 0
+
+abbrev noted_thread : (ℕ → ℕ) → TaskState → ℕ
+noted_thread f (asked s t) = f t
+noted_thread f (in_pair t over) = f t
+noted_thread f x = 0
+
+abbrev threads : (ℕ → ℕ) → Thing → ℕ
+threads f (holds p v) = owned_thread f v
+threads f (lies s a c) = f c.object.thread + owned_thread f c.value
+threads f (flies w c) = f c.object.thread + owned_thread f c.value
+threads f (copied s c) = f c.cell.object.thread + owned_thread f c.cell.value
+threads f (sent s m) = message_thread f m
+threads f (stands s p t) = f t.number + phase_thread f t.phase
+threads f (queued m s t) = f t
+threads f (noted s x) = f x.thread + noted_thread f x.state
+threads f x = 0
+
+abbrev started_at : ℕ → ℕ → Thing → ℕ
+started_at s n (counts r next old started made events) = one (r == s && nat_le n started)
+started_at s n x = 0
+
+abbrev made_at : ℕ → ℕ → Thing → ℕ
+made_at s n (counts r next old started made events) = one (r == s && nat_le n made)
+made_at s n x = 0
+
+abbrev uncounted_thread : Sight → ℕ → ℕ
+uncounted_thread s t = other (some (sum_over s (started_at (home_of t) (t % 2 ^ 32))))
+
+abbrev uncounted_mutex : Sight → MutexNo → ℕ
+uncounted_mutex s m = other (some (sum_over s (made_at m.home m.count)))
+
+abbrev homes : (MutexNo → ℕ) → Thing → ℕ
+homes f (at_home s m) = f m.number
+homes f x = mutexes f x
+
+-- the count of each thread and mutex that is named anywhere is at most the count that its server has reached
+abbrev pub counted_wrong : Sight → ℕ
+counted_wrong s = sum_over s (threads (uncounted_thread s)) + sum_over s (homes (uncounted_mutex s))
+
+abbrev event_count : Thing → ℕ
+event_count (counts r next old started made events) = events
+event_count x = 0
+
+-- how many events a cluster has done
+abbrev pub events_of : Sight → ℕ
+events_of s = sum_over s event_count
+
+abbrev above : ℕ → ℕ → ℕ
+above limit n = other (nat_le n limit)
+
+abbrev many_names : ℕ → Thing → ℕ
+many_names n (counts r next old started made events) = above (2 * n) started + above (2 * n) made
+many_names n (stands r p t) = above (2 * n) t.made
+many_names n x = 0
+
+-- no such count and no `made` is above twice the number of events
+abbrev pub names_count_wrong : Sight → ℕ
+names_count_wrong s = let n = events_of s in sum_over s (many_names n)
+
+abbrev large_counts : ℕ → Thing → ℕ
+large_counts n (counts r next old started made events) = above (16 * n) next + above (16 * n) old
+large_counts n (copied r c) = above (16 * n) c.users
+large_counts n (at_home r m) = above (16 * n) m.shares
+large_counts n x = 0
+
+-- no next address and no number of retired addresses, of users of a word or of shares of a mutex is above 16 times it
+abbrev pub large_wrong : Sight → ℕ
+large_wrong s = let n = events_of s in sum_over s (large_counts n)
+
+-- WHAT THE TYPES OF THE PARTS KEEP
+
+abbrev rising_from : ℕ → List ℕ → ℕ
+rising_from n [] = 0
+rising_from n (m ∷ ms) = other (nat_lt n m) + rising_from m ms
+
+-- the numbers rise
+abbrev rising : List ℕ → ℕ
+rising [] = 0
+rising (n ∷ ns) = rising_from n ns
+
+abbrev numbers_of : {A : Type 0} → (A → ℕ) → List A → List ℕ
+numbers_of f [] = []
+numbers_of f (x ∷ xs) = f x ∷ numbers_of f xs
+
+abbrev free_colours : ℕ × ℕ → ℕ
+free_colours pair = one (pair.1 == 0)
+
+abbrev is_retired : ℕ → Thing → ℕ
+is_retired s (retired r a) = one (r == s)
+is_retired s x = 0
+
+abbrev same_word : ℕ → Copy → ℕ
+same_word w c = one (c.word == w)
+
+abbrev cached_twice : List Copy → Copy → ℕ
+cached_twice cs c = other (tot (same_word c.word) cs == 1)
+
+abbrev pins : List Value → ℕ
+pins vs = tot (λ v. one (is_pinned v)) vs
+
+-- one of so many servers by rising number; its partition is its own under the run's colours, with the retired addresses counted and no free address
+-- without a colour; a cache has a word once; mutexes, tasks and threads stand by rising number
+abbrev server_wrong : Sight → ℕ → Server → ℕ
+server_wrong s n x =
+    other (x.number == n) + other (x.partition.server == n) + other (x.partition.limit == s.options.colours) + tot free_colours x.partition.free
+    + other (sum_over s (is_retired n) == x.partition.retired) + tot (cached_twice x.cache) x.cache + other (x.mutexes.home == n)
+    + rising (numbers_of (λ m. m.number.count) x.mutexes.there) + rising (numbers_of (λ t. t.thread) x.tasks) + rising (numbers_of (λ t. t.number) x.threads)
+
+abbrev servers_wrong : Sight → ℕ → List Server → ℕ
+servers_wrong s n [] = other (n == s.options.servers)
+servers_wrong s n (x ∷ xs) = server_wrong s n x + servers_wrong s (n + 1) xs
+
+abbrev pinned_parcel : Standing → ℕ
+pinned_parcel x = if_so x.packed (pins x.thread.slots + pins x.thread.temps)
+
+-- the servers are those of the run, and each part is one of its type; a parcel's references keep nothing in use
+abbrev pub parts_wrong : Cluster → Sight → ℕ
+parts_wrong k s = servers_wrong s 0 k.servers + sum_threads s pinned_parcel

@@ -1,0 +1,142 @@
+-- Which place the next instruction of a thread follows, and how: which pointers it reads, which it writes through (this project's rules).
+use Rattle.std.specs.Prelude.{ℕ, zero, suc, ◌-◌, ◌==◌, Bool, true, false, not, ◌&&◌, ◌||◌, if◌then◌else◌, List, [], ◌∷◌, ◌++◌, Option, Some, None, slice_get}
+use Rattle.fr_base.specs.declared.name.ObjNo.{ObjNo}
+use Rattle.fr_base.specs.declared.place.Lval.{Lval}
+use Rattle.fr_base.specs.declared.instruction.Operand.{Operand}
+use Rattle.fr_base.specs.declared.instruction.Operand.TheVariants as operand
+use Rattle.fr_base.specs.declared.instruction.Instr.{Instr}
+use Rattle.fr_base.specs.declared.instruction.Instr.TheVariants as instr
+use Rattle.global_addr.specs.Words.{server_of}
+use Rattle.heap_partition.specs.declared.value.Owned.TheVariants as owned
+use Rattle.mut_borrow.specs.declared.mutable.MutRef.{MutRef}
+use Rattle.thread_state.specs.View.{ThreadView}
+use Rattle.thread_state.specs.declared.value.Value.{Value}
+use Rattle.thread_state.specs.declared.value.Value.TheVariants as value
+use Rattle.heap_law.specs.Names.{is_in}
+use Rattle.heap_law.specs.Follow.{Ground, hops}
+
+-- the last element: the last slot, or the temporary value on top
+abbrev pub last : {A : Type 0} → List A → Option A
+last [] = None
+last (x ∷ []) = Some x
+last (x ∷ y ∷ xs) = last (y ∷ xs)
+
+-- what an instruction does with the pointers of a place. `reads` reads all its stars. `shares` and `lends` read up to the pointer
+-- that is borrowed; a shared borrow cleans it where it is a dirty reference, a mutable one has its object come here. `writes`
+-- follows all stars for writing, and so does the end of a mutable reference with its holder
+pub data Path : Type 0 where
+  no_path : Path
+  reads : (w : Lval) → Path
+  shares : (w : Lval) → Path
+  lends : (w : Lval) → Path
+  writes : (w : Lval) → Path
+  ends : (r : MutRef) → Path
+
+-- a mutable reference that is dropped ends
+abbrev ending : Option Value → Path
+ending (Some (value.Mut r)) = ends r
+ending v = no_path
+
+-- a move through a star writes
+abbrev taking : Lval → ℕ → Path
+taking w zero = no_path
+taking w (suc n) = writes w
+
+abbrev assigning : List Value → Lval → ℕ → Path
+assigning slots w zero = ending (slice_get slots w.slot)
+assigning slots w (suc n) = writes w
+
+abbrev pub path_of : Option Instr → ThreadView → Path
+path_of (Some (instr.Read w true)) t = taking w w.depth
+path_of (Some (instr.Read w false)) t = reads w
+path_of (Some (instr.Dup w)) t = reads w
+path_of (Some (instr.Lock w)) t = reads w
+path_of (Some (instr.Borrow w)) t = shares w
+path_of (Some (instr.BorrowMut w)) t = lends w
+path_of (Some (instr.Assign w o)) t = assigning t.slots w w.depth
+path_of (Some instr.DropSlot) t = ending (last t.slots)
+path_of (Some instr.Discard) t = ending (last t.temps)
+path_of i t = no_path
+
+-- the operand of a join
+abbrev popped : Operand → List Value → Option Value
+popped operand.Pop ts = last ts
+popped o ts = None
+
+abbrev task_in : Option Value → Option ℕ
+task_in (Some (value.Own (owned.Task t))) = Some t
+task_in v = None
+
+-- the thread that a join asks for
+abbrev pub joined_thread : Option Instr → ThreadView → Option ℕ
+joined_thread (Some (instr.Join o)) t = task_in (popped o t.temps)
+joined_thread i t = None
+
+-- the place of a write: that of its hops
+abbrev pub written_place : Path → Option Lval
+written_place (writes w) = Some w
+written_place (ends r) = Some r.holder
+written_place p = None
+
+-- what a thread may wait for on its path: an object under a word, that comes here or of which a copy comes
+pub record Awaited : Type 0 where
+  pub word : ℕ
+  pub object : ObjNo
+  pub comes : Bool
+
+-- a copy of what a pointer leads to is read; a dirty mutable reference is cleaned first, and its object comes here where that can't be
+abbrev to_read : Option Value → List Awaited
+to_read (Some (value.Own (owned.Box p))) = record { word = p.word; object = p.object; comes = false } ∷ []
+to_read (Some (value.Shared r)) = record { word = r.word; object = r.object; comes = false } ∷ []
+to_read (Some (value.Mut r)) = record { word = r.word; object = r.object; comes = r.dirty } ∷ []
+to_read v = []
+
+-- what is written, lent or ended comes here
+abbrev to_write : Option Value → List Awaited
+to_write (Some (value.Own (owned.Box p))) = record { word = p.word; object = p.object; comes = true } ∷ []
+to_write (Some (value.Mut r)) = record { word = r.word; object = r.object; comes = true } ∷ []
+to_write v = []
+
+-- a reference that is dirty is cleaned
+abbrev to_clean : Option Value → List Awaited
+to_clean (Some (value.Mut r)) = if r.dirty then record { word = r.word; object = r.object; comes = true } ∷ [] else []
+to_clean v = []
+
+abbrev all_to : (Option Value → List Awaited) → List (Option Value) → List Awaited
+all_to f [] = []
+all_to f (v ∷ vs) = f v ++ all_to f vs
+
+-- the last pointer of a borrow in its own way, those before it as reads
+abbrev borrow_to : (Option Value → List Awaited) → List (Option Value) → List Awaited
+borrow_to f [] = []
+borrow_to f (v ∷ []) = f v
+borrow_to f (v ∷ w ∷ vs) = to_read v ++ borrow_to f (w ∷ vs)
+
+-- all that the thread may wait for, in the order of the path
+abbrev pub awaited : Ground → ℕ → Path → List Awaited
+awaited g t no_path = []
+awaited g t (reads w) = all_to to_read (hops g t w w.depth)
+awaited g t (shares w) = borrow_to to_clean (hops g t w w.depth)
+awaited g t (lends w) = borrow_to to_write (hops g t w w.depth)
+awaited g t (writes w) = all_to to_write (hops g t w w.depth)
+awaited g t (ends r) = to_write (Some (value.Mut r)) ++ all_to to_write (hops g t r.holder r.holder.depth)
+
+-- the pointers that a place follows before the step: of a mutable borrow all but the last
+abbrev pub followed : Ground → ℕ → Path → List (Option Value)
+followed g t (reads w) = hops g t w w.depth
+followed g t (lends w) = hops g t w (w.depth - 1)
+followed g t p = []
+
+-- can be read at that server: it leads there, or the thread keeps a copy under its word and the pointer isn't a dirty reference
+abbrev pub is_readable : List ℕ → ℕ → Awaited → Bool
+is_readable kept s a = (server_of a.word == s) || (not a.comes && is_in a.word kept)
+
+-- the first of these that isn't readable
+abbrev pub first_unreadable : List ℕ → ℕ → List Awaited → Option Awaited
+first_unreadable kept s [] = None
+first_unreadable kept s (a ∷ rest) = if is_readable kept s a then first_unreadable kept s rest else Some a
+
+-- the first one with that word
+abbrev pub awaited_under : List Awaited → ℕ → Option Awaited
+awaited_under [] w = None
+awaited_under (a ∷ rest) w = if a.word == w then Some a else awaited_under rest w

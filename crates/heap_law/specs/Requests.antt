@@ -1,0 +1,425 @@
+-- REQUESTS: what a waiting thread will be answered by, and what messages carry and where they go (this project's rules). Each
+-- function counts what breaks the sentence above it.
+use Rattle.std.specs.Prelude.{ℕ, zero, suc, ◌+◌, ◌/◌, ◌%◌, ◌^◌, ◌==◌, nat_lt, Bool, true, false, not, ◌&&◌, Option, Some, None, is_some}
+use Rattle.fr_base.specs.declared.name.ObjNo.{ObjNo}
+use Rattle.fr_base.specs.declared.name.MutexNo.{MutexNo}
+use Rattle.fr_base.specs.declared.release.Released.{Released}
+use Rattle.fr_base.specs.declared.release.Released.TheVariants as released
+use Rattle.fr_base.specs.declared.instruction.Instr.{Instr}
+use Rattle.fr_base.specs.declared.instruction.Instr.TheVariants as instr
+use Rattle.fr_base.specs.declared.place.Lval.{Lval}
+use Rattle.global_addr.specs.Words.{server_of}
+use Rattle.heap_partition.specs.declared.value.Owned.{Owned}
+use Rattle.heap_partition.specs.declared.value.Owned.TheVariants as owned
+use Rattle.thread_state.specs.declared.value.Value.{Value}
+use Rattle.thread_state.specs.declared.value.Value.TheVariants as value
+use Rattle.thread_state.specs.declared.phase.Phase.{Phase}
+use Rattle.thread_state.specs.declared.phase.Phase.TheVariants as phase
+use Rattle.join_home.specs.Tasks.{TaskState, asked, in_pair}
+use Rattle.server_msgs.specs.declared.message.Message.{Message}
+use Rattle.server_msgs.specs.declared.message.Message.TheVariants.{Fetch, Fetched, Move, Moved, Drop, Lock, Granted, Unlock, Dup, Dupped, Release, Start, Join, Joined, Finished}
+use Rattle.heap_law.specs.Names.{tot, one, other, if_so, some, same_object, same_mutex, same_owned}
+use Rattle.heap_law.specs.Things.{Location, in_cell, Thing, sent, queued, noted}
+use Rattle.heap_law.specs.Follow.{Standing, thread_at, place_at, value_at, hop_at}
+use Rattle.heap_law.specs.Sight.{Sight, is_word, word}
+use Rattle.heap_law.specs.Weights.{lies_at}
+use Rattle.heap_law.specs.Paths.{Awaited, awaited, awaited_under, joined_thread}
+use Rattle.heap_law.specs.Placing.{sum_over}
+use Rattle.heap_law.specs.Walking.{sum_threads, instr_of, path}
+
+-- ANSWERS
+
+abbrev pub waits : Phase → Bool
+waits (phase.WaitCell w) = true
+waits (phase.WaitLock m) = true
+waits (phase.WaitDup m) = true
+waits (phase.WaitJoin t) = true
+waits (phase.WaitPar a b) = true
+waits p = false
+
+abbrev pub home_of : ℕ → ℕ
+home_of t = t / 2 ^ 32
+
+-- what will answer a thread: which thread, and whether it is a half of that thread's pair
+pub data Answer : Type 0 where
+  no_answer : Answer
+  whole_answer : (thread : ℕ) → Answer
+  half_answer : (thread : ℕ) → Answer
+
+abbrev message_answer : Message → Answer
+message_answer (Fetch w o s t) = whole_answer t
+message_answer (Fetched w c t) = whole_answer t
+message_answer (Move w o s t) = whole_answer t
+message_answer (Moved w c t) = whole_answer t
+message_answer (Lock m s t) = whole_answer t
+message_answer (Granted m v t) = whole_answer t
+message_answer (Dup m s t) = whole_answer t
+message_answer (Dupped m t) = whole_answer t
+message_answer (Join u s t) = whole_answer t
+message_answer (Joined u v t) = whole_answer t
+message_answer m = no_answer
+
+abbrev noted_answer : TaskState → Answer
+noted_answer (asked s t) = whole_answer t
+noted_answer (in_pair t over) = half_answer t
+noted_answer x = no_answer
+
+-- a request, an answer, a place in a queue, a noted asker, or a half of a pair
+abbrev pub answer_of : Thing → Answer
+answer_of (sent s m) = message_answer m
+answer_of (queued m s t) = whole_answer t
+answer_of (noted s x) = noted_answer x.state
+answer_of x = no_answer
+
+-- a whole answer counts two, each half of a pair one
+abbrev pub halves : ℕ → Answer → ℕ
+halves t no_answer = 0
+halves t (whole_answer u) = if_so (u == t) 2
+halves t (half_answer u) = one (u == t)
+
+-- each waiting thread has exactly one message, queue place or noted asker that will answer it; its pair counts as a noted asker
+abbrev unanswered : Sight → Standing → ℕ
+unanswered s x = if_so (waits x.thread.phase) (other (tot (λ y. halves x.thread.number (answer_of y)) s.things == 2))
+
+abbrev pub answers_wrong : Sight → ℕ
+answers_wrong s = sum_threads s (unanswered s)
+
+abbrev waits_there : Option Standing → Bool
+waits_there None = false
+waits_there (Some x) = waits x.thread.phase
+
+abbrev thread_waits : Sight → Answer → ℕ
+thread_waits s no_answer = 0
+thread_waits s (whole_answer t) = other (waits_there (thread_at s.ground.threads t))
+thread_waits s (half_answer t) = other (waits_there (thread_at s.ground.threads t))
+
+-- no message, queue place or noted asker answers a thread that doesn't wait for it
+abbrev pub unasked_wrong : Sight → ℕ
+unasked_wrong s = sum_over s (λ y. thread_waits s (answer_of y))
+
+-- WHAT THEY CARRY
+
+abbrev is_cell : ℕ → Phase → Bool
+is_cell w (phase.WaitCell v) = v == w
+is_cell w p = false
+
+abbrev is_lock : MutexNo → Phase → Bool
+is_lock m (phase.WaitLock n) = same_mutex m n
+is_lock m p = false
+
+abbrev is_dup : MutexNo → Phase → Bool
+is_dup m (phase.WaitDup n) = same_mutex m n
+is_dup m p = false
+
+abbrev is_join : ℕ → Phase → Bool
+is_join t (phase.WaitJoin u) = t == u
+is_join t p = false
+
+-- the phase of the thread that is there
+abbrev in_phase : (Phase → Bool) → Option Standing → Bool
+in_phase f None = false
+in_phase f (Some x) = f x.thread.phase
+
+abbrev phase_fits : Sight → ℕ → (Phase → Bool) → ℕ
+phase_fits s t f = other (in_phase f (thread_at s.ground.threads t))
+
+abbrev pub awaited_at : Sight → Standing → ℕ → Option Awaited
+awaited_at s x w = awaited_under (awaited s.ground x.thread.number (path s x)) w
+
+abbrev is_its_object : ObjNo → Option Awaited → Bool
+is_its_object o None = false
+is_its_object o (Some a) = same_object a.object o
+
+-- the object of the pointer with that word that the thread follows or ends
+abbrev is_object_of : Sight → ℕ → ObjNo → Option Standing → Bool
+is_object_of s w o None = false
+is_object_of s w o (Some x) = is_its_object o (awaited_at s x w)
+
+abbrev object_fits : Sight → ℕ → ℕ → ObjNo → ℕ
+object_fits s t w o = phase_fits s t (is_cell w) + other (is_object_of s w o (thread_at s.ground.threads t))
+
+abbrev message_carries : Sight → Message → ℕ
+message_carries s (Fetch w o r t) = object_fits s t w o
+message_carries s (Fetched w c t) = object_fits s t w c.object
+message_carries s (Move w o r t) = object_fits s t w o
+message_carries s (Moved w c t) = object_fits s t w c.object
+message_carries s (Lock m r t) = phase_fits s t (is_lock m)
+message_carries s (Granted m v t) = phase_fits s t (is_lock m)
+message_carries s (Dup m r t) = phase_fits s t (is_dup m)
+message_carries s (Dupped m t) = phase_fits s t (is_dup m)
+message_carries s (Join u r t) = phase_fits s t (is_join u)
+message_carries s (Joined u v t) = phase_fits s t (is_join u)
+message_carries s m = 0
+
+abbrev note_carries : Sight → ℕ → TaskState → ℕ
+note_carries s u (asked r t) = phase_fits s t (is_join u)
+note_carries s u x = 0
+
+-- what will answer a thread carries, or is kept for, what its phase names: the word of `WaitCell` (in a `moved` as the old word) and the object of
+-- that pointer, the mutex of `WaitLock` or `WaitDup`, the thread of `WaitJoin`
+abbrev carries : Sight → Thing → ℕ
+carries s (sent r m) = message_carries s m
+carries s (queued m r t) = phase_fits s t (is_lock m)
+carries s (noted r x) = note_carries s x.thread x.state
+carries s x = 0
+
+abbrev pub carried_wrong : Sight → ℕ
+carried_wrong s = sum_over s (carries s)
+
+-- WHERE MESSAGES GO
+
+abbrev in_server : ℕ → Option Standing → Bool
+in_server r None = false
+in_server r (Some x) = x.server == r
+
+abbrev stands_at : Sight → ℕ → ℕ → Bool
+stands_at s t r = in_server r (thread_at s.ground.threads t)
+
+abbrev released_home : Released → ℕ
+released_home (released.Mutex m) = m.home
+released_home (released.Task t) = home_of t
+
+-- where a request, a `drop`, a release, a result or a new thread goes; the others go to a thread, or anywhere
+abbrev goal : ℕ → Message → Option ℕ
+goal n (Fetch w o s t) = Some (server_of w)
+goal n (Move w o s t) = Some (server_of w)
+goal n (Drop w o) = Some (server_of w)
+goal n (Lock m s t) = Some m.home
+goal n (Unlock m v) = Some m.home
+goal n (Dup m s t) = Some m.home
+goal n (Release x) = Some (released_home x)
+goal n (Start t) = Some ((t.number / 2 ^ 32 + t.number % 2 ^ 32) % n)
+goal n (Join u s t) = Some (home_of u)
+goal n (Finished t v) = Some (home_of t)
+goal n m = None
+
+abbrev is_goal : ℕ → Option ℕ → Bool
+is_goal r None = true
+is_goal r (Some g) = g == r
+
+abbrev misrouted : Sight → Thing → ℕ
+misrouted s (sent r m) = other (nat_lt r s.options.servers && is_goal r (goal s.options.servers m))
+misrouted s x = 0
+
+-- a message that waits at a server, or stands in an outbox with a server noted beside it, goes to that server, and that server is of the run
+abbrev pub routes_wrong : Sight → ℕ
+routes_wrong s = sum_over s (misrouted s)
+
+abbrev lost_answer : Sight → ℕ → Message → ℕ
+lost_answer s r (Fetched w c t) = other (stands_at s t r)
+lost_answer s r (Moved w c t) = other (stands_at s t r)
+lost_answer s r (Granted m v t) = other (stands_at s t r)
+lost_answer s r (Dupped m t) = other (stands_at s t r)
+lost_answer s r (Joined u v t) = other (stands_at s t r)
+lost_answer s r m = 0
+
+-- an answer goes to the server of the thread that it answers
+abbrev lost : Sight → Thing → ℕ
+lost s (sent r m) = lost_answer s r m
+lost s x = 0
+
+abbrev pub returns_wrong : Sight → ℕ
+returns_wrong s = sum_over s (lost s)
+
+abbrev asker_message : Sight → Message → ℕ
+asker_message s (Fetch w o r t) = other (stands_at s t r)
+asker_message s (Move w o r t) = other (stands_at s t r)
+asker_message s (Lock m r t) = other (stands_at s t r)
+asker_message s (Dup m r t) = other (stands_at s t r)
+asker_message s (Join u r t) = other (stands_at s t r)
+asker_message s m = 0
+
+abbrev asker_noted : Sight → TaskState → ℕ
+asker_noted s (asked r t) = other (stands_at s t r)
+asker_noted s x = 0
+
+-- the server and thread in a request, a queue place or a noted asker are those of the thread that waits
+abbrev other_asker : Sight → Thing → ℕ
+other_asker s (sent r m) = asker_message s m
+other_asker s (queued m r t) = other (stands_at s t r)
+other_asker s (noted r x) = asker_noted s x.state
+other_asker s x = 0
+
+abbrev pub askers_wrong : Sight → ℕ
+askers_wrong s = sum_over s (other_asker s)
+
+-- PHASES AND INSTRUCTIONS
+
+abbrev pub mutex_of : Option Value → Option MutexNo
+mutex_of (Some (value.Own (owned.Mutex m))) = Some m
+mutex_of v = None
+
+-- the mutex at the place of a lock, or of a dup
+abbrev pub locked_mutex : Sight → Standing → Option Instr → Option MutexNo
+locked_mutex s x (Some (instr.Lock w)) = mutex_of (value_at s.ground x.thread.number w)
+locked_mutex s x i = None
+
+abbrev pub dupped_mutex : Sight → Standing → Option Instr → Option MutexNo
+dupped_mutex s x (Some (instr.Dup w)) = mutex_of (value_at s.ground x.thread.number w)
+dupped_mutex s x i = None
+
+abbrev is_mutex : MutexNo → Option MutexNo → Bool
+is_mutex m None = false
+is_mutex m (Some n) = same_mutex m n
+
+abbrev is_task : ℕ → Option ℕ → Bool
+is_task t None = false
+is_task t (Some u) = t == u
+
+-- `WaitLock(m)` stands at a `Lock` whose place holds m, `WaitDup(m)` at a `Dup` whose place holds m, `WaitJoin(t)` at a `Join` whose operand is t
+abbrev stands_wrong : Sight → Standing → Phase → ℕ
+stands_wrong s x (phase.WaitLock m) = other (is_mutex m (locked_mutex s x (instr_of s x)))
+stands_wrong s x (phase.WaitDup m) = other (is_mutex m (dupped_mutex s x (instr_of s x)))
+stands_wrong s x (phase.WaitJoin t) = other (is_task t (joined_thread (instr_of s x) x.thread))
+stands_wrong s x p = 0
+
+abbrev pub phases_wrong : Sight → ℕ
+phases_wrong s = sum_threads s (λ x. stands_wrong s x x.thread.phase)
+
+abbrev is_par_end : Option Instr → Bool
+is_par_end (Some instr.ParEnd) = true
+is_par_end i = false
+
+abbrev is_par : Phase → Bool
+is_par (phase.WaitPar a b) = true
+is_par (phase.GotPar a b) = true
+is_par p = false
+
+abbrev same_truth : Bool → Bool → Bool
+same_truth true true = true
+same_truth false false = true
+same_truth _ _ = false
+
+-- a thread is at a `ParEnd` exactly in the phases `WaitPar(a, b)` and `GotPar(a, b)`
+abbrev par_end : Sight → Standing → ℕ
+par_end s x = other (same_truth (is_par_end (instr_of s x)) (is_par x.thread.phase))
+
+abbrev pub par_ends_wrong : Sight → ℕ
+par_ends_wrong s = sum_threads s (par_end s)
+
+-- that thread noted at that server as in a pair of the parent: over, or either way
+abbrev half_noted : TaskState → ℕ → Bool
+half_noted (in_pair q over) parent = q == parent
+half_noted x parent = false
+
+abbrev half_over : TaskState → Bool
+half_over (in_pair q over) = over
+half_over x = false
+
+abbrev half_at : ℕ → ℕ → ℕ → Thing → ℕ
+half_at r parent t (noted q x) = one ((q == r && x.thread == t) && half_noted x.state parent)
+half_at r parent t x = 0
+
+abbrev over_at : ℕ → ℕ → Thing → ℕ
+over_at r t (noted q x) = one ((q == r && x.thread == t) && half_over x.state)
+over_at r t x = 0
+
+abbrev is_pair : Sight → Standing → Phase → ℕ
+is_pair s x (phase.WaitPar a b) =
+    other (((some (sum_over s (half_at x.server x.thread.number a)) && some (sum_over s (half_at x.server x.thread.number b)))
+    && not (a == b)) && not (some (sum_over s (over_at x.server a)) && some (sum_over s (over_at x.server b))))
+is_pair s x p = 0
+
+-- in `WaitPar(a, b)` the threads a and b are the pair of that thread at its server, and not both are noted there as over
+abbrev pub pairs_wrong : Sight → ℕ
+pairs_wrong s = sum_threads s (λ x. is_pair s x x.thread.phase)
+
+abbrev comes_by : ℕ → Message → Bool → Bool
+comes_by t (Fetch w o s u) comes = u == t && not comes
+comes_by t (Fetched w c u) comes = u == t && not comes
+comes_by t (Move w o s u) comes = u == t && comes
+comes_by t (Moved w c u) comes = u == t && comes
+comes_by t m comes = false
+
+abbrev comes_in : ℕ → Bool → Thing → ℕ
+comes_in t comes (sent r m) = one (comes_by t m comes)
+comes_in t comes x = 0
+
+abbrev is_waited : Sight → Standing → Option Awaited → ℕ
+is_waited s x None = 1
+is_waited s x (Some a) = other (some (sum_over s (comes_in x.thread.number a.comes)))
+
+abbrev cell_phase : Sight → Standing → Phase → ℕ
+cell_phase s x (phase.WaitCell w) = is_waited s x (awaited_at s x w)
+cell_phase s x p = 0
+
+-- `WaitCell(w)` has the word of a pointer that its instruction follows or of a reference that it ends. Its message is a `fetch` or `fetched` where
+-- that object is read, and a `move` or `moved` where it comes
+abbrev pub cells_wrong : Sight → ℕ
+cells_wrong s = sum_threads s (λ x. cell_phase s x x.thread.phase)
+
+-- TAKEN OBJECTS
+
+abbrev lent_place : Option Instr → Option Lval
+lent_place (Some (instr.BorrowMut w)) = Some w
+lent_place i = None
+
+abbrev lies_here : Sight → ℕ → ℕ → Option Location → Bool
+lies_here s r w (Some (in_cell o)) = is_word (word s o) w && some (sum_over s (lies_at r o))
+lies_here s r w l = false
+
+abbrev taken_there : Sight → Standing → ℕ → Option Lval → ℕ
+taken_there s x w None = 1
+taken_there s x w (Some p) = other (lies_here s x.server w (place_at s.ground x.thread.number p))
+
+abbrev taken_phase : Sight → Standing → Phase → ℕ
+taken_phase s x (phase.Taken w) = taken_there s x w (lent_place (instr_of s x))
+taken_phase s x p = 0
+
+-- `Taken(w)` stands at a `BorrowMut`. There w is the word of the object that its place leads to, and that object lies at the thread's server
+abbrev pub taken_wrong : Sight → ℕ
+taken_wrong s = sum_threads s (λ x. taken_phase s x x.thread.phase)
+
+abbrev has_word : ℕ → Option Value → Bool
+has_word w (Some (value.Own (owned.Box p))) = p.word == w
+has_word w (Some (value.Shared r)) = r.word == w
+has_word w (Some (value.Mut r)) = r.word == w
+has_word w v = false
+
+abbrev last_hop : Sight → Standing → ℕ → Lval → ℕ → Bool
+last_hop s x w p zero = false
+last_hop s x w p (suc n) = has_word w (hop_at s.ground x.thread.number p n)
+
+abbrev taken_again : Sight → Standing → ℕ → Option Lval → ℕ
+taken_again s x w None = 0
+taken_again s x w (Some p) = one (last_hop s x w p p.depth)
+
+abbrev old_word : Sight → Standing → Phase → ℕ
+old_word s x (phase.Taken w) = taken_again s x w (lent_place (instr_of s x))
+old_word s x p = 0
+
+-- in `Taken(w)` the pointer that the place follows last has another word than w
+abbrev pub taken_words_wrong : Sight → ℕ
+taken_words_wrong s = sum_threads s (λ x. old_word s x x.thread.phase)
+
+-- GIFTS
+
+abbrev is_got : Phase → Bool
+is_got phase.Got = true
+is_got p = false
+
+abbrev early_gift : Standing → ℕ
+early_gift x = one (is_some x.thread.gift && not (is_got x.thread.phase))
+
+-- a gift stands in phase `Got` alone
+abbrev pub gift_phases_wrong : Sight → ℕ
+gift_phases_wrong s = sum_threads s early_gift
+
+abbrev is_value_of : Owned → Option MutexNo → Bool
+is_value_of v None = false
+is_value_of v (Some m) = same_owned v (owned.Mutex m)
+
+abbrev gift_fits : Sight → Standing → Owned → Option Instr → ℕ
+gift_fits s x v (Some (instr.Lock w)) = other (is_some (locked_mutex s x (Some (instr.Lock w))))
+gift_fits s x v (Some (instr.Dup w)) = other (is_value_of v (dupped_mutex s x (Some (instr.Dup w))))
+gift_fits s x v (Some (instr.Join o)) = other (is_some (joined_thread (Some (instr.Join o)) x.thread))
+gift_fits s x v i = 1
+
+abbrev gift_there : Sight → Standing → Option Owned → ℕ
+gift_there s x None = 0
+gift_there s x (Some v) = gift_fits s x v (instr_of s x)
+
+-- a gift stands at a `Lock`, a `Dup` or a `Join` alone. At a `Lock` it is the content of the mutex at its place, at a `Dup` that mutex value, at a
+-- `Join` the result of the task that is its operand. (That content and that result stand nowhere else: mutexes and tasks)
+abbrev pub gifts_wrong : Sight → ℕ
+gifts_wrong s = sum_threads s (λ x. gift_there s x x.thread.gift)

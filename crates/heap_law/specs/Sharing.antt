@@ -1,0 +1,362 @@
+-- MUTEXES AND TASKS: contents, shares, results and what their homes have noted (this project's rules). Each function counts what breaks
+-- the sentence above it.
+use Rattle.std.specs.Prelude.{ℕ, ◌+◌, ◌==◌, nat_le, Bool, true, false, not, ◌&&◌, ◌||◌, length, Option, Some, None, is_some}
+use Rattle.fr_base.specs.declared.name.MutexNo.{MutexNo}
+use Rattle.fr_base.specs.declared.release.Released.{Released}
+use Rattle.fr_base.specs.declared.release.Released.TheVariants as released
+use Rattle.heap_partition.specs.declared.value.Owned.{Owned}
+use Rattle.heap_partition.specs.declared.value.Owned.TheVariants as owned
+use Rattle.thread_state.specs.declared.phase.Phase.{Phase}
+use Rattle.thread_state.specs.declared.phase.Phase.TheVariants as phase
+use Rattle.join_home.specs.Tasks.{TaskState, going, let_go, kept, asked, in_pair}
+use Rattle.server_msgs.specs.declared.message.Message.{Message}
+use Rattle.server_msgs.specs.declared.message.Message.TheVariants.{Lock, Granted, Unlock, Dup, Dupped, Release, Joined, Finished}
+use Rattle.heap_law.specs.Names.{one, other, if_so, some, same_mutex}
+use Rattle.heap_law.specs.Things.{Spot, as_content, Thing, holds, locks, lies, flies, sent, stands, at_home, queued, noted}
+use Rattle.heap_law.specs.Follow.{Standing, thread_at}
+use Rattle.heap_law.specs.Sight.{Sight}
+use Rattle.heap_law.specs.Weights.{shares_of, tasks_of}
+use Rattle.heap_law.specs.Paths.{joined_thread}
+use Rattle.heap_law.specs.Placing.{sum_over}
+use Rattle.heap_law.specs.Walking.{sum_threads, instr_of}
+use Rattle.heap_law.specs.Requests.{home_of, locked_mutex}
+
+-- NAMES OF MUTEXES
+
+abbrev owned_mutex : (MutexNo → ℕ) → Owned → ℕ
+owned_mutex f (owned.Mutex m) = f m
+owned_mutex f v = 0
+
+abbrev released_mutex : (MutexNo → ℕ) → Released → ℕ
+released_mutex f (released.Mutex m) = f m
+released_mutex f (released.Task t) = 0
+
+abbrev message_mutex : (MutexNo → ℕ) → Message → ℕ
+message_mutex f (Lock m s t) = f m
+message_mutex f (Granted m v t) = f m
+message_mutex f (Unlock m v) = f m
+message_mutex f (Dup m s t) = f m
+message_mutex f (Dupped m t) = f m
+message_mutex f (Release x) = released_mutex f x
+message_mutex f x = 0
+
+abbrev phase_mutex : (MutexNo → ℕ) → Phase → ℕ
+phase_mutex f (phase.WaitLock m) = f m
+phase_mutex f (phase.WaitDup m) = f m
+phase_mutex f p = 0
+
+-- the mutexes that a thing names, with a weight; copies name none
+abbrev pub mutexes : (MutexNo → ℕ) → Thing → ℕ
+mutexes f (holds p v) = owned_mutex f v
+mutexes f (locks t m) = f m
+mutexes f (lies s a c) = owned_mutex f c.value
+mutexes f (flies w c) = owned_mutex f c.value
+mutexes f (sent s m) = message_mutex f m
+mutexes f (stands s p t) = phase_mutex f t.phase
+mutexes f (queued m s t) = f m
+mutexes f x = 0
+
+abbrev there_at : ℕ → MutexNo → Thing → ℕ
+there_at s m (at_home r n) = one (r == s && same_mutex n.number m)
+there_at s m x = 0
+
+-- each mutex that is named anywhere but in a copy, cached or in a `fetched` message, is there, at the server of its number
+abbrev pub named_wrong : Sight → ℕ
+named_wrong s = sum_over s (mutexes (λ m. other (some (sum_over s (there_at m.home m)))))
+
+abbrev elsewhere : Thing → ℕ
+elsewhere (at_home s m) = other (m.number.home == s)
+elsewhere x = 0
+
+-- no mutex is there at another server than that of its number
+abbrev pub mutex_homes_wrong : Sight → ℕ
+mutex_homes_wrong s = sum_over s elsewhere
+
+-- CONTENTS
+
+abbrev is_mutex : MutexNo → Option MutexNo → Bool
+is_mutex m None = false
+is_mutex m (Some n) = same_mutex m n
+
+abbrev pub gift_content : Sight → MutexNo → Standing → ℕ
+gift_content s m x = if_so (is_some x.thread.gift) (one (is_mutex m (locked_mutex s x (instr_of s x))))
+
+abbrev is_content_of : MutexNo → Spot → ℕ
+is_content_of m (as_content n) = one (same_mutex n m)
+is_content_of m p = 0
+
+abbrev contents_at : MutexNo → Thing → ℕ
+contents_at m (holds p v) = is_content_of m p
+contents_at m (locks t n) = one (same_mutex n m)
+contents_at m x = 0
+
+-- the places of a mutex's content: its home, a `granted` or `unlock` message, the slot above a hidden slot, a gift at a lock
+abbrev pub contents_of : Sight → MutexNo → ℕ
+contents_of s m = sum_over s (contents_at m) + sum_threads s (gift_content s m)
+
+abbrev other_content : Sight → Thing → ℕ
+other_content s (at_home r m) = other (contents_of s m.number == 1)
+other_content s x = 0
+
+-- each mutex's content stands in one place: its home, a `granted` or `unlock` message, a gift, or the slot of the thread that holds it
+abbrev pub contents_wrong : Sight → ℕ
+contents_wrong s = sum_over s (other_content s)
+
+abbrev other_shares : Sight → Thing → ℕ
+other_shares s (at_home r m) = other (sum_over s (shares_of m.number) == m.shares)
+other_shares s x = 0
+
+-- a mutex's shares are its values in the places that own, its `release` messages and its dups answered but not yet taken, each counted once
+abbrev pub shares_wrong : Sight → ℕ
+shares_wrong s = sum_over s (other_shares s)
+
+abbrev queued_inside : Thing → ℕ
+queued_inside (at_home r m) = if_so (is_some m.content) (length m.queue)
+queued_inside x = 0
+
+-- no thread is queued while the content is at the home
+abbrev pub queues_wrong : Sight → ℕ
+queues_wrong s = sum_over s queued_inside
+
+abbrev kept_for_none : Thing → ℕ
+kept_for_none (at_home r m) = one (m.shares == 0 && is_some m.content)
+kept_for_none x = 0
+
+-- a mutex without a share has its content out of its home
+abbrev pub last_shares_wrong : Sight → ℕ
+last_shares_wrong s = sum_over s kept_for_none
+
+-- THREADS AND THEIR HOMES
+
+abbrev other_home : Standing → ℕ
+other_home x = other (x.thread.home == home_of x.thread.number)
+
+-- each thread's `home` is the server of its number
+abbrev pub thread_homes_wrong : Sight → ℕ
+thread_homes_wrong s = sum_threads s other_home
+
+abbrev pub is_over : Phase → Bool
+is_over phase.Over = true
+is_over p = false
+
+abbrev pub going_on : TaskState → Bool
+going_on going = true
+going_on let_go = true
+going_on (kept v) = false
+going_on (asked s t) = true
+going_on (in_pair t over) = not over
+
+abbrev finished_of : ℕ → Message → ℕ
+finished_of t (Finished u v) = one (u == t)
+finished_of t m = 0
+
+abbrev pub finished : ℕ → Thing → ℕ
+finished t (sent s m) = finished_of t m
+finished t x = 0
+
+abbrev is_alive : Option Standing → Bool
+is_alive None = false
+is_alive (Some x) = not (is_over x.thread.phase)
+
+-- a thread that isn't over, or whose `finished` waits
+abbrev runs_on : Sight → ℕ → Bool
+runs_on s t = is_alive (thread_at s.ground.threads t) || some (sum_over s (finished t))
+
+abbrev noted_wrongly : Sight → Thing → ℕ
+noted_wrongly s (noted r x) = if_so (going_on x.state) (other ((runs_on s x.thread && home_of x.thread == r) && not (x.thread == 0)))
+noted_wrongly s x = 0
+
+abbrev noted_going : ℕ → Thing → ℕ
+noted_going t (noted r x) = one ((x.thread == t && home_of t == r) && going_on x.state)
+noted_going t x = 0
+
+abbrev not_noted : Sight → Standing → ℕ
+not_noted s x = if_so (not (x.thread.number == 0) && runs_on s x.thread.number) (other (sum_over s (noted_going x.thread.number) == 1))
+
+-- the threads that a home has as going, let go, asked, or in a pair and not over are exactly the threads other than main that it started and that
+-- aren't over or whose `finished` message waits
+abbrev pub noted_wrong : Sight → ℕ
+noted_wrong s = sum_over s (noted_wrongly s) + sum_threads s (not_noted s)
+
+abbrev kept_elsewhere : ℕ → ℕ → TaskState → ℕ
+kept_elsewhere r t (kept v) = other (home_of t == r)
+kept_elsewhere r t x = 0
+
+abbrev kept_away : Thing → ℕ
+kept_away (noted r x) = kept_elsewhere r x.thread x.state
+kept_away x = 0
+
+-- a result is kept at its thread's home alone
+abbrev pub kept_wrong : Sight → ℕ
+kept_wrong s = sum_over s kept_away
+
+abbrev is_early : Sight → ℕ → ℕ
+is_early s t = one (t == 0 || is_alive (thread_at s.ground.threads t))
+
+abbrev early_note : Sight → ℕ → TaskState → ℕ
+early_note s t (kept v) = is_early s t
+early_note s t x = 0
+
+abbrev early_message : Sight → Message → ℕ
+early_message s (Finished t v) = is_early s t
+early_message s m = 0
+
+abbrev early_result : Sight → Thing → ℕ
+early_result s (noted r x) = early_note s x.thread x.state
+early_result s (sent r m) = early_message s m
+early_result s x = 0
+
+-- no result is kept or in a `finished` message for main, or for a thread or parcel that isn't over
+abbrev pub early_wrong : Sight → ℕ
+early_wrong s = sum_over s (early_result s)
+
+-- TASK VALUES
+
+abbrev owned_task : (ℕ → ℕ) → Owned → ℕ
+owned_task f (owned.Task t) = f t
+owned_task f v = 0
+
+abbrev released_task : (ℕ → ℕ) → Released → ℕ
+released_task f (released.Mutex m) = 0
+released_task f (released.Task t) = f t
+
+abbrev message_task : (ℕ → ℕ) → Message → ℕ
+message_task f (Release x) = released_task f x
+message_task f m = 0
+
+-- the threads that a thing names by a task value or a `release`, with a weight
+abbrev tasks : (ℕ → ℕ) → Thing → ℕ
+tasks f (holds p v) = owned_task f v
+tasks f (lies s a c) = owned_task f c.value
+tasks f (flies w c) = owned_task f c.value
+tasks f (sent s m) = message_task f m
+tasks f x = 0
+
+abbrev named_by : Sight → ℕ → ℕ
+named_by s t = sum_over s (tasks_of t)
+
+-- a thread is named by at most one task value or `release` message, in the places that own
+abbrev pub tasks_wrong : Sight → ℕ
+tasks_wrong s = sum_over s (tasks (λ t. other (nat_le (named_by s t) 1)))
+
+abbrev is_task : ℕ → Option ℕ → Bool
+is_task t None = false
+is_task t (Some u) = t == u
+
+-- the result of that thread is the gift of a join
+abbrev pub gift_result : Sight → ℕ → Standing → ℕ
+gift_result s t x = if_so (is_some x.thread.gift) (one (is_task t (joined_thread (instr_of s x) x.thread)))
+
+abbrev joined_of : ℕ → Message → ℕ
+joined_of t (Joined u v by) = one (u == t)
+joined_of t m = 0
+
+abbrev joined_in : ℕ → Thing → ℕ
+joined_in t (sent s m) = joined_of t m
+joined_in t x = 0
+
+-- the join that took its result isn't done
+abbrev being_joined : Sight → ℕ → ℕ
+being_joined s t = sum_over s (joined_in t) + sum_threads s (gift_result s t)
+
+abbrev owes : TaskState → Bool
+owes going = true
+owes (kept v) = true
+owes (asked s t) = true
+owes x = false
+
+abbrev owed_at : ℕ → Thing → ℕ
+owed_at t (noted r x) = one (x.thread == t && owes x.state)
+owed_at t x = 0
+
+abbrev unnamed_note : Sight → ℕ → TaskState → ℕ
+unnamed_note s t x = if_so (owes x) (other (some (named_by s t)))
+
+abbrev unnamed_message : Sight → Message → ℕ
+unnamed_message s (Joined t v by) = other (some (named_by s t))
+unnamed_message s m = 0
+
+abbrev unnamed : Sight → Thing → ℕ
+unnamed s (noted r x) = unnamed_note s x.thread x.state
+unnamed s (sent r m) = unnamed_message s m
+unnamed s x = 0
+
+-- it is named by one exactly where its home has it as going, as asked or with its result, or where the join that took its result isn't done.
+-- (A gift's join has its task as operand)
+abbrev pub owed_wrong : Sight → ℕ
+owed_wrong s = sum_over s (unnamed s) + sum_over s (tasks (λ t. other (some (sum_over s (owed_at t) + being_joined s t))))
+
+-- RESULTS
+
+abbrev kept_note : TaskState → ℕ
+kept_note (kept v) = 1
+kept_note (in_pair t over) = one over
+kept_note x = 0
+
+abbrev result_noted : ℕ → Thing → ℕ
+result_noted t (noted r x) = if_so (x.thread == t) (kept_note x.state)
+result_noted t x = 0
+
+abbrev pub got_phase : ℕ → Phase → ℕ
+got_phase t (phase.GotPar a b) = one (a == t) + one (b == t)
+got_phase t p = 0
+
+abbrev got_par : ℕ → Standing → ℕ
+got_par t x = got_phase t x.thread.phase
+
+-- the places of a thread's result: kept, or noted as over in its pair; in a `finished` or `joined` message; a gift; the phase `GotPar` of its parent
+abbrev pub results_of : Sight → ℕ → ℕ
+results_of s t = sum_over s (result_noted t) + sum_over s (finished t) + being_joined s t + sum_threads s (got_par t)
+
+abbrev two_results : Sight → Standing → ℕ
+two_results s x = other (nat_le (results_of s x.thread.number) 1)
+
+-- each ended thread's result stands in one place or was taken or let go once
+abbrev pub results_wrong : Sight → ℕ
+results_wrong s = sum_threads s (two_results s)
+
+abbrev is_ended : Option Standing → Bool
+is_ended None = false
+is_ended (Some x) = is_over x.thread.phase
+
+abbrev has_ended : Sight → ℕ → Bool
+has_ended s t = is_ended (thread_at s.ground.threads t)
+
+abbrev got_pair : Sight → Phase → ℕ
+got_pair s (phase.GotPar a b) = other (((not (a == b) && has_ended s a) && has_ended s b) && not (some (named_by s a + named_by s b)))
+got_pair s p = 0
+
+-- the two threads of `GotPar(a, b)` differ, have ended and are named by no task value
+abbrev pub got_pairs_wrong : Sight → ℕ
+got_pairs_wrong s = sum_threads s (λ x. got_pair s x.thread.phase)
+
+abbrev unended_message : Sight → Message → ℕ
+unended_message s (Joined t v by) = other (has_ended s t)
+unended_message s m = 0
+
+abbrev unended : Sight → Thing → ℕ
+unended s (sent r m) = unended_message s m
+unended s x = 0
+
+abbrev unended_task : Sight → Option ℕ → ℕ
+unended_task s None = 0
+unended_task s (Some t) = other (has_ended s t)
+
+abbrev unended_gift : Sight → Standing → ℕ
+unended_gift s x = if_so (is_some x.thread.gift) (unended_task s (joined_thread (instr_of s x) x.thread))
+
+-- the thread whose result a `joined` message carries, or whose result is the gift at a `Join`, has ended
+abbrev pub joined_wrong : Sight → ℕ
+joined_wrong s = sum_over s (unended s) + sum_threads s (unended_gift s)
+
+abbrev is_kept : TaskState → Bool
+is_kept (kept v) = true
+is_kept x = false
+
+abbrev noted_nobody : Sight → Thing → ℕ
+noted_nobody s (noted r x) = other (is_some (thread_at s.ground.threads x.thread) || is_kept x.state)
+noted_nobody s x = 0
+
+-- what a home records names threads that stand somewhere or whose result it keeps. (A counted thread that stands nowhere is ended and taken)
+abbrev pub recorded_wrong : Sight → ℕ
+recorded_wrong s = sum_over s (noted_nobody s)

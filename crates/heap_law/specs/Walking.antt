@@ -1,0 +1,242 @@
+-- WALKS AND USERS: what a thread in the middle of a step has made ready, and which cached words are in use (this project's rules).
+-- Each function counts what breaks the sentence above it.
+use Rattle.std.specs.Prelude.{ℕ, zero, suc, ◌+◌, ◌==◌, nat_lt, nat_le, Bool, true, false, not, ◌&&◌, ◌||◌, List, [], ◌∷◌, ◌++◌, length, Option, Some, None, slice_get}
+use Rattle.fr_base.specs.declared.place.Lval.{Lval}
+use Rattle.fr_base.specs.declared.instruction.Instr.{Instr}
+use Rattle.fr_base.specs.declared.instruction.Instr.TheVariants as instr
+use Rattle.global_addr.specs.Words.{server_of}
+use Rattle.heap_partition.specs.declared.value.Owned.{Owned}
+use Rattle.heap_partition.specs.declared.value.Owned.TheVariants as owned
+use Rattle.thread_state.specs.View.{ThreadView}
+use Rattle.thread_state.specs.declared.value.Value.{Value}
+use Rattle.thread_state.specs.declared.value.Value.TheVariants as value
+use Rattle.thread_state.specs.declared.phase.Phase.{Phase}
+use Rattle.thread_state.specs.declared.phase.Phase.TheVariants as phase
+use Rattle.server_msgs.specs.declared.message.Message.{Message}
+use Rattle.server_msgs.specs.declared.message.Message.TheVariants.{Fetch, Move}
+use Rattle.heap_law.specs.Names.{tot, one, other, if_so, some, is_in}
+use Rattle.heap_law.specs.Things.{Location, Thing, copied, uses, sent}
+use Rattle.heap_law.specs.Follow.{Standing, Ground, locate, value_behind, hop_at}
+use Rattle.heap_law.specs.Sight.{Sight, is_stale}
+use Rattle.heap_law.specs.Weights.{lies_at, copies, cached, uses_of}
+use Rattle.heap_law.specs.Paths.{Path, no_path, lends, writes, ends, path_of, written_place, Awaited, awaited, followed, first_unreadable}
+use Rattle.heap_law.specs.Placing.{sum_over}
+
+-- the sum over all threads, those in parcels too
+abbrev pub sum_threads : Sight → (Standing → ℕ) → ℕ
+sum_threads s f = tot f s.ground.threads
+
+abbrev pub instr_of : Sight → Standing → Option Instr
+instr_of s x = slice_get s.code x.thread.pc
+
+abbrev pub path : Sight → Standing → Path
+path s x = path_of (instr_of s x) x.thread
+
+-- THE HOPS OF A WRITE
+
+-- the sum over the first so many hops of a place, with the location of each hop's pointer
+abbrev over_hops : Ground → ℕ → ℕ → (Option Location → Option Value → ℕ) → ℕ → ℕ
+over_hops g t slot f zero = 0
+over_hops g t slot f (suc n) = f (locate g t slot n) (value_behind g (locate g t slot n)) + over_hops g t slot f n
+
+abbrev over_place : Ground → ℕ → ℕ → (Option Location → Option Value → ℕ) → Option Lval → ℕ
+over_place g t n f None = 0
+over_place g t n f (Some w) = over_hops g t w.slot f n
+
+-- the sum over the hops of a thread's write that are passed; a thread that doesn't write has none
+abbrev over_passed : Sight → (ℕ → Option Location → Option Value → ℕ) → Standing → ℕ
+over_passed s f x = over_place s.ground x.thread.number x.thread.passed (f x.server) (written_place (path s x))
+
+-- the objects of the first `passed` hops of a thread's write lie at its server
+abbrev away : Sight → ℕ → Option Location → Option Value → ℕ
+away s r l (Some (value.Own (owned.Box p))) = other (some (tot (lies_at r p.object) s.things))
+away s r l (Some (value.Mut q)) = other (some (tot (lies_at r q.object) s.things))
+away s r l (Some (value.SharedSlot i)) = 0
+away s r l (Some (value.MutSlot i)) = 0
+away s r l v = 1
+
+abbrev pub passed_wrong : Sight → ℕ
+passed_wrong s = sum_threads s (over_passed s (away s))
+
+-- for each of these hops over a box, no copy of its word exists, cached or in a message
+abbrev copied_box : Sight → ℕ → Option Location → Option Value → ℕ
+copied_box s r l (Some (value.Own (owned.Box p))) = tot (copies p.word) s.things
+copied_box s r l v = 0
+
+abbrev pub passed_boxes_wrong : Sight → ℕ
+passed_boxes_wrong s = sum_threads s (over_passed s (copied_box s))
+
+-- each of these hops over a mutable reference is over one that isn't stale
+abbrev stale_hop : Sight → ℕ → Option Location → Option Value → ℕ
+stale_hop s r l (Some (value.Mut q)) = one (is_stale s.stale l)
+stale_hop s r l v = 0
+
+abbrev pub passed_references_wrong : Sight → ℕ
+passed_references_wrong s = sum_threads s (over_passed s (stale_hop s))
+
+abbrev in_walk : Phase → Bool
+in_walk (phase.WaitCell w) = true
+in_walk phase.Got = true
+in_walk (phase.Taken w) = true
+in_walk p = false
+
+-- `passed` is 0 outside the phases `WaitCell`, `Got` and `Taken`
+abbrev early : Standing → ℕ
+early x = one (not (in_walk x.thread.phase) && not (x.thread.passed == 0))
+
+abbrev pub passed_phase_wrong : Sight → ℕ
+passed_phase_wrong s = sum_threads s early
+
+abbrev hop_count : Option Lval → ℕ
+hop_count None = 0
+hop_count (Some w) = w.depth
+
+-- `passed` is never above the number of hops of that write
+abbrev too_far : Sight → Standing → ℕ
+too_far s x = other (nat_le x.thread.passed (hop_count (written_place (path s x))))
+
+abbrev pub passed_count_wrong : Sight → ℕ
+passed_count_wrong s = sum_threads s (too_far s)
+
+abbrev walks_not : Phase → Bool
+walks_not phase.Ready = true
+walks_not (phase.WaitJoin t) = true
+walks_not (phase.WaitPar a b) = true
+walks_not (phase.GotPar a b) = true
+walks_not phase.Over = true
+walks_not p = false
+
+-- the walk is empty in the phases `Ready`, `WaitJoin`, `WaitPar`, `GotPar` and `Over`
+abbrev still_walks : Standing → ℕ
+still_walks x = if_so (walks_not x.thread.phase) (length x.thread.walk)
+
+abbrev pub walk_phase_wrong : Sight → ℕ
+walk_phase_wrong s = sum_threads s still_walks
+
+abbrev is_ready : Phase → Bool
+is_ready phase.Ready = true
+is_ready p = false
+
+-- a parcel is in phase `Ready`
+abbrev busy_parcel : Standing → ℕ
+busy_parcel x = if_so x.packed (other (is_ready x.thread.phase))
+
+abbrev pub parcels_wrong : Sight → ℕ
+parcels_wrong s = sum_threads s busy_parcel
+
+-- A FOLLOWED PLACE
+
+abbrev pinned_word : Bool → ℕ → List ℕ → List ℕ
+pinned_word true w ws = w ∷ ws
+pinned_word false w ws = ws
+
+abbrev pinned_words : List Value → List ℕ
+pinned_words [] = []
+pinned_words (value.Shared r ∷ vs) = pinned_word r.pinned r.word (pinned_words vs)
+pinned_words (v ∷ vs) = pinned_words vs
+
+-- the words that a thread keeps cached: those of its walk and of its pinned references
+abbrev kept_words : ThreadView → List ℕ
+kept_words t = t.walk ++ pinned_words t.slots ++ pinned_words t.temps
+
+abbrev kept_at : ℕ → List ℕ → ℕ → ℕ
+kept_at r kept w = other ((server_of w == r) || is_in w kept)
+
+-- a pointer to an object that is followed leads to an object here or to a copy that the thread keeps
+abbrev loose_hop : ℕ → List ℕ → Option Value → ℕ
+loose_hop r kept (Some (value.Own (owned.Box p))) = kept_at r kept p.word
+loose_hop r kept (Some (value.Shared q)) = kept_at r kept q.word
+loose_hop r kept (Some (value.Mut q)) = kept_at r kept q.word
+loose_hop r kept v = 0
+
+abbrev is_pull : List Awaited → ℕ → Bool
+is_pull [] w = false
+is_pull (a ∷ []) w = a.comes && a.word == w
+is_pull (a ∷ b ∷ rest) w = is_pull (b ∷ rest) w
+
+abbrev has_gift_there : Option Owned → Option Instr → Bool
+has_gift_there (Some v) (Some (instr.Lock w)) = true
+has_gift_there (Some v) (Some (instr.Dup w)) = true
+has_gift_there v i = false
+
+abbrev waits_for_lent : Sight → Standing → Path → ℕ → Bool
+waits_for_lent s x (lends p) w = is_pull (awaited s.ground x.thread.number (lends p)) w
+waits_for_lent s x p w = false
+
+abbrev has_followed : Sight → Standing → Phase → Bool
+has_followed s x (phase.WaitLock m) = true
+has_followed s x (phase.WaitDup m) = true
+has_followed s x (phase.Taken w) = true
+has_followed s x (phase.WaitCell w) = waits_for_lent s x (path s x) w
+has_followed s x p = has_gift_there x.thread.gift (instr_of s x)
+
+-- a thread has followed its place where it is in phase `WaitLock`, `WaitDup` or `Taken`, or has a gift at a `Lock` or `Dup`, or is in `WaitCell`
+-- for the pull of the object of its `BorrowMut`. Each pointer to an object that this place follows, in a `BorrowMut` all but the last, leads
+-- to an object at its server or to a copy that its walk or a pinned reference of it keeps
+abbrev lost_place : Sight → Standing → ℕ
+lost_place s x = if_so (has_followed s x x.thread.phase) (tot (loose_hop x.server (kept_words x.thread)) (followed s.ground x.thread.number (path s x)))
+
+abbrev pub followed_wrong : Sight → ℕ
+followed_wrong s = sum_threads s (lost_place s)
+
+-- WHAT A WALK WAITS FOR
+
+abbrev is_awaited : ℕ → Option Awaited → Bool
+is_awaited w None = false
+is_awaited w (Some a) = a.word == w
+
+-- the pointer of that star, from 0, has the word
+abbrev is_hop_word : ℕ → Option Value → Bool
+is_hop_word w (Some (value.Own (owned.Box p))) = p.word == w
+is_hop_word w (Some (value.Mut r)) = r.word == w
+is_hop_word w v = false
+
+abbrev is_next_hop : Sight → Standing → ℕ → Lval → Bool
+is_next_hop s x w p = nat_lt x.thread.passed p.depth && is_hop_word w (hop_at s.ground x.thread.number p x.thread.passed)
+
+abbrev waits_in_turn : Sight → Standing → ℕ → Path → ℕ
+waits_in_turn s x w no_path = 0
+waits_in_turn s x w (writes p) = other (is_next_hop s x w p)
+waits_in_turn s x w (ends r) = other (r.word == w || is_next_hop s x w r.holder)
+waits_in_turn s x w p = other (is_awaited w (first_unreadable (kept_words x.thread) x.server (awaited s.ground x.thread.number p)))
+
+abbrev out_of_turn : Sight → Standing → Phase → ℕ
+out_of_turn s x (phase.WaitCell w) = waits_in_turn s x w (path s x)
+out_of_turn s x p = 0
+
+-- a write that waits for a pull waits for the object of its first hop that isn't passed, or for that of the reference that it ends; a read
+-- waits for its first hop that is neither here nor in a copy that the thread keeps. (A copy under the word that it waits for may have come here for
+-- another thread in the meantime)
+abbrev pub turn_wrong : Sight → ℕ
+turn_wrong s = sum_threads s (λ x. out_of_turn s x x.thread.phase)
+
+abbrev asks_itself : Message → ℕ
+asks_itself (Fetch w o r t) = one (server_of w == r)
+asks_itself (Move w o r t) = one (server_of w == r)
+asks_itself m = 0
+
+-- no request for an object goes to the thread's own server
+abbrev own_request : Thing → ℕ
+own_request (sent r m) = asks_itself m
+own_request x = 0
+
+abbrev pub own_requests_wrong : Sight → ℕ
+own_requests_wrong s = sum_over s own_request
+
+-- USERS
+
+-- the users of a cached word are the pinned references and the walks of the threads at that server that have this word
+abbrev other_users : Sight → Thing → ℕ
+other_users s (copied r c) = other (tot (uses_of r c.word) s.things == c.users)
+other_users s x = 0
+
+abbrev pub users_wrong : Sight → ℕ
+users_wrong s = sum_over s (other_users s)
+
+-- each pinned reference's word and each word of a walk is cached at its server
+abbrev uncached : Sight → Thing → ℕ
+uncached s (uses r w) = other (some (tot (cached r w) s.things))
+uncached s x = 0
+
+abbrev pub uncached_wrong : Sight → ℕ
+uncached_wrong s = sum_over s (uncached s)

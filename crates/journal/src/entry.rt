@@ -1,0 +1,15 @@
+//! What one event leaves in the journal.
+
+use crate::acts::Acts;
+use fr_base::{Fresh, Labels, ThreadNo};
+
+/// One event of a server, whole: the server, the thread (of a step and of a migration alone), the new names of the plain step
+/// where the event did one, the acts in the order in which they were done, and the labels of the plain step.
+#[derive(Debug, Drop)]
+pub struct Entry {
+    pub server: u8,
+    pub thread: Option<ThreadNo>,
+    pub done: Option<Fresh>,
+    pub acts: Acts,
+    pub labels: Labels,
+}

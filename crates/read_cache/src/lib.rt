@@ -1,0 +1,7 @@
+//! The cached copies of one server, each under the word that it was served for, with how many use it (in the manner of DRust, OSDI
+//! 2024; the rules are this project's). So far the definitions alone.
+#![tactic(auto)]
+
+mod laws;
+
+pub use laws::cache_computes;

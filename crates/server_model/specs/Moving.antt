@@ -1,0 +1,42 @@
+-- A thread leaves for another server (this project's rules): it takes no use of a cached copy along.
+use Rattle.std.specs.Prelude.{ℕ, Bool, true, false, List, [], ◌∷◌, ◌++◌, Option, map, option_map}
+use Rattle.read_cache.specs.Cache.{Copy}
+use Rattle.mut_borrow.specs.declared.shared.SharedRef.{SharedRef}
+use Rattle.thread_state.specs.View.{ThreadView}
+use Rattle.thread_state.specs.declared.value.Value.{Value}
+use Rattle.thread_state.specs.declared.value.Value.TheVariants as value
+use Rattle.server_msgs.specs.declared.message.Message.TheVariants as message
+use Rattle.journal.specs.declared.act.Act.TheVariants as act
+use Rattle.server_model.specs.Work.{Work, send, note, with_cache, take_up, then_some, unpin_all}
+use Rattle.server_model.specs.Start.{copied}
+
+-- the word that a reference keeps in use
+abbrev pub pinned_word : SharedRef → Bool → List ℕ → List ℕ
+pinned_word r true ws = r.word ∷ ws
+pinned_word r false ws = ws
+
+-- the words whose copies the references among these values keep in use
+abbrev pub pinned_words : List Value → List ℕ
+pinned_words [] = []
+pinned_words (value.Shared r ∷ vs) = pinned_word r r.pinned (pinned_words vs)
+pinned_words (v ∷ vs) = pinned_words vs
+
+-- all the uses of a thread
+abbrev pub used_words : ThreadView → List ℕ
+used_words t = t.walk ++ pinned_words t.slots ++ pinned_words t.temps
+
+-- the thread with an empty walk and without a pinned reference
+abbrev pub packed : ThreadView → ThreadView
+packed t = record t { walk = []; slots = map copied t.slots; temps = map copied t.temps }
+
+-- a thread as a parcel, and the copies after its uses of them have ended; None where one of them has no user
+abbrev pub pack_thread : ThreadView → List Copy → Option (ThreadView × List Copy)
+pack_thread t cs = option_map (λ left. (packed t, left)) (unpin_all (used_words t) cs)
+
+-- the parcel goes to that server
+abbrev pub sent_off : ℕ → Work → ThreadView × List Copy → Work
+sent_off target w p = send target (message.Migrate p.0) (note (act.Depart p.0.number target) (with_cache p.1 w))
+
+-- the thread leaves for that server; it is noted that it has moved since its last step
+abbrev pub migrate : ℕ → ℕ → Work → Option Work
+migrate t target w = then_some (take_up w t) (λ h. option_map (sent_off target h.work) (pack_thread (record h.thread { moved_since_step = true }) h.work.server.cache))

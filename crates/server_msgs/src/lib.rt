@@ -1,0 +1,8 @@
+//! The messages that servers send each other. Each goes from one server to one server, and only its kind is counted.
+#![tactic(auto)]
+
+mod message;
+#[cfg(test)]
+mod tests;
+
+pub use message::Message;
