@@ -19,8 +19,6 @@ pub mod StepFacts
 pub mod EntryLemmas
 pub mod StandLemmas
 pub mod PoolLemmas
-pub mod OneThread
-pub mod PoolLaws
 pub mod ExampleLemmas
 pub mod StartLemmas
 pub mod NodeLemmas

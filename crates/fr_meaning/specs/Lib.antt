@@ -13,6 +13,5 @@ pub mod PoolView
 pub mod Entries
 pub mod Running
 pub mod PoolInside
-pub mod MainAlone
 pub mod Forming
 pub mod Resolved
