@@ -166,91 +166,167 @@ breaches k n = breaches_in k (sight k) n
 abbrev pub Holds : Cluster → Sentence → Type 0
 Holds k n = breaches k n ≡ 0
 
+-- ONE HOME
 pub record OneHome (k : Cluster) : Type 0 where
+  -- each live object is the cell of exactly one address of one partition, or of exactly one `moved` message
   pub home_of_each : Holds k home_of_each
 
+-- ONE OWNER: copies and references own nothing
 pub record OneOwner (k : Cluster) : Type 0 where
+  -- each live object is named by exactly one box in a place that owns, or by exactly one `drop` message
   pub owner_of_each : Holds k owner_of_each
+  -- each box in a place that owns and each `drop` message names a live object
   pub owned_are_live : Holds k owned_are_live
 
+-- WORDS
 pub record Words (k : Cluster) : Type 0 where
+  -- every word that stands anywhere was issued
   pub are_issued : Holds k are_issued
+  -- every word that stands anywhere has a colour below `colours`, and so is the next colour of a free address
   pub below_limit : Holds k below_limit
+  -- all pointers to an object that aren't stale have the same word
   pub same_word : Holds k same_word
+  -- where the object doesn't fly, its word's server and address are its home
   pub lead_home : Holds k lead_home
+  -- a free or retired address has no live object: each address has one state
   pub one_state : Holds k one_state
+  -- the `first` of a mutable reference is the word at its holder, and that pointer is to the same object
   pub first_at_holder : Holds k first_at_holder
+  -- different live objects have different words
   pub different_words : Holds k different_words
+  -- a dirty reference that isn't stale is no holder of a mutable one, and no shared reference or view leads to its object
   pub dirty_alone : Holds k dirty_alone
 
+-- COPIES
 pub record Copies (k : Cluster) : Type 0 where
+  -- a copy under the word of a live object, without a dirty reference that isn't stale, is its present cell, words included
   pub copies_agree : Holds k copies_agree
+  -- the word of a `fetch` or `fetched` is such a word of a live object
   pub served_are_clean : Holds k served_are_clean
 
+-- WALKS
 pub record Walks (k : Cluster) : Type 0 where
+  -- the objects of the hops of a write that are passed lie at its server
   pub passed_lie_here : Holds k passed_lie_here
+  -- for each of these hops over a box no copy of its word exists, cached or in a message
   pub passed_not_copied : Holds k passed_not_copied
+  -- each of these hops over a mutable reference is over one that isn't stale
   pub passed_not_stale : Holds k passed_not_stale
+  -- `passed` is 0 outside the phases `WaitCell`, `Got` and `Taken`
   pub passed_in_a_walk : Holds k passed_in_a_walk
+  -- `passed` is never above the number of hops of that write
   pub passed_within : Holds k passed_within
+  -- the walk is empty in the phases `Ready`, `WaitJoin`, `WaitPar`, `GotPar` and `Over`
   pub walk_empty : Holds k walk_empty
+  -- a parcel is in phase `Ready`
   pub parcels_ready : Holds k parcels_ready
+  -- what a place has been followed over leads to an object here or to a copy that the thread keeps
   pub place_followed : Holds k place_followed
+  -- a write waits for its first hop that isn't passed or the reference that it ends, a read for its first hop that isn't readable
   pub waits_in_turn : Holds k waits_in_turn
+  -- no request for an object goes to the thread's own server
   pub asks_others : Holds k asks_others
 
+-- USERS
 pub record Users (k : Cluster) : Type 0 where
+  -- the users of a cached word are the walks and pinned references there that have it
   pub users_counted : Holds k users_counted
+  -- each word of a walk or a pinned reference is cached at its server
   pub uses_cached : Holds k uses_cached
 
+-- REQUESTS
 pub record Requests (k : Cluster) : Type 0 where
+  -- each waiting thread has exactly one message, queue place or noted asker that will answer it
   pub one_answer : Holds k one_answer
+  -- none of these answers a thread that doesn't wait
   pub asked_answers : Holds k asked_answers
+  -- what will answer a thread carries, or is kept for, what its phase names
   pub carry_what_is_asked : Holds k carry_what_is_asked
+  -- a message goes to the server that it is for, and that server is of the run
   pub go_right : Holds k go_right
+  -- an answer goes to the server of the thread that it answers
   pub return_right : Holds k return_right
+  -- the server and thread in a request, a queue place or a noted asker are those of the thread that waits
   pub askers_stand : Holds k askers_stand
+  -- `WaitLock`, `WaitDup` and `WaitJoin` stand at their instructions, with their mutex at the place or their thread as operand
   pub phases_stand : Holds k phases_stand
+  -- a thread is at a `ParEnd` exactly in the phases `WaitPar` and `GotPar`
   pub par_ends : Holds k par_ends
+  -- in `WaitPar(a, b)` these are the thread's pair at its server, and not both are noted as over
   pub pairs_noted : Holds k pairs_noted
+  -- `WaitCell(w)` has the word of a pointer that is followed or ended; a copy is asked for where it is read, else the object
   pub cells_awaited : Holds k cells_awaited
+  -- `Taken(w)` stands at a `BorrowMut`; w is the word of the object at its place, which lies at the thread's server
   pub taken_stands : Holds k taken_stands
+  -- in `Taken(w)` the pointer that the place follows last has another word than w
   pub taken_is_new : Holds k taken_is_new
+  -- a gift stands in phase `Got` alone
   pub gifts_got : Holds k gifts_got
+  -- a gift stands at a `Lock`, a `Dup` or a `Join` alone, and is what that instruction takes
   pub gifts_fit : Holds k gifts_fit
 
+-- MUTEXES AND TASKS
 pub record MutexesAndTasks (k : Cluster) : Type 0 where
+  -- each mutex that is named anywhere but in a copy is there, at the server of its number
   pub named_are_there : Holds k named_are_there
+  -- no mutex is there at another server than that of its number
   pub at_their_home : Holds k at_their_home
+  -- each mutex's content stands in one place
   pub one_content : Holds k one_content
+  -- a mutex's shares are its values in the places that own, its `release` messages and its dups answered but not yet taken
   pub shares_counted : Holds k shares_counted
+  -- no thread is queued while the content is at the home
   pub queue_while_out : Holds k queue_while_out
+  -- a mutex without a share has its content out of its home
   pub content_without_shares : Holds k content_without_shares
+  -- each thread's `home` is the server of its number
   pub thread_homes : Holds k thread_homes
+  -- the threads that a home has as going, let go, asked or in a pair and not over are those that it started and that go on or whose `finished` waits
   pub noted_go_on : Holds k noted_go_on
+  -- a result is kept at its thread's home alone
   pub kept_at_home : Holds k kept_at_home
+  -- no result is kept or in a `finished` message for main, or for a thread that isn't over
   pub results_after_end : Holds k results_after_end
+  -- a thread is named by at most one task value or `release`
   pub one_task_value : Holds k one_task_value
+  -- it is named by one exactly where its home has it as going, as asked or with its result, or its join isn't done
   pub task_values_owed : Holds k task_values_owed
+  -- each ended thread's result stands in one place or was taken or let go
   pub one_result : Holds k one_result
+  -- the threads of `GotPar(a, b)` differ, have ended and are named by no task value
   pub pairs_ended : Holds k pairs_ended
+  -- the thread whose result is in a `joined` message or a gift at a `Join` has ended
   pub joined_ended : Holds k joined_ended
+  -- what a home records names threads that stand somewhere or whose result it keeps
   pub recorded_stand : Holds k recorded_stand
 
+-- what can be counted of TYPES
 pub record Rooted (k : Cluster) : Type 0 where
+  -- a thread that is over stands at its `End` and has no slot, no temporary value and no gift
   pub over_are_bare : Holds k over_are_bare
+  -- no object, no mutex's content and no result owns itself, directly or through others
   pub none_owns_itself : Holds k none_owns_itself
+  -- going from each branch to the parent that waits for it comes to an end
   pub parents_end : Holds k parents_end
+  -- a `finished` message of a thread of a pair carries unit
   pub branches_give_unit : Holds k branches_give_unit
 
+-- NAMES
 pub record Names (k : Cluster) : Type 0 where
+  -- no two threads or parcels have the same number
   pub numbers_differ : Holds k numbers_differ
+  -- the number of each object is below the `made` of the thread that made it, where that thread isn't over
   pub objects_made : Holds k objects_made
+  -- the count of each thread and mutex that is named anywhere is at most the count that its server has reached
   pub names_counted : Holds k names_counted
+  -- no such count and no `made` is above twice the number of events
   pub few_names : Holds k few_names
+  -- no next address and no number of retired addresses, of users or of shares is above 16 times it
   pub counts_bounded : Holds k counts_bounded
 
+-- what the types of the servers' parts keep
 pub record Parts (k : Cluster) : Type 0 where
+  -- the servers are those of the run, and each part is one of its type
   pub parts_are_typed : Holds k parts_are_typed
 
 -- a cluster keeps all that can be counted. That is coherence but for the part on types, of which `rooted` is what can be counted: that each thread's
