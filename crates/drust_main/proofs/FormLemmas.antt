@@ -26,7 +26,7 @@ part_of Replay at o h = (refl, h)
 
 mutual
   -- a term without a form that is not accepted is one of several threads' forms
-  threads_by : (c : Command) (t : terms.Term) → later_form c t ≡ None → IsThreaded t
+  pub threads_by : (c : Command) (t : terms.Term) → later_form c t ≡ None → IsThreaded t
   threads_by c (block_t at items) h = threads_all c items h
   threads_by c (let_t at name value) h = threads_by c value h
   threads_by c (assign_t at to value) h = threads_by c value h

@@ -19,7 +19,7 @@ fn answer(alloc: Global, input: &[u8]) -> Result<Result<Checked, CheckError>, Fa
     }
     let tokens = tokens(alloc, input)?;
     let tree = parse(alloc, &tokens)?;
-    if later_form(Command::Replay, &tree).is_some() {
+    if let Some(_) = later_form(Command::Replay, &tree) {
         return Ok(Err(CheckError::NoMemory));
     }
     Ok(check(alloc, tree))
