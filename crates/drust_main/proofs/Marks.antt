@@ -1,5 +1,5 @@
 -- Where a source ends.
-use Rattle.std.proofs.Common.{◌≡◌, ℕ, zero, suc, ◌+◌, ◌<◌, length, Option, Some, None, Bool, true, false, not, cond, List, [], ◌∷◌, drop, refl, ap₂, sym, ap, ◌∙◌, subst, arith}
+use Rattle.std.proofs.Common.{◌≡◌, ℕ, zero, suc, ◌+◌, ◌<◌, length, Some, None, Bool, true, false, not, cond, List, [], ◌∷◌, drop, refl, ap₂, sym, ap, ◌∙◌, subst, arith}
 use Rattle.std.specs.Prelude.{◌==◌, slice_get}
 use Rattle.fr_terms.specs.Terms.{Term}
 use Rattle.std.proofs.lemmas.Bool.{eqb-true}

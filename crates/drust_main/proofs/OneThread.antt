@@ -1,6 +1,6 @@
 -- The main thread alone: it steps until it has ended, and no other thread is there.
 use Rattle.std.proofs.Common.{◌≡◌, ◌≢◌, ℕ, zero, suc, Bool, true, false, List, [], ◌∷◌, Option, Some, None, inl, inr, refl, sym, ap, ◌∙◌, subst}
-use Rattle.std.specs.Prelude.{⊤, ◌⊎◌, ◌==◌, ◌||◌, ◌&&◌, is_some, option_map, if◌then◌else◌}
+use Rattle.std.specs.Prelude.{⊤, ◌⊎◌, ◌||◌, ◌&&◌, is_some, option_map, if◌then◌else◌}
 use Rattle.fr_base.specs.declared.step.Fresh.TheVariants as fresh
 use Rattle.fr_base.specs.declared.step.Wait.{Wait}
 use Rattle.fr_base.specs.declared.step.Ending3.{Ending3}
@@ -8,12 +8,12 @@ use Rattle.fr_base.specs.declared.step.Ending3.TheVariants as ending
 use Rattle.fr_typing.specs.Kinds.{Kind}
 use Rattle.fr_terms.specs.Terms.{Term, block_t}
 use Rattle.fr_plain.specs.declared.value.Value.{Value}
-use Rattle.fr_plain.specs.declared.value.Value.TheVariants.{Own, ToSlot, ToObject}
+use Rattle.fr_plain.specs.declared.value.Value.TheVariants.{Own}
 use Rattle.fr_base.specs.declared.label.Plain.TheVariants as plain
 use Rattle.fr_plain.specs.Acts.{Act, Did, do_let, do_read, do_borrow, do_assign, do_box, do_arith, do_print, do_discard, do_drop, do_end, do_spawn, do_join, do_finish, do_leave, act, lets_go}
-use Rattle.fr_plain.specs.Run.{Run, Move, Life, alive, over, owing, loose, ended, life_move}
+use Rattle.fr_plain.specs.Run.{Move, Life, alive, over, owing, loose, ended, life_move}
 use Rattle.fr_plain.specs.Threads.{released, released_in}
-use Rattle.fr_plain.specs.Whole.{Thread, Whole, Stepped, Refusal, has_ended, refused_wait, refused_names, refused_of, takes_name, is_over, waits_for, all_over, all_wait, thread_at, with_thread, let_threads_go, let_go, result_at, state_of, stepped, then_released, alone_stepped, joined_with, joined, done_act, moved, step_of, step, refused, start, ending_of}
+use Rattle.fr_plain.specs.Whole.{Thread, Whole, Stepped, Refusal, has_ended, refused_wait, refused_names, refused_of, takes_name, is_over, waits_for, all_over, all_wait, thread_at, with_thread, let_threads_go, result_at, state_of, stepped, then_released, joined_with, joined, done_act, moved, step_of, step, refused, start, ending_of}
 use Rattle.fr_plain.specs.Resolve.{program}
 use Rattle.fr_plain.proofs.RefusedSteps.{no_step}
 use Rattle.fr_sound.specs.NeverStuck.{IsTyped, Steps}

@@ -1,21 +1,19 @@
 -- The causes of a replay's answers exclude one another, and each leaves one text.
 use Rattle.std.proofs.Common.{◌≡◌, ℕ, ◌+◌, Bool, true, false, List, [], ◌∷◌, ◌++◌, length, Option, Some, None, refl, sym, ap, ap₂, ◌∙◌, subst, ◌⊎◌, inl, inr}
 use Rattle.std.specs.Prelude.{◌==◌}
-use Rattle.fr_base.specs.declared.step.Fresh.{Fresh}
 use Rattle.fr_terms.specs.Terms.{Term}
 use Rattle.fr_parse.proofs.Programs.{source_once}
 use Rattle.fr_plain.specs.Resolve.{program}
-use Rattle.fr_plain.specs.Whole.{Whole, Stepped, Turn, then_labels, go_on, run, start, plain, ending_of}
+use Rattle.fr_plain.specs.Whole.{Whole, Stepped, then_labels, go_on, run, start, plain, ending_of}
 use Rattle.journal.specs.declared.order.OrderLine.{OrderLine}
-use Rattle.journal.specs.OrderText.{IsOrder, IsRefused}
+use Rattle.journal.specs.OrderText.{IsOrder}
 use Rattle.journal.proofs.OneReading.{one_lines, one_fault, never_both}
 use Rattle.drust_main.specs.declared.words.Command.TheVariants.{Replay}
 use Rattle.drust_main.specs.declared.refused.Refused.{Refused}
 use Rattle.drust_main.specs.declared.refused.Refused.TheVariants.{Tokens, Grammar, Form, Fault, Order, NoMemory}
 use Rattle.drust_main.specs.Replay.{source_in, source_length, behind_source, order_start, turns, status_of_ending, replay_text, HasLines, HasOrder, Replays, IsNoStep, IsBadOrder, bad_line, bad_step, IsBadAfter, IsBadBehind, HasBadOrder}
 use Rattle.drust_main.specs.Refusals.{HasCause, HasReplayCause, status_of, text_of}
-use Rattle.drust_main.specs.Headline.{IsTyped, Replayed, followed, unfollowed}
-use Rattle.drust_main.specs.Runs.{Follows}
+use Rattle.drust_main.specs.Headline.{Replayed, followed, unfollowed}
 use Rattle.drust_main.proofs.Following.{run_append, turns_both}
 use Rattle.drust_main.proofs.Refusals.{one_cause}
 use Rattle.drust_main.proofs.Determined.{typed_unrefused}

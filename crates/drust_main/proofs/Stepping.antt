@@ -1,11 +1,11 @@
 -- Steps of the main thread, one after another.
-use Rattle.std.proofs.Common.{◌≡◌, ℕ, zero, suc, ◌+◌, ◌<◌, ◌≤◌, ◌^◌, List, [], ◌∷◌, ◌++◌, Option, Some, None, ℤ, length, refl, sym, ap, ◌∙◌, subst, add-one, arith}
+use Rattle.std.proofs.Common.{◌≡◌, ℕ, zero, suc, ◌+◌, ◌<◌, ◌≤◌, ◌^◌, List, [], ◌++◌, Option, Some, None, ℤ, length, refl, sym, ap, ◌∙◌, subst, add-one, arith}
 use Rattle.std.proofs.lemmas.List.{append-nil, append_assoc}
 use Rattle.fr_base.specs.declared.label.Label.{Label}
 use Rattle.fr_base.specs.declared.step.Fresh.TheVariants as fresh
 use Rattle.fr_base.specs.declared.step.Ending3.TheVariants as ending
-use Rattle.fr_plain.specs.Run.{Run, Life, over, alive, settle, life_left}
-use Rattle.fr_plain.specs.Whole.{Thread, Whole, Stepped, step, then_labels, go_on, run, start, main_steps, ending_of}
+use Rattle.fr_plain.specs.Run.{Run, alive, settle, life_left}
+use Rattle.fr_plain.specs.Whole.{Whole, Stepped, step, then_labels, go_on, run, start, main_steps, ending_of}
 use Rattle.fr_meaning.specs.PoolView.{View, whole_of, total_left, steps_left_of}
 use Rattle.fr_terms.specs.Terms.{Term}
 use Rattle.fr_plain.specs.Resolve.{program}

@@ -1,7 +1,7 @@
 -- THE HEADLINE: what the program answers. For every input that is the source of a typed program, what is written is the
 -- text of that program's run on one heap, to its end, or with an order behind it, that of its run under the order. Each other
 -- answer has its cause.
-use Rattle.std.specs.Prelude.{◌≡◌, ℕ, ◌<◌, ◌≤◌, ◌⊎◌, ⊤, List, [], length, take, codes, Option, Some, None}
+use Rattle.std.specs.Prelude.{◌≡◌, ℕ, ◌<◌, ◌≤◌, ◌⊎◌, ⊤, List, length, take, codes, Option, Some, None}
 use Rattle.fr_base.specs.declared.step.Ending3.TheVariants as ending
 use Rattle.fr_terms.specs.Terms.{Term}
 use Rattle.fr_plain.specs.Whole.{Stepped, plain, main_steps, ending_of}

@@ -1,6 +1,6 @@
 -- A source with an order behind it: the run of its program under that order, its text, and where the order is refused (this
 -- project's rules).
-use Rattle.std.specs.Prelude.{◌≡◌, ℕ, ◌+◌, ℤ, List, [], ◌∷◌, ◌++◌, Bool, true, false, not, ◌==◌, length, take, drop, Option, Some, None, codes, decimal}
+use Rattle.std.specs.Prelude.{◌≡◌, ℕ, ◌+◌, ℤ, List, [], ◌∷◌, ◌++◌, Bool, true, false, not, ◌==◌, length, take, drop, Some, None, codes, decimal}
 use Rattle.std.specs.List.{prefix_len}
 use Rattle.fr_base.specs.declared.step.Ending3.{Ending3}
 use Rattle.fr_base.specs.declared.step.Ending3.TheVariants as ending

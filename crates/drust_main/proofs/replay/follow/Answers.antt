@@ -1,7 +1,5 @@
-use Rattle.std.proofs.Common.{◌≡◌, ◌+◌, arith, sym, ◌∙◌, subst, Err, rules}
-use Rattle.std.specs.Prelude.{IfErr}
-use Rattle.fr_meaning.specs.PoolView.{whole_of, steps_left_of}
-use Rattle.drust_main.specs.Runs.{IsStoppedIn}
+use Rattle.std.proofs.Common.{arith, rules}
+use Rattle.fr_meaning.specs.PoolView.{whole_of}
 use Rattle.drust_main.proofs.Following.{line_more, steps_more, stops_in}
 use Rattle.drust_main.proofs.replay.follow.Goals as goal
 

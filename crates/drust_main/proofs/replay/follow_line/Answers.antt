@@ -1,6 +1,5 @@
-use Rattle.std.proofs.Common.{◌≡◌, ◌+◌, replicate, arith, refl, sym, ap, ◌∙◌, subst, List}
-use Rattle.fr_plain.specs.Whole.{Turn}
-use Rattle.fr_meaning.specs.PoolView.{whole_of, steps_left_of}
+use Rattle.std.proofs.Common.{◌≡◌, replicate, arith, sym, ap, ◌∙◌, subst}
+use Rattle.fr_meaning.specs.PoolView.{whole_of}
 use Rattle.drust_main.specs.Runs.{Follows}
 use Rattle.drust_main.proofs.Following.{follows_none, line_goes, line_stops, turns_one, no_step_by, line_is_stopped}
 use Rattle.drust_main.proofs.replay.follow_line.Goals as goal

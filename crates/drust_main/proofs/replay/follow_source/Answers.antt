@@ -1,14 +1,14 @@
-use Rattle.std.proofs.Common.{◌≡◌, ◌+◌, ◌≤◌, arith, sym, ap, ap₂, ◌∙◌, subst, ℕ, List, string_bytes, length, take, rules}
+use Rattle.std.proofs.Common.{◌≤◌, arith, subst, string_bytes, length, take, rules}
 use Rattle.std.proofs.lemmas.List.Folds.{length-prefix_len}
 use Rattle.std.proofs.lemmas.List.Sums.{prefix_len-le-length}
 use Rattle.fr_syntax.specs.Meanings.{term_of}
-use Rattle.fr_plain.specs.Whole.{start, ending_of}
+use Rattle.fr_plain.specs.Whole.{start}
 use Rattle.fr_plain.specs.Resolve.{program}
 use Rattle.fr_meaning.specs.PoolView.{whole_of}
-use Rattle.drust_main.specs.Replay.{is_of_source, source_in, source_length, turns, replay_text, status_of_ending}
+use Rattle.drust_main.specs.Replay.{is_of_source, source_in}
 use Rattle.drust_main.specs.declared.words.Command.TheVariants.{Replay}
 use Rattle.drust_main.specs.Headline.{IsTyped}
-use Rattle.drust_main.specs.Runs.{Follows, IsStoppedIn}
+use Rattle.drust_main.specs.Runs.{IsStoppedIn}
 use Rattle.drust_main.proofs.Stepping.{few_at_start}
 use Rattle.drust_main.proofs.Refusals.{unfollowed_order}
 use Rattle.drust_main.proofs.Following.{replays_to}

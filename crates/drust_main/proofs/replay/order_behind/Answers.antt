@@ -1,9 +1,9 @@
-use Rattle.std.proofs.Common.{◌≡◌, ◌+◌, Some, drop, arith, rules, sym, ap, ap₂, ◌∙◌, subst, List, ℕ}
+use Rattle.std.proofs.Common.{◌≡◌, ◌+◌, Some, drop, rules, sym, ap, ◌∙◌, subst}
 use Rattle.std.specs.Prelude.{slice_get}
 use Rattle.std.proofs.lemmas.Option.{slice_get-get_or}
 use Rattle.journal.specs.OrderText.{IsOrder}
 use Rattle.journal.specs.OrderList.{IsRefusedOrNoMemory}
-use Rattle.drust_main.specs.Replay.{source_length, behind_source, order_start}
+use Rattle.drust_main.specs.Replay.{order_start}
 use Rattle.drust_main.proofs.Marks.{marked, unordered_lines}
 use Rattle.drust_main.proofs.replay.order_behind.Goals as goal
 

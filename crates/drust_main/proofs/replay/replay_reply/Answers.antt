@@ -1,5 +1,5 @@
 use Rattle.std.proofs.Common.{string_bytes}
-use Rattle.drust_main.specs.Headline.{Replayed, followed}
+use Rattle.drust_main.specs.Headline.{followed}
 use Rattle.drust_main.proofs.Refusals.{unfollowed_by}
 use Rattle.drust_main.proofs.replay.replay_reply.Goals as goal
 

@@ -1,4 +1,4 @@
-use Rattle.std.proofs.Common.{◌≡◌, None, Some, sym, ◌∙◌, map, string_bytes, rules, arith}
+use Rattle.std.proofs.Common.{◌≡◌, None, Some, sym, ◌∙◌, map, string_bytes, rules}
 use Rattle.drust_main.specs.Words.{asked}
 use Rattle.drust_main.specs.Headline.{words_refused}
 use Rattle.drust_main.proofs.Replies.{size_refused}
