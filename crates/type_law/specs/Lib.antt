@@ -1,0 +1,3 @@
+pub mod CodeTypes
+pub mod CodeTable
+pub mod Codes
