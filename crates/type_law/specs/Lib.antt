@@ -1,3 +1,6 @@
 pub mod CodeTypes
 pub mod CodeTable
+pub mod Names
+pub mod States
+pub mod ClusterTypes
 pub mod Codes
