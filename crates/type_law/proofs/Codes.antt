@@ -11,7 +11,7 @@ use Rattle.type_law.specs.CodeTypes.{Table, Entry, going, IsAt, takes_const, tak
 use Rattle.type_law.specs.CodeTable.{Row, leads, ends, Rows, first, IsTable}
 use Rattle.type_law.specs.Codes.{boxed_table, moved_code, CodesCompute}
 
-boxed_is_typed : IsTable boxed_code boxed_table
+pub boxed_is_typed : IsTable boxed_code boxed_table
 boxed_is_typed = record {
   main = unit;
   starts = refl;

@@ -1,1 +1,4 @@
 mod Codes
+mod Numbers
+mod Start
+mod Boxed

@@ -4,3 +4,4 @@ pub mod Names
 pub mod States
 pub mod ClusterTypes
 pub mod Codes
+pub mod Typed
