@@ -186,7 +186,7 @@ boxed_has_types = record {
   agree = refl;
   forms = refl;
   locked = refl;
-  lead = λ i x e. record { slots = λ j v m w f g. absurd cc; temps = λ j v m w f g. absurd cc };
+  lead = refl;
   views = refl;
   parents = refl;
   ends = refl;

@@ -2,3 +2,4 @@ mod Codes
 mod Numbers
 mod Start
 mod Boxed
+mod Tables

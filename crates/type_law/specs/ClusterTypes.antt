@@ -1,6 +1,6 @@
 -- TYPES: the last part of coherent memory (Featherweight Rust's types over the things of a cluster; threads, mutexes and views are this project's).
 -- What can be counted is counted, as in the other parts: the number of things that break a sentence is 0.
-use Rattle.std.specs.Prelude.{◌≡◌, ℕ, suc, ◌+◌, ◌==◌, nat_lt, Bool, true, false, not, ◌&&◌, ◌||◌, List, [], ◌∷◌, reverse, Option, Some, None, is_some, slice_get}
+use Rattle.std.specs.Prelude.{◌≡◌, ℕ, zero, suc, ◌+◌, ◌==◌, nat_lt, Bool, true, false, not, ◌&&◌, ◌||◌, List, [], ◌∷◌, reverse, Option, Some, None, is_some, slice_get}
 use Rattle.fr_base.specs.declared.name.ObjNo.{ObjNo}
 use Rattle.fr_base.specs.declared.name.MutexNo.{MutexNo}
 use Rattle.fr_base.specs.declared.place.Lval.{Lval}
@@ -8,7 +8,6 @@ use Rattle.fr_base.specs.declared.instruction.Instr.{Instr}
 use Rattle.fr_base.specs.declared.instruction.Instr.TheVariants as instr
 use Rattle.heap_partition.specs.declared.value.Owned.{Owned}
 use Rattle.heap_partition.specs.declared.value.Owned.TheVariants as owned
-use Rattle.mut_borrow.specs.declared.mutable.MutRef.{MutRef}
 use Rattle.thread_state.specs.View.{ThreadView}
 use Rattle.thread_state.specs.declared.value.Value.{Value}
 use Rattle.thread_state.specs.declared.value.Value.TheVariants as value
@@ -18,12 +17,12 @@ use Rattle.join_home.specs.Tasks.{TaskState, in_pair}
 use Rattle.fr_typing.specs.Kinds.{unit, same_owned, Kind, own, shared, mutable, view, Piece, whole, gone, boxed}
 use Rattle.fr_typing.specs.Places.{Slot}
 use Rattle.fr_store.specs.Keys.{Key, slot_k, temp_k}
-use Rattle.fr_store.specs.Typed.{refers, KeyTypes}
-use Rattle.fr_store.specs.Thread.{place_of}
+use Rattle.fr_store.specs.Typed.{Exact, owns, refers, KeyTypes}
 use Rattle.server_model.specs.Servers.{Cluster}
-use Rattle.heap_law.specs.Names.{one, other, if_so, some, same_object}
-use Rattle.heap_law.specs.Things.{Spot, as_content, as_result, Thing, holds, lies, flies, noted}
+use Rattle.heap_law.specs.Names.{one, other, if_so, some, same_object, same_mutex}
+use Rattle.heap_law.specs.Things.{Location, Spot, as_content, as_result, Thing, holds, lies, flies, noted}
 use Rattle.heap_law.specs.Follow.{Standing, Ground, leads, locate, place_at, value_at}
+use Rattle.heap_law.specs.Stale.{same_location}
 use Rattle.heap_law.specs.Sight.{Sight, sight}
 use Rattle.heap_law.specs.Placing.{sum_over}
 use Rattle.heap_law.specs.Walking.{sum_threads, instr_of}
@@ -217,26 +216,47 @@ over_wrong s =
 
 -- PLACES OF REFERENCES
 
--- the holder of a mutable reference to an object leads, as a location, to the pointer of the place with one star less
-pub record IsHeldAt (g : Ground) (t : ℕ) (w : Lval) (r : MutRef) : Type 0 where
-  pub stars : ℕ
-  pub one_more : w.depth ≡ suc stars
-  pub holder : place_at g t r.holder ≡ locate g t w.slot stars
+abbrev same_place : Option Location → Option Location → Bool
+same_place (Some l) (Some m) = same_location l m
+same_place l m = false
 
--- a reference leads where that place of its thread leads; a mark is of the mutex that stands there
-abbrev pub LeadsAs : Ground → ℕ → Lval → Value → Type 0
-LeadsAs g t w (value.Held m) = value_at g t w ≡ Some (value.Own (owned.Mutex m))
-LeadsAs g t w (value.Mut r) = (leads t (Some (value.Mut r)) ≡ place_at g t w) × IsHeldAt g t w r
-LeadsAs g t w v = leads t (Some v) ≡ place_at g t w
+abbrev is_value_of : MutexNo → Option Value → Bool
+is_value_of m (Some (value.Own (owned.Mutex n))) = same_mutex n m
+is_value_of m v = false
 
--- the values of a thread, at these keys, lead as their exact types say. (These name places of the thread; a view's is of another)
-abbrev AllLeadAs : KeyTypes → Ground → ℕ → (ℕ → Key) → List Value → Type 0
-AllLeadAs exact g t key vs = (i : ℕ) (v : Value) (m : Bool) (w : Lval) → slice_get vs i ≡ Some v → exact (key i) ≡ refers m (place_of (slot_k t) w) → LeadsAs g t w v
+-- a holder leads, as a location, to the pointer of the place with one star less
+abbrev is_held_at : Ground → ℕ → ℕ → ℕ → Lval → Bool
+is_held_at g t slot zero h = false
+is_held_at g t slot (suc n) h = same_place (place_at g t h) (locate g t slot n)
 
--- the references of a thread lead to the places of their exact types
-pub record LeadRight (exact : KeyTypes) (g : Ground) (t : ThreadView) : Type 0 where
-  pub slots : AllLeadAs exact g t.number (slot_k t.number) t.slots
-  pub temps : AllLeadAs exact g t.number (temp_k t.number) t.temps
+-- a reference leads where that place of its thread leads; a mutable one to an object is held there with one star less; a mark is of the mutex that
+-- stands there
+abbrev leads_as : Ground → ℕ → Lval → Value → Bool
+leads_as g t w (value.Held m) = is_value_of m (value_at g t w)
+leads_as g t w (value.Mut r) = same_place (leads t (Some (value.Mut r))) (place_at g t w) && is_held_at g t w.slot w.depth r.holder
+leads_as g t w v = same_place (leads t (Some v)) (place_at g t w)
+
+-- the exact type of a reference that is no view names a place of its own thread
+abbrev astray_from : Ground → ℕ → Key → ℕ → Value → ℕ
+astray_from g t (slot_k u i) n v = if_so (u == t) (other (leads_as g t (record { slot = i; depth = n }) v))
+astray_from g t k n v = 0
+
+abbrev astray : Ground → ℕ → Exact → Value → ℕ
+astray g t (owns x) v = 0
+astray g t (refers m u) v = astray_from g t u.key u.depth v
+
+abbrev all_astray : KeyTypes → Ground → ℕ → (ℕ → Key) → ℕ → List Value → ℕ
+all_astray exact g t key i [] = 0
+all_astray exact g t key i (v ∷ vs) = astray g t (exact (key i)) v + all_astray exact g t key (i + 1) vs
+
+abbrev astray_of : KeyTypes → Ground → ThreadView → ℕ
+astray_of exact g t = all_astray exact g t.number (slot_k t.number) 0 t.slots + all_astray exact g t.number (temp_k t.number) 0 t.temps
+
+-- a reference leads to the slot or object that the place of its exact type leads to in its thread, one of the places that typing gives it; where
+-- that is an object and the reference is mutable, its holder is that place with one star less. The hidden slot of a lock is the mark of the mutex
+-- that stands at the lock's place
+abbrev pub leads_wrong : KeyTypes → Sight → ℕ
+leads_wrong exact s = sum_threads s (λ x. astray_of exact s.ground x.thread)
 
 -- THE PART
 
@@ -256,7 +276,7 @@ pub record Types (k : Cluster) : Type 0 where
   pub agree : misfits names (sight k) ≡ 0
   pub forms : forms_wrong table names (sight k) ≡ 0
   pub locked : locked_wrong table names (sight k) ≡ 0
-  pub lead : (i : ℕ) (x : Standing) → slice_get (sight k).ground.threads i ≡ Some x → LeadRight exact (sight k).ground x.thread
+  pub lead : leads_wrong exact (sight k) ≡ 0
   pub views : views_wrong table (sight k) ≡ 0
   pub parents : parents_wrong order (sight k) ≡ 0
   pub ends : ends_wrong table names (sight k) ≡ 0

@@ -5,3 +5,5 @@ pub mod States
 pub mod ClusterTypes
 pub mod Codes
 pub mod Typed
+pub mod Tables
+pub mod Along

@@ -1,14 +1,20 @@
 //! Laws of types.
 
+ghost use Rattle.type_law.specs.Along.{RowsKeepTypes};
 ghost use Rattle.type_law.specs.Codes.{CodesCompute};
+ghost use Rattle.type_law.specs.Tables.{TablesCompute};
 ghost use Rattle.type_law.specs.Typed.{TypesCompute};
 
-/// The table of a small code, and a code that reads what has moved away, which has none.
+/// The tables of four small codes, with all kinds of captures, a lock, a task and references, and a code that reads what has moved away,
+/// which has none.
 pub fn codes_are_typed()
-    ensures { CodesCompute }
+    ensures small { CodesCompute }
+    ensures tables { TablesCompute }
 {}
 
-/// Clusters that have types: the start of that code, and its run after two events.
+/// Clusters that have types: the start of a code, and its run after two events. What can be counted of types holds after each event of
+/// three rows.
 pub fn types_compute()
-    ensures { TypesCompute }
+    ensures whole { TypesCompute }
+    ensures counted { RowsKeepTypes }
 {}
