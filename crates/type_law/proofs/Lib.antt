@@ -3,3 +3,4 @@ mod Numbers
 mod Start
 mod Boxed
 mod Tables
+mod Owning

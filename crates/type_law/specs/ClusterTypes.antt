@@ -43,7 +43,7 @@ misfit_at n (as_content m) v = other (is_there v && fits n (n.mutex m) v)
 misfit_at n (as_result t) v = other (is_there v && fits n (n.result t) v)
 misfit_at n p v = 0
 
-abbrev misfit : NameTypes → Thing → ℕ
+abbrev pub misfit : NameTypes → Thing → ℕ
 misfit n (holds p v) = misfit_at n p v
 misfit n (lies s a c) = other (fits n (n.object c.object) c.value)
 misfit n (flies w c) = other (fits n (n.object c.object) c.value)

@@ -3,6 +3,7 @@ pub mod CodeTable
 pub mod Names
 pub mod States
 pub mod ClusterTypes
+pub mod Owning
 pub mod Codes
 pub mod Typed
 pub mod Tables

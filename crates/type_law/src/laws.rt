@@ -2,6 +2,7 @@
 
 ghost use Rattle.type_law.specs.Along.{RowsKeepTypes};
 ghost use Rattle.type_law.specs.Codes.{CodesCompute};
+ghost use Rattle.type_law.specs.Owning.{NoneOwnsItself};
 ghost use Rattle.type_law.specs.Tables.{TablesCompute};
 ghost use Rattle.type_law.specs.Typed.{TypesCompute};
 
@@ -17,4 +18,9 @@ pub fn codes_are_typed()
 pub fn types_compute()
     ensures whole { TypesCompute }
     ensures counted { RowsKeepTypes }
+{}
+
+/// In a cluster that has types no object, content or result owns itself, directly or through others.
+pub fn none_owns_itself()
+    ensures { NoneOwnsItself }
 {}
