@@ -15,10 +15,25 @@ pub boxed_is_typed : IsTable boxed_code boxed_table
 boxed_is_typed = record {
   main = unit;
   starts = refl;
-  rows = (leads (i_box (takes_const refl) refl), (leads (i_let (120 ∷ []) (takes_pop refl) refl),
-      (leads (i_assign (takes_const refl) (record { named = refl; is = refl }) (record { free = refl; path = refl }) refl refl refl),
-      (leads (i_copy refl (record { named = refl; is = refl }) refl refl), (leads (i_print (takes_pop refl)), (leads (i_drop refl refl refl),
-      (ends (takes_unit refl), tt)))))));
+  rows = (
+    leads (i_box (takes_const refl) refl),
+    (
+      leads (i_let (120 ∷ []) (takes_pop refl) refl),
+      (
+        leads (i_assign (takes_const refl) (record { named = refl; is = refl }) (record { free = refl; path = refl }) refl refl refl),
+        (
+          leads (i_copy refl (record { named = refl; is = refl }) refl refl),
+          (
+            leads (i_print (takes_pop refl)),
+            (
+              leads (i_drop refl refl refl),
+              (ends (takes_unit refl), tt),
+            ),
+          ),
+        ),
+      ),
+    ),
+  );
 }
 
 abbrev slot_with : Text → Slot
@@ -40,7 +55,6 @@ not_gone : {k l : Kind} → found (gone l) ≡ found (whole k) → ⊥
 not_gone e = absurd cc
 
 after_read : {table : Table} {g : Owned} (x : Text) {next : Option Entry} → Row table (going (slot_with x ∷ []) [] g) (instr.Read (place 0 0) true) next → next ≡ Some (going (slot_without x ∷ []) (own (box int) ∷ []) g)
-
 after_read {g = g} x (leads (i_move {k = k} w a c f p)) = ap (λ l. Some (going (record { name = Some x; part = gone l } ∷ []) (l ∷ []) g)) (same_kind a.is)
 
 after_discard : {table : Table} {g : Owned} (x : Text) {next : Option Entry} → Row table (going (slot_without x ∷ []) (own (box int) ∷ []) g) instr.Discard next → next ≡ Some (going (slot_without x ∷ []) [] g)

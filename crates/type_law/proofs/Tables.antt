@@ -11,82 +11,204 @@ pairs_typed : IsTable read_by_pairs pairs_table
 pairs_typed = record {
   main = unit;
   starts = refl;
-  rows = (leads (i_box (takes_const refl) refl),
-      (leads (i_let x_name (takes_pop refl) refl),
-      (leads (i_borrow refl (record { named = refl; is = refl }) refl),
-      (leads (i_let r_name (takes_pop refl) refl),
-      (leads (i_par refl (pass_next (passes (record { at = 0; name = r_name }) refl (captures_copy (record { is = record { named = refl; is = refl }; becomes = refl }) refl refl refl) refl refl) pass_none) (pass_next (passes (record { at = 0; name = r_name }) refl (captures_copy (record { is = record { named = refl; is = refl }; becomes = refl }) refl refl refl) refl refl) pass_none) refl refl),
-      (leads i_par_end,
-      (leads (i_drop refl refl refl),
-      (leads (i_assign (takes_const refl) (record { named = refl; is = refl }) (record { free = refl; path = refl }) refl refl refl),
-      (leads (i_borrow refl (record { named = refl; is = refl }) refl),
-      (leads (i_let r_name (takes_pop refl) refl),
-      (leads (i_par refl (pass_next (passes (record { at = 0; name = r_name }) refl (captures_copy (record { is = record { named = refl; is = refl }; becomes = refl }) refl refl refl) refl refl) pass_none) (pass_next (passes (record { at = 0; name = r_name }) refl (captures_copy (record { is = record { named = refl; is = refl }; becomes = refl }) refl refl refl) refl refl) pass_none) refl refl),
-      (leads i_par_end,
-      (leads (i_drop refl refl refl),
-      (leads (i_drop refl refl refl),
-      (ends (takes_unit refl),
-      (leads (i_copy refl (record { named = refl; is = refl }) refl refl),
-      (leads (i_print (takes_pop refl)),
-      (leads (i_drop refl refl refl),
-      (ends (takes_unit refl),
-      (leads (i_copy refl (record { named = refl; is = refl }) refl refl),
-      (leads (i_print (takes_pop refl)),
-      (leads (i_drop refl refl refl),
-      (ends (takes_unit refl),
-      (leads (i_copy refl (record { named = refl; is = refl }) refl refl),
-      (leads (i_print (takes_pop refl)),
-      (leads (i_drop refl refl refl),
-      (ends (takes_unit refl),
-      (leads (i_copy refl (record { named = refl; is = refl }) refl refl),
-      (leads (i_print (takes_pop refl)),
-      (leads (i_drop refl refl refl),
-      (ends (takes_unit refl),
-      tt)))))))))))))))))))))))))))))));
+  rows = (
+    leads (i_box (takes_const refl) refl),
+    (
+      leads (i_let x_name (takes_pop refl) refl),
+      (
+        leads (i_borrow refl (record { named = refl; is = refl }) refl),
+        (
+          leads (i_let r_name (takes_pop refl) refl),
+          (
+            leads (i_par refl (pass_next (passes (record { at = 0; name = r_name }) refl (captures_copy (record { is = record { named = refl; is = refl }; becomes = refl }) refl refl refl) refl refl) pass_none) (pass_next (passes (record { at = 0; name = r_name }) refl (captures_copy (record { is = record { named = refl; is = refl }; becomes = refl }) refl refl refl) refl refl) pass_none) refl refl),
+            (
+              leads i_par_end,
+              (
+                leads (i_drop refl refl refl),
+                (
+                  leads (i_assign (takes_const refl) (record { named = refl; is = refl }) (record { free = refl; path = refl }) refl refl refl),
+                  (
+                    leads (i_borrow refl (record { named = refl; is = refl }) refl),
+                    (
+                      leads (i_let r_name (takes_pop refl) refl),
+                      (
+                        leads (i_par refl (pass_next (passes (record { at = 0; name = r_name }) refl (captures_copy (record { is = record { named = refl; is = refl }; becomes = refl }) refl refl refl) refl refl) pass_none) (pass_next (passes (record { at = 0; name = r_name }) refl (captures_copy (record { is = record { named = refl; is = refl }; becomes = refl }) refl refl refl) refl refl) pass_none) refl refl),
+                        (
+                          leads i_par_end,
+                          (
+                            leads (i_drop refl refl refl),
+                            (
+                              leads (i_drop refl refl refl),
+                              (
+                                ends (takes_unit refl),
+                                (
+                                  leads (i_copy refl (record { named = refl; is = refl }) refl refl),
+                                  (
+                                    leads (i_print (takes_pop refl)),
+                                    (
+                                      leads (i_drop refl refl refl),
+                                      (
+                                        ends (takes_unit refl),
+                                        (
+                                          leads (i_copy refl (record { named = refl; is = refl }) refl refl),
+                                          (
+                                            leads (i_print (takes_pop refl)),
+                                            (
+                                              leads (i_drop refl refl refl),
+                                              (
+                                                ends (takes_unit refl),
+                                                (
+                                                  leads (i_copy refl (record { named = refl; is = refl }) refl refl),
+                                                  (
+                                                    leads (i_print (takes_pop refl)),
+                                                    (
+                                                      leads (i_drop refl refl refl),
+                                                      (
+                                                        ends (takes_unit refl),
+                                                        (
+                                                          leads (i_copy refl (record { named = refl; is = refl }) refl refl),
+                                                          (
+                                                            leads (i_print (takes_pop refl)),
+                                                            (
+                                                              leads (i_drop refl refl refl),
+                                                              (
+                                                                ends (takes_unit refl),
+                                                                tt,
+                                                              ),
+                                                            ),
+                                                          ),
+                                                        ),
+                                                      ),
+                                                    ),
+                                                  ),
+                                                ),
+                                              ),
+                                            ),
+                                          ),
+                                        ),
+                                      ),
+                                    ),
+                                  ),
+                                ),
+                              ),
+                            ),
+                          ),
+                        ),
+                      ),
+                    ),
+                  ),
+                ),
+              ),
+            ),
+          ),
+        ),
+      ),
+    ),
+  );
 }
 
 locks_typed : IsTable locked_elsewhere locks_table
 locks_typed = record {
   main = unit;
   starts = refl;
-  rows = (leads (i_box (takes_const refl) refl),
-      (leads (i_mutex (takes_pop refl) refl),
-      (leads (i_let x_name (takes_pop refl) refl),
-      (leads (i_spawn refl (pass_next (passes (record { at = 0; name = x_name }) refl (captures_move (record { is = record { named = refl; is = refl }; becomes = refl }) refl refl refl) refl refl) pass_none) refl refl),
-      (leads (i_let r_name (takes_pop refl) refl),
-      (leads (i_move refl (record { named = refl; is = refl }) refl refl refl),
-      (leads (i_join (takes_pop refl)),
-      (leads (i_drop refl refl refl),
-      (leads (i_drop refl refl refl),
-      (ends (takes_pop refl),
-      (leads (i_lock c_name refl (record { named = refl; is = refl }) refl refl),
-      (leads (i_assign (takes_const refl) (record { named = refl; is = refl }) (record { free = refl; path = refl }) refl refl refl),
-      (leads (i_unlock refl),
-      (leads (i_drop refl refl refl),
-      (ends (takes_unit refl),
-      tt)))))))))))))));
+  rows = (
+    leads (i_box (takes_const refl) refl),
+    (
+      leads (i_mutex (takes_pop refl) refl),
+      (
+        leads (i_let x_name (takes_pop refl) refl),
+        (
+          leads (i_spawn refl (pass_next (passes (record { at = 0; name = x_name }) refl (captures_move (record { is = record { named = refl; is = refl }; becomes = refl }) refl refl refl) refl refl) pass_none) refl refl),
+          (
+            leads (i_let r_name (takes_pop refl) refl),
+            (
+              leads (i_move refl (record { named = refl; is = refl }) refl refl refl),
+              (
+                leads (i_join (takes_pop refl)),
+                (
+                  leads (i_drop refl refl refl),
+                  (
+                    leads (i_drop refl refl refl),
+                    (
+                      ends (takes_pop refl),
+                      (
+                        leads (i_lock c_name refl (record { named = refl; is = refl }) refl refl),
+                        (
+                          leads (i_assign (takes_const refl) (record { named = refl; is = refl }) (record { free = refl; path = refl }) refl refl refl),
+                          (
+                            leads (i_unlock refl),
+                            (
+                              leads (i_drop refl refl refl),
+                              (
+                                ends (takes_unit refl),
+                                tt,
+                              ),
+                            ),
+                          ),
+                        ),
+                      ),
+                    ),
+                  ),
+                ),
+              ),
+            ),
+          ),
+        ),
+      ),
+    ),
+  );
 }
 
 lent_typed : IsTable lent_box lent_table
 lent_typed = record {
   main = unit;
   starts = refl;
-  rows = (leads (i_box (takes_const refl) refl),
-      (leads (i_let x_name (takes_pop refl) refl),
-      (leads (i_borrow_mut refl (record { named = refl; is = refl }) (record { free = refl; path = refl })),
-      (leads (i_let r_name (takes_pop refl) refl),
-      (leads (i_assign (takes_const refl) (record { named = refl; is = refl }) (record { free = refl; path = refl }) refl refl refl),
-      (leads (i_copy refl (record { named = refl; is = refl }) refl refl),
-      (leads (i_print (takes_pop refl)),
-      (leads (i_assign (takes_const refl) (record { named = refl; is = refl }) (record { free = refl; path = refl }) refl refl refl),
-      (leads (i_copy refl (record { named = refl; is = refl }) refl refl),
-      (leads (i_print (takes_pop refl)),
-      (leads (i_drop refl refl refl),
-      (leads (i_copy refl (record { named = refl; is = refl }) refl refl),
-      (leads (i_print (takes_pop refl)),
-      (leads (i_drop refl refl refl),
-      (ends (takes_unit refl),
-      tt)))))))))))))));
+  rows = (
+    leads (i_box (takes_const refl) refl),
+    (
+      leads (i_let x_name (takes_pop refl) refl),
+      (
+        leads (i_borrow_mut refl (record { named = refl; is = refl }) (record { free = refl; path = refl })),
+        (
+          leads (i_let r_name (takes_pop refl) refl),
+          (
+            leads (i_assign (takes_const refl) (record { named = refl; is = refl }) (record { free = refl; path = refl }) refl refl refl),
+            (
+              leads (i_copy refl (record { named = refl; is = refl }) refl refl),
+              (
+                leads (i_print (takes_pop refl)),
+                (
+                  leads (i_assign (takes_const refl) (record { named = refl; is = refl }) (record { free = refl; path = refl }) refl refl refl),
+                  (
+                    leads (i_copy refl (record { named = refl; is = refl }) refl refl),
+                    (
+                      leads (i_print (takes_pop refl)),
+                      (
+                        leads (i_drop refl refl refl),
+                        (
+                          leads (i_copy refl (record { named = refl; is = refl }) refl refl),
+                          (
+                            leads (i_print (takes_pop refl)),
+                            (
+                              leads (i_drop refl refl refl),
+                              (
+                                ends (takes_unit refl),
+                                tt,
+                              ),
+                            ),
+                          ),
+                        ),
+                      ),
+                    ),
+                  ),
+                ),
+              ),
+            ),
+          ),
+        ),
+      ),
+    ),
+  );
 }
 
 pub tables_compute : TablesCompute

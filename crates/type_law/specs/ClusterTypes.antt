@@ -49,24 +49,22 @@ misfit n (lies s a c) = other (fits n (n.object c.object) c.value)
 misfit n (flies w c) = other (fits n (n.object c.object) c.value)
 misfit n x = 0
 
-abbrev as_content_of : NameTypes → Option MutexNo → Owned → ℕ
-as_content_of n None v = 1
-as_content_of n (Some m) v = misfit_at n (as_content m) v
+abbrev pub content_gift : NameTypes → Option MutexNo → Option Owned → ℕ
+content_gift n (Some m) (Some v) = misfit_at n (as_content m) v
+content_gift n m g = 0
 
-abbrev as_result_of : NameTypes → Option ℕ → Owned → ℕ
-as_result_of n None v = 1
-as_result_of n (Some t) v = misfit_at n (as_result t) v
+abbrev pub result_gift : NameTypes → Option ℕ → Option Owned → ℕ
+result_gift n (Some t) (Some v) = misfit_at n (as_result t) v
+result_gift n t g = 0
 
 -- a gift at a lock is the content of the mutex at its place, and one at a join the result of its operand's thread
-abbrev gift_misfit : NameTypes → Sight → Standing → Option Instr → Option Owned → ℕ
-gift_misfit n s x (Some (instr.Lock w)) (Some v) = as_content_of n (locked_mutex s x (Some (instr.Lock w))) v
-gift_misfit n s x (Some (instr.Join o)) (Some v) = as_result_of n (joined_thread (Some (instr.Join o)) x.thread) v
-gift_misfit n s x i g = 0
+abbrev pub gift_misfit : NameTypes → Sight → Standing → ℕ
+gift_misfit n s x = content_gift n (locked_mutex s x (instr_of s x)) x.thread.gift + result_gift n (joined_thread (instr_of s x) x.thread) x.thread.gift
 
 -- each object, each mutex and each thread's result has one type, and every cell, content and result agrees with it, wherever it stands; copies are
 -- aside. What an owned value names has a type of fewer levels, so no object, content or result owns itself, directly or through others
 abbrev pub misfits : NameTypes → Sight → ℕ
-misfits n s = sum_over s (misfit n) + sum_threads s (λ x. gift_misfit n s x (instr_of s x) x.thread.gift)
+misfits n s = sum_over s (misfit n) + sum_threads s (gift_misfit n s)
 
 -- SLOTS AND TEMPORARY VALUES
 
@@ -82,46 +80,46 @@ has_form n (gone k) value.Gone = true
 has_form n (boxed p) (value.Own v) = is_there v && fits_some n (owned_part (boxed p)) v
 has_form n p v = false
 
-abbrev is_mark : Value → Bool
+abbrev pub is_mark : Value → Bool
 is_mark (value.Held m) = true
 is_mark v = false
 
 -- a slot without a name is the hidden one of a lock
-abbrev slot_form : NameTypes → Slot → Bool → Value → Bool
+abbrev pub slot_form : NameTypes → Slot → Bool → Value → Bool
 slot_form n s true v = has_form n s.part v
 slot_form n s false v = is_mark v
 
 -- the slots, the newest first
-abbrev slots_wrong : NameTypes → List Slot → List Value → ℕ
+abbrev pub slots_wrong : NameTypes → List Slot → List Value → ℕ
 slots_wrong n [] [] = 0
 slots_wrong n (s ∷ e) (v ∷ vs) = other (slot_form n s (is_some s.name) v) + slots_wrong n e vs
 slots_wrong n e vs = 1
 
-abbrev temps_wrong : NameTypes → List Kind → List Value → ℕ
+abbrev pub temps_wrong : NameTypes → List Kind → List Value → ℕ
 temps_wrong n [] [] = 0
 temps_wrong n (k ∷ ks) (v ∷ vs) = other (has_form n (whole k) v) + temps_wrong n ks vs
 temps_wrong n ks vs = 1
 
-abbrev entry_wrong : (Entry → ℕ) → Option Entry → ℕ
+abbrev pub entry_wrong : (Entry → ℕ) → Option Entry → ℕ
 entry_wrong f None = 1
 entry_wrong f (Some x) = f x
 
-abbrev forms_of : NameTypes → ThreadView → Entry → ℕ
+abbrev pub forms_of : NameTypes → ThreadView → Entry → ℕ
 forms_of n t x = slots_wrong n x.env (reverse t.slots) + temps_wrong n x.temps (reverse t.temps)
 
 -- a sentence of the threads that aren't over, at their entries
-abbrev at_entries : Table → Sight → (Standing → Entry → ℕ) → ℕ
+abbrev pub at_entries : Table → Sight → (Standing → Entry → ℕ) → ℕ
 at_entries table s f = sum_threads s (λ x. if_so (not (is_over x.thread.phase)) (entry_wrong (f x) (slice_get table x.thread.pc)))
 
 -- each slot and temporary value has the form that typing gives at the thread's instruction; the hidden slot of a lock is a mark
 abbrev pub forms_wrong : Table → NameTypes → Sight → ℕ
 forms_wrong table n s = at_entries table s (λ x. forms_of n x.thread)
 
-abbrev above_mark : NameTypes → Slot → List Value → ℕ
+abbrev pub above_mark : NameTypes → Slot → List Value → ℕ
 above_mark n c (value.Held m ∷ vs) = other (is_type (owned_part c.part) (n.mutex m))
 above_mark n c vs = 0
 
-abbrev locked_of : NameTypes → List Slot → List Value → ℕ
+abbrev pub locked_of : NameTypes → List Slot → List Value → ℕ
 locked_of n (c ∷ e) (v ∷ vs) = above_mark n c vs + locked_of n e vs
 locked_of n e vs = 0
 

@@ -28,4 +28,3 @@ moved_code =
 pub record CodesCompute : Type 0 where
   pub boxed : IsTable boxed_code boxed_table
   pub moved : (table : Table) → IsTable moved_code table → ⊥
-
