@@ -4,3 +4,4 @@ mod Start
 mod Boxed
 mod Tables
 mod Owning
+mod Paired

@@ -7,7 +7,7 @@ use Rattle.type_law.specs.CodeTypes.{takes_const, takes_unit, takes_pop, passes,
 use Rattle.type_law.specs.CodeTable.{leads, ends, IsTable}
 use Rattle.type_law.specs.Tables.{x_name, r_name, c_name, pairs_table, locks_table, lent_table, TablesCompute}
 
-pairs_typed : IsTable read_by_pairs pairs_table
+pub pairs_typed : IsTable read_by_pairs pairs_table
 pairs_typed = record {
   main = unit;
   starts = refl;

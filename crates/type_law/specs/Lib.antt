@@ -6,5 +6,6 @@ pub mod ClusterTypes
 pub mod Owning
 pub mod Codes
 pub mod Typed
+pub mod Paired
 pub mod Tables
 pub mod Along

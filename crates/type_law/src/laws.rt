@@ -3,6 +3,7 @@
 ghost use Rattle.type_law.specs.Along.{RowsKeepTypes};
 ghost use Rattle.type_law.specs.Codes.{CodesCompute};
 ghost use Rattle.type_law.specs.Owning.{NoneOwnsItself};
+ghost use Rattle.type_law.specs.Paired.{PairHasTypes};
 ghost use Rattle.type_law.specs.Tables.{TablesCompute};
 ghost use Rattle.type_law.specs.Typed.{TypesCompute};
 
@@ -13,10 +14,11 @@ pub fn codes_are_typed()
     ensures tables { TablesCompute }
 {}
 
-/// Clusters that have types: the start of a code, and its run after two events. What can be counted of types holds after each event of
-/// three rows.
+/// Clusters that have types: the start of a code, its run after two events, and a parent that waits beside two branches with
+/// views. What can be counted of types holds after each event of three rows.
 pub fn types_compute()
     ensures whole { TypesCompute }
+    ensures paired { PairHasTypes }
     ensures counted { RowsKeepTypes }
 {}
 
