@@ -1,18 +1,18 @@
 -- The boxed code after two events has types.
-use Rattle.std.proofs.Common.{◌≡◌, ◌<◌, ◌≤◌, ◌⊎◌, inl, inr, ◌∙◌, ◌&&◌, if◌then◌else◌, pos, ℕ, zero, suc, ◌==◌, ◌%◌, ◌/◌, ◌^◌, true, false, Bool, List, [], ◌∷◌, Option, Some, None, refl, sym, ap, subst, arith}
+use Rattle.std.proofs.Common.{◌≡◌, ◌≤◌, ◌⊎◌, inl, inr, ◌∙◌, ◌&&◌, if◌then◌else◌, pos, ℕ, zero, suc, ◌==◌, ◌%◌, ◌/◌, ◌^◌, true, false, Bool, List, [], ◌∷◌, Option, Some, None, refl, sym, ap, subst, arith}
 use Rattle.fr_base.specs.declared.name.ObjNo.{ObjNo}
 use Rattle.fr_base.specs.declared.name.MutexNo.{MutexNo}
 use Rattle.fr_base.specs.declared.label.Plain.{Plain}
 use Rattle.fr_base.specs.declared.label.Plain.TheVariants as plain
 use Rattle.fr_typing.specs.Kinds.{unit, int}
 use Rattle.fr_store.specs.Keys.{Key, slot_k, temp_k, content_k, result_k, hand_k}
-use Rattle.fr_store.specs.Store.{Val, Location, at_key, at_object, box_v, int_v, ref_v, gone_v, mutex_v, Store, value_at, Place}
-use Rattle.fr_store.specs.Typed.{Tree, hole, int_tree, box_tree, Exact, owns, refers, KeyTypes, exact_under, Stands, Typed}
+use Rattle.fr_store.specs.Store.{Val, Location, at_key, at_object, box_v, int_v, ref_v, gone_v, mutex_v, Store, value_at}
+use Rattle.fr_store.specs.Typed.{Tree, hole, int_tree, box_tree, Exact, owns, KeyTypes, exact_under, Stands, Typed}
 use Rattle.fr_store.specs.Below.{tree_of}
 use Rattle.server_model.specs.Figures.{run, steps_of}
 use Rattle.heap_law.specs.Sight.{sight}
 use Rattle.heap_law.specs.Clusters.{options, boxed_code}
-use Rattle.heap_law.specs.OneHeap.{PlainValue, own, PlainLife, PlainState, runs, ended, held, one_heap, is_given_thread}
+use Rattle.heap_law.specs.OneHeap.{PlainValue, own, runs, ended, held, one_heap, is_given_thread}
 use Rattle.type_law.specs.CodeTypes.{going}
 use Rattle.type_law.specs.Names.{NameTypes}
 use Rattle.type_law.specs.States.{Marks, store_of, RunningTyped, StateTypes, nth_value, part_at, is_reference, IsLower}

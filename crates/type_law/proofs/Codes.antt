@@ -1,5 +1,5 @@
 -- The codes of the examples.
-use Rattle.std.proofs.Common.{◌≡◌, refl, ap, subst, ℤ, pos, List, [], ◌∷◌, drop, Option, Some, None, true, false}
+use Rattle.std.proofs.Common.{◌≡◌, refl, ap, subst, ℤ, pos, List, [], ◌∷◌, drop, Option, Some, true}
 use Rattle.fr_base.specs.declared.instruction.Operand.TheVariants as operand
 use Rattle.fr_base.specs.declared.instruction.Instr.{Instr}
 use Rattle.fr_base.specs.declared.instruction.Instr.TheVariants as instr
@@ -7,7 +7,7 @@ use Rattle.fr_terms.specs.Terms.{Text}
 use Rattle.fr_typing.specs.Kinds.{Kind, Owned, unit, int, box, own, whole, gone}
 use Rattle.fr_typing.specs.Places.{Slot, found}
 use Rattle.heap_law.specs.Clusters.{place, boxed_code}
-use Rattle.type_law.specs.CodeTypes.{Table, Entry, going, IsAt, takes_const, takes_unit, takes_pop, i_let, i_assign, i_copy, i_move, i_box, i_print, i_discard, i_drop}
+use Rattle.type_law.specs.CodeTypes.{Table, Entry, going, takes_const, takes_unit, takes_pop, i_let, i_assign, i_copy, i_move, i_box, i_print, i_discard, i_drop}
 use Rattle.type_law.specs.CodeTable.{Row, leads, ends, Rows, first, IsTable}
 use Rattle.type_law.specs.Codes.{boxed_table, moved_code, CodesCompute}
 

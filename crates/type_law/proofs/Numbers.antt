@@ -1,8 +1,8 @@
 -- Tests of numbers, and threads that were never counted.
-use Rattle.std.proofs.Common.{◌≡◌, ℕ, zero, suc, ◌==◌, ◌+◌, nat_le, not, ◌&&◌, true, false, Bool, List, Option, Some, None, refl, subst, arith}
+use Rattle.std.proofs.Common.{◌≡◌, ℕ, zero, suc, ◌==◌, ◌+◌, nat_le, not, ◌&&◌, true, false, Bool, List, Some, refl, subst, arith}
 use Rattle.std.proofs.lemmas.Bool.Decides.{nat_tests}
 use Rattle.heap_law.specs.Names.{one, some}
-use Rattle.heap_law.specs.OneHeap.{PlainValue, runs, PlainLife}
+use Rattle.heap_law.specs.OneHeap.{PlainValue, runs}
 
 pub suc_zero : (n : ℕ) → (suc n == 0) ≡ false
 suc_zero n = grind (arith, nat_tests)

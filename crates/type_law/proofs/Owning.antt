@@ -1,5 +1,5 @@
 -- What an owned value names has a type of fewer levels, so none owns itself.
-use Rattle.std.proofs.Common.{◌≡◌, ◌⊎◌, inl, inr, ◌<◌, ℕ, suc, ◌+◌, ◌==◌, ◌&&◌, Bool, true, false, List, [], ◌∷◌, reverse, Option, Some, None, is_some, not, slice_get, refl, sym, ap, subst, arith}
+use Rattle.std.proofs.Common.{◌≡◌, inl, inr, ◌<◌, ℕ, suc, ◌+◌, ◌&&◌, Bool, true, false, List, [], ◌∷◌, reverse, Option, Some, None, is_some, not, slice_get, refl, sym, ap, subst, arith}
 use Rattle.coloured_heap.proofs.Times.{both, number_is, object_is, mutex_is}
 use Rattle.fr_base.specs.declared.name.ObjNo.{ObjNo}
 use Rattle.fr_base.specs.declared.name.MutexNo.{MutexNo}
@@ -12,11 +12,9 @@ use Rattle.fr_typing.specs.Checks.{owned_levels}
 use Rattle.thread_state.specs.View.{ThreadView}
 use Rattle.thread_state.specs.declared.value.Value.{Value as Any}
 use Rattle.thread_state.specs.declared.value.Value.TheVariants as value
-use Rattle.server_model.specs.Servers.{Cluster}
-use Rattle.heap_law.specs.Names.{tot, other, if_so, same_object, same_mutex}
-use Rattle.heap_law.specs.Things.{as_content, as_result, Thing, holds, lies, flies}
+use Rattle.heap_law.specs.Names.{tot, other, if_so}
+use Rattle.heap_law.specs.Things.{as_content, as_result, holds, lies, flies}
 use Rattle.heap_law.specs.Sight.{Sight, sight}
-use Rattle.heap_law.specs.Follow.{Standing}
 use Rattle.heap_law.specs.Walking.{instr_of}
 use Rattle.heap_law.specs.Paths.{joined_thread}
 use Rattle.heap_law.specs.Requests.{locked_mutex}
@@ -24,7 +22,7 @@ use Rattle.heap_law.specs.Sharing.{is_over}
 use Rattle.heap_law.specs.OneHeap.{Node, object_n, mutex_n, task_n}
 use Rattle.type_law.specs.CodeTypes.{Entry, Table}
 use Rattle.type_law.specs.Names.{NameTypes, fits, fits_some, is_there, is_type, owned_part}
-use Rattle.type_law.specs.ClusterTypes.{misfit, content_gift, result_gift, gift_misfit, has_form, slot_form, slots_wrong, temps_wrong, forms_of, forms_wrong, entry_wrong, above_mark, locked_of, locked_wrong, Types}
+use Rattle.type_law.specs.ClusterTypes.{misfit, content_gift, result_gift, gift_misfit, has_form, slot_form, slots_wrong, temps_wrong, forms_of, forms_wrong, entry_wrong, above_mark, locked_of, locked_wrong}
 use Rattle.type_law.specs.Owning.{Among, names, IsTop, IsHeld, Stands, lying, flying, content, granted, held, result, joined, OwnsInTheEnd, directly, through, NoneOwnsItself}
 
 abbrev type_of : NameTypes → Node → Owned

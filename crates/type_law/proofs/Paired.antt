@@ -5,17 +5,17 @@ use Rattle.fr_base.specs.declared.name.ObjNo.{ObjNo}
 use Rattle.fr_base.specs.declared.name.MutexNo.{MutexNo}
 use Rattle.fr_base.specs.declared.label.Plain.{Plain}
 use Rattle.fr_base.specs.declared.label.Plain.TheVariants as plain
-use Rattle.fr_typing.specs.Kinds.{unit, int, box, view, whole}
+use Rattle.fr_typing.specs.Kinds.{unit, int, view, whole}
 use Rattle.fr_typing.specs.Places.{Env}
 use Rattle.fr_store.specs.Keys.{Key, slot_k, temp_k, content_k, result_k, hand_k}
-use Rattle.fr_store.specs.Store.{Val, Location, at_key, at_object, box_v, int_v, ref_v, gone_v, mutex_v, Store, value_at, Place}
-use Rattle.fr_store.specs.Typed.{Tree, hole, int_tree, box_tree, Exact, owns, refers, KeyTypes, exact_under, here, Stands, Typed}
+use Rattle.fr_store.specs.Store.{Val, Location, at_key, at_object, box_v, int_v, ref_v, gone_v, Store, value_at, Place}
+use Rattle.fr_store.specs.Typed.{hole, int_tree, box_tree, Exact, owns, refers, KeyTypes, exact_under, here, Stands, Typed}
 use Rattle.fr_store.specs.Below.{tree_of, Seen}
 use Rattle.server_model.specs.Figures.{run, steps_of, deliver}
 use Rattle.server_model.specs.Programs.{with_servers, read_by_pairs}
 use Rattle.heap_law.specs.Clusters.{place}
 use Rattle.heap_law.specs.Sight.{sight}
-use Rattle.heap_law.specs.OneHeap.{PlainValue, own, to_object, PlainLife, PlainState, runs, ended, taken, held, one_heap, is_given_thread}
+use Rattle.heap_law.specs.OneHeap.{PlainValue, own, to_object, PlainLife, runs, ended, taken, held, one_heap, is_given_thread}
 use Rattle.type_law.specs.CodeTypes.{going, forked_at}
 use Rattle.type_law.specs.Names.{NameTypes}
 use Rattle.type_law.specs.States.{Marks, store_of, slot_val, temp_val, result_val, RunningTyped, StateTypes, nth_value, part_at, is_reference, IsLower, by_boxes}

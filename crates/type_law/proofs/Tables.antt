@@ -1,5 +1,5 @@
 -- The tables of the examples, row by row.
-use Rattle.std.proofs.Common.{refl, ◌∷◌, [], List, ℕ}
+use Rattle.std.proofs.Common.{refl}
 use Rattle.fr_typing.specs.Kinds.{unit}
 use Rattle.fr_typing.specs.Captures.{captures_copy, captures_move}
 use Rattle.server_model.specs.Programs.{read_by_pairs, locked_elsewhere, lent_box}

@@ -4,13 +4,13 @@ use Rattle.fr_base.specs.declared.instruction.Instr.{Instr}
 use Rattle.fr_base.specs.declared.settings.Options.{Options}
 use Rattle.fr_base.specs.declared.place.Lval.{Lval}
 use Rattle.journal.specs.declared.entry.Entry.{Entry}
-use Rattle.fr_typing.specs.Kinds.{unit, int, box, Kind, shared, mutable, Piece, whole}
-use Rattle.fr_store.specs.Keys.{Key, slot_k}
+use Rattle.fr_typing.specs.Kinds.{unit, int, box, shared, mutable, Piece, whole}
+use Rattle.fr_store.specs.Keys.{slot_k}
 use Rattle.fr_store.specs.Typed.{Exact, owns, refers, hole, KeyTypes}
 use Rattle.server_model.specs.declared.event.Event.{Event}
 use Rattle.server_model.specs.Servers.{Cluster, start_of}
 use Rattle.server_model.specs.Clusters.{apply}
-use Rattle.server_model.specs.Figures.{steps_of, deliver}
+use Rattle.server_model.specs.Figures.{deliver}
 use Rattle.server_model.specs.Programs.{with_servers, read_by_pairs, locked_elsewhere, lent_box}
 use Rattle.server_model.specs.Rows.{reading_by_pairs, moving, locking_elsewhere, unlocked}
 use Rattle.heap_law.specs.Follow.{Standing, thread_at}

@@ -1,6 +1,6 @@
 -- The typing of instructions: the table of typing terms (Featherweight Rust with this project's rules) as compiled code meets it. Code has
 -- no names; an environment's names are any that typing would take. All checks are those that typing makes of terms.
-use Rattle.std.specs.Prelude.{◌≡◌, ℕ, ℤ, Bool, true, false, not, ◌&&◌, ◌==◌, is_some, List, [], ◌∷◌, length, Option, Some, None, if◌then◌else◌, slice_get}
+use Rattle.std.specs.Prelude.{◌≡◌, ℕ, ℤ, Bool, true, false, not, ◌==◌, is_some, List, [], ◌∷◌, length, Some, None, if◌then◌else◌, slice_get}
 use Rattle.std.specs.List.{list_all}
 use Rattle.fr_base.specs.declared.place.Lval.{Lval}
 use Rattle.fr_base.specs.declared.place.Op.{Op}

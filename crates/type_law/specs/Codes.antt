@@ -1,5 +1,5 @@
 -- Codes and their tables, and a code that has none.
-use Rattle.std.specs.Prelude.{ℕ, pos, true, false, List, [], ◌∷◌, Some}
+use Rattle.std.specs.Prelude.{pos, true, List, [], ◌∷◌, Some}
 use Rattle.fr_base.specs.declared.instruction.Operand.TheVariants as operand
 use Rattle.fr_base.specs.declared.instruction.Instr.{Instr}
 use Rattle.fr_base.specs.declared.instruction.Instr.TheVariants as instr

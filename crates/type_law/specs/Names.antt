@@ -4,7 +4,7 @@ use Rattle.fr_base.specs.declared.name.ObjNo.{ObjNo}
 use Rattle.fr_base.specs.declared.name.MutexNo.{MutexNo}
 use Rattle.heap_partition.specs.declared.value.Owned.{Owned as Value}
 use Rattle.heap_partition.specs.declared.value.Owned.TheVariants as owned
-use Rattle.fr_typing.specs.Kinds.{Owned, unit, int, box, mutex, task, same_owned, Kind, own, shared, mutable, view, Piece, whole, gone, boxed, map_some}
+use Rattle.fr_typing.specs.Kinds.{Owned, unit, int, box, mutex, task, same_owned, Kind, own, Piece, whole, gone, boxed, map_some}
 
 -- what each object holds, each mutex holds as its content, and each thread ends with: the type of its code's result, whether it has ended or not
 pub record NameTypes : Type 0 where

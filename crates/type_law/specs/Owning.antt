@@ -1,6 +1,5 @@
 -- No object, content or result owns itself, directly or through others (this project's rule).
-use Rattle.std.specs.Prelude.{◌≡◌, ◌⊎◌, ℕ, ◌==◌, Bool, true, false, reverse, List, [], ◌∷◌, Option, Some, None}
-use Rattle.fr_base.specs.declared.name.ObjNo.{ObjNo}
+use Rattle.std.specs.Prelude.{◌≡◌, ◌⊎◌, ℕ, ◌==◌, Bool, true, false, reverse, List, [], ◌∷◌, Some}
 use Rattle.fr_base.specs.declared.name.MutexNo.{MutexNo}
 use Rattle.heap_partition.specs.declared.value.Cell.{Cell}
 use Rattle.heap_partition.specs.declared.value.Owned.{Owned}
@@ -9,7 +8,7 @@ use Rattle.thread_state.specs.declared.value.Value.{Value}
 use Rattle.thread_state.specs.declared.value.Value.TheVariants as value
 use Rattle.server_model.specs.Servers.{Cluster}
 use Rattle.heap_law.specs.Names.{same_object, same_mutex}
-use Rattle.heap_law.specs.Things.{Spot, as_content, as_result, Thing, holds, lies, flies}
+use Rattle.heap_law.specs.Things.{as_content, as_result, holds, lies, flies}
 use Rattle.heap_law.specs.Follow.{Standing}
 use Rattle.heap_law.specs.Sight.{Sight, sight}
 use Rattle.heap_law.specs.Walking.{instr_of}

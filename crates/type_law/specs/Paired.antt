@@ -1,7 +1,6 @@
 -- A cluster in which main waits at its par, and both branches have a view of what its reference leads to.
-use Rattle.std.specs.Prelude.{◌≡◌, ℕ, false, List, [], ◌∷◌, ◌++◌, Some, None}
+use Rattle.std.specs.Prelude.{◌≡◌, false, [], ◌∷◌, ◌++◌, Some}
 use Rattle.global_addr.specs.Words.{word_of}
-use Rattle.owner_box.specs.View.{PartitionView}
 use Rattle.thread_state.specs.View.{ThreadView, new_thread}
 use Rattle.thread_state.specs.declared.value.Value.{Value}
 use Rattle.thread_state.specs.declared.value.Value.TheVariants as value

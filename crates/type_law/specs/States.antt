@@ -13,7 +13,7 @@ use Rattle.fr_store.specs.Typed.{int_tree, owns, KeyTypes, Typed}
 use Rattle.fr_store.specs.Below.{tree_of}
 use Rattle.fr_store.specs.Thread.{ThreadKeys, ThreadTyped, Asleep}
 use Rattle.fr_sound.specs.Seen.{owned_val, seen_cell}
-use Rattle.heap_law.specs.OneHeap.{PlainValue, own, to_slot, to_object, held, PlainLife, runs, ended, taken, PlainMutex, PlainState}
+use Rattle.heap_law.specs.OneHeap.{PlainValue, own, to_slot, to_object, held, PlainLife, runs, ended, PlainMutex, PlainState}
 use Rattle.type_law.specs.Names.{NameTypes}
 use Rattle.type_law.specs.CodeTypes.{Entry, Table}
 

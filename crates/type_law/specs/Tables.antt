@@ -1,6 +1,5 @@
 -- Tables of codes with a pair of threads and views, with a mutex and a task, and with a mutable reference.
-use Rattle.std.specs.Prelude.{ℕ, List, [], ◌∷◌, ◌++◌, Some, None}
-use Rattle.fr_base.specs.declared.place.Lval.{Lval}
+use Rattle.std.specs.Prelude.{[], ◌∷◌, ◌++◌, Some, None}
 use Rattle.fr_terms.specs.Terms.{Text}
 use Rattle.fr_typing.specs.Kinds.{unit, int, box, mutex, task, Kind, own, shared, mutable, view, Piece, whole, gone}
 use Rattle.fr_typing.specs.Places.{Slot, Env}

@@ -1,6 +1,5 @@
 -- Clusters that have types: the start of a code, and its run after two events.
-use Rattle.std.specs.Prelude.{◌≡◌, ℕ, pos, List, [], ◌∷◌, Option, Some, None}
-use Rattle.owner_box.specs.View.{PartitionView}
+use Rattle.std.specs.Prelude.{◌≡◌, [], ◌∷◌, Option, Some, None}
 use Rattle.global_addr.specs.Words.{word_of}
 use Rattle.thread_state.specs.View.{ThreadView, new_thread}
 use Rattle.thread_state.specs.declared.value.Value.TheVariants as value
