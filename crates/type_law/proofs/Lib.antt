@@ -5,3 +5,4 @@ mod Boxed
 mod Tables
 mod Owning
 mod Paired
+mod Locking

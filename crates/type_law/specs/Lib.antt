@@ -7,5 +7,6 @@ pub mod Owning
 pub mod Codes
 pub mod Typed
 pub mod Paired
+pub mod Locking
 pub mod Tables
 pub mod Along

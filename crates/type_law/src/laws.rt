@@ -2,6 +2,7 @@
 
 ghost use Rattle.type_law.specs.Along.{RowsKeepTypes};
 ghost use Rattle.type_law.specs.Codes.{CodesCompute};
+ghost use Rattle.type_law.specs.Locking.{LockHasTypes};
 ghost use Rattle.type_law.specs.Owning.{NoneOwnsItself};
 ghost use Rattle.type_law.specs.Paired.{PairHasTypes};
 ghost use Rattle.type_law.specs.Tables.{TablesCompute};
@@ -14,11 +15,12 @@ pub fn codes_are_typed()
     ensures tables { TablesCompute }
 {}
 
-/// Clusters that have types: the start of a code, its run after two events, and a parent that waits beside two branches with
-/// views. What can be counted of types holds after each event of three rows.
+/// Clusters that have types: the start of a code, its run after two events, a parent that waits beside two branches with views,
+/// and a thread that holds a mutex. What can be counted of types holds after each event of three rows.
 pub fn types_compute()
     ensures whole { TypesCompute }
     ensures paired { PairHasTypes }
+    ensures locked { LockHasTypes }
     ensures counted { RowsKeepTypes }
 {}
 
