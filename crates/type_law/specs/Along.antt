@@ -39,7 +39,7 @@ abbrev exact_thread : Table → ℕ → ℕ → Option Standing → Exact
 exact_thread table t i None = owns hole
 exact_thread table t i (Some x) = exact_entry t i (slice_get table x.thread.pc)
 
-abbrev exact_in : Table → Sight → KeyTypes
+abbrev pub exact_in : Table → Sight → KeyTypes
 exact_in table s (slot_k t i) = exact_thread table t i (thread_at s.ground.threads t)
 exact_in table s k = owns hole
 

@@ -10,3 +10,4 @@ pub mod Paired
 pub mod Locking
 pub mod Tables
 pub mod Along
+pub mod Breaches

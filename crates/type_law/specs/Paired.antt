@@ -13,10 +13,10 @@ use Rattle.heap_law.specs.Clusters.{cell, int, box, object, task}
 use Rattle.type_law.specs.ClusterTypes.{Types}
 use Rattle.type_law.specs.Typed.{cluster_of}
 
-abbrev seen : Value
+abbrev pub seen : Value
 seen = value.Shared (record { word = word_of 0 0 0; object = object 0; pinned = false })
 
-abbrev parent : ThreadView
+abbrev pub parent : ThreadView
 parent = record (new_thread 0 5 (value.Own (box (word_of 0 0 0) 0) ∷ seen ∷ [])) { phase = phase.WaitPar 1 2; made = 1 }
 
 abbrev pub paired_server : Server

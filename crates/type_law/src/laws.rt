@@ -1,6 +1,7 @@
 //! Laws of types.
 
 ghost use Rattle.type_law.specs.Along.{RowsKeepTypes};
+ghost use Rattle.type_law.specs.Breaches.{TypesBreak};
 ghost use Rattle.type_law.specs.Codes.{CodesCompute};
 ghost use Rattle.type_law.specs.Locking.{LockHasTypes};
 ghost use Rattle.type_law.specs.Owning.{NoneOwnsItself};
@@ -22,6 +23,11 @@ pub fn types_compute()
     ensures paired { PairHasTypes }
     ensures locked { LockHasTypes }
     ensures counted { RowsKeepTypes }
+{}
+
+/// Each sentence that is counted sees the clusters that break it.
+pub fn types_break()
+    ensures { TypesBreak }
 {}
 
 /// In a cluster that has types no object, content or result owns itself, directly or through others.
