@@ -1,5 +1,5 @@
 -- The cluster in which main holds a mutex has types.
-use Rattle.std.proofs.Common.{◌≡◌, ◌≢◌, ◌<◌, ◌≤◌, ◌⊎◌, inl, inr, ◌∙◌, ◌+◌, ◌==◌, ◌/◌, ◌%◌, ◌^◌, ◌++◌, pos, ℕ, zero, suc, true, false, Bool, List, [], ◌∷◌, length, Option, Some, None, refl, sym, ap, subst, arith}
+use Rattle.std.proofs.Common.{◌≡◌, ◌≢◌, ◌<◌, ◌≤◌, ◌⊎◌, inl, inr, ◌∙◌, ◌==◌, ◌/◌, ◌%◌, ◌^◌, ◌++◌, pos, ℕ, zero, suc, true, false, Bool, List, [], ◌∷◌, Option, Some, None, refl, sym, ap, subst, arith}
 use Rattle.std.proofs.lemmas.Bool.Decides.{nat_tests}
 use Rattle.fr_base.specs.declared.name.ObjNo.{ObjNo}
 use Rattle.fr_base.specs.declared.name.MutexNo.{MutexNo}
@@ -10,12 +10,11 @@ use Rattle.fr_store.specs.Keys.{Key, slot_k, temp_k, content_k, result_k, hand_k
 use Rattle.fr_store.specs.Store.{Val, Location, at_key, at_object, box_v, int_v, ref_v, gone_v, mutex_v, Store, value_at, Place}
 use Rattle.fr_store.specs.Typed.{hole, int_tree, mutex_tree, Exact, owns, refers, KeyTypes, exact_under, here, Stands, Typed}
 use Rattle.fr_store.specs.Below.{tree_of}
-use Rattle.fr_store.specs.Thread.{OwnOrForeign}
 use Rattle.server_model.specs.Figures.{run, steps_of, deliver}
 use Rattle.server_model.specs.Programs.{with_servers, locked_twice}
 use Rattle.heap_law.specs.Clusters.{place, the_mutex}
 use Rattle.heap_law.specs.Sight.{sight}
-use Rattle.heap_law.specs.OneHeap.{PlainValue, own, PlainLife, PlainMutex, runs, ended, held, one_heap, is_given_thread}
+use Rattle.heap_law.specs.OneHeap.{PlainValue, own, PlainMutex, runs, ended, held, one_heap, is_given_thread}
 use Rattle.type_law.specs.CodeTypes.{going, takes_const, takes_unit, takes_pop, i_mutex, i_let, i_lock, i_copy, i_print, i_unlock, i_drop}
 use Rattle.type_law.specs.CodeTable.{leads, ends, IsTable}
 use Rattle.type_law.specs.Names.{NameTypes}
@@ -30,10 +29,31 @@ twice_typed : IsTable locked_twice twice_table
 twice_typed = record {
   main = unit;
   starts = refl;
-  rows = (leads (i_mutex (takes_const refl) refl), (leads (i_let x_name (takes_pop refl) refl),
-      (leads (i_lock r_name refl (record { named = refl; is = refl }) refl refl), (leads (i_lock c_name refl (record { named = refl; is = refl }) refl refl),
-      (leads (i_copy refl (record { named = refl; is = refl }) refl refl), (leads (i_print (takes_pop refl)), (leads (i_unlock refl), (leads (i_unlock refl),
-      (leads (i_drop refl refl refl), (ends (takes_unit refl), tt))))))))));
+  rows = (
+    leads (i_mutex (takes_const refl) refl),
+    (
+      leads (i_let x_name (takes_pop refl) refl),
+      (
+        leads (i_lock r_name refl (record { named = refl; is = refl }) refl refl),
+        (
+          leads (i_lock c_name refl (record { named = refl; is = refl }) refl refl),
+          (
+            leads (i_copy refl (record { named = refl; is = refl }) refl refl),
+            (
+              leads (i_print (takes_pop refl)),
+              (
+                leads (i_unlock refl),
+                (
+                  leads (i_unlock refl),
+                  (leads (i_drop refl refl refl), (ends (takes_unit refl), tt)),
+                ),
+              ),
+            ),
+          ),
+        ),
+      ),
+    ),
+  );
 }
 
 abbrev names : NameTypes

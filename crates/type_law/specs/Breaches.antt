@@ -1,9 +1,8 @@
 -- Clusters that break what is counted of types, a sentence each.
-use Rattle.std.specs.Prelude.{◌≡◌, ℕ, false, List, [], ◌∷◌, Some, None}
+use Rattle.std.specs.Prelude.{◌≡◌, ℕ, false, List, [], ◌∷◌}
 use Rattle.global_addr.specs.Words.{word_of}
 use Rattle.fr_base.specs.declared.place.Lval.{Lval}
 use Rattle.heap_partition.specs.declared.value.Owned.TheVariants as owned
-use Rattle.mut_borrow.specs.declared.mutable.MutRef.{MutRef}
 use Rattle.thread_state.specs.View.{ThreadView, new_thread}
 use Rattle.thread_state.specs.declared.value.Value.{Value}
 use Rattle.thread_state.specs.declared.value.Value.TheVariants as value
@@ -12,7 +11,7 @@ use Rattle.fr_typing.specs.Kinds.{int}
 use Rattle.server_model.specs.Servers.{Server, Cluster}
 use Rattle.server_model.specs.Programs.{lent_box}
 use Rattle.heap_law.specs.Clusters.{cell, int as one_int, box, object, place, the_mutex}
-use Rattle.heap_law.specs.Sight.{Sight, sight}
+use Rattle.heap_law.specs.Sight.{sight}
 use Rattle.type_law.specs.Names.{NameTypes}
 use Rattle.type_law.specs.CodeTypes.{Table}
 use Rattle.type_law.specs.ClusterTypes.{misfits, forms_wrong, locked_wrong, leads_wrong, views_wrong, parents_wrong, ends_wrong, branches_wrong, over_wrong}

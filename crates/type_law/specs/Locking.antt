@@ -1,6 +1,5 @@
 -- A cluster in which main holds a mutex: the hidden slot of the lock is its mark, and the slot above has its content.
-use Rattle.std.specs.Prelude.{◌≡◌, ℕ, pos, List, [], ◌∷◌, ◌++◌, Some, None}
-use Rattle.owner_box.specs.View.{PartitionView}
+use Rattle.std.specs.Prelude.{◌≡◌, pos, [], ◌∷◌, ◌++◌, Some, None}
 use Rattle.thread_state.specs.View.{ThreadView, new_thread}
 use Rattle.thread_state.specs.declared.value.Value.TheVariants as value
 use Rattle.heap_partition.specs.declared.value.Owned.TheVariants as owned
