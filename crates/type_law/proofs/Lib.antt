@@ -6,3 +6,4 @@ mod Tables
 mod Owning
 mod Paired
 mod Locking
+mod Whole

@@ -11,3 +11,4 @@ pub mod Locking
 pub mod Tables
 pub mod Along
 pub mod Breaches
+pub mod Whole

@@ -8,6 +8,7 @@ ghost use Rattle.type_law.specs.Owning.{NoneOwnsItself};
 ghost use Rattle.type_law.specs.Paired.{PairHasTypes};
 ghost use Rattle.type_law.specs.Tables.{TablesCompute};
 ghost use Rattle.type_law.specs.Typed.{TypesCompute};
+ghost use Rattle.type_law.specs.Whole.{CoherentCompute};
 
 /// The tables of four small codes, with all kinds of captures, a lock, a task and references, and a code that reads what has moved away,
 /// which has none.
@@ -23,6 +24,11 @@ pub fn types_compute()
     ensures paired { PairHasTypes }
     ensures locked { LockHasTypes }
     ensures counted { RowsKeepTypes }
+{}
+
+/// Clusters that are coherent in all parts.
+pub fn coherent_compute()
+    ensures { CoherentCompute }
 {}
 
 /// Each sentence that is counted sees the clusters that break it.
