@@ -1,0 +1,17 @@
+use Rattle.std.proofs.Common.{refl}
+use Rattle.type_law.proofs.laws.types_break.Goals as goal
+
+pub returns : goal.returns
+returns c = record {
+  over = refl;
+  agree = refl;
+  forms = refl;
+  locked = refl;
+  marks = refl;
+  held = refl;
+  holders = refl;
+  views = refl;
+  parents = refl;
+  ends = refl;
+  branches = refl;
+}

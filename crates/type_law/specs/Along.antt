@@ -1,0 +1,73 @@
+-- Whole runs keep what can be counted of types, after each event.
+use Rattle.std.specs.Prelude.{◌≡◌, ℕ, ◌+◌, ◌==◌, false, if◌then◌else◌, List, [], ◌∷◌, ◌++◌, Option, Some, None, slice_get}
+use Rattle.fr_base.specs.declared.instruction.Instr.{Instr}
+use Rattle.fr_base.specs.declared.settings.Options.{Options}
+use Rattle.fr_base.specs.declared.place.Lval.{Lval}
+use Rattle.journal.specs.declared.entry.Entry.{Entry}
+use Rattle.fr_typing.specs.Kinds.{unit, int, box, shared, mutable, Piece, whole}
+use Rattle.fr_store.specs.Keys.{slot_k}
+use Rattle.fr_store.specs.Typed.{Exact, owns, refers, hole, KeyTypes}
+use Rattle.server_model.specs.declared.event.Event.{Event}
+use Rattle.server_model.specs.Servers.{Cluster, start_of}
+use Rattle.server_model.specs.Clusters.{apply}
+use Rattle.server_model.specs.Figures.{deliver}
+use Rattle.server_model.specs.Programs.{with_servers, read_by_pairs, locked_elsewhere, lent_box}
+use Rattle.server_model.specs.Rows.{reading_by_pairs, moving, locking_elsewhere, unlocked}
+use Rattle.heap_law.specs.Follow.{Standing, thread_at}
+use Rattle.heap_law.specs.Sight.{Sight, sight}
+use Rattle.type_law.specs.Names.{NameTypes}
+use Rattle.type_law.specs.CodeTypes.{Table, Entry as Types}
+use Rattle.type_law.specs.States.{part_at}
+use Rattle.type_law.specs.ClusterTypes.{misfits, forms_wrong, locked_wrong, leads_wrong, views_wrong, parents_wrong, ends_wrong, branches_wrong, over_wrong}
+use Rattle.type_law.specs.Tables.{pairs_table, locks_table, lent_table}
+
+-- where each set has one place, the exact type of a slot is that of its environment
+abbrev exact_from : ℕ → List Lval → Exact
+exact_from t [] = owns hole
+exact_from t (w ∷ ws) = refers false (record { key = slot_k t w.slot; depth = w.depth })
+
+abbrev exact_part : ℕ → Option Piece → Exact
+exact_part t (Some (whole (shared us))) = exact_from t us
+exact_part t (Some (whole (mutable us))) = exact_from t us
+exact_part t p = owns hole
+
+abbrev exact_entry : ℕ → ℕ → Option Types → Exact
+exact_entry t i None = owns hole
+exact_entry t i (Some x) = exact_part t (part_at x.env i)
+
+abbrev exact_thread : Table → ℕ → ℕ → Option Standing → Exact
+exact_thread table t i None = owns hole
+exact_thread table t i (Some x) = exact_entry t i (slice_get table x.thread.pc)
+
+abbrev pub exact_in : Table → Sight → KeyTypes
+exact_in table s (slot_k t i) = exact_thread table t i (thread_at s.ground.threads t)
+exact_in table s k = owns hole
+
+abbrev wrong_in : Table → NameTypes → (ℕ → ℕ) → Sight → ℕ
+wrong_in table n order s =
+    misfits n s + forms_wrong table n s + locked_wrong table n s + leads_wrong (exact_in table s) s + views_wrong table s + parents_wrong order s
+    + ends_wrong table n s + branches_wrong n s + over_wrong s
+
+abbrev after : (Cluster → ℕ) → Option (Cluster × Entry) → ℕ
+after go None = 1
+after go (Some d) = go d.0
+
+abbrev wrong_along : Table → NameTypes → (ℕ → ℕ) → List Event → Cluster → ℕ
+wrong_along table n order [] k = wrong_in table n order (sight k)
+wrong_along table n order (e ∷ es) k = wrong_in table n order (sight k) + after (wrong_along table n order es) (apply k e)
+
+-- main is the parent of each other thread
+abbrev main_first : ℕ → ℕ
+main_first t = if t == 0 then 0 else 1
+
+-- each object holds an integer, each mutex a box, and each thread ends with unit
+abbrev pub integers : NameTypes
+integers = record { object = λ o. int; mutex = λ m. box int; result = λ t. unit }
+
+abbrev Keeps : List Instr → Options → List Event → Table → Type 0
+Keeps code o es table = wrong_along table integers main_first es (start_of code o) ≡ 0
+
+pub record RowsKeepTypes : Type 0 where
+  pub pairs : Keeps read_by_pairs (with_servers 3 65536) reading_by_pairs pairs_table
+  pub locks : Keeps locked_elsewhere (with_servers 2 65536) (locking_elsewhere ++ deliver 0 1 ++ deliver 0 0 ++ unlocked) locks_table
+  pub lent : Keeps lent_box (with_servers 2 65536) moving lent_table

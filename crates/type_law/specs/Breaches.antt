@@ -1,0 +1,85 @@
+-- Clusters that break what is counted of types, a sentence each.
+use Rattle.std.specs.Prelude.{◌≡◌, ℕ, false, List, [], ◌∷◌}
+use Rattle.global_addr.specs.Words.{word_of}
+use Rattle.fr_base.specs.declared.place.Lval.{Lval}
+use Rattle.heap_partition.specs.declared.value.Owned.TheVariants as owned
+use Rattle.thread_state.specs.View.{ThreadView, new_thread}
+use Rattle.thread_state.specs.declared.value.Value.{Value}
+use Rattle.thread_state.specs.declared.value.Value.TheVariants as value
+use Rattle.thread_state.specs.declared.phase.Phase.TheVariants as phase
+use Rattle.fr_typing.specs.Kinds.{int}
+use Rattle.server_model.specs.Servers.{Server, Cluster}
+use Rattle.server_model.specs.Programs.{lent_box}
+use Rattle.heap_law.specs.Clusters.{cell, int as one_int, box, object, place, the_mutex}
+use Rattle.heap_law.specs.Sight.{sight}
+use Rattle.type_law.specs.Names.{NameTypes}
+use Rattle.type_law.specs.CodeTypes.{Table}
+use Rattle.type_law.specs.ClusterTypes.{misfits, forms_wrong, locked_wrong, leads_wrong, views_wrong, parents_wrong, ends_wrong, branches_wrong, over_wrong}
+use Rattle.type_law.specs.Codes.{boxed_table}
+use Rattle.type_law.specs.Tables.{pairs_table, lent_table}
+use Rattle.type_law.specs.Typed.{boxed_main, boxed_server, boxed_cluster}
+use Rattle.type_law.specs.Paired.{parent, seen, paired_server, paired_cluster}
+use Rattle.type_law.specs.Locking.{twice_table, locking_main, locking_server, locking_cluster}
+use Rattle.type_law.specs.Along.{exact_in, integers}
+
+-- the cluster with these threads at its one server
+abbrev with_threads : Cluster → Server → List ThreadView → Cluster
+with_threads k s ts = record k { servers = record s { threads = ts } ∷ [] }
+
+abbrev leads_in : Table → Cluster → ℕ
+leads_in table k = let s = sight k in leads_wrong (exact_in table s) s
+
+-- main is over, with a slot
+abbrev over_with_slot : Cluster
+over_with_slot = with_threads boxed_cluster boxed_server (record boxed_main { phase = phase.Over } ∷ [])
+
+-- an integer's object holds unit
+abbrev unit_held : Cluster
+unit_held = record boxed_cluster { servers = record boxed_server { partition = record boxed_server.partition { cells = cell 0 owned.Unit ∷ [] } } ∷ [] }
+
+-- an integer stands in the slot of a box
+abbrev int_for_box : Cluster
+int_for_box = with_threads boxed_cluster boxed_server (record boxed_main { slots = value.Own (one_int 1) ∷ [] } ∷ [])
+
+-- the mark is of another mutex than that at the lock's place
+abbrev other_mark : Cluster
+other_mark =
+    with_threads locking_cluster locking_server
+    (record locking_main { slots = value.Own (owned.Mutex the_mutex) ∷ value.Held (record { home = 0; count = 2 }) ∷ value.Own (one_int 1) ∷ [] } ∷ [])
+
+abbrev reference_with : Lval → Value
+reference_with holder = value.Mut (record { word = word_of 0 0 0; first = word_of 0 0 0; object = object 0; dirty = false; holder = holder })
+
+-- main has a mutable reference to what its box holds, with that holder
+abbrev lent_with : Lval → Cluster
+lent_with holder =
+    with_threads (record boxed_cluster { code = lent_box }) boxed_server
+    (record (new_thread 0 4 (value.Own (box (word_of 0 0 0) 0) ∷ reference_with holder ∷ [])) { made = 1 } ∷ [])
+
+-- the parent has no reference to what its branches see
+abbrev unseen : Cluster
+unseen =
+    with_threads paired_cluster paired_server
+    (record parent { slots = value.Own (box (word_of 0 0 0) 0) ∷ value.Gone ∷ [] } ∷ new_thread 1 15 (seen ∷ []) ∷ new_thread 2 19 (seen ∷ []) ∷ [])
+
+-- each thread ends with an integer
+abbrev int_results : NameTypes
+int_results = record integers { result = λ t. int }
+
+pub record TypesBreak : Type 0 where
+  pub over : over_wrong (sight over_with_slot) ≡ 1
+  pub agree : misfits integers (sight unit_held) ≡ 1
+  pub forms : forms_wrong boxed_table integers (sight int_for_box) ≡ 1
+  -- the mutex holds a box, and an integer stands above its mark
+  pub locked : locked_wrong twice_table integers (sight locking_cluster) ≡ 1
+  pub marks : leads_in twice_table other_mark ≡ 1
+  -- a holder is the pointer's place, and not that of the object
+  pub held : leads_in lent_table (lent_with (place 0 0)) ≡ 0
+  pub holders : leads_in lent_table (lent_with (place 0 1)) ≡ 1
+  -- both branches' views
+  pub views : views_wrong pairs_table (sight unseen) ≡ 2
+  pub parents : parents_wrong (λ t. 0) (sight paired_cluster) ≡ 2
+  -- main's code and those of its branches
+  pub ends : ends_wrong pairs_table int_results (sight paired_cluster) ≡ 3
+  -- as their home has noted them, and as their parent waits for them
+  pub branches : branches_wrong int_results (sight paired_cluster) ≡ 4

@@ -1,0 +1,287 @@
+-- TYPES: the last part of coherent memory (Featherweight Rust's types over the things of a cluster; threads, mutexes and views are this project's).
+-- What can be counted is counted, as in the other parts: the number of things that break a sentence is 0.
+use Rattle.std.specs.Prelude.{◌≡◌, ℕ, zero, suc, ◌+◌, ◌==◌, nat_lt, Bool, true, false, not, ◌&&◌, ◌||◌, List, [], ◌∷◌, reverse, Option, Some, None, is_some, slice_get}
+use Rattle.fr_base.specs.declared.name.ObjNo.{ObjNo}
+use Rattle.fr_base.specs.declared.name.MutexNo.{MutexNo}
+use Rattle.fr_base.specs.declared.place.Lval.{Lval}
+use Rattle.fr_base.specs.declared.instruction.Instr.{Instr}
+use Rattle.fr_base.specs.declared.instruction.Instr.TheVariants as instr
+use Rattle.heap_partition.specs.declared.value.Owned.{Owned}
+use Rattle.heap_partition.specs.declared.value.Owned.TheVariants as owned
+use Rattle.thread_state.specs.View.{ThreadView}
+use Rattle.thread_state.specs.declared.value.Value.{Value}
+use Rattle.thread_state.specs.declared.value.Value.TheVariants as value
+use Rattle.thread_state.specs.declared.phase.Phase.{Phase}
+use Rattle.thread_state.specs.declared.phase.Phase.TheVariants as phase
+use Rattle.join_home.specs.Tasks.{TaskState, in_pair}
+use Rattle.fr_typing.specs.Kinds.{unit, same_owned, Kind, own, shared, mutable, view, Piece, whole, gone, boxed}
+use Rattle.fr_typing.specs.Places.{Slot}
+use Rattle.fr_store.specs.Keys.{Key, slot_k, temp_k}
+use Rattle.fr_store.specs.Typed.{Exact, owns, refers, KeyTypes}
+use Rattle.server_model.specs.Servers.{Cluster}
+use Rattle.heap_law.specs.Names.{one, other, if_so, some, same_object, same_mutex}
+use Rattle.heap_law.specs.Things.{Location, Spot, as_content, as_result, Thing, holds, lies, flies, noted}
+use Rattle.heap_law.specs.Follow.{Standing, Ground, leads, locate, place_at, value_at}
+use Rattle.heap_law.specs.Stale.{same_location}
+use Rattle.heap_law.specs.Sight.{Sight, sight}
+use Rattle.heap_law.specs.Placing.{sum_over}
+use Rattle.heap_law.specs.Walking.{sum_threads, instr_of}
+use Rattle.heap_law.specs.Paths.{joined_thread}
+use Rattle.heap_law.specs.Requests.{locked_mutex}
+use Rattle.heap_law.specs.Sharing.{is_over}
+use Rattle.heap_law.specs.Coherent.{IsSound}
+use Rattle.heap_law.specs.OneHeap.{one_heap}
+use Rattle.type_law.specs.Names.{NameTypes, fits, is_there, owned_part, fits_some, is_type}
+use Rattle.type_law.specs.CodeTypes.{Entry, Table}
+use Rattle.type_law.specs.CodeTable.{IsTable}
+use Rattle.type_law.specs.States.{Marks, StateTypes}
+
+-- CELLS, CONTENTS AND RESULTS
+
+abbrev misfit_at : NameTypes → Spot → Owned → ℕ
+misfit_at n (as_content m) v = other (is_there v && fits n (n.mutex m) v)
+misfit_at n (as_result t) v = other (is_there v && fits n (n.result t) v)
+misfit_at n p v = 0
+
+abbrev pub misfit : NameTypes → Thing → ℕ
+misfit n (holds p v) = misfit_at n p v
+misfit n (lies s a c) = other (fits n (n.object c.object) c.value)
+misfit n (flies w c) = other (fits n (n.object c.object) c.value)
+misfit n x = 0
+
+abbrev pub content_gift : NameTypes → Option MutexNo → Option Owned → ℕ
+content_gift n (Some m) (Some v) = misfit_at n (as_content m) v
+content_gift n m g = 0
+
+abbrev pub result_gift : NameTypes → Option ℕ → Option Owned → ℕ
+result_gift n (Some t) (Some v) = misfit_at n (as_result t) v
+result_gift n t g = 0
+
+-- a gift at a lock is the content of the mutex at its place, and one at a join the result of its operand's thread
+abbrev pub gift_misfit : NameTypes → Sight → Standing → ℕ
+gift_misfit n s x = content_gift n (locked_mutex s x (instr_of s x)) x.thread.gift + result_gift n (joined_thread (instr_of s x) x.thread) x.thread.gift
+
+-- each object, each mutex and each thread's result has one type, and every cell, content and result agrees with it, wherever it stands; copies are
+-- aside. What an owned value names has a type of fewer levels, so no object, content or result owns itself, directly or through others
+abbrev pub misfits : NameTypes → Sight → ℕ
+misfits n s = sum_over s (misfit n) + sum_threads s (gift_misfit n s)
+
+-- SLOTS AND TEMPORARY VALUES
+
+-- a value has the form of a part, and agrees with the names' types
+abbrev pub has_form : NameTypes → Piece → Value → Bool
+has_form n (whole (own o)) (value.Own v) = is_there v && fits n o v
+has_form n (whole (shared us)) (value.SharedSlot i) = true
+has_form n (whole (shared us)) (value.Shared r) = true
+has_form n (whole (mutable us)) (value.MutSlot i) = true
+has_form n (whole (mutable us)) (value.Mut r) = true
+has_form n (whole (view o)) (value.Shared r) = same_owned (n.object r.object) o
+has_form n (gone k) value.Gone = true
+has_form n (boxed p) (value.Own v) = is_there v && fits_some n (owned_part (boxed p)) v
+has_form n p v = false
+
+abbrev pub is_mark : Value → Bool
+is_mark (value.Held m) = true
+is_mark v = false
+
+-- a slot without a name is the hidden one of a lock
+abbrev pub slot_form : NameTypes → Slot → Bool → Value → Bool
+slot_form n s true v = has_form n s.part v
+slot_form n s false v = is_mark v
+
+-- the slots, the newest first
+abbrev pub slots_wrong : NameTypes → List Slot → List Value → ℕ
+slots_wrong n [] [] = 0
+slots_wrong n (s ∷ e) (v ∷ vs) = other (slot_form n s (is_some s.name) v) + slots_wrong n e vs
+slots_wrong n e vs = 1
+
+abbrev pub temps_wrong : NameTypes → List Kind → List Value → ℕ
+temps_wrong n [] [] = 0
+temps_wrong n (k ∷ ks) (v ∷ vs) = other (has_form n (whole k) v) + temps_wrong n ks vs
+temps_wrong n ks vs = 1
+
+abbrev pub entry_wrong : (Entry → ℕ) → Option Entry → ℕ
+entry_wrong f None = 1
+entry_wrong f (Some x) = f x
+
+abbrev pub forms_of : NameTypes → ThreadView → Entry → ℕ
+forms_of n t x = slots_wrong n x.env (reverse t.slots) + temps_wrong n x.temps (reverse t.temps)
+
+-- a sentence of the threads that aren't over, at their entries
+abbrev pub at_entries : Table → Sight → (Standing → Entry → ℕ) → ℕ
+at_entries table s f = sum_threads s (λ x. if_so (not (is_over x.thread.phase)) (entry_wrong (f x) (slice_get table x.thread.pc)))
+
+-- each slot and temporary value has the form that typing gives at the thread's instruction; the hidden slot of a lock is a mark
+abbrev pub forms_wrong : Table → NameTypes → Sight → ℕ
+forms_wrong table n s = at_entries table s (λ x. forms_of n x.thread)
+
+abbrev pub above_mark : NameTypes → Slot → List Value → ℕ
+above_mark n c (value.Held m ∷ vs) = other (is_type (owned_part c.part) (n.mutex m))
+above_mark n c vs = 0
+
+abbrev pub locked_of : NameTypes → List Slot → List Value → ℕ
+locked_of n (c ∷ e) (v ∷ vs) = above_mark n c vs + locked_of n e vs
+locked_of n e vs = 0
+
+-- the slot above the mark of a mutex is the one for its content: whole or in part gone, it has the shape that every value of the mutex gives it
+abbrev pub locked_wrong : Table → NameTypes → Sight → ℕ
+locked_wrong table n s = at_entries table s (λ x y. locked_of n y.env (reverse x.thread.slots))
+
+-- VIEWS
+
+abbrev waits_for : ℕ → Phase → Bool
+waits_for t (phase.WaitPar a b) = (a == t) || (b == t)
+waits_for t p = false
+
+abbrev refers_to : ObjNo → List Value → ℕ
+refers_to o [] = 0
+refers_to o (value.Shared r ∷ vs) = one (same_object r.object o) + refers_to o vs
+refers_to o (v ∷ vs) = refers_to o vs
+
+abbrev parent_sees : ℕ → ObjNo → Standing → ℕ
+parent_sees t o p = if_so (waits_for t p.thread.phase) (refers_to o p.thread.slots)
+
+abbrev unseen : Sight → ℕ → Piece → Value → ℕ
+unseen s t (whole (view o)) (value.Shared r) = other (some (sum_threads s (parent_sees t r.object)))
+unseen s t p v = 0
+
+abbrev unseen_slots : Sight → ℕ → List Slot → List Value → ℕ
+unseen_slots s t (x ∷ e) (v ∷ vs) = unseen s t x.part v + unseen_slots s t e vs
+unseen_slots s t e vs = 0
+
+abbrev unseen_temps : Sight → ℕ → List Kind → List Value → ℕ
+unseen_temps s t (k ∷ ks) (v ∷ vs) = unseen s t (whole k) v + unseen_temps s t ks vs
+unseen_temps s t ks vs = 0
+
+-- a view leads to an object to which the parent, which waits at its par, has a shared reference or a view in a slot
+abbrev pub views_wrong : Table → Sight → ℕ
+views_wrong table s =
+    at_entries table s (λ x y. unseen_slots s x.thread.number y.env (reverse x.thread.slots) + unseen_temps s x.thread.number y.temps (reverse x.thread.temps))
+
+abbrev unordered : (ℕ → ℕ) → ℕ → TaskState → ℕ
+unordered order t (in_pair p over) = other (nat_lt (order p) (order t))
+unordered order t x = 0
+
+abbrev unordered_note : (ℕ → ℕ) → Thing → ℕ
+unordered_note order (noted r x) = unordered order x.thread x.state
+unordered_note order x = 0
+
+-- going from each branch to the parent that waits for it comes to an end: an order falls on the way
+abbrev pub parents_wrong : (ℕ → ℕ) → Sight → ℕ
+parents_wrong order s = sum_over s (unordered_note order)
+
+-- RESULTS OF THREADS
+
+abbrev gives_other : NameTypes → ℕ → Entry → ℕ
+gives_other n t x = other (same_owned x.gives (n.result t))
+
+-- the code of each thread, over or not, ends with the type that its task has
+abbrev pub ends_wrong : Table → NameTypes → Sight → ℕ
+ends_wrong table n s = sum_threads s (λ x. entry_wrong (gives_other n x.thread.number) (slice_get table x.thread.pc))
+
+abbrev not_unit : NameTypes → ℕ → ℕ
+not_unit n t = other (same_owned (n.result t) unit)
+
+abbrev branch_note : NameTypes → ℕ → TaskState → ℕ
+branch_note n t (in_pair p over) = not_unit n t
+branch_note n t x = 0
+
+abbrev branch_noted : NameTypes → Thing → ℕ
+branch_noted n (noted r x) = branch_note n x.thread x.state
+branch_noted n x = 0
+
+abbrev branches_of : NameTypes → Phase → ℕ
+branches_of n (phase.WaitPar a b) = not_unit n a + not_unit n b
+branches_of n (phase.GotPar a b) = not_unit n a + not_unit n b
+branches_of n p = 0
+
+-- the two threads of a pair end with unit. (So does a `finished` message of one, whose result agrees with that)
+abbrev pub branches_wrong : NameTypes → Sight → ℕ
+branches_wrong n s = sum_over s (branch_noted n) + sum_threads s (λ x. branches_of n x.thread.phase)
+
+abbrev is_end : Option Instr → Bool
+is_end (Some (instr.End o)) = true
+is_end i = false
+
+abbrev is_empty : {A : Type 0} → List A → Bool
+is_empty [] = true
+is_empty (x ∷ xs) = false
+
+-- a thread that is over stands at its end and has no slot, no temporary value and no gift
+abbrev pub over_wrong : Sight → ℕ
+over_wrong s =
+    sum_threads s (λ x. if_so (is_over x.thread.phase) (other (is_end (instr_of s x) && is_empty x.thread.slots && is_empty x.thread.temps && not (is_some x.thread.gift))))
+
+-- PLACES OF REFERENCES
+
+abbrev same_place : Option Location → Option Location → Bool
+same_place (Some l) (Some m) = same_location l m
+same_place l m = false
+
+abbrev is_value_of : MutexNo → Option Value → Bool
+is_value_of m (Some (value.Own (owned.Mutex n))) = same_mutex n m
+is_value_of m v = false
+
+-- a holder leads, as a location, to the pointer of the place with one star less
+abbrev is_held_at : Ground → ℕ → ℕ → ℕ → Lval → Bool
+is_held_at g t slot zero h = false
+is_held_at g t slot (suc n) h = same_place (place_at g t h) (locate g t slot n)
+
+-- a reference leads where that place of its thread leads; a mutable one to an object is held there with one star less; a mark is of the mutex that
+-- stands there
+abbrev leads_as : Ground → ℕ → Lval → Value → Bool
+leads_as g t w (value.Held m) = is_value_of m (value_at g t w)
+leads_as g t w (value.Mut r) = same_place (leads t (Some (value.Mut r))) (place_at g t w) && is_held_at g t w.slot w.depth r.holder
+leads_as g t w v = same_place (leads t (Some v)) (place_at g t w)
+
+-- the exact type of a reference that is no view names a place of its own thread
+abbrev astray_from : Ground → ℕ → Key → ℕ → Value → ℕ
+astray_from g t (slot_k u i) n v = if_so (u == t) (other (leads_as g t (record { slot = i; depth = n }) v))
+astray_from g t k n v = 0
+
+abbrev astray : Ground → ℕ → Exact → Value → ℕ
+astray g t (owns x) v = 0
+astray g t (refers m u) v = astray_from g t u.key u.depth v
+
+abbrev all_astray : KeyTypes → Ground → ℕ → (ℕ → Key) → ℕ → List Value → ℕ
+all_astray exact g t key i [] = 0
+all_astray exact g t key i (v ∷ vs) = astray g t (exact (key i)) v + all_astray exact g t key (i + 1) vs
+
+abbrev astray_of : KeyTypes → Ground → ThreadView → ℕ
+astray_of exact g t = all_astray exact g t.number (slot_k t.number) 0 t.slots + all_astray exact g t.number (temp_k t.number) 0 t.temps
+
+-- a reference leads to the slot or object that the place of its exact type leads to in its thread, one of the places that typing gives it; where
+-- that is an object and the reference is mutable, its holder is that place with one star less. The hidden slot of a lock is the mark of the mutex
+-- that stands at the lock's place
+abbrev pub leads_wrong : KeyTypes → Sight → ℕ
+leads_wrong exact s = sum_threads s (λ x. astray_of exact s.ground x.thread)
+
+-- THE PART
+
+pub record Types (k : Cluster) : Type 0 where
+  -- what typing gives at each instruction
+  pub table : Table
+  pub is_table : IsTable k.code table
+  -- one type for each name
+  pub names : NameTypes
+  -- the exact types below the environments, with the order of their keys, and where the mutexes of marks stand
+  pub exact : KeyTypes
+  pub rank : Key → ℕ
+  pub marks : Marks
+  -- how many parents wait above a thread
+  pub order : ℕ → ℕ
+  pub state : StateTypes table names marks exact rank (one_heap k)
+  pub agree : misfits names (sight k) ≡ 0
+  pub forms : forms_wrong table names (sight k) ≡ 0
+  pub locked : locked_wrong table names (sight k) ≡ 0
+  pub lead : leads_wrong exact (sight k) ≡ 0
+  pub views : views_wrong table (sight k) ≡ 0
+  pub parents : parents_wrong order (sight k) ≡ 0
+  pub ends : ends_wrong table names (sight k) ≡ 0
+  pub branches : branches_wrong names (sight k) ≡ 0
+  pub over : over_wrong (sight k) ≡ 0
+
+-- COHERENT: all parts
+pub record IsCoherent (k : Cluster) : Type 0 where
+  pub sound : IsSound k
+  pub types : Types k

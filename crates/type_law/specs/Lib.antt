@@ -1,0 +1,14 @@
+pub mod CodeTypes
+pub mod CodeTable
+pub mod Names
+pub mod States
+pub mod ClusterTypes
+pub mod Owning
+pub mod Codes
+pub mod Typed
+pub mod Paired
+pub mod Locking
+pub mod Tables
+pub mod Along
+pub mod Breaches
+pub mod Whole

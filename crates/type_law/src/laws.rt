@@ -1,0 +1,42 @@
+//! Laws of types.
+
+ghost use Rattle.type_law.specs.Along.{RowsKeepTypes};
+ghost use Rattle.type_law.specs.Breaches.{TypesBreak};
+ghost use Rattle.type_law.specs.Codes.{CodesCompute};
+ghost use Rattle.type_law.specs.Locking.{LockHasTypes};
+ghost use Rattle.type_law.specs.Owning.{NoneOwnsItself};
+ghost use Rattle.type_law.specs.Paired.{PairHasTypes};
+ghost use Rattle.type_law.specs.Tables.{TablesCompute};
+ghost use Rattle.type_law.specs.Typed.{TypesCompute};
+ghost use Rattle.type_law.specs.Whole.{CoherentCompute};
+
+/// The tables of four small codes, with all kinds of captures, a lock, a task and references, and a code that reads what has moved away,
+/// which has none.
+pub fn codes_are_typed()
+    ensures small { CodesCompute }
+    ensures tables { TablesCompute }
+{}
+
+/// Clusters that have types: the start of a code, its run after two events, a parent that waits beside two branches with views,
+/// and a thread that holds a mutex. What can be counted of types holds after each event of three rows.
+pub fn types_compute()
+    ensures whole { TypesCompute }
+    ensures paired { PairHasTypes }
+    ensures locked { LockHasTypes }
+    ensures counted { RowsKeepTypes }
+{}
+
+/// Clusters that are coherent in all parts.
+pub fn coherent_compute()
+    ensures { CoherentCompute }
+{}
+
+/// Each sentence that is counted sees the clusters that break it.
+pub fn types_break()
+    ensures { TypesBreak }
+{}
+
+/// In a cluster that has types no object, content or result owns itself, directly or through others.
+pub fn none_owns_itself()
+    ensures { NoneOwnsItself }
+{}
