@@ -4,36 +4,61 @@ use super::*;
 use fr_base::{MutexNo, ObjNo, Released, ThreadNo};
 use global_addr::Word;
 use heap_partition::{Cell, Owned};
-use std::test::Fail;
 use thread_state::{Parcel, Thread};
 
-#[test]
-fn each_message_has_its_kind(rt: HostRuntime) -> Result<(), Fail> {
-    let thread = ThreadNo::new(0, 1);
-    let object = ObjNo { thread, count: 0 };
-    let word = Word::pack(0, 1, 5);
-    let cell = Cell {
-        object,
+// A thread.
+fn thread() -> ThreadNo {
+    ThreadNo::new(0, 1)
+}
+
+// An object.
+fn object() -> ObjNo {
+    ObjNo {
+        thread: thread(),
+        count: 0,
+    }
+}
+
+// A mutex.
+fn mutex() -> MutexNo {
+    MutexNo { home: 1, count: 1 }
+}
+
+// A cell.
+fn cell() -> Cell {
+    Cell {
+        object: object(),
         value: Owned::Int(7),
-    };
-    let mutex = MutexNo { home: 1, count: 1 };
-    assert_eq!(rt; Message::Fetch(word, object, 0, thread).kind(), 0);
-    assert_eq!(rt; Message::Fetched(word, cell, thread).kind(), 1);
-    assert_eq!(rt; Message::Move(word, object, 0, thread).kind(), 2);
-    assert_eq!(rt; Message::Moved(word, cell, thread).kind(), 3);
-    assert_eq!(rt; Message::Drop(word, object).kind(), 4);
-    assert_eq!(rt; Message::Lock(mutex, 0, thread).kind(), 5);
-    assert_eq!(rt; Message::Granted(mutex, Owned::Unit, thread).kind(), 6);
-    assert_eq!(rt; Message::Unlock(mutex, Owned::Unit).kind(), 7);
-    assert_eq!(rt; Message::Dup(mutex, 0, thread).kind(), 8);
-    assert_eq!(rt; Message::Dupped(mutex, thread).kind(), 9);
-    assert_eq!(rt; Message::Release(Released::Mutex(mutex)).kind(), 10);
-    let new = Thread::new(rt.alloc(), thread, 3, Vec::new(rt.alloc()));
+    }
+}
+
+#[test]
+fn objects_come_and_go(rt: HostRuntime) {
+    let word = Word::pack(0, 1, 5);
+    assert_eq!(rt; Message::Fetch(word, object(), 0, thread()).kind(), 0);
+    assert_eq!(rt; Message::Fetched(word, cell(), thread()).kind(), 1);
+    assert_eq!(rt; Message::Move(word, object(), 0, thread()).kind(), 2);
+    assert_eq!(rt; Message::Moved(word, cell(), thread()).kind(), 3);
+    assert_eq!(rt; Message::Drop(word, object()).kind(), 4);
+}
+
+#[test]
+fn mutexes_and_threads_are_asked_for(rt: HostRuntime) {
+    assert_eq!(rt; Message::Lock(mutex(), 0, thread()).kind(), 5);
+    assert_eq!(rt; Message::Granted(mutex(), Owned::Unit, thread()).kind(), 6);
+    assert_eq!(rt; Message::Unlock(mutex(), Owned::Unit).kind(), 7);
+    assert_eq!(rt; Message::Dup(mutex(), 0, thread()).kind(), 8);
+    assert_eq!(rt; Message::Dupped(mutex(), thread()).kind(), 9);
+    assert_eq!(rt; Message::Release(Released::Mutex(mutex())).kind(), 10);
+    assert_eq!(rt; Message::Join(thread(), 0, thread()).kind(), 12);
+    assert_eq!(rt; Message::Joined(thread(), Owned::Unit, thread()).kind(), 13);
+    assert_eq!(rt; Message::Finished(thread(), Owned::Unit).kind(), 14);
+}
+
+#[test]
+fn threads_travel(rt: HostRuntime) {
+    let new = Thread::new(rt.alloc(), thread(), 3, Vec::new(rt.alloc()));
     assert_eq!(rt; Message::Start(Parcel::new(new)).kind(), 11);
-    assert_eq!(rt; Message::Join(thread, 0, thread).kind(), 12);
-    assert_eq!(rt; Message::Joined(thread, Owned::Unit, thread).kind(), 13);
-    assert_eq!(rt; Message::Finished(thread, Owned::Unit).kind(), 14);
-    let moved = Thread::new(rt.alloc(), thread, 3, Vec::new(rt.alloc()));
+    let moved = Thread::new(rt.alloc(), thread(), 3, Vec::new(rt.alloc()));
     assert_eq!(rt; Message::Migrate(Parcel::new(moved)).kind(), 15);
-    Ok(())
 }
