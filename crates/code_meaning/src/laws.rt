@@ -1,0 +1,26 @@
+//! Laws of compiled code over one heap.
+
+ghost use Rattle.code_meaning.specs.LeftByItsCode.{LeftByItsCode};
+ghost use Rattle.code_meaning.specs.Refusals.{LastShares, StepsRefused};
+ghost use Rattle.code_meaning.specs.Rows.{RowsAgree, RunsAgree};
+
+/// Steps that aren't enabled.
+pub fn steps_refused()
+    ensures { StepsRefused }
+{}
+
+/// What is left where the last share of a mutex goes.
+pub fn last_shares_go()
+    ensures { LastShares }
+{}
+
+/// After each event of the rows the one heap of the cluster is the plain state that its code comes to under the order of the journal, with the
+/// labels and prints of the journal; and so it ends.
+pub fn rows_agree()
+    ensures { RowsAgree }
+{}
+
+/// So it is at the end of more runs, and after many events that were chosen among all enabled ones.
+pub fn runs_agree()
+    ensures { RunsAgree }
+{}
