@@ -1,6 +1,6 @@
 -- What goes with a dropped value (this project's rule): a task lets its thread go, and a mutex value takes one share. The last share drops the
 -- content where that is in. A result or a content that goes may be a task or a mutex value again. None of this has a label.
-use Rattle.std.specs.Prelude.{ℕ, zero, suc, ◌+◌, List, [], ◌∷◌, length, Option, Some, None}
+use Rattle.std.specs.Prelude.{ℕ, zero, suc, ◌+◌, length, Option, Some, None}
 use Rattle.fr_base.specs.declared.name.MutexNo.{MutexNo}
 use Rattle.fr_base.specs.declared.label.Plain.{Plain}
 use Rattle.fr_base.specs.declared.label.Plain.TheVariants as plain
@@ -19,11 +19,11 @@ abbrev pub end_of : Heap → Value → Plain
 end_of h (Own v) = last_link (live h) h v
 end_of h _ = plain.Nothing
 
-abbrev end_of_some : Heap → Option Value → Plain
+abbrev pub end_of_some : Heap → Option Value → Plain
 end_of_some h None = plain.Nothing
 end_of_some h (Some v) = end_of h v
 
-abbrev where_reached : Option local.Reached → (local.Reached → Plain) → Plain
+abbrev pub where_reached : Option local.Reached → (local.Reached → Plain) → Plain
 where_reached None go = plain.Nothing
 where_reached (Some r) go = go r
 

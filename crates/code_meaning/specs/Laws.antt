@@ -1,21 +1,38 @@
--- What this machine does and the machine without mutexes and pairs of threads does too, both do alike (this project's rule).
-use Rattle.std.specs.Prelude.{◌≡◌, ℕ, List, [], Some}
-use Rattle.fr_base.specs.declared.label.Label.{Label}
+-- On code without the instructions of mutexes and pairs this machine is the machine of the other instructions (this project's rule).
+use Rattle.std.specs.Prelude.{◌≡◌, ℕ, Bool, true, false, not, ◌&&◌, List, [], ◌∷◌}
 use Rattle.fr_base.specs.declared.step.Fresh.{Fresh}
 use Rattle.fr_base.specs.declared.instruction.Instr.{Instr}
+use Rattle.fr_base.specs.declared.instruction.Instr.TheVariants as instr
 use Rattle.fr_plain.specs.Whole.{Turn}
-use Rattle.fr_code.specs.Machine.{CodeWhole, CodeStepped, code_step, code_run, code_start}
-use Rattle.code_meaning.specs.State.{State, Stepped, with_whole}
+use Rattle.fr_code.specs.Machine.{CodeWhole, code_step, code_run, code_start}
+use Rattle.code_meaning.specs.State.{Hidden, Pair, State, beside, start}
 use Rattle.code_meaning.specs.Steps.{step}
 use Rattle.code_meaning.specs.Runs.{run}
 
--- where no mutex was made, a step of that machine is a step of this one
+-- the instructions of mutexes and of pairs of threads
+abbrev pub is_shared_or_paired : Instr → Bool
+is_shared_or_paired (instr.Mutex o) = true
+is_shared_or_paired (instr.Dup w) = true
+is_shared_or_paired (instr.Lock w) = true
+is_shared_or_paired instr.Unlock = true
+is_shared_or_paired (instr.Par xs body ys other) = true
+is_shared_or_paired instr.ParEnd = true
+is_shared_or_paired i = false
+
+abbrev pub has_none : List Instr → Bool
+has_none [] = true
+has_none (i ∷ is) = not (is_shared_or_paired i) && has_none is
+
+-- no mutex was made
+abbrev pub without_mutexes : List Hidden → List Pair → CodeWhole → State
+without_mutexes hs ps c = record { whole = c; mutexes = []; hidden = hs; pairs = ps }
+
+-- both machines step alike, and neither one without the other
 abbrev pub StepsAsCode : Type 0
 StepsAsCode =
-    (code : List Instr) (s : State) → s.mutexes ≡ [] → (t : ℕ) (names : Fresh) (d : CodeStepped) → code_step code s.whole t names ≡ Some d → step code s t names ≡ Some (record { state = with_whole s d.state; labels = d.labels })
+    (code : List Instr) → has_none code ≡ true → (hs : List Hidden) (ps : List Pair) (c : CodeWhole) (t : ℕ) (names : Fresh)
+    → step code (without_mutexes hs ps c) t names ≡ beside (without_mutexes hs ps c) (code_step code c t names)
 
--- and so is a run from the start
+-- and so do they run from the start
 abbrev pub RunsAsCode : Type 0
-RunsAsCode =
-    (code : List Instr) (order : List Turn) (d : CodeStepped) → code_run code code_start order ≡ Some d
-    → run code order ≡ Some (record { state = record { whole = d.state; mutexes = []; hidden = []; pairs = [] }; labels = d.labels })
+RunsAsCode = (code : List Instr) → has_none code ≡ true → (order : List Turn) → run code order ≡ beside start (code_run code code_start order)

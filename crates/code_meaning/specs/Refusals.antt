@@ -1,5 +1,5 @@
 -- Steps that aren't enabled, and what is left where the last share of a mutex goes.
-use Rattle.std.specs.Prelude.{◌≡◌, ℕ, pos, true, Bool, List, [], ◌∷◌, ◌++◌, Option, Some, None, is_some}
+use Rattle.std.specs.Prelude.{◌≡◌, ℕ, pos, true, List, [], ◌∷◌, ◌++◌, Option, Some, None, is_some}
 use Rattle.fr_base.specs.declared.name.MutexNo.{MutexNo}
 use Rattle.fr_base.specs.declared.name.ObjNo.{ObjNo}
 use Rattle.fr_base.specs.declared.label.Label.{Label}
@@ -16,7 +16,7 @@ use Rattle.fr_plain.specs.Heap.{live}
 use Rattle.fr_plain.specs.Whole.{Turn, main_steps}
 use Rattle.server_model.specs.Programs.{place, number, empty, read_elsewhere, read_by_pairs, locked_twice}
 use Rattle.heap_law.specs.OneHeap.{PlainMutex}
-use Rattle.code_meaning.specs.State.{State, Stepped, mutex_there}
+use Rattle.code_meaning.specs.State.{Stepped, mutex_there}
 use Rattle.code_meaning.specs.Runs.{run, waits}
 
 abbrev m : ℕ → MutexNo

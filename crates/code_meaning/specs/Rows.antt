@@ -21,7 +21,7 @@ use Rattle.heap_law.specs.OneHeap.{PlainLife, PlainMutex, PlainState, one_heap}
 use Rattle.heap_law.specs.OneHeapRuns.{along, starts}
 use Rattle.heap_law.specs.Chosen.{lent_deep, locked_by_two, viewed_twice, locked_in_box}
 use Rattle.heap_law.specs.ChosenEnds.{run_of, of_run}
-use Rattle.code_meaning.specs.State.{State, Stepped}
+use Rattle.code_meaning.specs.State.{Stepped}
 use Rattle.code_meaning.specs.Runs.{run, waits, ending_of}
 use Rattle.code_meaning.specs.OneHeap.{plain_state}
 

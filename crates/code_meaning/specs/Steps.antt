@@ -18,9 +18,9 @@ use Rattle.fr_plain.specs.RunningTerms.{Capture}
 use Rattle.fr_plain.specs.Threads.{Passed, pass}
 use Rattle.fr_plain.specs.Whole.{is_nameless}
 use Rattle.fr_code.specs.Steps.{CodeAct, does, starts, stops, makes_mutex, dups, locks, unlocks, starts_two, joins_two, owing_at, gone, LifeMove, life_code_move}
-use Rattle.fr_code.specs.Machine.{CodeThread, CodeWhole, code_thread, with_code_thread, with_code_life, code_state, code_result_in, code_stepped, code_done}
+use Rattle.fr_code.specs.Machine.{CodeThread, code_thread, with_code_thread, with_code_life, code_state, code_result_in, code_stepped, code_done}
 use Rattle.heap_law.specs.OneHeap.{PlainMutex}
-use Rattle.code_meaning.specs.State.{Mutex, Hidden, Pair, State, Stepped, beside, with_whole, goes_on, mutex_at, mutex_there, with_mutex, held_at, without_hidden, pair_of, without_pair}
+use Rattle.code_meaning.specs.State.{Pair, State, Stepped, beside, with_whole, goes_on, mutex_at, mutex_there, with_mutex, held_at, without_hidden, pair_of, without_pair}
 use Rattle.code_meaning.specs.Dropping.{drops_last, release, dropped}
 
 -- ONE THREAD ALONE

@@ -1,6 +1,6 @@
 //! Laws of compiled code over one heap.
 
-ghost use Rattle.code_meaning.specs.LeftByItsCode.{LeftByItsCode};
+ghost use Rattle.code_meaning.specs.Laws.{RunsAsCode, StepsAsCode};
 ghost use Rattle.code_meaning.specs.Refusals.{LastShares, StepsRefused};
 ghost use Rattle.code_meaning.specs.Rows.{RowsAgree, RunsAgree};
 
@@ -23,4 +23,11 @@ pub fn rows_agree()
 /// So it is at the end of more runs, and after many events that were chosen among all enabled ones.
 pub fn runs_agree()
     ensures { RunsAgree }
+{}
+
+/// On code without the instructions of mutexes and pairs each step, and each run, is that of the machine of the other instructions, and
+/// neither machine does one without the other.
+pub fn alike_without_mutexes()
+    ensures steps { StepsAsCode }
+    ensures runs { RunsAsCode }
 {}
