@@ -1,1 +1,2 @@
 pub mod AsCode
+pub mod StartLeft

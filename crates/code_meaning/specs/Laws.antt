@@ -1,13 +1,17 @@
--- On code without the instructions of mutexes and pairs this machine is the machine of the other instructions (this project's rule).
-use Rattle.std.specs.Prelude.{◌≡◌, ℕ, Bool, true, false, not, ◌&&◌, List, [], ◌∷◌}
+-- On code without the instructions of mutexes and pairs this machine is the machine of the other instructions, and the start is left by its code (this
+-- project's rule).
+use Rattle.std.specs.Prelude.{◌≡◌, ℕ, ◌≤◌, Bool, true, false, not, ◌&&◌, List, [], ◌∷◌}
 use Rattle.fr_base.specs.declared.step.Fresh.{Fresh}
 use Rattle.fr_base.specs.declared.instruction.Instr.{Instr}
 use Rattle.fr_base.specs.declared.instruction.Instr.TheVariants as instr
+use Rattle.fr_base.specs.declared.settings.Options.{Options}
 use Rattle.fr_plain.specs.Whole.{Turn}
 use Rattle.fr_code.specs.Machine.{CodeWhole, code_step, code_run, code_start}
+use Rattle.server_model.specs.Servers.{start_of}
 use Rattle.code_meaning.specs.State.{Hidden, Pair, State, beside, start}
 use Rattle.code_meaning.specs.Steps.{step}
 use Rattle.code_meaning.specs.Runs.{run}
+use Rattle.code_meaning.specs.LeftByItsCode.{LeftByItsCode}
 
 -- the instructions of mutexes and of pairs of threads
 abbrev pub is_shared_or_paired : Instr → Bool
@@ -36,3 +40,7 @@ StepsAsCode =
 -- and so do they run from the start
 abbrev pub RunsAsCode : Type 0
 RunsAsCode = (code : List Instr) → has_none code ≡ true → (order : List Turn) → run code order ≡ beside start (code_run code code_start order)
+
+-- the start of any code, under any options with a server, is left by the empty journal
+abbrev pub StartsLeft : Type 0
+StartsLeft = (code : List Instr) (o : Options) → 1 ≤ o.servers → LeftByItsCode (start_of code o) []

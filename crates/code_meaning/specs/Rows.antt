@@ -108,7 +108,7 @@ pub record RowsAgree : Type 0 where
 abbrev AgreesAfter : Option Ran → Type 0
 AgreesAfter r = of_run heap_side r ≡ of_run run_side r
 
--- the same after so many events that were chosen among all enabled ones; those events can be done
+-- the same after so many events, or all there are, that were chosen among all enabled ones; those events can be done
 pub record AgreesChosen (code : List Instr) (o : Options) (n seed : ℕ) : Type 0 where
   pub there : of_run {A = ℕ} (λ r. 1 ∷ []) (run_of n seed (starts code o)) ≡ 1 ∷ []
   pub same : AgreesAfter (run_of n seed (starts code o))

@@ -1,6 +1,6 @@
 //! Laws of compiled code over one heap.
 
-ghost use Rattle.code_meaning.specs.Laws.{RunsAsCode, StepsAsCode};
+ghost use Rattle.code_meaning.specs.Laws.{RunsAsCode, StartsLeft, StepsAsCode};
 ghost use Rattle.code_meaning.specs.Refusals.{LastShares, StepsRefused};
 ghost use Rattle.code_meaning.specs.Rows.{RowsAgree, RunsAgree};
 
@@ -30,4 +30,9 @@ pub fn runs_agree()
 pub fn alike_without_mutexes()
     ensures steps { StepsAsCode }
     ensures runs { RunsAsCode }
+{}
+
+/// The start of any code on at least one server is left by the empty journal, under the plain run of that code.
+pub fn starts_left()
+    ensures { StartsLeft }
 {}

@@ -4,4 +4,6 @@
 
 mod laws;
 
-pub use laws::{alike_without_mutexes, last_shares_go, rows_agree, runs_agree, steps_refused};
+pub use laws::{
+    alike_without_mutexes, last_shares_go, rows_agree, runs_agree, starts_left, steps_refused,
+};
