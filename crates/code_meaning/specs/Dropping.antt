@@ -37,7 +37,7 @@ drops_last (do_leave v) s = end_of s.heap v
 drops_last _ s = plain.Nothing
 
 -- a value goes with its boxes
-abbrev value_gone : (State → Plain → State) → State → Value → State
+abbrev pub value_gone : (State → Plain → State) → State → Value → State
 value_gone go s v = go (with_whole s (record s.whole { heap = local.without s.whole.heap v })) (end_of s.whole.heap v)
 
 -- THREADS
@@ -54,12 +54,12 @@ thread_released_in go s (Some y) = thread_released go s y y.life
 
 -- MUTEXES
 
-abbrev content_gone : (State → Plain → State) → State → Option Plain → State
+abbrev pub content_gone : (State → Plain → State) → State → Option Plain → State
 content_gone go s None = s
 content_gone go s (Some v) = value_gone go s (Own v)
 
 -- one share less; the last one takes the content with it, where that is in
-abbrev share_gone : (State → Plain → State) → State → MutexNo → PlainMutex → ℕ → State
+abbrev pub share_gone : (State → Plain → State) → State → MutexNo → PlainMutex → ℕ → State
 share_gone go s n x (suc (suc k)) = record s { mutexes = with_mutex s.mutexes n (Some (record x { shares = suc k })) }
 share_gone go s n x _ = content_gone go (record s { mutexes = with_mutex s.mutexes n None }) x.content
 

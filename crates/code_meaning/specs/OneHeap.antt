@@ -54,7 +54,7 @@ plain_state s = record {
   is_given = λ n. is_some (mutex_at s.mutexes n);
 }
 
-abbrev in_plain : Option Stepped → Option (PlainState × List Label)
+abbrev pub in_plain : Option Stepped → Option (PlainState × List Label)
 in_plain None = None
 in_plain (Some d) = Some (plain_state d.state, d.labels)
 

@@ -36,7 +36,7 @@ alone s y m a = then_released (drops_last a (code_state s.whole y)) (beside s (c
 -- MUTEXES
 
 -- the name of a new mutex; it has its content and one share
-abbrev made : State → CodeThread → LifeMove → Fresh → Value → Option Stepped
+abbrev pub made : State → CodeThread → LifeMove → Fresh → Value → Option Stepped
 made s y m (fresh.Mutex n) (Own v) =
     if is_some (mutex_at s.mutexes n)
     then None
@@ -47,32 +47,32 @@ made s y m (fresh.Mutex n) (Own v) =
 made s y m _ _ = None
 
 -- the mutex whose value stands at a place, and the loads of a read there
-abbrev mutex_value : local.Reached → Option Value → Option (MutexNo × List Label)
+abbrev pub mutex_value : local.Reached → Option Value → Option (MutexNo × List Label)
 mutex_value r (Some (Own (plain.Mutex n))) = Some (n, r.passed ++ local.loads r.spot (Own (plain.Mutex n)))
 mutex_value r _ = None
 
 abbrev pub mutex_behind : local.State → Lval → Option (MutexNo × List Label)
 mutex_behind s w = local.then_reached (local.locate s w) (λ r. mutex_value r (local.value_at s r.spot))
 
-abbrev where_there : Option PlainMutex → (PlainMutex → Option Stepped) → Option Stepped
+abbrev pub where_there : Option PlainMutex → (PlainMutex → Option Stepped) → Option Stepped
 where_there None go = None
 where_there (Some x) go = go x
 
 -- a step at the mutex of a place, with the loads on the way to it
-abbrev at_mutex : State → Option (MutexNo × List Label) → (MutexNo → List Label → PlainMutex → Option Stepped) → Option Stepped
+abbrev pub at_mutex : State → Option (MutexNo × List Label) → (MutexNo → List Label → PlainMutex → Option Stepped) → Option Stepped
 at_mutex s None go = None
 at_mutex s (Some p) go = where_there (mutex_there s.mutexes p.0) (go p.0 p.1)
 
-abbrev at_place : State → CodeThread → Lval → (MutexNo → List Label → PlainMutex → Option Stepped) → Option Stepped
+abbrev pub at_place : State → CodeThread → Lval → (MutexNo → List Label → PlainMutex → Option Stepped) → Option Stepped
 at_place s y w go = at_mutex s (mutex_behind (code_state s.whole y) w) go
 
 -- one share more
-abbrev shared : State → CodeThread → LifeMove → MutexNo → List Label → PlainMutex → Option Stepped
+abbrev pub shared : State → CodeThread → LifeMove → MutexNo → List Label → PlainMutex → Option Stepped
 shared s y m n ls x =
     Some (record { state = record (goes_on s y m (Own (plain.Mutex n)) y.slots) { mutexes = with_mutex s.mutexes n (Some (record x { shares = x.shares + 1 })) }; labels = ls })
 
 -- where the content is in, it is taken out: behind the hidden slot comes its own
-abbrev locked_with : State → CodeThread → LifeMove → MutexNo → List Label → PlainMutex → Option Plain → Option Stepped
+abbrev pub locked_with : State → CodeThread → LifeMove → MutexNo → List Label → PlainMutex → Option Plain → Option Stepped
 locked_with s y m n ls x None = None
 locked_with s y m n ls x (Some v) =
     Some (record {
@@ -80,16 +80,16 @@ locked_with s y m n ls x (Some v) =
       labels = ls ++ label.Lock n ∷ [];
     })
 
-abbrev locked : State → CodeThread → LifeMove → MutexNo → List Label → PlainMutex → Option Stepped
+abbrev pub locked : State → CodeThread → LifeMove → MutexNo → List Label → PlainMutex → Option Stepped
 locked s y m n ls x = locked_with s y m n ls x x.content
 
 -- the content is in again; where no share is left, it is dropped
-abbrev given_back : State → MutexNo → Plain → Option PlainMutex → State
+abbrev pub given_back : State → MutexNo → Plain → Option PlainMutex → State
 given_back s n v (Some x) = record s { mutexes = with_mutex s.mutexes n (Some (record x { content = Some v })) }
 given_back s n v None = dropped s v
 
 -- the last slot's value goes back, and both slots go
-abbrev unlocked_with : State → CodeThread → LifeMove → List Value → Option MutexNo → Value → Option Stepped
+abbrev pub unlocked_with : State → CodeThread → LifeMove → List Value → Option MutexNo → Value → Option Stepped
 unlocked_with s y m rest (Some n) (Own v) =
     Some (record {
       state = given_back (record (goes_on s y m unit rest) { hidden = without_hidden s.hidden y.number (length rest) }) n v (mutex_there s.mutexes n);
@@ -97,14 +97,14 @@ unlocked_with s y m rest (Some n) (Own v) =
     })
 unlocked_with s y m rest n v = None
 
-abbrev unlocked : State → CodeThread → LifeMove → List Value → Option Stepped
+abbrev pub unlocked : State → CodeThread → LifeMove → List Value → Option Stepped
 unlocked s y m (v ∷ h ∷ rest) = unlocked_with s y m rest (held_at s.hidden y.number (length rest)) v
 unlocked s y m _ = None
 
 -- PAIRS OF THREADS
 
 -- both at the first instruction of their bodies, with the captured values as slots; a captured view is the reference to its object
-abbrev two_with : State → CodeThread → LifeMove → ℕ → ℕ → ℕ → ℕ → List Value → Option Passed → Option Stepped
+abbrev pub two_with : State → CodeThread → LifeMove → ℕ → ℕ → ℕ → ℕ → List Value → Option Passed → Option Stepped
 two_with s y m a b body other first None = None
 two_with s y m a b body other first (Some p) =
     Some (record {
@@ -119,26 +119,26 @@ two_with s y m a b body other first (Some p) =
     })
 
 -- the second list captures from what the first one leaves
-abbrev second_of : State → CodeThread → LifeMove → ℕ → ℕ → ℕ → List Capture → ℕ → Option Passed → Option Stepped
+abbrev pub second_of : State → CodeThread → LifeMove → ℕ → ℕ → ℕ → List Capture → ℕ → Option Passed → Option Stepped
 second_of s y m a b body ds other None = None
 second_of s y m a b body ds other (Some p) = two_with s y m a b body other p.new (pass ds p.left [])
 
 -- two new names, the first list's first
-abbrev two_started : State → CodeThread → LifeMove → Fresh → List Capture → ℕ → List Capture → ℕ → Option Stepped
+abbrev pub two_started : State → CodeThread → LifeMove → Fresh → List Capture → ℕ → List Capture → ℕ → Option Stepped
 two_started s y m (fresh.Threads a b) cs body ds other =
     if a == b || is_some (code_thread s.whole.threads a) || is_some (code_thread s.whole.threads b) then None else second_of s y m a b body ds other (pass cs y.slots [])
 two_started s y m _ cs body ds other = None
 
-abbrev taken : List CodeThread → Option CodeThread → List CodeThread
+abbrev pub taken : List CodeThread → Option CodeThread → List CodeThread
 taken ys None = ys
 taken ys (Some x) = with_code_thread ys (with_code_life x gone)
 
 -- the results of both are taken
-abbrev pair_over : State → Pair → List CodeThread
+abbrev pub pair_over : State → Pair → List CodeThread
 pair_over s p = taken (taken s.whole.threads (code_thread s.whole.threads p.first)) (code_thread s.whole.threads p.second)
 
 -- where both have ended
-abbrev two_ended : State → CodeThread → LifeMove → Pair → Option Value → Option Value → Option Stepped
+abbrev pub two_ended : State → CodeThread → LifeMove → Pair → Option Value → Option Value → Option Stepped
 two_ended s y m p (Some v) (Some w) =
     Some (record { state = record (goes_on (with_whole s (record s.whole { threads = pair_over s p })) y m unit y.slots) { pairs = without_pair s.pairs y.number }; labels = [] })
 two_ended s y m p _ _ = None
@@ -146,13 +146,13 @@ two_ended s y m p _ _ = None
 abbrev pub result_at : State → ℕ → Option Value
 result_at s t = code_result_in (code_thread s.whole.threads t)
 
-abbrev two_joined : State → CodeThread → LifeMove → Option Pair → Option Stepped
+abbrev pub two_joined : State → CodeThread → LifeMove → Option Pair → Option Stepped
 two_joined s y m None = None
 two_joined s y m (Some p) = two_ended s y m p (result_at s p.first) (result_at s p.second)
 
 -- A STEP
 
-abbrev nameless : Fresh → Option Stepped → Option Stepped
+abbrev pub nameless : Fresh → Option Stepped → Option Stepped
 nameless names d = if is_nameless names then d else None
 
 -- starting a thread takes one new thread name, a pair two, a new mutex one new mutex name, and no other step takes a name

@@ -1,6 +1,6 @@
 //! Laws of compiled code over one heap.
 
-ghost use Rattle.code_meaning.specs.Laws.{RunsAsCode, StartsLeft, StepsAsCode};
+ghost use Rattle.code_meaning.specs.Laws.{PrintsAlike, PrintsAreLabelled, RunsAsCode, RunsAsProgram, StartsLeft, StepsAsCode};
 ghost use Rattle.code_meaning.specs.Refusals.{LastShares, StepsRefused};
 ghost use Rattle.code_meaning.specs.Rows.{RowsAgree, RunsAgree};
 
@@ -35,4 +35,16 @@ pub fn alike_without_mutexes()
 /// The start of any code on at least one server is left by the empty journal, under the plain run of that code.
 pub fn starts_left()
     ensures { StartsLeft }
+{}
+
+/// A run of code printed the prints in its labels; so the plain run that a cluster is left by printed what the journal prints.
+pub fn prints_alike()
+    ensures labelled { PrintsAreLabelled }
+    ensures alike { PrintsAlike }
+{}
+
+/// A cluster that is left by the code of a program without mutexes and pairs ran that program: its journal's order is one of the plain run of
+/// the program's term, with the labels and the prints of the journal.
+pub fn runs_as_program()
+    ensures { RunsAsProgram }
 {}

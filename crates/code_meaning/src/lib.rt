@@ -5,5 +5,6 @@
 mod laws;
 
 pub use laws::{
-    alike_without_mutexes, last_shares_go, rows_agree, runs_agree, starts_left, steps_refused,
+    alike_without_mutexes, last_shares_go, prints_alike, rows_agree, runs_agree, runs_as_program,
+    starts_left, steps_refused,
 };
