@@ -1,0 +1,4 @@
+pub mod AsCode
+pub mod StartLeft
+pub mod Printing
+pub mod AsProgram

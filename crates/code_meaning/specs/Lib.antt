@@ -1,0 +1,9 @@
+pub mod State
+pub mod Dropping
+pub mod Steps
+pub mod Runs
+pub mod OneHeap
+pub mod LeftByItsCode
+pub mod Laws
+pub mod Rows
+pub mod Refusals
