@@ -4,10 +4,7 @@
 #   bench/front.sh            all shapes
 #   bench/front.sh lets       one of them; the shapes are those below
 # Some shapes are refused: hostile text, and forms that are not accepted yet. Each has the status that it must end with.
-set -eu
-cd "$(dirname "$0")/.."
-program=crates/drust_main/out/drust_main
-[ -x "$program" ] || { echo "build the program first: ./build" >&2; exit 1; }
+. "$(dirname "$0")/program.sh" drust_main ./build
 work=$(mktemp -d)
 trap 'rm -rf "$work"' EXIT
 
@@ -89,21 +86,16 @@ for row in lets:0 prints:0 depth:0 names:0 list:0 sums:0 reborrows:0 mutably:0 c
   for size in 262144 524288 1048000; do
     source_of "$shape" "$size" > "$work/source"
     python3 - "$program" "$work/source" "$shape" "$status" "$before" <<'PY' > "$work/line"
-import os, resource, subprocess, sys, time
+import sys
+from timed import growth, timed
 program, path, shape, wanted, before = sys.argv[1:6]
-best = None
-for _ in range(5):
-    with open(path, "rb") as source:
-        start = time.perf_counter()
-        status = subprocess.run([program, "run"], stdin=source, stdout=subprocess.DEVNULL).returncode
-        taken = time.perf_counter() - start
-    if status != int(wanted):
-        sys.exit(f"{shape}: status {status} and not {wanted}")
-    best = taken if best is None else min(best, taken)
-size = os.path.getsize(path)
-peak = resource.getrusage(resource.RUSAGE_CHILDREN).ru_maxrss // 1024
-growth = f"{best / float(before):8.2f}" if before else "       -"
-print(f"{shape:9} {size:10} {best:10.3f} {size / best / 1e6:10.1f} {growth}   {peak} MB")
+with open(path) as source:
+    text = source.read()
+best, status, _, peak = timed([program, "run"], text)
+if status != int(wanted):
+    sys.exit(f"{shape}: status {status} and not {wanted}")
+size = len(text)
+print(f"{shape:9} {size:10} {best:10.3f} {size / best / 1e6:10.1f} {growth(best, float(before) if before else None)}   {peak >> 20} MB")
 print(best)
 PY
     head -n 1 "$work/line"

@@ -4,12 +4,10 @@
 # of the checker, where its last term is refused, so that the difference is the run, and the time of its replay under an order that
 # is one line. Needs the built program (./build).
 #   bench/steps.sh
-set -eu
-cd "$(dirname "$0")/.."
-program=crates/drust_main/out/drust_main
-[ -x "$program" ] || { echo "build the program first: ./build" >&2; exit 1; }
+. "$(dirname "$0")/program.sh" drust_main ./build
 exec python3 - "$program" <<'PY'
-import resource, subprocess, sys, time
+import sys
+from timed import growth, timed
 program = sys.argv[1]
 
 # so many rounds of reads at every depth, a box at the innermost one
@@ -18,32 +16,21 @@ def source(rounds, last):
     tower = "{" * deep + inner + "x;" * 1000 + "}" * deep + "; "
     return "{ let mut x = 1; " + tower * rounds + last + " }"
 
-def timed(text, word="run"):
-    best = None
-    for _ in range(5):
-        start = time.perf_counter()
-        done = subprocess.run([program, word], input=text.encode(), capture_output=True)
-        taken = time.perf_counter() - start
-        best = taken if best is None else min(best, taken)
-    return best, done
+def ended(text, word, wanted):
+    seconds, status, out, peak = timed([program, word], text)
+    if status != wanted:
+        sys.exit(f"status {status} of the {word}, and not {wanted}")
+    return seconds, out, peak
 
-print(f"{'bytes':>9} {'steps':>9} {'seconds':>8} {'checked':>8} {'run':>8} {'growth':>7} {'replay':>8}")
+print(f"{'bytes':>9} {'steps':>9} {'seconds':>8} {'checked':>8} {'run':>8} {'growth':>8} {'replay':>8}")
 before = None
 for rounds in (62, 125, 250):
     text = source(rounds, "print x")
-    whole, done = timed(text)
-    if done.returncode != 0:
-        sys.exit(f"status {done.returncode}")
-    steps = int(done.stdout.split()[-1])
-    front, refused = timed(source(rounds, "print y"))
-    if refused.returncode != 4:
-        sys.exit(f"status {refused.returncode} of the refused source")
+    whole, out, peak = ended(text, "run", 0)
+    steps = int(out.split()[-1])
+    front, _, _ = ended(source(rounds, "print y"), "run", 4)
     run = whole - front
-    again, done = timed(text + f"%\n0.0 {steps}\n", "replay")
-    if done.returncode != 0:
-        sys.exit(f"status {done.returncode} of the replay")
-    growth = f"{run / before:7.2f}" if before else "      -"
-    peak = resource.getrusage(resource.RUSAGE_CHILDREN).ru_maxrss // 1024
-    print(f"{len(text):9} {steps:9} {whole:8.3f} {front:8.3f} {run:8.3f} {growth} {again:8.3f}   {peak} MB")
+    again, _, _ = ended(text + f"%\n0.0 {steps}\n", "replay", 0)
+    print(f"{len(text):9} {steps:9} {whole:8.3f} {front:8.3f} {run:8.3f} {growth(run, before)} {again:8.3f}   {peak >> 20} MB")
     before = run
 PY

@@ -4,12 +4,10 @@
 # checker (the same source with a fault in its last term), so that the difference is the replay; and the memory of both. Then the
 # same number of steps under orders of more and more lines. Needs the built program (./build).
 #   bench/threads.sh
-set -eu
-cd "$(dirname "$0")/.."
-program=crates/drust_main/out/drust_main
-[ -x "$program" ] || { echo "build the program first: ./build" >&2; exit 1; }
+. "$(dirname "$0")/program.sh" drust_main ./build
 exec python3 - "$program" <<'PY'
-import os, subprocess, sys, time
+import sys
+from timed import growth, timed
 program = sys.argv[1]
 # a thread reads its one variable and drops what it read, again and again, drops the variable, and ends
 READS = 499
@@ -33,36 +31,24 @@ def order(threads, lines):
 def steps(threads):
     return 1 + 2 * threads + STEPS * threads + 4
 
-def timed(text):
+def replayed(text):
     if len(text) > 1_048_576:
         sys.exit(f"{len(text)} bytes are too many")
-    best, peak = None, 0
-    for _ in range(5):
-        start = time.perf_counter()
-        process = subprocess.Popen([program, "replay"], stdin=subprocess.PIPE, stdout=subprocess.PIPE)
-        process.stdin.write(text.encode())
-        process.stdin.close()
-        out = process.stdout.read()
-        _, status, usage = os.wait4(process.pid, 0)
-        taken = time.perf_counter() - start
-        best = taken if best is None else min(best, taken)
-        peak = usage.ru_maxrss // 1024
-    return best, os.waitstatus_to_exitcode(status), out.decode(), peak
+    return timed([program, "replay"], text)
 
 def row(threads, lines, before):
     text = source(threads, "print x") + "%\n" + order(threads, lines)
-    whole, status, out, peak = timed(text)
+    whole, status, out, peak = replayed(text)
     if status != 0 or int(out.split()[-1]) != steps(threads):
         sys.exit(f"status {status}: {out}")
-    front, status, _, front_peak = timed(source(threads, "print y") + "%\n" + order(threads, lines))
+    front, status, _, front_peak = replayed(source(threads, "print y") + "%\n" + order(threads, lines))
     if status != 4:
         sys.exit(f"status {status} of the refused source")
     run = whole - front
-    growth = f"{run / before:7.2f}" if before else "      -"
-    print(f"{threads:7} {steps(threads):9} {2 * threads + threads * lines + 2:7} {len(text):9} {whole:8.3f} {front:8.3f} {run:8.3f} {growth} {peak:6} {front_peak:6}")
+    print(f"{threads:7} {steps(threads):9} {2 * threads + threads * lines + 2:7} {len(text):9} {whole:8.3f} {front:8.3f} {run:8.3f} {growth(run, before)} {peak >> 20:6} {front_peak >> 20:6}")
     return run
 
-print(f"{'threads':>7} {'steps':>9} {'lines':>7} {'bytes':>9} {'seconds':>8} {'checked':>8} {'replay':>8} {'growth':>7} {'MB':>6} {'checked':>6}")
+print(f"{'threads':>7} {'steps':>9} {'lines':>7} {'bytes':>9} {'seconds':>8} {'checked':>8} {'replay':>8} {'growth':>8} {'MB':>6} {'checked':>6}")
 before = None
 for threads in (250, 500, 1000):
     before = row(threads, 1, before)
