@@ -1,28 +1,26 @@
--- Where a cluster is left by the code of a program without mutexes and pairs, the program runs as its journal tells.
-use Rattle.std.proofs.Common.{◌≡◌, List, Option, Some, None, sym, ap, ◌∙◌, subst}
+-- Where a cluster is left by the code of a program, the program runs as its journal tells.
+use Rattle.std.proofs.Common.{◌≡◌, List, Option, Some, None, ap, ◌∙◌}
 use Rattle.fr_base.specs.declared.instruction.Instr.{Instr}
 use Rattle.fr_base.specs.declared.label.Label.{Label}
 use Rattle.fr_plain.specs.Whole as term
-use Rattle.fr_code.specs.Machine.{CodeStepped, code_run, code_start}
+use Rattle.fr_plain.proofs.Printing.{Output, run_output}
+use Rattle.fr_code.specs.Steps.{code_moves}
+use Rattle.fr_code.specs.Machine.{CodeStepped, code_start}
 use Rattle.fr_code.specs.Laws.{SameSteps}
 use Rattle.fr_code.proofs.Wholes.{runs_alike}
 use Rattle.journal.specs.Journals.{order, labels, printed}
 use Rattle.heap_law.specs.OneHeap.{PlainState}
-use Rattle.code_meaning.specs.State.{beside, start}
+use Rattle.code_meaning.specs.Runs.{run}
 use Rattle.code_meaning.specs.OneHeap.{in_plain}
 use Rattle.code_meaning.specs.Laws.{IsRunWith, RunsAsProgram}
-use Rattle.code_meaning.proofs.AsCode.{runs_as_code}
-use Rattle.code_meaning.proofs.Printing.{Output, run_output, labels_of}
+use Rattle.code_meaning.proofs.Printing.{labels_of}
 
 -- the term's run and the code's, which have the same labels and output
-both_run : (code : List Instr) (x : Option term.Stepped) (d : Option CodeStepped) (p : PlainState) (ls : List Label) → SameSteps code x d → Output start (beside start d) → in_plain (beside start d) ≡ Some (p, ls) → IsRunWith x ls
+both_run : (code : List Instr) (x : Option term.Stepped) (d : Option CodeStepped) (p : PlainState) (ls : List Label) → SameSteps code x d → Output code_start d → in_plain d ≡ Some (p, ls) → IsRunWith x ls
 both_run code None None p ls h o e = absurd cc
 both_run code None (Some d) p ls h o e = absurd h
 both_run code (Some x) None p ls h o e = absurd h
 both_run code (Some x) (Some d) p ls h o e = let same : d.labels ≡ ls = ap labels_of e in (h.0 ∙ same, h.1.output ∙ o ∙ ap printed same)
 
 pub runs_as_program : RunsAsProgram
-runs_as_program k es r c n l =
-    let as_code = runs_as_code k.code n (order es) in
-    both_run k.code (term.plain r (order es)) (code_run k.code code_start (order es)) l.plain.state (labels es) (runs_alike k.code r c (order es))
-    (subst (λ d. Output start d) as_code (run_output k.code (order es) start)) (ap in_plain (sym as_code) ∙ l.plain.runs)
+runs_as_program k es r c l = both_run k.code (term.plain r (order es)) (run k.code (order es)) l.plain.state (labels es) (runs_alike k.code r c (order es)) (run_output (code_moves k.code) (order es) code_start) l.plain.runs

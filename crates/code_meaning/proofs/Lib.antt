@@ -1,4 +1,3 @@
-pub mod AsCode
 pub mod StartLeft
 pub mod Printing
 pub mod AsProgram

@@ -1,6 +1,3 @@
-pub mod State
-pub mod Dropping
-pub mod Steps
 pub mod Runs
 pub mod OneHeap
 pub mod LeftByItsCode

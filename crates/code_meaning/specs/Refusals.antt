@@ -16,7 +16,8 @@ use Rattle.fr_plain.specs.Heap.{live}
 use Rattle.fr_plain.specs.Whole.{Turn, main_steps}
 use Rattle.server_model.specs.Programs.{place, number, empty, read_elsewhere, read_by_pairs, locked_twice}
 use Rattle.heap_law.specs.OneHeap.{PlainMutex}
-use Rattle.code_meaning.specs.State.{Stepped, mutex_there}
+use Rattle.fr_plain.specs.MachineThreads.{mutex_there}
+use Rattle.fr_code.specs.Machine.{CodeStepped}
 use Rattle.code_meaning.specs.Runs.{run, waits}
 
 abbrev m : ℕ → MutexNo
@@ -31,7 +32,7 @@ Refused code ts = run code ts ≡ None
 abbrev Enabled : List Instr → List Turn → Type 0
 Enabled code ts = is_some (run code ts) ≡ true
 
-abbrev waits_after : List Instr → Option Stepped → List (ℕ × Wait)
+abbrev waits_after : List Instr → Option CodeStepped → List (ℕ × Wait)
 waits_after code None = []
 waits_after code (Some d) = waits code d.state
 
@@ -103,9 +104,9 @@ pub record Left : Type 0 where
   pub second : Option PlainMutex
   pub labels : List Label
 
-abbrev left : Option Stepped → Option Left
+abbrev left : Option CodeStepped → Option Left
 left None = None
-left (Some d) = Some (record { objects = live d.state.whole.heap; first = mutex_there d.state.mutexes (m 1); second = mutex_there d.state.mutexes (m 2); labels = d.labels })
+left (Some d) = Some (record { objects = live d.state.heap; first = mutex_there d.state.mutexes (m 1); second = mutex_there d.state.mutexes (m 2); labels = d.labels })
 
 abbrev a : ObjNo
 a = record { thread = 0; count = 0 }

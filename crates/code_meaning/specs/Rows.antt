@@ -18,12 +18,11 @@ use Rattle.server_model.specs.Programs.{with_servers, written_box, empty, lent_s
 use Rattle.server_model.specs.Larger.{raised_by_two, pair_in_pair, all_dropped}
 use Rattle.server_model.specs.Rows.{reading_elsewhere, writing_elsewhere, reading_by_pairs, moving, evicting, locking_twice, locking_elsewhere, unlocked}
 use Rattle.heap_law.specs.OneHeap.{PlainLife, PlainMutex, PlainState, one_heap}
-use Rattle.heap_law.specs.OneHeapRuns.{along, starts}
+use Rattle.heap_law.specs.OneHeapRuns.{along, starts, state_of_code}
 use Rattle.heap_law.specs.Chosen.{lent_deep, locked_by_two, viewed_twice, locked_in_box}
 use Rattle.heap_law.specs.ChosenEnds.{run_of, of_run}
-use Rattle.code_meaning.specs.State.{Stepped}
+use Rattle.fr_code.specs.Machine.{CodeStepped}
 use Rattle.code_meaning.specs.Runs.{run, waits, ending_of}
-use Rattle.code_meaning.specs.OneHeap.{plain_state}
 
 -- WHAT IS SHOWN
 
@@ -55,9 +54,9 @@ show s ls ns = record { threads = map s.thread threads; objects = map s.object o
 abbrev pub heap_side : Ran → List Shown
 heap_side r = show (one_heap r.cluster) (labels r.journal) (prints r.journal) ∷ []
 
-abbrev shown : Option Stepped → List Shown
+abbrev shown : Option CodeStepped → List Shown
 shown None = []
-shown (Some d) = show (plain_state d.state) d.labels d.state.whole.output ∷ []
+shown (Some d) = show (state_of_code d.state) d.labels d.state.output ∷ []
 
 -- the plain run of its code under the journal's order
 abbrev pub run_side : Ran → List Shown
@@ -69,9 +68,9 @@ pub record End : Type 0 where
   pub waits : List (ℕ × Wait)
   pub prints : List ℤ
 
-abbrev end_of : List Instr → Option Stepped → List End
+abbrev end_of : List Instr → Option CodeStepped → List End
 end_of code None = []
-end_of code (Some d) = record { ending = ending_of code d.state; waits = waits code d.state; prints = d.state.whole.output } ∷ []
+end_of code (Some d) = record { ending = ending_of code d.state; waits = waits code d.state; prints = d.state.output } ∷ []
 
 abbrev end_side : Ran → List End
 end_side r = end_of r.cluster.code (run r.cluster.code (order r.journal))

@@ -1,6 +1,6 @@
 //! Laws of compiled code over one heap.
 
-ghost use Rattle.code_meaning.specs.Laws.{PrintsAlike, PrintsAreLabelled, RunsAsCode, RunsAsProgram, StartsLeft, StepsAsCode};
+ghost use Rattle.code_meaning.specs.Laws.{PrintsAlike, PrintsAreLabelled, RunsAsProgram, StartsLeft};
 ghost use Rattle.code_meaning.specs.Refusals.{LastShares, StepsRefused};
 ghost use Rattle.code_meaning.specs.Rows.{RowsAgree, RunsAgree};
 
@@ -25,13 +25,6 @@ pub fn runs_agree()
     ensures { RunsAgree }
 {}
 
-/// On code without the instructions of mutexes and pairs each step, and each run, is that of the machine of the other instructions, and
-/// neither machine does one without the other.
-pub fn alike_without_mutexes()
-    ensures steps { StepsAsCode }
-    ensures runs { RunsAsCode }
-{}
-
 /// The start of any code on at least one server is left by the empty journal, under the plain run of that code.
 pub fn starts_left()
     ensures { StartsLeft }
@@ -43,7 +36,7 @@ pub fn prints_alike()
     ensures alike { PrintsAlike }
 {}
 
-/// A cluster that is left by the code of a program without mutexes and pairs ran that program: its journal's order is one of the plain run of
+/// A cluster that is left by the code of a program ran that program: its journal's order is one of the plain run of
 /// the program's term, with the labels and the prints of the journal.
 pub fn runs_as_program()
     ensures { RunsAsProgram }

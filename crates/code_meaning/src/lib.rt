@@ -5,6 +5,6 @@
 mod laws;
 
 pub use laws::{
-    alike_without_mutexes, last_shares_go, prints_alike, rows_agree, runs_agree, runs_as_program,
-    starts_left, steps_refused,
+    last_shares_go, prints_alike, rows_agree, runs_agree, runs_as_program, starts_left,
+    steps_refused,
 };

@@ -9,11 +9,14 @@ use Rattle.fr_typing.specs.Kinds.{Kind}
 use Rattle.fr_terms.specs.Terms.{Term, block_t}
 use Rattle.fr_plain.specs.declared.value.Value.{Value}
 use Rattle.fr_plain.specs.declared.value.Value.TheVariants.{Own}
+use Rattle.fr_base.specs.declared.label.Plain.{Plain}
 use Rattle.fr_base.specs.declared.label.Plain.TheVariants as plain
-use Rattle.fr_plain.specs.Acts.{Act, Did, do_let, do_read, do_borrow, do_assign, do_box, do_arith, do_print, do_discard, do_drop, do_end, do_spawn, do_join, do_finish, do_leave, act, lets_go}
+use Rattle.fr_base.specs.declared.name.MutexNo.{MutexNo}
+use Rattle.fr_plain.specs.Acts.{Act, Did, do_let, do_read, do_borrow, do_assign, do_box, do_arith, do_print, do_discard, do_drop, do_end, do_spawn, do_join, do_finish, do_leave, do_mutex, do_dup, do_lock, do_unlock, do_par, do_par_end, act, drops_last}
 use Rattle.fr_plain.specs.Run.{Move, Life, alive, over, owing, loose, ended, life_move}
-use Rattle.fr_plain.specs.Threads.{released, released_in}
-use Rattle.fr_plain.specs.Whole.{Thread, Whole, Stepped, Refusal, has_ended, refused_wait, refused_names, refused_of, takes_name, is_over, waits_for, all_over, all_wait, thread_at, with_thread, let_threads_go, result_at, state_of, stepped, then_released, joined_with, joined, done_act, moved, step_of, step, refused, start, ending_of}
+use Rattle.fr_plain.specs.MachineThreads.{Shared, mutex_there, with_mutex, thread_released, thread_released_in, content_gone, share_gone, share_released, release_by}
+use Rattle.fr_plain.proofs.TodaysActs.{IsTodays, acts_todays}
+use Rattle.fr_plain.specs.Whole.{Thread, Whole, Stepped, Refusal, has_ended, refused_wait, refused_names, refused_of, takes_name, is_over, waits_for, all_over, all_wait, thread_at, with_thread, result_at, state_of, stepped, then_released, joined_with, joined, done_act, moved, step_of, step, refused, start, ending_of}
 use Rattle.fr_plain.specs.Resolve.{program}
 use Rattle.fr_plain.proofs.RefusedSteps.{no_step}
 use Rattle.fr_sound.specs.NeverStuck.{IsTyped, Steps}
@@ -42,31 +45,49 @@ same_first [] new = refl
 same_first (x ∷ xs) new = eq_cases (λ b. first_number (if b then new ∷ xs else x ∷ with_thread xs new) ≡ x.number) x.number new.number (λ e. sym e) (λ ne. refl)
 
 -- letting go leaves the first thread first
-abbrev Keeps : (Whole → Option ℕ → Whole) → Type 0
-Keeps go = (s : Whole) (t : Option ℕ) → first_number (go s t).threads ≡ first_number s.threads
+abbrev Keeps : (Whole → Plain → Whole) → Type 0
+Keeps go = (s : Whole) (v : Plain) → first_number (go s v).threads ≡ first_number s.threads
 
-released_first : (go : Whole → Option ℕ → Whole) → Keeps go → (s : Whole) (x : Thread) (l : Life) → first_number (released go s x l).threads ≡ first_number s.threads
+released_first : (go : Whole → Plain → Whole) → Keeps go → (s : Whole) (x : Thread) (l : Life) → first_number (thread_released go s x l).threads ≡ first_number s.threads
 released_first go keeps s x (owing r) = same_first s.threads (record { number = x.number; life = loose r; slots = x.slots })
 released_first go keeps s x (ended v) = keeps _ _ ∙ same_first s.threads (record { number = x.number; life = over; slots = x.slots })
 released_first go keeps s x (alive r) = refl
 released_first go keeps s x over = refl
 released_first go keeps s x (loose r) = refl
 
-found_first : (go : Whole → Option ℕ → Whole) → Keeps go → (s : Whole) (o : Option Thread) → first_number (released_in go s o).threads ≡ first_number s.threads
+found_first : (go : Whole → Plain → Whole) → Keeps go → (s : Whole) (o : Option Thread) → first_number (thread_released_in go s o).threads ≡ first_number s.threads
 found_first go keeps s None = refl
 found_first go keeps s (Some x) = released_first go keeps s x x.life
 
-let_go_first : (n : ℕ) (s : Whole) (t : Option ℕ) → first_number (let_threads_go n s t).threads ≡ first_number s.threads
-let_go_first n s None = refl
-let_go_first zero s (Some t) = refl
-let_go_first (suc n) s (Some t) = found_first (let_threads_go n) (λ q u. let_go_first n q u) s (thread_at s.threads t)
+content_first : (go : Whole → Plain → Whole) → Keeps go → (s : Whole) (v : Option Plain) → first_number (content_gone go s v).threads ≡ first_number s.threads
+content_first go keeps s None = refl
+content_first go keeps s (Some v) = keeps _ _
+
+share_first : (go : Whole → Plain → Whole) → Keeps go → (s : Whole) (n : MutexNo) (x : Option Shared) → first_number (share_released go s n x).threads ≡ first_number s.threads
+share_first go keeps s n None = refl
+share_first go keeps s n (Some x) = by x.shares
+  where
+    by : (k : ℕ) → first_number (share_gone go s n x k).threads ≡ first_number s.threads
+    by zero = content_first go keeps (record s { mutexes = with_mutex s.mutexes n None }) x.content
+    by (suc zero) = content_first go keeps (record s { mutexes = with_mutex s.mutexes n None }) x.content
+    by (suc (suc k)) = refl
+
+let_go_first : (n : ℕ) → Keeps (release_by n)
+let_go_first n s plain.Nothing = refl
+let_go_first n s plain.Unit = refl
+let_go_first n s (plain.Int i) = refl
+let_go_first n s (plain.Box o) = refl
+let_go_first zero s (plain.Task t) = refl
+let_go_first (suc n) s (plain.Task t) = found_first (release_by n) (let_go_first n) s (thread_at s.threads t)
+let_go_first zero s (plain.Mutex m) = refl
+let_go_first (suc n) s (plain.Mutex m) = share_first (release_by n) (let_go_first n) s m (mutex_there s.mutexes m)
 
 -- a step leaves the first thread first
 abbrev FirstIs : Whole → Option Stepped → Type 0
 FirstIs s None = ⊤
 FirstIs s (Some x) = first_number x.state.threads ≡ first_number s.threads
 
-stepped_first : (s : Whole) (t : Thread) (m : Move Life) (u : Option ℕ) (d : Option Did) → FirstIs s (then_released u (stepped s t m d))
+stepped_first : (s : Whole) (t : Thread) (m : Move Life) (u : Plain) (d : Option Did) → FirstIs s (then_released u (stepped s t m d))
 stepped_first s t m u None = tt
 stepped_first s t m u (Some d) = let_go_first _ _ u ∙ same_first s.threads _
 
@@ -79,32 +100,38 @@ join_first : (s : Whole) (t : Thread) (m : Move Life) (v : Value) → FirstIs s 
 join_first s t m (Own (plain.Task u)) = joined_first s t m (thread_at s.threads u) (result_at s.threads u)
 join_first s t m _ = tt
 
-act_first : (s : Whole) (t : Thread) (m : Move Life) (a : Act) → FirstIs s (done_act s t fresh.None m a)
-act_first s t m (do_spawn cs r) = tt
-act_first s t m (do_join v) = join_first s t m v
-act_first s t m (do_let v) = stepped_first s t m (lets_go (do_let v) (state_of s t)) (act (do_let v) (state_of s t))
-act_first s t m (do_read w take) = stepped_first s t m (lets_go (do_read w take) (state_of s t)) (act (do_read w take) (state_of s t))
-act_first s t m (do_borrow w is_mut) = stepped_first s t m (lets_go (do_borrow w is_mut) (state_of s t)) (act (do_borrow w is_mut) (state_of s t))
-act_first s t m (do_assign w v) = stepped_first s t m (lets_go (do_assign w v) (state_of s t)) (act (do_assign w v) (state_of s t))
-act_first s t m (do_box v) = stepped_first s t m (lets_go (do_box v) (state_of s t)) (act (do_box v) (state_of s t))
-act_first s t m (do_arith f v w) = stepped_first s t m (lets_go (do_arith f v w) (state_of s t)) (act (do_arith f v w) (state_of s t))
-act_first s t m (do_print v) = stepped_first s t m (lets_go (do_print v) (state_of s t)) (act (do_print v) (state_of s t))
-act_first s t m (do_discard v) = stepped_first s t m (lets_go (do_discard v) (state_of s t)) (act (do_discard v) (state_of s t))
-act_first s t m do_drop = stepped_first s t m (lets_go do_drop (state_of s t)) (act do_drop (state_of s t))
-act_first s t m (do_end v) = stepped_first s t m (lets_go (do_end v) (state_of s t)) (act (do_end v) (state_of s t))
-act_first s t m (do_finish v) = stepped_first s t m (lets_go (do_finish v) (state_of s t)) (act (do_finish v) (state_of s t))
-act_first s t m (do_leave v) = stepped_first s t m (lets_go (do_leave v) (state_of s t)) (act (do_leave v) (state_of s t))
+act_first : (s : Whole) (t : Thread) (m : Move Life) (a : Act) → IsTodays a → FirstIs s (done_act s t fresh.None m a)
+act_first s t m (do_spawn cs r) h = tt
+act_first s t m (do_join v) h = join_first s t m v
+act_first s t m (do_let v) h = stepped_first s t m (drops_last (do_let v) (state_of s t)) (act (do_let v) (state_of s t))
+act_first s t m (do_read w take) h = stepped_first s t m (drops_last (do_read w take) (state_of s t)) (act (do_read w take) (state_of s t))
+act_first s t m (do_borrow w is_mut) h = stepped_first s t m (drops_last (do_borrow w is_mut) (state_of s t)) (act (do_borrow w is_mut) (state_of s t))
+act_first s t m (do_assign w v) h = stepped_first s t m (drops_last (do_assign w v) (state_of s t)) (act (do_assign w v) (state_of s t))
+act_first s t m (do_box v) h = stepped_first s t m (drops_last (do_box v) (state_of s t)) (act (do_box v) (state_of s t))
+act_first s t m (do_arith f v w) h = stepped_first s t m (drops_last (do_arith f v w) (state_of s t)) (act (do_arith f v w) (state_of s t))
+act_first s t m (do_print v) h = stepped_first s t m (drops_last (do_print v) (state_of s t)) (act (do_print v) (state_of s t))
+act_first s t m (do_discard v) h = stepped_first s t m (drops_last (do_discard v) (state_of s t)) (act (do_discard v) (state_of s t))
+act_first s t m do_drop h = stepped_first s t m (drops_last do_drop (state_of s t)) (act do_drop (state_of s t))
+act_first s t m (do_end v) h = stepped_first s t m (drops_last (do_end v) (state_of s t)) (act (do_end v) (state_of s t))
+act_first s t m (do_finish v) h = stepped_first s t m (drops_last (do_finish v) (state_of s t)) (act (do_finish v) (state_of s t))
+act_first s t m (do_leave v) h = stepped_first s t m (drops_last (do_leave v) (state_of s t)) (act (do_leave v) (state_of s t))
+act_first s t m (do_mutex v) h = absurd h
+act_first s t m (do_dup w) h = absurd h
+act_first s t m (do_lock w) h = absurd h
+act_first s t m do_unlock h = absurd h
+act_first s t m (do_par cs r ds q) h = absurd h
+act_first s t m do_par_end h = absurd h
 
 step_first : (s : Whole) (n : ℕ) → FirstIs s (step s n fresh.None)
 step_first s n = by (thread_at s.threads n)
   where
-    by_move : (t : Thread) (o : Option (Move Life)) → FirstIs s (moved s t fresh.None o)
-    by_move t None = tt
-    by_move t (Some m) = act_first s t m m.act
+    by_move : (t : Thread) (o : Option (Move Life)) → life_move t.life ≡ o → FirstIs s (moved s t fresh.None o)
+    by_move t None e = tt
+    by_move t (Some m) e = act_first s t m m.act (acts_todays t.life m e)
 
     by : (o : Option Thread) → FirstIs s (step_of s fresh.None o)
     by None = tt
-    by (Some t) = by_move t (life_move t.life)
+    by (Some t) = by_move t (life_move t.life) refl
 
 -- THE MAIN THREAD
 

@@ -1,5 +1,5 @@
 -- The code's next move is the term's.
-use Rattle.std.proofs.Common.{◌≡◌, ◌≢◌, ℕ, zero, suc, ◌+◌, Bool, true, false, List, ◌∷◌, Option, Some, None, refl, sym, ap, ◌∙◌, subst}
+use Rattle.std.proofs.Common.{◌≡◌, ◌≢◌, ℕ, zero, suc, ◌+◌, Bool, true, false, List, [], ◌∷◌, Option, Some, None, refl, sym, ap, ◌∙◌, subst}
 use Rattle.std.specs.Prelude.{⊤, slice_get}
 use Rattle.fr_base.specs.declared.place.Lval.{Lval}
 use Rattle.fr_base.specs.declared.place.Op.{Op}
@@ -8,13 +8,14 @@ use Rattle.fr_base.specs.declared.instruction.Operand.TheVariants as operand
 use Rattle.fr_base.specs.declared.instruction.Instr.{Instr}
 use Rattle.fr_base.specs.declared.instruction.Instr.TheVariants as instr
 use Rattle.fr_plain.specs.declared.value.Value.{Value}
-use Rattle.fr_plain.specs.Acts.{Act, do_let, do_read, do_borrow, do_assign, do_box, do_arith, do_print, do_discard, do_drop, do_spawn, do_join}
+use Rattle.fr_plain.specs.MachineActs.{Act, carry, do_let, do_read, do_borrow, do_assign, do_box, do_arith, do_print, do_discard, do_drop, do_spawn, do_join}
 use Rattle.fr_plain.specs.Run.{Capture, Run, temp, unit_c, number, read, borrow, box_r, arith, bind, print, assign, block, spawn, join_r, Parts, last, more, Now, going, constant, temporary, by_now, on_value, after, now, now_parts, Move, next, alone, block_end, move, move_parts}
-use Rattle.fr_plain.specs.Whole.{starts_thread}
-use Rattle.fr_code.specs.Steps.{does, starts, captured, CodeMove, with_operand, went, quiet, loud, run_instr, code_move}
-use Rattle.fr_code.specs.StandsFor.{operand_of, operand_of_last, temps_in, temps_in_parts, IsSource, AreSource, LaterParts, Discards, DropsAt, At, AtParts}
-use Rattle.fr_code.specs.Laws.{SameAct, same_act, same_start}
+use Rattle.fr_plain.specs.Alike.{same_act, same_start}
+use Rattle.fr_code.specs.Steps.{captured, CodeMove, with_operand, went, quiet, loud, run_instr, code_move}
+use Rattle.fr_code.specs.StandsFor.{operand_of, operand_of_last, temps_in, temps_in_parts, IsSource, AreSource, LaterParts, Discards, DropsAt, At, AtParts, IsCodeFrom}
+use Rattle.fr_code.specs.Laws.{SameAct}
 use Rattle.fr_code.proofs.Finished.{source_temps, sources_temps, later, later_parts, is_later, done_later, OperandNow, operand_now, operand_last_now, Finished, finished, finished_parts, anywhere, parts_anywhere, done_stands}
+use Rattle.fr_code.proofs.Settling.{starts_stand}
 
 -- WHAT A MOVE LEADS TO
 
@@ -34,7 +35,7 @@ module _ {P : Type 0} (code : List Instr) (Fits : ℕ → List Value → P → T
   -- the same act, and what the move leads to fits
   pub record Match (m : Move P) (c : CodeMove) : Type 0 where
     pub act : SameAct code m.act c.act
-    pub fits : (v : Value) → Fits (c.at v) (c.temps v) (m.plug v)
+    pub fits : (v : Value) → Fits (c.plug v).pc (c.plug v).temps (m.plug v)
 
   abbrev pub Same : Option (Move P) → Option CodeMove → Type 0
   Same None None = ⊤
@@ -50,15 +51,15 @@ module _ (code : List Instr) where
 
   module _ {P : Type 0} (Fits : ℕ → List Value → P → Type 0) where
     -- an act at the front
-    pub acts : (a : Act) (f : Value → P) (at : Value → ℕ) (ts : Value → List Value) (x : Option CodeMove) → x ≡ went at ts (does a) → starts_thread a ≡ false → ((v : Value) → Fits (at v) (ts v) (f v)) → Same code Fits (alone f a) x
-    acts a f at ts x e own fits = subst (Same code Fits (alone f a)) (sym e) (record { act = same_act own; fits = fits })
+    pub acts : (a : Act ⊥) (f : Value → P) (at : Value → ℕ) (ts : Value → List Value) (x : Option CodeMove) → x ≡ went at ts (carry a) → ((v : Value) → Fits (at v) (ts v) (f v)) → Same code Fits (alone f (carry a)) x
+    acts a f at ts x e fits = subst (Same code Fits (alone f (carry a))) (sym e) (record { act = same_act a; fits = fits })
 
     -- a move inside
     pub under : {Q : Type 0} (Inner : ℕ → List Value → Q → Type 0) (f : Q → P) (a : Option (Move Q)) (b : Option CodeMove) → ((p : ℕ) (us : List Value) (x : Q) → Inner p us x → Fits p us (f x)) → Same code Inner a b → Same code Fits (next f a) b
     under Inner f None None g h = tt
     under Inner f None (Some c) g h = absurd h
     under Inner f (Some n) None g h = absurd h
-    under Inner f (Some n) (Some c) g h = record { act = h.act; fits = λ v. g (c.at v) (c.temps v) (n.plug v) (h.fits v) }
+    under Inner f (Some n) (Some c) g h = record { act = h.act; fits = λ v. g (c.plug v).pc (c.plug v).temps (n.plug v) (h.fits v) }
 
   abbrev pub Takes : Operand → List Value → List Value → Value → Type 0
   Takes o us ts v = (go : Value → List Value → Option CodeMove) → with_operand o us go ≡ go v ts
@@ -86,51 +87,50 @@ module _ (code : List Instr) where
   FollowsParts is = (p q : ℕ) (ts : List Value) → now_parts is ≡ going → AtParts code p is q → Same code (PartsIn code q ts (operand_of_last is)) (move_parts is) (code_move code p (temps_in_parts is ts))
 
   -- the shape of all terms with one part and one operand
-  unary : (F : Run → Run) (I : Operand → Instr) (out : Operand) (a : Value → Act) (T : Value → Run) (k : Value → List Value → List Value) (r : Run) (p q m : ℕ) (ts : List Value)
-      → ((v : Value) → starts_thread (a v) ≡ false)
+  unary : (F : Run → Run) (I : Operand → Instr) (out : Operand) (a : Value → Act ⊥) (T : Value → Run) (k : Value → List Value → List Value) (r : Run) (p q m : ℕ) (ts : List Value)
       → ((x : Run) (l : ℕ) → At code l x m → slice_get code m ≡ Some (I (operand_of x)) → StandsIn code q ts out l (temps_in x ts) (F x))
       → ((v : Value) (l : ℕ) → q ≡ l → StandsIn code q ts out l (k v ts) (T v))
-      → ((o : Operand) (us : List Value) → run_instr (Some (I o)) p us ≡ with_operand o us (λ v vs. went (λ x. p + 1) (λ x. k x vs) (does (a v))))
+      → ((o : Operand) (us : List Value) → run_instr (Some (I o)) p us ≡ with_operand o us (λ v vs. went (λ x. p + 1) (λ x. k x vs) (carry (a v))))
       → (now r ≡ going → Same code (StandsIn code m ts (operand_of r)) (move r) (code_move code p (temps_in r ts))) → At code p r m → slice_get code m ≡ Some (I (operand_of r)) → q ≡ m + 1
-      → Same code (StandsIn code q ts out) (on_value (now r) (λ v. alone T (a v)) (next F (move r))) (code_move code p (temps_in r ts))
-  unary F I out a T k r p q m ts own form value runs ih at i len =
+      → Same code (StandsIn code q ts out) (on_value (now r) (λ v. alone T (carry (a v))) (next F (move r))) (code_move code p (temps_in r ts))
+  unary F I out a T k r p q m ts form value runs ih at i len =
       let Fits = StandsIn code q ts out in
       let us = temps_in r ts in
       let x = code_move code p us in
-      one Fits (now r) (operand_of r) us ts p m (λ v. alone T (a v)) (next F (move r)) x (operand_now code r) (finished code r p m ts at)
+      one Fits (now r) (operand_of r) us ts p m (λ v. alone T (carry (a v))) (next F (move r)) x (operand_now code r) (finished code r p m ts at)
       (λ e. under Fits (StandsIn code m ts (operand_of r)) F (move r) x (λ l vs y f. subst (λ z. Fits l z (F y)) (sym f.temps) (form y l f.at (i ∙ ap (λ o. Some (I o)) (sym f.operand)))) (ih e))
-      (λ v ne take e. acts Fits (a v) T (λ w. p + 1) (λ w. k w ts) x (fetch (I (operand_of r)) m p us i e ∙ runs (operand_of r) us ∙ take (λ w vs. went (λ y. p + 1) (λ y. k y vs) (does (a w)))) (own v)
+      (λ v ne take e. acts Fits (a v) T (λ w. p + 1) (λ w. k w ts) x (fetch (I (operand_of r)) m p us i e ∙ runs (operand_of r) us ∙ take (λ w vs. went (λ y. p + 1) (λ y. k y vs) (carry (a w))))
       (λ w. value w (p + 1) (len ∙ ap (λ n. n + 1) e)))
 
   box_follows : (r : Run) → Follows r → Follows (box_r r)
   box_follows r ih p q ts g h =
-      unary box_r instr.Box operand.Pop do_box temp (λ v us. v ∷ us) r p q h.0 ts (λ v. refl) (λ x l a i. record { at = (h.0, a, i, h.3); temps = refl; operand = refl }) (λ v l e. record { at = e; temps = refl; operand = refl }) (λ o us. refl) (λ e. ih p h.0 ts e h.1) h.1 h.2 h.3
+      unary box_r instr.Box operand.Pop do_box temp (λ v us. v ∷ us) r p q h.0 ts (λ x l a i. record { at = (h.0, a, i, h.3); temps = refl; operand = refl }) (λ v l e. record { at = e; temps = refl; operand = refl }) (λ o us. refl) (λ e. ih p h.0 ts e h.1) h.1 h.2 h.3
 
   bind_follows : (r : Run) → Follows r → Follows (bind r)
   bind_follows r ih p q ts g h =
-      unary bind instr.Let operand.Unit do_let (λ x. unit_c) (λ v us. us) r p q h.0 ts (λ v. refl) (λ x l a i. record { at = (h.0, a, i, h.3); temps = refl; operand = refl }) (λ v l e. record { at = e; temps = refl; operand = refl }) (λ o us. refl) (λ e. ih p h.0 ts e h.1) h.1 h.2 h.3
+      unary bind instr.Let operand.Unit do_let (λ x. unit_c) (λ v us. us) r p q h.0 ts (λ x l a i. record { at = (h.0, a, i, h.3); temps = refl; operand = refl }) (λ v l e. record { at = e; temps = refl; operand = refl }) (λ o us. refl) (λ e. ih p h.0 ts e h.1) h.1 h.2 h.3
 
   print_follows : (r : Run) → Follows r → Follows (print r)
   print_follows r ih p q ts g h =
-      unary print instr.Print operand.Unit do_print (λ x. unit_c) (λ v us. us) r p q h.0 ts (λ v. refl) (λ x l a i. record { at = (h.0, a, i, h.3); temps = refl; operand = refl }) (λ v l e. record { at = e; temps = refl; operand = refl }) (λ o us. refl) (λ e. ih p h.0 ts e h.1) h.1 h.2 h.3
+      unary print instr.Print operand.Unit do_print (λ x. unit_c) (λ v us. us) r p q h.0 ts (λ x l a i. record { at = (h.0, a, i, h.3); temps = refl; operand = refl }) (λ v l e. record { at = e; temps = refl; operand = refl }) (λ o us. refl) (λ e. ih p h.0 ts e h.1) h.1 h.2 h.3
 
   assign_follows : (w : Lval) (r : Run) → Follows r → Follows (assign w r)
   assign_follows w r ih p q ts g h =
-      unary (assign w) (instr.Assign w) operand.Unit (do_assign w) (λ x. unit_c) (λ v us. us) r p q h.0 ts (λ v. refl) (λ x l a i. record { at = (h.0, a, i, h.3); temps = refl; operand = refl }) (λ v l e. record { at = e; temps = refl; operand = refl }) (λ o us. refl) (λ e. ih p h.0 ts e h.1) h.1 h.2 h.3
+      unary (assign w) (instr.Assign w) operand.Unit (do_assign w) (λ x. unit_c) (λ v us. us) r p q h.0 ts (λ x l a i. record { at = (h.0, a, i, h.3); temps = refl; operand = refl }) (λ v l e. record { at = e; temps = refl; operand = refl }) (λ o us. refl) (λ e. ih p h.0 ts e h.1) h.1 h.2 h.3
 
   join_follows : (r : Run) → Follows r → Follows (join_r r)
   join_follows r ih p q ts g h =
-      unary join_r instr.Join operand.Pop do_join temp (λ v us. v ∷ us) r p q h.0 ts (λ v. refl) (λ x l a i. record { at = (h.0, a, i, h.3); temps = refl; operand = refl }) (λ v l e. record { at = e; temps = refl; operand = refl }) (λ o us. refl) (λ e. ih p h.0 ts e h.1) h.1 h.2 h.3
+      unary join_r instr.Join operand.Pop do_join temp (λ v us. v ∷ us) r p q h.0 ts (λ x l a i. record { at = (h.0, a, i, h.3); temps = refl; operand = refl }) (λ v l e. record { at = e; temps = refl; operand = refl }) (λ o us. refl) (λ e. ih p h.0 ts e h.1) h.1 h.2 h.3
 
   read_follows : (w : Lval) (take : Bool) → Follows (read w take)
   read_follows w take p q ts g h =
-      acts (StandsIn code q ts operand.Pop) (do_read w take) temp (λ v. p + 1) (λ v. v ∷ ts) (code_move code p ts) (fetch (instr.Read w take) p p ts h.0 refl) refl (λ v. record { at = h.1; temps = refl; operand = refl })
+      acts (StandsIn code q ts operand.Pop) (do_read w take) temp (λ v. p + 1) (λ v. v ∷ ts) (code_move code p ts) (fetch (instr.Read w take) p p ts h.0 refl) (λ v. record { at = h.1; temps = refl; operand = refl })
 
   borrow_follows : (w : Lval) (is_mut : Bool) → Follows (borrow w is_mut)
   borrow_follows w true p q ts g h =
-      acts (StandsIn code q ts operand.Pop) (do_borrow w true) temp (λ v. p + 1) (λ v. v ∷ ts) (code_move code p ts) (fetch (instr.BorrowMut w) p p ts h.0 refl) refl (λ v. record { at = h.1; temps = refl; operand = refl })
+      acts (StandsIn code q ts operand.Pop) (do_borrow w true) temp (λ v. p + 1) (λ v. v ∷ ts) (code_move code p ts) (fetch (instr.BorrowMut w) p p ts h.0 refl) (λ v. record { at = h.1; temps = refl; operand = refl })
   borrow_follows w false p q ts g h =
-      acts (StandsIn code q ts operand.Pop) (do_borrow w false) temp (λ v. p + 1) (λ v. v ∷ ts) (code_move code p ts) (fetch (instr.Borrow w) p p ts h.0 refl) refl (λ v. record { at = h.1; temps = refl; operand = refl })
+      acts (StandsIn code q ts operand.Pop) (do_borrow w false) temp (λ v. p + 1) (λ v. v ∷ ts) (code_move code p ts) (fetch (instr.Borrow w) p p ts h.0 refl) (λ v. record { at = h.1; temps = refl; operand = refl })
 
   -- the right side is evaluated, or both sides are done
   arith_right : (f : Op) (a b : Run) → Follows b → (p m n q : ℕ) (ts : List Value) (v : Value) → now a ≢ going → Takes (operand_of a) (temps_in a ts) ts v → m ≡ p → At code p b n → slice_get code n ≡ Some (instr.Arith f (operand_of a) (operand_of b)) → q ≡ n + 1
@@ -144,7 +144,7 @@ module _ (code : List Instr) where
       (λ l vs y g. record { at = (l, n, done_stands code (now a) (λ z. At code z a z) ne (anywhere code a) l, g.at, i ∙ ap (λ o. Some (instr.Arith f (operand_of a) o)) (sym g.operand), len, done_later (now a) (IsSource y) ne); temps = g.temps; operand = refl })
       (ih p n (temps_in a ts) e at))
       (λ w ne2 take2 e. acts Fits (do_arith f v w) temp (λ y. p + 1) (λ y. y ∷ ts) x
-      (fetch (instr.Arith f (operand_of a) (operand_of b)) n p us i e ∙ take2 (λ w us. with_operand (operand_of a) us (λ v vs. loud (p + 1) vs (does (do_arith f v w)))) ∙ take (λ v vs. loud (p + 1) vs (does (do_arith f v w)))) refl
+      (fetch (instr.Arith f (operand_of a) (operand_of b)) n p us i e ∙ take2 (λ w us. with_operand (operand_of a) us (λ v vs. loud (p + 1) vs (do_arith f v w))) ∙ take (λ v vs. loud (p + 1) vs (do_arith f v w)))
       (λ y. record { at = len ∙ ap (λ z. z + 1) e; temps = refl; operand = refl }))
 
   arith_follows : (f : Op) (a b : Run) → Follows a → Follows b → Follows (arith f a b)
@@ -165,7 +165,7 @@ module _ (code : List Instr) where
       → Same code (StandsIn code q ts (operand_of_last is)) (block_end k is) (code_move code p us)
   end_follows zero is p q ts us g ne e d = absurd (ne g)
   end_follows (suc k) is p q ts us g ne e d =
-      acts (StandsIn code q ts (operand_of_last is)) do_drop (λ v. block k is) (λ v. p + 1) (λ v. us) (code_move code p us) (fetch instr.DropSlot p p us d.0 refl) refl
+      acts (StandsIn code q ts (operand_of_last is)) do_drop (λ v. block k is) (λ v. p + 1) (λ v. us) (code_move code p us) (fetch instr.DropSlot p p us d.0 refl)
       (λ v. record { at = (p + 1, done_stands code (now_parts is) (λ z. AtParts code z is z) ne (parts_anywhere code is) (p + 1), d.1); temps = e; operand = refl })
 
   block_follows : (k : ℕ) (is : Parts) → FollowsParts is → Follows (block k is)
@@ -180,7 +180,8 @@ module _ (code : List Instr) where
   -- the new thread's code stands where the instruction says
   spawn_follows : (cs : List Capture) (r : Run) → Follows (spawn cs r)
   spawn_follows cs r p q ts g h =
-      let act : SameAct code (do_spawn cs r) (starts (captured h.0.items) h.1) = subst (λ xs. SameAct code (do_spawn cs r) (starts xs h.1)) (sym h.4) (same_start (record { to = h.2; at = h.6; over = h.7; source = h.8 })) in
+      let from : IsCodeFrom code h.1 r = record { to = h.2; at = h.6; over = h.7; source = h.8 } in
+      let act : SameAct code (do_spawn cs r) (do_spawn (captured h.0.items) (record { pc = h.1; temps = [] })) = subst (λ xs. SameAct code (do_spawn cs r) (do_spawn xs (record { pc = h.1; temps = [] }))) (sym h.4) (same_start (starts_stand code h.1 r from)) in
       subst (Same code (StandsIn code q ts operand.Pop) (move (spawn cs r))) (sym (fetch (instr.Spawn h.0 h.1) p p ts h.3 refl))
       (record { act = act; fits = λ v. record { at = h.5; temps = refl; operand = refl } })
 
@@ -202,7 +203,7 @@ module _ (code : List Instr) where
       let us = temps_in_parts is (temps_in r ts) in
       let n : h.1 ≡ p + 1 = d.1 ∙ ap (λ z. z + 1) f.1 in
       acts Fits (do_discard v) (λ x. is) (λ x. p + 1) (λ x. ts) (code_move code p us)
-      (fetch instr.Discard h.0 p us d.0 f.1 ∙ ap (λ z. with_operand operand.Pop z (λ v us. quiet (p + 1) us (does (do_discard v)))) (sources_temps is (temps_in r ts) src ∙ f.0)) refl
+      (fetch instr.Discard h.0 p us d.0 f.1 ∙ ap (λ z. with_operand operand.Pop z (λ v us. quiet (p + 1) us (do_discard v))) (sources_temps is (temps_in r ts) src ∙ f.0))
       (λ x. record { at = subst (λ z. AtParts code z is q) n h.4; temps = sym (sources_temps is ts src); operand = refl })
 
   mutual

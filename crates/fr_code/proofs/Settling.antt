@@ -7,9 +7,9 @@ use Rattle.fr_base.specs.declared.instruction.Instr.TheVariants as instr
 use Rattle.fr_plain.specs.declared.value.Value.{Value}
 use Rattle.fr_plain.specs.Run.{Run, temp, unit_c, number, read, borrow, box_r, arith, bind, print, assign, block, spawn, join_r, Parts, last, more, Now, going, constant, temporary, now, settle, settle_parts, settle_more, settle_right, close_last, close}
 use Rattle.fr_sound.proofs.Settling.{now_settle}
-use Rattle.fr_code.specs.StandsFor.{operand_of, operand_of_last, temps_in, temps_in_parts, IsSource, AreSource, Later, LaterParts, Discards, DropsAt, Ends, At, AtParts}
+use Rattle.fr_code.specs.StandsFor.{operand_of, operand_of_last, temps_in, temps_in_parts, IsSource, AreSource, Later, LaterParts, Discards, DropsAt, Ends, At, AtParts, Stands, IsCodeFrom}
 use Rattle.fr_code.specs.Laws.{SettlingStands}
-use Rattle.fr_code.proofs.Finished.{OperandNow, operand_now, Finished, finished}
+use Rattle.fr_code.proofs.Finished.{source_temps, OperandNow, operand_now, Finished, finished}
 
 module _ (code : List Instr) where
   -- the second term stands where the first does
@@ -110,3 +110,7 @@ pub settling_stands : SettlingStands
 settling_stands code p ts r h =
     let k = keeps code r p h.to h.at in
     record { to = h.to; at = k.at; temps = h.temps ∙ sym (k.temps []); over = subst (Ends code h.to) (sym k.operand) h.over }
+
+-- where a thread starts the code stands for its term
+pub starts_stand : (code : List Instr) (p : ℕ) (r : Run) → IsCodeFrom code p r → Stands code p [] (settle r)
+starts_stand code p r f = settling_stands code p [] r (record { to = f.to; at = f.at; temps = sym (source_temps r [] f.source); over = f.over })

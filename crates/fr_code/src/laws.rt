@@ -1,15 +1,18 @@
 //! Laws of compiled code.
 
 ghost use Rattle.fr_code.specs.Examples.{CodesCompute};
-ghost use Rattle.fr_code.specs.Laws.{MovesAlike, RunsAlike, SettlingStands, StartsAlike, StepsAlike};
-ghost use Rattle.fr_code.specs.TypedCode.{ActsAreTyped, CodeNeverStuck, CodeStartsTyped};
+ghost use Rattle.fr_code.specs.Laws.{EndingsAlike, MovesAlike, RefusalsAlike, RunsAlike, SettlingStands, StartsAlike, StepsAlike};
+ghost use Rattle.fr_code.specs.TypedCode.{ActsAreTyped, CodeNeverStuck, CodeStartsTyped, EndsAreTyped};
 
 /// A state of the code and the state of the plain machine that it stands for take the same steps, with the same labels, and
-/// neither one without the other. What they become stand for each other again.
+/// neither one without the other; where one is refused, the other is for the same cause. What they become stand for each other
+/// again, and end alike.
 pub fn steps_alike()
     ensures settling { SettlingStands }
     ensures moves { MovesAlike }
     ensures steps { StepsAlike }
+    ensures refusals { RefusalsAlike }
+    ensures endings { EndingsAlike }
 {}
 
 /// The code of a program starts where the program does, and runs as it does.
@@ -24,10 +27,11 @@ pub fn codes_compute()
 {}
 
 /// A state of the code is typed where it stands for a typed state of the plain machine. The next act of each of its threads is
-/// then what a row of the typing grants (`acts`), and a step that is not refused can be done and leaves a typed state
-/// (`steps`). The code of a typed program starts typed (`starts`).
+/// then what a row of the typing grants (`acts`), or the thread is at its end with a value of its type (`ends`), and a step that is
+/// not refused can be done and leaves a typed state (`steps`). The code of a typed program starts typed (`starts`).
 pub fn code_is_typed()
     ensures acts { ActsAreTyped }
+    ensures ends { EndsAreTyped }
     ensures steps { CodeNeverStuck }
     ensures starts { CodeStartsTyped }
 {}

@@ -8,10 +8,10 @@ use Rattle.fr_base.specs.declared.label.Label.TheVariants as label
 use Rattle.fr_base.specs.declared.place.Lval.{Lval}
 use Rattle.fr_base.specs.declared.place.Op.{Op}
 use Rattle.fr_plain.specs.declared.value.Value.{Value}
-use Rattle.fr_plain.specs.declared.value.Value.TheVariants.{Own, ToSlot, ToObject}
+use Rattle.fr_plain.specs.declared.value.Value.TheVariants.{Own, ToSlot, ToObject, Held}
 use Rattle.fr_plain.specs.Heap.{Heap}
 use Rattle.fr_plain.specs.State.{State, gone, Spot, in_slot, in_cell, value_at, loads, stores, drops, Reached, then_reached, led, stars, locate}
-use Rattle.fr_plain.specs.Acts.{Act, do_let, do_read, do_borrow, do_assign, do_box, do_arith, do_print, do_discard, do_drop, do_end, do_spawn, do_join, do_finish, do_leave, Did, read_did, borrow_did, assign_did, box_did, arith_did, drop_did, act}
+use Rattle.fr_plain.specs.Acts.{Act, do_let, do_read, do_borrow, do_assign, do_box, do_arith, do_print, do_discard, do_drop, do_end, do_spawn, do_join, do_finish, do_leave, do_mutex, do_dup, do_lock, do_unlock, do_par, do_par_end, Did, read_did, borrow_did, assign_did, box_did, arith_did, drop_did, act}
 use Rattle.fr_plain.specs.Whole.{prints}
 use Rattle.fr_meaning.specs.declared.spot.Where.{Where}
 use Rattle.fr_meaning.specs.Turning.{IsReached, state, did}
@@ -56,6 +56,7 @@ loads_silent : (p : Spot) (v : Value) → prints (loads p v) ≡ []
 loads_silent (in_cell o) (Own v) = refl
 loads_silent (in_cell o) (ToSlot i) = refl
 loads_silent (in_cell o) (ToObject q) = refl
+loads_silent (in_cell o) (Held q) = refl
 loads_silent (in_slot i) v = refl
 
 -- a store prints nothing
@@ -63,6 +64,7 @@ stores_silent : (p : Spot) (v : Value) → prints (stores p v) ≡ []
 stores_silent (in_cell o) (Own v) = refl
 stores_silent (in_cell o) (ToSlot i) = refl
 stores_silent (in_cell o) (ToObject q) = refl
+stores_silent (in_cell o) (Held q) = refl
 stores_silent (in_slot i) v = refl
 
 -- a drop prints nothing
@@ -75,6 +77,7 @@ drops_silent (Own (plain.Mutex m)) = refl
 drops_silent (Own (plain.Task t)) = refl
 drops_silent (ToSlot i) = refl
 drops_silent (ToObject o) = refl
+drops_silent (Held o) = refl
 
 -- the loads on the way print nothing
 abbrev SilentWay : Option Reached → Type 0
@@ -92,6 +95,7 @@ led_silent r (Some (Own (plain.Mutex m))) h = tt
 led_silent r (Some (Own (plain.Task t))) h = tt
 led_silent r (Some (ToSlot i)) h = h
 led_silent r (Some (ToObject o)) h = h
+led_silent r (Some (Held o)) h = tt
 
 -- nor does a way that goes on
 then_silent : (o : Option Reached) (go : Reached → Option Reached) → SilentWay o → ((r : Reached) → prints r.passed ≡ [] → SilentWay (go r)) → SilentWay (then_reached o go)
@@ -129,6 +133,7 @@ box_silent : (s : State) (v : Value) → Silent (box_did s v)
 box_silent s (Own v) = refl
 box_silent s (ToSlot i) = tt
 box_silent s (ToObject o) = tt
+box_silent s (Held o) = tt
 
 -- nor does an operation
 arith_silent : (s : State) (f : Op) (a b : Value) → Silent (arith_did s f a b)
@@ -143,6 +148,7 @@ arith_silent s f (Own (plain.Int n)) b = by b
     by (Own (plain.Task t)) = tt
     by (ToSlot i) = tt
     by (ToObject o) = tt
+    by (Held o) = tt
 arith_silent s f (Own plain.Nothing) b = tt
 arith_silent s f (Own plain.Unit) b = tt
 arith_silent s f (Own (plain.Box o)) b = tt
@@ -150,6 +156,7 @@ arith_silent s f (Own (plain.Mutex m)) b = tt
 arith_silent s f (Own (plain.Task t)) b = tt
 arith_silent s f (ToSlot i) b = tt
 arith_silent s f (ToObject o) b = tt
+arith_silent s f (Held o) b = tt
 
 -- a slot that goes prints nothing
 drop_silent : (s : State) (vs : List Value) → Silent (drop_did s vs)
@@ -177,6 +184,12 @@ act_silent (do_spawn cs r) s h = tt
 act_silent (do_join v) s h = tt
 act_silent (do_finish v) s h = refl
 act_silent (do_leave v) s h = refl
+act_silent (do_mutex v) s h = tt
+act_silent (do_dup w) s h = tt
+act_silent (do_lock w) s h = tt
+act_silent do_unlock s h = tt
+act_silent (do_par cs r ds q) s h = tt
+act_silent do_par_end s h = tt
 
 -- such an act's labels print nothing
 pub silent : (a : Act) (s : State) (d : Did) → IsSilent a → act a s ≡ Some d → prints d.labels ≡ []

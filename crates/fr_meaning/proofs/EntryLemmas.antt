@@ -22,7 +22,7 @@ pub entries_whole : (fs : List Form) (xs : List Thread) (heap : Heap) (output : 
 entries_whole fs xs heap output = ap (λ ts. whole_with ts) (threads_entries fs xs)
   where
     whole_with : List PlainThread → Whole
-    whole_with ts = record { threads = ts; heap = heap; output = output }
+    whole_with ts = record { threads = ts; heap = heap; mutexes = []; pairs = []; output = output }
 
 -- another thread that is the same without its room
 pub entries_set : (xs : List Thread) (i : ℕ) (x y : Thread) → x ≡ get_or xs i x → entry_of y ≡ entry_of x → entries_of (slice_set xs i y) ≡ entries_of xs

@@ -5,7 +5,7 @@ use Rattle.fr_plain.specs.Acts.{do_spawn, do_join, do_box, do_let, do_print, do_
 use Rattle.fr_plain.specs.Run as run
 use Rattle.fr_plain.specs.Run.{Capture, Run, going, on_value, now, Move, next, alone, block_end, move, Life, life_move}
 use Rattle.fr_plain.specs.Threads.{act_waits, move_waits}
-use Rattle.fr_plain.specs.Whole.{Whole, takes_name, starts_thread}
+use Rattle.fr_plain.specs.Whole.{Whole, Thread as PlainThread, takes_name, takes_of}
 use Rattle.fr_meaning.specs.declared.forms.Form.{Form}
 use Rattle.fr_meaning.specs.declared.forms.Form.TheVariants as form
 use Rattle.fr_meaning.specs.declared.frame.Done.{Done}
@@ -22,7 +22,7 @@ use Rattle.fr_meaning.specs.Contexts.{fill, wrap, IsSettled}
 use Rattle.fr_meaning.specs.FormTerms.{AreInOrder, term_of, items_at, captures_of, captures_in, captures_at, parts_from, IsSpawn}
 use Rattle.fr_meaning.specs.DoneTerms.{over, value_of}
 use Rattle.fr_meaning.specs.FrameTerms.{around, around_items, all_around, wrapped, focus_run, IsPastLeft, TopIsPastLeft, HasMadeWay}
-use Rattle.fr_meaning.specs.Next.{IsNext, OwnNext, next_waits, starts}
+use Rattle.fr_meaning.specs.Next.{IsNext, OwnNext, next_waits, starts, thread_if}
 use Rattle.fr_meaning.specs.Threads.{run_in, IsWell, IsGoingOn, life_at}
 use Rattle.fr_meaning.proofs.ContextLemmas.{now_wrap, move_fill, move_wrap, settled_fill}
 use Rattle.fr_meaning.proofs.FormLemmas.{form_term, get_or-any}
@@ -150,8 +150,8 @@ next_moves fs x next_.Own a w on h =
     subst (λ (o : Option (Move Life)). Owns o) (sym e) (next_owns (life_at x.stage) (move (run_in fs x)) (run_owns fs x.frames.items x.focus w.settled w.way h))
 
 -- it waits at a join alone, and takes a name at a start alone
-pub moves_wait : (fs : List Form) (s : Whole) (n : Next) (o : Option (Move Life)) → Moves fs n o → (move_waits s o ≡ next_waits s n) × (takes_name o ≡ starts n)
-moves_wait fs s (next_.End d) o h = move_free s o h
-moves_wait fs s (next_.Join v) o h = (ap (move_waits s) h.1 ∙ ap (act_waits s) h.2, ap takes_name h.1 ∙ ap starts_thread h.2)
-moves_wait fs s (next_.Start node) o h = (ap (move_waits s) h.2 ∙ ap (act_waits s) h.3, ap takes_name h.2 ∙ ap starts_thread h.3)
-moves_wait fs s next_.Own o h = move_free s o h
+pub moves_wait : (fs : List Form) (s : Whole) (x : PlainThread) (n : Next) (o : Option (Move Life)) → Moves fs n o → (move_waits s x o ≡ next_waits s n) × (takes_name o ≡ thread_if (starts n))
+moves_wait fs s x (next_.End d) o h = move_free s x o h
+moves_wait fs s x (next_.Join v) o h = (ap (move_waits s x) h.1 ∙ ap (act_waits s x) h.2, ap takes_name h.1 ∙ ap takes_of h.2)
+moves_wait fs s x (next_.Start node) o h = (ap (move_waits s x) h.2 ∙ ap (act_waits s x) h.3, ap takes_name h.2 ∙ ap takes_of h.3)
+moves_wait fs s x next_.Own o h = move_free s x o h

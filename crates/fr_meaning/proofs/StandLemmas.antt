@@ -6,11 +6,11 @@ use Rattle.fr_base.specs.declared.step.Fresh.{Fresh}
 use Rattle.fr_base.specs.declared.step.Wait.{Wait}
 use Rattle.fr_base.specs.declared.step.Wait.TheVariants as wait
 use Rattle.fr_plain.specs.declared.value.Value.{Value}
-use Rattle.fr_plain.specs.declared.value.Value.TheVariants.{Own, ToSlot, ToObject}
+use Rattle.fr_plain.specs.declared.value.Value.TheVariants.{Own, ToSlot, ToObject, Held}
 use Rattle.fr_plain.specs.Heap.{Heap}
 use Rattle.fr_plain.specs.Run.{Run, life_move}
 use Rattle.fr_plain.specs.Threads.{unless_some, join_waits, result_in as result_in_plain}
-use Rattle.fr_plain.specs.Whole.{Thread as PlainThread, Whole, result_at, is_over, waits_for, has_ended, takes_name, refused_names, refused_wait, refused_of}
+use Rattle.fr_plain.specs.Whole.{Thread as PlainThread, Whole, result_at, is_over, waits_for, has_ended, Takes, takes_name, refused_names, refused_wait, refused_of}
 use Rattle.fr_meaning.specs.declared.error.StepError.{StepError}
 use Rattle.fr_meaning.specs.declared.error.StepError.TheVariants as error
 use Rattle.fr_meaning.specs.declared.forms.Form.{Form}
@@ -20,7 +20,7 @@ use Rattle.fr_meaning.specs.declared.thread.Stage.{Stage}
 use Rattle.fr_meaning.specs.declared.thread.Stage.TheVariants as stage
 use Rattle.fr_meaning.specs.declared.thread.Thread.{Thread}
 use Rattle.fr_meaning.specs.FormTerms.{AreInOrder}
-use Rattle.fr_meaning.specs.Next.{IsNext, next_waits, starts, task_named}
+use Rattle.fr_meaning.specs.Next.{IsNext, next_waits, starts, thread_if, task_named}
 use Rattle.fr_meaning.specs.Places.{place_of}
 use Rattle.fr_meaning.specs.PoolView.{error_of, refusal, kind_of, need_in, need_of}
 use Rattle.fr_meaning.specs.Threads.{run_in, IsWell, IsGoingOn, is_done, result_in, life_at, thread_of, whole, numbers_of}
@@ -45,8 +45,8 @@ not_done_on stage.Over h = absurd cc
 not_done_on (stage.Ended v) h = absurd cc
 
 -- what a thread in progress waits for and which names it takes, by what it does next
-pub stands : (fs : List Form) (s : Whole) (x : Thread) (n : Next) → AreInOrder fs → IsWell fs x → is_done x.stage ≡ false → IsNext x.focus x.frames.items n → (waits_for s (thread_of fs x) ≡ next_waits s n) × (takes_name (life_move (thread_of fs x).life) ≡ starts n)
-stands fs s x n a w g h = moves_wait fs s n (life_move (life_at x.stage (run_in fs x))) (next_moves fs x n a w (not_done_on x.stage g) h)
+pub stands : (fs : List Form) (s : Whole) (x : Thread) (n : Next) → AreInOrder fs → IsWell fs x → is_done x.stage ≡ false → IsNext x.focus x.frames.items n → (waits_for s (thread_of fs x) ≡ next_waits s n) × (takes_name (life_move (thread_of fs x).life) ≡ thread_if (starts n))
+stands fs s x n a w g h = moves_wait fs s (thread_of fs x) n (life_move (life_at x.stage (run_in fs x))) (next_moves fs x n a w (not_done_on x.stage g) h)
 
 -- A JOIN
 
@@ -60,6 +60,7 @@ task_waits s (Own (plain.Box o)) u h = absurd cc
 task_waits s (Own (plain.Mutex n)) u h = absurd cc
 task_waits s (ToSlot n) u h = absurd cc
 task_waits s (ToObject o) u h = absurd cc
+task_waits s (Held o) u h = absurd cc
 
 -- a thread that isn't there
 pub waits_nowhere : (fs : List Form) (xs : List Thread) (heap : Heap) (output : List ℤ) (v : Value) (u : ℕ) → task_named v ≡ Some u → place_of (numbers_of xs) u ≡ None → join_waits (whole fs xs heap output) v ≡ Some (wait.Join u)
@@ -84,7 +85,7 @@ pub refused_nowhere : (fs : List Form) (xs : List Thread) (heap : Heap) (output 
 refused_nowhere fs xs heap output t names h = ap (λ o. option_map error_of (refused_of (whole fs xs heap output) names o)) (none_there fs xs t h)
 
 -- by whether it has ended, what it waits for, and the names that it takes
-abbrev by_causes : Whole → Fresh → Bool → Option Wait → Bool → Option StepError
+abbrev by_causes : Whole → Fresh → Bool → Option Wait → Takes → Option StepError
 by_causes s names over w takes = option_map error_of (if over then Some has_ended else refused_wait w (refused_names s takes names))
 
 pub refused_ended : (fs : List Form) (xs : List Thread) (heap : Heap) (output : List ℤ) (t : ℕ) (names : Fresh) (i : ℕ) (x : Thread) → place_of (numbers_of xs) t ≡ Some i → x ≡ get_or xs i x → is_done x.stage ≡ true → refusal (whole fs xs heap output) t names ≡ Some error.Ended
@@ -94,7 +95,7 @@ refused_ended fs xs heap output t names i x h is e =
     ∙ ap (λ b. by_causes s names b (waits_for s (thread_of fs x)) (takes_name (life_move (thread_of fs x).life))) (life_done x.stage (run_in fs x) ∙ e)
 
 pub refused_there : (fs : List Form) (xs : List Thread) (heap : Heap) (output : List ℤ) (t : ℕ) (names : Fresh) (i : ℕ) (x : Thread) (n : Next) (w : Option Wait) → AreInOrder fs → IsWell fs x → place_of (numbers_of xs) t ≡ Some i → x ≡ get_or xs i x → is_done x.stage ≡ false → IsNext x.focus x.frames.items n →
-    next_waits (whole fs xs heap output) n ≡ w → refusal (whole fs xs heap output) t names ≡ option_map error_of (refused_wait w (refused_names (whole fs xs heap output) (starts n) names))
+    next_waits (whole fs xs heap output) n ≡ w → refusal (whole fs xs heap output) t names ≡ option_map error_of (refused_wait w (refused_names (whole fs xs heap output) (thread_if (starts n)) names))
 refused_there fs xs heap output t names i x n w a well h is e comes stays =
     let s = whole fs xs heap output in
     let st = stands fs s x n a well e comes in
@@ -107,17 +108,17 @@ refused_there fs xs heap output t names i x n w a well h is e comes stays =
 pub need_nowhere : (fs : List Form) (xs : List Thread) (heap : Heap) (output : List ℤ) (t : ℕ) → place_of (numbers_of xs) t ≡ None → need_of (whole fs xs heap output) t ≡ None
 need_nowhere fs xs heap output t h = ap need_in (none_there fs xs t h)
 
-abbrev by_need : Bool → Bool → Option Need
+abbrev by_need : Bool → Takes → Option Need
 by_need over takes = if over then None else Some (kind_of takes)
 
 pub need_ended : (fs : List Form) (xs : List Thread) (heap : Heap) (output : List ℤ) (t i : ℕ) (x : Thread) → place_of (numbers_of xs) t ≡ Some i → x ≡ get_or xs i x → is_done x.stage ≡ true → need_of (whole fs xs heap output) t ≡ None
 need_ended fs xs heap output t i x h is e = ap need_in (there_at fs xs t i x h is).0 ∙ ap (λ b. by_need b (takes_name (life_move (thread_of fs x).life))) (life_done x.stage (run_in fs x) ∙ e)
 
 pub need_there : (fs : List Form) (xs : List Thread) (heap : Heap) (output : List ℤ) (t i : ℕ) (x : Thread) (n : Next) (takes : Bool) → AreInOrder fs → IsWell fs x → place_of (numbers_of xs) t ≡ Some i → x ≡ get_or xs i x → is_done x.stage ≡ false → IsNext x.focus x.frames.items n →
-    starts n ≡ takes → need_of (whole fs xs heap output) t ≡ Some (kind_of takes)
+    starts n ≡ takes → need_of (whole fs xs heap output) t ≡ Some (kind_of (thread_if takes))
 need_there fs xs heap output t i x n takes a well h is e comes same =
     ap need_in (there_at fs xs t i x h is).0 ∙ ap (λ b. by_need b (takes_name (life_move (thread_of fs x).life))) (life_done x.stage (run_in fs x) ∙ e)
-    ∙ ap (by_need false) ((stands fs (whole fs xs heap output) x n a well e comes).1 ∙ same)
+    ∙ ap (by_need false) ((stands fs (whole fs xs heap output) x n a well e comes).1 ∙ ap thread_if same)
 
 -- STANDING STILL
 

@@ -5,9 +5,9 @@ use Rattle.fr_base.specs.declared.label.Plain.TheVariants as plain
 use Rattle.fr_base.specs.declared.step.Fresh.{Fresh}
 use Rattle.fr_base.specs.declared.step.Fresh.TheVariants as fresh
 use Rattle.fr_plain.specs.declared.value.Value.{Value}
-use Rattle.fr_plain.specs.declared.value.Value.TheVariants.{Own, ToSlot, ToObject}
+use Rattle.fr_plain.specs.declared.value.Value.TheVariants.{Own, ToSlot, ToObject, Held}
 use Rattle.fr_plain.specs.Heap.{Heap}
-use Rattle.fr_plain.specs.Acts.{Act, do_spawn, do_join, Did, act, lets_go}
+use Rattle.fr_plain.specs.Acts.{Act, do_spawn, do_join, Did, act, lets_go, drops_last}
 use Rattle.fr_plain.specs.Run.{Run, Move, next, move, Life, life_move}
 use Rattle.fr_plain.specs.Threads.{Passed, result_of_life, result_in as result_in_plain}
 use Rattle.fr_plain.specs.Whole.{Thread as PlainThread, Whole, Stepped, thread_at, is_given, pass, stepped, then_released, alone_stepped, started_with, joined, joined_with, done_act, moved, step_of, step, state_of}
@@ -131,7 +131,7 @@ alone_goes : (s : Whole) (x : PlainThread) (g : Stage) (o : Option (Move Run)) �
 alone_goes s x g None w h = absurd (no_some {A = Stepped} None refl h)
 alone_goes s x g (Some m) w h = by (act m.act (state_of s x)) (subst (λ (o : Option Stepped). IsSome o) (own_done s x (moved_to g m) m.act w) h)
   where
-    by : (d : Option Did) → IsSome (then_released (lets_go m.act (state_of s x)) (stepped s x (moved_to g m) d)) → IsSome (settled (turned_by m (lets_go m.act (state_of s x)) d))
+    by : (d : Option Did) → IsSome (then_released (drops_last m.act (state_of s x)) (stepped s x (moved_to g m) d)) → IsSome (settled (turned_by m (lets_go m.act (state_of s x)) d))
     by None k = absurd (no_some {A = Stepped} None refl k)
     by (Some d) k = refl
 
@@ -170,6 +170,7 @@ join_finds s x m (Own (plain.Box o)) h = absurd (no_some {A = Stepped} None refl
 join_finds s x m (Own (plain.Mutex n)) h = absurd (no_some {A = Stepped} None refl h)
 join_finds s x m (ToSlot n) h = absurd (no_some {A = Stepped} None refl h)
 join_finds s x m (ToObject o) h = absurd (no_some {A = Stepped} None refl h)
+join_finds s x m (Held o) h = absurd (no_some {A = Stepped} None refl h)
 
 kept_ended : (g : Stage) (v : Value) → result_in g ≡ Some v → IsEnded g
 kept_ended stage.Alive v h = absurd cc

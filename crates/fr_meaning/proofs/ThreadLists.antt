@@ -174,7 +174,7 @@ one_goes n fs xs heap output t i x y h is m e =
     let here = ap (thread_at (threads_of fs xs)) there.1 ∙ there.0 in
     ap (released_in (let_threads_go n) (whole fs xs heap output)) there.0
     ∙ release_by n fs (whole fs xs heap output) x x.stage refl here
-    ∙ ap (λ ts. let_threads_go n (record { threads = ts; heap = released_heap heap x.stage; output = output }) (released_task heap x.stage)) (ap (with_thread (threads_of fs xs)) (sym e) ∙ set_at fs xs t i y h (m ∙ there.1))
+    ∙ ap (λ ts. let_threads_go n (record { threads = ts; heap = released_heap heap x.stage; mutexes = []; pairs = []; output = output }) (released_task heap x.stage)) (ap (with_thread (threads_of fs xs)) (sym e) ∙ set_at fs xs t i y h (m ∙ there.1))
 
 -- ONE MORE
 

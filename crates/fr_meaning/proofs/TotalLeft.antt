@@ -1,17 +1,21 @@
 -- A step of a state of many threads is one of those that are left.
-use Rattle.std.proofs.Common.{◌≡◌, ◌≢◌, ℕ, zero, suc, ◌+◌, Bool, true, false, List, [], ◌∷◌, ◌++◌, length, Option, Some, None, refl, sym, ap, ◌∙◌, arith}
+use Rattle.std.proofs.Common.{◌≡◌, ◌≢◌, ℕ, zero, suc, ◌+◌, Bool, true, false, List, [], ◌∷◌, ◌++◌, Option, Some, None, refl, sym, ap, ◌∙◌, subst, arith}
 use Rattle.std.specs.Prelude.{if◌then◌else◌}
 use Rattle.fr_base.specs.declared.label.Label.TheVariants as label
+use Rattle.fr_base.specs.declared.label.Plain.{Plain}
 use Rattle.fr_base.specs.declared.label.Plain.TheVariants as plain
+use Rattle.fr_base.specs.declared.name.MutexNo.{MutexNo}
 use Rattle.fr_base.specs.declared.step.Fresh.{Fresh}
 use Rattle.fr_base.specs.declared.step.Fresh.TheVariants as fresh
 use Rattle.fr_plain.specs.declared.value.Value.{Value}
-use Rattle.fr_plain.specs.declared.value.Value.TheVariants.{Own, ToSlot, ToObject}
+use Rattle.fr_plain.specs.declared.value.Value.TheVariants.{Own, ToSlot, ToObject, Held}
 use Rattle.fr_plain.specs.State.{without}
-use Rattle.fr_plain.specs.Acts.{Act, do_let, do_read, do_borrow, do_assign, do_box, do_arith, do_print, do_discard, do_drop, do_end, do_spawn, do_join, do_finish, do_leave, Did, act, lets_go, task_in}
+use Rattle.fr_plain.specs.Acts.{Act, do_let, do_read, do_borrow, do_assign, do_box, do_arith, do_print, do_discard, do_drop, do_end, do_spawn, do_join, do_finish, do_leave, do_mutex, do_dup, do_lock, do_unlock, do_par, do_par_end, Did, act, drops_last, end_of}
 use Rattle.fr_plain.specs.Run.{Run, settle, Move, Life, alive, over, owing, loose, ended, settle_life, life_move, steps_left, life_left}
-use Rattle.fr_plain.specs.Threads.{released, released_in, result_of_life, result_in}
-use Rattle.fr_plain.specs.Whole.{Thread, Whole, Stepped, thread_at, with_thread, with_life, is_given, Passed, pass, result_at, let_threads_go, let_go, prints, stepped, then_released, alone_stepped, started, started_with, joined, joined_with, is_nameless, done_act, moved, step_of, step, state_of}
+use Rattle.fr_plain.specs.MachineThreads.{Shared, mutex_there, with_mutex, thread_released, thread_released_in, content_gone, share_gone, share_released, release_by, count_both, release}
+use Rattle.fr_plain.specs.Threads.{result_of_life, result_in}
+use Rattle.fr_plain.proofs.TodaysActs.{IsTodays, acts_todays}
+use Rattle.fr_plain.specs.Whole.{Thread, Whole, Stepped, thread_at, with_thread, with_life, is_given, Passed, pass, result_at, prints, stepped, then_released, alone_stepped, started, started_with, joined, joined_with, is_nameless, done_act, moved, step_of, step, state_of}
 use Rattle.fr_sound.proofs.Focus.{number_of, with_other}
 use Rattle.fr_meaning.specs.PoolView.{total_left}
 use Rattle.fr_meaning.proofs.FormLemmas.{eq_cases}
@@ -33,26 +37,45 @@ total_push (z ∷ ts) y = omega (arith, total_push ts y)
 total_life : (ts : List Thread) (t : ℕ) (x : Thread) (l : Life) → thread_at ts t ≡ Some x → total_left (with_thread ts (with_life x l)) + life_left x.life ≡ total_left ts + life_left l
 total_life ts t x l h = total_set ts x (with_life x l) (ap (thread_at ts) (number_of ts t x h) ∙ h)
 
--- letting this thread go is no step, where letting others go is none
-released_total : (go : Whole → Option ℕ → Whole) → ((s : Whole) (u : Option ℕ) → total_left (go s u).threads ≡ total_left s.threads) → (s : Whole) (t : ℕ) (x : Thread) (l : Life) → thread_at s.threads t ≡ Some x → x.life ≡ l →
-    total_left (released go s x l).threads ≡ total_left s.threads
+-- letting go is no step, where letting others go is none
+abbrev Same : (Whole → Plain → Whole) → Type 0
+Same go = (s : Whole) (v : Plain) → total_left (go s v).threads ≡ total_left s.threads
+
+released_total : (go : Whole → Plain → Whole) → Same go → (s : Whole) (t : ℕ) (x : Thread) (l : Life) → thread_at s.threads t ≡ Some x → x.life ≡ l → total_left (thread_released go s x l).threads ≡ total_left s.threads
 released_total go same s t x (owing r) h e = omega (arith, total_life s.threads t x (loose r) h, ap life_left e)
 released_total go same s t x (ended v) h e =
-    let goes = same (record s { threads = with_thread s.threads (with_life x over); heap = without s.heap v }) (task_in s.heap v) in
+    let goes = same (record s { threads = with_thread s.threads (with_life x over); heap = without s.heap v }) (end_of s.heap v) in
     omega (arith, goes, total_life s.threads t x over h, ap life_left e)
 released_total go same s t x (alive r) h e = refl
 released_total go same s t x (loose r) h e = refl
 released_total go same s t x over h e = refl
 
-released_in_total : (go : Whole → Option ℕ → Whole) → ((s : Whole) (u : Option ℕ) → total_left (go s u).threads ≡ total_left s.threads) → (s : Whole) (t : ℕ) (o : Option Thread) → thread_at s.threads t ≡ o → total_left (released_in go s o).threads ≡ total_left s.threads
+released_in_total : (go : Whole → Plain → Whole) → Same go → (s : Whole) (t : ℕ) (o : Option Thread) → thread_at s.threads t ≡ o → total_left (thread_released_in go s o).threads ≡ total_left s.threads
 released_in_total go same s t None h = refl
 released_in_total go same s t (Some x) h = released_total go same s t x x.life h refl
 
--- letting threads go is no step
-goes_total : (n : ℕ) (s : Whole) (u : Option ℕ) → total_left (let_threads_go n s u).threads ≡ total_left s.threads
-goes_total n s None = refl
-goes_total zero s (Some t) = refl
-goes_total (suc n) s (Some t) = released_in_total (let_threads_go n) (goes_total n) s t (thread_at s.threads t) refl
+content_total : (go : Whole → Plain → Whole) → Same go → (s : Whole) (v : Option Plain) → total_left (content_gone go s v).threads ≡ total_left s.threads
+content_total go same s None = refl
+content_total go same s (Some v) = same (record s { heap = without s.heap (Own v) }) (end_of s.heap (Own v))
+
+share_total : (go : Whole → Plain → Whole) → Same go → (s : Whole) (n : MutexNo) (x : Shared) (k : ℕ) → total_left (share_gone go s n x k).threads ≡ total_left s.threads
+share_total go same s n x zero = content_total go same (record s { mutexes = with_mutex s.mutexes n None }) x.content
+share_total go same s n x (suc zero) = content_total go same (record s { mutexes = with_mutex s.mutexes n None }) x.content
+share_total go same s n x (suc (suc k)) = refl
+
+shares_total : (go : Whole → Plain → Whole) → Same go → (s : Whole) (n : MutexNo) (x : Option Shared) → total_left (share_released go s n x).threads ≡ total_left s.threads
+shares_total go same s n None = refl
+shares_total go same s n (Some x) = share_total go same s n x x.shares
+
+goes_total : (n : ℕ) → Same (release_by n)
+goes_total n s plain.Nothing = refl
+goes_total n s plain.Unit = refl
+goes_total n s (plain.Int i) = refl
+goes_total n s (plain.Box o) = refl
+goes_total zero s (plain.Task t) = refl
+goes_total (suc n) s (plain.Task t) = released_in_total (release_by n) (goes_total n) s t (thread_at s.threads t) refl
+goes_total zero s (plain.Mutex m) = refl
+goes_total (suc n) s (plain.Mutex m) = shares_total (release_by n) (goes_total n) s m (mutex_there s.mutexes m)
 
 -- what a step leaves to do
 abbrev Falls : Whole → Option Stepped → Type 0
@@ -82,14 +105,15 @@ record IsMove (s : Whole) (t : Thread) (m : Move Life) : Type 0 where
 own_falls : (s : Whole) (t : Thread) (m : Move Life) (a : Act) → IsMove s t m → m.act ≡ a → born a ≡ 0 → Falls s (alone_stepped s t m a)
 own_falls s t m a i same none = by (act a (state_of s t))
   where
-    by : (d : Option Did) → Falls s (then_released (lets_go a (state_of s t)) (stepped s t m d))
+    by : (d : Option Did) → Falls s (then_released (drops_last a (state_of s t)) (stepped s t m d))
     by None = none_falls s
     by (Some d) =
         let new : Thread = record { number = t.number; life = settle_life (m.plug d.value); slots = d.state.slots } in
-        let after : Whole = record { threads = with_thread s.threads new; heap = d.state.heap; output = s.output ++ prints d.labels } in
+        let after : Whole = record s { threads = with_thread s.threads new; heap = d.state.heap; output = s.output ++ prints d.labels } in
+        let last = drops_last a (state_of s t) in
         let fall = life_falls t.life m d.value i.is in
-        falls_to s (record { state = let_go after (lets_go a (state_of s t)); labels = d.labels })
-        (omega (arith, goes_total (length after.threads) after (lets_go a (state_of s t)), total_set s.threads t new i.found, fall, ap born same, none))
+        falls_to s (record { state = release after last; labels = d.labels })
+        (omega (arith, goes_total (count_both after.mutexes after.threads) after last, total_set s.threads t new i.found, fall, ap born same, none))
 
 -- a start gives the new thread its steps
 start_falls : (s : Whole) (t : Thread) (m : Move Life) (names : Fresh) (r : Run) (pass : List Value → Option Passed) → IsMove s t m → born m.act ≡ steps_left r + 1 → Falls s (started s t m names r pass)
@@ -104,7 +128,7 @@ start_falls s t m (fresh.Thread u) r pass i e = by (is_given s u) (pass t.slots)
     by false (Some p) =
         let new : Thread = record { number = t.number; life = settle_life (m.plug (Own (plain.Task u))); slots = p.left } in
         let child : Thread = record { number = u; life = owing (settle r); slots = p.new } in
-        falls_to s (record { state = record { threads = with_thread s.threads new ++ child ∷ []; heap = s.heap; output = s.output }; labels = label.Start u ∷ [] })
+        falls_to s (record { state = record s { threads = with_thread s.threads new ++ child ∷ [] }; labels = label.Start u ∷ [] })
         (omega (arith, total_push (with_thread s.threads new) child, total_set s.threads t new i.found, life_falls t.life m (Own (plain.Task u)) i.is, e, (settle_left r).0))
 
 -- a thread whose result is kept makes no move
@@ -148,6 +172,11 @@ joined_falls s t m (Own (plain.Box o)) i e = none_falls s
 joined_falls s t m (Own (plain.Mutex n)) i e = none_falls s
 joined_falls s t m (ToSlot n) i e = none_falls s
 joined_falls s t m (ToObject o) i e = none_falls s
+joined_falls s t m (Held o) i e = none_falls s
+
+-- no term has the acts of mutexes and pairs
+never : (s : Whole) (t : Thread) (m : Move Life) (a : Act) {o : Option Stepped} → IsMove s t m → m.act ≡ a → (IsTodays a → ⊥) → Falls s o
+never s t m a i e h = absurd (h (subst IsTodays e (acts_todays t.life m i.is)))
 
 -- by the act
 act_falls : (s : Whole) (t : Thread) (names : Fresh) (m : Move Life) (a : Act) → IsMove s t m → m.act ≡ a → Falls s (done_act s t names m a)
@@ -165,6 +194,12 @@ act_falls s t names m do_drop i e = if_falls s (is_nameless names) (alone_steppe
 act_falls s t names m (do_end v) i e = if_falls s (is_nameless names) (alone_stepped s t m (do_end v)) (own_falls s t m (do_end v) i e refl)
 act_falls s t names m (do_finish v) i e = if_falls s (is_nameless names) (alone_stepped s t m (do_finish v)) (own_falls s t m (do_finish v) i e refl)
 act_falls s t names m (do_leave v) i e = if_falls s (is_nameless names) (alone_stepped s t m (do_leave v)) (own_falls s t m (do_leave v) i e refl)
+act_falls s t names m (do_mutex v) i e = never s t m (do_mutex v) i e (λ h. h)
+act_falls s t names m (do_dup w) i e = never s t m (do_dup w) i e (λ h. h)
+act_falls s t names m (do_lock w) i e = never s t m (do_lock w) i e (λ h. h)
+act_falls s t names m do_unlock i e = never s t m do_unlock i e (λ h. h)
+act_falls s t names m (do_par cs r ds q) i e = never s t m (do_par cs r ds q) i e (λ h. h)
+act_falls s t names m do_par_end i e = never s t m do_par_end i e (λ h. h)
 
 -- a step is one of those that are left
 pub step_total : (s : Whole) (t : ℕ) (names : Fresh) (x : Stepped) → step s t names ≡ Some x → total_left x.state.threads + 1 ≡ total_left s.threads

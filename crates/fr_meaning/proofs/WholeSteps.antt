@@ -9,7 +9,8 @@ use Rattle.fr_plain.specs.declared.value.Value.{Value}
 use Rattle.fr_plain.specs.declared.value.Value.TheVariants.{Own}
 use Rattle.fr_plain.specs.Heap.{Heap}
 use Rattle.fr_plain.specs.State.{State}
-use Rattle.fr_plain.specs.Acts.{Act, do_let, do_read, do_borrow, do_assign, do_box, do_arith, do_print, do_discard, do_drop, do_end, do_spawn, do_join, do_finish, do_leave, Did, act, lets_go}
+use Rattle.fr_plain.specs.Acts.{Act, do_let, do_read, do_borrow, do_assign, do_box, do_arith, do_print, do_discard, do_drop, do_end, do_spawn, do_join, do_finish, do_leave, do_mutex, do_dup, do_lock, do_unlock, do_par, do_par_end, Did, act, lets_go, drops_last}
+use Rattle.fr_plain.proofs.Tasks.{release_tasks}
 use Rattle.fr_plain.specs.Run as run
 use Rattle.fr_plain.specs.Run.{Capture, Run, Now, going, on_value, now, settle, Move, next, alone, move, Life, settle_life, life_move}
 use Rattle.fr_plain.specs.Threads.{Whole, Thread as PlainThread, with_thread, with_life, Passed, pass, result_of_life, result_in as result_in_plain}
@@ -69,6 +70,12 @@ own_act (do_spawn cs r) s d h = absurd cc
 own_act (do_join v) s d h = absurd cc
 own_act (do_finish v) s d h = tt
 own_act (do_leave v) s d h = tt
+own_act (do_mutex v) s d h = absurd cc
+own_act (do_dup w) s d h = absurd cc
+own_act (do_lock w) s d h = absurd cc
+own_act do_unlock s d h = absurd cc
+own_act (do_par cs r ds q) s d h = absurd cc
+own_act do_par_end s d h = absurd cc
 
 -- A THREAD ALONE
 
@@ -85,16 +92,18 @@ stepped_to s labels = Some (record { state = s; labels = labels })
 
 -- what the step leaves
 abbrev left_by : Whole → PlainThread → Heap → List Label → Option ℕ → Option Stepped
-left_by s x heap labels u = Some (record { state = let_go (record { threads = with_thread s.threads x; heap = heap; output = s.output ++ prints labels }) u; labels = labels })
+left_by s x heap labels u = Some (record { state = let_go (record s { threads = with_thread s.threads x; heap = heap; output = s.output ++ prints labels }) u; labels = labels })
 
 -- by what the act does
-alone_by : (s : Whole) (x : PlainThread) (g : Stage) (q : Run) (m : Move Run) (d : Option Did) (slots : List Value) (heap : Heap) (labels : List Label) (u : Option ℕ) → IsGoingOn g → act m.act (state_of s x) ≡ d →
+alone_by : (s : Whole) (x : PlainThread) (g : Stage) (q : Run) (m : Move Run) (d : Option Did) (slots : List Value) (heap : Heap) (labels : List Label) (u : Option ℕ) → s.mutexes ≡ [] → IsGoingOn g → act m.act (state_of s x) ≡ d →
     settled (turned_by m (lets_go m.act (state_of s x)) d) ≡ turns_to q x.number slots heap labels u → alone_stepped s x (moved_to g m) m.act ≡ left_by s (record { number = x.number; life = life_at g q; slots = newest_first slots }) heap labels u
-alone_by s x g q m None slots heap labels u on a e = absurd cc
-alone_by s x g q m (Some d) slots heap labels u on a e =
+alone_by s x g q m None slots heap labels u none on a e = absurd cc
+alone_by s x g q m (Some d) slots heap labels u none on a e =
     let f = turned_same (record { run = settle (m.plug d.value); state = d.state; labels = d.labels; task = lets_go m.act (state_of s x) }) (record { run = q; state = state x.number slots heap; labels = labels; task = u }) e in
     let st = ap (λ (y : Turned). y.state) f in
-    ap (λ o. then_released (lets_go m.act (state_of s x)) (stepped s x (moved_to g m) o)) a
+    let last = drops_last m.act (state_of s x) in
+    ap (λ o. then_released last (stepped s x (moved_to g m) o)) a
+    ∙ ap (λ z. stepped_to z d.labels) (release_tasks (record s { threads = with_thread s.threads (record { number = x.number; life = settle_life (life_at g (m.plug d.value)); slots = d.state.slots }); heap = d.state.heap; output = s.output ++ prints d.labels }) none last)
     ∙ ap (λ l. left_by s (record { number = x.number; life = l; slots = d.state.slots }) d.state.heap d.labels (lets_go m.act (state_of s x))) (life_settles g (m.plug d.value) on ∙ ap (λ (y : Turned). life_at g y.run) f)
     ∙ ap (λ (c : State). left_by s (record { number = x.number; life = life_at g q; slots = c.slots }) c.heap d.labels (lets_go m.act (state_of s x))) st
     ∙ ap (λ ls. left_by s (record { number = x.number; life = life_at g q; slots = newest_first slots }) heap ls (lets_go m.act (state_of s x))) (ap (λ (y : Turned). y.labels) f)
@@ -106,13 +115,13 @@ done_of m w None y h = absurd cc
 done_of m w (Some e) y h = (e, refl)
 
 -- by the term's move
-alone_in : (s : Whole) (x : PlainThread) (g : Stage) (q : Run) (o : Option (Move Run)) (slots : List Value) (heap : Heap) (labels : List Label) (u : Option ℕ) → IsGoingOn g →
+alone_in : (s : Whole) (x : PlainThread) (g : Stage) (q : Run) (o : Option (Move Run)) (slots : List Value) (heap : Heap) (labels : List Label) (u : Option ℕ) → s.mutexes ≡ [] → IsGoingOn g →
     settled (turned o (state_of s x)) ≡ turns_to q x.number slots heap labels u → moved s x fresh.None (next (life_at g) o) ≡ left_by s (record { number = x.number; life = life_at g q; slots = newest_first slots }) heap labels u
-alone_in s x g q None slots heap labels u on e = absurd cc
-alone_in s x g q (Some m) slots heap labels u on e =
+alone_in s x g q None slots heap labels u none on e = absurd cc
+alone_in s x g q (Some m) slots heap labels u none on e =
     let d = done_of m (lets_go m.act (state_of s x)) (act m.act (state_of s x)) (record { run = q; state = state x.number slots heap; labels = labels; task = u }) e in
     own_done s x (moved_to g m) m.act (own_act m.act (state_of s x) d.0 d.1)
-    ∙ alone_by s x g q m (act m.act (state_of s x)) slots heap labels u on refl e
+    ∙ alone_by s x g q m (act m.act (state_of s x)) slots heap labels u none on refl e
 
 -- the thread's step alone is a step of the plain state
 pub whole_alone : (fs : List Form) (xs : List Thread) (heap new : Heap) (output : List ℤ) (t i : ℕ) (x y : Thread) (labels : List Label) (u : Option ℕ) → place_of (numbers_of xs) t ≡ Some i → x ≡ get_or xs i x → IsGoingOn x.stage → now (run_in fs x) ≡ going →
@@ -122,12 +131,12 @@ whole_alone fs xs heap new output t i x y labels u h is on go e n same =
     let s = whole fs xs heap output in
     let there = there_at fs xs t i x h is in
     ap (step_of s fresh.None) there.0 ∙ ap (moved s (thread_of fs x) fresh.None) (life_moves x.stage (run_in fs x) on go)
-    ∙ alone_in s (thread_of fs x) x.stage (run_in fs y) (move (run_in fs x)) y.slots.items new labels u on e
+    ∙ alone_in s (thread_of fs x) x.stage (run_in fs y) (move (run_in fs x)) y.slots.items new labels u refl on e
     ∙ ap (λ (z : PlainThread). left_by s z new labels u) (thread_again y x n same)
     ∙ ap (λ ts. left_with ts new (output ++ prints labels) labels u) (set_at fs xs t i y h (n ∙ there.1))
   where
     left_with : List PlainThread → Heap → List ℤ → List Label → Option ℕ → Option Stepped
-    left_with ts h o ls u = Some (record { state = let_go (record { threads = ts; heap = h; output = o }) u; labels = ls })
+    left_with ts h o ls u = Some (record { state = let_go (record { threads = ts; heap = h; mutexes = []; pairs = []; output = o }) u; labels = ls })
 
     thread_again : (y x : Thread) → y.number ≡ x.number → y.stage ≡ x.stage → record { number = x.number; life = life_at x.stage (run_in fs y); slots = newest_first y.slots.items } ≡ thread_of fs y
     thread_again y x n same =
@@ -182,7 +191,8 @@ whole_end fs xs heap new output t i x y d labels u h is on e a task n same =
     let printed : output ++ prints labels ≡ output = ap (λ ns. output ++ ns) quiet ∙ append-nil output in
     ap (step_of s fresh.None) there.0 ∙ ap (λ r. moved s (thread_of fs x) fresh.None (life_move (life_at x.stage r))) (run_end fs x.focus x.frames.items d e)
     ∙ ap (moved s (thread_of fs x) fresh.None) (end_moves x.stage d on) ∙ own_done s (thread_of fs x) m (end_act x.stage v) own.0
-    ∙ ap (λ o. then_released (lets_go (end_act x.stage v) (state x.number x.slots.items heap)) (stepped s (thread_of fs x) m o)) a
+    ∙ ap (λ o. then_released (drops_last (end_act x.stage v) (state x.number x.slots.items heap)) (stepped s (thread_of fs x) m o)) a
+    ∙ ap (λ z. stepped_to z labels) (release_tasks (record s { threads = with_thread s.threads (record { number = x.number; life = settle_life (life_at (after_end x.stage (end_value x.stage v)) (over d)); slots = newest_first y.slots.items }); heap = new; output = output ++ prints labels }) refl (drops_last (end_act x.stage v) (state x.number x.slots.items heap)))
     ∙ ap (λ w. left_by s (record { number = x.number; life = settle_life (life_at (after_end x.stage (end_value x.stage v)) (over d)); slots = newest_first y.slots.items }) new labels w) (sym task)
     ∙ ap (λ l. left_by s (record { number = x.number; life = l; slots = newest_first y.slots.items }) new labels u) (end_life x.stage v (over d) (run_in fs y))
     ∙ ap (λ k. left_by s (record { number = k; life = life_at (after_end x.stage v) (run_in fs y); slots = newest_first y.slots.items }) new labels u) (sym n)
@@ -190,10 +200,10 @@ whole_end fs xs heap new output t i x y d labels u h is on e a task n same =
     ∙ ap (λ ns. left_to ns) printed ∙ ap (λ ts. left_with ts) (set_at fs xs t i y h (n ∙ there.1))
   where
     left_to : List ℤ → Option Stepped
-    left_to ns = Some (record { state = let_go (record { threads = with_thread (threads_of fs xs) (thread_of fs y); heap = new; output = ns }) u; labels = labels })
+    left_to ns = Some (record { state = let_go (record { threads = with_thread (threads_of fs xs) (thread_of fs y); heap = new; mutexes = []; pairs = []; output = ns }) u; labels = labels })
 
     left_with : List PlainThread → Option Stepped
-    left_with ts = Some (record { state = let_go (record { threads = ts; heap = new; output = output }) u; labels = labels })
+    left_with ts = Some (record { state = let_go (record { threads = ts; heap = new; mutexes = []; pairs = []; output = output }) u; labels = labels })
 
 -- JOINING
 
@@ -235,7 +245,7 @@ whole_join fs xs heap output t i u k x y z w gs d v h is on top task hz isz kept
     ∙ ap after_join (set_at fs (slice_set xs k w) t i y (ap (λ ns. place_of ns t) (numbers_set xs k z w isz nw) ∙ h) (ny ∙ there.1))
   where
     after_join : List PlainThread → Option Stepped
-    after_join ts = Some (record { state = record { threads = ts; heap = heap; output = output }; labels = [] })
+    after_join ts = Some (record { state = record { threads = ts; heap = heap; mutexes = []; pairs = []; output = output }; labels = [] })
 
     parts : ℕ → Stage → List Value → Thread → PlainThread
     parts n g vs y = record { number = n; life = life_at g (run_in fs y); slots = newest_first vs }
@@ -270,7 +280,7 @@ whole_start fs xs heap output t i u x y n gs cs r p h is on top none passes goes
     given b s X m = if b then None else started_with s X m r u (pass cs X.slots [])
 
     after_all : List PlainThread → Option Stepped
-    after_all ts = Some (record { state = record { threads = ts; heap = heap; output = output }; labels = label.Start u ∷ [] })
+    after_all ts = Some (record { state = record { threads = ts; heap = heap; mutexes = []; pairs = []; output = output }; labels = label.Start u ∷ [] })
 
     after_start : List PlainThread → PlainThread → Option Stepped
     after_start ts q = after_all (ts ++ q ∷ [])

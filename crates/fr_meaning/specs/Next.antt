@@ -5,6 +5,7 @@ use Rattle.fr_base.specs.declared.step.Wait.{Wait}
 use Rattle.fr_plain.specs.declared.value.Value.{Value}
 use Rattle.fr_plain.specs.declared.value.Value.TheVariants.{Own}
 use Rattle.fr_plain.specs.Threads.{Whole, join_waits}
+use Rattle.fr_plain.specs.Whole.{Takes, no_name, a_thread}
 use Rattle.fr_meaning.specs.declared.frame.Done.{Done}
 use Rattle.fr_meaning.specs.declared.frame.Frame.{Frame}
 use Rattle.fr_meaning.specs.declared.frame.Frame.TheVariants as frame
@@ -44,6 +45,10 @@ next_waits s _ = None
 abbrev pub starts : Next → Bool
 starts (next.Start node) = true
 starts _ = false
+
+abbrev pub thread_if : Bool → Takes
+thread_if true = a_thread
+thread_if false = no_name
 
 -- the thread whose task the value is
 abbrev pub task_named : Value → Option ℕ

@@ -1,10 +1,10 @@
 -- What a pool is to its callers: a plain state of many threads.
-use Rattle.std.specs.Prelude.{ℕ, ℤ, ◌+◌, Bool, true, false, List, [], ◌∷◌, Option, Some, None, option_map, if◌then◌else◌}
+use Rattle.std.specs.Prelude.{ℕ, ℤ, ◌+◌, List, [], ◌∷◌, Option, Some, None, option_map, if◌then◌else◌}
 use Rattle.fr_base.specs.declared.step.Fresh.{Fresh}
 use Rattle.fr_plain.specs.declared.value.Value.{Value}
 use Rattle.fr_plain.specs.Heap.{Heap}
 use Rattle.fr_plain.specs.Run.{Run, life_move, life_left}
-use Rattle.fr_plain.specs.Whole.{Thread as PlainThread, Whole, thread_at, is_over, takes_name, Refusal, no_thread, has_ended, waits, name_kind, name_used, refused}
+use Rattle.fr_plain.specs.Whole.{Thread as PlainThread, Whole, thread_at, is_over, Takes, no_name, a_thread, two_threads, a_mutex, takes_name, Refusal, no_thread, has_ended, waits, name_kind, name_used, refused}
 use Rattle.fr_meaning.specs.declared.forms.Form.{Form}
 use Rattle.fr_meaning.specs.declared.frame.Frame.{Frame}
 use Rattle.fr_meaning.specs.declared.frame.Focus.{Focus}
@@ -45,7 +45,7 @@ threads_in fs (e ∷ es) = thread_in fs e ∷ threads_in fs es
 
 -- the plain state that a pool stands for
 abbrev pub whole_of : View → Whole
-whole_of v = record { threads = threads_in v.forms v.threads; heap = v.heap; output = v.output }
+whole_of v = record { threads = threads_in v.forms v.threads; heap = v.heap; mutexes = []; pairs = []; output = v.output }
 
 -- how many steps these threads have still to do, with those of the threads that they start
 abbrev pub total_left : List PlainThread → ℕ
@@ -67,10 +67,12 @@ error_of name_used = error.NameUsed
 abbrev pub refusal : Whole → ℕ → Fresh → Option StepError
 refusal s t names = option_map error_of (refused s t names)
 
--- a step that takes a name takes that of one thread
-abbrev pub kind_of : (takes : Bool) → Need
-kind_of true = need.Thread
-kind_of false = need.Nothing
+-- the kind of names that a step takes
+abbrev pub kind_of : Takes → Need
+kind_of no_name = need.Nothing
+kind_of a_thread = need.Thread
+kind_of two_threads = need.Threads
+kind_of a_mutex = need.Mutex
 
 abbrev pub need_in : Option PlainThread → Option Need
 need_in None = None

@@ -94,7 +94,7 @@ threads_of fs (x ∷ xs) = thread_of fs x ∷ threads_of fs xs
 
 -- the plain state of all threads
 abbrev pub whole : List Form → List Thread → Heap → List ℤ → Whole
-whole fs xs heap output = record { threads = threads_of fs xs; heap = heap; output = output }
+whole fs xs heap output = record { threads = threads_of fs xs; heap = heap; mutexes = []; pairs = []; output = output }
 
 abbrev pub numbers_of : List Thread → List ℕ
 numbers_of [] = []

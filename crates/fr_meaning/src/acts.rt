@@ -103,6 +103,7 @@ fn plain_of(value: Value) -> Option<Plain>
         Value::Own(plain) => Some(plain),
         Value::ToSlot(_) => None,
         Value::ToObject(_) => None,
+        Value::Held(_) => None,
     }
 }
 
@@ -115,6 +116,7 @@ pub fn drop_value(heap: &mut Heap, value: Value) -> Option<ThreadNo>
         Value::Own(plain) => heap.drop_plain(plain),
         Value::ToSlot(_) => None,
         Value::ToObject(_) => None,
+        Value::Held(_) => None,
     }
 }
 
@@ -127,6 +129,7 @@ fn lead(labels: &mut Labels, spot: &Where, value: &Value) -> Option<Where>
     match value {
         Value::ToSlot(slot) => Some(Where::Slot(*slot)),
         Value::ToObject(object) => Some(Where::Cell(*object)),
+        Value::Held(_) => None,
         Value::Own(Plain::Box(object)) => {
             note_load(labels, spot, value);
             Some(Where::Cell(*object))

@@ -70,5 +70,6 @@ pub fn task_named_by(value: &Value) -> Option<ThreadNo>
         Value::Own(Plain::Mutex(_)) => None,
         Value::ToSlot(_) => None,
         Value::ToObject(_) => None,
+        Value::Held(_) => None,
     }
 }

@@ -6,7 +6,7 @@ ghost use Rattle.fr_plain.specs.Whole.{Whole, is_given, is_over as life_is_over,
 ghost use Rattle.fr_meaning.specs.declared.forms.Form.{Form};
 ghost use Rattle.fr_meaning.specs.declared.thread.Thread.{Thread};
 ghost use Rattle.fr_meaning.specs.FormTerms.{AreInOrder};
-ghost use Rattle.fr_meaning.specs.Next.{next_waits};
+ghost use Rattle.fr_meaning.specs.Next.{next_waits, thread_if};
 ghost use Rattle.fr_meaning.specs.Places.{place_of};
 ghost use Rattle.fr_meaning.specs.PoolView.{error_of, refusal, need_of};
 ghost use Rattle.fr_meaning.specs.Running.{plain_of, Stands};
@@ -68,7 +68,7 @@ fn wait_of(running: &Running, next: &Next) -> Option<Wait>
 
 // Why a step can't take these names.
 fn refused_names(places: &Places, takes: bool, fresh: &Fresh) -> Option<StepError>
-    ensures { (s : Whole) → ((u : ℕ) → is_given s u ≡ is_some (place_of places.now.numbers u)) → result ≡ option_map error_of (names_refused s takes fresh.now) }
+    ensures { (s : Whole) → ((u : ℕ) → is_given s u ≡ is_some (place_of places.now.numbers u)) → result ≡ option_map error_of (names_refused s (thread_if takes) fresh.now) }
 {
     match fresh {
         Fresh::None => {

@@ -1,16 +1,22 @@
 -- A step that is refused is no plain step.
-use Rattle.std.proofs.Common.{◌≡◌, ℕ, Bool, true, false, List, Option, Some, None, refl, sym, ap, ◌∙◌}
-use Rattle.std.specs.Prelude.{if◌then◌else◌}
+use Rattle.std.proofs.Common.{◌≡◌, Bool, true, false, List, Option, Some, None, refl, ap}
+use Rattle.std.specs.Prelude.{is_some, ◌==◌, ◌||◌, if◌then◌else◌}
+use Rattle.fr_base.specs.declared.name.MutexNo.{MutexNo}
+use Rattle.fr_base.specs.declared.label.Label.{Label}
+use Rattle.fr_base.specs.declared.label.Plain.{Plain}
 use Rattle.fr_base.specs.declared.label.Plain.TheVariants as plain
 use Rattle.fr_base.specs.declared.step.Fresh.{Fresh}
 use Rattle.fr_base.specs.declared.step.Fresh.TheVariants as fresh
 use Rattle.fr_base.specs.declared.step.Wait.{Wait}
 use Rattle.fr_plain.specs.declared.value.Value.{Value}
-use Rattle.fr_plain.specs.declared.value.Value.TheVariants.{Own, ToSlot, ToObject}
-use Rattle.fr_plain.specs.Acts.{Act, do_let, do_read, do_borrow, do_assign, do_box, do_arith, do_print, do_discard, do_drop, do_end, do_spawn, do_join, do_finish, do_leave}
-use Rattle.fr_plain.specs.Run.{Run, Move, Life, alive, over, owing, loose, ended, life_move}
+use Rattle.fr_plain.specs.declared.value.Value.TheVariants.{Own, ToSlot, ToObject, Held}
+use Rattle.fr_plain.specs.Acts.{Act, do_let, do_read, do_borrow, do_assign, do_box, do_arith, do_print, do_discard, do_drop, do_end, do_spawn, do_join, do_finish, do_leave, do_mutex, do_dup, do_lock, do_unlock, do_par, do_par_end}
+use Rattle.fr_plain.specs.Run.{Move, Life, alive, over, owing, loose, ended, life_move}
+use Rattle.fr_plain.specs.Run.{terms}
 use Rattle.fr_plain.specs.Threads.{unless_some, act_waits, join_waits, move_waits}
-use Rattle.fr_plain.specs.Whole.{Thread, Whole, Stepped, thread_at, is_given, result_at, is_over, waits_for, joined_with, joined, is_nameless, done_act, moved, step_of, starts_thread, takes_name, Refusal, has_ended, name_used, refused_names, refused_wait, refused_of}
+use Rattle.fr_plain.specs.MachineThreads.{Shared, Pair, mutex_at, mutex_there, pair_of, state_of}
+use Rattle.fr_plain.specs.Machine.{unless_both, unless_in, content_waits, lock_waits, pair_waits, mutex_behind, where_there, at_mutex, at_place, locked_with, locked, two_ended, two_joined}
+use Rattle.fr_plain.specs.Whole.{Thread, Whole, Stepped, thread_at, is_given, result_at, is_over, waits_for, joined_with, joined, is_nameless, done_act, moved, step_of, no_name, takes_of, takes_name, Refusal, has_ended, name_used, refused_names, refused_wait, refused_of}
 use Rattle.fr_plain.specs.Refusing.{RefusedIsNoStep}
 
 -- a name that was given is taken by no step
@@ -19,14 +25,14 @@ given true x why h = refl
 given false x why h = absurd cc
 
 -- a step without names takes none
-nameless : (s : Whole) (names : Fresh) (x : Option Stepped) (why : Refusal) → refused_names s false names ≡ Some why → (if is_nameless names then x else None) ≡ None
+nameless : (s : Whole) (names : Fresh) (x : Option Stepped) (why : Refusal) → refused_names s no_name names ≡ Some why → (if is_nameless names then x else None) ≡ None
 nameless s fresh.None x why h = absurd cc
 nameless s (fresh.Thread u) x why h = refl
 nameless s (fresh.Threads u v) x why h = refl
 nameless s (fresh.Mutex m) x why h = refl
 
 -- names that an act doesn't take
-by_names : (s : Whole) (t : Thread) (names : Fresh) (m : Move Life) (a : Act) (why : Refusal) → refused_names s (starts_thread a) names ≡ Some why → done_act s t names m a ≡ None
+by_names : (s : Whole) (t : Thread) (names : Fresh) (m : Move Life) (a : Act) (why : Refusal) → refused_names s (takes_of a) names ≡ Some why → done_act s t names m a ≡ None
 by_names s t fresh.None m (do_spawn cs r) why h = refl
 by_names s t (fresh.Thread u) m (do_spawn cs r) why h = given (is_given s u) _ why h
 by_names s t (fresh.Threads u v) m (do_spawn cs r) why h = refl
@@ -44,6 +50,21 @@ by_names s t names m (do_end v) why h = nameless s names _ why h
 by_names s t names m (do_join v) why h = nameless s names _ why h
 by_names s t names m (do_finish v) why h = nameless s names _ why h
 by_names s t names m (do_leave v) why h = nameless s names _ why h
+by_names s t fresh.None m (do_mutex v) why h = refl
+by_names s t (fresh.Thread u) m (do_mutex v) why h = refl
+by_names s t (fresh.Threads u w) m (do_mutex v) why h = refl
+by_names s t (fresh.Mutex n) m (do_mutex (Own v)) why h = given (is_some (mutex_at s.mutexes n)) _ why h
+by_names s t (fresh.Mutex n) m (do_mutex (ToSlot i)) why h = refl
+by_names s t (fresh.Mutex n) m (do_mutex (ToObject o)) why h = refl
+by_names s t (fresh.Mutex n) m (do_mutex (Held q)) why h = refl
+by_names s t names m (do_dup w) why h = nameless s names _ why h
+by_names s t names m (do_lock w) why h = nameless s names _ why h
+by_names s t names m do_unlock why h = nameless s names _ why h
+by_names s t fresh.None m (do_par cs p ds q) why h = refl
+by_names s t (fresh.Thread u) m (do_par cs p ds q) why h = refl
+by_names s t (fresh.Threads u w) m (do_par cs p ds q) why h = given (u == w || is_given s u || is_given s w) _ why h
+by_names s t (fresh.Mutex n) m (do_par cs p ds q) why h = refl
+by_names s t names m do_par_end why h = nameless s names _ why h
 
 either : (b : Bool) (x : Option Stepped) → x ≡ None → (if b then x else None) ≡ None
 either true x h = h
@@ -64,9 +85,33 @@ join_stops s t m (Own (plain.Box o)) w h = absurd cc
 join_stops s t m (Own (plain.Mutex n)) w h = absurd cc
 join_stops s t m (ToSlot i) w h = absurd cc
 join_stops s t m (ToObject o) w h = absurd cc
+join_stops s t m (Held n) w h = absurd cc
+
+-- a lock finds no content
+no_content : (s : Whole) (t : Thread) (m : Move Life) (n : MutexNo) (ls : List Label) (x : Option Shared) (w : Wait) → content_waits x n ≡ Some w → where_there terms x (locked terms s t m n ls) ≡ None
+no_content s t m n ls None w h = refl
+no_content s t m n ls (Some x) w h = by x.content h
+  where
+    by : (c : Option Plain) → unless_in c n ≡ Some w → locked_with terms s t m n ls x c ≡ None
+    by None h = refl
+    by (Some v) h = absurd cc
+
+lock_stops : (s : Whole) (t : Thread) (m : Move Life) (p : Option (MutexNo × List Label)) (w : Wait) → lock_waits s p ≡ Some w → at_mutex terms s p (locked terms s t m) ≡ None
+lock_stops s t m None w h = refl
+lock_stops s t m (Some p) w h = no_content s t m p.0 p.1 (mutex_there s.mutexes p.0) w h
+
+-- a pair has not both results
+not_both : (s : Whole) (t : Thread) (m : Move Life) (p : Pair) (v u : Option Value) (other w : Wait) → unless_both v u other ≡ Some w → two_ended terms s t m p v u ≡ None
+not_both s t m p None u other w h = refl
+not_both s t m p (Some v) None other w h = refl
+not_both s t m p (Some v) (Some u) other w h = absurd cc
+
+pair_stops : (s : Whole) (t : Thread) (m : Move Life) (p : Option Pair) (w : Wait) → pair_waits s p ≡ Some w → two_joined terms s t m p ≡ None
+pair_stops s t m None w h = refl
+pair_stops s t m (Some p) w h = not_both s t m p (result_at s.threads p.first) (result_at s.threads p.second) _ w h
 
 -- an act that waits can't be done
-by_wait : (s : Whole) (t : Thread) (names : Fresh) (m : Move Life) (a : Act) (w : Wait) → act_waits s a ≡ Some w → done_act s t names m a ≡ None
+by_wait : (s : Whole) (t : Thread) (names : Fresh) (m : Move Life) (a : Act) (w : Wait) → act_waits s t a ≡ Some w → done_act s t names m a ≡ None
 by_wait s t names m (do_join v) w h = either (is_nameless names) (joined s t m v) (join_stops s t m v w h)
 by_wait s t names m (do_let v) w h = absurd cc
 by_wait s t names m (do_read u take) w h = absurd cc
@@ -81,6 +126,12 @@ by_wait s t names m (do_end v) w h = absurd cc
 by_wait s t names m (do_spawn cs r) w h = absurd cc
 by_wait s t names m (do_finish v) w h = absurd cc
 by_wait s t names m (do_leave v) w h = absurd cc
+by_wait s t names m (do_mutex v) w h = absurd cc
+by_wait s t names m (do_dup u) w h = absurd cc
+by_wait s t names m (do_lock u) w h = either (is_nameless names) (at_place terms s t u (locked terms s t m)) (lock_stops s t m (mutex_behind (state_of s t) u) w h)
+by_wait s t names m do_unlock w h = absurd cc
+by_wait s t names m (do_par cs p ds q) w h = absurd cc
+by_wait s t names m do_par_end w h = either (is_nameless names) (two_joined terms s t m (pair_of s.pairs t.number)) (pair_stops s t m (pair_of s.pairs t.number) w h)
 
 -- a thread that is over has no move
 over_rests : (l : Life) → is_over l ≡ true → life_move l ≡ None
@@ -91,7 +142,7 @@ over_rests (owing r) h = absurd cc
 over_rests (loose r) h = absurd cc
 
 -- a thread that goes on, by what it waits for and by the names
-by_move : (s : Whole) (t : Thread) (names : Fresh) (o : Option (Move Life)) (w : Option Wait) (why : Refusal) → move_waits s o ≡ w → refused_wait w (refused_names s (takes_name o) names) ≡ Some why → moved s t names o ≡ None
+by_move : (s : Whole) (t : Thread) (names : Fresh) (o : Option (Move Life)) (w : Option Wait) (why : Refusal) → move_waits s t o ≡ w → refused_wait w (refused_names s (takes_name o) names) ≡ Some why → moved s t names o ≡ None
 by_move s t names None w why is h = refl
 by_move s t names (Some m) (Some w) why is h = by_wait s t names m m.act w is
 by_move s t names (Some m) None why is h = by_names s t names m m.act why h

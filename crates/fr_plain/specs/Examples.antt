@@ -49,7 +49,7 @@ int n = plain.Int (pos n)
 abbrev Ends : Term → ℕ → List (Option Plain) → List ℤ → List Label → Type 0
 Ends t steps cells output labels =
     plain_run (program t) (main_steps steps) ≡ Some (record {
-      state = record { threads = record { number = 0; life = over; slots = [] } ∷ []; heap = record { thread = 0; cells = cells } ∷ []; output = output };
+      state = record { threads = record { number = 0; life = over; slots = [] } ∷ []; heap = record { thread = 0; cells = cells } ∷ []; mutexes = []; pairs = []; output = output };
       labels = labels;
     })
 

@@ -1,5 +1,10 @@
 pub mod Heap
 pub mod State
+pub mod MachineActs
+pub mod MachineThreads
+pub mod Machine
+pub mod Tasks
+pub mod Alike
 pub mod RunningTerms
 pub mod Acts
 pub mod Run
@@ -9,3 +14,4 @@ pub mod Resolve
 pub mod Examples
 pub mod ThreadRuns
 pub mod Refusing
+pub mod SharedRuns

@@ -1,26 +1,14 @@
 -- The moves of running terms (Featherweight Rust's reduction; that a block drops one slot a step, and threads, are this
 -- project's rules).
-use Rattle.std.specs.Prelude.{ℕ, zero, suc, ◌+◌, Bool, true, false, Option, Some, None}
+use Rattle.std.specs.Prelude.{ℕ, zero, suc, ◌+◌, Bool, true, false, Option, None}
 use Rattle.fr_base.specs.declared.label.Plain.TheVariants as plain
 use Rattle.fr_plain.specs.declared.value.Value.{Value}
 use Rattle.fr_plain.specs.declared.value.Value.TheVariants.{Own}
-use Rattle.fr_plain.specs.Acts.{Act, do_let, do_read, do_borrow, do_assign, do_box, do_arith, do_print, do_discard, do_drop, do_end, do_spawn, do_join, do_finish, do_leave, unit}
+use Rattle.fr_plain.specs.Acts.{Act, do_let, do_read, do_borrow, do_assign, do_box, do_arith, do_print, do_discard, do_drop, do_spawn, do_join, unit}
+use Rattle.fr_plain.specs.MachineThreads as machine
+use Rattle.fr_plain.specs.MachineThreads.{Moves}
+pub use Rattle.fr_plain.specs.MachineThreads.{Now, going, constant, temporary, by_now, on_value, alive, over, owing, loose, ended}
 pub use Rattle.fr_plain.specs.RunningTerms.{Capture, Run, temp, unit_c, number, read, borrow, box_r, arith, bind, print, assign, block, spawn, join_r, Parts, last, more}
-
--- a term that is done is a constant, or a temporary value
-pub data Now : Type 0 where
-  going : Now
-  constant : Value → Now
-  temporary : Value → Now
-
-module _ {A : Type 0} where
-  abbrev pub by_now : Now → A → (Value → A) → (Value → A) → A
-  by_now going a f g = a
-  by_now (constant v) a f g = f v
-  by_now (temporary v) a f g = g v
-
-  abbrev pub on_value : Now → (Value → A) → A → A
-  on_value n f a = by_now n a f f
 
 -- a constant before a `;` vanishes
 abbrev pub after : Now → Now → Now
@@ -91,18 +79,16 @@ abbrev mutual
 -- THE NEXT ACT
 -- and what the term becomes with the value that the act leaves; neither sees the state
 
-pub record Move (P : Type 0) : Type 0 where
-  pub act : Act
-  pub plug : Value → P
+abbrev pub Move : Type 0 → Type 0
+Move Q = machine.Move Run Q
 
 module _ {P Q : Type 0} where
   abbrev pub next : (P → Q) → Option (Move P) → Option (Move Q)
-  next f None = None
-  next f (Some m) = Some (record { act = m.act; plug = λ v. f (m.plug v) })
+  next f m = machine.next f m
 
 module _ {P : Type 0} where
   abbrev pub alone : (Value → P) → Act → Option (Move P)
-  alone f a = Some (record { act = a; plug = f })
+  alone f a = machine.alone f a
 
 -- a block whose items are done drops its slots
 abbrev pub block_end : ℕ → Parts → Option (Move Run)
@@ -130,29 +116,18 @@ abbrev mutual
   move_parts (last r) = next last (move r)
   move_parts (more r is) = by_now (now r) (next (λ x. more x is) (move r)) (λ v. move_parts is) (λ v. alone (λ x. is) (do_discard v))
 
--- a thread: its term in progress, or it has ended. The main thread is `alive` until it is `over`. Another thread is
--- `owing` as long as somebody has its task, and then `ended` with its result; it is `loose` once its task was dropped, and
--- nobody will have its result. It is `over` once its result was joined or dropped
-pub data Life : Type 0 where
-  alive : Run → Life
-  over : Life
-  owing : Run → Life
-  loose : Run → Life
-  ended : Value → Life
+-- the moves of the plain machine's threads
+abbrev pub terms : Moves Run
+terms = record { now = now; move = move; settle = settle }
+
+abbrev pub Life : Type 0
+Life = machine.Life Run
 
 abbrev pub settle_life : Life → Life
-settle_life (alive r) = alive (settle r)
-settle_life over = over
-settle_life (owing r) = owing (settle r)
-settle_life (loose r) = loose (settle r)
-settle_life (ended v) = ended v
+settle_life l = machine.settle_life terms l
 
 abbrev pub life_move : Life → Option (Move Life)
-life_move (alive r) = on_value (now r) (λ v. alone (λ x. over) (do_end v)) (next alive (move r))
-life_move over = None
-life_move (owing r) = on_value (now r) (λ v. alone ended (do_finish v)) (next owing (move r))
-life_move (loose r) = on_value (now r) (λ v. alone (λ x. over) (do_leave v)) (next loose (move r))
-life_move (ended v) = None
+life_move l = machine.life_move terms l
 
 -- HOW MANY STEPS ARE LEFT
 

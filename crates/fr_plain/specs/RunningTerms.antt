@@ -4,11 +4,7 @@ use Rattle.std.specs.Prelude.{ℕ, ℤ, Bool, List}
 use Rattle.fr_base.specs.declared.place.Lval.{Lval}
 use Rattle.fr_base.specs.declared.place.Op.{Op}
 use Rattle.fr_plain.specs.declared.value.Value.{Value}
-
--- a slot that a new thread captures: its value is taken, or copied
-pub record Capture : Type 0 where
-  pub slot : ℕ
-  pub take : Bool
+pub use Rattle.fr_plain.specs.MachineActs.{Capture}
 
 -- `temp` is a value that a step left; a borrow of either kind leaves the same reference; a block has the number of slots that it has still to drop;
 -- the term of a new thread has slots of its own

@@ -59,7 +59,7 @@ made t cells = record { thread = t; cells = cells }
 
 -- the run has ended, with so many threads, these objects made and dropped, these prints and labels
 abbrev Ends : Term → List Turn → List Life → List Made → List ℤ → List Label → Type 0
-Ends t order lives heap output labels = plain (program t) order ≡ Some (record { state = record { threads = with_lives 0 lives; heap = heap; output = output }; labels = labels })
+Ends t order lives heap output labels = plain (program t) order ≡ Some (record { state = record { threads = with_lives 0 lives; heap = heap; mutexes = []; pairs = []; output = output }; labels = labels })
 
 -- why a step after these is refused
 abbrev refused_in : ℕ → Fresh → Option Stepped → Option Refusal
@@ -101,7 +101,7 @@ two = block (let_t 0 h (spawn [] (number 3 ∷ [])) ∷ let_t 0 g (spawn [] (num
 
 -- the main thread at the join of another one (no run leads to the states below)
 abbrev in_circle : Life → Whole
-in_circle other = record { threads = with_lives 0 (alive (join_r (temp (Own (value.Task 1)))) ∷ other ∷ []); heap = []; output = [] }
+in_circle other = record { threads = with_lives 0 (alive (join_r (temp (Own (value.Task 1)))) ∷ other ∷ []); heap = []; mutexes = []; pairs = []; output = [] }
 
 pub record ThreadsRun : Type 0 where
   -- whether the new thread ends before the main thread goes on or after it, a join waits for it
@@ -129,5 +129,5 @@ pub record ThreadsRun : Type 0 where
   pub deadlocked_beside : ending_of (in_circle over) ≡ ending.Deadlocked
   pub not_deadlocked : ending_of (in_circle (owing unit_c)) ≡ ending.Going
   pub not_waiting : ending_of (in_circle (ended (Own value.Unit))) ≡ ending.Going
-  pub not_finished : ending_of (record { threads = with_lives 0 (over ∷ loose unit_c ∷ []); heap = []; output = [] }) ≡ ending.Going
-  pub finished : ending_of (record { threads = with_lives 0 (over ∷ ended (Own value.Unit) ∷ []); heap = []; output = [] }) ≡ ending.Finished
+  pub not_finished : ending_of (record { threads = with_lives 0 (over ∷ loose unit_c ∷ []); heap = []; mutexes = []; pairs = []; output = [] }) ≡ ending.Going
+  pub finished : ending_of (record { threads = with_lives 0 (over ∷ ended (Own value.Unit) ∷ []); heap = []; mutexes = []; pairs = []; output = [] }) ≡ ending.Finished

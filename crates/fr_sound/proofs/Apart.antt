@@ -1,22 +1,22 @@
 -- Threads that share no memory lead to no common object.
-use Rattle.std.proofs.Common.{◌≡◌, ◌≢◌, ℕ, zero, suc, Bool, List, Option, Some, None, refl, sym, ap, subst, ◌∙◌}
+use Rattle.std.proofs.Common.{◌≡◌, ℕ, zero, suc, Bool, List, Option, Some, None, refl, sym, ap, subst, ◌∙◌}
 use Rattle.fr_base.specs.declared.label.Plain.TheVariants as plain
 use Rattle.fr_base.specs.declared.label.Label.{Label}
 use Rattle.fr_base.specs.declared.name.ObjNo.{ObjNo}
 use Rattle.fr_base.specs.declared.place.Lval.{Lval}
 use Rattle.fr_store.specs.Keys.{Key, slot_k}
-use Rattle.fr_store.specs.Store.{Location, at_key, at_object, Val, gone_v, unit_v, int_v, box_v, mutex_v, task_v, ref_v, Store, value_at, then_location, box_hop, Place, below_key, add}
-use Rattle.fr_store.specs.Typed.{Tree, hole, unit_tree, int_tree, mutex_tree, task_tree, box_tree, Exact, owns, refers, KeyTypes, exact_under, some_owns, tree_under, Resolves, here, through, TopFits, RefFits, Fits, Typed}
-use Rattle.fr_store.specs.Local.{thread_of, IsOwnPlace, IsLocal}
+use Rattle.fr_store.specs.Store.{Location, at_key, at_object, box_v, ref_v, Store, value_at, Place, below_key}
+use Rattle.fr_store.specs.Typed.{Tree, hole, unit_tree, int_tree, mutex_tree, task_tree, box_tree, Exact, owns, refers, KeyTypes, exact_under, some_owns, tree_under, Resolves, here, through, RefFits, Fits, Typed}
+use Rattle.fr_store.specs.Local.{thread_of, IsLocal}
 use Rattle.fr_store.proofs.Chains.{from_suc, from_box, unique}
 use Rattle.fr_store.proofs.ThreadKept.{ref_base}
 use Rattle.fr_plain.specs.declared.value.Value.{Value}
-use Rattle.fr_plain.specs.declared.value.Value.TheVariants.{Own, ToSlot, ToObject}
+use Rattle.fr_plain.specs.declared.value.Value.TheVariants.{Own, ToSlot, ToObject, Held}
 use Rattle.fr_plain.specs.State.{State, Spot, in_slot, in_cell, Reached, then_reached, led, stars, locate}
 use Rattle.fr_plain.specs.State as plain_state
 use Rattle.fr_plain.specs.Threads.{Thread, Whole, thread_at}
 use Rattle.fr_plain.specs.Whole.{state_of}
-use Rattle.fr_sound.specs.Seen.{Gives, val_of, seen, location_of, rank_of}
+use Rattle.fr_sound.specs.Seen.{Gives, val_of, location_of, rank_of}
 use Rattle.fr_sound.specs.Together.{held_life, seen_all, AreTyped}
 use Rattle.fr_sound.specs.Apart.{ThreadsApart}
 use Rattle.fr_sound.proofs.FoundPlaces.{value_there}
@@ -138,6 +138,7 @@ module _ (rank : Key → ℕ) (E : KeyTypes) (s : Store) (typed : Typed rank E s
     along r q (Some (ToObject o)) is b h =
         let same : in_cell o ≡ q.spot = spot_is (in_cell o) q _ h in
         subst (λ p. BelongsTo s st.thread (location_of st.thread p)) same (along_ref st.thread (location_of st.thread r.spot) (at_object o) b (there r.spot (ToObject o) is))
+    along r q (Some (Held m)) is b h = absurd cc
     along r q (Some (Own plain.Nothing)) is b h = absurd cc
     along r q (Some (Own plain.Unit)) is b h = absurd cc
     along r q (Some (Own (plain.Int n))) is b h = absurd cc

@@ -18,10 +18,11 @@ use Rattle.fr_store.proofs.ListState.{at_hand as at_hand_key}
 use Rattle.fr_store.proofs.ThreadKept.{known_tree}
 use Rattle.fr_plain.specs.declared.value.Value.{Value}
 use Rattle.fr_plain.specs.State.{State}
-use Rattle.fr_plain.specs.Acts.{Act, do_finish, lets_go}
+use Rattle.fr_plain.specs.Acts.{Act, do_finish, lets_go, drops_last}
 use Rattle.fr_plain.specs.Run.{Run, Move, alone, Life, over, owing, ended, life_move}
 use Rattle.fr_plain.specs.Threads.{result_of_life}
-use Rattle.fr_plain.specs.Whole.{Thread, Whole, thread_at, with_thread, with_life, let_go, prints, state_of, stepped, then_released, moved, step_of}
+use Rattle.fr_plain.proofs.Tasks.{release_tasks}
+use Rattle.fr_plain.specs.Whole.{Thread, Whole, Stepped, thread_at, with_thread, with_life, let_go, prints, state_of, stepped, then_released, moved, step_of}
 use Rattle.fr_sound.specs.RunTypes.{held_after, Operand, ActTypes}
 use Rattle.fr_sound.specs.Seen.{Gives, Beside, val_of, vals, hand_of, heap_of, seen, rank_of, IsKnown, HasNone, Holds}
 use Rattle.fr_sound.specs.Together.{hand_in, result_val, seen_all, is_owed, owed_by, owed_in, IsTypedIn, AreTyped, StepsOn}
@@ -47,14 +48,15 @@ ends_over {s = s} y x a h found z types left none owed moves =
     let out = s.output ++ prints d.did.labels in
     let u = lets_go a (state_of s x) in
     let m : Move Life = record { act = a; plug = λ v. over } in
-    let next_state : Whole = record { threads = with_thread s.threads (after_thread x over d.did.state.slots); heap = d.did.state.heap; output = out } in
-    let typed : TypedWith g next_state = unfocus g x s.threads (base_of y x.number) found over d.did.state.slots d.did.state.heap out [] None holds refl none (sym owed) tt in
+    let next_state : Whole = record s { threads = with_thread s.threads (after_thread x over d.did.state.slots); heap = d.did.state.heap; output = out } in
+    let last = drops_last a (state_of s x) in
+    let typed : TypedWith g next_state = unfocus g x s.threads (base_of y x.number) found over d.did.state.slots d.did.state.heap (record s { output = out }) y.neither [] None holds refl none (sym owed) tt in
     record {
       next = record { state = let_go next_state u; labels = d.did.labels };
-      is = ap (step_of s fresh.None) found ∙ ap (moved s x fresh.None) moves ∙ own_act types s x m ∙ ap (λ q. then_released u (stepped s x m q)) d.is;
+      is = ap (step_of s fresh.None) found ∙ ap (moved s x fresh.None) moves ∙ own_act types s x m ∙ ap (λ q. then_released last (stepped s x m q)) d.is ∙ ap (λ (z : Whole). (let n : Stepped = record { state = z; labels = d.did.labels } in Some n)) (release_tasks next_state y.neither.0 last);
       typed = released_typed (length next_state.threads) typed.together u (λ t f. subst (λ (q : Gives). HasNone t (seen_all q next_state)) (sym typed.same)
           (none_alike t (seen b st2 None) (seen_all g next_state) (subst (λ (q : State). HasNone t (seen b q None)) same (subst (λ (v : Option Value). HasNone t (seen b d.did.state v)) (left d.did.value) (d.frees t f)))
-          (unfocus_alike g y.types s.threads x found over d.did.state.slots d.did.state.heap out refl none)));
+          (unfocus_alike g y.types s.threads x found over d.did.state.slots d.did.state.heap (record s { output = out }) refl none)));
     }
 
 -- a thread whose task somebody has ends, and its result is kept
@@ -76,7 +78,7 @@ ends_kept {s = s} {o = o} y x r v h found life z p moves =
     let E3 = with_type E2 res (owns tree) in
     let typed1 : Typed (rank_of z1.high) E3 (swap s1 res (at_key hand)) = swap_own (rank_of z1.high) z1.types s1 res hand 0 hole tree tree (at_key hand) z1.thread.typed (unnamed_result t z1.beside.own) (λ f. cc) hole_there (unnamed_hand t z1.beside.own) (hand_owns z1) refl refl in
     let out = s.output ++ prints (label.End t ∷ []) in
-    let s2 : Whole = record { threads = with_thread s.threads (with_life x (ended v)); heap = s.heap; output = out } in
+    let s2 : Whole = record s { threads = with_thread s.threads (with_life x (ended v)); output = out } in
     let alike : Alike (swap s1 res (at_key hand)) (seen_all g s2) = kept_alike before in
     let high2 = y.high + z1.high in
     let local : IsLocal E3 = λ j m u is. z1.beside.own j m u (known_tree (slot_k t) hand z1.types hand hole j m u (known_tree (slot_k t) hand E2 res tree j m u is)) in
@@ -87,6 +89,7 @@ ends_kept {s = s} {o = o} y x r v h found life z p moves =
       typed = (rebuild y s2 t (record {
         high = high2;
         types = E3;
+        neither = y.neither;
         higher = omega arith;
         typed = same_store (rank_of high2) E3 E3 (swap s1 res (at_key hand)) (seen_all g s2) (raised_store z1.high high2 (omega arith) local typed1) (λ j. refl) alike;
         local = local;
@@ -123,7 +126,7 @@ ends_kept {s = s} {o = o} y x r v h found life z p moves =
     s1 = seen b (state_of s x) (Some v)
 
     s2 : Whole
-    s2 = record { threads = with_thread s.threads (with_life x (ended v)); heap = s.heap; output = s.output ++ prints (label.End x.number ∷ []) }
+    s2 = record s { threads = with_thread s.threads (with_life x (ended v)); output = s.output ++ prints (label.End x.number ∷ []) }
 
     from_some : (a c : Val) → Some a ≡ Some c → a ≡ c
     from_some a c e = cc

@@ -18,7 +18,7 @@ use Rattle.fr_store.proofs.Below.{mut_place, resolved}
 use Rattle.fr_store.proofs.ListState.{at_slot}
 use Rattle.fr_store.proofs.ListPlaces.{place_in}
 use Rattle.fr_plain.specs.declared.value.Value.{Value}
-use Rattle.fr_plain.specs.declared.value.Value.TheVariants.{Own, ToSlot, ToObject}
+use Rattle.fr_plain.specs.declared.value.Value.TheVariants.{Own, ToSlot, ToObject, Held}
 use Rattle.fr_plain.specs.Heap.{cell_at}
 use Rattle.fr_plain.specs.State.{State, slot_at, Spot, in_slot, in_cell, owned, Reached, then_reached, led, stars, loads}
 use Rattle.fr_plain.specs.State as plain_state
@@ -82,6 +82,7 @@ led_to g t r (Some (Own (plain.Task n))) l e = cc
 led_to g t r (Some (Own (plain.Box o))) l e = record { to = record { spot = in_cell o; passed = r.passed ++ loads r.spot (Own (plain.Box o)) }; is = refl; spot = some_is (at_object o) l e }
 led_to g t r (Some (ToSlot i)) l e = record { to = record { spot = in_slot i; passed = r.passed }; is = refl; spot = some_is (at_key (slot_k t i)) l e }
 led_to g t r (Some (ToObject o)) l e = record { to = record { spot = in_cell o; passed = r.passed }; is = refl; spot = some_is (at_object o) l e }
+led_to g t r (Some (Held m)) l e = cc
 
 -- PLACES
 

@@ -15,7 +15,7 @@ use Rattle.fr_store.proofs.Keys.{decide_number}
 use Rattle.fr_store.proofs.Rows.{same_store}
 use Rattle.fr_store.proofs.OtherThreads.{alike_row}
 use Rattle.fr_plain.specs.declared.value.Value.{Value}
-use Rattle.fr_plain.specs.declared.value.Value.TheVariants.{Own, ToSlot, ToObject}
+use Rattle.fr_plain.specs.declared.value.Value.TheVariants.{Own, ToSlot, ToObject, Held}
 use Rattle.fr_plain.specs.Heap.{cell_at}
 use Rattle.fr_plain.specs.Run.{Run, Life, alive, over, owing, loose, ended}
 use Rattle.fr_plain.specs.Threads.{result_of_life}
@@ -64,6 +64,7 @@ module _ (g : Gives) (u : ℕ) (o : Owned) where
   value_same t (Own p) f = owned_same p f
   value_same t (ToSlot i) f = refl
   value_same t (ToObject q) f = refl
+  value_same t (Held q) f = refl
 
   some_same : (t : ℕ) (v : Option Value) → NotIts (hand_of g t v) → hand_of (with_gives g u o) t v ≡ hand_of g t v
   some_same t None f = refl
@@ -147,6 +148,7 @@ given {s = s} y u o new = record {
   local = y.local;
   known = given_known y u o new;
   each = given_each y u o new;
+  neither = y.neither;
 }
 
 -- and a life wraps its term as before

@@ -25,7 +25,7 @@ use Rattle.fr_store.proofs.ListPlaces.{no_view}
 use Rattle.fr_store.proofs.ListState.{at_hand as at_hand_key, list_put_hand, Alike-then}
 use Rattle.fr_store.proofs.ListDrop.{drop_at, list_drop}
 use Rattle.fr_plain.specs.declared.value.Value.{Value}
-use Rattle.fr_plain.specs.declared.value.Value.TheVariants.{Own, ToSlot, ToObject}
+use Rattle.fr_plain.specs.declared.value.Value.TheVariants.{Own, ToSlot, ToObject, Held}
 use Rattle.fr_plain.specs.Heap.{made_by, cell_at, with_cell, next_object, with_object, then_drop, drop_links, last_link, task_of, dropped, live}
 use Rattle.fr_plain.specs.Heap as plain_heap
 use Rattle.fr_plain.specs.State.{State, without, drop_value as drop_plain}
@@ -124,10 +124,15 @@ fits_owned g t (box x) (ToSlot i) f = let z = f.1 in cc
 fits_owned g t (mutex x) (ToSlot i) f = let z = f.1 in cc
 fits_owned g t (task x) (ToSlot i) f = let z = f.1 in cc
 fits_owned g t unit (ToObject i) f = cc
+fits_owned g t unit (Held i) f = cc
 fits_owned g t int (ToObject i) f = let z = f.1 in cc
+fits_owned g t int (Held i) f = let z = f.1 in cc
 fits_owned g t (box x) (ToObject i) f = let z = f.1 in cc
+fits_owned g t (box x) (Held i) f = let z = f.1 in cc
 fits_owned g t (mutex x) (ToObject i) f = let z = f.1 in cc
+fits_owned g t (mutex x) (Held i) f = let z = f.1 in cc
 fits_owned g t (task x) (ToObject i) f = let z = f.1 in cc
+fits_owned g t (task x) (Held i) f = let z = f.1 in cc
 
 -- a value that is seen as an integer is one
 pub int_val : (g : Gives) (t : ℕ) (v : Value) (n : ℤ) → val_of g t v ≡ int_v n → v ≡ Own (plain.Int n)
@@ -139,6 +144,7 @@ int_val g t (Own (plain.Mutex o)) n e = cc
 int_val g t (Own (plain.Task o)) n e = cc
 int_val g t (ToSlot i) n e = cc
 int_val g t (ToObject i) n e = cc
+int_val g t (Held i) n e = cc
 
 -- an operand comes to hand
 pub at_hand : {beside : Beside} {e : Env} {o : Option Kind} {h : Option Value} {st : State} {v : Value} {k : Kind} → Holds beside e o h st → Operand o h v k → Holds beside e (Some k) (Some v) st
@@ -215,6 +221,7 @@ pub drops_same : (g : Gives) (t n : ℕ) (h : plain_heap.Heap) (v : Value) → d
 drops_same g t n h (Own x) e = drops_agree g n (live h) h x (heap_of g h) (λ q. refl) e (omega arith)
 drops_same g t n h (ToSlot i) e = λ q. ap (λ f. f q) (drop_no_box n (ref_v (at_key (slot_k t i))) (heap_of g h) (λ o z. cc))
 drops_same g t n h (ToObject o) e = λ q. ap (λ f. f q) (drop_no_box n (ref_v (at_object o)) (heap_of g h) (λ o z. cc))
+drops_same g t n h (Held o) e = λ q. ap (λ f. f q) (drop_no_box n (gone_v) (heap_of g h) (λ o z. cc))
 
 -- a drop makes nothing
 made_links : (n : ℕ) (h : plain_heap.Heap) (v : Plain) (u : ℕ) → length (made_by (drop_links n h v) u) ≡ length (made_by h u)
@@ -235,6 +242,7 @@ made_without : (h : plain_heap.Heap) (v : Value) (u : ℕ) → length (made_by (
 made_without h (Own x) u = made_links (live h) h x u
 made_without h (ToSlot i) u = refl
 made_without h (ToObject o) u = refl
+made_without h (Held o) u = refl
 
 -- what is known stays so where no thread has made fewer objects
 pub known_grown : (owed : ℕ → Bool) (h h2 : plain_heap.Heap) (s : Store) → ((u : ℕ) → length (made_by h u) ≤ length (made_by h2 u)) → AreKnown (IsKnown owed h) s → AreKnown (IsKnown owed h2) s
@@ -268,6 +276,7 @@ task_in_is h (Own p) u e = (p, refl, by (last_link (live h) h p) e)
     by (plain.Mutex m) f = cc
 task_in_is h (ToSlot i) u e = cc
 task_in_is h (ToObject o) u e = cc
+task_in_is h (Held o) u e = cc
 
 -- after the drop nobody has it
 pub drop_freed : (g : Gives) (t n : ℕ) (k : Key) (s : Store) (h : plain_heap.Heap) (v : Value) (u : ℕ) → OneTask s → s.at k ≡ val_of g t v → SameHeap s.heap (heap_of g h) → drop_rest n (val_of g t v) s.heap ≡ gone_v → task_in h v ≡ Some u → HasNone u (drop_value n k s)
@@ -319,6 +328,7 @@ ref_without g t h (Own (plain.Mutex m)) l e = cc
 ref_without g t h (Own (plain.Task u)) l e = cc
 ref_without g t h (ToSlot i) l e = (refl, refl)
 ref_without g t h (ToObject o) l e = (refl, refl)
+ref_without g t h (Held m) l e = cc
 
 -- a reference at hand is dropped
 dropped_reference : {beside : Beside} {e : Env} {st : State} {k : Kind} {v : Value} (m : Bool) (u : Place) → (y : Holds beside e (Some k) (Some v) st) → y.types (hand_k st.thread) ≡ refers m u → Dropped beside e st v

@@ -214,7 +214,7 @@ module _ {s : Whole} (y : AreTyped s) (x : Thread) (found : thread_at s.threads 
       → v ≡ Own (plain.Task w.number) → life_move x.life ≡ Some (record { act = do_join v; plug = λ q. wrap (plug q) }) → StepsOn s x.number fresh.None
   join_typed {k = k} {r = r} {wrap = wrap} wraps plug becomes task_is moves =
       let m : Move Life = record { act = do_join v; plug = λ q. wrap (plug q) } in
-      let typed = becomes_typed y.gives x ts joined_base joined_found k r wrap wraps e (Some (own o)) (Some v2) (plug v2) (becomes (int_at_hand (Some (own o)) (Some v2) joined_holds)) x.slots s.heap joined_holds s.output in
+      let typed = becomes_typed y.gives x ts joined_base joined_found k r wrap wraps e (Some (own o)) (Some v2) (plug v2) (becomes (int_at_hand (Some (own o)) (Some v2) joined_holds)) x.slots s.heap joined_holds s y.neither in
       record {
         next = record { state = record s { threads = with_thread ts (after_thread x (settle_life (wrap (plug v2))) x.slots) }; labels = [] };
         is = ap (step_of s fresh.None) found ∙ ap (moved s x fresh.None) moves ∙ ap (joined s x m) task_is ∙ ap (λ q. joined_with s x m q (result_at s.threads w.number)) found_w ∙ ap (joined_with s x m (Some w)) (ap result_in found_w ∙ ap result_of_life life_w);

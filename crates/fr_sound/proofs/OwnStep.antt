@@ -1,5 +1,5 @@
 -- A step of a thread that goes on by an act of its own keeps a state typed.
-use Rattle.std.specs.Prelude.{ℤ, ◌++◌}
+use Rattle.std.specs.Prelude.{◌++◌}
 use Rattle.std.proofs.Common.{◌≡◌, ℕ, List, [], length, Option, Some, None, sym, ap, ◌∙◌, subst}
 use Rattle.fr_base.specs.declared.step.Fresh.TheVariants as fresh
 use Rattle.fr_typing.specs.Kinds.{Kind}
@@ -10,13 +10,14 @@ use Rattle.fr_store.proofs.ListState.{list_put_hand}
 use Rattle.fr_plain.specs.declared.value.Value.{Value}
 use Rattle.fr_plain.specs.Heap.{Heap}
 use Rattle.fr_plain.specs.State.{State}
-use Rattle.fr_plain.specs.Acts.{lets_go}
+use Rattle.fr_plain.specs.Acts.{lets_go, drops_last}
 use Rattle.fr_plain.specs.Run.{Run, going, now, settle, Move, next, move, Life, settle_life, life_move}
 use Rattle.fr_plain.specs.Threads.{result_of_life}
-use Rattle.fr_plain.specs.Whole.{Thread, Whole, thread_at, with_thread, let_go, prints, state_of, stepped, then_released, moved, step_of}
+use Rattle.fr_plain.proofs.Tasks.{release_tasks}
+use Rattle.fr_plain.specs.Whole.{Thread, Whole, Stepped, thread_at, with_thread, let_go, prints, state_of, stepped, then_released, moved, step_of}
 use Rattle.fr_sound.specs.RunTypes.{threads, RunTypes, held, ActTypes, held_after}
 use Rattle.fr_sound.specs.Seen.{Gives, Beside, val_of, vals, heap_of, seen, HasNone, Holds}
-use Rattle.fr_sound.specs.Together.{held_life, seen_all, is_owed, IsRunning, AreTyped, StepsOn}
+use Rattle.fr_sound.specs.Together.{HasNeither, held_life, seen_all, is_owed, IsRunning, AreTyped, StepsOn}
 use Rattle.fr_sound.proofs.Known.{none_put, none_alike}
 use Rattle.fr_sound.proofs.Hand.{Acted}
 use Rattle.fr_sound.proofs.ActsHold.{acts_hold}
@@ -58,17 +59,17 @@ module _ (g : Gives) (x : Thread) (ts : List Thread) (y : Base g x.number ts) (f
   held_settled = w.held_then q ∙ settle_holds q b.types
 
   -- what a term becomes by an act is typed beside the other threads
-  pub becomes_typed : Holds (beside_of g y.types ts) e o h then_state → (out : List ℤ) → TypedWith g (record { threads = with_thread ts (after_thread x then_life slots); heap = heap; output = out })
-  becomes_typed z out =
+  pub becomes_typed : Holds (beside_of g y.types ts) e o h then_state → (rest : Whole) → HasNeither rest → TypedWith g (record rest { threads = with_thread ts (after_thread x then_life slots); heap = heap })
+  becomes_typed z rest neither =
       let z2 : Holds (beside_of g y.types ts) e b.hand (held_life then_life) then_state = subst (λ (v : Option Value). Holds (beside_of g y.types ts) e b.hand v then_state) (sym held_settled) (passes_hold b.passes z) in
-      unfocus g x ts y found then_life slots heap out e b.hand z2 (w.result_then q) w.result_now (w.owed_then q) (w.types_then e b.hand q (settle_types q b.types))
+      unfocus g x ts y found then_life slots heap rest neither e b.hand z2 (w.result_then q) w.result_now (w.owed_then q) (w.types_then e b.hand q (settle_types q b.types))
 
   -- and nobody gets a task that nobody had
-  pub becomes_none : (out : List ℤ) (u : ℕ) → HasNone u (seen (beside_of g y.types ts) then_state h) → HasNone u (seen_all g (record { threads = with_thread ts (after_thread x then_life slots); heap = heap; output = out }))
-  becomes_none out u none =
+  pub becomes_none : (rest : Whole) (u : ℕ) → HasNone u (seen (beside_of g y.types ts) then_state h) → HasNone u (seen_all g (record rest { threads = with_thread ts (after_thread x then_life slots); heap = heap }))
+  becomes_none rest u none =
       let n2 : HasNone u (seen (beside_of g y.types ts) then_state (held_life then_life)) = subst (λ (v : Option Value). HasNone u (seen (beside_of g y.types ts) then_state v)) (sym held_settled) (passes_none (beside_of g y.types ts) then_state u b.passes none) in
-      none_alike u (seen (beside_of g y.types ts) then_state (held_life then_life)) (seen_all g (record { threads = with_thread ts (after_thread x then_life slots); heap = heap; output = out })) n2
-      (unfocus_alike g y.types ts x found then_life slots heap out (w.result_then q) w.result_now)
+      none_alike u (seen (beside_of g y.types ts) then_state (held_life then_life)) (seen_all g (record rest { threads = with_thread ts (after_thread x then_life slots); heap = heap })) n2
+      (unfocus_alike g y.types ts x found then_life slots heap rest (w.result_then q) w.result_now)
 
 -- a state of the same thread
 pub thread_state : (st : State) (t : ℕ) → st.thread ≡ t → st ≡ (record { thread = t; slots = st.slots; heap = st.heap })
@@ -92,14 +93,15 @@ own_steps {s = s} {r = r} {k = k} {wrap = wrap} y x found w z going_now m act_ty
     let b = m.goes a.did.value (int_at_hand m.left h a.holds) in
     let q = m.next.plug a.did.value in
     let out = s.output ++ prints a.did.labels in
-    let typed = becomes_typed y.gives x s.threads (base_of y x.number) found k r wrap w m.env m.left h q b a.did.state.slots a.did.state.heap holds out in
+    let typed = becomes_typed y.gives x s.threads (base_of y x.number) found k r wrap w m.env m.left h q b a.did.state.slots a.did.state.heap holds (record s { output = out }) y.neither in
     let u = lets_go m.next.act st in
     let move_next : Move Life = record { act = m.next.act; plug = λ v. wrap (m.next.plug v) } in
-    let next_state : Whole = record { threads = with_thread s.threads (after_thread x (settle_life (wrap q)) a.did.state.slots); heap = a.did.state.heap; output = out } in
+    let next_state : Whole = record s { threads = with_thread s.threads (after_thread x (settle_life (wrap q)) a.did.state.slots); heap = a.did.state.heap; output = out } in
+    let d = drops_last m.next.act st in
     let moves : life_move x.life ≡ Some move_next = w.moves going_now ∙ ap (next wrap) m.is in
     record {
       next = record { state = let_go next_state u; labels = a.did.labels };
-      is = ap (step_of s fresh.None) found ∙ ap (moved s x fresh.None) moves ∙ own_act act_types s x move_next ∙ ap (λ d. then_released u (stepped s x move_next d)) a.is;
+      is = ap (step_of s fresh.None) found ∙ ap (moved s x fresh.None) moves ∙ own_act act_types s x move_next ∙ ap (λ z. then_released d (stepped s x move_next z)) a.is ∙ ap (λ (z : Whole). (let n : Stepped = record { state = z; labels = a.did.labels } in Some n)) (release_tasks next_state y.neither.0 d);
       typed = released_typed (length next_state.threads) typed.together u (λ t f. subst (λ (g : Gives). HasNone t (seen_all g next_state)) (sym typed.same)
-          (becomes_none y.gives x s.threads (base_of y x.number) found k r wrap w m.env m.left h q b a.did.state.slots a.did.state.heap out t (subst (λ (p : State). HasNone t (seen (beside_of y.gives y.types s.threads) p h)) same (a.frees t f))));
+          (becomes_none y.gives x s.threads (base_of y x.number) found k r wrap w m.env m.left h q b a.did.state.slots a.did.state.heap (record s { output = out }) t (subst (λ (p : State). HasNone t (seen (beside_of y.gives y.types s.threads) p h)) same (a.frees t f))));
     }

@@ -25,7 +25,7 @@ use Rattle.fr_store.proofs.SlotRows.{let_row}
 use Rattle.fr_store.proofs.ThreadKept.{exact_owned, known_tree}
 use Rattle.fr_store.proofs.ValueRows.{int_row, unit_row, read_int_row, read_unit_row}
 use Rattle.fr_plain.specs.declared.value.Value.{Value}
-use Rattle.fr_plain.specs.declared.value.Value.TheVariants.{Own, ToSlot, ToObject}
+use Rattle.fr_plain.specs.declared.value.Value.TheVariants.{Own, ToSlot, ToObject, Held}
 use Rattle.fr_plain.specs.Heap.{Heap}
 use Rattle.fr_plain.specs.State.{slot_at, with_slot, gone as gone_value}
 use Rattle.fr_plain.specs.Run.{Capture}
@@ -47,6 +47,7 @@ unit_val g t (Own (plain.Mutex o)) e = cc
 unit_val g t (Own (plain.Task o)) e = cc
 unit_val g t (ToSlot i) e = cc
 unit_val g t (ToObject i) e = cc
+unit_val g t (Held i) e = cc
 
 -- threads t and u over what others have, without temporary values
 module _ (g : Gives) (rest : Key → Val) (t u : ℕ) (apart : t ≢ u) (owed : ℕ → Bool) (heap : Heap) (objects : Objects) (others : KeyTypes) (high : ℕ) where

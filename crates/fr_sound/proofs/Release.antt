@@ -139,6 +139,7 @@ owing_goes {s = s} y x r found life none =
     rebuild y s2 x.number (record {
       high = y.high;
       types = y.types;
+      neither = y.neither;
       higher = omega arith;
       typed = same_store (rank_of y.high) y.types y.types (seen_all y.gives s) (seen_all y.gives s2) y.typed (λ k. refl) alike;
       local = y.local;
@@ -194,6 +195,7 @@ ended_goes {s = s} y x v found life none =
       rebuilt = rebuild y s2 x.number (record {
         high = y.high;
         types = E2;
+        neither = y.neither;
         higher = omega arith;
         typed = same_store (rank_of y.high) E2 E2 (drop_value n k all) (seen_all g s2) typed (λ j. refl) alike;
         local = λ j m u is. y.local j m u (known_tree (slot_k x.number) k y.types k hole j m u is);

@@ -329,10 +329,10 @@ module _ {s : Whole} (y : AreTyped s) (x : Thread) (found : thread_at s.threads 
       let m : Move Life = record { act = do_spawn cs body; plug = λ q. wrap (plug q) } in
       let v = Own (plain.Task u) in
       let new_x : Thread = after_thread x (settle_life (wrap (plug v))) over_there.passed.left in
-      let typed = becomes_typed y.gives x1 ts base1 found_x k r wrap wraps e2 (Some (own (task o))) (Some v) (plug v) (becomes tt) over_there.passed.left s.heap holds1 s.output in
+      let typed = becomes_typed y.gives x1 ts base1 found_x k r wrap wraps e2 (Some (own (task o))) (Some v) (plug v) (becomes tt) over_there.passed.left s.heap holds1 s y.neither in
       let same : with_thread ts new_x ≡ with_thread s.threads new_x ++ child ∷ [] = with_twice s.threads x x1 new_x child refl found in
       record {
-        next = record { state = record { threads = with_thread s.threads new_x ++ child ∷ []; heap = s.heap; output = s.output }; labels = label.Start u ∷ [] };
+        next = record { state = record s { threads = with_thread s.threads new_x ++ child ∷ [] }; labels = label.Start u ∷ [] };
         is = ap (step_of s (fresh.Thread u)) found ∙ ap (moved s x (fresh.Thread u)) moves ∙ ap (λ b. if b then None else started_with s x m body u (pass cs x.slots [])) not_given ∙ ap (started_with s x m body u) over_there.is;
-        typed = subst (λ (q : List Thread). AreTyped (record { threads = q; heap = s.heap; output = s.output })) same typed.together;
+        typed = subst (λ (q : List Thread). AreTyped (record s { threads = q })) same typed.together;
       }

@@ -75,6 +75,7 @@ module _ (r : Run) (none : held (settle r) ≡ None) where
         types = E;
         typed = thread.typed;
         local = λ j m u e. cc;
+        neither = (refl, refl);
         known = known_alike (IsKnown (owed_in (start r).threads) (start r).heap) tt empty (seen_all g (start r)) start_known start_alike;
         each = λ t x e. eq_cases (λ b. (if b then Some main else None) ≡ Some x → IsTypedIn g 0 E (seen_all g (start r)) t x.slots x.life) 0 t
             (λ same f. let i : main ≡ x = cc in subst (λ (q : Thread). IsTypedIn g 0 E (seen_all g (start r)) t q.slots q.life) i

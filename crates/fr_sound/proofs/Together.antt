@@ -14,11 +14,11 @@ use Rattle.fr_store.specs.Typed.{Tree}
 use Rattle.fr_store.specs.Below.{tree_of}
 use Rattle.fr_store.proofs.ListState.{at_hand as at_hand_key}
 use Rattle.fr_plain.specs.declared.value.Value.{Value}
-use Rattle.fr_plain.specs.declared.value.Value.TheVariants.{Own, ToSlot, ToObject}
+use Rattle.fr_plain.specs.declared.value.Value.TheVariants.{Own, ToSlot, ToObject, Held}
 use Rattle.fr_plain.specs.Acts.{Act, do_end, do_finish, do_leave}
 use Rattle.fr_plain.specs.Run.{Run, Now, going, constant, temporary, now, on_value, Move, next, alone, move, Life, alive, over, owing, loose, ended, life_move}
 use Rattle.fr_plain.specs.Threads.{result_in, result_of_life, unless_some, join_waits, act_waits, move_waits}
-use Rattle.fr_plain.specs.Whole.{Thread, Whole, thread_at, is_given, result_at, is_over, waits_for, state_of, Refusal, has_ended, no_thread, starts_thread, takes_name, refused_names, refused_wait, refused_of, refused, step}
+use Rattle.fr_plain.specs.Whole.{Thread, Whole, thread_at, is_given, result_at, is_over, waits_for, state_of, Refusal, has_ended, no_thread, no_name, a_thread, takes_of, takes_name, refused_names, refused_wait, refused_of, refused, step}
 use Rattle.fr_sound.specs.RunTypes.{threads, Operand, o_temp, ActTypes, a_let, a_copy, a_move, a_borrow, a_borrow_mut, a_assign, a_box, a_arith, a_print, a_discard, a_drop, a_end, a_leave, NextTypes, n_own, n_spawn, n_join, held_after}
 use Rattle.fr_sound.specs.Seen.{Gives, val_of, vals, heap_of, Holds}
 use Rattle.fr_sound.specs.Together.{held_life, seen_all, is_owed, owed_by, owed_in, IsRunning, IsTypedIn, AreTyped, StepsOn, NeverStuckTogether, WaitsForLiving}
@@ -40,14 +40,14 @@ not_refused None r e = (refl, e)
 not_refused (Some w) r e = cc
 
 -- a step that takes no name has none
-nameless : (s : Whole) (names : Fresh) → refused_names s false names ≡ None → names ≡ fresh.None
+nameless : (s : Whole) (names : Fresh) → refused_names s no_name names ≡ None → names ≡ fresh.None
 nameless s fresh.None e = refl
 nameless s (fresh.Thread u) e = cc
 nameless s (fresh.Threads u v) e = cc
 nameless s (fresh.Mutex m) e = cc
 
 -- a step that takes a thread's name has a new one
-named : (s : Whole) (names : Fresh) → refused_names s true names ≡ None → (u : ℕ) × (names ≡ fresh.Thread u) × (thread_at s.threads u ≡ None)
+named : (s : Whole) (names : Fresh) → refused_names s a_thread names ≡ None → (u : ℕ) × (names ≡ fresh.Thread u) × (thread_at s.threads u ≡ None)
 named s fresh.None e = cc
 named s (fresh.Thread u) e = (u, refl, by (thread_at s.threads u) refl e)
   where
@@ -58,20 +58,20 @@ named s (fresh.Threads u v) e = cc
 named s (fresh.Mutex m) e = cc
 
 -- an act of a thread's own starts no thread, and doesn't wait
-pub own_names : {e e2 : Env} {o o2 : Option Kind} {h : Option Value} {a : Act} → ActTypes e o h a o2 e2 → (starts_thread a ≡ false) × ((s : Whole) → act_waits s a ≡ None)
-own_names (a_let name p) = (refl, λ s. refl)
-own_names (a_copy c) = (refl, λ s. refl)
-own_names (a_move c) = (refl, λ s. refl)
-own_names (a_borrow c) = (refl, λ s. refl)
-own_names (a_borrow_mut c) = (refl, λ s. refl)
-own_names (a_assign p c) = (refl, λ s. refl)
-own_names (a_box p) = (refl, λ s. refl)
-own_names (a_arith i p) = (refl, λ s. refl)
-own_names (a_print p) = (refl, λ s. refl)
-own_names a_discard = (refl, λ s. refl)
-own_names (a_drop names) = (refl, λ s. refl)
-own_names (a_end p) = (refl, λ s. refl)
-own_names (a_leave p) = (refl, λ s. refl)
+pub own_names : {e e2 : Env} {o o2 : Option Kind} {h : Option Value} {a : Act} → ActTypes e o h a o2 e2 → (takes_of a ≡ no_name) × ((s : Whole) (t : Thread) → act_waits s t a ≡ None)
+own_names (a_let name p) = (refl, λ s t. refl)
+own_names (a_copy c) = (refl, λ s t. refl)
+own_names (a_move c) = (refl, λ s t. refl)
+own_names (a_borrow c) = (refl, λ s t. refl)
+own_names (a_borrow_mut c) = (refl, λ s t. refl)
+own_names (a_assign p c) = (refl, λ s t. refl)
+own_names (a_box p) = (refl, λ s t. refl)
+own_names (a_arith i p) = (refl, λ s t. refl)
+own_names (a_print p) = (refl, λ s t. refl)
+own_names a_discard = (refl, λ s t. refl)
+own_names (a_drop names) = (refl, λ s t. refl)
+own_names (a_end p) = (refl, λ s t. refl)
+own_names (a_leave p) = (refl, λ s t. refl)
 
 -- TASKS AT HAND
 
@@ -88,6 +88,7 @@ task_is g t (Own (plain.Box o)) n r e = cc
 task_is g t (Own (plain.Mutex m)) n r e = cc
 task_is g t (ToSlot i) n r e = cc
 task_is g t (ToObject o) n r e = cc
+task_is g t (Held o) n r e = cc
 
 -- the thread of a task at hand is there, and goes on or has a result
 pub record Tasked {s : Whole} (y : AreTyped s) (x : Thread) (o : Owned) (v : Value) : Type 0 where
@@ -153,7 +154,7 @@ module _ {s : Whole} (y : AreTyped s) (x : Thread) (found : thread_at s.threads 
       let none = nameless s names (subst (λ b. refused_names s b names ≡ None) (ap takes_name moves) free) in
       let z1 = at_hand z p in
       let t = tasked y x q v z1 in
-      let waits2 : unless_some (result_at s.threads t.other.number) (wait.Join t.other.number) ≡ None = sym (ap (join_waits s) t.is) ∙ sym (ap (move_waits s) moves) ∙ waits in
+      let waits2 : unless_some (result_at s.threads t.other.number) (wait.Join t.other.number) ≡ None = sym (ap (join_waits s) t.is) ∙ sym (ap (move_waits s x) moves) ∙ waits in
       let waits3 : unless_some (result_of_life t.other.life) (wait.Join 0) ≡ None = no_result (result_of_life t.other.life) (wait.Join t.other.number) (wait.Join 0) (sym (ap (λ o. unless_some (result_in o) (wait.Join t.other.number)) t.found) ∙ waits2) in
       let result = with_result t.other.life t.owed waits3 in
       subst (StepsOn s x.number) (sym none) (join_typed y x found w.result_now e q v z1 t.other t.found result.0 result.1 t.value t.tree w plug (λ i. becomes result.0 i) t.is moves)
@@ -231,7 +232,7 @@ thread_steps {s = s} y x names found free = by x.life refl (y.each x.number x fo
     ended_not l e over_there =
         let z : Some has_ended ≡ None = sym (ap (λ q. if q then Some has_ended else refused_wait (waits_for s x) (refused_names s (takes_name (life_move x.life)) names)) (ap is_over e ∙ over_there)) ∙ free in cc
 
-    unnamed : (a : Act) (plug : Value → Life) → life_move x.life ≡ alone plug a → starts_thread a ≡ false → refused_names s (takes_name (life_move x.life)) names ≡ None → names ≡ fresh.None
+    unnamed : (a : Act) (plug : Value → Life) → life_move x.life ≡ alone plug a → takes_of a ≡ no_name → refused_names s (takes_name (life_move x.life)) names ≡ None → names ≡ fresh.None
     unnamed a plug moves start e = nameless s names (subst (λ q. refused_names s q names ≡ None) (ap takes_name moves ∙ start) e)
 
     by : (l : Life) → x.life ≡ l → b l → StepsOn s x.number names
@@ -271,7 +272,7 @@ waits_living : {s : Whole} (y : AreTyped s) (x : Thread) (u : ℕ) → thread_at
     → waits_for s x ≡ Some (wait.Join u) → now r ≡ going → (w : Thread) × (thread_at s.threads u ≡ Some w) × (is_over w.life ≡ false)
 waits_living {s = s} y x u found k r wrap w z waits g =
     let m = goes_of (redex r z.types) g in
-    by m.act (focus_run y x found w z) (sym (ap (move_waits s) (w.moves g ∙ ap (next wrap) m.is)) ∙ waits)
+    by m.act (focus_run y x found w z) (sym (ap (move_waits s x) (w.moves g ∙ ap (next wrap) m.is)) ∙ waits)
   where
     living : (l : Life) → is_owed l ≡ true → result_of_life l ≡ None → is_over l ≡ false
     living (owing r) e f = refl
@@ -284,8 +285,8 @@ waits_living {s = s} y x u found k r wrap w z waits g =
     no_value None a b e = (refl, (let q : a ≡ b = cc in q))
     no_value (Some v) a b e = cc
 
-    by : {e e2 : Env} {o o2 : Option Kind} {h : Option Value} {a : Act} → NextTypes threads e o h a o2 e2 → Holds (beside_of y.gives y.types s.threads) e o h (state_of s x) → act_waits s a ≡ Some (wait.Join u) → (w : Thread) × (thread_at s.threads u ≡ Some w) × (is_over w.life ≡ false)
-    by (n_own act) q e = let f = sym ((own_names act).1 s) ∙ e in cc
+    by : {e e2 : Env} {o o2 : Option Kind} {h : Option Value} {a : Act} → NextTypes threads e o h a o2 e2 → Holds (beside_of y.gives y.types s.threads) e o h (state_of s x) → act_waits s x a ≡ Some (wait.Join u) → (w : Thread) × (thread_at s.threads u ≡ Some w) × (is_over w.life ≡ false)
+    by (n_own act) q e = let f = sym ((own_names act).1 s x) ∙ e in cc
     by (n_spawn c types) q e = cc
     by (n_join {v = v} {x = o} p) q e =
         let t = tasked y x o v (at_hand q p) in
@@ -294,10 +295,10 @@ waits_living {s = s} y x u found k r wrap w z waits g =
         (t.other, subst (λ i. thread_at s.threads i ≡ Some t.other) same t.found, living t.other.life t.owed (sym (ap result_in t.found) ∙ n.0))
 
 -- a thread whose term is done waits for nobody
-going_if : {A : Type 0} (s : Whole) (n : Now) (l : Life) (w : Wait) (f : Value → Life) (a : Value → Act) (d : Option (Move Life)) → ((v : Value) → act_waits s (a v) ≡ None) → life_move l ≡ on_value n (λ v. alone f (a v)) d → move_waits s (life_move l) ≡ Some w → (n ≡ going → A) → A
-going_if s going l w f a d none moves waits go = go refl
-going_if s (constant v) l w f a d none moves waits go = let e = sym (none v) ∙ sym (ap (move_waits s) moves) ∙ waits in cc
-going_if s (temporary v) l w f a d none moves waits go = let e = sym (none v) ∙ sym (ap (move_waits s) moves) ∙ waits in cc
+going_if : {A : Type 0} (s : Whole) (x : Thread) (n : Now) (l : Life) (w : Wait) (f : Value → Life) (a : Value → Act) (d : Option (Move Life)) → ((v : Value) → act_waits s x (a v) ≡ None) → life_move l ≡ on_value n (λ v. alone f (a v)) d → move_waits s x (life_move l) ≡ Some w → (n ≡ going → A) → A
+going_if s x going l w f a d none moves waits go = go refl
+going_if s x (constant v) l w f a d none moves waits go = let e = sym (none v) ∙ sym (ap (move_waits s x) moves) ∙ waits in cc
+going_if s x (temporary v) l w f a d none moves waits go = let e = sym (none v) ∙ sym (ap (move_waits s x) moves) ∙ waits in cc
 
 -- a thread waits for another one alone, which is there and has not ended
 pub waits_for_living_lem : WaitsForLiving
@@ -310,14 +311,14 @@ waits_for_living_lem s y t u x found waits = by x.life refl (y.each x.number x f
     Living = (w : Thread) × (thread_at s.threads u ≡ Some w) × (is_over w.life ≡ false)
 
     no_move : life_move x.life ≡ None → Living
-    no_move e = let f = sym (ap (move_waits s) e) ∙ waits in cc
+    no_move e = let f = sym (ap (move_waits s x) e) ∙ waits in cc
 
     by : (l : Life) → x.life ≡ l → IsTypedIn y.gives y.high y.types (seen_all y.gives s) x.number x.slots l → Living
     by (alive r) e z =
-        going_if s (now r) x.life (wait.Join u) (λ q. over) do_end (next alive (move r)) (λ v. refl) (ap life_move e) waits (λ g. waits_living y x u found2 z.0 r alive (alive_wraps y.gives x.number z.0 x.life r e) z.1 waits g)
+        going_if s x (now r) x.life (wait.Join u) (λ q. over) do_end (next alive (move r)) (λ v. refl) (ap life_move e) waits (λ g. waits_living y x u found2 z.0 r alive (alive_wraps y.gives x.number z.0 x.life r e) z.1 waits g)
     by (loose r) e z =
-        going_if s (now r) x.life (wait.Join u) (λ q. over) do_leave (next loose (move r)) (λ v. refl) (ap life_move e) waits (λ g. waits_living y x u found2 z.0 r loose (loose_wraps y.gives x.number z.0 x.life r e) z.1 waits g)
+        going_if s x (now r) x.life (wait.Join u) (λ q. over) do_leave (next loose (move r)) (λ v. refl) (ap life_move e) waits (λ g. waits_living y x u found2 z.0 r loose (loose_wraps y.gives x.number z.0 x.life r e) z.1 waits g)
     by (owing r) e z =
-        going_if s (now r) x.life (wait.Join u) ended do_finish (next owing (move r)) (λ v. refl) (ap life_move e) waits (λ g. waits_living y x u found2 (own (y.gives x.number)) r owing (owing_wraps y.gives x.number x.life r e) z waits g)
+        going_if s x (now r) x.life (wait.Join u) ended do_finish (next owing (move r)) (λ v. refl) (ap life_move e) waits (λ g. waits_living y x u found2 (own (y.gives x.number)) r owing (owing_wraps y.gives x.number x.life r e) z waits g)
     by over e z = no_move (ap life_move e)
     by (ended v) e z = no_move (ap life_move e)

@@ -1,5 +1,5 @@
 -- A typed state after one thread's act: that thread, and the others.
-use Rattle.std.specs.Prelude.{◌⊎◌, ◌+◌, ⊤, ℤ, if◌then◌else◌}
+use Rattle.std.specs.Prelude.{◌⊎◌, ◌+◌, ⊤, if◌then◌else◌}
 use Rattle.std.proofs.Common.{◌≡◌, ◌≢◌, inl, inr, ⊎_elim, ℕ, ◌≤◌, Bool, true, List, [], length, Option, Some, None, refl, sym, ap, ◌∙◌, subst, arith}
 use Rattle.fr_typing.specs.Kinds.{Kind, own}
 use Rattle.fr_typing.specs.Places.{Env}
@@ -20,7 +20,7 @@ use Rattle.fr_plain.specs.Threads.{result_of_life}
 use Rattle.fr_plain.specs.Whole.{Thread, Whole, thread_at, with_thread}
 use Rattle.fr_sound.specs.RunTypes.{threads, RunTypes}
 use Rattle.fr_sound.specs.Seen.{Gives, vals, hand_of, seen, rank_of, IsKnown, AreKnown, Holds}
-use Rattle.fr_sound.specs.Together.{held_life, slot_in, hand_in, result_val, seen_all, is_owed, owed_by, owed_in, IsRunning, IsTypedIn, AreTyped}
+use Rattle.fr_sound.specs.Together.{HasNeither, held_life, slot_in, hand_in, result_val, seen_all, is_owed, owed_by, owed_in, IsRunning, IsTypedIn, AreTyped}
 use Rattle.fr_sound.proofs.Known.{known_alike, known_more}
 use Rattle.fr_sound.proofs.ActsHold.{raised_store, raised_thread}
 use Rattle.fr_sound.proofs.Focus.{with_same, with_other, beside_of, other_thread}
@@ -101,19 +101,19 @@ module _ (g : Gives) (E : KeyTypes) (ts : List Thread) (x : Thread) (found : thr
   kept_after u ne = with_other ts (after_thread x l2 slots2) u ne
 
   -- what the thread sees is what all see
-  pub unfocus_alike : (heap2 : Heap) (out : List ℤ) → result_of_life l2 ≡ None → result_of_life x.life ≡ None
-      → Alike (seen (beside_of g E ts) (record { thread = x.number; slots = slots2; heap = heap2 }) (held_life l2)) (seen_all g (record { threads = threads_after; heap = heap2; output = out }))
-  unfocus_alike heap2 out none2 none (at_object o) = refl
-  unfocus_alike heap2 out none2 none (at_key (slot_k u n)) =
+  pub unfocus_alike : (heap2 : Heap) (rest : Whole) → result_of_life l2 ≡ None → result_of_life x.life ≡ None
+      → Alike (seen (beside_of g E ts) (record { thread = x.number; slots = slots2; heap = heap2 }) (held_life l2)) (seen_all g (record rest { threads = threads_after; heap = heap2 }))
+  unfocus_alike heap2 rest none2 none (at_object o) = refl
+  unfocus_alike heap2 rest none2 none (at_key (slot_k u n)) =
       ap Some (eq_cases (λ b. slot_in g u (thread_at threads_after u) n ≡ (if b then slot_value (vals g x.number slots2) n else slot_in g u (thread_at ts u) n)) u x.number
       (λ e. ap (λ z. slot_in g z (thread_at threads_after z) n) e ∙ ap (λ z. slot_in g x.number z n) found_after) (λ ne. ap (λ z. slot_in g u z n) (kept_after u ne)))
-  unfocus_alike heap2 out none2 none (at_key (temp_k u n)) = refl
-  unfocus_alike heap2 out none2 none (at_key (content_k u n)) = refl
-  unfocus_alike heap2 out none2 none (at_key (result_k u)) =
+  unfocus_alike heap2 rest none2 none (at_key (temp_k u n)) = refl
+  unfocus_alike heap2 rest none2 none (at_key (content_k u n)) = refl
+  unfocus_alike heap2 rest none2 none (at_key (result_k u)) =
       ap Some (⊎_elim
       (λ (e : u ≡ x.number). ap (λ z. result_val g z (thread_at threads_after z)) e ∙ ap (result_val g x.number) found_after ∙ ap (hand_of g x.number) none2 ∙ sym (ap (λ z. result_val g z (thread_at ts z)) e ∙ ap (result_val g x.number) found ∙ ap (hand_of g x.number) none))
       (λ (ne : u ≢ x.number). ap (result_val g u) (kept_after u ne)) (decide_number u x.number))
-  unfocus_alike heap2 out none2 none (at_key (hand_k u)) =
+  unfocus_alike heap2 rest none2 none (at_key (hand_k u)) =
       ap Some (eq_cases (λ b. hand_in g u (thread_at threads_after u) ≡ (if b then hand_of g x.number (held_life l2) else hand_in g u (thread_at ts u))) u x.number
       (λ e. ap (λ z. hand_in g z (thread_at threads_after z)) e ∙ ap (hand_in g x.number) found_after) (λ ne. ap (hand_in g u) (kept_after u ne)))
 
@@ -141,16 +141,16 @@ abbrev pub base_of : {s : Whole} (y : AreTyped s) (t : ℕ) → Base y.gives t s
 base_of {s = s} y t = record { high = y.high; types = y.types; store = seen_all y.gives s; local = y.local; each = λ u w ne is. y.each u w is }
 
 -- the state is typed again after an act of one thread
-module _ (g : Gives) (x : Thread) (ts : List Thread) (y : Base g x.number ts) (found : thread_at ts x.number ≡ Some x) (l2 : Life) (slots2 : List Value) (heap2 : Heap) (out : List ℤ) (e2 : Env) (o2 : Option Kind)
+module _ (g : Gives) (x : Thread) (ts : List Thread) (y : Base g x.number ts) (found : thread_at ts x.number ≡ Some x) (l2 : Life) (slots2 : List Value) (heap2 : Heap) (rest : Whole) (neither : HasNeither rest) (e2 : Env) (o2 : Option Kind)
     (z : Holds (beside_of g y.types ts) e2 o2 (held_life l2) (record { thread = x.number; slots = slots2; heap = heap2 })) (none2 : result_of_life l2 ≡ None) (none : result_of_life x.life ≡ None) (same : is_owed l2 ≡ is_owed x.life) (types : TypesLife g x.number l2 e2 o2) where
   abbrev after : Whole
-  after = record { threads = with_thread ts (after_thread x l2 slots2); heap = heap2; output = out }
+  after = record rest { threads = with_thread ts (after_thread x l2 slots2); heap = heap2 }
 
   abbrev before : Store
   before = seen (beside_of g y.types ts) (record { thread = x.number; slots = slots2; heap = heap2 }) (held_life l2)
 
   alike : Alike before (seen_all g after)
-  alike = unfocus_alike g y.types ts x found l2 slots2 heap2 out none2 none
+  alike = unfocus_alike g y.types ts x found l2 slots2 heap2 rest none2 none
 
   abbrev high2 : ℕ
   high2 = y.high + z.high
@@ -190,6 +190,7 @@ module _ (g : Gives) (x : Thread) (ts : List Thread) (y : Base g x.number ts) (f
       local = z.beside.own;
       known = known_owed (owed_in ts) (owed_in after.threads) heap2 (seen_all g after) (λ u f. sym (owed_after g y.types ts x found l2 slots2 same u) ∙ f) (known_alike (IsKnown (owed_in ts) heap2) tt before (seen_all g after) z.known alike);
       each = λ u w is. by u w is (decide_number u x.number);
+      neither = neither;
     };
     same = refl;
   }
@@ -204,6 +205,7 @@ module _ (g : Gives) (x : Thread) (ts : List Thread) (y : Base g x.number ts) (f
 pub record Changed {s : Whole} (y : AreTyped s) (s2 : Whole) (t : ℕ) : Type 0 where
   pub high : ℕ
   pub types : KeyTypes
+  pub neither : HasNeither s2
   pub higher : y.high ≤ high
   pub typed : Typed (rank_of high) types (seen_all y.gives s2)
   pub local : IsLocal types
@@ -215,7 +217,7 @@ pub record Changed {s : Whole} (y : AreTyped s) (s2 : Whole) (t : ℕ) : Type 0 
 -- it is typed
 pub rebuild : {s : Whole} (y : AreTyped s) (s2 : Whole) (t : ℕ) → Changed y s2 t → TypedWith y.gives s2
 rebuild {s = s} y s2 t c = record {
-  together = record { gives = y.gives; high = c.high; types = c.types; typed = c.typed; local = c.local; known = c.known; each = λ u w is. by u w is (decide_number u t) };
+  together = record { gives = y.gives; high = c.high; types = c.types; typed = c.typed; local = c.local; known = c.known; each = λ u w is. by u w is (decide_number u t); neither = c.neither };
   same = refl;
 }
   where

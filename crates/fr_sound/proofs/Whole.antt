@@ -18,11 +18,12 @@ use Rattle.fr_store.proofs.ListState.{list_start, Alike-then}
 use Rattle.fr_plain.specs.declared.value.Value.{Value}
 use Rattle.fr_plain.specs.Heap as plain_heap
 use Rattle.fr_plain.specs.State.{State}
-use Rattle.fr_plain.specs.Acts.{Act, do_end, Did, act, lets_go}
+use Rattle.fr_plain.specs.Acts.{Act, do_end, Did, act, lets_go, drops_last}
 use Rattle.fr_plain.specs.Run.{Run, Now, going, now, on_value, settle, Move, next, alone, move, Life, alive, over, owing, loose, ended, settle_life, life_move}
 use Rattle.fr_plain.specs.Threads.{released, released_in}
 use Rattle.fr_plain.specs.Whole.{Thread, Whole, Stepped, thread_at, with_thread, let_threads_go, let_go, prints, state_of, stepped, then_released, alone_stepped, done_act, moved, step_of, step}
 use Rattle.fr_plain.specs.Resolve.{program}
+use Rattle.fr_plain.proofs.Tasks.{release_tasks}
 use Rattle.fr_sound.specs.RunTypes.{one_thread, NextTypes, n_own, RunTypes, held, held_after, Operand, o_temp, ActTypes, a_let, a_copy, a_move, a_borrow, a_borrow_mut, a_assign, a_box, a_arith, a_print, a_discard, a_drop, a_end, a_leave}
 use Rattle.fr_sound.specs.Seen.{lone, seen_cell, heap_of, seen, rank_of, IsKnown, IsBeside, Holds}
 use Rattle.fr_sound.specs.NeverStuck.{IsAlive, IsTypedLife, Steps, NeverStuck, StartsTyped}
@@ -138,19 +139,21 @@ never_stuck_lem s y = by y.thread.life refl y.life
     after : (m : LifeSteps t.life (state_of s t)) → Steps s t.number
     after m =
         let next : Stepped = record {
-          state = record { threads = with_thread s.threads (record { number = t.number; life = settle_life (m.move.plug m.did.value); slots = m.did.state.slots }); heap = m.did.state.heap; output = s.output ++ prints m.did.labels };
+          state = record s { threads = with_thread s.threads (record { number = t.number; life = settle_life (m.move.plug m.did.value); slots = m.did.state.slots }); heap = m.did.state.heap; output = s.output ++ prints m.did.labels };
           labels = m.did.labels;
         } in
         let new : Thread = record { number = t.number; life = settle_life (m.move.plug m.did.value); slots = m.did.state.slots } in
         let only : next.state.threads ≡ new ∷ [] = ap (λ ts. with_thread ts new) y.only ∙ same_thread t new refl in
         let found : thread_at s.threads t.number ≡ Some t = ap (λ ts. thread_at ts t.number) y.only ∙ only_thread t in
         let u : Option ℕ = lets_go m.move.act (state_of s t) in
+        let last = drops_last m.move.act (state_of s t) in
         let freed : Some (record { state = let_go next.state u; labels = next.labels }) ≡ Some next = ap (λ (q : Whole). (let x : Stepped = record { state = q; labels = next.labels } in Some x)) (none_released (length next.state.threads) next.state new m.did.state only m.typed u) in
         let is : step s t.number fresh.None ≡ Some next =
-        ap (step_of s fresh.None) found ∙ ap (moved s t fresh.None) m.is ∙ m.own s t ∙ ap (λ d. then_released u (stepped s t m.move d)) m.acts ∙ freed in
+        ap (step_of s fresh.None) found ∙ ap (moved s t fresh.None) m.is ∙ m.own s t ∙ ap (λ d. then_released last (stepped s t m.move d)) m.acts
+        ∙ ap (λ (q : Whole). (let x : Stepped = record { state = q; labels = next.labels } in Some x)) (release_tasks next.state y.neither.0 last) ∙ freed in
         let st2 : State = record m.did.state { thread = t.number } in
         let same : m.did.state ≡ st2 = ap (λ (n : ℕ). (let q : State = record m.did.state { thread = n } in q)) m.same in
-        record { next = next; is = is; typed = record { thread = new; only = only; life = subst (λ (q : State). IsTypedLife new.life q) same m.typed } }
+        record { next = next; is = is; typed = record { thread = new; only = only; neither = y.neither; life = subst (λ (q : State). IsTypedLife new.life q) same m.typed } }
 
     by : (l : Life) → t.life ≡ l → IsTypedLife l (state_of s t) → (t.life ≡ over) ⊎ Steps s t.number
     by over e z = inl e
@@ -205,6 +208,7 @@ starts_typed_lem at items k e a y =
     record {
       thread = record { number = 0; life = alive (settle (program t)); slots = [] };
       only = refl;
+      neither = (refl, refl);
       life = record {
         env = [];
         temp = None;

@@ -26,6 +26,8 @@ use Rattle.fr_store.proofs.ValueRows.{drop_row}
 use Rattle.fr_store.proofs.ListState.{at_hand as at_hand_key, at_slot, list_swap_slot, length_put_slot, Alike-then}
 use Rattle.fr_store.proofs.ListDrop.{drop_alike, drop_at, list_drop, list_drop_slot, put_slot_twice, slot_put_same}
 use Rattle.fr_plain.specs.declared.value.Value.{Value}
+use Rattle.fr_plain.specs.Heap.{task_of}
+use Rattle.fr_plain.specs.MachineActs.{end_of_some, where_reached}
 use Rattle.fr_plain.specs.State.{State, slot_at, with_slot, Spot, in_slot, in_cell, gone as gone_value, cell_of, with_value, Reached, then_reached, without, drop_value as drop_plain}
 use Rattle.fr_plain.specs.Acts.{do_assign, unit as unit_value, task_in, task_in_some, lets_go, act, assign_did}
 use Rattle.fr_sound.specs.RunTypes.{Puts, Writes, Turns, Assigns, to_own, to_lent, to_variable}
@@ -73,7 +75,7 @@ written_acts {beside = beside} {e = e} {st = st} {w = w} {v = v} {x = x} e1 y p 
     let owned = fits_owned beside.gives t x v (hand_fits y) in
     let low = y.low in
     let loss : lets_go (do_assign w v) st ≡ task_in (with_value st p.reached.spot v).heap p.value =
-    ap (λ r. then_reached r (λ r. task_in_some (with_value st r.spot v).heap (Rattle.fr_plain.specs.State.value_at st r.spot))) p.is ∙ ap (task_in_some (with_value st p.reached.spot v).heap) p.there in
+    ap (λ r. task_of (where_reached r (λ r. end_of_some (with_value st r.spot v).heap (Rattle.fr_plain.specs.State.value_at st r.spot)))) p.is ∙ ap (task_in_some (with_value st p.reached.spot v).heap) p.there in
     let dropped : Dropped beside e1 (with_value st p.reached.spot v) p.value =
     typed p.reached.spot p.value e1 y.high n (omega (arith, len, low)) f.3 s1 a (swapped st (Some v) w v p refl (λ q g. owned))
     (length_after st p.reached.spot v ∙ y.slots ∙ sym len) (known_swap (IsKnown beside.owed st.heap) tt s (hand_k t) (location_of t p.reached.spot) y.known) in

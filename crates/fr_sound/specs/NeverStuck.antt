@@ -34,6 +34,7 @@ IsTypedLife (ended v) st = ⊥
 pub record IsTyped (s : Whole) : Type 0 where
   pub thread : Thread
   pub only : s.threads ≡ thread ∷ []
+  pub neither : (s.mutexes ≡ []) × (s.pairs ≡ [])
   pub life : IsTypedLife thread.life (state_of s thread)
 
 -- a typed state after a step of that thread

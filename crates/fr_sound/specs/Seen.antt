@@ -14,7 +14,7 @@ use Rattle.fr_store.specs.Below.{tree_of}
 use Rattle.fr_store.specs.Local.{thread_of, IsLocal}
 use Rattle.fr_store.specs.Thread.{ThreadTyped}
 use Rattle.fr_plain.specs.declared.value.Value.{Value}
-use Rattle.fr_plain.specs.declared.value.Value.TheVariants.{Own, ToSlot, ToObject}
+use Rattle.fr_plain.specs.declared.value.Value.TheVariants.{Own, ToSlot, ToObject, Held}
 use Rattle.fr_plain.specs.Heap.{Heap, made_by, cell_at}
 use Rattle.fr_plain.specs.State.{State, Spot, in_slot, in_cell}
 
@@ -47,6 +47,7 @@ abbrev pub val_of : Gives → ℕ → Value → Val
 val_of g t (Own v) = owned_val g v
 val_of g t (ToSlot i) = ref_v (at_key (slot_k t i))
 val_of g t (ToObject o) = ref_v (at_object o)
+val_of g t (Held m) = gone_v
 
 abbrev pub vals : Gives → ℕ → List Value → List Val
 vals g t [] = []

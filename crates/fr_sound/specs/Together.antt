@@ -93,6 +93,10 @@ IsTypedIn g high E s t slots (owing r) = IsRunning g high E s t slots r (own (g 
 IsTypedIn g high E s t slots (loose r) = (k : Kind) × IsRunning g high E s t slots r k
 IsTypedIn g high E s t slots (ended v) = E (result_k t) ≡ owns (tree_of (g t))
 
+-- no mutex was made, and no thread waits for a pair: the forms that run today make none
+abbrev pub HasNeither : Whole → Type 0
+HasNeither s = (s.mutexes ≡ []) × (s.pairs ≡ [])
+
 -- all threads are typed over one typed store in which they share no memory, and a task that stands somewhere is that of a
 -- thread that goes on or whose result is kept, and stands nowhere else
 pub record AreTyped (s : Whole) : Type 0 where
@@ -103,6 +107,7 @@ pub record AreTyped (s : Whole) : Type 0 where
   pub local : IsLocal types
   pub known : AreKnown (IsKnown (owed_in s.threads) s.heap) (seen_all gives s)
   pub each : (t : ℕ) (x : Thread) → thread_at s.threads t ≡ Some x → IsTypedIn gives high types (seen_all gives s) t x.slots x.life
+  pub neither : HasNeither s
 
 -- THE LAWS
 

@@ -8,6 +8,7 @@ use Rattle.fr_base.specs.declared.label.Plain.{Plain}
 use Rattle.fr_base.specs.declared.label.Plain.TheVariants as plain
 use Rattle.fr_base.specs.declared.instruction.Instr.{Instr}
 use Rattle.fr_base.specs.declared.instruction.Instr.TheVariants as instr
+use Rattle.fr_plain.specs.MachineThreads.{Shared}
 use Rattle.heap_partition.specs.Plain.{plain_of}
 use Rattle.heap_partition.specs.declared.value.Owned.{Owned}
 use Rattle.heap_partition.specs.declared.value.Owned.TheVariants as owned
@@ -43,9 +44,8 @@ pub data PlainLife : Type 0 where
   taken : PlainLife
 
 -- a mutex with its content where that is in, and the number of its shares
-pub record PlainMutex : Type 0 where
-  pub content : Option Plain
-  pub shares : ℕ
+abbrev pub PlainMutex : Type 0
+PlainMutex = Shared
 
 -- the threads whose names were given, the objects, the mutexes that are there, and the names of mutexes that were given
 pub record PlainState : Type 0 where

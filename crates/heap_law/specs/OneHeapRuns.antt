@@ -1,6 +1,6 @@
 -- The one heap of a cluster along whole runs: after each event it is the state of the machine of compiled code under the order of the journal,
 -- which runs what starts and joins threads.
-use Rattle.std.specs.Prelude.{◌≡◌, ℕ, true, false, List, [], ◌∷◌, ◌++◌, length, map, Option, Some, None}
+use Rattle.std.specs.Prelude.{◌≡◌, ℕ, true, false, is_some, List, [], ◌∷◌, ◌++◌, length, map, Option, Some, None}
 use Rattle.fr_base.specs.declared.name.ObjNo.{ObjNo}
 use Rattle.fr_base.specs.declared.label.Label.{Label}
 use Rattle.fr_base.specs.declared.label.Plain.{Plain}
@@ -8,17 +8,17 @@ use Rattle.fr_base.specs.declared.label.Plain.TheVariants as plain
 use Rattle.fr_base.specs.declared.instruction.Instr.{Instr}
 use Rattle.fr_base.specs.declared.settings.Options.{Options}
 use Rattle.fr_plain.specs.declared.value.Value.{Value}
-use Rattle.fr_plain.specs.declared.value.Value.TheVariants.{Own, ToSlot, ToObject}
+use Rattle.fr_plain.specs.declared.value.Value.TheVariants.{Own, ToSlot, ToObject, Held}
 use Rattle.fr_plain.specs.Heap.{Heap, made_by, cell_at}
-use Rattle.fr_code.specs.Steps.{CodeLife, alive_at, owing_at, loose_at, result, gone}
-use Rattle.fr_code.specs.Machine.{CodeThread, CodeWhole, CodeStepped, code_thread, code_run, code_start}
+use Rattle.fr_plain.specs.MachineThreads.{alive, over, owing, loose, ended as result, mutex_at, mutex_there, thread_at}
+use Rattle.fr_code.specs.Machine.{CodeLife, CodeThread, CodeWhole, CodeStepped, code_run, code_start}
 use Rattle.journal.specs.Journals.{order, labels}
 use Rattle.server_model.specs.declared.event.Event.{Event}
 use Rattle.server_model.specs.Servers.{start_of}
 use Rattle.server_model.specs.Figures.{Ran, run_event, steps_of, deliver}
 use Rattle.server_model.specs.Programs.{with_servers, written_box, lent_slot, read_elsewhere, written_elsewhere, often_written, lent_box}
 use Rattle.server_model.specs.Rows.{reading_elsewhere, writing_elsewhere, moving}
-use Rattle.heap_law.specs.OneHeap.{PlainValue, own, to_slot, to_object, PlainLife, runs, ended, taken, PlainState, one_heap}
+use Rattle.heap_law.specs.OneHeap.{PlainValue, own, to_slot, to_object, held, PlainLife, runs, ended, taken, PlainState, one_heap}
 
 -- THE STATE OF THE CODE MACHINE
 
@@ -26,29 +26,30 @@ abbrev code_value : Value → PlainValue
 code_value (Own v) = own v
 code_value (ToSlot i) = to_slot i
 code_value (ToObject o) = to_object o
+code_value (Held m) = held m
 
 abbrev owned_value : Value → Plain
 owned_value (Own v) = v
 owned_value v = plain.Nothing
 
 abbrev code_life : Heap → ℕ → List Value → CodeLife → PlainLife
-code_life h t slots (alive_at pc ts) = runs pc (map code_value slots) (map code_value ts) (length (made_by h t)) false
-code_life h t slots (owing_at pc ts) = runs pc (map code_value slots) (map code_value ts) (length (made_by h t)) false
-code_life h t slots (loose_at pc ts) = runs pc (map code_value slots) (map code_value ts) (length (made_by h t)) true
+code_life h t slots (alive p) = runs p.pc (map code_value slots) (map code_value p.temps) (length (made_by h t)) false
+code_life h t slots (owing p) = runs p.pc (map code_value slots) (map code_value p.temps) (length (made_by h t)) false
+code_life h t slots (loose p) = runs p.pc (map code_value slots) (map code_value p.temps) (length (made_by h t)) true
 code_life h t slots (result v) = ended (owned_value v)
-code_life h t slots gone = taken
+code_life h t slots over = taken
 
 abbrev life_in : Heap → Option CodeThread → Option PlainLife
 life_in h None = None
 life_in h (Some y) = Some (code_life h y.number y.slots y.life)
 
--- a state of the machine without mutexes
+-- the plain state that a state of the machine is, name by name
 abbrev pub state_of_code : CodeWhole → PlainState
 state_of_code c = record {
-  thread = λ t. life_in c.heap (code_thread c.threads t);
+  thread = λ t. life_in c.heap (thread_at c.threads t);
   object = λ o. cell_at c.heap o;
-  mutex = λ m. None;
-  is_given = λ m. false;
+  mutex = λ m. mutex_there c.mutexes m;
+  is_given = λ m. is_some (mutex_at c.mutexes m);
 }
 
 -- WHAT IS SHOWN OF A STATE

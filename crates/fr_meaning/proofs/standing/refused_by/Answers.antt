@@ -5,7 +5,7 @@ use Rattle.fr_meaning.specs.PoolView.{error_of}
 use Rattle.fr_meaning.specs.Places.{place_of}
 use Rattle.fr_meaning.specs.Running.{plain_of}
 use Rattle.fr_meaning.specs.declared.frame.Frame.{Frame}
-use Rattle.fr_meaning.specs.Next.{IsNext}
+use Rattle.fr_meaning.specs.Next.{IsNext, thread_if}
 use Rattle.fr_meaning.proofs.StandLemmas.{refused_nowhere, refused_ended, refused_there}
 use Rattle.fr_meaning.proofs.StepFacts.{place_inside, given_place}
 use Rattle.fr_meaning.proofs.ThreadLists.{well_at}
@@ -46,5 +46,5 @@ returns c = λ fs a s. (
     let going = sym c.is_over.ensures ∙ c.if-is_over.false in
     let comes = subst (λ (gs : List Frame). IsNext x.focus gs c.next_of-next.result) c.deref.ensures.value c.next_of-next.ensures in
     c.refused_names.ensures (plain_of fs r) (λ u. given_place fs r.threads.items u ∙ ap (λ ns. is_some (place_of ns u)) (sym s.numbers))
-    ∙ ap (λ b. option_map error_of (refused_names (plain_of fs r) b c.args.fresh.now)) c.takes_name.ensures
+    ∙ ap (λ b. option_map error_of (refused_names (plain_of fs r) (thread_if b) c.args.fresh.now)) c.takes_name.ensures
     ∙ sym (refused_there fs r.threads.items r.heap.heap r.output.items c.args.thread c.args.fresh.now c.in-Some.at x c.next_of-next.result None a well place c.index-standing.ensures going comes (sym (c.wait_of.ensures fs) ∙ c.in_default-wait_of.is)))
