@@ -92,7 +92,7 @@ first_at o s k (e ∷ es) at h = by (λ a. first_at o a (suc k) es at) (entry_af
 
 pub first : FirstBreaks
 first o es at h = let f = first_at o start 0 es at h in let same : f.n ≡ at = omega (arith, f.is) in
-    record { before = subst (λ n. IsSome (journal_after o (take n es))) same f.before; with_it = subst (λ n. IsNone (journal_after o (take (suc n) es))) same f.with_it }
+    (subst (λ n. IsSome (journal_after o (take n es))) same f.before, subst (λ n. IsNone (journal_after o (take (suc n) es))) same f.with_it)
 
 -- a state is left where each entry has one
 pub legal_if : (o : Options) (es : List Entry) → IsSome (journal_after o es) → is_legal o es ≡ true

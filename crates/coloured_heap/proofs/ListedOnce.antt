@@ -1,6 +1,7 @@
 -- Nothing stands twice in the lists of a state.
 use Rattle.std.proofs.Common.{arith, ◌≡◌, ◌≤◌, ◌==◌, ◌&&◌, ℕ, true, false, List, [], ◌∷◌, Option, Some, None, refl, sym, ap, ◌∙◌}
 use Rattle.std.specs.Prelude.{is_some, is_none}
+use Rattle.fr_base.specs.Names.{home_of}
 use Rattle.fr_base.specs.declared.name.MutexNo.{MutexNo}
 use Rattle.fr_base.specs.declared.name.ObjNo.{ObjNo}
 use Rattle.fr_base.specs.declared.settings.Options.{Options}
@@ -11,7 +12,7 @@ use Rattle.journal.specs.declared.act.Act.{Act}
 use Rattle.journal.specs.declared.act.Act.TheVariants as act
 use Rattle.journal.specs.declared.entry.Entry.{Entry}
 use Rattle.coloured_heap.specs.Lists.{less_all, with_each}
-use Rattle.coloured_heap.specs.Heap.{Lies, Living, Running, Guarded, Copied, Coloured, start, home_of, is_object, is_thread, is_mutex, is_under, object_at, thread_at, mutex_at, next_served}
+use Rattle.coloured_heap.specs.Heap.{Lies, Living, Running, Guarded, Copied, Coloured, start, is_object, is_thread, is_mutex, is_under, object_at, thread_at, mutex_at, next_served}
 use Rattle.coloured_heap.specs.Rules.{issued_by, is_new, is_by, rule, allows, starting_server}
 use Rattle.coloured_heap.specs.Changes.{made_value, with_copy, after_act, with_new_mutex}
 use Rattle.coloured_heap.specs.Legal.{is_new_name}

@@ -1,11 +1,12 @@
 -- Sums over kinds, entries and acts in any order.
 use Rattle.std.proofs.Common.{arith, ◌≡◌, ◌+◌, ◌==◌, ◌&&◌, ℕ, Bool, true, false, List, [], ◌∷◌, Option, Some, None, refl, sym, ◌∙◌}
+use Rattle.fr_base.specs.Lists.{tot, one}
 use Rattle.fr_base.specs.Kinds.{kind_number}
 use Rattle.fr_base.specs.declared.message.Kind.{Kind}
 use Rattle.fr_base.specs.declared.message.Kind.TheVariants as kind
 use Rattle.journal.specs.declared.act.Act.{Act}
 use Rattle.journal.specs.declared.entry.Entry.{Entry}
-use Rattle.coloured_heap.specs.Lists.{holds, tot, one}
+use Rattle.coloured_heap.specs.Lists.{holds}
 use Rattle.coloured_heap.specs.Sends.{Sending, sends, leaves, counts}
 use Rattle.coloured_heap.specs.Figures.{kinds}
 use Rattle.coloured_heap.specs.Laws.{KindsAddUp}

@@ -2,9 +2,11 @@
 use Rattle.std.proofs.Common.{arith, ◌≡◌, ◌≢◌, ◌⊎◌, inl, inr, ◌+◌, ◌≤◌, ◌==◌, ◌&&◌, not, ℕ, Bool, true, false, List, [], ◌∷◌, Some, refl, sym, ap, ◌∙◌}
 use Rattle.std.specs.Prelude.{if◌then◌else◌, is_some}
 use Rattle.std.proofs.lemmas.Bool.Decides.{eqb_tells}
+use Rattle.fr_base.specs.Lists.{one}
+use Rattle.fr_base.specs.Names.{same_object, same_mutex}
 use Rattle.fr_base.specs.declared.name.MutexNo.{MutexNo}
 use Rattle.fr_base.specs.declared.name.ObjNo.{ObjNo}
-use Rattle.coloured_heap.specs.Lists.{first, less_all, with_each, one, same_object, same_mutex}
+use Rattle.coloured_heap.specs.Lists.{first, less_all, with_each}
 use Rattle.coloured_heap.specs.Laws.{times}
 
 -- TESTS

@@ -1,5 +1,6 @@
 -- What an act changes, and what the stores and the new mutex of an entry change (this project's rule).
 use Rattle.std.specs.Prelude.{ℕ, true, false, List, [], ◌∷◌, ◌++◌, Option, Some, None, if◌then◌else◌}
+use Rattle.fr_base.specs.Names.{same_object}
 use Rattle.fr_base.specs.declared.name.ObjNo.{ObjNo}
 use Rattle.fr_base.specs.declared.name.MutexNo.{MutexNo}
 use Rattle.fr_base.specs.declared.label.Plain.{Plain}
@@ -11,7 +12,7 @@ use Rattle.fr_base.specs.declared.step.Fresh.TheVariants as fresh
 use Rattle.journal.specs.declared.act.Act.{Act}
 use Rattle.journal.specs.declared.act.Act.TheVariants as act
 use Rattle.journal.specs.declared.entry.Entry.{Entry}
-use Rattle.coloured_heap.specs.Lists.{less_first, less_all, with_each, same_object}
+use Rattle.coloured_heap.specs.Lists.{less_first, less_all, with_each}
 use Rattle.coloured_heap.specs.Heap.{Lies, Flies, Living, Copied, Wish, ForCopy, ForObject, ForContent, ForShare, ForResult, Running, Coloured, is_thread, is_object, value_of, is_under, is_copy, next_served, same_wish, is_mutex}
 use Rattle.coloured_heap.specs.Rules.{issued_by}
 

@@ -1,12 +1,13 @@
 -- What the drivers keep to (this project's rule): a copy is evicted where the cache holds more than its share, and a thread does a plain
 -- step between two moves.
 use Rattle.std.specs.Prelude.{ℕ, Bool, true, not, ◌&&◌, ◌==◌, nat_lt, List, [], ◌∷◌, ◌++◌, Option, Some}
+use Rattle.fr_base.specs.Lists.{tot, one}
 use Rattle.fr_base.specs.declared.step.Fresh.{Fresh}
 use Rattle.fr_base.specs.declared.settings.Options.{Options}
 use Rattle.journal.specs.declared.act.Act.{Act}
 use Rattle.journal.specs.declared.act.Act.TheVariants as act
 use Rattle.journal.specs.declared.entry.Entry.{Entry}
-use Rattle.coloured_heap.specs.Lists.{holds, has, less_all, tot, one}
+use Rattle.coloured_heap.specs.Lists.{holds, has, less_all}
 use Rattle.coloured_heap.specs.Heap.{Coloured, start}
 use Rattle.coloured_heap.specs.Changes.{after_act}
 use Rattle.coloured_heap.specs.Legal.{entry_after}

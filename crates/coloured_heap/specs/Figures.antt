@@ -1,11 +1,12 @@
 -- What a report counts of a journal (this project's rule).
 use Rattle.std.specs.Prelude.{ℕ, Bool, true, false, not, ◌&&◌, List, [], ◌∷◌, length, map, is_some, is_none}
+use Rattle.fr_base.specs.Lists.{tot, one}
 use Rattle.fr_base.specs.declared.message.Kind.{Kind}
 use Rattle.fr_base.specs.declared.message.Kind.TheVariants as kind
 use Rattle.journal.specs.declared.act.Act.{Act}
 use Rattle.journal.specs.declared.act.Act.TheVariants as act
 use Rattle.journal.specs.declared.entry.Entry.{Entry}
-use Rattle.coloured_heap.specs.Lists.{has, tot, one}
+use Rattle.coloured_heap.specs.Lists.{has}
 use Rattle.coloured_heap.specs.Rules.{issued_by}
 use Rattle.coloured_heap.specs.Sends.{count, messages}
 

@@ -1,11 +1,12 @@
 -- The coloured heap: the shared memory as the acts of a journal leave it (in the manner of DRust, OSDI 2024: objects that lie at
 -- one server each, named by coloured words, and copies elsewhere; the state is this project's).
-use Rattle.std.specs.Prelude.{ℕ, ◌/◌, ◌%◌, ◌^◌, Bool, false, ◌&&◌, ◌==◌, List, [], ◌∷◌, Option, Some, None}
+use Rattle.std.specs.Prelude.{ℕ, Bool, false, ◌&&◌, ◌==◌, List, [], ◌∷◌, Option, Some, None}
+use Rattle.fr_base.specs.Names.{same_object, same_mutex}
 use Rattle.fr_base.specs.declared.name.ObjNo.{ObjNo}
 use Rattle.fr_base.specs.declared.name.MutexNo.{MutexNo}
 use Rattle.fr_base.specs.declared.label.Plain.{Plain}
 use Rattle.fr_base.specs.declared.label.Plain.TheVariants as plain
-use Rattle.coloured_heap.specs.Lists.{first, has, same_object, same_mutex}
+use Rattle.coloured_heap.specs.Lists.{first, has}
 
 -- where a live object is: it lies at a server, or it is on its way to one
 pub data Place : Type 0 where
@@ -78,13 +79,6 @@ start = record {
 }
 
 -- THREADS
-
--- the server that started a thread, which is its home, and the thread's count there
-abbrev pub home_of : ℕ → ℕ
-home_of t = t / 2 ^ 32
-
-abbrev pub count_of : ℕ → ℕ
-count_of t = t % 2 ^ 32
 
 abbrev pub is_thread : ℕ → Running → Bool
 is_thread t r = r.thread == t

@@ -1,5 +1,6 @@
 -- What holds of all journals.
 use Rattle.std.specs.Prelude.{◌≡◌, ◌↔◌, ℕ, suc, ◌≤◌, ◌==◌, Bool, true, ◌++◌, List, take, Some, None, IsSome, IsNone}
+use Rattle.fr_base.specs.Lists.{tot, one}
 use Rattle.fr_base.specs.declared.label.Label.{Label}
 use Rattle.fr_base.specs.declared.name.MutexNo.{MutexNo}
 use Rattle.fr_base.specs.declared.name.ObjNo.{ObjNo}
@@ -7,7 +8,6 @@ use Rattle.fr_base.specs.declared.settings.Options.{Options}
 use Rattle.journal.specs.declared.act.Act.{Act}
 use Rattle.journal.specs.declared.act.Act.TheVariants as act
 use Rattle.journal.specs.declared.entry.Entry.{Entry}
-use Rattle.coloured_heap.specs.Lists.{tot, one}
 use Rattle.coloured_heap.specs.Heap.{Living, Running, Guarded, Copied, Coloured, is_object, is_thread, is_mutex, is_under}
 use Rattle.coloured_heap.specs.Changes.{stored}
 use Rattle.coloured_heap.specs.Legal.{acts_after, onward, journal_from, journal_after, first_illegal, is_legal}
@@ -43,13 +43,9 @@ StoresGoOn = (ls ms : List Label) (s : Coloured) → stored (ls ++ ms) s ≡ sto
 abbrev pub LegalHasState : Type 0
 LegalHasState = (o : Options) (es : List Entry) → (first_illegal o es ≡ None) ↔ IsSome (journal_after o es)
 
--- the first entry that breaks a rule: the entries before it are legal, and with it they aren't
-pub record IsFirst (o : Options) (es : List Entry) (at : ℕ) : Type 0 where
-  pub before : IsSome (journal_after o (take at es))
-  pub with_it : IsNone (journal_after o (take (suc at) es))
-
+-- before the first entry that breaks a rule there is a state, and with it there is none
 abbrev pub FirstBreaks : Type 0
-FirstBreaks = (o : Options) (es : List Entry) (at : ℕ) → first_illegal o es ≡ Some at → IsFirst o es at
+FirstBreaks = (o : Options) (es : List Entry) (at : ℕ) → first_illegal o es ≡ Some at → IsSome (journal_after o (take at es)) × IsNone (journal_after o (take (suc at) es))
 
 -- how many items of a list pass a test
 abbrev pub times : {A : Type 0} → (A → Bool) → List A → ℕ

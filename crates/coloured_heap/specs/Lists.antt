@@ -1,10 +1,5 @@
--- Words about lists and names that compute by cases.
-use Rattle.std.specs.Prelude.{ℕ, ◌+◌, Bool, true, false, ◌&&◌, ◌==◌, List, [], ◌∷◌, Option, Some, None, if◌then◌else◌}
-use Rattle.std.specs.Ordering.{int_eq}
-use Rattle.fr_base.specs.declared.name.ObjNo.{ObjNo}
-use Rattle.fr_base.specs.declared.name.MutexNo.{MutexNo}
-use Rattle.fr_base.specs.declared.label.Plain.{Plain}
-use Rattle.fr_base.specs.declared.label.Plain.TheVariants as plain
+-- Words about lists that compute by cases.
+use Rattle.std.specs.Prelude.{Bool, true, false, List, [], ◌∷◌, Option, Some, None, if◌then◌else◌}
 
 -- the first item that passes the test
 abbrev pub first : {A : Type 0} → (A → Bool) → List A → Option A
@@ -34,26 +29,3 @@ less_all test (x ∷ xs) = if test x then less_all test xs else x ∷ less_all t
 abbrev pub with_each : {A : Type 0} → (A → Bool) → (A → A) → List A → List A
 with_each test f [] = []
 with_each test f (x ∷ xs) = (if test x then f x else x) ∷ with_each test f xs
-
--- the sum over a list
-abbrev pub tot : {A : Type 0} → (A → ℕ) → List A → ℕ
-tot f [] = 0
-tot f (x ∷ xs) = f x + tot f xs
-
-abbrev pub one : Bool → ℕ
-one b = if b then 1 else 0
-
-abbrev pub same_object : ObjNo → ObjNo → Bool
-same_object p q = (p.thread == q.thread) && (p.count == q.count)
-
-abbrev pub same_mutex : MutexNo → MutexNo → Bool
-same_mutex m n = (m.home == n.home) && (m.count == n.count)
-
-abbrev pub same_plain : Plain → Plain → Bool
-same_plain plain.Nothing plain.Nothing = true
-same_plain plain.Unit plain.Unit = true
-same_plain (plain.Int m) (plain.Int n) = int_eq m n
-same_plain (plain.Box p) (plain.Box q) = same_object p q
-same_plain (plain.Mutex m) (plain.Mutex n) = same_mutex m n
-same_plain (plain.Task t) (plain.Task u) = t == u
-same_plain _ _ = false

@@ -1,12 +1,13 @@
 -- What a plain step loads and stores is reached (this project's rule): a load finds the object's value, where the object lies here or
 -- where a copy of that value is cached here under the object's word; a store finds the object here.
 use Rattle.std.specs.Prelude.{ℕ, Bool, true, ◌&&◌, ◌||◌, List, [], ◌∷◌}
+use Rattle.fr_base.specs.Names.{same_plain}
 use Rattle.fr_base.specs.declared.label.Plain.{Plain}
 use Rattle.fr_base.specs.declared.label.Label.{Label}
 use Rattle.fr_base.specs.declared.label.Label.TheVariants as label
 use Rattle.fr_base.specs.declared.settings.Options.{Options}
 use Rattle.journal.specs.declared.entry.Entry.{Entry}
-use Rattle.coloured_heap.specs.Lists.{holds, same_plain}
+use Rattle.coloured_heap.specs.Lists.{holds}
 use Rattle.coloured_heap.specs.Heap.{Living, Coloured, start, object_at, lies_at, copy_at}
 use Rattle.coloured_heap.specs.Rules.{is_here}
 use Rattle.coloured_heap.specs.Changes.{with_value}

@@ -1,17 +1,16 @@
 -- The rules of the acts (this project's). 'Here' is the server of the act's entry. Each rule is asked of the state that the acts
 -- before it in its entry leave; the values are those before the entry's stores.
 use Rattle.std.specs.Prelude.{ℕ, ◌+◌, ◌%◌, Bool, true, not, ◌&&◌, ◌==◌, nat_lt, Option, Some, None, is_some, is_none}
+use Rattle.fr_base.specs.Names.{home_of, count_of, released_home}
 use Rattle.fr_base.specs.declared.name.ObjNo.{ObjNo}
 use Rattle.fr_base.specs.declared.name.MutexNo.{MutexNo}
-use Rattle.fr_base.specs.declared.release.Released.{Released}
-use Rattle.fr_base.specs.declared.release.Released.TheVariants as released
 use Rattle.fr_base.specs.declared.settings.Options.{Options}
 use Rattle.global_addr.specs.Words.{colour_of, server_of, next_word}
 use Rattle.journal.specs.declared.act.Act.{Act}
 use Rattle.journal.specs.declared.act.Act.TheVariants as act
 use Rattle.journal.specs.declared.entry.Entry.{Entry}
 use Rattle.coloured_heap.specs.Lists.{holds}
-use Rattle.coloured_heap.specs.Heap.{is_issued, Guarded, Coloured, ForCopy, ForObject, ForContent, ForShare, ForResult, home_of, count_of, thread_at, object_at, lies_at, flies_to, is_cached, next_served, is_wished, mutex_at}
+use Rattle.coloured_heap.specs.Heap.{is_issued, Guarded, Coloured, ForCopy, ForObject, ForContent, ForShare, ForResult, thread_at, object_at, lies_at, flies_to, is_cached, next_served, is_wished, mutex_at}
 
 -- NEW WORDS
 
@@ -56,11 +55,6 @@ of_run o server = nat_lt server o.servers
 -- the entry's thread is t
 abbrev pub is_by : Entry → ℕ → Bool
 is_by e t = holds (λ u. u == t) e.thread
-
--- where a mutex value or a task is counted
-abbrev pub released_home : Released → ℕ
-released_home (released.Mutex m) = m.home
-released_home (released.Task t) = home_of t
 
 abbrev pub is_over : Coloured → ℕ → Bool
 is_over s t = holds (λ r. r.has_ended) (thread_at s t)

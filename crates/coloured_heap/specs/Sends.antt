@@ -1,5 +1,7 @@
 -- Which message an act sends, and how many messages a journal's acts send (this project's rule).
 use Rattle.std.specs.Prelude.{ℕ, Bool, true, not, ◌&&◌, ◌==◌, List, Option, Some, None}
+use Rattle.fr_base.specs.Lists.{tot, one}
+use Rattle.fr_base.specs.Names.{home_of, released_home}
 use Rattle.fr_base.specs.declared.message.Kind.{Kind}
 use Rattle.fr_base.specs.declared.message.Kind.TheVariants as kind
 use Rattle.fr_base.specs.Kinds.{kind_number}
@@ -7,9 +9,7 @@ use Rattle.global_addr.specs.Words.{server_of}
 use Rattle.journal.specs.declared.act.Act.{Act}
 use Rattle.journal.specs.declared.act.Act.TheVariants as act
 use Rattle.journal.specs.declared.entry.Entry.{Entry}
-use Rattle.coloured_heap.specs.Lists.{holds, tot, one}
-use Rattle.coloured_heap.specs.Heap.{home_of}
-use Rattle.coloured_heap.specs.Rules.{released_home}
+use Rattle.coloured_heap.specs.Lists.{holds}
 
 -- a message's kind, and the server that it goes to
 pub record Sending : Type 0 where

@@ -3,3 +3,5 @@ pub mod Captures
 pub mod Code
 pub mod Waits
 pub mod Kinds
+pub mod Lists
+pub mod Names

@@ -1,6 +1,7 @@
 -- The state of the plain machine over one heap: threads, mutexes and pairs of threads, and what goes with a dropped value (this
 -- project's rules). P is the place of a thread in its program: a running term, or a place in a code with temporary values.
 use Rattle.std.specs.Prelude.{ℕ, ℤ, zero, suc, Bool, true, false, is_some, ◌==◌, ◌&&◌, List, [], ◌∷◌, length, Option, Some, None, if◌then◌else◌}
+use Rattle.fr_base.specs.Names.{same_mutex}
 use Rattle.fr_base.specs.declared.label.Plain.{Plain}
 use Rattle.fr_base.specs.declared.label.Plain.TheVariants as plain
 use Rattle.fr_base.specs.declared.name.MutexNo.{MutexNo}
@@ -124,9 +125,6 @@ pub record Whole (P : Type 0) : Type 0 where
   pub output : List ℤ
 
 -- MUTEXES
-
-abbrev pub same_mutex : MutexNo → MutexNo → Bool
-same_mutex m n = m.home == n.home && m.count == n.count
 
 -- None where the name wasn't given
 abbrev pub mutex_at : List Mutex → MutexNo → Option Mutex

@@ -1,6 +1,6 @@
 -- Keys: where a value stands that is no object. Objects have names of their own.
 use Rattle.std.specs.Prelude.{ℕ, Bool, false, ◌&&◌, ◌==◌}
-use Rattle.fr_base.specs.declared.name.ObjNo.{ObjNo}
+pub use Rattle.fr_base.specs.Names.{same_object}
 
 -- a thread's slot of that number (this project's rule: threads), a temporary value of its code, the content of a mutex,
 -- the result of a thread that has ended, and a thread's hand: the one value in its running term. Threads are numbers
@@ -19,7 +19,3 @@ same_key (content_k t n) (content_k u m) = t == u && n == m
 same_key (result_k t) (result_k u) = t == u
 same_key (hand_k t) (hand_k u) = t == u
 same_key _ _ = false
-
--- whether two objects are the same
-abbrev pub same_object : ObjNo → ObjNo → Bool
-same_object o q = o.thread == q.thread && o.count == q.count

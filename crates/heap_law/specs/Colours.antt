@@ -9,7 +9,7 @@ use Rattle.join_home.specs.Tasks.{TaskState, asked}
 use Rattle.server_msgs.specs.declared.message.Message.{Message}
 use Rattle.server_msgs.specs.declared.message.Message.TheVariants.{Fetch, Fetched, Move, Moved, Lock, Granted, Dup, Join}
 use Rattle.server_model.specs.Servers.{Cluster}
-use Rattle.coloured_heap.specs.Lists.{same_plain}
+use Rattle.fr_base.specs.Names.{same_plain}
 use Rattle.coloured_heap.specs.Heap.{Place, Lies, Flies, Living, Copied, Wish, ForCopy, ForObject, ForContent, ForShare, ForResult, Running, Coloured, object_at, copy_at, thread_at, same_wish, mutex_at}
 use Rattle.heap_law.specs.Names.{tot, one, some, same_object, same_mutex, is_in}
 use Rattle.heap_law.specs.Things.{Thing, lies, copied, sent, locks, at_home, queued, noted}

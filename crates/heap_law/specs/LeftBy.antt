@@ -1,9 +1,7 @@
 -- LEFT BY: a cluster is what a journal leaves (this project's rule).
-use Rattle.std.specs.Prelude.{◌≡◌, ℕ, ◌+◌, Bool, true, false, List, [], ◌∷◌, Option, Some, None}
+use Rattle.std.specs.Prelude.{◌≡◌, ℕ, ◌+◌, true, List, Option, Some}
 use Rattle.fr_base.specs.declared.label.Label.{Label}
 use Rattle.fr_base.specs.declared.step.Fresh.{Fresh}
-use Rattle.journal.specs.declared.act.Act.{Act}
-use Rattle.journal.specs.declared.act.Act.TheVariants as act
 use Rattle.journal.specs.declared.entry.Entry.{Entry}
 use Rattle.journal.specs.Journals.{order, labels}
 use Rattle.server_model.specs.Servers.{Cluster}
@@ -11,7 +9,8 @@ use Rattle.coloured_heap.specs.Heap.{Coloured}
 use Rattle.coloured_heap.specs.Legal.{journal_after}
 use Rattle.coloured_heap.specs.Reach.{is_all_reached}
 use Rattle.coloured_heap.specs.Sends.{all_messages}
-use Rattle.heap_law.specs.Names.{tot, other}
+use Rattle.coloured_heap.specs.Figures as figures
+use Rattle.heap_law.specs.Names.{tot}
 use Rattle.heap_law.specs.Things.{Thing, sent}
 use Rattle.heap_law.specs.Sight.{Sight, sight}
 use Rattle.heap_law.specs.Naming.{events_of}
@@ -43,22 +42,6 @@ is_message x = 0
 abbrev pub messages_of : Sight → ℕ
 messages_of s = tot is_message s.things
 
-abbrev has_evict : List Act → Bool
-has_evict [] = false
-has_evict (act.Evict w ∷ rest) = true
-has_evict (a ∷ rest) = has_evict rest
-
-abbrev delivers : Option ℕ → List Act → ℕ
-delivers (Some t) acts = 0
-delivers None acts = other (has_evict acts)
-
--- the deliveries among entries: those that name no thread and evict nothing
-abbrev pub deliveries : List Entry → ℕ
-deliveries es = tot (λ e. delivers e.thread e.acts.items) es
-
-abbrev pub entry_count : List Entry → ℕ
-entry_count es = tot (λ (e : Entry). 1) es
-
 -- the cluster is left by the journal under a plain run of its program
 pub record LeftBy (run : PlainRun) (k : Cluster) (es : List Entry) : Type 0 where
   -- the plain run under the journal's order is there; its state is the cluster's one heap, and its labels are the journal's
@@ -68,6 +51,6 @@ pub record LeftBy (run : PlainRun) (k : Cluster) (es : List Entry) : Type 0 wher
   -- the journal is legal, and leaves the cluster's coloured heap
   pub coloured : LeavesColoured k es
   -- the cluster has done as many events as the journal has entries
-  pub events : events_of (sight k) ≡ entry_count es
+  pub events : events_of (sight k) ≡ figures.events es
   -- the messages that wait or are on their way, and the deliveries, are together as many as the acts of the journal send, those within one server too
-  pub messages : messages_of (sight k) + deliveries es ≡ all_messages es
+  pub messages : messages_of (sight k) + figures.deliveries es ≡ all_messages es

@@ -16,13 +16,14 @@ use Rattle.coloured_heap.specs.Heap.{Living, Copied, Running, Guarded, Coloured,
 use Rattle.coloured_heap.specs.Legal.{journal_after}
 use Rattle.coloured_heap.specs.Reach.{is_all_reached}
 use Rattle.coloured_heap.specs.Sends.{all_messages}
+use Rattle.coloured_heap.specs.Figures as figures
 use Rattle.heap_law.specs.Names.{tot, one, is_in}
 use Rattle.heap_law.specs.Things.{Thing, sent}
 use Rattle.heap_law.specs.Sight.{Sight, sight, issued}
 use Rattle.heap_law.specs.Naming.{events_of}
 use Rattle.heap_law.specs.OneHeap.{is_given_thread}
 use Rattle.heap_law.specs.Colours.{living_of, copy_of, same_copied, served_of, wishes_of, all_wishes, running_of, holder_of, is_mutex_there}
-use Rattle.heap_law.specs.LeftBy.{messages_of, deliveries, entry_count}
+use Rattle.heap_law.specs.LeftBy.{messages_of}
 use Rattle.heap_law.specs.OneHeapRuns.{along, starts}
 
 -- what is shown of a coloured heap
@@ -101,8 +102,8 @@ show_state r s c = record {
   served = tot (λ x. 1) c.served ∷ map (λ x. tot (λ y. one (same_copied x y)) c.served) c.served;
   wishes = tot (λ x. 1) c.wishes ∷ map (λ x. tot (λ y. one (same_wish x y)) c.wishes) c.wishes;
   reached = is_all_reached r.cluster.options r.journal;
-  events = entry_count r.journal;
-  messages = all_messages r.journal - deliveries r.journal;
+  events = figures.events r.journal;
+  messages = all_messages r.journal - figures.deliveries r.journal;
 }
 
 abbrev pub cluster_side : Ran → Option Coloured → List Shown

@@ -1,5 +1,6 @@
 -- Which place the next instruction of a thread follows, and how: which pointers it reads, which it writes through (this project's rules).
 use Rattle.std.specs.Prelude.{ℕ, zero, suc, ◌-◌, ◌==◌, Bool, true, false, not, ◌&&◌, ◌||◌, if◌then◌else◌, List, [], ◌∷◌, ◌++◌, Option, Some, None, slice_get}
+use Rattle.fr_base.specs.Lists.{last_of}
 use Rattle.fr_base.specs.declared.name.ObjNo.{ObjNo}
 use Rattle.fr_base.specs.declared.place.Lval.{Lval}
 use Rattle.fr_base.specs.declared.instruction.Operand.{Operand}
@@ -14,12 +15,6 @@ use Rattle.thread_state.specs.declared.value.Value.{Value}
 use Rattle.thread_state.specs.declared.value.Value.TheVariants as value
 use Rattle.heap_law.specs.Names.{is_in}
 use Rattle.heap_law.specs.Follow.{Ground, hops}
-
--- the last element: the last slot, or the temporary value on top
-abbrev pub last : {A : Type 0} → List A → Option A
-last [] = None
-last (x ∷ []) = Some x
-last (x ∷ y ∷ xs) = last (y ∷ xs)
 
 -- what an instruction does with the pointers of a place. `reads` reads all its stars. `shares` and `lends` read up to the pointer
 -- that is borrowed; a shared borrow cleans it where it is a dirty reference, a mutable one has its object come here. `writes`
@@ -54,13 +49,13 @@ path_of (Some (instr.Lock w)) t = reads w
 path_of (Some (instr.Borrow w)) t = shares w
 path_of (Some (instr.BorrowMut w)) t = lends w
 path_of (Some (instr.Assign w o)) t = assigning t.slots w w.depth
-path_of (Some instr.DropSlot) t = ending (last t.slots)
-path_of (Some instr.Discard) t = ending (last t.temps)
+path_of (Some instr.DropSlot) t = ending (last_of t.slots)
+path_of (Some instr.Discard) t = ending (last_of t.temps)
 path_of i t = no_path
 
 -- the operand of a join
 abbrev popped : Operand → List Value → Option Value
-popped operand.Pop ts = last ts
+popped operand.Pop ts = last_of ts
 popped o ts = None
 
 abbrev task_in : Option Value → Option ℕ

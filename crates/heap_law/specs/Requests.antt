@@ -1,10 +1,10 @@
 -- REQUESTS: what a waiting thread will be answered by, and what messages carry and where they go (this project's rules). Each
 -- function counts what breaks the sentence above it.
 use Rattle.std.specs.Prelude.{ℕ, zero, suc, ◌+◌, ◌/◌, ◌%◌, ◌^◌, ◌==◌, nat_lt, Bool, true, false, not, ◌&&◌, Option, Some, None, is_some}
+use Rattle.fr_base.specs.Names.{released_home}
+pub use Rattle.fr_base.specs.Names.{home_of}
 use Rattle.fr_base.specs.declared.name.ObjNo.{ObjNo}
 use Rattle.fr_base.specs.declared.name.MutexNo.{MutexNo}
-use Rattle.fr_base.specs.declared.release.Released.{Released}
-use Rattle.fr_base.specs.declared.release.Released.TheVariants as released
 use Rattle.fr_base.specs.declared.instruction.Instr.{Instr}
 use Rattle.fr_base.specs.declared.instruction.Instr.TheVariants as instr
 use Rattle.fr_base.specs.declared.place.Lval.{Lval}
@@ -36,9 +36,6 @@ waits (phase.WaitDup m) = true
 waits (phase.WaitJoin t) = true
 waits (phase.WaitPar a b) = true
 waits p = false
-
-abbrev pub home_of : ℕ → ℕ
-home_of t = t / 2 ^ 32
 
 -- what will answer a thread: which thread, and whether it is a half of that thread's pair
 pub data Answer : Type 0 where
@@ -174,10 +171,6 @@ in_server r (Some x) = x.server == r
 
 abbrev stands_at : Sight → ℕ → ℕ → Bool
 stands_at s t r = in_server r (thread_at s.ground.threads t)
-
-abbrev released_home : Released → ℕ
-released_home (released.Mutex m) = m.home
-released_home (released.Task t) = home_of t
 
 -- where a request, a `drop`, a release, a result or a new thread goes; the others go to a thread, or anywhere
 abbrev goal : ℕ → Message → Option ℕ

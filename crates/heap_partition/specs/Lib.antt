@@ -1,3 +1,4 @@
 pub mod Cells
 pub mod Plain
+pub mod Same
 pub mod View

@@ -1,7 +1,7 @@
 -- Cached copies (in the manner of DRust; that a copy in use stays, and the order of copies, are this project's rules).
 use Rattle.std.specs.Prelude.{ℕ, ◌+◌, ◌-◌, ◌^◌, Bool, true, ◌==◌, ◌&&◌, nat_lt, if◌then◌else◌, List, [], ◌∷◌, Option, Some, None, is_some}
 use Rattle.heap_partition.specs.declared.value.Cell.{Cell}
-use Rattle.read_cache.specs.Same.{same_cell}
+use Rattle.heap_partition.specs.Same.{same_cell}
 
 -- a copy of an object's cell under the word that it was served for, and how many walks and pinned references use it
 pub record Copy : Type 0 where

@@ -1,3 +1,2 @@
 pub mod Cache
-pub mod Same
 pub mod Computes

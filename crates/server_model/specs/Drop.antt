@@ -1,6 +1,7 @@
 -- Letting values go (this project's rules): a dropped box sends `drop` to the server of its word, and a dropped mutex value or task
 -- `release` to its home. What a box holds goes when that message is delivered.
 use Rattle.std.specs.Prelude.{ℕ, ◌/◌, ◌^◌, Bool, true, false, if◌then◌else◌, List, [], ◌∷◌, Option, Some, None}
+pub use Rattle.fr_base.specs.Names.{home_of}
 use Rattle.fr_base.specs.declared.label.Label.{Label}
 use Rattle.fr_base.specs.declared.label.Label.TheVariants as label
 use Rattle.fr_base.specs.declared.release.Released.TheVariants as released
@@ -17,10 +18,6 @@ use Rattle.server_msgs.specs.declared.message.Message.TheVariants as message
 use Rattle.journal.specs.declared.act.Act.TheVariants as act
 use Rattle.server_model.specs.Work.{Work, Hand, send, note, label_all, with_cache, working}
 use Rattle.server_model.specs.Places.{Spot, set_pointer}
-
--- the server that started a thread
-abbrev pub home_of : ℕ → ℕ
-home_of t = t / 2 ^ 32
 
 -- an owned value goes, and its owner's server tells whoever has what it leads to
 abbrev pub let_go : Owned → Work → Work

@@ -1,6 +1,8 @@
 -- A server in the middle of an event: what the event has done so far (this project's rules). The functions are small, and the
 -- server's code has one of the same name for each.
 use Rattle.std.specs.Prelude.{ℕ, ◌-◌, ◌^◌, ◌==◌, ◌&&◌, Bool, true, false, nat_lt, is_some, if◌then◌else◌, List, [], ◌∷◌, ◌++◌, length, take, remove, Option, Some, None, slice_get}
+use Rattle.fr_base.specs.Lists.{is_in}
+pub use Rattle.fr_base.specs.Lists.{last_of}
 use Rattle.fr_base.specs.declared.label.Label.{Label}
 use Rattle.fr_base.specs.declared.instruction.Operand.{Operand}
 use Rattle.fr_base.specs.declared.instruction.Operand.TheVariants as operand
@@ -139,10 +141,6 @@ with_phase p h = record h { thread = record h.thread { phase = p } }
 
 -- SLOTS AND TEMPORARY VALUES
 
--- the last item of a list, and the list without it
-abbrev pub last_of : {X : Type 0} → List X → Option X
-last_of xs = slice_get xs (length xs - 1)
-
 -- all but the last item
 abbrev pub front_of : {X : Type 0} → List X → List X
 front_of xs = take (length xs - 1) xs
@@ -180,11 +178,6 @@ pop operand.Pop h go = then_some (last_of h.thread.temps) (λ v. go v (with_temp
 
 -- USES OF CACHED WORDS
 
--- the word is one of these
-abbrev pub is_word_in : List ℕ → ℕ → Bool
-is_word_in [] w = false
-is_word_in (x ∷ xs) w = if x == w then true else is_word_in xs w
-
 -- a word that isn't in the walk is used
 abbrev pub used_once : ℕ → Bool → Hand → Option Hand
 used_once w true h = Some h
@@ -195,7 +188,7 @@ used_once w false h =
 
 -- the thread uses the copy until its step is done; a word of its walk isn't used twice
 abbrev pub use_word : ℕ → Hand → Option Hand
-use_word w h = used_once w (is_word_in h.thread.walk w) h
+use_word w h = used_once w (is_in w h.thread.walk) h
 
 -- one use less of each of the words
 abbrev pub unpin_all : List ℕ → List Copy → Option (List Copy)
