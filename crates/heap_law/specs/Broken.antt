@@ -13,7 +13,7 @@ use Rattle.mutex_home.specs.Mutexes.{Mutex}
 use Rattle.server_msgs.specs.declared.message.Message.{Message}
 use Rattle.server_msgs.specs.declared.message.Message.TheVariants.{Move, Dupped, Migrate}
 use Rattle.server_model.specs.Servers.{Server, Cluster}
-use Rattle.heap_law.specs.Coherent.{Sentence, broken, home_of_each, owner_of_each, owned_are_live, are_issued, below_limit, same_word, lead_home, one_state, first_at_holder, dirty_alone, copies_agree, served_are_clean, passed_lie_here, passed_not_copied, passed_not_stale, passed_in_a_walk, passed_within, walk_empty, parcels_ready, place_followed, waits_in_turn, asks_others, users_counted, uses_cached}
+use Rattle.heap_law.specs.Coherent.{Sentence, broken, home_of_each, owner_of_each, owned_are_live, are_issued, below_limit, same_word, lead_home, one_state, first_at_holder, dirty_alone, copies_agree, served_are_clean, passed_lie_here, passed_not_copied, passed_not_stale, passed_in_a_walk, passed_within, walk_empty, join_walks_nothing, parcels_ready, place_followed, waits_in_turn, asks_others, users_counted, uses_cached}
 use Rattle.heap_law.specs.Clusters.{place, thread_no, object, int, cell, box, the_mutex, word_0, word_1, word_3, dirty_reference, shared_reference, main_slots, main_waiting, locker, joiner, worker, partition_0, copy_of, server_0, server_1, cluster}
 use Rattle.heap_law.specs.Busy.{old_1, at_2, at_3, at_4, parent, writer, lender, viewer, ended, gifted, dupper, joined, fetcher, dropped, mover, busy_partition, busy_0, busy_1, of_busy}
 
@@ -63,7 +63,7 @@ abbrev passed_writer : ℕ → ℕ → ThreadView
 passed_writer pc n = record fetcher { pc = pc; phase = phase.Got; passed = n }
 
 -- a reference made from the pointer in that slot
-abbrev reference : ℕ → ℕ → Bool → ℕ → MutRef
+abbrev pub reference : ℕ → ℕ → Bool → ℕ → MutRef
 reference w n dirty slot = record { word = w; first = w; object = object n; dirty = dirty; holder = place slot 0 }
 
 -- THE MEMORY
@@ -91,6 +91,8 @@ pub record MemoryBreaks : Type 0 where
   pub elsewhere : Breaks lead_home (cluster (record server_0 { partition = record partition_0 { cells = cell 0 (int 1) ∷ cell 1 (int 5) ∷ cell 2 (int 6) ∷ None ∷ cell 3 (int 3) ∷ None ∷ [] } }) server_1)
   -- a live address is free
   pub live_and_free : Breaks one_state (cluster (record server_0 { partition = record partition_0 { free = (5, 1) ∷ (3, 1) ∷ [] } }) server_1)
+  -- an address is free that the server hasn't come to
+  pub free_beyond : Breaks one_state (cluster (record server_0 { partition = record partition_0 { free = (5, 1) ∷ (7, 1) ∷ [] } }) server_1)
   -- a reference was made from another word
   pub other_first : Breaks first_at_holder (cluster (with_slot 2 (value.Mut (record dirty_reference { first = word_of 0 0 0 }))) server_1)
   -- a dirty reference beside a shared one to its object
@@ -117,12 +119,18 @@ pub record WalksBreak : Type 0 where
   pub passed_reading : Breaks passed_within (of_busy (writing_here (passed_writer 6 1)) (without_fetcher busy_1.cache))
   -- a thread that is ready uses a word
   pub ready_walk : Breaks walk_empty (of_busy busy_0 (record busy_1 { cache = copy_of at_2 2 (box at_4 4) 2 ∷ []; threads = writer ∷ lender ∷ record viewer { walk = at_2 ∷ [] } ∷ gifted ∷ joined ∷ fetcher ∷ ended 1 2 ∷ [] }))
+  -- a thread with the result that it joined uses a word
+  pub join_walk : Breaks join_walks_nothing (of_busy busy_0 (record busy_1 { cache = copy_of at_2 2 (box at_4 4) 2 ∷ []; threads = writer ∷ lender ∷ viewer ∷ gifted ∷ record joined { walk = at_2 ∷ [] } ∷ fetcher ∷ ended 1 2 ∷ [] }))
   -- a parcel in the middle of a step
   pub busy_parcel : Breaks parcels_ready (of_busy busy_0 (record busy_1 { outbox = record { target = 0; message = Migrate (record mover { phase = phase.Got }) } ∷ [] }))
   -- an object was taken, but the pointer before it leads neither here nor to a copy in use
   pub not_followed : Breaks place_followed (of_busy
       (record no_fetch { partition = record busy_partition { cells = None ∷ None ∷ cell 2 (box at_4 4) ∷ cell 3 (box old_1 1) ∷ cell 4 (int 8) ∷ [] } })
       (record busy_1 { threads = writer ∷ record lender { pc = 9; slots = value.Own (box at_3 3) ∷ [] } ∷ viewer ∷ gifted ∷ joined ∷ record fetcher { pc = 7; slots = []; phase = phase.Ready } ∷ ended 1 2 ∷ [] }))
+  -- an object was taken through a dirty reference, whose copy is old though it is in use
+  pub followed_by_old_copy : Breaks place_followed (of_busy
+      (record no_fetch { partition = record busy_partition { cells = None ∷ None ∷ cell 2 (box at_4 4) ∷ cell 3 (box old_1 1) ∷ cell 4 (int 8) ∷ [] } })
+      (record busy_1 { cache = copy_of at_2 2 (box at_4 4) 1 ∷ copy_of at_3 3 (box old_1 1) 1 ∷ []; threads = writer ∷ record lender { pc = 13; slots = value.Own (box at_3 3) ∷ value.Mut (reference at_3 3 true 0) ∷ []; walk = at_3 ∷ [] } ∷ viewer ∷ gifted ∷ joined ∷ record fetcher { pc = 7; slots = []; phase = phase.Ready } ∷ ended 1 2 ∷ [] }))
   -- a read waits for a copy that it uses
   pub needless : Breaks waits_in_turn (of_busy busy_0 (record (with_fetcher (record fetcher { walk = at_3 ∷ [] })) { cache = copy_of at_2 2 (box at_4 4) 1 ∷ copy_of at_3 3 (int 6) 1 ∷ [] }))
   -- a thread asks its own server for an object

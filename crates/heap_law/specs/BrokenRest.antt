@@ -1,9 +1,10 @@
 -- Clusters that each break one sentence on requests, mutexes, tasks or names; where two can't be broken apart, the second of the same part too.
-use Rattle.std.specs.Prelude.{◌≡◌, ℕ, false, List, [], ◌∷◌, ◌++◌, Some, None, slice_set}
+use Rattle.std.specs.Prelude.{◌≡◌, ℕ, true, false, List, [], ◌∷◌, ◌++◌, Some, None, slice_set}
 use Rattle.fr_base.specs.declared.release.Released.TheVariants as released
 use Rattle.global_addr.specs.Words.{word_of}
 use Rattle.heap_partition.specs.declared.value.Owned.TheVariants as owned
-use Rattle.thread_state.specs.View.{ThreadView}
+use Rattle.thread_state.specs.View.{ThreadView, new_thread}
+use Rattle.thread_state.specs.declared.value.Value.{Value}
 use Rattle.thread_state.specs.declared.value.Value.TheVariants as value
 use Rattle.thread_state.specs.declared.phase.Phase.TheVariants as phase
 use Rattle.mutex_home.specs.Mutexes.{Mutex}
@@ -11,10 +12,16 @@ use Rattle.join_home.specs.Tasks.{Task, going, let_go, kept, asked, in_pair}
 use Rattle.server_msgs.specs.declared.message.Message.{Message}
 use Rattle.server_msgs.specs.declared.message.Message.TheVariants.{Fetch, Move, Moved, Drop, Dupped, Release, Finished}
 use Rattle.server_model.specs.Servers.{Server, Cluster}
-use Rattle.heap_law.specs.Coherent.{broken, one_answer, asked_answers, carry_what_is_asked, go_right, return_right, askers_stand, phases_stand, par_ends, pairs_noted, cells_awaited, taken_stands, taken_is_new, gifts_got, gifts_fit, named_are_there, at_their_home, one_content, shares_counted, queue_while_out, content_without_shares, thread_homes, noted_go_on, kept_at_home, results_after_end, one_task_value, task_values_owed, one_result, pairs_ended, joined_ended, recorded_stand, over_are_bare, none_owns_itself, parents_end, branches_give_unit, numbers_differ, objects_made, names_counted, few_names, counts_bounded, parts_are_typed}
-use Rattle.heap_law.specs.Clusters.{thread_no, object, int, cell, box, the_mutex, word_1, word_2, word_3, main_waiting, reader, locker, joiner, worker, copy_of, held_mutex, task, server_0, server_1, cluster}
-use Rattle.heap_law.specs.Busy.{old_0, new_1, at_2, at_3, at_4, has_task, parent, writer, lender, viewer, ended, gifted, dupper, joined, fetcher, dropped, shared_mutex, busy_partition, busy_notes, busy_0, busy_1, of_busy}
-use Rattle.heap_law.specs.Broken.{Breaks}
+use Rattle.heap_law.specs.Coherent.{broken, one_answer, asked_answers, carry_what_is_asked, go_right, return_right, askers_stand, phases_stand, par_ends, pairs_noted, pairs_go_on, cells_awaited, taken_stands, taken_is_new, gifts_got, gifts_fit, named_are_there, at_their_home, one_content, shares_counted, queue_while_out, content_without_shares, thread_homes, noted_go_on, kept_at_home, one_task_value, task_values_owed, one_result, pairs_unnamed, marks_in_slots, over_are_bare, none_owns_itself, parents_end, branches_give_unit, numbers_differ, objects_made, names_counted, counts_from_one, few_names, counts_bounded, parts_are_typed, options_in_range, holders_short}
+use Rattle.heap_law.specs.Clusters.{place, thread_no, object, int, cell, box, the_mutex, word_1, word_2, word_3, main_waiting, reader, locker, joiner, worker, copy_of, held_mutex, task, options, server_0, server_1, cluster, middle, relent_server, relent}
+use Rattle.heap_law.specs.Busy.{old_0, new_1, at_2, at_3, at_4, has_task, parent, writer, lender, viewer, ended, gifted, dupper, joined, fetcher, dropped, mover, shared_mutex, busy_partition, busy_notes, busy_0, busy_1, of_busy}
+use Rattle.heap_law.specs.Broken.{reference, Breaks}
+
+-- slots 1 to 9 lead to slot 0 by one star more each, and slot 10 was made from there by nine stars
+abbrev long_slots : List Value
+long_slots =
+    value.Own (box (word_of 0 0 0) 0) ∷ value.MutSlot 0 ∷ value.MutSlot 1 ∷ value.MutSlot 2 ∷ value.MutSlot 3 ∷ value.MutSlot 4 ∷ value.MutSlot 5 ∷ value.MutSlot 6 ∷ value.MutSlot 7 ∷ value.MutSlot 8
+    ∷ value.Mut (record { word = word_of 0 0 0; first = word_of 0 0 0; object = object 0; dirty = false; holder = place 9 9 }) ∷ []
 
 -- words of two objects more
 abbrev at_5 : ℕ
@@ -71,8 +78,20 @@ pub record RequestsBreak : Type 0 where
   pub no_par_end : Breaks par_ends (with_parent (record parent { pc = 7 }))
   -- a thread waits for one that isn't of its pair
   pub no_pair : Breaks pairs_noted (with_parent (record parent { phase = phase.WaitPar (thread_no 0 3) (thread_no 0 5) }))
+  -- a dup will be answered by a pair
+  pub answered_by_pair : Breaks pairs_noted (of_busy
+      (record busy_0 { inbox = Fetch at_3 (object 3) 1 (thread_no 0 8) ∷ []; mutexes = record { home = 0; made = 1; there = record shared_mutex { shares = 2 } ∷ [] } })
+      (record busy_1 { tasks = task (thread_no 1 2) going ∷ task (thread_no 1 3) (in_pair (thread_no 0 6) false) ∷ task (thread_no 1 4) (in_pair (thread_no 0 6) false) ∷ [];
+        threads = writer ∷ lender ∷ viewer ∷ gifted ∷ record joined { slots = has_task 1 2 ∷ [] } ∷ fetcher ∷ ended 1 2 ∷ [];
+        inbox = Moved old_0 (record { object = object 0; value = int 1 }) (thread_no 0 1) ∷ Finished (thread_no 1 2) (int 3) ∷ [] }))
+  -- a thread waits for branches that are both over
+  pub both_over : Breaks pairs_go_on (of_busy (record busy_0 { tasks = slice_set busy_notes 2 (task (thread_no 0 3) (in_pair 0 true)) })
+      (record busy_1 { cache = copy_of at_2 2 (box at_4 4) 0 ∷ []; threads = writer ∷ lender ∷ ended 0 3 ∷ gifted ∷ joined ∷ fetcher ∷ ended 1 2 ∷ [] }))
   -- a read asks for the object itself
   pub pulls_to_read : Breaks cells_awaited (busy_inbox (Dupped the_mutex (thread_no 0 6) ∷ Move at_3 (object 3) 1 (thread_no 0 8) ∷ []))
+  -- a read through a dirty reference asks for the object itself while colours are left
+  pub pulls_early : Breaks cells_awaited (of_busy (record busy_0 { inbox = Dupped the_mutex (thread_no 0 6) ∷ Move at_3 (object 3) 1 (thread_no 0 8) ∷ [] })
+      (record busy_1 { threads = writer ∷ lender ∷ viewer ∷ gifted ∷ joined ∷ record fetcher { pc = 14; slots = value.Own (box at_3 3) ∷ value.Mut (reference at_3 3 true 0) ∷ [] } ∷ ended 1 2 ∷ [] }))
   -- the object that was taken lies elsewhere
   pub taken_elsewhere : Breaks taken_stands (of_busy (busy_threads_0 (parent ∷ lender ∷ ended 0 4 ∷ dupper ∷ ended 1 1 ∷ dropped ∷ [])) (record busy_1 { threads = writer ∷ viewer ∷ gifted ∷ joined ∷ fetcher ∷ ended 1 2 ∷ [] }))
   -- the object that was taken has no new word
@@ -91,6 +110,8 @@ pub record SharingBreaks : Type 0 where
   pub mutex_away : Breaks at_their_home (of_busy busy_0 (record busy_1 { mutexes = record { home = 1; made = 0; there = shared_mutex ∷ [] } }))
   -- the content was granted and is in
   pub two_contents : Breaks one_content (busy_mutexes (record shared_mutex { content = Some (int 9) } ∷ []))
+  -- the mark of a lock is a temporary value
+  pub mark_on_top : Breaks marks_in_slots (with_worker (record worker { temps = value.Held the_mutex ∷ [] }))
   -- a share that isn't counted
   pub share_lost : Breaks shares_counted (busy_mutexes (record shared_mutex { shares = 2 } ∷ []))
   -- a thread is queued while the content is in
@@ -104,7 +125,7 @@ pub record SharingBreaks : Type 0 where
   -- a result kept away from its thread's home
   pub result_away : Breaks kept_at_home (of_busy (record busy_0 { tasks = busy_notes ++ task (thread_no 1 2) (kept (int 3)) ∷ [] }) (record busy_1 { tasks = task (thread_no 1 3) going ∷ task (thread_no 1 4) going ∷ []; inbox = Moved old_0 (record { object = object 0; value = int 1 }) (thread_no 0 1) ∷ Release (released.Task (thread_no 1 3)) ∷ [] }))
   -- the result of a thread that goes on
-  pub early_result : broken (with_notes (task (thread_no 0 1) (kept (int 3)) ∷ task (thread_no 0 2) going ∷ task (thread_no 0 3) going ∷ [])) ≡ noted_go_on ∷ results_after_end ∷ []
+  pub early_result : broken (with_notes (task (thread_no 0 1) (kept (int 3)) ∷ task (thread_no 0 2) going ∷ task (thread_no 0 3) going ∷ [])) ≡ noted_go_on ∷ one_result ∷ []
   -- two task values of a thread
   pub two_tasks : Breaks one_task_value (with_worker (record worker { slots = has_task 0 1 ∷ [] }))
   -- a task value of a thread of which nothing is noted
@@ -112,11 +133,23 @@ pub record SharingBreaks : Type 0 where
   -- a result that was joined is still kept
   pub two_results : Breaks one_result (of_busy busy_0 (record busy_1 { tasks = task (thread_no 1 1) (kept owned.Unit) ∷ busy_1.tasks }))
   -- a par has ended while a branch goes on
-  pub early_pair : broken (of_busy (record busy_0 { tasks = task (thread_no 0 1) going ∷ task (thread_no 0 2) going ∷ task (thread_no 0 5) going ∷ task (thread_no 0 6) going ∷ task (thread_no 0 7) going ∷ task (thread_no 0 8) going ∷ []; threads = record parent { phase = phase.GotPar (thread_no 0 3) (thread_no 0 4) } ∷ ended 0 4 ∷ dupper ∷ ended 1 1 ∷ dropped ∷ [] }) busy_1) ≡ noted_go_on ∷ pairs_ended ∷ []
+  pub early_pair : broken (of_busy (record busy_0 { tasks = task (thread_no 0 1) going ∷ task (thread_no 0 2) going ∷ task (thread_no 0 5) going ∷ task (thread_no 0 6) going ∷ task (thread_no 0 7) going ∷ task (thread_no 0 8) going ∷ []; threads = record parent { phase = phase.GotPar (thread_no 0 3) (thread_no 0 4) } ∷ ended 0 4 ∷ dupper ∷ ended 1 1 ∷ dropped ∷ [] }) busy_1) ≡ noted_go_on ∷ one_result ∷ []
   -- a thread that was joined goes on
-  pub early_join : broken (of_busy (busy_threads_0 (parent ∷ ended 0 4 ∷ dupper ∷ record (ended 1 1) { phase = phase.Ready } ∷ dropped ∷ [])) busy_1) ≡ noted_go_on ∷ joined_ended ∷ []
+  pub early_join : broken (of_busy (busy_threads_0 (parent ∷ ended 0 4 ∷ dupper ∷ record (ended 1 1) { phase = phase.Ready } ∷ dropped ∷ [])) busy_1) ≡ noted_go_on ∷ one_result ∷ []
+  -- a result is kept of a thread that stands nowhere
+  pub kept_of_nobody : Breaks one_result (cluster (record server_0 { tasks = server_0.tasks ++ task (thread_no 0 4) (kept (int 3)) ∷ []; started = 4; threads = main_waiting ∷ locker ∷ record worker { slots = has_task 0 4 ∷ [] } ∷ [] }) server_1)
+  -- a result comes of a thread that stands nowhere and of which nothing is noted
+  pub finished_of_nobody : broken (cluster (record server_0 { inbox = server_0.inbox ++ Finished (thread_no 0 4) (int 3) ∷ []; started = 4 }) server_1) ≡ noted_go_on ∷ one_result ∷ []
+  -- main is noted as over in a pair, and goes on
+  pub main_in_pair : Breaks one_result (of_busy
+      (record busy_0 { tasks = task 0 (in_pair (thread_no 1 4) true) ∷ busy_notes ++ task (thread_no 0 9) (in_pair (thread_no 1 4) false) ∷ []; started = 9;
+        threads = parent ∷ ended 0 4 ∷ dupper ∷ new_thread (thread_no 0 9) 7 [] ∷ ended 1 1 ∷ dropped ∷ record mover { pc = 2; phase = phase.WaitPar 0 (thread_no 0 9); moved_since_step = false } ∷ [] })
+      (record busy_1 { outbox = [] }))
+  -- a task value names a branch of a par that has ended
+  pub named_branch : broken (of_busy (record busy_0 { tasks = task (thread_no 0 1) going ∷ task (thread_no 0 2) going ∷ task (thread_no 0 5) going ∷ task (thread_no 0 6) going ∷ task (thread_no 0 7) going ∷ task (thread_no 0 8) going ∷ []; threads = record parent { phase = phase.GotPar (thread_no 0 3) (thread_no 0 4) } ∷ ended 0 4 ∷ dupper ∷ ended 1 1 ∷ record dropped { slots = has_task 0 4 ∷ [] } ∷ [] })
+      (record busy_1 { cache = copy_of at_2 2 (box at_4 4) 0 ∷ []; threads = writer ∷ lender ∷ ended 0 3 ∷ gifted ∷ joined ∷ fetcher ∷ ended 1 2 ∷ [] })) ≡ task_values_owed ∷ pairs_unnamed ∷ []
   -- a branch that is noted as over stands nowhere
-  pub nobody : Breaks recorded_stand (of_busy (busy_threads_0 (parent ∷ dupper ∷ ended 1 1 ∷ dropped ∷ [])) busy_1)
+  pub nobody : Breaks one_result (of_busy (busy_threads_0 (parent ∷ dupper ∷ ended 1 1 ∷ dropped ∷ [])) busy_1)
 
 -- ROOTED
 
@@ -134,14 +167,24 @@ pub record RootedBreaks : Type 0 where
 
 pub record NamesBreak : Type 0 where
   -- a thread stands at two servers
-  pub twice : Breaks numbers_differ (cluster server_0 (record server_1 { threads = reader ∷ joiner ∷ worker ∷ [] }))
+  pub twice : Breaks numbers_differ (of_busy busy_0 (record busy_1 { threads = writer ∷ lender ∷ viewer ∷ gifted ∷ joined ∷ fetcher ∷ ended 1 1 ∷ ended 1 2 ∷ [] }))
   -- an object that its thread hasn't made
   pub not_made : Breaks objects_made (cluster (record server_0 { threads = record main_waiting { made = 3 } ∷ locker ∷ worker ∷ [] }) server_1)
   -- a thread that its server hasn't started
   pub not_started : Breaks names_counted (cluster (record server_0 { started = 2 }) server_1)
+  -- a mutex that its server hasn't made, in an old copy
+  pub copied_name : Breaks names_counted (cluster server_0 (record server_1 { cache = copy_of (word_of 0 0 0) 0 (owned.Mutex (record { home = 0; count = 2 })) 0 ∷ server_1.cache }))
+  -- a thread with the count 0 beside main
+  pub zeroth_thread : Breaks counts_from_one (of_busy (busy_threads_0 (parent ∷ ended 0 4 ∷ dupper ∷ ended 1 0 ∷ ended 1 1 ∷ dropped ∷ [])) busy_1)
+  -- a mutex with the count 0
+  pub zeroth_mutex : Breaks counts_from_one (of_busy (record busy_0 { mutexes = record { home = 0; made = 1; there = record { number = record { home = 0; count = 0 }; content = Some owned.Unit; shares = 1; queue = [] } ∷ shared_mutex ∷ [] }; threads = parent ∷ ended 0 4 ∷ dupper ∷ ended 1 1 ∷ record dropped { slots = value.Own (owned.Mutex (record { home = 0; count = 0 })) ∷ [] } ∷ [] }) busy_1)
   -- more names than the events could give
   pub many : Breaks few_names (cluster (record server_0 { events = 1 }) (record server_1 { events = 0 }))
   -- addresses and names without an event
   pub no_event : broken (cluster (record server_0 { events = 0 }) (record server_1 { events = 0 })) ≡ few_names ∷ counts_bounded ∷ []
   -- a word is cached twice
   pub cached_twice : Breaks parts_are_typed (cluster server_0 (record server_1 { cache = copy_of word_1 1 (int 5) 0 ∷ copy_of word_1 1 (int 5) 0 ∷ copy_of word_3 3 (int 3) 1 ∷ [] }))
+  -- no turn is allowed
+  pub no_turns : Breaks options_in_range (record middle { options = record (options 2) { turns = 0 } })
+  -- a reference was made from a place with nine stars
+  pub nine_stars : Breaks holders_short (record relent { servers = record relent_server { threads = record (new_thread 0 2 long_slots) { made = 1 } ∷ [] } ∷ [] })

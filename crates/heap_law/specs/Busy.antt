@@ -19,12 +19,14 @@ use Rattle.heap_law.specs.Clusters.{place, thread_no, object, int, cell, box, op
 
 -- instructions by their places: 0 a write through slot 0's box, 1 a mutable borrow there, 2 the end of a par, 3 a lock, 4 a dup, 5 a join, 6 a read through
 -- slot 0's box, 7 an end, 8 a write through slot 1's reference,
--- 9 a mutable borrow of what two boxes lead to, 10 a read through two boxes, 11 a mutable borrow and 12 its slot
+-- 9 a mutable borrow of what two boxes lead to, 10 a read through two boxes, 11 a mutable borrow and 12 its slot, 13 a mutable borrow through slot 1's
+-- reference and a box behind it, 14 a read through slot 1's reference
 abbrev pub busy_code : List Instr
 busy_code =
     instr.Assign (place 0 1) (operand.Const (pos 2)) ∷ instr.BorrowMut (place 0 1) ∷ instr.ParEnd ∷ instr.Lock (place 0 0) ∷ instr.Dup (place 0 0)
     ∷ instr.Join operand.Pop ∷ instr.Read (place 0 1) false ∷ instr.End operand.Unit ∷ instr.Assign (place 1 1) (operand.Const (pos 2))
-    ∷ instr.BorrowMut (place 0 2) ∷ instr.Read (place 0 2) false ∷ instr.BorrowMut (place 0 1) ∷ instr.Let operand.Pop ∷ []
+    ∷ instr.BorrowMut (place 0 2) ∷ instr.Read (place 0 2) false ∷ instr.BorrowMut (place 0 1) ∷ instr.Let operand.Pop
+    ∷ instr.BorrowMut (place 1 2) ∷ instr.Read (place 1 1) false ∷ []
 
 -- object 0 flies from server 0 to 1; object 1 was pulled to server 1; objects 2, 3 and 4 lie at server 0, and 2 owns 4
 abbrev pub old_0 : ℕ

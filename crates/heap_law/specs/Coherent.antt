@@ -6,11 +6,11 @@ use Rattle.server_model.specs.Servers.{Cluster}
 use Rattle.heap_law.specs.Names.{some}
 use Rattle.heap_law.specs.Sight.{Sight, sight}
 use Rattle.heap_law.specs.Placing.{homes_wrong, owners_wrong, owned_wrong, issued_wrong, colours_wrong, same_word_wrong, homeward_wrong, states_wrong, first_wrong, different_words_wrong, dirty_wrong, copies_wrong, served_wrong}
-use Rattle.heap_law.specs.Walking.{passed_wrong, passed_boxes_wrong, passed_references_wrong, passed_phase_wrong, passed_count_wrong, walk_phase_wrong, parcels_wrong, followed_wrong, turn_wrong, own_requests_wrong, users_wrong, uncached_wrong}
-use Rattle.heap_law.specs.Requests.{answers_wrong, unasked_wrong, carried_wrong, routes_wrong, returns_wrong, askers_wrong, phases_wrong, par_ends_wrong, pairs_wrong, cells_wrong, taken_wrong, taken_words_wrong, gift_phases_wrong, gifts_wrong}
-use Rattle.heap_law.specs.Sharing.{named_wrong, mutex_homes_wrong, contents_wrong, shares_wrong, queues_wrong, last_shares_wrong, thread_homes_wrong, noted_wrong, kept_wrong, early_wrong, tasks_wrong, owed_wrong, results_wrong, got_pairs_wrong, joined_wrong, recorded_wrong}
+use Rattle.heap_law.specs.Walking.{passed_wrong, passed_boxes_wrong, passed_references_wrong, passed_phase_wrong, passed_count_wrong, walk_phase_wrong, join_walk_wrong, parcels_wrong, followed_wrong, turn_wrong, own_requests_wrong, users_wrong, uncached_wrong}
+use Rattle.heap_law.specs.Requests.{answers_wrong, unasked_wrong, carried_wrong, routes_wrong, returns_wrong, askers_wrong, phases_wrong, par_ends_wrong, pairs_wrong, waited_pairs_wrong, cells_wrong, taken_wrong, taken_words_wrong, gift_phases_wrong, gifts_wrong}
+use Rattle.heap_law.specs.Sharing.{named_wrong, mutex_homes_wrong, contents_wrong, marks_wrong, shares_wrong, queues_wrong, last_shares_wrong, thread_homes_wrong, noted_wrong, kept_wrong, tasks_wrong, owed_wrong, results_wrong, got_pairs_wrong}
 use Rattle.heap_law.specs.Rooted.{over_wrong, ownership_wrong, parents_wrong, branches_wrong}
-use Rattle.heap_law.specs.Naming.{numbers_wrong, made_wrong, counted_wrong, names_count_wrong, large_wrong, parts_wrong}
+use Rattle.heap_law.specs.Naming.{numbers_wrong, made_wrong, counted_wrong, zeroth_wrong, names_count_wrong, large_wrong, parts_wrong, options_wrong, holders_wrong}
 
 -- the sentences, part by part
 pub data Sentence : Type 0 where
@@ -38,6 +38,7 @@ pub data Sentence : Type 0 where
   passed_in_a_walk : Sentence
   passed_within : Sentence
   walk_empty : Sentence
+  join_walks_nothing : Sentence
   parcels_ready : Sentence
   place_followed : Sentence
   waits_in_turn : Sentence
@@ -55,6 +56,7 @@ pub data Sentence : Type 0 where
   phases_stand : Sentence
   par_ends : Sentence
   pairs_noted : Sentence
+  pairs_go_on : Sentence
   cells_awaited : Sentence
   taken_stands : Sentence
   taken_is_new : Sentence
@@ -64,19 +66,17 @@ pub data Sentence : Type 0 where
   named_are_there : Sentence
   at_their_home : Sentence
   one_content : Sentence
+  marks_in_slots : Sentence
   shares_counted : Sentence
   queue_while_out : Sentence
   content_without_shares : Sentence
   thread_homes : Sentence
   noted_go_on : Sentence
   kept_at_home : Sentence
-  results_after_end : Sentence
   one_task_value : Sentence
   task_values_owed : Sentence
   one_result : Sentence
-  pairs_ended : Sentence
-  joined_ended : Sentence
-  recorded_stand : Sentence
+  pairs_unnamed : Sentence
   -- what can be counted of types
   over_are_bare : Sentence
   none_owns_itself : Sentence
@@ -86,10 +86,13 @@ pub data Sentence : Type 0 where
   numbers_differ : Sentence
   objects_made : Sentence
   names_counted : Sentence
+  counts_from_one : Sentence
   few_names : Sentence
   counts_bounded : Sentence
   -- what the types of the servers' parts keep
   parts_are_typed : Sentence
+  options_in_range : Sentence
+  holders_short : Sentence
 
 -- how many things of a cluster break a sentence
 abbrev pub breaches_in : Cluster → Sight → Sentence → ℕ
@@ -112,6 +115,7 @@ breaches_in k s passed_not_stale = passed_references_wrong s
 breaches_in k s passed_in_a_walk = passed_phase_wrong s
 breaches_in k s passed_within = passed_count_wrong s
 breaches_in k s walk_empty = walk_phase_wrong s
+breaches_in k s join_walks_nothing = join_walk_wrong s
 breaches_in k s parcels_ready = parcels_wrong s
 breaches_in k s place_followed = followed_wrong s
 breaches_in k s waits_in_turn = turn_wrong s
@@ -127,6 +131,7 @@ breaches_in k s askers_stand = askers_wrong s
 breaches_in k s phases_stand = phases_wrong s
 breaches_in k s par_ends = par_ends_wrong s
 breaches_in k s pairs_noted = pairs_wrong s
+breaches_in k s pairs_go_on = waited_pairs_wrong s
 breaches_in k s cells_awaited = cells_wrong s
 breaches_in k s taken_stands = taken_wrong s
 breaches_in k s taken_is_new = taken_words_wrong s
@@ -135,19 +140,17 @@ breaches_in k s gifts_fit = gifts_wrong s
 breaches_in k s named_are_there = named_wrong s
 breaches_in k s at_their_home = mutex_homes_wrong s
 breaches_in k s one_content = contents_wrong s
+breaches_in k s marks_in_slots = marks_wrong s
 breaches_in k s shares_counted = shares_wrong s
 breaches_in k s queue_while_out = queues_wrong s
 breaches_in k s content_without_shares = last_shares_wrong s
 breaches_in k s thread_homes = thread_homes_wrong s
 breaches_in k s noted_go_on = noted_wrong s
 breaches_in k s kept_at_home = kept_wrong s
-breaches_in k s results_after_end = early_wrong s
 breaches_in k s one_task_value = tasks_wrong s
 breaches_in k s task_values_owed = owed_wrong s
 breaches_in k s one_result = results_wrong s
-breaches_in k s pairs_ended = got_pairs_wrong s
-breaches_in k s joined_ended = joined_wrong s
-breaches_in k s recorded_stand = recorded_wrong s
+breaches_in k s pairs_unnamed = got_pairs_wrong s
 breaches_in k s over_are_bare = over_wrong s
 breaches_in k s none_owns_itself = ownership_wrong s
 breaches_in k s parents_end = parents_wrong s
@@ -155,9 +158,12 @@ breaches_in k s branches_give_unit = branches_wrong s
 breaches_in k s numbers_differ = numbers_wrong s
 breaches_in k s objects_made = made_wrong s
 breaches_in k s names_counted = counted_wrong s
+breaches_in k s counts_from_one = zeroth_wrong s
 breaches_in k s few_names = names_count_wrong s
 breaches_in k s counts_bounded = large_wrong s
 breaches_in k s parts_are_typed = parts_wrong k s
+breaches_in k s options_in_range = options_wrong s
+breaches_in k s holders_short = holders_wrong s
 
 abbrev pub breaches : Cluster → Sentence → ℕ
 breaches k n = breaches_in k (sight k) n
@@ -218,6 +224,8 @@ pub record Walks (k : Cluster) : Type 0 where
   pub passed_within : Holds k passed_within
   -- the walk is empty in the phases `Ready`, `WaitJoin`, `WaitPar`, `GotPar` and `Over`
   pub walk_empty : Holds k walk_empty
+  -- the walk is empty at a `Join`, in every phase
+  pub join_walks_nothing : Holds k join_walks_nothing
   -- a parcel is in phase `Ready`
   pub parcels_ready : Holds k parcels_ready
   -- what a place has been followed over leads to an object here or to a copy that the thread keeps
@@ -252,8 +260,10 @@ pub record Requests (k : Cluster) : Type 0 where
   pub phases_stand : Holds k phases_stand
   -- a thread is at a `ParEnd` exactly in the phases `WaitPar` and `GotPar`
   pub par_ends : Holds k par_ends
-  -- in `WaitPar(a, b)` these are the thread's pair at its server, and not both are noted as over
+  -- a server notes a thread as in the pair of a parent exactly where the parent stands there in `WaitPar` with that thread among its two
   pub pairs_noted : Holds k pairs_noted
+  -- in `WaitPar(a, b)` these differ, and not both are noted as over
+  pub pairs_go_on : Holds k pairs_go_on
   -- `WaitCell(w)` has the word of a pointer that is followed or ended; a copy is asked for where it is read, else the object
   pub cells_awaited : Holds k cells_awaited
   -- `Taken(w)` stands at a `BorrowMut`; w is the word of the object at its place, which lies at the thread's server
@@ -273,6 +283,8 @@ pub record MutexesAndTasks (k : Cluster) : Type 0 where
   pub at_their_home : Holds k at_their_home
   -- each mutex's content stands in one place
   pub one_content : Holds k one_content
+  -- the mark of a lock stands in a slot alone
+  pub marks_in_slots : Holds k marks_in_slots
   -- a mutex's shares are its values in the places that own, its `release` messages and its dups answered but not yet taken
   pub shares_counted : Holds k shares_counted
   -- no thread is queued while the content is at the home
@@ -285,20 +297,14 @@ pub record MutexesAndTasks (k : Cluster) : Type 0 where
   pub noted_go_on : Holds k noted_go_on
   -- a result is kept at its thread's home alone
   pub kept_at_home : Holds k kept_at_home
-  -- no result is kept or in a `finished` message for main, or for a thread that isn't over
-  pub results_after_end : Holds k results_after_end
   -- a thread is named by at most one task value or `release`
   pub one_task_value : Holds k one_task_value
   -- it is named by one exactly where its home has it as going, as asked or with its result, or its join isn't done
   pub task_values_owed : Holds k task_values_owed
-  -- each ended thread's result stands in one place or was taken or let go
+  -- a result stands only of a thread other than main that stands somewhere and is over, and in at most one place
   pub one_result : Holds k one_result
-  -- the threads of `GotPar(a, b)` differ, have ended and are named by no task value
-  pub pairs_ended : Holds k pairs_ended
-  -- the thread whose result is in a `joined` message or a gift at a `Join` has ended
-  pub joined_ended : Holds k joined_ended
-  -- what a home records names threads that stand somewhere or whose result it keeps
-  pub recorded_stand : Holds k recorded_stand
+  -- the threads of `GotPar(a, b)` are named by no task value
+  pub pairs_unnamed : Holds k pairs_unnamed
 
 -- what can be counted of TYPES
 pub record Rooted (k : Cluster) : Type 0 where
@@ -319,6 +325,8 @@ pub record Names (k : Cluster) : Type 0 where
   pub objects_made : Holds k objects_made
   -- the count of each thread and mutex that is named anywhere is at most the count that its server has reached
   pub names_counted : Holds k names_counted
+  -- no mutex, and no thread but main, has the count 0
+  pub counts_from_one : Holds k counts_from_one
   -- no such count and no `made` is above twice the number of events
   pub few_names : Holds k few_names
   -- no next address and no number of retired addresses, of users or of shares is above 16 times it
@@ -328,6 +336,10 @@ pub record Names (k : Cluster) : Type 0 where
 pub record Parts (k : Cluster) : Type 0 where
   -- the servers are those of the run, and each part is one of its type
   pub parts_are_typed : Holds k parts_are_typed
+  -- the options of the run are in their ranges
+  pub options_in_range : Holds k options_in_range
+  -- each holder has at most eight stars
+  pub holders_short : Holds k holders_short
 
 -- a cluster keeps all that can be counted. That is coherence but for the part on types, of which `rooted` is what can be counted: that each thread's
 -- values have the types of its instruction, and that all values agree on the types of objects, mutexes and results, is not said here
@@ -359,25 +371,25 @@ abbrev pub copies_sentences : List Sentence
 copies_sentences = copies_agree ∷ served_are_clean ∷ []
 
 abbrev pub walks_sentences : List Sentence
-walks_sentences = passed_lie_here ∷ passed_not_copied ∷ passed_not_stale ∷ passed_in_a_walk ∷ passed_within ∷ walk_empty ∷ parcels_ready ∷ place_followed ∷ waits_in_turn ∷ asks_others ∷ []
+walks_sentences = passed_lie_here ∷ passed_not_copied ∷ passed_not_stale ∷ passed_in_a_walk ∷ passed_within ∷ walk_empty ∷ join_walks_nothing ∷ parcels_ready ∷ place_followed ∷ waits_in_turn ∷ asks_others ∷ []
 
 abbrev pub users_sentences : List Sentence
 users_sentences = users_counted ∷ uses_cached ∷ []
 
 abbrev pub requests_sentences : List Sentence
-requests_sentences = one_answer ∷ asked_answers ∷ carry_what_is_asked ∷ go_right ∷ return_right ∷ askers_stand ∷ phases_stand ∷ par_ends ∷ pairs_noted ∷ cells_awaited ∷ taken_stands ∷ taken_is_new ∷ gifts_got ∷ gifts_fit ∷ []
+requests_sentences = one_answer ∷ asked_answers ∷ carry_what_is_asked ∷ go_right ∷ return_right ∷ askers_stand ∷ phases_stand ∷ par_ends ∷ pairs_noted ∷ pairs_go_on ∷ cells_awaited ∷ taken_stands ∷ taken_is_new ∷ gifts_got ∷ gifts_fit ∷ []
 
 abbrev pub mutexes_and_tasks_sentences : List Sentence
-mutexes_and_tasks_sentences = named_are_there ∷ at_their_home ∷ one_content ∷ shares_counted ∷ queue_while_out ∷ content_without_shares ∷ thread_homes ∷ noted_go_on ∷ kept_at_home ∷ results_after_end ∷ one_task_value ∷ task_values_owed ∷ one_result ∷ pairs_ended ∷ joined_ended ∷ recorded_stand ∷ []
+mutexes_and_tasks_sentences = named_are_there ∷ at_their_home ∷ one_content ∷ marks_in_slots ∷ shares_counted ∷ queue_while_out ∷ content_without_shares ∷ thread_homes ∷ noted_go_on ∷ kept_at_home ∷ one_task_value ∷ task_values_owed ∷ one_result ∷ pairs_unnamed ∷ []
 
 abbrev pub rooted_sentences : List Sentence
 rooted_sentences = over_are_bare ∷ none_owns_itself ∷ parents_end ∷ branches_give_unit ∷ []
 
 abbrev pub names_sentences : List Sentence
-names_sentences = numbers_differ ∷ objects_made ∷ names_counted ∷ few_names ∷ counts_bounded ∷ []
+names_sentences = numbers_differ ∷ objects_made ∷ names_counted ∷ counts_from_one ∷ few_names ∷ counts_bounded ∷ []
 
 abbrev pub parts_sentences : List Sentence
-parts_sentences = parts_are_typed ∷ []
+parts_sentences = parts_are_typed ∷ options_in_range ∷ holders_short ∷ []
 
 abbrev if_broken : Bool → Sentence → List Sentence → List Sentence
 if_broken true n ns = n ∷ ns

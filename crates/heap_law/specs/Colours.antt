@@ -12,7 +12,7 @@ use Rattle.server_model.specs.Servers.{Cluster}
 use Rattle.fr_base.specs.Names.{same_plain}
 use Rattle.coloured_heap.specs.Heap.{Place, Lies, Flies, Living, Copied, Wish, ForCopy, ForObject, ForContent, ForShare, ForResult, Running, Coloured, object_at, copy_at, thread_at, same_wish, mutex_at}
 use Rattle.heap_law.specs.Names.{tot, one, some, same_object, same_mutex, is_in}
-use Rattle.heap_law.specs.Things.{Thing, lies, copied, sent, locks, at_home, queued, noted}
+use Rattle.heap_law.specs.Things.{at_slot, Thing, lies, copied, sent, locks, at_home, queued, noted}
 use Rattle.heap_law.specs.Follow as follow
 use Rattle.heap_law.specs.Follow.{Standing}
 use Rattle.heap_law.specs.Sight.{Sight, sight, word, issued}
@@ -133,7 +133,7 @@ granted_message m x = None
 -- the thread to which the content was granted: it stands in a `granted` message to it, or in a slot of it
 abbrev holder_in : MutexNo → Thing → Option ℕ
 holder_in m (sent r x) = granted_message m x
-holder_in m (locks t n) = if_some (same_mutex n m) t
+holder_in m (locks (at_slot t i) n) = if_some (same_mutex n m) t
 holder_in m x = None
 
 -- or in a gift of it

@@ -1,9 +1,10 @@
 -- NAMES, and what the types of a server's parts keep (this project's rules). Each function counts what breaks the sentence above it.
-use Rattle.std.specs.Prelude.{ℕ, ◌+◌, ◌*◌, ◌%◌, ◌^◌, ◌==◌, nat_lt, nat_le, Bool, true, ◌&&◌, ◌||◌, List, [], ◌∷◌, Option, Some, None}
+use Rattle.std.specs.Prelude.{ℕ, ◌+◌, ◌*◌, ◌%◌, ◌^◌, ◌-◌, ◌==◌, nat_lt, nat_le, Bool, true, not, ◌&&◌, ◌||◌, List, [], ◌∷◌, Option, Some, None}
 use Rattle.fr_base.specs.declared.name.ObjNo.{ObjNo}
 use Rattle.fr_base.specs.declared.name.MutexNo.{MutexNo}
 use Rattle.fr_base.specs.declared.release.Released.{Released}
 use Rattle.fr_base.specs.declared.release.Released.TheVariants as released
+use Rattle.fr_base.specs.declared.settings.Options.{Options}
 use Rattle.heap_partition.specs.declared.value.Owned.{Owned}
 use Rattle.heap_partition.specs.declared.value.Owned.TheVariants as owned
 use Rattle.thread_state.specs.View.{is_pinned}
@@ -13,17 +14,17 @@ use Rattle.thread_state.specs.declared.phase.Phase.TheVariants as phase
 use Rattle.read_cache.specs.Cache.{Copy}
 use Rattle.join_home.specs.Tasks.{TaskState, asked, in_pair}
 use Rattle.server_msgs.specs.declared.message.Message.{Message}
-use Rattle.server_msgs.specs.declared.message.Message.TheVariants.{Fetch, Fetched, Move, Moved, Lock, Granted, Dup, Dupped, Release, Join, Joined, Finished}
+use Rattle.server_msgs.specs.declared.message.Message.TheVariants.{Fetch, Fetched, Move, Moved, Drop, Lock, Granted, Dup, Dupped, Release, Join, Joined, Finished}
 use Rattle.server_model.specs.Servers.{Server, Cluster}
 use Rattle.heap_law.specs.Names.{tot, one, other, if_so, some}
-use Rattle.heap_law.specs.Things.{Thing, holds, lies, flies, copied, sent, stands, at_home, queued, noted, retired, counts}
+use Rattle.heap_law.specs.Things.{Thing, holds, shares, borrows, lies, flies, copied, sent, stands, at_home, queued, noted, retired, counts}
 use Rattle.heap_law.specs.Follow.{Standing, thread_at}
 use Rattle.heap_law.specs.Sight.{Sight}
 use Rattle.heap_law.specs.Weights.{is_thread}
 use Rattle.heap_law.specs.Placing.{sum_over}
 use Rattle.heap_law.specs.Walking.{sum_threads}
 use Rattle.heap_law.specs.Requests.{home_of}
-use Rattle.heap_law.specs.Sharing.{mutexes, is_over}
+use Rattle.heap_law.specs.Sharing.{owned_mutex, message_mutex, mutexes, is_over}
 
 -- NUMBERS
 
@@ -49,7 +50,7 @@ made_wrong s = sum_over s (not_made s)
 
 -- COUNTS
 
--- the threads that a thing names, with a weight
+-- the threads that a thing names, with a weight; an object names the thread that made it
 abbrev owned_thread : (ℕ → ℕ) → Owned → ℕ
 owned_thread f (owned.Task t) = f t
 owned_thread f (owned.Box p) = f p.object.thread
@@ -60,10 +61,11 @@ released_thread f (released.Mutex m) = 0
 released_thread f (released.Task t) = f t
 
 abbrev message_thread : (ℕ → ℕ) → Message → ℕ
-message_thread f (Fetch w o s t) = f t
-message_thread f (Fetched w c t) = f t
-message_thread f (Move w o s t) = f t
+message_thread f (Fetch w o s t) = f o.thread + f t
+message_thread f (Fetched w c t) = f c.object.thread + owned_thread f c.value + f t
+message_thread f (Move w o s t) = f o.thread + f t
 message_thread f (Moved w c t) = f t
+message_thread f (Drop w o) = f o.thread
 message_thread f (Lock m s t) = f t
 message_thread f (Granted m v t) = f t
 message_thread f (Dup m s t) = f t
@@ -87,6 +89,8 @@ noted_thread f x = 0
 
 abbrev threads : (ℕ → ℕ) → Thing → ℕ
 threads f (holds p v) = owned_thread f v
+threads f (shares l r) = f r.object.thread
+threads f (borrows l r) = f r.object.thread
 threads f (lies s a c) = f c.object.thread + owned_thread f c.value
 threads f (flies w c) = f c.object.thread + owned_thread f c.value
 threads f (copied s c) = f c.cell.object.thread + owned_thread f c.cell.value
@@ -95,6 +99,10 @@ threads f (stands s p t) = f t.number + phase_thread f t.phase
 threads f (queued m s t) = f t
 threads f (noted s x) = f x.thread + noted_thread f x.state
 threads f x = 0
+
+-- which of the threads that its home started a thread is, from 1; main has 0
+abbrev count_of : ℕ → ℕ
+count_of t = t % 2 ^ 32
 
 abbrev started_at : ℕ → ℕ → Thing → ℕ
 started_at s n (counts r next old started made events) = one (r == s && nat_le n started)
@@ -105,18 +113,35 @@ made_at s n (counts r next old started made events) = one (r == s && nat_le n ma
 made_at s n x = 0
 
 abbrev uncounted_thread : Sight → ℕ → ℕ
-uncounted_thread s t = other (some (sum_over s (started_at (home_of t) (t % 2 ^ 32))))
+uncounted_thread s t = other (some (sum_over s (started_at (home_of t) (count_of t))))
 
 abbrev uncounted_mutex : Sight → MutexNo → ℕ
 uncounted_mutex s m = other (some (sum_over s (made_at m.home m.count)))
 
-abbrev homes : (MutexNo → ℕ) → Thing → ℕ
-homes f (at_home s m) = f m.number
-homes f x = mutexes f x
+abbrev fetched_mutex : (MutexNo → ℕ) → Message → ℕ
+fetched_mutex f (Fetched w c t) = owned_mutex f c.value
+fetched_mutex f m = message_mutex f m
 
--- the count of each thread and mutex that is named anywhere is at most the count that its server has reached
+-- the mutexes that a thing names, with a weight, those at their homes and in copies too
+abbrev named_mutexes : (MutexNo → ℕ) → Thing → ℕ
+named_mutexes f (at_home s m) = f m.number
+named_mutexes f (copied s c) = owned_mutex f c.cell.value
+named_mutexes f (sent s m) = fetched_mutex f m
+named_mutexes f x = mutexes f x
+
+-- the count of each thread and mutex that is named anywhere, in copies too, is at most the count that its server has reached
 abbrev pub counted_wrong : Sight → ℕ
-counted_wrong s = sum_over s (threads (uncounted_thread s)) + sum_over s (homes (uncounted_mutex s))
+counted_wrong s = sum_over s (threads (uncounted_thread s)) + sum_over s (named_mutexes (uncounted_mutex s))
+
+abbrev zeroth_thread : ℕ → ℕ
+zeroth_thread t = one (count_of t == 0 && not (t == 0))
+
+abbrev zeroth_mutex : MutexNo → ℕ
+zeroth_mutex m = one (m.count == 0)
+
+-- no mutex, and no thread but main, has the count 0
+abbrev pub zeroth_wrong : Sight → ℕ
+zeroth_wrong s = sum_over s (threads zeroth_thread) + sum_over s (named_mutexes zeroth_mutex)
 
 abbrev event_count : Thing → ℕ
 event_count (counts r next old started made events) = events
@@ -197,3 +222,29 @@ pinned_parcel x = if_so x.packed (pins x.thread.slots + pins x.thread.temps)
 -- the servers are those of the run, and each part is one of its type; a parcel's references keep nothing in use
 abbrev pub parts_wrong : Cluster → Sight → ℕ
 parts_wrong k s = servers_wrong s 0 k.servers + sum_threads s pinned_parcel
+
+-- LIMITS
+
+abbrev between : ℕ → ℕ → ℕ → ℕ
+between low high n = other (nat_le low n && nat_le n high)
+
+-- the options of a run are in their ranges
+abbrev options_out : Options → ℕ
+options_out o =
+    between 1 64 o.servers + between 1 64 o.workers + between 1 65536 o.colours + between 0 65536 o.cache + between 1 1024 o.quantum
+    + between 1 1000000000 o.turns + between 0 1000000 o.balance + between 0 (2 ^ 64 - 1) o.choice
+
+abbrev pub options_wrong : Sight → ℕ
+options_wrong s = options_out s.options
+
+-- how many stars a place has at most
+abbrev pub most_stars : ℕ
+most_stars = 8
+
+abbrev long_holder : Thing → ℕ
+long_holder (borrows l r) = other (nat_le r.holder.depth most_stars)
+long_holder x = 0
+
+-- each holder has at most eight stars
+abbrev pub holders_wrong : Sight → ℕ
+holders_wrong s = sum_over s long_holder

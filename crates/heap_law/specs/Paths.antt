@@ -1,5 +1,5 @@
 -- Which place the next instruction of a thread follows, and how: which pointers it reads, which it writes through (this project's rules).
-use Rattle.std.specs.Prelude.{ℕ, zero, suc, ◌-◌, ◌==◌, Bool, true, false, not, ◌&&◌, ◌||◌, if◌then◌else◌, List, [], ◌∷◌, ◌++◌, Option, Some, None, slice_get}
+use Rattle.std.specs.Prelude.{ℕ, zero, suc, ◌+◌, ◌-◌, ◌==◌, Bool, true, false, not, ◌&&◌, ◌||◌, if◌then◌else◌, List, [], ◌∷◌, ◌++◌, Option, Some, None, slice_get}
 use Rattle.fr_base.specs.Lists.{last_of}
 use Rattle.fr_base.specs.declared.name.ObjNo.{ObjNo}
 use Rattle.fr_base.specs.declared.place.Lval.{Lval}
@@ -7,7 +7,7 @@ use Rattle.fr_base.specs.declared.instruction.Operand.{Operand}
 use Rattle.fr_base.specs.declared.instruction.Operand.TheVariants as operand
 use Rattle.fr_base.specs.declared.instruction.Instr.{Instr}
 use Rattle.fr_base.specs.declared.instruction.Instr.TheVariants as instr
-use Rattle.global_addr.specs.Words.{server_of}
+use Rattle.global_addr.specs.Words.{colour_of, server_of}
 use Rattle.heap_partition.specs.declared.value.Owned.TheVariants as owned
 use Rattle.mut_borrow.specs.declared.mutable.MutRef.{MutRef}
 use Rattle.thread_state.specs.View.{ThreadView}
@@ -73,48 +73,55 @@ written_place (writes w) = Some w
 written_place (ends r) = Some r.holder
 written_place p = None
 
--- what a thread may wait for on its path: an object under a word, that comes here or of which a copy comes
+-- what a thread may wait for on its path: an object under a word, that comes here or of which a copy comes; and whether a copy under
+-- that word may be read
 pub record Awaited : Type 0 where
   pub word : ℕ
   pub object : ObjNo
   pub comes : Bool
+  pub by_copy : Bool
 
--- a copy of what a pointer leads to is read; a dirty mutable reference is cleaned first, and its object comes here where that can't be
-abbrev to_read : Option Value → List Awaited
-to_read (Some (value.Own (owned.Box p))) = record { word = p.word; object = p.object; comes = false } ∷ []
-to_read (Some (value.Shared r)) = record { word = r.word; object = r.object; comes = false } ∷ []
-to_read (Some (value.Mut r)) = record { word = r.word; object = r.object; comes = r.dirty } ∷ []
-to_read v = []
+-- a dirty reference at the last of so many colours: it can't be cleaned by another colour
+abbrev is_spent : ℕ → MutRef → Bool
+is_spent colours r = r.dirty && (colour_of r.word + 1 == colours)
+
+-- a copy of what a pointer leads to is read, but not under the word of a dirty reference: that is cleaned first, and its object comes here where
+-- no colour is left
+abbrev to_read : ℕ → Option Value → List Awaited
+to_read colours (Some (value.Own (owned.Box p))) = record { word = p.word; object = p.object; comes = false; by_copy = true } ∷ []
+to_read colours (Some (value.Shared r)) = record { word = r.word; object = r.object; comes = false; by_copy = true } ∷ []
+to_read colours (Some (value.Mut r)) = record { word = r.word; object = r.object; comes = is_spent colours r; by_copy = not r.dirty } ∷ []
+to_read colours v = []
 
 -- what is written, lent or ended comes here
 abbrev to_write : Option Value → List Awaited
-to_write (Some (value.Own (owned.Box p))) = record { word = p.word; object = p.object; comes = true } ∷ []
-to_write (Some (value.Mut r)) = record { word = r.word; object = r.object; comes = true } ∷ []
+to_write (Some (value.Own (owned.Box p))) = record { word = p.word; object = p.object; comes = true; by_copy = false } ∷ []
+to_write (Some (value.Mut r)) = record { word = r.word; object = r.object; comes = true; by_copy = false } ∷ []
 to_write v = []
 
--- a reference that is dirty is cleaned
-abbrev to_clean : Option Value → List Awaited
-to_clean (Some (value.Mut r)) = if r.dirty then record { word = r.word; object = r.object; comes = true } ∷ [] else []
-to_clean v = []
+-- a reference that is dirty is cleaned, and its object comes here where no colour is left
+abbrev to_clean : ℕ → Option Value → List Awaited
+to_clean colours (Some (value.Mut r)) = if is_spent colours r then record { word = r.word; object = r.object; comes = true; by_copy = false } ∷ [] else []
+to_clean colours v = []
 
 abbrev all_to : (Option Value → List Awaited) → List (Option Value) → List Awaited
 all_to f [] = []
 all_to f (v ∷ vs) = f v ++ all_to f vs
 
 -- the last pointer of a borrow in its own way, those before it as reads
-abbrev borrow_to : (Option Value → List Awaited) → List (Option Value) → List Awaited
-borrow_to f [] = []
-borrow_to f (v ∷ []) = f v
-borrow_to f (v ∷ w ∷ vs) = to_read v ++ borrow_to f (w ∷ vs)
+abbrev borrow_to : ℕ → (Option Value → List Awaited) → List (Option Value) → List Awaited
+borrow_to colours f [] = []
+borrow_to colours f (v ∷ []) = f v
+borrow_to colours f (v ∷ w ∷ vs) = to_read colours v ++ borrow_to colours f (w ∷ vs)
 
--- all that the thread may wait for, in the order of the path
-abbrev pub awaited : Ground → ℕ → Path → List Awaited
-awaited g t no_path = []
-awaited g t (reads w) = all_to to_read (hops g t w w.depth)
-awaited g t (shares w) = borrow_to to_clean (hops g t w w.depth)
-awaited g t (lends w) = borrow_to to_write (hops g t w w.depth)
-awaited g t (writes w) = all_to to_write (hops g t w w.depth)
-awaited g t (ends r) = to_write (Some (value.Mut r)) ++ all_to to_write (hops g t r.holder r.holder.depth)
+-- all that the thread may wait for where words have so many colours, in the order of the path
+abbrev pub awaited : ℕ → Ground → ℕ → Path → List Awaited
+awaited colours g t no_path = []
+awaited colours g t (reads w) = all_to (to_read colours) (hops g t w w.depth)
+awaited colours g t (shares w) = borrow_to colours (to_clean colours) (hops g t w w.depth)
+awaited colours g t (lends w) = borrow_to colours to_write (hops g t w w.depth)
+awaited colours g t (writes w) = all_to to_write (hops g t w w.depth)
+awaited colours g t (ends r) = to_write (Some (value.Mut r)) ++ all_to to_write (hops g t r.holder r.holder.depth)
 
 -- the pointers that a place follows before the step: of a mutable borrow all but the last
 abbrev pub followed : Ground → ℕ → Path → List (Option Value)
@@ -122,9 +129,12 @@ followed g t (reads w) = hops g t w w.depth
 followed g t (lends w) = hops g t w (w.depth - 1)
 followed g t p = []
 
--- can be read at that server: it leads there, or the thread keeps a copy under its word and the pointer isn't a dirty reference
+-- a pointer with that word can be read through at a server: it leads there, or a copy may be read and is among those kept
+abbrev pub is_at_hand : List ℕ → ℕ → Bool → ℕ → Bool
+is_at_hand kept s by_copy w = (server_of w == s) || (by_copy && is_in w kept)
+
 abbrev pub is_readable : List ℕ → ℕ → Awaited → Bool
-is_readable kept s a = (server_of a.word == s) || (not a.comes && is_in a.word kept)
+is_readable kept s a = is_at_hand kept s a.by_copy a.word
 
 -- the first of these that isn't readable
 abbrev pub first_unreadable : List ℕ → ℕ → List Awaited → Option Awaited

@@ -14,11 +14,11 @@ use Rattle.thread_state.specs.declared.phase.Phase.TheVariants as phase
 use Rattle.server_msgs.specs.declared.message.Message.{Message}
 use Rattle.server_msgs.specs.declared.message.Message.TheVariants.{Fetch, Fetched, Move, Drop}
 use Rattle.heap_law.specs.Names.{tot, one, other, if_so, some, same_object, same_cell}
-use Rattle.heap_law.specs.Things.{Location, Thing, holds, shares, borrows, lies, flies, vacant, copied, uses, sent, stands}
+use Rattle.heap_law.specs.Things.{Location, Thing, holds, shares, borrows, lies, flies, vacant, retired, copied, uses, sent, stands}
 use Rattle.heap_law.specs.Follow.{Ground, value_behind}
 use Rattle.heap_law.specs.Stale.{Reference, references, is_among}
 use Rattle.heap_law.specs.Sight.{Sight, Pointer, is_stale, is_word, cell_of_word, is_object_among, word, issued}
-use Rattle.heap_law.specs.Weights.{cells, owners, states}
+use Rattle.heap_law.specs.Weights.{cells, owners, states, below}
 
 -- the sum over all things
 abbrev pub sum_over : Sight → (Thing → ℕ) → ℕ
@@ -131,11 +131,15 @@ other_spot s x = 0
 abbrev pub homeward_wrong : Sight → ℕ
 homeward_wrong s = sum_over s (other_spot s)
 
--- a free or retired address has no live object: each address below a server's next one is live once, or free once, or retired, and
--- no other address is
+-- each address below its server's next one is live once, or free once, or retired, and no other address is anything; so a free or retired
+-- address has no live object. (For each server and address as many states as the address is below a next one)
+abbrev state_wrong : Sight → ℕ → ℕ → ℕ
+state_wrong s r a = other (sum_over s (states r a) == sum_over s (below r a))
+
 abbrev other_states : Sight → Thing → ℕ
-other_states s (lies r a c) = other (tot (states r a) s.things == 1)
-other_states s (vacant r a next) = other (tot (states r a) s.things == 1)
+other_states s (lies r a c) = state_wrong s r a
+other_states s (vacant r a next) = state_wrong s r a
+other_states s (retired r a) = state_wrong s r a
 other_states s x = 0
 
 abbrev pub states_wrong : Sight → ℕ

@@ -19,7 +19,7 @@ use Rattle.join_home.specs.Tasks.{TaskState, asked, in_pair}
 use Rattle.server_msgs.specs.declared.message.Message.{Message}
 use Rattle.server_msgs.specs.declared.message.Message.TheVariants.{Fetch, Fetched, Move, Moved, Drop, Lock, Granted, Unlock, Dup, Dupped, Release, Start, Join, Joined, Finished}
 use Rattle.heap_law.specs.Names.{tot, one, other, if_so, some, same_object, same_mutex, same_owned}
-use Rattle.heap_law.specs.Things.{Location, in_cell, Thing, sent, queued, noted}
+use Rattle.heap_law.specs.Things.{Location, in_cell, Thing, sent, stands, queued, noted}
 use Rattle.heap_law.specs.Follow.{Standing, thread_at, place_at, value_at, hop_at}
 use Rattle.heap_law.specs.Sight.{Sight, is_word, word}
 use Rattle.heap_law.specs.Weights.{lies_at}
@@ -121,7 +121,7 @@ abbrev phase_fits : Sight → ℕ → (Phase → Bool) → ℕ
 phase_fits s t f = other (in_phase f (thread_at s.ground.threads t))
 
 abbrev pub awaited_at : Sight → Standing → ℕ → Option Awaited
-awaited_at s x w = awaited_under (awaited s.ground x.thread.number (path s x)) w
+awaited_at s x w = awaited_under (awaited s.options.colours s.ground x.thread.number (path s x)) w
 
 abbrev is_its_object : ObjNo → Option Awaited → Bool
 is_its_object o None = false
@@ -290,32 +290,60 @@ par_end s x = other (same_truth (is_par_end (instr_of s x)) (is_par x.thread.pha
 abbrev pub par_ends_wrong : Sight → ℕ
 par_ends_wrong s = sum_threads s (par_end s)
 
--- that thread noted at that server as in a pair of the parent: over, or either way
-abbrev half_noted : TaskState → ℕ → Bool
+abbrev pub half_noted : TaskState → ℕ → Bool
 half_noted (in_pair q over) parent = q == parent
 half_noted x parent = false
+
+-- a note at that server of that thread as in a pair of the parent
+abbrev pub pair_notes : ℕ → ℕ → ℕ → Thing → ℕ
+pair_notes r parent t (noted q x) = one ((q == r && x.thread == t) && half_noted x.state parent)
+pair_notes r parent t x = 0
+
+abbrev pub branch_places : ℕ → Phase → ℕ
+branch_places t (phase.WaitPar a b) = one (a == t) + one (b == t)
+branch_places t p = 0
+
+-- a place of that thread in the phase `WaitPar` of the parent, which stands at that server or goes there
+abbrev pub pair_places : ℕ → ℕ → ℕ → Thing → ℕ
+pair_places r parent t (stands q p x) = if_so (q == r && x.number == parent) (branch_places t x.phase)
+pair_places r parent t x = 0
+
+abbrev unpaired : Sight → ℕ → ℕ → ℕ → ℕ
+unpaired s r parent t = other (sum_over s (pair_notes r parent t) == sum_over s (pair_places r parent t))
+
+abbrev unpaired_note : Sight → ℕ → ℕ → TaskState → ℕ
+unpaired_note s r t (in_pair p over) = unpaired s r p t
+unpaired_note s r t x = 0
+
+abbrev unpaired_phase : Sight → ℕ → ℕ → Phase → ℕ
+unpaired_phase s r p (phase.WaitPar a b) = unpaired s r p a + unpaired s r p b
+unpaired_phase s r p x = 0
+
+abbrev not_paired : Sight → Thing → ℕ
+not_paired s (noted r x) = unpaired_note s r x.thread x.state
+not_paired s (stands r p x) = unpaired_phase s r x.number x.phase
+not_paired s x = 0
+
+-- a server notes a thread as in the pair of a parent exactly where the parent stands there, or goes there, in `WaitPar(a, b)` with that thread among a
+-- and b; so such a note answers nobody who waits for something else. (For each server, parent and thread as many notes as places)
+abbrev pub pairs_wrong : Sight → ℕ
+pairs_wrong s = sum_over s (not_paired s)
 
 abbrev half_over : TaskState → Bool
 half_over (in_pair q over) = over
 half_over x = false
 
-abbrev half_at : ℕ → ℕ → ℕ → Thing → ℕ
-half_at r parent t (noted q x) = one ((q == r && x.thread == t) && half_noted x.state parent)
-half_at r parent t x = 0
-
 abbrev over_at : ℕ → ℕ → Thing → ℕ
 over_at r t (noted q x) = one ((q == r && x.thread == t) && half_over x.state)
 over_at r t x = 0
 
-abbrev is_pair : Sight → Standing → Phase → ℕ
-is_pair s x (phase.WaitPar a b) =
-    other (((some (sum_over s (half_at x.server x.thread.number a)) && some (sum_over s (half_at x.server x.thread.number b)))
-    && not (a == b)) && not (some (sum_over s (over_at x.server a)) && some (sum_over s (over_at x.server b))))
-is_pair s x p = 0
+abbrev both_over : Sight → Standing → Phase → ℕ
+both_over s x (phase.WaitPar a b) = other (not (a == b) && not (some (sum_over s (over_at x.server a)) && some (sum_over s (over_at x.server b))))
+both_over s x p = 0
 
--- in `WaitPar(a, b)` the threads a and b are the pair of that thread at its server, and not both are noted there as over
-abbrev pub pairs_wrong : Sight → ℕ
-pairs_wrong s = sum_threads s (λ x. is_pair s x x.thread.phase)
+-- in `WaitPar(a, b)` the threads a and b differ, and not both are noted as over at that thread's server
+abbrev pub waited_pairs_wrong : Sight → ℕ
+waited_pairs_wrong s = sum_threads s (λ x. both_over s x x.thread.phase)
 
 abbrev comes_by : ℕ → Message → Bool → Bool
 comes_by t (Fetch w o s u) comes = u == t && not comes

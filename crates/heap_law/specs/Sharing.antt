@@ -12,7 +12,7 @@ use Rattle.join_home.specs.Tasks.{TaskState, going, let_go, kept, asked, in_pair
 use Rattle.server_msgs.specs.declared.message.Message.{Message}
 use Rattle.server_msgs.specs.declared.message.Message.TheVariants.{Lock, Granted, Unlock, Dup, Dupped, Release, Joined, Finished}
 use Rattle.heap_law.specs.Names.{one, other, if_so, some, same_mutex}
-use Rattle.heap_law.specs.Things.{Spot, as_content, Thing, holds, locks, lies, flies, sent, stands, at_home, queued, noted}
+use Rattle.heap_law.specs.Things.{at_slot, at_temp, Spot, as_content, Thing, holds, locks, lies, flies, sent, stands, at_home, queued, noted}
 use Rattle.heap_law.specs.Follow.{Standing, thread_at}
 use Rattle.heap_law.specs.Sight.{Sight}
 use Rattle.heap_law.specs.Weights.{shares_of, tasks_of}
@@ -23,7 +23,7 @@ use Rattle.heap_law.specs.Requests.{home_of, locked_mutex}
 
 -- NAMES OF MUTEXES
 
-abbrev owned_mutex : (MutexNo → ℕ) → Owned → ℕ
+abbrev pub owned_mutex : (MutexNo → ℕ) → Owned → ℕ
 owned_mutex f (owned.Mutex m) = f m
 owned_mutex f v = 0
 
@@ -31,7 +31,7 @@ abbrev released_mutex : (MutexNo → ℕ) → Released → ℕ
 released_mutex f (released.Mutex m) = f m
 released_mutex f (released.Task t) = 0
 
-abbrev message_mutex : (MutexNo → ℕ) → Message → ℕ
+abbrev pub message_mutex : (MutexNo → ℕ) → Message → ℕ
 message_mutex f (Lock m s t) = f m
 message_mutex f (Granted m v t) = f m
 message_mutex f (Unlock m v) = f m
@@ -48,7 +48,7 @@ phase_mutex f p = 0
 -- the mutexes that a thing names, with a weight; copies name none
 abbrev pub mutexes : (MutexNo → ℕ) → Thing → ℕ
 mutexes f (holds p v) = owned_mutex f v
-mutexes f (locks t m) = f m
+mutexes f (locks l m) = f m
 mutexes f (lies s a c) = owned_mutex f c.value
 mutexes f (flies w c) = owned_mutex f c.value
 mutexes f (sent s m) = message_mutex f m
@@ -87,12 +87,20 @@ is_content_of m p = 0
 
 abbrev contents_at : MutexNo → Thing → ℕ
 contents_at m (holds p v) = is_content_of m p
-contents_at m (locks t n) = one (same_mutex n m)
+contents_at m (locks (at_slot t i) n) = one (same_mutex n m)
 contents_at m x = 0
 
 -- the places of a mutex's content: its home, a `granted` or `unlock` message, the slot above a hidden slot, a gift at a lock
 abbrev pub contents_of : Sight → MutexNo → ℕ
 contents_of s m = sum_over s (contents_at m) + sum_threads s (gift_content s m)
+
+abbrev loose_mark : Thing → ℕ
+loose_mark (locks (at_temp t i) m) = 1
+loose_mark x = 0
+
+-- the mark of a lock stands in a slot alone
+abbrev pub marks_wrong : Sight → ℕ
+marks_wrong s = sum_over s loose_mark
 
 abbrev other_content : Sight → Thing → ℕ
 other_content s (at_home r m) = other (contents_of s m.number == 1)
@@ -154,29 +162,34 @@ abbrev pub finished : ℕ → Thing → ℕ
 finished t (sent s m) = finished_of t m
 finished t x = 0
 
-abbrev is_alive : Option Standing → Bool
-is_alive None = false
-is_alive (Some x) = not (is_over x.thread.phase)
+-- a note of the thread as one that goes on
+abbrev pub going_notes : ℕ → Thing → ℕ
+going_notes t (noted r x) = one (x.thread == t && going_on x.state)
+going_notes t x = 0
 
--- a thread that isn't over, or whose `finished` waits
-abbrev runs_on : Sight → ℕ → Bool
-runs_on s t = is_alive (thread_at s.ground.threads t) || some (sum_over s (finished t))
+-- the thread stands somewhere and isn't over, or its `finished` message waits
+abbrev pub goes_on : ℕ → Thing → ℕ
+goes_on t (stands r p x) = one (x.number == t && not (is_over x.phase))
+goes_on t (sent r m) = finished_of t m
+goes_on t x = 0
 
-abbrev noted_wrongly : Sight → Thing → ℕ
-noted_wrongly s (noted r x) = if_so (going_on x.state) (other ((runs_on s x.thread && home_of x.thread == r) && not (x.thread == 0)))
-noted_wrongly s x = 0
+abbrev miscounted : Sight → ℕ → ℕ
+miscounted s t = if_so (not (t == 0)) (other (sum_over s (going_notes t) == sum_over s (goes_on t)))
 
-abbrev noted_going : ℕ → Thing → ℕ
-noted_going t (noted r x) = one ((x.thread == t && home_of t == r) && going_on x.state)
-noted_going t x = 0
+abbrev finished_miscounted : Sight → Message → ℕ
+finished_miscounted s (Finished t v) = miscounted s t
+finished_miscounted s m = 0
 
-abbrev not_noted : Sight → Standing → ℕ
-not_noted s x = if_so (not (x.thread.number == 0) && runs_on s x.thread.number) (other (sum_over s (noted_going x.thread.number) == 1))
+abbrev going_wrong : Sight → Thing → ℕ
+going_wrong s (noted r x) = if_so (going_on x.state) (other (home_of x.thread == r && not (x.thread == 0)) + miscounted s x.thread)
+going_wrong s (stands r p x) = if_so (not (is_over x.phase)) (miscounted s x.number)
+going_wrong s (sent r m) = finished_miscounted s m
+going_wrong s x = 0
 
 -- the threads that a home has as going, let go, asked, or in a pair and not over are exactly the threads other than main that it started and that
--- aren't over or whose `finished` message waits
+-- aren't over or whose `finished` message waits. (As many such notes of a thread as it goes on and finishes, all at its home)
 abbrev pub noted_wrong : Sight → ℕ
-noted_wrong s = sum_over s (noted_wrongly s) + sum_threads s (not_noted s)
+noted_wrong s = sum_over s (going_wrong s)
 
 abbrev kept_elsewhere : ℕ → ℕ → TaskState → ℕ
 kept_elsewhere r t (kept v) = other (home_of t == r)
@@ -189,26 +202,6 @@ kept_away x = 0
 -- a result is kept at its thread's home alone
 abbrev pub kept_wrong : Sight → ℕ
 kept_wrong s = sum_over s kept_away
-
-abbrev is_early : Sight → ℕ → ℕ
-is_early s t = one (t == 0 || is_alive (thread_at s.ground.threads t))
-
-abbrev early_note : Sight → ℕ → TaskState → ℕ
-early_note s t (kept v) = is_early s t
-early_note s t x = 0
-
-abbrev early_message : Sight → Message → ℕ
-early_message s (Finished t v) = is_early s t
-early_message s m = 0
-
-abbrev early_result : Sight → Thing → ℕ
-early_result s (noted r x) = early_note s x.thread x.state
-early_result s (sent r m) = early_message s m
-early_result s x = 0
-
--- no result is kept or in a `finished` message for main, or for a thread or parcel that isn't over
-abbrev pub early_wrong : Sight → ℕ
-early_wrong s = sum_over s (early_result s)
 
 -- TASK VALUES
 
@@ -293,70 +286,61 @@ kept_note (kept v) = 1
 kept_note (in_pair t over) = one over
 kept_note x = 0
 
-abbrev result_noted : ℕ → Thing → ℕ
-result_noted t (noted r x) = if_so (x.thread == t) (kept_note x.state)
-result_noted t x = 0
-
 abbrev pub got_phase : ℕ → Phase → ℕ
 got_phase t (phase.GotPar a b) = one (a == t) + one (b == t)
 got_phase t p = 0
 
-abbrev got_par : ℕ → Standing → ℕ
-got_par t x = got_phase t x.thread.phase
+-- the places of a thread's result but for gifts: kept, or noted as over in its pair; in a `finished` or `joined` message; the phase `GotPar` of its parent
+abbrev pub result_places : ℕ → Thing → ℕ
+result_places t (noted r x) = if_so (x.thread == t) (kept_note x.state)
+result_places t (sent r m) = finished_of t m + joined_of t m
+result_places t (stands r p x) = got_phase t x.phase
+result_places t x = 0
 
--- the places of a thread's result: kept, or noted as over in its pair; in a `finished` or `joined` message; a gift; the phase `GotPar` of its parent
+-- all the places of a thread's result, the gift at a join too
 abbrev pub results_of : Sight → ℕ → ℕ
-results_of s t = sum_over s (result_noted t) + sum_over s (finished t) + being_joined s t + sum_threads s (got_par t)
+results_of s t = sum_over s (result_places t) + sum_threads s (gift_result s t)
 
-abbrev two_results : Sight → Standing → ℕ
-two_results s x = other (nat_le (results_of s x.thread.number) 1)
+-- the thread stands somewhere, isn't main and is over
+abbrev pub has_ended : ℕ → Thing → ℕ
+has_ended t (stands r p x) = one (x.number == t && (is_over x.phase && not (t == 0)))
+has_ended t x = 0
 
--- each ended thread's result stands in one place or was taken or let go once
+abbrev no_result : Sight → ℕ → ℕ
+no_result s t = other (nat_le (results_of s t) (sum_over s (has_ended t)))
+
+abbrev message_result : (ℕ → ℕ) → Message → ℕ
+message_result f (Joined t v by) = f t
+message_result f (Finished t v) = f t
+message_result f m = 0
+
+abbrev phase_result : (ℕ → ℕ) → Phase → ℕ
+phase_result f (phase.GotPar a b) = f a + f b
+phase_result f p = 0
+
+-- the threads whose result a thing is, with a weight
+abbrev result_names : (ℕ → ℕ) → Thing → ℕ
+result_names f (noted r x) = if_so (some (kept_note x.state)) (f x.thread)
+result_names f (sent r m) = message_result f m
+result_names f (stands r p x) = phase_result f x.phase
+result_names f x = 0
+
+abbrev task_result : (ℕ → ℕ) → Option ℕ → ℕ
+task_result f None = 0
+task_result f (Some t) = f t
+
+abbrev gift_names : Sight → (ℕ → ℕ) → Standing → ℕ
+gift_names s f x = if_so (is_some x.thread.gift) (task_result f (joined_thread (instr_of s x) x.thread))
+
+-- a result stands only of a thread that stands somewhere and is over, and not of main, and in at most one place: kept, or noted as over in its pair; in a
+-- `finished` or `joined` message; as the gift at a join; in the phase `GotPar` of its parent. (As many places as there are such threads, at most)
 abbrev pub results_wrong : Sight → ℕ
-results_wrong s = sum_threads s (two_results s)
+results_wrong s = sum_over s (result_names (no_result s)) + sum_threads s (gift_names s (no_result s))
 
-abbrev is_ended : Option Standing → Bool
-is_ended None = false
-is_ended (Some x) = is_over x.thread.phase
+abbrev named_pair : Sight → Phase → ℕ
+named_pair s (phase.GotPar a b) = other (not (some (named_by s a + named_by s b)))
+named_pair s p = 0
 
-abbrev has_ended : Sight → ℕ → Bool
-has_ended s t = is_ended (thread_at s.ground.threads t)
-
-abbrev got_pair : Sight → Phase → ℕ
-got_pair s (phase.GotPar a b) = other (((not (a == b) && has_ended s a) && has_ended s b) && not (some (named_by s a + named_by s b)))
-got_pair s p = 0
-
--- the two threads of `GotPar(a, b)` differ, have ended and are named by no task value
+-- the two threads of `GotPar(a, b)` are named by no task value. (They differ and have ended, since their results stand there)
 abbrev pub got_pairs_wrong : Sight → ℕ
-got_pairs_wrong s = sum_threads s (λ x. got_pair s x.thread.phase)
-
-abbrev unended_message : Sight → Message → ℕ
-unended_message s (Joined t v by) = other (has_ended s t)
-unended_message s m = 0
-
-abbrev unended : Sight → Thing → ℕ
-unended s (sent r m) = unended_message s m
-unended s x = 0
-
-abbrev unended_task : Sight → Option ℕ → ℕ
-unended_task s None = 0
-unended_task s (Some t) = other (has_ended s t)
-
-abbrev unended_gift : Sight → Standing → ℕ
-unended_gift s x = if_so (is_some x.thread.gift) (unended_task s (joined_thread (instr_of s x) x.thread))
-
--- the thread whose result a `joined` message carries, or whose result is the gift at a `Join`, has ended
-abbrev pub joined_wrong : Sight → ℕ
-joined_wrong s = sum_over s (unended s) + sum_threads s (unended_gift s)
-
-abbrev is_kept : TaskState → Bool
-is_kept (kept v) = true
-is_kept x = false
-
-abbrev noted_nobody : Sight → Thing → ℕ
-noted_nobody s (noted r x) = other (is_some (thread_at s.ground.threads x.thread) || is_kept x.state)
-noted_nobody s x = 0
-
--- what a home records names threads that stand somewhere or whose result it keeps. (A counted thread that stands nowhere is ended and taken)
-abbrev pub recorded_wrong : Sight → ℕ
-recorded_wrong s = sum_over s (noted_nobody s)
+got_pairs_wrong s = sum_threads s (λ x. named_pair s x.thread.phase)

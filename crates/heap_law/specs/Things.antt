@@ -41,8 +41,8 @@ pub data Thing : Type 0 where
   -- a shared reference or view to an object; a mutable one
   shares : (p : Location) (r : SharedRef) → Thing
   borrows : (p : Location) (r : MutRef) → Thing
-  -- the hidden slot of a lock: the slot above it has the mutex's content
-  locks : (thread : ℕ) (m : MutexNo) → Thing
+  -- the mark of a lock, in its hidden slot: the slot above it has the mutex's content
+  locks : (p : Location) (m : MutexNo) → Thing
   -- an object's cell, at an address of a server or in a `moved` message with the word that it had
   lies : (server address : ℕ) (c : Cell) → Thing
   flies : (word : ℕ) (c : Cell) → Thing
@@ -82,8 +82,7 @@ value_things s p l (value.SharedSlot i) = []
 value_things s p l (value.MutSlot i) = []
 value_things s p l (value.Shared r) = shares l r ∷ pin_things s r
 value_things s p l (value.Mut r) = borrows l r ∷ []
-value_things s (in_slot t i) l (value.Held m) = locks t m ∷ []
-value_things s p l (value.Held m) = []
+value_things s p l (value.Held m) = locks l m ∷ []
 
 abbrev pub slot_things : ℕ → ℕ → ℕ → Value → List Thing
 slot_things s t i v = value_things s (in_slot t i) (at_slot t i) v

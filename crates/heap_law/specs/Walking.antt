@@ -14,12 +14,12 @@ use Rattle.thread_state.specs.declared.phase.Phase.{Phase}
 use Rattle.thread_state.specs.declared.phase.Phase.TheVariants as phase
 use Rattle.server_msgs.specs.declared.message.Message.{Message}
 use Rattle.server_msgs.specs.declared.message.Message.TheVariants.{Fetch, Move}
-use Rattle.heap_law.specs.Names.{tot, one, other, if_so, some, is_in}
+use Rattle.heap_law.specs.Names.{tot, one, other, if_so, some}
 use Rattle.heap_law.specs.Things.{Location, Thing, copied, uses, sent}
 use Rattle.heap_law.specs.Follow.{Standing, Ground, locate, value_behind, hop_at}
 use Rattle.heap_law.specs.Sight.{Sight, is_stale}
 use Rattle.heap_law.specs.Weights.{lies_at, copies, cached, uses_of}
-use Rattle.heap_law.specs.Paths.{Path, no_path, lends, writes, ends, path_of, written_place, Awaited, awaited, followed, first_unreadable}
+use Rattle.heap_law.specs.Paths.{Path, no_path, lends, writes, ends, path_of, written_place, Awaited, awaited, followed, is_at_hand, first_unreadable}
 use Rattle.heap_law.specs.Placing.{sum_over}
 
 -- the sum over all threads, those in parcels too
@@ -113,6 +113,17 @@ still_walks x = if_so (walks_not x.thread.phase) (length x.thread.walk)
 abbrev pub walk_phase_wrong : Sight → ℕ
 walk_phase_wrong s = sum_threads s still_walks
 
+abbrev is_join : Option Instr → Bool
+is_join (Some (instr.Join o)) = true
+is_join i = false
+
+-- the walk is empty at a `Join`, in every phase
+abbrev walks_at_join : Sight → Standing → ℕ
+walks_at_join s x = if_so (is_join (instr_of s x)) (length x.thread.walk)
+
+abbrev pub join_walk_wrong : Sight → ℕ
+join_walk_wrong s = sum_threads s (walks_at_join s)
+
 abbrev is_ready : Phase → Bool
 is_ready phase.Ready = true
 is_ready p = false
@@ -139,14 +150,12 @@ pinned_words (v ∷ vs) = pinned_words vs
 abbrev kept_words : ThreadView → List ℕ
 kept_words t = t.walk ++ pinned_words t.slots ++ pinned_words t.temps
 
-abbrev kept_at : ℕ → List ℕ → ℕ → ℕ
-kept_at r kept w = other ((server_of w == r) || is_in w kept)
-
--- a pointer to an object that is followed leads to an object here or to a copy that the thread keeps
+-- a pointer to an object that is followed leads to an object here or to a copy that the thread keeps; a dirty reference leads here, since copies
+-- under its word are old
 abbrev loose_hop : ℕ → List ℕ → Option Value → ℕ
-loose_hop r kept (Some (value.Own (owned.Box p))) = kept_at r kept p.word
-loose_hop r kept (Some (value.Shared q)) = kept_at r kept q.word
-loose_hop r kept (Some (value.Mut q)) = kept_at r kept q.word
+loose_hop r kept (Some (value.Own (owned.Box p))) = other (is_at_hand kept r true p.word)
+loose_hop r kept (Some (value.Shared q)) = other (is_at_hand kept r true q.word)
+loose_hop r kept (Some (value.Mut q)) = other (is_at_hand kept r (not q.dirty) q.word)
 loose_hop r kept v = 0
 
 abbrev is_pull : List Awaited → ℕ → Bool
@@ -160,7 +169,7 @@ has_gift_there (Some v) (Some (instr.Dup w)) = true
 has_gift_there v i = false
 
 abbrev waits_for_lent : Sight → Standing → Path → ℕ → Bool
-waits_for_lent s x (lends p) w = is_pull (awaited s.ground x.thread.number (lends p)) w
+waits_for_lent s x (lends p) w = is_pull (awaited s.options.colours s.ground x.thread.number (lends p)) w
 waits_for_lent s x p w = false
 
 abbrev has_followed : Sight → Standing → Phase → Bool
@@ -172,7 +181,7 @@ has_followed s x p = has_gift_there x.thread.gift (instr_of s x)
 
 -- a thread has followed its place where it is in phase `WaitLock`, `WaitDup` or `Taken`, or has a gift at a `Lock` or `Dup`, or is in `WaitCell`
 -- for the pull of the object of its `BorrowMut`. Each pointer to an object that this place follows, in a `BorrowMut` all but the last, leads
--- to an object at its server or to a copy that its walk or a pinned reference of it keeps
+-- to an object at its server or, but for a dirty reference, to a copy that its walk or a pinned reference of it keeps
 abbrev lost_place : Sight → Standing → ℕ
 lost_place s x = if_so (has_followed s x x.thread.phase) (tot (loose_hop x.server (kept_words x.thread)) (followed s.ground x.thread.number (path s x)))
 
@@ -198,7 +207,7 @@ abbrev waits_in_turn : Sight → Standing → ℕ → Path → ℕ
 waits_in_turn s x w no_path = 0
 waits_in_turn s x w (writes p) = other (is_next_hop s x w p)
 waits_in_turn s x w (ends r) = other (r.word == w || is_next_hop s x w r.holder)
-waits_in_turn s x w p = other (is_awaited w (first_unreadable (kept_words x.thread) x.server (awaited s.ground x.thread.number p)))
+waits_in_turn s x w p = other (is_awaited w (first_unreadable (kept_words x.thread) x.server (awaited s.options.colours s.ground x.thread.number p)))
 
 abbrev out_of_turn : Sight → Standing → Phase → ℕ
 out_of_turn s x (phase.WaitCell w) = waits_in_turn s x w (path s x)

@@ -1,5 +1,5 @@
 -- Weights of things: how much each thing counts for a sentence of coherent memory. Their sums over all things say the sentence.
-use Rattle.std.specs.Prelude.{ℕ, ◌==◌, ◌&&◌}
+use Rattle.std.specs.Prelude.{ℕ, ◌==◌, nat_lt, ◌&&◌}
 use Rattle.fr_base.specs.declared.name.ObjNo.{ObjNo}
 use Rattle.fr_base.specs.declared.name.MutexNo.{MutexNo}
 use Rattle.fr_base.specs.declared.release.Released.{Released}
@@ -7,7 +7,7 @@ use Rattle.fr_base.specs.declared.release.Released.TheVariants as released
 use Rattle.server_msgs.specs.declared.message.Message.{Message}
 use Rattle.server_msgs.specs.declared.message.Message.TheVariants.{Fetched, Drop, Dupped, Release}
 use Rattle.heap_law.specs.Names.{one, same_object, same_mutex, boxes, mutex_values, task_values}
-use Rattle.heap_law.specs.Things.{Thing, holds, lies, flies, vacant, retired, copied, uses, sent, stands, at_home}
+use Rattle.heap_law.specs.Things.{Thing, holds, lies, flies, vacant, retired, copied, uses, sent, stands, at_home, counts}
 
 -- CELLS AND OWNERS
 
@@ -37,6 +37,11 @@ states s a (lies r b c) = one (r == s && b == a)
 states s a (vacant r b next) = one (r == s && b == a)
 states s a (retired r b) = one (r == s && b == a)
 states s a x = 0
+
+-- the address is below its server's next one
+abbrev pub below : ℕ → ℕ → Thing → ℕ
+below s a (counts r next old started made events) = one (r == s && nat_lt a next)
+below s a x = 0
 
 abbrev pub lies_at : ℕ → ObjNo → Thing → ℕ
 lies_at s o (lies r a c) = one (r == s && same_object c.object o)
