@@ -12,7 +12,7 @@ use Rattle.join_home.specs.Tasks.{Task, going, let_go, kept, asked, in_pair}
 use Rattle.server_msgs.specs.declared.message.Message.{Message}
 use Rattle.server_msgs.specs.declared.message.Message.TheVariants.{Fetch, Move, Moved, Drop, Dupped, Release, Finished}
 use Rattle.server_model.specs.Servers.{Server, Cluster}
-use Rattle.heap_law.specs.Coherent.{broken, one_answer, asked_answers, carry_what_is_asked, go_right, return_right, askers_stand, phases_stand, par_ends, pairs_noted, pairs_go_on, cells_awaited, taken_stands, taken_is_new, gifts_got, gifts_fit, named_are_there, at_their_home, one_content, shares_counted, queue_while_out, content_without_shares, thread_homes, noted_go_on, kept_at_home, one_task_value, task_values_owed, one_result, pairs_unnamed, marks_in_slots, over_are_bare, none_owns_itself, parents_end, branches_give_unit, numbers_differ, objects_made, names_counted, counts_from_one, few_names, counts_bounded, parts_are_typed, options_in_range, holders_short}
+use Rattle.heap_law.specs.Coherent.{broken, one_answer, asked_answers, carry_what_is_asked, go_right, return_right, askers_stand, phases_stand, par_ends, pairs_noted, pairs_go_on, cells_awaited, taken_stands, taken_is_new, gifts_got, gifts_fit, named_are_there, at_their_home, one_content, shares_counted, queue_while_out, content_without_shares, thread_homes, noted_go_on, noted_at_home, one_task_value, task_values_owed, one_result, pairs_unnamed, marks_in_slots, over_are_bare, none_owns_itself, parents_end, branches_give_unit, numbers_differ, objects_made, names_counted, counts_from_one, few_names, counts_bounded, parts_are_typed, options_in_range, holders_short}
 use Rattle.heap_law.specs.Clusters.{place, thread_no, object, int, cell, box, the_mutex, word_1, word_2, word_3, main_waiting, reader, locker, joiner, worker, copy_of, held_mutex, task, options, server_0, server_1, cluster, middle, relent_server, relent}
 use Rattle.heap_law.specs.Busy.{old_0, new_1, at_2, at_3, at_4, has_task, parent, writer, lender, viewer, ended, gifted, dupper, joined, fetcher, dropped, mover, shared_mutex, busy_partition, busy_notes, busy_0, busy_1, of_busy}
 use Rattle.heap_law.specs.Broken.{reference, Breaks}
@@ -123,7 +123,10 @@ pub record SharingBreaks : Type 0 where
   -- main is noted
   pub main_noted : Breaks noted_go_on (with_notes (task 0 let_go ∷ server_0.tasks))
   -- a result kept away from its thread's home
-  pub result_away : Breaks kept_at_home (of_busy (record busy_0 { tasks = busy_notes ++ task (thread_no 1 2) (kept (int 3)) ∷ [] }) (record busy_1 { tasks = task (thread_no 1 3) going ∷ task (thread_no 1 4) going ∷ []; inbox = Moved old_0 (record { object = object 0; value = int 1 }) (thread_no 0 1) ∷ Release (released.Task (thread_no 1 3)) ∷ [] }))
+  pub result_away : Breaks noted_at_home (of_busy (record busy_0 { tasks = busy_notes ++ task (thread_no 1 2) (kept (int 3)) ∷ [] }) (record busy_1 { tasks = task (thread_no 1 3) going ∷ task (thread_no 1 4) going ∷ []; inbox = Moved old_0 (record { object = object 0; value = int 1 }) (thread_no 0 1) ∷ Release (released.Task (thread_no 1 3)) ∷ [] }))
+  -- a branch is noted as over away from its home
+  pub branch_away : Breaks noted_at_home (of_busy (record busy_0 { tasks = task (thread_no 0 1) going ∷ task (thread_no 0 2) going ∷ task (thread_no 0 3) (in_pair 0 false) ∷ task (thread_no 0 5) going ∷ task (thread_no 0 6) going ∷ task (thread_no 0 7) going ∷ task (thread_no 0 8) going ∷ task (thread_no 1 5) (in_pair 0 true) ∷ [];
+      threads = record parent { phase = phase.WaitPar (thread_no 0 3) (thread_no 1 5) } ∷ ended 0 4 ∷ dupper ∷ ended 1 1 ∷ dropped ∷ ended 1 5 ∷ [] }) (record busy_1 { started = 5 }))
   -- the result of a thread that goes on
   pub early_result : broken (with_notes (task (thread_no 0 1) (kept (int 3)) ∷ task (thread_no 0 2) going ∷ task (thread_no 0 3) going ∷ [])) ≡ noted_go_on ∷ one_result ∷ []
   -- two task values of a thread

@@ -8,7 +8,7 @@ use Rattle.heap_law.specs.Sight.{Sight, sight}
 use Rattle.heap_law.specs.Placing.{homes_wrong, owners_wrong, owned_wrong, issued_wrong, colours_wrong, same_word_wrong, homeward_wrong, states_wrong, first_wrong, different_words_wrong, dirty_wrong, copies_wrong, served_wrong}
 use Rattle.heap_law.specs.Walking.{passed_wrong, passed_boxes_wrong, passed_references_wrong, passed_phase_wrong, passed_count_wrong, walk_phase_wrong, join_walk_wrong, parcels_wrong, followed_wrong, turn_wrong, own_requests_wrong, users_wrong, uncached_wrong}
 use Rattle.heap_law.specs.Requests.{answers_wrong, unasked_wrong, carried_wrong, routes_wrong, returns_wrong, askers_wrong, phases_wrong, par_ends_wrong, pairs_wrong, waited_pairs_wrong, cells_wrong, taken_wrong, taken_words_wrong, gift_phases_wrong, gifts_wrong}
-use Rattle.heap_law.specs.Sharing.{named_wrong, mutex_homes_wrong, contents_wrong, marks_wrong, shares_wrong, queues_wrong, last_shares_wrong, thread_homes_wrong, noted_wrong, kept_wrong, tasks_wrong, owed_wrong, results_wrong, got_pairs_wrong}
+use Rattle.heap_law.specs.Sharing.{named_wrong, mutex_homes_wrong, contents_wrong, marks_wrong, shares_wrong, queues_wrong, last_shares_wrong, thread_homes_wrong, noted_wrong, notes_wrong, tasks_wrong, owed_wrong, results_wrong, got_pairs_wrong}
 use Rattle.heap_law.specs.Rooted.{over_wrong, ownership_wrong, parents_wrong, branches_wrong}
 use Rattle.heap_law.specs.Naming.{numbers_wrong, made_wrong, counted_wrong, zeroth_wrong, names_count_wrong, large_wrong, parts_wrong, options_wrong, holders_wrong}
 
@@ -72,7 +72,7 @@ pub data Sentence : Type 0 where
   content_without_shares : Sentence
   thread_homes : Sentence
   noted_go_on : Sentence
-  kept_at_home : Sentence
+  noted_at_home : Sentence
   one_task_value : Sentence
   task_values_owed : Sentence
   one_result : Sentence
@@ -146,7 +146,7 @@ breaches_in k s queue_while_out = queues_wrong s
 breaches_in k s content_without_shares = last_shares_wrong s
 breaches_in k s thread_homes = thread_homes_wrong s
 breaches_in k s noted_go_on = noted_wrong s
-breaches_in k s kept_at_home = kept_wrong s
+breaches_in k s noted_at_home = notes_wrong s
 breaches_in k s one_task_value = tasks_wrong s
 breaches_in k s task_values_owed = owed_wrong s
 breaches_in k s one_result = results_wrong s
@@ -295,8 +295,8 @@ pub record MutexesAndTasks (k : Cluster) : Type 0 where
   pub thread_homes : Holds k thread_homes
   -- the threads that a home has as going, let go, asked or in a pair and not over are those that it started and that go on or whose `finished` waits
   pub noted_go_on : Holds k noted_go_on
-  -- a result is kept at its thread's home alone
-  pub kept_at_home : Holds k kept_at_home
+  -- what is noted of a thread, its result too, stands at its home alone
+  pub noted_at_home : Holds k noted_at_home
   -- a thread is named by at most one task value or `release`
   pub one_task_value : Holds k one_task_value
   -- it is named by one exactly where its home has it as going, as asked or with its result, or its join isn't done
@@ -380,7 +380,7 @@ abbrev pub requests_sentences : List Sentence
 requests_sentences = one_answer ∷ asked_answers ∷ carry_what_is_asked ∷ go_right ∷ return_right ∷ askers_stand ∷ phases_stand ∷ par_ends ∷ pairs_noted ∷ pairs_go_on ∷ cells_awaited ∷ taken_stands ∷ taken_is_new ∷ gifts_got ∷ gifts_fit ∷ []
 
 abbrev pub mutexes_and_tasks_sentences : List Sentence
-mutexes_and_tasks_sentences = named_are_there ∷ at_their_home ∷ one_content ∷ marks_in_slots ∷ shares_counted ∷ queue_while_out ∷ content_without_shares ∷ thread_homes ∷ noted_go_on ∷ kept_at_home ∷ one_task_value ∷ task_values_owed ∷ one_result ∷ pairs_unnamed ∷ []
+mutexes_and_tasks_sentences = named_are_there ∷ at_their_home ∷ one_content ∷ marks_in_slots ∷ shares_counted ∷ queue_while_out ∷ content_without_shares ∷ thread_homes ∷ noted_go_on ∷ noted_at_home ∷ one_task_value ∷ task_values_owed ∷ one_result ∷ pairs_unnamed ∷ []
 
 abbrev pub rooted_sentences : List Sentence
 rooted_sentences = over_are_bare ∷ none_owns_itself ∷ parents_end ∷ branches_give_unit ∷ []

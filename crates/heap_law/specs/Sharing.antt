@@ -181,27 +181,23 @@ finished_miscounted s (Finished t v) = miscounted s t
 finished_miscounted s m = 0
 
 abbrev going_wrong : Sight → Thing → ℕ
-going_wrong s (noted r x) = if_so (going_on x.state) (other (home_of x.thread == r && not (x.thread == 0)) + miscounted s x.thread)
+going_wrong s (noted r x) = if_so (going_on x.state) (one (x.thread == 0) + miscounted s x.thread)
 going_wrong s (stands r p x) = if_so (not (is_over x.phase)) (miscounted s x.number)
 going_wrong s (sent r m) = finished_miscounted s m
 going_wrong s x = 0
 
 -- the threads that a home has as going, let go, asked, or in a pair and not over are exactly the threads other than main that it started and that
--- aren't over or whose `finished` message waits. (As many such notes of a thread as it goes on and finishes, all at its home)
+-- aren't over or whose `finished` message waits. (As many such notes of a thread as it goes on and finishes)
 abbrev pub noted_wrong : Sight → ℕ
 noted_wrong s = sum_over s (going_wrong s)
 
-abbrev kept_elsewhere : ℕ → ℕ → TaskState → ℕ
-kept_elsewhere r t (kept v) = other (home_of t == r)
-kept_elsewhere r t x = 0
+abbrev noted_away : Thing → ℕ
+noted_away (noted r x) = other (home_of x.thread == r)
+noted_away x = 0
 
-abbrev kept_away : Thing → ℕ
-kept_away (noted r x) = kept_elsewhere r x.thread x.state
-kept_away x = 0
-
--- a result is kept at its thread's home alone
-abbrev pub kept_wrong : Sight → ℕ
-kept_wrong s = sum_over s kept_away
+-- what is noted of a thread, its result too, stands at its home alone
+abbrev pub notes_wrong : Sight → ℕ
+notes_wrong s = sum_over s noted_away
 
 -- TASK VALUES
 

@@ -19,7 +19,7 @@ start_sound = record {
   walks = record { passed_lie_here = refl; passed_not_copied = refl; passed_not_stale = refl; passed_in_a_walk = refl; passed_within = refl; walk_empty = refl; join_walks_nothing = refl; parcels_ready = refl; place_followed = refl; waits_in_turn = refl; asks_others = refl };
   users = record { users_counted = refl; uses_cached = refl };
   requests = record { one_answer = refl; asked_answers = refl; carry_what_is_asked = refl; go_right = refl; return_right = refl; askers_stand = refl; phases_stand = refl; par_ends = refl; pairs_noted = refl; pairs_go_on = refl; cells_awaited = refl; taken_stands = refl; taken_is_new = refl; gifts_got = refl; gifts_fit = refl };
-  mutexes_and_tasks = record { named_are_there = refl; at_their_home = refl; one_content = refl; marks_in_slots = refl; shares_counted = refl; queue_while_out = refl; content_without_shares = refl; thread_homes = refl; noted_go_on = refl; kept_at_home = refl; one_task_value = refl; task_values_owed = refl; one_result = refl; pairs_unnamed = refl };
+  mutexes_and_tasks = record { named_are_there = refl; at_their_home = refl; one_content = refl; marks_in_slots = refl; shares_counted = refl; queue_while_out = refl; content_without_shares = refl; thread_homes = refl; noted_go_on = refl; noted_at_home = refl; one_task_value = refl; task_values_owed = refl; one_result = refl; pairs_unnamed = refl };
   names = record { numbers_differ = refl; objects_made = refl; names_counted = refl; counts_from_one = refl; few_names = refl; counts_bounded = refl };
   rooted = record { over_are_bare = refl; none_owns_itself = refl; parents_end = refl; branches_give_unit = refl };
   parts = record { parts_are_typed = refl; options_in_range = refl; holders_short = refl };
@@ -34,7 +34,7 @@ paired_sound = record {
   walks = record { passed_lie_here = refl; passed_not_copied = refl; passed_not_stale = refl; passed_in_a_walk = refl; passed_within = refl; walk_empty = refl; join_walks_nothing = refl; parcels_ready = refl; place_followed = refl; waits_in_turn = refl; asks_others = refl };
   users = record { users_counted = refl; uses_cached = refl };
   requests = record { one_answer = refl; asked_answers = refl; carry_what_is_asked = refl; go_right = refl; return_right = refl; askers_stand = refl; phases_stand = refl; par_ends = refl; pairs_noted = refl; pairs_go_on = refl; cells_awaited = refl; taken_stands = refl; taken_is_new = refl; gifts_got = refl; gifts_fit = refl };
-  mutexes_and_tasks = record { named_are_there = refl; at_their_home = refl; one_content = refl; marks_in_slots = refl; shares_counted = refl; queue_while_out = refl; content_without_shares = refl; thread_homes = refl; noted_go_on = refl; kept_at_home = refl; one_task_value = refl; task_values_owed = refl; one_result = refl; pairs_unnamed = refl };
+  mutexes_and_tasks = record { named_are_there = refl; at_their_home = refl; one_content = refl; marks_in_slots = refl; shares_counted = refl; queue_while_out = refl; content_without_shares = refl; thread_homes = refl; noted_go_on = refl; noted_at_home = refl; one_task_value = refl; task_values_owed = refl; one_result = refl; pairs_unnamed = refl };
   names = record { numbers_differ = refl; objects_made = refl; names_counted = refl; counts_from_one = refl; few_names = refl; counts_bounded = refl };
   rooted = record { over_are_bare = refl; none_owns_itself = refl; parents_end = refl; branches_give_unit = refl };
   parts = record { parts_are_typed = refl; options_in_range = refl; holders_short = refl };
@@ -49,7 +49,7 @@ locked_sound = record {
   walks = record { passed_lie_here = refl; passed_not_copied = refl; passed_not_stale = refl; passed_in_a_walk = refl; passed_within = refl; walk_empty = refl; join_walks_nothing = refl; parcels_ready = refl; place_followed = refl; waits_in_turn = refl; asks_others = refl };
   users = record { users_counted = refl; uses_cached = refl };
   requests = record { one_answer = refl; asked_answers = refl; carry_what_is_asked = refl; go_right = refl; return_right = refl; askers_stand = refl; phases_stand = refl; par_ends = refl; pairs_noted = refl; pairs_go_on = refl; cells_awaited = refl; taken_stands = refl; taken_is_new = refl; gifts_got = refl; gifts_fit = refl };
-  mutexes_and_tasks = record { named_are_there = refl; at_their_home = refl; one_content = refl; marks_in_slots = refl; shares_counted = refl; queue_while_out = refl; content_without_shares = refl; thread_homes = refl; noted_go_on = refl; kept_at_home = refl; one_task_value = refl; task_values_owed = refl; one_result = refl; pairs_unnamed = refl };
+  mutexes_and_tasks = record { named_are_there = refl; at_their_home = refl; one_content = refl; marks_in_slots = refl; shares_counted = refl; queue_while_out = refl; content_without_shares = refl; thread_homes = refl; noted_go_on = refl; noted_at_home = refl; one_task_value = refl; task_values_owed = refl; one_result = refl; pairs_unnamed = refl };
   names = record { numbers_differ = refl; objects_made = refl; names_counted = refl; counts_from_one = refl; few_names = refl; counts_bounded = refl };
   rooted = record { over_are_bare = refl; none_owns_itself = refl; parents_end = refl; branches_give_unit = refl };
   parts = record { parts_are_typed = refl; options_in_range = refl; holders_short = refl };

@@ -11,7 +11,7 @@ pub returns-clause-requests : goal.returns-clause-requests
 returns-clause-requests c = record { unanswered = refl; unasked = refl; other_object = refl; misrouted = refl; astray = refl; asker_away = refl; no_lock = refl; no_par_end = refl; no_pair = refl; answered_by_pair = refl; both_over = refl; pulls_to_read = refl; pulls_early = refl; taken_elsewhere = refl; taken_old = refl; ready_gift = refl; other_gift = refl }
 
 pub returns-clause-sharing : goal.returns-clause-sharing
-returns-clause-sharing c = record { no_mutex = refl; mutex_away = refl; two_contents = refl; mark_on_top = refl; share_lost = refl; queued_inside = refl; content_kept = refl; other_home = refl; main_noted = refl; result_away = refl; early_result = refl; two_tasks = refl; not_owed = refl; two_results = refl; early_pair = refl; early_join = refl; kept_of_nobody = refl; finished_of_nobody = refl; main_in_pair = refl; named_branch = refl; nobody = refl }
+returns-clause-sharing c = record { no_mutex = refl; mutex_away = refl; two_contents = refl; mark_on_top = refl; share_lost = refl; queued_inside = refl; content_kept = refl; other_home = refl; main_noted = refl; result_away = refl; branch_away = refl; early_result = refl; two_tasks = refl; not_owed = refl; two_results = refl; early_pair = refl; early_join = refl; kept_of_nobody = refl; finished_of_nobody = refl; main_in_pair = refl; named_branch = refl; nobody = refl }
 
 pub returns-clause-rooted : goal.returns-clause-rooted
 returns-clause-rooted c = record { over_with_slot = refl; in_a_circle = refl; own_parent = refl; branch_number = refl }
