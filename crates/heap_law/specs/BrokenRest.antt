@@ -81,9 +81,11 @@ pub record RequestsBreak : Type 0 where
   -- a dup will be answered by a pair
   pub answered_by_pair : Breaks pairs_noted (of_busy
       (record busy_0 { inbox = Fetch at_3 (object 3) 1 (thread_no 0 8) ∷ []; mutexes = record { home = 0; made = 1; there = record shared_mutex { shares = 2 } ∷ [] } })
-      (record busy_1 { tasks = task (thread_no 1 2) going ∷ task (thread_no 1 3) (in_pair (thread_no 0 6) false) ∷ task (thread_no 1 4) (in_pair (thread_no 0 6) false) ∷ [];
+      (record busy_1 {
+        tasks = task (thread_no 1 2) going ∷ task (thread_no 1 3) (in_pair (thread_no 0 6) false) ∷ task (thread_no 1 4) (in_pair (thread_no 0 6) false) ∷ [];
         threads = writer ∷ lender ∷ viewer ∷ gifted ∷ record joined { slots = has_task 1 2 ∷ [] } ∷ fetcher ∷ ended 1 2 ∷ [];
-        inbox = Moved old_0 (record { object = object 0; value = int 1 }) (thread_no 0 1) ∷ Finished (thread_no 1 2) (int 3) ∷ [] }))
+        inbox = Moved old_0 (record { object = object 0; value = int 1 }) (thread_no 0 1) ∷ Finished (thread_no 1 2) (int 3) ∷ [];
+      }))
   -- a thread waits for branches that are both over
   pub both_over : Breaks pairs_go_on (of_busy (record busy_0 { tasks = slice_set busy_notes 2 (task (thread_no 0 3) (in_pair 0 true)) })
       (record busy_1 { cache = copy_of at_2 2 (box at_4 4) 0 ∷ []; threads = writer ∷ lender ∷ ended 0 3 ∷ gifted ∷ joined ∷ fetcher ∷ ended 1 2 ∷ [] }))
@@ -125,8 +127,10 @@ pub record SharingBreaks : Type 0 where
   -- a result kept away from its thread's home
   pub result_away : Breaks noted_at_home (of_busy (record busy_0 { tasks = busy_notes ++ task (thread_no 1 2) (kept (int 3)) ∷ [] }) (record busy_1 { tasks = task (thread_no 1 3) going ∷ task (thread_no 1 4) going ∷ []; inbox = Moved old_0 (record { object = object 0; value = int 1 }) (thread_no 0 1) ∷ Release (released.Task (thread_no 1 3)) ∷ [] }))
   -- a branch is noted as over away from its home
-  pub branch_away : Breaks noted_at_home (of_busy (record busy_0 { tasks = task (thread_no 0 1) going ∷ task (thread_no 0 2) going ∷ task (thread_no 0 3) (in_pair 0 false) ∷ task (thread_no 0 5) going ∷ task (thread_no 0 6) going ∷ task (thread_no 0 7) going ∷ task (thread_no 0 8) going ∷ task (thread_no 1 5) (in_pair 0 true) ∷ [];
-      threads = record parent { phase = phase.WaitPar (thread_no 0 3) (thread_no 1 5) } ∷ ended 0 4 ∷ dupper ∷ ended 1 1 ∷ dropped ∷ ended 1 5 ∷ [] }) (record busy_1 { started = 5 }))
+  pub branch_away : Breaks noted_at_home (of_busy (record busy_0 {
+    tasks = task (thread_no 0 1) going ∷ task (thread_no 0 2) going ∷ task (thread_no 0 3) (in_pair 0 false) ∷ task (thread_no 0 5) going ∷ task (thread_no 0 6) going ∷ task (thread_no 0 7) going ∷ task (thread_no 0 8) going ∷ task (thread_no 1 5) (in_pair 0 true) ∷ [];
+    threads = record parent { phase = phase.WaitPar (thread_no 0 3) (thread_no 1 5) } ∷ ended 0 4 ∷ dupper ∷ ended 1 1 ∷ dropped ∷ ended 1 5 ∷ [];
+  }) (record busy_1 { started = 5 }))
   -- the result of a thread that goes on
   pub early_result : broken (with_notes (task (thread_no 0 1) (kept (int 3)) ∷ task (thread_no 0 2) going ∷ task (thread_no 0 3) going ∷ [])) ≡ noted_go_on ∷ one_result ∷ []
   -- two task values of a thread
@@ -145,8 +149,11 @@ pub record SharingBreaks : Type 0 where
   pub finished_of_nobody : broken (cluster (record server_0 { inbox = server_0.inbox ++ Finished (thread_no 0 4) (int 3) ∷ []; started = 4 }) server_1) ≡ noted_go_on ∷ one_result ∷ []
   -- main is noted as over in a pair, and goes on
   pub main_in_pair : Breaks one_result (of_busy
-      (record busy_0 { tasks = task 0 (in_pair (thread_no 1 4) true) ∷ busy_notes ++ task (thread_no 0 9) (in_pair (thread_no 1 4) false) ∷ []; started = 9;
-        threads = parent ∷ ended 0 4 ∷ dupper ∷ new_thread (thread_no 0 9) 7 [] ∷ ended 1 1 ∷ dropped ∷ record mover { pc = 2; phase = phase.WaitPar 0 (thread_no 0 9); moved_since_step = false } ∷ [] })
+      (record busy_0 {
+        tasks = task 0 (in_pair (thread_no 1 4) true) ∷ busy_notes ++ task (thread_no 0 9) (in_pair (thread_no 1 4) false) ∷ [];
+        started = 9;
+        threads = parent ∷ ended 0 4 ∷ dupper ∷ new_thread (thread_no 0 9) 7 [] ∷ ended 1 1 ∷ dropped ∷ record mover { pc = 2; phase = phase.WaitPar 0 (thread_no 0 9); moved_since_step = false } ∷ [];
+      })
       (record busy_1 { outbox = [] }))
   -- a task value names a branch of a par that has ended
   pub named_branch : broken (of_busy (record busy_0 { tasks = task (thread_no 0 1) going ∷ task (thread_no 0 2) going ∷ task (thread_no 0 5) going ∷ task (thread_no 0 6) going ∷ task (thread_no 0 7) going ∷ task (thread_no 0 8) going ∷ []; threads = record parent { phase = phase.GotPar (thread_no 0 3) (thread_no 0 4) } ∷ ended 0 4 ∷ dupper ∷ ended 1 1 ∷ record dropped { slots = has_task 0 4 ∷ [] } ∷ [] })
