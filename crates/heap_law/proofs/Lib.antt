@@ -1,5 +1,10 @@
-mod Sums
+pub mod Sums
 mod Starts
 mod ChosenRuns
 mod ChosenEndRuns
 mod StaleRounds
+pub mod Names
+pub mod Shown
+pub mod Sees
+pub mod SeesThreads
+pub mod Unbroken

@@ -5,6 +5,7 @@ use Rattle.fr_base.specs.declared.settings.Options.{Options}
 use Rattle.server_model.specs.Servers.{start_of, main_thread, with_main, empty_servers}
 use Rattle.heap_law.specs.Names.{tot}
 use Rattle.heap_law.specs.Things.{Thing, counts, stands, servers_things, things_of}
+use Rattle.heap_law.specs.Weights.{cells, owners, uses_of, users_of}
 use Rattle.heap_law.specs.Laws.{StartLaw}
 
 -- a weight that no count of a server has
@@ -27,8 +28,8 @@ pub start_law : StartLaw
 start_law code o l =
     let by : (f : Thing → ℕ) → SeesNoCount f → f (stands 0 false main_thread) ≡ 0 → tot f (things_of (start_of code o)) ≡ 0 = λ f z e. omega (arith, main_alone f code o l z, e) in
     record {
-      one_home = record { home_of_each = by _ (λ s n r t m e. refl) refl };
-      one_owner = record { owner_of_each = by _ (λ s n r t m e. refl) refl; owned_are_live = by _ (λ s n r t m e. refl) refl };
+      one_home = record { home_of_each = λ p. omega (arith, by (cells p) (λ s n r t m e. refl) refl) };
+      one_owner = record { owner_of_each = λ p. omega (arith, by (owners p) (λ s n r t m e. refl) refl, by (cells p) (λ s n r t m e. refl) refl) };
       copies = record { copies_agree = by _ (λ s n r t m e. refl) refl; served_are_clean = by _ (λ s n r t m e. refl) refl };
-      users = record { users_counted = by _ (λ s n r t m e. refl) refl; uses_cached = by _ (λ s n r t m e. refl) refl };
+      users = record { users_counted = λ p. omega (arith, by (uses_of p) (λ s n r t m e. refl) refl, by (users_of p) (λ s n r t m e. refl) refl) };
     }

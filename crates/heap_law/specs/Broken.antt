@@ -13,9 +13,9 @@ use Rattle.mutex_home.specs.Mutexes.{Mutex}
 use Rattle.server_msgs.specs.declared.message.Message.{Message}
 use Rattle.server_msgs.specs.declared.message.Message.TheVariants.{Move, Dupped, Migrate}
 use Rattle.server_model.specs.Servers.{Server, Cluster}
-use Rattle.heap_law.specs.Coherent.{Sentence, broken, home_of_each, owner_of_each, owned_are_live, are_issued, below_limit, same_word, lead_home, one_state, first_at_holder, dirty_alone, copies_agree, served_are_clean, passed_lie_here, passed_not_copied, passed_not_stale, passed_in_a_walk, passed_within, walk_empty, join_walks_nothing, parcels_ready, place_followed, waits_in_turn, asks_others, users_counted, uses_cached}
+use Rattle.heap_law.specs.Coherent.{Sentence, broken, home_of_each, owner_of_each, are_issued, below_limit, same_word, lead_home, one_state, first_at_holder, dirty_alone, copies_agree, served_are_clean, passed_lie_here, passed_not_copied, passed_not_stale, passed_in_a_walk, passed_within, walk_empty, join_walks_nothing, parcels_ready, place_followed, waits_in_turn, asks_others, users_counted}
 use Rattle.heap_law.specs.Clusters.{place, thread_no, object, int, cell, box, the_mutex, word_0, word_1, word_3, dirty_reference, shared_reference, main_slots, main_waiting, locker, joiner, worker, partition_0, copy_of, server_0, server_1, cluster}
-use Rattle.heap_law.specs.Busy.{old_1, at_2, at_3, at_4, parent, writer, lender, viewer, ended, gifted, dupper, joined, fetcher, dropped, mover, busy_partition, busy_0, busy_1, of_busy}
+use Rattle.heap_law.specs.Busy.{old_0, old_1, at_2, at_3, at_4, parent, writer, lender, viewer, ended, gifted, dupper, joined, fetcher, dropped, mover, busy_partition, busy_0, busy_1, of_busy}
 
 -- server 0 of the middle of a run with other cells, with another message behind its own, with another main thread
 abbrev with_cells : List (Option Cell) → Server
@@ -73,14 +73,14 @@ abbrev pub Breaks : Sentence → Cluster → Type 0
 Breaks n k = broken k ≡ n ∷ []
 
 pub record MemoryBreaks : Type 0 where
-  -- object 0 is under way and lies at its old address
-  pub two_homes : Breaks home_of_each (of_busy (record busy_0 { partition = record busy_partition { cells = cell 0 (int 1) ∷ None ∷ cell 2 (box at_4 4) ∷ cell 3 (int 6) ∷ cell 4 (int 8) ∷ []; free = (1, 1) ∷ [] } }) busy_1)
+  -- object 0 is under way and lies at its old address, with an owner for each
+  pub two_homes : Breaks home_of_each (of_busy (record busy_0 { partition = record busy_partition { cells = cell 0 (int 1) ∷ None ∷ cell 2 (box at_4 4) ∷ cell 3 (int 6) ∷ cell 4 (int 8) ∷ []; free = (1, 1) ∷ [] }; threads = parent ∷ ended 0 4 ∷ dupper ∷ ended 1 1 ∷ record dropped { slots = value.Own (box old_0 0) ∷ [] } ∷ [] }) busy_1)
   -- a second box of object 1
   pub two_owners : Breaks owner_of_each (cluster (with_locker (record locker { slots = value.Own (owned.Mutex the_mutex) ∷ value.Held the_mutex ∷ value.Own (box word_1 1) ∷ [] })) server_1)
   -- a dropped object without its message, so no pointer to it has a word
   pub no_owner : broken (cluster (record server_0 { inbox = [] }) server_1) ≡ owner_of_each ∷ lead_home ∷ []
   -- a box of an object that isn't there
-  pub no_object : Breaks owned_are_live (cluster (with_locker (record locker { slots = value.Own (owned.Mutex the_mutex) ∷ value.Held the_mutex ∷ value.Own (box word_1 9) ∷ [] })) server_1)
+  pub no_object : Breaks owner_of_each (cluster (with_locker (record locker { slots = value.Own (owned.Mutex the_mutex) ∷ value.Held the_mutex ∷ value.Own (box word_1 9) ∷ [] })) server_1)
   -- a copy under a word that was never issued
   pub not_issued : Breaks are_issued (cluster server_0 (with_copies (copy_of (word_of 3 0 1) 1 (int 5) 0 ∷ copy_of word_3 3 (int 3) 1 ∷ [])))
   -- a free address goes on from the colour limit
@@ -138,4 +138,4 @@ pub record WalksBreak : Type 0 where
   -- a copy in use without a user
   pub no_user : Breaks users_counted (cluster server_0 (with_copies (copy_of word_1 1 (int 5) 0 ∷ copy_of word_3 3 (int 3) 0 ∷ [])))
   -- a copy in use was evicted
-  pub evicted : Breaks uses_cached (cluster server_0 (with_copies (copy_of word_1 1 (int 5) 0 ∷ [])))
+  pub evicted : Breaks users_counted (cluster server_0 (with_copies (copy_of word_1 1 (int 5) 0 ∷ [])))

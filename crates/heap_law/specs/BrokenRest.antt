@@ -12,8 +12,8 @@ use Rattle.join_home.specs.Tasks.{Task, going, let_go, kept, asked, in_pair}
 use Rattle.server_msgs.specs.declared.message.Message.{Message}
 use Rattle.server_msgs.specs.declared.message.Message.TheVariants.{Fetch, Move, Moved, Drop, Dupped, Release, Finished}
 use Rattle.server_model.specs.Servers.{Server, Cluster}
-use Rattle.heap_law.specs.Coherent.{broken, one_answer, asked_answers, carry_what_is_asked, go_right, return_right, askers_stand, phases_stand, par_ends, pairs_noted, pairs_go_on, cells_awaited, taken_stands, taken_is_new, gifts_got, gifts_fit, named_are_there, at_their_home, one_content, shares_counted, queue_while_out, content_without_shares, thread_homes, noted_go_on, noted_at_home, one_task_value, task_values_owed, one_result, pairs_unnamed, marks_in_slots, over_are_bare, none_owns_itself, parents_end, branches_give_unit, numbers_differ, objects_made, names_counted, counts_from_one, few_names, counts_bounded, parts_are_typed, options_in_range, holders_short}
-use Rattle.heap_law.specs.Clusters.{place, thread_no, object, int, cell, box, the_mutex, word_1, word_2, word_3, main_waiting, reader, locker, joiner, worker, copy_of, held_mutex, task, options, server_0, server_1, cluster, middle, relent_server, relent}
+use Rattle.heap_law.specs.Coherent.{broken, one_answer, carry_what_is_asked, go_right, return_right, askers_stand, phases_stand, par_ends, pairs_noted, pairs_go_on, cells_awaited, taken_stands, taken_is_new, gifts_got, gifts_fit, named_are_there, at_their_home, one_content, shares_counted, queue_while_out, content_without_shares, thread_homes, noted_go_on, noted_at_home, one_task_value, task_values_owed, one_result, pairs_unnamed, marks_in_slots, over_are_bare, none_owns_itself, parents_end, branches_give_unit, numbers_differ, objects_made, names_counted, counts_from_one, few_names, counts_bounded, parts_are_typed, options_in_range, holders_short}
+use Rattle.heap_law.specs.Clusters.{place, thread_no, object, int, cell, box, the_mutex, word_1, word_2, word_3, main_waiting, locker, worker, copy_of, held_mutex, task, options, server_0, server_1, cluster, middle, relent_server, relent}
 use Rattle.heap_law.specs.Busy.{old_0, new_1, at_2, at_3, at_4, has_task, parent, writer, lender, viewer, ended, gifted, dupper, joined, fetcher, dropped, mover, shared_mutex, busy_partition, busy_notes, busy_0, busy_1, of_busy}
 use Rattle.heap_law.specs.Broken.{reference, Breaks}
 
@@ -63,7 +63,7 @@ pub record RequestsBreak : Type 0 where
   -- a dup that nobody answers
   pub unanswered : Breaks one_answer (with_dupper dupper)
   -- a queue place of a thread that is ready
-  pub unasked : broken (cluster (record server_0 { mutexes = record { home = 0; made = 1; there = record held_mutex { queue = (0, 0) ∷ (0, thread_no 1 1) ∷ [] } ∷ [] } }) server_1) ≡ asked_answers ∷ carry_what_is_asked ∷ []
+  pub unasked : broken (cluster (record server_0 { mutexes = record { home = 0; made = 1; there = record held_mutex { queue = (0, 0) ∷ (0, thread_no 1 1) ∷ [] } ∷ [] } }) server_1) ≡ one_answer ∷ carry_what_is_asked ∷ []
   -- a request for another object
   pub other_object : Breaks carry_what_is_asked (busy_inbox (Dupped the_mutex (thread_no 0 6) ∷ Fetch at_3 (object 2) 1 (thread_no 0 8) ∷ []))
   -- a `drop` that waits at another server
@@ -107,9 +107,9 @@ pub record RequestsBreak : Type 0 where
 
 pub record SharingBreaks : Type 0 where
   -- the mutex isn't there
-  pub no_mutex : Breaks named_are_there (busy_mutexes [])
-  -- the mutex is also at another server
-  pub mutex_away : Breaks at_their_home (of_busy busy_0 (record busy_1 { mutexes = record { home = 1; made = 0; there = shared_mutex ∷ [] } }))
+  pub no_mutex : broken (busy_mutexes []) ≡ named_are_there ∷ one_content ∷ shares_counted ∷ []
+  -- a mutex of the same name is also at another server, with a content and a share
+  pub mutex_away : Breaks at_their_home (of_busy (record busy_0 { mutexes = record { home = 0; made = 1; there = record shared_mutex { shares = 2 } ∷ [] } }) (record busy_1 { mutexes = record { home = 1; made = 0; there = record shared_mutex { content = Some (int 9); shares = 1 } ∷ [] } }))
   -- the content was granted and is in
   pub two_contents : Breaks one_content (busy_mutexes (record shared_mutex { content = Some (int 9) } ∷ []))
   -- the mark of a lock is a temporary value
@@ -134,11 +134,11 @@ pub record SharingBreaks : Type 0 where
   -- the result of a thread that goes on
   pub early_result : broken (with_notes (task (thread_no 0 1) (kept (int 3)) ∷ task (thread_no 0 2) going ∷ task (thread_no 0 3) going ∷ [])) ≡ noted_go_on ∷ one_result ∷ []
   -- two task values of a thread
-  pub two_tasks : Breaks one_task_value (with_worker (record worker { slots = has_task 0 1 ∷ [] }))
+  pub two_tasks : broken (with_worker (record worker { slots = has_task 0 1 ∷ [] })) ≡ one_task_value ∷ task_values_owed ∷ []
   -- a task value of a thread of which nothing is noted
   pub not_owed : Breaks task_values_owed (with_worker (record worker { slots = has_task 0 0 ∷ [] }))
   -- a result that was joined is still kept
-  pub two_results : Breaks one_result (of_busy busy_0 (record busy_1 { tasks = task (thread_no 1 1) (kept owned.Unit) ∷ busy_1.tasks }))
+  pub two_results : broken (of_busy busy_0 (record busy_1 { tasks = task (thread_no 1 1) (kept owned.Unit) ∷ busy_1.tasks })) ≡ task_values_owed ∷ one_result ∷ []
   -- a par has ended while a branch goes on
   pub early_pair : broken (of_busy (record busy_0 { tasks = task (thread_no 0 1) going ∷ task (thread_no 0 2) going ∷ task (thread_no 0 5) going ∷ task (thread_no 0 6) going ∷ task (thread_no 0 7) going ∷ task (thread_no 0 8) going ∷ []; threads = record parent { phase = phase.GotPar (thread_no 0 3) (thread_no 0 4) } ∷ ended 0 4 ∷ dupper ∷ ended 1 1 ∷ dropped ∷ [] }) busy_1) ≡ noted_go_on ∷ one_result ∷ []
   -- a thread that was joined goes on
@@ -169,7 +169,7 @@ pub record RootedBreaks : Type 0 where
   -- two boxes hold each other
   pub in_a_circle : Breaks none_owns_itself (of_busy (record busy_0 { partition = record busy_partition { cells = None ∷ None ∷ cell 2 (box at_4 4) ∷ cell 3 (int 6) ∷ cell 4 (int 8) ∷ cell 5 (box at_6 6) ∷ cell 6 (box at_5 5) ∷ [] }; threads = record parent { made = 7 } ∷ ended 0 4 ∷ dupper ∷ ended 1 1 ∷ dropped ∷ [] }) busy_1)
   -- a branch is its own parent
-  pub own_parent : broken (of_busy (record busy_0 { tasks = slice_set busy_notes 2 (task (thread_no 0 3) (in_pair (thread_no 0 3) false)) }) busy_1) ≡ one_answer ∷ asked_answers ∷ pairs_noted ∷ parents_end ∷ []
+  pub own_parent : broken (of_busy (record busy_0 { tasks = slice_set busy_notes 2 (task (thread_no 0 3) (in_pair (thread_no 0 3) false)) }) busy_1) ≡ one_answer ∷ pairs_noted ∷ parents_end ∷ []
   -- a branch gives a number
   pub branch_number : Breaks branches_give_unit (of_busy (record busy_0 { inbox = busy_0.inbox ++ Finished (thread_no 0 3) (int 1) ∷ [] }) (record busy_1 { threads = writer ∷ lender ∷ record (ended 0 3) { pc = 7 } ∷ gifted ∷ joined ∷ fetcher ∷ ended 1 2 ∷ []; cache = copy_of at_2 2 (box at_4 4) 0 ∷ [] }))
 

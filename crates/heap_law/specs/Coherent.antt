@@ -1,14 +1,17 @@
--- COHERENT: what every event of a cluster keeps (in the manner of DRust, OSDI 2024; the exact sentences are this project's). Each sentence
--- is counted: the number of things that break it in a cluster is a number that computes, and the sentence says that it is 0. In plain words
--- each stands above the function that counts it.
+-- COHERENT: what every event of a cluster keeps (in the manner of DRust, OSDI 2024; the exact sentences are this project's). A sentence that
+-- compares two sums says so for every name; each other one says that no thing breaks it. For every sentence the number of things that break it
+-- computes (`breaches`); that these numbers are 0 exactly in a sound cluster is a law. In plain words each stands above the function that counts it.
 use Rattle.std.specs.Prelude.{◌≡◌, ℕ, Bool, true, false, List, [], ◌∷◌, ◌++◌}
 use Rattle.server_model.specs.Servers.{Cluster}
 use Rattle.heap_law.specs.Names.{some}
 use Rattle.heap_law.specs.Sight.{Sight, sight}
-use Rattle.heap_law.specs.Placing.{homes_wrong, owners_wrong, owned_wrong, issued_wrong, colours_wrong, same_word_wrong, homeward_wrong, states_wrong, first_wrong, different_words_wrong, dirty_wrong, copies_wrong, served_wrong}
-use Rattle.heap_law.specs.Walking.{passed_wrong, passed_boxes_wrong, passed_references_wrong, passed_phase_wrong, passed_count_wrong, walk_phase_wrong, join_walk_wrong, parcels_wrong, followed_wrong, turn_wrong, own_requests_wrong, users_wrong, uncached_wrong}
-use Rattle.heap_law.specs.Requests.{answers_wrong, unasked_wrong, carried_wrong, routes_wrong, returns_wrong, askers_wrong, phases_wrong, par_ends_wrong, pairs_wrong, waited_pairs_wrong, cells_wrong, taken_wrong, taken_words_wrong, gift_phases_wrong, gifts_wrong}
-use Rattle.heap_law.specs.Sharing.{named_wrong, mutex_homes_wrong, contents_wrong, marks_wrong, shares_wrong, queues_wrong, last_shares_wrong, thread_homes_wrong, noted_wrong, notes_wrong, tasks_wrong, owed_wrong, results_wrong, got_pairs_wrong}
+use Rattle.heap_law.specs.Things.{things_of}
+use Rattle.heap_law.specs.Balances.{Agree, AtMost, AtMostOne}
+use Rattle.heap_law.specs.Weights.{cells, owners, states, below, uses_of, users_of, is_home_of, shares_of, shares_at_home, tasks_of, is_thread}
+use Rattle.heap_law.specs.Placing.{homes_wrong, owners_wrong, issued_wrong, colours_wrong, same_word_wrong, homeward_wrong, states_wrong, first_wrong, different_words_wrong, dirty_wrong, copies_wrong, served_wrong}
+use Rattle.heap_law.specs.Walking.{passed_wrong, passed_boxes_wrong, passed_references_wrong, passed_phase_wrong, passed_count_wrong, walk_phase_wrong, join_walk_wrong, parcels_wrong, followed_wrong, turn_wrong, own_requests_wrong, users_wrong}
+use Rattle.heap_law.specs.Requests.{halves_to, halves_needed, pair_notes, pair_places, answers_wrong, carried_wrong, routes_wrong, returns_wrong, askers_wrong, phases_wrong, par_ends_wrong, pairs_wrong, waited_pairs_wrong, cells_wrong, taken_wrong, taken_words_wrong, gift_phases_wrong, gifts_wrong}
+use Rattle.heap_law.specs.Sharing.{contents, going_notes, goes_on, owed, results, has_ended, named_wrong, mutex_homes_wrong, contents_wrong, marks_wrong, shares_wrong, queues_wrong, last_shares_wrong, thread_homes_wrong, noted_wrong, notes_wrong, tasks_wrong, owed_wrong, results_wrong, got_pairs_wrong}
 use Rattle.heap_law.specs.Rooted.{over_wrong, ownership_wrong, parents_wrong, branches_wrong}
 use Rattle.heap_law.specs.Naming.{numbers_wrong, made_wrong, counted_wrong, zeroth_wrong, names_count_wrong, large_wrong, parts_wrong, options_wrong, holders_wrong}
 
@@ -18,7 +21,6 @@ pub data Sentence : Type 0 where
   home_of_each : Sentence
   -- one owner
   owner_of_each : Sentence
-  owned_are_live : Sentence
   -- words
   are_issued : Sentence
   below_limit : Sentence
@@ -45,10 +47,8 @@ pub data Sentence : Type 0 where
   asks_others : Sentence
   -- users
   users_counted : Sentence
-  uses_cached : Sentence
   -- requests
   one_answer : Sentence
-  asked_answers : Sentence
   carry_what_is_asked : Sentence
   go_right : Sentence
   return_right : Sentence
@@ -98,7 +98,6 @@ pub data Sentence : Type 0 where
 abbrev pub breaches_in : Cluster → Sight → Sentence → ℕ
 breaches_in k s home_of_each = homes_wrong s
 breaches_in k s owner_of_each = owners_wrong s
-breaches_in k s owned_are_live = owned_wrong s
 breaches_in k s are_issued = issued_wrong s
 breaches_in k s below_limit = colours_wrong s
 breaches_in k s same_word = same_word_wrong s
@@ -121,9 +120,7 @@ breaches_in k s place_followed = followed_wrong s
 breaches_in k s waits_in_turn = turn_wrong s
 breaches_in k s asks_others = own_requests_wrong s
 breaches_in k s users_counted = users_wrong s
-breaches_in k s uses_cached = uncached_wrong s
 breaches_in k s one_answer = answers_wrong s
-breaches_in k s asked_answers = unasked_wrong s
 breaches_in k s carry_what_is_asked = carried_wrong s
 breaches_in k s go_right = routes_wrong s
 breaches_in k s return_right = returns_wrong s
@@ -168,21 +165,19 @@ breaches_in k s holders_short = holders_wrong s
 abbrev pub breaches : Cluster → Sentence → ℕ
 breaches k n = breaches_in k (sight k) n
 
--- the sentence holds
+-- none breaks the sentence
 abbrev pub Holds : Cluster → Sentence → Type 0
 Holds k n = breaches k n ≡ 0
 
 -- ONE HOME
 pub record OneHome (k : Cluster) : Type 0 where
   -- each live object is the cell of exactly one address of one partition, or of exactly one `moved` message
-  pub home_of_each : Holds k home_of_each
+  pub home_of_each : AtMostOne cells (things_of k)
 
 -- ONE OWNER: copies and references own nothing
 pub record OneOwner (k : Cluster) : Type 0 where
-  -- each live object is named by exactly one box in a place that owns, or by exactly one `drop` message
-  pub owner_of_each : Holds k owner_of_each
-  -- each box in a place that owns and each `drop` message names a live object
-  pub owned_are_live : Holds k owned_are_live
+  -- each live object is named by exactly one box in a place that owns, or by exactly one `drop` message; and each of these names a live object
+  pub owner_of_each : Agree owners cells (things_of k)
 
 -- WORDS
 pub record Words (k : Cluster) : Type 0 where
@@ -194,8 +189,8 @@ pub record Words (k : Cluster) : Type 0 where
   pub same_word : Holds k same_word
   -- where the object doesn't fly, its word's server and address are its home
   pub lead_home : Holds k lead_home
-  -- a free or retired address has no live object: each address has one state
-  pub one_state : Holds k one_state
+  -- each address below its server's next one is live, free or retired, once, and no other address is anything
+  pub one_state : AtMost states below (things_of k)
   -- the `first` of a mutable reference is the word at its holder, and that pointer is to the same object
   pub first_at_holder : Holds k first_at_holder
   -- different live objects have different words
@@ -237,17 +232,13 @@ pub record Walks (k : Cluster) : Type 0 where
 
 -- USERS
 pub record Users (k : Cluster) : Type 0 where
-  -- the users of a cached word are the walks and pinned references there that have it
-  pub users_counted : Holds k users_counted
-  -- each word of a walk or a pinned reference is cached at its server
-  pub uses_cached : Holds k uses_cached
+  -- the users of a cached word are the walks and pinned references there that have it, and each word of these is cached at its server
+  pub users_counted : Agree uses_of users_of (things_of k)
 
 -- REQUESTS
 pub record Requests (k : Cluster) : Type 0 where
-  -- each waiting thread has exactly one message, queue place or noted asker that will answer it
-  pub one_answer : Holds k one_answer
-  -- none of these answers a thread that doesn't wait
-  pub asked_answers : Holds k asked_answers
+  -- each waiting thread has exactly one message, queue place or noted asker that will answer it, and none of these answers a thread that doesn't wait
+  pub one_answer : Agree halves_to halves_needed (things_of k)
   -- what will answer a thread carries, or is kept for, what its phase names
   pub carry_what_is_asked : Holds k carry_what_is_asked
   -- a message goes to the server that it is for, and that server is of the run
@@ -261,7 +252,7 @@ pub record Requests (k : Cluster) : Type 0 where
   -- a thread is at a `ParEnd` exactly in the phases `WaitPar` and `GotPar`
   pub par_ends : Holds k par_ends
   -- a server notes a thread as in the pair of a parent exactly where the parent stands there in `WaitPar` with that thread among its two
-  pub pairs_noted : Holds k pairs_noted
+  pub pairs_noted : Agree pair_notes pair_places (things_of k)
   -- in `WaitPar(a, b)` these differ, and not both are noted as over
   pub pairs_go_on : Holds k pairs_go_on
   -- `WaitCell(w)` has the word of a pointer that is followed or ended; a copy is asked for where it is read, else the object
@@ -282,11 +273,11 @@ pub record MutexesAndTasks (k : Cluster) : Type 0 where
   -- no mutex is there at another server than that of its number
   pub at_their_home : Holds k at_their_home
   -- each mutex's content stands in one place
-  pub one_content : Holds k one_content
+  pub one_content : Agree (contents (sight k)) is_home_of (things_of k)
   -- the mark of a lock stands in a slot alone
   pub marks_in_slots : Holds k marks_in_slots
   -- a mutex's shares are its values in the places that own, its `release` messages and its dups answered but not yet taken
-  pub shares_counted : Holds k shares_counted
+  pub shares_counted : Agree shares_of shares_at_home (things_of k)
   -- no thread is queued while the content is at the home
   pub queue_while_out : Holds k queue_while_out
   -- a mutex without a share has its content out of its home
@@ -294,15 +285,15 @@ pub record MutexesAndTasks (k : Cluster) : Type 0 where
   -- each thread's `home` is the server of its number
   pub thread_homes : Holds k thread_homes
   -- the threads that a home has as going, let go, asked or in a pair and not over are those that it started and that go on or whose `finished` waits
-  pub noted_go_on : Holds k noted_go_on
+  pub noted_go_on : Agree going_notes goes_on (things_of k)
   -- what is noted of a thread, its result too, stands at its home alone
   pub noted_at_home : Holds k noted_at_home
   -- a thread is named by at most one task value or `release`
-  pub one_task_value : Holds k one_task_value
+  pub one_task_value : AtMostOne tasks_of (things_of k)
   -- it is named by one exactly where its home has it as going, as asked or with its result, or its join isn't done
-  pub task_values_owed : Holds k task_values_owed
+  pub task_values_owed : Agree tasks_of (owed (sight k)) (things_of k)
   -- a result stands only of a thread other than main that stands somewhere and is over, and in at most one place
-  pub one_result : Holds k one_result
+  pub one_result : AtMost (results (sight k)) has_ended (things_of k)
   -- the threads of `GotPar(a, b)` are named by no task value
   pub pairs_unnamed : Holds k pairs_unnamed
 
@@ -320,7 +311,7 @@ pub record Rooted (k : Cluster) : Type 0 where
 -- NAMES
 pub record Names (k : Cluster) : Type 0 where
   -- no two threads or parcels have the same number
-  pub numbers_differ : Holds k numbers_differ
+  pub numbers_differ : AtMostOne is_thread (things_of k)
   -- the number of each object is below the `made` of the thread that made it, where that thread isn't over
   pub objects_made : Holds k objects_made
   -- the count of each thread and mutex that is named anywhere is at most the count that its server has reached
@@ -362,7 +353,7 @@ abbrev pub one_home_sentences : List Sentence
 one_home_sentences = home_of_each ∷ []
 
 abbrev pub one_owner_sentences : List Sentence
-one_owner_sentences = owner_of_each ∷ owned_are_live ∷ []
+one_owner_sentences = owner_of_each ∷ []
 
 abbrev pub words_sentences : List Sentence
 words_sentences = are_issued ∷ below_limit ∷ same_word ∷ lead_home ∷ one_state ∷ first_at_holder ∷ different_words ∷ dirty_alone ∷ []
@@ -374,10 +365,10 @@ abbrev pub walks_sentences : List Sentence
 walks_sentences = passed_lie_here ∷ passed_not_copied ∷ passed_not_stale ∷ passed_in_a_walk ∷ passed_within ∷ walk_empty ∷ join_walks_nothing ∷ parcels_ready ∷ place_followed ∷ waits_in_turn ∷ asks_others ∷ []
 
 abbrev pub users_sentences : List Sentence
-users_sentences = users_counted ∷ uses_cached ∷ []
+users_sentences = users_counted ∷ []
 
 abbrev pub requests_sentences : List Sentence
-requests_sentences = one_answer ∷ asked_answers ∷ carry_what_is_asked ∷ go_right ∷ return_right ∷ askers_stand ∷ phases_stand ∷ par_ends ∷ pairs_noted ∷ pairs_go_on ∷ cells_awaited ∷ taken_stands ∷ taken_is_new ∷ gifts_got ∷ gifts_fit ∷ []
+requests_sentences = one_answer ∷ carry_what_is_asked ∷ go_right ∷ return_right ∷ askers_stand ∷ phases_stand ∷ par_ends ∷ pairs_noted ∷ pairs_go_on ∷ cells_awaited ∷ taken_stands ∷ taken_is_new ∷ gifts_got ∷ gifts_fit ∷ []
 
 abbrev pub mutexes_and_tasks_sentences : List Sentence
 mutexes_and_tasks_sentences = named_are_there ∷ at_their_home ∷ one_content ∷ marks_in_slots ∷ shares_counted ∷ queue_while_out ∷ content_without_shares ∷ thread_homes ∷ noted_go_on ∷ noted_at_home ∷ one_task_value ∷ task_values_owed ∷ one_result ∷ pairs_unnamed ∷ []
@@ -391,11 +382,11 @@ names_sentences = numbers_differ ∷ objects_made ∷ names_counted ∷ counts_f
 abbrev pub parts_sentences : List Sentence
 parts_sentences = parts_are_typed ∷ options_in_range ∷ holders_short ∷ []
 
-abbrev if_broken : Bool → Sentence → List Sentence → List Sentence
+abbrev pub if_broken : Bool → Sentence → List Sentence → List Sentence
 if_broken true n ns = n ∷ ns
 if_broken false n ns = ns
 
-abbrev broken_among : Cluster → Sight → List Sentence → List Sentence
+abbrev pub broken_among : Cluster → Sight → List Sentence → List Sentence
 broken_among k s [] = []
 broken_among k s (n ∷ ns) = if_broken (some (breaches_in k s n)) n (broken_among k s ns)
 

@@ -45,15 +45,15 @@ pub record Ground : Type 0 where
 abbrev pub ground_of : List Thing → Ground
 ground_of b = record { threads = threads_in b; cells = cells_in b }
 
-abbrev slot_of : Option Standing → ℕ → Option Value
+abbrev pub slot_of : Option Standing → ℕ → Option Value
 slot_of None i = None
 slot_of (Some x) i = slice_get x.thread.slots i
 
-abbrev temp_of : Option Standing → ℕ → Option Value
+abbrev pub temp_of : Option Standing → ℕ → Option Value
 temp_of None i = None
 temp_of (Some x) i = slice_get x.thread.temps i
 
-abbrev value_of : Option Cell → Option Value
+abbrev pub value_of : Option Cell → Option Value
 value_of None = None
 value_of (Some c) = Some (value.Own c.value)
 
@@ -91,7 +91,7 @@ value_at g t w = value_behind g (place_at g t w)
 abbrev pub hop_at : Ground → ℕ → Lval → ℕ → Option Value
 hop_at g t w n = value_behind g (locate g t w.slot n)
 
-abbrev hops_from : Ground → ℕ → Lval → ℕ → List (Option Value)
+abbrev pub hops_from : Ground → ℕ → Lval → ℕ → List (Option Value)
 hops_from g t w zero = []
 hops_from g t w (suc n) = hop_at g t w n ∷ hops_from g t w n
 

@@ -3,6 +3,7 @@ pub mod Things
 pub mod Follow
 pub mod Stale
 pub mod Sight
+pub mod Balances
 pub mod Weights
 pub mod Paths
 pub mod Placing

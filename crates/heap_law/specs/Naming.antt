@@ -20,7 +20,8 @@ use Rattle.heap_law.specs.Names.{tot, one, other, if_so, some}
 use Rattle.heap_law.specs.Things.{Thing, holds, shares, borrows, lies, flies, copied, sent, stands, at_home, queued, noted, retired, counts}
 use Rattle.heap_law.specs.Follow.{Standing, thread_at}
 use Rattle.heap_law.specs.Sight.{Sight}
-use Rattle.heap_law.specs.Weights.{is_thread}
+use Rattle.heap_law.specs.Balances.{more_than_one}
+use Rattle.heap_law.specs.Weights.{is_thread, numbers}
 use Rattle.heap_law.specs.Placing.{sum_over}
 use Rattle.heap_law.specs.Walking.{sum_threads}
 use Rattle.heap_law.specs.Requests.{home_of}
@@ -28,18 +29,15 @@ use Rattle.heap_law.specs.Sharing.{owned_mutex, message_mutex, mutexes, is_over}
 
 -- NUMBERS
 
-abbrev twice : Sight → Standing → ℕ
-twice s x = other (sum_over s (is_thread x.thread.number) == 1)
-
 -- no two threads or parcels have the same number
 abbrev pub numbers_wrong : Sight → ℕ
-numbers_wrong s = sum_threads s (twice s)
+numbers_wrong s = more_than_one is_thread numbers s.things
 
-abbrev was_made : ObjNo → Option Standing → Bool
+abbrev pub was_made : ObjNo → Option Standing → Bool
 was_made o None = true
 was_made o (Some x) = is_over x.thread.phase || nat_lt o.count x.thread.made
 
-abbrev not_made : Sight → Thing → ℕ
+abbrev pub not_made : Sight → Thing → ℕ
 not_made s (lies r a c) = other (was_made c.object (thread_at s.ground.threads c.object.thread))
 not_made s (flies w c) = other (was_made c.object (thread_at s.ground.threads c.object.thread))
 not_made s x = 0
@@ -51,16 +49,16 @@ made_wrong s = sum_over s (not_made s)
 -- COUNTS
 
 -- the threads that a thing names, with a weight; an object names the thread that made it
-abbrev owned_thread : (ℕ → ℕ) → Owned → ℕ
+abbrev pub owned_thread : (ℕ → ℕ) → Owned → ℕ
 owned_thread f (owned.Task t) = f t
 owned_thread f (owned.Box p) = f p.object.thread
 owned_thread f v = 0
 
-abbrev released_thread : (ℕ → ℕ) → Released → ℕ
+abbrev pub released_thread : (ℕ → ℕ) → Released → ℕ
 released_thread f (released.Mutex m) = 0
 released_thread f (released.Task t) = f t
 
-abbrev message_thread : (ℕ → ℕ) → Message → ℕ
+abbrev pub message_thread : (ℕ → ℕ) → Message → ℕ
 message_thread f (Fetch w o s t) = f o.thread + f t
 message_thread f (Fetched w c t) = f c.object.thread + owned_thread f c.value + f t
 message_thread f (Move w o s t) = f o.thread + f t
@@ -76,18 +74,18 @@ message_thread f (Joined u v t) = f u + f t
 message_thread f (Finished t v) = f t
 message_thread f m = 0
 
-abbrev phase_thread : (ℕ → ℕ) → Phase → ℕ
+abbrev pub phase_thread : (ℕ → ℕ) → Phase → ℕ
 phase_thread f (phase.WaitJoin t) = f t
 phase_thread f (phase.WaitPar a b) = f a + f b
 phase_thread f (phase.GotPar a b) = f a + f b
 phase_thread f p = 0
 
-abbrev noted_thread : (ℕ → ℕ) → TaskState → ℕ
+abbrev pub noted_thread : (ℕ → ℕ) → TaskState → ℕ
 noted_thread f (asked s t) = f t
 noted_thread f (in_pair t over) = f t
 noted_thread f x = 0
 
-abbrev threads : (ℕ → ℕ) → Thing → ℕ
+abbrev pub threads : (ℕ → ℕ) → Thing → ℕ
 threads f (holds p v) = owned_thread f v
 threads f (shares l r) = f r.object.thread
 threads f (borrows l r) = f r.object.thread
@@ -101,29 +99,29 @@ threads f (noted s x) = f x.thread + noted_thread f x.state
 threads f x = 0
 
 -- which of the threads that its home started a thread is, from 1; main has 0
-abbrev count_of : ℕ → ℕ
+abbrev pub count_of : ℕ → ℕ
 count_of t = t % 2 ^ 32
 
-abbrev started_at : ℕ → ℕ → Thing → ℕ
+abbrev pub started_at : ℕ → ℕ → Thing → ℕ
 started_at s n (counts r next old started made events) = one (r == s && nat_le n started)
 started_at s n x = 0
 
-abbrev made_at : ℕ → ℕ → Thing → ℕ
+abbrev pub made_at : ℕ → ℕ → Thing → ℕ
 made_at s n (counts r next old started made events) = one (r == s && nat_le n made)
 made_at s n x = 0
 
-abbrev uncounted_thread : Sight → ℕ → ℕ
+abbrev pub uncounted_thread : Sight → ℕ → ℕ
 uncounted_thread s t = other (some (sum_over s (started_at (home_of t) (count_of t))))
 
-abbrev uncounted_mutex : Sight → MutexNo → ℕ
+abbrev pub uncounted_mutex : Sight → MutexNo → ℕ
 uncounted_mutex s m = other (some (sum_over s (made_at m.home m.count)))
 
-abbrev fetched_mutex : (MutexNo → ℕ) → Message → ℕ
+abbrev pub fetched_mutex : (MutexNo → ℕ) → Message → ℕ
 fetched_mutex f (Fetched w c t) = owned_mutex f c.value
 fetched_mutex f m = message_mutex f m
 
 -- the mutexes that a thing names, with a weight, those at their homes and in copies too
-abbrev named_mutexes : (MutexNo → ℕ) → Thing → ℕ
+abbrev pub named_mutexes : (MutexNo → ℕ) → Thing → ℕ
 named_mutexes f (at_home s m) = f m.number
 named_mutexes f (copied s c) = owned_mutex f c.cell.value
 named_mutexes f (sent s m) = fetched_mutex f m
@@ -133,17 +131,17 @@ named_mutexes f x = mutexes f x
 abbrev pub counted_wrong : Sight → ℕ
 counted_wrong s = sum_over s (threads (uncounted_thread s)) + sum_over s (named_mutexes (uncounted_mutex s))
 
-abbrev zeroth_thread : ℕ → ℕ
+abbrev pub zeroth_thread : ℕ → ℕ
 zeroth_thread t = one (count_of t == 0 && not (t == 0))
 
-abbrev zeroth_mutex : MutexNo → ℕ
+abbrev pub zeroth_mutex : MutexNo → ℕ
 zeroth_mutex m = one (m.count == 0)
 
 -- no mutex, and no thread but main, has the count 0
 abbrev pub zeroth_wrong : Sight → ℕ
 zeroth_wrong s = sum_over s (threads zeroth_thread) + sum_over s (named_mutexes zeroth_mutex)
 
-abbrev event_count : Thing → ℕ
+abbrev pub event_count : Thing → ℕ
 event_count (counts r next old started made events) = events
 event_count x = 0
 
@@ -151,10 +149,10 @@ event_count x = 0
 abbrev pub events_of : Sight → ℕ
 events_of s = sum_over s event_count
 
-abbrev above : ℕ → ℕ → ℕ
+abbrev pub above : ℕ → ℕ → ℕ
 above limit n = other (nat_le n limit)
 
-abbrev many_names : ℕ → Thing → ℕ
+abbrev pub many_names : ℕ → Thing → ℕ
 many_names n (counts r next old started made events) = above (2 * n) started + above (2 * n) made
 many_names n (stands r p t) = above (2 * n) t.made
 many_names n x = 0
@@ -163,7 +161,7 @@ many_names n x = 0
 abbrev pub names_count_wrong : Sight → ℕ
 names_count_wrong s = let n = events_of s in sum_over s (many_names n)
 
-abbrev large_counts : ℕ → Thing → ℕ
+abbrev pub large_counts : ℕ → Thing → ℕ
 large_counts n (counts r next old started made events) = above (16 * n) next + above (16 * n) old
 large_counts n (copied r c) = above (16 * n) c.users
 large_counts n (at_home r m) = above (16 * n) m.shares
@@ -175,48 +173,48 @@ large_wrong s = let n = events_of s in sum_over s (large_counts n)
 
 -- WHAT THE TYPES OF THE PARTS KEEP
 
-abbrev rising_from : ℕ → List ℕ → ℕ
+abbrev pub rising_from : ℕ → List ℕ → ℕ
 rising_from n [] = 0
 rising_from n (m ∷ ms) = other (nat_lt n m) + rising_from m ms
 
 -- the numbers rise
-abbrev rising : List ℕ → ℕ
+abbrev pub rising : List ℕ → ℕ
 rising [] = 0
 rising (n ∷ ns) = rising_from n ns
 
-abbrev numbers_of : {A : Type 0} → (A → ℕ) → List A → List ℕ
+abbrev pub numbers_of : {A : Type 0} → (A → ℕ) → List A → List ℕ
 numbers_of f [] = []
 numbers_of f (x ∷ xs) = f x ∷ numbers_of f xs
 
-abbrev free_colours : ℕ × ℕ → ℕ
+abbrev pub free_colours : ℕ × ℕ → ℕ
 free_colours pair = one (pair.1 == 0)
 
-abbrev is_retired : ℕ → Thing → ℕ
+abbrev pub is_retired : ℕ → Thing → ℕ
 is_retired s (retired r a) = one (r == s)
 is_retired s x = 0
 
-abbrev same_word : ℕ → Copy → ℕ
+abbrev pub same_word : ℕ → Copy → ℕ
 same_word w c = one (c.word == w)
 
-abbrev cached_twice : List Copy → Copy → ℕ
+abbrev pub cached_twice : List Copy → Copy → ℕ
 cached_twice cs c = other (tot (same_word c.word) cs == 1)
 
-abbrev pins : List Value → ℕ
+abbrev pub pins : List Value → ℕ
 pins vs = tot (λ v. one (is_pinned v)) vs
 
 -- one of so many servers by rising number; its partition is its own under the run's colours, with the retired addresses counted and no free address
 -- without a colour; a cache has a word once; mutexes, tasks and threads stand by rising number
-abbrev server_wrong : Sight → ℕ → Server → ℕ
+abbrev pub server_wrong : Sight → ℕ → Server → ℕ
 server_wrong s n x =
     other (x.number == n) + other (x.partition.server == n) + other (x.partition.limit == s.options.colours) + tot free_colours x.partition.free
     + other (sum_over s (is_retired n) == x.partition.retired) + tot (cached_twice x.cache) x.cache + other (x.mutexes.home == n)
     + rising (numbers_of (λ m. m.number.count) x.mutexes.there) + rising (numbers_of (λ t. t.thread) x.tasks) + rising (numbers_of (λ t. t.number) x.threads)
 
-abbrev servers_wrong : Sight → ℕ → List Server → ℕ
+abbrev pub servers_wrong : Sight → ℕ → List Server → ℕ
 servers_wrong s n [] = other (n == s.options.servers)
 servers_wrong s n (x ∷ xs) = server_wrong s n x + servers_wrong s (n + 1) xs
 
-abbrev pinned_parcel : Standing → ℕ
+abbrev pub pinned_parcel : Standing → ℕ
 pinned_parcel x = if_so x.packed (pins x.thread.slots + pins x.thread.temps)
 
 -- the servers are those of the run, and each part is one of its type; a parcel's references keep nothing in use
@@ -225,11 +223,11 @@ parts_wrong k s = servers_wrong s 0 k.servers + sum_threads s pinned_parcel
 
 -- LIMITS
 
-abbrev between : ℕ → ℕ → ℕ → ℕ
+abbrev pub between : ℕ → ℕ → ℕ → ℕ
 between low high n = other (nat_le low n && nat_le n high)
 
 -- the options of a run are in their ranges
-abbrev options_out : Options → ℕ
+abbrev pub options_out : Options → ℕ
 options_out o =
     between 1 64 o.servers + between 1 64 o.workers + between 1 65536 o.colours + between 0 65536 o.cache + between 1 1024 o.quantum
     + between 1 1000000000 o.turns + between 0 1000000 o.balance + between 0 (2 ^ 64 - 1) o.choice
@@ -241,7 +239,7 @@ options_wrong s = options_out s.options
 abbrev pub most_stars : ℕ
 most_stars = 8
 
-abbrev long_holder : Thing → ℕ
+abbrev pub long_holder : Thing → ℕ
 long_holder (borrows l r) = other (nat_le r.holder.depth most_stars)
 long_holder x = 0
 

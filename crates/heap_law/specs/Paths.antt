@@ -28,16 +28,16 @@ pub data Path : Type 0 where
   ends : (r : MutRef) → Path
 
 -- a mutable reference that is dropped ends
-abbrev ending : Option Value → Path
+abbrev pub ending : Option Value → Path
 ending (Some (value.Mut r)) = ends r
 ending v = no_path
 
 -- a move through a star writes
-abbrev taking : Lval → ℕ → Path
+abbrev pub taking : Lval → ℕ → Path
 taking w zero = no_path
 taking w (suc n) = writes w
 
-abbrev assigning : List Value → Lval → ℕ → Path
+abbrev pub assigning : List Value → Lval → ℕ → Path
 assigning slots w zero = ending (slice_get slots w.slot)
 assigning slots w (suc n) = writes w
 
@@ -54,11 +54,11 @@ path_of (Some instr.Discard) t = ending (last_of t.temps)
 path_of i t = no_path
 
 -- the operand of a join
-abbrev popped : Operand → List Value → Option Value
+abbrev pub popped : Operand → List Value → Option Value
 popped operand.Pop ts = last_of ts
 popped o ts = None
 
-abbrev task_in : Option Value → Option ℕ
+abbrev pub task_in : Option Value → Option ℕ
 task_in (Some (value.Own (owned.Task t))) = Some t
 task_in v = None
 
@@ -82,34 +82,34 @@ pub record Awaited : Type 0 where
   pub by_copy : Bool
 
 -- a dirty reference at the last of so many colours: it can't be cleaned by another colour
-abbrev is_spent : ℕ → MutRef → Bool
+abbrev pub is_spent : ℕ → MutRef → Bool
 is_spent colours r = r.dirty && (colour_of r.word + 1 == colours)
 
 -- a copy of what a pointer leads to is read, but not under the word of a dirty reference: that is cleaned first, and its object comes here where
 -- no colour is left
-abbrev to_read : ℕ → Option Value → List Awaited
+abbrev pub to_read : ℕ → Option Value → List Awaited
 to_read colours (Some (value.Own (owned.Box p))) = record { word = p.word; object = p.object; comes = false; by_copy = true } ∷ []
 to_read colours (Some (value.Shared r)) = record { word = r.word; object = r.object; comes = false; by_copy = true } ∷ []
 to_read colours (Some (value.Mut r)) = record { word = r.word; object = r.object; comes = is_spent colours r; by_copy = not r.dirty } ∷ []
 to_read colours v = []
 
 -- what is written, lent or ended comes here
-abbrev to_write : Option Value → List Awaited
+abbrev pub to_write : Option Value → List Awaited
 to_write (Some (value.Own (owned.Box p))) = record { word = p.word; object = p.object; comes = true; by_copy = false } ∷ []
 to_write (Some (value.Mut r)) = record { word = r.word; object = r.object; comes = true; by_copy = false } ∷ []
 to_write v = []
 
 -- a reference that is dirty is cleaned, and its object comes here where no colour is left
-abbrev to_clean : ℕ → Option Value → List Awaited
+abbrev pub to_clean : ℕ → Option Value → List Awaited
 to_clean colours (Some (value.Mut r)) = if is_spent colours r then record { word = r.word; object = r.object; comes = true; by_copy = false } ∷ [] else []
 to_clean colours v = []
 
-abbrev all_to : (Option Value → List Awaited) → List (Option Value) → List Awaited
+abbrev pub all_to : (Option Value → List Awaited) → List (Option Value) → List Awaited
 all_to f [] = []
 all_to f (v ∷ vs) = f v ++ all_to f vs
 
 -- the last pointer of a borrow in its own way, those before it as reads
-abbrev borrow_to : ℕ → (Option Value → List Awaited) → List (Option Value) → List Awaited
+abbrev pub borrow_to : ℕ → (Option Value → List Awaited) → List (Option Value) → List Awaited
 borrow_to colours f [] = []
 borrow_to colours f (v ∷ []) = f v
 borrow_to colours f (v ∷ w ∷ vs) = to_read colours v ++ borrow_to colours f (w ∷ vs)

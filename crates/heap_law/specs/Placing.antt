@@ -14,11 +14,12 @@ use Rattle.thread_state.specs.declared.phase.Phase.TheVariants as phase
 use Rattle.server_msgs.specs.declared.message.Message.{Message}
 use Rattle.server_msgs.specs.declared.message.Message.TheVariants.{Fetch, Fetched, Move, Drop}
 use Rattle.heap_law.specs.Names.{tot, one, other, if_so, some, same_object, same_cell}
-use Rattle.heap_law.specs.Things.{Location, Thing, holds, shares, borrows, lies, flies, vacant, retired, copied, uses, sent, stands}
+use Rattle.heap_law.specs.Things.{Location, Thing, holds, shares, borrows, lies, flies, vacant, copied, uses, sent, stands}
 use Rattle.heap_law.specs.Follow.{Ground, value_behind}
 use Rattle.heap_law.specs.Stale.{Reference, references, is_among}
 use Rattle.heap_law.specs.Sight.{Sight, Pointer, is_stale, is_word, cell_of_word, is_object_among, word, issued}
-use Rattle.heap_law.specs.Weights.{cells, owners, states, below}
+use Rattle.heap_law.specs.Balances.{disagree, too_many, more_than_one}
+use Rattle.heap_law.specs.Weights.{cells, owners, objects, states, below, addresses}
 
 -- the sum over all things
 abbrev pub sum_over : Sight → (Thing → ℕ) → ℕ
@@ -29,60 +30,32 @@ sum_over s f = tot f s.things
 abbrev pub has_cell : Sight → ObjNo → Bool
 has_cell s o = some (tot (cells o) s.things)
 
--- each live object is the cell of exactly one address of one partition, or of exactly one `moved` message
-abbrev other_homes : Sight → Thing → ℕ
-other_homes s (lies r a c) = other (tot (cells c.object) s.things == 1)
-other_homes s (flies w c) = other (tot (cells c.object) s.things == 1)
-other_homes s x = 0
-
+-- each live object is the cell of exactly one address of one partition, or of exactly one `moved` message. (At most one cell of each object)
 abbrev pub homes_wrong : Sight → ℕ
-homes_wrong s = sum_over s (other_homes s)
+homes_wrong s = more_than_one cells objects s.things
 
 -- ONE OWNER
 
--- each live object is named by exactly one box in a place that owns, or by exactly one `drop` message. Copies and references own nothing
-abbrev other_owners : Sight → Thing → ℕ
-other_owners s (lies r a c) = other (tot (owners c.object) s.things == 1)
-other_owners s (flies w c) = other (tot (owners c.object) s.things == 1)
-other_owners s x = 0
-
+-- each live object is named by exactly one box in a place that owns, or by exactly one `drop` message; and each of these names a live object. (As many
+-- owners as cells of each object; copies and references own nothing)
 abbrev pub owners_wrong : Sight → ℕ
-owners_wrong s = sum_over s (other_owners s)
-
-abbrev dead_box : Sight → Owned → ℕ
-dead_box s (owned.Box p) = other (has_cell s p.object)
-dead_box s v = 0
-
-abbrev dead_drop : Sight → Message → ℕ
-dead_drop s (Drop w o) = other (has_cell s o)
-dead_drop s m = 0
-
--- each box in a place that owns and each `drop` message names a live object
-abbrev dead_owner : Sight → Thing → ℕ
-dead_owner s (holds p v) = dead_box s v
-dead_owner s (lies r a c) = dead_box s c.value
-dead_owner s (flies w c) = dead_box s c.value
-dead_owner s (sent r m) = dead_drop s m
-dead_owner s x = 0
-
-abbrev pub owned_wrong : Sight → ℕ
-owned_wrong s = sum_over s (dead_owner s)
+owners_wrong s = disagree owners cells objects s.things
 
 -- WORDS
 
 -- all words of things, wherever they stand, with a weight
-abbrev owned_word : (ℕ → ℕ) → Owned → ℕ
+abbrev pub owned_word : (ℕ → ℕ) → Owned → ℕ
 owned_word f (owned.Box p) = f p.word
 owned_word f v = 0
 
-abbrev message_word : (ℕ → ℕ) → Message → ℕ
+abbrev pub message_word : (ℕ → ℕ) → Message → ℕ
 message_word f (Fetch w o s t) = f w
 message_word f (Fetched w c t) = f w + owned_word f c.value
 message_word f (Move w o s t) = f w
 message_word f (Drop w o) = f w
 message_word f m = 0
 
-abbrev phase_word : (ℕ → ℕ) → Phase → ℕ
+abbrev pub phase_word : (ℕ → ℕ) → Phase → ℕ
 phase_word f (phase.WaitCell w) = f w
 phase_word f (phase.Taken w) = f w
 phase_word f p = 0
@@ -104,7 +77,7 @@ abbrev pub issued_wrong : Sight → ℕ
 issued_wrong s = sum_over s (words (λ w. other (issued s w)))
 
 -- every word that stands anywhere has a colour below `colours`, and so is the next colour of a free address
-abbrev next_colours : ℕ → Thing → ℕ
+abbrev pub next_colours : ℕ → Thing → ℕ
 next_colours limit (vacant r a next) = other (nat_lt next limit)
 next_colours limit x = 0
 
@@ -113,18 +86,18 @@ colours_wrong s = sum_over s (words (λ w. other (nat_lt (colour_of w) s.options
 
 -- all pointers to an object that aren't stale have the same word. (Boxes, references of either kind, the word of an object that was taken
 -- for a mutable borrow, that of a `drop`, and the old word of an object under way; not those in copies)
-abbrev other_word : Sight → Pointer → ℕ
+abbrev pub other_word : Sight → Pointer → ℕ
 other_word s p = other (is_word (word s p.object) p.word)
 
 abbrev pub same_word_wrong : Sight → ℕ
 same_word_wrong s = tot (other_word s) s.pointers
 
-abbrev is_spot : ℕ → ℕ → Option ℕ → Bool
+abbrev pub is_spot : ℕ → ℕ → Option ℕ → Bool
 is_spot r a None = false
 is_spot r a (Some w) = server_of w == r && address_of w == a
 
 -- where the object doesn't fly, its word's server and address are its home
-abbrev other_spot : Sight → Thing → ℕ
+abbrev pub other_spot : Sight → Thing → ℕ
 other_spot s (lies r a c) = other (is_spot r a (word s c.object))
 other_spot s x = 0
 
@@ -132,43 +105,34 @@ abbrev pub homeward_wrong : Sight → ℕ
 homeward_wrong s = sum_over s (other_spot s)
 
 -- each address below its server's next one is live once, or free once, or retired, and no other address is anything; so a free or retired
--- address has no live object. (For each server and address as many states as the address is below a next one)
-abbrev state_wrong : Sight → ℕ → ℕ → ℕ
-state_wrong s r a = other (sum_over s (states r a) == sum_over s (below r a))
-
-abbrev other_states : Sight → Thing → ℕ
-other_states s (lies r a c) = state_wrong s r a
-other_states s (vacant r a next) = state_wrong s r a
-other_states s (retired r a) = state_wrong s r a
-other_states s x = 0
-
+-- address has no live object. (At most as many states of each address as it is below a next one; what is neither live nor free is retired)
 abbrev pub states_wrong : Sight → ℕ
-states_wrong s = sum_over s (other_states s)
+states_wrong s = too_many states below addresses s.things
 
-abbrev is_first : MutRef → Option Value → Bool
+abbrev pub is_first : MutRef → Option Value → Bool
 is_first r (Some (value.Own (owned.Box p))) = r.first == p.word && same_object r.object p.object
 is_first r (Some (value.Mut q)) = r.first == q.word && same_object r.object q.object
 is_first r v = false
 
 -- the `first` of a mutable reference is the word that stands at its holder, and that pointer is to the same object
-abbrev other_first : Ground → Reference → ℕ
+abbrev pub other_first : Ground → Reference → ℕ
 other_first g r = other (is_first r.reference (value_behind g r.holder))
 
 abbrev pub first_wrong : Sight → ℕ
 first_wrong s = tot (other_first s.ground) (references s.ground s.things)
 
-abbrev is_word_of : Option ℕ → Option ℕ → Bool
+abbrev pub is_word_of : Option ℕ → Option ℕ → Bool
 is_word_of None v = false
 is_word_of v None = false
 is_word_of (Some w) (Some v) = w == v
 
 -- different live objects have different words
-abbrev same_words : Sight → Option ℕ → ObjNo → Thing → ℕ
+abbrev pub same_words : Sight → Option ℕ → ObjNo → Thing → ℕ
 same_words s w o (lies r a c) = one (not (same_object c.object o) && is_word_of (word s c.object) w)
 same_words s w o (flies v c) = one (not (same_object c.object o) && is_word_of (word s c.object) w)
 same_words s w o x = 0
 
-abbrev shared_words : Sight → Thing → ℕ
+abbrev pub shared_words : Sight → Thing → ℕ
 shared_words s (lies r a c) = sum_over s (same_words s (word s c.object) c.object)
 shared_words s (flies w c) = sum_over s (same_words s (word s c.object) c.object)
 shared_words s x = 0
@@ -178,15 +142,15 @@ different_words_wrong s = sum_over s (shared_words s)
 
 -- a dirty mutable reference that isn't stale is not the pointer at the holder of a mutable reference, and no shared reference or view
 -- leads to its object
-abbrev held_by : Option Location → Reference → ℕ
+abbrev pub held_by : Option Location → Reference → ℕ
 held_by None r = 0
 held_by (Some l) r = one (is_stale (l ∷ []) r.holder)
 
-abbrev shared_of : ObjNo → Thing → ℕ
+abbrev pub shared_of : ObjNo → Thing → ℕ
 shared_of o (shares l r) = one (same_object r.object o)
 shared_of o x = 0
 
-abbrev not_alone : Sight → List Reference → Reference → ℕ
+abbrev pub not_alone : Sight → List Reference → Reference → ℕ
 not_alone s rs r =
     if_so (r.reference.dirty && not (is_among r.at s.stale)) (tot (held_by (Some r.at)) rs + sum_over s (shared_of r.reference.object))
 
@@ -196,28 +160,28 @@ dirty_wrong s = let rs = references s.ground s.things in tot (not_alone s rs) rs
 -- COPIES
 
 -- the present cell of the object whose word this is, where no dirty reference to it is alive that isn't stale
-abbrev unless_dirty : Bool → Cell → Option Cell
+abbrev pub unless_dirty : Bool → Cell → Option Cell
 unless_dirty true c = None
 unless_dirty false c = Some c
 
-abbrev if_clean : Sight → Option Cell → Option Cell
+abbrev pub if_clean : Sight → Option Cell → Option Cell
 if_clean s None = None
 if_clean s (Some c) = unless_dirty (is_object_among c.object s.dirty) c
 
 abbrev pub clean_cell : Sight → ℕ → Option Cell
 clean_cell s w = if_clean s (cell_of_word s.pointers s.ground.cells w)
 
-abbrev other_cell : Cell → Option Cell → ℕ
+abbrev pub other_cell : Cell → Option Cell → ℕ
 other_cell c None = 0
 other_cell c (Some d) = other (same_cell c d)
 
-abbrev fetched_copy : Sight → Message → ℕ
+abbrev pub fetched_copy : Sight → Message → ℕ
 fetched_copy s (Fetched w c t) = other_cell c (clean_cell s w)
 fetched_copy s m = 0
 
 -- a copy under the word of a live object, cached or in a `fetched` message, is the object's present cell, words included, where no dirty
 -- reference to the object is alive that isn't stale
-abbrev other_copy : Sight → Thing → ℕ
+abbrev pub other_copy : Sight → Thing → ℕ
 other_copy s (copied r c) = other_cell c.cell (clean_cell s c.word)
 other_copy s (sent r m) = fetched_copy s m
 other_copy s x = 0
@@ -225,13 +189,13 @@ other_copy s x = 0
 abbrev pub copies_wrong : Sight → ℕ
 copies_wrong s = sum_over s (other_copy s)
 
-abbrev unclean_request : Sight → Message → ℕ
+abbrev pub unclean_request : Sight → Message → ℕ
 unclean_request s (Fetch w o r t) = other (is_some (clean_cell s w))
 unclean_request s (Fetched w c t) = other (is_some (clean_cell s w))
 unclean_request s m = 0
 
 -- the word of a `fetch` or `fetched` message is such a word of a live object
-abbrev unclean : Sight → Thing → ℕ
+abbrev pub unclean : Sight → Thing → ℕ
 unclean s (sent r m) = unclean_request s m
 unclean s x = 0
 

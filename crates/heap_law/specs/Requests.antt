@@ -18,10 +18,11 @@ use Rattle.thread_state.specs.declared.phase.Phase.TheVariants as phase
 use Rattle.join_home.specs.Tasks.{TaskState, asked, in_pair}
 use Rattle.server_msgs.specs.declared.message.Message.{Message}
 use Rattle.server_msgs.specs.declared.message.Message.TheVariants.{Fetch, Fetched, Move, Moved, Drop, Lock, Granted, Unlock, Dup, Dupped, Release, Start, Join, Joined, Finished}
-use Rattle.heap_law.specs.Names.{tot, one, other, if_so, some, same_object, same_mutex, same_owned}
+use Rattle.heap_law.specs.Names.{one, other, if_so, some, same_object, same_mutex, same_owned}
 use Rattle.heap_law.specs.Things.{Location, in_cell, Thing, sent, stands, queued, noted}
 use Rattle.heap_law.specs.Follow.{Standing, thread_at, place_at, value_at, hop_at}
 use Rattle.heap_law.specs.Sight.{Sight, is_word, word}
+use Rattle.heap_law.specs.Balances.{disagree}
 use Rattle.heap_law.specs.Weights.{lies_at}
 use Rattle.heap_law.specs.Paths.{Awaited, awaited, awaited_under, joined_thread}
 use Rattle.heap_law.specs.Placing.{sum_over}
@@ -43,7 +44,7 @@ pub data Answer : Type 0 where
   whole_answer : (thread : ℕ) → Answer
   half_answer : (thread : ℕ) → Answer
 
-abbrev message_answer : Message → Answer
+abbrev pub message_answer : Message → Answer
 message_answer (Fetch w o s t) = whole_answer t
 message_answer (Fetched w c t) = whole_answer t
 message_answer (Move w o s t) = whole_answer t
@@ -56,7 +57,7 @@ message_answer (Join u s t) = whole_answer t
 message_answer (Joined u v t) = whole_answer t
 message_answer m = no_answer
 
-abbrev noted_answer : TaskState → Answer
+abbrev pub noted_answer : TaskState → Answer
 noted_answer (asked s t) = whole_answer t
 noted_answer (in_pair t over) = half_answer t
 noted_answer x = no_answer
@@ -74,68 +75,71 @@ halves t no_answer = 0
 halves t (whole_answer u) = if_so (u == t) 2
 halves t (half_answer u) = one (u == t)
 
--- each waiting thread has exactly one message, queue place or noted asker that will answer it; its pair counts as a noted asker
-abbrev unanswered : Sight → Standing → ℕ
-unanswered s x = if_so (waits x.thread.phase) (other (tot (λ y. halves x.thread.number (answer_of y)) s.things == 2))
+-- the halves of the answers to a thread, and the two that it needs where it waits
+abbrev pub halves_to : ℕ → Thing → ℕ
+halves_to t x = halves t (answer_of x)
 
+abbrev pub halves_needed : ℕ → Thing → ℕ
+halves_needed t (stands s p x) = if_so (x.number == t && waits x.phase) 2
+halves_needed t x = 0
+
+abbrev pub answered : (ℕ → ℕ) → Answer → ℕ
+answered f no_answer = 0
+answered f (whole_answer t) = f t
+answered f (half_answer t) = f t
+
+-- the threads that a thing answers, or that it is, with a weight
+abbrev pub answered_threads : (ℕ → ℕ) → Thing → ℕ
+answered_threads f (stands s p x) = f x.number
+answered_threads f x = answered f (answer_of x)
+
+-- each waiting thread has exactly one message, queue place or noted asker that will answer it, its pair counting as a noted asker; and none of these
+-- answers a thread that doesn't wait. (As many halves of answers to each thread as it needs)
 abbrev pub answers_wrong : Sight → ℕ
-answers_wrong s = sum_threads s (unanswered s)
-
-abbrev waits_there : Option Standing → Bool
-waits_there None = false
-waits_there (Some x) = waits x.thread.phase
-
-abbrev thread_waits : Sight → Answer → ℕ
-thread_waits s no_answer = 0
-thread_waits s (whole_answer t) = other (waits_there (thread_at s.ground.threads t))
-thread_waits s (half_answer t) = other (waits_there (thread_at s.ground.threads t))
-
--- no message, queue place or noted asker answers a thread that doesn't wait for it
-abbrev pub unasked_wrong : Sight → ℕ
-unasked_wrong s = sum_over s (λ y. thread_waits s (answer_of y))
+answers_wrong s = disagree halves_to halves_needed answered_threads s.things
 
 -- WHAT THEY CARRY
 
-abbrev is_cell : ℕ → Phase → Bool
+abbrev pub is_cell : ℕ → Phase → Bool
 is_cell w (phase.WaitCell v) = v == w
 is_cell w p = false
 
-abbrev is_lock : MutexNo → Phase → Bool
+abbrev pub is_lock : MutexNo → Phase → Bool
 is_lock m (phase.WaitLock n) = same_mutex m n
 is_lock m p = false
 
-abbrev is_dup : MutexNo → Phase → Bool
+abbrev pub is_dup : MutexNo → Phase → Bool
 is_dup m (phase.WaitDup n) = same_mutex m n
 is_dup m p = false
 
-abbrev is_join : ℕ → Phase → Bool
+abbrev pub is_join : ℕ → Phase → Bool
 is_join t (phase.WaitJoin u) = t == u
 is_join t p = false
 
 -- the phase of the thread that is there
-abbrev in_phase : (Phase → Bool) → Option Standing → Bool
+abbrev pub in_phase : (Phase → Bool) → Option Standing → Bool
 in_phase f None = false
 in_phase f (Some x) = f x.thread.phase
 
-abbrev phase_fits : Sight → ℕ → (Phase → Bool) → ℕ
+abbrev pub phase_fits : Sight → ℕ → (Phase → Bool) → ℕ
 phase_fits s t f = other (in_phase f (thread_at s.ground.threads t))
 
 abbrev pub awaited_at : Sight → Standing → ℕ → Option Awaited
 awaited_at s x w = awaited_under (awaited s.options.colours s.ground x.thread.number (path s x)) w
 
-abbrev is_its_object : ObjNo → Option Awaited → Bool
+abbrev pub is_its_object : ObjNo → Option Awaited → Bool
 is_its_object o None = false
 is_its_object o (Some a) = same_object a.object o
 
 -- the object of the pointer with that word that the thread follows or ends
-abbrev is_object_of : Sight → ℕ → ObjNo → Option Standing → Bool
+abbrev pub is_object_of : Sight → ℕ → ObjNo → Option Standing → Bool
 is_object_of s w o None = false
 is_object_of s w o (Some x) = is_its_object o (awaited_at s x w)
 
-abbrev object_fits : Sight → ℕ → ℕ → ObjNo → ℕ
+abbrev pub object_fits : Sight → ℕ → ℕ → ObjNo → ℕ
 object_fits s t w o = phase_fits s t (is_cell w) + other (is_object_of s w o (thread_at s.ground.threads t))
 
-abbrev message_carries : Sight → Message → ℕ
+abbrev pub message_carries : Sight → Message → ℕ
 message_carries s (Fetch w o r t) = object_fits s t w o
 message_carries s (Fetched w c t) = object_fits s t w c.object
 message_carries s (Move w o r t) = object_fits s t w o
@@ -148,13 +152,13 @@ message_carries s (Join u r t) = phase_fits s t (is_join u)
 message_carries s (Joined u v t) = phase_fits s t (is_join u)
 message_carries s m = 0
 
-abbrev note_carries : Sight → ℕ → TaskState → ℕ
+abbrev pub note_carries : Sight → ℕ → TaskState → ℕ
 note_carries s u (asked r t) = phase_fits s t (is_join u)
 note_carries s u x = 0
 
 -- what will answer a thread carries, or is kept for, what its phase names: the word of `WaitCell` (in a `moved` as the old word) and the object of
 -- that pointer, the mutex of `WaitLock` or `WaitDup`, the thread of `WaitJoin`
-abbrev carries : Sight → Thing → ℕ
+abbrev pub carries : Sight → Thing → ℕ
 carries s (sent r m) = message_carries s m
 carries s (queued m r t) = phase_fits s t (is_lock m)
 carries s (noted r x) = note_carries s x.thread x.state
@@ -165,15 +169,15 @@ carried_wrong s = sum_over s (carries s)
 
 -- WHERE MESSAGES GO
 
-abbrev in_server : ℕ → Option Standing → Bool
+abbrev pub in_server : ℕ → Option Standing → Bool
 in_server r None = false
 in_server r (Some x) = x.server == r
 
-abbrev stands_at : Sight → ℕ → ℕ → Bool
+abbrev pub stands_at : Sight → ℕ → ℕ → Bool
 stands_at s t r = in_server r (thread_at s.ground.threads t)
 
 -- where a request, a `drop`, a release, a result or a new thread goes; the others go to a thread, or anywhere
-abbrev goal : ℕ → Message → Option ℕ
+abbrev pub goal : ℕ → Message → Option ℕ
 goal n (Fetch w o s t) = Some (server_of w)
 goal n (Move w o s t) = Some (server_of w)
 goal n (Drop w o) = Some (server_of w)
@@ -186,11 +190,11 @@ goal n (Join u s t) = Some (home_of u)
 goal n (Finished t v) = Some (home_of t)
 goal n m = None
 
-abbrev is_goal : ℕ → Option ℕ → Bool
+abbrev pub is_goal : ℕ → Option ℕ → Bool
 is_goal r None = true
 is_goal r (Some g) = g == r
 
-abbrev misrouted : Sight → Thing → ℕ
+abbrev pub misrouted : Sight → Thing → ℕ
 misrouted s (sent r m) = other (nat_lt r s.options.servers && is_goal r (goal s.options.servers m))
 misrouted s x = 0
 
@@ -198,7 +202,7 @@ misrouted s x = 0
 abbrev pub routes_wrong : Sight → ℕ
 routes_wrong s = sum_over s (misrouted s)
 
-abbrev lost_answer : Sight → ℕ → Message → ℕ
+abbrev pub lost_answer : Sight → ℕ → Message → ℕ
 lost_answer s r (Fetched w c t) = other (stands_at s t r)
 lost_answer s r (Moved w c t) = other (stands_at s t r)
 lost_answer s r (Granted m v t) = other (stands_at s t r)
@@ -207,14 +211,14 @@ lost_answer s r (Joined u v t) = other (stands_at s t r)
 lost_answer s r m = 0
 
 -- an answer goes to the server of the thread that it answers
-abbrev lost : Sight → Thing → ℕ
+abbrev pub lost : Sight → Thing → ℕ
 lost s (sent r m) = lost_answer s r m
 lost s x = 0
 
 abbrev pub returns_wrong : Sight → ℕ
 returns_wrong s = sum_over s (lost s)
 
-abbrev asker_message : Sight → Message → ℕ
+abbrev pub asker_message : Sight → Message → ℕ
 asker_message s (Fetch w o r t) = other (stands_at s t r)
 asker_message s (Move w o r t) = other (stands_at s t r)
 asker_message s (Lock m r t) = other (stands_at s t r)
@@ -222,12 +226,12 @@ asker_message s (Dup m r t) = other (stands_at s t r)
 asker_message s (Join u r t) = other (stands_at s t r)
 asker_message s m = 0
 
-abbrev asker_noted : Sight → TaskState → ℕ
+abbrev pub asker_noted : Sight → TaskState → ℕ
 asker_noted s (asked r t) = other (stands_at s t r)
 asker_noted s x = 0
 
 -- the server and thread in a request, a queue place or a noted asker are those of the thread that waits
-abbrev other_asker : Sight → Thing → ℕ
+abbrev pub other_asker : Sight → Thing → ℕ
 other_asker s (sent r m) = asker_message s m
 other_asker s (queued m r t) = other (stands_at s t r)
 other_asker s (noted r x) = asker_noted s x.state
@@ -251,16 +255,16 @@ abbrev pub dupped_mutex : Sight → Standing → Option Instr → Option MutexNo
 dupped_mutex s x (Some (instr.Dup w)) = mutex_of (value_at s.ground x.thread.number w)
 dupped_mutex s x i = None
 
-abbrev is_mutex : MutexNo → Option MutexNo → Bool
+abbrev pub is_mutex : MutexNo → Option MutexNo → Bool
 is_mutex m None = false
 is_mutex m (Some n) = same_mutex m n
 
-abbrev is_task : ℕ → Option ℕ → Bool
+abbrev pub is_task : ℕ → Option ℕ → Bool
 is_task t None = false
 is_task t (Some u) = t == u
 
 -- `WaitLock(m)` stands at a `Lock` whose place holds m, `WaitDup(m)` at a `Dup` whose place holds m, `WaitJoin(t)` at a `Join` whose operand is t
-abbrev stands_wrong : Sight → Standing → Phase → ℕ
+abbrev pub stands_wrong : Sight → Standing → Phase → ℕ
 stands_wrong s x (phase.WaitLock m) = other (is_mutex m (locked_mutex s x (instr_of s x)))
 stands_wrong s x (phase.WaitDup m) = other (is_mutex m (dupped_mutex s x (instr_of s x)))
 stands_wrong s x (phase.WaitJoin t) = other (is_task t (joined_thread (instr_of s x) x.thread))
@@ -269,22 +273,22 @@ stands_wrong s x p = 0
 abbrev pub phases_wrong : Sight → ℕ
 phases_wrong s = sum_threads s (λ x. stands_wrong s x x.thread.phase)
 
-abbrev is_par_end : Option Instr → Bool
+abbrev pub is_par_end : Option Instr → Bool
 is_par_end (Some instr.ParEnd) = true
 is_par_end i = false
 
-abbrev is_par : Phase → Bool
+abbrev pub is_par : Phase → Bool
 is_par (phase.WaitPar a b) = true
 is_par (phase.GotPar a b) = true
 is_par p = false
 
-abbrev same_truth : Bool → Bool → Bool
+abbrev pub same_truth : Bool → Bool → Bool
 same_truth true true = true
 same_truth false false = true
 same_truth _ _ = false
 
 -- a thread is at a `ParEnd` exactly in the phases `WaitPar(a, b)` and `GotPar(a, b)`
-abbrev par_end : Sight → Standing → ℕ
+abbrev pub par_end : Sight → Standing → ℕ
 par_end s x = other (same_truth (is_par_end (instr_of s x)) (is_par x.thread.phase))
 
 abbrev pub par_ends_wrong : Sight → ℕ
@@ -294,50 +298,54 @@ abbrev pub half_noted : TaskState → ℕ → Bool
 half_noted (in_pair q over) parent = q == parent
 half_noted x parent = false
 
--- a note at that server of that thread as in a pair of the parent
-abbrev pub pair_notes : ℕ → ℕ → ℕ → Thing → ℕ
-pair_notes r parent t (noted q x) = one ((q == r && x.thread == t) && half_noted x.state parent)
-pair_notes r parent t x = 0
+-- a branch of a pair: the server that notes it, the parent, and the thread
+pub record Branch : Type 0 where
+  pub server : ℕ
+  pub parent : ℕ
+  pub thread : ℕ
+
+-- the note of a branch
+abbrev pub pair_notes : Branch → Thing → ℕ
+pair_notes b (noted r x) = one ((r == b.server && x.thread == b.thread) && half_noted x.state b.parent)
+pair_notes b x = 0
 
 abbrev pub branch_places : ℕ → Phase → ℕ
 branch_places t (phase.WaitPar a b) = one (a == t) + one (b == t)
 branch_places t p = 0
 
--- a place of that thread in the phase `WaitPar` of the parent, which stands at that server or goes there
-abbrev pub pair_places : ℕ → ℕ → ℕ → Thing → ℕ
-pair_places r parent t (stands q p x) = if_so (q == r && x.number == parent) (branch_places t x.phase)
-pair_places r parent t x = 0
+-- its place in the phase `WaitPar` of the parent, which stands at that server or goes there
+abbrev pub pair_places : Branch → Thing → ℕ
+pair_places b (stands r p x) = if_so (r == b.server && x.number == b.parent) (branch_places b.thread x.phase)
+pair_places b x = 0
 
-abbrev unpaired : Sight → ℕ → ℕ → ℕ → ℕ
-unpaired s r parent t = other (sum_over s (pair_notes r parent t) == sum_over s (pair_places r parent t))
+abbrev pub noted_branch : (Branch → ℕ) → ℕ → ℕ → TaskState → ℕ
+noted_branch f r t (in_pair p over) = f (record { server = r; parent = p; thread = t })
+noted_branch f r t x = 0
 
-abbrev unpaired_note : Sight → ℕ → ℕ → TaskState → ℕ
-unpaired_note s r t (in_pair p over) = unpaired s r p t
-unpaired_note s r t x = 0
+abbrev pub phase_branches : (Branch → ℕ) → ℕ → ℕ → Phase → ℕ
+phase_branches f r p (phase.WaitPar a b) = f (record { server = r; parent = p; thread = a }) + f (record { server = r; parent = p; thread = b })
+phase_branches f r p x = 0
 
-abbrev unpaired_phase : Sight → ℕ → ℕ → Phase → ℕ
-unpaired_phase s r p (phase.WaitPar a b) = unpaired s r p a + unpaired s r p b
-unpaired_phase s r p x = 0
-
-abbrev not_paired : Sight → Thing → ℕ
-not_paired s (noted r x) = unpaired_note s r x.thread x.state
-not_paired s (stands r p x) = unpaired_phase s r x.number x.phase
-not_paired s x = 0
+-- the branches that a thing notes or waits for, with a weight
+abbrev pub branches : (Branch → ℕ) → Thing → ℕ
+branches f (noted r x) = noted_branch f r x.thread x.state
+branches f (stands r p x) = phase_branches f r x.number x.phase
+branches f x = 0
 
 -- a server notes a thread as in the pair of a parent exactly where the parent stands there, or goes there, in `WaitPar(a, b)` with that thread among a
--- and b; so such a note answers nobody who waits for something else. (For each server, parent and thread as many notes as places)
+-- and b; so such a note answers nobody who waits for something else. (As many notes as places of each branch)
 abbrev pub pairs_wrong : Sight → ℕ
-pairs_wrong s = sum_over s (not_paired s)
+pairs_wrong s = disagree pair_notes pair_places branches s.things
 
-abbrev half_over : TaskState → Bool
+abbrev pub half_over : TaskState → Bool
 half_over (in_pair q over) = over
 half_over x = false
 
-abbrev over_at : ℕ → ℕ → Thing → ℕ
+abbrev pub over_at : ℕ → ℕ → Thing → ℕ
 over_at r t (noted q x) = one ((q == r && x.thread == t) && half_over x.state)
 over_at r t x = 0
 
-abbrev both_over : Sight → Standing → Phase → ℕ
+abbrev pub both_over : Sight → Standing → Phase → ℕ
 both_over s x (phase.WaitPar a b) = other (not (a == b) && not (some (sum_over s (over_at x.server a)) && some (sum_over s (over_at x.server b))))
 both_over s x p = 0
 
@@ -345,22 +353,22 @@ both_over s x p = 0
 abbrev pub waited_pairs_wrong : Sight → ℕ
 waited_pairs_wrong s = sum_threads s (λ x. both_over s x x.thread.phase)
 
-abbrev comes_by : ℕ → Message → Bool → Bool
+abbrev pub comes_by : ℕ → Message → Bool → Bool
 comes_by t (Fetch w o s u) comes = u == t && not comes
 comes_by t (Fetched w c u) comes = u == t && not comes
 comes_by t (Move w o s u) comes = u == t && comes
 comes_by t (Moved w c u) comes = u == t && comes
 comes_by t m comes = false
 
-abbrev comes_in : ℕ → Bool → Thing → ℕ
+abbrev pub comes_in : ℕ → Bool → Thing → ℕ
 comes_in t comes (sent r m) = one (comes_by t m comes)
 comes_in t comes x = 0
 
-abbrev is_waited : Sight → Standing → Option Awaited → ℕ
+abbrev pub is_waited : Sight → Standing → Option Awaited → ℕ
 is_waited s x None = 1
 is_waited s x (Some a) = other (some (sum_over s (comes_in x.thread.number a.comes)))
 
-abbrev cell_phase : Sight → Standing → Phase → ℕ
+abbrev pub cell_phase : Sight → Standing → Phase → ℕ
 cell_phase s x (phase.WaitCell w) = is_waited s x (awaited_at s x w)
 cell_phase s x p = 0
 
@@ -371,19 +379,19 @@ cells_wrong s = sum_threads s (λ x. cell_phase s x x.thread.phase)
 
 -- TAKEN OBJECTS
 
-abbrev lent_place : Option Instr → Option Lval
+abbrev pub lent_place : Option Instr → Option Lval
 lent_place (Some (instr.BorrowMut w)) = Some w
 lent_place i = None
 
-abbrev lies_here : Sight → ℕ → ℕ → Option Location → Bool
+abbrev pub lies_here : Sight → ℕ → ℕ → Option Location → Bool
 lies_here s r w (Some (in_cell o)) = is_word (word s o) w && some (sum_over s (lies_at r o))
 lies_here s r w l = false
 
-abbrev taken_there : Sight → Standing → ℕ → Option Lval → ℕ
+abbrev pub taken_there : Sight → Standing → ℕ → Option Lval → ℕ
 taken_there s x w None = 1
 taken_there s x w (Some p) = other (lies_here s x.server w (place_at s.ground x.thread.number p))
 
-abbrev taken_phase : Sight → Standing → Phase → ℕ
+abbrev pub taken_phase : Sight → Standing → Phase → ℕ
 taken_phase s x (phase.Taken w) = taken_there s x w (lent_place (instr_of s x))
 taken_phase s x p = 0
 
@@ -391,21 +399,21 @@ taken_phase s x p = 0
 abbrev pub taken_wrong : Sight → ℕ
 taken_wrong s = sum_threads s (λ x. taken_phase s x x.thread.phase)
 
-abbrev has_word : ℕ → Option Value → Bool
+abbrev pub has_word : ℕ → Option Value → Bool
 has_word w (Some (value.Own (owned.Box p))) = p.word == w
 has_word w (Some (value.Shared r)) = r.word == w
 has_word w (Some (value.Mut r)) = r.word == w
 has_word w v = false
 
-abbrev last_hop : Sight → Standing → ℕ → Lval → ℕ → Bool
+abbrev pub last_hop : Sight → Standing → ℕ → Lval → ℕ → Bool
 last_hop s x w p zero = false
 last_hop s x w p (suc n) = has_word w (hop_at s.ground x.thread.number p n)
 
-abbrev taken_again : Sight → Standing → ℕ → Option Lval → ℕ
+abbrev pub taken_again : Sight → Standing → ℕ → Option Lval → ℕ
 taken_again s x w None = 0
 taken_again s x w (Some p) = one (last_hop s x w p p.depth)
 
-abbrev old_word : Sight → Standing → Phase → ℕ
+abbrev pub old_word : Sight → Standing → Phase → ℕ
 old_word s x (phase.Taken w) = taken_again s x w (lent_place (instr_of s x))
 old_word s x p = 0
 
@@ -415,28 +423,28 @@ taken_words_wrong s = sum_threads s (λ x. old_word s x x.thread.phase)
 
 -- GIFTS
 
-abbrev is_got : Phase → Bool
+abbrev pub is_got : Phase → Bool
 is_got phase.Got = true
 is_got p = false
 
-abbrev early_gift : Standing → ℕ
+abbrev pub early_gift : Standing → ℕ
 early_gift x = one (is_some x.thread.gift && not (is_got x.thread.phase))
 
 -- a gift stands in phase `Got` alone
 abbrev pub gift_phases_wrong : Sight → ℕ
 gift_phases_wrong s = sum_threads s early_gift
 
-abbrev is_value_of : Owned → Option MutexNo → Bool
+abbrev pub is_value_of : Owned → Option MutexNo → Bool
 is_value_of v None = false
 is_value_of v (Some m) = same_owned v (owned.Mutex m)
 
-abbrev gift_fits : Sight → Standing → Owned → Option Instr → ℕ
+abbrev pub gift_fits : Sight → Standing → Owned → Option Instr → ℕ
 gift_fits s x v (Some (instr.Lock w)) = other (is_some (locked_mutex s x (Some (instr.Lock w))))
 gift_fits s x v (Some (instr.Dup w)) = other (is_value_of v (dupped_mutex s x (Some (instr.Dup w))))
 gift_fits s x v (Some (instr.Join o)) = other (is_some (joined_thread (Some (instr.Join o)) x.thread))
 gift_fits s x v i = 1
 
-abbrev gift_there : Sight → Standing → Option Owned → ℕ
+abbrev pub gift_there : Sight → Standing → Option Owned → ℕ
 gift_there s x None = 0
 gift_there s x (Some v) = gift_fits s x v (instr_of s x)
 

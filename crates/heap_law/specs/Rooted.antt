@@ -19,12 +19,12 @@ use Rattle.heap_law.specs.OneHeap.{Node, object_n, mutex_n, task_n, Owner, a_thr
 
 -- THREADS THAT ARE OVER
 
-abbrev is_end : Option Instr → Bool
+abbrev pub is_end : Option Instr → Bool
 is_end (Some (instr.End o)) = true
 is_end i = false
 
 -- a thread that is over stands at its `End` and has no slot, no temporary value and no gift
-abbrev dressed : Sight → Standing → ℕ
+abbrev pub dressed : Sight → Standing → ℕ
 dressed s x =
     if_so (is_over x.thread.phase) (other (is_end (instr_of s x)) + length x.thread.slots + length x.thread.temps + one (is_some x.thread.gift))
 
@@ -33,33 +33,33 @@ over_wrong s = sum_threads s (dressed s)
 
 -- OWNERS
 
-abbrev owner_ends : (Node → Bool) → Owner → Bool
+abbrev pub owner_ends : (Node → Bool) → Owner → Bool
 owner_ends go a_thread = true
 owner_ends go outside = true
 owner_ends go (inside n) = go n
 
-abbrev named_ends : Bool → (Node → Bool) → Owner → Bool
+abbrev pub named_ends : Bool → (Node → Bool) → Owner → Bool
 named_ends true go o = owner_ends go o
 named_ends false go o = true
 
-abbrev all_end : Sight → (Node → Bool) → Node → List Thing → Bool
+abbrev pub all_end : Sight → (Node → Bool) → Node → List Thing → Bool
 all_end s go n [] = true
 all_end s go n (x ∷ b) = named_ends (names n x) go (owner_of s x) && all_end s go n b
 
 -- going from owner to owner comes to an end, whoever of several is taken; no way that goes round is longer than there are things
-abbrev ends_by : ℕ → Sight → Node → Bool
+abbrev pub ends_by : ℕ → Sight → Node → Bool
 ends_by zero s n = false
 ends_by (suc k) s n = all_end s (ends_by k s) n s.things
 
 abbrev pub owners_end : Sight → Node → Bool
 owners_end s n = ends_by (length s.things) s n
 
-abbrev kept_result : Sight → ℕ → TaskState → ℕ
+abbrev pub kept_result : Sight → ℕ → TaskState → ℕ
 kept_result s t (kept v) = other (owners_end s (task_n t))
 kept_result s t x = 0
 
 -- no object, no mutex's content and no result owns itself, directly or through others
-abbrev owns_itself : Sight → Thing → ℕ
+abbrev pub owns_itself : Sight → Thing → ℕ
 owns_itself s (lies r a c) = other (owners_end s (object_n c.object))
 owns_itself s (flies w c) = other (owners_end s (object_n c.object))
 owns_itself s (at_home r m) = other (owners_end s (mutex_n m.number))
@@ -71,31 +71,31 @@ ownership_wrong s = sum_over s (owns_itself s)
 
 -- PARENTS
 
-abbrev parent_note : TaskState → Option ℕ
+abbrev pub parent_note : TaskState → Option ℕ
 parent_note (in_pair p over) = Some p
 parent_note x = None
 
-abbrev if_thread : Bool → Option ℕ → Option ℕ
+abbrev pub if_thread : Bool → Option ℕ → Option ℕ
 if_thread true p = p
 if_thread false p = None
 
-abbrev parent_in : ℕ → Thing → Option ℕ
+abbrev pub parent_in : ℕ → Thing → Option ℕ
 parent_in t (noted r x) = if_thread (x.thread == t) (parent_note x.state)
 parent_in t x = None
 
-abbrev next_parent : (ℕ → Bool) → Option ℕ → Bool → Bool
+abbrev pub next_parent : (ℕ → Bool) → Option ℕ → Bool → Bool
 next_parent go None rest = rest
 next_parent go (Some p) rest = go p && rest
 
-abbrev all_parents : (ℕ → Bool) → ℕ → List Thing → Bool
+abbrev pub all_parents : (ℕ → Bool) → ℕ → List Thing → Bool
 all_parents go t [] = true
 all_parents go t (x ∷ b) = next_parent go (parent_in t x) (all_parents go t b)
 
-abbrev parents_by : ℕ → Sight → ℕ → Bool
+abbrev pub parents_by : ℕ → Sight → ℕ → Bool
 parents_by zero s t = false
 parents_by (suc k) s t = all_parents (parents_by k s) t s.things
 
-abbrev endless : Sight → Standing → ℕ
+abbrev pub endless : Sight → Standing → ℕ
 endless s x = other (parents_by (length s.ground.threads + 1) s x.thread.number)
 
 -- going from each branch to the parent that waits for it comes to an end
@@ -104,16 +104,16 @@ parents_wrong s = sum_threads s (endless s)
 
 -- RESULTS OF BRANCHES
 
-abbrev is_unit : Owned → Bool
+abbrev pub is_unit : Owned → Bool
 is_unit owned.Unit = true
 is_unit v = false
 
-abbrev branch_result : Sight → Message → ℕ
+abbrev pub branch_result : Sight → Message → ℕ
 branch_result s (Finished t v) = if_so (is_branch s t) (other (is_unit v))
 branch_result s m = 0
 
 -- a `finished` message of a thread of a pair carries unit
-abbrev other_result : Sight → Thing → ℕ
+abbrev pub other_result : Sight → Thing → ℕ
 other_result s (sent r m) = branch_result s m
 other_result s x = 0
 

@@ -37,7 +37,7 @@ location_of (in_slot t i) = Some (at_slot t i)
 location_of (in_temp t i) = Some (at_temp t i)
 location_of p = None
 
-abbrev dropped_pointer : Message → List Pointer
+abbrev pub dropped_pointer : Message → List Pointer
 dropped_pointer (Drop w o) = record { at = None; word = w; object = o } ∷ []
 dropped_pointer m = []
 
@@ -57,11 +57,11 @@ pointers_in [] = []
 pointers_in (x ∷ b) = pointers_of x ++ pointers_in b
 
 -- the word of an object that was taken for a mutable borrow counts as a pointer to the object that the borrow's place leads to
-abbrev taken_object : ℕ → Option Location → List Pointer
+abbrev pub taken_object : ℕ → Option Location → List Pointer
 taken_object w (Some (in_cell o)) = record { at = None; word = w; object = o } ∷ []
 taken_object w l = []
 
-abbrev taken_of : Ground → ThreadView → Phase → Option Instr → List Pointer
+abbrev pub taken_of : Ground → ThreadView → Phase → Option Instr → List Pointer
 taken_of g t (phase.Taken w) (Some (instr.BorrowMut p)) = taken_object w (place_at g t.number p)
 taken_of g t _ _ = []
 
@@ -74,7 +74,7 @@ abbrev pub is_stale : List Location → Option Location → Bool
 is_stale places None = false
 is_stale places (Some l) = is_among l places
 
-abbrev unless : Bool → Pointer → List Pointer → List Pointer
+abbrev pub unless : Bool → Pointer → List Pointer → List Pointer
 unless true p ps = ps
 unless false p ps = p ∷ ps
 
@@ -100,7 +100,7 @@ cell_of_word ps [] w = None
 cell_of_word ps (c ∷ cs) w = if is_word (word_of_object ps c.object) w then Some c else cell_of_word ps cs w
 
 -- a mutable reference that is dirty and isn't stale
-abbrev if_dirty : Bool → ObjNo → List ObjNo → List ObjNo
+abbrev pub if_dirty : Bool → ObjNo → List ObjNo → List ObjNo
 if_dirty true o os = o ∷ os
 if_dirty false o os = os
 
@@ -116,11 +116,11 @@ is_object_among o (p ∷ ps) = same_object p o || is_object_among o ps
 
 -- ISSUED WORDS
 
-abbrev colour_up_to : Option ℕ → ℕ → Bool
+abbrev pub colour_up_to : Option ℕ → ℕ → Bool
 colour_up_to None w = false
 colour_up_to (Some v) w = nat_le (colour_of w) (colour_of v)
 
-abbrev is_spot : ℕ → ℕ → ℕ → Bool
+abbrev pub is_spot : ℕ → ℕ → ℕ → Bool
 is_spot s a w = server_of w == s && address_of w == a
 
 -- the words that are issued at a thing's address: of a live object the colours up to its word, so no later colour than that; of a
@@ -149,7 +149,7 @@ pub record Sight : Type 0 where
   -- the objects to which a dirty reference is alive that isn't stale
   pub dirty : List ObjNo
 
-abbrev with_stale : Cluster → List Thing → Ground → List Location → Sight
+abbrev pub with_stale : Cluster → List Thing → Ground → List Location → Sight
 with_stale k b g places = record {
   code = k.code;
   options = k.options;
@@ -160,10 +160,10 @@ with_stale k b g places = record {
   dirty = dirty_objects places b;
 }
 
-abbrev with_ground : Cluster → List Thing → Ground → Sight
+abbrev pub with_ground : Cluster → List Thing → Ground → Sight
 with_ground k b g = with_stale k b g (stale_places k.code g b)
 
-abbrev with_things : Cluster → List Thing → Sight
+abbrev pub with_things : Cluster → List Thing → Sight
 with_things k b = with_ground k b (ground_of b)
 
 -- what a cluster shows

@@ -28,7 +28,7 @@ pub record Reference : Type 0 where
   pub holder : Option Location
   pub reference : MutRef
 
-abbrev holder_of : Ground → Location → Lval → Option Location
+abbrev pub holder_of : Ground → Location → Lval → Option Location
 holder_of g (at_slot t i) w = place_at g t w
 holder_of g (at_temp t i) w = place_at g t w
 holder_of g (in_cell o) w = None
@@ -40,15 +40,15 @@ references g (borrows l r ∷ b) = record { at = l; holder = holder_of g l r.hol
 references g (x ∷ b) = references g b
 
 -- the pointer from which a thread has taken the object for its mutable borrow: that of the borrow's place with one star less
-abbrev one_star_less : Ground → ℕ → ℕ → ℕ → Option Location
+abbrev pub one_star_less : Ground → ℕ → ℕ → ℕ → Option Location
 one_star_less g t slot zero = None
 one_star_less g t slot (suc n) = locate g t slot n
 
-abbrev lent_place : Ground → ℕ → Phase → Option Instr → Option Location
+abbrev pub lent_place : Ground → ℕ → Phase → Option Instr → Option Location
 lent_place g t (phase.Taken w) (Some (instr.BorrowMut p)) = one_star_less g t p.slot p.depth
 lent_place g t _ _ = None
 
-abbrev with_place : Option Location → List Location → List Location
+abbrev pub with_place : Option Location → List Location → List Location
 with_place None ls = ls
 with_place (Some l) ls = l ∷ ls
 

@@ -15,10 +15,11 @@ use Rattle.thread_state.specs.declared.phase.Phase.TheVariants as phase
 use Rattle.server_msgs.specs.declared.message.Message.{Message}
 use Rattle.server_msgs.specs.declared.message.Message.TheVariants.{Fetch, Move}
 use Rattle.heap_law.specs.Names.{tot, one, other, if_so, some}
-use Rattle.heap_law.specs.Things.{Location, Thing, copied, uses, sent}
+use Rattle.heap_law.specs.Things.{Location, Thing, sent}
 use Rattle.heap_law.specs.Follow.{Standing, Ground, locate, value_behind, hop_at}
 use Rattle.heap_law.specs.Sight.{Sight, is_stale}
-use Rattle.heap_law.specs.Weights.{lies_at, copies, cached, uses_of}
+use Rattle.heap_law.specs.Balances.{disagree}
+use Rattle.heap_law.specs.Weights.{lies_at, copies, uses_of, users_of, kept_words}
 use Rattle.heap_law.specs.Paths.{Path, no_path, lends, writes, ends, path_of, written_place, Awaited, awaited, followed, is_at_hand, first_unreadable}
 use Rattle.heap_law.specs.Placing.{sum_over}
 
@@ -35,20 +36,20 @@ path s x = path_of (instr_of s x) x.thread
 -- THE HOPS OF A WRITE
 
 -- the sum over the first so many hops of a place, with the location of each hop's pointer
-abbrev over_hops : Ground → ℕ → ℕ → (Option Location → Option Value → ℕ) → ℕ → ℕ
+abbrev pub over_hops : Ground → ℕ → ℕ → (Option Location → Option Value → ℕ) → ℕ → ℕ
 over_hops g t slot f zero = 0
 over_hops g t slot f (suc n) = f (locate g t slot n) (value_behind g (locate g t slot n)) + over_hops g t slot f n
 
-abbrev over_place : Ground → ℕ → ℕ → (Option Location → Option Value → ℕ) → Option Lval → ℕ
+abbrev pub over_place : Ground → ℕ → ℕ → (Option Location → Option Value → ℕ) → Option Lval → ℕ
 over_place g t n f None = 0
 over_place g t n f (Some w) = over_hops g t w.slot f n
 
 -- the sum over the hops of a thread's write that are passed; a thread that doesn't write has none
-abbrev over_passed : Sight → (ℕ → Option Location → Option Value → ℕ) → Standing → ℕ
+abbrev pub over_passed : Sight → (ℕ → Option Location → Option Value → ℕ) → Standing → ℕ
 over_passed s f x = over_place s.ground x.thread.number x.thread.passed (f x.server) (written_place (path s x))
 
 -- the objects of the first `passed` hops of a thread's write lie at its server
-abbrev away : Sight → ℕ → Option Location → Option Value → ℕ
+abbrev pub away : Sight → ℕ → Option Location → Option Value → ℕ
 away s r l (Some (value.Own (owned.Box p))) = other (some (tot (lies_at r p.object) s.things))
 away s r l (Some (value.Mut q)) = other (some (tot (lies_at r q.object) s.things))
 away s r l (Some (value.SharedSlot i)) = 0
@@ -59,7 +60,7 @@ abbrev pub passed_wrong : Sight → ℕ
 passed_wrong s = sum_threads s (over_passed s (away s))
 
 -- for each of these hops over a box, no copy of its word exists, cached or in a message
-abbrev copied_box : Sight → ℕ → Option Location → Option Value → ℕ
+abbrev pub copied_box : Sight → ℕ → Option Location → Option Value → ℕ
 copied_box s r l (Some (value.Own (owned.Box p))) = tot (copies p.word) s.things
 copied_box s r l v = 0
 
@@ -67,38 +68,38 @@ abbrev pub passed_boxes_wrong : Sight → ℕ
 passed_boxes_wrong s = sum_threads s (over_passed s (copied_box s))
 
 -- each of these hops over a mutable reference is over one that isn't stale
-abbrev stale_hop : Sight → ℕ → Option Location → Option Value → ℕ
+abbrev pub stale_hop : Sight → ℕ → Option Location → Option Value → ℕ
 stale_hop s r l (Some (value.Mut q)) = one (is_stale s.stale l)
 stale_hop s r l v = 0
 
 abbrev pub passed_references_wrong : Sight → ℕ
 passed_references_wrong s = sum_threads s (over_passed s (stale_hop s))
 
-abbrev in_walk : Phase → Bool
+abbrev pub in_walk : Phase → Bool
 in_walk (phase.WaitCell w) = true
 in_walk phase.Got = true
 in_walk (phase.Taken w) = true
 in_walk p = false
 
 -- `passed` is 0 outside the phases `WaitCell`, `Got` and `Taken`
-abbrev early : Standing → ℕ
+abbrev pub early : Standing → ℕ
 early x = one (not (in_walk x.thread.phase) && not (x.thread.passed == 0))
 
 abbrev pub passed_phase_wrong : Sight → ℕ
 passed_phase_wrong s = sum_threads s early
 
-abbrev hop_count : Option Lval → ℕ
+abbrev pub hop_count : Option Lval → ℕ
 hop_count None = 0
 hop_count (Some w) = w.depth
 
 -- `passed` is never above the number of hops of that write
-abbrev too_far : Sight → Standing → ℕ
+abbrev pub too_far : Sight → Standing → ℕ
 too_far s x = other (nat_le x.thread.passed (hop_count (written_place (path s x))))
 
 abbrev pub passed_count_wrong : Sight → ℕ
 passed_count_wrong s = sum_threads s (too_far s)
 
-abbrev walks_not : Phase → Bool
+abbrev pub walks_not : Phase → Bool
 walks_not phase.Ready = true
 walks_not (phase.WaitJoin t) = true
 walks_not (phase.WaitPar a b) = true
@@ -107,29 +108,29 @@ walks_not phase.Over = true
 walks_not p = false
 
 -- the walk is empty in the phases `Ready`, `WaitJoin`, `WaitPar`, `GotPar` and `Over`
-abbrev still_walks : Standing → ℕ
+abbrev pub still_walks : Standing → ℕ
 still_walks x = if_so (walks_not x.thread.phase) (length x.thread.walk)
 
 abbrev pub walk_phase_wrong : Sight → ℕ
 walk_phase_wrong s = sum_threads s still_walks
 
-abbrev is_join : Option Instr → Bool
+abbrev pub is_join : Option Instr → Bool
 is_join (Some (instr.Join o)) = true
 is_join i = false
 
 -- the walk is empty at a `Join`, in every phase
-abbrev walks_at_join : Sight → Standing → ℕ
+abbrev pub walks_at_join : Sight → Standing → ℕ
 walks_at_join s x = if_so (is_join (instr_of s x)) (length x.thread.walk)
 
 abbrev pub join_walk_wrong : Sight → ℕ
 join_walk_wrong s = sum_threads s (walks_at_join s)
 
-abbrev is_ready : Phase → Bool
+abbrev pub is_ready : Phase → Bool
 is_ready phase.Ready = true
 is_ready p = false
 
 -- a parcel is in phase `Ready`
-abbrev busy_parcel : Standing → ℕ
+abbrev pub busy_parcel : Standing → ℕ
 busy_parcel x = if_so x.packed (other (is_ready x.thread.phase))
 
 abbrev pub parcels_wrong : Sight → ℕ
@@ -137,42 +138,42 @@ parcels_wrong s = sum_threads s busy_parcel
 
 -- A FOLLOWED PLACE
 
-abbrev pinned_word : Bool → ℕ → List ℕ → List ℕ
+abbrev pub pinned_word : Bool → ℕ → List ℕ → List ℕ
 pinned_word true w ws = w ∷ ws
 pinned_word false w ws = ws
 
-abbrev pinned_words : List Value → List ℕ
+abbrev pub pinned_words : List Value → List ℕ
 pinned_words [] = []
 pinned_words (value.Shared r ∷ vs) = pinned_word r.pinned r.word (pinned_words vs)
 pinned_words (v ∷ vs) = pinned_words vs
 
 -- the words that a thread keeps cached: those of its walk and of its pinned references
-abbrev kept_words : ThreadView → List ℕ
-kept_words t = t.walk ++ pinned_words t.slots ++ pinned_words t.temps
+abbrev pub words_kept : ThreadView → List ℕ
+words_kept t = t.walk ++ pinned_words t.slots ++ pinned_words t.temps
 
 -- a pointer to an object that is followed leads to an object here or to a copy that the thread keeps; a dirty reference leads here, since copies
 -- under its word are old
-abbrev loose_hop : ℕ → List ℕ → Option Value → ℕ
+abbrev pub loose_hop : ℕ → List ℕ → Option Value → ℕ
 loose_hop r kept (Some (value.Own (owned.Box p))) = other (is_at_hand kept r true p.word)
 loose_hop r kept (Some (value.Shared q)) = other (is_at_hand kept r true q.word)
 loose_hop r kept (Some (value.Mut q)) = other (is_at_hand kept r (not q.dirty) q.word)
 loose_hop r kept v = 0
 
-abbrev is_pull : List Awaited → ℕ → Bool
+abbrev pub is_pull : List Awaited → ℕ → Bool
 is_pull [] w = false
 is_pull (a ∷ []) w = a.comes && a.word == w
 is_pull (a ∷ b ∷ rest) w = is_pull (b ∷ rest) w
 
-abbrev has_gift_there : Option Owned → Option Instr → Bool
+abbrev pub has_gift_there : Option Owned → Option Instr → Bool
 has_gift_there (Some v) (Some (instr.Lock w)) = true
 has_gift_there (Some v) (Some (instr.Dup w)) = true
 has_gift_there v i = false
 
-abbrev waits_for_lent : Sight → Standing → Path → ℕ → Bool
+abbrev pub waits_for_lent : Sight → Standing → Path → ℕ → Bool
 waits_for_lent s x (lends p) w = is_pull (awaited s.options.colours s.ground x.thread.number (lends p)) w
 waits_for_lent s x p w = false
 
-abbrev has_followed : Sight → Standing → Phase → Bool
+abbrev pub has_followed : Sight → Standing → Phase → Bool
 has_followed s x (phase.WaitLock m) = true
 has_followed s x (phase.WaitDup m) = true
 has_followed s x (phase.Taken w) = true
@@ -182,34 +183,34 @@ has_followed s x p = has_gift_there x.thread.gift (instr_of s x)
 -- a thread has followed its place where it is in phase `WaitLock`, `WaitDup` or `Taken`, or has a gift at a `Lock` or `Dup`, or is in `WaitCell`
 -- for the pull of the object of its `BorrowMut`. Each pointer to an object that this place follows, in a `BorrowMut` all but the last, leads
 -- to an object at its server or, but for a dirty reference, to a copy that its walk or a pinned reference of it keeps
-abbrev lost_place : Sight → Standing → ℕ
-lost_place s x = if_so (has_followed s x x.thread.phase) (tot (loose_hop x.server (kept_words x.thread)) (followed s.ground x.thread.number (path s x)))
+abbrev pub lost_place : Sight → Standing → ℕ
+lost_place s x = if_so (has_followed s x x.thread.phase) (tot (loose_hop x.server (words_kept x.thread)) (followed s.ground x.thread.number (path s x)))
 
 abbrev pub followed_wrong : Sight → ℕ
 followed_wrong s = sum_threads s (lost_place s)
 
 -- WHAT A WALK WAITS FOR
 
-abbrev is_awaited : ℕ → Option Awaited → Bool
+abbrev pub is_awaited : ℕ → Option Awaited → Bool
 is_awaited w None = false
 is_awaited w (Some a) = a.word == w
 
 -- the pointer of that star, from 0, has the word
-abbrev is_hop_word : ℕ → Option Value → Bool
+abbrev pub is_hop_word : ℕ → Option Value → Bool
 is_hop_word w (Some (value.Own (owned.Box p))) = p.word == w
 is_hop_word w (Some (value.Mut r)) = r.word == w
 is_hop_word w v = false
 
-abbrev is_next_hop : Sight → Standing → ℕ → Lval → Bool
+abbrev pub is_next_hop : Sight → Standing → ℕ → Lval → Bool
 is_next_hop s x w p = nat_lt x.thread.passed p.depth && is_hop_word w (hop_at s.ground x.thread.number p x.thread.passed)
 
-abbrev waits_in_turn : Sight → Standing → ℕ → Path → ℕ
+abbrev pub waits_in_turn : Sight → Standing → ℕ → Path → ℕ
 waits_in_turn s x w no_path = 0
 waits_in_turn s x w (writes p) = other (is_next_hop s x w p)
 waits_in_turn s x w (ends r) = other (r.word == w || is_next_hop s x w r.holder)
-waits_in_turn s x w p = other (is_awaited w (first_unreadable (kept_words x.thread) x.server (awaited s.options.colours s.ground x.thread.number p)))
+waits_in_turn s x w p = other (is_awaited w (first_unreadable (words_kept x.thread) x.server (awaited s.options.colours s.ground x.thread.number p)))
 
-abbrev out_of_turn : Sight → Standing → Phase → ℕ
+abbrev pub out_of_turn : Sight → Standing → Phase → ℕ
 out_of_turn s x (phase.WaitCell w) = waits_in_turn s x w (path s x)
 out_of_turn s x p = 0
 
@@ -219,13 +220,13 @@ out_of_turn s x p = 0
 abbrev pub turn_wrong : Sight → ℕ
 turn_wrong s = sum_threads s (λ x. out_of_turn s x x.thread.phase)
 
-abbrev asks_itself : Message → ℕ
+abbrev pub asks_itself : Message → ℕ
 asks_itself (Fetch w o r t) = one (server_of w == r)
 asks_itself (Move w o r t) = one (server_of w == r)
 asks_itself m = 0
 
 -- no request for an object goes to the thread's own server
-abbrev own_request : Thing → ℕ
+abbrev pub own_request : Thing → ℕ
 own_request (sent r m) = asks_itself m
 own_request x = 0
 
@@ -234,18 +235,7 @@ own_requests_wrong s = sum_over s own_request
 
 -- USERS
 
--- the users of a cached word are the pinned references and the walks of the threads at that server that have this word
-abbrev other_users : Sight → Thing → ℕ
-other_users s (copied r c) = other (tot (uses_of r c.word) s.things == c.users)
-other_users s x = 0
-
+-- the users of a cached word are the pinned references and the walks of the threads at that server that have this word, and each pinned reference's
+-- word and each word of a walk is cached at its server. (As many uses as users of each word at each server)
 abbrev pub users_wrong : Sight → ℕ
-users_wrong s = sum_over s (other_users s)
-
--- each pinned reference's word and each word of a walk is cached at its server
-abbrev uncached : Sight → Thing → ℕ
-uncached s (uses r w) = other (some (tot (cached r w) s.things))
-uncached s x = 0
-
-abbrev pub uncached_wrong : Sight → ℕ
-uncached_wrong s = sum_over s (uncached s)
+users_wrong s = disagree uses_of users_of kept_words s.things

@@ -1,12 +1,14 @@
 -- Weights of things: how much each thing counts for a sentence of coherent memory. Their sums over all things say the sentence.
-use Rattle.std.specs.Prelude.{ℕ, ◌==◌, nat_lt, ◌&&◌}
+use Rattle.std.specs.Prelude.{ℕ, ◌+◌, ◌==◌, nat_lt, ◌&&◌}
 use Rattle.fr_base.specs.declared.name.ObjNo.{ObjNo}
 use Rattle.fr_base.specs.declared.name.MutexNo.{MutexNo}
 use Rattle.fr_base.specs.declared.release.Released.{Released}
 use Rattle.fr_base.specs.declared.release.Released.TheVariants as released
+use Rattle.heap_partition.specs.declared.value.Owned.{Owned}
+use Rattle.heap_partition.specs.declared.value.Owned.TheVariants as owned
 use Rattle.server_msgs.specs.declared.message.Message.{Message}
 use Rattle.server_msgs.specs.declared.message.Message.TheVariants.{Fetched, Drop, Dupped, Release}
-use Rattle.heap_law.specs.Names.{one, same_object, same_mutex, boxes, mutex_values, task_values}
+use Rattle.heap_law.specs.Names.{one, if_so, same_object, same_mutex, boxes, mutex_values, task_values}
 use Rattle.heap_law.specs.Things.{Thing, holds, lies, flies, vacant, retired, copied, uses, sent, stands, at_home, counts}
 
 -- CELLS AND OWNERS
@@ -29,19 +31,42 @@ owners o (flies w c) = boxes o c.value
 owners o (sent s m) = drops o m
 owners o x = 0
 
+abbrev pub owned_object : (ObjNo → ℕ) → Owned → ℕ
+owned_object f (owned.Box p) = f p.object
+owned_object f v = 0
+
+abbrev pub dropped_object : (ObjNo → ℕ) → Message → ℕ
+dropped_object f (Drop w o) = f o
+dropped_object f m = 0
+
+-- the objects of which a thing is a cell or that it owns, with a weight
+abbrev pub objects : (ObjNo → ℕ) → Thing → ℕ
+objects f (holds p v) = owned_object f v
+objects f (lies s a c) = f c.object + owned_object f c.value
+objects f (flies w c) = f c.object + owned_object f c.value
+objects f (sent s m) = dropped_object f m
+objects f x = 0
+
 -- ADDRESSES
 
 -- a state of the address: an object lies there, or it is free, or retired
-abbrev pub states : ℕ → ℕ → Thing → ℕ
-states s a (lies r b c) = one (r == s && b == a)
-states s a (vacant r b next) = one (r == s && b == a)
-states s a (retired r b) = one (r == s && b == a)
-states s a x = 0
+abbrev pub states : ℕ × ℕ → Thing → ℕ
+states at (lies r a c) = one (r == at.0 && a == at.1)
+states at (vacant r a next) = one (r == at.0 && a == at.1)
+states at (retired r a) = one (r == at.0 && a == at.1)
+states at x = 0
 
 -- the address is below its server's next one
-abbrev pub below : ℕ → ℕ → Thing → ℕ
-below s a (counts r next old started made events) = one (r == s && nat_lt a next)
-below s a x = 0
+abbrev pub below : ℕ × ℕ → Thing → ℕ
+below at (counts r next old started made events) = one (r == at.0 && nat_lt at.1 next)
+below at x = 0
+
+-- the address of which a thing is a state, with a weight
+abbrev pub addresses : (ℕ × ℕ → ℕ) → Thing → ℕ
+addresses f (lies r a c) = f (r, a)
+addresses f (vacant r a next) = f (r, a)
+addresses f (retired r a) = f (r, a)
+addresses f x = 0
 
 abbrev pub lies_at : ℕ → ObjNo → Thing → ℕ
 lies_at s o (lies r a c) = one (r == s && same_object c.object o)
@@ -49,7 +74,7 @@ lies_at s o x = 0
 
 -- COPIES
 
-abbrev fetched_under : ℕ → Message → ℕ
+abbrev pub fetched_under : ℕ → Message → ℕ
 fetched_under w (Fetched v c t) = one (v == w)
 fetched_under w m = 0
 
@@ -65,9 +90,20 @@ cached s w (copied r c) = one (r == s && c.word == w)
 cached s w x = 0
 
 -- a use of the word at that server
-abbrev pub uses_of : ℕ → ℕ → Thing → ℕ
-uses_of s w (uses r v) = one (r == s && v == w)
-uses_of s w x = 0
+abbrev pub uses_of : ℕ × ℕ → Thing → ℕ
+uses_of at (uses r w) = one (r == at.0 && w == at.1)
+uses_of at x = 0
+
+-- the users of the word in that server's cache
+abbrev pub users_of : ℕ × ℕ → Thing → ℕ
+users_of at (copied r c) = if_so (r == at.0 && c.word == at.1) c.users
+users_of at x = 0
+
+-- the word at a server that a thing uses or keeps, with a weight
+abbrev pub kept_words : (ℕ × ℕ → ℕ) → Thing → ℕ
+kept_words f (uses r w) = f (r, w)
+kept_words f (copied r c) = f (r, c.word)
+kept_words f x = 0
 
 -- MUTEXES AND TASKS
 
@@ -75,11 +111,11 @@ abbrev pub is_home_of : MutexNo → Thing → ℕ
 is_home_of m (at_home s n) = one (same_mutex n.number m)
 is_home_of m x = 0
 
-abbrev released_mutex : MutexNo → Released → ℕ
+abbrev pub released_mutex : MutexNo → Released → ℕ
 released_mutex m (released.Mutex n) = one (same_mutex n m)
 released_mutex m (released.Task t) = 0
 
-abbrev shares_sent : MutexNo → Message → ℕ
+abbrev pub shares_sent : MutexNo → Message → ℕ
 shares_sent m (Release x) = released_mutex m x
 shares_sent m (Dupped n t) = one (same_mutex n m)
 shares_sent m x = 0
@@ -92,11 +128,38 @@ shares_of m (flies w c) = mutex_values m c.value
 shares_of m (sent s x) = shares_sent m x
 shares_of m x = 0
 
-abbrev released_task : ℕ → Released → ℕ
+-- the shares that the mutex's home counts
+abbrev pub shares_at_home : MutexNo → Thing → ℕ
+shares_at_home m (at_home s n) = if_so (same_mutex n.number m) n.shares
+shares_at_home m x = 0
+
+abbrev pub owned_share : (MutexNo → ℕ) → Owned → ℕ
+owned_share f (owned.Mutex m) = f m
+owned_share f v = 0
+
+abbrev pub released_share : (MutexNo → ℕ) → Released → ℕ
+released_share f (released.Mutex m) = f m
+released_share f (released.Task t) = 0
+
+abbrev pub sent_share : (MutexNo → ℕ) → Message → ℕ
+sent_share f (Release x) = released_share f x
+sent_share f (Dupped m t) = f m
+sent_share f m = 0
+
+-- the mutexes of which a thing has shares, or counts them, with a weight
+abbrev pub shared_mutexes : (MutexNo → ℕ) → Thing → ℕ
+shared_mutexes f (holds p v) = owned_share f v
+shared_mutexes f (lies s a c) = owned_share f c.value
+shared_mutexes f (flies w c) = owned_share f c.value
+shared_mutexes f (sent s x) = sent_share f x
+shared_mutexes f (at_home s n) = f n.number
+shared_mutexes f x = 0
+
+abbrev pub released_task : ℕ → Released → ℕ
 released_task t (released.Mutex m) = 0
 released_task t (released.Task u) = one (u == t)
 
-abbrev tasks_sent : ℕ → Message → ℕ
+abbrev pub tasks_sent : ℕ → Message → ℕ
 tasks_sent t (Release x) = released_task t x
 tasks_sent t m = 0
 
@@ -113,3 +176,8 @@ tasks_of t x = 0
 abbrev pub is_thread : ℕ → Thing → ℕ
 is_thread t (stands s p x) = one (x.number == t)
 is_thread t x = 0
+
+-- the number of the thread that a thing is, with a weight
+abbrev pub numbers : (ℕ → ℕ) → Thing → ℕ
+numbers f (stands s p x) = f x.number
+numbers f x = 0

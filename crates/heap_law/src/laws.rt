@@ -1,7 +1,7 @@
 //! Laws of coherent memory.
 
 ghost use Rattle.heap_law.specs.Along.{RowsStayCoherent};
-ghost use Rattle.heap_law.specs.Laws.{HandOverLaw, StartLaw};
+ghost use Rattle.heap_law.specs.Laws.{HandOverLaw, SoundLaw, StartLaw};
 ghost use Rattle.heap_law.specs.Chosen.{ChosenStayCoherent};
 ghost use Rattle.heap_law.specs.ChosenEnds.{ChosenEnd};
 ghost use Rattle.heap_law.specs.LeftRuns.{RunsAreLeft};
@@ -11,6 +11,11 @@ ghost use Rattle.heap_law.specs.OneEvent.{OneEventKeeps};
 ghost use Rattle.heap_law.specs.Sound.{SoundCompute};
 ghost use Rattle.heap_law.specs.Broken.{MemoryBreaks, WalksBreak};
 ghost use Rattle.heap_law.specs.BrokenRest.{RequestsBreak, SharingBreaks, RootedBreaks, NamesBreak};
+
+/// A cluster breaks no sentence exactly where it is sound.
+pub fn sound_is_unbroken()
+    ensures { SoundLaw }
+{}
 
 /// Clusters that break no sentence.
 pub fn sound_compute()
