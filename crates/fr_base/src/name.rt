@@ -4,6 +4,9 @@ ghost use Rattle.std.specs.Prelude.{◌≡◌, ◌+◌, ◌*◌, ◌/◌, ◌%�
 
 use std::marker::Model;
 
+/// How many counts a server has for the threads that it starts.
+const COUNTS: u64 = 1 << 32;
+
 /// A thread: the server that started it (bits 32 to 39) and its count there (the low 32 bits).
 /// The main thread is 0.0. Contracts see it as the number `server * 2^32 + count`.
 #[derive(Clone, Copy, Debug, PartialEq, Eq)]
@@ -26,21 +29,21 @@ impl ThreadNo {
     pub fn new(server: u8, count: u32) -> ThreadNo
         ensures { result ≡ server * 2 ^ 32 + count }
     {
-        ThreadNo(u64::from(server) * 4_294_967_296 + u64::from(count))
+        ThreadNo(u64::from(server) * COUNTS + u64::from(count))
     }
 
     /// The server that started the thread.
     pub fn server(self) -> u8
         ensures { result ≡ self / 2 ^ 32 }
     {
-        (self.0 / 4_294_967_296) as u8
+        (self.0 / COUNTS) as u8
     }
 
     /// Its count at that server.
     pub fn count(self) -> u32
         ensures { result ≡ self % 2 ^ 32 }
     {
-        (self.0 % 4_294_967_296) as u32
+        (self.0 % COUNTS) as u32
     }
 }
 
