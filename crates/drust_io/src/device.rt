@@ -1,6 +1,6 @@
 //! Standard input and output. What a terminal or a pipe gave or took is claimed nowhere.
 
-ghost use Rattle.std.specs.Prelude.{◌≡◌, ℕ, ◌<◌, ◌≤◌, length, take, None, IfOk, OnErr};
+ghost use Rattle.std.specs.Prelude.{◌≡◌, ℕ, ◌+◌, ◌^◌, ◌-◌, ◌<◌, ◌≤◌, length, min, take, None, IfOk, OnOk, OnErr};
 ghost use Rattle.std.specs.Io.KnownBytes.{ReadConsumes, Appends};
 ghost use Rattle.drust_io.specs.Flow.{Rose};
 
@@ -42,6 +42,9 @@ impl<R: Read + Drop> Source for StdSource<R> {
         ensures within { IfOk result (λ n. n ≤ length room.old) }
         ensures failed { OnErr result (Rose self.old.faults self.new.faults) }
         ensures grows { self.old.faults ≤ self.new.faults }
+        // A fault is counted exactly where the call failed.
+        ensures no_fault { OnOk result (self.new.faults ≡ self.old.faults) }
+        ensures one_fault { OnErr result (self.new.faults ≡ min (self.old.faults + 1) (2 ^ 64 - 1)) }
         // Where the reader tells its bytes, these are the bytes.
         ensures reader { ReadConsumes (R.remaining self.old.device) (R.remaining self.new.device) result room.new }
     {
@@ -83,6 +86,15 @@ impl<W: Write + Drop> StdSink<W> {
     {
         StdSink { to, faults: 0 }
     }
+
+    // Counts a fault.
+    fn failed(&mut self) -> Failed
+        ensures counted { self.new ≡ record { device = self.old.device; faults = min (self.old.faults + 1) (2 ^ 64 - 1) } }
+        ensures grows { self.old.faults ≤ self.new.faults }
+    {
+        self.faults = self.faults.saturating_add(1);
+        Failed
+    }
 }
 
 impl<W: Write + Drop> Sink for StdSink<W> {
@@ -95,17 +107,24 @@ impl<W: Write + Drop> Sink for StdSink<W> {
         ensures some { IfOk result (λ n. 0 < length piece.now → 0 < n) }
         ensures failed { OnErr result (Rose self.old.faults self.new.faults) }
         ensures grows { self.old.faults ≤ self.new.faults }
+        // A fault is counted exactly where the call failed.
+        ensures no_fault { OnOk result (self.new.faults ≡ self.old.faults) }
+        ensures one_fault { OnErr result (self.new.faults ≡ min (self.old.faults + 1) (2 ^ 64 - 1)) }
         // Where the writer tells its bytes, these were appended.
         ensures writer { IfOk result (λ n. Appends (W.contents self.old.device) (W.contents self.new.device) (take n piece.now)) }
+        // Else first bytes of the piece at most, once.
+        ensures refused { OnErr result ((m : ℕ) × (m ≤ length piece.now) × Appends (W.contents self.old.device) (W.contents self.new.device) (take m piece.now)) }
     {
-        if let Ok(n) = self.to.write(piece)
-            && (n > 0 || piece.is_empty())
-            && self.to.flush().is_ok()
-        {
-            return Ok(n);
+        let Ok(n) = self.to.write(piece) else {
+            return Err(self.failed());
+        };
+        if n == 0 && !piece.is_empty() {
+            return Err(self.failed());
         }
-        self.faults = self.faults.saturating_add(1);
-        Err(Failed)
+        if self.to.flush().is_err() {
+            return Err(self.failed());
+        }
+        Ok(n)
     }
 
     fn faults(&self) -> u64 {

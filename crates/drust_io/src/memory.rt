@@ -1,6 +1,6 @@
 //! Sources and sinks in memory, whose calls fail by plan.
 
-ghost use Rattle.std.specs.Prelude.{◌≡◌, ℕ, ◌+◌, ◌<◌, ◌≤◌, [], length, take, Some, Contains, IsErr, IfOk, OnErr, min, ◌-◌, ◌^◌, ◌↔◌};
+ghost use Rattle.std.specs.Prelude.{◌≡◌, ℕ, ◌+◌, ◌<◌, ◌≤◌, [], length, take, Some, Contains, IsErr, IfOk, OnOk, OnErr, min, ◌-◌, ◌^◌, ◌↔◌};
 ghost use Rattle.drust_io.specs.Flow.{Rose, ComesOff, NothingLeft, GoesOn};
 
 use crate::flow::{Failed, Sink, Source};
@@ -69,6 +69,9 @@ impl Source for MemorySource {
         ensures kept { OnErr result (self.new.bytes ≡ self.old.bytes) }
         ensures failed { OnErr result (Rose self.old.faults self.new.faults) }
         ensures grows { self.old.faults ≤ self.new.faults }
+        // A fault is counted exactly where the call failed.
+        ensures no_fault { OnOk result (self.new.faults ≡ self.old.faults) }
+        ensures one_fault { OnErr result (self.new.faults ≡ min (self.old.faults + 1) (2 ^ 64 - 1)) }
         // As much as there is, as fits the room, and as one call takes.
         ensures count { IfOk result (λ n. n ≡ min (min (length room.old) self.old.most) (length self.old.bytes)) }
         // It fails exactly where the plan has this call.
@@ -148,6 +151,9 @@ impl Sink for MemorySink {
         ensures kept { OnErr result (self.new.bytes ≡ self.old.bytes) }
         ensures failed { OnErr result (Rose self.old.faults self.new.faults) }
         ensures grows { self.old.faults ≤ self.new.faults }
+        // A fault is counted exactly where the call failed.
+        ensures no_fault { OnOk result (self.new.faults ≡ self.old.faults) }
+        ensures one_fault { OnErr result (self.new.faults ≡ min (self.old.faults + 1) (2 ^ 64 - 1)) }
         // As much as there is, and as one call takes.
         ensures count { IfOk result (λ n. n ≡ min (length piece.now) self.old.most) }
         // It fails where the plan has this call; without memory others fail too.

@@ -1,12 +1,13 @@
 //! A source and a sink that never fail.
 
-ghost use Rattle.std.specs.Prelude.{◌≡◌, ℕ, ◌<◌, Some, None};
+ghost use Rattle.std.specs.Prelude.{◌≡◌, ℕ, ◌<◌, ◌≤◌, length, take, min, Some, None, Ok, IfOk, OnErr};
+ghost use Rattle.drust_io.specs.Flow.{ComesOff, NothingLeft};
 
 use crate::flow::{Failed, Sink, Source};
 use crate::memory::copy_front;
 use std::marker::Model;
 
-/// Gives bytes, at most `most` of them in a call, and never fails. Contracts see what is left.
+/// Gives bytes, at most `most` of them in a call, and never fails. Contracts see what is left, and `most`.
 #[derive(Drop)]
 pub struct NoFaultSource {
     bytes: Vec<u8>,
@@ -40,7 +41,14 @@ impl Source for NoFaultSource {
 
     ghost fault_count = { λ _. 0 };
 
-    fn read(&mut self, room: &mut [u8]) -> Result<usize, Failed> {
+    fn read(&mut self, room: &mut [u8]) -> Result<usize, Failed>
+        ensures within { IfOk result (λ n. n ≤ length room.old) }
+        ensures bytes { IfOk result (λ n. ComesOff (take n room.new) (Some self.old.bytes) (Some self.new.bytes)) }
+        ensures end { IfOk result (λ n. n ≡ 0 → 0 < length room.old → NothingLeft (Some self.new.bytes)) }
+        // It never fails, and gives as much as there is, as fits the room, and as one call takes.
+        ensures count { result ≡ Ok (min (min (length room.old) self.old.most) (length self.old.bytes)) }
+        ensures most { self.new.most ≡ self.old.most }
+    {
         let n = copy_front(&self.bytes[self.at..], self.most, room);
         self.at += n;
         Ok(n)
@@ -83,7 +91,13 @@ impl Sink for NoFaultSink {
 
     ghost fault_count = { λ _. 0 };
 
-    fn write(&mut self, piece: &[u8]) -> Result<usize, Failed> {
+    fn write(&mut self, piece: &[u8]) -> Result<usize, Failed>
+        ensures within { IfOk result (λ n. n ≤ length piece.now) }
+        ensures some { IfOk result (λ n. 0 < length piece.now → 0 < n) }
+        // It never fails, and takes as much as there is, and as one call takes.
+        ensures count { result ≡ Ok (min (length piece.now) self.old) }
+        ensures most { self.new ≡ self.old }
+    {
         Ok(piece.len().min(self.most))
     }
 

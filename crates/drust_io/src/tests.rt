@@ -1,6 +1,7 @@
 //! Each source and sink at work: both sides of the limit, short calls, and faults in the middle.
 
 use super::*;
+use std::cell::Cell;
 use std::io;
 use std::io::{ErrorKind, Read, Write};
 use std::test::Fail;
@@ -69,6 +70,48 @@ impl Write for Broken {
     fn flush(&mut self) -> io::Result<()> {
         Ok(())
     }
+}
+
+// Takes two bytes in a call and counts its flushes; the last of them fails.
+#[derive(Drop)]
+struct Flushed<'a> {
+    flushes: &'a Cell<u64>,
+    last: u64,
+}
+
+impl<'a> Write for Flushed<'a> {
+    fn write(&mut self, buf: &[u8]) -> io::Result<usize> {
+        Ok(buf.len().min(2))
+    }
+
+    fn flush(&mut self) -> io::Result<()> {
+        let count = self.flushes.get().saturating_add(1);
+        self.flushes.set(count);
+        if count < self.last {
+            Ok(())
+        } else {
+            Err(io::Error::from(ErrorKind::Other))
+        }
+    }
+}
+
+#[test]
+fn flushes_each_piece(rt: HostRuntime) -> Result<(), Fail> {
+    for (last, written, faults, want) in [
+        (9, Ok(()), 0, 3),
+        (3, Err(WriteFault { written: 4 }), 1, 3),
+        (1, Err(WriteFault { written: 0 }), 1, 1),
+    ] {
+        let flushes = Cell::new(0u64);
+        let mut sink = StdSink::new(Flushed {
+            flushes: &flushes,
+            last,
+        });
+        assert_eq!(rt; write_all(&mut sink, b"abcde"), written);
+        assert_eq!(rt; sink.faults(), faults);
+        assert_eq!(rt; flushes.get(), want);
+    }
+    Ok(())
 }
 
 #[test]
