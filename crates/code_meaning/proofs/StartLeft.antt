@@ -10,13 +10,14 @@ use Rattle.fr_plain.specs.Heap.{flat}
 use Rattle.server_model.specs.Servers.{Cluster, empty_servers, with_main, main_thread}
 use Rattle.coloured_heap.specs.Heap.{Copied, Running, Wish}
 use Rattle.coloured_heap.specs.Heap as coloured
+use Rattle.coloured_heap.specs.Rules as rules
 use Rattle.heap_law.specs.Names.{tot, one, some, same_mutex}
 use Rattle.heap_law.specs.Things.{Thing, counts, stands, at_home, servers_things}
 use Rattle.heap_law.specs.Follow.{threads_in}
 use Rattle.heap_law.specs.Sight.{Sight, sight, Pointer, is_issued}
 use Rattle.heap_law.specs.Naming.{events_of}
 use Rattle.heap_law.specs.OneHeap.{Node, object_n, mutex_n, Owner, a_thread, inside, outside, owner_of, names, is_in_state, first_shown, is_given_thread, one_heap, SameState}
-use Rattle.heap_law.specs.Colours.{IsColoured, running_of, served_of, wishes_of, is_mutex_there}
+use Rattle.heap_law.specs.Colours.{IsColoured, running_of, has_finished, served_of, wishes_of, is_mutex_there}
 use Rattle.heap_law.specs.LeftBy.{messages_of}
 use Rattle.fr_code.specs.Machine.{code_start}
 use Rattle.heap_law.specs.OneHeapRuns.{state_of_code}
@@ -159,6 +160,10 @@ module _ (code : List Instr) (o : Options) (n : ℕ) where
   servers_alike zero r e = e
   servers_alike (suc m) r e = let none : None ≡ Some r = sym (runs_nowhere m) ∙ e in absurd cc
 
+  ended_alike : (t : ℕ) → rules.is_over coloured.start t ≡ has_finished seen t
+  ended_alike zero = refl
+  ended_alike (suc m) = rw (eqb-zero-suc m, not_given m) refl
+
   mutex_gone : (m : MutexNo) → is_mutex_there seen m ≡ false
   mutex_gone m = ap some (main_alone (there_in m) (λ s. refl))
 
@@ -176,7 +181,9 @@ module _ (code : List Instr) (o : Options) (n : ℕ) where
     issued = λ w. sym (issue_nothing o o.colours seen.pointers w 1 n);
     started = given_alike;
     servers = servers_alike;
+    ended = ended_alike;
     wishes = λ a. sym (none_wished a);
+    made = λ m. sym (made_nowhere m.home m.count);
     mutexes = λ m e. let no : false ≡ true = sym (mutex_gone m) ∙ e in absurd cc;
   }
 

@@ -5,11 +5,11 @@ use Rattle.fr_base.specs.declared.settings.Options.{Options}
 use Rattle.fr_base.specs.declared.step.Fresh.{Fresh}
 use Rattle.fr_base.specs.declared.step.Fresh.TheVariants as fresh
 use Rattle.global_addr.specs.Words.{colour_of}
-use Rattle.coloured_heap.specs.Lists.{first, holds}
+use Rattle.coloured_heap.specs.Lists.{first, holds, times}
 use Rattle.coloured_heap.specs.Heap.{is_issued, Coloured}
 use Rattle.coloured_heap.specs.Rules.{issued_by, is_new, rule}
 use Rattle.coloured_heap.specs.Changes.{with_new, with_new_mutex}
-use Rattle.coloured_heap.specs.Laws.{times, IssuedOnce}
+use Rattle.coloured_heap.specs.Laws.{IssuedOnce}
 use Rattle.coloured_heap.proofs.Kept.{Kept, after_all}
 use Rattle.coloured_heap.proofs.Times.{both, is_not, number_is, none_there, in_front}
 

@@ -4,3 +4,6 @@ pub mod Times
 pub mod IssuedWords
 pub mod ListedOnce
 pub mod Sums
+pub mod Found
+pub mod Same
+pub mod SameJournals

@@ -11,12 +11,12 @@ use Rattle.global_addr.specs.Words.{server_of}
 use Rattle.journal.specs.declared.act.Act.{Act}
 use Rattle.journal.specs.declared.act.Act.TheVariants as act
 use Rattle.journal.specs.declared.entry.Entry.{Entry}
-use Rattle.coloured_heap.specs.Lists.{less_all, with_each}
+use Rattle.coloured_heap.specs.Lists.{less_all, with_each, times}
 use Rattle.coloured_heap.specs.Heap.{Lies, Living, Running, Guarded, Copied, Coloured, start, is_object, is_thread, is_mutex, is_under, object_at, thread_at, mutex_at, next_served}
 use Rattle.coloured_heap.specs.Rules.{issued_by, is_new, is_by, rule, allows, starting_server}
 use Rattle.coloured_heap.specs.Changes.{made_value, with_copy, after_act, with_new_mutex}
 use Rattle.coloured_heap.specs.Legal.{is_new_name}
-use Rattle.coloured_heap.specs.Laws.{times, Listed, ListedOnce}
+use Rattle.coloured_heap.specs.Laws.{Listed, ListedOnce}
 use Rattle.coloured_heap.proofs.Kept.{Kept, after_all}
 use Rattle.coloured_heap.proofs.Times.{both, is_not, number_is, object_is, mutex_is, none_there, fewer, none_left, as_often, in_front}
 

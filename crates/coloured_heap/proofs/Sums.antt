@@ -1,15 +1,13 @@
 -- Sums over kinds, entries and acts in any order.
-use Rattle.std.proofs.Common.{arith, ◌≡◌, ◌+◌, ◌==◌, ◌&&◌, ℕ, Bool, true, false, List, [], ◌∷◌, Option, Some, None, refl, sym, ◌∙◌}
+use Rattle.std.proofs.Common.{arith, ◌≡◌, ◌+◌, ◌==◌, ◌&&◌, ℕ, Bool, true, false, List, [], ◌∷◌, refl, sym, ◌∙◌}
 use Rattle.fr_base.specs.Lists.{tot, one}
 use Rattle.fr_base.specs.Kinds.{kind_number}
 use Rattle.fr_base.specs.declared.message.Kind.{Kind}
 use Rattle.fr_base.specs.declared.message.Kind.TheVariants as kind
-use Rattle.journal.specs.declared.act.Act.{Act}
 use Rattle.journal.specs.declared.entry.Entry.{Entry}
-use Rattle.coloured_heap.specs.Lists.{holds}
-use Rattle.coloured_heap.specs.Sends.{Sending, sends, leaves, counts}
-use Rattle.coloured_heap.specs.Figures.{kinds}
+use Rattle.coloured_heap.specs.Sends.{Sending, sendings, leaves, counts}
 use Rattle.coloured_heap.specs.Laws.{KindsAddUp}
+use Rattle.coloured_heap.specs.Figures.{kinds}
 
 -- SUMS
 
@@ -67,20 +65,21 @@ of_one_kind kind.Finished false = refl
 of_one_kind kind.Migrate true = refl
 of_one_kind kind.Migrate false = refl
 
-by_kinds : (here : ℕ) (m : Option Sending) → one (holds (leaves here) m) ≡ tot (λ k. one (holds (counts here k) m)) kinds
-by_kinds here None = refl
-by_kinds here (Some m) = of_one_kind m.kind (leaves here m)
-
 -- ALL OF THEM
 
-abbrev sent : Entry → Act → Kind → ℕ
-sent e a k = one (holds (counts e.server k) (sends a))
+abbrev sent : Entry → Sending → Kind → ℕ
+sent e m k = one (counts e.server k m)
 
 abbrev of_entry : Entry → Kind → ℕ
-of_entry e k = tot (λ a. sent e a k) e.acts.items
+of_entry e k = tot (λ m. sent e m k) (sendings e.acts.items)
 
-by_entry : (e : Entry) → tot (λ a. one (holds (leaves e.server) (sends a))) e.acts.items ≡ tot (λ k. of_entry e k) kinds
-by_entry e = tot_same (λ a. one (holds (leaves e.server) (sends a))) (λ a. tot (λ k. sent e a k) kinds) e.acts.items (λ a. by_kinds e.server (sends a)) ∙ tot_swap (λ a k. sent e a k) e.acts.items kinds
+abbrev leaving : Entry → ℕ
+leaving e = tot (λ m. one (leaves e.server m)) (sendings e.acts.items)
+
+by_entry : (e : Entry) → leaving e ≡ tot (λ k. of_entry e k) kinds
+by_entry e =
+    tot_same (λ m. one (leaves e.server m)) (λ m. tot (λ k. sent e m k) kinds) (sendings e.acts.items) (λ m. of_one_kind m.kind (leaves e.server m))
+    ∙ tot_swap (λ m k. sent e m k) (sendings e.acts.items) kinds
 
 pub kinds_add_up : KindsAddUp
-kinds_add_up es = tot_same (λ e. tot (λ a. one (holds (leaves e.server) (sends a))) e.acts.items) (λ e. tot (λ k. of_entry e k) kinds) es by_entry ∙ tot_swap (λ e k. of_entry e k) es kinds
+kinds_add_up es = tot_same leaving (λ e. tot (λ k. of_entry e k) kinds) es by_entry ∙ tot_swap (λ e k. of_entry e k) es kinds

@@ -6,8 +6,7 @@ use Rattle.fr_base.specs.Lists.{one}
 use Rattle.fr_base.specs.Names.{same_object, same_mutex}
 use Rattle.fr_base.specs.declared.name.MutexNo.{MutexNo}
 use Rattle.fr_base.specs.declared.name.ObjNo.{ObjNo}
-use Rattle.coloured_heap.specs.Lists.{first, less_all, with_each}
-use Rattle.coloured_heap.specs.Laws.{times}
+use Rattle.coloured_heap.specs.Lists.{first, less_all, with_each, times}
 
 -- TESTS
 

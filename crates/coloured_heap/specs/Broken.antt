@@ -192,6 +192,7 @@ pub record TintRules : Type 0 where
   pub old_word : Breaks tinted (main (act.Tint x (w 0 0) (w 0 1) ∷ []))
   pub issued : Breaks (made ++ main (act.Make y (w 0 1) ∷ []) ∷ []) (main (act.Tint x (w 0 0) (w 0 1) ∷ []))
   pub past_last : Breaks at_last (main (act.Tint x (w 0 2) (w 0 3) ∷ []))
+  pub flies : Breaks given (main (act.Tint x (w 0 0) (w 0 1) ∷ []))
 
 pub record RenewRules : Type 0 where
   pub last : Goes at_last (main (act.Renew x (w 0 2) (w 1 0) ∷ []))
@@ -204,6 +205,7 @@ pub record RenewRules : Type 0 where
 pub record CondemnRules : Type 0 where
   pub here : Goes made (main (act.Condemn x (w 0 0) ∷ []))
   pub from_afar : Goes made (other (act.Condemn x (w 0 0) ∷ []))
+  pub flies : Goes given (main (act.Condemn x (w 0 0) ∷ []))
   pub twice : Breaks condemned (main (act.Condemn x (w 0 0) ∷ []))
   pub old_word : Breaks tinted (main (act.Condemn x (w 0 0) ∷ []))
 
@@ -225,14 +227,13 @@ pub record EvictRules : Type 0 where
 pub record LockRules : Type 0 where
   pub asks : Goes guarded (turn 1 1 (act.AskLock m ∷ []))
   pub nobody_asks : Breaks guarded (event 1 (act.AskLock m ∷ []))
-  pub no_home : Breaks guarded (turn 1 1 (act.AskLock (mutex 2 1) ∷ []))
+  pub not_made : Breaks started (turn 1 1 (act.AskLock m ∷ []))
   pub granted : Goes locking (event 0 (act.Grant m 1 1 ∷ []))
   pub not_asked : Breaks guarded (event 0 (act.Grant m 1 1 ∷ []))
   pub to_another : Breaks locking (event 0 (act.Grant m 0 1 ∷ []))
   pub to_elsewhere : Breaks locking (event 0 (act.Grant m 1 0 ∷ []))
   pub another_mutex : Breaks (locking ++ naming 0 0 (fresh.Mutex (mutex 0 2)) [] [] ∷ []) (event 0 (act.Grant (mutex 0 2) 1 1 ∷ []))
   pub not_home : Breaks locking (event 1 (act.Grant m 1 1 ∷ []))
-  pub not_made : Breaks (started ++ turn 1 1 (act.AskLock m ∷ []) ∷ []) (event 0 (act.Grant m 1 1 ∷ []))
   pub out : Breaks (locked ++ turn 0 0 (act.AskLock m ∷ []) ∷ []) (event 0 (act.Grant m 0 0 ∷ []))
   pub in_again : Goes (unlocked ++ turn 0 0 (act.AskLock m ∷ []) ∷ []) (event 0 (act.Grant m 0 0 ∷ []))
   pub given_back : Goes locked (other (act.GiveBack m ∷ []))
@@ -242,15 +243,15 @@ pub record LockRules : Type 0 where
 pub record ShareRules : Type 0 where
   pub asks : Goes guarded (turn 1 1 (act.AskDup m ∷ []))
   pub nobody_asks : Breaks guarded (event 1 (act.AskDup m ∷ []))
-  pub no_home : Breaks guarded (turn 1 1 (act.AskDup (mutex 2 1) ∷ []))
+  pub not_made : Breaks started (turn 1 1 (act.AskDup m ∷ []))
   pub answered : Goes sharing (event 0 (act.Dupped m 1 1 ∷ []))
   pub not_asked : Breaks locking (event 0 (act.Dupped m 1 1 ∷ []))
   pub to_another : Breaks sharing (event 0 (act.Dupped m 0 1 ∷ []))
   pub not_home : Breaks sharing (event 1 (act.Dupped m 1 1 ∷ []))
   pub let_go : Goes guarded (main (act.LetGo (released.Mutex m) ∷ []))
-  pub let_go_nowhere : Breaks guarded (main (act.LetGo (released.Mutex (mutex 2 1)) ∷ []))
+  pub let_go_not_made : Breaks started (main (act.LetGo (released.Mutex m) ∷ []))
   pub task_let_go : Goes started (main (act.LetGo (released.Task 1) ∷ []))
-  pub task_let_go_nowhere : Breaks started (main (act.LetGo (released.Task (thread 2 1)) ∷ []))
+  pub task_not_started : Breaks started (main (act.LetGo (released.Task 2) ∷ []))
 
 pub record StartRules : Type 0 where
   pub second : Goes started (main (act.Start 2 0 ∷ []))
@@ -264,7 +265,7 @@ pub record StartRules : Type 0 where
 pub record JoinRules : Type 0 where
   pub asks : Goes started (turn 0 0 (act.AskJoin 1 ∷ []))
   pub nobody_asks : Breaks started (event 0 (act.AskJoin 1 ∷ []))
-  pub no_home : Breaks started (turn 0 0 (act.AskJoin (thread 2 1) ∷ []))
+  pub not_started : Breaks started (turn 0 0 (act.AskJoin 2 ∷ []))
   pub answered : Goes joining (event 0 (act.Answer 1 0 0 ∷ []))
   pub not_asked : Breaks finished (event 0 (act.Answer 1 0 0 ∷ []))
   pub twice : Breaks (joining ++ event 0 (act.Answer 1 0 0 ∷ []) ∷ []) (event 0 (act.Answer 1 0 0 ∷ []))

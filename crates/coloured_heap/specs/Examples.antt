@@ -14,8 +14,8 @@ abbrev figured : (steps events issued renewed hits evictions messages : ℕ) →
 figured steps events issued renewed hits evictions messages = record { steps = steps; events = events; issued = issued; renewed = renewed; hits = hits; evictions = evictions; messages = messages }
 
 -- how many objects are live after a journal
-abbrev pub left : Options → List Entry → Option ℕ
-left o es = option_map (λ s. length s.living) (journal_after o es)
+abbrev pub live : Options → List Entry → Option ℕ
+live o es = option_map (λ s. length s.living) (journal_after o es)
 
 -- the journal of a run is legal and driven, and reaches what it loads and stores; these are its figures and its messages by kind; each
 -- message was delivered, and no object is left
@@ -26,7 +26,7 @@ pub record Runs (o : Options) (es : List Entry) (f : Figures) (messages : List �
   pub figures : figures es ≡ f
   pub kinds : by_kind es ≡ messages
   pub delivered : all_messages es ≡ deliveries es
-  pub left : left o es ≡ Some 0
+  pub none_left : live o es ≡ Some 0
 
 abbrev none : List ℕ
 none = 0 ∷ 0 ∷ 0 ∷ 0 ∷ 0 ∷ 0 ∷ 0 ∷ 0 ∷ 0 ∷ 0 ∷ 0 ∷ 0 ∷ 0 ∷ 0 ∷ 0 ∷ 0 ∷ []

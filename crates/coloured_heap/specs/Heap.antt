@@ -1,6 +1,6 @@
 -- The coloured heap: the shared memory as the acts of a journal leave it (in the manner of DRust, OSDI 2024: objects that lie at
 -- one server each, named by coloured words, and copies elsewhere; the state is this project's).
-use Rattle.std.specs.Prelude.{ℕ, Bool, false, ◌&&◌, ◌==◌, List, [], ◌∷◌, Option, Some, None}
+use Rattle.std.specs.Prelude.{ℕ, Bool, true, false, ◌&&◌, ◌==◌, List, [], ◌∷◌, Option, Some, None}
 use Rattle.fr_base.specs.Names.{same_object, same_mutex}
 use Rattle.fr_base.specs.declared.name.ObjNo.{ObjNo}
 use Rattle.fr_base.specs.declared.name.MutexNo.{MutexNo}
@@ -94,6 +94,10 @@ is_object p x = same_object x.object p
 abbrev pub object_at : Coloured → ObjNo → Option Living
 object_at s p = first (is_object p) s.living
 
+abbrev pub is_lying : Place → Bool
+is_lying (Lies server) = true
+is_lying (Flies server) = false
+
 abbrev pub lies_at : ℕ → Place → Bool
 lies_at here (Lies server) = server == here
 lies_at here (Flies server) = false
@@ -102,7 +106,7 @@ abbrev pub flies_to : ℕ → Place → Bool
 flies_to here (Lies server) = false
 flies_to here (Flies server) = server == here
 
-abbrev value_in : Option Living → Plain
+abbrev pub value_in : Option Living → Plain
 value_in None = plain.Nothing
 value_in (Some x) = x.value
 

@@ -1,6 +1,6 @@
 -- What holds of all journals.
-use Rattle.std.specs.Prelude.{◌≡◌, ◌↔◌, ℕ, suc, ◌≤◌, ◌==◌, Bool, true, ◌++◌, List, take, Some, None, IsSome, IsNone}
-use Rattle.fr_base.specs.Lists.{tot, one}
+use Rattle.std.specs.Prelude.{◌≡◌, ◌↔◌, ℕ, suc, ◌≤◌, ◌==◌, true, ◌++◌, List, take, Some, None, IsSome, IsNone}
+use Rattle.fr_base.specs.Lists.{tot}
 use Rattle.fr_base.specs.declared.label.Label.{Label}
 use Rattle.fr_base.specs.declared.name.MutexNo.{MutexNo}
 use Rattle.fr_base.specs.declared.name.ObjNo.{ObjNo}
@@ -8,6 +8,7 @@ use Rattle.fr_base.specs.declared.settings.Options.{Options}
 use Rattle.journal.specs.declared.act.Act.{Act}
 use Rattle.journal.specs.declared.act.Act.TheVariants as act
 use Rattle.journal.specs.declared.entry.Entry.{Entry}
+use Rattle.coloured_heap.specs.Lists.{times}
 use Rattle.coloured_heap.specs.Heap.{Living, Running, Guarded, Copied, Coloured, is_object, is_thread, is_mutex, is_under}
 use Rattle.coloured_heap.specs.Changes.{stored}
 use Rattle.coloured_heap.specs.Legal.{acts_after, onward, journal_from, journal_after, first_illegal, is_legal}
@@ -46,10 +47,6 @@ LegalHasState = (o : Options) (es : List Entry) → (first_illegal o es ≡ None
 -- before the first entry that breaks a rule there is a state, and with it there is none
 abbrev pub FirstBreaks : Type 0
 FirstBreaks = (o : Options) (es : List Entry) (at : ℕ) → first_illegal o es ≡ Some at → IsSome (journal_after o (take at es)) × IsNone (journal_after o (take (suc at) es))
-
--- how many items of a list pass a test
-abbrev pub times : {A : Type 0} → (A → Bool) → List A → ℕ
-times test xs = tot (λ x. one (test x)) xs
 
 -- a legal journal issues no word twice
 abbrev pub IssuedOnce : Type 0

@@ -12,3 +12,4 @@ pub mod WholeRuns
 pub mod Examples
 pub mod Broken
 pub mod Laws
+pub mod Same

@@ -1,5 +1,6 @@
 -- Words about lists that compute by cases.
-use Rattle.std.specs.Prelude.{Bool, true, false, List, [], ◌∷◌, Option, Some, None, if◌then◌else◌}
+use Rattle.std.specs.Prelude.{ℕ, Bool, true, false, List, [], ◌∷◌, Option, Some, None, if◌then◌else◌}
+use Rattle.fr_base.specs.Lists.{tot, one}
 
 -- the first item that passes the test
 abbrev pub first : {A : Type 0} → (A → Bool) → List A → Option A
@@ -29,3 +30,7 @@ less_all test (x ∷ xs) = if test x then less_all test xs else x ∷ less_all t
 abbrev pub with_each : {A : Type 0} → (A → Bool) → (A → A) → List A → List A
 with_each test f [] = []
 with_each test f (x ∷ xs) = (if test x then f x else x) ∷ with_each test f xs
+
+-- how many items pass the test
+abbrev pub times : {A : Type 0} → (A → Bool) → List A → ℕ
+times test xs = tot (λ x. one (test x)) xs

@@ -1,16 +1,18 @@
 -- The rules of the acts (this project's). 'Here' is the server of the act's entry. Each rule is asked of the state that the acts
 -- before it in its entry leave; the values are those before the entry's stores.
 use Rattle.std.specs.Prelude.{ℕ, ◌+◌, ◌%◌, Bool, true, not, ◌&&◌, ◌==◌, nat_lt, Option, Some, None, is_some, is_none}
-use Rattle.fr_base.specs.Names.{home_of, count_of, released_home}
+use Rattle.fr_base.specs.Names.{home_of, count_of}
 use Rattle.fr_base.specs.declared.name.ObjNo.{ObjNo}
 use Rattle.fr_base.specs.declared.name.MutexNo.{MutexNo}
+use Rattle.fr_base.specs.declared.release.Released.{Released}
+use Rattle.fr_base.specs.declared.release.Released.TheVariants as released
 use Rattle.fr_base.specs.declared.settings.Options.{Options}
 use Rattle.global_addr.specs.Words.{colour_of, server_of, next_word}
 use Rattle.journal.specs.declared.act.Act.{Act}
 use Rattle.journal.specs.declared.act.Act.TheVariants as act
 use Rattle.journal.specs.declared.entry.Entry.{Entry}
 use Rattle.coloured_heap.specs.Lists.{holds}
-use Rattle.coloured_heap.specs.Heap.{is_issued, Guarded, Coloured, ForCopy, ForObject, ForContent, ForShare, ForResult, thread_at, object_at, lies_at, flies_to, is_cached, next_served, is_wished, mutex_at}
+use Rattle.coloured_heap.specs.Heap.{is_issued, Guarded, Coloured, ForCopy, ForObject, ForContent, ForShare, ForResult, thread_at, object_at, is_lying, lies_at, flies_to, is_cached, next_served, is_wished, mutex_at}
 
 -- NEW WORDS
 
@@ -35,6 +37,10 @@ names s p w = holds (λ x. (x.word == w) && not x.is_condemned) (object_at s p)
 
 abbrev pub is_here : Entry → Coloured → ObjNo → Bool
 is_here e s p = holds (λ x. lies_at e.server x.place) (object_at s p)
+
+-- p lies at some server
+abbrev pub lies : Coloured → ObjNo → Bool
+lies s p = holds (λ x. is_lying x.place) (object_at s p)
 
 abbrev pub comes_here : Entry → Coloured → ObjNo → Bool
 comes_here e s p = holds (λ x. flies_to e.server x.place) (object_at s p)
@@ -70,6 +76,11 @@ is_holder e g = holds (is_by e) g.holder
 abbrev pub is_held : Entry → Coloured → MutexNo → Bool
 is_held e s m = holds (is_holder e) (mutex_at s m)
 
+-- the mutex was made, or the thread was started
+abbrev pub is_known : Coloured → Released → Bool
+is_known s (released.Mutex m) = is_some (mutex_at s m)
+is_known s (released.Task t) = is_some (thread_at s t)
+
 -- where a thread starts: its count from its home on, round the servers
 abbrev pub starting_server : Options → ℕ → ℕ
 starting_server o t = (home_of t + count_of t) % o.servers
@@ -95,32 +106,33 @@ rule o e s (act.Pull p w) = names s p w && not (is_here e s p)
 rule o e s (act.Give p w there) = names s p w && is_here e s p && is_wished s (ForObject p w there)
 -- p is on its way to here under the old word; the new word is of this server
 rule o e s (act.Take p old new) = names s p old && comes_here e s p && (server_of new == e.server)
--- the new word is p's word with the next colour; so it isn't the last colour that p's word has, as the new one is of the run
-rule o e s (act.Tint p old new) = names s p old && (new == next_word old)
+-- p lies at some server, as one on its way keeps its word; the new word is p's word with the next colour, so it isn't the last
+-- colour that p's word has, as the new one is of the run
+rule o e s (act.Tint p old new) = names s p old && lies s p && (new == next_word old)
 -- p lies here, and its word has the last colour; the new word is of this server
 rule o e s (act.Renew p old new) = names s p old && is_here e s p && (colour_of old + 1 == o.colours) && (server_of new == e.server)
--- w is p's word, and p wasn't condemned before
+-- w is p's word, and p wasn't condemned before; it may be on its way
 rule o e s (act.Condemn p w) = names s p w
 -- p lies here and was condemned
 rule o e s (act.Free p w) = is_left e s p w
 -- w is cached here; that nobody uses the copy is the server's matter
 rule o e s (act.Evict w) = is_cached s e.server w
--- a thread asks; what it holds is the plain run's matter
-rule o e s (act.AskLock m) = is_some e.thread && of_run o m.home
+-- a thread asks for a mutex that was made; what it holds is the plain run's matter
+rule o e s (act.AskLock m) = is_some e.thread && is_some (mutex_at s m)
 -- here is m's home, and the content is in; that thread at that server asked for it
 rule o e s (act.Grant m t there) = (m.home == e.server) && is_in s m && is_wished s (ForContent m t there)
 -- the content was granted to the entry's thread
 rule o e s (act.GiveBack m) = is_held e s m
--- a thread asks
-rule o e s (act.AskDup m) = is_some e.thread && of_run o m.home
+-- a thread asks for a share of a mutex that was made
+rule o e s (act.AskDup m) = is_some e.thread && is_some (mutex_at s m)
 -- here is m's home; that thread at that server asked for a share
 rule o e s (act.Dupped m t there) = (m.home == e.server) && is_wished s (ForShare m t there)
--- the home is a server of the run
-rule o e s (act.LetGo x) = of_run o (released_home x)
+-- the mutex was made, or the thread was started
+rule o e s (act.LetGo x) = is_known s x
 -- a thread starts another one, whose name has this server and was never started, at the server that the name tells
 rule o e s (act.Start t there) = is_some e.thread && (home_of t == e.server) && is_none (thread_at s t) && (there == starting_server o t)
--- a thread asks
-rule o e s (act.AskJoin t) = is_some e.thread && of_run o (home_of t)
+-- a thread asks for the result of one that was started
+rule o e s (act.AskJoin t) = is_some e.thread && is_some (thread_at s t)
 -- here is t's home, and t has ended; that thread at that server asked for its result
 rule o e s (act.Answer t asker there) = (home_of t == e.server) && is_over s t && is_wished s (ForResult t asker there)
 -- the entry's thread isn't main, and it ends once

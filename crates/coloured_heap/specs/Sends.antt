@@ -1,5 +1,5 @@
 -- Which message an act sends, and how many messages a journal's acts send (this project's rule).
-use Rattle.std.specs.Prelude.{ℕ, Bool, true, not, ◌&&◌, ◌==◌, List, Option, Some, None}
+use Rattle.std.specs.Prelude.{ℕ, Bool, true, not, ◌&&◌, ◌==◌, List, Option, Some, None, filter_map}
 use Rattle.fr_base.specs.Lists.{tot, one}
 use Rattle.fr_base.specs.Names.{home_of, released_home}
 use Rattle.fr_base.specs.declared.message.Kind.{Kind}
@@ -9,7 +9,6 @@ use Rattle.global_addr.specs.Words.{server_of}
 use Rattle.journal.specs.declared.act.Act.{Act}
 use Rattle.journal.specs.declared.act.Act.TheVariants as act
 use Rattle.journal.specs.declared.entry.Entry.{Entry}
-use Rattle.coloured_heap.specs.Lists.{holds}
 
 -- a message's kind, and the server that it goes to
 pub record Sending : Type 0 where
@@ -41,6 +40,10 @@ sends (act.Finish t) = to kind.Finished (home_of t)
 sends (act.Depart t there) = to kind.Migrate there
 sends _ = None
 
+-- the messages that acts send, in order
+abbrev pub sendings : List Act → List Sending
+sendings acts = filter_map sends acts
+
 -- it goes to another server
 abbrev pub leaves : ℕ → Sending → Bool
 leaves here m = not (m.target == here)
@@ -49,9 +52,9 @@ leaves here m = not (m.target == here)
 abbrev pub counts : ℕ → Kind → Sending → Bool
 counts here k m = (kind_number m.kind == kind_number k) && leaves here m
 
--- how many acts of a journal send a message that passes the test; the test is told the entry's server
+-- how many messages that pass the test the acts of a journal send; the test is told the entry's server
 abbrev pub sent_by : (ℕ → Sending → Bool) → List Entry → ℕ
-sent_by test es = tot (λ e. tot (λ a. one (holds (test e.server) (sends a))) e.acts.items) es
+sent_by test es = tot (λ e. tot (λ m. one (test e.server m)) (sendings e.acts.items)) es
 
 -- how many messages of that kind the acts send to other servers
 abbrev pub count : List Entry → Kind → ℕ

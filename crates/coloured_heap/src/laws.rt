@@ -2,6 +2,7 @@
 
 ghost use Rattle.coloured_heap.specs.Broken.{ReachAndDrivers, RulesRefuse};
 ghost use Rattle.coloured_heap.specs.Examples.{JournalsCompute};
+ghost use Rattle.coloured_heap.specs.Same.{SameIsEquivalence, SameStates};
 ghost use Rattle.coloured_heap.specs.Laws.{ActsGoOn, DrivenIsLegal, FirstBreaks, GoesOn, IssuedOnce, KindsAddUp, LegalHasState, ListedOnce, ReachedIsLegal, SendNothing, StoresGoOn};
 
 /// Journals of whole runs: they are legal and driven, they reach what they load and store, and their figures are those of the runs.
@@ -43,6 +44,13 @@ pub fn listed_once()
 pub fn all_legal()
     ensures driven { DrivenIsLegal }
     ensures reached { ReachedIsLegal }
+{}
+
+/// States that answer the same of each name and word allow the same acts, and stay the same after acts, stores and new mutexes; so
+/// entries and journals are legal from both or from neither, and reach what they load and store from both or from neither.
+pub fn same_states()
+    ensures equivalence { SameIsEquivalence }
+    ensures common { SameStates }
 {}
 
 /// The messages between different servers are counted once, each under its kind.

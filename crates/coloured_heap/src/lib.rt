@@ -7,5 +7,5 @@ mod laws;
 
 pub use laws::{
     all_legal, first_breaks, journals_compute, kinds_add_up, listed_once, reach_and_drivers,
-    rules_refuse, send_nothing,
+    rules_refuse, same_states, send_nothing,
 };

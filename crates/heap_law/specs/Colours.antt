@@ -1,6 +1,6 @@
 -- THE COLOURED HEAP of a cluster: the state of the shared memory, as acts leave it, that the cluster stands for (in the manner of DRust; the state is
 -- this project's).
-use Rattle.std.specs.Prelude.{◌≡◌, ℕ, ◌==◌, Bool, true, false, not, ◌&&◌, List, [], ◌∷◌, Option, Some, None, is_some}
+use Rattle.std.specs.Prelude.{◌≡◌, ℕ, ◌==◌, Bool, true, false, not, ◌&&◌, List, [], ◌∷◌, Option, Some, None, is_some, is_none}
 use Rattle.fr_base.specs.declared.name.ObjNo.{ObjNo}
 use Rattle.fr_base.specs.declared.name.MutexNo.{MutexNo}
 use Rattle.heap_partition.specs.Plain.{plain_of}
@@ -11,6 +11,7 @@ use Rattle.server_msgs.specs.declared.message.Message.TheVariants.{Fetch, Fetche
 use Rattle.server_model.specs.Servers.{Cluster}
 use Rattle.fr_base.specs.Names.{same_plain}
 use Rattle.coloured_heap.specs.Heap.{Place, Lies, Flies, Living, Copied, Wish, ForCopy, ForObject, ForContent, ForShare, ForResult, Running, Coloured, object_at, copy_at, thread_at, same_wish, mutex_at}
+use Rattle.coloured_heap.specs.Rules as rules
 use Rattle.heap_law.specs.Names.{tot, one, some, same_object, same_mutex, is_in}
 use Rattle.heap_law.specs.Things.{at_slot, Thing, lies, copied, sent, locks, at_home, queued, noted}
 use Rattle.heap_law.specs.Follow as follow
@@ -18,7 +19,7 @@ use Rattle.heap_law.specs.Follow.{Standing}
 use Rattle.heap_law.specs.Sight.{Sight, sight, word, issued}
 use Rattle.heap_law.specs.Weights.{drops}
 use Rattle.heap_law.specs.Sharing.{is_over, gift_content}
-use Rattle.heap_law.specs.OneHeap.{first_shown, is_given_thread}
+use Rattle.heap_law.specs.OneHeap.{first_shown, is_given_thread, is_given_mutex}
 
 abbrev if_some : {A : Type 0} → Bool → A → Option A
 if_some true x = Some x
@@ -124,6 +125,10 @@ running_as t (Some x) = if_some (not (is_over x.thread.phase)) (record { thread 
 abbrev pub running_of : Sight → ℕ → Option Running
 running_of s t = running_as t (follow.thread_at s.ground.threads t)
 
+-- a thread other than main that was started and isn't running has ended
+abbrev pub has_finished : Sight → ℕ → Bool
+has_finished s t = (is_given_thread s t && is_none (running_of s t)) && not (t == 0)
+
 -- MUTEXES
 
 abbrev granted_message : MutexNo → Message → Option ℕ
@@ -153,8 +158,8 @@ is_mutex_there s m = some (tot (there_in m) s.things)
 
 -- THE SAME STATE
 
--- a state of the coloured heap is that of a cluster: it agrees at each name and word. The servers of threads that are over, and the mutexes that are
--- gone, are left out; the order of requests and of served copies doesn't count
+-- a state of the coloured heap is that of a cluster: it agrees at each name and word. Of a thread that is over it has that it has ended, and of a mutex
+-- that is gone that it was made; where the thread stood and who had the content are left out; the order of requests and of served copies doesn't count
 pub record IsColoured (s : Sight) (c : Coloured) : Type 0 where
   pub objects : (o : ObjNo) → object_at c o ≡ living_of s o
   pub copies : (r w : ℕ) → copy_at c r w ≡ copy_of s r w
@@ -162,7 +167,9 @@ pub record IsColoured (s : Sight) (c : Coloured) : Type 0 where
   pub issued : (w : ℕ) → is_in w c.issued ≡ issued s w
   pub started : (t : ℕ) → is_some (thread_at c t) ≡ is_given_thread s t
   pub servers : (t : ℕ) (r : Running) → running_of s t ≡ Some r → thread_at c t ≡ Some r
+  pub ended : (t : ℕ) → rules.is_over c t ≡ has_finished s t
   pub wishes : (a : Wish) → tot (λ b. one (same_wish a b)) c.wishes ≡ wishes_of s a
+  pub made : (m : MutexNo) → is_some (mutex_at c m) ≡ is_given_mutex s m
   pub mutexes : (m : MutexNo) → is_mutex_there s m ≡ true → mutex_at c m ≡ Some (record { mutex = m; holder = holder_of s m })
 
 -- the coloured heap of a cluster is that state

@@ -6,6 +6,7 @@ use Rattle.fr_base.specs.declared.name.MutexNo.{MutexNo}
 use Rattle.fr_base.specs.declared.instruction.Instr.{Instr}
 use Rattle.fr_base.specs.declared.settings.Options.{Options}
 use Rattle.global_addr.specs.Words.{word_of}
+use Rattle.coloured_heap.specs.Figures as figures
 use Rattle.server_msgs.specs.declared.message.Message.{Message}
 use Rattle.server_msgs.specs.declared.message.Message.TheVariants.{Fetched}
 use Rattle.server_model.specs.declared.event.Event.{Event}
@@ -15,14 +16,14 @@ use Rattle.server_model.specs.Rows.{reading_elsewhere, writing_elsewhere, readin
 use Rattle.coloured_heap.specs.Heap.{Living, Copied, Running, Guarded, Coloured, object_at, copy_at, thread_at, same_wish, mutex_at}
 use Rattle.coloured_heap.specs.Legal.{journal_after}
 use Rattle.coloured_heap.specs.Reach.{is_all_reached}
+use Rattle.coloured_heap.specs.Rules as rules
 use Rattle.coloured_heap.specs.Sends.{all_messages}
-use Rattle.coloured_heap.specs.Figures as figures
 use Rattle.heap_law.specs.Names.{tot, one, is_in}
 use Rattle.heap_law.specs.Things.{Thing, sent}
 use Rattle.heap_law.specs.Sight.{Sight, sight, issued}
 use Rattle.heap_law.specs.Naming.{events_of}
-use Rattle.heap_law.specs.OneHeap.{is_given_thread}
-use Rattle.heap_law.specs.Colours.{living_of, copy_of, same_copied, served_of, wishes_of, all_wishes, running_of, holder_of, is_mutex_there}
+use Rattle.heap_law.specs.OneHeap.{is_given_thread, is_given_mutex}
+use Rattle.heap_law.specs.Colours.{living_of, copy_of, same_copied, served_of, wishes_of, all_wishes, running_of, has_finished, holder_of, is_mutex_there}
 use Rattle.heap_law.specs.LeftBy.{messages_of}
 use Rattle.heap_law.specs.OneHeapRuns.{along, starts}
 
@@ -33,6 +34,8 @@ pub record Shown : Type 0 where
   pub issued : List Bool
   pub started : List Bool
   pub servers : List (Option Running)
+  pub ended : List Bool
+  pub made : List Bool
   pub mutexes : List (Option Guarded)
   pub served : List ℕ
   pub wishes : List ℕ
@@ -59,6 +62,10 @@ threads = 0 ∷ 1 ∷ 2 ∷ 3 ∷ 4 ∷ 5 ∷ []
 abbrev mutexes : List MutexNo
 mutexes = record { home = 0; count = 1 } ∷ []
 
+-- and some that most runs don't make
+abbrev more_mutexes : List MutexNo
+more_mutexes = record { home = 0; count = 2 } ∷ record { home = 1; count = 1 } ∷ mutexes
+
 abbrev where_running : Option Running → Option Running → Option Running
 where_running None r = None
 where_running (Some q) r = r
@@ -83,6 +90,8 @@ show_cluster s c = record {
   issued = map (issued s) words;
   started = map (is_given_thread s) threads;
   servers = map (running_of s) threads;
+  ended = map (has_finished s) threads;
+  made = map (is_given_mutex s) more_mutexes;
   mutexes = map (λ m. where_there (is_mutex_there s m) (Some (record { mutex = m; holder = holder_of s m }))) mutexes;
   served = tot served_message s.things ∷ map (served_of s) c.served;
   wishes = all_wishes s ∷ map (wishes_of s) c.wishes;
@@ -98,6 +107,8 @@ show_state r s c = record {
   issued = map (λ w. is_in w c.issued) words;
   started = map (λ t. is_some (thread_at c t)) threads;
   servers = map (λ t. where_running (running_of s t) (thread_at c t)) threads;
+  ended = map (rules.is_over c) threads;
+  made = map (λ m. is_some (mutex_at c m)) more_mutexes;
   mutexes = map (λ m. where_there (is_mutex_there s m) (mutex_at c m)) mutexes;
   served = tot (λ x. 1) c.served ∷ map (λ x. tot (λ y. one (same_copied x y)) c.served) c.served;
   wishes = tot (λ x. 1) c.wishes ∷ map (λ x. tot (λ y. one (same_wish x y)) c.wishes) c.wishes;

@@ -25,6 +25,8 @@ pub mod Colours
 pub mod LeftBy
 pub mod OneHeapRuns
 pub mod LeftRuns
+pub mod ColouredStates
+pub mod Appended
 pub mod Chosen
 pub mod ChosenEnds
 pub mod OneEvent

@@ -278,7 +278,7 @@ made_by r n x = 0
 abbrev pub is_given_thread : Sight → ℕ → Bool
 is_given_thread s t = t == 0 || (not (t % 2 ^ 32 == 0) && some (tot (started_by (home_of t) (t % 2 ^ 32)) s.things))
 
-abbrev is_given_mutex : Sight → MutexNo → Bool
+abbrev pub is_given_mutex : Sight → MutexNo → Bool
 is_given_mutex s m = not (m.count == 0) && some (tot (made_by m.home m.count) s.things)
 
 abbrev if_given : Bool → PlainLife → Option PlainLife

@@ -5,6 +5,8 @@ ghost use Rattle.heap_law.specs.Laws.{HandOverLaw, SoundLaw, StartLaw};
 ghost use Rattle.heap_law.specs.Chosen.{ChosenStayCoherent};
 ghost use Rattle.heap_law.specs.ChosenEnds.{ChosenEnd};
 ghost use Rattle.heap_law.specs.LeftRuns.{RunsAreLeft};
+ghost use Rattle.heap_law.specs.ColouredStates.{StatesAreTold};
+ghost use Rattle.heap_law.specs.Appended.{RowsSendTheirActs};
 ghost use Rattle.heap_law.specs.OneHeapRuns.{OneHeapsCompute};
 ghost use Rattle.heap_law.specs.Stale.{RoundsLaw};
 ghost use Rattle.heap_law.specs.OneEvent.{OneEventKeeps};
@@ -52,6 +54,16 @@ pub fn sums_stay()
 /// After each event of the rows the coloured heap of the cluster is the state that the journal leaves, and the counts agree.
 pub fn runs_are_left()
     ensures { RunsAreLeft }
+{}
+
+/// States of the shared memory that differ in one thing from the one that a cluster stands for aren't it.
+pub fn states_are_told()
+    ensures { StatesAreTold }
+{}
+
+/// The messages that each event of the rows appends, to the waiting ones of its server and to its outbox, are those of its acts.
+pub fn rows_send_their_acts()
+    ensures { RowsSendTheirActs }
 {}
 
 /// After each of many events that were chosen among all enabled ones no sentence is broken.

@@ -14,7 +14,7 @@ returns c = record {
     figures = refl;
     kinds = refl;
     delivered = refl;
-    left = refl;
+    none_left = refl;
   };
   not_tinted = refl;
   nothing = record {
@@ -24,7 +24,7 @@ returns c = record {
     figures = refl;
     kinds = refl;
     delivered = refl;
-    left = refl;
+    none_left = refl;
   };
   renewed = record {
     legal = refl;
@@ -33,7 +33,7 @@ returns c = record {
     figures = refl;
     kinds = refl;
     delivered = refl;
-    left = refl;
+    none_left = refl;
   };
   read_far = record {
     legal = refl;
@@ -42,7 +42,7 @@ returns c = record {
     figures = refl;
     kinds = refl;
     delivered = refl;
-    left = refl;
+    none_left = refl;
   };
   written_far = record {
     legal = refl;
@@ -51,7 +51,7 @@ returns c = record {
     figures = refl;
     kinds = refl;
     delivered = refl;
-    left = refl;
+    none_left = refl;
   };
   read_by_two = record {
     legal = refl;
@@ -60,7 +60,7 @@ returns c = record {
     figures = refl;
     kinds = refl;
     delivered = refl;
-    left = refl;
+    none_left = refl;
   };
   moved_about = record {
     legal = refl;
@@ -69,7 +69,7 @@ returns c = record {
     figures = refl;
     kinds = refl;
     delivered = refl;
-    left = refl;
+    none_left = refl;
   };
   evicted = record {
     legal = refl;
@@ -78,7 +78,7 @@ returns c = record {
     figures = refl;
     kinds = refl;
     delivered = refl;
-    left = refl;
+    none_left = refl;
   };
   locked_twice = record {
     legal = refl;
@@ -87,7 +87,7 @@ returns c = record {
     figures = refl;
     kinds = refl;
     delivered = refl;
-    left = refl;
+    none_left = refl;
   };
   let_go_early = record {
     legal = refl;
@@ -96,7 +96,7 @@ returns c = record {
     figures = refl;
     kinds = refl;
     delivered = refl;
-    left = refl;
+    none_left = refl;
   };
   shared = record {
     legal = refl;
@@ -105,6 +105,6 @@ returns c = record {
     figures = refl;
     kinds = refl;
     delivered = refl;
-    left = refl;
+    none_left = refl;
   };
 }
