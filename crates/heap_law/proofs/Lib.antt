@@ -3,6 +3,7 @@ mod Starts
 mod ChosenRuns
 mod ChosenEndRuns
 mod StaleRounds
+mod StaleEnough
 pub mod Names
 pub mod Shown
 pub mod Sees

@@ -2,27 +2,27 @@
 use Rattle.std.proofs.Common.{◌≡◌, ◌⊎◌, inl, inr, ⊎_elim, ℕ, zero, suc, Bool, true, false, ◌||◌, List, [], ◌∷◌, ◌++◌, Option, Some, None, refl, sym, subst}
 use Rattle.mut_borrow.specs.Refs.{changed}
 use Rattle.heap_law.specs.Things.{Location}
-use Rattle.heap_law.specs.Stale.{same_location, is_among, is_held_at, IsOf, Reference, Stale, changed_above, stale_above, taken_above, if_holder, holders, stale_rounds, RoundsLaw}
+use Rattle.heap_law.specs.Stale.{same_location, is_among, is_held_at, IsOf, Reference, Stale, changed_above, stale_above, taken_above, if_holder, holders, stale_rounds}
 
-or_split : (a b : Bool) → (a || b) ≡ true → (a ≡ true) ⊎ (b ≡ true)
+pub or_split : (a b : Bool) → (a || b) ≡ true → (a ≡ true) ⊎ (b ≡ true)
 or_split true b e = inl refl
 or_split false b e = inr e
 
-or_left : (a b : Bool) → a ≡ true → (a || b) ≡ true
+pub or_left : (a b : Bool) → a ≡ true → (a || b) ≡ true
 or_left true b e = refl
 or_left false b e = absurd (cc e)
 
-or_right : (a b : Bool) → b ≡ true → (a || b) ≡ true
+pub or_right : (a b : Bool) → b ≡ true → (a || b) ≡ true
 or_right true b e = refl
 or_right false b e = e
 
-among_split : (l : Location) (xs ys : List Location) → is_among l (xs ++ ys) ≡ true → (is_among l xs ≡ true) ⊎ (is_among l ys ≡ true)
+pub among_split : (l : Location) (xs ys : List Location) → is_among l (xs ++ ys) ≡ true → (is_among l xs ≡ true) ⊎ (is_among l ys ≡ true)
 among_split l [] ys e = inr e
 among_split l (x ∷ xs) ys e =
     ⊎_elim (λ h. inl (or_left (same_location x l) (is_among l xs) h)) (λ h. ⊎_elim (λ i. inl (or_right (same_location x l) (is_among l xs) i)) (λ i. inr i) (among_split l xs ys h))
     (or_split (same_location x l) (is_among l (xs ++ ys)) e)
 
-among_right : (l : Location) (xs ys : List Location) → is_among l ys ≡ true → is_among l (xs ++ ys) ≡ true
+pub among_right : (l : Location) (xs ys : List Location) → is_among l ys ≡ true → is_among l (xs ++ ys) ≡ true
 among_right l [] ys e = e
 among_right l (x ∷ xs) ys e = or_right (same_location x l) (is_among l (xs ++ ys)) (among_right l xs ys e)
 
@@ -48,7 +48,7 @@ found : (l : Location) (ls : List Location) (rs : List Reference) → is_among l
 found l ls [] m = absurd (cc m)
 found l ls (r ∷ rs) m = by_holder l ls r rs (changed r.reference || is_among r.at ls) r.holder refl refl (found l ls rs) m
 
-sound : (lent : List Location) (rs : List Reference) (n : ℕ) (l : Location) → is_among l (stale_rounds n lent rs) ≡ true → Stale lent rs l
+pub sound : (lent : List Location) (rs : List Reference) (n : ℕ) (l : Location) → is_among l (stale_rounds n lent rs) ≡ true → Stale lent rs l
 sound lent rs zero l m = taken_above m
 sound lent rs (suc n) l m =
     ⊎_elim (λ h. taken_above h) (λ h.
@@ -73,12 +73,9 @@ finds l ls r (q ∷ qs) i h c =
     ⊎_elim (λ (e : q ≡ r). first l (holders ls qs) (changed q.reference || is_among q.at ls) q.holder (subst (λ x. (changed x.reference || is_among x.at ls) ≡ true) (sym e) c) (subst (λ x. is_held_at l x.holder ≡ true) (sym e) h))
     (λ (j : IsOf r qs). pushed l (holders ls qs) (changed q.reference || is_among q.at ls) q.holder (finds l ls r qs j h c)) i
 
-complete : (lent : List Location) (rs : List Reference) (l : Location) → Stale lent rs l → (n : ℕ) × (is_among l (stale_rounds n lent rs) ≡ true)
+pub complete : (lent : List Location) (rs : List Reference) (l : Location) → Stale lent rs l → (n : ℕ) × (is_among l (stale_rounds n lent rs) ≡ true)
 complete lent rs l (changed_above r i h c) = (1, among_right l lent (holders lent rs) (finds l lent r rs i h (or_left (changed r.reference) (is_among r.at lent) c)))
 complete lent rs l (stale_above r i h s) =
     let p = complete lent rs r.at s in
     (suc p.0, among_right l lent (holders (stale_rounds p.0 lent rs) rs) (finds l (stale_rounds p.0 lent rs) r rs i h (or_right (changed r.reference) (is_among r.at (stale_rounds p.0 lent rs)) p.1)))
 complete lent rs l (taken_above m) = (0, m)
-
-pub rounds_law : RoundsLaw
-rounds_law = record { sound = sound; complete = complete }

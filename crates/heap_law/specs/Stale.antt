@@ -95,7 +95,9 @@ stale_rounds (suc n) lent rs = lent ++ holders (stale_rounds n lent rs) rs
 abbrev pub stale_places : List Instr → Ground → List Thing → List Location
 stale_places code g b = let rs = references g b in stale_rounds (length rs) (lent_places code g g.threads) rs
 
--- the rounds find what the rule says: what some number of rounds finds is stale, and what is stale is found after some number of rounds
+-- the rounds find what the rule says: what some number of rounds finds is stale, and what is stale is found after some number of rounds; as many rounds as
+-- there are references are enough
 pub record RoundsLaw : Type 0 where
   pub sound : (lent : List Location) (rs : List Reference) (n : ℕ) (l : Location) → is_among l (stale_rounds n lent rs) ≡ true → Stale lent rs l
   pub complete : (lent : List Location) (rs : List Reference) (l : Location) → Stale lent rs l → (n : ℕ) × (is_among l (stale_rounds n lent rs) ≡ true)
+  pub enough : (lent : List Location) (rs : List Reference) (l : Location) → Stale lent rs l → is_among l (stale_rounds (length rs) lent rs) ≡ true
