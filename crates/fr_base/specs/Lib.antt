@@ -1,7 +1,7 @@
 pub mod Labels
 pub mod Captures
 pub mod Code
-pub mod Waits
+pub mod Rooms
 pub mod Kinds
 pub mod Lists
 pub mod Names

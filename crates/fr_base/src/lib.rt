@@ -7,6 +7,7 @@ mod captured;
 mod instruction;
 mod instructions;
 mod label;
+mod list;
 mod memory;
 mod message;
 mod name;
@@ -16,17 +17,16 @@ mod settings;
 mod step;
 #[cfg(test)]
 mod tests;
-mod waiting;
 
 pub use captured::Captures;
 pub use instruction::{Instr, Operand};
 pub use instructions::Code;
 pub use label::{Label, Labels, Plain};
+pub use list::List;
 pub use memory::NoMemory;
 pub use message::Kind;
 pub use name::{MutexNo, ObjNo, ThreadNo};
 pub use place::{Lval, Op};
 pub use release::Released;
 pub use settings::Options;
-pub use step::{Ending, Ending3, Fresh, Wait};
-pub use waiting::Waits;
+pub use step::{Ending, Ending3, Fresh, Wait, Waits};

@@ -1,5 +1,6 @@
 //! What a plain step takes, what a thread waits for, and how a run ends.
 
+use crate::list::List;
 use crate::name::{MutexNo, ThreadNo};
 
 /// The new names that a plain step takes.
@@ -18,6 +19,9 @@ pub enum Wait {
     Join(ThreadNo),
     Par(ThreadNo, ThreadNo),
 }
+
+/// The threads that can't step, each with what it waits for.
+pub type Waits = List<(ThreadNo, Wait)>;
 
 /// How a state stands: all threads have ended, none can step, or some thread can.
 #[derive(Clone, Copy, Debug, PartialEq, Eq)]

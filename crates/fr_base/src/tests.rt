@@ -5,8 +5,7 @@ use crate::instruction::{Instr, Operand};
 use crate::instructions::Code;
 use crate::message::Kind;
 use crate::name::ThreadNo;
-use crate::step::Wait;
-use crate::waiting::Waits;
+use crate::step::{Wait, Waits};
 use std::alloc::Global;
 use std::test::Fail;
 

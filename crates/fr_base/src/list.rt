@@ -1,36 +1,34 @@
-//! The threads that wait at the end of a run.
+//! A list that tells how much room it has.
 
 ghost use Rattle.std.specs.Prelude.{◌≡◌, ◌+◌, ◌≤◌, ◌<◌, ◌++◌, [], ◌∷◌, length, slice_get, IsOk, OnOk, OnErr, option_copied};
 
 use crate::memory::NoMemory;
-use crate::name::{MutexNo, ThreadNo};
-use crate::step::Wait;
 use std::alloc::Global;
 use std::marker::Model;
 
-/// Threads that can't step, each with what it waits for. Contracts see the list, and beside it how many more fit without
-/// memory.
+/// Values in order. Contracts see the list, and beside it how many more fit without memory.
+/// A push takes constant time on average, `at` and `len` always.
 #[derive(Debug, Drop)]
-pub struct Waits {
-    items: Vec<(ThreadNo, Wait)>,
+pub struct List<T> {
+    items: Vec<T>,
 }
 
-impl Model for Waits {
+impl<T> Model for List<T> {
     ghost use Rattle.std.specs.Prelude.{◌-◌, vec_len};
     ghost use Rattle.std.specs.Vec.{vec_capacity};
-    ghost use Rattle.fr_base.specs.Waits.{WaitList};
+    ghost use Rattle.fr_base.specs.Rooms.{WithRoom};
 
-    ghost Value = { WaitList };
+    ghost Value = { WithRoom T };
 
-    ghost view = { λ w. record { items = w.items.items; spare = vec_capacity w.items - vec_len w.items } };
+    ghost view = { λ l. record { items = l.items.items; spare = vec_capacity l.items - vec_len l.items } };
 }
 
-impl Waits {
-    /// No thread, and no memory taken yet.
-    pub fn new(alloc: Global) -> Waits
+impl<T: Drop> List<T> {
+    /// No value, and no memory taken yet.
+    pub fn new(alloc: Global) -> List<T>
         ensures { result.items ≡ [] }
     {
-        Waits {
+        List {
             items: Vec::new(alloc),
         }
     }
@@ -49,31 +47,29 @@ impl Waits {
         }
     }
 
-    /// Adds a thread at the end, and what it waits for. With room it can't be refused; a refusal changes nothing.
-    pub fn push(&mut self, waits: (ThreadNo, Wait)) -> Result<(), NoMemory>
-        ensures pushed { OnOk result (self.new.items ≡ self.old.items ++ waits ∷ []) }
+    /// Adds a value at the end. With room it can't be refused; a refusal changes nothing, and drops the value.
+    pub fn push(&mut self, value: T) -> Result<(), NoMemory>
+        ensures pushed { OnOk result (self.new.items ≡ self.old.items ++ value ∷ []) }
         ensures spare { OnOk result (self.old.spare ≤ self.new.spare + 1) }
         ensures room { 0 < self.old.spare → IsOk result }
         ensures refused { OnErr result (self.new ≡ self.old) }
     {
-        // The check asks that each type inside a pair is named where a pair is moved.
-        let _inside: Option<MutexNo> = None;
         if self.items.reserve(1).is_err() {
             return Err(NoMemory);
         }
-        self.items.push_reserved(waits);
+        self.items.push_reserved(value);
         Ok(())
     }
 
-    /// How many threads there are.
+    /// How many values there are.
     pub fn len(&self) -> u64
         ensures { result ≡ length self.now.items }
     {
         self.items.len() as u64
     }
 
-    /// The thread at that place, from 0, and what it waits for; `None` exactly past the end.
-    pub fn at(&self, at: u64) -> Option<&(ThreadNo, Wait)>
+    /// The value at that place, from 0; `None` exactly past the end.
+    pub fn at(&self, at: u64) -> Option<&T>
         ensures { option_copied result ≡ slice_get self.now.items at }
     {
         self.items.get(at as usize)
