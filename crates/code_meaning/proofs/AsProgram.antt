@@ -5,18 +5,17 @@ use Rattle.fr_base.specs.declared.label.Label.{Label}
 use Rattle.fr_plain.specs.Whole as term
 use Rattle.fr_plain.proofs.Printing.{Output, run_output}
 use Rattle.fr_code.specs.Steps.{code_moves}
-use Rattle.fr_code.specs.Machine.{CodeStepped, code_start}
+use Rattle.fr_code.specs.Machine.{CodeState, CodeStepped, code_start}
 use Rattle.fr_code.specs.Laws.{SameSteps}
 use Rattle.fr_code.proofs.Wholes.{runs_alike}
 use Rattle.journal.specs.Journals.{order, labels, printed}
-use Rattle.heap_law.specs.OneHeap.{PlainState}
 use Rattle.code_meaning.specs.Runs.{run}
 use Rattle.code_meaning.specs.OneHeap.{in_plain}
 use Rattle.code_meaning.specs.Laws.{IsRunWith, RunsAsProgram}
 use Rattle.code_meaning.proofs.Printing.{labels_of}
 
 -- the term's run and the code's, which have the same labels and output
-both_run : (code : List Instr) (x : Option term.Stepped) (d : Option CodeStepped) (p : PlainState) (ls : List Label) → SameSteps code x d → Output code_start d → in_plain d ≡ Some (p, ls) → IsRunWith x ls
+both_run : (code : List Instr) (x : Option term.Stepped) (d : Option CodeStepped) (p : CodeState) (ls : List Label) → SameSteps code x d → Output code_start d → in_plain d ≡ Some (p, ls) → IsRunWith x ls
 both_run code None None p ls h o e = absurd cc
 both_run code None (Some d) p ls h o e = absurd h
 both_run code (Some x) None p ls h o e = absurd h

@@ -7,6 +7,7 @@ use Rattle.fr_base.specs.declared.name.MutexNo.{MutexNo}
 use Rattle.fr_base.specs.declared.instruction.Instr.{Instr}
 use Rattle.fr_base.specs.declared.settings.Options.{Options}
 use Rattle.fr_plain.specs.Heap.{flat}
+use Rattle.fr_plain.specs.PlainState.{SameState, plain_state}
 use Rattle.server_model.specs.Servers.{Cluster, empty_servers, with_main, main_thread}
 use Rattle.coloured_heap.specs.Heap.{Copied, Running, Wish}
 use Rattle.coloured_heap.specs.Heap as coloured
@@ -16,11 +17,10 @@ use Rattle.heap_law.specs.Things.{Thing, counts, stands, at_home, servers_things
 use Rattle.heap_law.specs.Follow.{threads_in}
 use Rattle.heap_law.specs.Sight.{Sight, sight, Pointer, is_issued}
 use Rattle.heap_law.specs.Naming.{events_of}
-use Rattle.heap_law.specs.OneHeap.{Node, object_n, mutex_n, Owner, a_thread, inside, outside, owner_of, names, is_in_state, first_shown, is_given_thread, one_heap, SameState}
+use Rattle.heap_law.specs.OneHeap.{Node, object_n, mutex_n, Owner, a_thread, inside, outside, owner_of, names, is_in_state, first_shown, is_given_thread, one_heap}
 use Rattle.heap_law.specs.Colours.{IsColoured, running_of, has_finished, served_of, wishes_of, is_mutex_there}
 use Rattle.heap_law.specs.LeftBy.{messages_of}
 use Rattle.fr_code.specs.Machine.{code_start}
-use Rattle.heap_law.specs.OneHeapRuns.{state_of_code}
 use Rattle.code_meaning.specs.LeftByItsCode.{LeftByItsCode}
 use Rattle.code_meaning.specs.Laws.{StartsLeft}
 
@@ -117,7 +117,7 @@ module _ (code : List Instr) (o : Options) (n : ℕ) where
   no_mutex : (m : MutexNo) → (one_heap at_start).mutex m ≡ None
   no_mutex m = rw (out (mutex_n m))
 
-  same_objects : (x : ObjNo) → (state_of_code code_start).object x ≡ (one_heap at_start).object x
+  same_objects : (x : ObjNo) → (plain_state code_start).object x ≡ (one_heap at_start).object x
   same_objects x = empty_cells (0 == x.thread) x.count ∙ sym (no_object x)
 
   -- NAMES
@@ -137,15 +137,23 @@ module _ (code : List Instr) (o : Options) (n : ℕ) where
   no_thread : (m : ℕ) → (one_heap at_start).thread (suc m) ≡ None
   no_thread m = rw (not_given m)
 
-  no_plain_thread : (m : ℕ) → (state_of_code code_start).thread (suc m) ≡ None
+  no_plain_thread : (m : ℕ) → (plain_state code_start).thread (suc m) ≡ None
   no_plain_thread m = rw (eqb-zero-suc m)
 
-  same_threads : (t : ℕ) → (state_of_code code_start).thread t ≡ (one_heap at_start).thread t
+  same_threads : (t : ℕ) → (plain_state code_start).thread t ≡ (one_heap at_start).thread t
   same_threads zero = refl
   same_threads (suc m) = no_plain_thread m ∙ sym (no_thread m)
 
-  same_start : SameState (state_of_code code_start) (one_heap at_start)
-  same_start = record { threads = same_threads; objects = same_objects; mutexes = λ m. sym (no_mutex m); given = λ m. sym (made_nowhere m.home m.count) }
+  same_made : (t : ℕ) → (plain_state code_start).made t ≡ (one_heap at_start).made t
+  same_made zero = refl
+  same_made (suc m) = rw (eqb-zero-suc m, stand_nowhere o 1 n)
+
+  same_pairs : (t : ℕ) → (plain_state code_start).pair t ≡ (one_heap at_start).pair t
+  same_pairs zero = refl
+  same_pairs (suc m) = rw (eqb-zero-suc m, stand_nowhere o 1 n)
+
+  same_start : SameState (plain_state code_start) (one_heap at_start)
+  same_start = record { threads = same_threads; made = same_made; pairs = same_pairs; objects = same_objects; mutexes = λ m. sym (no_mutex m); given = λ m. sym (made_nowhere m.home m.count) }
 
   -- THE COLOURED HEAP
 
@@ -197,7 +205,7 @@ module _ (code : List Instr) (o : Options) (n : ℕ) where
 
   left_start : LeftByItsCode at_start []
   left_start = record {
-    plain = record { state = state_of_code code_start; runs = refl; same = same_start };
+    plain = record { state = plain_state code_start; runs = refl; same = same_start };
     reached = refl;
     coloured = record { state = coloured.start; legal = refl; stands = coloured_start };
     events = none_done;

@@ -2,15 +2,14 @@
 use Rattle.std.specs.Prelude.{List, Option, Some, None}
 use Rattle.fr_base.specs.declared.label.Label.{Label}
 use Rattle.fr_base.specs.declared.instruction.Instr.{Instr}
-use Rattle.fr_code.specs.Machine.{CodeStepped}
-use Rattle.heap_law.specs.OneHeap.{PlainState}
-use Rattle.heap_law.specs.OneHeapRuns.{state_of_code}
+use Rattle.fr_plain.specs.PlainState.{plain_state}
+use Rattle.fr_code.specs.Machine.{CodeState, CodeStepped}
 use Rattle.heap_law.specs.LeftBy.{PlainRun}
 use Rattle.code_meaning.specs.Runs.{run}
 
-abbrev pub in_plain : Option CodeStepped → Option (PlainState × List Label)
+abbrev pub in_plain : Option CodeStepped → Option (CodeState × List Label)
 in_plain None = None
-in_plain (Some d) = Some (state_of_code d.state, d.labels)
+in_plain (Some d) = Some (plain_state d.state, d.labels)
 
 -- the plain run of a code
 abbrev pub plain_run : List Instr → PlainRun

@@ -13,10 +13,9 @@ use Rattle.fr_base.specs.declared.instruction.Operand.TheVariants as operand
 use Rattle.fr_base.specs.declared.instruction.Instr.{Instr}
 use Rattle.fr_base.specs.declared.instruction.Instr.TheVariants as instr
 use Rattle.fr_plain.specs.Heap.{live}
-use Rattle.fr_plain.specs.Whole.{Turn, main_steps}
+use Rattle.fr_plain.specs.MachineThreads.{Shared, mutex_there}
+use Rattle.fr_plain.specs.Machine.{Turn, main_steps}
 use Rattle.server_model.specs.Programs.{place, number, empty, read_elsewhere, read_by_pairs, locked_twice}
-use Rattle.heap_law.specs.OneHeap.{PlainMutex}
-use Rattle.fr_plain.specs.MachineThreads.{mutex_there}
 use Rattle.fr_code.specs.Machine.{CodeStepped}
 use Rattle.code_meaning.specs.Runs.{run, waits}
 
@@ -100,8 +99,8 @@ left_turns n = main_steps 1 ++ by 0 (fresh.Mutex (m 1)) ++ main_steps 3 ++ by 0 
 -- how many objects live, what the first and the second mutex are, and the labels
 pub record Left : Type 0 where
   pub objects : ℕ
-  pub first : Option PlainMutex
-  pub second : Option PlainMutex
+  pub first : Option Shared
+  pub second : Option Shared
   pub labels : List Label
 
 abbrev left : Option CodeStepped → Option Left

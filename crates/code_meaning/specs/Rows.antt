@@ -17,11 +17,13 @@ use Rattle.server_model.specs.Figures.{Ran, run as cluster_run, steps_of, delive
 use Rattle.server_model.specs.Programs.{with_servers, written_box, empty, lent_slot, read_elsewhere, written_elsewhere, read_by_pairs, often_written, lent_box, read_two, locked_twice, locked_elsewhere, counted_up, task_dropped}
 use Rattle.server_model.specs.Larger.{raised_by_two, pair_in_pair, all_dropped}
 use Rattle.server_model.specs.Rows.{reading_elsewhere, writing_elsewhere, reading_by_pairs, moving, evicting, locking_twice, locking_elsewhere, unlocked}
-use Rattle.heap_law.specs.OneHeap.{PlainLife, PlainMutex, PlainState, one_heap}
-use Rattle.heap_law.specs.OneHeapRuns.{along, starts, state_of_code}
+use Rattle.heap_law.specs.OneHeap.{PlainLife, one_heap}
+use Rattle.heap_law.specs.OneHeapRuns.{along, starts}
 use Rattle.heap_law.specs.Chosen.{lent_deep, locked_by_two, viewed_twice, locked_in_box}
 use Rattle.heap_law.specs.ChosenEnds.{run_of, of_run}
-use Rattle.fr_code.specs.Machine.{CodeStepped}
+use Rattle.fr_plain.specs.MachineThreads.{Shared}
+use Rattle.fr_plain.specs.PlainState.{plain_state}
+use Rattle.fr_code.specs.Machine.{CodeState, CodeStepped}
 use Rattle.code_meaning.specs.Runs.{run, waits, ending_of}
 
 -- WHAT IS SHOWN
@@ -29,8 +31,10 @@ use Rattle.code_meaning.specs.Runs.{run, waits, ending_of}
 -- of a plain state at some names, with what led to it
 pub record Shown : Type 0 where
   pub threads : List (Option PlainLife)
+  pub made : List ℕ
+  pub pairs : List (Option (ℕ × ℕ))
   pub objects : List (Option Plain)
-  pub mutexes : List (Option PlainMutex)
+  pub mutexes : List (Option Shared)
   pub given : List Bool
   pub labels : List Label
   pub prints : List ℤ
@@ -47,8 +51,8 @@ objects =
 abbrev mutexes : List MutexNo
 mutexes = record { home = 0; count = 1 } ∷ record { home = 0; count = 2 } ∷ record { home = 1; count = 1 } ∷ record { home = 2; count = 1 } ∷ []
 
-abbrev show : PlainState → List Label → List ℤ → Shown
-show s ls ns = record { threads = map s.thread threads; objects = map s.object objects; mutexes = map s.mutex mutexes; given = map s.is_given mutexes; labels = ls; prints = ns }
+abbrev show : CodeState → List Label → List ℤ → Shown
+show s ls ns = record { threads = map s.thread threads; made = map s.made threads; pairs = map s.pair threads; objects = map s.object objects; mutexes = map s.mutex mutexes; given = map s.is_given mutexes; labels = ls; prints = ns }
 
 -- the one heap of the cluster, with what its journal shows
 abbrev pub heap_side : Ran → List Shown
@@ -56,7 +60,7 @@ heap_side r = show (one_heap r.cluster) (labels r.journal) (prints r.journal) �
 
 abbrev shown : Option CodeStepped → List Shown
 shown None = []
-shown (Some d) = show (state_of_code d.state) d.labels d.state.output ∷ []
+shown (Some d) = show (plain_state d.state) d.labels d.state.output ∷ []
 
 -- the plain run of its code under the journal's order
 abbrev pub run_side : Ran → List Shown

@@ -4,6 +4,7 @@ use Rattle.fr_base.specs.declared.step.Fresh.{Fresh}
 use Rattle.fr_base.specs.declared.instruction.Instr.{Instr}
 use Rattle.fr_plain.specs.MachineThreads.{Life, Thread, Whole}
 use Rattle.fr_plain.specs.Machine.{Stepped, Turn, step, run, start}
+use Rattle.fr_plain.specs.PlainState.{Running, PlainState}
 use Rattle.fr_code.specs.Steps.{Place, code_moves}
 
 abbrev pub CodeLife : Type 0
@@ -17,6 +18,13 @@ CodeWhole = Whole Place
 
 abbrev pub CodeStepped : Type 0
 CodeStepped = Stepped Place
+
+-- what is shown of a thread that goes on, and of a state
+abbrev pub CodeRunning : Type 0
+CodeRunning = Running Place
+
+abbrev pub CodeState : Type 0
+CodeState = PlainState Place
 
 -- one instruction of that thread with these new names; None where it isn't an enabled step
 abbrev pub code_step : List Instr → CodeWhole → ℕ → Fresh → Option CodeStepped

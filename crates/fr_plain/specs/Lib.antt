@@ -3,6 +3,7 @@ pub mod State
 pub mod MachineActs
 pub mod MachineThreads
 pub mod Machine
+pub mod PlainState
 pub mod Tasks
 pub mod Alike
 pub mod RunningTerms

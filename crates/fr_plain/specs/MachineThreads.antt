@@ -151,7 +151,7 @@ pair_of (p ∷ ps) t = if p.parent == t then Some p else pair_of ps t
 
 abbrev pub without_pair : List Pair → ℕ → List Pair
 without_pair [] t = []
-without_pair (p ∷ ps) t = if p.parent == t then ps else p ∷ without_pair ps t
+without_pair (p ∷ ps) t = if p.parent == t then without_pair ps t else p ∷ without_pair ps t
 
 module _ {P : Type 0} where
   -- THREADS

@@ -15,6 +15,7 @@ use Rattle.fr_plain.specs.declared.value.Value.TheVariants.{Own}
 use Rattle.fr_plain.specs.Heap.{live}
 use Rattle.fr_plain.specs.MachineActs.{Act, do_let, do_assign, do_box, do_print, do_drop, do_mutex, do_dup, do_lock, do_unlock, do_par, do_par_end, unit}
 use Rattle.fr_plain.specs.MachineThreads.{Now, going, constant, Move, Moves, Shared, Mutex}
+use Rattle.fr_plain.specs.PlainState.{plain_state}
 use Rattle.fr_plain.specs.Machine.{Stepped, Refusal, waits, name_kind, name_used, Turn, main_steps, refused, run, start}
 
 -- THREADS OF LISTED ACTS
@@ -74,6 +75,11 @@ abbrev labels : Option (Stepped ℕ) → List (List Label)
 labels None = []
 labels (Some d) = d.labels ∷ []
 
+-- which two threads a thread waits for
+abbrev pairs : Option (Stepped ℕ) → ℕ → Option (ℕ × ℕ)
+pairs None t = None
+pairs (Some d) t = (plain_state d.state).pair t
+
 -- why a step is refused after these
 abbrev Refuses : Acts → List Turn → ℕ → Fresh → Refusal → Type 0
 Refuses acts turns t names why = by_state (after acts turns)
@@ -131,6 +137,9 @@ pub record SharedRuns : Type 0 where
   pub share_gone : mutexes (after gone_inside (counted_turns 3)) ≡ None ∷ []
   pub still_out : objects (after gone_inside (counted_turns 3)) ≡ 1 ∷ []
   pub dropped_inside : objects (after gone_inside (counted_turns 4)) ≡ 0 ∷ []
+  -- it is shown which two threads a parent waits for, until both have ended
+  pub pair_shown : pairs (after paired (by (fresh.Threads 1 2))) 0 ≡ Some (1, 2)
+  pub pair_over : pairs (after paired (both_turns ++ main_steps 1)) 0 ≡ None
   pub pair_waits : Refuses paired (by (fresh.Threads 1 2) ++ (2, fresh.None) ∷ (2, fresh.None) ∷ []) 0 fresh.None (waits (wait.Par 1 2))
   pub pair_ends : labels (after paired (both_turns ++ main_steps 2)) ≡ (label.Start 1 ∷ label.Start 2 ∷ label.Print (pos 2) ∷ label.End 2 ∷ label.Print (pos 1) ∷ label.End 1 ∷ label.End 0 ∷ []) ∷ []
   pub one_name : Refuses paired [] 0 (fresh.Threads 1 1) name_used

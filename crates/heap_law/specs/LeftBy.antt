@@ -2,6 +2,8 @@
 use Rattle.std.specs.Prelude.{◌≡◌, ℕ, ◌+◌, true, List, Option, Some}
 use Rattle.fr_base.specs.declared.label.Label.{Label}
 use Rattle.fr_base.specs.declared.step.Fresh.{Fresh}
+use Rattle.fr_plain.specs.PlainState.{SameState}
+use Rattle.fr_code.specs.Machine.{CodeState}
 use Rattle.journal.specs.declared.entry.Entry.{Entry}
 use Rattle.journal.specs.Journals.{order, labels}
 use Rattle.server_model.specs.Servers.{Cluster}
@@ -14,17 +16,16 @@ use Rattle.heap_law.specs.Names.{tot}
 use Rattle.heap_law.specs.Things.{Thing, sent}
 use Rattle.heap_law.specs.Sight.{Sight, sight}
 use Rattle.heap_law.specs.Naming.{events_of}
-use Rattle.heap_law.specs.OneHeap.{PlainState, SameState, one_heap}
+use Rattle.heap_law.specs.OneHeap.{one_heap}
 use Rattle.heap_law.specs.Colours.{StandsColoured}
 
--- a plain run of a program: the state and the labels that an order of threads leads to, where it leads somewhere. The plain machine gives it, once it
--- runs mutexes and pairs of threads
+-- a plain run of a program: the state and the labels that an order of threads leads to, where it leads somewhere
 abbrev pub PlainRun : Type 0
-PlainRun = List (ℕ × Fresh) → Option (PlainState × List Label)
+PlainRun = List (ℕ × Fresh) → Option (CodeState × List Label)
 
 -- the order is one of plain steps; they leave that state, with these labels
-pub record LeadsTo (run : PlainRun) (steps : List (ℕ × Fresh)) (s : PlainState) (ls : List Label) : Type 0 where
-  pub state : PlainState
+pub record LeadsTo (run : PlainRun) (steps : List (ℕ × Fresh)) (s : CodeState) (ls : List Label) : Type 0 where
+  pub state : CodeState
   pub runs : run steps ≡ Some (state, ls)
   pub same : SameState state s
 

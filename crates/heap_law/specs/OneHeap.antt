@@ -8,11 +8,16 @@ use Rattle.fr_base.specs.declared.label.Plain.{Plain}
 use Rattle.fr_base.specs.declared.label.Plain.TheVariants as plain
 use Rattle.fr_base.specs.declared.instruction.Instr.{Instr}
 use Rattle.fr_base.specs.declared.instruction.Instr.TheVariants as instr
-use Rattle.fr_plain.specs.MachineThreads.{Shared}
+use Rattle.fr_plain.specs.declared.value.Value.{Value as PlainValue}
+use Rattle.fr_plain.specs.declared.value.Value.TheVariants.{Own, ToSlot, ToObject, Held}
+use Rattle.fr_plain.specs.MachineThreads.{Life, alive, over, owing, loose, ended, Shared}
+use Rattle.fr_code.specs.Machine.{CodeRunning, CodeState}
 use Rattle.heap_partition.specs.Plain.{plain_of}
 use Rattle.heap_partition.specs.declared.value.Owned.{Owned}
 use Rattle.heap_partition.specs.declared.value.Owned.TheVariants as owned
 use Rattle.thread_state.specs.View.{ThreadView}
+use Rattle.thread_state.specs.declared.phase.Phase.{Phase}
+use Rattle.thread_state.specs.declared.phase.Phase.TheVariants as phase
 use Rattle.thread_state.specs.declared.value.Value.{Value}
 use Rattle.thread_state.specs.declared.value.Value.TheVariants as value
 use Rattle.join_home.specs.Tasks.{TaskState, in_pair}
@@ -25,41 +30,6 @@ use Rattle.heap_law.specs.Paths.{joined_thread}
 use Rattle.heap_law.specs.Walking.{instr_of}
 use Rattle.heap_law.specs.Requests.{home_of, locked_mutex}
 use Rattle.heap_law.specs.Sharing.{is_over, gift_content, gift_result, got_phase}
-
--- PLAIN STATES
-
--- a value of a slot or a temporary value: owned, with gone and nothing as one value; a reference to a slot of the same thread or to an object;
--- the mark of the lock of a mutex
-pub data PlainValue : Type 0 where
-  own : Plain → PlainValue
-  to_slot : (number : ℕ) → PlainValue
-  to_object : ObjNo → PlainValue
-  held : MutexNo → PlainValue
-
--- a thread runs, with its instruction, its slots and its temporary values, the last one first, the number of objects that it has made, and whether
--- it was let go; or it has ended with a result; or its result was taken or let go
-pub data PlainLife : Type 0 where
-  runs : (pc : ℕ) → (slots temps : List PlainValue) → (made : ℕ) → (let_go : Bool) → PlainLife
-  ended : Plain → PlainLife
-  taken : PlainLife
-
--- a mutex with its content where that is in, and the number of its shares
-abbrev pub PlainMutex : Type 0
-PlainMutex = Shared
-
--- the threads whose names were given, the objects, the mutexes that are there, and the names of mutexes that were given
-pub record PlainState : Type 0 where
-  pub thread : ℕ → Option PlainLife
-  pub object : ObjNo → Option Plain
-  pub mutex : MutexNo → Option PlainMutex
-  pub is_given : MutexNo → Bool
-
--- two states are the same: they agree at each name
-pub record SameState (a b : PlainState) : Type 0 where
-  pub threads : (t : ℕ) → a.thread t ≡ b.thread t
-  pub objects : (o : ObjNo) → a.object o ≡ b.object o
-  pub mutexes : (m : MutexNo) → a.mutex m ≡ b.mutex m
-  pub given : (m : MutexNo) → a.is_given m ≡ b.is_given m
 
 -- WHAT IS IN THE STATE
 
@@ -191,28 +161,31 @@ content_value s m x = None
 abbrev share_in : Sight → MutexNo → Thing → ℕ
 share_in s m x = if_so (names (mutex_n m) x) (one (value_is_in s x))
 
-abbrev if_there : Bool → PlainMutex → Option PlainMutex
+abbrev if_there : Bool → Shared → Option Shared
 if_there true m = Some m
 if_there false m = None
 
-abbrev mutex_state : Sight → MutexNo → Option PlainMutex
+abbrev mutex_state : Sight → MutexNo → Option Shared
 mutex_state s m =
     if_there (is_in_state s (mutex_n m)) (record { content = first_shown (content_value s m) s.things; shares = tot (share_in s m) s.things })
 
 -- THREADS
 
+abbrev pub PlainLife : Type 0
+PlainLife = Life CodeRunning
+
 abbrev plain_value : Value → PlainValue
-plain_value value.Gone = own plain.Nothing
-plain_value (value.Own v) = own (plain_of v)
-plain_value (value.SharedSlot i) = to_slot i
-plain_value (value.MutSlot i) = to_slot i
-plain_value (value.Shared r) = to_object r.object
-plain_value (value.Mut r) = to_object r.object
-plain_value (value.Held m) = held m
+plain_value value.Gone = Own plain.Nothing
+plain_value (value.Own v) = Own (plain_of v)
+plain_value (value.SharedSlot i) = ToSlot i
+plain_value (value.MutSlot i) = ToSlot i
+plain_value (value.Shared r) = ToObject r.object
+plain_value (value.Mut r) = ToObject r.object
+plain_value (value.Held m) = Held m
 
 -- a branch of a pair: its home has noted it, until the parent is at the end of its par
 abbrev pair_note : TaskState → ℕ
-pair_note (in_pair p over) = 1
+pair_note (in_pair p is_done) = 1
 pair_note x = 0
 
 abbrev pair_over : TaskState → Option Plain
@@ -250,21 +223,42 @@ abbrev result_of : Sight → ℕ → Option Plain
 result_of s t = or_else (first_shown (branch_result t) s.things) (if_in (is_branch s t || is_in_state s (task_n t)) (first_shown (result_value s t) s.things))
 
 abbrev ended_with : Option Plain → PlainLife
-ended_with None = taken
-ended_with (Some v) = ended v
+ended_with None = over
+ended_with (Some v) = ended (Own v)
 
 -- a thread other than main was let go where no task value in the state and no par that goes on names it
 abbrev was_let_go : Sight → ℕ → Bool
-was_let_go s t = not (t == 0) && not (is_branch s t || is_in_state s (task_n t))
+was_let_go s t = not (is_branch s t || is_in_state s (task_n t))
+
+abbrev going_on : Sight → ℕ → CodeRunning → PlainLife
+going_on s zero p = alive p
+going_on s (suc t) p = if was_let_go s (suc t) then loose p else owing p
+
+abbrev running_at : ThreadView → CodeRunning
+running_at t = record { place = record { pc = t.pc; temps = reverse (map plain_value t.temps) }; slots = reverse (map plain_value t.slots) }
 
 abbrev life_of : Sight → ThreadView → Bool → PlainLife
 life_of s t true = ended_with (result_of s t.number)
-life_of s t false = runs t.pc (reverse (map plain_value t.slots)) (reverse (map plain_value t.temps)) t.made (was_let_go s t.number)
+life_of s t false = going_on s t.number (running_at t)
 
 -- a thread that was counted and stands nowhere has ended, and its result was taken
 abbrev life_at : Sight → ℕ → Option Standing → PlainLife
 life_at s t None = ended_with (result_of s t)
 life_at s t (Some x) = life_of s x.thread (is_over x.thread.phase)
+
+abbrev made_of : Option Standing → ℕ
+made_of None = 0
+made_of (Some x) = if is_over x.thread.phase then 0 else x.thread.made
+
+-- the two threads that a parent waits for
+abbrev two_in : Phase → Option (ℕ × ℕ)
+two_in (phase.WaitPar a b) = Some (a, b)
+two_in (phase.GotPar a b) = Some (a, b)
+two_in p = None
+
+abbrev pair_of : Option Standing → Option (ℕ × ℕ)
+pair_of None = None
+pair_of (Some x) = two_in x.thread.phase
 
 abbrev started_by : ℕ → ℕ → Thing → ℕ
 started_by r n (counts q next old started made events) = one (q == r && nat_le n started)
@@ -290,9 +284,16 @@ thread_state s t = if_given (is_given_thread s t) (life_at s t (thread_at s.grou
 
 -- ONE HEAP
 
-abbrev state_of : Sight → PlainState
-state_of s = record { thread = thread_state s; object = object_value s; mutex = mutex_state s; is_given = is_given_mutex s }
+abbrev state_of : Sight → CodeState
+state_of s = record {
+  thread = thread_state s;
+  made = λ t. made_of (thread_at s.ground.threads t);
+  pair = λ t. pair_of (thread_at s.ground.threads t);
+  object = object_value s;
+  mutex = mutex_state s;
+  is_given = is_given_mutex s;
+}
 
 -- the plain state that the cluster stands for
-abbrev pub one_heap : Cluster → PlainState
+abbrev pub one_heap : Cluster → CodeState
 one_heap k = state_of (sight k)

@@ -1,70 +1,35 @@
--- The one heap of a cluster along whole runs: after each event it is the state of the machine of compiled code under the order of the journal,
--- which runs what starts and joins threads.
-use Rattle.std.specs.Prelude.{◌≡◌, ℕ, true, false, is_some, List, [], ◌∷◌, ◌++◌, length, map, Option, Some, None}
+-- The one heap of a cluster along whole runs: after each event it is the plain state of the machine of compiled code under the order of the journal.
+use Rattle.std.specs.Prelude.{◌≡◌, ℕ, List, [], ◌∷◌, ◌++◌, map, Option, Some, None}
 use Rattle.fr_base.specs.declared.name.ObjNo.{ObjNo}
 use Rattle.fr_base.specs.declared.label.Label.{Label}
 use Rattle.fr_base.specs.declared.label.Plain.{Plain}
-use Rattle.fr_base.specs.declared.label.Plain.TheVariants as plain
 use Rattle.fr_base.specs.declared.instruction.Instr.{Instr}
 use Rattle.fr_base.specs.declared.settings.Options.{Options}
-use Rattle.fr_plain.specs.declared.value.Value.{Value}
-use Rattle.fr_plain.specs.declared.value.Value.TheVariants.{Own, ToSlot, ToObject, Held}
-use Rattle.fr_plain.specs.Heap.{Heap, made_by, cell_at}
-use Rattle.fr_plain.specs.MachineThreads.{alive, over, owing, loose, ended as result, mutex_at, mutex_there, thread_at}
-use Rattle.fr_code.specs.Machine.{CodeLife, CodeThread, CodeWhole, CodeStepped, code_run, code_start}
+use Rattle.fr_plain.specs.PlainState.{plain_state}
+use Rattle.fr_code.specs.Machine.{CodeState, CodeStepped, code_run, code_start}
 use Rattle.journal.specs.Journals.{order, labels}
 use Rattle.server_model.specs.declared.event.Event.{Event}
 use Rattle.server_model.specs.Servers.{start_of}
 use Rattle.server_model.specs.Figures.{Ran, run_event, steps_of, deliver}
-use Rattle.server_model.specs.Programs.{with_servers, written_box, lent_slot, read_elsewhere, written_elsewhere, often_written, lent_box}
-use Rattle.server_model.specs.Rows.{reading_elsewhere, writing_elsewhere, moving}
-use Rattle.heap_law.specs.OneHeap.{PlainValue, own, to_slot, to_object, held, PlainLife, runs, ended, taken, PlainState, one_heap}
-
--- THE STATE OF THE CODE MACHINE
-
-abbrev code_value : Value → PlainValue
-code_value (Own v) = own v
-code_value (ToSlot i) = to_slot i
-code_value (ToObject o) = to_object o
-code_value (Held m) = held m
-
-abbrev owned_value : Value → Plain
-owned_value (Own v) = v
-owned_value v = plain.Nothing
-
-abbrev code_life : Heap → ℕ → List Value → CodeLife → PlainLife
-code_life h t slots (alive p) = runs p.pc (map code_value slots) (map code_value p.temps) (length (made_by h t)) false
-code_life h t slots (owing p) = runs p.pc (map code_value slots) (map code_value p.temps) (length (made_by h t)) false
-code_life h t slots (loose p) = runs p.pc (map code_value slots) (map code_value p.temps) (length (made_by h t)) true
-code_life h t slots (result v) = ended (owned_value v)
-code_life h t slots over = taken
-
-abbrev life_in : Heap → Option CodeThread → Option PlainLife
-life_in h None = None
-life_in h (Some y) = Some (code_life h y.number y.slots y.life)
-
--- the plain state that a state of the machine is, name by name
-abbrev pub state_of_code : CodeWhole → PlainState
-state_of_code c = record {
-  thread = λ t. life_in c.heap (thread_at c.threads t);
-  object = λ o. cell_at c.heap o;
-  mutex = λ m. mutex_there c.mutexes m;
-  is_given = λ m. is_some (mutex_at c.mutexes m);
-}
+use Rattle.server_model.specs.Programs.{with_servers, written_box, lent_slot, read_elsewhere, written_elsewhere, read_by_pairs, often_written, lent_box}
+use Rattle.server_model.specs.Rows.{reading_elsewhere, writing_elsewhere, reading_by_pairs, moving}
+use Rattle.heap_law.specs.OneHeap.{PlainLife, one_heap}
 
 -- WHAT IS SHOWN OF A STATE
 
 -- the threads and objects of some names
 pub record Shown : Type 0 where
   pub threads : List (Option PlainLife)
+  pub made : List ℕ
+  pub pairs : List (Option (ℕ × ℕ))
   pub objects : List (Option Plain)
 
-abbrev pub show : List ℕ → List ObjNo → PlainState → Shown
-show ts os s = record { threads = map s.thread ts; objects = map s.object os }
+abbrev pub show : List ℕ → List ObjNo → CodeState → Shown
+show ts os s = record { threads = map s.thread ts; made = map s.made ts; pairs = map s.pair ts; objects = map s.object os }
 
 abbrev pub show_code : List ℕ → List ObjNo → Option CodeStepped → List Shown
 show_code ts os None = []
-show_code ts os (Some d) = show ts os (state_of_code d.state) ∷ []
+show_code ts os (Some d) = show ts os (plain_state d.state) ∷ []
 
 -- ALONG A RUN
 
@@ -103,6 +68,8 @@ pub record OneHeapsCompute : Type 0 where
   pub comes_to_writer : Follows written_elsewhere (with_servers 2 65536) writing_elsewhere (0 ∷ 1 ∷ 2 ∷ []) first_objects
   pub renewed_twice : Follows often_written (with_servers 1 2) (steps_of 0 0 11 ++ deliver 0 0) (0 ∷ 1 ∷ []) first_objects
   pub written_in_turns : Follows lent_box (with_servers 2 65536) moving (0 ∷ 1 ∷ []) first_objects
+  -- a parent shows which two threads it waits for
+  pub pairs_started : Follows read_by_pairs (with_servers 3 65536) reading_by_pairs (0 ∷ 1 ∷ 2 ∷ 3 ∷ 4 ∷ []) first_objects
   pub box_labels : Labelled written_box (with_servers 1 65536) (steps_of 0 0 7 ++ deliver 0 0)
   pub copied_labels : Labelled read_elsewhere (with_servers 2 65536) reading_elsewhere
   pub writer_labels : Labelled written_elsewhere (with_servers 2 65536) writing_elsewhere

@@ -12,7 +12,11 @@ use Rattle.fr_store.specs.Below.{tree_of}
 use Rattle.server_model.specs.Figures.{run, steps_of}
 use Rattle.heap_law.specs.Sight.{sight}
 use Rattle.heap_law.specs.Clusters.{options, boxed_code}
-use Rattle.heap_law.specs.OneHeap.{PlainValue, own, runs, ended, held, one_heap, is_given_thread}
+use Rattle.fr_plain.specs.declared.value.Value.TheVariants.{Own, Held}
+use Rattle.fr_plain.specs.MachineThreads.{ended}
+use Rattle.fr_plain.specs.PlainState.{place_in}
+use Rattle.fr_code.specs.Machine.{CodeRunning}
+use Rattle.heap_law.specs.OneHeap.{one_heap, is_given_thread}
 use Rattle.type_law.specs.CodeTypes.{going}
 use Rattle.type_law.specs.Names.{NameTypes}
 use Rattle.type_law.specs.States.{Marks, store_of, RunningTyped, StateTypes, nth_value, part_at, is_reference, IsLower}
@@ -20,7 +24,7 @@ use Rattle.type_law.specs.ClusterTypes.{Types}
 use Rattle.type_law.specs.Codes.{boxed_table, box_slot}
 use Rattle.type_law.specs.Typed.{boxed_cluster, cluster_of}
 use Rattle.type_law.proofs.Codes.{boxed_is_typed}
-use Rattle.type_law.proofs.Numbers.{suc_zero, zero_suc, none_counted, along}
+use Rattle.type_law.proofs.Numbers.{suc_zero, zero_suc, none_counted, along, not_there}
 
 abbrev the_object : ObjNo
 the_object = record { thread = 0; count = 0 }
@@ -132,7 +136,7 @@ above_one : (i : ℕ) → 1 ≤ i → exact (slot_k 0 i) ≡ owns hole
 above_one zero l = absurd (omega (arith, l))
 above_one (suc i) l = rw (suc_zero i) refl
 
-main_typed : RunningTyped boxed_table exact rank store 0 2 (own (plain.Box the_object) ∷ []) []
+main_typed : RunningTyped boxed_table exact rank store 0 2 (Own (plain.Box the_object) ∷ []) []
 main_typed = record {
   entry = going (box_slot ∷ []) [] unit;
   at = refl;
@@ -154,21 +158,21 @@ main_typed = record {
   lower = no_reference;
 }
 
-each_thread : (t pc made : ℕ) (slots temps : List PlainValue) (let_go : Bool) → (one_heap boxed_cluster).thread t ≡ Some (runs pc slots temps made let_go) → RunningTyped boxed_table exact rank store t pc slots temps
-each_thread zero pc made slots temps let_go e = along (λ p ss ts. RunningTyped boxed_table exact rank store 0 p ss ts) e main_typed
-each_thread (suc t) pc made slots temps let_go e = let f = others t in absurd cc
+each_thread : (t : ℕ) (r : CodeRunning) → place_in ((one_heap boxed_cluster).thread t) ≡ Some r → RunningTyped boxed_table exact rank store t r.place.pc r.slots r.place.temps
+each_thread zero r e = along (λ q. RunningTyped boxed_table exact rank store 0 q.place.pc q.slots q.place.temps) e main_typed
+each_thread (suc t) r e = absurd (not_there (others t) e)
 
-no_result : (t : ℕ) (v : Plain) → (one_heap boxed_cluster).thread t ≡ Some (ended v) → exact (result_k t) ≡ owns (tree_of unit)
+no_result : (t : ℕ) (v : Plain) → (one_heap boxed_cluster).thread t ≡ Some (ended (Own v)) → exact (result_k t) ≡ owns (tree_of unit)
 no_result zero v e = absurd cc
 no_result (suc t) v e = let f = others t in absurd cc
 
-not_held : (i : ℕ) (m : MutexNo) → nth_value (own (plain.Box the_object) ∷ []) i ≡ held m → value_at store (marks 0 i) ≡ Some (mutex_v m)
+not_held : (i : ℕ) (m : MutexNo) → nth_value (Own (plain.Box the_object) ∷ []) i ≡ Held m → value_at store (marks 0 i) ≡ Some (mutex_v m)
 not_held zero m e = absurd cc
 not_held (suc i) m e = let f = suc_zero i in absurd cc
 
-no_mark : (t pc made : ℕ) (slots temps : List PlainValue) (let_go : Bool) → (one_heap boxed_cluster).thread t ≡ Some (runs pc slots temps made let_go) → (i : ℕ) (m : MutexNo) → nth_value slots i ≡ held m → value_at store (marks t i) ≡ Some (mutex_v m)
-no_mark zero pc made slots temps let_go e = along (λ p ss ts. (i : ℕ) (m : MutexNo) → nth_value ss i ≡ held m → value_at store (marks 0 i) ≡ Some (mutex_v m)) e (λ i m f. not_held i m f)
-no_mark (suc t) pc made slots temps let_go e = let f = others t in absurd cc
+no_mark : (t : ℕ) (r : CodeRunning) → place_in ((one_heap boxed_cluster).thread t) ≡ Some r → (i : ℕ) (m : MutexNo) → nth_value r.slots i ≡ Held m → value_at store (marks t i) ≡ Some (mutex_v m)
+no_mark zero r e = along (λ q. (i : ℕ) (m : MutexNo) → nth_value q.slots i ≡ Held m → value_at store (marks 0 i) ≡ Some (mutex_v m)) e (λ i m f. not_held i m f)
+no_mark (suc t) r e = absurd (not_there (others t) e)
 
 boxed_state : StateTypes boxed_table names marks exact rank (one_heap boxed_cluster)
 boxed_state = record { typed = boxed_typed; threads = each_thread; results = no_result; contents = λ m x v e f. absurd cc; marked = no_mark }

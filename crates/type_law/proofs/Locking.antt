@@ -14,7 +14,12 @@ use Rattle.server_model.specs.Figures.{run, steps_of, deliver}
 use Rattle.server_model.specs.Programs.{with_servers, locked_twice}
 use Rattle.heap_law.specs.Clusters.{place, the_mutex}
 use Rattle.heap_law.specs.Sight.{sight}
-use Rattle.heap_law.specs.OneHeap.{PlainValue, own, PlainMutex, runs, ended, held, one_heap, is_given_thread}
+use Rattle.fr_plain.specs.declared.value.Value.{Value}
+use Rattle.fr_plain.specs.declared.value.Value.TheVariants.{Own, Held}
+use Rattle.fr_plain.specs.MachineThreads.{ended, Shared}
+use Rattle.fr_plain.specs.PlainState.{place_in}
+use Rattle.fr_code.specs.Machine.{CodeRunning}
+use Rattle.heap_law.specs.OneHeap.{one_heap, is_given_thread}
 use Rattle.type_law.specs.CodeTypes.{going, takes_const, takes_unit, takes_pop, i_mutex, i_let, i_lock, i_copy, i_print, i_unlock, i_drop}
 use Rattle.type_law.specs.CodeTable.{leads, ends, IsTable}
 use Rattle.type_law.specs.Names.{NameTypes}
@@ -23,7 +28,7 @@ use Rattle.type_law.specs.ClusterTypes.{Types}
 use Rattle.type_law.specs.Tables.{x_name, r_name, c_name}
 use Rattle.type_law.specs.Typed.{cluster_of}
 use Rattle.type_law.specs.Locking.{once_locked, twice_table, locking_cluster, LockHasTypes}
-use Rattle.type_law.proofs.Numbers.{suc_zero, zero_suc, none_counted, along}
+use Rattle.type_law.proofs.Numbers.{suc_zero, zero_suc, none_counted, along, not_there}
 
 twice_typed : IsTable locked_twice twice_table
 twice_typed = record {
@@ -94,7 +99,7 @@ one_zero = refl
 one_more : (c : ℕ) → (1 == suc (suc c)) ≡ false
 one_more c = grind (arith, nat_tests)
 
-IsOut : Option PlainMutex → Type 0
+IsOut : Option Shared → Type 0
 IsOut l = (l ≡ None) ⊎ (l ≡ Some (record { content = None; shares = 1 }))
 
 all_out : (h c : ℕ) → IsOut ((one_heap locking_cluster).mutex (record { home = h; count = c }))
@@ -104,17 +109,17 @@ all_out zero (suc zero) = inr refl
 all_out zero (suc (suc c)) = inl (rw (one_more c) refl)
 all_out (suc h) c = inl (rw (zero_suc h) refl)
 
-no_content : (l : Option PlainMutex) → IsOut l → content_val names l ≡ gone_v
+no_content : (l : Option Shared) → IsOut l → content_val names l ≡ gone_v
 unfolding IsOut
 no_content l (inl e) = ap (content_val names) e
 no_content l (inr e) = ap (content_val names) e
 
-none_in : {l : Option PlainMutex} {x : PlainMutex} {v : Plain} → IsOut l → l ≡ Some x → x.content ≡ Some v → ⊥
+none_in : {l : Option Shared} {x : Shared} {v : Plain} → IsOut l → l ≡ Some x → x.content ≡ Some v → ⊥
 unfolding IsOut
 none_in (inl e) f g = absurd cc
 none_in {x = x} {v = v} (inr e) f g =
     let y : record { content = None; shares = 1 } ≡ x = cc in
-    let z : None ≡ Some v = ap (λ (w : PlainMutex). w.content) y ∙ g in
+    let z : None ≡ Some v = ap (λ (w : Shared). w.content) y ∙ g in
     absurd cc
 
 -- KEYS
@@ -234,8 +239,8 @@ not_temp j m u e f = let g = ap (λ (w : Place). w.key) (named j m u e).0 in abs
 
 -- MAIN
 
-abbrev main_slots : List PlainValue
-main_slots = own (plain.Int (pos 1)) ∷ held the_mutex ∷ own (plain.Mutex the_mutex) ∷ []
+abbrev main_slots : List Value
+main_slots = Own (plain.Int (pos 1)) ∷ Held the_mutex ∷ Own (plain.Mutex the_mutex) ∷ []
 
 main_above : (i : ℕ) → 3 ≤ i → exact (slot_k 0 i) ≡ owns hole
 main_above zero l = absurd (omega (arith, l))
@@ -281,16 +286,16 @@ main_typed = record {
 
 -- THE STATE
 
-each_thread : (t pc made : ℕ) (slots temps : List PlainValue) (let_go : Bool) → (one_heap locking_cluster).thread t ≡ Some (runs pc slots temps made let_go) → RunningTyped twice_table exact rank store t pc slots temps
-each_thread zero pc made slots temps let_go e = along (λ p ss ts. RunningTyped twice_table exact rank store 0 p ss ts) e main_typed
-each_thread (suc t) pc made slots temps let_go e = let f = others t in absurd cc
+each_thread : (t : ℕ) (r : CodeRunning) → place_in ((one_heap locking_cluster).thread t) ≡ Some r → RunningTyped twice_table exact rank store t r.place.pc r.slots r.place.temps
+each_thread zero r e = along (λ q. RunningTyped twice_table exact rank store 0 q.place.pc q.slots q.place.temps) e main_typed
+each_thread (suc t) r e = absurd (not_there (others t) e)
 
-no_result : (t : ℕ) (v : Plain) → (one_heap locking_cluster).thread t ≡ Some (ended v) → exact (result_k t) ≡ owns (tree_of unit)
+no_result : (t : ℕ) (v : Plain) → (one_heap locking_cluster).thread t ≡ Some (ended (Own v)) → exact (result_k t) ≡ owns (tree_of unit)
 no_result zero v e = absurd cc
 no_result (suc t) v e = let f = others t in absurd cc
 
-abbrev Marked : List PlainValue → Type 0
-Marked slots = (i : ℕ) (m : MutexNo) → nth_value slots i ≡ held m → Some (mutex_v the_mutex) ≡ Some (mutex_v m)
+abbrev Marked : List Value → Type 0
+Marked slots = (i : ℕ) (m : MutexNo) → nth_value slots i ≡ Held m → Some (mutex_v the_mutex) ≡ Some (mutex_v m)
 
 main_marked : Marked main_slots
 main_marked zero m e = absurd cc
@@ -298,9 +303,9 @@ main_marked (suc zero) m e = cc
 main_marked (suc (suc zero)) m e = absurd cc
 main_marked (suc (suc (suc i))) m e = let f = over_two i in let g = over_one i in let h = suc_zero (suc (suc i)) in absurd cc
 
-marked : (t pc made : ℕ) (slots temps : List PlainValue) (let_go : Bool) → (one_heap locking_cluster).thread t ≡ Some (runs pc slots temps made let_go) → Marked slots
-marked zero pc made slots temps let_go e = along (λ p ss ts. Marked ss) e main_marked
-marked (suc t) pc made slots temps let_go e = let f = others t in absurd cc
+marked : (t : ℕ) (r : CodeRunning) → place_in ((one_heap locking_cluster).thread t) ≡ Some r → Marked r.slots
+marked zero r e = along (λ q. Marked q.slots) e main_marked
+marked (suc t) r e = absurd (not_there (others t) e)
 
 locking_state : StateTypes twice_table names marks exact rank (one_heap locking_cluster)
 locking_state = record {
@@ -308,7 +313,7 @@ locking_state = record {
   threads = each_thread;
   results = no_result;
   contents = λ m x v e f. absurd (none_in (all_out m.home m.count) e f);
-  marked = λ t pc made slots temps let_go e i m f. marked t pc made slots temps let_go e i m f;
+  marked = λ t r e i m f. marked t r e i m f;
 }
 
 locking_has_types : Types locking_cluster

@@ -1,8 +1,11 @@
 -- Tests of numbers, and threads that were never counted.
-use Rattle.std.proofs.Common.{◌≡◌, ℕ, zero, suc, ◌==◌, ◌+◌, nat_le, not, ◌&&◌, true, false, Bool, List, Some, refl, subst, arith}
+use Rattle.std.proofs.Common.{◌≡◌, ℕ, zero, suc, ◌==◌, ◌+◌, nat_le, not, ◌&&◌, true, false, Bool, Option, Some, None, refl, sym, ap, ◌∙◌, subst, arith}
 use Rattle.std.proofs.lemmas.Bool.Decides.{nat_tests}
+use Rattle.fr_plain.specs.MachineThreads.{over}
+use Rattle.fr_plain.specs.PlainState.{place_in}
+use Rattle.fr_code.specs.Machine.{CodeRunning}
 use Rattle.heap_law.specs.Names.{one, some}
-use Rattle.heap_law.specs.OneHeap.{PlainValue, runs}
+use Rattle.heap_law.specs.OneHeap.{PlainLife}
 
 pub suc_zero : (n : ℕ) → (suc n == 0) ≡ false
 suc_zero n = grind (arith, nat_tests)
@@ -22,10 +25,13 @@ pub none_counted : (c : Bool) (n : ℕ) → (not (n == 0) && some (one (c && nat
 none_counted c zero = refl
 none_counted c (suc n) = rw (suc_zero n, suc_le_zero n) (none_left c)
 
--- what holds of a running thread holds of the same one under other names
-pub along : (P : ℕ → List PlainValue → List PlainValue → Type 0) {a a2 d d2 : ℕ} {b b2 c c2 : List PlainValue} {f f2 : Bool} → Some (runs a b c d f) ≡ Some (runs a2 b2 c2 d2 f2) → P a b c → P a2 b2 c2
-along P {a = a} {a2 = a2} {b = b} {b2 = b2} {c = c} {c2 = c2} e x =
-    let p : a ≡ a2 = cc in
-    let q : b ≡ b2 = cc in
-    let r : c ≡ c2 = cc in
-    subst (λ z. P a2 b2 z) r (subst (λ y. P a2 y c) q (subst (λ w. P w b c) p x))
+-- what holds of a running thread holds of the same one under another name
+pub along : (P : CodeRunning → Type 0) {a b : CodeRunning} → Some a ≡ Some b → P a → P b
+along P {a = a} {b = b} e x = let p : a ≡ b = cc in subst P p x
+
+-- a thread whose name was not given, or that is over, goes on nowhere
+pub not_there : {l : Option PlainLife} {r : CodeRunning} → l ≡ None → place_in l ≡ Some r → ⊥
+not_there {r = r} e f = let g : None ≡ Some r = sym (ap place_in e) ∙ f in absurd cc
+
+pub not_over : {l : Option PlainLife} {r : CodeRunning} → l ≡ Some over → place_in l ≡ Some r → ⊥
+not_over {r = r} e f = let g : None ≡ Some r = sym (ap place_in e) ∙ f in absurd cc

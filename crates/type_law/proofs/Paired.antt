@@ -15,7 +15,12 @@ use Rattle.server_model.specs.Figures.{run, steps_of, deliver}
 use Rattle.server_model.specs.Programs.{with_servers, read_by_pairs}
 use Rattle.heap_law.specs.Clusters.{place}
 use Rattle.heap_law.specs.Sight.{sight}
-use Rattle.heap_law.specs.OneHeap.{PlainValue, own, to_object, PlainLife, runs, ended, taken, held, one_heap, is_given_thread}
+use Rattle.fr_plain.specs.declared.value.Value.{Value}
+use Rattle.fr_plain.specs.declared.value.Value.TheVariants.{Own, ToObject, Held}
+use Rattle.fr_plain.specs.MachineThreads.{over, ended}
+use Rattle.fr_plain.specs.PlainState.{place_in}
+use Rattle.fr_code.specs.Machine.{CodeRunning}
+use Rattle.heap_law.specs.OneHeap.{PlainLife, one_heap, is_given_thread}
 use Rattle.type_law.specs.CodeTypes.{going, forked_at}
 use Rattle.type_law.specs.Names.{NameTypes}
 use Rattle.type_law.specs.States.{Marks, store_of, slot_val, temp_val, result_val, RunningTyped, StateTypes, nth_value, part_at, is_reference, IsLower, by_boxes}
@@ -24,7 +29,7 @@ use Rattle.type_law.specs.Tables.{r_name, slot, two_slots, pairs_table}
 use Rattle.type_law.specs.Typed.{cluster_of}
 use Rattle.type_law.specs.Paired.{paired_cluster, PairHasTypes}
 use Rattle.type_law.proofs.Tables.{pairs_typed}
-use Rattle.type_law.proofs.Numbers.{suc_zero, zero_suc, along}
+use Rattle.type_law.proofs.Numbers.{suc_zero, zero_suc, along, not_there, not_over}
 
 abbrev the_object : ObjNo
 the_object = record { thread = 0; count = 0 }
@@ -58,7 +63,7 @@ store = store_of names marks (one_heap paired_cluster)
 -- OTHER THREADS
 
 abbrev Rests : Option PlainLife → Type 0
-Rests l = (l ≡ Some taken) ⊎ (l ≡ None)
+Rests l = (l ≡ Some over) ⊎ (l ≡ None)
 
 not_zero : (t : ℕ) → (0 == suc (suc (suc t))) ≡ false
 not_zero t = grind (arith, nat_tests)
@@ -76,13 +81,13 @@ rests t = by (is_given_thread (sight paired_cluster) (suc (suc (suc t)))) refl
     by true e = inl (rw (e, not_zero t, not_one t, not_two t) (rw (not_one t, not_two t) refl))
     by false e = inr (rw e refl)
 
-no_slot : (t i : ℕ) (l : Option PlainLife) → Rests l → slot_val names marks t i l ≡ gone_v
-no_slot t i l (inl e) = ap (slot_val names marks t i) e
-no_slot t i l (inr e) = ap (slot_val names marks t i) e
+no_slot : (t i : ℕ) (l : Option PlainLife) → Rests l → slot_val names marks t i (place_in l) ≡ gone_v
+no_slot t i l (inl e) = ap (λ z. slot_val names marks t i (place_in z)) e
+no_slot t i l (inr e) = ap (λ z. slot_val names marks t i (place_in z)) e
 
-no_temp : (t i : ℕ) (l : Option PlainLife) → Rests l → temp_val names t i l ≡ gone_v
-no_temp t i l (inl e) = ap (temp_val names t i) e
-no_temp t i l (inr e) = ap (temp_val names t i) e
+no_temp : (t i : ℕ) (l : Option PlainLife) → Rests l → temp_val names t i (place_in l) ≡ gone_v
+no_temp t i l (inl e) = ap (λ z. temp_val names t i (place_in z)) e
+no_temp t i l (inr e) = ap (λ z. temp_val names t i (place_in z)) e
 
 no_kept : (l : Option PlainLife) → Rests l → result_val names l ≡ gone_v
 no_kept l (inl e) = ap (result_val names) e
@@ -215,7 +220,7 @@ main_lower (suc zero) l e f =
     subst (λ q. IsLower store two_slots 0 1 q) g (0, omega arith, by_boxes 0 refl)
 main_lower (suc (suc i)) l e f = let g = over_one i in let h = suc_zero (suc i) in absurd cc
 
-main_typed : RunningTyped pairs_table exact rank store 0 5 (to_object the_object ∷ own (plain.Box the_object) ∷ []) []
+main_typed : RunningTyped pairs_table exact rank store 0 5 (ToObject the_object ∷ Own (plain.Box the_object) ∷ []) []
 main_typed = record {
   entry = forked_at two_slots [] unit;
   at = refl;
@@ -263,7 +268,7 @@ first_above : (i : ℕ) → 1 ≤ i → exact (slot_k 1 i) ≡ owns hole
 first_above zero l = absurd (omega (arith, l))
 first_above (suc i) l = refl
 
-first_typed : RunningTyped pairs_table exact rank store 1 15 (to_object the_object ∷ []) []
+first_typed : RunningTyped pairs_table exact rank store 1 15 (ToObject the_object ∷ []) []
 first_typed = record {
   entry = going branch_slots [] unit;
   at = refl;
@@ -289,7 +294,7 @@ second_above : (i : ℕ) → 1 ≤ i → exact (slot_k 2 i) ≡ owns hole
 second_above zero l = absurd (omega (arith, l))
 second_above (suc i) l = refl
 
-second_typed : RunningTyped pairs_table exact rank store 2 19 (to_object the_object ∷ []) []
+second_typed : RunningTyped pairs_table exact rank store 2 19 (ToObject the_object ∷ []) []
 second_typed = record {
   entry = going branch_slots [] unit;
   at = refl;
@@ -313,47 +318,47 @@ second_typed = record {
 
 -- THE STATE
 
-abbrev Running : ℕ → ℕ → List PlainValue → List PlainValue → Type 0
-Running t pc slots temps = RunningTyped pairs_table exact rank store t pc slots temps
+abbrev Running : ℕ → CodeRunning → Type 0
+Running t r = RunningTyped pairs_table exact rank store t r.place.pc r.slots r.place.temps
 
-at_rest : {l : Option PlainLife} {pc made : ℕ} {slots temps : List PlainValue} {let_go : Bool} → Rests l → l ≡ Some (runs pc slots temps made let_go) → ⊥
-at_rest (inl f) e = absurd cc
-at_rest (inr f) e = absurd cc
+at_rest : {l : Option PlainLife} {r : CodeRunning} → Rests l → place_in l ≡ Some r → ⊥
+at_rest (inl f) e = not_over f e
+at_rest (inr f) e = not_there f e
 
-not_ended : {l : Option PlainLife} {v : Plain} → Rests l → l ≡ Some (ended v) → ⊥
+not_ended : {l : Option PlainLife} {v : Plain} → Rests l → l ≡ Some (ended (Own v)) → ⊥
 not_ended (inl f) e = absurd cc
 not_ended (inr f) e = absurd cc
 
-each_thread : (t pc made : ℕ) (slots temps : List PlainValue) (let_go : Bool) → (one_heap paired_cluster).thread t ≡ Some (runs pc slots temps made let_go) → Running t pc slots temps
-each_thread zero pc made slots temps let_go e = along (Running 0) e main_typed
-each_thread (suc zero) pc made slots temps let_go e = along (Running 1) e first_typed
-each_thread (suc (suc zero)) pc made slots temps let_go e = along (Running 2) e second_typed
-each_thread (suc (suc (suc t))) pc made slots temps let_go e = absurd (at_rest (rests t) e)
+each_thread : (t : ℕ) (r : CodeRunning) → place_in ((one_heap paired_cluster).thread t) ≡ Some r → Running t r
+each_thread zero r e = along (Running 0) e main_typed
+each_thread (suc zero) r e = along (Running 1) e first_typed
+each_thread (suc (suc zero)) r e = along (Running 2) e second_typed
+each_thread (suc (suc (suc t))) r e = absurd (at_rest (rests t) e)
 
-no_result : (t : ℕ) (v : Plain) → (one_heap paired_cluster).thread t ≡ Some (ended v) → exact (result_k t) ≡ owns (tree_of unit)
+no_result : (t : ℕ) (v : Plain) → (one_heap paired_cluster).thread t ≡ Some (ended (Own v)) → exact (result_k t) ≡ owns (tree_of unit)
 no_result zero v e = absurd cc
 no_result (suc zero) v e = absurd cc
 no_result (suc (suc zero)) v e = absurd cc
 no_result (suc (suc (suc t))) v e = absurd (not_ended (rests t) e)
 
 -- no slot has a mark
-abbrev Unmarked : List PlainValue → Type 0
-Unmarked slots = (i : ℕ) (m : MutexNo) → nth_value slots i ≡ held m → ⊥
+abbrev Unmarked : List Value → Type 0
+Unmarked slots = (i : ℕ) (m : MutexNo) → nth_value slots i ≡ Held m → ⊥
 
-two_unmarked : Unmarked (to_object the_object ∷ own (plain.Box the_object) ∷ [])
+two_unmarked : Unmarked (ToObject the_object ∷ Own (plain.Box the_object) ∷ [])
 two_unmarked zero m e = absurd cc
 two_unmarked (suc zero) m e = absurd cc
 two_unmarked (suc (suc i)) m e = let g = over_one i in let h = suc_zero (suc i) in absurd cc
 
-one_unmarked : Unmarked (to_object the_object ∷ [])
+one_unmarked : Unmarked (ToObject the_object ∷ [])
 one_unmarked zero m e = absurd cc
 one_unmarked (suc i) m e = let h = suc_zero i in absurd cc
 
-unmarked : (t pc made : ℕ) (slots temps : List PlainValue) (let_go : Bool) → (one_heap paired_cluster).thread t ≡ Some (runs pc slots temps made let_go) → Unmarked slots
-unmarked zero pc made slots temps let_go e = along (λ p ss ts. Unmarked ss) e two_unmarked
-unmarked (suc zero) pc made slots temps let_go e = along (λ p ss ts. Unmarked ss) e one_unmarked
-unmarked (suc (suc zero)) pc made slots temps let_go e = along (λ p ss ts. Unmarked ss) e one_unmarked
-unmarked (suc (suc (suc t))) pc made slots temps let_go e = absurd (at_rest (rests t) e)
+unmarked : (t : ℕ) (r : CodeRunning) → place_in ((one_heap paired_cluster).thread t) ≡ Some r → Unmarked r.slots
+unmarked zero r e = along (λ q. Unmarked q.slots) e two_unmarked
+unmarked (suc zero) r e = along (λ q. Unmarked q.slots) e one_unmarked
+unmarked (suc (suc zero)) r e = along (λ q. Unmarked q.slots) e one_unmarked
+unmarked (suc (suc (suc t))) r e = absurd (at_rest (rests t) e)
 
 paired_state : StateTypes pairs_table names marks exact rank (one_heap paired_cluster)
 paired_state = record {
@@ -361,7 +366,7 @@ paired_state = record {
   threads = each_thread;
   results = no_result;
   contents = λ m x v e f. absurd cc;
-  marked = λ t pc made slots temps let_go e i m f. absurd (unmarked t pc made slots temps let_go e i m f);
+  marked = λ t r e i m f. absurd (unmarked t r e i m f);
 }
 
 paired_has_types : Types paired_cluster

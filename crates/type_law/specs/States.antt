@@ -12,8 +12,13 @@ use Rattle.fr_store.specs.Store.{Location, at_key, at_object, Val, gone_v, mutex
 use Rattle.fr_store.specs.Typed.{int_tree, owns, KeyTypes, Typed}
 use Rattle.fr_store.specs.Below.{tree_of}
 use Rattle.fr_store.specs.Thread.{ThreadKeys, ThreadTyped, Asleep}
+use Rattle.fr_plain.specs.declared.value.Value.{Value}
+use Rattle.fr_plain.specs.declared.value.Value.TheVariants.{Own, ToSlot, ToObject, Held}
+use Rattle.fr_plain.specs.MachineThreads.{ended, Shared}
+use Rattle.fr_plain.specs.PlainState.{place_in}
 use Rattle.fr_sound.specs.Seen.{owned_val, seen_cell}
-use Rattle.heap_law.specs.OneHeap.{PlainValue, own, to_slot, to_object, held, PlainLife, runs, ended, PlainMutex, PlainState}
+use Rattle.fr_code.specs.Machine.{CodeRunning, CodeState}
+use Rattle.heap_law.specs.OneHeap.{PlainLife}
 use Rattle.type_law.specs.Names.{NameTypes}
 use Rattle.type_law.specs.CodeTypes.{Entry, Table}
 
@@ -24,46 +29,46 @@ abbrev pub Marks : Type 0
 Marks = ℕ → ℕ → Location
 
 -- a thread's values are listed the newest first; nothing stands beyond them
-abbrev pub nth_value : List PlainValue → ℕ → PlainValue
-nth_value [] i = own plain.Nothing
+abbrev pub nth_value : List Value → ℕ → Value
+nth_value [] i = Own plain.Nothing
 nth_value (v ∷ vs) i = if i == length vs then v else nth_value vs i
 
 -- a value of that thread; the mark of a lock is a reference to where the mutex stands
-abbrev pub plain_val : NameTypes → ℕ → Val → PlainValue → Val
-plain_val n t mark (own v) = owned_val n.result v
-plain_val n t mark (to_slot i) = ref_v (at_key (slot_k t i))
-plain_val n t mark (to_object o) = ref_v (at_object o)
-plain_val n t mark (held m) = mark
+abbrev pub plain_val : NameTypes → ℕ → Val → Value → Val
+plain_val n t mark (Own v) = owned_val n.result v
+plain_val n t mark (ToSlot i) = ref_v (at_key (slot_k t i))
+plain_val n t mark (ToObject o) = ref_v (at_object o)
+plain_val n t mark (Held m) = mark
 
-abbrev pub slot_val : NameTypes → Marks → ℕ → ℕ → Option PlainLife → Val
-slot_val n marks t i (Some (runs pc slots temps made let_go)) = plain_val n t (ref_v (marks t i)) (nth_value slots i)
-slot_val n marks t i l = gone_v
+abbrev pub slot_val : NameTypes → Marks → ℕ → ℕ → Option CodeRunning → Val
+slot_val n marks t i (Some r) = plain_val n t (ref_v (marks t i)) (nth_value r.slots i)
+slot_val n marks t i None = gone_v
 
-abbrev pub temp_val : NameTypes → ℕ → ℕ → Option PlainLife → Val
-temp_val n t i (Some (runs pc slots temps made let_go)) = plain_val n t gone_v (nth_value temps i)
-temp_val n t i l = gone_v
+abbrev pub temp_val : NameTypes → ℕ → ℕ → Option CodeRunning → Val
+temp_val n t i (Some r) = plain_val n t gone_v (nth_value r.place.temps i)
+temp_val n t i None = gone_v
 
 abbrev pub result_val : NameTypes → Option PlainLife → Val
-result_val n (Some (ended v)) = owned_val n.result v
+result_val n (Some (ended (Own v))) = owned_val n.result v
 result_val n l = gone_v
 
 abbrev pub plain_or_gone : NameTypes → Option Plain → Val
 plain_or_gone n None = gone_v
 plain_or_gone n (Some v) = owned_val n.result v
 
-abbrev pub content_val : NameTypes → Option PlainMutex → Val
+abbrev pub content_val : NameTypes → Option Shared → Val
 content_val n None = gone_v
 content_val n (Some m) = plain_or_gone n m.content
 
-abbrev pub key_val : NameTypes → Marks → PlainState → Key → Val
-key_val n marks a (slot_k t i) = slot_val n marks t i (a.thread t)
-key_val n marks a (temp_k t i) = temp_val n t i (a.thread t)
+abbrev pub key_val : NameTypes → Marks → CodeState → Key → Val
+key_val n marks a (slot_k t i) = slot_val n marks t i (place_in (a.thread t))
+key_val n marks a (temp_k t i) = temp_val n t i (place_in (a.thread t))
 key_val n marks a (content_k h c) = content_val n (a.mutex (record { home = h; count = c }))
 key_val n marks a (result_k t) = result_val n (a.thread t)
 key_val n marks a (hand_k t) = gone_v
 
 -- what stands in the state: slots, temporary values, contents that are in, results, and objects
-abbrev pub store_of : NameTypes → Marks → PlainState → Store
+abbrev pub store_of : NameTypes → Marks → CodeState → Store
 store_of n marks a = record { at = key_val n marks a; heap = λ o. seen_cell n.result (a.object o) }
 
 -- WHERE REFERENCES LEAD
@@ -113,7 +118,7 @@ IsThread true key rank hand e exact s k = Asleep key rank hand e exact k
 IsThread false key rank hand e exact s k = ThreadTyped key rank hand e exact s k
 
 -- a thread that isn't over: the environment and the types that typing gives at its instruction type its slots and temporary values
-pub record RunningTyped (table : Table) (exact : KeyTypes) (rank : Key → ℕ) (s : Store) (t pc : ℕ) (slots temps : List PlainValue) : Type 0 where
+pub record RunningTyped (table : Table) (exact : KeyTypes) (rank : Key → ℕ) (s : Store) (t pc : ℕ) (slots temps : List Value) : Type 0 where
   pub entry : Entry
   pub at : slice_get table pc ≡ Some entry
   pub keys : ThreadKeys (slot_k t) rank (hand_key t entry.temps)
@@ -128,12 +133,12 @@ pub record RunningTyped (table : Table) (exact : KeyTypes) (rank : Key → ℕ) 
 
 -- the state is typed. The exact types stand below the environments: each reference names there the one place that it leads to, and no variable is
 -- named by two mutable references. Ranks order the keys
-pub record StateTypes (table : Table) (n : NameTypes) (marks : Marks) (exact : KeyTypes) (rank : Key → ℕ) (a : PlainState) : Type 0 where
+pub record StateTypes (table : Table) (n : NameTypes) (marks : Marks) (exact : KeyTypes) (rank : Key → ℕ) (a : CodeState) : Type 0 where
   pub typed : Typed rank exact (store_of n marks a)
-  pub threads : (t pc made : ℕ) (slots temps : List PlainValue) (let_go : Bool) → a.thread t ≡ Some (runs pc slots temps made let_go) → RunningTyped table exact rank (store_of n marks a) t pc slots temps
+  pub threads : (t : ℕ) (r : CodeRunning) → place_in (a.thread t) ≡ Some r → RunningTyped table exact rank (store_of n marks a) t r.place.pc r.slots r.place.temps
   -- a result is whole, of its thread's type
-  pub results : (t : ℕ) (v : Plain) → a.thread t ≡ Some (ended v) → exact (result_k t) ≡ owns (tree_of (n.result t))
+  pub results : (t : ℕ) (v : Plain) → a.thread t ≡ Some (ended (Own v)) → exact (result_k t) ≡ owns (tree_of (n.result t))
   -- and a content that is in, of its mutex's type
-  pub contents : (m : MutexNo) (x : PlainMutex) (v : Plain) → a.mutex m ≡ Some x → x.content ≡ Some v → exact (content_k m.home m.count) ≡ owns (tree_of (n.mutex m))
+  pub contents : (m : MutexNo) (x : Shared) (v : Plain) → a.mutex m ≡ Some x → x.content ≡ Some v → exact (content_k m.home m.count) ≡ owns (tree_of (n.mutex m))
   -- where a mark leads stands a value of its mutex
-  pub marked : (t pc made : ℕ) (slots temps : List PlainValue) (let_go : Bool) → a.thread t ≡ Some (runs pc slots temps made let_go) → (i : ℕ) (m : MutexNo) → nth_value slots i ≡ held m → value_at (store_of n marks a) (marks t i) ≡ Some (mutex_v m)
+  pub marked : (t : ℕ) (r : CodeRunning) → place_in (a.thread t) ≡ Some r → (i : ℕ) (m : MutexNo) → nth_value r.slots i ≡ Held m → value_at (store_of n marks a) (marks t i) ≡ Some (mutex_v m)
