@@ -6,3 +6,4 @@ pub mod Threads
 pub mod Wholes
 pub mod Codes
 pub mod Typed
+pub mod Chains

@@ -77,7 +77,7 @@ module _ (code : List Instr) where
 
     at_life : {l : Life} {c : CodeLife} → LivesAlike (StandsAt code) l c → IsTypedIn y.gives y.high y.types (seen_all y.gives s) t slots l → IsAt c p → Goal
     at_life (both_alive {p = r} {q = q} h) z at = at_place r z.0 q h z.1 at
-    at_life (both_owing {p = r} {q = q} h) z at = at_place r (own (y.gives t)) q h z at
+    at_life (both_owing {p = r} {q = q} h) z at = at_place r (own (y.gives.result t)) q h z at
     at_life (both_loose {p = r} {q = q} h) z at = at_place r z.0 q h z.1 at
     at_life both_ended z at = absurd at
     at_life both_over z at = absurd at

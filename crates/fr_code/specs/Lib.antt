@@ -4,3 +4,6 @@ pub mod Machine
 pub mod Laws
 pub mod Examples
 pub mod TypedCode
+pub mod CodeTypes
+pub mod Joins
+pub mod CodeTable

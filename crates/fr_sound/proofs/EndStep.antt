@@ -60,17 +60,17 @@ ends_over {s = s} y x a h found z types left none owed moves =
     }
 
 -- a thread whose task somebody has ends, and its result is kept
-pub ends_kept : {s : Whole} {o : Option Kind} (y : AreTyped s) (x : Thread) (r : Run) (v : Value) (h : Option Value) → thread_at s.threads x.number ≡ Some x → x.life ≡ owing r → Holds (beside_of y.gives y.types s.threads) [] o h (state_of s x) → Operand o h v (own (y.gives x.number))
+pub ends_kept : {s : Whole} {o : Option Kind} (y : AreTyped s) (x : Thread) (r : Run) (v : Value) (h : Option Value) → thread_at s.threads x.number ≡ Some x → x.life ≡ owing r → Holds (beside_of y.gives y.types s.threads) [] o h (state_of s x) → Operand o h v (own (y.gives.result x.number))
     → life_move x.life ≡ alone ended (do_finish v) → StepsOn s x.number fresh.None
 ends_kept {s = s} {o = o} y x r v h found life z p moves =
     let g = y.gives in
     let t = x.number in
     let b = beside_of g y.types s.threads in
     let st = state_of s x in
-    let z1 : Holds b [] (Some (own (g t))) (Some v) st = at_hand z p in
+    let z1 : Holds b [] (Some (own (g.result t))) (Some v) st = at_hand z p in
     let hand = hand_k t in
     let res = result_k t in
-    let tree = tree_of (g t) in
+    let tree = tree_of (g.result t) in
     let s1 = seen b st (Some v) in
     let before : (seen_all g s).at res ≡ gone_v = result_before g s x found over ∙ ap (λ l. hand_of g t (result_of_life l)) life in
     let hole_there : z1.types res ≡ owns hole = z1.beside.others res (λ f. cc) ∙ gone_is_hole (rank_of y.high) y.types (seen_all g s) res y.typed before in
@@ -109,9 +109,9 @@ ends_kept {s = s} {o = o} y x r v h found life z p moves =
     some_number : (a b : ℕ) → Some a ≡ Some b → a ≡ b
     some_number a b e = cc
 
-    kept_type : (k : Key) (n : ℕ) → thread_of k ≡ Some n → n ≢ x.number → (E : KeyTypes) → (thread_of k ≢ Some x.number → E k ≡ y.types k) → with_type (with_type E (hand_k x.number) (owns hole)) (result_k x.number) (owns (tree_of (y.gives x.number))) k ≡ y.types k
+    kept_type : (k : Key) (n : ℕ) → thread_of k ≡ Some n → n ≢ x.number → (E : KeyTypes) → (thread_of k ≢ Some x.number → E k ≡ y.types k) → with_type (with_type E (hand_k x.number) (owns hole)) (result_k x.number) (owns (tree_of (y.gives.result x.number))) k ≡ y.types k
     kept_type k n e ne E others =
-        key_other k (result_k x.number) (owns (tree_of (y.gives x.number))) (with_type E (hand_k x.number) (owns hole) k) (λ f. let z : None ≡ Some n = ap thread_of (sym f) ∙ e in cc)
+        key_other k (result_k x.number) (owns (tree_of (y.gives.result x.number))) (with_type E (hand_k x.number) (owns hole) k) (λ f. let z : None ≡ Some n = ap thread_of (sym f) ∙ e in cc)
         ∙ key_other k (hand_k x.number) (owns hole) (E k) (λ f. ne (some_number n x.number (sym e ∙ ap thread_of f))) ∙ others (λ f. ne (some_number n x.number (sym e ∙ f)))
 
     still_owed : (u : ℕ) → owed_in s.threads u ≡ true → owed_in (with_thread s.threads (with_life x (ended v))) u ≡ true

@@ -30,16 +30,16 @@ use Rattle.fr_sound.proofs.OwnStep.{Wraps}
 
 -- thread u gives a result of that type
 abbrev pub with_gives : Gives → ℕ → Owned → Gives
-with_gives g u o = λ t. if t == u then o else g t
+with_gives g u o = record g { result = λ t. if t == u then o else g.result t }
 
-pub gives_there : (g : Gives) (u : ℕ) (o : Owned) → with_gives g u o u ≡ o
-gives_there g u o = eq_cases (λ b. (if b then o else g u) ≡ o) u u (λ _. refl) (λ ne. absurd (ne refl))
+pub gives_there : (g : Gives) (u : ℕ) (o : Owned) → (with_gives g u o).result u ≡ o
+gives_there g u o = eq_cases (λ b. (if b then o else g.result u) ≡ o) u u (λ _. refl) (λ ne. absurd (ne refl))
 
-pub gives_other : (g : Gives) (u : ℕ) (o : Owned) (t : ℕ) → t ≢ u → with_gives g u o t ≡ g t
-gives_other g u o t ne = eq_cases (λ b. (if b then o else g t) ≡ g t) t u (λ e. absurd (ne e)) (λ _. refl)
+pub gives_other : (g : Gives) (u : ℕ) (o : Owned) (t : ℕ) → t ≢ u → (with_gives g u o).result t ≡ g.result t
+gives_other g u o t ne = eq_cases (λ b. (if b then o else g.result t) ≡ g.result t) t u (λ e. absurd (ne e)) (λ _. refl)
 
 -- a life is typed with the same type for its thread
-pub types_same : (g g2 : Gives) (t : ℕ) (l : Life) (e : Env) (o : Option Kind) → g2 t ≡ g t → TypesLife g t l e o → TypesLife g2 t l e o
+pub types_same : (g g2 : Gives) (t : ℕ) (l : Life) (e : Env) (o : Option Kind) → g2.result t ≡ g.result t → TypesLife g t l e o → TypesLife g2 t l e o
 types_same g g2 t (alive r) e o same types = types
 types_same g g2 t over e o same types = tt
 types_same g g2 t (owing r) e o same types = subst (λ (q : Owned). RunTypes threads e o r (own q) []) (sym same) types
@@ -58,7 +58,7 @@ module _ (g : Gives) (u : ℕ) (o : Owned) where
   owned_same (plain.Int n) f = refl
   owned_same (plain.Box q) f = refl
   owned_same (plain.Mutex m) f = refl
-  owned_same (plain.Task t) f = ⊎_elim (λ (e : t ≡ u). absurd (f (tree_of (g t)) (ap (λ n. task_v n (tree_of (g t))) e))) (λ (ne : t ≢ u). ap (λ q. task_v t (tree_of q)) (gives_other g u o t ne)) (decide_number t u)
+  owned_same (plain.Task t) f = ⊎_elim (λ (e : t ≡ u). absurd (f (tree_of (g.result t)) (ap (λ n. task_v n (tree_of (g.result t))) e))) (λ (ne : t ≢ u). ap (λ q. task_v t (tree_of q)) (gives_other g u o t ne)) (decide_number t u)
 
   value_same : (t : ℕ) (v : Value) → NotIts (val_of g t v) → val_of (with_gives g u o) t v ≡ val_of g t v
   value_same t (Own p) f = owned_same p f
@@ -128,7 +128,7 @@ given_known {s = s} y u o new = known_alike (IsKnown (owed_in s.threads) s.heap)
 pub given_each : {s : Whole} (y : AreTyped s) (u : ℕ) (o : Owned) → thread_at s.threads u ≡ None → (t : ℕ) (x : Thread) → thread_at s.threads t ≡ Some x → IsTypedIn (with_gives y.gives u o) y.high y.types (seen_all (with_gives y.gives u o) s) t x.slots x.life
 given_each {s = s} y u o new t x found = by x.life (y.each t x found)
   where
-    same : with_gives y.gives u o t ≡ y.gives t
+    same : (with_gives y.gives u o).result t ≡ y.gives.result t
     same = gives_other y.gives u o t (λ e. let f : None ≡ Some x = sym new ∙ ap (thread_at s.threads) (sym e) ∙ found in cc)
 
     by : (l : Life) → IsTypedIn y.gives y.high y.types (seen_all y.gives s) t x.slots l → IsTypedIn (with_gives y.gives u o) y.high y.types (seen_all (with_gives y.gives u o) s) t x.slots l

@@ -211,7 +211,7 @@ drop_no_box zero v f ne = refl
 drop_no_box (suc n) gone_v f ne = refl
 drop_no_box (suc n) unit_v f ne = refl
 drop_no_box (suc n) (int_v z) f ne = refl
-drop_no_box (suc n) (mutex_v z) f ne = refl
+drop_no_box (suc n) (mutex_v z r) f ne = refl
 drop_no_box (suc n) (task_v z r) f ne = refl
 drop_no_box (suc n) (ref_v z) f ne = refl
 drop_no_box (suc n) (box_v o) f ne = absurd (ne o refl)
@@ -253,7 +253,7 @@ known_grown owed h h2 s grows k = known_more (IsKnown owed h) (IsKnown owed h2) 
     by unit_v p = tt
     by (int_v n) p = tt
     by (box_v o) p = let g = grows o.thread in omega (arith, p, g)
-    by (mutex_v m) p = tt
+    by (mutex_v m r) p = tt
     by (task_v t r) p = p
     by (ref_v l) p = tt
 
@@ -284,7 +284,7 @@ drop_freed g t n k s h v u one at same ends e =
     let x = task_in_is h v u e in
     let owned : val_of g t v ≡ owned_val g x.0 = ap (val_of g t) x.1 in
     let rest : drop_rest n (owned_val g x.0) s.heap ≡ gone_v = ap (λ z. drop_rest n z s.heap) (sym owned) ∙ ends in
-    drop_frees n k s u (tree_of (g u)) one
+    drop_frees n k s u (tree_of (g.result u)) one
     (ap (λ z. drop_last n z s.heap) (at ∙ owned) ∙ lasts_agree g n (live h) h x.0 s.heap u same rest (omega arith) x.2)
     (ap (λ z. drop_rest n z s.heap) at ∙ ends)
 

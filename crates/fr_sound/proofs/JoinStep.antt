@@ -42,7 +42,7 @@ use Rattle.fr_store.proofs.Rows.{top_fits}
 -- a thread x whose task of thread w is at hand, and w, which has ended with the value v2
 module _ {s : Whole} (y : AreTyped s) (x : Thread) (found : thread_at s.threads x.number ≡ Some x) (none : result_of_life x.life ≡ None) (e : Env) (o : Owned) (v : Value)
     (z : Holds (beside_of y.gives y.types s.threads) e (Some (own (task o))) (Some v) (state_of s x)) (w : Thread) (found_w : thread_at s.threads w.number ≡ Some w) (v2 : Value) (life_w : w.life ≡ ended v2)
-    (value : val_of y.gives x.number v ≡ task_v w.number (tree_of o)) (tree_w : tree_of (y.gives w.number) ≡ tree_of o) where
+    (value : val_of y.gives x.number v ≡ task_v w.number (tree_of o)) (tree_w : tree_of (y.gives.result w.number) ≡ tree_of o) where
   abbrev g : Gives
   g = y.gives
 

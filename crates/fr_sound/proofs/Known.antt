@@ -132,7 +132,7 @@ drop_once (suc n) h s one = by (s.at h) (λ o. drop_once n h (unbox s h o) (unbo
     by gone_v go = put_once s (at_key h) gone_v (λ t r e. cc) one
     by unit_v go = put_once s (at_key h) gone_v (λ t r e. cc) one
     by (int_v z) go = put_once s (at_key h) gone_v (λ t r e. cc) one
-    by (mutex_v z) go = put_once s (at_key h) gone_v (λ t r e. cc) one
+    by (mutex_v z r) go = put_once s (at_key h) gone_v (λ t r e. cc) one
     by (task_v z r) go = put_once s (at_key h) gone_v (λ t r e. cc) one
     by (ref_v z) go = put_once s (at_key h) gone_v (λ t r e. cc) one
 
@@ -159,7 +159,7 @@ drop_frees (suc n) h s t r one ends none = by (s.at h) refl ends none (λ o. dro
     by gone_v e f g go = cc
     by unit_v e f g go = cc
     by (int_v z) e f g go = cc
-    by (mutex_v z) e f g go = cc
+    by (mutex_v z r) e f g go = cc
     by (ref_v z) e f g go = cc
 
 module _ (P : Val → Type 0) (none : P gone_v) where
@@ -219,7 +219,7 @@ module _ (P : Val → Type 0) (none : P gone_v) where
           by gone_v go = each_put s (at_key h) gone_v each none
           by unit_v go = each_put s (at_key h) gone_v each none
           by (int_v z) go = each_put s (at_key h) gone_v each none
-          by (mutex_v z) go = each_put s (at_key h) gone_v each none
+          by (mutex_v z r) go = each_put s (at_key h) gone_v each none
           by (task_v z r) go = each_put s (at_key h) gone_v each none
           by (ref_v z) go = each_put s (at_key h) gone_v each none
 

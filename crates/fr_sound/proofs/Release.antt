@@ -44,7 +44,7 @@ known_fewer f g h s t none more k = record { each = λ l v e. by l v e (k.each l
     by l unit_v e p = tt
     by l (int_v n) e p = tt
     by l (box_v o) e p = p
-    by l (mutex_v m) e p = tt
+    by l (mutex_v m r) e p = tt
     by l (task_v u r) e p = more u (λ same. none l r (e ∙ ap (λ z. Some (task_v z r)) same)) p
     by l (ref_v m) e p = tt
 
@@ -60,7 +60,7 @@ drop_other (suc n) k j s ne = by (s.at k) (λ o. drop_other n k j (unbox s k o) 
     by gone_v g = key_other j k gone_v (s.at j) ne
     by unit_v g = key_other j k gone_v (s.at j) ne
     by (int_v m) g = key_other j k gone_v (s.at j) ne
-    by (mutex_v m) g = key_other j k gone_v (s.at j) ne
+    by (mutex_v m r) g = key_other j k gone_v (s.at j) ne
     by (task_v m r) g = key_other j k gone_v (s.at j) ne
     by (ref_v m) g = key_other j k gone_v (s.at j) ne
 
@@ -74,7 +74,7 @@ drop_heap (suc n) k s q = by (s.at k) (λ o. drop_heap n k (unbox s k o) q)
     by gone_v g = refl
     by unit_v g = refl
     by (int_v m) g = refl
-    by (mutex_v m) g = refl
+    by (mutex_v m r) g = refl
     by (task_v m r) g = refl
     by (ref_v m) g = refl
 
@@ -145,7 +145,7 @@ owing_goes {s = s} y x r found life none =
       local = y.local;
       known = known_fewer (owed_in s.threads) (owed_in s2.threads) s.heap (seen_all y.gives s2) x.number (none_alike x.number (seen_all y.gives s) (seen_all y.gives s2) none alike) (λ u ne f. owed_life y.gives s x found (loose r) u ne ∙ f) known;
       kept = λ k v e ne. refl;
-      mine = λ w is. subst (λ (q : Thread). IsTypedIn y.gives y.high y.types (seen_all y.gives s2) x.number q.slots q.life) (some_thread (with_life x (loose r)) w (sym (found_life y.gives s x found (loose r)) ∙ is)) (own (y.gives x.number), running);
+      mine = λ w is. subst (λ (q : Thread). IsTypedIn y.gives y.high y.types (seen_all y.gives s2) x.number q.slots q.life) (some_thread (with_life x (loose r)) w (sym (found_life y.gives s x found (loose r)) ∙ is)) (own (y.gives.result x.number), running);
       others = λ u w ne is. inl (sym (kept_life y.gives s x found (loose r) u ne) ∙ is, refl);
     })
   where
@@ -155,10 +155,10 @@ owing_goes {s = s} y x r found life none =
     some_thread : (a b : Thread) → Some a ≡ Some b → a ≡ b
     some_thread a b e = cc
 
-    before : IsRunning y.gives y.high y.types (seen_all y.gives s) x.number x.slots r (own (y.gives x.number))
+    before : IsRunning y.gives y.high y.types (seen_all y.gives s) x.number x.slots r (own (y.gives.result x.number))
     before = subst (IsTypedIn y.gives y.high y.types (seen_all y.gives s) x.number x.slots) life (y.each x.number x found)
 
-    running : IsRunning y.gives y.high y.types (seen_all y.gives s3) x.number x.slots r (own (y.gives x.number))
+    running : IsRunning y.gives y.high y.types (seen_all y.gives s3) x.number x.slots r (own (y.gives.result x.number))
     running = record {
       env = before.env;
       temp = before.temp;
@@ -179,7 +179,7 @@ ended_goes {s = s} y x v found life none =
     let s2 : Whole = record s { threads = with_thread s.threads (with_life x over); heap = without s.heap v } in
     let k = result_k x.number in
     let all = seen_all g s in
-    let tree = tree_of (g x.number) in
+    let tree = tree_of (g.result x.number) in
     let n = tree_depth tree in
     let hv = val_of g x.number v in
     let at : all.at k ≡ hv = result_before g s x found over ∙ ap (λ l. hand_of g x.number (result_of_life l)) life in

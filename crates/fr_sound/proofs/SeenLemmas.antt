@@ -243,7 +243,7 @@ drops_agree g (suc n) m h (plain.Box o) f same ends le = by (λ k w left r l. dr
     by go (Some w) e (suc m) le = λ x. there go w m e le x ∙ ap (λ c. heap_of g (then_drop c h (drop_links m (with_cell h o None))) x) (sym e)
 
 -- the task that the plain machine drops last is the one that the store drops last
-pub lasts_agree : (g : Gives) (n m : ℕ) (h : Heap) (v : Plain) (f : ObjNo → Option Val) (u : ℕ) → SameHeap f (heap_of g h) → drop_rest n (owned_val g v) f ≡ gone_v → live h ≤ m → last_link m h v ≡ plain.Task u → drop_last n (owned_val g v) f ≡ task_v u (tree_of (g u))
+pub lasts_agree : (g : Gives) (n m : ℕ) (h : Heap) (v : Plain) (f : ObjNo → Option Val) (u : ℕ) → SameHeap f (heap_of g h) → drop_rest n (owned_val g v) f ≡ gone_v → live h ≤ m → last_link m h v ≡ plain.Task u → drop_last n (owned_val g v) f ≡ task_v u (tree_of (g.result u))
 lasts_agree g n zero h plain.Nothing f u same ends le e = cc
 lasts_agree g n (suc m) h plain.Nothing f u same ends le e = cc
 lasts_agree g n zero h plain.Unit f u same ends le e = cc
@@ -253,15 +253,15 @@ lasts_agree g n (suc m) h (plain.Int z) f u same ends le e = cc
 lasts_agree g n zero h (plain.Mutex z) f u same ends le e = cc
 lasts_agree g n (suc m) h (plain.Mutex z) f u same ends le e = cc
 lasts_agree g zero m h (plain.Task z) f u same ends le e = cc
-lasts_agree g (suc n) zero h (plain.Task z) f u same ends le e = let i : z ≡ u = cc in ap (λ t. task_v t (tree_of (g t))) i
-lasts_agree g (suc n) (suc m) h (plain.Task z) f u same ends le e = let i : z ≡ u = cc in ap (λ t. task_v t (tree_of (g t))) i
+lasts_agree g (suc n) zero h (plain.Task z) f u same ends le e = let i : z ≡ u = cc in ap (λ t. task_v t (tree_of (g.result t))) i
+lasts_agree g (suc n) (suc m) h (plain.Task z) f u same ends le e = let i : z ≡ u = cc in ap (λ t. task_v t (tree_of (g.result t))) i
 lasts_agree g zero m h (plain.Box o) f u same ends le e = cc
 lasts_agree g (suc n) zero h (plain.Box o) f u same ends le e = cc
 lasts_agree g (suc n) (suc m) h (plain.Box o) f u same ends le e = by (cell_at h o) refl e (λ w k r l. lasts_agree g n m (with_cell h o None) w (without_object f o) u k r l)
   where
     by : (c : Option Plain) → cell_at h o ≡ c → then_link c (last_link m (with_cell h o None)) ≡ plain.Task u
-        → ((w : Plain) → SameHeap (without_object f o) (heap_of g (with_cell h o None)) → drop_rest n (owned_val g w) (without_object f o) ≡ gone_v → live (with_cell h o None) ≤ m → last_link m (with_cell h o None) w ≡ plain.Task u → drop_last n (owned_val g w) (without_object f o) ≡ task_v u (tree_of (g u)))
-        → drop_last n (or_gone (f o)) (without_object f o) ≡ task_v u (tree_of (g u))
+        → ((w : Plain) → SameHeap (without_object f o) (heap_of g (with_cell h o None)) → drop_rest n (owned_val g w) (without_object f o) ≡ gone_v → live (with_cell h o None) ≤ m → last_link m (with_cell h o None) w ≡ plain.Task u → drop_last n (owned_val g w) (without_object f o) ≡ task_v u (tree_of (g.result u)))
+        → drop_last n (or_gone (f o)) (without_object f o) ≡ task_v u (tree_of (g.result u))
     by None c k go = cc
     by (Some w) c k go =
         let fo : f o ≡ Some (owned_val g w) = same o ∙ ap (seen_cell g) c in

@@ -79,7 +79,7 @@ lengths (c_move {e = e} {i = i} {x = x} name m r) = let l = lengths r in let a =
 
 -- thread x starts thread u with these captures and this term, whose result has the type that is given for u
 module _ {s : Whole} (y : AreTyped s) (x : Thread) (found : thread_at s.threads x.number ≡ Some x) (none : result_of_life x.life ≡ None) (e e2 n : Env) (o : Owned) (cs : List Capture) (body : Run)
-    (z : Holds (beside_of y.gives y.types s.threads) e None None (state_of s x)) (u : ℕ) (new : thread_at s.threads u ≡ None) (gives : y.gives u ≡ o) (captures : RunCaptures e [] cs e2 n) (body_types : RunTypes threads n None body (own o) []) where
+    (z : Holds (beside_of y.gives y.types s.threads) e None None (state_of s x)) (u : ℕ) (new : thread_at s.threads u ≡ None) (gives : y.gives.result u ≡ o) (captures : RunCaptures e [] cs e2 n) (body_types : RunTypes threads n None body (own o) []) where
   abbrev g : Gives
   g = y.gives
 
@@ -290,7 +290,7 @@ module _ {s : Whole} (y : AreTyped s) (x : Thread) (found : thread_at s.threads 
   each_other q w nt is (inl f) =
       let l = (lengths captures).1 in
       let same : child ≡ w = some_thread (sym found_u ∙ ap (thread_at ts) (sym f) ∙ is) in
-      let running : IsRunning y.gives (y.high + high) tasked.env s2 u over_there.passed.new (settle body) (own (y.gives u)) = record {
+      let running : IsRunning y.gives (y.high + high) tasked.env s2 u over_there.passed.new (settle body) (own (y.gives.result u)) = record {
         env = n;
         temp = None;
         types = settle_types body (subst (λ (c : Owned). RunTypes threads n None body (own c) []) (sym gives) body_types);
@@ -298,7 +298,7 @@ module _ {s : Whole} (y : AreTyped s) (x : Thread) (found : thread_at s.threads 
         long = over_there.typed.long2;
         low = omega (arith, l);
       } in
-      subst (λ (c : Thread). IsTypedIn y.gives (y.high + high) tasked.env s2 q c.slots c.life) same (subst (λ (a : ℕ). IsRunning y.gives (y.high + high) tasked.env s2 a over_there.passed.new (settle body) (own (y.gives a))) (sym f) running)
+      subst (λ (c : Thread). IsTypedIn y.gives (y.high + high) tasked.env s2 q c.slots c.life) same (subst (λ (a : ℕ). IsRunning y.gives (y.high + high) tasked.env s2 a over_there.passed.new (settle body) (own (y.gives.result a))) (sym f) running)
     where
       some_thread : {a b : Thread} → Some a ≡ Some b → a ≡ b
       some_thread h = cc

@@ -34,7 +34,7 @@ empty = record { at = λ _. gone_v; heap = λ _. None }
 
 module _ (r : Run) (none : held (settle r) ≡ None) where
   abbrev g : Gives
-  g = λ t. unit
+  g = record { result = λ t. unit; mutex = λ m. unit }
 
   abbrev main : Thread
   main = record { number = 0; life = alive (settle r); slots = [] }

@@ -76,11 +76,11 @@ own_names (a_leave p) = (refl, λ s t. refl)
 -- TASKS AT HAND
 
 -- a value that is seen as a task is one
-task_is : (g : Gives) (t : ℕ) (v : Value) (n : ℕ) (r : Tree) → val_of g t v ≡ task_v n r → (v ≡ Own (plain.Task n)) × (tree_of (g n) ≡ r)
+task_is : (g : Gives) (t : ℕ) (v : Value) (n : ℕ) (r : Tree) → val_of g t v ≡ task_v n r → (v ≡ Own (plain.Task n)) × (tree_of (g.result n) ≡ r)
 task_is g t (Own (plain.Task m)) n r e =
     let same : m ≡ n = cc in
-    let tree : tree_of (g m) ≡ r = cc in
-    (ap (λ q. Own (plain.Task q)) same, ap (λ q. tree_of (g q)) (sym same) ∙ tree)
+    let tree : tree_of (g.result m) ≡ r = cc in
+    (ap (λ q. Own (plain.Task q)) same, ap (λ q. tree_of (g.result q)) (sym same) ∙ tree)
 task_is g t (Own plain.Nothing) n r e = cc
 task_is g t (Own plain.Unit) n r e = cc
 task_is g t (Own (plain.Int z)) n r e = cc
@@ -96,7 +96,7 @@ pub record Tasked {s : Whole} (y : AreTyped s) (x : Thread) (o : Owned) (v : Val
   pub found : thread_at s.threads other.number ≡ Some other
   pub is : v ≡ Own (plain.Task other.number)
   pub value : val_of y.gives x.number v ≡ task_v other.number (tree_of o)
-  pub tree : tree_of (y.gives other.number) ≡ tree_of o
+  pub tree : tree_of (y.gives.result other.number) ≡ tree_of o
   pub owed : is_owed other.life ≡ true
 
 tasked : {s : Whole} (y : AreTyped s) (x : Thread) {e : Env} (o : Owned) (v : Value) → Holds (beside_of y.gives y.types s.threads) e (Some (own (task o))) (Some v) (state_of s x) → Tasked y x o v
@@ -107,7 +107,7 @@ tasked {s = s} y x o v z =
     let owed : owed_in s.threads n ≡ true = z.known.each (at_key (hand_k x.number)) (task_v n (tree_of o)) (ap Some (at_hand_key (beside_of y.gives y.types s.threads).at x.number (vals y.gives x.number x.slots) (val_of y.gives x.number v) (heap_of y.gives s.heap) ∙ fits.1)) in
     by n k.0 fits.1 k.1 (thread_at s.threads n) refl owed
   where
-    by : (n : ℕ) → v ≡ Own (plain.Task n) → val_of y.gives x.number v ≡ task_v n (tree_of o) → tree_of (y.gives n) ≡ tree_of o → (w : Option Thread) → thread_at s.threads n ≡ w → owed_by w ≡ true → Tasked y x o v
+    by : (n : ℕ) → v ≡ Own (plain.Task n) → val_of y.gives x.number v ≡ task_v n (tree_of o) → tree_of (y.gives.result n) ≡ tree_of o → (w : Option Thread) → thread_at s.threads n ≡ w → owed_by w ≡ true → Tasked y x o v
     by n is value tree None e owed = cc
     by n is value tree (Some w) e owed =
         let same = number_of s.threads n w e in
@@ -116,7 +116,7 @@ tasked {s = s} y x o v z =
           found = ap (thread_at s.threads) same ∙ e;
           is = is ∙ ap (λ q. Own (plain.Task q)) (sym same);
           value = value ∙ ap (λ q. task_v q (tree_of o)) (sym same);
-          tree = ap (λ q. tree_of (y.gives q)) same ∙ tree;
+          tree = ap (λ q. tree_of (y.gives.result q)) same ∙ tree;
           owed = owed;
         }
 
@@ -206,7 +206,7 @@ loose_wraps g t k l r e = record {
   types_then = λ f o q types. (k, types);
 }
 
-owing_wraps : (g : Gives) (t : ℕ) (l : Life) (r : Run) → l ≡ owing r → Wraps g t (own (g t)) l r owing
+owing_wraps : (g : Gives) (t : ℕ) (l : Life) (r : Run) → l ≡ owing r → Wraps g t (own (g.result t)) l r owing
 owing_wraps g t l r e = record {
   held_now = ap held_life e;
   result_now = ap result_of_life e;
@@ -250,7 +250,7 @@ thread_steps {s = s} y x names found free = by x.life refl (y.each x.number x fo
         subst (StepsOn s x.number) (sym (unnamed (do_leave v) (λ u. over) moves refl f.1)) (ends_over y x (do_leave v) h found q (a_leave p) (λ w. refl) (ap result_of_life e) (ap is_owed e) moves))
     by (owing r) e z =
         let f = goes_on (ap is_over e) in
-        run_steps y x found (own (y.gives x.number)) r owing (owing_wraps y.gives x.number x.life r e) names z f.0 f.1
+        run_steps y x found (own (y.gives.result x.number)) r owing (owing_wraps y.gives x.number x.life r e) names z f.0 f.1
         (λ o h v p q n.
         let moves : life_move x.life ≡ alone ended (do_finish v) = ap life_move e ∙ value_is (now r) v (λ w. alone ended (do_finish w)) (next owing (move r)) n in
         subst (StepsOn s x.number) (sym (unnamed (do_finish v) ended moves refl f.1)) (ends_kept y x r v h found e q p moves))
@@ -319,6 +319,6 @@ waits_for_living_lem s y t u x found waits = by x.life refl (y.each x.number x f
     by (loose r) e z =
         going_if s x (now r) x.life (wait.Join u) (λ q. over) do_leave (next loose (move r)) (λ v. refl) (ap life_move e) waits (λ g. waits_living y x u found2 z.0 r loose (loose_wraps y.gives x.number z.0 x.life r e) z.1 waits g)
     by (owing r) e z =
-        going_if s x (now r) x.life (wait.Join u) ended do_finish (next owing (move r)) (λ v. refl) (ap life_move e) waits (λ g. waits_living y x u found2 (own (y.gives x.number)) r owing (owing_wraps y.gives x.number x.life r e) z waits g)
+        going_if s x (now r) x.life (wait.Join u) ended do_finish (next owing (move r)) (λ v. refl) (ap life_move e) waits (λ g. waits_living y x u found2 (own (y.gives.result x.number)) r owing (owing_wraps y.gives x.number x.life r e) z waits g)
     by over e z = no_move (ap life_move e)
     by (ended v) e z = no_move (ap life_move e)

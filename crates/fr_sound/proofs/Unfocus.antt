@@ -29,7 +29,7 @@ use Rattle.fr_sound.proofs.Focus.{with_same, with_other, beside_of, other_thread
 abbrev pub TypesLife : Gives → ℕ → Life → Env → Option Kind → Type 0
 TypesLife g t (alive r) e o = (k : Kind) × RunTypes threads e o r k []
 TypesLife g t over e o = ⊤
-TypesLife g t (owing r) e o = RunTypes threads e o r (own (g t)) []
+TypesLife g t (owing r) e o = RunTypes threads e o r (own (g.result t)) []
 TypesLife g t (loose r) e o = (k : Kind) × RunTypes threads e o r k []
 TypesLife g t (ended v) e o = ⊥
 
@@ -84,7 +84,7 @@ known_owed f g h s more k = known_more (IsKnown f h) (IsKnown g h) s by k
     by unit_v p = tt
     by (int_v n) p = tt
     by (box_v o) p = p
-    by (mutex_v m) p = tt
+    by (mutex_v m r) p = tt
     by (task_v t r) p = more t p
     by (ref_v l) p = tt
 

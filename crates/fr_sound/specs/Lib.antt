@@ -1,5 +1,7 @@
 pub mod RunTypes
 pub mod Seen
+pub mod Entries
+pub mod States
 pub mod NeverStuck
 pub mod Example
 pub mod Together

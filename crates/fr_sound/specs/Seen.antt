@@ -4,6 +4,7 @@ use Rattle.std.specs.Prelude.{◌≡◌, ◌≢◌, ℕ, ◌<◌, ◌≤◌, ⊤
 use Rattle.fr_base.specs.declared.label.Plain.{Plain}
 use Rattle.fr_base.specs.declared.label.Plain.TheVariants as plain
 use Rattle.fr_base.specs.declared.name.ObjNo.{ObjNo}
+use Rattle.fr_base.specs.declared.name.MutexNo.{MutexNo}
 use Rattle.fr_typing.specs.Kinds.{Owned, unit, Kind}
 use Rattle.fr_typing.specs.Places.{Env}
 use Rattle.fr_store.specs.Keys.{Key, slot_k, hand_k}
@@ -18,11 +19,12 @@ use Rattle.fr_plain.specs.declared.value.Value.TheVariants.{Own, ToSlot, ToObjec
 use Rattle.fr_plain.specs.Heap.{Heap, made_by, cell_at}
 use Rattle.fr_plain.specs.State.{State, Spot, in_slot, in_cell}
 
--- the type of each thread's result
-abbrev pub Gives : Type 0
-Gives = ℕ → Owned
+-- the type of each thread's result, whether it has ended or not, and of each mutex's content, wherever that stands
+pub record Gives : Type 0 where
+  pub result : ℕ → Owned
+  pub mutex : MutexNo → Owned
 
--- what a thread's state stands beside: the types of results, the threads whose tasks are there, and what stands at other
+-- what a thread's state stands beside: the types of results and contents, the threads whose tasks are there, and what stands at other
 -- threads' keys, with its exact types
 pub record Beside : Type 0 where
   pub gives : Gives
@@ -32,15 +34,15 @@ pub record Beside : Type 0 where
 
 -- a thread that runs alone: there is no task
 abbrev pub lone : Beside
-lone = record { gives = λ t. unit; owed = λ t. false; at = nothing; types = λ k. owns hole }
+lone = record { gives = record { result = λ t. unit; mutex = λ m. unit }; owed = λ t. false; at = nothing; types = λ k. owns hole }
 
 abbrev pub owned_val : Gives → Plain → Val
 owned_val g plain.Nothing = gone_v
 owned_val g plain.Unit = unit_v
 owned_val g (plain.Int n) = int_v n
 owned_val g (plain.Box o) = box_v o
-owned_val g (plain.Mutex m) = mutex_v m
-owned_val g (plain.Task t) = task_v t (tree_of (g t))
+owned_val g (plain.Mutex m) = mutex_v m (tree_of (g.mutex m))
+owned_val g (plain.Task t) = task_v t (tree_of (g.result t))
 
 -- a value of that thread
 abbrev pub val_of : Gives → ℕ → Value → Val

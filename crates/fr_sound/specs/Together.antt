@@ -89,9 +89,9 @@ pub record IsRunning (g : Gives) (high : ℕ) (E : KeyTypes) (s : Store) (t : �
 abbrev pub IsTypedIn : Gives → ℕ → KeyTypes → Store → ℕ → List Value → Life → Type 0
 IsTypedIn g high E s t slots (alive r) = (k : Kind) × IsRunning g high E s t slots r k
 IsTypedIn g high E s t slots over = ⊤
-IsTypedIn g high E s t slots (owing r) = IsRunning g high E s t slots r (own (g t))
+IsTypedIn g high E s t slots (owing r) = IsRunning g high E s t slots r (own (g.result t))
 IsTypedIn g high E s t slots (loose r) = (k : Kind) × IsRunning g high E s t slots r k
-IsTypedIn g high E s t slots (ended v) = E (result_k t) ≡ owns (tree_of (g t))
+IsTypedIn g high E s t slots (ended v) = E (result_k t) ≡ owns (tree_of (g.result t))
 
 -- no mutex was made, and no thread waits for a pair: the forms that run today make none
 abbrev pub HasNeither : Whole → Type 0

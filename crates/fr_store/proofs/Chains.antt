@@ -26,7 +26,7 @@ inside_some (Some (box_v o)) l e = let f : at_object o ≡ l = cc in (o, refl, s
 inside_some (Some gone_v) l e = absurd cc
 inside_some (Some unit_v) l e = absurd cc
 inside_some (Some (int_v n)) l e = absurd cc
-inside_some (Some (mutex_v n)) l e = absurd cc
+inside_some (Some (mutex_v n r)) l e = absurd cc
 inside_some (Some (task_v n g)) l e = absurd cc
 inside_some (Some (ref_v n)) l e = absurd cc
 

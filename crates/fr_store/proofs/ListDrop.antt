@@ -31,7 +31,7 @@ drop_alike (suc n) k s s2 f =
     by gone_v g = put_alike s s2 k gone_v f
     by unit_v g = put_alike s s2 k gone_v f
     by (int_v m) g = put_alike s s2 k gone_v f
-    by (mutex_v m) g = put_alike s s2 k gone_v f
+    by (mutex_v m r) g = put_alike s s2 k gone_v f
     by (task_v m u) g = put_alike s s2 k gone_v f
     by (ref_v m) g = put_alike s s2 k gone_v f
 
@@ -45,7 +45,7 @@ drop_at (suc n) k s = by (s.at k) (λ o. drop_at n k (unbox s k o))
     by gone_v g = key_same k gone_v (s.at k)
     by unit_v g = key_same k gone_v (s.at k)
     by (int_v m) g = key_same k gone_v (s.at k)
-    by (mutex_v m) g = key_same k gone_v (s.at k)
+    by (mutex_v m r) g = key_same k gone_v (s.at k)
     by (task_v m u) g = key_same k gone_v (s.at k)
     by (ref_v m) g = key_same k gone_v (s.at k)
 
@@ -61,7 +61,7 @@ drop_enough (suc n) (suc m) (box_v o) h e le = drop_enough n m (or_gone (h o)) (
 drop_enough (suc n) (suc m) gone_v h e le = (refl, refl)
 drop_enough (suc n) (suc m) unit_v h e le = (refl, refl)
 drop_enough (suc n) (suc m) (int_v x) h e le = (refl, refl)
-drop_enough (suc n) (suc m) (mutex_v x) h e le = (refl, refl)
+drop_enough (suc n) (suc m) (mutex_v x r) h e le = (refl, refl)
 drop_enough (suc n) (suc m) (task_v x u) h e le = (refl, refl)
 drop_enough (suc n) (suc m) (ref_v x) h e le = (refl, refl)
 
@@ -93,7 +93,7 @@ list_drop (suc n) rest t vs v h =
     by gone_v g = list_put_hand rest t vs v h gone_v
     by unit_v g = list_put_hand rest t vs v h gone_v
     by (int_v m) g = list_put_hand rest t vs v h gone_v
-    by (mutex_v m) g = list_put_hand rest t vs v h gone_v
+    by (mutex_v m r) g = list_put_hand rest t vs v h gone_v
     by (task_v m u) g = list_put_hand rest t vs v h gone_v
     by (ref_v m) g = list_put_hand rest t vs v h gone_v
 
@@ -142,7 +142,7 @@ list_drop_slot (suc n) rest t vs v h m lt =
     by gone_v g = list_put_slot rest t vs v h m gone_v lt
     by unit_v g = list_put_slot rest t vs v h m gone_v lt
     by (int_v z) g = list_put_slot rest t vs v h m gone_v lt
-    by (mutex_v z) g = list_put_slot rest t vs v h m gone_v lt
+    by (mutex_v z r) g = list_put_slot rest t vs v h m gone_v lt
     by (task_v z u) g = list_put_slot rest t vs v h m gone_v lt
     by (ref_v z) g = list_put_slot rest t vs v h m gone_v lt
 

@@ -263,7 +263,7 @@ drop_hand rank E s a t (suc n) ty fa ea le = by (λ E1 s1 t x f e l. drop_hand r
     by rest hole ea le f = flat gone_v refl f
     by rest unit_tree ea le f = flat unit_v refl f
     by rest int_tree ea le f = flat (int_v f.0) refl f.1
-    by rest (mutex_tree t) ea le f = flat (mutex_v f.0) refl f.1
+    by rest (mutex_tree t) ea le f = flat (mutex_v f.0 t) refl f.1
     by rest (task_tree t) ea le f = flat (task_v f.0 t) refl f.1
     by rest (box_tree t) ea le f =
         let st = ty.stands a 1 (owns t) (ap (exact_under 1) ea) in
@@ -289,7 +289,7 @@ sole rank E s w b n i p j l ty free r js at = by (E j) refl
         not_ref hole f = let g : ref_v l ≡ gone_v = sym js ∙ f in cc
         not_ref unit_tree f = let g : ref_v l ≡ unit_v = sym js ∙ f in cc
         not_ref int_tree f = let g : ref_v l ≡ int_v f.0 = sym js ∙ f.1 in cc
-        not_ref (mutex_tree t) f = let g : ref_v l ≡ mutex_v f.0 = sym js ∙ f.1 in cc
+        not_ref (mutex_tree t) f = let g : ref_v l ≡ mutex_v f.0 t = sym js ∙ f.1 in cc
         not_ref (task_tree t) f = let g : ref_v l ≡ task_v f.0 t = sym js ∙ f.1 in cc
         not_ref (box_tree t) f = let g : ref_v l ≡ box_v f.0 = sym js ∙ f.1 in cc
     by (refers m u) e =

@@ -11,13 +11,13 @@ pub data Location : Type 0 where
   at_object : (o : ObjNo) → Location
 
 -- a value (Featherweight Rust; mutexes and tasks are this project's). Gone is what a value leaves that has moved away; a
--- task tells the tree of the result that its thread will have
+-- value of a mutex tells the tree of its content, and a task that of the result that its thread will have
 pub data Val : Type 0 where
   gone_v : Val
   unit_v : Val
   int_v : (n : ℤ) → Val
   box_v : (o : ObjNo) → Val
-  mutex_v : (m : MutexNo) → Val
+  mutex_v : (m : MutexNo) (content : Tree) → Val
   task_v : (t : ℕ) (result : Tree) → Val
   ref_v : (l : Location) → Val
 

@@ -72,7 +72,7 @@ abbrev pub TopFits : Tree → Val → Type 0
 TopFits hole v = v ≡ gone_v
 TopFits unit_tree v = v ≡ unit_v
 TopFits int_tree v = (n : ℤ) × (v ≡ int_v n)
-TopFits (mutex_tree t) v = (m : MutexNo) × (v ≡ mutex_v m)
+TopFits (mutex_tree t) v = (m : MutexNo) × (v ≡ mutex_v m t)
 TopFits (task_tree t) v = (m : ℕ) × (v ≡ task_v m t)
 TopFits (box_tree t) v = (o : ObjNo) × (v ≡ box_v o)
 

@@ -1,39 +1,42 @@
 -- The boxed code after two events has types.
-use Rattle.std.proofs.Common.{◌≡◌, ◌≤◌, ◌⊎◌, inl, inr, ◌∙◌, ◌&&◌, if◌then◌else◌, pos, ℕ, zero, suc, ◌==◌, ◌%◌, ◌/◌, ◌^◌, true, false, Bool, List, [], ◌∷◌, Option, Some, None, refl, sym, ap, subst, arith}
+use Rattle.std.proofs.Common.{◌≡◌, ◌<◌, ◌≤◌, ◌⊎◌, inl, inr, ◌∙◌, ◌&&◌, if◌then◌else◌, pos, ℕ, zero, suc, ◌==◌, ◌%◌, ◌/◌, ◌^◌, true, false, List, [], ◌∷◌, Option, Some, None, refl, sym, ap, subst, arith}
 use Rattle.fr_base.specs.declared.name.ObjNo.{ObjNo}
 use Rattle.fr_base.specs.declared.name.MutexNo.{MutexNo}
 use Rattle.fr_base.specs.declared.label.Plain.{Plain}
 use Rattle.fr_base.specs.declared.label.Plain.TheVariants as plain
-use Rattle.fr_typing.specs.Kinds.{unit, int}
+use Rattle.fr_typing.specs.Kinds.{Owned, unit, int}
 use Rattle.fr_store.specs.Keys.{Key, slot_k, temp_k, content_k, result_k, hand_k}
-use Rattle.fr_store.specs.Store.{Val, Location, at_key, at_object, box_v, int_v, ref_v, gone_v, mutex_v, Store, value_at}
+use Rattle.fr_store.specs.Store.{Val, Location, at_key, at_object, box_v, int_v, ref_v, gone_v, mutex_v, task_v, Store, value_at}
 use Rattle.fr_store.specs.Typed.{Tree, hole, int_tree, box_tree, Exact, owns, KeyTypes, exact_under, Stands, Typed}
-use Rattle.fr_store.specs.Below.{tree_of}
 use Rattle.server_model.specs.Figures.{run, steps_of}
 use Rattle.heap_law.specs.Sight.{sight}
 use Rattle.heap_law.specs.Clusters.{options, boxed_code}
-use Rattle.fr_plain.specs.declared.value.Value.TheVariants.{Own, Held}
-use Rattle.fr_plain.specs.MachineThreads.{ended}
+use Rattle.fr_plain.specs.MachineThreads.{alive}
 use Rattle.fr_plain.specs.PlainState.{place_in}
+use Rattle.fr_plain.specs.declared.value.Value.{Value}
+use Rattle.fr_plain.specs.declared.value.Value.TheVariants.{Own, Held}
+use Rattle.fr_plain.specs.State.{slot_at}
+use Rattle.fr_code.specs.Steps.{Place as CodePlace}
 use Rattle.fr_code.specs.Machine.{CodeRunning}
+use Rattle.fr_sound.specs.Seen.{Gives}
+use Rattle.fr_sound.specs.States.{Typing, store_of, RunningTyped, part_at, is_reference, is_hidden, is_held, env_at, IsLower}
 use Rattle.heap_law.specs.OneHeap.{one_heap, is_given_thread}
-use Rattle.type_law.specs.CodeTypes.{going}
-use Rattle.type_law.specs.Names.{NameTypes}
-use Rattle.type_law.specs.States.{Marks, store_of, RunningTyped, StateTypes, nth_value, part_at, is_reference, IsLower}
-use Rattle.type_law.specs.ClusterTypes.{Types}
+use Rattle.fr_code.specs.CodeTypes.{going}
+use Rattle.type_law.specs.ClusterTypes.{KnownAt, CodeStateTypes, Types}
 use Rattle.type_law.specs.Codes.{boxed_table, box_slot}
 use Rattle.type_law.specs.Typed.{boxed_cluster, cluster_of}
 use Rattle.type_law.proofs.Codes.{boxed_is_typed}
-use Rattle.type_law.proofs.Numbers.{suc_zero, zero_suc, none_counted, along, not_there}
+use Rattle.type_law.proofs.Numbers.{object_is, suc_zero, zero_suc, none_counted}
+use Rattle.type_law.proofs.Alone.{each, none_ended, none_owed, no_pairs}
 
 abbrev the_object : ObjNo
 the_object = record { thread = 0; count = 0 }
 
-abbrev names : NameTypes
-names = record { object = λ o. int; mutex = λ m. unit; result = λ t. unit }
+abbrev objects : ObjNo → Owned
+objects = λ o. int
 
-abbrev marks : Marks
-marks t i = at_key (hand_k 0)
+abbrev gives : Gives
+gives = record { mutex = λ m. unit; result = λ t. unit }
 
 -- the trees of all keys: main's first slot has a box
 abbrev tree : Key → Tree
@@ -48,8 +51,14 @@ rank (slot_k t i) = i
 rank (temp_k t i) = 1
 rank k = 0
 
+abbrev typing : Typing
+typing = record { gives = gives; exact = exact; rank = rank; marks = λ t i. at_key (hand_k 0); order = λ t. 0 }
+
+abbrev temps : CodePlace → List Value
+temps p = p.temps
+
 abbrev store : Store
-store = store_of names marks (one_heap boxed_cluster)
+store = store_of temps typing (one_heap boxed_cluster)
 
 not_given : (t : ℕ) → is_given_thread (sight boxed_cluster) (suc t) ≡ false
 not_given t = rw (suc_zero t) (none_counted (0 == suc t / 2 ^ 32) (suc t % 2 ^ 32))
@@ -136,10 +145,61 @@ above_one : (i : ℕ) → 1 ≤ i → exact (slot_k 0 i) ≡ owns hole
 above_one zero l = absurd (omega (arith, l))
 above_one (suc i) l = rw (suc_zero i) refl
 
-main_typed : RunningTyped boxed_table exact rank store 0 2 (Own (plain.Box the_object) ∷ []) []
+-- WHAT STANDS SOMEWHERE
+
+abbrev Small : Val → Type 0
+Small v = (v ≡ gone_v) ⊎ ((v ≡ int_v (pos 1)) ⊎ (v ≡ box_v the_object))
+
+key_small : (k : Key) → IsFirst k → Small (store.at k)
+key_small k (inl q) = subst (λ j. Small (store.at j)) (sym q) (inr (inr refl))
+key_small k (inr q) = inl q.1
+
+object_small : (c : Option Val) (v : Val) → (c ≡ Some (int_v (pos 1))) ⊎ (c ≡ None) → c ≡ Some v → Small v
+object_small c v (inl f) e = let g : Some (int_v (pos 1)) ≡ Some v = sym f ∙ e in inr (inl cc)
+object_small c v (inr f) e = let g : None ≡ Some v = sym f ∙ e in absurd cc
+
+small : (l : Location) (v : Val) → value_at store l ≡ Some v → Small v
+small (at_key k) v e = subst Small (same_val e) (key_small k (first_or_gone k))
+small (at_object q) v e = object_small (store.heap q) v (object_int q.thread q.count) e
+
+no_mutex : (m : MutexNo) (r : Tree) → Small (mutex_v m r) → ⊥
+no_mutex m r (inl e) = absurd cc
+no_mutex m r (inr (inl e)) = absurd cc
+no_mutex m r (inr (inr e)) = absurd cc
+
+no_task : (t : ℕ) (r : Tree) → Small (task_v t r) → ⊥
+no_task t r (inl e) = absurd cc
+no_task t r (inr (inl e)) = absurd cc
+no_task t r (inr (inr e)) = absurd cc
+
+-- MAIN
+
+abbrev main_slots : List Value
+main_slots = Own (plain.Box the_object) ∷ []
+
+abbrev main : CodeRunning
+main = record { place = record { pc = 2; temps = [] }; slots = main_slots }
+
+main_runs : (one_heap boxed_cluster).thread 0 ≡ Some (alive main)
+main_runs = refl
+
+main_hidden : (i : ℕ) → is_hidden (env_at (box_slot ∷ []) i) ≡ is_held (slot_at main_slots i)
+main_hidden zero = refl
+main_hidden (suc i) = rw (suc_zero i) refl
+
+unmarked : (i : ℕ) (m : MutexNo) → slot_at main_slots i ≡ Some (Held m) → ⊥
+unmarked zero m e = absurd cc
+unmarked (suc i) m e = let f = suc_zero i in absurd cc
+
+no_pair : (t : ℕ) → (one_heap boxed_cluster).pair t ≡ None
+no_pair zero = refl
+no_pair (suc t) = rw (zero_suc t) refl
+
+main_typed : RunningTyped (KnownAt boxed_table) temps typing store 0 None main
 main_typed = record {
   entry = going (box_slot ∷ []) [] unit;
-  at = refl;
+  known = refl;
+  gives = refl;
   keys = record { differ = λ x y e. cc; off = λ i e. absurd cc; ranks = λ i j l. l };
   thread = record {
     typed = boxed_typed;
@@ -156,36 +216,58 @@ main_typed = record {
   all_slots = refl;
   all_temps = refl;
   lower = no_reference;
+  forks = refl;
+  hidden = main_hidden;
+  marked = λ i m e. absurd (unmarked i m e);
 }
 
-each_thread : (t : ℕ) (r : CodeRunning) → place_in ((one_heap boxed_cluster).thread t) ≡ Some r → RunningTyped boxed_table exact rank store t r.place.pc r.slots r.place.temps
-each_thread zero r e = along (λ q. RunningTyped boxed_table exact rank store 0 q.place.pc q.slots q.place.temps) e main_typed
-each_thread (suc t) r e = absurd (not_there (others t) e)
+-- THE STATE
 
-no_result : (t : ℕ) (v : Plain) → (one_heap boxed_cluster).thread t ≡ Some (ended (Own v)) → exact (result_k t) ≡ owns (tree_of unit)
-no_result zero v e = absurd cc
-no_result (suc t) v e = let f = others t in absurd cc
+no_second : (c : ℕ) → (one_heap boxed_cluster).object (record { thread = 0; count = suc c }) ≡ None
+no_second c = rw (zero_suc c) refl
 
-not_held : (i : ℕ) (m : MutexNo) → nth_value (Own (plain.Box the_object) ∷ []) i ≡ Held m → value_at store (marks 0 i) ≡ Some (mutex_v m)
-not_held zero m e = absurd cc
-not_held (suc i) m e = let f = suc_zero i in absurd cc
+no_later : (t c : ℕ) → (one_heap boxed_cluster).object (record { thread = suc t; count = c }) ≡ None
+no_later t c = rw (zero_suc t) refl
 
-no_mark : (t : ℕ) (r : CodeRunning) → place_in ((one_heap boxed_cluster).thread t) ≡ Some r → (i : ℕ) (m : MutexNo) → nth_value r.slots i ≡ Held m → value_at store (marks t i) ≡ Some (mutex_v m)
-no_mark zero r e = along (λ q. (i : ℕ) (m : MutexNo) → nth_value q.slots i ≡ Held m → value_at store (marks 0 i) ≡ Some (mutex_v m)) e (λ i m f. not_held i m f)
-no_mark (suc t) r e = absurd (not_there (others t) e)
+-- each object is main's box's
+object_owned : (t c : ℕ) (v : Plain) → (one_heap boxed_cluster).object (record { thread = t; count = c }) ≡ Some v → (t ≡ 0) × (c ≡ 0)
+object_owned zero zero v e = (refl, refl)
+object_owned zero (suc c) v e = let f : None ≡ Some v = sym (no_second c) ∙ e in absurd cc
+object_owned (suc t) c v e = let f : None ≡ Some v = sym (no_later t c) ∙ e in absurd cc
 
-boxed_state : StateTypes boxed_table names marks exact rank (one_heap boxed_cluster)
-boxed_state = record { typed = boxed_typed; threads = each_thread; results = no_result; contents = λ m x v e f. absurd cc; marked = no_mark }
+owned : (o : ObjNo) (v : Plain) → (one_heap boxed_cluster).object o ≡ Some v → (l : Location) × (value_at store l ≡ Some (box_v o))
+owned o v e =
+    let h = object_owned o.thread o.count v e in
+    let same : the_object ≡ o = object_is o 0 0 h.0 h.1 in
+    (at_key (slot_k 0 0), ap (λ q. Some (box_v q)) same)
+
+made : (o : ObjNo) (v : Plain) (x : CodeRunning) → (one_heap boxed_cluster).object o ≡ Some v → place_in ((one_heap boxed_cluster).thread o.thread) ≡ Some x → o.count < (one_heap boxed_cluster).made o.thread
+made o v x e f =
+    let h = object_owned o.thread o.count v e in
+    subst (λ t. o.count < (one_heap boxed_cluster).made t) (sym h.0) (subst (λ c. c < 1) (sym h.1) (omega arith))
+
+boxed_state : CodeStateTypes boxed_table typing (one_heap boxed_cluster)
+boxed_state = record {
+  typed = boxed_typed;
+  threads = each (one_heap boxed_cluster) main main_runs others (λ t x. RunningTyped (KnownAt boxed_table) temps typing store t ((one_heap boxed_cluster).pair t) x) main_typed;
+  results = λ t v e. absurd (none_ended (one_heap boxed_cluster) main main_runs others t v e);
+  near = λ k m u e. absurd cc;
+  pairs = λ p b c e. no_pairs (one_heap boxed_cluster) main main_runs others no_pair typing p b c e;
+  there = λ l m h. absurd (no_mutex m h.0 (small l (mutex_v m h.0) h.1));
+  mutexes = λ m x e. absurd cc;
+  one_task = λ l m t q r e f. absurd (no_task t q (small l (task_v t q) e));
+  tasks_owed = λ l t r e. absurd (no_task t r (small l (task_v t r) e));
+  owed_stand = λ t h. absurd (none_owed (one_heap boxed_cluster) main main_runs others t h);
+  objects_owned = owned;
+  objects_made = made;
+}
 
 pub boxed_has_types : Types boxed_cluster
 boxed_has_types = record {
   table = boxed_table;
   is_table = boxed_is_typed;
-  names = names;
-  exact = exact;
-  rank = rank;
-  marks = marks;
-  order = λ t. 0;
+  object = objects;
+  typing = typing;
   state = boxed_state;
   agree = refl;
   forms = refl;

@@ -1,5 +1,6 @@
 mod Codes
 mod Numbers
+mod Alone
 mod Start
 mod Boxed
 mod Tables

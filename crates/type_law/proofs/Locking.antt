@@ -1,72 +1,72 @@
 -- The cluster in which main holds a mutex has types.
 use Rattle.std.proofs.Common.{◌≡◌, ◌≢◌, ◌<◌, ◌≤◌, ◌⊎◌, inl, inr, ◌∙◌, ◌==◌, ◌/◌, ◌%◌, ◌^◌, ◌++◌, pos, ℕ, zero, suc, true, false, Bool, List, [], ◌∷◌, Option, Some, None, refl, sym, ap, subst, arith}
+use Rattle.std.specs.Prelude.{slice_get}
 use Rattle.std.proofs.lemmas.Bool.Decides.{nat_tests}
 use Rattle.fr_base.specs.declared.name.ObjNo.{ObjNo}
 use Rattle.fr_base.specs.declared.name.MutexNo.{MutexNo}
-use Rattle.fr_base.specs.declared.label.Plain.{Plain}
 use Rattle.fr_base.specs.declared.label.Plain.TheVariants as plain
-use Rattle.fr_typing.specs.Kinds.{unit, int}
+use Rattle.fr_typing.specs.Kinds.{Owned, unit, int}
 use Rattle.fr_store.specs.Keys.{Key, slot_k, temp_k, content_k, result_k, hand_k}
-use Rattle.fr_store.specs.Store.{Val, Location, at_key, at_object, box_v, int_v, ref_v, gone_v, mutex_v, Store, value_at, Place}
-use Rattle.fr_store.specs.Typed.{hole, int_tree, mutex_tree, Exact, owns, refers, KeyTypes, exact_under, here, Stands, Typed}
-use Rattle.fr_store.specs.Below.{tree_of}
+use Rattle.fr_store.specs.Store.{Val, Location, at_key, at_object, box_v, int_v, ref_v, gone_v, mutex_v, task_v, Store, value_at, Place}
+use Rattle.fr_store.specs.Typed.{Tree, hole, int_tree, mutex_tree, Exact, owns, refers, KeyTypes, exact_under, here, Stands, Typed}
 use Rattle.server_model.specs.Figures.{run, steps_of, deliver}
 use Rattle.server_model.specs.Programs.{with_servers, locked_twice}
 use Rattle.heap_law.specs.Clusters.{place, the_mutex}
 use Rattle.heap_law.specs.Sight.{sight}
+use Rattle.fr_plain.specs.MachineThreads.{alive}
+use Rattle.fr_plain.specs.PlainState.{place_in}
 use Rattle.fr_plain.specs.declared.value.Value.{Value}
 use Rattle.fr_plain.specs.declared.value.Value.TheVariants.{Own, Held}
-use Rattle.fr_plain.specs.MachineThreads.{ended, Shared}
-use Rattle.fr_plain.specs.PlainState.{place_in}
+use Rattle.fr_plain.specs.State.{slot_at}
+use Rattle.fr_plain.specs.MachineThreads.{Shared}
+use Rattle.fr_code.specs.Steps.{Place as CodePlace}
 use Rattle.fr_code.specs.Machine.{CodeRunning}
+use Rattle.fr_sound.specs.Seen.{Gives}
+use Rattle.fr_sound.specs.States.{Typing, store_of, content_val, RunningTyped, part_at, is_reference, is_hidden, is_held, env_at, IsLower, IsLock, IsShare, IsMark, IsNear, MutexTyped}
 use Rattle.heap_law.specs.OneHeap.{one_heap, is_given_thread}
-use Rattle.type_law.specs.CodeTypes.{going, takes_const, takes_unit, takes_pop, i_mutex, i_let, i_lock, i_copy, i_print, i_unlock, i_drop}
-use Rattle.type_law.specs.CodeTable.{leads, ends, IsTable}
-use Rattle.type_law.specs.Names.{NameTypes}
-use Rattle.type_law.specs.States.{Marks, store_of, content_val, RunningTyped, StateTypes, nth_value, part_at, is_reference, IsLower}
-use Rattle.type_law.specs.ClusterTypes.{Types}
+use Rattle.fr_code.specs.CodeTypes.{going, takes_const, takes_unit, takes_pop, i_mutex, i_let, i_lock, i_copy, i_print, i_unlock, i_drop}
+use Rattle.fr_code.specs.CodeTable.{IsTable}
+use Rattle.fr_code.proofs.Chains.{leads, stops, chained}
+use Rattle.type_law.specs.ClusterTypes.{KnownAt, CodeStateTypes, Types}
 use Rattle.type_law.specs.Tables.{x_name, r_name, c_name}
 use Rattle.type_law.specs.Typed.{cluster_of}
-use Rattle.type_law.specs.Locking.{once_locked, twice_table, locking_cluster, LockHasTypes}
-use Rattle.type_law.proofs.Numbers.{suc_zero, zero_suc, none_counted, along, not_there}
+use Rattle.type_law.specs.Locking.{once_locked, twice_entries, twice_table, locking_cluster, LockHasTypes}
+use Rattle.type_law.proofs.Numbers.{mutex_is, suc_zero, zero_suc, none_counted}
+use Rattle.type_law.proofs.Alone.{each, none_ended, none_owed, no_pairs}
 
 twice_typed : IsTable locked_twice twice_table
-twice_typed = record {
-  main = unit;
-  starts = refl;
-  rows = (
-    leads (i_mutex (takes_const refl) refl),
-    (
-      leads (i_let x_name (takes_pop refl) refl),
+twice_typed =
+    chained locked_twice twice_entries unit refl (
+      leads (i_mutex (takes_const refl) refl),
       (
-        leads (i_lock r_name refl (record { named = refl; is = refl }) refl refl),
+        leads (i_let x_name (takes_pop refl) refl),
         (
-          leads (i_lock c_name refl (record { named = refl; is = refl }) refl refl),
+          leads (i_lock r_name refl (record { named = refl; short = omega arith; is = refl }) refl refl),
           (
-            leads (i_copy refl (record { named = refl; is = refl }) refl refl),
+            leads (i_lock c_name refl (record { named = refl; short = omega arith; is = refl }) refl refl),
             (
-              leads (i_print (takes_pop refl)),
+              leads (i_copy refl (record { named = refl; short = omega arith; is = refl }) refl refl),
               (
-                leads (i_unlock refl),
+                leads (i_print (takes_pop refl)),
                 (
                   leads (i_unlock refl),
-                  (leads (i_drop refl refl refl), (ends (takes_unit refl), tt)),
+                  (
+                    leads (i_unlock refl),
+                    (leads (i_drop refl refl refl), (stops (takes_unit refl), tt)),
+                  ),
                 ),
               ),
             ),
           ),
         ),
       ),
-    ),
-  );
-}
+    )
 
-abbrev names : NameTypes
-names = record { object = λ o. unit; mutex = λ m. int; result = λ t. unit }
+abbrev objects : ObjNo → Owned
+objects = λ o. unit
 
--- the mutex stands in main's first slot
-abbrev marks : Marks
-marks t i = at_key (slot_k 0 0)
+abbrev gives : Gives
+gives = record { mutex = λ m. int; result = λ t. unit }
 
 abbrev mutex_place : Place
 mutex_place = record { key = slot_k 0 0; depth = 0 }
@@ -82,8 +82,15 @@ rank (slot_k t i) = i
 rank (temp_k t i) = 5
 rank k = 0
 
+-- the mutex stands in main's first slot
+abbrev typing : Typing
+typing = record { gives = gives; exact = exact; rank = rank; marks = λ t i. at_key (slot_k 0 0); order = λ t. 0 }
+
+abbrev temps : CodePlace → List Value
+temps p = p.temps
+
 abbrev store : Store
-store = store_of names marks (one_heap locking_cluster)
+store = store_of temps typing (one_heap locking_cluster)
 
 -- OTHER THREADS AND MUTEXES
 
@@ -109,18 +116,10 @@ all_out zero (suc zero) = inr refl
 all_out zero (suc (suc c)) = inl (rw (one_more c) refl)
 all_out (suc h) c = inl (rw (zero_suc h) refl)
 
-no_content : (l : Option Shared) → IsOut l → content_val names l ≡ gone_v
+no_content : (l : Option Shared) → IsOut l → content_val gives l ≡ gone_v
 unfolding IsOut
-no_content l (inl e) = ap (content_val names) e
-no_content l (inr e) = ap (content_val names) e
-
-none_in : {l : Option Shared} {x : Shared} {v : Plain} → IsOut l → l ≡ Some x → x.content ≡ Some v → ⊥
-unfolding IsOut
-none_in (inl e) f g = absurd cc
-none_in {x = x} {v = v} (inr e) f g =
-    let y : record { content = None; shares = 1 } ≡ x = cc in
-    let z : None ≡ Some v = ap (λ (w : Shared). w.content) y ∙ g in
-    absurd cc
+no_content l (inl e) = ap (content_val gives) e
+no_content l (inr e) = ap (content_val gives) e
 
 -- KEYS
 
@@ -171,7 +170,7 @@ Level k = (n : ℕ) (p : Exact) → exact_under n (exact k) ≡ Some p → Stand
 mutex_level : Level (slot_k 0 0)
 mutex_level zero p e =
     let f : owns (mutex_tree int_tree) ≡ p = cc in
-    subst (λ q. Stands exact store (at_key (slot_k 0 0)) 0 q) f (record { spot = at_key (slot_k 0 0); value = mutex_v the_mutex; leads = refl; there = refl; fits = (the_mutex, refl) })
+    subst (λ q. Stands exact store (at_key (slot_k 0 0)) 0 q) f (record { spot = at_key (slot_k 0 0); value = mutex_v the_mutex int_tree; leads = refl; there = refl; fits = (the_mutex, refl) })
 mutex_level (suc n) p e = absurd cc
 
 mark_level : Level (slot_k 0 1)
@@ -242,6 +241,12 @@ not_temp j m u e f = let g = ap (λ (w : Place). w.key) (named j m u e).0 in abs
 abbrev main_slots : List Value
 main_slots = Own (plain.Int (pos 1)) ∷ Held the_mutex ∷ Own (plain.Mutex the_mutex) ∷ []
 
+abbrev main : CodeRunning
+main = record { place = record { pc = 3; temps = [] }; slots = main_slots }
+
+main_runs : (one_heap locking_cluster).thread 0 ≡ Some (alive main)
+main_runs = refl
+
 main_above : (i : ℕ) → 3 ≤ i → exact (slot_k 0 i) ≡ owns hole
 main_above zero l = absurd (omega (arith, l))
 main_above (suc zero) l = absurd (omega (arith, l))
@@ -262,10 +267,39 @@ main_lower (suc zero) l e f =
 main_lower (suc (suc zero)) l e f = absurd (never refl e)
 main_lower (suc (suc (suc i))) l e f = absurd (never (none_above i) e)
 
-main_typed : RunningTyped twice_table exact rank store 0 3 main_slots []
+main_hidden : (i : ℕ) → is_hidden (env_at once_locked i) ≡ is_held (slot_at main_slots i)
+main_hidden zero = refl
+main_hidden (suc zero) = refl
+main_hidden (suc (suc zero)) = refl
+main_hidden (suc (suc (suc i))) = rw (over_two i, over_one i, suc_zero (suc (suc i))) refl
+
+-- the mark is in the middle
+abbrev TheMark : ℕ → MutexNo → Type 0
+TheMark i m = (i ≡ 1) × (the_mutex ≡ m)
+
+mark_at : (i : ℕ) (m : MutexNo) → slot_at main_slots i ≡ Some (Held m) → TheMark i m
+mark_at zero m e = absurd cc
+mark_at (suc zero) m e = (refl, cc)
+mark_at (suc (suc zero)) m e = absurd cc
+mark_at (suc (suc (suc i))) m e = let f = over_two i in let g = over_one i in let h = suc_zero (suc (suc i)) in absurd cc
+
+the_lock : IsLock typing store once_locked 0 1 the_mutex
+the_lock = record { leads = refl; content = refl }
+
+main_marked : (i : ℕ) (m : MutexNo) → slot_at main_slots i ≡ Some (Held m) → IsLock typing store once_locked 0 i m
+main_marked i m e =
+    let h = mark_at i m e in
+    subst (λ n. IsLock typing store once_locked 0 i n) h.1 (subst (λ j. IsLock typing store once_locked 0 j the_mutex) (sym h.0) the_lock)
+
+no_pair : (t : ℕ) → (one_heap locking_cluster).pair t ≡ None
+no_pair zero = refl
+no_pair (suc t) = rw (zero_suc t) refl
+
+main_typed : RunningTyped (KnownAt twice_table) temps typing store 0 None main
 main_typed = record {
   entry = going once_locked [] unit;
-  at = refl;
+  known = refl;
+  gives = refl;
   keys = record { differ = λ x y e. cc; off = λ i e. absurd cc; ranks = λ i j l. l };
   thread = record {
     typed = locking_typed;
@@ -282,49 +316,133 @@ main_typed = record {
   all_slots = refl;
   all_temps = refl;
   lower = main_lower;
+  forks = refl;
+  hidden = main_hidden;
+  marked = main_marked;
+}
+
+-- THE MUTEX
+
+abbrev NoTask : Key → Type 0
+NoTask k = (t : ℕ) (r : Tree) → store.at k ≡ task_v t r → ⊥
+
+no_task_by : (k : Key) → Which k → NoTask k
+no_task_by k (inl p) = subst NoTask (sym p) (λ t r e. absurd cc)
+no_task_by k (inr (inl p)) = subst NoTask (sym p) (λ t r e. absurd cc)
+no_task_by k (inr (inr (inl p))) = subst NoTask (sym p) (λ t r e. absurd cc)
+no_task_by k (inr (inr (inr q))) = λ t r e. let f = q.1 in absurd cc
+
+no_task : (l : Location) (t : ℕ) (r : Tree) → value_at store l ≡ Some (task_v t r) → ⊥
+no_task (at_key k) t r e = no_task_by k (which k) t r (same_val e)
+no_task (at_object q) t r e = absurd cc
+
+-- a value of a mutex is that in main's first slot
+abbrev TheShare : Key → Type 0
+TheShare k = (m : MutexNo) (r : Tree) → store.at k ≡ mutex_v m r → (k ≡ slot_k 0 0) × (the_mutex ≡ m)
+
+first_share : TheShare (slot_k 0 0)
+first_share m r e = (refl, cc)
+
+share_by : (k : Key) → Which k → TheShare k
+share_by k (inl p) = subst TheShare (sym p) first_share
+share_by k (inr (inl p)) = subst TheShare (sym p) (λ m r e. absurd cc)
+share_by k (inr (inr (inl p))) = subst TheShare (sym p) (λ m r e. absurd cc)
+share_by k (inr (inr (inr q))) = λ m r e. let f = q.1 in absurd cc
+
+the_share : (l : Location) (m : MutexNo) → IsShare store m l → (l ≡ at_key (slot_k 0 0)) × (the_mutex ≡ m)
+the_share (at_key k) m h = let x = share_by k (which k) m h.0 (same_val h.1) in (ap at_key x.0, x.1)
+the_share (at_object q) m h = let e = h.1 in absurd cc
+
+abbrev the_state : Shared
+the_state = record { content = None; shares = 1 }
+
+is_there : (one_heap locking_cluster).mutex the_mutex ≡ Some the_state
+is_there = refl
+
+none_after : (c : ℕ) → (one_heap locking_cluster).mutex (record { home = 0; count = suc (suc c) }) ≡ None
+none_after c = rw (one_more c) refl
+
+none_elsewhere : (h c : ℕ) → (one_heap locking_cluster).mutex (record { home = suc h; count = c }) ≡ None
+none_elsewhere h c = rw (zero_suc h) refl
+
+-- no other mutex is there
+Only : ℕ → ℕ → Type 0
+Only h c = (x : Shared) → (one_heap locking_cluster).mutex (record { home = h; count = c }) ≡ Some x → (h ≡ 0) × (c ≡ 1) × (the_state ≡ x)
+
+only_one : (h c : ℕ) → Only h c
+unfolding Only
+only_one zero zero x e = absurd cc
+only_one zero (suc zero) x e = (refl, refl, cc)
+only_one zero (suc (suc c)) x e = let f : None ≡ Some x = sym (none_after c) ∙ e in absurd cc
+only_one (suc h) c x e = let f : None ≡ Some x = sym (none_elsewhere h c) ∙ e in absurd cc
+
+only : (m : MutexNo) (x : Shared) → (one_heap locking_cluster).mutex m ≡ Some x → (the_mutex ≡ m) × (the_state ≡ x)
+unfolding Only
+only m x e = let h = only_one m.home m.count x e in (mutex_is m 0 1 h.0 h.1, h.2)
+
+abbrev places : List Location
+places = at_key (slot_k 0 0) ∷ []
+
+same_location : {l m : Location} → Some l ≡ Some m → l ≡ m
+same_location e = cc
+
+each_place : (i : ℕ) (l : Location) → slice_get places i ≡ Some l → IsShare store the_mutex l
+each_place zero l e = subst (IsShare store the_mutex) (same_location e) (int_tree, refl)
+each_place (suc i) l e = absurd cc
+
+place_once : (i j : ℕ) (l : Location) → slice_get places i ≡ Some l → slice_get places j ≡ Some l → i ≡ j
+place_once zero zero l e f = refl
+place_once zero (suc j) l e f = absurd cc
+place_once (suc i) j l e f = absurd cc
+
+-- main alone holds it
+only_mark : (t i : ℕ) → IsMark (one_heap locking_cluster) the_mutex t i → (t ≡ 0) × (i ≡ 1)
+only_mark t i h = by t h.thread h.goes_on h.mark
+  where
+    by : (t : ℕ) (x : CodeRunning) → place_in ((one_heap locking_cluster).thread t) ≡ Some x → slot_at x.slots i ≡ Some (Held the_mutex) → (t ≡ 0) × (i ≡ 1)
+    by t x e = each (one_heap locking_cluster) main main_runs others (λ u z. slot_at z.slots i ≡ Some (Held the_mutex) → (u ≡ 0) × (i ≡ 1)) (λ f. (refl, (mark_at i the_mutex f).0)) t x e
+
+mutex_typed : MutexTyped typing (one_heap locking_cluster) store the_mutex the_state
+mutex_typed = record {
+  given = refl;
+  shares = record { places = places; each = each_place; all = λ l h. (0, ap Some (sym (the_share l the_mutex h).0)); once = place_once; count = refl };
+  needed = omega arith;
+  out = λ e. record { thread = 0; slot = 1; is = record { thread = main; goes_on = refl; mark = refl }; only = only_mark };
+  unheld = λ v e. absurd cc;
+  content = λ v e. absurd cc;
 }
 
 -- THE STATE
 
-each_thread : (t : ℕ) (r : CodeRunning) → place_in ((one_heap locking_cluster).thread t) ≡ Some r → RunningTyped twice_table exact rank store t r.place.pc r.slots r.place.temps
-each_thread zero r e = along (λ q. RunningTyped twice_table exact rank store 0 q.place.pc q.slots q.place.temps) e main_typed
-each_thread (suc t) r e = absurd (not_there (others t) e)
+near_by : (k : Key) (m : Bool) (u : Place) → exact k ≡ refers m u → IsNear (one_heap locking_cluster) k u
+near_by k m u e =
+    let x = named k m u e in
+    subst (λ w. IsNear (one_heap locking_cluster) k w) x.0 (subst (λ j. IsNear (one_heap locking_cluster) j mutex_place) (sym x.2) (record { thread = 0; of = refl; owner = 0; slot = 0; is = refl; near = inl refl }))
 
-no_result : (t : ℕ) (v : Plain) → (one_heap locking_cluster).thread t ≡ Some (ended (Own v)) → exact (result_k t) ≡ owns (tree_of unit)
-no_result zero v e = absurd cc
-no_result (suc t) v e = let f = others t in absurd cc
-
-abbrev Marked : List Value → Type 0
-Marked slots = (i : ℕ) (m : MutexNo) → nth_value slots i ≡ Held m → Some (mutex_v the_mutex) ≡ Some (mutex_v m)
-
-main_marked : Marked main_slots
-main_marked zero m e = absurd cc
-main_marked (suc zero) m e = cc
-main_marked (suc (suc zero)) m e = absurd cc
-main_marked (suc (suc (suc i))) m e = let f = over_two i in let g = over_one i in let h = suc_zero (suc (suc i)) in absurd cc
-
-marked : (t : ℕ) (r : CodeRunning) → place_in ((one_heap locking_cluster).thread t) ≡ Some r → Marked r.slots
-marked zero r e = along (λ q. Marked q.slots) e main_marked
-marked (suc t) r e = absurd (not_there (others t) e)
-
-locking_state : StateTypes twice_table names marks exact rank (one_heap locking_cluster)
+locking_state : CodeStateTypes twice_table typing (one_heap locking_cluster)
 locking_state = record {
   typed = locking_typed;
-  threads = each_thread;
-  results = no_result;
-  contents = λ m x v e f. absurd (none_in (all_out m.home m.count) e f);
-  marked = λ t r e i m f. marked t r e i m f;
+  threads = each (one_heap locking_cluster) main main_runs others (λ t x. RunningTyped (KnownAt twice_table) temps typing store t ((one_heap locking_cluster).pair t) x) main_typed;
+  results = λ t v e. absurd (none_ended (one_heap locking_cluster) main main_runs others t v e);
+  near = near_by;
+  pairs = λ p b c e. no_pairs (one_heap locking_cluster) main main_runs others no_pair typing p b c e;
+  there = λ l m h. subst (λ n. (x : Shared) × ((one_heap locking_cluster).mutex n ≡ Some x)) (the_share l m h).1 (the_state, is_there);
+  mutexes = λ m x e.
+      let h = only m x e in
+      subst (λ z. MutexTyped typing (one_heap locking_cluster) store m z) h.1 (subst (λ n. MutexTyped typing (one_heap locking_cluster) store n the_state) h.0 mutex_typed);
+  one_task = λ l m t q r e f. absurd (no_task l t q e);
+  tasks_owed = λ l t r e. absurd (no_task l t r e);
+  owed_stand = λ t h. absurd (none_owed (one_heap locking_cluster) main main_runs others t h);
+  objects_owned = λ o v e. absurd cc;
+  objects_made = λ o v x e f. absurd cc;
 }
 
 locking_has_types : Types locking_cluster
 locking_has_types = record {
   table = twice_table;
   is_table = twice_typed;
-  names = names;
-  exact = exact;
-  rank = rank;
-  marks = marks;
-  order = λ t. 0;
+  object = objects;
+  typing = typing;
   state = locking_state;
   agree = refl;
   forms = refl;

@@ -1,17 +1,29 @@
 -- Tests of numbers, and threads that were never counted.
-use Rattle.std.proofs.Common.{◌≡◌, ℕ, zero, suc, ◌==◌, ◌+◌, nat_le, not, ◌&&◌, true, false, Bool, Option, Some, None, refl, sym, ap, ◌∙◌, subst, arith}
+use Rattle.std.proofs.Common.{◌≡◌, ℕ, zero, suc, ◌==◌, ◌+◌, nat_le, not, ◌&&◌, true, false, Bool, refl, sym, ap, ◌∙◌, arith}
 use Rattle.std.proofs.lemmas.Bool.Decides.{nat_tests}
-use Rattle.fr_plain.specs.MachineThreads.{over}
-use Rattle.fr_plain.specs.PlainState.{place_in}
-use Rattle.fr_code.specs.Machine.{CodeRunning}
+use Rattle.fr_base.specs.declared.name.ObjNo.{ObjNo}
+use Rattle.fr_base.specs.declared.name.MutexNo.{MutexNo}
 use Rattle.heap_law.specs.Names.{one, some}
-use Rattle.heap_law.specs.OneHeap.{PlainLife}
 
 pub suc_zero : (n : ℕ) → (suc n == 0) ≡ false
 suc_zero n = grind (arith, nat_tests)
 
 pub zero_suc : (n : ℕ) → (0 == suc n) ≡ false
 zero_suc n = grind (arith, nat_tests)
+
+abbrev object : ℕ → ℕ → ObjNo
+object t c = record { thread = t; count = c }
+
+-- an object of those numbers
+pub object_is : (o : ObjNo) (t c : ℕ) → o.thread ≡ t → o.count ≡ c → object t c ≡ o
+object_is o t c e f = ap (λ n. object n c) (sym e) ∙ ap (object o.thread) (sym f)
+
+abbrev mutex : ℕ → ℕ → MutexNo
+mutex h c = record { home = h; count = c }
+
+-- a mutex of those numbers
+pub mutex_is : (m : MutexNo) (h c : ℕ) → m.home ≡ h → m.count ≡ c → mutex h c ≡ m
+mutex_is m h c e f = ap (λ n. mutex n c) (sym e) ∙ ap (mutex m.home) (sym f)
 
 suc_le_zero : (n : ℕ) → nat_le (suc n) 0 ≡ false
 suc_le_zero n = grind (arith, nat_tests)
@@ -24,14 +36,3 @@ none_left false = refl
 pub none_counted : (c : Bool) (n : ℕ) → (not (n == 0) && some (one (c && nat_le n 0) + 0)) ≡ false
 none_counted c zero = refl
 none_counted c (suc n) = rw (suc_zero n, suc_le_zero n) (none_left c)
-
--- what holds of a running thread holds of the same one under another name
-pub along : (P : CodeRunning → Type 0) {a b : CodeRunning} → Some a ≡ Some b → P a → P b
-along P {a = a} {b = b} e x = let p : a ≡ b = cc in subst P p x
-
--- a thread whose name was not given, or that is over, goes on nowhere
-pub not_there : {l : Option PlainLife} {r : CodeRunning} → l ≡ None → place_in l ≡ Some r → ⊥
-not_there {r = r} e f = let g : None ≡ Some r = sym (ap place_in e) ∙ f in absurd cc
-
-pub not_over : {l : Option PlainLife} {r : CodeRunning} → l ≡ Some over → place_in l ≡ Some r → ⊥
-not_over {r = r} e f = let g : None ≡ Some r = sym (ap place_in e) ∙ f in absurd cc

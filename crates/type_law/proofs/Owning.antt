@@ -1,5 +1,5 @@
 -- What an owned value names has a type of fewer levels, so none owns itself.
-use Rattle.std.proofs.Common.{◌≡◌, inl, inr, ◌<◌, ℕ, suc, ◌+◌, ◌&&◌, Bool, true, false, List, [], ◌∷◌, reverse, Option, Some, None, is_some, not, slice_get, refl, sym, ap, subst, arith}
+use Rattle.std.proofs.Common.{◌≡◌, inl, inr, ◌<◌, ℕ, suc, ◌+◌, ◌&&◌, Bool, true, false, List, [], ◌∷◌, reverse, Option, Some, None, is_some, not, refl, sym, ap, subst, arith}
 use Rattle.coloured_heap.proofs.Times.{both, number_is, object_is, mutex_is}
 use Rattle.fr_base.specs.declared.name.ObjNo.{ObjNo}
 use Rattle.fr_base.specs.declared.name.MutexNo.{MutexNo}
@@ -20,8 +20,9 @@ use Rattle.heap_law.specs.Paths.{joined_thread}
 use Rattle.heap_law.specs.Requests.{locked_mutex}
 use Rattle.heap_law.specs.Sharing.{is_over}
 use Rattle.heap_law.specs.OneHeap.{Node, object_n, mutex_n, task_n}
-use Rattle.type_law.specs.CodeTypes.{Entry, Table}
-use Rattle.type_law.specs.Names.{NameTypes, fits, fits_some, is_there, is_type, owned_part}
+use Rattle.fr_code.specs.CodeTypes.{Entry, Table}
+use Rattle.fr_sound.specs.States.{owned_part}
+use Rattle.type_law.specs.Names.{NameTypes, names_of, fits, fits_some, is_there, is_type}
 use Rattle.type_law.specs.ClusterTypes.{misfit, content_gift, result_gift, gift_misfit, has_form, slot_form, slots_wrong, temps_wrong, forms_of, forms_wrong, entry_wrong, above_mark, locked_of, locked_wrong}
 use Rattle.type_law.specs.Owning.{Among, names, IsTop, IsHeld, Stands, lying, flying, content, granted, held, result, joined, OwnsInTheEnd, directly, through, NoneOwnsItself}
 
@@ -165,9 +166,9 @@ agrees table n s a v z (joined x t u h e g) =
     let y = none_in (gift_misfit n s) x s.ground.threads z.gifts h in
     result_fits n (joined_thread (instr_of s x) x.thread) x.thread.gift t u e g (no_more (content_gift n (locked_mutex s x (instr_of s x)) x.thread.gift) (result_gift n (joined_thread (instr_of s x) x.thread) x.thread.gift) y).1
 agrees table n s a v z (held x m u h e g) =
-    let y = none_in (λ w. if_so (not (is_over w.thread.phase)) (entry_wrong (forms_of n w.thread) (slice_get table w.thread.pc))) x s.ground.threads z.forms h in
-    let l = none_in (λ w. if_so (not (is_over w.thread.phase)) (entry_wrong (λ q. locked_of n q.env (reverse w.thread.slots)) (slice_get table w.thread.pc))) x s.ground.threads z.locked h in
-    entry_fits n x.thread m u (slice_get table x.thread.pc) (still_there (is_over x.thread.phase) (entry_wrong (forms_of n x.thread) (slice_get table x.thread.pc)) e y) (still_there (is_over x.thread.phase) (entry_wrong (λ q. locked_of n q.env (reverse x.thread.slots)) (slice_get table x.thread.pc)) e l) g
+    let y = none_in (λ w. if_so (not (is_over w.thread.phase)) (entry_wrong (forms_of n w.thread) (table w.thread.pc))) x s.ground.threads z.forms h in
+    let l = none_in (λ w. if_so (not (is_over w.thread.phase)) (entry_wrong (λ q. locked_of n q.env (reverse w.thread.slots)) (table w.thread.pc))) x s.ground.threads z.locked h in
+    entry_fits n x.thread m u (table x.thread.pc) (still_there (is_over x.thread.phase) (entry_wrong (forms_of n x.thread) (table x.thread.pc)) e y) (still_there (is_over x.thread.phase) (entry_wrong (λ q. locked_of n q.env (reverse x.thread.slots)) (table x.thread.pc)) e l) g
 
 falls : (table : Table) (n : NameTypes) (s : Sight) (a b : Node) → AllFit table n s → OwnsInTheEnd s a b → level n b < level n a
 unfolding level
@@ -180,6 +181,7 @@ falls table n s a c z (through {b = b} {v = v} h e o) =
 pub none_owns_itself : NoneOwnsItself
 none_owns_itself k t a o =
     let s = sight k in
-    let y = no_more (tot (misfit t.names) s.things) (tot (gift_misfit t.names s) s.ground.threads) t.agree in
-    let f = falls t.table t.names s a a (record { things = y.0; gifts = y.1; forms = t.forms; locked = t.locked }) o in
+    let n = names_of t.object t.typing.gives in
+    let y = no_more (tot (misfit n) s.things) (tot (gift_misfit n s) s.ground.threads) t.agree in
+    let f = falls t.table n s a a (record { things = y.0; gifts = y.1; forms = t.forms; locked = t.locked }) o in
     omega (arith, f)

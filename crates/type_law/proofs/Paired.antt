@@ -5,40 +5,42 @@ use Rattle.fr_base.specs.declared.name.ObjNo.{ObjNo}
 use Rattle.fr_base.specs.declared.name.MutexNo.{MutexNo}
 use Rattle.fr_base.specs.declared.label.Plain.{Plain}
 use Rattle.fr_base.specs.declared.label.Plain.TheVariants as plain
-use Rattle.fr_typing.specs.Kinds.{unit, int, view, whole}
+use Rattle.fr_typing.specs.Kinds.{Owned, unit, int, view, whole}
 use Rattle.fr_typing.specs.Places.{Env}
 use Rattle.fr_store.specs.Keys.{Key, slot_k, temp_k, content_k, result_k, hand_k}
-use Rattle.fr_store.specs.Store.{Val, Location, at_key, at_object, box_v, int_v, ref_v, gone_v, Store, value_at, Place}
-use Rattle.fr_store.specs.Typed.{hole, int_tree, box_tree, Exact, owns, refers, KeyTypes, exact_under, here, Stands, Typed}
-use Rattle.fr_store.specs.Below.{tree_of, Seen}
+use Rattle.fr_store.specs.Store.{Val, Location, at_key, at_object, box_v, int_v, ref_v, gone_v, mutex_v, task_v, Store, value_at, Place}
+use Rattle.fr_store.specs.Typed.{Tree, hole, int_tree, box_tree, Exact, owns, refers, KeyTypes, exact_under, here, Stands, Typed}
+use Rattle.fr_store.specs.Below.{Seen}
 use Rattle.server_model.specs.Figures.{run, steps_of, deliver}
 use Rattle.server_model.specs.Programs.{with_servers, read_by_pairs}
 use Rattle.heap_law.specs.Clusters.{place}
 use Rattle.heap_law.specs.Sight.{sight}
+use Rattle.fr_plain.specs.MachineThreads.{alive, over, owing, ended}
+use Rattle.fr_plain.specs.PlainState.{place_in}
 use Rattle.fr_plain.specs.declared.value.Value.{Value}
 use Rattle.fr_plain.specs.declared.value.Value.TheVariants.{Own, ToObject, Held}
-use Rattle.fr_plain.specs.MachineThreads.{over, ended}
-use Rattle.fr_plain.specs.PlainState.{place_in}
-use Rattle.fr_code.specs.Machine.{CodeRunning}
+use Rattle.fr_plain.specs.State.{slot_at}
+use Rattle.fr_code.specs.Steps.{Place as CodePlace}
+use Rattle.fr_code.specs.Machine.{CodeRunning, CodeState}
+use Rattle.fr_sound.specs.Seen.{Gives}
+use Rattle.fr_sound.specs.States.{Typing, store_of, slot_val, temp_val, result_val, RunningTyped, env_at, part_at, is_reference, is_hidden, is_held, IsLower, by_boxes, WaitsFor, directly, IsKept, IsBranch, IsOwed, IsNear}
 use Rattle.heap_law.specs.OneHeap.{PlainLife, one_heap, is_given_thread}
-use Rattle.type_law.specs.CodeTypes.{going, forked_at}
-use Rattle.type_law.specs.Names.{NameTypes}
-use Rattle.type_law.specs.States.{Marks, store_of, slot_val, temp_val, result_val, RunningTyped, StateTypes, nth_value, part_at, is_reference, IsLower, by_boxes}
-use Rattle.type_law.specs.ClusterTypes.{Types}
+use Rattle.fr_code.specs.CodeTypes.{going, forked_at}
+use Rattle.type_law.specs.ClusterTypes.{KnownAt, CodeStateTypes, Types}
 use Rattle.type_law.specs.Tables.{r_name, slot, two_slots, pairs_table}
 use Rattle.type_law.specs.Typed.{cluster_of}
 use Rattle.type_law.specs.Paired.{paired_cluster, PairHasTypes}
 use Rattle.type_law.proofs.Tables.{pairs_typed}
-use Rattle.type_law.proofs.Numbers.{suc_zero, zero_suc, along, not_there, not_over}
+use Rattle.type_law.proofs.Numbers.{object_is, suc_zero, zero_suc}
 
 abbrev the_object : ObjNo
 the_object = record { thread = 0; count = 0 }
 
-abbrev names : NameTypes
-names = record { object = λ o. int; mutex = λ m. unit; result = λ t. unit }
+abbrev objects : ObjNo → Owned
+objects = λ o. int
 
-abbrev marks : Marks
-marks t i = at_key (hand_k 0)
+abbrev gives : Gives
+gives = record { mutex = λ m. unit; result = λ t. unit }
 
 -- all references lead to what main's first slot owns
 abbrev boxed_place : Place
@@ -57,8 +59,17 @@ rank (slot_k (suc t) i) = 2 + i
 rank (temp_k t i) = 5
 rank k = 0
 
+abbrev typing : Typing
+typing = record { gives = gives; exact = exact; rank = rank; marks = λ t i. at_key (hand_k 0); order = λ t. if t == 0 then 0 else 1 }
+
+abbrev temps : CodePlace → List Value
+temps p = p.temps
+
+abbrev state : CodeState
+state = one_heap paired_cluster
+
 abbrev store : Store
-store = store_of names marks (one_heap paired_cluster)
+store = store_of temps typing state
 
 -- OTHER THREADS
 
@@ -74,29 +85,129 @@ not_one t = grind (arith, nat_tests)
 not_two : (t : ℕ) → (2 == suc (suc (suc t))) ≡ false
 not_two t = grind (arith, nat_tests)
 
-rests : (t : ℕ) → Rests ((one_heap paired_cluster).thread (suc (suc (suc t))))
+rests : (t : ℕ) → Rests (state.thread (suc (suc (suc t))))
 rests t = by (is_given_thread (sight paired_cluster) (suc (suc (suc t)))) refl
   where
-    by : (b : Bool) → is_given_thread (sight paired_cluster) (suc (suc (suc t))) ≡ b → Rests ((one_heap paired_cluster).thread (suc (suc (suc t))))
+    by : (b : Bool) → is_given_thread (sight paired_cluster) (suc (suc (suc t))) ≡ b → Rests (state.thread (suc (suc (suc t))))
     by true e = inl (rw (e, not_zero t, not_one t, not_two t) (rw (not_one t, not_two t) refl))
     by false e = inr (rw e refl)
 
-no_slot : (t i : ℕ) (l : Option PlainLife) → Rests l → slot_val names marks t i (place_in l) ≡ gone_v
-no_slot t i l (inl e) = ap (λ z. slot_val names marks t i (place_in z)) e
-no_slot t i l (inr e) = ap (λ z. slot_val names marks t i (place_in z)) e
+no_slot : (t i : ℕ) (l : Option PlainLife) → Rests l → slot_val temps typing t i (place_in l) ≡ gone_v
+no_slot t i l (inl e) = ap (λ z. slot_val temps typing t i (place_in z)) e
+no_slot t i l (inr e) = ap (λ z. slot_val temps typing t i (place_in z)) e
 
-no_temp : (t i : ℕ) (l : Option PlainLife) → Rests l → temp_val names t i (place_in l) ≡ gone_v
-no_temp t i l (inl e) = ap (λ z. temp_val names t i (place_in z)) e
-no_temp t i l (inr e) = ap (λ z. temp_val names t i (place_in z)) e
+no_temp : (t i : ℕ) (l : Option PlainLife) → Rests l → temp_val temps typing t i (place_in l) ≡ gone_v
+no_temp t i l (inl e) = ap (λ z. temp_val temps typing t i (place_in z)) e
+no_temp t i l (inr e) = ap (λ z. temp_val temps typing t i (place_in z)) e
 
-no_kept : (l : Option PlainLife) → Rests l → result_val names l ≡ gone_v
-no_kept l (inl e) = ap (result_val names) e
-no_kept l (inr e) = ap (result_val names) e
+no_kept : (t : ℕ) (l : Option PlainLife) → Rests l → result_val temps typing t l ≡ gone_v
+no_kept t l (inl e) = ap (result_val temps typing t) e
+no_kept t l (inr e) = ap (result_val temps typing t) e
+
+-- THREADS
+
+abbrev main_slots : List Value
+main_slots = ToObject the_object ∷ Own (plain.Box the_object) ∷ []
+
+abbrev main : CodeRunning
+main = record { place = record { pc = 5; temps = [] }; slots = main_slots }
+
+abbrev branch : ℕ → CodeRunning
+branch pc = record { place = record { pc = pc; temps = [] }; slots = ToObject the_object ∷ [] }
+
+main_runs : state.thread 0 ≡ Some (alive main)
+main_runs = refl
+
+first_runs : state.thread 1 ≡ Some (owing (branch 15))
+first_runs = refl
+
+second_runs : state.thread 2 ≡ Some (owing (branch 19))
+second_runs = refl
+
+at_rest : {l : Option PlainLife} {x : CodeRunning} → Rests l → place_in l ≡ Some x → ⊥
+at_rest {x = x} (inl f) e = let g : None ≡ Some x = sym (ap place_in f) ∙ e in absurd cc
+at_rest {x = x} (inr f) e = let g : None ≡ Some x = sym (ap place_in f) ∙ e in absurd cc
+
+not_kept : {l : Option PlainLife} → Rests l → IsKept l → ⊥
+not_kept (inl f) h = subst IsKept f h
+not_kept (inr f) h = subst IsKept f h
+
+same_thread : {x z : CodeRunning} → Some x ≡ Some z → x ≡ z
+same_thread e = cc
+
+-- what holds of the three holds of each thread that goes on
+each : (Q : ℕ → CodeRunning → Type 0) → Q 0 main → Q 1 (branch 15) → Q 2 (branch 19) → (t : ℕ) (z : CodeRunning) → place_in (state.thread t) ≡ Some z → Q t z
+each Q f g h zero z e = subst (Q 0) (same_thread (sym (ap place_in main_runs) ∙ e)) f
+each Q f g h (suc zero) z e = subst (Q 1) (same_thread (sym (ap place_in first_runs) ∙ e)) g
+each Q f g h (suc (suc zero)) z e = subst (Q 2) (same_thread (sym (ap place_in second_runs) ∙ e)) h
+each Q f g h (suc (suc (suc t))) z e = absurd (at_rest (rests t) e)
+
+-- main waits for both, and nobody else waits
+waits_first : WaitsFor state 0 1
+waits_first = record { first = 1; second = 2; pair = refl; one = inl refl }
+
+waits_second : WaitsFor state 0 2
+waits_second = record { first = 1; second = 2; pair = refl; one = inr refl }
+
+same_pair : (p q : ℕ × ℕ) → Some p ≡ Some q → (p.0 ≡ q.0) × (p.1 ≡ q.1)
+same_pair p q e =
+    let f : p ≡ q = cc in
+    (ap (λ (z : ℕ × ℕ). z.0) f, ap (λ (z : ℕ × ℕ). z.1) f)
+
+abbrev IsPair : ℕ → ℕ → ℕ → Type 0
+IsPair p b c = (p ≡ 0) × (b ≡ 1) × (c ≡ 2)
+
+no_pair : {A : Type 0} (q : ℕ × ℕ) → None ≡ Some q → A
+no_pair q e = absurd cc
+
+none_pair : (p : ℕ) → state.pair (suc (suc (suc p))) ≡ None
+none_pair p = rw (not_zero p, not_one p, not_two p) refl
+
+the_pair : (p b c : ℕ) → state.pair p ≡ Some (b, c) → IsPair p b c
+the_pair zero b c e = let h = same_pair (1, 2) (b, c) e in (refl, sym h.0, sym h.1)
+the_pair (suc zero) b c e = no_pair (b, c) e
+the_pair (suc (suc zero)) b c e = no_pair (b, c) e
+the_pair (suc (suc (suc p))) b c e = no_pair (b, c) (sym (none_pair p) ∙ e)
+
+only_main : (p t : ℕ) → WaitsFor state p t → p ≡ 0
+only_main p t h = (the_pair p h.first h.second h.pair).0
+
+first_branch : IsBranch typing state 0 1
+first_branch = record { kept = tt; gives = refl; only = λ q h. only_main q 1 h; below = omega arith }
+
+second_branch : IsBranch typing state 0 2
+second_branch = record { kept = tt; gives = refl; only = λ q h. only_main q 2 h; below = omega arith }
+
+abbrev ArePaired : ℕ → ℕ → ℕ → Type 0
+ArePaired p b c = (b ≢ c) × IsBranch typing state p b × IsBranch typing state p c
+
+they_differ : ◌≢◌ {A = ℕ} 1 2
+they_differ e = omega (arith, e)
+
+paired : (p b c : ℕ) → state.pair p ≡ Some (b, c) → ArePaired p b c
+paired p b c e =
+    let h = the_pair p b c e in
+    subst (λ q. ArePaired q b c) (sym h.0) (subst (λ q. ArePaired 0 q c) (sym h.1) (subst (λ q. ArePaired 0 1 q) (sym h.2) (they_differ, first_branch, second_branch)))
+
+none_owed : (t : ℕ) → IsOwed state t → ⊥
+none_owed zero h = subst IsKept main_runs h.kept
+none_owed (suc zero) h = h.free 0 waits_first
+none_owed (suc (suc zero)) h = h.free 0 waits_second
+none_owed (suc (suc (suc t))) h = not_kept (rests t) h.kept
 
 -- KEYS
 
 abbrev IsRef : Key → Type 0
-IsRef k = (exact k ≡ refers false boxed_place) × (store.at k ≡ ref_v (at_object the_object)) × (0 < rank k)
+IsRef k = (exact k ≡ refers false boxed_place) × (store.at k ≡ ref_v (at_object the_object)) × (0 < rank k) × IsNear state k boxed_place
+
+near_main : IsNear state (slot_k 0 1) boxed_place
+near_main = record { thread = 0; of = refl; owner = 0; slot = 0; is = refl; near = inl refl }
+
+near_first : IsNear state (slot_k 1 0) boxed_place
+near_first = record { thread = 1; of = refl; owner = 0; slot = 0; is = refl; near = inr (directly waits_first) }
+
+near_second : IsNear state (slot_k 2 0) boxed_place
+near_second = record { thread = 2; of = refl; owner = 0; slot = 0; is = refl; near = inr (directly waits_second) }
 
 -- main's first slot, a reference, or nothing
 abbrev Which : Key → Type 0
@@ -107,22 +218,22 @@ over_one i = grind (arith, nat_tests)
 
 which : (k : Key) → Which k
 which (slot_k zero zero) = inl refl
-which (slot_k zero (suc zero)) = inr (inl (refl, refl, omega arith))
+which (slot_k zero (suc zero)) = inr (inl (refl, refl, omega arith, near_main))
 which (slot_k zero (suc (suc i))) = inr (inr (refl, rw (over_one i, suc_zero (suc i)) refl))
-which (slot_k (suc zero) zero) = inr (inl (refl, refl, omega arith))
+which (slot_k (suc zero) zero) = inr (inl (refl, refl, omega arith, near_first))
 which (slot_k (suc zero) (suc i)) = inr (inr (refl, rw (suc_zero i) refl))
-which (slot_k (suc (suc zero)) zero) = inr (inl (refl, refl, omega arith))
+which (slot_k (suc (suc zero)) zero) = inr (inl (refl, refl, omega arith, near_second))
 which (slot_k (suc (suc zero)) (suc i)) = inr (inr (refl, rw (suc_zero i) refl))
-which (slot_k (suc (suc (suc t))) i) = inr (inr (refl, no_slot (suc (suc (suc t))) i ((one_heap paired_cluster).thread (suc (suc (suc t)))) (rests t)))
+which (slot_k (suc (suc (suc t))) i) = inr (inr (refl, no_slot (suc (suc (suc t))) i (state.thread (suc (suc (suc t)))) (rests t)))
 which (temp_k zero i) = inr (inr (refl, refl))
 which (temp_k (suc zero) i) = inr (inr (refl, refl))
 which (temp_k (suc (suc zero)) i) = inr (inr (refl, refl))
-which (temp_k (suc (suc (suc t))) i) = inr (inr (refl, no_temp (suc (suc (suc t))) i ((one_heap paired_cluster).thread (suc (suc (suc t)))) (rests t)))
+which (temp_k (suc (suc (suc t))) i) = inr (inr (refl, no_temp (suc (suc (suc t))) i (state.thread (suc (suc (suc t)))) (rests t)))
 which (content_k h c) = inr (inr (refl, refl))
 which (result_k zero) = inr (inr (refl, refl))
 which (result_k (suc zero)) = inr (inr (refl, refl))
 which (result_k (suc (suc zero))) = inr (inr (refl, refl))
-which (result_k (suc (suc (suc t)))) = inr (inr (refl, no_kept ((one_heap paired_cluster).thread (suc (suc (suc t)))) (rests t)))
+which (result_k (suc (suc (suc t)))) = inr (inr (refl, no_kept (suc (suc (suc t))) (state.thread (suc (suc (suc t)))) (rests t)))
 which (hand_k t) = inr (inr (refl, refl))
 
 -- OBJECTS
@@ -184,12 +295,12 @@ level_by k (inr (inr q)) n p e = hole_level k q.1 n p (subst (λ t. exact_under 
 
 -- WHAT REFERENCES NAME
 
-names_by : (k : Key) (m : Bool) (u : Place) → exact k ≡ refers m u → Which k → (boxed_place ≡ u) × (m ≡ false) × (0 < rank k)
+names_by : (k : Key) (m : Bool) (u : Place) → exact k ≡ refers m u → Which k → (boxed_place ≡ u) × (m ≡ false) × (0 < rank k) × IsNear state k boxed_place
 names_by k m u e (inl q) = let f : owns (box_tree int_tree) ≡ refers m u = subst (λ j. exact j ≡ refers m u) q e in absurd cc
-names_by k m u e (inr (inl q)) = let f : refers false boxed_place ≡ refers m u = sym q.0 ∙ e in (cc, cc, q.2)
+names_by k m u e (inr (inl q)) = let f : refers false boxed_place ≡ refers m u = sym q.0 ∙ e in (cc, cc, q.2, q.3)
 names_by k m u e (inr (inr q)) = let f : owns hole ≡ refers m u = sym q.0 ∙ e in absurd cc
 
-named : (k : Key) (m : Bool) (u : Place) → exact k ≡ refers m u → (boxed_place ≡ u) × (m ≡ false) × (0 < rank k)
+named : (k : Key) (m : Bool) (u : Place) → exact k ≡ refers m u → (boxed_place ≡ u) × (m ≡ false) × (0 < rank k) × IsNear state k boxed_place
 named k m u e = names_by k m u e (which k)
 
 none_mutable : (k : Key) (u : Place) → exact k ≡ refers true u → ⊥
@@ -220,10 +331,24 @@ main_lower (suc zero) l e f =
     subst (λ q. IsLower store two_slots 0 1 q) g (0, omega arith, by_boxes 0 refl)
 main_lower (suc (suc i)) l e f = let g = over_one i in let h = suc_zero (suc i) in absurd cc
 
-main_typed : RunningTyped pairs_table exact rank store 0 5 (ToObject the_object ∷ Own (plain.Box the_object) ∷ []) []
+main_hidden : (i : ℕ) → is_hidden (env_at two_slots i) ≡ is_held (slot_at main_slots i)
+main_hidden zero = refl
+main_hidden (suc zero) = refl
+main_hidden (suc (suc i)) = rw (over_one i, suc_zero (suc i)) refl
+
+main_unmarked : (i : ℕ) (m : MutexNo) → slot_at main_slots i ≡ Some (Held m) → ⊥
+main_unmarked zero m e = absurd cc
+main_unmarked (suc zero) m e = absurd cc
+main_unmarked (suc (suc i)) m e = let g = over_one i in let h = suc_zero (suc i) in absurd cc
+
+abbrev Running : ℕ → CodeRunning → Type 0
+Running t x = RunningTyped (KnownAt pairs_table) temps typing store t (state.pair t) x
+
+main_typed : Running 0 main
 main_typed = record {
   entry = forked_at two_slots [] unit;
-  at = refl;
+  known = refl;
+  gives = refl;
   keys = record { differ = λ x y e. cc; off = λ i e. absurd cc; ranks = λ i j l. l };
   thread = record {
     nested = ((omega arith, tt), (tt, tt));
@@ -238,6 +363,9 @@ main_typed = record {
   all_slots = refl;
   all_temps = refl;
   lower = main_lower;
+  forks = refl;
+  hidden = main_hidden;
+  marked = λ i m e. absurd (main_unmarked i m e);
 }
 
 -- BRANCHES
@@ -268,10 +396,19 @@ first_above : (i : ℕ) → 1 ≤ i → exact (slot_k 1 i) ≡ owns hole
 first_above zero l = absurd (omega (arith, l))
 first_above (suc i) l = refl
 
-first_typed : RunningTyped pairs_table exact rank store 1 15 (ToObject the_object ∷ []) []
+branch_hidden : (i : ℕ) → is_hidden (env_at branch_slots i) ≡ is_held (slot_at (ToObject the_object ∷ []) i)
+branch_hidden zero = refl
+branch_hidden (suc i) = rw (suc_zero i) refl
+
+branch_unmarked : (i : ℕ) (m : MutexNo) → slot_at (ToObject the_object ∷ []) i ≡ Some (Held m) → ⊥
+branch_unmarked zero m e = absurd cc
+branch_unmarked (suc i) m e = let h = suc_zero i in absurd cc
+
+first_typed : Running 1 (branch 15)
 first_typed = record {
   entry = going branch_slots [] unit;
-  at = refl;
+  known = refl;
+  gives = refl;
   keys = record { differ = λ x y e. cc; off = λ i e. absurd cc; ranks = λ i j l. omega (arith, l) };
   thread = record {
     typed = paired_typed;
@@ -288,16 +425,20 @@ first_typed = record {
   all_slots = refl;
   all_temps = refl;
   lower = branch_lower 1;
+  forks = refl;
+  hidden = branch_hidden;
+  marked = λ i m e. absurd (branch_unmarked i m e);
 }
 
 second_above : (i : ℕ) → 1 ≤ i → exact (slot_k 2 i) ≡ owns hole
 second_above zero l = absurd (omega (arith, l))
 second_above (suc i) l = refl
 
-second_typed : RunningTyped pairs_table exact rank store 2 19 (ToObject the_object ∷ []) []
+second_typed : Running 2 (branch 19)
 second_typed = record {
   entry = going branch_slots [] unit;
-  at = refl;
+  known = refl;
+  gives = refl;
   keys = record { differ = λ x y e. cc; off = λ i e. absurd cc; ranks = λ i j l. omega (arith, l) };
   thread = record {
     typed = paired_typed;
@@ -314,70 +455,101 @@ second_typed = record {
   all_slots = refl;
   all_temps = refl;
   lower = branch_lower 2;
+  forks = refl;
+  hidden = branch_hidden;
+  marked = λ i m e. absurd (branch_unmarked i m e);
 }
+
+-- WHAT STANDS SOMEWHERE
+
+abbrev Small : Val → Type 0
+Small v = (v ≡ gone_v) ⊎ ((v ≡ int_v (pos 1)) ⊎ ((v ≡ box_v the_object) ⊎ (v ≡ ref_v (at_object the_object))))
+
+key_small : (k : Key) → Which k → Small (store.at k)
+key_small k (inl q) = subst (λ j. Small (store.at j)) (sym q) (inr (inr (inl refl)))
+key_small k (inr (inl r)) = inr (inr (inr r.1))
+key_small k (inr (inr q)) = inl q.1
+
+object_small : (c : Option Val) (v : Val) → (c ≡ Some (int_v (pos 1))) ⊎ (c ≡ None) → c ≡ Some v → Small v
+object_small c v (inl f) e = let g : Some (int_v (pos 1)) ≡ Some v = sym f ∙ e in inr (inl cc)
+object_small c v (inr f) e = let g : None ≡ Some v = sym f ∙ e in absurd cc
+
+small : (l : Location) (v : Val) → value_at store l ≡ Some v → Small v
+small (at_key k) v e = subst Small (same_val e) (key_small k (which k))
+small (at_object q) v e = object_small (store.heap q) v (object_int q.thread q.count) e
+
+no_mutex : (m : MutexNo) (r : Tree) → Small (mutex_v m r) → ⊥
+no_mutex m r (inl e) = absurd cc
+no_mutex m r (inr (inl e)) = absurd cc
+no_mutex m r (inr (inr (inl e))) = absurd cc
+no_mutex m r (inr (inr (inr e))) = absurd cc
+
+no_task : (t : ℕ) (r : Tree) → Small (task_v t r) → ⊥
+no_task t r (inl e) = absurd cc
+no_task t r (inr (inl e)) = absurd cc
+no_task t r (inr (inr (inl e))) = absurd cc
+no_task t r (inr (inr (inr e))) = absurd cc
 
 -- THE STATE
 
-abbrev Running : ℕ → CodeRunning → Type 0
-Running t r = RunningTyped pairs_table exact rank store t r.place.pc r.slots r.place.temps
-
-at_rest : {l : Option PlainLife} {r : CodeRunning} → Rests l → place_in l ≡ Some r → ⊥
-at_rest (inl f) e = not_over f e
-at_rest (inr f) e = not_there f e
-
-not_ended : {l : Option PlainLife} {v : Plain} → Rests l → l ≡ Some (ended (Own v)) → ⊥
+not_ended : {l : Option PlainLife} {v : Value} → Rests l → l ≡ Some (ended v) → ⊥
 not_ended (inl f) e = absurd cc
 not_ended (inr f) e = absurd cc
 
-each_thread : (t : ℕ) (r : CodeRunning) → place_in ((one_heap paired_cluster).thread t) ≡ Some r → Running t r
-each_thread zero r e = along (Running 0) e main_typed
-each_thread (suc zero) r e = along (Running 1) e first_typed
-each_thread (suc (suc zero)) r e = along (Running 2) e second_typed
-each_thread (suc (suc (suc t))) r e = absurd (at_rest (rests t) e)
-
-no_result : (t : ℕ) (v : Plain) → (one_heap paired_cluster).thread t ≡ Some (ended (Own v)) → exact (result_k t) ≡ owns (tree_of unit)
+no_result : (t : ℕ) (v : Value) → state.thread t ≡ Some (ended v) → ⊥
 no_result zero v e = absurd cc
 no_result (suc zero) v e = absurd cc
 no_result (suc (suc zero)) v e = absurd cc
-no_result (suc (suc (suc t))) v e = absurd (not_ended (rests t) e)
+no_result (suc (suc (suc t))) v e = not_ended (rests t) e
 
--- no slot has a mark
-abbrev Unmarked : List Value → Type 0
-Unmarked slots = (i : ℕ) (m : MutexNo) → nth_value slots i ≡ Held m → ⊥
+no_second : (c : ℕ) → state.object (record { thread = 0; count = suc c }) ≡ None
+no_second c = rw (zero_suc c) refl
 
-two_unmarked : Unmarked (ToObject the_object ∷ Own (plain.Box the_object) ∷ [])
-two_unmarked zero m e = absurd cc
-two_unmarked (suc zero) m e = absurd cc
-two_unmarked (suc (suc i)) m e = let g = over_one i in let h = suc_zero (suc i) in absurd cc
+no_later : (t c : ℕ) → state.object (record { thread = suc t; count = c }) ≡ None
+no_later t c = rw (zero_suc t) refl
 
-one_unmarked : Unmarked (ToObject the_object ∷ [])
-one_unmarked zero m e = absurd cc
-one_unmarked (suc i) m e = let h = suc_zero i in absurd cc
+-- each object is main's box's
+the_only : (t c : ℕ) (v : Plain) → state.object (record { thread = t; count = c }) ≡ Some v → (t ≡ 0) × (c ≡ 0)
+the_only zero zero v e = (refl, refl)
+the_only zero (suc c) v e = let f : None ≡ Some v = sym (no_second c) ∙ e in absurd cc
+the_only (suc t) c v e = let f : None ≡ Some v = sym (no_later t c) ∙ e in absurd cc
 
-unmarked : (t : ℕ) (r : CodeRunning) → place_in ((one_heap paired_cluster).thread t) ≡ Some r → Unmarked r.slots
-unmarked zero r e = along (λ q. Unmarked q.slots) e two_unmarked
-unmarked (suc zero) r e = along (λ q. Unmarked q.slots) e one_unmarked
-unmarked (suc (suc zero)) r e = along (λ q. Unmarked q.slots) e one_unmarked
-unmarked (suc (suc (suc t))) r e = absurd (at_rest (rests t) e)
+owned : (o : ObjNo) (v : Plain) → state.object o ≡ Some v → (l : Location) × (value_at store l ≡ Some (box_v o))
+owned o v e =
+    let h = the_only o.thread o.count v e in
+    let same : the_object ≡ o = object_is o 0 0 h.0 h.1 in
+    (at_key (slot_k 0 0), ap (λ q. Some (box_v q)) same)
 
-paired_state : StateTypes pairs_table names marks exact rank (one_heap paired_cluster)
+made : (o : ObjNo) (v : Plain) (x : CodeRunning) → state.object o ≡ Some v → place_in (state.thread o.thread) ≡ Some x → o.count < state.made o.thread
+made o v x e f =
+    let h = the_only o.thread o.count v e in
+    subst (λ t. o.count < state.made t) (sym h.0) (subst (λ c. c < 1) (sym h.1) (omega arith))
+
+near : (k : Key) (m : Bool) (u : Place) → exact k ≡ refers m u → IsNear state k u
+near k m u e = let h = named k m u e in subst (IsNear state k) h.0 h.3
+
+paired_state : CodeStateTypes pairs_table typing state
 paired_state = record {
   typed = paired_typed;
-  threads = each_thread;
-  results = no_result;
-  contents = λ m x v e f. absurd cc;
-  marked = λ t r e i m f. absurd (unmarked t r e i m f);
+  threads = each Running main_typed first_typed second_typed;
+  results = λ t v e. absurd (no_result t v e);
+  near = near;
+  pairs = paired;
+  there = λ l m h. absurd (no_mutex m h.0 (small l (mutex_v m h.0) h.1));
+  mutexes = λ m x e. absurd cc;
+  one_task = λ l m t q r e f. absurd (no_task t q (small l (task_v t q) e));
+  tasks_owed = λ l t r e. absurd (no_task t r (small l (task_v t r) e));
+  owed_stand = λ t h. absurd (none_owed t h);
+  objects_owned = owned;
+  objects_made = made;
 }
 
 paired_has_types : Types paired_cluster
 paired_has_types = record {
   table = pairs_table;
   is_table = pairs_typed;
-  names = names;
-  exact = exact;
-  rank = rank;
-  marks = marks;
-  order = λ t. if t == 0 then 0 else 1;
+  object = objects;
+  typing = typing;
   state = paired_state;
   agree = refl;
   forms = refl;

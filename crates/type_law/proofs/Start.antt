@@ -1,37 +1,35 @@
 -- The start of the boxed code has types.
-use Rattle.std.proofs.Common.{◌≡◌, ℕ, zero, suc, ◌==◌, ◌%◌, ◌/◌, ◌^◌, false, Bool, List, [], Some, None, refl, subst, arith}
+use Rattle.std.proofs.Common.{◌≡◌, ℕ, zero, suc, ◌==◌, ◌%◌, ◌/◌, ◌^◌, false, List, [], Some, None, refl, subst, arith}
 use Rattle.fr_base.specs.declared.name.ObjNo.{ObjNo}
-use Rattle.fr_base.specs.declared.name.MutexNo.{MutexNo}
-use Rattle.fr_base.specs.declared.label.Plain.{Plain}
-use Rattle.fr_typing.specs.Kinds.{unit}
+use Rattle.fr_plain.specs.declared.value.Value.{Value}
+use Rattle.fr_typing.specs.Kinds.{Owned, unit}
 use Rattle.fr_store.specs.Keys.{Key, slot_k, temp_k, content_k, result_k, hand_k}
-use Rattle.fr_store.specs.Store.{Location, at_key, at_object, box_v, gone_v, mutex_v, Store, value_at}
+use Rattle.fr_store.specs.Store.{Location, at_key, at_object, Val, box_v, gone_v, mutex_v, task_v, Store, value_at}
 use Rattle.fr_store.specs.Typed.{hole, Exact, owns, KeyTypes, exact_under, Stands, Typed}
-use Rattle.fr_store.specs.Below.{tree_of}
 use Rattle.server_model.specs.Servers.{Cluster, start_of}
 use Rattle.heap_law.specs.Sight.{sight}
 use Rattle.heap_law.specs.Clusters.{options, boxed_code}
-use Rattle.fr_plain.specs.declared.value.Value.TheVariants.{Own, Held}
-use Rattle.fr_plain.specs.MachineThreads.{ended}
-use Rattle.fr_plain.specs.PlainState.{place_in}
+use Rattle.fr_plain.specs.MachineThreads.{alive}
+use Rattle.fr_code.specs.Steps.{Place as CodePlace}
 use Rattle.fr_code.specs.Machine.{CodeRunning}
+use Rattle.fr_sound.specs.Seen.{Gives}
+use Rattle.fr_sound.specs.States.{Typing, store_of, RunningTyped}
 use Rattle.heap_law.specs.OneHeap.{one_heap, is_given_thread}
-use Rattle.type_law.specs.CodeTypes.{going}
-use Rattle.type_law.specs.Names.{NameTypes}
-use Rattle.type_law.specs.States.{Marks, store_of, RunningTyped, StateTypes, nth_value}
-use Rattle.type_law.specs.ClusterTypes.{Types}
+use Rattle.fr_code.specs.CodeTypes.{going}
+use Rattle.type_law.specs.ClusterTypes.{KnownAt, CodeStateTypes, Types}
 use Rattle.type_law.specs.Codes.{boxed_table}
 use Rattle.type_law.proofs.Codes.{boxed_is_typed}
-use Rattle.type_law.proofs.Numbers.{suc_zero, none_counted, along, not_there}
+use Rattle.type_law.proofs.Numbers.{suc_zero, zero_suc, none_counted}
+use Rattle.type_law.proofs.Alone.{each, none_ended, none_owed, no_pairs}
 
 abbrev start : Cluster
 start = start_of boxed_code (options 1)
 
-abbrev names : NameTypes
-names = record { object = λ o. unit; mutex = λ m. unit; result = λ t. unit }
+abbrev objects : ObjNo → Owned
+objects o = unit
 
-abbrev marks : Marks
-marks t i = at_key (hand_k 0)
+abbrev gives : Gives
+gives = record { mutex = λ m. unit; result = λ t. unit }
 
 abbrev exact : KeyTypes
 exact k = owns hole
@@ -40,8 +38,14 @@ abbrev rank : Key → ℕ
 rank (slot_k t i) = i
 rank k = 0
 
+abbrev typing : Typing
+typing = record { gives = gives; exact = exact; rank = rank; marks = λ t i. at_key (hand_k 0); order = λ t. 0 }
+
+abbrev temps : CodePlace → List Value
+temps p = p.temps
+
 abbrev store : Store
-store = store_of names marks (one_heap start)
+store = store_of temps typing (one_heap start)
 
 not_given : (t : ℕ) → is_given_thread (sight start) (suc t) ≡ false
 not_given t = rw (suc_zero t) (none_counted (0 == suc t / 2 ^ 32) (suc t % 2 ^ 32))
@@ -80,10 +84,26 @@ start_typed = record {
   owner = λ a b o e f. absurd (no_box a o e);
 }
 
-main_typed : RunningTyped boxed_table exact rank store 0 0 [] []
+-- a value that stands somewhere is gone
+all_gone : (l : Location) (v : Val) → value_at store l ≡ Some v → v ≡ gone_v
+all_gone (at_key k) v e = let f = nothing k in cc
+all_gone (at_object q) v e = absurd cc
+
+abbrev main : CodeRunning
+main = record { place = record { pc = 0; temps = [] }; slots = [] }
+
+main_runs : (one_heap start).thread 0 ≡ Some (alive main)
+main_runs = refl
+
+no_pair : (t : ℕ) → (one_heap start).pair t ≡ None
+no_pair zero = refl
+no_pair (suc t) = rw (zero_suc t) refl
+
+main_typed : RunningTyped (KnownAt boxed_table) temps typing store 0 None main
 main_typed = record {
   entry = going [] [] unit;
-  at = refl;
+  known = refl;
+  gives = refl;
   keys = record { differ = λ x y e. cc; off = λ i e. absurd cc; ranks = λ i j l. l };
   thread = record {
     typed = start_typed;
@@ -100,32 +120,33 @@ main_typed = record {
   all_slots = refl;
   all_temps = refl;
   lower = λ i l e f. absurd cc;
+  forks = refl;
+  hidden = λ i. refl;
+  marked = λ i m e. absurd cc;
 }
 
-each_thread : (t : ℕ) (r : CodeRunning) → place_in ((one_heap start).thread t) ≡ Some r → RunningTyped boxed_table exact rank store t r.place.pc r.slots r.place.temps
-each_thread zero r e = along (λ q. RunningTyped boxed_table exact rank store 0 q.place.pc q.slots q.place.temps) e main_typed
-each_thread (suc t) r e = absurd (not_there (others t) e)
-
-no_result : (t : ℕ) (v : Plain) → (one_heap start).thread t ≡ Some (ended (Own v)) → exact (result_k t) ≡ owns (tree_of unit)
-no_result zero v e = absurd cc
-no_result (suc t) v e = let f = others t in absurd cc
-
-no_mark : (t : ℕ) (r : CodeRunning) → place_in ((one_heap start).thread t) ≡ Some r → (i : ℕ) (m : MutexNo) → nth_value r.slots i ≡ Held m → value_at store (marks t i) ≡ Some (mutex_v m)
-no_mark zero r e = along (λ q. (i : ℕ) (m : MutexNo) → nth_value q.slots i ≡ Held m → value_at store (marks 0 i) ≡ Some (mutex_v m)) e (λ i m f. absurd cc)
-no_mark (suc t) r e = absurd (not_there (others t) e)
-
-start_state : StateTypes boxed_table names marks exact rank (one_heap start)
-start_state = record { typed = start_typed; threads = each_thread; results = no_result; contents = λ m x v e f. absurd cc; marked = no_mark }
+start_state : CodeStateTypes boxed_table typing (one_heap start)
+start_state = record {
+  typed = start_typed;
+  threads = each (one_heap start) main main_runs others (λ t x. RunningTyped (KnownAt boxed_table) temps typing store t ((one_heap start).pair t) x) main_typed;
+  results = λ t v e. absurd (none_ended (one_heap start) main main_runs others t v e);
+  near = λ k m u e. absurd cc;
+  pairs = λ p b c e. no_pairs (one_heap start) main main_runs others no_pair typing p b c e;
+  there = λ l m h. let f = all_gone l (mutex_v m h.0) h.1 in absurd cc;
+  mutexes = λ m x e. absurd cc;
+  one_task = λ l m t q r e f. let g = all_gone l (task_v t q) e in absurd cc;
+  tasks_owed = λ l t r e. let g = all_gone l (task_v t r) e in absurd cc;
+  owed_stand = λ t h. absurd (none_owed (one_heap start) main main_runs others t h);
+  objects_owned = λ o v e. absurd cc;
+  objects_made = λ o v x e f. absurd cc;
+}
 
 pub start_has_types : Types start
 start_has_types = record {
   table = boxed_table;
   is_table = boxed_is_typed;
-  names = names;
-  exact = exact;
-  rank = rank;
-  marks = marks;
-  order = λ t. 0;
+  object = objects;
+  typing = typing;
   state = start_state;
   agree = refl;
   forms = refl;

@@ -1,5 +1,5 @@
 -- Whole runs keep what can be counted of types, after each event.
-use Rattle.std.specs.Prelude.{◌≡◌, ℕ, ◌+◌, ◌==◌, false, if◌then◌else◌, List, [], ◌∷◌, ◌++◌, Option, Some, None, slice_get}
+use Rattle.std.specs.Prelude.{◌≡◌, ℕ, ◌+◌, ◌==◌, false, if◌then◌else◌, List, [], ◌∷◌, ◌++◌, Option, Some, None}
 use Rattle.fr_base.specs.declared.instruction.Instr.{Instr}
 use Rattle.fr_base.specs.declared.settings.Options.{Options}
 use Rattle.fr_base.specs.declared.place.Lval.{Lval}
@@ -16,8 +16,8 @@ use Rattle.server_model.specs.Rows.{reading_by_pairs, moving, locking_elsewhere,
 use Rattle.heap_law.specs.Follow.{Standing, thread_at}
 use Rattle.heap_law.specs.Sight.{Sight, sight}
 use Rattle.type_law.specs.Names.{NameTypes}
-use Rattle.type_law.specs.CodeTypes.{Table, Entry as Types}
-use Rattle.type_law.specs.States.{part_at}
+use Rattle.fr_code.specs.CodeTypes.{Table, Entry as Types}
+use Rattle.fr_sound.specs.States.{part_at}
 use Rattle.type_law.specs.ClusterTypes.{misfits, forms_wrong, locked_wrong, leads_wrong, views_wrong, parents_wrong, ends_wrong, branches_wrong, over_wrong}
 use Rattle.type_law.specs.Tables.{pairs_table, locks_table, lent_table}
 
@@ -37,7 +37,7 @@ exact_entry t i (Some x) = exact_part t (part_at x.env i)
 
 abbrev exact_thread : Table → ℕ → ℕ → Option Standing → Exact
 exact_thread table t i None = owns hole
-exact_thread table t i (Some x) = exact_entry t i (slice_get table x.thread.pc)
+exact_thread table t i (Some x) = exact_entry t i (table x.thread.pc)
 
 abbrev pub exact_in : Table → Sight → KeyTypes
 exact_in table s (slot_k t i) = exact_thread table t i (thread_at s.ground.threads t)

@@ -1,5 +1,5 @@
 -- Clusters that break what is counted of types, a sentence each.
-use Rattle.std.specs.Prelude.{◌≡◌, ℕ, false, List, [], ◌∷◌}
+use Rattle.std.specs.Prelude.{◌≡◌, ℕ, false, List, [], ◌∷◌, Some}
 use Rattle.global_addr.specs.Words.{word_of}
 use Rattle.fr_base.specs.declared.place.Lval.{Lval}
 use Rattle.heap_partition.specs.declared.value.Owned.TheVariants as owned
@@ -7,16 +7,19 @@ use Rattle.thread_state.specs.View.{ThreadView, new_thread}
 use Rattle.thread_state.specs.declared.value.Value.{Value}
 use Rattle.thread_state.specs.declared.value.Value.TheVariants as value
 use Rattle.thread_state.specs.declared.phase.Phase.TheVariants as phase
-use Rattle.fr_typing.specs.Kinds.{int}
+use Rattle.fr_typing.specs.Kinds.{unit, int, mutable, own, whole}
+use Rattle.fr_typing.specs.Kinds as kind
+use Rattle.fr_typing.specs.Places.{Env}
 use Rattle.server_model.specs.Servers.{Server, Cluster}
 use Rattle.server_model.specs.Programs.{lent_box}
 use Rattle.heap_law.specs.Clusters.{cell, int as one_int, box, object, place, the_mutex}
+use Rattle.heap_law.specs.Chosen.{lent_deep}
 use Rattle.heap_law.specs.Sight.{sight}
 use Rattle.type_law.specs.Names.{NameTypes}
-use Rattle.type_law.specs.CodeTypes.{Table}
+use Rattle.fr_code.specs.CodeTypes.{Table, going}
 use Rattle.type_law.specs.ClusterTypes.{misfits, forms_wrong, locked_wrong, leads_wrong, views_wrong, parents_wrong, ends_wrong, branches_wrong, over_wrong}
 use Rattle.type_law.specs.Codes.{boxed_table}
-use Rattle.type_law.specs.Tables.{pairs_table, lent_table}
+use Rattle.type_law.specs.Tables.{x_name, r_name, c_name, slot, pairs_table, lent_table}
 use Rattle.type_law.specs.Typed.{boxed_main, boxed_server, boxed_cluster}
 use Rattle.type_law.specs.Paired.{parent, seen, paired_server, paired_cluster}
 use Rattle.type_law.specs.Locking.{twice_table, locking_main, locking_server, locking_cluster}
@@ -56,6 +59,28 @@ lent_with holder =
     with_threads (record boxed_cluster { code = lent_box }) boxed_server
     (record (new_thread 0 4 (value.Own (box (word_of 0 0 0) 0) ∷ reference_with holder ∷ [])) { made = 1 } ∷ [])
 
+-- the box of another box is lent, and the inner one is lent through that reference: both pointers to the inner object's cell have one location, but
+-- the reference ends along the place that was lent
+abbrev deep_slots : Env
+deep_slots =
+    slot c_name (whole (mutable (place 1 2 ∷ []))) ∷ slot r_name (whole (mutable (place 0 1 ∷ []))) ∷ slot x_name (whole (own (kind.box (kind.box int)))) ∷ []
+
+abbrev deep_table : Table
+deep_table pc = Some (going deep_slots [] unit)
+
+abbrev reference_to : ℕ → Lval → Value
+reference_to n holder = value.Mut (record { word = word_of 0 0 n; first = word_of 0 0 n; object = object n; dirty = false; holder = holder })
+
+abbrev deep_with : Lval → Cluster
+deep_with holder =
+    record boxed_cluster {
+      code = lent_deep;
+      servers = record boxed_server {
+        partition = record boxed_server.partition { cells = cell 0 (one_int 1) ∷ cell 1 (box (word_of 0 0 0) 0) ∷ [] };
+        threads = record (new_thread 0 7 (value.Own (box (word_of 0 0 1) 1) ∷ reference_to 1 (place 0 0) ∷ reference_to 0 holder ∷ [])) { made = 2 } ∷ [];
+      } ∷ [];
+    }
+
 -- the parent has no reference to what its branches see
 abbrev unseen : Cluster
 unseen =
@@ -76,6 +101,9 @@ pub record TypesBreak : Type 0 where
   -- a holder is the pointer's place, and not that of the object
   pub held : leads_in lent_table (lent_with (place 0 0)) ≡ 0
   pub holders : leads_in lent_table (lent_with (place 0 1)) ≡ 1
+  -- and is no other way to the same pointer
+  pub reborrowed : leads_in deep_table (deep_with (place 1 1)) ≡ 0
+  pub elsewhere : leads_in deep_table (deep_with (place 0 1)) ≡ 1
   -- both branches' views
   pub views : views_wrong pairs_table (sight unseen) ≡ 2
   pub parents : parents_wrong (λ t. 0) (sight paired_cluster) ≡ 2

@@ -1,6 +1,6 @@
 -- TYPES: the last part of coherent memory (Featherweight Rust's types over the things of a cluster; threads, mutexes and views are this project's).
 -- What can be counted is counted, as in the other parts: the number of things that break a sentence is 0.
-use Rattle.std.specs.Prelude.{◌≡◌, ℕ, zero, suc, ◌+◌, ◌==◌, nat_lt, Bool, true, false, not, ◌&&◌, ◌||◌, List, [], ◌∷◌, reverse, Option, Some, None, is_some, slice_get}
+use Rattle.std.specs.Prelude.{◌≡◌, ℕ, zero, suc, ◌+◌, ◌==◌, nat_lt, Bool, true, false, not, ◌&&◌, ◌||◌, List, [], ◌∷◌, reverse, Option, Some, None, is_some}
 use Rattle.fr_base.specs.declared.name.ObjNo.{ObjNo}
 use Rattle.fr_base.specs.declared.name.MutexNo.{MutexNo}
 use Rattle.fr_base.specs.declared.place.Lval.{Lval}
@@ -14,14 +14,14 @@ use Rattle.thread_state.specs.declared.value.Value.TheVariants as value
 use Rattle.thread_state.specs.declared.phase.Phase.{Phase}
 use Rattle.thread_state.specs.declared.phase.Phase.TheVariants as phase
 use Rattle.join_home.specs.Tasks.{TaskState, in_pair}
-use Rattle.fr_typing.specs.Kinds.{unit, same_owned, Kind, own, shared, mutable, view, Piece, whole, gone, boxed}
+use Rattle.fr_typing.specs.Kinds.{Owned as OwnedType, unit, same_owned, Kind, own, shared, mutable, view, Piece, whole, gone, boxed}
 use Rattle.fr_typing.specs.Places.{Slot}
 use Rattle.fr_store.specs.Keys.{Key, slot_k, temp_k}
 use Rattle.fr_store.specs.Typed.{Exact, owns, refers, KeyTypes}
 use Rattle.server_model.specs.Servers.{Cluster}
 use Rattle.heap_law.specs.Names.{one, other, if_so, some, same_object, same_mutex}
 use Rattle.heap_law.specs.Things.{Location, Spot, as_content, as_result, Thing, holds, lies, flies, noted}
-use Rattle.heap_law.specs.Follow.{Standing, Ground, leads, locate, place_at, value_at}
+use Rattle.heap_law.specs.Follow.{Standing, Ground, leads, place_at, value_at}
 use Rattle.heap_law.specs.Stale.{same_location}
 use Rattle.heap_law.specs.Sight.{Sight, sight}
 use Rattle.heap_law.specs.Placing.{sum_over}
@@ -31,10 +31,12 @@ use Rattle.heap_law.specs.Requests.{locked_mutex}
 use Rattle.heap_law.specs.Sharing.{is_over}
 use Rattle.heap_law.specs.Coherent.{IsSound}
 use Rattle.heap_law.specs.OneHeap.{one_heap}
-use Rattle.type_law.specs.Names.{NameTypes, fits, is_there, owned_part, fits_some, is_type}
-use Rattle.type_law.specs.CodeTypes.{Entry, Table}
-use Rattle.type_law.specs.CodeTable.{IsTable}
-use Rattle.type_law.specs.States.{Marks, StateTypes}
+use Rattle.type_law.specs.Names.{NameTypes, names_of, fits, is_there, fits_some, is_type}
+use Rattle.fr_sound.specs.States.{owned_part, Typing, StateTypes}
+use Rattle.fr_code.specs.Steps.{Place}
+use Rattle.fr_code.specs.Machine.{CodeState}
+use Rattle.fr_code.specs.CodeTypes.{Entry, Table}
+use Rattle.fr_code.specs.CodeTable.{IsTable}
 
 -- CELLS, CONTENTS AND RESULTS
 
@@ -109,7 +111,7 @@ forms_of n t x = slots_wrong n x.env (reverse t.slots) + temps_wrong n x.temps (
 
 -- a sentence of the threads that aren't over, at their entries
 abbrev pub at_entries : Table → Sight → (Standing → Entry → ℕ) → ℕ
-at_entries table s f = sum_threads s (λ x. if_so (not (is_over x.thread.phase)) (entry_wrong (f x) (slice_get table x.thread.pc)))
+at_entries table s f = sum_threads s (λ x. if_so (not (is_over x.thread.phase)) (entry_wrong (f x) (table x.thread.pc)))
 
 -- each slot and temporary value has the form that typing gives at the thread's instruction; the hidden slot of a lock is a mark
 abbrev pub forms_wrong : Table → NameTypes → Sight → ℕ
@@ -177,7 +179,7 @@ gives_other n t x = other (same_owned x.gives (n.result t))
 
 -- the code of each thread, over or not, ends with the type that its task has
 abbrev pub ends_wrong : Table → NameTypes → Sight → ℕ
-ends_wrong table n s = sum_threads s (λ x. entry_wrong (gives_other n x.thread.number) (slice_get table x.thread.pc))
+ends_wrong table n s = sum_threads s (λ x. entry_wrong (gives_other n x.thread.number) (table x.thread.pc))
 
 abbrev not_unit : NameTypes → ℕ → ℕ
 not_unit n t = other (same_owned (n.result t) unit)
@@ -222,16 +224,16 @@ abbrev is_value_of : MutexNo → Option Value → Bool
 is_value_of m (Some (value.Own (owned.Mutex n))) = same_mutex n m
 is_value_of m v = false
 
--- a holder leads, as a location, to the pointer of the place with one star less
-abbrev is_held_at : Ground → ℕ → ℕ → ℕ → Lval → Bool
-is_held_at g t slot zero h = false
-is_held_at g t slot (suc n) h = same_place (place_at g t h) (locate g t slot n)
+-- a holder is the place with one star less, as slot and stars
+abbrev is_held_at : ℕ → ℕ → Lval → Bool
+is_held_at slot zero h = false
+is_held_at slot (suc n) h = (h.slot == slot) && (h.depth == n)
 
--- a reference leads where that place of its thread leads; a mutable one to an object is held there with one star less; a mark is of the mutex that
--- stands there
+-- a reference leads where that place of its thread leads; the holder of a mutable one to an object is that place with one star less, and no other
+-- way to the same pointer; a mark is of the mutex that stands there
 abbrev leads_as : Ground → ℕ → Lval → Value → Bool
 leads_as g t w (value.Held m) = is_value_of m (value_at g t w)
-leads_as g t w (value.Mut r) = same_place (leads t (Some (value.Mut r))) (place_at g t w) && is_held_at g t w.slot w.depth r.holder
+leads_as g t w (value.Mut r) = same_place (leads t (Some (value.Mut r))) (place_at g t w) && is_held_at w.slot w.depth r.holder
 leads_as g t w v = same_place (leads t (Some v)) (place_at g t w)
 
 -- the exact type of a reference that is no view names a place of its own thread
@@ -251,34 +253,38 @@ abbrev astray_of : KeyTypes → Ground → ThreadView → ℕ
 astray_of exact g t = all_astray exact g t.number (slot_k t.number) 0 t.slots + all_astray exact g t.number (temp_k t.number) 0 t.temps
 
 -- a reference leads to the slot or object that the place of its exact type leads to in its thread, one of the places that typing gives it; where
--- that is an object and the reference is mutable, its holder is that place with one star less. The hidden slot of a lock is the mark of the mutex
+-- that is an object and the reference is mutable, its holder is that place with one star less, as slot and stars: what is written back to it when
+-- the reference ends goes along the place that was lent. The hidden slot of a lock is the mark of the mutex
 -- that stands at the lock's place
 abbrev pub leads_wrong : KeyTypes → Sight → ℕ
 leads_wrong exact s = sum_threads s (λ x. astray_of exact s.ground x.thread)
 
 -- THE PART
 
+-- the table has this entry at the thread's instruction
+abbrev pub KnownAt : Table → Place → Entry → Type 0
+KnownAt table p x = table p.pc ≡ Some x
+
+-- the one heap of a cluster is typed by a table of its code
+abbrev pub CodeStateTypes : Table → Typing → CodeState → Type 0
+CodeStateTypes table y a = StateTypes (KnownAt table) (λ (p : Place). p.temps) y a
+
 pub record Types (k : Cluster) : Type 0 where
   -- what typing gives at each instruction
   pub table : Table
   pub is_table : IsTable k.code table
-  -- one type for each name
-  pub names : NameTypes
-  -- the exact types below the environments, with the order of their keys, and where the mutexes of marks stand
-  pub exact : KeyTypes
-  pub rank : Key → ℕ
-  pub marks : Marks
-  -- how many parents wait above a thread
-  pub order : ℕ → ℕ
-  pub state : StateTypes table names marks exact rank (one_heap k)
-  pub agree : misfits names (sight k) ≡ 0
-  pub forms : forms_wrong table names (sight k) ≡ 0
-  pub locked : locked_wrong table names (sight k) ≡ 0
-  pub lead : leads_wrong exact (sight k) ≡ 0
+  -- one type for each object, each thread's result and each mutex's content; the exact types below the environments
+  pub object : ObjNo → OwnedType
+  pub typing : Typing
+  pub state : CodeStateTypes table typing (one_heap k)
+  pub agree : misfits (names_of object typing.gives) (sight k) ≡ 0
+  pub forms : forms_wrong table (names_of object typing.gives) (sight k) ≡ 0
+  pub locked : locked_wrong table (names_of object typing.gives) (sight k) ≡ 0
+  pub lead : leads_wrong typing.exact (sight k) ≡ 0
   pub views : views_wrong table (sight k) ≡ 0
-  pub parents : parents_wrong order (sight k) ≡ 0
-  pub ends : ends_wrong table names (sight k) ≡ 0
-  pub branches : branches_wrong names (sight k) ≡ 0
+  pub parents : parents_wrong typing.order (sight k) ≡ 0
+  pub ends : ends_wrong table (names_of object typing.gives) (sight k) ≡ 0
+  pub branches : branches_wrong (names_of object typing.gives) (sight k) ≡ 0
   pub over : over_wrong (sight k) ≡ 0
 
 -- COHERENT: all parts

@@ -6,17 +6,20 @@ use Rattle.fr_base.specs.declared.instruction.Instr.TheVariants as instr
 use Rattle.fr_typing.specs.Kinds.{unit, int, box, own, whole}
 use Rattle.fr_typing.specs.Places.{Slot}
 use Rattle.heap_law.specs.Clusters.{place, boxed_code}
-use Rattle.type_law.specs.CodeTypes.{Table, going}
-use Rattle.type_law.specs.CodeTable.{IsTable}
+use Rattle.fr_code.specs.CodeTypes.{Entry, Table, table_of, going}
+use Rattle.fr_code.specs.CodeTable.{IsTable}
 
 abbrev pub box_slot : Slot
 box_slot = record { name = Some (120 ∷ []); part = whole (own (box int)) }
 
 -- the table of { let mut x = box 1; *x = 2; print *x }
-abbrev pub boxed_table : Table
-boxed_table =
+abbrev pub boxed_entries : List Entry
+boxed_entries =
     going [] [] unit ∷ going [] (own (box int) ∷ []) unit ∷ going (box_slot ∷ []) [] unit ∷ going (box_slot ∷ []) [] unit
     ∷ going (box_slot ∷ []) (own int ∷ []) unit ∷ going (box_slot ∷ []) [] unit ∷ going [] [] unit ∷ []
+
+abbrev pub boxed_table : Table
+boxed_table = table_of boxed_entries
 
 -- the code of { let mut x = box 1; x; x }, where x has moved away before it is read again
 abbrev pub moved_code : List Instr

@@ -1,7 +1,4 @@
-pub mod CodeTypes
-pub mod CodeTable
 pub mod Names
-pub mod States
 pub mod ClusterTypes
 pub mod Owning
 pub mod Codes

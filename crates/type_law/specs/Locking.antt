@@ -1,5 +1,5 @@
 -- A cluster in which main holds a mutex: the hidden slot of the lock is its mark, and the slot above has its content.
-use Rattle.std.specs.Prelude.{◌≡◌, pos, [], ◌∷◌, ◌++◌, Some, None}
+use Rattle.std.specs.Prelude.{◌≡◌, pos, List, [], ◌∷◌, ◌++◌, Some, None}
 use Rattle.thread_state.specs.View.{ThreadView, new_thread}
 use Rattle.thread_state.specs.declared.value.Value.TheVariants as value
 use Rattle.heap_partition.specs.declared.value.Owned.TheVariants as owned
@@ -9,8 +9,8 @@ use Rattle.server_model.specs.Programs.{with_servers, locked_twice}
 use Rattle.fr_typing.specs.Kinds.{unit, int, mutex, own, shared, whole}
 use Rattle.fr_typing.specs.Places.{Slot, Env}
 use Rattle.heap_law.specs.Clusters.{place, the_mutex}
-use Rattle.type_law.specs.CodeTypes.{Table, going}
-use Rattle.type_law.specs.CodeTable.{IsTable}
+use Rattle.fr_code.specs.CodeTypes.{Entry, Table, table_of, going}
+use Rattle.fr_code.specs.CodeTable.{IsTable}
 use Rattle.type_law.specs.ClusterTypes.{Types}
 use Rattle.type_law.specs.Tables.{x_name, r_name, c_name, slot}
 use Rattle.type_law.specs.Typed.{cluster_of}
@@ -27,11 +27,14 @@ once_locked = slot r_name (whole (own int)) ∷ mark_slot ∷ unlocked_slots
 abbrev pub twice_locked : Env
 twice_locked = slot c_name (whole (own int)) ∷ mark_slot ∷ once_locked
 
-abbrev pub twice_table : Table
-twice_table =
+abbrev pub twice_entries : List Entry
+twice_entries =
     going [] [] unit ∷ going [] (own (mutex int) ∷ []) unit ∷ going unlocked_slots [] unit ∷ going once_locked [] unit ∷ going twice_locked [] unit
     ∷ going twice_locked (own int ∷ []) unit ∷ going twice_locked [] unit ∷ going once_locked [] unit ∷ going unlocked_slots [] unit ∷ going [] [] unit
     ∷ []
+
+abbrev pub twice_table : Table
+twice_table = table_of twice_entries
 
 abbrev pub locking_main : ThreadView
 locking_main = new_thread 0 3 (value.Own (owned.Mutex the_mutex) ∷ value.Held the_mutex ∷ value.Own (owned.Int (pos 1)) ∷ [])

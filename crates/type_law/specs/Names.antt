@@ -4,13 +4,17 @@ use Rattle.fr_base.specs.declared.name.ObjNo.{ObjNo}
 use Rattle.fr_base.specs.declared.name.MutexNo.{MutexNo}
 use Rattle.heap_partition.specs.declared.value.Owned.{Owned as Value}
 use Rattle.heap_partition.specs.declared.value.Owned.TheVariants as owned
-use Rattle.fr_typing.specs.Kinds.{Owned, unit, int, box, mutex, task, same_owned, Kind, own, Piece, whole, gone, boxed, map_some}
+use Rattle.fr_typing.specs.Kinds.{Owned, unit, int, box, mutex, task, same_owned}
+use Rattle.fr_sound.specs.Seen.{Gives}
 
 -- what each object holds, each mutex holds as its content, and each thread ends with: the type of its code's result, whether it has ended or not
 pub record NameTypes : Type 0 where
   pub object : ObjNo → Owned
   pub mutex : MutexNo → Owned
   pub result : ℕ → Owned
+
+abbrev pub names_of : (ObjNo → Owned) → Gives → NameTypes
+names_of object g = record { object = object; mutex = g.mutex; result = g.result }
 
 -- an owned value of that type by the names in it; `Nothing`, from which a value moved away, is of any type
 abbrev pub fits : NameTypes → Owned → Value → Bool
@@ -25,17 +29,6 @@ fits n _ _ = false
 abbrev pub is_there : Value → Bool
 is_there owned.Nothing = false
 is_there v = true
-
--- the owned type that a kind is
-abbrev pub owned_kind : Kind → Option Owned
-owned_kind (own o) = Some o
-owned_kind k = None
-
--- the owned type of which a part is, whatever has moved away
-abbrev pub owned_part : Piece → Option Owned
-owned_part (whole k) = owned_kind k
-owned_part (gone k) = owned_kind k
-owned_part (boxed p) = map_some box (owned_part p)
 
 abbrev pub fits_some : NameTypes → Option Owned → Value → Bool
 fits_some n None v = false
