@@ -7,6 +7,7 @@ use Rattle.fr_plain.specs.Run.{Run, settle, terms}
 use Rattle.fr_plain.specs.Acts.{Act}
 use Rattle.fr_plain.specs.Whole.{Whole, Stepped, Turn, step, refused, start, plain, ending_of}
 use Rattle.fr_plain.specs.Machine as machine
+use Rattle.fr_plain.specs.SamePlain.{OnceStays, SamePlain}
 use Rattle.fr_plain.specs.Alike.{Alike, SteppedAlike, ActsAlike, PlacesAlike}
 use Rattle.fr_code.specs.Steps.{Place, CodeAct, code_moves}
 use Rattle.fr_code.specs.Machine.{CodeWhole, CodeStepped, code_step, code_run, code_start}
@@ -61,3 +62,10 @@ StartsAlike = (code : List Instr) (r : Run) → IsCodeOf code r → StandsWhole 
 -- under each order the code of a program runs as the program does
 abbrev pub RunsAlike : Type 0
 RunsAlike = (code : List Instr) (r : Run) → IsCodeOf code r → (order : List Turn) → SameSteps code (plain r order) (code_run code code_start order)
+
+-- states of a code whose plain states are the same take the same steps and runs, and end alike
+abbrev pub SamePlainCode : Type 0
+SamePlainCode = (code : List Instr) → SamePlain (code_moves code)
+
+abbrev pub OnceStaysInCode : Type 0
+OnceStaysInCode = (code : List Instr) → OnceStays (code_moves code)

@@ -1,7 +1,7 @@
 //! Laws of compiled code.
 
 ghost use Rattle.fr_code.specs.Examples.{CodesCompute};
-ghost use Rattle.fr_code.specs.Laws.{EndingsAlike, MovesAlike, RefusalsAlike, RunsAlike, SettlingStands, StartsAlike, StepsAlike};
+ghost use Rattle.fr_code.specs.Laws.{EndingsAlike, MovesAlike, OnceStaysInCode, RefusalsAlike, RunsAlike, SamePlainCode, SettlingStands, StartsAlike, StepsAlike};
 ghost use Rattle.fr_code.specs.TypedCode.{ActsAreTyped, CodeNeverStuck, CodeStartsTyped, EndsAreTyped};
 
 /// A state of the code and the state of the plain machine that it stands for take the same steps, with the same labels, and
@@ -19,6 +19,13 @@ pub fn steps_alike()
 pub fn runs_alike()
     ensures starts { StartsAlike }
     ensures runs { RunsAlike }
+{}
+
+/// States of a code whose plain states are the same take the same steps and runs, which lead to the same again; their
+/// threads wait for the same, and where no thread is listed twice, as in each run from such a state, they end alike.
+pub fn same_plain()
+    ensures agree { SamePlainCode }
+    ensures once { OnceStaysInCode }
 {}
 
 /// The codes of some small programs.

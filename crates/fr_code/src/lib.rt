@@ -4,4 +4,4 @@
 
 mod laws;
 
-pub use laws::{code_is_typed, codes_compute, runs_alike, steps_alike};
+pub use laws::{code_is_typed, codes_compute, runs_alike, same_plain, steps_alike};

@@ -1,7 +1,6 @@
 pub mod FormLemmas
 pub mod ContextLemmas
 pub mod PlaceLemmas
-pub mod HeapLemmas
 pub mod HeapParts
 pub mod SlotLemmas
 pub mod ActLemmas

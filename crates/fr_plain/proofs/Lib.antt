@@ -4,3 +4,7 @@ pub mod Alike
 pub mod Tasks
 pub mod Printing
 pub mod TodaysActs
+pub mod SameHeaps
+pub mod ByName
+pub mod SameSteps
+pub mod ListedOnce

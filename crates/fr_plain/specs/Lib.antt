@@ -4,6 +4,7 @@ pub mod MachineActs
 pub mod MachineThreads
 pub mod Machine
 pub mod PlainState
+pub mod SamePlain
 pub mod Tasks
 pub mod Alike
 pub mod RunningTerms

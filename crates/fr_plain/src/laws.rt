@@ -2,6 +2,8 @@
 
 ghost use Rattle.fr_plain.specs.Examples.{RunsCompute};
 ghost use Rattle.fr_plain.specs.Refusing.{RefusedIsNoStep};
+ghost use Rattle.fr_plain.specs.Run.{terms};
+ghost use Rattle.fr_plain.specs.SamePlain.{OnceStays, SamePlain};
 ghost use Rattle.fr_plain.specs.SharedRuns.{SharedRuns};
 ghost use Rattle.fr_plain.specs.ThreadRuns.{ThreadsRun};
 
@@ -23,4 +25,11 @@ pub fn shared_run()
 /// A step that is refused is no plain step.
 pub fn refused_steps()
     ensures { RefusedIsNoStep }
+{}
+
+/// States of terms whose plain states are the same take the same steps and runs, which lead to the same again; their
+/// threads wait for the same, and where no thread is listed twice, as in each run from such a state, they end alike.
+pub fn same_plain()
+    ensures agree { SamePlain terms }
+    ensures once { OnceStays terms }
 {}

@@ -4,5 +4,5 @@
 mod laws;
 mod value;
 
-pub use laws::{refused_steps, runs_compute, shared_run, threads_run};
+pub use laws::{refused_steps, runs_compute, same_plain, shared_run, threads_run};
 pub use value::Value;

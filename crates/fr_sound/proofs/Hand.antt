@@ -32,7 +32,8 @@ use Rattle.fr_plain.specs.State.{State, without, drop_value as drop_plain}
 use Rattle.fr_plain.specs.Acts.{Act, unit as unit_value, task_in, lets_go, Did, act}
 use Rattle.fr_sound.specs.RunTypes.{IsInt, Operand, o_temp, o_unit, o_int, held_after}
 use Rattle.fr_sound.specs.Seen.{Gives, Beside, IsKnown, OneTask, AreKnown, HasNone, IsBeside, owned_val, val_of, vals, heap_of, seen, rank_of, Holds}
-use Rattle.fr_sound.proofs.SeenLemmas.{made_kept, SameHeap, drops_agree, lasts_agree}
+use Rattle.fr_plain.proofs.HeapLemmas.{made_kept}
+use Rattle.fr_sound.proofs.SeenLemmas.{SameHeap, drops_agree, lasts_agree}
 use Rattle.fr_sound.proofs.Known.{known_put, known_drop, known_more, known_alike, none_alike, drop_frees}
 
 -- THE THREAD'S KEYS

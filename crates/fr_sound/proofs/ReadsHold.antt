@@ -30,7 +30,8 @@ use Rattle.fr_plain.specs.State.{State, slot_at, with_slot, Spot, in_slot, in_ce
 use Rattle.fr_plain.specs.Acts.{do_read, do_borrow, read_did, reference, borrow_did}
 use Rattle.fr_sound.specs.RunTypes.{Copies, Moves, Lends, LendsMut}
 use Rattle.fr_sound.specs.Seen.{Gives, Beside, IsKnown, AreKnown, IsBeside, owned_val, val_of, vals, hand_of, heap_of, seen, location_of, rank_of, Holds}
-use Rattle.fr_sound.proofs.SeenLemmas.{length_vals, slot_seen, vals_with, length_with_slot, heap_put, live_made, made_kept, SameHeap}
+use Rattle.fr_plain.proofs.HeapLemmas.{live_made, made_kept}
+use Rattle.fr_sound.proofs.SeenLemmas.{length_vals, slot_seen, vals_with, length_with_slot, heap_put, SameHeap}
 use Rattle.fr_sound.proofs.FoundPlaces.{There, there}
 use Rattle.fr_sound.proofs.Known.{NoTask, known_put, known_swap}
 use Rattle.fr_sound.proofs.Hand.{keys_of, after_holds, seen_heap, known_grown, no_loss, Acted, same_location, same_val}

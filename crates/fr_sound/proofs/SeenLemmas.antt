@@ -1,8 +1,6 @@
 -- What the seen store becomes under each change of the state.
 use Rattle.std.proofs.Common.{◌≡◌, ◌≢◌, ℕ, zero, suc, ◌+◌, ◌<◌, ◌≤◌, Bool, true, false, List, [], ◌∷◌, ◌++◌, length, Option, Some, None, refl, sym, ap, ◌∙◌, arith, length-append}
 use Rattle.std.specs.Prelude.{◌==◌, if◌then◌else◌, slice_get, slice_set}
-use Rattle.std.proofs.Math.Seq.{get_or-append_seam}
-use Rattle.std.proofs.lemmas.List.{get_or-set_same, get_or-set_other, length-set}
 use Rattle.fr_base.specs.declared.label.Plain.{Plain}
 use Rattle.fr_base.specs.declared.label.Plain.TheVariants as plain
 use Rattle.fr_base.specs.declared.name.ObjNo.{ObjNo}
@@ -15,7 +13,7 @@ use Rattle.fr_store.proofs.Keys.{object_cases}
 use Rattle.fr_plain.specs.declared.value.Value.{Value}
 use Rattle.fr_plain.specs.Heap.{Heap, made_by, flat, cell_at, with_cells, with_cell, next_object, with_object, then_drop, drop_links, then_link, last_link, count_cells, live}
 use Rattle.fr_plain.specs.State.{slot_at, with_slot}
-use Rattle.fr_plain.proofs.HeapLemmas.{made_same, made_other, flat_is, flat_past, cell_there}
+use Rattle.fr_plain.proofs.HeapLemmas.{made_same, made_other, live_made, live_falls, cell_same, cell_other, new_same, new_other}
 use Rattle.fr_sound.specs.Seen.{Gives, owned_val, val_of, vals, seen_cell, heap_of}
 
 -- SLOTS
@@ -56,34 +54,9 @@ length_with_slot (v ∷ vs) i w = eq_cases (λ b. length (if b then w ∷ vs els
 
 -- THE HEAP
 
--- an object by its thread and number
-abbrev object_of : ℕ → ℕ → ObjNo
-object_of t c = record { thread = t; count = c }
-
--- an object is told by its thread and number
-object_is : (x o : ObjNo) → x.thread ≡ o.thread → x.count ≡ o.count → x ≡ o
-object_is x o e f = ap (λ t. object_of t x.count) e ∙ ap (object_of o.thread) f
-
 -- an object's cell after a change
-pub cell_with : (h : Heap) (o x : ObjNo) (c : Option Plain) → o.count < length (made_by h o.thread) → cell_at (with_cell h o c) x ≡ (if same_object x o then c else cell_at h x)
-cell_with h o x c lt = object_cases (λ b. cell_at (with_cell h o c) x ≡ (if b then c else cell_at h x)) x o same other
-  where
-    xs : List (Option Plain)
-    xs = made_by h o.thread
-
-    same : x ≡ o → cell_at (with_cell h o c) x ≡ c
-    same e =
-        ap (cell_at (with_cell h o c)) e ∙ ap (λ ys. flat (slice_get ys o.count)) (made_same h o.thread (slice_set (made_by h o.thread) o.count c))
-        ∙ flat_is (slice_set (made_by h o.thread) o.count c) o.count ∙ get_or-set_same (made_by h o.thread) o.count c None lt
-
-    other : x ≢ o → cell_at (with_cell h o c) x ≡ cell_at h x
-    other ne =
-        eq_cases (λ b. cell_at (with_cell h o c) x ≡ cell_at h x) x.thread o.thread
-        (λ e. eq_cases (λ b. cell_at (with_cell h o c) x ≡ cell_at h x) x.count o.count
-        (λ f. let whole : x ≡ o = object_is x o e f in absurd (ne whole))
-        (λ off. ap (λ u. flat (slice_get (made_by (with_cell h o c) u) x.count)) e ∙ ap (λ ys. flat (slice_get ys x.count)) (made_same h o.thread (slice_set (made_by h o.thread) o.count c))
-        ∙ flat_is (slice_set (made_by h o.thread) o.count c) x.count ∙ get_or-set_other (made_by h o.thread) o.count x.count c None off ∙ sym (flat_is (made_by h o.thread) x.count) ∙ ap (λ u. flat (slice_get (made_by h u) x.count)) (sym e)))
-        (λ off. ap (λ ys. flat (slice_get ys x.count)) (made_other h o.thread x.thread (slice_set (made_by h o.thread) o.count c) off))
+cell_with : (h : Heap) (o x : ObjNo) (c : Option Plain) → o.count < length (made_by h o.thread) → cell_at (with_cell h o c) x ≡ (if same_object x o then c else cell_at h x)
+cell_with h o x c lt = object_cases (λ b. cell_at (with_cell h o c) x ≡ (if b then c else cell_at h x)) x o (λ e. ap (cell_at (with_cell h o c)) e ∙ cell_same h o c lt) (λ ne. cell_other h o x c ne)
 
 -- a cell is seen by the same test
 seen_if : (g : Gives) (b : Bool) (c d : Option Plain) → seen_cell g (if b then c else d) ≡ (if b then seen_cell g c else seen_cell g d)
@@ -98,45 +71,15 @@ heap_put g h o x v lt = ap (seen_cell g) (cell_with h o x (Some v) lt) ∙ seen_
 pub heap_without : (g : Gives) (h : Heap) (o x : ObjNo) → o.count < length (made_by h o.thread) → heap_of g (with_cell h o None) x ≡ without_object (heap_of g h) o x
 heap_without g h o x lt = ap (seen_cell g) (cell_with h o x None lt) ∙ seen_if g (same_object x o) None (cell_at h x)
 
--- a list of cells with one more
-flat_push : (xs : List (Option Plain)) (v : Plain) (i : ℕ) → i ≢ length xs → flat (slice_get (xs ++ Some v ∷ []) i) ≡ flat (slice_get xs i)
-flat_push [] v zero ne = absurd (ne refl)
-flat_push [] v (suc i) ne = flat_past [] i (omega arith)
-flat_push (x ∷ xs) v zero ne = refl
-flat_push (x ∷ xs) v (suc i) ne = flat_push xs v i (λ e. ne (ap suc e))
-
 -- a new object
-pub cell_made : (h : Heap) (t : ℕ) (x : ObjNo) (v : Plain) → cell_at (with_object h t v) x ≡ (if same_object x (next_object h t) then Some v else cell_at h x)
-cell_made h t x v = object_cases (λ b. cell_at (with_object h t v) x ≡ (if b then Some v else cell_at h x)) x (next_object h t) same other
-  where
-    same : x ≡ next_object h t → cell_at (with_object h t v) x ≡ Some v
-    same e =
-        ap (cell_at (with_object h t v)) e ∙ ap (λ ys. flat (slice_get ys (length (made_by h t)))) (made_same h t (made_by h t ++ Some v ∷ []))
-        ∙ flat_is (made_by h t ++ Some v ∷ []) (length (made_by h t)) ∙ get_or-append_seam (made_by h t) (Some v) [] None
-
-    other : x ≢ next_object h t → cell_at (with_object h t v) x ≡ cell_at h x
-    other ne =
-        eq_cases (λ b. cell_at (with_object h t v) x ≡ cell_at h x) x.thread t
-        (λ e. ap (λ u. flat (slice_get (made_by (with_object h t v) u) x.count)) e ∙ ap (λ ys. flat (slice_get ys x.count)) (made_same h t (made_by h t ++ Some v ∷ []))
-        ∙ flat_push (made_by h t) v x.count (λ f. ne (object_is x (next_object h t) e f)) ∙ ap (λ u. flat (slice_get (made_by h u) x.count)) (sym e))
-        (λ off. ap (λ ys. flat (slice_get ys x.count)) (made_other h t x.thread (made_by h t ++ Some v ∷ []) off))
+cell_made : (h : Heap) (t : ℕ) (x : ObjNo) (v : Plain) → cell_at (with_object h t v) x ≡ (if same_object x (next_object h t) then Some v else cell_at h x)
+cell_made h t x v = object_cases (λ b. cell_at (with_object h t v) x ≡ (if b then Some v else cell_at h x)) x (next_object h t) (λ e. ap (cell_at (with_object h t v)) e ∙ new_same h t v) (λ ne. new_other h t x v ne)
 
 -- the heap seen after an object is made
 pub heap_made : (g : Gives) (h : Heap) (t : ℕ) (x : ObjNo) (v : Plain) → heap_of g (with_object h t v) x ≡ put_object (heap_of g h) (next_object h t) (owned_val g v) x
 heap_made g h t x v = ap (seen_cell g) (cell_made h t x v) ∙ seen_if g (same_object x (next_object h t)) (Some v) (cell_at h x)
 
--- a live cell is made
-pub live_made : (h : Heap) (o : ObjNo) (v : Plain) → cell_at h o ≡ Some v → o.count < length (made_by h o.thread)
-live_made h o v e = cell_there (made_by h o.thread) o.count v e
-
 -- HOW MANY HAVE BEEN MADE
-
--- a change of a cell changes no length
-pub made_kept : (h : Heap) (o : ObjNo) (c : Option Plain) (u : ℕ) → length (made_by (with_cell h o c) u) ≡ length (made_by h u)
-made_kept h o c u =
-    eq_cases (λ b. length (made_by (with_cell h o c) u) ≡ length (made_by h u)) u o.thread
-    (λ e. ap (λ w. length (made_by (with_cell h o c) w)) e ∙ ap length (made_same h o.thread (slice_set (made_by h o.thread) o.count c)) ∙ length-set (made_by h o.thread) o.count c ∙ ap (λ w. length (made_by h w)) (sym e))
-    (λ ne. ap length (made_other h o.thread u (slice_set (made_by h o.thread) o.count c) ne))
 
 -- no thread has made fewer
 pub made_grows : (h : Heap) (t : ℕ) (v : Plain) (u : ℕ) → length (made_by h u) ≤ length (made_by (with_object h t v) u)
@@ -152,28 +95,6 @@ pub made_next : (h : Heap) (t : ℕ) (v : Plain) → length (made_by h t) < leng
 made_next h t v = let a = ap length (made_same h t (made_by h t ++ Some v ∷ [])) in omega (arith, a, length-append (made_by h t) (Some v ∷ []))
 
 -- DROPPING
-
--- one object less
-count_set : (xs : List (Option Plain)) (i : ℕ) (v : Plain) → flat (slice_get xs i) ≡ Some v → count_cells (slice_set xs i None) + 1 ≡ count_cells xs
-count_set [] i v h = cc
-count_set (None ∷ xs) zero v h = cc
-count_set (Some w ∷ xs) zero v h = omega arith
-count_set (None ∷ xs) (suc i) v h = count_set xs i v h
-count_set (Some w ∷ xs) (suc i) v h = let rest = count_set xs i v h in omega (arith, rest)
-
--- the live objects after a change of a thread
-live_cells : (h : Heap) (t : ℕ) (ys : List (Option Plain)) → live (with_cells h t ys) + count_cells (made_by h t) ≡ live h + count_cells ys
-live_cells [] t ys = omega arith
-live_cells (m ∷ ms) t ys =
-    eq_cases (λ b. live (if b then record m { cells = ys } ∷ ms else m ∷ with_cells ms t ys) + count_cells (if b then m.cells else made_by ms t) ≡ live (m ∷ ms) + count_cells ys) m.thread t
-    (λ e. omega arith) (λ ne. let rest = live_cells ms t ys in omega (arith, rest))
-
--- each object that goes lived
-pub live_falls : (h : Heap) (o : ObjNo) (v : Plain) → cell_at h o ≡ Some v → live (with_cell h o None) + 1 ≡ live h
-live_falls h o v e =
-    let a = live_cells h o.thread (slice_set (made_by h o.thread) o.count None) in
-    let b = count_set (made_by h o.thread) o.count v e in
-    omega (arith, a, b)
 
 -- heaps that hold the same
 abbrev pub SameHeap : (ObjNo → Option Val) → (ObjNo → Option Val) → Type 0

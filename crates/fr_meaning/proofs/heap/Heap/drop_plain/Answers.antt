@@ -1,11 +1,11 @@
 use Rattle.std.proofs.Common.{sym, ap, ◌∙◌, arith}
 use Rattle.fr_plain.specs.Heap.{dropped, live, last_link}
-use Rattle.fr_meaning.proofs.HeapLemmas.{live_without, dropped_box, link_box}
+use Rattle.fr_plain.proofs.HeapLemmas.{live_falls, dropped_box, link_box}
 use Rattle.fr_meaning.proofs.heap.Heap.drop_plain.Goals as goal
 
 pub links-smaller : goal.links-smaller
 links-smaller c =
-    let less = live_without c.links.self.heap c.in-Box.object c.in-Some.inner (sym c.get.ensures ∙ c.in-Some.is) in
+    let less = live_falls c.links.self.heap c.in-Box.object c.in-Some.inner (sym c.get.ensures ∙ c.in-Some.is) in
     let e = ap live c.put.ensures in
     omega (arith, less, e)
 
