@@ -118,29 +118,33 @@ busy_notes =
 
 abbrev pub busy_0 : Server
 busy_0 = record {
-  number = 0;
-  partition = busy_partition;
-  cache = [];
-  mutexes = record { home = 0; made = 1; there = shared_mutex ∷ [] };
-  tasks = busy_notes;
+  rest = record {
+    number = 0;
+    partition = busy_partition;
+    cache = [];
+    mutexes = record { home = 0; made = 1; there = shared_mutex ∷ [] };
+    tasks = busy_notes;
+    inbox = Dupped the_mutex (thread_no 0 6) ∷ Fetch at_3 (object 3) 1 (thread_no 0 8) ∷ [];
+    outbox = [];
+    started = 8;
+  };
   threads = parent ∷ ended 0 4 ∷ dupper ∷ ended 1 1 ∷ dropped ∷ [];
-  inbox = Dupped the_mutex (thread_no 0 6) ∷ Fetch at_3 (object 3) 1 (thread_no 0 8) ∷ [];
-  outbox = [];
-  started = 8;
   events = 20;
 }
 
 abbrev pub busy_1 : Server
 busy_1 = record {
-  number = 1;
-  partition = record { server = 1; limit = 4; cells = cell 1 (int 4) ∷ []; free = []; retired = 0; spare = 0 };
-  cache = copy_of at_2 2 (box at_4 4) 1 ∷ [];
-  mutexes = record { home = 1; made = 0; there = [] };
-  tasks = task (thread_no 1 2) going ∷ task (thread_no 1 3) going ∷ task (thread_no 1 4) going ∷ [];
+  rest = record {
+    number = 1;
+    partition = record { server = 1; limit = 4; cells = cell 1 (int 4) ∷ []; free = []; retired = 0; spare = 0 };
+    cache = copy_of at_2 2 (box at_4 4) 1 ∷ [];
+    mutexes = record { home = 1; made = 0; there = [] };
+    tasks = task (thread_no 1 2) going ∷ task (thread_no 1 3) going ∷ task (thread_no 1 4) going ∷ [];
+    inbox = Moved old_0 (record { object = object 0; value = int 1 }) (thread_no 0 1) ∷ Finished (thread_no 1 2) (int 3) ∷ Release (released.Task (thread_no 1 3)) ∷ [];
+    outbox = record { target = 0; message = Migrate mover } ∷ [];
+    started = 4;
+  };
   threads = writer ∷ lender ∷ viewer ∷ gifted ∷ joined ∷ fetcher ∷ ended 1 2 ∷ [];
-  inbox = Moved old_0 (record { object = object 0; value = int 1 }) (thread_no 0 1) ∷ Finished (thread_no 1 2) (int 3) ∷ Release (released.Task (thread_no 1 3)) ∷ [];
-  outbox = record { target = 0; message = Migrate mover } ∷ [];
-  started = 4;
   events = 20;
 }
 

@@ -25,7 +25,7 @@ use Rattle.heap_law.specs.Along.{Fault, breaks, no_result}
 -- THE ENABLED EVENTS
 
 abbrev kept : Bool → Server → What → List Event
-kept true s w = record { server = s.number; what = w } ∷ []
+kept true s w = record { server = s.rest.number; what = w } ∷ []
 kept false s w = []
 
 abbrev kept_if : Options → Server → What → List Event
@@ -52,7 +52,7 @@ evictions o s [] = []
 evictions o s (c ∷ cs) = kept_if o s (Evict c.word) ++ evictions o s cs
 
 abbrev events_at : Options → Server → List Event
-events_at o s = steps o s s.threads ++ steps o s s.threads ++ deliveries o s 0 s.inbox ++ evictions o s s.cache ++ moves o s s.threads
+events_at o s = steps o s s.threads ++ steps o s s.threads ++ deliveries o s 0 s.rest.inbox ++ evictions o s s.rest.cache ++ moves o s s.threads
 
 abbrev pub all_events : Options → List Server → List Event
 all_events o [] = []

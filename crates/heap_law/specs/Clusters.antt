@@ -132,29 +132,33 @@ task t s = record { thread = t; state = s }
 
 abbrev pub server_0 : Server
 server_0 = record {
-  number = 0;
-  partition = partition_0;
-  cache = [];
-  mutexes = record { home = 0; made = 1; there = held_mutex ∷ [] };
-  tasks = task (thread_no 0 1) going ∷ task (thread_no 0 2) going ∷ task (thread_no 0 3) going ∷ [];
+  rest = record {
+    number = 0;
+    partition = partition_0;
+    cache = [];
+    mutexes = record { home = 0; made = 1; there = held_mutex ∷ [] };
+    tasks = task (thread_no 0 1) going ∷ task (thread_no 0 2) going ∷ task (thread_no 0 3) going ∷ [];
+    inbox = Drop word_2 (object 2) ∷ [];
+    outbox = [];
+    started = 3;
+  };
   threads = main_waiting ∷ locker ∷ worker ∷ [];
-  inbox = Drop word_2 (object 2) ∷ [];
-  outbox = [];
-  started = 3;
   events = 20;
 }
 
 abbrev pub server_1 : Server
 server_1 = record {
-  number = 1;
-  partition = partition_1;
-  cache = copy_of word_1 1 (int 5) 0 ∷ copy_of word_3 3 (int 3) 1 ∷ [];
-  mutexes = record { home = 1; made = 0; there = [] };
-  tasks = task (thread_no 1 1) (asked 1 (thread_no 0 3)) ∷ [];
+  rest = record {
+    number = 1;
+    partition = partition_1;
+    cache = copy_of word_1 1 (int 5) 0 ∷ copy_of word_3 3 (int 3) 1 ∷ [];
+    mutexes = record { home = 1; made = 0; there = [] };
+    tasks = task (thread_no 1 1) (asked 1 (thread_no 0 3)) ∷ [];
+    inbox = [];
+    outbox = [];
+    started = 1;
+  };
   threads = reader ∷ joiner ∷ [];
-  inbox = [];
-  outbox = [];
-  started = 1;
   events = 20;
 }
 
@@ -174,15 +178,17 @@ relent_slots =
 
 abbrev pub relent_server : Server
 relent_server = record {
-  number = 0;
-  partition = record { server = 0; limit = 4; cells = cell 0 (int 1) ∷ []; free = []; retired = 0; spare = 0 };
-  cache = [];
-  mutexes = record { home = 0; made = 0; there = [] };
-  tasks = [];
+  rest = record {
+    number = 0;
+    partition = record { server = 0; limit = 4; cells = cell 0 (int 1) ∷ []; free = []; retired = 0; spare = 0 };
+    cache = [];
+    mutexes = record { home = 0; made = 0; there = [] };
+    tasks = [];
+    inbox = [];
+    outbox = [];
+    started = 0;
+  };
   threads = record (new_thread 0 2 relent_slots) { made = 1 } ∷ [];
-  inbox = [];
-  outbox = [];
-  started = 0;
   events = 8;
 }
 

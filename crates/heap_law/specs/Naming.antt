@@ -206,9 +206,9 @@ pins vs = tot (λ v. one (is_pinned v)) vs
 -- without a colour; a cache has a word once; mutexes, tasks and threads stand by rising number
 abbrev pub server_wrong : Sight → ℕ → Server → ℕ
 server_wrong s n x =
-    other (x.number == n) + other (x.partition.server == n) + other (x.partition.limit == s.options.colours) + tot free_colours x.partition.free
-    + other (sum_over s (is_retired n) == x.partition.retired) + tot (cached_twice x.cache) x.cache + other (x.mutexes.home == n)
-    + rising (numbers_of (λ m. m.number.count) x.mutexes.there) + rising (numbers_of (λ t. t.thread) x.tasks) + rising (numbers_of (λ t. t.number) x.threads)
+    other (x.rest.number == n) + other (x.rest.partition.server == n) + other (x.rest.partition.limit == s.options.colours) + tot free_colours x.rest.partition.free
+    + other (sum_over s (is_retired n) == x.rest.partition.retired) + tot (cached_twice x.rest.cache) x.rest.cache + other (x.rest.mutexes.home == n)
+    + rising (numbers_of (λ m. m.number.count) x.rest.mutexes.there) + rising (numbers_of (λ t. t.thread) x.rest.tasks) + rising (numbers_of (λ t. t.number) x.threads)
 
 abbrev pub servers_wrong : Sight → ℕ → List Server → ℕ
 servers_wrong s n [] = other (n == s.options.servers)

@@ -169,10 +169,10 @@ task_things s i t = noted s t ∷ result_things t.thread t.state
 
 abbrev pub server_things : Server → List Thing
 server_things s =
-    counts s.number (length s.partition.cells) s.partition.retired s.started s.mutexes.made s.events
-    ∷ partition_things s.number s.partition ++ things_at (copy_things s.number) 0 s.cache ++ things_at (mutex_things s.number) 0 s.mutexes.there
-    ++ things_at (task_things s.number) 0 s.tasks ++ things_at (standing_things s.number) 0 s.threads ++ things_at (waiting_things s.number) 0 s.inbox
-    ++ things_at leaving_things 0 s.outbox
+    counts s.rest.number (length s.rest.partition.cells) s.rest.partition.retired s.rest.started s.rest.mutexes.made s.events
+    ∷ partition_things s.rest.number s.rest.partition ++ things_at (copy_things s.rest.number) 0 s.rest.cache ++ things_at (mutex_things s.rest.number) 0 s.rest.mutexes.there
+    ++ things_at (task_things s.rest.number) 0 s.rest.tasks ++ things_at (standing_things s.rest.number) 0 s.threads ++ things_at (waiting_things s.rest.number) 0 s.rest.inbox
+    ++ things_at leaving_things 0 s.rest.outbox
 
 abbrev pub servers_things : List Server → List Thing
 servers_things [] = []

@@ -19,11 +19,11 @@ pub record Task : Type 0 where
   pub thread : ℕ
   pub state : TaskState
 
-abbrev state_in : Option Task → Option TaskState
+abbrev pub state_in : Option Task → Option TaskState
 state_in None = None
 state_in (Some x) = Some x.state
 
-abbrev task_in : List Task → ℕ → Option Task
+abbrev pub task_in : List Task → ℕ → Option Task
 task_in [] t = None
 task_in (x ∷ xs) t = if x.thread == t then Some x else task_in xs t
 
@@ -42,7 +42,7 @@ abbrev pub without_task : List Task → ℕ → List Task
 without_task [] t = []
 without_task (x ∷ xs) t = if x.thread == t then xs else x ∷ without_task xs t
 
-abbrev has_parent : ℕ → TaskState → Bool
+abbrev pub has_parent : ℕ → TaskState → Bool
 has_parent p (in_pair q over) = p == q
 has_parent p s = false
 
@@ -51,7 +51,7 @@ abbrev pub has_pair : List Task → ℕ → Bool
 has_pair [] p = false
 has_pair (x ∷ xs) p = has_parent p x.state || has_pair xs p
 
-abbrev noted : List Task → ℕ → TaskState → List Task
+abbrev pub noted : List Task → ℕ → TaskState → List Task
 noted xs t s = xs ++ record { thread = t; state = s } ∷ []
 
 abbrev pub can_begin : List Task → ℕ → Bool
@@ -69,7 +69,7 @@ abbrev pub begin_pair : List Task → ℕ → ℕ → ℕ → List Task
 begin_pair xs parent a b = noted (noted xs a (in_pair parent false)) b (in_pair parent false)
 
 -- the others of a pair that have ended
-abbrev over_of : ℕ → TaskState → Bool
+abbrev pub over_of : ℕ → TaskState → Bool
 over_of p (in_pair q over) = (p == q) && over
 over_of p s = false
 
@@ -77,11 +77,11 @@ abbrev pub over_in : List Task → ℕ → Option ℕ
 over_in [] p = None
 over_in (x ∷ xs) p = if over_of p x.state then Some x.thread else over_in xs p
 
-abbrev pair_ended : List Task → ℕ → ℕ → Option ℕ → List Task × EndedAs
+abbrev pub pair_ended : List Task → ℕ → ℕ → Option ℕ → List Task × EndedAs
 pair_ended xs t parent None = (with_state xs t (in_pair parent true), Kept)
 pair_ended xs t parent (Some other) = (without_task (without_task xs t) other, Both parent)
 
-abbrev ended_from : List Task → ℕ → Owned → Option TaskState → Option (List Task × EndedAs)
+abbrev pub ended_from : List Task → ℕ → Owned → Option TaskState → Option (List Task × EndedAs)
 ended_from xs t v None = None
 ended_from xs t v (Some going) = Some (with_state xs t (kept v), Kept)
 ended_from xs t v (Some let_go) = Some (without_task xs t, LetGo v)
@@ -94,7 +94,7 @@ ended_from xs t v (Some (in_pair parent false)) = Some (pair_ended xs t parent (
 abbrev pub ended : List Task → ℕ → Owned → Option (List Task × EndedAs)
 ended xs t v = ended_from xs t v (state_of xs t)
 
-abbrev asked_from : List Task → ℕ → ℕ → ℕ → Option TaskState → Option (List Task × Option Owned)
+abbrev pub asked_from : List Task → ℕ → ℕ → ℕ → Option TaskState → Option (List Task × Option Owned)
 asked_from xs t server by (Some going) = Some (with_state xs t (asked server by), None)
 asked_from xs t server by (Some (kept v)) = Some (without_task xs t, Some v)
 asked_from xs t server by _ = None
@@ -104,7 +104,7 @@ asked_from xs t server by _ = None
 abbrev pub ask : List Task → ℕ → ℕ → ℕ → Option (List Task × Option Owned)
 ask xs t server by = asked_from xs t server by (state_of xs t)
 
-abbrev let_go_from : List Task → ℕ → Option TaskState → Option (List Task × Option Owned)
+abbrev pub let_go_from : List Task → ℕ → Option TaskState → Option (List Task × Option Owned)
 let_go_from xs t (Some going) = Some (with_state xs t let_go, None)
 let_go_from xs t (Some (kept v)) = Some (without_task xs t, Some v)
 let_go_from xs t _ = None

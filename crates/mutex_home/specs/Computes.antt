@@ -1,9 +1,9 @@
 -- Some calls on the mutexes of a server, computed.
-use Rattle.std.specs.Prelude.{◌≡◌, ℕ, pos, true, List, [], ◌∷◌, Option, Some, None, option_map}
+use Rattle.std.specs.Prelude.{◌≡◌, ℕ, pos, List, [], ◌∷◌, Option, Some, None}
 use Rattle.fr_base.specs.declared.name.MutexNo.{MutexNo}
 use Rattle.heap_partition.specs.declared.value.Owned.{Owned}
 use Rattle.heap_partition.specs.declared.value.Owned.TheVariants as owned
-use Rattle.mutex_home.specs.Mutexes.{Mutex, Mutexes, make, ask, give_back, more, less}
+use Rattle.mutex_home.specs.Mutexes.{Mutexes, make, ask, give_back, more, less}
 use Rattle.mutex_home.specs.declared.answers.Asked.TheVariants.{Queued, Granted}
 use Rattle.mutex_home.specs.declared.answers.Back.TheVariants.{Next, Ended, Kept}
 

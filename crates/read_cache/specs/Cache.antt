@@ -14,7 +14,7 @@ abbrev pub copy_of : List Copy → ℕ → Option Copy
 copy_of [] w = None
 copy_of (c ∷ cs) w = if c.word == w then Some c else copy_of cs w
 
-abbrev cell_in : Option Copy → Option Cell
+abbrev pub cell_in : Option Copy → Option Cell
 cell_in None = None
 cell_in (Some c) = Some c.cell
 
@@ -25,7 +25,7 @@ hit cs w = cell_in (copy_of cs w)
 abbrev pub is_cached : List Copy → ℕ → Bool
 is_cached cs w = is_some (copy_of cs w)
 
-abbrev users_in : Option Copy → ℕ
+abbrev pub users_in : Option Copy → ℕ
 users_in None = 0
 users_in (Some c) = c.users
 
@@ -33,7 +33,7 @@ users_in (Some c) = c.users
 abbrev pub users : List Copy → ℕ → ℕ
 users cs w = users_in (copy_of cs w)
 
-abbrev same_or_absent : Option Cell → Cell → Bool
+abbrev pub same_or_absent : Option Cell → Cell → Bool
 same_or_absent None new = true
 same_or_absent (Some old) new = same_cell old new
 

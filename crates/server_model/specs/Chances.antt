@@ -1,6 +1,5 @@
 -- Runs of the small programs in which each next event is drawn by a small generator from all enabled ones, evictions and migrations
--- too, for each number of servers up to three and each of some numbers of colours. None of them may be without a result, and
--- all of them end with the same prints and nothing left.
+-- too. None of them may be without a result, and all of them end with the same prints and nothing left.
 use Rattle.std.specs.Prelude.{◌≡◌, ℕ, ℤ, zero, suc, pos, ◌+◌, ◌*◌, ◌/◌, ◌%◌, ◌==◌, ◌&&◌, not, Bool, true, false, if◌then◌else◌, List, [], ◌∷◌, ◌++◌, length, Option, Some, None, slice_get}
 use Rattle.fr_base.specs.declared.instruction.Instr.{Instr}
 use Rattle.read_cache.specs.Cache.{Copy}
@@ -36,7 +35,8 @@ migrations n s (t ∷ ts) =
 
 abbrev events_of : ℕ → List Server → List Event
 events_of n [] = []
-events_of n (s ∷ ss) = steps s.number s.threads ++ deliveries s.number 0 s.inbox ++ evictions s.number s.cache ++ migrations n s.number s.threads ++ events_of n ss
+events_of n (s ∷ ss) =
+    steps s.rest.number s.threads ++ deliveries s.rest.number 0 s.rest.inbox ++ evictions s.rest.number s.rest.cache ++ migrations n s.rest.number s.threads ++ events_of n ss
 
 -- RUNS
 
@@ -74,12 +74,9 @@ comes_to ns (Some r) = (figures_of r).finished && same_ints (figures_of r).print
 abbrev one_way : List Instr → List ℕ → ℕ → ℕ → ℕ → Bool
 one_way code ns servers colours x = comes_to ns (drawn servers 400 x (run code (with_servers servers colours) []))
 
-abbrev each_colour : List Instr → List ℕ → ℕ → ℕ → Bool
-each_colour code ns servers x = one_way code ns servers 1 x && (one_way code ns servers 2 (x + 1) && one_way code ns servers 65536 (x + 2))
-
--- each number of servers and of colours, with these seeds of the generator
+-- with two servers and two colours, and with three servers and all colours
 abbrev pub each_way : List Instr → List ℕ → ℕ → Bool
-each_way code ns x = each_colour code ns 1 x && (each_colour code ns 2 (x + 7) && each_colour code ns 3 (x + 11))
+each_way code ns x = one_way code ns 2 2 x && one_way code ns 3 65536 (x + 1)
 
 pub record SmallOnesCome : Type 0 where
   pub of_written_box : each_way written_box (2 ∷ []) 1 ≡ true

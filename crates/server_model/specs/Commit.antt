@@ -1,6 +1,6 @@
 -- The plain step of an instruction whose place is ready (Featherweight Rust's reductions on servers; threads, mutexes, labels and
 -- acts are this project's). A lock, a dup and a join without their answer send their request here.
-use Rattle.std.specs.Prelude.{ℕ, ℤ, zero, suc, ◌+◌, ◌==◌, Bool, true, false, if◌then◌else◌, List, [], ◌∷◌, Option, Some, None, slice_get, option_map}
+use Rattle.std.specs.Prelude.{ℕ, zero, suc, ◌+◌, ◌==◌, Bool, true, false, if◌then◌else◌, List, [], ◌∷◌, Option, Some, None, slice_get, option_map}
 use Rattle.fr_base.specs.declared.name.MutexNo.{MutexNo}
 use Rattle.fr_base.specs.declared.name.ObjNo.{ObjNo}
 use Rattle.fr_base.specs.declared.place.Lval.{Lval}
@@ -18,7 +18,6 @@ use Rattle.heap_partition.specs.Plain.{plain_of}
 use Rattle.heap_partition.specs.declared.value.Cell.{Cell}
 use Rattle.heap_partition.specs.declared.value.Owned.{Owned}
 use Rattle.heap_partition.specs.declared.value.Owned.TheVariants as owned
-use Rattle.owner_box.specs.Partition.{made, new_word}
 use Rattle.mutex_home.specs.Mutexes.{can_make, make, next_mutex}
 use Rattle.join_home.specs.Tasks.{can_begin, begin, can_begin_pair, begin_pair}
 use Rattle.mut_borrow.specs.declared.mutable.MutRef.{MutRef}
@@ -28,10 +27,11 @@ use Rattle.thread_state.specs.declared.value.Value.{Value}
 use Rattle.thread_state.specs.declared.value.Value.TheVariants as value
 use Rattle.server_msgs.specs.declared.message.Message.TheVariants as message
 use Rattle.journal.specs.declared.act.Act.TheVariants as act
-use Rattle.server_model.specs.Work.{Hand, send, note, label_all, with_partition, with_mutexes, with_tasks, with_cache, can_grow, working, with_phase, with_slots, with_temps, push_slot, push_temp, last_of, front_of, then_some, pop, unpin_all}
-use Rattle.server_model.specs.Places.{Spot, in_slot, nowhere, cell_at, value_at, load_at, put_slot, put_at, took}
-use Rattle.server_model.specs.Drop.{home_of, let_go, drop_labels, drop_value}
-use Rattle.server_model.specs.Start.{next_thread, start_thread, copied, capture}
+use Rattle.server_model.specs.Work.{Hand, send, note, label_all, with_mutexes, with_tasks, with_cache, working, with_phase, go_to, with_slots, push_slot, push_temp, pop_temp, pop_slot, pop, taken_as, owned_of, task_of, mutex_of, pop_owned, pop_int, then_some, unpin_all}
+use Rattle.server_model.specs.NewWords.{NewWord, issue_placed}
+use Rattle.server_model.specs.Places.{Spot, in_slot, nowhere, cell_at, value_at, load_at, put_slot, put_at, took, second_of}
+use Rattle.server_model.specs.Drop.{home_of, give_up, drop_labels, drop_value}
+use Rattle.server_model.specs.Start.{next_thread, start_thread, capture}
 
 -- the plain step is done, with the new names that it took; a request was sent, and the thread waits; or a value that the step needs
 -- isn't there
@@ -40,38 +40,37 @@ pub data Committed : Type 0 where
   waits : Hand → Committed
   refused : Committed
 
+-- the step is done, unless something failed
+abbrev pub done_where : Fresh → Option Hand → Committed
+done_where names None = refused
+done_where names (Some h) = done names h
+
 -- the thread is at its next instruction
 abbrev pub go_on : Hand → Hand
-go_on h = record h { thread = record h.thread { pc = h.thread.pc + 1; phase = phase.Ready } }
-
--- the step is done, unless something failed
-abbrev pub finished : Fresh → Option Hand → Committed
-finished names None = refused
-finished names (Some h) = done names h
+go_on h = go_to (h.thread.pc + 1) h
 
 -- a step without new names
 abbrev pub goes_on : Option Hand → Committed
-goes_on h = finished fresh.None (option_map go_on h)
+goes_on h = done_where fresh.None (option_map go_on h)
 
 -- the thread waits, unless something failed
 abbrev pub waiting : Option Hand → Committed
 waiting None = refused
 waiting (Some h) = waits h
 
--- an owned value is needed
-abbrev pub owned_then : Value → (Owned → Option Hand) → Option Hand
-owned_then (value.Own v) go = go v
-owned_then v go = None
-
--- SLOTS, PLACES AND REFERENCES
+-- SLOTS AND PLACES
 
 -- a new variable
 abbrev pub let_slot : Operand → Hand → Option Hand
-let_slot o h = pop o h (λ v h2. Some (push_slot v h2))
+let_slot o h = option_map (λ t. push_slot t.item t.hand) (pop o h)
 
--- a variable gets a value, and what stood there is dropped
+-- what a step drops has its labels before the store that takes its place
+abbrev pub label_dropped : Value → Hand → Hand
+label_dropped v h = working (label_all (drop_labels v)) h
+
+-- a variable gets a value, and what came out is dropped
 abbrev pub replace_slot : ℕ → Spot → Value → Hand → Option Hand
-replace_slot i holder v h = then_some (slice_get h.thread.slots i) (λ old. then_some (drop_value holder old h) (put_slot i v))
+replace_slot i holder v h = then_some (slice_get h.thread.slots i) (λ old. then_some (put_slot i v (label_dropped old h)) (drop_value holder old))
 
 -- the label of a store
 abbrev pub store_labels : Option Cell → Owned → List Label
@@ -82,32 +81,30 @@ store_labels (Some c) v = label.Store c.object (plain_of v) ∷ []
 abbrev pub store_at : Spot → Owned → Hand → Option Hand
 store_at s v h = put_at s (value.Own v) (working (label_all (store_labels (cell_at h s) v)) h)
 
--- what a place leads to gets an owned value, and what stood there is dropped
-abbrev pub replace_at : Spot → Value → Hand → Option Hand
-replace_at s v h = owned_then v (λ u. then_some (value_at h s) (λ old. then_some (drop_value nowhere old h) (store_at s u)))
+-- what a place leads to gets an owned value, and what came out is dropped
+abbrev pub replace_at : Spot → Owned → Hand → Option Hand
+replace_at s v h = then_some (value_at h s) (λ old. then_some (store_at s v (label_dropped old h)) (drop_value nowhere old))
 
--- to a variable, or through a star
-abbrev pub assign_to : Lval → ℕ → Spot → Value → Hand → Option Hand
-assign_to w zero s v h = replace_slot w.slot s v h
-assign_to w (suc d) s v h = replace_at s v h
-
--- an assignment
-abbrev pub assign : Lval → Operand → Spot → Hand → Option Hand
-assign w o s h = pop o h (assign_to w w.depth s)
+-- an assignment to a variable, or through a star
+abbrev pub assign : Lval → ℕ → Operand → Spot → Hand → Option Hand
+assign w zero o s h = then_some (pop o h) (λ t. replace_slot w.slot s t.item t.hand)
+assign w (suc d) o s h = then_some (pop_owned o h) (λ t. replace_at s t.item t.hand)
 
 -- a move out leaves `Gone` in a slot and `Nothing` in a cell
 abbrev pub take_out : Spot → Hand → Option Hand
 take_out (in_slot i) h = put_slot i value.Gone h
 take_out s h = store_at s owned.Nothing h
 
--- a copy, or the value itself
+-- a second value, or the value itself
 abbrev pub read_as : Bool → Spot → Value → Hand → Option Hand
-read_as false s v h = Some (push_temp (copied v) h)
+read_as false s v h = option_map (λ u. push_temp u h) (second_of v)
 read_as true s v h = option_map (push_temp v) (take_out s h)
 
 -- the value at a place
 abbrev pub read : Bool → Spot → Hand → Option Hand
 read take s h = then_some (value_at h s) (λ v. read_as take s v (load_at s h))
+
+-- REFERENCES
 
 -- a shared reference from a pointer has its word, and pins nothing
 abbrev pub shared_from : Value → Option Value
@@ -154,11 +151,11 @@ borrow_mut w s h = borrow_mut_from w w.depth s h
 
 -- the temporary value on top is dropped
 abbrev pub discard : Spot → Hand → Option Hand
-discard s h = then_some (last_of h.thread.temps) (λ v. drop_value s v (with_temps (front_of h.thread.temps) h))
+discard s h = then_some (pop_temp h) (λ t. drop_value s t.item (label_dropped t.item t.hand))
 
 -- the last slot is dropped
 abbrev pub drop_slot : Spot → Hand → Option Hand
-drop_slot s h = then_some (last_of h.thread.slots) (λ v. drop_value s v (with_slots (front_of h.thread.slots) h))
+drop_slot s h = then_some (pop_slot h) (λ t. drop_value s t.item (label_dropped t.item t.hand))
 
 -- OBJECTS AND NUMBERS
 
@@ -166,42 +163,35 @@ drop_slot s h = then_some (last_of h.thread.slots) (λ v. drop_value s v (with_s
 abbrev pub next_object : Hand → ObjNo
 next_object h = record { thread = h.thread.number; count = h.thread.made }
 
+-- the thread has made one object more, a box of which is on top
+abbrev pub push_box : Owned → NewWord → Hand → Hand
+push_box v n h =
+    push_temp (value.Own (owned.Box (record { word = n.word; object = next_object h })))
+    (record { work = label_all (label.Make (next_object h) (plain_of v) ∷ []) n.work; thread = record h.thread { made = h.thread.made + 1 } })
+
 -- a new object here
 abbrev pub make_box : Owned → Hand → Option Hand
-make_box v h =
-    if can_grow h.work.server.partition
-    then Some (push_temp (value.Own (owned.Box (record { word = new_word h.work.server.partition; object = next_object h })))
-    (record h {
-      work = label_all (label.Make (next_object h) (plain_of v) ∷ []) (note (act.Make (next_object h) (new_word h.work.server.partition))
-          (with_partition (made h.work.server.partition (record { object = next_object h; value = v })) h.work));
-      thread = record h.thread { made = h.thread.made + 1 };
-    }))
-    else None
+make_box v h = option_map (λ n. push_box v n h) (issue_placed (act.Make (next_object h)) (record { object = next_object h; value = v }) h.work)
 
 -- a box of an owned value
 abbrev pub box_up : Operand → Hand → Option Hand
-box_up o h = pop o h (λ v h2. owned_then v (λ u. make_box u h2))
-
--- an integer is needed
-abbrev pub int_then : Value → (ℤ → Option Hand) → Option Hand
-int_then (value.Own (owned.Int n)) go = go n
-int_then v go = None
+box_up o h = then_some (pop_owned o h) (λ t. make_box t.item t.hand)
 
 -- the right operand is on top
 abbrev pub arith : Op → Operand → Operand → Hand → Option Hand
 arith f a b h =
-    pop b h (λ y h2. pop a h2 (λ x h3. int_then x (λ m. int_then y (λ n. Some (push_temp (value.Own (owned.Int (result_of f m n))) h3)))))
+    then_some (pop_int b h) (λ y. option_map (λ x. push_temp (value.Own (owned.Int (result_of f x.item y.item))) x.hand) (pop_int a y.hand))
 
 -- a number is printed
 abbrev pub print : Operand → Hand → Option Hand
-print o h = pop o h (λ v h2. int_then v (λ n. Some (working (label_all (label.Print n ∷ [])) h2)))
+print o h = option_map (λ t. working (label_all (label.Print t.item ∷ [])) t.hand) (pop_int o h)
 
 -- THREADS
 
 -- the thread that starts is noted here, its home
 abbrev pub begun : Hand → Option Hand
 begun h =
-    if can_begin h.work.server.tasks (next_thread h.work.server) then Some (working (with_tasks (begin h.work.server.tasks (next_thread h.work.server))) h) else None
+    if can_begin h.work.rest.tasks (next_thread h.work.rest) then Some (working (with_tasks (begin h.work.rest.tasks (next_thread h.work.rest))) h) else None
 
 -- a thread starts, and its task is a temporary value
 abbrev pub spawn_with : ℕ → ℕ → ℕ → Hand → List Value × List Value → Option Hand
@@ -210,26 +200,25 @@ spawn_with servers pc u h new = option_map (λ h2. push_temp (value.Own (owned.T
 -- a thread starts with owned values
 abbrev pub spawn : ℕ → CaptureList → ℕ → Hand → Committed
 spawn servers cs pc h =
-    finished (fresh.Thread (next_thread h.work.server)) (option_map go_on (then_some (capture false cs.items h.thread.slots) (spawn_with servers pc (next_thread h.work.server) h)))
+    done_where (fresh.Thread (next_thread h.work.rest)) (option_map go_on (then_some (capture false cs.items h.thread.slots) (spawn_with servers pc (next_thread h.work.rest) h)))
 
 -- the thread's phase names its request, and the request goes to a home
-abbrev pub ask_join : ℕ → Hand → Option Hand
-ask_join u h = Some (with_phase (phase.WaitJoin u) (working (λ w. send (home_of u) (message.Join u w.server.number h.thread.number) (note (act.AskJoin u) w)) h))
+abbrev pub ask_join : Hand → ℕ → Hand
+ask_join h u = with_phase (phase.WaitJoin u) (working (λ w. send (home_of u) (message.Join u w.rest.number h.thread.number) (note (act.AskJoin u) w)) h)
 
--- a task is needed
-abbrev pub task_then : Value → (ℕ → Option Hand) → Option Hand
-task_then (value.Own (owned.Task u)) go = go u
-task_then v go = None
+-- without its gift
+abbrev pub take_gift : Hand → Hand
+take_gift h = record h { thread = record h.thread { gift = None } }
 
--- a join asks for the result, and takes it once it is there
+-- a join asks for the result of a task, which stays where it is, and takes both once the result is there
 abbrev pub join : Operand → Option Owned → Hand → Committed
-join o None h = waiting (pop o h (λ v h2. task_then v (λ u. ask_join u h)))
-join o (Some result) h = goes_on (pop o h (λ v h2. task_then v (λ u. Some (push_temp (value.Own result) h2))))
+join o None h = waiting (option_map (ask_join h) (then_some (pop o h) (λ t. task_of t.item)))
+join o (Some result) h = goes_on (option_map (λ t. push_temp (value.Own result) t.hand) (then_some (pop o (take_gift h)) (taken_as task_of)))
 
 -- both threads are noted here, their home
 abbrev pub pair_begun : Hand → ℕ → ℕ → Option Hand
 pair_begun h a b =
-    if can_begin_pair h.work.server.tasks h.thread.number a b then Some (working (with_tasks (begin_pair h.work.server.tasks h.thread.number a b)) h) else None
+    if can_begin_pair h.work.rest.tasks h.thread.number a b then Some (working (with_tasks (begin_pair h.work.rest.tasks h.thread.number a b)) h) else None
 
 -- both start, and the thread waits for them
 abbrev pub par_with : ℕ → ℕ → ℕ → ℕ → ℕ → Hand → List Value → List Value × List Value → Option Hand
@@ -239,8 +228,8 @@ par_with servers pc other a b h first second =
 -- two threads start, the first list's first, and their parent waits for both
 abbrev pub par : ℕ → CaptureList → ℕ → CaptureList → ℕ → Hand → Committed
 par servers cs pc ds other h =
-    finished (fresh.Threads (next_thread h.work.server) (next_thread h.work.server + 1))
-    (then_some (capture true cs.items h.thread.slots) (λ first. then_some (capture true ds.items first.1) (par_with servers pc other (next_thread h.work.server) (next_thread h.work.server + 1) h first.0)))
+    done_where (fresh.Threads (next_thread h.work.rest) (next_thread h.work.rest + 1))
+    (then_some (capture true cs.items h.thread.slots) (λ first. then_some (capture true ds.items first.1) (par_with servers pc other (next_thread h.work.rest) (next_thread h.work.rest + 1) h first.0)))
 
 -- both have ended
 abbrev pub par_end : Phase → Hand → Option Hand
@@ -249,67 +238,73 @@ par_end p h = None
 
 -- the result of main is dropped; another thread's goes to its home
 abbrev pub end_with : Bool → Owned → Hand → Option Hand
-end_with true v h = Some (working (λ w. label_all (label.End h.thread.number ∷ []) (let_go v (label_all (drop_labels v) w))) h)
+end_with true v h = Some (working (λ w. label_all (label.End h.thread.number ∷ []) (give_up v w)) (label_dropped (value.Own v) h))
 end_with false v h =
     Some (working (λ w. send h.thread.home (message.Finished h.thread.number v) (label_all (label.End h.thread.number ∷ []) (note (act.Finish h.thread.number) w))) h)
 
 -- the thread is over
 abbrev pub end_thread : Operand → Hand → Committed
-end_thread o h = finished fresh.None (option_map (with_phase phase.Over) (pop o h (λ v h2. owned_then v (λ u. end_with (h2.thread.number == 0) u h2))))
+end_thread o h = done_where fresh.None (option_map (with_phase phase.Over) (then_some (pop_owned o h) (λ t. end_with (h.thread.number == 0) t.item t.hand)))
 
 -- MUTEXES
 
 -- a new mutex here, its home
 abbrev pub mutex_made : Owned → Hand → Option Hand
 mutex_made v h =
-    if can_make h.work.server.mutexes
-    then Some (push_temp (value.Own (owned.Mutex (next_mutex h.work.server.mutexes))) (working (with_mutexes (make h.work.server.mutexes v)) h))
+    if can_make h.work.rest.mutexes
+    then Some (push_temp (value.Own (owned.Mutex (next_mutex h.work.rest.mutexes))) (working (with_mutexes (make h.work.rest.mutexes v)) h))
     else None
 
 -- a mutex of an owned value
 abbrev pub mutex : Operand → Hand → Committed
-mutex o h = finished (fresh.Mutex (next_mutex h.work.server.mutexes)) (option_map go_on (pop o h (λ v h2. owned_then v (λ u. mutex_made u h2))))
+mutex o h = done_where (fresh.Mutex (next_mutex h.work.rest.mutexes)) (option_map go_on (then_some (pop_owned o h) (λ t. mutex_made t.item t.hand)))
 
--- a mutex is needed
-abbrev pub mutex_then : Option Value → (MutexNo → Option Hand) → Option Hand
-mutex_then (Some (value.Own (owned.Mutex m))) go = go m
-mutex_then v go = None
+-- the mutex whose value stands at a spot
+abbrev pub mutex_at : Hand → Spot → Option MutexNo
+mutex_at h s = then_some (value_at h s) mutex_of
 
 -- the request of a dup
-abbrev pub ask_dup : Hand → MutexNo → Option Hand
-ask_dup h m = Some (with_phase (phase.WaitDup m) (working (λ w. send m.home (message.Dup m w.server.number h.thread.number) (note (act.AskDup m) w)) h))
+abbrev pub ask_dup : Hand → MutexNo → Hand
+ask_dup h m = with_phase (phase.WaitDup m) (working (λ w. send m.home (message.Dup m w.rest.number h.thread.number) (note (act.AskDup m) w)) h)
 
 -- a dup asks for one share more, and takes it once it is there
 abbrev pub dup : Spot → Option Owned → Hand → Committed
-dup s None h = waiting (mutex_then (value_at h s) (ask_dup h))
-dup s (Some share) h = goes_on (mutex_then (value_at h s) (λ m. Some (push_temp (value.Own share) (load_at s h))))
+dup s None h = waiting (option_map (ask_dup h) (mutex_at h s))
+dup s (Some share) h = goes_on (option_map (λ m. push_temp (value.Own share) (load_at s (take_gift h))) (mutex_at h s))
 
 -- the request of a lock
-abbrev pub ask_lock : Hand → MutexNo → Option Hand
-ask_lock h m = Some (with_phase (phase.WaitLock m) (working (λ w. send m.home (message.Lock m w.server.number h.thread.number) (note (act.AskLock m) w)) h))
+abbrev pub ask_lock : Hand → MutexNo → Hand
+ask_lock h m = with_phase (phase.WaitLock m) (working (λ w. send m.home (message.Lock m w.rest.number h.thread.number) (note (act.AskLock m) w)) h)
 
--- a lock asks for the content, and takes it once it is there, with the hidden slot below it
+-- the content in a new slot, with the hidden slot below it
+abbrev pub push_content : Owned → Hand → MutexNo → Hand
+push_content v h m = push_slot (value.Own v) (push_slot (value.Held m) (working (label_all (label.Lock m ∷ [])) h))
+
+-- a lock asks for the content, and takes it once it is there
 abbrev pub lock : Spot → Option Owned → Hand → Committed
-lock s None h = waiting (mutex_then (value_at h s) (ask_lock h))
-lock s (Some content) h =
-    goes_on (mutex_then (value_at h s) (λ m. Some (push_slot (value.Own content) (push_slot (value.Held m) (working (label_all (label.Lock m ∷ [])) (load_at s h))))))
+lock s None h = waiting (option_map (ask_lock h) (mutex_at h s))
+lock s (Some content) h = goes_on (option_map (push_content content (load_at s (take_gift h))) (mutex_at h s))
 
--- the content goes to the home of the mutex in the hidden slot
-abbrev pub give_back_to : Owned → Option Value → Hand → Option Hand
-give_back_to v (Some (value.Held m)) h =
-    Some (with_slots (front_of h.thread.slots) (working (λ w. send m.home (message.Unlock m v) (label_all (label.Unlock m ∷ []) (note (act.GiveBack m) w))) h))
-give_back_to v held h = None
+-- a lock's hidden value
+abbrev pub held_of : Value → Option MutexNo
+held_of (value.Held m) = Some m
+held_of v = None
 
--- the last slot's value goes back as the content, and both slots go
+-- the content goes to the home of its mutex
+abbrev pub send_content : MutexNo → Owned → Hand → Hand
+send_content m v h = working (λ w. send m.home (message.Unlock m v) (label_all (label.Unlock m ∷ []) (note (act.GiveBack m) w))) h
+
+-- the last slot's value goes back as the content, and the hidden slot below it goes
 abbrev pub unlock : Hand → Option Hand
-unlock h = then_some (last_of h.thread.slots) (λ v. owned_then v (λ u. give_back_to u (last_of (front_of h.thread.slots)) (with_slots (front_of h.thread.slots) h)))
+unlock h =
+    then_some (then_some (pop_slot h) (taken_as owned_of)) (λ v. option_map (λ m. send_content m.item v.item m.hand) (then_some (pop_slot v.hand) (taken_as held_of)))
 
 -- ALL INSTRUCTIONS
 
 -- the plain step; the spot is what `prepare` came to, and `servers` the number of servers of the run
 abbrev pub commit : (servers : ℕ) → Instr → Spot → Hand → Committed
 commit n (instr.Let o) s h = goes_on (let_slot o h)
-commit n (instr.Assign w o) s h = goes_on (assign w o s h)
+commit n (instr.Assign w o) s h = goes_on (assign w w.depth o s h)
 commit n (instr.Read w take) s h = goes_on (read take s h)
 commit n (instr.Borrow w) s h = goes_on (borrow w s h)
 commit n (instr.BorrowMut w) s h = goes_on (borrow_mut w s h)
@@ -328,7 +323,7 @@ commit n (instr.Par cs pc ds other) s h = par n cs pc ds other h
 commit n instr.ParEnd s h = goes_on (par_end h.thread.phase h)
 commit n (instr.End o) s h = end_thread o h
 
--- the plain step is done: nothing of its walk is kept
+-- the plain step is done: nothing of its walk is kept, and it has moved no more
 abbrev pub settle : Hand → Option Hand
 settle h =
-    option_map (λ cs. record { work = with_cache cs h.work; thread = record h.thread { passed = 0; walk = []; gift = None; moved_since_step = false } }) (unpin_all h.thread.walk h.work.server.cache)
+    option_map (λ cs. record { work = with_cache cs h.work; thread = record h.thread { passed = 0; walk = []; moved_since_step = false } }) (unpin_all h.thread.walk h.work.rest.cache)

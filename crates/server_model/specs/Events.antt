@@ -1,7 +1,6 @@
 -- Events (this project's rules): which ones a server can do, and what each does to the server, with its entry of the journal.
-use Rattle.std.specs.Prelude.{ℕ, ◌+◌, ◌==◌, ◌&&◌, not, nat_lt, Bool, true, false, if◌then◌else◌, List, [], length, Option, Some, None, slice_get}
+use Rattle.std.specs.Prelude.{ℕ, ◌+◌, ◌==◌, ◌&&◌, not, nat_lt, Bool, true, false, if◌then◌else◌, List, [], length, Option, Some, None, slice_get, option_map}
 use Rattle.fr_base.specs.declared.instruction.Instr.{Instr}
-use Rattle.fr_base.specs.declared.label.Label.{Label}
 use Rattle.fr_base.specs.declared.release.Released.{Released}
 use Rattle.fr_base.specs.declared.release.Released.TheVariants as released
 use Rattle.fr_base.specs.declared.settings.Options.{Options}
@@ -12,18 +11,17 @@ use Rattle.thread_state.specs.declared.phase.Phase.{Phase}
 use Rattle.thread_state.specs.declared.phase.Phase.TheVariants as phase
 use Rattle.server_msgs.specs.declared.message.Message.{Message}
 use Rattle.server_msgs.specs.declared.message.Message.TheVariants as message
-use Rattle.journal.specs.declared.act.Act.{Act}
 use Rattle.journal.specs.declared.act.Act.TheVariants as act
 use Rattle.journal.specs.declared.entry.Entry.{Entry}
 use Rattle.server_model.specs.declared.event.What.{What}
 use Rattle.server_model.specs.declared.event.What.TheVariants.{Step, Deliver, Evict, Migrate}
-use Rattle.server_model.specs.Servers.{Server}
-use Rattle.server_model.specs.Work.{Work, Hand, receive, note, without_hops, with_cache, thread_in, take_up, put_back, then_some}
-use Rattle.server_model.specs.Prepare.{Prepared, ready, asked, nothing, access_of, prepare}
+use Rattle.server_model.specs.Servers.{Rest, Server}
+use Rattle.server_model.specs.Work.{Work, Hand, Site, receive, note, without_hops, with_cache, thread_in, in_hand, put_back, at_thread, beside_threads, then_some}
+use Rattle.server_model.specs.Prepare.{Prepared, ready, requested, nothing, access_of, prepare}
 use Rattle.server_model.specs.Commit.{Committed, done, waits, refused, commit, settle}
-use Rattle.server_model.specs.Objects.{fetch, fetched, move, moved, drop}
-use Rattle.server_model.specs.Sharing.{lock, granted, unlock, dup, dupped, release_mutex}
-use Rattle.server_model.specs.Joining.{arrive, join, joined, release_task, finished}
+use Rattle.server_model.specs.Objects.{deliver_fetch, deliver_fetched, deliver_move, deliver_moved, deliver_drop}
+use Rattle.server_model.specs.Sharing.{deliver_lock, deliver_granted, deliver_unlock, deliver_dup, deliver_dupped, release_mutex}
+use Rattle.server_model.specs.Joining.{arrive, deliver_join, deliver_joined, release_task, deliver_finished}
 use Rattle.server_model.specs.Moving.{migrate}
 
 -- WHICH EVENTS ARE ENABLED
@@ -50,65 +48,72 @@ has_phase f (Some t) = f t.phase
 -- is delivered; a copy without a user is evicted
 abbrev pub enabled : Options → Server → What → Bool
 enabled o s (Step t) = has_phase can_step (thread_in s.threads t)
-enabled o s (Deliver i) = nat_lt i (length s.inbox)
-enabled o s (Evict w) = can_evict s.cache w
-enabled o s (Migrate t target) = has_phase is_ready (thread_in s.threads t) && (nat_lt target o.servers && not (target == s.number))
+enabled o s (Deliver i) = nat_lt i (length s.rest.inbox)
+enabled o s (Evict w) = can_evict s.rest.cache w
+enabled o s (Migrate t target) = has_phase is_ready (thread_in s.threads t) && (nat_lt target o.servers && not (target == s.rest.number))
 
--- THE ENTRY OF AN EVENT
-
--- the server has done one event more
-abbrev pub entry : Option ℕ → Option Fresh → List Act → List Label → Work → Server × Entry
-entry thread names acts labels w = (
-  record w.server { events = w.server.events + 1 },
-  record {
-    server = w.server.number;
-    thread = thread;
-    done = names;
-    acts = record { items = acts; spare = 0 };
-    labels = record { items = labels; spare = 0 };
-  },
-)
+-- WHAT AN EVENT LEAVES
 
 -- nothing is done yet
-abbrev pub begin_work : Server → Work
-begin_work s = record { server = s; acts = []; labels = [] }
+abbrev pub begin_work : Rest → Work
+begin_work r = record { rest = r; acts = []; labels = [] }
 
--- an event that does no plain step has no labels
-abbrev pub ended : Option ℕ → Option Work → Option (Server × Entry)
-ended thread None = None
-ended thread (Some w) = Some (entry thread None w.acts [] w)
+-- the same with all threads of a server
+abbrev pub begin_at : Server → Site
+begin_at s = record { work = begin_work s.rest; threads = s.threads }
+
+-- the entry of an event of a thread, or of none, with the names that its plain step took where it did one
+abbrev pub entry_of : Option ℕ → Option Fresh → Work → Entry
+entry_of thread names w = record {
+  server = w.rest.number;
+  thread = thread;
+  done = names;
+  acts = record { items = w.acts; spare = 0 };
+  labels = record { items = w.labels; spare = 0 };
+}
+
+-- so many events were done before; the server, and the entry
+abbrev pub left_by : ℕ → Option ℕ → Option Fresh → Site → Server × Entry
+left_by n thread names x = (record { rest = x.work.rest; threads = x.threads; events = n + 1 }, entry_of thread names x.work)
 
 -- STEPS
 
--- the step is done: its labels and all its hops are in this entry
-abbrev pub done_step : Fresh → Option Hand → Option (Server × Entry)
-done_step names None = None
-done_step names (Some h) = Some (entry (Some h.thread.number) (Some names) h.work.acts h.work.labels (put_back h))
+-- what became of a step: the thread, what the event did, and the names that the plain step took where it was done
+pub record Stepped : Type 0 where
+  pub hand : Hand
+  pub names : Option Fresh
 
--- the thread waits: what was made ready stays so, and the hops count later
-abbrev pub wait_step : Hand → Option (Server × Entry)
-wait_step h = Some (entry (Some h.thread.number) None (without_hops h.work.acts) [] (put_back h))
+-- the step is done: its labels and all its hops are in this entry
+abbrev pub done_step : Fresh → Hand → Stepped
+done_step names h = record { hand = h; names = Some names }
+
+-- the thread waits: what was made ready stays so, and the hops and labels count later
+abbrev pub wait_step : Hand → Stepped
+wait_step h = record { hand = record h { work = record h.work { acts = without_hops h.work.acts; labels = [] } }; names = None }
 
 -- what became of the plain step
-abbrev pub committed : Committed → Option (Server × Entry)
-committed (done names h) = done_step names (settle h)
-committed (waits h) = wait_step h
+abbrev pub committed : Committed → Option Stepped
+committed (done names h) = option_map (done_step names) (settle h)
+committed (waits h) = Some (wait_step h)
 committed refused = None
 
 -- what became of the place: the plain step follows where it is ready
-abbrev pub prepared : ℕ → Instr → Prepared → Option (Server × Entry)
+abbrev pub prepared : ℕ → Instr → Prepared → Option Stepped
 prepared servers i (ready h s) = committed (commit servers i s h)
-prepared servers i (asked h) = wait_step h
+prepared servers i (requested h) = Some (wait_step h)
 prepared servers i nothing = None
 
--- the step of an instruction
-abbrev pub step_of : ℕ → Option Instr → Hand → Option (Server × Entry)
-step_of servers None h = None
-step_of servers (Some i) h = prepared servers i (prepare (access_of i h.thread) h)
+-- a thread goes on with the plain step of its instruction as far as it can here: the step is done, or one request is sent
+abbrev pub step : ℕ → Instr → Hand → Option Stepped
+step servers i h = prepared servers i (prepare (access_of i h.thread) h)
 
--- a thread goes on with its plain step as far as it can here: the step is done, or one request is sent
-abbrev pub step : List Instr → ℕ → ℕ → Work → Option (Server × Entry)
-step code servers t w = then_some (take_up w t) (λ h. step_of servers (slice_get code h.thread.pc) h)
+-- the step of the instruction at which the thread is
+abbrev pub step_in : List Instr → ℕ → Hand → Option Stepped
+step_in code servers h = then_some (slice_get code h.thread.pc) (λ i. step servers i h)
+
+-- the thread stands where it stood
+abbrev pub stepped : Server → Stepped → Server × Entry
+stepped s d = left_by s.events (Some d.hand.thread.number) d.names (put_back s.threads d.hand)
 
 -- DELIVERIES
 
@@ -118,39 +123,43 @@ release (released.Mutex m) w = release_mutex m w
 release (released.Task u) w = release_task u w
 
 -- what a message does at the server that it goes to
-abbrev pub deliver_message : List Instr → Message → Work → Option Work
-deliver_message code (message.Fetch w o s t) x = fetch w o s t x
-deliver_message code (message.Fetched w c t) x = fetched w c t x
-deliver_message code (message.Move w o s t) x = move w o s t x
-deliver_message code (message.Moved w c t) x = moved code w c t x
-deliver_message code (message.Drop w o) x = drop w o x
-deliver_message code (message.Lock m s t) x = lock m s t x
-deliver_message code (message.Granted m v t) x = granted m v t x
-deliver_message code (message.Unlock m v) x = unlock m v x
-deliver_message code (message.Dup m s t) x = dup m s t x
-deliver_message code (message.Dupped m t) x = dupped m t x
-deliver_message code (message.Release r) x = release r x
+abbrev pub deliver_message : List Instr → Message → Site → Option Site
+deliver_message code (message.Fetch w o s t) x = beside_threads (deliver_fetch w o s t) x
+deliver_message code (message.Fetched w c t) x = at_thread t (deliver_fetched w c) x
+deliver_message code (message.Move w o s t) x = beside_threads (deliver_move w o s t) x
+deliver_message code (message.Moved w c t) x = at_thread t (deliver_moved code w c) x
+deliver_message code (message.Drop w o) x = beside_threads (deliver_drop w o) x
+deliver_message code (message.Lock m s t) x = beside_threads (deliver_lock m s t) x
+deliver_message code (message.Granted m v t) x = at_thread t (deliver_granted m v) x
+deliver_message code (message.Unlock m v) x = beside_threads (deliver_unlock m v) x
+deliver_message code (message.Dup m s t) x = beside_threads (deliver_dup m s t) x
+deliver_message code (message.Dupped m t) x = at_thread t (deliver_dupped m) x
+deliver_message code (message.Release r) x = beside_threads (release r) x
 deliver_message code (message.Start p) x = arrive p x
-deliver_message code (message.Join u s by) x = join u s by x
-deliver_message code (message.Joined u v by) x = joined u v by x
-deliver_message code (message.Finished u v) x = finished u v x
+deliver_message code (message.Join u s by) x = beside_threads (deliver_join u s by) x
+deliver_message code (message.Joined u v by) x = at_thread by (deliver_joined u v) x
+deliver_message code (message.Finished u v) x = deliver_finished u v x
 deliver_message code (message.Migrate p) x = arrive p x
 
--- a message is taken out of the waiting ones, and does what it says
-abbrev pub deliver : List Instr → ℕ → Server → Option Work
-deliver code i s = then_some (slice_get s.inbox i) (λ m. deliver_message code m (begin_work (receive s i)))
+-- the message at that place is taken out of the waiting ones
+abbrev pub received : ℕ → Server → Site
+received i s = record { work = begin_work (receive s.rest i); threads = s.threads }
+
+-- a message is taken out, and does what it says
+abbrev pub deliver : List Instr → ℕ → Server → Option Site
+deliver code i s = then_some (slice_get s.rest.inbox i) (λ m. deliver_message code m (received i s))
 
 -- ALL EVENTS
 
--- the copy goes
-abbrev pub evict_copy : ℕ → Work → Work
-evict_copy c w = note (act.Evict c) (with_cache (evict w.server.cache c) w)
+-- the copy goes, where nobody uses it
+abbrev pub evict_copy : ℕ → Work → Option Work
+evict_copy c w = if can_evict w.rest.cache c then Some (note (act.Evict c) (with_cache (evict w.rest.cache c) w)) else None
 
--- what an enabled event does to a server, and its entry. None where a condition fails of one of the calls that it makes on the
--- server's parts, where the thread of an answer isn't here or doesn't wait for it, and where a value of another kind stands where
--- a pointer, an integer, a mutex, a task or an owned value is needed
+-- what an enabled event does to a server, and its entry; an event that does no plain step has no labels. None where a condition
+-- fails of one of the calls that it makes on the server's parts, where the thread of an answer isn't here or doesn't wait for it,
+-- and where a value of another kind stands where a pointer, an integer, a mutex, a task or an owned value is needed
 abbrev pub does : List Instr → Options → Server → What → Option (Server × Entry)
-does code o s (Step t) = step code o.servers t (begin_work s)
-does code o s (Deliver i) = ended None (deliver code i s)
-does code o s (Evict w) = ended None (if can_evict s.cache w then Some (evict_copy w (begin_work s)) else None)
-does code o s (Migrate t target) = ended (Some t) (migrate t target (begin_work s))
+does code o s (Step t) = option_map (stepped s) (then_some (in_hand (begin_at s) t) (step_in code o.servers))
+does code o s (Deliver i) = option_map (left_by s.events None None) (deliver code i s)
+does code o s (Evict w) = option_map (left_by s.events None None) (beside_threads (evict_copy w) (begin_at s))
+does code o s (Migrate t target) = option_map (left_by s.events (Some t) None) (migrate t target (begin_at s))

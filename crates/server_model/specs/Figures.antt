@@ -30,11 +30,11 @@ pub record Ran : Type 0 where
   pub journal : List Entry
   pub kinds : List ℕ
 
-abbrev kinds_of : List Sent → List ℕ
+abbrev pub kinds_of : List Sent → List ℕ
 kinds_of [] = []
 kinds_of (x ∷ xs) = kind_number (kind_of x.message) ∷ kinds_of xs
 
-abbrev ran_on : Ran → Option (Cluster × Entry) → Option Ran
+abbrev pub ran_on : Ran → Option (Cluster × Entry) → Option Ran
 ran_on r None = None
 ran_on r (Some d) = Some (record { cluster = hand_over d.0; journal = r.journal ++ d.1 ∷ []; kinds = r.kinds ++ kinds_of (outboxes d.0.servers) })
 
@@ -53,84 +53,85 @@ run code o es = run_from (Some (record { cluster = start_of code o; journal = []
 
 -- FIGURES
 
-abbrev one_if : Bool → ℕ
+abbrev pub one_if : Bool → ℕ
 one_if true = 1
 one_if false = 0
 
-abbrev steps_in : List Entry → ℕ
+abbrev pub steps_in : List Entry → ℕ
 steps_in [] = 0
 steps_in (e ∷ es) = one_if (is_some e.done) + steps_in es
 
-abbrev acts_in : List Entry → List Act
+abbrev pub acts_in : List Entry → List Act
 acts_in [] = []
 acts_in (e ∷ es) = e.acts.items ++ acts_in es
 
-abbrev count_acts : (Act → ℕ) → List Act → ℕ
+abbrev pub count_acts : (Act → ℕ) → List Act → ℕ
 count_acts f [] = 0
 count_acts f (a ∷ rest) = f a + count_acts f rest
 
-abbrev issues : Act → ℕ
+abbrev pub issues : Act → ℕ
 issues (act.Make o w) = 1
 issues (act.Take o old new) = 1
 issues (act.Tint o old new) = 1
 issues (act.Renew o old new) = 1
 issues a = 0
 
-abbrev renews : Act → ℕ
+abbrev pub renews : Act → ℕ
 renews (act.Renew o old new) = 1
 renews a = 0
 
-abbrev hits : Act → ℕ
+abbrev pub hits : Act → ℕ
 hits (act.Hit o w) = 1
 hits a = 0
 
-abbrev evictions : Act → ℕ
+abbrev pub evictions : Act → ℕ
 evictions (act.Evict w) = 1
 evictions a = 0
 
-abbrev count_of : ℕ → List ℕ → ℕ
+abbrev pub count_of : ℕ → List ℕ → ℕ
 count_of k [] = 0
 count_of k (x ∷ xs) = one_if (x == k) + count_of k xs
 
-abbrev counted : ℕ → ℕ → List (ℕ × ℕ) → List (ℕ × ℕ)
+abbrev pub counted : ℕ → ℕ → List (ℕ × ℕ) → List (ℕ × ℕ)
 counted k zero rest = rest
 counted k (suc n) rest = (k, suc n) ∷ rest
 
 -- the kinds of messages from this number on, with how many there were, where there were some
-abbrev counts_from : ℕ → ℕ → List ℕ → List (ℕ × ℕ)
+abbrev pub counts_from : ℕ → ℕ → List ℕ → List (ℕ × ℕ)
 counts_from zero k kinds = []
 counts_from (suc n) k kinds = counted k (count_of k kinds) (counts_from n (k + 1) kinds)
 
 -- THE STATE AT THE END
 
-abbrev is_over : Phase → Bool
+abbrev pub is_over : Phase → Bool
 is_over phase.Over = true
 is_over p = false
 
-abbrev all_over : List ThreadView → Bool
+abbrev pub all_over : List ThreadView → Bool
 all_over [] = true
 all_over (t ∷ ts) = is_over t.phase && all_over ts
 
-abbrev no_cell : List (Option Cell) → Bool
+abbrev pub no_cell : List (Option Cell) → Bool
 no_cell [] = true
 no_cell (None ∷ cells) = no_cell cells
 no_cell (Some c ∷ cells) = false
 
-abbrev is_none_left : {X : Type 0} → List X → Bool
+abbrev pub is_none_left : {X : Type 0} → List X → Bool
 is_none_left [] = true
 is_none_left (x ∷ xs) = false
 
 -- its threads are over, and no object, message, mutex or result is left
-abbrev is_finished_at : Server → Bool
-is_finished_at s = all_over s.threads && no_cell s.partition.cells && is_none_left s.inbox && is_none_left s.outbox && is_none_left s.mutexes.there && is_none_left s.tasks
+abbrev pub is_finished_at : Server → Bool
+is_finished_at s =
+    all_over s.threads && no_cell s.rest.partition.cells && is_none_left s.rest.inbox && is_none_left s.rest.outbox && is_none_left s.rest.mutexes.there && is_none_left s.rest.tasks
 
 abbrev pub are_finished : List Server → Bool
 are_finished [] = true
 are_finished (s ∷ ss) = is_finished_at s && are_finished ss
 
-abbrev retired_in : List Server → ℕ
+abbrev pub retired_in : List Server → ℕ
 retired_in [] = 0
-retired_in (s ∷ ss) = s.partition.retired + retired_in ss
+retired_in (s ∷ ss) = s.rest.partition.retired + retired_in ss
 
 -- what a report shows: plain steps, events, words issued and renewed, hits and evictions, the messages between different servers,
 -- all and by kind, and the prints; and whether nothing is left, with the number of retired addresses
@@ -176,7 +177,7 @@ abbrev pub labels_of : Option Ran → List Label
 labels_of None = []
 labels_of (Some r) = labels r.journal
 
-abbrev acts_each : List Entry → List (List Act)
+abbrev pub acts_each : List Entry → List (List Act)
 acts_each [] = []
 acts_each (e ∷ es) = e.acts.items ∷ acts_each es
 
@@ -185,11 +186,11 @@ abbrev pub acts_of : Option Ran → List (List Act)
 acts_of None = []
 acts_of (Some r) = acts_each r.journal
 
-abbrev flags_at : List ThreadView → List Bool
+abbrev pub flags_at : List ThreadView → List Bool
 flags_at [] = []
 flags_at (t ∷ ts) = t.moved_since_step ∷ flags_at ts
 
-abbrev flags_in : List Server → List Bool
+abbrev pub flags_in : List Server → List Bool
 flags_in [] = []
 flags_in (s ∷ ss) = flags_at s.threads ++ flags_in ss
 
@@ -198,13 +199,13 @@ abbrev pub moved_flags : Option Ran → List Bool
 moved_flags None = []
 moved_flags (Some r) = flags_in r.cluster.servers
 
-abbrev users_at : List Copy → List (ℕ × ℕ)
+abbrev pub users_at : List Copy → List (ℕ × ℕ)
 users_at [] = []
 users_at (c ∷ cs) = (c.word, c.users) ∷ users_at cs
 
-abbrev users_of : List Server → List (ℕ × ℕ)
+abbrev pub users_of : List Server → List (ℕ × ℕ)
 users_of [] = []
-users_of (s ∷ ss) = users_at s.cache ++ users_of ss
+users_of (s ∷ ss) = users_at s.rest.cache ++ users_of ss
 
 -- the cached words of all servers, with how many use each
 abbrev pub cached_users : Option Ran → List (ℕ × ℕ)
@@ -213,7 +214,7 @@ cached_users (Some r) = users_of r.cluster.servers
 
 -- EVENTS BY HAND
 
-abbrev at : ℕ → What → Event
+abbrev pub at : ℕ → What → Event
 at s w = record { server = s; what = w }
 
 -- thread 0.0 steps at that server so many times
@@ -232,37 +233,37 @@ migrate s t target = at s (Migrate t target) ∷ []
 
 -- EVENTS AS THEY COME
 
-abbrev step_first : List ThreadView → ℕ → Option Event
+abbrev pub step_first : List ThreadView → ℕ → Option Event
 step_first [] s = None
 step_first (t ∷ ts) s = if can_step t.phase then Some (at s (Step t.number)) else step_first ts s
 
 -- a server delivers its oldest message, and else its first thread that can steps
-abbrev event_of : List Message → Server → Option Event
-event_of [] s = step_first s.threads s.number
-event_of (m ∷ ms) s = Some (at s.number (Deliver 0))
+abbrev pub event_of : List Message → Server → Option Event
+event_of [] s = step_first s.threads s.rest.number
+event_of (m ∷ ms) s = Some (at s.rest.number (Deliver 0))
 
-abbrev or_else : Option Event → Option Event → Option Event
+abbrev pub or_else : Option Event → Option Event → Option Event
 or_else None e = e
 or_else (Some e) f = Some e
 
-abbrev first_event : List Server → Option Event
+abbrev pub first_event : List Server → Option Event
 first_event [] = None
-first_event (s ∷ ss) = or_else (event_of s.inbox s) (first_event ss)
+first_event (s ∷ ss) = or_else (event_of s.rest.inbox s) (first_event ss)
 
-abbrev last_event : List Server → Option Event
+abbrev pub last_event : List Server → Option Event
 last_event [] = None
-last_event (s ∷ ss) = or_else (last_event ss) (event_of s.inbox s)
+last_event (s ∷ ss) = or_else (last_event ss) (event_of s.rest.inbox s)
 
-abbrev next_of : (List Server → Option Event) → Option Ran → Option Event
+abbrev pub next_of : (List Server → Option Event) → Option Ran → Option Event
 next_of choose None = None
 next_of choose (Some r) = choose r.cluster.servers
 
-abbrev chosen : (Option Ran → Option Ran) → Option Ran → Option Event → Option Ran
+abbrev pub chosen : (Option Ran → Option Ran) → Option Ran → Option Event → Option Ran
 chosen go r None = r
 chosen go r (Some e) = go (run_event r e)
 
 -- at most so many events, each at the server that is chosen
-abbrev run_on : (List Server → Option Event) → ℕ → Option Ran → Option Ran
+abbrev pub run_on : (List Server → Option Event) → ℕ → Option Ran → Option Ran
 run_on choose zero r = r
 run_on choose (suc n) r = chosen (run_on choose n) r (next_of choose r)
 

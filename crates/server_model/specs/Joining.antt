@@ -10,13 +10,13 @@ use Rattle.thread_state.specs.declared.phase.Phase.{Phase}
 use Rattle.thread_state.specs.declared.phase.Phase.TheVariants as phase
 use Rattle.server_msgs.specs.declared.message.Message.TheVariants as message
 use Rattle.journal.specs.declared.act.Act.TheVariants as act
-use Rattle.server_model.specs.Work.{Work, send, note, with_tasks, take_up, put_back, stand, with_phase, then_some}
-use Rattle.server_model.specs.Drop.{let_go}
-use Rattle.server_model.specs.Sharing.{given, let_go_content}
+use Rattle.server_model.specs.Work.{Work, Hand, Site, send, note, with_tasks, with_thread, at_thread, beside_threads, with_phase, then_some}
+use Rattle.server_model.specs.Drop.{give_up}
+use Rattle.server_model.specs.Sharing.{given, give_up_left}
 
 -- a thread stands here from now on: a new one, or one that was moved
-abbrev pub arrive : ThreadView → Work → Option Work
-arrive t w = Some (stand t w)
+abbrev pub arrive : ThreadView → Site → Option Site
+arrive t s = Some (record s { threads = with_thread s.threads t })
 
 -- the result of a thread goes to that thread at that server
 abbrev pub answer : ℕ → ℕ → ℕ → Owned → Work → Work
@@ -28,8 +28,8 @@ answer_join u s by None w = w
 answer_join u s by (Some v) w = answer u s by v w
 
 -- the home answers where the thread has ended, and else notes who asked
-abbrev pub join : ℕ → ℕ → ℕ → Work → Option Work
-join u s by w = option_map (λ a. answer_join u s by a.1 (with_tasks a.0 w)) (ask w.server.tasks u s by)
+abbrev pub deliver_join : ℕ → ℕ → ℕ → Work → Option Work
+deliver_join u s by w = option_map (λ a. answer_join u s by a.1 (with_tasks a.0 w)) (ask w.rest.tasks u s by)
 
 -- it waits for the result of that thread
 abbrev pub waits_for_join : Phase → ℕ → Bool
@@ -37,29 +37,29 @@ waits_for_join (phase.WaitJoin x) u = x == u
 waits_for_join p u = false
 
 -- the result is the gift of the thread
-abbrev pub joined : ℕ → Owned → ℕ → Work → Option Work
-joined u v by w = then_some (take_up w by) (λ h. if waits_for_join h.thread.phase u then Some (given v h) else None)
+abbrev pub deliver_joined : ℕ → Owned → Hand → Option Hand
+deliver_joined u v h = if waits_for_join h.thread.phase u then given v h.thread.gift h else None
 
 -- the task was dropped: a result that is kept is dropped, and else the thread is let go
 abbrev pub release_task : ℕ → Work → Option Work
-release_task u w = option_map (λ a. let_go_content a.1 (with_tasks a.0 w)) (let_go_of w.server.tasks u)
+release_task u w = option_map (λ a. give_up_left a.1 (with_tasks a.0 w)) (let_go_of w.rest.tasks u)
 
 -- the phase of the parent of a pair with that thread
 abbrev pub got_par : ℕ → Phase → Option Phase
 got_par u (phase.WaitPar a b) = if (a == u) || (b == u) then Some (phase.GotPar a b) else None
 got_par u p = None
 
--- the parent of a pair, which is here, goes on
-abbrev pub tell_parent : ℕ → ℕ → Work → Option Work
-tell_parent u parent w = then_some (take_up w parent) (λ h. option_map (λ p. put_back (with_phase p h)) (got_par u h.thread.phase))
+-- the parent of a pair with that thread goes on
+abbrev pub pair_over : ℕ → Hand → Option Hand
+pair_over u h = option_map (λ p. with_phase p h) (got_par u h.thread.phase)
 
 -- where the result goes
-abbrev pub end_answer : ℕ → EndedAs → Work → Option Work
-end_answer u (Answer s by v) w = Some (answer u s by v w)
-end_answer u (Both parent) w = tell_parent u parent w
-end_answer u (LetGo v) w = Some (let_go v w)
-end_answer u Kept w = Some w
+abbrev pub end_answer : ℕ → EndedAs → Site → Option Site
+end_answer u (Answer s by v) x = beside_threads (λ w. Some (answer u s by v w)) x
+end_answer u (Both parent) x = at_thread parent (pair_over u) x
+end_answer u (LetGo v) x = beside_threads (λ w. Some (give_up v w)) x
+end_answer u Kept x = Some x
 
 -- a thread has ended: its result goes to whoever asked, or is kept, or dropped; the second of a pair lets its parent go on
-abbrev pub finished : ℕ → Owned → Work → Option Work
-finished u v w = then_some (ended w.server.tasks u v) (λ a. end_answer u a.1 (with_tasks a.0 w))
+abbrev pub deliver_finished : ℕ → Owned → Site → Option Site
+deliver_finished u v x = then_some (ended x.work.rest.tasks u v) (λ a. end_answer u a.1 (record x { work = with_tasks a.0 x.work }))

@@ -1,6 +1,7 @@
 pub mod Servers
 pub mod Hops
 pub mod Work
+pub mod NewWords
 pub mod Places
 pub mod Prepare
 pub mod Drop

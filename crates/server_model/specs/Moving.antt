@@ -7,8 +7,8 @@ use Rattle.thread_state.specs.declared.value.Value.{Value}
 use Rattle.thread_state.specs.declared.value.Value.TheVariants as value
 use Rattle.server_msgs.specs.declared.message.Message.TheVariants as message
 use Rattle.journal.specs.declared.act.Act.TheVariants as act
-use Rattle.server_model.specs.Work.{Work, send, note, with_cache, take_up, then_some, unpin_all}
-use Rattle.server_model.specs.Start.{copied}
+use Rattle.server_model.specs.Work.{Work, Site, send, note, with_cache, thread_in, without_thread, then_some, unpin_all}
+use Rattle.server_model.specs.Places.{unpinned}
 
 -- the word that a reference keeps in use
 abbrev pub pinned_word : SharedRef → Bool → List ℕ → List ℕ
@@ -27,16 +27,18 @@ used_words t = t.walk ++ pinned_words t.slots ++ pinned_words t.temps
 
 -- the thread with an empty walk and without a pinned reference
 abbrev pub packed : ThreadView → ThreadView
-packed t = record t { walk = []; slots = map copied t.slots; temps = map copied t.temps }
+packed t = record t { walk = []; slots = map unpinned t.slots; temps = map unpinned t.temps }
 
 -- a thread as a parcel, and the copies after its uses of them have ended; None where one of them has no user
 abbrev pub pack_thread : ThreadView → List Copy → Option (ThreadView × List Copy)
 pack_thread t cs = option_map (λ left. (packed t, left)) (unpin_all (used_words t) cs)
 
 -- the parcel goes to that server
-abbrev pub sent_off : ℕ → Work → ThreadView × List Copy → Work
-sent_off target w p = send target (message.Migrate p.0) (note (act.Depart p.0.number target) (with_cache p.1 w))
+abbrev pub depart : ℕ → Work → ThreadView × List Copy → Work
+depart target w p = send target (message.Migrate p.0) (note (act.Depart p.0.number target) (with_cache p.1 w))
 
 -- the thread leaves for that server; it is noted that it has moved since its last step
-abbrev pub migrate : ℕ → ℕ → Work → Option Work
-migrate t target w = then_some (take_up w t) (λ h. option_map (sent_off target h.work) (pack_thread (record h.thread { moved_since_step = true }) h.work.server.cache))
+abbrev pub migrate : ℕ → ℕ → Site → Option Site
+migrate t target x =
+    then_some (thread_in x.threads t)
+    (λ y. option_map (λ p. record { work = depart target x.work p; threads = without_thread x.threads t }) (pack_thread (record y { moved_since_step = true }) x.work.rest.cache))

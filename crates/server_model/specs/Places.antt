@@ -1,5 +1,5 @@
 -- Where a place leads inside a server, and how the pointer there gets another word (this project's rules).
-use Rattle.std.specs.Prelude.{ℕ, true, false, nat_lt, if◌then◌else◌, List, [], ◌∷◌, ◌++◌, length, Option, Some, None, slice_get, slice_set}
+use Rattle.std.specs.Prelude.{ℕ, Bool, true, false, nat_lt, if◌then◌else◌, List, [], ◌∷◌, ◌++◌, length, Option, Some, None, slice_get, slice_set}
 use Rattle.fr_base.specs.declared.label.Label.{Label}
 use Rattle.fr_base.specs.declared.label.Label.TheVariants as label
 use Rattle.heap_partition.specs.Plain.{plain_of}
@@ -12,6 +12,7 @@ use Rattle.read_cache.specs.Cache.{hit}
 use Rattle.mut_borrow.specs.declared.mutable.MutRef.{MutRef}
 use Rattle.thread_state.specs.declared.value.Value.{Value}
 use Rattle.thread_state.specs.declared.value.Value.TheVariants as value
+use Rattle.server_model.specs.NewWords.{NewWord}
 use Rattle.server_model.specs.Work.{Hand, with_partition, look, leads_here, working, with_slots, with_temps, last_of, front_of, then_some, label_all}
 
 -- where a value stands that a thread follows: in a slot; on top of its temporary values; in a cell that lies here, under the word
@@ -26,8 +27,8 @@ pub data Spot : Type 0 where
 
 -- the cell at a spot, or the copy of one
 abbrev pub cell_at : Hand → Spot → Option Cell
-cell_at h (in_cell w through) = look h.work.server.partition w
-cell_at h (in_copy w) = hit h.work.server.cache w
+cell_at h (in_cell w through) = look h.work.rest.partition w
+cell_at h (in_copy w) = hit h.work.rest.cache w
 cell_at h s = None
 
 -- the value of a cell
@@ -40,6 +41,29 @@ abbrev pub value_at : Hand → Spot → Option Value
 value_at h (in_slot i) = slice_get h.thread.slots i
 value_at h on_top = last_of h.thread.temps
 value_at h s = value_in (cell_at h s)
+
+-- COPIES OF VALUES
+
+-- it has no part of the heap, of a mutex or of a thread's result
+abbrev pub owns_nothing : Owned → Bool
+owns_nothing (owned.Box p) = false
+owns_nothing (owned.Mutex m) = false
+owns_nothing (owned.Task t) = false
+owns_nothing v = true
+
+-- a shared reference that keeps no copy in use; other values stay
+abbrev pub unpinned : Value → Value
+unpinned (value.Shared r) = value.Shared (record r { pinned = false })
+unpinned v = v
+
+-- a second value like this one, which pins nothing; None where there may be no second one
+abbrev pub second_of : Value → Option Value
+second_of (value.Own v) = if owns_nothing v then Some (value.Own v) else None
+second_of (value.SharedSlot i) = Some (value.SharedSlot i)
+second_of (value.Shared r) = Some (unpinned (value.Shared r))
+second_of v = None
+
+-- LOADS
 
 -- the load of a cell
 abbrev pub load_of : Option Cell → List Label
@@ -70,7 +94,7 @@ note_write (Some i) h = with_slots (note_slot h.thread.slots i (slice_get h.thre
 -- the cell gets a value
 abbrev pub put_cell : ℕ → Option ℕ → Owned → Hand → Option Hand
 put_cell w through v h =
-    if leads_here h.work.server.partition w then Some (note_write through (working (with_partition (stored h.work.server.partition w v)) h)) else None
+    if leads_here h.work.rest.partition w then Some (note_write through (working (with_partition (stored h.work.rest.partition w v)) h)) else None
 
 -- a slot gets a value
 abbrev pub put_slot : ℕ → Value → Hand → Option Hand
@@ -105,6 +129,10 @@ with_word w v = None
 -- the pointer at a spot gets its object's new word
 abbrev pub set_pointer : Spot → ℕ → Hand → Option Hand
 set_pointer s w h = then_some (value_at h s) (λ v. then_some (with_word w v) (λ new. put_at s new h))
+
+-- the same with a word that was just issued
+abbrev pub put_word : Spot → NewWord → Hand → Option Hand
+put_word s n h = set_pointer s n.word (record h { work = n.work })
 
 -- the slot of a reference that stands in one
 abbrev pub slot_in : Spot → Option ℕ

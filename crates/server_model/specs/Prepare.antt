@@ -4,12 +4,10 @@ use Rattle.std.specs.Prelude.{ℕ, zero, suc, ◌+◌, ◌-◌, ◌==◌, Bool, 
 use Rattle.fr_base.specs.declared.place.Lval.{Lval}
 use Rattle.fr_base.specs.declared.instruction.Instr.{Instr}
 use Rattle.fr_base.specs.declared.instruction.Instr.TheVariants as instr
-use Rattle.global_addr.specs.Words.{colour_of, server_of, next_word}
+use Rattle.global_addr.specs.Words.{colour_of, server_of}
 use Rattle.heap_partition.specs.declared.value.BoxPtr.{BoxPtr}
-use Rattle.owner_box.specs.View.{PartitionView}
-use Rattle.owner_box.specs.Partition.{freed, renewed, new_word}
 use Rattle.read_cache.specs.Cache.{can_pin, pin}
-use Rattle.mut_borrow.specs.Refs.{cleaned_answer, cleaned_ref, finish_word}
+use Rattle.mut_borrow.specs.Refs.{cleaned_answer, finish_word}
 use Rattle.mut_borrow.specs.declared.shared.SharedRef.{SharedRef}
 use Rattle.mut_borrow.specs.declared.mutable.MutRef.{MutRef}
 use Rattle.mut_borrow.specs.declared.mutable.Cleaned.{Cleaned}
@@ -24,8 +22,9 @@ use Rattle.journal.specs.declared.act.Act.TheVariants as act
 use Rattle.server_model.specs.declared.hop.Hop.{Hop}
 use Rattle.server_model.specs.declared.hop.Hop.TheVariants as hop
 use Rattle.server_model.specs.Hops.{read_hop, write_hop}
-use Rattle.server_model.specs.Work.{Work, Hand, send, note, with_partition, with_cache, leads_here, can_grow, working, with_phase, last_of, use_word}
-use Rattle.server_model.specs.Places.{Spot, in_slot, on_top, in_cell, in_copy, nowhere, value_at, load_at, put_at, pointer_of, set_pointer, slot_in}
+use Rattle.server_model.specs.Work.{Work, Hand, send, note, with_cache, working, with_phase, last_of, then_some, use_word}
+use Rattle.server_model.specs.NewWords.{NewWord, issue_tint, issue_renewal, issue_colour}
+use Rattle.server_model.specs.Places.{Spot, in_slot, on_top, in_cell, in_copy, nowhere, value_at, load_at, put_at, pointer_of, put_word, slot_in}
 
 -- what an instruction needs of a place before it can be done: all its pointers read; those of a shared borrow, up to the pointer
 -- that is borrowed from; all followed for a write; those of a mutable borrow, with the object here; and of a mutable reference
@@ -67,13 +66,13 @@ access_of i t = None
 -- a place is ready, and leads to that spot; one request was sent, and the thread waits; or nothing is there to follow
 pub data Prepared : Type 0 where
   ready : Hand → Spot → Prepared
-  asked : Hand → Prepared
+  requested : Hand → Prepared
   nothing : Prepared
 
 -- goes on where all is ready
 abbrev pub and_then : (Hand → Spot → Prepared) → Prepared → Prepared
 and_then go (ready h s) = go h s
-and_then go (asked h) = asked h
+and_then go (requested h) = requested h
 and_then go nothing = nothing
 
 -- ready there, unless something failed
@@ -85,57 +84,38 @@ ready_at s (Some h) = ready h s
 
 -- asks the word's server for a copy
 abbrev pub ask_copy : BoxPtr → Hand → Hand
-ask_copy p h = with_phase (phase.WaitCell p.word) (working (λ w. send (server_of p.word) (message.Fetch p.word p.object w.server.number h.thread.number) (note (act.Ask p.object p.word) w)) h)
+ask_copy p h = with_phase (phase.WaitCell p.word) (working (λ w. send (server_of p.word) (message.Fetch p.word p.object w.rest.number h.thread.number) (note (act.Ask p.object p.word) w)) h)
 
 -- asks the word's server for the object
 abbrev pub ask_object : BoxPtr → Hand → Hand
-ask_object p h = with_phase (phase.WaitCell p.word) (working (λ w. send (server_of p.word) (message.Move p.word p.object w.server.number h.thread.number) (note (act.Pull p.object p.word) w)) h)
+ask_object p h = with_phase (phase.WaitCell p.word) (working (λ w. send (server_of p.word) (message.Move p.word p.object w.rest.number h.thread.number) (note (act.Pull p.object p.word) w)) h)
 
 -- a request for the pointer's object
-abbrev pub asked_by : (BoxPtr → Hand → Hand) → Hand → Option BoxPtr → Prepared
-asked_by request h None = nothing
-asked_by request h (Some p) = asked (request p h)
+abbrev pub request_by : (BoxPtr → Hand → Hand) → Hand → Option BoxPtr → Prepared
+request_by request h None = nothing
+request_by request h (Some p) = requested (request p h)
 
--- NEW WORDS
+-- CLEANING
 
--- the word has the last colour
-abbrev pub is_last : PartitionView → ℕ → Bool
-is_last p w = colour_of w + 1 == p.limit
-
--- the object at a spot's pointer, which lies here, gets a new address
-abbrev pub renew : Spot → BoxPtr → Hand → Option Hand
-renew s p h =
-    if leads_here h.work.server.partition p.word
-    then (if is_last h.work.server.partition p.word
-    then (if can_grow h.work.server.partition
-    then set_pointer s (new_word (freed h.work.server.partition p.word)) (working (λ w. note (act.Renew p.object p.word (new_word (freed w.server.partition p.word))) (with_partition (renewed w.server.partition p.word) w)) h)
-    else None)
-    else None)
-    else None
-
--- the pointer at a spot gets the next colour
-abbrev pub tint : Spot → BoxPtr → Hand → Option Hand
-tint s p h = set_pointer s (next_word p.word) (working (note (act.Tint p.object p.word (next_word p.word))) h)
-
--- a box whose object lies here gets a new word: the next colour, and at the last colour a new address
-abbrev pub recolour : Spot → BoxPtr → Hand → Option Hand
-recolour s p h = if nat_lt (colour_of p.word + 1) h.work.server.partition.limit then tint s p h else renew s p h
+-- the pointer to a reference's object
+abbrev pub box_of : MutRef → BoxPtr
+box_of r = record { word = r.word; object = r.object }
 
 -- a dirty reference at the last colour: its object is renewed where it is here, else it has to come
 abbrev pub clean_last : Spot → MutRef → Hand → Prepared
 clean_last s r h =
-    if server_of r.word == h.work.server.number then ready_at s (renew s (record { word = r.word; object = r.object }) h) else asked (ask_object (record { word = r.word; object = r.object }) h)
+    if server_of r.word == h.work.rest.number then ready_at s (then_some (issue_renewal (box_of r) h.work) (λ n. put_word s n h)) else requested (ask_object (box_of r) h)
 
 -- what is done by the answer of cleaning
 abbrev pub cleaned_by : Cleaned → Spot → MutRef → Hand → Prepared
 cleaned_by Same s r h = ready h s
-cleaned_by (Tinted w) s r h = ready_at s (put_at s (value.Mut (cleaned_ref (Tinted w) r)) (working (note (act.Tint r.object r.word w)) h))
+cleaned_by (Tinted w) s r h = ready_at s (put_word s (issue_tint (box_of r) h.work) h)
 cleaned_by MustRenew s r h = clean_last s r h
 
 -- a mutable reference at that spot is cleaned; its colour is below the limit
 abbrev pub clean : Spot → MutRef → Hand → Prepared
 clean s r h =
-    if nat_lt (colour_of r.word) h.work.server.partition.limit then cleaned_by (cleaned_answer h.work.server.partition.limit r) s r h else nothing
+    if nat_lt (colour_of r.word) h.work.rest.partition.limit then cleaned_by (cleaned_answer h.work.rest.partition.limit r) s r h else nothing
 
 -- a mutable reference is cleaned, and other values stay
 abbrev pub clean_value : Spot → Option Value → Hand → Prepared
@@ -148,7 +128,7 @@ clean_value s v h = ready h s
 abbrev pub pinned_once : Spot → SharedRef → Bool → Hand → Option Hand
 pinned_once s r true h = Some h
 pinned_once s r false h =
-    if can_pin h.work.server.cache r.word then put_at s (value.Shared (record r { pinned = true })) (working (with_cache (pin h.work.server.cache r.word)) h) else None
+    if can_pin h.work.rest.cache r.word then put_at s (value.Shared (record r { pinned = true })) (working (with_cache (pin h.work.rest.cache r.word)) h) else None
 
 -- a shared reference pins the copy at its first hit, and keeps it; a box or a clean mutable reference uses it until the step is done
 abbrev pub use_copy : Spot → Value → ℕ → Hand → Option Hand
@@ -173,13 +153,13 @@ abbrev pub read_by : Spot → Value → Option Hop → Hand → Prepared
 read_by s v (Some (hop.Slot i)) h = ready h (in_slot i)
 read_by s v (Some (hop.Direct w)) h = ready (local v h) (in_cell w None)
 read_by s v (Some (hop.Hit w)) h = ready_at (in_copy w) (use_copy s v w (hit_by v h))
-read_by s v (Some (hop.NeedCopy w)) h = asked_by ask_copy h (pointer_of v)
+read_by s v (Some (hop.NeedCopy w)) h = request_by ask_copy h (pointer_of v)
 read_by s v k h = nothing
 
 -- one hop of a read from a value
 abbrev pub read_value : Spot → Option Value → Hand → Prepared
 read_value s None h = nothing
-read_value s (Some v) h = read_by s v (read_hop h.work.server.number h.work.server.cache v) h
+read_value s (Some v) h = read_by s v (read_hop h.work.rest.number h.work.rest.cache v) h
 
 -- a dirty reference to an object elsewhere is cleaned
 abbrev pub read_clean : Spot → Value → Option Hop → Hand → Prepared
@@ -189,7 +169,7 @@ read_clean s v k h = ready h s
 -- the same for the value at a spot
 abbrev pub tinted_first : Spot → Option Value → Hand → Prepared
 tinted_first s None h = nothing
-tinted_first s (Some v) h = read_clean s v (read_hop h.work.server.number h.work.server.cache v) h
+tinted_first s (Some v) h = read_clean s v (read_hop h.work.rest.number h.work.rest.cache v) h
 
 -- one hop of a read: a dirty reference to an object elsewhere is cleaned first
 abbrev pub read_star : Hand → Spot → Prepared
@@ -206,21 +186,22 @@ read_stars (suc d) h s = and_then (read_stars d) (read_star h s)
 abbrev pub passing : ℕ → Hand → Hand
 passing n h = record h { thread = record h.thread { passed = n } }
 
--- the word that a box gets for a write, where its object lies here
-abbrev pub box_word : PartitionView → ℕ → ℕ
-box_word p w = if nat_lt (colour_of w + 1) p.limit then next_word w else new_word (freed p w)
+-- the box at a spot has its new word, which leads to the cell
+abbrev pub box_ready : Spot → Option NewWord → Hand → Prepared
+box_ready s None h = nothing
+box_ready s (Some n) h = ready_at (in_cell n.word None) (put_word s n h)
 
--- a box whose object is here gets its new word
-abbrev pub box_ready : ℕ → Spot → Option BoxPtr → Hand → Prepared
-box_ready k s None h = nothing
-box_ready k s (Some p) h = ready_at (in_cell (box_word h.work.server.partition p.word) None) (recolour s p (passing (k + 1) h))
+-- a box whose object is here gets a new word
+abbrev pub colour_box : Spot → Option BoxPtr → Hand → Prepared
+colour_box s None h = nothing
+colour_box s (Some p) h = box_ready s (issue_colour p h.work) h
 
 -- a hop that no event made ready yet: hop number k, from 0
 abbrev pub write_by : ℕ → Spot → Value → Option Hop → Hand → Prepared
 write_by k s v (Some (hop.Slot i)) h = ready (passing (k + 1) h) (in_slot i)
-write_by k s v (Some (hop.NeedTint w)) h = box_ready k s (pointer_of v) h
+write_by k s v (Some (hop.NeedTint w)) h = colour_box s (pointer_of v) (passing (k + 1) h)
 write_by k s v (Some (hop.AtCell w)) h = ready (passing (k + 1) (local v h)) (in_cell w (slot_in s))
-write_by k s v (Some (hop.NeedMove w)) h = asked_by ask_object h (pointer_of v)
+write_by k s v (Some (hop.NeedMove w)) h = request_by ask_object h (pointer_of v)
 write_by k s v o h = nothing
 
 -- a hop that is ready: a box has its new word already
@@ -234,7 +215,7 @@ pass_by s v o h = nothing
 abbrev pub write_value : ℕ → Spot → Option Value → Hand → Prepared
 write_value k s None h = nothing
 write_value k s (Some v) h =
-    if nat_lt k h.thread.passed then pass_by s v (write_hop h.work.server.number v) h else write_by k s v (write_hop h.work.server.number v) h
+    if nat_lt k h.thread.passed then pass_by s v (write_hop h.work.rest.number v) h else write_by k s v (write_hop h.work.rest.number v) h
 
 -- hop number k of a write
 abbrev pub write_star : ℕ → Hand → Spot → Prepared
@@ -260,13 +241,13 @@ is_taken p = false
 -- the pointer of a mutable borrow, by its hop
 abbrev pub lend_by : Spot → Value → Option Hop → Hand → Prepared
 lend_by s v None h = nothing
-lend_by s v (Some (hop.NeedMove w)) h = if is_taken h.thread.phase then ready h s else asked_by ask_object h (pointer_of v)
+lend_by s v (Some (hop.NeedMove w)) h = if is_taken h.thread.phase then ready h s else request_by ask_object h (pointer_of v)
 lend_by s v (Some k) h = ready h s
 
 -- the same from a value
 abbrev pub lend_value : Spot → Option Value → Hand → Prepared
 lend_value s None h = nothing
-lend_value s (Some v) h = lend_by s v (write_hop h.work.server.number v) h
+lend_value s (Some v) h = lend_by s v (write_hop h.work.rest.number v) h
 
 -- a mutable borrow reads the place up to the pointer; the object comes where it is elsewhere, and its holder isn't changed
 abbrev pub lend_pointer : Lval → ℕ → Hand → Prepared

@@ -16,7 +16,8 @@ pub record Sent : Type 0 where
   pub target : ℕ
   pub message : Message
 
-pub record Server : Type 0 where
+-- what the step of a thread can touch of its server: all but the list of threads
+pub record Rest : Type 0 where
   pub number : ℕ
   -- its part of the heap
   pub partition : PartitionView
@@ -25,14 +26,18 @@ pub record Server : Type 0 where
   pub mutexes : Mutexes
   -- the threads that it started, by rising number, until their results are gone
   pub tasks : List Task
-  -- the threads that stand here, by rising number; those that are over stay
-  pub threads : List ThreadView
   -- the messages that wait here, the oldest first
   pub inbox : List Message
   -- those for other servers, the oldest first
   pub outbox : List Sent
-  -- how many threads it has started, and how many events it has done
+  -- how many threads it has started
   pub started : ℕ
+
+pub record Server : Type 0 where
+  pub rest : Rest
+  -- the threads that stand here, by rising number; those that are over stay
+  pub threads : List ThreadView
+  -- how many events it has done
   pub events : ℕ
 
 pub record Cluster : Type 0 where
@@ -41,21 +46,23 @@ pub record Cluster : Type 0 where
   -- by rising number, from 0
   pub servers : List Server
 
-abbrev no_mutexes : ℕ → Mutexes
+abbrev pub no_mutexes : ℕ → Mutexes
 no_mutexes s = record { home = s; made = 0; there = [] }
 
 -- a server without a thread
 abbrev pub empty_server : Options → ℕ → Server
 empty_server o s = record {
-  number = s;
-  partition = started s o.colours;
-  cache = [];
-  mutexes = no_mutexes s;
-  tasks = [];
+  rest = record {
+    number = s;
+    partition = started s o.colours;
+    cache = [];
+    mutexes = no_mutexes s;
+    tasks = [];
+    inbox = [];
+    outbox = [];
+    started = 0;
+  };
   threads = [];
-  inbox = [];
-  outbox = [];
-  started = 0;
   events = 0;
 }
 
@@ -79,4 +86,4 @@ start_of code o = record { code = code; options = o; servers = with_main (empty_
 -- the server of that number
 abbrev pub server_at : List Server → ℕ → Option Server
 server_at [] n = None
-server_at (s ∷ ss) n = if s.number == n then Some s else server_at ss n
+server_at (s ∷ ss) n = if s.rest.number == n then Some s else server_at ss n

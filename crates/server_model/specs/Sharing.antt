@@ -2,9 +2,10 @@
 -- left and the content is in. Each function is what the delivery of one message does; None where that can't be done.
 use Rattle.std.specs.Prelude.{ℕ, Bool, false, if◌then◌else◌, Option, Some, None, option_map}
 use Rattle.fr_base.specs.declared.name.MutexNo.{MutexNo}
+use Rattle.fr_base.specs.Names.{same_mutex}
 use Rattle.heap_partition.specs.declared.value.Owned.{Owned}
 use Rattle.heap_partition.specs.declared.value.Owned.TheVariants as owned
-use Rattle.mutex_home.specs.Mutexes.{is_mutex, ask, give_back, more, less}
+use Rattle.mutex_home.specs.Mutexes.{ask, give_back, more, less}
 use Rattle.mutex_home.specs.declared.answers.Asked.{Asked}
 use Rattle.mutex_home.specs.declared.answers.Asked.TheVariants.{Queued, Granted}
 use Rattle.mutex_home.specs.declared.answers.Back.{Back}
@@ -13,12 +14,13 @@ use Rattle.thread_state.specs.declared.phase.Phase.{Phase}
 use Rattle.thread_state.specs.declared.phase.Phase.TheVariants as phase
 use Rattle.server_msgs.specs.declared.message.Message.TheVariants as message
 use Rattle.journal.specs.declared.act.Act.TheVariants as act
-use Rattle.server_model.specs.Work.{Work, Hand, send, note, with_mutexes, take_up, put_back, with_phase, then_some}
-use Rattle.server_model.specs.Drop.{let_go}
+use Rattle.server_model.specs.Work.{Work, Hand, send, note, with_mutexes, with_phase}
+use Rattle.server_model.specs.Drop.{give_up}
 
--- a thread has what it waited for as its gift, until its step takes it
-abbrev pub given : Owned → Hand → Work
-given v h = put_back (with_phase phase.Got (record h { thread = record h.thread { gift = Some v } }))
+-- a thread without a gift has what it waited for as its gift, until its step takes it
+abbrev pub given : Owned → Option Owned → Hand → Option Hand
+given v None h = Some (with_phase phase.Got (record h { thread = record h.thread { gift = Some v } }))
+given v (Some u) h = None
 
 -- LOCKS
 
@@ -32,48 +34,48 @@ answer_lock m s t Queued w = w
 answer_lock m s t (Granted v) w = grant m s t v w
 
 -- the home grants the content, or the thread waits in the queue
-abbrev pub lock : MutexNo → ℕ → ℕ → Work → Option Work
-lock m s t w = option_map (λ a. answer_lock m s t a.1 (with_mutexes a.0 w)) (ask w.server.mutexes m s t)
+abbrev pub deliver_lock : MutexNo → ℕ → ℕ → Work → Option Work
+deliver_lock m s t w = option_map (λ a. answer_lock m s t a.1 (with_mutexes a.0 w)) (ask w.rest.mutexes m s t)
 
 -- it waits for that mutex
 abbrev pub waits_for_lock : Phase → MutexNo → Bool
-waits_for_lock (phase.WaitLock n) m = is_mutex n m
+waits_for_lock (phase.WaitLock n) m = same_mutex n m
 waits_for_lock p m = false
 
 -- the content is the gift of the thread
-abbrev pub granted : MutexNo → Owned → ℕ → Work → Option Work
-granted m v t w = then_some (take_up w t) (λ h. if waits_for_lock h.thread.phase m then Some (given v h) else None)
+abbrev pub deliver_granted : MutexNo → Owned → Hand → Option Hand
+deliver_granted m v h = if waits_for_lock h.thread.phase m then given v h.thread.gift h else None
 
 -- what follows once a content is back
 abbrev pub answer_back : MutexNo → Back → Work → Work
 answer_back m (Next s t v) w = grant m s t v w
-answer_back m (Ended v) w = let_go v w
+answer_back m (Ended v) w = give_up v w
 answer_back m Kept w = w
 
 -- the content goes on to the first that waits; with no share left it is dropped
-abbrev pub unlock : MutexNo → Owned → Work → Option Work
-unlock m v w = option_map (λ a. answer_back m a.1 (with_mutexes a.0 w)) (give_back w.server.mutexes m v)
+abbrev pub deliver_unlock : MutexNo → Owned → Work → Option Work
+deliver_unlock m v w = option_map (λ a. answer_back m a.1 (with_mutexes a.0 w)) (give_back w.rest.mutexes m v)
 
 -- SHARES
 
 -- the home counts one share more, and answers
-abbrev pub dup : MutexNo → ℕ → ℕ → Work → Option Work
-dup m s t w = option_map (λ ms. send s (message.Dupped m t) (note (act.Dupped m t s) (with_mutexes ms w))) (more w.server.mutexes m)
+abbrev pub deliver_dup : MutexNo → ℕ → ℕ → Work → Option Work
+deliver_dup m s t w = option_map (λ ms. send s (message.Dupped m t) (note (act.Dupped m t s) (with_mutexes ms w))) (more w.rest.mutexes m)
 
 -- it waits for a share of that mutex
 abbrev pub waits_for_dup : Phase → MutexNo → Bool
-waits_for_dup (phase.WaitDup n) m = is_mutex n m
+waits_for_dup (phase.WaitDup n) m = same_mutex n m
 waits_for_dup p m = false
 
 -- the share is the gift of the thread
-abbrev pub dupped : MutexNo → ℕ → Work → Option Work
-dupped m t w = then_some (take_up w t) (λ h. if waits_for_dup h.thread.phase m then Some (given (owned.Mutex m) h) else None)
+abbrev pub deliver_dupped : MutexNo → Hand → Option Hand
+deliver_dupped m h = if waits_for_dup h.thread.phase m then given (owned.Mutex m) h.thread.gift h else None
 
 -- what is left over is dropped
-abbrev pub let_go_content : Option Owned → Work → Work
-let_go_content None w = w
-let_go_content (Some v) w = let_go v w
+abbrev pub give_up_left : Option Owned → Work → Work
+give_up_left None w = w
+give_up_left (Some v) w = give_up v w
 
 -- a value of the mutex was dropped; the last share drops the content that is in
 abbrev pub release_mutex : MutexNo → Work → Option Work
-release_mutex m w = option_map (λ a. let_go_content a.1 (with_mutexes a.0 w)) (less w.server.mutexes m)
+release_mutex m w = option_map (λ a. give_up_left a.1 (with_mutexes a.0 w)) (less w.rest.mutexes m)

@@ -1,52 +1,71 @@
 -- A server in the middle of an event: what the event has done so far (this project's rules). The functions are small, and the
 -- server's code has one of the same name for each.
-use Rattle.std.specs.Prelude.{ℕ, ◌-◌, ◌^◌, ◌==◌, ◌&&◌, Bool, true, false, nat_lt, is_some, if◌then◌else◌, List, [], ◌∷◌, ◌++◌, length, take, remove, Option, Some, None, slice_get}
+use Rattle.std.specs.Prelude.{ℕ, ℤ, ◌-◌, ◌==◌, ◌&&◌, Bool, true, false, nat_lt, is_some, if◌then◌else◌, List, [], ◌∷◌, ◌++◌, length, take, remove, Option, Some, None, option_map}
 use Rattle.fr_base.specs.Lists.{is_in}
 pub use Rattle.fr_base.specs.Lists.{last_of}
 use Rattle.fr_base.specs.declared.label.Label.{Label}
+use Rattle.fr_base.specs.declared.name.MutexNo.{MutexNo}
+use Rattle.fr_base.specs.declared.name.ObjNo.{ObjNo}
 use Rattle.fr_base.specs.declared.instruction.Operand.{Operand}
 use Rattle.fr_base.specs.declared.instruction.Operand.TheVariants as operand
 use Rattle.global_addr.specs.Words.{colour_of, server_of}
 use Rattle.heap_partition.specs.declared.value.Cell.{Cell}
+use Rattle.heap_partition.specs.declared.value.Owned.{Owned}
 use Rattle.heap_partition.specs.declared.value.Owned.TheVariants as owned
 use Rattle.owner_box.specs.View.{PartitionView}
 use Rattle.owner_box.specs.Partition.{cell_of}
+use Rattle.fr_base.specs.Names.{same_object}
 use Rattle.read_cache.specs.Cache.{Copy, can_pin, pin, can_unpin, unpin}
 use Rattle.mutex_home.specs.Mutexes.{Mutexes}
 use Rattle.join_home.specs.Tasks.{Task}
 use Rattle.thread_state.specs.View.{ThreadView}
 use Rattle.thread_state.specs.declared.phase.Phase.{Phase}
+use Rattle.thread_state.specs.declared.phase.Phase.TheVariants as phase
 use Rattle.thread_state.specs.declared.value.Value.{Value}
 use Rattle.thread_state.specs.declared.value.Value.TheVariants as value
 use Rattle.server_msgs.specs.declared.message.Message.{Message}
 use Rattle.journal.specs.declared.act.Act.{Act}
 use Rattle.journal.specs.declared.act.Act.TheVariants as act
-use Rattle.server_model.specs.Servers.{Server}
+use Rattle.server_model.specs.Servers.{Rest}
 
--- the server, and the acts and labels of its event so far
+-- what a step touches of its server, and the acts and labels of its event so far
 pub record Work : Type 0 where
-  pub server : Server
+  pub rest : Rest
   pub acts : List Act
   pub labels : List Label
 
--- the same with one thread in the hand: it stands in the list of the server's threads no longer, until it is put back
+-- the same with the thread that the event changes
 pub record Hand : Type 0 where
   pub work : Work
   pub thread : ThreadView
 
+-- the same with all threads that stand there
+pub record Site : Type 0 where
+  pub work : Work
+  pub threads : List ThreadView
+
+-- goes on with what is there
+abbrev pub then_some : {X Y : Type 0} → Option X → (X → Option Y) → Option Y
+then_some None go = None
+then_some (Some x) go = go x
+
 -- MESSAGES, ACTS AND LABELS
 
+-- a message waits last
+abbrev pub add_waiting : Message → Rest → Rest
+add_waiting m r = record r { inbox = r.inbox ++ m ∷ [] }
+
 -- a message to the server itself goes to the end of its own list, else to the outbox
-abbrev pub sent_from : Server → ℕ → Message → Server
-sent_from s target m = if target == s.number then record s { inbox = s.inbox ++ m ∷ [] } else record s { outbox = s.outbox ++ record { target = target; message = m } ∷ [] }
+abbrev pub sent_from : Rest → ℕ → Message → Rest
+sent_from r target m = if target == r.number then add_waiting m r else record r { outbox = r.outbox ++ record { target = target; message = m } ∷ [] }
 
 -- a message of the event
 abbrev pub send : ℕ → Message → Work → Work
-send target m w = record w { server = sent_from w.server target m }
+send target m w = record w { rest = sent_from w.rest target m }
 
 -- a waiting message is taken out, and the later ones move up
-abbrev pub receive : Server → ℕ → Server
-receive s i = record s { inbox = remove s.inbox i }
+abbrev pub receive : Rest → ℕ → Rest
+receive r i = record r { inbox = remove r.inbox i }
 
 -- one act more
 abbrev pub note : Act → Work → Work
@@ -71,19 +90,19 @@ without_hops (a ∷ rest) = if is_hop a then without_hops rest else a ∷ withou
 
 -- the server with another partition
 abbrev pub with_partition : PartitionView → Work → Work
-with_partition p w = record w { server = record w.server { partition = p } }
+with_partition p w = record w { rest = record w.rest { partition = p } }
 
 -- the server with other copies
 abbrev pub with_cache : List Copy → Work → Work
-with_cache cs w = record w { server = record w.server { cache = cs } }
+with_cache cs w = record w { rest = record w.rest { cache = cs } }
 
 -- the server with other mutexes
 abbrev pub with_mutexes : Mutexes → Work → Work
-with_mutexes ms w = record w { server = record w.server { mutexes = ms } }
+with_mutexes ms w = record w { rest = record w.rest { mutexes = ms } }
 
 -- the server with other tasks
 abbrev pub with_tasks : List Task → Work → Work
-with_tasks ts w = record w { server = record w.server { tasks = ts } }
+with_tasks ts w = record w { rest = record w.rest { tasks = ts } }
 
 -- the word may be handed to the partition: it is of this server, its address is live and its colour below the limit
 abbrev pub leads_here : PartitionView → ℕ → Bool
@@ -93,9 +112,9 @@ leads_here p w = ((server_of w == p.server) && is_some (cell_of p w)) && nat_lt 
 abbrev pub look : PartitionView → ℕ → Option Cell
 look p w = if leads_here p w then cell_of p w else None
 
--- another object can be made: the next address is below 2^40
-abbrev pub can_grow : PartitionView → Bool
-can_grow p = nat_lt (length p.cells) (2 ^ 40)
+-- the same where it is the cell of that object
+abbrev pub look_object : PartitionView → ℕ → ObjNo → Option Cell
+look_object p w o = then_some (look p w) (λ c. if same_object c.object o then Some c else None)
 
 -- THREADS
 
@@ -103,6 +122,11 @@ can_grow p = nat_lt (length p.cells) (2 ^ 40)
 abbrev pub thread_in : List ThreadView → ℕ → Option ThreadView
 thread_in [] t = None
 thread_in (x ∷ xs) t = if x.number == t then Some x else thread_in xs t
+
+-- another state of a thread, where it stands
+abbrev pub set_thread : List ThreadView → ThreadView → List ThreadView
+set_thread [] new = []
+set_thread (x ∷ xs) new = if x.number == new.number then new ∷ xs else x ∷ set_thread xs new
 
 -- the others
 abbrev pub without_thread : List ThreadView → ℕ → List ThreadView
@@ -114,22 +138,21 @@ abbrev pub with_thread : List ThreadView → ThreadView → List ThreadView
 with_thread [] new = new ∷ []
 with_thread (x ∷ xs) new = if nat_lt new.number x.number then new ∷ x ∷ xs else x ∷ with_thread xs new
 
--- the thread in the hand, and the others at the server
-abbrev pub taken_up : Work → Option ThreadView → Option Hand
-taken_up w None = None
-taken_up w (Some t) = Some (record { work = record w { server = record w.server { threads = without_thread w.server.threads t.number } }; thread = t })
+-- the work with a thread that is here
+abbrev pub in_hand : Site → ℕ → Option Hand
+in_hand s t = option_map (λ x. record { work = s.work; thread = x }) (thread_in s.threads t)
 
--- takes a thread that is here into the hand
-abbrev pub take_up : Work → ℕ → Option Hand
-take_up w t = taken_up w (thread_in w.server.threads t)
+-- the thread stands where it stood
+abbrev pub put_back : List ThreadView → Hand → Site
+put_back ts h = record { work = h.work; threads = set_thread ts h.thread }
 
--- puts a thread to the others
-abbrev pub stand : ThreadView → Work → Work
-stand t w = record w { server = record w.server { threads = with_thread w.server.threads t } }
+-- what changes a thread that is here
+abbrev pub at_thread : ℕ → (Hand → Option Hand) → Site → Option Site
+at_thread t f s = then_some (in_hand s t) (λ h. option_map (put_back s.threads) (f h))
 
--- puts the thread in the hand to the others
-abbrev pub put_back : Hand → Work
-put_back h = stand h.thread h.work
+-- what changes no thread
+abbrev pub beside_threads : (Work → Option Work) → Site → Option Site
+beside_threads f s = option_map (λ w. record s { work = w }) (f s.work)
 
 -- a change of the server or of what is noted of the event
 abbrev pub working : (Work → Work) → Hand → Hand
@@ -138,6 +161,10 @@ working f h = record h { work = f h.work }
 -- the thread waits for something else, or for nothing
 abbrev pub with_phase : Phase → Hand → Hand
 with_phase p h = record h { thread = record h.thread { phase = p } }
+
+-- the thread is at that instruction next
+abbrev pub go_to : ℕ → Hand → Hand
+go_to pc h = record h { thread = record h.thread { pc = pc; phase = phase.Ready } }
 
 -- SLOTS AND TEMPORARY VALUES
 
@@ -165,16 +192,56 @@ push_temp v h = with_temps (h.thread.temps ++ v ∷ []) h
 abbrev pub unit : Value
 unit = value.Own owned.Unit
 
--- goes on with what is there
-abbrev pub then_some : {X Y : Type 0} → Option X → (X → Option Y) → Option Y
-then_some None go = None
-then_some (Some x) go = go x
+-- a value that was taken out, and the hand without it
+pub record Popped (X : Type 0) : Type 0 where
+  pub item : X
+  pub hand : Hand
 
--- an operand's value, popped where it is the temporary value on top
-abbrev pub pop : Operand → Hand → (Value → Hand → Option Hand) → Option Hand
-pop (operand.Const n) h go = go (value.Own (owned.Int n)) h
-pop operand.Unit h go = go unit h
-pop operand.Pop h go = then_some (last_of h.thread.temps) (λ v. go v (with_temps (front_of h.thread.temps) h))
+-- the temporary value on top
+abbrev pub pop_temp : Hand → Option (Popped Value)
+pop_temp h = option_map (λ v. record { item = v; hand = with_temps (front_of h.thread.temps) h }) (last_of h.thread.temps)
+
+-- the last slot
+abbrev pub pop_slot : Hand → Option (Popped Value)
+pop_slot h = option_map (λ v. record { item = v; hand = with_slots (front_of h.thread.slots) h }) (last_of h.thread.slots)
+
+-- an operand's value; it goes where it is the temporary value on top
+abbrev pub pop : Operand → Hand → Option (Popped Value)
+pop (operand.Const n) h = Some (record { item = value.Own (owned.Int n); hand = h })
+pop operand.Unit h = Some (record { item = unit; hand = h })
+pop operand.Pop h = pop_temp h
+
+-- the value as what is needed, where it is that
+abbrev pub taken_as : {X : Type 0} → (Value → Option X) → Popped Value → Option (Popped X)
+taken_as f t = option_map (λ x. record { item = x; hand = t.hand }) (f t.item)
+
+-- an owned value
+abbrev pub owned_of : Value → Option Owned
+owned_of (value.Own v) = Some v
+owned_of v = None
+
+-- an integer
+abbrev pub int_of : Value → Option ℤ
+int_of (value.Own (owned.Int n)) = Some n
+int_of v = None
+
+-- a task
+abbrev pub task_of : Value → Option ℕ
+task_of (value.Own (owned.Task t)) = Some t
+task_of v = None
+
+-- a mutex
+abbrev pub mutex_of : Value → Option MutexNo
+mutex_of (value.Own (owned.Mutex m)) = Some m
+mutex_of v = None
+
+-- an operand's owned value
+abbrev pub pop_owned : Operand → Hand → Option (Popped Owned)
+pop_owned o h = then_some (pop o h) (taken_as owned_of)
+
+-- an operand's integer
+abbrev pub pop_int : Operand → Hand → Option (Popped ℤ)
+pop_int o h = then_some (pop o h) (taken_as int_of)
 
 -- USES OF CACHED WORDS
 
@@ -182,8 +249,8 @@ pop operand.Pop h go = then_some (last_of h.thread.temps) (λ v. go v (with_temp
 abbrev pub used_once : ℕ → Bool → Hand → Option Hand
 used_once w true h = Some h
 used_once w false h =
-    if can_pin h.work.server.cache w
-    then Some (record { work = with_cache (pin h.work.server.cache w) h.work; thread = record h.thread { walk = h.thread.walk ++ w ∷ [] } })
+    if can_pin h.work.rest.cache w
+    then Some (record { work = with_cache (pin h.work.rest.cache w) h.work; thread = record h.thread { walk = h.thread.walk ++ w ∷ [] } })
     else None
 
 -- the thread uses the copy until its step is done; a word of its walk isn't used twice

@@ -38,7 +38,7 @@ over_with_slot = with_threads boxed_cluster boxed_server (record boxed_main { ph
 
 -- an integer's object holds unit
 abbrev unit_held : Cluster
-unit_held = record boxed_cluster { servers = record boxed_server { partition = record boxed_server.partition { cells = cell 0 owned.Unit ∷ [] } } ∷ [] }
+unit_held = record boxed_cluster { servers = record boxed_server { rest = record boxed_server.rest { partition = record boxed_server.rest.partition { cells = cell 0 owned.Unit ∷ [] } } } ∷ [] }
 
 -- an integer stands in the slot of a box
 abbrev int_for_box : Cluster

@@ -41,15 +41,17 @@ locking_main = new_thread 0 3 (value.Own (owned.Mutex the_mutex) ∷ value.Held 
 
 abbrev pub locking_server : Server
 locking_server = record {
-  number = 0;
-  partition = record { server = 0; limit = 65536; cells = []; free = []; retired = 0; spare = 0 };
-  cache = [];
-  mutexes = record { home = 0; made = 1; there = record { number = the_mutex; content = None; shares = 1; queue = [] } ∷ [] };
-  tasks = [];
+  rest = record {
+    number = 0;
+    partition = record { server = 0; limit = 65536; cells = []; free = []; retired = 0; spare = 0 };
+    cache = [];
+    mutexes = record { home = 0; made = 1; there = record { number = the_mutex; content = None; shares = 1; queue = [] } ∷ [] };
+    tasks = [];
+    inbox = [];
+    outbox = [];
+    started = 0;
+  };
   threads = locking_main ∷ [];
-  inbox = [];
-  outbox = [];
-  started = 0;
   events = 6;
 }
 

@@ -21,15 +21,17 @@ parent = record (new_thread 0 5 (value.Own (box (word_of 0 0 0) 0) ∷ seen ∷ 
 
 abbrev pub paired_server : Server
 paired_server = record {
-  number = 0;
-  partition = record { server = 0; limit = 65536; cells = cell 0 (int 1) ∷ []; free = []; retired = 0; spare = 0 };
-  cache = [];
-  mutexes = record { home = 0; made = 0; there = [] };
-  tasks = task 1 (in_pair 0 false) ∷ task 2 (in_pair 0 false) ∷ [];
+  rest = record {
+    number = 0;
+    partition = record { server = 0; limit = 65536; cells = cell 0 (int 1) ∷ []; free = []; retired = 0; spare = 0 };
+    cache = [];
+    mutexes = record { home = 0; made = 0; there = [] };
+    tasks = task 1 (in_pair 0 false) ∷ task 2 (in_pair 0 false) ∷ [];
+    inbox = [];
+    outbox = [];
+    started = 2;
+  };
   threads = parent ∷ new_thread 1 15 (seen ∷ []) ∷ new_thread 2 19 (seen ∷ []) ∷ [];
-  inbox = [];
-  outbox = [];
-  started = 2;
   events = 7;
 }
 

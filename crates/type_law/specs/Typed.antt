@@ -14,15 +14,17 @@ boxed_main = record (new_thread 0 2 (value.Own (box (word_of 0 0 0) 0) ∷ [])) 
 
 abbrev pub boxed_server : Server
 boxed_server = record {
-  number = 0;
-  partition = record { server = 0; limit = 4; cells = cell 0 (int 1) ∷ []; free = []; retired = 0; spare = 0 };
-  cache = [];
-  mutexes = record { home = 0; made = 0; there = [] };
-  tasks = [];
+  rest = record {
+    number = 0;
+    partition = record { server = 0; limit = 4; cells = cell 0 (int 1) ∷ []; free = []; retired = 0; spare = 0 };
+    cache = [];
+    mutexes = record { home = 0; made = 0; there = [] };
+    tasks = [];
+    inbox = [];
+    outbox = [];
+    started = 0;
+  };
   threads = boxed_main ∷ [];
-  inbox = [];
-  outbox = [];
-  started = 0;
   events = 2;
 }
 
