@@ -37,16 +37,16 @@ left_waiting what ms = ms
 pub record AppendsSendings (what : What) (before after : Server) (acts : List Act) : Type 0 where
   pub own : List Message
   pub others : List Sent
-  pub waiting : after.inbox ≡ left_waiting what before.inbox ++ own
-  pub outbox : after.outbox ≡ before.outbox ++ others
-  pub own_sendings : map (sending_of before.number) own ≡ filter (stays before.number) (sendings acts)
-  pub other_sendings : map sending_out others ≡ filter (leaves before.number) (sendings acts)
+  pub waiting : after.rest.inbox ≡ left_waiting what before.rest.inbox ++ own
+  pub outbox : after.rest.outbox ≡ before.rest.outbox ++ others
+  pub own_sendings : map (sending_of before.rest.number) own ≡ filter (stays before.rest.number) (sendings acts)
+  pub other_sendings : map sending_out others ≡ filter (leaves before.rest.number) (sendings acts)
 
 -- COMPUTED
 
 -- what stands behind the older messages after an event of a server, its own ones and the others
 abbrev appended : What → Option Server → Option Server → List (List Sending)
-appended what (Some before) (Some after) = map (sending_of before.number) (drop (length (left_waiting what before.inbox)) after.inbox) ∷ map sending_out (drop (length before.outbox) after.outbox) ∷ []
+appended what (Some before) (Some after) = map (sending_of before.rest.number) (drop (length (left_waiting what before.rest.inbox)) after.rest.inbox) ∷ map sending_out (drop (length before.rest.outbox) after.rest.outbox) ∷ []
 appended what before after = []
 
 abbrev by_servers : Cluster → Event → Cluster × Entry → List (List Sending)
