@@ -14,7 +14,7 @@ use Rattle.fr_typing.specs.Typing.{typing}
 use Rattle.fr_syntax.specs.declared.tree.Term.TheVariants.{Block, Let, Assign, Box, Print, Arith, Join, Spawn}
 use Rattle.fr_syntax.specs.declared.tree.Node.{Node}
 use Rattle.fr_syntax.specs.Arena.{Arena, text_of}
-use Rattle.fr_syntax.specs.NodeList.{NodeList}
+use Rattle.fr_base.specs.Rooms.{WithRoom}
 use Rattle.fr_syntax.specs.Meanings.{Meaning, meaning_at, term_at, place_at, items_at, captures_at, stands_for, Sort, term_s, place_s, capture_s, Need, need, all_need, needs, nodes_in, meanings, AreBelow, AreDifferent}
 use Rattle.borrow_check.specs.declared.usage.Usage.{Usage}
 use Rattle.fr_types.specs.declared.types.Ty.{Ty}
@@ -141,17 +141,17 @@ pub record AreParts (a : Arena) (at : ℕ) (ids : List ℕ) (v : ℕ) : Type 0 w
   pub ready : IsReady a v
   pub count : length (nodes_in (meanings a) (all_need capture_s ids)) + length (meaning_at (meanings a) v).nodes + 1 ≤ length (meaning_at (meanings a) at).nodes
 
-spawn_here : (a : Arena) (at : ℕ) (captures : NodeList) (v : ℕ) (n : Node) → IsHere a at n → n.term ≡ Spawn captures v → term_at (meanings a) at ≡ spawn_t n.place (captures_at (meanings a) captures.items) (term_at (meanings a) v)
+spawn_here : (a : Arena) (at : ℕ) (captures : WithRoom ℕ) (v : ℕ) (n : Node) → IsHere a at n → n.term ≡ Spawn captures v → term_at (meanings a) at ≡ spawn_t n.place (captures_at (meanings a) captures.items) (term_at (meanings a) v)
 spawn_here a at captures v n h is = term_here a at n (spawn_t n.place (captures_at (meanings a) captures.items) (term_at (meanings a) v)) h (ap (stands_for a.names (meanings a) n.place) is)
 
 -- the nodes of a new thread's term: those of its names, those of its body, and itself
-pub spawn_nodes : (a : Arena) (at : ℕ) (captures : NodeList) (v : ℕ) (n : Node) → IsHere a at n → n.term ≡ Spawn captures v → (meaning_at (meanings a) at).nodes ≡ (nodes_in (meanings a) (all_need capture_s captures.items) ++ (meaning_at (meanings a) v).nodes) ++ at ∷ []
+pub spawn_nodes : (a : Arena) (at : ℕ) (captures : WithRoom ℕ) (v : ℕ) (n : Node) → IsHere a at n → n.term ≡ Spawn captures v → (meaning_at (meanings a) at).nodes ≡ (nodes_in (meanings a) (all_need capture_s captures.items) ++ (meaning_at (meanings a) v).nodes) ++ at ∷ []
 spawn_nodes a at captures v n h is =
     let own = (meaning_at (meanings a) v).nodes in
     h.nodes ∙ ap (λ t. nodes_in (meanings a) (needs t) ++ at ∷ []) is
     ∙ ap (λ l. l ++ at ∷ []) (nodes_append (meanings a) (all_need capture_s captures.items) (need term_s v ∷ []) ∙ ap (λ l. nodes_in (meanings a) (all_need capture_s captures.items) ++ l) (append-nil own))
 
-pub spawn_parts : (a : Arena) (at : ℕ) (captures : NodeList) (v : ℕ) (n : Node) → IsHere a at n → n.term ≡ Spawn captures v → IsReady a at → AreParts a at captures.items v
+pub spawn_parts : (a : Arena) (at : ℕ) (captures : WithRoom ℕ) (v : ℕ) (n : Node) → IsHere a at n → n.term ≡ Spawn captures v → IsReady a at → AreParts a at captures.items v
 spawn_parts a at captures v n h is ready =
     let first = nodes_in (meanings a) (all_need capture_s captures.items) in
     let own = (meaning_at (meanings a) v).nodes in
@@ -169,11 +169,11 @@ spawn_parts a at captures v n h is ready =
       count = omega (arith, ap length nodes, length-append (first ++ own) (at ∷ []), length-append first own);
     }
 
-pub block_parts : (a : Arena) (at : ℕ) (items : NodeList) (n : Node) → IsHere a at n → n.term ≡ Block items → IsReady a at → AreReady a at items.items
+pub block_parts : (a : Arena) (at : ℕ) (items : WithRoom ℕ) (n : Node) → IsHere a at n → n.term ≡ Block items → IsReady a at → AreReady a at items.items
 block_parts a at items n h is ready =
     items_part a at items.items n h (ap needs is) ready (subst IsThreaded (term_here a at n (block_t n.place (items_at (meanings a) items.items)) h (ap (stands_for a.names (meanings a) n.place) is)) ready.threaded)
 
-pub block_count : (a : Arena) (at : ℕ) (items : NodeList) (n : Node) → IsHere a at n → n.term ≡ Block items → length (nodes_in (meanings a) (all_need term_s items.items)) + 1 ≤ length (meaning_at (meanings a) at).nodes
+pub block_count : (a : Arena) (at : ℕ) (items : WithRoom ℕ) (n : Node) → IsHere a at n → n.term ≡ Block items → length (nodes_in (meanings a) (all_need term_s items.items)) + 1 ≤ length (meaning_at (meanings a) at).nodes
 block_count a at items n h is =
     let own = nodes_in (meanings a) (all_need term_s items.items) in
     let nodes : (meaning_at (meanings a) at).nodes ≡ own ++ at ∷ [] = h.nodes ∙ ap (λ l. nodes_in (meanings a) l ++ at ∷ []) (ap needs is) in
@@ -186,7 +186,7 @@ pub arith_gives : (a : Arena) (at l r : ℕ) (op : Op) (n : Node) (e e1 : Env) (
 arith_gives a at l r op n e e1 result h is gives = subst (λ t. Gives result (typing t e) e1) (sym (arith_here a at l r op n h is)) gives
 
 -- a new thread's term is typed as its body is
-pub spawn_gives : (a : Arena) (at : ℕ) (captures : NodeList) (v : ℕ) (n : Node) (e e1 : Env) (result : Result Ty CheckError) → IsHere a at n → n.term ≡ Spawn captures v → Gives result (typing (spawn_t 0 (captures_at (meanings a) captures.items) (term_at (meanings a) v)) e) e1 → Gives result (typing (term_at (meanings a) at) e) e1
+pub spawn_gives : (a : Arena) (at : ℕ) (captures : WithRoom ℕ) (v : ℕ) (n : Node) (e e1 : Env) (result : Result Ty CheckError) → IsHere a at n → n.term ≡ Spawn captures v → Gives result (typing (spawn_t 0 (captures_at (meanings a) captures.items) (term_at (meanings a) v)) e) e1 → Gives result (typing (term_at (meanings a) at) e) e1
 spawn_gives a at captures v n e e1 result h is gives = subst (λ t. Gives result (typing t e) e1) (sym (spawn_here a at captures v n h is)) gives
 
 -- names are captured into an environment without slots
@@ -207,7 +207,7 @@ thread_used names ns e e1 n cs b old mid new first second none goes captures bod
     subst (λ l. AreWritten old new (first ++ second) (capture_usages e [] cs ++ usages_of b l)) (sym all)
     (written_both old mid new first second (capture_usages e [] cs) (usages_of b n) (subst (λ (l : List Held). AreWritten old mid first (capture_usages e (env_of names l) cs)) none captures) body)
 
-pub spawn_used : (a : Arena) (at : ℕ) (captures : NodeList) (v : ℕ) (n : Node) (e : Env) (old new : List Usage) → IsHere a at n → n.term ≡ Spawn captures v → at < length old → AreWritten old new (nodes_in (meanings a) (all_need capture_s captures.items) ++ (meaning_at (meanings a) v).nodes) (capture_usages e [] (captures_at (meanings a) captures.items) ++ usages_of (term_at (meanings a) v) (env_of_all e (captures_at (meanings a) captures.items))) → AreWritten old new (meaning_at (meanings a) at).nodes (usages_of (term_at (meanings a) at) e)
+pub spawn_used : (a : Arena) (at : ℕ) (captures : WithRoom ℕ) (v : ℕ) (n : Node) (e : Env) (old new : List Usage) → IsHere a at n → n.term ≡ Spawn captures v → at < length old → AreWritten old new (nodes_in (meanings a) (all_need capture_s captures.items) ++ (meaning_at (meanings a) v).nodes) (capture_usages e [] (captures_at (meanings a) captures.items) ++ usages_of (term_at (meanings a) v) (env_of_all e (captures_at (meanings a) captures.items))) → AreWritten old new (meaning_at (meanings a) at).nodes (usages_of (term_at (meanings a) at) e)
 spawn_used a at captures v n e old new h is lt both =
     let cs = captures_at (meanings a) captures.items in
     let first = nodes_in (meanings a) (all_need capture_s captures.items) in
@@ -232,7 +232,7 @@ let_used a at name v n e old new h is lt part =
     subst (λ t. AreWritten old new (meaning_at (meanings a) at).nodes (usages_of t e)) (sym (term_here a at n (let_t n.place (text_of a.names name) (term_at (meanings a) v)) h (ap (stands_for a.names (meanings a) n.place) is)))
     (one_written a at v n old new (usages_of (term_at (meanings a) v) e) h (ap needs is) lt part)
 
-pub block_used : (a : Arena) (at : ℕ) (items : NodeList) (n : Node) (e : Env) (old new : List Usage) → IsHere a at n → n.term ≡ Block items → at < length old → AreWritten old new (nodes_in (meanings a) (all_need term_s items.items)) (usages_in (items_at (meanings a) items.items) e) → AreWritten old new (meaning_at (meanings a) at).nodes (usages_of (term_at (meanings a) at) e)
+pub block_used : (a : Arena) (at : ℕ) (items : WithRoom ℕ) (n : Node) (e : Env) (old new : List Usage) → IsHere a at n → n.term ≡ Block items → at < length old → AreWritten old new (nodes_in (meanings a) (all_need term_s items.items)) (usages_in (items_at (meanings a) items.items) e) → AreWritten old new (meaning_at (meanings a) at).nodes (usages_of (term_at (meanings a) at) e)
 block_used a at items n e old new h is lt part =
     subst (λ t. AreWritten old new (meaning_at (meanings a) at).nodes (usages_of t e)) (sym (term_here a at n (block_t n.place (items_at (meanings a) items.items)) h (ap (stands_for a.names (meanings a) n.place) is)))
     (block_written a at items.items n old new (usages_in (items_at (meanings a) items.items) e) h (ap needs is) lt part)

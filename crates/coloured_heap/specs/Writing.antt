@@ -1,6 +1,6 @@
 -- Short words for journals that are written by hand.
 use Rattle.std.specs.Prelude.{ℕ, ◌+◌, ◌*◌, ◌^◌, pos, false, List, [], Some, None}
-use Rattle.fr_base.specs.Labels.{LabelList}
+use Rattle.fr_base.specs.Rooms.{WithRoom}
 use Rattle.fr_base.specs.declared.label.Label.{Label}
 use Rattle.fr_base.specs.declared.label.Plain.{Plain}
 use Rattle.fr_base.specs.declared.label.Plain.TheVariants as plain
@@ -9,7 +9,6 @@ use Rattle.fr_base.specs.declared.name.ObjNo.{ObjNo}
 use Rattle.fr_base.specs.declared.settings.Options.{Options}
 use Rattle.fr_base.specs.declared.step.Fresh.{Fresh}
 use Rattle.fr_base.specs.declared.step.Fresh.TheVariants as fresh
-use Rattle.journal.specs.Acts.{ActList}
 use Rattle.journal.specs.declared.act.Act.{Act}
 use Rattle.journal.specs.declared.entry.Entry.{Entry}
 
@@ -17,10 +16,10 @@ use Rattle.journal.specs.declared.entry.Entry.{Entry}
 abbrev pub options : ℕ → ℕ → ℕ → Options
 options servers colours cache = record { servers = servers; workers = 1; colours = colours; cache = cache; quantum = 16; turns = 1000000; balance = 0; choice = 0; trace = false }
 
-abbrev pub acts_of : List Act → ActList
+abbrev pub acts_of : List Act → WithRoom Act
 acts_of acts = record { items = acts; spare = 0 }
 
-abbrev pub labels_of : List Label → LabelList
+abbrev pub labels_of : List Label → WithRoom Label
 labels_of labels = record { items = labels; spare = 0 }
 
 -- a plain step of a thread at a server, with new names

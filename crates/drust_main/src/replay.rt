@@ -1,7 +1,7 @@
 //! A source with an order behind it, from its bytes to the text of its run under the order.
 
 ghost use Rattle.std.specs.Prelude.{◌≡◌, ◌≤◌, ◌<◌, ◌+◌, ◌^◌, ℕ, List, [], ◌∷◌, length, IfOk, IfErr, OnOk, string_bytes};
-ghost use Rattle.journal.specs.OrderList.{IsRefusedOrNoMemory};
+ghost use Rattle.journal.specs.OrderFaults.{IsRefusedOrNoMemory};
 ghost use Rattle.fr_meaning.specs.PoolView.{whole_of, steps_left_of};
 ghost use Rattle.drust_main.specs.Headline.{Replayed, limit};
 ghost use Rattle.drust_main.specs.Replay.{source_length as source_size, turns, ending_text as text_of_ending, replay_text as text_of_replay, status_of_ending, HasLines, Replays};

@@ -1,12 +1,7 @@
--- What contracts see of code, and the code with the place of a new thread's code put into an instruction.
+-- Code with the place of a new thread's code put into an instruction.
 use Rattle.std.specs.Prelude.{ℕ, List, Option, Some, None, slice_get, slice_set}
 use Rattle.fr_base.specs.declared.instruction.Instr.{Instr}
 use Rattle.fr_base.specs.declared.instruction.Instr.TheVariants.{Spawn, Par}
-
-pub record InstrList : Type 0 where
-  pub items : List Instr
-  -- how many more fit without memory
-  pub spare : ℕ
 
 -- the code of the new thread, of two the first one's, stands there
 abbrev pub starting : ℕ → Instr → Instr

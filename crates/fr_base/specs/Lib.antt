@@ -1,7 +1,5 @@
-pub mod Labels
-pub mod Captures
-pub mod Code
 pub mod Rooms
+pub mod Code
 pub mod Kinds
 pub mod Lists
 pub mod Names

@@ -3,7 +3,6 @@
 //! No call here has a refusal but want of memory, and a number's parts are what it was made of.
 #![tactic(auto)]
 
-mod captured;
 mod instruction;
 mod instructions;
 mod label;
@@ -18,8 +17,7 @@ mod step;
 #[cfg(test)]
 mod tests;
 
-pub use captured::Captures;
-pub use instruction::{Instr, Operand};
+pub use instruction::{Captures, Instr, Operand};
 pub use instructions::Code;
 pub use label::{Label, Labels, Plain};
 pub use list::List;

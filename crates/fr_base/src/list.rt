@@ -10,7 +10,7 @@ use std::marker::Model;
 /// A push takes constant time on average, `at` and `len` always.
 #[derive(Debug, Drop)]
 pub struct List<T> {
-    items: Vec<T>,
+    pub(crate) items: Vec<T>,
 }
 
 impl<T> Model for List<T> {
@@ -73,5 +73,12 @@ impl<T: Drop> List<T> {
         ensures { option_copied result ≡ slice_get self.now.items at }
     {
         self.items.get(at as usize)
+    }
+
+    /// The values in order.
+    pub fn as_slice(&self) -> &[T]
+        ensures { result.now ≡ self.now.items }
+    {
+        &self.items
     }
 }

@@ -1,7 +1,6 @@
 //! Lists that grow, and code whose bodies are put in.
 
-use crate::captured::Captures;
-use crate::instruction::{Instr, Operand};
+use crate::instruction::{Captures, Instr, Operand};
 use crate::instructions::Code;
 use crate::message::Kind;
 use crate::name::ThreadNo;
@@ -11,7 +10,7 @@ use std::test::Fail;
 
 // The places of the bodies of the instruction there.
 fn bodies(code: &Code, at: u32) -> (u32, u32) {
-    match code.at(at) {
+    match code.at(u64::from(at)) {
         Some(Instr::Spawn(_, body)) => (*body, 0),
         Some(Instr::Par(_, body, _, other)) => (*body, *other),
         _ => (0, 0),

@@ -8,7 +8,7 @@ use Rattle.fr_base.specs.declared.instruction.Operand.{Operand}
 use Rattle.fr_base.specs.declared.instruction.Operand.TheVariants as operand
 use Rattle.fr_base.specs.declared.instruction.Instr.{Instr}
 use Rattle.fr_base.specs.declared.instruction.Instr.TheVariants as instr
-use Rattle.fr_base.specs.Captures.{CaptureList}
+use Rattle.fr_base.specs.Rooms.{WithRoom}
 use Rattle.fr_terms.specs.Terms.{Text, Captured}
 use Rattle.fr_typing.specs.Kinds.{Owned, unit, int, box, mutex, task, Kind, own, shared, mutable, Piece, whole, gone, copies}
 use Rattle.fr_typing.specs.Places.{Slot, Env, Found, found, type_at, read_blocked, write_blocked, is_own_path, put_at, slot_of}
@@ -106,7 +106,7 @@ pub data InstrTypes (table : Table) : Entry → Instr → Entry → Type 0 where
   i_drop : {e : Env} {ts : List Kind} {g : Owned} {s : Slot} → is_some s.name ≡ true → is_locked e ≡ false → outlive (length e) ts ≡ true
       → InstrTypes table (going (s ∷ e) ts g) instr.DropSlot (going e ts g)
   -- the new thread's code starts with the captures as slots, and ends with the type that the task has
-  i_spawn : {e e1 n : Env} {ts : List Kind} {g x : Owned} {cs : CaptureList} {body : ℕ} → wait ts ≡ true → SlotsPass by_spawn e [] cs.items e1 n → table body ≡ Some (going n [] x) → is_full x ≡ false
+  i_spawn : {e e1 n : Env} {ts : List Kind} {g x : Owned} {cs : WithRoom (ℕ × Bool)} {body : ℕ} → wait ts ≡ true → SlotsPass by_spawn e [] cs.items e1 n → table body ≡ Some (going n [] x) → is_full x ≡ false
       → InstrTypes table (going e ts g) (instr.Spawn cs body) (going e1 (own (task x) ∷ ts) g)
   i_join : {e : Env} {ts us : List Kind} {g x : Owned} {o : Operand} → Takes o ts (own (task x)) us
       → InstrTypes table (going e ts g) (instr.Join o) (going e (own x ∷ us) g)
@@ -121,6 +121,6 @@ pub data InstrTypes (table : Table) : Entry → Instr → Entry → Type 0 where
   i_unlock : {e : Env} {ts : List Kind} {g x : Owned} {w : Lval} {name : Text} → list_all is_owned ts ≡ true
       → InstrTypes table (going (with_lock e w name x) ts g) instr.Unlock (going e ts g)
   -- the second list captures what the first leaves; both branches end with unit
-  i_par : {e e1 e2 n m : Env} {ts : List Kind} {g : Owned} {cs ds : CaptureList} {body other : ℕ} → wait ts ≡ true → SlotsPass by_par e [] cs.items e1 n → SlotsPass by_par e1 [] ds.items e2 m → table body ≡ Some (going n [] unit) → table other ≡ Some (going m [] unit)
+  i_par : {e e1 e2 n m : Env} {ts : List Kind} {g : Owned} {cs ds : WithRoom (ℕ × Bool)} {body other : ℕ} → wait ts ≡ true → SlotsPass by_par e [] cs.items e1 n → SlotsPass by_par e1 [] ds.items e2 m → table body ≡ Some (going n [] unit) → table other ≡ Some (going m [] unit)
       → InstrTypes table (going e ts g) (instr.Par cs body ds other) (forked_at e2 ts g)
   i_par_end : {e : Env} {ts : List Kind} {g : Owned} → InstrTypes table (forked_at e ts g) instr.ParEnd (going e ts g)

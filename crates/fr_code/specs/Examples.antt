@@ -1,12 +1,12 @@
 -- The codes of some small programs, each written above it.
-use Rattle.std.specs.Prelude.{ℕ, pos, true, false, List, [], ◌∷◌}
+use Rattle.std.specs.Prelude.{ℕ, Bool, pos, true, false, List, [], ◌∷◌}
 use Rattle.fr_base.specs.declared.place.Lval.{Lval}
 use Rattle.fr_base.specs.declared.place.Op.TheVariants as op
 use Rattle.fr_base.specs.declared.instruction.Operand.{Operand}
 use Rattle.fr_base.specs.declared.instruction.Operand.TheVariants as operand
 use Rattle.fr_base.specs.declared.instruction.Instr.{Instr}
 use Rattle.fr_base.specs.declared.instruction.Instr.TheVariants as instr
-use Rattle.fr_base.specs.Captures.{CaptureList}
+use Rattle.fr_base.specs.Rooms.{WithRoom}
 use Rattle.fr_terms.specs.Terms.{Term, let_t, print_t, arith_t}
 use Rattle.fr_plain.specs.Resolve.{program}
 use Rattle.fr_plain.specs.Examples.{block, read, number, x, y, boxed}
@@ -41,7 +41,7 @@ twice_code =
     instr.Let (constant 3) ∷ instr.Read (place 0 0) false ∷ instr.Read (place 0 0) false ∷ instr.Arith op.Add operand.Pop (constant 1) ∷ instr.Arith op.Sub operand.Pop operand.Pop ∷ instr.Print operand.Pop ∷ instr.DropSlot ∷ instr.End operand.Unit
     ∷ []
 
-abbrev capturing : CaptureList
+abbrev capturing : WithRoom (ℕ × Bool)
 capturing = record { items = (0, true) ∷ []; spare = 0 }
 
 -- { let mut x = box 1; let mut h = spawn (x) { *x }; print join h }

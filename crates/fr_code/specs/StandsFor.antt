@@ -6,7 +6,7 @@ use Rattle.fr_base.specs.declared.instruction.Operand.{Operand}
 use Rattle.fr_base.specs.declared.instruction.Operand.TheVariants as operand
 use Rattle.fr_base.specs.declared.instruction.Instr.{Instr}
 use Rattle.fr_base.specs.declared.instruction.Instr.TheVariants as instr
-use Rattle.fr_base.specs.Captures.{CaptureList}
+use Rattle.fr_base.specs.Rooms.{WithRoom}
 use Rattle.fr_plain.specs.declared.value.Value.{Value}
 use Rattle.fr_plain.specs.Run.{Run, temp, unit_c, number, read, borrow, box_r, arith, bind, print, assign, block, spawn, join_r, Parts, last, more, Now, going, constant, temporary, now}
 use Rattle.fr_code.specs.Steps.{captured}
@@ -115,7 +115,7 @@ abbrev mutual
   At code p (assign w r) q = (m : ℕ) × At code p r m × (slice_get code m ≡ Some (instr.Assign w (operand_of r))) × (q ≡ m + 1)
   At code p (block k is) q = (m : ℕ) × AtParts code p is m × DropsAt code m k q
   -- the new thread's code stands elsewhere
-  At code p (spawn cs r) q = (xs : CaptureList) × (to e : ℕ) × (slice_get code p ≡ Some (instr.Spawn xs to)) × (captured xs.items ≡ cs) × (q ≡ p + 1) × At code to r e × Ends code e (operand_of r) × IsSource r
+  At code p (spawn cs r) q = (xs : WithRoom (ℕ × Bool)) × (to e : ℕ) × (slice_get code p ≡ Some (instr.Spawn xs to)) × (captured xs.items ≡ cs) × (q ≡ p + 1) × At code to r e × Ends code e (operand_of r) × IsSource r
   At code p (join_r r) q = (m : ℕ) × At code p r m × (slice_get code m ≡ Some (instr.Join (operand_of r))) × (q ≡ m + 1)
 
   pub AtParts : List Instr → ℕ → Parts → ℕ → Type 0

@@ -8,7 +8,7 @@ use Rattle.fr_base.specs.declared.instruction.Operand.{Operand}
 use Rattle.fr_base.specs.declared.instruction.Operand.TheVariants as operand
 use Rattle.fr_base.specs.declared.instruction.Instr.{Instr}
 use Rattle.fr_base.specs.declared.instruction.Instr.TheVariants as instr
-use Rattle.fr_base.specs.Captures.{CaptureList}
+use Rattle.fr_base.specs.Rooms.{WithRoom}
 use Rattle.fr_plain.specs.Run.{Run, temp, unit_c, number, read, borrow, box_r, arith as arith_r, bind, print, assign, block, spawn, join_r, Parts, last, more, now, one_if_temporary, leaves, leaves_last, steps_left}
 use Rattle.fr_meaning.specs.declared.forms.Form.{Form}
 use Rattle.fr_meaning.specs.FormTerms.{parts_from, parts_of, term_of}
@@ -161,7 +161,7 @@ module _ (fs : List Form) where
       }
 
   -- a term that starts a thread: the thread's body is still to come
-  pub spawn_emitted : (a f : List Instr) (bs cs : List Body) (b : Body) (xs : CaptureList) (body r : Run) → f ≡ a ++ instr.Spawn xs 0 ∷ [] → b.hole ≡ length a → b.form < length fs → term_of fs b.form ≡ r → r ≡ spawn (captured xs.items) body →
+  pub spawn_emitted : (a f : List Instr) (bs cs : List Body) (b : Body) (xs : WithRoom (ℕ × Bool)) (body r : Run) → f ≡ a ++ instr.Spawn xs 0 ∷ [] → b.hole ≡ length a → b.form < length fs → term_of fs b.form ≡ r → r ≡ spawn (captured xs.items) body →
       cs ≡ bs ++ b ∷ [] → IsEmitted fs a f bs cs operand.Pop r
   spawn_emitted a f bs cs b xs body r e place here is spawns pushed =
       let len = pushed_len a f (instr.Spawn xs 0) e in

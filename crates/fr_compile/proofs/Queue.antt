@@ -1,12 +1,12 @@
 -- The code of threads, one behind another.
-use Rattle.std.proofs.Common.{◌≡◌, ◌≢◌, ℕ, zero, suc, ◌+◌, ◌<◌, ◌≤◌, ◌^◌, true, false, List, [], ◌∷◌, ◌++◌, length, drop, get_or, Some, refl, sym, ap, ◌∙◌, subst, arith, length-append}
+use Rattle.std.proofs.Common.{◌≡◌, ◌≢◌, ℕ, Bool, zero, suc, ◌+◌, ◌<◌, ◌≤◌, ◌^◌, true, false, List, [], ◌∷◌, ◌++◌, length, drop, get_or, Some, refl, sym, ap, ◌∙◌, subst, arith, length-append}
 use Rattle.std.specs.Prelude.{slice_get, slice_set}
 use Rattle.std.proofs.lemmas.List.{drop-append-le}
 use Rattle.std.proofs.lemmas.Option.{slice_get_within}
 use Rattle.fr_base.specs.declared.instruction.Operand.{Operand}
 use Rattle.fr_base.specs.declared.instruction.Instr.{Instr}
 use Rattle.fr_base.specs.declared.instruction.Instr.TheVariants as instr
-use Rattle.fr_base.specs.Captures.{CaptureList}
+use Rattle.fr_base.specs.Rooms.{WithRoom}
 use Rattle.fr_base.specs.Code.{starting, change, with_body}
 use Rattle.fr_plain.specs.Run.{Capture, Run, spawn, steps_left}
 use Rattle.fr_meaning.specs.declared.forms.Form.{Form}
@@ -39,12 +39,12 @@ set_other (x ∷ is) (suc at) zero i j ne h = h
 set_other (x ∷ is) (suc at) (suc k) i j ne h = set_other is at k i j (λ e. ne (ap suc e)) h
 
 -- behind main's first instruction a body has a place
-placed : (xs : CaptureList) (n : ℕ) → 0 < n → is_hole (instr.Spawn xs n) ≡ false
+placed : (xs : WithRoom (ℕ × Bool)) (n : ℕ) → 0 < n → is_hole (instr.Spawn xs n) ≡ false
 placed xs zero h = absurd (omega (arith, h))
 placed xs (suc n) h = refl
 
 -- what is no hole stands elsewhere
-elsewhere : (a : List Instr) (k h : ℕ) (i : Instr) (xs : CaptureList) → slice_get a h ≡ Some (instr.Spawn xs 0) → slice_get a k ≡ Some i → is_hole i ≡ false → k ≢ h
+elsewhere : (a : List Instr) (k h : ℕ) (i : Instr) (xs : WithRoom (ℕ × Bool)) → slice_get a h ≡ Some (instr.Spawn xs 0) → slice_get a k ≡ Some i → is_hole i ≡ false → k ≢ h
 elsewhere a k h i xs there at known same =
     let e : Some (instr.Spawn xs 0) ≡ Some i = sym there ∙ ap (slice_get a) (sym same) ∙ at in
     let j : instr.Spawn xs 0 ≡ i = cc in

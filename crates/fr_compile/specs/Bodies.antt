@@ -3,7 +3,7 @@
 use Rattle.std.specs.Prelude.{◌≡◌, ⊤, ℕ, zero, ◌+◌, ◌<◌, ◌≤◌, Bool, true, false, List, [], ◌∷◌, length, Some, slice_get}
 use Rattle.fr_base.specs.declared.instruction.Instr.{Instr}
 use Rattle.fr_base.specs.declared.instruction.Instr.TheVariants as instr
-use Rattle.fr_base.specs.Captures.{CaptureList}
+use Rattle.fr_base.specs.Rooms.{WithRoom}
 use Rattle.fr_plain.specs.Run.{Run, spawn, steps_left}
 use Rattle.fr_meaning.specs.declared.forms.Form.{Form}
 use Rattle.fr_meaning.specs.FormTerms.{term_of}
@@ -19,7 +19,7 @@ is_hole _ = false
 -- the instruction that starts the form's thread, with its captured slots
 pub record IsHole (forms : List Form) (code : List Instr) (b : Body) : Type 0 where
   pub here : b.form < length forms
-  pub captures : CaptureList
+  pub captures : WithRoom (ℕ × Bool)
   pub body : Run
   pub term : term_of forms b.form ≡ spawn (captured captures.items) body
   pub there : slice_get code b.hole ≡ Some (instr.Spawn captures 0)

@@ -65,7 +65,7 @@ fn captured_slots_are_dropped_behind_the_body(rt: HostRuntime) -> Result<(), Fai
         "Box(Const(1))",
         "Let(Pop)",
         "Let(Const(2))",
-        "Spawn(Captures { items: [(0, true), (1, false)] }, 8)",
+        "Spawn(List { items: [(0, true), (1, false)] }, 8)",
         "Join(Pop)",
         "DropSlot",
         "DropSlot",
@@ -82,11 +82,11 @@ fn bodies_stand_in_the_order_of_their_starts(rt: HostRuntime) -> Result<(), Fail
     let checked = check(rt.alloc(), nested(rt.alloc())?)?;
     let code = compile(rt.alloc(), &checked)?;
     let expected = [
-        "Spawn(Captures { items: [] }, 4)",
+        "Spawn(List { items: [] }, 4)",
         "Discard",
-        "Spawn(Captures { items: [] }, 6)",
+        "Spawn(List { items: [] }, 6)",
         "End(Pop)",
-        "Spawn(Captures { items: [] }, 7)",
+        "Spawn(List { items: [] }, 7)",
         "End(Pop)",
         "End(Const(2))",
         "End(Unit)",

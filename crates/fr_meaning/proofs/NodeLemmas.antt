@@ -5,7 +5,7 @@ use Rattle.fr_syntax.specs.declared.tree.Term.{Term}
 use Rattle.fr_syntax.specs.declared.tree.Term.TheVariants.{Block, Let, Assign, Read, Dup, Borrow, BorrowMut, Number, Unit, Box, Print, Join, Mutex, Arith, Spawn, Par, Lock, Place, Capture}
 use Rattle.fr_syntax.specs.Arena.{Arena}
 use Rattle.fr_syntax.specs.Ordered.{IsArena}
-use Rattle.fr_syntax.specs.NodeList.{NodeList}
+use Rattle.fr_base.specs.Rooms.{WithRoom}
 use Rattle.fr_syntax.specs.Meanings.{What, a_term, a_place, a_capture, Meaning, term_s, place_s, capture_s, as_place, as_capture, sort_of, meaning_at, stands_for, need, all_need, needs, nodes_in, meanings, AreBelow}
 use Rattle.borrow_check.proofs.NodeLemmas.{here}
 use Rattle.borrow_check.proofs.CheckLemmas.{needs_append}
@@ -77,13 +77,13 @@ name_at ms n (x ∷ is) zero j h e = let same : x ≡ j = cc in subst (λ i. (i 
 name_at ms n (x ∷ is) (suc k) j h e = name_at ms n is k j h.2 e
 
 -- the names that a node captures stand before it
-pub names_before : (ms : List Meaning) (at n : ℕ) (ids : List ℕ) (m : Term) (names : NodeList) (body : ℕ) → AreBelow ms at (needs m) → m ≡ Spawn names body → at ≤ n → ids ≡ names.items → AreBelow ms n (all_need capture_s ids)
+pub names_before : (ms : List Meaning) (at n : ℕ) (ids : List ℕ) (m : Term) (names : WithRoom ℕ) (body : ℕ) → AreBelow ms at (needs m) → m ≡ Spawn names body → at ≤ n → ids ≡ names.items → AreBelow ms n (all_need capture_s ids)
 names_before ms at n ids m names body h is le are =
     subst (λ l. AreBelow ms n (all_need capture_s l)) (sym are)
     (names_weaker ms at n names.items le (needs_append ms at (all_need capture_s names.items) (need term_s body ∷ []) (subst (AreBelow ms at) (ap needs is) h)).0)
 
 -- and so does its body
-pub body_before : (ms : List Meaning) (at n b : ℕ) (m : Term) (names : NodeList) (body : ℕ) → AreBelow ms at (needs m) → m ≡ Spawn names body → n ≡ at → b ≡ body → b < n
+pub body_before : (ms : List Meaning) (at n b : ℕ) (m : Term) (names : WithRoom ℕ) (body : ℕ) → AreBelow ms at (needs m) → m ≡ Spawn names body → n ≡ at → b ≡ body → b < n
 body_before ms at n b m names body h is same are =
     let below = needs_append ms at (all_need capture_s names.items) (need term_s body ∷ []) (subst (AreBelow ms at) (ap needs is) h) in
     omega (arith, below.1.0, same, are)

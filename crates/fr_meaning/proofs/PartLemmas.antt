@@ -21,7 +21,7 @@ use Rattle.fr_syntax.specs.declared.tree.Term.TheVariants.{Block, Let, Assign, R
 use Rattle.fr_syntax.specs.declared.tree.Node.{Node}
 use Rattle.fr_syntax.specs.Arena.{Arena, text_of}
 use Rattle.fr_syntax.specs.Ordered.{IsArena}
-use Rattle.fr_syntax.specs.NodeList.{NodeList}
+use Rattle.fr_base.specs.Rooms.{WithRoom}
 use Rattle.fr_syntax.specs.Meanings.{a_term, term_s, place_s, capture_s, sort_of, as_capture, captures_at, meanings, meaning_at, term_at, place_at, items_at, stands_for, need, all_need, needs, nodes_in, AreBelow}
 use Rattle.borrow_check.specs.declared.usage.Usage.{Usage}
 use Rattle.borrow_check.specs.Nodes.{IsReady, AreReady}
@@ -48,9 +48,9 @@ pub data Row (n : Node) : Type 0 where
   a_let : (name v : ℕ) → n.term ≡ Let name v → Row n
   a_print : (v : ℕ) → n.term ≡ Print v → Row n
   an_assign : (to v : ℕ) → n.term ≡ Assign to v → Row n
-  a_block : (items : NodeList) → n.term ≡ Block items → Row n
+  a_block : (items : WithRoom ℕ) → n.term ≡ Block items → Row n
   a_join : (v : ℕ) → n.term ≡ Join v → Row n
-  a_spawn : (names : NodeList) (v : ℕ) → n.term ≡ Spawn names v → Row n
+  a_spawn : (names : WithRoom ℕ) (v : ℕ) → n.term ≡ Spawn names v → Row n
 
 -- the term of a node
 pub term_is : (a : Arena) (at : ℕ) (n : Node) (m : Term) (t : terms.Term) → IsHere a at n → n.term ≡ m → stands_for a.names (meanings a) n.place m ≡ a_term t → term_at (meanings a) at ≡ t
@@ -318,7 +318,7 @@ body_typed cs t e k after h =
     subst (TypedBody t) env (record { kind = f.kind; after = f.env; typed_body = f.typed_first }))
     h
 
-pub spawn_typed : (p : Program) (at : ℕ) (names : NodeList) (v : ℕ) (n : Node) (e : Env) → IsArena p.arena → IsHere p.arena at n → n.term ≡ Spawn names v → IsTypedIn p at e → Started p names.items v e
+pub spawn_typed : (p : Program) (at : ℕ) (names : WithRoom ℕ) (v : ℕ) (n : Node) (e : Env) → IsArena p.arena → IsHere p.arena at n → n.term ≡ Spawn names v → IsTypedIn p at e → Started p names.items v e
 spawn_typed p at names v n e arena h is w =
     let a = p.arena in
     let t = term_at (meanings a) v in
@@ -453,7 +453,7 @@ pub record AreTypedIn (p : Program) (at : ℕ) (ids : List ℕ) (e : Env) : Type
   pub typed : typing_items (items_at (meanings p.arena) ids) so_far start e end ≡ typed kind after
   pub used : AreUsed p.usages (nodes_in (meanings p.arena) (all_need term_s ids)) (usages_in (items_at (meanings p.arena) ids) e)
 
-pub block_typed : (p : Program) (at : ℕ) (items : NodeList) (n : Node) (e : Env) → IsArena p.arena → IsHere p.arena at n → n.term ≡ Block items → IsTypedIn p at e → AreTypedIn p at items.items e
+pub block_typed : (p : Program) (at : ℕ) (items : WithRoom ℕ) (n : Node) (e : Env) → IsArena p.arena → IsHere p.arena at n → n.term ≡ Block items → IsTypedIn p at e → AreTypedIn p at items.items e
 block_typed p at items n e arena h is w =
     let a = p.arena in
     let ids = items.items in

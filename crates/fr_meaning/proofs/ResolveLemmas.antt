@@ -19,7 +19,7 @@ use Rattle.fr_syntax.specs.declared.tree.Term.TheVariants.{Block, Let, Assign, R
 use Rattle.fr_syntax.specs.declared.tree.Node.{Node}
 use Rattle.fr_syntax.specs.Arena.{Arena, text_of}
 use Rattle.fr_syntax.specs.Ordered.{IsArena}
-use Rattle.fr_syntax.specs.NodeList.{NodeList}
+use Rattle.fr_base.specs.Rooms.{WithRoom}
 use Rattle.fr_syntax.specs.Meanings.{a_term, a_capture, Meaning, term_s, place_s, capture_s, sort_of, as_capture, captures_at, meanings, meaning_at, term_at, place_at, items_at, stands_for, all_need, needs, nodes_in, AreBelow, AllBelow}
 use Rattle.fr_plain.specs.Run.{Capture as Passed, Run, unit_c, number, read, borrow, box_r, arith as arith_r, bind, print, assign, block, spawn, join_r, last, more}
 use Rattle.fr_plain.specs.Resolve.{or_zero, named, found_moves, moves, captures, lets_in, lets, before, resolve, resolve_items}
@@ -203,7 +203,7 @@ mutual
   items_few (item t ts) e ok = omega (arith, lets_few t e ok.0, items_few ts (env_after (typing t e)) ok.1, length-append (usages_of t e) (usages_in ts (env_after (typing t e))))
 
 -- a block declares fewer variables than a 32-bit number tells
-block_few : (p : Program) (at : ℕ) (items : NodeList) (n : Node) (e : Env) → IsArena p.arena → IsHere p.arena at n → n.term ≡ Block items → IsTypedIn p at e → lets (items_at (meanings p.arena) items.items) < 2 ^ 32
+block_few : (p : Program) (at : ℕ) (items : WithRoom ℕ) (n : Node) (e : Env) → IsArena p.arena → IsHere p.arena at n → n.term ≡ Block items → IsTypedIn p at e → lets (items_at (meanings p.arena) items.items) < 2 ^ 32
 block_few p at items n e arena h is w =
     let a = p.arena in
     let ns = (meaning_at (meanings a) at).nodes in
@@ -219,14 +219,14 @@ below_of a at [] h = tt
 below_of a at (i ∷ is) h = (h.0, below_of a at is h.2)
 
 -- items stand before their block
-pub items_before : (ms : List Meaning) (at n : ℕ) (ids : List ℕ) (m : Term) (items : NodeList) → AreBelow ms at (needs m) → m ≡ Block items → n ≡ at → ids ≡ items.items → forms.AllBelow n ids
+pub items_before : (ms : List Meaning) (at n : ℕ) (ids : List ℕ) (m : Term) (items : WithRoom ℕ) → AreBelow ms at (needs m) → m ≡ Block items → n ≡ at → ids ≡ items.items → forms.AllBelow n ids
 items_before ms at n ids m items h is same are = subst (λ l. forms.AllBelow n l) (sym are) (subst (λ k. forms.AllBelow k items.items) (sym same) (all items.items (subst (AreBelow ms at) (ap needs is) h)))
   where
     all : (ks : List ℕ) → AreBelow ms at (all_need term_s ks) → forms.AllBelow at ks
     all [] g = tt
     all (k ∷ ks) g = (g.0, all ks g.2)
 
-block_run : (p : Program) (at : ℕ) (counts : List ℕ) (look : ℕ → Run) (items : NodeList) (n : Node) (e : Env) (f : Form) → IsArena p.arena → IsHere p.arena at n → n.term ≡ Block items → IsTypedIn p at e → AreCounts p counts → length counts ≡ at → AreRuns p at look →
+block_run : (p : Program) (at : ℕ) (counts : List ℕ) (look : ℕ → Run) (items : WithRoom ℕ) (n : Node) (e : Env) (f : Form) → IsArena p.arena → IsHere p.arena at n → n.term ≡ Block items → IsTypedIn p at e → AreCounts p counts → length counts ≡ at → AreRuns p at look →
     IsBlockOf counts items.items f → build look f ≡ block (lets (items_at (meanings p.arena) items.items)) (resolve_items (items_at (meanings p.arena) items.items) e)
 block_run p at counts look items n e (form.Block is k) arena h at_n w c same runs made =
     let s = block_typed p at items n e arena h at_n w in
@@ -252,7 +252,7 @@ length_captures a [] = refl
 length_captures a (i ∷ is) = ap suc (length_captures a is)
 
 -- a new thread drops fewer slots than a 32-bit number tells
-spawn_few : (p : Program) (at : ℕ) (names : NodeList) (v : ℕ) (n : Node) (e : Env) → IsArena p.arena → IsHere p.arena at n → n.term ≡ Spawn names v → IsTypedIn p at e → length names.items + lets_in (term_at (meanings p.arena) v) < 2 ^ 32
+spawn_few : (p : Program) (at : ℕ) (names : WithRoom ℕ) (v : ℕ) (n : Node) (e : Env) → IsArena p.arena → IsHere p.arena at n → n.term ≡ Spawn names v → IsTypedIn p at e → length names.items + lets_in (term_at (meanings p.arena) v) < 2 ^ 32
 spawn_few p at names v n e arena h is w =
     let a = p.arena in
     let parts = spawn_parts a at names v n h is w.ready in
@@ -261,7 +261,7 @@ spawn_few p at names v n e arena h is w =
     let body = long_below a arena at v parts.before parts.ready e in
     omega (arith, few, long, body, parts.count, lets_few (term_at (meanings a) v) e parts.ready.threaded)
 
-spawn_run : (p : Program) (at : ℕ) (counts : List ℕ) (look : ℕ → Run) (names : NodeList) (v : ℕ) (n : Node) (e : Env) (f : Form) → IsArena p.arena → IsHere p.arena at n → n.term ≡ Spawn names v → IsTypedIn p at e → AreCounts p counts → length counts ≡ at → AreRuns p at look →
+spawn_run : (p : Program) (at : ℕ) (counts : List ℕ) (look : ℕ → Run) (names : WithRoom ℕ) (v : ℕ) (n : Node) (e : Env) (f : Form) → IsArena p.arena → IsHere p.arena at n → n.term ≡ Spawn names v → IsTypedIn p at e → AreCounts p counts → length counts ≡ at → AreRuns p at look →
     IsSpawnOf (captured_all p names.items) v (drops_of counts names.items v) f → build look f ≡ resolve (spawn_t n.place (captures_at (meanings p.arena) names.items) (term_at (meanings p.arena) v)) e
 spawn_run p at counts look names v n e (form.Spawn ds b k) arena h is w c same runs made =
     let a = p.arena in

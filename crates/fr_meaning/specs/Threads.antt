@@ -1,6 +1,7 @@
 -- A thread of the code, and what it stands for.
 use Rattle.std.specs.Prelude.{◌≡◌, ℕ, ℤ, ◌<◌, ◌≤◌, ⊤, Bool, true, false, List, [], ◌∷◌, ◌++◌, length, Option, Some, None, IsSome, vec_len, vec_capacity}
-use Rattle.fr_base.specs.Labels.{LabelList}
+use Rattle.fr_base.specs.Rooms.{WithRoom}
+use Rattle.fr_base.specs.declared.label.Label.{Label}
 use Rattle.fr_plain.specs.declared.value.Value.{Value}
 use Rattle.fr_plain.specs.Acts.{Act, do_end, do_finish, do_leave, unit, task_in}
 use Rattle.fr_plain.specs.Heap.{Heap}
@@ -120,7 +121,7 @@ released_task h (stage.Ended v) = task_in h v
 released_task h _ = None
 
 -- the thread's own step can be done, and there is room for what it makes
-pub record CanGo (fs : List Form) (x : Thread) (heap : HeapRoom) (labels : LabelList) : Type 0 where
+pub record CanGo (fs : List Form) (x : Thread) (heap : HeapRoom) (labels : WithRoom Label) : Type 0 where
   pub on : IsGoingOn x.stage
   pub at_step : end_of x.focus x.frames.items ≡ None
   pub goes : IsSome (term_step (run_in fs x) (state x.number x.slots.items heap.heap))

@@ -4,7 +4,7 @@ use Rattle.std.specs.Prelude.{Some, slice_get, Result, Ok, Err, OnOk}
 use Rattle.std.proofs.lemmas.Bool.Decides.{nat_tests}
 use Rattle.std.proofs.lemmas.List.{append_assoc, append-nil}
 use Rattle.fr_terms.specs.Terms.{Text}
-use Rattle.fr_syntax.specs.NodeList.{NodeList}
+use Rattle.fr_base.specs.Rooms.{WithRoom}
 use Rattle.fr_syntax.specs.declared.tree.Term as tree
 use Rattle.fr_syntax.specs.declared.tree.Term.TheVariants.{Par}
 use Rattle.fr_syntax.specs.Meanings.{Meaning, Sort, Need, sort_of, meaning_at, term_at, items_at, captures_at, as_term, as_capture, term_s, capture_s, need, all_need, needs, stands_for, AreBelow}
@@ -138,7 +138,7 @@ below_join ms n [] ys h k = k
 below_join ms n (x ∷ xs) ys h k = (h.0, h.1, below_join ms n xs ys h.2 k)
 
 -- the parts of a node with two branches
-pub par_parts : (ms : List Meaning) (at : ℕ) (term : tree.Term) (nodes others : NodeList) (body other : ℕ) → AreBelow ms at (needs term) → term ≡ Par nodes body others other → AreBelow ms at (branch_parts nodes.items body) × AreBelow ms at (branch_parts others.items other)
+pub par_parts : (ms : List Meaning) (at : ℕ) (term : tree.Term) (nodes others : WithRoom ℕ) (body other : ℕ) → AreBelow ms at (needs term) → term ≡ Par nodes body others other → AreBelow ms at (branch_parts nodes.items body) × AreBelow ms at (branch_parts others.items other)
 par_parts ms at term nodes others body other below is =
     let front = all_need capture_s nodes.items in
     let next = all_need capture_s others.items in

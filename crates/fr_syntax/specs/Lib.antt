@@ -3,7 +3,6 @@ pub mod Words
 pub mod Text
 pub mod Tokens
 pub mod TokenList
-pub mod NodeList
 pub mod Arena
 pub mod Meanings
 pub mod Ordered

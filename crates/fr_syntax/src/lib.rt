@@ -8,7 +8,6 @@ mod known;
 mod laws;
 mod lexer;
 mod list;
-mod nodes;
 mod scan;
 #[cfg(test)]
 mod tests;
@@ -19,6 +18,5 @@ pub use kind::TokenKind;
 pub use laws::one_reading;
 pub use lexer::tokens;
 pub use list::Tokens;
-pub use nodes::Nodes;
 pub use token::{Token, TokenError};
-pub use tree::{Node, Term, Tree};
+pub use tree::{Node, Nodes, Term, Tree};

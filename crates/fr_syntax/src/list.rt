@@ -6,7 +6,7 @@ ghost use Rattle.fr_syntax.specs.declared.token.Token.{Token};
 
 use crate::kind::TokenKind;
 use crate::token::Token;
-use fr_base::NoMemory;
+use fr_base::{List, NoMemory};
 use std::alloc::Global;
 use std::marker::Model;
 
@@ -15,18 +15,17 @@ use std::marker::Model;
 #[derive(Drop)]
 pub struct Tokens {
     alloc: Global,
-    items: Vec<Token>,
+    items: List<Token>,
     names: Vec<String>,
 }
 
 impl Model for Tokens {
-    ghost use Rattle.std.specs.Prelude.{◌-◌, length, vec_len, map, string_bytes, All};
-    ghost use Rattle.std.specs.Vec.{vec_capacity};
+    ghost use Rattle.std.specs.Prelude.{length, map, string_bytes};
     ghost use Rattle.fr_syntax.specs.TokenList.{TokenList, IsTokenList};
 
     ghost Value = { TokenList };
 
-    ghost view = { λ t. record { items = t.items.items; names = map string_bytes t.names.items; spare = vec_capacity t.items - vec_len t.items } };
+    ghost view = { λ t. record { items = t.items.items; names = map string_bytes t.names.items; spare = t.items.spare } };
 
     ghost invariant = { λ t. IsTokenList (length t.names.items) t.items.items };
 }
@@ -39,7 +38,7 @@ impl Tokens {
     {
         Tokens {
             alloc,
-            items: Vec::new(alloc),
+            items: List::new(alloc),
             names: Vec::new(alloc),
         }
     }
@@ -53,10 +52,7 @@ impl Tokens {
         ensures spare { self.old.spare ≤ self.new.spare }
         ensures refused { OnErr result (self.new ≡ self.old) }
     {
-        match self.items.reserve(n) {
-            Ok(()) => Ok(()),
-            Err(_) => Err(NoMemory),
-        }
+        self.items.reserve(n)
     }
 
     /// Adds a token at the end; the name of a `Name` is there. With room it can't be refused; a refusal changes nothing.
@@ -68,18 +64,14 @@ impl Tokens {
         ensures room { 0 < self.old.spare → IsOk result }
         ensures refused { OnErr result (self.new ≡ self.old) }
     {
-        if self.items.reserve(1).is_err() {
-            return Err(NoMemory);
-        }
-        self.items.push_reserved(token);
-        Ok(())
+        self.items.push(token)
     }
 
     /// How many tokens there are.
     pub fn len(&self) -> u64
         ensures { result ≡ length self.now.items }
     {
-        self.items.len() as u64
+        self.items.len()
     }
 
     /// The token at that place, from 0; `None` exactly past the end.
@@ -87,7 +79,7 @@ impl Tokens {
         ensures token { option_copied result ≡ slice_get self.now.items at }
         ensures named { IfSome result (λ t. HasName (length self.now.names) t.now.kind) }
     {
-        self.items.get(at as usize)
+        self.items.at(at)
     }
 
     /// The tokens in order.
@@ -96,7 +88,7 @@ impl Tokens {
         ensures named { HaveNames (length self.now.names) result.now }
         ensures few_names { length self.now.names ≤ 2 ^ 28 }
     {
-        &self.items
+        self.items.as_slice()
     }
 
     /// Adds a name, and gives its number. A refusal changes nothing.

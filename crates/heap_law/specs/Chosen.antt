@@ -2,7 +2,7 @@
 -- alike, by a number that goes on from turn to turn.
 use Rattle.std.specs.Prelude.{◌≡◌, pos, ℕ, zero, suc, ◌+◌, ◌*◌, ◌/◌, ◌%◌, Bool, true, false, List, [], ◌∷◌, ◌++◌, length, Option, Some, None, slice_get}
 use Rattle.fr_base.specs.declared.place.Lval.{Lval}
-use Rattle.fr_base.specs.Captures.{CaptureList}
+use Rattle.fr_base.specs.Rooms.{WithRoom}
 use Rattle.fr_base.specs.declared.instruction.Operand.{Operand}
 use Rattle.fr_base.specs.declared.instruction.Operand.TheVariants as operand
 use Rattle.fr_base.specs.declared.instruction.Instr.{Instr}
@@ -92,13 +92,13 @@ at_place slot depth = record { slot = slot; depth = depth }
 abbrev number : ℕ → Operand
 number n = operand.Const (pos n)
 
-abbrev takes_slot : ℕ → CaptureList
+abbrev takes_slot : ℕ → WithRoom (ℕ × Bool)
 takes_slot slot = record { items = (slot, true) ∷ []; spare = 0 }
 
-abbrev copies_slot : ℕ → CaptureList
+abbrev copies_slot : ℕ → WithRoom (ℕ × Bool)
 copies_slot slot = record { items = (slot, false) ∷ []; spare = 0 }
 
-abbrev no_slot : CaptureList
+abbrev no_slot : WithRoom (ℕ × Bool)
 no_slot = record { items = []; spare = 0 }
 
 -- { let mut x = box box 1; { let mut r = &mut *x; { let mut s = &mut **r; *s = 5; print *s; { let mut u = &mut *s; *u = 6 }; print *s }; *r = box 9 };

@@ -5,12 +5,6 @@ use Rattle.fr_base.specs.declared.label.Label.TheVariants.{Print}
 use Rattle.fr_base.specs.declared.step.Fresh.{Fresh}
 use Rattle.journal.specs.declared.entry.Entry.{Entry}
 
--- what contracts see of a journal
-pub record JournalView : Type 0 where
-  pub entries : List Entry
-  -- how many more entries fit without memory
-  pub spare : ℕ
-
 abbrev pub IsNamed : Option Fresh → Option ℕ → Type 0
 IsNamed (Some names) None = ⊥
 IsNamed _ _ = ⊤

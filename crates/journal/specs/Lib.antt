@@ -1,5 +1,4 @@
 pub mod OrderText
 pub mod OrderReading
-pub mod OrderList
-pub mod Acts
+pub mod OrderFaults
 pub mod Journals

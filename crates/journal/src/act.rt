@@ -1,6 +1,6 @@
 //! What an event of a server does to the shared memory, act by act.
 
-use fr_base::{MutexNo, ObjNo, Released, ThreadNo};
+use fr_base::{List, MutexNo, ObjNo, Released, ThreadNo};
 use global_addr::Word;
 
 /// One thing that an event did to the shared memory. 'Here' is the server of the event. An object is live from its `Make` until
@@ -60,3 +60,6 @@ pub enum Act {
     /// A thread left for that server.
     Depart(ThreadNo, u8),
 }
+
+/// The acts of one event, in the order in which they were done.
+pub type Acts = List<Act>;

@@ -1,10 +1,10 @@
 //! The journal: what every event did, event after event.
 
-ghost use Rattle.std.specs.Prelude.{◌≡◌, ◌+◌, ◌≤◌, ◌<◌, ◌++◌, ◌↔◌, [], ◌∷◌, length, slice_get, Some, IsOk, OnOk, OnErr, IfSome, IsSome};
+ghost use Rattle.std.specs.Prelude.{◌≡◌, ◌+◌, ◌≤◌, ◌<◌, ◌++◌, [], ◌∷◌, length, slice_get, IsOk, OnOk, OnErr, option_copied};
 ghost use Rattle.journal.specs.Journals.{NamesItsThread};
 
 use crate::entry::Entry;
-use fr_base::NoMemory;
+use fr_base::{List, NoMemory};
 use std::alloc::Global;
 use std::marker::Model;
 
@@ -12,17 +12,18 @@ use std::marker::Model;
 /// how many more entries fit without memory.
 #[derive(Debug, Drop)]
 pub struct Journal {
-    entries: Vec<Entry>,
+    entries: List<Entry>,
 }
 
 impl Model for Journal {
-    ghost use Rattle.std.specs.Prelude.{◌-◌, vec_len, All};
-    ghost use Rattle.std.specs.Vec.{vec_capacity};
-    ghost use Rattle.journal.specs.Journals.{JournalView, NamesItsThread};
+    ghost use Rattle.std.specs.Prelude.{All};
+    ghost use Rattle.fr_base.specs.Rooms.{WithRoom};
+    ghost use Rattle.journal.specs.declared.entry.Entry.{Entry};
+    ghost use Rattle.journal.specs.Journals.{NamesItsThread};
 
-    ghost Value = { JournalView };
+    ghost Value = { WithRoom Entry };
 
-    ghost view = { λ j. record { entries = j.entries.items; spare = vec_capacity j.entries - vec_len j.entries } };
+    ghost view = { λ j. j.entries };
 
     ghost invariant = { λ j. All NamesItsThread j.entries.items };
 }
@@ -30,60 +31,47 @@ impl Model for Journal {
 impl Journal {
     /// No entry, and no memory taken yet.
     pub fn new(alloc: Global) -> Journal
-        ensures { result.entries ≡ [] }
+        ensures { result.items ≡ [] }
     {
         Journal {
-            entries: Vec::new(alloc),
+            entries: List::new(alloc),
         }
     }
 
     /// Makes room, so that the next `n` pushes can't be refused; a refusal changes nothing.
     pub fn reserve(&mut self, n: usize) -> Result<(), NoMemory>
-        ensures entries { self.new.entries ≡ self.old.entries }
+        ensures items { self.new.items ≡ self.old.items }
         ensures room { OnOk result (n ≤ self.new.spare) }
         ensures had_room { n ≤ self.old.spare → IsOk result }
         ensures spare { self.old.spare ≤ self.new.spare }
         ensures refused { OnErr result (self.new ≡ self.old) }
     {
-        match self.entries.reserve(n) {
-            Ok(()) => Ok(()),
-            Err(_) => Err(NoMemory),
-        }
+        self.entries.reserve(n)
     }
 
     /// Adds an entry at the end, which names its thread where its event did a plain step. With room it can't be refused; a
     /// refusal changes nothing.
     pub fn push(&mut self, entry: Entry) -> Result<(), NoMemory>
         requires names { NamesItsThread entry }
-        ensures pushed { OnOk result (self.new.entries ≡ self.old.entries ++ entry ∷ []) }
+        ensures pushed { OnOk result (self.new.items ≡ self.old.items ++ entry ∷ []) }
         ensures spare { OnOk result (self.old.spare ≤ self.new.spare + 1) }
         ensures room { 0 < self.old.spare → IsOk result }
         ensures refused { OnErr result (self.new ≡ self.old) }
     {
-        if self.entries.reserve(1).is_err() {
-            return Err(NoMemory);
-        }
-        self.entries.push_reserved(entry);
-        Ok(())
+        self.entries.push(entry)
     }
 
     /// How many entries there are.
     pub fn len(&self) -> u64
-        ensures { result ≡ length self.now.entries }
+        ensures { result ≡ length self.now.items }
     {
-        self.entries.len() as u64
+        self.entries.len()
     }
 
     /// The entry at that place, from 0; `None` exactly past the end.
     pub fn entry(&self, at: u64) -> Option<&Entry>
-        ensures found { IsSome result ↔ (at < length self.now.entries) }
-        ensures entry { IfSome result (λ e. slice_get self.now.entries at ≡ Some e.now) }
+        ensures { option_copied result ≡ slice_get self.now.items at }
     {
-        let at = at as usize;
-        if at < self.entries.len() {
-            Some(&self.entries[at])
-        } else {
-            None
-        }
+        self.entries.at(at)
     }
 }

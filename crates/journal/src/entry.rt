@@ -1,6 +1,6 @@
 //! What one event leaves in the journal.
 
-use crate::acts::Acts;
+use crate::act::Acts;
 use fr_base::{Fresh, Labels, ThreadNo};
 
 /// One event of a server, whole: the server, the thread (of a step and of a migration alone), the new names of the plain step

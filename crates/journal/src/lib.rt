@@ -5,7 +5,6 @@
 #![tactic(auto)]
 
 mod act;
-mod acts;
 mod cursor;
 mod entries;
 mod entry;
@@ -16,8 +15,7 @@ mod reading;
 #[cfg(test)]
 mod tests;
 
-pub use act::Act;
-pub use acts::Acts;
+pub use act::{Act, Acts};
 pub use entries::Journal;
 pub use entry::Entry;
 pub use fault::OrderError;

@@ -2,11 +2,12 @@
 
 ghost use Rattle.std.specs.Prelude.{◌≤◌, length, drop, IfOk, IfErr};
 ghost use Rattle.journal.specs.OrderText.{IsOrder};
-ghost use Rattle.journal.specs.OrderList.{IsRefusedOrNoMemory};
+ghost use Rattle.journal.specs.OrderFaults.{IsRefusedOrNoMemory};
 
 use crate::cursor::Cursor;
 use crate::fault::OrderError;
 use crate::order::Order;
+use fr_base::Fresh;
 use std::alloc::Global;
 
 /// The order that the bytes from byte `from` to the end are the text of; no bytes are an order of no lines. `BadOrder` comes
@@ -17,6 +18,8 @@ pub fn read_order(alloc: Global, bytes: &[u8], from: usize) -> Result<Order, Ord
     ensures ok { IfOk result (λ order. IsOrder from (drop from bytes.now) order.items) }
     ensures err { IfErr result (IsRefusedOrNoMemory from (drop from bytes.now)) }
 {
+    // The check asks that each type inside a line is named where a line is moved.
+    let _inside: Option<Fresh> = None;
     let mut order = Order::new(alloc);
     let mut cursor = Cursor {
         rest: &bytes[from..],

@@ -12,7 +12,7 @@ use Rattle.fr_base.specs.declared.step.Fresh.TheVariants as fresh
 use Rattle.fr_base.specs.declared.instruction.Operand.{Operand}
 use Rattle.fr_base.specs.declared.instruction.Instr.{Instr}
 use Rattle.fr_base.specs.declared.instruction.Instr.TheVariants as instr
-use Rattle.fr_base.specs.Captures.{CaptureList}
+use Rattle.fr_base.specs.Rooms.{WithRoom}
 use Rattle.fr_plain.specs.Acts.{result_of}
 use Rattle.heap_partition.specs.Plain.{plain_of}
 use Rattle.heap_partition.specs.declared.value.Cell.{Cell}
@@ -198,7 +198,7 @@ abbrev pub spawn_with : ℕ → ℕ → ℕ → Hand → List Value × List Valu
 spawn_with servers pc u h new = option_map (λ h2. push_temp (value.Own (owned.Task u)) (working (start_thread servers pc new.0) (with_slots new.1 h2))) (begun h)
 
 -- a thread starts with owned values
-abbrev pub spawn : ℕ → CaptureList → ℕ → Hand → Committed
+abbrev pub spawn : ℕ → WithRoom (ℕ × Bool) → ℕ → Hand → Committed
 spawn servers cs pc h =
     done_where (fresh.Thread (next_thread h.work.rest)) (option_map go_on (then_some (capture false cs.items h.thread.slots) (spawn_with servers pc (next_thread h.work.rest) h)))
 
@@ -226,7 +226,7 @@ par_with servers pc other a b h first second =
     option_map (λ h2. with_phase (phase.WaitPar a b) (go_on (working (λ w. start_thread servers other second.0 (start_thread servers pc first w)) (with_slots second.1 h2)))) (pair_begun h a b)
 
 -- two threads start, the first list's first, and their parent waits for both
-abbrev pub par : ℕ → CaptureList → ℕ → CaptureList → ℕ → Hand → Committed
+abbrev pub par : ℕ → WithRoom (ℕ × Bool) → ℕ → WithRoom (ℕ × Bool) → ℕ → Hand → Committed
 par servers cs pc ds other h =
     done_where (fresh.Threads (next_thread h.work.rest) (next_thread h.work.rest + 1))
     (then_some (capture true cs.items h.thread.slots) (λ first. then_some (capture true ds.items first.1) (par_with servers pc other (next_thread h.work.rest) (next_thread h.work.rest + 1) h first.0)))

@@ -7,7 +7,7 @@ use Rattle.fr_base.specs.declared.instruction.Operand.{Operand}
 use Rattle.fr_base.specs.declared.instruction.Operand.TheVariants as operand
 use Rattle.fr_base.specs.declared.instruction.Instr.{Instr}
 use Rattle.fr_base.specs.declared.instruction.Instr.TheVariants as instr
-use Rattle.fr_base.specs.Captures.{CaptureList}
+use Rattle.fr_base.specs.Rooms.{WithRoom}
 
 abbrev pub place : ℕ → ℕ → Lval
 place slot depth = record { slot = slot; depth = depth }
@@ -15,7 +15,7 @@ place slot depth = record { slot = slot; depth = depth }
 abbrev pub number : ℕ → Operand
 number n = operand.Const (pos n)
 
-abbrev pub captures : List (ℕ × Bool) → CaptureList
+abbrev pub captures : List (ℕ × Bool) → WithRoom (ℕ × Bool)
 captures xs = record { items = xs; spare = 0 }
 
 -- so many servers, with so many colours; no definition of an event looks at the other options

@@ -2,7 +2,7 @@ use Rattle.std.proofs.Common.{◌≡◌, ◌+◌, Some, drop, rules, sym, ap, �
 use Rattle.std.specs.Prelude.{slice_get}
 use Rattle.std.proofs.lemmas.Option.{slice_get-get_or}
 use Rattle.journal.specs.OrderText.{IsOrder}
-use Rattle.journal.specs.OrderList.{IsRefusedOrNoMemory}
+use Rattle.journal.specs.OrderFaults.{IsRefusedOrNoMemory}
 use Rattle.drust_main.specs.Replay.{order_start}
 use Rattle.drust_main.proofs.Marks.{marked, unordered_lines}
 use Rattle.drust_main.proofs.replay.order_behind.Goals as goal

@@ -1,6 +1,7 @@
 use Rattle.std.proofs.Common.{◌≡◌, Some, refl, sym, ap, ◌∙◌, subst, arith}
 use Rattle.std.specs.Prelude.{IsSome, IfOk}
-use Rattle.fr_base.specs.Labels.{LabelList}
+use Rattle.fr_base.specs.Rooms.{WithRoom}
+use Rattle.fr_base.specs.declared.label.Label.{Label}
 use Rattle.fr_base.specs.declared.step.Fresh.{Fresh}
 use Rattle.fr_plain.specs.Whole.{step}
 use Rattle.fr_meaning.specs.declared.next.Next.TheVariants as next
@@ -102,7 +103,7 @@ returns-in-End-clause-step c =
     let comes = comes_at r.threads.items c.in-Some.at c.index.result.now c.index-2.result.now c.deref.result.now c.next_of.result (next.End c.in-End.done) inside c.index.ensures c.index-2.ensures c.deref.ensures.value c.in-End.is c.next_of.ensures in
     let x = thread_here r.threads.items c.in-Some.at inside in
     let same = takes_none c.args.forms.now r.threads.items r.heap.heap r.output.items c.args.thread c.args.fresh c.in-Some.at x.0 (next.End c.in-End.done) (steps_at c.args.forms.now r.threads.items r.heap.heap r.output.items c.args.thread c.args.fresh c.in-Some.at (next.End c.in-End.done) (numbers_of r.threads.items) c.requires.order c.requires.stands.well refl (ap (λ ns. place_of ns c.args.thread) (sym c.requires.stands.numbers) ∙ sym c.at.ensures.place ∙ c.in-Some.is) inside comes c.requires.goes x.0 x.1) refl in
-    subst (λ (n : Fresh). IfOk c.go_to_end.result (λ (l : LabelList). step (plain_of c.args.forms.now r) c.args.thread n ≡ Some (record { state = plain_of c.args.forms.now c.go_to_end.new.running; labels = l.items }))) (sym same) c.go_to_end.ensures.step
+    subst (λ (n : Fresh). IfOk c.go_to_end.result (λ (l : WithRoom Label). step (plain_of c.args.forms.now r) c.args.thread n ≡ Some (record { state = plain_of c.args.forms.now c.go_to_end.new.running; labels = l.items }))) (sym same) c.go_to_end.ensures.step
 
 pub returns-in-Join-clause-step : goal.returns-in-Join-clause-step
 returns-in-Join-clause-step c =
@@ -120,4 +121,4 @@ returns-in-Own-clause-step c =
     let comes = comes_at r.threads.items c.in-Some.at c.index.result.now c.index-2.result.now c.deref.result.now c.next_of.result (next.Own) inside c.index.ensures c.index-2.ensures c.deref.ensures.value c.in-Own.is c.next_of.ensures in
     let x = thread_here r.threads.items c.in-Some.at inside in
     let same = takes_none c.args.forms.now r.threads.items r.heap.heap r.output.items c.args.thread c.args.fresh c.in-Some.at x.0 (next.Own) (steps_at c.args.forms.now r.threads.items r.heap.heap r.output.items c.args.thread c.args.fresh c.in-Some.at (next.Own) (numbers_of r.threads.items) c.requires.order c.requires.stands.well refl (ap (λ ns. place_of ns c.args.thread) (sym c.requires.stands.numbers) ∙ sym c.at.ensures.place ∙ c.in-Some.is) inside comes c.requires.goes x.0 x.1) refl in
-    subst (λ (n : Fresh). IfOk c.go_own.result (λ (l : LabelList). step (plain_of c.args.forms.now r) c.args.thread n ≡ Some (record { state = plain_of c.args.forms.now c.go_own.new.running; labels = l.items }))) (sym same) c.go_own.ensures.step
+    subst (λ (n : Fresh). IfOk c.go_own.result (λ (l : WithRoom Label). step (plain_of c.args.forms.now r) c.args.thread n ≡ Some (record { state = plain_of c.args.forms.now c.go_own.new.running; labels = l.items }))) (sym same) c.go_own.ensures.step

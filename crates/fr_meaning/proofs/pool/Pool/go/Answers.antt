@@ -1,7 +1,8 @@
 use Rattle.std.proofs.Common.{◌≡◌, ◌+◌, List, Some, None, sym, ap, ◌∙◌, subst}
 use Rattle.std.proofs.lemmas.Result.{on_err_weaker}
 use Rattle.std.specs.Prelude.{IsSome, IfOk, OnOk, OnErr}
-use Rattle.fr_base.specs.Labels.{LabelList}
+use Rattle.fr_base.specs.Rooms.{WithRoom}
+use Rattle.fr_base.specs.declared.label.Label.{Label}
 use Rattle.fr_plain.specs.Whole.{Whole, step}
 use Rattle.fr_sound.specs.Together.{AreTyped}
 use Rattle.fr_meaning.specs.declared.forms.Form.{Form}
@@ -31,7 +32,7 @@ invariant_of-self c =
     let typed = subst AreTyped (entries_whole fs r.threads.items r.heap.heap r.output.items) c.self.invariant.typed in
     let n = c.go.new.running in
     let after = entries_whole fs n.threads.items n.heap.heap n.output.items in
-    let steps = subst (λ (ms : List Form). IfOk c.go.result (λ (l : LabelList). step (plain_of ms r) c.args.thread c.args.fresh ≡ Some (record { state = plain_of ms n; labels = l.items }))) c.deref.ensures.value c.go.ensures.step in
+    let steps = subst (λ (ms : List Form). IfOk c.go.result (λ (l : WithRoom Label). step (plain_of ms r) c.args.thread c.args.fresh ≡ Some (record { state = plain_of ms n; labels = l.items }))) c.deref.ensures.value c.go.ensures.step in
     let err = subst (λ (ms : List Form). OnErr c.go.result (view_of ms n ≡ view_of ms r)) c.deref.ensures.value c.go.ensures.err in
     let same = on_err_weaker c.go.result (same_whole fs r.threads.items n.threads.items r.heap.heap n.heap.heap r.output.items n.output.items) err in
     record {
@@ -48,9 +49,9 @@ returns-clause-stepped c =
     let before = sym (ap whole_of c.self.view_is) ∙ entries_whole fs r.threads.items r.heap.heap r.output.items in
     let n = c.go.new.running in
     let after = entries_whole fs n.threads.items n.heap.heap n.output.items in
-    let steps = subst (λ (ms : List Form). IfOk c.go.result (λ (l : LabelList). step (plain_of ms r) c.args.thread c.args.fresh ≡ Some (record { state = plain_of ms n; labels = l.items }))) c.deref.ensures.value c.go.ensures.step in
-    subst (λ (s : Whole). IfOk c.go.result (λ (l : LabelList). step s c.args.thread c.args.fresh ≡ Some (record { state = whole_of (view_of fs n); labels = l.items }))) (sym before)
-    (subst (λ (s : Whole). IfOk c.go.result (λ (l : LabelList). step (plain_of fs r) c.args.thread c.args.fresh ≡ Some (record { state = s; labels = l.items }))) (sym after) steps)
+    let steps = subst (λ (ms : List Form). IfOk c.go.result (λ (l : WithRoom Label). step (plain_of ms r) c.args.thread c.args.fresh ≡ Some (record { state = plain_of ms n; labels = l.items }))) c.deref.ensures.value c.go.ensures.step in
+    subst (λ (s : Whole). IfOk c.go.result (λ (l : WithRoom Label). step s c.args.thread c.args.fresh ≡ Some (record { state = whole_of (view_of fs n); labels = l.items }))) (sym before)
+    (subst (λ (s : Whole). IfOk c.go.result (λ (l : WithRoom Label). step (plain_of fs r) c.args.thread c.args.fresh ≡ Some (record { state = s; labels = l.items }))) (sym after) steps)
 
 pub returns-clause-left : goal.returns-clause-left
 returns-clause-left c =
@@ -60,6 +61,6 @@ returns-clause-left c =
     let before = sym (ap whole_of c.self.view_is) ∙ entries_whole fs r.threads.items r.heap.heap r.output.items in
     let n = c.go.new.running in
     let after = entries_whole fs n.threads.items n.heap.heap n.output.items in
-    let steps = subst (λ (ms : List Form). IfOk c.go.result (λ (l : LabelList). step (plain_of ms r) c.args.thread c.args.fresh ≡ Some (record { state = plain_of ms n; labels = l.items }))) c.deref.ensures.value c.go.ensures.step in
+    let steps = subst (λ (ms : List Form). IfOk c.go.result (λ (l : WithRoom Label). step (plain_of ms r) c.args.thread c.args.fresh ≡ Some (record { state = plain_of ms n; labels = l.items }))) c.deref.ensures.value c.go.ensures.step in
     subst (λ (s : Whole). OnOk c.go.result (total_left (whole_of (view_of fs n)).threads + 1 ≡ total_left s.threads)) (sym before)
     (subst (λ (s : Whole). OnOk c.go.result (total_left s.threads + 1 ≡ total_left (plain_of fs r).threads)) (sym after) (left_of c.go.result (plain_of fs r) (plain_of fs n) c.args.thread c.args.fresh steps))

@@ -1,14 +1,9 @@
--- What contracts see of an order, and why a text is refused.
+-- Why a text is refused.
 use Rattle.std.specs.Prelude.{ℕ, List, ⊤}
 use Rattle.journal.specs.declared.order.OrderLine.{OrderLine}
 use Rattle.journal.specs.declared.fault.OrderError.{OrderError}
 use Rattle.journal.specs.declared.fault.OrderError.TheVariants.{BadOrder, NoMemory}
 use Rattle.journal.specs.OrderText.{IsRefused}
-
-pub record LineList : Type 0 where
-  pub items : List OrderLine
-  -- how many more lines fit without memory
-  pub spare : ℕ
 
 -- the bytes from this place on are refused there, or there was no memory
 abbrev pub IsRefusedOrNoMemory : ℕ → List ℕ → OrderError → Type 0
