@@ -76,7 +76,7 @@ deep_with holder =
     record boxed_cluster {
       code = lent_deep;
       servers = record boxed_server {
-        partition = record boxed_server.partition { cells = cell 0 (one_int 1) ∷ cell 1 (box (word_of 0 0 0) 0) ∷ [] };
+        rest = record boxed_server.rest { partition = record boxed_server.rest.partition { cells = cell 0 (one_int 1) ∷ cell 1 (box (word_of 0 0 0) 0) ∷ [] } };
         threads = record (new_thread 0 7 (value.Own (box (word_of 0 0 1) 1) ∷ reference_to 1 (place 0 0) ∷ reference_to 0 holder ∷ [])) { made = 2 } ∷ [];
       } ∷ [];
     }
