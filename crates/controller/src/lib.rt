@@ -1,0 +1,10 @@
+//! Which event a server does next, and which thread is moved between servers. No call takes memory.
+#![tactic(auto)]
+
+mod events;
+mod loads;
+#[cfg(test)]
+mod tests;
+
+pub use events::{Candidates, Choice, Pick, next};
+pub use loads::{Load, balance};
