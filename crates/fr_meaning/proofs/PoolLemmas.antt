@@ -33,11 +33,11 @@ typed_kept s new t names labels y h e =
 
 module _ {E : Type 0} where
   -- where nothing is changed it is typed still
-  pub typed_either : (r : Result WithRoom Label E) (s new : Whole) (t : ℕ) (names : Fresh) → AreTyped s → refusal s t names ≡ None → IfOk r (λ (l : WithRoom Label). step s t names ≡ Some (record { state = new; labels = l.items })) → OnErr r (new ≡ s) → AreTyped new
+  pub typed_either : (r : Result (WithRoom Label) E) (s new : Whole) (t : ℕ) (names : Fresh) → AreTyped s → refusal s t names ≡ None → IfOk r (λ (l : WithRoom Label). step s t names ≡ Some (record { state = new; labels = l.items })) → OnErr r (new ≡ s) → AreTyped new
   typed_either (Ok l) s new t names y h e k = typed_kept s new t names l.items y h e
   typed_either (Err x) s new t names y h e k = subst AreTyped (sym k) y
 
   -- a step is one of those that are left
-  pub left_of : (r : Result WithRoom Label E) (s new : Whole) (t : ℕ) (names : Fresh) → IfOk r (λ (l : WithRoom Label). step s t names ≡ Some (record { state = new; labels = l.items })) → OnOk r (total_left new.threads + 1 ≡ total_left s.threads)
+  pub left_of : (r : Result (WithRoom Label) E) (s new : Whole) (t : ℕ) (names : Fresh) → IfOk r (λ (l : WithRoom Label). step s t names ≡ Some (record { state = new; labels = l.items })) → OnOk r (total_left new.threads + 1 ≡ total_left s.threads)
   left_of (Ok l) s new t names e = step_total s t names (record { state = new; labels = l.items }) e
   left_of (Err x) s new t names e = e

