@@ -10,7 +10,7 @@ use std::test::Fail;
 
 // The places of the bodies of the instruction there.
 fn bodies(code: &Code, at: u32) -> (u32, u32) {
-    match code.at(u64::from(at)) {
+    match code.at(at) {
         Some(Instr::Spawn(_, body)) => (*body, 0),
         Some(Instr::Par(_, body, _, other)) => (*body, *other),
         _ => (0, 0),

@@ -59,7 +59,7 @@ pub fn has_code<R: Abort>(rt: &R, alloc: Global, code: &Code, expected: &[&str])
 {
     assert_eq!(rt; code.len(), expected.len() as u64);
     for pc in 0..expected.len() as u32 {
-        let Some(instr) = code.at(u64::from(pc)) else {
+        let Some(instr) = code.at(pc) else {
             return Ok(());
         };
         let text = format!(in alloc; "{instr:?}")?;
