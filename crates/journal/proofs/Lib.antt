@@ -8,3 +8,4 @@ pub mod OrderLemmas
 pub mod OneReading
 pub mod Examples
 pub mod WholeLines
+pub mod WritingLemmas

@@ -9,17 +9,17 @@ use Rattle.journal.specs.OrderReading.{line_at}
 use Rattle.journal.proofs.LineLemmas.{line_takes, none_begins, spell_some}
 
 -- a line more can be one
-lines_push : (ls : List OrderLine) (l : OrderLine) → AllByRecursion IsLine ls → IsLine l → AllByRecursion IsLine (ls ++ l ∷ [])
+pub lines_push : (ls : List OrderLine) (l : OrderLine) → AllByRecursion IsLine ls → IsLine l → AllByRecursion IsLine (ls ++ l ∷ [])
 lines_push [] l all is = (is, tt)
 lines_push (m ∷ ls) l all is = (all.0, lines_push ls l all.1 is)
 
 -- a line more stands behind the text of the lines before it
-places_push : (place : ℕ) (ls : List OrderLine) (l : OrderLine) → ArePlaced place ls → l.place ≡ place + length (flat_map spell ls) → ArePlaced place (ls ++ l ∷ [])
+pub places_push : (place : ℕ) (ls : List OrderLine) (l : OrderLine) → ArePlaced place ls → l.place ≡ place + length (flat_map spell ls) → ArePlaced place (ls ++ l ∷ [])
 places_push place [] l all at = (at ∙ omega arith, tt)
 places_push place (m ∷ ls) l all at = (all.0, places_push (place + length (spell m)) ls l all.1 (omega (arith, at, length-append (spell m) (flat_map spell ls))))
 
 -- the text of one line more
-text_push : (ls : List OrderLine) (l : OrderLine) → flat_map spell (ls ++ l ∷ []) ≡ flat_map spell ls ++ spell l
+pub text_push : (ls : List OrderLine) (l : OrderLine) → flat_map spell (ls ++ l ∷ []) ≡ flat_map spell ls ++ spell l
 text_push ls l = flat_map-append spell ls (l ∷ []) ∙ ap (λ x. flat_map spell ls ++ x) (append-nil (spell l))
 
 -- a line that is read next

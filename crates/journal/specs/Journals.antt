@@ -15,7 +15,8 @@ NamesItsThread e = IsNamed e.done e.thread
 
 -- THE ORDER
 
-abbrev turn_of : Option ℕ → Option Fresh → List (ℕ × Fresh) → List (ℕ × Fresh)
+-- what an entry adds in front
+abbrev pub turn_of : Option ℕ → Option Fresh → List (ℕ × Fresh) → List (ℕ × Fresh)
 turn_of (Some t) (Some names) rest = (t, names) ∷ rest
 turn_of _ _ rest = rest
 

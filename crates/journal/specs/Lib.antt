@@ -2,3 +2,4 @@ pub mod OrderText
 pub mod OrderReading
 pub mod OrderFaults
 pub mod Journals
+pub mod WrittenOrder

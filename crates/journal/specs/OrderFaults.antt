@@ -1,6 +1,5 @@
 -- Why a text is refused.
 use Rattle.std.specs.Prelude.{ℕ, List, ⊤}
-use Rattle.journal.specs.declared.order.OrderLine.{OrderLine}
 use Rattle.journal.specs.declared.fault.OrderError.{OrderError}
 use Rattle.journal.specs.declared.fault.OrderError.TheVariants.{BadOrder, NoMemory}
 use Rattle.journal.specs.OrderText.{IsRefused}

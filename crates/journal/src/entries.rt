@@ -74,4 +74,11 @@ impl Journal {
     {
         self.entries.at(at)
     }
+
+    /// The entries in order.
+    pub fn as_slice(&self) -> &[Entry]
+        ensures { result.now ≡ self.now.items }
+    {
+        self.entries.as_slice()
+    }
 }

@@ -2,6 +2,8 @@
 
 ghost use Rattle.std.specs.Prelude.{◌≡◌, ◌⊎◌, ◌↔◌, ◌+◌, ◌++◌, ◌∷◌, ℕ, List};
 ghost use Rattle.journal.specs.OrderText.{IsOrder, IsRefused, BeginsNoLine, FirstIsNoLine, steps_of};
+ghost use Rattle.journal.specs.WrittenOrder.{IsOrderText};
+ghost use Rattle.fr_base.specs.declared.step.Fresh.{Fresh};
 ghost use Rattle.journal.specs.declared.order.OrderLine.{OrderLine};
 
 /// A text is the text of one list of lines, or it is refused at one place, and never both.
@@ -22,4 +24,11 @@ pub fn same_steps()
 /// Bytes that no line's text begins are those whose first line, up to its newline or to the end, is no line's text.
 pub fn by_lines()
     ensures { (bytes : List ℕ) → BeginsNoLine bytes ↔ FirstIsNoLine bytes }
+{}
+
+/// What is written for an order is read again as lines that spell it, and is refused nowhere; and steps have one such text.
+pub fn written_is_read()
+    ensures spelled { (steps : List (ℕ × Fresh)) (bytes : List ℕ) (ls : List OrderLine) → IsOrderText steps bytes → IsOrder 0 bytes ls → steps_of ls ≡ steps }
+    ensures never_refused { (steps : List (ℕ × Fresh)) (bytes : List ℕ) (place : ℕ) → IsOrderText steps bytes → IsRefused 0 bytes place → ⊥ }
+    ensures one_text { (steps : List (ℕ × Fresh)) (one other : List ℕ) → IsOrderText steps one → IsOrderText steps other → one ≡ other }
 {}

@@ -1,9 +1,10 @@
 //! Texts of orders, read and refused.
 
 ghost use Rattle.std.specs.Prelude.{◌≤◌, length};
+ghost use Rattle.journal.specs.Journals.{NamesItsThread};
 
 use super::*;
-use fr_base::{Fresh, MutexNo, ThreadNo};
+use fr_base::{Fresh, Labels, MutexNo, ThreadNo};
 use std::alloc::Global;
 use std::process::Abort;
 use std::test::Fail;
@@ -256,4 +257,45 @@ fn an_order_or_no_memory(rt: HostRuntime) {
         let _more = order.push(line(6, (0, 1), 2, Fresh::None));
         assert_eq!(rt; order.at(0), Some(&one));
     }
+}
+
+fn turn(thread: ThreadNo, done: Option<Fresh>, alloc: Global) -> Entry
+    ensures names { NamesItsThread result }
+{
+    Entry {
+        server: 0,
+        thread: Some(thread),
+        done,
+        acts: Acts::new(alloc),
+        labels: Labels::new(alloc),
+    }
+}
+
+// Steps of two threads, a step with a name and an entry without a step.
+#[test]
+fn neighbouring_steps_share_a_line(rt: HostRuntime) -> Result<(), Fail> {
+    let alloc = rt.alloc();
+    let main = ThreadNo::new(0, 0);
+    let other = ThreadNo::new(1, 7);
+    let mutex = MutexNo { home: 2, count: 1 };
+    let mut journal = Journal::new(alloc);
+    assert_eq!(rt; order_text(alloc, &journal)?.as_str(), "");
+    for (thread, done) in [
+        (main, Some(Fresh::None)),
+        (other, None),
+        (main, Some(Fresh::None)),
+        (main, Some(Fresh::Thread(other))),
+        (main, Some(Fresh::None)),
+        (other, Some(Fresh::Threads(main, other))),
+        (other, Some(Fresh::None)),
+        (main, Some(Fresh::Mutex(mutex))),
+        (main, Some(Fresh::None)),
+    ] {
+        journal.push(turn(thread, done, alloc))?;
+    }
+    assert_eq!(rt;
+        order_text(alloc, &journal)?.as_str(),
+        "0.0 2\n0.0 thread 1.7\n0.0 1\n1.7 threads 0.0 1.7\n1.7 1\n0.0 mutex 2.1\n0.0 1\n"
+    );
+    Ok(())
 }
