@@ -1,0 +1,34 @@
+-- A pointer gets another word, wherever it stands: in a slot, on top of the temporary values, in a cell that lies here.
+use Rattle.std.proofs.Common.{◌≡◌, ℕ, List, [], ◌∷◌, ◌++◌, Some, refl, subst}
+use Rattle.heap_partition.specs.declared.value.Owned.TheVariants as owned
+use Rattle.mut_borrow.specs.declared.mutable.MutRef.{MutRef}
+use Rattle.thread_state.specs.declared.value.Value.{Value}
+use Rattle.thread_state.specs.declared.value.Value.TheVariants as value
+use Rattle.server_model.specs.Work.{Hand}
+use Rattle.server_model.specs.Places.{Spot, value_at, with_word, took, set_pointer}
+use Rattle.heap_law.specs.Things.{Thing, Location, holds, borrows, value_things}
+use Rattle.heap_law.specs.Things as things
+use Rattle.event_law.specs.Laws.{Gives}
+use Rattle.event_law.proofs.Trades.{trade_none}
+use Rattle.event_law.proofs.Rules.{Rule, comes, goes, recolours, in_turn, Kept}
+use Rattle.event_law.proofs.Results.{then_gives}
+use Rattle.event_law.proofs.Bags.{HandOk}
+use Rattle.event_law.proofs.Values.{puts_at}
+
+some_same : {a b : Value} → Some a ≡ Some b → a ≡ b
+some_same e = cc
+
+-- a mutable reference changes
+pub other_borrow : (l : Location) (r q : MutRef) → Rule (borrows l r ∷ []) (borrows l q ∷ [])
+other_borrow l r q = in_turn (goes (borrows l r) refl) (comes (borrows l q) refl)
+
+worded_rule : (n w : ℕ) (v new : Value) → with_word w v ≡ Some new → (p : things.Spot) (l : Location) → Rule (value_things n p l v ++ []) (value_things n p l new ++ [])
+worded_rule n w (value.Own (owned.Box b)) new e p l = subst (λ x. Rule (holds p (owned.Box b) ∷ []) (value_things n p l x ++ [])) (some_same e) (recolours p b w)
+worded_rule n w (value.Mut r) new e p l = subst (λ x. Rule (borrows l r ∷ []) (value_things n p l x ++ [])) (some_same e) (other_borrow l r (took r w))
+worded_rule n w v new e p l = absurd (cc e)
+
+module _ {K : List Thing → Type 0} (k : Kept K) (n e t : ℕ) where
+  pub sets_pointer : (others : List Thing) (s : Spot) (w : ℕ) (h : Hand) → HandOk K n e t others h → Gives (HandOk K n e t others) (set_pointer s w h)
+  sets_pointer others s w h g =
+      then_gives (HandOk K n e t others) (value_at h s) _ (λ v q. then_gives (HandOk K n e t others) (with_word w v) _ (λ new q2.
+      puts_at k n e t s v new h q (trade_none others) (worded_rule n w v new q2) g))

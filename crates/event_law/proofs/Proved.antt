@@ -1,0 +1,22 @@
+-- The kinds of events that are proved to leave the sums.
+use Rattle.std.specs.Bool.{⊤}
+use Rattle.event_law.specs.Kinds.{Kind, fetch, fetched, moving, moved, drop, evicts, step_let, step_assign, step_read, step_borrow, step_borrow_mut, step_arith, step_print, step_discard, step_drop_slot, step_par_end}
+
+abbrev pub IsProvedKind : Kind → Type 0
+IsProvedKind fetch = ⊤
+IsProvedKind fetched = ⊤
+IsProvedKind moving = ⊤
+IsProvedKind moved = ⊤
+IsProvedKind drop = ⊤
+IsProvedKind evicts = ⊤
+IsProvedKind step_let = ⊤
+IsProvedKind step_assign = ⊤
+IsProvedKind step_read = ⊤
+IsProvedKind step_borrow = ⊤
+IsProvedKind step_borrow_mut = ⊤
+IsProvedKind step_arith = ⊤
+IsProvedKind step_print = ⊤
+IsProvedKind step_discard = ⊤
+IsProvedKind step_drop_slot = ⊤
+IsProvedKind step_par_end = ⊤
+IsProvedKind k = ⊥
