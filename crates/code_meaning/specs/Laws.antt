@@ -8,7 +8,7 @@ use Rattle.fr_plain.specs.Whole as term
 use Rattle.fr_plain.specs.Whole.{Turn}
 use Rattle.fr_code.specs.Machine.{CodeStepped}
 use Rattle.fr_code.specs.StandsFor.{IsCodeOf}
-use Rattle.journal.specs.declared.entry.Entry.{Entry}
+use Rattle.journal.specs.View.{EntryView}
 use Rattle.journal.specs.Journals.{order, labels, printed, prints}
 use Rattle.server_model.specs.Servers.{Cluster, start_of}
 use Rattle.code_meaning.specs.Runs.{run}
@@ -28,7 +28,7 @@ HasPrinted None ns = ⊥
 HasPrinted (Some d) ns = d.state.output ≡ ns
 
 abbrev pub PrintsAlike : Type 0
-PrintsAlike = (k : Cluster) (es : List Entry) → LeftByItsCode k es → HasPrinted (run k.code (order es)) (prints es)
+PrintsAlike = (k : Cluster) (es : List EntryView) → LeftByItsCode k es → HasPrinted (run k.code (order es)) (prints es)
 
 -- a plain run of a term that is there, with these labels and their prints
 abbrev pub IsRunWith : Option term.Stepped → List Label → Type 0
@@ -38,4 +38,4 @@ IsRunWith (Some x) ls = (x.labels ≡ ls) × (x.state.output ≡ printed ls)
 -- where the code is that of a program, the program's own plain run under the journal's order is there, with the journal's
 -- labels and prints
 abbrev pub RunsAsProgram : Type 0
-RunsAsProgram = (k : Cluster) (es : List Entry) (r : Run) → IsCodeOf k.code r → LeftByItsCode k es → IsRunWith (term.plain r (order es)) (labels es)
+RunsAsProgram = (k : Cluster) (es : List EntryView) (r : Run) → IsCodeOf k.code r → LeftByItsCode k es → IsRunWith (term.plain r (order es)) (labels es)

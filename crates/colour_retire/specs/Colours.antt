@@ -31,9 +31,9 @@ retired_after limit word retired = if nat_lt (colour_of word + 1) limit then ret
 
 -- the room after that: a pair takes one
 abbrev pub freed_room : ℕ → ℕ → ℕ → ℕ
-freed_room limit word spare = if nat_lt (colour_of word + 1) limit then spare - 1 else spare
+freed_room limit word room = if nat_lt (colour_of word + 1) limit then room - 1 else room
 
 -- the room after a pick: a pair gives it back
 abbrev pub picked_room : List (ℕ × ℕ) → ℕ → ℕ
-picked_room [] spare = spare
-picked_room (pair ∷ rest) spare = spare + 1
+picked_room [] room = room
+picked_room (pair ∷ rest) room = room + 1

@@ -28,7 +28,7 @@ impl Model for Colours {
 
     ghost Value = { ColoursView };
 
-    ghost view = { λ c. record { free = reverse (map pair_of c.free.items); retired = c.retired; spare = vec_capacity c.free - vec_len c.free } };
+    ghost view = { λ c. record { state = record { free = reverse (map pair_of c.free.items); retired = c.retired }; room = vec_capacity c.free - vec_len c.free } };
 
     ghost invariant = { λ c. IsFreeList (reverse (map pair_of c.free.items)) };
 }
@@ -36,8 +36,8 @@ impl Model for Colours {
 impl Colours {
     /// No address is free or retired, and no memory taken yet.
     pub fn new(alloc: Global) -> Colours
-        ensures free { result.free ≡ [] }
-        ensures retired { result.retired ≡ 0 }
+        ensures free { result.state.free ≡ [] }
+        ensures retired { result.state.retired ≡ 0 }
     {
         Colours {
             free: Vec::new(alloc),
@@ -47,11 +47,10 @@ impl Colours {
 
     /// Makes room for `n` more free addresses; a refusal changes nothing.
     pub fn reserve(&mut self, n: usize) -> Result<(), NoMemory>
-        ensures free { self.new.free ≡ self.old.free }
-        ensures retired { self.new.retired ≡ self.old.retired }
-        ensures room { OnOk result (n ≤ self.new.spare) }
-        ensures had_room { n ≤ self.old.spare → IsOk result }
-        ensures spare { self.old.spare ≤ self.new.spare }
+        ensures state { self.new.state ≡ self.old.state }
+        ensures room { OnOk result (n ≤ self.new.room) }
+        ensures had_room { n ≤ self.old.room → IsOk result }
+        ensures spare { self.old.room ≤ self.new.room }
         ensures refused { OnErr result (self.new ≡ self.old) }
     {
         match self.free.reserve(n) {
@@ -63,14 +62,14 @@ impl Colours {
     /// Frees the address of the word: from its next colour, or for good where the colour is the last, `limit - 1`. There is
     /// room, the address isn't free, and the colour is below the limit, which is from 1 to 65,536.
     pub fn free(&mut self, word: Word, limit: u32)
-        requires room { 0 < self.old.spare }
-        requires not_free { All (λ pair. pair.0 ≢ address_of word) self.old.free }
-        requires few { self.old.retired < 2 ^ 64 - 1 }
+        requires room { 0 < self.old.room }
+        requires not_free { All (λ pair. pair.0 ≢ address_of word) self.old.state.free }
+        requires few { self.old.state.retired < 2 ^ 64 - 1 }
         requires colour { colour_of word < limit }
         requires limit { limit ≤ 65536 }
-        ensures free { self.new.free ≡ free_after limit word self.old.free }
-        ensures retired { self.new.retired ≡ retired_after limit word self.old.retired }
-        ensures spare { self.new.spare ≡ freed_room limit word self.old.spare }
+        ensures free { self.new.state.free ≡ free_after limit word self.old.state.free }
+        ensures retired { self.new.state.retired ≡ retired_after limit word self.old.state.retired }
+        ensures spare { self.new.room ≡ freed_room limit word self.old.room }
     {
         match word.next_colour(limit) {
             Some(next) => self.free.push_reserved(next),
@@ -81,10 +80,10 @@ impl Colours {
     /// The address for the next object and its colour there: the address that was freed last, which is no longer free, or
     /// `(next, 0)` where none is free.
     pub fn pick(&mut self, next: u64) -> (u64, u16)
-        ensures picked { result ≡ picked self.old.free next }
-        ensures free { self.new.free ≡ rest_of self.old.free }
-        ensures retired { self.new.retired ≡ self.old.retired }
-        ensures spare { self.new.spare ≡ picked_room self.old.free self.old.spare }
+        ensures picked { result ≡ picked self.old.state.free next }
+        ensures free { self.new.state.free ≡ rest_of self.old.state.free }
+        ensures retired { self.new.state.retired ≡ self.old.state.retired }
+        ensures spare { self.new.room ≡ picked_room self.old.state.free self.old.room }
     {
         match self.free.pop() {
             Some(word) => (word.address(), word.colour()),
@@ -94,14 +93,14 @@ impl Colours {
 
     /// A law: no address is free twice, and none from colour 0.
     pub fn once(&self)
-        ensures { IsFreeList self.now.free }
+        ensures { IsFreeList self.now.state.free }
     {
         let _retired = self.retired;
     }
 
     /// How many addresses were retired.
     pub fn retired(&self) -> u64
-        ensures { result ≡ self.now.retired }
+        ensures { result ≡ self.now.state.retired }
     {
         self.retired
     }

@@ -6,7 +6,7 @@ use Rattle.fr_base.specs.declared.settings.Options.{Options}
 use Rattle.coloured_heap.specs.Rules.{allows}
 use Rattle.coloured_heap.specs.Changes.{after_act, with_value}
 use Rattle.std.specs.Prelude.{if◌then◌else◌}
-use Rattle.journal.specs.declared.entry.Entry.{Entry}
+use Rattle.journal.specs.View.{EntryView}
 use Rattle.coloured_heap.specs.Heap.{Coloured, start}
 use Rattle.coloured_heap.specs.Legal.{acts_after, entry_after, onward, otherwise, journal_from, journal_after, illegal_from, is_legal}
 use Rattle.coloured_heap.specs.Lists.{holds}
@@ -45,7 +45,7 @@ stores (label.Start t ∷ ls) ms s = stores ls ms s
 stores (label.End t ∷ ls) ms s = stores ls ms s
 
 -- no entry breaks a rule exactly where there is a state at the end
-state_of : (o : Options) (s : Coloured) (k : ℕ) (es : List Entry) → illegal_from o s k es ≡ None → IsSome (journal_from o s es)
+state_of : (o : Options) (s : Coloured) (k : ℕ) (es : List EntryView) → illegal_from o s k es ≡ None → IsSome (journal_from o s es)
 state_of o s k [] h = refl
 state_of o s k (e ∷ es) h = by (λ a. state_of o a (suc k) es) (entry_after o s e) h
   where
@@ -53,7 +53,7 @@ state_of o s k (e ∷ es) h = by (λ a. state_of o a (suc k) es) (entry_after o 
     by f None q = absurd cc
     by f (Some a) q = f a q
 
-legal_of : (o : Options) (s : Coloured) (k : ℕ) (es : List Entry) → IsSome (journal_from o s es) → illegal_from o s k es ≡ None
+legal_of : (o : Options) (s : Coloured) (k : ℕ) (es : List EntryView) → IsSome (journal_from o s es) → illegal_from o s k es ≡ None
 legal_of o s k [] h = refl
 legal_of o s k (e ∷ es) h = by (λ a. legal_of o a (suc k) es) (entry_after o s e) h
   where
@@ -65,13 +65,13 @@ pub has_state : LegalHasState
 has_state o es = (state_of o start 0 es, legal_of o start 0 es)
 
 -- the first of these entries that breaks a rule, counted from k on
-record At (o : Options) (s : Coloured) (es : List Entry) (k at : ℕ) : Type 0 where
+record At (o : Options) (s : Coloured) (es : List EntryView) (k at : ℕ) : Type 0 where
   n : ℕ
   is : at ≡ k + n
   before : IsSome (journal_from o s (take n es))
   with_it : IsNone (journal_from o s (take (suc n) es))
 
-first_at : (o : Options) (s : Coloured) (k : ℕ) (es : List Entry) (at : ℕ) → illegal_from o s k es ≡ Some at → At o s es k at
+first_at : (o : Options) (s : Coloured) (k : ℕ) (es : List EntryView) (at : ℕ) → illegal_from o s k es ≡ Some at → At o s es k at
 first_at o s k [] at h = absurd cc
 first_at o s k (e ∷ es) at h = by (λ a. first_at o a (suc k) es at) (entry_after o s e) refl h
   where
@@ -95,7 +95,7 @@ first o es at h = let f = first_at o start 0 es at h in let same : f.n ≡ at = 
     (subst (λ n. IsSome (journal_after o (take n es))) same f.before, subst (λ n. IsNone (journal_after o (take (suc n) es))) same f.with_it)
 
 -- a state is left where each entry has one
-pub legal_if : (o : Options) (es : List Entry) → IsSome (journal_after o es) → is_legal o es ≡ true
+pub legal_if : (o : Options) (es : List EntryView) → IsSome (journal_after o es) → is_legal o es ≡ true
 legal_if o es h = ap is_none (legal_of o start 0 es h)
 
 both : (a b : Bool) → a && b ≡ true → (a ≡ true) × (b ≡ true)
@@ -103,11 +103,11 @@ both true b h = (refl, h)
 both false b h = absurd cc
 
 -- a test that holds of what follows tells that there is a state to go on from
-leads : (o : Options) (es : List Entry) (r : Option Coloured) (test : Coloured → Bool) → ((a : Coloured) → test a ≡ true → IsSome (journal_from o a es)) → holds test r ≡ true → IsSome (onward r (λ a. journal_from o a es))
+leads : (o : Options) (es : List EntryView) (r : Option Coloured) (test : Coloured → Bool) → ((a : Coloured) → test a ≡ true → IsSome (journal_from o a es)) → holds test r ≡ true → IsSome (onward r (λ a. journal_from o a es))
 leads o es None test f h = absurd cc
 leads o es (Some a) test f h = f a h
 
-driven_leads : (o : Options) (s : Coloured) (rest : List ℕ) (es : List Entry) → driven_from o s rest es ≡ true → IsSome (journal_from o s es)
+driven_leads : (o : Options) (s : Coloured) (rest : List ℕ) (es : List EntryView) → driven_from o s rest es ≡ true → IsSome (journal_from o s es)
 driven_leads o s rest [] h = refl
 driven_leads o s rest (e ∷ es) h = leads o es (entry_after o s e) (λ a. driven_from o a (resting e rest) es) (λ a. driven_leads o a (resting e rest) es)
     (both (is_driven_entry o s rest e) (holds (λ a. driven_from o a (resting e rest) es) (entry_after o s e)) h).1
@@ -115,7 +115,7 @@ driven_leads o s rest (e ∷ es) h = leads o es (entry_after o s e) (λ a. drive
 pub driven : DrivenIsLegal
 driven o es h = legal_if o es (driven_leads o start [] es h)
 
-reached_leads : (o : Options) (s : Coloured) (es : List Entry) → reached_from o s es ≡ true → IsSome (journal_from o s es)
+reached_leads : (o : Options) (s : Coloured) (es : List EntryView) → reached_from o s es ≡ true → IsSome (journal_from o s es)
 reached_leads o s [] h = refl
 reached_leads o s (e ∷ es) h = leads o es (entry_after o s e) (λ a. reached_from o a es) (λ a. reached_leads o a es)
     (both (is_reached o s e) (holds (λ a. reached_from o a es) (entry_after o s e)) h).1

@@ -10,7 +10,7 @@ use Rattle.fr_base.specs.declared.step.Fresh.TheVariants as fresh
 use Rattle.global_addr.specs.Words.{server_of}
 use Rattle.journal.specs.declared.act.Act.{Act}
 use Rattle.journal.specs.declared.act.Act.TheVariants as act
-use Rattle.journal.specs.declared.entry.Entry.{Entry}
+use Rattle.journal.specs.View.{EntryView}
 use Rattle.coloured_heap.specs.Lists.{less_all, with_each, times}
 use Rattle.coloured_heap.specs.Heap.{Lies, Living, Running, Guarded, Copied, Coloured, start, is_object, is_thread, is_mutex, is_under, object_at, thread_at, mutex_at, next_served}
 use Rattle.coloured_heap.specs.Rules.{issued_by, is_new, is_by, rule, allows, starting_server}
@@ -43,17 +43,17 @@ changed s p f same few q = omega (arith, as_often (is_object q) (is_object p) f 
 -- SOMETHING NEW
 
 -- an object is made where none of its name is live
-new_object : (o : Options) (e : Entry) (s : Coloured) (p : ObjNo) (w : ℕ) → allows o e s (act.Make p w) ≡ true → ((q : ObjNo) → times (is_object q) s.living ≤ 1) → (q : ObjNo)
-    → times (is_object q) (record { object = p; place = Lies e.server; word = w; value = made_value p e.labels.items; is_condemned = false } ∷ s.living) ≤ 1
+new_object : (o : Options) (e : EntryView) (s : Coloured) (p : ObjNo) (w : ℕ) → allows o e s (act.Make p w) ≡ true → ((q : ObjNo) → times (is_object q) s.living ≤ 1) → (q : ObjNo)
+    → times (is_object q) (record { object = p; place = Lies e.server; word = w; value = made_value p e.labels; is_condemned = false } ∷ s.living) ≤ 1
 new_object o e s p w allowed few q =
     let keeps = (both (is_new o s (issued_by (act.Make p w))) (rule o e s (act.Make p w)) allowed).1 in
     let first_two = (both (is_none (object_at s p) && is_by e p.thread) (server_of w == e.server) keeps).0 in
     let absent = is_not (is_some (object_at s p)) (both (is_none (object_at s p)) (is_by e p.thread) first_two).0 in
-    in_front (is_object q) (is_object p) (record { object = p; place = Lies e.server; word = w; value = made_value p e.labels.items; is_condemned = false }) s.living
+    in_front (is_object q) (is_object p) (record { object = p; place = Lies e.server; word = w; value = made_value p e.labels; is_condemned = false }) s.living
     (λ is. ap (λ r. times (is_object r) s.living) (sym (object_is p q is))) (none_there (is_object p) s.living absent) (few q)
 
 -- a thread is started that never was
-new_thread : (o : Options) (e : Entry) (s : Coloured) (t there : ℕ) → allows o e s (act.Start t there) ≡ true → ((u : ℕ) → times (is_thread u) s.threads ≤ 1) → (u : ℕ)
+new_thread : (o : Options) (e : EntryView) (s : Coloured) (t there : ℕ) → allows o e s (act.Start t there) ≡ true → ((u : ℕ) → times (is_thread u) s.threads ≤ 1) → (u : ℕ)
     → times (is_thread u) (record { thread = t; server = there; has_ended = false } ∷ s.threads) ≤ 1
 new_thread o e s t there allowed few u =
     let keeps = (both (is_new o s (issued_by (act.Start t there))) (rule o e s (act.Start t there)) allowed).1 in
@@ -80,7 +80,7 @@ new_mutex s here m new few n =
 
 -- ACTS AND NAMES
 
-by_act : (o : Options) (e : Entry) (s : Coloured) (a : Act) → allows o e s a ≡ true → listed s → listed (after_act e s a)
+by_act : (o : Options) (e : EntryView) (s : Coloured) (a : Act) → allows o e s a ≡ true → listed s → listed (after_act e s a)
 by_act o e s (act.Make p w) allowed l = with_objects (new_object o e s p w allowed l.objects) l
 by_act o e s (act.Local p w) allowed l = l
 by_act o e s (act.Hit p w) allowed l = l

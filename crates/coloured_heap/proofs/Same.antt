@@ -16,7 +16,7 @@ use Rattle.fr_base.specs.declared.step.Fresh.TheVariants as fresh
 use Rattle.global_addr.specs.Words.{colour_of, server_of, next_word}
 use Rattle.journal.specs.declared.act.Act.{Act}
 use Rattle.journal.specs.declared.act.Act.TheVariants as act
-use Rattle.journal.specs.declared.entry.Entry.{Entry}
+use Rattle.journal.specs.View.{EntryView}
 use Rattle.coloured_heap.specs.Lists.{first, holds, has, less_all}
 use Rattle.coloured_heap.specs.Heap.{Lies, Flies, Living, Copied, Wish, ForCopy, ForObject, ForContent, ForShare, ForResult, Running, Coloured, is_lying, lies_at, flies_to, is_thread, is_object, value_in, value_of, is_under, is_cached, is_copy, next_served, same_wish, is_wished, is_mutex}
 use Rattle.coloured_heap.specs.Rules.{issued_by, is_new, names, is_here, lies, comes_here, of_run, is_by, is_holder, is_known, starting_server, rule, allows}
@@ -63,19 +63,19 @@ module _ (s t : Coloured) (h : Same s t) where
   names_same : (p : ObjNo) (w : ℕ) → names s p w ≡ names t p w
   names_same p w = ap (λ r. holds (λ x. (x.word == w) && not x.is_condemned) r) (h.objects p)
 
-  pub here_same : (e : Entry) (p : ObjNo) → is_here e s p ≡ is_here e t p
+  pub here_same : (e : EntryView) (p : ObjNo) → is_here e s p ≡ is_here e t p
   here_same e p = ap (λ r. holds (λ x. lies_at e.server x.place) r) (h.objects p)
 
-  named_here : (e : Entry) (p : ObjNo) (w : ℕ) → names s p w && is_here e s p ≡ names t p w && is_here e t p
+  named_here : (e : EntryView) (p : ObjNo) (w : ℕ) → names s p w && is_here e s p ≡ names t p w && is_here e t p
   named_here e p w = ap₂ (λ a b. a && b) (names_same p w) (here_same e p)
 
-  named_away : (e : Entry) (p : ObjNo) (w : ℕ) → names s p w && not (is_here e s p) ≡ names t p w && not (is_here e t p)
+  named_away : (e : EntryView) (p : ObjNo) (w : ℕ) → names s p w && not (is_here e s p) ≡ names t p w && not (is_here e t p)
   named_away e p w = ap₂ (λ a b. a && not b) (names_same p w) (here_same e p)
 
   lies_same : (p : ObjNo) → lies s p ≡ lies t p
   lies_same p = ap (λ r. holds (λ x. is_lying x.place) r) (h.objects p)
 
-  comes_same : (e : Entry) (p : ObjNo) → comes_here e s p ≡ comes_here e t p
+  comes_same : (e : EntryView) (p : ObjNo) → comes_here e s p ≡ comes_here e t p
   comes_same e p = ap (λ r. holds (λ x. flies_to e.server x.place) r) (h.objects p)
 
   cached_same : (here w : ℕ) → is_cached s here w ≡ is_cached t here w
@@ -85,7 +85,7 @@ module _ (s t : Coloured) (h : Same s t) where
   known_same (released.Mutex m) = ap is_some (h.mutexes m)
   known_same (released.Task u) = ap is_some (h.threads u)
 
-  rule_same : (o : Options) (e : Entry) (a : Act) → rule o e s a ≡ rule o e t a
+  rule_same : (o : Options) (e : EntryView) (a : Act) → rule o e s a ≡ rule o e t a
   rule_same o e (act.Make p w) = ap (λ r. is_none r && is_by e p.thread && (server_of w == e.server)) (h.objects p)
   rule_same o e (act.Local p w) = named_here e p w
   rule_same o e (act.Hit p w) = ap₂ (λ a b. a && b) (names_same p w) (cached_same e.server w)
@@ -116,7 +116,7 @@ module _ (s t : Coloured) (h : Same s t) where
   new_same o None = refl
   new_same o (Some w) = ap (λ b. nat_lt (colour_of w) o.colours && not b) (h.issued w)
 
-  pub allows_same : (o : Options) (e : Entry) (a : Act) → allows o e s a ≡ allows o e t a
+  pub allows_same : (o : Options) (e : EntryView) (a : Act) → allows o e s a ≡ allows o e t a
   allows_same o e a = ap₂ (λ x y. x && y) (new_same o (issued_by a)) (rule_same o e a)
 
   pub name_same : (here : ℕ) (new : Option Fresh) → is_new_name s here new ≡ is_new_name t here new
@@ -126,7 +126,7 @@ module _ (s t : Coloured) (h : Same s t) where
   name_same here (Some (fresh.Threads u v)) = refl
   name_same here (Some (fresh.Mutex m)) = ap (λ r. (m.home == here) && is_none r) (h.mutexes m)
 
-  pub place_same : (o : Options) (e : Entry) → is_placed o s e ≡ is_placed o t e
+  pub place_same : (o : Options) (e : EntryView) → is_placed o s e ≡ is_placed o t e
   place_same o e = by e.thread
     where
       by : (u : Option ℕ) → is_placed o s (record e { thread = u }) ≡ is_placed o t (record e { thread = u })
@@ -303,8 +303,8 @@ started_same r s t h = record {
   mutexes = h.mutexes;
 }
 
-changed_same : (e : Entry) (a : Act) (s t : Coloured) → Same s t → Same (changed_by e s a) (changed_by e t a)
-changed_same e (act.Make p w) s t h = made_same (record { object = p; place = Lies e.server; word = w; value = made_value p e.labels.items; is_condemned = false }) s t h
+changed_same : (e : EntryView) (a : Act) (s t : Coloured) → Same s t → Same (changed_by e s a) (changed_by e t a)
+changed_same e (act.Make p w) s t h = made_same (record { object = p; place = Lies e.server; word = w; value = made_value p e.labels; is_condemned = false }) s t h
 changed_same e (act.Local p w) s t h = h
 changed_same e (act.Hit p w) s t h = h
 changed_same e (act.Ask p w) s t h = wishing_same (ForCopy p w e.server) s t h
@@ -346,7 +346,7 @@ issued_same new s t x y h g = record {
     by w None = h.issued w
     by w (Some u) = has_alike (λ v. v == w) u s.issued t.issued (h.issued w)
 
-pub act_same : (e : Entry) (a : Act) (s t : Coloured) → Same s t → Same (after_act e s a) (after_act e t a)
+pub act_same : (e : EntryView) (a : Act) (s t : Coloured) → Same s t → Same (after_act e s a) (after_act e t a)
 act_same e a s t h = issued_same (issued_by a) s t (changed_by e s a) (changed_by e t a) h (changed_same e a s t h)
 
 pub value_same : (p : ObjNo) (v : Plain) (s t : Coloured) → Same s t → Same (with_value s p v) (with_value t p v)

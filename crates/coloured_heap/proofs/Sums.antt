@@ -4,7 +4,7 @@ use Rattle.fr_base.specs.Lists.{tot, one}
 use Rattle.fr_base.specs.Kinds.{kind_number}
 use Rattle.fr_base.specs.declared.message.Kind.{Kind}
 use Rattle.fr_base.specs.declared.message.Kind.TheVariants as kind
-use Rattle.journal.specs.declared.entry.Entry.{Entry}
+use Rattle.journal.specs.View.{EntryView}
 use Rattle.coloured_heap.specs.Sends.{Sending, sendings, leaves, counts}
 use Rattle.coloured_heap.specs.Laws.{KindsAddUp}
 use Rattle.coloured_heap.specs.Figures.{kinds}
@@ -67,19 +67,19 @@ of_one_kind kind.Migrate false = refl
 
 -- ALL OF THEM
 
-abbrev sent : Entry → Sending → Kind → ℕ
+abbrev sent : EntryView → Sending → Kind → ℕ
 sent e m k = one (counts e.server k m)
 
-abbrev of_entry : Entry → Kind → ℕ
-of_entry e k = tot (λ m. sent e m k) (sendings e.acts.items)
+abbrev of_entry : EntryView → Kind → ℕ
+of_entry e k = tot (λ m. sent e m k) (sendings e.acts)
 
-abbrev leaving : Entry → ℕ
-leaving e = tot (λ m. one (leaves e.server m)) (sendings e.acts.items)
+abbrev leaving : EntryView → ℕ
+leaving e = tot (λ m. one (leaves e.server m)) (sendings e.acts)
 
-by_entry : (e : Entry) → leaving e ≡ tot (λ k. of_entry e k) kinds
+by_entry : (e : EntryView) → leaving e ≡ tot (λ k. of_entry e k) kinds
 by_entry e =
-    tot_same (λ m. one (leaves e.server m)) (λ m. tot (λ k. sent e m k) kinds) (sendings e.acts.items) (λ m. of_one_kind m.kind (leaves e.server m))
-    ∙ tot_swap (λ m k. sent e m k) (sendings e.acts.items) kinds
+    tot_same (λ m. one (leaves e.server m)) (λ m. tot (λ k. sent e m k) kinds) (sendings e.acts) (λ m. of_one_kind m.kind (leaves e.server m))
+    ∙ tot_swap (λ m k. sent e m k) (sendings e.acts) kinds
 
 pub kinds_add_up : KindsAddUp
 kinds_add_up es = tot_same leaving (λ e. tot (λ k. of_entry e k) kinds) es by_entry ∙ tot_swap (λ e k. of_entry e k) es kinds

@@ -6,7 +6,7 @@ use Rattle.fr_base.specs.declared.settings.Options.{Options}
 use Rattle.fr_base.specs.declared.step.Fresh.TheVariants as fresh
 use Rattle.journal.specs.declared.act.Act.{Act}
 use Rattle.journal.specs.declared.act.Act.TheVariants as act
-use Rattle.journal.specs.declared.entry.Entry.{Entry}
+use Rattle.journal.specs.View.{EntryView}
 use Rattle.coloured_heap.specs.Legal.{first_illegal, is_legal}
 use Rattle.coloured_heap.specs.Reach.{is_all_reached}
 use Rattle.coloured_heap.specs.Driven.{is_driven}
@@ -18,92 +18,92 @@ abbrev run : Options
 run = options 2 3 1
 
 -- after these entries this one is legal, or it is the first that isn't
-abbrev pub Goes : List Entry → Entry → Type 0
+abbrev pub Goes : List EntryView → EntryView → Type 0
 Goes before e = first_illegal run (before ++ e ∷ []) ≡ None
 
-abbrev pub Breaks : List Entry → Entry → Type 0
+abbrev pub Breaks : List EntryView → EntryView → Type 0
 Breaks before e = first_illegal run (before ++ e ∷ []) ≡ Some (length before)
 
 -- acts of the main thread's step at server 0, of thread 0.1's step at server 1, and of events there
-abbrev main : List Act → Entry
+abbrev main : List Act → EntryView
 main acts = step 0 0 acts []
 
-abbrev other : List Act → Entry
+abbrev other : List Act → EntryView
 other acts = step 1 1 acts []
 
 -- SCENES
 
-abbrev empty : List Entry
+abbrev empty : List EntryView
 empty = []
 
 -- thread 0.1 stands at server 1
-abbrev started : List Entry
+abbrev started : List EntryView
 started = naming 0 0 (fresh.Thread 1) (act.Start 1 1 ∷ []) [] ∷ []
 
 -- the main thread made an object
-abbrev made : List Entry
+abbrev made : List EntryView
 made = started ++ step 0 0 (act.Make x (w 0 0) ∷ []) (label.Make x (int 5) ∷ []) ∷ []
 
 -- its word has the next colour, and the last
-abbrev tinted : List Entry
+abbrev tinted : List EntryView
 tinted = made ++ main (act.Tint x (w 0 0) (w 0 1) ∷ []) ∷ []
 
-abbrev at_last : List Entry
+abbrev at_last : List EntryView
 at_last = tinted ++ main (act.Tint x (w 0 1) (w 0 2) ∷ []) ∷ []
 
 -- server 1 asked for a copy; it was served; it came
-abbrev asked : List Entry
+abbrev asked : List EntryView
 asked = made ++ turn 1 1 (act.Ask x (w 0 0) ∷ []) ∷ []
 
-abbrev served : List Entry
+abbrev served : List EntryView
 served = asked ++ event 0 (act.Serve x (w 0 0) 1 ∷ []) ∷ []
 
-abbrev filled : List Entry
+abbrev filled : List EntryView
 filled = served ++ event 1 (act.Fill x (w 0 0) ∷ []) ∷ []
 
 -- server 1 asked for the object; it left; it came
-abbrev pulled : List Entry
+abbrev pulled : List EntryView
 pulled = made ++ turn 1 1 (act.Pull x (w 0 0) ∷ []) ∷ []
 
-abbrev given : List Entry
+abbrev given : List EntryView
 given = pulled ++ event 0 (act.Give x (w 0 0) 1 ∷ []) ∷ []
 
-abbrev taken : List Entry
+abbrev taken : List EntryView
 taken = given ++ event 1 (act.Take x (w 0 0) far ∷ []) ∷ []
 
 -- its pointer was given up; its block was freed
-abbrev condemned : List Entry
+abbrev condemned : List EntryView
 condemned = made ++ main (act.Condemn x (w 0 0) ∷ []) ∷ []
 
-abbrev freed : List Entry
+abbrev freed : List EntryView
 freed = condemned ++ event 0 (act.Free x (w 0 0) ∷ []) ∷ []
 
 -- a mutex of server 0; thread 0.1 asked for its content; it was granted; it was given back
-abbrev guarded : List Entry
+abbrev guarded : List EntryView
 guarded = started ++ naming 0 0 (fresh.Mutex m) [] [] ∷ []
 
-abbrev locking : List Entry
+abbrev locking : List EntryView
 locking = guarded ++ turn 1 1 (act.AskLock m ∷ []) ∷ []
 
-abbrev locked : List Entry
+abbrev locked : List EntryView
 locked = locking ++ event 0 (act.Grant m 1 1 ∷ []) ∷ []
 
-abbrev unlocked : List Entry
+abbrev unlocked : List EntryView
 unlocked = locked ++ other (act.GiveBack m ∷ []) ∷ []
 
 -- thread 0.1 asked for a share
-abbrev sharing : List Entry
+abbrev sharing : List EntryView
 sharing = guarded ++ turn 1 1 (act.AskDup m ∷ []) ∷ []
 
 -- thread 0.1 finished; the main thread asks for its result
-abbrev finished : List Entry
+abbrev finished : List EntryView
 finished = started ++ other (act.Finish 1 ∷ []) ∷ []
 
-abbrev joining : List Entry
+abbrev joining : List EntryView
 joining = finished ++ turn 0 0 (act.AskJoin 1 ∷ []) ∷ []
 
 -- thread 0.1 moved to server 0
-abbrev moved : List Entry
+abbrev moved : List EntryView
 moved = started ++ turn 1 1 (act.Depart 1 0 ∷ []) ∷ []
 
 -- RULES OF OBJECTS
@@ -299,19 +299,19 @@ pub record PlaceRules : Type 0 where
 -- REACH
 
 -- after these entries this one is legal, and it reaches what it loads and stores, or it doesn't
-abbrev pub Reaches : Bool → List Entry → Entry → Type 0
+abbrev pub Reaches : Bool → List EntryView → EntryView → Type 0
 Reaches b before e = (is_legal run (before ++ e ∷ []) ≡ true) × (is_all_reached run (before ++ e ∷ []) ≡ b)
 
 -- the object was written where it lies, under the word that server 1 has a copy under
-abbrev written : List Entry
+abbrev written : List EntryView
 written = filled ++ step 0 0 [] (label.Store x (int 6) ∷ []) ∷ []
 
 -- it was written under the next colour
-abbrev recoloured : List Entry
+abbrev recoloured : List EntryView
 recoloured = filled ++ step 0 0 (act.Tint x (w 0 0) (w 0 1) ∷ []) (label.Store x (int 6) ∷ []) ∷ []
 
 -- two copies were asked for by two threads at server 1, and the object was written between the two that were served
-abbrev served_twice : List Entry
+abbrev served_twice : List EntryView
 served_twice = made ++ naming 0 0 (fresh.Thread 3) (act.Start 3 1 ∷ []) [] ∷ turn 1 1 (act.Ask x (w 0 0) ∷ []) ∷ turn 1 3 (act.Ask x (w 0 0) ∷ [])
     ∷ event 0 (act.Serve x (w 0 0) 1 ∷ []) ∷ step 0 0 [] (label.Store x (int 6) ∷ []) ∷ event 0 (act.Serve x (w 0 0) 1 ∷ [])
     ∷ event 1 (act.Fill x (w 0 0) ∷ []) ∷ []
@@ -339,17 +339,17 @@ pub record ReachRules : Type 0 where
 -- DRIVERS
 
 -- these entries are legal, and a driver can leave them, or it can't
-abbrev pub Drives : Bool → List Entry → Type 0
+abbrev pub Drives : Bool → List EntryView → Type 0
 Drives b es = (is_legal run es ≡ true) × (is_driven run es ≡ b)
 
 -- server 1 has a second copy too
-abbrev filled_twice : List Entry
+abbrev filled_twice : List EntryView
 filled_twice = filled ++ main (act.Make y (w 1 0) ∷ []) ∷ turn 1 1 (act.Ask y (w 1 0) ∷ []) ∷ event 0 (act.Serve y (w 1 0) 1 ∷ []) ∷ event 1 (act.Fill y (w 1 0) ∷ []) ∷ []
 
-abbrev evict : ℕ → Entry
+abbrev evict : ℕ → EntryView
 evict word = event 1 (act.Evict word ∷ [])
 
-abbrev depart : ℕ → ℕ → Entry
+abbrev depart : ℕ → ℕ → EntryView
 depart here there = turn here 1 (act.Depart 1 there ∷ [])
 
 pub record DriverRules : Type 0 where

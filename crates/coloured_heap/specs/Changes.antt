@@ -11,7 +11,7 @@ use Rattle.fr_base.specs.declared.step.Fresh.{Fresh}
 use Rattle.fr_base.specs.declared.step.Fresh.TheVariants as fresh
 use Rattle.journal.specs.declared.act.Act.{Act}
 use Rattle.journal.specs.declared.act.Act.TheVariants as act
-use Rattle.journal.specs.declared.entry.Entry.{Entry}
+use Rattle.journal.specs.View.{EntryView}
 use Rattle.coloured_heap.specs.Lists.{less_first, less_all, with_each}
 use Rattle.coloured_heap.specs.Heap.{Lies, Flies, Living, Copied, Wish, ForCopy, ForObject, ForContent, ForShare, ForResult, Running, Coloured, is_thread, is_object, value_of, is_under, is_copy, next_served, same_wish, is_mutex}
 use Rattle.coloured_heap.specs.Rules.{issued_by}
@@ -67,8 +67,8 @@ asker_of (Some t) = t
 -- ACTS
 
 -- what an act changes beside the words that were issued
-abbrev pub changed_by : Entry → Coloured → Act → Coloured
-changed_by e s (act.Make p w) = with_object s (record { object = p; place = Lies e.server; word = w; value = made_value p e.labels.items; is_condemned = false })
+abbrev pub changed_by : EntryView → Coloured → Act → Coloured
+changed_by e s (act.Make p w) = with_object s (record { object = p; place = Lies e.server; word = w; value = made_value p e.labels; is_condemned = false })
 changed_by e s (act.Local p w) = s
 changed_by e s (act.Hit p w) = s
 changed_by e s (act.Ask p w) = wishing s (ForCopy p w e.server)
@@ -99,7 +99,7 @@ with_new None ws = ws
 with_new (Some w) ws = w ∷ ws
 
 -- the state after an act
-abbrev pub after_act : Entry → Coloured → Act → Coloured
+abbrev pub after_act : EntryView → Coloured → Act → Coloured
 after_act e s a = record (changed_by e s a) { issued = with_new (issued_by a) s.issued }
 
 -- THE END OF AN ENTRY

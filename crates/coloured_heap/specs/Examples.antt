@@ -1,7 +1,7 @@
 -- What the definitions say of the journals of whole runs.
 use Rattle.std.specs.Prelude.{◌≡◌, ℕ, true, false, List, [], ◌∷◌, length, Option, Some, None, option_map}
 use Rattle.fr_base.specs.declared.settings.Options.{Options}
-use Rattle.journal.specs.declared.entry.Entry.{Entry}
+use Rattle.journal.specs.View.{EntryView}
 use Rattle.coloured_heap.specs.Legal.{journal_after, first_illegal}
 use Rattle.coloured_heap.specs.Sends.{all_messages}
 use Rattle.coloured_heap.specs.Reach.{is_all_reached}
@@ -14,12 +14,12 @@ abbrev figured : (steps events issued renewed hits evictions messages : ℕ) →
 figured steps events issued renewed hits evictions messages = record { steps = steps; events = events; issued = issued; renewed = renewed; hits = hits; evictions = evictions; messages = messages }
 
 -- how many objects are live after a journal
-abbrev pub live : Options → List Entry → Option ℕ
+abbrev pub live : Options → List EntryView → Option ℕ
 live o es = option_map (λ s. length s.living) (journal_after o es)
 
 -- the journal of a run is legal and driven, and reaches what it loads and stores; these are its figures and its messages by kind; each
 -- message was delivered, and no object is left
-pub record Runs (o : Options) (es : List Entry) (f : Figures) (messages : List ℕ) : Type 0 where
+pub record Runs (o : Options) (es : List EntryView) (f : Figures) (messages : List ℕ) : Type 0 where
   pub legal : first_illegal o es ≡ None
   pub reached : is_all_reached o es ≡ true
   pub driven : is_driven o es ≡ true

@@ -10,7 +10,7 @@ use Rattle.fr_base.specs.declared.settings.Options.{Options}
 use Rattle.global_addr.specs.Words.{colour_of, server_of, next_word}
 use Rattle.journal.specs.declared.act.Act.{Act}
 use Rattle.journal.specs.declared.act.Act.TheVariants as act
-use Rattle.journal.specs.declared.entry.Entry.{Entry}
+use Rattle.journal.specs.View.{EntryView}
 use Rattle.coloured_heap.specs.Lists.{holds}
 use Rattle.coloured_heap.specs.Heap.{is_issued, Guarded, Coloured, ForCopy, ForObject, ForContent, ForShare, ForResult, thread_at, object_at, is_lying, lies_at, flies_to, is_cached, next_served, is_wished, mutex_at}
 
@@ -35,18 +35,18 @@ is_new o s (Some w) = nat_lt (colour_of w) o.colours && not (is_issued s w)
 abbrev pub names : Coloured → ObjNo → ℕ → Bool
 names s p w = holds (λ x. (x.word == w) && not x.is_condemned) (object_at s p)
 
-abbrev pub is_here : Entry → Coloured → ObjNo → Bool
+abbrev pub is_here : EntryView → Coloured → ObjNo → Bool
 is_here e s p = holds (λ x. lies_at e.server x.place) (object_at s p)
 
 -- p lies at some server
 abbrev pub lies : Coloured → ObjNo → Bool
 lies s p = holds (λ x. is_lying x.place) (object_at s p)
 
-abbrev pub comes_here : Entry → Coloured → ObjNo → Bool
+abbrev pub comes_here : EntryView → Coloured → ObjNo → Bool
 comes_here e s p = holds (λ x. flies_to e.server x.place) (object_at s p)
 
 -- p lies here, and w is its word, and its pointer was given up
-abbrev pub is_left : Entry → Coloured → ObjNo → ℕ → Bool
+abbrev pub is_left : EntryView → Coloured → ObjNo → ℕ → Bool
 is_left e s p w = holds (λ x. (x.word == w) && x.is_condemned && lies_at e.server x.place) (object_at s p)
 
 -- p is live, and its pointer wasn't given up
@@ -59,7 +59,7 @@ abbrev pub of_run : Options → ℕ → Bool
 of_run o server = nat_lt server o.servers
 
 -- the entry's thread is t
-abbrev pub is_by : Entry → ℕ → Bool
+abbrev pub is_by : EntryView → ℕ → Bool
 is_by e t = holds (λ u. u == t) e.thread
 
 abbrev pub is_over : Coloured → ℕ → Bool
@@ -70,10 +70,10 @@ abbrev pub is_in : Coloured → MutexNo → Bool
 is_in s m = holds (λ g. is_none g.holder) (mutex_at s m)
 
 -- the content was granted to the entry's thread
-abbrev pub is_holder : Entry → Guarded → Bool
+abbrev pub is_holder : EntryView → Guarded → Bool
 is_holder e g = holds (is_by e) g.holder
 
-abbrev pub is_held : Entry → Coloured → MutexNo → Bool
+abbrev pub is_held : EntryView → Coloured → MutexNo → Bool
 is_held e s m = holds (is_holder e) (mutex_at s m)
 
 -- the mutex was made, or the thread was started
@@ -87,7 +87,7 @@ starting_server o t = (home_of t + count_of t) % o.servers
 
 -- THE RULES
 
-abbrev pub rule : Options → Entry → Coloured → Act → Bool
+abbrev pub rule : Options → EntryView → Coloured → Act → Bool
 -- a new object of the entry's thread comes to be here
 rule o e s (act.Make p w) = is_none (object_at s p) && is_by e p.thread && (server_of w == e.server)
 -- w is p's word, and p lies here
@@ -141,5 +141,5 @@ rule o e s (act.Finish t) = is_by e t && not (t == 0) && not (is_over s t)
 rule o e s (act.Depart t there) = is_by e t && of_run o there && not (there == e.server)
 
 -- an act is allowed where its rule holds and the word that it issues is new
-abbrev pub allows : Options → Entry → Coloured → Act → Bool
+abbrev pub allows : Options → EntryView → Coloured → Act → Bool
 allows o e s a = is_new o s (issued_by a) && rule o e s a

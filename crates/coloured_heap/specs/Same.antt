@@ -8,7 +8,7 @@ use Rattle.fr_base.specs.declared.name.ObjNo.{ObjNo}
 use Rattle.fr_base.specs.declared.settings.Options.{Options}
 use Rattle.fr_base.specs.declared.step.Fresh.{Fresh}
 use Rattle.journal.specs.declared.act.Act.{Act}
-use Rattle.journal.specs.declared.entry.Entry.{Entry}
+use Rattle.journal.specs.View.{EntryView}
 use Rattle.coloured_heap.specs.Lists.{times}
 use Rattle.coloured_heap.specs.Heap.{Copied, Wish, Coloured, object_at, copy_at, is_copy, is_issued, thread_at, same_wish, mutex_at}
 use Rattle.coloured_heap.specs.Rules.{allows}
@@ -48,17 +48,17 @@ pub record SameIsEquivalence : Type 0 where
 -- what the same states have in common
 pub record SameStates : Type 0 where
   -- they allow the same places, acts and new names
-  pub places : (o : Options) (e : Entry) (s t : Coloured) → Same s t → is_placed o s e ≡ is_placed o t e
-  pub rules : (o : Options) (e : Entry) (a : Act) (s t : Coloured) → Same s t → allows o e s a ≡ allows o e t a
+  pub places : (o : Options) (e : EntryView) (s t : Coloured) → Same s t → is_placed o s e ≡ is_placed o t e
+  pub rules : (o : Options) (e : EntryView) (a : Act) (s t : Coloured) → Same s t → allows o e s a ≡ allows o e t a
   pub names : (here : ℕ) (names : Option Fresh) (s t : Coloured) → Same s t → is_new_name s here names ≡ is_new_name t here names
   -- after an act, stores and a new mutex they are the same again
-  pub acts : (e : Entry) (a : Act) (s t : Coloured) → Same s t → Same (after_act e s a) (after_act e t a)
+  pub acts : (e : EntryView) (a : Act) (s t : Coloured) → Same s t → Same (after_act e s a) (after_act e t a)
   pub stores : (ls : List Label) (s t : Coloured) → Same s t → Same (stored ls s) (stored ls t)
   pub mutexes : (names : Option Fresh) (s t : Coloured) → Same s t → Same (with_new_mutex names s) (with_new_mutex names t)
   -- so entries and journals are legal or not from both, lead to the same states, and reach what they load and store from both or
   -- from neither
-  pub entries : (o : Options) (e : Entry) (s t : Coloured) → Same s t → Alike (entry_after o s e) (entry_after o t e)
-  pub journals : (o : Options) (es : List Entry) (s t : Coloured) → Same s t → Alike (journal_from o s es) (journal_from o t es)
-  pub illegal : (o : Options) (es : List Entry) (at : ℕ) (s t : Coloured) → Same s t → illegal_from o s at es ≡ illegal_from o t at es
-  pub reached : (o : Options) (e : Entry) (s t : Coloured) → Same s t → is_reached o s e ≡ is_reached o t e
-  pub all_reached : (o : Options) (es : List Entry) (s t : Coloured) → Same s t → reached_from o s es ≡ reached_from o t es
+  pub entries : (o : Options) (e : EntryView) (s t : Coloured) → Same s t → Alike (entry_after o s e) (entry_after o t e)
+  pub journals : (o : Options) (es : List EntryView) (s t : Coloured) → Same s t → Alike (journal_from o s es) (journal_from o t es)
+  pub illegal : (o : Options) (es : List EntryView) (at : ℕ) (s t : Coloured) → Same s t → illegal_from o s at es ≡ illegal_from o t at es
+  pub reached : (o : Options) (e : EntryView) (s t : Coloured) → Same s t → is_reached o s e ≡ is_reached o t e
+  pub all_reached : (o : Options) (es : List EntryView) (s t : Coloured) → Same s t → reached_from o s es ≡ reached_from o t es

@@ -8,7 +8,7 @@ use Rattle.fr_base.specs.Kinds.{kind_number}
 use Rattle.global_addr.specs.Words.{server_of}
 use Rattle.journal.specs.declared.act.Act.{Act}
 use Rattle.journal.specs.declared.act.Act.TheVariants as act
-use Rattle.journal.specs.declared.entry.Entry.{Entry}
+use Rattle.journal.specs.View.{EntryView}
 
 -- a message's kind, and the server that it goes to
 pub record Sending : Type 0 where
@@ -53,17 +53,17 @@ abbrev pub counts : ℕ → Kind → Sending → Bool
 counts here k m = (kind_number m.kind == kind_number k) && leaves here m
 
 -- how many messages that pass the test the acts of a journal send; the test is told the entry's server
-abbrev pub sent_by : (ℕ → Sending → Bool) → List Entry → ℕ
-sent_by test es = tot (λ e. tot (λ m. one (test e.server m)) (sendings e.acts.items)) es
+abbrev pub sent_by : (ℕ → Sending → Bool) → List EntryView → ℕ
+sent_by test es = tot (λ e. tot (λ m. one (test e.server m)) (sendings e.acts)) es
 
 -- how many messages of that kind the acts send to other servers
-abbrev pub count : List Entry → Kind → ℕ
+abbrev pub count : List EntryView → Kind → ℕ
 count es k = sent_by (λ here. counts here k) es
 
 -- how many messages of all kinds they send to other servers
-abbrev pub messages : List Entry → ℕ
+abbrev pub messages : List EntryView → ℕ
 messages es = sent_by leaves es
 
 -- how many they send at all, to the entry's own server too
-abbrev pub all_messages : List Entry → ℕ
+abbrev pub all_messages : List EntryView → ℕ
 all_messages es = sent_by (λ here m. true) es

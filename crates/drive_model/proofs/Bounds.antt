@@ -4,7 +4,7 @@ use Rattle.std.specs.Prelude.{if◌then◌else◌, ◌%◌, ◌&&◌, nat_lt, mi
 use Rattle.rand_pcg.specs.Lcg.{Lcg}
 use Rattle.fr_base.specs.declared.instruction.Instr.{Instr}
 use Rattle.fr_base.specs.declared.settings.Options.{Options}
-use Rattle.journal.specs.declared.entry.Entry.{Entry}
+use Rattle.journal.specs.View.{EntryView}
 use Rattle.std.proofs.Math.Nat.{min-le_right}
 use Rattle.std.proofs.lemmas.Bool.Decides.{nat_tests}
 use Rattle.server_model.specs.declared.event.Event.{Event}
@@ -23,13 +23,13 @@ use Rattle.drive_model.specs.Laws.{JournalsBounded}
 abbrev AtMost : ℕ → Worked → Type 0
 AtMost n w = length w.entries ≤ n
 
-one_more : (n : ℕ) (e : Entry) (o : Option Worked) (w : Worked) → ((v : Worked) → o ≡ Some v → AtMost n v) → option_map (after_entry e) o ≡ Some w → AtMost (suc n) w
+one_more : (n : ℕ) (e : EntryView) (o : Option Worked) (w : Worked) → ((v : Worked) → o ≡ Some v → AtMost n v) → option_map (after_entry e) o ≡ Some w → AtMost (suc n) w
 one_more n e None w g h = absurd cc
 one_more n e (Some v) w g h =
     let same : after_entry e v ≡ w = cc in
     let less : length v.entries ≤ n = g v refl in subst (AtMost (suc n)) same (omega (arith, less))
 
-then_more : (n : ℕ) (go : Server → Lcg → Option Worked) (g : Lcg) (p : Option (Server × Entry)) (w : Worked)
+then_more : (n : ℕ) (go : Server → Lcg → Option Worked) (g : Lcg) (p : Option (Server × EntryView)) (w : Worked)
     → ((s : Server) (v : Worked) → go s g ≡ Some v → AtMost n v)
     → then_some p (λ e. option_map (after_entry e.1) (go e.0 g)) ≡ Some w → AtMost (suc n) w
 then_more n go g None w i h = absurd cc
@@ -94,28 +94,28 @@ round_bounded o r None x b g h = absurd cc
 round_bounded o r (Some v) x b g h = let same : after_round r v ≡ x = cc in subst (Bounded o) same (after_bounded o r v b (g v refl))
 
 -- an event keeps the options of its cluster
-options_by : (k : Cluster) (e : Event) (d : Cluster × Entry) (older : ℕ) (p : Option (Server × Entry))
+options_by : (k : Cluster) (e : Event) (d : Cluster × EntryView) (older : ℕ) (p : Option (Server × EntryView))
     → option_map (λ y. (record k { servers = hand_over_newer e.server older y.0 k.servers }, y.1)) p ≡ Some d → d.0.options ≡ k.options
 options_by k e d older None h = absurd cc
 options_by k e d older (Some y) h =
-    let same : (record k { servers = hand_over_newer e.server older y.0 k.servers }, y.1) ≡ d = cc in subst (λ (z : Cluster × Entry). z.0.options ≡ k.options) same refl
+    let same : (record k { servers = hand_over_newer e.server older y.0 k.servers }, y.1) ≡ d = cc in subst (λ (z : Cluster × EntryView). z.0.options ≡ k.options) same refl
 
-options_kept : (k : Cluster) (e : Event) (d : Cluster × Entry) → apply k e ≡ Some d → d.0.options ≡ k.options
+options_kept : (k : Cluster) (e : Event) (d : Cluster × EntryView) → apply k e ≡ Some d → d.0.options ≡ k.options
 options_kept k e d h = by (server_at k.servers e.server) h
   where
     by : (o : Option Server) → then_some o (λ s. option_map (λ y. (record k { servers = hand_over_newer e.server (length s.rest.outbox) y.0 k.servers }, y.1)) (done_at k e.what s)) ≡ Some d → d.0.options ≡ k.options
     by None g = absurd cc
     by (Some s) g = options_by k e d (length s.rest.outbox) (done_at k e.what s) g
 
-abbrev entered : Run → Cluster × Entry → Run
+abbrev entered : Run → Cluster × EntryView → Run
 entered r d = record r { cluster = d.0; journal = r.journal ++ d.1 ∷ [] }
 
-entered_bounded : (o : Options) (r : Run) (d : Cluster × Entry) → Bounded o r → d.0.options ≡ r.cluster.options → 1 ≤ events_left r → Bounded o (entered r d)
+entered_bounded : (o : Options) (r : Run) (d : Cluster × EntryView) → Bounded o r → d.0.options ≡ r.cluster.options → 1 ≤ events_left r → Bounded o (entered r d)
 entered_bounded o r d b k l =
     let turns : r.cluster.options.turns ≡ o.turns = ap (λ z. z.turns) b.options in
     record { options = k ∙ b.options; entries = omega (arith, b.entries, l, turns, length_append r.journal (d.1 ∷ [])) }
 
-shifted_by : (o : Options) (r : Run) (p : Option (Cluster × Entry)) (x : Run) → Bounded o r → ((d : Cluster × Entry) → p ≡ Some d → d.0.options ≡ r.cluster.options) → 1 ≤ events_left r
+shifted_by : (o : Options) (r : Run) (p : Option (Cluster × EntryView)) (x : Run) → Bounded o r → ((d : Cluster × EntryView) → p ≡ Some d → d.0.options ≡ r.cluster.options) → 1 ≤ events_left r
     → option_map (entered r) p ≡ Some x → Bounded o x
 shifted_by o r None x b k l h = absurd cc
 shifted_by o r (Some d) x b k l h = let same : entered r d ≡ x = cc in subst (Bounded o) same (entered_bounded o r d b (k d refl) l)

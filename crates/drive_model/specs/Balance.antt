@@ -1,11 +1,11 @@
 -- When a thread is moved to even out the loads of servers (this project's rule).
 use Rattle.std.specs.Prelude.{ℕ, ◌+◌, ◌&&◌, not, nat_lt, nat_le, Bool, if◌then◌else◌, List, [], ◌∷◌, Option, Some, None, option_map}
-use Rattle.thread_state.specs.View.{ThreadView}
+use Rattle.thread_state.specs.View.{ThreadState}
 use Rattle.server_model.specs.Servers.{Server}
 use Rattle.server_model.specs.Events.{is_ready}
 use Rattle.drive_model.specs.Ending.{is_over}
 
-abbrev pub active_in : List ThreadView → ℕ
+abbrev pub active_in : List ThreadState → ℕ
 active_in [] = 0
 active_in (t ∷ ts) = if is_over t.phase then active_in ts else 1 + active_in ts
 
@@ -13,7 +13,7 @@ active_in (t ∷ ts) = if is_over t.phase then active_in ts else 1 + active_in t
 abbrev pub active : Server → ℕ
 active s = active_in s.threads
 
-abbrev pub movable_in : List ThreadView → Option ℕ
+abbrev pub movable_in : List ThreadState → Option ℕ
 movable_in [] = None
 movable_in (t ∷ ts) = if is_ready t.phase && not t.moved_since_step then Some t.number else movable_in ts
 

@@ -5,7 +5,7 @@ use Rattle.rand_pcg.specs.Lcg.{Lcg, started, increment_of}
 use Rattle.rand_pcg.specs.Pcg.{multiplier_64, pcg32}
 use Rattle.fr_base.specs.declared.settings.Options.{Options}
 use Rattle.read_cache.specs.Cache.{oldest_unused}
-use Rattle.thread_state.specs.View.{ThreadView}
+use Rattle.thread_state.specs.View.{ThreadState}
 use Rattle.server_model.specs.declared.event.What.{What}
 use Rattle.server_model.specs.declared.event.What.TheVariants.{Step, Deliver, Evict}
 use Rattle.server_model.specs.Servers.{Server}
@@ -20,7 +20,7 @@ abbrev pub due : Options → Server → Option ℕ
 due o s = if nat_lt o.cache (length s.rest.cache) then oldest_unused s.rest.cache else None
 
 -- the threads that can step, by rising number
-abbrev pub runnable_in : List ThreadView → List ℕ
+abbrev pub runnable_in : List ThreadState → List ℕ
 runnable_in [] = []
 runnable_in (t ∷ ts) = if can_step t.phase then t.number ∷ runnable_in ts else runnable_in ts
 

@@ -5,7 +5,7 @@ use Rattle.fr_base.specs.declared.step.Wait.{Wait}
 use Rattle.fr_base.specs.declared.step.Wait.TheVariants as wait
 use Rattle.fr_base.specs.declared.step.Ending3.{Ending3}
 use Rattle.fr_base.specs.declared.step.Ending3.TheVariants.{Finished, Deadlocked, Going}
-use Rattle.thread_state.specs.View.{ThreadView}
+use Rattle.thread_state.specs.View.{ThreadState}
 use Rattle.thread_state.specs.declared.phase.Phase.{Phase}
 use Rattle.thread_state.specs.declared.phase.Phase.TheVariants as phase
 use Rattle.server_model.specs.Servers.{Server, Cluster}
@@ -27,7 +27,7 @@ add_wait t None ws = ws
 add_wait t (Some w) [] = (t, w) ∷ []
 add_wait t (Some w) (x ∷ xs) = if nat_lt t x.0 then (t, w) ∷ x ∷ xs else x ∷ add_wait t (Some w) xs
 
-abbrev pub waits_among : List ThreadView → List (ℕ × Wait) → List (ℕ × Wait)
+abbrev pub waits_among : List ThreadState → List (ℕ × Wait) → List (ℕ × Wait)
 waits_among [] ws = ws
 waits_among (t ∷ ts) ws = add_wait t.number (wait_of t.phase) (waits_among ts ws)
 
@@ -49,7 +49,7 @@ no_message [] = true
 no_message (s ∷ ss) = is_none s.rest.inbox && is_none s.rest.outbox && no_message ss
 
 -- each of the threads passes the test
-abbrev pub all_threads : (Phase → Bool) → List ThreadView → Bool
+abbrev pub all_threads : (Phase → Bool) → List ThreadState → Bool
 all_threads f [] = true
 all_threads f (t ∷ ts) = f t.phase && all_threads f ts
 

@@ -4,7 +4,7 @@ use Rattle.std.specs.Prelude.{ℕ, zero, suc, ◌+◌, ◌-◌, ◌%◌, ◌==�
 use Rattle.rand_pcg.specs.Lcg.{Lcg}
 use Rattle.fr_base.specs.declared.instruction.Instr.{Instr}
 use Rattle.fr_base.specs.declared.settings.Options.{Options}
-use Rattle.journal.specs.declared.entry.Entry.{Entry}
+use Rattle.journal.specs.View.{EntryView}
 use Rattle.server_model.specs.declared.event.What.TheVariants.{Migrate}
 use Rattle.server_model.specs.Servers.{Server, Cluster, start_of}
 use Rattle.server_model.specs.Work.{then_some}
@@ -18,7 +18,7 @@ use Rattle.drive_model.specs.Balance.{Shift, loads, balance}
 pub record Run : Type 0 where
   pub cluster : Cluster
   pub generators : List Lcg
-  pub journal : List Entry
+  pub journal : List EntryView
 
 abbrev pub generators_from : ℕ → ℕ → ℕ → List Lcg
 generators_from choice s zero = []
@@ -33,12 +33,12 @@ run_start code o = record { cluster = start_of code o; generators = generators_f
 pub record Worked : Type 0 where
   pub server : Server
   pub generator : Lcg
-  pub entries : List Entry
+  pub entries : List EntryView
 
 abbrev pub nothing_done : Server → Lcg → Worked
 nothing_done s g = record { server = s; generator = g; entries = [] }
 
-abbrev pub after_entry : Entry → Worked → Worked
+abbrev pub after_entry : EntryView → Worked → Worked
 after_entry e w = record w { entries = e ∷ w.entries }
 
 abbrev pub work_on : (Server → Lcg → Option Worked) → List Instr → Options → Server → Lcg → Option Drawn → Option Worked
@@ -56,7 +56,7 @@ work code o (suc n) s g = work_on (work code o n) code o s g (next o s g)
 pub record Round : Type 0 where
   pub servers : List Server
   pub generators : List Lcg
-  pub entries : List Entry
+  pub entries : List EntryView
 
 abbrev pub no_entries : List Server → List Lcg → Round
 no_entries ss gs = record { servers = ss; generators = gs; entries = [] }

@@ -9,7 +9,7 @@ use Rattle.fr_base.specs.declared.step.Ending3.{Ending3}
 use Rattle.fr_base.specs.declared.step.Ending3.TheVariants.{Finished, Deadlocked, Going}
 use Rattle.fr_base.specs.declared.step.Wait.{Wait}
 use Rattle.fr_base.specs.declared.step.Wait.TheVariants as wait
-use Rattle.journal.specs.declared.entry.Entry.{Entry}
+use Rattle.journal.specs.View.{EntryView}
 use Rattle.coloured_heap.specs.Sends.{messages, all_messages}
 use Rattle.server_model.specs.Figures.{Figures, idle, figures_of}
 use Rattle.server_model.specs.Programs.{place, number, captures, dropped, over, joined, with_servers, written_box, read_elsewhere, written_elsewhere, read_by_pairs, read_two, locked_twice}
@@ -18,7 +18,7 @@ use Rattle.drive_model.specs.Balance.{balance}
 use Rattle.drive_model.specs.Rounds.{Run, rounds}
 
 -- the most messages that the acts of one entry send
-abbrev pub most_sent : List Entry → ℕ
+abbrev pub most_sent : List EntryView → ℕ
 most_sent [] = 0
 most_sent (e ∷ es) = max (all_messages (e ∷ [])) (most_sent es)
 

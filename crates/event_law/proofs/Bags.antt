@@ -2,11 +2,11 @@
 use Rattle.std.proofs.Common.{◌≡◌, ℕ, ◌+◌, ◌==◌, Bool, true, false, if◌then◌else◌, List, [], ◌∷◌, ◌++◌, length, Some, refl, sym, ap, subst, ◌∙◌, arith}
 use Rattle.std.specs.Prelude.{slice_get, remove}
 use Rattle.fr_typing.proofs.PlaceLemmas.{eq_cases}
-use Rattle.owner_box.specs.View.{PartitionView}
+use Rattle.owner_box.specs.View.{PartitionState}
 use Rattle.read_cache.specs.Cache.{Copy}
 use Rattle.mutex_home.specs.Mutexes.{Mutexes}
 use Rattle.join_home.specs.Tasks.{Task}
-use Rattle.thread_state.specs.View.{ThreadView}
+use Rattle.thread_state.specs.View.{ThreadState}
 use Rattle.server_msgs.specs.declared.message.Message.{Message}
 use Rattle.server_model.specs.Servers.{Sent, Rest, Server}
 use Rattle.server_model.specs.Work.{Work, Hand, Site, sent_from, receive, thread_in, without_thread, set_thread}
@@ -27,11 +27,11 @@ body_things n r =
 abbrev pub rest_things : ℕ → ℕ → Rest → List Thing
 rest_things n e r = counts_of n e r ∷ body_things n r
 
-abbrev pub all_standing : ℕ → List ThreadView → List Thing
+abbrev pub all_standing : ℕ → List ThreadState → List Thing
 all_standing n ts = things_at (standing_things n) 0 ts
 
 -- what a thread has, but for itself
-abbrev pub had_by : ℕ → ThreadView → List Thing
+abbrev pub had_by : ℕ → ThreadState → List Thing
 had_by n t = gift_things t.number t.gift ++ things_at (walk_things n) 0 t.walk ++ things_at (slot_things n t.number) 0 t.slots ++ things_at (temp_things n t.number) 0 t.temps
 
 -- K holds with what there is beside
@@ -71,7 +71,7 @@ module _ (n e : ℕ) (r : Rest) where
   abbrev O : List Thing
   O = things_at leaving_things 0 r.outbox
 
-  pub of_partition : (p : PartitionView) {olds news : List Thing} → Trade P olds news (partition_things n p) → Trade (rest_things n e r) (counts_of n e r ∷ olds) (counts_of n e (record r { partition = p }) ∷ news) (rest_things n e (record r { partition = p }))
+  pub of_partition : (p : PartitionState) {olds news : List Thing} → Trade P olds news (partition_things n p) → Trade (rest_things n e r) (counts_of n e r ∷ olds) (counts_of n e (record r { partition = p }) ∷ news) (rest_things n e (record r { partition = p }))
   of_partition p t =
       let u = trade_right O (trade_right I (trade_right T (trade_right M (trade_right C t)))) in
       record { rest = u.rest; before = λ f. omega (arith, u.before f); after = λ f. omega (arith, u.after f) }
@@ -114,19 +114,19 @@ sent_number r target m = by (target == r.number)
 
 -- THREADS
 
-pub thread_number : (xs : List ThreadView) (n : ℕ) (x : ThreadView) → thread_in xs n ≡ Some x → x.number ≡ n
+pub thread_number : (xs : List ThreadState) (n : ℕ) (x : ThreadState) → thread_in xs n ≡ Some x → x.number ≡ n
 thread_number [] n x h = cc
 thread_number (z ∷ xs) n x h =
     eq_cases (λ b. (if b then Some z else thread_in xs n) ≡ Some x → x.number ≡ n) z.number n
-    (λ e g. let same : z ≡ x = cc in subst (λ (y : ThreadView). y.number ≡ n) same e)
+    (λ e g. let same : z ≡ x = cc in subst (λ (y : ThreadState). y.number ≡ n) same e)
     (λ ne g. thread_number xs n x g) h
 
 module _ (n : ℕ) (f : Thing → ℕ) where
-  front : (x : ThreadView) (xs : List ThreadView) → tot f (all_standing n (x ∷ xs)) ≡ tot f (thread_things n false x) + tot f (all_standing n xs)
+  front : (x : ThreadState) (xs : List ThreadState) → tot f (all_standing n (x ∷ xs)) ≡ tot f (thread_things n false x) + tot f (all_standing n xs)
   front x xs = tot-front (thread_things n false) f 0 x xs
 
   -- a thread comes into the hand
-  pub tot-without : (xs : List ThreadView) (t : ℕ) (x : ThreadView) → thread_in xs t ≡ Some x → tot f (all_standing n xs) ≡ tot f (thread_things n false x) + tot f (all_standing n (without_thread xs t))
+  pub tot-without : (xs : List ThreadState) (t : ℕ) (x : ThreadState) → thread_in xs t ≡ Some x → tot f (all_standing n xs) ≡ tot f (thread_things n false x) + tot f (all_standing n (without_thread xs t))
   tot-without [] t x h = cc
   tot-without (z ∷ xs) t x h =
       eq_cases (λ b. (if b then Some z else thread_in xs t) ≡ Some x → tot f (all_standing n (z ∷ xs)) ≡ tot f (thread_things n false x) + tot f (all_standing n (if b then xs else z ∷ without_thread xs t))) z.number t
@@ -134,7 +134,7 @@ module _ (n : ℕ) (f : Thing → ℕ) where
       (λ ne h2. omega (arith, front z xs, front z (without_thread xs t), tot-without xs t x h2)) h
 
   -- it is put where it stood
-  pub tot-set : (xs : List ThreadView) (t : ℕ) (x new : ThreadView) → thread_in xs t ≡ Some x → new.number ≡ t → tot f (all_standing n (set_thread xs new)) ≡ tot f (thread_things n false new) + tot f (all_standing n (without_thread xs t))
+  pub tot-set : (xs : List ThreadState) (t : ℕ) (x new : ThreadState) → thread_in xs t ≡ Some x → new.number ≡ t → tot f (all_standing n (set_thread xs new)) ≡ tot f (thread_things n false new) + tot f (all_standing n (without_thread xs t))
   tot-set [] t x new h q = cc
   tot-set (z ∷ xs) t x new h q = by (z.number == t) (ap (λ i. z.number == i) q) h (tot-set xs t x new)
     where
@@ -145,7 +145,7 @@ module _ (n : ℕ) (f : Thing → ℕ) where
       by false g h2 go = rw g (omega (arith, front z (set_thread xs new), front z (without_thread xs t), go h2 q))
 
 -- the thread changes, and what it has trades
-pub of_thread : (n : ℕ) (t t2 : ThreadView) {olds news : List Thing} → Trade (had_by n t) olds news (had_by n t2) → Trade (thread_things n false t) (stands n false t ∷ olds) (stands n false t2 ∷ news) (thread_things n false t2)
+pub of_thread : (n : ℕ) (t t2 : ThreadState) {olds news : List Thing} → Trade (had_by n t) olds news (had_by n t2) → Trade (thread_things n false t) (stands n false t ∷ olds) (stands n false t2 ∷ news) (thread_things n false t2)
 of_thread n t t2 u = record { rest = u.rest; before = λ f. omega (arith, u.before f); after = λ f. omega (arith, u.after f) }
 
 -- a server's things are those of its threads and of its rest

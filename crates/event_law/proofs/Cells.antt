@@ -5,7 +5,7 @@ use Rattle.std.proofs.lemmas.Bool.{eq-eqb}
 use Rattle.fr_typing.proofs.PlaceLemmas.{eq_cases}
 use Rattle.global_addr.specs.Words.{colour_of, address_of}
 use Rattle.heap_partition.specs.declared.value.Cell.{Cell}
-use Rattle.owner_box.specs.View.{PartitionView}
+use Rattle.owner_box.specs.View.{PartitionState}
 use Rattle.owner_box.specs.Partition.{freed, cell_of}
 use Rattle.server_model.specs.Work.{look, leads_here}
 use Rattle.heap_law.specs.Names.{tot, one}
@@ -23,7 +23,7 @@ indexed [] a c h = cc
 indexed (x ∷ xs) zero c h = cc
 indexed (x ∷ xs) (suc a) c h = indexed xs a c h
 
-pub looked : (p : PartitionView) (w : ℕ) (c : Cell) → look p w ≡ Some c → slice_get p.cells (address_of w) ≡ Some (Some c)
+pub looked : (p : PartitionState) (w : ℕ) (c : Cell) → look p w ≡ Some c → slice_get p.cells (address_of w) ≡ Some (Some c)
 looked p w c h = by (leads_here p w) h
   where
     by : (b : Bool) → (if b then cell_of p w else None) ≡ Some c → slice_get p.cells (address_of w) ≡ Some (Some c)
@@ -62,7 +62,7 @@ vacates s n a free c i (x ∷ xs) (suc k) e h f =
     let same : tot f (cell_things s ((a, n) ∷ free) i x) ≡ tot f (cell_things s free i x) = ap (tot f) (cell_beside s a n i free x (omega arith)) in
     omega (arith, go, same, tot-append f (cell_things s free i x) (things_at (cell_things s free) (i + 1) xs), tot-append f (cell_things s ((a, n) ∷ free) i x) (things_at (cell_things s ((a, n) ∷ free)) (i + 1) (slice_set xs k None)))
 
-frees_by : (s : ℕ) (p : PartitionView) (a next : ℕ) (c : Cell) (b : Bool) → slice_get p.cells a ≡ Some (Some c) → is_free a p.free ≡ false
+frees_by : (s : ℕ) (p : PartitionState) (a next : ℕ) (c : Cell) (b : Bool) → slice_get p.cells a ≡ Some (Some c) → is_free a p.free ≡ false
     → Trade (partition_things s p) (lies s a c ∷ []) ((if b then vacant s a next else retired s a) ∷ [])
     (things_at (cell_things s (if b then (a, next) ∷ p.free else p.free)) 0 (slice_set p.cells a None) ++ things_at (free_things s) 0 (if b then (a, next) ∷ p.free else p.free))
 frees_by s p a next c true h e =
@@ -78,7 +78,7 @@ frees_by s p a next c false h e =
     (subst (λ n. Trade (cell_things s p.free n (Some c)) (lies s a c ∷ []) (retired s a ∷ []) (cell_things s p.free n None)) (omega arith) whole))
 
 -- an object leaves
-pub frees : (s : ℕ) (p : PartitionView) (w : ℕ) (c : Cell) → slice_get p.cells (address_of w) ≡ Some (Some c) → is_free (address_of w) p.free ≡ false
+pub frees : (s : ℕ) (p : PartitionState) (w : ℕ) (c : Cell) → slice_get p.cells (address_of w) ≡ Some (Some c) → is_free (address_of w) p.free ≡ false
     → Trade (partition_things s p) (lies s (address_of w) c ∷ []) (left_by s p.limit w ∷ []) (partition_things s (freed p w))
 frees s p w c h e = frees_by s p (address_of w) (colour_of w + 1) c (nat_lt (colour_of w + 1) p.limit) h e
 
@@ -103,7 +103,7 @@ self_state s a = by (s == s) (a == a) (eq-eqb s s refl) (eq-eqb a a refl)
     by false q e h = cc
 
 -- an address where an object lies isn't free, where it has one state
-pub not_free : (s : ℕ) (p : PartitionView) (a : ℕ) (c : Cell) → slice_get p.cells a ≡ Some (Some c) → tot (states (s, a)) (partition_things s p) ≤ 1 → is_free a p.free ≡ false
+pub not_free : (s : ℕ) (p : PartitionState) (a : ℕ) (c : Cell) → slice_get p.cells a ≡ Some (Some c) → tot (states (s, a)) (partition_things s p) ≤ 1 → is_free a p.free ≡ false
 not_free s p a c h l = by (is_free a p.free) refl
   where
     by : (b : Bool) → is_free a p.free ≡ b → b ≡ false

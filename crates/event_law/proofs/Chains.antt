@@ -1,7 +1,7 @@
 -- What is kept in the middle of an event, whatever it is: by a trade of the rest of the server, of the thread in the hand and of what there is beside.
 use Rattle.std.proofs.Common.{◌≡◌, ℕ, true, false, List, [], ◌∷◌, ◌++◌, Option, Some, None, refl, sym, subst, ◌∙◌, arith}
 use Rattle.std.specs.Prelude.{option_map}
-use Rattle.thread_state.specs.View.{ThreadView}
+use Rattle.thread_state.specs.View.{ThreadState}
 use Rattle.thread_state.specs.declared.phase.Phase.{Phase}
 use Rattle.server_msgs.specs.declared.message.Message.{Message}
 use Rattle.server_model.specs.Work.{Work, Hand, Site, send, working, put_back, at_thread, beside_threads, thread_in, without_thread, set_thread, with_phase, then_some}
@@ -65,7 +65,7 @@ module _ {K : List Thing → Type 0} (k : Kept K) (n e : ℕ) where
     }
 
     -- and the thread comes back to the hand
-    pub to_hand : (others : List Thing) (w : Work) (x : ThreadView) → x.number ≡ t → WorkOk K n e (thread_things n false x ++ others) w → HandOk K n e t others (record { work = w; thread = x })
+    pub to_hand : (others : List Thing) (w : Work) (x : ThreadState) → x.number ≡ t → WorkOk K n e (thread_things n false x ++ others) w → HandOk K n e t others (record { work = w; thread = x })
     to_hand others w x named g = record {
       number = g.number;
       thread = named;
@@ -73,7 +73,7 @@ module _ {K : List Thing → Type 0} (k : Kept K) (n e : ℕ) where
     }
 
     -- the thread changes, and not what it has
-    pub thread_changes : (others : List Thing) (h : Hand) (t2 : ThreadView) → t2.number ≡ h.thread.number → Same (had_by n h.thread) (had_by n t2) → HandOk K n e t others h → HandOk K n e t others (record h { thread = t2 })
+    pub thread_changes : (others : List Thing) (h : Hand) (t2 : ThreadState) → t2.number ≡ h.thread.number → Same (had_by n h.thread) (had_by n t2) → HandOk K n e t others h → HandOk K n e t others (record h { thread = t2 })
     thread_changes others h t2 named same g =
         let stays : Trade (had_by n h.thread) [] [] (had_by n t2) = record { rest = had_by n h.thread; before = λ f. omega arith; after = λ f. omega (arith, sym (same f)) } in
         hand_trades h (record h { thread = t2 }) refl named (of_thread n h.thread t2 stays)
@@ -95,7 +95,7 @@ module _ {K : List Thing → Type 0} (k : Kept K) (n e : ℕ) where
   site_trades others others2 x u r g = record { number = g.number; bag = k.trades (trade_left (all_standing n x.threads) (trade_left (rest_things n e x.work.rest) u)) r g.bag }
 
   -- a thread comes into the hand
-  pub takes : (others : List Thing) (t : ℕ) (x : Site) (y : ThreadView) → thread_in x.threads t ≡ Some y → SiteOk K n e others x → HandOk K n e t (all_standing n (without_thread x.threads t) ++ others) (record { work = x.work; thread = y })
+  pub takes : (others : List Thing) (t : ℕ) (x : Site) (y : ThreadState) → thread_in x.threads t ≡ Some y → SiteOk K n e others x → HandOk K n e t (all_standing n (without_thread x.threads t) ++ others) (record { work = x.work; thread = y })
   takes others t x y q g = record {
     number = g.number;
     thread = thread_number x.threads t y q;
@@ -113,7 +113,7 @@ module _ {K : List Thing → Type 0} (k : Kept K) (n e : ℕ) where
   }
 
   -- it is put where it stood
-  pub puts_back : (others : List Thing) (t : ℕ) (xs : List ThreadView) (y : ThreadView) → thread_in xs t ≡ Some y → (h : Hand) → HandOk K n e t (all_standing n (without_thread xs t) ++ others) h → SiteOk K n e others (put_back xs h)
+  pub puts_back : (others : List Thing) (t : ℕ) (xs : List ThreadState) (y : ThreadState) → thread_in xs t ≡ Some y → (h : Hand) → HandOk K n e t (all_standing n (without_thread xs t) ++ others) h → SiteOk K n e others (put_back xs h)
   puts_back others t xs y q h u = record {
     number = u.number;
     bag = k.same _ _ (λ f.
@@ -133,7 +133,7 @@ module _ {K : List Thing → Type 0} (k : Kept K) (n e : ℕ) where
       → ((h : Hand) → (b : List Thing) → HandOk K n e t (b ++ others) h → Gives (HandOk K n e t (b ++ others2)) (f h)) → SiteOk K n e others x → Gives (SiteOk K n e others2) (at_thread t f x)
   at_thread_keeps others others2 t f x go g = by (thread_in x.threads t) refl
     where
-      by : (o : Option ThreadView) → thread_in x.threads t ≡ o → Gives (SiteOk K n e others2) (then_some (option_map (λ y. record { work = x.work; thread = y }) o) (λ h. option_map (put_back x.threads) (f h)))
+      by : (o : Option ThreadState) → thread_in x.threads t ≡ o → Gives (SiteOk K n e others2) (then_some (option_map (λ y. record { work = x.work; thread = y }) o) (λ h. option_map (put_back x.threads) (f h)))
       by None q = tt
       by (Some y) q =
           let b = all_standing n (without_thread x.threads t) in

@@ -7,7 +7,7 @@ use Rattle.fr_base.specs.declared.settings.Options.{Options}
 use Rattle.fr_base.specs.declared.step.Fresh.{Fresh}
 use Rattle.read_cache.specs.Cache.{Copy, copy_of, users, is_cached, can_evict, without_copy}
 use Rattle.server_msgs.specs.declared.message.Message.{Message}
-use Rattle.journal.specs.declared.entry.Entry.{Entry}
+use Rattle.journal.specs.View.{EntryView}
 use Rattle.server_model.specs.declared.event.Event.{Event}
 use Rattle.server_model.specs.declared.event.What.TheVariants.{Deliver, Evict}
 use Rattle.server_model.specs.Servers.{Server, Cluster, server_at}
@@ -44,7 +44,7 @@ tot-server f (x ∷ ss) n s new h =
 
 module _ {K : List Thing → Type 0} (k : Kept K) where
   -- kept at its server, whatever there is beside
-  abbrev pub Left : List Thing → Server × Entry → Type 0
+  abbrev pub Left : List Thing → Server × EntryView → Type 0
   Left others r = K (server_things r.0 ++ others)
 
   -- an event begins

@@ -2,9 +2,9 @@
 use Rattle.std.proofs.Common.{◌≡◌, ℕ, List, ◌++◌, Option, Some, None, refl, subst}
 use Rattle.std.specs.Prelude.{slice_get, option_map}
 use Rattle.fr_base.specs.declared.instruction.Instr.{Instr}
-use Rattle.thread_state.specs.View.{ThreadView}
+use Rattle.thread_state.specs.View.{ThreadState}
 use Rattle.server_msgs.specs.declared.message.Message.{Message}
-use Rattle.journal.specs.declared.entry.Entry.{Entry}
+use Rattle.journal.specs.View.{EntryView}
 use Rattle.server_model.specs.declared.event.What.{What}
 use Rattle.server_model.specs.declared.event.What.TheVariants.{Step, Deliver, Evict, Migrate}
 use Rattle.server_model.specs.Servers.{Server, Cluster}
@@ -30,7 +30,7 @@ proved_as : (a b : Kind) → Some a ≡ Some b → IsProvedKind b → IsProvedKi
 proved_as a b q p = subst IsProvedKind (some_same q) p
 
 module _ (c : Cluster) (others : List Thing) (s : Server) (g : Sums (server_things s ++ others)) (kind : Kind) (p : IsProvedKind kind) where
-  stepping : (t : ℕ) → kind_at c (Step t) s ≡ Some kind → (x : ThreadView) (i : Instr) → thread_in s.threads t ≡ Some x → slice_get c.code x.pc ≡ Some i → IsProvedKind (instr_kind i)
+  stepping : (t : ℕ) → kind_at c (Step t) s ≡ Some kind → (x : ThreadState) (i : Instr) → thread_in s.threads t ≡ Some x → slice_get c.code x.pc ≡ Some i → IsProvedKind (instr_kind i)
   stepping t q x i h r =
       let a : option_map instr_kind (slice_get c.code x.pc) ≡ Some kind = subst (λ y. then_some y (λ z. option_map instr_kind (slice_get c.code z.pc)) ≡ Some kind) h q in
       let b : Some (instr_kind i) ≡ Some kind = subst (λ y. option_map instr_kind y ≡ Some kind) r a in
@@ -55,7 +55,7 @@ proved_leave kind p c e q b =
 
 -- and each part of them
 pub part_leaves : (kind : Kind) → IsProvedKind kind → (Part : Cluster → Type 0) → ((c : Cluster) → Sums (things_of c) → Part c) → Leaves kind Part
-part_leaves kind p Part has c e q b = weaker (λ (d : Cluster × Entry). Sums (things_of d.0)) (λ (d : Cluster × Entry). Part d.0) (act_at c e) (proved_leave kind p c e q b) (λ d g. has d.0 g)
+part_leaves kind p Part has c e q b = weaker (λ (d : Cluster × EntryView). Sums (things_of d.0)) (λ (d : Cluster × EntryView). Part d.0) (act_at c e) (proved_leave kind p c e q b) (λ d g. has d.0 g)
 
 -- PART BY PART
 

@@ -7,7 +7,7 @@ use Rattle.fr_base.specs.declared.place.Lval.{Lval}
 use Rattle.fr_store.proofs.Keys.{object_cases}
 use Rattle.fr_base.specs.Names.{same_object}
 use Rattle.heap_partition.specs.declared.value.Cell.{Cell}
-use Rattle.owner_box.specs.View.{PartitionView}
+use Rattle.owner_box.specs.View.{PartitionState}
 use Rattle.owner_box.specs.Partition.{freed, made, new_word}
 use Rattle.read_cache.specs.Cache.{can_fill, fill}
 use Rattle.thread_state.specs.declared.phase.Phase.TheVariants as phase
@@ -33,7 +33,7 @@ use Rattle.event_law.proofs.Uses.{fills_keep, gives_up, uses_word, on_work}
 use Rattle.event_law.proofs.Pointers.{sets_pointer}
 
 -- the object that is looked for lies there
-pub looked_object : (p : PartitionView) (w : ℕ) (o : ObjNo) (c : Cell) → look_object p w o ≡ Some c → (look p w ≡ Some c) × (c.object ≡ o)
+pub looked_object : (p : PartitionState) (w : ℕ) (o : ObjNo) (c : Cell) → look_object p w o ≡ Some c → (look p w ≡ Some c) × (c.object ≡ o)
 looked_object p w o c q = by (look p w) refl q
   where
     by : (x : Option Cell) → look p w ≡ x → then_some x (λ d. if same_object d.object o then Some d else None) ≡ Some c → (look p w ≡ Some c) × (c.object ≡ o)

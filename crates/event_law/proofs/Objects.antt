@@ -7,7 +7,7 @@ use Rattle.fr_typing.proofs.PlaceLemmas.{eq_cases}
 use Rattle.global_addr.specs.Words.{colour_of, address_of}
 use Rattle.heap_partition.specs.declared.value.Cell.{Cell}
 use Rattle.colour_retire.specs.Colours.{picked, rest_of}
-use Rattle.owner_box.specs.View.{PartitionView}
+use Rattle.owner_box.specs.View.{PartitionState}
 use Rattle.owner_box.specs.Partition.{put_cell, made, freed}
 use Rattle.server_model.specs.Servers.{Rest}
 use Rattle.server_model.specs.Work.{Work, look, with_partition}
@@ -47,7 +47,7 @@ within (x ∷ xs) zero v e = omega arith
 within (x ∷ xs) (suc n) v e = let l = within xs n v e in omega (arith, l)
 
 -- at an address that is free
-pub makes_at : (s : ℕ) (p : PartitionView) (pair : ℕ × ℕ) (rest : List (ℕ × ℕ)) (c : Cell) → slice_get p.cells pair.0 ≡ Some None
+pub makes_at : (s : ℕ) (p : PartitionState) (pair : ℕ × ℕ) (rest : List (ℕ × ℕ)) (c : Cell) → slice_get p.cells pair.0 ≡ Some None
     → Trade (things_at (cell_things s (pair ∷ rest)) 0 p.cells ++ things_at (free_things s) 0 (pair ∷ rest)) (vacant s pair.0 pair.1 ∷ []) (lies s pair.0 c ∷ [])
     (things_at (cell_things s rest) 0 (put_cell p.cells pair.0 c) ++ things_at (free_things s) 0 rest)
 makes_at s p pair rest c e =
@@ -66,7 +66,7 @@ makes_at s p pair rest c e =
     })
 
 -- at the next one
-pub makes_next : (s : ℕ) (p : PartitionView) (c : Cell)
+pub makes_next : (s : ℕ) (p : PartitionState) (c : Cell)
     → Trade (things_at (cell_things s []) 0 p.cells ++ []) [] (lies s (length p.cells) c ∷ []) (things_at (cell_things s []) 0 (put_cell p.cells (length p.cells) c) ++ [])
 makes_next s p c =
     let n = length p.cells in
@@ -93,7 +93,7 @@ got (x ∷ cs) (suc a) l none = got cs a (omega arith) none
 
 -- ONE MORE OBJECT
 
-pub makes : (s : ℕ) (p : PartitionView) (c : Cell) (fl : List (ℕ × ℕ)) → ((pair : ℕ × ℕ) (rest : List (ℕ × ℕ)) → fl ≡ pair ∷ rest → slice_get p.cells pair.0 ≡ Some None)
+pub makes : (s : ℕ) (p : PartitionState) (c : Cell) (fl : List (ℕ × ℕ)) → ((pair : ℕ × ℕ) (rest : List (ℕ × ℕ)) → fl ≡ pair ∷ rest → slice_get p.cells pair.0 ≡ Some None)
     → Trade (things_at (cell_things s fl) 0 p.cells ++ things_at (free_things s) 0 fl) (taken_place s fl) (lies s (picked fl (length p.cells)).0 c ∷ [])
     (things_at (cell_things s (rest_of fl)) 0 (put_cell p.cells (picked fl (length p.cells)).0 c) ++ things_at (free_things s) 0 (rest_of fl))
 makes s p c [] h = makes_next s p c

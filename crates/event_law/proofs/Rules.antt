@@ -10,7 +10,7 @@ use Rattle.heap_partition.specs.declared.value.Owned.TheVariants as owned
 use Rattle.read_cache.specs.Cache.{Copy}
 use Rattle.mutex_home.specs.Mutexes.{Mutex}
 use Rattle.join_home.specs.Tasks.{Task}
-use Rattle.thread_state.specs.View.{ThreadView}
+use Rattle.thread_state.specs.View.{ThreadState}
 use Rattle.thread_state.specs.declared.value.Value.{Value}
 use Rattle.server_msgs.specs.declared.message.Message.{Message}
 use Rattle.server_msgs.specs.declared.message.Message.TheVariants as message
@@ -81,7 +81,7 @@ pub data Rule : List Thing → List Thing → Type 0 where
   -- MESSAGES, THREADS, MUTEXES, COUNTS
   sends : (t : ℕ) (m : Message) → is_plain m ≡ true → Rule [] (sent t m ∷ [])
   receives : (t : ℕ) (m : Message) → is_plain m ≡ true → Rule (sent t m ∷ []) []
-  changes : (s : ℕ) (packed : Bool) (t t2 : ThreadView) → t2.number ≡ t.number → Rule (stands s packed t ∷ []) (stands s packed t2 ∷ [])
+  changes : (s : ℕ) (packed : Bool) (t t2 : ThreadState) → t2.number ≡ t.number → Rule (stands s packed t ∷ []) (stands s packed t2 ∷ [])
   turns_mutex : (s : ℕ) (m m2 : Mutex) → m2.number ≡ m.number → m2.shares ≡ m.shares → Rule (at_home s m ∷ []) (at_home s m2 ∷ [])
   queues : (m : MutexNo) (s t : ℕ) → Rule [] (queued m s t ∷ [])
   dequeues : (m : MutexNo) (s t : ℕ) → Rule (queued m s t ∷ []) []
@@ -101,7 +101,7 @@ pub data Rule : List Thing → List Thing → Type 0 where
   lets_task : (r t : ℕ) → Rule (sent r (message.Release (released.Task t)) ∷ []) []
   notes : (s : ℕ) (t : Task) → Rule [] (noted s t ∷ [])
   unnotes : (s : ℕ) (t : Task) → Rule (noted s t ∷ []) []
-  packs : (s r : ℕ) (p q : Bool) (t t2 : ThreadView) → t2.number ≡ t.number → Rule (stands s p t ∷ []) (stands r q t2 ∷ [])
+  packs : (s r : ℕ) (p q : Bool) (t t2 : ThreadState) → t2.number ≡ t.number → Rule (stands s p t ∷ []) (stands r q t2 ∷ [])
 
 -- each address has at most one state, and each number at most one server
 pub record Placed (b : List Thing) : Type 0 where

@@ -6,7 +6,7 @@ use Rattle.heap_partition.specs.declared.value.Owned.{Owned}
 use Rattle.mut_borrow.specs.declared.shared.SharedRef.{SharedRef}
 use Rattle.mutex_home.specs.Mutexes.{Mutex}
 use Rattle.join_home.specs.Tasks.{Task, TaskState, kept}
-use Rattle.thread_state.specs.View.{ThreadView}
+use Rattle.thread_state.specs.View.{ThreadState}
 use Rattle.thread_state.specs.declared.value.Value.{Value}
 use Rattle.thread_state.specs.declared.value.Value.TheVariants as value
 use Rattle.server_msgs.specs.declared.message.Message.{Message}
@@ -52,7 +52,7 @@ module _ (r : ℕ) where
   gift_none t None = refl
   gift_none t (Some v) = refl
 
-  thread_none : (s : ℕ) (p : Bool) (t : ThreadView) → tot f (thread_things s p t) ≡ 0
+  thread_none : (s : ℕ) (p : Bool) (t : ThreadState) → tot f (thread_things s p t) ≡ 0
   thread_none s p t =
       let g = gift_things t.number t.gift in
       let w = things_at (walk_things s) 0 t.walk in

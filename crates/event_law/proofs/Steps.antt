@@ -3,7 +3,7 @@ use Rattle.std.proofs.Common.{◌≡◌, ℕ, List, ◌++◌, Option, Some, None
 use Rattle.std.specs.Prelude.{slice_get, option_map}
 use Rattle.fr_base.specs.declared.instruction.Instr.{Instr}
 use Rattle.fr_base.specs.declared.settings.Options.{Options}
-use Rattle.thread_state.specs.View.{ThreadView}
+use Rattle.thread_state.specs.View.{ThreadState}
 use Rattle.server_model.specs.declared.event.What.TheVariants.{Step}
 use Rattle.server_model.specs.Servers.{Server}
 use Rattle.server_model.specs.Work.{Hand, put_back, thread_in, without_thread, then_some}
@@ -47,11 +47,11 @@ module _ {K : List Thing → Type 0} (k : Kept K) (n e t : ℕ) (others : List T
   step_keeps servers i h l g = prepared_keeps servers i (prepare (access_of i h.thread) h) l (prepares k n e t others (access_of i h.thread) h g)
 
 module _ {K : List Thing → Type 0} (k : Kept K) where
-  pub steps_keep : (code : List Instr) (o : Options) (others : List Thing) (s : Server) (t : ℕ) → ((x : ThreadView) (i : Instr) → thread_in s.threads t ≡ Some x → slice_get code x.pc ≡ Some i → IsProvedKind (instr_kind i))
+  pub steps_keep : (code : List Instr) (o : Options) (others : List Thing) (s : Server) (t : ℕ) → ((x : ThreadState) (i : Instr) → thread_in s.threads t ≡ Some x → slice_get code x.pc ≡ Some i → IsProvedKind (instr_kind i))
       → K (server_things s ++ others) → Gives (Left k others) (does code o s (Step t))
   steps_keep code o others s t proved g = by (thread_in s.threads t) refl
     where
-      by : (x : Option ThreadView) → thread_in s.threads t ≡ x → Gives (Left k others) (option_map (stepped s) (then_some (option_map (λ y. record { work = begin_work s.rest; thread = y }) x) (step_in code o.servers)))
+      by : (x : Option ThreadState) → thread_in s.threads t ≡ x → Gives (Left k others) (option_map (stepped s) (then_some (option_map (λ y. record { work = begin_work s.rest; thread = y }) x) (step_in code o.servers)))
       by None q = tt
       by (Some y) q =
           let n = s.rest.number in

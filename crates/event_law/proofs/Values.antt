@@ -5,9 +5,9 @@ use Rattle.global_addr.specs.Words.{address_of}
 use Rattle.heap_partition.specs.declared.value.Cell.{Cell}
 use Rattle.heap_partition.specs.declared.value.Owned.{Owned}
 use Rattle.heap_partition.specs.declared.value.Owned.TheVariants as owned
-use Rattle.owner_box.specs.View.{PartitionView}
+use Rattle.owner_box.specs.View.{PartitionState}
 use Rattle.owner_box.specs.Partition.{stored, cell_of, with_value}
-use Rattle.thread_state.specs.View.{ThreadView}
+use Rattle.thread_state.specs.View.{ThreadState}
 use Rattle.thread_state.specs.declared.value.Value.{Value}
 use Rattle.thread_state.specs.declared.value.Value.TheVariants as value
 use Rattle.server_model.specs.Work.{Hand, with_partition, working, with_slots, with_temps, push_slot, push_temp, last_of, front_of, look, leads_here}
@@ -64,7 +64,7 @@ module _ {X : Type 0} (g : ℕ → X → List Thing) where
 
 -- A THREAD'S LISTS
 
-module _ (n : ℕ) (t : ThreadView) where
+module _ (n : ℕ) (t : ThreadState) where
   pub in_slots : (vs : List Value) {olds news : List Thing} → Trade (things_at (slot_things n t.number) 0 t.slots) olds news (things_at (slot_things n t.number) 0 vs) → Trade (had_by n t) olds news (had_by n (record t { slots = vs }))
   in_slots vs u = trade_right (things_at (temp_things n t.number) 0 t.temps) (trade_left (gift_things t.number t.gift ++ things_at (walk_things n) 0 t.walk) u)
 
@@ -73,7 +73,7 @@ module _ (n : ℕ) (t : ThreadView) where
 
 -- CELLS
 
-found : (p : PartitionView) (w : ℕ) (c : Cell) → look p w ≡ Some c → cell_of p w ≡ Some c
+found : (p : PartitionState) (w : ℕ) (c : Cell) → look p w ≡ Some c → cell_of p w ≡ Some c
 found p w c h = by (leads_here p w) h
   where
     by : (b : Bool) → (if b then cell_of p w else None) ≡ Some c → cell_of p w ≡ Some c
@@ -81,7 +81,7 @@ found p w c h = by (leads_here p w) h
     by false g = cc
 
 -- a cell gets a value
-pub stores : (s : ℕ) (p : PartitionView) (w : ℕ) (c : Cell) (v : Owned) → look p w ≡ Some c
+pub stores : (s : ℕ) (p : PartitionState) (w : ℕ) (c : Cell) (v : Owned) → look p w ≡ Some c
     → Trade (partition_things s p) (lies s (address_of w) c ∷ []) (lies s (address_of w) (record c { value = v }) ∷ []) (partition_things s (stored p w v))
 stores s p w c v e =
     let here = looked p w c e in
@@ -107,7 +107,7 @@ cell_rule s a c v olds news r =
 
 module _ {K : List Thing → Type 0} (k : Kept K) (n e t : ℕ) where
   -- the thread trades with what is beside
-  pub thread_trades : {others others2 : List Thing} (h : Hand) (t2 : ThreadView) {o1 n1 o3 n3 : List Thing} → t2.number ≡ h.thread.number → Trade (had_by n h.thread) o1 n1 (had_by n t2) → Trade others o3 n3 others2
+  pub thread_trades : {others others2 : List Thing} (h : Hand) (t2 : ThreadState) {o1 n1 o3 n3 : List Thing} → t2.number ≡ h.thread.number → Trade (had_by n h.thread) o1 n1 (had_by n t2) → Trade others o3 n3 others2
       → Rule (o1 ++ o3) (n1 ++ n3) → HandOk K n e t others h → HandOk K n e t others2 (record h { thread = t2 })
   thread_trades h t2 named u v r g = hand_trades k n e t h (record h { thread = t2 }) refl named (of_thread n h.thread t2 u) (trade_none (rest_things n e h.work.rest)) v (beside (changes n false h.thread t2 named) r) g
 

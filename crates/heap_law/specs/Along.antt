@@ -2,7 +2,7 @@
 use Rattle.std.specs.Prelude.{◌≡◌, ℕ, ◌+◌, List, [], ◌∷◌, ◌++◌, Option, Some, None}
 use Rattle.fr_base.specs.declared.instruction.Instr.{Instr}
 use Rattle.fr_base.specs.declared.settings.Options.{Options}
-use Rattle.journal.specs.declared.entry.Entry.{Entry}
+use Rattle.journal.specs.View.{EntryView}
 use Rattle.server_model.specs.declared.event.Event.{Event}
 use Rattle.server_model.specs.Servers.{Cluster, start_of}
 use Rattle.server_model.specs.Clusters.{apply}
@@ -20,7 +20,7 @@ abbrev with_fault : ℕ → List Sentence → List Fault → List Fault
 with_fault n [] fs = fs
 with_fault n (s ∷ ss) fs = breaks n (s ∷ ss) ∷ fs
 
-abbrev after : (ℕ → Cluster → List Fault) → ℕ → Option (Cluster × Entry) → List Fault
+abbrev after : (ℕ → Cluster → List Fault) → ℕ → Option (Cluster × EntryView) → List Fault
 after go n None = no_result n ∷ []
 after go n (Some d) = with_fault n (broken d.0) (go n d.0)
 

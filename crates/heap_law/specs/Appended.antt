@@ -3,7 +3,7 @@ use Rattle.std.specs.Prelude.{◌≡◌, ℕ, ◌*◌, ◌==◌, Bool, List, [],
 use Rattle.fr_base.specs.declared.instruction.Instr.{Instr}
 use Rattle.fr_base.specs.declared.settings.Options.{Options}
 use Rattle.journal.specs.declared.act.Act.{Act}
-use Rattle.journal.specs.declared.entry.Entry.{Entry}
+use Rattle.journal.specs.View.{EntryView}
 use Rattle.server_msgs.specs.Messages.{kind_of}
 use Rattle.server_msgs.specs.declared.message.Message.{Message}
 use Rattle.server_model.specs.declared.event.Event.{Event}
@@ -49,19 +49,19 @@ abbrev appended : What → Option Server → Option Server → List (List Sendin
 appended what (Some before) (Some after) = map (sending_of before.rest.number) (drop (length (left_waiting what before.rest.inbox)) after.rest.inbox) ∷ map sending_out (drop (length before.rest.outbox) after.rest.outbox) ∷ []
 appended what before after = []
 
-abbrev by_servers : Cluster → Event → Cluster × Entry → List (List Sending)
+abbrev by_servers : Cluster → Event → Cluster × EntryView → List (List Sending)
 by_servers k e d = appended e.what (server_at k.servers e.server) (server_at d.0.servers e.server)
 
 -- what the acts of its entry send
-abbrev by_acts : Cluster → Event → Cluster × Entry → List (List Sending)
-by_acts k e d = filter (stays e.server) (sendings d.1.acts.items) ∷ filter (leaves e.server) (sendings d.1.acts.items) ∷ []
+abbrev by_acts : Cluster → Event → Cluster × EntryView → List (List Sending)
+by_acts k e d = filter (stays e.server) (sendings d.1.acts) ∷ filter (leaves e.server) (sendings d.1.acts) ∷ []
 
-abbrev shown_and : (Cluster → Event → Cluster × Entry → List (List Sending)) → (Cluster → List (List Sending)) → Cluster → Event → Option (Cluster × Entry) → List (List Sending)
+abbrev shown_and : (Cluster → Event → Cluster × EntryView → List (List Sending)) → (Cluster → List (List Sending)) → Cluster → Event → Option (Cluster × EntryView) → List (List Sending)
 shown_and show go k e None = []
 shown_and show go k e (Some d) = show k e d ++ go (hand_over d.0)
 
 -- what is shown of each event of a run
-abbrev of_each : (Cluster → Event → Cluster × Entry → List (List Sending)) → List Event → Cluster → List (List Sending)
+abbrev of_each : (Cluster → Event → Cluster × EntryView → List (List Sending)) → List Event → Cluster → List (List Sending)
 of_each show [] k = []
 of_each show (e ∷ es) k = shown_and show (of_each show es) k e (act_at k e)
 

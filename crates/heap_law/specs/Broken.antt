@@ -4,7 +4,7 @@ use Rattle.global_addr.specs.Words.{word_of}
 use Rattle.heap_partition.specs.declared.value.Cell.{Cell}
 use Rattle.heap_partition.specs.declared.value.Owned.TheVariants as owned
 use Rattle.mut_borrow.specs.declared.mutable.MutRef.{MutRef}
-use Rattle.thread_state.specs.View.{ThreadView}
+use Rattle.thread_state.specs.View.{ThreadState}
 use Rattle.thread_state.specs.declared.value.Value.{Value}
 use Rattle.thread_state.specs.declared.value.Value.TheVariants as value
 use Rattle.thread_state.specs.declared.phase.Phase.TheVariants as phase
@@ -30,22 +30,22 @@ messages_at ms s = record s { rest = record s.rest { inbox = ms } }
 abbrev with_message : Server → Message → Server
 with_message s m = record s { rest = record s.rest { inbox = s.rest.inbox ++ m ∷ [] } }
 
-abbrev with_main : ThreadView → Server
+abbrev with_main : ThreadState → Server
 with_main t = record server_0 { threads = t ∷ locker ∷ worker ∷ [] }
 
 abbrev with_slot : ℕ → Value → Server
 with_slot i v = with_main (record main_waiting { slots = slice_set main_slots i v })
 
-abbrev with_worker : ThreadView → Server
+abbrev with_worker : ThreadState → Server
 with_worker t = record server_0 { threads = main_waiting ∷ locker ∷ t ∷ [] }
 
-abbrev with_reader : ThreadView → Server
+abbrev with_reader : ThreadState → Server
 with_reader t = record server_1 { threads = t ∷ joiner ∷ [] }
 
 abbrev with_copies : List Copy → Server
 with_copies cs = record server_1 { rest = record server_1.rest { cache = cs } }
 
-abbrev with_locker : ThreadView → Server
+abbrev with_locker : ThreadState → Server
 with_locker t = record server_0 { threads = main_waiting ∷ t ∷ worker ∷ [] }
 
 abbrev with_mutex : Mutex → Server
@@ -55,17 +55,17 @@ with_mutex m = record server_0 { rest = record server_0.rest { mutexes = record 
 abbrev no_fetch : Server
 no_fetch = record busy_0 { rest = record busy_0.rest { inbox = Dupped the_mutex (thread_no 0 6) ∷ [] } }
 
-abbrev with_fetcher : ThreadView → Server
+abbrev with_fetcher : ThreadState → Server
 with_fetcher t = record busy_1 { threads = writer ∷ lender ∷ viewer ∷ gifted ∷ joined ∷ t ∷ ended 1 2 ∷ [] }
 
-abbrev writing_here : ThreadView → Server
+abbrev writing_here : ThreadState → Server
 writing_here t = record no_fetch { threads = parent ∷ ended 0 4 ∷ dupper ∷ t ∷ ended 1 1 ∷ dropped ∷ [] }
 
 abbrev without_fetcher : List Copy → Server
 without_fetcher cs = record busy_1 { rest = record busy_1.rest { cache = cs }; threads = writer ∷ lender ∷ viewer ∷ gifted ∷ joined ∷ ended 1 2 ∷ [] }
 
 -- it has passed so many hops at that instruction
-abbrev passed_writer : ℕ → ℕ → ThreadView
+abbrev passed_writer : ℕ → ℕ → ThreadState
 passed_writer pc n = record fetcher { pc = pc; phase = phase.Got; passed = n }
 
 -- a reference made from the pointer in that slot

@@ -3,7 +3,7 @@ use Rattle.std.specs.Prelude.{◌≡◌, ℕ, true, false, List, [], ◌∷◌, 
 use Rattle.fr_base.specs.declared.release.Released.TheVariants as released
 use Rattle.global_addr.specs.Words.{word_of}
 use Rattle.heap_partition.specs.declared.value.Owned.TheVariants as owned
-use Rattle.thread_state.specs.View.{ThreadView, new_thread}
+use Rattle.thread_state.specs.View.{ThreadState, new_thread}
 use Rattle.thread_state.specs.declared.value.Value.{Value}
 use Rattle.thread_state.specs.declared.value.Value.TheVariants as value
 use Rattle.thread_state.specs.declared.phase.Phase.TheVariants as phase
@@ -33,25 +33,25 @@ at_6 = word_of 0 0 6
 abbrev busy_inbox : List Message → Cluster
 busy_inbox ms = of_busy (record busy_0 { rest = record busy_0.rest { inbox = ms } }) busy_1
 
-abbrev busy_threads_0 : List ThreadView → Server
+abbrev busy_threads_0 : List ThreadState → Server
 busy_threads_0 ts = record busy_0 { threads = ts }
 
-abbrev with_dupper : ThreadView → Cluster
+abbrev with_dupper : ThreadState → Cluster
 with_dupper t = of_busy (record busy_0 { rest = record busy_0.rest { inbox = Fetch at_3 (object 3) 1 (thread_no 0 8) ∷ []; mutexes = record { home = 0; made = 1; there = record shared_mutex { shares = 2 } ∷ [] } }; threads = parent ∷ ended 0 4 ∷ t ∷ ended 1 1 ∷ dropped ∷ [] }) busy_1
 
-abbrev with_parent : ThreadView → Cluster
+abbrev with_parent : ThreadState → Cluster
 with_parent t = of_busy (busy_threads_0 (t ∷ ended 0 4 ∷ dupper ∷ ended 1 1 ∷ dropped ∷ [])) busy_1
 
-abbrev with_lender : ThreadView → Cluster
+abbrev with_lender : ThreadState → Cluster
 with_lender t = of_busy busy_0 (record busy_1 { threads = writer ∷ t ∷ viewer ∷ gifted ∷ joined ∷ fetcher ∷ ended 1 2 ∷ [] })
 
-abbrev with_gifted : ThreadView → Cluster
+abbrev with_gifted : ThreadState → Cluster
 with_gifted t = of_busy busy_0 (record busy_1 { threads = writer ∷ lender ∷ viewer ∷ t ∷ joined ∷ fetcher ∷ ended 1 2 ∷ [] })
 
 abbrev busy_mutexes : List Mutex → Cluster
 busy_mutexes ms = of_busy (record busy_0 { rest = record busy_0.rest { mutexes = record { home = 0; made = 1; there = ms } } }) busy_1
 
-abbrev with_worker : ThreadView → Cluster
+abbrev with_worker : ThreadState → Cluster
 with_worker t = cluster (record server_0 { threads = main_waiting ∷ locker ∷ t ∷ [] }) server_1
 
 abbrev with_notes : List Task → Cluster

@@ -6,8 +6,8 @@ use Rattle.fr_base.specs.declared.instruction.Instr.{Instr}
 use Rattle.fr_base.specs.declared.instruction.Instr.TheVariants as instr
 use Rattle.global_addr.specs.Words.{word_of}
 use Rattle.heap_partition.specs.declared.value.Owned.TheVariants as owned
-use Rattle.owner_box.specs.View.{PartitionView}
-use Rattle.thread_state.specs.View.{ThreadView, new_thread}
+use Rattle.owner_box.specs.View.{PartitionState}
+use Rattle.thread_state.specs.View.{ThreadState, new_thread}
 use Rattle.thread_state.specs.declared.value.Value.{Value}
 use Rattle.thread_state.specs.declared.value.Value.TheVariants as value
 use Rattle.thread_state.specs.declared.phase.Phase.TheVariants as phase
@@ -56,59 +56,58 @@ parent_slots =
     value.Own (box at_2 2) ∷ value.Shared (record { word = at_2; object = object 2; pinned = false }) ∷ has_task 0 1 ∷ has_task 0 2 ∷ has_task 0 5 ∷ has_task 0 6
     ∷ has_task 0 7 ∷ has_task 0 8 ∷ []
 
-abbrev pub parent : ThreadView
+abbrev pub parent : ThreadState
 parent = record (new_thread 0 2 parent_slots) { phase = phase.WaitPar (thread_no 0 3) (thread_no 0 4); made = 5 }
 
 -- waits for object 0, which is under way
-abbrev pub writer : ThreadView
+abbrev pub writer : ThreadState
 writer = record (new_thread (thread_no 0 1) 0 (value.Own (box old_0 0) ∷ [])) { phase = phase.WaitCell old_0 }
 
 -- has taken object 1 for a mutable borrow
-abbrev pub lender : ThreadView
+abbrev pub lender : ThreadState
 lender = record (new_thread (thread_no 0 2) 11 (value.Own (box old_1 1) ∷ [])) { phase = phase.Taken new_1 }
 
 -- a branch with a view that it has read through
-abbrev pub viewer : ThreadView
+abbrev pub viewer : ThreadState
 viewer = new_thread (thread_no 0 3) 10 (value.Shared (record { word = at_2; object = object 2; pinned = true }) ∷ [])
 
 -- a thread that is over
-abbrev pub ended : ℕ → ℕ → ThreadView
+abbrev pub ended : ℕ → ℕ → ThreadState
 ended s n = record (new_thread (thread_no s n) 7 []) { phase = phase.Over }
 
 -- has the mutex's content as its gift
-abbrev pub gifted : ThreadView
+abbrev pub gifted : ThreadState
 gifted = record (new_thread (thread_no 0 5) 3 (value.Own (owned.Mutex the_mutex) ∷ [])) { phase = phase.Got; gift = Some (int 9) }
 
 -- waits for one share more
-abbrev pub dupper : ThreadView
+abbrev pub dupper : ThreadState
 dupper = record (new_thread (thread_no 0 6) 4 (value.Own (owned.Mutex the_mutex) ∷ [])) { phase = phase.WaitDup the_mutex }
 
 -- has the result of thread 1.1 as its gift
-abbrev pub joined : ThreadView
+abbrev pub joined : ThreadState
 joined = record (new_thread (thread_no 0 7) 5 (has_task 1 2 ∷ has_task 1 4 ∷ [])) { temps = has_task 1 1 ∷ []; phase = phase.Got; gift = Some owned.Unit }
 
 -- has asked for a copy of object 3
-abbrev pub fetcher : ThreadView
+abbrev pub fetcher : ThreadState
 fetcher = record (new_thread (thread_no 0 8) 6 (value.Own (box at_3 3) ∷ [])) { phase = phase.WaitCell at_3 }
 
 -- threads at their end: one whose task was dropped, and one that moves
-abbrev pub dropped : ThreadView
+abbrev pub dropped : ThreadState
 dropped = new_thread (thread_no 1 3) 7 []
 
-abbrev pub mover : ThreadView
+abbrev pub mover : ThreadState
 mover = record (new_thread (thread_no 1 4) 7 []) { moved_since_step = true }
 
 abbrev pub shared_mutex : Mutex
 shared_mutex = record { number = the_mutex; content = None; shares = 3; queue = [] }
 
-abbrev pub busy_partition : PartitionView
+abbrev pub busy_partition : PartitionState
 busy_partition = record {
   server = 0;
   limit = 4;
   cells = None ∷ None ∷ cell 2 (box at_4 4) ∷ cell 3 (int 6) ∷ cell 4 (int 8) ∷ [];
   free = (0, 1) ∷ (1, 1) ∷ [];
   retired = 0;
-  spare = 0;
 }
 
 abbrev pub busy_notes : List Task
@@ -136,7 +135,7 @@ abbrev pub busy_1 : Server
 busy_1 = record {
   rest = record {
     number = 1;
-    partition = record { server = 1; limit = 4; cells = cell 1 (int 4) ∷ []; free = []; retired = 0; spare = 0 };
+    partition = record { server = 1; limit = 4; cells = cell 1 (int 4) ∷ []; free = []; retired = 0 };
     cache = copy_of at_2 2 (box at_4 4) 1 ∷ [];
     mutexes = record { home = 1; made = 0; there = [] };
     tasks = task (thread_no 1 2) going ∷ task (thread_no 1 3) going ∷ task (thread_no 1 4) going ∷ [];

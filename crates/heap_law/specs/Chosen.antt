@@ -8,10 +8,10 @@ use Rattle.fr_base.specs.declared.instruction.Operand.TheVariants as operand
 use Rattle.fr_base.specs.declared.instruction.Instr.{Instr}
 use Rattle.fr_base.specs.declared.instruction.Instr.TheVariants as instr
 use Rattle.fr_base.specs.declared.settings.Options.{Options}
-use Rattle.thread_state.specs.View.{ThreadView}
+use Rattle.thread_state.specs.View.{ThreadState}
 use Rattle.read_cache.specs.Cache.{Copy}
 use Rattle.server_msgs.specs.declared.message.Message.{Message}
-use Rattle.journal.specs.declared.entry.Entry.{Entry}
+use Rattle.journal.specs.View.{EntryView}
 use Rattle.server_model.specs.declared.event.Event.{Event}
 use Rattle.server_model.specs.declared.event.What.{What}
 use Rattle.server_model.specs.declared.event.What.TheVariants.{Step, Deliver, Evict, Migrate}
@@ -31,7 +31,7 @@ kept false s w = []
 abbrev kept_if : Options → Server → What → List Event
 kept_if o s w = kept (enabled o s w) s w
 
-abbrev steps : Options → Server → List ThreadView → List Event
+abbrev steps : Options → Server → List ThreadState → List Event
 steps o s [] = []
 steps o s (t ∷ ts) = kept_if o s (Step t.number) ++ steps o s ts
 
@@ -39,7 +39,7 @@ abbrev moves_to : Options → Server → ℕ → ℕ → List Event
 moves_to o s t zero = []
 moves_to o s t (suc n) = kept_if o s (Migrate t n) ++ moves_to o s t n
 
-abbrev moves : Options → Server → List ThreadView → List Event
+abbrev moves : Options → Server → List ThreadState → List Event
 moves o s [] = []
 moves o s (t ∷ ts) = moves_to o s t.number o.servers ++ moves o s ts
 
@@ -71,7 +71,7 @@ abbrev with_fault : ℕ → List Sentence → List Fault → List Fault
 with_fault n [] fs = fs
 with_fault n (s ∷ ss) fs = breaks n (s ∷ ss) ∷ []
 
-abbrev after : (Cluster → List Fault) → ℕ → Option (Cluster × Entry) → List Fault
+abbrev after : (Cluster → List Fault) → ℕ → Option (Cluster × EntryView) → List Fault
 after go n None = no_result n ∷ []
 after go n (Some d) = with_fault n (broken d.0) (go d.0)
 

@@ -11,10 +11,10 @@ use Rattle.global_addr.specs.Words.{word_of}
 use Rattle.heap_partition.specs.declared.value.Cell.{Cell}
 use Rattle.heap_partition.specs.declared.value.Owned.{Owned}
 use Rattle.heap_partition.specs.declared.value.Owned.TheVariants as owned
-use Rattle.owner_box.specs.View.{PartitionView}
+use Rattle.owner_box.specs.View.{PartitionState}
 use Rattle.mut_borrow.specs.declared.mutable.MutRef.{MutRef}
 use Rattle.mut_borrow.specs.declared.shared.SharedRef.{SharedRef}
-use Rattle.thread_state.specs.View.{ThreadView, new_thread}
+use Rattle.thread_state.specs.View.{ThreadState, new_thread}
 use Rattle.thread_state.specs.declared.value.Value.{Value}
 use Rattle.thread_state.specs.declared.value.Value.TheVariants as value
 use Rattle.thread_state.specs.declared.phase.Phase.TheVariants as phase
@@ -90,36 +90,35 @@ main_slots =
     value.Own (box word_0 0) ∷ value.Own (box word_1 1) ∷ value.Mut dirty_reference ∷ value.Shared shared_reference ∷ value.Own (owned.Mutex the_mutex)
     ∷ value.Own (owned.Task (thread_no 0 1)) ∷ value.Own (owned.Task (thread_no 0 2)) ∷ value.Own (owned.Task (thread_no 0 3)) ∷ []
 
-abbrev pub main_waiting : ThreadView
+abbrev pub main_waiting : ThreadState
 main_waiting = record (new_thread 0 0 main_slots) { phase = phase.WaitLock the_mutex; made = 4 }
 
 -- thread 0.1 at server 1 reads object 3 from its copy
-abbrev pub reader : ThreadView
+abbrev pub reader : ThreadState
 reader = record (new_thread (thread_no 0 1) 1 (value.Own (box word_3 3) ∷ [])) { phase = phase.Got; walk = word_3 ∷ [] }
 
 -- thread 0.2 at server 0 holds the mutex
-abbrev pub locker : ThreadView
+abbrev pub locker : ThreadState
 locker = new_thread (thread_no 0 2) 2 (value.Own (owned.Mutex the_mutex) ∷ value.Held the_mutex ∷ value.Own (int 9) ∷ [])
 
 -- thread 0.3 at server 1 waits for the result of thread 1.1, which is at server 0
-abbrev pub joiner : ThreadView
+abbrev pub joiner : ThreadState
 joiner = record (new_thread (thread_no 0 3) 3 []) { temps = value.Own (owned.Task (thread_no 1 1)) ∷ []; phase = phase.WaitJoin (thread_no 1 1) }
 
-abbrev pub worker : ThreadView
+abbrev pub worker : ThreadState
 worker = new_thread (thread_no 1 1) 2 []
 
-abbrev pub partition_0 : PartitionView
+abbrev pub partition_0 : PartitionState
 partition_0 = record {
   server = 0;
   limit = 4;
   cells = cell 0 (int 1) ∷ cell 1 (int 5) ∷ cell 2 (int 6) ∷ cell 3 (int 3) ∷ None ∷ None ∷ [];
   free = (5, 1) ∷ [];
   retired = 1;
-  spare = 0;
 }
 
-abbrev pub partition_1 : PartitionView
-partition_1 = record { server = 1; limit = 4; cells = []; free = []; retired = 0; spare = 0 }
+abbrev pub partition_1 : PartitionState
+partition_1 = record { server = 1; limit = 4; cells = []; free = []; retired = 0 }
 
 abbrev pub copy_of : ℕ → ℕ → Owned → ℕ → Copy
 copy_of w n v users = record { word = w; cell = record { object = object n; value = v }; users = users }
@@ -180,7 +179,7 @@ abbrev pub relent_server : Server
 relent_server = record {
   rest = record {
     number = 0;
-    partition = record { server = 0; limit = 4; cells = cell 0 (int 1) ∷ []; free = []; retired = 0; spare = 0 };
+    partition = record { server = 0; limit = 4; cells = cell 0 (int 1) ∷ []; free = []; retired = 0 };
     cache = [];
     mutexes = record { home = 0; made = 0; there = [] };
     tasks = [];

@@ -4,7 +4,7 @@ use Rattle.fr_base.specs.declared.name.ObjNo.{ObjNo}
 use Rattle.fr_base.specs.declared.place.Lval.{Lval}
 use Rattle.heap_partition.specs.declared.value.Cell.{Cell}
 use Rattle.heap_partition.specs.declared.value.Owned.TheVariants as owned
-use Rattle.thread_state.specs.View.{ThreadView}
+use Rattle.thread_state.specs.View.{ThreadState}
 use Rattle.thread_state.specs.declared.value.Value.{Value}
 use Rattle.thread_state.specs.declared.value.Value.TheVariants as value
 use Rattle.heap_law.specs.Names.{same_object}
@@ -14,7 +14,7 @@ use Rattle.heap_law.specs.Things.{Location, at_slot, at_temp, in_cell, Thing, li
 pub record Standing : Type 0 where
   pub server : ℕ
   pub packed : Bool
-  pub thread : ThreadView
+  pub thread : ThreadState
 
 -- the threads that stand somewhere, those in parcels too
 abbrev pub threads_in : List Thing → List Standing

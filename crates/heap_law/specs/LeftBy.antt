@@ -4,7 +4,7 @@ use Rattle.fr_base.specs.declared.label.Label.{Label}
 use Rattle.fr_base.specs.declared.step.Fresh.{Fresh}
 use Rattle.fr_plain.specs.PlainState.{SameState}
 use Rattle.fr_code.specs.Machine.{CodeState}
-use Rattle.journal.specs.declared.entry.Entry.{Entry}
+use Rattle.journal.specs.View.{EntryView}
 use Rattle.journal.specs.Journals.{order, labels}
 use Rattle.server_model.specs.Servers.{Cluster}
 use Rattle.coloured_heap.specs.Heap.{Coloured}
@@ -30,7 +30,7 @@ pub record LeadsTo (run : PlainRun) (steps : List (ℕ × Fresh)) (s : CodeState
   pub same : SameState state s
 
 -- the journal is legal, and the state that it leaves is the cluster's coloured heap
-pub record LeavesColoured (k : Cluster) (es : List Entry) : Type 0 where
+pub record LeavesColoured (k : Cluster) (es : List EntryView) : Type 0 where
   pub state : Coloured
   pub legal : journal_after k.options es ≡ Some state
   pub stands : StandsColoured k state
@@ -44,7 +44,7 @@ abbrev pub messages_of : Sight → ℕ
 messages_of s = tot is_message s.things
 
 -- the cluster is left by the journal under a plain run of its program
-pub record LeftBy (run : PlainRun) (k : Cluster) (es : List Entry) : Type 0 where
+pub record LeftBy (run : PlainRun) (k : Cluster) (es : List EntryView) : Type 0 where
   -- the plain run under the journal's order is there; its state is the cluster's one heap, and its labels are the journal's
   pub plain : LeadsTo run (order es) (one_heap k) (labels es)
   -- each entry reaches what it loads and stores

@@ -1,6 +1,6 @@
 -- From clusters that no run need reach: each enabled event leaves no sentence broken.
 use Rattle.std.specs.Prelude.{◌≡◌, ℕ, ◌+◌, List, [], ◌∷◌, ◌++◌, Option, Some, None}
-use Rattle.journal.specs.declared.entry.Entry.{Entry}
+use Rattle.journal.specs.View.{EntryView}
 use Rattle.server_model.specs.declared.event.Event.{Event}
 use Rattle.server_model.specs.Servers.{Cluster}
 use Rattle.server_model.specs.Clusters.{apply}
@@ -14,7 +14,7 @@ abbrev fault_of : ℕ → List Sentence → List Fault
 fault_of n [] = []
 fault_of n (s ∷ ss) = breaks n (s ∷ ss) ∷ []
 
-abbrev after_one : ℕ → Option (Cluster × Entry) → List Fault
+abbrev after_one : ℕ → Option (Cluster × EntryView) → List Fault
 after_one n None = no_result n ∷ []
 after_one n (Some d) = fault_of n (broken d.0)
 

@@ -15,7 +15,7 @@ use Rattle.fr_code.specs.Machine.{CodeRunning, CodeState}
 use Rattle.heap_partition.specs.Plain.{plain_of}
 use Rattle.heap_partition.specs.declared.value.Owned.{Owned}
 use Rattle.heap_partition.specs.declared.value.Owned.TheVariants as owned
-use Rattle.thread_state.specs.View.{ThreadView}
+use Rattle.thread_state.specs.View.{ThreadState}
 use Rattle.thread_state.specs.declared.phase.Phase.{Phase}
 use Rattle.thread_state.specs.declared.phase.Phase.TheVariants as phase
 use Rattle.thread_state.specs.declared.value.Value.{Value}
@@ -234,10 +234,10 @@ abbrev going_on : Sight → ℕ → CodeRunning → PlainLife
 going_on s zero p = alive p
 going_on s (suc t) p = if was_let_go s (suc t) then loose p else owing p
 
-abbrev running_at : ThreadView → CodeRunning
+abbrev running_at : ThreadState → CodeRunning
 running_at t = record { place = record { pc = t.pc; temps = reverse (map plain_value t.temps) }; slots = reverse (map plain_value t.slots) }
 
-abbrev life_of : Sight → ThreadView → Bool → PlainLife
+abbrev life_of : Sight → ThreadState → Bool → PlainLife
 life_of s t true = ended_with (result_of s t.number)
 life_of s t false = going_on s t.number (running_at t)
 

@@ -10,7 +10,7 @@ use Rattle.fr_base.specs.declared.instruction.Instr.TheVariants as instr
 use Rattle.global_addr.specs.Words.{colour_of, server_of}
 use Rattle.heap_partition.specs.declared.value.Owned.TheVariants as owned
 use Rattle.mut_borrow.specs.declared.mutable.MutRef.{MutRef}
-use Rattle.thread_state.specs.View.{ThreadView}
+use Rattle.thread_state.specs.View.{ThreadState}
 use Rattle.thread_state.specs.declared.value.Value.{Value}
 use Rattle.thread_state.specs.declared.value.Value.TheVariants as value
 use Rattle.heap_law.specs.Names.{is_in}
@@ -41,7 +41,7 @@ abbrev pub assigning : List Value → Lval → ℕ → Path
 assigning slots w zero = ending (slice_get slots w.slot)
 assigning slots w (suc n) = writes w
 
-abbrev pub path_of : Option Instr → ThreadView → Path
+abbrev pub path_of : Option Instr → ThreadState → Path
 path_of (Some (instr.Read w true)) t = taking w w.depth
 path_of (Some (instr.Read w false)) t = reads w
 path_of (Some (instr.Dup w)) t = reads w
@@ -63,7 +63,7 @@ task_in (Some (value.Own (owned.Task t))) = Some t
 task_in v = None
 
 -- the thread that a join asks for
-abbrev pub joined_thread : Option Instr → ThreadView → Option ℕ
+abbrev pub joined_thread : Option Instr → ThreadState → Option ℕ
 joined_thread (Some (instr.Join o)) t = task_in (popped o t.temps)
 joined_thread i t = None
 

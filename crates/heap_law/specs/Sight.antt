@@ -8,7 +8,7 @@ use Rattle.global_addr.specs.Words.{colour_of, server_of, address_of}
 use Rattle.heap_partition.specs.declared.value.Cell.{Cell}
 use Rattle.heap_partition.specs.declared.value.Owned.{Owned}
 use Rattle.heap_partition.specs.declared.value.Owned.TheVariants as owned
-use Rattle.thread_state.specs.View.{ThreadView}
+use Rattle.thread_state.specs.View.{ThreadState}
 use Rattle.thread_state.specs.declared.phase.Phase.{Phase}
 use Rattle.thread_state.specs.declared.phase.Phase.TheVariants as phase
 use Rattle.server_msgs.specs.declared.message.Message.{Message}
@@ -61,7 +61,7 @@ abbrev pub taken_object : ℕ → Option Location → List Pointer
 taken_object w (Some (in_cell o)) = record { at = None; word = w; object = o } ∷ []
 taken_object w l = []
 
-abbrev pub taken_of : Ground → ThreadView → Phase → Option Instr → List Pointer
+abbrev pub taken_of : Ground → ThreadState → Phase → Option Instr → List Pointer
 taken_of g t (phase.Taken w) (Some (instr.BorrowMut p)) = taken_object w (place_at g t.number p)
 taken_of g t _ _ = []
 

@@ -5,10 +5,10 @@ use Rattle.fr_base.specs.declared.name.ObjNo.{ObjNo}
 use Rattle.fr_base.specs.declared.name.MutexNo.{MutexNo}
 use Rattle.heap_partition.specs.declared.value.Cell.{Cell}
 use Rattle.heap_partition.specs.declared.value.Owned.{Owned}
-use Rattle.owner_box.specs.View.{PartitionView}
+use Rattle.owner_box.specs.View.{PartitionState}
 use Rattle.mut_borrow.specs.declared.mutable.MutRef.{MutRef}
 use Rattle.mut_borrow.specs.declared.shared.SharedRef.{SharedRef}
-use Rattle.thread_state.specs.View.{ThreadView}
+use Rattle.thread_state.specs.View.{ThreadState}
 use Rattle.thread_state.specs.declared.value.Value.{Value}
 use Rattle.thread_state.specs.declared.value.Value.TheVariants as value
 use Rattle.read_cache.specs.Cache.{Copy}
@@ -55,7 +55,7 @@ pub data Thing : Type 0 where
   -- a message, waiting at a server or on its way there
   sent : (target : ℕ) (m : Message) → Thing
   -- a thread at a server, or in a parcel on its way there
-  stands : (server : ℕ) (packed : Bool) (t : ThreadView) → Thing
+  stands : (server : ℕ) (packed : Bool) (t : ThreadState) → Thing
   -- a mutex at a server, and a thread that waits there for its content
   at_home : (server : ℕ) (m : Mutex) → Thing
   queued : (m : MutexNo) (server thread : ℕ) → Thing
@@ -97,12 +97,12 @@ gift_things t (Some v) = holds (as_gift t) v ∷ []
 abbrev pub walk_things : ℕ → ℕ → ℕ → List Thing
 walk_things s i w = uses s w ∷ []
 
-abbrev pub thread_things : ℕ → Bool → ThreadView → List Thing
+abbrev pub thread_things : ℕ → Bool → ThreadState → List Thing
 thread_things s packed t =
     stands s packed t ∷ gift_things t.number t.gift ++ things_at (walk_things s) 0 t.walk
     ++ things_at (slot_things s t.number) 0 t.slots ++ things_at (temp_things s t.number) 0 t.temps
 
-abbrev pub standing_things : ℕ → ℕ → ThreadView → List Thing
+abbrev pub standing_things : ℕ → ℕ → ThreadState → List Thing
 standing_things s i t = thread_things s false t
 
 -- MESSAGES
@@ -142,7 +142,7 @@ cell_things s free a None = if is_free a free then [] else retired s a ∷ []
 abbrev pub free_things : ℕ → ℕ → ℕ × ℕ → List Thing
 free_things s i pair = vacant s pair.0 pair.1 ∷ []
 
-abbrev pub partition_things : ℕ → PartitionView → List Thing
+abbrev pub partition_things : ℕ → PartitionState → List Thing
 partition_things s p = things_at (cell_things s p.free) 0 p.cells ++ things_at (free_things s) 0 p.free
 
 abbrev pub copy_things : ℕ → ℕ → Copy → List Thing

@@ -7,7 +7,7 @@ use Rattle.fr_base.specs.declared.instruction.Instr.TheVariants as instr
 use Rattle.global_addr.specs.Words.{server_of}
 use Rattle.heap_partition.specs.declared.value.Owned.{Owned}
 use Rattle.heap_partition.specs.declared.value.Owned.TheVariants as owned
-use Rattle.thread_state.specs.View.{ThreadView}
+use Rattle.thread_state.specs.View.{ThreadState}
 use Rattle.thread_state.specs.declared.value.Value.{Value}
 use Rattle.thread_state.specs.declared.value.Value.TheVariants as value
 use Rattle.thread_state.specs.declared.phase.Phase.{Phase}
@@ -148,7 +148,7 @@ pinned_words (value.Shared r ∷ vs) = pinned_word r.pinned r.word (pinned_words
 pinned_words (v ∷ vs) = pinned_words vs
 
 -- the words that a thread keeps cached: those of its walk and of its pinned references
-abbrev pub words_kept : ThreadView → List ℕ
+abbrev pub words_kept : ThreadState → List ℕ
 words_kept t = t.walk ++ pinned_words t.slots ++ pinned_words t.temps
 
 -- a pointer to an object that is followed leads to an object here or to a copy that the thread keeps; a dirty reference leads here, since copies

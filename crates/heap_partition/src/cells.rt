@@ -8,7 +8,8 @@ use fr_base::NoMemory;
 use std::alloc::Global;
 use std::marker::Model;
 
-/// Cells by address, from 0. Each call but `reserve` takes constant time; only `reserve` takes memory.
+/// Cells by address, from 0. Contracts see the cell or nothing at each address, and beside it the room.
+/// Each call but `reserve` takes constant time; only `reserve` takes memory.
 #[derive(Drop)]
 pub struct Cells {
     slots: Vec<Option<Cell>>,
@@ -21,13 +22,13 @@ impl Model for Cells {
 
     ghost Value = { CellsView };
 
-    ghost view = { λ c. record { slots = c.slots.items; spare = vec_capacity c.slots - vec_len c.slots } };
+    ghost view = { λ c. record { state = c.slots.items; room = vec_capacity c.slots - vec_len c.slots } };
 }
 
 impl Cells {
     /// No cell, and no memory taken yet.
     pub fn new(alloc: Global) -> Cells
-        ensures { result.slots ≡ [] }
+        ensures { result.state ≡ [] }
     {
         Cells {
             slots: Vec::new(alloc),
@@ -36,10 +37,10 @@ impl Cells {
 
     /// Makes room for `n` more addresses; a refusal changes nothing.
     pub fn reserve(&mut self, n: usize) -> Result<(), NoMemory>
-        ensures slots { self.new.slots ≡ self.old.slots }
-        ensures room { OnOk result (n ≤ self.new.spare) }
-        ensures had_room { n ≤ self.old.spare → IsOk result }
-        ensures spare { self.old.spare ≤ self.new.spare }
+        ensures state { self.new.state ≡ self.old.state }
+        ensures room { OnOk result (n ≤ self.new.room) }
+        ensures had_room { n ≤ self.old.room → IsOk result }
+        ensures spare { self.old.room ≤ self.new.room }
         ensures refused { OnErr result (self.new ≡ self.old) }
     {
         match self.slots.reserve(n) {
@@ -50,17 +51,17 @@ impl Cells {
 
     /// The least address never used.
     pub fn next(&self) -> u64
-        ensures { result ≡ next_of self.now }
+        ensures { result ≡ next_of self.now.state }
     {
         self.slots.len() as u64
     }
 
     /// Puts the cell at the least address never used, and answers it. There is room.
     pub fn put(&mut self, cell: Cell) -> u64
-        requires room { 0 < self.old.spare }
-        ensures address { result ≡ next_of self.old }
-        ensures put { self.new.slots ≡ self.old.slots ++ Some cell ∷ [] }
-        ensures spare { self.new.spare + 1 ≡ self.old.spare }
+        requires room { 0 < self.old.room }
+        ensures address { result ≡ next_of self.old.state }
+        ensures put { self.new.state ≡ self.old.state ++ Some cell ∷ [] }
+        ensures spare { self.new.room + 1 ≡ self.old.room }
     {
         let address = self.slots.len() as u64;
         self.slots.push_reserved(Some(cell));
@@ -69,17 +70,17 @@ impl Cells {
 
     /// Puts the cell at a vacant address that was used before.
     pub fn put_at(&mut self, address: u64, cell: Cell)
-        requires below { address < next_of self.old }
-        requires vacant { IsVacant self.old address }
-        ensures put { self.new.slots ≡ slice_set self.old.slots address (Some cell) }
-        ensures spare { self.new.spare ≡ self.old.spare }
+        requires below { address < next_of self.old.state }
+        requires vacant { IsVacant self.old.state address }
+        ensures put { self.new.state ≡ slice_set self.old.state address (Some cell) }
+        ensures spare { self.new.room ≡ self.old.room }
     {
         self.slots[address as usize] = Some(cell);
     }
 
     /// The cell at the address; `None` exactly where it is vacant or was never used.
     pub fn get(&self, address: u64) -> Option<Cell>
-        ensures { result ≡ cell_at self.now address }
+        ensures { result ≡ cell_at self.now.state address }
     {
         match self.slots.get(address as usize) {
             Some(slot) => *slot,
@@ -89,19 +90,19 @@ impl Cells {
 
     /// Puts another cell at a live address.
     pub fn set(&mut self, address: u64, cell: Cell)
-        requires live { IsLive self.old address }
-        ensures set { self.new.slots ≡ slice_set self.old.slots address (Some cell) }
-        ensures spare { self.new.spare ≡ self.old.spare }
+        requires live { IsLive self.old.state address }
+        ensures set { self.new.state ≡ slice_set self.old.state address (Some cell) }
+        ensures spare { self.new.room ≡ self.old.room }
     {
         self.slots[address as usize] = Some(cell);
     }
 
     /// Takes the cell out of a live address, which is vacant afterwards.
     pub fn take(&mut self, address: u64) -> Cell
-        requires live { IsLive self.old address }
-        ensures cell { cell_at self.old address ≡ Some result }
-        ensures left { self.new.slots ≡ slice_set self.old.slots address None }
-        ensures spare { self.new.spare ≡ self.old.spare }
+        requires live { IsLive self.old.state address }
+        ensures cell { cell_at self.old.state address ≡ Some result }
+        ensures left { self.new.state ≡ slice_set self.old.state address None }
+        ensures spare { self.new.room ≡ self.old.room }
     {
         // The check asks that each type inside a cell is named where a cell is moved.
         let _inside: Option<Owned> = None;

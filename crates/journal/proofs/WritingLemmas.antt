@@ -9,7 +9,7 @@ use Rattle.fr_base.specs.declared.step.Fresh.{Fresh}
 use Rattle.fr_base.specs.declared.step.Fresh.TheVariants as fresh
 use Rattle.journal.specs.declared.order.OrderLine.{OrderLine}
 use Rattle.journal.specs.declared.writing.LastLine.{LastLine}
-use Rattle.journal.specs.declared.entry.Entry.{Entry}
+use Rattle.journal.specs.View.{EntryView}
 use Rattle.journal.specs.Journals.{order, turn_of}
 use Rattle.journal.specs.OrderText.{spell, IsLine, AreSteps, ArePlaced, steps_of, steps_of_line}
 use Rattle.journal.specs.WrittenOrder.{goes_on, takes_none, AreApart, AreApartAfter, IsOrderText, IsWritten, line_from, last_line, last_text, one_step, joins}
@@ -229,12 +229,12 @@ none_done None names xs e = refl
 none_done (Some t) None xs e = refl
 none_done (Some t) (Some names) xs e = absurd cc
 
-order_push : (es : List Entry) (e : Entry) → order (es ++ e ∷ []) ≡ order es ++ turn_of e.thread e.done []
+order_push : (es : List EntryView) (e : EntryView) → order (es ++ e ∷ []) ≡ order es ++ turn_of e.thread e.done []
 order_push [] e = refl
 order_push (x ∷ es) e = ap (turn_of x.thread x.done) (order_push es e) ∙ turn_before x.thread x.done (order es) (turn_of e.thread e.done [])
 
 -- the order of one entry more
-pub order_more : (es : List Entry) (i : ℕ) (e : Entry) → i < length es → e ≡ slice_index_or es i e → order (take (i + 1) es) ≡ order (take i es) ++ turn_of e.thread e.done []
+pub order_more : (es : List EntryView) (i : ℕ) (e : EntryView) → i < length es → e ≡ slice_index_or es i e → order (take (i + 1) es) ≡ order (take i es) ++ turn_of e.thread e.done []
 order_more es i e low is = ap order (take_more es i e low ∙ ap (λ x. take i es ++ x ∷ []) (sym is)) ∙ order_push (take i es) e
 
 -- ONE TEXT

@@ -3,3 +3,4 @@ pub mod OrderReading
 pub mod OrderFaults
 pub mod Journals
 pub mod WrittenOrder
+pub mod View

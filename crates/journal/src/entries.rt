@@ -18,10 +18,10 @@ pub struct Journal {
 impl Model for Journal {
     ghost use Rattle.std.specs.Prelude.{All};
     ghost use Rattle.fr_base.specs.Rooms.{WithRoom};
-    ghost use Rattle.journal.specs.declared.entry.Entry.{Entry};
+    ghost use Rattle.journal.specs.View.{EntryView};
     ghost use Rattle.journal.specs.Journals.{NamesItsThread};
 
-    ghost Value = { WithRoom Entry };
+    ghost Value = { WithRoom EntryView };
 
     ghost view = { λ j. j.entries };
 

@@ -6,7 +6,7 @@ use Rattle.std.proofs.lemmas.List.{take_all}
 use Rattle.std.proofs.lemmas.List.Elements.{All-cons, All-head, All-nil, All-tail}
 use Rattle.heap_partition.specs.declared.value.Cell.{Cell}
 use Rattle.colour_retire.specs.Colours.{IsFreeList}
-use Rattle.owner_box.specs.View.{PartitionView}
+use Rattle.owner_box.specs.View.{PartitionState}
 use Rattle.owner_box.specs.Partition.{IsTidy, IsFreeIn, live_count}
 use Rattle.owner_box.proofs.States.{live_not_free}
 use Rattle.owner_box.specs.States.{colour_at, used_state, state_of, one_if_retired, retired_among, FreePairsAreStates, RetiredIsExact}
@@ -110,11 +110,11 @@ one_state None (Some k) apart = refl
 one_state (Some cell) colour apart = rw (apart refl) refl
 
 -- the state of an address that was used
-pub state_of-used : (p : PartitionView) (a : ℕ) → a < length p.cells → state_of p a ≡ used_state (slice_index_or p.cells a None) (colour_at p.free a)
+pub state_of-used : (p : PartitionState) (a : ℕ) → a < length p.cells → state_of p a ≡ used_state (slice_index_or p.cells a None) (colour_at p.free a)
 state_of-used p a l = let low : nat_lt a (length p.cells) ≡ true = grind (arith, nat_tests, l) in rw low refl
 
 -- the first addresses are each live, free or retired
-pub counted_to : (p : PartitionView) → IsTidy p → (n : ℕ) → n ≤ length p.cells
+pub counted_to : (p : PartitionState) → IsTidy p → (n : ℕ) → n ≤ length p.cells
     → live_count (take n p.cells) + free_among p.free n + retired_among p n ≡ n
 counted_to p t zero l = rw (free_among-zero p.free) refl
 counted_to p t (suc n) l =

@@ -7,7 +7,7 @@ use Rattle.std.proofs.lemmas.List.Elements.{All-cons, All-head, All-tail, All-we
 use Rattle.heap_partition.specs.declared.value.Cell.{Cell}
 use Rattle.global_addr.specs.Words.{word_of, colour_of, spot_of, server_of, address_of}
 use Rattle.colour_retire.specs.Colours.{picked, rest_of}
-use Rattle.owner_box.specs.View.{PartitionView}
+use Rattle.owner_box.specs.View.{PartitionState}
 use Rattle.owner_box.specs.Partition.{AreStates, IsTidy, LeadsTo, cell_of, put_cell, next_place, new_word, made, made_again, freed, with_value}
 use Rattle.owner_box.specs.Issued.{WordSet, with_word, IsFresh, Fits, StartedFits, MadeFresh, RenewedFresh, FreedFits, StoredFits, TintedFits, OthersFit}
 use Rattle.owner_box.proofs.Counts.{live_below}
@@ -33,7 +33,7 @@ in_with_word issued word w is = by (issued w) refl
     by false none = inr (grind (arith, nat_tests, none, is))
 
 -- the address that is picked is below 2^40, and one of those used afterwards; those used before stay used
-pub next_below : (p : PartitionView) → IsTidy p → length p.cells < 2 ^ 40 → (next_place p).0 < 2 ^ 40
+pub next_below : (p : PartitionState) → IsTidy p → length p.cells < 2 ^ 40 → (next_place p).0 < 2 ^ 40
 next_below p t few = omega (arith, (picked_vacant p.limit p.retired p.cells p.free t).0, few)
 
 pub length-put_cell : (cells : List (Option Cell)) (a : ℕ) (cell : Cell) → a ≤ length cells
@@ -58,12 +58,12 @@ picked_fresh limit retired next a w k cells (pair ∷ rest) n is colour at below
     omega (arith, colour, first (sym is ∙ sym at))
 
 -- the new word's parts
-pub new_word_parts : (p : PartitionView) → p.server < 2 ^ 8 → IsTidy p → length p.cells < 2 ^ 40
+pub new_word_parts : (p : PartitionState) → p.server < 2 ^ 8 → IsTidy p → length p.cells < 2 ^ 40
     → (colour_of (new_word p) ≡ (next_place p).1) × (server_of (new_word p) ≡ p.server) × (address_of (new_word p) ≡ (next_place p).0)
 new_word_parts p s t few = packed (next_place p).1 p.server (next_place p).0 s (next_below p t few)
 
 -- the next word is fresh
-pub new_word_fresh : (p : PartitionView) (issued : WordSet) → p.server < 2 ^ 8 → IsTidy p → length p.cells < 2 ^ 40 → Fits p issued → IsFresh issued (new_word p)
+pub new_word_fresh : (p : PartitionState) (issued : WordSet) → p.server < 2 ^ 8 → IsTidy p → length p.cells < 2 ^ 40 → Fits p issued → IsFresh issued (new_word p)
 new_word_fresh p issued s t few f w is spot =
     let parts = new_word_parts p s t few in
     let same = parts_of_spot w (new_word p) spot in
@@ -83,7 +83,7 @@ rest_apart limit retired next cells [] t = All-nil (λ pair. pair.0 ≢ next)
 rest_apart limit retired next cells (pair ∷ rest) t = t.once.1
 
 -- what fits a partition and the next word fit it when the object is made
-pub made_fits : (p : PartitionView) (cell : Cell) (issued : WordSet) → p.server < 2 ^ 8 → IsTidy p → length p.cells < 2 ^ 40 → Fits p issued
+pub made_fits : (p : PartitionState) (cell : Cell) (issued : WordSet) → p.server < 2 ^ 8 → IsTidy p → length p.cells < 2 ^ 40 → Fits p issued
     → Fits (made p cell) (with_word issued (new_word p))
 made_fits p cell issued s t few f = record {
   used = λ w is here. used w (in_with_word issued (new_word p) w is) here;
@@ -123,7 +123,7 @@ freed_fits p word issued t leads latest f = record {
     by w is here false = f.free w is here
 
 -- what a freed address leaves of a tidy partition
-pub freed_tidy : (p : PartitionView) (word : ℕ) → IsTidy p → LeadsTo p word → IsTidy (freed p word)
+pub freed_tidy : (p : PartitionState) (word : ℕ) → IsTidy p → LeadsTo p word → IsTidy (freed p word)
 freed_tidy p word t leads = states_freed p.limit p.retired word p.cells p.free leads.live leads.colour t
 
 pub renewed_fresh : RenewedFresh
@@ -148,7 +148,7 @@ stored_fits p word value issued leads f = record {
 }
 
 -- a live address is no free one
-pub live_apart : (p : PartitionView) (word : ℕ) → IsTidy p → LeadsTo p word → All (λ pair. pair.0 ≢ address_of word) p.free
+pub live_apart : (p : PartitionState) (word : ℕ) → IsTidy p → LeadsTo p word → All (λ pair. pair.0 ≢ address_of word) p.free
 live_apart p word t leads = live_not_free p.limit (address_of word) p.cells p.free leads.live t.free_in
 
 pub tinted_fits : TintedFits

@@ -7,7 +7,7 @@ use Rattle.std.proofs.lemmas.List.{length-set}
 use Rattle.heap_partition.specs.declared.value.Cell.{Cell}
 use Rattle.heap_partition.specs.declared.value.Owned.{Owned}
 use Rattle.global_addr.specs.Words.{colour_of, spot_of, address_of}
-use Rattle.owner_box.specs.View.{PartitionView}
+use Rattle.owner_box.specs.View.{PartitionState}
 use Rattle.owner_box.specs.Partition.{IsTidy, LeadsTo, cell_of, new_word, started, made_again, stored, freed, with_value}
 use Rattle.owner_box.specs.Issued.{WordSet, no_word, with_word, IsFresh, Fits}
 use Rattle.owner_box.specs.Runs.{Call, Reserve, Make, Store, Give, Renew, Free, Tint, after, word_given, issued_after, IsAllowed, with_given, words_of, AllDifferent, NoWordTwice, NoneAgain}
@@ -25,12 +25,12 @@ started_tidy server limit low high = record {
 }
 
 -- a tidy partition stays tidy where an object is renewed
-pub made_again_tidy : (p : PartitionView) (slot : Option Cell) → length p.cells < 2 ^ 40 → IsTidy p → IsTidy (made_again p slot)
+pub made_again_tidy : (p : PartitionState) (slot : Option Cell) → length p.cells < 2 ^ 40 → IsTidy p → IsTidy (made_again p slot)
 made_again_tidy p None few t = t
 made_again_tidy p (Some cell) few t = states_made p.limit p.retired p.cells p.free cell few t
 
 -- a tidy partition stays tidy where an object gets another value
-pub stored_tidy : (p : PartitionView) (word : ℕ) (value : Owned) → LeadsTo p word → IsTidy p → IsTidy (stored p word value)
+pub stored_tidy : (p : PartitionState) (word : ℕ) (value : Owned) → LeadsTo p word → IsTidy p → IsTidy (stored p word value)
 stored_tidy p word value leads t = by (cell_of p word) refl
   where
     by : (slot : Option Cell) → cell_of p word ≡ slot → IsTidy (record p { cells = slice_set p.cells (address_of word) (with_value value slot) })
@@ -38,23 +38,23 @@ stored_tidy p word value leads t = by (cell_of p word) refl
     by (Some cell) is = states_set p.limit p.retired (address_of word) p.cells p.free (record cell { value = value }) leads.live t
 
 -- a call leaves the partition tidy
-pub tidy_after : (p : PartitionView) (issued : WordSet) (call : Call) → IsTidy p → IsAllowed p issued call → IsTidy (after p call)
-tidy_after p issued (Reserve spare) t a = t
-tidy_after p issued (Make cell) t a = states_made p.limit p.retired p.cells p.free cell a.1 t
+pub tidy_after : (p : PartitionState) (issued : WordSet) (call : Call) → IsTidy p → IsAllowed p issued call → IsTidy (after p call)
+tidy_after p issued (Reserve n) t a = t
+tidy_after p issued (Make cell) t a = states_made p.limit p.retired p.cells p.free cell a t
 tidy_after p issued (Store word value) t a = stored_tidy p word value a t
 tidy_after p issued (Give word) t a = freed_tidy p word t a.0
 tidy_after p issued (Renew word) t a =
-    made_again_tidy (freed p word) (cell_of p word) (omega (arith, a.4, length-set p.cells (address_of word) None)) (freed_tidy p word t a.0)
+    made_again_tidy (freed p word) (cell_of p word) (omega (arith, a.3, length-set p.cells (address_of word) None)) (freed_tidy p word t a.0)
 tidy_after p issued (Free word) t a = freed_tidy p word t a.0
 tidy_after p issued (Tint word) t a = t
 
 -- a call leaves the server as it was
-pub server_made_again : (p : PartitionView) (slot : Option Cell) → (made_again p slot).server ≡ p.server
+pub server_made_again : (p : PartitionState) (slot : Option Cell) → (made_again p slot).server ≡ p.server
 server_made_again p None = refl
 server_made_again p (Some cell) = refl
 
-pub server_after : (p : PartitionView) (call : Call) → (after p call).server ≡ p.server
-server_after p (Reserve spare) = refl
+pub server_after : (p : PartitionState) (call : Call) → (after p call).server ≡ p.server
+server_after p (Reserve n) = refl
 server_after p (Make cell) = refl
 server_after p (Store word value) = refl
 server_after p (Give word) = refl
@@ -63,13 +63,13 @@ server_after p (Free word) = refl
 server_after p (Tint word) = refl
 
 -- the word that a call gives is fresh, and the words fit afterwards
-pub step_fresh : (p : PartitionView) (issued : WordSet) (call : Call) → p.server < 2 ^ 8 → IsTidy p → Fits p issued → IsAllowed p issued call
+pub step_fresh : (p : PartitionState) (issued : WordSet) (call : Call) → p.server < 2 ^ 8 → IsTidy p → Fits p issued → IsAllowed p issued call
     → IfSome (word_given p call) (IsFresh issued) × Fits (after p call) (issued_after p issued call)
-step_fresh p issued (Reserve spare) s t f a = (tt, record { used = f.used; free = f.free })
-step_fresh p issued (Make cell) s t f a = made_fresh p cell issued s t a.1 f
+step_fresh p issued (Reserve n) s t f a = (tt, record { used = f.used; free = f.free })
+step_fresh p issued (Make cell) s t f a = made_fresh p cell issued s t a f
 step_fresh p issued (Store word value) s t f a = (tt, stored_fits p word value issued a f)
 step_fresh p issued (Give word) s t f a = (tt, freed_fits p word issued t a.0 a.1 f)
-step_fresh p issued (Renew word) s t f a = renewed_fresh p word issued s t a.4 a.0 a.2 a.1 f
+step_fresh p issued (Renew word) s t f a = renewed_fresh p word issued s t a.3 a.0 a.2 a.1 f
 step_fresh p issued (Free word) s t f a = (tt, freed_fits p word issued t a.0 a.1 f)
 step_fresh p issued (Tint word) s t f a = (tt, tinted_fits p word issued t a f)
 
@@ -77,7 +77,7 @@ step_fresh p issued (Tint word) s t f a = (tt, tinted_fits p word issued t a f)
 pub more_word : (issued : WordSet) (word w : ℕ) → issued w ≡ true → with_word issued word w ≡ true
 more_word issued word w is = rw is refl
 
-pub issued_more : (p : PartitionView) (issued : WordSet) (call : Call) (w : ℕ) → issued w ≡ true → issued_after p issued call w ≡ true
+pub issued_more : (p : PartitionState) (issued : WordSet) (call : Call) (w : ℕ) → issued w ≡ true → issued_after p issued call w ≡ true
 issued_more p issued (Make cell) w is = more_word issued (new_word p) w is
 issued_more p issued (Renew word) w is = more_word issued (new_word (freed p word)) w is
 issued_more p issued (Tint word) w is = more_word issued word w is
@@ -91,7 +91,7 @@ self_word issued word = by (issued word) refl
     by true is = rw is refl
     by false is = rw is (grind (arith, nat_tests))
 
-pub given_issued : (p : PartitionView) (issued : WordSet) (call : Call) → IfSome (word_given p call) (λ w. issued_after p issued call w ≡ true)
+pub given_issued : (p : PartitionState) (issued : WordSet) (call : Call) → IfSome (word_given p call) (λ w. issued_after p issued call w ≡ true)
 given_issued p issued (Make cell) = self_word issued (new_word p)
 given_issued p issued (Renew word) = self_word issued (new_word (freed p word))
 given_issued p issued _ = tt

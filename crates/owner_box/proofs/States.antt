@@ -149,33 +149,33 @@ live-put_cell limit retired cells (pair ∷ rest) cell t =
     rw (put_cell_old cells pair.0 cell first.used) (live-put cells pair.0 cell first.used first.vacant)
 
 -- a pick takes no room
-pub picked_room_more : (free : List (ℕ × ℕ)) (spare : ℕ) → spare ≤ picked_room free spare
-picked_room_more [] spare = omega arith
-picked_room_more (pair ∷ rest) spare = omega arith
+pub picked_room_more : (free : List (ℕ × ℕ)) (room : ℕ) → room ≤ picked_room free room
+picked_room_more [] room = omega arith
+picked_room_more (pair ∷ rest) room = omega arith
 
 -- the room after an object was made
-pub room_made : (limit retired live spare cell_room pair_room left : ℕ) (cells : List (Option Cell)) (free : List (ℕ × ℕ)) (cell : Cell)
-    → AreStates limit cells free retired → HasRoom cells live spare cell_room pair_room → 0 < spare → cell_room ≤ left + 1
-    → HasRoom (put_cell cells (picked free (length cells)).0 cell) (live + 1) (spare - 1) left (picked_room free pair_room)
-room_made limit retired live spare cell_room pair_room left cells free cell t r some rest = record {
+pub room_made : (limit retired live room cell_room pair_room left : ℕ) (cells : List (Option Cell)) (free : List (ℕ × ℕ)) (cell : Cell)
+    → AreStates limit cells free retired → HasRoom cells live room cell_room pair_room → 0 < room → cell_room ≤ left + 1
+    → HasRoom (put_cell cells (picked free (length cells)).0 cell) (live + 1) (room - 1) left (picked_room free pair_room)
+room_made limit retired live room cell_room pair_room left cells free cell t r some rest = record {
   count = omega (arith, live-put_cell limit retired cells free cell t, r.count);
   for_cells = omega (arith, r.for_cells, some, rest);
   for_pairs = omega (arith, r.for_pairs, some, picked_room_more free pair_room);
 }
 
 -- freeing an address takes one room at most
-pub freed_room_less : (limit word spare : ℕ) → spare ≤ freed_room limit word spare + 1
-freed_room_less limit word spare = by (nat_lt (colour_of word + 1) limit)
+pub freed_room_less : (limit word room : ℕ) → room ≤ freed_room limit word room + 1
+freed_room_less limit word room = by (nat_lt (colour_of word + 1) limit)
   where
-    by : (b : Bool) → spare ≤ (if b then spare - 1 else spare) + 1
+    by : (b : Bool) → room ≤ (if b then room - 1 else room) + 1
     by true = omega arith
     by false = omega arith
 
 -- the room after an object's address was freed
-pub room_freed : (limit live spare cell_room pair_room word : ℕ) (cells : List (Option Cell)) → IsSome (slice_index_or cells (address_of word) None)
-    → HasRoom cells live spare cell_room pair_room
-    → HasRoom (slice_set cells (address_of word) None) (live - 1) spare cell_room (freed_room limit word pair_room)
-room_freed limit live spare cell_room pair_room word cells some r =
+pub room_freed : (limit live room cell_room pair_room word : ℕ) (cells : List (Option Cell)) → IsSome (slice_index_or cells (address_of word) None)
+    → HasRoom cells live room cell_room pair_room
+    → HasRoom (slice_set cells (address_of word) None) (live - 1) room cell_room (freed_room limit word pair_room)
+room_freed limit live room cell_room pair_room word cells some r =
     let less = live-take cells (address_of word) some in record {
       count = omega (arith, less, r.count);
       for_cells = r.for_cells;
@@ -183,7 +183,7 @@ room_freed limit live spare cell_room pair_room word cells some r =
     }
 
 -- the room after a live address got another cell
-pub room_set : (live spare cell_room pair_room a : ℕ) (cells : List (Option Cell)) (cell : Cell) → IsSome (slice_index_or cells a None)
-    → HasRoom cells live spare cell_room pair_room → HasRoom (slice_set cells a (Some cell)) live spare cell_room pair_room
-room_set live spare cell_room pair_room a cells cell some r =
+pub room_set : (live room cell_room pair_room a : ℕ) (cells : List (Option Cell)) (cell : Cell) → IsSome (slice_index_or cells a None)
+    → HasRoom cells live room cell_room pair_room → HasRoom (slice_set cells a (Some cell)) live room cell_room pair_room
+room_set live room cell_room pair_room a cells cell some r =
     record { count = omega (arith, live-set cells a cell some, r.count); for_cells = r.for_cells; for_pairs = r.for_pairs }

@@ -1,8 +1,8 @@
--- What contracts see of a partition.
+-- What contracts see of a partition: its state, and beside it the room.
 use Rattle.std.specs.Prelude.{ℕ, List, Option}
 use Rattle.heap_partition.specs.declared.value.Cell.{Cell}
 
-pub record PartitionView : Type 0 where
+pub record PartitionState : Type 0 where
   pub server : ℕ
   -- colours are below it
   pub limit : ℕ
@@ -12,5 +12,8 @@ pub record PartitionView : Type 0 where
   pub free : List (ℕ × ℕ)
   -- how many addresses were retired for good
   pub retired : ℕ
+
+pub record PartitionView : Type 0 where
+  pub state : PartitionState
   -- how many objects can be made or renewed without memory
-  pub spare : ℕ
+  pub room : ℕ

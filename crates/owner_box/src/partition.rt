@@ -25,7 +25,7 @@ pub struct Partition {
     // how many addresses are live
     live: usize,
     // how many makes and renewals there is still room for, by what was reserved
-    spare: usize,
+    room: usize,
 }
 
 impl Model for Partition {
@@ -34,18 +34,21 @@ impl Model for Partition {
 
     ghost Value = { PartitionView };
 
-    ghost view = { λ p. record { server = p.server; limit = p.limit; cells = p.cells.slots; free = p.colours.free; retired = p.colours.retired; spare = p.spare } };
+    ghost view = { λ p. record {
+      state = record { server = p.server; limit = p.limit; cells = p.cells.state; free = p.colours.state.free; retired = p.colours.state.retired };
+      room = p.room;
+    } };
 
-    ghost invariant = { λ p. AreStates p.limit p.cells.slots p.colours.free p.colours.retired × HasRoom p.cells.slots p.live p.spare p.cells.spare p.colours.spare };
+    ghost invariant = { λ p. AreStates p.limit p.cells.state p.colours.state.free p.colours.state.retired × HasRoom p.cells.state p.live p.room p.cells.room p.colours.room };
 }
 
 // Puts the cell at a vacant address, or at the next one.
 fn put_cell(cells: &mut Cells, address: u64, cell: Cell)
-    requires room { 0 < cells.old.spare }
-    requires below { address ≤ length cells.old.slots }
-    requires vacant { IsVacant cells.old address }
-    ensures put { cells.new.slots ≡ put_cell cells.old.slots address cell }
-    ensures spare { cells.old.spare ≤ cells.new.spare + 1 }
+    requires room { 0 < cells.old.room }
+    requires below { address ≤ length cells.old.state }
+    requires vacant { IsVacant cells.old.state address }
+    ensures put { cells.new.state ≡ put_cell cells.old.state address cell }
+    ensures spare { cells.old.room ≤ cells.new.room + 1 }
 {
     if address == cells.next() {
         cells.put(cell);
@@ -58,7 +61,8 @@ impl Partition {
     /// The memory of that server, with no object and no memory taken yet. The limit of colours is from 1 to 65,536.
     pub fn new(alloc: Global, server: u8, limit: u32) -> Partition
         requires limit { (1 ≤ limit) × (limit ≤ 65536) }
-        ensures { result ≡ started server limit }
+        ensures state { result.state ≡ started server limit }
+        ensures room { result.room ≡ 0 }
     {
         Partition {
             server,
@@ -66,48 +70,49 @@ impl Partition {
             cells: Cells::new(alloc),
             colours: Colours::new(alloc),
             live: 0,
-            spare: 0,
+            room: 0,
         }
     }
 
     /// Makes room to make or renew `n` objects and to free every live one; a refusal changes nothing.
     pub fn reserve(&mut self, n: usize) -> Result<(), NoMemory>
-        ensures same { self.new ≡ record self.old { spare = self.new.spare } }
-        ensures room { OnOk result (n ≤ self.new.spare) }
-        ensures had_room { n ≤ self.old.spare → IsOk result }
-        ensures spare { self.old.spare ≤ self.new.spare }
+        ensures state { self.new.state ≡ self.old.state }
+        ensures room { OnOk result (n ≤ self.new.room) }
+        ensures had_room { n ≤ self.old.room → IsOk result }
+        ensures spare { self.old.room ≤ self.new.room }
         ensures refused { OnErr result (self.new ≡ self.old) }
     {
-        if n <= self.spare {
+        if n <= self.room {
             return Ok(());
         }
         let pairs = n.checked_add(self.live).ok_or(NoMemory)?;
         self.cells.reserve(n)?;
         self.colours.reserve(pairs)?;
-        self.spare = n;
+        self.room = n;
         Ok(())
     }
 
     /// Makes an object of the cell and answers its word, which was never issued before. There is room, and the next address
     /// is below 2^40.
     pub fn make(&mut self, cell: Cell) -> Word
-        requires room { 0 < self.old.spare }
-        requires few { length self.old.cells < 2 ^ 40 }
-        ensures word { result ≡ new_word self.old }
-        ensures made { self.new ≡ made self.old cell }
+        requires room { 0 < self.old.room }
+        requires few { length self.old.state.cells < 2 ^ 40 }
+        ensures word { result ≡ new_word self.old.state }
+        ensures made { self.new.state ≡ made self.old.state cell }
+        ensures spare { self.new.room + 1 ≡ self.old.room }
     {
         let next = self.cells.next();
         let (address, colour) = self.colours.pick(next);
         put_cell(&mut self.cells, address, cell);
         self.live += 1;
-        self.spare -= 1;
+        self.room -= 1;
         Word::pack(colour, self.server, address)
     }
 
     /// The cell that the word leads to: it has this server, a live address, and a colour below the limit.
     pub fn look(&self, word: Word) -> Cell
-        requires leads { LeadsTo self.now word }
-        ensures { cell_of self.now word ≡ Some result }
+        requires leads { LeadsTo self.now.state word }
+        ensures { cell_of self.now.state word ≡ Some result }
     {
         // The check asks that each type inside a cell is named where a cell is moved.
         let _inside: Option<Owned> = None;
@@ -116,8 +121,9 @@ impl Partition {
 
     /// Gives the object that the word leads to another value.
     pub fn store(&mut self, word: Word, value: Owned)
-        requires leads { LeadsTo self.old word }
-        ensures { self.new ≡ stored self.old word value }
+        requires leads { LeadsTo self.old.state word }
+        ensures stored { self.new.state ≡ stored self.old.state word value }
+        ensures spare { self.new.room ≡ self.old.room }
     {
         let address = word.address();
         let object = self.cells.get(address).unwrap().object;
@@ -126,9 +132,10 @@ impl Partition {
 
     /// The object that the word leads to leaves, and its address is freed. It needs no room.
     pub fn give(&mut self, word: Word) -> Cell
-        requires leads { LeadsTo self.old word }
-        ensures cell { cell_of self.old word ≡ Some result }
-        ensures freed { self.new ≡ freed self.old word }
+        requires leads { LeadsTo self.old.state word }
+        ensures cell { cell_of self.old.state word ≡ Some result }
+        ensures freed { self.new.state ≡ freed self.old.state word }
+        ensures spare { self.new.room ≡ self.old.room }
     {
         let cell = self.cells.take(word.address());
         self.colours.free(word, self.limit);
@@ -139,12 +146,13 @@ impl Partition {
     /// Gives the object that the word leads to a new word, and retires its address. There is room, the word has the last
     /// colour, and the next address is below 2^40.
     pub fn renew(&mut self, word: Word) -> Word
-        requires leads { LeadsTo self.old word }
-        requires last { IsLast self.old word }
-        requires room { 0 < self.old.spare }
-        requires few { length self.old.cells < 2 ^ 40 }
-        ensures word { result ≡ new_word (freed self.old word) }
-        ensures renewed { self.new ≡ renewed self.old word }
+        requires leads { LeadsTo self.old.state word }
+        requires last { IsLast self.old.state word }
+        requires room { 0 < self.old.room }
+        requires few { length self.old.state.cells < 2 ^ 40 }
+        ensures word { result ≡ new_word (freed self.old.state word) }
+        ensures renewed { self.new.state ≡ renewed self.old.state word }
+        ensures spare { self.new.room + 1 ≡ self.old.room }
     {
         let cell = self.give(word);
         self.make(cell)
@@ -152,16 +160,17 @@ impl Partition {
 
     /// The object that the word leads to goes, and its address is freed. It needs no room.
     pub fn free(&mut self, word: Word) -> Cell
-        requires leads { LeadsTo self.old word }
-        ensures cell { cell_of self.old word ≡ Some result }
-        ensures freed { self.new ≡ freed self.old word }
+        requires leads { LeadsTo self.old.state word }
+        ensures cell { cell_of self.old.state word ≡ Some result }
+        ensures freed { self.new.state ≡ freed self.old.state word }
+        ensures spare { self.new.room ≡ self.old.room }
     {
         self.give(word)
     }
 
     /// Whether the word leads to an object here: the condition of the calls that take a word.
     pub fn leads_to(&self, word: Word) -> bool
-        ensures { IsTrue result ↔ LeadsTo self.now word }
+        ensures { IsTrue result ↔ LeadsTo self.now.state word }
     {
         word.server() == self.server
             && u32::from(word.colour()) < self.limit
@@ -170,14 +179,14 @@ impl Partition {
 
     /// The least address never used.
     pub fn next(&self) -> u64
-        ensures { result ≡ length self.now.cells }
+        ensures { result ≡ length self.now.state.cells }
     {
         self.cells.next()
     }
 
     /// The limit of colours, from 1 to 65,536.
     pub fn limit(&self) -> u32
-        ensures limit { result ≡ self.now.limit }
+        ensures limit { result ≡ self.now.state.limit }
         ensures range { (1 ≤ result) × (result ≤ 65536) }
     {
         self.limit
@@ -185,15 +194,15 @@ impl Partition {
 
     /// How many addresses were retired.
     pub fn retired(&self) -> u64
-        ensures { result ≡ self.now.retired }
+        ensures { result ≡ self.now.state.retired }
     {
         self.colours.retired()
     }
 
     /// A law: each address that was ever used is live, free or retired, and their numbers are exact.
     pub fn tidy(&self)
-        ensures states { IsTidy self.now }
-        ensures server { self.now.server < 2 ^ 8 }
+        ensures states { IsTidy self.now.state }
+        ensures server { self.now.state.server < 2 ^ 8 }
     {
         let _server = self.server;
     }

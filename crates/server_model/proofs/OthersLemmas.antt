@@ -3,7 +3,7 @@ use Rattle.std.proofs.Common.{◌≡◌, ◌≢◌, ℕ, zero, suc, List, [], �
 use Rattle.std.specs.Prelude.{if◌then◌else◌, length, take, drop, slice_get, option_map}
 use Rattle.fr_typing.proofs.PlaceLemmas.{eq_cases}
 use Rattle.server_msgs.specs.declared.message.Message.{Message}
-use Rattle.journal.specs.declared.entry.Entry.{Entry}
+use Rattle.journal.specs.View.{EntryView}
 use Rattle.server_model.specs.declared.event.Event.{Event}
 use Rattle.server_model.specs.Servers.{Sent, Server, Cluster, server_at}
 use Rattle.server_model.specs.Work.{then_some}
@@ -21,7 +21,7 @@ left_alone (s ∷ ss) n new (suc i) x h ne =
     eq_cases (λ b. slice_get (if b then new ∷ ss else s ∷ with_server ss n new) (suc i) ≡ Some x) s.rest.number n (λ _. h) (λ _. left_alone ss n new i x h ne)
 
 -- an act gives a cluster that differs at one server
-acted : (k : Cluster) (e : Event) (d : Cluster × Entry) (p : Option (Server × Entry)) → option_map (λ y. (record k { servers = with_server k.servers e.server y.0 }, y.1)) p ≡ Some d
+acted : (k : Cluster) (e : Event) (d : Cluster × EntryView) (p : Option (Server × EntryView)) → option_map (λ y. (record k { servers = with_server k.servers e.server y.0 }, y.1)) p ≡ Some d
     → (i : ℕ) (x : Server) → slice_get k.servers i ≡ Some x → x.rest.number ≢ e.server → slice_get d.0.servers i ≡ Some x
 acted k e d None h i x there ne = cc
 acted k e d (Some y) h i x there ne =
@@ -55,7 +55,7 @@ all_accepted ss (y ∷ ys) i x h =
     let rest = all_accepted (accept_at ss y) ys i (with_waiting one.0 x) one.1 in
     (one.0 ++ rest.0, rest.1 ∙ ap (λ l. Some (record x { rest = record x.rest { inbox = l } })) (append_assoc x.rest.inbox one.0 rest.0))
 
-handed : (k : Cluster) (e : Event) (d : Cluster × Entry) (older : ℕ) (p : Option (Server × Entry))
+handed : (k : Cluster) (e : Event) (d : Cluster × EntryView) (older : ℕ) (p : Option (Server × EntryView))
     → option_map (λ y. (record k { servers = hand_over_newer e.server older y.0 k.servers }, y.1)) p ≡ Some d
     → (i : ℕ) (x : Server) → slice_get k.servers i ≡ Some x → x.rest.number ≢ e.server → (more : List Message) × (slice_get d.0.servers i ≡ Some (with_waiting more x))
 handed k e d older None h i x there ne = cc

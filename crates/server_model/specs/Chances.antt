@@ -3,7 +3,7 @@
 use Rattle.std.specs.Prelude.{◌≡◌, ℕ, ℤ, zero, suc, pos, ◌+◌, ◌*◌, ◌/◌, ◌%◌, ◌==◌, ◌&&◌, not, Bool, true, false, if◌then◌else◌, List, [], ◌∷◌, ◌++◌, length, Option, Some, None, slice_get}
 use Rattle.fr_base.specs.declared.instruction.Instr.{Instr}
 use Rattle.read_cache.specs.Cache.{Copy}
-use Rattle.thread_state.specs.View.{ThreadView}
+use Rattle.thread_state.specs.View.{ThreadState}
 use Rattle.server_msgs.specs.declared.message.Message.{Message}
 use Rattle.server_model.specs.declared.event.Event.{Event}
 use Rattle.server_model.specs.declared.event.What.TheVariants.{Step, Deliver, Evict, Migrate}
@@ -19,7 +19,7 @@ abbrev deliveries : ℕ → ℕ → List Message → List Event
 deliveries s i [] = []
 deliveries s i (m ∷ ms) = record { server = s; what = Deliver i } ∷ deliveries s (i + 1) ms
 
-abbrev steps : ℕ → List ThreadView → List Event
+abbrev steps : ℕ → List ThreadState → List Event
 steps s [] = []
 steps s (t ∷ ts) = if can_step t.phase then record { server = s; what = Step t.number } ∷ steps s ts else steps s ts
 
@@ -28,7 +28,7 @@ evictions s [] = []
 evictions s (c ∷ cs) = if c.users == 0 then record { server = s; what = Evict c.word } ∷ evictions s cs else evictions s cs
 
 -- to the next server, of a thread that hasn't moved since its last step
-abbrev migrations : ℕ → ℕ → List ThreadView → List Event
+abbrev migrations : ℕ → ℕ → List ThreadState → List Event
 migrations n s [] = []
 migrations n s (t ∷ ts) =
     if is_ready t.phase && (not t.moved_since_step && not ((s + 1) % n == s)) then record { server = s; what = Migrate t.number ((s + 1) % n) } ∷ migrations n s ts else migrations n s ts

@@ -1,7 +1,7 @@
 -- Events of a cluster (this project's rules): an event is done at its server, and its messages then wait at theirs.
 use Rattle.std.specs.Prelude.{ℕ, ◌==◌, if◌then◌else◌, List, [], ◌∷◌, ◌++◌, length, take, drop, Option, None, option_map}
 use Rattle.server_msgs.specs.declared.message.Message.{Message}
-use Rattle.journal.specs.declared.entry.Entry.{Entry}
+use Rattle.journal.specs.View.{EntryView}
 use Rattle.server_model.specs.declared.event.Event.{Event}
 use Rattle.server_model.specs.declared.event.What.{What}
 use Rattle.server_model.specs.Servers.{Sent, Server, Cluster, server_at}
@@ -50,11 +50,11 @@ hand_over k = record k { servers = accept_all (emptied k.servers) (outboxes k.se
 -- EVENTS
 
 -- what an event does where it is enabled
-abbrev pub done_at : Cluster → What → Server → Option (Server × Entry)
+abbrev pub done_at : Cluster → What → Server → Option (Server × EntryView)
 done_at k w s = if enabled k.options s w then does k.code k.options s w else None
 
 -- the event at its server, whose messages stay in its outbox
-abbrev pub act_at : Cluster → Event → Option (Cluster × Entry)
+abbrev pub act_at : Cluster → Event → Option (Cluster × EntryView)
 act_at k e = then_some (server_at k.servers e.server) (λ s. option_map (λ d. (record k { servers = with_server k.servers e.server d.0 }, d.1)) (done_at k e.what s))
 
 -- the new state of a server with so many older messages in its outbox, which stay there; the newer ones wait at the servers that they go to
@@ -63,7 +63,7 @@ hand_over_newer n older new ss = accept_all (with_server ss n (with_outbox (take
 
 -- the event, and the messages that it put into its server's outbox wait at their servers; None where the server isn't of the run,
 -- the event isn't enabled, or it has no result
-abbrev pub apply : Cluster → Event → Option (Cluster × Entry)
+abbrev pub apply : Cluster → Event → Option (Cluster × EntryView)
 apply k e =
     then_some (server_at k.servers e.server)
     (λ s. option_map (λ d. (record k { servers = hand_over_newer e.server (length s.rest.outbox) d.0 k.servers }, d.1)) (done_at k e.what s))

@@ -6,13 +6,13 @@ use Rattle.fr_base.specs.declared.release.Released.TheVariants as released
 use Rattle.fr_base.specs.declared.settings.Options.{Options}
 use Rattle.fr_base.specs.declared.step.Fresh.{Fresh}
 use Rattle.read_cache.specs.Cache.{can_evict, evict}
-use Rattle.thread_state.specs.View.{ThreadView}
+use Rattle.thread_state.specs.View.{ThreadState}
 use Rattle.thread_state.specs.declared.phase.Phase.{Phase}
 use Rattle.thread_state.specs.declared.phase.Phase.TheVariants as phase
 use Rattle.server_msgs.specs.declared.message.Message.{Message}
 use Rattle.server_msgs.specs.declared.message.Message.TheVariants as message
 use Rattle.journal.specs.declared.act.Act.TheVariants as act
-use Rattle.journal.specs.declared.entry.Entry.{Entry}
+use Rattle.journal.specs.View.{EntryView}
 use Rattle.server_model.specs.declared.event.What.{What}
 use Rattle.server_model.specs.declared.event.What.TheVariants.{Step, Deliver, Evict, Migrate}
 use Rattle.server_model.specs.Servers.{Rest, Server}
@@ -40,7 +40,7 @@ is_ready phase.Ready = true
 is_ready p = false
 
 -- the thread is here, in such a phase
-abbrev pub has_phase : (Phase → Bool) → Option ThreadView → Bool
+abbrev pub has_phase : (Phase → Bool) → Option ThreadState → Bool
 has_phase f None = false
 has_phase f (Some t) = f t.phase
 
@@ -63,17 +63,17 @@ abbrev pub begin_at : Server → Site
 begin_at s = record { work = begin_work s.rest; threads = s.threads }
 
 -- the entry of an event of a thread, or of none, with the names that its plain step took where it did one
-abbrev pub entry_of : Option ℕ → Option Fresh → Work → Entry
+abbrev pub entry_of : Option ℕ → Option Fresh → Work → EntryView
 entry_of thread names w = record {
   server = w.rest.number;
   thread = thread;
   done = names;
-  acts = record { items = w.acts; spare = 0 };
-  labels = record { items = w.labels; spare = 0 };
+  acts = w.acts;
+  labels = w.labels;
 }
 
 -- so many events were done before; the server, and the entry
-abbrev pub left_by : ℕ → Option ℕ → Option Fresh → Site → Server × Entry
+abbrev pub left_by : ℕ → Option ℕ → Option Fresh → Site → Server × EntryView
 left_by n thread names x = (record { rest = x.work.rest; threads = x.threads; events = n + 1 }, entry_of thread names x.work)
 
 -- STEPS
@@ -112,7 +112,7 @@ abbrev pub step_in : List Instr → ℕ → Hand → Option Stepped
 step_in code servers h = then_some (slice_get code h.thread.pc) (λ i. step servers i h)
 
 -- the thread stands where it stood
-abbrev pub stepped : Server → Stepped → Server × Entry
+abbrev pub stepped : Server → Stepped → Server × EntryView
 stepped s d = left_by s.events (Some d.hand.thread.number) d.names (put_back s.threads d.hand)
 
 -- DELIVERIES
@@ -158,7 +158,7 @@ evict_copy c w = if can_evict w.rest.cache c then Some (note (act.Evict c) (with
 -- what an enabled event does to a server, and its entry; an event that does no plain step has no labels. None where a condition
 -- fails of one of the calls that it makes on the server's parts, where the thread of an answer isn't here or doesn't wait for it,
 -- and where a value of another kind stands where a pointer, an integer, a mutex, a task or an owned value is needed
-abbrev pub does : List Instr → Options → Server → What → Option (Server × Entry)
+abbrev pub does : List Instr → Options → Server → What → Option (Server × EntryView)
 does code o s (Step t) = option_map (stepped s) (then_some (in_hand (begin_at s) t) (step_in code o.servers))
 does code o s (Deliver i) = option_map (left_by s.events None None) (deliver code i s)
 does code o s (Evict w) = option_map (left_by s.events None None) (beside_threads (evict_copy w) (begin_at s))

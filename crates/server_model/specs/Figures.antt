@@ -3,13 +3,13 @@ use Rattle.std.specs.Prelude.{ℕ, ℤ, zero, suc, ◌+◌, ◌==◌, ◌&&◌, 
 use Rattle.fr_base.specs.Kinds.{kind_number}
 use Rattle.fr_base.specs.declared.instruction.Instr.{Instr}
 use Rattle.fr_base.specs.declared.settings.Options.{Options}
-use Rattle.thread_state.specs.View.{ThreadView}
+use Rattle.thread_state.specs.View.{ThreadState}
 use Rattle.thread_state.specs.declared.phase.Phase.{Phase}
 use Rattle.thread_state.specs.declared.phase.Phase.TheVariants as phase
 use Rattle.heap_partition.specs.declared.value.Cell.{Cell}
 use Rattle.journal.specs.declared.act.Act.{Act}
 use Rattle.journal.specs.declared.act.Act.TheVariants as act
-use Rattle.journal.specs.declared.entry.Entry.{Entry}
+use Rattle.journal.specs.View.{EntryView}
 use Rattle.fr_base.specs.declared.label.Label.{Label}
 use Rattle.read_cache.specs.Cache.{Copy}
 use Rattle.journal.specs.Journals.{labels, prints}
@@ -27,14 +27,14 @@ use Rattle.server_model.specs.Clusters.{act_at, hand_over, outboxes}
 -- a cluster, the entries that led to it, and the kinds of the messages between different servers
 pub record Ran : Type 0 where
   pub cluster : Cluster
-  pub journal : List Entry
+  pub journal : List EntryView
   pub kinds : List ℕ
 
 abbrev pub kinds_of : List Sent → List ℕ
 kinds_of [] = []
 kinds_of (x ∷ xs) = kind_number (kind_of x.message) ∷ kinds_of xs
 
-abbrev pub ran_on : Ran → Option (Cluster × Entry) → Option Ran
+abbrev pub ran_on : Ran → Option (Cluster × EntryView) → Option Ran
 ran_on r None = None
 ran_on r (Some d) = Some (record { cluster = hand_over d.0; journal = r.journal ++ d.1 ∷ []; kinds = r.kinds ++ kinds_of (outboxes d.0.servers) })
 
@@ -57,13 +57,13 @@ abbrev pub one_if : Bool → ℕ
 one_if true = 1
 one_if false = 0
 
-abbrev pub steps_in : List Entry → ℕ
+abbrev pub steps_in : List EntryView → ℕ
 steps_in [] = 0
 steps_in (e ∷ es) = one_if (is_some e.done) + steps_in es
 
-abbrev pub acts_in : List Entry → List Act
+abbrev pub acts_in : List EntryView → List Act
 acts_in [] = []
-acts_in (e ∷ es) = e.acts.items ++ acts_in es
+acts_in (e ∷ es) = e.acts ++ acts_in es
 
 abbrev pub count_acts : (Act → ℕ) → List Act → ℕ
 count_acts f [] = 0
@@ -107,7 +107,7 @@ abbrev pub is_over : Phase → Bool
 is_over phase.Over = true
 is_over p = false
 
-abbrev pub all_over : List ThreadView → Bool
+abbrev pub all_over : List ThreadState → Bool
 all_over [] = true
 all_over (t ∷ ts) = is_over t.phase && all_over ts
 
@@ -177,16 +177,16 @@ abbrev pub labels_of : Option Ran → List Label
 labels_of None = []
 labels_of (Some r) = labels r.journal
 
-abbrev pub acts_each : List Entry → List (List Act)
+abbrev pub acts_each : List EntryView → List (List Act)
 acts_each [] = []
-acts_each (e ∷ es) = e.acts.items ∷ acts_each es
+acts_each (e ∷ es) = e.acts ∷ acts_each es
 
 -- the acts of each event
 abbrev pub acts_of : Option Ran → List (List Act)
 acts_of None = []
 acts_of (Some r) = acts_each r.journal
 
-abbrev pub flags_at : List ThreadView → List Bool
+abbrev pub flags_at : List ThreadState → List Bool
 flags_at [] = []
 flags_at (t ∷ ts) = t.moved_since_step ∷ flags_at ts
 
@@ -233,7 +233,7 @@ migrate s t target = at s (Migrate t target) ∷ []
 
 -- EVENTS AS THEY COME
 
-abbrev pub step_first : List ThreadView → ℕ → Option Event
+abbrev pub step_first : List ThreadState → ℕ → Option Event
 step_first [] s = None
 step_first (t ∷ ts) s = if can_step t.phase then Some (at s (Step t.number)) else step_first ts s
 

@@ -5,7 +5,7 @@ use Rattle.heap_partition.specs.declared.value.Owned.{Owned}
 use Rattle.join_home.specs.Tasks.{ask, ended, let_go_of}
 use Rattle.join_home.specs.declared.answers.EndedAs.{EndedAs}
 use Rattle.join_home.specs.declared.answers.EndedAs.TheVariants.{Answer, Both, LetGo, Kept}
-use Rattle.thread_state.specs.View.{ThreadView}
+use Rattle.thread_state.specs.View.{ThreadState}
 use Rattle.thread_state.specs.declared.phase.Phase.{Phase}
 use Rattle.thread_state.specs.declared.phase.Phase.TheVariants as phase
 use Rattle.server_msgs.specs.declared.message.Message.TheVariants as message
@@ -15,7 +15,7 @@ use Rattle.server_model.specs.Drop.{give_up}
 use Rattle.server_model.specs.Sharing.{given, give_up_left}
 
 -- a thread stands here from now on: a new one, or one that was moved
-abbrev pub arrive : ThreadView → Site → Option Site
+abbrev pub arrive : ThreadState → Site → Option Site
 arrive t s = Some (record s { threads = with_thread s.threads t })
 
 -- the result of a thread goes to that thread at that server

@@ -1,7 +1,7 @@
 -- What sending, receiving and handing over do to the messages of a cluster, and what an event leaves as it was.
 use Rattle.std.specs.Prelude.{◌≡◌, ◌≢◌, ℕ, ◌+◌, ⊤, ◌==◌, if◌then◌else◌, is_some, true, List, [], ◌∷◌, ◌++◌, Some, slice_get, option_map}
 use Rattle.server_msgs.specs.declared.message.Message.{Message}
-use Rattle.journal.specs.declared.entry.Entry.{Entry}
+use Rattle.journal.specs.View.{EntryView}
 use Rattle.server_model.specs.declared.event.Event.{Event}
 use Rattle.server_model.specs.Servers.{Sent, Rest, Server, Cluster, server_at}
 use Rattle.server_model.specs.Work.{sent_from, receive}
@@ -70,9 +70,9 @@ HandingOverDelivers = (k : Cluster) (n : ℕ)
 
 -- the other servers stay as they were, until messages are handed over
 abbrev pub ActingLeavesOthers : Type 0
-ActingLeavesOthers = (k : Cluster) (e : Event) (d : Cluster × Entry) → act_at k e ≡ Some d → (i : ℕ) (x : Server) → slice_get k.servers i ≡ Some x → x.rest.number ≢ e.server → slice_get d.0.servers i ≡ Some x
+ActingLeavesOthers = (k : Cluster) (e : Event) (d : Cluster × EntryView) → act_at k e ≡ Some d → (i : ℕ) (x : Server) → slice_get k.servers i ≡ Some x → x.rest.number ≢ e.server → slice_get d.0.servers i ≡ Some x
 
 -- of the other servers an event changes the waiting messages alone, and there it adds some at the end; what is in their outboxes stays there
 abbrev pub ApplyingLeavesOthers : Type 0
-ApplyingLeavesOthers = (k : Cluster) (e : Event) (d : Cluster × Entry) → apply k e ≡ Some d → (i : ℕ) (x : Server) → slice_get k.servers i ≡ Some x → x.rest.number ≢ e.server
+ApplyingLeavesOthers = (k : Cluster) (e : Event) (d : Cluster × EntryView) → apply k e ≡ Some d → (i : ℕ) (x : Server) → slice_get k.servers i ≡ Some x → x.rest.number ≢ e.server
     → (more : List Message) × (slice_get d.0.servers i ≡ Some (with_waiting more x))

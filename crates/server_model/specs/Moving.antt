@@ -2,7 +2,7 @@
 use Rattle.std.specs.Prelude.{ℕ, Bool, true, false, List, [], ◌∷◌, ◌++◌, Option, map, option_map}
 use Rattle.read_cache.specs.Cache.{Copy}
 use Rattle.mut_borrow.specs.declared.shared.SharedRef.{SharedRef}
-use Rattle.thread_state.specs.View.{ThreadView}
+use Rattle.thread_state.specs.View.{ThreadState}
 use Rattle.thread_state.specs.declared.value.Value.{Value}
 use Rattle.thread_state.specs.declared.value.Value.TheVariants as value
 use Rattle.server_msgs.specs.declared.message.Message.TheVariants as message
@@ -22,19 +22,19 @@ pinned_words (value.Shared r ∷ vs) = pinned_word r r.pinned (pinned_words vs)
 pinned_words (v ∷ vs) = pinned_words vs
 
 -- all the uses of a thread
-abbrev pub used_words : ThreadView → List ℕ
+abbrev pub used_words : ThreadState → List ℕ
 used_words t = t.walk ++ pinned_words t.slots ++ pinned_words t.temps
 
 -- the thread with an empty walk and without a pinned reference
-abbrev pub packed : ThreadView → ThreadView
+abbrev pub packed : ThreadState → ThreadState
 packed t = record t { walk = []; slots = map unpinned t.slots; temps = map unpinned t.temps }
 
 -- a thread as a parcel, and the copies after its uses of them have ended; None where one of them has no user
-abbrev pub pack_thread : ThreadView → List Copy → Option (ThreadView × List Copy)
+abbrev pub pack_thread : ThreadState → List Copy → Option (ThreadState × List Copy)
 pack_thread t cs = option_map (λ left. (packed t, left)) (unpin_all (used_words t) cs)
 
 -- the parcel goes to that server
-abbrev pub depart : ℕ → Work → ThreadView × List Copy → Work
+abbrev pub depart : ℕ → Work → ThreadState × List Copy → Work
 depart target w p = send target (message.Migrate p.0) (note (act.Depart p.0.number target) (with_cache p.1 w))
 
 -- the thread leaves for that server; it is noted that it has moved since its last step

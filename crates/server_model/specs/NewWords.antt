@@ -3,7 +3,7 @@ use Rattle.std.specs.Prelude.{ℕ, ◌+◌, ◌^◌, ◌==◌, ◌&&◌, Bool, n
 use Rattle.global_addr.specs.Words.{colour_of, next_word}
 use Rattle.heap_partition.specs.declared.value.BoxPtr.{BoxPtr}
 use Rattle.heap_partition.specs.declared.value.Cell.{Cell}
-use Rattle.owner_box.specs.View.{PartitionView}
+use Rattle.owner_box.specs.View.{PartitionState}
 use Rattle.owner_box.specs.Partition.{made, freed, renewed, new_word}
 use Rattle.journal.specs.declared.act.Act.{Act}
 use Rattle.journal.specs.declared.act.Act.TheVariants as act
@@ -15,11 +15,11 @@ pub record NewWord : Type 0 where
   pub work : Work
 
 -- another object can be made: the next address is below 2^40
-abbrev pub can_grow : PartitionView → Bool
+abbrev pub can_grow : PartitionState → Bool
 can_grow p = nat_lt (length p.cells) (2 ^ 40)
 
 -- the word has the last colour
-abbrev pub is_last : PartitionView → ℕ → Bool
+abbrev pub is_last : PartitionState → ℕ → Bool
 is_last p w = colour_of w + 1 == p.limit
 
 -- a cell lies here from now on; the act names its word

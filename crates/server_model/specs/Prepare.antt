@@ -12,7 +12,7 @@ use Rattle.mut_borrow.specs.declared.shared.SharedRef.{SharedRef}
 use Rattle.mut_borrow.specs.declared.mutable.MutRef.{MutRef}
 use Rattle.mut_borrow.specs.declared.mutable.Cleaned.{Cleaned}
 use Rattle.mut_borrow.specs.declared.mutable.Cleaned.TheVariants.{Same, Tinted, MustRenew}
-use Rattle.thread_state.specs.View.{ThreadView}
+use Rattle.thread_state.specs.View.{ThreadState}
 use Rattle.thread_state.specs.declared.phase.Phase.{Phase}
 use Rattle.thread_state.specs.declared.phase.Phase.TheVariants as phase
 use Rattle.thread_state.specs.declared.value.Value.{Value}
@@ -42,7 +42,7 @@ ending s (Some (value.Mut r)) = Some (EndRef s)
 ending s v = None
 
 -- an assignment to a variable ends a mutable reference that stands there, and one through a star writes
-abbrev pub assigned : Lval → ℕ → ThreadView → Option Access
+abbrev pub assigned : Lval → ℕ → ThreadState → Option Access
 assigned w zero t = ending (in_slot w.slot) (slice_get t.slots w.slot)
 assigned w (suc d) t = Some (WriteTo w)
 
@@ -52,7 +52,7 @@ read_or_taken w (suc d) true = WriteTo w
 read_or_taken w d take = ReadTo w
 
 -- the access of an instruction; None where it follows no place
-abbrev pub access_of : Instr → ThreadView → Option Access
+abbrev pub access_of : Instr → ThreadState → Option Access
 access_of (instr.Assign w o) t = assigned w w.depth t
 access_of (instr.Read w take) t = Some (read_or_taken w w.depth take)
 access_of (instr.Borrow w) t = Some (ReadPointer w)

@@ -1,14 +1,14 @@
 -- The state of a server and of a cluster, as the servers' code is seen (in the manner of DRust, OSDI 2024; homes, tasks and
--- mutexes are this project's). Room that was made before isn't part of it: 0 stands where a view of a part has its room.
+-- mutexes are this project's). Room that was made before isn't part of it.
 use Rattle.std.specs.Prelude.{ℕ, zero, suc, ◌+◌, ◌==◌, List, [], ◌∷◌, Option, Some, None, if◌then◌else◌}
 use Rattle.fr_base.specs.declared.instruction.Instr.{Instr}
 use Rattle.fr_base.specs.declared.settings.Options.{Options}
-use Rattle.owner_box.specs.View.{PartitionView}
+use Rattle.owner_box.specs.View.{PartitionState}
 use Rattle.owner_box.specs.Partition.{started}
 use Rattle.read_cache.specs.Cache.{Copy}
 use Rattle.mutex_home.specs.Mutexes.{Mutexes}
 use Rattle.join_home.specs.Tasks.{Task}
-use Rattle.thread_state.specs.View.{ThreadView, new_thread}
+use Rattle.thread_state.specs.View.{ThreadState, new_thread}
 use Rattle.server_msgs.specs.declared.message.Message.{Message}
 
 -- a message under way to a server
@@ -20,7 +20,7 @@ pub record Sent : Type 0 where
 pub record Rest : Type 0 where
   pub number : ℕ
   -- its part of the heap
-  pub partition : PartitionView
+  pub partition : PartitionState
   -- its cached copies, the oldest first
   pub cache : List Copy
   pub mutexes : Mutexes
@@ -36,7 +36,7 @@ pub record Rest : Type 0 where
 pub record Server : Type 0 where
   pub rest : Rest
   -- the threads that stand here, by rising number; those that are over stay
-  pub threads : List ThreadView
+  pub threads : List ThreadState
   -- how many events it has done
   pub events : ℕ
 
@@ -72,7 +72,7 @@ empty_servers o s zero = []
 empty_servers o s (suc n) = empty_server o s ∷ empty_servers o (s + 1) n
 
 -- the main thread, at its first instruction without a slot
-abbrev pub main_thread : ThreadView
+abbrev pub main_thread : ThreadState
 main_thread = new_thread 0 0 []
 
 abbrev pub with_main : List Server → List Server

@@ -12,13 +12,13 @@ use Rattle.global_addr.specs.Words.{colour_of, server_of}
 use Rattle.heap_partition.specs.declared.value.Cell.{Cell}
 use Rattle.heap_partition.specs.declared.value.Owned.{Owned}
 use Rattle.heap_partition.specs.declared.value.Owned.TheVariants as owned
-use Rattle.owner_box.specs.View.{PartitionView}
+use Rattle.owner_box.specs.View.{PartitionState}
 use Rattle.owner_box.specs.Partition.{cell_of}
 use Rattle.fr_base.specs.Names.{same_object}
 use Rattle.read_cache.specs.Cache.{Copy, can_pin, pin, can_unpin, unpin}
 use Rattle.mutex_home.specs.Mutexes.{Mutexes}
 use Rattle.join_home.specs.Tasks.{Task}
-use Rattle.thread_state.specs.View.{ThreadView}
+use Rattle.thread_state.specs.View.{ThreadState}
 use Rattle.thread_state.specs.declared.phase.Phase.{Phase}
 use Rattle.thread_state.specs.declared.phase.Phase.TheVariants as phase
 use Rattle.thread_state.specs.declared.value.Value.{Value}
@@ -37,12 +37,12 @@ pub record Work : Type 0 where
 -- the same with the thread that the event changes
 pub record Hand : Type 0 where
   pub work : Work
-  pub thread : ThreadView
+  pub thread : ThreadState
 
 -- the same with all threads that stand there
 pub record Site : Type 0 where
   pub work : Work
-  pub threads : List ThreadView
+  pub threads : List ThreadState
 
 -- goes on with what is there
 abbrev pub then_some : {X Y : Type 0} → Option X → (X → Option Y) → Option Y
@@ -89,7 +89,7 @@ without_hops (a ∷ rest) = if is_hop a then without_hops rest else a ∷ withou
 -- PARTS OF THE SERVER
 
 -- the server with another partition
-abbrev pub with_partition : PartitionView → Work → Work
+abbrev pub with_partition : PartitionState → Work → Work
 with_partition p w = record w { rest = record w.rest { partition = p } }
 
 -- the server with other copies
@@ -105,36 +105,36 @@ abbrev pub with_tasks : List Task → Work → Work
 with_tasks ts w = record w { rest = record w.rest { tasks = ts } }
 
 -- the word may be handed to the partition: it is of this server, its address is live and its colour below the limit
-abbrev pub leads_here : PartitionView → ℕ → Bool
+abbrev pub leads_here : PartitionState → ℕ → Bool
 leads_here p w = ((server_of w == p.server) && is_some (cell_of p w)) && nat_lt (colour_of w) p.limit
 
 -- the cell of such a word
-abbrev pub look : PartitionView → ℕ → Option Cell
+abbrev pub look : PartitionState → ℕ → Option Cell
 look p w = if leads_here p w then cell_of p w else None
 
 -- the same where it is the cell of that object
-abbrev pub look_object : PartitionView → ℕ → ObjNo → Option Cell
+abbrev pub look_object : PartitionState → ℕ → ObjNo → Option Cell
 look_object p w o = then_some (look p w) (λ c. if same_object c.object o then Some c else None)
 
 -- THREADS
 
 -- the thread of that number
-abbrev pub thread_in : List ThreadView → ℕ → Option ThreadView
+abbrev pub thread_in : List ThreadState → ℕ → Option ThreadState
 thread_in [] t = None
 thread_in (x ∷ xs) t = if x.number == t then Some x else thread_in xs t
 
 -- another state of a thread, where it stands
-abbrev pub set_thread : List ThreadView → ThreadView → List ThreadView
+abbrev pub set_thread : List ThreadState → ThreadState → List ThreadState
 set_thread [] new = []
 set_thread (x ∷ xs) new = if x.number == new.number then new ∷ xs else x ∷ set_thread xs new
 
 -- the others
-abbrev pub without_thread : List ThreadView → ℕ → List ThreadView
+abbrev pub without_thread : List ThreadState → ℕ → List ThreadState
 without_thread [] t = []
 without_thread (x ∷ xs) t = if x.number == t then xs else x ∷ without_thread xs t
 
 -- a thread among the others, by rising number
-abbrev pub with_thread : List ThreadView → ThreadView → List ThreadView
+abbrev pub with_thread : List ThreadState → ThreadState → List ThreadState
 with_thread [] new = new ∷ []
 with_thread (x ∷ xs) new = if nat_lt new.number x.number then new ∷ x ∷ xs else x ∷ with_thread xs new
 
@@ -143,7 +143,7 @@ abbrev pub in_hand : Site → ℕ → Option Hand
 in_hand s t = option_map (λ x. record { work = s.work; thread = x }) (thread_in s.threads t)
 
 -- the thread stands where it stood
-abbrev pub put_back : List ThreadView → Hand → Site
+abbrev pub put_back : List ThreadState → Hand → Site
 put_back ts h = record { work = h.work; threads = set_thread ts h.thread }
 
 -- what changes a thread that is here

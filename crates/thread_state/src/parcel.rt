@@ -7,35 +7,35 @@ use crate::thread::Thread;
 use std::marker::Model;
 
 /// A thread on its way to another server: it uses no cached word, and none of its references keeps a copy in use.
-/// Contracts see it as the thread.
+/// Contracts see it as the thread's state; its room isn't seen.
 #[derive(Drop)]
 pub struct Parcel {
     thread: Thread,
 }
 
 impl Model for Parcel {
-    ghost use Rattle.thread_state.specs.View.{ThreadView, IsPacked};
+    ghost use Rattle.thread_state.specs.View.{ThreadState, IsPacked};
 
-    ghost Value = { ThreadView };
+    ghost Value = { ThreadState };
 
-    ghost view = { λ p. p.thread };
+    ghost view = { λ p. p.thread.state };
 
-    ghost invariant = { λ p. IsPacked p.thread };
+    ghost invariant = { λ p. IsPacked p.thread.state };
 }
 
 impl Parcel {
     /// The thread, packed. No memory.
     pub fn new(thread: Thread) -> Parcel
-        requires packed { IsPacked thread }
-        ensures { result ≡ thread }
+        requires packed { IsPacked thread.state }
+        ensures { result ≡ thread.state }
     {
         Parcel { thread }
     }
 
     /// The thread, unpacked. No memory.
     pub fn into_thread(self) -> Thread
-        ensures thread { result ≡ self }
-        ensures packed { IsPacked result }
+        ensures thread { result.state ≡ self }
+        ensures packed { IsPacked result.state }
     {
         self.thread
     }

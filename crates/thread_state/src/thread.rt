@@ -46,18 +46,20 @@ impl Model for Thread {
     ghost Value = { ThreadView };
 
     ghost view = { λ t. record {
-      number = t.number;
-      pc = t.pc;
-      slots = t.slots.items;
-      temps = t.temps.items;
-      phase = t.phase;
-      passed = t.passed;
-      walk = t.walk.items;
-      gift = t.gift;
-      made = t.made;
-      moved_since_step = t.moved_since_step;
-      home = t.home;
-      spare = min (vec_capacity t.slots - vec_len t.slots) (min (vec_capacity t.temps - vec_len t.temps) (vec_capacity t.walk - vec_len t.walk));
+      state = record {
+        number = t.number;
+        pc = t.pc;
+        slots = t.slots.items;
+        temps = t.temps.items;
+        phase = t.phase;
+        passed = t.passed;
+        walk = t.walk.items;
+        gift = t.gift;
+        made = t.made;
+        moved_since_step = t.moved_since_step;
+        home = t.home;
+      };
+      room = min (vec_capacity t.slots - vec_len t.slots) (min (vec_capacity t.temps - vec_len t.temps) (vec_capacity t.walk - vec_len t.walk));
     } };
 }
 
@@ -71,7 +73,7 @@ fn room<T>(items: &Vec<T>) -> usize
 impl Thread {
     /// A thread that is ready at the instruction `pc`, with these variables and nothing else. It takes no memory.
     pub fn new(alloc: Global, number: ThreadNo, pc: u32, slots: Vec<Value>) -> Thread
-        ensures { result ≡ record (new_thread number pc slots.items) { spare = result.spare } }
+        ensures { result.state ≡ new_thread number pc slots.items }
     {
         Thread {
             number,
@@ -90,13 +92,13 @@ impl Thread {
 
     /// Makes room for `n` more items in each of `slots`, `temps` and `walk`; a refusal changes nothing.
     pub fn reserve(&mut self, n: usize) -> Result<(), NoMemory>
-        ensures same { self.new ≡ record self.old { spare = self.new.spare } }
-        ensures room { OnOk result (n ≤ self.new.spare) }
-        ensures had_room { n ≤ self.old.spare → IsOk result }
-        ensures spare { self.old.spare ≤ self.new.spare }
+        ensures state { self.new.state ≡ self.old.state }
+        ensures room { OnOk result (n ≤ self.new.room) }
+        ensures had_room { n ≤ self.old.room → IsOk result }
+        ensures spare { self.old.room ≤ self.new.room }
         ensures refused { OnErr result (self.new ≡ self.old) }
     {
-        // The list with the least room comes last, so that what is seen as spare stays as it was where it is refused.
+        // The list with the least room comes last, so that the room that is seen stays as it was where it is refused.
         let least = room(&self.slots)
             .min(room(&self.temps))
             .min(room(&self.walk));

@@ -9,7 +9,7 @@ use Rattle.heap_partition.specs.declared.value.Owned.TheVariants as owned
 use Rattle.fr_typing.specs.Kinds.{Owned, unit, int, box, mutex, task, same_owned, own, shared, mutable, view, Piece, whole, gone, boxed}
 use Rattle.fr_typing.specs.Places.{Slot, Env}
 use Rattle.fr_typing.specs.Checks.{owned_levels}
-use Rattle.thread_state.specs.View.{ThreadView}
+use Rattle.thread_state.specs.View.{ThreadState}
 use Rattle.thread_state.specs.declared.value.Value.{Value as Any}
 use Rattle.thread_state.specs.declared.value.Value.TheVariants as value
 use Rattle.heap_law.specs.Names.{tot, other, if_so}
@@ -130,7 +130,7 @@ held_fits n m v (c ∷ e) (u ∷ us) y z (inr h) =
     let z2 = no_more (above_mark n c us) (locked_of n e us) z in
     held_fits n m v e us y2.1 z2.1 h
 
-entry_fits : (n : NameTypes) (t : ThreadView) (m : MutexNo) (v : Value) (o : Option Entry) → entry_wrong (forms_of n t) o ≡ 0 → entry_wrong (λ y. locked_of n y.env (reverse t.slots)) o ≡ 0 → IsHeld m v (reverse t.slots) → fits n (n.mutex m) v ≡ true
+entry_fits : (n : NameTypes) (t : ThreadState) (m : MutexNo) (v : Value) (o : Option Entry) → entry_wrong (forms_of n t) o ≡ 0 → entry_wrong (λ y. locked_of n y.env (reverse t.slots)) o ≡ 0 → IsHeld m v (reverse t.slots) → fits n (n.mutex m) v ≡ true
 entry_fits n t m v None y z h = absurd (omega (arith, y))
 entry_fits n t m v (Some x) y z h = held_fits n m v x.env (reverse t.slots) (no_more (slots_wrong n x.env (reverse t.slots)) (temps_wrong n x.temps (reverse t.temps)) y).0 z h
 

@@ -3,7 +3,7 @@ use Rattle.std.specs.Prelude.{◌≡◌, ℕ, ◌+◌, ◌==◌, false, if◌the
 use Rattle.fr_base.specs.declared.instruction.Instr.{Instr}
 use Rattle.fr_base.specs.declared.settings.Options.{Options}
 use Rattle.fr_base.specs.declared.place.Lval.{Lval}
-use Rattle.journal.specs.declared.entry.Entry.{Entry}
+use Rattle.journal.specs.View.{EntryView}
 use Rattle.fr_typing.specs.Kinds.{unit, int, box, shared, mutable, Piece, whole}
 use Rattle.fr_store.specs.Keys.{slot_k}
 use Rattle.fr_store.specs.Typed.{Exact, owns, refers, hole, KeyTypes}
@@ -48,7 +48,7 @@ wrong_in table n order s =
     misfits n s + forms_wrong table n s + locked_wrong table n s + leads_wrong (exact_in table s) s + views_wrong table s + parents_wrong order s
     + ends_wrong table n s + branches_wrong n s + over_wrong s
 
-abbrev after : (Cluster → ℕ) → Option (Cluster × Entry) → ℕ
+abbrev after : (Cluster → ℕ) → Option (Cluster × EntryView) → ℕ
 after go None = 1
 after go (Some d) = go d.0
 

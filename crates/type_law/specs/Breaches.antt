@@ -3,7 +3,7 @@ use Rattle.std.specs.Prelude.{◌≡◌, ℕ, false, List, [], ◌∷◌, Some}
 use Rattle.global_addr.specs.Words.{word_of}
 use Rattle.fr_base.specs.declared.place.Lval.{Lval}
 use Rattle.heap_partition.specs.declared.value.Owned.TheVariants as owned
-use Rattle.thread_state.specs.View.{ThreadView, new_thread}
+use Rattle.thread_state.specs.View.{ThreadState, new_thread}
 use Rattle.thread_state.specs.declared.value.Value.{Value}
 use Rattle.thread_state.specs.declared.value.Value.TheVariants as value
 use Rattle.thread_state.specs.declared.phase.Phase.TheVariants as phase
@@ -26,7 +26,7 @@ use Rattle.type_law.specs.Locking.{twice_table, locking_main, locking_server, lo
 use Rattle.type_law.specs.Along.{exact_in, integers}
 
 -- the cluster with these threads at its one server
-abbrev with_threads : Cluster → Server → List ThreadView → Cluster
+abbrev with_threads : Cluster → Server → List ThreadState → Cluster
 with_threads k s ts = record k { servers = record s { threads = ts } ∷ [] }
 
 abbrev leads_in : Table → Cluster → ℕ

@@ -8,7 +8,7 @@ use Rattle.fr_base.specs.declared.instruction.Instr.{Instr}
 use Rattle.fr_base.specs.declared.instruction.Instr.TheVariants as instr
 use Rattle.heap_partition.specs.declared.value.Owned.{Owned}
 use Rattle.heap_partition.specs.declared.value.Owned.TheVariants as owned
-use Rattle.thread_state.specs.View.{ThreadView}
+use Rattle.thread_state.specs.View.{ThreadState}
 use Rattle.thread_state.specs.declared.value.Value.{Value}
 use Rattle.thread_state.specs.declared.value.Value.TheVariants as value
 use Rattle.thread_state.specs.declared.phase.Phase.{Phase}
@@ -106,7 +106,7 @@ abbrev pub entry_wrong : (Entry → ℕ) → Option Entry → ℕ
 entry_wrong f None = 1
 entry_wrong f (Some x) = f x
 
-abbrev pub forms_of : NameTypes → ThreadView → Entry → ℕ
+abbrev pub forms_of : NameTypes → ThreadState → Entry → ℕ
 forms_of n t x = slots_wrong n x.env (reverse t.slots) + temps_wrong n x.temps (reverse t.temps)
 
 -- a sentence of the threads that aren't over, at their entries
@@ -249,7 +249,7 @@ abbrev all_astray : KeyTypes → Ground → ℕ → (ℕ → Key) → ℕ → Li
 all_astray exact g t key i [] = 0
 all_astray exact g t key i (v ∷ vs) = astray g t (exact (key i)) v + all_astray exact g t key (i + 1) vs
 
-abbrev astray_of : KeyTypes → Ground → ThreadView → ℕ
+abbrev astray_of : KeyTypes → Ground → ThreadState → ℕ
 astray_of exact g t = all_astray exact g t.number (slot_k t.number) 0 t.slots + all_astray exact g t.number (temp_k t.number) 0 t.temps
 
 -- a reference leads to the slot or object that the place of its exact type leads to in its thread, one of the places that typing gives it; where

@@ -1,6 +1,6 @@
 -- A cluster in which main holds a mutex: the hidden slot of the lock is its mark, and the slot above has its content.
 use Rattle.std.specs.Prelude.{◌≡◌, pos, List, [], ◌∷◌, ◌++◌, Some, None}
-use Rattle.thread_state.specs.View.{ThreadView, new_thread}
+use Rattle.thread_state.specs.View.{ThreadState, new_thread}
 use Rattle.thread_state.specs.declared.value.Value.TheVariants as value
 use Rattle.heap_partition.specs.declared.value.Owned.TheVariants as owned
 use Rattle.server_model.specs.Servers.{Server, Cluster}
@@ -36,14 +36,14 @@ twice_entries =
 abbrev pub twice_table : Table
 twice_table = table_of twice_entries
 
-abbrev pub locking_main : ThreadView
+abbrev pub locking_main : ThreadState
 locking_main = new_thread 0 3 (value.Own (owned.Mutex the_mutex) ∷ value.Held the_mutex ∷ value.Own (owned.Int (pos 1)) ∷ [])
 
 abbrev pub locking_server : Server
 locking_server = record {
   rest = record {
     number = 0;
-    partition = record { server = 0; limit = 65536; cells = []; free = []; retired = 0; spare = 0 };
+    partition = record { server = 0; limit = 65536; cells = []; free = []; retired = 0 };
     cache = [];
     mutexes = record { home = 0; made = 1; there = record { number = the_mutex; content = None; shares = 1; queue = [] } ∷ [] };
     tasks = [];

@@ -1,7 +1,7 @@
 -- A cluster in which main waits at its par, and both branches have a view of what its reference leads to.
 use Rattle.std.specs.Prelude.{◌≡◌, false, [], ◌∷◌, ◌++◌, Some}
 use Rattle.global_addr.specs.Words.{word_of}
-use Rattle.thread_state.specs.View.{ThreadView, new_thread}
+use Rattle.thread_state.specs.View.{ThreadState, new_thread}
 use Rattle.thread_state.specs.declared.value.Value.{Value}
 use Rattle.thread_state.specs.declared.value.Value.TheVariants as value
 use Rattle.thread_state.specs.declared.phase.Phase.TheVariants as phase
@@ -16,14 +16,14 @@ use Rattle.type_law.specs.Typed.{cluster_of}
 abbrev pub seen : Value
 seen = value.Shared (record { word = word_of 0 0 0; object = object 0; pinned = false })
 
-abbrev pub parent : ThreadView
+abbrev pub parent : ThreadState
 parent = record (new_thread 0 5 (value.Own (box (word_of 0 0 0) 0) ∷ seen ∷ [])) { phase = phase.WaitPar 1 2; made = 1 }
 
 abbrev pub paired_server : Server
 paired_server = record {
   rest = record {
     number = 0;
-    partition = record { server = 0; limit = 65536; cells = cell 0 (int 1) ∷ []; free = []; retired = 0; spare = 0 };
+    partition = record { server = 0; limit = 65536; cells = cell 0 (int 1) ∷ []; free = []; retired = 0 };
     cache = [];
     mutexes = record { home = 0; made = 0; there = [] };
     tasks = task 1 (in_pair 0 false) ∷ task 2 (in_pair 0 false) ∷ [];

@@ -1,7 +1,7 @@
 -- Clusters that have types: the start of a code, and its run after two events.
 use Rattle.std.specs.Prelude.{◌≡◌, [], ◌∷◌, Option, Some, None}
 use Rattle.global_addr.specs.Words.{word_of}
-use Rattle.thread_state.specs.View.{ThreadView, new_thread}
+use Rattle.thread_state.specs.View.{ThreadState, new_thread}
 use Rattle.thread_state.specs.declared.value.Value.TheVariants as value
 use Rattle.server_model.specs.Servers.{Server, Cluster, start_of}
 use Rattle.server_model.specs.Figures.{Ran, run, steps_of}
@@ -9,14 +9,14 @@ use Rattle.heap_law.specs.Clusters.{boxed_code, options, cell, int, box}
 use Rattle.type_law.specs.ClusterTypes.{Types}
 
 -- main has a box in its slot, and stands at the assignment
-abbrev pub boxed_main : ThreadView
+abbrev pub boxed_main : ThreadState
 boxed_main = record (new_thread 0 2 (value.Own (box (word_of 0 0 0) 0) ∷ [])) { made = 1 }
 
 abbrev pub boxed_server : Server
 boxed_server = record {
   rest = record {
     number = 0;
-    partition = record { server = 0; limit = 4; cells = cell 0 (int 1) ∷ []; free = []; retired = 0; spare = 0 };
+    partition = record { server = 0; limit = 4; cells = cell 0 (int 1) ∷ []; free = []; retired = 0 };
     cache = [];
     mutexes = record { home = 0; made = 0; there = [] };
     tasks = [];
