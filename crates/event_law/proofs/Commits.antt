@@ -7,8 +7,6 @@ use Rattle.fr_base.specs.declared.place.Op.{Op}
 use Rattle.fr_base.specs.declared.step.Fresh.{Fresh}
 use Rattle.fr_base.specs.declared.label.Label.TheVariants as label
 use Rattle.fr_base.specs.declared.instruction.Operand.{Operand}
-use Rattle.fr_base.specs.declared.instruction.Instr.{Instr}
-use Rattle.fr_base.specs.declared.instruction.Instr.TheVariants as instr
 use Rattle.fr_plain.specs.Acts.{result_of}
 use Rattle.heap_partition.specs.declared.value.Owned.{Owned}
 use Rattle.heap_partition.specs.declared.value.Owned.TheVariants as owned
@@ -23,9 +21,7 @@ use Rattle.server_model.specs.Drop.{drop_labels, drop_value}
 use Rattle.server_model.specs.Commit.{Committed, done, waits, refused, done_where, go_on, goes_on, let_slot, label_dropped, replace_slot, store_labels, store_at, replace_at, assign, take_out, read_as, read, shared_from, borrow_from, borrow, lent, lent_word, mutable_from, borrow_mut_from, borrow_mut, discard, drop_slot, print, par_end, commit}
 use Rattle.heap_law.specs.Things.{Thing, Location, in_hand, at_temp, holds, shares, borrows, value_things}
 use Rattle.heap_law.specs.Things as things
-use Rattle.event_law.specs.Kinds.{instr_kind}
 use Rattle.event_law.specs.Laws.{Gives}
-use Rattle.event_law.proofs.Proved.{IsProvedKind}
 use Rattle.event_law.proofs.Trades.{Trade, tot-append}
 use Rattle.event_law.proofs.Rules.{Rule, none, comes, carries, turned, beside, in_turn, Kept}
 use Rattle.event_law.proofs.Results.{then_gives, map_gives, over_gives, bind_gives}
@@ -90,7 +86,7 @@ module _ {K : List Thing → Type 0} (k : Kept K) (n e t : ℕ) (others : List T
   abbrev Ok : Hand → Type 0
   Ok = HandOk K n e t others
 
-  goes_keep : (o : Option Hand) → Gives Ok o → CommittedOk Ok (goes_on o)
+  pub goes_keep : (o : Option Hand) → Gives Ok o → CommittedOk Ok (goes_on o)
   goes_keep None g = tt
   goes_keep (Some h) g = thread_changes k n e t others h (record h.thread { pc = h.thread.pc + 1; phase = phase.Ready }) refl (λ f. refl) g
 
@@ -103,7 +99,7 @@ module _ {K : List Thing → Type 0} (k : Kept K) (n e t : ℕ) (others : List T
 
   -- SLOTS AND PLACES
 
-  lets_slot : (o : Operand) (h : Hand) → Ok h → Gives Ok (let_slot o h)
+  pub lets_slot : (o : Operand) (h : Hand) → Ok h → Gives Ok (let_slot o h)
   lets_slot o h g = over_gives _ Ok (pop o h) _ (pops k n e t others o h g) (λ p u. pushes_slot k n e t others p.item p.hand u)
 
   -- the value at a spot goes to the hand, where another one comes from there
@@ -128,7 +124,7 @@ module _ {K : List Thing → Type 0} (k : Kept K) (n e t : ℕ) (others : List T
       bind_gives (HandOk K n e t (held n t old ++ others)) Ok (store_at s v (label_dropped old h)) (drop_value nowhere old)
       (stores_at s old v (label_dropped old h) (value_labelled s (drop_labels old) h ∙ q) (labelled k n e t (holds in_hand v ∷ others) (drop_labels old) h g)) (λ h2 u. drops_keep k n e t others nowhere old h2 u))
 
-  assigns : (w : Lval) (d : ℕ) (o : Operand) (s : Spot) (h : Hand) → Ok h → Gives Ok (assign w d o s h)
+  pub assigns : (w : Lval) (d : ℕ) (o : Operand) (s : Spot) (h : Hand) → Ok h → Gives Ok (assign w d o s h)
   assigns w zero o s h g = bind_gives _ Ok (pop o h) _ (pops k n e t others o h g) (λ p u. replaces_slot w.slot s p.item p.hand u)
   assigns w (suc d) o s h g = bind_gives _ Ok (pop_owned o h) _ (pops_owned k n e t others o h g) (λ p u. replaces_at s p.item p.hand u)
 
@@ -143,54 +139,40 @@ module _ {K : List Thing → Type 0} (k : Kept K) (n e t : ℕ) (others : List T
   reads_as false s v h q g = map_gives Ok (second_of v) _ (λ u d. pushes_light u h (second_rule n t v u d) g)
   reads_as true s v h q g = over_gives (HandOk K n e t (held n t v ++ others)) Ok (take_out s h) (push_temp v) (takes_out s v h q g) (λ h2 u. pushes_temp k n e t others v h2 u)
 
-  reads : (take : Bool) (s : Spot) (h : Hand) → Ok h → Gives Ok (read take s h)
+  pub reads : (take : Bool) (s : Spot) (h : Hand) → Ok h → Gives Ok (read take s h)
   reads take s h g =
       then_gives Ok (value_at h s) _ (λ v q. reads_as take s v (load_at s h) (value_labelled s (Rattle.server_model.specs.Places.load_of (cell_at h s)) h ∙ q) (labelled k n e t others (Rattle.server_model.specs.Places.load_of (cell_at h s)) h g))
 
   -- REFERENCES
 
-  borrows_from : (w : Lval) (d : ℕ) (s : Spot) (h : Hand) → Ok h → Gives Ok (borrow_from w d s h)
+  pub borrows_from : (w : Lval) (d : ℕ) (s : Spot) (h : Hand) → Ok h → Gives Ok (borrow_from w d s h)
   borrows_from w zero s h g = pushes_light (value.SharedSlot w.slot) h none g
   borrows_from w (suc d) s h g = then_gives Ok (value_at h s) _ (λ v q. map_gives Ok (shared_from v) _ (λ r c. pushes_light r h (shared_rule n t v r c) g))
 
-  lends_from : (w : Lval) (d : ℕ) (s : Spot) (h : Hand) → Ok h → Gives Ok (borrow_mut_from w d s h)
+  pub lends_from : (w : Lval) (d : ℕ) (s : Spot) (h : Hand) → Ok h → Gives Ok (borrow_mut_from w d s h)
   lends_from w zero s h g = pushes_light (value.MutSlot w.slot) h none g
   lends_from w (suc d) s h g =
       then_gives Ok (value_at h s) _ (λ v q. map_gives Ok (mutable_from h.thread.phase (record w { depth = d }) v) _ (λ r c. pushes_light r h (mutable_rule n t h.thread.phase (record w { depth = d }) v r c) g))
 
-  discards : (s : Spot) (h : Hand) → Ok h → Gives Ok (discard s h)
+  pub discards : (s : Spot) (h : Hand) → Ok h → Gives Ok (discard s h)
   discards s h g =
       bind_gives _ Ok (pop_temp h) _ (pops_top k n e t others h g) (λ p u. drops_keep k n e t others s p.item (label_dropped p.item p.hand) (labelled k n e t (held n t p.item ++ others) (drop_labels p.item) p.hand u))
 
-  drops_slot : (s : Spot) (h : Hand) → Ok h → Gives Ok (drop_slot s h)
+  pub drops_slot : (s : Spot) (h : Hand) → Ok h → Gives Ok (drop_slot s h)
   drops_slot s h g =
       bind_gives _ Ok (pop_slot h) _ (pops_last k n e t others h g) (λ p u. drops_keep k n e t others s p.item (label_dropped p.item p.hand) (labelled k n e t (held n t p.item ++ others) (drop_labels p.item) p.hand u))
 
   -- NUMBERS
 
-  calculates : (f : Op) (a b : Operand) (h : Hand) → Ok h → Gives Ok (Rattle.server_model.specs.Commit.arith f a b h)
+  pub calculates : (f : Op) (a b : Operand) (h : Hand) → Ok h → Gives Ok (Rattle.server_model.specs.Commit.arith f a b h)
   calculates f a b h g =
       bind_gives _ Ok (pop_int b h) _ (pops_int k n e t others b h g) (λ y u.
       over_gives _ Ok (pop_int a y.hand) _ (pops_int k n e t others a y.hand u) (λ x v.
       pushes_light (value.Own (owned.Int (result_of f x.item y.item))) x.hand (comes (holds in_hand (owned.Int (result_of f x.item y.item))) refl) v))
 
-  prints : (o : Operand) (h : Hand) → Ok h → Gives Ok (print o h)
+  pub prints : (o : Operand) (h : Hand) → Ok h → Gives Ok (print o h)
   prints o h g = over_gives _ Ok (pop_int o h) _ (pops_int k n e t others o h g) (λ p u. labelled k n e t others (label.Print p.item ∷ []) p.hand u)
 
-  par_ends : (p : Phase) (h : Hand) → Ok h → Gives Ok (par_end p h)
+  pub par_ends : (p : Phase) (h : Hand) → Ok h → Gives Ok (par_end p h)
   par_ends (phase.GotPar a b) h g = g
   par_ends _ h g = tt
-
-  -- the instructions whose step is proved
-  pub commits : (servers : ℕ) (i : Instr) (s : Spot) (h : Hand) → IsProvedKind (instr_kind i) → Ok h → CommittedOk Ok (commit servers i s h)
-  commits m (instr.Let o) s h l g = goes_keep (let_slot o h) (lets_slot o h g)
-  commits m (instr.Assign w o) s h l g = goes_keep (assign w w.depth o s h) (assigns w w.depth o s h g)
-  commits m (instr.Read w take) s h l g = goes_keep (read take s h) (reads take s h g)
-  commits m (instr.Borrow w) s h l g = goes_keep (borrow w s h) (borrows_from w w.depth s h g)
-  commits m (instr.BorrowMut w) s h l g = goes_keep (borrow_mut w s h) (lends_from w w.depth s h g)
-  commits m (instr.Arith f a b) s h l g = goes_keep (Rattle.server_model.specs.Commit.arith f a b h) (calculates f a b h g)
-  commits m (instr.Print o) s h l g = goes_keep (print o h) (prints o h g)
-  commits m instr.Discard s h l g = goes_keep (discard s h) (discards s h g)
-  commits m instr.DropSlot s h l g = goes_keep (drop_slot s h) (drops_slot s h g)
-  commits m instr.ParEnd s h l g = goes_keep (par_end h.thread.phase h) (par_ends h.thread.phase h g)
-  commits m _ s h l g = absurd l

@@ -20,4 +20,11 @@ pub mod Sound
 pub mod Drops
 pub mod Commits
 pub mod Steps
-pub mod Leaving
+pub mod AllKinds
+pub mod MutexLists
+pub mod MutexMessages
+pub mod Gifts
+pub mod TaskMessages
+pub mod GivingSteps
+pub mod AllSteps
+pub mod Migrations

@@ -1,20 +1,26 @@
 -- What the delivery of a message keeps: the message is in the hand, with what it carries.
-use Rattle.std.proofs.Common.{◌≡◌, ℕ, List, ◌∷◌, ◌++◌, true, refl}
+use Rattle.std.proofs.Common.{◌≡◌, ℕ, List, ◌∷◌, ◌++◌, true, refl, arith}
 use Rattle.fr_base.specs.declared.instruction.Instr.{Instr}
 use Rattle.server_msgs.specs.declared.message.Message.{Message}
 use Rattle.server_msgs.specs.declared.message.Message.TheVariants as message
 use Rattle.server_model.specs.Work.{Site}
 use Rattle.server_model.specs.Objects.{deliver_fetch, deliver_fetched, deliver_move, deliver_moved, deliver_drop}
-use Rattle.server_model.specs.Events.{deliver_message}
-use Rattle.heap_law.specs.Things.{Thing, flies, sent, message_things}
+use Rattle.server_model.specs.Events.{release, deliver_message}
+use Rattle.server_model.specs.Sharing.{deliver_lock, deliver_granted, deliver_unlock, deliver_dup, deliver_dupped}
+use Rattle.server_model.specs.Joining.{deliver_join, deliver_joined}
+use Rattle.heap_law.specs.Things.{Thing, in_hand, as_content, as_result, holds, flies, sent, thread_things, message_things}
 use Rattle.event_law.specs.Kinds.{message_kind}
 use Rattle.event_law.specs.Laws.{Gives}
 use Rattle.event_law.proofs.Proved.{IsProvedKind}
-use Rattle.event_law.proofs.Rules.{receives, is_plain, Kept}
+use Rattle.event_law.proofs.Rules.{hands_on, receives, is_plain, Kept}
 use Rattle.event_law.proofs.Bags.{SiteOk}
 use Rattle.event_law.proofs.Chains.{work_front, hand_front, site_trades, at_thread_keeps, beside_keeps}
 use Rattle.event_law.proofs.Objects.{one_goes}
 use Rattle.event_law.proofs.ObjectMessages.{fetches, fetched_comes, moves_away, moved_comes, drops_object}
+use Rattle.fr_base.specs.declared.release.Released.TheVariants as released
+use Rattle.event_law.proofs.MutexMessages.{locks_deliver, unlocks_deliver, dups_deliver, releases_deliver}
+use Rattle.event_law.proofs.TaskMessages.{joins_deliver, releases_task, arrives}
+use Rattle.event_law.proofs.Gifts.{granted_comes, dupped_comes, joined_comes}
 
 module _ {K : List Thing → Type 0} (k : Kept K) (n e : ℕ) (others : List Thing) where
   -- a message that owns nothing goes from the hand of a site
@@ -34,4 +40,27 @@ module _ {K : List Thing → Type 0} (k : Kept K) (n e : ℕ) (others : List Thi
   message_keeps code (message.Drop w o) p x g =
       beside_keeps k n e (sent n (message.Drop w o) ∷ others) others (deliver_drop w o) x
       (λ y b u. drops_object k n e (b ++ others) n w o y (work_front k n e b others (sent n (message.Drop w o)) y u)) g
-  message_keeps code _ p x g = absurd p
+  message_keeps code (message.Lock m s t) p x g =
+      beside_keeps k n e others others (deliver_lock m s t) x (λ y b u. locks_deliver k n e (b ++ others) m s t y u) (site_receives others (message.Lock m s t) x refl g)
+  message_keeps code (message.Granted m v t) p x g =
+      at_thread_keeps k n e (holds (as_content m) v ∷ others) others t (deliver_granted m v) x (λ h b u. granted_comes k n e t (b ++ others) m v h (hand_front k n e t b others (holds (as_content m) v) h u))
+      (site_receives (holds (as_content m) v ∷ others) (message.Granted m v t) x refl g)
+  message_keeps code (message.Unlock m v) p x g =
+      beside_keeps k n e (holds in_hand v ∷ others) others (deliver_unlock m v) x (λ y b u. unlocks_deliver k n e (b ++ others) m v y (work_front k n e b others (holds in_hand v) y u))
+      (site_trades k n e (holds (as_content m) v ∷ others) (holds in_hand v ∷ others) x (record { rest = others; before = λ f. omega arith; after = λ f. omega arith }) (hands_on (as_content m) in_hand v) (site_receives (holds (as_content m) v ∷ others) (message.Unlock m v) x refl g))
+  message_keeps code (message.Dup m s t) p x g =
+      beside_keeps k n e others others (deliver_dup m s t) x (λ y b u. dups_deliver k n e (b ++ others) m s t y u) (site_receives others (message.Dup m s t) x refl g)
+  message_keeps code (message.Dupped m t) p x g =
+      at_thread_keeps k n e (sent n (message.Dupped m t) ∷ others) others t (deliver_dupped m) x (λ h b u. dupped_comes k n e t (b ++ others) n m h (hand_front k n e t b others (sent n (message.Dupped m t)) h u)) g
+  message_keeps code (message.Release (released.Mutex m)) p x g =
+      beside_keeps k n e (sent n (message.Release (released.Mutex m)) ∷ others) others (release (released.Mutex m)) x (λ y b u. releases_deliver k n e (b ++ others) m y (work_front k n e b others (sent n (message.Release (released.Mutex m))) y u)) g
+  message_keeps code (message.Release (released.Task t)) p x g =
+      beside_keeps k n e (sent n (message.Release (released.Task t)) ∷ others) others (release (released.Task t)) x (λ y b u. releases_task k n e (b ++ others) t y (work_front k n e b others (sent n (message.Release (released.Task t))) y u)) g
+  message_keeps code (message.Start t) p x g = arrives k n e others t x (site_receives (thread_things n true t ++ others) (message.Start t) x refl g)
+  message_keeps code (message.Migrate t) p x g = arrives k n e others t x (site_receives (thread_things n true t ++ others) (message.Migrate t) x refl g)
+  message_keeps code (message.Join u s t) p x g =
+      beside_keeps k n e others others (deliver_join u s t) x (λ y b w. joins_deliver k n e (b ++ others) u s t y w) (site_receives others (message.Join u s t) x refl g)
+  message_keeps code (message.Joined u v t) p x g =
+      at_thread_keeps k n e (holds (as_result u) v ∷ others) others t (deliver_joined u v) x (λ h b w. joined_comes k n e t (b ++ others) u v h (hand_front k n e t b others (holds (as_result u) v) h w))
+      (site_receives (holds (as_result u) v ∷ others) (message.Joined u v t) x refl g)
+  message_keeps code (message.Finished u v) p x g = absurd p

@@ -1,6 +1,6 @@
 -- The kinds of events that are proved to leave the sums.
 use Rattle.std.specs.Bool.{⊤}
-use Rattle.event_law.specs.Kinds.{Kind, fetch, fetched, moving, moved, drop, evicts, step_let, step_assign, step_read, step_borrow, step_borrow_mut, step_arith, step_print, step_discard, step_drop_slot, step_par_end}
+use Rattle.event_law.specs.Kinds.{Kind, asks_lock, granted, unlocked, asks_dup, dupped, released, starts, asks_join, joined, arrives, step_join, step_mutex, step_dup, step_lock, step_unlock, step_end, fetch, fetched, moving, moved, drop, evicts, migrates, step_let, step_assign, step_read, step_borrow, step_borrow_mut, step_arith, step_print, step_discard, step_drop_slot, step_par_end}
 
 abbrev pub IsProvedKind : Kind → Type 0
 IsProvedKind fetch = ⊤
@@ -19,4 +19,21 @@ IsProvedKind step_print = ⊤
 IsProvedKind step_discard = ⊤
 IsProvedKind step_drop_slot = ⊤
 IsProvedKind step_par_end = ⊤
+IsProvedKind asks_lock = ⊤
+IsProvedKind granted = ⊤
+IsProvedKind unlocked = ⊤
+IsProvedKind asks_dup = ⊤
+IsProvedKind dupped = ⊤
+IsProvedKind released = ⊤
+IsProvedKind starts = ⊤
+IsProvedKind asks_join = ⊤
+IsProvedKind joined = ⊤
+IsProvedKind arrives = ⊤
+IsProvedKind step_join = ⊤
+IsProvedKind step_mutex = ⊤
+IsProvedKind step_dup = ⊤
+IsProvedKind step_lock = ⊤
+IsProvedKind step_unlock = ⊤
+IsProvedKind step_end = ⊤
+IsProvedKind migrates = ⊤
 IsProvedKind k = ⊥

@@ -20,7 +20,8 @@ use Rattle.event_law.proofs.Bags.{HandOk, all_standing}
 use Rattle.event_law.proofs.Chains.{takes, puts_back}
 use Rattle.event_law.proofs.Prepares.{PreparedOk, prepares}
 use Rattle.event_law.proofs.Drops.{settles}
-use Rattle.event_law.proofs.Commits.{CommittedOk, commits}
+use Rattle.event_law.proofs.Commits.{CommittedOk}
+use Rattle.event_law.proofs.AllSteps.{commits}
 use Rattle.event_law.proofs.Events.{Left, begins_site, ends_site}
 
 module _ {K : List Thing → Type 0} (k : Kept K) (n e t : ℕ) (others : List Thing) where

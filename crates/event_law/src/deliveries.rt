@@ -1,4 +1,4 @@
-//! What the delivery of a message keeps.
+//! What the delivery of a message about objects keeps.
 
 ghost use Rattle.event_law.specs.Kinds.{drop, fetch, fetched, moved, moving};
 ghost use Rattle.event_law.specs.Laws.{Leaves, NumbersDiffer, OneState, OneTaskValue, ServersDiffer, SharesCounted};

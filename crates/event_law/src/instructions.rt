@@ -1,6 +1,6 @@
 //! What the step of an instruction keeps, whatever its place needs first.
 
-ghost use Rattle.event_law.specs.Kinds.{step_arith, step_assign, step_borrow, step_borrow_mut, step_discard, step_drop_slot, step_let, step_par_end, step_print, step_read};
+ghost use Rattle.event_law.specs.Kinds.{step_arith, step_assign, step_borrow, step_borrow_mut, step_discard, step_drop_slot, step_let, step_print, step_read};
 ghost use Rattle.event_law.specs.Laws.{Leaves, NumbersDiffer, OneState, OneTaskValue, ServersDiffer, SharesCounted};
 ghost use Rattle.heap_law.specs.Coherent.{OneHome, OneOwner, Users};
 
@@ -110,16 +110,4 @@ pub fn drop_slot_keeps()
     ensures tasks { Leaves step_drop_slot OneTaskValue }
     ensures threads { Leaves step_drop_slot NumbersDiffer }
     ensures servers { Leaves step_drop_slot ServersDiffer }
-{}
-
-/// Both branches of a pair have ended.
-pub fn par_end_keeps()
-    ensures home { Leaves step_par_end OneHome }
-    ensures owner { Leaves step_par_end OneOwner }
-    ensures states { Leaves step_par_end OneState }
-    ensures users { Leaves step_par_end Users }
-    ensures shares { Leaves step_par_end SharesCounted }
-    ensures tasks { Leaves step_par_end OneTaskValue }
-    ensures threads { Leaves step_par_end NumbersDiffer }
-    ensures servers { Leaves step_par_end ServersDiffer }
 {}

@@ -2,6 +2,9 @@
 #![tactic(auto)]
 
 pub mod deliveries;
-pub mod evictions;
+pub mod exchanges;
 pub mod instructions;
+pub mod joining;
+pub mod leaving;
 pub mod parts;
+pub mod sharing;

@@ -1,6 +1,6 @@
-//! What the eviction of a copy keeps.
+//! What the eviction of a copy keeps, and what the migration of a thread keeps.
 
-ghost use Rattle.event_law.specs.Kinds.{evicts};
+ghost use Rattle.event_law.specs.Kinds.{evicts, migrates};
 ghost use Rattle.event_law.specs.Laws.{Leaves, NumbersDiffer, OneState, OneTaskValue, ServersDiffer, SharesCounted};
 ghost use Rattle.heap_law.specs.Coherent.{OneHome, OneOwner, Users};
 
@@ -14,4 +14,16 @@ pub fn eviction_keeps()
     ensures tasks { Leaves evicts OneTaskValue }
     ensures threads { Leaves evicts NumbersDiffer }
     ensures servers { Leaves evicts ServersDiffer }
+{}
+
+/// A thread leaves for another server, without its uses.
+pub fn migration_keeps()
+    ensures home { Leaves migrates OneHome }
+    ensures owner { Leaves migrates OneOwner }
+    ensures states { Leaves migrates OneState }
+    ensures users { Leaves migrates Users }
+    ensures shares { Leaves migrates SharesCounted }
+    ensures tasks { Leaves migrates OneTaskValue }
+    ensures threads { Leaves migrates NumbersDiffer }
+    ensures servers { Leaves migrates ServersDiffer }
 {}

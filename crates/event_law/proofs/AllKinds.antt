@@ -12,7 +12,7 @@ use Rattle.server_model.specs.Work.{thread_in, then_some}
 use Rattle.server_model.specs.Clusters.{act_at}
 use Rattle.server_model.specs.Events.{does}
 use Rattle.heap_law.specs.Things.{Thing, server_things, things_of}
-use Rattle.event_law.specs.Kinds.{Kind, message_kind, instr_kind, kind_at, kind_of}
+use Rattle.event_law.specs.Kinds.{Kind, message_kind, instr_kind, kind_at}
 use Rattle.event_law.specs.Sums.{Sums}
 use Rattle.heap_law.specs.Coherent.{OneHome, OneOwner, Users}
 use Rattle.event_law.specs.Laws.{Gives, Leaves, OneState, SharesCounted, OneTaskValue, NumbersDiffer, ServersDiffer}
@@ -21,6 +21,7 @@ use Rattle.event_law.proofs.Results.{weaker}
 use Rattle.event_law.proofs.RulesKeep.{sums_kept}
 use Rattle.event_law.proofs.Events.{Left, acts, delivers, evicts_keep}
 use Rattle.event_law.proofs.Messages.{message_keeps}
+use Rattle.event_law.proofs.Migrations.{migrates_keep}
 use Rattle.event_law.proofs.Steps.{steps_keep}
 
 some_same : {a b : Kind} → Some a ≡ Some b → b ≡ a
@@ -47,7 +48,7 @@ module _ (c : Cluster) (others : List Thing) (s : Server) (g : Sums (server_thin
   doing (Step t) q = steps_keep sums_kept c.code c.options others s t (stepping t q) g
   doing (Deliver i) q = delivering i q
   doing (Evict w) q = evicts_keep sums_kept c.code c.options others s w g
-  doing (Migrate t target) q = absurd (proved_as Rattle.event_law.specs.Kinds.migrates kind q p)
+  doing (Migrate t target) q = migrates_keep sums_kept c.code c.options others s t target g
 
 pub proved_leave : (kind : Kind) → IsProvedKind kind → Leaves kind (λ c. Sums (things_of c))
 proved_leave kind p c e q b =
