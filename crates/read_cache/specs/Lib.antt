@@ -1,2 +1,4 @@
 pub mod Cache
 pub mod Computes
+pub mod Slots
+pub mod View
