@@ -3,16 +3,10 @@
 
 mod fault;
 mod grammar_laws;
-#[cfg(test)]
-mod grammar_tests;
 mod leaves;
 mod marks;
-#[cfg(test)]
-mod parse_tests;
 mod parser;
 mod print_laws;
-#[cfg(test)]
-mod print_tests;
 mod printer;
 mod program;
 

@@ -16,13 +16,7 @@ mod resolved;
 mod shape;
 mod shape_node;
 mod shape_table;
-#[cfg(test)]
-mod shape_table_tests;
-#[cfg(test)]
-mod shape_tests;
 mod slot_shapes;
-#[cfg(test)]
-mod tests;
 mod types;
 mod variable;
 mod walk;
