@@ -28,3 +28,6 @@ pub mod TaskMessages
 pub mod GivingSteps
 pub mod AllSteps
 pub mod Migrations
+pub mod Boxes
+pub mod Handing
+pub mod BoxSteps

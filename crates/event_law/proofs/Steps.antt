@@ -28,13 +28,13 @@ module _ {K : List Thing → Type 0} (k : Kept K) (n e t : ℕ) (others : List T
   abbrev Ok : Hand → Type 0
   Ok = HandOk K n e t others
 
-  abbrev SteppedOk : Stepped → Type 0
+  abbrev pub SteppedOk : Stepped → Type 0
   SteppedOk d = HandOk K n e t others d.hand
 
   waits_keep : (h : Hand) → Ok h → SteppedOk (wait_step h)
   waits_keep h g = record { number = g.number; thread = g.thread; bag = g.bag }
 
-  committed_keeps : (c : Committed) → CommittedOk Ok c → Gives SteppedOk (committed c)
+  pub committed_keeps : (c : Committed) → CommittedOk Ok c → Gives SteppedOk (committed c)
   committed_keeps (done names h) g = over_gives Ok SteppedOk (settle h) (done_step names) (settles k n e t others h g) (λ h2 u. u)
   committed_keeps (waits h) g = waits_keep h g
   committed_keeps refused g = tt

@@ -1,12 +1,14 @@
 -- Laws of events: from a cluster that has the sums, an event of a kind leaves them.
-use Rattle.std.specs.Prelude.{◌≡◌, ⊤, Option, Some, None}
+use Rattle.std.specs.Prelude.{◌≡◌, ⊤, ℕ, List, take, drop, Option, Some, None, IsSome}
+use Rattle.std.specs.List.{AllByRecursion}
 use Rattle.server_model.specs.declared.event.Event.{Event}
-use Rattle.server_model.specs.Servers.{Cluster}
-use Rattle.server_model.specs.Clusters.{act_at}
-use Rattle.heap_law.specs.Things.{things_of}
+use Rattle.server_model.specs.Servers.{Sent, Server, Cluster, server_at}
+use Rattle.server_model.specs.Clusters.{with_server, with_outbox, hand_over_newer, act_at}
+use Rattle.heap_law.specs.Names.{tot}
+use Rattle.heap_law.specs.Things.{Thing, servers_things, things_of}
 use Rattle.heap_law.specs.Balances.{Agree, AtMost, AtMostOne}
 use Rattle.heap_law.specs.Weights.{states, below, shares_of, shares_at_home, tasks_of, is_thread}
-use Rattle.heap_law.specs.Coherent.{IsSound}
+use Rattle.heap_law.specs.Coherent.{IsSound, Holds, objects_made}
 use Rattle.event_law.specs.Kinds.{Kind, kind_of}
 use Rattle.event_law.specs.Sums.{Sums, is_server}
 
@@ -18,6 +20,10 @@ Gives P (Some x) = P x
 -- an event of that kind, done at its server from a cluster that has the sums, leaves the part; its messages stay in its outbox
 abbrev pub Leaves : Kind → (Cluster → Type 0) → Type 0
 Leaves kind Part = (k : Cluster) (e : Event) → kind_of k e ≡ Some kind → Sums (things_of k) → Gives (λ d. Part d.0) (act_at k e)
+
+-- the same where each object's number is below what the thread that made it has made, as in every sound cluster
+abbrev pub LeavesWithNames : Kind → (Cluster → Type 0) → Type 0
+LeavesWithNames kind Part = (k : Cluster) (e : Event) → kind_of k e ≡ Some kind → Sums (things_of k) → Holds k objects_made → Gives (λ d. Part d.0) (act_at k e)
 
 -- THE PARTS
 
@@ -39,3 +45,16 @@ ServersDiffer k = AtMostOne is_server (things_of k)
 -- a sound cluster has the sums, so each law's premise holds in every coherent one
 abbrev pub SoundHasSums : Type 0
 SoundHasSums = (k : Cluster) → IsSound k → Sums (things_of k)
+
+-- HANDING OVER
+
+-- those messages go to servers that are there
+abbrev pub GoTo : List Server → List Sent → Type 0
+GoTo ss xs = AllByRecursion (λ (x : Sent). IsSome (server_at ss x.target)) xs
+
+-- handing over the messages that an event appended to its server's outbox changes no sum, where they go to servers of the run
+abbrev pub HandOverNewerLaw : Type 0
+HandOverNewerLaw =
+    (f : Thing → ℕ) (n older : ℕ) (s new : Server) (ss : List Server) → server_at ss n ≡ Some s
+    → GoTo (with_server ss n (with_outbox (take older new.rest.outbox) new)) (drop older new.rest.outbox)
+    → tot f (servers_things (hand_over_newer n older new ss)) ≡ tot f (servers_things (with_server ss n new))

@@ -6,5 +6,6 @@ pub mod exchanges;
 pub mod instructions;
 pub mod joining;
 pub mod leaving;
+pub mod making;
 pub mod parts;
 pub mod sharing;

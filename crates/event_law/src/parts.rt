@@ -1,8 +1,13 @@
-//! The sums that every event is to keep are parts of coherent memory.
+//! The sums that every event is to keep are parts of coherent memory, and handing messages over changes none of them.
 
-ghost use Rattle.event_law.specs.Laws.{SoundHasSums};
+ghost use Rattle.event_law.specs.Laws.{HandOverNewerLaw, SoundHasSums};
 
 /// A sound cluster has all of them, so that what the laws of events ask for holds in each coherent one.
 pub fn sound_has_sums()
     ensures { SoundHasSums }
+{}
+
+/// The messages that an event appended wait at their servers then, and no sum is another one.
+pub fn handing_over_newer()
+    ensures { HandOverNewerLaw }
 {}
