@@ -1,5 +1,5 @@
 -- Some calls on the threads that a server started, computed.
-use Rattle.std.specs.Prelude.{◌≡◌, ℕ, pos, Bool, true, false, List, [], ◌∷◌, Option, Some, None}
+use Rattle.std.specs.Prelude.{◌≡◌, ℕ, pos, Bool, true, false, List, [], ◌∷◌, Some, None}
 use Rattle.heap_partition.specs.declared.value.Owned.{Owned}
 use Rattle.heap_partition.specs.declared.value.Owned.TheVariants as owned
 use Rattle.join_home.specs.Tasks.{Task, TaskState, going, let_go, kept, asked, in_pair, can_begin, begin, can_begin_pair, begin_pair, ended, ask, let_go_of}

@@ -1,2 +1,4 @@
 pub mod Tasks
 pub mod Computes
+pub mod Notes
+pub mod View

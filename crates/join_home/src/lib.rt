@@ -1,9 +1,13 @@
-//! The threads that one server started, until they have ended and their results are gone (this project's rules). So far the
-//! definitions alone.
+//! The threads that one server started, until they have ended and their results are gone (this project's rules).
 #![tactic(auto)]
 
 mod answers;
 mod laws;
+mod note;
+mod tasks;
+#[cfg(test)]
+mod tests;
 
 pub use answers::EndedAs;
 pub use laws::tasks_compute;
+pub use tasks::Tasks;

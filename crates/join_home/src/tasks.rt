@@ -1,0 +1,262 @@
+//! The threads that a server started, by their numbers.
+
+ghost use Rattle.std.specs.Prelude.{◌≡◌, ◌+◌, ◌≤◌, ◌<◌, [], true, None, Some, IsSome, IsOk, OnOk, OnErr, drop};
+ghost use Rattle.indexmap.specs.IndexMap.{spare};
+ghost use Rattle.join_home.specs.Tasks.{state_of, with_state, without_task, noted, over_of, over_in, pair_ended, can_begin, begin, can_begin_pair, begin_pair, ended, ask, let_go_of};
+ghost use Rattle.join_home.specs.Notes.{state_by, tasks_in, state_in_note};
+
+use crate::answers::EndedAs;
+use crate::note::Note;
+use fr_base::{NoMemory, ThreadNo};
+use heap_partition::Owned;
+use indexmap::IndexMap;
+use std::alloc::Global;
+use std::marker::Model;
+
+/// The threads that one server started, until they have ended and their results are gone. Contracts see as `state` the threads
+/// in the order in which they began, each with what is noted of it, and beside it as `room` how many more threads or pairs
+/// can begin without memory.
+///
+/// A thread is found by its number in constant time. Where one goes, those that began later move up, since the order is kept; where
+/// a branch ends, the other one is looked for among all. Only `reserve` takes memory.
+#[derive(Drop)]
+pub struct Tasks {
+    notes: IndexMap<u64, Note>,
+    // how many beginnings there is still room for, by what was reserved
+    room: usize,
+}
+
+impl Model for Tasks {
+    ghost use Rattle.std.specs.Prelude.{◌≤◌, ◌+◌};
+    ghost use Rattle.indexmap.specs.IndexMap.{spare};
+    ghost use Rattle.join_home.specs.Notes.{tasks_in};
+    ghost use Rattle.join_home.specs.View.{TasksView};
+
+    ghost Value = { TasksView };
+
+    ghost view = { λ t. record { state = tasks_in t.notes.entries; room = t.room } };
+
+    ghost invariant = { λ t. t.room + t.room ≤ spare t.notes };
+}
+
+// A thread's number.
+fn number_of(thread: ThreadNo) -> u64
+    ensures { result ≡ thread }
+{
+    u64::from(thread.server()) * 4_294_967_296 + u64::from(thread.count())
+}
+
+// What is noted of a thread.
+fn note_of(notes: &IndexMap<u64, Note>, number: u64) -> Option<Note>
+    ensures { state_in_note result ≡ state_of (tasks_in notes.now.entries) number }
+{
+    // The check asks that each type inside a note is named where a note is moved.
+    let _inside: Option<Owned> = None;
+    match notes.get(&number) {
+        Some(note) => Some(*note),
+        None => None,
+    }
+}
+
+// Notes another thing of a thread that is there.
+fn set_note(notes: &mut IndexMap<u64, Note>, number: u64, note: Note)
+    ensures tasks { tasks_in notes.new.entries ≡ with_state (tasks_in notes.old.entries) number (state_by note) }
+    ensures room { spare notes.new ≡ spare notes.old }
+{
+    let _inside: Option<Owned> = None;
+    if let Some(old) = notes.get_mut(&number) {
+        *old = note;
+    }
+}
+
+// Takes out a thread; those that began later keep their order.
+fn remove(notes: &mut IndexMap<u64, Note>, number: u64)
+    ensures tasks { tasks_in notes.new.entries ≡ without_task (tasks_in notes.old.entries) number }
+    ensures room { spare notes.old ≤ spare notes.new }
+{
+    let _inside: Option<Owned> = None;
+    notes.shift_remove(&number);
+}
+
+// Notes a thread that isn't there.
+fn add(notes: &mut IndexMap<u64, Note>, number: u64, note: Note)
+    requires room { 0 < spare notes.old }
+    requires new { can_begin (tasks_in notes.old.entries) number ≡ true }
+    ensures tasks { tasks_in notes.new.entries ≡ noted (tasks_in notes.old.entries) number (state_by note) }
+    ensures room { spare notes.old ≤ spare notes.new + 1 }
+{
+    let _inside: Option<Owned> = None;
+    match notes.insert(number, note) {
+        Ok(_) => {}
+        Err(_) => unreachable!(),
+    }
+}
+
+// Whether it is a branch of that parent's pair that has ended.
+fn is_over(note: &Note, parent: ThreadNo) -> bool
+    ensures { result ≡ over_of parent (state_by note.now) }
+{
+    match note {
+        Note::Branch(of, over) => parent == *of && *over,
+        Note::Going | Note::Dropped | Note::Ended(_) | Note::Asked(_, _) => false,
+    }
+}
+
+// The first branch of that parent's pair that has ended.
+fn over_branch(notes: &IndexMap<u64, Note>, parent: ThreadNo) -> Option<u64>
+    ensures { result ≡ over_in (tasks_in notes.now.entries) parent }
+{
+    // The length is what says that `at + 1` fits.
+    let _len = notes.len();
+    let mut at = 0;
+    while let Some((number, note)) = notes.get_index(at) {
+        if is_over(note, parent) {
+            return Some(*number);
+        }
+        at += 1;
+    }
+    None
+}
+
+// A branch of that parent's pair has ended: it waits for the other one, or both go.
+fn branch_ended(notes: &mut IndexMap<u64, Note>, number: u64, parent: ThreadNo) -> EndedAs
+    ensures tasks { pair_ended (tasks_in notes.old.entries) number parent (over_in (tasks_in notes.old.entries) parent) ≡ (tasks_in notes.new.entries, result) }
+    ensures room { spare notes.old ≤ spare notes.new }
+{
+    match over_branch(notes, parent) {
+        None => {
+            set_note(notes, number, Note::Branch(parent, true));
+            EndedAs::Kept
+        }
+        Some(other) => {
+            remove(notes, number);
+            remove(notes, other);
+            EndedAs::Both(parent)
+        }
+    }
+}
+
+impl Tasks {
+    /// No thread, and no memory taken yet.
+    pub fn new(alloc: Global) -> Tasks
+        ensures state { result.state ≡ [] }
+        ensures spare { result.room ≡ 0 }
+    {
+        Tasks {
+            notes: IndexMap::new(alloc),
+            room: 0,
+        }
+    }
+
+    /// Makes room for `n` more threads or pairs to begin; a refusal changes nothing.
+    pub fn reserve(&mut self, n: usize) -> Result<(), NoMemory>
+        ensures state { self.new.state ≡ self.old.state }
+        ensures room { OnOk result (n ≤ self.new.room) }
+        ensures had_room { n ≤ self.old.room → IsOk result }
+        ensures spare { self.old.room ≤ self.new.room }
+        ensures refused { OnErr result (self.new ≡ self.old) }
+    {
+        if n <= self.room {
+            return Ok(());
+        }
+        let places = n.checked_add(n).ok_or(NoMemory)?;
+        match self.notes.reserve(places) {
+            Ok(()) => {}
+            Err(_) => return Err(NoMemory),
+        }
+        self.room = n;
+        Ok(())
+    }
+
+    /// A thread begins, and somebody has its task. There is room, and the thread isn't there.
+    pub fn begin(&mut self, thread: ThreadNo)
+        requires room { 0 < self.old.room }
+        requires new { can_begin self.old.state thread ≡ true }
+        ensures state { self.new.state ≡ begin self.old.state thread }
+        ensures spare { self.new.room + 1 ≡ self.old.room }
+    {
+        add(&mut self.notes, number_of(thread), Note::Going);
+        self.room -= 1;
+    }
+
+    /// Two threads begin, and their parent waits for both. There is room, the two aren't there and differ, and the parent has no
+    /// other pair here.
+    pub fn begin_pair(&mut self, parent: ThreadNo, a: ThreadNo, b: ThreadNo)
+        requires room { 0 < self.old.room }
+        requires new { can_begin_pair self.old.state parent a b ≡ true }
+        ensures state { self.new.state ≡ begin_pair self.old.state parent a b }
+        ensures spare { self.new.room + 1 ≡ self.old.room }
+    {
+        add(&mut self.notes, number_of(a), Note::Branch(parent, false));
+        add(&mut self.notes, number_of(b), Note::Branch(parent, false));
+        self.room -= 1;
+    }
+
+    /// A thread has ended with that value, which goes where the answer says. The thread is there and hasn't ended before.
+    pub fn ended(&mut self, thread: ThreadNo, value: Owned) -> EndedAs
+        requires there { IsSome (ended self.old.state thread value) }
+        ensures state { ended self.old.state thread value ≡ Some (self.new.state, result) }
+        ensures spare { self.new.room ≡ self.old.room }
+    {
+        let number = number_of(thread);
+        let note = note_of(&self.notes, number);
+        match &note {
+            Some(Note::Going) => {
+                set_note(&mut self.notes, number, Note::Ended(value));
+                EndedAs::Kept
+            }
+            Some(Note::Dropped) => {
+                remove(&mut self.notes, number);
+                EndedAs::LetGo(value)
+            }
+            Some(Note::Asked(server, by)) => {
+                remove(&mut self.notes, number);
+                EndedAs::Answer(*server, *by, value)
+            }
+            Some(Note::Branch(parent, false)) => branch_ended(&mut self.notes, number, *parent),
+            _ => unreachable!(),
+        }
+    }
+
+    /// A thread at that server asks for the result, and has it exactly where the thread has ended. The thread is there, in no pair,
+    /// and was neither asked for nor let go before.
+    pub fn ask(&mut self, thread: ThreadNo, server: u8, by: ThreadNo) -> Option<Owned>
+        requires there { IsSome (ask self.old.state thread server by) }
+        ensures state { ask self.old.state thread server by ≡ Some (self.new.state, result) }
+        ensures spare { self.new.room ≡ self.old.room }
+    {
+        let number = number_of(thread);
+        match note_of(&self.notes, number) {
+            Some(Note::Going) => {
+                set_note(&mut self.notes, number, Note::Asked(server, by));
+                None
+            }
+            Some(Note::Ended(value)) => {
+                remove(&mut self.notes, number);
+                Some(value)
+            }
+            _ => unreachable!(),
+        }
+    }
+
+    /// The thread's task is dropped, and the result comes exactly where the thread has ended. The thread is there, in no pair, and
+    /// was neither asked for nor let go before.
+    pub fn let_go(&mut self, thread: ThreadNo) -> Option<Owned>
+        requires there { IsSome (let_go_of self.old.state thread) }
+        ensures state { let_go_of self.old.state thread ≡ Some (self.new.state, result) }
+        ensures spare { self.new.room ≡ self.old.room }
+    {
+        let number = number_of(thread);
+        match note_of(&self.notes, number) {
+            Some(Note::Going) => {
+                set_note(&mut self.notes, number, Note::Dropped);
+                None
+            }
+            Some(Note::Ended(value)) => {
+                remove(&mut self.notes, number);
+                Some(value)
+            }
+            _ => unreachable!(),
+        }
+    }
+}

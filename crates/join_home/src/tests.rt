@@ -1,0 +1,32 @@
+//! Threads begun, asked for and ended.
+
+use super::*;
+use fr_base::ThreadNo;
+use heap_partition::Owned;
+use std::test::Fail;
+
+#[test]
+fn hands_results_on(rt: HostRuntime) -> Result<(), Fail> {
+    let first = ThreadNo::new(1, 1);
+    let second = ThreadNo::new(1, 2);
+    let third = ThreadNo::new(1, 3);
+    let by = ThreadNo::new(2, 8);
+    let mut tasks = Tasks::new(rt.alloc());
+    tasks.reserve(3)?;
+    tasks.begin(first);
+    assert_eq!(rt; tasks.ask(first, 3, by), None);
+    assert_eq!(rt;
+        tasks.ended(first, Owned::Int(5)),
+        EndedAs::Answer(3, by, Owned::Int(5))
+    );
+    tasks.begin(first);
+    assert_eq!(rt; tasks.let_go(first), None);
+    assert_eq!(rt;
+        tasks.ended(first, Owned::Int(5)),
+        EndedAs::LetGo(Owned::Int(5))
+    );
+    tasks.begin_pair(by, second, third);
+    assert_eq!(rt; tasks.ended(third, Owned::Unit), EndedAs::Kept);
+    assert_eq!(rt; tasks.ended(second, Owned::Unit), EndedAs::Both(by));
+    Ok(())
+}
