@@ -31,3 +31,4 @@ pub mod Migrations
 pub mod Boxes
 pub mod Handing
 pub mod BoxSteps
+pub mod Begins

@@ -1,8 +1,10 @@
 -- Laws of events: from a cluster that has the sums, an event of a kind leaves them.
-use Rattle.std.specs.Prelude.{◌≡◌, ⊤, ℕ, List, take, drop, Option, Some, None, IsSome}
+use Rattle.std.specs.Prelude.{◌≡◌, ◌≤◌, ⊤, ℕ, List, take, drop, Option, Some, None, IsSome}
 use Rattle.std.specs.List.{AllByRecursion}
+use Rattle.fr_base.specs.declared.instruction.Instr.{Instr}
+use Rattle.fr_base.specs.declared.settings.Options.{Options}
 use Rattle.server_model.specs.declared.event.Event.{Event}
-use Rattle.server_model.specs.Servers.{Sent, Server, Cluster, server_at}
+use Rattle.server_model.specs.Servers.{Sent, Server, Cluster, server_at, start_of}
 use Rattle.server_model.specs.Clusters.{with_server, with_outbox, hand_over_newer, act_at}
 use Rattle.heap_law.specs.Names.{tot}
 use Rattle.heap_law.specs.Things.{Thing, servers_things, things_of}
@@ -45,6 +47,10 @@ ServersDiffer k = AtMostOne is_server (things_of k)
 -- a sound cluster has the sums, so each law's premise holds in every coherent one
 abbrev pub SoundHasSums : Type 0
 SoundHasSums = (k : Cluster) → IsSound k → Sums (things_of k)
+
+-- the start of any code has them
+abbrev pub StartHasSums : Type 0
+StartHasSums = (code : List Instr) (o : Options) → 1 ≤ o.servers → Sums (things_of (start_of code o))
 
 -- HANDING OVER
 

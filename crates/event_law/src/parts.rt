@@ -1,10 +1,15 @@
 //! The sums that every event is to keep are parts of coherent memory, and handing messages over changes none of them.
 
-ghost use Rattle.event_law.specs.Laws.{HandOverNewerLaw, SoundHasSums};
+ghost use Rattle.event_law.specs.Laws.{HandOverNewerLaw, SoundHasSums, StartHasSums};
 
 /// A sound cluster has all of them, so that what the laws of events ask for holds in each coherent one.
 pub fn sound_has_sums()
     ensures { SoundHasSums }
+{}
+
+/// The start of any code, with any options, has all of them.
+pub fn start_has_sums()
+    ensures { StartHasSums }
 {}
 
 /// The messages that an event appended wait at their servers then, and no sum is another one.

@@ -1,0 +1,50 @@
+-- The start has the sums.
+use Rattle.std.proofs.Common.{◌≡◌, ℕ, zero, suc, ◌+◌, ◌<◌, ◌≤◌, ◌==◌, Bool, true, false, refl, ap, arith}
+use Rattle.std.proofs.lemmas.Bool.Decides.{nat_tests}
+use Rattle.fr_base.specs.declared.settings.Options.{Options}
+use Rattle.server_model.specs.Servers.{with_main, empty_servers}
+use Rattle.heap_law.specs.Names.{tot, one}
+use Rattle.heap_law.specs.Things.{Thing, counts, servers_things}
+use Rattle.heap_law.specs.Weights.{cells, owners, states, uses_of, users_of, shares_of, shares_at_home, tasks_of, is_thread}
+use Rattle.event_law.specs.Sums.{Sums, is_server}
+use Rattle.event_law.specs.Laws.{StartHasSums}
+
+-- servers without a thread have nothing but their counts
+nothing : (f : Thing → ℕ) (o : Options) (s n : ℕ) → ((s : ℕ) → f (counts s 0 0 0 0 0) ≡ 0) → tot f (servers_things (empty_servers o s n)) ≡ 0
+nothing f o s zero z = refl
+nothing f o s (suc n) z = omega (arith, z s, nothing f o (s + 1) n z)
+
+at_most_one : (b : Bool) → one b ≤ 1
+at_most_one true = omega arith
+at_most_one false = omega arith
+
+each_once : (r : ℕ) (o : Options) (s n : ℕ) → (tot (is_server r) (servers_things (empty_servers o s n)) ≤ 1) × (r < s → tot (is_server r) (servers_things (empty_servers o s n)) ≡ 0)
+each_once r o s zero = (omega arith, λ l. refl)
+each_once r o s (suc n) = by (s == r) refl (each_once r o (s + 1) n)
+  where
+    by : (b : Bool) → (s == r) ≡ b → (tot (is_server r) (servers_things (empty_servers o (s + 1) n)) ≤ 1) × (r < s + 1 → tot (is_server r) (servers_things (empty_servers o (s + 1) n)) ≡ 0)
+        → (tot (is_server r) (servers_things (empty_servers o s (suc n))) ≤ 1) × (r < s → tot (is_server r) (servers_things (empty_servers o s (suc n))) ≡ 0)
+    by true e go =
+        let same : s ≡ r = grind (arith, nat_tests, e) in
+        let n1 : one (s == r) ≡ 1 = ap one e in
+        let rest = go.1 (omega arith) in
+        (omega (arith, n1, rest), λ l. absurd (omega arith))
+    by false e go =
+        let n0 : one (s == r) ≡ 0 = ap one e in
+        (omega (arith, n0, go.0), λ l. let rest = go.1 (omega arith) in omega (arith, n0, rest))
+
+pub start_has_sums : StartHasSums
+start_has_sums code o l = by o.servers l
+  where
+    by : (n : ℕ) → 1 ≤ n → Sums (servers_things (with_main (empty_servers o 0 n)))
+    by zero l = absurd (omega arith)
+    by (suc n) l = record {
+      home_of_each = λ p. omega (arith, nothing (cells p) o 1 n (λ s. refl));
+      owner_of_each = λ p. omega (arith, nothing (owners p) o 1 n (λ s. refl), nothing (cells p) o 1 n (λ s. refl));
+      one_state = λ at. omega (arith, nothing (states at) o 1 n (λ r. refl));
+      users_counted = λ at. omega (arith, nothing (uses_of at) o 1 n (λ r. refl), nothing (users_of at) o 1 n (λ r. refl));
+      shares_counted = λ m. omega (arith, nothing (shares_of m) o 1 n (λ r. refl), nothing (shares_at_home m) o 1 n (λ r. refl));
+      one_task_value = λ t. omega (arith, nothing (tasks_of t) o 1 n (λ r. refl));
+      numbers_differ = λ t. omega (arith, nothing (is_thread t) o 1 n (λ r. refl), at_most_one (0 == t));
+      servers_differ = λ r. omega (arith, (each_once r o 0 (suc n)).0);
+    }
