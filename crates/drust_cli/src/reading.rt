@@ -30,10 +30,34 @@ fn setting(matches: &ArgMatches<'_>, name: &str, low: u64, high: u64, default: u
 fn machine(matches: &ArgMatches<'_>) -> Option<(u8, u8, u32, u32)>
     ensures { result ≡ machine_of (first_value (found_of matches.now)) }
 {
-    let servers = setting(matches, "servers", 1, 64, 1)?;
-    let workers = setting(matches, "workers", 1, 64, 1)?;
-    let colours = setting(matches, "colours", 1, 65_536, 65_536)?;
-    let cache = setting(matches, "cache", 0, 65_536, 64)?;
+    let servers = setting(
+        matches,
+        "servers",
+        1,
+        Options::MAX_SERVERS as u64,
+        Options::DEFAULT.servers as u64,
+    )?;
+    let workers = setting(
+        matches,
+        "workers",
+        1,
+        Options::MAX_WORKERS as u64,
+        Options::DEFAULT.workers as u64,
+    )?;
+    let colours = setting(
+        matches,
+        "colours",
+        1,
+        Options::MAX_COLOURS as u64,
+        Options::DEFAULT.colours as u64,
+    )?;
+    let cache = setting(
+        matches,
+        "cache",
+        0,
+        Options::MAX_CACHE as u64,
+        Options::DEFAULT.cache as u64,
+    )?;
     Some((servers as u8, workers as u8, colours as u32, cache as u32))
 }
 
@@ -42,9 +66,27 @@ fn machine(matches: &ArgMatches<'_>) -> Option<(u8, u8, u32, u32)>
 fn pace(matches: &ArgMatches<'_>) -> Option<(u32, u64, u32)>
     ensures { result ≡ pace_of (first_value (found_of matches.now)) }
 {
-    let quantum = setting(matches, "quantum", 1, 1024, 16)?;
-    let turns = setting(matches, "turns", 1, 1_000_000_000, 1_000_000)?;
-    let balance = setting(matches, "balance", 0, 1_000_000, 0)?;
+    let quantum = setting(
+        matches,
+        "quantum",
+        1,
+        Options::MAX_QUANTUM as u64,
+        Options::DEFAULT.quantum as u64,
+    )?;
+    let turns = setting(
+        matches,
+        "turns",
+        1,
+        Options::MAX_TURNS,
+        Options::DEFAULT.turns,
+    )?;
+    let balance = setting(
+        matches,
+        "balance",
+        0,
+        Options::MAX_BALANCE as u64,
+        Options::DEFAULT.balance as u64,
+    )?;
     Some((quantum as u32, turns, balance as u32))
 }
 
@@ -54,7 +96,7 @@ fn options(matches: &ArgMatches<'_>) -> Option<Options>
 {
     let (servers, workers, colours, cache) = machine(matches)?;
     let (quantum, turns, balance) = pace(matches)?;
-    let choice = setting(matches, "choice", 0, u64::MAX, 0)?;
+    let choice = setting(matches, "choice", 0, u64::MAX, Options::DEFAULT.choice)?;
     let trace = setting(matches, "trace", 0, 1, 0)?;
     Some(Options {
         servers,
