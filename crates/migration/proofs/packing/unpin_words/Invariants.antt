@@ -1,0 +1,9 @@
+use Rattle.std.proofs.Common.{◌≡◌, drop}
+use Rattle.server_model.specs.Work.{unpin_all}
+use Rattle.migration.proofs.packing.unpin_words.Given as goal
+
+abbrev pub invariant-words : goal.invariant-words
+invariant-words l = record {
+  state : unpin_all (drop l.word-index l.words) l.cache.state ≡ unpin_all l.words l.initial.cache.state;
+  rooms : l.cache.rooms ≡ l.initial.cache.rooms;
+}
