@@ -57,7 +57,7 @@ goes_thread t m (stands r p x) = by (x.number == t) (x.made == m && not (is_over
     by false b = omega arith
 goes_thread t m _ = omega arith
 
-tot_le : (f g : Thing → ℕ) → ((x : Thing) → f x ≤ g x) → (xs : List Thing) → tot f xs ≤ tot g xs
+pub tot_le : (f g : Thing → ℕ) → ((x : Thing) → f x ≤ g x) → (xs : List Thing) → tot f xs ≤ tot g xs
 tot_le f g h [] = omega arith
 tot_le f g h (x ∷ xs) = omega (arith, h x, tot_le f g h xs)
 

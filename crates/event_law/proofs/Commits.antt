@@ -72,7 +72,7 @@ mutable_rule n t p holder (value.Mut b) r e =
     subst (λ x. Rule [] (held n t x)) (some_same e) (comes (borrows (at_temp t 0) (lent_word p q)) refl)
 mutable_rule n t p holder v r e = absurd (cc e)
 
-second_rule : (n t : ℕ) (v u : Value) → second_of v ≡ Some u → Rule [] (held n t u)
+pub second_rule : (n t : ℕ) (v u : Value) → second_of v ≡ Some u → Rule [] (held n t u)
 second_rule n t (value.Own v) u e = by (owns_nothing v) refl e
   where
     by : (b : Bool) → owns_nothing v ≡ b → (if b then Some (value.Own v) else None) ≡ Some u → Rule [] (held n t u)

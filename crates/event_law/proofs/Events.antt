@@ -17,7 +17,7 @@ use Rattle.server_model.specs.Clusters.{with_server, done_at, act_at}
 use Rattle.heap_law.specs.Names.{tot}
 use Rattle.heap_law.specs.Things.{Thing, message_things, server_things, servers_things, things_of}
 use Rattle.event_law.specs.Laws.{Gives}
-use Rattle.event_law.proofs.Trades.{Trade, tot-append, trade_left, trade_right}
+use Rattle.event_law.proofs.Trades.{Trade, Same, tot-append, trade_left, trade_right}
 use Rattle.event_law.proofs.Rules.{counts_on, evicts, Kept}
 use Rattle.event_law.proofs.Results.{then_gives, over_gives, test_gives}
 use Rattle.event_law.proofs.Bags.{WorkOk, SiteOk, counts_of, body_things, rest_things, all_standing, of_receiving, of_cache, server_same}
@@ -118,12 +118,18 @@ module _ {K : List Thing → Type 0} (k : Kept K) where
 
   -- CLUSTERS
 
-  pub acts : (c : Cluster) (e : Event) → ((s : Server) → server_at c.servers e.server ≡ Some s → (others : List Thing) → K (server_things s ++ others) → Gives (Left others) (does c.code c.options s e.what))
-      → K (things_of c) → Gives (λ d. K (things_of d.0)) (act_at c e)
-  acts c e go g =
+  -- an event of a server, with the things of the others beside it
+  pub acts_beside : (c : Cluster) (e : Event)
+      → ((s : Server) → server_at c.servers e.server ≡ Some s → (others : List Thing) → Same (things_of c) (server_things s ++ others) → Gives (Left others) (does c.code c.options s e.what))
+      → Gives (λ d. K (things_of d.0)) (act_at c e)
+  acts_beside c e go =
       then_gives (λ d. K (things_of d.0)) (server_at c.servers e.server) _ (λ s h.
       let others = servers_things (others_of c.servers e.server) in
-      let before : K (server_things s ++ others) = k.same _ _ (λ f. omega (arith, (tot-server f c.servers e.server s s h).0, tot-append f (server_things s) others)) g in
+      let same : Same (things_of c) (server_things s ++ others) = λ f. omega (arith, (tot-server f c.servers e.server s s h).0, tot-append f (server_things s) others) in
       over_gives (Left others) (λ d. K (things_of d.0)) (done_at c e.what s) _
-      (test_gives (Left others) (enabled c.options s e.what) (does c.code c.options s e.what) (λ on. go s h others before))
+      (test_gives (Left others) (enabled c.options s e.what) (does c.code c.options s e.what) (λ on. go s h others same))
       (λ r u. k.same _ _ (λ f. omega (arith, (tot-server f c.servers e.server s r.0 h).1, tot-append f (server_things r.0) others)) u))
+
+  pub acts : (c : Cluster) (e : Event) → ((s : Server) → server_at c.servers e.server ≡ Some s → (others : List Thing) → K (server_things s ++ others) → Gives (Left others) (does c.code c.options s e.what))
+      → K (things_of c) → Gives (λ d. K (things_of d.0)) (act_at c e)
+  acts c e go g = acts_beside c e (λ s h others same. go s h others (k.same _ _ same g))

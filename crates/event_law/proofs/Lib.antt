@@ -31,4 +31,7 @@ pub mod Migrations
 pub mod Boxes
 pub mod Handing
 pub mod BoxSteps
+pub mod NewThreads
+pub mod Starts
+pub mod StartSteps
 pub mod Begins

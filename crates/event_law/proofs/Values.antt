@@ -122,7 +122,7 @@ module _ {K : List Thing → Type 0} (k : Kept K) (n e t : ℕ) where
   written_rule i (value.Shared q) = turned _ _ (λ f. refl)
   written_rule i (value.Held m) = turned _ _ (λ f. refl)
 
-  slot_changes : {others others2 : List Thing} (h : Hand) (i : ℕ) (v new : Value) {o3 n3 : List Thing} → slice_get h.thread.slots i ≡ Some v → Trade others o3 n3 others2
+  pub slot_changes : {others others2 : List Thing} (h : Hand) (i : ℕ) (v new : Value) {o3 n3 : List Thing} → slice_get h.thread.slots i ≡ Some v → Trade others o3 n3 others2
       → Rule (slot_things n h.thread.number i v ++ o3) (slot_things n h.thread.number i new ++ n3) → HandOk K n e t others h → HandOk K n e t others2 (with_slots (slice_set h.thread.slots i new) h)
   slot_changes h i v new q u r g =
       thread_trades h (record h.thread { slots = slice_set h.thread.slots i new }) refl (in_slots n h.thread (slice_set h.thread.slots i new) (one_changes (slot_things n h.thread.number) h.thread.slots i v new q)) u r g

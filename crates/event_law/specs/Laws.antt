@@ -1,5 +1,5 @@
 -- Laws of events: from a cluster that has the sums, an event of a kind leaves them.
-use Rattle.std.specs.Prelude.{◌≡◌, ◌≤◌, ⊤, ℕ, List, take, drop, Option, Some, None, IsSome}
+use Rattle.std.specs.Prelude.{◌≡◌, ◌≤◌, ◌<◌, ◌+◌, ◌^◌, ⊤, ℕ, List, take, drop, Option, Some, None, IsSome}
 use Rattle.std.specs.List.{AllByRecursion}
 use Rattle.fr_base.specs.declared.instruction.Instr.{Instr}
 use Rattle.fr_base.specs.declared.settings.Options.{Options}
@@ -10,7 +10,7 @@ use Rattle.heap_law.specs.Names.{tot}
 use Rattle.heap_law.specs.Things.{Thing, servers_things, things_of}
 use Rattle.heap_law.specs.Balances.{Agree, AtMost, AtMostOne}
 use Rattle.heap_law.specs.Weights.{states, below, shares_of, shares_at_home, tasks_of, is_thread}
-use Rattle.heap_law.specs.Coherent.{IsSound, Holds, objects_made}
+use Rattle.heap_law.specs.Coherent.{IsSound, Holds, objects_made, names_counted}
 use Rattle.event_law.specs.Kinds.{Kind, kind_of}
 use Rattle.event_law.specs.Sums.{Sums, is_server}
 
@@ -26,6 +26,15 @@ Leaves kind Part = (k : Cluster) (e : Event) → kind_of k e ≡ Some kind → S
 -- the same where each object's number is below what the thread that made it has made, as in every sound cluster
 abbrev pub LeavesWithNames : Kind → (Cluster → Type 0) → Type 0
 LeavesWithNames kind Part = (k : Cluster) (e : Event) → kind_of k e ≡ Some kind → Sums (things_of k) → Holds k objects_made → Gives (λ d. Part d.0) (act_at k e)
+
+-- each server can start two threads more before its count of them reaches 2 ^ 32
+abbrev pub NamesLeft : Cluster → Type 0
+NamesLeft k = (n : ℕ) (s : Server) → server_at k.servers n ≡ Some s → s.rest.started + 2 < 2 ^ 32
+
+-- the same where the count of each thread that is named is at most what its home has started, as in every sound cluster, and there are names left
+abbrev pub LeavesWithThreads : Kind → (Cluster → Type 0) → Type 0
+LeavesWithThreads kind Part =
+    (k : Cluster) (e : Event) → kind_of k e ≡ Some kind → Sums (things_of k) → Holds k names_counted → NamesLeft k → Gives (λ d. Part d.0) (act_at k e)
 
 -- THE PARTS
 

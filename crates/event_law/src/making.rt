@@ -1,7 +1,7 @@
-//! What the step of a box keeps: it needs that the new object's name is new.
+//! What the steps keep that make something with a name: they need that the name is new.
 
-ghost use Rattle.event_law.specs.Kinds.{step_box};
-ghost use Rattle.event_law.specs.Laws.{LeavesWithNames, NumbersDiffer, OneState, OneTaskValue, ServersDiffer, SharesCounted};
+ghost use Rattle.event_law.specs.Kinds.{step_box, step_par, step_spawn};
+ghost use Rattle.event_law.specs.Laws.{LeavesWithNames, LeavesWithThreads, NumbersDiffer, OneState, OneTaskValue, ServersDiffer, SharesCounted};
 ghost use Rattle.heap_law.specs.Coherent.{OneHome, OneOwner, Users};
 
 /// A new object, and its box.
@@ -14,4 +14,28 @@ pub fn box_keeps()
     ensures tasks { LeavesWithNames step_box OneTaskValue }
     ensures threads { LeavesWithNames step_box NumbersDiffer }
     ensures servers { LeavesWithNames step_box ServersDiffer }
+{}
+
+/// A new thread with what it captures, and its task.
+pub fn spawn_keeps()
+    ensures home { LeavesWithThreads step_spawn OneHome }
+    ensures owner { LeavesWithThreads step_spawn OneOwner }
+    ensures states { LeavesWithThreads step_spawn OneState }
+    ensures users { LeavesWithThreads step_spawn Users }
+    ensures shares { LeavesWithThreads step_spawn SharesCounted }
+    ensures tasks { LeavesWithThreads step_spawn OneTaskValue }
+    ensures threads { LeavesWithThreads step_spawn NumbersDiffer }
+    ensures servers { LeavesWithThreads step_spawn ServersDiffer }
+{}
+
+/// Two new threads with what they capture; their parent waits.
+pub fn par_keeps()
+    ensures home { LeavesWithThreads step_par OneHome }
+    ensures owner { LeavesWithThreads step_par OneOwner }
+    ensures states { LeavesWithThreads step_par OneState }
+    ensures users { LeavesWithThreads step_par Users }
+    ensures shares { LeavesWithThreads step_par SharesCounted }
+    ensures tasks { LeavesWithThreads step_par OneTaskValue }
+    ensures threads { LeavesWithThreads step_par NumbersDiffer }
+    ensures servers { LeavesWithThreads step_par ServersDiffer }
 {}
