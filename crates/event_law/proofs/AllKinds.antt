@@ -10,7 +10,7 @@ use Rattle.server_model.specs.declared.event.What.TheVariants.{Step, Deliver, Ev
 use Rattle.server_model.specs.Servers.{Server, Cluster}
 use Rattle.server_model.specs.Work.{thread_in, then_some}
 use Rattle.server_model.specs.Clusters.{act_at}
-use Rattle.server_model.specs.Events.{does}
+use Rattle.server_model.specs.Events.{received, does}
 use Rattle.heap_law.specs.Things.{Thing, server_things, things_of}
 use Rattle.event_law.specs.Kinds.{Kind, message_kind, instr_kind, kind_at}
 use Rattle.event_law.specs.Sums.{Sums}
@@ -42,7 +42,7 @@ module _ (c : Cluster) (others : List Thing) (s : Server) (g : Sums (server_thin
     where
       by : (m : Option Message) → slice_get s.rest.inbox i ≡ m → option_map message_kind m ≡ Some kind → Gives (Left sums_kept others) (does c.code c.options s (Deliver i))
       by None h r = absurd (cc r)
-      by (Some m) h r = delivers sums_kept c.code c.options others s i m h (message_keeps sums_kept s.rest.number s.events others c.code m (proved_as (message_kind m) kind r p)) g
+      by (Some m) h r = delivers sums_kept c.code c.options others s i m h (message_keeps sums_kept s.rest.number s.events others c.code m (proved_as (message_kind m) kind r p) (received i s)) g
 
   doing : (w : What) → kind_at c w s ≡ Some kind → Gives (Left sums_kept others) (does c.code c.options s w)
   doing (Step t) q = steps_keep sums_kept c.code c.options others s t (stepping t q) g

@@ -84,11 +84,11 @@ module _ {K : List Thing → Type 0} (k : Kept K) where
       }
 
   pub delivers : (code : List Instr) (o : Options) (others : List Thing) (s : Server) (i : ℕ) (m : Message) → slice_get s.rest.inbox i ≡ Some m
-      → ((x : Site) → SiteOk K s.rest.number s.events (message_things s.rest.number m ++ others) x → Gives (SiteOk K s.rest.number s.events others) (deliver_message code m x))
+      → (SiteOk K s.rest.number s.events (message_things s.rest.number m ++ others) (received i s) → Gives (SiteOk K s.rest.number s.events others) (deliver_message code m (received i s)))
       → K (server_things s ++ others) → Gives (Left others) (does code o s (Deliver i))
   delivers code o others s i m q go g =
       over_gives (SiteOk K s.rest.number s.events others) (Left others) (deliver code i s) (left_by s.events None None)
-      (subst (λ x. Gives (SiteOk K s.rest.number s.events others) (then_some x (λ y. deliver_message code y (received i s)))) (sym q) (go (received i s) (receives_site others s i m q g)))
+      (subst (λ x. Gives (SiteOk K s.rest.number s.events others) (then_some x (λ y. deliver_message code y (received i s)))) (sym q) (go (receives_site others s i m q g)))
       (λ x u. ends_site s.rest.number s.events others None None x u)
 
   -- EVICTIONS

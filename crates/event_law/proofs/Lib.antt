@@ -34,4 +34,7 @@ pub mod BoxSteps
 pub mod NewThreads
 pub mod Starts
 pub mod StartSteps
+pub mod Finished
+pub mod FinishSteps
+pub mod Each
 pub mod Begins

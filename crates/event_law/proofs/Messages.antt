@@ -24,7 +24,7 @@ use Rattle.event_law.proofs.Gifts.{granted_comes, dupped_comes, joined_comes}
 
 module _ {K : List Thing → Type 0} (k : Kept K) (n e : ℕ) (others : List Thing) where
   -- a message that owns nothing goes from the hand of a site
-  site_receives : (rest : List Thing) (m : Message) (x : Site) → is_plain m ≡ true → SiteOk K n e (sent n m ∷ rest) x → SiteOk K n e rest x
+  pub site_receives : (rest : List Thing) (m : Message) (x : Site) → is_plain m ≡ true → SiteOk K n e (sent n m ∷ rest) x → SiteOk K n e rest x
   site_receives rest m x plain g = site_trades k n e (sent n m ∷ rest) rest x (one_goes (sent n m) rest) (receives n m plain) g
 
   pub message_keeps : (code : List Instr) (m : Message) → IsProvedKind (message_kind m) → (x : Site) → SiteOk K n e (message_things n m ++ others) x → Gives (SiteOk K n e others) (deliver_message code m x)

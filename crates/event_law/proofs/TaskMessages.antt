@@ -27,7 +27,7 @@ module _ (f : Thing → ℕ) (s : ℕ) where
   front : (x : Task) (xs : List Task) → tot f (all_tasks s (x ∷ xs)) ≡ tot f (task_things s 0 x) + tot f (all_tasks s xs)
   front x xs = tot-front (task_things s 0) f 0 x xs
 
-  tot-gone : (xs : List Task) (t : ℕ) (x : Task) → task_in xs t ≡ Some x → tot f (all_tasks s xs) ≡ tot f (task_things s 0 x) + tot f (all_tasks s (without_task xs t))
+  pub tot-gone : (xs : List Task) (t : ℕ) (x : Task) → task_in xs t ≡ Some x → tot f (all_tasks s xs) ≡ tot f (task_things s 0 x) + tot f (all_tasks s (without_task xs t))
   tot-gone [] t x e = absurd (cc e)
   tot-gone (y ∷ xs) t x e =
       eq_cases (λ b. (if b then Some y else task_in xs t) ≡ Some x → tot f (all_tasks s (y ∷ xs)) ≡ tot f (task_things s 0 x) + tot f (all_tasks s (if b then xs else y ∷ without_task xs t))) y.thread t
@@ -42,12 +42,12 @@ module _ (f : Thing → ℕ) (s : ℕ) where
       (λ ne g. omega (arith, tot-put xs t x z g, front y (with_state xs t z), front y (without_task xs t))) e
 
 -- a note with its result
-note_rule : (s : ℕ) (x : Task) (z : TaskState) → x.state ≡ z → (f : Thing → ℕ) → tot f (task_things s 0 x) ≡ f (noted s x) + tot f (result_things x.thread z)
+pub note_rule : (s : ℕ) (x : Task) (z : TaskState) → x.state ≡ z → (f : Thing → ℕ) → tot f (task_things s 0 x) ≡ f (noted s x) + tot f (result_things x.thread z)
 note_rule s x z q f = ap (λ y. f (noted s x) + tot f (result_things x.thread y)) q
 
 module _ {K : List Thing → Type 0} (k : Kept K) (n e : ℕ) where
   -- a note changes, or goes, with what is beside
-  puts_state : {others others2 : List Thing} (w : Work) (t : ℕ) (x : Task) (z : TaskState) {o2 n2 : List Thing} → task_in w.rest.tasks t ≡ Some x → Trade others o2 n2 others2
+  pub puts_state : {others others2 : List Thing} (w : Work) (t : ℕ) (x : Task) (z : TaskState) {o2 n2 : List Thing} → task_in w.rest.tasks t ≡ Some x → Trade others o2 n2 others2
       → Rule (task_things n 0 x ++ o2) (task_things n 0 (record { thread = t; state = z }) ++ n2) → WorkOk K n e others w → WorkOk K n e others2 (with_tasks (with_state w.rest.tasks t z) w)
   puts_state w t x z q u r g =
       let ts = with_state w.rest.tasks t z in
@@ -55,7 +55,7 @@ module _ {K : List Thing → Type 0} (k : Kept K) (n e : ℕ) where
       let changed : Trade (all_tasks n w.rest.tasks) (task_things n 0 x) (task_things n 0 new) (all_tasks n ts) = record { rest = all_tasks n (without_task w.rest.tasks t); before = λ f. tot-gone f n w.rest.tasks t x q; after = λ f. tot-put f n w.rest.tasks t x z q } in
       work_trades k n e w (with_tasks ts w) refl (of_tasks n e w.rest ts changed) u r g
 
-  unnotes_task : {others others2 : List Thing} (w : Work) (t : ℕ) (x : Task) {o2 n2 : List Thing} → task_in w.rest.tasks t ≡ Some x → Trade others o2 n2 others2
+  pub unnotes_task : {others others2 : List Thing} (w : Work) (t : ℕ) (x : Task) {o2 n2 : List Thing} → task_in w.rest.tasks t ≡ Some x → Trade others o2 n2 others2
       → Rule (task_things n 0 x ++ o2) n2 → WorkOk K n e others w → WorkOk K n e others2 (with_tasks (without_task w.rest.tasks t) w)
   unnotes_task w t x q u r g =
       let ts = without_task w.rest.tasks t in
@@ -95,7 +95,7 @@ module _ {K : List Thing → Type 0} (k : Kept K) (n e : ℕ) where
       task None q = tt
       task (Some x) q = state x q x.state refl
 
-  answers : (others : List Thing) (u s by : ℕ) (v : Owned) (w : Work) → WorkOk K n e (holds in_hand v ∷ others) w → WorkOk K n e others (answer u s by v w)
+  pub answers : (others : List Thing) (u s by : ℕ) (v : Owned) (w : Work) → WorkOk K n e (holds in_hand v ∷ others) w → WorkOk K n e others (answer u s by v w)
   answers others u s by v w g =
       work_sends k n e (holds in_hand v ∷ others) (note (act.Answer u by s) w) s (message.Joined u v by) (one_goes (holds in_hand v) others)
       (beside (sends s (message.Joined u v by) refl) (hands_on in_hand (as_result u) v)) (record { number = g.number; bag = g.bag })

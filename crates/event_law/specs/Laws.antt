@@ -8,9 +8,11 @@ use Rattle.server_model.specs.Servers.{Sent, Server, Cluster, server_at, start_o
 use Rattle.server_model.specs.Clusters.{with_server, with_outbox, hand_over_newer, act_at}
 use Rattle.heap_law.specs.Names.{tot}
 use Rattle.heap_law.specs.Things.{Thing, servers_things, things_of}
+use Rattle.heap_law.specs.Sight.{sight}
+use Rattle.heap_law.specs.Naming.{events_of}
 use Rattle.heap_law.specs.Balances.{Agree, AtMost, AtMostOne}
 use Rattle.heap_law.specs.Weights.{states, below, shares_of, shares_at_home, tasks_of, is_thread}
-use Rattle.heap_law.specs.Coherent.{IsSound, Holds, objects_made, names_counted}
+use Rattle.heap_law.specs.Coherent.{IsSound, Holds, objects_made, names_counted, branches_give_unit, parts_are_typed}
 use Rattle.event_law.specs.Kinds.{Kind, kind_of}
 use Rattle.event_law.specs.Sums.{Sums, is_server}
 
@@ -35,6 +37,21 @@ NamesLeft k = (n : ℕ) (s : Server) → server_at k.servers n ≡ Some s → s.
 abbrev pub LeavesWithThreads : Kind → (Cluster → Type 0) → Type 0
 LeavesWithThreads kind Part =
     (k : Cluster) (e : Event) → kind_of k e ≡ Some kind → Sums (things_of k) → Holds k names_counted → NamesLeft k → Gives (λ d. Part d.0) (act_at k e)
+
+-- the same where the result of a thread of a pair is unit, and where what a server notes of threads stands by rising number, as in every sound cluster
+abbrev pub LeavesWithResults : Kind → (Cluster → Type 0) → Type 0
+LeavesWithResults kind Part =
+    (k : Cluster) (e : Event) → kind_of k e ≡ Some kind → Sums (things_of k) → Holds k branches_give_unit → Holds k parts_are_typed → Gives (λ d. Part d.0) (act_at k e)
+
+-- ALL KINDS IN ONE
+
+-- so few events were done that no server's count of threads comes near 2 ^ 32
+abbrev pub FewEvents : Cluster → Type 0
+FewEvents k = events_of (sight k) + 1 < 2 ^ 31
+
+-- an event of whatever kind, done at its server from a sound cluster, leaves the part; its messages stay in its outbox
+abbrev pub EachEventLeaves : (Cluster → Type 0) → Type 0
+EachEventLeaves Part = (k : Cluster) (e : Event) → IsSound k → FewEvents k → Gives (λ d. Part d.0) (act_at k e)
 
 -- THE PARTS
 

@@ -1,7 +1,7 @@
 //! What the delivery of a message about threads keeps.
 
-ghost use Rattle.event_law.specs.Kinds.{arrives, asks_join, joined, starts};
-ghost use Rattle.event_law.specs.Laws.{Leaves, NumbersDiffer, OneState, OneTaskValue, ServersDiffer, SharesCounted};
+ghost use Rattle.event_law.specs.Kinds.{arrives, asks_join, finished, joined, starts};
+ghost use Rattle.event_law.specs.Laws.{Leaves, LeavesWithResults, NumbersDiffer, OneState, OneTaskValue, ServersDiffer, SharesCounted};
 ghost use Rattle.heap_law.specs.Coherent.{OneHome, OneOwner, Users};
 
 /// A `start` is delivered: a new thread stands here.
@@ -50,4 +50,16 @@ pub fn arrival_keeps()
     ensures tasks { Leaves arrives OneTaskValue }
     ensures threads { Leaves arrives NumbersDiffer }
     ensures servers { Leaves arrives ServersDiffer }
+{}
+
+/// A `finished` is delivered: the result is kept, sent or dropped, or the parent of a pair goes on.
+pub fn finished_keeps()
+    ensures home { LeavesWithResults finished OneHome }
+    ensures owner { LeavesWithResults finished OneOwner }
+    ensures states { LeavesWithResults finished OneState }
+    ensures users { LeavesWithResults finished Users }
+    ensures shares { LeavesWithResults finished SharesCounted }
+    ensures tasks { LeavesWithResults finished OneTaskValue }
+    ensures threads { LeavesWithResults finished NumbersDiffer }
+    ensures servers { LeavesWithResults finished ServersDiffer }
 {}

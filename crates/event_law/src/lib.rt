@@ -2,6 +2,7 @@
 #![tactic(auto)]
 
 pub mod deliveries;
+pub mod every;
 pub mod exchanges;
 pub mod instructions;
 pub mod joining;

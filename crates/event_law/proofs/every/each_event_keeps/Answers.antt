@@ -1,0 +1,16 @@
+use Rattle.heap_law.specs.Coherent.{OneHome, OneOwner, Users}
+use Rattle.event_law.proofs.every.each_event_keeps.Goals as goal
+use Rattle.event_law.specs.Laws.{NumbersDiffer, OneState, OneTaskValue, ServersDiffer, SharesCounted}
+use Rattle.event_law.proofs.Each.{each_part}
+
+pub returns : goal.returns
+returns c = record {
+  home = each_part OneHome (λ k g. record { home_of_each = g.home_of_each });
+  owner = each_part OneOwner (λ k g. record { owner_of_each = g.owner_of_each });
+  states = each_part OneState (λ k g. g.one_state);
+  users = each_part Users (λ k g. record { users_counted = g.users_counted });
+  shares = each_part SharesCounted (λ k g. g.shares_counted);
+  tasks = each_part OneTaskValue (λ k g. g.one_task_value);
+  threads = each_part NumbersDiffer (λ k g. g.numbers_differ);
+  servers = each_part ServersDiffer (λ k g. g.servers_differ);
+}
