@@ -10,3 +10,4 @@ pub mod Marks
 pub mod Replaying
 pub mod OneAnswer
 pub mod OneThread
+pub mod FromCause

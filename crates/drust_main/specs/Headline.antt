@@ -82,9 +82,13 @@ pub record Broken (words : List (List ℕ)) (left : Option (List ℕ)) (before a
 abbrev pub IsAnswer : ℕ → Type 0
 IsAnswer status = (status ≡ 0) ⊎ (status ≡ 1) ⊎ (status ≡ 2) ⊎ (status ≡ 3) ⊎ (status ≡ 4) ⊎ (status ≡ 5) ⊎ (status ≡ 9) ⊎ (status ≡ 10) ⊎ (status ≡ 11)
 
--- and those of no answer: the source failed, the sink failed, there was no memory
+-- the statuses that may come whatever the cause is: the source failed, the sink failed, there was no memory
+abbrev pub IsCutShort : ℕ → Type 0
+IsCutShort status = (status ≡ 6) ⊎ (status ≡ 7) ⊎ (status ≡ 8)
+
+-- all statuses
 abbrev pub IsStatus : ℕ → Type 0
-IsStatus status = IsAnswer status ⊎ (status ≡ 6) ⊎ (status ≡ 7) ⊎ (status ≡ 8)
+IsStatus status = IsAnswer status ⊎ IsCutShort status
 
 -- the statuses at which nothing is written
 abbrev pub IsSilent : ℕ → Type 0

@@ -3,23 +3,21 @@
 
 mod forms;
 mod laws;
+#[cfg(test)]
+mod order_cases;
+#[cfg(test)]
+mod program_cases;
 mod refused;
 mod replay;
-#[cfg(test)]
-mod replay_tests;
 mod report;
 mod run;
 #[cfg(test)]
-mod run_tests;
-#[cfg(test)]
 mod tests;
 #[cfg(test)]
-mod thread_replay_tests;
+mod thread_cases;
 #[cfg(test)]
 mod thread_typing_tests;
 mod top;
-#[cfg(test)]
-mod typing_tests;
 mod words;
 
 use crate::top::drust;

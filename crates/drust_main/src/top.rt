@@ -1,9 +1,9 @@
 //! The top call.
 
-ghost use Rattle.std.specs.Prelude.{◌≡◌, ◌≤◌, ℕ, List, Option, None, ◌⊎◌, map, length, string_bytes, IfOk};
+ghost use Rattle.std.specs.Prelude.{◌≡◌, ◌≤◌, ℕ, List, Option, Some, None, ◌⊎◌, map, length, string_bytes, IfOk};
 ghost use Rattle.drust_io.specs.Flow.{NothingLeft, Rose};
 ghost use Rattle.drust_main.specs.Words.{asked};
-ghost use Rattle.drust_main.specs.Headline.{Answers, Answered, Broken, RepliesTo, IsAnswer, IsStatus, IsSilent, IsOfInput, limit};
+ghost use Rattle.drust_main.specs.Headline.{Answers, Answered, Broken, RepliesTo, IsAnswer, IsCutShort, IsStatus, IsSilent, IsOfInput, limit};
 ghost use Rattle.drust_main.specs.Runs.{IsReply, IsInput};
 
 use crate::replay::replay_reply;
@@ -75,7 +75,8 @@ fn answer<K: Sink>(alloc: Global, command: Command, bytes: &[u8], sink: &mut K) 
 /// its program has a fault of types; 5, the words are refused; 6, the source failed; 7, the sink failed; 8, there was no memory;
 /// 9, the input is too long; 10, the order is refused, with the place of the first line that isn't in the format or whose steps
 /// aren't all plain steps; 11, the program has a form that isn't accepted yet, with the place of the first. `Answers` has the
-/// causes of 0 to 5 and 9 to 11, each with its text; at 6 and 8 nothing is written, at 7 the first bytes of the text that would
+/// causes of 0 to 5 and 9 to 11, each with its text: where the source tells what it has left, an input that a cause fits gets the
+/// status of that cause, or 6, 7 or 8; at 6 and 8 nothing is written, at 7 the first bytes of the text that would
 /// have been.
 pub fn drust<S: Source, K: Sink, G: Gate + Sync, R: Threads + Wait + Sync>(
     rt: &R,
@@ -87,6 +88,7 @@ pub fn drust<S: Source, K: Sink, G: Gate + Sync, R: Threads + Wait + Sync>(
 ) -> Outcome
     ensures status { IsStatus result.status }
     ensures answered { IsAnswer result.status → Answered (map string_bytes words.now.items) (S.left source.old) result.status (K.written sink.old) (K.written sink.new) }
+    ensures from_cause { (bytes : List ℕ) (text : List ℕ) (status : ℕ) → S.left source.old ≡ Some bytes → Answers (map string_bytes words.now.items) (Some bytes) status text → (result.status ≡ status) ⊎ IsCutShort result.status }
     ensures broken { result.status ≡ 7 → Broken (map string_bytes words.now.items) (S.left source.old) (K.written sink.old) (K.written sink.new) }
     ensures sink_fault { result.status ≡ 7 → Rose (K.fault_count sink.old) (K.fault_count sink.new) }
     ensures source_fault { result.status ≡ 6 → Rose (S.fault_count source.old) (S.fault_count source.new) }
