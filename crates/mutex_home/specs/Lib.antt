@@ -1,2 +1,4 @@
 pub mod Mutexes
 pub mod Computes
+pub mod Stores
+pub mod View

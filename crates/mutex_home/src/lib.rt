@@ -1,8 +1,14 @@
-//! The mutexes of one server: content, shares and who waits (this project's rules). So far the definitions alone.
+//! The mutexes of one server: content, shares and who waits (this project's rules).
 #![tactic(auto)]
 
 mod answers;
 mod laws;
+mod mutexes;
+mod parts;
+mod store;
+#[cfg(test)]
+mod tests;
 
 pub use answers::{Asked, Back};
 pub use laws::mutexes_compute;
+pub use mutexes::Mutexes;

@@ -1,0 +1,2 @@
+mod MutexLemmas
+mod StoreLemmas
