@@ -108,7 +108,7 @@ pub const ORDERS: [(&str, u8, &str); 41] = [
 
 /// Sources that start and join threads, each with an order, and the status and the text of its replay.
 #[rattlefmt::skip]
-pub const THREAD_ORDERS: [(&str, &str, u8, &str); 70] = [
+pub const THREAD_ORDERS: [(&str, &str, u8, &str); 19] = [
     // a thread is joined
     (JOINED, "0.0 thread 0.1\n0.0 1\n0.1 1\n0.0 5\n", 0, "ended finished\nprints 1\n3\nsteps 8\n"),
     (JOINED, "0.0 thread 0.1\n0.0 2\n0.1 1\n0.0 4\n", 0, "ended finished\nprints 1\n3\nsteps 8\n"),
@@ -130,6 +130,11 @@ pub const THREAD_ORDERS: [(&str, &str, u8, &str); 70] = [
     (READ, "0.0 2\n0.0 thread 1.1\n1.1 2\n0.0 2\n1.1 4\n0.0 4\n", 0, "ended finished\nprints 2\n5\n5\nsteps 15\n"),
     (BOTH, "0.0 3\n0.0 thread 0.1\n0.0 1\n0.1 7\n0.0 9\n", 0, "ended finished\nprints 3\n1\n2\n1\nsteps 21\n"),
     (LENT, "0.0 1\n0.0 thread 3.1\n3.1 7\n0.0 7\n", 0, "ended finished\nprints 1\n4\nsteps 16\n"),
+];
+
+/// Sources whose threads start threads or drop tasks, each with an order, and the status and the text of its replay.
+#[rattlefmt::skip]
+pub const TASK_ORDERS: [(&str, &str, u8, &str); 22] = [
     // threads start threads
     (NESTED, "0.0 thread 0.1\n0.0 1\n0.1 thread 0.2\n0.1 2\n0.2 1\n0.1 4\n0.0 5\n", 0, "ended finished\nprints 1\n3\nsteps 15\n"),
     (NESTED, "0.0 thread 0.1\n0.1 thread 0.2\n0.2 1\n0.1 6\n0.0 6\n", 0, "ended finished\nprints 1\n3\nsteps 15\n"),
@@ -154,6 +159,11 @@ pub const THREAD_ORDERS: [(&str, &str, u8, &str); 70] = [
     (BOXED_TASK, "0.0 thread 0.1\n0.0 3\n0.1 1\n0.0 4\n", 0, "ended finished\nprints 1\n6\nsteps 9\n"),
     (LEFT, "0.0 thread 0.1\n0.0 5\n0.1 2\n", 0, "ended finished\nprints 2\n1\n5\nsteps 8\n"),
     (LEFT, "0.0 thread 0.1\n0.1 2\n0.0 5\n", 0, "ended finished\nprints 2\n5\n1\nsteps 8\n"),
+];
+
+/// Sources with orders of which a line is refused, and sources that are refused themselves, each with its status and text.
+#[rattlefmt::skip]
+pub const REFUSED_THREAD_ORDERS: [(&str, &str, u8, &str); 29] = [
     // the first line whose steps aren't all plain steps: of a thread that isn't there, has ended or waits, or with other names than the step takes
     (JOINED, "0.0 1\n", 10, "refused order at 46\n"),
     (JOINED, "0.0 thread 0.0\n", 10, "refused order at 46\n"),

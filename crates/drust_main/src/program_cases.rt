@@ -62,9 +62,9 @@ pub const TYPED: [&str; 45] = [
     "{ let mut x = 1; { let mut r = &x; let mut s = &x; let mut t = s }; x = 2; print x }",
 ];
 
-/// Sources that are refused, with their status and text.
+/// Sources that are refused for their text, their forms, new names or reads, with their status and text.
 #[rattlefmt::skip]
-pub const REFUSED: [(&str, u8, &str); 111] = [
+pub const REFUSED_NAMES_AND_READS: [(&str, u8, &str); 41] = [
     // the first fault of types
     ("{ let mut x = 1; x = box 2 }", 4, "refused type at 21: wrong type\n"),
     ("{ print box 1 }", 4, "refused type at 8: wrong type\n"),
@@ -117,6 +117,11 @@ pub const REFUSED: [(&str, u8, &str); 111] = [
     ("{ let mut x = box 1; let mut r = &mut x; let mut y = *r }", 4, "refused type at 53: moved through a reference\n"),
     ("{ let mut x = box box 1; let mut r = &x; let mut y = **r }", 4, "refused type at 53: moved through a reference\n"),
     ("{ let mut x = 1; let mut r = &mut x; let mut s = &r; let mut t = *s }", 4, "refused type at 65: moved through a reference\n"),
+];
+
+/// Sources that are refused for borrows, boxes, arithmetic or prints.
+#[rattlefmt::skip]
+pub const REFUSED_BORROWS_AND_VALUES: [(&str, u8, &str); 36] = [
     // a shared borrow
     ("{ let mut r = &x }", 4, "refused type at 15: unknown name\n"),
     ("{ let mut x = box 1; let mut y = x; let mut r = &x }", 4, "refused type at 49: not defined\n"),
@@ -158,6 +163,11 @@ pub const REFUSED: [(&str, u8, &str); 111] = [
     ("{ let mut x = 1; print &x }", 4, "refused type at 23: wrong type\n"),
     ("{ print print 1 }", 4, "refused type at 8: wrong type\n"),
     ("{ print { y } }", 4, "refused type at 10: unknown name\n"),
+];
+
+/// Sources that are refused for assignments or blocks, and worked programs that are.
+#[rattlefmt::skip]
+pub const REFUSED_ASSIGNMENTS_AND_BLOCKS: [(&str, u8, &str); 34] = [
     // an assignment
     ("{ x = y }", 4, "refused type at 6: unknown name\n"),
     ("{ x = 1 }", 4, "refused type at 2: unknown name\n"),

@@ -1,8 +1,11 @@
 //! Whole answers, over sources and sinks in memory: tables of programs and of orders, other words, inputs of all lengths, single bytes,
 //! and devices that fail.
 
-use crate::order_cases::{ORDERS, THREAD_ORDERS};
-use crate::program_cases::{REFUSED, RUNS, TYPED};
+use crate::order_cases::{ORDERS, REFUSED_THREAD_ORDERS, TASK_ORDERS, THREAD_ORDERS};
+use crate::program_cases::{
+    REFUSED_ASSIGNMENTS_AND_BLOCKS, REFUSED_BORROWS_AND_VALUES, REFUSED_NAMES_AND_READS, RUNS,
+    TYPED,
+};
 use crate::report::add_count;
 use crate::top::drust;
 use drust_io::{MemorySink, MemorySource, NoGate};
@@ -114,10 +117,31 @@ fn answers<R: Threads + Wait + Abort + Sync>(
 }
 
 #[test]
-fn programs(rt: HostRuntime) -> Result<(), Fail> {
-    for (input, status, text) in REFUSED {
+fn refused_names_and_reads(rt: HostRuntime) -> Result<(), Fail> {
+    for (input, status, text) in REFUSED_NAMES_AND_READS {
         answers(&rt, rt.alloc(), &["run"], input.as_bytes(), status, text)?;
     }
+    Ok(())
+}
+
+#[test]
+fn refused_borrows_and_values(rt: HostRuntime) -> Result<(), Fail> {
+    for (input, status, text) in REFUSED_BORROWS_AND_VALUES {
+        answers(&rt, rt.alloc(), &["run"], input.as_bytes(), status, text)?;
+    }
+    Ok(())
+}
+
+#[test]
+fn refused_assignments_and_blocks(rt: HostRuntime) -> Result<(), Fail> {
+    for (input, status, text) in REFUSED_ASSIGNMENTS_AND_BLOCKS {
+        answers(&rt, rt.alloc(), &["run"], input.as_bytes(), status, text)?;
+    }
+    Ok(())
+}
+
+#[test]
+fn whole_runs(rt: HostRuntime) -> Result<(), Fail> {
     for (input, text) in RUNS {
         answers(&rt, rt.alloc(), &["run"], input.as_bytes(), 0, text)?;
     }
@@ -134,22 +158,49 @@ fn typed_programs(rt: HostRuntime) -> Result<(), Fail> {
     Ok(())
 }
 
-// A source with an order behind it.
-fn ordered(alloc: Global, source: &str, order: &str) -> Result<Vec<u8>, Fail> {
-    let mut input = source.as_bytes().to_vec(alloc)?;
-    input.extend_from_slice(b"%\n")?;
-    input.extend_from_slice(order.as_bytes())?;
-    Ok(input)
-}
-
 #[test]
 fn orders(rt: HostRuntime) -> Result<(), Fail> {
     for (input, status, text) in ORDERS {
         answers(&rt, rt.alloc(), &["replay"], input.as_bytes(), status, text)?;
     }
+    Ok(())
+}
+
+// A source is answered so with an order behind it.
+fn replays<R: Threads + Wait + Abort + Sync>(
+    rt: &R,
+    alloc: Global,
+    source: &str,
+    order: &str,
+    status: u8,
+    text: &str,
+) -> Result<(), Fail> {
+    let mut input = source.as_bytes().to_vec(alloc)?;
+    input.extend_from_slice(b"%\n")?;
+    input.extend_from_slice(order.as_bytes())?;
+    answers(rt, alloc, &["replay"], &input, status, text)
+}
+
+#[test]
+fn orders_of_threads(rt: HostRuntime) -> Result<(), Fail> {
     for (source, order, status, text) in THREAD_ORDERS {
-        let input = ordered(rt.alloc(), source, order)?;
-        answers(&rt, rt.alloc(), &["replay"], &input, status, text)?;
+        replays(&rt, rt.alloc(), source, order, status, text)?;
+    }
+    Ok(())
+}
+
+#[test]
+fn orders_of_tasks(rt: HostRuntime) -> Result<(), Fail> {
+    for (source, order, status, text) in TASK_ORDERS {
+        replays(&rt, rt.alloc(), source, order, status, text)?;
+    }
+    Ok(())
+}
+
+#[test]
+fn refused_orders_of_threads(rt: HostRuntime) -> Result<(), Fail> {
+    for (source, order, status, text) in REFUSED_THREAD_ORDERS {
+        replays(&rt, rt.alloc(), source, order, status, text)?;
     }
     Ok(())
 }
