@@ -2,6 +2,8 @@
 //! DRust, OSDI 2024: a reader copies an object, and a writer has it come; the rules are this project's).
 #![tactic(auto)]
 
+#[cfg(test)]
+mod tests;
 mod walk;
 
 pub use server_model::Hop;
