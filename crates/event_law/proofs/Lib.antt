@@ -37,4 +37,5 @@ pub mod StartSteps
 pub mod Finished
 pub mod FinishSteps
 pub mod Each
+pub mod Applied
 pub mod Begins

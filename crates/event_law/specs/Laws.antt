@@ -1,11 +1,12 @@
 -- Laws of events: from a cluster that has the sums, an event of a kind leaves them.
-use Rattle.std.specs.Prelude.{◌≡◌, ◌≤◌, ◌<◌, ◌+◌, ◌^◌, ⊤, ℕ, List, take, drop, Option, Some, None, IsSome}
+use Rattle.std.specs.Prelude.{◌≡◌, ◌≤◌, ◌<◌, ◌+◌, ◌^◌, ⊤, ℕ, List, length, take, drop, Option, Some, None, IsSome}
 use Rattle.std.specs.List.{AllByRecursion}
 use Rattle.fr_base.specs.declared.instruction.Instr.{Instr}
 use Rattle.fr_base.specs.declared.settings.Options.{Options}
+use Rattle.journal.specs.View.{EntryView}
 use Rattle.server_model.specs.declared.event.Event.{Event}
 use Rattle.server_model.specs.Servers.{Sent, Server, Cluster, server_at, start_of}
-use Rattle.server_model.specs.Clusters.{with_server, with_outbox, hand_over_newer, act_at}
+use Rattle.server_model.specs.Clusters.{with_server, with_outbox, hand_over_newer, done_at, act_at, apply}
 use Rattle.heap_law.specs.Names.{tot}
 use Rattle.heap_law.specs.Things.{Thing, servers_things, things_of}
 use Rattle.heap_law.specs.Sight.{sight}
@@ -90,3 +91,15 @@ HandOverNewerLaw =
     (f : Thing → ℕ) (n older : ℕ) (s new : Server) (ss : List Server) → server_at ss n ≡ Some s
     → GoTo (with_server ss n (with_outbox (take older new.rest.outbox) new)) (drop older new.rest.outbox)
     → tot f (servers_things (hand_over_newer n older new ss)) ≡ tot f (servers_things (with_server ss n new))
+
+-- THE EVENT AND ITS MESSAGES HANDED OVER
+
+-- what an event puts into its server's outbox goes to servers that are there
+abbrev pub SendsToServers : Cluster → Event → Type 0
+SendsToServers k e =
+    (s : Server) → server_at k.servers e.server ≡ Some s
+    → Gives (λ (r : Server × EntryView). GoTo (with_server k.servers e.server r.0) (drop (length s.rest.outbox) r.0.rest.outbox)) (done_at k e.what s)
+
+-- an event of whatever kind from a sound cluster, and its messages handed over, leave the part, where it sends to servers that are there
+abbrev pub EachEventHandedOver : (Cluster → Type 0) → Type 0
+EachEventHandedOver Part = (k : Cluster) (e : Event) → IsSound k → FewEvents k → SendsToServers k e → Gives (λ d. Part d.0) (apply k e)

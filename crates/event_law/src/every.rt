@@ -1,6 +1,6 @@
 //! What an event of a sound cluster keeps, of whatever kind it is.
 
-ghost use Rattle.event_law.specs.Laws.{EachEventLeaves, NumbersDiffer, OneState, OneTaskValue, ServersDiffer, SharesCounted};
+ghost use Rattle.event_law.specs.Laws.{EachEventHandedOver, EachEventLeaves, NumbersDiffer, OneState, OneTaskValue, ServersDiffer, SharesCounted};
 ghost use Rattle.heap_law.specs.Coherent.{OneHome, OneOwner, Users};
 
 /// Whatever is delivered, stepped, evicted or migrated.
@@ -13,4 +13,16 @@ pub fn each_event_keeps()
     ensures tasks { EachEventLeaves OneTaskValue }
     ensures threads { EachEventLeaves NumbersDiffer }
     ensures servers { EachEventLeaves ServersDiffer }
+{}
+
+/// The same once the event's messages are handed over, where they go to servers that are there.
+pub fn each_event_handed_over()
+    ensures home { EachEventHandedOver OneHome }
+    ensures owner { EachEventHandedOver OneOwner }
+    ensures states { EachEventHandedOver OneState }
+    ensures users { EachEventHandedOver Users }
+    ensures shares { EachEventHandedOver SharesCounted }
+    ensures tasks { EachEventHandedOver OneTaskValue }
+    ensures threads { EachEventHandedOver NumbersDiffer }
+    ensures servers { EachEventHandedOver ServersDiffer }
 {}

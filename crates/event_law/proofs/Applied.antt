@@ -1,0 +1,52 @@
+-- An event and its messages handed over leave the sums, where the messages go to servers that are there.
+use Rattle.std.proofs.Common.{◌≡◌, ℕ, if◌then◌else◌, List, [], ◌∷◌, length, take, drop, Option, Some, None, IsSome, refl, sym}
+use Rattle.std.specs.Prelude.{option_map}
+use Rattle.fr_typing.proofs.PlaceLemmas.{eq_cases}
+use Rattle.journal.specs.View.{EntryView}
+use Rattle.server_model.specs.declared.event.Event.{Event}
+use Rattle.server_model.specs.Servers.{Sent, Server, Cluster, server_at}
+use Rattle.server_model.specs.Work.{then_some}
+use Rattle.server_model.specs.Clusters.{with_server, with_outbox, hand_over_newer, done_at}
+use Rattle.heap_law.specs.Things.{servers_things, things_of}
+use Rattle.event_law.specs.Sums.{Sums}
+use Rattle.event_law.specs.Laws.{Gives, GoTo, SendsToServers, EachEventHandedOver}
+use Rattle.event_law.proofs.Rules.{Kept}
+use Rattle.event_law.proofs.RulesKeep.{sums_kept}
+use Rattle.event_law.proofs.Results.{weaker}
+use Rattle.event_law.proofs.Handing.{hand_over_newer_law}
+use Rattle.event_law.proofs.Each.{each_event_leaves}
+
+-- a server with another outbox is there as it was
+there_with : (ss : List Server) (n : ℕ) (new : Server) (xs : List Sent) (t : ℕ) → IsSome (server_at (with_server ss n new) t) → IsSome (server_at (with_server ss n (with_outbox xs new)) t)
+there_with [] n new xs t h = h
+there_with (s ∷ ss) n new xs t h =
+    eq_cases (λ b. IsSome (server_at (if b then new ∷ ss else s ∷ with_server ss n new) t) → IsSome (server_at (if b then with_outbox xs new ∷ ss else s ∷ with_server ss n (with_outbox xs new)) t)) s.rest.number n
+    (λ q. eq_cases (λ b. IsSome (if b then Some new else server_at ss t) → IsSome (if b then Some (with_outbox xs new) else server_at ss t)) new.rest.number t (λ a g. refl) (λ a g. g))
+    (λ ne. eq_cases (λ b. IsSome (if b then Some s else server_at (with_server ss n new) t) → IsSome (if b then Some s else server_at (with_server ss n (with_outbox xs new)) t)) s.rest.number t (λ a g. g) (λ a g. there_with ss n new xs t g)) h
+
+go_with : (ss : List Server) (n : ℕ) (new : Server) (ys : List Sent) (xs : List Sent) → GoTo (with_server ss n new) xs → GoTo (with_server ss n (with_outbox ys new)) xs
+go_with ss n new ys [] g = tt
+go_with ss n new ys (x ∷ xs) g = (there_with ss n new ys x.target g.0, go_with ss n new ys xs g.1)
+
+module _ (k : Cluster) (e : Event) where
+  handed : (s : Server) → server_at k.servers e.server ≡ Some s → (o : Option (Server × EntryView))
+      → Gives (λ (r : Server × EntryView). GoTo (with_server k.servers e.server r.0) (drop (length s.rest.outbox) r.0.rest.outbox)) o
+      → Gives (λ (d : Cluster × EntryView). Sums (things_of d.0)) (option_map (λ r. (record k { servers = with_server k.servers e.server r.0 }, r.1)) o)
+      → Gives (λ (d : Cluster × EntryView). Sums (things_of d.0)) (option_map (λ r. (record k { servers = hand_over_newer e.server (length s.rest.outbox) r.0 k.servers }, r.1)) o)
+  handed s h None go g = tt
+  handed s h (Some r) go g =
+      let kept : Kept Sums = sums_kept in
+      kept.same (servers_things (with_server k.servers e.server r.0)) (servers_things (hand_over_newer e.server (length s.rest.outbox) r.0 k.servers))
+      (λ f. sym (hand_over_newer_law f e.server (length s.rest.outbox) s r.0 k.servers h (go_with k.servers e.server r.0 (take (length s.rest.outbox) r.0.rest.outbox) (drop (length s.rest.outbox) r.0.rest.outbox) go))) g
+
+  at_server : (o : Option Server) → server_at k.servers e.server ≡ o → SendsToServers k e
+      → Gives (λ (d : Cluster × EntryView). Sums (things_of d.0)) (then_some o (λ s. option_map (λ d. (record k { servers = with_server k.servers e.server d.0 }, d.1)) (done_at k e.what s)))
+      → Gives (λ (d : Cluster × EntryView). Sums (things_of d.0)) (then_some o (λ s. option_map (λ d. (record k { servers = hand_over_newer e.server (length s.rest.outbox) d.0 k.servers }, d.1)) (done_at k e.what s)))
+  at_server None h go g = tt
+  at_server (Some s) h go g = handed s h (done_at k e.what s) (go s h) g
+
+pub each_handed_over : EachEventHandedOver (λ c. Sums (things_of c))
+each_handed_over k e sound few go = at_server k e (server_at k.servers e.server) refl go (each_event_leaves k e sound few)
+
+pub handed_part : (Part : Cluster → Type 0) → ((c : Cluster) → Sums (things_of c) → Part c) → EachEventHandedOver Part
+handed_part Part has k e sound few go = weaker (λ (d : Cluster × EntryView). Sums (things_of d.0)) (λ (d : Cluster × EntryView). Part d.0) _ (each_handed_over k e sound few go) (λ d u. has d.0 u)
