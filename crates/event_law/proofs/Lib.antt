@@ -16,6 +16,7 @@ pub mod NewWords
 pub mod Prepares
 pub mod Proved
 pub mod Messages
+pub mod Unseen
 pub mod Sound
 pub mod Drops
 pub mod Commits
@@ -38,4 +39,7 @@ pub mod Finished
 pub mod FinishSteps
 pub mod Each
 pub mod Applied
+pub mod Askers
+pub mod Sends
+pub mod Answering
 pub mod Begins

@@ -1,5 +1,5 @@
 -- Laws of events: from a cluster that has the sums, an event of a kind leaves them.
-use Rattle.std.specs.Prelude.{◌≡◌, ◌≤◌, ◌<◌, ◌+◌, ◌^◌, ⊤, ℕ, List, length, take, drop, Option, Some, None, IsSome}
+use Rattle.std.specs.Prelude.{◌≡◌, ◌≤◌, ◌<◌, ◌+◌, ◌^◌, ⊤, ℕ, true, List, length, take, drop, Option, Some, None, IsSome}
 use Rattle.std.specs.List.{AllByRecursion}
 use Rattle.fr_base.specs.declared.instruction.Instr.{Instr}
 use Rattle.fr_base.specs.declared.settings.Options.{Options}
@@ -14,7 +14,7 @@ use Rattle.heap_law.specs.Naming.{events_of}
 use Rattle.heap_law.specs.Balances.{Agree, AtMost, AtMostOne}
 use Rattle.heap_law.specs.Weights.{states, below, shares_of, shares_at_home, tasks_of, is_thread}
 use Rattle.heap_law.specs.Coherent.{IsSound, Holds, objects_made, names_counted, branches_give_unit, parts_are_typed}
-use Rattle.event_law.specs.Kinds.{Kind, kind_of}
+use Rattle.event_law.specs.Kinds.{Kind, kind_of, answers}
 use Rattle.event_law.specs.Sums.{Sums, is_server}
 
 -- where there is a result, it is so
@@ -103,3 +103,8 @@ SendsToServers k e =
 -- an event of whatever kind from a sound cluster, and its messages handed over, leave the part, where it sends to servers that are there
 abbrev pub EachEventHandedOver : (Cluster → Type 0) → Type 0
 EachEventHandedOver Part = (k : Cluster) (e : Event) → IsSound k → FewEvents k → SendsToServers k e → Gives (λ d. Part d.0) (apply k e)
+
+-- such an event that answers sends to servers of the run: from a sound cluster it leaves the part, its messages handed over
+abbrev pub EachAnswerApplied : (Cluster → Type 0) → Type 0
+EachAnswerApplied Part =
+    (k : Cluster) (e : Event) (kind : Kind) → kind_of k e ≡ Some kind → answers kind ≡ true → IsSound k → FewEvents k → Gives (λ d. Part d.0) (apply k e)

@@ -1,0 +1,115 @@
+-- Sums of a weight that sees threads, messages and counts alone.
+use Rattle.std.proofs.Common.{◌≡◌, ℕ, ◌+◌, Bool, true, false, if◌then◌else◌, List, [], ◌∷◌, ◌++◌, length, Option, Some, None, refl, arith}
+use Rattle.fr_base.specs.declared.name.MutexNo.{MutexNo}
+use Rattle.heap_partition.specs.declared.value.Cell.{Cell}
+use Rattle.heap_partition.specs.declared.value.Owned.{Owned}
+use Rattle.mut_borrow.specs.declared.mutable.MutRef.{MutRef}
+use Rattle.mut_borrow.specs.declared.shared.SharedRef.{SharedRef}
+use Rattle.read_cache.specs.Cache.{Copy}
+use Rattle.mutex_home.specs.Mutexes.{Mutex}
+use Rattle.join_home.specs.Tasks.{Task, TaskState, kept}
+use Rattle.thread_state.specs.View.{ThreadState}
+use Rattle.thread_state.specs.declared.value.Value.{Value}
+use Rattle.thread_state.specs.declared.value.Value.TheVariants as value
+use Rattle.server_model.specs.Servers.{Server}
+use Rattle.heap_law.specs.Names.{tot}
+use Rattle.heap_law.specs.Things.{Thing, Spot, Location, as_gift, as_content, as_result, holds, shares, borrows, locks, lies, vacant, retired, copied, uses, stands, at_home, queued, noted, counts, things_at, is_free, cell_things, free_things, copy_things, content_things, queue_things, mutex_things, result_things, task_things, gift_things, walk_things, pin_things, value_things, slot_things, temp_things, thread_things, standing_things, server_things}
+use Rattle.heap_law.proofs.Sums.{tot-append, server_parts, inbox_of, all_sent}
+
+pub record Unseen (f : Thing → ℕ) : Type 0 where
+  pub held : (p : Spot) (v : Owned) → f (holds p v) ≡ 0
+  pub shared : (l : Location) (r : SharedRef) → f (shares l r) ≡ 0
+  pub borrowed : (l : Location) (r : MutRef) → f (borrows l r) ≡ 0
+  pub locked : (l : Location) (m : MutexNo) → f (locks l m) ≡ 0
+  pub live : (s a : ℕ) (c : Cell) → f (lies s a c) ≡ 0
+  pub free : (s a n : ℕ) → f (vacant s a n) ≡ 0
+  pub old : (s a : ℕ) → f (retired s a) ≡ 0
+  pub copy : (s : ℕ) (c : Copy) → f (copied s c) ≡ 0
+  pub used : (s w : ℕ) → f (uses s w) ≡ 0
+  pub mutex : (s : ℕ) (m : Mutex) → f (at_home s m) ≡ 0
+  pub queue : (m : MutexNo) (s t : ℕ) → f (queued m s t) ≡ 0
+  pub note : (s : ℕ) (t : Task) → f (noted s t) ≡ 0
+
+module _ (f : Thing → ℕ) (u : Unseen f) where
+  pub none_at : {X : Type 0} (g : ℕ → X → List Thing) → ((i : ℕ) (x : X) → tot f (g i x) ≡ 0) → (i : ℕ) (xs : List X) → tot f (things_at g i xs) ≡ 0
+  none_at g z i [] = refl
+  none_at g z i (x ∷ xs) = omega (arith, z i x, none_at g z (i + 1) xs, tot-append f (g i x) (things_at g (i + 1) xs))
+
+  cell_none : (s : ℕ) (free : List (ℕ × ℕ)) (a : ℕ) (c : Option Cell) → tot f (cell_things s free a c) ≡ 0
+  cell_none s free a (Some c) = omega (arith, u.live s a c)
+  cell_none s free a None = by (is_free a free)
+    where
+      by : (b : Bool) → tot f (if b then [] else retired s a ∷ []) ≡ 0
+      by true = refl
+      by false = omega (arith, u.old s a)
+
+  pin_none : (s : ℕ) (q : SharedRef) → tot f (pin_things s q) ≡ 0
+  pin_none s q = by q.pinned
+    where
+      by : (b : Bool) → tot f (if b then uses s q.word ∷ [] else []) ≡ 0
+      by true = omega (arith, u.used s q.word)
+      by false = refl
+
+  value_none : (s : ℕ) (p : Spot) (l : Location) (v : Value) → tot f (value_things s p l v) ≡ 0
+  value_none s p l value.Gone = refl
+  value_none s p l (value.Own v) = omega (arith, u.held p v)
+  value_none s p l (value.SharedSlot i) = refl
+  value_none s p l (value.MutSlot i) = refl
+  value_none s p l (value.Shared q) = omega (arith, u.shared l q, pin_none s q)
+  value_none s p l (value.Mut r) = omega (arith, u.borrowed l r)
+  value_none s p l (value.Held m) = omega (arith, u.locked l m)
+
+  gift_none : (t : ℕ) (v : Option Owned) → tot f (gift_things t v) ≡ 0
+  gift_none t None = refl
+  gift_none t (Some v) = omega (arith, u.held (as_gift t) v)
+
+  -- of a thread it sees the thread itself
+  pub thread_alone : (s : ℕ) (p : Bool) (t : ThreadState) → tot f (thread_things s p t) ≡ f (stands s p t)
+  thread_alone s p t =
+      let g = gift_things t.number t.gift in
+      let w = things_at (walk_things s) 0 t.walk in
+      let a = things_at (slot_things s t.number) 0 t.slots in
+      let b = things_at (temp_things s t.number) 0 t.temps in
+      omega (
+        arith,
+        gift_none t.number t.gift,
+        none_at (walk_things s) (λ i x. omega (arith, u.used s x)) 0 t.walk,
+        none_at (slot_things s t.number) (λ i x. value_none s _ _ x) 0 t.slots,
+        none_at (temp_things s t.number) (λ i x. value_none s _ _ x) 0 t.temps,
+        tot-append f (g ++ w ++ a) b,
+        tot-append f (g ++ w) a,
+        tot-append f g w,
+      )
+
+  content_none : (m : Mutex) → tot f (content_things m.number m.content) ≡ 0
+  content_none m = by m.content
+    where
+      by : (c : Option Owned) → tot f (content_things m.number c) ≡ 0
+      by None = refl
+      by (Some v) = omega (arith, u.held (as_content m.number) v)
+
+  mutex_none : (s i : ℕ) (m : Mutex) → tot f (mutex_things s i m) ≡ 0
+  mutex_none s i m = omega (arith, u.mutex s m, content_none m, none_at (queue_things m.number) (λ j x. omega (arith, u.queue m.number x.0 x.1)) 0 m.queue, tot-append f (content_things m.number m.content) (things_at (queue_things m.number) 0 m.queue))
+
+  result_none : (t : ℕ) (x : TaskState) → tot f (result_things t x) ≡ 0
+  result_none t (kept v) = omega (arith, u.held (as_result t) v)
+  result_none t _ = refl
+
+  task_none : (s i : ℕ) (t : Task) → tot f (task_things s i t) ≡ 0
+  task_none s i t = omega (arith, u.note s t, result_none t.thread t.state)
+
+  -- what it sees of a server
+  pub seen_of : (s : Server) → tot f (server_things s)
+      ≡ f (counts s.rest.number (length s.rest.partition.cells) s.rest.partition.retired s.rest.started s.rest.mutexes.made s.events) + tot f (things_at (standing_things s.rest.number) 0 s.threads) + inbox_of f s + all_sent f s.rest.outbox
+  seen_of s =
+      let n = s.rest.number in
+      omega (
+        arith,
+        server_parts f s,
+        none_at (cell_things n s.rest.partition.free) (cell_none n s.rest.partition.free) 0 s.rest.partition.cells,
+        none_at (free_things n) (λ i x. omega (arith, u.free n x.0 x.1)) 0 s.rest.partition.free,
+        tot-append f (things_at (cell_things n s.rest.partition.free) 0 s.rest.partition.cells) (things_at (free_things n) 0 s.rest.partition.free),
+        none_at (copy_things n) (λ i x. omega (arith, u.copy n x)) 0 s.rest.cache,
+        none_at (mutex_things n) (mutex_none n) 0 s.rest.mutexes.there,
+        none_at (task_things n) (task_none n) 0 s.rest.tasks,
+      )
