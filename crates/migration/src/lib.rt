@@ -2,5 +2,7 @@
 #![tactic(auto)]
 
 mod packing;
+#[cfg(test)]
+mod tests;
 
 pub use packing::{pack_thread, unpack};
