@@ -1,17 +1,18 @@
 -- In a sound cluster the server of a thread, and so that of one that asks, is of the run.
-use Rattle.std.proofs.Common.{◌≡◌, ℕ, ◌+◌, ◌<◌, ◌≤◌, ◌==◌, ◌&&◌, Bool, true, false, nat_lt, is_some, if◌then◌else◌, List, [], ◌∷◌, Some, IsSome, refl, sym, ap, subst, ◌∙◌, arith}
+use Rattle.std.proofs.Common.{◌≡◌, ℕ, ◌+◌, ◌<◌, ◌≤◌, ◌==◌, ◌&&◌, ◌||◌, Bool, true, false, zero, suc, nat_lt, nat_le, is_some, if◌then◌else◌, List, [], ◌∷◌, Some, IsSome, refl, sym, ap, subst, ◌∙◌, arith}
 use Rattle.std.specs.Prelude.{slice_get}
 use Rattle.std.proofs.lemmas.Bool.Decides.{nat_tests}
 use Rattle.fr_typing.proofs.PlaceLemmas.{eq_cases}
+use Rattle.global_addr.specs.Words.{colour_of, server_of, address_of}
 use Rattle.thread_state.specs.View.{ThreadState}
 use Rattle.server_msgs.specs.declared.message.Message.{Message}
 use Rattle.server_msgs.specs.declared.message.Message.TheVariants as message
 use Rattle.server_model.specs.Servers.{Sent, Server, Cluster, server_at}
-use Rattle.heap_law.specs.Names.{tot, other}
-use Rattle.heap_law.specs.Things.{Thing, sent, stands, things_at, message_things, waiting_things, leaving_things, standing_things, thread_things, server_things, servers_things, things_of}
+use Rattle.heap_law.specs.Names.{tot, one, other, some}
+use Rattle.heap_law.specs.Things.{Thing, lies, vacant, retired, counts, sent, stands, things_at, message_things, waiting_things, leaving_things, standing_things, thread_things, server_things, servers_things, things_of}
 use Rattle.heap_law.specs.Follow.{threads_in, thread_at}
-use Rattle.heap_law.specs.Sight.{Sight, sight}
-use Rattle.heap_law.specs.Naming.{servers_wrong, pinned_parcel}
+use Rattle.heap_law.specs.Sight.{Sight, Pointer, sight, word_of_object, colour_up_to, is_spot, is_issued, issued}
+use Rattle.heap_law.specs.Naming.{servers_wrong, pinned_parcel, started_at, made_at}
 use Rattle.heap_law.specs.Walking.{sum_threads}
 use Rattle.heap_law.specs.Requests.{in_server, stands_at, is_goal, goal, misrouted, asker_message, other_asker}
 use Rattle.heap_law.specs.Coherent.{IsSound}
@@ -20,14 +21,21 @@ use Rattle.event_law.proofs.Trades.{tot-remove}
 use Rattle.event_law.proofs.Events.{tot-server}
 use Rattle.event_law.proofs.Unseen.{Unseen, thread_alone, seen_of}
 
--- a thread whose server isn't there
+-- a thread, an address or the counts of a server that isn't there
 abbrev pub stray : List Server → Thing → ℕ
 stray ss (stands r p t) = other (is_some (server_at ss r))
+stray ss (lies r a c) = other (is_some (server_at ss r))
+stray ss (vacant r a next) = other (is_some (server_at ss r))
+stray ss (retired r a) = other (is_some (server_at ss r))
+stray ss (counts r next old started made events) = other (is_some (server_at ss r))
 stray ss x = 0
 
 other_none : (b : Bool) → other b ≡ 0 → b ≡ true
 other_none true q = refl
 other_none false q = absurd (cc q)
+
+false_one : false ≡ true → ⊥
+false_one e = absurd (cc e)
 
 both : (p q : Bool) → p && q ≡ true → p ≡ true
 both true q z = refl
@@ -52,6 +60,11 @@ there_below k sound t h =
     let parts : servers_wrong (sight k) 0 k.servers + sum_threads (sight k) pinned_parcel ≡ 0 = sound.parts.parts_are_typed in
     there_from (sight k) 0 k.servers (omega (arith, parts)) t (omega arith) h
 
+-- at that address, or later in the list
+at_spot : (X : ℕ → Type 0) (w r a : ℕ) (c d : Bool) → X r → (d ≡ true → X (server_of w)) → (is_spot r a w && c) || d ≡ true → X (server_of w)
+at_spot X w r a c d here go i =
+    eq_cases (λ b. ((b && (address_of w == a)) && c) || d ≡ true → X (server_of w)) (server_of w) r (λ e j. subst X (sym e) here) (λ ne j. go j) i
+
 -- THREADS
 
 module _ (k : Cluster) (sound : IsSound k) where
@@ -61,15 +74,15 @@ module _ (k : Cluster) (sound : IsSound k) where
   abbrev h : Thing → ℕ
   h = misrouted (sight k)
 
-  unseen : Unseen g
-  unseen = record {
+  unseen : (n : ℕ) → IsSome (server_at k.servers n) → Unseen g n
+  unseen n a = record {
     held = λ p v. refl;
     shared = λ l r. refl;
     borrowed = λ l r. refl;
     locked = λ l m. refl;
-    live = λ s a c. refl;
-    free = λ s a n. refl;
-    old = λ s a. refl;
+    live = λ b c. ap other a;
+    free = λ b m. ap other a;
+    old = λ b. ap other a;
     copy = λ s c. refl;
     used = λ s w. refl;
     mutex = λ s m. refl;
@@ -78,7 +91,7 @@ module _ (k : Cluster) (sound : IsSound k) where
   }
 
   thread_there : (n : ℕ) (p : Bool) (t : ThreadState) → IsSome (server_at k.servers n) → tot g (thread_things n p t) ≡ 0
-  thread_there n p t a = thread_alone g unseen n p t ∙ ap other a
+  thread_there n p t a = thread_alone g n (unseen n a) n p t ∙ ap other a
 
   -- a message goes to a server of the run
   goes_there : (n : ℕ) (m : Message) → other (nat_lt n k.options.servers && is_goal n (goal k.options.servers m)) ≡ 0 → IsSome (server_at k.servers n)
@@ -108,7 +121,7 @@ module _ (k : Cluster) (sound : IsSound k) where
   server_there : (s : Server) → IsSome (server_at k.servers s.rest.number) → tot h (server_things s) ≡ 0 → tot g (server_things s) ≡ 0
   server_there s a z =
       let p = server_parts h s in
-      omega (arith, seen_of g unseen s, standing_there s.rest.number a 0 s.threads, waiting_there s.rest.number 0 s.rest.inbox (omega (arith, z, p)), leaving_there 0 s.rest.outbox (omega (arith, z, p)))
+      omega (arith, seen_of g s.rest.number (unseen s.rest.number a) s refl, ap other a, standing_there s.rest.number a 0 s.threads, waiting_there s.rest.number 0 s.rest.inbox (omega (arith, z, p)), leaving_there 0 s.rest.outbox (omega (arith, z, p)))
 
   all_there : (us : List Server) → ((t : ℕ) → IsSome (server_at us t) → IsSome (server_at k.servers t)) → tot h (servers_things us) ≡ 0 → tot g (servers_things us) ≡ 0
   all_there [] c z = refl
@@ -132,6 +145,43 @@ module _ (k : Cluster) (sound : IsSound k) where
       (λ e j. subst (λ m. IsSome (server_at k.servers m)) (grind (arith, nat_tests, j)) (other_none (is_some (server_at k.servers n)) (omega (arith, z))))
       (λ ne j. found b t r (omega (arith, z)) j) i
   found (_ ∷ b) t r z i = found b t r (omega (arith, z)) i
+
+  -- an issued word is of a server that is there
+  word_there : (colours : ℕ) (ps : List Pointer) (w : ℕ) (b : List Thing) → tot g b ≡ 0 → is_issued colours ps b w ≡ true → IsSome (server_at k.servers (server_of w))
+  word_there cs ps w [] z i = absurd (cc i)
+  word_there cs ps w (lies r a c ∷ b) z i = at_spot (λ n. IsSome (server_at k.servers n)) w r a (colour_up_to (word_of_object ps c.object) w) (is_issued cs ps b w) (other_none (is_some (server_at k.servers r)) (omega (arith, z))) (word_there cs ps w b (omega (arith, z))) i
+  word_there cs ps w (vacant r a next ∷ b) z i = at_spot (λ n. IsSome (server_at k.servers n)) w r a (nat_lt (colour_of w) next) (is_issued cs ps b w) (other_none (is_some (server_at k.servers r)) (omega (arith, z))) (word_there cs ps w b (omega (arith, z))) i
+  word_there cs ps w (retired r a ∷ b) z i = at_spot (λ n. IsSome (server_at k.servers n)) w r a (nat_lt (colour_of w) cs) (is_issued cs ps b w) (other_none (is_some (server_at k.servers r)) (omega (arith, z))) (word_there cs ps w b (omega (arith, z))) i
+  word_there cs ps w (_ ∷ b) z i = word_there cs ps w b (omega (arith, z)) i
+
+  pub issued_there : (w : ℕ) → issued (sight k) w ≡ true → IsSome (server_at k.servers (server_of w))
+  issued_there w i = word_there k.options.colours (sight k).pointers w (things_of k) none_stray i
+
+  -- a server that has counted is there
+  counter_there : (f : Thing → ℕ) (r : ℕ) → ((x : Thing) → stray k.servers x ≡ 0 → some (f x) ≡ true → IsSome (server_at k.servers r)) → (b : List Thing) → tot g b ≡ 0 → some (tot f b) ≡ true → IsSome (server_at k.servers r)
+  counter_there f r go [] z i = absurd (cc i)
+  counter_there f r go (x ∷ b) z i = either (f x) (tot f b) (λ e. go x (omega (arith, z)) e) (λ e. counter_there f r go b (omega (arith, z)) e) i
+    where
+      either : (m n : ℕ) → (some m ≡ true → IsSome (server_at k.servers r)) → (some n ≡ true → IsSome (server_at k.servers r)) → some (m + n) ≡ true → IsSome (server_at k.servers r)
+      either zero n p q e = q (subst (λ l. some l ≡ true) (omega arith) e)
+      either (suc m) n p q e = p refl
+
+  thread_counted : (r n : ℕ) (x : Thing) → stray k.servers x ≡ 0 → some (started_at r n x) ≡ true → IsSome (server_at k.servers r)
+  thread_counted r n (counts a next old started made events) z i =
+      eq_cases (λ b. some (one (b && nat_le n started)) ≡ true → IsSome (server_at k.servers r)) a r (λ e j. subst (λ m. IsSome (server_at k.servers m)) e (other_none (is_some (server_at k.servers a)) z)) (λ ne j. absurd (false_one j)) i
+  thread_counted r n _ z i = absurd (false_one i)
+
+  mutex_counted : (r n : ℕ) (x : Thing) → stray k.servers x ≡ 0 → some (made_at r n x) ≡ true → IsSome (server_at k.servers r)
+  mutex_counted r n (counts a next old started made events) z i =
+      eq_cases (λ b. some (one (b && nat_le n made)) ≡ true → IsSome (server_at k.servers r)) a r (λ e j. subst (λ m. IsSome (server_at k.servers m)) e (other_none (is_some (server_at k.servers a)) z)) (λ ne j. absurd (false_one j)) i
+  mutex_counted r n _ z i = absurd (false_one i)
+
+  -- the home of a thread that is counted, and that of a mutex, are there
+  pub home_there : (r n : ℕ) → some (tot (started_at r n) (things_of k)) ≡ true → IsSome (server_at k.servers r)
+  home_there r n i = counter_there (started_at r n) r (thread_counted r n) (things_of k) none_stray i
+
+  pub mutex_there : (r n : ℕ) → some (tot (made_at r n) (things_of k)) ≡ true → IsSome (server_at k.servers r)
+  mutex_there r n i = counter_there (made_at r n) r (mutex_counted r n) (things_of k) none_stray i
 
   -- the server of a thread is there
   pub stands_there : (t r : ℕ) → stands_at (sight k) t r ≡ true → IsSome (server_at k.servers r)

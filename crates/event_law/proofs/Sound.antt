@@ -19,15 +19,15 @@ module _ (r : ℕ) where
   abbrev f : Thing → ℕ
   f = is_server r
 
-  unseen : Unseen f
-  unseen = record {
+  unseen : (n : ℕ) → Unseen f n
+  unseen n = record {
     held = λ p v. refl;
     shared = λ l q. refl;
     borrowed = λ l q. refl;
     locked = λ l m. refl;
-    live = λ s a c. refl;
-    free = λ s a n. refl;
-    old = λ s a. refl;
+    live = λ a c. refl;
+    free = λ a m. refl;
+    old = λ a. refl;
     copy = λ s c. refl;
     used = λ s w. refl;
     mutex = λ s m. refl;
@@ -36,7 +36,7 @@ module _ (r : ℕ) where
   }
 
   thread_none : (s : ℕ) (p : Bool) (t : ThreadState) → tot f (thread_things s p t) ≡ 0
-  thread_none s p t = thread_alone f unseen s p t
+  thread_none s p t = thread_alone f s (unseen s) s p t
 
   message_none : (s : ℕ) (m : Message) → tot f (message_things s m) ≡ 0
   message_none s (message.Start t) = omega (arith, thread_none s true t)
@@ -49,10 +49,10 @@ module _ (r : ℕ) where
       let n = s.rest.number in
       omega (
         arith,
-        seen_of f unseen s,
-        none_at f unseen (standing_things n) (λ i x. thread_none n false x) 0 s.threads,
-        none_at f unseen (waiting_things n) (λ i x. message_none n x) 0 s.rest.inbox,
-        none_at f unseen leaving_things (λ i x. message_none x.target x.message) 0 s.rest.outbox,
+        seen_of f n (unseen n) s refl,
+        none_at f n (unseen n) (standing_things n) (λ i x. thread_none n false x) 0 s.threads,
+        none_at f n (unseen n) (waiting_things n) (λ i x. message_none n x) 0 s.rest.inbox,
+        none_at f n (unseen n) leaving_things (λ i x. message_none x.target x.message) 0 s.rest.outbox,
       )
 
   other_none : (b : Bool) → other b ≡ 0 → b ≡ true

@@ -1,5 +1,5 @@
--- Sums of a weight that sees threads, messages and counts alone.
-use Rattle.std.proofs.Common.{◌≡◌, ℕ, ◌+◌, Bool, true, false, if◌then◌else◌, List, [], ◌∷◌, ◌++◌, length, Option, Some, None, refl, arith}
+-- Sums of a weight that, of server n, sees threads, messages and counts alone.
+use Rattle.std.proofs.Common.{◌≡◌, ℕ, ◌+◌, Bool, true, false, if◌then◌else◌, List, [], ◌∷◌, ◌++◌, length, Option, Some, None, refl, sym, subst, arith}
 use Rattle.fr_base.specs.declared.name.MutexNo.{MutexNo}
 use Rattle.heap_partition.specs.declared.value.Cell.{Cell}
 use Rattle.heap_partition.specs.declared.value.Owned.{Owned}
@@ -13,35 +13,35 @@ use Rattle.thread_state.specs.declared.value.Value.{Value}
 use Rattle.thread_state.specs.declared.value.Value.TheVariants as value
 use Rattle.server_model.specs.Servers.{Server}
 use Rattle.heap_law.specs.Names.{tot}
-use Rattle.heap_law.specs.Things.{Thing, Spot, Location, as_gift, as_content, as_result, holds, shares, borrows, locks, lies, vacant, retired, copied, uses, stands, at_home, queued, noted, counts, things_at, is_free, cell_things, free_things, copy_things, content_things, queue_things, mutex_things, result_things, task_things, gift_things, walk_things, pin_things, value_things, slot_things, temp_things, thread_things, standing_things, server_things}
+use Rattle.heap_law.specs.Things.{Thing, Spot, Location, as_gift, as_content, as_result, holds, shares, borrows, locks, lies, vacant, retired, copied, uses, stands, at_home, queued, noted, counts, things_at, is_free, cell_things, free_things, partition_things, copy_things, content_things, queue_things, mutex_things, result_things, task_things, gift_things, walk_things, pin_things, value_things, slot_things, temp_things, thread_things, standing_things, server_things}
 use Rattle.heap_law.proofs.Sums.{tot-append, server_parts, inbox_of, all_sent}
 
-pub record Unseen (f : Thing → ℕ) : Type 0 where
+pub record Unseen (f : Thing → ℕ) (n : ℕ) : Type 0 where
   pub held : (p : Spot) (v : Owned) → f (holds p v) ≡ 0
   pub shared : (l : Location) (r : SharedRef) → f (shares l r) ≡ 0
   pub borrowed : (l : Location) (r : MutRef) → f (borrows l r) ≡ 0
   pub locked : (l : Location) (m : MutexNo) → f (locks l m) ≡ 0
-  pub live : (s a : ℕ) (c : Cell) → f (lies s a c) ≡ 0
-  pub free : (s a n : ℕ) → f (vacant s a n) ≡ 0
-  pub old : (s a : ℕ) → f (retired s a) ≡ 0
+  pub live : (a : ℕ) (c : Cell) → f (lies n a c) ≡ 0
+  pub free : (a next : ℕ) → f (vacant n a next) ≡ 0
+  pub old : (a : ℕ) → f (retired n a) ≡ 0
   pub copy : (s : ℕ) (c : Copy) → f (copied s c) ≡ 0
   pub used : (s w : ℕ) → f (uses s w) ≡ 0
   pub mutex : (s : ℕ) (m : Mutex) → f (at_home s m) ≡ 0
   pub queue : (m : MutexNo) (s t : ℕ) → f (queued m s t) ≡ 0
   pub note : (s : ℕ) (t : Task) → f (noted s t) ≡ 0
 
-module _ (f : Thing → ℕ) (u : Unseen f) where
+module _ (f : Thing → ℕ) (n : ℕ) (u : Unseen f n) where
   pub none_at : {X : Type 0} (g : ℕ → X → List Thing) → ((i : ℕ) (x : X) → tot f (g i x) ≡ 0) → (i : ℕ) (xs : List X) → tot f (things_at g i xs) ≡ 0
   none_at g z i [] = refl
   none_at g z i (x ∷ xs) = omega (arith, z i x, none_at g z (i + 1) xs, tot-append f (g i x) (things_at g (i + 1) xs))
 
-  cell_none : (s : ℕ) (free : List (ℕ × ℕ)) (a : ℕ) (c : Option Cell) → tot f (cell_things s free a c) ≡ 0
-  cell_none s free a (Some c) = omega (arith, u.live s a c)
-  cell_none s free a None = by (is_free a free)
+  cell_none : (free : List (ℕ × ℕ)) (a : ℕ) (c : Option Cell) → tot f (cell_things n free a c) ≡ 0
+  cell_none free a (Some c) = omega (arith, u.live a c)
+  cell_none free a None = by (is_free a free)
     where
-      by : (b : Bool) → tot f (if b then [] else retired s a ∷ []) ≡ 0
+      by : (b : Bool) → tot f (if b then [] else retired n a ∷ []) ≡ 0
       by true = refl
-      by false = omega (arith, u.old s a)
+      by false = omega (arith, u.old a)
 
   pin_none : (s : ℕ) (q : SharedRef) → tot f (pin_things s q) ≡ 0
   pin_none s q = by q.pinned
@@ -99,17 +99,16 @@ module _ (f : Thing → ℕ) (u : Unseen f) where
   task_none s i t = omega (arith, u.note s t, result_none t.thread t.state)
 
   -- what it sees of a server
-  pub seen_of : (s : Server) → tot f (server_things s)
+  pub seen_of : (s : Server) → s.rest.number ≡ n → tot f (server_things s)
       ≡ f (counts s.rest.number (length s.rest.partition.cells) s.rest.partition.retired s.rest.started s.rest.mutexes.made s.events) + tot f (things_at (standing_things s.rest.number) 0 s.threads) + inbox_of f s + all_sent f s.rest.outbox
-  seen_of s =
-      let n = s.rest.number in
+  seen_of s e =
+      let p = s.rest.partition in
+      let cells : tot f (partition_things n p) ≡ 0 = omega (arith, none_at (cell_things n p.free) (cell_none p.free) 0 p.cells, none_at (free_things n) (λ i x. omega (arith, u.free x.0 x.1)) 0 p.free, tot-append f (things_at (cell_things n p.free) 0 p.cells) (things_at (free_things n) 0 p.free)) in
       omega (
         arith,
         server_parts f s,
-        none_at (cell_things n s.rest.partition.free) (cell_none n s.rest.partition.free) 0 s.rest.partition.cells,
-        none_at (free_things n) (λ i x. omega (arith, u.free n x.0 x.1)) 0 s.rest.partition.free,
-        tot-append f (things_at (cell_things n s.rest.partition.free) 0 s.rest.partition.cells) (things_at (free_things n) 0 s.rest.partition.free),
-        none_at (copy_things n) (λ i x. omega (arith, u.copy n x)) 0 s.rest.cache,
-        none_at (mutex_things n) (mutex_none n) 0 s.rest.mutexes.there,
-        none_at (task_things n) (task_none n) 0 s.rest.tasks,
+        subst (λ m. tot f (partition_things m p) ≡ 0) (sym e) cells,
+        none_at (copy_things s.rest.number) (λ i x. omega (arith, u.copy s.rest.number x)) 0 s.rest.cache,
+        none_at (mutex_things s.rest.number) (mutex_none s.rest.number) 0 s.rest.mutexes.there,
+        none_at (task_things s.rest.number) (task_none s.rest.number) 0 s.rest.tasks,
       )

@@ -3,14 +3,16 @@ use Rattle.std.specs.Prelude.{◌≡◌, ◌≤◌, ◌<◌, ◌+◌, ◌^◌, �
 use Rattle.std.specs.List.{AllByRecursion}
 use Rattle.fr_base.specs.declared.instruction.Instr.{Instr}
 use Rattle.fr_base.specs.declared.settings.Options.{Options}
+use Rattle.global_addr.specs.Words.{server_of}
 use Rattle.journal.specs.View.{EntryView}
 use Rattle.server_model.specs.declared.event.Event.{Event}
 use Rattle.server_model.specs.Servers.{Sent, Server, Cluster, server_at, start_of}
 use Rattle.server_model.specs.Clusters.{with_server, with_outbox, hand_over_newer, done_at, act_at, apply}
-use Rattle.heap_law.specs.Names.{tot}
+use Rattle.heap_law.specs.Names.{tot, some}
 use Rattle.heap_law.specs.Things.{Thing, servers_things, things_of}
-use Rattle.heap_law.specs.Sight.{sight}
-use Rattle.heap_law.specs.Naming.{events_of}
+use Rattle.heap_law.specs.Sight.{sight, issued}
+use Rattle.heap_law.specs.Naming.{events_of, started_at, made_at}
+use Rattle.heap_law.specs.Requests.{stands_at}
 use Rattle.heap_law.specs.Balances.{Agree, AtMost, AtMostOne}
 use Rattle.heap_law.specs.Weights.{states, below, shares_of, shares_at_home, tasks_of, is_thread}
 use Rattle.heap_law.specs.Coherent.{IsSound, Holds, objects_made, names_counted, branches_give_unit, parts_are_typed}
@@ -108,3 +110,16 @@ EachEventHandedOver Part = (k : Cluster) (e : Event) → IsSound k → FewEvents
 abbrev pub EachAnswerApplied : (Cluster → Type 0) → Type 0
 EachAnswerApplied Part =
     (k : Cluster) (e : Event) (kind : Kind) → kind_of k e ≡ Some kind → answers kind ≡ true → IsSound k → FewEvents k → Gives (λ d. Part d.0) (apply k e)
+
+-- WHERE NAMES LEAD
+
+-- what a cluster names is of servers that are there: an issued word, a thread and a mutex that are counted at their home, and the server of a
+-- thread that stands somewhere, as a thread that asks does
+pub record NamesAreHere (k : Cluster) : Type 0 where
+  pub words : (w : ℕ) → issued (sight k) w ≡ true → IsSome (server_at k.servers (server_of w))
+  pub threads : (home n : ℕ) → some (tot (started_at home n) (things_of k)) ≡ true → IsSome (server_at k.servers home)
+  pub mutexes : (home n : ℕ) → some (tot (made_at home n) (things_of k)) ≡ true → IsSome (server_at k.servers home)
+  pub askers : (thread server : ℕ) → stands_at (sight k) thread server ≡ true → IsSome (server_at k.servers server)
+
+abbrev pub SoundNames : Type 0
+SoundNames = (k : Cluster) → IsSound k → NamesAreHere k

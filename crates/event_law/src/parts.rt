@@ -1,6 +1,6 @@
 //! The sums that every event is to keep are parts of coherent memory, and handing messages over changes none of them.
 
-ghost use Rattle.event_law.specs.Laws.{HandOverNewerLaw, SoundHasSums, StartHasSums};
+ghost use Rattle.event_law.specs.Laws.{HandOverNewerLaw, SoundHasSums, SoundNames, StartHasSums};
 
 /// A sound cluster has all of them, so that what the laws of events ask for holds in each coherent one.
 pub fn sound_has_sums()
@@ -15,4 +15,9 @@ pub fn start_has_sums()
 /// The messages that an event appended wait at their servers then, and no sum is another one.
 pub fn handing_over_newer()
     ensures { HandOverNewerLaw }
+{}
+
+/// In a sound cluster the words, threads and mutexes that are named, and the threads that ask, are of servers that are there.
+pub fn sound_names()
+    ensures { SoundNames }
 {}
