@@ -1,1 +1,3 @@
 pub mod TraceText
+pub mod ReportText
+pub mod Counting
