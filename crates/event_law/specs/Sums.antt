@@ -1,4 +1,4 @@
--- The parts of coherent memory that are sums over all things (in the manner of DRust, OSDI 2024; the exact sentences are this project's).
+-- Eight parts of coherent memory that are sums over all things (in the manner of DRust, OSDI 2024; the exact sentences are this project's).
 use Rattle.std.specs.Prelude.{ℕ, ◌==◌, List}
 use Rattle.heap_law.specs.Names.{one}
 use Rattle.heap_law.specs.Things.{Thing, counts}
