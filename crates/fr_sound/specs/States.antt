@@ -8,7 +8,7 @@ use Rattle.fr_typing.specs.Kinds.{Owned, unit, box, Kind, own, shared, mutable, 
 use Rattle.fr_typing.specs.Places.{Slot, Env}
 use Rattle.fr_store.specs.Keys.{Key, slot_k, temp_k, content_k, result_k, hand_k}
 use Rattle.fr_store.specs.Store.{Location, at_key, at_object, Val, gone_v, box_v, mutex_v, task_v, ref_v, Store, value_at, Place, below_location, below_key}
-use Rattle.fr_store.specs.Typed.{Tree, int_tree, owns, refers, KeyTypes, Typed}
+use Rattle.fr_store.specs.Typed.{Tree, int_tree, owns, refers, KeyTypes, Typed, Unnamed}
 use Rattle.fr_store.specs.Below.{tree_of}
 use Rattle.fr_store.specs.Thread.{ThreadKeys, ThreadTyped, Asleep}
 use Rattle.fr_plain.specs.declared.value.Value.{Value}
@@ -156,10 +156,11 @@ abbrev pub IsThread : Bool → (ℕ → Key) → (Key → ℕ) → Key → Env �
 IsThread true key rank hand e exact s k = Asleep key rank hand e exact k
 IsThread false key rank hand e exact s k = ThreadTyped key rank hand e exact s k
 
--- the slot is the mark of a lock of the mutex: a value of it stands where the mark leads, and the slot above is the one for the content, whole or
--- in part gone
+-- the slot is the mark of a lock of the mutex: a value of it stands where the mark leads, no type names the mark, and the slot above is the one for
+-- the content, whole or in part gone
 pub record IsLock (y : Typing) (s : Store) (e : Env) (t i : ℕ) (m : MutexNo) : Type 0 where
   pub leads : value_at s (y.marks t i) ≡ Some (mutex_v m (tree_of (y.gives.mutex m)))
+  pub unnamed : Unnamed y.exact (slot_k t i)
   pub content : owned_of (part_at e (suc i)) ≡ Some (y.gives.mutex m)
 
 -- a thread that goes on, and waits for these two or for none: what typing knows at its place types its slots and temporary values
@@ -283,6 +284,8 @@ pub record StateTypes {P : Type 0} (knows : P → Entry → Type 0) (temps : P �
   pub near : (k : Key) (m : Bool) (u : Place) → y.exact k ≡ refers m u → IsNear a k u
   -- the two threads of a pair differ, and each is a branch of its parent alone
   pub pairs : (p b c : ℕ) → a.pair p ≡ Some (b, c) → (b ≢ c) × IsBranch y a p b × IsBranch y a p c
+  -- who waits for a pair goes on
+  pub parents : (p b c : ℕ) → a.pair p ≡ Some (b, c) → (x : Running P) × (place_in (a.thread p) ≡ Some x)
   -- each mutex of which a value stands somewhere is there
   pub there : (l : Location) (m : MutexNo) → IsShare (store_of temps y a) m l → (x : Shared) × (a.mutex m ≡ Some x)
   pub mutexes : (m : MutexNo) (x : Shared) → a.mutex m ≡ Some x → MutexTyped y a (store_of temps y a) m x
@@ -290,6 +293,7 @@ pub record StateTypes {P : Type 0} (knows : P → Entry → Type 0) (temps : P �
   pub one_task : OneTask (store_of temps y a)
   pub tasks_owed : (l : Location) (t : ℕ) (r : Tree) → value_at (store_of temps y a) l ≡ Some (task_v t r) → IsOwed a t
   pub owed_stand : (t : ℕ) → IsOwed a t → (l : Location) × (r : Tree) × (value_at (store_of temps y a) l ≡ Some (task_v t r))
-  -- each object has an owner, and its thread counted it
+  -- a box that stands somewhere has its object, and each object has an owner, and its thread counted it
+  pub objects_there : (l : Location) (o : ObjNo) → value_at (store_of temps y a) l ≡ Some (box_v o) → (v : Plain) × (a.object o ≡ Some v)
   pub objects_owned : (o : ObjNo) (v : Plain) → a.object o ≡ Some v → (l : Location) × (value_at (store_of temps y a) l ≡ Some (box_v o))
   pub objects_made : (o : ObjNo) (v : Plain) (x : Running P) → a.object o ≡ Some v → place_in (a.thread o.thread) ≡ Some x → o.count < a.made o.thread

@@ -33,3 +33,9 @@ module _ (a : CodeState) (x : CodeRunning) (main : a.thread 0 ≡ Some (alive x)
       let two : ℕ × ℕ = (b, c) in
       let g : None ≡ Some two = sym (none p) ∙ e in
       absurd (no_some g)
+
+  pub no_parents : ((t : ℕ) → a.pair t ≡ None) → (p b c : ℕ) → a.pair p ≡ Some (b, c) → (z : CodeRunning) × (place_in (a.thread p) ≡ Some z)
+  no_parents none p b c e =
+      let two : ℕ × ℕ = (b, c) in
+      let g : None ≡ Some two = sym (none p) ∙ e in
+      absurd (no_some g)

@@ -27,7 +27,7 @@ use Rattle.type_law.specs.Codes.{boxed_table, box_slot}
 use Rattle.type_law.specs.Typed.{boxed_cluster, cluster_of}
 use Rattle.type_law.proofs.Codes.{boxed_is_typed}
 use Rattle.type_law.proofs.Numbers.{object_is, suc_zero, zero_suc, none_counted}
-use Rattle.type_law.proofs.Alone.{each, none_ended, none_owed, no_pairs}
+use Rattle.type_law.proofs.Alone.{each, none_ended, none_owed, no_pairs, no_parents}
 
 abbrev the_object : ObjNo
 the_object = record { thread = 0; count = 0 }
@@ -246,6 +246,13 @@ made o v x e f =
     let h = object_owned o.thread o.count v e in
     subst (λ t. o.count < (one_heap boxed_cluster).made t) (sym h.0) (subst (λ c. c < 1) (sym h.1) (omega arith))
 
+-- each box is main's
+boxes_there : (l : Location) (o : ObjNo) → value_at store l ≡ Some (box_v o) → (v : Plain) × ((one_heap boxed_cluster).object o ≡ Some v)
+boxes_there l o e =
+    let f : Some (box_v the_object) ≡ Some (box_v o) = subst (λ m. value_at store m ≡ Some (box_v o)) (box_place l o e) e in
+    let same : the_object ≡ o = cc in
+    subst (λ q. (v : Plain) × ((one_heap boxed_cluster).object q ≡ Some v)) same (plain.Int (pos 1), refl)
+
 boxed_state : CodeStateTypes boxed_table typing (one_heap boxed_cluster)
 boxed_state = record {
   typed = boxed_typed;
@@ -253,11 +260,13 @@ boxed_state = record {
   results = λ t v e. absurd (none_ended (one_heap boxed_cluster) main main_runs others t v e);
   near = λ k m u e. absurd cc;
   pairs = λ p b c e. no_pairs (one_heap boxed_cluster) main main_runs others no_pair typing p b c e;
+  parents = λ p b c e. no_parents (one_heap boxed_cluster) main main_runs others no_pair p b c e;
   there = λ l m h. absurd (no_mutex m h.0 (small l (mutex_v m h.0) h.1));
   mutexes = λ m x e. absurd cc;
   one_task = λ l m t q r e f. absurd (no_task t q (small l (task_v t q) e));
   tasks_owed = λ l t r e. absurd (no_task t r (small l (task_v t r) e));
   owed_stand = λ t h. absurd (none_owed (one_heap boxed_cluster) main main_runs others t h);
+  objects_there = boxes_there;
   objects_owned = owned;
   objects_made = made;
 }

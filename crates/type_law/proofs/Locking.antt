@@ -8,7 +8,7 @@ use Rattle.fr_base.specs.declared.label.Plain.TheVariants as plain
 use Rattle.fr_typing.specs.Kinds.{Owned, unit, int}
 use Rattle.fr_store.specs.Keys.{Key, slot_k, temp_k, content_k, result_k, hand_k}
 use Rattle.fr_store.specs.Store.{Val, Location, at_key, at_object, box_v, int_v, ref_v, gone_v, mutex_v, task_v, Store, value_at, Place}
-use Rattle.fr_store.specs.Typed.{Tree, hole, int_tree, mutex_tree, Exact, owns, refers, KeyTypes, exact_under, here, Stands, Typed}
+use Rattle.fr_store.specs.Typed.{Tree, hole, int_tree, mutex_tree, Exact, owns, refers, KeyTypes, exact_under, here, Stands, Typed, Unnamed}
 use Rattle.server_model.specs.Figures.{run, steps_of, deliver}
 use Rattle.server_model.specs.Programs.{with_servers, locked_twice}
 use Rattle.heap_law.specs.Clusters.{place, the_mutex}
@@ -32,7 +32,7 @@ use Rattle.type_law.specs.Tables.{x_name, r_name, c_name}
 use Rattle.type_law.specs.Typed.{cluster_of}
 use Rattle.type_law.specs.Locking.{once_locked, twice_entries, twice_table, locking_cluster, LockHasTypes}
 use Rattle.type_law.proofs.Numbers.{mutex_is, suc_zero, zero_suc, none_counted}
-use Rattle.type_law.proofs.Alone.{each, none_ended, none_owed, no_pairs}
+use Rattle.type_law.proofs.Alone.{each, none_ended, none_owed, no_pairs, no_parents}
 
 twice_typed : IsTable locked_twice twice_table
 twice_typed =
@@ -283,8 +283,13 @@ mark_at (suc zero) m e = (refl, cc)
 mark_at (suc (suc zero)) m e = absurd cc
 mark_at (suc (suc (suc i))) m e = let f = over_two i in let g = over_one i in let h = suc_zero (suc (suc i)) in absurd cc
 
+mark_unnamed : Unnamed exact (slot_k 0 1)
+mark_unnamed j m u e f =
+    let g : slot_k 0 0 ≡ slot_k 0 1 = ap (λ (w : Place). w.key) (named j m u e).0 ∙ f in
+    absurd cc
+
 the_lock : IsLock typing store once_locked 0 1 the_mutex
-the_lock = record { leads = refl; content = refl }
+the_lock = record { leads = refl; unnamed = mark_unnamed; content = refl }
 
 main_marked : (i : ℕ) (m : MutexNo) → slot_at main_slots i ≡ Some (Held m) → IsLock typing store once_locked 0 i m
 main_marked i m e =
@@ -426,6 +431,7 @@ locking_state = record {
   results = λ t v e. absurd (none_ended (one_heap locking_cluster) main main_runs others t v e);
   near = near_by;
   pairs = λ p b c e. no_pairs (one_heap locking_cluster) main main_runs others no_pair typing p b c e;
+  parents = λ p b c e. no_parents (one_heap locking_cluster) main main_runs others no_pair p b c e;
   there = λ l m h. subst (λ n. (x : Shared) × ((one_heap locking_cluster).mutex n ≡ Some x)) (the_share l m h).1 (the_state, is_there);
   mutexes = λ m x e.
       let h = only m x e in
@@ -433,6 +439,7 @@ locking_state = record {
   one_task = λ l m t q r e f. absurd (no_task l t q e);
   tasks_owed = λ l t r e. absurd (no_task l t r e);
   owed_stand = λ t h. absurd (none_owed (one_heap locking_cluster) main main_runs others t h);
+  objects_there = λ l o e. absurd (no_box l o e);
   objects_owned = λ o v e. absurd cc;
   objects_made = λ o v x e f. absurd cc;
 }

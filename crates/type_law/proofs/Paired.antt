@@ -528,6 +528,13 @@ made o v x e f =
 near : (k : Key) (m : Bool) (u : Place) → exact k ≡ refers m u → IsNear state k u
 near k m u e = let h = named k m u e in subst (IsNear state k) h.0 h.3
 
+-- each box is main's
+boxes_there : (l : Location) (o : ObjNo) → value_at store l ≡ Some (box_v o) → (v : Plain) × (state.object o ≡ Some v)
+boxes_there l o e =
+    let f : Some (box_v the_object) ≡ Some (box_v o) = subst (λ m. value_at store m ≡ Some (box_v o)) (box_place l o e) e in
+    let same : the_object ≡ o = cc in
+    subst (λ q. (v : Plain) × (state.object q ≡ Some v)) same (plain.Int (pos 1), refl)
+
 paired_state : CodeStateTypes pairs_table typing state
 paired_state = record {
   typed = paired_typed;
@@ -535,11 +542,13 @@ paired_state = record {
   results = λ t v e. absurd (no_result t v e);
   near = near;
   pairs = paired;
+  parents = λ p b c e. subst (λ q. (x : CodeRunning) × (place_in (state.thread q) ≡ Some x)) (sym (the_pair p b c e).0) (main, refl);
   there = λ l m h. absurd (no_mutex m h.0 (small l (mutex_v m h.0) h.1));
   mutexes = λ m x e. absurd cc;
   one_task = λ l m t q r e f. absurd (no_task t q (small l (task_v t q) e));
   tasks_owed = λ l t r e. absurd (no_task t r (small l (task_v t r) e));
   owed_stand = λ t h. absurd (none_owed t h);
+  objects_there = boxes_there;
   objects_owned = owned;
   objects_made = made;
 }

@@ -20,7 +20,7 @@ use Rattle.type_law.specs.ClusterTypes.{KnownAt, CodeStateTypes, Types}
 use Rattle.type_law.specs.Codes.{boxed_table}
 use Rattle.type_law.proofs.Codes.{boxed_is_typed}
 use Rattle.type_law.proofs.Numbers.{suc_zero, zero_suc, none_counted}
-use Rattle.type_law.proofs.Alone.{each, none_ended, none_owed, no_pairs}
+use Rattle.type_law.proofs.Alone.{each, none_ended, none_owed, no_pairs, no_parents}
 
 abbrev start : Cluster
 start = start_of boxed_code (options 1)
@@ -132,11 +132,13 @@ start_state = record {
   results = λ t v e. absurd (none_ended (one_heap start) main main_runs others t v e);
   near = λ k m u e. absurd cc;
   pairs = λ p b c e. no_pairs (one_heap start) main main_runs others no_pair typing p b c e;
+  parents = λ p b c e. no_parents (one_heap start) main main_runs others no_pair p b c e;
   there = λ l m h. let f = all_gone l (mutex_v m h.0) h.1 in absurd cc;
   mutexes = λ m x e. absurd cc;
   one_task = λ l m t q r e f. let g = all_gone l (task_v t q) e in absurd cc;
   tasks_owed = λ l t r e. let g = all_gone l (task_v t r) e in absurd cc;
   owed_stand = λ t h. absurd (none_owed (one_heap start) main main_runs others t h);
+  objects_there = λ l o e. absurd (no_box l o e);
   objects_owned = λ o v e. absurd cc;
   objects_made = λ o v x e f. absurd cc;
 }
