@@ -6,10 +6,11 @@ use Rattle.journal.specs.View.{EntryView}
 use Rattle.server_model.specs.declared.event.Event.{Event}
 use Rattle.server_model.specs.Servers.{Sent, Server, Cluster, server_at}
 use Rattle.server_model.specs.Work.{then_some}
-use Rattle.server_model.specs.Clusters.{with_server, with_outbox, hand_over_newer, done_at}
+use Rattle.server_model.specs.Clusters.{with_server, with_outbox, hand_over_newer, done_at, apply}
 use Rattle.heap_law.specs.Things.{servers_things, things_of}
+use Rattle.heap_law.specs.Coherent.{IsSound}
 use Rattle.event_law.specs.Sums.{Sums}
-use Rattle.event_law.specs.Laws.{Gives, GoTo, SendsToServers, EachEventHandedOver}
+use Rattle.event_law.specs.Laws.{Gives, GoTo, FewEvents, SendsToServers}
 use Rattle.event_law.proofs.Rules.{Kept}
 use Rattle.event_law.proofs.RulesKeep.{sums_kept}
 use Rattle.event_law.proofs.Results.{weaker}
@@ -45,8 +46,8 @@ module _ (k : Cluster) (e : Event) where
   at_server None h go g = tt
   at_server (Some s) h go g = handed s h (done_at k e.what s) (go s h) g
 
-pub each_handed_over : EachEventHandedOver (λ c. Sums (things_of c))
+each_handed_over : (k : Cluster) (e : Event) → IsSound k → FewEvents k → SendsToServers k e → Gives (λ (d : Cluster × EntryView). Sums (things_of d.0)) (apply k e)
 each_handed_over k e sound few go = at_server k e (server_at k.servers e.server) refl go (each_event_leaves k e sound few)
 
-pub handed_part : (Part : Cluster → Type 0) → ((c : Cluster) → Sums (things_of c) → Part c) → EachEventHandedOver Part
+pub handed_part : (Part : Cluster → Type 0) → ((c : Cluster) → Sums (things_of c) → Part c) → (k : Cluster) (e : Event) → IsSound k → FewEvents k → SendsToServers k e → Gives (λ (d : Cluster × EntryView). Part d.0) (apply k e)
 handed_part Part has k e sound few go = weaker (λ (d : Cluster × EntryView). Sums (things_of d.0)) (λ (d : Cluster × EntryView). Part d.0) _ (each_handed_over k e sound few go) (λ d u. has d.0 u)

@@ -30,7 +30,7 @@ stray ss (retired r a) = other (is_some (server_at ss r))
 stray ss (counts r next old started made events) = other (is_some (server_at ss r))
 stray ss x = 0
 
-other_none : (b : Bool) → other b ≡ 0 → b ≡ true
+pub other_none : (b : Bool) → other b ≡ 0 → b ≡ true
 other_none true q = refl
 other_none false q = absurd (cc q)
 

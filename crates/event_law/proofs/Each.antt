@@ -33,7 +33,7 @@ use Rattle.event_law.proofs.FinishSteps.{finished_leaves}
 
 -- NAMES ARE LEFT
 
-at_most : (m n : ℕ) → other (nat_le m n) ≡ 0 → m ≤ n
+pub at_most : (m n : ℕ) → other (nat_le m n) ≡ 0 → m ≤ n
 at_most m n = by (nat_le m n) refl
   where
     by : (b : Bool) → nat_le m n ≡ b → other b ≡ 0 → m ≤ n

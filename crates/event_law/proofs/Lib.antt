@@ -41,5 +41,11 @@ pub mod Each
 pub mod Applied
 pub mod Askers
 pub mod Sends
-pub mod Answering
 pub mod Begins
+pub mod Known
+pub mod KnownPlaces
+pub mod KnownPrepares
+pub mod KnownSteps
+pub mod KnownMessages
+pub mod KnownSound
+pub mod Sending

@@ -1,5 +1,5 @@
--- What a delivery that answers, an eviction or a migration puts into the outbox goes to servers that are there.
-use Rattle.std.proofs.Common.{◌≡◌, ℕ, if◌then◌else◌, List, [], ◌∷◌, ◌++◌, length, drop, Some, IsSome, refl, sym, ap, subst, ◌∙◌, append-nil}
+-- What an event puts into its server's outbox goes to servers that are there.
+use Rattle.std.proofs.Common.{◌≡◌, ℕ, ◌==◌, Bool, true, false, if◌then◌else◌, List, [], ◌∷◌, ◌++◌, length, drop, Some, IsSome, refl, sym, ap, subst, ◌∙◌, append-nil, append_assoc}
 use Rattle.fr_typing.proofs.PlaceLemmas.{eq_cases}
 use Rattle.server_msgs.specs.declared.message.Message.{Message}
 use Rattle.server_model.specs.Servers.{Sent, Rest, Server, server_at}
@@ -8,20 +8,35 @@ use Rattle.server_model.specs.Clusters.{with_server}
 use Rattle.event_law.specs.Laws.{GoTo}
 
 -- a server after an event: its number, and what it has put into its outbox, all of it to servers that are there
-pub record Adds (ss : List Server) (r r2 : Rest) : Type 0 where
-  pub number : r2.number ≡ r.number
+pub record Adds (ss : List Server) (r : Rest) (number : ℕ) (outbox : List Sent) : Type 0 where
+  pub same : number ≡ r.number
   pub more : List Sent
-  pub outbox : r2.outbox ≡ r.outbox ++ more
+  pub all : outbox ≡ r.outbox ++ more
   pub go : GoTo ss more
 
-pub adds_none : (ss : List Server) (r r2 : Rest) → r2.number ≡ r.number → r2.outbox ≡ r.outbox → Adds ss r r2
-adds_none ss r r2 n o = record { number = n; more = []; outbox = o ∙ sym (append-nil r.outbox); go = tt }
+-- since that rest
+abbrev pub Sends : List Server → Rest → Rest → Type 0
+Sends ss r r2 = Adds ss r r2.number r2.outbox
 
-pub adds_sent : (ss : List Server) (r r1 : Rest) → r1.number ≡ r.number → r1.outbox ≡ r.outbox → (t : ℕ) (m : Message) → IsSome (server_at ss t) → Adds ss r (sent_from r1 t m)
-adds_sent ss r r1 n o t m there =
-    eq_cases (λ b. Adds ss r (if b then record r1 { inbox = r1.inbox ++ m ∷ [] } else record r1 { outbox = r1.outbox ++ record { target = t; message = m } ∷ [] })) t r1.number
-    (λ e. adds_none ss r (record r1 { inbox = r1.inbox ++ m ∷ [] }) n o)
-    (λ ne. record { number = n; more = record { target = t; message = m } ∷ []; outbox = ap (λ l. l ++ record { target = t; message = m } ∷ []) o; go = (there, tt) })
+pub sends_none : (ss : List Server) (r : Rest) → Sends ss r r
+sends_none ss r = record { same = refl; more = []; all = sym (append-nil r.outbox); go = tt }
+
+all_go : (ss : List Server) (xs ys : List Sent) → GoTo ss xs → GoTo ss ys → GoTo ss (xs ++ ys)
+all_go ss [] ys a b = b
+all_go ss (x ∷ xs) ys a b = (a.0, all_go ss xs ys a.1 b)
+
+-- one message more
+pub sends_more : (ss : List Server) (r r1 : Rest) (t : ℕ) (m : Message) → IsSome (server_at ss t) → Sends ss r r1 → Sends ss r (sent_from r1 t m)
+sends_more ss r r1 t m there a = by (t == r1.number)
+  where
+    by : (b : Bool) → Sends ss r (if b then record r1 { inbox = r1.inbox ++ m ∷ [] } else record r1 { outbox = r1.outbox ++ record { target = t; message = m } ∷ [] })
+    by true = a
+    by false = record {
+      same = a.same;
+      more = a.more ++ record { target = t; message = m } ∷ [];
+      all = ap (λ l. l ++ record { target = t; message = m } ∷ []) a.all ∙ append_assoc r.outbox a.more (record { target = t; message = m } ∷ []);
+      go = all_go ss a.more (record { target = t; message = m } ∷ []) a.go (there, tt);
+    }
 
 -- AT THE END OF THE EVENT
 
@@ -47,7 +62,7 @@ all_after : (ss : List Server) (n : ℕ) (new : Server) → new.rest.number ≡ 
 all_after ss n new e [] g = tt
 all_after ss n new e (x ∷ xs) g = (there_after ss n new e x.target g.0, all_after ss n new e xs g.1)
 
-pub goes_after : (ss : List Server) (n : ℕ) (s new : Server) → server_at ss n ≡ Some s → Adds ss s.rest new.rest → GoTo (with_server ss n new) (drop (length s.rest.outbox) new.rest.outbox)
+pub goes_after : (ss : List Server) (n : ℕ) (s new : Server) → server_at ss n ≡ Some s → Sends ss s.rest new.rest → GoTo (with_server ss n new) (drop (length s.rest.outbox) new.rest.outbox)
 goes_after ss n s new h a =
-    let e : drop (length s.rest.outbox) new.rest.outbox ≡ a.more = ap (drop (length s.rest.outbox)) a.outbox ∙ newer s.rest.outbox a.more in
-    subst (GoTo (with_server ss n new)) (sym e) (all_after ss n new (a.number ∙ server_number ss n s h) a.more a.go)
+    let e : drop (length s.rest.outbox) new.rest.outbox ≡ a.more = ap (drop (length s.rest.outbox)) a.all ∙ newer s.rest.outbox a.more in
+    subst (GoTo (with_server ss n new)) (sym e) (all_after ss n new (a.same ∙ server_number ss n s h) a.more a.go)

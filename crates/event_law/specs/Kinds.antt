@@ -1,5 +1,5 @@
 -- Kinds of events: what is delivered, and which instruction a thread steps.
-use Rattle.std.specs.Prelude.{Bool, true, false, Option, Some, slice_get, option_map}
+use Rattle.std.specs.Prelude.{Option, Some, slice_get, option_map}
 use Rattle.fr_base.specs.declared.instruction.Instr.{Instr}
 use Rattle.fr_base.specs.declared.instruction.Instr.TheVariants as instr
 use Rattle.server_msgs.specs.declared.message.Message.{Message}
@@ -100,20 +100,3 @@ kind_at k (Migrate t target) s = Some migrates
 
 abbrev pub kind_of : Cluster → Event → Option Kind
 kind_of k e = then_some (server_at k.servers e.server) (kind_at k e.what)
-
--- the event answers a thread that asked, takes an answer or a thread in, evicts a copy or lets a thread leave
-abbrev pub answers : Kind → Bool
-answers fetch = true
-answers moving = true
-answers asks_lock = true
-answers asks_dup = true
-answers asks_join = true
-answers fetched = true
-answers granted = true
-answers dupped = true
-answers joined = true
-answers starts = true
-answers arrives = true
-answers evicts = true
-answers migrates = true
-answers kind = false

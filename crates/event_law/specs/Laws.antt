@@ -16,7 +16,7 @@ use Rattle.heap_law.specs.Requests.{stands_at}
 use Rattle.heap_law.specs.Balances.{Agree, AtMost, AtMostOne}
 use Rattle.heap_law.specs.Weights.{states, below, shares_of, shares_at_home, tasks_of, is_thread}
 use Rattle.heap_law.specs.Coherent.{IsSound, Holds, objects_made, names_counted, branches_give_unit, parts_are_typed}
-use Rattle.event_law.specs.Kinds.{Kind, kind_of, answers}
+use Rattle.event_law.specs.Kinds.{Kind, kind_of}
 use Rattle.event_law.specs.Sums.{Sums, is_server}
 
 -- where there is a result, it is so
@@ -102,14 +102,13 @@ SendsToServers k e =
     (s : Server) → server_at k.servers e.server ≡ Some s
     → Gives (λ (r : Server × EntryView). GoTo (with_server k.servers e.server r.0) (drop (length s.rest.outbox) r.0.rest.outbox)) (done_at k e.what s)
 
--- an event of whatever kind from a sound cluster, and its messages handed over, leave the part, where it sends to servers that are there
-abbrev pub EachEventHandedOver : (Cluster → Type 0) → Type 0
-EachEventHandedOver Part = (k : Cluster) (e : Event) → IsSound k → FewEvents k → SendsToServers k e → Gives (λ d. Part d.0) (apply k e)
+-- each event of a sound cluster does
+abbrev pub EachEventSends : Type 0
+EachEventSends = (k : Cluster) (e : Event) → IsSound k → FewEvents k → SendsToServers k e
 
--- such an event that answers sends to servers of the run: from a sound cluster it leaves the part, its messages handed over
-abbrev pub EachAnswerApplied : (Cluster → Type 0) → Type 0
-EachAnswerApplied Part =
-    (k : Cluster) (e : Event) (kind : Kind) → kind_of k e ≡ Some kind → answers kind ≡ true → IsSound k → FewEvents k → Gives (λ d. Part d.0) (apply k e)
+-- an event of whatever kind from a sound cluster, and its messages handed over, leave the part
+abbrev pub EachEventHandedOver : (Cluster → Type 0) → Type 0
+EachEventHandedOver Part = (k : Cluster) (e : Event) → IsSound k → FewEvents k → Gives (λ d. Part d.0) (apply k e)
 
 -- WHERE NAMES LEAD
 

@@ -1,6 +1,6 @@
 //! What an event of a sound cluster keeps, of whatever kind it is.
 
-ghost use Rattle.event_law.specs.Laws.{EachAnswerApplied, EachEventHandedOver, EachEventLeaves, NumbersDiffer, OneState, OneTaskValue, ServersDiffer, SharesCounted};
+ghost use Rattle.event_law.specs.Laws.{EachEventHandedOver, EachEventLeaves, EachEventSends, NumbersDiffer, OneState, OneTaskValue, ServersDiffer, SharesCounted};
 ghost use Rattle.heap_law.specs.Coherent.{OneHome, OneOwner, Users};
 
 /// Whatever is delivered, stepped, evicted or migrated.
@@ -15,7 +15,12 @@ pub fn each_event_keeps()
     ensures servers { EachEventLeaves ServersDiffer }
 {}
 
-/// The same once the event's messages are handed over, where they go to servers that are there.
+/// The messages of each event go to servers of the run.
+pub fn each_event_sends()
+    ensures { EachEventSends }
+{}
+
+/// Whatever is done, once its messages are handed over.
 pub fn each_event_handed_over()
     ensures home { EachEventHandedOver OneHome }
     ensures owner { EachEventHandedOver OneOwner }
@@ -25,17 +30,4 @@ pub fn each_event_handed_over()
     ensures tasks { EachEventHandedOver OneTaskValue }
     ensures threads { EachEventHandedOver NumbersDiffer }
     ensures servers { EachEventHandedOver ServersDiffer }
-{}
-
-/// An event that answers a thread that asked, takes an answer or a thread in, evicts a copy or lets a thread leave: its messages go to servers
-/// of the run, and once they are handed over the parts are there.
-pub fn each_answer_applied()
-    ensures home { EachAnswerApplied OneHome }
-    ensures owner { EachAnswerApplied OneOwner }
-    ensures states { EachAnswerApplied OneState }
-    ensures users { EachAnswerApplied Users }
-    ensures shares { EachAnswerApplied SharesCounted }
-    ensures tasks { EachAnswerApplied OneTaskValue }
-    ensures threads { EachAnswerApplied NumbersDiffer }
-    ensures servers { EachAnswerApplied ServersDiffer }
 {}
