@@ -9,3 +9,4 @@ pub mod Shown
 pub mod Sees
 pub mod SeesThreads
 pub mod Unbroken
+pub mod Ranks

@@ -1,8 +1,9 @@
 -- What the rounds find is stale by the rule, and the other way round.
 use Rattle.std.proofs.Common.{◌≡◌, ◌⊎◌, inl, inr, ⊎_elim, ℕ, zero, suc, Bool, true, false, ◌||◌, List, [], ◌∷◌, ◌++◌, Option, Some, None, refl, sym, subst}
 use Rattle.mut_borrow.specs.Refs.{changed}
+use Rattle.heap_law.specs.Names.{Among}
 use Rattle.heap_law.specs.Things.{Location}
-use Rattle.heap_law.specs.Stale.{same_location, is_among, is_held_at, IsOf, Reference, Stale, changed_above, stale_above, taken_above, if_holder, holders, stale_rounds}
+use Rattle.heap_law.specs.Stale.{same_location, is_among, is_held_at, Reference, Stale, changed_above, stale_above, taken_above, if_holder, holders, stale_rounds}
 
 pub or_split : (a b : Bool) → (a || b) ≡ true → (a ≡ true) ⊎ (b ≡ true)
 or_split true b e = inl refl
@@ -29,7 +30,7 @@ among_right l (x ∷ xs) ys e = or_right (same_location x l) (is_among l (xs ++ 
 -- some reference of the list was made from there, and is changed or stands at one of the places
 pub record Found (l : Location) (ls : List Location) (rs : List Reference) : Type 0 where
   pub reference : Reference
-  pub is_of : IsOf reference rs
+  pub is_of : Among reference rs
   pub held : is_held_at l reference.holder ≡ true
   pub why : (changed reference.reference ≡ true) ⊎ (is_among reference.at ls ≡ true)
 
@@ -67,11 +68,11 @@ first l ls true (Some k) e s = or_left (same_location k l) (is_among l ls) s
 first l ls true None e s = absurd (cc s)
 first l ls false h e s = absurd (cc e)
 
-finds : (l : Location) (ls : List Location) (r : Reference) (rs : List Reference) → IsOf r rs → is_held_at l r.holder ≡ true → (changed r.reference || is_among r.at ls) ≡ true → is_among l (holders ls rs) ≡ true
+finds : (l : Location) (ls : List Location) (r : Reference) (rs : List Reference) → Among r rs → is_held_at l r.holder ≡ true → (changed r.reference || is_among r.at ls) ≡ true → is_among l (holders ls rs) ≡ true
 finds l ls r [] i h c = absurd i
 finds l ls r (q ∷ qs) i h c =
     ⊎_elim (λ (e : q ≡ r). first l (holders ls qs) (changed q.reference || is_among q.at ls) q.holder (subst (λ x. (changed x.reference || is_among x.at ls) ≡ true) (sym e) c) (subst (λ x. is_held_at l x.holder ≡ true) (sym e) h))
-    (λ (j : IsOf r qs). pushed l (holders ls qs) (changed q.reference || is_among q.at ls) q.holder (finds l ls r qs j h c)) i
+    (λ (j : Among r qs). pushed l (holders ls qs) (changed q.reference || is_among q.at ls) q.holder (finds l ls r qs j h c)) i
 
 pub complete : (lent : List Location) (rs : List Reference) (l : Location) → Stale lent rs l → (n : ℕ) × (is_among l (stale_rounds n lent rs) ≡ true)
 complete lent rs l (changed_above r i h c) = (1, among_right l lent (holders lent rs) (finds l lent r rs i h (or_left (changed r.reference) (is_among r.at lent) c)))

@@ -9,7 +9,9 @@ use Rattle.heap_law.specs.Weights.{cells, owners, objects, states, below, addres
 use Rattle.heap_law.specs.Requests.{halves_to, halves_needed, answered_threads, pair_notes, pair_places, branches}
 use Rattle.heap_law.specs.Sharing.{contents, held_mutexes, going_notes, goes_on, started_threads, tasks, owed, owed_threads, results, has_ended, resulting}
 use Rattle.heap_law.specs.Coherent.{Sentence, home_of_each, owner_of_each, are_issued, below_limit, same_word, lead_home, one_state, first_at_holder, different_words, dirty_alone, copies_agree, served_are_clean, passed_lie_here, passed_not_copied, passed_not_stale, passed_in_a_walk, passed_within, walk_empty, join_walks_nothing, parcels_ready, place_followed, waits_in_turn, asks_others, users_counted, one_answer, carry_what_is_asked, go_right, return_right, askers_stand, phases_stand, par_ends, pairs_noted, pairs_go_on, cells_awaited, taken_stands, taken_is_new, gifts_got, gifts_fit, named_are_there, at_their_home, one_content, marks_in_slots, shares_counted, queue_while_out, content_without_shares, thread_homes, noted_go_on, noted_at_home, one_task_value, task_values_owed, one_result, pairs_unnamed, over_are_bare, none_owns_itself, parents_end, branches_give_unit, numbers_differ, objects_made, names_counted, counts_from_one, few_names, counts_bounded, parts_are_typed, options_in_range, holders_short, breaches_in, Holds, OneHome, OneOwner, Words, Copies, Walks, Users, Requests, MutexesAndTasks, Rooted, Names, Parts, IsSound, one_home_sentences, one_owner_sentences, words_sentences, copies_sentences, walks_sentences, users_sentences, requests_sentences, mutexes_and_tasks_sentences, rooted_sentences, names_sentences, parts_sentences, if_broken, broken_among, all_sentences}
+use Rattle.heap_law.specs.Rooted.{ownings, parents}
 use Rattle.heap_law.specs.Laws.{SoundLaw}
+use Rattle.heap_law.proofs.Ranks.{node_ends, nodes_none, number_ends, numbers_none}
 use Rattle.heap_law.proofs.Shown.{agree_from, agree_none, at_most_from, at_most_none, one_from, one_none}
 use Rattle.heap_law.proofs.Sees.{cells_seen, owners_seen, objects_quiet, states_seen, addresses_quiet, uses_seen, users_seen, words_quiet, halves_seen, needs_seen, answers_quiet, notes_seen, places_seen, branches_quiet, contents_seen, homes_seen, held_quiet, shares_seen, counts_seen, shares_quiet}
 use Rattle.heap_law.proofs.SeesThreads.{threads_seen, numbers_quiet, going_seen, goes_seen, started_quiet, tasks_seen, tasks_quiet, owed_seen, named_seen, owed_quiet, results_seen, results_quiet}
@@ -131,8 +133,8 @@ mutexes_and_tasks_from k p = record {
 rooted_from : (k : Cluster) → None_of k rooted_sentences → Rooted k
 rooted_from k p = record {
   over_are_bare = p.0;
-  none_owns_itself = p.1.0;
-  parents_end = p.1.1.0;
+  none_owns_itself = node_ends (ownings (sight k)) p.1.0;
+  parents_end = number_ends (parents (things_of k)) p.1.1.0;
   branches_give_unit = p.1.1.1.0;
 }
 
@@ -209,8 +211,8 @@ holds k s task_values_owed = agree_none tasks_of (owed (sight k)) (owed_threads 
 holds k s one_result = at_most_none (results (sight k)) has_ended (resulting (sight k)) (results_quiet (sight k)) (things_of k) s.mutexes_and_tasks.one_result
 holds k s pairs_unnamed = s.mutexes_and_tasks.pairs_unnamed
 holds k s over_are_bare = s.rooted.over_are_bare
-holds k s none_owns_itself = s.rooted.none_owns_itself
-holds k s parents_end = s.rooted.parents_end
+holds k s none_owns_itself = nodes_none (ownings (sight k)) s.rooted.none_owns_itself
+holds k s parents_end = numbers_none (parents (things_of k)) s.rooted.parents_end
 holds k s branches_give_unit = s.rooted.branches_give_unit
 holds k s numbers_differ = one_none is_thread numbers numbers_quiet (things_of k) s.names.numbers_differ
 holds k s objects_made = s.names.objects_made

@@ -12,7 +12,8 @@ use Rattle.heap_law.specs.Placing.{homes_wrong, owners_wrong, issued_wrong, colo
 use Rattle.heap_law.specs.Walking.{passed_wrong, passed_boxes_wrong, passed_references_wrong, passed_phase_wrong, passed_count_wrong, walk_phase_wrong, join_walk_wrong, parcels_wrong, followed_wrong, turn_wrong, own_requests_wrong, users_wrong}
 use Rattle.heap_law.specs.Requests.{halves_to, halves_needed, pair_notes, pair_places, answers_wrong, carried_wrong, routes_wrong, returns_wrong, askers_wrong, phases_wrong, par_ends_wrong, pairs_wrong, waited_pairs_wrong, cells_wrong, taken_wrong, taken_words_wrong, gift_phases_wrong, gifts_wrong}
 use Rattle.heap_law.specs.Sharing.{contents, going_notes, goes_on, owed, results, has_ended, named_wrong, mutex_homes_wrong, contents_wrong, marks_wrong, shares_wrong, queues_wrong, last_shares_wrong, thread_homes_wrong, noted_wrong, notes_wrong, tasks_wrong, owed_wrong, results_wrong, got_pairs_wrong}
-use Rattle.heap_law.specs.Rooted.{over_wrong, ownership_wrong, parents_wrong, branches_wrong}
+use Rattle.heap_law.specs.Ranks.{Ends}
+use Rattle.heap_law.specs.Rooted.{over_wrong, ownings, ownership_wrong, parents, parents_wrong, branches_wrong}
 use Rattle.heap_law.specs.Naming.{numbers_wrong, made_wrong, counted_wrong, zeroth_wrong, names_count_wrong, large_wrong, parts_wrong, options_wrong, holders_wrong}
 
 -- the sentences, part by part
@@ -301,10 +302,10 @@ pub record MutexesAndTasks (k : Cluster) : Type 0 where
 pub record Rooted (k : Cluster) : Type 0 where
   -- a thread that is over stands at its `End` and has no slot, no temporary value and no gift
   pub over_are_bare : Holds k over_are_bare
-  -- no object, no mutex's content and no result owns itself, directly or through others
-  pub none_owns_itself : Holds k none_owns_itself
-  -- going from each branch to the parent that waits for it comes to an end
-  pub parents_end : Holds k parents_end
+  -- no object, no mutex's content and no result owns itself, directly or through others: a rank falls from each to what it owns
+  pub none_owns_itself : Ends (ownings (sight k))
+  -- going from each branch to the parent that waits for it comes to an end: a rank falls from each to its parent
+  pub parents_end : Ends (parents (things_of k))
   -- a `finished` message of a thread of a pair carries unit
   pub branches_give_unit : Holds k branches_give_unit
 

@@ -20,6 +20,7 @@ pub mod BrokenRest
 pub mod Laws
 pub mod Along
 pub mod OneHeap
+pub mod Ranks
 pub mod Rooted
 pub mod Colours
 pub mod LeftBy

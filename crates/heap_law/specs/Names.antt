@@ -1,5 +1,5 @@
 -- Tests and sums that the laws of coherent memory are written with.
-use Rattle.std.specs.Prelude.{ℕ, zero, suc, ◌==◌, Bool, true, false}
+use Rattle.std.specs.Prelude.{◌≡◌, ◌⊎◌, ℕ, zero, suc, ◌==◌, Bool, true, false, List, [], ◌∷◌}
 pub use Rattle.fr_base.specs.Lists.{tot, one, is_in}
 pub use Rattle.fr_base.specs.Names.{same_object, same_mutex}
 use Rattle.fr_base.specs.declared.name.ObjNo.{ObjNo}
@@ -7,6 +7,11 @@ use Rattle.fr_base.specs.declared.name.MutexNo.{MutexNo}
 pub use Rattle.heap_partition.specs.Same.{same_owned, same_cell}
 use Rattle.heap_partition.specs.declared.value.Owned.{Owned}
 use Rattle.heap_partition.specs.declared.value.Owned.TheVariants as owned
+
+-- x is one of the list
+abbrev pub Among : {A : Type 0} → A → List A → Type 0
+Among x [] = ⊥
+Among x (y ∷ ys) = (y ≡ x) ⊎ Among x ys
 
 -- SUMS
 

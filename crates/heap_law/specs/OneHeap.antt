@@ -39,6 +39,12 @@ pub data Node : Type 0 where
   mutex_n : MutexNo → Node
   task_n : (thread : ℕ) → Node
 
+abbrev pub same_node : Node → Node → Bool
+same_node (object_n o) (object_n p) = same_object o p
+same_node (mutex_n m) (mutex_n n) = same_mutex m n
+same_node (task_n t) (task_n u) = t == u
+same_node _ _ = false
+
 -- who owns a value: a thread that has it in a slot or a temporary value; an object, a mutex or a thread's result; or somebody outside the state
 pub data Owner : Type 0 where
   a_thread : Owner
@@ -78,13 +84,14 @@ owner_of s (lies r a c) = inside (object_n c.object)
 owner_of s (flies w c) = inside (object_n c.object)
 owner_of s x = outside
 
-abbrev owns : Node → Owned → Bool
+-- the owned value is a box of the object, a value of the mutex, a task value of the thread
+abbrev pub owns : Node → Owned → Bool
 owns (object_n o) (owned.Box p) = same_object p.object o
 owns (mutex_n m) (owned.Mutex n) = same_mutex n m
 owns (task_n t) (owned.Task u) = u == t
 owns n v = false
 
--- the thing's owned value is a box of the object, a value of the mutex, a task value of the thread
+-- the thing's owned value is one of that
 abbrev pub names : Node → Thing → Bool
 names n (holds p v) = owns n v
 names n (lies r a c) = owns n c.value
@@ -251,12 +258,12 @@ made_of None = 0
 made_of (Some x) = if is_over x.thread.phase then 0 else x.thread.made
 
 -- the two threads that a parent waits for
-abbrev two_in : Phase → Option (ℕ × ℕ)
+abbrev pub two_in : Phase → Option (ℕ × ℕ)
 two_in (phase.WaitPar a b) = Some (a, b)
 two_in (phase.GotPar a b) = Some (a, b)
 two_in p = None
 
-abbrev pair_of : Option Standing → Option (ℕ × ℕ)
+abbrev pub pair_of : Option Standing → Option (ℕ × ℕ)
 pair_of None = None
 pair_of (Some x) = two_in x.thread.phase
 

@@ -1,6 +1,6 @@
 -- Stale pointers (this project's rule): a pointer is stale while its object is written or gets another word through a mutable
 -- reference that was made from it. Which pointer a reference was made from is a location, however the place was written.
-use Rattle.std.specs.Prelude.{◌≡◌, ◌⊎◌, ℕ, zero, suc, ◌==◌, Bool, true, false, ◌&&◌, ◌||◌, List, [], ◌∷◌, ◌++◌, length, Option, Some, None, slice_get}
+use Rattle.std.specs.Prelude.{◌≡◌, ℕ, zero, suc, ◌==◌, Bool, true, false, ◌&&◌, ◌||◌, List, [], ◌∷◌, ◌++◌, length, Option, Some, None, slice_get}
 use Rattle.fr_base.specs.declared.place.Lval.{Lval}
 use Rattle.fr_base.specs.declared.instruction.Instr.{Instr}
 use Rattle.fr_base.specs.declared.instruction.Instr.TheVariants as instr
@@ -8,7 +8,7 @@ use Rattle.mut_borrow.specs.declared.mutable.MutRef.{MutRef}
 use Rattle.mut_borrow.specs.Refs.{changed}
 use Rattle.thread_state.specs.declared.phase.Phase.{Phase}
 use Rattle.thread_state.specs.declared.phase.Phase.TheVariants as phase
-use Rattle.heap_law.specs.Names.{same_object}
+use Rattle.heap_law.specs.Names.{same_object, Among}
 use Rattle.heap_law.specs.Things.{Location, at_slot, at_temp, in_cell, Thing, borrows}
 use Rattle.heap_law.specs.Follow.{Standing, Ground, locate, place_at}
 
@@ -63,16 +63,11 @@ abbrev pub is_held_at : Location → Option Location → Bool
 is_held_at l None = false
 is_held_at l (Some h) = same_location h l
 
--- it is one of these
-abbrev pub IsOf : Reference → List Reference → Type 0
-IsOf r [] = ⊥
-IsOf r (q ∷ qs) = (q ≡ r) ⊎ IsOf r qs
-
 -- a pointer at a location is stale exactly where a mutable reference made from it is alive whose word isn't its first or which
 -- is dirty, or which is itself stale; or where a thread has taken the object for a mutable borrow from it
 pub data Stale (lent : List Location) (rs : List Reference) : Location → Type 0 where
-  changed_above : {l : Location} (r : Reference) → IsOf r rs → is_held_at l r.holder ≡ true → changed r.reference ≡ true → Stale lent rs l
-  stale_above : {l : Location} (r : Reference) → IsOf r rs → is_held_at l r.holder ≡ true → Stale lent rs r.at → Stale lent rs l
+  changed_above : {l : Location} (r : Reference) → Among r rs → is_held_at l r.holder ≡ true → changed r.reference ≡ true → Stale lent rs l
+  stale_above : {l : Location} (r : Reference) → Among r rs → is_held_at l r.holder ≡ true → Stale lent rs r.at → Stale lent rs l
   taken_above : {l : Location} → is_among l lent ≡ true → Stale lent rs l
 
 -- THE SAME BY ROUNDS

@@ -283,10 +283,7 @@ boxed_has_types = record {
   locked = refl;
   lead = refl;
   views = refl;
-  parents = refl;
   ends = refl;
-  branches = refl;
-  over = refl;
 }
 
 pub boxed_is_reached : cluster_of (run boxed_code (options 1) (steps_of 0 0 2)) ≡ Some boxed_cluster

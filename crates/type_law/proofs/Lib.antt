@@ -5,6 +5,7 @@ mod Start
 mod Boxed
 mod Tables
 mod Owning
+mod Branches
 mod Paired
 mod Locking
 mod Whole

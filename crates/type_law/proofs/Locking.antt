@@ -456,10 +456,7 @@ locking_has_types = record {
   locked = refl;
   lead = refl;
   views = refl;
-  parents = refl;
   ends = refl;
-  branches = refl;
-  over = refl;
 }
 
 lock_is_reached : cluster_of (run locked_twice (with_servers 1 65536) (steps_of 0 0 3 ++ deliver 0 0 ++ deliver 0 0 ++ steps_of 0 0 1)) ≡ Some locking_cluster

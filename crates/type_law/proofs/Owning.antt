@@ -12,19 +12,19 @@ use Rattle.fr_typing.specs.Checks.{owned_levels}
 use Rattle.thread_state.specs.View.{ThreadState}
 use Rattle.thread_state.specs.declared.value.Value.{Value as Any}
 use Rattle.thread_state.specs.declared.value.Value.TheVariants as value
-use Rattle.heap_law.specs.Names.{tot, other, if_so}
+use Rattle.heap_law.specs.Names.{tot, other, if_so, Among}
 use Rattle.heap_law.specs.Things.{as_content, as_result, holds, lies, flies}
 use Rattle.heap_law.specs.Sight.{Sight, sight}
 use Rattle.heap_law.specs.Walking.{instr_of}
 use Rattle.heap_law.specs.Paths.{joined_thread}
 use Rattle.heap_law.specs.Requests.{locked_mutex}
 use Rattle.heap_law.specs.Sharing.{is_over}
-use Rattle.heap_law.specs.OneHeap.{Node, object_n, mutex_n, task_n}
+use Rattle.heap_law.specs.OneHeap.{Node, object_n, mutex_n, task_n, owns}
 use Rattle.fr_code.specs.CodeTypes.{Entry, Table}
 use Rattle.fr_sound.specs.States.{owned_part}
 use Rattle.type_law.specs.Names.{NameTypes, names_of, fits, fits_some, is_there, is_type}
 use Rattle.type_law.specs.ClusterTypes.{misfit, content_gift, result_gift, gift_misfit, has_form, slot_form, slots_wrong, temps_wrong, forms_of, forms_wrong, entry_wrong, above_mark, locked_of, locked_wrong}
-use Rattle.type_law.specs.Owning.{Among, names, IsTop, IsHeld, Stands, lying, flying, content, granted, held, result, joined, OwnsInTheEnd, directly, through, NoneOwnsItself}
+use Rattle.type_law.specs.Owning.{IsTop, IsHeld, Stands, lying, flying, content, granted, held, result, joined, OwnsInTheEnd, directly, through, NoneOwnsItself}
 
 abbrev type_of : NameTypes → Node → Owned
 type_of n (object_n o) = n.object o
@@ -72,7 +72,7 @@ fewer_task n (task t) q u e f =
 fewer_task n t q u e f = absurd cc
 
 -- a name in a value of a type has a type of fewer levels
-fewer : (n : NameTypes) (t : Owned) (b : Node) (v : Value) → fits n t v ≡ true → names b v ≡ true → level n b < owned_levels t
+fewer : (n : NameTypes) (t : Owned) (b : Node) (v : Value) → fits n t v ≡ true → owns b v ≡ true → level n b < owned_levels t
 unfolding level
 fewer n t (object_n o) (owned.Box p) e f = fewer_box n t p o e (object_is p.object o f)
 fewer n t (mutex_n m) (owned.Mutex q) e f = fewer_mutex n t q m e (mutex_is q m f)
@@ -81,7 +81,7 @@ fewer n t b v e f = absurd cc
 
 none_in : {A : Type 0} (f : A → ℕ) (x : A) (xs : List A) → tot f xs ≡ 0 → Among x xs → f x ≡ 0
 none_in f x [] z h = absurd h
-none_in f x (y ∷ ys) z (inl e) = subst (λ w. f w ≡ 0) (sym e) (omega (arith, z))
+none_in f x (y ∷ ys) z (inl e) = subst (λ w. f w ≡ 0) e (omega (arith, z))
 none_in f x (y ∷ ys) z (inr h) = none_in f x ys (omega (arith, z)) h
 
 not_other : (b : Bool) → other b ≡ 0 → b ≡ true

@@ -565,10 +565,7 @@ paired_has_types = record {
   locked = refl;
   lead = refl;
   views = refl;
-  parents = refl;
   ends = refl;
-  branches = refl;
-  over = refl;
 }
 
 pair_is_reached : cluster_of (run read_by_pairs (with_servers 1 65536) (steps_of 0 0 5 ++ deliver 0 0 ++ deliver 0 0)) ≡ Some paired_cluster

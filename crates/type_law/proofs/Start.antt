@@ -155,8 +155,5 @@ start_has_types = record {
   locked = refl;
   lead = refl;
   views = refl;
-  parents = refl;
   ends = refl;
-  branches = refl;
-  over = refl;
 }

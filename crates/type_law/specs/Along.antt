@@ -1,5 +1,5 @@
 -- Whole runs keep what can be counted of types, after each event.
-use Rattle.std.specs.Prelude.{◌≡◌, ℕ, ◌+◌, ◌==◌, false, if◌then◌else◌, List, [], ◌∷◌, ◌++◌, Option, Some, None}
+use Rattle.std.specs.Prelude.{◌≡◌, ℕ, ◌+◌, false, List, [], ◌∷◌, ◌++◌, Option, Some, None}
 use Rattle.fr_base.specs.declared.instruction.Instr.{Instr}
 use Rattle.fr_base.specs.declared.settings.Options.{Options}
 use Rattle.fr_base.specs.declared.place.Lval.{Lval}
@@ -18,7 +18,7 @@ use Rattle.heap_law.specs.Sight.{Sight, sight}
 use Rattle.type_law.specs.Names.{NameTypes}
 use Rattle.fr_code.specs.CodeTypes.{Table, Entry as Types}
 use Rattle.fr_sound.specs.States.{part_at}
-use Rattle.type_law.specs.ClusterTypes.{misfits, forms_wrong, locked_wrong, leads_wrong, views_wrong, parents_wrong, ends_wrong, branches_wrong, over_wrong}
+use Rattle.type_law.specs.ClusterTypes.{misfits, forms_wrong, locked_wrong, leads_wrong, views_wrong, ends_wrong}
 use Rattle.type_law.specs.Tables.{pairs_table, locks_table, lent_table}
 
 -- where each set has one place, the exact type of a slot is that of its environment
@@ -43,29 +43,24 @@ abbrev pub exact_in : Table → Sight → KeyTypes
 exact_in table s (slot_k t i) = exact_thread table t i (thread_at s.ground.threads t)
 exact_in table s k = owns hole
 
-abbrev wrong_in : Table → NameTypes → (ℕ → ℕ) → Sight → ℕ
-wrong_in table n order s =
-    misfits n s + forms_wrong table n s + locked_wrong table n s + leads_wrong (exact_in table s) s + views_wrong table s + parents_wrong order s
-    + ends_wrong table n s + branches_wrong n s + over_wrong s
+abbrev wrong_in : Table → NameTypes → Sight → ℕ
+wrong_in table n s =
+    misfits n s + forms_wrong table n s + locked_wrong table n s + leads_wrong (exact_in table s) s + views_wrong table s + ends_wrong table n s
 
 abbrev after : (Cluster → ℕ) → Option (Cluster × EntryView) → ℕ
 after go None = 1
 after go (Some d) = go d.0
 
-abbrev wrong_along : Table → NameTypes → (ℕ → ℕ) → List Event → Cluster → ℕ
-wrong_along table n order [] k = wrong_in table n order (sight k)
-wrong_along table n order (e ∷ es) k = wrong_in table n order (sight k) + after (wrong_along table n order es) (apply k e)
-
--- main is the parent of each other thread
-abbrev main_first : ℕ → ℕ
-main_first t = if t == 0 then 0 else 1
+abbrev wrong_along : Table → NameTypes → List Event → Cluster → ℕ
+wrong_along table n [] k = wrong_in table n (sight k)
+wrong_along table n (e ∷ es) k = wrong_in table n (sight k) + after (wrong_along table n es) (apply k e)
 
 -- each object holds an integer, each mutex a box, and each thread ends with unit
 abbrev pub integers : NameTypes
 integers = record { object = λ o. int; mutex = λ m. box int; result = λ t. unit }
 
 abbrev Keeps : List Instr → Options → List Event → Table → Type 0
-Keeps code o es table = wrong_along table integers main_first es (start_of code o) ≡ 0
+Keeps code o es table = wrong_along table integers es (start_of code o) ≡ 0
 
 pub record RowsKeepTypes : Type 0 where
   pub pairs : Keeps read_by_pairs (with_servers 3 65536) reading_by_pairs pairs_table

@@ -6,7 +6,6 @@ use Rattle.heap_partition.specs.declared.value.Owned.TheVariants as owned
 use Rattle.thread_state.specs.View.{ThreadState, new_thread}
 use Rattle.thread_state.specs.declared.value.Value.{Value}
 use Rattle.thread_state.specs.declared.value.Value.TheVariants as value
-use Rattle.thread_state.specs.declared.phase.Phase.TheVariants as phase
 use Rattle.fr_typing.specs.Kinds.{unit, int, mutable, own, whole}
 use Rattle.fr_typing.specs.Kinds as kind
 use Rattle.fr_typing.specs.Places.{Env}
@@ -17,7 +16,7 @@ use Rattle.heap_law.specs.Chosen.{lent_deep}
 use Rattle.heap_law.specs.Sight.{sight}
 use Rattle.type_law.specs.Names.{NameTypes}
 use Rattle.fr_code.specs.CodeTypes.{Table, going}
-use Rattle.type_law.specs.ClusterTypes.{misfits, forms_wrong, locked_wrong, leads_wrong, views_wrong, parents_wrong, ends_wrong, branches_wrong, over_wrong}
+use Rattle.type_law.specs.ClusterTypes.{misfits, forms_wrong, locked_wrong, leads_wrong, views_wrong, ends_wrong}
 use Rattle.type_law.specs.Codes.{boxed_table}
 use Rattle.type_law.specs.Tables.{x_name, r_name, c_name, slot, pairs_table, lent_table}
 use Rattle.type_law.specs.Typed.{boxed_main, boxed_server, boxed_cluster}
@@ -31,10 +30,6 @@ with_threads k s ts = record k { servers = record s { threads = ts } ∷ [] }
 
 abbrev leads_in : Table → Cluster → ℕ
 leads_in table k = let s = sight k in leads_wrong (exact_in table s) s
-
--- main is over, with a slot
-abbrev over_with_slot : Cluster
-over_with_slot = with_threads boxed_cluster boxed_server (record boxed_main { phase = phase.Over } ∷ [])
 
 -- an integer's object holds unit
 abbrev unit_held : Cluster
@@ -92,7 +87,6 @@ abbrev int_results : NameTypes
 int_results = record integers { result = λ t. int }
 
 pub record TypesBreak : Type 0 where
-  pub over : over_wrong (sight over_with_slot) ≡ 1
   pub agree : misfits integers (sight unit_held) ≡ 1
   pub forms : forms_wrong boxed_table integers (sight int_for_box) ≡ 1
   -- the mutex holds a box, and an integer stands above its mark
@@ -106,8 +100,5 @@ pub record TypesBreak : Type 0 where
   pub elsewhere : leads_in deep_table (deep_with (place 0 1)) ≡ 1
   -- both branches' views
   pub views : views_wrong pairs_table (sight unseen) ≡ 2
-  pub parents : parents_wrong (λ t. 0) (sight paired_cluster) ≡ 2
   -- main's code and those of its branches
   pub ends : ends_wrong pairs_table int_results (sight paired_cluster) ≡ 3
-  -- as their home has noted them, and as their parent waits for them
-  pub branches : branches_wrong int_results (sight paired_cluster) ≡ 4

@@ -1,11 +1,9 @@
 -- TYPES: the last part of coherent memory (Featherweight Rust's types over the things of a cluster; threads, mutexes and views are this project's).
 -- What can be counted is counted, as in the other parts: the number of things that break a sentence is 0.
-use Rattle.std.specs.Prelude.{◌≡◌, ℕ, zero, suc, ◌+◌, ◌==◌, nat_lt, Bool, true, false, not, ◌&&◌, ◌||◌, List, [], ◌∷◌, reverse, Option, Some, None, is_some}
+use Rattle.std.specs.Prelude.{◌≡◌, ℕ, zero, suc, ◌+◌, ◌==◌, Bool, true, false, not, ◌&&◌, ◌||◌, List, [], ◌∷◌, reverse, Option, Some, None, is_some}
 use Rattle.fr_base.specs.declared.name.ObjNo.{ObjNo}
 use Rattle.fr_base.specs.declared.name.MutexNo.{MutexNo}
 use Rattle.fr_base.specs.declared.place.Lval.{Lval}
-use Rattle.fr_base.specs.declared.instruction.Instr.{Instr}
-use Rattle.fr_base.specs.declared.instruction.Instr.TheVariants as instr
 use Rattle.heap_partition.specs.declared.value.Owned.{Owned}
 use Rattle.heap_partition.specs.declared.value.Owned.TheVariants as owned
 use Rattle.thread_state.specs.View.{ThreadState}
@@ -13,14 +11,13 @@ use Rattle.thread_state.specs.declared.value.Value.{Value}
 use Rattle.thread_state.specs.declared.value.Value.TheVariants as value
 use Rattle.thread_state.specs.declared.phase.Phase.{Phase}
 use Rattle.thread_state.specs.declared.phase.Phase.TheVariants as phase
-use Rattle.join_home.specs.Tasks.{TaskState, in_pair}
-use Rattle.fr_typing.specs.Kinds.{Owned as OwnedType, unit, same_owned, Kind, own, shared, mutable, view, Piece, whole, gone, boxed}
+use Rattle.fr_typing.specs.Kinds.{Owned as OwnedType, same_owned, Kind, own, shared, mutable, view, Piece, whole, gone, boxed}
 use Rattle.fr_typing.specs.Places.{Slot}
 use Rattle.fr_store.specs.Keys.{Key, slot_k, temp_k}
 use Rattle.fr_store.specs.Typed.{Exact, owns, refers, KeyTypes}
 use Rattle.server_model.specs.Servers.{Cluster}
 use Rattle.heap_law.specs.Names.{one, other, if_so, some, same_object, same_mutex}
-use Rattle.heap_law.specs.Things.{Location, Spot, as_content, as_result, Thing, holds, lies, flies, noted}
+use Rattle.heap_law.specs.Things.{Location, Spot, as_content, as_result, Thing, holds, lies, flies}
 use Rattle.heap_law.specs.Follow.{Standing, Ground, leads, place_at, value_at}
 use Rattle.heap_law.specs.Stale.{same_location}
 use Rattle.heap_law.specs.Sight.{Sight, sight}
@@ -160,18 +157,6 @@ abbrev pub views_wrong : Table → Sight → ℕ
 views_wrong table s =
     at_entries table s (λ x y. unseen_slots s x.thread.number y.env (reverse x.thread.slots) + unseen_temps s x.thread.number y.temps (reverse x.thread.temps))
 
-abbrev unordered : (ℕ → ℕ) → ℕ → TaskState → ℕ
-unordered order t (in_pair p over) = other (nat_lt (order p) (order t))
-unordered order t x = 0
-
-abbrev unordered_note : (ℕ → ℕ) → Thing → ℕ
-unordered_note order (noted r x) = unordered order x.thread x.state
-unordered_note order x = 0
-
--- going from each branch to the parent that waits for it comes to an end: an order falls on the way
-abbrev pub parents_wrong : (ℕ → ℕ) → Sight → ℕ
-parents_wrong order s = sum_over s (unordered_note order)
-
 -- RESULTS OF THREADS
 
 abbrev gives_other : NameTypes → ℕ → Entry → ℕ
@@ -180,39 +165,6 @@ gives_other n t x = other (same_owned x.gives (n.result t))
 -- the code of each thread, over or not, ends with the type that its task has
 abbrev pub ends_wrong : Table → NameTypes → Sight → ℕ
 ends_wrong table n s = sum_threads s (λ x. entry_wrong (gives_other n x.thread.number) (table x.thread.pc))
-
-abbrev not_unit : NameTypes → ℕ → ℕ
-not_unit n t = other (same_owned (n.result t) unit)
-
-abbrev branch_note : NameTypes → ℕ → TaskState → ℕ
-branch_note n t (in_pair p over) = not_unit n t
-branch_note n t x = 0
-
-abbrev branch_noted : NameTypes → Thing → ℕ
-branch_noted n (noted r x) = branch_note n x.thread x.state
-branch_noted n x = 0
-
-abbrev branches_of : NameTypes → Phase → ℕ
-branches_of n (phase.WaitPar a b) = not_unit n a + not_unit n b
-branches_of n (phase.GotPar a b) = not_unit n a + not_unit n b
-branches_of n p = 0
-
--- the two threads of a pair end with unit. (So does a `finished` message of one, whose result agrees with that)
-abbrev pub branches_wrong : NameTypes → Sight → ℕ
-branches_wrong n s = sum_over s (branch_noted n) + sum_threads s (λ x. branches_of n x.thread.phase)
-
-abbrev is_end : Option Instr → Bool
-is_end (Some (instr.End o)) = true
-is_end i = false
-
-abbrev is_empty : {A : Type 0} → List A → Bool
-is_empty [] = true
-is_empty (x ∷ xs) = false
-
--- a thread that is over stands at its end and has no slot, no temporary value and no gift
-abbrev pub over_wrong : Sight → ℕ
-over_wrong s =
-    sum_threads s (λ x. if_so (is_over x.thread.phase) (other (is_end (instr_of s x) && is_empty x.thread.slots && is_empty x.thread.temps && not (is_some x.thread.gift))))
 
 -- PLACES OF REFERENCES
 
@@ -282,10 +234,7 @@ pub record Types (k : Cluster) : Type 0 where
   pub locked : locked_wrong table (names_of object typing.gives) (sight k) ≡ 0
   pub lead : leads_wrong typing.exact (sight k) ≡ 0
   pub views : views_wrong table (sight k) ≡ 0
-  pub parents : parents_wrong typing.order (sight k) ≡ 0
   pub ends : ends_wrong table (names_of object typing.gives) (sight k) ≡ 0
-  pub branches : branches_wrong (names_of object typing.gives) (sight k) ≡ 0
-  pub over : over_wrong (sight k) ≡ 0
 
 -- COHERENT: all parts
 pub record IsCoherent (k : Cluster) : Type 0 where

@@ -1,6 +1,7 @@
 pub mod Names
 pub mod ClusterTypes
 pub mod Owning
+pub mod Branches
 pub mod Codes
 pub mod Typed
 pub mod Paired

@@ -1,13 +1,12 @@
 -- No object, content or result owns itself, directly or through others (this project's rule).
-use Rattle.std.specs.Prelude.{◌≡◌, ◌⊎◌, ℕ, ◌==◌, Bool, true, false, reverse, List, [], ◌∷◌, Some}
+use Rattle.std.specs.Prelude.{◌≡◌, ◌⊎◌, ℕ, Bool, true, false, reverse, List, [], ◌∷◌, Some}
 use Rattle.fr_base.specs.declared.name.MutexNo.{MutexNo}
 use Rattle.heap_partition.specs.declared.value.Cell.{Cell}
 use Rattle.heap_partition.specs.declared.value.Owned.{Owned}
-use Rattle.heap_partition.specs.declared.value.Owned.TheVariants as owned
 use Rattle.thread_state.specs.declared.value.Value.{Value}
 use Rattle.thread_state.specs.declared.value.Value.TheVariants as value
 use Rattle.server_model.specs.Servers.{Cluster}
-use Rattle.heap_law.specs.Names.{same_object, same_mutex}
+use Rattle.heap_law.specs.Names.{Among}
 use Rattle.heap_law.specs.Things.{as_content, as_result, holds, lies, flies}
 use Rattle.heap_law.specs.Follow.{Standing}
 use Rattle.heap_law.specs.Sight.{Sight, sight}
@@ -15,20 +14,8 @@ use Rattle.heap_law.specs.Walking.{instr_of}
 use Rattle.heap_law.specs.Paths.{joined_thread}
 use Rattle.heap_law.specs.Requests.{locked_mutex}
 use Rattle.heap_law.specs.Sharing.{is_over}
-use Rattle.heap_law.specs.OneHeap.{Node, object_n, mutex_n, task_n}
+use Rattle.heap_law.specs.OneHeap.{Node, object_n, mutex_n, task_n, owns}
 use Rattle.type_law.specs.ClusterTypes.{Types}
-
--- x is one of the list
-abbrev pub Among : {A : Type 0} → A → List A → Type 0
-Among x [] = ⊥
-Among x (y ∷ ys) = (x ≡ y) ⊎ Among x ys
-
--- the owned value is a box of the object, a value of the mutex, a task value of the thread
-abbrev pub names : Node → Owned → Bool
-names (object_n o) (owned.Box p) = same_object p.object o
-names (mutex_n m) (owned.Mutex n) = same_mutex n m
-names (task_n t) (owned.Task u) = u == t
-names n v = false
 
 -- the value stands in a slot, and the mark of the mutex in the slot below it. The slots are listed the newest first
 abbrev pub IsTop : MutexNo → List Value → Type 0
@@ -53,8 +40,8 @@ pub data Stands (s : Sight) : Node → Owned → Type 0 where
 
 -- directly, or through others
 pub data OwnsInTheEnd (s : Sight) : Node → Node → Type 0 where
-  directly : {a b : Node} {v : Owned} → Stands s a v → names b v ≡ true → OwnsInTheEnd s a b
-  through : {a b c : Node} {v : Owned} → Stands s a v → names b v ≡ true → OwnsInTheEnd s b c → OwnsInTheEnd s a c
+  directly : {a b : Node} {v : Owned} → Stands s a v → owns b v ≡ true → OwnsInTheEnd s a b
+  through : {a b c : Node} {v : Owned} → Stands s a v → owns b v ≡ true → OwnsInTheEnd s b c → OwnsInTheEnd s a c
 
 abbrev pub NoneOwnsItself : Type 0
 NoneOwnsItself = (k : Cluster) → Types k → (a : Node) → OwnsInTheEnd (sight k) a a → ⊥

@@ -1,6 +1,7 @@
 //! Laws of types.
 
 ghost use Rattle.type_law.specs.Along.{RowsKeepTypes};
+ghost use Rattle.type_law.specs.Branches.{BranchesLaw};
 ghost use Rattle.type_law.specs.Breaches.{TypesBreak};
 ghost use Rattle.type_law.specs.Codes.{CodesCompute};
 ghost use Rattle.type_law.specs.Locking.{LockHasTypes};
@@ -34,6 +35,12 @@ pub fn coherent_compute()
 /// Each sentence that is counted sees the clusters that break it.
 pub fn types_break()
     ensures { TypesBreak }
+{}
+
+/// In a coherent cluster the two threads of a pair end with unit and stand above their parent, as the parent waits for them and as their home has
+/// noted them.
+pub fn branches_are_typed()
+    ensures { BranchesLaw }
 {}
 
 /// In a cluster that has types no object, content or result owns itself, directly or through others.

@@ -3,7 +3,6 @@ use Rattle.type_law.proofs.laws.types_break.Goals as goal
 
 pub returns : goal.returns
 returns c = record {
-  over = refl;
   agree = refl;
   forms = refl;
   locked = refl;
@@ -13,7 +12,5 @@ returns c = record {
   reborrowed = refl;
   elsewhere = refl;
   views = refl;
-  parents = refl;
   ends = refl;
-  branches = refl;
 }

@@ -1,0 +1,24 @@
+-- What the types of a cluster say of the branches of pairs (this project's rules): the typed one heap says it of parents that wait, and homes note
+-- these branches alone.
+use Rattle.std.specs.Prelude.{◌≡◌, ℕ, ◌<◌, Bool, Some}
+use Rattle.fr_typing.specs.Kinds.{unit}
+use Rattle.join_home.specs.Tasks.{Task, in_pair}
+use Rattle.server_model.specs.Servers.{Cluster}
+use Rattle.heap_law.specs.Names.{Among}
+use Rattle.heap_law.specs.Things.{noted, things_of}
+use Rattle.heap_law.specs.Follow.{Standing}
+use Rattle.heap_law.specs.Sight.{sight}
+use Rattle.heap_law.specs.OneHeap.{two_in}
+use Rattle.fr_sound.specs.States.{Typing}
+use Rattle.type_law.specs.ClusterTypes.{IsCoherent}
+
+-- the thread ends with unit, and its parent stands below it
+pub record IsBranchOf (y : Typing) (parent t : ℕ) : Type 0 where
+  pub gives : y.gives.result t ≡ unit
+  pub below : y.order parent < y.order t
+
+pub record BranchesLaw : Type 0 where
+  -- of a parent that waits for two threads or has been answered by both
+  pub waited : (k : Cluster) (c : IsCoherent k) (x : Standing) (a b : ℕ) → Among x (sight k).ground.threads → two_in x.thread.phase ≡ Some (a, b) → IsBranchOf c.types.typing x.thread.number a × IsBranchOf c.types.typing x.thread.number b
+  -- of a thread that is noted in the pair of a parent
+  pub noted : (k : Cluster) (c : IsCoherent k) (r parent : ℕ) (t : Task) (over : Bool) → Among (noted r t) (things_of k) → t.state ≡ in_pair parent over → IsBranchOf c.types.typing parent t.thread
