@@ -40,9 +40,9 @@ Leads-start place bytes = record { lines = tt; places = tt; text = refl }
 pub stops_refused : (place : ℕ) (bytes : List ℕ) (ls : List OrderLine) (rest : List ℕ) (fault : ℕ) → Leads place bytes ls rest → fault ≡ place + length (flat_map spell ls) → rest ≢ [] → line_at fault rest ≡ None → IsRefused place bytes fault
 stops_refused place bytes ls rest fault h at some e = record { front = ls; rest = rest; leads = h; at = at; some = some; bad = none_begins fault rest e }
 
--- the place of the rest, counted from the end
-pub place_is : (place : ℕ) (bytes : List ℕ) (ls : List OrderLine) (rest : List ℕ) → place ≤ length bytes → Leads place (drop place bytes) ls rest → length bytes - length rest ≡ place + length (flat_map spell ls)
-place_is place bytes ls rest le h = omega (arith, length-drop place bytes, ap length h.text, length-append (flat_map spell ls) rest)
+-- the place of the rest, counted from the end, where there is a rest
+pub place_is : (place : ℕ) (bytes : List ℕ) (ls : List OrderLine) (rest : List ℕ) → 0 < length rest → Leads place (drop place bytes) ls rest → length bytes - length rest ≡ place + length (flat_map spell ls)
+place_is place bytes ls rest some h = omega (arith, length-drop place bytes, ap length h.text, length-append (flat_map spell ls) rest)
 
 -- a line that is read takes some bytes
 pub fewer : (place : ℕ) (rest : List ℕ) (l : OrderLine) (after : List ℕ) → line_at place rest ≡ Some (l, after) → length after < length rest

@@ -1,6 +1,5 @@
 //! Texts of orders, read and refused.
 
-ghost use Rattle.std.specs.Prelude.{◌≤◌, length};
 ghost use Rattle.journal.specs.Journals.{NamesItsThread};
 
 use super::*;
@@ -19,9 +18,7 @@ fn line(place: usize, thread: (u8, u32), steps: u64, fresh: Fresh) -> OrderLine 
 }
 
 // From that byte on the text is an order of these lines.
-fn reads(rt: &impl Abort, alloc: Global, text: &[u8], from: usize, want: &[OrderLine])
-    requires { from ≤ length text.now }
-{
+fn reads(rt: &impl Abort, alloc: Global, text: &[u8], from: usize, want: &[OrderLine]) {
     let order = read_order(alloc, text, from).expect(rt, "no order");
     assert_eq!(rt; order.len(), want.len() as u64);
     for at in 0..want.len() {
@@ -94,6 +91,7 @@ fn places_count_from_the_first_byte_of_all(rt: HostRuntime) {
     ];
     reads(&rt, alloc, b"{ }%0.0 2\n1.0 3\n", 4, &want);
     reads(&rt, alloc, b"{ }%", 4, &[]);
+    reads(&rt, alloc, b"{ }%0.0 2\n", 11, &[]);
     assert_eq!(rt;
         read_order(alloc, b"{ }%0.0 2\n1.0 0\n", 4).err(),
         Some(OrderError::BadOrder { place: 10 })
