@@ -10,3 +10,5 @@ pub mod Sees
 pub mod SeesThreads
 pub mod Unbroken
 pub mod Ranks
+mod Following
+pub mod Words

@@ -11,6 +11,9 @@ use Rattle.heap_law.specs.Sharing.{contents, held_mutexes, going_notes, goes_on,
 use Rattle.heap_law.specs.Coherent.{Sentence, home_of_each, owner_of_each, are_issued, below_limit, same_word, lead_home, one_state, first_at_holder, different_words, dirty_alone, copies_agree, served_are_clean, passed_lie_here, passed_not_copied, passed_not_stale, passed_in_a_walk, passed_within, walk_empty, join_walks_nothing, parcels_ready, place_followed, waits_in_turn, asks_others, users_counted, one_answer, carry_what_is_asked, go_right, return_right, askers_stand, phases_stand, par_ends, pairs_noted, pairs_go_on, cells_awaited, taken_stands, taken_is_new, gifts_got, gifts_fit, named_are_there, at_their_home, one_content, marks_in_slots, shares_counted, queue_while_out, content_without_shares, thread_homes, noted_go_on, noted_at_home, one_task_value, task_values_owed, one_result, pairs_unnamed, over_are_bare, none_owns_itself, parents_end, branches_give_unit, numbers_differ, objects_made, names_counted, counts_from_one, few_names, counts_bounded, parts_are_typed, options_in_range, holders_short, breaches_in, Holds, OneHome, OneOwner, Words, Copies, Walks, Users, Requests, MutexesAndTasks, Rooted, Names, Parts, IsSound, one_home_sentences, one_owner_sentences, words_sentences, copies_sentences, walks_sentences, users_sentences, requests_sentences, mutexes_and_tasks_sentences, rooted_sentences, names_sentences, parts_sentences, if_broken, broken_among, all_sentences}
 use Rattle.heap_law.specs.Rooted.{ownings, parents}
 use Rattle.heap_law.specs.Laws.{SoundLaw}
+use Rattle.heap_law.specs.Placing.{same_word_wrong, homeward_wrong}
+use Rattle.heap_law.proofs.Names.{left_none, right_none}
+use Rattle.heap_law.proofs.Words.{words_law}
 use Rattle.heap_law.proofs.Ranks.{node_ends, nodes_none, number_ends, numbers_none}
 use Rattle.heap_law.proofs.Shown.{agree_from, agree_none, at_most_from, at_most_none, one_from, one_none}
 use Rattle.heap_law.proofs.Sees.{cells_seen, owners_seen, objects_quiet, states_seen, addresses_quiet, uses_seen, users_seen, words_quiet, halves_seen, needs_seen, answers_quiet, notes_seen, places_seen, branches_quiet, contents_seen, homes_seen, held_quiet, shares_seen, counts_seen, shares_quiet}
@@ -60,8 +63,7 @@ words_from : (k : Cluster) → None_of k words_sentences → Words k
 words_from k p = record {
   are_issued = p.0;
   below_limit = p.1.0;
-  same_word = p.1.1.0;
-  lead_home = p.1.1.1.0;
+  have_words = words_law.from_counts k p.1.1.0 p.1.1.1.0;
   one_state = at_most_from states below addresses states_seen (things_of k) p.1.1.1.1.0;
   first_at_holder = p.1.1.1.1.1.0;
   different_words = p.1.1.1.1.1.1.0;
@@ -162,8 +164,8 @@ holds k s home_of_each = one_none cells objects objects_quiet (things_of k) s.on
 holds k s owner_of_each = agree_none owners cells objects objects_quiet (things_of k) s.one_owner.owner_of_each
 holds k s are_issued = s.words.are_issued
 holds k s below_limit = s.words.below_limit
-holds k s same_word = s.words.same_word
-holds k s lead_home = s.words.lead_home
+holds k s same_word = left_none (same_word_wrong (sight k)) (homeward_wrong (sight k)) (words_law.none_counted k s.words.have_words)
+holds k s lead_home = right_none (same_word_wrong (sight k)) (homeward_wrong (sight k)) (words_law.none_counted k s.words.have_words)
 holds k s one_state = at_most_none states below addresses addresses_quiet (things_of k) s.words.one_state
 holds k s first_at_holder = s.words.first_at_holder
 holds k s different_words = s.words.different_words

@@ -12,6 +12,7 @@ use Rattle.heap_law.specs.Placing.{homes_wrong, owners_wrong, issued_wrong, colo
 use Rattle.heap_law.specs.Walking.{passed_wrong, passed_boxes_wrong, passed_references_wrong, passed_phase_wrong, passed_count_wrong, walk_phase_wrong, join_walk_wrong, parcels_wrong, followed_wrong, turn_wrong, own_requests_wrong, users_wrong}
 use Rattle.heap_law.specs.Requests.{halves_to, halves_needed, pair_notes, pair_places, answers_wrong, carried_wrong, routes_wrong, returns_wrong, askers_wrong, phases_wrong, par_ends_wrong, pairs_wrong, waited_pairs_wrong, cells_wrong, taken_wrong, taken_words_wrong, gift_phases_wrong, gifts_wrong}
 use Rattle.heap_law.specs.Sharing.{contents, going_notes, goes_on, owed, results, has_ended, named_wrong, mutex_homes_wrong, contents_wrong, marks_wrong, shares_wrong, queues_wrong, last_shares_wrong, thread_homes_wrong, noted_wrong, notes_wrong, tasks_wrong, owed_wrong, results_wrong, got_pairs_wrong}
+use Rattle.heap_law.specs.Words.{HasWords}
 use Rattle.heap_law.specs.Ranks.{Ends}
 use Rattle.heap_law.specs.Rooted.{over_wrong, ownings, ownership_wrong, parents, parents_wrong, branches_wrong}
 use Rattle.heap_law.specs.Naming.{numbers_wrong, made_wrong, counted_wrong, zeroth_wrong, names_count_wrong, large_wrong, parts_wrong, options_wrong, holders_wrong}
@@ -186,10 +187,8 @@ pub record Words (k : Cluster) : Type 0 where
   pub are_issued : Holds k are_issued
   -- every word that stands anywhere has a colour below `colours`, and so is the next colour of a free address
   pub below_limit : Holds k below_limit
-  -- all pointers to an object that aren't stale have the same word
-  pub same_word : Holds k same_word
-  -- where the object doesn't fly, its word's server and address are its home
-  pub lead_home : Holds k lead_home
+  -- each object has a word: each pointer to it has that word or is stale, and where it lies, some pointer isn't stale and the word leads there
+  pub have_words : HasWords (sight k)
   -- each address below its server's next one is live, free or retired, once, and no other address is anything
   pub one_state : AtMost states below (things_of k)
   -- the `first` of a mutable reference is the word at its holder, and that pointer is to the same object

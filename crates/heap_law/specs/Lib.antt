@@ -7,6 +7,7 @@ pub mod Balances
 pub mod Weights
 pub mod Paths
 pub mod Placing
+pub mod Words
 pub mod Walking
 pub mod Requests
 pub mod Sharing
@@ -18,6 +19,7 @@ pub mod Sound
 pub mod Broken
 pub mod BrokenRest
 pub mod Laws
+pub mod Following
 pub mod Along
 pub mod OneHeap
 pub mod Ranks

@@ -2,6 +2,7 @@
 
 ghost use Rattle.heap_law.specs.Along.{RowsStayCoherent};
 ghost use Rattle.heap_law.specs.Laws.{HandOverLaw, SoundLaw, StartLaw};
+ghost use Rattle.heap_law.specs.Following.{FollowLaw};
 ghost use Rattle.heap_law.specs.Chosen.{ChosenStayCoherent};
 ghost use Rattle.heap_law.specs.ChosenEnds.{ChosenEnd};
 ghost use Rattle.heap_law.specs.LeftRuns.{RunsAreLeft};
@@ -9,6 +10,7 @@ ghost use Rattle.heap_law.specs.ColouredStates.{StatesAreTold};
 ghost use Rattle.heap_law.specs.Appended.{RowsSendTheirActs};
 ghost use Rattle.heap_law.specs.OneHeapRuns.{OneHeapsCompute};
 ghost use Rattle.heap_law.specs.Stale.{RoundsLaw};
+ghost use Rattle.heap_law.specs.Words.{WordsLaw};
 ghost use Rattle.heap_law.specs.OneEvent.{OneEventKeeps};
 ghost use Rattle.heap_law.specs.Sound.{SoundCompute};
 ghost use Rattle.heap_law.specs.Broken.{MemoryBreaks, WalksBreak};
@@ -17,6 +19,11 @@ ghost use Rattle.heap_law.specs.BrokenRest.{RequestsBreak, SharingBreaks, Rooted
 /// A cluster breaks no sentence exactly where it is sound.
 pub fn sound_is_unbroken()
     ensures { SoundLaw }
+{}
+
+/// Sentences that follow from others: each thread has one task value at most, and the two of a pair that have both ended have none.
+pub fn some_follow()
+    ensures { FollowLaw }
 {}
 
 /// Clusters that break no sentence.
@@ -79,6 +86,11 @@ pub fn chosen_ends_are_left()
 /// The rounds that tell stale pointers find what the rule says.
 pub fn rounds_tell_stale()
     ensures { RoundsLaw }
+{}
+
+/// The objects of a cluster have words exactly where nothing is counted that breaks it, and the first pointer that isn't stale tells an object's word.
+pub fn words_are_told()
+    ensures { WordsLaw }
 {}
 
 /// From clusters that no run need reach, each enabled event leaves no sentence broken.
