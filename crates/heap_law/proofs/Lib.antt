@@ -12,3 +12,6 @@ pub mod Unbroken
 pub mod Ranks
 mod Following
 pub mod Words
+pub mod Passing
+pub mod Followed
+pub mod Dirty

@@ -1,5 +1,5 @@
 -- A cluster breaks no sentence exactly where it is sound.
-use Rattle.std.proofs.Common.{◌≡◌, ℕ, zero, suc, List, [], ◌∷◌, ◌++◌, refl}
+use Rattle.std.proofs.Common.{◌≡◌, ℕ, zero, suc, ◌+◌, List, [], ◌∷◌, ◌++◌, refl}
 use Rattle.std.specs.List.{AllByRecursion}
 use Rattle.server_model.specs.Servers.{Cluster}
 use Rattle.heap_law.specs.Names.{some}
@@ -13,7 +13,11 @@ use Rattle.heap_law.specs.Rooted.{ownings, parents}
 use Rattle.heap_law.specs.Laws.{SoundLaw}
 use Rattle.heap_law.specs.Placing.{same_word_wrong, homeward_wrong}
 use Rattle.heap_law.proofs.Names.{left_none, right_none}
+use Rattle.heap_law.specs.Walking.{passed_wrong, passed_boxes_wrong, passed_references_wrong}
 use Rattle.heap_law.proofs.Words.{words_law}
+use Rattle.heap_law.proofs.Dirty.{dirty_law}
+use Rattle.heap_law.proofs.Passing.{passed_law}
+use Rattle.heap_law.proofs.Followed.{followed_law}
 use Rattle.heap_law.proofs.Ranks.{node_ends, nodes_none, number_ends, numbers_none}
 use Rattle.heap_law.proofs.Shown.{agree_from, agree_none, at_most_from, at_most_none, one_from, one_none}
 use Rattle.heap_law.proofs.Sees.{cells_seen, owners_seen, objects_quiet, states_seen, addresses_quiet, uses_seen, users_seen, words_quiet, halves_seen, needs_seen, answers_quiet, notes_seen, places_seen, branches_quiet, contents_seen, homes_seen, held_quiet, shares_seen, counts_seen, shares_quiet}
@@ -67,7 +71,7 @@ words_from k p = record {
   one_state = at_most_from states below addresses states_seen (things_of k) p.1.1.1.1.0;
   first_at_holder = p.1.1.1.1.1.0;
   different_words = p.1.1.1.1.1.1.0;
-  dirty_alone = p.1.1.1.1.1.1.1.0;
+  dirty_alone = dirty_law.from_count k p.1.1.1.1.1.1.1.0;
 }
 
 copies_from : (k : Cluster) → None_of k copies_sentences → Copies k
@@ -78,15 +82,13 @@ copies_from k p = record {
 
 walks_from : (k : Cluster) → None_of k walks_sentences → Walks k
 walks_from k p = record {
-  passed_lie_here = p.0;
-  passed_not_copied = p.1.0;
-  passed_not_stale = p.1.1.0;
+  have_passed = passed_law.from_counts k p.0 p.1.0 p.1.1.0;
   passed_in_a_walk = p.1.1.1.0;
   passed_within = p.1.1.1.1.0;
   walk_empty = p.1.1.1.1.1.0;
   join_walks_nothing = p.1.1.1.1.1.1.0;
   parcels_ready = p.1.1.1.1.1.1.1.0;
-  place_followed = p.1.1.1.1.1.1.1.1.0;
+  have_followed = followed_law.from_counts (sight k) p.1.1.1.1.1.1.1.1.0;
   waits_in_turn = p.1.1.1.1.1.1.1.1.1.0;
   asks_others = p.1.1.1.1.1.1.1.1.1.1.0;
 }
@@ -169,18 +171,20 @@ holds k s lead_home = right_none (same_word_wrong (sight k)) (homeward_wrong (si
 holds k s one_state = at_most_none states below addresses addresses_quiet (things_of k) s.words.one_state
 holds k s first_at_holder = s.words.first_at_holder
 holds k s different_words = s.words.different_words
-holds k s dirty_alone = s.words.dirty_alone
+holds k s dirty_alone = dirty_law.none_counted k s.words.dirty_alone
 holds k s copies_agree = s.copies.copies_agree
 holds k s served_are_clean = s.copies.served_are_clean
-holds k s passed_lie_here = s.walks.passed_lie_here
-holds k s passed_not_copied = s.walks.passed_not_copied
-holds k s passed_not_stale = s.walks.passed_not_stale
+holds k s passed_lie_here =
+    left_none (passed_wrong (sight k)) (passed_boxes_wrong (sight k)) (left_none (passed_wrong (sight k) + passed_boxes_wrong (sight k)) (passed_references_wrong (sight k)) (passed_law.none_counted k s.walks.have_passed))
+holds k s passed_not_copied =
+    right_none (passed_wrong (sight k)) (passed_boxes_wrong (sight k)) (left_none (passed_wrong (sight k) + passed_boxes_wrong (sight k)) (passed_references_wrong (sight k)) (passed_law.none_counted k s.walks.have_passed))
+holds k s passed_not_stale = right_none (passed_wrong (sight k) + passed_boxes_wrong (sight k)) (passed_references_wrong (sight k)) (passed_law.none_counted k s.walks.have_passed)
 holds k s passed_in_a_walk = s.walks.passed_in_a_walk
 holds k s passed_within = s.walks.passed_within
 holds k s walk_empty = s.walks.walk_empty
 holds k s join_walks_nothing = s.walks.join_walks_nothing
 holds k s parcels_ready = s.walks.parcels_ready
-holds k s place_followed = s.walks.place_followed
+holds k s place_followed = followed_law.none_counted (sight k) s.walks.have_followed
 holds k s waits_in_turn = s.walks.waits_in_turn
 holds k s asks_others = s.walks.asks_others
 holds k s users_counted = agree_none uses_of users_of kept_words words_quiet (things_of k) s.users.users_counted

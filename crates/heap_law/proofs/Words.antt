@@ -16,12 +16,12 @@ use Rattle.heap_law.specs.Words.{all_pointers, IsStale, Fresh, LeadsTo, HasWords
 use Rattle.heap_law.proofs.Names.{and_left, and_right, same_number}
 use Rattle.heap_law.proofs.StaleEnough.{rounds_law}
 
-none_at : {A : Type 0} (f : A → ℕ) (x : A) (xs : List A) → tot f xs ≡ 0 → Among x xs → f x ≡ 0
+pub none_at : {A : Type 0} (f : A → ℕ) (x : A) (xs : List A) → tot f xs ≡ 0 → Among x xs → f x ≡ 0
 none_at f x [] z h = absurd h
 none_at f x (y ∷ ys) z (inl e) = subst (λ w. f w ≡ 0) e (omega (arith, z))
 none_at f x (y ∷ ys) z (inr h) = none_at f x ys (omega (arith, z)) h
 
-none_all : {A : Type 0} (f : A → ℕ) (xs : List A) → ((x : A) → Among x xs → f x ≡ 0) → tot f xs ≡ 0
+pub none_all : {A : Type 0} (f : A → ℕ) (xs : List A) → ((x : A) → Among x xs → f x ≡ 0) → tot f xs ≡ 0
 none_all f [] g = refl
 none_all f (x ∷ xs) g = omega (arith, g x (inl refl), none_all f xs (λ y h. g y (inr h)))
 
@@ -32,11 +32,11 @@ is_so false z = absurd (cc z)
 -- STALE OR FRESH
 
 -- the test that the sight makes
-tells : (k : Cluster) (l : Option Location) → is_stale (sight k).stale l ≡ true → IsStale (sight k) l
+pub tells : (k : Cluster) (l : Option Location) → is_stale (sight k).stale l ≡ true → IsStale (sight k) l
 tells k None e = absurd (cc e)
 tells k (Some l) e = rounds_law.sound (lent_places (sight k).code (sight k).ground (sight k).ground.threads) (references (sight k).ground (sight k).things) (length (references (sight k).ground (sight k).things)) l e
 
-told : (k : Cluster) (l : Option Location) → IsStale (sight k) l → is_stale (sight k).stale l ≡ true
+pub told : (k : Cluster) (l : Option Location) → IsStale (sight k) l → is_stale (sight k).stale l ≡ true
 told k None s = absurd s
 told k (Some l) s = rounds_law.enough (lent_places (sight k).code (sight k).ground (sight k).ground.threads) (references (sight k).ground (sight k).things) l s
 
@@ -64,7 +64,7 @@ fresh_from ls p [] h = absurd h
 fresh_from ls p (q ∷ ps) h = fresh_by ls p q ps (is_stale ls q.at) refl (fresh_from ls p ps) h
 
 -- what isn't stale by the rule isn't by the test
-not_told : (k : Cluster) (l : Option Location) → (IsStale (sight k) l → ⊥) → is_stale (sight k).stale l ≡ false
+pub not_told : (k : Cluster) (l : Option Location) → (IsStale (sight k) l → ⊥) → is_stale (sight k).stale l ≡ false
 not_told k l n = by (is_stale (sight k).stale l) refl
   where
     by : (b : Bool) → is_stale (sight k).stale l ≡ b → b ≡ false
@@ -87,10 +87,10 @@ first_by : (q : Pointer) (ps : List Pointer) (o : ObjNo) (b : Bool) → same_obj
 first_by q ps o true e s go = record { pointer = q; among = inl refl; object = s refl; tells = rw e refl }
 first_by q ps o false e s go = first_later q ps o e (go refl)
 
-named : (p o : ObjNo) → same_object p o ≡ true → p ≡ o
+pub named : (p o : ObjNo) → same_object p o ≡ true → p ≡ o
 named p o = object_cases (λ b. b ≡ true → p ≡ o) p o (λ s e. s) (λ n e. absurd (cc e))
 
-itself : (p o : ObjNo) → p ≡ o → same_object p o ≡ true
+pub itself : (p o : ObjNo) → p ≡ o → same_object p o ≡ true
 itself p o e = object_cases (λ b. b ≡ true) p o (λ s. refl) (λ n. absurd (n e))
 
 first_of : (p : Pointer) (ps : List Pointer) (o : ObjNo) → Among p ps → p.object ≡ o → First ps o

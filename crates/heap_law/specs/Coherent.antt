@@ -13,6 +13,8 @@ use Rattle.heap_law.specs.Walking.{passed_wrong, passed_boxes_wrong, passed_refe
 use Rattle.heap_law.specs.Requests.{halves_to, halves_needed, pair_notes, pair_places, answers_wrong, carried_wrong, routes_wrong, returns_wrong, askers_wrong, phases_wrong, par_ends_wrong, pairs_wrong, waited_pairs_wrong, cells_wrong, taken_wrong, taken_words_wrong, gift_phases_wrong, gifts_wrong}
 use Rattle.heap_law.specs.Sharing.{contents, going_notes, goes_on, owed, results, has_ended, named_wrong, mutex_homes_wrong, contents_wrong, marks_wrong, shares_wrong, queues_wrong, last_shares_wrong, thread_homes_wrong, noted_wrong, notes_wrong, tasks_wrong, owed_wrong, results_wrong, got_pairs_wrong}
 use Rattle.heap_law.specs.Words.{HasWords}
+use Rattle.heap_law.specs.Dirty.{DirtyAlone}
+use Rattle.heap_law.specs.Passing.{HavePassed, HaveFollowed}
 use Rattle.heap_law.specs.Ranks.{Ends}
 use Rattle.heap_law.specs.Rooted.{over_wrong, ownings, ownership_wrong, parents, parents_wrong, branches_wrong}
 use Rattle.heap_law.specs.Naming.{numbers_wrong, made_wrong, counted_wrong, zeroth_wrong, names_count_wrong, large_wrong, parts_wrong, options_wrong, holders_wrong}
@@ -195,8 +197,8 @@ pub record Words (k : Cluster) : Type 0 where
   pub first_at_holder : Holds k first_at_holder
   -- different live objects have different words
   pub different_words : Holds k different_words
-  -- a dirty reference that isn't stale is no holder of a mutable one, and no shared reference or view leads to its object
-  pub dirty_alone : Holds k dirty_alone
+  -- no mutable reference was made from a dirty one that isn't stale, and no shared reference or view leads to its object
+  pub dirty_alone : DirtyAlone (sight k)
 
 -- COPIES
 pub record Copies (k : Cluster) : Type 0 where
@@ -207,12 +209,9 @@ pub record Copies (k : Cluster) : Type 0 where
 
 -- WALKS
 pub record Walks (k : Cluster) : Type 0 where
-  -- the objects of the hops of a write that are passed lie at its server
-  pub passed_lie_here : Holds k passed_lie_here
-  -- for each of these hops over a box no copy of its word exists, cached or in a message
-  pub passed_not_copied : Holds k passed_not_copied
-  -- each of these hops over a mutable reference is over one that isn't stale
-  pub passed_not_stale : Holds k passed_not_stale
+  -- each of the first `passed` hops of a thread's write is over a box without a copy or a mutable reference that isn't stale, of an object that
+  -- lies at its server, or leads to a slot
+  pub have_passed : HavePassed (sight k)
   -- `passed` is 0 outside the phases `WaitCell`, `Got` and `Taken`
   pub passed_in_a_walk : Holds k passed_in_a_walk
   -- `passed` is never above the number of hops of that write
@@ -223,8 +222,8 @@ pub record Walks (k : Cluster) : Type 0 where
   pub join_walks_nothing : Holds k join_walks_nothing
   -- a parcel is in phase `Ready`
   pub parcels_ready : Holds k parcels_ready
-  -- what a place has been followed over leads to an object here or to a copy that the thread keeps
-  pub place_followed : Holds k place_followed
+  -- where a thread has followed its place, each pointer on the way leads to its server or, but for a dirty reference, to a copy that it keeps
+  pub have_followed : HaveFollowed (sight k)
   -- a write waits for its first hop that isn't passed or the reference that it ends, a read for its first hop that isn't readable
   pub waits_in_turn : Holds k waits_in_turn
   -- no request for an object goes to the thread's own server

@@ -8,7 +8,9 @@ pub mod Weights
 pub mod Paths
 pub mod Placing
 pub mod Words
+pub mod Dirty
 pub mod Walking
+pub mod Passing
 pub mod Requests
 pub mod Sharing
 pub mod Naming

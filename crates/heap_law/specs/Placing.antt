@@ -16,8 +16,8 @@ use Rattle.server_msgs.specs.declared.message.Message.TheVariants.{Fetch, Fetche
 use Rattle.heap_law.specs.Names.{tot, one, other, if_so, some, same_object, same_cell}
 use Rattle.heap_law.specs.Things.{Location, Thing, holds, shares, borrows, lies, flies, vacant, copied, uses, sent, stands}
 use Rattle.heap_law.specs.Follow.{Ground, value_behind}
-use Rattle.heap_law.specs.Stale.{Reference, references, is_among}
-use Rattle.heap_law.specs.Sight.{Sight, Pointer, is_stale, is_word, cell_of_word, is_object_among, word, issued}
+use Rattle.heap_law.specs.Stale.{Reference, references, is_among, is_held_at}
+use Rattle.heap_law.specs.Sight.{Sight, Pointer, is_word, cell_of_word, is_object_among, word, issued}
 use Rattle.heap_law.specs.Balances.{disagree, too_many, more_than_one}
 use Rattle.heap_law.specs.Weights.{cells, owners, objects, states, below, addresses}
 
@@ -142,9 +142,8 @@ different_words_wrong s = sum_over s (shared_words s)
 
 -- a dirty mutable reference that isn't stale is not the pointer at the holder of a mutable reference, and no shared reference or view
 -- leads to its object
-abbrev pub held_by : Option Location → Reference → ℕ
-held_by None r = 0
-held_by (Some l) r = one (is_stale (l ∷ []) r.holder)
+abbrev pub held_by : Location → Reference → ℕ
+held_by l r = one (is_held_at l r.holder)
 
 abbrev pub shared_of : ObjNo → Thing → ℕ
 shared_of o (shares l r) = one (same_object r.object o)
@@ -152,7 +151,7 @@ shared_of o x = 0
 
 abbrev pub not_alone : Sight → List Reference → Reference → ℕ
 not_alone s rs r =
-    if_so (r.reference.dirty && not (is_among r.at s.stale)) (tot (held_by (Some r.at)) rs + sum_over s (shared_of r.reference.object))
+    if_so (r.reference.dirty && not (is_among r.at s.stale)) (tot (held_by r.at) rs + sum_over s (shared_of r.reference.object))
 
 abbrev pub dirty_wrong : Sight → ℕ
 dirty_wrong s = let rs = references s.ground s.things in tot (not_alone s rs) rs

@@ -11,6 +11,8 @@ ghost use Rattle.heap_law.specs.Appended.{RowsSendTheirActs};
 ghost use Rattle.heap_law.specs.OneHeapRuns.{OneHeapsCompute};
 ghost use Rattle.heap_law.specs.Stale.{RoundsLaw};
 ghost use Rattle.heap_law.specs.Words.{WordsLaw};
+ghost use Rattle.heap_law.specs.Dirty.{DirtyLaw};
+ghost use Rattle.heap_law.specs.Passing.{FollowedLaw, PassedLaw, PathsLaw};
 ghost use Rattle.heap_law.specs.OneEvent.{OneEventKeeps};
 ghost use Rattle.heap_law.specs.Sound.{SoundCompute};
 ghost use Rattle.heap_law.specs.Broken.{MemoryBreaks, WalksBreak};
@@ -89,8 +91,18 @@ pub fn rounds_tell_stale()
 {}
 
 /// The objects of a cluster have words exactly where nothing is counted that breaks it, and the first pointer that isn't stale tells an object's word.
+/// Dirty references that aren't stale are alone exactly where none is counted.
 pub fn words_are_told()
-    ensures { WordsLaw }
+    ensures words { WordsLaw }
+    ensures dirty { DirtyLaw }
+{}
+
+/// What computes where a place leads, star by star, tells the path that leads there. Nothing is counted of what a write has passed exactly where it
+/// may pass each hop, nor of what a step has followed where each pointer on the way is at hand.
+pub fn paths_are_told()
+    ensures paths { PathsLaw }
+    ensures passed { PassedLaw }
+    ensures followed { FollowedLaw }
 {}
 
 /// From clusters that no run need reach, each enabled event leaves no sentence broken.

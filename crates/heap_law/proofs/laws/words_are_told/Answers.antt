@@ -1,5 +1,9 @@
 use Rattle.heap_law.proofs.laws.words_are_told.Goals as goal
 use Rattle.heap_law.proofs.Words.{words_law}
+use Rattle.heap_law.proofs.Dirty.{dirty_law}
 
-pub returns : goal.returns
-returns c = words_law
+pub returns-clause-words : goal.returns-clause-words
+returns-clause-words c = words_law
+
+pub returns-clause-dirty : goal.returns-clause-dirty
+returns-clause-dirty c = dirty_law

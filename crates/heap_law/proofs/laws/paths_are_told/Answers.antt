@@ -1,0 +1,12 @@
+use Rattle.heap_law.proofs.laws.paths_are_told.Goals as goal
+use Rattle.heap_law.proofs.Passing.{paths_law, passed_law}
+use Rattle.heap_law.proofs.Followed.{followed_law}
+
+pub returns-clause-paths : goal.returns-clause-paths
+returns-clause-paths c = paths_law
+
+pub returns-clause-passed : goal.returns-clause-passed
+returns-clause-passed c = passed_law
+
+pub returns-clause-followed : goal.returns-clause-followed
+returns-clause-followed c = followed_law
