@@ -1,6 +1,6 @@
 -- Each form of the grammar is read, from what is read of its parts.
-use Rattle.std.proofs.Common.{◌≡◌, ◌≢◌, ℕ, zero, suc, ◌+◌, ◌<◌, ◌≤◌, ℤ, neg_ℤ, Bool, true, false, IsTrue, List, [], ◌∷◌, length, refl, sym, ap, ◌∙◌, subst, inl, inr, arith}
-use Rattle.std.specs.Prelude.{Ok, ⊤}
+use Rattle.std.proofs.Common.{◌≡◌, ◌≢◌, ℕ, zero, suc, ◌+◌, ◌<◌, ◌≤◌, ℤ, neg_ℤ, Bool, true, false, IsTrue, cond, List, [], ◌∷◌, length, refl, sym, ap, ◌∙◌, subst, inl, inr, arith}
+use Rattle.std.specs.Prelude.{Ok, Err, ⊤}
 use Rattle.fr_base.specs.declared.place.Op.{Op}
 use Rattle.fr_base.specs.declared.place.Op.TheVariants.{Add, Sub, Mul}
 use Rattle.fr_terms.specs.Terms.{Text, Spot, Captured, Term, block_t, let_t, assign_t, read_t, borrow_t, borrow_mut_t, number_t, unit_t, box_t, print_t, arith_t, join_t, mutex_t, dup_t, lock_t, spawn_t, par_t}
@@ -9,9 +9,12 @@ use Rattle.fr_syntax.specs.Arena.{text_of}
 use Rattle.fr_syntax.specs.declared.kind.TokenKind.{TokenKind}
 use Rattle.fr_syntax.specs.declared.kind.TokenKind.TheVariants.{Name, Number, LetWord, MutWord, BoxWord, PrintWord, SpawnWord, JoinWord, ParWord, MutexWord, LockWord, AsWord, DupWord, CloseBrace, OpenParen, CloseParen, Comma, Equals, Amp, Star, Minus}
 use Rattle.fr_syntax.specs.declared.token.Token.{Token}
+use Rattle.fr_parse.specs.declared.fault.ParseError.TheVariants.{Syntax}
+use Rattle.fr_parse.specs.declared.marks.Terminal.{Terminal}
+use Rattle.fr_parse.specs.declared.marks.Terminal.TheVariants as terminal
 use Rattle.fr_parse.specs.Grammar.{Has, IsAt, Begins, SpellsName, SpellsPath, SpellsPlace, SpellsNumber, SpellsOthers, SpellsNames, SpellsCaptures, mark_of_op, IsBlock, Spells}
-use Rattle.fr_parse.specs.Reading.{◌>>=◌, Read, place_of, mut_kind, after_mut, name_kind, name_at, equals_kind, after_equals, bound_at, spot_at, turned_kind, turned_at, close_kind, after_close, borrow_kind, borrow_at, leaf_kind, leaf_at, op_kind, op_at, as_kind, after_as, held_at, open_kind, after_open, comma_kind, comma_at, capture_at, capture_next, after_capture, captured_at, list_kind, list_at, captures_at, begins_term, rest_kind, rest_at, placed_at, arith_at, inner_kind, inner_at, body_kind, body_at, branch_at, spawn_at, par_at, lock_at, term_kind, any_kind, any_at}
-use Rattle.fr_parse.proofs.ReadingSteps.{bind_by, has_cons, begins_cons, at_term, is_place, place_is_read}
+use Rattle.fr_parse.specs.Reading.{◌>>=◌, Read, place_of, is_terminal, after_terminal, name_kind, name_at, bound_at, spot_at, turned_kind, turned_at, borrow_kind, borrow_at, leaf_kind, leaf_at, op_kind, op_at, held_at, comma_kind, comma_at, capture_at, capture_next, after_capture, captured_at, list_kind, list_at, captures_at, begins_term, rest_kind, rest_at, placed_at, arith_at, inner_kind, inner_at, body_kind, body_at, branch_at, spawn_at, par_at, lock_at, term_kind, any_kind, any_at}
+use Rattle.fr_parse.proofs.ReadingSteps.{kind_of, its_kind, bind_by, has_cons, begins_cons, at_term, is_place, place_is_read}
 
 -- no assignment's mark comes first, so that a place before these tokens is a read
 abbrev pub NoEquals : List Token → Type 0
@@ -40,35 +43,11 @@ others_length names [] ts rest h = omega (arith, has_length CloseParen ts rest h
 others_length names (c ∷ cs) ts rest (a, b, comma, at, named, more) =
     omega (arith, has_length Comma ts a comma, has_length (Name named.0) a b named.2, others_length names cs b rest more)
 
--- each reader of one token reads it: `)`
-close_is : (ts rest : List Token) → Has CloseParen ts rest → after_close ts ≡ Ok rest
-unfolding after_close
-close_is [] rest h = absurd h
-close_is (t ∷ ts) rest h = ap (λ k. close_kind k t.start ts) h.0 ∙ ap (λ r. Ok r) h.1
-
--- `(`
-open_is : (ts rest : List Token) → Has OpenParen ts rest → after_open ts ≡ Ok rest
-unfolding after_open
-open_is [] rest h = absurd h
-open_is (t ∷ ts) rest h = ap (λ k. open_kind k t.start ts) h.0 ∙ ap (λ r. Ok r) h.1
-
--- `mut`
-mut_is : (ts rest : List Token) → Has MutWord ts rest → after_mut ts ≡ Ok rest
-unfolding after_mut
-mut_is [] rest h = absurd h
-mut_is (t ∷ ts) rest h = ap (λ k. mut_kind k t.start ts) h.0 ∙ ap (λ r. Ok r) h.1
-
--- `=`
-equals_is : (ts rest : List Token) → Has Equals ts rest → after_equals ts ≡ Ok rest
-unfolding after_equals
-equals_is [] rest h = absurd h
-equals_is (t ∷ ts) rest h = ap (λ k. equals_kind k t.start ts) h.0 ∙ ap (λ r. Ok r) h.1
-
--- `as`
-as_is : (ts rest : List Token) → Has AsWord ts rest → after_as ts ≡ Ok rest
-unfolding after_as
-as_is [] rest h = absurd h
-as_is (t ∷ ts) rest h = ap (λ k. as_kind k t.start ts) h.0 ∙ ap (λ r. Ok r) h.1
+-- each reader of one token reads it: a terminal
+after_is : (expected : Terminal) (ts rest : List Token) → Has (kind_of expected) ts rest → after_terminal expected ts ≡ Ok rest
+unfolding after_terminal
+after_is expected [] rest h = absurd h
+after_is expected (t ∷ ts) rest h = ap (λ b. cond b (Ok ts) (Err (Syntax t.start))) (ap (is_terminal expected) h.0 ∙ its_kind expected) ∙ ap (λ r. Ok r) h.1
 
 -- a name
 name_is : (n : ℕ) (ts rest : List Token) → Has (Name n) ts rest → name_at ts ≡ Ok (n, rest)
@@ -109,14 +88,14 @@ last_is (t ∷ ts) rest h = ap (λ k. comma_kind k t.start ts) h.0 ∙ ap (λ r.
 bound_is : (n : ℕ) (ts a c rest : List Token) → Has MutWord ts a → Has (Name n) a c → Has Equals c rest → bound_at ts ≡ Ok (n, rest)
 unfolding bound_at
 bound_is n ts a c rest mut name eq =
-    ap (λ r. r >>= λ a. name_at a >>= λ b. after_equals b.1 >>= λ c. Ok (b.0, c)) (mut_is ts a mut)
-    ∙ ap (λ r. r >>= λ b. after_equals b.1 >>= λ c. Ok (b.0, c)) (name_is n a c name)
-    ∙ ap (λ r. r >>= λ c. Ok (n, c)) (equals_is c rest eq)
+    ap (λ r. r >>= λ a. name_at a >>= λ b. after_terminal terminal.Equals b.1 >>= λ c. Ok (b.0, c)) (after_is terminal.Mut ts a mut)
+    ∙ ap (λ r. r >>= λ b. after_terminal terminal.Equals b.1 >>= λ c. Ok (b.0, c)) (name_is n a c name)
+    ∙ ap (λ r. r >>= λ c. Ok (n, c)) (after_is terminal.Equals c rest eq)
 
 -- the name of a `lock`
 held_is : (n : ℕ) (ts a rest : List Token) → Has AsWord ts a → Has (Name n) a rest → held_at ts ≡ Ok (n, rest)
 unfolding held_at
-held_is n ts a rest word name = bind_by (after_as ts) a name_at (as_is ts a word) ∙ name_is n a rest name
+held_is n ts a rest word name = bind_by (after_terminal terminal.As ts) a name_at (after_is terminal.As ts a word) ∙ name_is n a rest name
 
 -- a captured name
 capture_is : (names : List Text) (c : Captured) (ts rest : List Token) → IsAt c.at ts → SpellsName names c.name ts rest → capture_at names ts ≡ Ok (c, rest)
@@ -154,7 +133,7 @@ list_is names (c ∷ cs) (t ∷ ts) rest (a, at, named, more) =
 -- a capture list
 captures_is : (names : List Text) (cs : List Captured) (ts rest : List Token) → SpellsCaptures names cs ts rest → captures_at names ts ≡ Ok (cs, rest)
 unfolding captures_at
-captures_is names cs ts rest (a, mark, h) = bind_by (after_open ts) a (list_at names) (open_is ts a mark) ∙ list_is names cs a rest h
+captures_is names cs ts rest (a, mark, h) = bind_by (after_terminal terminal.Open ts) a (list_at names) (after_is terminal.Open ts a mark) ∙ list_is names cs a rest h
 
 -- a leaf by its first token
 leaf_by : (names : List Text) (k : TokenKind) (at : ℕ) (t : Token) (a : List Token) → t.kind ≡ k → t.start ≡ at → leaf_at names (t ∷ a) ≡ leaf_kind names k at a
@@ -206,10 +185,10 @@ NoParen (t ∷ ts) = t.kind ≢ CloseParen
 arith_is : (read_term : List Token → Read Term) (place : ℕ) (op : Op) (left right : Term) (ts a b c rest : List Token) → read_term ts ≡ Ok (left, a) → Has (mark_of_op op) a b → read_term b ≡ Ok (right, c) → Has CloseParen c rest → arith_at read_term place ts ≡ Ok (arith_t place op left right, rest)
 unfolding arith_at
 arith_is read_term place op left right ts a b c rest one mark two close =
-    bind_by (read_term ts) (left, a) (λ a. op_at a.1 >>= λ op. read_term op.1 >>= λ b. after_close b.1 >>= λ rest. Ok (arith_t place op.0 a.0 b.0, rest)) one
-    ∙ bind_by (op_at a) (op, b) (λ op. read_term op.1 >>= λ b. after_close b.1 >>= λ rest. Ok (arith_t place op.0 left b.0, rest)) (op_is op a b mark)
-    ∙ bind_by (read_term b) (right, c) (λ b. after_close b.1 >>= λ rest. Ok (arith_t place op left b.0, rest)) two
-    ∙ bind_by (after_close c) rest (λ rest. Ok (arith_t place op left right, rest)) (close_is c rest close)
+    bind_by (read_term ts) (left, a) (λ a. op_at a.1 >>= λ op. read_term op.1 >>= λ b. after_terminal terminal.Close b.1 >>= λ rest. Ok (arith_t place op.0 a.0 b.0, rest)) one
+    ∙ bind_by (op_at a) (op, b) (λ op. read_term op.1 >>= λ b. after_terminal terminal.Close b.1 >>= λ rest. Ok (arith_t place op.0 left b.0, rest)) (op_is op a b mark)
+    ∙ bind_by (read_term b) (right, c) (λ b. after_terminal terminal.Close b.1 >>= λ rest. Ok (arith_t place op left b.0, rest)) two
+    ∙ bind_by (after_terminal terminal.Close c) rest (λ rest. Ok (arith_t place op left right, rest)) (after_is terminal.Close c rest close)
 
 -- the constant unit, behind its opening mark
 unit_is : (read_term : List Token → Read Term) (place : ℕ) (ts rest : List Token) → Has CloseParen ts rest → inner_at read_term place ts ≡ Ok (unit_t place, rest)

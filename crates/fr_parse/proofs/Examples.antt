@@ -9,7 +9,7 @@ use Rattle.fr_syntax.specs.declared.token.Token.{Token}
 use Rattle.fr_parse.specs.declared.fault.ParseError.TheVariants.{Syntax}
 use Rattle.fr_parse.specs.Grammar.{IsProgram}
 use Rattle.fr_parse.specs.Source.{Spelled}
-use Rattle.fr_parse.specs.Reading.{program_at, any_at, block_at, items_at, item_next, next_at, rest_at, placed_at, spot_at, name_at, bound_at, after_mut, after_equals, leaf_at, borrow_at, inner_at, arith_at, op_at, after_close, body_at, spawn_at, par_at, lock_at, held_at, after_as, branch_at, captures_at, after_open, list_at, captured_at, capture_next, capture_at, comma_at, ended_at}
+use Rattle.fr_parse.specs.Reading.{program_at, any_at, block_at, items_at, item_next, next_at, rest_at, placed_at, spot_at, name_at, bound_at, after_terminal, leaf_at, borrow_at, inner_at, arith_at, op_at, body_at, spawn_at, par_at, lock_at, held_at, branch_at, captures_at, list_at, captured_at, capture_next, capture_at, comma_at, ended_at}
 use Rattle.fr_parse.proofs.Programs.{program_sound}
 
 -- a token that starts there
@@ -93,7 +93,7 @@ boxed_term =
 
 -- reading gives this term
 boxed_is_read : program_at names boxed ≡ Ok boxed_term
-unfolding names program_at body_at any_at block_at items_at item_next next_at rest_at placed_at spot_at name_at bound_at after_mut after_equals leaf_at ended_at
+unfolding names program_at body_at any_at block_at items_at item_next next_at rest_at placed_at spot_at name_at bound_at after_terminal leaf_at ended_at
 boxed_is_read = refl
 
 -- so the tokens spell it
@@ -112,7 +112,7 @@ changed_is_read = refl
 
 -- { spawn (x) { } }
 empty_spawn_is_read : program_at names (at 0 OpenBrace ∷ at 2 SpawnWord ∷ at 8 OpenParen ∷ at 9 (Name 0) ∷ at 10 CloseParen ∷ at 12 OpenBrace ∷ at 14 CloseBrace ∷ at 16 CloseBrace ∷ at 17 End ∷ []) ≡ Ok (block_t 0 (item (spawn_t 2 (record { at = 9; name = codes "x" } ∷ []) (block_t 12 none)) none))
-unfolding names program_at body_at any_at block_at items_at item_next next_at name_at spawn_at branch_at captures_at after_open list_at captured_at capture_next capture_at comma_at ended_at
+unfolding names program_at body_at any_at block_at items_at item_next next_at name_at spawn_at branch_at captures_at after_terminal list_at captured_at capture_next capture_at comma_at ended_at
 empty_spawn_is_read = refl
 
 -- { par () { } (x, x) { } }: that a name is captured twice is no matter of the grammar
@@ -120,17 +120,17 @@ par_is_read : program_at names
     (at 0 OpenBrace ∷ at 2 ParWord ∷ at 6 OpenParen ∷ at 7 CloseParen ∷ at 9 OpenBrace ∷ at 11 CloseBrace
     ∷ at 13 OpenParen ∷ at 14 (Name 0) ∷ at 15 Comma ∷ at 17 (Name 0) ∷ at 18 CloseParen ∷ at 20 OpenBrace ∷ at 22 CloseBrace ∷ at 24 CloseBrace ∷ at 25 End ∷ [])
     ≡ Ok (block_t 0 (item (par_t 2 [] (block_t 9 none) (record { at = 14; name = codes "x" } ∷ record { at = 17; name = codes "x" } ∷ []) (block_t 20 none)) none))
-unfolding names program_at body_at any_at block_at items_at item_next next_at name_at par_at branch_at captures_at after_open list_at captured_at capture_next capture_at comma_at ended_at
+unfolding names program_at body_at any_at block_at items_at item_next next_at name_at par_at branch_at captures_at after_terminal list_at captured_at capture_next capture_at comma_at ended_at
 par_is_read = refl
 
 -- { (1 + 2) }
 sum_is_read : program_at names (at 0 OpenBrace ∷ at 2 OpenParen ∷ at 3 (Number (pos 1)) ∷ at 5 Plus ∷ at 7 (Number (pos 2)) ∷ at 8 CloseParen ∷ at 10 CloseBrace ∷ at 11 End ∷ []) ≡ Ok (block_t 0 (item (arith_t 2 Add (number_t 3 (pos 1)) (number_t 7 (pos 2))) none))
-unfolding names program_at body_at any_at block_at items_at item_next next_at leaf_at inner_at arith_at op_at after_close ended_at
+unfolding names program_at body_at any_at block_at items_at item_next next_at leaf_at inner_at arith_at op_at after_terminal ended_at
 sum_is_read = refl
 
 -- { lock m as c { } }
 lock_is_read : program_at (codes "m" ∷ codes "c" ∷ []) (at 0 OpenBrace ∷ at 2 LockWord ∷ at 7 (Name 0) ∷ at 9 AsWord ∷ at 12 (Name 1) ∷ at 14 OpenBrace ∷ at 16 CloseBrace ∷ at 18 CloseBrace ∷ at 19 End ∷ []) ≡ Ok (block_t 0 (item (lock_t 2 (record { at = 7; name = codes "m"; stars = 0 }) (codes "c") (block_t 14 none)) none))
-unfolding program_at body_at any_at block_at items_at item_next next_at spot_at name_at lock_at held_at after_as ended_at
+unfolding program_at body_at any_at block_at items_at item_next next_at spot_at name_at lock_at held_at after_terminal ended_at
 lock_is_read = refl
 
 -- { dup x = 1 } is refused at the mark: only a place of its own is assigned
@@ -140,5 +140,5 @@ dup_is_no_place = refl
 
 -- { spawn (x,) { } } is refused behind the comma
 no_name_behind : program_at names (at 0 OpenBrace ∷ at 2 SpawnWord ∷ at 8 OpenParen ∷ at 9 (Name 0) ∷ at 10 Comma ∷ at 11 CloseParen ∷ at 13 OpenBrace ∷ at 15 CloseBrace ∷ at 17 CloseBrace ∷ at 18 End ∷ []) ≡ Err (Syntax 11)
-unfolding names program_at body_at any_at block_at items_at item_next next_at name_at spawn_at branch_at captures_at after_open list_at captured_at capture_next capture_at comma_at ended_at
+unfolding names program_at body_at any_at block_at items_at item_next next_at name_at spawn_at branch_at captures_at after_terminal list_at captured_at capture_next capture_at comma_at ended_at
 no_name_behind = refl

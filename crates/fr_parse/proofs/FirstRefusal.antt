@@ -7,10 +7,9 @@ use Rattle.fr_parse.specs.declared.fault.ParseError.{ParseError}
 use Rattle.fr_parse.specs.declared.fault.ParseError.TheVariants.{Syntax, TooDeep, NoMemory}
 use Rattle.fr_parse.specs.Source.{Spelled}
 use Rattle.fr_parse.specs.Reading.{Fails, program_at}
-use Rattle.fr_parse.specs.Refusals.{fault_of}
 use Rattle.fr_parse.specs.Table.{refusal}
 use Rattle.fr_parse.proofs.Programs.{program_complete}
-use Rattle.fr_parse.proofs.TableTerms.{refusal_is_fault}
+use Rattle.fr_parse.proofs.TableTerms.{fault_of, refusal_is_fault}
 
 -- the tokens of a program have no refusal
 pub spelled_unrefused : (names : List Text) (ts : List Token) (t : Term) → Spelled names ts t → refusal ts ≡ None

@@ -6,12 +6,39 @@ use Rattle.fr_terms.specs.Terms.{Text, Spot}
 use Rattle.fr_terms.specs.Limits.{IsShort}
 use Rattle.fr_syntax.specs.Arena.{text_of}
 use Rattle.fr_syntax.specs.declared.kind.TokenKind.{TokenKind}
-use Rattle.fr_syntax.specs.declared.kind.TokenKind.TheVariants.{LetWord}
+use Rattle.fr_syntax.specs.declared.kind.TokenKind.TheVariants.{LetWord, MutWord, AsWord, OpenParen, CloseParen, Equals}
 use Rattle.fr_syntax.specs.declared.token.Token.{Token}
 use Rattle.fr_parse.specs.declared.fault.ParseError.{ParseError}
 use Rattle.fr_parse.specs.declared.fault.ParseError.TheVariants.{TooDeep}
+use Rattle.fr_parse.specs.declared.marks.Terminal.{Terminal}
+use Rattle.fr_parse.specs.declared.marks.Terminal.TheVariants as terminal
 use Rattle.fr_parse.specs.Grammar.{Has, IsAt, Begins, SpellsPath, SpellsPlace}
-use Rattle.fr_parse.specs.Reading.{◌>>=◌, place_of, stars_of, is_star, name_at, spot_at, begins_term, term_kind, any_kind, any_at}
+use Rattle.fr_parse.specs.Reading.{◌>>=◌, place_of, is_terminal, stars_of, is_star, name_at, spot_at, begins_term, term_kind, any_kind, any_at}
+
+-- the kind of a terminal's token
+abbrev pub kind_of : Terminal → TokenKind
+kind_of terminal.Mut = MutWord
+kind_of terminal.Equals = Equals
+kind_of terminal.Open = OpenParen
+kind_of terminal.Close = CloseParen
+kind_of terminal.As = AsWord
+
+-- it is one
+pub its_kind : (expected : Terminal) → is_terminal expected (kind_of expected) ≡ true
+its_kind terminal.Mut = refl
+its_kind terminal.Equals = refl
+its_kind terminal.Open = refl
+its_kind terminal.Close = refl
+its_kind terminal.As = refl
+
+-- and no other is
+pub only_kind : (expected : Terminal) (kind : TokenKind) → is_terminal expected kind ≡ true → kind ≡ kind_of expected
+only_kind terminal.Mut MutWord e = refl
+only_kind terminal.Equals Equals e = refl
+only_kind terminal.Open OpenParen e = refl
+only_kind terminal.Close CloseParen e = refl
+only_kind terminal.As AsWord e = refl
+only_kind expected kind e = cc
 
 -- a step goes on with what was read
 pub bind_by : {A B : Type 0} (r : Result A ParseError) (x : A) (f : A → Result B ParseError) → r ≡ Ok x → (r >>= f) ≡ f x

@@ -8,11 +8,12 @@ use Rattle.fr_syntax.specs.declared.kind.TokenKind.{TokenKind}
 use Rattle.fr_syntax.specs.declared.kind.TokenKind.TheVariants.{Name, Number, LetWord, MutWord, BoxWord, PrintWord, SpawnWord, JoinWord, ParWord, MutexWord, LockWord, DupWord, OpenBrace, CloseBrace, OpenParen, CloseParen, Semicolon, Equals, Amp, Star, Minus}
 use Rattle.fr_syntax.specs.declared.token.Token.{Token}
 use Rattle.fr_parse.specs.declared.marks.Next.{Next}
+use Rattle.fr_parse.specs.declared.marks.Terminal.TheVariants as terminal
 use Rattle.fr_parse.specs.declared.marks.Next.TheVariants.{Close, LastUnit, More}
 use Rattle.fr_parse.specs.Grammar.{Has, Begins, SpellsPlace, SpellsCaptures, IsBlock, Spells, SpellsMore}
-use Rattle.fr_parse.specs.Reading.{◌>>=◌, Read, after_close, bound_at, spot_at, turned_at, borrow_kind, borrow_at, leaf_kind, leaf_at, op_at, held_at, captures_at, semicolon_at, semicolon_kind, next_kind, next_at, item_next, after_item, items_at, block_kind, block_at, rest_kind, rest_at, placed_at, arith_at, inner_kind, inner_at, body_kind, body_at, branch_at, spawn_at, par_at, lock_at, term_kind, any_kind, any_at}
+use Rattle.fr_parse.specs.Reading.{◌>>=◌, Read, after_terminal, bound_at, spot_at, turned_at, borrow_kind, borrow_at, leaf_kind, leaf_at, op_at, held_at, captures_at, semicolon_at, semicolon_kind, next_kind, next_at, item_next, after_item, items_at, block_kind, block_at, rest_kind, rest_at, placed_at, arith_at, inner_kind, inner_at, body_kind, body_at, branch_at, spawn_at, par_at, lock_at, term_kind, any_kind, any_at}
 use Rattle.fr_parse.proofs.Complete.{some_levels}
-use Rattle.fr_parse.proofs.SoundParts.{bind_ok, ok, ok_parts, ok_three, close_of, bound_of, turned_of, place_of_read, op_of, held_of, captures_of, opens_block}
+use Rattle.fr_parse.proofs.SoundParts.{bind_ok, ok, ok_parts, ok_three, after_of, bound_of, turned_of, place_of_read, op_of, held_of, captures_of, opens_block}
 
 -- what is known of a term that was read with so many levels left
 pub record IsRead (names : List Text) (d : ℕ) (b : Bool) (x : Term) (ts rest : List Token) : Type 0 where
@@ -235,18 +236,18 @@ module _ (names : List Text) (d : ℕ) (read_item read_term : List Token → Rea
   arith_sound : (b : Bool) (t : Token) (ts : List Token) (x : Term) (rest : List Token) → t.kind ≡ OpenParen → arith_at read_term t.start ts ≡ Ok (x, rest) → IsRead names (suc d) b x (t ∷ ts) rest
   unfolding arith_at
   arith_sound b t ts x rest is e =
-      let one = bind_ok (read_term ts) (λ a. op_at a.1 >>= λ op. read_term op.1 >>= λ b. after_close b.1 >>= λ rest. Ok (arith_t t.start op.0 a.0 b.0, rest)) (x, rest) e in
+      let one = bind_ok (read_term ts) (λ a. op_at a.1 >>= λ op. read_term op.1 >>= λ b. after_terminal terminal.Close b.1 >>= λ rest. Ok (arith_t t.start op.0 a.0 b.0, rest)) (x, rest) e in
       let left = one.0.0 in
-      let mark = bind_ok (op_at one.0.1) (λ op. read_term op.1 >>= λ b. after_close b.1 >>= λ rest. Ok (arith_t t.start op.0 left b.0, rest)) (x, rest) one.2 in
+      let mark = bind_ok (op_at one.0.1) (λ op. read_term op.1 >>= λ b. after_terminal terminal.Close b.1 >>= λ rest. Ok (arith_t t.start op.0 left b.0, rest)) (x, rest) one.2 in
       let op = mark.0.0 in
-      let two = bind_ok (read_term mark.0.1) (λ b. after_close b.1 >>= λ rest. Ok (arith_t t.start op left b.0, rest)) (x, rest) mark.2 in
+      let two = bind_ok (read_term mark.0.1) (λ b. after_terminal terminal.Close b.1 >>= λ rest. Ok (arith_t t.start op left b.0, rest)) (x, rest) mark.2 in
       let right = two.0.0 in
-      let close = bind_ok (after_close two.0.1) (λ rest. Ok (arith_t t.start op left right, rest)) (x, rest) two.2 in
+      let close = bind_ok (after_terminal terminal.Close two.0.1) (λ rest. Ok (arith_t t.start op left right, rest)) (x, rest) two.2 in
       let h = term_sound ts left one.0.1 one.1 in
       let k = term_sound mark.0.1 right two.0.1 two.1 in
       from_ok names (suc d) b (arith_t t.start op left right) x (t ∷ ts) close.0 rest close.2
       (record {
-        spells = (ts, one.0.1, mark.0.1, two.0.1, ((is, refl), refl), h.spells, op_of op one.0.1 mark.0.1 mark.1, k.spells, close_of two.0.1 close.0 close.1);
+        spells = (ts, one.0.1, mark.0.1, two.0.1, ((is, refl), refl), h.spells, op_of op one.0.1 mark.0.1 mark.1, k.spells, after_of terminal.Close two.0.1 close.0 close.1);
         deep = omega (arith, h.deep, k.deep);
         short = (h.short, k.short);
       })

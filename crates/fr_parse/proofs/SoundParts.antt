@@ -8,12 +8,15 @@ use Rattle.fr_terms.specs.Terms.{Text, Spot, Captured, Term, block_t, let_t, ass
 use Rattle.fr_terms.specs.Limits.{IsShort}
 use Rattle.fr_syntax.specs.Arena.{text_of}
 use Rattle.fr_syntax.specs.declared.kind.TokenKind.{TokenKind}
-use Rattle.fr_syntax.specs.declared.kind.TokenKind.TheVariants.{Name, Number, MutWord, AsWord, OpenBrace, OpenParen, CloseParen, Comma, Equals, Star, Plus, Minus}
+use Rattle.fr_syntax.specs.declared.kind.TokenKind.TheVariants.{Name, Number, MutWord, AsWord, OpenBrace, CloseParen, Comma, Equals, Star, Plus, Minus}
 use Rattle.fr_syntax.specs.declared.token.Token.{Token}
 use Rattle.fr_parse.specs.declared.fault.ParseError.{ParseError}
-use Rattle.fr_parse.specs.declared.fault.ParseError.TheVariants.{TooDeep}
+use Rattle.fr_parse.specs.declared.fault.ParseError.TheVariants.{Syntax, TooDeep}
+use Rattle.fr_parse.specs.declared.marks.Terminal.{Terminal}
+use Rattle.fr_parse.specs.declared.marks.Terminal.TheVariants as terminal
 use Rattle.fr_parse.specs.Grammar.{Has, IsAt, SpellsName, SpellsPath, SpellsPlace, SpellsOthers, SpellsNames, SpellsCaptures, mark_of_op, IsBlock, Spells}
-use Rattle.fr_parse.specs.Reading.{◌>>=◌, Read, place_of, mut_kind, after_mut, name_kind, name_at, equals_kind, after_equals, bound_at, is_star, stars_of, spot_at, turned_kind, turned_at, close_kind, after_close, op_kind, op_at, as_kind, after_as, held_at, open_kind, after_open, comma_kind, comma_at, capture_at, capture_next, after_capture, captured_at, list_kind, list_at, captures_at}
+use Rattle.fr_parse.specs.Reading.{◌>>=◌, Read, place_of, is_terminal, after_terminal, name_kind, name_at, bound_at, is_star, stars_of, spot_at, turned_kind, turned_at, op_kind, op_at, held_at, comma_kind, comma_at, capture_at, capture_next, after_capture, captured_at, list_kind, list_at, captures_at}
+use Rattle.fr_parse.proofs.ReadingSteps.{kind_of, only_kind}
 
 -- a step that went on had something to go on with
 pub bind_ok : {A B : Type 0} (r : Result A ParseError) (f : A → Result B ParseError) (y : B) → (r >>= f) ≡ Ok y → (x : A) × (r ≡ Ok x) × (f x ≡ Ok y)
@@ -60,54 +63,14 @@ unfolding head_of_ok middle_of_ok third_of_ok
 ok_three a x b y c z e = (ap (head_of_ok a) e, ap (middle_of_ok b) e, ap (third_of_ok c) e)
 
 -- one token
-pub close_of : (ts rest : List Token) → after_close ts ≡ Ok rest → Has CloseParen ts rest
-unfolding after_close
-close_of [] rest e = cc
-close_of (t ∷ ts) rest e = by t.kind refl e
+pub after_of : (expected : Terminal) (ts rest : List Token) → after_terminal expected ts ≡ Ok rest → Has (kind_of expected) ts rest
+unfolding after_terminal
+after_of expected [] rest e = cc
+after_of expected (t ∷ ts) rest e = by (is_terminal expected t.kind) refl e
   where
-    by : (k : TokenKind) → t.kind ≡ k → close_kind k t.start ts ≡ Ok rest → Has CloseParen (t ∷ ts) rest
-    by CloseParen is e = let same : ts ≡ rest = cc in (is, same)
-    by k is e = cc
-
--- `mut`
-mut_of : (ts rest : List Token) → after_mut ts ≡ Ok rest → Has MutWord ts rest
-unfolding after_mut
-mut_of [] rest e = cc
-mut_of (t ∷ ts) rest e = by t.kind refl e
-  where
-    by : (k : TokenKind) → t.kind ≡ k → mut_kind k t.start ts ≡ Ok rest → Has MutWord (t ∷ ts) rest
-    by MutWord is e = let same : ts ≡ rest = cc in (is, same)
-    by k is e = cc
-
--- `=`
-equals_of : (ts rest : List Token) → after_equals ts ≡ Ok rest → Has Equals ts rest
-unfolding after_equals
-equals_of [] rest e = cc
-equals_of (t ∷ ts) rest e = by t.kind refl e
-  where
-    by : (k : TokenKind) → t.kind ≡ k → equals_kind k t.start ts ≡ Ok rest → Has Equals (t ∷ ts) rest
-    by Equals is e = let same : ts ≡ rest = cc in (is, same)
-    by k is e = cc
-
--- `(`
-open_of : (ts rest : List Token) → after_open ts ≡ Ok rest → Has OpenParen ts rest
-unfolding after_open
-open_of [] rest e = cc
-open_of (t ∷ ts) rest e = by t.kind refl e
-  where
-    by : (k : TokenKind) → t.kind ≡ k → open_kind k t.start ts ≡ Ok rest → Has OpenParen (t ∷ ts) rest
-    by OpenParen is e = let same : ts ≡ rest = cc in (is, same)
-    by k is e = cc
-
--- `as`
-as_of : (ts rest : List Token) → after_as ts ≡ Ok rest → Has AsWord ts rest
-unfolding after_as
-as_of [] rest e = cc
-as_of (t ∷ ts) rest e = by t.kind refl e
-  where
-    by : (k : TokenKind) → t.kind ≡ k → as_kind k t.start ts ≡ Ok rest → Has AsWord (t ∷ ts) rest
-    by AsWord is e = let same : ts ≡ rest = cc in (is, same)
-    by k is e = cc
+    by : (b : Bool) → is_terminal expected t.kind ≡ b → cond b (Ok ts) (Err (Syntax t.start)) ≡ Ok rest → Has (kind_of expected) (t ∷ ts) rest
+    by true is e = let same : ts ≡ rest = cc in (only_kind expected t.kind is, same)
+    by false is e = cc
 
 -- a name
 name_of : (n : ℕ) (ts rest : List Token) → name_at ts ≡ Ok (n, rest) → Has (Name n) ts rest
@@ -131,17 +94,17 @@ pub record IsBound (n : ℕ) (ts rest : List Token) : Type 0 where
 pub bound_of : (n : ℕ) (ts rest : List Token) → bound_at ts ≡ Ok (n, rest) → IsBound n ts rest
 unfolding bound_at
 bound_of n ts rest e =
-    let p = bind_ok (after_mut ts) (λ a. name_at a >>= λ b. after_equals b.1 >>= λ c. Ok (b.0, c)) (n, rest) e in
-    let q = bind_ok (name_at p.0) (λ b. after_equals b.1 >>= λ c. Ok (b.0, c)) (n, rest) p.2 in
-    let r = bind_ok (after_equals q.0.1) (λ c. Ok (q.0.0, c)) (n, rest) q.2 in
+    let p = bind_ok (after_terminal terminal.Mut ts) (λ a. name_at a >>= λ b. after_terminal terminal.Equals b.1 >>= λ c. Ok (b.0, c)) (n, rest) e in
+    let q = bind_ok (name_at p.0) (λ b. after_terminal terminal.Equals b.1 >>= λ c. Ok (b.0, c)) (n, rest) p.2 in
+    let r = bind_ok (after_terminal terminal.Equals q.0.1) (λ c. Ok (q.0.0, c)) (n, rest) q.2 in
     let same = ok_parts q.0.0 n r.0 rest r.2 in
     let named : name_at p.0 ≡ Ok (n, q.0.1) = q.1 ∙ ap (λ n. ok {X = ℕ × List Token} (n, q.0.1)) same.0 in
     record {
       after_mut = p.0;
       after_name = q.0.1;
-      mut = mut_of ts p.0 p.1;
+      mut = after_of terminal.Mut ts p.0 p.1;
       named = name_of n p.0 q.0.1 named;
-      equals = equals_of q.0.1 rest (r.1 ∙ ap (λ r. ok r) same.1);
+      equals = after_of terminal.Equals q.0.1 rest (r.1 ∙ ap (λ r. ok r) same.1);
     }
 
 -- a number that is turned round
@@ -211,8 +174,8 @@ op_of op (t ∷ ts) rest e = by t.kind refl e
 pub held_of : (n : ℕ) (ts rest : List Token) → held_at ts ≡ Ok (n, rest) → (a : List Token) × Has AsWord ts a × Has (Name n) a rest
 unfolding held_at
 held_of n ts rest e =
-    let p = bind_ok (after_as ts) name_at (n, rest) e in
-    (p.0, as_of ts p.0 p.1, name_of n p.0 rest p.2)
+    let p = bind_ok (after_terminal terminal.As ts) name_at (n, rest) e in
+    (p.0, after_of terminal.As ts p.0 p.1, name_of n p.0 rest p.2)
 
 -- the mark behind a captured name, by whether another comes
 abbrev mark_behind : Bool → TokenKind
@@ -325,8 +288,8 @@ list_of names cs (t ∷ ts) rest e = by t.kind refl e
 pub captures_of : (names : List Text) (cs : List Captured) (ts rest : List Token) → captures_at names ts ≡ Ok (cs, rest) → SpellsCaptures names cs ts rest
 unfolding captures_at
 captures_of names cs ts rest e =
-    let s = bind_ok (after_open ts) (list_at names) (cs, rest) e in
-    (s.0, open_of ts s.0 s.1, list_of names cs s.0 rest s.2)
+    let s = bind_ok (after_terminal terminal.Open ts) (list_at names) (cs, rest) e in
+    (s.0, after_of terminal.Open ts s.0 s.1, list_of names cs s.0 rest s.2)
 
 -- a place begins with no opening mark
 path_opens : (names : List Text) (n : ℕ) (name : Text) (t : Token) (ts rest : List Token) → t.kind ≡ OpenBrace → SpellsPath names n name (t ∷ ts) rest → ⊥

@@ -4,13 +4,15 @@ use Rattle.std.specs.Prelude.{Result, Ok, Err, ⊤}
 use Rattle.fr_terms.specs.Terms.{Text, Spot, Captured, Term, let_t, box_t, print_t, join_t, mutex_t}
 use Rattle.fr_syntax.specs.Arena.{text_of}
 use Rattle.fr_syntax.specs.declared.kind.TokenKind.{TokenKind}
-use Rattle.fr_syntax.specs.declared.kind.TokenKind.TheVariants.{Name, Number, LetWord, MutWord, BoxWord, PrintWord, SpawnWord, JoinWord, ParWord, MutexWord, LockWord, AsWord, DupWord, OpenBrace, CloseBrace, OpenParen, CloseParen, Semicolon, Comma, Equals, Amp, Star, Plus, Minus}
+use Rattle.fr_syntax.specs.declared.kind.TokenKind.TheVariants.{Name, Number, LetWord, MutWord, BoxWord, PrintWord, SpawnWord, JoinWord, ParWord, MutexWord, LockWord, DupWord, OpenBrace, CloseBrace, OpenParen, CloseParen, Semicolon, Comma, Equals, Amp, Star, Plus, Minus}
 use Rattle.fr_syntax.specs.declared.token.Token.{Token}
 use Rattle.fr_parse.specs.declared.fault.ParseError.{ParseError}
-use Rattle.fr_parse.specs.declared.fault.ParseError.TheVariants.{TooDeep}
+use Rattle.fr_parse.specs.declared.fault.ParseError.TheVariants.{Syntax, TooDeep}
+use Rattle.fr_parse.specs.declared.marks.Terminal.{Terminal}
+use Rattle.fr_parse.specs.declared.marks.Terminal.TheVariants as terminal
 use Rattle.fr_parse.specs.declared.marks.Next.{Next}
 use Rattle.fr_parse.specs.declared.marks.Next.TheVariants.{Close, LastUnit, More}
-use Rattle.fr_parse.specs.Reading.{◌>>=◌, Read, place_of, mut_kind, after_mut, name_kind, name_at, equals_kind, after_equals, bound_at, stars_of, spot_at, turned_kind, turned_at, borrow_kind, borrow_at, leaf_kind, leaf_at, op_kind, op_at, close_kind, after_close, as_kind, after_as, held_at, open_kind, after_open, comma_kind, comma_at, capture_at, capture_next, after_capture, captured_at, list_kind, list_at, captures_at, semicolon_kind, next_kind, next_at, item_next, after_item, items_at, block_kind, block_at, rest_kind, rest_at, placed_at, arith_at, inner_kind, inner_at, body_kind, body_at, branch_at, spawn_at, par_at, lock_at, term_kind, any_kind, any_at}
+use Rattle.fr_parse.specs.Reading.{◌>>=◌, Read, place_of, is_terminal, after_terminal, name_kind, name_at, bound_at, stars_of, spot_at, turned_kind, turned_at, borrow_kind, borrow_at, leaf_kind, leaf_at, op_kind, op_at, held_at, comma_kind, comma_at, capture_at, capture_next, after_capture, captured_at, list_kind, list_at, captures_at, semicolon_kind, next_kind, next_at, item_next, after_item, items_at, block_kind, block_at, rest_kind, rest_at, placed_at, arith_at, inner_kind, inner_at, body_kind, body_at, branch_at, spawn_at, par_at, lock_at, term_kind, any_kind, any_at}
 
 -- this is true of what is read
 abbrev pub OfRead : {X : Type 0} → (X → Type 0) → Result X ParseError → Type 0
@@ -36,55 +38,15 @@ then_few (Err fault) f P Q p next = tt
 pub of_ok : {X : Type 0} (P : X → Type 0) (r : Result X ParseError) (x : X) → OfRead P r → r ≡ Ok x → P x
 of_ok P r x p e = subst (OfRead P) e p
 
--- `mut`
-mut_few : (n : ℕ) (ts : List Token) → Few n ts → OfRead (Few n) (after_mut ts)
-unfolding after_mut
-mut_few n [] h = tt
-mut_few n (t ∷ ts) h = by t.kind
+-- one token
+after_few : (expected : Terminal) (n : ℕ) (ts : List Token) → Few n ts → OfRead (Few n) (after_terminal expected ts)
+unfolding after_terminal
+after_few expected n [] h = tt
+after_few expected n (t ∷ ts) h = by (is_terminal expected t.kind)
   where
-    by : (kind : TokenKind) → OfRead (Few n) (mut_kind kind t.start ts)
-    by MutWord = omega arith
-    by kind = tt
-
--- `=`
-equals_few : (n : ℕ) (ts : List Token) → Few n ts → OfRead (Few n) (after_equals ts)
-unfolding after_equals
-equals_few n [] h = tt
-equals_few n (t ∷ ts) h = by t.kind
-  where
-    by : (kind : TokenKind) → OfRead (Few n) (equals_kind kind t.start ts)
-    by Equals = omega arith
-    by kind = tt
-
--- `)`
-close_few : (n : ℕ) (ts : List Token) → Few n ts → OfRead (Few n) (after_close ts)
-unfolding after_close
-close_few n [] h = tt
-close_few n (t ∷ ts) h = by t.kind
-  where
-    by : (kind : TokenKind) → OfRead (Few n) (close_kind kind t.start ts)
-    by CloseParen = omega arith
-    by kind = tt
-
--- `as`
-as_few : (n : ℕ) (ts : List Token) → Few n ts → OfRead (Few n) (after_as ts)
-unfolding after_as
-as_few n [] h = tt
-as_few n (t ∷ ts) h = by t.kind
-  where
-    by : (kind : TokenKind) → OfRead (Few n) (as_kind kind t.start ts)
-    by AsWord = omega arith
-    by kind = tt
-
--- `(`
-open_few : (n : ℕ) (ts : List Token) → Few n ts → OfRead (Few n) (after_open ts)
-unfolding after_open
-open_few n [] h = tt
-open_few n (t ∷ ts) h = by t.kind
-  where
-    by : (kind : TokenKind) → OfRead (Few n) (open_kind kind t.start ts)
-    by OpenParen = omega arith
-    by kind = tt
+    by : (b : Bool) → OfRead (Few n) (cond b (Ok ts) (Err (Syntax t.start)))
+    by true = omega arith
+    by false = tt
 
 -- a name takes a token
 name_few : (n : ℕ) (ts : List Token) → Few (suc n) ts → OfRead (FewBehind n) (name_at ts)
@@ -133,14 +95,14 @@ comma_few n (t ∷ ts) h = by t.kind
 bound_few : (n : ℕ) (ts : List Token) → Few n ts → OfRead (FewBehind n) (bound_at ts)
 unfolding bound_at
 bound_few n ts h =
-    then_few (after_mut ts) _ (Few n) (FewBehind n) (mut_few n ts h)
+    then_few (after_terminal terminal.Mut ts) _ (Few n) (FewBehind n) (after_few terminal.Mut n ts h)
     (λ a p. then_few (name_at a) _ (FewBehind n) (FewBehind n) (name_few n a (omega arith))
-    (λ b q. then_few (after_equals b.1) _ (Few n) (FewBehind n) (equals_few n b.1 q) (λ c r. r)))
+    (λ b q. then_few (after_terminal terminal.Equals b.1) _ (Few n) (FewBehind n) (after_few terminal.Equals n b.1 q) (λ c r. r)))
 
 -- the name of a `lock`
 held_few : (n : ℕ) (ts : List Token) → Few n ts → OfRead (FewBehind n) (held_at ts)
 unfolding held_at
-held_few n ts h = then_few (after_as ts) name_at (Few n) (FewBehind n) (as_few n ts h) (λ a p. name_few n a (omega arith))
+held_few n ts h = then_few (after_terminal terminal.As ts) name_at (Few n) (FewBehind n) (after_few terminal.As n ts h) (λ a p. name_few n a (omega arith))
 
 -- without the first tokens there are no more
 drop_few : (n m : ℕ) (ts : List Token) → Few n ts → Few n (drop m ts)
@@ -212,7 +174,7 @@ captured_few names (suc k) n ts h =
 -- a capture list
 captures_few : (names : List Text) (n : ℕ) (ts : List Token) → Few n ts → OfRead (FewBehind n) (captures_at names ts)
 unfolding captures_at list_at
-captures_few names n ts h = then_few (after_open ts) (list_at names) (Few n) (FewBehind n) (open_few n ts h) by
+captures_few names n ts h = then_few (after_terminal terminal.Open ts) (list_at names) (Few n) (FewBehind n) (after_few terminal.Open n ts h) by
   where
     at_kind : (t : Token) (ts : List Token) (kind : TokenKind) → Few n (t ∷ ts) → OfRead (FewBehind n) (list_kind names kind ts (t ∷ ts))
     at_kind t ts CloseParen h = omega arith
@@ -297,7 +259,7 @@ module _ (names : List Text) (d : ℕ) (part : (b : Bool) (n : ℕ) (ts : List T
       then_few (any_at names d false ts) _ (FewBehind n) (FewBehind n) (part false n ts h)
       (λ a p. then_few (op_at a.1) _ (FewBehind n) (FewBehind n) (op_few n a.1 p)
       (λ o q. then_few (any_at names d false o.1) _ (FewBehind n) (FewBehind n) (part false n o.1 q)
-      (λ b r. then_few (after_close b.1) _ (Few n) (FewBehind n) (close_few n b.1 r) (λ rest s. s))))
+      (λ b r. then_few (after_terminal terminal.Close b.1) _ (Few n) (FewBehind n) (after_few terminal.Close n b.1 r) (λ rest s. s))))
 
   inner_few : (place n : ℕ) (ts : List Token) → Few n ts → OfRead (FewBehind n) (inner_at (any_at names d false) place ts)
   unfolding inner_at

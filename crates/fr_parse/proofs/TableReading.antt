@@ -7,8 +7,9 @@ use Rattle.fr_syntax.specs.declared.kind.TokenKind.{TokenKind}
 use Rattle.fr_syntax.specs.declared.kind.TokenKind.TheVariants.{Name, Number, MutWord, AsWord, OpenParen, CloseParen, Equals, Star, Plus}
 use Rattle.fr_syntax.specs.declared.token.Token.{Token}
 use Rattle.fr_parse.specs.declared.fault.ParseError.{ParseError}
-use Rattle.fr_parse.specs.declared.fault.ParseError.TheVariants.{TooDeep}
-use Rattle.fr_parse.specs.Reading.{◌>>=◌, Read, place_of, mut_kind, after_mut, name_kind, name_at, equals_kind, after_equals, bound_at, stars_of, spot_at, turned_kind, turned_at, borrow_kind, borrow_at, op_kind, op_at, close_kind, after_close, as_kind, after_as, held_at, open_kind, after_open}
+use Rattle.fr_parse.specs.declared.fault.ParseError.TheVariants.{Syntax, TooDeep}
+use Rattle.fr_parse.specs.declared.marks.Terminal.TheVariants as terminal
+use Rattle.fr_parse.specs.Reading.{◌>>=◌, Read, place_of, is_terminal, after_terminal, name_kind, name_at, bound_at, stars_of, spot_at, turned_kind, turned_at, borrow_kind, borrow_at, op_kind, op_at, held_at}
 use Rattle.fr_parse.specs.Table.{Symbol, op_s, borrow_s, place_s, captures_s, list_s, name_s, number_s, mut_s, as_s, equals_s, close_s, meets, refused_or, refusal_of}
 
 -- the first refusal: of what is read, or else of what comes behind it
@@ -37,52 +38,52 @@ then_read_so (Ok x) f middle go o e next = e ∙ next x refl
 then_read_so (Err fault) f middle go o e next = e
 
 -- `mut`
-pub mut_read : (ts : List Token) (k : List Symbol) → refusal_of ts (mut_s ∷ k) ≡ then_refused (tokens_behind k) (after_mut ts)
-unfolding after_mut
+pub mut_read : (ts : List Token) (k : List Symbol) → refusal_of ts (mut_s ∷ k) ≡ then_refused (tokens_behind k) (after_terminal terminal.Mut ts)
+unfolding after_terminal
 mut_read [] k = refl
 mut_read (t ∷ ts) k = by t.kind
   where
-    by : (kind : TokenKind) → refused_or (refusal_of ts) t.start (meets (mut_s ∷ k) kind) ≡ then_refused (tokens_behind k) (mut_kind kind t.start ts)
+    by : (kind : TokenKind) → refused_or (refusal_of ts) t.start (meets (mut_s ∷ k) kind) ≡ then_refused (tokens_behind k) (cond (is_terminal terminal.Mut kind) (Ok ts) (Err (Syntax t.start)))
     by MutWord = refl
     by kind = refl
 
 -- `=`
-pub equals_read : (ts : List Token) (k : List Symbol) → refusal_of ts (equals_s ∷ k) ≡ then_refused (tokens_behind k) (after_equals ts)
-unfolding after_equals
+pub equals_read : (ts : List Token) (k : List Symbol) → refusal_of ts (equals_s ∷ k) ≡ then_refused (tokens_behind k) (after_terminal terminal.Equals ts)
+unfolding after_terminal
 equals_read [] k = refl
 equals_read (t ∷ ts) k = by t.kind
   where
-    by : (kind : TokenKind) → refused_or (refusal_of ts) t.start (meets (equals_s ∷ k) kind) ≡ then_refused (tokens_behind k) (equals_kind kind t.start ts)
+    by : (kind : TokenKind) → refused_or (refusal_of ts) t.start (meets (equals_s ∷ k) kind) ≡ then_refused (tokens_behind k) (cond (is_terminal terminal.Equals kind) (Ok ts) (Err (Syntax t.start)))
     by Equals = refl
     by kind = refl
 
 -- `)`
-pub close_read : (ts : List Token) (k : List Symbol) → refusal_of ts (close_s ∷ k) ≡ then_refused (tokens_behind k) (after_close ts)
-unfolding after_close
+pub close_read : (ts : List Token) (k : List Symbol) → refusal_of ts (close_s ∷ k) ≡ then_refused (tokens_behind k) (after_terminal terminal.Close ts)
+unfolding after_terminal
 close_read [] k = refl
 close_read (t ∷ ts) k = by t.kind
   where
-    by : (kind : TokenKind) → refused_or (refusal_of ts) t.start (meets (close_s ∷ k) kind) ≡ then_refused (tokens_behind k) (close_kind kind t.start ts)
+    by : (kind : TokenKind) → refused_or (refusal_of ts) t.start (meets (close_s ∷ k) kind) ≡ then_refused (tokens_behind k) (cond (is_terminal terminal.Close kind) (Ok ts) (Err (Syntax t.start)))
     by CloseParen = refl
     by kind = refl
 
 -- `as`
-pub as_read : (ts : List Token) (k : List Symbol) → refusal_of ts (as_s ∷ k) ≡ then_refused (tokens_behind k) (after_as ts)
-unfolding after_as
+pub as_read : (ts : List Token) (k : List Symbol) → refusal_of ts (as_s ∷ k) ≡ then_refused (tokens_behind k) (after_terminal terminal.As ts)
+unfolding after_terminal
 as_read [] k = refl
 as_read (t ∷ ts) k = by t.kind
   where
-    by : (kind : TokenKind) → refused_or (refusal_of ts) t.start (meets (as_s ∷ k) kind) ≡ then_refused (tokens_behind k) (as_kind kind t.start ts)
+    by : (kind : TokenKind) → refused_or (refusal_of ts) t.start (meets (as_s ∷ k) kind) ≡ then_refused (tokens_behind k) (cond (is_terminal terminal.As kind) (Ok ts) (Err (Syntax t.start)))
     by AsWord = refl
     by kind = refl
 
 -- `(` before a capture list
-pub open_read : (ts : List Token) (k : List Symbol) → refusal_of ts (captures_s ∷ k) ≡ then_refused (tokens_behind (list_s ∷ k)) (after_open ts)
-unfolding after_open
+pub open_read : (ts : List Token) (k : List Symbol) → refusal_of ts (captures_s ∷ k) ≡ then_refused (tokens_behind (list_s ∷ k)) (after_terminal terminal.Open ts)
+unfolding after_terminal
 open_read [] k = refl
 open_read (t ∷ ts) k = by t.kind
   where
-    by : (kind : TokenKind) → refused_or (refusal_of ts) t.start (meets (captures_s ∷ k) kind) ≡ then_refused (tokens_behind (list_s ∷ k)) (open_kind kind t.start ts)
+    by : (kind : TokenKind) → refused_or (refusal_of ts) t.start (meets (captures_s ∷ k) kind) ≡ then_refused (tokens_behind (list_s ∷ k)) (cond (is_terminal terminal.Open kind) (Ok ts) (Err (Syntax t.start)))
     by OpenParen = refl
     by kind = refl
 
@@ -120,14 +121,14 @@ op_read (t ∷ ts) k = by t.kind
 pub bound_read : (ts : List Token) (k : List Symbol) → refusal_of ts (mut_s ∷ name_s ∷ equals_s ∷ k) ≡ then_refused (behind k) (bound_at ts)
 unfolding bound_at
 bound_read ts k =
-    then_read (after_mut ts) _ (tokens_behind (name_s ∷ equals_s ∷ k)) (behind k) _ (mut_read ts (name_s ∷ equals_s ∷ k))
+    then_read (after_terminal terminal.Mut ts) _ (tokens_behind (name_s ∷ equals_s ∷ k)) (behind k) _ (mut_read ts (name_s ∷ equals_s ∷ k))
     (λ a. then_read (name_at a) _ (behind (equals_s ∷ k)) (behind k) _ (name_read a (equals_s ∷ k))
-    (λ b. then_read (after_equals b.1) _ (tokens_behind k) (behind k) _ (equals_read b.1 k) (λ c. refl)))
+    (λ b. then_read (after_terminal terminal.Equals b.1) _ (tokens_behind k) (behind k) _ (equals_read b.1 k) (λ c. refl)))
 
 -- `as` and a name
 pub held_read : (ts : List Token) (k : List Symbol) → refusal_of ts (as_s ∷ name_s ∷ k) ≡ then_refused (behind k) (held_at ts)
 unfolding held_at
-held_read ts k = then_read (after_as ts) name_at (tokens_behind (name_s ∷ k)) (behind k) _ (as_read ts (name_s ∷ k)) (λ a. name_read a k)
+held_read ts k = then_read (after_terminal terminal.As ts) name_at (tokens_behind (name_s ∷ k)) (behind k) _ (as_read ts (name_s ∷ k)) (λ a. name_read a k)
 
 -- what comes behind a place of these tokens, where so many stars come and so many may
 abbrev pub spot_or : List Symbol → List Token → ℕ → ℕ → Bool → Option ParseError

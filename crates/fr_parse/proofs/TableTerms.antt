@@ -10,10 +10,10 @@ use Rattle.fr_syntax.specs.declared.token.Token.{Token}
 use Rattle.fr_parse.specs.declared.fault.ParseError.{ParseError}
 use Rattle.fr_parse.specs.declared.fault.ParseError.TheVariants.{Syntax, TooDeep}
 use Rattle.fr_parse.specs.declared.marks.Next.{Next}
+use Rattle.fr_parse.specs.declared.marks.Terminal.TheVariants as terminal
 use Rattle.fr_parse.specs.declared.marks.Next.TheVariants.{Close, LastUnit, More}
-use Rattle.fr_parse.specs.Reading.{◌>>=◌, name_at, bound_at, spot_at, turned_at, leaf_at, op_at, after_close, held_at, after_open, comma_kind, comma_at, capture_at, capture_next, after_capture, captured_at, list_kind, list_at, captures_at, begins_kind, deep_at, semicolon_kind, next_kind, next_at, item_next, after_item, items_at, block_kind, block_at, rest_kind, rest_at, placed_at, arith_at, inner_kind, inner_at, body_kind, body_at, branch_at, spawn_at, par_at, lock_at, term_kind, any_kind, any_at, end_kind, ended_at, program_at}
+use Rattle.fr_parse.specs.Reading.{◌>>=◌, name_at, bound_at, spot_at, turned_at, leaf_at, op_at, after_terminal, held_at, comma_kind, comma_at, capture_at, capture_next, after_capture, captured_at, list_kind, list_at, captures_at, begins_kind, deep_at, semicolon_kind, next_kind, next_at, item_next, after_item, items_at, block_kind, block_at, rest_kind, rest_at, placed_at, arith_at, inner_kind, inner_at, body_kind, body_at, branch_at, spawn_at, par_at, lock_at, term_kind, any_kind, any_at, end_kind, ended_at, program_at}
 use Rattle.fr_parse.specs.Table.{Symbol, block_s, items_s, more_s, term_s, rest_s, inner_s, op_s, place_s, captures_s, list_s, next_s, name_s, mut_s, as_s, equals_s, close_s, end_s, term_entry, item_entry, and_then, goes_on, met, meets, refused_or, refusal_of, refusal}
-use Rattle.fr_parse.specs.Refusals.{fault_of}
 use Rattle.fr_parse.proofs.TableLengths.{FewBehind, FewLast, OfRead, of_ok, then_few, capture_few, next_few, any_fewer}
 use Rattle.fr_parse.proofs.TableReading.{then_refused, tokens_behind, behind, behind_both, then_read, then_read_so, close_read, open_read, name_read, turned_read, op_read, bound_read, held_read, spot_read, borrow_read}
 
@@ -89,7 +89,7 @@ list_read names (t ∷ ts) k = by t.kind t.start t.end
 -- a capture list
 captures_read : (names : List Text) (ts : List Token) (k : List Symbol) → refusal_of ts (captures_s ∷ k) ≡ then_refused (behind k) (captures_at names ts)
 unfolding captures_at
-captures_read names ts k = then_read (after_open ts) (list_at names) (tokens_behind (list_s ∷ k)) (behind k) _ (open_read ts k) (λ a. list_read names a k)
+captures_read names ts k = then_read (after_terminal terminal.Open ts) (list_at names) (tokens_behind (list_s ∷ k)) (behind k) _ (open_read ts k) (λ a. list_read names a k)
 
 -- a block without more items ends, whatever levels are left
 pub items_close : (d : ℕ) (k : List Symbol) → meets (items_s d ∷ k) CloseBrace ≡ goes_on k
@@ -282,7 +282,7 @@ module _ (names : List Text) (d : ℕ) (part : IsReadAt names d) where
       then_read (any_at names d false ts) _ (behind (op_s ∷ term_s d ∷ close_s ∷ k)) (behind k) _ first
       (λ a. then_read (op_at a.1) _ (behind (term_s d ∷ close_s ∷ k)) (behind k) _ (op_read a.1 (term_s d ∷ close_s ∷ k))
       (λ op. then_read (any_at names d false op.1) _ (behind (close_s ∷ k)) (behind k) _ (term_read op.1 (close_s ∷ k))
-      (λ b. then_read (after_close b.1) _ (tokens_behind k) (behind k) _ (close_read b.1 k) (λ rest. refl))))
+      (λ b. then_read (after_terminal terminal.Close b.1) _ (tokens_behind k) (behind k) _ (close_read b.1 k) (λ rest. refl))))
 
   -- the constant unit or arithmetic, behind its opening mark
   inner_read : (place : ℕ) (ts : List Token) (k : List Symbol) → refusal_of ts (inner_s d ∷ k) ≡ then_refused (behind k) (inner_at (any_at names d false) place ts)
@@ -403,6 +403,11 @@ end_read (u ∷ us) t = by us u.kind
     by [] End = refl
     by (v ∷ us) End = refl
     by us kind = refl
+
+-- the fault, where there is one
+abbrev pub fault_of : {X : Type 0} → Result X ParseError → Option ParseError
+fault_of (Ok x) = None
+fault_of (Err fault) = Some fault
 
 -- the first refusal of what is read is its fault
 fault_is : (r : Result Term ParseError) → then_refused nothing_more r ≡ fault_of r

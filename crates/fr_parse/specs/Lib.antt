@@ -2,7 +2,6 @@ pub mod Grammar
 pub mod Source
 pub mod Reading
 pub mod Growth
-pub mod Readable
 pub mod Table
 pub mod Canonical
 pub mod Written

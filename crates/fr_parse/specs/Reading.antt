@@ -10,6 +10,8 @@ use Rattle.fr_syntax.specs.declared.kind.TokenKind.TheVariants.{Name, Number, En
 use Rattle.fr_syntax.specs.declared.token.Token.{Token}
 use Rattle.fr_parse.specs.declared.fault.ParseError.{ParseError}
 use Rattle.fr_parse.specs.declared.fault.ParseError.TheVariants.{Syntax, TooDeep, NoMemory}
+use Rattle.fr_parse.specs.declared.marks.Terminal.{Terminal}
+use Rattle.fr_parse.specs.declared.marks.Terminal.TheVariants as terminal
 use Rattle.fr_parse.specs.declared.marks.Next.{Next}
 use Rattle.fr_parse.specs.declared.marks.Next.TheVariants.{Close, LastUnit, More}
 
@@ -36,32 +38,18 @@ abbrev pub place_of : List Token → ℕ
 place_of [] = 0
 place_of (t ∷ ts) = t.start
 
-abbrev pub mut_kind : TokenKind → ℕ → List Token → Result (List Token) ParseError
-mut_kind MutWord place rest = Ok rest
-mut_kind kind place rest = Err (Syntax place)
+abbrev pub is_terminal : Terminal → TokenKind → Bool
+is_terminal terminal.Mut MutWord = true
+is_terminal terminal.Equals Equals = true
+is_terminal terminal.Open OpenParen = true
+is_terminal terminal.Close CloseParen = true
+is_terminal terminal.As AsWord = true
+is_terminal other kind = false
 
--- the tokens behind `mut`
-unfoldable pub after_mut : List Token → Result (List Token) ParseError
-after_mut [] = Err (Syntax 0)
-after_mut (t ∷ ts) = mut_kind t.kind t.start ts
-
-abbrev pub equals_kind : TokenKind → ℕ → List Token → Result (List Token) ParseError
-equals_kind Equals place rest = Ok rest
-equals_kind kind place rest = Err (Syntax place)
-
--- the tokens behind `=`
-unfoldable pub after_equals : List Token → Result (List Token) ParseError
-after_equals [] = Err (Syntax 0)
-after_equals (t ∷ ts) = equals_kind t.kind t.start ts
-
-abbrev pub close_kind : TokenKind → ℕ → List Token → Result (List Token) ParseError
-close_kind CloseParen place rest = Ok rest
-close_kind kind place rest = Err (Syntax place)
-
--- the tokens behind `)`
-unfoldable pub after_close : List Token → Result (List Token) ParseError
-after_close [] = Err (Syntax 0)
-after_close (t ∷ ts) = close_kind t.kind t.start ts
+-- the tokens behind this terminal, which has to come first
+unfoldable pub after_terminal : Terminal → List Token → Result (List Token) ParseError
+after_terminal expected [] = Err (Syntax 0)
+after_terminal expected (t ∷ ts) = if is_terminal expected t.kind then Ok ts else Err (Syntax t.start)
 
 abbrev pub name_kind : TokenKind → ℕ → List Token → Read ℕ
 name_kind (Name n) place rest = Ok (n, rest)
@@ -74,7 +62,7 @@ name_at (t ∷ ts) = name_kind t.kind t.start ts
 
 -- the name of a `let`, behind that word and up to the `=`
 unfoldable pub bound_at : List Token → Read ℕ
-bound_at ts = after_mut ts >>= λ a. name_at a >>= λ b. after_equals b.1 >>= λ c. Ok (b.0, c)
+bound_at ts = after_terminal terminal.Mut ts >>= λ a. name_at a >>= λ b. after_terminal terminal.Equals b.1 >>= λ c. Ok (b.0, c)
 
 abbrev pub is_star : TokenKind → Bool
 is_star Star = true
@@ -131,27 +119,9 @@ unfoldable pub op_at : List Token → Read Op
 op_at [] = Err (Syntax 0)
 op_at (t ∷ ts) = op_kind t.kind t.start ts
 
-abbrev pub as_kind : TokenKind → ℕ → List Token → Result (List Token) ParseError
-as_kind AsWord place rest = Ok rest
-as_kind kind place rest = Err (Syntax place)
-
--- the tokens behind `as`
-unfoldable pub after_as : List Token → Result (List Token) ParseError
-after_as [] = Err (Syntax 0)
-after_as (t ∷ ts) = as_kind t.kind t.start ts
-
 -- the number of the name of a `lock`, behind `as`
 unfoldable pub held_at : List Token → Read ℕ
-held_at ts = after_as ts >>= name_at
-
-abbrev pub open_kind : TokenKind → ℕ → List Token → Result (List Token) ParseError
-open_kind OpenParen place rest = Ok rest
-open_kind kind place rest = Err (Syntax place)
-
--- the tokens behind `(`
-unfoldable pub after_open : List Token → Result (List Token) ParseError
-after_open [] = Err (Syntax 0)
-after_open (t ∷ ts) = open_kind t.kind t.start ts
+held_at ts = after_terminal terminal.As ts >>= name_at
 
 abbrev pub comma_kind : TokenKind → ℕ → List Token → Read Bool
 comma_kind Comma place rest = Ok (true, rest)
@@ -191,7 +161,7 @@ list_at names (t ∷ ts) = list_kind names t.kind ts (t ∷ ts)
 
 -- a capture list with its marks
 unfoldable pub captures_at : List Text → List Token → Read (List Captured)
-captures_at names ts = after_open ts >>= list_at names
+captures_at names ts = after_terminal terminal.Open ts >>= list_at names
 
 -- a term begins with such a token
 abbrev pub begins_term : TokenKind → Bool
@@ -286,7 +256,7 @@ placed_at names read_term ts = spot_at names ts >>= λ w. rest_at read_term w.0 
 -- a sum, difference or product, behind its opening mark
 unfoldable pub arith_at : (List Token → Read Term) → ℕ → List Token → Read Term
 arith_at read_term place ts =
-    read_term ts >>= λ a. op_at a.1 >>= λ op. read_term op.1 >>= λ b. after_close b.1 >>= λ rest. Ok (arith_t place op.0 a.0 b.0, rest)
+    read_term ts >>= λ a. op_at a.1 >>= λ op. read_term op.1 >>= λ b. after_terminal terminal.Close b.1 >>= λ rest. Ok (arith_t place op.0 a.0 b.0, rest)
 
 abbrev pub inner_kind : (List Token → Read Term) → ℕ → TokenKind → List Token → List Token → Read Term
 inner_kind read_term place CloseParen after all = Ok (unit_t place, after)

@@ -1,5 +1,5 @@
 -- What the first refusal of tokens means (this project's rule), said by the grammar.
-use Rattle.std.specs.Prelude.{◌≡◌, ℕ, zero, suc, ◌<◌, nat_le, IsTrue, true, List, [], ◌∷◌, ◌++◌, drop, Option, Some, None, Result, Ok, Err, if◌then◌else◌}
+use Rattle.std.specs.Prelude.{◌≡◌, ℕ, zero, suc, ◌<◌, nat_le, IsTrue, true, List, [], ◌∷◌, ◌++◌, drop, Option, Some, None, if◌then◌else◌}
 use Rattle.fr_terms.specs.Terms.{Text, Spot, Term, block_t, let_t, assign_t, read_t, borrow_t, borrow_mut_t, number_t, unit_t, box_t, print_t, arith_t, join_t, mutex_t, dup_t, lock_t, spawn_t, par_t, Items, none, item, start_of}
 use Rattle.fr_syntax.specs.declared.token.Token.{Token}
 use Rattle.fr_parse.specs.declared.fault.ParseError.{ParseError}
@@ -7,11 +7,6 @@ use Rattle.fr_parse.specs.declared.fault.ParseError.TheVariants.{TooDeep}
 use Rattle.fr_parse.specs.Grammar.{IsAt, IsProgram}
 use Rattle.fr_parse.specs.Source.{Spelled}
 use Rattle.fr_parse.specs.Reading.{place_of, stars_of, begins_kind}
-
--- the fault, where there is one
-abbrev pub fault_of : {X : Type 0} → Result X ParseError → Option ParseError
-fault_of (Ok x) = None
-fault_of (Err fault) = Some fault
 
 -- some tokens behind these make them a program of the grammar, within the limits or not
 abbrev pub IsFront : List Text → List Token → Type 0

@@ -4,23 +4,17 @@ ghost use Rattle.std.specs.Prelude.{◌≡◌, ◌≢◌, ◌↔◌, ℕ, List, 
 ghost use Rattle.fr_terms.specs.Limits.{IsWithinLimits};
 ghost use Rattle.fr_terms.specs.Terms.{Text, Term};
 ghost use Rattle.fr_parse.specs.Grammar.{IsProgram};
-ghost use Rattle.fr_parse.specs.Reading.{program_at};
-ghost use Rattle.fr_parse.specs.Refusals.{fault_of, first_over, IsFirstWithout, IsFirstTooDeep, IsRefusalOf};
+ghost use Rattle.fr_parse.specs.Refusals.{first_over, IsFirstWithout, IsFirstTooDeep, IsRefusalOf};
 ghost use Rattle.fr_parse.specs.Source.{Spelled, IsSource};
 ghost use Rattle.fr_parse.specs.Table.{refusal};
 ghost use Rattle.fr_parse.specs.declared.fault.ParseError.TheVariants.{Syntax, TooDeep, NoMemory};
-ghost use Rattle.fr_parse.specs.declared.fault.ParseError.{ParseError};
 ghost use Rattle.fr_syntax.specs.TokenList.{EndsOnce};
 ghost use Rattle.fr_syntax.specs.Tokens.{AreTokens, IsRefused};
 ghost use Rattle.fr_syntax.specs.declared.token.Token.{Token};
 ghost use Rattle.fr_syntax.specs.declared.token.TokenError.{TokenError};
 
-/// Reading gives exactly the programs that tokens spell, so it refuses exactly the tokens that spell none, and tokens and
-/// sources spell one program at most.
+/// Tokens spell one program at most, and bytes are the text of one program at most.
 pub fn one_program()
-    ensures sound { (names : List Text) (ts : List Token) (t : Term) → program_at names ts ≡ Ok t → Spelled names ts t }
-    ensures complete { (names : List Text) (ts : List Token) (t : Term) → Spelled names ts t → program_at names ts ≡ Ok t }
-    ensures refused { (names : List Text) (ts : List Token) (fault : ParseError) (t : Term) → program_at names ts ≡ Err fault → ¬ (Spelled names ts t) }
     ensures once { (names : List Text) (ts : List Token) (t u : Term) → Spelled names ts t → Spelled names ts u → t ≡ u }
     ensures source { (bytes : List ℕ) (t u : Term) → IsSource bytes t → IsSource bytes u → t ≡ u }
 {}
@@ -31,12 +25,12 @@ pub fn no_program()
     ensures grammar { (bytes : List ℕ) (ts : List Token) (names : List Text) → AreTokens bytes ts names → ((t : Term) → ¬ (Spelled names ts t)) → (t : Term) → ¬ (IsSource bytes t) }
 {}
 
-/// Reading stops at the first token for which the table of the language has no entry, or which is too deep, and nowhere where the
-/// tokens spell a program within the limits. A token is refused for its syntax where programs of the grammar go on with the tokens
-/// before it, and none with it; for its depth where programs go on with it, but none within the limits. A program of the grammar
-/// that breaks the limits is refused where it first does: at a term or an item of depth 65, or at the ninth star of a place.
+/// The first refusal of tokens is at the first for which the table of the language has no entry, or which is too deep; there is
+/// none exactly where the tokens spell a program within the limits. A token is refused for its syntax where programs of the
+/// grammar go on with the tokens before it, and none with it; for its depth where programs go on with it, but none within the
+/// limits. A program of the grammar that breaks the limits is refused where it first does: at a term or an item of depth 65, or
+/// at the ninth star of a place.
 pub fn first_refusal()
-    ensures reading { (names : List Text) (ts : List Token) → refusal ts ≡ fault_of (program_at names ts) }
     ensures none { (names : List Text) (ts : List Token) → (refusal ts ≡ None) ↔ ((t : Term) × Spelled names ts t) }
     ensures memory { (ts : List Token) → refusal ts ≢ Some NoMemory }
     ensures syntax { (names : List Text) (ts : List Token) (place : ℕ) → EndsOnce ts → refusal ts ≡ Some (Syntax place) → IsFirstWithout names ts place }

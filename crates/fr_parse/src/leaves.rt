@@ -1,22 +1,23 @@
 //! Places, captured names, and the terms without a term inside.
 
-ghost use Rattle.std.specs.Prelude.{◌≡◌, ℕ, suc, ◌+◌, ◌*◌, ◌<◌, ◌≤◌, ◌^◌, length, IfOk, IfErr};
+ghost use Rattle.std.specs.Prelude.{◌≡◌, ℕ, suc, ◌+◌, ◌*◌, ◌<◌, ◌≤◌, length, IfOk, IfErr};
 ghost use Rattle.fr_terms.specs.Terms.{unit_t};
 ghost use Rattle.fr_syntax.specs.Arena.{Arena};
 ghost use Rattle.fr_syntax.specs.Meanings.{meanings, meaning_at, as_capture, term_at, place_at, captures_at as captures_of, term_s, place_s, capture_s, all_need};
 ghost use Rattle.fr_parse.specs.Growth.{IsGrown, AreGrown};
-ghost use Rattle.fr_parse.specs.Readable.{AreReadable};
+ghost use Rattle.fr_syntax.specs.TokenList.{AreReadable};
+ghost use Rattle.fr_syntax.specs.Bounds.{most_numbered};
 ghost use Rattle.fr_parse.specs.Reading.{Gives, place_of, leaf_at, borrow_at, spot_at, capture_at, capture_next, captured_at, list_at, captures_at};
 
 use crate::fault::ParseError;
-use crate::marks::{after_open, comma_at, name_at, place_of, stars_of, turned_at};
+use crate::marks::{Terminal, comma_at, expect, name_at, place_of, stars_of, turned_at};
 use fr_syntax::{Nodes, Term, Token, TokenKind, Tree};
 use std::alloc::Global;
 
 /// The constant unit.
 #[tactic(auto, using(crate::proofs::GrowthLemmas::grown_leaf))]
 pub(crate) fn unit(tree: &mut Tree, place: u32) -> Result<u32, ParseError>
-    requires { length (meanings tree.old) < 2 ^ 28 }
+    requires { length (meanings tree.old) < most_numbered }
     ensures value { IfOk result (λ n. term_at (meanings tree.new) n ≡ unit_t place) }
     ensures node { IfOk result (λ n. IsGrown term_s tree.old tree.new n) }
     ensures one { IfOk result (λ n. length (meanings tree.new) ≡ length (meanings tree.old) + 1) }
@@ -31,7 +32,7 @@ pub(crate) fn leaf<'a>(
     tree: &mut Tree,
     tokens: &'a [Token],
 ) -> Result<(u32, &'a [Token]), ParseError>
-    requires room { length (meanings tree.old) + 2 * length tokens.now < 2 ^ 28 }
+    requires room { length (meanings tree.old) + 2 * length tokens.now < most_numbered }
     requires readable { AreReadable (length tree.old.names) tokens.now }
     ensures value { Gives (λ x. (term_at (meanings tree.new) x.0, x.1.now)) result (leaf_at tree.old.names tokens.now) }
     ensures node { IfOk result (λ x. IsGrown term_s tree.old tree.new x.0) }
@@ -65,7 +66,7 @@ fn borrow<'a>(
     place: u32,
     tokens: &'a [Token],
 ) -> Result<(u32, &'a [Token]), ParseError>
-    requires room { length (meanings tree.old) + 2 * length tokens.now + 2 < 2 ^ 28 }
+    requires room { length (meanings tree.old) + 2 * length tokens.now + 2 < most_numbered }
     requires readable { AreReadable (length tree.old.names) tokens.now }
     ensures value { Gives (λ x. (term_at (meanings tree.new) x.0, x.1.now)) result (borrow_at tree.old.names place tokens.now) }
     ensures node { IfOk result (λ x. IsGrown term_s tree.old tree.new x.0) }
@@ -94,7 +95,7 @@ pub(crate) fn spot<'a>(
     tree: &mut Tree,
     tokens: &'a [Token],
 ) -> Result<(u32, &'a [Token]), ParseError>
-    requires room { length (meanings tree.old) + 2 * length tokens.now < 2 ^ 28 }
+    requires room { length (meanings tree.old) + 2 * length tokens.now < most_numbered }
     requires readable { AreReadable (length tree.old.names) tokens.now }
     ensures value { Gives (λ x. (place_at (meanings tree.new) x.0, x.1.now)) result (spot_at tree.old.names tokens.now) }
     ensures at { IfOk result (λ x. (place_at (meanings tree.new) x.0).at ≡ place_of tokens.now) }
@@ -117,7 +118,7 @@ pub(crate) fn spot<'a>(
 // A captured name, and whether another comes.
 #[tactic(auto, using(crate::proofs::GrowthLemmas::grown_leaf), unfolding(crate::specs::Reading::capture_at, crate::specs::Reading::capture_next))]
 fn capture<'a>(tree: &mut Tree, tokens: &'a [Token]) -> Result<(u32, bool, &'a [Token]), ParseError>
-    requires room { length (meanings tree.old) + 2 * length tokens.now < 2 ^ 28 }
+    requires room { length (meanings tree.old) + 2 * length tokens.now < most_numbered }
     requires readable { AreReadable (length tree.old.names) tokens.now }
     ensures value { Gives (λ x. (as_capture (meaning_at (meanings tree.new) x.0).what, x.1, x.2.now)) result (capture_next tree.old.names tokens.now) }
     ensures node { IfOk result (λ x. IsGrown capture_s tree.old tree.new x.0) }
@@ -137,7 +138,7 @@ fn captured<'a>(
     tree: &mut Tree,
     tokens: &'a [Token],
 ) -> Result<(Nodes, &'a [Token]), ParseError>
-    requires room { length (meanings tree.old) + 2 * length tokens.now < 2 ^ 28 }
+    requires room { length (meanings tree.old) + 2 * length tokens.now < most_numbered }
     requires readable { AreReadable (length tree.old.names) tokens.now }
     ensures value { Gives (λ x. (captures_of (meanings tree.new) x.0.items, x.1.now)) result (captured_at tree.old.names (suc (length tokens.now)) tokens.now) }
     ensures nodes { IfOk result (λ x. AreGrown tree.old tree.new (all_need capture_s x.0.items)) }
@@ -164,7 +165,7 @@ fn list<'a>(
     tree: &mut Tree,
     tokens: &'a [Token],
 ) -> Result<(Nodes, &'a [Token]), ParseError>
-    requires room { length (meanings tree.old) + 2 * length tokens.now < 2 ^ 28 }
+    requires room { length (meanings tree.old) + 2 * length tokens.now < most_numbered }
     requires readable { AreReadable (length tree.old.names) tokens.now }
     ensures value { Gives (λ x. (captures_of (meanings tree.new) x.0.items, x.1.now)) result (list_at tree.old.names tokens.now) }
     ensures nodes { IfOk result (λ x. AreGrown tree.old tree.new (all_need capture_s x.0.items)) }
@@ -188,7 +189,7 @@ pub(crate) fn captures<'a>(
     tree: &mut Tree,
     tokens: &'a [Token],
 ) -> Result<(Nodes, &'a [Token]), ParseError>
-    requires room { length (meanings tree.old) + 2 * length tokens.now < 2 ^ 28 }
+    requires room { length (meanings tree.old) + 2 * length tokens.now < most_numbered }
     requires readable { AreReadable (length tree.old.names) tokens.now }
     ensures value { Gives (λ x. (captures_of (meanings tree.new) x.0.items, x.1.now)) result (captures_at tree.old.names tokens.now) }
     ensures nodes { IfOk result (λ x. AreGrown tree.old tree.new (all_need capture_s x.0.items)) }
@@ -196,6 +197,6 @@ pub(crate) fn captures<'a>(
     ensures fewer { IfOk result (λ x. length x.1.now < length tokens.now) }
     ensures readable { IfOk result (λ x. AreReadable (length tree.old.names) x.1.now) }
 {
-    let rest = after_open(tokens)?;
+    let rest = expect(tokens, Terminal::Open)?;
     list(alloc, tree, rest)
 }

@@ -3,12 +3,22 @@
 ghost use Rattle.std.specs.Prelude.{◌≡◌, ℕ, ◌+◌, ◌≤◌, ◌<◌, length, IfOk};
 ghost use Rattle.fr_terms.specs.Terms.{Text, Spot, Term};
 ghost use Rattle.fr_syntax.specs.Arena.{text_of};
-ghost use Rattle.fr_parse.specs.Readable.{AreReadable};
-ghost use Rattle.fr_parse.specs.Reading.{Gives, place_of, after_mut, after_equals, after_close, name_at, bound_at, is_star, stars_of, turned_at, op_at, after_as, held_at, after_open, comma_at, deep_at, next_at, used, ended_at};
+ghost use Rattle.fr_syntax.specs.TokenList.{AreReadable};
+ghost use Rattle.fr_parse.specs.Reading.{Gives, place_of, is_terminal, after_terminal, name_at, bound_at, is_star, stars_of, turned_at, op_at, held_at, comma_at, deep_at, next_at, used, ended_at};
 
 use crate::fault::ParseError;
 use fr_base::Op;
 use fr_syntax::{Token, TokenKind};
+
+/// A word or mark that has to come at its place in a term: `mut`, `=`, `(`, `)` and `as`.
+#[derive(Clone, Copy)]
+pub(crate) enum Terminal {
+    Mut,
+    Equals,
+    Open,
+    Close,
+    As,
+}
 
 /// What stands behind an item of a block.
 #[derive(Clone, Copy, Debug, PartialEq, Eq)]
@@ -31,51 +41,30 @@ pub(crate) fn place_of(tokens: &[Token]) -> u32
     }
 }
 
-/// The tokens behind `mut`.
-#[tactic(auto, unfolding(crate::specs::Reading::after_mut))]
-pub(crate) fn after_mut(tokens: &[Token]) -> Result<&[Token], ParseError>
-    ensures value { Gives (λ rest. rest.now) result (after_mut tokens.now) }
-    ensures one { IfOk result (λ rest. length rest.now + 1 ≡ length tokens.now) }
-    ensures readable { (n : ℕ) → AreReadable n tokens.now → IfOk result (λ rest. AreReadable n rest.now) }
+fn is_terminal(token: &Token, expected: Terminal) -> bool
+    ensures { result ≡ is_terminal expected token.now.kind }
 {
-    let [first, rest @ ..] = tokens else {
-        return Err(ParseError::Syntax { place: 0 });
-    };
-    match first.kind {
-        TokenKind::MutWord => Ok(rest),
-        _ => Err(ParseError::Syntax { place: first.start }),
+    match expected {
+        Terminal::Mut => matches!(token.kind, TokenKind::MutWord),
+        Terminal::Equals => matches!(token.kind, TokenKind::Equals),
+        Terminal::Open => matches!(token.kind, TokenKind::OpenParen),
+        Terminal::Close => matches!(token.kind, TokenKind::CloseParen),
+        Terminal::As => matches!(token.kind, TokenKind::AsWord),
     }
 }
 
-/// The tokens behind `=`.
-#[tactic(auto, unfolding(crate::specs::Reading::after_equals))]
-pub(crate) fn after_equals(tokens: &[Token]) -> Result<&[Token], ParseError>
-    ensures value { Gives (λ rest. rest.now) result (after_equals tokens.now) }
+/// The tokens behind this terminal, which has to come first.
+#[tactic(auto, unfolding(crate::specs::Reading::after_terminal))]
+pub(crate) fn expect(tokens: &[Token], expected: Terminal) -> Result<&[Token], ParseError>
+    ensures value { Gives (λ rest. rest.now) result (after_terminal expected tokens.now) }
     ensures one { IfOk result (λ rest. length rest.now + 1 ≡ length tokens.now) }
     ensures readable { (n : ℕ) → AreReadable n tokens.now → IfOk result (λ rest. AreReadable n rest.now) }
 {
-    let [first, rest @ ..] = tokens else {
-        return Err(ParseError::Syntax { place: 0 });
-    };
-    match first.kind {
-        TokenKind::Equals => Ok(rest),
-        _ => Err(ParseError::Syntax { place: first.start }),
-    }
-}
-
-/// The tokens behind `)`.
-#[tactic(auto, unfolding(crate::specs::Reading::after_close))]
-pub(crate) fn after_close(tokens: &[Token]) -> Result<&[Token], ParseError>
-    ensures value { Gives (λ rest. rest.now) result (after_close tokens.now) }
-    ensures one { IfOk result (λ rest. length rest.now + 1 ≡ length tokens.now) }
-    ensures readable { (n : ℕ) → AreReadable n tokens.now → IfOk result (λ rest. AreReadable n rest.now) }
-{
-    let [first, rest @ ..] = tokens else {
-        return Err(ParseError::Syntax { place: 0 });
-    };
-    match first.kind {
-        TokenKind::CloseParen => Ok(rest),
-        _ => Err(ParseError::Syntax { place: first.start }),
+    match tokens {
+        [first, rest @ ..] if is_terminal(first, expected) => Ok(rest),
+        _ => Err(ParseError::Syntax {
+            place: place_of(tokens),
+        }),
     }
 }
 
@@ -102,9 +91,9 @@ pub(crate) fn bound_at(tokens: &[Token]) -> Result<(u32, &[Token]), ParseError>
     ensures three { IfOk result (λ x. length x.1.now + 3 ≡ length tokens.now) }
     ensures readable { (n : ℕ) → AreReadable n tokens.now → IfOk result (λ x. (x.0 < n) × AreReadable n x.1.now) }
 {
-    let rest = after_mut(tokens)?;
+    let rest = expect(tokens, Terminal::Mut)?;
     let (name, rest) = name_at(rest)?;
-    let rest = after_equals(rest)?;
+    let rest = expect(rest, Terminal::Equals)?;
     Ok((name, rest))
 }
 
@@ -139,38 +128,6 @@ pub(crate) fn turned_at(tokens: &[Token]) -> Result<(i64, &[Token]), ParseError>
     }
 }
 
-/// The tokens behind `(`.
-#[tactic(auto, unfolding(crate::specs::Reading::after_open))]
-pub(crate) fn after_open(tokens: &[Token]) -> Result<&[Token], ParseError>
-    ensures value { Gives (λ rest. rest.now) result (after_open tokens.now) }
-    ensures one { IfOk result (λ rest. length rest.now + 1 ≡ length tokens.now) }
-    ensures readable { (n : ℕ) → AreReadable n tokens.now → IfOk result (λ rest. AreReadable n rest.now) }
-{
-    let [first, rest @ ..] = tokens else {
-        return Err(ParseError::Syntax { place: 0 });
-    };
-    match first.kind {
-        TokenKind::OpenParen => Ok(rest),
-        _ => Err(ParseError::Syntax { place: first.start }),
-    }
-}
-
-/// The tokens behind `as`.
-#[tactic(auto, unfolding(crate::specs::Reading::after_as))]
-pub(crate) fn after_as(tokens: &[Token]) -> Result<&[Token], ParseError>
-    ensures value { Gives (λ rest. rest.now) result (after_as tokens.now) }
-    ensures one { IfOk result (λ rest. length rest.now + 1 ≡ length tokens.now) }
-    ensures readable { (n : ℕ) → AreReadable n tokens.now → IfOk result (λ rest. AreReadable n rest.now) }
-{
-    let [first, rest @ ..] = tokens else {
-        return Err(ParseError::Syntax { place: 0 });
-    };
-    match first.kind {
-        TokenKind::AsWord => Ok(rest),
-        _ => Err(ParseError::Syntax { place: first.start }),
-    }
-}
-
 /// The name of a `lock`, behind `as`.
 #[tactic(auto, unfolding(crate::specs::Reading::held_at))]
 pub(crate) fn held_at(tokens: &[Token]) -> Result<(u32, &[Token]), ParseError>
@@ -178,7 +135,7 @@ pub(crate) fn held_at(tokens: &[Token]) -> Result<(u32, &[Token]), ParseError>
     ensures two { IfOk result (λ x. length x.1.now + 2 ≡ length tokens.now) }
     ensures readable { (n : ℕ) → AreReadable n tokens.now → IfOk result (λ x. (x.0 < n) × AreReadable n x.1.now) }
 {
-    let rest = after_as(tokens)?;
+    let rest = expect(tokens, Terminal::As)?;
     name_at(rest)
 }
 

@@ -1,15 +1,16 @@
 //! Terms, token by token.
 
-ghost use Rattle.std.specs.Prelude.{◌≡◌, ℕ, suc, ◌+◌, ◌*◌, ◌<◌, ◌≤◌, ◌^◌, true, false, length, IfOk};
+ghost use Rattle.std.specs.Prelude.{◌≡◌, ℕ, suc, ◌+◌, ◌*◌, ◌<◌, ◌≤◌, true, false, length, IfOk};
 ghost use Rattle.fr_syntax.specs.Arena.{Arena};
 ghost use Rattle.fr_syntax.specs.Meanings.{meanings, term_at, place_at, items_at as terms_of, captures_at as captures_of, term_s, place_s, all_need};
 ghost use Rattle.fr_parse.specs.Growth.{IsGrown, AreGrown, branch_parts};
-ghost use Rattle.fr_parse.specs.Readable.{AreReadable};
+ghost use Rattle.fr_syntax.specs.TokenList.{AreReadable};
+ghost use Rattle.fr_syntax.specs.Bounds.{most_numbered};
 ghost use Rattle.fr_parse.specs.Reading.{Gives, any_at, items_at, block_at, rest_at, placed_at, item_next, inner_at, arith_at, body_at, branch_at, spawn_at, par_at, lock_at};
 
 use crate::fault::ParseError;
 use crate::leaves::{captures, leaf, spot, unit};
-use crate::marks::{Next, after_close, bound_at, deep_at, held_at, next_at, op_at, place_of};
+use crate::marks::{Next, Terminal, bound_at, deep_at, expect, held_at, next_at, op_at, place_of};
 use fr_syntax::{Nodes, Term, Token, TokenKind, Tree};
 use std::alloc::Global;
 
@@ -22,7 +23,7 @@ pub(crate) fn term<'a>(
     depth: u32,
     tokens: &'a [Token],
 ) -> Result<(u32, &'a [Token]), ParseError>
-    requires room { length (meanings tree.old) + 2 * length tokens.now < 2 ^ 28 }
+    requires room { length (meanings tree.old) + 2 * length tokens.now < most_numbered }
     requires readable { AreReadable (length tree.old.names) tokens.now }
     ensures value { Gives (λ x. (term_at (meanings tree.new) x.0, x.1.now)) result (any_at tree.old.names depth false tokens.now) }
     ensures node { IfOk result (λ x. IsGrown term_s tree.old tree.new x.0) }
@@ -73,7 +74,7 @@ fn placed<'a>(
     depth: u32,
     tokens: &'a [Token],
 ) -> Result<(u32, &'a [Token]), ParseError>
-    requires room { length (meanings tree.old) + 2 * length tokens.now < 2 ^ 28 }
+    requires room { length (meanings tree.old) + 2 * length tokens.now < most_numbered }
     requires readable { AreReadable (length tree.old.names) tokens.now }
     ensures value { Gives (λ x. (term_at (meanings tree.new) x.0, x.1.now)) result (placed_at tree.old.names (any_at tree.old.names depth false) tokens.now) }
     ensures node { IfOk result (λ x. IsGrown term_s tree.old tree.new x.0) }
@@ -99,7 +100,7 @@ fn after_spot<'a>(
 ) -> Result<(u32, &'a [Token]), ParseError>
     requires here { (start : Arena) × IsGrown place_s start tree.old to }
     requires place { (place_at (meanings tree.old) to).at ≡ place }
-    requires room { length (meanings tree.old) + 2 * length tokens.now + 1 < 2 ^ 28 }
+    requires room { length (meanings tree.old) + 2 * length tokens.now + 1 < most_numbered }
     requires readable { AreReadable (length tree.old.names) tokens.now }
     ensures value { Gives (λ x. (term_at (meanings tree.new) x.0, x.1.now)) result (rest_at (any_at tree.old.names depth false) (place_at (meanings tree.old) to) tokens.now) }
     ensures node { IfOk result (λ x. (start : Arena) → IsGrown place_s start tree.old to → IsGrown term_s start tree.new x.0) }
@@ -126,7 +127,7 @@ fn block<'a>(
     place: u32,
     tokens: &'a [Token],
 ) -> Result<(u32, &'a [Token]), ParseError>
-    requires room { length (meanings tree.old) + 2 * length tokens.now + 2 < 2 ^ 28 }
+    requires room { length (meanings tree.old) + 2 * length tokens.now + 2 < most_numbered }
     requires readable { AreReadable (length tree.old.names) tokens.now }
     ensures value { Gives (λ x. (term_at (meanings tree.new) x.0, x.1.now)) result (block_at (any_at tree.old.names depth true) place tokens.now) }
     ensures node { IfOk result (λ x. IsGrown term_s tree.old tree.new x.0) }
@@ -154,7 +155,7 @@ fn items<'a>(
     depth: u32,
     tokens: &'a [Token],
 ) -> Result<(Nodes, &'a [Token]), ParseError>
-    requires room { length (meanings tree.old) + 2 * length tokens.now + 2 < 2 ^ 28 }
+    requires room { length (meanings tree.old) + 2 * length tokens.now + 2 < most_numbered }
     requires readable { AreReadable (length tree.old.names) tokens.now }
     ensures value { Gives (λ x. (terms_of (meanings tree.new) x.0.items, x.1.now)) result (items_at (any_at tree.old.names depth true) (suc (length tokens.now)) tokens.now) }
     ensures nodes { IfOk result (λ x. AreGrown tree.old tree.new (all_need term_s x.0.items)) }
@@ -189,7 +190,7 @@ fn item_and_next<'a>(
     depth: u32,
     tokens: &'a [Token],
 ) -> Result<(u32, Next, &'a [Token]), ParseError>
-    requires room { length (meanings tree.old) + 2 * length tokens.now < 2 ^ 28 }
+    requires room { length (meanings tree.old) + 2 * length tokens.now < most_numbered }
     requires readable { AreReadable (length tree.old.names) tokens.now }
     ensures value { Gives (λ x. (term_at (meanings tree.new) x.0, x.1, x.2.now)) result (item_next (any_at tree.old.names depth true) tokens.now) }
     ensures node { IfOk result (λ x. IsGrown term_s tree.old tree.new x.0) }
@@ -211,7 +212,7 @@ fn item<'a>(
     depth: u32,
     tokens: &'a [Token],
 ) -> Result<(u32, &'a [Token]), ParseError>
-    requires room { length (meanings tree.old) + 2 * length tokens.now < 2 ^ 28 }
+    requires room { length (meanings tree.old) + 2 * length tokens.now < most_numbered }
     requires readable { AreReadable (length tree.old.names) tokens.now }
     ensures value { Gives (λ x. (term_at (meanings tree.new) x.0, x.1.now)) result (any_at tree.old.names depth true tokens.now) }
     ensures node { IfOk result (λ x. IsGrown term_s tree.old tree.new x.0) }
@@ -245,7 +246,7 @@ fn inner<'a>(
     place: u32,
     tokens: &'a [Token],
 ) -> Result<(u32, &'a [Token]), ParseError>
-    requires room { length (meanings tree.old) + 2 * length tokens.now + 2 < 2 ^ 28 }
+    requires room { length (meanings tree.old) + 2 * length tokens.now + 2 < most_numbered }
     requires readable { AreReadable (length tree.old.names) tokens.now }
     ensures value { Gives (λ x. (term_at (meanings tree.new) x.0, x.1.now)) result (inner_at (any_at tree.old.names depth false) place tokens.now) }
     ensures node { IfOk result (λ x. IsGrown term_s tree.old tree.new x.0) }
@@ -271,7 +272,7 @@ fn arith<'a>(
     place: u32,
     tokens: &'a [Token],
 ) -> Result<(u32, &'a [Token]), ParseError>
-    requires room { length (meanings tree.old) + 2 * length tokens.now + 2 < 2 ^ 28 }
+    requires room { length (meanings tree.old) + 2 * length tokens.now + 2 < most_numbered }
     requires readable { AreReadable (length tree.old.names) tokens.now }
     ensures value { Gives (λ x. (term_at (meanings tree.new) x.0, x.1.now)) result (arith_at (any_at tree.old.names depth false) place tokens.now) }
     ensures node { IfOk result (λ x. IsGrown term_s tree.old tree.new x.0) }
@@ -282,7 +283,7 @@ fn arith<'a>(
     let (left, rest) = term(alloc, tree, depth, tokens)?;
     let (op, rest) = op_at(rest)?;
     let (right, rest) = term(alloc, tree, depth, rest)?;
-    let rest = after_close(rest)?;
+    let rest = expect(rest, Terminal::Close)?;
     Ok((tree.add(Term::Arith(op, left, right), place)?, rest))
 }
 
@@ -295,7 +296,7 @@ pub(crate) fn body<'a>(
     depth: u32,
     tokens: &'a [Token],
 ) -> Result<(u32, &'a [Token]), ParseError>
-    requires room { length (meanings tree.old) + 2 * length tokens.now < 2 ^ 28 }
+    requires room { length (meanings tree.old) + 2 * length tokens.now < most_numbered }
     requires readable { AreReadable (length tree.old.names) tokens.now }
     ensures value { Gives (λ x. (term_at (meanings tree.new) x.0, x.1.now)) result (body_at (any_at tree.old.names depth false) tokens.now) }
     ensures node { IfOk result (λ x. IsGrown term_s tree.old tree.new x.0) }
@@ -321,7 +322,7 @@ fn branch<'a>(
     depth: u32,
     tokens: &'a [Token],
 ) -> Result<(Nodes, u32, &'a [Token]), ParseError>
-    requires room { length (meanings tree.old) + 2 * length tokens.now < 2 ^ 28 }
+    requires room { length (meanings tree.old) + 2 * length tokens.now < most_numbered }
     requires readable { AreReadable (length tree.old.names) tokens.now }
     ensures value { Gives (λ x. (captures_of (meanings tree.new) x.0.items, term_at (meanings tree.new) x.1, x.2.now)) result (branch_at tree.old.names (any_at tree.old.names depth false) tokens.now) }
     ensures nodes { IfOk result (λ x. AreGrown tree.old tree.new (branch_parts x.0.items x.1)) }
@@ -344,7 +345,7 @@ fn spawn<'a>(
     place: u32,
     tokens: &'a [Token],
 ) -> Result<(u32, &'a [Token]), ParseError>
-    requires room { length (meanings tree.old) + 2 * length tokens.now + 2 < 2 ^ 28 }
+    requires room { length (meanings tree.old) + 2 * length tokens.now + 2 < most_numbered }
     requires readable { AreReadable (length tree.old.names) tokens.now }
     ensures value { Gives (λ x. (term_at (meanings tree.new) x.0, x.1.now)) result (spawn_at tree.old.names (any_at tree.old.names depth false) place tokens.now) }
     ensures node { IfOk result (λ x. IsGrown term_s tree.old tree.new x.0) }
@@ -366,7 +367,7 @@ fn par<'a>(
     place: u32,
     tokens: &'a [Token],
 ) -> Result<(u32, &'a [Token]), ParseError>
-    requires room { length (meanings tree.old) + 2 * length tokens.now + 2 < 2 ^ 28 }
+    requires room { length (meanings tree.old) + 2 * length tokens.now + 2 < most_numbered }
     requires readable { AreReadable (length tree.old.names) tokens.now }
     ensures value { Gives (λ x. (term_at (meanings tree.new) x.0, x.1.now)) result (par_at tree.old.names (any_at tree.old.names depth false) place tokens.now) }
     ensures node { IfOk result (λ x. IsGrown term_s tree.old tree.new x.0) }
@@ -390,7 +391,7 @@ fn lock<'a>(
     place: u32,
     tokens: &'a [Token],
 ) -> Result<(u32, &'a [Token]), ParseError>
-    requires room { length (meanings tree.old) + 2 * length tokens.now + 2 < 2 ^ 28 }
+    requires room { length (meanings tree.old) + 2 * length tokens.now + 2 < most_numbered }
     requires readable { AreReadable (length tree.old.names) tokens.now }
     ensures value { Gives (λ x. (term_at (meanings tree.new) x.0, x.1.now)) result (lock_at tree.old.names (any_at tree.old.names depth false) place tokens.now) }
     ensures node { IfOk result (λ x. IsGrown term_s tree.old tree.new x.0) }

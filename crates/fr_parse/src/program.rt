@@ -1,13 +1,13 @@
 //! The tree of a list of tokens.
 
-ghost use Rattle.std.specs.Prelude.{◌≡◌, ◌≢◌, ◌+◌, ◌*◌, ◌<◌, ◌≤◌, ◌^◌, [], length, Some, IfOk, IfErr, OnOk};
+ghost use Rattle.std.specs.Prelude.{◌≡◌, ◌≢◌, ◌+◌, ◌*◌, ◌<◌, ◌≤◌, [], length, Some, IfOk, IfErr, OnOk};
 ghost use Rattle.fr_terms.specs.Terms.{Term};
 ghost use Rattle.fr_syntax.specs.Arena.{Arena};
 ghost use Rattle.fr_syntax.specs.Meanings.{meanings, term_at, term_of, term_s, IsTree};
 ghost use Rattle.fr_parse.specs.Growth.{IsGrown};
-ghost use Rattle.fr_syntax.specs.Signs.{HaveNoSigns};
-ghost use Rattle.fr_parse.specs.Readable.{AreReadable};
-ghost use Rattle.fr_parse.specs.Reading.{Gives, Fails, program_at};
+ghost use Rattle.fr_syntax.specs.TokenList.{AreReadable};
+ghost use Rattle.fr_syntax.specs.Bounds.{most_numbered};
+ghost use Rattle.fr_parse.specs.Reading.{Gives, program_at};
 ghost use Rattle.fr_parse.specs.Source.{Spelled};
 ghost use Rattle.fr_parse.specs.Table.{refusal};
 
@@ -21,7 +21,7 @@ use std::alloc::Global;
 // Adds the names of the tokens, so that each keeps its number.
 fn copy_names(tokens: &Tokens, tree: &mut Tree) -> Result<(), NoMemory>
     requires none { tree.old.names ≡ [] }
-    requires few { length tokens.now.names ≤ 2 ^ 28 }
+    requires few { length tokens.now.names ≤ most_numbered }
     ensures names { OnOk result (tree.new.names ≡ tokens.now.names) }
     ensures meanings { OnOk result (meanings tree.new ≡ meanings tree.old) }
 {
@@ -38,7 +38,7 @@ fn copy_names(tokens: &Tokens, tree: &mut Tree) -> Result<(), NoMemory>
 // The program that the tokens spell, as the last node.
 #[tactic(auto, unfolding(crate::specs::Reading::program_at))]
 fn program(alloc: Global, tree: &mut Tree, tokens: &[Token]) -> Result<u32, ParseError>
-    requires room { length (meanings tree.old) + 2 * length tokens.now < 2 ^ 28 }
+    requires room { length (meanings tree.old) + 2 * length tokens.now < most_numbered }
     requires readable { AreReadable (length tree.old.names) tokens.now }
     ensures value { Gives (λ n. term_at (meanings tree.new) n) result (program_at tree.old.names tokens.now) }
     ensures node { IfOk result (λ n. IsGrown term_s tree.old tree.new n) }
@@ -48,19 +48,14 @@ fn program(alloc: Global, tree: &mut Tree, tokens: &[Token]) -> Result<u32, Pars
     Ok(node)
 }
 
-/// The tree of the program that these tokens spell, with their names. There are at most 67,108,865 tokens, as the tokens
-/// of a source are: numbers without a sign, and the end behind all others.
+/// The one tree of the program that these tokens spell, with their names.
 /// `Syntax` is at the first token for which the grammar has no entry, `TooDeep` at a term of level 65 or at the ninth star
 /// of a place, whichever comes first. Then the tokens spell no program within the limits.
-/// Want of memory comes at any time.
+/// Want of memory comes at any time. It takes time in the number of tokens.
 pub fn parse(alloc: Global, tokens: &Tokens) -> Result<Tree, ParseError>
-    requires few { length tokens.now.items ≤ 67108865 }
-    requires unsigned { HaveNoSigns tokens.now.items }
     ensures names { IfOk result (λ tree. tree.names ≡ tokens.now.names) }
     ensures tree { IfOk result IsTree }
-    ensures term { IfOk result (λ tree. program_at tokens.now.names tokens.now.items ≡ Ok (term_of tree)) }
     ensures spelled { IfOk result (λ tree. Spelled tokens.now.names tokens.now.items (term_of tree)) }
-    ensures fault { IfErr result (λ fault. Fails fault (program_at tokens.now.names tokens.now.items)) }
     ensures first { IfErr result (λ fault. fault ≢ ParseError.NoMemory → refusal tokens.now.items ≡ Some fault) }
     ensures refused { IfErr result (λ fault. fault ≢ ParseError.NoMemory → (t : Term) → ¬ (Spelled tokens.now.names tokens.now.items t)) }
 {

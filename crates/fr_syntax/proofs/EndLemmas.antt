@@ -3,14 +3,14 @@ use Rattle.std.proofs.Common.{◌≡◌, ◌≢◌, ℕ, List, [], ◌∷◌, �
 use Rattle.std.specs.Prelude.{All}
 use Rattle.std.proofs.lemmas.List.Elements.{All-head, All-tail, All-push}
 use Rattle.fr_syntax.specs.declared.kind.TokenKind.{TokenKind}
-use Rattle.fr_syntax.specs.declared.kind.TokenKind.TheVariants.{Name, End}
+use Rattle.fr_syntax.specs.declared.kind.TokenKind.TheVariants.{End}
 use Rattle.fr_syntax.specs.declared.token.Token.{Token}
-use Rattle.fr_syntax.specs.TokenList.{HasName, IsInner, EndsOnce}
+use Rattle.fr_syntax.specs.TokenList.{IsReadable, IsInner, EndsOnce}
 
--- the name of a token before the end is there
-pub inner_named : (n : ℕ) (kind : TokenKind) → IsInner n kind → HasName n kind
-inner_named n (Name m) h = h
-inner_named n kind h = tt
+-- a token before the end can be read
+pub inner_readable : (n : ℕ) (kind : TokenKind) → IsInner n kind → IsReadable n kind
+inner_readable n End h = absurd h
+inner_readable n kind h = h
 
 -- and it is not the end
 pub inner_open : (n : ℕ) (kind : TokenKind) → IsInner n kind → kind ≢ End

@@ -1,5 +1,5 @@
 -- The meanings of an arena, with one node or one name more.
-use Rattle.std.proofs.Common.{◌≡◌, ℕ, zero, suc, ◌+◌, ◌^◌, ◌<◌, ◌≤◌, List, [], ◌∷◌, ◌++◌, length, get_or, Some, refl, sym, ap, ap₂, ◌∙◌, subst, arith, append_assoc, length-append}
+use Rattle.std.proofs.Common.{◌≡◌, ℕ, zero, suc, ◌+◌, ◌<◌, ◌≤◌, List, [], ◌∷◌, ◌++◌, length, get_or, Some, refl, sym, ap, ap₂, ◌∙◌, subst, arith, append_assoc, length-append}
 use Rattle.std.specs.Prelude.{slice_get, ⊤, map, string_bytes, String}
 use Rattle.std.proofs.Math.Seq.{get_or-append_seam}
 use Rattle.std.proofs.lemmas.List.{append-nil, map-append, get_or_append_left}
@@ -9,6 +9,7 @@ use Rattle.fr_syntax.specs.declared.tree.Term.{Term}
 use Rattle.fr_syntax.specs.declared.tree.Term.TheVariants.{Block, Let, Assign, Read, Dup, Borrow, BorrowMut, Number, Unit, Box, Print, Join, Mutex, Arith, Spawn, Par, Lock, Place, Capture}
 use Rattle.fr_syntax.specs.declared.tree.Node.{Node}
 use Rattle.fr_syntax.specs.Arena.{Arena, text_of}
+use Rattle.fr_syntax.specs.Bounds.{most_numbered}
 use Rattle.fr_syntax.specs.Meanings.{a_term, a_place, a_capture, Meaning, term_s, capture_s, as_term, as_place, as_capture, meaning_at, term_at, place_at, items_at, captures_at, stands_for, Need, need, all_need, needs, nodes_in, build, meanings_from, meanings, names_in, sort_of, AreBelow, AllBelow, Keeps}
 use Rattle.fr_syntax.specs.Ordered.{AreOrdered, IsArena}
 
@@ -247,7 +248,7 @@ added_seen names ns new n a k same e at =
     (ap (meaning_at (meanings_from names [] (ns ++ n ∷ []))) number ∙ is.meaning, is.keeps))
 
 -- an arena stays one with a node more
-pub arena_push : (names : List Text) (ns : List Node) (n : Node) → IsArena (record { names = names; nodes = ns }) → AreBelow (meanings_from names [] ns) (length (meanings_from names [] ns)) (needs n.term) → AllBelow (length names) (names_in n.term) → length (meanings_from names [] ns) < 2 ^ 28 → IsArena (record { names = names; nodes = ns ++ n ∷ [] })
+pub arena_push : (names : List Text) (ns : List Node) (n : Node) → IsArena (record { names = names; nodes = ns }) → AreBelow (meanings_from names [] ns) (length (meanings_from names [] ns)) (needs n.term) → AllBelow (length names) (names_in n.term) → length (meanings_from names [] ns) < most_numbered → IsArena (record { names = names; nodes = ns ++ n ∷ [] })
 arena_push names ns n h b a few = record {
   ordered = ordered-push names [] ns n h.ordered b a;
   few = omega (arith, length-meanings_from names [] ns, length-append ns (n ∷ []));

@@ -6,4 +6,4 @@ pub mod TokenList
 pub mod Arena
 pub mod Meanings
 pub mod Ordered
-pub mod Signs
+pub mod Bounds

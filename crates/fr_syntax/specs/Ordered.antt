@@ -1,9 +1,10 @@
 -- What is true of each tree (this project's rule): parts stand before their node.
-use Rattle.std.specs.Prelude.{◌≤◌, ◌^◌, ⊤, List, [], ◌∷◌, ◌++◌, length}
+use Rattle.std.specs.Prelude.{◌≤◌, ⊤, List, [], ◌∷◌, ◌++◌, length}
 use Rattle.fr_terms.specs.Terms.{Text}
 use Rattle.fr_syntax.specs.declared.tree.Node.{Node}
 use Rattle.fr_syntax.specs.Meanings.{Meaning, AreBelow, AllBelow, needs, names_in, build}
 use Rattle.fr_syntax.specs.Arena.{Arena}
+use Rattle.fr_syntax.specs.Bounds.{most_numbered}
 
 -- of each of these nodes, which come after these meanings, the parts stand before it and are of their sorts, and the names are there
 abbrev pub AreOrdered : List Text → List Meaning → List Node → Type 0
@@ -16,4 +17,4 @@ AreOrdered names ms (n ∷ ns) =
 -- the nodes are in order, and a 32-bit number names each
 pub record IsArena (a : Arena) : Type 0 where
   pub ordered : AreOrdered a.names [] a.nodes
-  pub few : length a.nodes ≤ 2 ^ 28
+  pub few : length a.nodes ≤ most_numbered

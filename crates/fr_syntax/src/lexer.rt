@@ -1,7 +1,7 @@
 //! The tokens of a source.
 
 ghost use Rattle.std.specs.Prelude.{◌+◌, ◌≤◌, length, IfOk, IfErr};
-ghost use Rattle.fr_syntax.specs.Signs.{HaveNoSigns};
+ghost use Rattle.fr_syntax.specs.Bounds.{most_bytes};
 ghost use Rattle.fr_syntax.specs.TokenList.{EndsOnce};
 ghost use Rattle.fr_syntax.specs.Tokens.{AreTokens, IsRefusedOrNoMemory};
 
@@ -15,11 +15,10 @@ use std::alloc::Global;
 /// The tokens of the bytes, of which there are at most 67,108,864. Names are numbered in the order in which they first come.
 /// A refusal names the first text that spells no token; want of memory comes at any time.
 pub fn tokens(alloc: Global, bytes: &[u8]) -> Result<Tokens, TokenError>
-    requires { length bytes.now ≤ 67108864 }
+    requires { length bytes.now ≤ most_bytes }
     ensures ok { IfOk result (λ t. AreTokens bytes.now t.items t.names) }
     ensures few { IfOk result (λ t. length t.items ≤ length bytes.now + 1) }
     ensures ends { IfOk result (λ t. EndsOnce t.items) }
-    ensures unsigned { IfOk result (λ t. HaveNoSigns t.items) }
     ensures err { IfErr result (IsRefusedOrNoMemory bytes.now) }
 {
     let mut tokens = Tokens::new(alloc);

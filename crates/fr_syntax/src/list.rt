@@ -1,7 +1,8 @@
 //! The list of a source's tokens.
 
-ghost use Rattle.std.specs.Prelude.{◌≡◌, ◌+◌, ◌≤◌, ◌<◌, ◌^◌, ◌++◌, [], ◌∷◌, length, slice_get, IfOk, IsOk, OnOk, OnErr, IfSome, option_copied};
-ghost use Rattle.fr_syntax.specs.TokenList.{HasName, HaveNames};
+ghost use Rattle.std.specs.Prelude.{◌≡◌, ◌+◌, ◌≤◌, ◌<◌, ◌++◌, [], ◌∷◌, length, slice_get, IfOk, IsOk, OnOk, OnErr, IfSome, option_copied};
+ghost use Rattle.fr_syntax.specs.Bounds.{most_numbered, most_tokens};
+ghost use Rattle.fr_syntax.specs.TokenList.{IsReadable, AreReadable};
 ghost use Rattle.fr_syntax.specs.declared.token.Token.{Token};
 
 use crate::kind::TokenKind;
@@ -11,7 +12,8 @@ use std::alloc::Global;
 use std::marker::Model;
 
 /// The tokens of a source in order, and the texts of its names. Contracts see both lists, and beside them how many more
-/// tokens fit without memory. A name's number counts from 0 in the order of `add_name`, and the name of each token is there.
+/// tokens fit without memory. A name's number counts from 0 in the order of `add_name`. The name of each token is there, no
+/// number has a sign, and there are at most 67,108,865 tokens.
 #[derive(Drop)]
 pub struct Tokens {
     alloc: Global,
@@ -55,9 +57,11 @@ impl Tokens {
         self.items.reserve(n)
     }
 
-    /// Adds a token at the end; the name of a `Name` is there. With room it can't be refused; a refusal changes nothing.
+    /// Adds a token at the end, behind at most 67,108,864 others; the name of a `Name` is there, and a number has no sign.
+    /// With room it can't be refused; a refusal changes nothing.
     pub fn push(&mut self, token: Token) -> Result<(), NoMemory>
-        requires named { HasName (length self.old.names) token.kind }
+        requires readable { IsReadable (length self.old.names) token.kind }
+        requires few { length self.old.items < most_tokens }
         ensures pushed { OnOk result (self.new.items ≡ self.old.items ++ token ∷ []) }
         ensures names { self.new.names ≡ self.old.names }
         ensures spare { OnOk result (self.old.spare ≤ self.new.spare + 1) }
@@ -77,7 +81,7 @@ impl Tokens {
     /// The token at that place, from 0; `None` exactly past the end.
     pub fn at(&self, at: u64) -> Option<&Token>
         ensures token { option_copied result ≡ slice_get self.now.items at }
-        ensures named { IfSome result (λ t. HasName (length self.now.names) t.now.kind) }
+        ensures readable { IfSome result (λ t. IsReadable (length self.now.names) t.now.kind) }
     {
         self.items.at(at)
     }
@@ -85,15 +89,16 @@ impl Tokens {
     /// The tokens in order.
     pub fn as_slice(&self) -> &[Token]
         ensures items { result.now ≡ self.now.items }
-        ensures named { HaveNames (length self.now.names) result.now }
-        ensures few_names { length self.now.names ≤ 2 ^ 28 }
+        ensures readable { AreReadable (length self.now.names) result.now }
+        ensures few { length result.now ≤ most_tokens }
+        ensures few_names { length self.now.names ≤ most_numbered }
     {
         self.items.as_slice()
     }
 
-    /// Adds a name, and gives its number. A refusal changes nothing.
+    /// Adds a name behind fewer than 268,435,456 others, and gives its number. A refusal changes nothing.
     pub fn add_name(&mut self, text: &str) -> Result<u32, NoMemory>
-        requires few { length self.old.names < 2 ^ 28 }
+        requires few { length self.old.names < most_numbered }
         ensures number { IfOk result (λ n. n ≡ length self.old.names) }
         ensures names { OnOk result (self.new.names ≡ self.old.names ++ text.now ∷ []) }
         ensures items { self.new.items ≡ self.old.items }

@@ -3,6 +3,7 @@
 ghost use Rattle.std.specs.Prelude.{◌≡◌, ◌+◌, ◌<◌, ◌≤◌, ◌^◌, true, [], length, SomeIff, pos, IfOk, OnOk};
 ghost use Rattle.std.specs.List.{prefix_len};
 ghost use Rattle.std.specs.Str.{IsAscii};
+ghost use Rattle.fr_syntax.specs.Bounds.{most_numbered};
 ghost use Rattle.fr_syntax.specs.Names.{with_text};
 ghost use Rattle.fr_syntax.specs.Words.{is_letter, is_digit, is_word_byte, is_blank};
 ghost use Rattle.fr_syntax.specs.Text.{blanks, text_len, head_is};
@@ -75,7 +76,7 @@ pub(crate) fn kind_of<'a>(
     requires some { 0 < length text.now }
     requires ascii { head_is is_letter text.now ≡ true → IsAscii text.now }
     requires same { known.old ≡ tokens.old.names }
-    requires few { length tokens.old.names < 2 ^ 28 }
+    requires few { length tokens.old.names < most_numbered }
     ensures kind { Gives result (kind_at tokens.old.names place text.now) }
     ensures names { OnOk result (tokens.new.names ≡ names_after tokens.old.names text.now) }
     ensures items { tokens.new.items ≡ tokens.old.items }
@@ -106,7 +107,7 @@ fn name_of<'a>(
 ) -> Result<TokenKind, TokenError>
     requires ascii { IsAscii text.now }
     requires same { known.old ≡ tokens.old.names }
-    requires few { length tokens.old.names < 2 ^ 28 }
+    requires few { length tokens.old.names < most_numbered }
     ensures kind { Gives result (name_at tokens.old.names place text.now) }
     ensures names { OnOk result (tokens.new.names ≡ with_text tokens.old.names text.now) }
     ensures items { tokens.new.items ≡ tokens.old.items }

@@ -1,6 +1,7 @@
 //! Tokens on both sides of each limit, and a small tree.
 
 ghost use Rattle.std.specs.Prelude.{◌≤◌, length};
+ghost use Rattle.fr_syntax.specs.Bounds.{most_bytes};
 
 use super::*;
 use std::alloc::Global;
@@ -9,7 +10,7 @@ use std::test::Fail;
 
 // These bytes have these tokens, and the end.
 fn has(rt: &impl Abort, alloc: Global, bytes: &[u8], want: &[(TokenKind, u32, u32)])
-    requires { length bytes.now ≤ 67108864 }
+    requires { length bytes.now ≤ most_bytes }
 {
     let list = tokens(alloc, bytes).expect(rt, "no tokens");
     assert_eq!(rt; list.len(), want.len() as u64 + 1);

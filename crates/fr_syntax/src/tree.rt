@@ -1,7 +1,8 @@
 //! The arena of a source's terms.
 
-ghost use Rattle.std.specs.Prelude.{◌≡◌, ◌+◌, ◌<◌, ◌≤◌, ◌^◌, ◌++◌, [], ◌∷◌, ◌↔◌, length, slice_get, IfOk, IfSome, IsSome, OnOk, OnErr, option_copied};
+ghost use Rattle.std.specs.Prelude.{◌≡◌, ◌+◌, ◌<◌, ◌≤◌, ◌++◌, [], ◌∷◌, ◌↔◌, length, slice_get, IfOk, IfSome, IsSome, OnOk, OnErr, option_copied};
 ghost use Rattle.fr_syntax.specs.Arena.{Arena};
+ghost use Rattle.fr_syntax.specs.Bounds.{most_numbered};
 ghost use Rattle.fr_syntax.specs.Meanings.{meanings, meaning_at, build, stands_for, nodes_in, needs, names_in, root_of, AreBelow, AllBelow, Keeps};
 ghost use Rattle.fr_syntax.specs.Ordered.{IsArena};
 
@@ -96,9 +97,9 @@ impl Tree {
         }
     }
 
-    /// Adds a name, and gives its number. No node changes what it means. A refusal changes nothing.
+    /// Adds a name behind fewer than 268,435,456 others, and gives its number. No node changes what it means. A refusal changes nothing.
     pub fn add_name(&mut self, text: &str) -> Result<u32, NoMemory>
-        requires few { length self.old.names < 2 ^ 28 }
+        requires few { length self.old.names < most_numbered }
         ensures number { IfOk result (λ n. n ≡ length self.old.names) }
         ensures names { OnOk result (self.new.names ≡ self.old.names ++ text.now ∷ []) }
         ensures nodes { OnOk result (self.new.nodes ≡ self.old.nodes) }
@@ -111,12 +112,12 @@ impl Tree {
         Ok(number)
     }
 
-    /// Adds a node whose parts and names are there, and gives its number. A refusal changes nothing.
+    /// Adds a node whose parts and names are there behind fewer than 268,435,456 others, and gives its number. A refusal changes nothing.
     #[tactic(auto, using(crate::proofs::TreeLemmas::length_meanings, crate::proofs::TreeLemmas::node_added, crate::proofs::TreeLemmas::arena_push))]
     pub fn add(&mut self, term: Term, place: u32) -> Result<u32, NoMemory>
         requires parts { AreBelow (meanings self.old) (length (meanings self.old)) (needs term) }
         requires names { AllBelow (length self.old.names) (names_in term) }
-        requires few { length (meanings self.old) < 2 ^ 28 }
+        requires few { length (meanings self.old) < most_numbered }
         ensures number { IfOk result (λ n. n ≡ length (meanings self.old)) }
         ensures last { IfOk result (λ n. n ≡ root_of self.new) }
         ensures len { OnOk result (length (meanings self.new) ≡ length (meanings self.old) + 1) }
@@ -130,12 +131,12 @@ impl Tree {
         Ok(number)
     }
 
-    /// How many nodes there are: at most 2^28. Each node's parts stand before it.
+    /// How many nodes there are: at most 268,435,456. Each node's parts stand before it.
     #[tactic(auto, using(crate::proofs::TreeLemmas::length_meanings))]
     pub fn len(&self) -> u64
         ensures nodes { result ≡ length self.now.nodes }
         ensures meanings { result ≡ length (meanings self.now) }
-        ensures few { result ≤ 2 ^ 28 }
+        ensures few { result ≤ most_numbered }
         ensures arena { IsArena self.now }
     {
         self.nodes.len() as u64

@@ -1,6 +1,7 @@
 //! Sources that are refused, and where. The places were worked out by hand, from the grammar and not from the program.
 
 ghost use Rattle.std.specs.Prelude.{◌≤◌, length};
+ghost use Rattle.fr_syntax.specs.Bounds.{most_bytes};
 
 use fr_parse::{ParseError, parse};
 use fr_syntax::tokens;
@@ -127,7 +128,7 @@ const LEVELS: [(u32, &str, Option<ParseError>); 15] = [
 
 // The refusal of a source.
 fn refusal(rt: &impl Abort, alloc: Global, source: &[u8]) -> Option<ParseError>
-    requires { length source.now ≤ 67108864 }
+    requires { length source.now ≤ most_bytes }
 {
     let list = tokens(alloc, source).expect(rt, "no tokens");
     parse(alloc, &list).err()

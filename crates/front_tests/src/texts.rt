@@ -1,6 +1,7 @@
 //! Sources and their canonical texts. The right sides were written by hand, from the grammar and not from the program.
 
 ghost use Rattle.std.specs.Prelude.{◌≤◌, length};
+ghost use Rattle.fr_syntax.specs.Bounds.{most_bytes};
 
 use fr_parse::{parse, print};
 use fr_syntax::tokens;
@@ -110,7 +111,7 @@ const TEXTS: [(&str, &str); 62] = [
 
 // The canonical text of a source.
 fn printed(rt: &impl Abort, alloc: Global, source: &[u8]) -> String
-    requires { length source.now ≤ 67108864 }
+    requires { length source.now ≤ most_bytes }
 {
     let list = tokens(alloc, source).expect(rt, "no tokens");
     let tree = parse(alloc, &list).expect(rt, "no program");

@@ -1,4 +1,3 @@
-use Rattle.fr_parse.proofs.TableTerms.{refusal_is_fault}
 use Rattle.fr_parse.proofs.TableSteps.{never_memory}
 use Rattle.fr_parse.proofs.TableLimits.{within_limits}
 use Rattle.fr_parse.proofs.TableLaws.{none_is, syntax_is, too_deep_is, limits_are}
@@ -6,7 +5,6 @@ use Rattle.fr_parse.proofs.grammar_laws.first_refusal.Goals as goal
 
 pub returns : goal.returns
 returns c = record {
-  reading = refusal_is_fault;
   none = none_is;
   memory = λ ts e. never_memory ts _ e;
   syntax = syntax_is;

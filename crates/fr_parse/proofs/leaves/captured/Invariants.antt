@@ -1,7 +1,7 @@
 use Rattle.std.proofs.Common.{◌≡◌, suc, ◌+◌, ◌-◌, ◌*◌, ◌≤◌, length}
 use Rattle.fr_syntax.specs.Meanings.{meanings, capture_s, all_need}
 use Rattle.fr_parse.specs.Growth.{AreGrown}
-use Rattle.fr_parse.specs.Readable.{AreReadable}
+use Rattle.fr_syntax.specs.TokenList.{AreReadable}
 use Rattle.fr_parse.specs.Reading.{captured_at}
 use Rattle.fr_parse.proofs.CaptureFront.{with_captures}
 use Rattle.fr_parse.proofs.leaves.captured.Given as goal

@@ -1,7 +1,7 @@
 use Rattle.std.proofs.Common.{◌≡◌, suc, ◌+◌, ◌-◌, ◌*◌, ◌≤◌, true, length}
 use Rattle.fr_syntax.specs.Meanings.{meanings, term_s, all_need}
 use Rattle.fr_parse.specs.Growth.{AreGrown}
-use Rattle.fr_parse.specs.Readable.{AreReadable}
+use Rattle.fr_syntax.specs.TokenList.{AreReadable}
 use Rattle.fr_parse.specs.Reading.{any_at, items_at}
 use Rattle.fr_parse.proofs.Front.{with_front}
 use Rattle.fr_parse.proofs.parser.+parser.Given as goal

@@ -1,6 +1,5 @@
 use Rattle.std.proofs.Common.{◌∙◌}
 use Rattle.std.proofs.lemmas.Result.{err_from_is_err_and}
-use Rattle.fr_parse.proofs.ReadableLemmas.{readable_all}
 use Rattle.fr_parse.proofs.GrowthLemmas.{tree_done}
 use Rattle.fr_parse.proofs.Programs.{program_sound, fault_spells_none, program_is}
 use Rattle.fr_parse.proofs.FirstRefusal.{fault_is_first}
@@ -8,7 +7,7 @@ use Rattle.fr_parse.proofs.program.parse.Goals as goal
 
 pub program-requires-clause-readable : goal.program-requires-clause-readable
 program-requires-clause-readable c =
-    rw (c.in_ok-copy_names.ensures.names, c.as_slice-items.ensures.items) (readable_all _ _ (rw c.as_slice-items.ensures.items at c.as_slice-items.ensures.named) c.requires.unsigned)
+    rw c.in_ok-copy_names.ensures.names c.as_slice-items.ensures.readable
 
 pub returns-in_err-program-clause-first : goal.returns-in_err-program-clause-first
 returns-in_err-program-clause-first c =
@@ -23,10 +22,7 @@ returns-in_err-program-clause-refused c =
 pub returns-clause-tree : goal.returns-clause-tree
 returns-clause-tree c = (tree_done _ _ _ (c.in_ok-copy_names.ensures.meanings ∙ c.new-tree.ensures.meanings) c.in_ok-program.ensures.node).0
 
-pub returns-clause-term : goal.returns-clause-term
-returns-clause-term c =
-    let done = tree_done _ _ _ (c.in_ok-copy_names.ensures.meanings ∙ c.new-tree.ensures.meanings) c.in_ok-program.ensures.node in
-    program_is _ _ _ _ _ _ c.in_ok-copy_names.ensures.names c.as_slice-items.ensures.items c.in_ok-program.ensures.value done.1
-
 pub returns-clause-spelled : goal.returns-clause-spelled
-returns-clause-spelled c = program_sound _ _ _ (returns-clause-term c)
+returns-clause-spelled c =
+    let done = tree_done _ _ _ (c.in_ok-copy_names.ensures.meanings ∙ c.new-tree.ensures.meanings) c.in_ok-program.ensures.node in
+    program_sound _ _ _ (program_is _ _ _ _ _ _ c.in_ok-copy_names.ensures.names c.as_slice-items.ensures.items c.in_ok-program.ensures.value done.1)

@@ -1,8 +1,7 @@
 use Rattle.std.proofs.Common.{◌≡◌, ◌+◌, ◌<◌, [], ◌∷◌, ◌++◌, length, length-append, arith, ap, ◌∙◌, rules, refl}
 use Rattle.fr_syntax.specs.declared.token.Token.{Token}
-use Rattle.fr_syntax.proofs.SignLemmas.{unsigned_pushed}
 use Rattle.fr_syntax.proofs.TokenLemmas.{step, few_more}
-use Rattle.fr_syntax.proofs.EndLemmas.{inner_named, ends_pushed, open_pushed}
+use Rattle.fr_syntax.proofs.EndLemmas.{inner_readable, ends_pushed, open_pushed}
 use Rattle.fr_syntax.proofs.lexer.tokens.Goals as goal
 
 pub each-preserved : goal.each-preserved
@@ -27,8 +26,5 @@ each-preserved c =
 pub returns-then-is_empty-clause-ends : goal.returns-then-is_empty-clause-ends
 returns-then-is_empty-clause-ends c = ends_pushed c.each.tokens.items _ _ c.each.invariant.inner refl c.in_ok-push.ensures.pushed
 
-pub push-requires-in-each : goal.push-requires-in-each
-push-requires-in-each c = record { named = inner_named _ _ c.in_ok-kind.ensures.inner }
-
-pub returns-then-is_empty-clause-unsigned : goal.returns-then-is_empty-clause-unsigned
-returns-then-is_empty-clause-unsigned c = unsigned_pushed _ c.each.tokens.items _ _ _ _ _ c.each.invariant.leads refl c.in_ok-push.ensures.pushed
+pub push-requires-in-each-clause-readable : goal.push-requires-in-each-clause-readable
+push-requires-in-each-clause-readable c = inner_readable _ _ c.in_ok-kind.ensures.inner
