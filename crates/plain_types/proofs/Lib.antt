@@ -1,0 +1,11 @@
+pub mod CodeRows
+pub mod Lower
+pub mod OneThread
+pub mod Changed
+pub mod Raised
+pub mod Focus
+pub mod AtHand
+pub mod Done
+pub mod Hand
+pub mod Operands
+pub mod Numbers

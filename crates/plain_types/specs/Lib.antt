@@ -1,0 +1,4 @@
+pub mod Positions
+pub mod ActRows
+pub mod Keeps
+pub mod CodeRows

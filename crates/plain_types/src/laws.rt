@@ -1,0 +1,18 @@
+//! Laws of the typing of acts.
+
+ghost use Rattle.plain_types.specs.CodeRows.{EndsHaveRows, InstructionsHaveRows};
+ghost use Rattle.plain_types.specs.Keeps.{IsArith, IsPrint, Keeps};
+
+/// What the typing of instructions lets an instruction do, a row of the typing of acts lets its act do, to the same entry
+/// (`steps`). At the end of a thread the value of the operand is at hand, with the type of the thread's result (`ends`).
+pub fn instructions_have_rows()
+    ensures steps { InstructionsHaveRows }
+    ensures ends { EndsHaveRows }
+{}
+
+/// In a typed state, with whatever threads, mutexes and pairs, an act of this form that a row grants can be done without a new
+/// name, and leaves a typed state. A clause an act; the other acts are not proved yet.
+pub fn acts_keep_types()
+    ensures print { Keeps IsPrint }
+    ensures arith { Keeps IsArith }
+{}
