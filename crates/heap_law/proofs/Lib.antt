@@ -15,3 +15,4 @@ pub mod Words
 pub mod Passing
 pub mod Followed
 pub mod Dirty
+pub mod Turn

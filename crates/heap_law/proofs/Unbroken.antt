@@ -18,6 +18,7 @@ use Rattle.heap_law.proofs.Words.{words_law}
 use Rattle.heap_law.proofs.Dirty.{dirty_law}
 use Rattle.heap_law.proofs.Passing.{passed_law}
 use Rattle.heap_law.proofs.Followed.{followed_law}
+use Rattle.heap_law.proofs.Turn.{turn_law}
 use Rattle.heap_law.proofs.Ranks.{node_ends, nodes_none, number_ends, numbers_none}
 use Rattle.heap_law.proofs.Shown.{agree_from, agree_none, at_most_from, at_most_none, one_from, one_none}
 use Rattle.heap_law.proofs.Sees.{cells_seen, owners_seen, objects_quiet, states_seen, addresses_quiet, uses_seen, users_seen, words_quiet, halves_seen, needs_seen, answers_quiet, notes_seen, places_seen, branches_quiet, contents_seen, homes_seen, held_quiet, shares_seen, counts_seen, shares_quiet}
@@ -89,7 +90,7 @@ walks_from k p = record {
   join_walks_nothing = p.1.1.1.1.1.1.0;
   parcels_ready = p.1.1.1.1.1.1.1.0;
   have_followed = followed_law.from_counts (sight k) p.1.1.1.1.1.1.1.1.0;
-  waits_in_turn = p.1.1.1.1.1.1.1.1.1.0;
+  wait_in_turn = turn_law.from_count (sight k) p.1.1.1.1.1.1.1.1.1.0;
   asks_others = p.1.1.1.1.1.1.1.1.1.1.0;
 }
 
@@ -185,7 +186,7 @@ holds k s walk_empty = s.walks.walk_empty
 holds k s join_walks_nothing = s.walks.join_walks_nothing
 holds k s parcels_ready = s.walks.parcels_ready
 holds k s place_followed = followed_law.none_counted (sight k) s.walks.have_followed
-holds k s waits_in_turn = s.walks.waits_in_turn
+holds k s waits_in_turn = turn_law.none_counted (sight k) s.walks.wait_in_turn
 holds k s asks_others = s.walks.asks_others
 holds k s users_counted = agree_none uses_of users_of kept_words words_quiet (things_of k) s.users.users_counted
 holds k s one_answer = agree_none halves_to halves_needed answered_threads answers_quiet (things_of k) s.requests.one_answer

@@ -15,6 +15,7 @@ use Rattle.heap_law.specs.Sharing.{contents, going_notes, goes_on, owed, results
 use Rattle.heap_law.specs.Words.{HasWords}
 use Rattle.heap_law.specs.Dirty.{DirtyAlone}
 use Rattle.heap_law.specs.Passing.{HavePassed, HaveFollowed}
+use Rattle.heap_law.specs.Turn.{WaitInTurn}
 use Rattle.heap_law.specs.Ranks.{Ends}
 use Rattle.heap_law.specs.Rooted.{over_wrong, ownings, ownership_wrong, parents, parents_wrong, branches_wrong}
 use Rattle.heap_law.specs.Naming.{numbers_wrong, made_wrong, counted_wrong, zeroth_wrong, names_count_wrong, large_wrong, parts_wrong, options_wrong, holders_wrong}
@@ -224,8 +225,8 @@ pub record Walks (k : Cluster) : Type 0 where
   pub parcels_ready : Holds k parcels_ready
   -- where a thread has followed its place, each pointer on the way leads to its server or, but for a dirty reference, to a copy that it keeps
   pub have_followed : HaveFollowed (sight k)
-  -- a write waits for its first hop that isn't passed or the reference that it ends, a read for its first hop that isn't readable
-  pub waits_in_turn : Holds k waits_in_turn
+  -- a write waits for its first hop that isn't passed or the reference that it ends, a read for its first hop that it can't read
+  pub wait_in_turn : WaitInTurn (sight k)
   -- no request for an object goes to the thread's own server
   pub asks_others : Holds k asks_others
 

@@ -11,6 +11,7 @@ pub mod Words
 pub mod Dirty
 pub mod Walking
 pub mod Passing
+pub mod Turn
 pub mod Requests
 pub mod Sharing
 pub mod Naming

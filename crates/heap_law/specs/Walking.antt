@@ -14,6 +14,7 @@ use Rattle.thread_state.specs.declared.phase.Phase.{Phase}
 use Rattle.thread_state.specs.declared.phase.Phase.TheVariants as phase
 use Rattle.server_msgs.specs.declared.message.Message.{Message}
 use Rattle.server_msgs.specs.declared.message.Message.TheVariants.{Fetch, Move}
+use Rattle.server_model.specs.Moving.{pinned_words}
 use Rattle.heap_law.specs.Names.{tot, one, other, if_so, some}
 use Rattle.heap_law.specs.Things.{Location, Thing, sent}
 use Rattle.heap_law.specs.Follow.{Standing, Ground, locate, value_behind, hop_at}
@@ -137,15 +138,6 @@ abbrev pub parcels_wrong : Sight → ℕ
 parcels_wrong s = sum_threads s busy_parcel
 
 -- A FOLLOWED PLACE
-
-abbrev pub pinned_word : Bool → ℕ → List ℕ → List ℕ
-pinned_word true w ws = w ∷ ws
-pinned_word false w ws = ws
-
-abbrev pub pinned_words : List Value → List ℕ
-pinned_words [] = []
-pinned_words (value.Shared r ∷ vs) = pinned_word r.pinned r.word (pinned_words vs)
-pinned_words (v ∷ vs) = pinned_words vs
 
 -- the words that a thread keeps cached: those of its walk and of its pinned references
 abbrev pub words_kept : ThreadState → List ℕ

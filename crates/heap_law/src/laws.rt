@@ -13,6 +13,7 @@ ghost use Rattle.heap_law.specs.Stale.{RoundsLaw};
 ghost use Rattle.heap_law.specs.Words.{WordsLaw};
 ghost use Rattle.heap_law.specs.Dirty.{DirtyLaw};
 ghost use Rattle.heap_law.specs.Passing.{FollowedLaw, PassedLaw, PathsLaw};
+ghost use Rattle.heap_law.specs.Turn.{TurnLaw};
 ghost use Rattle.heap_law.specs.OneEvent.{OneEventKeeps};
 ghost use Rattle.heap_law.specs.Sound.{SoundCompute};
 ghost use Rattle.heap_law.specs.Broken.{MemoryBreaks, WalksBreak};
@@ -98,11 +99,13 @@ pub fn words_are_told()
 {}
 
 /// What computes where a place leads, star by star, tells the path that leads there. Nothing is counted of what a write has passed exactly where it
-/// may pass each hop, nor of what a step has followed where each pointer on the way is at hand.
+/// may pass each hop, nor of what a step has followed where each pointer on the way is at hand,
+/// nor of what is waited for where each thread waits in turn.
 pub fn paths_are_told()
     ensures paths { PathsLaw }
     ensures passed { PassedLaw }
     ensures followed { FollowedLaw }
+    ensures turn { TurnLaw }
 {}
 
 /// From clusters that no run need reach, each enabled event leaves no sentence broken.

@@ -1,6 +1,7 @@
 use Rattle.heap_law.proofs.laws.paths_are_told.Goals as goal
 use Rattle.heap_law.proofs.Passing.{paths_law, passed_law}
 use Rattle.heap_law.proofs.Followed.{followed_law}
+use Rattle.heap_law.proofs.Turn.{turn_law}
 
 pub returns-clause-paths : goal.returns-clause-paths
 returns-clause-paths c = paths_law
@@ -10,3 +11,6 @@ returns-clause-passed c = passed_law
 
 pub returns-clause-followed : goal.returns-clause-followed
 returns-clause-followed c = followed_law
+
+pub returns-clause-turn : goal.returns-clause-turn
+returns-clause-turn c = turn_law
