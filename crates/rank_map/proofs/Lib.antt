@@ -1,0 +1,5 @@
+pub mod PlaceLemmas
+pub mod RankLemmas
+pub mod MarkLemmas
+mod ForkLemmas
+mod QueueLemmas

@@ -1,0 +1,12 @@
+//! Items in the order of their keys, found by their key and by their rank, where only the making of a place takes memory; and a
+//! queue from whose middle items can be taken (both this project's own).
+#![tactic(auto)]
+
+mod map;
+mod queue;
+#[cfg(test)]
+mod tests;
+mod tree;
+
+pub use map::RankMap;
+pub use queue::Queue;
