@@ -72,7 +72,7 @@ pub record LedTo (t : ℕ) (r : Reached) (x : Option Value) (l : Location) : Typ
   pub spot : location_of t to.spot ≡ l
 
 -- a star leads the machine where it leads the store
-led_to : (g : Gives) (t : ℕ) (r : Reached) (x : Option Value) (l : Location) → star_target (maybe_val g t x) ≡ Some l → LedTo t r x l
+pub led_to : (g : Gives) (t : ℕ) (r : Reached) (x : Option Value) (l : Location) → star_target (maybe_val g t x) ≡ Some l → LedTo t r x l
 led_to g t r None l e = cc
 led_to g t r (Some (Own plain.Nothing)) l e = cc
 led_to g t r (Some (Own plain.Unit)) l e = cc
@@ -87,7 +87,7 @@ led_to g t r (Some (Held m)) l e = cc
 -- PLACES
 
 -- a walk of one star more begins with the walk
-walk_before : (s : Store) (d : ℕ) (l x : Location) → walk s (suc d) l ≡ Some x → (m : Location) × (walk s d l ≡ Some m) × (star_hop s m ≡ Some x)
+pub walk_before : (s : Store) (d : ℕ) (l x : Location) → walk s (suc d) l ≡ Some x → (m : Location) × (walk s d l ≡ Some m) × (star_hop s m ≡ Some x)
 walk_before s d l x h = by d l h
   where
     first : (d : ℕ) (l : Location) → walk s (suc d) l ≡ Some x → (m : Location) × (walk s d l ≡ Some m)

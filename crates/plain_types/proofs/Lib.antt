@@ -9,3 +9,5 @@ pub mod Done
 pub mod Hand
 pub mod Operands
 pub mod Numbers
+pub mod Places
+pub mod Borrows

@@ -1,10 +1,11 @@
 -- A PLAIN STEP KEEPS A STATE TYPED (Featherweight Rust's preservation and progress, with this project's threads, mutexes and views), act by act.
-use Rattle.std.specs.Prelude.{◌≡◌, Option, Some}
+use Rattle.std.specs.Prelude.{◌≡◌, true, false, Option, Some}
 use Rattle.fr_base.specs.declared.place.Op.{Op}
+use Rattle.fr_base.specs.declared.place.Lval.{Lval}
 use Rattle.fr_base.specs.declared.step.Fresh.{Fresh}
 use Rattle.fr_base.specs.declared.step.Fresh.TheVariants as fresh
 use Rattle.fr_plain.specs.declared.value.Value.{Value}
-use Rattle.fr_plain.specs.MachineActs.{Act, do_print, do_arith}
+use Rattle.fr_plain.specs.MachineActs.{Act, do_borrow, do_print, do_arith, do_read}
 use Rattle.fr_plain.specs.MachineThreads.{Now, Move, Moves, Life, alive, owing, loose, Thread, Whole, thread_at}
 use Rattle.fr_plain.specs.Machine.{Stepped, done_act}
 use Rattle.fr_plain.specs.PlainState.{plain_state}
@@ -47,3 +48,14 @@ IsPrint a = (v : Value) × (a ≡ do_print v)
 
 abbrev pub IsArith : Act Position → Type 0
 IsArith a = (f : Op) × (v : Value) × (w : Value) × (a ≡ do_arith f v w)
+
+-- shared and mutable borrows
+abbrev pub IsBorrow : Act Position → Type 0
+IsBorrow a = (w : Lval) × (a ≡ do_borrow w false)
+
+abbrev pub IsBorrowMut : Act Position → Type 0
+IsBorrowMut a = (w : Lval) × (a ≡ do_borrow w true)
+
+-- a read that copies
+abbrev pub IsCopy : Act Position → Type 0
+IsCopy a = (w : Lval) × (a ≡ do_read w false)

@@ -1,8 +1,15 @@
 use Rattle.plain_types.proofs.laws.acts_keep_types.Goals as goal
 use Rattle.plain_types.proofs.Numbers.{print_keeps, arith_keeps}
+use Rattle.plain_types.proofs.Borrows.{borrow_keeps, borrow_mut_keeps}
 
 pub returns-clause-print : goal.returns-clause-print
 returns-clause-print c = print_keeps
 
 pub returns-clause-arith : goal.returns-clause-arith
 returns-clause-arith c = arith_keeps
+
+pub returns-clause-borrow : goal.returns-clause-borrow
+returns-clause-borrow c = borrow_keeps
+
+pub returns-clause-borrow_mut : goal.returns-clause-borrow_mut
+returns-clause-borrow_mut c = borrow_mut_keeps
