@@ -25,7 +25,7 @@ there_with (s ∷ ss) n new xs t h =
     (λ q. eq_cases (λ b. IsSome (if b then Some new else server_at ss t) → IsSome (if b then Some (with_outbox xs new) else server_at ss t)) new.rest.number t (λ a g. refl) (λ a g. g))
     (λ ne. eq_cases (λ b. IsSome (if b then Some s else server_at (with_server ss n new) t) → IsSome (if b then Some s else server_at (with_server ss n (with_outbox xs new)) t)) s.rest.number t (λ a g. g) (λ a g. there_with ss n new xs t g)) h
 
-go_with : (ss : List Server) (n : ℕ) (new : Server) (ys : List Sent) (xs : List Sent) → GoTo (with_server ss n new) xs → GoTo (with_server ss n (with_outbox ys new)) xs
+pub go_with : (ss : List Server) (n : ℕ) (new : Server) (ys : List Sent) (xs : List Sent) → GoTo (with_server ss n new) xs → GoTo (with_server ss n (with_outbox ys new)) xs
 go_with ss n new ys [] g = tt
 go_with ss n new ys (x ∷ xs) g = (there_with ss n new ys x.target g.0, go_with ss n new ys xs g.1)
 

@@ -19,7 +19,7 @@ use Rattle.heap_law.specs.Coherent.{IsSound}
 use Rattle.heap_law.proofs.Sums.{tot-append, server_parts}
 use Rattle.event_law.proofs.Trades.{tot-remove}
 use Rattle.event_law.proofs.Events.{tot-server}
-use Rattle.event_law.proofs.Unseen.{Unseen, thread_alone, seen_of}
+use Rattle.event_law.proofs.Unseen.{Unseen, Unnoted, thread_alone, seen_of}
 
 -- a thread, an address or the counts of a server that isn't there
 abbrev pub stray : List Server → Thing → ℕ
@@ -86,9 +86,10 @@ module _ (k : Cluster) (sound : IsSound k) where
     copy = λ s c. refl;
     used = λ s w. refl;
     mutex = λ s m. refl;
-    queue = λ m s t. refl;
-    note = λ s t. refl;
   }
+
+  unnoted : Unnoted g
+  unnoted = record { queue = λ m s t. refl; note = λ s t. refl }
 
   thread_there : (n : ℕ) (p : Bool) (t : ThreadState) → IsSome (server_at k.servers n) → tot g (thread_things n p t) ≡ 0
   thread_there n p t a = thread_alone g n (unseen n a) n p t ∙ ap other a
@@ -121,7 +122,7 @@ module _ (k : Cluster) (sound : IsSound k) where
   server_there : (s : Server) → IsSome (server_at k.servers s.rest.number) → tot h (server_things s) ≡ 0 → tot g (server_things s) ≡ 0
   server_there s a z =
       let p = server_parts h s in
-      omega (arith, seen_of g s.rest.number (unseen s.rest.number a) s refl, ap other a, standing_there s.rest.number a 0 s.threads, waiting_there s.rest.number 0 s.rest.inbox (omega (arith, z, p)), leaving_there 0 s.rest.outbox (omega (arith, z, p)))
+      omega (arith, seen_of g s.rest.number (unseen s.rest.number a) unnoted s refl, ap other a, standing_there s.rest.number a 0 s.threads, waiting_there s.rest.number 0 s.rest.inbox (omega (arith, z, p)), leaving_there 0 s.rest.outbox (omega (arith, z, p)))
 
   all_there : (us : List Server) → ((t : ℕ) → IsSome (server_at us t) → IsSome (server_at k.servers t)) → tot h (servers_things us) ≡ 0 → tot g (servers_things us) ≡ 0
   all_there [] c z = refl

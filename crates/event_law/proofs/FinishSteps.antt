@@ -36,14 +36,14 @@ some_same : {a b : Kind} → Some a ≡ Some b → a ≡ b
 some_same e = cc
 
 -- the notes of a server stand by rising number
-notes_rise : (k : Sight) (m n : ℕ) (ss : List Server) (s : Server) → servers_wrong k m ss ≡ 0 → server_at ss n ≡ Some s → rising (numbers_of (λ t. t.thread) s.rest.tasks) ≡ 0
+pub notes_rise : (k : Sight) (m n : ℕ) (ss : List Server) (s : Server) → servers_wrong k m ss ≡ 0 → server_at ss n ≡ Some s → rising (numbers_of (λ t. t.thread) s.rest.tasks) ≡ 0
 notes_rise k m n [] s z h = absurd (cc h)
 notes_rise k m n (x ∷ ss) s z h =
     eq_cases (λ b. (if b then Some x else server_at ss n) ≡ Some s → rising (numbers_of (λ t. t.thread) s.rest.tasks) ≡ 0) x.rest.number n
     (λ q d. let same : x ≡ s = cc in subst (λ (y : Server). rising (numbers_of (λ t. t.thread) y.rest.tasks) ≡ 0) same (omega (arith, z)))
     (λ ne d. notes_rise k (m + 1) n ss s (omega (arith, z)) d) h
 
-task_number : (xs : List Task) (t : ℕ) (x : Task) → task_in xs t ≡ Some x → x.thread ≡ t
+pub task_number : (xs : List Task) (t : ℕ) (x : Task) → task_in xs t ≡ Some x → x.thread ≡ t
 task_number [] t x e = absurd (cc e)
 task_number (y ∷ xs) t x e =
     eq_cases (λ b. (if b then Some y else task_in xs t) ≡ Some x → x.thread ≡ t) y.thread t

@@ -71,17 +71,17 @@ pair_finds p (x ∷ xs) o r e = by (over_of p x.state) refl e
         (rest.1.0, eq_cases (λ b. (if b then Some x else task_in xs o) ≡ Some rest.1.0) x.thread o (λ q. absurd (omega (arith, q, rest.0))) (λ ne. rest.1.1), rest.1.2)
 
 -- another number finds the same without one
-other_stays : (xs : List Task) (t o : ℕ) (y : Task) → ((t ≡ o) → ⊥) → task_in xs o ≡ Some y → task_in (without_task xs t) o ≡ Some y
+pub other_stays : (xs : List Task) (t o : ℕ) (y : Task) → ((t ≡ o) → ⊥) → task_in xs o ≡ Some y → task_in (without_task xs t) o ≡ Some y
 other_stays [] t o y ne e = e
 other_stays (x ∷ xs) t o y ne e =
     eq_cases (λ b. task_in (if b then xs else x ∷ without_task xs t) o ≡ Some y) x.thread t
     (λ q. eq_cases (λ c. (if c then Some x else task_in xs o) ≡ Some y → task_in xs o ≡ Some y) x.thread o (λ r d. absurd (ne (omega (arith, q, r)))) (λ nr d. d) e)
     (λ nq. eq_cases (λ c. (if c then Some x else task_in xs o) ≡ Some y → (if c then Some x else task_in (without_task xs t) o) ≡ Some y) x.thread o (λ r d. d) (λ nr d. other_stays xs t o y ne d) e)
 
-same_task : {x y : Task} → Some x ≡ Some y → x ≡ y
+pub same_task : {x y : Task} → Some x ≡ Some y → x ≡ y
 same_task e = cc
 
-not_over : (p q : ℕ) (s : TaskState) → s ≡ in_pair q false → over_of p s ≡ true → ⊥
+pub not_over : (p q : ℕ) (s : TaskState) → s ≡ in_pair q false → over_of p s ≡ true → ⊥
 not_over p q s e h = by (p == q) (subst (λ z. over_of p z ≡ true) e h)
   where
     by : (b : Bool) → Rattle.std.specs.Prelude.◌&&◌ b false ≡ true → ⊥

@@ -46,8 +46,8 @@ use Rattle.event_law.proofs.Results.{then_gives, map_gives, over_gives, bind_giv
 use Rattle.event_law.proofs.ObjectMessages.{looked_object}
 use Rattle.event_law.proofs.Sends.{Sends, sends_more}
 use Rattle.event_law.proofs.Known.{Here, OwnedKnown, CellKnown}
-use Rattle.event_law.proofs.KnownPlaces.{pointer_sends, looked_known}
-use Rattle.event_law.proofs.KnownSteps.{gives_up}
+use Rattle.event_law.proofs.KnownPlaces.{pointer_keeps, looked_known}
+use Rattle.event_law.proofs.KnownSteps.{sent, gives_up}
 
 -- a mutex with what is in it and the servers of those that wait for it
 pub record MutexKnown (ss : List Server) (m : Mutex) : Type 0 where
@@ -111,7 +111,7 @@ module _ (ss : List Server) (r : Rest) where
   drops : (v : ℕ) (b : ObjNo) (w : Work) → AllByRecursion (CellKnown ss) w.rest.partition.cells → Sent w → Gives Sent (deliver_drop v b w)
   drops v b w k a =
       map_gives Sent (look_object w.rest.partition v b) _ (λ c q.
-      let there : CellKnown ss (Some c) = subst (CellKnown ss) (looked_object w.rest.partition v b c q).0 (looked_known ss r w.rest.partition v k) in
+      let there : CellKnown ss (Some c) = subst (CellKnown ss) (looked_object w.rest.partition v b c q).0 (looked_known ss w.rest.partition v k) in
       gives_up ss r c.value (Rattle.server_model.specs.Work.note (act.Free b v) (Rattle.server_model.specs.Work.with_partition (freed w.rest.partition v) w)) there a)
 
   uses_it : (v : ℕ) (b : Bool) (h : Hand) → SentHand h → Gives SentHand (used_once v b h)
@@ -124,7 +124,7 @@ module _ (ss : List Server) (r : Rest) where
       (test_gives SentHand (can_fill h.work.rest.cache v c) _ (λ p. uses_it v (is_in v h.thread.walk) _ a)) (λ h2 b. b))
 
   comes_at : (new : ℕ) (s : Spot) (h : Hand) → SentHand h → Gives SentHand (arrived_at s new h)
-  comes_at new s h a = over_gives SentHand SentHand (set_pointer s new h) _ (pointer_sends ss r s new h a) (λ h2 b. b)
+  comes_at new s h a = over_gives SentHand SentHand (set_pointer s new h) _ (pointer_keeps (sent ss r) s new h a) (λ h2 b. b)
 
   comes_slot : (old new i : ℕ) (h : Hand) → SentHand h → Gives SentHand (arrived_slot old new i h)
   comes_slot old new i h a = test_gives SentHand (waits_under old (slice_get h.thread.slots i)) _ (λ on. comes_at new (in_slot i) h a)

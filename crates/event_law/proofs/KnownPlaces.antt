@@ -9,28 +9,27 @@ use Rattle.global_addr.specs.Words.{server_of, address_of}
 use Rattle.owner_box.specs.View.{PartitionState}
 use Rattle.owner_box.specs.Partition.{stored}
 use Rattle.read_cache.specs.Cache.{Copy, copy_of, cell_in}
+use Rattle.mutex_home.specs.Mutexes.{Mutexes}
+use Rattle.join_home.specs.Tasks.{Task}
+use Rattle.thread_state.specs.declared.phase.Phase.{Phase}
+use Rattle.server_msgs.specs.declared.message.Message.{Message}
 use Rattle.thread_state.specs.declared.value.Value.{Value}
 use Rattle.thread_state.specs.declared.value.Value.TheVariants as value
-use Rattle.server_model.specs.Servers.{Server, Rest}
+use Rattle.server_model.specs.Servers.{Sent, Server}
 use Rattle.server_model.specs.Work.{Hand, with_partition, look, leads_here, working, with_slots, front_of}
 use Rattle.server_model.specs.Places.{Spot, in_slot, on_top, in_cell, in_copy, nowhere, value_in, value_at, written, note_slot, note_write, put_at, pointer_of, with_word, set_pointer}
 use Rattle.event_law.specs.Laws.{Gives}
 use Rattle.event_law.proofs.Results.{then_gives, test_gives}
 use Rattle.event_law.proofs.Cells.{looked}
-use Rattle.event_law.proofs.Sends.{Sends}
 use Rattle.event_law.proofs.Known.{Here, ValueKnown, CellKnown, CopyKnown, Known, all_at, all_set, all_append, all_take, stored_known, copy_known}
 
 some_same : {a b : Value} → Some a ≡ Some b → a ≡ b
 some_same e = cc
 
-module _ (ss : List Server) (r : Rest) where
+module _ (ss : List Server) where
   -- what the hand of an event names is known
   abbrev pub KnownHand : Hand → Type 0
   KnownHand h = Known ss h.thread.home h.thread.slots h.thread.temps h.work.rest.partition h.work.rest.cache
-
-  -- so far the event has sent to servers of the run alone
-  abbrev pub SentHand : Hand → Type 0
-  SentHand h = Sends ss r h.work.rest
 
   -- WHAT STANDS AT A SPOT
 
@@ -111,23 +110,6 @@ module _ (ss : List Server) (r : Rest) where
   put_known (in_copy w) v h k g = tt
   put_known nowhere v h k g = tt
 
-  pub put_sends : (s : Spot) (v : Value) (h : Hand) → SentHand h → Gives SentHand (put_at s v h)
-  put_sends (in_slot i) v h a = test_gives SentHand (nat_lt i (length h.thread.slots)) _ (λ on. a)
-  put_sends on_top v h a = a
-  put_sends (in_cell w through) (value.Own v) h a = test_gives SentHand (leads_here h.work.rest.partition w) _ (λ on. noted through)
-    where
-      noted : (o : Option ℕ) → SentHand (note_write o (working (with_partition (stored h.work.rest.partition w v)) h))
-      noted None = a
-      noted (Some i) = a
-  put_sends (in_cell w through) value.Gone h a = tt
-  put_sends (in_cell w through) (value.SharedSlot i) h a = tt
-  put_sends (in_cell w through) (value.MutSlot i) h a = tt
-  put_sends (in_cell w through) (value.Shared i) h a = tt
-  put_sends (in_cell w through) (value.Mut i) h a = tt
-  put_sends (in_cell w through) (value.Held i) h a = tt
-  put_sends (in_copy w) v h a = tt
-  put_sends nowhere v h a = tt
-
   -- POINTERS
 
   worded_known : (w : ℕ) (v new : Value) → Here ss (server_of w) → with_word w v ≡ Some new → ValueKnown ss new
@@ -138,5 +120,32 @@ module _ (ss : List Server) (r : Rest) where
   pub pointer_put : (s : Spot) (w : ℕ) (h : Hand) → Here ss (server_of w) → KnownHand h → Gives KnownHand (set_pointer s w h)
   pointer_put s w h k g = then_gives KnownHand (value_at h s) _ (λ v q. then_gives KnownHand (with_word w v) _ (λ new e. put_known s new h (worded_known w v new k e) g))
 
-  pub pointer_sends : (s : Spot) (w : ℕ) (h : Hand) → SentHand h → Gives SentHand (set_pointer s w h)
-  pointer_sends s w h a = then_gives SentHand (value_at h s) _ (λ v q. then_gives SentHand (with_word w v) _ (λ new e. put_sends s new h a))
+-- WHAT MAKING A PLACE READY LEAVES ALONE
+
+-- what may hold of the phase and the number of a thread, and of the number, the messages, the mutexes and the tasks of its server
+abbrev pub Told : Type 1
+Told = Phase → ℕ → ℕ → List Message → List Sent → Mutexes → List Task → Type 0
+
+module _ (q : Told) where
+  abbrev pub Holds : Hand → Type 0
+  Holds h = q h.thread.phase h.thread.number h.work.rest.number h.work.rest.inbox h.work.rest.outbox h.work.rest.mutexes h.work.rest.tasks
+
+  pub put_keeps : (s : Spot) (v : Value) (h : Hand) → Holds h → Gives Holds (put_at s v h)
+  put_keeps (in_slot i) v h a = test_gives Holds (nat_lt i (length h.thread.slots)) _ (λ on. a)
+  put_keeps on_top v h a = a
+  put_keeps (in_cell w through) (value.Own v) h a = test_gives Holds (leads_here h.work.rest.partition w) _ (λ on. noted through)
+    where
+      noted : (o : Option ℕ) → Holds (note_write o (working (with_partition (stored h.work.rest.partition w v)) h))
+      noted None = a
+      noted (Some i) = a
+  put_keeps (in_cell w through) value.Gone h a = tt
+  put_keeps (in_cell w through) (value.SharedSlot i) h a = tt
+  put_keeps (in_cell w through) (value.MutSlot i) h a = tt
+  put_keeps (in_cell w through) (value.Shared i) h a = tt
+  put_keeps (in_cell w through) (value.Mut i) h a = tt
+  put_keeps (in_cell w through) (value.Held i) h a = tt
+  put_keeps (in_copy w) v h a = tt
+  put_keeps nowhere v h a = tt
+
+  pub pointer_keeps : (s : Spot) (w : ℕ) (h : Hand) → Holds h → Gives Holds (set_pointer s w h)
+  pointer_keeps s w h a = then_gives Holds (value_at h s) _ (λ v q. then_gives Holds (with_word w v) _ (λ new e. put_keeps s new h a))

@@ -39,10 +39,21 @@ use Rattle.server_model.specs.Prepare.{Prepared, ready, requested, nothing, acce
 use Rattle.server_model.specs.Events.{Stepped, done_step, committed, prepared, step}
 use Rattle.event_law.specs.Laws.{Gives}
 use Rattle.event_law.proofs.Results.{then_gives, map_gives, over_gives, bind_gives, test_gives}
-use Rattle.event_law.proofs.Sends.{Sends, sends_more}
+use Rattle.event_law.proofs.Sends.{Adds, Sends, sends_more}
 use Rattle.event_law.proofs.Known.{Here, OwnedKnown, ValueKnown, all_at, all_take}
-use Rattle.event_law.proofs.KnownPlaces.{SentHand, spot_known, put_sends, pointer_sends}
-use Rattle.event_law.proofs.KnownPrepares.{Ok, Fine, prepare_fine}
+use Rattle.event_law.proofs.KnownPlaces.{Told, Holds, spot_known, put_keeps, pointer_keeps}
+use Rattle.event_law.proofs.KnownPrepares.{Ok, Asked, Fine, prepare_fine}
+
+-- so far the event has sent to servers of the run alone
+abbrev pub sent : List Server → Rest → Told
+sent ss r p t n i o ms ts = Adds ss r n o
+
+-- and so a request does
+asks : (ss : List Server) (r : Rest) → Asked ss (sent ss r) (Holds (sent ss r))
+asks ss r = record {
+  for_copy = λ p h k g. sends_more ss r h.work.rest (server_of p.word) (message.Fetch p.word p.object h.work.rest.number h.thread.number) k g.1;
+  for_object = λ p h k g. sends_more ss r h.work.rest (server_of p.word) (message.Move p.word p.object h.work.rest.number h.thread.number) k g.1;
+}
 
 module _ (ss : List Server) (r : Rest) where
   -- an owned value that is let go
@@ -55,7 +66,7 @@ module _ (ss : List Server) (r : Rest) where
   gives_up (owned.Int n) w k a = a
 
   abbrev Sent : Hand → Type 0
-  Sent h = SentHand ss r h
+  Sent h = Sends ss r h.work.rest
 
   -- a step that is done, or whose thread waits
   abbrev SentBy : Committed → Type 0
@@ -78,9 +89,9 @@ module _ (ss : List Server) (r : Rest) where
   -- VALUES TAKEN OUT
 
   abbrev PoppedOk : {X : Type 0} → (X → Type 0) → Popped X → Type 0
-  PoppedOk P p = P p.item × Ok ss r p.hand
+  PoppedOk P p = P p.item × Ok ss (sent ss r) p.hand
 
-  pops_temp : (h : Hand) → Ok ss r h → Gives (PoppedOk (ValueKnown ss)) (pop_temp h)
+  pops_temp : (h : Hand) → Ok ss (sent ss r) h → Gives (PoppedOk (ValueKnown ss)) (pop_temp h)
   pops_temp h g =
       let known = g.0 in
       map_gives (PoppedOk (ValueKnown ss)) (last_of h.thread.temps) _ (λ v q. (
@@ -97,7 +108,7 @@ module _ (ss : List Server) (r : Rest) where
         ),
       ))
 
-  pops_slot : (h : Hand) → Ok ss r h → Gives (PoppedOk (ValueKnown ss)) (pop_slot h)
+  pops_slot : (h : Hand) → Ok ss (sent ss r) h → Gives (PoppedOk (ValueKnown ss)) (pop_slot h)
   pops_slot h g =
       let known = g.0 in
       map_gives (PoppedOk (ValueKnown ss)) (last_of h.thread.slots) _ (λ v q. (
@@ -114,7 +125,7 @@ module _ (ss : List Server) (r : Rest) where
         ),
       ))
 
-  pops : (o : Operand) (h : Hand) → Ok ss r h → Gives (PoppedOk (ValueKnown ss)) (pop o h)
+  pops : (o : Operand) (h : Hand) → Ok ss (sent ss r) h → Gives (PoppedOk (ValueKnown ss)) (pop o h)
   pops (operand.Const n) h g = (tt, g)
   pops operand.Unit h g = (tt, g)
   pops operand.Pop h g = pops_temp h g
@@ -147,10 +158,10 @@ module _ (ss : List Server) (r : Rest) where
   int_known (value.Own (owned.Int n)) k = tt
   int_known _ k = tt
 
-  pops_owned : (o : Operand) (h : Hand) → Ok ss r h → Gives (PoppedOk (OwnedKnown ss)) (pop_owned o h)
+  pops_owned : (o : Operand) (h : Hand) → Ok ss (sent ss r) h → Gives (PoppedOk (OwnedKnown ss)) (pop_owned o h)
   pops_owned o h g = takes_as (OwnedKnown ss) owned_of owned_known (pop o h) (pops o h g)
 
-  pops_int : (o : Operand) (h : Hand) → Ok ss r h → Gives (PoppedOk NoMatter) (pop_int o h)
+  pops_int : (o : Operand) (h : Hand) → Ok ss (sent ss r) h → Gives (PoppedOk NoMatter) (pop_int o h)
   pops_int o h g = takes_as NoMatter int_of int_known (pop o h) (pops o h g)
 
   -- VALUES DROPPED
@@ -161,7 +172,7 @@ module _ (ss : List Server) (r : Rest) where
 
   finishes_at : (holder : Spot) (o : Option ℕ) (h : Hand) → Sent h → Gives Sent (finished_at holder o h)
   finishes_at holder None h a = a
-  finishes_at holder (Some w) h a = pointer_sends ss r holder w h a
+  finishes_at holder (Some w) h a = pointer_keeps (sent ss r) holder w h a
 
   finishes : (holder : Spot) (q : MutRef) (b : Bool) (h : Hand) → Sent h → Gives Sent (if b then None else finished_at holder (finish_word q) h)
   finishes holder q true h a = tt
@@ -178,30 +189,30 @@ module _ (ss : List Server) (r : Rest) where
 
   -- SLOTS AND PLACES
 
-  replaces_slot : (i : ℕ) (holder : Spot) (v : Value) (h : Hand) → Ok ss r h → Gives Sent (replace_slot i holder v h)
+  replaces_slot : (i : ℕ) (holder : Spot) (v : Value) (h : Hand) → Ok ss (sent ss r) h → Gives Sent (replace_slot i holder v h)
   replaces_slot i holder v h g =
       let known = g.0 in
       then_gives Sent (slice_get h.thread.slots i) _ (λ old q.
-      bind_gives Sent Sent (put_slot i v (label_dropped old h)) (drop_value holder old) (put_sends ss r (in_slot i) v (label_dropped old h) g.1)
+      bind_gives Sent Sent (put_slot i v (label_dropped old h)) (drop_value holder old) (put_keeps (sent ss r) (in_slot i) v (label_dropped old h) g.1)
       (λ h2 a. drops holder old h2 (all_at (ValueKnown ss) h.thread.slots i old known.slots_known q) a))
 
-  replaces_at : (s : Spot) (v : Owned) (h : Hand) → Ok ss r h → Gives Sent (replace_at s v h)
+  replaces_at : (s : Spot) (v : Owned) (h : Hand) → Ok ss (sent ss r) h → Gives Sent (replace_at s v h)
   replaces_at s v h g =
       then_gives Sent (value_at h s) _ (λ old q.
-      bind_gives Sent Sent (store_at s v (label_dropped old h)) (drop_value nowhere old) (stores s v (label_dropped old h) g.1) (λ h2 a. drops nowhere old h2 (spot_known ss r s h old g.0 q) a))
+      bind_gives Sent Sent (store_at s v (label_dropped old h)) (drop_value nowhere old) (stores s v (label_dropped old h) g.1) (λ h2 a. drops nowhere old h2 (spot_known ss s h old g.0 q) a))
     where
       stores : (s : Spot) (v : Owned) (h : Hand) → Sent h → Gives Sent (store_at s v h)
-      stores s v h a = put_sends ss r s (value.Own v) (working (label_all (store_labels (cell_at h s) v)) h) a
+      stores s v h a = put_keeps (sent ss r) s (value.Own v) (working (label_all (store_labels (cell_at h s) v)) h) a
 
-  assigns : (w : Lval) (d : ℕ) (o : Operand) (s : Spot) (h : Hand) → Ok ss r h → Gives Sent (assign w d o s h)
+  assigns : (w : Lval) (d : ℕ) (o : Operand) (s : Spot) (h : Hand) → Ok ss (sent ss r) h → Gives Sent (assign w d o s h)
   assigns w zero o s h g = bind_gives (PoppedOk (ValueKnown ss)) Sent (pop o h) _ (pops o h g) (λ p u. replaces_slot w.slot s p.item p.hand u.1)
   assigns w (suc d) o s h g = bind_gives (PoppedOk (OwnedKnown ss)) Sent (pop_owned o h) _ (pops_owned o h g) (λ p u. replaces_at s p.item p.hand u.1)
 
   takes_out : (s : Spot) (h : Hand) → Sent h → Gives Sent (take_out s h)
-  takes_out (in_slot i) h a = put_sends ss r (in_slot i) value.Gone h a
+  takes_out (in_slot i) h a = put_keeps (sent ss r) (in_slot i) value.Gone h a
   takes_out on_top h a = a
   takes_out (in_cell w through) h a =
-      put_sends ss r (in_cell w through) (value.Own owned.Nothing) (working (label_all (store_labels (cell_at h (in_cell w through)) owned.Nothing)) h) a
+      put_keeps (sent ss r) (in_cell w through) (value.Own owned.Nothing) (working (label_all (store_labels (cell_at h (in_cell w through)) owned.Nothing)) h) a
   takes_out (in_copy w) h a = tt
   takes_out nowhere h a = tt
 
@@ -217,47 +228,47 @@ module _ (ss : List Server) (r : Rest) where
   lends w zero s h a = a
   lends w (suc d) s h a = then_gives Sent (value_at h s) _ (λ v q. map_gives Sent (mutable_from h.thread.phase (record w { depth = d }) v) _ (λ u c. a))
 
-  discards : (s : Spot) (h : Hand) → Ok ss r h → Gives Sent (discard s h)
+  discards : (s : Spot) (h : Hand) → Ok ss (sent ss r) h → Gives Sent (discard s h)
   discards s h g = bind_gives (PoppedOk (ValueKnown ss)) Sent (pop_temp h) _ (pops_temp h g) (λ p u. drops s p.item (label_dropped p.item p.hand) u.0 (u.1).1)
 
-  drops_slot : (s : Spot) (h : Hand) → Ok ss r h → Gives Sent (drop_slot s h)
+  drops_slot : (s : Spot) (h : Hand) → Ok ss (sent ss r) h → Gives Sent (drop_slot s h)
   drops_slot s h g = bind_gives (PoppedOk (ValueKnown ss)) Sent (pop_slot h) _ (pops_slot h g) (λ p u. drops s p.item (label_dropped p.item p.hand) u.0 (u.1).1)
 
   -- OBJECTS AND NUMBERS
 
-  boxes_up : (o : Operand) (h : Hand) → Ok ss r h → Gives Sent (box_up o h)
+  boxes_up : (o : Operand) (h : Hand) → Ok ss (sent ss r) h → Gives Sent (box_up o h)
   boxes_up o h g =
       bind_gives (PoppedOk (OwnedKnown ss)) Sent (pop_owned o h) _ (pops_owned o h g) (λ p u.
       over_gives (λ (n : NewWord). Sends ss r n.work.rest) Sent (issue_placed (act.Make (next_object p.hand)) (record { object = next_object p.hand; value = p.item }) p.hand.work) (λ n. push_box p.item n p.hand)
       (test_gives (λ (n : NewWord). Sends ss r n.work.rest) (can_grow p.hand.work.rest.partition) _ (λ on. (u.1).1)) (λ n a. a))
 
-  calculates : (f : Op) (a b : Operand) (h : Hand) → Ok ss r h → Gives Sent (calculate f a b h)
+  calculates : (f : Op) (a b : Operand) (h : Hand) → Ok ss (sent ss r) h → Gives Sent (calculate f a b h)
   calculates f a b h g =
       bind_gives (PoppedOk NoMatter) Sent (pop_int b h) _ (pops_int b h g) (λ y u.
       over_gives (PoppedOk NoMatter) Sent (pop_int a y.hand) _ (pops_int a y.hand u.1) (λ x w. (w.1).1))
 
-  prints : (o : Operand) (h : Hand) → Ok ss r h → Gives Sent (print o h)
+  prints : (o : Operand) (h : Hand) → Ok ss (sent ss r) h → Gives Sent (print o h)
   prints o h g = over_gives (PoppedOk NoMatter) Sent (pop_int o h) _ (pops_int o h g) (λ p u. (u.1).1)
 
   -- MUTEXES
 
-  mutex_there : (s : Spot) (h : Hand) → Ok ss r h → Gives (λ (m : MutexNo). Here ss m.home) (mutex_at h s)
-  mutex_there s h g = then_gives (λ (m : MutexNo). Here ss m.home) (value_at h s) mutex_of (λ v q. mutex_known v (spot_known ss r s h v g.0 q))
+  mutex_there : (s : Spot) (h : Hand) → Ok ss (sent ss r) h → Gives (λ (m : MutexNo). Here ss m.home) (mutex_at h s)
+  mutex_there s h g = then_gives (λ (m : MutexNo). Here ss m.home) (value_at h s) mutex_of (λ v q. mutex_known v (spot_known ss s h v g.0 q))
 
-  makes_mutex : (o : Operand) (h : Hand) → Ok ss r h → SentBy (mutex o h)
+  makes_mutex : (o : Operand) (h : Hand) → Ok ss (sent ss r) h → SentBy (mutex o h)
   makes_mutex o h g =
       done_sends _ _ (over_gives Sent Sent (then_some (pop_owned o h) (λ p. mutex_made p.item p.hand)) go_on
       (bind_gives (PoppedOk (OwnedKnown ss)) Sent (pop_owned o h) _ (pops_owned o h g) (λ p u. test_gives Sent (can_make p.hand.work.rest.mutexes) _ (λ on. (u.1).1))) (λ h2 a. a))
 
-  dups : (s : Spot) (gift : Option Owned) (h : Hand) → Ok ss r h → SentBy (dup s gift h)
+  dups : (s : Spot) (gift : Option Owned) (h : Hand) → Ok ss (sent ss r) h → SentBy (dup s gift h)
   dups s None h g = waits_sends _ (over_gives (λ (m : MutexNo). Here ss m.home) Sent (mutex_at h s) (ask_dup h) (mutex_there s h g) (λ m k. sends_more ss r h.work.rest m.home (message.Dup m h.work.rest.number h.thread.number) k g.1))
   dups s (Some v) h g = goes_sends _ (map_gives Sent (mutex_at h s) _ (λ m q. g.1))
 
-  locks : (s : Spot) (gift : Option Owned) (h : Hand) → Ok ss r h → SentBy (lock s gift h)
+  locks : (s : Spot) (gift : Option Owned) (h : Hand) → Ok ss (sent ss r) h → SentBy (lock s gift h)
   locks s None h g = waits_sends _ (over_gives (λ (m : MutexNo). Here ss m.home) Sent (mutex_at h s) (ask_lock h) (mutex_there s h g) (λ m k. sends_more ss r h.work.rest m.home (message.Lock m h.work.rest.number h.thread.number) k g.1))
   locks s (Some v) h g = goes_sends _ (map_gives Sent (mutex_at h s) _ (λ m q. g.1))
 
-  unlocks : (h : Hand) → Ok ss r h → Gives Sent (unlock h)
+  unlocks : (h : Hand) → Ok ss (sent ss r) h → Gives Sent (unlock h)
   unlocks h g =
       bind_gives (PoppedOk (OwnedKnown ss)) Sent (then_some (pop_slot h) (taken_as owned_of)) _ (takes_as (OwnedKnown ss) owned_of owned_known (pop_slot h) (pops_slot h g)) (λ v u.
       over_gives (PoppedOk (λ (m : MutexNo). Here ss m.home)) Sent (then_some (pop_slot v.hand) (taken_as held_of)) _ (takes_as (λ (m : MutexNo). Here ss m.home) held_of held_known (pop_slot v.hand) (pops_slot v.hand u.1)) (λ m w.
@@ -265,7 +276,7 @@ module _ (ss : List Server) (r : Rest) where
 
   -- THREADS
 
-  joins : (o : Operand) (gift : Option Owned) (h : Hand) → Ok ss r h → SentBy (join o gift h)
+  joins : (o : Operand) (gift : Option Owned) (h : Hand) → Ok ss (sent ss r) h → SentBy (join o gift h)
   joins o None h g =
       waits_sends _ (over_gives (λ (u : ℕ). Here ss (home_of u)) Sent (then_some (pop o h) (λ p. task_of p.item)) (ask_join h)
       (bind_gives (PoppedOk (ValueKnown ss)) (λ (u : ℕ). Here ss (home_of u)) (pop o h) _ (pops o h g) (λ p u. task_known p.item u.0)) (λ u k.
@@ -278,11 +289,11 @@ module _ (ss : List Server) (r : Rest) where
   par_ends (phase.GotPar a b) h g = g
   par_ends _ h g = tt
 
-  ends_with : (main : Bool) (v : Owned) (h : Hand) → OwnedKnown ss v → Ok ss r h → Gives Sent (end_with main v h)
+  ends_with : (main : Bool) (v : Owned) (h : Hand) → OwnedKnown ss v → Ok ss (sent ss r) h → Gives Sent (end_with main v h)
   ends_with true v h k g = gives_up v (label_dropped (value.Own v) h).work k g.1
   ends_with false v h k g = let known = g.0 in sends_more ss r h.work.rest h.thread.home (message.Finished h.thread.number v) known.home_here g.1
 
-  ends : (o : Operand) (h : Hand) → Ok ss r h → SentBy (end_thread o h)
+  ends : (o : Operand) (h : Hand) → Ok ss (sent ss r) h → SentBy (end_thread o h)
   ends o h g =
       done_sends _ _ (over_gives Sent Sent (then_some (pop_owned o h) (λ p. end_with (h.thread.number == 0) p.item p.hand)) _
       (bind_gives (PoppedOk (OwnedKnown ss)) Sent (pop_owned o h) _ (pops_owned o h g) (λ p u. ends_with (h.thread.number == 0) p.item p.hand u.0 u.1)) (λ h2 a. a))
@@ -311,7 +322,7 @@ module _ (ss : List Server) (r : Rest) where
 
     -- ALL INSTRUCTIONS
 
-    commits : (i : Instr) (s : Spot) (h : Hand) → Ok ss r h → SentBy (commit servers i s h)
+    commits : (i : Instr) (s : Spot) (h : Hand) → Ok ss (sent ss r) h → SentBy (commit servers i s h)
     commits (instr.Let o) s h g = goes_sends _ (over_gives (PoppedOk (ValueKnown ss)) Sent (pop o h) _ (pops o h g) (λ p u. (u.1).1))
     commits (instr.Assign w o) s h g = goes_sends _ (assigns w w.depth o s h g)
     commits (instr.Read w take) s h g = goes_sends _ (then_gives Sent (value_at h s) _ (λ v q. reads_as take s v (load_at s h) g.1))
@@ -342,10 +353,10 @@ module _ (ss : List Server) (r : Rest) where
     commit_sends (waits h) a = a
     commit_sends refused a = tt
 
-    prepared_sends : (i : Instr) (p : Prepared) → Fine ss r p → Gives SentStep (prepared servers i p)
+    prepared_sends : (i : Instr) (p : Prepared) → Fine ss (sent ss r) (asks ss r) p → Gives SentStep (prepared servers i p)
     prepared_sends i (ready h s) g = commit_sends (commit servers i s h) (commits i s h g)
     prepared_sends i (requested h) a = a
     prepared_sends i nothing a = tt
 
-    pub step_sends : (i : Instr) (h : Hand) → Ok ss r h → Gives SentStep (step servers i h)
-    step_sends i h g = prepared_sends i (prepare (access_of i h.thread) h) (prepare_fine ss r (access_of i h.thread) h g)
+    pub step_sends : (i : Instr) (h : Hand) → Ok ss (sent ss r) h → Gives SentStep (step servers i h)
+    step_sends i h g = prepared_sends i (prepare (access_of i h.thread) h) (prepare_fine ss (sent ss r) (asks ss r) (access_of i h.thread) h g)

@@ -49,3 +49,15 @@ pub mod KnownSteps
 pub mod KnownMessages
 pub mod KnownSound
 pub mod Sending
+pub mod Fair
+pub mod Quiet
+pub mod FairStarts
+pub mod QuietSteps
+pub mod Turns
+pub mod Changes
+pub mod FairGets
+pub mod TurnMessages
+pub mod TurnNotes
+pub mod TurnFinished
+pub mod TurnPairs
+pub mod TurnEvents

@@ -40,7 +40,7 @@ module _ (k : Cluster) (sound : IsSound k) (few : FewEvents k) (number : ℕ) (s
 
   -- STEPS
 
-  found : (ts : List ThreadState) (t : ℕ) → AllByRecursion (ThreadKnown k.servers) ts → Gives (ThreadKnown k.servers) (thread_in ts t)
+  pub found : (ts : List ThreadState) (t : ℕ) → AllByRecursion (ThreadKnown k.servers) ts → Gives (ThreadKnown k.servers) (thread_in ts t)
   found [] t a = tt
   found (x ∷ ts) t a = by (x.number == t) (found ts t a.1)
     where

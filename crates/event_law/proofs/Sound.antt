@@ -13,7 +13,7 @@ use Rattle.heap_law.specs.Walking.{sum_threads}
 use Rattle.heap_law.proofs.Sums.{tot-append}
 use Rattle.event_law.specs.Sums.{is_server}
 use Rattle.event_law.specs.Laws.{SoundHasSums}
-use Rattle.event_law.proofs.Unseen.{Unseen, none_at, thread_alone, seen_of}
+use Rattle.event_law.proofs.Unseen.{Unseen, Unnoted, none_at, thread_alone, seen_of}
 
 module _ (r : ℕ) where
   abbrev f : Thing → ℕ
@@ -31,9 +31,10 @@ module _ (r : ℕ) where
     copy = λ s c. refl;
     used = λ s w. refl;
     mutex = λ s m. refl;
-    queue = λ m s t. refl;
-    note = λ s t. refl;
   }
+
+  unnoted : Unnoted f
+  unnoted = record { queue = λ m s t. refl; note = λ s t. refl }
 
   thread_none : (s : ℕ) (p : Bool) (t : ThreadState) → tot f (thread_things s p t) ≡ 0
   thread_none s p t = thread_alone f s (unseen s) s p t
@@ -49,7 +50,7 @@ module _ (r : ℕ) where
       let n = s.rest.number in
       omega (
         arith,
-        seen_of f n (unseen n) s refl,
+        seen_of f n (unseen n) unnoted s refl,
         none_at f n (unseen n) (standing_things n) (λ i x. thread_none n false x) 0 s.threads,
         none_at f n (unseen n) (waiting_things n) (λ i x. message_none n x) 0 s.rest.inbox,
         none_at f n (unseen n) leaving_things (λ i x. message_none x.target x.message) 0 s.rest.outbox,

@@ -34,7 +34,7 @@ module _ (f : Thing → ℕ) (s : ℕ) where
       (λ q g. let same : y ≡ x = cc in subst (λ z. tot f (all_tasks s (y ∷ xs)) ≡ tot f (task_things s 0 z) + tot f (all_tasks s xs)) same (front y xs))
       (λ ne g. omega (arith, tot-gone xs t x g, front y xs, front y (without_task xs t))) e
 
-  tot-put : (xs : List Task) (t : ℕ) (x : Task) (z : TaskState) → task_in xs t ≡ Some x → tot f (all_tasks s (with_state xs t z)) ≡ tot f (task_things s 0 (record { thread = t; state = z })) + tot f (all_tasks s (without_task xs t))
+  pub tot-put : (xs : List Task) (t : ℕ) (x : Task) (z : TaskState) → task_in xs t ≡ Some x → tot f (all_tasks s (with_state xs t z)) ≡ tot f (task_things s 0 (record { thread = t; state = z })) + tot f (all_tasks s (without_task xs t))
   tot-put [] t x z e = absurd (cc e)
   tot-put (y ∷ xs) t x z e =
       eq_cases (λ b. (if b then Some y else task_in xs t) ≡ Some x → tot f (all_tasks s (if b then record { thread = t; state = z } ∷ xs else y ∷ with_state xs t z)) ≡ tot f (task_things s 0 (record { thread = t; state = z })) + tot f (all_tasks s (if b then xs else y ∷ without_task xs t))) y.thread t

@@ -5,6 +5,7 @@ use Rattle.heap_partition.specs.declared.value.Cell.{Cell}
 use Rattle.heap_partition.specs.declared.value.Owned.{Owned}
 use Rattle.mut_borrow.specs.declared.mutable.MutRef.{MutRef}
 use Rattle.mut_borrow.specs.declared.shared.SharedRef.{SharedRef}
+use Rattle.owner_box.specs.View.{PartitionState}
 use Rattle.read_cache.specs.Cache.{Copy}
 use Rattle.mutex_home.specs.Mutexes.{Mutex}
 use Rattle.join_home.specs.Tasks.{Task, TaskState, kept}
@@ -27,6 +28,9 @@ pub record Unseen (f : Thing → ℕ) (n : ℕ) : Type 0 where
   pub copy : (s : ℕ) (c : Copy) → f (copied s c) ≡ 0
   pub used : (s w : ℕ) → f (uses s w) ≡ 0
   pub mutex : (s : ℕ) (m : Mutex) → f (at_home s m) ≡ 0
+
+-- nor who waits for a mutex, nor what is noted of a thread
+pub record Unnoted (f : Thing → ℕ) : Type 0 where
   pub queue : (m : MutexNo) (s t : ℕ) → f (queued m s t) ≡ 0
   pub note : (s : ℕ) (t : Task) → f (noted s t) ≡ 0
 
@@ -81,34 +85,39 @@ module _ (f : Thing → ℕ) (n : ℕ) (u : Unseen f n) where
         tot-append f g w,
       )
 
-  content_none : (m : Mutex) → tot f (content_things m.number m.content) ≡ 0
+  pub content_none : (m : Mutex) → tot f (content_things m.number m.content) ≡ 0
   content_none m = by m.content
     where
       by : (c : Option Owned) → tot f (content_things m.number c) ≡ 0
       by None = refl
       by (Some v) = omega (arith, u.held (as_content m.number) v)
 
-  mutex_none : (s i : ℕ) (m : Mutex) → tot f (mutex_things s i m) ≡ 0
-  mutex_none s i m = omega (arith, u.mutex s m, content_none m, none_at (queue_things m.number) (λ j x. omega (arith, u.queue m.number x.0 x.1)) 0 m.queue, tot-append f (content_things m.number m.content) (things_at (queue_things m.number) 0 m.queue))
-
-  result_none : (t : ℕ) (x : TaskState) → tot f (result_things t x) ≡ 0
+  pub result_none : (t : ℕ) (x : TaskState) → tot f (result_things t x) ≡ 0
   result_none t (kept v) = omega (arith, u.held (as_result t) v)
   result_none t _ = refl
 
+  pub partition_none : (p : PartitionState) → tot f (partition_things n p) ≡ 0
+  partition_none p = omega (arith, none_at (cell_things n p.free) (cell_none p.free) 0 p.cells, none_at (free_things n) (λ i x. omega (arith, u.free x.0 x.1)) 0 p.free, tot-append f (things_at (cell_things n p.free) 0 p.cells) (things_at (free_things n) 0 p.free))
+
+  pub copies_none : (s : ℕ) (cs : List Copy) → tot f (things_at (copy_things s) 0 cs) ≡ 0
+  copies_none s cs = none_at (copy_things s) (λ i x. omega (arith, u.copy s x)) 0 cs
+
+module _ (f : Thing → ℕ) (n : ℕ) (u : Unseen f n) (w : Unnoted f) where
+  mutex_none : (s i : ℕ) (m : Mutex) → tot f (mutex_things s i m) ≡ 0
+  mutex_none s i m = omega (arith, u.mutex s m, content_none f n u m, none_at f n u (queue_things m.number) (λ j x. omega (arith, w.queue m.number x.0 x.1)) 0 m.queue, tot-append f (content_things m.number m.content) (things_at (queue_things m.number) 0 m.queue))
+
   task_none : (s i : ℕ) (t : Task) → tot f (task_things s i t) ≡ 0
-  task_none s i t = omega (arith, u.note s t, result_none t.thread t.state)
+  task_none s i t = omega (arith, w.note s t, result_none f n u t.thread t.state)
 
   -- what it sees of a server
   pub seen_of : (s : Server) → s.rest.number ≡ n → tot f (server_things s)
       ≡ f (counts s.rest.number (length s.rest.partition.cells) s.rest.partition.retired s.rest.started s.rest.mutexes.made s.events) + tot f (things_at (standing_things s.rest.number) 0 s.threads) + inbox_of f s + all_sent f s.rest.outbox
   seen_of s e =
-      let p = s.rest.partition in
-      let cells : tot f (partition_things n p) ≡ 0 = omega (arith, none_at (cell_things n p.free) (cell_none p.free) 0 p.cells, none_at (free_things n) (λ i x. omega (arith, u.free x.0 x.1)) 0 p.free, tot-append f (things_at (cell_things n p.free) 0 p.cells) (things_at (free_things n) 0 p.free)) in
       omega (
         arith,
         server_parts f s,
-        subst (λ m. tot f (partition_things m p) ≡ 0) (sym e) cells,
-        none_at (copy_things s.rest.number) (λ i x. omega (arith, u.copy s.rest.number x)) 0 s.rest.cache,
-        none_at (mutex_things s.rest.number) (mutex_none s.rest.number) 0 s.rest.mutexes.there,
-        none_at (task_things s.rest.number) (task_none s.rest.number) 0 s.rest.tasks,
+        subst (λ m. tot f (partition_things m s.rest.partition) ≡ 0) (sym e) (partition_none f n u s.rest.partition),
+        copies_none f n u s.rest.number s.rest.cache,
+        none_at f n u (mutex_things s.rest.number) (mutex_none s.rest.number) 0 s.rest.mutexes.there,
+        none_at f n u (task_things s.rest.number) (task_none s.rest.number) 0 s.rest.tasks,
       )

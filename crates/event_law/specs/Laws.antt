@@ -12,7 +12,8 @@ use Rattle.heap_law.specs.Names.{tot, some}
 use Rattle.heap_law.specs.Things.{Thing, servers_things, things_of}
 use Rattle.heap_law.specs.Sight.{sight, issued}
 use Rattle.heap_law.specs.Naming.{events_of, started_at, made_at}
-use Rattle.heap_law.specs.Requests.{stands_at}
+use Rattle.heap_law.specs.Requests.{stands_at, halves_to, halves_needed, pair_notes, pair_places}
+use Rattle.heap_law.specs.Sharing.{going_notes, goes_on}
 use Rattle.heap_law.specs.Balances.{Agree, AtMost, AtMostOne}
 use Rattle.heap_law.specs.Weights.{states, below, shares_of, shares_at_home, tasks_of, is_thread}
 use Rattle.heap_law.specs.Coherent.{IsSound, Holds, objects_made, names_counted, branches_give_unit, parts_are_typed}
@@ -72,6 +73,18 @@ NumbersDiffer k = AtMostOne is_thread (things_of k)
 
 abbrev pub ServersDiffer : Cluster → Type 0
 ServersDiffer k = AtMostOne is_server (things_of k)
+
+-- as many halves of answers to each thread as it needs: two where it waits
+abbrev pub OneAnswer : Cluster → Type 0
+OneAnswer k = Agree halves_to halves_needed (things_of k)
+
+-- as many notes of each half of a pair as the parent there waits for
+abbrev pub PairsNoted : Cluster → Type 0
+PairsNoted k = Agree pair_notes pair_places (things_of k)
+
+-- as many notes of each thread as one that goes on as it goes on or its `finished` waits
+abbrev pub NotedGoOn : Cluster → Type 0
+NotedGoOn k = Agree going_notes goes_on (things_of k)
 
 -- a sound cluster has the sums, so each law's premise holds in every coherent one
 abbrev pub SoundHasSums : Type 0

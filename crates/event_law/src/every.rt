@@ -1,6 +1,6 @@
 //! What an event of a sound cluster keeps, of whatever kind it is.
 
-ghost use Rattle.event_law.specs.Laws.{EachEventHandedOver, EachEventLeaves, EachEventSends, NumbersDiffer, OneState, OneTaskValue, ServersDiffer, SharesCounted};
+ghost use Rattle.event_law.specs.Laws.{EachEventHandedOver, EachEventLeaves, EachEventSends, NotedGoOn, NumbersDiffer, OneAnswer, OneState, OneTaskValue, PairsNoted, ServersDiffer, SharesCounted};
 ghost use Rattle.heap_law.specs.Coherent.{OneHome, OneOwner, Users};
 
 /// Whatever is delivered, stepped, evicted or migrated.
@@ -13,6 +13,9 @@ pub fn each_event_keeps()
     ensures tasks { EachEventLeaves OneTaskValue }
     ensures threads { EachEventLeaves NumbersDiffer }
     ensures servers { EachEventLeaves ServersDiffer }
+    ensures answers { EachEventLeaves OneAnswer }
+    ensures pairs { EachEventLeaves PairsNoted }
+    ensures going { EachEventLeaves NotedGoOn }
 {}
 
 /// The messages of each event go to servers of the run.
@@ -30,4 +33,7 @@ pub fn each_event_handed_over()
     ensures tasks { EachEventHandedOver OneTaskValue }
     ensures threads { EachEventHandedOver NumbersDiffer }
     ensures servers { EachEventHandedOver ServersDiffer }
+    ensures answers { EachEventHandedOver OneAnswer }
+    ensures pairs { EachEventHandedOver PairsNoted }
+    ensures going { EachEventHandedOver NotedGoOn }
 {}

@@ -1,6 +1,7 @@
 use Rattle.heap_law.specs.Coherent.{OneHome, OneOwner, Users}
 use Rattle.event_law.proofs.every.each_event_handed_over.Goals as goal
-use Rattle.event_law.specs.Laws.{NumbersDiffer, OneState, OneTaskValue, ServersDiffer, SharesCounted}
+use Rattle.event_law.specs.Laws.{NotedGoOn, NumbersDiffer, OneAnswer, OneState, OneTaskValue, PairsNoted, ServersDiffer, SharesCounted}
+use Rattle.event_law.proofs.TurnEvents.{asking_applied}
 use Rattle.event_law.proofs.Sending.{applied_part}
 
 pub returns : goal.returns
@@ -13,4 +14,7 @@ returns c = record {
   tasks = applied_part OneTaskValue (λ k g. g.one_task_value);
   threads = applied_part NumbersDiffer (λ k g. g.numbers_differ);
   servers = applied_part ServersDiffer (λ k g. g.servers_differ);
+  answers = asking_applied OneAnswer (λ k g. g.one_answer);
+  pairs = asking_applied PairsNoted (λ k g. g.pairs_noted);
+  going = asking_applied NotedGoOn (λ k g. g.noted_go_on);
 }

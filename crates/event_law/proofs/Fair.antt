@@ -1,0 +1,201 @@
+-- The sums on who waits for an answer, who is noted as a half of a pair and who goes on. They see messages, places in queues, notes, and of a thread its
+-- number, its phase and its server.
+use Rattle.std.proofs.Common.{◌≡◌, ℕ, ◌+◌, ◌==◌, ◌&&◌, not, Bool, true, false, List, [], ◌∷◌, ◌++◌, refl, sym, ap, ap₂, ◌∙◌, arith}
+use Rattle.heap_partition.specs.declared.value.Cell.{Cell}
+use Rattle.thread_state.specs.View.{ThreadState}
+use Rattle.thread_state.specs.declared.phase.Phase.{Phase}
+use Rattle.thread_state.specs.declared.phase.Phase.TheVariants as phase
+use Rattle.server_msgs.specs.declared.message.Message.{Message}
+use Rattle.server_model.specs.Events.{can_step}
+use Rattle.heap_law.specs.Names.{tot, one, if_so}
+use Rattle.heap_law.specs.Things.{Thing, flies, sent, stands, counts}
+use Rattle.heap_law.specs.Requests.{Branch, waits, whole_answer, message_answer, halves, halves_to, halves_needed, pair_notes, pair_places, branch_places}
+use Rattle.heap_law.specs.Sharing.{is_over, finished_of, going_notes, goes_on}
+use Rattle.heap_law.specs.Balances.{Agree}
+use Rattle.event_law.proofs.Trades.{Same, tot-append}
+use Rattle.event_law.proofs.Unseen.{Unseen}
+
+-- what goes and what comes weigh the same for each of these sums
+pub record Fair (olds news : List Thing) : Type 0 where
+  pub answers : (t : ℕ) → tot (halves_to t) news + tot (halves_needed t) olds ≡ tot (halves_to t) olds + tot (halves_needed t) news
+  pub pairs : (b : Branch) → tot (pair_notes b) news + tot (pair_places b) olds ≡ tot (pair_notes b) olds + tot (pair_places b) news
+  pub going : (t : ℕ) → tot (going_notes t) news + tot (goes_on t) olds ≡ tot (going_notes t) olds + tot (goes_on t) news
+
+-- the sums themselves
+pub record Asking (b : List Thing) : Type 0 where
+  pub one_answer : Agree halves_to halves_needed b
+  pub pairs_noted : Agree pair_notes pair_places b
+  pub noted_go_on : Agree going_notes goes_on b
+
+-- a weight that sees no more than these do
+pub record Hears (f : Thing → ℕ) : Type 0 where
+  pub unseen : (n : ℕ) → Unseen f n
+  pub flying : (w : ℕ) (c : Cell) → f (flies w c) ≡ 0
+  pub counted : (s a b c d e : ℕ) → f (counts s a b c d e) ≡ 0
+  pub thread : (s : ℕ) (p q : Bool) (x y : ThreadState) → x.number ≡ y.number → x.phase ≡ y.phase → f (stands s p x) ≡ f (stands s q y)
+
+pub halves_heard : (t : ℕ) → Hears (halves_to t)
+halves_heard t = record {
+  unseen = λ n. record { held = λ p v. refl; shared = λ l r. refl; borrowed = λ l r. refl; locked = λ l m. refl; live = λ a c. refl; free = λ a m. refl; old = λ a. refl; copy = λ s c. refl; used = λ s w. refl; mutex = λ s m. refl };
+  flying = λ w c. refl;
+  counted = λ s a b c d e. refl;
+  thread = λ s p q x y e h. refl;
+}
+
+pub needed_heard : (t : ℕ) → Hears (halves_needed t)
+needed_heard t = record {
+  unseen = λ n. record { held = λ p v. refl; shared = λ l r. refl; borrowed = λ l r. refl; locked = λ l m. refl; live = λ a c. refl; free = λ a m. refl; old = λ a. refl; copy = λ s c. refl; used = λ s w. refl; mutex = λ s m. refl };
+  flying = λ w c. refl;
+  counted = λ s a b c d e. refl;
+  thread = λ s p q x y e h. ap₂ (λ i j. if_so (i == t && waits j) 2) e h;
+}
+
+pub notes_heard : (b : Branch) → Hears (pair_notes b)
+notes_heard b = record {
+  unseen = λ n. record { held = λ p v. refl; shared = λ l r. refl; borrowed = λ l r. refl; locked = λ l m. refl; live = λ a c. refl; free = λ a m. refl; old = λ a. refl; copy = λ s c. refl; used = λ s w. refl; mutex = λ s m. refl };
+  flying = λ w c. refl;
+  counted = λ s a b c d e. refl;
+  thread = λ s p q x y e h. refl;
+}
+
+pub places_heard : (b : Branch) → Hears (pair_places b)
+places_heard b = record {
+  unseen = λ n. record { held = λ p v. refl; shared = λ l r. refl; borrowed = λ l r. refl; locked = λ l m. refl; live = λ a c. refl; free = λ a m. refl; old = λ a. refl; copy = λ s c. refl; used = λ s w. refl; mutex = λ s m. refl };
+  flying = λ w c. refl;
+  counted = λ s a b c d e. refl;
+  thread = λ s p q x y e h. ap₂ (λ i j. if_so (s == b.server && i == b.parent) (branch_places b.thread j)) e h;
+}
+
+pub going_heard : (t : ℕ) → Hears (going_notes t)
+going_heard t = record {
+  unseen = λ n. record { held = λ p v. refl; shared = λ l r. refl; borrowed = λ l r. refl; locked = λ l m. refl; live = λ a c. refl; free = λ a m. refl; old = λ a. refl; copy = λ s c. refl; used = λ s w. refl; mutex = λ s m. refl };
+  flying = λ w c. refl;
+  counted = λ s a b c d e. refl;
+  thread = λ s p q x y e h. refl;
+}
+
+pub goes_heard : (t : ℕ) → Hears (goes_on t)
+goes_heard t = record {
+  unseen = λ n. record { held = λ p v. refl; shared = λ l r. refl; borrowed = λ l r. refl; locked = λ l m. refl; live = λ a c. refl; free = λ a m. refl; old = λ a. refl; copy = λ s c. refl; used = λ s w. refl; mutex = λ s m. refl };
+  flying = λ w c. refl;
+  counted = λ s a b c d e. refl;
+  thread = λ s p q x y e h. ap₂ (λ i j. one (i == t && (not (i == 0) && not (is_over j)))) e h;
+}
+
+-- where the weights that see no more change by what goes and what comes, the sums are kept
+pub asking_kept : (a b olds news : List Thing) → ((f : Thing → ℕ) → Hears f → tot f b + tot f olds ≡ tot f a + tot f news) → Fair olds news → Asking a → Asking b
+asking_kept a b olds news change fair k = record {
+  one_answer = λ t. omega (arith, change (halves_to t) (halves_heard t), change (halves_needed t) (needed_heard t), fair.answers t, k.one_answer t);
+  pairs_noted = λ x. omega (arith, change (pair_notes x) (notes_heard x), change (pair_places x) (places_heard x), fair.pairs x, k.pairs_noted x);
+  noted_go_on = λ t. omega (arith, change (going_notes t) (going_heard t), change (goes_on t) (goes_heard t), fair.going t, k.noted_go_on t);
+}
+
+-- FAIR CHANGES TOGETHER
+
+pub fair_none : Fair [] []
+fair_none = record { answers = λ t. refl; pairs = λ b. refl; going = λ t. refl }
+
+pub fair_both : (a b c d : List Thing) → Fair a b → Fair c d → Fair (a ++ c) (b ++ d)
+fair_both a b c d p q = record {
+  answers = λ t. omega (arith, p.answers t, q.answers t, tot-append (halves_to t) a c, tot-append (halves_to t) b d, tot-append (halves_needed t) a c, tot-append (halves_needed t) b d);
+  pairs = λ x. omega (arith, p.pairs x, q.pairs x, tot-append (pair_notes x) a c, tot-append (pair_notes x) b d, tot-append (pair_places x) a c, tot-append (pair_places x) b d);
+  going = λ t. omega (arith, p.going t, q.going t, tot-append (going_notes t) a c, tot-append (going_notes t) b d, tot-append (goes_on t) a c, tot-append (goes_on t) b d);
+}
+
+-- A THREAD THAT STEPS
+
+-- it waits for nothing and isn't over
+pub calm_waits : (p : Phase) → can_step p ≡ true → waits p ≡ false
+calm_waits phase.Ready c = refl
+calm_waits phase.Got c = refl
+calm_waits (phase.GotPar a b) c = refl
+calm_waits (phase.Taken w) c = refl
+calm_waits _ c = absurd (cc c)
+
+pub calm_over : (p : Phase) → can_step p ≡ true → is_over p ≡ false
+calm_over phase.Ready c = refl
+calm_over phase.Got c = refl
+calm_over (phase.GotPar a b) c = refl
+calm_over (phase.Taken w) c = refl
+calm_over _ c = absurd (cc c)
+
+pub calm_places : (t : ℕ) (p : Phase) → can_step p ≡ true → branch_places t p ≡ 0
+calm_places t phase.Ready c = refl
+calm_places t phase.Got c = refl
+calm_places t (phase.GotPar a b) c = refl
+calm_places t (phase.Taken w) c = refl
+calm_places t _ c = absurd (cc c)
+
+pub if_none : (b : Bool) (n : ℕ) → n ≡ 0 → if_so b n ≡ 0
+if_none true n e = e
+if_none false n e = refl
+
+pub needs_none : (b w : Bool) → w ≡ false → if_so (b && w) 2 ≡ 0
+needs_none true true e = absurd (cc e)
+needs_none true false e = refl
+needs_none false w e = refl
+
+pub needs_both : (b w : Bool) → w ≡ true → if_so (b && w) 2 ≡ if_so b 2
+needs_both true true e = refl
+needs_both true false e = absurd (cc e)
+needs_both false w e = refl
+
+-- it stands as it did, in another phase in which it waits for nothing
+pub fair_calm : (n : ℕ) (y y2 : ThreadState) → y2.number ≡ y.number → can_step y.phase ≡ true → can_step y2.phase ≡ true → Fair (stands n false y ∷ []) (stands n false y2 ∷ [])
+fair_calm n y y2 e c d = record {
+  answers = λ t. omega (arith, needs_none (y.number == t) (waits y.phase) (calm_waits y.phase c), needs_none (y2.number == t) (waits y2.phase) (calm_waits y2.phase d));
+  pairs = λ x. omega (
+    arith,
+    if_none (n == x.server && y.number == x.parent) (branch_places x.thread y.phase) (calm_places x.thread y.phase c),
+    if_none (n == x.server && y2.number == x.parent) (branch_places x.thread y2.phase) (calm_places x.thread y2.phase d),
+  );
+  going = λ t. let same = ap₂ (λ i j. one (i == t && (not (i == 0) && not j))) e (calm_over y2.phase d ∙ sym (calm_over y.phase c)) in omega (arith, same);
+}
+
+-- it asks, and waits for the answer
+pub record Asks (y2 : ThreadState) (m : Message) : Type 0 where
+  pub waiting : waits y2.phase ≡ true
+  pub alone : (t : ℕ) → branch_places t y2.phase ≡ 0
+  pub lives : is_over y2.phase ≡ false
+  pub answer : message_answer m ≡ whole_answer y2.number
+  pub goes_on : (t : ℕ) → finished_of t m ≡ 0
+
+pub fair_asks : (n a : ℕ) (y y2 : ThreadState) (m : Message) → y2.number ≡ y.number → can_step y.phase ≡ true → Asks y2 m → Fair (stands n false y ∷ []) (stands n false y2 ∷ sent a m ∷ [])
+fair_asks n a y y2 m e c q = record {
+  answers = λ t. let is = ap (halves t) q.answer in omega (arith, is, needs_none (y.number == t) (waits y.phase) (calm_waits y.phase c), needs_both (y2.number == t) (waits y2.phase) q.waiting);
+  pairs = λ x. omega (
+    arith,
+    if_none (n == x.server && y.number == x.parent) (branch_places x.thread y.phase) (calm_places x.thread y.phase c),
+    if_none (n == x.server && y2.number == x.parent) (branch_places x.thread y2.phase) (q.alone x.thread),
+  );
+  going = λ t. let same = ap₂ (λ i j. one (i == t && (not (i == 0) && not j))) e (q.lives ∙ sym (calm_over y.phase c)) in omega (arith, same, q.goes_on t);
+}
+
+-- what weighs nothing more comes beside
+pub fair_beside : (olds front news more : List Thing) → Fair [] news → Fair olds (front ++ more) → Fair olds (front ++ (news ++ more))
+fair_beside olds front news more p q = record {
+  answers = λ t. omega (arith, p.answers t, q.answers t, split (halves_to t), split (halves_needed t), whole (halves_to t), whole (halves_needed t));
+  pairs = λ x. omega (arith, p.pairs x, q.pairs x, split (pair_notes x), split (pair_places x), whole (pair_notes x), whole (pair_places x));
+  going = λ t. omega (arith, p.going t, q.going t, split (going_notes t), split (goes_on t), whole (going_notes t), whole (goes_on t));
+}
+  where
+    split : (f : Thing → ℕ) → tot f (front ++ more) ≡ tot f front + tot f more
+    split f = tot-append f front more
+
+    whole : (f : Thing → ℕ) → tot f (front ++ (news ++ more)) ≡ tot f front + (tot f news + tot f more)
+    whole f = omega (arith, tot-append f front (news ++ more), tot-append f news more)
+
+-- the same things in another order, and a thread with the same number and phase
+pub fair_same : (olds news news2 : List Thing) → Same news news2 → Fair olds news → Fair olds news2
+fair_same olds news news2 e p = record {
+  answers = λ t. omega (arith, p.answers t, e (halves_to t), e (halves_needed t));
+  pairs = λ x. omega (arith, p.pairs x, e (pair_notes x), e (pair_places x));
+  going = λ t. omega (arith, p.going t, e (going_notes t), e (goes_on t));
+}
+
+pub fair_thread : (olds : List Thing) (n : ℕ) (x y : ThreadState) (news : List Thing) → y.number ≡ x.number → y.phase ≡ x.phase → Fair olds (stands n false x ∷ news) → Fair olds (stands n false y ∷ news)
+fair_thread olds n x y news e h p = record {
+  answers = λ t. let a = needed_heard t in omega (arith, p.answers t, a.thread n false false y x e h);
+  pairs = λ b. let a = places_heard b in omega (arith, p.pairs b, a.thread n false false y x e h);
+  going = λ t. let a = goes_heard t in omega (arith, p.going t, a.thread n false false y x e h);
+}

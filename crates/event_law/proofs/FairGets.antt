@@ -1,0 +1,81 @@
+-- A thread that gets what it waits for weighs what the answer and its waiting did.
+use Rattle.std.proofs.Common.{◌≡◌, ℕ, ◌==◌, ◌&&◌, not, true, false, [], ◌∷◌, ◌++◌, refl, sym, ap, ap₂, ◌∙◌, arith}
+use Rattle.fr_base.specs.declared.name.MutexNo.{MutexNo}
+use Rattle.thread_state.specs.View.{ThreadState}
+use Rattle.thread_state.specs.declared.phase.Phase.{Phase}
+use Rattle.thread_state.specs.declared.phase.Phase.TheVariants as phase
+use Rattle.server_msgs.specs.declared.message.Message.{Message}
+use Rattle.server_model.specs.Events.{can_step}
+use Rattle.server_model.specs.Objects.{waits_for_cell}
+use Rattle.server_model.specs.Sharing.{waits_for_lock, waits_for_dup}
+use Rattle.server_model.specs.Joining.{waits_for_join}
+use Rattle.heap_law.specs.Names.{tot, one}
+use Rattle.heap_law.specs.Things.{Thing, stands, sent, message_things}
+use Rattle.heap_law.specs.Requests.{waits, whole_answer, message_answer, halves, halves_to, halves_needed, pair_notes, pair_places, branch_places}
+use Rattle.heap_law.specs.Sharing.{is_over, finished_of, going_notes, goes_on}
+use Rattle.event_law.proofs.Trades.{tot-append}
+use Rattle.event_law.proofs.Fair.{Fair, Hears, halves_heard, needed_heard, notes_heard, places_heard, going_heard, goes_heard, if_none, needs_none, needs_both, calm_waits, calm_over, calm_places}
+
+-- it waits for one answer, and for no pair
+pub record Awaits (p : Phase) : Type 0 where
+  pub waiting : waits p ≡ true
+  pub alone : (t : ℕ) → branch_places t p ≡ 0
+  pub lives : is_over p ≡ false
+
+pub awaits_cell : (p : Phase) (w : ℕ) → waits_for_cell p w ≡ true → Awaits p
+awaits_cell (phase.WaitCell x) w e = record { waiting = refl; alone = λ t. refl; lives = refl }
+awaits_cell _ w e = absurd (cc e)
+
+pub awaits_lock : (p : Phase) (m : MutexNo) → waits_for_lock p m ≡ true → Awaits p
+awaits_lock (phase.WaitLock x) m e = record { waiting = refl; alone = λ t. refl; lives = refl }
+awaits_lock _ m e = absurd (cc e)
+
+pub awaits_dup : (p : Phase) (m : MutexNo) → waits_for_dup p m ≡ true → Awaits p
+awaits_dup (phase.WaitDup x) m e = record { waiting = refl; alone = λ t. refl; lives = refl }
+awaits_dup _ m e = absurd (cc e)
+
+pub awaits_join : (p : Phase) (u : ℕ) → waits_for_join p u ≡ true → Awaits p
+awaits_join (phase.WaitJoin x) u e = record { waiting = refl; alone = λ t. refl; lives = refl }
+awaits_join _ u e = absurd (cc e)
+
+-- an answer, of which nothing is heard but the message itself
+pub record Answers (n : ℕ) (m : Message) (t : ℕ) : Type 0 where
+  pub whole : message_answer m ≡ whole_answer t
+  pub goes_on : (u : ℕ) → finished_of u m ≡ 0
+  pub plain : (f : Thing → ℕ) → Hears f → tot f (message_things n m) ≡ f (sent n m)
+
+pub fair_gets : (n : ℕ) (m : Message) (y y2 : ThreadState) → y2.number ≡ y.number → Awaits y.phase → can_step y2.phase ≡ true → Answers n m y.number → Fair (message_things n m ++ stands n false y ∷ []) (stands n false y2 ∷ [])
+fair_gets n m y y2 e w c q = record {
+  answers = λ t.
+      let is = ap (halves t) q.whole in
+      omega (
+        arith,
+        is,
+        q.plain (halves_to t) (halves_heard t),
+        q.plain (halves_needed t) (needed_heard t),
+        tot-append (halves_to t) (message_things n m) (stands n false y ∷ []),
+        tot-append (halves_needed t) (message_things n m) (stands n false y ∷ []),
+        needs_both (y.number == t) (waits y.phase) w.waiting,
+        needs_none (y2.number == t) (waits y2.phase) (calm_waits y2.phase c),
+      );
+  pairs = λ x. omega (
+    arith,
+    q.plain (pair_notes x) (notes_heard x),
+    q.plain (pair_places x) (places_heard x),
+    tot-append (pair_notes x) (message_things n m) (stands n false y ∷ []),
+    tot-append (pair_places x) (message_things n m) (stands n false y ∷ []),
+    if_none (n == x.server && y.number == x.parent) (branch_places x.thread y.phase) (w.alone x.thread),
+    if_none (n == x.server && y2.number == x.parent) (branch_places x.thread y2.phase) (calm_places x.thread y2.phase c),
+  );
+  going = λ t.
+      let same = ap₂ (λ i j. one (i == t && (not (i == 0) && not j))) e (calm_over y2.phase c ∙ sym w.lives) in
+      omega (
+        arith,
+        same,
+        q.goes_on t,
+        q.plain (going_notes t) (going_heard t),
+        q.plain (goes_on t) (goes_heard t),
+        tot-append (going_notes t) (message_things n m) (stands n false y ∷ []),
+        tot-append (goes_on t) (message_things n m) (stands n false y ∷ []),
+      );
+}

@@ -1,0 +1,162 @@
+-- New threads and the notes of them weigh the same; a thread that ends weighs what its `finished` does.
+use Rattle.std.proofs.Common.{◌≡◌, ℕ, ◌+◌, ◌==◌, ◌&&◌, not, Bool, true, false, [], ◌∷◌, ◌++◌, refl, sym, ap, ap₂, ◌∙◌, arith}
+use Rattle.fr_typing.proofs.PlaceLemmas.{eq_cases}
+use Rattle.heap_partition.specs.declared.value.Owned.{Owned}
+use Rattle.join_home.specs.Tasks.{going, in_pair}
+use Rattle.thread_state.specs.View.{ThreadState}
+use Rattle.thread_state.specs.declared.phase.Phase.TheVariants as phase
+use Rattle.server_msgs.specs.declared.message.Message.TheVariants as message
+use Rattle.server_model.specs.Events.{can_step}
+use Rattle.heap_law.specs.Names.{tot, one, if_so}
+use Rattle.heap_law.specs.Things.{Thing, stands, noted, message_things, task_things, thread_things}
+use Rattle.heap_law.specs.Requests.{Branch, waits, halves_to, halves_needed, pair_notes, pair_places, branch_places}
+use Rattle.heap_law.specs.Sharing.{is_over, going_notes, goes_on}
+use Rattle.event_law.proofs.Trades.{tot-append}
+use Rattle.event_law.proofs.Unseen.{thread_alone}
+use Rattle.event_law.proofs.Fair.{Fair, Hears, halves_heard, needed_heard, notes_heard, places_heard, going_heard, goes_heard, if_none, needs_none, calm_waits, calm_over, calm_places}
+
+not_zero : (u : ℕ) → (u ≡ 0 → ⊥) → (u == 0) ≡ false
+not_zero u ne = eq_cases (λ b. b ≡ false) u 0 (λ e. absurd (ne e)) (λ n. refl)
+
+living : (b z o : Bool) → z ≡ false → o ≡ false → one (b && (not z && not o)) ≡ one b
+living true true o e h = absurd (cc e)
+living true false true e h = absurd (cc h)
+living true false false e h = refl
+living false z o e h = refl
+
+pub noting : (b : Bool) → one (b && true) ≡ one b
+noting true = refl
+noting false = refl
+
+none_half : (b : Bool) → one (b && false) ≡ 0
+none_half true = refl
+none_half false = refl
+
+-- A NEW THREAD, UNDER WAY
+
+module _ (s : ℕ) (x : ThreadState) (ready : x.phase ≡ phase.Ready) where
+  alone : (f : Thing → ℕ) → Hears f → tot f (thread_things s true x) ≡ f (stands s true x)
+  alone f h = thread_alone f s (h.unseen s) s true x
+
+  start_answers : (t : ℕ) → (tot (halves_to t) (message_things s (message.Start x)) ≡ 0) × (tot (halves_needed t) (message_things s (message.Start x)) ≡ 0)
+  start_answers t = (
+    omega (arith, alone (halves_to t) (halves_heard t)),
+    omega (arith, alone (halves_needed t) (needed_heard t), needs_none (x.number == t) (waits x.phase) (ap waits ready)),
+  )
+
+  start_pairs : (b : Branch) → (tot (pair_notes b) (message_things s (message.Start x)) ≡ 0) × (tot (pair_places b) (message_things s (message.Start x)) ≡ 0)
+  start_pairs b = (
+    omega (arith, alone (pair_notes b) (notes_heard b)),
+    omega (arith, alone (pair_places b) (places_heard b), if_none (s == b.server && x.number == b.parent) (branch_places b.thread x.phase) (ap (branch_places b.thread) ready)),
+  )
+
+  start_going : (x.number ≡ 0 → ⊥) → (t : ℕ) → (tot (going_notes t) (message_things s (message.Start x)) ≡ 0) × (tot (goes_on t) (message_things s (message.Start x)) ≡ one (x.number == t))
+  start_going ne t = (
+    omega (arith, alone (going_notes t) (going_heard t)),
+    omega (arith, alone (goes_on t) (goes_heard t), living (x.number == t) (x.number == 0) (is_over x.phase) (not_zero x.number ne) (ap is_over ready)),
+  )
+
+-- one thread starts, and is noted as going
+pub fair_starts : (n s : ℕ) (x : ThreadState) → x.phase ≡ phase.Ready → (x.number ≡ 0 → ⊥) → Fair [] (task_things n 0 (record { thread = x.number; state = going }) ++ message_things s (message.Start x))
+fair_starts n s x ready ne = record {
+  answers = λ t. let a = start_answers s x ready t in omega (arith, a.0, a.1);
+  pairs = λ b. let a = start_pairs s x ready b in omega (arith, a.0, a.1, none_half (n == b.server && x.number == b.thread));
+  going = λ t. let a = start_going s x ready ne t in omega (arith, a.0, a.1, noting (x.number == t));
+}
+
+-- PAIRS
+
+-- two halves of a pair and the places of them
+pub halves_match : (s a b p : Bool) → one ((s && a) && p) + one ((s && b) && p) ≡ if_so (s && p) (one a + one b)
+halves_match false a b p = refl
+halves_match true true true true = refl
+halves_match true true true false = refl
+halves_match true true false true = refl
+halves_match true true false false = refl
+halves_match true false true true = refl
+halves_match true false true false = refl
+halves_match true false false true = refl
+halves_match true false false false = refl
+
+pub waits_for_two : (b : Bool) → if_so (b && true) 2 ≡ one b + one b
+waits_for_two true = refl
+waits_for_two false = refl
+
+-- two threads start, and their parent waits for both
+pub fair_pair : (n s r : ℕ) (y y2 u v : ThreadState) → y2.number ≡ y.number → can_step y.phase ≡ true → y2.phase ≡ phase.WaitPar u.number v.number
+    → u.phase ≡ phase.Ready → v.phase ≡ phase.Ready → (u.number ≡ 0 → ⊥) → (v.number ≡ 0 → ⊥)
+    → Fair (stands n false y ∷ []) (stands n false y2 ∷ (task_things n 0 (record { thread = u.number; state = in_pair y2.number false }) ++ task_things n 0 (record { thread = v.number; state = in_pair y2.number false }) ++ message_things s (message.Start u) ++ message_things r (message.Start v)))
+fair_pair n s r y y2 u v same c waiting ready ready2 ne ne2 = record {
+  answers = λ t.
+      let a = start_answers s u ready t in
+      let b = start_answers r v ready2 t in
+      let w : if_so (y2.number == t && waits y2.phase) 2 ≡ if_so (y2.number == t && true) 2 = ap (λ p. if_so (y2.number == t && waits p) 2) waiting in
+      omega (arith, a.0, a.1, b.0, b.1, w, waits_for_two (y2.number == t), needs_none (y.number == t) (waits y.phase) (calm_waits y.phase c), whole (halves_to t), whole (halves_needed t));
+  pairs = λ x.
+      let a = start_pairs s u ready x in
+      let b = start_pairs r v ready2 x in
+      let w : branch_places x.thread y2.phase ≡ one (u.number == x.thread) + one (v.number == x.thread) = ap (branch_places x.thread) waiting in
+      let q : if_so (n == x.server && y2.number == x.parent) (branch_places x.thread y2.phase) ≡ if_so (n == x.server && y2.number == x.parent) (one (u.number == x.thread) + one (v.number == x.thread)) = ap (if_so (n == x.server && y2.number == x.parent)) w in
+      omega (
+        arith,
+        a.0,
+        a.1,
+        b.0,
+        b.1,
+        q,
+        halves_match (n == x.server) (u.number == x.thread) (v.number == x.thread) (y2.number == x.parent),
+        if_none (n == x.server && y.number == x.parent) (branch_places x.thread y.phase) (calm_places x.thread y.phase c),
+        whole (pair_notes x),
+        whole (pair_places x),
+      );
+  going = λ t.
+      let a = start_going s u ready ne t in
+      let b = start_going r v ready2 ne2 t in
+      let w = ap₂ (λ i j. one (i == t && (not (i == 0) && not j))) same (ap is_over waiting ∙ sym (calm_over y.phase c)) in
+      omega (arith, a.0, a.1, b.0, b.1, w, noting (u.number == t), noting (v.number == t), whole (going_notes t), whole (goes_on t));
+}
+  where
+    whole : (f : Thing → ℕ)
+        → tot f (task_things n 0 (record { thread = u.number; state = in_pair y2.number false }) ++ task_things n 0 (record { thread = v.number; state = in_pair y2.number false }) ++ message_things s (message.Start u) ++ message_things r (message.Start v))
+        ≡ f (noted n (record { thread = u.number; state = in_pair y2.number false })) + f (noted n (record { thread = v.number; state = in_pair y2.number false })) + tot f (message_things s (message.Start u)) + tot f (message_things r (message.Start v))
+    whole f = omega (arith, tot-append f (message_things s (message.Start u)) (message_things r (message.Start v)))
+
+-- ENDS
+
+over_none : (b z o : Bool) → o ≡ true → one (b && (not z && not o)) ≡ 0
+over_none true true o e = refl
+over_none true false true e = refl
+over_none true false false e = absurd (cc e)
+over_none false z o e = refl
+
+main_none : (b z o : Bool) → z ≡ true → one (b && (not z && not o)) ≡ 0
+main_none true true o e = refl
+main_none true false o e = absurd (cc e)
+main_none false z o e = refl
+
+-- main is over, and says nothing
+pub fair_main_ends : (n : ℕ) (y y2 : ThreadState) → y2.number ≡ y.number → can_step y.phase ≡ true → y2.phase ≡ phase.Over → (y.number == 0) ≡ true → Fair (stands n false y ∷ []) (stands n false y2 ∷ [])
+fair_main_ends n y y2 same c over main = record {
+  answers = λ t. omega (arith, needs_none (y.number == t) (waits y.phase) (calm_waits y.phase c), needs_none (y2.number == t) (waits y2.phase) (ap waits over));
+  pairs = λ x. omega (
+    arith,
+    if_none (n == x.server && y.number == x.parent) (branch_places x.thread y.phase) (calm_places x.thread y.phase c),
+    if_none (n == x.server && y2.number == x.parent) (branch_places x.thread y2.phase) (ap (branch_places x.thread) over),
+  );
+  going = λ t. omega (arith, main_none (y.number == t) (y.number == 0) (is_over y.phase) main, over_none (y2.number == t) (y2.number == 0) (is_over y2.phase) (ap is_over over));
+}
+
+-- another thread is over, and its result goes home
+pub fair_ends : (n s : ℕ) (y y2 : ThreadState) (v : Owned) → y2.number ≡ y.number → can_step y.phase ≡ true → y2.phase ≡ phase.Over → (y.number == 0) ≡ false
+    → Fair (stands n false y ∷ []) (stands n false y2 ∷ message_things s (message.Finished y2.number v))
+fair_ends n s y y2 v same c over other = record {
+  answers = λ t. omega (arith, needs_none (y.number == t) (waits y.phase) (calm_waits y.phase c), needs_none (y2.number == t) (waits y2.phase) (ap waits over));
+  pairs = λ x. omega (
+    arith,
+    if_none (n == x.server && y.number == x.parent) (branch_places x.thread y.phase) (calm_places x.thread y.phase c),
+    if_none (n == x.server && y2.number == x.parent) (branch_places x.thread y2.phase) (ap (branch_places x.thread) over),
+  );
+  going = λ t.
+      let number : one (y2.number == t) ≡ one (y.number == t) = ap (λ i. one (i == t)) same in
+      omega (arith, number, living (y.number == t) (y.number == 0) (is_over y.phase) other (calm_over y.phase c), over_none (y2.number == t) (y2.number == 0) (is_over y2.phase) (ap is_over over));
+}

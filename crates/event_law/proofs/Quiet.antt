@@ -1,0 +1,132 @@
+-- What a step says: making a place ready says nothing but the request that it may end with, and values that are dropped say nothing that is answered.
+use Rattle.std.proofs.Common.{◌≡◌, ℕ, ◌+◌, true, false, if◌then◌else◌, List, [], ◌∷◌, ◌++◌, length, refl, sym, subst, ◌∙◌, arith}
+use Rattle.fr_typing.proofs.PlaceLemmas.{eq_cases}
+use Rattle.global_addr.specs.Words.{server_of}
+use Rattle.mutex_home.specs.Mutexes.{Mutexes}
+use Rattle.join_home.specs.Tasks.{Task}
+use Rattle.thread_state.specs.View.{ThreadState}
+use Rattle.thread_state.specs.declared.phase.Phase.{Phase}
+use Rattle.thread_state.specs.declared.phase.Phase.TheVariants as phase
+use Rattle.server_msgs.specs.declared.message.Message.{Message}
+use Rattle.server_msgs.specs.declared.message.Message.TheVariants as message
+use Rattle.server_model.specs.Servers.{Sent, Rest, Server}
+use Rattle.server_model.specs.Work.{Work, Hand, sent_from, send, working}
+use Rattle.server_model.specs.Events.{can_step}
+use Rattle.heap_law.specs.Names.{tot}
+use Rattle.heap_law.specs.Things.{Thing, stands, sent, things_at, mutex_things, task_things, waiting_things, message_things, server_things}
+use Rattle.heap_law.proofs.Sums.{server_parts, waiting_pushed, all_sent, all_sent-append}
+use Rattle.event_law.proofs.Trades.{tot-append}
+use Rattle.event_law.proofs.Bags.{all_standing}
+use Rattle.event_law.proofs.Unseen.{partition_none, copies_none}
+use Rattle.event_law.proofs.Fair.{Fair, Hears, Asks, fair_none, fair_both, fair_calm, fair_asks, fair_beside}
+use Rattle.event_law.proofs.KnownPlaces.{Told, Holds}
+use Rattle.event_law.proofs.KnownPrepares.{Asked}
+
+-- the mutexes, notes and messages of a server
+abbrev pub said : (Thing → ℕ) → ℕ → List Message → List Sent → Mutexes → List Task → ℕ
+said f n i o ms ts = tot f (things_at (mutex_things n) 0 ms.there) + tot f (things_at (task_things n) 0 ts) + tot f (things_at (waiting_things n) 0 i) + all_sent f o
+
+abbrev pub said_by : (Thing → ℕ) → Rest → ℕ
+said_by f r = said f r.number r.inbox r.outbox r.mutexes r.tasks
+
+-- they and the threads are all that is heard of a server
+pub server_said : (f : Thing → ℕ) → Hears f → (s : Server) → tot f (server_things s) ≡ said_by f s.rest + tot f (all_standing s.rest.number s.threads)
+server_said f h s =
+    let n = s.rest.number in
+    omega (arith, server_parts f s, h.counted n (length s.rest.partition.cells) s.rest.partition.retired s.rest.started s.rest.mutexes.made s.events, partition_none f n (h.unseen n) s.rest.partition, copies_none f n (h.unseen n) n s.rest.cache)
+
+-- so much was said since that rest
+pub record Says (r : Rest) (news : List Thing) (n : ℕ) (i : List Message) (o : List Sent) (ms : Mutexes) (ts : List Task) : Type 0 where
+  pub same : n ≡ r.number
+  pub more : (f : Thing → ℕ) → Hears f → said f r.number i o ms ts ≡ said_by f r + tot f news
+
+abbrev pub SaysOf : Rest → List Thing → Rest → Type 0
+SaysOf r news r2 = Says r news r2.number r2.inbox r2.outbox r2.mutexes r2.tasks
+
+pub says_nothing : (r : Rest) → SaysOf r [] r
+says_nothing r = record { same = refl; more = λ f h. omega arith }
+
+pub says_sent : (r r1 : Rest) (news : List Thing) (t : ℕ) (m : Message) → SaysOf r news r1 → SaysOf r (news ++ message_things t m) (sent_from r1 t m)
+says_sent r r1 news t m a =
+    eq_cases (λ b. SaysOf r (news ++ message_things t m) (if b then record r1 { inbox = r1.inbox ++ m ∷ [] } else record r1 { outbox = r1.outbox ++ record { target = t; message = m } ∷ [] })) t r1.number
+    (λ e. record {
+      same = a.same;
+      more = λ f h.
+          let here = subst (λ n. tot f (message_things r.number m) ≡ tot f (message_things n m)) (sym (e ∙ a.same)) refl in
+          omega (arith, a.more f h, here, waiting_pushed f r.number 0 r1.inbox m, tot-append f news (message_things t m));
+    })
+    (λ ne. record {
+      same = a.same;
+      more = λ f h.
+          let sent_now : all_sent f (record { target = t; message = m } ∷ []) ≡ tot f (message_things t m) = omega (arith, tot-append f (message_things t m) []) in
+          omega (arith, a.more f h, sent_now, all_sent-append f r1.outbox (record { target = t; message = m } ∷ []), tot-append f news (message_things t m));
+    })
+
+-- IN THE MIDDLE OF A STEP
+
+-- the thread is in the phase in which it began, and nothing that is answered was said
+pub record Quietly (y : ThreadState) (r : Rest) (p : Phase) (t n : ℕ) (i : List Message) (o : List Sent) (ms : Mutexes) (ts : List Task) : Type 0 where
+  pub still : p ≡ y.phase
+  pub named : t ≡ y.number
+  pub news : List Thing
+  pub says : Says r news n i o ms ts
+  pub light : Fair [] news
+
+abbrev pub quiet : ThreadState → Rest → Told
+quiet y r p t n i o ms ts = Quietly y r p t n i o ms ts
+
+abbrev pub Quiet : ThreadState → Rest → Hand → Type 0
+Quiet y r h = Holds (quiet y r) h
+
+pub quiet_start : (y : ThreadState) (w : Work) → Quiet y w.rest (record { work = w; thread = y })
+quiet_start y w = record { still = refl; named = refl; news = []; says = says_nothing w.rest; light = fair_none }
+
+-- at its end the thread and what was said weigh as the thread did
+pub record After (y : ThreadState) (r : Rest) (h : Hand) : Type 0 where
+  pub named : h.thread.number ≡ y.number
+  pub news : List Thing
+  pub says : SaysOf r news h.work.rest
+  pub fair : Fair (stands r.number false y ∷ []) (stands r.number false h.thread ∷ news)
+
+module _ (y : ThreadState) (r : Rest) where
+  pub quiet_sends : (t : ℕ) (m : Message) (h : Hand) → Fair [] (message_things t m) → Quiet y r h → Quiet y r (working (send t m) h)
+  quiet_sends t m h l g = record {
+    still = g.still;
+    named = g.named;
+    news = g.news ++ message_things t m;
+    says = says_sent r h.work.rest g.news t m g.says;
+    light = fair_both [] g.news [] (message_things t m) g.light l;
+  }
+
+  -- it goes on
+  pub calm_after : (h : Hand) (y2 : ThreadState) → can_step y.phase ≡ true → can_step y2.phase ≡ true → y2.number ≡ h.thread.number → Quiet y r h → After y r (record h { thread = y2 })
+  calm_after h y2 c d e g = record {
+    named = e ∙ g.named;
+    news = g.news;
+    says = g.says;
+    fair = fair_both (stands r.number false y ∷ []) (stands r.number false y2 ∷ []) [] g.news (fair_calm r.number y y2 (e ∙ g.named) c d) g.light;
+  }
+
+  -- it asks
+  pub asks_after : (a : ℕ) (m : Message) (h : Hand) (y2 : ThreadState) → message_things a m ≡ sent a m ∷ [] → can_step y.phase ≡ true → y2.number ≡ h.thread.number → Asks y2 m → Quiet y r h
+      → After y r (record { work = send a m h.work; thread = y2 })
+  asks_after a m h y2 alone c e q g = record {
+    named = e ∙ g.named;
+    news = g.news ++ message_things a m;
+    says = says_sent r h.work.rest g.news a m g.says;
+    fair = subst (λ l. Fair (stands r.number false y ∷ []) (stands r.number false y2 ∷ (g.news ++ l))) (sym alone)
+        (fair_beside (stands r.number false y ∷ []) (stands r.number false y2 ∷ []) g.news (sent a m ∷ []) g.light (fair_asks r.number a y y2 m (e ∙ g.named) c q));
+  }
+
+  -- the request for a copy or for an object
+  pub quiet_asks : can_step y.phase ≡ true → (ss : List Server) → Asked ss (quiet y r) (After y r)
+  quiet_asks c ss = record {
+    for_copy = λ p h k g.
+        let m = message.Fetch p.word p.object h.work.rest.number h.thread.number in
+        asks_after (server_of p.word) m (working (Rattle.server_model.specs.Work.note (Rattle.journal.specs.declared.act.Act.TheVariants.Ask p.object p.word)) h) (record h.thread { phase = phase.WaitCell p.word }) refl c refl
+        (record { waiting = refl; alone = λ t. refl; lives = refl; answer = refl; goes_on = λ t. refl }) g.1;
+    for_object = λ p h k g.
+        let m = message.Move p.word p.object h.work.rest.number h.thread.number in
+        asks_after (server_of p.word) m (working (Rattle.server_model.specs.Work.note (Rattle.journal.specs.declared.act.Act.TheVariants.Pull p.object p.word)) h) (record h.thread { phase = phase.WaitCell p.word }) refl c refl
+        (record { waiting = refl; alone = λ t. refl; lives = refl; answer = refl; goes_on = λ t. refl }) g.1;
+  }

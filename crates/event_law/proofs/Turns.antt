@@ -1,0 +1,69 @@
+-- What an event changes of what is heard of its server, and the sums on asking in its cluster.
+use Rattle.std.proofs.Common.{◌≡◌, ℕ, ◌+◌, true, false, List, [], ◌∷◌, Option, Some, subst, ◌∙◌, arith}
+use Rattle.std.specs.Prelude.{slice_get, option_map}
+use Rattle.thread_state.specs.View.{ThreadState}
+use Rattle.journal.specs.View.{EntryView}
+use Rattle.server_model.specs.Servers.{Server, Cluster, server_at}
+use Rattle.server_model.specs.Work.{Hand, set_thread, thread_in}
+use Rattle.server_model.specs.Events.{can_step, begin_work, step, step_in, Stepped, stepped}
+use Rattle.heap_law.specs.Names.{tot}
+use Rattle.heap_law.specs.Things.{Thing, stands, server_things, servers_things, things_of}
+use Rattle.heap_law.specs.Coherent.{IsSound}
+use Rattle.event_law.specs.Laws.{Gives}
+use Rattle.event_law.proofs.Results.{then_gives, over_gives}
+use Rattle.event_law.proofs.Bags.{all_standing, tot-without, tot-set, thread_number}
+use Rattle.event_law.proofs.Unseen.{thread_alone}
+use Rattle.event_law.proofs.Events.{tot-server}
+use Rattle.event_law.proofs.Fair.{Fair, Hears, Asking, asking_kept}
+use Rattle.event_law.proofs.Known.{Known}
+use Rattle.event_law.proofs.Quiet.{said, server_said, quiet_start, After}
+use Rattle.event_law.proofs.QuietSteps.{step_then}
+
+-- an event turns a server into another one: what is heard of it changes by what goes and what comes, and these weigh the same
+pub record Turns (s s2 : Server) : Type 0 where
+  pub olds : List Thing
+  pub news : List Thing
+  pub change : (f : Thing → ℕ) → Hears f → tot f (server_things s2) + tot f olds ≡ tot f (server_things s) + tot f news
+  pub fair : Fair olds news
+
+-- the sums in its cluster
+pub turned : (ss : List Server) (n : ℕ) (s s2 : Server) → server_at ss n ≡ Some s → Turns s s2 → Asking (servers_things ss) → Asking (servers_things (Rattle.server_model.specs.Clusters.with_server ss n s2))
+turned ss n s s2 h t k =
+    asking_kept (servers_things ss) _ t.olds t.news (λ f l. let a = tot-server f ss n s s2 h in omega (arith, a.0, a.1, t.change f l)) t.fair k
+
+-- a sound cluster has the sums
+pub sound_asking : (k : Cluster) → IsSound k → Asking (things_of k)
+sound_asking k sound = record { one_answer = sound.requests.one_answer; pairs_noted = sound.requests.pairs_noted; noted_go_on = sound.mutexes_and_tasks.noted_go_on }
+
+-- A STEP
+
+module _ (s : Server) (t : ℕ) (y : ThreadState) (here : thread_in s.threads t ≡ Some y) where
+  stepped_turns : (names : Option Rattle.fr_base.specs.declared.step.Fresh.Fresh) (h : Hand) → After y s.rest h → Turns s (stepped s (record { hand = h; names = names })).0
+  stepped_turns names h g =
+      let n = s.rest.number in
+      let says = g.says in
+      let s2 : Server = record { rest = h.work.rest; threads = set_thread s.threads h.thread; events = s.events + 1 } in record {
+        olds = stands n false y ∷ [];
+        news = stands n false h.thread ∷ g.news;
+        change = λ f l.
+            let heard : tot f (server_things s2) ≡ said f n h.work.rest.inbox h.work.rest.outbox h.work.rest.mutexes h.work.rest.tasks + tot f (all_standing n s2.threads) =
+            subst (λ m. tot f (server_things s2) ≡ said f m h.work.rest.inbox h.work.rest.outbox h.work.rest.mutexes h.work.rest.tasks + tot f (all_standing m s2.threads)) says.same (server_said f l s2) in
+            omega (
+              arith,
+              heard,
+              server_said f l s,
+              says.more f l,
+              tot-set n f s.threads t y h.thread here (g.named ∙ thread_number s.threads t y here),
+              tot-without n f s.threads t y here,
+              thread_alone f n (l.unseen n) n false y,
+              thread_alone f n (l.unseen n) n false h.thread,
+            );
+        fair = g.fair;
+      }
+
+  pub step_turns : (ss : List Server) (code : List Rattle.fr_base.specs.declared.instruction.Instr.Instr) (servers : ℕ) → can_step y.phase ≡ true → Known ss y.home y.slots y.temps s.rest.partition s.rest.cache
+      → Gives (λ (r : Server × EntryView). Turns s r.0) (option_map (stepped s) (step_in code servers (record { work = begin_work s.rest; thread = y })))
+  step_turns ss code servers calm known =
+      let h : Hand = record { work = begin_work s.rest; thread = y } in
+      over_gives (λ (d : Stepped). After y s.rest d.hand) (λ (r : Server × EntryView). Turns s r.0) (step_in code servers h) (stepped s)
+      (then_gives (λ (d : Stepped). After y s.rest d.hand) (slice_get code y.pc) (λ i. step servers i h) (λ i q. step_then y s.rest calm ss servers i h (known, quiet_start y (begin_work s.rest)))) (λ d u. stepped_turns d.names d.hand u)
