@@ -11,3 +11,4 @@ pub mod Operands
 pub mod Numbers
 pub mod Places
 pub mod Borrows
+pub mod Copies

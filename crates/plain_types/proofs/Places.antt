@@ -67,10 +67,10 @@ module _ (y : Typing) (a : PlainState Position) (t : ℕ) (x : Running Position)
   abbrev Clear : Spot → Type 0
   Clear p = is_held (machine.value_at (record { thread = t; slots = x.slots; heap = heap }) p) ≡ false
 
-  slot_here : (i : ℕ) → (store y a).at (slot_k t i) ≡ seen_as y.gives t (ref_v (y.marks t i)) (slot_at x.slots i)
+  pub slot_here : (i : ℕ) → (store y a).at (slot_k t i) ≡ seen_as y.gives t (ref_v (y.marks t i)) (slot_at x.slots i)
   slot_here i = ap (slot_val temps_of y t i) runs ∙ seen_is temps_of y t i x
 
-  cell_here : (o : ObjNo) → (store y a).heap o ≡ seen_cell y.gives (cell_at heap o)
+  pub cell_here : (o : ObjNo) → (store y a).heap o ≡ seen_cell y.gives (cell_at heap o)
   cell_here o = ap (seen_cell y.gives) (objects o)
 
   -- what stands at a spot of the machine stands at its location

@@ -1,7 +1,7 @@
 //! Laws of the typing of acts.
 
 ghost use Rattle.plain_types.specs.CodeRows.{EndsHaveRows, InstructionsHaveRows};
-ghost use Rattle.plain_types.specs.Keeps.{IsArith, IsBorrow, IsBorrowMut, IsPrint, Keeps};
+ghost use Rattle.plain_types.specs.Keeps.{IsArith, IsBorrow, IsBorrowMut, IsCopy, IsPrint, Keeps};
 
 /// What the typing of instructions lets an instruction do, a row of the typing of acts lets its act do, to the same entry
 /// (`steps`). At the end of a thread the value of the operand is at hand, with the type of the thread's result (`ends`).
@@ -17,4 +17,5 @@ pub fn acts_keep_types()
     ensures arith { Keeps IsArith }
     ensures borrow { Keeps IsBorrow }
     ensures borrow_mut { Keeps IsBorrowMut }
+    ensures copy { Keeps IsCopy }
 {}
