@@ -12,7 +12,8 @@ use Rattle.fr_syntax.specs.Tokens.{unblanked, first_text, after_text, names_afte
 use Rattle.fr_parse.specs.Grammar.{mark_of_op, Has, SpellsPath, SpellsOthers, SpellsNames, SpellsCaptures, Spells, SpellsItems, SpellsMore}
 use Rattle.fr_parse.specs.Source.{IsSource}
 use Rattle.fr_parse.proofs.Complete.{takes_some}
-use Rattle.fr_plain.specs.Run.{Run, temp, unit_c, number, read, borrow, box_r, arith as arith_r, bind, print, assign, block, spawn, join_r, Parts, last, more, Now, going, constant, temporary, now, settle_more, settle_right, close_last, close, settle, settle_parts, alive, one_if_temporary, leaves, leaves_last, steps_left, steps_in, life_left}
+use Rattle.fr_plain.specs.Run.{Run, temp, unit_c, number, read, borrow, box_r, arith as arith_r, bind, print, assign, block, spawn, join_r, mutex_r, dup, lock, locked, par, par_end, Parts, last, more, Now, going, constant, temporary, now, settle_more, settle_right, close_last, close, settle, settle_parts, alive, one_if_temporary, leaves, leaves_last, steps_left, steps_in, life_left}
+use Rattle.fr_typing.specs.Captures.{by_spawn}
 use Rattle.fr_plain.specs.Resolve.{env_after, env_of_all, lets_in, lets, before, resolve, resolve_items, program}
 
 -- TOKENS PAY FOR STEPS
@@ -62,7 +63,7 @@ mutual
   term_pays names b (join_t at task) ts rest e (x, begins, h) ok = omega (arith, has_one JoinWord ts x begins.0, term_pays names false task x rest e h ok)
   -- a new thread's steps, the drops of its captures, its end and its start
   term_pays names b (spawn_t at captures body) ts rest e (x, y, begins, list, is_block, h) ok =
-      omega (arith, has_one SpawnWord ts x begins.0, captures_pay names captures x y list, term_pays names false body y rest (env_of_all e captures) h ok)
+      omega (arith, has_one SpawnWord ts x begins.0, captures_pay names captures x y list, term_pays names false body y rest (env_of_all by_spawn e captures) h ok)
   term_pays names b (borrow_t at of) ts rest e (x, begins, place) ok = omega (arith, has_one Amp ts x begins.0, path_has_one names of.stars of.name x rest place.1)
   term_pays names b (borrow_mut_t at of) ts rest e (x, y, begins, mut, place) ok =
       omega (arith, has_one Amp ts x begins.0, has_one MutWord x y mut, path_has_one names of.stars of.name y rest place.1)
@@ -140,6 +141,12 @@ mutual
   settle_fits (block k is) = close_fits k is
   settle_fits (spawn cs r) = (omega arith, refl)
   settle_fits (join_r r) = (omega (arith, (settle_fits r).0), refl)
+  settle_fits (mutex_r r) = (omega (arith, (settle_fits r).0), refl)
+  settle_fits (dup w) = (omega arith, refl)
+  settle_fits (lock w r) = (omega arith, refl)
+  settle_fits (locked r) = let s = settle_fits r in (omega (arith, s.0), s.1)
+  settle_fits (par cs a ds b) = (omega arith, refl)
+  settle_fits par_end = (omega arith, refl)
 
   -- nor does settling the items of a block and closing it
   close_fits : (k : ℕ) (is : Parts) → Fits (close k (settle_parts is)) (steps_in is + k) (leaves_last is)

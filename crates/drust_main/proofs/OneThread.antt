@@ -8,14 +8,17 @@ use Rattle.fr_base.specs.declared.step.Ending3.TheVariants as ending
 use Rattle.fr_typing.specs.Kinds.{Kind}
 use Rattle.fr_terms.specs.Terms.{Term, block_t}
 use Rattle.fr_plain.specs.declared.value.Value.{Value}
-use Rattle.fr_plain.specs.declared.value.Value.TheVariants.{Own}
+use Rattle.fr_plain.specs.declared.value.Value.TheVariants.{Own, Held}
 use Rattle.fr_base.specs.declared.label.Plain.{Plain}
 use Rattle.fr_base.specs.declared.label.Plain.TheVariants as plain
 use Rattle.fr_base.specs.declared.name.MutexNo.{MutexNo}
-use Rattle.fr_plain.specs.Acts.{Act, Did, do_let, do_read, do_borrow, do_assign, do_box, do_arith, do_print, do_discard, do_drop, do_end, do_spawn, do_join, do_finish, do_leave, do_mutex, do_dup, do_lock, do_unlock, do_par, do_par_end, act, drops_last}
-use Rattle.fr_plain.specs.Run.{Move, Life, alive, over, owing, loose, ended, life_move}
-use Rattle.fr_plain.specs.MachineThreads.{Shared, mutex_there, with_mutex, thread_released, thread_released_in, content_gone, share_gone, share_released, release_by}
-use Rattle.fr_plain.proofs.TodaysActs.{IsTodays, acts_todays}
+use Rattle.fr_base.specs.declared.label.Label.{Label}
+use Rattle.fr_base.specs.declared.place.Lval.{Lval}
+use Rattle.fr_plain.specs.State.{without}
+use Rattle.fr_plain.specs.Acts.{Act, Did, do_let, do_read, do_borrow, do_assign, do_box, do_arith, do_print, do_discard, do_drop, do_end, do_spawn, do_join, do_finish, do_leave, do_mutex, do_dup, do_lock, do_unlock, do_par, do_par_end, act, unit, drops_last, end_of}
+use Rattle.fr_plain.specs.Run.{terms, Move, Life, alive, over, owing, loose, ended, life_move}
+use Rattle.fr_plain.specs.MachineThreads.{Shared, Pair, mutex_there, pair_of, with_mutex, thread_released, thread_released_in, content_gone, share_gone, share_released, release_by, count_both}
+use Rattle.fr_plain.specs.Machine as machine
 use Rattle.fr_plain.specs.Whole.{Thread, Whole, Stepped, Refusal, has_ended, refused_wait, refused_names, refused_of, takes_name, is_over, waits_for, all_over, all_wait, thread_at, with_thread, result_at, state_of, stepped, then_released, joined_with, joined, done_act, moved, step_of, step, refused, start, ending_of}
 use Rattle.fr_plain.specs.Resolve.{program}
 use Rattle.fr_plain.proofs.RefusedSteps.{no_step}
@@ -100,34 +103,72 @@ join_first : (s : Whole) (t : Thread) (m : Move Life) (v : Value) → FirstIs s 
 join_first s t m (Own (plain.Task u)) = joined_first s t m (thread_at s.threads u) (result_at s.threads u)
 join_first s t m _ = tt
 
-act_first : (s : Whole) (t : Thread) (m : Move Life) (a : Act) → IsTodays a → FirstIs s (done_act s t fresh.None m a)
-act_first s t m (do_spawn cs r) h = tt
-act_first s t m (do_join v) h = join_first s t m v
-act_first s t m (do_let v) h = stepped_first s t m (drops_last (do_let v) (state_of s t)) (act (do_let v) (state_of s t))
-act_first s t m (do_read w take) h = stepped_first s t m (drops_last (do_read w take) (state_of s t)) (act (do_read w take) (state_of s t))
-act_first s t m (do_borrow w is_mut) h = stepped_first s t m (drops_last (do_borrow w is_mut) (state_of s t)) (act (do_borrow w is_mut) (state_of s t))
-act_first s t m (do_assign w v) h = stepped_first s t m (drops_last (do_assign w v) (state_of s t)) (act (do_assign w v) (state_of s t))
-act_first s t m (do_box v) h = stepped_first s t m (drops_last (do_box v) (state_of s t)) (act (do_box v) (state_of s t))
-act_first s t m (do_arith f v w) h = stepped_first s t m (drops_last (do_arith f v w) (state_of s t)) (act (do_arith f v w) (state_of s t))
-act_first s t m (do_print v) h = stepped_first s t m (drops_last (do_print v) (state_of s t)) (act (do_print v) (state_of s t))
-act_first s t m (do_discard v) h = stepped_first s t m (drops_last (do_discard v) (state_of s t)) (act (do_discard v) (state_of s t))
-act_first s t m do_drop h = stepped_first s t m (drops_last do_drop (state_of s t)) (act do_drop (state_of s t))
-act_first s t m (do_end v) h = stepped_first s t m (drops_last (do_end v) (state_of s t)) (act (do_end v) (state_of s t))
-act_first s t m (do_finish v) h = stepped_first s t m (drops_last (do_finish v) (state_of s t)) (act (do_finish v) (state_of s t))
-act_first s t m (do_leave v) h = stepped_first s t m (drops_last (do_leave v) (state_of s t)) (act (do_leave v) (state_of s t))
-act_first s t m (do_mutex v) h = absurd h
-act_first s t m (do_dup w) h = absurd h
-act_first s t m (do_lock w) h = absurd h
-act_first s t m do_unlock h = absurd h
-act_first s t m (do_par cs r ds q) h = absurd h
-act_first s t m do_par_end h = absurd h
+-- what is done at a mutex
+at_first : (s : Whole) (t : Thread) (w : Lval) (go : MutexNo → List Label → Shared → Option Stepped) → ((n : MutexNo) (ls : List Label) (x : Shared) → FirstIs s (go n ls x)) → FirstIs s (machine.at_place terms s t w go)
+at_first s t w go h = by (machine.mutex_behind (state_of s t) w)
+  where
+    there : (o : Option Shared) (n : MutexNo) (ls : List Label) → FirstIs s (machine.where_there terms o (go n ls))
+    there None n ls = tt
+    there (Some x) n ls = h n ls x
+
+    by : (o : Option (MutexNo × List Label)) → FirstIs s (machine.at_mutex terms s o go)
+    by None = tt
+    by (Some p) = there (mutex_there s.mutexes p.0) p.0 p.1
+
+locked_first : (s : Whole) (t : Thread) (m : Move Life) (n : MutexNo) (ls : List Label) (x : Shared) (o : Option Plain) → FirstIs s (machine.locked_with terms s t m n ls x o)
+locked_first s t m n ls x None = tt
+locked_first s t m n ls x (Some v) = same_first s.threads _
+
+given_first : (s : Whole) (n : MutexNo) (v : Plain) (x : Option Shared) → first_number (machine.given_back terms s n v x).threads ≡ first_number s.threads
+given_first s n v (Some x) = refl
+given_first s n v None = let after : Whole = record s { heap = without s.heap (Own v) } in let_go_first (count_both after.mutexes after.threads) after (end_of s.heap (Own v))
+
+unlocked_first : (s : Whole) (t : Thread) (m : Move Life) (slots : List Value) → FirstIs s (machine.unlocked terms s t m slots)
+unlocked_first s t m (Own v ∷ Held n ∷ rest) = given_first (machine.goes_on terms s t m unit rest) n v (mutex_there s.mutexes n) ∙ same_first s.threads _
+unlocked_first s t m _ = tt
+
+-- the end of a pair
+taken_first : (ts : List Thread) (o : Option Thread) → first_number (machine.taken terms ts o) ≡ first_number ts
+taken_first ts None = refl
+taken_first ts (Some x) = same_first ts _
+
+two_ended_first : (s : Whole) (t : Thread) (m : Move Life) (p : Pair) (v w : Option Value) → FirstIs s (machine.two_ended terms s t m p v w)
+two_ended_first s t m p None w = tt
+two_ended_first s t m p (Some v) None = tt
+two_ended_first s t m p (Some v) (Some w) = same_first (machine.pair_over terms s p) _ ∙ taken_first (machine.taken terms s.threads (thread_at s.threads p.first)) (thread_at s.threads p.second) ∙ taken_first s.threads (thread_at s.threads p.first)
+
+two_first : (s : Whole) (t : Thread) (m : Move Life) (o : Option Pair) → FirstIs s (machine.two_joined terms s t m o)
+two_first s t m None = tt
+two_first s t m (Some p) = two_ended_first s t m p (result_at s.threads p.first) (result_at s.threads p.second)
+
+act_first : (s : Whole) (t : Thread) (m : Move Life) (a : Act) → FirstIs s (done_act s t fresh.None m a)
+act_first s t m (do_spawn cs r) = tt
+act_first s t m (do_join v) = join_first s t m v
+act_first s t m (do_let v) = stepped_first s t m (drops_last (do_let v) (state_of s t)) (act (do_let v) (state_of s t))
+act_first s t m (do_read w take) = stepped_first s t m (drops_last (do_read w take) (state_of s t)) (act (do_read w take) (state_of s t))
+act_first s t m (do_borrow w is_mut) = stepped_first s t m (drops_last (do_borrow w is_mut) (state_of s t)) (act (do_borrow w is_mut) (state_of s t))
+act_first s t m (do_assign w v) = stepped_first s t m (drops_last (do_assign w v) (state_of s t)) (act (do_assign w v) (state_of s t))
+act_first s t m (do_box v) = stepped_first s t m (drops_last (do_box v) (state_of s t)) (act (do_box v) (state_of s t))
+act_first s t m (do_arith f v w) = stepped_first s t m (drops_last (do_arith f v w) (state_of s t)) (act (do_arith f v w) (state_of s t))
+act_first s t m (do_print v) = stepped_first s t m (drops_last (do_print v) (state_of s t)) (act (do_print v) (state_of s t))
+act_first s t m (do_discard v) = stepped_first s t m (drops_last (do_discard v) (state_of s t)) (act (do_discard v) (state_of s t))
+act_first s t m do_drop = stepped_first s t m (drops_last do_drop (state_of s t)) (act do_drop (state_of s t))
+act_first s t m (do_end v) = stepped_first s t m (drops_last (do_end v) (state_of s t)) (act (do_end v) (state_of s t))
+act_first s t m (do_finish v) = stepped_first s t m (drops_last (do_finish v) (state_of s t)) (act (do_finish v) (state_of s t))
+act_first s t m (do_leave v) = stepped_first s t m (drops_last (do_leave v) (state_of s t)) (act (do_leave v) (state_of s t))
+act_first s t m (do_mutex v) = tt
+act_first s t m (do_dup w) = at_first s t w (machine.shared terms s t m) (λ n ls x. same_first s.threads _)
+act_first s t m (do_lock w) = at_first s t w (machine.locked terms s t m) (λ n ls x. locked_first s t m n ls x x.content)
+act_first s t m do_unlock = unlocked_first s t m t.slots
+act_first s t m (do_par cs r ds q) = tt
+act_first s t m do_par_end = two_first s t m (pair_of s.pairs t.number)
 
 step_first : (s : Whole) (n : ℕ) → FirstIs s (step s n fresh.None)
 step_first s n = by (thread_at s.threads n)
   where
     by_move : (t : Thread) (o : Option (Move Life)) → life_move t.life ≡ o → FirstIs s (moved s t fresh.None o)
     by_move t None e = tt
-    by_move t (Some m) e = act_first s t m m.act (acts_todays t.life m e)
+    by_move t (Some m) e = act_first s t m m.act
 
     by : (o : Option Thread) → FirstIs s (step_of s fresh.None o)
     by None = tt

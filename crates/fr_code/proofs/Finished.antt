@@ -5,7 +5,7 @@ use Rattle.fr_base.specs.declared.instruction.Operand.{Operand}
 use Rattle.fr_base.specs.declared.instruction.Operand.TheVariants as operand
 use Rattle.fr_base.specs.declared.instruction.Instr.{Instr}
 use Rattle.fr_plain.specs.declared.value.Value.{Value}
-use Rattle.fr_plain.specs.Run.{Run, temp, unit_c, number, read, borrow, box_r, arith, bind, print, assign, block, spawn, join_r, Parts, last, more, Now, going, constant, temporary, after, at_end, now, now_parts}
+use Rattle.fr_plain.specs.Run.{Run, temp, unit_c, number, read, borrow, box_r, arith, bind, print, assign, block, spawn, join_r, mutex_r, dup, lock, locked, par, par_end, Parts, last, more, Now, going, constant, temporary, after, at_end, now, now_parts}
 use Rattle.fr_code.specs.Steps.{CodeMove, with_operand}
 use Rattle.fr_code.specs.StandsFor.{operand_of, operand_of_last, temps_in, temps_in_parts, IsSource, AreSource, Later, LaterParts, Discards, DropsAt, At, AtParts}
 
@@ -27,6 +27,12 @@ mutual
   source_temps (block k is) ts h = sources_temps is ts h
   source_temps (spawn cs r) ts h = refl
   source_temps (join_r r) ts h = source_temps r ts h
+  source_temps (mutex_r r) ts h = source_temps r ts h
+  source_temps (dup w) ts h = refl
+  source_temps (lock w r) ts h = refl
+  source_temps (locked r) ts h = absurd h
+  source_temps (par cs a ds b) ts h = refl
+  source_temps par_end ts h = absurd h
 
   -- and so with items
   pub sources_temps : (is : Parts) (ts : List Value) → AreSource is → temps_in_parts is ts ≡ ts

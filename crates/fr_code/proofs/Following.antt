@@ -8,10 +8,10 @@ use Rattle.fr_base.specs.declared.instruction.Operand.TheVariants as operand
 use Rattle.fr_base.specs.declared.instruction.Instr.{Instr}
 use Rattle.fr_base.specs.declared.instruction.Instr.TheVariants as instr
 use Rattle.fr_plain.specs.declared.value.Value.{Value}
-use Rattle.fr_plain.specs.MachineActs.{Act, carry, do_let, do_read, do_borrow, do_assign, do_box, do_arith, do_print, do_discard, do_drop, do_spawn, do_join}
-use Rattle.fr_plain.specs.Run.{Capture, Run, temp, unit_c, number, read, borrow, box_r, arith, bind, print, assign, block, spawn, join_r, Parts, last, more, Now, going, constant, temporary, by_now, on_value, after, now, now_parts, Move, next, alone, block_end, move, move_parts}
-use Rattle.fr_plain.specs.Alike.{same_act, same_start}
-use Rattle.fr_code.specs.Steps.{captured, CodeMove, with_operand, went, quiet, loud, run_instr, code_move}
+use Rattle.fr_plain.specs.MachineActs.{Act, carry, do_let, do_read, do_borrow, do_assign, do_box, do_arith, do_print, do_discard, do_drop, do_spawn, do_join, do_mutex, do_dup, do_lock, do_unlock, do_par, do_par_end}
+use Rattle.fr_plain.specs.Run.{Capture, Run, temp, unit_c, number, read, borrow, box_r, arith, bind, print, assign, block, spawn, join_r, mutex_r, dup, lock, locked, par, par_end, Parts, last, more, Now, going, constant, temporary, by_now, on_value, after, now, now_parts, Move, next, alone, block_end, move, move_parts}
+use Rattle.fr_plain.specs.Alike.{same_act, same_start, same_starts}
+use Rattle.fr_code.specs.Steps.{Place, captured, CodeMove, with_operand, went, quiet, loud, run_instr, code_move}
 use Rattle.fr_code.specs.StandsFor.{operand_of, operand_of_last, temps_in, temps_in_parts, IsSource, AreSource, LaterParts, Discards, DropsAt, At, AtParts, IsCodeFrom}
 use Rattle.fr_code.specs.Laws.{SameAct}
 use Rattle.fr_code.proofs.Finished.{source_temps, sources_temps, later, later_parts, is_later, done_later, OperandNow, operand_now, operand_last_now, Finished, finished, finished_parts, anywhere, parts_anywhere, done_stands}
@@ -122,6 +122,31 @@ module _ (code : List Instr) where
   join_follows r ih p q ts g h =
       unary join_r instr.Join operand.Pop do_join temp (λ v us. v ∷ us) r p q h.0 ts (λ x l a i. record { at = (h.0, a, i, h.3); temps = refl; operand = refl }) (λ v l e. record { at = e; temps = refl; operand = refl }) (λ o us. refl) (λ e. ih p h.0 ts e h.1) h.1 h.2 h.3
 
+  mutex_follows : (r : Run) → Follows r → Follows (mutex_r r)
+  mutex_follows r ih p q ts g h =
+      unary mutex_r instr.Mutex operand.Pop do_mutex temp (λ v us. v ∷ us) r p q h.0 ts (λ x l a i. record { at = (h.0, a, i, h.3); temps = refl; operand = refl }) (λ v l e. record { at = e; temps = refl; operand = refl }) (λ o us. refl) (λ e. ih p h.0 ts e h.1) h.1 h.2 h.3
+
+  dup_follows : (w : Lval) → Follows (dup w)
+  dup_follows w p q ts g h =
+      acts (StandsIn code q ts operand.Pop) (do_dup w) temp (λ v. p + 1) (λ v. v ∷ ts) (code_move code p ts) (fetch (instr.Dup w) p p ts h.0 refl) (λ v. record { at = h.1; temps = refl; operand = refl })
+
+  -- the body follows the lock
+  lock_follows : (w : Lval) (r : Run) → Follows (lock w r)
+  lock_follows w r p q ts g h =
+      acts (StandsIn code q ts (operand_of r)) (do_lock w) (λ v. locked r) (λ v. p + 1) (λ v. ts) (code_move code p ts) (fetch (instr.Lock w) p p ts h.1 refl)
+      (λ v. record { at = (h.0, h.2, h.3); temps = sym (source_temps r ts h.4); operand = refl })
+
+  -- a step of the body, or the unlock where that is done
+  locked_follows : (r : Run) → Follows r → Follows (locked r)
+  locked_follows r ih p q ts g h =
+      let Fits = StandsIn code q ts (operand_of r) in
+      let us = temps_in r ts in
+      let x = code_move code p us in
+      one Fits (now r) (operand_of r) us ts p h.0 (λ v. alone (λ y. r) do_unlock) (next locked (move r)) x (operand_now code r) (finished code r p h.0 ts h.1)
+      (λ e. under Fits (StandsIn code h.0 ts (operand_of r)) locked (move r) x (λ l vs y f. record { at = (h.0, f.at, h.2); temps = f.temps; operand = f.operand }) (ih p h.0 ts e h.1))
+      (λ v ne take e. acts Fits do_unlock (λ y. r) (λ y. p + 1) (λ y. us) x (fetch instr.Unlock h.0 p us h.2.0 e)
+      (λ y. record { at = subst (λ z. At code (p + 1) r z) (sym (h.2.1 ∙ ap (λ z. z + 1) e)) (done_stands code (now r) (λ z. At code z r z) ne (anywhere code r) (p + 1)); temps = refl; operand = refl }))
+
   read_follows : (w : Lval) (take : Bool) → Follows (read w take)
   read_follows w take p q ts g h =
       acts (StandsIn code q ts operand.Pop) (do_read w take) temp (λ v. p + 1) (λ v. v ∷ ts) (code_move code p ts) (fetch (instr.Read w take) p p ts h.0 refl) (λ v. record { at = h.1; temps = refl; operand = refl })
@@ -185,6 +210,27 @@ module _ (code : List Instr) where
       subst (Same code (StandsIn code q ts operand.Pop) (move (spawn cs r))) (sym (fetch (instr.Spawn h.0 h.1) p p ts h.3 refl))
       (record { act = act; fits = λ v. record { at = h.5; temps = refl; operand = refl } })
 
+  -- the codes of both threads stand where the instruction says, and the wait for both follows
+  par_follows : (cs : List Capture) (a : Run) (ds : List Capture) (b : Run) → Follows (par cs a ds b)
+  par_follows cs a ds b p q ts g h =
+      let to = h.0 in
+      let other = h.2 in
+      let k = h.4 in
+      let first : IsCodeFrom code to a = record { to = h.1; at = h.5; over = h.6; source = h.7 } in
+      let second : IsCodeFrom code other b = record { to = h.3; at = h.8; over = h.9; source = h.10 } in
+      let both : SameAct code (do_par cs a ds b) (do_par cs (started to) ds (started other)) = same_starts (starts_stand code to a first) (starts_stand code other b second) in
+      let ours : SameAct code (do_par cs a ds b) (do_par (captured k.ours.items) (started to) ds (started other)) = subst (λ xs. SameAct code (do_par cs a ds b) (do_par xs (started to) ds (started other))) (sym k.captures) both in
+      let act : SameAct code (do_par cs a ds b) (do_par (captured k.ours.items) (started to) (captured k.theirs.items) (started other)) =
+      subst (λ xs. SameAct code (do_par cs a ds b) (do_par (captured k.ours.items) (started to) xs (started other))) (sym k.others) ours in
+      subst (Same code (StandsIn code q ts operand.Unit) (move (par cs a ds b))) (sym (fetch (instr.Par k.ours to k.theirs other) p p ts k.starts refl))
+      (record { act = act; fits = λ v. record { at = (k.waits, k.next); temps = refl; operand = refl } })
+    where
+      started : ℕ → Place
+      started n = record { pc = n; temps = [] }
+
+  par_end_follows : Follows par_end
+  par_end_follows p q ts g h = acts (StandsIn code q ts operand.Unit) do_par_end (λ v. unit_c) (λ v. p + 1) (λ v. ts) (code_move code p ts) (fetch instr.ParEnd p p ts h.0 refl) (λ v. record { at = h.1; temps = refl; operand = refl })
+
   more_by : (n : Now) (r : Run) (is : Parts) → Follows r → FollowsParts is → (p q : ℕ) (ts : List Value) → now r ≡ n → after n (now_parts is) ≡ going → OperandNow code n (operand_of r) → (h : AtParts code p (more r is) q) → Finished code n (temps_in r ts) ts p h.0
       → Same code (PartsIn code q ts (operand_of_last is)) (by_now n (next (λ x. more x is) (move r)) (λ v. move_parts is) (λ v. alone (λ x. is) (do_discard v))) (code_move code p (temps_in_parts is (temps_in r ts)))
   more_by going r is ih ihs p q ts g g2 en h f =
@@ -221,6 +267,12 @@ module _ (code : List Instr) where
     follows (block k is) = block_follows k is (follows_parts is)
     follows (spawn cs r) = spawn_follows cs r
     follows (join_r r) = join_follows r (follows r)
+    follows (mutex_r r) = mutex_follows r (follows r)
+    follows (dup w) = dup_follows w
+    follows (lock w r) = lock_follows w r
+    follows (locked r) = locked_follows r (follows r)
+    follows (par cs a ds b) = par_follows cs a ds b
+    follows par_end = par_end_follows
 
     pub follows_parts : (is : Parts) → FollowsParts is
     follows_parts (last r) = λ p q ts g h. under (PartsIn code q ts (operand_of r)) (StandsIn code q ts (operand_of r)) last (move r) (code_move code p (temps_in r ts)) (λ l us x f. record { at = f.at; temps = f.temps; operand = f.operand }) (follows r p q ts g h)

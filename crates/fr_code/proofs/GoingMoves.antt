@@ -2,8 +2,8 @@
 use Rattle.std.proofs.Common.{◌≡◌, ℕ, zero, suc, Option, Some, None, refl}
 use Rattle.std.specs.Prelude.{⊤}
 use Rattle.fr_plain.specs.declared.value.Value.{Value}
-use Rattle.fr_plain.specs.Acts.{do_discard, do_box, do_let, do_print, do_assign, do_arith, do_join}
-use Rattle.fr_plain.specs.Run.{Run, temp, unit_c, number, read, borrow, box_r, arith, bind, print, assign, block, spawn, join_r, Parts, last, more, Now, going, constant, temporary, by_now, on_value, after, at_end, now, now_parts, Move, next, alone, block_end, move, move_parts}
+use Rattle.fr_plain.specs.Acts.{do_discard, do_box, do_let, do_print, do_assign, do_arith, do_join, do_mutex, do_unlock}
+use Rattle.fr_plain.specs.Run.{Run, temp, unit_c, number, read, borrow, box_r, arith, bind, print, assign, block, spawn, join_r, mutex_r, dup, lock, locked, par, par_end, Parts, last, more, Now, going, constant, temporary, by_now, on_value, after, at_end, now, now_parts, Move, next, alone, block_end, move, move_parts}
 
 module _ {A : Type 0} where
   abbrev pub There : Option A → Type 0
@@ -51,6 +51,12 @@ mutual
   going_moves (block k is) e = block_there k (now_parts is) is e (going_parts is)
   going_moves (spawn cs r) e = tt
   going_moves (join_r r) e = there_in join_r (now r) (λ v. alone temp (do_join v)) (move r) (λ v. tt) (going_moves r)
+  going_moves (mutex_r r) e = there_in mutex_r (now r) (λ v. alone temp (do_mutex v)) (move r) (λ v. tt) (going_moves r)
+  going_moves (dup w) e = tt
+  going_moves (lock w r) e = tt
+  going_moves (locked r) e = there_in locked (now r) (λ v. alone (λ x. r) do_unlock) (move r) (λ v. tt) (going_moves r)
+  going_moves (par cs a ds b) e = tt
+  going_moves par_end e = tt
 
   going_parts : (is : Parts) → now_parts is ≡ going → There (move_parts is)
   going_parts (last r) e = there_next last (move r) (going_moves r e)

@@ -5,7 +5,7 @@ use Rattle.fr_base.specs.declared.instruction.Operand.{Operand}
 use Rattle.fr_base.specs.declared.instruction.Instr.{Instr}
 use Rattle.fr_base.specs.declared.instruction.Instr.TheVariants as instr
 use Rattle.fr_plain.specs.declared.value.Value.{Value}
-use Rattle.fr_plain.specs.Run.{Run, temp, unit_c, number, read, borrow, box_r, arith, bind, print, assign, block, spawn, join_r, Parts, last, more, Now, going, constant, temporary, now, settle, settle_parts, settle_more, settle_right, close_last, close}
+use Rattle.fr_plain.specs.Run.{Run, temp, unit_c, number, read, borrow, box_r, arith, bind, print, assign, block, spawn, join_r, mutex_r, dup, lock, locked, par, par_end, Parts, last, more, Now, going, constant, temporary, now, settle, settle_parts, settle_more, settle_right, close_last, close}
 use Rattle.fr_sound.proofs.Settling.{now_settle}
 use Rattle.fr_code.specs.StandsFor.{operand_of, operand_of_last, temps_in, temps_in_parts, IsSource, AreSource, Later, LaterParts, Discards, DropsAt, Ends, At, AtParts, Stands, IsCodeFrom}
 use Rattle.fr_code.specs.Laws.{SettlingStands}
@@ -87,6 +87,12 @@ module _ (code : List Instr) where
     keeps (assign w r) p q h = wrapped (assign w) (instr.Assign w) r (settle r) p h.0 q (λ x a i. (h.0, a, i, h.3)) (λ x ts. refl) refl h.2 (keeps r p h.0 h.1)
     keeps (join_r r) p q h = wrapped join_r instr.Join r (settle r) p h.0 q (λ x a i. (h.0, a, i, h.3)) (λ x ts. refl) refl h.2 (keeps r p h.0 h.1)
     keeps (spawn cs r) p q h = record { at = h; temps = λ ts. refl; operand = refl }
+    keeps (mutex_r r) p q h = wrapped mutex_r instr.Mutex r (settle r) p h.0 q (λ x a i. (h.0, a, i, h.3)) (λ x ts. refl) refl h.2 (keeps r p h.0 h.1)
+    keeps (dup w) p q h = record { at = h; temps = λ ts. refl; operand = refl }
+    keeps (lock w r) p q h = record { at = h; temps = λ ts. refl; operand = refl }
+    keeps (locked r) p q h = let k = keeps r p h.0 h.1 in record { at = (h.0, k.at, h.2); temps = k.temps; operand = k.operand }
+    keeps (par cs a ds b) p q h = record { at = h; temps = λ ts. refl; operand = refl }
+    keeps par_end p q h = record { at = h; temps = λ ts. refl; operand = refl }
     keeps (arith f a b) p q h =
         let k = keeps a p h.0 h.2 in
         let n = now (settle a) in

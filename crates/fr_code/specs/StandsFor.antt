@@ -8,7 +8,7 @@ use Rattle.fr_base.specs.declared.instruction.Instr.{Instr}
 use Rattle.fr_base.specs.declared.instruction.Instr.TheVariants as instr
 use Rattle.fr_base.specs.Rooms.{WithRoom}
 use Rattle.fr_plain.specs.declared.value.Value.{Value}
-use Rattle.fr_plain.specs.Run.{Run, temp, unit_c, number, read, borrow, box_r, arith, bind, print, assign, block, spawn, join_r, Parts, last, more, Now, going, constant, temporary, now}
+use Rattle.fr_plain.specs.Run.{Capture, Run, temp, unit_c, number, read, borrow, box_r, arith, bind, print, assign, block, spawn, join_r, mutex_r, dup, lock, locked, par, par_end, Parts, last, more, Now, going, constant, temporary, now}
 use Rattle.fr_code.specs.Steps.{captured}
 
 abbrev mutual
@@ -21,6 +21,10 @@ abbrev mutual
   operand_of (print r) = operand.Unit
   operand_of (assign w r) = operand.Unit
   operand_of (block k is) = operand_of_last is
+  operand_of (lock w r) = operand_of r
+  operand_of (locked r) = operand_of r
+  operand_of (par cs a ds b) = operand.Unit
+  operand_of par_end = operand.Unit
   operand_of _ = operand.Pop
 
   pub operand_of_last : Parts → Operand
@@ -43,6 +47,12 @@ abbrev mutual
   temps_in (block k is) ts = temps_in_parts is ts
   temps_in (spawn cs r) ts = ts
   temps_in (join_r r) ts = temps_in r ts
+  temps_in (mutex_r r) ts = temps_in r ts
+  temps_in (dup w) ts = ts
+  temps_in (lock w r) ts = ts
+  temps_in (locked r) ts = temps_in r ts
+  temps_in (par cs a ds b) ts = ts
+  temps_in par_end ts = ts
 
   pub temps_in_parts : Parts → List Value → List Value
   temps_in_parts (last r) ts = temps_in r ts
@@ -64,6 +74,12 @@ abbrev mutual
   IsSource (block k is) = AreSource is
   IsSource (spawn cs r) = IsSource r
   IsSource (join_r r) = IsSource r
+  IsSource (mutex_r r) = IsSource r
+  IsSource (dup w) = ⊤
+  IsSource (lock w r) = IsSource r
+  IsSource (locked r) = ⊥
+  IsSource (par cs a ds b) = IsSource a × IsSource b
+  IsSource par_end = ⊥
 
   pub AreSource : Parts → Type 0
   AreSource (last r) = IsSource r
@@ -96,6 +112,20 @@ DropsAt code p (suc k) q = (slice_get code p ≡ Some instr.DropSlot) × DropsAt
 abbrev pub Ends : List Instr → ℕ → Operand → Type 0
 Ends code p o = slice_get code p ≡ Some (instr.End o)
 
+-- the content is put back
+abbrev pub Unlocks : List Instr → ℕ → ℕ → Type 0
+Unlocks code p q = (slice_get code p ≡ Some instr.Unlock) × (q ≡ p + 1)
+
+-- two threads start with these captures and codes, and then both are waited for
+pub record Pairs (code : List Instr) (p : ℕ) (cs : List Capture) (to : ℕ) (ds : List Capture) (other : ℕ) (q : ℕ) : Type 0 where
+  pub ours : WithRoom (ℕ × Bool)
+  pub theirs : WithRoom (ℕ × Bool)
+  pub starts : slice_get code p ≡ Some (instr.Par ours to theirs other)
+  pub captures : captured ours.items ≡ cs
+  pub others : captured theirs.items ≡ ds
+  pub waits : slice_get code (p + 1) ≡ Some instr.ParEnd
+  pub next : q ≡ p + 1 + 1
+
 abbrev pub borrowing : Lval → Bool → Instr
 borrowing w true = instr.BorrowMut w
 borrowing w false = instr.Borrow w
@@ -117,6 +147,13 @@ abbrev mutual
   -- the new thread's code stands elsewhere
   At code p (spawn cs r) q = (xs : WithRoom (ℕ × Bool)) × (to e : ℕ) × (slice_get code p ≡ Some (instr.Spawn xs to)) × (captured xs.items ≡ cs) × (q ≡ p + 1) × At code to r e × Ends code e (operand_of r) × IsSource r
   At code p (join_r r) q = (m : ℕ) × At code p r m × (slice_get code m ≡ Some (instr.Join (operand_of r))) × (q ≡ m + 1)
+  At code p (mutex_r r) q = (m : ℕ) × At code p r m × (slice_get code m ≡ Some (instr.Mutex (operand_of r))) × (q ≡ m + 1)
+  At code p (dup w) q = (slice_get code p ≡ Some (instr.Dup w)) × (q ≡ p + 1)
+  At code p (lock w r) q = (m : ℕ) × (slice_get code p ≡ Some (instr.Lock w)) × At code (p + 1) r m × Unlocks code m q × IsSource r
+  At code p (locked r) q = (m : ℕ) × At code p r m × Unlocks code m q
+  -- the codes of both threads stand elsewhere
+  At code p (par cs a ds b) q = (to e : ℕ) × (other f : ℕ) × Pairs code p cs to ds other q × At code to a e × Ends code e (operand_of a) × IsSource a × At code other b f × Ends code f (operand_of b) × IsSource b
+  At code p par_end q = (slice_get code p ≡ Some instr.ParEnd) × (q ≡ p + 1)
 
   pub AtParts : List Instr → ℕ → Parts → ℕ → Type 0
   AtParts code p (last r) q = At code p r q

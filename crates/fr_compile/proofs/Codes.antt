@@ -9,7 +9,7 @@ use Rattle.fr_base.specs.declared.instruction.Operand.TheVariants as operand
 use Rattle.fr_base.specs.declared.instruction.Instr.{Instr}
 use Rattle.fr_base.specs.declared.instruction.Instr.TheVariants as instr
 use Rattle.fr_base.specs.Rooms.{WithRoom}
-use Rattle.fr_plain.specs.Run.{Run, temp, unit_c, number, read, borrow, box_r, arith as arith_r, bind, print, assign, block, spawn, join_r, Parts, last, more, now, one_if_temporary, leaves, leaves_last, steps_left}
+use Rattle.fr_plain.specs.Run.{Run, temp, unit_c, number, read, borrow, box_r, arith as arith_r, bind, print, assign, block, spawn, join_r, mutex_r, dup, lock, locked, par, par_end, Parts, last, more, now, one_if_temporary, leaves, leaves_last, steps_left}
 use Rattle.fr_meaning.specs.declared.forms.Form.{Form}
 use Rattle.fr_meaning.specs.FormTerms.{parts_from, parts_of, term_of}
 use Rattle.fr_code.specs.Steps.{captured}
@@ -92,6 +92,12 @@ mutual
   leaves_one (block k is) = last_leaves_one is
   leaves_one (spawn cs r) = refl
   leaves_one (join_r r) = refl
+  leaves_one (mutex_r r) = refl
+  leaves_one (dup w) = refl
+  leaves_one (lock w r) = leaves_one r
+  leaves_one (locked r) = leaves_one r
+  leaves_one (par cs a ds b) = refl
+  leaves_one par_end = refl
 
   last_leaves_one : (is : Parts) → given_up (operand_of_last is) ≡ one_if_temporary (leaves_last is)
   last_leaves_one (last r) = leaves_one r

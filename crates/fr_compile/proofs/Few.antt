@@ -8,6 +8,7 @@ use Rattle.fr_syntax.specs.Meanings.{meaning_at, meanings, root_of, term_of}
 use Rattle.fr_syntax.proofs.TreeLemmas.{length_meanings}
 use Rattle.borrow_check.specs.declared.usage.Usage.{Usage}
 use Rattle.borrow_check.specs.Programs.{Program, IsChecked}
+use Rattle.fr_typing.specs.Captures.{by_spawn}
 use Rattle.borrow_check.specs.Usages.{env_after, env_left, env_new, env_of_all, capture_usages, usages_of, usages_in, AreUsed}
 use Rattle.borrow_check.proofs.NodeLemmas.{nodes_few}
 use Rattle.fr_plain.specs.Run.{Run, Parts, one_if_temporary, leaves, steps_left, steps_in}
@@ -47,7 +48,7 @@ mutual
   steps_few (spawn_t at cs t) e d h =
       let us = capture_usages d [] cs in
       let vs = usages_of t (env_of_all d cs) in
-      omega (arith, steps_few t (run.env_of_all e cs) (env_of_all d cs) h, captures_long d [] cs, length-append (us ++ vs) (None ∷ []), length-append us vs)
+      omega (arith, steps_few t (run.env_of_all by_spawn e cs) (env_of_all d cs) h, captures_long d [] cs, length-append (us ++ vs) (None ∷ []), length-append us vs)
   steps_few (mutex_t at t) e d h = absurd h
   steps_few (dup_t at w) e d h = absurd h
   steps_few (lock_t at w x t) e d h = absurd h

@@ -5,7 +5,8 @@ use Rattle.fr_terms.specs.Terms.{Text, block_t, let_t, assign_t, read_t, borrow_
 use Rattle.fr_terms.specs.Terms as terms
 use Rattle.fr_terms.specs.Limits.{levels, levels_of, IsWithinLimits}
 use Rattle.fr_typing.specs.Sequential.{IsSequential}
-use Rattle.fr_typing.specs.Threaded.{IsThreaded}
+use Rattle.fr_typing.specs.Threaded.{IsThreaded, AreThreaded}
+use Rattle.fr_typing.specs.Captures.{by_spawn}
 use Rattle.fr_typing.specs.Places.{Env}
 use Rattle.fr_typing.proofs.Agree.{exactly_one_lem}
 use Rattle.fr_syntax.specs.declared.tree.Term.{Term}
@@ -246,35 +247,35 @@ before_few none r rest n m le k = omega (arith, le)
 before_few (item t ts) r rest n m le k = omega (arith, le, k)
 
 mutual
-  depth_few : (t : terms.Term) (e : Env) → depth (resolve t e) ≤ levels t
-  depth_few (block_t at ts) e = omega (arith, items_few ts e)
-  depth_few (let_t at x t) e = omega (arith, depth_few t e)
-  depth_few (assign_t at w t) e = omega (arith, depth_few t e)
-  depth_few (box_t at t) e = omega (arith, depth_few t e)
-  depth_few (print_t at t) e = omega (arith, depth_few t e)
-  depth_few (read_t at w) e = omega arith
-  depth_few (borrow_t at w) e = omega arith
-  depth_few (borrow_mut_t at w) e = omega arith
-  depth_few (number_t at n) e = omega arith
-  depth_few (unit_t at) e = omega arith
-  depth_few (arith_t at op l r) e = omega (arith, depth_few l e, depth_few r (env_after l e))
-  depth_few (join_t at t) e = omega (arith, depth_few t e)
-  depth_few (mutex_t at t) e = omega arith
-  depth_few (dup_t at w) e = omega arith
-  depth_few (lock_t at w x t) e = omega arith
-  depth_few (spawn_t at cs t) e = omega (arith, depth_few t (env_of_all e cs))
-  depth_few (par_t at cs t ds u) e = omega arith
+  depth_few : (t : terms.Term) (e : Env) → IsThreaded t → depth (resolve t e) ≤ levels t
+  depth_few (block_t at ts) e h = omega (arith, items_few ts e h)
+  depth_few (let_t at x t) e h = omega (arith, depth_few t e h)
+  depth_few (assign_t at w t) e h = omega (arith, depth_few t e h)
+  depth_few (box_t at t) e h = omega (arith, depth_few t e h)
+  depth_few (print_t at t) e h = omega (arith, depth_few t e h)
+  depth_few (read_t at w) e h = omega arith
+  depth_few (borrow_t at w) e h = omega arith
+  depth_few (borrow_mut_t at w) e h = omega arith
+  depth_few (number_t at n) e h = omega arith
+  depth_few (unit_t at) e h = omega arith
+  depth_few (arith_t at op l r) e h = omega (arith, depth_few l e h.0, depth_few r (env_after l e) h.1)
+  depth_few (join_t at t) e h = omega (arith, depth_few t e h)
+  depth_few (spawn_t at cs t) e h = omega (arith, depth_few t (env_of_all by_spawn e cs) h)
+  depth_few (mutex_t at t) e h = absurd h
+  depth_few (dup_t at w) e h = absurd h
+  depth_few (lock_t at w x t) e h = absurd h
+  depth_few (par_t at cs t ds u) e h = absurd h
 
-  items_few : (ts : Items) (e : Env) → depth_in (resolve_items ts e) ≤ levels_of ts
-  items_few none e = omega arith
-  items_few (item t ts) e = before_few ts (resolve t e) (resolve_items ts (env_after t e)) (levels t) (levels_of ts) (depth_few t e) (items_few ts (env_after t e))
+  items_few : (ts : Items) (e : Env) → AreThreaded ts → depth_in (resolve_items ts e) ≤ levels_of ts
+  items_few none e h = omega arith
+  items_few (item t ts) e h = before_few ts (resolve t e) (resolve_items ts (env_after t e)) (levels t) (levels_of ts) (depth_few t e h.0) (items_few ts (env_after t e) h.1)
 
 -- a program within the limits fits in 64 frames
-pub program_depth : (t : terms.Term) → IsWithinLimits t → depth (program t) ≤ 64
-program_depth t h = omega (arith, depth_few t [], h.depth)
+pub program_depth : (t : terms.Term) → IsWithinLimits t → IsThreaded t → depth (program t) ≤ 64
+program_depth t h k = omega (arith, depth_few t [] k, h.depth)
 
-pub root_depth : (fs : List Form) (t : terms.Term) → IsWithinLimits t → forms.root_of fs ≡ program t → depth (forms.root_of fs) ≤ 64
-root_depth fs t h e = omega (arith, ap depth e, program_depth t h)
+pub root_depth : (fs : List Form) (t : terms.Term) → IsWithinLimits t → IsThreaded t → forms.root_of fs ≡ program t → depth (forms.root_of fs) ≤ 64
+root_depth fs t h k e = omega (arith, ap depth e, program_depth t h k)
 
 -- TYPED
 

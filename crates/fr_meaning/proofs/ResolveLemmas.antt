@@ -141,7 +141,7 @@ capture_named p i e sort h =
 
 -- the captured slots are those of the names
 captures_run : (p : Program) (bound : ℕ) (ids : List ℕ) (e n : Env) → IsArena p.arena → AreNames p.arena bound ids → AreUsed p.usages (nodes_in (meanings p.arena) (all_need capture_s ids)) (capture_usages e n (captures_at (meanings p.arena) ids)) →
-    captures_of (captured_all p ids) ≡ captures e n (captures_at (meanings p.arena) ids)
+    captures_of (captured_all p ids) ≡ captures by_spawn e n (captures_at (meanings p.arena) ids)
 captures_run p bound [] e n arena h used = refl
 captures_run p bound (i ∷ is) e n arena h used =
     let a = p.arena in
@@ -153,7 +153,7 @@ captures_run p bound (i ∷ is) e n arena h used =
     let rest = captures_run p bound is (env_left e n c) (env_new e n c) arena (record { inside = h.inside; parts = h.parts.2 }) all.1 in
     let left = same_after (capture by_spawn e n c (λ e1 n1. typed (own unit) e1)) in
     let new = same_after (capture by_spawn e n c (λ e1 n1. typed (own unit) n1)) in
-    ap₂ (λ (x : Passed) (xs : List Passed). x ∷ xs) (capture_named p i e h.parts.1 all.0) (rest ∙ ap₂ (λ x y. captures x y cs) left new)
+    ap₂ (λ (x : Passed) (xs : List Passed). x ∷ xs) (capture_named p i e h.parts.1 all.0) (rest ∙ ap₂ (λ x y. captures by_spawn x y cs) left new)
 
 -- items are those of their forms
 items_run : (p : Program) (at : ℕ) (look : ℕ → Run) (ids : List ℕ) (e : Env) → IsArena p.arena → AreRuns p at look → AreTypedIn p at ids e → parts_of look ids ≡ resolve_items (items_at (meanings p.arena) ids) e
@@ -192,7 +192,7 @@ mutual
       let e1 = env_after (typing l e) in
       omega (arith, lets_few l e ok.0, lets_few r e1 ok.1, length-append (usages_of l e ++ usages_of r e1) (None ∷ []), length-append (usages_of l e) (usages_of r e1))
   lets_few (join_t at t) e ok = omega (arith, lets_few t e ok, length-append (usages_of t e) (None ∷ []))
-  lets_few (mutex_t at t) e ok = omega arith
+  lets_few (mutex_t at t) e ok = absurd ok
   lets_few (dup_t at w) e ok = omega arith
   lets_few (lock_t at w x t) e ok = omega arith
   lets_few (spawn_t at cs t) e ok = omega arith
@@ -273,9 +273,9 @@ spawn_run p at counts look names v n e (form.Spawn ds b k) arena h is w c same r
     let long = length_captures a names.items in
     let count = c v (omega (arith, parts.before, same)) parts.ready.threaded in
     let total : k ≡ length cs + lets_in t = omega (arith, made.2, count, few, long) in
-    let body : look b ≡ resolve t (plain.env_of_all e cs) =
+    let body : look b ≡ resolve t (plain.env_of_all by_spawn e cs) =
     ap look made.1 ∙ runs v parts.before (env_of_all e cs) s.body ∙ ap (λ x. resolve t x) (same_after (capture_all by_spawn cs e [] (λ e1 n1. typed (own unit) n1))) in
-    let all : captures_of ds.items ≡ captures e [] cs = ap captures_of made.0 ∙ captures_run p at names.items e [] arena parts.names s.names in
+    let all : captures_of ds.items ≡ captures by_spawn e [] cs = ap captures_of made.0 ∙ captures_run p at names.items e [] arena parts.names s.names in
     ap₂ spawn all (ap₂ (λ x y. block x (last y)) total body)
 spawn_run p at counts look names v n e (form.Number x) arena h is w c same runs made = absurd made
 spawn_run p at counts look names v n e form.Unit arena h is w c same runs made = absurd made

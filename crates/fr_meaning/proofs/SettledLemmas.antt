@@ -2,8 +2,8 @@
 use Rattle.std.proofs.Common.{◌≡◌, ℕ, zero, suc, ◌+◌, ◌≤◌, Option, Some, None, refl, sym, subst, arith}
 use Rattle.std.specs.Prelude.{max, ⊤}
 use Rattle.fr_plain.specs.declared.value.Value.{Value}
-use Rattle.fr_plain.specs.Acts.{do_box, do_arith, do_let, do_print, do_assign, do_discard, do_join}
-use Rattle.fr_plain.specs.Run.{Run, temp, unit_c, number, read, borrow, box_r, arith as arith_r, bind, print, assign, block, spawn, join_r, Parts, last, more, Now, going, constant, temporary, on_value, by_now, now, now_parts, settle_more, settle_right, close_last, close, settle, settle_parts, Move, next, alone, block_end, move, move_parts}
+use Rattle.fr_plain.specs.Acts.{do_box, do_arith, do_let, do_print, do_assign, do_discard, do_join, do_mutex, do_unlock}
+use Rattle.fr_plain.specs.Run.{Run, temp, unit_c, number, read, borrow, box_r, arith as arith_r, bind, print, assign, block, spawn, join_r, mutex_r, dup, lock, locked, par, par_end, Parts, last, more, Now, going, constant, temporary, on_value, by_now, now, now_parts, settle_more, settle_right, close_last, close, settle, settle_parts, Move, next, alone, block_end, move, move_parts}
 use Rattle.fr_meaning.specs.Contexts.{depth, depth_in, IsOpen, IsHeld, RightSettled, IsSettled}
 
 -- WHAT IS SETTLED
@@ -47,6 +47,12 @@ mutual
   settle_settled (block k is) = close_settled k is
   settle_settled (spawn cs r) = tt
   settle_settled (join_r r) = settle_settled r
+  settle_settled (mutex_r r) = settle_settled r
+  settle_settled (dup w) = tt
+  settle_settled (lock w r) = tt
+  settle_settled (locked r) = settle_settled r
+  settle_settled (par cs a ds b) = tt
+  settle_settled par_end = tt
 
   -- a block is settled where its items are
   close_settled : (k : ℕ) (is : Parts) → IsSettled (close k (settle_parts is))
@@ -95,6 +101,12 @@ mutual
   depth_settle (block k is) = parts_depth k is
   depth_settle (spawn cs r) = omega arith
   depth_settle (join_r r) = omega (arith, depth_settle r)
+  depth_settle (mutex_r r) = omega (arith, depth_settle r)
+  depth_settle (dup w) = omega arith
+  depth_settle (lock w r) = omega arith
+  depth_settle (locked r) = omega (arith, depth_settle r)
+  depth_settle (par cs a ds b) = omega arith
+  depth_settle par_end = omega arith
 
   -- settling a block's items makes it no deeper
   parts_depth : (k : ℕ) (is : Parts) → depth (close k (settle_parts is)) ≤ depth_in is + 1
@@ -154,6 +166,12 @@ mutual
   move_depth (block k is) = on_value_within depth (now_parts is) (λ v. block_end k is) (next (block k) (move_parts is)) (depth_in is + 1) (λ v. end_within k is) (next_within depth_in depth (block k) (move_parts is) (depth_in is) (depth_in is + 1) (λ q h. omega arith) (parts_move_depth is))
   move_depth (spawn cs r) = λ v. omega arith
   move_depth (join_r r) = on_value_within depth (now r) (λ v. alone temp (do_join v)) (next join_r (move r)) (depth r + 1) (λ v x. omega arith) (next_within depth depth join_r (move r) (depth r) (depth r + 1) (λ q h. omega arith) (move_depth r))
+  move_depth (mutex_r r) = on_value_within depth (now r) (λ v. alone temp (do_mutex v)) (next mutex_r (move r)) (depth r + 1) (λ v x. omega arith) (next_within depth depth mutex_r (move r) (depth r) (depth r + 1) (λ q h. omega arith) (move_depth r))
+  move_depth (dup w) = λ v. omega arith
+  move_depth (lock w r) = λ v. omega arith
+  move_depth (locked r) = on_value_within depth (now r) (λ v. alone (λ x. r) do_unlock) (next locked (move r)) (depth r + 1) (λ v x. omega arith) (next_within depth depth locked (move r) (depth r) (depth r + 1) (λ q h. omega arith) (move_depth r))
+  move_depth (par cs a ds b) = λ v. omega arith
+  move_depth par_end = λ v. omega arith
 
   -- a move of items makes them no deeper
   parts_move_depth : (is : Parts) → Within depth_in (depth_in is) (move_parts is)

@@ -3,8 +3,8 @@ use Rattle.std.proofs.Common.{◌≡◌, ℕ, zero, suc, ◌+◌, Bool, true, fa
 use Rattle.std.specs.Prelude.{⊤}
 use Rattle.fr_base.specs.declared.place.Op.{Op}
 use Rattle.fr_plain.specs.declared.value.Value.{Value}
-use Rattle.fr_plain.specs.Acts.{Act, do_end, do_box, do_arith, do_let, do_print, do_assign, do_discard, do_spawn, do_join, do_finish, do_leave}
-use Rattle.fr_plain.specs.Run.{Run, temp, unit_c, number, read, borrow, box_r, arith as arith_r, bind, print, assign, block, spawn, join_r, Parts, last, more, Now, going, constant, temporary, by_now, on_value, after, at_end, now, now_parts, settle_more, settle_right, close_last, close, settle, settle_parts, Move, next, alone, block_end, move, move_parts, Life, alive, over, owing, loose, ended, settle_life, life_move, one_if_temporary, leaves, leaves_last, steps_left, steps_in, life_left}
+use Rattle.fr_plain.specs.Acts.{Act, do_end, do_box, do_arith, do_let, do_print, do_assign, do_discard, do_spawn, do_join, do_finish, do_leave, do_mutex, do_unlock, do_par}
+use Rattle.fr_plain.specs.Run.{Run, temp, unit_c, number, read, borrow, box_r, arith as arith_r, bind, print, assign, block, spawn, join_r, mutex_r, dup, lock, locked, par, par_end, Parts, last, more, Now, going, constant, temporary, by_now, on_value, after, at_end, now, now_parts, settle_more, settle_right, close_last, close, settle, settle_parts, Move, next, alone, block_end, move, move_parts, Life, alive, over, owing, loose, ended, settle_life, life_move, one_if_temporary, leaves, leaves_last, steps_left, steps_in, life_left}
 
 -- a done term has no step left, and leaves a temporary value where it is one
 abbrev Done : Now → ℕ → Bool → Type 0
@@ -42,6 +42,12 @@ mutual
   done_left (block k is) = at_end_done k (now_parts is) (steps_in is) (leaves_last is) (done_in is)
   done_left (spawn cs r) = tt
   done_left (join_r r) = tt
+  done_left (mutex_r r) = tt
+  done_left (dup w) = tt
+  done_left (lock w r) = tt
+  done_left (locked r) = tt
+  done_left (par cs a ds b) = tt
+  done_left par_end = tt
 
   -- of items
   done_in : (is : Parts) → Done (now_parts is) (steps_in is) (leaves_last is)
@@ -94,6 +100,12 @@ mutual
   settle_left (block k is) = close_left k is
   settle_left (spawn cs r) = (refl, refl)
   settle_left (join_r r) = (ap (λ n. n + 1) (settle_left r).0, refl)
+  settle_left (mutex_r r) = (ap (λ n. n + 1) (settle_left r).0, refl)
+  settle_left (dup w) = (refl, refl)
+  settle_left (lock w r) = (refl, refl)
+  settle_left (locked r) = let s = settle_left r in (ap (λ n. n + 1) s.0, s.1)
+  settle_left (par cs a ds b) = (refl, refl)
+  settle_left par_end = (refl, refl)
 
   -- nor is settling items
   close_left : (k : ℕ) (is : Parts) → Same (close k (settle_parts is)) (steps_in is + k) (leaves_last is)
@@ -103,9 +115,10 @@ mutual
 
 -- MOVES
 
--- the steps of a thread that the act starts, and its end
+-- the steps of the threads that the act starts, and their ends
 abbrev pub born : Act → ℕ
 born (do_spawn cs r) = steps_left r + 1
+born (do_par cs a ds b) = steps_left a + steps_left b + 2
 born _ = 0
 
 module _ {P : Type 0} (count : P → ℕ) (kind : P → Bool) where
@@ -164,6 +177,12 @@ arith_falls going f a b e d h g = next_falls steps_left leaves steps_left leaves
 arith_falls (constant v) f a b e d h g = right_falls f a b v d.0 g
 arith_falls (temporary v) f a b e d h g = right_falls f a b v d.0 g
 
+-- of a lock's body, by whether that is done: its value is the lock's
+locked_falls : (n : Now) (r : Run) → Falls steps_left leaves (steps_left r) (leaves r) (move r) → Falls steps_left leaves (steps_left r + 1) (leaves r) (on_value n (λ v. alone (λ x. r) do_unlock) (next locked (move r)))
+locked_falls going r h = next_falls steps_left leaves steps_left leaves locked (move r) (steps_left r) (steps_left r + 1) (leaves r) (leaves r) (λ q k e x. (omega (arith, e), x)) h
+locked_falls (constant v) r h = λ u. (omega arith, refl)
+locked_falls (temporary v) r h = λ u. (omega arith, refl)
+
 mutual
   -- a move of a term is a step of it
   move_falls : (r : Run) → Falls steps_left leaves (steps_left r) (leaves r) (move r)
@@ -180,6 +199,12 @@ mutual
   move_falls (block k is) = block_falls (now_parts is) k is (parts_falls is)
   move_falls (spawn cs r) = λ v. (omega arith, refl)
   move_falls (join_r r) = one_falls (now r) r join_r (λ v. alone temp (do_join v)) true (done_left r) (λ v x. (refl, refl)) (λ q. refl) (λ q. refl) (move_falls r)
+  move_falls (mutex_r r) = one_falls (now r) r mutex_r (λ v. alone temp (do_mutex v)) true (done_left r) (λ v x. (refl, refl)) (λ q. refl) (λ q. refl) (move_falls r)
+  move_falls (dup w) = λ v. (refl, refl)
+  move_falls (lock w r) = λ v. (omega arith, refl)
+  move_falls (locked r) = locked_falls (now r) r (move_falls r)
+  move_falls (par cs a ds b) = λ v. (omega arith, refl)
+  move_falls par_end = λ v. (refl, refl)
 
   -- a move of items is a step of them
   parts_falls : (is : Parts) → Falls steps_in leaves_last (steps_in is) (leaves_last is) (move_parts is)

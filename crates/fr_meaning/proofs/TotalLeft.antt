@@ -1,22 +1,24 @@
 -- A step of a state of many threads is one of those that are left.
 use Rattle.std.proofs.Common.{◌≡◌, ◌≢◌, ℕ, zero, suc, ◌+◌, Bool, true, false, List, [], ◌∷◌, ◌++◌, Option, Some, None, refl, sym, ap, ◌∙◌, subst, arith}
-use Rattle.std.specs.Prelude.{if◌then◌else◌}
+use Rattle.std.specs.Prelude.{◌==◌, ◌||◌, is_some, if◌then◌else◌}
+use Rattle.fr_base.specs.declared.label.Label.{Label}
 use Rattle.fr_base.specs.declared.label.Label.TheVariants as label
 use Rattle.fr_base.specs.declared.label.Plain.{Plain}
 use Rattle.fr_base.specs.declared.label.Plain.TheVariants as plain
 use Rattle.fr_base.specs.declared.name.MutexNo.{MutexNo}
+use Rattle.fr_base.specs.declared.place.Lval.{Lval}
 use Rattle.fr_base.specs.declared.step.Fresh.{Fresh}
 use Rattle.fr_base.specs.declared.step.Fresh.TheVariants as fresh
 use Rattle.fr_plain.specs.declared.value.Value.{Value}
 use Rattle.fr_plain.specs.declared.value.Value.TheVariants.{Own, ToSlot, ToObject, Held}
 use Rattle.fr_plain.specs.State.{without}
-use Rattle.fr_plain.specs.Acts.{Act, do_let, do_read, do_borrow, do_assign, do_box, do_arith, do_print, do_discard, do_drop, do_end, do_spawn, do_join, do_finish, do_leave, do_mutex, do_dup, do_lock, do_unlock, do_par, do_par_end, Did, act, drops_last, end_of}
-use Rattle.fr_plain.specs.Run.{Run, settle, Move, Life, alive, over, owing, loose, ended, settle_life, life_move, steps_left, life_left}
-use Rattle.fr_plain.specs.MachineThreads.{Shared, mutex_there, with_mutex, thread_released, thread_released_in, content_gone, share_gone, share_released, release_by, count_both, release}
+use Rattle.fr_plain.specs.Acts.{Act, do_let, do_read, do_borrow, do_assign, do_box, do_arith, do_print, do_discard, do_drop, do_end, do_spawn, do_join, do_finish, do_leave, do_mutex, do_dup, do_lock, do_unlock, do_par, do_par_end, Did, act, unit, drops_last, end_of}
+use Rattle.fr_plain.specs.Run.{Capture, Run, settle, terms, Move, Life, alive, over, owing, loose, ended, settle_life, life_move, steps_left, life_left}
+use Rattle.fr_plain.specs.MachineThreads.{Shared, Pair, mutex_at, mutex_there, with_mutex, pair_of, thread_released, thread_released_in, content_gone, share_gone, share_released, release_by, count_both, release}
+use Rattle.fr_plain.specs.Machine as machine
 use Rattle.fr_plain.specs.Threads.{result_of_life, result_in}
-use Rattle.fr_plain.proofs.TodaysActs.{IsTodays, acts_todays}
 use Rattle.fr_plain.specs.Whole.{Thread, Whole, Stepped, thread_at, with_thread, with_life, is_given, Passed, pass, result_at, prints, stepped, then_released, alone_stepped, started, started_with, joined, joined_with, is_nameless, done_act, moved, step_of, step, state_of}
-use Rattle.fr_sound.proofs.Focus.{number_of, with_other}
+use Rattle.fr_sound.proofs.Focus.{number_of, with_same, with_other}
 use Rattle.fr_meaning.specs.PoolView.{total_left}
 use Rattle.fr_meaning.proofs.FormLemmas.{eq_cases}
 use Rattle.fr_meaning.proofs.StepsLeft.{born, life_falls, settle_left}
@@ -174,9 +176,124 @@ joined_falls s t m (ToSlot n) i e = none_falls s
 joined_falls s t m (ToObject o) i e = none_falls s
 joined_falls s t m (Held o) i e = none_falls s
 
--- no term has the acts of mutexes and pairs
-never : (s : Whole) (t : Thread) (m : Move Life) (a : Act) {o : Option Stepped} → IsMove s t m → m.act ≡ a → (IsTodays a → ⊥) → Falls s o
-never s t m a i e h = absurd (h (subst IsTodays e (acts_todays t.life m i.is)))
+-- GOING ON WITH OTHER SLOTS
+
+-- the thread's step is one of its own
+goes_on_falls : (s : Whole) (t : Thread) (m : Move Life) (v : Value) (slots : List Value) → IsMove s t m → born m.act ≡ 0 → total_left (machine.goes_on terms s t m v slots).threads + 1 ≡ total_left s.threads
+goes_on_falls s t m v slots i none = omega (arith, total_set s.threads t (record { number = t.number; life = settle_life (m.plug v); slots = slots }) i.found, life_falls t.life m v i.is, none)
+
+-- a new mutex
+made_falls : (s : Whole) (t : Thread) (m : Move Life) (names : Fresh) (v : Value) → IsMove s t m → born m.act ≡ 0 → Falls s (machine.made terms s t m names v)
+made_falls s t m (fresh.Mutex n) (Own v) i none = by (is_some (mutex_at s.mutexes n))
+  where
+    by : (b : Bool) → Falls s (if b then None else Some (record { state = record (machine.goes_on terms s t m (Own (plain.Mutex n)) t.slots) { mutexes = s.mutexes ++ record { number = n; there = Some (record { content = Some v; shares = 1 }) } ∷ [] }; labels = [] }))
+    by true = none_falls s
+    by false = falls_to s _ (goes_on_falls s t m (Own (plain.Mutex n)) t.slots i none)
+made_falls s t m (fresh.Mutex n) (ToSlot k) i none = none_falls s
+made_falls s t m (fresh.Mutex n) (ToObject o) i none = none_falls s
+made_falls s t m (fresh.Mutex n) (Held o) i none = none_falls s
+made_falls s t m fresh.None v i none = none_falls s
+made_falls s t m (fresh.Thread u) v i none = none_falls s
+made_falls s t m (fresh.Threads u w) v i none = none_falls s
+
+-- what is done at a mutex
+at_falls : (s : Whole) (t : Thread) (w : Lval) (go : MutexNo → List Label → Shared → Option Stepped) → ((n : MutexNo) (ls : List Label) (x : Shared) → Falls s (go n ls x)) → Falls s (machine.at_place terms s t w go)
+at_falls s t w go h = by (machine.mutex_behind (state_of s t) w)
+  where
+    there : (o : Option Shared) (n : MutexNo) (ls : List Label) → Falls s (machine.where_there terms o (go n ls))
+    there None n ls = none_falls s
+    there (Some x) n ls = h n ls x
+
+    by : (o : Option (MutexNo × List Label)) → Falls s (machine.at_mutex terms s o go)
+    by None = none_falls s
+    by (Some p) = there (mutex_there s.mutexes p.0) p.0 p.1
+
+-- a lock, where the content is in
+locked_falls : (s : Whole) (t : Thread) (m : Move Life) (n : MutexNo) (ls : List Label) (x : Shared) → IsMove s t m → born m.act ≡ 0 → (o : Option Plain) → Falls s (machine.locked_with terms s t m n ls x o)
+locked_falls s t m n ls x i none None = none_falls s
+locked_falls s t m n ls x i none (Some v) = falls_to s _ (goes_on_falls s t m unit (Own v ∷ Held n ∷ t.slots) i none)
+
+-- giving back a content is no step of another thread
+given_total : (s : Whole) (n : MutexNo) (v : Plain) (x : Option Shared) → total_left (machine.given_back terms s n v x).threads ≡ total_left s.threads
+given_total s n v (Some x) = refl
+given_total s n v None = let after : Whole = record s { heap = without s.heap (Own v) } in goes_total (count_both after.mutexes after.threads) after (end_of s.heap (Own v))
+
+unlocked_falls : (s : Whole) (t : Thread) (m : Move Life) → IsMove s t m → born m.act ≡ 0 → (slots : List Value) → Falls s (machine.unlocked terms s t m slots)
+unlocked_falls s t m i none (Own v ∷ Held n ∷ rest) =
+    falls_to s _ (let after = machine.goes_on terms s t m unit rest in omega (arith, given_total after n v (mutex_there s.mutexes n), goes_on_falls s t m unit rest i none))
+unlocked_falls s t m i none _ = none_falls s
+
+-- PAIRS
+
+-- the start of a pair gives both threads their steps
+two_falls : (s : Whole) (t : Thread) (m : Move Life) (a : ℕ) (p : Run) (first : List Value) (b : ℕ) (q : Run) → IsMove s t m → born m.act ≡ steps_left p + steps_left q + 2 → (o : Option Passed) → Falls s (machine.two_with terms s t m a p first b q o)
+two_falls s t m a p first b q i e None = none_falls s
+two_falls s t m a p first b q i e (Some x) =
+    let new : Thread = record { number = t.number; life = settle_life (m.plug unit); slots = x.left } in
+    let ours : Thread = record { number = a; life = owing (settle p); slots = first } in
+    let theirs : Thread = record { number = b; life = owing (settle q); slots = x.new } in
+    let ts = with_thread s.threads new in
+    falls_to s _
+    (omega (arith, total_two ts ours theirs, total_set s.threads t new i.found, life_falls t.life m unit i.is, e, (settle_left p).0, (settle_left q).0))
+  where
+    total_two : (ts : List Thread) (x y : Thread) → total_left (ts ++ x ∷ y ∷ []) ≡ total_left ts + life_left x.life + life_left y.life
+    total_two [] x y = omega arith
+    total_two (z ∷ ts) x y = omega (arith, total_two ts x y)
+
+pair_falls : (s : Whole) (t : Thread) (m : Move Life) (names : Fresh) (cs : List Capture) (p : Run) (ds : List Capture) (q : Run) → IsMove s t m → born m.act ≡ steps_left p + steps_left q + 2 → Falls s (machine.two_started terms s t m names cs p ds q)
+pair_falls s t m fresh.None cs p ds q i e = none_falls s
+pair_falls s t m (fresh.Thread u) cs p ds q i e = none_falls s
+pair_falls s t m (fresh.Mutex n) cs p ds q i e = none_falls s
+pair_falls s t m (fresh.Threads a b) cs p ds q i e = by (a == b || is_given s a || is_given s b) (pass cs t.slots [])
+  where
+    by : (c : Bool) (o : Option Passed) → Falls s (if c then None else machine.second_of terms s t m a p ds b q o)
+    by true o = none_falls s
+    by false None = none_falls s
+    by false (Some x) = two_falls s t m a p x.new b q i e (pass ds x.left [])
+
+-- a thread that moves is none whose result is kept
+not_kept : (s : Whole) (t : Thread) (m : Move Life) (u : ℕ) (v : Value) → IsMove s t m → (o : Option Thread) → thread_at s.threads u ≡ o → result_in o ≡ Some v → (x : Thread) → o ≡ Some x → t.number ≢ x.number
+not_kept s t m u v i o h e x is same =
+    let found : thread_at s.threads u ≡ Some x = h ∙ is in
+    kept_stops x.life v m (sym (ap result_in is) ∙ e) (ap (λ (y : Thread). life_move y.life) (thread_same x t (sym found ∙ ap (thread_at s.threads) (sym (number_of s.threads u x found) ∙ sym same) ∙ i.found)) ∙ i.is)
+
+-- taking one leaves the others
+taken_other : (ts : List Thread) (o : Option Thread) (n : ℕ) → ((x : Thread) → o ≡ Some x → n ≢ x.number) → thread_at (machine.taken terms ts o) n ≡ thread_at ts n
+taken_other ts None n h = refl
+taken_other ts (Some x) n h = with_other ts (with_life x over) n (h x refl)
+
+-- a thread whose result is kept is taken
+taken_total : (ts : List Thread) (u : ℕ) (v : Value) → (o : Option Thread) → thread_at ts u ≡ o → result_in o ≡ Some v → total_left (machine.taken terms ts o) ≡ total_left ts
+taken_total ts u v None h e = refl
+taken_total ts u v (Some x) h e = omega (arith, total_life ts u x over h, kept_left x.life v e)
+
+-- and another one after it, or the same again
+taken_again : (ts : List Thread) (u w : ℕ) (v : Value) (a o : Option Thread) → thread_at ts u ≡ a → thread_at ts w ≡ o → result_in o ≡ Some v → total_left (machine.taken terms (machine.taken terms ts a) o) ≡ total_left (machine.taken terms ts a)
+taken_again ts u w v None o f h e = taken_total ts w v o h e
+taken_again ts u w v (Some z) None f h e = refl
+taken_again ts u w v (Some z) (Some y) f h e =
+    let one = with_life z over in
+    let rest = with_thread ts one in
+    let there : thread_at ts y.number ≡ Some y = ap (thread_at ts) (number_of ts w y h) ∙ h in
+    eq_cases (λ b. total_left (with_thread rest (with_life y over)) ≡ total_left rest) y.number z.number
+    (λ same. omega (arith, total_set rest one (with_life y over) (ap (thread_at rest) same ∙ with_same ts z one (ap (thread_at ts) (number_of ts u z f) ∙ f))))
+    (λ ne. omega (arith, total_set rest y (with_life y over) (with_other ts one y.number ne ∙ there), kept_left y.life v e))
+
+-- the end of a pair
+two_ended_falls : (s : Whole) (t : Thread) (m : Move Life) (p : Pair) → IsMove s t m → born m.act ≡ 0 → (v w : Option Value) → result_at s.threads p.first ≡ v → result_at s.threads p.second ≡ w → Falls s (machine.two_ended terms s t m p v w)
+two_ended_falls s t m p i none None w h g = none_falls s
+two_ended_falls s t m p i none (Some v) None h g = none_falls s
+two_ended_falls s t m p i none (Some v) (Some w) h g =
+    let a = thread_at s.threads p.first in
+    let b = thread_at s.threads p.second in
+    let new : Thread = record { number = t.number; life = settle_life (m.plug unit); slots = t.slots } in
+    let found = taken_other (machine.taken terms s.threads a) b t.number (not_kept s t m p.second w i b refl g) ∙ taken_other s.threads a t.number (not_kept s t m p.first v i a refl h) ∙ i.found in
+    falls_to s _
+    (omega (arith, total_set (machine.pair_over terms s p) t new found, life_falls t.life m unit i.is, none, taken_total s.threads p.first v a refl h, taken_again s.threads p.first p.second w a b refl refl g))
+
+two_joined_falls : (s : Whole) (t : Thread) (m : Move Life) (o : Option Pair) → IsMove s t m → born m.act ≡ 0 → Falls s (machine.two_joined terms s t m o)
+two_joined_falls s t m None i none = none_falls s
+two_joined_falls s t m (Some p) i none = two_ended_falls s t m p i none (result_at s.threads p.first) (result_at s.threads p.second) refl refl
 
 -- by the act
 act_falls : (s : Whole) (t : Thread) (names : Fresh) (m : Move Life) (a : Act) → IsMove s t m → m.act ≡ a → Falls s (done_act s t names m a)
@@ -194,12 +311,12 @@ act_falls s t names m do_drop i e = if_falls s (is_nameless names) (alone_steppe
 act_falls s t names m (do_end v) i e = if_falls s (is_nameless names) (alone_stepped s t m (do_end v)) (own_falls s t m (do_end v) i e refl)
 act_falls s t names m (do_finish v) i e = if_falls s (is_nameless names) (alone_stepped s t m (do_finish v)) (own_falls s t m (do_finish v) i e refl)
 act_falls s t names m (do_leave v) i e = if_falls s (is_nameless names) (alone_stepped s t m (do_leave v)) (own_falls s t m (do_leave v) i e refl)
-act_falls s t names m (do_mutex v) i e = never s t m (do_mutex v) i e (λ h. h)
-act_falls s t names m (do_dup w) i e = never s t m (do_dup w) i e (λ h. h)
-act_falls s t names m (do_lock w) i e = never s t m (do_lock w) i e (λ h. h)
-act_falls s t names m do_unlock i e = never s t m do_unlock i e (λ h. h)
-act_falls s t names m (do_par cs r ds q) i e = never s t m (do_par cs r ds q) i e (λ h. h)
-act_falls s t names m do_par_end i e = never s t m do_par_end i e (λ h. h)
+act_falls s t names m (do_mutex v) i e = made_falls s t m names v i (ap born e)
+act_falls s t names m (do_dup w) i e = if_falls s (is_nameless names) (machine.at_place terms s t w (machine.shared terms s t m)) (at_falls s t w (machine.shared terms s t m) (λ n ls x. falls_to s _ (goes_on_falls s t m (Own (plain.Mutex n)) t.slots i (ap born e))))
+act_falls s t names m (do_lock w) i e = if_falls s (is_nameless names) (machine.at_place terms s t w (machine.locked terms s t m)) (at_falls s t w (machine.locked terms s t m) (λ n ls x. locked_falls s t m n ls x i (ap born e) x.content))
+act_falls s t names m do_unlock i e = if_falls s (is_nameless names) (machine.unlocked terms s t m t.slots) (unlocked_falls s t m i (ap born e) t.slots)
+act_falls s t names m (do_par cs r ds q) i e = pair_falls s t m names cs r ds q i (ap born e)
+act_falls s t names m do_par_end i e = if_falls s (is_nameless names) (machine.two_joined terms s t m (pair_of s.pairs t.number)) (two_joined_falls s t m (pair_of s.pairs t.number) i (ap born e))
 
 -- a step is one of those that are left
 pub step_total : (s : Whole) (t : ℕ) (names : Fresh) (x : Stepped) → step s t names ≡ Some x → total_left x.state.threads + 1 ≡ total_left s.threads

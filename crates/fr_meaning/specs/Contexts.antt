@@ -2,7 +2,7 @@
 use Rattle.std.specs.Prelude.{ℕ, zero, suc, ◌+◌, max, ⊤, List, [], ◌∷◌}
 use Rattle.fr_base.specs.declared.place.Lval.{Lval}
 use Rattle.fr_base.specs.declared.place.Op.{Op}
-use Rattle.fr_plain.specs.Run.{Run, temp, unit_c, number, read, borrow, box_r, arith, bind, print, assign, block, spawn, join_r, Parts, last, more, Now, going, constant, temporary, now}
+use Rattle.fr_plain.specs.Run.{Run, temp, unit_c, number, read, borrow, box_r, arith, bind, print, assign, block, spawn, join_r, mutex_r, dup, lock, locked, par, par_end, Parts, last, more, Now, going, constant, temporary, now}
 use Rattle.fr_meaning.specs.declared.frame.Done.{Done}
 use Rattle.fr_meaning.specs.DoneTerms.{over}
 
@@ -50,6 +50,12 @@ abbrev mutual
   depth (block k is) = depth_in is + 1
   depth (spawn cs r) = depth r
   depth (join_r r) = depth r + 1
+  depth (mutex_r r) = depth r + 1
+  depth (dup w) = 0
+  depth (lock w r) = depth r + 1
+  depth (locked r) = depth r + 1
+  depth (par cs a ds b) = max (depth a) (depth b)
+  depth par_end = 0
 
   pub depth_in : Parts → ℕ
   depth_in (last r) = depth r
@@ -90,6 +96,12 @@ abbrev mutual
   IsSettled (block k is) = AreSettled k is
   IsSettled (spawn cs r) = ⊤
   IsSettled (join_r r) = IsSettled r
+  IsSettled (mutex_r r) = IsSettled r
+  IsSettled (dup w) = ⊤
+  IsSettled (lock w r) = ⊤
+  IsSettled (locked r) = IsSettled r
+  IsSettled (par cs a ds b) = ⊤
+  IsSettled par_end = ⊤
 
   pub AreSettled : ℕ → Parts → Type 0
   AreSettled k (last r) = IsSettled r × IsOpen k (now r)

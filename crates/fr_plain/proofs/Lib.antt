@@ -3,7 +3,6 @@ pub mod RefusedSteps
 pub mod Alike
 pub mod Tasks
 pub mod Printing
-pub mod TodaysActs
 pub mod SameHeaps
 pub mod ByName
 pub mod SameSteps

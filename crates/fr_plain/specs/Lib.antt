@@ -17,3 +17,5 @@ pub mod Examples
 pub mod ThreadRuns
 pub mod Refusing
 pub mod SharedRuns
+pub mod LockRuns
+pub mod PairRuns

@@ -1,15 +1,15 @@
 -- The running term of a source: slots for names, how many variables a block has, and for each read and capture whether
 -- it moves, all as the typing has them (this project's rule).
-use Rattle.std.specs.Prelude.{ℕ, suc, ◌+◌, Bool, true, false, not, List, [], ◌∷◌, length, Option, Some, None}
+use Rattle.std.specs.Prelude.{ℕ, zero, suc, ◌+◌, Bool, true, false, not, List, [], ◌∷◌, length, Option, Some, None}
 use Rattle.fr_base.specs.declared.place.Lval.{Lval}
-use Rattle.fr_terms.specs.Terms.{Spot, Term, block_t, let_t, assign_t, read_t, borrow_t, borrow_mut_t, number_t, unit_t, box_t, print_t, arith_t, join_t, spawn_t, Captured, Items, none, item}
-use Rattle.fr_typing.specs.Kinds.{unit, own, whole, copies}
+use Rattle.fr_terms.specs.Terms.{Text, Spot, Term, block_t, let_t, assign_t, read_t, borrow_t, borrow_mut_t, number_t, unit_t, box_t, print_t, arith_t, join_t, mutex_t, dup_t, lock_t, spawn_t, par_t, Captured, Items, none, item}
+use Rattle.fr_typing.specs.Kinds.{Owned, unit, own, whole, copies}
 use Rattle.fr_typing.specs.Places.{Env, Found, found, type_at, slot_of}
-use Rattle.fr_typing.specs.Checks.{place_of}
+use Rattle.fr_typing.specs.Checks.{place_of, mutex_of, with_lock}
 use Rattle.fr_typing.specs.Finding.{Outcome, typed, fault}
-use Rattle.fr_typing.specs.Captures.{by_spawn, spot_of, capture, capture_all}
+use Rattle.fr_typing.specs.Captures.{Capturer, by_spawn, by_par, spot_of, capture, capture_all}
 use Rattle.fr_typing.specs.Typing.{typing}
-use Rattle.fr_plain.specs.Run.{Capture, Run, unit_c, number, read, borrow, box_r, arith, bind, print, assign, block, spawn, join_r, Parts, last, more}
+use Rattle.fr_plain.specs.Run.{Capture, Run, unit_c, number, read, borrow, box_r, arith, bind, print, assign, block, spawn, join_r, mutex_r, dup, lock, par, Parts, last, more}
 
 -- the environment that a typed term leaves
 abbrev pub env_of : Outcome → Env
@@ -38,20 +38,23 @@ moves e w = found_moves (type_at e (named e w))
 -- CAPTURES
 
 -- what a captured name leaves of the environment, and the new environment with it
-abbrev pub env_left : Env → Env → Captured → Env
-env_left e n c = env_of (capture by_spawn e n c (λ e1 n1. typed (own unit) e1))
+abbrev pub env_left : Capturer → Env → Env → Captured → Env
+env_left by e n c = env_of (capture by e n c (λ e1 n1. typed (own unit) e1))
 
-abbrev pub env_new : Env → Env → Captured → Env
-env_new e n c = env_of (capture by_spawn e n c (λ e1 n1. typed (own unit) n1))
+abbrev pub env_new : Capturer → Env → Env → Captured → Env
+env_new by e n c = env_of (capture by e n c (λ e1 n1. typed (own unit) n1))
 
--- the new environment of all captured names
-abbrev pub env_of_all : Env → List Captured → Env
-env_of_all e cs = env_of (capture_all by_spawn cs e [] (λ e1 n1. typed (own unit) n1))
+-- what all captured names leave of the environment, and the new environment of them
+abbrev pub env_left_of : Capturer → Env → List Captured → Env
+env_left_of by e cs = env_of (capture_all by cs e [] (λ e1 n1. typed (own unit) e1))
+
+abbrev pub env_of_all : Capturer → Env → List Captured → Env
+env_of_all by e cs = env_of (capture_all by cs e [] (λ e1 n1. typed (own unit) n1))
 
 -- each captured name's slot, and whether its value is taken
-abbrev pub captures : Env → Env → List Captured → List Capture
-captures e n [] = []
-captures e n (c ∷ cs) = record { slot = (named e (spot_of c)).slot; take = moves e (spot_of c) } ∷ captures (env_left e n c) (env_new e n c) cs
+abbrev pub captures : Capturer → Env → Env → List Captured → List Capture
+captures by e n [] = []
+captures by e n (c ∷ cs) = record { slot = (named e (spot_of c)).slot; take = moves e (spot_of c) } ∷ captures by (env_left by e n c) (env_new by e n c) cs
 
 -- TERMS
 
@@ -64,6 +67,7 @@ abbrev mutual
   lets_in (assign_t at w t) = lets_in t
   lets_in (arith_t at op a b) = lets_in a + lets_in b
   lets_in (join_t at t) = lets_in t
+  lets_in (mutex_t at t) = lets_in t
   lets_in t = 0
 
   pub lets : Items → ℕ
@@ -75,9 +79,28 @@ abbrev pub before : Items → Run → Parts → Parts
 before none r rest = last r
 before (item t ts) r rest = more r rest
 
+-- a new thread's term drops what it declares and its captures at its end
+abbrev pub body_of : List Captured → Term → Run → Run
+body_of cs t r = block (length cs + lets_in t) (last r)
+
+-- a lock's term drops what it declares before the mutex is unlocked
+abbrev pub dropping : ℕ → Run → Run
+dropping zero r = r
+dropping (suc k) r = block (suc k) (last r)
+
+abbrev pub content_or_unit : Option Owned → Owned
+content_or_unit None = unit
+content_or_unit (Some o) = o
+
+abbrev content_in : Found → Owned
+content_in (found (whole k)) = content_or_unit (mutex_of k)
+content_in _ = unit
+
+-- the environment of a lock's body: the hidden slot of the lock, and that of the content above it
+abbrev pub env_locked : Env → Spot → Text → Env
+env_locked e w x = with_lock e (named e w) x (content_in (type_at e (named e w)))
+
 abbrev mutual
-  -- of forms with mutexes or views nobody asks yet. A new thread's term drops what it declares
-  -- and its captures at its end
   pub resolve : Term → Env → Run
   resolve (number_t at n) e = number n
   resolve (unit_t at) e = unit_c
@@ -90,9 +113,15 @@ abbrev mutual
   resolve (let_t at x t) e = bind (resolve t e)
   resolve (assign_t at w t) e = assign (named (env_after t e) w) (resolve t e)
   resolve (block_t at ts) e = block (lets ts) (resolve_items ts e)
-  resolve (spawn_t at cs t) e = spawn (captures e [] cs) (block (length cs + lets_in t) (last (resolve t (env_of_all e cs))))
+  resolve (spawn_t at cs t) e = spawn (captures by_spawn e [] cs) (body_of cs t (resolve t (env_of_all by_spawn e cs)))
   resolve (join_t at t) e = join_r (resolve t e)
-  resolve t e = unit_c
+  resolve (mutex_t at t) e = mutex_r (resolve t e)
+  resolve (dup_t at w) e = dup (named e w)
+  resolve (lock_t at w x t) e = lock (named e w) (dropping (lets_in t) (resolve t (env_locked e w x)))
+  -- the second thread captures what the first leaves
+  resolve (par_t at cs t ds u) e =
+      par (captures by_par e [] cs) (body_of cs t (resolve t (env_of_all by_par e cs)))
+      (captures by_par (env_left_of by_par e cs) [] ds) (body_of ds u (resolve u (env_of_all by_par (env_left_of by_par e cs) ds)))
 
   -- a block without items is the constant unit
   pub resolve_items : Items → Env → Parts

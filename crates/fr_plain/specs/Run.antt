@@ -1,14 +1,14 @@
--- The moves of running terms (Featherweight Rust's reduction; that a block drops one slot a step, and threads, are this
--- project's rules).
+-- The moves of running terms (Featherweight Rust's reduction; that a block drops one slot a step, threads and mutexes are
+-- this project's rules).
 use Rattle.std.specs.Prelude.{ℕ, zero, suc, ◌+◌, Bool, true, false, Option, None}
 use Rattle.fr_base.specs.declared.label.Plain.TheVariants as plain
 use Rattle.fr_plain.specs.declared.value.Value.{Value}
 use Rattle.fr_plain.specs.declared.value.Value.TheVariants.{Own}
-use Rattle.fr_plain.specs.Acts.{Act, do_let, do_read, do_borrow, do_assign, do_box, do_arith, do_print, do_discard, do_drop, do_spawn, do_join, unit}
+use Rattle.fr_plain.specs.Acts.{Act, do_let, do_read, do_borrow, do_assign, do_box, do_arith, do_print, do_discard, do_drop, do_spawn, do_join, do_mutex, do_dup, do_lock, do_unlock, do_par, do_par_end, unit}
 use Rattle.fr_plain.specs.MachineThreads as machine
 use Rattle.fr_plain.specs.MachineThreads.{Moves}
 pub use Rattle.fr_plain.specs.MachineThreads.{Now, going, constant, temporary, by_now, on_value, alive, over, owing, loose, ended}
-pub use Rattle.fr_plain.specs.RunningTerms.{Capture, Run, temp, unit_c, number, read, borrow, box_r, arith, bind, print, assign, block, spawn, join_r, Parts, last, more}
+pub use Rattle.fr_plain.specs.RunningTerms.{Capture, Run, temp, unit_c, number, read, borrow, box_r, arith, bind, print, assign, block, spawn, join_r, mutex_r, dup, lock, locked, par, par_end, Parts, last, more}
 
 -- a constant before a `;` vanishes
 abbrev pub after : Now → Now → Now
@@ -71,6 +71,12 @@ abbrev mutual
   settle (block k is) = close k (settle_parts is)
   settle (spawn cs r) = spawn cs r
   settle (join_r r) = join_r (settle r)
+  settle (mutex_r r) = mutex_r (settle r)
+  settle (dup w) = dup w
+  settle (lock w r) = lock w r
+  settle (locked r) = locked (settle r)
+  settle (par cs a ds b) = par cs a ds b
+  settle par_end = par_end
 
   pub settle_parts : Parts → Parts
   settle_parts (last r) = last (settle r)
@@ -111,6 +117,13 @@ abbrev mutual
   move (block k is) = on_value (now_parts is) (λ v. block_end k is) (next (block k) (move_parts is))
   move (spawn cs r) = alone temp (do_spawn cs r)
   move (join_r r) = on_value (now r) (λ v. alone temp (do_join v)) (next join_r (move r))
+  move (mutex_r r) = on_value (now r) (λ v. alone temp (do_mutex v)) (next mutex_r (move r))
+  move (dup w) = alone temp (do_dup w)
+  move (lock w r) = alone (λ v. locked r) (do_lock w)
+  -- the body's value stays
+  move (locked r) = on_value (now r) (λ v. alone (λ x. r) do_unlock) (next locked (move r))
+  move (par cs a ds b) = alone (λ v. par_end) (do_par cs a ds b)
+  move par_end = alone (λ v. unit_c) do_par_end
 
   pub move_parts : Parts → Option (Move Parts)
   move_parts (last r) = next last (move r)
@@ -146,6 +159,10 @@ abbrev mutual
   leaves (block k is) = leaves_last is
   leaves (spawn cs r) = true
   leaves (join_r r) = true
+  leaves (mutex_r r) = true
+  leaves (dup w) = true
+  leaves (lock w r) = leaves r
+  leaves (locked r) = leaves r
   leaves _ = false
 
   pub leaves_last : Parts → Bool
@@ -168,6 +185,13 @@ abbrev mutual
   -- the new thread's steps, its end, and its start
   steps_left (spawn cs r) = steps_left r + 2
   steps_left (join_r r) = steps_left r + 1
+  steps_left (mutex_r r) = steps_left r + 1
+  steps_left (dup w) = 1
+  steps_left (lock w r) = steps_left r + 2
+  steps_left (locked r) = steps_left r + 1
+  -- the steps of both threads, their ends, the start and the end of the par
+  steps_left (par cs a ds b) = steps_left a + steps_left b + 4
+  steps_left par_end = 1
 
   pub steps_in : Parts → ℕ
   steps_in (last r) = steps_left r

@@ -1,4 +1,4 @@
--- Runs with mutexes and pairs of threads: until terms have these forms, by threads that stand at a number of a list of acts.
+-- Runs with mutexes and pairs of threads, also such as no typed program makes: by threads that stand at a number of a list of acts.
 use Rattle.std.specs.Prelude.{◌≡◌, ℕ, suc, pos, List, [], ◌∷◌, ◌++◌, slice_get, Option, Some, None}
 use Rattle.fr_base.specs.declared.name.MutexNo.{MutexNo}
 use Rattle.fr_base.specs.declared.name.ObjNo.{ObjNo}

@@ -19,20 +19,20 @@ use Rattle.fr_plain.specs.Resolve.{program}
 use Rattle.fr_plain.specs.Examples.{block, spot, read, number, x}
 
 -- the names
-abbrev h : Text
+abbrev pub h : Text
 h = 104 ∷ []
 
 abbrev g : Text
 g = 103 ∷ []
 
-abbrev captured : List Text → List Captured
+abbrev pub captured : List Text → List Captured
 captured [] = []
 captured (n ∷ ns) = record { at = 0; name = n } ∷ captured ns
 
-abbrev spawn : List Text → List Term → Term
+abbrev pub spawn : List Text → List Term → Term
 spawn names ts = spawn_t 0 (captured names) (block ts)
 
-abbrev join : Text → Term
+abbrev pub join : Text → Term
 join name = join_t 0 (read name 0)
 
 -- so many steps of a thread, and the one that starts another thread
@@ -44,29 +44,29 @@ abbrev pub starts : ℕ → ℕ → List Turn
 starts t new = (t, fresh.Thread new) ∷ []
 
 -- the objects that a thread makes
-abbrev object : ℕ → ℕ → ObjNo
+abbrev pub object : ℕ → ℕ → ObjNo
 object t n = record { thread = t; count = n }
 
-abbrev int : ℕ → Plain
+abbrev pub int : ℕ → Plain
 int n = value.Int (pos n)
 
-abbrev with_lives : ℕ → List Life → List Thread
+abbrev pub with_lives : ℕ → List Life → List Thread
 with_lives n [] = []
 with_lives n (l ∷ ls) = record { number = n; life = l; slots = [] } ∷ with_lives (suc n) ls
 
-abbrev made : ℕ → List (Option Plain) → Made
+abbrev pub made : ℕ → List (Option Plain) → Made
 made t cells = record { thread = t; cells = cells }
 
 -- the run has ended, with so many threads, these objects made and dropped, these prints and labels
-abbrev Ends : Term → List Turn → List Life → List Made → List ℤ → List Label → Type 0
+abbrev pub Ends : Term → List Turn → List Life → List Made → List ℤ → List Label → Type 0
 Ends t order lives heap output labels = plain (program t) order ≡ Some (record { state = record { threads = with_lives 0 lives; heap = heap; mutexes = []; pairs = []; output = output }; labels = labels })
 
 -- why a step after these is refused
-abbrev refused_in : ℕ → Fresh → Option Stepped → Option Refusal
+abbrev pub refused_in : ℕ → Fresh → Option Stepped → Option Refusal
 refused_in t names None = None
 refused_in t names (Some s) = refused s.state t names
 
-abbrev Refuses : Term → List Turn → ℕ → Fresh → Refusal → Type 0
+abbrev pub Refuses : Term → List Turn → ℕ → Fresh → Refusal → Type 0
 Refuses t order thread names r = refused_in thread names (plain (program t) order) ≡ Some r
 
 -- { let mut h = spawn () { 3 }; print join h }

@@ -1,6 +1,8 @@
 //! Laws of the plain machine's definitions.
 
 ghost use Rattle.fr_plain.specs.Examples.{RunsCompute};
+ghost use Rattle.fr_plain.specs.LockRuns.{LocksRun};
+ghost use Rattle.fr_plain.specs.PairRuns.{PairsRun};
 ghost use Rattle.fr_plain.specs.Refusing.{RefusedIsNoStep};
 ghost use Rattle.fr_plain.specs.Run.{terms};
 ghost use Rattle.fr_plain.specs.SamePlain.{OnceStays, SamePlain};
@@ -17,9 +19,11 @@ pub fn threads_run()
     ensures { ThreadsRun }
 {}
 
-/// Some runs with mutexes and pairs of threads.
+/// Some runs with mutexes and pairs of threads, with their steps, prints and labels: of programs, and of acts one by one.
 pub fn shared_run()
-    ensures { SharedRuns }
+    ensures locks { LocksRun }
+    ensures pairs { PairsRun }
+    ensures acts { SharedRuns }
 {}
 
 /// A step that is refused is no plain step.

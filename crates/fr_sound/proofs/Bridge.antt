@@ -399,12 +399,12 @@ capture_runs {e = e} {n = n} {e2 = e2} {n2 = n2} {c = c} {rest = rest} (captures
     (subst (λ (q : Kind). RunCaptures (put_at e (place_of (spot_of c) s) (gone k)) (captured_slot c q ∷ n) rest e2 n2) x.2 r))
 
 -- all captures
-captures_run : {e n e1 n1 : Env} {cs : List Captured} → CapturesAll by_spawn e n cs e1 n1 → RunCaptures e n (captures e n cs) e1 n1
+captures_run : {e n e1 n1 : Env} {cs : List Captured} → CapturesAll by_spawn e n cs e1 n1 → RunCaptures e n (captures by_spawn e n cs) e1 n1
 captures_run captures_none = c_none
 captures_run (captures_next {e = e} {n = n} {e1 = e1} {n1 = n1} {e2 = e2} {n2 = n2} {c = c} {cs = cs} h hs) =
-    let left : env_left e n c ≡ e1 = ap env_of (capture_by (λ e1 n1. typed (own unit) e1) h) in
-    let new : env_new e n c ≡ n1 = ap env_of (capture_by (λ e1 n1. typed (own unit) n1) h) in
-    capture_runs h (subst (λ (f : Env). RunCaptures e1 n1 (captures f (env_new e n c) cs) e2 n2) (sym left) (subst (λ (f : Env). RunCaptures e1 n1 (captures e1 f cs) e2 n2) (sym new) (captures_run hs)))
+    let left : env_left by_spawn e n c ≡ e1 = ap env_of (capture_by (λ e1 n1. typed (own unit) e1) h) in
+    let new : env_new by_spawn e n c ≡ n1 = ap env_of (capture_by (λ e1 n1. typed (own unit) n1) h) in
+    capture_runs h (subst (λ (f : Env). RunCaptures e1 n1 (captures by_spawn f (env_new by_spawn e n c) cs) e2 n2) (sym left) (subst (λ (f : Env). RunCaptures e1 n1 (captures by_spawn e1 f cs) e2 n2) (sym new) (captures_run hs)))
 
 mutual
   -- a typed term of the source resolves to a typed running term
@@ -444,7 +444,7 @@ mutual
       let count = length cs + lets_in t in
       let none : drop count n1 ≡ [] = drop_all count n1 (omega (numbers, l, m)) in
       let ends : RunTypes threads n None (block count (last_p (resolve t n))) (own o) [] = t_block (p_last body) (subst (Falls count n1) none (falls_to count n1 (omega (numbers, l, m)))) tt in
-      let same : env_of_all e cs ≡ n = ap env_of (capture_all_by (λ e1 n1. typed (own unit) n1) c) in
+      let same : env_of_all by_spawn e cs ≡ n = ap env_of (capture_all_by (λ e1 n1. typed (own unit) n1) c) in
       t_spawn (captures_run c) (subst (λ (g : Env). RunTypes threads n None (block count (last_p (resolve t g))) (own o) []) (sym same) ends)
   resolve_runs forms (par_t at cs t ds u) ok y = absurd ok
 

@@ -5,7 +5,7 @@ use Rattle.fr_base.specs.declared.place.Op.{Op}
 use Rattle.fr_typing.specs.Kinds.{Kind}
 use Rattle.fr_typing.specs.Places.{Env, AreBelow, kind_places}
 use Rattle.fr_plain.specs.declared.value.Value.{Value}
-use Rattle.fr_plain.specs.Run.{Run, temp, unit_c, number, read, borrow, box_r, arith, bind, print, assign, block, spawn, join_r, Parts, last, more, Now, going, constant, temporary, by_now, after, at_end, now, now_parts}
+use Rattle.fr_plain.specs.Run.{Run, temp, unit_c, number, read, borrow, box_r, arith, bind, print, assign, block, spawn, join_r, mutex_r, dup, lock, locked, par, par_end, Parts, last, more, Now, going, constant, temporary, by_now, after, at_end, now, now_parts}
 use Rattle.fr_sound.specs.RunTypes.{Forms, t_join, Falls, f_none, f_one, IsNumber, RunTypes, t_temp, t_unit, t_number, t_box, t_left, t_right, t_let, t_print, t_assign, t_block, PartsTypes, p_last, p_more, first_of, held, held_in, Operand, o_unit, o_int}
 
 -- what a done term's typing says: its environment is left as it was, and its value is an operand
@@ -41,6 +41,12 @@ mutual
   done (block n is) (t_block p f below) = at_end_done f (done_parts is p)
   done (spawn cs r) t = d_going
   done (join_r r) t = d_going
+  done (mutex_r r) t = d_going
+  done (dup w) t = d_going
+  done (lock w r) t = d_going
+  done (locked r) t = d_going
+  done (par cs a ds b) t = d_going
+  done par_end t = d_going
 
   -- and so do parts that are done
   pub done_parts : {forms : Forms} (is : Parts) {e e1 : Env} {o : Option Kind} {k : Kind} → PartsTypes forms e o is k e1 → Done (now_parts is) e o (held_in is) k e1
@@ -97,6 +103,12 @@ mutual
   anywhere (block n is) e2 d b (t_block p (f_one f) below) = absurd d
   anywhere (spawn cs r) e2 d b t = absurd d
   anywhere (join_r r) e2 d b t = absurd d
+  anywhere (mutex_r r) e2 d b t = absurd d
+  anywhere (dup w) e2 d b t = absurd d
+  anywhere (lock w r) e2 d b t = absurd d
+  anywhere (locked r) e2 d b t = absurd d
+  anywhere (par cs x ds y) e2 d b t = absurd d
+  anywhere par_end e2 d b t = absurd d
 
   -- and so have parts that are done
   pub anywhere_parts : {forms : Forms} (is : Parts) {e e1 : Env} {o : Option Kind} {k : Kind} (e2 : Env) → IsDone (now_parts is) → AreBelow (length e2) (kind_places k) → PartsTypes forms e o is k e1 → PartsTypes forms e2 o is k e2
@@ -138,6 +150,12 @@ mutual
   quiet (block n is) (t_block p f below) = quiet_parts is p
   quiet (spawn cs r) t = refl
   quiet (join_r r) (t_join t) = quiet r t
+  quiet (mutex_r r) t = elim t [ ]
+  quiet (dup w) t = refl
+  quiet (lock w r) t = refl
+  quiet (locked r) t = elim t [ ]
+  quiet (par cs a ds b) t = refl
+  quiet par_end t = refl
 
   -- and so have parts
   pub quiet_parts : {forms : Forms} (is : Parts) {e e1 : Env} {k : Kind} → PartsTypes forms e None is k e1 → held_in is ≡ None

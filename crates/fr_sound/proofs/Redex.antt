@@ -11,7 +11,7 @@ use Rattle.fr_store.specs.Thread.{temp_places}
 use Rattle.fr_plain.specs.declared.value.Value.{Value}
 use Rattle.fr_plain.specs.Acts.{Act, do_let, do_read, do_borrow, do_assign, do_box, do_arith, do_print, do_discard, do_drop, do_spawn, do_join}
 use Rattle.fr_plain.specs.State.{State}
-use Rattle.fr_plain.specs.Run.{Run, temp, unit_c, number, read, borrow, box_r, arith, bind, print, assign, block, spawn, join_r, Parts, last, more, Now, going, constant, temporary, by_now, on_value, after, at_end, now, now_parts, Move, next, alone, block_end, move, move_parts}
+use Rattle.fr_plain.specs.Run.{Run, temp, unit_c, number, read, borrow, box_r, arith, bind, print, assign, block, spawn, join_r, mutex_r, dup, lock, locked, par, par_end, Parts, last, more, Now, going, constant, temporary, by_now, on_value, after, at_end, now, now_parts, Move, next, alone, block_end, move, move_parts}
 use Rattle.fr_sound.specs.RunTypes.{Forms, threads, t_spawn, t_join, NextTypes, n_own, n_spawn, n_join, Assigns, Falls, f_none, f_one, IsInt, IsNumber, RunTypes, t_temp, t_unit, t_copy, t_move, t_borrow, t_borrow_mut, t_box, t_left, t_right, t_let, t_print, t_assign, t_block, PartsTypes, p_last, p_more, first_of, held, held_in, Operand, o_temp, o_int, ActTypes, a_let, a_copy, a_move, a_borrow, a_borrow_mut, a_assign, a_box, a_arith, a_print, a_discard, a_drop, held_after}
 use Rattle.fr_sound.specs.Seen.{Beside, Holds}
 use Rattle.fr_sound.proofs.Hand.{hand_int, let_go_value}
@@ -295,6 +295,12 @@ mutual
   redex (assign w r) (t_assign t a) = g_going (unary (move r) (assign w) (do_assign w) (λ u. unit_c) (done r t) (redex r t) (λ q env left h. t_assign h a) (λ q. refl) (assign_finish a))
   redex (spawn cs r) (t_spawn c t) = g_going (next_one (do_spawn cs r) temp (n_spawn c t) (λ v. t_temp) (λ v. refl))
   redex (join_r r) (t_join t) = g_going (unary (move r) join_r do_join temp (done r t) (redex r t) (λ q env left. t_join) (λ q. refl) join_finish)
+  redex (mutex_r r) t = elim t [ ]
+  redex (dup w) t = elim t [ ]
+  redex (lock w r) t = elim t [ ]
+  redex (locked r) t = elim t [ ]
+  redex (par cs a ds b) t = elim t [ ]
+  redex par_end t = elim t [ ]
   redex (block n is) (t_block p f below) = block_goes n is (move_parts is) refl refl (done_parts is p) (redex_parts is p) p f below
 
   -- and so are typed parts

@@ -3,7 +3,7 @@ use Rattle.std.proofs.Common.{◌≡◌, ℕ, zero, suc, length, Option, None, r
 use Rattle.fr_typing.specs.Kinds.{int, Kind, own}
 use Rattle.fr_typing.specs.Places.{Env, AreBelow, kind_places}
 use Rattle.fr_plain.specs.declared.value.Value.{Value}
-use Rattle.fr_plain.specs.Run.{Run, temp, unit_c, number, read, borrow, box_r, arith, bind, print, assign, block, spawn, join_r, Parts, last, more, Now, going, constant, temporary, after, at_end, now, now_parts, settle, settle_parts, settle_more, settle_right, close_last, close}
+use Rattle.fr_plain.specs.Run.{Run, temp, unit_c, number, read, borrow, box_r, arith, bind, print, assign, block, spawn, join_r, mutex_r, dup, lock, locked, par, par_end, Parts, last, more, Now, going, constant, temporary, after, at_end, now, now_parts, settle, settle_parts, settle_more, settle_right, close_last, close}
 use Rattle.fr_sound.specs.RunTypes.{Forms, t_join, Falls, f_none, IsNumber, RunTypes, t_box, t_left, t_right, t_let, t_print, t_assign, t_block, PartsTypes, p_last, p_more, first_of, held, held_in}
 use Rattle.fr_sound.proofs.DoneTerms.{Done, d_going, d_constant, d_temporary, done, number_held, going_held}
 
@@ -42,6 +42,12 @@ mutual
   now_settle (assign w r) = refl
   now_settle (spawn cs r) = refl
   now_settle (join_r r) = refl
+  now_settle (mutex_r r) = refl
+  now_settle (dup w) = refl
+  now_settle (lock w r) = refl
+  now_settle (locked r) = refl
+  now_settle (par cs a ds b) = refl
+  now_settle par_end = refl
   now_settle (block n is) = now_close n (settle_parts is) ∙ ap (at_end n) (now_settle_parts is)
 
   -- and so with parts
@@ -95,6 +101,12 @@ mutual
   settle_types (assign w r) (t_assign t a) = t_assign (settle_types r t) a
   settle_types (spawn cs r) t = t
   settle_types (join_r r) (t_join t) = t_join (settle_types r t)
+  settle_types (mutex_r r) t = elim t [ ]
+  settle_types (dup w) t = t
+  settle_types (lock w r) t = t
+  settle_types (locked r) t = elim t [ ]
+  settle_types (par cs a ds b) t = t
+  settle_types par_end t = t
   settle_types (block n is) (t_block p f below) = closes n (settle_parts is) (settle_parts_types is p) f below
 
   -- and that of parts
@@ -140,6 +152,12 @@ mutual
   settle_holds (assign w r) (t_assign t a) = settle_holds r t
   settle_holds (spawn cs r) t = refl
   settle_holds (join_r r) (t_join t) = settle_holds r t
+  settle_holds (mutex_r r) t = elim t [ ]
+  settle_holds (dup w) t = refl
+  settle_holds (lock w r) t = refl
+  settle_holds (locked r) t = elim t [ ]
+  settle_holds (par cs a ds b) t = refl
+  settle_holds par_end t = refl
   settle_holds (block n is) (t_block p f below) = held_close n (settle_parts is) ∙ settle_parts_hold is p
 
   -- and that of parts

@@ -11,7 +11,7 @@ use Rattle.fr_store.specs.Thread.{temp_places}
 use Rattle.fr_plain.specs.declared.value.Value.{Value}
 use Rattle.fr_plain.specs.declared.value.Value.TheVariants.{Own}
 use Rattle.fr_plain.specs.Acts.{Act, do_let, do_read, do_borrow, do_assign, do_box, do_arith, do_print, do_discard, do_drop, do_end, do_leave, do_spawn, do_join, unit as unit_value}
-use Rattle.fr_plain.specs.Run.{Capture, Run, temp, unit_c, number, read, borrow, box_r, arith, bind, print, assign, block, spawn, join_r, Parts, last, more, Now, going, constant, temporary, by_now, now}
+use Rattle.fr_plain.specs.Run.{Capture, Run, temp, unit_c, number, read, borrow, box_r, arith, bind, print, assign, block, spawn, join_r, mutex_r, dup, lock, locked, par, par_end, Parts, last, more, Now, going, constant, temporary, by_now, now}
 
 -- PLACES
 
@@ -161,6 +161,12 @@ abbrev mutual
   held (block n is) = held_in is
   held (spawn cs r) = None
   held (join_r r) = held r
+  held (mutex_r r) = held r
+  held (dup w) = None
+  held (lock w r) = None
+  held (locked r) = held r
+  held (par cs a ds b) = None
+  held par_end = None
 
   pub held_in : Parts → Option Value
   held_in (last r) = held r

@@ -18,7 +18,7 @@ returns-clause-root c = root_built c.args.checked.now c.nodes.forms.items c.node
 
 pub returns-clause-depth : goal.returns-clause-depth
 returns-clause-depth c =
-    root_depth c.nodes.forms.items (term_of c.args.checked.now.arena) c.tree-tree.ensures.checked.checkable.within (returns-clause-root c)
+    root_depth c.nodes.forms.items (term_of c.args.checked.now.arena) c.tree-tree.ensures.checked.checkable.within c.requires.threaded (returns-clause-root c)
 
 pub returns-clause-typed : goal.returns-clause-typed
 returns-clause-typed c =

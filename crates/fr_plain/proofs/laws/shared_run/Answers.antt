@@ -1,8 +1,14 @@
 use Rattle.std.proofs.Common.{refl}
 use Rattle.fr_plain.proofs.laws.shared_run.Goals as goal
 
-pub returns : goal.returns
-returns c = record {
+pub returns-clause-locks : goal.returns-clause-locks
+returns-clause-locks c = record { counts = refl; exchanged = refl; constant_inside = refl; waits_inside = refl; deadlocked = refl; going_before = refl; waits_outside = refl; going_beside = refl; goes_on = refl }
+
+pub returns-clause-pairs : goal.returns-clause-pairs
+returns-clause-pairs c = record { shared_twice = refl; two_cells = refl; handed_over = refl; waits_for_both = refl; waits_for_one = refl; wants_two = refl; wants_others = refl }
+
+pub returns-clause-acts : goal.returns-clause-acts
+returns-clause-acts c = record {
   first_share = refl;
   second_share = refl;
   one_dropped = refl;
