@@ -65,7 +65,7 @@ filter_other test gone (x ∷ xs) none = by (gone x) refl (filter_other test gon
     by false is f = ap (λ z. cond (test x) (x ∷ z) z) f
 
 -- the same of how many there are
-times_less : {A : Type 0} (test gone : A → Bool) (xs : List A) → ((x : A) → gone x ≡ test x) → times test (less_first gone xs) ≡ times test xs - 1
+pub times_less : {A : Type 0} (test gone : A → Bool) (xs : List A) → ((x : A) → gone x ≡ test x) → times test (less_first gone xs) ≡ times test xs - 1
 times_less test gone [] same = refl
 times_less test gone (x ∷ xs) same = by (test x) refl (gone x) (same x) (times_less test gone xs same)
   where
@@ -75,7 +75,7 @@ times_less test gone (x ∷ xs) same = by (test x) refl (gone x) (same x) (times
     by false is true goes f = let never : true ≡ false = goes ∙ is in absurd cc
     by false is false goes f = let none : one (test x) ≡ 0 = ap one is in omega (arith, f, none)
 
-times_other : {A : Type 0} (test gone : A → Bool) (xs : List A) → ((x : A) → gone x ≡ true → test x ≡ false) → times test (less_first gone xs) ≡ times test xs
+pub times_other : {A : Type 0} (test gone : A → Bool) (xs : List A) → ((x : A) → gone x ≡ true → test x ≡ false) → times test (less_first gone xs) ≡ times test xs
 times_other test gone [] none = refl
 times_other test gone (x ∷ xs) none = by (gone x) refl (times_other test gone xs none)
   where

@@ -7,3 +7,9 @@ pub mod Sums
 pub mod Found
 pub mod Same
 pub mod SameJournals
+pub mod Shown
+pub mod ShownNames
+pub mod ShownTables
+pub mod ActLemmas
+pub mod Entering
+pub mod Counted

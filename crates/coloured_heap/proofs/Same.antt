@@ -136,7 +136,7 @@ module _ (s t : Coloured) (h : Same s t) where
 -- CHANGES
 
 -- wishes that the test takes for the same are the same
-wish_is : (a b : Wish) → same_wish a b ≡ true → a ≡ b
+pub wish_is : (a b : Wish) → same_wish a b ≡ true → a ≡ b
 wish_is (ForCopy p w here) (ForCopy q v there) h = let b = both (same_object p q && (w == v)) (here == there) h in let c = both (same_object p q) (w == v) b.0 in
     ap₂ (λ x y. ForCopy x y here) (object_is p q c.0) (number_is w v c.1) ∙ ap (λ z. ForCopy q v z) (number_is here there b.1)
 wish_is (ForObject p w here) (ForObject q v there) h = let b = both (same_object p q && (w == v)) (here == there) h in let c = both (same_object p q) (w == v) b.0 in
@@ -150,14 +150,14 @@ wish_is (ForResult u asker here) (ForResult v other there) h = let b = both ((u 
 wish_is a b h = absurd cc
 
 -- a wish that is answered is this one, or another one
-wish_goes : (b a : Wish) → OneGoes (same_wish b) (same_wish a)
+pub wish_goes : (b a : Wish) → OneGoes (same_wish b) (same_wish a)
 wish_goes b a = by (same_wish b a) refl
   where
     by : (d : Bool) → same_wish b a ≡ d → OneGoes (same_wish b) (same_wish a)
     by true is = inl (λ x. ap (λ z. same_wish z x) (sym (wish_is b a is)))
     by false is = inr (λ x gone. ap (λ z. same_wish b z) (sym (wish_is a x gone)) ∙ is)
 
-copy_goes : (q p : ObjNo) (v w there here : ℕ) → OneGoes (is_copy q v there) (is_copy p w here)
+pub copy_goes : (q p : ObjNo) (v w there here : ℕ) → OneGoes (is_copy q v there) (is_copy p w here)
 copy_goes q p v w there here = by (((here == there) && (w == v)) && same_object p q) refl
   where
     by : (d : Bool) → ((here == there) && (w == v)) && same_object p q ≡ d → OneGoes (is_copy q v there) (is_copy p w here)

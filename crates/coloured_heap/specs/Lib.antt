@@ -13,3 +13,6 @@ pub mod Examples
 pub mod Broken
 pub mod Laws
 pub mod Same
+pub mod Tables
+pub mod Messages
+pub mod Refused
