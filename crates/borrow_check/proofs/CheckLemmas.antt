@@ -4,14 +4,13 @@ use Rattle.std.specs.Prelude.{Result, Ok, Err, OnOk}
 use Rattle.std.proofs.lemmas.List.{append-nil}
 use Rattle.fr_base.specs.declared.place.Op.{Op}
 use Rattle.fr_terms.specs.Terms as terms
-use Rattle.fr_terms.specs.Terms.{Text, Captured, start_of, block_t, let_t, assign_t, box_t, print_t, arith_t, join_t, spawn_t}
-use Rattle.fr_typing.specs.Threaded.{IsThreaded}
+use Rattle.fr_terms.specs.Terms.{Text, Captured, start_of, block_t, let_t, assign_t, box_t, print_t, arith_t, join_t, mutex_t, spawn_t}
 use Rattle.fr_typing.specs.Kinds.{Kind, own, unit}
 use Rattle.fr_typing.specs.Places.{Env}
 use Rattle.fr_typing.specs.Finding.{Outcome, typed}
-use Rattle.fr_typing.specs.Captures.{by_spawn, capture_all}
+use Rattle.fr_typing.specs.Captures.{Capturer, by_spawn, capture_all}
 use Rattle.fr_typing.specs.Typing.{typing}
-use Rattle.fr_syntax.specs.declared.tree.Term.TheVariants.{Block, Let, Assign, Box, Print, Arith, Join, Spawn}
+use Rattle.fr_syntax.specs.declared.tree.Term.TheVariants.{Block, Let, Assign, Box, Print, Arith, Join, Mutex, Spawn}
 use Rattle.fr_syntax.specs.declared.tree.Node.{Node}
 use Rattle.fr_syntax.specs.Arena.{Arena, text_of}
 use Rattle.fr_base.specs.Rooms.{WithRoom}
@@ -43,7 +42,7 @@ pub at_inside : (a : Arena) (at : ℕ) (us : List Usage) → IsReady a at → le
 at_inside a at us ready long = omega (arith, ready.here)
 
 -- the nodes of parts, one list of them after another
-nodes_append : (ms : List Meaning) (xs ys : List Need) → nodes_in ms (xs ++ ys) ≡ nodes_in ms xs ++ nodes_in ms ys
+pub nodes_append : (ms : List Meaning) (xs ys : List Need) → nodes_in ms (xs ++ ys) ≡ nodes_in ms xs ++ nodes_in ms ys
 nodes_append ms [] ys = refl
 nodes_append ms (x ∷ xs) ys =
     ap (λ l. (meaning_at ms x.node).nodes ++ l) (nodes_append ms xs ys) ∙ sym (append_assoc (meaning_at ms x.node).nodes (nodes_in ms xs) (nodes_in ms ys))
@@ -68,7 +67,7 @@ one_count a at v n h e =
     let nodes : (meaning_at (meanings a) at).nodes ≡ (own ++ []) ++ at ∷ [] = h.nodes ∙ ap (λ l. nodes_in (meanings a) l ++ at ∷ []) e in
     omega (arith, ap length nodes, length-append (own ++ []) (at ∷ []), length-append own [])
 
-two_count : (a : Arena) (at l r : ℕ) (s : Sort) (n : Node) → IsHere a at n → needs n.term ≡ need s l ∷ need term_s r ∷ [] → length (meaning_at (meanings a) l).nodes + length (meaning_at (meanings a) r).nodes + 1 ≤ length (meaning_at (meanings a) at).nodes
+pub two_count : (a : Arena) (at l r : ℕ) (s : Sort) (n : Node) → IsHere a at n → needs n.term ≡ need s l ∷ need term_s r ∷ [] → length (meaning_at (meanings a) l).nodes + length (meaning_at (meanings a) r).nodes + 1 ≤ length (meaning_at (meanings a) at).nodes
 two_count a at l r s n h e =
     let first = (meaning_at (meanings a) l).nodes in
     let second = (meaning_at (meanings a) r).nodes in
@@ -78,35 +77,42 @@ two_count a at l r s n h e =
 pub box_part : (a : Arena) (at v : ℕ) (n : Node) → IsHere a at n → n.term ≡ Box v → IsReady a at → IsPart a at v
 box_part a at v n h is ready = record {
   before = one_before a at v n h (ap needs is);
-  ready = one_part a at v n h (ap needs is) ready (subst IsThreaded (term_here a at n (box_t n.place (term_at (meanings a) v)) h (ap (stands_for a.names (meanings a) n.place) is)) ready.threaded);
+  ready = one_part a at v n h (ap needs is) ready;
   count = one_count a at v n h (ap needs is);
 }
 
 pub print_part : (a : Arena) (at v : ℕ) (n : Node) → IsHere a at n → n.term ≡ Print v → IsReady a at → IsPart a at v
 print_part a at v n h is ready = record {
   before = one_before a at v n h (ap needs is);
-  ready = one_part a at v n h (ap needs is) ready (subst IsThreaded (term_here a at n (print_t n.place (term_at (meanings a) v)) h (ap (stands_for a.names (meanings a) n.place) is)) ready.threaded);
+  ready = one_part a at v n h (ap needs is) ready;
   count = one_count a at v n h (ap needs is);
 }
 
 pub join_part : (a : Arena) (at v : ℕ) (n : Node) → IsHere a at n → n.term ≡ Join v → IsReady a at → IsPart a at v
 join_part a at v n h is ready = record {
   before = one_before a at v n h (ap needs is);
-  ready = one_part a at v n h (ap needs is) ready (subst IsThreaded (term_here a at n (join_t n.place (term_at (meanings a) v)) h (ap (stands_for a.names (meanings a) n.place) is)) ready.threaded);
+  ready = one_part a at v n h (ap needs is) ready;
+  count = one_count a at v n h (ap needs is);
+}
+
+pub mutex_part : (a : Arena) (at v : ℕ) (n : Node) → IsHere a at n → n.term ≡ Mutex v → IsReady a at → IsPart a at v
+mutex_part a at v n h is ready = record {
+  before = one_before a at v n h (ap needs is);
+  ready = one_part a at v n h (ap needs is) ready;
   count = one_count a at v n h (ap needs is);
 }
 
 pub let_part : (a : Arena) (at name v : ℕ) (n : Node) → IsHere a at n → n.term ≡ Let name v → IsReady a at → IsPart a at v
 let_part a at name v n h is ready = record {
   before = one_before a at v n h (ap needs is);
-  ready = one_part a at v n h (ap needs is) ready (subst IsThreaded (term_here a at n (let_t n.place (text_of a.names name) (term_at (meanings a) v)) h (ap (stands_for a.names (meanings a) n.place) is)) ready.threaded);
+  ready = one_part a at v n h (ap needs is) ready;
   count = one_count a at v n h (ap needs is);
 }
 
 pub assign_part : (a : Arena) (at to v : ℕ) (n : Node) → IsHere a at n → n.term ≡ Assign to v → IsReady a at → IsPart a at v
 assign_part a at to v n h is ready = record {
   before = (subst (AreBelow (meanings a) at) (ap needs is) h.parts).2.0;
-  ready = value_part a at to v n h (ap needs is) ready (subst IsThreaded (term_here a at n (assign_t n.place (place_at (meanings a) to) (term_at (meanings a) v)) h (ap (stands_for a.names (meanings a) n.place) is)) ready.threaded);
+  ready = value_part a at to v n h (ap needs is) ready;
   count = omega (arith, two_count a at to v place_s n h (ap needs is));
 }
 
@@ -125,12 +131,11 @@ pub arith_parts : (a : Arena) (at l r : ℕ) (op : Op) (n : Node) → IsHere a a
 arith_parts a at l r op n h is ready =
     let e : needs n.term ≡ need term_s l ∷ need term_s r ∷ [] = ap needs is in
     let below = subst (AreBelow (meanings a) at) e h.parts in
-    let both : IsThreaded (arith_t n.place op (term_at (meanings a) l) (term_at (meanings a) r)) = subst IsThreaded (arith_here a at l r op n h is) ready.threaded in
     record {
       left_before = below.0;
       right_before = below.2.0;
-      left_ready = left_part a at l r n h e ready both.0;
-      right_ready = right_part a at l r n h e ready both.1;
+      left_ready = left_part a at l r n h e ready;
+      right_ready = right_part a at l r n h e ready;
       count = two_count a at l r term_s n h e;
     }
 
@@ -163,7 +168,6 @@ spawn_parts a at captures v n h is ready =
       ready = record {
         here = omega (arith, below.1.0, ready.here);
         sort = below.1.1;
-        threaded = subst IsThreaded (spawn_here a at captures v n h is) ready.threaded;
         own = different_back first own (different_front (first ++ own) (at ∷ []) (subst AreDifferent nodes ready.own));
       };
       count = omega (arith, ap length nodes, length-append (first ++ own) (at ∷ []), length-append first own);
@@ -171,7 +175,7 @@ spawn_parts a at captures v n h is ready =
 
 pub block_parts : (a : Arena) (at : ℕ) (items : WithRoom ℕ) (n : Node) → IsHere a at n → n.term ≡ Block items → IsReady a at → AreReady a at items.items
 block_parts a at items n h is ready =
-    items_part a at items.items n h (ap needs is) ready (subst IsThreaded (term_here a at n (block_t n.place (items_at (meanings a) items.items)) h (ap (stands_for a.names (meanings a) n.place) is)) ready.threaded)
+    items_part a at items.items n h (ap needs is) ready
 
 pub block_count : (a : Arena) (at : ℕ) (items : WithRoom ℕ) (n : Node) → IsHere a at n → n.term ≡ Block items → length (nodes_in (meanings a) (all_need term_s items.items)) + 1 ≤ length (meaning_at (meanings a) at).nodes
 block_count a at items n h is =
@@ -190,8 +194,8 @@ pub spawn_gives : (a : Arena) (at : ℕ) (captures : WithRoom ℕ) (v : ℕ) (n 
 spawn_gives a at captures v n e e1 result h is gives = subst (λ t. Gives result (typing t e) e1) (sym (spawn_here a at captures v n h is)) gives
 
 -- names are captured into an environment without slots
-into_none : (names : List Text) (ns : List Held) (e e1 n : Env) (cs : List Captured) → ns ≡ [] → ((go : Env → Env → Outcome) → capture_all by_spawn cs e (env_of names ns) go ≡ go e1 n) → (go : Env → Env → Outcome) → capture_all by_spawn cs e [] go ≡ go e1 n
-into_none names ns e e1 n cs none goes = λ go. ap (λ (l : List Held). capture_all by_spawn cs e (env_of names l) go) (sym none) ∙ goes go
+pub into_none : (by : Capturer) (names : List Text) (ns : List Held) (e e1 n : Env) (cs : List Captured) → ns ≡ [] → ((go : Env → Env → Outcome) → capture_all by cs e (env_of names ns) go ≡ go e1 n) → (go : Env → Env → Outcome) → capture_all by cs e [] go ≡ go e1 n
+into_none by names ns e e1 n cs none goes = λ go. ap (λ (l : List Held). capture_all by cs e (env_of names l) go) (sym none) ∙ goes go
 
 -- USAGES
 
@@ -201,21 +205,26 @@ join_used a at v n e old new h is lt part =
     (one_written a at v n old new (usages_of (term_at (meanings a) v) e) h (ap needs is) lt part)
 
 -- of a new thread's names and body
-pub thread_used : (names : List Text) (ns : List Held) (e e1 n : Env) (cs : List Captured) (b : terms.Term) (old mid new : List Usage) (first second : List ℕ) → ns ≡ [] → ((go : Env → Env → Outcome) → capture_all by_spawn cs e (env_of names ns) go ≡ go e1 n) → AreWritten old mid first (capture_usages e (env_of names ns) cs) → AreWritten mid new second (usages_of b n) → AreWritten old new (first ++ second) (capture_usages e [] cs ++ usages_of b (env_of_all e cs))
-thread_used names ns e e1 n cs b old mid new first second none goes captures body =
-    let all : env_of_all e cs ≡ n = ap env_after (into_none names ns e e1 n cs none goes (λ e1 n1. typed (own unit) n1)) in
-    subst (λ l. AreWritten old new (first ++ second) (capture_usages e [] cs ++ usages_of b l)) (sym all)
-    (written_both old mid new first second (capture_usages e [] cs) (usages_of b n) (subst (λ (l : List Held). AreWritten old mid first (capture_usages e (env_of names l) cs)) none captures) body)
+pub thread_used : (by : Capturer) (names : List Text) (ns : List Held) (e e1 n : Env) (cs : List Captured) (b : terms.Term) (old mid new : List Usage) (first second : List ℕ) → ns ≡ [] → ((go : Env → Env → Outcome) → capture_all by cs e (env_of names ns) go ≡ go e1 n) → AreWritten old mid first (capture_usages by e (env_of names ns) cs) → AreWritten mid new second (usages_of b n) → AreWritten old new (first ++ second) (capture_usages by e [] cs ++ usages_of b (env_of_all by e cs))
+thread_used by names ns e e1 n cs b old mid new first second none goes captures body =
+    let all : env_of_all by e cs ≡ n = ap env_after (into_none by names ns e e1 n cs none goes (λ e1 n1. typed (own unit) n1)) in
+    subst (λ l. AreWritten old new (first ++ second) (capture_usages by e [] cs ++ usages_of b l)) (sym all)
+    (written_both old mid new first second (capture_usages by e [] cs) (usages_of b n) (subst (λ (l : List Held). AreWritten old mid first (capture_usages by e (env_of names l) cs)) none captures) body)
 
-pub spawn_used : (a : Arena) (at : ℕ) (captures : WithRoom ℕ) (v : ℕ) (n : Node) (e : Env) (old new : List Usage) → IsHere a at n → n.term ≡ Spawn captures v → at < length old → AreWritten old new (nodes_in (meanings a) (all_need capture_s captures.items) ++ (meaning_at (meanings a) v).nodes) (capture_usages e [] (captures_at (meanings a) captures.items) ++ usages_of (term_at (meanings a) v) (env_of_all e (captures_at (meanings a) captures.items))) → AreWritten old new (meaning_at (meanings a) at).nodes (usages_of (term_at (meanings a) at) e)
+pub spawn_used : (a : Arena) (at : ℕ) (captures : WithRoom ℕ) (v : ℕ) (n : Node) (e : Env) (old new : List Usage) → IsHere a at n → n.term ≡ Spawn captures v → at < length old → AreWritten old new (nodes_in (meanings a) (all_need capture_s captures.items) ++ (meaning_at (meanings a) v).nodes) (capture_usages by_spawn e [] (captures_at (meanings a) captures.items) ++ usages_of (term_at (meanings a) v) (env_of_all by_spawn e (captures_at (meanings a) captures.items))) → AreWritten old new (meaning_at (meanings a) at).nodes (usages_of (term_at (meanings a) at) e)
 spawn_used a at captures v n e old new h is lt both =
     let cs = captures_at (meanings a) captures.items in
     let first = nodes_in (meanings a) (all_need capture_s captures.items) in
     let own = (meaning_at (meanings a) v).nodes in
-    let ms = capture_usages e [] cs ++ usages_of (term_at (meanings a) v) (env_of_all e cs) in
+    let ms = capture_usages by_spawn e [] cs ++ usages_of (term_at (meanings a) v) (env_of_all by_spawn e cs) in
     subst (λ t. AreWritten old new (meaning_at (meanings a) at).nodes (usages_of t e)) (sym (spawn_here a at captures v n h is))
     (subst (λ l. AreWritten old new l (ms ++ None ∷ [])) (sym (spawn_nodes a at captures v n h is))
     (written_node old new (first ++ own) ms at both lt))
+
+pub mutex_used : (a : Arena) (at v : ℕ) (n : Node) (e : Env) (old new : List Usage) → IsHere a at n → n.term ≡ Mutex v → at < length old → AreWritten old new (meaning_at (meanings a) v).nodes (usages_of (term_at (meanings a) v) e) → AreWritten old new (meaning_at (meanings a) at).nodes (usages_of (term_at (meanings a) at) e)
+mutex_used a at v n e old new h is lt part =
+    subst (λ t. AreWritten old new (meaning_at (meanings a) at).nodes (usages_of t e)) (sym (term_here a at n (mutex_t n.place (term_at (meanings a) v)) h (ap (stands_for a.names (meanings a) n.place) is)))
+    (one_written a at v n old new (usages_of (term_at (meanings a) v) e) h (ap needs is) lt part)
 
 pub box_used : (a : Arena) (at v : ℕ) (n : Node) (e : Env) (old new : List Usage) → IsHere a at n → n.term ≡ Box v → at < length old → AreWritten old new (meaning_at (meanings a) v).nodes (usages_of (term_at (meanings a) v) e) → AreWritten old new (meaning_at (meanings a) at).nodes (usages_of (term_at (meanings a) at) e)
 box_used a at v n e old new h is lt part =

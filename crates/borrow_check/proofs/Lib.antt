@@ -3,6 +3,9 @@ pub mod RuleLemmas
 pub mod UsageLemmas
 pub mod TermLemmas
 pub mod NodeLemmas
+pub mod HeapLemmas
 pub mod CaptureLemmas
 pub mod CheckLemmas
+pub mod LockLemmas
+pub mod ParLemmas
 pub mod ProgramLemmas

@@ -79,7 +79,7 @@ stays_below n (view o) h = tt
 abbrev let_by : ℕ → Text → Kind → Env → Bool → Outcome
 let_by place x k e b = unless b place NameInScope (typed (own unit) (record { name = Some x; part = whole k } ∷ e))
 
-is_some_slot : (names : List Text) (vs : List Held) (name : ℕ) (b : Bool) → IsInScope names vs → name < length names → b ≡ is_some (slot_in vs name) → is_some (slot_of (env_of names vs) (text_of names name)) ≡ b
+pub is_some_slot : (names : List Text) (vs : List Held) (name : ℕ) (b : Bool) → IsInScope names vs → name < length names → b ≡ is_some (slot_in vs name) → is_some (slot_of (env_of names vs) (text_of names name)) ≡ b
 is_some_slot names vs name b h lt is = ap is_some (slot_of-env_of names vs name h.different h.named lt) ∙ sym is
 
 pub bind_typed : (names : List Text) (vs new : List Held) (name place : ℕ) (k : Kind) → IsInScope names vs → name < length names → false ≡ is_some (slot_in vs name) → new ≡ record { name = Some name; part = whole k } ∷ vs → let_rule place (text_of names name) k (env_of names vs) ≡ typed (own unit) (env_of names new)

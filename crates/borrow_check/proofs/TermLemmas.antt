@@ -4,7 +4,6 @@ use Rattle.std.specs.Prelude.{Result, Ok, Err, slice_get}
 use Rattle.std.proofs.lemmas.List.{append-nil}
 use Rattle.fr_terms.specs.Terms.{Text, Spot, block_t, let_t, assign_t, read_t, number_t, unit_t, box_t, print_t, Items, none, item, start_of}
 use Rattle.fr_terms.specs.Terms as terms
-use Rattle.fr_typing.specs.Threaded.{IsThreaded, AreThreaded}
 use Rattle.fr_typing.specs.Kinds.{Kind, own, unit}
 use Rattle.fr_typing.specs.Places.{Env, AreBelow as NamesBelow, kind_places}
 use Rattle.fr_typing.specs.Finding.{Outcome, typed, then_typed}
@@ -36,20 +35,19 @@ pub term_here : (a : Arena) (at : ℕ) (n : Node) (t : terms.Term) → IsHere a 
 term_here a at n t h e = ap as_term (h.what ∙ e)
 
 -- a term that is the one term part of a node
-pub one_part : (a : Arena) (at v : ℕ) (n : Node) → IsHere a at n → needs n.term ≡ need term_s v ∷ [] → IsReady a at → IsThreaded (term_at (meanings a) v) → IsReady a v
-one_part a at v n h e ready threaded =
+pub one_part : (a : Arena) (at v : ℕ) (n : Node) → IsHere a at n → needs n.term ≡ need term_s v ∷ [] → IsReady a at → IsReady a v
+one_part a at v n h e ready =
     let below = subst (AreBelow (meanings a) at) e h.parts in
     let nodes : (meaning_at (meanings a) at).nodes ≡ ((meaning_at (meanings a) v).nodes ++ []) ++ at ∷ [] = h.nodes ∙ ap (λ l. nodes_in (meanings a) l ++ at ∷ []) e in
     record {
       here = omega (arith, below.0, ready.here);
       sort = below.1;
-      threaded = threaded;
       own = different_front (meaning_at (meanings a) v).nodes [] (different_front ((meaning_at (meanings a) v).nodes ++ []) (at ∷ []) (subst AreDifferent nodes ready.own));
     }
 
 -- the value of an assignment
-pub value_part : (a : Arena) (at to v : ℕ) (n : Node) → IsHere a at n → needs n.term ≡ need place_s to ∷ need term_s v ∷ [] → IsReady a at → IsThreaded (term_at (meanings a) v) → IsReady a v
-value_part a at to v n h e ready threaded =
+pub value_part : (a : Arena) (at to v : ℕ) (n : Node) → IsHere a at n → needs n.term ≡ need place_s to ∷ need term_s v ∷ [] → IsReady a at → IsReady a v
+value_part a at to v n h e ready =
     let below = subst (AreBelow (meanings a) at) e h.parts in
     let first = (meaning_at (meanings a) to).nodes in
     let second = (meaning_at (meanings a) v).nodes in
@@ -57,13 +55,12 @@ value_part a at to v n h e ready threaded =
     record {
       here = omega (arith, below.2.0, ready.here);
       sort = below.2.1;
-      threaded = threaded;
       own = different_front second [] (different_back first (second ++ []) (different_front (first ++ (second ++ [])) (at ∷ []) (subst AreDifferent nodes ready.own)));
     }
 
 -- the two operands
-pub left_part : (a : Arena) (at l r : ℕ) (n : Node) → IsHere a at n → needs n.term ≡ need term_s l ∷ need term_s r ∷ [] → IsReady a at → IsThreaded (term_at (meanings a) l) → IsReady a l
-left_part a at l r n h e ready threaded =
+pub left_part : (a : Arena) (at l r : ℕ) (n : Node) → IsHere a at n → needs n.term ≡ need term_s l ∷ need term_s r ∷ [] → IsReady a at → IsReady a l
+left_part a at l r n h e ready =
     let below = subst (AreBelow (meanings a) at) e h.parts in
     let first = (meaning_at (meanings a) l).nodes in
     let second = (meaning_at (meanings a) r).nodes in
@@ -71,12 +68,11 @@ left_part a at l r n h e ready threaded =
     record {
       here = omega (arith, below.0, ready.here);
       sort = below.1;
-      threaded = threaded;
       own = different_front first (second ++ []) (different_front (first ++ (second ++ [])) (at ∷ []) (subst AreDifferent nodes ready.own));
     }
 
-pub right_part : (a : Arena) (at l r : ℕ) (n : Node) → IsHere a at n → needs n.term ≡ need term_s l ∷ need term_s r ∷ [] → IsReady a at → IsThreaded (term_at (meanings a) r) → IsReady a r
-right_part a at l r n h e ready threaded =
+pub right_part : (a : Arena) (at l r : ℕ) (n : Node) → IsHere a at n → needs n.term ≡ need term_s l ∷ need term_s r ∷ [] → IsReady a at → IsReady a r
+right_part a at l r n h e ready =
     let below = subst (AreBelow (meanings a) at) e h.parts in
     let first = (meaning_at (meanings a) l).nodes in
     let second = (meaning_at (meanings a) r).nodes in
@@ -84,16 +80,14 @@ right_part a at l r n h e ready threaded =
     record {
       here = omega (arith, below.2.0, ready.here);
       sort = below.2.1;
-      threaded = threaded;
       own = different_front second [] (different_back first (second ++ []) (different_front (first ++ (second ++ [])) (at ∷ []) (subst AreDifferent nodes ready.own)));
     }
 
 -- the items of a block
-pub items_part : (a : Arena) (at : ℕ) (ids : List ℕ) (n : Node) → IsHere a at n → needs n.term ≡ all_need term_s ids → IsReady a at → AreThreaded (items_at (meanings a) ids) → AreReady a at ids
-items_part a at ids n h e ready threaded = record {
+pub items_part : (a : Arena) (at : ℕ) (ids : List ℕ) (n : Node) → IsHere a at n → needs n.term ≡ all_need term_s ids → IsReady a at → AreReady a at ids
+items_part a at ids n h e ready = record {
   inside = omega (arith, ready.here);
   parts = subst (AreBelow (meanings a) at) e h.parts;
-  threaded = threaded;
   own = different_front (nodes_in (meanings a) (all_need term_s ids)) (at ∷ []) (subst AreDifferent (h.nodes ∙ ap (λ l. nodes_in (meanings a) l ++ at ∷ []) e) ready.own);
 }
 
@@ -102,7 +96,6 @@ pub first_ready : (a : Arena) (bound id : ℕ) (rest : List ℕ) → AreReady a 
 first_ready a bound id rest h = record {
   here = omega (arith, h.parts.0, h.inside);
   sort = h.parts.1;
-  threaded = h.threaded.0;
   own = different_front (meaning_at (meanings a) id).nodes (nodes_in (meanings a) (all_need term_s rest)) h.own;
 }
 
@@ -110,7 +103,6 @@ pub rest_ready : (a : Arena) (bound id : ℕ) (rest : List ℕ) → AreReady a b
 rest_ready a bound id rest h = record {
   inside = h.inside;
   parts = h.parts.2;
-  threaded = h.threaded.1;
   own = different_back (meaning_at (meanings a) id).nodes (nodes_in (meanings a) (all_need term_s rest)) h.own;
 }
 

@@ -64,7 +64,7 @@ apart_tail : (n k : ℕ) (ks : List ℕ) → IsOut n (k ∷ ks) → IsOut n ks
 apart_tail n k ks out = (or_parts (k == n) (list_any (λ j. j == n) ks) out).1
 
 -- one more usage, at another node, may be written first or last
-written-set : (us : List Usage) (n : ℕ) (u : Usage) (ns : List ℕ) (ms : List (Option Usage)) → IsOut n ns → written (set us n u) ns ms ≡ set (written us ns ms) n u
+pub written-set : (us : List Usage) (n : ℕ) (u : Usage) (ns : List ℕ) (ms : List (Option Usage)) → IsOut n ns → written (set us n u) ns ms ≡ set (written us ns ms) n u
 written-set us n u [] ms out = refl
 written-set us n u (k ∷ ks) [] out = refl
 written-set us n u (k ∷ ks) (None ∷ ms) out = written-set us n u ks ms (apart_tail n k ks out)

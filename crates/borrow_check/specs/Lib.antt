@@ -3,3 +3,4 @@ pub mod Rules
 pub mod Nodes
 pub mod Programs
 pub mod Capturing
+pub mod Heaps

@@ -5,7 +5,6 @@ use Rattle.fr_terms.specs.Terms.{block_t, read_t}
 use Rattle.fr_terms.specs.Terms as terms
 use Rattle.fr_terms.specs.Limits.{IsWithinLimits}
 use Rattle.fr_typing.specs.Typing.{Faults}
-use Rattle.fr_typing.specs.Threaded.{IsThreaded}
 use Rattle.fr_typing.specs.Laws.{IsTyped}
 use Rattle.fr_syntax.specs.Arena.{Arena}
 use Rattle.fr_syntax.specs.Ordered.{IsArena}
@@ -20,12 +19,10 @@ abbrev pub IsBlock : terms.Term → Type 0
 IsBlock (block_t at items) = ⊤
 IsBlock t = ⊥
 
--- each term has a node of its own; the tree's term is a block within the limits, of the forms of one thread and of starting
--- and joining threads; its names are different
+-- each term has a node of its own; the tree's term is a block within the limits; its names are different
 pub record IsCheckable (a : Arena) : Type 0 where
   pub tree : IsTree a
   pub within : IsWithinLimits (term_of a)
-  pub threaded : IsThreaded (term_of a)
   pub block : IsBlock (term_of a)
   pub names : AreDifferentTexts a.names
 

@@ -4,9 +4,9 @@ use Rattle.fr_base.specs.declared.place.Lval.{Lval}
 use Rattle.fr_terms.specs.Terms.{Text, Spot, Items}
 use Rattle.fr_typing.specs.declared.reason.Reason.TheVariants.{WriteBlocked, NotWritable, NotOwned, WrongType, Outlives}
 use Rattle.fr_typing.specs.Kinds.{Owned, Kind, own, unit, Piece, whole, gone, boxed}
-use Rattle.fr_typing.specs.Places.{Env, found, write_blocked, is_writable}
+use Rattle.fr_typing.specs.Places.{Env, found, write_blocked, is_writable, slot_of}
 use Rattle.fr_typing.specs.Checks.{place_of, is_kept_out, has_shape_of, names_from}
-use Rattle.fr_typing.specs.Finding.{Has, Misses, Lacks, Outcome, typed, fault, unless}
+use Rattle.fr_typing.specs.Finding.{Has, Misses, Lacks, Outcome, typed, fault, unless, find_shown}
 use Rattle.fr_typing.specs.Typing.{typing_items}
 use Rattle.fr_syntax.specs.Arena.{text_of}
 use Rattle.fr_types.specs.declared.types.O.{O}
@@ -60,6 +60,30 @@ abbrev pub FindsWhole : Result (Lval × Ty) CheckError → Env → Spot → Type
 FindsWhole (Ok f) e w = (f.0 ≡ place_of w f.0.slot) × Has e w f.0.slot (found (whole (kind_of f.1)))
 FindsWhole (Err (Fault p r)) e w = (p ≡ w.at) × Lacks e w r
 FindsWhole (Err NoMemory) e w = ⊤
+
+-- the same of a place that may be read too: whatever follows goes on with the place and its type, or the outcome is the fault
+abbrev pub FindsShown : Result (Lval × Ty) CheckError → Env → Spot → Type 0
+FindsShown (Ok f) e w = (slot_of e w.name ≡ Some f.0.slot) × ((go : Lval → Kind → Outcome) → find_shown e w go ≡ go f.0 (kind_of f.1))
+FindsShown (Err (Fault p r)) e w = (go : Lval → Kind → Outcome) → find_shown e w go ≡ fault p r
+FindsShown (Err NoMemory) e w = ⊤
+
+-- whatever follows goes on from this environment, or the outcome is the fault; or memory ran out
+abbrev pub GoesTo : {A : Type 0} → Result A CheckError → ((Env → Outcome) → Outcome) → Env → Type 0
+GoesTo (Ok x) before e = (go : Env → Outcome) → before go ≡ go e
+GoesTo (Err (Fault p r)) before e = (go : Env → Outcome) → before go ≡ fault p r
+GoesTo (Err NoMemory) before e = ⊤
+
+-- the answer is the outcome's type, from whatever environment after; or memory ran out
+abbrev pub GivesType : Result Ty CheckError → Outcome → Type 0
+GivesType (Ok t) o = (e : Env) × (o ≡ typed (kind_of t) e)
+GivesType (Err (Fault p r)) o = o ≡ fault p r
+GivesType (Err NoMemory) o = ⊤
+
+-- the mutex's content has this type, or the outcome is the fault; or memory ran out
+abbrev pub IsContent : Result O CheckError → Outcome → (Owned → Outcome) → Type 0
+IsContent (Ok o) out rest = out ≡ rest (owned_of o)
+IsContent (Err (Fault p r)) out rest = out ≡ fault p r
+IsContent (Err NoMemory) out rest = ⊤
 
 -- the answer is the outcome, and the environment is the one after; or memory ran out
 abbrev pub Gives : Result Ty CheckError → Outcome → Env → Type 0

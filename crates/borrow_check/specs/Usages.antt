@@ -1,11 +1,12 @@
 -- How the nodes of a typed term use their places (this project's rule).
 use Rattle.std.specs.Prelude.{◌≡◌, ℕ, Bool, false, not, ⊤, List, [], ◌∷◌, ◌++◌, length, slice_set, slice_get, Option, Some, None, unwrap_or}
-use Rattle.fr_terms.specs.Terms.{Spot, Captured, Term, block_t, let_t, assign_t, read_t, borrow_t, borrow_mut_t, box_t, print_t, arith_t, join_t, spawn_t, Items, none, item}
+use Rattle.fr_terms.specs.Terms.{Text, Spot, Captured, Term, number_t, unit_t, block_t, let_t, assign_t, read_t, borrow_t, borrow_mut_t, box_t, print_t, arith_t, join_t, mutex_t, dup_t, lock_t, spawn_t, par_t, Items, none, item}
 use Rattle.fr_typing.specs.Kinds.{own, unit, whole, copies}
 use Rattle.fr_typing.specs.Places.{Env, Found, found, type_at, slot_of}
 use Rattle.fr_typing.specs.Checks.{place_of}
-use Rattle.fr_typing.specs.Finding.{Outcome, typed, fault}
-use Rattle.fr_typing.specs.Captures.{by_spawn, spot_of, capture, capture_all}
+use Rattle.fr_typing.specs.Finding.{Outcome, typed, fault, find_shown}
+use Rattle.fr_typing.specs.Rules.{lock_rule}
+use Rattle.fr_typing.specs.Captures.{Capturer, by_spawn, by_par, spot_of, capture, capture_all}
 use Rattle.fr_typing.specs.Typing.{typing}
 use Rattle.fr_syntax.specs.Meanings.{AllBelow}
 use Rattle.borrow_check.specs.declared.usage.Usage.{Usage}
@@ -39,20 +40,29 @@ abbrev pub capture_usage : Env → Captured → Usage
 capture_usage e c = usage_of e (spot_of c) (is_moved (type_at e (place_of (spot_of c) (unwrap_or (slot_of e c.name) 0))))
 
 -- what a captured name leaves of the environment, and the new environment with it
-abbrev pub env_left : Env → Env → Captured → Env
-env_left e n c = env_after (capture by_spawn e n c (λ e1 n1. typed (own unit) e1))
+abbrev pub env_left : Capturer → Env → Env → Captured → Env
+env_left by e n c = env_after (capture by e n c (λ e1 n1. typed (own unit) e1))
 
-abbrev pub env_new : Env → Env → Captured → Env
-env_new e n c = env_after (capture by_spawn e n c (λ e1 n1. typed (own unit) n1))
+abbrev pub env_new : Capturer → Env → Env → Captured → Env
+env_new by e n c = env_after (capture by e n c (λ e1 n1. typed (own unit) n1))
 
--- the new environment of all captured names
-abbrev pub env_of_all : Env → List Captured → Env
-env_of_all e cs = env_after (capture_all by_spawn cs e [] (λ e1 n1. typed (own unit) n1))
+-- what all captured names leave, and the new environment of all of them
+abbrev pub env_left_by_all : Capturer → Env → List Captured → Env
+env_left_by_all by e cs = env_after (capture_all by cs e [] (λ e1 n1. typed (own unit) e1))
+
+abbrev pub env_of_all : Capturer → Env → List Captured → Env
+env_of_all by e cs = env_after (capture_all by cs e [] (λ e1 n1. typed (own unit) n1))
 
 -- for each captured name its usage, from the environments before it
-abbrev pub capture_usages : Env → Env → List Captured → List (Option Usage)
-capture_usages e n [] = []
-capture_usages e n (c ∷ cs) = Some (capture_usage e c) ∷ capture_usages (env_left e n c) (env_new e n c) cs
+abbrev pub capture_usages : Capturer → Env → Env → List Captured → List (Option Usage)
+capture_usages by e n [] = []
+capture_usages by e n (c ∷ cs) = Some (capture_usage e c) ∷ capture_usages by (env_left by e n c) (env_new by e n c) cs
+
+-- LOCKS
+
+-- the environment of a lock's block: with the slots of the mutex and of its content
+abbrev pub env_locked : ℕ → Env → Spot → Text → Env
+env_locked at e w x = env_after (find_shown e w (lock_rule at e w x (λ e1. typed (own unit) e1)))
 
 -- TERMS
 
@@ -70,8 +80,15 @@ abbrev mutual
   usages_of (print_t at t) e = usages_of t e ++ None ∷ []
   usages_of (arith_t at op a b) e = (usages_of a e ++ usages_of b (env_after (typing a e))) ++ None ∷ []
   usages_of (join_t at t) e = usages_of t e ++ None ∷ []
-  usages_of (spawn_t at cs b) e = (capture_usages e [] cs ++ usages_of b (env_of_all e cs)) ++ None ∷ []
-  usages_of t e = None ∷ []
+  usages_of (mutex_t at t) e = usages_of t e ++ None ∷ []
+  usages_of (dup_t at w) e = Some (usage_of e w false) ∷ None ∷ []
+  usages_of (lock_t at w x b) e = Some (usage_of e w false) ∷ usages_of b (env_locked at e w x) ++ None ∷ []
+  usages_of (spawn_t at cs b) e = (capture_usages by_spawn e [] cs ++ usages_of b (env_of_all by_spawn e cs)) ++ None ∷ []
+  usages_of (par_t at cs a ds b) e =
+      (capture_usages by_par e [] cs ++ (usages_of a (env_of_all by_par e cs)
+      ++ (capture_usages by_par (env_left_by_all by_par e cs) [] ds ++ usages_of b (env_of_all by_par (env_left_by_all by_par e cs) ds)))) ++ None ∷ []
+  usages_of (number_t at n) e = None ∷ []
+  usages_of (unit_t at) e = None ∷ []
 
   pub usages_in : Items → Env → List (Option Usage)
   usages_in none e = []
@@ -103,3 +120,9 @@ pub record AreWritten (old new : List Usage) (ns : List ℕ) (ms : List (Option 
   pub same : new ≡ written old ns ms
   pub each : length ns ≡ length ms
   pub within : AllBelow (length old) ns
+
+-- the usages of some nodes were written, and then those of others
+pub record AreBothWritten (old new : List Usage) (ns ks : List ℕ) (ms ls : List (Option Usage)) : Type 0 where
+  pub between : List Usage
+  pub first : AreWritten old between ns ms
+  pub second : AreWritten between new ks ls

@@ -4,21 +4,25 @@ ghost use Rattle.std.specs.Prelude.{◌≡◌, ◌<◌, ◌≤◌, ◌+◌, ◌+
 ghost use Rattle.fr_base.specs.declared.place.Op.{Op};
 ghost use Rattle.fr_terms.specs.Terms.{arith_t, spawn_t, start_of};
 ghost use Rattle.fr_typing.specs.Places.{AreBelow, kind_places};
+ghost use Rattle.fr_typing.specs.Captures.{by_spawn};
 ghost use Rattle.fr_typing.specs.Typing.{typing};
 ghost use Rattle.fr_syntax.specs.Meanings.{meanings, meaning_at, term_at, items_at, captures_at, sort_of, term_s, capture_s, all_need, nodes_in};
 ghost use Rattle.fr_types.specs.Types.{kind_of};
 ghost use Rattle.fr_types.specs.States.{env_of};
-ghost use Rattle.borrow_check.specs.Rules.{IsInScope, Gives, GivesItems};
+ghost use Rattle.borrow_check.specs.Rules.{IsInScope, Gives, GivesType, GivesItems};
 ghost use Rattle.borrow_check.specs.Nodes.{IsReady, AreReady};
 ghost use Rattle.borrow_check.specs.Capturing.{AreNames};
 ghost use Rattle.borrow_check.specs.Usages.{env_after, env_of_all, capture_usages, usages_of, usages_in, AreWritten};
 
-use crate::captures::capture_all;
+use crate::captures::{capture_all, capture_both};
 use crate::check_error::CheckError;
-use crate::nodes::{assign, borrow, borrow_mut, read};
-use crate::rules::{bind, combined, end_block, in_box, in_task, joined, number, printed};
+use crate::nodes::{assign, borrow, borrow_mut, dup, lock, read};
+use crate::rules::{
+    bind, combined, end_block, in_box, in_mutex, in_task, joined, number, paired, printed, unlock,
+};
 use crate::spare::Spare;
 use crate::usage::Usage;
+use crate::written::Starter;
 use fr_syntax::{Nodes, Term, Tree};
 use fr_types::{Env, Ty};
 use std::alloc::Global;
@@ -97,7 +101,26 @@ pub fn check_term(
             let (t, last) = check_items(alloc, tree, items, node.place, at, env, usages, spare)?;
             end_block(env, base, t, last)
         }
-        _ => unreachable!(),
+        Term::Mutex(value) => {
+            let t = check_term(alloc, tree, *value, env, usages, spare)?;
+            in_mutex(alloc, t, start(tree, *value))
+        }
+        Term::Dup(of) => dup(alloc, tree, env, usages, *of),
+        Term::Lock(of, name, body) => {
+            let base = env.len();
+            lock(alloc, tree, env, usages, *of, *name, node.place)?;
+            let t = check_term(alloc, tree, *body, env, usages, spare)?;
+            unlock(env, base, t, node.place, start(tree, *body))
+        }
+        Term::Par(captures, body, others, other) => {
+            let (ours, theirs) = capture_both(
+                alloc, tree, captures, others, at, env, usages, spare,
+            )?;
+            let first = check_branch(alloc, tree, *body, ours, usages, spare)?;
+            let second = check_branch(alloc, tree, *other, theirs, usages, spare)?;
+            paired(&first, start(tree, *body), &second, start(tree, *other))
+        }
+        Term::Place(..) | Term::Capture(_) => unreachable!(),
     }
 }
 
@@ -156,13 +179,45 @@ fn check_spawn(
     ensures below { IfOk result (λ t. kind_places (kind_of t) ≡ []) }
     ensures scope { OnOk result (IsInScope tree.now.names env.new) }
     ensures same { OnOk result (length env.new ≡ length env.old) }
-    ensures usages { OnOk result (AreWritten usages.old.items usages.new.items (nodes_in (meanings tree.now) (all_need capture_s captures.now.items) ++ (meaning_at (meanings tree.now) body).nodes) (capture_usages (env_of tree.now.names env.old) [] (captures_at (meanings tree.now) captures.now.items) ++ usages_of (term_at (meanings tree.now) body) (env_of_all (env_of tree.now.names env.old) (captures_at (meanings tree.now) captures.now.items)))) }
+    ensures usages { OnOk result (AreWritten usages.old.items usages.new.items (nodes_in (meanings tree.now) (all_need capture_s captures.now.items) ++ (meaning_at (meanings tree.now) body).nodes) (capture_usages by_spawn (env_of tree.now.names env.old) [] (captures_at (meanings tree.now) captures.now.items) ++ usages_of (term_at (meanings tree.now) body) (env_of_all by_spawn (env_of tree.now.names env.old) (captures_at (meanings tree.now) captures.now.items)))) }
 {
     let mut new = spare.take();
-    capture_all(alloc, tree, captures, bound, env, &mut new, usages)?;
+    capture_all(
+        alloc,
+        tree,
+        Starter::Spawn,
+        captures,
+        bound,
+        env,
+        &mut new,
+        usages,
+    )?;
     let t = check_term(alloc, tree, body, &mut new, usages, spare)?;
     spare.put(new)?;
     in_task(alloc, t, start(tree, body))
+}
+
+// A block of a `par`, in an environment of its captures alone, which is kept for the next thread.
+#[cycle(check)]
+fn check_branch(
+    alloc: Global,
+    tree: &Tree,
+    body: u32,
+    new: Env,
+    usages: &mut Vec<Usage>,
+    spare: &mut Spare,
+) -> Result<Ty, CheckError>
+    requires ready { IsReady tree.now body }
+    requires scope { IsInScope tree.now.names new }
+    requires usages { length usages.old.items ≡ length (meanings tree.now) }
+    requires few { length new + length (meaning_at (meanings tree.now) body).nodes ≤ 268435456 }
+    ensures gives { GivesType result (typing (term_at (meanings tree.now) body) (env_of tree.now.names new)) }
+    ensures usages { OnOk result (AreWritten usages.old.items usages.new.items (meaning_at (meanings tree.now) body).nodes (usages_of (term_at (meanings tree.now) body) (env_of tree.now.names new))) }
+{
+    let mut new = new;
+    let t = check_term(alloc, tree, body, &mut new, usages, spare)?;
+    spare.put(new)?;
+    Ok(t)
 }
 
 // The items in order: the last one's type and place.

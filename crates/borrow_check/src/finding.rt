@@ -1,13 +1,13 @@
 //! Finding written places in the environment.
 
-ghost use Rattle.std.specs.Prelude.{◌≡◌, ◌<◌, ◌∷◌, [], List, length, IfOk, IfSome, None};
+ghost use Rattle.std.specs.Prelude.{◌≡◌, ◌<◌, ◌∷◌, [], List, length, IfOk, OnOk, IfSome, None};
 ghost use Rattle.fr_terms.specs.Terms.{Text};
 ghost use Rattle.fr_typing.specs.Kinds.{whole};
 ghost use Rattle.fr_typing.specs.Places.{AreBelow, kind_places, piece_places};
 ghost use Rattle.fr_syntax.specs.Meanings.{meanings, meaning_at, place_at, sort_of, place_s};
 ghost use Rattle.fr_types.specs.Types.{kind_of, piece_of};
-ghost use Rattle.fr_types.specs.States.{env_of};
-ghost use Rattle.borrow_check.specs.Rules.{spot_of, IsInScope, IsLacking, Finds, FindsWhole};
+ghost use Rattle.fr_types.specs.States.{env_of, AreNested};
+ghost use Rattle.borrow_check.specs.Rules.{spot_of, IsInScope, IsLacking, Finds, FindsWhole, FindsShown};
 
 use crate::check_error::CheckError;
 use crate::written::Written;
@@ -43,6 +43,7 @@ pub fn find(alloc: Global, env: &Env, w: Written) -> Result<(Lval, Part), CheckE
     ensures finds { (names : List Text) → IsInScope names env.now → w.name < length names → Finds result (env_of names env.now) (spot_of names w) }
     ensures here { IfOk result (λ f. f.0.slot < length env.now) }
     ensures below { IfOk result (λ f. AreBelow f.0.slot (piece_places (piece_of f.1))) }
+    ensures nested { OnOk result (AreNested env.now) }
 {
     let Some(slot) = env.find(w.name) else {
         return Err(CheckError::Fault {
@@ -82,6 +83,21 @@ pub fn find_whole(alloc: Global, env: &Env, w: Written) -> Result<(Lval, Ty), Ch
             reason: Reason::NotDefined,
         }),
     }
+}
+
+/// The same of a place that may be read too.
+pub fn find_shown(alloc: Global, env: &Env, w: Written) -> Result<(Lval, Ty), CheckError>
+    ensures finds { (names : List Text) → IsInScope names env.now → w.name < length names → FindsShown result (env_of names env.now) (spot_of names w) }
+    ensures here { IfOk result (λ f. f.0.slot < length env.now) }
+{
+    let (x, t) = find_whole(alloc, env, w)?;
+    if env.read_blocked(x.slot) {
+        return Err(CheckError::Fault {
+            place: w.place,
+            reason: Reason::ReadBlocked,
+        });
+    }
+    Ok((x, t))
 }
 
 // The type of a part that is whole.

@@ -1,4 +1,4 @@
-//! The borrow checker: a tree of the forms of one thread, and of starting and joining threads, is checked, or the answer is its first fault, exactly as typing has it.
+//! The borrow checker: a tree is checked, or the answer is its first fault, exactly as typing has it.
 #![tactic(auto)]
 
 mod captures;
@@ -6,6 +6,7 @@ mod check_error;
 mod checked;
 mod checker;
 mod finding;
+mod heap_place;
 mod nodes;
 mod rules;
 mod spare;

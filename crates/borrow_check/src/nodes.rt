@@ -1,20 +1,22 @@
 //! Nodes with a place: its use is noted, and the rule follows.
 
-ghost use Rattle.std.specs.Prelude.{◌≡◌, ◌<◌, ◌∷◌, [], length, Some, false, IfOk, OnOk};
-ghost use Rattle.fr_terms.specs.Terms.{read_t, borrow_t, borrow_mut_t};
+ghost use Rattle.std.specs.Prelude.{◌≡◌, ◌<◌, ◌≤◌, ◌+◌, ◌∷◌, [], length, Some, false, IfOk, OnOk};
+ghost use Rattle.fr_terms.specs.Terms.{read_t, borrow_t, borrow_mut_t, dup_t};
 ghost use Rattle.fr_typing.specs.Kinds.{own, unit};
-ghost use Rattle.fr_typing.specs.Places.{AreBelow, kind_places};
-ghost use Rattle.fr_typing.specs.Rules.{assign_rule};
+ghost use Rattle.fr_typing.specs.Places.{AreBelow, kind_places, Env as TypingEnv};
+ghost use Rattle.fr_typing.specs.Finding.{Outcome, find_shown};
+ghost use Rattle.fr_typing.specs.Rules.{assign_rule, lock_rule};
 ghost use Rattle.fr_typing.specs.Typing.{typing};
+ghost use Rattle.fr_syntax.specs.Arena.{text_of};
 ghost use Rattle.fr_syntax.specs.Meanings.{meanings, meaning_at, place_at, sort_of, place_s};
 ghost use Rattle.fr_types.specs.Types.{kind_of};
 ghost use Rattle.fr_types.specs.States.{env_of};
-ghost use Rattle.borrow_check.specs.Rules.{IsInScope, Gives};
+ghost use Rattle.borrow_check.specs.Rules.{IsInScope, Gives, GoesTo};
 ghost use Rattle.borrow_check.specs.Usages.{write, usage_of, read_usage};
 
 use crate::check_error::CheckError;
-use crate::finding::{find, find_whole, written_at};
-use crate::rules::{borrow_mut_whole, borrow_whole, read_whole, write};
+use crate::finding::{find, find_shown, find_whole, written_at};
+use crate::rules::{borrow_mut_whole, borrow_whole, content, read_whole, with_lock, write};
 use crate::usage::Usage;
 use fr_base::Lval;
 use fr_syntax::Tree;
@@ -142,4 +144,60 @@ pub fn assign(
     drop(write(alloc, env, w, x, part, t, value)?);
     usages[to as usize] = used(x);
     Ok(Ty::Unit)
+}
+
+/// Types a second value of the mutex at the place of a node, and notes the use of the place.
+pub fn dup(
+    alloc: Global,
+    tree: &Tree,
+    env: &Env,
+    usages: &mut Vec<Usage>,
+    of: u32,
+) -> Result<Ty, CheckError>
+    requires here { of < length (meanings tree.now) }
+    requires sort { sort_of (meaning_at (meanings tree.now) of).what ≡ place_s }
+    requires scope { IsInScope tree.now.names env.now }
+    requires usages { of < length usages.old.items }
+    ensures gives { Gives result (typing (dup_t 0 (place_at (meanings tree.now) of)) (env_of tree.now.names env.now)) (env_of tree.now.names env.now) }
+    ensures below { IfOk result (λ t. kind_places (kind_of t) ≡ []) }
+    ensures place { OnOk result ((meaning_at (meanings tree.now) of).nodes ≡ of ∷ []) }
+    ensures usages { OnOk result (usages.new.items ≡ write usages.old.items of (Some (usage_of (env_of tree.now.names env.now) (place_at (meanings tree.now) of) false))) }
+{
+    let w = written_at(tree, of);
+    let (x, t) = find_shown(alloc, env, w)?;
+    let o = content(t, w.place)?;
+    usages[of as usize] = used(x);
+    Ok(Ty::Mutex(o))
+}
+
+/// Takes the content of the mutex at the place of a node, by a `lock` at `at`: the mutex's slot has no name, and the content's stands above
+/// it. Notes the use of the place.
+pub fn lock(
+    alloc: Global,
+    tree: &Tree,
+    env: &mut Env,
+    usages: &mut Vec<Usage>,
+    of: u32,
+    name: u32,
+    at: u32,
+) -> Result<(), CheckError>
+    requires here { of < length (meanings tree.now) }
+    requires sort { sort_of (meaning_at (meanings tree.now) of).what ≡ place_s }
+    requires scope { IsInScope tree.now.names env.old }
+    requires name { name < length tree.now.names }
+    requires usages { of < length usages.old.items }
+    requires few { length env.old + length (meaning_at (meanings tree.now) of).nodes + 1 ≤ 268435456 }
+    ensures goes_to { let e = env_of tree.now.names env.old in
+        GoesTo result (λ (go : TypingEnv → Outcome). find_shown e (place_at (meanings tree.now) of) (lock_rule at e (place_at (meanings tree.now) of) (text_of tree.now.names name) go)) (env_of tree.now.names env.new) }
+    ensures scope { OnOk result (IsInScope tree.now.names env.new) }
+    ensures two { OnOk result (length env.new ≡ length env.old + 2) }
+    ensures place { OnOk result ((meaning_at (meanings tree.now) of).nodes ≡ of ∷ []) }
+    ensures usages { OnOk result (usages.new.items ≡ write usages.old.items of (Some (usage_of (env_of tree.now.names env.old) (place_at (meanings tree.now) of) false))) }
+{
+    let w = written_at(tree, of);
+    let (x, t) = find_shown(alloc, env, w)?;
+    let o = content(t, w.place)?;
+    with_lock(alloc, env, x, name, o, at)?;
+    usages[of as usize] = used(x);
+    Ok(())
 }

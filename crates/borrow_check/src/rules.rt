@@ -1,17 +1,18 @@
 //! The rules of the typing table, after the parts of a term.
 
-ghost use Rattle.std.specs.Prelude.{◌≡◌, ℕ, ◌-◌, ◌+◌, ◌<◌, ◌≤◌, [], List, length, drop, false, IfOk, OnOk};
+ghost use Rattle.std.specs.Prelude.{◌≡◌, ℕ, ◌-◌, ◌+◌, ◌<◌, ◌≤◌, [], List, length, drop, false, is_some, IfOk, OnOk};
 ghost use Rattle.fr_terms.specs.Terms.{Text};
-ghost use Rattle.fr_typing.specs.declared.reason.Reason.TheVariants.{ReadBlocked};
-ghost use Rattle.fr_typing.specs.Kinds.{Owned, task, Kind, own, unit};
-ghost use Rattle.fr_typing.specs.Places.{AreBelow, kind_places, piece_places, read_blocked, Env as TypingEnv};
-ghost use Rattle.fr_typing.specs.Checks.{is_kept_out, names_from, set_through};
-ghost use Rattle.fr_typing.specs.Finding.{Outcome, typed, unless};
-ghost use Rattle.fr_typing.specs.Rules.{read_rule, borrow_rule, borrow_mut_rule, held_rule, box_rule, int_rule, print_rule, arith_rule, let_rule, write_rule, end_rule, join_rule};
+ghost use Rattle.fr_typing.specs.declared.reason.Reason.TheVariants.{NameInScope, ReadBlocked, WrongType};
+ghost use Rattle.fr_typing.specs.Kinds.{Owned, mutex, task, Kind, own, unit};
+ghost use Rattle.fr_typing.specs.Places.{AreBelow, kind_places, piece_places, found, read_blocked, slot_of, type_at, Env as TypingEnv};
+ghost use Rattle.fr_typing.specs.Checks.{is_kept_out, is_unit, is_whole, mutex_of, names_from, set_through, with_lock};
+ghost use Rattle.fr_typing.specs.Finding.{Outcome, given, typed, unless};
+ghost use Rattle.fr_typing.specs.Rules.{read_rule, borrow_rule, borrow_mut_rule, held_rule, box_rule, int_rule, print_rule, arith_rule, let_rule, write_rule, end_rule, join_rule, par_rule, unlock_rule};
 ghost use Rattle.fr_syntax.specs.Arena.{text_of};
+ghost use Rattle.fr_types.specs.OwnedTypes.{owned_of};
 ghost use Rattle.fr_types.specs.Types.{kind_of, piece_of};
 ghost use Rattle.fr_types.specs.States.{slot_in, env_of};
-ghost use Rattle.borrow_check.specs.Rules.{spot_of, when_open, when_fitting, IsInScope, Gives, Follows, Passes, IsHeld};
+ghost use Rattle.borrow_check.specs.Rules.{spot_of, when_open, when_fitting, IsInScope, Gives, GoesTo, Follows, Passes, IsContent, IsHeld};
 
 use crate::check_error::CheckError;
 use crate::written::Written;
@@ -127,6 +128,31 @@ pub fn in_task(alloc: Global, t: Ty, place: u32) -> Result<Ty, CheckError>
     Ok(Ty::Task(o))
 }
 
+/// The type of a mutex around a value of this type; a fault stands at this place.
+pub fn in_mutex(alloc: Global, t: Ty, place: u32) -> Result<Ty, CheckError>
+    ensures follows { Follows result (held_rule mutex place (kind_of t)) }
+    ensures below { IfOk result (λ u. kind_places (kind_of u) ≡ []) }
+{
+    let o = held(alloc, t, place)?;
+    Ok(Ty::Mutex(o))
+}
+
+/// The type of the content of a mutex of this type; a fault stands at this place.
+pub fn content(t: Ty, place: u32) -> Result<O, CheckError>
+    ensures { (rest : Owned → Outcome) → IsContent result (given place WrongType (mutex_of (kind_of t)) rest) rest }
+{
+    match t {
+        Ty::Mutex(o) => Ok(o),
+        other => {
+            drop(other);
+            Err(CheckError::Fault {
+                place,
+                reason: Reason::WrongType,
+            })
+        }
+    }
+}
+
 /// The type of what a thread of this type ends with; a fault stands at this place.
 pub fn joined(t: Ty, place: u32) -> Result<Ty, CheckError>
     ensures follows { Follows result (join_rule place (kind_of t)) }
@@ -142,6 +168,36 @@ pub fn joined(t: Ty, place: u32) -> Result<Ty, CheckError>
             })
         }
     }
+}
+
+// Whether the type is that of unit.
+fn is_unit(t: &Ty) -> bool
+    ensures { result ≡ is_unit (kind_of t.now) }
+{
+    match t {
+        Ty::Unit => true,
+        _ => false,
+    }
+}
+
+/// The type of a `par` of blocks of these types; a fault stands at the block's place.
+pub fn paired(first: &Ty, ours: u32, second: &Ty, theirs: u32) -> Result<Ty, CheckError>
+    ensures follows { Follows result (par_rule ours theirs (kind_of first.now) (kind_of second.now)) }
+    ensures below { IfOk result (λ u. kind_places (kind_of u) ≡ []) }
+{
+    if !is_unit(first) {
+        return Err(CheckError::Fault {
+            place: ours,
+            reason: Reason::WrongType,
+        });
+    }
+    if !is_unit(second) {
+        return Err(CheckError::Fault {
+            place: theirs,
+            reason: Reason::WrongType,
+        });
+    }
+    Ok(Ty::Unit)
 }
 
 /// The check that a value of this type is a number; a fault stands at this place.
@@ -309,6 +365,78 @@ pub fn end_block(env: &mut Env, base: u32, t: Ty, last: u32) -> Result<Ty, Check
         return Err(CheckError::Fault {
             place: last,
             reason: Reason::Outlives,
+        });
+    }
+    keep(env, base);
+    Ok(t)
+}
+
+/// The two slots of a `lock` at this place: one without a name, which refers to the mutex at the place `x`, and one for the content.
+pub fn with_lock(
+    alloc: Global,
+    env: &mut Env,
+    x: Lval,
+    name: u32,
+    content: O,
+    at: u32,
+) -> Result<(), CheckError>
+    requires here { x.slot < length env.old }
+    requires few { length env.old + 2 ≤ 268435456 }
+    ensures goes_to { (names : List Text) → IsInScope names env.old → name < length names → GoesTo result (λ (go : TypingEnv → Outcome). unless (is_some (slot_of (env_of names env.old) (text_of names name))) at NameInScope (go (with_lock (env_of names env.old) x (text_of names name) (owned_of content)))) (env_of names env.new) }
+    ensures scope { OnOk result ((names : List Text) → IsInScope names env.old → name < length names → IsInScope names env.new) }
+    ensures two { OnOk result (length env.new ≡ length env.old + 2) }
+{
+    if env.find(name).is_some() {
+        return Err(CheckError::Fault {
+            place: at,
+            reason: Reason::NameInScope,
+        });
+    }
+    env.push(None, Part::Whole(Ty::Shared(Places::one(alloc, x)?)))?;
+    env.push(Some(name), Part::Whole(content.into_type()))?;
+    Ok(())
+}
+
+// Whether what the slot holds is whole.
+fn is_whole(env: &Env, slot: u32) -> bool
+    requires here { slot < length env.now }
+    ensures { (names : List Text) → result ≡ is_whole (type_at (env_of names env.now) (record { slot = slot; depth = 0 })) }
+{
+    let Some(part) = env.slot(slot) else {
+        unreachable!()
+    };
+    holds_whole(part)
+}
+
+// Whether the part is whole.
+fn holds_whole(part: &Part) -> bool
+    ensures { result ≡ is_whole (found (piece_of part.now)) }
+{
+    match part {
+        Part::Whole(_) => true,
+        _ => false,
+    }
+}
+
+/// The end of a `lock` at `at`, which began with so many slots, and whose block at `body` ends with a value of this type.
+pub fn unlock(env: &mut Env, base: u32, t: Ty, at: u32, body: u32) -> Result<Ty, CheckError>
+    requires base { base + 2 ≤ length env.old }
+    requires few { base < 268435456 }
+    ensures gives { (names : List Text) → Gives result (unlock_rule at body base (kind_of t) (env_of names env.old)) (env_of names env.new) }
+    ensures below { IfOk result (λ u. kind_places (kind_of u) ≡ []) }
+    ensures scope { OnOk result ((names : List Text) → IsInScope names env.old → IsInScope names env.new) }
+    ensures base { OnOk result (length env.new ≡ base) }
+{
+    if !is_owned(&t) {
+        return Err(CheckError::Fault {
+            place: body,
+            reason: Reason::NotOwned,
+        });
+    }
+    if !is_whole(env, base + 1) {
+        return Err(CheckError::Fault {
+            place: at,
+            reason: Reason::NotFull,
         });
     }
     keep(env, base);

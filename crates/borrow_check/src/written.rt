@@ -14,3 +14,10 @@ pub struct Name {
     pub name: u32,
     pub place: u32,
 }
+
+/// The term that starts new threads, with captured names: `Spawn` goes on beside its thread, `Par` waits for its two.
+#[derive(Clone, Copy, Debug)]
+pub enum Starter {
+    Spawn,
+    Par,
+}

@@ -1,7 +1,6 @@
 -- What is read from tokens can be checked.
 use Rattle.std.proofs.Common.{◌≡◌, ℕ, List, [], sym, subst}
 use Rattle.fr_terms.specs.Terms.{Text, Term, block_t}
-use Rattle.fr_typing.specs.Threaded.{IsThreaded}
 use Rattle.fr_typing.specs.Laws as laws
 use Rattle.fr_syntax.specs.declared.token.Token.{Token}
 use Rattle.fr_syntax.specs.Arena.{Arena}
@@ -20,12 +19,11 @@ is_block : (t : Term) → grammar.IsBlock t → IsBlock t
 is_block (block_t at items) h = tt
 is_block t h = absurd h
 
-pub checkable : (bytes : List ℕ) (ts : List Token) (names : List Text) (tree : Arena) → AreTokens bytes ts names → Spelled names ts (term_of tree) → IsThreaded (term_of tree) → tree.names ≡ names → IsTree tree → IsCheckable tree
-checkable bytes ts names tree tokens spelled threaded same whole =
+pub checkable : (bytes : List ℕ) (ts : List Token) (names : List Text) (tree : Arena) → AreTokens bytes ts names → Spelled names ts (term_of tree) → tree.names ≡ names → IsTree tree → IsCheckable tree
+checkable bytes ts names tree tokens spelled same whole =
     record {
       tree = whole;
       within = spelled.limits;
-      threaded = threaded;
       block = is_block (term_of tree) spelled.grammar.0;
       names = subst AreDifferentTexts (sym same) (names_apart bytes ts names tokens);
     }

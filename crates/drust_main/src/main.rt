@@ -12,6 +12,8 @@ mod replay;
 mod report;
 mod run;
 #[cfg(test)]
+mod sharing_cases;
+#[cfg(test)]
 mod tests;
 #[cfg(test)]
 mod thread_cases;

@@ -1,8 +1,7 @@
-//! Programs that start and join threads. The checker is asked itself.
+//! Programs with threads, mutexes and blocks beside each other. The checker is asked itself.
 
-use crate::forms::later_form;
+use crate::sharing_cases::{BESIDE, BESIDE_FAULTS, LOCK_FAULTS, LOCKED};
 use crate::thread_cases::{FAULTS, TYPED};
-use crate::words::Command;
 use borrow_check::{CheckError, Checked, check};
 use fr_base::Lval;
 use fr_parse::parse;
@@ -12,16 +11,13 @@ use std::alloc::Global;
 use std::process::Abort;
 use std::test::Fail;
 
-// The checker's answer to a source. Where it is too long or has other forms, the answer is one that no test expects.
+// The checker's answer to a source. Where it is too long, the answer is one that no test expects.
 fn answer(alloc: Global, input: &[u8]) -> Result<Result<Checked, CheckError>, Fail> {
     if input.len() > 1_048_576 {
         return Ok(Err(CheckError::NoMemory));
     }
     let tokens = tokens(alloc, input)?;
     let tree = parse(alloc, &tokens)?;
-    if let Some(_) = later_form(Command::Replay, &tree) {
-        return Ok(Err(CheckError::NoMemory));
-    }
     Ok(check(alloc, tree))
 }
 
@@ -59,6 +55,28 @@ fn programs_with_threads(rt: HostRuntime) -> Result<(), Fail> {
 }
 
 #[test]
+fn programs_with_mutexes(rt: HostRuntime) -> Result<(), Fail> {
+    for input in LOCKED {
+        has_type(&rt, rt.alloc(), input)?;
+    }
+    for (input, place, reason) in LOCK_FAULTS {
+        has_fault(&rt, rt.alloc(), input, place, reason)?;
+    }
+    Ok(())
+}
+
+#[test]
+fn programs_with_blocks_beside_each_other(rt: HostRuntime) -> Result<(), Fail> {
+    for input in BESIDE {
+        has_type(&rt, rt.alloc(), input)?;
+    }
+    for (input, place, reason) in BESIDE_FAULTS {
+        has_fault(&rt, rt.alloc(), input, place, reason)?;
+    }
+    Ok(())
+}
+
+#[test]
 fn a_captured_name_has_its_variable(rt: HostRuntime) -> Result<(), Fail> {
     let checked = answer(
         rt.alloc(),
@@ -72,5 +90,24 @@ fn a_captured_name_has_its_variable(rt: HostRuntime) -> Result<(), Fail> {
     assert_eq!(rt; checked.lval(7), Some(Lval { slot: 1, depth: 0 }));
     assert!(rt; checked.takes(8));
     assert_eq!(rt; checked.lval(10), None);
+    Ok(())
+}
+
+#[test]
+fn a_content_stands_above_its_mutex(rt: HostRuntime) -> Result<(), Fail> {
+    let checked = answer(
+        rt.alloc(),
+        b"{ let mut m = mutex 1; let mut x = box 1; par (m) { lock m as c { print c } } (x) { print *x } }",
+    )??;
+    assert_eq!(rt; checked.tree().len(), 21);
+    assert_eq!(rt; checked.lval(6), Some(Lval { slot: 0, depth: 0 }));
+    assert!(rt; checked.takes(6));
+    assert_eq!(rt; checked.lval(7), Some(Lval { slot: 0, depth: 0 }));
+    assert_eq!(rt; checked.lval(8), Some(Lval { slot: 2, depth: 0 }));
+    assert!(rt; !checked.takes(9));
+    assert_eq!(rt; checked.lval(12), None);
+    assert_eq!(rt; checked.lval(14), Some(Lval { slot: 1, depth: 0 }));
+    assert!(rt; checked.takes(14));
+    assert_eq!(rt; checked.lval(15), Some(Lval { slot: 0, depth: 1 }));
     Ok(())
 }

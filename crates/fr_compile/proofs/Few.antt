@@ -2,13 +2,13 @@
 use Rattle.std.proofs.Common.{◌≡◌, ℕ, suc, ◌+◌, ◌*◌, ◌<◌, ◌≤◌, ◌^◌, Bool, true, false, List, [], ◌∷◌, ◌++◌, length, Option, None, refl, ap, arith, length-append}
 use Rattle.fr_terms.specs.Terms.{Captured, Term, block_t, let_t, assign_t, read_t, borrow_t, borrow_mut_t, number_t, unit_t, box_t, print_t, arith_t, join_t, mutex_t, dup_t, lock_t, spawn_t, par_t, Items, none, item}
 use Rattle.fr_typing.specs.Places.{Env}
+use Rattle.fr_typing.specs.Captures.{by_spawn}
 use Rattle.fr_typing.specs.Typing.{typing}
 use Rattle.fr_typing.specs.Threaded.{IsThreaded, AreThreaded}
 use Rattle.fr_syntax.specs.Meanings.{meaning_at, meanings, root_of, term_of}
 use Rattle.fr_syntax.proofs.TreeLemmas.{length_meanings}
 use Rattle.borrow_check.specs.declared.usage.Usage.{Usage}
 use Rattle.borrow_check.specs.Programs.{Program, IsChecked}
-use Rattle.fr_typing.specs.Captures.{by_spawn}
 use Rattle.borrow_check.specs.Usages.{env_after, env_left, env_new, env_of_all, capture_usages, usages_of, usages_in, AreUsed}
 use Rattle.borrow_check.proofs.NodeLemmas.{nodes_few}
 use Rattle.fr_plain.specs.Run.{Run, Parts, one_if_temporary, leaves, steps_left, steps_in}
@@ -24,9 +24,9 @@ before_few : (ts : Items) (r : Run) (rest : Parts) → steps_in (before ts r res
 before_few none r rest = omega arith
 before_few (item t ts) r rest = omega (arith, one_at_most (leaves r))
 
-captures_long : (e n : Env) (cs : List Captured) → length (capture_usages e n cs) ≡ length cs
+captures_long : (e n : Env) (cs : List Captured) → length (capture_usages by_spawn e n cs) ≡ length cs
 captures_long e n [] = refl
-captures_long e n (c ∷ cs) = ap suc (captures_long (env_left e n c) (env_new e n c) cs)
+captures_long e n (c ∷ cs) = ap suc (captures_long (env_left by_spawn e n c) (env_new by_spawn e n c) cs)
 
 mutual
   -- of a term, with the variables that it declares
@@ -46,9 +46,9 @@ mutual
       omega (arith, steps_few a e d h.0, steps_few b (run.env_after a e) d1 h.1, length-append (usages_of a d ++ usages_of b d1) (None ∷ []), length-append (usages_of a d) (usages_of b d1))
   steps_few (block_t at ts) e d h = omega (arith, items_few ts e d h, length-append (usages_in ts d) (None ∷ []))
   steps_few (spawn_t at cs t) e d h =
-      let us = capture_usages d [] cs in
-      let vs = usages_of t (env_of_all d cs) in
-      omega (arith, steps_few t (run.env_of_all by_spawn e cs) (env_of_all d cs) h, captures_long d [] cs, length-append (us ++ vs) (None ∷ []), length-append us vs)
+      let us = capture_usages by_spawn d [] cs in
+      let vs = usages_of t (env_of_all by_spawn d cs) in
+      omega (arith, steps_few t (run.env_of_all by_spawn e cs) (env_of_all by_spawn d cs) h, captures_long d [] cs, length-append (us ++ vs) (None ∷ []), length-append us vs)
   steps_few (mutex_t at t) e d h = absurd h
   steps_few (dup_t at w) e d h = absurd h
   steps_few (lock_t at w x t) e d h = absurd h
@@ -70,9 +70,9 @@ used_long us [] (m ∷ ms) h = absurd h
 used_long us (n ∷ ns) [] h = absurd h
 
 -- of a checked program
-pub program_few : (p : Program) → IsChecked p → steps_left (program (term_of p.arena)) + 1 < 2 ^ 32
-program_few p c =
+pub program_few : (p : Program) → IsChecked p → IsThreaded (term_of p.arena) → steps_left (program (term_of p.arena)) + 1 < 2 ^ 32
+program_few p c threaded =
     let a = p.arena in
     let ns = (meaning_at (meanings a) (root_of a)).nodes in
     let there : root_of a < length (meanings a) = omega (arith, c.checkable.tree.some, length_meanings a) in
-    omega (arith, steps_few (term_of a) [] [] c.checkable.threaded, used_long p.usages ns (usages_of (term_of a) []) c.used, nodes_few a (root_of a) c.arena there c.checkable.tree.own)
+    omega (arith, steps_few (term_of a) [] [] threaded, used_long p.usages ns (usages_of (term_of a) []) c.used, nodes_few a (root_of a) c.arena there c.checkable.tree.own)

@@ -221,10 +221,12 @@ built_next p a fs gs cs ds l k at n f c arena same h b long counts made below co
 root_typed : (p : Program) → IsChecked p → IsThreaded (term_of p.arena) → IsTypedIn p (root_of p.arena) []
 root_typed p h threaded = record {
   ready = record {
-    here = omega (arith, h.checkable.tree.some, length_meanings p.arena);
-    sort = h.checkable.tree.sort;
+    node = record {
+      here = omega (arith, h.checkable.tree.some, length_meanings p.arena);
+      sort = h.checkable.tree.sort;
+      own = h.checkable.tree.own;
+    };
     threaded = threaded;
-    own = h.checkable.tree.own;
   };
   kind = h.typed.kind;
   after = h.typed.after;

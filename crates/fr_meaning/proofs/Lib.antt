@@ -21,6 +21,7 @@ pub mod PoolLemmas
 pub mod ExampleLemmas
 pub mod StartLemmas
 pub mod NodeLemmas
+pub mod ReadyLemmas
 pub mod PartLemmas
 pub mod ResolveLemmas
 pub mod BuiltLemmas

@@ -24,15 +24,15 @@ use Rattle.fr_syntax.specs.Ordered.{IsArena}
 use Rattle.fr_base.specs.Rooms.{WithRoom}
 use Rattle.fr_syntax.specs.Meanings.{a_term, term_s, place_s, capture_s, sort_of, as_capture, captures_at, meanings, meaning_at, term_at, place_at, items_at, stands_for, need, all_need, needs, nodes_in, AreBelow}
 use Rattle.borrow_check.specs.declared.usage.Usage.{Usage}
-use Rattle.borrow_check.specs.Nodes.{IsReady, AreReady}
 use Rattle.borrow_check.specs.Usages.{env_after, usage_of, read_usage, env_left, env_new, env_of_all, capture_usages, usages_of, usages_in, AreUsed}
 use Rattle.borrow_check.specs.Capturing.{AreNames}
 use Rattle.borrow_check.specs.Programs.{Program}
-use Rattle.fr_meaning.specs.Resolved.{IsTypedIn}
-use Rattle.borrow_check.proofs.TermLemmas.{IsHere, term_here, first_ready, rest_ready}
-use Rattle.borrow_check.proofs.CheckLemmas.{IsPart, box_part, print_part, join_part, let_part, assign_part, arith_parts, spawn_parts, spawn_nodes, block_parts}
+use Rattle.fr_meaning.specs.Resolved.{IsResolvable, AreResolvable, IsTypedIn}
+use Rattle.borrow_check.proofs.TermLemmas.{IsHere, term_here}
+use Rattle.borrow_check.proofs.CheckLemmas.{spawn_nodes}
 use Rattle.borrow_check.proofs.NodeLemmas.{here}
 use Rattle.fr_meaning.proofs.NodeLemmas.{place_alone, name_alone}
+use Rattle.fr_meaning.proofs.ReadyLemmas.{threaded_as, IsPart, box_part, print_part, join_part, let_part, assign_part, arith_parts, spawn_parts, block_parts, first_ready, rest_ready}
 
 -- NODES OF TERMS
 
@@ -59,13 +59,10 @@ term_is a at n m t h is e = term_here a at n t h (ap (stands_for a.names (meanin
 pub nodes_are : (a : Arena) (at : ℕ) (n : Node) (m : Term) → IsHere a at n → n.term ≡ m → (meaning_at (meanings a) at).nodes ≡ nodes_in (meanings a) (needs m) ++ at ∷ []
 nodes_are a at n m h is = h.nodes ∙ ap (λ x. nodes_in (meanings a) (needs x) ++ at ∷ []) is
 
-refused : (a : Arena) (at : ℕ) (n : Node) (m : Term) (t : terms.Term) → IsHere a at n → IsReady a at → n.term ≡ m → stands_for a.names (meanings a) n.place m ≡ a_term t → IsThreaded t
-refused a at n m t h r is e = subst IsThreaded (term_is a at n m t h is e) r.threaded
+other_sort : (a : Arena) (at : ℕ) (n : Node) (m : Term) → IsHere a at n → IsResolvable a at → n.term ≡ m → sort_of (stands_for a.names (meanings a) n.place m) ≡ term_s
+other_sort a at n m h r is = sym (ap sort_of (h.what ∙ ap (stands_for a.names (meanings a) n.place) is)) ∙ r.node.sort
 
-other_sort : (a : Arena) (at : ℕ) (n : Node) (m : Term) → IsHere a at n → IsReady a at → n.term ≡ m → sort_of (stands_for a.names (meanings a) n.place m) ≡ term_s
-other_sort a at n m h r is = sym (ap sort_of (h.what ∙ ap (stands_for a.names (meanings a) n.place) is)) ∙ r.sort
-
-row_of : (a : Arena) (at : ℕ) (n : Node) → IsHere a at n → IsReady a at → (m : Term) → n.term ≡ m → Row n
+row_of : (a : Arena) (at : ℕ) (n : Node) → IsHere a at n → IsResolvable a at → (m : Term) → n.term ≡ m → Row n
 row_of a at n h r (Number v) is = a_number v is
 row_of a at n h r Unit is = a_unit is
 row_of a at n h r (Read from) is = a_read from is
@@ -74,25 +71,25 @@ row_of a at n h r (Let name v) is = a_let name v is
 row_of a at n h r (Print v) is = a_print v is
 row_of a at n h r (Assign to v) is = an_assign to v is
 row_of a at n h r (Block items) is = a_block items is
-row_of a at n h r (Dup of) is = absurd (refused a at n (Dup of) (dup_t n.place (place_at (meanings a) of)) h r is refl)
+row_of a at n h r (Dup of) is = absurd (threaded_as a at n (Dup of) (dup_t n.place (place_at (meanings a) of)) h r is refl)
 row_of a at n h r (Borrow of) is = a_borrow of is
 row_of a at n h r (BorrowMut of) is = a_borrow_mut of is
 row_of a at n h r (Join v) is = a_join v is
-row_of a at n h r (Mutex v) is = absurd (refused a at n (Mutex v) (mutex_t n.place (term_at (meanings a) v)) h r is refl)
+row_of a at n h r (Mutex v) is = absurd (threaded_as a at n (Mutex v) (mutex_t n.place (term_at (meanings a) v)) h r is refl)
 row_of a at n h r (Arith op left right) is = an_arith op left right is
 row_of a at n h r (Spawn names body) is = a_spawn names body is
-row_of a at n h r (Par names body others other) is = absurd (refused a at n (Par names body others other) (par_t n.place (captures_at (meanings a) names.items) (term_at (meanings a) body) (captures_at (meanings a) others.items) (term_at (meanings a) other)) h r is refl)
-row_of a at n h r (Lock of name body) is = absurd (refused a at n (Lock of name body) (lock_t n.place (place_at (meanings a) of) (text_of a.names name) (term_at (meanings a) body)) h r is refl)
+row_of a at n h r (Par names body others other) is = absurd (threaded_as a at n (Par names body others other) (par_t n.place (captures_at (meanings a) names.items) (term_at (meanings a) body) (captures_at (meanings a) others.items) (term_at (meanings a) other)) h r is refl)
+row_of a at n h r (Lock of name body) is = absurd (threaded_as a at n (Lock of name body) (lock_t n.place (place_at (meanings a) of) (text_of a.names name) (term_at (meanings a) body)) h r is refl)
 row_of a at n h r (Place name stars) is = let e : place_s ≡ term_s = other_sort a at n (Place name stars) h r is in absurd cc
 row_of a at n h r (Capture name) is = let e : capture_s ≡ term_s = other_sort a at n (Capture name) h r is in absurd cc
 
-pub row : (a : Arena) (at : ℕ) (n : Node) → IsHere a at n → IsReady a at → Row n
+pub row : (a : Arena) (at : ℕ) (n : Node) → IsHere a at n → IsResolvable a at → Row n
 row a at n h r = row_of a at n h r n.term refl
 
 -- HOW MANY USAGES
 
 abbrev pub LongBelow : Arena → ℕ → Type 0
-LongBelow a b = (k : ℕ) → k < b → IsReady a k → (e : Env) → length (meaning_at (meanings a) k).nodes ≡ length (usages_of (term_at (meanings a) k) e)
+LongBelow a b = (k : ℕ) → k < b → IsResolvable a k → (e : Env) → length (meaning_at (meanings a) k).nodes ≡ length (usages_of (term_at (meanings a) k) e)
 
 one_long : (a : Arena) (at v : ℕ) (n : Node) (m : Term) (t : terms.Term) (e : Env) → IsHere a at n → n.term ≡ m → needs m ≡ need term_s v ∷ [] → stands_for a.names (meanings a) n.place m ≡ a_term t → usages_of t e ≡ usages_of (term_at (meanings a) v) e ++ None ∷ [] → IsPart a at v → LongBelow a at →
     length (meaning_at (meanings a) at).nodes ≡ length (usages_of (term_at (meanings a) at) e)
@@ -105,12 +102,12 @@ one_long a at v n m t e h is one stands usages part below =
     let ih = below v part.before part.ready e in
     omega (arith, nodes, uses, mid, ih, length-append (ns ++ []) (at ∷ []), length-append ns [], length-append us (None ∷ []))
 
-pub items_long : (a : Arena) (at : ℕ) (ids : List ℕ) (e : Env) → AreReady a at ids → LongBelow a at → length (nodes_in (meanings a) (all_need term_s ids)) ≡ length (usages_in (items_at (meanings a) ids) e)
+pub items_long : (a : Arena) (at : ℕ) (ids : List ℕ) (e : Env) → AreResolvable a at ids → LongBelow a at → length (nodes_in (meanings a) (all_need term_s ids)) ≡ length (usages_in (items_at (meanings a) ids) e)
 items_long a at [] e r below = refl
 items_long a at (i ∷ is) e r below =
     let t = term_at (meanings a) i in
     let e1 = env_after (typing t e) in
-    let lt : i < at = r.parts.0 in
+    let lt : i < at = r.nodes.parts.0 in
     omega (
       arith,
       below i lt (first_ready a at i is r) e,
@@ -120,11 +117,11 @@ items_long a at (i ∷ is) e r below =
     )
 
 -- a reference's node, and that of its place
-place_long : (a : Arena) (at of : ℕ) (n : Node) (m : Term) (t : terms.Term) (e : Env) (u : Usage) → IsArena a → IsHere a at n → n.term ≡ m → needs m ≡ need place_s of ∷ [] → stands_for a.names (meanings a) n.place m ≡ a_term t → usages_of t e ≡ Some u ∷ None ∷ [] → IsReady a at → length (meaning_at (meanings a) at).nodes ≡ length (usages_of (term_at (meanings a) at) e)
+place_long : (a : Arena) (at of : ℕ) (n : Node) (m : Term) (t : terms.Term) (e : Env) (u : Usage) → IsArena a → IsHere a at n → n.term ≡ m → needs m ≡ need place_s of ∷ [] → stands_for a.names (meanings a) n.place m ≡ a_term t → usages_of t e ≡ Some u ∷ None ∷ [] → IsResolvable a at → length (meaning_at (meanings a) at).nodes ≡ length (usages_of (term_at (meanings a) at) e)
 place_long a at of n m t e u arena h is one stands usages r =
     let parts = subst (AreBelow (meanings a) at) (ap needs is ∙ one) h.parts in
     let lt : of < at = parts.0 in
-    let alone = place_alone a of arena (omega (arith, lt, r.here)) parts.1 in
+    let alone = place_alone a of arena (omega (arith, lt, r.node.here)) parts.1 in
     ap length (nodes_are a at n m h is ∙ ap (λ l. nodes_in (meanings a) l ++ at ∷ []) one ∙ ap (λ l. (l ++ []) ++ at ∷ []) alone)
     ∙ sym (ap (λ x. length (usages_of x e)) (term_is a at n m t h is stands) ∙ ap length usages)
 
@@ -139,11 +136,11 @@ names_long a at (i ∷ is) arena h =
     omega (arith, alone, rest, length-append own (nodes_in (meanings a) (all_need capture_s is)))
 
 -- and each has a usage
-names_used : (a : Arena) (ids : List ℕ) (e n : Env) → length (capture_usages e n (captures_at (meanings a) ids)) ≡ length ids
+names_used : (a : Arena) (ids : List ℕ) (e n : Env) → length (capture_usages by_spawn e n (captures_at (meanings a) ids)) ≡ length ids
 names_used a [] e n = refl
-names_used a (i ∷ is) e n = let c = as_capture (meaning_at (meanings a) i).what in ap suc (names_used a is (env_left e n c) (env_new e n c))
+names_used a (i ∷ is) e n = let c = as_capture (meaning_at (meanings a) i).what in ap suc (names_used a is (env_left by_spawn e n c) (env_new by_spawn e n c))
 
-long_row : (a : Arena) (at : ℕ) (n : Node) (e : Env) → IsArena a → IsHere a at n → IsReady a at → LongBelow a at → Row n → length (meaning_at (meanings a) at).nodes ≡ length (usages_of (term_at (meanings a) at) e)
+long_row : (a : Arena) (at : ℕ) (n : Node) (e : Env) → IsArena a → IsHere a at n → IsResolvable a at → LongBelow a at → Row n → length (meaning_at (meanings a) at).nodes ≡ length (usages_of (term_at (meanings a) at) e)
 long_row a at n e arena h r below (a_number v is) =
     ap length (nodes_are a at n (Number v) h is) ∙ sym (ap (λ t. length (usages_of t e)) (term_is a at n (Number v) (number_t n.place v) h is refl))
 long_row a at n e arena h r below (a_unit is) =
@@ -151,7 +148,7 @@ long_row a at n e arena h r below (a_unit is) =
 long_row a at n e arena h r below (a_read from is) =
     let parts = subst (AreBelow (meanings a) at) (ap needs is) h.parts in
     let lt : from < at = parts.0 in
-    let alone = place_alone a from arena (omega (arith, lt, r.here)) parts.1 in
+    let alone = place_alone a from arena (omega (arith, lt, r.node.here)) parts.1 in
     ap length (nodes_are a at n (Read from) h is ∙ ap (λ l. (l ++ []) ++ at ∷ []) alone) ∙ sym (ap (λ t. length (usages_of t e)) (term_is a at n (Read from) (read_t n.place (place_at (meanings a) from)) h is refl))
 long_row a at n e arena h r below (a_borrow of is) = place_long a at of n (Borrow of) (borrow_t n.place (place_at (meanings a) of)) e (usage_of e (place_at (meanings a) of) false) arena h is refl refl refl r
 long_row a at n e arena h r below (a_borrow_mut of is) = place_long a at of n (BorrowMut of) (borrow_mut_t n.place (place_at (meanings a) of)) e (usage_of e (place_at (meanings a) of) false) arena h is refl refl refl r
@@ -182,7 +179,7 @@ long_row a at n e arena h r below (a_print v is) = one_long a at v n (Print v) (
 long_row a at n e arena h r below (an_assign to v is) =
     let parts = subst (AreBelow (meanings a) at) (ap needs is) h.parts in
     let lt : to < at = parts.0 in
-    let alone = place_alone a to arena (omega (arith, lt, r.here)) parts.1 in
+    let alone = place_alone a to arena (omega (arith, lt, r.node.here)) parts.1 in
     let part = assign_part a at to v n h is r in
     let ns = (meaning_at (meanings a) v).nodes in
     let us = usages_of (term_at (meanings a) v) e in
@@ -203,11 +200,11 @@ long_row a at n e arena h r below (a_block items is) =
 long_row a at n e arena h r below (a_join v is) = one_long a at v n (Join v) (join_t n.place (term_at (meanings a) v)) e h is refl refl refl (join_part a at v n h is r) below
 long_row a at n e arena h r below (a_spawn names v is) =
     let cs = captures_at (meanings a) names.items in
-    let f = env_of_all e cs in
+    let f = env_of_all by_spawn e cs in
     let parts = spawn_parts a at names v n h is r in
     let ks = nodes_in (meanings a) (all_need capture_s names.items) in
     let ns = (meaning_at (meanings a) v).nodes in
-    let ms = capture_usages e [] cs in
+    let ms = capture_usages by_spawn e [] cs in
     let us = usages_of (term_at (meanings a) v) f in
     let nodes = ap length (spawn_nodes a at names v n h is) in
     let uses = ap (λ t. length (usages_of t e)) (term_is a at n (Spawn names v) (spawn_t n.place cs (term_at (meanings a) v)) h is refl) in
@@ -228,7 +225,7 @@ long_row a at n e arena h r below (a_spawn names v is) =
 pub long_below : (a : Arena) → IsArena a → (bound : ℕ) → LongBelow a bound
 long_below a arena zero k lt r e = absurd (omega arith)
 long_below a arena (suc bound) k lt r e =
-    let n = here a k arena r.here in
+    let n = here a k arena r.node.here in
     long_row a k n.0 e arena n.1 r (λ j jt rj. long_below a arena bound j (omega (arith, jt, lt)) rj) (row a k n.0 n.1 r)
 
 -- THE PARTS ARE TYPED
@@ -295,8 +292,8 @@ join_typed p at v n e arena h is w =
 
 -- the body of a new thread in an environment of the captured names alone, and the usages of those
 pub record Started (p : Program) (ids : List ℕ) (v : ℕ) (e : Env) : Type 0 where
-  pub body : IsTypedIn p v (env_of_all e (captures_at (meanings p.arena) ids))
-  pub names : AreUsed p.usages (nodes_in (meanings p.arena) (all_need capture_s ids)) (capture_usages e [] (captures_at (meanings p.arena) ids))
+  pub body : IsTypedIn p v (env_of_all by_spawn e (captures_at (meanings p.arena) ids))
+  pub names : AreUsed p.usages (nodes_in (meanings p.arena) (all_need capture_s ids)) (capture_usages by_spawn e [] (captures_at (meanings p.arena) ids))
 
 pub no_fault : (at : ℕ) (r : Reason) (k : Kind) (e : Env) → fault at r ≡ typed k e → ⊥
 no_fault at r k e h = cc
@@ -308,12 +305,12 @@ record TypedBody (t : terms.Term) (n : Env) : Type 0 where
   pub typed_body : typing t n ≡ typed kind after
 
 -- where a new thread's term is typed, its body is
-body_typed : (cs : List Captured) (t : terms.Term) (e : Env) (k : Kind) (after : Env) → typing (spawn_t 0 cs t) e ≡ typed k after → TypedBody t (env_of_all e cs)
+body_typed : (cs : List Captured) (t : terms.Term) (e : Env) (k : Kind) (after : Env) → typing (spawn_t 0 cs t) e ≡ typed k after → TypedBody t (env_of_all by_spawn e cs)
 body_typed cs t e k after h =
-    capture_all_cases by_spawn cs e [] (λ o. o ≡ typed k after → TypedBody t (env_of_all e cs)) (λ e1 n. then_typed (typing t n) (λ k1 n1. held_rule task (start_of t) k1 e1))
+    capture_all_cases by_spawn cs e [] (λ o. o ≡ typed k after → TypedBody t (env_of_all by_spawn e cs)) (λ e1 n. then_typed (typing t n) (λ k1 n1. held_rule task (start_of t) k1 e1))
     (λ q r d g. absurd (no_fault q r k after g))
     (λ e1 n goes g.
-    let env : n ≡ env_of_all e cs = sym (ap env_after (capture_all_by (λ e2 n2. typed (own unit) n2) goes)) in
+    let env : n ≡ env_of_all by_spawn e cs = sym (ap env_after (capture_all_by (λ e2 n2. typed (own unit) n2) goes)) in
     let f = first_typed (typing t n) (λ k1 n1. held_rule task (start_of t) k1 e1) k after g in
     subst (TypedBody t) env (record { kind = f.kind; after = f.env; typed_body = f.typed_first }))
     h
@@ -323,11 +320,11 @@ spawn_typed p at names v n e arena h is w =
     let a = p.arena in
     let t = term_at (meanings a) v in
     let cs = captures_at (meanings a) names.items in
-    let f = env_of_all e cs in
+    let f = env_of_all by_spawn e cs in
     let parts = spawn_parts a at names v n h is w.ready in
     let ks = nodes_in (meanings a) (all_need capture_s names.items) in
     let ns = (meaning_at (meanings a) v).nodes in
-    let ms = capture_usages e [] cs in
+    let ms = capture_usages by_spawn e [] cs in
     let us = usages_of t f in
     let term = term_is a at n (Spawn names v) (spawn_t n.place cs t) h is refl in
     let b = body_typed cs t e w.kind w.after (sym (ap (λ x. typing x e) term) ∙ w.typed) in
@@ -355,7 +352,7 @@ assign_typed p at to v n e arena h is w =
     let us = usages_of t e in
     let parts = subst (AreBelow (meanings a) at) (ap needs is) h.parts in
     let lt : to < at = parts.0 in
-    let alone = place_alone a to arena (omega (arith, lt, w.ready.here)) parts.1 in
+    let alone = place_alone a to arena (omega (arith, lt, w.ready.node.here)) parts.1 in
     let part = assign_part a at to v n h is w.ready in
     let term = term_is a at n (Assign to v) (assign_t n.place spot t) h is refl in
     let f = first_typed (typing t e) (assign_rule spot (start_of t)) w.kind w.after (sym (ap (λ x. typing x e) term) ∙ w.typed) in
@@ -383,7 +380,7 @@ lent_place p at of n m t e arena h is one stands usages w =
     let u = usage_of e (place_at (meanings a) of) false in
     let parts = subst (AreBelow (meanings a) at) (ap needs is ∙ one) h.parts in
     let lt : of < at = parts.0 in
-    let alone = place_alone a of arena (omega (arith, lt, w.ready.here)) parts.1 in
+    let alone = place_alone a of arena (omega (arith, lt, w.ready.node.here)) parts.1 in
     let nodes : (meaning_at (meanings a) at).nodes ≡ of ∷ at ∷ [] = nodes_are a at n m h is ∙ ap (λ l. nodes_in (meanings a) l ++ at ∷ []) one ∙ ap (λ l. (l ++ []) ++ at ∷ []) alone in
     let all : AreUsed p.usages (of ∷ at ∷ []) (Some u ∷ None ∷ []) = subst (λ l. AreUsed p.usages (of ∷ at ∷ []) l) (ap (λ x. usages_of x e) (term_is a at n m t h is stands) ∙ usages) (subst (λ l. AreUsed p.usages l (usages_of (term_at (meanings a) at) e)) nodes w.used) in
     all.0
@@ -436,7 +433,7 @@ read_taken p at from n e arena h is w =
     let u = read_usage (place_at (meanings a) from) e in
     let parts = subst (AreBelow (meanings a) at) (ap needs is) h.parts in
     let lt : from < at = parts.0 in
-    let alone = place_alone a from arena (omega (arith, lt, w.ready.here)) parts.1 in
+    let alone = place_alone a from arena (omega (arith, lt, w.ready.node.here)) parts.1 in
     let nodes : (meaning_at (meanings a) at).nodes ≡ from ∷ at ∷ [] = nodes_are a at n (Read from) h is ∙ ap (λ l. (l ++ []) ++ at ∷ []) alone in
     let term = term_is a at n (Read from) (read_t n.place (place_at (meanings a) from)) h is refl in
     let all : AreUsed p.usages (from ∷ at ∷ []) (Some u ∷ Some u ∷ []) = subst (λ l. AreUsed p.usages (from ∷ at ∷ []) l) (ap (λ x. usages_of x e) term) (subst (λ l. AreUsed p.usages l (usages_of (term_at (meanings a) at) e)) nodes w.used) in
@@ -444,7 +441,7 @@ read_taken p at from n e arena h is w =
 
 -- items, one after another
 pub record AreTypedIn (p : Program) (at : ℕ) (ids : List ℕ) (e : Env) : Type 0 where
-  pub ready : AreReady p.arena at ids
+  pub ready : AreResolvable p.arena at ids
   pub kind : Kind
   pub after : Env
   pub so_far : Kind
@@ -483,7 +480,7 @@ pub parted : (p : Program) (at i : ℕ) (is : List ℕ) (e : Env) → IsArena p.
 parted p at i is e arena w =
     let a = p.arena in
     let t = term_at (meanings a) i in
-    let lt : i < at = w.ready.parts.0 in
+    let lt : i < at = w.ready.nodes.parts.0 in
     let ready = first_ready a at i is w.ready in
     let f = first_typed (typing t e) (λ k1 e1. typing_items (items_at (meanings a) is) k1 (start_of t) e1 w.end) w.kind w.after w.typed in
     let u = used_both p.usages (meaning_at (meanings a) i).nodes (nodes_in (meanings a) (all_need term_s is)) (usages_of t e) (usages_in (items_at (meanings a) is) (env_after (typing t e))) (long_below a arena at i lt ready e) w.used in

@@ -38,7 +38,7 @@ use Rattle.fr_meaning.specs.Forming.{count_all, place_in, captured_in, captured_
 use Rattle.fr_meaning.specs.Resolved.{IsTypedIn, IsRun, AreRuns, AreCounts}
 use Rattle.fr_syntax.proofs.TreeLemmas.{length_meanings}
 use Rattle.borrow_check.proofs.TermLemmas.{IsHere}
-use Rattle.borrow_check.proofs.CheckLemmas.{box_part, print_part, join_part, let_part, assign_part, arith_parts, spawn_parts}
+use Rattle.fr_meaning.proofs.ReadyLemmas.{box_part, print_part, join_part, let_part, assign_part, arith_parts, spawn_parts}
 use Rattle.borrow_check.proofs.NodeLemmas.{nodes_below, nodes_few, at_most}
 use Rattle.fr_meaning.proofs.NodeLemmas.{name_alone, as_place_is, as_capture_is}
 use Rattle.fr_meaning.proofs.PartLemmas.{Row, a_number, a_unit, a_read, a_borrow, a_borrow_mut, an_arith, a_box, a_let, a_print, an_assign, a_block, a_join, a_spawn, term_is, nodes_are, row, items_long, names_long, long_below, box_typed, print_typed, let_typed, join_typed, no_fault, spawn_typed, assign_typed, lent_place, arith_typed, read_taken, AreTypedIn, block_typed, parted}
@@ -140,7 +140,7 @@ capture_named p i e sort h =
     made s b = record { slot = s; take = b }
 
 -- the captured slots are those of the names
-captures_run : (p : Program) (bound : ℕ) (ids : List ℕ) (e n : Env) → IsArena p.arena → AreNames p.arena bound ids → AreUsed p.usages (nodes_in (meanings p.arena) (all_need capture_s ids)) (capture_usages e n (captures_at (meanings p.arena) ids)) →
+captures_run : (p : Program) (bound : ℕ) (ids : List ℕ) (e n : Env) → IsArena p.arena → AreNames p.arena bound ids → AreUsed p.usages (nodes_in (meanings p.arena) (all_need capture_s ids)) (capture_usages by_spawn e n (captures_at (meanings p.arena) ids)) →
     captures_of (captured_all p ids) ≡ captures by_spawn e n (captures_at (meanings p.arena) ids)
 captures_run p bound [] e n arena h used = refl
 captures_run p bound (i ∷ is) e n arena h used =
@@ -149,8 +149,8 @@ captures_run p bound (i ∷ is) e n arena h used =
     let cs = captures_at (meanings a) is in
     let lt : i < bound = h.parts.0 in
     let alone = name_alone a i arena (omega (arith, lt, h.inside)) h.parts.1 in
-    let all : AreUsed p.usages (i ∷ nodes_in (meanings a) (all_need capture_s is)) (capture_usages e n (c ∷ cs)) = subst (λ (l : List ℕ). AreUsed p.usages (l ++ nodes_in (meanings a) (all_need capture_s is)) (capture_usages e n (c ∷ cs))) alone used in
-    let rest = captures_run p bound is (env_left e n c) (env_new e n c) arena (record { inside = h.inside; parts = h.parts.2 }) all.1 in
+    let all : AreUsed p.usages (i ∷ nodes_in (meanings a) (all_need capture_s is)) (capture_usages by_spawn e n (c ∷ cs)) = subst (λ (l : List ℕ). AreUsed p.usages (l ++ nodes_in (meanings a) (all_need capture_s is)) (capture_usages by_spawn e n (c ∷ cs))) alone used in
+    let rest = captures_run p bound is (env_left by_spawn e n c) (env_new by_spawn e n c) arena (record { inside = h.inside; parts = h.parts.2 }) all.1 in
     let left = same_after (capture by_spawn e n c (λ e1 n1. typed (own unit) e1)) in
     let new = same_after (capture by_spawn e n c (λ e1 n1. typed (own unit) n1)) in
     ap₂ (λ (x : Passed) (xs : List Passed). x ∷ xs) (capture_named p i e h.parts.1 all.0) (rest ∙ ap₂ (λ x y. captures by_spawn x y cs) left new)
@@ -160,13 +160,13 @@ items_run : (p : Program) (at : ℕ) (look : ℕ → Run) (ids : List ℕ) (e : 
 items_run p at look [] e arena runs w = refl
 items_run p at look (i ∷ []) e arena runs w =
     let s = parted p at i [] e arena w in
-    ap last (runs i w.ready.parts.0 e s.first)
+    ap last (runs i w.ready.nodes.parts.0 e s.first)
 items_run p at look (i ∷ j ∷ is) e arena runs w =
     let s = parted p at i (j ∷ is) e arena w in
     let t = term_at (meanings p.arena) i in
     let rest = items_run p at look (j ∷ is) (env_after (typing t e)) arena runs s.rest in
     let env = ap (λ x. resolve_items (items_at (meanings p.arena) (j ∷ is)) x) (same_after (typing t e)) in
-    ap₂ more (runs i w.ready.parts.0 e s.first) (rest ∙ env)
+    ap₂ more (runs i w.ready.nodes.parts.0 e s.first) (rest ∙ env)
 
 -- HOW MANY VARIABLES
 
@@ -209,10 +209,10 @@ block_few p at items n e arena h is w =
     let ns = (meaning_at (meanings a) at).nodes in
     let parts = nodes_in (meanings a) (all_need term_s items.items) in
     let nodes = ap length (nodes_are a at n (Block items) h is) in
-    let most = at_most (at + 1) ns w.ready.own (nodes_below a arena (at + 1) at (omega arith) w.ready.here) in
+    let most = at_most (at + 1) ns w.ready.node.own (nodes_below a arena (at + 1) at (omega arith) w.ready.node.here) in
     let s = block_typed p at items n e arena h is w in
     let long = items_long a at items.items e s.ready (long_below a arena at) in
-    omega (arith, nodes, most, long, items_few (items_at (meanings a) items.items) e, length-append parts (at ∷ []), w.ready.here, length_meanings a, arena.few)
+    omega (arith, nodes, most, long, items_few (items_at (meanings a) items.items) e, length-append parts (at ∷ []), w.ready.node.here, length_meanings a, arena.few)
 
 below_of : (a : Arena) (at : ℕ) (ids : List ℕ) → AreBelow (meanings a) at (all_need term_s ids) → AllBelow at ids
 below_of a at [] h = tt
@@ -231,7 +231,7 @@ block_run : (p : Program) (at : ℕ) (counts : List ℕ) (look : ℕ → Run) (i
 block_run p at counts look items n e (form.Block is k) arena h at_n w c same runs made =
     let s = block_typed p at items n e arena h at_n w in
     let few = block_few p at items n e arena h at_n w in
-    let count = count_items p counts at items.items c same (below_of p.arena at items.items s.ready.parts) s.ready.threaded few in
+    let count = count_items p counts at items.items c same (below_of p.arena at items.items s.ready.nodes.parts) s.ready.threaded few in
     let total : k ≡ lets (items_at (meanings p.arena) items.items) = made.1 (omega (arith, count, few)) ∙ count in
     ap₂ block total (ap (parts_of look) made.0 ∙ items_run p at look items.items e arena runs s)
 block_run p at counts look items n e (form.Number v) arena h at_n w c same runs made = absurd made
@@ -256,7 +256,7 @@ spawn_few : (p : Program) (at : ℕ) (names : WithRoom ℕ) (v : ℕ) (n : Node)
 spawn_few p at names v n e arena h is w =
     let a = p.arena in
     let parts = spawn_parts a at names v n h is w.ready in
-    let few = nodes_few a at arena w.ready.here w.ready.own in
+    let few = nodes_few a at arena w.ready.node.here w.ready.node.own in
     let long = names_long a at names.items arena parts.names in
     let body = long_below a arena at v parts.before parts.ready e in
     omega (arith, few, long, body, parts.count, lets_few (term_at (meanings a) v) e parts.ready.threaded)
@@ -274,7 +274,7 @@ spawn_run p at counts look names v n e (form.Spawn ds b k) arena h is w c same r
     let count = c v (omega (arith, parts.before, same)) parts.ready.threaded in
     let total : k ≡ length cs + lets_in t = omega (arith, made.2, count, few, long) in
     let body : look b ≡ resolve t (plain.env_of_all by_spawn e cs) =
-    ap look made.1 ∙ runs v parts.before (env_of_all e cs) s.body ∙ ap (λ x. resolve t x) (same_after (capture_all by_spawn cs e [] (λ e1 n1. typed (own unit) n1))) in
+    ap look made.1 ∙ runs v parts.before (env_of_all by_spawn e cs) s.body ∙ ap (λ x. resolve t x) (same_after (capture_all by_spawn cs e [] (λ e1 n1. typed (own unit) n1))) in
     let all : captures_of ds.items ≡ captures by_spawn e [] cs = ap captures_of made.0 ∙ captures_run p at names.items e [] arena parts.names s.names in
     ap₂ spawn all (ap₂ (λ x y. block x (last y)) total body)
 spawn_run p at counts look names v n e (form.Number x) arena h is w c same runs made = absurd made

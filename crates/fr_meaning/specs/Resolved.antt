@@ -1,23 +1,34 @@
 -- When running terms are those of a checked program's nodes (this project's rule).
 use Rattle.std.specs.Prelude.{◌≡◌, ℕ, ◌<◌, List, length}
-use Rattle.fr_typing.specs.Threaded.{IsThreaded}
+use Rattle.fr_typing.specs.Threaded.{IsThreaded, AreThreaded}
 use Rattle.fr_typing.specs.Kinds.{Kind}
 use Rattle.fr_typing.specs.Places.{Env}
 use Rattle.fr_typing.specs.Finding.{typed}
 use Rattle.fr_typing.specs.Typing.{typing}
-use Rattle.fr_syntax.specs.Meanings.{meanings, meaning_at, term_at}
+use Rattle.fr_syntax.specs.Arena.{Arena}
+use Rattle.fr_syntax.specs.Meanings.{meanings, meaning_at, term_at, items_at}
 use Rattle.fr_plain.specs.Run.{Run}
 use Rattle.fr_plain.specs.Resolve.{resolve, lets_in}
 use Rattle.fr_meaning.specs.declared.forms.Form.{Form}
 use Rattle.fr_meaning.specs.FormTerms.{term_of, AreInOrder}
-use Rattle.borrow_check.specs.Nodes.{IsReady}
+use Rattle.borrow_check.specs.Nodes.{IsReady, AreReady}
 use Rattle.borrow_check.specs.Usages.{usages_of, AreUsed}
 use Rattle.borrow_check.specs.Programs.{Program}
 use Rattle.fr_meaning.specs.Forming.{clipped, count_at}
 
+-- a node that the checker takes, of the forms of one thread and of starting and joining threads
+pub record IsResolvable (a : Arena) (at : ℕ) : Type 0 where
+  pub node : IsReady a at
+  pub threaded : IsThreaded (term_at (meanings a) at)
+
+-- the same of items, which stand before this node
+pub record AreResolvable (a : Arena) (bound : ℕ) (items : List ℕ) : Type 0 where
+  pub nodes : AreReady a bound items
+  pub threaded : AreThreaded (items_at (meanings a) items)
+
 -- the node's term is typed in this environment, with the usages that the program has
 pub record IsTypedIn (p : Program) (at : ℕ) (e : Env) : Type 0 where
-  pub ready : IsReady p.arena at
+  pub ready : IsResolvable p.arena at
   pub kind : Kind
   pub after : Env
   pub typed : typing (term_at (meanings p.arena) at) e ≡ typed kind after

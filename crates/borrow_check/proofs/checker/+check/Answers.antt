@@ -1,15 +1,21 @@
-use Rattle.std.proofs.Common.{◌<◌, ◌+◌, length, drop, sym, ap, ◌∙◌, subst, arith}
+use Rattle.std.proofs.Common.{◌<◌, ◌+◌, [], length, drop, Some, false, sym, ap, ◌∙◌, subst, arith}
 use Rattle.std.proofs.lemmas.List.{drop_all}
 use Rattle.std.proofs.lemmas.Result.{err_from_is_err_and}
-use Rattle.fr_syntax.specs.Meanings.{meanings, meaning_at, term_at, captures_at, needs, capture_s, all_need, nodes_in, AreBelow}
+use Rattle.fr_syntax.specs.Arena.{text_of}
+use Rattle.fr_syntax.specs.Meanings.{meanings, meaning_at, term_at, place_at, captures_at, needs, capture_s, all_need, nodes_in, AreBelow}
 use Rattle.fr_types.specs.declared.types.Ty.{Ty}
 use Rattle.fr_types.specs.Types.{kind_of}
 use Rattle.fr_types.specs.States.{env_of}
-use Rattle.borrow_check.specs.Usages.{capture_usages, usages_of}
-use Rattle.borrow_check.proofs.UsageLemmas.{written_long}
+use Rattle.fr_typing.specs.Rules.{par_rule}
+use Rattle.fr_typing.specs.Captures.{by_spawn, by_par}
+use Rattle.borrow_check.specs.Usages.{usage_of, env_left_by_all, capture_usages, usages_of}
+use Rattle.borrow_check.proofs.ScopeLemmas.{length-env_of}
+use Rattle.borrow_check.proofs.UsageLemmas.{length-write, written_long}
 use Rattle.borrow_check.proofs.RuleLemmas.{on_ok_map}
-use Rattle.borrow_check.proofs.TermLemmas.{IsAlong, along_few, along_step, along_written, along_fails, first_ready, next_first}
-use Rattle.borrow_check.proofs.CheckLemmas.{on_ok, on_ok_both, here_by, at_inside, box_part, print_part, join_part, let_part, assign_part, spawn_parts, spawn_gives, thread_used, spawn_used, join_used, block_parts, block_count, arith_parts, arith_gives, operands_used, arith_used, box_used, print_used, let_used, block_used, assign_used_at}
+use Rattle.borrow_check.proofs.TermLemmas.{IsAlong, along_few, along_step, along_written, along_fails, first_ready, next_first, follows_gives}
+use Rattle.borrow_check.proofs.CheckLemmas.{on_ok, on_ok_both, here_by, at_inside, box_part, print_part, join_part, mutex_part, let_part, assign_part, spawn_parts, spawn_gives, thread_used, spawn_used, join_used, mutex_used, block_parts, block_count, arith_parts, arith_gives, operands_used, arith_used, box_used, print_used, let_used, block_used, assign_used_at}
+use Rattle.borrow_check.proofs.LockLemmas.{lock_parts, lock_here, lock_fails, lock_body_fails, lock_gives, lock_used}
+use Rattle.borrow_check.proofs.ParLemmas.{par_here, par_parts, both_long, par_gives, par_used}
 use Rattle.borrow_check.proofs.checker.+check.Goals as goal
 
 pub check_term-check_term-requires : goal.check_term-check_term-requires
@@ -68,7 +74,7 @@ check_spawn-check_term-requires t c = (
     (
       c.in_ok-capture_all.ensures.new_scope,
       (
-        written_long c.args.usages.now.items c.capture_all.new.usages.items (nodes_in (meanings c.args.tree.now) (all_need capture_s c.args.captures.now.items)) (capture_usages (env_of c.args.tree.now.names c.args.env.now) (env_of c.args.tree.now.names c.take-new.result) (captures_at (meanings c.args.tree.now) c.args.captures.now.items)) c.in_ok-capture_all.ensures.usages ∙ c.requires.usages,
+        written_long c.args.usages.now.items c.capture_all.new.usages.items (nodes_in (meanings c.args.tree.now) (all_need capture_s c.args.captures.now.items)) (capture_usages by_spawn (env_of c.args.tree.now.names c.args.env.now) (env_of c.args.tree.now.names c.take-new.result) (captures_at (meanings c.args.tree.now) c.args.captures.now.items)) c.in_ok-capture_all.ensures.usages ∙ c.requires.usages,
         omega (arith, c.requires.few, c.in_ok-capture_all.ensures.few, ap length c.take-new.ensures),
       ),
     ),
@@ -80,7 +86,7 @@ check_spawn-returns-clause-usages t c =
     let names = c.args.tree.now.names in
     let ms = meanings c.args.tree.now in
     on_ok _ c.in_task.result
-    (thread_used names c.take-new.result (env_of names c.args.env.now) (env_of names c.capture_all.new.env) (env_of names c.capture_all.new.new) (captures_at ms c.args.captures.now.items) (term_at ms c.args.body) c.args.usages.now.items c.capture_all.new.usages.items c.check_term.new.usages.items
+    (thread_used by_spawn names c.take-new.result (env_of names c.args.env.now) (env_of names c.capture_all.new.env) (env_of names c.capture_all.new.new) (captures_at ms c.args.captures.now.items) (term_at ms c.args.body) c.args.usages.now.items c.capture_all.new.usages.items c.check_term.new.usages.items
     (nodes_in ms (all_need capture_s c.args.captures.now.items)) (meaning_at ms c.args.body).nodes c.take-new.ensures c.in_ok-capture_all.ensures.goes_on c.in_ok-capture_all.ensures.usages c.in_ok-t.ensures.usages)
 
 pub check_term-returns-in_ok-t-in-Join-clause-usages : goal.check_term-returns-in_ok-t-in-Join-clause-usages
@@ -208,3 +214,183 @@ pub check_items-returns-clause-usages : goal.check_items-returns-clause-usages
 check_items-returns-clause-usages t c =
     along_written c.args.tree.now c.args.bound c.args.place c.args.items.now.items (drop c.items.next c.args.items.now.items) c.args.env.now c.items.env c.args.usages.now.items c.items.usages.items (kind_of c.items.t) c.items.last c.items.invariant
     (drop_all c.items.next c.args.items.now.items (omega arith))
+
+-- MUTEXES
+
+pub check_term-check_term-requires-in-Mutex : goal.check_term-check_term-requires-in-Mutex
+check_term-check_term-requires-in-Mutex t c =
+    let h = here_by c.args.tree.now c.args.at c.in-Some.node.now c.in-Some.ensures.what c.in-Some.ensures.nodes c.in-Some.ensures.parts in
+    let part = mutex_part c.args.tree.now c.args.at c.in-Mutex.value c.in-Some.node.now h c.in-Mutex.is c.requires.ready in
+    (omega (arith, c.decreases, part.before), (part.ready, (c.requires.scope, (c.requires.usages, omega (arith, c.requires.few, part.count)))))
+
+pub check_term-returns-in_ok-t-in-Mutex-clause-usages : goal.check_term-returns-in_ok-t-in-Mutex-clause-usages
+check_term-returns-in_ok-t-in-Mutex-clause-usages t c =
+    let h = here_by c.args.tree.now c.args.at c.in-Some.node.now c.in-Some.ensures.what c.in-Some.ensures.nodes c.in-Some.ensures.parts in
+    on_ok _ c.in_mutex.result
+    (mutex_used c.args.tree.now c.args.at c.in-Mutex.value c.in-Some.node.now (env_of c.args.tree.now.names c.args.env.now) c.args.usages.now.items c.check_term-in-Mutex.new.usages.items h c.in-Mutex.is
+    (at_inside c.args.tree.now c.args.at c.args.usages.now.items c.requires.ready c.requires.usages) c.in_ok-t-in-Mutex.ensures.usages)
+
+-- LOCKS
+
+pub check_term-returns-in_err-lock-in-Lock-clause-gives : goal.check_term-returns-in_err-lock-in-Lock-clause-gives
+check_term-returns-in_err-lock-in-Lock-clause-gives t c =
+    let h = here_by c.args.tree.now c.args.at c.in-Some.node.now c.in-Some.ensures.what c.in-Some.ensures.nodes c.in-Some.ensures.parts in
+    let a = c.args.tree.now in
+    let ms = meanings a in
+    let e = env_of a.names c.args.env.now in
+    let locked = env_of a.names c.lock.new.env in
+    let is = lock_here a c.args.at c.in-Lock.of c.in-Lock.name c.in-Lock.body c.in-Some.node.now h c.in-Lock.is in
+    let p = err_from_is_err_and c.from_residual-in_err-lock-in-Lock.result c.from_residual-in_err-lock-in-Lock.ensures.1 in
+    rw (p.1, p.2)
+    (lock_fails (term_at ms c.args.at) (term_at ms c.in-Lock.body) c.in-Some.node.now.place (place_at ms c.in-Lock.of) (text_of a.names c.in-Lock.name) c.in_err-lock-in-Lock.field-0.0 e locked locked is c.in_err-lock-in-Lock.ensures.goes_to)
+
+pub check_term-check_term-requires-in-Lock : goal.check_term-check_term-requires-in-Lock
+check_term-check_term-requires-in-Lock t c =
+    let h = here_by c.args.tree.now c.args.at c.in-Some.node.now c.in-Some.ensures.what c.in-Some.ensures.nodes c.in-Some.ensures.parts in
+    let parts = lock_parts c.args.tree.now c.args.at c.in-Lock.of c.in-Lock.name c.in-Lock.body c.in-Some.node.now h c.in-Lock.is c.requires.ready in
+    let names = c.args.tree.now.names in
+    let used = usage_of (env_of names c.args.env.now) (place_at (meanings c.args.tree.now) c.in-Lock.of) false in (
+      omega (arith, c.decreases, parts.before),
+      (
+        parts.ready,
+        (
+          c.in_ok-lock-in-Lock.ensures.scope,
+          (
+            ap length c.in_ok-lock-in-Lock.ensures.usages ∙ length-write c.args.usages.now.items c.in-Lock.of (Some used) ∙ c.requires.usages,
+            omega (arith, c.requires.few, parts.count, c.in_ok-lock-in-Lock.ensures.two, ap length c.in_ok-lock-in-Lock.ensures.place),
+          ),
+        ),
+      ),
+    )
+
+pub check_term-returns-in_err-t-in-Lock-clause-gives : goal.check_term-returns-in_err-t-in-Lock-clause-gives
+check_term-returns-in_err-t-in-Lock-clause-gives t c =
+    let h = here_by c.args.tree.now c.args.at c.in-Some.node.now c.in-Some.ensures.what c.in-Some.ensures.nodes c.in-Some.ensures.parts in
+    let a = c.args.tree.now in
+    let ms = meanings a in
+    let e = env_of a.names c.args.env.now in
+    let locked = env_of a.names c.lock.new.env in
+    let is = lock_here a c.args.at c.in-Lock.of c.in-Lock.name c.in-Lock.body c.in-Some.node.now h c.in-Lock.is in
+    let after = env_of a.names c.check_term-in-Lock.new.env in
+    let p = err_from_is_err_and c.from_residual-in_err-t-in-Lock.result c.from_residual-in_err-t-in-Lock.ensures.1 in
+    rw (p.1, p.2)
+    (lock_body_fails (term_at ms c.args.at) (term_at ms c.in-Lock.body) c.in-Some.node.now.place (place_at ms c.in-Lock.of) (text_of a.names c.in-Lock.name) c.in_err-t-in-Lock.field-0.0 e locked after after is c.in_ok-lock-in-Lock.ensures.goes_to c.in_err-t-in-Lock.ensures.gives)
+
+pub check_term-returns-in_ok-t-in-Lock-clause-gives : goal.check_term-returns-in_ok-t-in-Lock-clause-gives
+check_term-returns-in_ok-t-in-Lock-clause-gives t c =
+    let h = here_by c.args.tree.now c.args.at c.in-Some.node.now c.in-Some.ensures.what c.in-Some.ensures.nodes c.in-Some.ensures.parts in
+    let a = c.args.tree.now in
+    let ms = meanings a in
+    let e = env_of a.names c.args.env.now in
+    let locked = env_of a.names c.lock.new.env in
+    let is = lock_here a c.args.at c.in-Lock.of c.in-Lock.name c.in-Lock.body c.in-Some.node.now h c.in-Lock.is in
+    lock_gives (term_at ms c.args.at) (term_at ms c.in-Lock.body) c.in-Some.node.now.place (place_at ms c.in-Lock.of) (text_of a.names c.in-Lock.name) c.unlock.result (kind_of c.in_ok-t-in-Lock.t) c.len-base-in-Lock.result c.start-in-Lock.result
+    e locked (env_of a.names c.check_term-in-Lock.new.env) (env_of a.names c.unlock.new.env) is c.in_ok-lock-in-Lock.ensures.goes_to c.in_ok-t-in-Lock.ensures.gives
+    (c.len-base-in-Lock.ensures.len ∙ sym (length-env_of a.names c.args.env.now)) c.start-in-Lock.ensures (c.unlock.ensures.gives a.names)
+
+pub check_term-returns-in_ok-t-in-Lock-clause-scope : goal.check_term-returns-in_ok-t-in-Lock-clause-scope
+check_term-returns-in_ok-t-in-Lock-clause-scope t c = on_ok_map _ _ c.unlock.result (λ f. f c.args.tree.now.names c.in_ok-t-in-Lock.ensures.scope) c.unlock.ensures.scope
+
+pub check_term-returns-in_ok-t-in-Lock-clause-usages : goal.check_term-returns-in_ok-t-in-Lock-clause-usages
+check_term-returns-in_ok-t-in-Lock-clause-usages t c =
+    let h = here_by c.args.tree.now c.args.at c.in-Some.node.now c.in-Some.ensures.what c.in-Some.ensures.nodes c.in-Some.ensures.parts in
+    let parts = lock_parts c.args.tree.now c.args.at c.in-Lock.of c.in-Lock.name c.in-Lock.body c.in-Some.node.now h c.in-Lock.is c.requires.ready in
+    let names = c.args.tree.now.names in
+    on_ok _ c.unlock.result
+    (lock_used c.args.tree.now c.args.at c.in-Lock.of c.in-Lock.name c.in-Lock.body c.in-Some.node.now (env_of names c.args.env.now) (env_of names c.lock.new.env) c.args.usages.now.items c.lock.new.usages.items c.check_term-in-Lock.new.usages.items h c.in-Lock.is c.in_ok-lock-in-Lock.ensures.place
+    (at_inside c.args.tree.now c.args.at c.args.usages.now.items c.requires.ready c.requires.usages) parts.place_before c.in_ok-lock-in-Lock.ensures.goes_to c.in_ok-lock-in-Lock.ensures.usages c.in_ok-t-in-Lock.ensures.usages)
+
+-- BLOCKS BESIDE EACH OTHER
+
+pub check_term-capture_both-requires-clause-first : goal.check_term-capture_both-requires-clause-first
+check_term-capture_both-requires-clause-first t c =
+    let h = here_by c.args.tree.now c.args.at c.in-Some.node.now c.in-Some.ensures.what c.in-Some.ensures.nodes c.in-Some.ensures.parts in
+    let parts = par_parts c.args.tree.now c.args.at c.in-Par.captures c.in-Par.body c.in-Par.others c.in-Par.other c.in-Some.node.now h c.in-Par.is c.requires.ready in
+    parts.first
+
+pub check_term-capture_both-requires-clause-second : goal.check_term-capture_both-requires-clause-second
+check_term-capture_both-requires-clause-second t c =
+    let h = here_by c.args.tree.now c.args.at c.in-Some.node.now c.in-Some.ensures.what c.in-Some.ensures.nodes c.in-Some.ensures.parts in
+    let parts = par_parts c.args.tree.now c.args.at c.in-Par.captures c.in-Par.body c.in-Par.others c.in-Par.other c.in-Some.node.now h c.in-Par.is c.requires.ready in
+    parts.second
+
+pub check_term-capture_both-requires-clause-few : goal.check_term-capture_both-requires-clause-few
+check_term-capture_both-requires-clause-few t c =
+    let h = here_by c.args.tree.now c.args.at c.in-Some.node.now c.in-Some.ensures.what c.in-Some.ensures.nodes c.in-Some.ensures.parts in
+    let parts = par_parts c.args.tree.now c.args.at c.in-Par.captures c.in-Par.body c.in-Par.others c.in-Par.other c.in-Some.node.now h c.in-Par.is c.requires.ready in
+    omega (arith, c.requires.few, parts.count)
+
+pub check_term-check_branch-requires : goal.check_term-check_branch-requires
+check_term-check_branch-requires t c =
+    let h = here_by c.args.tree.now c.args.at c.in-Some.node.now c.in-Some.ensures.what c.in-Some.ensures.nodes c.in-Some.ensures.parts in
+    let parts = par_parts c.args.tree.now c.args.at c.in-Par.captures c.in-Par.body c.in-Par.others c.in-Par.other c.in-Some.node.now h c.in-Par.is c.requires.ready in
+    let a = c.args.tree.now in
+    let ms = meanings a in
+    let cs = captures_at ms c.in-Par.captures.items in
+    let ds = captures_at ms c.in-Par.others.items in
+    let e = env_of a.names c.args.env.now in
+    let ours = env_of a.names c.in_ok-ours-in-Par.ours in
+    let theirs = env_of a.names c.in_ok-ours-in-Par.theirs in
+    let after = env_of a.names c.capture_both.new.env in
+    let left = env_left_by_all by_par e cs in
+    let long = both_long c.args.usages.now.items c.capture_both.new.usages.items (nodes_in ms (all_need capture_s c.in-Par.captures.items)) (nodes_in ms (all_need capture_s c.in-Par.others.items)) (capture_usages by_par e [] cs) (capture_usages by_par left [] ds) c.in_ok-ours-in-Par.ensures.usages in
+    (omega (arith, c.decreases, parts.ours_before), (parts.ours, (c.in_ok-ours-in-Par.ensures.first_scope, (long ∙ c.requires.usages, omega (arith, c.requires.few, parts.count, c.in_ok-ours-in-Par.ensures.first_few)))))
+
+pub check_term-check_branch-requires-in-Par : goal.check_term-check_branch-requires-in-Par
+check_term-check_branch-requires-in-Par t c =
+    let h = here_by c.args.tree.now c.args.at c.in-Some.node.now c.in-Some.ensures.what c.in-Some.ensures.nodes c.in-Some.ensures.parts in
+    let parts = par_parts c.args.tree.now c.args.at c.in-Par.captures c.in-Par.body c.in-Par.others c.in-Par.other c.in-Some.node.now h c.in-Par.is c.requires.ready in
+    let a = c.args.tree.now in
+    let ms = meanings a in
+    let cs = captures_at ms c.in-Par.captures.items in
+    let ds = captures_at ms c.in-Par.others.items in
+    let e = env_of a.names c.args.env.now in
+    let ours = env_of a.names c.in_ok-ours-in-Par.ours in
+    let theirs = env_of a.names c.in_ok-ours-in-Par.theirs in
+    let after = env_of a.names c.capture_both.new.env in
+    let left = env_left_by_all by_par e cs in
+    let long = both_long c.args.usages.now.items c.capture_both.new.usages.items (nodes_in ms (all_need capture_s c.in-Par.captures.items)) (nodes_in ms (all_need capture_s c.in-Par.others.items)) (capture_usages by_par e [] cs) (capture_usages by_par left [] ds) c.in_ok-ours-in-Par.ensures.usages in
+    let longer = written_long c.capture_both.new.usages.items c.check_branch.new.usages.items (meaning_at ms c.in-Par.body).nodes (usages_of (term_at ms c.in-Par.body) ours) c.in_ok-first-in-Par.ensures.usages in
+    (omega (arith, c.decreases, parts.theirs_before), (parts.theirs, (c.in_ok-ours-in-Par.ensures.second_scope, (longer ∙ long ∙ c.requires.usages, omega (arith, c.requires.few, parts.count, c.in_ok-ours-in-Par.ensures.second_few)))))
+
+pub check_term-start-requires-in-Par-clause-sort : goal.check_term-start-requires-in-Par-clause-sort
+check_term-start-requires-in-Par-clause-sort t c =
+    let h = here_by c.args.tree.now c.args.at c.in-Some.node.now c.in-Some.ensures.what c.in-Some.ensures.nodes c.in-Some.ensures.parts in
+    let parts = par_parts c.args.tree.now c.args.at c.in-Par.captures c.in-Par.body c.in-Par.others c.in-Par.other c.in-Some.node.now h c.in-Par.is c.requires.ready in
+    parts.ours.sort
+
+pub check_term-start-requires-in-Par-2-clause-sort : goal.check_term-start-requires-in-Par-2-clause-sort
+check_term-start-requires-in-Par-2-clause-sort t c =
+    let h = here_by c.args.tree.now c.args.at c.in-Some.node.now c.in-Some.ensures.what c.in-Some.ensures.nodes c.in-Some.ensures.parts in
+    let parts = par_parts c.args.tree.now c.args.at c.in-Par.captures c.in-Par.body c.in-Par.others c.in-Par.other c.in-Some.node.now h c.in-Par.is c.requires.ready in
+    parts.theirs.sort
+
+pub check_term-returns-in_ok-second-in-Par-clause-gives : goal.check_term-returns-in_ok-second-in-Par-clause-gives
+check_term-returns-in_ok-second-in-Par-clause-gives t c =
+    let h = here_by c.args.tree.now c.args.at c.in-Some.node.now c.in-Some.ensures.what c.in-Some.ensures.nodes c.in-Some.ensures.parts in
+    let a = c.args.tree.now in
+    let ms = meanings a in
+    let cs = captures_at ms c.in-Par.captures.items in
+    let ds = captures_at ms c.in-Par.others.items in
+    let e = env_of a.names c.args.env.now in
+    let ours = env_of a.names c.in_ok-ours-in-Par.ours in
+    let theirs = env_of a.names c.in_ok-ours-in-Par.theirs in
+    let after = env_of a.names c.capture_both.new.env in
+    par_gives (term_at ms c.args.at) (term_at ms c.in-Par.body) (term_at ms c.in-Par.other) c.in-Some.node.now.place c.start-in-Par.result c.start-in-Par-2.result cs ds c.in_ok-first-in-Par.first c.in_ok-second-in-Par.second c.paired.result e ours theirs after
+    (par_here a c.args.at c.in-Par.captures c.in-Par.body c.in-Par.others c.in-Par.other c.in-Some.node.now h c.in-Par.is) c.in_ok-ours-in-Par.ensures.goes_on c.in_ok-first-in-Par.ensures.gives c.in_ok-second-in-Par.ensures.gives c.start-in-Par.ensures c.start-in-Par-2.ensures
+    (follows_gives c.paired.result (par_rule c.start-in-Par.result c.start-in-Par-2.result (kind_of c.in_ok-first-in-Par.first) (kind_of c.in_ok-second-in-Par.second)) after c.paired.ensures.follows)
+
+pub check_term-returns-in_ok-second-in-Par-clause-usages : goal.check_term-returns-in_ok-second-in-Par-clause-usages
+check_term-returns-in_ok-second-in-Par-clause-usages t c =
+    let h = here_by c.args.tree.now c.args.at c.in-Some.node.now c.in-Some.ensures.what c.in-Some.ensures.nodes c.in-Some.ensures.parts in
+    let a = c.args.tree.now in
+    let ms = meanings a in
+    let cs = captures_at ms c.in-Par.captures.items in
+    let ds = captures_at ms c.in-Par.others.items in
+    let e = env_of a.names c.args.env.now in
+    let ours = env_of a.names c.in_ok-ours-in-Par.ours in
+    let theirs = env_of a.names c.in_ok-ours-in-Par.theirs in
+    let after = env_of a.names c.capture_both.new.env in
+    on_ok _ c.paired.result
+    (par_used a c.args.at c.in-Par.captures c.in-Par.body c.in-Par.others c.in-Par.other c.in-Some.node.now e ours theirs c.args.usages.now.items c.capture_both.new.usages.items c.check_branch.new.usages.items c.check_branch-in-Par.new.usages.items h c.in-Par.is c.requires.ready
+    (at_inside a c.args.at c.args.usages.now.items c.requires.ready c.requires.usages) c.in_ok-ours-in-Par.ensures.first_new c.in_ok-ours-in-Par.ensures.second_new c.in_ok-ours-in-Par.ensures.usages c.in_ok-first-in-Par.ensures.usages c.in_ok-second-in-Par.ensures.usages)

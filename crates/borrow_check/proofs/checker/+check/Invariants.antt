@@ -12,6 +12,9 @@ decreases-check_arith l = 2 * l.bound
 abbrev pub decreases-check_spawn : goal.decreases-check_spawn
 decreases-check_spawn l = 2 * l.bound
 
+abbrev pub decreases-check_branch : goal.decreases-check_branch
+decreases-check_branch l = 2 * l.body + 2
+
 abbrev pub decreases-check_items : goal.decreases-check_items
 decreases-check_items l = 2 * l.bound
 

@@ -1,7 +1,7 @@
 use Rattle.std.proofs.Common.{sym, ◌∙◌}
 use Rattle.fr_syntax.specs.Meanings.{term_of}
 use Rattle.drust_main.proofs.Checkable.{checkable, typed_source}
-use Rattle.drust_main.proofs.FormLemmas.{accepted_by, accepted_threads}
+use Rattle.drust_main.proofs.FormLemmas.{accepted_by}
 use Rattle.drust_main.proofs.run.checked_source.Goals as goal
 
 pub returns-in-Err-clause-refused : goal.returns-in-Err-clause-refused
@@ -11,8 +11,7 @@ pub returns-in-Err-parse-clause-refused : goal.returns-in-Err-parse-clause-refus
 returns-in-Err-parse-clause-refused c = c.refused_term.ensures c.args.command c.args.bytes.now c.in-Ok.tokens.items c.in-Ok.tokens.names c.in-Ok.ensures.ok c.in-Err-parse.ensures.first
 
 pub check-requires : goal.check-requires
-check-requires c = checkable c.args.bytes.now c.in-Ok.tokens.items c.in-Ok.tokens.names c.in-Ok-parse.tree c.in-Ok.ensures.ok c.in-Ok-parse.ensures.spelled
-    (accepted_threads c.args.command (term_of c.in-Ok-parse.tree) (accepted_by c.args.command (term_of c.in-Ok-parse.tree) (sym c.later_form.ensures ∙ c.in_default.is))) c.in-Ok-parse.ensures.names c.in-Ok-parse.ensures.tree
+check-requires c = checkable c.args.bytes.now c.in-Ok.tokens.items c.in-Ok.tokens.names c.in-Ok-parse.tree c.in-Ok.ensures.ok c.in-Ok-parse.ensures.spelled c.in-Ok-parse.ensures.names c.in-Ok-parse.ensures.tree
 
 pub returns-in-Ok-check-clause-typed : goal.returns-in-Ok-check-clause-typed
 returns-in-Ok-check-clause-typed c =

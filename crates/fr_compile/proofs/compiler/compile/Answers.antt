@@ -8,4 +8,4 @@ use Rattle.fr_compile.proofs.compiler.compile.Goals as goal
 pub emit_threads-requires-clause-few : goal.emit_threads-requires-clause-few
 emit_threads-requires-clause-few c =
     let root = ap (λ (fs : List Form). root_of fs) c.deref.ensures.value ∙ c.in_ok-forms.ensures.root in
-    subst (λ (r : Run). steps_left r + 1 < 2 ^ 32) (sym root) (program_few c.args.checked.now c.tree.ensures.checked)
+    subst (λ (r : Run). steps_left r + 1 < 2 ^ 32) (sym root) (program_few c.args.checked.now c.tree.ensures.checked c.requires.threaded)

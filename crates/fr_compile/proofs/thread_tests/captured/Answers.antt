@@ -6,4 +6,4 @@ pub returns-clause-checkable : goal.returns-clause-checkable
 returns-clause-checkable c =
     let nodes : (meaning_at (meanings c.add-11.new.self) (root_of c.add-11.new.self)).nodes ≡ 0 ∷ 1 ∷ 2 ∷ 3 ∷ 4 ∷ 5 ∷ 6 ∷ 7 ∷ 8 ∷ 9 ∷ 10 ∷ [] = search rules in
     let own = subst AreDifferent (sym nodes) (refl, (refl, (refl, (refl, (refl, (refl, (refl, (refl, (refl, (refl, (refl, tt))))))))))) in
-    record { tree = record { some = search rules; sort = search rules; own = own }; within = search rules; threaded = search rules; block = search rules; names = search rules }
+    record { tree = record { some = search rules; sort = search rules; own = own }; within = search rules; block = search rules; names = search rules }
