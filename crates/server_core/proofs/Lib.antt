@@ -1,0 +1,4 @@
+mod ThreadLemmas
+mod StandLemmas
+mod WaitLemmas
+mod ServerLemmas

@@ -1,0 +1,8 @@
+//! One server of the run: its threads by number and by rank, its waiting messages, and what it tells of itself (this project's rules).
+#![tactic(auto)]
+
+mod server;
+mod threads;
+
+pub use server::Server;
+pub use threads::Threads;

@@ -1,0 +1,283 @@
+//! One server.
+
+ghost use Rattle.std.specs.Prelude.{◌≡◌, ◌+◌, ◌<◌, ◌≤◌, [], Some, None, length, slice_get, option_map, IsOk, IfOk, IfErr, OnOk, OnErr};
+ghost use Rattle.server_model.specs.Servers.{start_of, server_at};
+ghost use Rattle.server_model.specs.Clusters.{accept};
+ghost use Rattle.server_model.specs.Events.{enabled, can_step, is_ready};
+ghost use Rattle.std.specs.Arc.{arc_value};
+ghost use Rattle.server_core.specs.Outboxes.{sending, taken_out};
+ghost use Rattle.server_core.specs.Threads.{states, first_threads};
+ghost use Rattle.drive_model.specs.Choice.{due, runnable};
+ghost use Rattle.drive_model.specs.Balance.{active, movable};
+ghost use Rattle.drive_model.specs.Ending.{waits_among};
+
+use crate::threads::Threads;
+use fr_base::{Code, NoMemory, Options, ThreadNo, Wait};
+use global_addr::Word;
+use join_home::Tasks;
+use mutex_home::Mutexes;
+use owner_box::Partition;
+use rank_map::Queue;
+use read_cache::Cache;
+use server_model::What;
+use server_msgs::Message;
+use std::alloc::Global;
+use std::marker::Model;
+use std::sync::Arc;
+use thread_state::{Phase, Thread};
+
+/// One server of a run. Contracts see its state as the definitions have it, the code and the options that it keeps, and beside them as
+/// `inbox_room` how many more messages can wait without memory.
+#[derive(Drop)]
+pub struct Server {
+    number: u8,
+    code: Arc<Code>,
+    options: Options,
+    partition: Partition,
+    cache: Cache,
+    mutexes: Mutexes,
+    tasks: Tasks,
+    threads: Threads,
+    inbox: Queue<Message>,
+    outbox: Queue<(u8, Message)>,
+    // how many threads it has started, and how many events it has done
+    started: u32,
+    events: u64,
+}
+
+impl Model for Server {
+    ghost use Rattle.std.specs.Arc.{arc_value};
+    ghost use Rattle.server_core.specs.Servers.{ServerView, sendings};
+    ghost use Rattle.server_core.specs.Threads.{states};
+
+    ghost Value = { ServerView };
+
+    ghost view = { λ s. record {
+      state = record {
+        rest = record {
+          number = s.number;
+          partition = s.partition.state;
+          cache = s.cache.state;
+          mutexes = s.mutexes.state;
+          tasks = s.tasks.state;
+          inbox = s.inbox.items;
+          outbox = sendings s.outbox.items;
+          started = s.started;
+        };
+        threads = states s.threads;
+        events = s.events;
+      };
+      code = (arc_value s.code).items;
+      options = s.options;
+      inbox_room = s.inbox.room;
+    } };
+}
+
+// The threads of a server at the start: the main thread at server 0.
+fn first_threads(alloc: Global, server: u8) -> Result<Threads, NoMemory>
+    ensures { IfOk result (λ t. states t ≡ first_threads server) }
+{
+    let mut threads = Threads::new(alloc);
+    if server > 0 {
+        return Ok(threads);
+    }
+    let main = ThreadNo::new(0, 0);
+    threads.reserve(main)?;
+    threads.insert(Thread::new(alloc, main, 0, Vec::new(alloc)));
+    Ok(threads)
+}
+
+// Whether a thread doesn't wait.
+fn can_step(thread: &Thread) -> bool
+    ensures { result ≡ can_step thread.now.state.phase }
+{
+    matches!(
+        &thread.phase,
+        Phase::Ready | Phase::Got | Phase::GotPar(_, _) | Phase::Taken(_)
+    )
+}
+
+// Whether it has begun no step.
+fn is_ready(thread: &Thread) -> bool
+    ensures { result ≡ is_ready thread.now.state.phase }
+{
+    matches!(&thread.phase, Phase::Ready)
+}
+
+impl Server {
+    /// The server of that number at the start of a run: server 0 has the main thread, at its first instruction without a slot, and the
+    /// others have none. It shares the code and keeps the options. The server is one of the run, and the limit of colours is from
+    /// 1 to 65,536.
+    pub fn new(
+        alloc: Global,
+        server: u8,
+        code: &Arc<Code>,
+        options: &Options,
+    ) -> Result<Server, NoMemory>
+        requires server { server < options.now.servers }
+        requires colours { (1 ≤ options.now.colours) × (options.now.colours ≤ 65536) }
+        ensures state { IfOk result (λ s. server_at (start_of (arc_value code.now).items options.now).servers server ≡ Some s.state) }
+        ensures code { IfOk result (λ s. s.code ≡ (arc_value code.now).items) }
+        ensures options { IfOk result (λ s. s.options ≡ options.now) }
+    {
+        Ok(Server {
+            number: server,
+            code: code.clone()?,
+            options: *options,
+            partition: Partition::new(alloc, server, options.colours),
+            cache: Cache::new(alloc),
+            mutexes: Mutexes::new(alloc, server),
+            tasks: Tasks::new(alloc),
+            threads: first_threads(alloc, server)?,
+            inbox: Queue::new(alloc),
+            outbox: Queue::new(alloc),
+            started: 0,
+            events: 0,
+        })
+    }
+
+    /// Whether the server can do that event: a step of a thread that is here and doesn't wait, the delivery of a message that waits
+    /// here, the eviction of a copy without a user, or the migration of a thread that is ready here to another server of the run.
+    /// No memory.
+    pub fn enabled(&self, what: What) -> bool
+        ensures { result ≡ enabled self.now.options self.now.state what }
+    {
+        match &what {
+            What::Step(thread) => match self.threads.get(*thread) {
+                Some(thread) => can_step(thread),
+                None => false,
+            },
+            What::Deliver(at) => *at < self.inbox.len(),
+            What::Evict(word) => self.cache.hit(*word).is_some() && self.cache.users(*word) == 0,
+            What::Migrate(thread, target) => match self.threads.get(*thread) {
+                Some(thread) => is_ready(thread)
+                    && *target < self.options.servers
+                    && *target != self.number,
+                None => false,
+            },
+        }
+    }
+
+    /// Takes out the first message to another server, with that server; `None` exactly where there is none. It takes some forty
+    /// steps, however many messages there are, and no memory.
+    pub fn outbox(&mut self) -> Option<(u8, Message)>
+        ensures taken { taken_out self.old.state ≡ (option_map sending result, self.new.state) }
+        ensures kept { (self.new.code ≡ self.old.code) × (self.new.options ≡ self.old.options) }
+        ensures room { self.new.inbox_room ≡ self.old.inbox_room }
+    {
+        if self.outbox.len() == 0 {
+            return None;
+        }
+        Some(self.outbox.take(0))
+    }
+
+    /// Puts a message last in the list of waiting ones; where memory is wanting, it comes back and nothing changes.
+    pub fn accept(&mut self, message: Message) -> Result<(), (Message, NoMemory)>
+        ensures state { OnOk result (self.new.state ≡ accept message self.old.state) }
+        ensures kept { (self.new.code ≡ self.old.code) × (self.new.options ≡ self.old.options) }
+        ensures had_room { 0 < self.old.inbox_room → IsOk result }
+        ensures room { OnOk result (self.old.inbox_room ≤ self.new.inbox_room + 1) }
+        ensures back { IfErr result (λ e. e.0 ≡ message) }
+        ensures refused { OnErr result (self.new.state ≡ self.old.state) }
+    {
+        if self.inbox.reserve(1).is_err() {
+            return Err((message, NoMemory));
+        }
+        self.inbox.push(message);
+        Ok(())
+    }
+
+    /// Makes room for `n` more messages: the next `n` calls of `accept` can't be refused. What the server stands for is unchanged either
+    /// way, and room that was made stays.
+    pub fn accept_room(&mut self, n: usize) -> Result<(), NoMemory>
+        ensures state { self.new.state ≡ self.old.state }
+        ensures kept { (self.new.code ≡ self.old.code) × (self.new.options ≡ self.old.options) }
+        ensures room { OnOk result (n ≤ self.new.inbox_room) }
+        ensures had_room { n ≤ self.old.inbox_room → IsOk result }
+        ensures spare { self.old.inbox_room ≤ self.new.inbox_room }
+    {
+        self.inbox.reserve(n)
+    }
+
+    /// How many messages wait here.
+    pub fn waiting(&self) -> usize
+        ensures { result ≡ length self.now.state.rest.inbox }
+    {
+        self.inbox.len()
+    }
+
+    /// The message that waits at that place, from 0, the oldest first; `None` exactly past the end.
+    pub fn message(&self, at: usize) -> Option<&Message>
+        ensures { option_map (λ m. m.now) result ≡ slice_get self.now.state.rest.inbox at }
+    {
+        self.inbox.at(at)
+    }
+
+    /// The oldest cached word that nobody uses, exactly where the cache holds more words than the options keep; else `None`.
+    pub fn due(&self) -> Option<Word>
+        ensures { result ≡ due self.now.options self.now.state }
+    {
+        if self.cache.len() > self.options.cache as usize {
+            self.cache.oldest_unused()
+        } else {
+            None
+        }
+    }
+
+    /// The thread at that place, from 0, among those whose step is enabled, by rising number; `None` exactly past the end.
+    pub fn runnable(&self, at: usize) -> Option<ThreadNo>
+        ensures { result ≡ slice_get (runnable self.now.state) at }
+    {
+        self.threads.runnable(at)
+    }
+
+    /// How many threads stand here that aren't over.
+    pub fn active(&self) -> u64
+        ensures { result ≡ active self.now.state }
+    {
+        self.threads.active() as u64
+    }
+
+    /// The least thread here that is ready and hasn't moved since its last plain step; `None` exactly where there is none.
+    pub fn movable(&self) -> Option<ThreadNo>
+        ensures { result ≡ movable self.now.state }
+    {
+        self.threads.movable()
+    }
+
+    /// How many addresses of this server were retired for good.
+    pub fn retired(&self) -> u64
+        ensures { result ≡ self.now.state.rest.partition.retired }
+    {
+        self.partition.retired()
+    }
+
+    /// How many events the server has done.
+    pub fn events(&self) -> u64
+        ensures { result ≡ self.now.state.events }
+    {
+        self.events
+    }
+
+    /// What the run is asked to be like.
+    pub fn options(&self) -> &Options
+        ensures { result.now ≡ self.now.options }
+    {
+        &self.options
+    }
+
+    /// How many messages to other servers stand in the outbox.
+    pub fn sending(&self) -> usize
+        ensures { result ≡ length self.now.state.rest.outbox }
+    {
+        self.outbox.len()
+    }
+
+    /// The thread at that place, from 0, among those here that wait at a lock, a join or a pair, by rising number, with what it waits
+    /// for; `None` exactly past the end.
+    pub fn waits_at(&self, at: usize) -> Option<(ThreadNo, Wait)>
+        ensures { result ≡ slice_get (waits_among self.now.state.threads []) at }
+    {
+        self.threads.waits_at(at)
+    }
+}
