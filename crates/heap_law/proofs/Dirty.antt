@@ -1,19 +1,16 @@
 -- Dirty references are alone exactly where nothing is counted.
-use Rattle.std.proofs.Common.{◌≡◌, ◌⊎◌, inl, inr, ℕ, ◌+◌, Bool, true, false, not, ◌&&◌, ◌||◌, List, [], ◌∷◌, Option, Some, None, refl, sym, ap, subst, ◌∙◌, arith}
-use Rattle.fr_base.specs.declared.name.ObjNo.{ObjNo}
+use Rattle.std.proofs.Common.{◌≡◌, ℕ, ◌+◌, Bool, true, false, not, ◌&&◌, Some, refl, sym, ◌∙◌, arith}
 use Rattle.mut_borrow.specs.declared.mutable.MutRef.{MutRef}
-use Rattle.mut_borrow.specs.declared.shared.SharedRef.{SharedRef}
 use Rattle.mut_borrow.specs.Refs.{changed}
 use Rattle.server_model.specs.Servers.{Cluster}
 use Rattle.heap_law.specs.Names.{tot, one, if_so, same_object, Among}
-use Rattle.heap_law.specs.Things.{Location, Thing, shares}
-use Rattle.heap_law.specs.Stale.{Reference, references, is_among, is_held_at, Stale, changed_above}
-use Rattle.heap_law.specs.Sight.{Sight, is_stale, sight}
+use Rattle.heap_law.specs.Things.{Thing, shares}
+use Rattle.heap_law.specs.Stale.{Reference, references, is_among, is_held_at, changed_above}
+use Rattle.heap_law.specs.Sight.{Sight, sight}
 use Rattle.heap_law.specs.Placing.{held_by, shared_of, not_alone, dirty_wrong}
-use Rattle.heap_law.specs.Words.{IsStale}
 use Rattle.heap_law.specs.Dirty.{IsAlone, DirtyAlone, DirtyLaw}
-use Rattle.heap_law.proofs.Names.{left_none, right_none, and_left, and_right, one_not}
-use Rattle.heap_law.proofs.Words.{none_at, none_all, tells, told, not_told, named, itself}
+use Rattle.heap_law.proofs.Names.{left_none, right_none, one_not}
+use Rattle.heap_law.proofs.Words.{none_at, none_all, told, not_told, named, itself}
 
 -- what a dirty reference that isn't stale would be counted for
 abbrev not_sole : Sight → Reference → ℕ

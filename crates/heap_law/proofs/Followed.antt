@@ -1,5 +1,5 @@
 -- What a step has followed is at hand exactly where nothing is counted.
-use Rattle.std.proofs.Common.{◌≡◌, ℕ, zero, suc, ◌+◌, ◌<◌, Bool, true, false, List, [], ◌∷◌, ◌++◌, Option, Some, None, refl, sym, ap, subst, ◌∙◌, arith}
+use Rattle.std.proofs.Common.{◌≡◌, ℕ, zero, suc, ◌<◌, Bool, true, false, List, [], ◌∷◌, ◌++◌, Option, Some, None, refl, ap, subst, ◌∙◌, arith}
 use Rattle.std.specs.Prelude.{slice_get}
 use Rattle.fr_base.specs.declared.place.Lval.{Lval}
 use Rattle.thread_state.specs.declared.value.Value.{Value}
@@ -7,7 +7,7 @@ use Rattle.heap_law.specs.Names.{tot, if_so, Among}
 use Rattle.heap_law.specs.Things.{Location}
 use Rattle.heap_law.specs.Follow.{Standing, Ground, value_in, value_behind, locate, hop_at, hops}
 use Rattle.heap_law.specs.Sight.{Sight}
-use Rattle.heap_law.specs.Paths.{Path, no_path, reads, shares, lends, writes, ends, followed}
+use Rattle.heap_law.specs.Paths.{Path, reads, lends, followed}
 use Rattle.heap_law.specs.Walking.{path, words_kept, loose_hop, has_followed, lost_place, followed_wrong}
 use Rattle.heap_law.specs.Passing.{HopOf, followed_place, IsAtHand, HaveFollowed, FollowedLaw}
 use Rattle.heap_law.proofs.Sums.{tot-append}

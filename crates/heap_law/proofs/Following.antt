@@ -1,8 +1,7 @@
 -- One task value of each thread, and none of the two of a pair that have both ended.
-use Rattle.std.proofs.Common.{◌≡◌, ◌⊎◌, inl, inr, ℕ, zero, suc, ◌+◌, ◌≤◌, Bool, true, false, not, ◌&&◌, List, [], ◌∷◌, refl, subst, arith}
+use Rattle.std.proofs.Common.{◌≡◌, ◌≢◌, inl, inr, ℕ, ◌+◌, ◌≤◌, Bool, true, false, not, ◌&&◌, List, [], ◌∷◌, refl, subst, arith}
 use Rattle.std.specs.Prelude.{◌==◌}
 use Rattle.std.proofs.lemmas.Bool.Decides.{nat_tests}
-use Rattle.thread_state.specs.View.{ThreadState}
 use Rattle.thread_state.specs.declared.phase.Phase.{Phase}
 use Rattle.thread_state.specs.declared.phase.Phase.TheVariants as phase
 use Rattle.join_home.specs.Tasks.{TaskState, going, let_go, kept, asked, in_pair}
@@ -11,9 +10,12 @@ use Rattle.heap_law.specs.Names.{tot, one, other, if_so, some, Among}
 use Rattle.heap_law.specs.Things.{Thing, sent, stands, noted, things_of}
 use Rattle.heap_law.specs.Follow.{Standing, threads_in}
 use Rattle.heap_law.specs.Sight.{Sight, sight}
+use Rattle.heap_law.specs.Balances.{Agree}
+use Rattle.heap_law.specs.Requests.{Branch, half_noted, pair_notes, branch_places, pair_places}
 use Rattle.heap_law.specs.Weights.{tasks_of, is_thread}
 use Rattle.heap_law.specs.Sharing.{is_over, going_on, finished, going_notes, goes_on, owes, owed, kept_note, got_phase, results, has_ended, named_pair}
 use Rattle.heap_law.specs.Following.{TasksNoted, FollowLaw}
+use Rattle.heap_law.proofs.Named.{named_there}
 
 module _ (s : Sight) (t : ℕ) where
   -- what a parent that was answered by its pair has of the thread
@@ -86,5 +88,81 @@ all_unnamed : (k : Cluster) → TasksNoted k → (xs : List Standing) → ((x : 
 all_unnamed k p [] i = refl
 all_unnamed k p (x ∷ xs) i = omega (arith, unnamed_by k p x (i x (inl refl)) x.thread.phase refl, all_unnamed k p xs (λ y h. i y (inr h)))
 
+-- TWO OF A PAIR
+
+abbrev is_pair : TaskState → ℕ
+is_pair (in_pair p over) = 1
+is_pair u = 0
+
+module _ (s : Sight) (t : ℕ) where
+  -- a note of the thread in a pair
+  abbrev paired : Thing → ℕ
+  paired (noted r x) = if_so (x.thread == t) (is_pair x.state)
+  paired x = 0
+
+  note_paired : (q : Bool) (u : TaskState) → if_so q (is_pair u) ≤ one (q && going_on u) + if_so q (kept_note u)
+  note_paired true (in_pair p true) = omega arith
+  note_paired true (in_pair p false) = omega arith
+  note_paired true going = omega arith
+  note_paired true let_go = omega arith
+  note_paired true (kept v) = omega arith
+  note_paired true (asked r v) = omega arith
+  note_paired false u = omega arith
+
+  paired_once : (x : Thing) → paired x + finished t x ≤ going_notes t x + results s t x
+  paired_once (noted r x) = omega (arith, note_paired (x.thread == t) x.state)
+  paired_once (sent r m) = omega arith
+  paired_once _ = omega arith
+
+  paired_sum : (b : List Thing) → tot paired b + tot (finished t) b ≤ tot (going_notes t) b + tot (results s t) b
+  paired_sum [] = omega arith
+  paired_sum (x ∷ b) = omega (arith, paired_once x, paired_sum b)
+
+  half_is : (p : ℕ) (u : TaskState) (q : Bool) → one (q && half_noted u p) ≤ if_so q (is_pair u)
+  half_is p (in_pair r over) true = at_most_one (r == p)
+    where
+      at_most_one : (q : Bool) → one q ≤ 1
+      at_most_one true = omega arith
+      at_most_one false = omega arith
+  half_is p going true = omega arith
+  half_is p let_go true = omega arith
+  half_is p (kept v) true = omega arith
+  half_is p (asked r v) true = omega arith
+  half_is p u false = omega arith
+
+  note_by : (q u v : Bool) (n : ℕ) → one (u && v) ≤ n → one ((q && u) && v) ≤ n
+  note_by true u v n l = l
+  note_by false u v n l = omega arith
+
+  note_each : (r p : ℕ) (x : Thing) → pair_notes (record { server = r; parent = p; thread = t }) x ≤ paired x
+  note_each r p (noted q x) = note_by (q == r) (x.thread == t) (half_noted x.state p) (if_so (x.thread == t) (is_pair x.state)) (half_is p x.state (x.thread == t))
+  note_each r p _ = omega arith
+
+  note_all : (r p : ℕ) (b : List Thing) → tot (pair_notes (record { server = r; parent = p; thread = t })) b ≤ tot paired b
+  note_all r p [] = omega arith
+  note_all r p (x ∷ b) = omega (arith, note_each r p x, note_all r p b)
+
+abbrev branch_of : Standing → ℕ → Branch
+branch_of x t = record { server = x.server; parent = x.thread.number; thread = t }
+
+place_by : (x : Standing) (t : ℕ) (b : List Thing) → Among x (threads_in b) → branch_places t x.thread.phase ≤ tot (pair_places (branch_of x t)) b
+place_by x t [] h = absurd h
+place_by x t (stands r p y ∷ b) (inl e) =
+    let q : (r == r) ≡ true = grind (arith, nat_tests) in
+    let n : (y.number == y.number) ≡ true = grind (arith, nat_tests) in
+    let here : branch_places t y.phase ≤ if_so (r == r && y.number == y.number) (branch_places t y.phase) = rw q (rw n (omega arith)) in
+    let there : branch_places t x.thread.phase ≤ pair_places (branch_of x t) (stands r p y) = subst (λ (z : Standing). branch_places t z.thread.phase ≤ pair_places (branch_of z t) (stands r p y)) e here in
+    omega (arith, there)
+place_by x t (stands r p y ∷ b) (inr h) = omega (arith, place_by x t b h)
+place_by x t (_ ∷ b) h = omega (arith, place_by x t b h)
+
+two_differ : (k : Cluster) → TasksNoted k → Agree pair_notes pair_places (things_of k) → (x : Standing) (a b : ℕ) → Among x (sight k).ground.threads → x.thread.phase ≡ phase.WaitPar a b → a ≢ b
+two_differ k p g x a b h e same =
+    let z = sums (sight k) a (things_of k) in
+    let r = z.1 in
+    let both : branch_places a (phase.WaitPar a b) ≡ 2 = subst (λ u. one (a == a) + one (u == a) ≡ 2) same (omega (arith, one_itself a)) in
+    let places : branch_places a (phase.WaitPar a b) ≤ tot (pair_places (branch_of x a)) (things_of k) = subst (λ f. branch_places a f ≤ tot (pair_places (branch_of x a)) (things_of k)) e (place_by x a (things_of k) h) in
+    omega (arith, r, both, places, g (branch_of x a), note_all (sight k) a x.server x.thread.number (things_of k), paired_sum (sight k) a (things_of k), p.numbers_differ a, p.noted_go_on a, p.one_result a)
+
 pub follow_law : FollowLaw
-follow_law = record { one_task_value = one_task; pairs_unnamed = λ k p. all_unnamed k p (sight k).ground.threads (λ x h. h) }
+follow_law = record { one_task_value = one_task; pairs_differ = two_differ; pairs_unnamed = λ k p. all_unnamed k p (sight k).ground.threads (λ x h. h); named_are_there = named_there }

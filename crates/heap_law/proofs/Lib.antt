@@ -11,6 +11,8 @@ pub mod SeesThreads
 pub mod Unbroken
 pub mod Ranks
 mod Following
+pub mod Bags
+mod Named
 pub mod Words
 pub mod Passing
 pub mod Followed

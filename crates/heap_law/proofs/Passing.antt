@@ -1,12 +1,11 @@
 -- Paths are what `locate` computes, and what a write has passed is what is counted.
-use Rattle.std.proofs.Common.{◌≡◌, ◌⊎◌, inl, inr, ⊎_elim, ℕ, zero, suc, ◌+◌, ◌<◌, ◌≤◌, Bool, true, false, ◌&&◌, List, [], ◌∷◌, ◌++◌, length, reverse, Option, Some, None, refl, sym, ap, subst, ◌∙◌, arith}
+use Rattle.std.proofs.Common.{◌≡◌, inl, inr, ℕ, zero, suc, ◌+◌, ◌<◌, ◌≤◌, Bool, true, false, ◌&&◌, List, [], ◌∷◌, ◌++◌, length, Option, Some, None, refl, sym, ap, subst, ◌∙◌, arith}
 use Rattle.std.specs.Prelude.{◌==◌, slice_get}
 use Rattle.std.proofs.lemmas.Bool.Decides.{nat_tests}
 use Rattle.std.proofs.lemmas.List.{length-reverse}
 use Rattle.std.proofs.lemmas.Grind.{reverse_onto}
 use Rattle.fr_base.specs.declared.name.ObjNo.{ObjNo}
 use Rattle.fr_base.specs.declared.place.Lval.{Lval}
-use Rattle.heap_partition.specs.declared.value.Owned.{Owned}
 use Rattle.heap_partition.specs.declared.value.Owned.TheVariants as owned
 use Rattle.heap_partition.specs.declared.value.Cell.{Cell}
 use Rattle.thread_state.specs.declared.value.Value.{Value}
@@ -16,11 +15,11 @@ use Rattle.heap_law.specs.Names.{tot, one, other, some, same_object, Among}
 use Rattle.heap_law.specs.Things.{Location, at_slot, Thing, lies}
 use Rattle.heap_law.specs.Follow.{Standing, Ground, value_in, value_behind, leads, locate, hop_at, hops_from, hops}
 use Rattle.heap_law.specs.Sight.{Sight, is_stale, sight}
-use Rattle.heap_law.specs.Weights.{lies_at, copies}
-use Rattle.heap_law.specs.Paths.{Path, written_place}
+use Rattle.heap_law.specs.Weights.{lies_at}
+use Rattle.heap_law.specs.Paths.{written_place}
 use Rattle.heap_law.specs.Walking.{path, over_hops, over_place, over_passed, away, passed_wrong, copied_box, passed_boxes_wrong, stale_hop, passed_references_wrong}
 use Rattle.heap_law.specs.Words.{IsStale}
-use Rattle.heap_law.specs.Passing.{PathTo, at_its_slot, by_star, HopOf, PathsLaw, LiesAt, NotCopied, MayPass, over_box, over_reference, to_slot, to_lent_slot, IsPassed, HavePassed, PassedLaw}
+use Rattle.heap_law.specs.Passing.{PathTo, at_its_slot, by_star, HopOf, PathsLaw, LiesAt, MayPass, over_box, over_reference, to_slot, to_lent_slot, IsPassed, HavePassed, PassedLaw}
 use Rattle.heap_law.proofs.Names.{and_left, and_right, same_number}
 use Rattle.heap_law.proofs.Words.{none_at, none_all, tells, told, named, itself}
 

@@ -1,23 +1,21 @@
 -- A walk waits in turn exactly where nothing is counted.
-use Rattle.std.proofs.Common.{◌≡◌, ◌⊎◌, inl, inr, ⊎_elim, ℕ, zero, suc, ◌+◌, ◌<◌, Bool, true, false, ◌&&◌, ◌||◌, if◌then◌else◌, List, [], ◌∷◌, ◌++◌, Option, Some, None, refl, sym, ap, subst, ◌∙◌, arith}
+use Rattle.std.proofs.Common.{◌≡◌, ◌⊎◌, inl, inr, ⊎_elim, ℕ, zero, suc, ◌<◌, Bool, true, false, ◌||◌, if◌then◌else◌, List, [], ◌∷◌, ◌++◌, Option, Some, None, refl, sym, ap, subst, ◌∙◌, arith}
 use Rattle.std.specs.Prelude.{◌==◌, nat_lt}
 use Rattle.std.proofs.lemmas.Bool.Decides.{nat_tests}
 use Rattle.std.proofs.lemmas.List.{append-nil, append_assoc}
 use Rattle.fr_base.specs.declared.place.Lval.{Lval}
-use Rattle.mut_borrow.specs.declared.mutable.MutRef.{MutRef}
 use Rattle.heap_partition.specs.declared.value.Owned.TheVariants as owned
 use Rattle.thread_state.specs.declared.phase.Phase.{Phase}
 use Rattle.thread_state.specs.declared.phase.Phase.TheVariants as phase
 use Rattle.thread_state.specs.declared.value.Value.{Value}
 use Rattle.thread_state.specs.declared.value.Value.TheVariants as value
-use Rattle.heap_law.specs.Names.{tot, other, Among}
+use Rattle.heap_law.specs.Names.{other, Among}
 use Rattle.heap_law.specs.Things.{Location}
 use Rattle.heap_law.specs.Follow.{Standing, Ground, value_in, value_behind, locate, hop_at, hops}
 use Rattle.heap_law.specs.Sight.{Sight}
 use Rattle.heap_law.specs.Paths.{Path, no_path, reads, shares, lends, writes, ends, Awaited, is_spent, to_read, to_write, to_clean, all_to, borrow_to, awaited, is_readable, first_unreadable}
 use Rattle.heap_law.specs.Walking.{path, words_kept, is_awaited, is_hop_word, is_next_hop, waits_in_turn, out_of_turn, turn_wrong}
-use Rattle.heap_law.specs.Passing.{HopOf}
-use Rattle.heap_law.specs.Turn.{IsAsked, AwaitsAt, read_at, before_share, at_share, before_lend, at_lend, CanRead, FirstUnread, NextHop, InTurn, nothing, by_read, by_share, by_lend, by_write, by_end, by_holder, WaitInTurn, TurnLaw}
+use Rattle.heap_law.specs.Turn.{IsAsked, AwaitsAt, read_at, before_share, at_share, before_lend, at_lend, FirstUnread, NextHop, InTurn, nothing, by_read, by_share, by_lend, by_write, by_end, by_holder, WaitInTurn, TurnLaw}
 use Rattle.heap_law.proofs.Names.{and_left, and_right, same_number}
 use Rattle.heap_law.proofs.Words.{none_at, none_all}
 use Rattle.heap_law.proofs.Passing.{located, one_more, at_hop}

@@ -1,5 +1,5 @@
 -- The objects have words exactly where nothing is counted.
-use Rattle.std.proofs.Common.{◌≡◌, ◌⊎◌, inl, inr, ⊎_elim, ℕ, ◌+◌, Bool, true, false, ◌&&◌, if◌then◌else◌, List, [], ◌∷◌, ◌++◌, length, Option, Some, None, refl, sym, ap, subst, ◌∙◌, arith}
+use Rattle.std.proofs.Common.{◌≡◌, ◌⊎◌, inl, inr, ⊎_elim, ℕ, ◌+◌, Bool, true, false, if◌then◌else◌, List, [], ◌∷◌, length, Option, Some, None, refl, sym, ap, subst, ◌∙◌, arith}
 use Rattle.std.specs.Prelude.{◌==◌}
 use Rattle.std.proofs.lemmas.Bool.Decides.{nat_tests}
 use Rattle.fr_base.specs.declared.name.ObjNo.{ObjNo}
@@ -9,8 +9,8 @@ use Rattle.heap_partition.specs.declared.value.Cell.{Cell}
 use Rattle.server_model.specs.Servers.{Cluster}
 use Rattle.heap_law.specs.Names.{tot, other, Among, same_object}
 use Rattle.heap_law.specs.Things.{Location, Thing, lies}
-use Rattle.heap_law.specs.Stale.{is_among, references, lent_places, stale_places, Stale}
-use Rattle.heap_law.specs.Sight.{Sight, Pointer, is_stale, unless, fresh_ones, word_of_object, is_word, sight, word}
+use Rattle.heap_law.specs.Stale.{references, lent_places}
+use Rattle.heap_law.specs.Sight.{Pointer, is_stale, unless, fresh_ones, word_of_object, is_word, sight, word}
 use Rattle.heap_law.specs.Placing.{other_word, same_word_wrong, is_spot, other_spot, homeward_wrong}
 use Rattle.heap_law.specs.Words.{all_pointers, IsStale, Fresh, LeadsTo, HasWords, WordsLaw}
 use Rattle.heap_law.proofs.Names.{and_left, and_right, same_number}

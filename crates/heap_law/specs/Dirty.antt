@@ -1,6 +1,5 @@
 -- DIRTY REFERENCES: a mutable reference through which its object was changed, while it isn't stale (this project's rules).
-use Rattle.std.specs.Prelude.{◌≡◌, ◌+◌, true, Option, Some}
-use Rattle.fr_base.specs.declared.name.ObjNo.{ObjNo}
+use Rattle.std.specs.Prelude.{◌≡◌, true, Some}
 use Rattle.mut_borrow.specs.declared.shared.SharedRef.{SharedRef}
 use Rattle.server_model.specs.Servers.{Cluster}
 use Rattle.heap_law.specs.Names.{Among}

@@ -1,6 +1,6 @@
 -- PATHS as relations (Featherweight Rust's places): where a thread's place leads star by star, and what a write has passed on its way (this project's
 -- rules).
-use Rattle.std.specs.Prelude.{◌≡◌, ℕ, zero, suc, ◌<◌, ◌+◌, ◌-◌, true, List, Option, Some, None, slice_get}
+use Rattle.std.specs.Prelude.{◌≡◌, ℕ, suc, ◌<◌, ◌+◌, ◌-◌, true, List, Option, Some, None, slice_get}
 use Rattle.fr_base.specs.declared.name.ObjNo.{ObjNo}
 use Rattle.fr_base.specs.declared.place.Lval.{Lval}
 use Rattle.heap_partition.specs.declared.value.BoxPtr.{BoxPtr}

@@ -1,6 +1,6 @@
 -- ONE HOME, ONE OWNER, and the words that lead there (in the manner of DRust; colours and stale pointers are this project's rules).
 -- Each function counts what breaks the sentence above it.
-use Rattle.std.specs.Prelude.{ℕ, ◌+◌, ◌==◌, nat_lt, Bool, true, false, not, ◌&&◌, List, [], ◌∷◌, Option, Some, None, is_some}
+use Rattle.std.specs.Prelude.{ℕ, ◌+◌, ◌==◌, nat_lt, Bool, true, false, not, ◌&&◌, List, Option, Some, None, is_some}
 use Rattle.fr_base.specs.declared.name.ObjNo.{ObjNo}
 use Rattle.global_addr.specs.Words.{colour_of, server_of, address_of}
 use Rattle.heap_partition.specs.declared.value.Cell.{Cell}

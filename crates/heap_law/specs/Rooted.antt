@@ -1,6 +1,6 @@
 -- ROOTED: what can be counted of the part on types (this project's rules). The rest of that part speaks of typing and isn't here. Each function
 -- counts what breaks the sentence above it.
-use Rattle.std.specs.Prelude.{ℕ, ◌+◌, ◌==◌, Bool, true, false, List, [], ◌∷◌, length, Option, Some, None, is_some}
+use Rattle.std.specs.Prelude.{ℕ, ◌+◌, ◌==◌, Bool, true, false, List, [], ◌∷◌, length, Option, Some, is_some}
 use Rattle.fr_base.specs.declared.instruction.Instr.{Instr}
 use Rattle.fr_base.specs.declared.instruction.Instr.TheVariants as instr
 use Rattle.heap_partition.specs.declared.value.Owned.{Owned}

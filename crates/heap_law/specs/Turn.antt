@@ -1,15 +1,14 @@
 -- WHAT A WALK WAITS FOR, hop by hop (this project's rules).
-use Rattle.std.specs.Prelude.{◌≡◌, ℕ, zero, suc, ◌<◌, ◌+◌, true, false, List, Option, Some, None}
+use Rattle.std.specs.Prelude.{◌≡◌, ℕ, suc, ◌<◌, true, false, List, Option, Some}
 use Rattle.fr_base.specs.declared.place.Lval.{Lval}
 use Rattle.mut_borrow.specs.declared.mutable.MutRef.{MutRef}
 use Rattle.thread_state.specs.declared.phase.Phase.TheVariants as phase
 use Rattle.thread_state.specs.declared.value.Value.{Value}
-use Rattle.thread_state.specs.declared.value.Value.TheVariants as value
 use Rattle.heap_law.specs.Names.{Among}
 use Rattle.heap_law.specs.Things.{Location}
 use Rattle.heap_law.specs.Follow.{Standing}
 use Rattle.heap_law.specs.Sight.{Sight}
-use Rattle.heap_law.specs.Paths.{Path, no_path, reads, shares, lends, writes, ends, Awaited, to_read, to_write, to_clean, awaited, is_readable}
+use Rattle.heap_law.specs.Paths.{Path, no_path, reads, shares, lends, writes, ends, Awaited, to_read, to_write, to_clean, is_readable}
 use Rattle.heap_law.specs.Walking.{path, words_kept, is_hop_word, turn_wrong}
 use Rattle.heap_law.specs.Passing.{HopOf}
 

@@ -24,7 +24,8 @@ pub fn sound_is_unbroken()
     ensures { SoundLaw }
 {}
 
-/// Sentences that follow from others: each thread has one task value at most, and the two of a pair that have both ended have none.
+/// Sentences that follow from others: each thread has one task value at most, and the two of a pair that have both ended have none; the two of
+/// a pair differ; each mutex that is named is there.
 pub fn some_follow()
     ensures { FollowLaw }
 {}

@@ -1,5 +1,5 @@
 -- The branches of pairs in a coherent cluster.
-use Rattle.std.proofs.Common.{◌≡◌, ◌⊎◌, inl, inr, ⊎_elim, ◌<◌, ℕ, zero, suc, ◌+◌, ◌≤◌, ◌&&◌, Bool, true, false, if◌then◌else◌, List, [], ◌∷◌, Option, Some, None, refl, sym, ap, subst, arith}
+use Rattle.std.proofs.Common.{◌≡◌, ◌⊎◌, inl, inr, ⊎_elim, ◌<◌, ℕ, zero, suc, ◌+◌, ◌≤◌, ◌&&◌, Bool, true, false, if◌then◌else◌, List, [], ◌∷◌, Some, refl, sym, ap, subst, arith}
 use Rattle.std.specs.Prelude.{◌==◌}
 use Rattle.std.proofs.lemmas.Bool.Decides.{nat_tests}
 use Rattle.fr_typing.proofs.PlaceLemmas.{eq_cases}
@@ -13,12 +13,11 @@ use Rattle.heap_law.specs.Things.{Thing, stands, noted, things_of}
 use Rattle.heap_law.specs.Follow.{Standing, threads_in, thread_at}
 use Rattle.heap_law.specs.Sight.{sight}
 use Rattle.heap_law.specs.Weights.{is_thread}
-use Rattle.heap_law.specs.Balances.{AtMostOne}
 use Rattle.heap_law.specs.Requests.{Branch, half_noted, pair_notes, branch_places, pair_places}
 use Rattle.heap_law.specs.OneHeap.{two_in, pair_of, one_heap}
-use Rattle.heap_law.proofs.Names.{and_left, and_right, same_number}
+use Rattle.heap_law.proofs.Names.{and_right, same_number}
 use Rattle.fr_sound.specs.States.{Typing, IsBranch}
-use Rattle.type_law.specs.ClusterTypes.{Types, IsCoherent}
+use Rattle.type_law.specs.ClusterTypes.{IsCoherent}
 use Rattle.type_law.specs.Branches.{IsBranchOf, BranchesLaw}
 
 -- A THREAD BY ITS NUMBER

@@ -1,5 +1,5 @@
 -- What an owned value names has a type of fewer levels, so none owns itself.
-use Rattle.std.proofs.Common.{◌≡◌, inl, inr, ◌<◌, ℕ, suc, ◌+◌, ◌&&◌, Bool, true, false, List, [], ◌∷◌, reverse, Option, Some, None, is_some, not, refl, sym, ap, subst, arith}
+use Rattle.std.proofs.Common.{◌≡◌, inl, inr, ◌<◌, ℕ, suc, ◌+◌, ◌&&◌, Bool, true, false, List, [], ◌∷◌, reverse, Option, Some, None, is_some, not, refl, ap, subst, arith}
 use Rattle.coloured_heap.proofs.Times.{both, number_is, object_is, mutex_is}
 use Rattle.fr_base.specs.declared.name.ObjNo.{ObjNo}
 use Rattle.fr_base.specs.declared.name.MutexNo.{MutexNo}
