@@ -63,11 +63,11 @@ pub record Gave (r : Rest) (gone news : List Thing) (r2 : Rest) : Type 0 where
 
 pub gives_change : (r : Rest) (gone news : List Thing) (v : Owned) (w : Work) → ChangeOf r gone news w.rest → Gave r gone news (give_up v w).rest
 gives_change r gone news (owned.Box p) w c =
-    let m = message.Drop p.word p.object in record { more = message_things (server_of p.word) m; light = record { answers = λ t. refl; pairs = λ b. refl; going = λ t. refl }; change = change_sent r w.rest gone news (server_of p.word) m c }
+    let m = message.Drop p.word p.object in record { more = message_things (server_of p.word) m; light = record { answers = λ t. refl; pairs = λ b. refl; going = λ t. refl; homes = omega arith }; change = change_sent r w.rest gone news (server_of p.word) m c }
 gives_change r gone news (owned.Mutex x) w c =
-    let m = message.Release (released.Mutex x) in record { more = message_things x.home m; light = record { answers = λ t. refl; pairs = λ b. refl; going = λ t. refl }; change = change_sent r w.rest gone news x.home m c }
+    let m = message.Release (released.Mutex x) in record { more = message_things x.home m; light = record { answers = λ t. refl; pairs = λ b. refl; going = λ t. refl; homes = omega arith }; change = change_sent r w.rest gone news x.home m c }
 gives_change r gone news (owned.Task x) w c =
-    let m = message.Release (released.Task x) in record { more = message_things (home_of x) m; light = record { answers = λ t. refl; pairs = λ b. refl; going = λ t. refl }; change = change_sent r w.rest gone news (home_of x) m c }
+    let m = message.Release (released.Task x) in record { more = message_things (home_of x) m; light = record { answers = λ t. refl; pairs = λ b. refl; going = λ t. refl; homes = omega arith }; change = change_sent r w.rest gone news (home_of x) m c }
 gives_change r gone news owned.Nothing w c = record { more = []; light = fair_none; change = record { same = c.same; change = λ f h. omega (arith, c.change f h, tot-append f news []) } }
 gives_change r gone news owned.Unit w c = record { more = []; light = fair_none; change = record { same = c.same; change = λ f h. omega (arith, c.change f h, tot-append f news []) } }
 gives_change r gone news (owned.Int n) w c = record { more = []; light = fair_none; change = record { same = c.same; change = λ f h. omega (arith, c.change f h, tot-append f news []) } }

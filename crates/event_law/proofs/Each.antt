@@ -40,7 +40,7 @@ at_most m n = by (nat_le m n) refl
     by true e z = grind (arith, nat_tests, e)
     by false e z = absurd (cc z)
 
-names_left : (k : Cluster) → Holds k few_names → FewEvents k → NamesLeft k
+pub names_left : (k : Cluster) → Holds k few_names → FewEvents k → NamesLeft k
 names_left k few l n s h =
     let f = many_names (events_of (sight k)) in
     let none : tot f (things_of k) ≡ 0 = few in

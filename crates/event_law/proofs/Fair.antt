@@ -1,6 +1,6 @@
 -- The sums on who waits for an answer, who is noted as a half of a pair and who goes on. They see messages, places in queues, notes, and of a thread its
 -- number, its phase and its server.
-use Rattle.std.proofs.Common.{◌≡◌, ℕ, ◌+◌, ◌==◌, ◌&&◌, not, Bool, true, false, List, [], ◌∷◌, ◌++◌, refl, sym, ap, ap₂, ◌∙◌, arith}
+use Rattle.std.proofs.Common.{◌≡◌, ◌≤◌, ℕ, ◌+◌, ◌==◌, ◌&&◌, not, Bool, true, false, List, [], ◌∷◌, ◌++◌, refl, sym, ap, ap₂, ◌∙◌, arith}
 use Rattle.heap_partition.specs.declared.value.Cell.{Cell}
 use Rattle.thread_state.specs.View.{ThreadState}
 use Rattle.thread_state.specs.declared.phase.Phase.{Phase}
@@ -10,7 +10,7 @@ use Rattle.server_model.specs.Events.{can_step}
 use Rattle.heap_law.specs.Names.{tot, one, if_so}
 use Rattle.heap_law.specs.Things.{Thing, flies, sent, stands, counts}
 use Rattle.heap_law.specs.Requests.{Branch, waits, whole_answer, message_answer, halves, halves_to, halves_needed, pair_notes, pair_places, branch_places}
-use Rattle.heap_law.specs.Sharing.{is_over, finished_of, going_notes, goes_on}
+use Rattle.heap_law.specs.Sharing.{is_over, finished_of, going_notes, goes_on, noted_away}
 use Rattle.heap_law.specs.Balances.{Agree}
 use Rattle.event_law.proofs.Trades.{Same, tot-append}
 use Rattle.event_law.proofs.Unseen.{Unseen}
@@ -20,12 +20,14 @@ pub record Fair (olds news : List Thing) : Type 0 where
   pub answers : (t : ℕ) → tot (halves_to t) news + tot (halves_needed t) olds ≡ tot (halves_to t) olds + tot (halves_needed t) news
   pub pairs : (b : Branch) → tot (pair_notes b) news + tot (pair_places b) olds ≡ tot (pair_notes b) olds + tot (pair_places b) news
   pub going : (t : ℕ) → tot (going_notes t) news + tot (goes_on t) olds ≡ tot (going_notes t) olds + tot (goes_on t) news
+  pub homes : tot noted_away news ≤ tot noted_away olds
 
 -- the sums themselves
 pub record Asking (b : List Thing) : Type 0 where
   pub one_answer : Agree halves_to halves_needed b
   pub pairs_noted : Agree pair_notes pair_places b
   pub noted_go_on : Agree going_notes goes_on b
+  pub noted_at_home : tot noted_away b ≡ 0
 
 -- a weight that sees no more than these do
 pub record Hears (f : Thing → ℕ) : Type 0 where
@@ -82,24 +84,34 @@ goes_heard t = record {
   thread = λ s p q x y e h. ap₂ (λ i j. one (i == t && (not (i == 0) && not (is_over j)))) e h;
 }
 
+pub homes_heard : Hears noted_away
+homes_heard = record {
+  unseen = λ n. record { held = λ p v. refl; shared = λ l r. refl; borrowed = λ l r. refl; locked = λ l m. refl; live = λ a c. refl; free = λ a m. refl; old = λ a. refl; copy = λ s c. refl; used = λ s w. refl; mutex = λ s m. refl };
+  flying = λ w c. refl;
+  counted = λ s a b c d e. refl;
+  thread = λ s p q x y e h. refl;
+}
+
 -- where the weights that see no more change by what goes and what comes, the sums are kept
 pub asking_kept : (a b olds news : List Thing) → ((f : Thing → ℕ) → Hears f → tot f b + tot f olds ≡ tot f a + tot f news) → Fair olds news → Asking a → Asking b
 asking_kept a b olds news change fair k = record {
   one_answer = λ t. omega (arith, change (halves_to t) (halves_heard t), change (halves_needed t) (needed_heard t), fair.answers t, k.one_answer t);
   pairs_noted = λ x. omega (arith, change (pair_notes x) (notes_heard x), change (pair_places x) (places_heard x), fair.pairs x, k.pairs_noted x);
   noted_go_on = λ t. omega (arith, change (going_notes t) (going_heard t), change (goes_on t) (goes_heard t), fair.going t, k.noted_go_on t);
+  noted_at_home = omega (arith, change noted_away homes_heard, fair.homes, k.noted_at_home);
 }
 
 -- FAIR CHANGES TOGETHER
 
 pub fair_none : Fair [] []
-fair_none = record { answers = λ t. refl; pairs = λ b. refl; going = λ t. refl }
+fair_none = record { answers = λ t. refl; pairs = λ b. refl; going = λ t. refl; homes = omega arith }
 
 pub fair_both : (a b c d : List Thing) → Fair a b → Fair c d → Fair (a ++ c) (b ++ d)
 fair_both a b c d p q = record {
   answers = λ t. omega (arith, p.answers t, q.answers t, tot-append (halves_to t) a c, tot-append (halves_to t) b d, tot-append (halves_needed t) a c, tot-append (halves_needed t) b d);
   pairs = λ x. omega (arith, p.pairs x, q.pairs x, tot-append (pair_notes x) a c, tot-append (pair_notes x) b d, tot-append (pair_places x) a c, tot-append (pair_places x) b d);
   going = λ t. omega (arith, p.going t, q.going t, tot-append (going_notes t) a c, tot-append (going_notes t) b d, tot-append (goes_on t) a c, tot-append (goes_on t) b d);
+  homes = omega (arith, p.homes, q.homes, tot-append noted_away a c, tot-append noted_away b d);
 }
 
 -- A THREAD THAT STEPS
@@ -150,6 +162,7 @@ fair_calm n y y2 e c d = record {
     if_none (n == x.server && y2.number == x.parent) (branch_places x.thread y2.phase) (calm_places x.thread y2.phase d),
   );
   going = λ t. let same = ap₂ (λ i j. one (i == t && (not (i == 0) && not j))) e (calm_over y2.phase d ∙ sym (calm_over y.phase c)) in omega (arith, same);
+  homes = omega arith;
 }
 
 -- it asks, and waits for the answer
@@ -169,6 +182,7 @@ fair_asks n a y y2 m e c q = record {
     if_none (n == x.server && y2.number == x.parent) (branch_places x.thread y2.phase) (q.alone x.thread),
   );
   going = λ t. let same = ap₂ (λ i j. one (i == t && (not (i == 0) && not j))) e (q.lives ∙ sym (calm_over y.phase c)) in omega (arith, same, q.goes_on t);
+  homes = omega arith;
 }
 
 -- what weighs nothing more comes beside
@@ -177,6 +191,7 @@ fair_beside olds front news more p q = record {
   answers = λ t. omega (arith, p.answers t, q.answers t, split (halves_to t), split (halves_needed t), whole (halves_to t), whole (halves_needed t));
   pairs = λ x. omega (arith, p.pairs x, q.pairs x, split (pair_notes x), split (pair_places x), whole (pair_notes x), whole (pair_places x));
   going = λ t. omega (arith, p.going t, q.going t, split (going_notes t), split (goes_on t), whole (going_notes t), whole (goes_on t));
+  homes = omega (arith, p.homes, q.homes, split noted_away, whole noted_away);
 }
   where
     split : (f : Thing → ℕ) → tot f (front ++ more) ≡ tot f front + tot f more
@@ -191,6 +206,7 @@ fair_same olds news news2 e p = record {
   answers = λ t. omega (arith, p.answers t, e (halves_to t), e (halves_needed t));
   pairs = λ x. omega (arith, p.pairs x, e (pair_notes x), e (pair_places x));
   going = λ t. omega (arith, p.going t, e (going_notes t), e (goes_on t));
+  homes = omega (arith, p.homes, e noted_away);
 }
 
 pub fair_thread : (olds : List Thing) (n : ℕ) (x y : ThreadState) (news : List Thing) → y.number ≡ x.number → y.phase ≡ x.phase → Fair olds (stands n false x ∷ news) → Fair olds (stands n false y ∷ news)
@@ -198,4 +214,5 @@ fair_thread olds n x y news e h p = record {
   answers = λ t. let a = needed_heard t in omega (arith, p.answers t, a.thread n false false y x e h);
   pairs = λ b. let a = places_heard b in omega (arith, p.pairs b, a.thread n false false y x e h);
   going = λ t. let a = goes_heard t in omega (arith, p.going t, a.thread n false false y x e h);
+  homes = omega (arith, p.homes);
 }

@@ -78,4 +78,5 @@ fair_gets n m y y2 e w c q = record {
         tot-append (going_notes t) (message_things n m) (stands n false y ∷ []),
         tot-append (goes_on t) (message_things n m) (stands n false y ∷ []),
       );
+  homes = omega arith;
 }

@@ -7,13 +7,13 @@ use Rattle.thread_state.specs.View.{ThreadState}
 use Rattle.thread_state.specs.declared.phase.Phase.TheVariants as phase
 use Rattle.server_msgs.specs.declared.message.Message.TheVariants as message
 use Rattle.server_model.specs.Events.{can_step}
-use Rattle.heap_law.specs.Names.{tot, one, if_so}
+use Rattle.heap_law.specs.Names.{tot, one, if_so, other}
 use Rattle.heap_law.specs.Things.{Thing, stands, noted, message_things, task_things, thread_things}
-use Rattle.heap_law.specs.Requests.{Branch, waits, halves_to, halves_needed, pair_notes, pair_places, branch_places}
-use Rattle.heap_law.specs.Sharing.{is_over, going_notes, goes_on}
+use Rattle.heap_law.specs.Requests.{Branch, waits, halves_to, halves_needed, pair_notes, pair_places, branch_places, home_of}
+use Rattle.heap_law.specs.Sharing.{is_over, going_notes, goes_on, noted_away}
 use Rattle.event_law.proofs.Trades.{tot-append}
 use Rattle.event_law.proofs.Unseen.{thread_alone}
-use Rattle.event_law.proofs.Fair.{Fair, Hears, halves_heard, needed_heard, notes_heard, places_heard, going_heard, goes_heard, if_none, needs_none, calm_waits, calm_over, calm_places}
+use Rattle.event_law.proofs.Fair.{Fair, Hears, halves_heard, needed_heard, notes_heard, places_heard, going_heard, goes_heard, homes_heard, if_none, needs_none, calm_waits, calm_over, calm_places}
 
 not_zero : (u : ℕ) → (u ≡ 0 → ⊥) → (u == 0) ≡ false
 not_zero u ne = eq_cases (λ b. b ≡ false) u 0 (λ e. absurd (ne e)) (λ n. refl)
@@ -56,12 +56,19 @@ module _ (s : ℕ) (x : ThreadState) (ready : x.phase ≡ phase.Ready) where
     omega (arith, alone (goes_on t) (goes_heard t), living (x.number == t) (x.number == 0) (is_over x.phase) (not_zero x.number ne) (ap is_over ready)),
   )
 
+  start_homes : tot noted_away (message_things s (message.Start x)) ≡ 0
+  start_homes = omega (arith, alone noted_away homes_heard)
+
+at_home : (u n : ℕ) → home_of u ≡ n → other (home_of u == n) ≡ 0
+at_home u n e = eq_cases (λ b. other b ≡ 0) (home_of u) n (λ q. refl) (λ ne. absurd (ne e))
+
 -- one thread starts, and is noted as going
-pub fair_starts : (n s : ℕ) (x : ThreadState) → x.phase ≡ phase.Ready → (x.number ≡ 0 → ⊥) → Fair [] (task_things n 0 (record { thread = x.number; state = going }) ++ message_things s (message.Start x))
-fair_starts n s x ready ne = record {
+pub fair_starts : (n s : ℕ) (x : ThreadState) → x.phase ≡ phase.Ready → (x.number ≡ 0 → ⊥) → home_of x.number ≡ n → Fair [] (task_things n 0 (record { thread = x.number; state = going }) ++ message_things s (message.Start x))
+fair_starts n s x ready ne home = record {
   answers = λ t. let a = start_answers s x ready t in omega (arith, a.0, a.1);
   pairs = λ b. let a = start_pairs s x ready b in omega (arith, a.0, a.1, none_half (n == b.server && x.number == b.thread));
   going = λ t. let a = start_going s x ready ne t in omega (arith, a.0, a.1, noting (x.number == t));
+  homes = omega (arith, start_homes s x ready, at_home x.number n home);
 }
 
 -- PAIRS
@@ -84,9 +91,9 @@ waits_for_two false = refl
 
 -- two threads start, and their parent waits for both
 pub fair_pair : (n s r : ℕ) (y y2 u v : ThreadState) → y2.number ≡ y.number → can_step y.phase ≡ true → y2.phase ≡ phase.WaitPar u.number v.number
-    → u.phase ≡ phase.Ready → v.phase ≡ phase.Ready → (u.number ≡ 0 → ⊥) → (v.number ≡ 0 → ⊥)
+    → u.phase ≡ phase.Ready → v.phase ≡ phase.Ready → (u.number ≡ 0 → ⊥) → (v.number ≡ 0 → ⊥) → home_of u.number ≡ n → home_of v.number ≡ n
     → Fair (stands n false y ∷ []) (stands n false y2 ∷ (task_things n 0 (record { thread = u.number; state = in_pair y2.number false }) ++ task_things n 0 (record { thread = v.number; state = in_pair y2.number false }) ++ message_things s (message.Start u) ++ message_things r (message.Start v)))
-fair_pair n s r y y2 u v same c waiting ready ready2 ne ne2 = record {
+fair_pair n s r y y2 u v same c waiting ready ready2 ne ne2 home home2 = record {
   answers = λ t.
       let a = start_answers s u ready t in
       let b = start_answers r v ready2 t in
@@ -114,6 +121,7 @@ fair_pair n s r y y2 u v same c waiting ready ready2 ne ne2 = record {
       let b = start_going r v ready2 ne2 t in
       let w = ap₂ (λ i j. one (i == t && (not (i == 0) && not j))) same (ap is_over waiting ∙ sym (calm_over y.phase c)) in
       omega (arith, a.0, a.1, b.0, b.1, w, noting (u.number == t), noting (v.number == t), whole (going_notes t), whole (goes_on t));
+  homes = omega (arith, start_homes s u ready, start_homes r v ready2, at_home u.number n home, at_home v.number n home2, whole noted_away);
 }
   where
     whole : (f : Thing → ℕ)
@@ -144,6 +152,7 @@ fair_main_ends n y y2 same c over main = record {
     if_none (n == x.server && y2.number == x.parent) (branch_places x.thread y2.phase) (ap (branch_places x.thread) over),
   );
   going = λ t. omega (arith, main_none (y.number == t) (y.number == 0) (is_over y.phase) main, over_none (y2.number == t) (y2.number == 0) (is_over y2.phase) (ap is_over over));
+  homes = omega arith;
 }
 
 -- another thread is over, and its result goes home
@@ -159,4 +168,5 @@ fair_ends n s y y2 v same c over other = record {
   going = λ t.
       let number : one (y2.number == t) ≡ one (y.number == t) = ap (λ i. one (i == t)) same in
       omega (arith, number, living (y.number == t) (y.number == 0) (is_over y.phase) other (calm_over y.phase c), over_none (y2.number == t) (y2.number == 0) (is_over y2.phase) (ap is_over over));
+  homes = omega arith;
 }

@@ -61,3 +61,6 @@ pub mod TurnNotes
 pub mod TurnFinished
 pub mod TurnPairs
 pub mod TurnEvents
+pub mod HaveResults
+pub mod StandsHere
+pub mod AnswerResults

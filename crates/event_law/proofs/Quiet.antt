@@ -1,5 +1,5 @@
 -- What a step says: making a place ready says nothing but the request that it may end with, and values that are dropped say nothing that is answered.
-use Rattle.std.proofs.Common.{◌≡◌, ℕ, ◌+◌, true, false, if◌then◌else◌, List, [], ◌∷◌, ◌++◌, length, refl, sym, subst, ◌∙◌, arith}
+use Rattle.std.proofs.Common.{◌≡◌, ℕ, ◌+◌, true, false, if◌then◌else◌, List, [], ◌∷◌, ◌++◌, length, refl, sym, subst, ◌∙◌, arith, Bool, ◌==◌}
 use Rattle.fr_typing.proofs.PlaceLemmas.{eq_cases}
 use Rattle.global_addr.specs.Words.{server_of}
 use Rattle.mutex_home.specs.Mutexes.{Mutexes}
@@ -62,24 +62,32 @@ says_sent r r1 news t m a =
           omega (arith, a.more f h, sent_now, all_sent-append f r1.outbox (record { target = t; message = m } ∷ []), tot-append f news (message_things t m));
     })
 
+pub sent_started : (r : Rest) (t : ℕ) (m : Message) → (sent_from r t m).started ≡ r.started
+sent_started r t m = by (t == r.number)
+  where
+    by : (b : Bool) → (if b then record r { inbox = r.inbox ++ m ∷ [] } else record r { outbox = r.outbox ++ record { target = t; message = m } ∷ [] }).started ≡ r.started
+    by true = refl
+    by false = refl
+
 -- IN THE MIDDLE OF A STEP
 
 -- the thread is in the phase in which it began, and nothing that is answered was said
-pub record Quietly (y : ThreadState) (r : Rest) (p : Phase) (t n : ℕ) (i : List Message) (o : List Sent) (ms : Mutexes) (ts : List Task) : Type 0 where
+pub record Quietly (y : ThreadState) (r : Rest) (p : Phase) (t n : ℕ) (i : List Message) (o : List Sent) (ms : Mutexes) (ts : List Task) (c : ℕ) : Type 0 where
   pub still : p ≡ y.phase
   pub named : t ≡ y.number
+  pub begun : c ≡ r.started
   pub news : List Thing
   pub says : Says r news n i o ms ts
   pub light : Fair [] news
 
 abbrev pub quiet : ThreadState → Rest → Told
-quiet y r p t n i o ms ts = Quietly y r p t n i o ms ts
+quiet y r p t n i o ms ts c = Quietly y r p t n i o ms ts c
 
 abbrev pub Quiet : ThreadState → Rest → Hand → Type 0
 Quiet y r h = Holds (quiet y r) h
 
 pub quiet_start : (y : ThreadState) (w : Work) → Quiet y w.rest (record { work = w; thread = y })
-quiet_start y w = record { still = refl; named = refl; news = []; says = says_nothing w.rest; light = fair_none }
+quiet_start y w = record { still = refl; named = refl; begun = refl; news = []; says = says_nothing w.rest; light = fair_none }
 
 -- at its end the thread and what was said weigh as the thread did
 pub record After (y : ThreadState) (r : Rest) (h : Hand) : Type 0 where
@@ -93,6 +101,7 @@ module _ (y : ThreadState) (r : Rest) where
   quiet_sends t m h l g = record {
     still = g.still;
     named = g.named;
+    begun = sent_started h.work.rest t m ∙ g.begun;
     news = g.news ++ message_things t m;
     says = says_sent r h.work.rest g.news t m g.says;
     light = fair_both [] g.news [] (message_things t m) g.light l;

@@ -1,5 +1,5 @@
 -- What the plain step of each instruction says, and how its thread is then.
-use Rattle.std.proofs.Common.{◌≡◌, ℕ, ℤ, zero, suc, ◌+◌, ◌*◌, ◌^◌, ◌==◌, Bool, true, false, if◌then◌else◌, List, [], ◌∷◌, ◌++◌, Option, Some, None, refl, sym, ap, subst, ◌∙◌, append_assoc, arith}
+use Rattle.std.proofs.Common.{◌≡◌, ℕ, ℤ, zero, suc, ◌+◌, ◌*◌, ◌^◌, ◌<◌, ◌==◌, Bool, true, false, if◌then◌else◌, List, [], ◌∷◌, ◌++◌, Option, Some, None, refl, sym, ap, subst, ◌∙◌, append_assoc, arith}
 use Rattle.std.specs.Prelude.{slice_get}
 use Rattle.std.specs.Bool.{⊤}
 use Rattle.fr_base.specs.Rooms.{WithRoom}
@@ -26,7 +26,6 @@ use Rattle.thread_state.specs.declared.phase.Phase.{Phase}
 use Rattle.thread_state.specs.declared.phase.Phase.TheVariants as phase
 use Rattle.thread_state.specs.declared.value.Value.{Value}
 use Rattle.thread_state.specs.declared.value.Value.TheVariants as value
-use Rattle.server_msgs.specs.declared.message.Message.{Message}
 use Rattle.server_msgs.specs.declared.message.Message.TheVariants as message
 use Rattle.journal.specs.declared.act.Act.TheVariants as act
 use Rattle.server_model.specs.Servers.{Rest, Server}
@@ -43,11 +42,11 @@ use Rattle.event_law.specs.Laws.{Gives}
 use Rattle.event_law.proofs.Results.{then_gives, map_gives, over_gives, bind_gives, test_gives}
 use Rattle.event_law.proofs.Trades.{tot-append, tot-push}
 use Rattle.event_law.proofs.Bags.{sent_number}
-use Rattle.event_law.proofs.Fair.{Fair, fair_both, fair_beside, fair_same, fair_thread}
+use Rattle.event_law.proofs.Fair.{Fair, fair_both, fair_beside, fair_same, fair_thread, fair_calm}
 use Rattle.event_law.proofs.FairStarts.{fair_starts, fair_pair, fair_main_ends, fair_ends}
 use Rattle.event_law.proofs.KnownPlaces.{put_keeps, pointer_keeps}
 use Rattle.event_law.proofs.KnownPrepares.{Ok, Fine, prepare_fine}
-use Rattle.event_law.proofs.Quiet.{SaysOf, Quiet, quiet, quiet_sends, quiet_asks, After, calm_after, asks_after, says_sent}
+use Rattle.event_law.proofs.Quiet.{sent_started, SaysOf, Quiet, quiet, quiet_sends, quiet_asks, After, calm_after, asks_after, says_sent}
 
 -- a note more, and a mutex more for which nobody waits
 noted_more : (r : Rest) (news : List Thing) (x : Task) (r1 : Rest) → SaysOf r news r1 → SaysOf r (news ++ task_things r.number 0 x) (record r1 { tasks = r1.tasks ++ x ∷ [] })
@@ -65,14 +64,7 @@ made_more r news v r1 a =
           omega (arith, a.more f h, tot-push (mutex_things r.number) f r1.mutexes.there 0 x, u.mutex r.number x, u.held (as_content x.number) v);
     }
 
-sent_started : (r : Rest) (t : ℕ) (m : Message) → (sent_from r t m).started ≡ r.started
-sent_started r t m = by (t == r.number)
-  where
-    by : (b : Bool) → (if b then record r { inbox = r.inbox ++ m ∷ [] } else record r { outbox = r.outbox ++ record { target = t; message = m } ∷ [] }).started ≡ r.started
-    by true = refl
-    by false = refl
-
-module _ (y : ThreadState) (r : Rest) (calm : can_step y.phase ≡ true) where
+module _ (y : ThreadState) (r : Rest) (calm : can_step y.phase ≡ true) (names : r.started + 2 < 2 ^ 32) where
   abbrev Q : Hand → Type 0
   Q = Quiet y r
 
@@ -102,9 +94,9 @@ module _ (y : ThreadState) (r : Rest) (calm : can_step y.phase ≡ true) where
   -- VALUES
 
   gives : (v : Owned) (h : Hand) → Q h → Q (working (give_up v) h)
-  gives (owned.Box p) h g = quiet_sends y r (server_of p.word) (message.Drop p.word p.object) (working (note (act.Condemn p.object p.word)) h) (record { answers = λ t. refl; pairs = λ b. refl; going = λ t. refl }) g
-  gives (owned.Mutex m) h g = quiet_sends y r m.home (message.Release (released.Mutex m)) (working (note (act.LetGo (released.Mutex m))) h) (record { answers = λ t. refl; pairs = λ b. refl; going = λ t. refl }) g
-  gives (owned.Task t) h g = quiet_sends y r (home_of t) (message.Release (released.Task t)) (working (note (act.LetGo (released.Task t))) h) (record { answers = λ t. refl; pairs = λ b. refl; going = λ t. refl }) g
+  gives (owned.Box p) h g = quiet_sends y r (server_of p.word) (message.Drop p.word p.object) (working (note (act.Condemn p.object p.word)) h) (record { answers = λ t. refl; pairs = λ b. refl; going = λ t. refl; homes = omega arith }) g
+  gives (owned.Mutex m) h g = quiet_sends y r m.home (message.Release (released.Mutex m)) (working (note (act.LetGo (released.Mutex m))) h) (record { answers = λ t. refl; pairs = λ b. refl; going = λ t. refl; homes = omega arith }) g
+  gives (owned.Task t) h g = quiet_sends y r (home_of t) (message.Release (released.Task t)) (working (note (act.LetGo (released.Task t))) h) (record { answers = λ t. refl; pairs = λ b. refl; going = λ t. refl; homes = omega arith }) g
   gives owned.Nothing h g = g
   gives owned.Unit h g = g
   gives (owned.Int n) h g = g
@@ -215,6 +207,7 @@ module _ (y : ThreadState) (r : Rest) (calm : can_step y.phase ≡ true) where
       (bind_gives (PoppedQ Owned) Q (pop_owned o h) _ (pops_owned o h g) (λ p u. test_gives Q (can_make p.hand.work.rest.mutexes) _ (λ z. record {
         still = u.still;
         named = u.named;
+        begun = u.begun;
         news = u.news;
         says = made_more r u.news p.item p.hand.work.rest u.says;
         light = u.light;
@@ -238,7 +231,7 @@ module _ (y : ThreadState) (r : Rest) (calm : can_step y.phase ≡ true) where
   unlocks h g =
       bind_gives (PoppedQ Owned) Q (then_some (pop_slot h) (taken_as owned_of)) _ (takes_as owned_of (pop_slot h) (pops_slot h g)) (λ v u.
       over_gives (PoppedQ MutexNo) Q (then_some (pop_slot v.hand) (taken_as held_of)) _ (takes_as held_of (pop_slot v.hand) (pops_slot v.hand u)) (λ m w.
-      quiet_sends y r m.item.home (message.Unlock m.item v.item) (working (λ x. label_all (label.Unlock m.item ∷ []) (note (act.GiveBack m.item) x)) m.hand) (record { answers = λ t. refl; pairs = λ b. refl; going = λ t. refl }) w))
+      quiet_sends y r m.item.home (message.Unlock m.item v.item) (working (λ x. label_all (label.Unlock m.item ∷ []) (note (act.GiveBack m.item) x)) m.hand) (record { answers = λ t. refl; pairs = λ b. refl; going = λ t. refl; homes = omega arith }) w))
 
   -- THREADS
 
@@ -256,29 +249,36 @@ module _ (y : ThreadState) (r : Rest) (calm : can_step y.phase ≡ true) where
   new_name : (a b : ℕ) → a * 2 ^ 32 + (b + 1) ≡ 0 → ⊥
   new_name a b e = absurd (omega (arith, e))
 
+  home_here : (a b c : ℕ) → a ≡ r.number → b ≡ r.started → c ≡ a * 2 ^ 32 + (b + 1) → home_of c ≡ r.number
+  home_here a b c e h q = omega (arith, e, h, q, names)
+
   spawns : (servers : ℕ) (cs : WithRoom (ℕ × Bool)) (pc : ℕ) (h : Hand) → Q h → ThenBy (spawn servers cs pc h)
   spawns servers cs pc h g =
-      let u = next_thread h.work.rest in
-      done_then _ _ (over_gives Q Then (then_some (capture false cs.items h.thread.slots) (spawn_with servers pc u h)) go_on
-      (then_gives Q (capture false cs.items h.thread.slots) _ (λ new q.
-      over_gives (λ h2. h2 ≡ working (with_tasks (begin h.work.rest.tasks u)) h) Q (begun h) _
-      (test_gives (λ h2. h2 ≡ working (with_tasks (begin h.work.rest.tasks u)) h) (can_begin h.work.rest.tasks u) _ (λ z. refl))
-      (λ h2 same. started new h2 same))) on)
+      done_then _ _ (over_gives (λ z. Then (go_on z)) Then (then_some (capture false cs.items h.thread.slots) (spawn_with servers pc u h)) go_on
+      (then_gives (λ z. Then (go_on z)) (capture false cs.items h.thread.slots) _ (λ new q.
+      over_gives (λ h2. h2 ≡ noted) (λ z. Then (go_on z)) (begun h) _ (test_gives (λ h2. h2 ≡ noted) (can_begin h.work.rest.tasks u) _ (λ z. refl)) (λ h2 same. started new h2 same))) (λ z k. k))
     where
-      started : (new : List Value × List Value) (h2 : Hand) → h2 ≡ working (with_tasks (begin h.work.rest.tasks (next_thread h.work.rest))) h
-          → Q (push_temp (value.Own (owned.Task (next_thread h.work.rest))) (working (start_thread servers pc new.0) (with_slots new.1 h2)))
+      u : ℕ
+      u = next_thread h.work.rest
+
+      noted : Hand
+      noted = working (with_tasks (begin h.work.rest.tasks u)) h
+
+      started : (new : List Value × List Value) (h2 : Hand) → h2 ≡ noted → Then (go_on (push_temp (value.Own (owned.Task u)) (working (start_thread servers pc new.0) (with_slots new.1 h2))))
       started new h2 same =
-          let u = next_thread h.work.rest in
           let x = new_thread u pc new.0 in
           let s = server_for servers h.work.rest in
           let n = task_things r.number 0 (record { thread = u; state = going }) in
           let m = message_things s (message.Start x) in
-          subst (λ z. Q (push_temp (value.Own (owned.Task u)) (working (start_thread servers pc new.0) (with_slots new.1 z)))) (sym same) (record {
-            still = g.still;
+          let y2 : ThreadState = record h.thread { pc = h.thread.pc + 1; slots = new.1; temps = h.thread.temps ++ value.Own (owned.Task u) ∷ []; phase = phase.Ready } in
+          let says = g.says in
+          let home = home_here h.work.rest.number h.work.rest.started u says.same g.begun refl in
+          let light = subst (Fair []) (sym (append_assoc g.news n m)) (fair_both [] g.news [] (n ++ m) g.light (fair_starts r.number s x refl (new_name h.work.rest.number h.work.rest.started) home)) in
+          subst (λ z. Then (go_on (push_temp (value.Own (owned.Task u)) (working (start_thread servers pc new.0) (with_slots new.1 z))))) (sym same) (record {
             named = g.named;
             news = (g.news ++ n) ++ m;
             says = says_sent r (record h.work.rest { tasks = h.work.rest.tasks ++ record { thread = u; state = going } ∷ []; started = h.work.rest.started + 1 }) (g.news ++ n) s (message.Start x) (noted_more r g.news (record { thread = u; state = going }) h.work.rest g.says);
-            light = subst (Fair []) (sym (append_assoc g.news n m)) (fair_both [] g.news [] (n ++ m) g.light (fair_starts r.number s x refl (new_name h.work.rest.number h.work.rest.started)));
+            fair = fair_both (stands r.number false y ∷ []) (stands r.number false y2 ∷ []) [] ((g.news ++ n) ++ m) (fair_calm r.number y y2 g.named calm refl) light;
           })
 
   pars : (servers : ℕ) (cs : WithRoom (ℕ × Bool)) (pc : ℕ) (ds : WithRoom (ℕ × Bool)) (other : ℕ) (h : Hand) → Q h → ThenBy (par servers cs pc ds other h)
@@ -312,7 +312,10 @@ module _ (y : ThreadState) (r : Rest) (calm : can_step y.phase ≡ true) where
           let m2 = message_things s2 (message.Start v) in
           let notes = noted_more r (g.news ++ n1) (record { thread = a + 1; state = state }) (record rest { tasks = rest.tasks ++ record { thread = a; state = state } ∷ [] }) (noted_more r g.news (record { thread = a; state = state }) rest g.says) in
           let first_sent = says_sent r counted ((g.news ++ n1) ++ n2) s (message.Start u) notes in
-          let fair = fair_pair r.number s s2 y y2 u v g.named calm (ap (λ i. phase.WaitPar a i) (sym next)) refl refl (new_name rest.number rest.started) (λ e. absurd (omega (arith, e, next))) in
+          let says = g.says in
+          let home = home_here rest.number rest.started a says.same g.begun refl in
+          let home2 : home_of (next_thread r1) ≡ r.number = omega (arith, next, says.same, g.begun, names) in
+          let fair = fair_pair r.number s s2 y y2 u v g.named calm (ap (λ i. phase.WaitPar a i) (sym next)) refl refl (new_name rest.number rest.started) (λ e. absurd (omega (arith, e, next))) home home2 in
           let fair2 : Fair (stands r.number false y ∷ []) (stands r.number false y2 ∷ (n1 ++ n2 ++ m1 ++ m2)) = subst (λ i. Fair (stands r.number false y ∷ []) (stands r.number false y2 ∷ (n1 ++ task_things r.number 0 (record { thread = i; state = state }) ++ m1 ++ m2))) next fair in
           subst (λ z. Then (with_phase (phase.WaitPar a (a + 1)) (go_on (working (λ w. start_thread servers other second.0 (start_thread servers pc first w)) (with_slots second.1 z))))) (sym same) (record {
             named = g.named;

@@ -45,7 +45,7 @@ module _ (r : ℕ) where
   message_none s _ = refl
 
   -- a server counts once
-  server_once : (s : Server) → tot f (server_things s) ≡ one (s.rest.number == r)
+  pub server_once : (s : Server) → tot f (server_things s) ≡ one (s.rest.number == r)
   server_once s =
       let n = s.rest.number in
       omega (

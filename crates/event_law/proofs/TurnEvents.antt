@@ -33,6 +33,7 @@ use Rattle.event_law.specs.Laws.{Gives, FewEvents, SendsToServers, EachEventLeav
 use Rattle.event_law.proofs.Results.{then_gives, over_gives, test_gives, weaker}
 use Rattle.event_law.proofs.Events.{tot-server}
 use Rattle.event_law.proofs.MutexLists.{mutex_goes}
+use Rattle.event_law.proofs.Each.{names_left}
 use Rattle.event_law.proofs.FinishSteps.{notes_rise}
 use Rattle.event_law.proofs.Applied.{go_with}
 use Rattle.event_law.proofs.Handing.{hand_over_newer_law}
@@ -96,8 +97,8 @@ module _ (k : Cluster) (sound : IsSound k) (few : FewEvents k) (number : ℕ) (s
         gift_turns s i (message.Dupped m t) q t y e (record { whole = refl; goes_on = λ u. refl; plain = λ f h. omega arith }) (owned.Mutex m) y.gift (record { work = (received i s).work; thread = y }) (awaits_dup y.phase m on) (quiet_start y (received i s).work)))
     message_turns (message.Release (released.Mutex x)) q = beside s i (message.Release (released.Mutex x)) q (release (released.Mutex x)) (release_turns s i x (none_waits i x) q)
     message_turns (message.Release (released.Task u)) q = beside s i (message.Release (released.Task u)) q (release (released.Task u)) (let_go_turns s i u q)
-    message_turns (message.Start t) q = arrives s i (message.Start t) t q (λ f. refl) (record { answers = λ u. refl; pairs = λ b. refl; going = λ u. refl })
-    message_turns (message.Migrate t) q = arrives s i (message.Migrate t) t q (λ f. refl) (record { answers = λ u. refl; pairs = λ b. refl; going = λ u. refl })
+    message_turns (message.Start t) q = arrives s i (message.Start t) t q (λ f. refl) (record { answers = λ u. refl; pairs = λ b. refl; going = λ u. refl; homes = omega arith })
+    message_turns (message.Migrate t) q = arrives s i (message.Migrate t) t q (λ f. refl) (record { answers = λ u. refl; pairs = λ b. refl; going = λ u. refl; homes = omega arith })
     message_turns (message.Join u r t) q = beside s i (message.Join u r t) q (deliver_join u r t) (join_turns s i u r t q)
     message_turns (message.Joined u v t) q =
         at s i (message.Joined u v t) q (received i s).work t (deliver_joined u v) (λ y e. test_gives _ (waits_for_join y.phase u) _ (λ on.
@@ -124,7 +125,7 @@ module _ (k : Cluster) (sound : IsSound k) (few : FewEvents k) (number : ℕ) (s
 
       by : (o : Option ThreadState) → thread_in s.threads t ≡ o → has_phase can_step o ≡ true → Gives (ThreadKnown k.servers) o → Gives Done (option_map (stepped s) (then_some (option_map (λ y. record { work = begin_work s.rest; thread = y }) o) (step_in k.code k.options.servers)))
       by None e on a = tt
-      by (Some y) e on a = step_turns s t y e k.servers k.code k.options.servers on (record { home_here = a.0; slots_known = a.1; temps_known = a.2; partition_known = all.partition; copies_known = all.copies })
+      by (Some y) e on a = step_turns s t y e k.servers k.code k.options.servers on (names_left k sound.names.few_names few number s here) (record { home_here = a.0; slots_known = a.1; temps_known = a.2; partition_known = all.partition; copies_known = all.copies })
 
   -- EVICTIONS AND MIGRATIONS
 

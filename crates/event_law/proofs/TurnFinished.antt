@@ -78,6 +78,7 @@ fair_over n u o a b v x z y y2 e d first second waiting same got match = record 
   going = λ t.
       let lives = ap₂ (λ i j. one (i == t && (not (i == 0) && not j))) same (ap is_over got ∙ sym (ap is_over waiting)) in
       omega (arith, lives, noting (u == t), none_so (o == t), f (going_notes t), h (going_notes t));
+  homes = omega arith;
 }
   where
     f : (g : Thing → ℕ) → g (noted n x) ≡ g (noted n (record { thread = u; state = in_pair y.number false }))
@@ -155,7 +156,7 @@ module _ (s : Server) (i u : ℕ) (v : Owned) (q : slice_get s.rest.inbox i ≡ 
         gone = noted n x ∷ [];
         news = new;
         change = change_state r u x (in_pair p true) e;
-        fair = fair_noted (message_things n m) n u x (in_pair p false) new (task_number r.tasks u x e) h (record { answers = λ k. omega arith; pairs = λ b. omega arith; going = λ k. omega (arith, noting (u == k), none_so (u == k)) });
+        fair = fair_noted (message_things n m) n u x (in_pair p false) new (task_number r.tasks u x e) h (record { answers = λ k. omega arith; pairs = λ b. omega arith; going = λ k. omega (arith, noting (u == k), none_so (u == k)); homes = omega arith });
       })
   pair_case x p e h (Some o) d = both_over x p e h o d
 
@@ -167,13 +168,13 @@ module _ (s : Server) (i u : ℕ) (v : Owned) (q : slice_get s.rest.inbox i ≡ 
         news = new;
         change = change_state r u x (kept v) e;
         fair = fair_noted (message_things n m) n u x going new (task_number r.tasks u x e) h
-            (record { answers = λ k. omega arith; pairs = λ b. omega (arith, none_so (n == b.server && u == b.thread)); going = λ k. omega (arith, noting (u == k), none_so (u == k)) });
+            (record { answers = λ k. omega arith; pairs = λ b. omega (arith, none_so (n == b.server && u == b.thread)); going = λ k. omega (arith, noting (u == k), none_so (u == k)); homes = omega arith });
       })
   state x e let_go h =
       let w = with_tasks (without_task r.tasks u) start in
       rest_turns s i m q (give_up v w).rest (lets_go s i m q (noted n x ∷ []) [] v w (change_gone r u x e)
       (fair_noted (message_things n m) n u x let_go [] (task_number r.tasks u x e) h
-      (record { answers = λ k. omega arith; pairs = λ b. omega (arith, none_so (n == b.server && u == b.thread)); going = λ k. omega (arith, noting (u == k)) })))
+      (record { answers = λ k. omega arith; pairs = λ b. omega (arith, none_so (n == b.server && u == b.thread)); going = λ k. omega (arith, noting (u == k)); homes = omega arith })))
   state x e (tasks.asked a t) h =
       let r1 : Rest = record r { tasks = without_task r.tasks u } in
       let m2 = message.Joined u v t in
@@ -182,7 +183,7 @@ module _ (s : Server) (i u : ℕ) (v : Owned) (q : slice_get s.rest.inbox i ≡ 
         news = message_things a m2;
         change = change_sent r r1 (noted n x ∷ []) [] a m2 (change_gone r u x e);
         fair = fair_noted (message_things n m) n u x (tasks.asked a t) (message_things a m2) (task_number r.tasks u x e) h
-            (record { answers = λ k. omega arith; pairs = λ b. omega (arith, none_so (n == b.server && u == b.thread)); going = λ k. omega (arith, noting (u == k)) });
+            (record { answers = λ k. omega arith; pairs = λ b. omega (arith, none_so (n == b.server && u == b.thread)); going = λ k. omega (arith, noting (u == k)); homes = omega arith });
       })
   state x e (kept w) h = tt
   state x e (in_pair p true) h = tt

@@ -186,17 +186,17 @@ module _ (s : Server) (i : ℕ) where
   pub fetch_turns : (w : ℕ) (o : ObjNo) (a t : ℕ) (q : slice_get s.rest.inbox i ≡ Some (message.Fetch w o a t)) → Gives (Turned (message.Fetch w o a t) q) (deliver_fetch w o a t start_of)
   fetch_turns w o a t q =
       map_gives (Turned (message.Fetch w o a t) q) (look_object start_of.rest.partition w o) _ (λ c e.
-      replies s i (message.Fetch w o a t) q a (message.Fetched w c t) start_of.rest (change_none start_of.rest) (record { answers = λ u. refl; pairs = λ b. refl; going = λ u. refl }))
+      replies s i (message.Fetch w o a t) q a (message.Fetched w c t) start_of.rest (change_none start_of.rest) (record { answers = λ u. refl; pairs = λ b. refl; going = λ u. refl; homes = omega arith }))
 
   pub move_turns : (w : ℕ) (o : ObjNo) (a t : ℕ) (q : slice_get s.rest.inbox i ≡ Some (message.Move w o a t)) → Gives (Turned (message.Move w o a t) q) (deliver_move w o a t start_of)
   move_turns w o a t q =
       map_gives (Turned (message.Move w o a t) q) (look_object start_of.rest.partition w o) _ (λ c e.
-      replies s i (message.Move w o a t) q a (message.Moved w c t) (record start_of.rest { partition = freed start_of.rest.partition w }) (change_none start_of.rest) (record { answers = λ u. refl; pairs = λ b. refl; going = λ u. refl }))
+      replies s i (message.Move w o a t) q a (message.Moved w c t) (record start_of.rest { partition = freed start_of.rest.partition w }) (change_none start_of.rest) (record { answers = λ u. refl; pairs = λ b. refl; going = λ u. refl; homes = omega arith }))
 
   pub drop_turns : (w : ℕ) (o : ObjNo) (q : slice_get s.rest.inbox i ≡ Some (message.Drop w o)) → Gives (Turned (message.Drop w o) q) (deliver_drop w o start_of)
   drop_turns w o q =
       map_gives (Turned (message.Drop w o) q) (look_object start_of.rest.partition w o) _ (λ c e.
-      lets_go s i (message.Drop w o) q [] [] c.value (note (act.Free o w) (with_partition (freed start_of.rest.partition w) start_of)) (change_none start_of.rest) (record { answers = λ u. refl; pairs = λ b. refl; going = λ u. refl }))
+      lets_go s i (message.Drop w o) q [] [] c.value (note (act.Free o w) (with_partition (freed start_of.rest.partition w) start_of)) (change_none start_of.rest) (record { answers = λ u. refl; pairs = λ b. refl; going = λ u. refl; homes = omega arith }))
 
   -- MUTEXES
 
@@ -214,11 +214,11 @@ module _ (s : Server) (i : ℕ) where
         gone = [];
         news = queued z.number a t ∷ [];
         change = change_mutex start_of.rest x z (record z { queue = z.queue ++ (a, t) ∷ [] }) [] (queued z.number a t ∷ []) e refl (λ f h. omega (arith, tot-push (queue_things z.number) f z.queue 0 (a, t)));
-        fair = record { answers = λ u. refl; pairs = λ b. refl; going = λ u. refl };
+        fair = record { answers = λ u. refl; pairs = λ b. refl; going = λ u. refl; homes = omega arith };
       }
       content z e (Some v) =
           replies s i m q a (message.Granted x v t) (record start_of.rest { mutexes = put_mutex ms (record z { content = None }) }) (change_mutex start_of.rest x z (record z { content = None }) [] [] e refl (λ f h. refl))
-          (record { answers = λ u. refl; pairs = λ b. refl; going = λ u. refl })
+          (record { answers = λ u. refl; pairs = λ b. refl; going = λ u. refl; homes = omega arith })
 
       by : (o : Option Mutex) → mutex_in ms.there x ≡ o → Gives (Turned m q) (option_map (λ p. answer_lock x a t p.1 (with_mutexes p.0 start_of)) (asked_in ms a t o))
       by None e = tt
@@ -237,12 +237,12 @@ module _ (s : Server) (i : ℕ) where
       Then p = Turned m q (answer_back x p.1 (with_mutexes p.0 start_of))
 
       alone : (z : Mutex) → mutex_in ms.there x ≡ Some z → z.queue ≡ [] → (b : Bool) → Then (if b then (end_mutex ms z.number, back.Ended v) else (put_mutex ms (record z { content = Some v }), back.Kept))
-      alone z e empty true = lets_go s i m q [] [] v (with_mutexes (end_mutex ms z.number) start_of) (change_end start_of.rest x z e empty) (record { answers = λ u. refl; pairs = λ b. refl; going = λ u. refl })
+      alone z e empty true = lets_go s i m q [] [] v (with_mutexes (end_mutex ms z.number) start_of) (change_end start_of.rest x z e empty) (record { answers = λ u. refl; pairs = λ b. refl; going = λ u. refl; homes = omega arith })
       alone z e empty false = record {
         gone = [];
         news = [];
         change = change_mutex start_of.rest x z (record z { content = Some v }) [] [] e refl (λ f h. refl);
-        fair = record { answers = λ u. refl; pairs = λ b. refl; going = λ u. refl };
+        fair = record { answers = λ u. refl; pairs = λ b. refl; going = λ u. refl; homes = omega arith };
       }
 
       queue : (z : Mutex) → mutex_in ms.there x ≡ Some z → (l : List (ℕ × ℕ)) → z.queue ≡ l → Then (back_to ms v z l)
@@ -254,7 +254,7 @@ module _ (s : Server) (i : ℕ) where
             gone = gone;
             news = message_things first.0 (message.Granted x v first.1);
             change = change_sent (receive s.rest i) (record start_of.rest { mutexes = put_mutex ms z2 }) gone [] first.0 (message.Granted x v first.1) c;
-            fair = record { answers = λ u. omega arith; pairs = λ b. refl; going = λ u. refl };
+            fair = record { answers = λ u. omega arith; pairs = λ b. refl; going = λ u. refl; homes = omega arith };
           }
 
       content : (z : Mutex) → mutex_in ms.there x ≡ Some z → (c : Option Owned) → Gives Then (back_out ms v z c)
@@ -266,7 +266,7 @@ module _ (s : Server) (i : ℕ) where
       by (Some z) e = over_gives Then (Turned m q) (back_out ms v z z.content) _ (content z e z.content) (λ p u. u)
 
   pub dup_turns : (x : MutexNo) (a t : ℕ) (q : slice_get s.rest.inbox i ≡ Some (message.Dup x a t)) → Gives (Turned (message.Dup x a t) q) (deliver_dup x a t start_of)
-  dup_turns x a t q = over_gives Then (Turned m q) (more ms x) _ (by (mutex_in ms.there x) refl) (λ k u. replies s i m q a (message.Dupped x t) (record start_of.rest { mutexes = k }) u (record { answers = λ u. refl; pairs = λ b. refl; going = λ u. refl }))
+  dup_turns x a t q = over_gives Then (Turned m q) (more ms x) _ (by (mutex_in ms.there x) refl) (λ k u. replies s i m q a (message.Dupped x t) (record start_of.rest { mutexes = k }) u (record { answers = λ u. refl; pairs = λ b. refl; going = λ u. refl; homes = omega arith }))
     where
       m : Message
       m = message.Dup x a t
@@ -296,7 +296,7 @@ module _ (s : Server) (i : ℕ) where
       ms = start_of.rest.mutexes
 
       light : Fair (message_things number m ++ []) []
-      light = record { answers = λ u. refl; pairs = λ b. refl; going = λ u. refl }
+      light = record { answers = λ u. refl; pairs = λ b. refl; going = λ u. refl; homes = omega arith }
 
       Then : Mutexes × Option Owned → Type 0
       Then p = Turned m q (give_up_left p.1 (with_mutexes p.0 start_of))

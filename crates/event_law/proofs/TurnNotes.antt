@@ -19,14 +19,14 @@ use Rattle.server_model.specs.Events.{is_ready, begin_work}
 use Rattle.heap_law.specs.Names.{tot, one}
 use Rattle.heap_law.specs.Things.{Thing, stands, noted, sent, message_things, thread_things}
 use Rattle.heap_law.specs.Requests.{waits, branch_places, halves_to, halves_needed, pair_notes, pair_places}
-use Rattle.heap_law.specs.Sharing.{is_over, going_notes, goes_on}
+use Rattle.heap_law.specs.Sharing.{is_over, going_notes, goes_on, noted_away}
 use Rattle.event_law.specs.Laws.{Gives}
 use Rattle.event_law.proofs.Results.{over_gives}
 use Rattle.event_law.proofs.Trades.{tot-append, tot-front}
 use Rattle.event_law.proofs.Bags.{all_standing, tot-without}
 use Rattle.event_law.proofs.FinishSteps.{task_number}
 use Rattle.event_law.proofs.Unseen.{thread_alone}
-use Rattle.event_law.proofs.Fair.{Fair, Hears, halves_heard, needed_heard, notes_heard, places_heard, going_heard, goes_heard, if_none, needs_none}
+use Rattle.event_law.proofs.Fair.{Fair, Hears, halves_heard, needed_heard, notes_heard, places_heard, going_heard, goes_heard, homes_heard, if_none, needs_none}
 use Rattle.event_law.proofs.Quiet.{server_said}
 use Rattle.event_law.proofs.Turns.{Turns}
 use Rattle.event_law.proofs.Changes.{change_none, change_sent, change_state, change_gone, taken_out, RestTurns}
@@ -49,6 +49,7 @@ fair_noted before n t x z news e h p =
       answers = λ u. omega (arith, p.answers u, whole (halves_to u), whole (halves_needed u));
       pairs = λ b. omega (arith, p.pairs b, whole (pair_notes b), whole (pair_places b));
       going = λ u. omega (arith, p.going u, whole (going_notes u), whole (goes_on u));
+      homes = omega (arith, p.homes, whole noted_away);
     }
 
 module _ (s : Server) (i : ℕ) where
@@ -78,13 +79,13 @@ module _ (s : Server) (i : ℕ) where
         gone = noted n x ∷ [];
         news = noted n (record { thread = u; state = tasks.asked a t }) ∷ [];
         change = change_state r u x (tasks.asked a t) e;
-        fair = fair_noted (message_things n m) n u x going (noted n (record { thread = u; state = tasks.asked a t }) ∷ []) (task_number r.tasks u x e) h (record { answers = λ k. omega arith; pairs = λ b. omega (arith, none_so (n == b.server && u == b.thread)); going = λ k. omega arith });
+        fair = fair_noted (message_things n m) n u x going (noted n (record { thread = u; state = tasks.asked a t }) ∷ []) (task_number r.tasks u x e) h (record { answers = λ k. omega arith; pairs = λ b. omega (arith, none_so (n == b.server && u == b.thread)); going = λ k. omega arith; homes = omega arith });
       }
       state x e (kept v) h = record {
         gone = noted n x ∷ [];
         news = message_things a (message.Joined u v t);
         change = change_sent r (record r { tasks = without_task r.tasks u }) (noted n x ∷ []) [] a (message.Joined u v t) (change_gone r u x e);
-        fair = fair_noted (message_things n m) n u x (kept v) (message_things a (message.Joined u v t)) (task_number r.tasks u x e) h (record { answers = λ k. omega arith; pairs = λ b. omega (arith, none_so (n == b.server && u == b.thread)); going = λ k. omega (arith, none_so (u == k)) });
+        fair = fair_noted (message_things n m) n u x (kept v) (message_things a (message.Joined u v t)) (task_number r.tasks u x e) h (record { answers = λ k. omega arith; pairs = λ b. omega (arith, none_so (n == b.server && u == b.thread)); going = λ k. omega (arith, none_so (u == k)); homes = omega arith });
       }
       state x e let_go h = tt
       state x e (tasks.asked b c) h = tt
@@ -106,10 +107,10 @@ module _ (s : Server) (i : ℕ) where
       state : (x : Task) → task_in r.tasks u ≡ Some x → (z : TaskState) → x.state ≡ z → Gives Then (let_go_from r.tasks u (Some z))
       state x e going h =
           left_over s i m q (noted n x ∷ []) (noted n (record { thread = u; state = let_go }) ∷ []) None (with_tasks (with_state r.tasks u let_go) start) (change_state r u x let_go e)
-          (fair_noted (message_things n m) n u x going (noted n (record { thread = u; state = let_go }) ∷ []) (task_number r.tasks u x e) h (record { answers = λ k. omega arith; pairs = λ b. omega arith; going = λ k. omega arith }))
+          (fair_noted (message_things n m) n u x going (noted n (record { thread = u; state = let_go }) ∷ []) (task_number r.tasks u x e) h (record { answers = λ k. omega arith; pairs = λ b. omega arith; going = λ k. omega arith; homes = omega arith }))
       state x e (kept v) h =
           left_over s i m q (noted n x ∷ []) [] (Some v) (with_tasks (without_task r.tasks u) start) (change_gone r u x e)
-          (fair_noted (message_things n m) n u x (kept v) [] (task_number r.tasks u x e) h (record { answers = λ k. omega arith; pairs = λ b. omega (arith, none_so (n == b.server && u == b.thread)); going = λ k. omega (arith, none_so (u == k)) }))
+          (fair_noted (message_things n m) n u x (kept v) [] (task_number r.tasks u x e) h (record { answers = λ k. omega arith; pairs = λ b. omega (arith, none_so (n == b.server && u == b.thread)); going = λ k. omega (arith, none_so (u == k)); homes = omega arith }))
       state x e let_go h = tt
       state x e (tasks.asked b c) h = tt
       state x e (in_pair b c) h = tt
@@ -159,7 +160,7 @@ nothing_turns s cs =
       olds = [];
       news = [];
       change = λ f l. omega (arith, server_said f l s2, server_said f l s);
-      fair = record { answers = λ u. refl; pairs = λ b. refl; going = λ u. refl };
+      fair = record { answers = λ u. refl; pairs = λ b. refl; going = λ u. refl; homes = omega arith };
     }
 
 ready_waits : (p : Phase) → is_ready p ≡ true → (waits p ≡ false) × ((t : ℕ) → branch_places t p ≡ 0)
@@ -182,6 +183,7 @@ fair_leaves n a y p e h ready =
       going = λ t.
           let same = ap₂ (λ i j. one (i == t && (not (i == 0) && not (is_over j)))) e h in
           omega (arith, same, alone (going_notes t) (going_heard t), alone (goes_on t) (goes_heard t));
+      homes = omega (arith, alone noted_away homes_heard);
     }
 
 pub leaving_turns : (s : Server) (t a : ℕ) (y p : ThreadState) (cs : List Copy) → thread_in s.threads t ≡ Some y → p.number ≡ y.number → p.phase ≡ y.phase → is_ready y.phase ≡ true

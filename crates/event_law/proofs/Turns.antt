@@ -1,5 +1,5 @@
 -- What an event changes of what is heard of its server, and the sums on asking in its cluster.
-use Rattle.std.proofs.Common.{◌≡◌, ℕ, ◌+◌, true, false, List, [], ◌∷◌, Option, Some, subst, ◌∙◌, arith}
+use Rattle.std.proofs.Common.{◌≡◌, ℕ, ◌+◌, ◌^◌, ◌<◌, true, false, List, [], ◌∷◌, Option, Some, subst, ◌∙◌, arith}
 use Rattle.std.specs.Prelude.{slice_get, option_map}
 use Rattle.thread_state.specs.View.{ThreadState}
 use Rattle.journal.specs.View.{EntryView}
@@ -33,7 +33,12 @@ turned ss n s s2 h t k =
 
 -- a sound cluster has the sums
 pub sound_asking : (k : Cluster) → IsSound k → Asking (things_of k)
-sound_asking k sound = record { one_answer = sound.requests.one_answer; pairs_noted = sound.requests.pairs_noted; noted_go_on = sound.mutexes_and_tasks.noted_go_on }
+sound_asking k sound = record {
+  one_answer = sound.requests.one_answer;
+  pairs_noted = sound.requests.pairs_noted;
+  noted_go_on = sound.mutexes_and_tasks.noted_go_on;
+  noted_at_home = sound.mutexes_and_tasks.noted_at_home;
+}
 
 -- A STEP
 
@@ -61,9 +66,9 @@ module _ (s : Server) (t : ℕ) (y : ThreadState) (here : thread_in s.threads t 
         fair = g.fair;
       }
 
-  pub step_turns : (ss : List Server) (code : List Rattle.fr_base.specs.declared.instruction.Instr.Instr) (servers : ℕ) → can_step y.phase ≡ true → Known ss y.home y.slots y.temps s.rest.partition s.rest.cache
+  pub step_turns : (ss : List Server) (code : List Rattle.fr_base.specs.declared.instruction.Instr.Instr) (servers : ℕ) → can_step y.phase ≡ true → s.rest.started + 2 < 2 ^ 32 → Known ss y.home y.slots y.temps s.rest.partition s.rest.cache
       → Gives (λ (r : Server × EntryView). Turns s r.0) (option_map (stepped s) (step_in code servers (record { work = begin_work s.rest; thread = y })))
-  step_turns ss code servers calm known =
+  step_turns ss code servers calm names known =
       let h : Hand = record { work = begin_work s.rest; thread = y } in
       over_gives (λ (d : Stepped). After y s.rest d.hand) (λ (r : Server × EntryView). Turns s r.0) (step_in code servers h) (stepped s)
-      (then_gives (λ (d : Stepped). After y s.rest d.hand) (slice_get code y.pc) (λ i. step servers i h) (λ i q. step_then y s.rest calm ss servers i h (known, quiet_start y (begin_work s.rest)))) (λ d u. stepped_turns d.names d.hand u)
+      (then_gives (λ (d : Stepped). After y s.rest d.hand) (slice_get code y.pc) (λ i. step servers i h) (λ i q. step_then y s.rest calm names ss servers i h (known, quiet_start y (begin_work s.rest)))) (λ d u. stepped_turns d.names d.hand u)

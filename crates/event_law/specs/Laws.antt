@@ -1,12 +1,19 @@
 -- Laws of events: from a cluster that has the sums, an event of a kind leaves them.
-use Rattle.std.specs.Prelude.{◌≡◌, ◌≤◌, ◌<◌, ◌+◌, ◌^◌, ⊤, ℕ, true, List, length, take, drop, Option, Some, None, IsSome}
+use Rattle.std.specs.Prelude.{◌≡◌, ◌≤◌, ◌<◌, ◌+◌, ◌^◌, ⊤, ℕ, true, List, length, take, drop, Option, Some, None, IsSome, slice_get}
 use Rattle.std.specs.List.{AllByRecursion}
+use Rattle.fr_base.specs.declared.name.MutexNo.{MutexNo}
 use Rattle.fr_base.specs.declared.instruction.Instr.{Instr}
 use Rattle.fr_base.specs.declared.settings.Options.{Options}
 use Rattle.global_addr.specs.Words.{server_of}
+use Rattle.heap_partition.specs.declared.value.Owned.{Owned}
 use Rattle.journal.specs.View.{EntryView}
+use Rattle.thread_state.specs.View.{ThreadState}
+use Rattle.server_msgs.specs.declared.message.Message.TheVariants.{Granted, Dupped, Start, Joined, Migrate}
 use Rattle.server_model.specs.declared.event.Event.{Event}
+use Rattle.server_model.specs.declared.event.What.{What}
+use Rattle.server_model.specs.declared.event.What.TheVariants.{Deliver, Evict}
 use Rattle.server_model.specs.Servers.{Sent, Server, Cluster, server_at, start_of}
+use Rattle.server_model.specs.Events.{enabled}
 use Rattle.server_model.specs.Clusters.{with_server, with_outbox, hand_over_newer, done_at, act_at, apply}
 use Rattle.heap_law.specs.Names.{tot, some}
 use Rattle.heap_law.specs.Things.{Thing, servers_things, things_of}
@@ -16,7 +23,7 @@ use Rattle.heap_law.specs.Requests.{stands_at, halves_to, halves_needed, pair_no
 use Rattle.heap_law.specs.Sharing.{going_notes, goes_on}
 use Rattle.heap_law.specs.Balances.{Agree, AtMost, AtMostOne}
 use Rattle.heap_law.specs.Weights.{states, below, shares_of, shares_at_home, tasks_of, is_thread}
-use Rattle.heap_law.specs.Coherent.{IsSound, Holds, objects_made, names_counted, branches_give_unit, parts_are_typed}
+use Rattle.heap_law.specs.Coherent.{IsSound, Holds, objects_made, names_counted, branches_give_unit, parts_are_typed, noted_at_home}
 use Rattle.event_law.specs.Kinds.{Kind, kind_of}
 use Rattle.event_law.specs.Sums.{Sums, is_server}
 
@@ -86,6 +93,10 @@ PairsNoted k = Agree pair_notes pair_places (things_of k)
 abbrev pub NotedGoOn : Cluster → Type 0
 NotedGoOn k = Agree going_notes goes_on (things_of k)
 
+-- what is noted of a thread stands at its home alone
+abbrev pub NotedAtHome : Cluster → Type 0
+NotedAtHome k = Holds k noted_at_home
+
 -- a sound cluster has the sums, so each law's premise holds in every coherent one
 abbrev pub SoundHasSums : Type 0
 SoundHasSums = (k : Cluster) → IsSound k → Sums (things_of k)
@@ -122,6 +133,38 @@ EachEventSends = (k : Cluster) (e : Event) → IsSound k → FewEvents k → Sen
 -- an event of whatever kind from a sound cluster, and its messages handed over, leave the part
 abbrev pub EachEventHandedOver : (Cluster → Type 0) → Type 0
 EachEventHandedOver Part = (k : Cluster) (e : Event) → IsSound k → FewEvents k → Gives (λ d. Part d.0) (apply k e)
+
+-- RESULTS
+
+-- that event of that server has a result, its messages handed over
+abbrev pub HasResult : Cluster → ℕ → What → Type 0
+HasResult k n w = IsSome (apply k (record { server = n; what = w }))
+
+-- an eviction that is enabled, in whatever cluster
+abbrev pub EvictionsHaveResults : Type 0
+EvictionsHaveResults = (k : Cluster) (n w : ℕ) (s : Server) → server_at k.servers n ≡ Some s → enabled k.options s (Evict w) ≡ true → HasResult k n (Evict w)
+
+-- the delivery of a new thread
+abbrev pub StartsHaveResults : Type 0
+StartsHaveResults =
+    (k : Cluster) (n i : ℕ) (s : Server) (t : ThreadState) → server_at k.servers n ≡ Some s → enabled k.options s (Deliver i) ≡ true → slice_get s.rest.inbox i ≡ Some (Start t) → HasResult k n (Deliver i)
+
+-- that of a thread that moved
+abbrev pub ParcelsHaveResults : Type 0
+ParcelsHaveResults =
+    (k : Cluster) (n i : ℕ) (s : Server) (t : ThreadState) → server_at k.servers n ≡ Some s → enabled k.options s (Deliver i) ≡ true → slice_get s.rest.inbox i ≡ Some (Migrate t) → HasResult k n (Deliver i)
+
+-- the delivery of an answer that gives a thread something, in a sound cluster
+pub record AnswersHaveResults : Type 0 where
+  -- a content
+  pub grants : (k : Cluster) (n i : ℕ) (s : Server) (m : MutexNo) (v : Owned) (t : ℕ) → IsSound k → server_at k.servers n ≡ Some s → enabled k.options s (Deliver i) ≡ true → slice_get s.rest.inbox i ≡ Some (Granted m v t)
+      → HasResult k n (Deliver i)
+  -- a share
+  pub shares : (k : Cluster) (n i : ℕ) (s : Server) (m : MutexNo) (t : ℕ) → IsSound k → server_at k.servers n ≡ Some s → enabled k.options s (Deliver i) ≡ true → slice_get s.rest.inbox i ≡ Some (Dupped m t)
+      → HasResult k n (Deliver i)
+  -- a result
+  pub joins : (k : Cluster) (n i : ℕ) (s : Server) (u : ℕ) (v : Owned) (t : ℕ) → IsSound k → server_at k.servers n ≡ Some s → enabled k.options s (Deliver i) ≡ true → slice_get s.rest.inbox i ≡ Some (Joined u v t)
+      → HasResult k n (Deliver i)
 
 -- WHERE NAMES LEAD
 

@@ -1,6 +1,6 @@
 //! What an event of a sound cluster keeps, of whatever kind it is.
 
-ghost use Rattle.event_law.specs.Laws.{EachEventHandedOver, EachEventLeaves, EachEventSends, NotedGoOn, NumbersDiffer, OneAnswer, OneState, OneTaskValue, PairsNoted, ServersDiffer, SharesCounted};
+ghost use Rattle.event_law.specs.Laws.{EachEventHandedOver, EachEventLeaves, EachEventSends, NotedAtHome, NotedGoOn, NumbersDiffer, OneAnswer, OneState, OneTaskValue, PairsNoted, ServersDiffer, SharesCounted};
 ghost use Rattle.heap_law.specs.Coherent.{OneHome, OneOwner, Users};
 
 /// Whatever is delivered, stepped, evicted or migrated.
@@ -16,6 +16,7 @@ pub fn each_event_keeps()
     ensures answers { EachEventLeaves OneAnswer }
     ensures pairs { EachEventLeaves PairsNoted }
     ensures going { EachEventLeaves NotedGoOn }
+    ensures homes { EachEventLeaves NotedAtHome }
 {}
 
 /// The messages of each event go to servers of the run.
@@ -36,4 +37,5 @@ pub fn each_event_handed_over()
     ensures answers { EachEventHandedOver OneAnswer }
     ensures pairs { EachEventHandedOver PairsNoted }
     ensures going { EachEventHandedOver NotedGoOn }
+    ensures homes { EachEventHandedOver NotedAtHome }
 {}

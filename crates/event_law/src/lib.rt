@@ -8,5 +8,6 @@ pub mod instructions;
 pub mod joining;
 pub mod leaving;
 pub mod making;
+pub mod outcomes;
 pub mod parts;
 pub mod sharing;

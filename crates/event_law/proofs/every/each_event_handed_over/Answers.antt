@@ -1,6 +1,6 @@
 use Rattle.heap_law.specs.Coherent.{OneHome, OneOwner, Users}
 use Rattle.event_law.proofs.every.each_event_handed_over.Goals as goal
-use Rattle.event_law.specs.Laws.{NotedGoOn, NumbersDiffer, OneAnswer, OneState, OneTaskValue, PairsNoted, ServersDiffer, SharesCounted}
+use Rattle.event_law.specs.Laws.{NotedAtHome, NotedGoOn, NumbersDiffer, OneAnswer, OneState, OneTaskValue, PairsNoted, ServersDiffer, SharesCounted}
 use Rattle.event_law.proofs.TurnEvents.{asking_applied}
 use Rattle.event_law.proofs.Sending.{applied_part}
 
@@ -17,4 +17,5 @@ returns c = record {
   answers = asking_applied OneAnswer (λ k g. g.one_answer);
   pairs = asking_applied PairsNoted (λ k g. g.pairs_noted);
   going = asking_applied NotedGoOn (λ k g. g.noted_go_on);
+  homes = asking_applied NotedAtHome (λ k g. g.noted_at_home);
 }

@@ -1,6 +1,6 @@
 use Rattle.heap_law.specs.Coherent.{OneHome, OneOwner, Users}
 use Rattle.event_law.proofs.every.each_event_keeps.Goals as goal
-use Rattle.event_law.specs.Laws.{NotedGoOn, NumbersDiffer, OneAnswer, OneState, OneTaskValue, PairsNoted, ServersDiffer, SharesCounted}
+use Rattle.event_law.specs.Laws.{NotedAtHome, NotedGoOn, NumbersDiffer, OneAnswer, OneState, OneTaskValue, PairsNoted, ServersDiffer, SharesCounted}
 use Rattle.event_law.proofs.TurnEvents.{asking_part}
 use Rattle.event_law.proofs.Each.{each_part}
 
@@ -17,4 +17,5 @@ returns c = record {
   answers = asking_part OneAnswer (λ k g. g.one_answer);
   pairs = asking_part PairsNoted (λ k g. g.pairs_noted);
   going = asking_part NotedGoOn (λ k g. g.noted_go_on);
+  homes = asking_part NotedAtHome (λ k g. g.noted_at_home);
 }

@@ -1,0 +1,45 @@
+-- An eviction that is enabled has a result, and so has the delivery of a thread, whatever else there is in the cluster.
+use Rattle.std.proofs.Common.{◌≡◌, ℕ, Bool, true, false, if◌then◌else◌, length, Option, Some, None, IsSome, refl, sym, subst}
+use Rattle.std.specs.Prelude.{slice_get, option_map}
+use Rattle.server_msgs.specs.declared.message.Message.{Message}
+use Rattle.server_msgs.specs.declared.message.Message.TheVariants as message
+use Rattle.journal.specs.View.{EntryView}
+use Rattle.server_model.specs.declared.event.What.{What}
+use Rattle.server_model.specs.declared.event.What.TheVariants.{Deliver, Evict}
+use Rattle.server_model.specs.Servers.{Server, Cluster, server_at}
+use Rattle.server_model.specs.Work.{then_some}
+use Rattle.server_model.specs.Events.{enabled, left_by, received, deliver_message, does}
+use Rattle.server_model.specs.Clusters.{hand_over_newer}
+use Rattle.event_law.specs.Laws.{HasResult, EvictionsHaveResults, StartsHaveResults, ParcelsHaveResults}
+
+pub some_map : {X Y : Type 0} (f : X → Y) (o : Option X) → IsSome o → IsSome (option_map f o)
+some_map f None h = absurd (cc h)
+some_map f (Some x) h = refl
+
+some_if : {X : Type 0} (b : Bool) (o : Option X) → b ≡ true → IsSome o → IsSome (if b then o else None)
+some_if true o e h = h
+some_if false o e h = absurd (cc e)
+
+-- an event done at its server, its messages handed over
+abbrev handed : Cluster → ℕ → Server → Server × EntryView → Cluster × EntryView
+handed k n s d = (record k { servers = hand_over_newer n (length s.rest.outbox) d.0 k.servers }, d.1)
+
+-- where it has a result at its server it has one
+applied : (k : Cluster) (n : ℕ) (w : What) (s : Server) → server_at k.servers n ≡ Some s → enabled k.options s w ≡ true → IsSome (does k.code k.options s w) → HasResult k n w
+applied k n w s here on h =
+    subst (λ (o : Option Server). IsSome {T = Cluster × EntryView} (then_some o (λ z. option_map (handed k n z) (if enabled k.options z w then does k.code k.options z w else None)))) (sym here)
+    (some_map (handed k n s) (if enabled k.options s w then does k.code k.options s w else None) (some_if (enabled k.options s w) (does k.code k.options s w) on h))
+
+pub evictions : EvictionsHaveResults
+evictions k n w s here on = applied k n (Evict w) s here on (some_map (left_by s.events None None) _ (some_map _ _ (some_if _ _ on refl)))
+
+pub arrives : (k : Cluster) (n i : ℕ) (s : Server) (m : Message) → server_at k.servers n ≡ Some s → enabled k.options s (Deliver i) ≡ true → slice_get s.rest.inbox i ≡ Some m → IsSome (deliver_message k.code m (received i s)) → HasResult k n (Deliver i)
+arrives k n i s m here on q h =
+    applied k n (Deliver i) s here on
+    (subst (λ (o : Option Message). IsSome (option_map (left_by s.events None None) (then_some o (λ z. deliver_message k.code z (received i s))))) (sym q) (some_map (left_by s.events None None) (deliver_message k.code m (received i s)) h))
+
+pub starts : StartsHaveResults
+starts k n i s t here on q = arrives k n i s (message.Start t) here on q refl
+
+pub parcels : ParcelsHaveResults
+parcels k n i s t here on q = arrives k n i s (message.Migrate t) here on q refl

@@ -1,0 +1,15 @@
+//! That an event that is enabled has a result.
+
+ghost use Rattle.event_law.specs.Laws.{AnswersHaveResults, EvictionsHaveResults, ParcelsHaveResults, StartsHaveResults};
+
+/// The eviction of a copy that nobody uses, and the delivery of a thread, in whatever cluster.
+pub fn leaving_and_arriving()
+    ensures evictions { EvictionsHaveResults }
+    ensures starts { StartsHaveResults }
+    ensures parcels { ParcelsHaveResults }
+{}
+
+/// The delivery of what a thread waits for and takes as its gift, in a sound cluster.
+pub fn giving()
+    ensures { AnswersHaveResults }
+{}
