@@ -12,3 +12,4 @@ pub mod Numbers
 pub mod Places
 pub mod Borrows
 pub mod Copies
+pub mod Moved

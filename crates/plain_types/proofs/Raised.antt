@@ -1,5 +1,5 @@
 -- Temporary values may rank as high as one likes: no type names them.
-use Rattle.std.proofs.Common.{◌≡◌, ◌∙◌, ℕ, ◌+◌, ◌<◌, ◌≤◌, Bool, true, false, List, Option, sym, ap, arith}
+use Rattle.std.proofs.Common.{◌≡◌, ◌∙◌, ℕ, ◌+◌, ◌<◌, ◌≤◌, Bool, true, false, List, length, Option, Some, refl, sym, ap, arith}
 use Rattle.fr_base.specs.declared.name.MutexNo.{MutexNo}
 use Rattle.fr_typing.specs.Kinds.{Kind}
 use Rattle.fr_typing.specs.Places.{Env}
@@ -7,7 +7,7 @@ use Rattle.fr_store.specs.Keys.{Key, slot_k, temp_k, content_k, result_k, hand_k
 use Rattle.fr_store.specs.Store.{Place}
 use Rattle.fr_store.specs.Typed.{refers, Typed}
 use Rattle.fr_store.specs.Thread.{ThreadTyped, Asleep}
-use Rattle.fr_plain.specs.PlainState.{Running, PlainState}
+use Rattle.fr_plain.specs.PlainState.{Running, PlainState, place_in}
 use Rattle.fr_sound.specs.States.{Typing, RunningTyped, IsThread, hand_key, hand_kind, IsLock, IsBranch}
 use Rattle.plain_types.specs.Positions.{Position, Knows, temps_of, PositionTypes}
 use Rattle.plain_types.proofs.OneThread.{store}
@@ -30,36 +30,45 @@ no_lower n rank (content_k h c) = omega arith
 no_lower n rank (result_k t) = omega arith
 no_lower n rank (hand_k t) = omega arith
 
-module _ (n : ℕ) (y : Typing) (a : PlainState Position) (st : PositionTypes y a) where
-  raised_below : (k : Key) (m : Bool) (u : Place) → y.exact k ≡ refers m u → raise n y.rank u.key < raise n y.rank k
+-- ranks may change where no key ranks lower, what is named ranks as before, and each thread's slots still rise
+pub record Reranks (y : Typing) (a : PlainState Position) (rank2 : Key → ℕ) : Type 0 where
+  pub higher : (k : Key) → y.rank k ≤ rank2 k
+  pub named : (k : Key) (m : Bool) (u : Place) → y.exact k ≡ refers m u → rank2 u.key ≡ y.rank u.key
+  pub rising : (t i j : ℕ) → y.rank (slot_k t i) < y.rank (slot_k t j) → i < j → rank2 (slot_k t i) < rank2 (slot_k t j)
+  pub slots : (t : ℕ) (x : Running Position) (r : RunningTyped Knows temps_of y (store y a) t (a.pair t) x) (i : ℕ) → place_in (a.thread t) ≡ Some x → i < length r.entry.env → rank2 (slot_k t i) ≡ y.rank (slot_k t i)
+
+abbrev pub ranked_by : (Key → ℕ) → Typing → Typing
+ranked_by rank2 y = record y { rank = rank2 }
+
+module _ (rank2 : Key → ℕ) (y : Typing) (a : PlainState Position) (st : PositionTypes y a) (h : Reranks y a rank2) where
+  raised_below : (k : Key) (m : Bool) (u : Place) → y.exact k ≡ refers m u → rank2 u.key < rank2 k
   raised_below k m u is =
-      let w = st.near k m u is in
       let low = st.typed.below k m u is in
-      let up = no_lower n y.rank k in
-      let same : raise n y.rank u.key ≡ y.rank u.key = ap (raise n y.rank) w.is ∙ ap y.rank (sym w.is) in
+      let up = h.higher k in
+      let same = h.named k m u is in
       omega (arith, low, up, same)
 
-  raised_store : Typed (raise n y.rank) y.exact (store y a)
+  raised_store : Typed rank2 y.exact (store y a)
   raised_store = record { stands = st.typed.stands; below = raised_below; once = st.typed.once; owner = st.typed.owner }
 
-  raised_thread : (b : Bool) (t : ℕ) (ts : List Kind) (e : Env) (k : Option Kind) → IsThread b (slot_k t) y.rank (hand_key t ts) e y.exact (store y a) k → IsThread b (slot_k t) (raise n y.rank) (hand_key t ts) e y.exact (store y a) k
-  raised_thread true t ts e k h =
-      let x : Asleep (slot_k t) y.rank (hand_key t ts) e y.exact k = h in
-      record { nested = x.nested; slots = x.slots; above = x.above; temp = x.temp; names = x.names; quiet = x.quiet; over = λ i l. let low = x.over i l in let up = no_lower n y.rank (hand_key t ts) in omega (arith, low, up) }
-  raised_thread false t ts e k h =
-      let x : ThreadTyped (slot_k t) y.rank (hand_key t ts) e y.exact (store y a) k = h in
-      record { typed = raised_store; nested = x.nested; slots = x.slots; above = x.above; temp = x.temp; names = x.names; quiet = x.quiet; over = λ i l. let low = x.over i l in let up = no_lower n y.rank (hand_key t ts) in omega (arith, low, up); alone = x.alone }
+  raised_thread : (b : Bool) (t : ℕ) (ts : List Kind) (e : Env) (k : Option Kind) → ((i : ℕ) → i < length e → rank2 (slot_k t i) ≡ y.rank (slot_k t i)) → IsThread b (slot_k t) y.rank (hand_key t ts) e y.exact (store y a) k → IsThread b (slot_k t) rank2 (hand_key t ts) e y.exact (store y a) k
+  raised_thread true t ts e k same z =
+      let x : Asleep (slot_k t) y.rank (hand_key t ts) e y.exact k = z in
+      record { nested = x.nested; slots = x.slots; above = x.above; temp = x.temp; names = x.names; quiet = x.quiet; over = λ i l. let low = x.over i l in let up = h.higher (hand_key t ts) in let q = same i l in omega (arith, low, up, q) }
+  raised_thread false t ts e k same z =
+      let x : ThreadTyped (slot_k t) y.rank (hand_key t ts) e y.exact (store y a) k = z in
+      record { typed = raised_store; nested = x.nested; slots = x.slots; above = x.above; temp = x.temp; names = x.names; quiet = x.quiet; over = λ i l. let low = x.over i l in let up = h.higher (hand_key t ts) in let q = same i l in omega (arith, low, up, q); alone = x.alone }
 
-  raised_lock : {e : Env} {t i : ℕ} {m : MutexNo} → IsLock y (store y a) e t i m → IsLock (raised_typing n y) (store y a) e t i m
+  raised_lock : {e : Env} {t i : ℕ} {m : MutexNo} → IsLock y (store y a) e t i m → IsLock (ranked_by rank2 y) (store y a) e t i m
   raised_lock l = record { leads = l.leads; unnamed = l.unnamed; content = l.content }
 
-  raised_running : (t : ℕ) (x : Running Position) → RunningTyped Knows temps_of y (store y a) t (a.pair t) x → RunningTyped Knows temps_of (raised_typing n y) (store y a) t (a.pair t) x
-  raised_running t x r = record {
+  raised_running : (t : ℕ) (x : Running Position) → place_in (a.thread t) ≡ Some x → RunningTyped Knows temps_of y (store y a) t (a.pair t) x → RunningTyped Knows temps_of (ranked_by rank2 y) (store y a) t (a.pair t) x
+  raised_running t x runs r = record {
     entry = r.entry;
     known = r.known;
     gives = r.gives;
-    keys = record { differ = r.keys.differ; off = r.keys.off; ranks = r.keys.ranks };
-    thread = raised_thread r.entry.forked t r.entry.temps r.entry.env (hand_kind r.entry.temps) r.thread;
+    keys = record { differ = r.keys.differ; off = r.keys.off; ranks = λ i j l. h.rising t i j (r.keys.ranks i j l) l };
+    thread = raised_thread r.entry.forked t r.entry.temps r.entry.env (hand_kind r.entry.temps) (λ i l. h.slots t x r i runs l) r.thread;
     waiting = r.waiting;
     all_slots = r.all_slots;
     all_temps = r.all_temps;
@@ -69,20 +78,20 @@ module _ (n : ℕ) (y : Typing) (a : PlainState Position) (st : PositionTypes y 
     marked = λ i m e. raised_lock (r.marked i m e);
   }
 
-  raised_branch : (p b : ℕ) → IsBranch y a p b → IsBranch (raised_typing n y) a p b
-  raised_branch p b h = record { kept = h.kept; gives = h.gives; only = h.only; below = h.below }
+  raised_branch : (p b : ℕ) → IsBranch y a p b → IsBranch (ranked_by rank2 y) a p b
+  raised_branch p b z = record { kept = z.kept; gives = z.gives; only = z.only; below = z.below }
 
-  -- TEMPORARY VALUES RANK HIGHER
-  pub raised : PositionTypes (raised_typing n y) a
-  raised = record {
+  -- KEYS RANK OTHERWISE
+  pub reranked : PositionTypes (ranked_by rank2 y) a
+  reranked = record {
     typed = raised_store;
-    threads = λ t x e. raised_running t x (st.threads t x e);
+    threads = λ t x e. raised_running t x e (st.threads t x e);
     results = st.results;
     near = st.near;
-    pairs = λ p b c e. let h = st.pairs p b c e in (h.0, raised_branch p b h.1, raised_branch p c h.2);
+    pairs = λ p b c e. let z = st.pairs p b c e in (z.0, raised_branch p b z.1, raised_branch p c z.2);
     parents = st.parents;
     there = st.there;
-    mutexes = λ m z e. let h = st.mutexes m z e in record { given = h.given; shares = h.shares; needed = h.needed; out = h.out; unheld = h.unheld; content = h.content };
+    mutexes = λ m z e. let q = st.mutexes m z e in record { given = q.given; shares = q.shares; needed = q.needed; out = q.out; unheld = q.unheld; content = q.content };
     one_task = st.one_task;
     tasks_owed = st.tasks_owed;
     owed_stand = st.owed_stand;
@@ -90,3 +99,12 @@ module _ (n : ℕ) (y : Typing) (a : PlainState Position) (st : PositionTypes y 
     objects_owned = st.objects_owned;
     objects_made = st.objects_made;
   }
+
+-- TEMPORARY VALUES RANK HIGHER
+pub raised : (n : ℕ) (y : Typing) (a : PlainState Position) → PositionTypes y a → PositionTypes (raised_typing n y) a
+raised n y a st = reranked (raise n y.rank) y a st (record {
+  higher = no_lower n y.rank;
+  named = λ k m u is. let w = st.near k m u is in ap (raise n y.rank) w.is ∙ ap y.rank (sym w.is);
+  rising = λ t i j l lt. l;
+  slots = λ t x r i runs l. refl;
+})
