@@ -1,5 +1,5 @@
 -- The start has the sums.
-use Rattle.std.proofs.Common.{◌≡◌, ℕ, zero, suc, ◌+◌, ◌<◌, ◌≤◌, ◌==◌, Bool, true, false, refl, ap, arith}
+use Rattle.std.proofs.Common.{◌≡◌, ℕ, zero, suc, ◌+◌, ◌<◌, ◌≤◌, ◌==◌, Bool, true, false, refl, ap, arith, ◌&&◌}
 use Rattle.std.proofs.lemmas.Bool.Decides.{nat_tests}
 use Rattle.fr_base.specs.declared.settings.Options.{Options}
 use Rattle.server_model.specs.Servers.{with_main, empty_servers}
@@ -7,7 +7,10 @@ use Rattle.heap_law.specs.Names.{tot, one}
 use Rattle.heap_law.specs.Things.{Thing, counts, servers_things}
 use Rattle.heap_law.specs.Weights.{cells, owners, states, uses_of, users_of, shares_of, shares_at_home, tasks_of, is_thread}
 use Rattle.event_law.specs.Sums.{Sums, is_server}
-use Rattle.event_law.specs.Laws.{StartHasSums}
+use Rattle.heap_law.specs.Requests.{halves_to, halves_needed, pair_notes, pair_places}
+use Rattle.heap_law.specs.Sharing.{going_notes, goes_on, noted_away}
+use Rattle.event_law.specs.Laws.{NotedAtHome, NotedGoOn, OneAnswer, PairsNoted, StartHas, StartHasSums}
+use Rattle.event_law.proofs.Fair.{if_none, needs_none}
 
 -- servers without a thread have nothing but their counts
 nothing : (f : Thing → ℕ) (o : Options) (s n : ℕ) → ((s : ℕ) → f (counts s 0 0 0 0 0) ≡ 0) → tot f (servers_things (empty_servers o s n)) ≡ 0
@@ -48,3 +51,36 @@ start_has_sums code o l = by o.servers l
       numbers_differ = λ t. omega (arith, nothing (is_thread t) o 1 n (λ r. refl), at_most_one (0 == t));
       servers_differ = λ r. omega (arith, (each_once r o 0 (suc n)).0);
     }
+
+-- main waits for nothing, is in no pair, and is noted nowhere
+none_so : (b : Bool) → one (b && false) ≡ 0
+none_so true = refl
+none_so false = refl
+
+pub start_answers : StartHas OneAnswer
+start_answers code o l t = by o.servers l
+  where
+    by : (n : ℕ) → 1 ≤ n → tot (halves_to t) (servers_things (with_main (empty_servers o 0 n))) ≡ tot (halves_needed t) (servers_things (with_main (empty_servers o 0 n)))
+    by zero l = absurd (omega arith)
+    by (suc n) l = omega (arith, nothing (halves_to t) o 1 n (λ r. refl), nothing (halves_needed t) o 1 n (λ r. refl), needs_none (0 == t) false refl)
+
+pub start_pairs : StartHas PairsNoted
+start_pairs code o l x = by o.servers l
+  where
+    by : (n : ℕ) → 1 ≤ n → tot (pair_notes x) (servers_things (with_main (empty_servers o 0 n))) ≡ tot (pair_places x) (servers_things (with_main (empty_servers o 0 n)))
+    by zero l = absurd (omega arith)
+    by (suc n) l = omega (arith, nothing (pair_notes x) o 1 n (λ r. refl), nothing (pair_places x) o 1 n (λ r. refl), if_none (0 == x.server && 0 == x.parent) 0 refl)
+
+pub start_going : StartHas NotedGoOn
+start_going code o l t = by o.servers l
+  where
+    by : (n : ℕ) → 1 ≤ n → tot (going_notes t) (servers_things (with_main (empty_servers o 0 n))) ≡ tot (goes_on t) (servers_things (with_main (empty_servers o 0 n)))
+    by zero l = absurd (omega arith)
+    by (suc n) l = omega (arith, nothing (going_notes t) o 1 n (λ r. refl), nothing (goes_on t) o 1 n (λ r. refl), none_so (0 == t))
+
+pub start_homes : StartHas NotedAtHome
+start_homes code o l = by o.servers l
+  where
+    by : (n : ℕ) → 1 ≤ n → tot noted_away (servers_things (with_main (empty_servers o 0 n))) ≡ 0
+    by zero l = absurd (omega arith)
+    by (suc n) l = omega (arith, nothing noted_away o 1 n (λ r. refl))

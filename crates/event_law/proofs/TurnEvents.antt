@@ -40,7 +40,7 @@ use Rattle.event_law.proofs.Handing.{hand_over_newer_law}
 use Rattle.event_law.proofs.KnownSound.{ThreadKnown, ServerKnown, server_known}
 use Rattle.event_law.proofs.Sending.{found, each_event_sends}
 use Rattle.event_law.proofs.Fair.{Asking, asking_kept, fair_none}
-use Rattle.event_law.proofs.FairGets.{Answers, awaits_lock, awaits_dup, awaits_join}
+use Rattle.event_law.proofs.FairGets.{awaits_lock, awaits_dup, awaits_join}
 use Rattle.event_law.proofs.Quiet.{quiet_start}
 use Rattle.event_law.proofs.Turns.{Turns, turned, sound_asking, step_turns}
 use Rattle.event_law.proofs.TurnMessages.{SiteTurns, NoneWaits, beside, at, gift_turns, copy_turns, object_turns, fetch_turns, move_turns, drop_turns, lock_turns, unlock_turns, dup_turns, release_turns}
@@ -72,9 +72,6 @@ module _ (k : Cluster) (sound : IsSound k) (few : FewEvents k) (number : ℕ) (s
   -- DELIVERIES
 
   module _ (i : ℕ) where
-    whole : (m : Message) (t : ℕ) → Type 0
-    whole m t = Answers n m t
-
     message_turns : (m : Message) (q : slice_get s.rest.inbox i ≡ Some m) → Gives (SiteTurns s i m q) (deliver_message k.code m (received i s))
     message_turns (message.Fetch w o r t) q = beside s i (message.Fetch w o r t) q (deliver_fetch w o r t) (fetch_turns s i w o r t q)
     message_turns (message.Fetched w c t) q =

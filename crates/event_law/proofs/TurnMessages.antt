@@ -90,9 +90,6 @@ module _ (s : Server) (i : ℕ) (m : Message) (q : slice_get s.rest.inbox i ≡ 
   left_over gone news None w c fair = record { gone = gone; news = news; change = c; fair = fair }
   left_over gone news (Some v) w c fair = lets_go gone news v w c fair
 
-  same_weight : (r2 : Rest) → ChangeOf r [] [] r2 → Fair (message_things n m) [] → RestTurns s i m q r2
-  same_weight r2 c fair = record { gone = []; news = []; change = c; fair = subst (λ l. Fair l []) (sym (append-nil (message_things n m))) fair }
-
   -- GIFTS AND COPIES
 
   module _ (t : ℕ) (y : ThreadState) (here : thread_in s.threads t ≡ Some y) (answers : Answers n m t) where

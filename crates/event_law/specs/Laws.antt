@@ -105,6 +105,10 @@ SoundHasSums = (k : Cluster) → IsSound k → Sums (things_of k)
 abbrev pub StartHasSums : Type 0
 StartHasSums = (code : List Instr) (o : Options) → 1 ≤ o.servers → Sums (things_of (start_of code o))
 
+-- and it has that part
+abbrev pub StartHas : (Cluster → Type 0) → Type 0
+StartHas Part = (code : List Instr) (o : Options) → 1 ≤ o.servers → Part (start_of code o)
+
 -- HANDING OVER
 
 -- those messages go to servers that are there
