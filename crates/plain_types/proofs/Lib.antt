@@ -13,3 +13,4 @@ pub mod Places
 pub mod Borrows
 pub mod Copies
 pub mod Moved
+pub mod Example

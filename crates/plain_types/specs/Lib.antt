@@ -2,3 +2,4 @@ pub mod Positions
 pub mod ActRows
 pub mod Keeps
 pub mod CodeRows
+pub mod Example

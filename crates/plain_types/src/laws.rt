@@ -1,6 +1,7 @@
 //! Laws of the typing of acts.
 
 ghost use Rattle.plain_types.specs.CodeRows.{EndsHaveRows, InstructionsHaveRows};
+ghost use Rattle.plain_types.specs.Example.{PrintIsReady};
 ghost use Rattle.plain_types.specs.Keeps.{IsArith, IsBorrow, IsBorrowMut, IsCopy, IsPrint, Keeps};
 
 /// What the typing of instructions lets an instruction do, a row of the typing of acts lets its act do, to the same entry
@@ -18,4 +19,9 @@ pub fn acts_keep_types()
     ensures borrow { Keeps IsBorrow }
     ensures borrow_mut { Keeps IsBorrowMut }
     ensures copy { Keeps IsCopy }
+{}
+
+/// At main's start in a typed state a number may be printed: what the law on acts asks for can be met.
+pub fn acts_are_ready()
+    ensures { PrintIsReady }
 {}

@@ -4,4 +4,4 @@
 
 mod laws;
 
-pub use laws::{acts_keep_types, instructions_have_rows};
+pub use laws::{acts_are_ready, acts_keep_types, instructions_have_rows};
