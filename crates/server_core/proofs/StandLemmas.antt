@@ -6,11 +6,11 @@ use Rattle.rank_map.specs.Marks.{mark_of, IsMarked}
 use Rattle.rank_map.proofs.PlaceLemmas.{rises_with}
 use Rattle.rank_map.proofs.MarkLemmas.{marked_change, set_free, map_free, free_rises, free_there, nth_below}
 use Rattle.thread_state.specs.View.{ThreadState, ThreadView}
-use Rattle.server_model.specs.Work.{thread_in}
+use Rattle.server_model.specs.Work.{thread_in, set_thread, with_thread}
 use Rattle.drive_model.specs.Choice.{runnable_in}
 use Rattle.drive_model.specs.Balance.{active_in, movable_in}
 use Rattle.server_core.specs.Threads.{states, HasKey, AreNumbered, steps, waits, moves, acts, AreThreads}
-use Rattle.server_core.proofs.ThreadLemmas.{thread_at, numbered_with, runnable_keys, active_count, movable_key}
+use Rattle.server_core.proofs.ThreadLemmas.{take_states, put_again, thread_at, numbered_with, runnable_keys, active_count, movable_key}
 
 none_marked : (f : ThreadView → Bool) → IsMarked f [] []
 none_marked f = record { rises = omega arith; same = refl; places = λ k h. h }
@@ -122,3 +122,14 @@ there_item k t h e = some_none (subst IsSome (found_thread k t ∙ ap (option_ma
 pub then_state : {X : Type 0} (f : X → ThreadView) (x : Option X) → option_map (λ y. (f y).state) x ≡ option_map (λ v. v.state) (option_map f x)
 then_state f None = refl
 then_state f (Some y) = refl
+
+-- one that is taken out and put back stands where it stood
+pub back_again : {all after : List (Place ThreadView)} {r w m a : List (Place (Unit {0}))} (k : ℕ) → AreThreads all r w m a → IsSome (thread_in (states all) k) → after ≡ with_place all k (Some None) → (t : ThreadState) → t.number ≡ k
+    → with_thread (states after) t ≡ set_thread (states all) t
+back_again {all} k t h is s number =
+    ap (λ ps. with_thread (states ps) s) is ∙ ap (λ ts. with_thread ts s) (take_states all 0 (2 ^ 40) k t.rises t.numbered)
+    ∙ put_again all 0 (2 ^ 40) k t.rises t.numbered (by (item_at all k) refl) s number
+  where
+    by : (x : Option ThreadView) → item_at all k ≡ x → is_some x ≡ true
+    by None e = absurd (there_item k t h e)
+    by (Some v) e = refl

@@ -1,11 +1,11 @@
 -- The threads at places, once one comes, goes or is looked for.
-use Rattle.std.proofs.Common.{◌≡◌, ℕ, ◌+◌, ◌<◌, ◌&&◌, not, Bool, true, false, ◌==◌, nat_lt, if◌then◌else◌, List, [], ◌∷◌, map, length, slice_get, Option, None, Some, option_map, refl, sym, ap, ◌∙◌, arith}
-use Rattle.std.proofs.lemmas.Bool.{eqb-true, ltb-true, ltb-false, lt-ltb, le-ltb, ne_eqb}
+use Rattle.std.proofs.Common.{◌≡◌, is_some, true≢false, ℕ, ◌+◌, ◌<◌, ◌&&◌, not, Bool, true, false, ◌==◌, nat_lt, if◌then◌else◌, List, [], ◌∷◌, map, length, slice_get, Option, None, Some, option_map, refl, sym, ap, ◌∙◌, arith}
+use Rattle.std.proofs.lemmas.Bool.{eq-eqb, eqb-true, ltb-true, ltb-false, lt-ltb, le-ltb, ne_eqb}
 use Rattle.rank_map.specs.Places.{Place, Entry, place_at, item_in, item_at, put_first, with_place, entry_first, entries, Rises}
 use Rattle.rank_map.specs.Marks.{mark_if, mark_of, marked}
 use Rattle.rank_map.proofs.PlaceLemmas.{below_all}
 use Rattle.thread_state.specs.View.{ThreadState, ThreadView}
-use Rattle.server_model.specs.Work.{thread_in, with_thread, without_thread}
+use Rattle.server_model.specs.Work.{thread_in, set_thread, with_thread, without_thread}
 use Rattle.server_model.specs.Events.{can_step, is_ready}
 use Rattle.drive_model.specs.Ending.{is_over}
 use Rattle.drive_model.specs.Choice.{runnable_in}
@@ -130,3 +130,33 @@ movable_key (p ∷ ps) n = by p.item n.0 (movable_key ps n.1)
         → option_map (λ e. e.key) (slice_get (entry_first p.key (mark_of moves x) (entries (marked moves ps))) 0) ≡ movable_in (of (entry_first p.key x (entries ps)))
     by None g ih = ih
     by (Some v) g ih = go (is_ready v.state.phase && not v.state.moved_since_step) v.state.number (sym g) ih
+
+-- a thread that is taken out and put back in another state stands where it stood
+pub put_again : (ps : List (Place ThreadView)) (low high k : ℕ) → Rises low high ps → AreNumbered ps → is_some (item_at ps k) ≡ true → (t : ThreadState) → t.number ≡ k → with_thread (without_thread (states ps) k) t ≡ set_thread (states ps) t
+put_again [] low high k r n there t is = absurd (true≢false (sym there))
+put_again (p ∷ ps) low high k r n there t is = by p.item (p.key == k) refl n.0 there (λ h. put_again ps (p.key + 1) high k r.1 n.1 h t is)
+  where
+    above : is_some (item_at ps k) ≡ true → (b : Bool) → nat_lt k (p.key + 1) ≡ b → p.key < k
+    above h true e = absurd (true≢false (sym h ∙ ap (λ x. is_some (item_in x)) (below_all ps (p.key + 1) high k r.1 (ltb-true k (p.key + 1) e))))
+    above h false e = omega (arith, ltb-false k (p.key + 1) e)
+
+    first : (v : ThreadView) → v.state.number ≡ p.key → (p.key == k) ≡ true → with_thread (without_thread (v.state ∷ states ps) k) t ≡ set_thread (v.state ∷ states ps) t
+    first v g e =
+        let same = eqb-true p.key k e in
+        ap (λ b. with_thread (if b then states ps else v.state ∷ without_thread (states ps) k) t) (ap (λ i. i == k) g ∙ e)
+        ∙ before_all ps (p.key + 1) high t r.1 n.1 (omega (arith, same, is))
+        ∙ sym (ap (λ b. if b then t ∷ states ps else v.state ∷ set_thread (states ps) t) (eq-eqb v.state.number t.number (omega (arith, same, is, g))))
+
+    later : (v : ThreadView) → v.state.number ≡ p.key → p.key < k → with_thread (without_thread (states ps) k) t ≡ set_thread (states ps) t → with_thread (without_thread (v.state ∷ states ps) k) t ≡ set_thread (v.state ∷ states ps) t
+    later v g less ih =
+        ap (λ b. with_thread (if b then states ps else v.state ∷ without_thread (states ps) k) t) (ne_eqb v.state.number k (λ e. omega (arith, e, g, less)))
+        ∙ ap (λ b. if b then t ∷ v.state ∷ without_thread (states ps) k else v.state ∷ with_thread (without_thread (states ps) k) t) (le-ltb t.number v.state.number (omega (arith, is, g, less)))
+        ∙ ap (λ ts. v.state ∷ ts) ih
+        ∙ sym (ap (λ b. if b then t ∷ states ps else v.state ∷ set_thread (states ps) t) (ne_eqb v.state.number t.number (λ e. omega (arith, e, is, g, less))))
+
+    by : (x : Option ThreadView) (b : Bool) → (p.key == k) ≡ b → HasKey p.key x → is_some (item_in (if b then Some x else place_at ps k)) ≡ true → (is_some (item_at ps k) ≡ true → with_thread (without_thread (states ps) k) t ≡ set_thread (states ps) t)
+        → with_thread (without_thread (of (entry_first p.key x (entries ps))) k) t ≡ set_thread (of (entry_first p.key x (entries ps))) t
+    by None true e g h ih = absurd (true≢false (sym h))
+    by None false e g h ih = ih h
+    by (Some v) true e g h ih = first v g e
+    by (Some v) false e g h ih = later v g (above h (nat_lt k (p.key + 1)) refl) (ih h)

@@ -3,7 +3,7 @@
 ghost use Rattle.std.specs.Prelude.{◌≡◌, ◌+◌, ◌<◌, ◌≤◌, [], Some, None, length, slice_get, option_map, IsOk, IfOk, IfErr, OnOk, OnErr};
 ghost use Rattle.server_model.specs.Servers.{start_of, server_at};
 ghost use Rattle.server_model.specs.Clusters.{accept};
-ghost use Rattle.server_model.specs.Events.{enabled, can_step, is_ready};
+ghost use Rattle.server_model.specs.Events.{enabled, is_ready};
 ghost use Rattle.std.specs.Arc.{arc_value};
 ghost use Rattle.server_core.specs.Outboxes.{sending, taken_out};
 ghost use Rattle.server_core.specs.Threads.{states, first_threads};
@@ -11,7 +11,7 @@ ghost use Rattle.drive_model.specs.Choice.{due, runnable};
 ghost use Rattle.drive_model.specs.Balance.{active, movable};
 ghost use Rattle.drive_model.specs.Ending.{waits_among};
 
-use crate::threads::Threads;
+use crate::threads::{Threads, can_step};
 use fr_base::{Code, NoMemory, Options, ThreadNo, Wait};
 use global_addr::Word;
 use join_home::Tasks;
@@ -87,17 +87,7 @@ fn first_threads(alloc: Global, server: u8) -> Result<Threads, NoMemory>
     Ok(threads)
 }
 
-// Whether a thread doesn't wait.
-fn can_step(thread: &Thread) -> bool
-    ensures { result ≡ can_step thread.now.state.phase }
-{
-    matches!(
-        &thread.phase,
-        Phase::Ready | Phase::Got | Phase::GotPar(_, _) | Phase::Taken(_)
-    )
-}
-
-// Whether it has begun no step.
+// Whether a thread has begun no step.
 fn is_ready(thread: &Thread) -> bool
     ensures { result ≡ is_ready thread.now.state.phase }
 {

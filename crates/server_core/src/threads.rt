@@ -3,7 +3,8 @@
 ghost use Rattle.std.specs.Prelude.{◌≡◌, ◌<◌, ◌^◌, true, [], None, Some, length, slice_get, option_map, IsSome, OnOk, OnErr};
 ghost use Rattle.rank_map.specs.Places.{has_place, with_place, with_free};
 ghost use Rattle.rank_map.specs.Marks.{mark_if};
-ghost use Rattle.server_model.specs.Work.{thread_in, with_thread, without_thread};
+ghost use Rattle.server_model.specs.Work.{thread_in, set_thread, with_thread, without_thread};
+ghost use Rattle.thread_state.specs.View.{ThreadState};
 ghost use Rattle.drive_model.specs.Choice.{runnable_in};
 ghost use Rattle.drive_model.specs.Ending.{wait_of, waits_among};
 ghost use Rattle.drive_model.specs.Balance.{active_in, movable_in};
@@ -75,7 +76,7 @@ fn set_mark(set: &mut RankMap<()>, number: u64, on: bool)
 }
 
 // Whether the thread doesn't wait.
-fn can_step(thread: &Thread) -> bool
+pub(crate) fn can_step(thread: &Thread) -> bool
     ensures { result ≡ steps thread.now }
 {
     matches!(
@@ -169,12 +170,14 @@ impl Threads {
         self.all.insert(number, thread);
     }
 
-    /// Takes the thread of that number; room for it stays. It stands there.
+    /// Takes the thread of that number; room for it stays, and put back by `insert` in another state it stands where it stood. It stands
+    /// there.
     pub fn take(&mut self, thread: ThreadNo) -> Thread
         requires there { IsSome (thread_in (states self.old) thread) }
         ensures thread { thread_in (states self.old) thread ≡ Some result.state }
         ensures state { states self.new ≡ without_thread (states self.old) thread }
         ensures places { self.new ≡ with_place self.old thread (Some None) }
+        ensures back { (t : ThreadState) → t.number ≡ thread → with_thread (states self.new) t ≡ set_thread (states self.old) t }
     {
         let number = number_of(thread);
         set_mark(&mut self.runnable, number, false);

@@ -1,8 +1,8 @@
 use Rattle.std.proofs.Common.{◌<◌, ◌^◌, None, IsSome, option_map, sym, subst, ap, ◌∙◌, arith}
-use Rattle.server_model.specs.Work.{thread_in, without_thread}
+use Rattle.server_model.specs.Work.{thread_in, set_thread, without_thread}
 use Rattle.server_core.specs.Threads.{states}
 use Rattle.server_core.proofs.ThreadLemmas.{take_states}
-use Rattle.server_core.proofs.StandLemmas.{all_changed, stands_at, there_item, found_thread}
+use Rattle.server_core.proofs.StandLemmas.{all_changed, stands_at, there_item, found_thread, back_again}
 use Rattle.server_core.proofs.threads.Threads.take.Goals as goal
 
 pub set_mark-requires : goal.set_mark-requires
@@ -71,3 +71,11 @@ returns-clause-state c =
     let k = c.number_of-number.result in
     ap states c.take.ensures.places ∙ take_states c.self.inside.all 0 (2 ^ 40) k c.self.invariant.rises c.self.invariant.numbered
     ∙ ap (without_thread (states c.self.inside.all)) c.number_of-number.ensures.number ∙ ap (λ ps. without_thread (states ps) c.args.thread) c.self.view_is
+
+pub returns-clause-back : goal.returns-clause-back
+returns-clause-back c =
+    let k = c.number_of-number.result in
+    let stands : IsSome (thread_in (states c.self.inside.all) k) =
+    subst (λ i. IsSome (thread_in (states c.self.inside.all) i)) (sym c.number_of-number.ensures.number) (subst (λ ps. IsSome (thread_in (states ps) c.args.thread)) (sym c.self.view_is) c.requires.there)
+    in
+    λ t is. back_again k c.self.invariant stands c.take.ensures.places t (is ∙ sym c.number_of-number.ensures.number) ∙ ap (λ ps. set_thread (states ps) t) c.self.view_is
