@@ -1,14 +1,13 @@
 -- Borrows keep a state typed.
-use Rattle.std.proofs.Common.{◌≡◌, ◌≢◌, inl, inr, ◌∙◌, ap₂, ℕ, zero, suc, ◌<◌, ◌≤◌, Bool, true, false, List, [], ◌∷◌, ◌++◌, length, Option, Some, None, refl, sym, ap, subst, arith}
+use Rattle.std.proofs.Common.{◌≡◌, inl, inr, ◌∙◌, ap₂, ℕ, Bool, true, false, List, [], ◌∷◌, ◌++◌, length, Option, Some, None, refl, sym, ap, subst, arith}
 use Rattle.fr_base.specs.declared.label.Plain.TheVariants as plain
-use Rattle.fr_base.specs.declared.name.ObjNo.{ObjNo}
 use Rattle.fr_base.specs.declared.place.Lval.{Lval}
 use Rattle.fr_base.specs.declared.step.Fresh.TheVariants as fresh
 use Rattle.fr_typing.specs.Kinds.{Owned, Kind, shared, mutable, whole}
 use Rattle.fr_typing.specs.Places.{Env, found, read_blocked, kind_places, AreBelow}
 use Rattle.fr_typing.specs.Finding.{IsOpen}
-use Rattle.fr_store.specs.Keys.{Key, slot_k}
-use Rattle.fr_store.specs.Store.{Location, at_key, Val, gone_v, ref_v, Store, Place, put_value}
+use Rattle.fr_store.specs.Keys.{slot_k}
+use Rattle.fr_store.specs.Store.{at_key, gone_v, ref_v, Place, put_value}
 use Rattle.fr_store.specs.Typed.{refers, KeyTypes, Typed}
 use Rattle.fr_store.specs.Below.{RefOf}
 use Rattle.fr_store.specs.Rows.{with_type, FreeFor}
@@ -17,26 +16,25 @@ use Rattle.fr_store.proofs.Rows.{found_place, borrow}
 use Rattle.fr_store.proofs.Below.{Resolved, mut_place, resolved, resolved_writable}
 use Rattle.fr_store.proofs.ThreadKept.{no_temp, unlent_key, unnamed_key, whole_exact}
 use Rattle.fr_plain.specs.declared.value.Value.{Value}
-use Rattle.fr_plain.specs.MachineActs.{Act, do_borrow, reference, borrow_did}
+use Rattle.fr_plain.specs.MachineActs.{do_borrow, reference, borrow_did}
 use Rattle.fr_plain.specs.State.{Spot, in_slot, in_cell, then_reached, slot_at}
-use Rattle.fr_plain.specs.MachineThreads.{Now, Move, Moves, Life, Thread, Whole, state_of}
+use Rattle.fr_plain.specs.MachineThreads.{Now, Move, Life, Thread, Whole, state_of}
 use Rattle.fr_plain.specs.Machine.{prints, nameless, then_released, stepped}
 use Rattle.fr_plain.specs.PlainState.{Running, PlainState, plain_state}
 use Rattle.fr_sound.specs.Entries.{Entry, going}
 use Rattle.fr_sound.specs.Seen.{Gives, location_of}
 use Rattle.fr_sound.specs.States.{Typing, env_at, is_hidden, is_held}
 use Rattle.fr_code.specs.CodeTypes.{HasType, wait}
-use Rattle.plain_types.specs.Positions.{Position, PositionTypes, moves_by, StartsAs}
+use Rattle.plain_types.specs.Positions.{Position, moves_by, StartsAs}
 use Rattle.plain_types.specs.ActRows.{Leaves, loud, left_after, ActRow, r_borrow, r_borrow_mut}
 use Rattle.plain_types.specs.Keeps.{Ready, StepsTyped, Keeps, IsBorrow, IsBorrowMut}
 use Rattle.plain_types.proofs.Lower.{seen_as}
 use Rattle.plain_types.proofs.OneThread.{store, Counted}
-use Rattle.plain_types.proofs.AtHand.{NewName}
 use Rattle.plain_types.proofs.Focus.{top_none, hand_at, Focus}
-use Rattle.plain_types.proofs.Hand.{At, Becomes, Ranked, ranked, push}
+use Rattle.plain_types.proofs.Hand.{At, Ranked, ranked, push}
 use Rattle.plain_types.proofs.Done.{runs_here, only_here}
 use Rattle.plain_types.proofs.Operands.{steps_typed}
-use Rattle.plain_types.proofs.Places.{variable_below, variable_seen, Leads, leads}
+use Rattle.plain_types.proofs.Places.{variable_below, variable_seen, leads}
 
 -- a reference to a spot, as the store shows it
 seen_reference : (g : Gives) (t : ℕ) (p : Spot) → seen_as g t gone_v (Some (reference p)) ≡ ref_v (location_of t p)

@@ -1,51 +1,50 @@
 -- Reads that copy keep a state typed.
-use Rattle.std.proofs.Common.{◌≡◌, ◌≢◌, ◌⊎◌, inl, inr, ◌∙◌, ap₂, ℕ, ℤ, zero, suc, ◌<◌, ◌≤◌, Bool, true, false, List, [], ◌∷◌, ◌++◌, length, Option, Some, None, refl, sym, ap, subst, arith}
+use Rattle.std.proofs.Common.{◌≡◌, ◌≢◌, ◌⊎◌, inl, inr, ◌∙◌, ap₂, ℕ, ℤ, zero, suc, ◌<◌, ◌≤◌, Bool, true, false, List, ◌∷◌, ◌++◌, length, Option, Some, None, refl, sym, ap, subst, arith}
 use Rattle.fr_base.specs.declared.label.Plain.{Plain}
 use Rattle.fr_base.specs.declared.label.Plain.TheVariants as plain
 use Rattle.fr_base.specs.declared.name.ObjNo.{ObjNo}
 use Rattle.fr_base.specs.declared.name.MutexNo.{MutexNo}
 use Rattle.fr_base.specs.declared.place.Lval.{Lval}
 use Rattle.fr_base.specs.declared.step.Fresh.TheVariants as fresh
-use Rattle.fr_typing.specs.Kinds.{Owned, unit, int, box, mutex, task, Kind, own, shared, mutable, view, Piece, whole, gone, boxed, copies}
-use Rattle.fr_typing.specs.Places.{Env, found, type_at, read_blocked, kind_places, AreBelow, IsNested}
+use Rattle.fr_typing.specs.Kinds.{Owned, unit, int, box, mutex, task, Kind, own, shared, mutable, view, Piece, whole, copies}
+use Rattle.fr_typing.specs.Places.{Env, found, type_at, kind_places, AreBelow, IsNested}
 use Rattle.fr_store.specs.Keys.{Key, slot_k}
 use Rattle.fr_store.specs.Store.{locate as store_locate}
-use Rattle.fr_store.specs.Store.{Location, at_key, at_object, Val, gone_v, unit_v, int_v, ref_v, Store, value_at, Place, put_value, add}
-use Rattle.fr_store.specs.Typed.{Tree, hole, unit_tree, int_tree, mutex_tree, task_tree, box_tree, TopFits, Exact, owns, refers, KeyTypes, Whole, WholeTree, exact_under, Resolves, here, through, Fits, RefFits, Typed, Unnamed}
+use Rattle.fr_store.specs.Store.{Location, at_key, Val, gone_v, unit_v, int_v, ref_v, Store, value_at, Place, put_value, add}
+use Rattle.fr_store.specs.Typed.{hole, unit_tree, int_tree, mutex_tree, task_tree, box_tree, Exact, owns, refers, KeyTypes, Whole, exact_under, Resolves, here, through, Fits, RefFits, Typed, Unnamed}
 use Rattle.fr_store.specs.Changes.{New, new_unit, new_int}
-use Rattle.fr_store.specs.Below.{tree_of, Seen, OneOf, RefOf, ExactOf, SlotsBelow}
+use Rattle.fr_store.specs.Below.{tree_of, Seen, ExactOf, SlotsBelow}
 use Rattle.fr_store.specs.Rows.{with_type}
 use Rattle.fr_store.specs.Thread.{place_of, temp_places}
-use Rattle.fr_store.proofs.Frame.{part_owns}
 use Rattle.fr_store.proofs.Rows.{found_place, copy_ref}
 use Rattle.fr_store.proofs.Sound.{res_part}
 use Rattle.fr_store.proofs.Below.{Resolved, mut_place, resolved}
 use Rattle.fr_store.proofs.PutAt.{places_any}
 use Rattle.fr_store.proofs.ThreadKept.{exact_owned, exact_with, ref_base, res_low, whole_exact}
 use Rattle.fr_plain.specs.declared.value.Value.{Value}
-use Rattle.fr_plain.specs.declared.value.Value.TheVariants.{Own, ToSlot, ToObject, Held}
+use Rattle.fr_plain.specs.declared.value.Value.TheVariants.{Own, Held}
 use Rattle.fr_plain.specs.Heap.{Heap, cell_at}
-use Rattle.fr_plain.specs.MachineActs.{Act, do_read, read_did}
+use Rattle.fr_plain.specs.MachineActs.{do_read, read_did}
 use Rattle.fr_plain.specs.State.{State, Spot, in_slot, in_cell, owned, then_reached, slot_at, loads}
 use Rattle.fr_plain.specs.State as machine
-use Rattle.fr_plain.specs.MachineThreads.{Now, Move, Moves, Life, Thread, Whole as State_, state_of}
+use Rattle.fr_plain.specs.MachineThreads.{Now, Move, Life, Thread, Whole as State_, state_of}
 use Rattle.fr_plain.specs.Machine.{prints, nameless, then_released, stepped}
 use Rattle.fr_plain.specs.PlainState.{Running, PlainState, place_in, plain_state}
 use Rattle.fr_sound.specs.Entries.{Entry, going}
-use Rattle.fr_sound.specs.Seen.{Gives, val_of, seen_cell, location_of}
+use Rattle.fr_sound.specs.Seen.{val_of, seen_cell, location_of}
 use Rattle.fr_sound.specs.States.{Typing, is_held, thread_of_key}
 use Rattle.fr_code.specs.CodeTypes.{HasType, wait}
-use Rattle.plain_types.specs.Positions.{Position, PositionTypes, moves_by, StartsAs}
+use Rattle.plain_types.specs.Positions.{Position, moves_by, StartsAs}
 use Rattle.plain_types.specs.ActRows.{Leaves, loud, left_after, ActRow, r_copy}
 use Rattle.plain_types.specs.Keeps.{Ready, StepsTyped, Keeps, IsCopy}
-use Rattle.plain_types.proofs.Lower.{seen_as, SlotIs, slot_is, Names, names_own, names_view, names_of, res_below, decide_less}
+use Rattle.plain_types.proofs.Lower.{seen_as, slot_is, Names, names_own, names_view, names_of, res_below, decide_less}
 use Rattle.plain_types.proofs.OneThread.{store, Counted}
 use Rattle.plain_types.proofs.AtHand.{NewName}
 use Rattle.plain_types.proofs.Focus.{top_none, hand_at, Focus}
-use Rattle.plain_types.proofs.Hand.{At, Becomes, Ranked, ranked, push, typed_new}
+use Rattle.plain_types.proofs.Hand.{At, ranked, push, typed_new}
 use Rattle.plain_types.proofs.Done.{runs_here, only_here}
 use Rattle.plain_types.proofs.Operands.{steps_typed}
-use Rattle.plain_types.proofs.Places.{variable_below, variable_seen, slot_here, cell_here, Leads, leads, value_there, seen_val_of}
+use Rattle.plain_types.proofs.Places.{variable_below, variable_seen, slot_here, cell_here, leads, value_there, seen_val_of}
 use Rattle.plain_types.proofs.Borrows.{variable_clear}
 
 -- WHERE A REFERENCE STANDS

@@ -1,17 +1,14 @@
 -- A typed state in which an act is granted.
-use Rattle.std.proofs.Common.{◌≡◌, ◌∙◌, ℕ, zero, suc, ◌<◌, [], Option, Some, None, refl, sym, ap, subst, arith}
-use Rattle.std.specs.Prelude.{◌==◌, Bool, true, false, pos, if◌then◌else◌}
-use Rattle.fr_base.specs.declared.name.ObjNo.{ObjNo}
-use Rattle.fr_base.specs.declared.name.MutexNo.{MutexNo}
+use Rattle.std.proofs.Common.{◌≡◌, ◌∙◌, ℕ, zero, suc, [], Some, None, refl, sym, ap, subst, arith}
+use Rattle.std.specs.Prelude.{◌==◌, Bool, false, pos, if◌then◌else◌}
 use Rattle.fr_typing.specs.Kinds.{unit}
 use Rattle.fr_typing.proofs.PlaceLemmas.{eq_cases}
 use Rattle.fr_store.specs.Keys.{Key, slot_k, temp_k, content_k, result_k, hand_k}
 use Rattle.fr_store.specs.Store.{Location, at_key, at_object, Val, gone_v, box_v, mutex_v, task_v, value_at}
-use Rattle.fr_store.specs.Typed.{Exact, hole, owns, refers, KeyTypes, exact_under, Stands, Typed}
+use Rattle.fr_store.specs.Typed.{Exact, hole, owns, KeyTypes, exact_under, Stands, Typed}
 use Rattle.fr_plain.specs.declared.value.Value.{Value}
-use Rattle.fr_plain.specs.MachineThreads.{Life, alive, ended, Thread, thread_at}
+use Rattle.fr_plain.specs.MachineThreads.{ended}
 use Rattle.fr_plain.specs.PlainState.{Running, place_in, running_in, plain_state}
-use Rattle.fr_sound.specs.Seen.{Gives}
 use Rattle.fr_sound.specs.Entries.{going}
 use Rattle.fr_sound.specs.States.{Typing, RunningTyped, IsKept, IsOwed}
 use Rattle.plain_types.specs.Positions.{Position, Knows, temps_of, PositionTypes}

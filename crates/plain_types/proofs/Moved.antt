@@ -1,9 +1,9 @@
 -- A value moves between a key and a location: where counted values stand then, and that marks lead where they led.
-use Rattle.std.proofs.Common.{◌≡◌, ◌≢◌, ◌⊎◌, inl, inr, ◌∙◌, ℕ, zero, suc, ◌≤◌, Bool, true, false, Option, Some, None, refl, sym, ap, subst, arith}
+use Rattle.std.proofs.Common.{◌≡◌, ◌≢◌, ◌⊎◌, inl, inr, ◌∙◌, ℕ, true, Some, refl, sym, ap, subst}
 use Rattle.fr_base.specs.declared.name.MutexNo.{MutexNo}
 use Rattle.fr_store.specs.Keys.{Key, slot_k}
-use Rattle.fr_store.specs.Store.{Location, at_key, Val, ref_v, Store, value_at, Place, below_key}
-use Rattle.fr_store.specs.Typed.{Tree, Exact, owns, refers, KeyTypes, exact_under, some_owns, tree_under, Resolves, here, Loaned, self, loan, Typed, Unnamed}
+use Rattle.fr_store.specs.Store.{Location, at_key, ref_v, Store, value_at, below_key}
+use Rattle.fr_store.specs.Typed.{Tree, owns, refers, KeyTypes, exact_under, some_owns, tree_under, here, Loaned, self, loan, Unnamed}
 use Rattle.fr_store.specs.Changes.{SameButTwo}
 use Rattle.fr_store.proofs.Chains.{decide_location}
 use Rattle.fr_store.proofs.Rows.{sole}
@@ -13,7 +13,7 @@ use Rattle.fr_plain.specs.PlainState.{Running, PlainState, place_in}
 use Rattle.fr_sound.specs.States.{Typing, slot_val}
 use Rattle.plain_types.specs.Positions.{Position, temps_of, PositionTypes}
 use Rattle.plain_types.proofs.Lower.{seen_as, seen_is}
-use Rattle.plain_types.proofs.OneThread.{store, Counted, Carried}
+use Rattle.plain_types.proofs.OneThread.{store, Carried}
 use Rattle.plain_types.proofs.AtHand.{ref_type}
 
 -- WHERE A VALUE STANDS AFTER TWO CHANGED PLACES

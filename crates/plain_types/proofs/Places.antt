@@ -1,17 +1,14 @@
 -- Where a place of a thread leads in the machine, and what stands there: as the store shows it.
-use Rattle.std.proofs.Common.{◌≡◌, ◌≢◌, ◌⊎◌, inl, inr, ◌∙◌, ℕ, zero, suc, ◌<◌, ◌≤◌, Bool, true, false, not, List, [], ◌∷◌, length, Option, Some, None, refl, sym, ap, subst, arith}
+use Rattle.std.proofs.Common.{◌≡◌, ◌∙◌, ℕ, zero, suc, ◌<◌, Bool, true, false, not, [], ◌∷◌, length, Option, Some, None, refl, sym, ap, subst, arith}
 use Rattle.std.specs.Prelude.{◌==◌, is_some, if◌then◌else◌}
 use Rattle.fr_base.specs.declared.label.Plain.{Plain}
 use Rattle.fr_base.specs.declared.label.Plain.TheVariants as plain
 use Rattle.fr_base.specs.declared.name.ObjNo.{ObjNo}
 use Rattle.fr_base.specs.declared.name.MutexNo.{MutexNo}
-use Rattle.fr_base.specs.declared.place.Lval.{Lval}
-use Rattle.fr_typing.specs.Kinds.{Owned, Kind, Piece, whole}
-use Rattle.fr_typing.specs.Places.{Env, Slot}
-use Rattle.fr_typing.proofs.PlaceLemmas.{eq_cases}
-use Rattle.fr_store.specs.Keys.{Key, slot_k}
-use Rattle.fr_store.specs.Store.{Location, at_key, at_object, Val, gone_v, ref_v, Store, value_at, star_target, star_hop, walk, Place, below_key}
-use Rattle.fr_store.specs.Typed.{Exact, refers, KeyTypes, Typed, Unnamed, Resolves}
+use Rattle.fr_typing.specs.Places.{Env}
+use Rattle.fr_store.specs.Keys.{slot_k}
+use Rattle.fr_store.specs.Store.{Location, at_key, Val, ref_v, value_at, star_target, star_hop, walk}
+use Rattle.fr_store.specs.Typed.{Typed, Unnamed}
 use Rattle.fr_store.proofs.Sound.{ref_at}
 use Rattle.fr_store.proofs.Rows.{not_to}
 use Rattle.fr_plain.specs.declared.value.Value.{Value}
@@ -24,7 +21,7 @@ use Rattle.fr_sound.specs.Seen.{Gives, val_of, seen_cell, location_of}
 use Rattle.fr_sound.specs.States.{Typing, slot_val, env_at, is_hidden, is_held}
 use Rattle.fr_sound.proofs.FoundPlaces.{maybe_val, led_to, walk_before}
 use Rattle.fr_code.specs.CodeTypes.{is_variable}
-use Rattle.plain_types.specs.Positions.{Position, temps_of, PositionTypes}
+use Rattle.plain_types.specs.Positions.{Position, temps_of}
 use Rattle.plain_types.proofs.Lower.{seen_as, seen_is, below_object}
 use Rattle.plain_types.proofs.OneThread.{store, same_by}
 use Rattle.plain_types.proofs.AtHand.{ref_type}

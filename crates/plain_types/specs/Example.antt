@@ -1,5 +1,5 @@
 -- A typed state in which an act is granted.
-use Rattle.std.specs.Prelude.{ℤ, pos, [], ◌∷◌}
+use Rattle.std.specs.Prelude.{pos, [], ◌∷◌}
 use Rattle.fr_base.specs.declared.label.Plain.TheVariants as plain
 use Rattle.fr_typing.specs.Kinds.{unit}
 use Rattle.fr_plain.specs.declared.value.Value.{Value}
