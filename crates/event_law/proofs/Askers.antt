@@ -85,11 +85,10 @@ module _ (k : Cluster) (sound : IsSound k) where
     old = λ b. ap other a;
     copy = λ s c. refl;
     used = λ s w. refl;
-    mutex = λ s m. refl;
   }
 
   unnoted : Unnoted g
-  unnoted = record { queue = λ m s t. refl; note = λ s t. refl }
+  unnoted = record { mutex = λ s m. refl; queue = λ m s t. refl; note = λ s t. refl }
 
   thread_there : (n : ℕ) (p : Bool) (t : ThreadState) → IsSome (server_at k.servers n) → tot g (thread_things n p t) ≡ 0
   thread_there n p t a = thread_alone g n (unseen n a) n p t ∙ ap other a

@@ -75,7 +75,7 @@ gives_change r gone news (owned.Int n) w c = record { more = []; light = fair_no
 -- MUTEXES AND NOTES
 
 pub mutex_heard : (f : Thing → ℕ) → Hears f → (n : ℕ) (m : Mutex) → tot f (mutex_things n 0 m) ≡ tot f (things_at (queue_things m.number) 0 m.queue)
-mutex_heard f h n m = let u = h.unseen n in omega (arith, u.mutex n m, content_none f n (h.unseen n) m, tot-append f (content_things m.number m.content) (things_at (queue_things m.number) 0 m.queue))
+mutex_heard f h n m = omega (arith, h.home n m, content_none f n (h.unseen n) m, tot-append f (content_things m.number m.content) (things_at (queue_things m.number) 0 m.queue))
 
 pub task_heard : (f : Thing → ℕ) → Hears f → (n : ℕ) (x : Task) → tot f (task_things n 0 x) ≡ f (noted n x)
 task_heard f h n x = omega (arith, result_none f n (h.unseen n) x.thread x.state)

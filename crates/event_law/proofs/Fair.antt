@@ -8,7 +8,8 @@ use Rattle.thread_state.specs.declared.phase.Phase.TheVariants as phase
 use Rattle.server_msgs.specs.declared.message.Message.{Message}
 use Rattle.server_model.specs.Events.{can_step}
 use Rattle.heap_law.specs.Names.{tot, one, if_so}
-use Rattle.heap_law.specs.Things.{Thing, flies, sent, stands, counts}
+use Rattle.mutex_home.specs.Mutexes.{Mutex}
+use Rattle.heap_law.specs.Things.{Thing, at_home, flies, sent, stands, counts}
 use Rattle.heap_law.specs.Requests.{Branch, waits, whole_answer, message_answer, halves, halves_to, halves_needed, pair_notes, pair_places, branch_places}
 use Rattle.heap_law.specs.Sharing.{is_over, finished_of, going_notes, goes_on, noted_away}
 use Rattle.heap_law.specs.Balances.{Agree}
@@ -33,61 +34,69 @@ pub record Asking (b : List Thing) : Type 0 where
 pub record Hears (f : Thing → ℕ) : Type 0 where
   pub unseen : (n : ℕ) → Unseen f n
   pub flying : (w : ℕ) (c : Cell) → f (flies w c) ≡ 0
+  pub home : (s : ℕ) (m : Mutex) → f (at_home s m) ≡ 0
   pub counted : (s a b c d e : ℕ) → f (counts s a b c d e) ≡ 0
   pub thread : (s : ℕ) (p q : Bool) (x y : ThreadState) → x.number ≡ y.number → x.phase ≡ y.phase → f (stands s p x) ≡ f (stands s q y)
 
 pub halves_heard : (t : ℕ) → Hears (halves_to t)
 halves_heard t = record {
-  unseen = λ n. record { held = λ p v. refl; shared = λ l r. refl; borrowed = λ l r. refl; locked = λ l m. refl; live = λ a c. refl; free = λ a m. refl; old = λ a. refl; copy = λ s c. refl; used = λ s w. refl; mutex = λ s m. refl };
+  unseen = λ n. record { held = λ p v. refl; shared = λ l r. refl; borrowed = λ l r. refl; locked = λ l m. refl; live = λ a c. refl; free = λ a m. refl; old = λ a. refl; copy = λ s c. refl; used = λ s w. refl };
   flying = λ w c. refl;
+  home = λ s m. refl;
   counted = λ s a b c d e. refl;
   thread = λ s p q x y e h. refl;
 }
 
 pub needed_heard : (t : ℕ) → Hears (halves_needed t)
 needed_heard t = record {
-  unseen = λ n. record { held = λ p v. refl; shared = λ l r. refl; borrowed = λ l r. refl; locked = λ l m. refl; live = λ a c. refl; free = λ a m. refl; old = λ a. refl; copy = λ s c. refl; used = λ s w. refl; mutex = λ s m. refl };
+  unseen = λ n. record { held = λ p v. refl; shared = λ l r. refl; borrowed = λ l r. refl; locked = λ l m. refl; live = λ a c. refl; free = λ a m. refl; old = λ a. refl; copy = λ s c. refl; used = λ s w. refl };
   flying = λ w c. refl;
+  home = λ s m. refl;
   counted = λ s a b c d e. refl;
   thread = λ s p q x y e h. ap₂ (λ i j. if_so (i == t && waits j) 2) e h;
 }
 
 pub notes_heard : (b : Branch) → Hears (pair_notes b)
 notes_heard b = record {
-  unseen = λ n. record { held = λ p v. refl; shared = λ l r. refl; borrowed = λ l r. refl; locked = λ l m. refl; live = λ a c. refl; free = λ a m. refl; old = λ a. refl; copy = λ s c. refl; used = λ s w. refl; mutex = λ s m. refl };
+  unseen = λ n. record { held = λ p v. refl; shared = λ l r. refl; borrowed = λ l r. refl; locked = λ l m. refl; live = λ a c. refl; free = λ a m. refl; old = λ a. refl; copy = λ s c. refl; used = λ s w. refl };
   flying = λ w c. refl;
+  home = λ s m. refl;
   counted = λ s a b c d e. refl;
   thread = λ s p q x y e h. refl;
 }
 
 pub places_heard : (b : Branch) → Hears (pair_places b)
 places_heard b = record {
-  unseen = λ n. record { held = λ p v. refl; shared = λ l r. refl; borrowed = λ l r. refl; locked = λ l m. refl; live = λ a c. refl; free = λ a m. refl; old = λ a. refl; copy = λ s c. refl; used = λ s w. refl; mutex = λ s m. refl };
+  unseen = λ n. record { held = λ p v. refl; shared = λ l r. refl; borrowed = λ l r. refl; locked = λ l m. refl; live = λ a c. refl; free = λ a m. refl; old = λ a. refl; copy = λ s c. refl; used = λ s w. refl };
   flying = λ w c. refl;
+  home = λ s m. refl;
   counted = λ s a b c d e. refl;
   thread = λ s p q x y e h. ap₂ (λ i j. if_so (s == b.server && i == b.parent) (branch_places b.thread j)) e h;
 }
 
 pub going_heard : (t : ℕ) → Hears (going_notes t)
 going_heard t = record {
-  unseen = λ n. record { held = λ p v. refl; shared = λ l r. refl; borrowed = λ l r. refl; locked = λ l m. refl; live = λ a c. refl; free = λ a m. refl; old = λ a. refl; copy = λ s c. refl; used = λ s w. refl; mutex = λ s m. refl };
+  unseen = λ n. record { held = λ p v. refl; shared = λ l r. refl; borrowed = λ l r. refl; locked = λ l m. refl; live = λ a c. refl; free = λ a m. refl; old = λ a. refl; copy = λ s c. refl; used = λ s w. refl };
   flying = λ w c. refl;
+  home = λ s m. refl;
   counted = λ s a b c d e. refl;
   thread = λ s p q x y e h. refl;
 }
 
 pub goes_heard : (t : ℕ) → Hears (goes_on t)
 goes_heard t = record {
-  unseen = λ n. record { held = λ p v. refl; shared = λ l r. refl; borrowed = λ l r. refl; locked = λ l m. refl; live = λ a c. refl; free = λ a m. refl; old = λ a. refl; copy = λ s c. refl; used = λ s w. refl; mutex = λ s m. refl };
+  unseen = λ n. record { held = λ p v. refl; shared = λ l r. refl; borrowed = λ l r. refl; locked = λ l m. refl; live = λ a c. refl; free = λ a m. refl; old = λ a. refl; copy = λ s c. refl; used = λ s w. refl };
   flying = λ w c. refl;
+  home = λ s m. refl;
   counted = λ s a b c d e. refl;
   thread = λ s p q x y e h. ap₂ (λ i j. one (i == t && (not (i == 0) && not (is_over j)))) e h;
 }
 
 pub homes_heard : Hears noted_away
 homes_heard = record {
-  unseen = λ n. record { held = λ p v. refl; shared = λ l r. refl; borrowed = λ l r. refl; locked = λ l m. refl; live = λ a c. refl; free = λ a m. refl; old = λ a. refl; copy = λ s c. refl; used = λ s w. refl; mutex = λ s m. refl };
+  unseen = λ n. record { held = λ p v. refl; shared = λ l r. refl; borrowed = λ l r. refl; locked = λ l m. refl; live = λ a c. refl; free = λ a m. refl; old = λ a. refl; copy = λ s c. refl; used = λ s w. refl };
   flying = λ w c. refl;
+  home = λ s m. refl;
   counted = λ s a b c d e. refl;
   thread = λ s p q x y e h. refl;
 }

@@ -64,3 +64,4 @@ pub mod TurnEvents
 pub mod HaveResults
 pub mod StandsHere
 pub mod AnswerResults
+pub mod LockResults

@@ -61,7 +61,7 @@ made_more r news v r1 a =
       same = a.same;
       more = λ f h.
           let u = h.unseen r.number in
-          omega (arith, a.more f h, tot-push (mutex_things r.number) f r1.mutexes.there 0 x, u.mutex r.number x, u.held (as_content x.number) v);
+          omega (arith, a.more f h, tot-push (mutex_things r.number) f r1.mutexes.there 0 x, h.home r.number x, u.held (as_content x.number) v);
     }
 
 module _ (y : ThreadState) (r : Rest) (calm : can_step y.phase ≡ true) (names : r.started + 2 < 2 ^ 32) where

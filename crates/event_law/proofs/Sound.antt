@@ -30,11 +30,10 @@ module _ (r : ℕ) where
     old = λ a. refl;
     copy = λ s c. refl;
     used = λ s w. refl;
-    mutex = λ s m. refl;
   }
 
   unnoted : Unnoted f
-  unnoted = record { queue = λ m s t. refl; note = λ s t. refl }
+  unnoted = record { mutex = λ s m. refl; queue = λ m s t. refl; note = λ s t. refl }
 
   thread_none : (s : ℕ) (p : Bool) (t : ThreadState) → tot f (thread_things s p t) ≡ 0
   thread_none s p t = thread_alone f s (unseen s) s p t

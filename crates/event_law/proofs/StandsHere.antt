@@ -32,10 +32,10 @@ module _ (n t : ℕ) (f : Phase → Bool) where
   bare x = 0
 
   unseen : (m : ℕ) → Unseen bare m
-  unseen m = record { held = λ p v. refl; shared = λ l r. refl; borrowed = λ l r. refl; locked = λ l m. refl; live = λ a c. refl; free = λ a m. refl; old = λ a. refl; copy = λ s c. refl; used = λ s w. refl; mutex = λ s m. refl }
+  unseen m = record { held = λ p v. refl; shared = λ l r. refl; borrowed = λ l r. refl; locked = λ l m. refl; live = λ a c. refl; free = λ a m. refl; old = λ a. refl; copy = λ s c. refl; used = λ s w. refl }
 
   unnoted : Unnoted bare
-  unnoted = record { queue = λ m s t. refl; note = λ s t. refl }
+  unnoted = record { mutex = λ s m. refl; queue = λ m s t. refl; note = λ s t. refl }
 
   -- a found thread weighs one
   abbrev FoundBare : Option Standing → Bool

@@ -27,10 +27,10 @@ pub record Unseen (f : Thing → ℕ) (n : ℕ) : Type 0 where
   pub old : (a : ℕ) → f (retired n a) ≡ 0
   pub copy : (s : ℕ) (c : Copy) → f (copied s c) ≡ 0
   pub used : (s w : ℕ) → f (uses s w) ≡ 0
-  pub mutex : (s : ℕ) (m : Mutex) → f (at_home s m) ≡ 0
 
--- nor who waits for a mutex, nor what is noted of a thread
+-- nor mutexes, nor who waits for one, nor what is noted of a thread
 pub record Unnoted (f : Thing → ℕ) : Type 0 where
+  pub mutex : (s : ℕ) (m : Mutex) → f (at_home s m) ≡ 0
   pub queue : (m : MutexNo) (s t : ℕ) → f (queued m s t) ≡ 0
   pub note : (s : ℕ) (t : Task) → f (noted s t) ≡ 0
 
@@ -104,7 +104,7 @@ module _ (f : Thing → ℕ) (n : ℕ) (u : Unseen f n) where
 
 module _ (f : Thing → ℕ) (n : ℕ) (u : Unseen f n) (w : Unnoted f) where
   mutex_none : (s i : ℕ) (m : Mutex) → tot f (mutex_things s i m) ≡ 0
-  mutex_none s i m = omega (arith, u.mutex s m, content_none f n u m, none_at f n u (queue_things m.number) (λ j x. omega (arith, w.queue m.number x.0 x.1)) 0 m.queue, tot-append f (content_things m.number m.content) (things_at (queue_things m.number) 0 m.queue))
+  mutex_none s i m = omega (arith, w.mutex s m, content_none f n u m, none_at f n u (queue_things m.number) (λ j x. omega (arith, w.queue m.number x.0 x.1)) 0 m.queue, tot-append f (content_things m.number m.content) (things_at (queue_things m.number) 0 m.queue))
 
   task_none : (s i : ℕ) (t : Task) → tot f (task_things s i t) ≡ 0
   task_none s i t = omega (arith, w.note s t, result_none f n u t.thread t.state)

@@ -8,7 +8,7 @@ use Rattle.global_addr.specs.Words.{server_of}
 use Rattle.heap_partition.specs.declared.value.Owned.{Owned}
 use Rattle.journal.specs.View.{EntryView}
 use Rattle.thread_state.specs.View.{ThreadState}
-use Rattle.server_msgs.specs.declared.message.Message.TheVariants.{Granted, Dupped, Start, Joined, Migrate}
+use Rattle.server_msgs.specs.declared.message.Message.TheVariants.{Lock, Granted, Dupped, Start, Joined, Migrate}
 use Rattle.server_model.specs.declared.event.Event.{Event}
 use Rattle.server_model.specs.declared.event.What.{What}
 use Rattle.server_model.specs.declared.event.What.TheVariants.{Deliver, Evict}
@@ -157,6 +157,12 @@ StartsHaveResults =
 abbrev pub ParcelsHaveResults : Type 0
 ParcelsHaveResults =
     (k : Cluster) (n i : ℕ) (s : Server) (t : ThreadState) → server_at k.servers n ≡ Some s → enabled k.options s (Deliver i) ≡ true → slice_get s.rest.inbox i ≡ Some (Migrate t) → HasResult k n (Deliver i)
+
+-- that of a `lock`, in a sound cluster
+abbrev pub LocksHaveResults : Type 0
+LocksHaveResults =
+    (k : Cluster) (n i : ℕ) (s : Server) (m : MutexNo) (a t : ℕ) → IsSound k → server_at k.servers n ≡ Some s → enabled k.options s (Deliver i) ≡ true → slice_get s.rest.inbox i ≡ Some (Lock m a t)
+    → HasResult k n (Deliver i)
 
 -- the delivery of an answer that gives a thread something, in a sound cluster
 pub record AnswersHaveResults : Type 0 where

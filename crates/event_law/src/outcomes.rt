@@ -1,6 +1,6 @@
 //! That an event that is enabled has a result.
 
-ghost use Rattle.event_law.specs.Laws.{AnswersHaveResults, EvictionsHaveResults, ParcelsHaveResults, StartsHaveResults};
+ghost use Rattle.event_law.specs.Laws.{AnswersHaveResults, EvictionsHaveResults, LocksHaveResults, ParcelsHaveResults, StartsHaveResults};
 
 /// The eviction of a copy that nobody uses, and the delivery of a thread, in whatever cluster.
 pub fn leaving_and_arriving()
@@ -12,4 +12,9 @@ pub fn leaving_and_arriving()
 /// The delivery of what a thread waits for and takes as its gift, in a sound cluster.
 pub fn giving()
     ensures { AnswersHaveResults }
+{}
+
+/// The delivery of a `lock`, in a sound cluster.
+pub fn locking()
+    ensures { LocksHaveResults }
 {}
