@@ -4,7 +4,7 @@ use Rattle.std.specs.Prelude.{Result, Ok, Err, OnOk}
 use Rattle.std.proofs.lemmas.List.{append-nil}
 use Rattle.fr_base.specs.declared.place.Op.{Op}
 use Rattle.fr_terms.specs.Terms as terms
-use Rattle.fr_terms.specs.Terms.{Text, Captured, start_of, block_t, let_t, assign_t, box_t, print_t, arith_t, join_t, mutex_t, spawn_t}
+use Rattle.fr_terms.specs.Terms.{Text, Captured, block_t, let_t, assign_t, box_t, print_t, arith_t, join_t, mutex_t, spawn_t}
 use Rattle.fr_typing.specs.Kinds.{Kind, own, unit}
 use Rattle.fr_typing.specs.Places.{Env}
 use Rattle.fr_typing.specs.Finding.{Outcome, typed}

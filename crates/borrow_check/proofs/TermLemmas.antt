@@ -2,7 +2,7 @@
 use Rattle.std.proofs.Common.{◌≡◌, ℕ, zero, suc, ◌+◌, ◌<◌, ◌≤◌, List, [], ◌∷◌, ◌++◌, length, drop, Option, Some, None, refl, sym, ap, ◌∙◌, subst, arith, length-append}
 use Rattle.std.specs.Prelude.{Result, Ok, Err, slice_get}
 use Rattle.std.proofs.lemmas.List.{append-nil}
-use Rattle.fr_terms.specs.Terms.{Text, Spot, block_t, let_t, assign_t, read_t, number_t, unit_t, box_t, print_t, Items, none, item, start_of}
+use Rattle.fr_terms.specs.Terms.{item, start_of}
 use Rattle.fr_terms.specs.Terms as terms
 use Rattle.fr_typing.specs.Kinds.{Kind, own, unit}
 use Rattle.fr_typing.specs.Places.{Env, AreBelow as NamesBelow, kind_places}

@@ -8,7 +8,7 @@ ghost use Rattle.coloured_heap.specs.Changes.{after_act, answering, asker_of, ch
 ghost use Rattle.coloured_heap.specs.Tables.{Shows, changed_living, changed_running, seen, stand_of, takes_memory, wish_of};
 ghost use Rattle.coloured_heap.specs.declared.changes.ObjectChange.TheVariants.{Leaves};
 
-use crate::keys::{Wish, mutex_key, object_key, thread_key};
+use crate::keys::{Wish, mutex_key, object_key};
 use crate::rules::issued_by;
 use crate::tables::{Object, Place, Stand, Tables};
 use fr_base::{MutexNo, NoMemory, ObjNo, ThreadNo};
@@ -37,7 +37,7 @@ fn asker(entry: &Entry) -> u64
     ensures { result ≡ asker_of entry.now.thread }
 {
     match entry.thread {
-        Some(thread) => thread_key(thread),
+        Some(thread) => thread.number(),
         None => 0,
     }
 }
@@ -188,7 +188,7 @@ impl Tables {
             server: there,
             has_ended: false,
         };
-        match self.threads.insert(thread_key(thread), stand) {
+        match self.threads.insert(thread.number(), stand) {
             Ok(_) => Ok(()),
             Err(_) => Err(NoMemory),
         }
@@ -198,7 +198,7 @@ impl Tables {
     fn change_thread(&mut self, thread: ThreadNo, by: ThreadChange)
         ensures { (s : Coloured) → Shows ⟦<Wish as PartialEq>⟧.eq self.old s → Shows ⟦<Wish as PartialEq>⟧.eq self.new (change_thread s thread (changed_running by)) }
     {
-        if let Some(found) = self.threads.get_mut(&thread_key(thread)) {
+        if let Some(found) = self.threads.get_mut(&thread.number()) {
             *found = found.changed(by);
         }
     }
@@ -249,7 +249,7 @@ impl Tables {
     fn grant(&mut self, mutex: &MutexNo, thread: ThreadNo, there: u8)
         ensures { (s : Coloured) → Shows ⟦<Wish as PartialEq>⟧.eq self.old s → Shows ⟦<Wish as PartialEq>⟧.eq self.new (with_holder (answering s (ForContent mutex.now thread there)) mutex.now (Some thread)) }
     {
-        self.answer(Wish::Content(mutex_key(mutex), thread_key(thread), there));
+        self.answer(Wish::Content(mutex_key(mutex), thread.number(), there));
         self.set_holder(mutex, Some(thread));
     }
 
@@ -285,7 +285,7 @@ impl Tables {
     fn send_share(&mut self, mutex: &MutexNo, thread: ThreadNo, there: u8)
         ensures { (s : Coloured) → Shows ⟦<Wish as PartialEq>⟧.eq self.old s → Shows ⟦<Wish as PartialEq>⟧.eq self.new (answering s (ForShare mutex.now thread there)) }
     {
-        self.answer(Wish::Share(mutex_key(mutex), thread_key(thread), there));
+        self.answer(Wish::Share(mutex_key(mutex), thread.number(), there));
     }
 
     // What an act changes that takes no memory.
@@ -310,7 +310,7 @@ impl Tables {
             Act::GiveBack(mutex) => self.set_holder(mutex, None),
             Act::Dupped(mutex, thread, there) => self.send_share(mutex, *thread, *there),
             Act::Answer(thread, asker, there) => {
-                self.answer(Wish::Result(thread_key(*thread), thread_key(*asker), *there))
+                self.answer(Wish::Result(thread.number(), asker.number(), *there))
             }
             Act::Finish(thread) => self.change_thread(*thread, ThreadChange::Finished),
             Act::Depart(thread, there) => self.change_thread(*thread, ThreadChange::Goes(*there)),
@@ -333,7 +333,7 @@ impl Tables {
             Act::AskDup(mutex) => self.ask_dup(entry, mutex),
             Act::Start(thread, there) => self.start(*thread, *there),
             Act::AskJoin(thread) => {
-                self.wish(Wish::Result(thread_key(*thread), asker(entry), here))
+                self.wish(Wish::Result(thread.number(), asker(entry), here))
             }
             _ => {
                 self.change_there(entry, act);

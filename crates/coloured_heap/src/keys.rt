@@ -31,19 +31,12 @@ pub(crate) enum Wish {
     Result(u64, u64, u8),
 }
 
-/// A thread's number.
-pub(crate) fn thread_key(thread: ThreadNo) -> u64
-    ensures { result ≡ thread }
-{
-    u64::from(thread.server()) * 4_294_967_296 + u64::from(thread.count())
-}
-
 /// What an object is found by.
 pub(crate) fn object_key(object: &ObjNo) -> ObjectKey
     ensures { result ≡ object_key object.now }
 {
     ObjectKey {
-        thread: thread_key(object.thread),
+        thread: object.thread.number(),
         count: object.count,
     }
 }

@@ -8,7 +8,7 @@ ghost use Rattle.coloured_heap.specs.Heap.{Coloured, ForCopy, ForObject, ForCont
 ghost use Rattle.coloured_heap.specs.Rules.{issued_by, is_new, names, is_here, lies, comes_here, is_left, is_kept, of_run, is_by, is_over, is_in, is_held, is_known, starting_server, rule, allows};
 ghost use Rattle.coloured_heap.specs.Tables.{Shows};
 
-use crate::keys::{Wish, mutex_key, object_key, thread_key};
+use crate::keys::{Wish, mutex_key, object_key};
 use crate::tables::Tables;
 use fr_base::{MutexNo, ObjNo, Options, Released, ThreadNo};
 use global_addr::Word;
@@ -193,21 +193,21 @@ impl Tables {
     fn asks_for_content(&self, mutex: &MutexNo, thread: ThreadNo, there: u8) -> bool
         ensures { (s : Coloured) → Shows ⟦<Wish as PartialEq>⟧.eq self.now s → result ≡ is_wished s (ForContent mutex.now thread there) }
     {
-        self.is_wished(Wish::Content(mutex_key(mutex), thread_key(thread), there))
+        self.is_wished(Wish::Content(mutex_key(mutex), thread.number(), there))
     }
 
     // Whether the thread at that server asked for a share of the mutex.
     fn asks_for_share(&self, mutex: &MutexNo, thread: ThreadNo, there: u8) -> bool
         ensures { (s : Coloured) → Shows ⟦<Wish as PartialEq>⟧.eq self.now s → result ≡ is_wished s (ForShare mutex.now thread there) }
     {
-        self.is_wished(Wish::Share(mutex_key(mutex), thread_key(thread), there))
+        self.is_wished(Wish::Share(mutex_key(mutex), thread.number(), there))
     }
 
     // Whether the thread at that server asked for the other thread's result.
     fn asks_for_result(&self, thread: ThreadNo, asker: ThreadNo, there: u8) -> bool
         ensures { (s : Coloured) → Shows ⟦<Wish as PartialEq>⟧.eq self.now s → result ≡ is_wished s (ForResult thread asker there) }
     {
-        self.is_wished(Wish::Result(thread_key(thread), thread_key(asker), there))
+        self.is_wished(Wish::Result(thread.number(), asker.number(), there))
     }
 
     // Whether that is the word of the object, which lies at the entry's server.
@@ -338,7 +338,7 @@ impl Tables {
             Act::AskJoin(thread) => entry.thread.is_some() && self.thread(*thread).is_some(),
             Act::Answer(thread, asker, there) => self.can_answer(entry, *thread, *asker, *there),
             Act::Finish(thread) => {
-                is_by(entry, *thread) && thread_key(*thread) != 0 && !self.is_over(*thread)
+                is_by(entry, *thread) && thread.number() != 0 && !self.is_over(*thread)
             }
             Act::Depart(thread, there) => {
                 is_by(entry, *thread) && *there < options.servers && *there != here

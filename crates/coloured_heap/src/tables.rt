@@ -5,7 +5,7 @@ ghost use Rattle.coloured_heap.specs.Heap.{Coloured, object_at, thread_at, mutex
 ghost use Rattle.coloured_heap.specs.Tables.{Shows, seen, stand_of, wish_of, lies_here, flies_here, is_placed};
 
 use crate::bag::Bag;
-use crate::keys::{MutexKey, ObjectKey, Wish, mutex_key, object_key, thread_key};
+use crate::keys::{MutexKey, ObjectKey, Wish, mutex_key, object_key};
 use fr_base::{MutexNo, ObjNo, ThreadNo};
 use global_addr::Word;
 use indexmap::{IndexMap, IndexSet};
@@ -94,7 +94,7 @@ impl Tables {
     pub(crate) fn thread(&self, thread: ThreadNo) -> Option<Stand>
         ensures { (s : Coloured) → Shows ⟦<Wish as PartialEq>⟧.eq self.now s → result ≡ option_map stand_of (thread_at s thread) }
     {
-        match self.threads.get(&thread_key(thread)) {
+        match self.threads.get(&thread.number()) {
             Some(found) => Some(*found),
             None => None,
         }

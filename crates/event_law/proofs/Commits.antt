@@ -16,9 +16,9 @@ use Rattle.thread_state.specs.declared.phase.Phase.TheVariants as phase
 use Rattle.thread_state.specs.declared.value.Value.{Value}
 use Rattle.thread_state.specs.declared.value.Value.TheVariants as value
 use Rattle.server_model.specs.Work.{Hand, working, label_all, push_temp, pop_temp, pop_slot, pop, pop_owned, pop_int}
-use Rattle.server_model.specs.Places.{Spot, in_slot, on_top, in_cell, in_copy, nowhere, owns_nothing, cell_at, value_at, load_at, put_slot, put_at, unpinned, second_of}
+use Rattle.server_model.specs.Places.{Spot, in_slot, on_top, in_cell, in_copy, nowhere, owns_nothing, cell_at, value_at, load_at, put_slot, put_at, second_of}
 use Rattle.server_model.specs.Drop.{drop_labels, drop_value}
-use Rattle.server_model.specs.Commit.{Committed, done, waits, refused, done_where, go_on, goes_on, let_slot, label_dropped, replace_slot, store_labels, store_at, replace_at, assign, take_out, read_as, read, shared_from, borrow_from, borrow, lent, lent_word, mutable_from, borrow_mut_from, borrow_mut, discard, drop_slot, print, par_end, commit}
+use Rattle.server_model.specs.Commit.{Committed, done, waits, refused, done_where, goes_on, let_slot, label_dropped, replace_slot, store_labels, store_at, replace_at, assign, take_out, read_as, read, shared_from, borrow_from, lent_word, mutable_from, borrow_mut_from, discard, drop_slot, print, par_end}
 use Rattle.heap_law.specs.Things.{Thing, Location, in_hand, at_temp, holds, shares, borrows, value_things}
 use Rattle.heap_law.specs.Things as things
 use Rattle.event_law.specs.Laws.{Gives}

@@ -1,6 +1,6 @@
 -- From the middle of an event to its server and its cluster.
 use Rattle.std.proofs.Common.{◌≡◌, ℕ, ◌+◌, ◌==◌, Bool, true, false, if◌then◌else◌, List, [], ◌∷◌, ◌++◌, Option, Some, None, refl, sym, ap, subst, ◌∙◌, arith}
-use Rattle.std.specs.Prelude.{slice_get, option_map}
+use Rattle.std.specs.Prelude.{slice_get}
 use Rattle.fr_typing.proofs.PlaceLemmas.{eq_cases}
 use Rattle.fr_base.specs.declared.instruction.Instr.{Instr}
 use Rattle.fr_base.specs.declared.settings.Options.{Options}
@@ -11,7 +11,7 @@ use Rattle.journal.specs.View.{EntryView}
 use Rattle.server_model.specs.declared.event.Event.{Event}
 use Rattle.server_model.specs.declared.event.What.TheVariants.{Deliver, Evict}
 use Rattle.server_model.specs.Servers.{Server, Cluster, server_at}
-use Rattle.server_model.specs.Work.{Work, Hand, Site, receive, with_cache, then_some}
+use Rattle.server_model.specs.Work.{Work, Site, receive, with_cache, then_some}
 use Rattle.server_model.specs.Events.{enabled, begin_at, left_by, received, deliver_message, deliver, evict_copy, does}
 use Rattle.server_model.specs.Clusters.{with_server, done_at, act_at}
 use Rattle.heap_law.specs.Names.{tot}

@@ -15,9 +15,9 @@ use Rattle.journal.specs.declared.act.Act.{Act}
 use Rattle.journal.specs.declared.act.Act.TheVariants as act
 use Rattle.server_model.specs.Work.{Hand, Popped, send, note, label_all, with_mutexes, working, push_temp, push_slot, pop_slot, pop, pop_owned, taken_as, owned_of, task_of, then_some}
 use Rattle.server_model.specs.Places.{Spot, load_at, cell_at, load_of}
-use Rattle.server_model.specs.Drop.{home_of, give_up}
+use Rattle.server_model.specs.Drop.{home_of}
 use Rattle.server_model.specs.Commit.{waiting, label_dropped, ask_join, take_gift, join, end_with, end_thread, mutex_made, mutex, mutex_at, ask_dup, dup, ask_lock, push_content, lock, held_of, send_content, unlock, go_on}
-use Rattle.heap_law.specs.Things.{Thing, in_hand, at_temp, as_content, as_result, holds, locks, sent, at_home, things_at, mutex_things}
+use Rattle.heap_law.specs.Things.{Thing, in_hand, at_temp, as_content, as_result, holds, locks, at_home, things_at, mutex_things}
 use Rattle.event_law.specs.Laws.{Gives}
 use Rattle.event_law.proofs.Trades.{Trade, tot-append, trade_push}
 use Rattle.event_law.proofs.Rules.{Rule, turned, hands_on, sends, spends, marks, unmarks, makes_mutex, counts_on, beside, in_turn, Kept}

@@ -16,7 +16,7 @@ use Rattle.heap_partition.specs.declared.value.Owned.{Owned}
 use Rattle.heap_partition.specs.declared.value.Owned.TheVariants as owned
 use Rattle.owner_box.specs.Partition.{freed}
 use Rattle.read_cache.specs.Cache.{can_fill, can_pin}
-use Rattle.mutex_home.specs.Mutexes.{Mutex, Mutexes, mutex_in, asked_of, asked_in, ask, unclaimed, back_to, back_out, back_in, give_back, more, last_less, less_of, less_in, less}
+use Rattle.mutex_home.specs.Mutexes.{Mutex, Mutexes, mutex_in, ask, back_to, back_out, back_in, give_back, more, last_less, less_of, less_in, less}
 use Rattle.mutex_home.specs.declared.answers.Asked.{Asked}
 use Rattle.mutex_home.specs.declared.answers.Asked.TheVariants as asked
 use Rattle.mutex_home.specs.declared.answers.Back.{Back}
@@ -32,7 +32,7 @@ use Rattle.thread_state.specs.declared.value.Value.TheVariants as value
 use Rattle.server_msgs.specs.declared.message.Message.{Message}
 use Rattle.server_msgs.specs.declared.message.Message.TheVariants as message
 use Rattle.server_model.specs.Servers.{Server, Rest}
-use Rattle.server_model.specs.Work.{Work, Hand, Site, put_back, then_some, thread_in, at_thread, beside_threads, look, look_object, with_mutexes, with_tasks, used_once}
+use Rattle.server_model.specs.Work.{Work, Hand, Site, put_back, then_some, thread_in, at_thread, beside_threads, look_object, with_mutexes, with_tasks, used_once}
 use Rattle.server_model.specs.NewWords.{NewWord, can_grow, issue_placed}
 use Rattle.server_model.specs.Places.{Spot, in_slot, value_at, set_pointer}
 use Rattle.server_model.specs.Prepare.{Access, ReadTo, ReadPointer, WriteTo, LendTo, EndRef, passing, write_stars}

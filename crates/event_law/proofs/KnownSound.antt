@@ -1,6 +1,5 @@
 -- In a sound cluster what an event reads names servers of the run alone.
 use Rattle.std.proofs.Common.{◌≡◌, ℕ, ◌+◌, ◌*◌, ◌^◌, ◌<◌, ◌≤◌, ◌==◌, ◌&&◌, nat_lt, nat_le, Bool, true, false, if◌then◌else◌, List, [], ◌∷◌, ◌++◌, length, Option, Some, None, refl, sym, ap, subst, ◌∙◌, arith}
-use Rattle.std.specs.Prelude.{slice_get}
 use Rattle.std.specs.List.{AllByRecursion}
 use Rattle.std.proofs.lemmas.Bool.Decides.{nat_tests}
 use Rattle.fr_typing.proofs.PlaceLemmas.{eq_cases}
@@ -19,7 +18,7 @@ use Rattle.server_msgs.specs.declared.message.Message.{Message}
 use Rattle.server_msgs.specs.declared.message.Message.TheVariants as message
 use Rattle.server_model.specs.Servers.{Server, Cluster, server_at}
 use Rattle.heap_law.specs.Names.{tot, one, other}
-use Rattle.heap_law.specs.Things.{Thing, Location, Spot, holds, shares, borrows, locks, lies, vacant, copied, sent, stands, at_home, queued, noted, counts, things_at, gift_things, walk_things, value_things, slot_things, temp_things, thread_things, standing_things, content_things, queue_things, mutex_things, result_things, task_things, copy_things, cell_things, free_things, partition_things, message_things, waiting_things, things_of}
+use Rattle.heap_law.specs.Things.{Thing, Location, Spot, vacant, stands, counts, things_at, gift_things, walk_things, value_things, slot_things, temp_things, thread_things, standing_things, content_things, queue_things, mutex_things, task_things, copy_things, cell_things, free_things, waiting_things, things_of}
 use Rattle.heap_law.specs.Follow.{Standing, threads_in}
 use Rattle.heap_law.specs.Sight.{Sight, sight, issued}
 use Rattle.heap_law.specs.Weights.{states, below}

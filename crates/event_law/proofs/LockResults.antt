@@ -1,29 +1,26 @@
 -- In a sound cluster the delivery of a `lock` has a result: its mutex is there.
 use Rattle.std.proofs.Common.{◌≡◌, ℕ, ◌+◌, ◌==◌, ◌&&◌, nat_lt, Bool, true, false, if◌then◌else◌, List, [], ◌∷◌, Option, Some, None, IsSome, refl, sym, ap, subst, ◌∙◌, arith}
-use Rattle.std.specs.Prelude.{slice_get, option_map}
+use Rattle.std.specs.Prelude.{slice_get}
 use Rattle.std.proofs.lemmas.Bool.{eqb-true}
 use Rattle.fr_typing.proofs.PlaceLemmas.{eq_cases}
 use Rattle.fr_base.specs.declared.name.MutexNo.{MutexNo}
 use Rattle.fr_base.specs.Names.{same_mutex}
-use Rattle.mutex_home.specs.Mutexes.{Mutex, Mutexes, mutex_in, asked_in, ask}
+use Rattle.mutex_home.specs.Mutexes.{Mutex, Mutexes, mutex_in, asked_in}
 use Rattle.join_home.specs.Tasks.{Task}
 use Rattle.thread_state.specs.View.{ThreadState}
 use Rattle.server_msgs.specs.declared.message.Message.{Message}
 use Rattle.server_msgs.specs.declared.message.Message.TheVariants as message
 use Rattle.server_model.specs.Servers.{Server, Cluster, server_at}
-use Rattle.server_model.specs.Work.{with_mutexes}
-use Rattle.server_model.specs.Sharing.{answer_lock, deliver_lock}
-use Rattle.server_model.specs.Events.{received}
 use Rattle.heap_law.specs.Names.{tot, one, other, some}
 use Rattle.heap_law.specs.Things.{Thing, sent, things_at, content_things, queue_things, mutex_things, task_things, standing_things, thread_things, waiting_things, leaving_things, message_things, server_things, servers_things, things_of}
 use Rattle.heap_law.specs.Sight.{sight}
 use Rattle.heap_law.specs.Sharing.{there_at, mutexes}
-use Rattle.heap_law.specs.Requests.{is_goal, goal, misrouted}
+use Rattle.heap_law.specs.Requests.{misrouted}
 use Rattle.heap_law.specs.Coherent.{IsSound}
 use Rattle.heap_law.proofs.Names.{and_right}
 use Rattle.heap_law.proofs.Sums.{tot-append, server_parts}
 use Rattle.event_law.specs.Sums.{is_server}
-use Rattle.event_law.specs.Laws.{HasResult, LocksHaveResults}
+use Rattle.event_law.specs.Laws.{LocksHaveResults}
 use Rattle.event_law.proofs.Trades.{tot-remove}
 use Rattle.event_law.proofs.Events.{others_of, tot-server}
 use Rattle.event_law.proofs.Unseen.{Unseen, none_at, thread_alone, content_none, result_none, partition_none, copies_none}

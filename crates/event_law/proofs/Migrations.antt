@@ -12,12 +12,12 @@ use Rattle.server_msgs.specs.declared.message.Message.TheVariants as message
 use Rattle.journal.specs.declared.act.Act.TheVariants as act
 use Rattle.server_model.specs.declared.event.What.TheVariants.{Migrate}
 use Rattle.server_model.specs.Servers.{Server}
-use Rattle.server_model.specs.Work.{Work, Site, note, with_cache, thread_in, without_thread, then_some, unpin_all}
+use Rattle.server_model.specs.Work.{Work, Site, note, with_cache, thread_in, without_thread, unpin_all}
 use Rattle.server_model.specs.Places.{unpinned}
 use Rattle.server_model.specs.Moving.{pinned_word, pinned_words, used_words, packed, pack_thread, depart, migrate}
 use Rattle.server_model.specs.Events.{begin_at, left_by, does}
 use Rattle.heap_law.specs.Names.{tot}
-use Rattle.heap_law.specs.Things.{Thing, Spot, Location, shares, uses, stands, sent, gift_things, walk_things, pin_things, value_things, slot_things, temp_things, things_at, thread_things, server_things}
+use Rattle.heap_law.specs.Things.{Thing, Spot, Location, shares, uses, stands, gift_things, walk_things, value_things, slot_things, temp_things, things_at, thread_things, server_things}
 use Rattle.event_law.specs.Laws.{Gives}
 use Rattle.event_law.proofs.Trades.{tot-append, trade_whole, trade_right}
 use Rattle.event_law.proofs.Rules.{Rule, none, turned, comes, goes, sends, packs, beside, in_turn, Kept}

@@ -6,7 +6,7 @@ use Rattle.std.proofs.lemmas.Bool.Decides.{nat_tests}
 use Rattle.fr_base.specs.declared.name.MutexNo.{MutexNo}
 use Rattle.fr_base.specs.declared.release.Released.TheVariants as released
 use Rattle.heap_partition.specs.declared.value.Owned.{Owned}
-use Rattle.mutex_home.specs.Mutexes.{Mutex, Mutexes, mutex_in, put_mutex, end_mutex, asked_of, ask, unclaimed, back_to, back_out, give_back, more, last_less, less_of, less}
+use Rattle.mutex_home.specs.Mutexes.{Mutex, Mutexes, mutex_in, put_mutex, end_mutex, asked_of, ask, back_to, back_out, give_back, more, last_less, less_of, less}
 use Rattle.mutex_home.specs.declared.answers.Asked.{Asked}
 use Rattle.mutex_home.specs.declared.answers.Asked.TheVariants.{Queued, Granted}
 use Rattle.mutex_home.specs.declared.answers.Back.{Back}

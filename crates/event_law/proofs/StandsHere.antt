@@ -16,7 +16,6 @@ use Rattle.heap_law.specs.Walking.{is_ready, busy_parcel}
 use Rattle.heap_law.specs.Coherent.{IsSound}
 use Rattle.heap_law.proofs.Sums.{tot-append, server_parts}
 use Rattle.event_law.specs.Sums.{is_server}
-use Rattle.event_law.proofs.Trades.{tot-remove}
 use Rattle.event_law.proofs.Bags.{all_standing}
 use Rattle.event_law.proofs.Events.{others_of, tot-server}
 use Rattle.event_law.proofs.Unseen.{Unseen, Unnoted, none_at, thread_alone, seen_of}

@@ -13,15 +13,15 @@ use Rattle.server_model.specs.declared.event.Event.{Event}
 use Rattle.server_model.specs.declared.event.What.{What}
 use Rattle.server_model.specs.declared.event.What.TheVariants.{Step, Deliver, Evict, Migrate}
 use Rattle.server_model.specs.Servers.{Server, Cluster, server_at}
-use Rattle.server_model.specs.Work.{Work, Hand, Site, then_some, thread_in, beside_threads, unpin_all}
+use Rattle.server_model.specs.Work.{Work, then_some, thread_in, unpin_all}
 use Rattle.server_model.specs.Objects.{deliver_fetch, deliver_fetched, deliver_move, deliver_moved, deliver_drop}
 use Rattle.server_model.specs.Sharing.{deliver_lock, waits_for_lock, deliver_granted, deliver_unlock, deliver_dup, waits_for_dup, deliver_dupped}
 use Rattle.server_model.specs.Joining.{deliver_join, waits_for_join, deliver_joined}
-use Rattle.server_model.specs.Moving.{used_words, packed, pack_thread, migrate}
+use Rattle.server_model.specs.Moving.{used_words, packed, pack_thread}
 use Rattle.server_model.specs.Events.{can_step, is_ready, has_phase, enabled, begin_work, left_by, received, release, deliver_message, step_in, stepped, does}
 use Rattle.server_model.specs.Clusters.{with_server, hand_over_newer, done_at, act_at, apply}
 use Rattle.heap_law.specs.Names.{tot, if_so}
-use Rattle.heap_law.specs.Things.{Thing, at_home, message_things, mutex_things, servers_things, things_of}
+use Rattle.heap_law.specs.Things.{at_home, servers_things, things_of}
 use Rattle.heap_law.specs.Sharing.{queued_inside}
 use Rattle.heap_law.specs.Sight.{sight}
 use Rattle.heap_law.specs.Naming.{servers_wrong, pinned_parcel}
@@ -29,7 +29,7 @@ use Rattle.heap_law.specs.Walking.{sum_threads}
 use Rattle.heap_law.specs.Coherent.{IsSound}
 use Rattle.heap_law.proofs.Names.{and_left}
 use Rattle.heap_law.proofs.Sums.{server_parts}
-use Rattle.event_law.specs.Laws.{Gives, FewEvents, SendsToServers, EachEventLeaves, EachEventHandedOver}
+use Rattle.event_law.specs.Laws.{Gives, FewEvents, EachEventLeaves, EachEventHandedOver}
 use Rattle.event_law.proofs.Results.{then_gives, over_gives, test_gives, weaker}
 use Rattle.event_law.proofs.Events.{tot-server}
 use Rattle.event_law.proofs.MutexLists.{mutex_goes}

@@ -15,7 +15,7 @@ use Rattle.server_model.specs.Work.{Work, Hand, note, with_cache, working, used_
 use Rattle.server_model.specs.Drop.{give_up, home_of}
 use Rattle.heap_law.specs.Things.{Thing, in_hand, holds, uses, gift_things, walk_things, slot_things, temp_things, things_at, thread_things}
 use Rattle.event_law.specs.Laws.{Gives}
-use Rattle.event_law.proofs.Trades.{Trade, tot-append, trade_none, trade_left, trade_right, trade_push}
+use Rattle.event_law.proofs.Trades.{tot-append, trade_none, trade_left, trade_right, trade_push}
 use Rattle.event_law.proofs.Rules.{Rule, none, turned, drops, fills, begins_use, ends_use, changes, beside, Kept}
 use Rattle.event_law.proofs.Results.{test_gives}
 use Rattle.event_law.proofs.Bags.{WorkOk, HandOk, rest_things, of_cache, of_thread}

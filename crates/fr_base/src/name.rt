@@ -1,6 +1,6 @@
 //! Names of threads, mutexes and objects.
 
-ghost use Rattle.std.specs.Prelude.{◌≡◌, ◌+◌, ◌*◌, ◌/◌, ◌%◌, ◌^◌};
+ghost use Rattle.std.specs.Prelude.{◌≡◌, ◌<◌, ◌+◌, ◌*◌, ◌/◌, ◌%◌, ◌^◌};
 
 use std::marker::Model;
 
@@ -30,6 +30,22 @@ impl ThreadNo {
         ensures { result ≡ server * 2 ^ 32 + count }
     {
         ThreadNo(u64::from(server) * COUNTS + u64::from(count))
+    }
+
+    /// The thread as one number, `server * 2^32 + count`. No memory.
+    pub fn number(self) -> u64
+        ensures number { result ≡ self }
+        ensures few { self < 2 ^ 40 }
+    {
+        self.0
+    }
+
+    /// The thread of such a number. No memory.
+    pub fn from_number(number: u64) -> ThreadNo
+        requires few { number < 2 ^ 40 }
+        ensures { result ≡ number }
+    {
+        ThreadNo(number)
     }
 
     /// The server that started the thread.

@@ -76,3 +76,11 @@ fn kinds_have_numbers(rt: HostRuntime) -> Result<(), Fail> {
     assert_eq!(rt; Kind::Migrate.number(), 15);
     Ok(())
 }
+
+#[test]
+fn threads_are_numbers(rt: HostRuntime) -> Result<(), Fail> {
+    let thread = ThreadNo::new(3, 5);
+    assert_eq!(rt; thread.number(), 12_884_901_893);
+    assert_eq!(rt; ThreadNo::from_number(12_884_901_893), thread);
+    Ok(())
+}

@@ -3,7 +3,7 @@ use Rattle.std.proofs.Common.{◌≡◌, ◌≢◌, ℕ, zero, suc, ◌<◌, Lis
 use Rattle.fr_plain.specs.declared.value.Value.{Value}
 use Rattle.fr_plain.specs.Acts.{do_spawn, do_join, do_box, do_let, do_print, do_assign, do_arith, do_discard}
 use Rattle.fr_plain.specs.Run as run
-use Rattle.fr_plain.specs.Run.{Capture, Run, going, on_value, now, Move, next, alone, block_end, move, Life, life_move}
+use Rattle.fr_plain.specs.Run.{Run, going, on_value, now, Move, next, alone, block_end, move, Life, life_move}
 use Rattle.fr_plain.specs.Threads.{act_waits, move_waits}
 use Rattle.fr_plain.specs.Whole.{Whole, Thread as PlainThread, takes_name, takes_of}
 use Rattle.fr_meaning.specs.declared.forms.Form.{Form}

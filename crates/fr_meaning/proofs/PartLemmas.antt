@@ -3,9 +3,8 @@ use Rattle.std.proofs.Common.{◌≡◌, ℕ, ℤ, zero, suc, ◌<◌, Bool, tru
 use Rattle.std.specs.Prelude.{not, slice_get}
 use Rattle.std.proofs.lemmas.List.{append-nil}
 use Rattle.fr_base.specs.declared.place.Op.{Op}
-use Rattle.fr_terms.specs.Terms.{Text, Spot, Captured, block_t, let_t, assign_t, read_t, borrow_t, borrow_mut_t, number_t, unit_t, box_t, print_t, arith_t, join_t, mutex_t, dup_t, lock_t, spawn_t, par_t, Items, none, item, start_of}
+use Rattle.fr_terms.specs.Terms.{Captured, block_t, let_t, assign_t, read_t, borrow_t, borrow_mut_t, number_t, unit_t, box_t, print_t, arith_t, join_t, mutex_t, dup_t, lock_t, spawn_t, par_t, item, start_of}
 use Rattle.fr_terms.specs.Terms as terms
-use Rattle.fr_typing.specs.Threaded.{IsThreaded}
 use Rattle.fr_typing.specs.Kinds.{Kind, own, unit, task}
 use Rattle.fr_typing.specs.Places.{Env}
 use Rattle.fr_typing.specs.Checks.{is_int}

@@ -2,7 +2,7 @@
 use Rattle.std.proofs.Common.{◌≡◌, ℕ, zero, suc, ◌+◌, ◌<◌, ◌≤◌, ◌^◌, Bool, true, false, List, [], ◌∷◌, ◌++◌, length, Option, Some, None, refl, sym, ap, ap₂, ◌∙◌, subst, arith, length-append}
 use Rattle.std.specs.Prelude.{not, slice_get, slice_index_or, unwrap_or, if◌then◌else◌}
 use Rattle.fr_base.specs.declared.place.Lval.{Lval}
-use Rattle.fr_terms.specs.Terms.{Text, Spot, Captured, block_t, let_t, assign_t, read_t, borrow_t, borrow_mut_t, number_t, unit_t, box_t, print_t, arith_t, join_t, mutex_t, dup_t, lock_t, spawn_t, par_t, Items, none, item, start_of}
+use Rattle.fr_terms.specs.Terms.{Spot, Captured, block_t, let_t, assign_t, read_t, borrow_t, borrow_mut_t, number_t, unit_t, box_t, print_t, arith_t, join_t, mutex_t, dup_t, lock_t, spawn_t, par_t, Items, none, item}
 use Rattle.fr_terms.specs.Terms as terms
 use Rattle.fr_typing.specs.Threaded.{IsThreaded, AreThreaded}
 use Rattle.fr_typing.specs.Kinds.{Kind, copies, whole, gone, boxed, own, unit}
@@ -29,10 +29,10 @@ use Rattle.fr_meaning.specs.declared.forms.Captured as forms_captured
 use Rattle.fr_meaning.specs.declared.forms.Form.{Form}
 use Rattle.fr_meaning.specs.declared.forms.Form.TheVariants as form
 use Rattle.fr_meaning.specs.FormTerms as forms
-use Rattle.fr_meaning.specs.FormTerms.{parts_from, parts_of, captures_of, build}
+use Rattle.fr_meaning.specs.FormTerms.{parts_of, captures_of, build}
 use Rattle.borrow_check.specs.Usages.{env_after, is_taken, is_moved, usage_of, read_usage, capture_usage, env_left, env_new, env_of_all, capture_usages, usages_of, usages_in, AreUsed}
 use Rattle.borrow_check.specs.Capturing.{AreNames}
-use Rattle.borrow_check.specs.Programs.{Program, usage_at, is_taking, lval_of, takes_of}
+use Rattle.borrow_check.specs.Programs.{Program, usage_at, is_taking, takes_of}
 use Rattle.borrow_check.specs.Programs as programs
 use Rattle.fr_meaning.specs.Forming.{count_all, place_in, captured_in, captured_all, drops_of, IsBlockOf, IsSpawnOf, IsMade}
 use Rattle.fr_meaning.specs.Resolved.{IsTypedIn, IsRun, AreRuns, AreCounts}

@@ -12,7 +12,7 @@ use Rattle.fr_plain.specs.State.{State}
 use Rattle.fr_plain.specs.Acts.{Act, do_let, do_read, do_borrow, do_assign, do_box, do_arith, do_print, do_discard, do_drop, do_end, do_spawn, do_join, do_finish, do_leave, do_mutex, do_dup, do_lock, do_unlock, do_par, do_par_end, Did, act, lets_go, drops_last}
 use Rattle.fr_plain.proofs.Tasks.{release_tasks}
 use Rattle.fr_plain.specs.Run as run
-use Rattle.fr_plain.specs.Run.{Capture, Run, Now, going, on_value, now, settle, Move, next, alone, move, Life, settle_life, life_move}
+use Rattle.fr_plain.specs.Run.{Capture, Run, going, now, settle, Move, next, alone, move, Life, settle_life, life_move}
 use Rattle.fr_plain.specs.Threads.{Whole, Thread as PlainThread, with_thread, with_life, Passed, pass, result_of_life, result_in as result_in_plain}
 use Rattle.fr_plain.specs.Whole.{Stepped, prints, let_go, then_released, stepped, alone_stepped, moved, step_of, step, state_of, joined, joined_with, started_with}
 use Rattle.fr_meaning.specs.declared.forms.Form.{Form}

@@ -24,13 +24,6 @@ impl Model for Places {
     ghost view = { λ p. record { numbers = p.numbers.keys; spare = spare p.numbers } };
 }
 
-// A thread's number.
-fn number_of(thread: ThreadNo) -> u64
-    ensures { result ≡ thread }
-{
-    u64::from(thread.server()) * 4_294_967_296 + u64::from(thread.count())
-}
-
 impl Places {
     /// No thread has a place, and no memory is taken yet.
     pub fn new(alloc: Global) -> Places
@@ -58,7 +51,7 @@ impl Places {
         ensures place { result ≡ place_of self.now.numbers thread }
         ensures within { IfSome result (λ i. i < length self.now.numbers) }
     {
-        let number = number_of(thread);
+        let number = thread.number();
         self.numbers.get_index_of(&number)
     }
 
@@ -68,7 +61,7 @@ impl Places {
         requires room { 0 < self.old.spare }
         ensures { self.new.numbers ≡ self.old.numbers ++ thread ∷ [] }
     {
-        match self.numbers.insert(number_of(thread)) {
+        match self.numbers.insert(thread.number()) {
             Ok(_) => {}
             Err(_) => unreachable!(),
         }

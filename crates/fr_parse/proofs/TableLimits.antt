@@ -13,7 +13,7 @@ use Rattle.fr_syntax.specs.declared.token.Token.{Token}
 use Rattle.fr_parse.specs.declared.fault.ParseError.{ParseError}
 use Rattle.fr_parse.specs.declared.fault.ParseError.TheVariants.{Syntax, TooDeep}
 use Rattle.fr_parse.specs.Grammar.{Has, IsAt, Begins, SpellsPath, SpellsPlace, SpellsCaptures, SpellsOthers, SpellsNumber, mark_of_op, IsBlock, Spells, SpellsItems, SpellsMore, IsProgram}
-use Rattle.fr_parse.specs.Reading.{place_of, stars_of, is_star, name_at, begins_term, begins_kind}
+use Rattle.fr_parse.specs.Reading.{place_of, begins_term, begins_kind}
 use Rattle.fr_parse.specs.Table.{Symbol, block_s, items_s, more_s, term_s, rest_s, inner_s, op_s, borrow_s, place_s, captures_s, list_s, next_s, name_s, number_s, mut_s, as_s, equals_s, close_s, end_s, term_entry, goes_on, met, meets, refused_or, refusal_of}
 use Rattle.fr_parse.specs.Refusals.{Over, deep, starry, or_else, over_place, first_over, first_over_of, IsNinthStar, IsRefusalOf}
 use Rattle.fr_parse.proofs.ReadingSteps.{has_cons, IsPath, path_is}

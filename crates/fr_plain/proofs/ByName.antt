@@ -1,5 +1,5 @@
 -- Lists of threads, mutexes and pairs by the names in them, and what is let go in states that are the same name by name.
-use Rattle.std.proofs.Common.{◌≡◌, ◌≢◌, ℕ, zero, suc, ◌+◌, ◌≤◌, Bool, true, false, List, [], ◌∷◌, ◌++◌, length, Option, Some, None, refl, sym, ap, ◌∙◌, subst, arith}
+use Rattle.std.proofs.Common.{◌≡◌, ◌≢◌, ℕ, zero, suc, ◌+◌, ◌≤◌, Bool, true, false, List, [], ◌∷◌, ◌++◌, Option, Some, None, refl, sym, ap, ◌∙◌, subst, arith}
 use Rattle.std.specs.Prelude.{◌==◌, ◌&&◌, is_some, if◌then◌else◌}
 use Rattle.fr_base.specs.Names.{same_mutex}
 use Rattle.fr_base.specs.declared.label.Plain.{Plain}
@@ -12,7 +12,7 @@ use Rattle.fr_plain.specs.Heap.{Heap}
 use Rattle.fr_plain.specs.State.{without}
 use Rattle.fr_plain.specs.MachineActs.{end_of}
 use Rattle.fr_plain.specs.MachineThreads.{Life, alive, over, owing, loose, ended, Thread, Shared, Mutex, Pair, Whole, mutex_at, mutex_there, with_mutex, pair_of, without_pair, thread_at, with_thread, with_life, is_over, value_gone, thread_released, thread_released_in, content_gone, share_gone, share_released, release_by, count_both, release, dropped}
-use Rattle.fr_plain.specs.PlainState.{Running, running, running_in, is_over_in, two_of}
+use Rattle.fr_plain.specs.PlainState.{running, running_in, is_over_in, two_of}
 use Rattle.fr_plain.proofs.SameHeaps.{let_go_of, SameHeap, same_without, same_end}
 
 -- MUTEXES

@@ -12,8 +12,8 @@ use Rattle.fr_typing.proofs.PlaceLemmas.{eq_cases}
 use Rattle.fr_plain.specs.declared.value.Value.{Value}
 use Rattle.fr_plain.specs.declared.value.Value.TheVariants.{Own, ToSlot, ToObject, Held}
 use Rattle.fr_plain.specs.Heap.{Heap, made_by, cell_at, with_cell, next_object, with_object, live, drop_links, dropped, then_link, last_link}
-use Rattle.fr_plain.specs.State.{State, Spot, in_slot, in_cell, slot_at, with_slot, owned, value_at, cell_of, with_value, Reached, then_reached, led, stars, locate, without, drop_value, drops, gone}
-use Rattle.fr_plain.specs.MachineActs.{Act, do_let, do_read, do_borrow, do_assign, do_box, do_arith, do_print, do_discard, do_drop, do_end, do_spawn, do_join, do_finish, do_leave, do_mutex, do_dup, do_lock, do_unlock, do_par, do_par_end, Did, unit, read_did, borrow_did, assign_did, box_did, arith_did, print_did, drop_did, act, end_of, end_of_some, newest, where_reached, drops_last}
+use Rattle.fr_plain.specs.State.{State, Spot, in_slot, in_cell, owned, value_at, cell_of, with_value, Reached, then_reached, led, stars, locate, without, drop_value, drops, gone}
+use Rattle.fr_plain.specs.MachineActs.{Act, do_let, do_read, do_borrow, do_assign, do_box, do_arith, do_print, do_discard, do_drop, do_end, do_spawn, do_join, do_finish, do_leave, do_mutex, do_dup, do_lock, do_unlock, do_par, do_par_end, Did, read_did, borrow_did, assign_did, box_did, arith_did, print_did, drop_did, act, end_of, end_of_some, newest, where_reached, drops_last}
 use Rattle.fr_plain.proofs.HeapLemmas.{made_same, made_other, object_is, cell_same, cell_other, new_same, new_other, live_made, live_falls, made_kept, dropped_box, dropped_none, link_box}
 
 -- THE SAME OBJECTS

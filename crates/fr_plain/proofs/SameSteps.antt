@@ -15,15 +15,15 @@ use Rattle.fr_base.specs.declared.step.Ending3.TheVariants as ending
 use Rattle.fr_typing.proofs.PlaceLemmas.{eq_cases}
 use Rattle.fr_plain.specs.declared.value.Value.{Value}
 use Rattle.fr_plain.specs.declared.value.Value.TheVariants.{Own, ToSlot, ToObject, Held}
-use Rattle.fr_plain.specs.Heap.{Heap, made_by}
-use Rattle.fr_plain.specs.State.{State, Reached, then_reached, locate, value_at}
+use Rattle.fr_plain.specs.Heap.{made_by}
+use Rattle.fr_plain.specs.State.{Reached, then_reached, locate, value_at}
 use Rattle.fr_plain.specs.MachineActs.{Capture, Act, do_let, do_read, do_borrow, do_assign, do_box, do_arith, do_print, do_discard, do_drop, do_end, do_spawn, do_join, do_finish, do_leave, do_mutex, do_dup, do_lock, do_unlock, do_par, do_par_end, Did, act, unit, drops_last}
-use Rattle.fr_plain.specs.MachineThreads.{Move, Moves, Life, alive, over, owing, loose, ended, settle_life, life_move, Passed, pass, Thread, Shared, Mutex, Pair, Whole, mutex_at, mutex_there, with_mutex, pair_of, without_pair, thread_at, with_thread, is_given, result_of_life, result_in, result_at, with_life, is_over, all_over, state_of, release}
+use Rattle.fr_plain.specs.MachineThreads.{Move, Moves, Life, alive, over, owing, loose, ended, settle_life, life_move, Passed, pass, Thread, Shared, Mutex, Pair, Whole, mutex_at, mutex_there, with_mutex, pair_of, thread_at, with_thread, is_given, result_of_life, result_in, result_at, with_life, is_over, all_over, state_of}
 use Rattle.fr_plain.specs.Machine.{Stepped, Turn, stepped, then_released, alone_stepped, started_with, started, joined_with, joined, is_nameless, nameless, mutex_value, mutex_behind, goes_on, made, where_there, at_mutex, at_place, shared, locked_with, locked, given_back, unlocked, two_with, second_of, two_started, taken, pair_over, two_ended, two_joined, done_act, moved, step_of, step, unless_some, unless_both, content_waits, join_waits, lock_waits, pair_waits, act_waits, move_waits, waits_for, all_wait, Takes, no_name, a_thread, two_threads, a_mutex, takes_name, has_ended, name_used, refused_wait, refused_names, refused_of, refused, then_labels, go_on, run, ending_of}
 use Rattle.fr_plain.specs.PlainState.{Running, SameState, running, running_in, is_over_in, two_of, plain_state}
-use Rattle.fr_plain.specs.SamePlain.{SameStepped, IsListedOnce, waits_in, waits_at, Agree, SamePlain}
-use Rattle.fr_plain.proofs.SameHeaps.{let_go_of, SameHeap, SameLocal, SameDid, same_value, same_locate, same_act, same_last, same_end}
-use Rattle.fr_plain.proofs.ByName.{SameMutexes, there_of, shown, same_set, same_mutex_more, same_there, same_given, SamePairs, same_pair_gone, same_pair_more, heap_less, SameThreads, found_number, put_in, put_at, put_off, same_put, same_more, GoesOn, goes_put, goes_more, Same, same_release, same_dropped_value}
+use Rattle.fr_plain.specs.SamePlain.{SameStepped, IsListedOnce, waits_in, waits_at, SamePlain}
+use Rattle.fr_plain.proofs.SameHeaps.{let_go_of, SameHeap, SameDid, same_value, same_locate, same_act, same_last}
+use Rattle.fr_plain.proofs.ByName.{SameMutexes, there_of, shown, same_set, same_mutex_more, same_there, same_given, SamePairs, same_pair_gone, same_pair_more, heap_less, SameThreads, found_number, put_in, put_at, put_off, same_put, same_more, GoesOn, goes_more, Same, same_release, same_dropped_value}
 
 -- BOOLEANS
 

@@ -23,7 +23,7 @@ use Rattle.fr_store.proofs.ListDrop.{drop_at, list_end}
 use Rattle.fr_plain.specs.declared.value.Value.{Value}
 use Rattle.fr_plain.specs.declared.value.Value.TheVariants.{Own}
 use Rattle.fr_plain.specs.Heap.{next_object, with_object}
-use Rattle.fr_plain.specs.State.{State, slot_at, with_slot, Spot, in_slot, in_cell, gone as gone_value, cell_of, with_value, Reached, then_reached, without, drop_value as drop_plain}
+use Rattle.fr_plain.specs.State.{State, without, drop_value as drop_plain}
 use Rattle.fr_plain.specs.Acts.{Act, do_box, do_arith, do_print, do_drop, unit as unit_value, box_did, result_of, arith_did, print_did, drop_did, task_in_some, newest as newest_value}
 use Rattle.fr_plain.proofs.HeapLemmas.{next_new}
 use Rattle.fr_sound.specs.RunTypes.{IsInt, o_int, ActTypes, a_let, a_copy, a_move, a_borrow, a_borrow_mut, a_assign, a_box, a_arith, a_print, a_discard, a_drop, a_end, a_leave}

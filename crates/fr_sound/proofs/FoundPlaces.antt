@@ -7,7 +7,7 @@ use Rattle.fr_base.specs.declared.place.Lval.{Lval}
 use Rattle.fr_typing.specs.Kinds.{Kind, Piece}
 use Rattle.fr_typing.specs.Places.{Env, found, type_at}
 use Rattle.fr_store.specs.Keys.{slot_k}
-use Rattle.fr_store.specs.Store.{Location, at_key, at_object, Val, gone_v, unit_v, int_v, box_v, mutex_v, task_v, ref_v, Store, value_at, then_location, star_target, star_hop, walk, below_key}
+use Rattle.fr_store.specs.Store.{Location, at_key, at_object, Val, gone_v, Store, value_at, then_location, star_target, star_hop, walk}
 use Rattle.fr_store.specs.Store as store
 use Rattle.fr_store.specs.ListState.{slot_value, IsIn}
 use Rattle.fr_store.specs.Thread.{place_of}

@@ -26,7 +26,7 @@ use Rattle.fr_store.proofs.ListState.{at_hand as at_hand_key, list_put_hand, Ali
 use Rattle.fr_store.proofs.ListDrop.{drop_at, list_drop}
 use Rattle.fr_plain.specs.declared.value.Value.{Value}
 use Rattle.fr_plain.specs.declared.value.Value.TheVariants.{Own, ToSlot, ToObject, Held}
-use Rattle.fr_plain.specs.Heap.{made_by, cell_at, with_cell, next_object, with_object, then_drop, drop_links, last_link, task_of, dropped, live}
+use Rattle.fr_plain.specs.Heap.{made_by, cell_at, with_cell, then_drop, drop_links, last_link, task_of, dropped, live}
 use Rattle.fr_plain.specs.Heap as plain_heap
 use Rattle.fr_plain.specs.State.{State, without, drop_value as drop_plain}
 use Rattle.fr_plain.specs.Acts.{Act, unit as unit_value, task_in, lets_go, Did, act}

@@ -9,7 +9,7 @@ use Rattle.fr_typing.proofs.PlaceLemmas.{eq_cases}
 use Rattle.fr_store.specs.Keys.{Key, slot_k, temp_k, content_k, result_k, hand_k}
 use Rattle.fr_store.specs.Store.{Alike, Val, gone_v, task_v, at_key, at_object, Store, Place, value_at, put_value, swap}
 use Rattle.fr_store.specs.ListState.{slot_value}
-use Rattle.fr_store.specs.Typed.{Tree, hole, owns, refers, KeyTypes, Typed, Unnamed}
+use Rattle.fr_store.specs.Typed.{Tree, hole, owns, refers, KeyTypes, Typed}
 use Rattle.fr_store.specs.Below.{tree_of, ExactOf}
 use Rattle.fr_store.specs.Rows.{with_type}
 use Rattle.fr_store.specs.Local.{thread_of, IsLocal}

@@ -7,7 +7,7 @@ use Rattle.fr_base.specs.declared.place.Lval.{Lval}
 use Rattle.fr_typing.specs.Kinds.{unit, int, box, mutex, task, Kind, own, shared, mutable, view, whole, gone, copies}
 use Rattle.fr_typing.specs.Places.{Env, found, type_at, put_at}
 use Rattle.fr_store.specs.Keys.{slot_k, hand_k}
-use Rattle.fr_store.specs.Store.{Alike, Location, at_key, at_object, Val, gone_v, unit_v, int_v, box_v, mutex_v, task_v, ref_v, Store, Place, value_at, or_gone, put_value, swap, make, drop_value}
+use Rattle.fr_store.specs.Store.{Alike, Location, at_key, at_object, Val, gone_v, unit_v, int_v, task_v, ref_v, Store, value_at, or_gone, put_value, swap, drop_value}
 use Rattle.fr_store.specs.Store as store
 use Rattle.fr_store.specs.ListState.{slot_value, put_slot, store_beside, put_object}
 use Rattle.fr_store.specs.Typed.{KeyTypes, Resolves}
@@ -26,7 +26,7 @@ use Rattle.fr_store.proofs.ListState.{list_put_hand, list_swap_slot, list_swap_o
 use Rattle.fr_plain.specs.declared.value.Value.{Value}
 use Rattle.fr_plain.specs.declared.value.Value.TheVariants.{Own}
 use Rattle.fr_plain.specs.Heap.{made_by, cell_at, with_cell}
-use Rattle.fr_plain.specs.State.{State, slot_at, with_slot, Spot, in_slot, in_cell, gone as gone_value, cell_of, with_value, Reached, then_reached, without, drop_value as drop_plain}
+use Rattle.fr_plain.specs.State.{State, with_slot, Spot, in_slot, in_cell, gone as gone_value, cell_of, with_value, then_reached}
 use Rattle.fr_plain.specs.Acts.{do_read, do_borrow, read_did, reference, borrow_did}
 use Rattle.fr_sound.specs.RunTypes.{Copies, Moves, Lends, LendsMut}
 use Rattle.fr_sound.specs.Seen.{Gives, Beside, IsKnown, AreKnown, IsBeside, owned_val, val_of, vals, hand_of, heap_of, seen, location_of, rank_of, Holds}

@@ -1,6 +1,6 @@
 -- What the seen store becomes under each change of the state.
 use Rattle.std.proofs.Common.{◌≡◌, ◌≢◌, ℕ, zero, suc, ◌+◌, ◌<◌, ◌≤◌, Bool, true, false, List, [], ◌∷◌, ◌++◌, length, Option, Some, None, refl, sym, ap, ◌∙◌, arith, length-append}
-use Rattle.std.specs.Prelude.{◌==◌, if◌then◌else◌, slice_get, slice_set}
+use Rattle.std.specs.Prelude.{◌==◌, if◌then◌else◌}
 use Rattle.fr_base.specs.declared.label.Plain.{Plain}
 use Rattle.fr_base.specs.declared.label.Plain.TheVariants as plain
 use Rattle.fr_base.specs.declared.name.ObjNo.{ObjNo}
@@ -11,7 +11,7 @@ use Rattle.fr_store.specs.Below.{tree_of}
 use Rattle.fr_store.specs.ListState.{slot_value, put_slot, put_object, without_object, drop_objects, drop_last, drop_rest}
 use Rattle.fr_store.proofs.Keys.{object_cases}
 use Rattle.fr_plain.specs.declared.value.Value.{Value}
-use Rattle.fr_plain.specs.Heap.{Heap, made_by, flat, cell_at, with_cells, with_cell, next_object, with_object, then_drop, drop_links, then_link, last_link, count_cells, live}
+use Rattle.fr_plain.specs.Heap.{Heap, made_by, cell_at, with_cell, next_object, with_object, then_drop, drop_links, then_link, last_link, live}
 use Rattle.fr_plain.specs.State.{slot_at, with_slot}
 use Rattle.fr_plain.proofs.HeapLemmas.{made_same, made_other, live_made, live_falls, cell_same, cell_other, new_same, new_other}
 use Rattle.fr_sound.specs.Seen.{Gives, owned_val, val_of, vals, seen_cell, heap_of}

@@ -19,7 +19,7 @@ use Rattle.fr_plain.specs.Resolve.{program}
 use Rattle.fr_plain.specs.ThreadRuns.{joined, moved_in, copied_in, let_go, task_of_task}
 use Rattle.fr_typing.specs.Threaded.{AreThreaded}
 use Rattle.fr_sound.specs.RunTypes.{threads, RunTypes, held}
-use Rattle.fr_sound.specs.Seen.{Gives, seen_cell, heap_of, rank_of, IsKnown, AreKnown}
+use Rattle.fr_sound.specs.Seen.{Gives, seen_cell, rank_of, IsKnown, AreKnown}
 use Rattle.fr_sound.specs.Together.{slot_in, hand_in, result_val, seen_all, owed_in, IsTypedIn, AreTyped, StartsTogether}
 use Rattle.fr_sound.specs.ThreadExample.{ThreadsStart}
 use Rattle.fr_sound.proofs.Known.{known_alike}

@@ -18,7 +18,7 @@ use Rattle.fr_plain.specs.declared.value.Value.TheVariants.{Own, ToSlot, ToObjec
 use Rattle.fr_plain.specs.Acts.{Act, do_end, do_finish, do_leave}
 use Rattle.fr_plain.specs.Run.{Run, Now, going, constant, temporary, now, on_value, Move, next, alone, move, Life, alive, over, owing, loose, ended, life_move}
 use Rattle.fr_plain.specs.Threads.{result_in, result_of_life, unless_some, join_waits, act_waits, move_waits}
-use Rattle.fr_plain.specs.Whole.{Thread, Whole, thread_at, is_given, result_at, is_over, waits_for, state_of, Refusal, has_ended, no_thread, no_name, a_thread, takes_of, takes_name, refused_names, refused_wait, refused_of, refused, step}
+use Rattle.fr_plain.specs.Whole.{Thread, Whole, thread_at, result_at, is_over, waits_for, state_of, Refusal, has_ended, no_name, a_thread, takes_of, takes_name, refused_names, refused_wait, refused_of, refused, step}
 use Rattle.fr_sound.specs.RunTypes.{threads, Operand, o_temp, ActTypes, a_let, a_copy, a_move, a_borrow, a_borrow_mut, a_assign, a_box, a_arith, a_print, a_discard, a_drop, a_end, a_leave, NextTypes, n_own, n_spawn, n_join, held_after}
 use Rattle.fr_sound.specs.Seen.{Gives, val_of, vals, heap_of, Holds}
 use Rattle.fr_sound.specs.Together.{held_life, seen_all, is_owed, owed_by, owed_in, IsRunning, IsTypedIn, AreTyped, StepsOn, NeverStuckTogether, WaitsForLiving}

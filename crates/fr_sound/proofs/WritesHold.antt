@@ -7,7 +7,7 @@ use Rattle.fr_typing.specs.Places.{Env, found, type_at, is_lent, is_mutable, put
 use Rattle.fr_typing.specs.Checks.{is_owned}
 use Rattle.fr_store.specs.Keys.{slot_k, hand_k}
 use Rattle.fr_store.specs.Local.{thread_of}
-use Rattle.fr_store.specs.Store.{Alike, Location, at_key, at_object, Val, gone_v, unit_v, int_v, box_v, mutex_v, task_v, ref_v, Store, Place, value_at, or_gone, put_value, swap, make, drop_value}
+use Rattle.fr_store.specs.Store.{Alike, Location, at_key, Val, gone_v, Store, Place, value_at, swap, drop_value}
 use Rattle.fr_store.specs.Store as store
 use Rattle.fr_store.specs.ListState.{slot_value, put_slot, store_beside, drop_objects, drop_rest}
 use Rattle.fr_store.specs.Typed.{hole, owns, refers, KeyTypes, Unnamed}
@@ -28,7 +28,7 @@ use Rattle.fr_store.proofs.ListDrop.{drop_alike, drop_at, list_drop, list_drop_s
 use Rattle.fr_plain.specs.declared.value.Value.{Value}
 use Rattle.fr_plain.specs.Heap.{task_of}
 use Rattle.fr_plain.specs.MachineActs.{end_of_some, where_reached}
-use Rattle.fr_plain.specs.State.{State, slot_at, with_slot, Spot, in_slot, in_cell, gone as gone_value, cell_of, with_value, Reached, then_reached, without, drop_value as drop_plain}
+use Rattle.fr_plain.specs.State.{State, slot_at, with_slot, Spot, in_slot, in_cell, with_value, then_reached, without, drop_value as drop_plain}
 use Rattle.fr_plain.specs.Acts.{do_assign, unit as unit_value, task_in, task_in_some, lets_go, act, assign_did}
 use Rattle.fr_sound.specs.RunTypes.{Puts, Writes, Turns, Assigns, to_own, to_lent, to_variable}
 use Rattle.fr_sound.specs.Seen.{Beside, IsKnown, AreKnown, IsBeside, val_of, vals, heap_of, seen, location_of, rank_of, Holds}

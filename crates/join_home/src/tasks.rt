@@ -39,13 +39,6 @@ impl Model for Tasks {
     ghost invariant = { λ t. t.room + t.room ≤ spare t.notes };
 }
 
-// A thread's number.
-fn number_of(thread: ThreadNo) -> u64
-    ensures { result ≡ thread }
-{
-    u64::from(thread.server()) * 4_294_967_296 + u64::from(thread.count())
-}
-
 // What is noted of a thread.
 fn note_of(notes: &IndexMap<u64, Note>, number: u64) -> Option<Note>
     ensures { state_in_note result ≡ state_of (tasks_in notes.now.entries) number }
@@ -175,7 +168,7 @@ impl Tasks {
         ensures state { self.new.state ≡ begin self.old.state thread }
         ensures spare { self.new.room + 1 ≡ self.old.room }
     {
-        add(&mut self.notes, number_of(thread), Note::Going);
+        add(&mut self.notes, thread.number(), Note::Going);
         self.room -= 1;
     }
 
@@ -187,8 +180,8 @@ impl Tasks {
         ensures state { self.new.state ≡ begin_pair self.old.state parent a b }
         ensures spare { self.new.room + 1 ≡ self.old.room }
     {
-        add(&mut self.notes, number_of(a), Note::Branch(parent, false));
-        add(&mut self.notes, number_of(b), Note::Branch(parent, false));
+        add(&mut self.notes, a.number(), Note::Branch(parent, false));
+        add(&mut self.notes, b.number(), Note::Branch(parent, false));
         self.room -= 1;
     }
 
@@ -198,7 +191,7 @@ impl Tasks {
         ensures state { ended self.old.state thread value ≡ Some (self.new.state, result) }
         ensures spare { self.new.room ≡ self.old.room }
     {
-        let number = number_of(thread);
+        let number = thread.number();
         let note = note_of(&self.notes, number);
         match &note {
             Some(Note::Going) => {
@@ -225,7 +218,7 @@ impl Tasks {
         ensures state { ask self.old.state thread server by ≡ Some (self.new.state, result) }
         ensures spare { self.new.room ≡ self.old.room }
     {
-        let number = number_of(thread);
+        let number = thread.number();
         match note_of(&self.notes, number) {
             Some(Note::Going) => {
                 set_note(&mut self.notes, number, Note::Asked(server, by));
@@ -246,7 +239,7 @@ impl Tasks {
         ensures state { let_go_of self.old.state thread ≡ Some (self.new.state, result) }
         ensures spare { self.new.room ≡ self.old.room }
     {
-        let number = number_of(thread);
+        let number = thread.number();
         match note_of(&self.notes, number) {
             Some(Note::Going) => {
                 set_note(&mut self.notes, number, Note::Dropped);

@@ -44,25 +44,6 @@ impl Model for Threads {
     ghost invariant = { λ t. AreThreads t.all t.runnable t.waiting t.movable t.active };
 }
 
-// A thread's number.
-fn number_of(thread: ThreadNo) -> u64
-    ensures number { result ≡ thread }
-    ensures few { thread < 2 ^ 40 }
-{
-    u64::from(thread.server()) * 4_294_967_296 + u64::from(thread.count())
-}
-
-// The thread of that number.
-fn thread_of(number: u64) -> ThreadNo
-    requires { number < 2 ^ 40 }
-    ensures { result ≡ number }
-{
-    ThreadNo::new(
-        (number / 4_294_967_296) as u8,
-        (number % 4_294_967_296) as u32,
-    )
-}
-
 // Marks a number or not.
 fn set_mark(set: &mut RankMap<()>, number: u64, on: bool)
     requires place { has_place set.old number ≡ true }
@@ -140,7 +121,7 @@ impl Threads {
         ensures room { OnOk result (self.new ≡ with_free self.old thread) }
         ensures refused { OnErr result (self.new ≡ self.old) }
     {
-        let number = number_of(thread);
+        let number = thread.number();
         self.runnable.reserve(number)?;
         self.waiting.reserve(number)?;
         self.movable.reserve(number)?;
@@ -152,7 +133,7 @@ impl Threads {
     pub fn get(&self, thread: ThreadNo) -> Option<&Thread>
         ensures { option_map (λ t. t.now.state) result ≡ thread_in (states self.now) thread }
     {
-        self.all.get(number_of(thread))
+        self.all.get(thread.number())
     }
 
     /// A thread stands there from now on. There is room for it, and it doesn't stand there.
@@ -162,7 +143,7 @@ impl Threads {
         ensures state { states self.new ≡ with_thread (states self.old) thread.state }
         ensures places { self.new ≡ with_place self.old thread.state.number (Some (Some thread)) }
     {
-        let number = number_of(thread.number);
+        let number = thread.number.number();
         set_mark(&mut self.runnable, number, can_step(&thread));
         set_mark(&mut self.waiting, number, is_waiting(&thread));
         set_mark(&mut self.movable, number, is_movable(&thread));
@@ -179,7 +160,7 @@ impl Threads {
         ensures places { self.new ≡ with_place self.old thread (Some None) }
         ensures back { (t : ThreadState) → t.number ≡ thread → with_thread (states self.new) t ≡ set_thread (states self.old) t }
     {
-        let number = number_of(thread);
+        let number = thread.number();
         set_mark(&mut self.runnable, number, false);
         set_mark(&mut self.waiting, number, false);
         set_mark(&mut self.movable, number, false);
@@ -202,7 +183,7 @@ impl Threads {
         ensures { result ≡ slice_get (runnable_in (states self.now)) at }
     {
         match self.runnable.nth(at) {
-            Some(number) => Some(thread_of(number)),
+            Some(number) => Some(ThreadNo::from_number(number)),
             None => None,
         }
     }
@@ -217,7 +198,7 @@ impl Threads {
         };
         match self.all.get(number) {
             Some(thread) => match wait_of(thread) {
-                Some(wait) => Some((thread_of(number), wait)),
+                Some(wait) => Some((ThreadNo::from_number(number), wait)),
                 None => unreachable!(),
             },
             None => unreachable!(),
@@ -229,7 +210,7 @@ impl Threads {
         ensures { result ≡ movable_in (states self.now) }
     {
         match self.movable.nth(0) {
-            Some(number) => Some(thread_of(number)),
+            Some(number) => Some(ThreadNo::from_number(number)),
             None => None,
         }
     }

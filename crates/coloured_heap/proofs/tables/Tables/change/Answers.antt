@@ -27,7 +27,7 @@ pub returns-in-Start : goal.returns-in-Start
 returns-in-Start c = on_ok_weaker c.start.result (λ f s h. rw (c.in-Start.is) (f s h)) c.start.ensures
 
 pub returns-in-AskJoin : goal.returns-in-AskJoin
-returns-in-AskJoin c = on_ok_weaker c.wish.result (λ f s h. rw (sym c.entry.view_is, c.in-AskJoin.is) (rw (sym c.entry.view_is) at (f s h))) (rw (c.thread_key.ensures, c.asker.ensures) at c.wish.ensures)
+returns-in-AskJoin c = on_ok_weaker c.wish.result (λ f s h. rw (sym c.entry.view_is, c.in-AskJoin.is) (rw (sym c.entry.view_is) at (f s h))) (rw (c.number.ensures.number, c.asker.ensures) at c.wish.ensures)
 
 pub returns-in_default : goal.returns-in_default
 returns-in_default c = c.change_there.ensures (search rules)

@@ -33,7 +33,7 @@ pub returns-in-Dupped : goal.returns-in-Dupped
 returns-in-Dupped c none s h = rw (c.in-Dupped.is) (c.send_share.ensures s h)
 
 pub returns-in-Answer : goal.returns-in-Answer
-returns-in-Answer c none s h = rw c.in-Answer.is ((rw (c.thread_key-in-Answer.ensures, c.thread_key.ensures) at c.answer.ensures) s h)
+returns-in-Answer c none s h = rw c.in-Answer.is ((rw (c.number-in-Answer.ensures.number, c.number.ensures.number) at c.answer.ensures) s h)
 
 pub returns-in-Finish : goal.returns-in-Finish
 returns-in-Finish c none s h = rw (c.in-Finish.is) (c.change_thread.ensures s h)

@@ -9,5 +9,5 @@ pub returns : goal.returns
 returns c =
     let view = ap (λ (n : Numbers). n.numbers) c.self.view_is in
     let none = ap (λ ns. place_of ns c.args.thread) view ∙ c.requires.new in
-    c.in-Ok.ensures.keys ∙ ap (insert_key nat_eq c.self.inside.numbers.keys) c.number_of.ensures ∙ new_last c.self.inside.numbers.keys c.args.thread none
+    c.in-Ok.ensures.keys ∙ ap (insert_key nat_eq c.self.inside.numbers.keys) c.number.ensures.number ∙ new_last c.self.inside.numbers.keys c.args.thread none
     ∙ ap (λ ns. ns ++ c.args.thread ∷ []) view

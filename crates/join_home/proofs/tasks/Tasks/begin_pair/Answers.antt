@@ -6,4 +6,4 @@ use Rattle.join_home.proofs.tasks.Tasks.begin_pair.Goals as goal
 
 pub add-requires-2-clause-new : goal.add-requires-2-clause-new
 add-requires-2-clause-new c =
-    rw (c.add.ensures.tasks, c.number_of.ensures, c.number_of-2.ensures) (pair_second (tasks_in c.self.inside.notes.entries) c.args.parent c.args.a c.args.b (in_pair c.args.parent false) (rw (← c.self.view_is) at c.requires.new))
+    rw (c.add.ensures.tasks, c.number.ensures.number, c.number-2.ensures.number) (pair_second (tasks_in c.self.inside.notes.entries) c.args.parent c.args.a c.args.b (in_pair c.args.parent false) (rw (← c.self.view_is) at c.requires.new))

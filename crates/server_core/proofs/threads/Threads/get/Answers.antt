@@ -6,5 +6,5 @@ use Rattle.server_core.proofs.threads.Threads.get.Goals as goal
 
 pub returns : goal.returns
 returns c =
-    then_state (λ t. t.now) c.get.result ∙ ap (option_map (λ v. v.state)) c.get.ensures ∙ sym (found_thread c.number_of.result c.self.invariant)
-    ∙ ap (thread_in (states c.self.inside.all)) c.number_of.ensures.number ∙ ap (λ ps. thread_in (states ps) c.args.thread) c.self.view_is
+    then_state (λ t. t.now) c.get.result ∙ ap (option_map (λ v. v.state)) c.get.ensures ∙ sym (found_thread c.number.result c.self.invariant)
+    ∙ ap (thread_in (states c.self.inside.all)) c.number.ensures.number ∙ ap (λ ps. thread_in (states ps) c.args.thread) c.self.view_is

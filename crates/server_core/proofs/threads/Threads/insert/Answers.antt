@@ -9,9 +9,9 @@ use Rattle.server_core.proofs.threads.Threads.insert.Goals as goal
 
 pub invariant_of-self : goal.invariant_of-self
 invariant_of-self c =
-    let k = c.number_of-number.result in
-    let below : k < 2 ^ 40 = omega (arith, c.number_of-number.ensures.number, c.number_of-number.ensures.few) in
-    let number : c.args.thread.state.number ≡ k = sym (c.number_of-number.ensures.number ∙ ap (λ v. v.state.number) c.thread.view_is) in
+    let k = c.number-number.result in
+    let below : k < 2 ^ 40 = omega (arith, c.number-number.ensures.number, c.number-number.ensures.few) in
+    let number : c.args.thread.state.number ≡ k = sym (c.number-number.ensures.number ∙ ap (λ v. v.state.number) c.thread.view_is) in
     let here : has_place c.self.inside.all k ≡ true = subst (λ i. has_place c.self.inside.all i ≡ true) number (subst (λ ps. has_place ps c.args.thread.state.number ≡ true) (sym c.self.view_is) c.requires.room) in
     all_changed k (Some c.args.thread) c.self.invariant here below number c.insert.ensures.places
     (c.set_mark.ensures ∙ ap (λ b. with_place c.self.inside.runnable k (Some (mark_if b))) c.can_step.ensures)
@@ -21,8 +21,8 @@ invariant_of-self c =
 
 pub returns-clause-state : goal.returns-clause-state
 returns-clause-state c =
-    let k = c.number_of-number.result in
-    let number : c.args.thread.state.number ≡ k = sym (c.number_of-number.ensures.number ∙ ap (λ v. v.state.number) c.thread.view_is) in
+    let k = c.number-number.result in
+    let number : c.args.thread.state.number ≡ k = sym (c.number-number.ensures.number ∙ ap (λ v. v.state.number) c.thread.view_is) in
     let absent : thread_in (states c.self.inside.all) k ≡ None =
     subst (λ i. thread_in (states c.self.inside.all) i ≡ None) number (subst (λ ps. thread_in (states ps) c.args.thread.state.number ≡ None) (sym c.self.view_is) c.requires.absent) in
     ap states c.insert.ensures.places

@@ -7,75 +7,75 @@ use Rattle.server_core.proofs.threads.Threads.take.Goals as goal
 
 pub set_mark-requires : goal.set_mark-requires
 set_mark-requires c =
-    let k = c.number_of-number.result in
+    let k = c.number-number.result in
     let stands : IsSome (thread_in (states c.self.inside.all) k) =
-    subst (λ i. IsSome (thread_in (states c.self.inside.all) i)) (sym c.number_of-number.ensures.number) (subst (λ ps. IsSome (thread_in (states ps) c.args.thread)) (sym c.self.view_is) c.requires.there) in
+    subst (λ i. IsSome (thread_in (states c.self.inside.all) i)) (sym c.number-number.ensures.number) (subst (λ ps. IsSome (thread_in (states ps) c.args.thread)) (sym c.self.view_is) c.requires.there) in
     let here = stands_at k c.self.invariant stands in
     record { place = c.self.invariant.runnable_set.places k here }
 
 pub set_mark-requires-2 : goal.set_mark-requires-2
 set_mark-requires-2 c =
-    let k = c.number_of-number.result in
+    let k = c.number-number.result in
     let stands : IsSome (thread_in (states c.self.inside.all) k) =
-    subst (λ i. IsSome (thread_in (states c.self.inside.all) i)) (sym c.number_of-number.ensures.number) (subst (λ ps. IsSome (thread_in (states ps) c.args.thread)) (sym c.self.view_is) c.requires.there) in
+    subst (λ i. IsSome (thread_in (states c.self.inside.all) i)) (sym c.number-number.ensures.number) (subst (λ ps. IsSome (thread_in (states ps) c.args.thread)) (sym c.self.view_is) c.requires.there) in
     let here = stands_at k c.self.invariant stands in
     record { place = c.self.invariant.waiting_set.places k here }
 
 pub set_mark-requires-3 : goal.set_mark-requires-3
 set_mark-requires-3 c =
-    let k = c.number_of-number.result in
+    let k = c.number-number.result in
     let stands : IsSome (thread_in (states c.self.inside.all) k) =
-    subst (λ i. IsSome (thread_in (states c.self.inside.all) i)) (sym c.number_of-number.ensures.number) (subst (λ ps. IsSome (thread_in (states ps) c.args.thread)) (sym c.self.view_is) c.requires.there) in
+    subst (λ i. IsSome (thread_in (states c.self.inside.all) i)) (sym c.number-number.ensures.number) (subst (λ ps. IsSome (thread_in (states ps) c.args.thread)) (sym c.self.view_is) c.requires.there) in
     let here = stands_at k c.self.invariant stands in
     record { place = c.self.invariant.movable_set.places k here }
 
 pub set_mark-requires-4 : goal.set_mark-requires-4
 set_mark-requires-4 c =
-    let k = c.number_of-number.result in
+    let k = c.number-number.result in
     let stands : IsSome (thread_in (states c.self.inside.all) k) =
-    subst (λ i. IsSome (thread_in (states c.self.inside.all) i)) (sym c.number_of-number.ensures.number) (subst (λ ps. IsSome (thread_in (states ps) c.args.thread)) (sym c.self.view_is) c.requires.there) in
+    subst (λ i. IsSome (thread_in (states c.self.inside.all) i)) (sym c.number-number.ensures.number) (subst (λ ps. IsSome (thread_in (states ps) c.args.thread)) (sym c.self.view_is) c.requires.there) in
     let here = stands_at k c.self.invariant stands in
     record { place = c.self.invariant.active_set.places k here }
 
 pub take-requires : goal.take-requires
 take-requires c =
-    let k = c.number_of-number.result in
+    let k = c.number-number.result in
     let stands : IsSome (thread_in (states c.self.inside.all) k) =
-    subst (λ i. IsSome (thread_in (states c.self.inside.all) i)) (sym c.number_of-number.ensures.number) (subst (λ ps. IsSome (thread_in (states ps) c.args.thread)) (sym c.self.view_is) c.requires.there) in
+    subst (λ i. IsSome (thread_in (states c.self.inside.all) i)) (sym c.number-number.ensures.number) (subst (λ ps. IsSome (thread_in (states ps) c.args.thread)) (sym c.self.view_is) c.requires.there) in
     let here = stands_at k c.self.invariant stands in
     record { place = here }
 
 pub unreachable-requires : goal.unreachable-requires
 unreachable-requires c =
-    let k = c.number_of-number.result in
+    let k = c.number-number.result in
     let stands : IsSome (thread_in (states c.self.inside.all) k) =
-    subst (λ i. IsSome (thread_in (states c.self.inside.all) i)) (sym c.number_of-number.ensures.number) (subst (λ ps. IsSome (thread_in (states ps) c.args.thread)) (sym c.self.view_is) c.requires.there) in
+    subst (λ i. IsSome (thread_in (states c.self.inside.all) i)) (sym c.number-number.ensures.number) (subst (λ ps. IsSome (thread_in (states ps) c.args.thread)) (sym c.self.view_is) c.requires.there) in
     there_item k c.self.invariant stands (sym c.take.ensures.item ∙ c.in-None.is)
 
 pub invariant_of-self : goal.invariant_of-self
 invariant_of-self c =
-    let k = c.number_of-number.result in
+    let k = c.number-number.result in
     let stands : IsSome (thread_in (states c.self.inside.all) k) =
-    subst (λ i. IsSome (thread_in (states c.self.inside.all) i)) (sym c.number_of-number.ensures.number) (subst (λ ps. IsSome (thread_in (states ps) c.args.thread)) (sym c.self.view_is) c.requires.there) in
+    subst (λ i. IsSome (thread_in (states c.self.inside.all) i)) (sym c.number-number.ensures.number) (subst (λ ps. IsSome (thread_in (states ps) c.args.thread)) (sym c.self.view_is) c.requires.there) in
     let here = stands_at k c.self.invariant stands in
-    let below : k < 2 ^ 40 = omega (arith, c.number_of-number.ensures.number, c.number_of-number.ensures.few) in
+    let below : k < 2 ^ 40 = omega (arith, c.number-number.ensures.number, c.number-number.ensures.few) in
     all_changed k None c.self.invariant here below tt c.take.ensures.places c.set_mark.ensures c.set_mark-2.ensures c.set_mark-3.ensures c.set_mark-4.ensures
 
 pub returns-clause-thread : goal.returns-clause-thread
 returns-clause-thread c =
-    ap (λ ps. thread_in (states ps) c.args.thread) (sym c.self.view_is) ∙ ap (thread_in (states c.self.inside.all)) (sym c.number_of-number.ensures.number)
-    ∙ found_thread c.number_of-number.result c.self.invariant ∙ ap (option_map (λ v. v.state)) (sym c.take.ensures.item ∙ c.in-Some.is)
+    ap (λ ps. thread_in (states ps) c.args.thread) (sym c.self.view_is) ∙ ap (thread_in (states c.self.inside.all)) (sym c.number-number.ensures.number)
+    ∙ found_thread c.number-number.result c.self.invariant ∙ ap (option_map (λ v. v.state)) (sym c.take.ensures.item ∙ c.in-Some.is)
 
 pub returns-clause-state : goal.returns-clause-state
 returns-clause-state c =
-    let k = c.number_of-number.result in
+    let k = c.number-number.result in
     ap states c.take.ensures.places ∙ take_states c.self.inside.all 0 (2 ^ 40) k c.self.invariant.rises c.self.invariant.numbered
-    ∙ ap (without_thread (states c.self.inside.all)) c.number_of-number.ensures.number ∙ ap (λ ps. without_thread (states ps) c.args.thread) c.self.view_is
+    ∙ ap (without_thread (states c.self.inside.all)) c.number-number.ensures.number ∙ ap (λ ps. without_thread (states ps) c.args.thread) c.self.view_is
 
 pub returns-clause-back : goal.returns-clause-back
 returns-clause-back c =
-    let k = c.number_of-number.result in
+    let k = c.number-number.result in
     let stands : IsSome (thread_in (states c.self.inside.all) k) =
-    subst (λ i. IsSome (thread_in (states c.self.inside.all) i)) (sym c.number_of-number.ensures.number) (subst (λ ps. IsSome (thread_in (states ps) c.args.thread)) (sym c.self.view_is) c.requires.there)
+    subst (λ i. IsSome (thread_in (states c.self.inside.all) i)) (sym c.number-number.ensures.number) (subst (λ ps. IsSome (thread_in (states ps) c.args.thread)) (sym c.self.view_is) c.requires.there)
     in
-    λ t is. back_again k c.self.invariant stands c.take.ensures.places t (is ∙ sym c.number_of-number.ensures.number) ∙ ap (λ ps. set_thread (states ps) t) c.self.view_is
+    λ t is. back_again k c.self.invariant stands c.take.ensures.places t (is ∙ sym c.number-number.ensures.number) ∙ ap (λ ps. set_thread (states ps) t) c.self.view_is

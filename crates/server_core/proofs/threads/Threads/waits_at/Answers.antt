@@ -9,8 +9,8 @@ use Rattle.server_core.proofs.threads.Threads.waits_at.Goals as goal
 pub returns-in_default : goal.returns-in_default
 returns-in_default c = sym (wait_end c.args.at c.self.invariant (sym c.nth.ensures ∙ c.in_default.is)) ∙ ap (λ ps. slice_get (waits_among (states ps) []) c.args.at) c.self.view_is
 
-pub thread_of-requires : goal.thread_of-requires
-thread_of-requires c = rank_below c.args.at c.in-Some.number c.self.invariant.waiting_set (sym c.nth.ensures ∙ c.in-Some.is)
+pub from_number-requires : goal.thread_of-requires
+from_number-requires c = rank_below c.args.at c.in-Some.number c.self.invariant.waiting_set (sym c.nth.ensures ∙ c.in-Some.is)
 
 pub unreachable-requires : goal.unreachable-requires
 unreachable-requires c =
@@ -29,5 +29,5 @@ returns c =
     let waits = wait_rank c.args.at c.in-Some.number c.self.invariant (sym c.nth.ensures ∙ c.in-Some.is) in
     let item = sym (ap (option_map (λ x. x.now)) c.in-Some-get.is) ∙ c.get.ensures in
     let same = sym c.in-Some-wait_of.is ∙ c.wait_of.ensures ∙ wait_same waits item in
-    ap (λ k. Some (k, c.in-Some-wait_of.wait)) c.thread_of.ensures ∙ ap (option_map (λ w. (c.in-Some.number, w))) same ∙ sym waits.at
+    ap (λ k. Some (k, c.in-Some-wait_of.wait)) c.from_number.ensures ∙ ap (option_map (λ w. (c.in-Some.number, w))) same ∙ sym waits.at
     ∙ ap (λ ps. slice_get (waits_among (states ps) []) c.args.at) c.self.view_is
