@@ -2,14 +2,15 @@
 use Rattle.std.proofs.Common.{◌≡◌, ℕ, zero, suc, ◌+◌, ◌<◌, ◌≤◌, ◌==◌, Bool, true, false, refl, ap, arith, ◌&&◌}
 use Rattle.std.proofs.lemmas.Bool.Decides.{nat_tests}
 use Rattle.fr_base.specs.declared.settings.Options.{Options}
-use Rattle.server_model.specs.Servers.{with_main, empty_servers}
+use Rattle.server_model.specs.Servers.{with_main, empty_servers, start_of}
 use Rattle.heap_law.specs.Names.{tot, one}
 use Rattle.heap_law.specs.Things.{Thing, counts, servers_things}
 use Rattle.heap_law.specs.Weights.{cells, owners, states, uses_of, users_of, shares_of, shares_at_home, tasks_of, is_thread}
 use Rattle.event_law.specs.Sums.{Sums, is_server}
 use Rattle.heap_law.specs.Requests.{halves_to, halves_needed, pair_notes, pair_places}
-use Rattle.heap_law.specs.Sharing.{going_notes, goes_on, noted_away}
-use Rattle.event_law.specs.Laws.{NotedAtHome, NotedGoOn, OneAnswer, PairsNoted, StartHas, StartHasSums}
+use Rattle.heap_law.specs.Sharing.{going_notes, goes_on, noted_away, results, has_ended}
+use Rattle.heap_law.specs.Sight.{Sight, sight}
+use Rattle.event_law.specs.Laws.{NotedAtHome, NotedGoOn, OneAnswer, OneResult, PairsNoted, StartHas, StartHasSums}
 use Rattle.event_law.proofs.Fair.{if_none, needs_none}
 
 -- servers without a thread have nothing but their counts
@@ -84,3 +85,13 @@ start_homes code o l = by o.servers l
     by : (n : ℕ) → 1 ≤ n → tot noted_away (servers_things (with_main (empty_servers o 0 n))) ≡ 0
     by zero l = absurd (omega arith)
     by (suc n) l = omega (arith, nothing noted_away o 1 n (λ r. refl))
+
+pub start_results : StartHas OneResult
+start_results code o l t = by o.servers l
+  where
+    q : Sight
+    q = sight (start_of code o)
+
+    by : (n : ℕ) → 1 ≤ n → tot (results q t) (servers_things (with_main (empty_servers o 0 n))) ≤ tot (has_ended t) (servers_things (with_main (empty_servers o 0 n)))
+    by zero l = absurd (omega arith)
+    by (suc n) l = omega (arith, nothing (results q t) o 1 n (λ r. refl), nothing (has_ended t) o 1 n (λ r. refl))

@@ -2,6 +2,7 @@
 use Rattle.std.proofs.Common.{◌≡◌, ℕ, ◌+◌, false, List, [], ◌∷◌, ◌++◌, Some, refl, sym, ap, subst, ◌∙◌, arith}
 use Rattle.std.specs.Prelude.{slice_get}
 use Rattle.global_addr.specs.Words.{server_of}
+use Rattle.fr_base.specs.declared.instruction.Instr.{Instr}
 use Rattle.fr_base.specs.declared.name.MutexNo.{MutexNo}
 use Rattle.fr_base.specs.declared.release.Released.TheVariants as released
 use Rattle.heap_partition.specs.declared.value.Owned.{Owned}
@@ -56,21 +57,21 @@ pub change_then : (r r1 r2 : Rest) (g1 n1 g2 n2 : List Thing) → ChangeOf r g1 
 change_then r r1 r2 g1 n1 g2 n2 c d = record { same = d.same ∙ c.same; change = λ f h. omega (arith, c.change f h, d.change f h, tot-append f g1 g2, tot-append f n1 n2) }
 
 -- a value that is let go says nothing that is answered
-pub record Gave (r : Rest) (gone news : List Thing) (r2 : Rest) : Type 0 where
+pub record Gave (code : List Instr) (r : Rest) (gone news : List Thing) (r2 : Rest) : Type 0 where
   pub more : List Thing
-  pub light : Fair [] more
+  pub light : Fair code [] more
   pub change : ChangeOf r gone (news ++ more) r2
 
-pub gives_change : (r : Rest) (gone news : List Thing) (v : Owned) (w : Work) → ChangeOf r gone news w.rest → Gave r gone news (give_up v w).rest
-gives_change r gone news (owned.Box p) w c =
-    let m = message.Drop p.word p.object in record { more = message_things (server_of p.word) m; light = record { answers = λ t. refl; pairs = λ b. refl; going = λ t. refl; homes = omega arith }; change = change_sent r w.rest gone news (server_of p.word) m c }
-gives_change r gone news (owned.Mutex x) w c =
-    let m = message.Release (released.Mutex x) in record { more = message_things x.home m; light = record { answers = λ t. refl; pairs = λ b. refl; going = λ t. refl; homes = omega arith }; change = change_sent r w.rest gone news x.home m c }
-gives_change r gone news (owned.Task x) w c =
-    let m = message.Release (released.Task x) in record { more = message_things (home_of x) m; light = record { answers = λ t. refl; pairs = λ b. refl; going = λ t. refl; homes = omega arith }; change = change_sent r w.rest gone news (home_of x) m c }
-gives_change r gone news owned.Nothing w c = record { more = []; light = fair_none; change = record { same = c.same; change = λ f h. omega (arith, c.change f h, tot-append f news []) } }
-gives_change r gone news owned.Unit w c = record { more = []; light = fair_none; change = record { same = c.same; change = λ f h. omega (arith, c.change f h, tot-append f news []) } }
-gives_change r gone news (owned.Int n) w c = record { more = []; light = fair_none; change = record { same = c.same; change = λ f h. omega (arith, c.change f h, tot-append f news []) } }
+pub gives_change : (code : List Instr) (r : Rest) (gone news : List Thing) (v : Owned) (w : Work) → ChangeOf r gone news w.rest → Gave code r gone news (give_up v w).rest
+gives_change code r gone news (owned.Box p) w c =
+    let m = message.Drop p.word p.object in record { more = message_things (server_of p.word) m; light = record { answers = λ t. refl; pairs = λ b. refl; going = λ t. refl; homes = omega arith; ends = λ t. omega arith }; change = change_sent r w.rest gone news (server_of p.word) m c }
+gives_change code r gone news (owned.Mutex x) w c =
+    let m = message.Release (released.Mutex x) in record { more = message_things x.home m; light = record { answers = λ t. refl; pairs = λ b. refl; going = λ t. refl; homes = omega arith; ends = λ t. omega arith }; change = change_sent r w.rest gone news x.home m c }
+gives_change code r gone news (owned.Task x) w c =
+    let m = message.Release (released.Task x) in record { more = message_things (home_of x) m; light = record { answers = λ t. refl; pairs = λ b. refl; going = λ t. refl; homes = omega arith; ends = λ t. omega arith }; change = change_sent r w.rest gone news (home_of x) m c }
+gives_change code r gone news owned.Nothing w c = record { more = []; light = fair_none; change = record { same = c.same; change = λ f h. omega (arith, c.change f h, tot-append f news []) } }
+gives_change code r gone news owned.Unit w c = record { more = []; light = fair_none; change = record { same = c.same; change = λ f h. omega (arith, c.change f h, tot-append f news []) } }
+gives_change code r gone news (owned.Int n) w c = record { more = []; light = fair_none; change = record { same = c.same; change = λ f h. omega (arith, c.change f h, tot-append f news []) } }
 
 -- MUTEXES AND NOTES
 
@@ -123,14 +124,18 @@ module _ (s : Server) (i : ℕ) (m : Message) (q : slice_get s.rest.inbox i ≡ 
   pub taken_out : (f : Thing → ℕ) → said_by f s.rest ≡ said_by f left + tot f (message_things s.rest.number m)
   taken_out f = omega (arith, tot-remove (λ x. message_things s.rest.number x) f 0 s.rest.inbox i m q)
 
+module _ (code : List Instr) (s : Server) (i : ℕ) (m : Message) (q : slice_get s.rest.inbox i ≡ Some m) where
+  abbrev there : Rest
+  there = receive s.rest i
+
   -- what its delivery does beside the threads
   pub record RestTurns (r2 : Rest) : Type 0 where
     pub gone : List Thing
     pub news : List Thing
-    pub change : ChangeOf left gone news r2
-    pub fair : Fair (message_things s.rest.number m ++ gone) news
+    pub change : ChangeOf there gone news r2
+    pub fair : Fair code (message_things s.rest.number m ++ gone) news
 
-  pub rest_turns : (r2 : Rest) → RestTurns r2 → Turns s (record { rest = r2; threads = s.threads; events = s.events + 1 })
+  pub rest_turns : (r2 : Rest) → RestTurns r2 → Turns code s (record { rest = r2; threads = s.threads; events = s.events + 1 })
   rest_turns r2 g =
       let n = s.rest.number in
       let c = g.change in
@@ -139,7 +144,7 @@ module _ (s : Server) (i : ℕ) (m : Message) (q : slice_get s.rest.inbox i ≡ 
         news = g.news;
         change = λ f l.
             let threads : tot f (all_standing r2.number s.threads) ≡ tot f (all_standing n s.threads) = ap (λ j. tot f (all_standing j s.threads)) c.same in
-            omega (arith, server_said f l s2, server_said f l s, taken_out f, c.change f l, threads, tot-append f (message_things n m) g.gone);
+            omega (arith, server_said f l s2, server_said f l s, taken_out s i m q f, c.change f l, threads, tot-append f (message_things n m) g.gone);
         fair = g.fair;
       }
 
@@ -149,10 +154,10 @@ module _ (s : Server) (i : ℕ) (m : Message) (q : slice_get s.rest.inbox i ≡ 
       pub named : y2.number ≡ y.number
       pub gone : List Thing
       pub news : List Thing
-      pub change : ChangeOf left gone news r2
-      pub fair : Fair (message_things s.rest.number m ++ (gone ++ stands s.rest.number false y ∷ [])) (stands s.rest.number false y2 ∷ news)
+      pub change : ChangeOf there gone news r2
+      pub fair : Fair code (message_things s.rest.number m ++ (gone ++ stands s.rest.number false y ∷ [])) (stands s.rest.number false y2 ∷ news)
 
-    pub thread_turns : (r2 : Rest) (y2 : ThreadState) → ThreadTurns r2 y2 → Turns s (record { rest = r2; threads = set_thread s.threads y2; events = s.events + 1 })
+    pub thread_turns : (r2 : Rest) (y2 : ThreadState) → ThreadTurns r2 y2 → Turns code s (record { rest = r2; threads = set_thread s.threads y2; events = s.events + 1 })
     thread_turns r2 y2 g =
         let n = s.rest.number in
         let c = g.change in
@@ -165,7 +170,7 @@ module _ (s : Server) (i : ℕ) (m : Message) (q : slice_get s.rest.inbox i ≡ 
                 arith,
                 server_said f l s2,
                 server_said f l s,
-                taken_out f,
+                taken_out s i m q f,
                 c.change f l,
                 threads,
                 tot-append f (message_things n m) (g.gone ++ stands n false y ∷ []),

@@ -1,6 +1,7 @@
--- The sums on who waits for an answer, who is noted as a half of a pair and who goes on. They see messages, places in queues, notes, and of a thread its
--- number, its phase and its server.
-use Rattle.std.proofs.Common.{◌≡◌, ◌≤◌, ℕ, ◌+◌, ◌==◌, ◌&&◌, not, Bool, true, false, List, [], ◌∷◌, ◌++◌, refl, sym, ap, ap₂, ◌∙◌, arith}
+-- The sums on who waits for an answer, who is noted as a half of a pair, who goes on and whose result stands somewhere. They see messages, places in
+-- queues, notes, and of a thread its number, its phase and its server, and the last its gift and its instruction.
+use Rattle.std.proofs.Common.{◌≡◌, ◌≤◌, ℕ, ◌+◌, ◌==◌, ◌&&◌, not, Bool, true, false, List, [], ◌∷◌, ◌++◌, None, refl, sym, ap, ap₂, ◌∙◌, arith}
+use Rattle.fr_base.specs.declared.instruction.Instr.{Instr}
 use Rattle.heap_partition.specs.declared.value.Cell.{Cell}
 use Rattle.thread_state.specs.View.{ThreadState}
 use Rattle.thread_state.specs.declared.phase.Phase.{Phase}
@@ -11,24 +12,38 @@ use Rattle.heap_law.specs.Names.{tot, one, if_so}
 use Rattle.mutex_home.specs.Mutexes.{Mutex}
 use Rattle.heap_law.specs.Things.{Thing, at_home, flies, sent, stands, counts}
 use Rattle.heap_law.specs.Requests.{Branch, waits, whole_answer, message_answer, halves, halves_to, halves_needed, pair_notes, pair_places, branch_places}
-use Rattle.heap_law.specs.Sharing.{is_over, finished_of, going_notes, goes_on, noted_away}
-use Rattle.heap_law.specs.Balances.{Agree}
+use Rattle.heap_law.specs.Sharing.{is_over, finished_of, joined_of, got_phase, going_notes, goes_on, noted_away, has_ended}
+use Rattle.heap_law.specs.Balances.{Agree, AtMost}
 use Rattle.event_law.proofs.Trades.{Same, tot-append}
 use Rattle.event_law.proofs.Unseen.{Unseen}
+use Rattle.event_law.proofs.Held.{result_of, holds_result, same_held, bare_held}
 
 -- what goes and what comes weigh the same for each of these sums
-pub record Fair (olds news : List Thing) : Type 0 where
+pub record Fair (code : List Instr) (olds news : List Thing) : Type 0 where
   pub answers : (t : ℕ) → tot (halves_to t) news + tot (halves_needed t) olds ≡ tot (halves_to t) olds + tot (halves_needed t) news
   pub pairs : (b : Branch) → tot (pair_notes b) news + tot (pair_places b) olds ≡ tot (pair_notes b) olds + tot (pair_places b) news
   pub going : (t : ℕ) → tot (going_notes t) news + tot (goes_on t) olds ≡ tot (going_notes t) olds + tot (goes_on t) news
   pub homes : tot noted_away news ≤ tot noted_away olds
+  pub ends : (t : ℕ) → tot (result_of code t) news + tot (has_ended t) olds ≤ tot (result_of code t) olds + tot (has_ended t) news
 
 -- the sums themselves
-pub record Asking (b : List Thing) : Type 0 where
+pub record Asking (code : List Instr) (b : List Thing) : Type 0 where
   pub one_answer : Agree halves_to halves_needed b
   pub pairs_noted : Agree pair_notes pair_places b
   pub noted_go_on : Agree going_notes goes_on b
   pub noted_at_home : tot noted_away b ≡ 0
+  pub one_result : AtMost (result_of code) has_ended b
+
+-- of two threads the number, the phase, the gift, the instruction and the temporary values are the same
+pub record SameThread (x y : ThreadState) : Type 0 where
+  pub number : x.number ≡ y.number
+  pub phase : x.phase ≡ y.phase
+  pub gift : x.gift ≡ y.gift
+  pub pc : x.pc ≡ y.pc
+  pub temps : x.temps ≡ y.temps
+
+pub same_self : (x : ThreadState) → SameThread x x
+same_self x = record { number = refl; phase = refl; gift = refl; pc = refl; temps = refl }
 
 -- a weight that sees no more than these do
 pub record Hears (f : Thing → ℕ) : Type 0 where
@@ -36,7 +51,7 @@ pub record Hears (f : Thing → ℕ) : Type 0 where
   pub flying : (w : ℕ) (c : Cell) → f (flies w c) ≡ 0
   pub home : (s : ℕ) (m : Mutex) → f (at_home s m) ≡ 0
   pub counted : (s a b c d e : ℕ) → f (counts s a b c d e) ≡ 0
-  pub thread : (s : ℕ) (p q : Bool) (x y : ThreadState) → x.number ≡ y.number → x.phase ≡ y.phase → f (stands s p x) ≡ f (stands s q y)
+  pub thread : (s : ℕ) (p q : Bool) (x y : ThreadState) → SameThread x y → f (stands s p x) ≡ f (stands s q y)
 
 pub halves_heard : (t : ℕ) → Hears (halves_to t)
 halves_heard t = record {
@@ -44,7 +59,7 @@ halves_heard t = record {
   flying = λ w c. refl;
   home = λ s m. refl;
   counted = λ s a b c d e. refl;
-  thread = λ s p q x y e h. refl;
+  thread = λ s p q x y e. refl;
 }
 
 pub needed_heard : (t : ℕ) → Hears (halves_needed t)
@@ -53,7 +68,7 @@ needed_heard t = record {
   flying = λ w c. refl;
   home = λ s m. refl;
   counted = λ s a b c d e. refl;
-  thread = λ s p q x y e h. ap₂ (λ i j. if_so (i == t && waits j) 2) e h;
+  thread = λ s p q x y e. ap₂ (λ i j. if_so (i == t && waits j) 2) e.number e.phase;
 }
 
 pub notes_heard : (b : Branch) → Hears (pair_notes b)
@@ -62,7 +77,7 @@ notes_heard b = record {
   flying = λ w c. refl;
   home = λ s m. refl;
   counted = λ s a b c d e. refl;
-  thread = λ s p q x y e h. refl;
+  thread = λ s p q x y e. refl;
 }
 
 pub places_heard : (b : Branch) → Hears (pair_places b)
@@ -71,7 +86,7 @@ places_heard b = record {
   flying = λ w c. refl;
   home = λ s m. refl;
   counted = λ s a b c d e. refl;
-  thread = λ s p q x y e h. ap₂ (λ i j. if_so (s == b.server && i == b.parent) (branch_places b.thread j)) e h;
+  thread = λ s p q x y e. ap₂ (λ i j. if_so (s == b.server && i == b.parent) (branch_places b.thread j)) e.number e.phase;
 }
 
 pub going_heard : (t : ℕ) → Hears (going_notes t)
@@ -80,7 +95,7 @@ going_heard t = record {
   flying = λ w c. refl;
   home = λ s m. refl;
   counted = λ s a b c d e. refl;
-  thread = λ s p q x y e h. refl;
+  thread = λ s p q x y e. refl;
 }
 
 pub goes_heard : (t : ℕ) → Hears (goes_on t)
@@ -89,7 +104,7 @@ goes_heard t = record {
   flying = λ w c. refl;
   home = λ s m. refl;
   counted = λ s a b c d e. refl;
-  thread = λ s p q x y e h. ap₂ (λ i j. one (i == t && (not (i == 0) && not (is_over j)))) e h;
+  thread = λ s p q x y e. ap₂ (λ i j. one (i == t && (not (i == 0) && not (is_over j)))) e.number e.phase;
 }
 
 pub homes_heard : Hears noted_away
@@ -98,29 +113,49 @@ homes_heard = record {
   flying = λ w c. refl;
   home = λ s m. refl;
   counted = λ s a b c d e. refl;
-  thread = λ s p q x y e h. refl;
+  thread = λ s p q x y e. refl;
+}
+
+pub ended_heard : (t : ℕ) → Hears (has_ended t)
+ended_heard t = record {
+  unseen = λ n. record { held = λ p v. refl; shared = λ l r. refl; borrowed = λ l r. refl; locked = λ l m. refl; live = λ a c. refl; free = λ a m. refl; old = λ a. refl; copy = λ s c. refl; used = λ s w. refl };
+  flying = λ w c. refl;
+  home = λ s m. refl;
+  counted = λ s a b c d e. refl;
+  thread = λ s p q x y e. ap₂ (λ i j. one (i == t && (not (i == 0) && is_over j))) e.number e.phase;
+}
+
+pub results_heard : (code : List Instr) (t : ℕ) → Hears (result_of code t)
+results_heard code t = record {
+  unseen = λ n. record { held = λ p v. refl; shared = λ l r. refl; borrowed = λ l r. refl; locked = λ l m. refl; live = λ a c. refl; free = λ a m. refl; old = λ a. refl; copy = λ s c. refl; used = λ s w. refl };
+  flying = λ w c. refl;
+  home = λ s m. refl;
+  counted = λ s a b c d e. refl;
+  thread = λ s p q x y e. ap₂ (λ i j. got_phase t i + j) e.phase (same_held code t x y e.gift e.pc e.temps);
 }
 
 -- where the weights that see no more change by what goes and what comes, the sums are kept
-pub asking_kept : (a b olds news : List Thing) → ((f : Thing → ℕ) → Hears f → tot f b + tot f olds ≡ tot f a + tot f news) → Fair olds news → Asking a → Asking b
-asking_kept a b olds news change fair k = record {
+pub asking_kept : (code : List Instr) (a b olds news : List Thing) → ((f : Thing → ℕ) → Hears f → tot f b + tot f olds ≡ tot f a + tot f news) → Fair code olds news → Asking code a → Asking code b
+asking_kept code a b olds news change fair k = record {
   one_answer = λ t. omega (arith, change (halves_to t) (halves_heard t), change (halves_needed t) (needed_heard t), fair.answers t, k.one_answer t);
   pairs_noted = λ x. omega (arith, change (pair_notes x) (notes_heard x), change (pair_places x) (places_heard x), fair.pairs x, k.pairs_noted x);
   noted_go_on = λ t. omega (arith, change (going_notes t) (going_heard t), change (goes_on t) (goes_heard t), fair.going t, k.noted_go_on t);
   noted_at_home = omega (arith, change noted_away homes_heard, fair.homes, k.noted_at_home);
+  one_result = λ t. omega (arith, change (result_of code t) (results_heard code t), change (has_ended t) (ended_heard t), fair.ends t, k.one_result t);
 }
 
 -- FAIR CHANGES TOGETHER
 
-pub fair_none : Fair [] []
-fair_none = record { answers = λ t. refl; pairs = λ b. refl; going = λ t. refl; homes = omega arith }
+pub fair_none : {code : List Instr} → Fair code [] []
+fair_none {code} = record { answers = λ t. refl; pairs = λ b. refl; going = λ t. refl; homes = omega arith; ends = λ t. omega arith }
 
-pub fair_both : (a b c d : List Thing) → Fair a b → Fair c d → Fair (a ++ c) (b ++ d)
-fair_both a b c d p q = record {
+pub fair_both : {code : List Instr} (a b c d : List Thing) → Fair code a b → Fair code c d → Fair code (a ++ c) (b ++ d)
+fair_both {code} a b c d p q = record {
   answers = λ t. omega (arith, p.answers t, q.answers t, tot-append (halves_to t) a c, tot-append (halves_to t) b d, tot-append (halves_needed t) a c, tot-append (halves_needed t) b d);
   pairs = λ x. omega (arith, p.pairs x, q.pairs x, tot-append (pair_notes x) a c, tot-append (pair_notes x) b d, tot-append (pair_places x) a c, tot-append (pair_places x) b d);
   going = λ t. omega (arith, p.going t, q.going t, tot-append (going_notes t) a c, tot-append (going_notes t) b d, tot-append (goes_on t) a c, tot-append (goes_on t) b d);
   homes = omega (arith, p.homes, q.homes, tot-append noted_away a c, tot-append noted_away b d);
+  ends = λ t. omega (arith, p.ends t, q.ends t, tot-append (result_of code t) a c, tot-append (result_of code t) b d, tot-append (has_ended t) a c, tot-append (has_ended t) b d);
 }
 
 -- A THREAD THAT STEPS
@@ -147,6 +182,17 @@ calm_places t (phase.GotPar a b) c = refl
 calm_places t (phase.Taken w) c = refl
 calm_places t _ c = absurd (cc c)
 
+-- nor is it over, nor has it got the results of a pair
+pub record Calmly (p : Phase) : Type 0 where
+  pub steps : can_step p ≡ true
+  pub got : (t : ℕ) → got_phase t p ≡ 0
+
+pub not_ended : (b z o : Bool) → o ≡ false → one (b && (not z && o)) ≡ 0
+not_ended true true o e = refl
+not_ended true false false e = refl
+not_ended true false true e = absurd (cc e)
+not_ended false z o e = refl
+
 pub if_none : (b : Bool) (n : ℕ) → n ≡ 0 → if_so b n ≡ 0
 if_none true n e = e
 if_none false n e = refl
@@ -162,8 +208,8 @@ needs_both true false e = absurd (cc e)
 needs_both false w e = refl
 
 -- it stands as it did, in another phase in which it waits for nothing
-pub fair_calm : (n : ℕ) (y y2 : ThreadState) → y2.number ≡ y.number → can_step y.phase ≡ true → can_step y2.phase ≡ true → Fair (stands n false y ∷ []) (stands n false y2 ∷ [])
-fair_calm n y y2 e c d = record {
+pub fair_calm : {code : List Instr} (n : ℕ) (y y2 : ThreadState) → y2.number ≡ y.number → y2.gift ≡ None → can_step y.phase ≡ true → Calmly y2.phase → Fair code (stands n false y ∷ []) (stands n false y2 ∷ [])
+fair_calm {code} n y y2 e bare c calm = let d = calm.steps in record {
   answers = λ t. omega (arith, needs_none (y.number == t) (waits y.phase) (calm_waits y.phase c), needs_none (y2.number == t) (waits y2.phase) (calm_waits y2.phase d));
   pairs = λ x. omega (
     arith,
@@ -172,6 +218,7 @@ fair_calm n y y2 e c d = record {
   );
   going = λ t. let same = ap₂ (λ i j. one (i == t && (not (i == 0) && not j))) e (calm_over y2.phase d ∙ sym (calm_over y.phase c)) in omega (arith, same);
   homes = omega arith;
+  ends = λ t. omega (arith, calm.got t, bare_held code t y2 bare, not_ended (y.number == t) (y.number == 0) (is_over y.phase) (calm_over y.phase c));
 }
 
 -- it asks, and waits for the answer
@@ -181,9 +228,10 @@ pub record Asks (y2 : ThreadState) (m : Message) : Type 0 where
   pub lives : is_over y2.phase ≡ false
   pub answer : message_answer m ≡ whole_answer y2.number
   pub goes_on : (t : ℕ) → finished_of t m ≡ 0
+  pub no_result : (t : ℕ) → (got_phase t y2.phase ≡ 0) × (joined_of t m ≡ 0)
 
-pub fair_asks : (n a : ℕ) (y y2 : ThreadState) (m : Message) → y2.number ≡ y.number → can_step y.phase ≡ true → Asks y2 m → Fair (stands n false y ∷ []) (stands n false y2 ∷ sent a m ∷ [])
-fair_asks n a y y2 m e c q = record {
+pub fair_asks : {code : List Instr} (n a : ℕ) (y y2 : ThreadState) (m : Message) → y2.number ≡ y.number → ((t : ℕ) → holds_result code t y2 ≡ 0) → can_step y.phase ≡ true → Asks y2 m → Fair code (stands n false y ∷ []) (stands n false y2 ∷ sent a m ∷ [])
+fair_asks {code} n a y y2 m e bare c q = record {
   answers = λ t. let is = ap (halves t) q.answer in omega (arith, is, needs_none (y.number == t) (waits y.phase) (calm_waits y.phase c), needs_both (y2.number == t) (waits y2.phase) q.waiting);
   pairs = λ x. omega (
     arith,
@@ -192,15 +240,17 @@ fair_asks n a y y2 m e c q = record {
   );
   going = λ t. let same = ap₂ (λ i j. one (i == t && (not (i == 0) && not j))) e (q.lives ∙ sym (calm_over y.phase c)) in omega (arith, same, q.goes_on t);
   homes = omega arith;
+  ends = λ t. omega (arith, (q.no_result t).0, (q.no_result t).1, q.goes_on t, bare t, not_ended (y.number == t) (y.number == 0) (is_over y.phase) (calm_over y.phase c));
 }
 
 -- what weighs nothing more comes beside
-pub fair_beside : (olds front news more : List Thing) → Fair [] news → Fair olds (front ++ more) → Fair olds (front ++ (news ++ more))
-fair_beside olds front news more p q = record {
+pub fair_beside : {code : List Instr} (olds front news more : List Thing) → Fair code [] news → Fair code olds (front ++ more) → Fair code olds (front ++ (news ++ more))
+fair_beside {code} olds front news more p q = record {
   answers = λ t. omega (arith, p.answers t, q.answers t, split (halves_to t), split (halves_needed t), whole (halves_to t), whole (halves_needed t));
   pairs = λ x. omega (arith, p.pairs x, q.pairs x, split (pair_notes x), split (pair_places x), whole (pair_notes x), whole (pair_places x));
   going = λ t. omega (arith, p.going t, q.going t, split (going_notes t), split (goes_on t), whole (going_notes t), whole (goes_on t));
   homes = omega (arith, p.homes, q.homes, split noted_away, whole noted_away);
+  ends = λ t. omega (arith, p.ends t, q.ends t, split (result_of code t), split (has_ended t), whole (result_of code t), whole (has_ended t));
 }
   where
     split : (f : Thing → ℕ) → tot f (front ++ more) ≡ tot f front + tot f more
@@ -209,19 +259,21 @@ fair_beside olds front news more p q = record {
     whole : (f : Thing → ℕ) → tot f (front ++ (news ++ more)) ≡ tot f front + (tot f news + tot f more)
     whole f = omega (arith, tot-append f front (news ++ more), tot-append f news more)
 
--- the same things in another order, and a thread with the same number and phase
-pub fair_same : (olds news news2 : List Thing) → Same news news2 → Fair olds news → Fair olds news2
-fair_same olds news news2 e p = record {
+-- the same things in another order, and a thread that is the same
+pub fair_same : {code : List Instr} (olds news news2 : List Thing) → Same news news2 → Fair code olds news → Fair code olds news2
+fair_same {code} olds news news2 e p = record {
   answers = λ t. omega (arith, p.answers t, e (halves_to t), e (halves_needed t));
   pairs = λ x. omega (arith, p.pairs x, e (pair_notes x), e (pair_places x));
   going = λ t. omega (arith, p.going t, e (going_notes t), e (goes_on t));
   homes = omega (arith, p.homes, e noted_away);
+  ends = λ t. omega (arith, p.ends t, e (result_of code t), e (has_ended t));
 }
 
-pub fair_thread : (olds : List Thing) (n : ℕ) (x y : ThreadState) (news : List Thing) → y.number ≡ x.number → y.phase ≡ x.phase → Fair olds (stands n false x ∷ news) → Fair olds (stands n false y ∷ news)
-fair_thread olds n x y news e h p = record {
-  answers = λ t. let a = needed_heard t in omega (arith, p.answers t, a.thread n false false y x e h);
-  pairs = λ b. let a = places_heard b in omega (arith, p.pairs b, a.thread n false false y x e h);
-  going = λ t. let a = goes_heard t in omega (arith, p.going t, a.thread n false false y x e h);
+pub fair_thread : {code : List Instr} (olds : List Thing) (n : ℕ) (x y : ThreadState) (news : List Thing) → SameThread y x → Fair code olds (stands n false x ∷ news) → Fair code olds (stands n false y ∷ news)
+fair_thread {code} olds n x y news e p = record {
+  answers = λ t. let a = needed_heard t in omega (arith, p.answers t, a.thread n false false y x e);
+  pairs = λ b. let a = places_heard b in omega (arith, p.pairs b, a.thread n false false y x e);
+  going = λ t. let a = goes_heard t in omega (arith, p.going t, a.thread n false false y x e);
   homes = omega (arith, p.homes);
+  ends = λ t. let a = results_heard code t in let b = ended_heard t in omega (arith, p.ends t, a.thread n false false y x e, b.thread n false false y x e);
 }

@@ -1,6 +1,7 @@
 -- New threads and the notes of them weigh the same; a thread that ends weighs what its `finished` does.
-use Rattle.std.proofs.Common.{◌≡◌, ℕ, ◌+◌, ◌==◌, ◌&&◌, not, Bool, true, false, [], ◌∷◌, ◌++◌, refl, sym, ap, ap₂, ◌∙◌, arith}
+use Rattle.std.proofs.Common.{◌≡◌, ℕ, ◌+◌, ◌==◌, ◌&&◌, not, Bool, true, false, List, [], ◌∷◌, ◌++◌, None, refl, sym, ap, ap₂, ◌∙◌, arith}
 use Rattle.fr_typing.proofs.PlaceLemmas.{eq_cases}
+use Rattle.fr_base.specs.declared.instruction.Instr.{Instr}
 use Rattle.heap_partition.specs.declared.value.Owned.{Owned}
 use Rattle.join_home.specs.Tasks.{going, in_pair}
 use Rattle.thread_state.specs.View.{ThreadState}
@@ -10,10 +11,11 @@ use Rattle.server_model.specs.Events.{can_step}
 use Rattle.heap_law.specs.Names.{tot, one, if_so, other}
 use Rattle.heap_law.specs.Things.{Thing, stands, noted, message_things, task_things, thread_things}
 use Rattle.heap_law.specs.Requests.{Branch, waits, halves_to, halves_needed, pair_notes, pair_places, branch_places, home_of}
-use Rattle.heap_law.specs.Sharing.{is_over, going_notes, goes_on, noted_away}
+use Rattle.heap_law.specs.Sharing.{is_over, got_phase, going_notes, goes_on, noted_away, has_ended}
 use Rattle.event_law.proofs.Trades.{tot-append}
 use Rattle.event_law.proofs.Unseen.{thread_alone}
-use Rattle.event_law.proofs.Fair.{Fair, Hears, halves_heard, needed_heard, notes_heard, places_heard, going_heard, goes_heard, homes_heard, if_none, needs_none, calm_waits, calm_over, calm_places}
+use Rattle.event_law.proofs.Held.{result_of, bare_held}
+use Rattle.event_law.proofs.Fair.{Fair, Hears, results_heard, ended_heard, not_ended, halves_heard, needed_heard, notes_heard, places_heard, going_heard, goes_heard, homes_heard, if_none, needs_none, calm_waits, calm_over, calm_places}
 
 not_zero : (u : ℕ) → (u ≡ 0 → ⊥) → (u == 0) ≡ false
 not_zero u ne = eq_cases (λ b. b ≡ false) u 0 (λ e. absurd (ne e)) (λ n. refl)
@@ -56,6 +58,12 @@ module _ (s : ℕ) (x : ThreadState) (ready : x.phase ≡ phase.Ready) where
     omega (arith, alone (goes_on t) (goes_heard t), living (x.number == t) (x.number == 0) (is_over x.phase) (not_zero x.number ne) (ap is_over ready)),
   )
 
+  start_ends : x.gift ≡ None → (code : List Instr) (t : ℕ) → (tot (result_of code t) (message_things s (message.Start x)) ≡ 0) × (tot (has_ended t) (message_things s (message.Start x)) ≡ 0)
+  start_ends bare code t = (
+    omega (arith, alone (result_of code t) (results_heard code t), ap (got_phase t) ready, bare_held code t x bare),
+    omega (arith, alone (has_ended t) (ended_heard t), not_ended (x.number == t) (x.number == 0) (is_over x.phase) (ap is_over ready)),
+  )
+
   start_homes : tot noted_away (message_things s (message.Start x)) ≡ 0
   start_homes = omega (arith, alone noted_away homes_heard)
 
@@ -63,12 +71,13 @@ at_home : (u n : ℕ) → home_of u ≡ n → other (home_of u == n) ≡ 0
 at_home u n e = eq_cases (λ b. other b ≡ 0) (home_of u) n (λ q. refl) (λ ne. absurd (ne e))
 
 -- one thread starts, and is noted as going
-pub fair_starts : (n s : ℕ) (x : ThreadState) → x.phase ≡ phase.Ready → (x.number ≡ 0 → ⊥) → home_of x.number ≡ n → Fair [] (task_things n 0 (record { thread = x.number; state = going }) ++ message_things s (message.Start x))
-fair_starts n s x ready ne home = record {
+pub fair_starts : {code : List Instr} (n s : ℕ) (x : ThreadState) → x.phase ≡ phase.Ready → x.gift ≡ None → (x.number ≡ 0 → ⊥) → home_of x.number ≡ n → Fair code [] (task_things n 0 (record { thread = x.number; state = going }) ++ message_things s (message.Start x))
+fair_starts {code} n s x ready bare ne home = record {
   answers = λ t. let a = start_answers s x ready t in omega (arith, a.0, a.1);
   pairs = λ b. let a = start_pairs s x ready b in omega (arith, a.0, a.1, none_half (n == b.server && x.number == b.thread));
   going = λ t. let a = start_going s x ready ne t in omega (arith, a.0, a.1, noting (x.number == t));
   homes = omega (arith, start_homes s x ready, at_home x.number n home);
+  ends = λ t. let a = start_ends s x ready bare code t in omega (arith, a.0, a.1, if_none (x.number == t) 0 refl);
 }
 
 -- PAIRS
@@ -90,10 +99,10 @@ waits_for_two true = refl
 waits_for_two false = refl
 
 -- two threads start, and their parent waits for both
-pub fair_pair : (n s r : ℕ) (y y2 u v : ThreadState) → y2.number ≡ y.number → can_step y.phase ≡ true → y2.phase ≡ phase.WaitPar u.number v.number
+pub fair_pair : {code : List Instr} (n s r : ℕ) (y y2 u v : ThreadState) → y2.number ≡ y.number → y2.gift ≡ None → u.gift ≡ None → v.gift ≡ None → can_step y.phase ≡ true → y2.phase ≡ phase.WaitPar u.number v.number
     → u.phase ≡ phase.Ready → v.phase ≡ phase.Ready → (u.number ≡ 0 → ⊥) → (v.number ≡ 0 → ⊥) → home_of u.number ≡ n → home_of v.number ≡ n
-    → Fair (stands n false y ∷ []) (stands n false y2 ∷ (task_things n 0 (record { thread = u.number; state = in_pair y2.number false }) ++ task_things n 0 (record { thread = v.number; state = in_pair y2.number false }) ++ message_things s (message.Start u) ++ message_things r (message.Start v)))
-fair_pair n s r y y2 u v same c waiting ready ready2 ne ne2 home home2 = record {
+    → Fair code (stands n false y ∷ []) (stands n false y2 ∷ (task_things n 0 (record { thread = u.number; state = in_pair y2.number false }) ++ task_things n 0 (record { thread = v.number; state = in_pair y2.number false }) ++ message_things s (message.Start u) ++ message_things r (message.Start v)))
+fair_pair {code} n s r y y2 u v same bare new new2 c waiting ready ready2 ne ne2 home home2 = record {
   answers = λ t.
       let a = start_answers s u ready t in
       let b = start_answers r v ready2 t in
@@ -122,6 +131,23 @@ fair_pair n s r y y2 u v same c waiting ready ready2 ne ne2 home home2 = record 
       let w = ap₂ (λ i j. one (i == t && (not (i == 0) && not j))) same (ap is_over waiting ∙ sym (calm_over y.phase c)) in
       omega (arith, a.0, a.1, b.0, b.1, w, noting (u.number == t), noting (v.number == t), whole (going_notes t), whole (goes_on t));
   homes = omega (arith, start_homes s u ready, start_homes r v ready2, at_home u.number n home, at_home v.number n home2, whole noted_away);
+  ends = λ t.
+      let a = start_ends s u ready new code t in
+      let b = start_ends r v ready2 new2 code t in
+      omega (
+        arith,
+        a.0,
+        a.1,
+        b.0,
+        b.1,
+        if_none (u.number == t) 0 refl,
+        if_none (v.number == t) 0 refl,
+        ap (got_phase t) waiting,
+        bare_held code t y2 bare,
+        not_ended (y.number == t) (y.number == 0) (is_over y.phase) (calm_over y.phase c),
+        whole (result_of code t),
+        whole (has_ended t),
+      );
 }
   where
     whole : (f : Thing → ℕ)
@@ -137,14 +163,20 @@ over_none true false true e = refl
 over_none true false false e = absurd (cc e)
 over_none false z o e = refl
 
+ended_one : (b z o : Bool) → z ≡ false → o ≡ true → one (b && (not z && o)) ≡ one b
+ended_one true true o e h = absurd (cc e)
+ended_one true false true e h = refl
+ended_one true false false e h = absurd (cc h)
+ended_one false z o e h = refl
+
 main_none : (b z o : Bool) → z ≡ true → one (b && (not z && not o)) ≡ 0
 main_none true true o e = refl
 main_none true false o e = absurd (cc e)
 main_none false z o e = refl
 
 -- main is over, and says nothing
-pub fair_main_ends : (n : ℕ) (y y2 : ThreadState) → y2.number ≡ y.number → can_step y.phase ≡ true → y2.phase ≡ phase.Over → (y.number == 0) ≡ true → Fair (stands n false y ∷ []) (stands n false y2 ∷ [])
-fair_main_ends n y y2 same c over main = record {
+pub fair_main_ends : {code : List Instr} (n : ℕ) (y y2 : ThreadState) → y2.number ≡ y.number → y2.gift ≡ None → can_step y.phase ≡ true → y2.phase ≡ phase.Over → (y.number == 0) ≡ true → Fair code (stands n false y ∷ []) (stands n false y2 ∷ [])
+fair_main_ends {code} n y y2 same bare c over main = record {
   answers = λ t. omega (arith, needs_none (y.number == t) (waits y.phase) (calm_waits y.phase c), needs_none (y2.number == t) (waits y2.phase) (ap waits over));
   pairs = λ x. omega (
     arith,
@@ -153,12 +185,13 @@ fair_main_ends n y y2 same c over main = record {
   );
   going = λ t. omega (arith, main_none (y.number == t) (y.number == 0) (is_over y.phase) main, over_none (y2.number == t) (y2.number == 0) (is_over y2.phase) (ap is_over over));
   homes = omega arith;
+  ends = λ t. omega (arith, ap (got_phase t) over, bare_held code t y2 bare, not_ended (y.number == t) (y.number == 0) (is_over y.phase) (calm_over y.phase c));
 }
 
 -- another thread is over, and its result goes home
-pub fair_ends : (n s : ℕ) (y y2 : ThreadState) (v : Owned) → y2.number ≡ y.number → can_step y.phase ≡ true → y2.phase ≡ phase.Over → (y.number == 0) ≡ false
-    → Fair (stands n false y ∷ []) (stands n false y2 ∷ message_things s (message.Finished y2.number v))
-fair_ends n s y y2 v same c over other = record {
+pub fair_ends : {code : List Instr} (n s : ℕ) (y y2 : ThreadState) (v : Owned) → y2.number ≡ y.number → y2.gift ≡ None → can_step y.phase ≡ true → y2.phase ≡ phase.Over → (y.number == 0) ≡ false
+    → Fair code (stands n false y ∷ []) (stands n false y2 ∷ message_things s (message.Finished y2.number v))
+fair_ends {code} n s y y2 v same bare c over other = record {
   answers = λ t. omega (arith, needs_none (y.number == t) (waits y.phase) (calm_waits y.phase c), needs_none (y2.number == t) (waits y2.phase) (ap waits over));
   pairs = λ x. omega (
     arith,
@@ -169,4 +202,11 @@ fair_ends n s y y2 v same c over other = record {
       let number : one (y2.number == t) ≡ one (y.number == t) = ap (λ i. one (i == t)) same in
       omega (arith, number, living (y.number == t) (y.number == 0) (is_over y.phase) other (calm_over y.phase c), over_none (y2.number == t) (y2.number == 0) (is_over y2.phase) (ap is_over over));
   homes = omega arith;
+  ends = λ t. omega (
+    arith,
+    ap (got_phase t) over,
+    bare_held code t y2 bare,
+    not_ended (y.number == t) (y.number == 0) (is_over y.phase) (calm_over y.phase c),
+    ended_one (y2.number == t) (y2.number == 0) (is_over y2.phase) (ap (λ i. i == 0) same ∙ other) (ap is_over over),
+  );
 }

@@ -4,6 +4,7 @@ use Rattle.std.specs.Prelude.{slice_get, slice_set}
 use Rattle.std.specs.List.{AllByRecursion}
 use Rattle.heap_partition.specs.declared.value.BoxPtr.{BoxPtr}
 use Rattle.heap_partition.specs.declared.value.Cell.{Cell}
+use Rattle.heap_partition.specs.declared.value.Owned.{Owned}
 use Rattle.heap_partition.specs.declared.value.Owned.TheVariants as owned
 use Rattle.global_addr.specs.Words.{server_of, address_of}
 use Rattle.owner_box.specs.View.{PartitionState}
@@ -122,13 +123,13 @@ module _ (ss : List Server) where
 
 -- WHAT MAKING A PLACE READY LEAVES ALONE
 
--- what may hold of the phase and the number of a thread, and of the number, the messages, the mutexes, the tasks and the count of started threads of its server
+-- what may hold of the phase, the number, the gift and the place in the code of a thread, and of the number, the messages, the mutexes, the tasks and the count of started threads of its server
 abbrev pub Told : Type 1
-Told = Phase → ℕ → ℕ → List Message → List Sent → Mutexes → List Task → ℕ → Type 0
+Told = Phase → ℕ → Option Owned → ℕ → ℕ → List Message → List Sent → Mutexes → List Task → ℕ → Type 0
 
 module _ (q : Told) where
   abbrev pub Holds : Hand → Type 0
-  Holds h = q h.thread.phase h.thread.number h.work.rest.number h.work.rest.inbox h.work.rest.outbox h.work.rest.mutexes h.work.rest.tasks h.work.rest.started
+  Holds h = q h.thread.phase h.thread.number h.thread.gift h.thread.pc h.work.rest.number h.work.rest.inbox h.work.rest.outbox h.work.rest.mutexes h.work.rest.tasks h.work.rest.started
 
   pub put_keeps : (s : Spot) (v : Value) (h : Hand) → Holds h → Gives Holds (put_at s v h)
   put_keeps (in_slot i) v h a = test_gives Holds (nat_lt i (length h.thread.slots)) _ (λ on. a)

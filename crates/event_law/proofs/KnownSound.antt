@@ -54,11 +54,11 @@ pub record ServerKnown (ss : List Server) (s : Server) : Type 0 where
 -- THREADS AS THINGS
 
 -- a weight of threads, as one of things
-abbrev on_standing : (Standing → ℕ) → Thing → ℕ
+abbrev pub on_standing : (Standing → ℕ) → Thing → ℕ
 on_standing f (stands s p t) = f (record { server = s; packed = p; thread = t })
 on_standing f x = 0
 
-sum_standing : (f : Standing → ℕ) (b : List Thing) → tot (on_standing f) b ≡ tot f (threads_in b)
+pub sum_standing : (f : Standing → ℕ) (b : List Thing) → tot (on_standing f) b ≡ tot f (threads_in b)
 sum_standing f [] = refl
 sum_standing f (stands s p t ∷ b) = omega (arith, sum_standing f b)
 sum_standing f (_ ∷ b) = omega (arith, sum_standing f b)

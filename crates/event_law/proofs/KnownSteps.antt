@@ -46,7 +46,7 @@ use Rattle.event_law.proofs.KnownPrepares.{Ok, Asked, Fine, prepare_fine}
 
 -- so far the event has sent to servers of the run alone
 abbrev pub sent : List Server → Rest → Told
-sent ss r p t n i o ms ts c = Adds ss r n o
+sent ss r p t g pc n i o ms ts c = Adds ss r n o
 
 -- and so a request does
 asks : (ss : List Server) (r : Rest) → Asked ss (sent ss r) (Holds (sent ss r))

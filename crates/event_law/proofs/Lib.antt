@@ -49,6 +49,7 @@ pub mod KnownSteps
 pub mod KnownMessages
 pub mod KnownSound
 pub mod Sending
+pub mod Held
 pub mod Fair
 pub mod Quiet
 pub mod FairStarts
@@ -60,6 +61,7 @@ pub mod TurnMessages
 pub mod TurnNotes
 pub mod TurnFinished
 pub mod TurnPairs
+pub mod GiftsTaken
 pub mod TurnEvents
 pub mod HaveResults
 pub mod StandsHere

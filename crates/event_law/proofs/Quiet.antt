@@ -1,7 +1,9 @@
 -- What a step says: making a place ready says nothing but the request that it may end with, and values that are dropped say nothing that is answered.
-use Rattle.std.proofs.Common.{◌≡◌, ℕ, ◌+◌, true, false, if◌then◌else◌, List, [], ◌∷◌, ◌++◌, length, refl, sym, subst, ◌∙◌, arith, Bool, ◌==◌}
+use Rattle.std.proofs.Common.{◌≡◌, ℕ, ◌+◌, true, false, if◌then◌else◌, List, [], ◌∷◌, ◌++◌, length, Option, None, refl, sym, subst, ◌∙◌, arith, Bool, ◌==◌}
 use Rattle.fr_typing.proofs.PlaceLemmas.{eq_cases}
+use Rattle.fr_base.specs.declared.instruction.Instr.{Instr}
 use Rattle.global_addr.specs.Words.{server_of}
+use Rattle.heap_partition.specs.declared.value.Owned.{Owned}
 use Rattle.mutex_home.specs.Mutexes.{Mutexes}
 use Rattle.join_home.specs.Tasks.{Task}
 use Rattle.thread_state.specs.View.{ThreadState}
@@ -18,7 +20,8 @@ use Rattle.heap_law.proofs.Sums.{server_parts, waiting_pushed, all_sent, all_sen
 use Rattle.event_law.proofs.Trades.{tot-append}
 use Rattle.event_law.proofs.Bags.{all_standing}
 use Rattle.event_law.proofs.Unseen.{partition_none, copies_none}
-use Rattle.event_law.proofs.Fair.{Fair, Hears, Asks, fair_none, fair_both, fair_calm, fair_asks, fair_beside}
+use Rattle.event_law.proofs.Held.{holds_result}
+use Rattle.event_law.proofs.Fair.{Fair, Hears, Asks, Calmly, fair_none, fair_both, fair_calm, fair_asks, fair_beside}
 use Rattle.event_law.proofs.KnownPlaces.{Told, Holds}
 use Rattle.event_law.proofs.KnownPrepares.{Asked}
 
@@ -71,36 +74,51 @@ sent_started r t m = by (t == r.number)
 
 -- IN THE MIDDLE OF A STEP
 
--- the thread is in the phase in which it began, and nothing that is answered was said
-pub record Quietly (y : ThreadState) (r : Rest) (p : Phase) (t n : ℕ) (i : List Message) (o : List Sent) (ms : Mutexes) (ts : List Task) (c : ℕ) : Type 0 where
+-- the thread is at the place in the code and in the phase in which it began, its gift is as that is told, and nothing that is answered was said
+pub record Quietly (code : List Instr) (gift : Option Owned → Type 0) (y : ThreadState) (r : Rest) (p : Phase) (t : ℕ) (g : Option Owned) (pc n : ℕ) (i : List Message) (o : List Sent) (ms : Mutexes) (ts : List Task) (c : ℕ) : Type 0 where
   pub still : p ≡ y.phase
   pub named : t ≡ y.number
+  pub given : gift g
+  pub placed : pc ≡ y.pc
   pub begun : c ≡ r.started
   pub news : List Thing
   pub says : Says r news n i o ms ts
-  pub light : Fair [] news
+  pub light : Fair code [] news
 
-abbrev pub quiet : ThreadState → Rest → Told
-quiet y r p t n i o ms ts c = Quietly y r p t n i o ms ts c
+abbrev pub quiet : List Instr → (Option Owned → Type 0) → ThreadState → Rest → Told
+quiet code gift y r p t g pc n i o ms ts c = Quietly code gift y r p t g pc n i o ms ts c
 
-abbrev pub Quiet : ThreadState → Rest → Hand → Type 0
-Quiet y r h = Holds (quiet y r) h
+abbrev pub Quiet : List Instr → (Option Owned → Type 0) → ThreadState → Rest → Hand → Type 0
+Quiet code gift y r h = Holds (quiet code gift y r) h
 
-pub quiet_start : (y : ThreadState) (w : Work) → Quiet y w.rest (record { work = w; thread = y })
-quiet_start y w = record { still = refl; named = refl; begun = refl; news = []; says = says_nothing w.rest; light = fair_none }
+-- it has the gift that it had; it has none
+abbrev pub IsGift : ThreadState → Option Owned → Type 0
+IsGift y g = g ≡ y.gift
+
+abbrev pub NoGift : Option Owned → Type 0
+NoGift g = g ≡ None
+
+pub quiet_start : (code : List Instr) (gift : Option Owned → Type 0) (y : ThreadState) (w : Work) → gift y.gift → Quiet code gift y w.rest (record { work = w; thread = y })
+quiet_start code gift y w g = record { still = refl; named = refl; given = g; placed = refl; begun = refl; news = []; says = says_nothing w.rest; light = fair_none }
+
+-- the same once the gift is told in another way
+pub quiet_gift : (code : List Instr) (gift gift2 : Option Owned → Type 0) (y : ThreadState) (r : Rest) (h : Hand) (g : Option Owned) → gift2 g → Quiet code gift y r h → Quiet code gift2 y r (record h { thread = record h.thread { gift = g } })
+quiet_gift code gift gift2 y r h g t q = record { still = q.still; named = q.named; given = t; placed = q.placed; begun = q.begun; news = q.news; says = q.says; light = q.light }
 
 -- at its end the thread and what was said weigh as the thread did
-pub record After (y : ThreadState) (r : Rest) (h : Hand) : Type 0 where
+pub record After (code : List Instr) (y : ThreadState) (r : Rest) (h : Hand) : Type 0 where
   pub named : h.thread.number ≡ y.number
   pub news : List Thing
   pub says : SaysOf r news h.work.rest
-  pub fair : Fair (stands r.number false y ∷ []) (stands r.number false h.thread ∷ news)
+  pub fair : Fair code (stands r.number false y ∷ []) (stands r.number false h.thread ∷ news)
 
-module _ (y : ThreadState) (r : Rest) where
-  pub quiet_sends : (t : ℕ) (m : Message) (h : Hand) → Fair [] (message_things t m) → Quiet y r h → Quiet y r (working (send t m) h)
+module _ (code : List Instr) (gift : Option Owned → Type 0) (y : ThreadState) (r : Rest) where
+  pub quiet_sends : (t : ℕ) (m : Message) (h : Hand) → Fair code [] (message_things t m) → Quiet code gift y r h → Quiet code gift y r (working (send t m) h)
   quiet_sends t m h l g = record {
     still = g.still;
     named = g.named;
+    given = g.given;
+    placed = g.placed;
     begun = sent_started h.work.rest t m ∙ g.begun;
     news = g.news ++ message_things t m;
     says = says_sent r h.work.rest g.news t m g.says;
@@ -108,34 +126,40 @@ module _ (y : ThreadState) (r : Rest) where
   }
 
   -- it goes on
-  pub calm_after : (h : Hand) (y2 : ThreadState) → can_step y.phase ≡ true → can_step y2.phase ≡ true → y2.number ≡ h.thread.number → Quiet y r h → After y r (record h { thread = y2 })
-  calm_after h y2 c d e g = record {
+  pub calm_after : (h : Hand) (y2 : ThreadState) → can_step y.phase ≡ true → Calmly y2.phase → y2.number ≡ h.thread.number → y2.gift ≡ None → Quiet code gift y r h → After code y r (record h { thread = y2 })
+  calm_after h y2 c d e bare g = record {
     named = e ∙ g.named;
     news = g.news;
     says = g.says;
-    fair = fair_both (stands r.number false y ∷ []) (stands r.number false y2 ∷ []) [] g.news (fair_calm r.number y y2 (e ∙ g.named) c d) g.light;
+    fair = fair_both (stands r.number false y ∷ []) (stands r.number false y2 ∷ []) [] g.news (fair_calm r.number y y2 (e ∙ g.named) bare c d) g.light;
   }
 
   -- it asks
-  pub asks_after : (a : ℕ) (m : Message) (h : Hand) (y2 : ThreadState) → message_things a m ≡ sent a m ∷ [] → can_step y.phase ≡ true → y2.number ≡ h.thread.number → Asks y2 m → Quiet y r h
-      → After y r (record { work = send a m h.work; thread = y2 })
-  asks_after a m h y2 alone c e q g = record {
+  pub asks_after : (a : ℕ) (m : Message) (h : Hand) (y2 : ThreadState) → message_things a m ≡ sent a m ∷ [] → can_step y.phase ≡ true → y2.number ≡ h.thread.number → ((t : ℕ) → holds_result code t y2 ≡ 0) → Asks y2 m → Quiet code gift y r h
+      → After code y r (record { work = send a m h.work; thread = y2 })
+  asks_after a m h y2 alone c e bare q g = record {
     named = e ∙ g.named;
     news = g.news ++ message_things a m;
     says = says_sent r h.work.rest g.news a m g.says;
-    fair = subst (λ l. Fair (stands r.number false y ∷ []) (stands r.number false y2 ∷ (g.news ++ l))) (sym alone)
-        (fair_beside (stands r.number false y ∷ []) (stands r.number false y2 ∷ []) g.news (sent a m ∷ []) g.light (fair_asks r.number a y y2 m (e ∙ g.named) c q));
+    fair = subst (λ l. Fair code (stands r.number false y ∷ []) (stands r.number false y2 ∷ (g.news ++ l))) (sym alone)
+        (fair_beside (stands r.number false y ∷ []) (stands r.number false y2 ∷ []) g.news (sent a m ∷ []) g.light (fair_asks r.number a y y2 m (e ∙ g.named) bare c q));
   }
 
-  -- the request for a copy or for an object
-  pub quiet_asks : can_step y.phase ≡ true → (ss : List Server) → Asked ss (quiet y r) (After y r)
-  quiet_asks c ss = record {
-    for_copy = λ p h k g.
-        let m = message.Fetch p.word p.object h.work.rest.number h.thread.number in
-        asks_after (server_of p.word) m (working (Rattle.server_model.specs.Work.note (Rattle.journal.specs.declared.act.Act.TheVariants.Ask p.object p.word)) h) (record h.thread { phase = phase.WaitCell p.word }) refl c refl
-        (record { waiting = refl; alone = λ t. refl; lives = refl; answer = refl; goes_on = λ t. refl }) g.1;
-    for_object = λ p h k g.
-        let m = message.Move p.word p.object h.work.rest.number h.thread.number in
-        asks_after (server_of p.word) m (working (Rattle.server_model.specs.Work.note (Rattle.journal.specs.declared.act.Act.TheVariants.Pull p.object p.word)) h) (record h.thread { phase = phase.WaitCell p.word }) refl c refl
-        (record { waiting = refl; alone = λ t. refl; lives = refl; answer = refl; goes_on = λ t. refl }) g.1;
-  }
+-- where its gift, if it has one, isn't for a join
+abbrev pub NoJoin : List Instr → ThreadState → Type 0
+NoJoin code y = (t : ℕ) (x : ThreadState) → x.gift ≡ y.gift → x.pc ≡ y.pc → holds_result code t x ≡ 0
+
+-- the request for a copy or for an object
+pub quiet_asks : (code : List Instr) (y : ThreadState) (r : Rest) → can_step y.phase ≡ true → NoJoin code y → (ss : List Server) → Asked ss (quiet code (IsGift y) y r) (After code y r)
+quiet_asks code y r c none ss = record {
+  for_copy = λ p h k g.
+      let m = message.Fetch p.word p.object h.work.rest.number h.thread.number in
+      let told = g.1 in
+      asks_after code (IsGift y) y r (server_of p.word) m (working (Rattle.server_model.specs.Work.note (Rattle.journal.specs.declared.act.Act.TheVariants.Ask p.object p.word)) h) (record h.thread { phase = phase.WaitCell p.word }) refl c refl
+      (λ t. none t (record h.thread { phase = phase.WaitCell p.word }) told.given told.placed) (record { waiting = refl; alone = λ t. refl; lives = refl; answer = refl; goes_on = λ t. refl; no_result = λ t. (refl, refl) }) told;
+  for_object = λ p h k g.
+      let m = message.Move p.word p.object h.work.rest.number h.thread.number in
+      let told = g.1 in
+      asks_after code (IsGift y) y r (server_of p.word) m (working (Rattle.server_model.specs.Work.note (Rattle.journal.specs.declared.act.Act.TheVariants.Pull p.object p.word)) h) (record h.thread { phase = phase.WaitCell p.word }) refl c refl
+      (λ t. none t (record h.thread { phase = phase.WaitCell p.word }) told.given told.placed) (record { waiting = refl; alone = λ t. refl; lives = refl; answer = refl; goes_on = λ t. refl; no_result = λ t. (refl, refl) }) told;
+}

@@ -46,7 +46,8 @@ use Rattle.event_law.proofs.Fair.{Fair, fair_both, fair_beside, fair_same, fair_
 use Rattle.event_law.proofs.FairStarts.{fair_starts, fair_pair, fair_main_ends, fair_ends}
 use Rattle.event_law.proofs.KnownPlaces.{put_keeps, pointer_keeps}
 use Rattle.event_law.proofs.KnownPrepares.{Ok, Fine, prepare_fine}
-use Rattle.event_law.proofs.Quiet.{sent_started, SaysOf, Quiet, quiet, quiet_sends, quiet_asks, After, calm_after, asks_after, says_sent}
+use Rattle.event_law.proofs.Held.{bare_held}
+use Rattle.event_law.proofs.Quiet.{sent_started, SaysOf, Quiet, quiet, IsGift, NoGift, NoJoin, quiet_sends, quiet_asks, After, calm_after, asks_after, says_sent}
 
 -- a note more, and a mutex more for which nobody waits
 noted_more : (r : Rest) (news : List Thing) (x : Task) (r1 : Rest) → SaysOf r news r1 → SaysOf r (news ++ task_things r.number 0 x) (record r1 { tasks = r1.tasks ++ x ∷ [] })
@@ -64,12 +65,34 @@ made_more r news v r1 a =
           omega (arith, a.more f h, tot-push (mutex_things r.number) f r1.mutexes.there 0 x, h.home r.number x, u.held (as_content x.number) v);
     }
 
-module _ (y : ThreadState) (r : Rest) (calm : can_step y.phase ≡ true) (names : r.started + 2 < 2 ^ 32) where
+-- a gift stands at a lock, a dup or a join alone
+abbrev pub GiftFits : Instr → Option Owned → Type 0
+GiftFits (instr.Lock w) g = ⊤
+GiftFits (instr.Dup w) g = ⊤
+GiftFits (instr.Join o) g = ⊤
+GiftFits i g = g ≡ None
+
+-- nor is it for a join elsewhere
+abbrev pub Unjoined : List Instr → ThreadState → Instr → Type 0
+Unjoined code y (instr.Join o) = ⊤
+Unjoined code y i = NoJoin code y
+
+module _ (code : List Instr) (y : ThreadState) (r : Rest) (calm : can_step y.phase ≡ true) (names : r.started + 2 < 2 ^ 32) where
+  -- it has no gift, or that with which it began
   abbrev Q : Hand → Type 0
-  Q = Quiet y r
+  Q = Quiet code NoGift y r
+
+  abbrev P : Hand → Type 0
+  P = Quiet code (IsGift y) y r
+
+  bare : (h : Hand) → y.gift ≡ None → P h → Q h
+  bare h e g = record { still = g.still; named = g.named; given = g.given ∙ e; placed = g.placed; begun = g.begun; news = g.news; says = g.says; light = g.light }
+
+  taken : (h : Hand) → P h → Q (take_gift h)
+  taken h g = record { still = g.still; named = g.named; given = refl; placed = g.placed; begun = g.begun; news = g.news; says = g.says; light = g.light }
 
   abbrev Then : Hand → Type 0
-  Then = After y r
+  Then = After code y r
 
   abbrev ThenBy : Committed → Type 0
   ThenBy (done names h) = Then h
@@ -85,7 +108,7 @@ module _ (y : ThreadState) (r : Rest) (calm : can_step y.phase ≡ true) (names 
   waits_then (Some h) g = g
 
   on : (h : Hand) → Q h → Then (go_on h)
-  on h g = calm_after y r h (record h.thread { pc = h.thread.pc + 1; phase = phase.Ready }) calm refl refl g
+  on h g = calm_after code NoGift y r h (record h.thread { pc = h.thread.pc + 1; phase = phase.Ready }) calm (record { steps = refl; got = λ t. refl }) refl g.given g
 
   goes_then : (o : Option Hand) → Gives Q o → ThenBy (goes_on o)
   goes_then None g = tt
@@ -94,9 +117,9 @@ module _ (y : ThreadState) (r : Rest) (calm : can_step y.phase ≡ true) (names 
   -- VALUES
 
   gives : (v : Owned) (h : Hand) → Q h → Q (working (give_up v) h)
-  gives (owned.Box p) h g = quiet_sends y r (server_of p.word) (message.Drop p.word p.object) (working (note (act.Condemn p.object p.word)) h) (record { answers = λ t. refl; pairs = λ b. refl; going = λ t. refl; homes = omega arith }) g
-  gives (owned.Mutex m) h g = quiet_sends y r m.home (message.Release (released.Mutex m)) (working (note (act.LetGo (released.Mutex m))) h) (record { answers = λ t. refl; pairs = λ b. refl; going = λ t. refl; homes = omega arith }) g
-  gives (owned.Task t) h g = quiet_sends y r (home_of t) (message.Release (released.Task t)) (working (note (act.LetGo (released.Task t))) h) (record { answers = λ t. refl; pairs = λ b. refl; going = λ t. refl; homes = omega arith }) g
+  gives (owned.Box p) h g = quiet_sends code NoGift y r (server_of p.word) (message.Drop p.word p.object) (working (note (act.Condemn p.object p.word)) h) (record { answers = λ t. refl; pairs = λ b. refl; going = λ t. refl; homes = omega arith; ends = λ t. omega arith }) g
+  gives (owned.Mutex m) h g = quiet_sends code NoGift y r m.home (message.Release (released.Mutex m)) (working (note (act.LetGo (released.Mutex m))) h) (record { answers = λ t. refl; pairs = λ b. refl; going = λ t. refl; homes = omega arith; ends = λ t. omega arith }) g
+  gives (owned.Task t) h g = quiet_sends code NoGift y r (home_of t) (message.Release (released.Task t)) (working (note (act.LetGo (released.Task t))) h) (record { answers = λ t. refl; pairs = λ b. refl; going = λ t. refl; homes = omega arith; ends = λ t. omega arith }) g
   gives owned.Nothing h g = g
   gives owned.Unit h g = g
   gives (owned.Int n) h g = g
@@ -130,7 +153,7 @@ module _ (y : ThreadState) (r : Rest) (calm : can_step y.phase ≡ true) (names 
 
   finishes_at : (holder : Spot) (o : Option ℕ) (h : Hand) → Q h → Gives Q (finished_at holder o h)
   finishes_at holder None h g = g
-  finishes_at holder (Some w) h g = pointer_keeps (quiet y r) holder w h g
+  finishes_at holder (Some w) h g = pointer_keeps (quiet code NoGift y r) holder w h g
 
   finishes : (holder : Spot) (o : Option ℕ) (b : Bool) (h : Hand) → Q h → Gives Q (if b then None else finished_at holder o h)
   finishes holder o true h g = tt
@@ -150,10 +173,10 @@ module _ (y : ThreadState) (r : Rest) (calm : can_step y.phase ≡ true) (names 
   replaces_slot : (i : ℕ) (holder : Spot) (v : Value) (h : Hand) → Q h → Gives Q (replace_slot i holder v h)
   replaces_slot i holder v h g =
       then_gives Q (slice_get h.thread.slots i) _ (λ old q.
-      bind_gives Q Q (put_slot i v (label_dropped old h)) (drop_value holder old) (put_keeps (quiet y r) (in_slot i) v (label_dropped old h) g) (λ h2 u. drops holder old h2 u))
+      bind_gives Q Q (put_slot i v (label_dropped old h)) (drop_value holder old) (put_keeps (quiet code NoGift y r) (in_slot i) v (label_dropped old h) g) (λ h2 u. drops holder old h2 u))
 
   stores : (s : Spot) (v : Owned) (h : Hand) → Q h → Gives Q (store_at s v h)
-  stores s v h g = put_keeps (quiet y r) s (value.Own v) (working (label_all (store_labels (cell_at h s) v)) h) g
+  stores s v h g = put_keeps (quiet code NoGift y r) s (value.Own v) (working (label_all (store_labels (cell_at h s) v)) h) g
 
   replaces_at : (s : Spot) (v : Owned) (h : Hand) → Q h → Gives Q (replace_at s v h)
   replaces_at s v h g = then_gives Q (value_at h s) _ (λ old q. bind_gives Q Q (store_at s v (label_dropped old h)) (drop_value nowhere old) (stores s v (label_dropped old h) g) (λ h2 u. drops nowhere old h2 u))
@@ -163,7 +186,7 @@ module _ (y : ThreadState) (r : Rest) (calm : can_step y.phase ≡ true) (names 
   assigns w (suc d) o s h g = bind_gives (PoppedQ Owned) Q (pop_owned o h) _ (pops_owned o h g) (λ p u. replaces_at s p.item p.hand u)
 
   takes_out : (s : Spot) (h : Hand) → Q h → Gives Q (take_out s h)
-  takes_out (in_slot i) h g = put_keeps (quiet y r) (in_slot i) value.Gone h g
+  takes_out (in_slot i) h g = put_keeps (quiet code NoGift y r) (in_slot i) value.Gone h g
   takes_out on_top h g = g
   takes_out (in_cell w through) h g = stores (in_cell w through) owned.Nothing h g
   takes_out (in_copy w) h g = tt
@@ -207,40 +230,42 @@ module _ (y : ThreadState) (r : Rest) (calm : can_step y.phase ≡ true) (names 
       (bind_gives (PoppedQ Owned) Q (pop_owned o h) _ (pops_owned o h g) (λ p u. test_gives Q (can_make p.hand.work.rest.mutexes) _ (λ z. record {
         still = u.still;
         named = u.named;
+        given = u.given;
+        placed = u.placed;
         begun = u.begun;
         news = u.news;
         says = made_more r u.news p.item p.hand.work.rest u.says;
         light = u.light;
       }))) on)
 
-  dups : (s : Spot) (gift : Option Owned) (h : Hand) → Q h → ThenBy (dup s gift h)
-  dups s None h g =
+  dups : (s : Spot) (gift : Option Owned) (h : Hand) → h.thread.gift ≡ gift → P h → ThenBy (dup s gift h)
+  dups s None h e g =
       waits_then _ (map_gives Then (mutex_at h s) (ask_dup h) (λ m q.
-      asks_after y r m.home (message.Dup m h.work.rest.number h.thread.number) (working (note (act.AskDup m)) h) (record h.thread { phase = phase.WaitDup m }) refl calm refl
-      (record { waiting = refl; alone = λ t. refl; lives = refl; answer = refl; goes_on = λ t. refl }) g))
-  dups s (Some v) h g = goes_then _ (map_gives Q (mutex_at h s) _ (λ m q. g))
+      asks_after code (IsGift y) y r m.home (message.Dup m h.work.rest.number h.thread.number) (working (note (act.AskDup m)) h) (record h.thread { phase = phase.WaitDup m }) refl calm refl (λ t. bare_held code t (record h.thread { phase = phase.WaitDup m }) e)
+      (record { waiting = refl; alone = λ t. refl; lives = refl; answer = refl; goes_on = λ t. refl; no_result = λ t. (refl, refl) }) g))
+  dups s (Some v) h e g = goes_then _ (map_gives Q (mutex_at h s) _ (λ m q. taken h g))
 
-  locks : (s : Spot) (gift : Option Owned) (h : Hand) → Q h → ThenBy (lock s gift h)
-  locks s None h g =
+  locks : (s : Spot) (gift : Option Owned) (h : Hand) → h.thread.gift ≡ gift → P h → ThenBy (lock s gift h)
+  locks s None h e g =
       waits_then _ (map_gives Then (mutex_at h s) (ask_lock h) (λ m q.
-      asks_after y r m.home (message.Lock m h.work.rest.number h.thread.number) (working (note (act.AskLock m)) h) (record h.thread { phase = phase.WaitLock m }) refl calm refl
-      (record { waiting = refl; alone = λ t. refl; lives = refl; answer = refl; goes_on = λ t. refl }) g))
-  locks s (Some v) h g = goes_then _ (map_gives Q (mutex_at h s) _ (λ m q. g))
+      asks_after code (IsGift y) y r m.home (message.Lock m h.work.rest.number h.thread.number) (working (note (act.AskLock m)) h) (record h.thread { phase = phase.WaitLock m }) refl calm refl (λ t. bare_held code t (record h.thread { phase = phase.WaitLock m }) e)
+      (record { waiting = refl; alone = λ t. refl; lives = refl; answer = refl; goes_on = λ t. refl; no_result = λ t. (refl, refl) }) g))
+  locks s (Some v) h e g = goes_then _ (map_gives Q (mutex_at h s) _ (λ m q. taken h g))
 
   unlocks : (h : Hand) → Q h → Gives Q (unlock h)
   unlocks h g =
       bind_gives (PoppedQ Owned) Q (then_some (pop_slot h) (taken_as owned_of)) _ (takes_as owned_of (pop_slot h) (pops_slot h g)) (λ v u.
       over_gives (PoppedQ MutexNo) Q (then_some (pop_slot v.hand) (taken_as held_of)) _ (takes_as held_of (pop_slot v.hand) (pops_slot v.hand u)) (λ m w.
-      quiet_sends y r m.item.home (message.Unlock m.item v.item) (working (λ x. label_all (label.Unlock m.item ∷ []) (note (act.GiveBack m.item) x)) m.hand) (record { answers = λ t. refl; pairs = λ b. refl; going = λ t. refl; homes = omega arith }) w))
+      quiet_sends code NoGift y r m.item.home (message.Unlock m.item v.item) (working (λ x. label_all (label.Unlock m.item ∷ []) (note (act.GiveBack m.item) x)) m.hand) (record { answers = λ t. refl; pairs = λ b. refl; going = λ t. refl; homes = omega arith; ends = λ t. omega arith }) w))
 
   -- THREADS
 
-  joins : (o : Operand) (gift : Option Owned) (h : Hand) → Q h → ThenBy (join o gift h)
-  joins o None h g =
+  joins : (o : Operand) (gift : Option Owned) (h : Hand) → h.thread.gift ≡ gift → P h → ThenBy (join o gift h)
+  joins o None h e g =
       waits_then _ (map_gives Then (then_some (pop o h) (λ p. task_of p.item)) (ask_join h) (λ u q.
-      asks_after y r (home_of u) (message.Join u h.work.rest.number h.thread.number) (working (note (act.AskJoin u)) h) (record h.thread { phase = phase.WaitJoin u }) refl calm refl
-      (record { waiting = refl; alone = λ t. refl; lives = refl; answer = refl; goes_on = λ t. refl }) g))
-  joins o (Some result) h g = goes_then _ (over_gives (PoppedQ ℕ) Q (then_some (pop o (take_gift h)) (taken_as task_of)) _ (takes_as task_of (pop o (take_gift h)) (pops o (take_gift h) g)) (λ p u. u))
+      asks_after code (IsGift y) y r (home_of u) (message.Join u h.work.rest.number h.thread.number) (working (note (act.AskJoin u)) h) (record h.thread { phase = phase.WaitJoin u }) refl calm refl (λ t. bare_held code t (record h.thread { phase = phase.WaitJoin u }) e)
+      (record { waiting = refl; alone = λ t. refl; lives = refl; answer = refl; goes_on = λ t. refl; no_result = λ t. (refl, refl) }) g))
+  joins o (Some result) h e g = goes_then _ (over_gives (PoppedQ ℕ) Q (then_some (pop o (take_gift h)) (taken_as task_of)) _ (takes_as task_of (pop o (take_gift h)) (pops o (take_gift h) (taken h g))) (λ p u. u))
 
   par_ends : (p : Phase) (h : Hand) → Q h → Gives Q (par_end p h)
   par_ends (phase.GotPar a b) h g = g
@@ -273,12 +298,12 @@ module _ (y : ThreadState) (r : Rest) (calm : can_step y.phase ≡ true) (names 
           let y2 : ThreadState = record h.thread { pc = h.thread.pc + 1; slots = new.1; temps = h.thread.temps ++ value.Own (owned.Task u) ∷ []; phase = phase.Ready } in
           let says = g.says in
           let home = home_here h.work.rest.number h.work.rest.started u says.same g.begun refl in
-          let light = subst (Fair []) (sym (append_assoc g.news n m)) (fair_both [] g.news [] (n ++ m) g.light (fair_starts r.number s x refl (new_name h.work.rest.number h.work.rest.started) home)) in
+          let light = subst (Fair code []) (sym (append_assoc g.news n m)) (fair_both [] g.news [] (n ++ m) g.light (fair_starts r.number s x refl refl (new_name h.work.rest.number h.work.rest.started) home)) in
           subst (λ z. Then (go_on (push_temp (value.Own (owned.Task u)) (working (start_thread servers pc new.0) (with_slots new.1 z))))) (sym same) (record {
             named = g.named;
             news = (g.news ++ n) ++ m;
             says = says_sent r (record h.work.rest { tasks = h.work.rest.tasks ++ record { thread = u; state = going } ∷ []; started = h.work.rest.started + 1 }) (g.news ++ n) s (message.Start x) (noted_more r g.news (record { thread = u; state = going }) h.work.rest g.says);
-            fair = fair_both (stands r.number false y ∷ []) (stands r.number false y2 ∷ []) [] ((g.news ++ n) ++ m) (fair_calm r.number y y2 g.named calm refl) light;
+            fair = fair_both (stands r.number false y ∷ []) (stands r.number false y2 ∷ []) [] ((g.news ++ n) ++ m) (fair_calm r.number y y2 g.named g.given calm (record { steps = refl; got = λ t. refl })) light;
           })
 
   pars : (servers : ℕ) (cs : WithRoom (ℕ × Bool)) (pc : ℕ) (ds : WithRoom (ℕ × Bool)) (other : ℕ) (h : Hand) → Q h → ThenBy (par servers cs pc ds other h)
@@ -315,8 +340,8 @@ module _ (y : ThreadState) (r : Rest) (calm : can_step y.phase ≡ true) (names 
           let says = g.says in
           let home = home_here rest.number rest.started a says.same g.begun refl in
           let home2 : home_of (next_thread r1) ≡ r.number = omega (arith, next, says.same, g.begun, names) in
-          let fair = fair_pair r.number s s2 y y2 u v g.named calm (ap (λ i. phase.WaitPar a i) (sym next)) refl refl (new_name rest.number rest.started) (λ e. absurd (omega (arith, e, next))) home home2 in
-          let fair2 : Fair (stands r.number false y ∷ []) (stands r.number false y2 ∷ (n1 ++ n2 ++ m1 ++ m2)) = subst (λ i. Fair (stands r.number false y ∷ []) (stands r.number false y2 ∷ (n1 ++ task_things r.number 0 (record { thread = i; state = state }) ++ m1 ++ m2))) next fair in
+          let fair = fair_pair r.number s s2 y y2 u v g.named g.given refl refl calm (ap (λ i. phase.WaitPar a i) (sym next)) refl refl (new_name rest.number rest.started) (λ e. absurd (omega (arith, e, next))) home home2 in
+          let fair2 : Fair code (stands r.number false y ∷ []) (stands r.number false y2 ∷ (n1 ++ n2 ++ m1 ++ m2)) = subst (λ i. Fair code (stands r.number false y ∷ []) (stands r.number false y2 ∷ (n1 ++ task_things r.number 0 (record { thread = i; state = state }) ++ m1 ++ m2))) next fair in
           subst (λ z. Then (with_phase (phase.WaitPar a (a + 1)) (go_on (working (λ w. start_thread servers other second.0 (start_thread servers pc first w)) (with_slots second.1 z))))) (sym same) (record {
             named = g.named;
             news = (((g.news ++ n1) ++ n2) ++ m1) ++ m2;
@@ -344,7 +369,7 @@ module _ (y : ThreadState) (r : Rest) (calm : can_step y.phase ≡ true) (names 
         named = u.named;
         news = u.news;
         says = u.says;
-        fair = fair_both (stands r.number false y ∷ []) (stands r.number false y2 ∷ []) [] u.news (fair_main_ends r.number y y2 u.named calm refl (ap (λ i. i == 0) (sym u.named) ∙ q)) u.light;
+        fair = fair_both (stands r.number false y ∷ []) (stands r.number false y2 ∷ []) [] u.news (fair_main_ends r.number y y2 u.named u.given calm refl (ap (λ i. i == 0) (sym u.named) ∙ q)) u.light;
       }
   ends_with false v h q g =
       let y2 = record h.thread { phase = phase.Over } in
@@ -352,7 +377,7 @@ module _ (y : ThreadState) (r : Rest) (calm : can_step y.phase ≡ true) (names 
         named = g.named;
         news = g.news ++ message_things h.thread.home m;
         says = says_sent r h.work.rest g.news h.thread.home m g.says;
-        fair = fair_beside (stands r.number false y ∷ []) (stands r.number false y2 ∷ []) g.news (message_things h.thread.home m) g.light (fair_ends r.number h.thread.home y y2 v g.named calm refl (ap (λ i. i == 0) (sym g.named) ∙ q));
+        fair = fair_beside (stands r.number false y ∷ []) (stands r.number false y2 ∷ []) g.news (message_things h.thread.home m) g.light (fair_ends r.number h.thread.home y y2 v g.named g.given calm refl (ap (λ i. i == 0) (sym g.named) ∙ q));
       }
 
   ends : (o : Operand) (h : Hand) → Q h → ThenBy (end_thread o h)
@@ -374,26 +399,26 @@ module _ (y : ThreadState) (r : Rest) (calm : can_step y.phase ≡ true) (names 
 
   -- ALL INSTRUCTIONS
 
-  commits : (servers : ℕ) (i : Instr) (s : Spot) (h : Hand) → Q h → ThenBy (commit servers i s h)
-  commits n (instr.Let o) s h g = goes_then _ (over_gives (PoppedQ Value) Q (pop o h) _ (pops o h g) (λ p u. u))
-  commits n (instr.Assign w o) s h g = goes_then _ (assigns w w.depth o s h g)
-  commits n (instr.Read w take) s h g = goes_then _ (then_gives Q (value_at h s) _ (λ v q. reads_as take s v (load_at s h) g))
-  commits n (instr.Borrow w) s h g = goes_then _ (borrows w w.depth s h g)
-  commits n (instr.BorrowMut w) s h g = goes_then _ (lends w w.depth s h g)
-  commits n (instr.Box o) s h g = goes_then _ (boxes_up o h g)
-  commits n (instr.Arith f a b) s h g = goes_then _ (calculates f a b h g)
-  commits n (instr.Print o) s h g = goes_then _ (prints o h g)
-  commits n instr.Discard s h g = goes_then _ (discards s h g)
-  commits n instr.DropSlot s h g = goes_then _ (drops_slot s h g)
-  commits n (instr.Spawn cs pc) s h g = spawns n cs pc h g
-  commits n (instr.Join o) s h g = joins o h.thread.gift h g
-  commits n (instr.Mutex o) s h g = makes_mutex o h g
-  commits n (instr.Dup w) s h g = dups s h.thread.gift h g
-  commits n (instr.Lock w) s h g = locks s h.thread.gift h g
-  commits n instr.Unlock s h g = goes_then _ (unlocks h g)
-  commits n (instr.Par cs pc ds other) s h g = pars n cs pc ds other h g
-  commits n instr.ParEnd s h g = goes_then _ (par_ends h.thread.phase h g)
-  commits n (instr.End o) s h g = ends o h g
+  commits : (servers : ℕ) (i : Instr) (s : Spot) (h : Hand) → GiftFits i y.gift → P h → ThenBy (commit servers i s h)
+  commits n (instr.Let o) s h f g = goes_then _ (over_gives (PoppedQ Value) Q (pop o h) _ (pops o h (bare h f g)) (λ p u. u))
+  commits n (instr.Assign w o) s h f g = goes_then _ (assigns w w.depth o s h (bare h f g))
+  commits n (instr.Read w take) s h f g = goes_then _ (then_gives Q (value_at h s) _ (λ v q. reads_as take s v (load_at s h) (bare h f g)))
+  commits n (instr.Borrow w) s h f g = goes_then _ (borrows w w.depth s h (bare h f g))
+  commits n (instr.BorrowMut w) s h f g = goes_then _ (lends w w.depth s h (bare h f g))
+  commits n (instr.Box o) s h f g = goes_then _ (boxes_up o h (bare h f g))
+  commits n (instr.Arith op a b) s h f g = goes_then _ (calculates op a b h (bare h f g))
+  commits n (instr.Print o) s h f g = goes_then _ (prints o h (bare h f g))
+  commits n instr.Discard s h f g = goes_then _ (discards s h (bare h f g))
+  commits n instr.DropSlot s h f g = goes_then _ (drops_slot s h (bare h f g))
+  commits n (instr.Spawn cs pc) s h f g = spawns n cs pc h (bare h f g)
+  commits n (instr.Join o) s h f g = joins o h.thread.gift h refl g
+  commits n (instr.Mutex o) s h f g = makes_mutex o h (bare h f g)
+  commits n (instr.Dup w) s h f g = dups s h.thread.gift h refl g
+  commits n (instr.Lock w) s h f g = locks s h.thread.gift h refl g
+  commits n instr.Unlock s h f g = goes_then _ (unlocks h (bare h f g))
+  commits n (instr.Par cs pc ds other) s h f g = pars n cs pc ds other h (bare h f g)
+  commits n instr.ParEnd s h f g = goes_then _ (par_ends h.thread.phase h (bare h f g))
+  commits n (instr.End o) s h f g = ends o h (bare h f g)
 
   -- A WHOLE STEP
 
@@ -405,7 +430,7 @@ module _ (y : ThreadState) (r : Rest) (calm : can_step y.phase ≡ true) (names 
     named = g.named;
     news = g.news;
     says = g.says;
-    fair = fair_thread (stands r.number false y ∷ []) r.number h.thread (record h.thread { passed = 0; walk = []; moved_since_step = false }) g.news refl refl g.fair;
+    fair = fair_thread (stands r.number false y ∷ []) r.number h.thread (record h.thread { passed = 0; walk = []; moved_since_step = false }) g.news (record { number = refl; phase = refl; gift = refl; pc = refl; temps = refl }) g.fair;
   })
 
   commit_then : (c : Committed) → ThenBy c → Gives ThenStep (committed c)
@@ -414,10 +439,25 @@ module _ (y : ThreadState) (r : Rest) (calm : can_step y.phase ≡ true) (names 
   commit_then refused g = tt
 
   module _ (ss : List Server) where
-    prepared_then : (servers : ℕ) (i : Instr) (p : Prepared) → Fine ss (quiet y r) (quiet_asks y r calm ss) p → Gives ThenStep (prepared servers i p)
-    prepared_then servers i (ready h s) g = commit_then (commit servers i s h) (commits servers i s h g.1)
-    prepared_then servers i (requested h) g = record { named = g.named; news = g.news; says = g.says; fair = g.fair }
-    prepared_then servers i nothing g = tt
+    -- the place is ready, or the request leaves what is wanted
+    abbrev FineStep : Prepared → Type 0
+    FineStep (ready h s) = P h
+    FineStep (requested h) = Then h
+    FineStep nothing = ⊤
 
-    pub step_then : (servers : ℕ) (i : Instr) (h : Hand) → Ok ss (quiet y r) h → Gives ThenStep (step servers i h)
-    step_then servers i h g = prepared_then servers i (prepare (access_of i h.thread) h) (prepare_fine ss (quiet y r) (quiet_asks y r calm ss) (access_of i h.thread) h g)
+    as_fine : (none : NoJoin code y) (p : Prepared) → Fine ss (quiet code (IsGift y) y r) (quiet_asks code y r calm none ss) p → FineStep p
+    as_fine none (ready h s) g = g.1
+    as_fine none (requested h) g = g
+    as_fine none nothing g = tt
+
+    prepared_then : (servers : ℕ) (i : Instr) (p : Prepared) → GiftFits i y.gift → FineStep p → Gives ThenStep (prepared servers i p)
+    prepared_then servers i (ready h s) f g = commit_then (commit servers i s h) (commits servers i s h f g)
+    prepared_then servers i (requested h) f g = record { named = g.named; news = g.news; says = g.says; fair = g.fair }
+    prepared_then servers i nothing f g = tt
+
+    fine_step : (i : Instr) (h : Hand) → Unjoined code y i → Ok ss (quiet code (IsGift y) y r) h → FineStep (prepare (access_of i h.thread) h)
+    fine_step (instr.Join o) h none g = g.1
+    fine_step i h none g = as_fine none (prepare (access_of i h.thread) h) (prepare_fine ss (quiet code (IsGift y) y r) (quiet_asks code y r calm none ss) (access_of i h.thread) h g)
+
+    pub step_then : (servers : ℕ) (i : Instr) (h : Hand) → GiftFits i y.gift → Unjoined code y i → Ok ss (quiet code (IsGift y) y r) h → Gives ThenStep (step servers i h)
+    step_then servers i h f none g = prepared_then servers i (prepare (access_of i h.thread) h) f (fine_step i h none g)

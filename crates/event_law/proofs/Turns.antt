@@ -1,6 +1,7 @@
 -- What an event changes of what is heard of its server, and the sums on asking in its cluster.
-use Rattle.std.proofs.Common.{◌≡◌, ℕ, ◌+◌, ◌^◌, ◌<◌, true, false, List, [], ◌∷◌, Option, Some, subst, ◌∙◌, arith}
+use Rattle.std.proofs.Common.{◌≡◌, ℕ, ◌+◌, ◌^◌, ◌<◌, true, false, List, [], ◌∷◌, Option, Some, refl, subst, ◌∙◌, arith}
 use Rattle.std.specs.Prelude.{slice_get, option_map}
+use Rattle.fr_base.specs.declared.instruction.Instr.{Instr}
 use Rattle.thread_state.specs.View.{ThreadState}
 use Rattle.journal.specs.View.{EntryView}
 use Rattle.server_model.specs.Servers.{Server, Cluster, server_at}
@@ -8,6 +9,7 @@ use Rattle.server_model.specs.Work.{Hand, set_thread, thread_in}
 use Rattle.server_model.specs.Events.{can_step, begin_work, step, step_in, Stepped, stepped}
 use Rattle.heap_law.specs.Names.{tot}
 use Rattle.heap_law.specs.Things.{Thing, stands, server_things, servers_things, things_of}
+use Rattle.heap_law.specs.Sight.{sight}
 use Rattle.heap_law.specs.Coherent.{IsSound}
 use Rattle.event_law.specs.Laws.{Gives}
 use Rattle.event_law.proofs.Results.{then_gives, over_gives}
@@ -16,34 +18,36 @@ use Rattle.event_law.proofs.Unseen.{thread_alone}
 use Rattle.event_law.proofs.Events.{tot-server}
 use Rattle.event_law.proofs.Fair.{Fair, Hears, Asking, asking_kept}
 use Rattle.event_law.proofs.Known.{Known}
-use Rattle.event_law.proofs.Quiet.{said, server_said, quiet_start, After}
-use Rattle.event_law.proofs.QuietSteps.{step_then}
+use Rattle.event_law.proofs.Held.{all_results}
+use Rattle.event_law.proofs.Quiet.{said, server_said, IsGift, quiet_start, After}
+use Rattle.event_law.proofs.QuietSteps.{GiftFits, Unjoined, step_then}
 
 -- an event turns a server into another one: what is heard of it changes by what goes and what comes, and these weigh the same
-pub record Turns (s s2 : Server) : Type 0 where
+pub record Turns (code : List Instr) (s s2 : Server) : Type 0 where
   pub olds : List Thing
   pub news : List Thing
   pub change : (f : Thing → ℕ) → Hears f → tot f (server_things s2) + tot f olds ≡ tot f (server_things s) + tot f news
-  pub fair : Fair olds news
+  pub fair : Fair code olds news
 
 -- the sums in its cluster
-pub turned : (ss : List Server) (n : ℕ) (s s2 : Server) → server_at ss n ≡ Some s → Turns s s2 → Asking (servers_things ss) → Asking (servers_things (Rattle.server_model.specs.Clusters.with_server ss n s2))
-turned ss n s s2 h t k =
-    asking_kept (servers_things ss) _ t.olds t.news (λ f l. let a = tot-server f ss n s s2 h in omega (arith, a.0, a.1, t.change f l)) t.fair k
+pub turned : (code : List Instr) (ss : List Server) (n : ℕ) (s s2 : Server) → server_at ss n ≡ Some s → Turns code s s2 → Asking code (servers_things ss) → Asking code (servers_things (Rattle.server_model.specs.Clusters.with_server ss n s2))
+turned code ss n s s2 h t k =
+    asking_kept code (servers_things ss) _ t.olds t.news (λ f l. let a = tot-server f ss n s s2 h in omega (arith, a.0, a.1, t.change f l)) t.fair k
 
 -- a sound cluster has the sums
-pub sound_asking : (k : Cluster) → IsSound k → Asking (things_of k)
+pub sound_asking : (k : Cluster) → IsSound k → Asking k.code (things_of k)
 sound_asking k sound = record {
   one_answer = sound.requests.one_answer;
   pairs_noted = sound.requests.pairs_noted;
   noted_go_on = sound.mutexes_and_tasks.noted_go_on;
   noted_at_home = sound.mutexes_and_tasks.noted_at_home;
+  one_result = λ t. omega (arith, sound.mutexes_and_tasks.one_result t, all_results (sight k) t (things_of k));
 }
 
 -- A STEP
 
-module _ (s : Server) (t : ℕ) (y : ThreadState) (here : thread_in s.threads t ≡ Some y) where
-  stepped_turns : (names : Option Rattle.fr_base.specs.declared.step.Fresh.Fresh) (h : Hand) → After y s.rest h → Turns s (stepped s (record { hand = h; names = names })).0
+module _ (code : List Instr) (s : Server) (t : ℕ) (y : ThreadState) (here : thread_in s.threads t ≡ Some y) where
+  stepped_turns : (names : Option Rattle.fr_base.specs.declared.step.Fresh.Fresh) (h : Hand) → After code y s.rest h → Turns code s (stepped s (record { hand = h; names = names })).0
   stepped_turns names h g =
       let n = s.rest.number in
       let says = g.says in
@@ -66,9 +70,11 @@ module _ (s : Server) (t : ℕ) (y : ThreadState) (here : thread_in s.threads t 
         fair = g.fair;
       }
 
-  pub step_turns : (ss : List Server) (code : List Rattle.fr_base.specs.declared.instruction.Instr.Instr) (servers : ℕ) → can_step y.phase ≡ true → s.rest.started + 2 < 2 ^ 32 → Known ss y.home y.slots y.temps s.rest.partition s.rest.cache
-      → Gives (λ (r : Server × EntryView). Turns s r.0) (option_map (stepped s) (step_in code servers (record { work = begin_work s.rest; thread = y })))
-  step_turns ss code servers calm names known =
+  pub step_turns : (ss : List Server) (servers : ℕ) → can_step y.phase ≡ true → s.rest.started + 2 < 2 ^ 32 → ((i : Instr) → slice_get code y.pc ≡ Some i → GiftFits i y.gift × Unjoined code y i)
+      → Known ss y.home y.slots y.temps s.rest.partition s.rest.cache → Gives (λ (r : Server × EntryView). Turns code s r.0) (option_map (stepped s) (step_in code servers (record { work = begin_work s.rest; thread = y })))
+  step_turns ss servers calm names fits known =
       let h : Hand = record { work = begin_work s.rest; thread = y } in
-      over_gives (λ (d : Stepped). After y s.rest d.hand) (λ (r : Server × EntryView). Turns s r.0) (step_in code servers h) (stepped s)
-      (then_gives (λ (d : Stepped). After y s.rest d.hand) (slice_get code y.pc) (λ i. step servers i h) (λ i q. step_then y s.rest calm names ss servers i h (known, quiet_start y (begin_work s.rest)))) (λ d u. stepped_turns d.names d.hand u)
+      let same : y.gift ≡ y.gift = refl in
+      over_gives (λ (d : Stepped). After code y s.rest d.hand) (λ (r : Server × EntryView). Turns code s r.0) (step_in code servers h) (stepped s)
+      (then_gives (λ (d : Stepped). After code y s.rest d.hand) (slice_get code y.pc) (λ i. step servers i h)
+      (λ i q. let f = fits i q in step_then code y s.rest calm names ss servers i h f.0 f.1 (known, quiet_start code (IsGift y) y (begin_work s.rest) same))) (λ d u. stepped_turns d.names d.hand u)

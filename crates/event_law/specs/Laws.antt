@@ -20,7 +20,7 @@ use Rattle.heap_law.specs.Things.{Thing, servers_things, things_of}
 use Rattle.heap_law.specs.Sight.{sight, issued}
 use Rattle.heap_law.specs.Naming.{events_of, started_at, made_at}
 use Rattle.heap_law.specs.Requests.{stands_at, halves_to, halves_needed, pair_notes, pair_places}
-use Rattle.heap_law.specs.Sharing.{going_notes, goes_on}
+use Rattle.heap_law.specs.Sharing.{going_notes, goes_on, results, has_ended}
 use Rattle.heap_law.specs.Balances.{Agree, AtMost, AtMostOne}
 use Rattle.heap_law.specs.Weights.{states, below, shares_of, shares_at_home, tasks_of, is_thread}
 use Rattle.heap_law.specs.Coherent.{IsSound, Holds, objects_made, names_counted, branches_give_unit, parts_are_typed, noted_at_home}
@@ -96,6 +96,10 @@ NotedGoOn k = Agree going_notes goes_on (things_of k)
 -- what is noted of a thread stands at its home alone
 abbrev pub NotedAtHome : Cluster → Type 0
 NotedAtHome k = Holds k noted_at_home
+
+-- each result stands in at most one place, and only of a thread that is over and isn't main
+abbrev pub OneResult : Cluster → Type 0
+OneResult k = AtMost (results (sight k)) has_ended (things_of k)
 
 -- a sound cluster has the sums, so each law's premise holds in every coherent one
 abbrev pub SoundHasSums : Type 0

@@ -1,6 +1,6 @@
 //! What an event of a sound cluster keeps, of whatever kind it is.
 
-ghost use Rattle.event_law.specs.Laws.{EachEventHandedOver, EachEventLeaves, EachEventSends, NotedAtHome, NotedGoOn, NumbersDiffer, OneAnswer, OneState, OneTaskValue, PairsNoted, ServersDiffer, SharesCounted};
+ghost use Rattle.event_law.specs.Laws.{EachEventHandedOver, EachEventLeaves, EachEventSends, NotedAtHome, NotedGoOn, NumbersDiffer, OneAnswer, OneResult, OneState, OneTaskValue, PairsNoted, ServersDiffer, SharesCounted};
 ghost use Rattle.heap_law.specs.Coherent.{OneHome, OneOwner, Users};
 
 /// Whatever is delivered, stepped, evicted or migrated.
@@ -17,6 +17,7 @@ pub fn each_event_keeps()
     ensures pairs { EachEventLeaves PairsNoted }
     ensures going { EachEventLeaves NotedGoOn }
     ensures homes { EachEventLeaves NotedAtHome }
+    ensures results { EachEventLeaves OneResult }
 {}
 
 /// The messages of each event go to servers of the run.
@@ -38,4 +39,5 @@ pub fn each_event_handed_over()
     ensures pairs { EachEventHandedOver PairsNoted }
     ensures going { EachEventHandedOver NotedGoOn }
     ensures homes { EachEventHandedOver NotedAtHome }
+    ensures results { EachEventHandedOver OneResult }
 {}

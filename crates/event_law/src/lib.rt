@@ -1,4 +1,4 @@
-//! Every event keeps eleven parts of coherent memory that are sums over all things.
+//! Every event keeps twelve parts of coherent memory that are sums over all things.
 #![tactic(auto)]
 
 pub mod deliveries;
