@@ -1,3 +1,4 @@
 pub mod Threads
 pub mod Outboxes
+pub mod Works
 pub mod Servers

@@ -3,6 +3,7 @@
 
 mod server;
 mod threads;
+mod work;
 
 pub use server::Server;
 pub use threads::Threads;

@@ -12,13 +12,9 @@ ghost use Rattle.drive_model.specs.Balance.{active, movable};
 ghost use Rattle.drive_model.specs.Ending.{waits_among};
 
 use crate::threads::{Threads, can_step};
+use crate::work::Work;
 use fr_base::{Code, NoMemory, Options, ThreadNo, Wait};
 use global_addr::Word;
-use join_home::Tasks;
-use mutex_home::Mutexes;
-use owner_box::Partition;
-use rank_map::Queue;
-use read_cache::Cache;
 use server_model::What;
 use server_msgs::Message;
 use std::alloc::Global;
@@ -30,47 +26,35 @@ use thread_state::{Phase, Thread};
 /// `inbox_room` how many more messages can wait without memory.
 #[derive(Drop)]
 pub struct Server {
-    number: u8,
     code: Arc<Code>,
     options: Options,
-    partition: Partition,
-    cache: Cache,
-    mutexes: Mutexes,
-    tasks: Tasks,
+    // without acts and labels between two events
+    work: Work,
     threads: Threads,
-    inbox: Queue<Message>,
-    outbox: Queue<(u8, Message)>,
-    // how many threads it has started, and how many events it has done
-    started: u32,
+    // how many events it has done
     events: u64,
 }
 
 impl Model for Server {
     ghost use Rattle.std.specs.Arc.{arc_value};
-    ghost use Rattle.server_core.specs.Servers.{ServerView, sendings};
+    ghost use Rattle.std.specs.Prelude.{◌≡◌, []};
+    ghost use Rattle.server_core.specs.Servers.{ServerView};
     ghost use Rattle.server_core.specs.Threads.{states};
 
     ghost Value = { ServerView };
 
     ghost view = { λ s. record {
       state = record {
-        rest = record {
-          number = s.number;
-          partition = s.partition.state;
-          cache = s.cache.state;
-          mutexes = s.mutexes.state;
-          tasks = s.tasks.state;
-          inbox = s.inbox.items;
-          outbox = sendings s.outbox.items;
-          started = s.started;
-        };
+        rest = s.work.state.rest;
         threads = states s.threads;
         events = s.events;
       };
       code = (arc_value s.code).items;
       options = s.options;
-      inbox_room = s.inbox.room;
+      inbox_room = s.work.inbox_room;
     } };
+
+    ghost invariant = { λ s. (s.work.state.acts ≡ []) × (s.work.state.labels ≡ []) };
 }
 
 // The threads of a server at the start: the main thread at server 0.
@@ -111,17 +95,10 @@ impl Server {
         ensures options { IfOk result (λ s. s.options ≡ options.now) }
     {
         Ok(Server {
-            number: server,
             code: code.clone()?,
             options: *options,
-            partition: Partition::new(alloc, server, options.colours),
-            cache: Cache::new(alloc),
-            mutexes: Mutexes::new(alloc, server),
-            tasks: Tasks::new(alloc),
+            work: Work::new(alloc, server, options),
             threads: first_threads(alloc, server)?,
-            inbox: Queue::new(alloc),
-            outbox: Queue::new(alloc),
-            started: 0,
             events: 0,
         })
     }
@@ -137,12 +114,13 @@ impl Server {
                 Some(thread) => can_step(thread),
                 None => false,
             },
-            What::Deliver(at) => *at < self.inbox.len(),
-            What::Evict(word) => self.cache.hit(*word).is_some() && self.cache.users(*word) == 0,
+            What::Deliver(at) => *at < self.work.inbox.len(),
+            What::Evict(word) => self.work.cache.hit(*word).is_some()
+                && self.work.cache.users(*word) == 0,
             What::Migrate(thread, target) => match self.threads.get(*thread) {
                 Some(thread) => is_ready(thread)
                     && *target < self.options.servers
-                    && *target != self.number,
+                    && *target != self.work.number,
                 None => false,
             },
         }
@@ -155,10 +133,10 @@ impl Server {
         ensures kept { (self.new.code ≡ self.old.code) × (self.new.options ≡ self.old.options) }
         ensures room { self.new.inbox_room ≡ self.old.inbox_room }
     {
-        if self.outbox.len() == 0 {
+        if self.work.outbox.len() == 0 {
             return None;
         }
-        Some(self.outbox.take(0))
+        Some(self.work.outbox.take(0))
     }
 
     /// Puts a message last in the list of waiting ones; where memory is wanting, it comes back and nothing changes.
@@ -170,11 +148,7 @@ impl Server {
         ensures back { IfErr result (λ e. e.0 ≡ message) }
         ensures refused { OnErr result (self.new.state ≡ self.old.state) }
     {
-        if self.inbox.reserve(1).is_err() {
-            return Err((message, NoMemory));
-        }
-        self.inbox.push(message);
-        Ok(())
+        self.work.accept(message)
     }
 
     /// Makes room for `n` more messages: the next `n` calls of `accept` can't be refused. What the server stands for is unchanged either
@@ -186,29 +160,29 @@ impl Server {
         ensures had_room { n ≤ self.old.inbox_room → IsOk result }
         ensures spare { self.old.inbox_room ≤ self.new.inbox_room }
     {
-        self.inbox.reserve(n)
+        self.work.accept_room(n)
     }
 
     /// How many messages wait here.
     pub fn waiting(&self) -> usize
         ensures { result ≡ length self.now.state.rest.inbox }
     {
-        self.inbox.len()
+        self.work.inbox.len()
     }
 
     /// The message that waits at that place, from 0, the oldest first; `None` exactly past the end.
     pub fn message(&self, at: usize) -> Option<&Message>
         ensures { option_map (λ m. m.now) result ≡ slice_get self.now.state.rest.inbox at }
     {
-        self.inbox.at(at)
+        self.work.inbox.at(at)
     }
 
     /// The oldest cached word that nobody uses, exactly where the cache holds more words than the options keep; else `None`.
     pub fn due(&self) -> Option<Word>
         ensures { result ≡ due self.now.options self.now.state }
     {
-        if self.cache.len() > self.options.cache as usize {
-            self.cache.oldest_unused()
+        if self.work.cache.len() > self.options.cache as usize {
+            self.work.cache.oldest_unused()
         } else {
             None
         }
@@ -239,7 +213,7 @@ impl Server {
     pub fn retired(&self) -> u64
         ensures { result ≡ self.now.state.rest.partition.retired }
     {
-        self.partition.retired()
+        self.work.partition.retired()
     }
 
     /// How many events the server has done.
@@ -260,7 +234,7 @@ impl Server {
     pub fn sending(&self) -> usize
         ensures { result ≡ length self.now.state.rest.outbox }
     {
-        self.outbox.len()
+        self.work.outbox.len()
     }
 
     /// The thread at that place, from 0, among those here that wait at a lock, a join or a pair, by rising number, with what it waits

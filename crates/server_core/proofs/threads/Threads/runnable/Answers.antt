@@ -5,8 +5,8 @@ use Rattle.server_core.specs.Threads.{states}
 use Rattle.server_core.proofs.StandLemmas.{runnable_at, rank_below}
 use Rattle.server_core.proofs.threads.Threads.runnable.Goals as goal
 
-pub from_number-requires : goal.thread_of-requires
-from_number-requires c = rank_below c.args.at c.in-Some.number c.self.invariant.runnable_set (sym c.nth.ensures ∙ c.in-Some.is)
+pub from_number-requires : goal.from_number-requires
+from_number-requires c = record { few = rank_below c.args.at c.in-Some.number c.self.invariant.runnable_set (sym c.nth.ensures ∙ c.in-Some.is) }
 
 pub returns-in-Some : goal.returns-in-Some
 returns-in-Some c =

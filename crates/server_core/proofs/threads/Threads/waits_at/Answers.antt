@@ -9,8 +9,8 @@ use Rattle.server_core.proofs.threads.Threads.waits_at.Goals as goal
 pub returns-in_default : goal.returns-in_default
 returns-in_default c = sym (wait_end c.args.at c.self.invariant (sym c.nth.ensures ∙ c.in_default.is)) ∙ ap (λ ps. slice_get (waits_among (states ps) []) c.args.at) c.self.view_is
 
-pub from_number-requires : goal.thread_of-requires
-from_number-requires c = rank_below c.args.at c.in-Some.number c.self.invariant.waiting_set (sym c.nth.ensures ∙ c.in-Some.is)
+pub from_number-requires : goal.from_number-requires
+from_number-requires c = record { few = rank_below c.args.at c.in-Some.number c.self.invariant.waiting_set (sym c.nth.ensures ∙ c.in-Some.is) }
 
 pub unreachable-requires : goal.unreachable-requires
 unreachable-requires c =

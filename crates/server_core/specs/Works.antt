@@ -1,0 +1,36 @@
+-- What contracts see of a server in the middle of an event, and the room for what the event may do.
+use Rattle.std.specs.Prelude.{ℕ, ◌≤◌, List, map}
+use Rattle.server_msgs.specs.declared.message.Message.{Message}
+use Rattle.server_model.specs.Servers.{Sent}
+use Rattle.server_model.specs.Work.{Work, Hand}
+use Rattle.server_core.specs.Outboxes.{sending}
+use Rattle.thread_state.specs.View.{ThreadState}
+
+pub record WorkView : Type 0 where
+  pub state : Work
+  -- how many messages can still be sent, acts and labels noted, cells made, threads queued at a mutex and threads noted, each
+  -- without memory
+  pub room : ℕ
+  -- the words for whose copies there is room
+  pub copies : List ℕ
+  -- how many more messages can wait without memory
+  pub inbox_room : ℕ
+
+-- the messages for other servers, each with its target
+abbrev pub sendings : List (ℕ × Message) → List Sent
+sendings xs = map sending xs
+
+-- the work with the thread that the event changes
+abbrev pub hand_of : WorkView → ThreadState → Hand
+hand_of w t = record { work = w.state; thread = t }
+
+-- each part has so much room
+pub record HasRooms (room inbox outbox cells mutexes queued tasks acts labels : ℕ) : Type 0 where
+  pub for_inbox : room ≤ inbox
+  pub for_outbox : room ≤ outbox
+  pub for_cells : room ≤ cells
+  pub for_mutexes : room ≤ mutexes
+  pub for_queues : room ≤ queued
+  pub for_tasks : room ≤ tasks
+  pub for_acts : room ≤ acts
+  pub for_labels : room ≤ labels

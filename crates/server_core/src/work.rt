@@ -1,0 +1,199 @@
+//! A server in the middle of an event.
+
+ghost use Rattle.std.specs.Prelude.{◌≡◌, ◌+◌, ◌<◌, ◌≤◌, [], ◌∷◌, length, slice_get, Some, IsOk, OnOk, OnErr, IfErr};
+ghost use Rattle.server_model.specs.Servers.{empty_server};
+ghost use Rattle.server_model.specs.Work.{add_waiting, send, receive, note, label_all};
+ghost use Rattle.server_model.specs.Drop.{give_up};
+
+use fr_base::{Label, Labels, NoMemory, Options, Plain, Released};
+use heap_partition::Owned;
+use join_home::Tasks;
+use journal::{Act, Acts};
+use mutex_home::Mutexes;
+use owner_box::Partition;
+use rank_map::Queue;
+use read_cache::Cache;
+use server_msgs::Message;
+use std::alloc::Global;
+use std::marker::Model;
+
+/// What an event touches of its server but for its threads, and what it has done so far. Contracts see it as `state`, and beside it
+/// as `room` how many of each thing an event adds fit without memory, as `copies` the words for whose copies there is room, and as
+/// `inbox_room` how many more messages can wait.
+#[derive(Drop)]
+pub(crate) struct Work {
+    pub number: u8,
+    pub partition: Partition,
+    pub cache: Cache,
+    pub mutexes: Mutexes,
+    pub tasks: Tasks,
+    pub inbox: Queue<Message>,
+    pub outbox: Queue<(u8, Message)>,
+    // how many threads it has started
+    pub started: u32,
+    pub acts: Acts,
+    pub labels: Labels,
+    // for how many of each thing there is still room, by what was reserved
+    pub room: usize,
+}
+
+impl Model for Work {
+    ghost use Rattle.server_core.specs.Works.{WorkView, HasRooms, sendings};
+
+    ghost Value = { WorkView };
+
+    ghost view = { λ w. record {
+      state = record {
+        rest = record {
+          number = w.number;
+          partition = w.partition.state;
+          cache = w.cache.state;
+          mutexes = w.mutexes.state;
+          tasks = w.tasks.state;
+          inbox = w.inbox.items;
+          outbox = sendings w.outbox.items;
+          started = w.started;
+        };
+        acts = w.acts.items;
+        labels = w.labels.items;
+      };
+      room = w.room;
+      copies = w.cache.rooms;
+      inbox_room = w.inbox.room;
+    } };
+
+    ghost invariant = { λ w. HasRooms w.room w.inbox.room w.outbox.room w.partition.room w.mutexes.room.mutexes w.mutexes.room.threads w.tasks.room w.acts.spare w.labels.spare };
+}
+
+impl Work {
+    // A server of that number with no thread, at the start of a run.
+    pub fn new(alloc: Global, number: u8, options: &Options) -> Work
+        requires colours { (1 ≤ options.now.colours) × (options.now.colours ≤ 65536) }
+        ensures rest { result.state.rest ≡ (empty_server options.now number).rest }
+        ensures nothing { (result.state.acts ≡ []) × (result.state.labels ≡ []) }
+    {
+        Work {
+            number,
+            partition: Partition::new(alloc, number, options.colours),
+            cache: Cache::new(alloc),
+            mutexes: Mutexes::new(alloc, number),
+            tasks: Tasks::new(alloc),
+            inbox: Queue::new(alloc),
+            outbox: Queue::new(alloc),
+            started: 0,
+            acts: Acts::new(alloc),
+            labels: Labels::new(alloc),
+            room: 0,
+        }
+    }
+
+    // Puts a message last in the list of waiting ones; where memory is wanting, it comes back and nothing changes.
+    pub fn accept(&mut self, message: Message) -> Result<(), (Message, NoMemory)>
+        ensures state { OnOk result (self.new.state ≡ record self.old.state { rest = add_waiting message self.old.state.rest }) }
+        ensures had_room { 0 < self.old.inbox_room → IsOk result }
+        ensures room { OnOk result (self.old.inbox_room ≤ self.new.inbox_room + 1) }
+        ensures back { IfErr result (λ e. e.0 ≡ message) }
+        ensures refused { OnErr result (self.new.state ≡ self.old.state) }
+    {
+        if self.inbox.reserve(1).is_err() {
+            return Err((message, NoMemory));
+        }
+        self.inbox.push(message);
+        self.room = self.room.saturating_sub(1);
+        Ok(())
+    }
+
+    // Makes room for `n` more messages that wait; the state is unchanged either way.
+    pub fn accept_room(&mut self, n: usize) -> Result<(), NoMemory>
+        ensures state { self.new.state ≡ self.old.state }
+        ensures room { OnOk result (n ≤ self.new.inbox_room) }
+        ensures had_room { n ≤ self.old.inbox_room → IsOk result }
+        ensures spare { self.old.inbox_room ≤ self.new.inbox_room }
+    {
+        self.inbox.reserve(n)
+    }
+
+    // Takes out the waiting message at that place, from 0, and the later ones move up. There is such a place.
+    pub fn receive(&mut self, at: usize) -> Message
+        requires within { at < length self.old.state.rest.inbox }
+        ensures message { slice_get self.old.state.rest.inbox at ≡ Some result }
+        ensures state { self.new.state ≡ record self.old.state { rest = receive self.old.state.rest at } }
+        ensures room { self.new.room ≡ self.old.room }
+        ensures copies { self.new.copies ≡ self.old.copies }
+    {
+        self.inbox.take(at)
+    }
+
+    // Sends a message: one to the server itself waits last here.
+    pub fn send(&mut self, target: u8, message: Message)
+        requires room { 0 < self.old.room }
+        ensures state { self.new.state ≡ send target message self.old.state }
+        ensures spare { self.new.room + 1 ≡ self.old.room }
+        ensures copies { self.new.copies ≡ self.old.copies }
+    {
+        if target == self.number {
+            self.inbox.push(message);
+        } else {
+            self.outbox.push((target, message));
+        }
+        self.room -= 1;
+    }
+
+    // Notes an act of the event.
+    pub fn note(&mut self, act: Act)
+        requires room { 0 < self.old.room }
+        ensures state { self.new.state ≡ note act self.old.state }
+        ensures spare { self.new.room + 1 ≡ self.old.room }
+        ensures copies { self.new.copies ≡ self.old.copies }
+    {
+        // The check asks that each type inside an act is named where an act is moved.
+        let _inside: Option<Released> = None;
+        match self.acts.push(act) {
+            Ok(()) => {}
+            Err(_) => unreachable!(),
+        }
+        self.room -= 1;
+    }
+
+    // Notes a label of the event's plain step.
+    pub fn label(&mut self, label: Label)
+        requires room { 0 < self.old.room }
+        ensures state { self.new.state ≡ label_all (label ∷ []) self.old.state }
+        ensures spare { self.new.room + 1 ≡ self.old.room }
+        ensures copies { self.new.copies ≡ self.old.copies }
+    {
+        let _inside: Option<Plain> = None;
+        match self.labels.push(label) {
+            Ok(()) => {}
+            Err(_) => unreachable!(),
+        }
+        self.room -= 1;
+    }
+
+    // An owned value goes: whoever has what it leads to is told.
+    pub fn give_up(&mut self, value: Owned)
+        requires room { 2 ≤ self.old.room }
+        ensures state { self.new.state ≡ give_up value self.old.state }
+        ensures spare { self.old.room ≤ self.new.room + 2 }
+        ensures copies { self.new.copies ≡ self.old.copies }
+    {
+        match value {
+            Owned::Box(pointer) => {
+                self.note(Act::Condemn(pointer.object, pointer.word));
+                self.send(
+                    pointer.word.server(),
+                    Message::Drop(pointer.word, pointer.object),
+                );
+            }
+            Owned::Mutex(mutex) => {
+                self.note(Act::LetGo(Released::Mutex(mutex)));
+                self.send(mutex.home, Message::Release(Released::Mutex(mutex)));
+            }
+            Owned::Task(thread) => {
+                self.note(Act::LetGo(Released::Task(thread)));
+                self.send(thread.server(), Message::Release(Released::Task(thread)));
+            }
+            Owned::Nothing | Owned::Unit | Owned::Int(_) => {}
+        }
+    }
+}
