@@ -67,3 +67,6 @@ pub mod HaveResults
 pub mod StandsHere
 pub mod AnswerResults
 pub mod LockResults
+pub mod NotesFound
+pub mod FinishResults
+pub mod TaskResults
