@@ -53,7 +53,7 @@ ref_type rank E s k l t h = by (E k) refl
     by (refers m u) e = (m, u, e)
 
 -- the result of a thread that goes on is none
-result_same : (y : Typing) (t : ℕ) (l : Option (Life (Running Position))) (x x2 : Running Position) → place_in l ≡ Some x → result_val temps_of y t (with_running l x2) ≡ result_val temps_of y t l
+pub result_same : (y : Typing) (t : ℕ) (l : Option (Life (Running Position))) (x x2 : Running Position) → place_in l ≡ Some x → result_val temps_of y t (with_running l x2) ≡ result_val temps_of y t l
 result_same y t None x x2 e = cc
 result_same y t (Some (alive z)) x x2 e = refl
 result_same y t (Some over) x x2 e = cc

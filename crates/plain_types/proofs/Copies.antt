@@ -79,7 +79,7 @@ own_base t E e slots nested free only i k d b n m u ke (through m2 u2 more is o 
 -- WHAT STANDS AT A PLACE
 
 -- what is whole isn't gone
-not_gone : (E : KeyTypes) (s : Store) (q : Exact) → Whole q → Fits E s q gone_v → ⊥
+pub not_gone : (E : KeyTypes) (s : Store) (q : Exact) → Whole q → Fits E s q gone_v → ⊥
 not_gone E s (owns hole) w f = w
 not_gone E s (owns unit_tree) w f = cc
 not_gone E s (owns int_tree) w f = let g = f.1 in cc
@@ -89,7 +89,7 @@ not_gone E s (owns (box_tree x)) w f = let g = f.1 in cc
 not_gone E s (refers m u) w f = let g = f.is in cc
 
 -- what stands at a location of a spot, and isn't gone, stands in the machine
-value_found : (y : Typing) (a : PlainState Position) (t : ℕ) (x : Running Position) (heap : Heap) (runs : place_in (a.thread t) ≡ Some x) (objects : (o : ObjNo) → a.object o ≡ cell_at heap o) (typed : Typed y.rank y.exact (store y a))
+pub value_found : (y : Typing) (a : PlainState Position) (t : ℕ) (x : Running Position) (heap : Heap) (runs : place_in (a.thread t) ≡ Some x) (objects : (o : ObjNo) → a.object o ≡ cell_at heap o) (typed : Typed y.rank y.exact (store y a))
     (unnamed : (i : ℕ) (m : MutexNo) → slot_at x.slots i ≡ Some (Held m) → Unnamed y.exact (slot_k t i)) (p : Spot) (v : Val) → value_at (store y a) (location_of t p) ≡ Some v → (v ≡ gone_v → ⊥) → (z : Value) × (machine.value_at (record { thread = t; slots = x.slots; heap = heap }) p ≡ Some z)
 value_found y a t x heap runs objects typed unnamed (in_slot i) v e ne = by (slot_at x.slots i) refl
   where

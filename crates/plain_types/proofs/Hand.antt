@@ -92,10 +92,10 @@ ranked y a t x e ts us o g h tops w =
 -- TEMPORARY VALUES AS A LIST
 
 -- below a new value the others are as they were
-pushed_others : (v : Value) (vs : List Value) (i n : ℕ) → n ≡ length vs → i ≢ n → slot_at (v ∷ vs) i ≡ slot_at vs i
+pub pushed_others : (v : Value) (vs : List Value) (i n : ℕ) → n ≡ length vs → i ≢ n → slot_at (v ∷ vs) i ≡ slot_at vs i
 pushed_others v vs i n l ne = ap (λ (b : Bool). if b then Some v else slot_at vs i) (differs_by i (length vs) (λ q. ne (q ∙ sym l)))
 
-pushed_here : (v : Value) (vs : List Value) (n : ℕ) → n ≡ length vs → slot_at (v ∷ vs) n ≡ Some v
+pub pushed_here : (v : Value) (vs : List Value) (n : ℕ) → n ≡ length vs → slot_at (v ∷ vs) n ≡ Some v
 pushed_here v vs n l = eq_cases (λ b. (if b then Some v else slot_at vs n) ≡ Some v) n (length vs) (λ q. refl) (λ ne. absurd (ne l))
 
 -- PUSH

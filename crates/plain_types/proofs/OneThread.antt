@@ -11,16 +11,17 @@ use Rattle.fr_typing.specs.Kinds.{Kind}
 use Rattle.fr_typing.specs.Places.{Env, IsNested}
 use Rattle.fr_store.specs.Keys.{Key, slot_k, temp_k, content_k, result_k, hand_k}
 use Rattle.fr_store.specs.Store.{Location, Val, box_v, mutex_v, task_v, Store, value_at, Place}
-use Rattle.fr_store.specs.Typed.{int_tree, hole, owns, refers, KeyTypes, Typed}
+use Rattle.fr_store.specs.Typed.{Tree, int_tree, hole, owns, refers, KeyTypes, Typed}
 use Rattle.fr_store.specs.Below.{SlotsBelow}
 use Rattle.fr_store.specs.Thread.{ThreadKeys, ThreadTyped, Asleep}
 use Rattle.fr_plain.specs.declared.value.Value.{Value}
 use Rattle.fr_plain.specs.declared.value.Value.TheVariants.{Held}
 use Rattle.fr_plain.specs.State.{slot_at}
-use Rattle.fr_plain.specs.MachineThreads.{Life, alive, over, owing, loose, ended}
+use Rattle.fr_plain.specs.MachineThreads.{Life, alive, over, owing, loose, ended, Shared}
 use Rattle.fr_plain.specs.PlainState.{Running, PlainState, place_in}
+use Rattle.fr_sound.specs.Seen.{OneTask}
 use Rattle.fr_sound.specs.Entries.{Entry}
-use Rattle.fr_sound.specs.States.{Typing, store_of, slot_val, RunningTyped, IsThread, hand_key, hand_kind, operands, env_at, is_hidden, is_held, IsLock, WaitsFor, WaitsAbove, directly, through, IsNear, IsKept, IsBranch, thread_of_key, AreSoMany, IsShare}
+use Rattle.fr_sound.specs.States.{Typing, store_of, slot_val, RunningTyped, IsThread, hand_key, hand_kind, operands, env_at, is_hidden, is_held, IsLock, WaitsFor, WaitsAbove, directly, through, IsNear, IsKept, IsBranch, thread_of_key, AreSoMany, IsShare, MutexTyped}
 use Rattle.plain_types.specs.Positions.{Position, Knows, temps_of}
 use Rattle.plain_types.proofs.Lower.{lower_slots}
 
@@ -104,13 +105,6 @@ with_lower y a t x typed near pairs is c =
 
 -- KEYS OF A THREAD
 
-abbrev pub of_thread : ℕ → Key → Bool
-of_thread t (slot_k u i) = u == t
-of_thread t (temp_k u i) = u == t
-of_thread t (content_k h c) = false
-of_thread t (result_k u) = false
-of_thread t (hand_k u) = u == t
-
 pub same_by : (u t : ℕ) → (u == t) ≡ true → u ≡ t
 same_by u t h = by (eqb_tells u t)
   where
@@ -131,23 +125,6 @@ differs_by u t h = by (eqb_tells u t)
     by : (((u == t) ≡ true) × (u ≡ t)) ⊎ (((u == t) ≡ false) × (u ≢ t)) → (u == t) ≡ false
     by (inl x) = absurd (h x.1)
     by (inr x) = x.0
-
-some_same : (u t : ℕ) → Some u ≡ Some t → u ≡ t
-some_same u t e = cc
-
-pub is_theirs : (t : ℕ) (k : Key) → of_thread t k ≡ true → thread_of_key k ≡ Some t
-is_theirs t (slot_k u i) h = ap Some (same_by u t h)
-is_theirs t (temp_k u i) h = ap Some (same_by u t h)
-is_theirs t (content_k a c) h = cc
-is_theirs t (result_k u) h = cc
-is_theirs t (hand_k u) h = ap Some (same_by u t h)
-
-pub not_theirs : (t : ℕ) (k : Key) → of_thread t k ≡ false → thread_of_key k ≢ Some t
-not_theirs t (slot_k u i) h e = other_by u t h (some_same u t e)
-not_theirs t (temp_k u i) h e = other_by u t h (some_same u t e)
-not_theirs t (content_k a c) h e = cc
-not_theirs t (result_k u) h e = cc
-not_theirs t (hand_k u) h e = other_by u t h (some_same u t e)
 
 pub by_bool : {A : Type 0} (b : Bool) → (b ≡ true → A) → (b ≡ false → A) → A
 by_bool true f g = f refl
@@ -176,6 +153,37 @@ pub record Changes (y : Typing) (a a2 : PlainState Position) (t : ℕ) (x x2 : R
   pub held : (u i : ℕ) (m : MutexNo) (w : Running Position) → u ≢ t → place_in (a.thread u) ≡ Some w → slot_at w.slots i ≡ Some (Held m) → value_at (store (typing_with y E2 M2) a2) (y.marks u i) ≡ value_at (store y a) (y.marks u i)
   pub marked : (i : ℕ) (m : MutexNo) → slot_at x2.slots i ≡ Some (Held m) → slot_at x.slots i ≡ Some (Held m)
   pub still : (i : ℕ) (m : MutexNo) → slot_at x.slots i ≡ Some (Held m) → slot_at x2.slots i ≡ Some (Held m)
+
+-- the keys that such a change may touch: the thread's, and those of contents
+abbrev pub touched : ℕ → Key → Bool
+touched t (slot_k u i) = u == t
+touched t (temp_k u i) = u == t
+touched t (content_k h c) = true
+touched t (result_k u) = false
+touched t (hand_k u) = u == t
+
+-- a change of thread t, which goes on and has no branches, where objects, mutexes and their contents may come and go: what is counted is told sum by sum
+pub record Turn (y : Typing) (a a2 : PlainState Position) (t : ℕ) (x x2 : Running Position) (E2 : KeyTypes) (M2 : ℕ → ℕ → Location) : Type 0 where
+  pub was : place_in (a.thread t) ≡ Some x
+  pub free : a.pair t ≡ None
+  pub now : a2.thread t ≡ with_running (a.thread t) x2
+  pub others : (u : ℕ) → u ≢ t → a2.thread u ≡ a.thread u
+  pub pairs : (u : ℕ) → a2.pair u ≡ a.pair u
+  pub typed : Typed y.rank E2 (store (typing_with y E2 M2) a2)
+  pub mine : RunningCore (typing_with y E2 M2) (store (typing_with y E2 M2) a2) t (a2.pair t) x2
+  pub same : (k : Key) → touched t k ≡ false → E2 k ≡ y.exact k
+  pub of : (k : Key) (m : Bool) (u : Place) → touched t k ≡ true → E2 k ≡ refers m u → thread_of_key k ≡ Some t
+  pub names : (k : Key) (m : Bool) (u : Place) → thread_of_key k ≡ Some t → E2 k ≡ refers m u → ((i : ℕ) × (u.key ≡ slot_k t i)) ⊎ ((j : Key) × (thread_of_key j ≡ Some t) × (y.exact j ≡ refers m u))
+  pub marks : (u i : ℕ) → u ≢ t → M2 u i ≡ y.marks u i
+  pub held : (u i : ℕ) (m : MutexNo) (w : Running Position) → u ≢ t → place_in (a.thread u) ≡ Some w → slot_at w.slots i ≡ Some (Held m) → value_at (store (typing_with y E2 M2) a2) (y.marks u i) ≡ value_at (store y a) (y.marks u i)
+  pub there : (l : Location) (m : MutexNo) → IsShare (store (typing_with y E2 M2) a2) m l → (z : Shared) × (a2.mutex m ≡ Some z)
+  pub mutexes : (m : MutexNo) (z : Shared) → a2.mutex m ≡ Some z → MutexTyped (typing_with y E2 M2) a2 (store (typing_with y E2 M2) a2) m z
+  pub one_task : OneTask (store (typing_with y E2 M2) a2)
+  pub task_from : (l : Location) (u : ℕ) (r : Tree) → value_at (store (typing_with y E2 M2) a2) l ≡ Some (task_v u r) → (k : Location) × (value_at (store y a) k ≡ Some (task_v u r))
+  pub task_to : (l : Location) (u : ℕ) (r : Tree) → value_at (store y a) l ≡ Some (task_v u r) → (k : Location) × (q : Tree) × (value_at (store (typing_with y E2 M2) a2) k ≡ Some (task_v u q))
+  pub objects_there : (l : Location) (o : ObjNo) → value_at (store (typing_with y E2 M2) a2) l ≡ Some (box_v o) → (v : Plain) × (a2.object o ≡ Some v)
+  pub objects_owned : (o : ObjNo) (v : Plain) → a2.object o ≡ Some v → (l : Location) × (value_at (store (typing_with y E2 M2) a2) l ≡ Some (box_v o))
+  pub objects_made : (o : ObjNo) (v : Plain) (w : Running Position) → a2.object o ≡ Some v → place_in (a2.thread o.thread) ≡ Some w → o.count < a2.made o.thread
 
 -- a thread that goes on goes on
 pub runs_still : (l : Option (Life (Running Position))) (x x2 : Running Position) → place_in l ≡ Some x → place_in (with_running l x2) ≡ Some x2
