@@ -1,25 +1,7 @@
 -- When a thread is moved to even out the loads of servers (this project's rule).
-use Rattle.std.specs.Prelude.{ℕ, ◌+◌, ◌&&◌, not, nat_lt, nat_le, Bool, if◌then◌else◌, List, [], ◌∷◌, Option, Some, None, option_map}
-use Rattle.thread_state.specs.View.{ThreadState}
+use Rattle.std.specs.Prelude.{if◌then◌else◌, ℕ, ◌+◌, nat_lt, nat_le, Bool, List, [], ◌∷◌, Option, None, option_map}
 use Rattle.server_model.specs.Servers.{Server}
-use Rattle.server_model.specs.Events.{is_ready}
-use Rattle.drive_model.specs.Ending.{is_over}
-
-abbrev pub active_in : List ThreadState → ℕ
-active_in [] = 0
-active_in (t ∷ ts) = if is_over t.phase then active_in ts else 1 + active_in ts
-
--- the load of a server: the threads that stand there and aren't over; parcels under way don't count
-abbrev pub active : Server → ℕ
-active s = active_in s.threads
-
-abbrev pub movable_in : List ThreadState → Option ℕ
-movable_in [] = None
-movable_in (t ∷ ts) = if is_ready t.phase && not t.moved_since_step then Some t.number else movable_in ts
-
--- the thread that may be moved: the least number that is ready and hasn't moved since its last plain step
-abbrev pub movable : Server → Option ℕ
-movable s = movable_in s.threads
+use Rattle.server_model.specs.Questions.{active, movable}
 
 pub record Load : Type 0 where
   pub threads : ℕ

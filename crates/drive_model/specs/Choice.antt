@@ -1,31 +1,17 @@
 -- Which event a server does next (this project's rule): the eviction that is due, and else one drawn from the messages that wait there
 -- and the threads that can step there.
-use Rattle.std.specs.Prelude.{ℕ, zero, suc, ◌+◌, ◌-◌, ◌%◌, nat_lt, if◌then◌else◌, List, [], ◌∷◌, length, Option, Some, None, slice_get, option_map}
+use Rattle.std.specs.Prelude.{if◌then◌else◌, ℕ, zero, suc, ◌+◌, ◌-◌, ◌%◌, nat_lt, List, [], length, Option, Some, None, slice_get, option_map}
 use Rattle.rand_pcg.specs.Lcg.{Lcg, started, increment_of}
 use Rattle.rand_pcg.specs.Pcg.{multiplier_64, pcg32}
 use Rattle.fr_base.specs.declared.settings.Options.{Options}
-use Rattle.read_cache.specs.Cache.{oldest_unused}
-use Rattle.thread_state.specs.View.{ThreadState}
 use Rattle.server_model.specs.declared.event.What.{What}
 use Rattle.server_model.specs.declared.event.What.TheVariants.{Step, Deliver, Evict}
 use Rattle.server_model.specs.Servers.{Server}
-use Rattle.server_model.specs.Events.{can_step}
+use Rattle.server_model.specs.Questions.{due, runnable}
 
 -- the generator of a server at the start: PCG's Lcg64Xsh32 with the run's choice as its state and the server as its stream
 abbrev pub generator_of : (choice server : ℕ) → Lcg
 generator_of choice server = started 64 multiplier_64 choice (increment_of 64 server)
-
--- a cache that holds more words than it is to keep gives up the oldest that nobody uses
-abbrev pub due : Options → Server → Option ℕ
-due o s = if nat_lt o.cache (length s.rest.cache) then oldest_unused s.rest.cache else None
-
--- the threads that can step, by rising number
-abbrev pub runnable_in : List ThreadState → List ℕ
-runnable_in [] = []
-runnable_in (t ∷ ts) = if can_step t.phase then t.number ∷ runnable_in ts else runnable_in ts
-
-abbrev pub runnable : Server → List ℕ
-runnable s = runnable_in s.threads
 
 -- how many events there are to draw from: each message that waits, then a step of each thread that can
 abbrev pub candidates : Server → ℕ

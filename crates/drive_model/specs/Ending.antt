@@ -1,35 +1,14 @@
 -- How a cluster stands, and which of its threads wait (this project's rules): a thread that waits for a copy, an object or a share is
 -- answered by a message, so only those at a lock, a join or a pair can wait for good.
-use Rattle.std.specs.Prelude.{ℕ, ◌&&◌, ◌||◌, nat_lt, Bool, true, false, is_some, if◌then◌else◌, List, [], ◌∷◌, Option, Some, None}
+use Rattle.std.specs.Prelude.{ℕ, ◌&&◌, ◌||◌, Bool, true, false, is_some, List, [], ◌∷◌}
 use Rattle.fr_base.specs.declared.step.Wait.{Wait}
-use Rattle.fr_base.specs.declared.step.Wait.TheVariants as wait
 use Rattle.fr_base.specs.declared.step.Ending3.{Ending3}
 use Rattle.fr_base.specs.declared.step.Ending3.TheVariants.{Finished, Deadlocked, Going}
 use Rattle.thread_state.specs.View.{ThreadState}
 use Rattle.thread_state.specs.declared.phase.Phase.{Phase}
 use Rattle.thread_state.specs.declared.phase.Phase.TheVariants as phase
 use Rattle.server_model.specs.Servers.{Server, Cluster}
-
--- what a thread waits for at a lock, a join or a pair
-abbrev pub wait_of : Phase → Option Wait
-wait_of (phase.WaitLock m) = Some (wait.Lock m)
-wait_of (phase.WaitJoin t) = Some (wait.Join t)
-wait_of (phase.WaitPar a b) = Some (wait.Par a b)
-wait_of p = None
-
-abbrev pub is_over : Phase → Bool
-is_over phase.Over = true
-is_over p = false
-
--- a thread with what it waits for, among others by rising thread
-abbrev pub add_wait : ℕ → Option Wait → List (ℕ × Wait) → List (ℕ × Wait)
-add_wait t None ws = ws
-add_wait t (Some w) [] = (t, w) ∷ []
-add_wait t (Some w) (x ∷ xs) = if nat_lt t x.0 then (t, w) ∷ x ∷ xs else x ∷ add_wait t (Some w) xs
-
-abbrev pub waits_among : List ThreadState → List (ℕ × Wait) → List (ℕ × Wait)
-waits_among [] ws = ws
-waits_among (t ∷ ts) ws = add_wait t.number (wait_of t.phase) (waits_among ts ws)
+use Rattle.server_model.specs.Questions.{wait_of, is_over, waits_among}
 
 abbrev pub waits_in : List Server → List (ℕ × Wait)
 waits_in [] = []

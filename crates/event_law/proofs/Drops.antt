@@ -1,5 +1,5 @@
 -- Values that are taken out and dropped, and the end of a step.
-use Rattle.std.proofs.Common.{◌≡◌, ℕ, ℤ, Bool, true, false, if◌then◌else◌, List, [], ◌∷◌, ◌++◌, Option, Some, None, refl, ap, subst, arith}
+use Rattle.std.proofs.Common.{if◌then◌else◌, ◌≡◌, ℕ, ℤ, Bool, true, false, List, [], ◌∷◌, ◌++◌, Option, Some, None, refl, ap, subst, arith}
 use Rattle.fr_base.specs.declared.instruction.Operand.{Operand}
 use Rattle.fr_base.specs.declared.instruction.Operand.TheVariants as operand
 use Rattle.heap_partition.specs.declared.value.Owned.{Owned}
@@ -11,7 +11,8 @@ use Rattle.mut_borrow.specs.declared.mutable.MutRef.{MutRef}
 use Rattle.thread_state.specs.declared.value.Value.{Value}
 use Rattle.thread_state.specs.declared.value.Value.TheVariants as value
 use Rattle.fr_base.specs.declared.label.Label.{Label}
-use Rattle.server_model.specs.Work.{Hand, Popped, with_cache, working, label_all, last_of, pop_temp, pop_slot, pop, taken_as, owned_of, int_of, pop_owned, pop_int, unpin_all}
+use Rattle.server_model.specs.Work.{Hand, Popped, with_cache, working, label_all, last_of, pop_temp, pop_slot, pop, taken_as, owned_of, int_of, pop_owned, pop_int}
+use Rattle.migration.specs.Packing.{unpin_all}
 use Rattle.server_model.specs.Places.{Spot}
 use Rattle.server_model.specs.Drop.{unpin_ref, finished_at, drop_value}
 use Rattle.server_model.specs.Commit.{settle}

@@ -15,9 +15,9 @@ use Rattle.thread_state.specs.declared.value.Value.{Value}
 use Rattle.thread_state.specs.declared.value.Value.TheVariants as value
 use Rattle.journal.specs.declared.act.Act.{Act}
 use Rattle.journal.specs.declared.act.Act.TheVariants as act
-use Rattle.server_model.specs.declared.hop.Hop.{Hop}
-use Rattle.server_model.specs.declared.hop.Hop.TheVariants as hop
-use Rattle.server_model.specs.Hops.{read_hop, write_hop}
+use Rattle.place_walk.specs.declared.hop.Hop.{Hop}
+use Rattle.place_walk.specs.declared.hop.Hop.TheVariants as hop
+use Rattle.place_walk.specs.Hops.{read_hop, write_hop}
 use Rattle.server_model.specs.Servers.{Server}
 use Rattle.server_model.specs.Work.{Hand, note, with_cache, working, then_some, leads_here, used_once}
 use Rattle.server_model.specs.NewWords.{NewWord, can_grow, is_last, issue_tint, issue_renewal, issue_colour}

@@ -29,7 +29,8 @@ use Rattle.thread_state.specs.declared.value.Value.TheVariants as value
 use Rattle.server_msgs.specs.declared.message.Message.TheVariants as message
 use Rattle.journal.specs.declared.act.Act.TheVariants as act
 use Rattle.server_model.specs.Servers.{Server, Rest}
-use Rattle.server_model.specs.Work.{Work, Hand, Popped, last_of, pop_temp, pop_slot, pop, pop_owned, pop_int, taken_as, owned_of, int_of, task_of, mutex_of, then_some, working, label_all, unpin_all}
+use Rattle.server_model.specs.Work.{Work, Hand, Popped, last_of, pop_temp, pop_slot, pop, pop_owned, pop_int, taken_as, owned_of, int_of, task_of, mutex_of, then_some, working, label_all}
+use Rattle.migration.specs.Packing.{unpin_all}
 use Rattle.server_model.specs.NewWords.{NewWord, can_grow, issue_placed}
 use Rattle.server_model.specs.Places.{Spot, in_slot, on_top, in_cell, in_copy, nowhere, cell_at, value_at, load_at, put_slot, second_of}
 use Rattle.server_model.specs.Drop.{home_of, give_up, unpin_ref, finished_at, drop_value}

@@ -1,5 +1,5 @@
 -- A thread leaves: its uses end, and it goes as a parcel.
-use Rattle.std.proofs.Common.{◌≡◌, ℕ, ◌+◌, Bool, true, false, if◌then◌else◌, List, [], ◌∷◌, ◌++◌, Some, None, refl, sym, subst, arith}
+use Rattle.std.proofs.Common.{if◌then◌else◌, ◌≡◌, ℕ, ◌+◌, Bool, true, false, List, [], ◌∷◌, ◌++◌, Some, None, refl, sym, subst, arith}
 use Rattle.std.specs.Prelude.{map}
 use Rattle.fr_base.specs.declared.instruction.Instr.{Instr}
 use Rattle.fr_base.specs.declared.settings.Options.{Options}
@@ -12,9 +12,9 @@ use Rattle.server_msgs.specs.declared.message.Message.TheVariants as message
 use Rattle.journal.specs.declared.act.Act.TheVariants as act
 use Rattle.server_model.specs.declared.event.What.TheVariants.{Migrate}
 use Rattle.server_model.specs.Servers.{Server}
-use Rattle.server_model.specs.Work.{Work, Site, note, with_cache, thread_in, without_thread, unpin_all}
-use Rattle.server_model.specs.Places.{unpinned}
-use Rattle.server_model.specs.Moving.{pinned_word, pinned_words, used_words, packed, pack_thread, depart, migrate}
+use Rattle.server_model.specs.Work.{Work, Site, note, with_cache, thread_in, without_thread}
+use Rattle.migration.specs.Packing.{unpin_all, unpinned, pinned_word, pinned_words, used_words, packed, pack_thread}
+use Rattle.server_model.specs.Moving.{depart, migrate}
 use Rattle.server_model.specs.Events.{begin_at, left_by, does}
 use Rattle.heap_law.specs.Names.{tot}
 use Rattle.heap_law.specs.Things.{Thing, Spot, Location, shares, uses, stands, gift_things, walk_things, value_things, slot_things, temp_things, things_at, thread_things, server_things}

@@ -16,9 +16,9 @@ use Rattle.thread_state.specs.declared.value.Value.TheVariants as value
 use Rattle.server_msgs.specs.declared.message.Message.TheVariants as message
 use Rattle.journal.specs.declared.act.Act.{Act}
 use Rattle.journal.specs.declared.act.Act.TheVariants as act
-use Rattle.server_model.specs.declared.hop.Hop.{Hop}
-use Rattle.server_model.specs.declared.hop.Hop.TheVariants as hop
-use Rattle.server_model.specs.Hops.{read_hop, write_hop}
+use Rattle.place_walk.specs.declared.hop.Hop.{Hop}
+use Rattle.place_walk.specs.declared.hop.Hop.TheVariants as hop
+use Rattle.place_walk.specs.Hops.{read_hop, write_hop}
 use Rattle.server_model.specs.Work.{Hand, send, note, with_cache, working, then_some}
 use Rattle.server_model.specs.NewWords.{NewWord, issue_tint, issue_renewal, issue_colour}
 use Rattle.server_model.specs.Places.{Spot, in_slot, on_top, in_cell, in_copy, nowhere, value_at, load_at, put_at, pointer_of, put_word}

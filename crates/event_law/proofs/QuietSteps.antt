@@ -29,7 +29,8 @@ use Rattle.thread_state.specs.declared.value.Value.TheVariants as value
 use Rattle.server_msgs.specs.declared.message.Message.TheVariants as message
 use Rattle.journal.specs.declared.act.Act.TheVariants as act
 use Rattle.server_model.specs.Servers.{Rest, Server}
-use Rattle.server_model.specs.Work.{Hand, Popped, last_of, pop_temp, pop_slot, pop, pop_owned, pop_int, taken_as, owned_of, int_of, task_of, then_some, working, note, label_all, sent_from, push_temp, with_tasks, with_phase, with_slots, unpin_all}
+use Rattle.server_model.specs.Work.{Hand, Popped, last_of, pop_temp, pop_slot, pop, pop_owned, pop_int, taken_as, owned_of, int_of, task_of, then_some, working, note, label_all, sent_from, push_temp, with_tasks, with_phase, with_slots}
+use Rattle.migration.specs.Packing.{unpin_all}
 use Rattle.server_model.specs.NewWords.{NewWord, can_grow, issue_placed}
 use Rattle.server_model.specs.Places.{Spot, in_slot, on_top, in_cell, in_copy, nowhere, cell_at, value_at, load_at, put_slot, second_of}
 use Rattle.server_model.specs.Drop.{home_of, give_up, unpin_ref, finished_at, drop_value}

@@ -11,7 +11,8 @@ use Rattle.server_model.specs.declared.event.What.{What}
 use Rattle.server_model.specs.declared.event.What.TheVariants.{Step, Deliver, Evict, Migrate}
 use Rattle.server_model.specs.Servers.{Server, Cluster, server_at}
 use Rattle.server_model.specs.Work.{Work, Hand, Site, then_some, thread_in, beside_threads}
-use Rattle.server_model.specs.Moving.{pack_thread, migrate}
+use Rattle.migration.specs.Packing.{pack_thread}
+use Rattle.server_model.specs.Moving.{migrate}
 use Rattle.server_model.specs.Events.{Stepped, has_phase, is_ready, enabled, begin_work, begin_at, left_by, received, deliver_message, deliver, evict_copy, step, step_in, stepped, does}
 use Rattle.server_model.specs.Clusters.{done_at}
 use Rattle.heap_law.specs.Things.{things_of}

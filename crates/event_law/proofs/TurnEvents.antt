@@ -13,11 +13,11 @@ use Rattle.server_model.specs.declared.event.Event.{Event}
 use Rattle.server_model.specs.declared.event.What.{What}
 use Rattle.server_model.specs.declared.event.What.TheVariants.{Step, Deliver, Evict, Migrate}
 use Rattle.server_model.specs.Servers.{Server, Cluster, server_at}
-use Rattle.server_model.specs.Work.{Work, then_some, thread_in, unpin_all}
+use Rattle.server_model.specs.Work.{Work, then_some, thread_in}
 use Rattle.server_model.specs.Objects.{deliver_fetch, deliver_fetched, deliver_move, deliver_moved, deliver_drop}
 use Rattle.server_model.specs.Sharing.{deliver_lock, waits_for_lock, deliver_granted, deliver_unlock, deliver_dup, waits_for_dup, deliver_dupped}
 use Rattle.server_model.specs.Joining.{deliver_join, waits_for_join, deliver_joined}
-use Rattle.server_model.specs.Moving.{used_words, packed, pack_thread}
+use Rattle.migration.specs.Packing.{unpin_all, used_words, packed, pack_thread}
 use Rattle.server_model.specs.Events.{can_step, is_ready, has_phase, enabled, begin_work, left_by, received, release, deliver_message, step_in, stepped, does}
 use Rattle.server_model.specs.Clusters.{with_server, hand_over_newer, done_at, act_at, apply}
 use Rattle.heap_law.specs.Names.{tot, if_so}

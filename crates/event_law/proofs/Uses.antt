@@ -11,7 +11,8 @@ use Rattle.heap_partition.specs.declared.value.Owned.TheVariants as owned
 use Rattle.read_cache.specs.Cache.{Copy, copy_of, users, users_in, is_cached, can_pin, pin, can_unpin, unpin, fill}
 use Rattle.server_msgs.specs.declared.message.Message.TheVariants as message
 use Rattle.journal.specs.declared.act.Act.TheVariants as act
-use Rattle.server_model.specs.Work.{Work, Hand, note, with_cache, working, used_once, use_word, unpin_all}
+use Rattle.server_model.specs.Work.{Work, Hand, note, with_cache, working, used_once, use_word}
+use Rattle.migration.specs.Packing.{unpin_all}
 use Rattle.server_model.specs.Drop.{give_up, home_of}
 use Rattle.heap_law.specs.Things.{Thing, in_hand, holds, uses, gift_things, walk_things, slot_things, temp_things, things_at, thread_things}
 use Rattle.event_law.specs.Laws.{Gives}

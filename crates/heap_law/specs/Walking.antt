@@ -14,7 +14,7 @@ use Rattle.thread_state.specs.declared.phase.Phase.{Phase}
 use Rattle.thread_state.specs.declared.phase.Phase.TheVariants as phase
 use Rattle.server_msgs.specs.declared.message.Message.{Message}
 use Rattle.server_msgs.specs.declared.message.Message.TheVariants.{Fetch, Move}
-use Rattle.server_model.specs.Moving.{pinned_words}
+use Rattle.migration.specs.Packing.{pinned_words}
 use Rattle.heap_law.specs.Names.{tot, one, other, if_so, some}
 use Rattle.heap_law.specs.Things.{Location, Thing, sent}
 use Rattle.heap_law.specs.Follow.{Standing, Ground, locate, value_behind, hop_at}

@@ -1,14 +1,12 @@
 -- Ending uses of copies, word by word and value by value.
 use Rattle.std.proofs.Common.{arith, ◌≡◌, ◌<◌, ◌∙◌, ℕ, Bool, true, false, List, [], ◌∷◌, ◌++◌, length, All, slice_index_or, slice_set, zero, suc, refl, sym, subst, ap, drop}
-use Rattle.std.specs.Prelude.{Option, Some, None, IsSome, map, option_map, if◌then◌else◌}
+use Rattle.std.specs.Prelude.{if◌then◌else◌, Option, Some, None, IsSome, map, option_map}
 use Rattle.std.proofs.lemmas.List.Elements.{All-cons, All-nil}
 use Rattle.read_cache.specs.Cache.{Copy, can_unpin, unpin}
 use Rattle.thread_state.specs.View.{ThreadState, is_pinned}
 use Rattle.thread_state.specs.declared.value.Value.{Value}
 use Rattle.thread_state.specs.declared.value.Value.TheVariants as value
-use Rattle.server_model.specs.Work.{unpin_all}
-use Rattle.server_model.specs.Places.{unpinned}
-use Rattle.server_model.specs.Moving.{pinned_word, pinned_words, used_words, packed, pack_thread}
+use Rattle.migration.specs.Packing.{unpin_all, unpinned, pinned_word, pinned_words, used_words, packed, pack_thread}
 
 -- where the uses of some words can end, the first can, and then those of the others
 pub record First (w : ℕ) (ws : List ℕ) (cs : List Copy) : Type 0 where

@@ -1,9 +1,7 @@
 //! Packing a thread, and unpacking it.
 
 ghost use Rattle.std.specs.Prelude.{◌≡◌, [], ◌∷◌, Some, IsSome, map};
-ghost use Rattle.server_model.specs.Work.{unpin_all};
-ghost use Rattle.server_model.specs.Places.{unpinned};
-ghost use Rattle.server_model.specs.Moving.{pack_thread, pinned_words};
+ghost use Rattle.migration.specs.Packing.{unpin_all, unpinned, pack_thread, pinned_words};
 ghost use Rattle.thread_state.specs.View.{IsPacked};
 
 use global_addr::Word;

@@ -2,9 +2,10 @@
 //! DRust, OSDI 2024: a reader copies an object, and a writer has it come; the rules are this project's).
 #![tactic(auto)]
 
+mod hop;
 #[cfg(test)]
 mod tests;
 mod walk;
 
-pub use server_model::Hop;
+pub use hop::Hop;
 pub use walk::{read_hop, write_hop};

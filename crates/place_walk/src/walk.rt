@@ -1,12 +1,12 @@
 //! The hops of reads and of writes.
 
 ghost use Rattle.std.specs.Prelude.{◌≡◌, Some, IsSome};
-ghost use Rattle.server_model.specs.Hops.{clean_hop, dirty_hop, read_hop, write_hop};
+ghost use Rattle.place_walk.specs.Hops.{clean_hop, dirty_hop, read_hop, write_hop};
 
+use crate::hop::Hop;
 use global_addr::Word;
 use heap_partition::Owned;
 use read_cache::Cache;
-use server_model::Hop;
 use thread_state::Value;
 
 // A pointer whose object has no change that its word doesn't show.

@@ -1,5 +1,5 @@
 -- The threads of a server beside the sets of those that can step, wait, may be moved and aren't over.
-use Rattle.std.proofs.Common.{◌≡◌, ℕ, ◌^◌, ◌<◌, Bool, true, false, true≢false, List, [], map, length, slice_get, if◌then◌else◌, is_some, Option, None, Some, IsSome, option_map, Result, Ok, Err, OnOk, OnErr, refl, sym, subst, ap, ◌∙◌, arith}
+use Rattle.std.proofs.Common.{if◌then◌else◌, ◌≡◌, ℕ, ◌^◌, ◌<◌, Bool, true, false, true≢false, List, [], map, length, slice_get, is_some, Option, None, Some, IsSome, option_map, Result, Ok, Err, OnOk, OnErr, refl, sym, subst, ap, ◌∙◌, arith}
 use Rattle.std.proofs.lemmas.Option.{slice_get-map}
 use Rattle.rank_map.specs.Places.{Place, place_at, has_place, item_in, item_at, with_place, with_free, entries, Rises}
 use Rattle.rank_map.specs.Marks.{mark_of, IsMarked}
@@ -7,8 +7,7 @@ use Rattle.rank_map.proofs.PlaceLemmas.{rises_with}
 use Rattle.rank_map.proofs.MarkLemmas.{marked_change, set_free, map_free, free_rises, free_there, nth_below}
 use Rattle.thread_state.specs.View.{ThreadState, ThreadView}
 use Rattle.server_model.specs.Work.{thread_in, set_thread, with_thread}
-use Rattle.drive_model.specs.Choice.{runnable_in}
-use Rattle.drive_model.specs.Balance.{active_in, movable_in}
+use Rattle.server_model.specs.Questions.{runnable_in, active_in, movable_in}
 use Rattle.server_core.specs.Threads.{states, HasKey, AreNumbered, steps, waits, moves, acts, AreThreads}
 use Rattle.server_core.proofs.ThreadLemmas.{take_states, put_again, thread_at, numbered_with, runnable_keys, active_count, movable_key}
 

@@ -1,5 +1,5 @@
 -- The threads at places, once one comes, goes or is looked for.
-use Rattle.std.proofs.Common.{◌≡◌, is_some, true≢false, ℕ, ◌+◌, ◌<◌, ◌&&◌, not, Bool, true, false, ◌==◌, nat_lt, if◌then◌else◌, List, [], ◌∷◌, map, length, slice_get, Option, None, Some, option_map, refl, sym, ap, ◌∙◌, arith}
+use Rattle.std.proofs.Common.{if◌then◌else◌, ◌≡◌, is_some, true≢false, ℕ, ◌+◌, ◌<◌, ◌&&◌, not, Bool, true, false, ◌==◌, nat_lt, List, [], ◌∷◌, map, length, slice_get, Option, None, Some, option_map, refl, sym, ap, ◌∙◌, arith}
 use Rattle.std.proofs.lemmas.Bool.{eq-eqb, eqb-true, ltb-true, ltb-false, lt-ltb, le-ltb, ne_eqb}
 use Rattle.rank_map.specs.Places.{Place, Entry, place_at, item_in, item_at, put_first, with_place, entry_first, entries, Rises}
 use Rattle.rank_map.specs.Marks.{mark_if, mark_of, marked}
@@ -7,9 +7,7 @@ use Rattle.rank_map.proofs.PlaceLemmas.{below_all}
 use Rattle.thread_state.specs.View.{ThreadState, ThreadView}
 use Rattle.server_model.specs.Work.{thread_in, set_thread, with_thread, without_thread}
 use Rattle.server_model.specs.Events.{can_step, is_ready}
-use Rattle.drive_model.specs.Ending.{is_over}
-use Rattle.drive_model.specs.Choice.{runnable_in}
-use Rattle.drive_model.specs.Balance.{active_in, movable_in}
+use Rattle.server_model.specs.Questions.{is_over, runnable_in, active_in, movable_in}
 use Rattle.server_core.specs.Threads.{states, HasKey, AreNumbered, steps, moves, acts}
 
 -- the threads of entries

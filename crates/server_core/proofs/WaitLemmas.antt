@@ -1,12 +1,12 @@
 -- Which threads wait, by rising number, and for what.
-use Rattle.std.proofs.Common.{◌≡◌, ℕ, zero, suc, ◌+◌, ◌<◌, ◌≤◌, true≢false, ◌^◌, if◌then◌else◌, is_some, List, [], ◌∷◌, map, slice_get, Option, None, Some, option_map, refl, sym, subst, ap, ◌∙◌, arith}
+use Rattle.std.proofs.Common.{if◌then◌else◌, ◌≡◌, ℕ, zero, suc, ◌+◌, ◌<◌, ◌≤◌, true≢false, ◌^◌, is_some, List, [], ◌∷◌, map, slice_get, Option, None, Some, option_map, refl, sym, subst, ap, ◌∙◌, arith}
 use Rattle.std.proofs.lemmas.Bool.{ne_eqb, eq-eqb, lt-ltb}
 use Rattle.std.proofs.lemmas.Option.{slice_get-map}
 use Rattle.fr_base.specs.declared.step.Wait.{Wait}
 use Rattle.rank_map.specs.Places.{Place, Entry, place_at, item_in, item_at, entry_first, entries, Rises}
 use Rattle.rank_map.specs.Marks.{mark_if, mark_of, marked}
 use Rattle.thread_state.specs.View.{ThreadState, ThreadView}
-use Rattle.drive_model.specs.Ending.{wait_of, add_wait, waits_among}
+use Rattle.server_model.specs.Questions.{wait_of, add_wait, waits_among}
 use Rattle.server_core.specs.Threads.{states, HasKey, AreNumbered, AreThreads, waits}
 
 abbrev of : List (Entry ThreadView) → List ThreadState

@@ -1,12 +1,12 @@
 -- The threads of a server over places (this project's own): a place for each thread that stands there or is to come, by rising number.
-use Rattle.std.specs.Prelude.{◌≡◌, ℕ, ◌^◌, ◌&&◌, ◌==◌, if◌then◌else◌, not, Bool, is_some, List, [], ◌∷◌, map, ⊤, Option, Some, None}
+use Rattle.std.specs.Prelude.{if◌then◌else◌, ◌≡◌, ℕ, ◌^◌, ◌&&◌, ◌==◌, not, Bool, is_some, List, [], ◌∷◌, map, ⊤, Option, Some, None}
 use Rattle.rank_map.specs.Places.{Place, Rises}
 use Rattle.rank_map.specs.Queues.{items_of}
 use Rattle.rank_map.specs.Marks.{IsMarked}
 use Rattle.thread_state.specs.View.{ThreadState, ThreadView}
 use Rattle.server_model.specs.Servers.{main_thread}
 use Rattle.server_model.specs.Events.{can_step, is_ready}
-use Rattle.drive_model.specs.Ending.{wait_of, is_over}
+use Rattle.server_model.specs.Questions.{wait_of, is_over}
 
 -- the threads that stand there, by rising number
 abbrev pub states : List (Place ThreadView) → List ThreadState

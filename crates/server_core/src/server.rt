@@ -7,9 +7,7 @@ ghost use Rattle.server_model.specs.Events.{enabled, is_ready};
 ghost use Rattle.std.specs.Arc.{arc_value};
 ghost use Rattle.server_core.specs.Outboxes.{sending, taken_out};
 ghost use Rattle.server_core.specs.Threads.{states, first_threads};
-ghost use Rattle.drive_model.specs.Choice.{due, runnable};
-ghost use Rattle.drive_model.specs.Balance.{active, movable};
-ghost use Rattle.drive_model.specs.Ending.{waits_among};
+ghost use Rattle.server_model.specs.Questions.{due, runnable, active, movable, waits_among};
 
 use crate::threads::{Threads, can_step};
 use crate::work::Work;

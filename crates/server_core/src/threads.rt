@@ -5,9 +5,7 @@ ghost use Rattle.rank_map.specs.Places.{has_place, with_place, with_free};
 ghost use Rattle.rank_map.specs.Marks.{mark_if};
 ghost use Rattle.server_model.specs.Work.{thread_in, set_thread, with_thread, without_thread};
 ghost use Rattle.thread_state.specs.View.{ThreadState};
-ghost use Rattle.drive_model.specs.Choice.{runnable_in};
-ghost use Rattle.drive_model.specs.Ending.{wait_of, waits_among};
-ghost use Rattle.drive_model.specs.Balance.{active_in, movable_in};
+ghost use Rattle.server_model.specs.Questions.{runnable_in, wait_of, waits_among, active_in, movable_in};
 ghost use Rattle.server_core.specs.Threads.{states, steps, waits, moves, acts};
 
 use fr_base::{NoMemory, ThreadNo, Wait};

@@ -1,6 +1,6 @@
 -- The plain step of an instruction whose place is ready (Featherweight Rust's reductions on servers; threads, mutexes, labels and
 -- acts are this project's). A lock, a dup and a join without their answer send their request here.
-use Rattle.std.specs.Prelude.{ℕ, zero, suc, ◌+◌, ◌==◌, Bool, true, false, if◌then◌else◌, List, [], ◌∷◌, Option, Some, None, slice_get, option_map}
+use Rattle.std.specs.Prelude.{if◌then◌else◌, ℕ, zero, suc, ◌+◌, ◌==◌, Bool, true, false, List, [], ◌∷◌, Option, Some, None, slice_get, option_map}
 use Rattle.fr_base.specs.declared.name.MutexNo.{MutexNo}
 use Rattle.fr_base.specs.declared.name.ObjNo.{ObjNo}
 use Rattle.fr_base.specs.declared.place.Lval.{Lval}
@@ -27,7 +27,8 @@ use Rattle.thread_state.specs.declared.value.Value.{Value}
 use Rattle.thread_state.specs.declared.value.Value.TheVariants as value
 use Rattle.server_msgs.specs.declared.message.Message.TheVariants as message
 use Rattle.journal.specs.declared.act.Act.TheVariants as act
-use Rattle.server_model.specs.Work.{Hand, send, note, label_all, with_mutexes, with_tasks, with_cache, working, with_phase, go_to, with_slots, push_slot, push_temp, pop_temp, pop_slot, pop, taken_as, owned_of, task_of, mutex_of, pop_owned, pop_int, then_some, unpin_all}
+use Rattle.server_model.specs.Work.{Hand, send, note, label_all, with_mutexes, with_tasks, with_cache, working, with_phase, go_to, with_slots, push_slot, push_temp, pop_temp, pop_slot, pop, taken_as, owned_of, task_of, mutex_of, pop_owned, pop_int, then_some}
+use Rattle.migration.specs.Packing.{unpin_all}
 use Rattle.server_model.specs.NewWords.{NewWord, issue_placed}
 use Rattle.server_model.specs.Places.{Spot, in_slot, nowhere, cell_at, value_at, load_at, put_slot, put_at, took, second_of}
 use Rattle.server_model.specs.Drop.{home_of, give_up, drop_labels, drop_value}

@@ -1,5 +1,4 @@
 pub mod Servers
-pub mod Hops
 pub mod Work
 pub mod NewWords
 pub mod Places
@@ -12,6 +11,7 @@ pub mod Sharing
 pub mod Joining
 pub mod Moving
 pub mod Events
+pub mod Questions
 pub mod Clusters
 pub mod Figures
 pub mod Programs

@@ -1,5 +1,5 @@
 -- Where a place leads inside a server, and how the pointer there gets another word (this project's rules).
-use Rattle.std.specs.Prelude.{ℕ, Bool, true, false, nat_lt, if◌then◌else◌, List, [], ◌∷◌, ◌++◌, length, Option, Some, None, slice_get, slice_set}
+use Rattle.std.specs.Prelude.{if◌then◌else◌, ℕ, Bool, true, false, nat_lt, List, [], ◌∷◌, ◌++◌, length, Option, Some, None, slice_get, slice_set}
 use Rattle.fr_base.specs.declared.label.Label.{Label}
 use Rattle.fr_base.specs.declared.label.Label.TheVariants as label
 use Rattle.heap_partition.specs.Plain.{plain_of}
@@ -12,6 +12,7 @@ use Rattle.read_cache.specs.Cache.{hit}
 use Rattle.mut_borrow.specs.declared.mutable.MutRef.{MutRef}
 use Rattle.thread_state.specs.declared.value.Value.{Value}
 use Rattle.thread_state.specs.declared.value.Value.TheVariants as value
+use Rattle.migration.specs.Packing.{unpinned}
 use Rattle.server_model.specs.NewWords.{NewWord}
 use Rattle.server_model.specs.Work.{Hand, with_partition, look, leads_here, working, with_slots, with_temps, last_of, front_of, then_some, label_all}
 
@@ -50,11 +51,6 @@ owns_nothing (owned.Box p) = false
 owns_nothing (owned.Mutex m) = false
 owns_nothing (owned.Task t) = false
 owns_nothing v = true
-
--- a shared reference that keeps no copy in use; other values stay
-abbrev pub unpinned : Value → Value
-unpinned (value.Shared r) = value.Shared (record r { pinned = false })
-unpinned v = v
 
 -- a second value like this one, which pins nothing; None where there may be no second one
 abbrev pub second_of : Value → Option Value

@@ -1,6 +1,6 @@
 -- Making an instruction's place ready (in the manner of DRust; this project's rules): the place is followed star by star, each
 -- hop is made ready for a read or a write, and where something isn't here one request is sent, and the event ends with it.
-use Rattle.std.specs.Prelude.{ℕ, zero, suc, ◌+◌, ◌-◌, ◌==◌, Bool, true, false, nat_lt, if◌then◌else◌, [], length, Option, Some, None, slice_get}
+use Rattle.std.specs.Prelude.{if◌then◌else◌, ℕ, zero, suc, ◌+◌, ◌-◌, ◌==◌, Bool, true, false, nat_lt, [], length, Option, Some, None, slice_get}
 use Rattle.fr_base.specs.declared.place.Lval.{Lval}
 use Rattle.fr_base.specs.declared.instruction.Instr.{Instr}
 use Rattle.fr_base.specs.declared.instruction.Instr.TheVariants as instr
@@ -19,9 +19,9 @@ use Rattle.thread_state.specs.declared.value.Value.{Value}
 use Rattle.thread_state.specs.declared.value.Value.TheVariants as value
 use Rattle.server_msgs.specs.declared.message.Message.TheVariants as message
 use Rattle.journal.specs.declared.act.Act.TheVariants as act
-use Rattle.server_model.specs.declared.hop.Hop.{Hop}
-use Rattle.server_model.specs.declared.hop.Hop.TheVariants as hop
-use Rattle.server_model.specs.Hops.{read_hop, write_hop}
+use Rattle.place_walk.specs.declared.hop.Hop.{Hop}
+use Rattle.place_walk.specs.declared.hop.Hop.TheVariants as hop
+use Rattle.place_walk.specs.Hops.{read_hop, write_hop}
 use Rattle.server_model.specs.Work.{Work, Hand, send, note, with_cache, working, with_phase, last_of, then_some, use_word}
 use Rattle.server_model.specs.NewWords.{NewWord, issue_tint, issue_renewal, issue_colour}
 use Rattle.server_model.specs.Places.{Spot, in_slot, on_top, in_cell, in_copy, nowhere, value_at, load_at, put_at, pointer_of, put_word, slot_in}

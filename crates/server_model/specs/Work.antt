@@ -1,6 +1,6 @@
 -- A server in the middle of an event: what the event has done so far (this project's rules). The functions are small, and the
 -- server's code has one of the same name for each.
-use Rattle.std.specs.Prelude.{ℕ, ℤ, ◌-◌, ◌==◌, ◌&&◌, Bool, true, false, nat_lt, is_some, if◌then◌else◌, List, [], ◌∷◌, ◌++◌, length, take, remove, Option, Some, None, option_map}
+use Rattle.std.specs.Prelude.{if◌then◌else◌, ℕ, ℤ, ◌-◌, ◌==◌, ◌&&◌, Bool, true, false, nat_lt, is_some, List, [], ◌∷◌, ◌++◌, length, take, remove, Option, Some, None, option_map}
 use Rattle.fr_base.specs.Lists.{is_in}
 pub use Rattle.fr_base.specs.Lists.{last_of}
 use Rattle.fr_base.specs.declared.label.Label.{Label}
@@ -15,7 +15,7 @@ use Rattle.heap_partition.specs.declared.value.Owned.TheVariants as owned
 use Rattle.owner_box.specs.View.{PartitionState}
 use Rattle.owner_box.specs.Partition.{cell_of}
 use Rattle.fr_base.specs.Names.{same_object}
-use Rattle.read_cache.specs.Cache.{Copy, can_pin, pin, can_unpin, unpin}
+use Rattle.read_cache.specs.Cache.{Copy, can_pin, pin}
 use Rattle.mutex_home.specs.Mutexes.{Mutexes}
 use Rattle.join_home.specs.Tasks.{Task}
 use Rattle.thread_state.specs.View.{ThreadState}
@@ -256,8 +256,3 @@ used_once w false h =
 -- the thread uses the copy until its step is done; a word of its walk isn't used twice
 abbrev pub use_word : ℕ → Hand → Option Hand
 use_word w h = used_once w (is_in w h.thread.walk) h
-
--- one use less of each of the words
-abbrev pub unpin_all : List ℕ → List Copy → Option (List Copy)
-unpin_all [] cs = Some cs
-unpin_all (w ∷ ws) cs = if can_unpin cs w then unpin_all ws (unpin cs w) else None

@@ -1,8 +1,7 @@
 use Rattle.std.proofs.Common.{◌≡◌, List, All, refl, subst, sym}
 use Rattle.std.specs.Prelude.{Some, IsSome, false}
 use Rattle.thread_state.specs.View.{ThreadView, is_pinned}
-use Rattle.server_model.specs.Work.{unpin_all}
-use Rattle.server_model.specs.Moving.{packed, pinned_words, used_words}
+use Rattle.migration.specs.Packing.{unpin_all, packed, pinned_words, used_words}
 use Rattle.migration.proofs.PinLemmas.{some_front, some_two, some_three, all_three, uses_end, none_pinned, packs}
 use Rattle.migration.proofs.packing.pack_thread.Goals as goal
 

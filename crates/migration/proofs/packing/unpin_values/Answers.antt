@@ -1,6 +1,5 @@
 use Rattle.std.proofs.Common.{rules, arith, ◌≡◌, ◌<◌, ◌+◌, suc, length, drop, slice_index_or, slice_set, ap, subst, ◌∙◌}
-use Rattle.server_model.specs.Work.{unpin_all}
-use Rattle.server_model.specs.Moving.{pinned_words}
+use Rattle.migration.specs.Packing.{unpin_all, pinned_words}
 use Rattle.migration.proofs.PinLemmas.{value_at, value_users, value_ended, value_set, done_all, done_to}
 use Rattle.migration.proofs.packing.unpin_values.Goals as goal
 

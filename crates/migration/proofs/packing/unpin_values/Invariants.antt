@@ -1,6 +1,5 @@
 use Rattle.std.proofs.Common.{◌≡◌, drop}
-use Rattle.server_model.specs.Work.{unpin_all}
-use Rattle.server_model.specs.Moving.{pinned_words}
+use Rattle.migration.specs.Packing.{unpin_all, pinned_words}
 use Rattle.migration.proofs.PinLemmas.{done_to}
 use Rattle.migration.proofs.packing.unpin_values.Given as goal
 

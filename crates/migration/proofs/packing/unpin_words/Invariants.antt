@@ -1,5 +1,5 @@
 use Rattle.std.proofs.Common.{◌≡◌, drop}
-use Rattle.server_model.specs.Work.{unpin_all}
+use Rattle.migration.specs.Packing.{unpin_all}
 use Rattle.migration.proofs.packing.unpin_words.Given as goal
 
 abbrev pub invariant-words : goal.invariant-words

@@ -1,5 +1,5 @@
 use Rattle.std.proofs.Common.{ap, ◌∙◌}
-use Rattle.drive_model.specs.Balance.{active_in}
+use Rattle.server_model.specs.Questions.{active_in}
 use Rattle.server_core.specs.Threads.{states}
 use Rattle.server_core.proofs.StandLemmas.{active_many}
 use Rattle.server_core.proofs.threads.Threads.active.Goals as goal

@@ -1,5 +1,5 @@
 use Rattle.std.proofs.Common.{Some, sym, ap, ◌∙◌}
-use Rattle.drive_model.specs.Balance.{movable_in}
+use Rattle.server_model.specs.Questions.{movable_in}
 use Rattle.server_core.specs.Threads.{states}
 use Rattle.server_core.proofs.StandLemmas.{movable_first, rank_below}
 use Rattle.server_core.proofs.threads.Threads.movable.Goals as goal

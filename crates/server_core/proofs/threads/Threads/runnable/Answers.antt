@@ -1,6 +1,6 @@
 use Rattle.std.proofs.Common.{Some, sym, ap, ◌∙◌}
 use Rattle.std.specs.List.{slice_get}
-use Rattle.drive_model.specs.Choice.{runnable_in}
+use Rattle.server_model.specs.Questions.{runnable_in}
 use Rattle.server_core.specs.Threads.{states}
 use Rattle.server_core.proofs.StandLemmas.{runnable_at, rank_below}
 use Rattle.server_core.proofs.threads.Threads.runnable.Goals as goal

@@ -1,6 +1,6 @@
 use Rattle.std.proofs.Common.{Some, [], option_map, sym, ap, ◌∙◌}
 use Rattle.std.specs.List.{slice_get}
-use Rattle.drive_model.specs.Ending.{waits_among}
+use Rattle.server_model.specs.Questions.{waits_among}
 use Rattle.server_core.specs.Threads.{states}
 use Rattle.server_core.proofs.StandLemmas.{rank_below}
 use Rattle.server_core.proofs.WaitLemmas.{wait_in, wait_rank, wait_end, wait_same, no_wait}

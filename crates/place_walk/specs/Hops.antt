@@ -1,13 +1,13 @@
 -- How a pointer leads on (in the manner of DRust: an object is read here, from a copy, or copied first, and comes here to be
 -- written; this project's rules). A hop is determined by the pointer, the server and the words that are cached there.
-use Rattle.std.specs.Prelude.{ℕ, ◌==◌, if◌then◌else◌, List, Option, Some, None}
+use Rattle.std.specs.Prelude.{if◌then◌else◌, ℕ, ◌==◌, List, Option, Some, None}
 use Rattle.global_addr.specs.Words.{server_of}
 use Rattle.heap_partition.specs.declared.value.Owned.TheVariants as owned
 use Rattle.thread_state.specs.declared.value.Value.{Value}
 use Rattle.thread_state.specs.declared.value.Value.TheVariants as value
 use Rattle.read_cache.specs.Cache.{Copy, is_cached}
-use Rattle.server_model.specs.declared.hop.Hop.{Hop}
-use Rattle.server_model.specs.declared.hop.Hop.TheVariants.{Slot, Direct, Hit, NeedCopy, NeedMove, NeedTint, AtCell}
+use Rattle.place_walk.specs.declared.hop.Hop.{Hop}
+use Rattle.place_walk.specs.declared.hop.Hop.TheVariants.{Slot, Direct, Hit, NeedCopy, NeedMove, NeedTint, AtCell}
 
 -- to a copy, or a copy is needed
 abbrev pub by_copy : List Copy → ℕ → Hop
