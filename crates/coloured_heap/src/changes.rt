@@ -332,9 +332,7 @@ impl Tables {
             Act::AskLock(mutex) => self.ask_lock(entry, mutex),
             Act::AskDup(mutex) => self.ask_dup(entry, mutex),
             Act::Start(thread, there) => self.start(*thread, *there),
-            Act::AskJoin(thread) => {
-                self.wish(Wish::Result(thread.number(), asker(entry), here))
-            }
+            Act::AskJoin(thread) => { self.wish(Wish::Result(thread.number(), asker(entry), here)) }
             _ => {
                 self.change_there(entry, act);
                 Ok(())
