@@ -70,3 +70,4 @@ pub mod LockResults
 pub mod NotesFound
 pub mod FinishResults
 pub mod TaskResults
+pub mod MutexResults

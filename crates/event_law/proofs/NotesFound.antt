@@ -24,7 +24,7 @@ use Rattle.event_law.proofs.Unseen.{Unseen, none_at, thread_alone, content_none,
 use Rattle.event_law.proofs.Sound.{server_once, sound_has_sums}
 use Rattle.event_law.proofs.FinishSteps.{notes_rise}
 
-below : (m n : ℕ) → other (nat_lt m n) ≡ 0 → m < n
+pub below : (m n : ℕ) → other (nat_lt m n) ≡ 0 → m < n
 below m n = by (nat_lt m n) refl
   where
     by : (b : Bool) → nat_lt m n ≡ b → other b ≡ 0 → m < n

@@ -3,13 +3,13 @@ use Rattle.std.specs.Prelude.{◌≡◌, ◌≤◌, ◌<◌, ◌+◌, ◌^◌, �
 use Rattle.std.specs.List.{AllByRecursion}
 use Rattle.fr_base.specs.declared.name.MutexNo.{MutexNo}
 use Rattle.fr_base.specs.declared.instruction.Instr.{Instr}
-use Rattle.fr_base.specs.declared.release.Released.TheVariants.{Task}
+use Rattle.fr_base.specs.declared.release.Released.TheVariants.{Mutex, Task}
 use Rattle.fr_base.specs.declared.settings.Options.{Options}
 use Rattle.global_addr.specs.Words.{server_of}
 use Rattle.heap_partition.specs.declared.value.Owned.{Owned}
 use Rattle.journal.specs.View.{EntryView}
 use Rattle.thread_state.specs.View.{ThreadState}
-use Rattle.server_msgs.specs.declared.message.Message.TheVariants.{Lock, Granted, Dupped, Release, Start, Join, Joined, Finished, Migrate}
+use Rattle.server_msgs.specs.declared.message.Message.TheVariants.{Lock, Granted, Unlock, Dupped, Release, Start, Join, Joined, Finished, Migrate}
 use Rattle.server_model.specs.declared.event.Event.{Event}
 use Rattle.server_model.specs.declared.event.What.{What}
 use Rattle.server_model.specs.declared.event.What.TheVariants.{Deliver, Evict}
@@ -168,6 +168,13 @@ abbrev pub LocksHaveResults : Type 0
 LocksHaveResults =
     (k : Cluster) (n i : ℕ) (s : Server) (m : MutexNo) (a t : ℕ) → IsSound k → server_at k.servers n ≡ Some s → enabled k.options s (Deliver i) ≡ true → slice_get s.rest.inbox i ≡ Some (Lock m a t)
     → HasResult k n (Deliver i)
+
+-- that of a content that comes back, and of a value of a mutex that was dropped
+pub record MutexesHaveResults : Type 0 where
+  pub unlocks : (k : Cluster) (n i : ℕ) (s : Server) (m : MutexNo) (v : Owned) → IsSound k → server_at k.servers n ≡ Some s → enabled k.options s (Deliver i) ≡ true → slice_get s.rest.inbox i ≡ Some (Unlock m v)
+      → HasResult k n (Deliver i)
+  pub releases : (k : Cluster) (n i : ℕ) (s : Server) (m : MutexNo) → IsSound k → server_at k.servers n ≡ Some s → enabled k.options s (Deliver i) ≡ true → slice_get s.rest.inbox i ≡ Some (Release (Mutex m))
+      → HasResult k n (Deliver i)
 
 -- that of the end of a thread
 abbrev pub FinishesHaveResults : Type 0
