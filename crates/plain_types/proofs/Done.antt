@@ -74,3 +74,7 @@ module _ (s : Whole Position) (t : Thread Position) (p : Position) (wrap : Posit
       given = λ m. refl;
       made = λ u. subst (λ (b : Bool). (if is_over_in (thread_at s.threads u) then 0 else length (made_by s.heap u)) ≤ (if b then 0 else length (made_by heap u))) (sym (over_same u)) (less (is_over_in (thread_at s.threads u)) (length (made_by s.heap u)) (length (made_by heap u)) (grows u));
     }
+
+    -- how many objects it has made
+    pub made_here : (plain_state (record s { threads = with_thread s.threads (record { number = t.number; life = wrap q; slots = slots }); heap = heap; output = out })).made t.number ≡ length (made_by heap t.number)
+    made_here = ap (λ (b : Bool). if b then 0 else length (made_by heap t.number)) (ap is_over_in there ∙ not_over wrap goes q)

@@ -42,7 +42,7 @@ pub record Becomes (a2 : PlainState Position) (t : ℕ) (x2 : Running Position) 
   pub at : At typing a2 t x2 e ts g
 
 -- the hand gets another type
-rehung : (key : ℕ → Key) (rank : Key → ℕ) (a : Key) (e : List Slot) (E : KeyTypes) (s s2 : Store) (o o2 : Option Kind) (p : Exact) → ThreadKeys key rank a → ThreadTyped key rank a e E s o → Typed rank (with_type E a p) s2 → TempIs key (with_type E a p) a o2 → AreBelow (length e) (temp_places o2)
+pub rehung : (key : ℕ → Key) (rank : Key → ℕ) (a : Key) (e : List Slot) (E : KeyTypes) (s s2 : Store) (o o2 : Option Kind) (p : Exact) → ThreadKeys key rank a → ThreadTyped key rank a e E s o → Typed rank (with_type E a p) s2 → TempIs key (with_type E a p) a o2 → AreBelow (length e) (temp_places o2)
     → ((m : Bool) (u : Place) → p ≡ refers m u → u.key ≢ a) → ThreadTyped key rank a e (with_type E a p) s2 o2
 rehung key rank a e E s s2 o o2 p ks t typed temp names off = record {
   typed = typed;

@@ -1,6 +1,7 @@
 pub mod CodeRows
 pub mod Lower
 pub mod OneThread
+pub mod Marks
 pub mod Turned
 pub mod Changed
 pub mod Raised

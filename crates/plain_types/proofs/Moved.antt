@@ -63,7 +63,7 @@ flip_cases P a b q pa pb other = by (decide_location q a) (decide_location q b)
     by (inr e) (inr f) = other e f
 
 -- twice is not at all
-flip_twice : (a b q : Location) → flip a b (flip a b q) ≡ q
+pub flip_twice : (a b q : Location) → flip a b (flip a b q) ≡ q
 flip_twice a b q = flip_cases (λ z. flip a b (flip a b z) ≡ z) a b q (ap (flip a b) (flip_first a b) ∙ flip_second a b) (ap (flip a b) (flip_second a b) ∙ flip_first a b) (λ na nb. ap (flip a b) (flip_third a b q na nb) ∙ flip_third a b q na nb)
 
 -- COUNTED VALUES STAND AGAIN where the values of a key and of a location have changed places

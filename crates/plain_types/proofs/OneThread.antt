@@ -40,14 +40,18 @@ Counted (mutex_v m c) = ⊤
 Counted (task_v t r) = ⊤
 Counted _ = ⊥
 
--- each counted value stands again, at one place
-pub record Carried (s s2 : Store) : Type 0 where
+-- each value of these stands again, at one place
+pub record CarriedOf (Is : Val → Type 0) (s s2 : Store) : Type 0 where
   pub to : Location → Location
   pub from : Location → Location
   pub from_to : (l : Location) → from (to l) ≡ l
   pub to_from : (l : Location) → to (from l) ≡ l
-  pub there : (l : Location) (v : Val) → Counted v → value_at s l ≡ Some v → value_at s2 (to l) ≡ Some v
-  pub back : (l : Location) (v : Val) → Counted v → value_at s2 l ≡ Some v → value_at s (from l) ≡ Some v
+  pub there : (l : Location) (v : Val) → Is v → value_at s l ≡ Some v → value_at s2 (to l) ≡ Some v
+  pub back : (l : Location) (v : Val) → Is v → value_at s2 l ≡ Some v → value_at s (from l) ≡ Some v
+
+-- each counted value
+abbrev pub Carried : Store → Store → Type 0
+Carried s s2 = CarriedOf Counted s s2
 
 -- THE THREAD
 
@@ -241,12 +245,12 @@ has_pair a p t (through w r) = ((w.first, w.second), w.pair)
 
 -- MUTEXES
 
-module _ (s s2 : Store) (c : Carried s s2) where
-  pub share_there : (m : MutexNo) (l : Location) → IsShare s m l → IsShare s2 m (c.to l)
-  share_there m l h = (h.0, c.there l (mutex_v m h.0) tt h.1)
+module _ (Is : Val → Type 0) (s s2 : Store) (c : CarriedOf Is s s2) where
+  pub share_there : (m : MutexNo) → ((q : Tree) → Is (mutex_v m q)) → (l : Location) → IsShare s m l → IsShare s2 m (c.to l)
+  share_there m is l h = (h.0, c.there l (mutex_v m h.0) (is h.0) h.1)
 
-  pub share_back : (m : MutexNo) (l : Location) → IsShare s2 m l → IsShare s m (c.from l)
-  share_back m l h = (h.0, c.back l (mutex_v m h.0) tt h.1)
+  pub share_back : (m : MutexNo) → ((q : Tree) → Is (mutex_v m q)) → (l : Location) → IsShare s2 m l → IsShare s m (c.from l)
+  share_back m is l h = (h.0, c.back l (mutex_v m h.0) (is h.0) h.1)
 
   mapped : (ls : List Location) (i : ℕ) (l : Location) → slice_get (map c.to ls) i ≡ Some l → slice_get ls i ≡ Some (c.from l)
   mapped ls i l h = by (slice_get ls i) refl (sym (slice_get-map c.to ls i) ∙ h)
@@ -256,11 +260,11 @@ module _ (s s2 : Store) (c : Carried s s2) where
       by (Some q) e f = let g : c.to q ≡ l = cc in e ∙ ap Some (sym (c.from_to q) ∙ ap c.from g)
 
   -- as many values of a mutex stand
-  pub as_many : (m : MutexNo) (n : ℕ) → AreSoMany (IsShare s m) n → AreSoMany (IsShare s2 m) n
-  as_many m n h = record {
+  pub as_many : (m : MutexNo) → ((q : Tree) → Is (mutex_v m q)) → (n : ℕ) → AreSoMany (IsShare s m) n → AreSoMany (IsShare s2 m) n
+  as_many m is n h = record {
     places = map c.to h.places;
-    each = λ i l e. subst (IsShare s2 m) (c.to_from l) (share_there m (c.from l) (h.each i (c.from l) (mapped h.places i l e)));
-    all = λ l z. let f = h.all (c.from l) (share_back m l z) in (f.0, slice_get-map c.to h.places f.0 ∙ ap (option_map c.to) f.1 ∙ ap Some (c.to_from l));
+    each = λ i l e. subst (IsShare s2 m) (c.to_from l) (share_there m is (c.from l) (h.each i (c.from l) (mapped h.places i l e)));
+    all = λ l z. let f = h.all (c.from l) (share_back m is l z) in (f.0, slice_get-map c.to h.places f.0 ∙ ap (option_map c.to) f.1 ∙ ap Some (c.to_from l));
     once = λ i j l e f. h.once i j (c.from l) (mapped h.places i l e) (mapped h.places j l f);
     count = length-map h.places c.to ∙ h.count;
   }

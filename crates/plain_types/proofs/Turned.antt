@@ -14,7 +14,7 @@ use Rattle.fr_plain.specs.State.{slot_at}
 use Rattle.fr_plain.specs.PlainState.{Running, PlainState, place_in}
 use Rattle.fr_sound.specs.States.{Typing, RunningTyped, IsThread, hand_key, hand_kind, IsLock, WaitsAbove, IsNear, IsKept, IsBranch, thread_of_key, IsOwed}
 use Rattle.plain_types.specs.Positions.{Position, Knows, temps_of, PositionTypes}
-use Rattle.plain_types.proofs.OneThread.{store, typing_with, RunningCore, with_lower, other_by, differs_by, by_bool, touched, Turn, runs_still, kept_still, kept_before, none_ended, waits_same, near_same, has_pair}
+use Rattle.plain_types.proofs.OneThread.{store, typing_with, RunningCore, with_lower, same_by, other_by, differs_by, by_bool, touched, Turn, runs_still, kept_still, kept_before, none_ended, waits_same, near_same, has_pair}
 
 -- what isn't touched is not the thread's
 pub untouched_other : (t : ℕ) (k : Key) → touched t k ≡ false → thread_of_key k ≢ Some t
@@ -23,6 +23,14 @@ untouched_other t (temp_k u i) h e = let f : u ≡ t = cc in other_by u t h f
 untouched_other t (content_k a c) h e = cc
 untouched_other t (result_k u) h e = cc
 untouched_other t (hand_k u) h e = let f : u ≡ t = cc in other_by u t h f
+
+-- what is touched and refers is the thread's, where what isn't the thread's referred before: no content's type refers
+pub touched_own : (y : Typing) (a : PlainState Position) (t : ℕ) (k : Key) (m : Bool) (u : Place) → PositionTypes y a → touched t k ≡ true → (thread_of_key k ≢ Some t → y.exact k ≡ refers m u) → thread_of_key k ≡ Some t
+touched_own y a t (slot_k v i) m u st h is = ap Some (same_by v t h)
+touched_own y a t (temp_k v i) m u st h is = ap Some (same_by v t h)
+touched_own y a t (content_k z c) m u st h is = let n = st.near (content_k z c) m u (is (λ g. cc)) in let f = n.of in cc
+touched_own y a t (result_k v) m u st h is = cc
+touched_own y a t (hand_k v) m u st h is = ap Some (same_by v t h)
 
 module _ {y : Typing} {a a2 : PlainState Position} {t : ℕ} {x x2 : Running Position} {E2 : KeyTypes} {M2 : ℕ → ℕ → Location} (st : PositionTypes y a) (c : Turn y a a2 t x x2 E2 M2) where
   abbrev y2 : Typing

@@ -1,12 +1,12 @@
 -- Slots of an environment after one of its places has another part.
-use Rattle.std.proofs.Common.{◌≡◌, ◌≢◌, ◌∙◌, ℕ, zero, suc, ◌<◌, Bool, List, [], ◌∷◌, length, Option, Some, None, refl, sym, ap, subst, arith}
+use Rattle.std.proofs.Common.{◌≡◌, ◌∙◌, ℕ, zero, suc, Bool, [], ◌∷◌, length, Some, refl, sym, ap, subst}
 use Rattle.std.specs.Prelude.{◌==◌, if◌then◌else◌}
 use Rattle.fr_base.specs.declared.place.Lval.{Lval}
 use Rattle.fr_typing.proofs.PlaceLemmas.{eq_cases}
-use Rattle.fr_typing.specs.Kinds.{Owned, unit, int, box, mutex, task, Kind, own, shared, mutable, view, Piece, whole, gone, boxed, box_of, map_some}
+use Rattle.fr_typing.specs.Kinds.{Owned, unit, int, box, mutex, task, own, shared, mutable, view, Piece, whole, gone, boxed, box_of, map_some}
 use Rattle.fr_typing.specs.Places.{Slot, Env, found, type_at, put_under, put_at}
 use Rattle.fr_store.specs.Keys.{Key}
-use Rattle.fr_store.specs.Typed.{Tree, hole, unit_tree, int_tree, mutex_tree, task_tree, box_tree, owns, KeyTypes, tree_under}
+use Rattle.fr_store.specs.Typed.{Tree, hole, box_tree, KeyTypes, tree_under}
 use Rattle.fr_store.specs.Below.{tree_of, TreeOf, ExactOf, SlotsBelow}
 use Rattle.fr_store.proofs.PutAt.{length_put}
 use Rattle.fr_sound.specs.States.{env_at, part_at, part_of, owned_part, is_hidden}

@@ -6,3 +6,5 @@ pub mod Lets
 pub mod Envs
 pub mod Written
 pub mod Moves
+pub mod Sums
+pub mod Boxes

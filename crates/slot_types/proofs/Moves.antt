@@ -1,20 +1,20 @@
 -- Reads that move keep a state typed.
-use Rattle.std.proofs.Common.{◌≡◌, ◌≢◌, ◌⊎◌, inl, inr, ⊎_elim, ◌∙◌, ap₂, ℕ, zero, suc, ◌<◌, ◌≤◌, Bool, true, false, List, [], ◌∷◌, ◌++◌, length, Option, Some, None, refl, sym, ap, subst, arith}
+use Rattle.std.proofs.Common.{◌≡◌, ◌≢◌, ◌⊎◌, inl, inr, ⊎_elim, ◌∙◌, ap₂, ℕ, suc, ◌<◌, ◌≤◌, true, false, List, ◌∷◌, ◌++◌, length, Option, Some, None, refl, sym, ap, subst, arith}
 use Rattle.fr_base.specs.declared.label.Plain.{Plain}
 use Rattle.fr_base.specs.declared.label.Plain.TheVariants as plain
 use Rattle.fr_base.specs.declared.name.ObjNo.{ObjNo}
 use Rattle.fr_base.specs.declared.name.MutexNo.{MutexNo}
 use Rattle.fr_base.specs.declared.place.Lval.{Lval}
 use Rattle.fr_base.specs.declared.step.Fresh.TheVariants as fresh
-use Rattle.fr_typing.specs.Kinds.{Owned, unit, int, box, mutex, task, Kind, own, shared, mutable, view, Piece, whole, gone, copies}
-use Rattle.fr_typing.specs.Places.{Slot, Env, found, type_at, write_blocked, is_own_path, put_at, AreBelow}
+use Rattle.fr_typing.specs.Kinds.{Owned, unit, int, box, mutex, task, Kind, own, shared, mutable, view, whole, gone, copies}
+use Rattle.fr_typing.specs.Places.{Env, found, type_at, write_blocked, is_own_path, put_at}
 use Rattle.fr_typing.proofs.PlaceLemmas.{AreBelow-weaker}
-use Rattle.fr_store.specs.Keys.{Key, slot_k, temp_k}
+use Rattle.fr_store.specs.Keys.{Key, slot_k}
 use Rattle.fr_store.specs.Store.{locate as store_locate}
-use Rattle.fr_store.specs.Store.{Alike, Location, at_key, at_object, Val, gone_v, ref_v, Store, value_at, Place, put_value, swap}
+use Rattle.fr_store.specs.Store.{Alike, Location, at_key, Val, gone_v, ref_v, Store, value_at, put_value, swap}
 use Rattle.fr_store.specs.Changes.{SameButTwo, put_tree}
-use Rattle.fr_store.specs.Typed.{Tree, hole, Exact, owns, refers, KeyTypes, tree_under, exact_under, some_owns, Resolves, here, Fits, Typed, Unnamed}
-use Rattle.fr_store.specs.Below.{tree_of, ExactOf, TreeOf}
+use Rattle.fr_store.specs.Typed.{hole, owns, refers, KeyTypes, exact_under, some_owns, Resolves, here, Fits, Unnamed}
+use Rattle.fr_store.specs.Below.{tree_of, ExactOf}
 use Rattle.fr_store.specs.Rows.{with_type}
 use Rattle.fr_store.specs.Thread.{ThreadTyped, place_of}
 use Rattle.fr_store.proofs.Keys.{key_same, key_other, decide_key}
@@ -23,10 +23,10 @@ use Rattle.fr_store.proofs.Rows.{found_place, swap_own, move_ref, unnamed_with, 
 use Rattle.fr_store.proofs.Below.{Resolved, mut_place, resolved, slot_exact}
 use Rattle.fr_store.proofs.OwnPaths.{own_reference}
 use Rattle.fr_store.proofs.PutAt.{length_put, nested_put, places_found, slots_gone}
-use Rattle.fr_store.proofs.ThreadKept.{exact_owned, exact_with, known_tree, no_temp, ref_found, slots_with, unnamed_key, whole_exact, still_hole}
+use Rattle.fr_store.proofs.ThreadKept.{exact_owned, known_tree, no_temp, ref_found, slots_with, unnamed_key, whole_exact, still_hole}
 use Rattle.fr_plain.specs.declared.value.Value.{Value}
 use Rattle.fr_plain.specs.declared.value.Value.TheVariants.{Own, Held}
-use Rattle.fr_plain.specs.Heap.{Heap, made_by, cell_at}
+use Rattle.fr_plain.specs.Heap.{Heap, cell_at}
 use Rattle.fr_plain.specs.MachineActs.{do_read, read_did}
 use Rattle.fr_plain.specs.State.{State, Spot, in_slot, in_cell, owned, then_reached, slot_at, loads, stores, with_value}
 use Rattle.fr_plain.specs.State as machine
@@ -34,14 +34,14 @@ use Rattle.fr_plain.specs.MachineThreads.{Now, Move, Life, Thread, Whole as Mach
 use Rattle.fr_plain.specs.Machine.{prints, nameless, then_released, stepped}
 use Rattle.fr_plain.specs.PlainState.{Running, PlainState, place_in, plain_state}
 use Rattle.fr_sound.specs.Entries.{Entry, going}
-use Rattle.fr_sound.specs.Seen.{Gives, val_of, owned_val, seen_cell, location_of}
-use Rattle.fr_sound.specs.States.{Typing, owned_part, env_at, part_at, is_hidden, is_held, IsLock}
+use Rattle.fr_sound.specs.Seen.{val_of, seen_cell, location_of}
+use Rattle.fr_sound.specs.States.{Typing, owned_part, env_at, part_at, is_hidden, is_held}
 use Rattle.fr_code.specs.CodeTypes.{HasType, wait}
-use Rattle.plain_types.specs.Positions.{Position, PositionTypes, moves_by, StartsAs}
+use Rattle.plain_types.specs.Positions.{Position, moves_by, StartsAs}
 use Rattle.plain_types.specs.ActRows.{Leaves, loud, left_after, ActRow, r_move}
 use Rattle.plain_types.specs.Keeps.{Ready, StepsTyped, Keeps}
 use Rattle.plain_types.proofs.Lower.{seen_as}
-use Rattle.plain_types.proofs.OneThread.{store, typing_with, Carried}
+use Rattle.plain_types.proofs.OneThread.{store, typing_with}
 use Rattle.plain_types.proofs.Focus.{top_none, top_some, hand_at, Focus}
 use Rattle.plain_types.proofs.AtHand.{Only, mark_off}
 use Rattle.plain_types.proofs.Moved.{carried_swap, mark_off_owned}
@@ -52,8 +52,8 @@ use Rattle.plain_types.proofs.Operands.{steps_typed}
 use Rattle.plain_types.proofs.Places.{variable_below, variable_seen, leads, value_there, seen_val_of}
 use Rattle.plain_types.proofs.Borrows.{variable_clear}
 use Rattle.slot_types.specs.SlotActs.{IsMove}
-use Rattle.slot_types.proofs.Rethread.{IsOwn, Stood, Rekeyed, rethread}
-use Rattle.slot_types.proofs.SlotTurn.{slot_two, temp_two, slot_one, temp_one, same_two, alike_swap, SlotTurn, slots_changed}
+use Rattle.slot_types.proofs.Rethread.{Stood, rethread}
+use Rattle.slot_types.proofs.SlotTurn.{slot_two, temp_two, same_two, alike_swap, slots_changed}
 use Rattle.slot_types.proofs.Lets.{owned_in, lock_with}
 use Rattle.slot_types.proofs.OwnPaths.{own_part, swapped_types, swapped_refs, own_swapped}
 use Rattle.slot_types.proofs.Envs.{hidden_put, owned_put, part_exact, part_type, owned_under}

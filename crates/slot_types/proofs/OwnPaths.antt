@@ -1,24 +1,24 @@
 -- What stands under a variable's own boxes and what is at hand change places: the types of both, and of the thread's slots.
-use Rattle.std.proofs.Common.{◌≡◌, ◌≢◌, ◌⊎◌, inl, inr, ⊎_elim, ◌∙◌, ℕ, zero, suc, ◌<◌, ◌≤◌, Bool, true, false, List, [], ◌∷◌, length, Option, Some, None, refl, sym, ap, subst, arith}
+use Rattle.std.proofs.Common.{◌≡◌, inl, ◌∙◌, ℕ, zero, suc, ◌<◌, ◌≤◌, Bool, true, false, List, [], ◌∷◌, length, Option, Some, None, refl, sym, ap, subst, arith}
 use Rattle.std.specs.Prelude.{◌||◌, not, if◌then◌else◌}
 use Rattle.fr_base.specs.declared.place.Lval.{Lval}
 use Rattle.fr_typing.proofs.PlaceLemmas.{eq_cases}
-use Rattle.fr_typing.specs.Kinds.{unit, int, box, mutex, task, Kind, own, shared, mutable, view, Piece, whole, gone, boxed, box_of, Owned}
-use Rattle.fr_typing.specs.Places.{Slot, Env, Found, found, type_at, on_path, is_lent, is_mutable, is_own_path, put_under, put_at, AreBelow, piece_places}
+use Rattle.fr_typing.specs.Kinds.{unit, int, box, mutex, task, Kind, own, shared, mutable, view, Piece, whole, gone, boxed, box_of}
+use Rattle.fr_typing.specs.Places.{Slot, Found, found, type_at, on_path, is_lent, is_mutable, is_own_path, put_under, put_at, AreBelow, piece_places}
 use Rattle.fr_store.specs.Keys.{Key}
-use Rattle.fr_store.specs.Store.{Alike, Store, Place, swap, Location, at_key}
-use Rattle.fr_store.specs.Typed.{Tree, hole, unit_tree, int_tree, mutex_tree, task_tree, box_tree, WholeTree, Exact, owns, refers, KeyTypes, tree_under, exact_under, Resolves, here, through, Typed, Unnamed}
+use Rattle.fr_store.specs.Store.{Store, Place}
+use Rattle.fr_store.specs.Typed.{Tree, box_tree, Exact, owns, refers, KeyTypes, tree_under, exact_under, Resolves, here, through, Typed, Unnamed}
 use Rattle.fr_store.specs.Changes.{put_tree}
 use Rattle.fr_store.specs.Below.{tree_of, TreeOf, ExactOf, SlotsBelow, Apart}
 use Rattle.fr_store.specs.Rows.{with_type}
 use Rattle.fr_store.specs.Thread.{TempIs, temp_places, ThreadKeys, ThreadTyped}
-use Rattle.fr_store.proofs.Keys.{decide_key, key_same, key_other}
+use Rattle.fr_store.proofs.Keys.{key_same, key_other}
 use Rattle.fr_store.proofs.Frame.{part_owns}
-use Rattle.fr_store.proofs.Rows.{unnamed_with, same_store}
+use Rattle.fr_store.proofs.Rows.{unnamed_with}
 use Rattle.fr_store.proofs.Below.{or_false}
 use Rattle.fr_store.proofs.PutAt.{length_put, nested_put}
-use Rattle.fr_store.proofs.ThreadKept.{exact_with, known_tree, lent_ref, slots_with, whole_tree}
-use Rattle.slot_types.proofs.Rethread.{IsOwn, Rekeyed, rethread}
+use Rattle.fr_store.proofs.ThreadKept.{exact_with, known_tree, lent_ref, slots_with}
+use Rattle.slot_types.proofs.Rethread.{rethread}
 
 -- OWN PATHS
 

@@ -1,16 +1,16 @@
 -- A spot of a thread's slots and heap has another value: what stands where.
-use Rattle.std.proofs.Common.{◌≡◌, ◌≢◌, ◌⊎◌, inl, inr, ⊎_elim, ◌∙◌, ℕ, suc, ◌<◌, ◌≤◌, Bool, true, false, List, [], ◌∷◌, length, Option, Some, None, refl, sym, ap, subst, arith}
+use Rattle.std.proofs.Common.{◌≡◌, ◌≢◌, ⊎_elim, ◌∙◌, ℕ, true, false, List, [], ◌∷◌, length, Option, Some, None, refl, sym, ap}
 use Rattle.std.specs.Prelude.{◌==◌, if◌then◌else◌}
 use Rattle.fr_base.specs.declared.label.Plain.{Plain}
 use Rattle.fr_base.specs.declared.name.ObjNo.{ObjNo}
 use Rattle.fr_base.specs.declared.name.MutexNo.{MutexNo}
 use Rattle.fr_typing.proofs.PlaceLemmas.{eq_cases}
 use Rattle.fr_store.specs.Keys.{slot_k}
-use Rattle.fr_store.specs.Store.{Location, at_key, at_object}
+use Rattle.fr_store.specs.Store.{at_key, at_object}
 use Rattle.fr_store.proofs.Keys.{decide_number, decide_object}
 use Rattle.fr_plain.specs.declared.value.Value.{Value}
 use Rattle.fr_plain.specs.declared.value.Value.TheVariants.{Own, Held}
-use Rattle.fr_plain.specs.Heap.{Heap, made_by, cell_at, with_cell}
+use Rattle.fr_plain.specs.Heap.{Heap, made_by, cell_at}
 use Rattle.fr_plain.specs.State.{State, Spot, in_slot, in_cell, owned, slot_at, with_slot, cell_of, with_value}
 use Rattle.fr_plain.specs.State as machine
 use Rattle.fr_plain.proofs.HeapLemmas.{live_made, made_kept, cell_same, cell_other}
