@@ -25,7 +25,7 @@ abbrev handed : Cluster → ℕ → Server → Server × EntryView → Cluster �
 handed k n s d = (record k { servers = hand_over_newer n (length s.rest.outbox) d.0 k.servers }, d.1)
 
 -- where it has a result at its server it has one
-applied : (k : Cluster) (n : ℕ) (w : What) (s : Server) → server_at k.servers n ≡ Some s → enabled k.options s w ≡ true → IsSome (does k.code k.options s w) → HasResult k n w
+pub applied : (k : Cluster) (n : ℕ) (w : What) (s : Server) → server_at k.servers n ≡ Some s → enabled k.options s w ≡ true → IsSome (does k.code k.options s w) → HasResult k n w
 applied k n w s here on h =
     subst (λ (o : Option Server). IsSome {T = Cluster × EntryView} (then_some o (λ z. option_map (handed k n z) (if enabled k.options z w then does k.code k.options z w else None)))) (sym here)
     (some_map (handed k n s) (if enabled k.options s w then does k.code k.options s w else None) (some_if (enabled k.options s w) (does k.code k.options s w) on h))

@@ -71,3 +71,5 @@ pub mod NotesFound
 pub mod FinishResults
 pub mod TaskResults
 pub mod MutexResults
+pub mod Elsewhere
+pub mod MigrateResults

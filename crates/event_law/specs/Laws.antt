@@ -13,6 +13,7 @@ use Rattle.server_msgs.specs.declared.message.Message.TheVariants.{Lock, Granted
 use Rattle.server_model.specs.declared.event.Event.{Event}
 use Rattle.server_model.specs.declared.event.What.{What}
 use Rattle.server_model.specs.declared.event.What.TheVariants.{Deliver, Evict}
+use Rattle.server_model.specs.declared.event.What.TheVariants as what
 use Rattle.server_model.specs.Servers.{Sent, Server, Cluster, server_at, start_of}
 use Rattle.server_model.specs.Events.{enabled}
 use Rattle.server_model.specs.Clusters.{with_server, with_outbox, hand_over_newer, done_at, act_at, apply}
@@ -163,7 +164,11 @@ abbrev pub ParcelsHaveResults : Type 0
 ParcelsHaveResults =
     (k : Cluster) (n i : ℕ) (s : Server) (t : ThreadState) → server_at k.servers n ≡ Some s → enabled k.options s (Deliver i) ≡ true → slice_get s.rest.inbox i ≡ Some (Migrate t) → HasResult k n (Deliver i)
 
--- that of a `lock`, in a sound cluster
+-- a migration that is enabled, in a sound cluster
+abbrev pub MigrationsHaveResults : Type 0
+MigrationsHaveResults = (k : Cluster) (n t target : ℕ) (s : Server) → IsSound k → server_at k.servers n ≡ Some s → enabled k.options s (what.Migrate t target) ≡ true → HasResult k n (what.Migrate t target)
+
+-- the delivery of a `lock`, in a sound cluster
 abbrev pub LocksHaveResults : Type 0
 LocksHaveResults =
     (k : Cluster) (n i : ℕ) (s : Server) (m : MutexNo) (a t : ℕ) → IsSound k → server_at k.servers n ≡ Some s → enabled k.options s (Deliver i) ≡ true → slice_get s.rest.inbox i ≡ Some (Lock m a t)

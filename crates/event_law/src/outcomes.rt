@@ -1,6 +1,6 @@
 //! That an event that is enabled has a result.
 
-ghost use Rattle.event_law.specs.Laws.{AnswersHaveResults, EvictionsHaveResults, FinishesHaveResults, JoinsHaveResults, LocksHaveResults, MutexesHaveResults, ParcelsHaveResults, StartsHaveResults, TasksLetGoHaveResults};
+ghost use Rattle.event_law.specs.Laws.{AnswersHaveResults, EvictionsHaveResults, FinishesHaveResults, JoinsHaveResults, LocksHaveResults, MigrationsHaveResults, MutexesHaveResults, ParcelsHaveResults, StartsHaveResults, TasksLetGoHaveResults};
 
 /// The eviction of a copy that nobody uses, and the delivery of a thread, in whatever cluster.
 pub fn leaving_and_arriving()
@@ -29,4 +29,9 @@ pub fn tasks()
     ensures finished { FinishesHaveResults }
     ensures joined { JoinsHaveResults }
     ensures let_go { TasksLetGoHaveResults }
+{}
+
+/// A migration that is enabled, in a sound cluster.
+pub fn moving()
+    ensures { MigrationsHaveResults }
 {}
