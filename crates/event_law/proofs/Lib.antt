@@ -66,7 +66,6 @@ pub mod TurnEvents
 pub mod HaveResults
 pub mod StandsHere
 pub mod AnswerResults
-pub mod LockResults
 pub mod NotesFound
 pub mod FinishResults
 pub mod TaskResults

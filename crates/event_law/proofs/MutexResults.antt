@@ -1,5 +1,6 @@
--- In a sound cluster the delivery of an `unlock`, and that of the `release` of a mutex, has a result: the mutex is there, without its content or with a share.
-use Rattle.std.proofs.Common.{◌≡◌, ℕ, ◌+◌, ◌≤◌, ◌<◌, ◌==◌, ◌&&◌, nat_lt, Bool, true, false, if◌then◌else◌, List, [], ◌∷◌, Option, Some, None, IsSome, refl, sym, ap, subst, ◌∙◌, arith}
+-- In a sound cluster the deliveries of a `lock`, of an `unlock` and of the `release` of a mutex have results: the mutex is there, without its content where that
+-- comes back, and with a share where one was dropped.
+use Rattle.std.proofs.Common.{◌≡◌, ℕ, zero, suc, ◌+◌, ◌≤◌, ◌<◌, ◌==◌, ◌&&◌, nat_lt, Bool, true, false, if◌then◌else◌, List, [], ◌∷◌, Option, Some, None, IsSome, refl, sym, ap, subst, ◌∙◌, arith}
 use Rattle.std.specs.Prelude.{slice_get}
 use Rattle.std.proofs.lemmas.Bool.{eqb-true}
 use Rattle.std.proofs.lemmas.Bool.Decides.{nat_tests}
@@ -8,31 +9,30 @@ use Rattle.fr_base.specs.Names.{same_mutex}
 use Rattle.fr_base.specs.declared.name.MutexNo.{MutexNo}
 use Rattle.fr_base.specs.declared.release.Released.TheVariants as released
 use Rattle.heap_partition.specs.declared.value.Owned.{Owned}
-use Rattle.mutex_home.specs.Mutexes.{Mutex, Mutexes, mutex_in, back_out, back_in, less_in}
+use Rattle.mutex_home.specs.Mutexes.{Mutex, Mutexes, mutex_in, asked_in, back_out, back_in, less_in}
 use Rattle.join_home.specs.Tasks.{Task}
 use Rattle.thread_state.specs.View.{ThreadState}
 use Rattle.server_msgs.specs.declared.message.Message.{Message}
 use Rattle.server_msgs.specs.declared.message.Message.TheVariants as message
 use Rattle.server_model.specs.Servers.{Server, Cluster, server_at}
-use Rattle.heap_law.specs.Names.{tot, one, other, if_so}
-use Rattle.heap_law.specs.Things.{Thing, sent, at_home, things_at, content_things, queue_things, mutex_things, task_things, standing_things, thread_things, waiting_things, leaving_things, message_things, server_things, servers_things, things_of}
+use Rattle.heap_law.specs.Names.{tot, one, other, some, if_so}
+use Rattle.heap_law.specs.Things.{Thing, sent, at_home, things_at, content_things, queue_things, mutex_things, task_things, standing_things, thread_things, waiting_things, leaving_things, message_things, server_things, things_of}
 use Rattle.heap_law.specs.Sight.{sight}
 use Rattle.heap_law.specs.Weights.{is_home_of, shares_of, shares_at_home}
-use Rattle.heap_law.specs.Sharing.{elsewhere, contents}
+use Rattle.heap_law.specs.Sharing.{elsewhere, contents, there_at, mutexes}
 use Rattle.heap_law.specs.Requests.{misrouted}
 use Rattle.heap_law.specs.Naming.{rising, rising_from, numbers_of, servers_wrong, pinned_parcel}
 use Rattle.heap_law.specs.Walking.{sum_threads}
 use Rattle.heap_law.specs.Coherent.{IsSound}
 use Rattle.heap_law.proofs.Names.{and_right, same_mutexes}
 use Rattle.heap_law.proofs.Sums.{tot-append, server_parts}
-use Rattle.event_law.specs.Sums.{is_server}
 use Rattle.event_law.specs.Laws.{MutexesHaveResults}
 use Rattle.event_law.proofs.Trades.{tot-front, tot-remove}
-use Rattle.event_law.proofs.Events.{others_of, tot-server}
+use Rattle.event_law.proofs.Events.{tot-server}
 use Rattle.event_law.proofs.Unseen.{Unseen, none_at, thread_alone, content_none, result_none, partition_none, copies_none}
 use Rattle.event_law.proofs.MutexLists.{found_number, mutex_goes}
 use Rattle.event_law.proofs.Askers.{other_none}
-use Rattle.event_law.proofs.Sound.{server_once, sound_has_sums}
+use Rattle.event_law.proofs.Elsewhere.{here_alone}
 use Rattle.event_law.proofs.HaveResults.{some_map, arrives}
 use Rattle.event_law.proofs.NotesFound.{below}
 
@@ -98,17 +98,6 @@ module _ (m : MutexNo) (n : ℕ) (h : Mutex → ℕ) where
   no_server s e =
       let r = s.rest.number in
       omega (arith, mutexes_alone s, none_at here r (unseen r) (mutex_things r) (λ i x. omega (arith, mutex_seen r i x, if_false (r == n) (if_so (same_mutex x.number m) (h x)) e)) 0 s.rest.mutexes.there)
-
-  not_there : (b : Bool) → one b ≡ 0 → b ≡ false
-  not_there true e = absurd (cc e)
-  not_there false e = refl
-
-  others_none : (ss : List Server) → tot (is_server n) (servers_things ss) ≡ 0 → tot here (servers_things ss) ≡ 0
-  others_none [] e = refl
-  others_none (s ∷ ss) e =
-      let a = tot-append (is_server n) (server_things s) (servers_things ss) in
-      let first : one (s.rest.number == n) ≡ 0 = omega (arith, e, a, server_once n s) in
-      omega (arith, no_server s (not_there (s.rest.number == n) first), others_none ss (omega (arith, e, a)), tot-append here (server_things s) (servers_things ss))
 
   -- AT HOME
 
@@ -197,15 +186,9 @@ module _ (k : Cluster) (sound : IsSound k) (number : ℕ) (s : Server) (at : ser
   -- a mutex of this home weighs everywhere what the one that is found here does
   pub mutex_weighs : (m : MutexNo) (h : Mutex → ℕ) → m.home ≡ n → tot (weighed m n h) (things_of k) ≡ Weight m n h (mutex_in s.rest.mutexes.there m)
   mutex_weighs m h home =
-      let f = here m n h in
-      let sums = sound_has_sums k sound in
-      let split = tot-server f k.servers number s s at in
-      let counts = tot-server (is_server n) k.servers number s s at in
-      let mine : one (n == n) ≡ 1 = eq_cases (λ b. one b ≡ 1) n n (λ e. refl) (λ ne. absurd (ne refl)) in
-      let others = others_none m n h (others_of k.servers number) (omega (arith, sums.servers_differ n, counts.0, server_once n s, mine)) in
       let away : tot elsewhere (things_of k) ≡ 0 = sound.mutexes_and_tasks.at_their_home in
       let parts : servers_wrong (sight k) 0 k.servers + sum_threads (sight k) pinned_parcel ≡ 0 = sound.parts.parts_are_typed in
-      omega (arith, all_at_home m n h home (things_of k) away, split.0, others, mutexes_alone m n h s, found m n h n s.rest.mutexes.there refl (mutexes_rise (sight k) 0 number k.servers s (omega (arith, parts)) at))
+      omega (arith, all_at_home m n h home (things_of k) away, here_alone k sound number s at (here m n h) (no_server m n h), mutexes_alone m n h s, found m n h n s.rest.mutexes.there refl (mutexes_rise (sight k) 0 number k.servers s (omega (arith, parts)) at))
 
   module _ (i : ℕ) (x : Message) (q : slice_get s.rest.inbox i ≡ Some x) where
     has : (g : Thing → ℕ) → tot g (message_things n x) ≤ tot g (things_of k)
@@ -216,6 +199,42 @@ module _ (k : Cluster) (sound : IsSound k) (number : ℕ) (s : Server) (at : ser
         let all : tot (misrouted (sight k)) (things_of k) ≡ 0 = sound.requests.go_right in
         let mine : misrouted (sight k) (sent n x) ≡ 0 = omega (arith, all, has (misrouted (sight k))) in
         eqb-true m.home n (and_right (nat_lt n k.options.servers) (m.home == n) (other_none _ (omega (arith, e, mine))))
+
+  -- A CONTENT IS ASKED FOR
+
+  there_once : (r : ℕ) (m : MutexNo) (b : List Thing) → tot (there_at r m) b ≤ tot (weighed m n (λ x. 1)) b
+  there_once r m [] = omega arith
+  there_once r m (x ∷ b) = omega (arith, by x, there_once r m b)
+    where
+      at_most : (c d : Bool) → one (c && d) ≤ if_so d 1
+      at_most true true = omega arith
+      at_most true false = omega arith
+      at_most false true = omega arith
+      at_most false false = omega arith
+
+      by : (x : Thing) → there_at r m x ≤ weighed m n (λ y. 1) x
+      by (at_home p y) = at_most (p == r) (same_mutex y.number m)
+      by _ = omega arith
+
+  asked_some : (ms : Mutexes) (a t : ℕ) (m : MutexNo) (o : Option Mutex) → 1 ≤ Weight m n (λ y. 1) o → IsSome (asked_in ms a t o)
+  asked_some ms a t m None l = absurd (omega (arith, l))
+  asked_some ms a t m (Some y) l = refl
+
+  some_more : (c : ℕ) → some c ≡ true → 1 ≤ c
+  some_more c e = by c e
+    where
+      by : (c : ℕ) → some c ≡ true → 1 ≤ c
+      by zero e = absurd (cc e)
+      by (suc c) e = omega arith
+
+  locked_some : (i : ℕ) (m : MutexNo) (a t : ℕ) → slice_get s.rest.inbox i ≡ Some (message.Lock m a t) → IsSome (asked_in s.rest.mutexes a t (mutex_in s.rest.mutexes.there m))
+  locked_some i m a t q =
+      let x = message.Lock m a t in
+      let g = mutexes (λ y. other (some (tot (there_at y.home y) (things_of k)))) in
+      let all : tot g (things_of k) ≡ 0 = sound.mutexes_and_tasks.named_are_there in
+      let mine : other (some (tot (there_at m.home m) (things_of k))) ≡ 0 = omega (arith, all, has i x q g) in
+      asked_some s.rest.mutexes a t m (mutex_in s.rest.mutexes.there m)
+      (omega (arith, some_more (tot (there_at m.home m) (things_of k)) (other_none _ mine), there_once m.home m (things_of k), mutex_weighs m (λ y. 1) (home i x q m refl)))
 
   -- A SHARE LESS
 
@@ -305,6 +324,7 @@ module _ (k : Cluster) (sound : IsSound k) (number : ℕ) (s : Server) (at : ser
 
 pub mutexes_have_results : MutexesHaveResults
 mutexes_have_results = record {
+  locks = λ k number i s m a t sound here on q. arrives k number i s (message.Lock m a t) here on q (some_map _ _ (some_map _ _ (locked_some k sound number s here i m a t q)));
   unlocks = λ k number i s m v sound here on q. arrives k number i s (message.Unlock m v) here on q (some_map _ _ (some_map _ _ (unlocked_some k sound number s here i m v q)));
   releases = λ k number i s m sound here on q. arrives k number i s (message.Release (released.Mutex m)) here on q (some_map _ _ (some_map _ _ (released_some k sound number s here i m q)));
 }

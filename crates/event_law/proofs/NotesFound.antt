@@ -9,7 +9,7 @@ use Rattle.server_msgs.specs.declared.message.Message.{Message}
 use Rattle.server_msgs.specs.declared.message.Message.TheVariants as message
 use Rattle.server_model.specs.Servers.{Server, Cluster, server_at}
 use Rattle.heap_law.specs.Names.{tot, one, other, if_so}
-use Rattle.heap_law.specs.Things.{Thing, noted, things_at, content_things, queue_things, mutex_things, task_things, standing_things, thread_things, waiting_things, leaving_things, message_things, server_things, servers_things, things_of}
+use Rattle.heap_law.specs.Things.{Thing, noted, things_at, content_things, queue_things, mutex_things, task_things, standing_things, thread_things, waiting_things, leaving_things, message_things, server_things, things_of}
 use Rattle.heap_law.specs.Requests.{home_of}
 use Rattle.heap_law.specs.Sharing.{noted_away}
 use Rattle.heap_law.specs.Sight.{sight}
@@ -17,11 +17,9 @@ use Rattle.heap_law.specs.Naming.{rising, rising_from, numbers_of, servers_wrong
 use Rattle.heap_law.specs.Walking.{sum_threads}
 use Rattle.heap_law.specs.Coherent.{IsSound}
 use Rattle.heap_law.proofs.Sums.{tot-append, server_parts}
-use Rattle.event_law.specs.Sums.{is_server}
 use Rattle.event_law.proofs.Trades.{tot-front}
-use Rattle.event_law.proofs.Events.{others_of, tot-server}
 use Rattle.event_law.proofs.Unseen.{Unseen, none_at, thread_alone, content_none, result_none, partition_none, copies_none}
-use Rattle.event_law.proofs.Sound.{server_once, sound_has_sums}
+use Rattle.event_law.proofs.Elsewhere.{here_alone}
 use Rattle.event_law.proofs.FinishSteps.{notes_rise}
 
 pub below : (m n : ℕ) → other (nat_lt m n) ≡ 0 → m < n
@@ -91,17 +89,6 @@ module _ (u n : ℕ) (h : TaskState → Bool) where
       let r = s.rest.number in
       omega (arith, notes_alone s, none_at here r (unseen r) (task_things r) (λ i x. omega (arith, task_seen r i x, if_false (r == n) (one (x.thread == u && h x.state)) e)) 0 s.rest.tasks)
 
-  not_there : (b : Bool) → one b ≡ 0 → b ≡ false
-  not_there true e = absurd (cc e)
-  not_there false e = refl
-
-  others_none : (ss : List Server) → tot (is_server n) (servers_things ss) ≡ 0 → tot here (servers_things ss) ≡ 0
-  others_none [] e = refl
-  others_none (s ∷ ss) e =
-      let a = tot-append (is_server n) (server_things s) (servers_things ss) in
-      let first : one (s.rest.number == n) ≡ 0 = omega (arith, e, a, server_once n s) in
-      omega (arith, elsewhere s (not_there (s.rest.number == n) first), others_none ss (omega (arith, e, a)), tot-append here (server_things s) (servers_things ss))
-
   -- IN A LIST BY RISING NUMBER
 
   abbrev pub Noted : List Task → Type 0
@@ -163,12 +150,6 @@ module _ (k : Cluster) (sound : IsSound k) (number : ℕ) (s : Server) (at : ser
   pub note_found : (u : ℕ) (h : TaskState → Bool) → home_of u ≡ s.rest.number → 1 ≤ tot (note u s.rest.number h) (things_of k) → Noted u s.rest.number h s.rest.tasks
   note_found u h home l =
       let n = s.rest.number in
-      let f = here u n h in
-      let sums = sound_has_sums k sound in
-      let split = tot-server f k.servers number s s at in
-      let counts = tot-server (is_server n) k.servers number s s at in
-      let mine : one (n == n) ≡ 1 = eq_cases (λ b. one b ≡ 1) n n (λ e. refl) (λ ne. absurd (ne refl)) in
-      let others = others_none u n h (others_of k.servers number) (omega (arith, sums.servers_differ n, counts.0, server_once n s, mine)) in
       let away : tot noted_away (things_of k) ≡ 0 = sound.mutexes_and_tasks.noted_at_home in
       let parts : servers_wrong (sight k) 0 k.servers + sum_threads (sight k) pinned_parcel ≡ 0 = sound.parts.parts_are_typed in
-      found u n h n s.rest.tasks (notes_rise (sight k) 0 number k.servers s (omega (arith, parts)) at) (omega (arith, l, all_home u n h home (things_of k), away, split.0, others, notes_alone u n h s))
+      found u n h n s.rest.tasks (notes_rise (sight k) 0 number k.servers s (omega (arith, parts)) at) (omega (arith, l, all_home u n h home (things_of k), away, here_alone k sound number s at (here u n h) (elsewhere u n h), notes_alone u n h s))

@@ -8,18 +8,18 @@ use Rattle.server_msgs.specs.declared.message.Message.TheVariants as message
 use Rattle.server_model.specs.Servers.{Server, Cluster, server_at}
 use Rattle.server_model.specs.Work.{thread_in}
 use Rattle.heap_law.specs.Names.{tot, one, other, if_so}
-use Rattle.heap_law.specs.Things.{Thing, stands, message_things, waiting_things, leaving_things, standing_things, thread_things, server_things, servers_things, things_of}
+use Rattle.heap_law.specs.Things.{Thing, stands, message_things, waiting_things, leaving_things, standing_things, thread_things, server_things, things_of}
 use Rattle.heap_law.specs.Follow.{Standing, threads_in, thread_at}
 use Rattle.heap_law.specs.Weights.{is_thread}
 use Rattle.heap_law.specs.Requests.{in_server, in_phase, is_got, early_gift}
 use Rattle.heap_law.specs.Walking.{is_ready, busy_parcel}
 use Rattle.heap_law.specs.Coherent.{IsSound}
-use Rattle.heap_law.proofs.Sums.{tot-append, server_parts}
-use Rattle.event_law.specs.Sums.{is_server}
+use Rattle.heap_law.proofs.Sums.{server_parts}
 use Rattle.event_law.proofs.Bags.{all_standing}
-use Rattle.event_law.proofs.Events.{others_of, tot-server}
+use Rattle.event_law.proofs.Events.{tot-server}
 use Rattle.event_law.proofs.Unseen.{Unseen, Unnoted, none_at, thread_alone, seen_of}
-use Rattle.event_law.proofs.Sound.{server_once, sound_has_sums}
+use Rattle.event_law.proofs.Sound.{sound_has_sums}
+use Rattle.event_law.proofs.Elsewhere.{here_alone}
 
 -- it stands at that server, unpacked, in such a phase and without a gift
 abbrev pub is_bare : ℕ → (Phase → Bool) → ℕ → Bool → ThreadState → Bool
@@ -88,17 +88,6 @@ module _ (n t : ℕ) (f : Phase → Bool) where
       by i x q =
           let w : one (x.number == t && is_bare n f s.rest.number false x) ≡ one (x.number == t && (false && (true && (f x.phase && not (is_some x.gift))))) = ap (λ b. one (x.number == t && (b && (true && (f x.phase && not (is_some x.gift)))))) e in
           omega (arith, q, w, one_none (x.number == t) (true && (f x.phase && not (is_some x.gift))))
-
-  not_there : (b : Bool) → one b ≡ 0 → b ≡ false
-  not_there true e = absurd (cc e)
-  not_there false e = refl
-
-  others_none : (ss : List Server) → tot (is_server n) (servers_things ss) ≡ 0 → tot bare (servers_things ss) ≡ 0
-  others_none [] e = refl
-  others_none (s ∷ ss) e =
-      let a = tot-append (is_server n) (server_things s) (servers_things ss) in
-      let here : one (s.rest.number == n) ≡ 0 = omega (arith, e, a, server_once n s) in
-      omega (arith, elsewhere s (not_there (s.rest.number == n) here), others_none ss (omega (arith, e, a)), tot-append bare (server_things s) (servers_things ss))
 
   -- the one that is found among those that stand there
   among_ones : (c d : Bool) → one (c && d) ≤ one c
@@ -183,10 +172,6 @@ module _ (k : Cluster) (sound : IsSound k) (number : ℕ) (s : Server) (here : s
       by (Some x) e a p =
           let there : FoundBare n t f (thread_at (threads_in (things_of k)) t) ≡ true = subst (λ o. FoundBare n t f o ≡ true) (sym e) (bare_one x e a p) in
           let some = counted n t f (things_of k) there in
-          let split = tot-server (bare n t f) k.servers number s s here in
-          let counts = tot-server (is_server n) k.servers number s s here in
           let sums = sound_has_sums k sound in
-          let mine : one (n == n) ≡ 1 = eq_cases (λ b. one b ≡ 1) n n (λ e. refl) (λ ne. absurd (ne refl)) in
-          let others = others_none n t f (others_of k.servers number) (omega (arith, sums.servers_differ n, counts.0, server_once n s, mine)) in
           let few : tot (is_thread t) (all_standing n s.threads) ≤ 1 = omega (arith, sums.numbers_differ t, (tot-server (is_thread t) k.servers number s s here).0, server_parts (is_thread t) s) in
-          found n t f s.threads (omega (arith, some, split.0, others, standing_alone n t f s)) few
+          found n t f s.threads (omega (arith, some, here_alone k sound number s here (bare n t f) (elsewhere n t f), standing_alone n t f s)) few

@@ -168,14 +168,10 @@ ParcelsHaveResults =
 abbrev pub MigrationsHaveResults : Type 0
 MigrationsHaveResults = (k : Cluster) (n t target : ℕ) (s : Server) → IsSound k → server_at k.servers n ≡ Some s → enabled k.options s (what.Migrate t target) ≡ true → HasResult k n (what.Migrate t target)
 
--- the delivery of a `lock`, in a sound cluster
-abbrev pub LocksHaveResults : Type 0
-LocksHaveResults =
-    (k : Cluster) (n i : ℕ) (s : Server) (m : MutexNo) (a t : ℕ) → IsSound k → server_at k.servers n ≡ Some s → enabled k.options s (Deliver i) ≡ true → slice_get s.rest.inbox i ≡ Some (Lock m a t)
-    → HasResult k n (Deliver i)
-
--- that of a content that comes back, and of a value of a mutex that was dropped
+-- the delivery of a `lock`, of a content that comes back, and of a value of a mutex that was dropped, in a sound cluster
 pub record MutexesHaveResults : Type 0 where
+  pub locks : (k : Cluster) (n i : ℕ) (s : Server) (m : MutexNo) (a t : ℕ) → IsSound k → server_at k.servers n ≡ Some s → enabled k.options s (Deliver i) ≡ true → slice_get s.rest.inbox i ≡ Some (Lock m a t)
+      → HasResult k n (Deliver i)
   pub unlocks : (k : Cluster) (n i : ℕ) (s : Server) (m : MutexNo) (v : Owned) → IsSound k → server_at k.servers n ≡ Some s → enabled k.options s (Deliver i) ≡ true → slice_get s.rest.inbox i ≡ Some (Unlock m v)
       → HasResult k n (Deliver i)
   pub releases : (k : Cluster) (n i : ℕ) (s : Server) (m : MutexNo) → IsSound k → server_at k.servers n ≡ Some s → enabled k.options s (Deliver i) ≡ true → slice_get s.rest.inbox i ≡ Some (Release (Mutex m))

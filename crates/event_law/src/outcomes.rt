@@ -1,6 +1,6 @@
 //! That an event that is enabled has a result.
 
-ghost use Rattle.event_law.specs.Laws.{AnswersHaveResults, EvictionsHaveResults, FinishesHaveResults, JoinsHaveResults, LocksHaveResults, MigrationsHaveResults, MutexesHaveResults, ParcelsHaveResults, StartsHaveResults, TasksLetGoHaveResults};
+ghost use Rattle.event_law.specs.Laws.{AnswersHaveResults, EvictionsHaveResults, FinishesHaveResults, JoinsHaveResults, MigrationsHaveResults, MutexesHaveResults, ParcelsHaveResults, StartsHaveResults, TasksLetGoHaveResults};
 
 /// The eviction of a copy that nobody uses, and the delivery of a thread, in whatever cluster.
 pub fn leaving_and_arriving()
@@ -14,12 +14,7 @@ pub fn giving()
     ensures { AnswersHaveResults }
 {}
 
-/// The delivery of a `lock`, in a sound cluster.
-pub fn locking()
-    ensures { LocksHaveResults }
-{}
-
-/// The delivery of an `unlock`, and of the `release` of a mutex, in a sound cluster.
+/// The delivery of a `lock`, of an `unlock`, and of the `release` of a mutex, in a sound cluster.
 pub fn mutexes()
     ensures { MutexesHaveResults }
 {}
