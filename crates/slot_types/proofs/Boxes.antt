@@ -1,5 +1,5 @@
 -- A new object keeps a state typed.
-use Rattle.std.proofs.Common.{◌≡◌, ◌≢◌, ◌⊎◌, inl, inr, ⊎_elim, ◌∙◌, ap₂, ℕ, suc, ◌<◌, ◌≤◌, Bool, true, false, List, [], ◌∷◌, ◌++◌, length, Option, Some, None, refl, sym, ap, subst, arith}
+use Rattle.std.proofs.Common.{◌≡◌, ◌≢◌, ◌⊎◌, inl, inr, ⊎_elim, ◌∙◌, ap₂, ℕ, suc, ◌<◌, Bool, List, [], ◌∷◌, ◌++◌, length, Option, Some, None, refl, sym, ap, subst, arith}
 use Rattle.std.specs.Prelude.{⊤}
 use Rattle.fr_base.specs.declared.label.Plain.{Plain}
 use Rattle.fr_base.specs.declared.label.Plain.TheVariants as plain
@@ -10,7 +10,7 @@ use Rattle.fr_base.specs.declared.step.Fresh.TheVariants as fresh
 use Rattle.fr_typing.specs.Kinds.{Owned, box, Kind, own, whole}
 use Rattle.fr_typing.specs.Places.{Env}
 use Rattle.fr_store.specs.Keys.{Key, slot_k, temp_k, content_k}
-use Rattle.fr_store.specs.Store.{Location, at_key, at_object, Val, box_v, mutex_v, task_v, gone_v, ref_v, Store, value_at, Place}
+use Rattle.fr_store.specs.Store.{Location, at_key, at_object, Val, box_v, mutex_v, task_v, gone_v, Store, value_at, Place}
 use Rattle.fr_store.specs.Changes.{SameButTwo}
 use Rattle.fr_store.specs.Typed.{Tree, box_tree, owns, refers, KeyTypes, Typed}
 use Rattle.fr_store.specs.Below.{tree_of, ExactOf}
@@ -26,7 +26,7 @@ use Rattle.fr_plain.specs.declared.value.Value.TheVariants.{Own, ToSlot, ToObjec
 use Rattle.fr_plain.specs.Heap.{Heap, made_by, cell_at, next_object, with_object}
 use Rattle.fr_plain.specs.MachineActs.{do_box, box_did}
 use Rattle.fr_plain.specs.State.{slot_at}
-use Rattle.fr_plain.specs.MachineThreads.{Now, Move, Life, Thread, Whole as Machine, Shared, state_of, with_thread}
+use Rattle.fr_plain.specs.MachineThreads.{Now, Move, Life, Thread, Whole as Machine, state_of, with_thread}
 use Rattle.fr_plain.specs.Machine.{nameless, then_released, stepped}
 use Rattle.fr_plain.specs.PlainState.{Running, PlainState, place_in, plain_state}
 use Rattle.fr_plain.proofs.HeapLemmas.{next_new, new_same, new_other}
@@ -35,15 +35,15 @@ use Rattle.fr_sound.specs.Seen.{Gives, val_of, seen_cell}
 use Rattle.fr_sound.specs.States.{Typing, RunningTyped, env_at, is_hidden, is_held, IsLock, thread_of_key, IsShare, MutexTyped}
 use Rattle.fr_sound.proofs.SeenLemmas.{made_grows, made_next}
 use Rattle.fr_sound.proofs.Hand.{fits_owned}
-use Rattle.plain_types.specs.Positions.{Position, Knows, temps_of, PositionTypes, moves_by, StartsAs}
+use Rattle.plain_types.specs.Positions.{Position, PositionTypes, moves_by, StartsAs}
 use Rattle.plain_types.specs.ActRows.{Pops, Leaves, loud, left_after, ActRow, r_box}
 use Rattle.plain_types.specs.Keeps.{Ready, StepsTyped, Keeps}
 use Rattle.plain_types.proofs.Lower.{seen_as}
-use Rattle.plain_types.proofs.OneThread.{store, typing_with, touched, CarriedOf, share_back, as_many}
+use Rattle.plain_types.proofs.OneThread.{store, typing_with, CarriedOf, share_back, as_many}
 use Rattle.plain_types.proofs.Turned.{untouched_other}
 use Rattle.plain_types.proofs.Marks.{mark_back, one_mark_to}
 use Rattle.plain_types.proofs.Moved.{flip, flip_first, flip_second, flip_third, flip_twice}
-use Rattle.plain_types.proofs.Focus.{top_some, hand_at, Focus}
+use Rattle.plain_types.proofs.Focus.{top_some, hand_at}
 use Rattle.plain_types.proofs.AtHand.{Only, mark_off}
 use Rattle.plain_types.proofs.Hand.{At, Ranked, ranked, rehung, pushed_others, pushed_here}
 use Rattle.plain_types.proofs.Done.{runs_here, only_here, made_here}

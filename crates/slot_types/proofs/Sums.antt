@@ -1,5 +1,5 @@
 -- A change of a thread's slots and temporary values where objects and mutexes may come and go: what is counted is told sum by sum.
-use Rattle.std.proofs.Common.{◌≡◌, ◌≢◌, ◌⊎◌, inl, inr, ⊎_elim, ◌∙◌, ℕ, suc, ◌<◌, ◌≤◌, Bool, true, false, List, [], ◌∷◌, length, Option, Some, None, refl, sym, ap, subst, arith}
+use Rattle.std.proofs.Common.{◌≡◌, ◌≢◌, ◌⊎◌, inl, inr, ⊎_elim, ◌∙◌, ℕ, suc, ◌<◌, ◌≤◌, Bool, false, List, length, Option, Some, None, refl, sym, ap, subst}
 use Rattle.std.specs.Prelude.{is_some}
 use Rattle.fr_base.specs.declared.name.ObjNo.{ObjNo}
 use Rattle.fr_base.specs.declared.name.MutexNo.{MutexNo}
@@ -7,8 +7,8 @@ use Rattle.fr_base.specs.declared.label.Plain.{Plain}
 use Rattle.fr_typing.specs.Kinds.{Owned, Kind}
 use Rattle.fr_typing.specs.Places.{Env}
 use Rattle.fr_store.specs.Keys.{Key, slot_k, temp_k, content_k, result_k, hand_k}
-use Rattle.fr_store.specs.Store.{Location, at_key, box_v, task_v, gone_v, ref_v, value_at, Place}
-use Rattle.fr_store.specs.Typed.{Tree, refers, KeyTypes, Typed, Unnamed}
+use Rattle.fr_store.specs.Store.{Location, box_v, task_v, gone_v, ref_v, value_at, Place}
+use Rattle.fr_store.specs.Typed.{Tree, refers, KeyTypes, Unnamed}
 use Rattle.fr_store.specs.Thread.{ThreadTyped}
 use Rattle.fr_store.proofs.Keys.{decide_number}
 use Rattle.fr_plain.specs.declared.value.Value.TheVariants.{Held}
