@@ -1,0 +1,4 @@
+pub mod Mutexes
+pub mod Flat
+pub mod Found
+pub mod Dups
