@@ -1,0 +1,4 @@
+pub mod PlaceLemmas
+pub mod MutexParts
+pub mod PairParts
+pub mod ActsLemmas
