@@ -2,3 +2,4 @@ mod ThreadLemmas
 mod StandLemmas
 mod WaitLemmas
 mod ServerLemmas
+mod DeliverLemmas

@@ -2,3 +2,4 @@ pub mod Threads
 pub mod Outboxes
 pub mod Works
 pub mod Servers
+pub mod Hands

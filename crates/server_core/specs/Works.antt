@@ -2,9 +2,8 @@
 use Rattle.std.specs.Prelude.{ℕ, ◌≤◌, List, map}
 use Rattle.server_msgs.specs.declared.message.Message.{Message}
 use Rattle.server_model.specs.Servers.{Sent}
-use Rattle.server_model.specs.Work.{Work, Hand}
+use Rattle.server_model.specs.Work.{Work}
 use Rattle.server_core.specs.Outboxes.{sending}
-use Rattle.thread_state.specs.View.{ThreadState}
 
 pub record WorkView : Type 0 where
   pub state : Work
@@ -19,10 +18,6 @@ pub record WorkView : Type 0 where
 -- the messages for other servers, each with its target
 abbrev pub sendings : List (ℕ × Message) → List Sent
 sendings xs = map sending xs
-
--- the work with the thread that the event changes
-abbrev pub hand_of : WorkView → ThreadState → Hand
-hand_of w t = record { work = w.state; thread = t }
 
 -- each part has so much room
 pub record HasRooms (room inbox outbox cells mutexes queued tasks acts labels : ℕ) : Type 0 where

@@ -1,0 +1,62 @@
+//! Messages about objects: copies served and filled, objects that leave, blocks that are freed.
+
+ghost use Rattle.std.specs.Prelude.{◌≡◌, ◌+◌, ◌<◌, ◌≤◌, Some, IsSome};
+ghost use Rattle.server_model.specs.Objects.{deliver_fetch, deliver_move, deliver_drop};
+
+use crate::work::Work;
+use fr_base::{ObjNo, ThreadNo};
+use global_addr::Word;
+use heap_partition::Owned;
+use journal::Act;
+use server_msgs::Message;
+
+/// A copy of the cell goes to the server that asked.
+#[tactic(auto, using(crate::proofs::DeliverLemmas::made_of, crate::proofs::DeliverLemmas::found_leads, crate::proofs::DeliverLemmas::found_cell))]
+pub(crate) fn deliver_fetch(
+    work: &mut Work,
+    word: Word,
+    object: ObjNo,
+    server: u8,
+    thread: ThreadNo,
+)
+    requires result { IsSome (deliver_fetch word object server thread work.old.state) }
+    requires room { 2 ≤ work.old.room }
+    ensures state { deliver_fetch word object server thread work.old.state ≡ Some work.new.state }
+    ensures spare { work.old.room ≤ work.new.room + 2 }
+    ensures copies { work.new.copies ≡ work.old.copies }
+{
+    let _inside: Option<Owned> = None;
+    let cell = work.partition.look(word);
+    work.note(Act::Serve(object, word, server));
+    work.send(server, Message::Fetched(word, cell, thread));
+}
+
+/// The object leaves, and its address is freed.
+#[tactic(auto, using(crate::proofs::DeliverLemmas::made_of, crate::proofs::DeliverLemmas::found_leads, crate::proofs::DeliverLemmas::found_cell))]
+pub(crate) fn deliver_move(work: &mut Work, word: Word, object: ObjNo, server: u8, thread: ThreadNo)
+    requires result { IsSome (deliver_move word object server thread work.old.state) }
+    requires room { 2 ≤ work.old.room }
+    ensures state { deliver_move word object server thread work.old.state ≡ Some work.new.state }
+    ensures spare { work.old.room ≤ work.new.room + 2 }
+    ensures copies { work.new.copies ≡ work.old.copies }
+{
+    let _inside: Option<Owned> = None;
+    let cell = work.partition.give(word);
+    work.note(Act::Give(object, word, server));
+    work.send(server, Message::Moved(word, cell, thread));
+}
+
+/// The block is freed, and what it held is dropped in the same way.
+#[tactic(auto, using(crate::proofs::DeliverLemmas::made_of, crate::proofs::DeliverLemmas::found_leads, crate::proofs::DeliverLemmas::found_cell))]
+pub(crate) fn deliver_drop(work: &mut Work, word: Word, object: ObjNo)
+    requires result { IsSome (deliver_drop word object work.old.state) }
+    requires room { 3 ≤ work.old.room }
+    ensures state { deliver_drop word object work.old.state ≡ Some work.new.state }
+    ensures spare { work.old.room ≤ work.new.room + 3 }
+    ensures copies { work.new.copies ≡ work.old.copies }
+{
+    let _inside: Option<Owned> = None;
+    let cell = work.partition.free(word);
+    work.note(Act::Free(object, word));
+    work.give_up(cell.value);
+}
