@@ -1,6 +1,6 @@
 //! Where things of a thread stand that are kept in lists, a thread after another.
 
-ghost use Rattle.std.specs.Prelude.{◌≡◌, ◌+◌, ◌<◌, ◌≤◌, ◌++◌, ◌∷◌, [], length, None, OnOk, OnErr, IfSome};
+ghost use Rattle.std.specs.Prelude.{◌≡◌, ◌+◌, ◌<◌, ◌≤◌, ◌++◌, ◌∷◌, [], length, None, OnOk, IfSome};
 ghost use Rattle.fr_shared.specs.Places.{place_of};
 
 use fr_base::{NoMemory, ThreadNo};
