@@ -72,3 +72,5 @@ pub mod TaskResults
 pub mod MutexResults
 pub mod Elsewhere
 pub mod MigrateResults
+pub mod ValuesThere
+pub mod DupResults

@@ -36,7 +36,7 @@ use Rattle.event_law.proofs.Elsewhere.{here_alone}
 use Rattle.event_law.proofs.HaveResults.{some_map, arrives}
 use Rattle.event_law.proofs.NotesFound.{below}
 
-mutex_self : (m : MutexNo) → same_mutex m m ≡ true
+pub mutex_self : (m : MutexNo) → same_mutex m m ≡ true
 mutex_self m = eq_cases (λ b. b && (m.count == m.count) ≡ true) m.home m.home (λ e. eq_cases (λ b. true && b ≡ true) m.count m.count (λ d. refl) (λ ne. absurd (ne refl))) (λ ne. absurd (ne refl))
 
 if_false : (b : Bool) (m : ℕ) → b ≡ false → if_so b m ≡ 0
@@ -191,10 +191,10 @@ module _ (k : Cluster) (sound : IsSound k) (number : ℕ) (s : Server) (at : ser
       omega (arith, all_at_home m n h home (things_of k) away, here_alone k sound number s at (here m n h) (no_server m n h), mutexes_alone m n h s, found m n h n s.rest.mutexes.there refl (mutexes_rise (sight k) 0 number k.servers s (omega (arith, parts)) at))
 
   module _ (i : ℕ) (x : Message) (q : slice_get s.rest.inbox i ≡ Some x) where
-    has : (g : Thing → ℕ) → tot g (message_things n x) ≤ tot g (things_of k)
+    pub has : (g : Thing → ℕ) → tot g (message_things n x) ≤ tot g (things_of k)
     has g = omega (arith, (tot-server g k.servers number s s at).0, server_parts g s, tot-remove (λ y. message_things n y) g 0 s.rest.inbox i x q)
 
-    home : (m : MutexNo) → misrouted (sight k) (sent n x) ≡ other (nat_lt n k.options.servers && (m.home == n)) → m.home ≡ n
+    pub home : (m : MutexNo) → misrouted (sight k) (sent n x) ≡ other (nat_lt n k.options.servers && (m.home == n)) → m.home ≡ n
     home m e =
         let all : tot (misrouted (sight k)) (things_of k) ≡ 0 = sound.requests.go_right in
         let mine : misrouted (sight k) (sent n x) ≡ 0 = omega (arith, all, has (misrouted (sight k))) in
@@ -238,7 +238,7 @@ module _ (k : Cluster) (sound : IsSound k) (number : ℕ) (s : Server) (at : ser
 
   -- A SHARE LESS
 
-  same_shares : (m : MutexNo) (b : List Thing) → tot (shares_at_home m) b ≡ tot (weighed m n (λ x. x.shares)) b
+  pub same_shares : (m : MutexNo) (b : List Thing) → tot (shares_at_home m) b ≡ tot (weighed m n (λ x. x.shares)) b
   same_shares m [] = refl
   same_shares m (x ∷ b) = omega (arith, by x, same_shares m b)
     where
@@ -246,7 +246,7 @@ module _ (k : Cluster) (sound : IsSound k) (number : ℕ) (s : Server) (at : ser
       by (at_home r y) = refl
       by _ = refl
 
-  some_share : (o : Option Mutex) (m : MutexNo) → 1 ≤ Weight m n (λ x. x.shares) o → (y : Mutex) × (o ≡ Some y) × (nat_lt 0 y.shares ≡ true)
+  pub some_share : (o : Option Mutex) (m : MutexNo) → 1 ≤ Weight m n (λ x. x.shares) o → (y : Mutex) × (o ≡ Some y) × (nat_lt 0 y.shares ≡ true)
   some_share None m l = absurd (omega (arith, l))
   some_share (Some y) m l = (y, refl, grind (arith, nat_tests, l))
 

@@ -124,7 +124,7 @@ module _ (n t : ℕ) (f : Phase → Bool) where
 -- IN A SOUND CLUSTER
 
 -- what nothing breaks of the threads, the found one doesn't
-found_none : (f : Standing → ℕ) (t : ℕ) (xs : List Standing) (x : Standing) → tot f xs ≡ 0 → thread_at xs t ≡ Some x → f x ≡ 0
+pub found_none : (f : Standing → ℕ) (t : ℕ) (xs : List Standing) (x : Standing) → tot f xs ≡ 0 → thread_at xs t ≡ Some x → f x ≡ 0
 found_none f t [] x z e = absurd (cc e)
 found_none f t (y ∷ xs) x z e =
     eq_cases (λ b. (if b then Some y else thread_at xs t) ≡ Some x → f x ≡ 0) y.thread.number t

@@ -9,7 +9,7 @@ use Rattle.global_addr.specs.Words.{server_of}
 use Rattle.heap_partition.specs.declared.value.Owned.{Owned}
 use Rattle.journal.specs.View.{EntryView}
 use Rattle.thread_state.specs.View.{ThreadState}
-use Rattle.server_msgs.specs.declared.message.Message.TheVariants.{Lock, Granted, Unlock, Dupped, Release, Start, Join, Joined, Finished, Migrate}
+use Rattle.server_msgs.specs.declared.message.Message.TheVariants.{Lock, Granted, Unlock, Dup, Dupped, Release, Start, Join, Joined, Finished, Migrate}
 use Rattle.server_model.specs.declared.event.Event.{Event}
 use Rattle.server_model.specs.declared.event.What.{What}
 use Rattle.server_model.specs.declared.event.What.TheVariants.{Deliver, Evict}
@@ -176,6 +176,12 @@ pub record MutexesHaveResults : Type 0 where
       → HasResult k n (Deliver i)
   pub releases : (k : Cluster) (n i : ℕ) (s : Server) (m : MutexNo) → IsSound k → server_at k.servers n ≡ Some s → enabled k.options s (Deliver i) ≡ true → slice_get s.rest.inbox i ≡ Some (Release (Mutex m))
       → HasResult k n (Deliver i)
+
+-- that of a `dup`, where few events were done, so that the count of shares is far from its end
+abbrev pub DupsHaveResults : Type 0
+DupsHaveResults =
+    (k : Cluster) (n i : ℕ) (s : Server) (m : MutexNo) (a t : ℕ) → IsSound k → FewEvents k → server_at k.servers n ≡ Some s → enabled k.options s (Deliver i) ≡ true → slice_get s.rest.inbox i ≡ Some (Dup m a t)
+    → HasResult k n (Deliver i)
 
 -- that of the end of a thread
 abbrev pub FinishesHaveResults : Type 0

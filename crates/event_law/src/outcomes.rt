@@ -1,6 +1,6 @@
 //! That an event that is enabled has a result.
 
-ghost use Rattle.event_law.specs.Laws.{AnswersHaveResults, EvictionsHaveResults, FinishesHaveResults, JoinsHaveResults, MigrationsHaveResults, MutexesHaveResults, ParcelsHaveResults, StartsHaveResults, TasksLetGoHaveResults};
+ghost use Rattle.event_law.specs.Laws.{AnswersHaveResults, DupsHaveResults, EvictionsHaveResults, FinishesHaveResults, JoinsHaveResults, MigrationsHaveResults, MutexesHaveResults, ParcelsHaveResults, StartsHaveResults, TasksLetGoHaveResults};
 
 /// The eviction of a copy that nobody uses, and the delivery of a thread, in whatever cluster.
 pub fn leaving_and_arriving()
@@ -17,6 +17,11 @@ pub fn giving()
 /// The delivery of a `lock`, of an `unlock`, and of the `release` of a mutex, in a sound cluster.
 pub fn mutexes()
     ensures { MutexesHaveResults }
+{}
+
+/// The delivery of a `dup`, in a sound cluster where fewer than 2^31 - 1 events were done.
+pub fn sharing()
+    ensures { DupsHaveResults }
 {}
 
 /// The delivery of a message about a thread that another one started, in a sound cluster: it has ended, it is joined, or its task was dropped.
