@@ -1,5 +1,5 @@
 -- What a delivery that has a result finds at its server.
-use Rattle.std.proofs.Common.{◌≡◌, is_some, true≢false, ℕ, ◌<◌, ◌&&◌, Bool, true, false, ◌==◌, nat_lt, if◌then◌else◌, List, [], ◌∷◌, ◌++◌, Option, None, Some, IsSome, option_map, refl, sym, ap, subst, ◌∙◌}
+use Rattle.std.proofs.Common.{◌≡◌, is_some, true≢false, ℕ, ◌&&◌, Bool, true, false, ◌==◌, nat_lt, if◌then◌else◌, List, Option, None, Some, IsSome, option_map, refl, sym, ap, subst, ◌∙◌}
 use Rattle.std.proofs.lemmas.Bool.{eqb-true, ltb-true}
 use Rattle.fr_base.specs.declared.name.ObjNo.{ObjNo}
 use Rattle.fr_base.specs.declared.name.MutexNo.{MutexNo}
@@ -9,7 +9,8 @@ use Rattle.heap_partition.specs.declared.value.Cell.{Cell}
 use Rattle.owner_box.specs.View.{PartitionState}
 use Rattle.owner_box.specs.Partition.{LeadsTo, cell_of}
 use Rattle.mutex_home.specs.Mutexes.{Mutexes, Mutex, mutex_in, asked_in, ask}
-use Rattle.server_model.specs.Work.{leads_here, look, look_object, then_some}
+use Rattle.thread_state.specs.View.{ThreadState}
+use Rattle.server_model.specs.Work.{Hand, Site, leads_here, look_object, then_some, thread_in, set_thread, put_back, at_thread}
 
 -- what is made of a value is there with it
 pub made_of : {X Y : Type 0} (f : X → Y) (o : Option X) → IsSome (option_map f o) → IsSome o
@@ -59,3 +60,23 @@ found_cell p w o c h is = start ∙ by (same_object c.object o) (subst IsSome st
     by : (b : Bool) → IsSome (if b then Some c else None) → (if b then Some c else None) ≡ Some c
     by true g = refl
     by false g = absurd (true≢false (sym g))
+
+-- what is done at a thread that is here
+pub at_here : (t : ℕ) (f : Hand → Option Hand) (s : Site) → IsSome (at_thread t f s) → IsSome (thread_in s.threads t)
+at_here t f s h = by (thread_in s.threads t) h
+  where
+    by : (o : Option ThreadState) → IsSome (then_some (option_map (λ x. record { work = s.work; thread = x }) o) (λ g. option_map (put_back s.threads) (f g))) → IsSome o
+    by None g = absurd (true≢false (sym g))
+    by (Some x) g = refl
+
+pub at_can : (t : ℕ) (f : Hand → Option Hand) (s : Site) (x : ThreadState) → IsSome (at_thread t f s) → thread_in s.threads t ≡ Some x → IsSome (f (record { work = s.work; thread = x }))
+at_can t f s x h is =
+    made_of (put_back s.threads) (f (record { work = s.work; thread = x }))
+    (subst (λ o. IsSome (then_some (option_map (λ y. record { work = s.work; thread = y }) o) (λ g. option_map (put_back s.threads) (f g)))) is h)
+
+pub at_done : (t : ℕ) (f : Hand → Option Hand) (s : Site) (x : ThreadState) (h : Hand) (ts : List ThreadState) → thread_in s.threads t ≡ Some x → f (record { work = s.work; thread = x }) ≡ Some h → ts ≡ set_thread s.threads h.thread
+    → at_thread t f s ≡ Some (record { work = h.work; threads = ts })
+at_done t f s x h ts is done same =
+    ap (λ o. then_some (option_map (λ y. record { work = s.work; thread = y }) o) (λ g. option_map (put_back s.threads) (f g))) is
+    ∙ ap (option_map (put_back s.threads)) done
+    ∙ ap (λ us. Some (record { work = h.work; threads = us })) (sym same)

@@ -1,7 +1,8 @@
 -- The threads of a server beside the sets of those that can step, wait, may be moved and aren't over.
-use Rattle.std.proofs.Common.{if◌then◌else◌, ◌≡◌, ℕ, ◌^◌, ◌<◌, Bool, true, false, true≢false, List, [], map, length, slice_get, is_some, Option, None, Some, IsSome, option_map, Result, Ok, Err, OnOk, OnErr, refl, sym, subst, ap, ◌∙◌, arith}
+use Rattle.std.proofs.Common.{if◌then◌else◌, ◌≡◌, ℕ, ◌^◌, ◌<◌, ◌==◌, nat_lt, Bool, true, false, true≢false, List, [], ◌∷◌, map, length, slice_get, is_some, Option, None, Some, IsSome, option_map, Result, Ok, Err, OnOk, OnErr, refl, sym, subst, ap, ◌∙◌, arith}
+use Rattle.std.proofs.lemmas.Bool.{eq-eqb, eqb-true}
 use Rattle.std.proofs.lemmas.Option.{slice_get-map}
-use Rattle.rank_map.specs.Places.{Place, place_at, has_place, item_in, item_at, with_place, with_free, entries, Rises}
+use Rattle.rank_map.specs.Places.{Place, place_at, has_place, item_in, item_at, put_first, with_place, with_free, entries, Rises}
 use Rattle.rank_map.specs.Marks.{mark_of, IsMarked}
 use Rattle.rank_map.proofs.PlaceLemmas.{rises_with}
 use Rattle.rank_map.proofs.MarkLemmas.{marked_change, set_free, map_free, free_rises, free_there, nth_below}
@@ -132,3 +133,31 @@ back_again {all} k t h is s number =
     by : (x : Option ThreadView) → item_at all k ≡ x → is_some x ≡ true
     by None e = absurd (there_item k t h e)
     by (Some v) e = refl
+
+place_put : {T : Type 0} (ps : List (Place T)) (k : ℕ) (x : Option T) → place_at (with_place ps k (Some x)) k ≡ Some x
+place_put [] k x = ap (λ b. if b then Some x else None) (eq-eqb k k refl)
+place_put {T} (p ∷ ps) k x = by (nat_lt k p.key) (p.key == k) refl (place_put ps k x)
+  where
+    first : (qs : List (Place T)) → (if k == k then Some x else place_at qs k) ≡ Some x
+    first qs = ap (λ b. if b then Some x else place_at qs k) (eq-eqb k k refl)
+
+    by : (a b : Bool) → (p.key == k) ≡ b → place_at (with_place ps k (Some x)) k ≡ Some x
+        → place_at (if a then put_first k (Some x) (p ∷ ps) else (if b then put_first k (Some x) ps else p ∷ with_place ps k (Some x))) k ≡ Some x
+    by true b e ih = first (p ∷ ps)
+    by false true e ih = first ps
+    by false false e ih = ap (λ b. if b then Some p.item else place_at (with_place ps k (Some x)) k) e ∙ ih
+
+-- one that was taken out doesn't stand there
+pub taken_absent : {all after : List (Place ThreadView)} {r w m a : List (Place (Unit {0}))} (k : ℕ) → AreThreads all r w m a → k < 2 ^ 40 → after ≡ with_place all k (Some None) → thread_in (states after) k ≡ None
+taken_absent {all} k t below is =
+    ap (λ ps. thread_in (states ps) k) is ∙ thread_at (with_place all k (Some None)) 0 (2 ^ 40) k (rises_with all 0 (2 ^ 40) k (Some None) t.rises (omega arith) below) (numbered_with all k None t.numbered tt)
+    ∙ ap (λ x. option_map (λ v. v.state) (item_in x)) (place_put all k None)
+
+-- a thread that is found has the number that it was looked for under
+pub found_number : (ts : List ThreadState) (t : ℕ) (x : ThreadState) → thread_in ts t ≡ Some x → x.number ≡ t
+found_number [] t x h = absurd cc
+found_number (y ∷ ys) t x h = by (y.number == t) refl h (found_number ys t x)
+  where
+    by : (b : Bool) → (y.number == t) ≡ b → (if b then Some y else thread_in ys t) ≡ Some x → (thread_in ys t ≡ Some x → x.number ≡ t) → x.number ≡ t
+    by true e g ih = let same : y ≡ x = cc in subst (λ z. z.number ≡ t) same (eqb-true y.number t e)
+    by false e g ih = ih g

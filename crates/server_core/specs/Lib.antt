@@ -3,3 +3,4 @@ pub mod Outboxes
 pub mod Works
 pub mod Servers
 pub mod Hands
+pub mod Sites

@@ -1,16 +1,24 @@
 //! Messages about threads: their results go to those that ask.
 
-ghost use Rattle.std.specs.Prelude.{◌≡◌, ◌+◌, ◌<◌, ◌≤◌, Some, IsSome};
-ghost use Rattle.server_model.specs.Joining.{answer, deliver_join, deliver_joined, release_task, got_par, pair_over};
+ghost use Rattle.std.specs.Prelude.{◌≡◌, ◌+◌, ◌<◌, ◌≤◌, true, None, Some, IsSome};
+ghost use Rattle.server_model.specs.Joining.{answer, deliver_join, deliver_joined, release_task, got_par, pair_over, arrive, deliver_finished};
+ghost use Rattle.server_model.specs.Work.{thread_in};
+ghost use Rattle.rank_map.specs.Places.{has_place};
+ghost use Rattle.server_core.specs.Threads.{states};
+ghost use Rattle.server_core.specs.Sites.{site};
 ghost use Rattle.server_core.specs.Hands.{hand};
 
+use crate::answers::pair_over_at;
 use crate::sharing::{give, give_up_left};
+use crate::threads::Threads;
 use crate::work::Work;
 use fr_base::ThreadNo;
 use heap_partition::Owned;
+use join_home::EndedAs;
 use journal::Act;
+use migration::unpack;
 use server_msgs::Message;
-use thread_state::{Phase, Thread};
+use thread_state::{Parcel, Phase, Thread};
 
 // The result of a thread goes to that thread at that server.
 pub(crate) fn answer(work: &mut Work, thread: ThreadNo, server: u8, by: ThreadNo, value: Owned)
@@ -42,6 +50,7 @@ pub(crate) fn deliver_join(work: &mut Work, thread: ThreadNo, server: u8, by: Th
 pub(crate) fn deliver_joined(work: &Work, thread: &mut Thread, other: ThreadNo, value: Owned)
     requires result { IsSome (deliver_joined other value (hand work.now thread.old)) }
     ensures state { deliver_joined other value (hand work.now thread.old) ≡ Some (hand work.now thread.new) }
+    ensures number { thread.new.state.number ≡ thread.old.state.number }
     ensures room { thread.new.room ≡ thread.old.room }
 {
     let _other = other;
@@ -78,8 +87,39 @@ fn got_par(thread: &Thread, other: ThreadNo) -> Phase
 pub(crate) fn pair_over(work: &Work, thread: &mut Thread, other: ThreadNo)
     requires result { IsSome (pair_over other (hand work.now thread.old)) }
     ensures state { pair_over other (hand work.now thread.old) ≡ Some (hand work.now thread.new) }
+    ensures number { thread.new.state.number ≡ thread.old.state.number }
     ensures room { thread.new.room ≡ thread.old.room }
 {
     let _work = work;
     thread.phase = got_par(thread, other);
+}
+
+/// A thread stands here from now on: a new one, or one that was moved. There is room for it, and it doesn't stand here.
+pub(crate) fn arrive(work: &Work, threads: &mut Threads, parcel: Parcel)
+    requires room { has_place threads.old parcel.number ≡ true }
+    requires absent { thread_in (states threads.old) parcel.number ≡ None }
+    ensures state { arrive parcel (site work.now threads.old) ≡ Some (site work.now threads.new) }
+{
+    let _work = work;
+    threads.insert(unpack(parcel));
+}
+
+/// A thread has ended: its result goes to whoever asked, or is kept, or dropped; the second of a pair lets its parent go on.
+pub(crate) fn deliver_finished(
+    work: &mut Work,
+    threads: &mut Threads,
+    thread: ThreadNo,
+    value: Owned,
+)
+    requires result { IsSome (deliver_finished thread value (site work.old threads.old)) }
+    requires room { 2 ≤ work.old.room }
+    ensures state { deliver_finished thread value (site work.old threads.old) ≡ Some (site work.new threads.new) }
+    ensures spare { work.old.room ≤ work.new.room + 2 }
+{
+    match work.tasks.ended(thread, value) {
+        EndedAs::Answer(server, by, value) => answer(work, thread, server, by, value),
+        EndedAs::Both(parent) => pair_over_at(work, threads, thread, parent),
+        EndedAs::LetGo(value) => work.give_up(value),
+        EndedAs::Kept => {}
+    }
 }

@@ -1,14 +1,18 @@
 //! Messages about objects: copies served and filled, objects that leave, blocks that are freed.
 
-ghost use Rattle.std.specs.Prelude.{◌≡◌, ◌+◌, ◌<◌, ◌≤◌, Some, IsSome};
-ghost use Rattle.server_model.specs.Objects.{deliver_fetch, deliver_move, deliver_drop};
+ghost use Rattle.std.specs.Prelude.{◌≡◌, ◌+◌, ◌<◌, ◌≤◌, true, Some, IsSome};
+ghost use Rattle.server_model.specs.Objects.{deliver_fetch, filled, deliver_fetched, deliver_move, deliver_drop};
+ghost use Rattle.server_core.specs.Hands.{hand};
+ghost use Rattle.server_core.specs.Sites.{has_copy_room};
 
+use crate::uses::use_word;
 use crate::work::Work;
 use fr_base::{ObjNo, ThreadNo};
 use global_addr::Word;
-use heap_partition::Owned;
+use heap_partition::{Cell, Owned};
 use journal::Act;
 use server_msgs::Message;
+use thread_state::{Phase, Thread};
 
 /// A copy of the cell goes to the server that asked.
 #[tactic(auto, using(crate::proofs::DeliverLemmas::made_of, crate::proofs::DeliverLemmas::found_leads, crate::proofs::DeliverLemmas::found_cell))]
@@ -59,4 +63,36 @@ pub(crate) fn deliver_drop(work: &mut Work, word: Word, object: ObjNo)
     let cell = work.partition.free(word);
     work.note(Act::Free(object, word));
     work.give_up(cell.value);
+}
+
+// The copy is there, and the thread uses it.
+fn filled(work: &mut Work, thread: &mut Thread, word: Word, cell: Cell)
+    requires result { IsSome (filled word cell (hand work.old thread.old)) }
+    requires place { has_copy_room work.old word ≡ true }
+    requires thread_room { 0 < thread.old.room }
+    ensures state { filled word cell (hand work.old thread.old) ≡ Some (hand work.new thread.new) }
+    ensures number { thread.new.state.number ≡ thread.old.state.number }
+    ensures room { work.new.room ≡ work.old.room }
+{
+    let _inside: Option<Owned> = None;
+    work.cache.fill(word, cell);
+    use_word(work, thread, word);
+}
+
+/// The copy comes to the cache, and the thread that waits for it uses it until its step is done.
+#[tactic(auto, using(crate::proofs::DeliverLemmas::made_of))]
+pub(crate) fn deliver_fetched(work: &mut Work, thread: &mut Thread, word: Word, cell: Cell)
+    requires result { IsSome (deliver_fetched word cell (hand work.old thread.old)) }
+    requires place { has_copy_room work.old word ≡ true }
+    requires room { 1 ≤ work.old.room }
+    requires thread_room { 0 < thread.old.room }
+    ensures state { deliver_fetched word cell (hand work.old thread.old) ≡ Some (hand work.new thread.new) }
+    ensures number { thread.new.state.number ≡ thread.old.state.number }
+    ensures spare { work.old.room ≤ work.new.room + 1 }
+{
+    let _inside: Option<Owned> = None;
+    let object = cell.object;
+    filled(work, thread, word, cell);
+    work.note(Act::Fill(object, word));
+    thread.phase = Phase::Got;
 }

@@ -16,6 +16,7 @@ use thread_state::{Phase, Thread};
 pub(crate) fn give(work: &Work, thread: &mut Thread, value: Owned)
     requires result { IsSome (given value thread.old.state.gift (hand work.now thread.old)) }
     ensures state { given value thread.old.state.gift (hand work.now thread.old) ≡ Some (hand work.now thread.new) }
+    ensures number { thread.new.state.number ≡ thread.old.state.number }
     ensures room { thread.new.room ≡ thread.old.room }
 {
     let _work = work;
@@ -55,6 +56,7 @@ pub(crate) fn deliver_lock(work: &mut Work, mutex: MutexNo, server: u8, thread: 
 pub(crate) fn deliver_granted(work: &Work, thread: &mut Thread, mutex: MutexNo, content: Owned)
     requires result { IsSome (deliver_granted mutex content (hand work.now thread.old)) }
     ensures state { deliver_granted mutex content (hand work.now thread.old) ≡ Some (hand work.now thread.new) }
+    ensures number { thread.new.state.number ≡ thread.old.state.number }
     ensures room { thread.new.room ≡ thread.old.room }
 {
     let _mutex = mutex;
@@ -95,6 +97,7 @@ pub(crate) fn deliver_dup(work: &mut Work, mutex: MutexNo, server: u8, thread: T
 pub(crate) fn deliver_dupped(work: &Work, thread: &mut Thread, mutex: MutexNo)
     requires result { IsSome (deliver_dupped mutex (hand work.now thread.old)) }
     ensures state { deliver_dupped mutex (hand work.now thread.old) ≡ Some (hand work.now thread.new) }
+    ensures number { thread.new.state.number ≡ thread.old.state.number }
     ensures room { thread.new.room ≡ thread.old.room }
 {
     give(work, thread, Owned::Mutex(mutex));

@@ -1,7 +1,7 @@
 //! The threads that stand at a server.
 
 ghost use Rattle.std.specs.Prelude.{◌≡◌, ◌<◌, ◌^◌, true, [], None, Some, length, slice_get, option_map, IsSome, OnOk, OnErr};
-ghost use Rattle.rank_map.specs.Places.{has_place, with_place, with_free};
+ghost use Rattle.rank_map.specs.Places.{has_place, item_at, with_place, with_free};
 ghost use Rattle.rank_map.specs.Marks.{mark_if};
 ghost use Rattle.server_model.specs.Work.{thread_in, set_thread, with_thread, without_thread};
 ghost use Rattle.thread_state.specs.View.{ThreadState};
@@ -154,8 +154,12 @@ impl Threads {
     pub fn take(&mut self, thread: ThreadNo) -> Thread
         requires there { IsSome (thread_in (states self.old) thread) }
         ensures thread { thread_in (states self.old) thread ≡ Some result.state }
+        ensures number { result.state.number ≡ thread }
         ensures state { states self.new ≡ without_thread (states self.old) thread }
+        ensures item { item_at self.old thread ≡ Some result }
         ensures places { self.new ≡ with_place self.old thread (Some None) }
+        ensures room { has_place self.new thread ≡ true }
+        ensures absent { thread_in (states self.new) thread ≡ None }
         ensures back { (t : ThreadState) → t.number ≡ thread → with_thread (states self.new) t ≡ set_thread (states self.old) t }
     {
         let number = thread.number();

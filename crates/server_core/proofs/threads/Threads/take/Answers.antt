@@ -1,8 +1,10 @@
-use Rattle.std.proofs.Common.{◌<◌, ◌^◌, None, IsSome, option_map, sym, subst, ap, ◌∙◌, arith}
+use Rattle.std.proofs.Common.{◌≡◌, ◌<◌, ◌^◌, true, None, IsSome, option_map, sym, subst, ap, ◌∙◌, arith}
+use Rattle.rank_map.specs.Places.{has_place, item_at}
+use Rattle.rank_map.proofs.MarkLemmas.{place_new}
 use Rattle.server_model.specs.Work.{thread_in, set_thread, without_thread}
 use Rattle.server_core.specs.Threads.{states}
 use Rattle.server_core.proofs.ThreadLemmas.{take_states}
-use Rattle.server_core.proofs.StandLemmas.{all_changed, stands_at, there_item, found_thread, back_again}
+use Rattle.server_core.proofs.StandLemmas.{all_changed, stands_at, there_item, found_thread, back_again, taken_absent, found_number}
 use Rattle.server_core.proofs.threads.Threads.take.Goals as goal
 
 pub set_mark-requires : goal.set_mark-requires
@@ -79,3 +81,20 @@ returns-clause-back c =
     subst (λ i. IsSome (thread_in (states c.self.inside.all) i)) (sym c.number-number.ensures.number) (subst (λ ps. IsSome (thread_in (states ps) c.args.thread)) (sym c.self.view_is) c.requires.there)
     in
     λ t is. back_again k c.self.invariant stands c.take.ensures.places t (is ∙ sym c.number-number.ensures.number) ∙ ap (λ ps. set_thread (states ps) t) c.self.view_is
+
+pub returns-clause-item : goal.returns-clause-item
+returns-clause-item c = ap (λ ps. item_at ps c.args.thread) (sym c.self.view_is) ∙ ap (item_at c.self.inside.all) (sym c.number-number.ensures.number) ∙ sym c.take.ensures.item ∙ c.in-Some.is
+
+pub returns-clause-room : goal.returns-clause-room
+returns-clause-room c =
+    let k = c.number-number.result in
+    subst (λ i. has_place c.take.new.self i ≡ true) c.number-number.ensures.number (ap (λ ps. has_place ps k) c.take.ensures.places ∙ place_new c.self.inside.all k None)
+
+pub returns-clause-absent : goal.returns-clause-absent
+returns-clause-absent c =
+    let k = c.number-number.result in
+    let below : k < 2 ^ 40 = omega (arith, c.number-number.ensures.number, c.number-number.ensures.few) in
+    subst (λ i. thread_in (states c.take.new.self) i ≡ None) c.number-number.ensures.number (taken_absent k c.self.invariant below c.take.ensures.places)
+
+pub returns-clause-number : goal.returns-clause-number
+returns-clause-number c = found_number _ _ _ (returns-clause-thread c)

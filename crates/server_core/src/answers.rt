@@ -1,0 +1,95 @@
+//! Answers to threads that are here: a thread is taken out, has its answer, and stands again where it stood.
+
+ghost use Rattle.std.specs.Prelude.{◌≡◌, ◌+◌, ◌<◌, ◌≤◌, true, Some, IsSome};
+ghost use Rattle.server_model.specs.Work.{at_thread};
+ghost use Rattle.server_model.specs.Objects.{deliver_fetched};
+ghost use Rattle.server_model.specs.Sharing.{deliver_granted, deliver_dupped};
+ghost use Rattle.server_model.specs.Joining.{deliver_joined, pair_over};
+ghost use Rattle.server_core.specs.Sites.{site, has_copy_room, thread_room};
+
+use crate::joining::{deliver_joined, pair_over};
+use crate::objects::deliver_fetched;
+use crate::sharing::{deliver_dupped, deliver_granted};
+use crate::threads::Threads;
+use crate::work::Work;
+use fr_base::{MutexNo, ThreadNo};
+use global_addr::Word;
+use heap_partition::{Cell, Owned};
+
+/// The content of a mutex is the gift of that thread.
+#[tactic(auto, using(crate::proofs::DeliverLemmas::at_here, crate::proofs::DeliverLemmas::at_can))]
+pub(crate) fn granted_at(
+    work: &Work,
+    threads: &mut Threads,
+    mutex: MutexNo,
+    content: Owned,
+    thread: ThreadNo,
+)
+    requires result { IsSome (at_thread thread (deliver_granted mutex content) (site work.now threads.old)) }
+    ensures state { at_thread thread (deliver_granted mutex content) (site work.now threads.old) ≡ Some (site work.now threads.new) }
+{
+    let mut here = threads.take(thread);
+    deliver_granted(work, &mut here, mutex, content);
+    threads.insert(here);
+}
+
+/// A share of a mutex is the gift of that thread.
+#[tactic(auto, using(crate::proofs::DeliverLemmas::at_here, crate::proofs::DeliverLemmas::at_can))]
+pub(crate) fn dupped_at(work: &Work, threads: &mut Threads, mutex: MutexNo, thread: ThreadNo)
+    requires result { IsSome (at_thread thread (deliver_dupped mutex) (site work.now threads.old)) }
+    ensures state { at_thread thread (deliver_dupped mutex) (site work.now threads.old) ≡ Some (site work.now threads.new) }
+{
+    let mut here = threads.take(thread);
+    deliver_dupped(work, &mut here, mutex);
+    threads.insert(here);
+}
+
+/// The result of another thread is the gift of that thread.
+#[tactic(auto, using(crate::proofs::DeliverLemmas::at_here, crate::proofs::DeliverLemmas::at_can))]
+pub(crate) fn joined_at(
+    work: &Work,
+    threads: &mut Threads,
+    other: ThreadNo,
+    value: Owned,
+    thread: ThreadNo,
+)
+    requires result { IsSome (at_thread thread (deliver_joined other value) (site work.now threads.old)) }
+    ensures state { at_thread thread (deliver_joined other value) (site work.now threads.old) ≡ Some (site work.now threads.new) }
+{
+    let mut here = threads.take(thread);
+    deliver_joined(work, &mut here, other, value);
+    threads.insert(here);
+}
+
+/// The parent of a pair with the other thread goes on.
+#[tactic(auto, using(crate::proofs::DeliverLemmas::at_here, crate::proofs::DeliverLemmas::at_can))]
+pub(crate) fn pair_over_at(work: &Work, threads: &mut Threads, other: ThreadNo, thread: ThreadNo)
+    requires result { IsSome (at_thread thread (pair_over other) (site work.now threads.old)) }
+    ensures state { at_thread thread (pair_over other) (site work.now threads.old) ≡ Some (site work.now threads.new) }
+{
+    let mut here = threads.take(thread);
+    pair_over(work, &mut here, other);
+    threads.insert(here);
+}
+
+/// A copy comes to the cache, and that thread uses it.
+#[tactic(auto, using(crate::proofs::DeliverLemmas::at_here, crate::proofs::DeliverLemmas::at_can))]
+pub(crate) fn fetched_at(
+    work: &mut Work,
+    threads: &mut Threads,
+    word: Word,
+    cell: Cell,
+    thread: ThreadNo,
+)
+    requires result { IsSome (at_thread thread (deliver_fetched word cell) (site work.old threads.old)) }
+    requires place { has_copy_room work.old word ≡ true }
+    requires room { 1 ≤ work.old.room }
+    requires thread_room { 0 < thread_room threads.old thread }
+    ensures state { at_thread thread (deliver_fetched word cell) (site work.old threads.old) ≡ Some (site work.new threads.new) }
+    ensures spare { work.old.room ≤ work.new.room + 1 }
+{
+    let _inside: Option<Owned> = None;
+    let mut here = threads.take(thread);
+    deliver_fetched(work, &mut here, word, cell);
+    threads.insert(here);
+}
