@@ -3,3 +3,4 @@ mod StandLemmas
 mod WaitLemmas
 mod ServerLemmas
 mod DeliverLemmas
+mod PassLemmas

@@ -4,3 +4,4 @@ pub mod Works
 pub mod Servers
 pub mod Hands
 pub mod Sites
+pub mod Passes

@@ -1,11 +1,13 @@
 //! A server in the middle of an event.
 
-ghost use Rattle.std.specs.Prelude.{◌≡◌, ◌+◌, ◌<◌, ◌≤◌, [], ◌∷◌, length, slice_get, Some, IsOk, OnOk, OnErr, IfErr};
+ghost use Rattle.std.specs.Prelude.{◌≡◌, ◌+◌, ◌<◌, ◌≤◌, [], ◌∷◌, true, length, slice_get, Some, IsOk, OnOk, OnErr, IfErr};
 ghost use Rattle.server_model.specs.Servers.{empty_server};
 ghost use Rattle.server_model.specs.Work.{add_waiting, send, receive, note, label_all};
 ghost use Rattle.server_model.specs.Drop.{give_up};
+ghost use Rattle.server_core.specs.Sites.{has_copy_room};
 
 use fr_base::{Label, Labels, NoMemory, Options, Plain, Released};
+use global_addr::Word;
 use heap_partition::Owned;
 use join_home::Tasks;
 use journal::{Act, Acts};
@@ -111,6 +113,35 @@ impl Work {
         ensures spare { self.old.inbox_room ≤ self.new.inbox_room }
     {
         self.inbox.reserve(n)
+    }
+
+    // Makes room for `n` more of each thing that an event adds; the state is unchanged either way, and room that was made stays.
+    pub fn reserve(&mut self, n: usize) -> Result<(), NoMemory>
+        ensures state { self.new.state ≡ self.old.state }
+        ensures room { OnOk result (n ≤ self.new.room) }
+        ensures spare { self.old.room ≤ self.new.room }
+        ensures copies { self.new.copies ≡ self.old.copies }
+        ensures inbox { self.old.inbox_room ≤ self.new.inbox_room }
+    {
+        self.inbox.reserve(n)?;
+        self.outbox.reserve(n)?;
+        self.partition.reserve(n)?;
+        self.mutexes.reserve(n)?;
+        self.tasks.reserve(n)?;
+        self.acts.reserve(n)?;
+        self.labels.reserve(n)?;
+        self.room = self.room.max(n);
+        Ok(())
+    }
+
+    // Makes room for a copy under that word; the state is unchanged either way.
+    pub fn reserve_copy(&mut self, word: Word) -> Result<(), NoMemory>
+        ensures state { self.new.state ≡ self.old.state }
+        ensures place { OnOk result (has_copy_room self.new word ≡ true) }
+        ensures room { self.new.room ≡ self.old.room }
+        ensures inbox { self.new.inbox_room ≡ self.old.inbox_room }
+    {
+        self.cache.reserve(word)
     }
 
     // Takes out the waiting message at that place, from 0, and the later ones move up. There is such a place.
