@@ -1,6 +1,7 @@
 -- The threads of a server beside the sets of those that can step, wait, may be moved and aren't over.
 use Rattle.std.proofs.Common.{if◌then◌else◌, ◌≡◌, ℕ, ◌^◌, ◌<◌, ◌==◌, nat_lt, Bool, true, false, true≢false, List, [], ◌∷◌, map, length, slice_get, is_some, Option, None, Some, IsSome, option_map, Result, Ok, Err, OnOk, OnErr, refl, sym, subst, ap, ◌∙◌, arith}
 use Rattle.std.proofs.lemmas.Bool.{eq-eqb, eqb-true}
+use Rattle.std.proofs.lemmas.List.{length-map}
 use Rattle.std.proofs.lemmas.Option.{slice_get-map}
 use Rattle.rank_map.specs.Places.{Place, place_at, has_place, item_in, item_at, put_first, with_place, with_free, entries, Rises}
 use Rattle.rank_map.specs.Marks.{mark_of, IsMarked}
@@ -104,6 +105,9 @@ absent_item {all} k t h = by (item_at all k) refl
 pub runnable_at : {all : List (Place ThreadView)} {r w m a : List (Place (Unit {0}))} (i : ℕ) → AreThreads all r w m a → option_map (λ e. e.key) (slice_get (entries r) i) ≡ slice_get (runnable_in (states all)) i
 runnable_at {all} {r = r} i t =
     sym (slice_get-map (λ e. e.key) (entries r) i) ∙ ap (λ ks. slice_get ks i) (ap (map (λ e. e.key)) t.runnable_set.same ∙ runnable_keys all t.numbered)
+
+pub runnable_many : {all : List (Place ThreadView)} {r w m a : List (Place (Unit {0}))} → AreThreads all r w m a → length (entries r) ≡ length (runnable_in (states all))
+runnable_many {all} {r = r} t = sym (length-map (entries r) (λ e. e.key)) ∙ ap length (ap (map (λ e. e.key)) t.runnable_set.same ∙ runnable_keys all t.numbered)
 
 pub movable_first : {all : List (Place ThreadView)} {r w m a : List (Place (Unit {0}))} → AreThreads all r w m a → option_map (λ e. e.key) (slice_get (entries m) 0) ≡ movable_in (states all)
 movable_first {all} t = ap (λ es. option_map (λ e. e.key) (slice_get es 0)) t.movable_set.same ∙ movable_key all t.numbered

@@ -186,6 +186,13 @@ impl Server {
         }
     }
 
+    /// How many threads can step here: those whose step is enabled.
+    pub fn stepping(&self) -> usize
+        ensures { result ≡ length (runnable self.now.state) }
+    {
+        self.threads.stepping()
+    }
+
     /// The thread at that place, from 0, among those whose step is enabled, by rising number; `None` exactly past the end.
     pub fn runnable(&self, at: usize) -> Option<ThreadNo>
         ensures { result ≡ slice_get (runnable self.now.state) at }

@@ -180,6 +180,13 @@ impl Threads {
         self.active.len()
     }
 
+    /// How many threads can step.
+    pub fn stepping(&self) -> usize
+        ensures { result ≡ length (runnable_in (states self.now)) }
+    {
+        self.runnable.len()
+    }
+
     /// The thread at that place, from 0, among those that can step, by rising number; `None` exactly past the end.
     pub fn runnable(&self, at: usize) -> Option<ThreadNo>
         ensures { result ≡ slice_get (runnable_in (states self.now)) at }
