@@ -95,7 +95,7 @@ gives true v None h e q = refl
 gives true v (Some u) h e q = absurd (cc q)
 gives false v g h e q = absurd (cc e)
 
-at_it : (s : Server) (i t : ℕ) (f : Hand → Option Hand) (y : ThreadState) → thread_in s.threads t ≡ Some y → IsSome (f (record { work = (received i s).work; thread = y })) → IsSome (at_thread t f (received i s))
+pub at_it : (s : Server) (i t : ℕ) (f : Hand → Option Hand) (y : ThreadState) → thread_in s.threads t ≡ Some y → IsSome (f (record { work = (received i s).work; thread = y })) → IsSome (at_thread t f (received i s))
 at_it s i t f y e h =
     subst (λ o. IsSome (then_some (option_map (λ z. record { work = (received i s).work; thread = z }) o) (λ z. option_map (put_back s.threads) (f z)))) (sym e)
     (some_map (put_back s.threads) (f (record { work = (received i s).work; thread = y })) h)

@@ -74,3 +74,4 @@ pub mod Elsewhere
 pub mod MigrateResults
 pub mod ValuesThere
 pub mod DupResults
+pub mod FetchedResults

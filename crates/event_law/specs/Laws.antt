@@ -6,10 +6,11 @@ use Rattle.fr_base.specs.declared.instruction.Instr.{Instr}
 use Rattle.fr_base.specs.declared.release.Released.TheVariants.{Mutex, Task}
 use Rattle.fr_base.specs.declared.settings.Options.{Options}
 use Rattle.global_addr.specs.Words.{server_of}
+use Rattle.heap_partition.specs.declared.value.Cell.{Cell}
 use Rattle.heap_partition.specs.declared.value.Owned.{Owned}
 use Rattle.journal.specs.View.{EntryView}
 use Rattle.thread_state.specs.View.{ThreadState}
-use Rattle.server_msgs.specs.declared.message.Message.TheVariants.{Lock, Granted, Unlock, Dup, Dupped, Release, Start, Join, Joined, Finished, Migrate}
+use Rattle.server_msgs.specs.declared.message.Message.TheVariants.{Fetched, Lock, Granted, Unlock, Dup, Dupped, Release, Start, Join, Joined, Finished, Migrate}
 use Rattle.server_model.specs.declared.event.Event.{Event}
 use Rattle.server_model.specs.declared.event.What.{What}
 use Rattle.server_model.specs.declared.event.What.TheVariants.{Deliver, Evict}
@@ -181,6 +182,12 @@ pub record MutexesHaveResults : Type 0 where
 abbrev pub DupsHaveResults : Type 0
 DupsHaveResults =
     (k : Cluster) (n i : ℕ) (s : Server) (m : MutexNo) (a t : ℕ) → IsSound k → FewEvents k → server_at k.servers n ≡ Some s → enabled k.options s (Deliver i) ≡ true → slice_get s.rest.inbox i ≡ Some (Dup m a t)
+    → HasResult k n (Deliver i)
+
+-- that of a copy, where few events were done, so that the count of its users is far from its end
+abbrev pub FetchedHaveResults : Type 0
+FetchedHaveResults =
+    (k : Cluster) (n i : ℕ) (s : Server) (w : ℕ) (c : Cell) (t : ℕ) → IsSound k → FewEvents k → server_at k.servers n ≡ Some s → enabled k.options s (Deliver i) ≡ true → slice_get s.rest.inbox i ≡ Some (Fetched w c t)
     → HasResult k n (Deliver i)
 
 -- that of the end of a thread

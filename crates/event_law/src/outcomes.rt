@@ -1,6 +1,6 @@
 //! That an event that is enabled has a result.
 
-ghost use Rattle.event_law.specs.Laws.{AnswersHaveResults, DupsHaveResults, EvictionsHaveResults, FinishesHaveResults, JoinsHaveResults, MigrationsHaveResults, MutexesHaveResults, ParcelsHaveResults, StartsHaveResults, TasksLetGoHaveResults};
+ghost use Rattle.event_law.specs.Laws.{AnswersHaveResults, DupsHaveResults, EvictionsHaveResults, FetchedHaveResults, FinishesHaveResults, JoinsHaveResults, MigrationsHaveResults, MutexesHaveResults, ParcelsHaveResults, StartsHaveResults, TasksLetGoHaveResults};
 
 /// The eviction of a copy that nobody uses, and the delivery of a thread, in whatever cluster.
 pub fn leaving_and_arriving()
@@ -19,9 +19,10 @@ pub fn mutexes()
     ensures { MutexesHaveResults }
 {}
 
-/// The delivery of a `dup`, in a sound cluster where fewer than 2^31 - 1 events were done.
-pub fn sharing()
-    ensures { DupsHaveResults }
+/// The delivery of a `dup`, and of a `fetched`, in a sound cluster where fewer than 2^31 - 1 events were done.
+pub fn counting()
+    ensures dups { DupsHaveResults }
+    ensures copies { FetchedHaveResults }
 {}
 
 /// The delivery of a message about a thread that another one started, in a sound cluster: it has ended, it is joined, or its task was dropped.
