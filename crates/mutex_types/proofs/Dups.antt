@@ -168,7 +168,7 @@ module _ (s : Machine Position) (t : Thread Position) (p : Position) (e : Env) (
       entry = refl;
       temps = ap suc z.long;
       slots = z.running.all_slots ∙ ap (λ (r : Entry). length r.env) e_is;
-      long = omega arith;
+      over = λ i lt m. z.focus.high i m (omega (arith, lt));
       thread = thread;
       same = λ j q. off j (λ r. untouched_other t.number j q (ap thread_of_key r));
       waits = λ i lt. off (temp_k t.number i) (λ r. let q : i ≡ length ts = cc in omega (arith, lt, q));
@@ -192,8 +192,8 @@ module _ (s : Machine Position) (t : Thread Position) (p : Position) (e : Env) (
       given = given k ∙ d.given;
       shares = shares;
       needed = needed;
-      out = λ r. one_mark_to (plain_state s) a2 t.number x1 x2 z.at.runs lone.now lone.others (λ i n q. q) (λ i n q. q) k (d.out (same_content ∙ r));
-      unheld = λ v r u i mark. d.unheld v (same_content ∙ r) u i (mark_back (plain_state s) a2 t.number x1 x2 z.at.runs lone.now lone.others (λ i n q. q) (λ i n q. q) k u i mark);
+      out = λ r. one_mark_to (plain_state s) a2 t.number x1 x2 z.at.runs lone.now lone.others k (λ i q. q) (λ i q. q) (d.out (same_content ∙ r));
+      unheld = λ v r u i mark. d.unheld v (same_content ∙ r) u i (mark_back (plain_state s) a2 t.number x1 x2 z.at.runs lone.now lone.others k (λ i q. q) (λ i q. q) u i mark);
       content = λ v r. off (content_k k.home k.count) (λ q. cc) ∙ d.content v (same_content ∙ r);
     }
 

@@ -2,3 +2,5 @@ pub mod Mutexes
 pub mod Flat
 pub mod Found
 pub mod Dups
+pub mod LockTypes
+pub mod Locks

@@ -1,9 +1,24 @@
 -- The acts at mutexes that take no new name.
-use Rattle.std.specs.Prelude.{◌≡◌}
+use Rattle.std.specs.Prelude.{◌≡◌, Option, None}
 use Rattle.fr_base.specs.declared.place.Lval.{Lval}
-use Rattle.fr_plain.specs.MachineActs.{Act, do_dup}
-use Rattle.plain_types.specs.Positions.{Position}
+use Rattle.fr_base.specs.declared.step.Fresh.TheVariants as fresh
+use Rattle.fr_plain.specs.declared.value.Value.{Value}
+use Rattle.fr_plain.specs.MachineActs.{Act, do_dup, do_lock}
+use Rattle.fr_plain.specs.MachineThreads.{Now, Move, Life, Thread, Whole}
+use Rattle.fr_plain.specs.Machine.{act_waits}
+use Rattle.fr_sound.specs.States.{Typing}
+use Rattle.plain_types.specs.Positions.{Position, moves_by}
+use Rattle.plain_types.specs.Keeps.{Ready, StepsTyped}
 
 -- one share more
 abbrev pub IsDup : Act Position → Type 0
 IsDup a = (w : Lval) × (a ≡ do_dup w)
+
+-- a lock
+abbrev pub IsLocking : Act Position → Type 0
+IsLocking a = (w : Lval) × (a ≡ do_lock w)
+
+-- an act of this form, granted in a typed state, can be done without a new name and leaves a typed state, unless it waits
+abbrev pub KeepsUnlessWaiting : (Act Position → Type 0) → Type 0
+KeepsUnlessWaiting Is = (now : Position → Now) (move : Position → Option (Move Position Position)) (y : Typing) (s : Whole Position) (t : Thread Position) (p : Position) (wrap : Position → Life Position) (act : Act Position) (plug : Value → Position)
+    → Is act → act_waits s t act ≡ None → Ready y s t p wrap act plug → StepsTyped (moves_by now move) s t fresh.None (record { act = act; plug = λ v. wrap (plug v) })

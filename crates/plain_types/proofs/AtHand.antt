@@ -223,7 +223,7 @@ hand_changed y a a2 t x x2 e ts us ts2 o o2 g E2 v st runs at fc only objects sl
 
     core : RunningCore (typing_with y E2 y.marks) (store (typing_with y E2 y.marks) a2) t (a2.pair t) x2
     core =
-        unfocus y a a2 t e e us ts2 o o2 g E2 y.marks x2 fc tops thread (λ i l. but (temp_k t i) (λ q. let f : i ≡ length us = cc in omega (arith, l, f))) temps_free (omega arith) at2
+        unfocus y a a2 t e e us ts2 o o2 g E2 y.marks x2 fc tops thread (λ i l. but (temp_k t i) (λ q. let f : i ≡ length us = cc in omega (arith, l, f))) temps_free (λ i l n. fc.high i n (omega (arith, l))) at2
         (ap (λ (z : Entry). z.gives) (sym entry_is) ∙ mine.gives) (only.pairs t ∙ alone)
         (ap length slots ∙ mine.all_slots ∙ ap (λ (z : Entry). length z.env) entry_is) long
         (λ i. ap (λ (z : Entry). is_hidden (env_at z.env i)) (sym entry_is) ∙ mine.hidden i ∙ ap is_held (sym (slot_same i)))

@@ -25,7 +25,7 @@ module _ {y : Typing} {a a2 : PlainState Position} {t : ℕ} {x x2 : Running Pos
   went_on u w e = ⊎_elim (λ (s : u ≡ t). (x, ap (λ z. place_in (a.thread z)) s ∙ c.was)) (λ (ne : u ≢ t). (w, sym (ap place_in (c.others u ne)) ∙ e)) (decide_number u t)
 
   one_mark : (m : MutexNo) → HasOneMark a m → HasOneMark a2 m
-  one_mark = one_mark_to a a2 t x x2 c.was c.now c.others c.still c.marked
+  one_mark m = one_mark_to a a2 t x x2 c.was c.now c.others m (λ i. c.still i m) (λ i. c.marked i m)
 
   mutex_two : (m : MutexNo) (z : Shared) → a2.mutex m ≡ Some z → MutexTyped y2 a2 s2 m z
   mutex_two m z e =
@@ -35,7 +35,7 @@ module _ {y : Typing} {a a2 : PlainState Position} {t : ℕ} {x x2 : Running Pos
         shares = as_many Counted (store y a) s2 c.carried m (λ q. tt) z.shares h.shares;
         needed = h.needed;
         out = λ f. one_mark m (h.out f);
-        unheld = λ v f u i w. h.unheld v f u i (mark_back a a2 t x x2 c.was c.now c.others c.still c.marked m u i w);
+        unheld = λ v f u i w. h.unheld v f u i (mark_back a a2 t x x2 c.was c.now c.others m (λ i. c.still i m) (λ i. c.marked i m) u i w);
         content = λ v f. c.same (content_k m.home m.count) (λ g. cc) ∙ h.content v f;
       }
 

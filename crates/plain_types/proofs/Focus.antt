@@ -206,7 +206,7 @@ pub unfocus : (y : Typing) (a a2 : PlainState Position) (t : ℕ) (e e2 : Env) (
     → ThreadTyped (slot_k t) y.rank (hand_at t us) e2 E2 (store (typing_with y E2 M2) a2) o2
     → ((i : ℕ) → i < length us → E2 (temp_k t i) ≡ y.exact (temp_k t i))
     → ((n : ℕ) → Unnamed E2 (temp_k t n))
-    → length e2 ≤ suc (length e)
+    → ((i : ℕ) → i < length e2 → (n : ℕ) → y.rank (slot_k t i) < y.rank (temp_k t n))
     → x2.place.entry ≡ going e2 ts2 g
     → g ≡ y.gives.result t
     → a2.pair t ≡ None
@@ -215,10 +215,10 @@ pub unfocus : (y : Typing) (a a2 : PlainState Position) (t : ℕ) (e e2 : Env) (
     → ((i : ℕ) → is_hidden (env_at e2 i) ≡ is_held (slot_at x2.slots i))
     → ((i : ℕ) (m : MutexNo) → slot_at x2.slots i ≡ Some (Held m) → IsLock (typing_with y E2 M2) (store (typing_with y E2 M2) a2) e2 t i m)
     → RunningCore (typing_with y E2 M2) (store (typing_with y E2 M2) a2) t (a2.pair t) x2
-unfocus y a a2 t e e2 us ts2 o o2 g E2 M2 x2 fc tops th stay free long at gives alone slots temps hidden marked = by us o2 ts2 tops fc.waits fc.ints th stay at temps (keys_at t y.rank (hand_at t us) zero fc.keys)
+unfocus y a a2 t e e2 us ts2 o o2 g E2 M2 x2 fc tops th stay free high at gives alone slots temps hidden marked = by us o2 ts2 tops fc.waits fc.ints th stay at temps (keys_at t y.rank (hand_at t us) zero fc.keys)
   where
     over : (n i : ℕ) → i < length e2 → y.rank (slot_k t i) < y.rank (temp_k t n)
-    over n i l = fc.high i n (omega (arith, l, long))
+    over n i l = high i l n
 
     made : (us : List Kind) (ts2 : List Kind) → x2.place.entry ≡ going e2 ts2 g → length x2.place.temps ≡ length ts2 → ThreadKeys (slot_k t) y.rank (temp_k t zero)
         → ThreadTyped (slot_k t) y.rank (hand_key t ts2) e2 E2 (store (typing_with y E2 M2) a2) (hand_kind ts2) → ((i : ℕ) → i < operands ts2 → E2 (temp_k t i) ≡ owns int_tree) → RunningCore (typing_with y E2 M2) (store (typing_with y E2 M2) a2) t (a2.pair t) x2

@@ -183,7 +183,7 @@ module _ {a0 : PlainState Position} {n : ℕ} {x : Running Position} {e : Env} {
         entry = refl;
         temps = ap suc as_many_temps;
         slots = z.running.all_slots ∙ ap (λ (w : Entry). length w.env) e_is;
-        long = omega arith;
+        over = λ i lt m. z.focus.high i m (omega (arith, lt));
         thread = thread;
         same = λ j q. off j (λ f. untouched_other n j q (ap thread_of_key f));
         waits = λ i lt. off (temp_k n i) (λ f. let q : i ≡ length us = cc in omega (arith, lt, q));
@@ -214,8 +214,8 @@ module _ {a0 : PlainState Position} {n : ℕ} {x : Running Position} {e : Env} {
               given = only.given m ∙ d.given;
               shares = as_many Passed s1 s2 carried m (λ c. tt) w.shares d.shares;
               needed = d.needed;
-              out = λ r. one_mark_to l.state a2 n l.running x2 l.at.runs only.now only.others (λ i c q. q) (λ i c q. q) m (d.out r);
-              unheld = λ c r u i mark. d.unheld c r u i (mark_back l.state a2 n l.running x2 l.at.runs only.now only.others (λ i c q. q) (λ i c q. q) m u i mark);
+              out = λ r. one_mark_to l.state a2 n l.running x2 l.at.runs only.now only.others m (λ i q. q) (λ i q. q) (d.out r);
+              unheld = λ c r u i mark. d.unheld c r u i (mark_back l.state a2 n l.running x2 l.at.runs only.now only.others m (λ i q. q) (λ i q. q) u i mark);
               content = λ c r. off (content_k m.home m.count) (λ q. cc) ∙ d.content c r;
             };
         one_task = λ q r u c d f b. sym (carried.to_from q) ∙ ap carried.to (z.at.state.one_task (carried.from q) (carried.from r) u c d (carried.back q (task_v u c) tt f) (carried.back r (task_v u d) tt b)) ∙ carried.to_from r;

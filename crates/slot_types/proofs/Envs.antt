@@ -53,7 +53,8 @@ part_type (r ∷ e) x s is =
 
 -- OWNED TYPES OF PARTS
 
-same_tree : (a b : Owned) → tree_of a ≡ tree_of b → a ≡ b
+-- a tree is one owned type's
+pub same_tree : (a b : Owned) → tree_of a ≡ tree_of b → a ≡ b
 same_tree unit unit e = refl
 same_tree int int e = refl
 same_tree (box a) (box b) e = ap box (same_tree a b (let f : tree_of a ≡ tree_of b = cc in f))

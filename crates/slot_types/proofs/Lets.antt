@@ -78,7 +78,7 @@ focus_at y a t x e ts us o g h tops w =
 -- A NEW SLOT
 
 -- the slots below a new one are those that were there
-below_new : (s : Slot) (e : Env) (i : ℕ) → i ≢ length e → env_at (s ∷ e) i ≡ env_at e i
+pub below_new : (s : Slot) (e : Env) (i : ℕ) → i ≢ length e → env_at (s ∷ e) i ≡ env_at e i
 below_new s e i ne = eq_cases (λ b. (if b then Some s else env_at e i) ≡ env_at e i) i (length e) (λ q. absurd (ne q)) (λ z. refl)
 
 -- beyond the last slot is none

@@ -175,7 +175,7 @@ slots_changed {y = y} {a = a} {a2 = a2} {t = t} {x = x} {x2 = x2} {e = e} {e2 = 
 
     core : RunningCore (typing_with y E2 y.marks) (store (typing_with y E2 y.marks) a2) t (a2.pair t) x2
     core =
-        unfocus y a a2 t e e2 us ts2 o o2 g E2 y.marks x2 fc c.tops c.thread (λ i l. c.others (temp_k t i) (λ q. let f : i ≡ length us = cc in omega (arith, l, f)) (λ n q. cc)) temps_free c.long c.entry
+        unfocus y a a2 t e e2 us ts2 o o2 g E2 y.marks x2 fc c.tops c.thread (λ i l. c.others (temp_k t i) (λ q. let f : i ≡ length us = cc in omega (arith, l, f)) (λ n q. cc)) temps_free (λ i l n. let k = c.long in fc.high i n (omega (arith, l, k))) c.entry
         (ap (λ (z : Entry). z.gives) (sym entry_is) ∙ mine.gives) (c.only.pairs t ∙ alone)
         c.slots c.temps c.hidden lock_two
 

@@ -1,5 +1,5 @@
 -- A change of a thread's slots and temporary values where objects and mutexes may come and go: what is counted is told sum by sum.
-use Rattle.std.proofs.Common.{◌≡◌, ◌≢◌, ◌⊎◌, inl, inr, ⊎_elim, ◌∙◌, ℕ, suc, ◌<◌, ◌≤◌, Bool, false, List, length, Option, Some, None, refl, sym, ap, subst}
+use Rattle.std.proofs.Common.{◌≡◌, ◌≢◌, ◌⊎◌, inl, inr, ⊎_elim, ◌∙◌, ℕ, ◌<◌, Bool, false, List, length, Option, Some, None, refl, sym, ap, subst}
 use Rattle.std.specs.Prelude.{is_some}
 use Rattle.fr_base.specs.declared.name.ObjNo.{ObjNo}
 use Rattle.fr_base.specs.declared.name.MutexNo.{MutexNo}
@@ -87,7 +87,7 @@ pub record Base (y : Typing) (a a2 : PlainState Position) (t : ℕ) (x x2 : Runn
   pub entry : x2.place.entry ≡ going e2 ts2 g
   pub temps : length x2.place.temps ≡ length ts2
   pub slots : length x2.slots ≡ length e2
-  pub long : length e2 ≤ suc (length e)
+  pub over : (i : ℕ) → i < length e2 → (n : ℕ) → y.rank (slot_k t i) < y.rank (temp_k t n)
   pub thread : ThreadTyped (slot_k t) y.rank (hand_at t us) e2 E2 (store (typing_with y E2 M2) a2) o2
   pub same : (k : Key) → touched t k ≡ false → E2 k ≡ y.exact k
   pub waits : (i : ℕ) → i < length us → E2 (temp_k t i) ≡ y.exact (temp_k t i)
@@ -137,7 +137,7 @@ turned {y = y} {a = a} {a2 = a2} {t = t} {x = x} {x2 = x2} {e = e} {e2 = e2} {ts
 
     core : RunningCore (typing_with y E2 M2) (store (typing_with y E2 M2) a2) t (a2.pair t) x2
     core =
-        unfocus y a a2 t e e2 us ts2 o o2 g E2 M2 x2 fc c.tops c.thread c.waits temps_free c.long c.entry
+        unfocus y a a2 t e e2 us ts2 o o2 g E2 M2 x2 fc c.tops c.thread c.waits temps_free c.over c.entry
         (ap (λ (z : Entry). z.gives) (sym entry_is) ∙ mine.gives) (c.lone.pairs t ∙ alone)
         c.slots c.temps c.hidden c.locks
 

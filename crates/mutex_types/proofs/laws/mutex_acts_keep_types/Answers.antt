@@ -1,5 +1,9 @@
 use Rattle.mutex_types.proofs.laws.mutex_acts_keep_types.Goals as goal
 use Rattle.mutex_types.proofs.Dups.{dup_keeps}
+use Rattle.mutex_types.proofs.Locks.{lock_keeps}
 
-pub returns : goal.returns
-returns c = record { dup = dup_keeps }
+pub returns-clause-dup : goal.returns-clause-dup
+returns-clause-dup c = dup_keeps
+
+pub returns-clause-lock : goal.returns-clause-lock
+returns-clause-lock c = lock_keeps
