@@ -1,4 +1,4 @@
-//! Tests of journals: which are legal, and what their acts send. They stand in a crate of their own, since tests within a crate
+//! Tests of journals: which are legal, what their acts send, and the texts that are written of them. They stand in a crate of their own, since tests within a crate
 //! prove its functions once more.
 #![tactic(auto)]
 
@@ -6,3 +6,5 @@
 mod legality;
 #[cfg(test)]
 mod rows;
+#[cfg(test)]
+mod texts;

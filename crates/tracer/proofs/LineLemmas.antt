@@ -20,7 +20,7 @@ use Rattle.fr_base.specs.declared.step.Ending.{Ending}
 use Rattle.fr_base.specs.declared.step.Wait.{Wait}
 use Rattle.tracer.specs.ReportText.{IsReport, report}
 use Rattle.tracer.specs.Counting.{newlines}
-use Rattle.tracer.proofs.FigureLemmas.{tot_append}
+use Rattle.coloured_heap.proofs.Counted.{tot_append}
 
 -- two texts have as many as both together
 in_both : (a b : List ℕ) → newlines (a ++ b) ≡ newlines a + newlines b

@@ -4,8 +4,6 @@
 mod figures;
 mod names;
 mod report;
-#[cfg(test)]
-mod tests;
 mod trace;
 
 pub use report::{report_text, summary_text};

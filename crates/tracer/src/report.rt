@@ -3,14 +3,16 @@
 ghost use Rattle.std.specs.Prelude.{◌≡◌, ◌++◌, ◌∷◌, [], length, codes, IfOk, OnOk, string_bytes};
 ghost use Rattle.std.specs.Fmt.{decimal};
 ghost use Rattle.fr_base.specs.Lists.{last_of};
-ghost use Rattle.coloured_heap.specs.Sends.{count};
+ghost use Rattle.coloured_heap.specs.Sends.{messages};
 ghost use Rattle.journal.specs.Journals.{printed, prints};
-ghost use Rattle.tracer.specs.Counting.{newlines};
-ghost use Rattle.tracer.specs.ReportText.{IsReport, count_lines, ended_line, ending_text, figure_lines, kind_line, kind_lines, kind_text, last_line, number_line, print_line, print_lines, report, summary, wait_line, wait_lines, wait_text, waits_lines};
+ghost use Rattle.tracer.specs.Counting.{newlines, tally_lines};
+ghost use Rattle.tracer.specs.ReportText.{IsReport, count_lines, ended_line, ending_text, figure_lines, kind_line, kind_text, last_line, number_line, print_line, print_lines, report, summary, wait_line, wait_lines, wait_text, waits_lines};
 
-use crate::figures::{Figure, count_of, count_steps};
+use crate::figures::figures_of;
 use crate::names::add_signed;
+use coloured_heap::message_counts;
 use fr_base::{Ending, Kind, Label, List, NoMemory, ThreadNo, Wait, Waits};
+use fr_tally::Tally;
 use itoa::Buffer;
 use journal::{Journal, add_mutex, add_thread, order_text};
 use std::alloc::Global;
@@ -134,36 +136,38 @@ fn add_kind(text: &mut String, kind: Kind, count: u128) -> Result<(), NoMemory>
     add_number_line(text, kind_name(kind), count)
 }
 
-// Adds the lines of these kinds.
-fn add_kinds(text: &mut String, journal: &Journal, kinds: &[Kind]) -> Result<(), NoMemory>
-    ensures { OnOk result (string_bytes text.new ≡ string_bytes text.old ++ kind_lines journal.now.items kinds.now) }
+// Adds the lines of these kinds, of which so many messages were counted.
+fn add_kinds(text: &mut String, tally: &Tally<16>, kinds: &[Kind]) -> Result<(), NoMemory>
+    ensures { OnOk result (string_bytes text.new ≡ string_bytes text.old ++ tally_lines tally.now kinds.now) }
 {
     'kinds: for kind in kinds {
-        let count = count_of(Figure::OfKind(*kind), journal);
-        add_kind(text, *kind, count)?;
+        add_kind(text, *kind, u128::from(tally.count(kind.number())))?;
     }
     Ok(())
 }
 
-// Adds the journal's counts.
-fn add_counts(text: &mut String, journal: &Journal) -> Result<(), NoMemory>
-    ensures { OnOk result (string_bytes text.new ≡ string_bytes text.old ++ count_lines journal.now.items) }
+// Adds the journal's counts; the messages were counted.
+fn add_counts(text: &mut String, journal: &Journal, sent: u64) -> Result<(), NoMemory>
+    ensures { OnOk result (sent ≡ messages journal.now.items → string_bytes text.new ≡ string_bytes text.old ++ count_lines journal.now.items) }
 {
-    add_number_line(text, "steps", u128::from(count_steps(journal)))?;
+    let figures = figures_of(journal);
+    add_number_line(text, "steps", u128::from(figures.steps))?;
     add_number_line(text, "events", u128::from(journal.len()))?;
-    add_number_line(text, "issued", count_of(Figure::Issued, journal))?;
-    add_number_line(text, "renewed", count_of(Figure::Renewed, journal))?;
-    add_number_line(text, "hits", count_of(Figure::Hits, journal))?;
-    add_number_line(text, "evictions", count_of(Figure::Evictions, journal))?;
-    add_number_line(text, "messages", count_of(Figure::Messages, journal))
+    add_number_line(text, "issued", figures.issued)?;
+    add_number_line(text, "renewed", figures.renewed)?;
+    add_number_line(text, "hits", figures.hits)?;
+    add_number_line(text, "evictions", figures.evictions)?;
+    add_number_line(text, "messages", u128::from(sent))
 }
 
 // Adds the journal's figures.
 fn add_figures(text: &mut String, journal: &Journal) -> Result<(), NoMemory>
     ensures { OnOk result (string_bytes text.new ≡ string_bytes text.old ++ figure_lines journal.now.items) }
 {
-    add_counts(text, journal)?;
-    add_kinds(text, journal, &KINDS)
+    let tally = message_counts(journal)?;
+    add_counts(text, journal, tally.total())?;
+    add_kinds(text, &tally, &KINDS)?;
+    Ok(())
 }
 
 // Adds what a thread waits for.

@@ -4,5 +4,5 @@ use Rattle.tracer.proofs.figures.count_acts.Goals as goal
 
 pub acts-preserved : goal.acts-preserved
 acts-preserved c =
-    let more = act_at c.args.figure c.args.here c.args.acts.now c.acts.act-index c.act-item.result c.acts-test.true c.act-item.is in
+    let more = act_at c.args.figure c.args.acts.now c.acts.act-index c.act-item.result c.acts-test.true c.act-item.is in
     search (rules, more)

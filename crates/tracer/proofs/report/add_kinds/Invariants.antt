@@ -1,6 +1,6 @@
 use Rattle.std.proofs.Common.{◌≡◌, ◌++◌, drop, string_bytes}
-use Rattle.tracer.specs.ReportText.{kind_lines}
+use Rattle.tracer.specs.Counting.{tally_lines}
 use Rattle.tracer.proofs.report.add_kinds.Given as goal
 
 abbrev pub invariant-kinds : goal.invariant-kinds
-invariant-kinds l = string_bytes l.text ++ kind_lines l.journal.items (drop l.kind-index l.kinds) ≡ string_bytes l.initial.text ++ kind_lines l.journal.items l.kinds
+invariant-kinds l = string_bytes l.text ++ tally_lines l.tally (drop l.kind-index l.kinds) ≡ string_bytes l.initial.text ++ tally_lines l.tally l.kinds

@@ -3,7 +3,6 @@
 ghost use Rattle.std.specs.Prelude.{IfOk};
 ghost use Rattle.journal.specs.Journals.{NamesItsThread};
 
-use crate::{report_text, summary_text, trace_text};
 use fr_base::{
     Ending, Fresh, Label, Labels, MutexNo, ObjNo, Plain, Released, ThreadNo, Wait, Waits,
 };
@@ -11,6 +10,7 @@ use global_addr::Word;
 use journal::{Act, Acts, Entry, Journal};
 use std::alloc::Global;
 use std::test::Fail;
+use tracer::{report_text, summary_text, trace_text};
 
 fn object(count: u64) -> ObjNo {
     ObjNo {
