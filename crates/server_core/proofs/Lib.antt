@@ -4,3 +4,5 @@ mod WaitLemmas
 mod ServerLemmas
 mod DeliverLemmas
 mod PassLemmas
+mod PlaceLemmas
+mod LabelLemmas

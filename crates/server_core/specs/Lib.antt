@@ -5,3 +5,7 @@ pub mod Servers
 pub mod Hands
 pub mod Sites
 pub mod Passes
+pub mod Spots
+pub mod Prepareds
+pub mod Committeds
+pub mod Accesses

@@ -1,0 +1,16 @@
+-- What became of a plain step, as the definitions have it.
+use Rattle.std.specs.Prelude.{Bool, true, false}
+use Rattle.server_model.specs.Work.{Hand}
+use Rattle.server_model.specs.Commit.{Committed, done, waits, refused}
+use Rattle.server_core.specs.declared.committed.Committed.{Committed as Made}
+use Rattle.server_core.specs.declared.committed.Committed.TheVariants as made
+
+-- done with what the event has done, or one request was sent
+abbrev pub committed : Made → Hand → Committed
+committed (made.Done names) h = done names h
+committed made.Waits h = waits h
+
+-- each value that the step needs is there
+abbrev pub is_committed : Committed → Bool
+is_committed refused = false
+is_committed c = true
