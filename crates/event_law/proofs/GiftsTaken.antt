@@ -90,7 +90,7 @@ module _ (k : Cluster) (sound : IsSound k) (number : ℕ) (s : Server) (here : s
   me = record { server = n; packed = false; thread = y }
 
   -- what no thread breaks it doesn't
-  none_here : (f : Standing → ℕ) → tot f (threads_in (things_of k)) ≡ 0 → f me ≡ 0
+  pub none_here : (f : Standing → ℕ) → tot f (threads_in (things_of k)) ≡ 0 → f me ≡ 0
   none_here f z =
       let g = on_standing f in
       omega (arith, z, sum_standing f (things_of k), (tot-server g k.servers number s s here).0, server_parts g s, tot-without n g s.threads t y at)

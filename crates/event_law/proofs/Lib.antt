@@ -75,3 +75,4 @@ pub mod MigrateResults
 pub mod ValuesThere
 pub mod DupResults
 pub mod FetchedResults
+pub mod StepResults

@@ -3,6 +3,9 @@ use Rattle.std.specs.Prelude.{◌≡◌, ◌≤◌, ◌<◌, ◌+◌, ◌^◌, �
 use Rattle.std.specs.List.{AllByRecursion}
 use Rattle.fr_base.specs.declared.name.MutexNo.{MutexNo}
 use Rattle.fr_base.specs.declared.instruction.Instr.{Instr}
+use Rattle.fr_base.specs.declared.instruction.Instr.TheVariants.{ParEnd}
+use Rattle.fr_base.specs.declared.instruction.Instr.TheVariants as instr
+use Rattle.fr_base.specs.declared.instruction.Operand.{Operand}
 use Rattle.fr_base.specs.declared.release.Released.TheVariants.{Mutex, Task}
 use Rattle.fr_base.specs.declared.settings.Options.{Options}
 use Rattle.global_addr.specs.Words.{server_of}
@@ -16,6 +19,7 @@ use Rattle.server_model.specs.declared.event.What.{What}
 use Rattle.server_model.specs.declared.event.What.TheVariants.{Deliver, Evict}
 use Rattle.server_model.specs.declared.event.What.TheVariants as what
 use Rattle.server_model.specs.Servers.{Sent, Server, Cluster, server_at, start_of}
+use Rattle.server_model.specs.Work.{thread_in}
 use Rattle.server_model.specs.Events.{enabled}
 use Rattle.server_model.specs.Clusters.{with_server, with_outbox, hand_over_newer, done_at, act_at, apply}
 use Rattle.heap_law.specs.Names.{tot, some}
@@ -218,6 +222,13 @@ pub record AnswersHaveResults : Type 0 where
   -- a result
   pub joins : (k : Cluster) (n i : ℕ) (s : Server) (u : ℕ) (v : Owned) (t : ℕ) → IsSound k → server_at k.servers n ≡ Some s → enabled k.options s (Deliver i) ≡ true → slice_get s.rest.inbox i ≡ Some (Joined u v t)
       → HasResult k n (Deliver i)
+
+-- the step of a thread that has got what it waited for and follows no place, in a sound cluster: at the end of a pair, and at a join
+pub record StepsHaveResults : Type 0 where
+  pub pairs : (k : Cluster) (n t : ℕ) (s : Server) (y : ThreadState) → IsSound k → server_at k.servers n ≡ Some s → enabled k.options s (what.Step t) ≡ true → thread_in s.threads t ≡ Some y → slice_get k.code y.pc ≡ Some ParEnd
+      → HasResult k n (what.Step t)
+  pub joins : (k : Cluster) (n t : ℕ) (s : Server) (y : ThreadState) (o : Operand) (v : Owned) → IsSound k → server_at k.servers n ≡ Some s → enabled k.options s (what.Step t) ≡ true → thread_in s.threads t ≡ Some y → y.gift ≡ Some v
+      → slice_get k.code y.pc ≡ Some (instr.Join o) → HasResult k n (what.Step t)
 
 -- WHERE NAMES LEAD
 

@@ -1,6 +1,6 @@
 //! That an event that is enabled has a result.
 
-ghost use Rattle.event_law.specs.Laws.{AnswersHaveResults, DupsHaveResults, EvictionsHaveResults, FetchedHaveResults, FinishesHaveResults, JoinsHaveResults, MigrationsHaveResults, MutexesHaveResults, ParcelsHaveResults, StartsHaveResults, TasksLetGoHaveResults};
+ghost use Rattle.event_law.specs.Laws.{AnswersHaveResults, DupsHaveResults, EvictionsHaveResults, FetchedHaveResults, FinishesHaveResults, JoinsHaveResults, MigrationsHaveResults, MutexesHaveResults, ParcelsHaveResults, StartsHaveResults, StepsHaveResults, TasksLetGoHaveResults};
 
 /// The eviction of a copy that nobody uses, and the delivery of a thread, in whatever cluster.
 pub fn leaving_and_arriving()
@@ -35,4 +35,9 @@ pub fn tasks()
 /// A migration that is enabled, in a sound cluster.
 pub fn moving()
     ensures { MigrationsHaveResults }
+{}
+
+/// The step of a thread that has got what it waited for, at the end of a pair or at a join, in a sound cluster.
+pub fn getting()
+    ensures { StepsHaveResults }
 {}
