@@ -165,6 +165,7 @@ module _ (s : Machine Position) (t : Thread Position) (p : Position) (e : Env) (
     base = record {
       lone = lone;
       tops = top_some;
+      idle = λ q. cc;
       entry = refl;
       temps = ap suc z.long;
       slots = z.running.all_slots ∙ ap (λ (r : Entry). length r.env) e_is;

@@ -4,3 +4,4 @@ pub mod Found
 pub mod Dups
 pub mod LockTypes
 pub mod Locks
+pub mod Unlocks

@@ -59,6 +59,7 @@ use Rattle.mutex_types.proofs.LockTypes.{locked_types, locked_refs, locked_same,
 
 -- a thread between two acts, with room for two slots
 pub record Roomy (a : PlainState Position) (t : ℕ) (x : Running Position) (e : Env) (ts : List Kind) (g : Owned) : Type 0 where
+  pub waits : wait ts ≡ true
   pub ranked : Ranked a t x e ts ts None g
   pub high : (i n : ℕ) → i ≤ suc (length e) → ranked.typing.rank (slot_k t i) < ranked.typing.rank (temp_k t n)
 
@@ -70,10 +71,11 @@ roomy y a t x e ts g h w =
     let q = st.threads t x h.runs in
     let is : q.entry ≡ going e ts g = sym q.known ∙ h.entry in
     record {
+      waits = w;
       ranked = record {
         typing = raised_typing n y;
         at = record { state = st; runs = h.runs; entry = h.entry };
-        focus = focus (raised_typing n y) a t x e ts g st h.runs h.entry (λ i m le. big r.keys.ranks i m (omega (arith, le))) ts None top_none w;
+        focus = focus (raised_typing n y) a t x e ts g st h.runs h.entry (λ i m le. big r.keys.ranks i m (omega (arith, le))) ts None top_none (λ z. w);
         running = q;
         gives = ap (λ (z : Entry). z.gives) (sym is) ∙ q.gives;
         long = q.all_temps ∙ ap (λ (z : Entry). length z.temps) is;
@@ -326,6 +328,7 @@ module _ (s : Machine Position) (t : Thread Position) (p : Position) (e : Env) (
     base = record {
       lone = lone;
       tops = top_none;
+      idle = λ q. r.waits;
       entry = refl;
       temps = r.ranked.long;
       slots = ap (λ i. suc (suc i)) long;

@@ -3,7 +3,7 @@ use Rattle.std.specs.Prelude.{◌≡◌, Option, None}
 use Rattle.fr_base.specs.declared.place.Lval.{Lval}
 use Rattle.fr_base.specs.declared.step.Fresh.TheVariants as fresh
 use Rattle.fr_plain.specs.declared.value.Value.{Value}
-use Rattle.fr_plain.specs.MachineActs.{Act, do_dup, do_lock}
+use Rattle.fr_plain.specs.MachineActs.{Act, do_dup, do_lock, do_unlock}
 use Rattle.fr_plain.specs.MachineThreads.{Now, Move, Life, Thread, Whole}
 use Rattle.fr_plain.specs.Machine.{act_waits}
 use Rattle.fr_sound.specs.States.{Typing}
@@ -17,6 +17,10 @@ IsDup a = (w : Lval) × (a ≡ do_dup w)
 -- a lock
 abbrev pub IsLocking : Act Position → Type 0
 IsLocking a = (w : Lval) × (a ≡ do_lock w)
+
+-- an unlock
+abbrev pub IsUnlocking : Act Position → Type 0
+IsUnlocking a = a ≡ do_unlock
 
 -- an act of this form, granted in a typed state, can be done without a new name and leaves a typed state, unless it waits
 abbrev pub KeepsUnlessWaiting : (Act Position → Type 0) → Type 0

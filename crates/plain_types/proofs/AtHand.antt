@@ -21,6 +21,7 @@ use Rattle.fr_plain.specs.PlainState.{Running, PlainState, place_in}
 use Rattle.fr_sound.specs.Seen.{seen_cell}
 use Rattle.fr_sound.specs.Entries.{Entry, going}
 use Rattle.fr_sound.specs.States.{Typing, key_val, slot_val, temp_val, result_val, content_val, RunningTyped, env_at, is_hidden, is_held, IsLock, thread_of_key}
+use Rattle.fr_code.specs.CodeTypes.{wait}
 use Rattle.plain_types.specs.Positions.{Position, Knows, temps_of, PositionTypes}
 use Rattle.plain_types.proofs.Lower.{seen_as, seen_is, below_object}
 use Rattle.plain_types.proofs.OneThread.{store, typing_with, Counted, Carried, with_running, RunningCore, Changes, runs_still}
@@ -143,6 +144,7 @@ pub hand_changed : (y : Typing) (a a2 : PlainState Position) (t : ℕ) (x x2 : R
     → ((o : ObjNo) → a2.object o ≡ a.object o)
     → x2.slots ≡ x.slots
     → Tops us o2 ts2
+    → (o2 ≡ None → wait us ≡ true)
     → x2.place.entry ≡ going e ts2 g
     → length x2.place.temps ≡ length ts2
     → ((i : ℕ) → i ≢ length us → seen_as y.gives t gone_v (slot_at x2.place.temps i) ≡ seen_as y.gives t gone_v (slot_at x.place.temps i))
@@ -153,7 +155,7 @@ pub hand_changed : (y : Typing) (a a2 : PlainState Position) (t : ℕ) (x x2 : R
     → (Counted ((store y a).at (hand_at t us)) → ⊥)
     → (Counted v → ⊥)
     → PositionTypes (typing_with y E2 y.marks) a2
-hand_changed y a a2 t x x2 e ts us ts2 o o2 g E2 v st runs at fc only objects slots tops at2 long others hand th but new old_plain new_plain = changed_typed st changes
+hand_changed y a a2 t x x2 e ts us ts2 o o2 g E2 v st runs at fc only objects slots tops idle at2 long others hand th but new old_plain new_plain = changed_typed st changes
   where
     h : Key
     h = hand_at t us
@@ -223,7 +225,7 @@ hand_changed y a a2 t x x2 e ts us ts2 o o2 g E2 v st runs at fc only objects sl
 
     core : RunningCore (typing_with y E2 y.marks) (store (typing_with y E2 y.marks) a2) t (a2.pair t) x2
     core =
-        unfocus y a a2 t e e us ts2 o o2 g E2 y.marks x2 fc tops thread (λ i l. but (temp_k t i) (λ q. let f : i ≡ length us = cc in omega (arith, l, f))) temps_free (λ i l n. fc.high i n (omega (arith, l))) at2
+        unfocus y a a2 t e e us ts2 o o2 g E2 y.marks x2 fc tops idle thread (λ i l. but (temp_k t i) (λ q. let f : i ≡ length us = cc in omega (arith, l, f))) temps_free (λ i l n. fc.high i n (omega (arith, l))) at2
         (ap (λ (z : Entry). z.gives) (sym entry_is) ∙ mine.gives) (only.pairs t ∙ alone)
         (ap length slots ∙ mine.all_slots ∙ ap (λ (z : Entry). length z.env) entry_is) long
         (λ i. ap (λ (z : Entry). is_hidden (env_at z.env i)) (sym entry_is) ∙ mine.hidden i ∙ ap is_held (sym (slot_same i)))

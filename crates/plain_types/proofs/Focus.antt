@@ -71,7 +71,6 @@ hand_at t us = temp_k t (length us)
 
 -- a thread of a typed state with its hand above what waits
 pub record Focus (y : Typing) (a : PlainState Position) (t : ℕ) (e : Env) (us : List Kind) (o : Option Kind) : Type 0 where
-  pub waits : wait us ≡ true
   pub ints : (i : ℕ) → i < length us → y.exact (temp_k t i) ≡ owns int_tree
   pub keys : ThreadKeys (slot_k t) y.rank (hand_at t us)
   pub thread : ThreadTyped (slot_k t) y.rank (hand_at t us) e y.exact (store y a) o
@@ -158,12 +157,11 @@ module _ (y : Typing) (a : PlainState Position) (t : ℕ) (x : Running Position)
       (ap (temp_val temps_of y t n) runs ∙ temp_is y t n x ∙ ap (seen_as y.gives t gone_v) (temp_none x.place.temps n (omega (arith, le, as_many_temps))))
 
   -- THE HAND IS ABOVE WHAT WAITS
-  pub focus : (us : List Kind) (o : Option Kind) → Tops us o ts → wait us ≡ true → Focus y a t e us o
+  pub focus : (us : List Kind) (o : Option Kind) → Tops us o ts → (o ≡ None → wait us ≡ true) → Focus y a t e us o
   focus us o tops w = by us o ts tops w refl
     where
       free_hand : (us : List Kind) → ts ≡ us → wait us ≡ true → Focus y a t e us None
       free_hand [] q w = record {
-        waits = w;
         ints = λ i l. absurd (omega (arith, l));
         keys = keys_are zero;
         thread = subst (λ z. ThreadTyped (slot_k t) y.rank (hand_key t z) e y.exact (store y a) (hand_kind z)) q thread_is;
@@ -174,7 +172,6 @@ module _ (y : Typing) (a : PlainState Position) (t : ℕ) (x : Running Position)
           let th : ThreadTyped (slot_k t) y.rank (temp_k t (length us)) e y.exact (store y a) (Some k) = subst (λ z. ThreadTyped (slot_k t) y.rank (hand_key t z) e y.exact (store y a) (hand_kind z)) q thread_is in
           let is : y.exact (temp_k t (length us)) ≡ owns int_tree = exact_owned (slot_k t) y.exact int (y.exact (temp_k t (length us))) (subst (λ z. ExactOf (slot_k t) y.exact (whole z) (y.exact (temp_k t (length us)))) f.0 th.temp) in
           record {
-            waits = w;
             ints = ints_all (length us) is (subst (λ z. (i : ℕ) → i < operands z → y.exact (temp_k t i) ≡ owns int_tree) q waits_are);
             keys = keys_are (suc (length us));
             thread = to_free (slot_k t) y.rank (temp_k t (length us)) (temp_k t (suc (length us))) e y.exact (store y a) (Some k) int_tree th is (beyond (suc (length us)) (let l = ap length q in omega (arith, l))) (temp_free y a t (suc (length us)) st) (λ i l. big i (suc (length us)) (omega (arith, l)));
@@ -188,10 +185,9 @@ module _ (y : Typing) (a : PlainState Position) (t : ℕ) (x : Running Position)
               cases (inl same) = ap (λ z. y.exact (temp_k t z)) same ∙ is
               cases (inr ne) = f i (omega (arith, l, ne))
 
-      by : (us : List Kind) (o : Option Kind) (rs : List Kind) → Tops us o rs → wait us ≡ true → ts ≡ rs → Focus y a t e us o
-      by us _ _ top_none w q = free_hand us q w
+      by : (us : List Kind) (o : Option Kind) (rs : List Kind) → Tops us o rs → (o ≡ None → wait us ≡ true) → ts ≡ rs → Focus y a t e us o
+      by us _ _ top_none w q = free_hand us q (w refl)
       by us _ _ (top_some {k = k}) w q = record {
-        waits = w;
         ints = subst (λ z. (i : ℕ) → i < operands z → y.exact (temp_k t i) ≡ owns int_tree) q waits_are;
         keys = keys_are (length us);
         thread = subst (λ z. ThreadTyped (slot_k t) y.rank (hand_key t z) e y.exact (store y a) (hand_kind z)) q thread_is;
@@ -202,7 +198,7 @@ module _ (y : Typing) (a : PlainState Position) (t : ℕ) (x : Running Position)
 
 -- what is known of the thread after an act that leaves the hand above what waits
 pub unfocus : (y : Typing) (a a2 : PlainState Position) (t : ℕ) (e e2 : Env) (us ts2 : List Kind) (o o2 : Option Kind) (g : Owned) (E2 : KeyTypes) (M2 : ℕ → ℕ → Location) (x2 : Running Position)
-    → Focus y a t e us o → Tops us o2 ts2
+    → Focus y a t e us o → Tops us o2 ts2 → (o2 ≡ None → wait us ≡ true)
     → ThreadTyped (slot_k t) y.rank (hand_at t us) e2 E2 (store (typing_with y E2 M2) a2) o2
     → ((i : ℕ) → i < length us → E2 (temp_k t i) ≡ y.exact (temp_k t i))
     → ((n : ℕ) → Unnamed E2 (temp_k t n))
@@ -215,7 +211,7 @@ pub unfocus : (y : Typing) (a a2 : PlainState Position) (t : ℕ) (e e2 : Env) (
     → ((i : ℕ) → is_hidden (env_at e2 i) ≡ is_held (slot_at x2.slots i))
     → ((i : ℕ) (m : MutexNo) → slot_at x2.slots i ≡ Some (Held m) → IsLock (typing_with y E2 M2) (store (typing_with y E2 M2) a2) e2 t i m)
     → RunningCore (typing_with y E2 M2) (store (typing_with y E2 M2) a2) t (a2.pair t) x2
-unfocus y a a2 t e e2 us ts2 o o2 g E2 M2 x2 fc tops th stay free high at gives alone slots temps hidden marked = by us o2 ts2 tops fc.waits fc.ints th stay at temps (keys_at t y.rank (hand_at t us) zero fc.keys)
+unfocus y a a2 t e e2 us ts2 o o2 g E2 M2 x2 fc tops idle th stay free high at gives alone slots temps hidden marked = by us o2 ts2 tops idle fc.ints th stay at temps (keys_at t y.rank (hand_at t us) zero fc.keys)
   where
     over : (n i : ℕ) → i < length e2 → y.rank (slot_k t i) < y.rank (temp_k t n)
     over n i l = high i l n
@@ -240,12 +236,12 @@ unfocus y a a2 t e e2 us ts2 o o2 g E2 M2 x2 fc tops th stay free high at gives 
         key_of [] = ks
         key_of (k ∷ ts) = keys_at t y.rank (temp_k t zero) (length ts) ks
 
-    by : (us : List Kind) (o2 : Option Kind) (ts2 : List Kind) → Tops us o2 ts2 → wait us ≡ true → ((i : ℕ) → i < length us → y.exact (temp_k t i) ≡ owns int_tree) → ThreadTyped (slot_k t) y.rank (hand_at t us) e2 E2 (store (typing_with y E2 M2) a2) o2
+    by : (us : List Kind) (o2 : Option Kind) (ts2 : List Kind) → Tops us o2 ts2 → (o2 ≡ None → wait us ≡ true) → ((i : ℕ) → i < length us → y.exact (temp_k t i) ≡ owns int_tree) → ThreadTyped (slot_k t) y.rank (hand_at t us) e2 E2 (store (typing_with y E2 M2) a2) o2
         → ((i : ℕ) → i < length us → E2 (temp_k t i) ≡ y.exact (temp_k t i)) → x2.place.entry ≡ going e2 ts2 g → length x2.place.temps ≡ length ts2 → ThreadKeys (slot_k t) y.rank (temp_k t zero) → RunningCore (typing_with y E2 M2) (store (typing_with y E2 M2) a2) t (a2.pair t) x2
     by us _ _ (top_some {k = k}) w ints th stay at temps ks = made us (k ∷ us) at temps ks th (λ i l. stay i l ∙ ints i l)
     by [] _ _ top_none w ints th stay at temps ks = made [] [] at temps ks th (λ i l. absurd (omega (arith, l)))
     by (k ∷ us) _ _ top_none w ints th stay at temps ks =
-        let f = first_waits k us w in
+        let f = first_waits k us (w refl) in
         let is : E2 (temp_k t (length us)) ≡ owns int_tree = stay (length us) (omega arith) ∙ ints (length us) (omega arith) in
         made (k ∷ us) (k ∷ us) at temps ks
         (subst (λ z. ThreadTyped (slot_k t) y.rank (temp_k t (length us)) e2 E2 (store (typing_with y E2 M2) a2) (Some z)) (sym f.0) (to_int (slot_k t) y.rank (temp_k t (length us)) (temp_k t (suc (length us))) e2 E2 (store (typing_with y E2 M2) a2) th is (free (length us)) (over (length us))))

@@ -83,7 +83,7 @@ ranked y a t x e ts us o g h tops w =
     record {
       typing = raised_typing n y;
       at = record { state = st; runs = h.runs; entry = h.entry };
-      focus = focus (raised_typing n y) a t x e ts g st h.runs h.entry (room y t e (record { differ = r.keys.differ; off = λ i z. absurd cc; ranks = r.keys.ranks })) us o tops w;
+      focus = focus (raised_typing n y) a t x e ts g st h.runs h.entry (room y t e (record { differ = r.keys.differ; off = λ i z. absurd cc; ranks = r.keys.ranks })) us o tops (λ q. w);
       running = q;
       gives = ap (λ (z : Entry). z.gives) (sym is) ∙ q.gives;
       long = q.all_temps ∙ ap (λ (z : Entry). length z.temps) is;
@@ -126,7 +126,7 @@ push y a a2 t x e us g k v p h fc only objects typed exact names new plain =
     record {
       typing = typing_with y E2 y.marks;
       at = record {
-        state = hand_changed y a a2 t x (record { place = push_place e us g k v x.place; slots = x.slots }) e us us (k ∷ us) None (Some k) g E2 (seen_as y.gives t gone_v (Some v)) h.state h.runs h.entry fc only objects refl top_some refl (ap suc long)
+        state = hand_changed y a a2 t x (record { place = push_place e us g k v x.place; slots = x.slots }) e us us (k ∷ us) None (Some k) g E2 (seen_as y.gives t gone_v (Some v)) h.state h.runs h.entry fc only objects refl top_some (λ q. cc) refl (ap suc long)
             (λ i ne. ap (seen_as y.gives t gone_v) (pushed_others v x.place.temps i (length us) (sym long) ne))
             (ap (seen_as y.gives t gone_v) (pushed_here v x.place.temps (length us) (sym long)))
             (rehung (slot_k t) y.rank (hand_at t us) e y.exact (store y a) (put_value (store y a) (at_key (hand_at t us)) (seen_as y.gives t gone_v (Some v))) None (Some k) p fc.keys fc.thread typed (subst (ExactOf (slot_k t) E2 (whole k)) (sym at_hand) exact) names off)
@@ -155,12 +155,13 @@ push y a a2 t x e us g k v p h fc only objects typed exact names new plain =
 pub pop : (y : Typing) (a a2 : PlainState Position) (t : ℕ) (x : Running Position) (e : Env) (us : List Kind) (g : Owned) (k : Kind) (v : Value) (vs : List Value)
     → At y a t x e (k ∷ us) g
     → Focus y a t e us (Some k)
+    → wait us ≡ true
     → x.place.temps ≡ v ∷ vs
     → Only a a2 t (record { place = record { entry = going e us g; temps = vs }; slots = x.slots })
     → ((o : ObjNo) → a2.object o ≡ a.object o)
     → (Counted ((store y a).at (hand_at t us)) → ⊥)
     → Becomes a2 t (record { place = record { entry = going e us g; temps = vs }; slots = x.slots }) e us g
-pop y a a2 t x e us g k v vs h fc temps only objects plain =
+pop y a a2 t x e us g k v vs h fc waits temps only objects plain =
     let r = h.state.threads t x h.runs in
     let is : r.entry ≡ going e (k ∷ us) g = sym r.known ∙ h.entry in
     let long : length x.place.temps ≡ suc (length us) = r.all_temps ∙ ap (λ (z : Entry). length z.temps) is in
@@ -171,7 +172,7 @@ pop y a a2 t x e us g k v vs h fc temps only objects plain =
     record {
       typing = typing_with y E2 y.marks;
       at = record {
-        state = hand_changed y a a2 t x x2 e (k ∷ us) us us (Some k) None g E2 gone_v h.state h.runs h.entry fc only objects refl top_none refl short
+        state = hand_changed y a a2 t x x2 e (k ∷ us) us us (Some k) None g E2 gone_v h.state h.runs h.entry fc only objects refl top_none (λ q. waits) refl short
             (λ i ne. sym (ap (λ z. seen_as y.gives t gone_v (slot_at z i)) temps ∙ ap (seen_as y.gives t gone_v) (pushed_others v vs i (length us) (sym short) ne)))
             (ap (seen_as y.gives t gone_v) (temp_none vs (length us) (omega (arith, short))))
             (rehung (slot_k t) y.rank (hand_at t us) e y.exact (store y a) (put_value (store y a) (at_key (hand_at t us)) gone_v) (Some k) None (owns hole) fc.keys fc.thread (forget y.rank y.exact (store y a) (hand_at t us) h.state.typed fc.thread.quiet) at_hand tt (λ m u q. absurd cc))

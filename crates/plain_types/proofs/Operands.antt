@@ -110,7 +110,7 @@ int_gone a a2 t x e us g v ws l only objects =
     let is : r.typing.exact (hand_at t us) ≡ owns int_tree = exact_owned (slot_k t) r.typing.exact int (r.typing.exact (hand_at t us)) r.focus.thread.temp in
     let fits = top_fits r.typing.rank r.typing.exact (store r.typing l.state) r.at.state.typed (hand_at t us) int_tree is in
     let value = hand_value r.typing l.state t (length us) l.running v ws l.at.runs l.temps long in
-    let b = pop r.typing l.state a2 t l.running e us g (own int) v ws r.at r.focus l.temps (subst (λ sl. Only l.state a2 t (record { place = record { entry = going e us g; temps = ws }; slots = sl })) (sym l.slots) (l.only a2 (record { place = record { entry = going e us g; temps = ws }; slots = x.slots }) only)) (λ o. objects o ∙ sym (l.objects o)) (λ c. subst Counted fits.1 c) in
+    let b = pop r.typing l.state a2 t l.running e us g (own int) v ws r.at r.focus l.waits l.temps (subst (λ sl. Only l.state a2 t (record { place = record { entry = going e us g; temps = ws }; slots = sl })) (sym l.slots) (l.only a2 (record { place = record { entry = going e us g; temps = ws }; slots = x.slots }) only)) (λ o. objects o ∙ sym (l.objects o)) (λ c. subst Counted fits.1 c) in
     record {
       number = fits.0;
       is = int_value r.typing.gives t v fits.0 (sym value ∙ fits.1);

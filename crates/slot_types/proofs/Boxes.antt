@@ -180,6 +180,7 @@ module _ {a0 : PlainState Position} {n : ℕ} {x : Running Position} {e : Env} {
       base = record {
         lone = lone;
         tops = top_some;
+        idle = λ q. cc;
         entry = refl;
         temps = ap suc as_many_temps;
         slots = z.running.all_slots ∙ ap (λ (w : Entry). length w.env) e_is;

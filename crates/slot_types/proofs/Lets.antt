@@ -73,7 +73,7 @@ clear_same g t mark mark2 (Held m) h = cc
 pub focus_at : (y : Typing) (a : PlainState Position) (t : ℕ) (x : Running Position) (e : Env) (ts us : List Kind) (o : Option Kind) (g : Owned) → At y a t x e ts g → Tops us o ts → wait us ≡ true → Focus (raised_typing (suc (y.rank (slot_k t (length e)))) y) a t e us o
 focus_at y a t x e ts us o g h tops w =
     let r = h.state.threads t x h.runs in
-    focus (raised_typing (suc (y.rank (slot_k t (length e)))) y) a t x e ts g (raised (suc (y.rank (slot_k t (length e)))) y a h.state) h.runs h.entry (room y t e (record { differ = r.keys.differ; off = λ i z. absurd cc; ranks = r.keys.ranks })) us o tops w
+    focus (raised_typing (suc (y.rank (slot_k t (length e)))) y) a t x e ts g (raised (suc (y.rank (slot_k t (length e)))) y a h.state) h.runs h.entry (room y t e (record { differ = r.keys.differ; off = λ i z. absurd cc; ranks = r.keys.ranks })) us o tops (λ q. w)
 
 -- A NEW SLOT
 
@@ -82,7 +82,7 @@ pub below_new : (s : Slot) (e : Env) (i : ℕ) → i ≢ length e → env_at (s 
 below_new s e i ne = eq_cases (λ b. (if b then Some s else env_at e i) ≡ env_at e i) i (length e) (λ q. absurd (ne q)) (λ z. refl)
 
 -- beyond the last slot is none
-env_none : (e : Env) (i : ℕ) → length e ≤ i → env_at e i ≡ None
+pub env_none : (e : Env) (i : ℕ) → length e ≤ i → env_at e i ≡ None
 env_none [] i le = refl
 env_none (s ∷ e) i le = eq_cases (λ b. (if b then Some s else env_at e i) ≡ None) i (length e) (λ q. absurd (omega (arith, le, q))) (λ z. env_none e i (omega (arith, le)))
 
@@ -230,6 +230,7 @@ module _ {a0 : PlainState Position} {n : ℕ} {x : Running Position} {e : Env} {
         objects = λ o w f. (w, objects o ∙ f);
         before = λ o w f. (w, sym (objects o) ∙ f);
         tops = top_none;
+        idle = λ q. l.waits;
         entry = refl;
         temps = as_many_temps;
         slots = ap suc as_many_slots;

@@ -53,7 +53,7 @@ use Rattle.plain_types.proofs.Places.{variable_below, variable_seen, leads, valu
 use Rattle.plain_types.proofs.Borrows.{variable_clear}
 use Rattle.slot_types.specs.SlotActs.{IsMove}
 use Rattle.slot_types.proofs.Rethread.{Stood, rethread}
-use Rattle.slot_types.proofs.SlotTurn.{slot_two, temp_two, same_two, alike_swap, slots_changed}
+use Rattle.slot_types.proofs.SlotTurn.{some_none, slot_two, temp_two, same_two, alike_swap, slots_changed}
 use Rattle.slot_types.proofs.Lets.{owned_in, lock_with}
 use Rattle.slot_types.proofs.OwnPaths.{own_part, swapped_types, swapped_refs, own_swapped}
 use Rattle.slot_types.proofs.Envs.{hidden_put, owned_put, part_exact, part_type, owned_under}
@@ -249,6 +249,7 @@ module _ (now : Position → Now) (move : Position → Option (Move Position Pos
         objects = still_there st machine.gone v.0 spot wr;
         before = was_there st machine.gone v.0 spot wr;
         tops = top_some;
+        idle = some_none i.kind (wait i.temps);
         entry = refl;
         temps = ap suc z.long;
         slots = slots_many st machine.gone v.0 spot ∙ z.running.all_slots ∙ ap (λ (e : Entry). length e.env) e_is ∙ sym (length_put i.env w (gone i.kind));

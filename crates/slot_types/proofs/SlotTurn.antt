@@ -1,5 +1,5 @@
 -- Slots and the value at hand change, and each counted value stands again.
-use Rattle.std.proofs.Common.{◌≡◌, ◌≢◌, ◌⊎◌, inl, inr, ⊎_elim, ◌∙◌, ℕ, suc, ◌≤◌, Bool, false, List, length, Option, Some, None, refl, sym, ap, subst, arith}
+use Rattle.std.proofs.Common.{◌≡◌, ◌≢◌, ◌⊎◌, inl, inr, ⊎_elim, ◌∙◌, ℕ, suc, ◌≤◌, Bool, true, false, List, length, Option, Some, None, refl, sym, ap, subst, arith}
 use Rattle.std.specs.Prelude.{is_some}
 use Rattle.fr_base.specs.declared.name.ObjNo.{ObjNo}
 use Rattle.fr_base.specs.declared.name.MutexNo.{MutexNo}
@@ -20,6 +20,7 @@ use Rattle.fr_plain.specs.PlainState.{Running, PlainState, place_in}
 use Rattle.fr_sound.specs.Entries.{Entry, going}
 use Rattle.fr_sound.specs.Seen.{seen_cell}
 use Rattle.fr_sound.specs.States.{Typing, slot_val, temp_val, result_val, content_val, RunningTyped, env_at, is_hidden, is_held, IsLock, thread_of_key}
+use Rattle.fr_code.specs.CodeTypes.{wait}
 use Rattle.plain_types.specs.Positions.{Position, Knows, temps_of, PositionTypes}
 use Rattle.plain_types.proofs.Lower.{seen_as, seen_is}
 use Rattle.plain_types.proofs.OneThread.{store, typing_with, Carried, RunningCore, Changes, runs_still}
@@ -114,6 +115,7 @@ pub record SlotTurn (y : Typing) (a a2 : PlainState Position) (t : ℕ) (x x2 : 
   pub objects : (o : ObjNo) (v : Plain) → a.object o ≡ Some v → (w : Plain) × (a2.object o ≡ Some w)
   pub before : (o : ObjNo) (v : Plain) → a2.object o ≡ Some v → (w : Plain) × (a.object o ≡ Some w)
   pub tops : Tops us o2 ts2
+  pub idle : o2 ≡ None → wait us ≡ true
   pub entry : x2.place.entry ≡ going e2 ts2 g
   pub temps : length x2.place.temps ≡ length ts2
   pub slots : length x2.slots ≡ length e2
@@ -128,6 +130,10 @@ pub record SlotTurn (y : Typing) (a a2 : PlainState Position) (t : ℕ) (x x2 : 
   pub content : (s : Store) (i : ℕ) (m : MutexNo) → slot_at x.slots i ≡ Some (Held m) → IsLock y s e t i m → IsLock y s e2 t i m
   pub held : (u i : ℕ) (m : MutexNo) (w : Running Position) → place_in (a.thread u) ≡ Some w → slot_at w.slots i ≡ Some (Held m) → value_at (store (typing_with y E2 y.marks) a2) (y.marks u i) ≡ value_at (store y a) (y.marks u i)
   pub carried : Carried (store y a) (store (typing_with y E2 y.marks) a2)
+
+-- where a value is at hand nothing needs to wait
+pub some_none : {A : Type 0} (x : A) (b : Bool) → Some x ≡ None → b ≡ true
+some_none x b e = cc
 
 -- a key of the thread's slots or its hand is the thread's
 pub own_thread : (t : ℕ) (us : List Kind) (j : Key) → IsOwn (slot_k t) (hand_at t us) j → thread_of_key j ≡ Some t
@@ -175,7 +181,7 @@ slots_changed {y = y} {a = a} {a2 = a2} {t = t} {x = x} {x2 = x2} {e = e} {e2 = 
 
     core : RunningCore (typing_with y E2 y.marks) (store (typing_with y E2 y.marks) a2) t (a2.pair t) x2
     core =
-        unfocus y a a2 t e e2 us ts2 o o2 g E2 y.marks x2 fc c.tops c.thread (λ i l. c.others (temp_k t i) (λ q. let f : i ≡ length us = cc in omega (arith, l, f)) (λ n q. cc)) temps_free (λ i l n. let k = c.long in fc.high i n (omega (arith, l, k))) c.entry
+        unfocus y a a2 t e e2 us ts2 o o2 g E2 y.marks x2 fc c.tops c.idle c.thread (λ i l. c.others (temp_k t i) (λ q. let f : i ≡ length us = cc in omega (arith, l, f)) (λ n q. cc)) temps_free (λ i l n. let k = c.long in fc.high i n (omega (arith, l, k))) c.entry
         (ap (λ (z : Entry). z.gives) (sym entry_is) ∙ mine.gives) (c.only.pairs t ∙ alone)
         c.slots c.temps c.hidden lock_two
 

@@ -1,5 +1,5 @@
 -- A change of a thread's slots and temporary values where objects and mutexes may come and go: what is counted is told sum by sum.
-use Rattle.std.proofs.Common.{◌≡◌, ◌≢◌, ◌⊎◌, inl, inr, ⊎_elim, ◌∙◌, ℕ, ◌<◌, Bool, false, List, length, Option, Some, None, refl, sym, ap, subst}
+use Rattle.std.proofs.Common.{◌≡◌, ◌≢◌, ◌⊎◌, inl, inr, ⊎_elim, ◌∙◌, ℕ, ◌<◌, Bool, true, false, List, length, Option, Some, None, refl, sym, ap, subst}
 use Rattle.std.specs.Prelude.{is_some}
 use Rattle.fr_base.specs.declared.name.ObjNo.{ObjNo}
 use Rattle.fr_base.specs.declared.name.MutexNo.{MutexNo}
@@ -18,6 +18,7 @@ use Rattle.fr_plain.specs.PlainState.{Running, PlainState, place_in}
 use Rattle.fr_sound.specs.Entries.{Entry, going}
 use Rattle.fr_sound.specs.Seen.{OneTask}
 use Rattle.fr_sound.specs.States.{Typing, slot_val, temp_val, result_val, content_val, RunningTyped, env_at, is_hidden, is_held, IsLock, thread_of_key, IsShare, MutexTyped}
+use Rattle.fr_code.specs.CodeTypes.{wait}
 use Rattle.plain_types.specs.Positions.{Position, Knows, temps_of, PositionTypes}
 use Rattle.plain_types.proofs.Lower.{seen_as, seen_is}
 use Rattle.plain_types.proofs.OneThread.{store, typing_with, with_running, RunningCore, touched, Turn, runs_still}
@@ -84,6 +85,7 @@ module _ (y : Typing) (a a2 : PlainState Position) (t : ℕ) (x x2 : Running Pos
 pub record Base (y : Typing) (a a2 : PlainState Position) (t : ℕ) (x x2 : Running Position) (e e2 : Env) (us ts2 : List Kind) (o2 : Option Kind) (g : Owned) (E2 : KeyTypes) (M2 : ℕ → ℕ → Location) : Type 0 where
   pub lone : Lone a a2 t x2
   pub tops : Tops us o2 ts2
+  pub idle : o2 ≡ None → wait us ≡ true
   pub entry : x2.place.entry ≡ going e2 ts2 g
   pub temps : length x2.place.temps ≡ length ts2
   pub slots : length x2.slots ≡ length e2
@@ -137,7 +139,7 @@ turned {y = y} {a = a} {a2 = a2} {t = t} {x = x} {x2 = x2} {e = e} {e2 = e2} {ts
 
     core : RunningCore (typing_with y E2 M2) (store (typing_with y E2 M2) a2) t (a2.pair t) x2
     core =
-        unfocus y a a2 t e e2 us ts2 o o2 g E2 M2 x2 fc c.tops c.thread c.waits temps_free c.over c.entry
+        unfocus y a a2 t e e2 us ts2 o o2 g E2 M2 x2 fc c.tops c.idle c.thread c.waits temps_free c.over c.entry
         (ap (λ (z : Entry). z.gives) (sym entry_is) ∙ mine.gives) (c.lone.pairs t ∙ alone)
         c.slots c.temps c.hidden c.locks
 

@@ -1,9 +1,13 @@
 use Rattle.mutex_types.proofs.laws.mutex_acts_keep_types.Goals as goal
 use Rattle.mutex_types.proofs.Dups.{dup_keeps}
 use Rattle.mutex_types.proofs.Locks.{lock_keeps}
+use Rattle.mutex_types.proofs.Unlocks.{unlock_keeps}
 
 pub returns-clause-dup : goal.returns-clause-dup
 returns-clause-dup c = dup_keeps
 
 pub returns-clause-lock : goal.returns-clause-lock
 returns-clause-lock c = lock_keeps
+
+pub returns-clause-unlock : goal.returns-clause-unlock
+returns-clause-unlock c = unlock_keeps
