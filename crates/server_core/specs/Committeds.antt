@@ -1,5 +1,7 @@
 -- What became of a plain step, as the definitions have it.
 use Rattle.std.specs.Prelude.{Bool, true, false}
+use Rattle.fr_base.specs.declared.instruction.Instr.{Instr}
+use Rattle.fr_base.specs.declared.instruction.Instr.TheVariants as instr
 use Rattle.server_model.specs.Work.{Hand}
 use Rattle.server_model.specs.Commit.{Committed, done, waits, refused}
 use Rattle.server_core.specs.declared.committed.Committed.{Committed as Made}
@@ -14,3 +16,14 @@ committed made.Waits h = waits h
 abbrev pub is_committed : Committed → Bool
 is_committed refused = false
 is_committed c = true
+
+-- its step takes no name and waits for nothing
+abbrev pub goes_alone : Instr → Bool
+goes_alone (instr.Spawn cs pc) = false
+goes_alone (instr.Join o) = false
+goes_alone (instr.Mutex o) = false
+goes_alone (instr.Dup w) = false
+goes_alone (instr.Lock w) = false
+goes_alone (instr.Par cs pc ds other) = false
+goes_alone (instr.End o) = false
+goes_alone i = true

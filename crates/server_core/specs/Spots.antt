@@ -1,5 +1,5 @@
 -- The spots of the code as the definitions have them.
-use Rattle.std.specs.Prelude.{Bool, true, false, List, [], ◌∷◌}
+use Rattle.std.specs.Prelude.{Bool, true, false, List, []}
 use Rattle.thread_state.specs.declared.value.Value.{Value}
 use Rattle.server_model.specs.Places.{Spot, in_slot, on_top, in_cell, in_copy, nowhere}
 use Rattle.server_core.specs.declared.spot.Spot.{Spot as Here}

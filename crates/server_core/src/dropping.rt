@@ -46,6 +46,7 @@ fn unpin_ref(work: &mut Work, thread: &Thread, reference: SharedRef)
 fn finish(work: &mut Work, thread: &mut Thread, holder: &Spot, reference: MutRef)
     requires result { IsSome (finish (spot holder.now) reference (hand work.old thread.old)) }
     ensures state { finish (spot holder.now) reference (hand work.old thread.old) ≡ Some (hand work.new thread.new) }
+    ensures pc { thread.new.state.pc ≡ thread.old.state.pc }
     ensures room { work.new.room ≡ work.old.room }
     ensures copies { work.new.copies ≡ work.old.copies }
     ensures thread_room { thread.new.room ≡ thread.old.room }
@@ -60,6 +61,7 @@ pub(crate) fn drop_value(work: &mut Work, thread: &mut Thread, holder: &Spot, va
     requires result { IsSome (drop_value (spot holder.now) value.now (hand work.old thread.old)) }
     requires room { 1 < work.old.room }
     ensures state { drop_value (spot holder.now) value.now (hand work.old thread.old) ≡ Some (hand work.new thread.new) }
+    ensures pc { thread.new.state.pc ≡ thread.old.state.pc }
     ensures spare { work.old.room ≤ work.new.room + 2 }
     ensures copies { work.new.copies ≡ work.old.copies }
     ensures thread_room { thread.new.room ≡ thread.old.room }

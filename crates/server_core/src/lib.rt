@@ -18,6 +18,7 @@ mod server;
 mod settling;
 mod sharing;
 mod spot;
+mod steps_alone;
 mod steps_mutexes;
 mod steps_objects;
 mod steps_places;

@@ -59,6 +59,7 @@ pub(crate) fn pop_slot(thread: &mut Thread) -> Value
 pub(crate) fn pop(work: &Work, thread: &mut Thread, operand: Operand) -> Value
     requires there { IsSome (pop operand (hand work.now thread.old)) }
     ensures state { pop operand (hand work.now thread.old) ≡ Some (record { item = result; hand = hand work.now thread.new }) }
+    ensures pc { thread.new.state.pc ≡ thread.old.state.pc }
     ensures room { thread.old.room ≤ thread.new.room }
 {
     let _work = work; // named in the contract alone
@@ -73,6 +74,7 @@ pub(crate) fn pop(work: &Work, thread: &mut Thread, operand: Operand) -> Value
 pub(crate) fn pop_owned(work: &Work, thread: &mut Thread, operand: Operand) -> Owned
     requires there { IsSome (pop_owned operand (hand work.now thread.old)) }
     ensures state { pop_owned operand (hand work.now thread.old) ≡ Some (record { item = result; hand = hand work.now thread.new }) }
+    ensures pc { thread.new.state.pc ≡ thread.old.state.pc }
     ensures room { thread.old.room ≤ thread.new.room }
 {
     match pop(work, thread, operand) {
@@ -85,6 +87,7 @@ pub(crate) fn pop_owned(work: &Work, thread: &mut Thread, operand: Operand) -> O
 pub(crate) fn pop_int(work: &Work, thread: &mut Thread, operand: Operand) -> i64
     requires there { IsSome (pop_int operand (hand work.now thread.old)) }
     ensures state { pop_int operand (hand work.now thread.old) ≡ Some (record { item = result; hand = hand work.now thread.new }) }
+    ensures pc { thread.new.state.pc ≡ thread.old.state.pc }
     ensures room { thread.old.room ≤ thread.new.room }
 {
     match pop(work, thread, operand) {

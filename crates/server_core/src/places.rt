@@ -92,6 +92,7 @@ fn written(value: Value) -> Value
 // A write to a cell is noted on the mutable reference that led straight to it.
 pub(crate) fn note_write(work: &Work, thread: &mut Thread, through: Option<u32>)
     ensures state { hand work.now thread.new ≡ note_write through (hand work.now thread.old) }
+    ensures pc { thread.new.state.pc ≡ thread.old.state.pc }
     ensures room { thread.new.room ≡ thread.old.room }
 {
     let _work = work; // named in the contract alone
@@ -113,6 +114,7 @@ pub(crate) fn put_cell(
 )
     requires result { IsSome (put_cell word through value (hand work.old thread.old)) }
     ensures state { put_cell word through value (hand work.old thread.old) ≡ Some (hand work.new thread.new) }
+    ensures pc { thread.new.state.pc ≡ thread.old.state.pc }
     ensures room { work.new.room ≡ work.old.room }
     ensures copies { work.new.copies ≡ work.old.copies }
     ensures thread_room { thread.new.room ≡ thread.old.room }
@@ -125,6 +127,7 @@ pub(crate) fn put_cell(
 pub(crate) fn put_slot(work: &Work, thread: &mut Thread, slot: u32, value: Value)
     requires result { IsSome (put_slot slot value (hand work.now thread.old)) }
     ensures state { put_slot slot value (hand work.now thread.old) ≡ Some (hand work.now thread.new) }
+    ensures pc { thread.new.state.pc ≡ thread.old.state.pc }
     ensures room { thread.new.room ≡ thread.old.room }
 {
     let _work = work; // named in the contract alone
@@ -136,6 +139,7 @@ pub(crate) fn put_slot(work: &Work, thread: &mut Thread, slot: u32, value: Value
 fn put_top(work: &Work, thread: &mut Thread, value: Value)
     requires top { has_top on_top thread.old.state.temps ≡ true }
     ensures state { put_at on_top value (hand work.now thread.old) ≡ Some (hand work.now thread.new) }
+    ensures pc { thread.new.state.pc ≡ thread.old.state.pc }
     ensures room { thread.new.room ≡ thread.old.room }
 {
     let _work = work; // named in the contract alone
@@ -148,6 +152,7 @@ pub(crate) fn put_at(work: &mut Work, thread: &mut Thread, at: &Spot, value: Val
     requires top { has_top (spot at.now) thread.old.state.temps ≡ true }
     requires result { IsSome (put_at (spot at.now) value (hand work.old thread.old)) }
     ensures state { put_at (spot at.now) value (hand work.old thread.old) ≡ Some (hand work.new thread.new) }
+    ensures pc { thread.new.state.pc ≡ thread.old.state.pc }
     ensures room { work.new.room ≡ work.old.room }
     ensures copies { work.new.copies ≡ work.old.copies }
     ensures thread_room { thread.new.room ≡ thread.old.room }
@@ -203,6 +208,7 @@ fn with_word(word: Word, value: Value) -> Value
 pub(crate) fn set_pointer(work: &mut Work, thread: &mut Thread, at: &Spot, word: Word)
     requires result { IsSome (set_pointer (spot at.now) word (hand work.old thread.old)) }
     ensures state { set_pointer (spot at.now) word (hand work.old thread.old) ≡ Some (hand work.new thread.new) }
+    ensures pc { thread.new.state.pc ≡ thread.old.state.pc }
     ensures room { work.new.room ≡ work.old.room }
     ensures copies { work.new.copies ≡ work.old.copies }
     ensures thread_room { thread.new.room ≡ thread.old.room }

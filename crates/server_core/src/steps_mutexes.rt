@@ -108,6 +108,7 @@ pub(crate) fn unlock(work: &mut Work, thread: &mut Thread)
     requires result { IsSome (unlock (hand work.old thread.old)) }
     requires room { 2 < work.old.room }
     ensures state { unlock (hand work.old thread.old) ≡ Some (hand work.new thread.new) }
+    ensures pc { thread.new.state.pc ≡ thread.old.state.pc }
     ensures spare { work.old.room ≤ work.new.room + 3 }
     ensures copies { work.new.copies ≡ work.old.copies }
     ensures thread_room { thread.old.room ≤ thread.new.room }

@@ -31,6 +31,7 @@ fn make_box(work: &mut Work, thread: &mut Thread, value: Owned)
     requires room { 2 < work.old.room }
     requires thread_room { 0 < thread.old.room }
     ensures state { make_box value (hand work.old thread.old) ≡ Some (hand work.new thread.new) }
+    ensures pc { thread.new.state.pc ≡ thread.old.state.pc }
     ensures spare { work.old.room ≤ work.new.room + 3 }
     ensures copies { work.new.copies ≡ work.old.copies }
     ensures thread_spare { thread.old.room ≤ thread.new.room + 1 }
@@ -60,6 +61,7 @@ pub(crate) fn box_up(work: &mut Work, thread: &mut Thread, operand: Operand)
     requires room { 2 < work.old.room }
     requires thread_room { 0 < thread.old.room }
     ensures state { box_up operand (hand work.old thread.old) ≡ Some (hand work.new thread.new) }
+    ensures pc { thread.new.state.pc ≡ thread.old.state.pc }
     ensures spare { work.old.room ≤ work.new.room + 3 }
     ensures copies { work.new.copies ≡ work.old.copies }
     ensures thread_spare { thread.old.room ≤ thread.new.room + 1 }
@@ -84,6 +86,7 @@ pub(crate) fn arith(work: &Work, thread: &mut Thread, op: Op, left: Operand, rig
     requires result { IsSome (arith op left right (hand work.now thread.old)) }
     requires room { 0 < thread.old.room }
     ensures state { arith op left right (hand work.now thread.old) ≡ Some (hand work.now thread.new) }
+    ensures pc { thread.new.state.pc ≡ thread.old.state.pc }
     ensures room { thread.old.room ≤ thread.new.room + 1 }
 {
     let second = pop_int(work, thread, right);
@@ -96,6 +99,7 @@ pub(crate) fn print(work: &mut Work, thread: &mut Thread, operand: Operand)
     requires result { IsSome (print operand (hand work.old thread.old)) }
     requires room { 0 < work.old.room }
     ensures state { print operand (hand work.old thread.old) ≡ Some (hand work.new thread.new) }
+    ensures pc { thread.new.state.pc ≡ thread.old.state.pc }
     ensures spare { work.old.room ≤ work.new.room + 1 }
     ensures copies { work.new.copies ≡ work.old.copies }
     ensures thread_room { thread.old.room ≤ thread.new.room }

@@ -21,6 +21,7 @@ pub(crate) fn let_slot(work: &Work, thread: &mut Thread, operand: Operand)
     requires result { IsSome (let_slot operand (hand work.now thread.old)) }
     requires room { 0 < thread.old.room }
     ensures state { let_slot operand (hand work.now thread.old) ≡ Some (hand work.now thread.new) }
+    ensures pc { thread.new.state.pc ≡ thread.old.state.pc }
     ensures room { thread.old.room ≤ thread.new.room + 1 }
 {
     let value = pop(work, thread, operand);
@@ -32,6 +33,7 @@ fn replace_slot(work: &mut Work, thread: &mut Thread, slot: u32, holder: &Spot, 
     requires result { IsSome (replace_slot slot (spot holder.now) value (hand work.old thread.old)) }
     requires room { 2 < work.old.room }
     ensures state { replace_slot slot (spot holder.now) value (hand work.old thread.old) ≡ Some (hand work.new thread.new) }
+    ensures pc { thread.new.state.pc ≡ thread.old.state.pc }
     ensures spare { work.old.room ≤ work.new.room + 3 }
     ensures copies { work.new.copies ≡ work.old.copies }
     ensures thread_room { thread.new.room ≡ thread.old.room }
@@ -53,6 +55,7 @@ fn store_at(work: &mut Work, thread: &mut Thread, at: &Spot, value: Owned)
     requires result { IsSome (store_at (spot at.now) value (hand work.old thread.old)) }
     requires room { 0 < work.old.room }
     ensures state { store_at (spot at.now) value (hand work.old thread.old) ≡ Some (hand work.new thread.new) }
+    ensures pc { thread.new.state.pc ≡ thread.old.state.pc }
     ensures spare { work.old.room ≤ work.new.room + 1 }
     ensures copies { work.new.copies ≡ work.old.copies }
     ensures thread_room { thread.new.room ≡ thread.old.room }
@@ -71,6 +74,7 @@ fn replace_at(work: &mut Work, thread: &mut Thread, at: &Spot, value: Owned)
     requires result { IsSome (replace_at (spot at.now) value (hand work.old thread.old)) }
     requires room { 3 < work.old.room }
     ensures state { replace_at (spot at.now) value (hand work.old thread.old) ≡ Some (hand work.new thread.new) }
+    ensures pc { thread.new.state.pc ≡ thread.old.state.pc }
     ensures spare { work.old.room ≤ work.new.room + 4 }
     ensures copies { work.new.copies ≡ work.old.copies }
     ensures thread_room { thread.new.room ≡ thread.old.room }
@@ -89,6 +93,7 @@ pub(crate) fn assign(work: &mut Work, thread: &mut Thread, place: Lval, operand:
     requires result { IsSome (assign place place.depth operand (spot at.now) (hand work.old thread.old)) }
     requires room { 3 < work.old.room }
     ensures state { assign place place.depth operand (spot at.now) (hand work.old thread.old) ≡ Some (hand work.new thread.new) }
+    ensures pc { thread.new.state.pc ≡ thread.old.state.pc }
     ensures spare { work.old.room ≤ work.new.room + 4 }
     ensures copies { work.new.copies ≡ work.old.copies }
     ensures thread_room { thread.old.room ≤ thread.new.room }
@@ -126,6 +131,7 @@ fn take_out(work: &mut Work, thread: &mut Thread, at: &Spot)
     requires result { IsSome (take_out (spot at.now) (hand work.old thread.old)) }
     requires room { 0 < work.old.room }
     ensures state { take_out (spot at.now) (hand work.old thread.old) ≡ Some (hand work.new thread.new) }
+    ensures pc { thread.new.state.pc ≡ thread.old.state.pc }
     ensures spare { work.old.room ≤ work.new.room + 1 }
     ensures copies { work.new.copies ≡ work.old.copies }
     ensures thread_room { thread.new.room ≡ thread.old.room }
@@ -143,6 +149,7 @@ fn read_as(work: &mut Work, thread: &mut Thread, take: bool, at: &Spot, value: &
     requires room { 0 < work.old.room }
     requires thread_room { 0 < thread.old.room }
     ensures state { read_as take (spot at.now) value.now (hand work.old thread.old) ≡ Some (hand work.new thread.new) }
+    ensures pc { thread.new.state.pc ≡ thread.old.state.pc }
     ensures spare { work.old.room ≤ work.new.room + 1 }
     ensures copies { work.new.copies ≡ work.old.copies }
     ensures thread_spare { thread.old.room ≤ thread.new.room + 1 }
@@ -166,6 +173,7 @@ pub(crate) fn read(work: &mut Work, thread: &mut Thread, take: bool, at: &Spot)
     requires room { 1 < work.old.room }
     requires thread_room { 0 < thread.old.room }
     ensures state { read take (spot at.now) (hand work.old thread.old) ≡ Some (hand work.new thread.new) }
+    ensures pc { thread.new.state.pc ≡ thread.old.state.pc }
     ensures spare { work.old.room ≤ work.new.room + 2 }
     ensures copies { work.new.copies ≡ work.old.copies }
     ensures thread_spare { thread.old.room ≤ thread.new.room + 1 }

@@ -44,6 +44,7 @@ pub(crate) fn borrow(work: &Work, thread: &mut Thread, place: Lval, at: &Spot)
     requires result { IsSome (borrow place (spot at.now) (hand work.now thread.old)) }
     requires room { 0 < thread.old.room }
     ensures state { borrow place (spot at.now) (hand work.now thread.old) ≡ Some (hand work.now thread.new) }
+    ensures pc { thread.new.state.pc ≡ thread.old.state.pc }
     ensures room { thread.old.room ≤ thread.new.room + 1 }
 {
     // The check asks that each type inside a value is named where a value is moved.
@@ -95,6 +96,7 @@ pub(crate) fn borrow_mut(work: &Work, thread: &mut Thread, place: Lval, at: &Spo
     requires result { IsSome (borrow_mut place (spot at.now) (hand work.now thread.old)) }
     requires room { 0 < thread.old.room }
     ensures state { borrow_mut place (spot at.now) (hand work.now thread.old) ≡ Some (hand work.now thread.new) }
+    ensures pc { thread.new.state.pc ≡ thread.old.state.pc }
     ensures room { thread.old.room ≤ thread.new.room + 1 }
 {
     let _inside: Option<Owned> = None;
@@ -120,6 +122,7 @@ pub(crate) fn discard(work: &mut Work, thread: &mut Thread, at: &Spot)
     requires result { IsSome (discard (spot at.now) (hand work.old thread.old)) }
     requires room { 2 < work.old.room }
     ensures state { discard (spot at.now) (hand work.old thread.old) ≡ Some (hand work.new thread.new) }
+    ensures pc { thread.new.state.pc ≡ thread.old.state.pc }
     ensures spare { work.old.room ≤ work.new.room + 3 }
     ensures copies { work.new.copies ≡ work.old.copies }
     ensures thread_room { thread.old.room ≤ thread.new.room }
@@ -134,6 +137,7 @@ pub(crate) fn drop_slot(work: &mut Work, thread: &mut Thread, at: &Spot)
     requires result { IsSome (drop_slot (spot at.now) (hand work.old thread.old)) }
     requires room { 2 < work.old.room }
     ensures state { drop_slot (spot at.now) (hand work.old thread.old) ≡ Some (hand work.new thread.new) }
+    ensures pc { thread.new.state.pc ≡ thread.old.state.pc }
     ensures spare { work.old.room ≤ work.new.room + 3 }
     ensures copies { work.new.copies ≡ work.old.copies }
     ensures thread_room { thread.old.room ≤ thread.new.room }
