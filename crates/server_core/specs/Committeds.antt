@@ -27,3 +27,12 @@ goes_alone (instr.Lock w) = false
 goes_alone (instr.Par cs pc ds other) = false
 goes_alone (instr.End o) = false
 goes_alone i = true
+
+-- its step asks for something, takes the name of a mutex, or is the thread's last one
+abbrev pub asks_or_ends : Instr → Bool
+asks_or_ends (instr.Join o) = true
+asks_or_ends (instr.Mutex o) = true
+asks_or_ends (instr.Dup w) = true
+asks_or_ends (instr.Lock w) = true
+asks_or_ends (instr.End o) = true
+asks_or_ends i = false

@@ -19,6 +19,7 @@ mod settling;
 mod sharing;
 mod spot;
 mod steps_alone;
+mod steps_asking;
 mod steps_mutexes;
 mod steps_objects;
 mod steps_places;
