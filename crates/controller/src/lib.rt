@@ -6,5 +6,5 @@ mod loads;
 #[cfg(test)]
 mod tests;
 
-pub use events::{Candidates, Choice, Pick, next};
+pub use events::{Choice, next};
 pub use loads::{Load, balance};

@@ -1,9 +1,10 @@
 //! Moving a thread from a server with many threads to one with few.
 
-ghost use Rattle.std.specs.Prelude.{◌≡◌, ◌<◌, ◌≤◌, IfSome, length};
-ghost use Rattle.controller.specs.Balance.{balanced, candidate_at, first_with, greatest, least, moved};
+ghost use Rattle.std.specs.Prelude.{◌≡◌, ◌+◌, ◌^◌, ◌<◌, ◌≤◌, nat_lt, length, option_map};
+ghost use Rattle.drive_model.specs.Balance.{balance, first_best, shift_between};
 
 use fr_base::ThreadNo;
+use std::marker::Model;
 
 /// How many threads of a server aren't over, and which one of them can be moved, if any.
 #[derive(Clone, Copy, Debug, PartialEq, Eq)]
@@ -12,60 +13,106 @@ pub struct Load {
     pub candidate: Option<ThreadNo>,
 }
 
-fn greatest(loads: &[Load]) -> u64
-    ensures { result ≡ greatest loads.now }
-{
-    loads.iter().fold(0, |most, load| load.threads.max(most))
+impl Model for Load {
+    ghost use Rattle.drive_model.specs.Balance.{Load};
+
+    ghost Value = { Load };
+
+    ghost view = { λ l. record { threads = l.threads; candidate = l.candidate } };
+
+    ghost inverse = { λ l. record { threads = l.threads; candidate = l.candidate } };
 }
 
-fn least(loads: &[Load]) -> u64
-    ensures { result ≡ least loads.now }
-{
-    loads
-        .iter()
-        .fold(u64::MAX, |least, load| load.threads.min(least))
+// A server with its load.
+#[derive(Clone, Copy)]
+struct Loaded {
+    server: usize,
+    load: Load,
 }
 
-// The lowest number of a server with this load.
-fn first_with(threads: u64, loads: &[Load]) -> Option<usize>
-    ensures first { result ≡ first_with threads loads.now }
-    ensures within { IfSome result (λ server. server < length loads.now) }
-{
-    loads.iter().position(|load| load.threads == threads)
+impl Model for Loaded {
+    ghost use Rattle.drive_model.specs.Balance.{Loaded};
+
+    ghost Value = { Loaded };
+
+    ghost view = { λ l. record { server = l.server; load = l.load } };
+
+    ghost inverse = { λ l. record { server = l.server; load = l.load } };
 }
 
-fn candidate_at(loads: &[Load], server: usize) -> Option<ThreadNo>
-    ensures { result ≡ candidate_at loads.now server }
+// The first server with the greatest load: this one, or one of those whose loads from that number on are these.
+fn greatest(best: Loaded, server: usize, loads: &[Load]) -> Loaded
+    requires few { server + length loads.now < 2 ^ 64 }
+    requires before { best.server < server }
+    ensures best { result ≡ first_best (λ a b. nat_lt b a) best server loads.now }
+    ensures within { result.server < server + length loads.now }
 {
-    match loads.get(server) {
-        None => None,
-        Some(load) => load.candidate,
+    match loads {
+        [] => best,
+        [load, rest @ ..] if best.load.threads < load.threads => {
+            greatest(
+                Loaded {
+                    server,
+                    load: *load,
+                },
+                server + 1,
+                rest,
+            )
+        }
+        [_, rest @ ..] => greatest(best, server + 1, rest),
     }
 }
 
-// The candidate of the first server with the one load, and the first server with the other.
-#[tactic(auto, unfolding(crate::specs::Balance::moved))]
-fn moved(most: u64, least: u64, loads: &[Load]) -> Option<(ThreadNo, u8)>
-    requires { length loads.now ≤ 256 }
-    ensures { result ≡ moved most least loads.now }
+// The first with the least load.
+fn least(best: Loaded, server: usize, loads: &[Load]) -> Loaded
+    requires few { server + length loads.now < 2 ^ 64 }
+    requires before { best.server < server }
+    ensures best { result ≡ first_best (λ a b. nat_lt a b) best server loads.now }
+    ensures within { result.server < server + length loads.now }
 {
-    let from = first_with(most, loads)?;
-    let thread = candidate_at(loads, from)?;
-    let to = first_with(least, loads)?;
-    Some((thread, to as u8))
+    match loads {
+        [] => best,
+        [load, rest @ ..] if load.threads < best.load.threads => {
+            least(
+                Loaded {
+                    server,
+                    load: *load,
+                },
+                server + 1,
+                rest,
+            )
+        }
+        [_, rest @ ..] => least(best, server + 1, rest),
+    }
+}
+
+// The candidate of the one goes to the other, where their loads differ by two at least.
+fn shift_between(most: Loaded, least: Loaded) -> Option<(ThreadNo, u8)>
+    requires few { least.server < 2 ^ 8 }
+    ensures { result ≡ option_map (λ s. (s.thread, s.target)) (shift_between most least) }
+{
+    if most.load.threads.saturating_sub(least.load.threads) < 2 {
+        return None;
+    }
+    match most.load.candidate {
+        Some(thread) => Some((thread, least.server as u8)),
+        None => None,
+    }
 }
 
 /// Which thread is moved, and to which server, by the loads of the servers in their order (at most 256): the candidate of the server
 /// with the greatest load goes to that with the least; of two with the same load the lower number counts. `None` exactly where
 /// these loads differ by less than two, or that server has no candidate. Linear, without memory.
 pub fn balance(loads: &[Load]) -> Option<(ThreadNo, u8)>
-    requires { length loads.now ≤ 256 }
-    ensures { result ≡ balanced loads.now }
+    requires few { length loads.now ≤ 256 }
+    ensures { result ≡ option_map (λ s. (s.thread, s.target)) (balance loads.now) }
 {
-    let most = greatest(loads);
-    let least = least(loads);
-    if most.saturating_sub(least) < 2 {
+    let [first, rest @ ..] = loads else {
         return None;
-    }
-    moved(most, least, loads)
+    };
+    let first = Loaded {
+        server: 0,
+        load: *first,
+    };
+    shift_between(greatest(first, 1, rest), least(first, 1, rest))
 }

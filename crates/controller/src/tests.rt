@@ -1,8 +1,14 @@
 //! Choices and balances by hand.
 
+ghost use Rattle.std.specs.Prelude.{◌<◌};
+
 use super::*;
-use fr_base::ThreadNo;
-use global_addr::Word;
+use fr_base::{Code, Instr, MutexNo, Operand, Options, ThreadNo};
+use server_core::Server;
+use server_model::What;
+use server_msgs::Message;
+use std::alloc::Global;
+use std::sync::Arc;
 use std::test::Fail;
 
 fn load(threads: u64, count: u32) -> Load {
@@ -38,66 +44,60 @@ fn which_thread_is_moved(rt: HostRuntime) {
     assert_eq!(rt; balance(&[load(0, 1), load(u64::MAX, 2)]), moved(2, 0));
 }
 
-// A server as it is told.
-#[derive(Drop)]
-struct Told {
-    due: Option<Word>,
-    messages: u64,
-    threads: Vec<ThreadNo>,
+// A server of a run of two, with so many messages.
+fn server(alloc: Global, number: u8, messages: u32) -> Result<Server, Fail>
+    requires { number < 2 }
+{
+    let mut code = Code::new(alloc);
+    code.push(Instr::End(Operand::Unit))?;
+    let code = Arc::new(alloc, code)?;
+    let options = Options {
+        servers: 2,
+        ..Options::DEFAULT
+    };
+    let mut server = Server::new(alloc, number, &code, &options)?;
+    fill(&mut server, messages);
+    Ok(server)
 }
 
-impl Candidates for Told {
-    ghost due_of = { λ s. s.due };
-
-    ghost waiting_of = { λ s. s.messages };
-
-    ghost runnable_of = { λ s. s.threads.items };
-
-    fn due(&self) -> Option<Word> {
-        self.due
-    }
-
-    fn waiting(&self) -> u64 {
-        self.messages
-    }
-
-    fn ready(&self) -> u64 {
-        self.threads.len() as u64
-    }
-
-    fn runnable(&self, at: u64) -> Option<ThreadNo> {
-        self.threads.get(at as usize).copied()
+fn fill(server: &mut Server, messages: u32) {
+    for count in 0..messages {
+        let mutex = MutexNo { home: 0, count };
+        let _put = server.accept(Message::Dupped(mutex, ThreadNo::new(0, 0)));
     }
 }
 
 // The words of this generator are those of PCG's reference: 2707161783, 2068313097, 3122475824, 2211639955, 3215226955, 3421331566.
+fn drawn(server: &Server) -> [Option<What>; 6] {
+    let mut choice = Choice::new(42, 54);
+    [
+        next(server, &mut choice),
+        next(server, &mut choice),
+        next(server, &mut choice),
+        next(server, &mut choice),
+        next(server, &mut choice),
+        next(server, &mut choice),
+    ]
+}
+
 #[test]
 fn which_event_is_next(rt: HostRuntime) -> Result<(), Fail> {
-    let mut choice = Choice::new(42, 54);
-    let word = Word::pack(3, 1, 5);
-    let mut server = Told {
-        due: None,
-        messages: 0,
-        threads: Vec::new(rt.alloc()),
-    };
-    assert_eq!(rt; next(&server, &mut choice), None);
-    for count in [1, 2, 3] {
-        server.threads.push(ThreadNo::new(0, count))?;
-    }
-    server.messages = 2;
-    for (due, want) in [
-        (None, Pick::Step(ThreadNo::new(0, 2))),
-        (Some(word), Pick::Evict(word)),
-        (None, Pick::Step(ThreadNo::new(0, 1))),
-        (None, Pick::Step(ThreadNo::new(0, 3))),
-        (None, Pick::Deliver(0)),
-        (Some(word), Pick::Evict(word)),
-        (None, Pick::Deliver(0)),
-        (None, Pick::Deliver(1)),
-    ] {
-        server.due = due;
-        assert!(rt; server.messages == 2 && server.threads.len() == 3);
-        assert_eq!(rt; next(&server, &mut choice), Some(want));
-    }
+    let server = server(rt.alloc(), 0, 2)?;
+    let want = [
+        Some(What::Deliver(0)),
+        Some(What::Deliver(0)),
+        Some(What::Step(ThreadNo::new(0, 0))),
+        Some(What::Deliver(1)),
+        Some(What::Deliver(1)),
+        Some(What::Deliver(1)),
+    ];
+    assert_eq!(rt; drawn(&server), want);
+    Ok(())
+}
+
+#[test]
+fn nothing_is_next_at_an_idle_server(rt: HostRuntime) -> Result<(), Fail> {
+    let server = server(rt.alloc(), 1, 0)?;
+    assert_eq!(rt; drawn(&server), [None; 6]);
     Ok(())
 }
