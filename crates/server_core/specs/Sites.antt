@@ -1,9 +1,12 @@
 -- The server and all its threads, as the definitions have both, and room for what an event may bring.
-use Rattle.std.specs.Prelude.{ℕ, Bool, List, Option, None, Some}
+use Rattle.std.specs.Prelude.{◌≡◌, ◌<◌, ◌^◌, ⊤, ℕ, Bool, true, List, length, Option, None, Some}
 use Rattle.rank_map.specs.Places.{Place, item_at}
+use Rattle.rank_map.specs.Places as places
 use Rattle.read_cache.specs.View.{has_place}
-use Rattle.thread_state.specs.View.{ThreadView}
-use Rattle.server_model.specs.Work.{Site}
+use Rattle.thread_state.specs.View.{ThreadState, ThreadView}
+use Rattle.server_msgs.specs.declared.message.Message.{Message}
+use Rattle.server_msgs.specs.declared.message.Message.TheVariants as message
+use Rattle.server_model.specs.Work.{Site, thread_in}
 use Rattle.server_core.specs.Works.{WorkView}
 use Rattle.server_core.specs.Threads.{states}
 
@@ -22,3 +25,20 @@ room_of (Some v) = v.room
 -- how many more items fit in each list of that thread
 abbrev pub thread_room : List (Place ThreadView) → ℕ → ℕ
 thread_room ps t = room_of (item_at ps t)
+
+abbrev pub slots_in : Option ThreadState → ℕ
+slots_in None = 0
+slots_in (Some t) = length t.slots
+
+abbrev pub passed_in : Option ThreadState → ℕ
+passed_in None = 0
+passed_in (Some t) = t.passed
+
+-- what a delivery needs at its server beside a result: room for a copy and for its use, a thread whose counts aren't near their ends, or a
+-- place for a thread that doesn't stand there
+abbrev pub CanTake : Message → WorkView → List (Place ThreadView) → Type 0
+CanTake (message.Fetched w c t) x ps = (has_copy_room x w ≡ true) × (0 < thread_room ps t)
+CanTake (message.Moved w c t) x ps = (slots_in (thread_in (states ps) t) < 2 ^ 32) × (passed_in (thread_in (states ps) t) < 255)
+CanTake (message.Start p) x ps = (places.has_place ps p.number ≡ true) × (thread_in (states ps) p.number ≡ None)
+CanTake (message.Migrate p) x ps = (places.has_place ps p.number ≡ true) × (thread_in (states ps) p.number ≡ None)
+CanTake m x ps = ⊤

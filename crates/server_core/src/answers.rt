@@ -1,18 +1,20 @@
 //! Answers to threads that are here: a thread is taken out, has its answer, and stands again where it stood.
 
-ghost use Rattle.std.specs.Prelude.{◌≡◌, ◌+◌, ◌<◌, ◌≤◌, true, Some, IsSome};
-ghost use Rattle.server_model.specs.Work.{at_thread};
-ghost use Rattle.server_model.specs.Objects.{deliver_fetched};
+ghost use Rattle.std.specs.Prelude.{◌≡◌, ◌+◌, ◌^◌, ◌<◌, ◌≤◌, true, Some, IsSome};
+ghost use Rattle.server_model.specs.Work.{at_thread, thread_in};
+ghost use Rattle.server_model.specs.Objects.{deliver_fetched, deliver_moved};
 ghost use Rattle.server_model.specs.Sharing.{deliver_granted, deliver_dupped};
 ghost use Rattle.server_model.specs.Joining.{deliver_joined, pair_over};
-ghost use Rattle.server_core.specs.Sites.{site, has_copy_room, thread_room};
+ghost use Rattle.server_core.specs.Sites.{site, has_copy_room, thread_room, slots_in, passed_in};
+ghost use Rattle.server_core.specs.Threads.{states};
 
 use crate::joining::{deliver_joined, pair_over};
 use crate::objects::deliver_fetched;
+use crate::pulling::deliver_moved;
 use crate::sharing::{deliver_dupped, deliver_granted};
 use crate::threads::Threads;
 use crate::work::Work;
-use fr_base::{MutexNo, ThreadNo};
+use fr_base::{Code, MutexNo, ThreadNo};
 use global_addr::Word;
 use heap_partition::{Cell, Owned};
 
@@ -91,5 +93,28 @@ pub(crate) fn fetched_at(
     let _inside: Option<Owned> = None;
     let mut here = threads.take(thread);
     deliver_fetched(work, &mut here, word, cell);
+    threads.insert(here);
+}
+
+/// An object comes here under a new word, to that thread. The thread has fewer than 2^32 slots, and passed fewer than 255 hops.
+#[tactic(auto, using(crate::proofs::DeliverLemmas::at_here, crate::proofs::DeliverLemmas::at_can))]
+pub(crate) fn moved_at(
+    work: &mut Work,
+    threads: &mut Threads,
+    code: &Code,
+    old: Word,
+    cell: Cell,
+    thread: ThreadNo,
+)
+    requires result { IsSome (at_thread thread (deliver_moved code.now.items old cell) (site work.old threads.old)) }
+    requires slots { slots_in (thread_in (states threads.old) thread) < 2 ^ 32 }
+    requires few { passed_in (thread_in (states threads.old) thread) < 255 }
+    requires room { 2 ≤ work.old.room }
+    ensures state { at_thread thread (deliver_moved code.now.items old cell) (site work.old threads.old) ≡ Some (site work.new threads.new) }
+    ensures spare { work.old.room ≤ work.new.room + 2 }
+{
+    let _inside: Option<Owned> = None;
+    let mut here = threads.take(thread);
+    deliver_moved(work, &mut here, code, old, cell);
     threads.insert(here);
 }

@@ -4,6 +4,7 @@
 mod access;
 mod answers;
 mod committed;
+mod delivering;
 mod dropping;
 mod joining;
 mod moving;
@@ -13,6 +14,7 @@ mod operands;
 mod places;
 mod prepared;
 mod preparing;
+mod pulling;
 mod reading;
 mod server;
 mod settling;

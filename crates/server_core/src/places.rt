@@ -93,6 +93,7 @@ fn written(value: Value) -> Value
 pub(crate) fn note_write(work: &Work, thread: &mut Thread, through: Option<u32>)
     ensures state { hand work.now thread.new ≡ note_write through (hand work.now thread.old) }
     ensures pc { thread.new.state.pc ≡ thread.old.state.pc }
+    ensures number { thread.new.state.number ≡ thread.old.state.number }
     ensures room { thread.new.room ≡ thread.old.room }
 {
     let _work = work; // named in the contract alone
@@ -117,6 +118,7 @@ pub(crate) fn put_cell(
     ensures pc { thread.new.state.pc ≡ thread.old.state.pc }
     ensures room { work.new.room ≡ work.old.room }
     ensures copies { work.new.copies ≡ work.old.copies }
+    ensures number { thread.new.state.number ≡ thread.old.state.number }
     ensures thread_room { thread.new.room ≡ thread.old.room }
 {
     work.partition.store(word, value);
@@ -128,6 +130,7 @@ pub(crate) fn put_slot(work: &Work, thread: &mut Thread, slot: u32, value: Value
     requires result { IsSome (put_slot slot value (hand work.now thread.old)) }
     ensures state { put_slot slot value (hand work.now thread.old) ≡ Some (hand work.now thread.new) }
     ensures pc { thread.new.state.pc ≡ thread.old.state.pc }
+    ensures number { thread.new.state.number ≡ thread.old.state.number }
     ensures room { thread.new.room ≡ thread.old.room }
 {
     let _work = work; // named in the contract alone
@@ -140,6 +143,7 @@ fn put_top(work: &Work, thread: &mut Thread, value: Value)
     requires top { has_top on_top thread.old.state.temps ≡ true }
     ensures state { put_at on_top value (hand work.now thread.old) ≡ Some (hand work.now thread.new) }
     ensures pc { thread.new.state.pc ≡ thread.old.state.pc }
+    ensures number { thread.new.state.number ≡ thread.old.state.number }
     ensures room { thread.new.room ≡ thread.old.room }
 {
     let _work = work; // named in the contract alone
@@ -155,6 +159,7 @@ pub(crate) fn put_at(work: &mut Work, thread: &mut Thread, at: &Spot, value: Val
     ensures pc { thread.new.state.pc ≡ thread.old.state.pc }
     ensures room { work.new.room ≡ work.old.room }
     ensures copies { work.new.copies ≡ work.old.copies }
+    ensures number { thread.new.state.number ≡ thread.old.state.number }
     ensures thread_room { thread.new.room ≡ thread.old.room }
 {
     let _inside: Option<Owned> = None;
@@ -211,6 +216,7 @@ pub(crate) fn set_pointer(work: &mut Work, thread: &mut Thread, at: &Spot, word:
     ensures pc { thread.new.state.pc ≡ thread.old.state.pc }
     ensures room { work.new.room ≡ work.old.room }
     ensures copies { work.new.copies ≡ work.old.copies }
+    ensures number { thread.new.state.number ≡ thread.old.state.number }
     ensures thread_room { thread.new.room ≡ thread.old.room }
 {
     let Some(value) = value_at(work, thread, at) else {
