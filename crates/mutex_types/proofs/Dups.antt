@@ -47,7 +47,7 @@ use Rattle.mutex_types.proofs.Flat.{flat_typed}
 use Rattle.mutex_types.proofs.Found.{FoundMutex, found_mutex, step_by}
 
 -- counted values, but for those of one mutex
-abbrev But : MutexNo → Val → Type 0
+abbrev pub But : MutexNo → Val → Type 0
 But m (box_v o) = ⊤
 But m (mutex_v k c) = k ≢ m
 But m (task_v t r) = ⊤

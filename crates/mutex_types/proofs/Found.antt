@@ -4,6 +4,7 @@ use Rattle.fr_base.specs.declared.label.Label.{Label}
 use Rattle.fr_base.specs.declared.label.Plain.TheVariants as plain
 use Rattle.fr_base.specs.declared.name.MutexNo.{MutexNo}
 use Rattle.fr_base.specs.declared.place.Lval.{Lval}
+use Rattle.fr_base.specs.declared.step.Fresh.{Fresh}
 use Rattle.fr_base.specs.declared.step.Fresh.TheVariants as fresh
 use Rattle.fr_typing.specs.Kinds.{Owned, mutex, Kind, own, whole}
 use Rattle.fr_typing.specs.Places.{Env, found}
@@ -100,15 +101,23 @@ found_mutex s t p e ts us o g x w z is =
     some_val : {a b : Val} → Some a ≡ Some b → a ≡ b
     some_val e = cc
 
--- a step that leads to a typed state, whatever it does beside its thread's life
-pub step_by : (now : Position → Now) (move : Position → Option (Move Position Position)) (s : Machine Position) (t : Thread Position) (wrap : Position → Life Position) (m : Move Position (Life Position)) (plug : Value → Position) (value : Value) (q : Position) (state : Life Position → Machine Position) (labels : List Label) (z : Typing)
+-- a step under these names that leads to a typed state, whatever it does beside its thread's life
+pub step_named : (now : Position → Now) (move : Position → Option (Move Position Position)) (s : Machine Position) (t : Thread Position) (wrap : Position → Life Position) (names : Fresh) (m : Move Position (Life Position)) (plug : Value → Position) (value : Value) (q : Position) (state : Life Position → Machine Position) (labels : List Label) (z : Typing)
     → GoesOn wrap → plug value ≡ q
-    → done_act (moves_by now move) s t fresh.None m m.act ≡ Some (record { state = state (settle_life (moves_by now move) (wrap (plug value))); labels = labels })
+    → done_act (moves_by now move) s t names m m.act ≡ Some (record { state = state (settle_life (moves_by now move) (wrap (plug value))); labels = labels })
     → PositionTypes z (plain_state (state (wrap q)))
-    → StepsTyped (moves_by now move) s t fresh.None m
-step_by now move s t wrap m plug value q state labels z goes comes done typed = record {
+    → StepsTyped (moves_by now move) s t names m
+step_named now move s t wrap names m plug value q state labels z goes comes done typed = record {
   next = record { state = state (settle_life (moves_by now move) (wrap (plug value))); labels = labels };
   is = done;
   typing = z;
   typed = subst (λ l. PositionTypes z (plain_state (state l))) (sym (settles now move wrap (plug value) goes ∙ ap wrap comes)) typed;
 }
+
+-- without a name
+pub step_by : (now : Position → Now) (move : Position → Option (Move Position Position)) (s : Machine Position) (t : Thread Position) (wrap : Position → Life Position) (m : Move Position (Life Position)) (plug : Value → Position) (value : Value) (q : Position) (state : Life Position → Machine Position) (labels : List Label) (z : Typing)
+    → GoesOn wrap → plug value ≡ q
+    → done_act (moves_by now move) s t fresh.None m m.act ≡ Some (record { state = state (settle_life (moves_by now move) (wrap (plug value))); labels = labels })
+    → PositionTypes z (plain_state (state (wrap q)))
+    → StepsTyped (moves_by now move) s t fresh.None m
+step_by now move s t wrap = step_named now move s t wrap fresh.None

@@ -5,3 +5,5 @@ pub mod Dups
 pub mod LockTypes
 pub mod Locks
 pub mod Unlocks
+pub mod Regiven
+pub mod Makes

@@ -1,5 +1,5 @@
 -- Mutexes of a state after one of them changes.
-use Rattle.std.proofs.Common.{◌≡◌, ◌≢◌, ◌⊎◌, inl, inr, ◌∙◌, Bool, true, false, List, [], ◌∷◌, Option, Some, None, refl, sym, ap}
+use Rattle.std.proofs.Common.{◌≡◌, ◌≢◌, ◌⊎◌, inl, inr, ⊎_elim, ◌∙◌, Bool, true, false, List, [], ◌∷◌, ◌++◌, Option, Some, None, refl, sym, ap}
 use Rattle.std.specs.Prelude.{is_some, if◌then◌else◌}
 use Rattle.fr_base.specs.Names.{same_mutex}
 use Rattle.fr_base.specs.declared.name.MutexNo.{MutexNo}
@@ -72,3 +72,19 @@ given_set xs n new k = by (decide_mutex k n)
     by : (k ≡ n) ⊎ (k ≢ n) → is_some (mutex_at (with_mutex xs n new) k) ≡ is_some (mutex_at xs k)
     by (inl e) = ap (λ q. is_some (mutex_at (with_mutex xs n new) q)) e ∙ ap is_some (set_at xs n new) ∙ some (mutex_at xs n) ∙ ap (λ q. is_some (mutex_at xs q)) (sym e)
     by (inr ne) = ap is_some (set_off xs n new k ne)
+
+-- A NEW MUTEX
+
+-- it is found by its name
+pub made_at : (xs : List Mutex) (new : Mutex) → mutex_at xs new.number ≡ None → mutex_at (xs ++ new ∷ []) new.number ≡ Some new
+made_at [] new e = mutex_cases (λ b. (if b then Some new else None) ≡ Some new) new.number new.number (λ _. refl) (λ ne. absurd (ne refl))
+made_at (x ∷ xs) new e =
+    ⊎_elim (λ (f : x.number ≡ new.number). let g : Some x ≡ None = sym (mutex_cases (λ b. (if b then Some x else mutex_at xs new.number) ≡ Some x) x.number new.number (λ _. refl) (λ ne. absurd (ne f))) ∙ e in cc)
+    (λ (ne : x.number ≢ new.number). mutex_cases (λ b. (if b then Some x else mutex_at (xs ++ new ∷ []) new.number) ≡ Some new) x.number new.number (λ f. absurd (ne f))
+    (λ _. made_at xs new (sym (mutex_cases (λ b. (if b then Some x else mutex_at xs new.number) ≡ mutex_at xs new.number) x.number new.number (λ f. absurd (ne f)) (λ _. refl)) ∙ e)))
+    (decide_mutex x.number new.number)
+
+-- the others are as they were
+pub made_off : (xs : List Mutex) (new : Mutex) (k : MutexNo) → k ≢ new.number → mutex_at (xs ++ new ∷ []) k ≡ mutex_at xs k
+made_off [] new k ne = mutex_cases (λ b. (if b then Some new else None) ≡ None) new.number k (λ f. absurd (ne (sym f))) (λ _. refl)
+made_off (x ∷ xs) new k ne = mutex_cases (λ b. (if b then Some x else mutex_at (xs ++ new ∷ []) k) ≡ (if b then Some x else mutex_at xs k)) x.number k (λ _. refl) (λ _. made_off xs new k ne)

@@ -1,11 +1,13 @@
 //! Laws of the typing of acts at mutexes.
 
 ghost use Rattle.plain_types.specs.Keeps.{Keeps};
-ghost use Rattle.mutex_types.specs.MutexActs.{IsDup, IsLocking, IsUnlocking, KeepsUnlessWaiting};
+ghost use Rattle.mutex_types.specs.MutexActs.{IsDup, IsLocking, IsMake, IsUnlocking, KeepsNamed, KeepsUnlessWaiting};
 
 /// In a typed state, with whatever threads, mutexes and pairs, an act of this form that a row grants can be done without a new
-/// name, and leaves a typed state; a lock, unless its mutex's content is out. A clause an act.
+/// name, and leaves a typed state; a lock, unless its mutex's content is out, and a new mutex under each name of a mutex that
+/// wasn't given. A clause an act.
 pub fn mutex_acts_keep_types()
+    ensures make { KeepsNamed IsMake }
     ensures dup { Keeps IsDup }
     ensures lock { KeepsUnlessWaiting IsLocking }
     ensures unlock { Keeps IsUnlocking }

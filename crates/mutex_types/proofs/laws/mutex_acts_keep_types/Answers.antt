@@ -2,6 +2,10 @@ use Rattle.mutex_types.proofs.laws.mutex_acts_keep_types.Goals as goal
 use Rattle.mutex_types.proofs.Dups.{dup_keeps}
 use Rattle.mutex_types.proofs.Locks.{lock_keeps}
 use Rattle.mutex_types.proofs.Unlocks.{unlock_keeps}
+use Rattle.mutex_types.proofs.Makes.{make_keeps}
+
+pub returns-clause-make : goal.returns-clause-make
+returns-clause-make c = make_keeps
 
 pub returns-clause-dup : goal.returns-clause-dup
 returns-clause-dup c = dup_keeps
