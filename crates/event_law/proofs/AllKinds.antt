@@ -5,6 +5,7 @@ use Rattle.fr_base.specs.declared.instruction.Instr.{Instr}
 use Rattle.thread_state.specs.View.{ThreadState}
 use Rattle.server_msgs.specs.declared.message.Message.{Message}
 use Rattle.journal.specs.View.{EntryView}
+use Rattle.server_model.specs.declared.event.Event.{Event}
 use Rattle.server_model.specs.declared.event.What.{What}
 use Rattle.server_model.specs.declared.event.What.TheVariants.{Step, Deliver, Evict, Migrate}
 use Rattle.server_model.specs.Servers.{Server, Cluster}
@@ -12,13 +13,14 @@ use Rattle.server_model.specs.Work.{thread_in, then_some}
 use Rattle.server_model.specs.Clusters.{act_at}
 use Rattle.server_model.specs.Events.{received, does}
 use Rattle.heap_law.specs.Things.{Thing, server_things, things_of}
-use Rattle.event_law.specs.Kinds.{Kind, message_kind, instr_kind, kind_at}
+use Rattle.event_law.specs.Kinds.{Kind, message_kind, instr_kind, kind_at, kind_of}
 use Rattle.event_law.specs.Sums.{Sums}
 use Rattle.heap_law.specs.Coherent.{OneHome, OneOwner, Users}
 use Rattle.event_law.specs.Laws.{Gives, Leaves, OneState, SharesCounted, OneTaskValue, NumbersDiffer, ServersDiffer}
-use Rattle.event_law.proofs.Proved.{IsProvedKind}
+use Rattle.event_law.proofs.Proved.{IsProvedKind, IsSpending}
+use Rattle.event_law.proofs.Rules.{Kept, Spends}
 use Rattle.event_law.proofs.Results.{weaker}
-use Rattle.event_law.proofs.RulesKeep.{sums_kept}
+use Rattle.event_law.proofs.RulesKeep.{sums_kept, sums_spend}
 use Rattle.event_law.proofs.Events.{Left, acts, delivers, evicts_keep}
 use Rattle.event_law.proofs.Messages.{message_keeps}
 use Rattle.event_law.proofs.Migrations.{migrates_keep}
@@ -27,32 +29,39 @@ use Rattle.event_law.proofs.Steps.{steps_keep}
 some_same : {a b : Kind} → Some a ≡ Some b → b ≡ a
 some_same e = cc
 
+some_same2 : {a b : Kind} → Some a ≡ Some b → a ≡ b
+some_same2 e = cc
+
 proved_as : (a b : Kind) → Some a ≡ Some b → IsProvedKind b → IsProvedKind a
 proved_as a b q p = subst IsProvedKind (some_same q) p
 
-module _ (c : Cluster) (others : List Thing) (s : Server) (g : Sums (server_things s ++ others)) (kind : Kind) (p : IsProvedKind kind) where
-  stepping : (t : ℕ) → kind_at c (Step t) s ≡ Some kind → (x : ThreadState) (i : Instr) → thread_in s.threads t ≡ Some x → slice_get c.code x.pc ≡ Some i → IsProvedKind (instr_kind i)
+module _ {K : List Thing → Type 0} (k : Kept K) (c : Cluster) (others : List Thing) (s : Server) (g : K (server_things s ++ others)) (kind : Kind) (p : IsProvedKind kind) (sp : IsSpending kind → Spends K) where
+  stepping : (t : ℕ) → kind_at c (Step t) s ≡ Some kind → (x : ThreadState) (i : Instr) → thread_in s.threads t ≡ Some x → slice_get c.code x.pc ≡ Some i → IsProvedKind (instr_kind i) × (IsSpending (instr_kind i) → Spends K)
   stepping t q x i h r =
       let a : option_map instr_kind (slice_get c.code x.pc) ≡ Some kind = subst (λ y. then_some y (λ z. option_map instr_kind (slice_get c.code z.pc)) ≡ Some kind) h q in
       let b : Some (instr_kind i) ≡ Some kind = subst (λ y. option_map instr_kind y ≡ Some kind) r a in
-      proved_as (instr_kind i) kind b p
+      (proved_as (instr_kind i) kind b p, λ z. sp (subst IsSpending (some_same2 b) z))
 
-  delivering : (i : ℕ) → kind_at c (Deliver i) s ≡ Some kind → Gives (Left sums_kept others) (does c.code c.options s (Deliver i))
+  delivering : (i : ℕ) → kind_at c (Deliver i) s ≡ Some kind → Gives (Left k others) (does c.code c.options s (Deliver i))
   delivering i q = by (slice_get s.rest.inbox i) refl q
     where
-      by : (m : Option Message) → slice_get s.rest.inbox i ≡ m → option_map message_kind m ≡ Some kind → Gives (Left sums_kept others) (does c.code c.options s (Deliver i))
+      by : (m : Option Message) → slice_get s.rest.inbox i ≡ m → option_map message_kind m ≡ Some kind → Gives (Left k others) (does c.code c.options s (Deliver i))
       by None h r = absurd (cc r)
-      by (Some m) h r = delivers sums_kept c.code c.options others s i m h (message_keeps sums_kept s.rest.number s.events others c.code m (proved_as (message_kind m) kind r p) (received i s)) g
+      by (Some m) h r = delivers k c.code c.options others s i m h (message_keeps k s.rest.number s.events others c.code m (proved_as (message_kind m) kind r p) (λ z. sp (subst IsSpending (some_same2 r) z)) (received i s)) g
 
-  doing : (w : What) → kind_at c w s ≡ Some kind → Gives (Left sums_kept others) (does c.code c.options s w)
-  doing (Step t) q = steps_keep sums_kept c.code c.options others s t (stepping t q) g
+  pub doing : (w : What) → kind_at c w s ≡ Some kind → Gives (Left k others) (does c.code c.options s w)
+  doing (Step t) q = steps_keep k c.code c.options others s t (stepping t q) g
   doing (Deliver i) q = delivering i q
-  doing (Evict w) q = evicts_keep sums_kept c.code c.options others s w g
-  doing (Migrate t target) q = migrates_keep sums_kept c.code c.options others s t target g
+  doing (Evict w) q = evicts_keep k c.code c.options others s w g
+  doing (Migrate t target) q = migrates_keep k c.code c.options others s t target g
+
+-- whatever the rules keep
+pub kept_leaves : {K : List Thing → Type 0} → Kept K → (kind : Kind) → IsProvedKind kind → (IsSpending kind → Spends K) → (c : Cluster) (e : Event) → kind_of c e ≡ Some kind → K (things_of c) → Gives (λ (d : Cluster × EntryView). K (things_of d.0)) (act_at c e)
+kept_leaves k kind p sp c e q b =
+    acts k c e (λ s h others g. doing k c others s g kind p sp e.what (subst (λ x. then_some x (kind_at c e.what) ≡ Some kind) h q)) b
 
 pub proved_leave : (kind : Kind) → IsProvedKind kind → Leaves kind (λ c. Sums (things_of c))
-proved_leave kind p c e q b =
-    acts sums_kept c e (λ s h others g. doing c others s g kind p e.what (subst (λ x. then_some x (kind_at c e.what) ≡ Some kind) h q)) b
+proved_leave kind p c e q b = kept_leaves sums_kept kind p (λ z. sums_spend) c e q b
 
 -- and each part of them
 pub part_leaves : (kind : Kind) → IsProvedKind kind → (Part : Cluster → Type 0) → ((c : Cluster) → Sums (things_of c) → Part c) → Leaves kind Part

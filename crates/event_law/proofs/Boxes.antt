@@ -29,7 +29,7 @@ use Rattle.event_law.specs.Sums.{Sums, is_server}
 use Rattle.event_law.specs.Laws.{Gives}
 use Rattle.event_law.proofs.Trades.{Trade, tot-append}
 use Rattle.event_law.proofs.Rules.{recolours, Kept}
-use Rattle.event_law.proofs.RulesKeep.{cell_falls, sums_kept}
+use Rattle.event_law.proofs.RulesKeep.{cell_falls, Counted, counted_kept}
 use Rattle.event_law.proofs.Results.{map_gives, over_gives, bind_gives}
 use Rattle.event_law.proofs.Bags.{HandOk, had_by, rest_things}
 use Rattle.event_law.proofs.Values.{pushes_temp, beside_trades}
@@ -134,29 +134,33 @@ all_new s q k z t m l = none_of s t m (subst (λ xs. Found m (thread_at xs t)) (
 
 -- THE SUMS, WHERE A NAME IS NEW
 
-abbrev pub New : ObjNo → List Thing → Type 0
-New o b = Sums b × (tot (cells o) b ≡ 0)
+abbrev pub New : (ℕ → ℕ) → ObjNo → List Thing → Type 0
+New w o b = Counted w b × (tot (cells o) b ≡ 0)
 
-pub new_kept : (o : ObjNo) → Kept (New o)
-new_kept o = record {
-  same = λ a b e k. (sums_kept.same a b e k.0, omega (arith, e (cells o), k.1));
-  trades = λ t r k. (sums_kept.trades t r k.0, omega (arith, t.before (cells o), t.after (cells o), cell_falls o _ _ r, k.1));
-  placed = λ b k. sums_kept.placed b k.0;
-}
+pub new_kept : (w : ℕ → ℕ) (o : ObjNo) → Kept (New w o)
+new_kept w o =
+    let all : Kept (Counted w) = counted_kept w in record {
+      same = λ a b e k. (all.same a b e k.0, omega (arith, e (cells o), k.1));
+      trades = λ t r k. (all.trades t r k.0, omega (arith, t.before (cells o), t.after (cells o), cell_falls o _ _ r, k.1));
+      placed = λ b k. all.placed b k.0;
+    }
 
 -- the object is made in the air, with its box in the hand
-makes_flying : (a b : List Thing) (n : ℕ) (x : ThreadState) (v : Owned) (o : ObjNo)
+makes_flying : (w : ℕ → ℕ) (a b : List Thing) (n : ℕ) (x : ThreadState) (v : Owned) (o : ObjNo)
     → Trade a (stands n false x ∷ holds in_hand v ∷ []) (stands n false (record x { made = x.made + 1 }) ∷ flies 0 (record { object = o; value = v }) ∷ holds in_hand (owned.Box (record { word = 0; object = o })) ∷ []) b
-    → New o a → Sums b
-makes_flying a b n x v o t k = record {
-  home_of_each = λ p. by p (same_object o p) refl;
-  owner_of_each = λ p. omega (arith, t.before (owners p), t.after (owners p), t.before (cells p), t.after (cells p), k.0.owner_of_each p);
-  one_state = λ at. omega (arith, t.before (states at), t.after (states at), t.before (below at), t.after (below at), k.0.one_state at);
-  users_counted = λ at. omega (arith, t.before (uses_of at), t.after (uses_of at), t.before (users_of at), t.after (users_of at), k.0.users_counted at);
-  shares_counted = λ m. omega (arith, t.before (shares_of m), t.after (shares_of m), t.before (shares_at_home m), t.after (shares_at_home m), k.0.shares_counted m);
-  one_task_value = λ i. omega (arith, t.before (tasks_of i), t.after (tasks_of i), k.0.one_task_value i);
-  numbers_differ = λ i. omega (arith, t.before (is_thread i), t.after (is_thread i), k.0.numbers_differ i);
-  servers_differ = λ i. omega (arith, t.before (is_server i), t.after (is_server i), k.0.servers_differ i);
+    → New w o a → Counted w b
+makes_flying w a b n x v o t k = record {
+  sums = record {
+    home_of_each = λ p. by p (same_object o p) refl;
+    owner_of_each = λ p. omega (arith, t.before (owners p), t.after (owners p), t.before (cells p), t.after (cells p), k.0.sums.owner_of_each p);
+    one_state = λ at. omega (arith, t.before (states at), t.after (states at), t.before (below at), t.after (below at), k.0.sums.one_state at);
+    users_counted = λ at. omega (arith, t.before (uses_of at), t.after (uses_of at), t.before (users_of at), t.after (users_of at), k.0.sums.users_counted at);
+    shares_counted = λ m. omega (arith, t.before (shares_of m), t.after (shares_of m), t.before (shares_at_home m), t.after (shares_at_home m), k.0.sums.shares_counted m);
+    one_task_value = λ i. omega (arith, t.before (tasks_of i), t.after (tasks_of i), k.0.sums.one_task_value i);
+    numbers_differ = λ i. omega (arith, t.before (is_thread i), t.after (is_thread i), k.0.sums.numbers_differ i);
+    servers_differ = λ i. omega (arith, t.before (is_server i), t.after (is_server i), k.0.sums.servers_differ i);
+  };
+  tasks = λ i. omega (arith, t.before (tasks_of i), t.after (tasks_of i), k.0.tasks i);
 }
   where
     by : (p : ObjNo) (q : Bool) → same_object o p ≡ q → tot (cells p) b ≤ 1
@@ -166,10 +170,10 @@ makes_flying a b n x v o t k = record {
         (λ ne h. absurd (cc h)) e
     by p false e =
         let n0 : one (same_object o p) ≡ 0 = ap one e in
-        omega (arith, n0, t.before (cells p), t.after (cells p), k.0.home_of_each p)
+        omega (arith, n0, t.before (cells p), t.after (cells p), k.0.sums.home_of_each p)
 
-module _ (n e t : ℕ) (others : List Thing) where
-  makes_box : (v : Owned) (h : Hand) → HandOk (New (next_object h)) n e t (holds in_hand v ∷ others) h → Gives (HandOk Sums n e t others) (make_box v h)
+module _ (w : ℕ → ℕ) (n e t : ℕ) (others : List Thing) where
+  makes_box : (v : Owned) (h : Hand) → HandOk (New w (next_object h)) n e t (holds in_hand v ∷ others) h → Gives (HandOk (Counted w) n e t others) (make_box v h)
   makes_box v h g =
       let o = next_object h in
       let c : Cell = record { object = o; value = v } in
@@ -183,12 +187,12 @@ module _ (n e t : ℕ) (others : List Thing) where
         before = λ f. omega (arith, tot-append f (had_by n x) (r ++ (holds in_hand v ∷ others)), tot-append f r (holds in_hand v ∷ others), tot-append f (had_by n x) (r ++ others), tot-append f r others);
         after = λ f. omega (arith, tot-append f (had_by n x) (r ++ news), tot-append f r news, tot-append f (had_by n x) (r ++ others), tot-append f r others);
       } in
-      let flying : HandOk Sums n e t news h2 = record { number = g.number; thread = g.thread; bag = makes_flying _ _ n x v o made g.bag } in
-      over_gives (λ (m : NewWord). HandOk Sums n e t (holds in_hand (owned.Box b0) ∷ others) (record h2 { work = m.work })) (HandOk Sums n e t others) (issue_placed (act.Make o) c h.work) (λ m. push_box v m h)
-      (issues_placed sums_kept n e t (holds in_hand (owned.Box b0) ∷ others) (act.Make o) 0 c h2 flying)
+      let flying : HandOk (Counted w) n e t news h2 = record { number = g.number; thread = g.thread; bag = makes_flying w _ _ n x v o made g.bag } in
+      over_gives (λ (m : NewWord). HandOk (Counted w) n e t (holds in_hand (owned.Box b0) ∷ others) (record h2 { work = m.work })) (HandOk (Counted w) n e t others) (issue_placed (act.Make o) c h.work) (λ m. push_box v m h)
+      (issues_placed (counted_kept w) n e t (holds in_hand (owned.Box b0) ∷ others) (act.Make o) 0 c h2 flying)
       (λ m u.
-      let worded = beside_trades sums_kept n e t (holds in_hand (owned.Box b0) ∷ others) (holds in_hand (owned.Box (record { word = m.word; object = o })) ∷ others) (record h2 { work = m.work }) (record { rest = others; before = λ f. omega arith; after = λ f. omega arith }) (recolours in_hand b0 m.word) u in
-      pushes_temp sums_kept n e t others (value.Own (owned.Box (record { word = m.word; object = o }))) (record { work = label_all (label.Make o (plain_of v) ∷ []) m.work; thread = h2.thread }) (labelled sums_kept n e t (holds in_hand (owned.Box (record { word = m.word; object = o })) ∷ others) (label.Make o (plain_of v) ∷ []) (record h2 { work = m.work }) worded))
+      let worded = beside_trades (counted_kept w) n e t (holds in_hand (owned.Box b0) ∷ others) (holds in_hand (owned.Box (record { word = m.word; object = o })) ∷ others) (record h2 { work = m.work }) (record { rest = others; before = λ f. omega arith; after = λ f. omega arith }) (recolours in_hand b0 m.word) u in
+      pushes_temp (counted_kept w) n e t others (value.Own (owned.Box (record { word = m.word; object = o }))) (record { work = label_all (label.Make o (plain_of v) ∷ []) m.work; thread = h2.thread }) (labelled (counted_kept w) n e t (holds in_hand (owned.Box (record { word = m.word; object = o })) ∷ others) (label.Make o (plain_of v) ∷ []) (record h2 { work = m.work }) worded))
 
   -- a pop changes no name
   pop_named : (o : Operand) (h : Hand) → Gives (λ (p : Popped Value). next_object p.hand ≡ next_object h) (pop o h)
@@ -205,10 +209,10 @@ module _ (n e t : ℕ) (others : List Thing) where
   both_give P Q R None p q f = tt
   both_give P Q R (Some a) p q f = f a p q
 
-  pub boxes_up : (o : Operand) (h : Hand) → HandOk (New (next_object h)) n e t others h → Gives (HandOk Sums n e t others) (box_up o h)
+  pub boxes_up : (o : Operand) (h : Hand) → HandOk (New w (next_object h)) n e t others h → Gives (HandOk (Counted w) n e t others) (box_up o h)
   boxes_up o h g =
-      bind_gives (λ (p : Popped Owned). HandOk (New (next_object p.hand)) n e t (holds in_hand p.item ∷ others) p.hand) (HandOk Sums n e t others) (pop_owned o h) _
-      (both_give (λ (p : Popped Owned). HandOk (New (next_object h)) n e t (holds in_hand p.item ∷ others) p.hand) (λ (p : Popped Owned). next_object p.hand ≡ next_object h) (λ (p : Popped Owned). HandOk (New (next_object p.hand)) n e t (holds in_hand p.item ∷ others) p.hand) (pop_owned o h)
-      (pops_owned (new_kept (next_object h)) n e t others o h g) (pop_owned_named o h)
-      (λ p u q. subst (λ (z : ObjNo). HandOk (New z) n e t (holds in_hand p.item ∷ others) p.hand) (sym q) u))
+      bind_gives (λ (p : Popped Owned). HandOk (New w (next_object p.hand)) n e t (holds in_hand p.item ∷ others) p.hand) (HandOk (Counted w) n e t others) (pop_owned o h) _
+      (both_give (λ (p : Popped Owned). HandOk (New w (next_object h)) n e t (holds in_hand p.item ∷ others) p.hand) (λ (p : Popped Owned). next_object p.hand ≡ next_object h) (λ (p : Popped Owned). HandOk (New w (next_object p.hand)) n e t (holds in_hand p.item ∷ others) p.hand) (pop_owned o h)
+      (pops_owned (new_kept w (next_object h)) n e t others o h g) (pop_owned_named o h)
+      (λ p u q. subst (λ (z : ObjNo). HandOk (New w z) n e t (holds in_hand p.item ∷ others) p.hand) (sym q) u))
       (λ p u. makes_box p.item p.hand u)

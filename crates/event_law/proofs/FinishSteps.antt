@@ -7,6 +7,7 @@ use Rattle.join_home.specs.Tasks.{Task, in_pair, task_in, without_task}
 use Rattle.server_msgs.specs.declared.message.Message.{Message}
 use Rattle.server_msgs.specs.declared.message.Message.TheVariants as message
 use Rattle.journal.specs.View.{EntryView}
+use Rattle.server_model.specs.declared.event.Event.{Event}
 use Rattle.server_model.specs.declared.event.What.{What}
 use Rattle.server_model.specs.declared.event.What.TheVariants.{Step, Deliver, Evict, Migrate}
 use Rattle.server_model.specs.Servers.{Server, Cluster, server_at}
@@ -20,12 +21,13 @@ use Rattle.heap_law.specs.Naming.{rising, numbers_of, servers_wrong, pinned_parc
 use Rattle.heap_law.specs.Walking.{sum_threads}
 use Rattle.heap_law.specs.OneHeap.{is_branch}
 use Rattle.heap_law.specs.Rooted.{is_unit, other_result}
-use Rattle.heap_law.specs.Coherent.{Holds, branches_give_unit}
-use Rattle.event_law.specs.Kinds.{Kind, finished, message_kind, instr_kind, kind_at}
+use Rattle.heap_law.specs.Coherent.{Holds, branches_give_unit, parts_are_typed}
+use Rattle.event_law.specs.Kinds.{Kind, finished, message_kind, instr_kind, kind_at, kind_of}
 use Rattle.event_law.specs.Sums.{Sums}
 use Rattle.event_law.specs.Laws.{Gives, LeavesWithResults}
 use Rattle.event_law.proofs.Trades.{Trade, Same, tot-append}
 use Rattle.event_law.proofs.Results.{weaker}
+use Rattle.event_law.proofs.Rules.{Kept}
 use Rattle.event_law.proofs.RulesKeep.{sums_kept}
 use Rattle.event_law.proofs.Bags.{all_standing, rest_things, of_receiving, of_tasks, server_same}
 use Rattle.event_law.proofs.Events.{Left, delivers, acts_beside}
@@ -91,18 +93,18 @@ module _ (c : Cluster) (others : List Thing) (s : Server) (same : Same (things_o
       let branch : is_branch (sight c) u ≡ true = some_weight _ (things_of c) (noted n (record { thread = u; state = in_pair p false })) u has_note refl in
       unit_where (is_branch (sight c) u) v branch sent_none
 
-  module _ (g : Sums (server_things s ++ others)) (units : Holds c branches_give_unit) (rises : rising (numbers_of (λ t. t.thread) s.rest.tasks) ≡ 0) where
-    delivering : (i : ℕ) → kind_at c (Deliver i) s ≡ Some finished → Gives (Left sums_kept others) (does c.code c.options s (Deliver i))
+  module _ {K : List Thing → Type 0} (k : Kept K) (g : K (server_things s ++ others)) (units : Holds c branches_give_unit) (rises : rising (numbers_of (λ t. t.thread) s.rest.tasks) ≡ 0) where
+    delivering : (i : ℕ) → kind_at c (Deliver i) s ≡ Some finished → Gives (Left k others) (does c.code c.options s (Deliver i))
     delivering i q = by (slice_get s.rest.inbox i) refl q
       where
-        comes_in : (m : Message) → slice_get s.rest.inbox i ≡ Some m → message_kind m ≡ finished → Gives (Left sums_kept others) (does c.code c.options s (Deliver i))
+        comes_in : (m : Message) → slice_get s.rest.inbox i ≡ Some m → message_kind m ≡ finished → Gives (Left k others) (does c.code c.options s (Deliver i))
         comes_in (message.Finished u v) h e =
-            delivers sums_kept c.code c.options others s i (message.Finished u v) h
-            (finishes sums_kept s.rest.number s.events others u v (received i s) (record { rise = rises; unit = unit_result i u v h units })) g
+            delivers k c.code c.options others s i (message.Finished u v) h
+            (finishes k s.rest.number s.events others u v (received i s) (record { rise = rises; unit = unit_result i u v h units })) g
         comes_in (message.Release r) h e = absurd (cc e)
         comes_in _ h e = absurd (cc e)
 
-        by : (m : Option Message) → slice_get s.rest.inbox i ≡ m → option_map message_kind m ≡ Some finished → Gives (Left sums_kept others) (does c.code c.options s (Deliver i))
+        by : (m : Option Message) → slice_get s.rest.inbox i ≡ m → option_map message_kind m ≡ Some finished → Gives (Left k others) (does c.code c.options s (Deliver i))
         by None h e = absurd (cc e)
         by (Some m) h e = comes_in m h (some_same e)
 
@@ -121,18 +123,21 @@ module _ (c : Cluster) (others : List Thing) (s : Server) (same : Same (things_o
         by None e = absurd (cc e)
         by (Some y) e = at (slice_get c.code y.pc) e
 
-    doing : (w : What) → kind_at c w s ≡ Some finished → Gives (Left sums_kept others) (does c.code c.options s w)
+    doing : (w : What) → kind_at c w s ≡ Some finished → Gives (Left k others) (does c.code c.options s w)
     doing (Step t) q = absurd (no_step t q)
     doing (Deliver i) q = delivering i q
     doing (Evict w) q = absurd (cc q)
     doing (Migrate t target) q = absurd (cc q)
 
-pub finished_leaves : LeavesWithResults finished (λ c. Sums (things_of c))
-finished_leaves c e q g units typed =
-    acts_beside sums_kept c e (λ s h others same.
+pub finished_keeps : {K : List Thing → Type 0} → Kept K → (c : Cluster) (e : Event) → kind_of c e ≡ Some finished → K (things_of c) → Holds c branches_give_unit → Holds c parts_are_typed → Gives (λ (d : Cluster × EntryView). K (things_of d.0)) (act_at c e)
+finished_keeps k c e q g units typed =
+    acts_beside k c e (λ s h others same.
     let parts : servers_wrong (sight c) 0 c.servers + sum_threads (sight c) pinned_parcel ≡ 0 = typed in
     let rises = notes_rise (sight c) 0 e.server c.servers s (omega (arith, parts)) h in
-    doing c others s same (sums_kept.same _ _ same g) units rises e.what (subst (λ x. then_some x (kind_at c e.what) ≡ Some finished) h q))
+    doing c others s same k (k.same _ _ same g) units rises e.what (subst (λ x. then_some x (kind_at c e.what) ≡ Some finished) h q))
+
+pub finished_leaves : LeavesWithResults finished (λ c. Sums (things_of c))
+finished_leaves c e q g units typed = finished_keeps sums_kept c e q g units typed
 
 pub finished_part : (Part : Cluster → Type 0) → ((c : Cluster) → Sums (things_of c) → Part c) → LeavesWithResults finished Part
 finished_part Part has c e q g units typed =

@@ -19,10 +19,10 @@ use Rattle.server_model.specs.Drop.{home_of}
 use Rattle.server_model.specs.Commit.{waiting, label_dropped, ask_join, take_gift, join, end_with, end_thread, mutex_made, mutex, mutex_at, ask_dup, dup, ask_lock, push_content, lock, held_of, send_content, unlock, go_on}
 use Rattle.heap_law.specs.Things.{Thing, in_hand, at_temp, as_content, as_result, holds, locks, at_home, things_at, mutex_things}
 use Rattle.event_law.specs.Laws.{Gives}
-use Rattle.event_law.proofs.Trades.{Trade, tot-append, trade_push}
-use Rattle.event_law.proofs.Rules.{Rule, turned, hands_on, sends, spends, marks, unmarks, makes_mutex, counts_on, beside, in_turn, Kept}
+use Rattle.event_law.proofs.Trades.{Trade, tot-append, trade_push, trade_left}
+use Rattle.event_law.proofs.Rules.{Rule, turned, hands_on, sends, marks, unmarks, makes_mutex, counts_on, beside, in_turn, Kept, Spends}
 use Rattle.event_law.proofs.Results.{map_gives, over_gives, bind_gives, test_gives}
-use Rattle.event_law.proofs.Bags.{WorkOk, HandOk, of_mutexes}
+use Rattle.event_law.proofs.Bags.{WorkOk, HandOk, rest_things, of_mutexes}
 use Rattle.event_law.proofs.Chains.{work_trades, work_sends, work_front, hand_sends, phase_changes, thread_changes, beside_hand, to_hand}
 use Rattle.event_law.proofs.Objects.{one_goes}
 use Rattle.event_law.proofs.Values.{held, pushes_temp, pushes_slot, some_come_by, some_go_by}
@@ -56,19 +56,15 @@ module _ {K : List Thing → Type 0} (k : Kept K) (n e t : ℕ) (others : List T
       let m = message.Join u h.work.rest.number h.thread.number in
       phase_changes k n e t others (phase.WaitJoin u) (working (send (home_of u) m) (working (note (act.AskJoin u)) h)) (hand_sends k n e t others (home_of u) m (working (note (act.AskJoin u)) h) refl refl (noted (act.AskJoin u) h g))
 
-  abbrev PoppedTask : Popped ℕ → Type 0
-  PoppedTask p = Ok p.hand
+  -- a task value goes from the hand
+  spent : Spends K → (more : List Thing) (u : ℕ) (h : Hand) → HandOk K n e t (holds in_hand (owned.Task u) ∷ more) h → HandOk K n e t more h
+  spent sp more u h g =
+      let front = Rattle.heap_law.specs.Things.thread_things n false h.thread in
+      record { number = g.number; thread = g.thread; bag = sp.joined in_hand u (trade_left front (trade_left (rest_things n e h.work.rest) (one_goes (holds in_hand (owned.Task u)) more))) g.bag }
 
-  as_task : (p : Popped Value) → HandOk K n e t (held n t p.item ++ others) p.hand → Gives PoppedTask (taken_as task_of p)
-  as_task p g = by p.item refl g
-    where
-      by : (v : Value) → p.item ≡ v → HandOk K n e t (held n t v ++ others) p.hand → Gives PoppedTask (Rattle.std.specs.Prelude.option_map (λ (x : ℕ). record { item = x; hand = p.hand }) (task_of v))
-      by (value.Own (owned.Task u)) q x = some_go_by k n e t others (holds in_hand (owned.Task u) ∷ []) p.hand (spends in_hand u) x
-      by _ q x = tt
-
-  pub joins : (o : Operand) (gift : Option Owned) (h : Hand) → h.thread.gift ≡ gift → Ok h → CommittedOk Ok (join o gift h)
-  joins o None h q g = waiting_keeps _ (map_gives Ok (then_some (pop o h) (λ p. task_of p.item)) (ask_join h) (λ u z. asks_join u h g))
-  joins o (Some v) h q g =
+  pub joins : Spends K → (o : Operand) (gift : Option Owned) (h : Hand) → h.thread.gift ≡ gift → Ok h → CommittedOk Ok (join o gift h)
+  joins sp o None h q g = waiting_keeps _ (map_gives Ok (then_some (pop o h) (λ p. task_of p.item)) (ask_join h) (λ u z. asks_join u h g))
+  joins sp o (Some v) h q g =
       let out = takes_gift k n e t others v h q g in
       goes_keep k n e t others _
       (over_gives (λ (p : Popped ℕ). HandOk K n e t (holds in_hand v ∷ others) p.hand) Ok (then_some (pop o (take_gift h)) (taken_as task_of)) (λ p. push_temp (value.Own v) p.hand)
@@ -80,7 +76,7 @@ module _ {K : List Thing → Type 0} (k : Kept K) (n e t : ℕ) (others : List T
       task_with v p g = by p.item refl g
         where
           by : (y : Value) → p.item ≡ y → HandOk K n e t (held n t y ++ (holds in_hand v ∷ others)) p.hand → Gives (λ (x : Popped ℕ). HandOk K n e t (holds in_hand v ∷ others) x.hand) (Rattle.std.specs.Prelude.option_map (λ (x : ℕ). record { item = x; hand = p.hand }) (task_of y))
-          by (value.Own (owned.Task u)) q x = some_go_by k n e t (holds in_hand v ∷ others) (holds in_hand (owned.Task u) ∷ []) p.hand (spends in_hand u) x
+          by (value.Own (owned.Task u)) q x = spent sp (holds in_hand v ∷ others) u p.hand x
           by _ q x = tt
 
   -- SHARES AND LOCKS

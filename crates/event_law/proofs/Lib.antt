@@ -38,6 +38,7 @@ pub mod StartSteps
 pub mod Finished
 pub mod FinishSteps
 pub mod Each
+pub mod TaskCounts
 pub mod Applied
 pub mod Askers
 pub mod Sends

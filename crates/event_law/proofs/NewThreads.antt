@@ -19,28 +19,31 @@ use Rattle.heap_law.specs.Coherent.{Holds, names_counted}
 use Rattle.event_law.specs.Sums.{Sums, is_server}
 use Rattle.event_law.proofs.Trades.{Trade, Same, tot-append}
 use Rattle.event_law.proofs.Rules.{Kept}
-use Rattle.event_law.proofs.RulesKeep.{thread_falls, task_falls, sums_kept}
+use Rattle.event_law.proofs.RulesKeep.{thread_falls, task_same, sums_kept}
 use Rattle.event_law.proofs.Bags.{counts_of, body_things, rest_things, all_standing, server_same}
 use Rattle.event_law.proofs.Boxes.{tot_le}
 use Rattle.event_law.proofs.Events.{others_of, tot-server}
 
--- no thread that a server starts after so many is there, and no task value of one that it starts after so many
-pub record NewNames (n i j : ℕ) (b : List Thing) : Type 0 where
+-- no thread that a server starts after so many is there, and no task value of one that it starts after so many; of each thread there are so many task values
+pub record NewNames (c : ℕ → ℕ) (n i j : ℕ) (b : List Thing) : Type 0 where
   pub sums : Sums b
-  pub threads : (c : ℕ) → i < c → c < 2 ^ 32 → tot (is_thread (n * 2 ^ 32 + c)) b ≡ 0
-  pub tasks : (c : ℕ) → j < c → c < 2 ^ 32 → tot (tasks_of (n * 2 ^ 32 + c)) b ≡ 0
+  pub counted : (t : ℕ) → tot (tasks_of t) b ≡ c t
+  pub threads : (u : ℕ) → i < u → u < 2 ^ 32 → tot (is_thread (n * 2 ^ 32 + u)) b ≡ 0
+  pub tasks : (u : ℕ) → j < u → u < 2 ^ 32 → tot (tasks_of (n * 2 ^ 32 + u)) b ≡ 0
 
-pub names_kept : (n i j : ℕ) → Kept (NewNames n i j)
-names_kept n i j = record {
+pub names_kept : (c : ℕ → ℕ) (n i j : ℕ) → Kept (NewNames c n i j)
+names_kept w n i j = record {
   same = λ a b e k. record {
     sums = sums_kept.same a b e k.sums;
+    counted = λ u. omega (arith, e (tasks_of u), k.counted u);
     threads = λ c l m. omega (arith, e (is_thread (n * 2 ^ 32 + c)), k.threads c l m);
     tasks = λ c l m. omega (arith, e (tasks_of (n * 2 ^ 32 + c)), k.tasks c l m);
   };
   trades = λ t r k. record {
     sums = sums_kept.trades t r k.sums;
+    counted = λ u. omega (arith, t.before (tasks_of u), t.after (tasks_of u), task_same u _ _ r, k.counted u);
     threads = λ c l m. let u = n * 2 ^ 32 + c in omega (arith, t.before (is_thread u), t.after (is_thread u), thread_falls u _ _ r, k.threads c l m);
-    tasks = λ c l m. let u = n * 2 ^ 32 + c in omega (arith, t.before (tasks_of u), t.after (tasks_of u), task_falls u _ _ r, k.tasks c l m);
+    tasks = λ c l m. let u = n * 2 ^ 32 + c in omega (arith, t.before (tasks_of u), t.after (tasks_of u), task_same u _ _ r, k.tasks c l m);
   };
   placed = λ b k. sums_kept.placed b k.sums;
 }
@@ -111,9 +114,10 @@ unstarted b n s rest e few c l =
     let m = s.rest.number in
     omega (arith, few, e (is_server m), e (started_at m c), same_self m, too_many (m == m) c s.rest.started l, tot_le (started_at m c) (is_server m) (counts_its_server m c) rest)
 
-pub new_names : (k : Cluster) (n : ℕ) (s : Server) → server_at k.servers n ≡ Some s → Sums (things_of k) → Holds k names_counted → NewNames s.rest.number s.rest.started s.rest.started (things_of k)
+pub new_names : (k : Cluster) (n : ℕ) (s : Server) → server_at k.servers n ≡ Some s → Sums (things_of k) → Holds k names_counted → NewNames (λ t. tot (tasks_of t) (things_of k)) s.rest.number s.rest.started s.rest.started (things_of k)
 new_names k n s h g counted = record {
   sums = g;
+  counted = λ t. refl;
   threads = λ c l m. (none c l m).0;
   tasks = λ c l m. (none c l m).1;
 }
@@ -139,8 +143,12 @@ new_names k n s h g counted = record {
 
 -- A NEW THREAD, AND A NEW TASK VALUE
 
-module _ (n i j : ℕ) (a b : List Thing) where
-  pub thread_appears : (r : ℕ) (p : Bool) (x : ThreadState) → x.number ≡ n * 2 ^ 32 + (i + 1) → i + 1 < 2 ^ 32 → Trade a [] (stands r p x ∷ []) b → NewNames n i j a → NewNames n (i + 1) j b
+-- one more of that thread
+abbrev pub one_more : (ℕ → ℕ) → ℕ → ℕ → ℕ
+one_more c v t = c t + one (v == t)
+
+module _ (w : ℕ → ℕ) (n i j : ℕ) (a b : List Thing) where
+  pub thread_appears : (r : ℕ) (p : Bool) (x : ThreadState) → x.number ≡ n * 2 ^ 32 + (i + 1) → i + 1 < 2 ^ 32 → Trade a [] (stands r p x ∷ []) b → NewNames w n i j a → NewNames w n (i + 1) j b
   thread_appears r p x q l t k = record {
     sums = record {
       home_of_each = λ o. omega (arith, t.before (cells o), t.after (cells o), k.sums.home_of_each o);
@@ -152,6 +160,7 @@ module _ (n i j : ℕ) (a b : List Thing) where
       numbers_differ = λ u. one_more_thread u;
       servers_differ = λ m. omega (arith, t.before (is_server m), t.after (is_server m), k.sums.servers_differ m);
     };
+    counted = λ u. omega (arith, t.before (tasks_of u), t.after (tasks_of u), k.counted u);
     threads = λ c l2 m. other_thread c l2 m;
     tasks = λ c l2 m. let u = n * 2 ^ 32 + c in omega (arith, t.before (tasks_of u), t.after (tasks_of u), k.tasks c l2 m);
   }
@@ -169,7 +178,7 @@ module _ (n i j : ℕ) (a b : List Thing) where
           (λ e w. absurd (omega (arith, l2, q, e)))
           (λ ne w. omega (arith, w, t.before (is_thread u), t.after (is_thread u), k.threads c (omega (arith, l2)) m)) refl
 
-  pub task_appears : (p : Rattle.heap_law.specs.Things.Spot) (v : ℕ) → v ≡ n * 2 ^ 32 + (j + 1) → j + 1 < 2 ^ 32 → Trade a [] (holds p (owned.Task v) ∷ []) b → NewNames n i j a → NewNames n i (j + 1) b
+  pub task_appears : (p : Rattle.heap_law.specs.Things.Spot) (v : ℕ) → v ≡ n * 2 ^ 32 + (j + 1) → j + 1 < 2 ^ 32 → Trade a [] (holds p (owned.Task v) ∷ []) b → NewNames w n i j a → NewNames (one_more w v) n i (j + 1) b
   task_appears p v q l t k = record {
     sums = record {
       home_of_each = λ o. omega (arith, t.before (cells o), t.after (cells o), k.sums.home_of_each o);
@@ -181,6 +190,7 @@ module _ (n i j : ℕ) (a b : List Thing) where
       numbers_differ = λ u. omega (arith, t.before (is_thread u), t.after (is_thread u), k.sums.numbers_differ u);
       servers_differ = λ m. omega (arith, t.before (is_server m), t.after (is_server m), k.sums.servers_differ m);
     };
+    counted = λ u. omega (arith, t.before (tasks_of u), t.after (tasks_of u), k.counted u);
     threads = λ c l2 m. let u = n * 2 ^ 32 + c in omega (arith, t.before (is_thread u), t.after (is_thread u), k.threads c l2 m);
     tasks = λ c l2 m. other_task c l2 m;
   }

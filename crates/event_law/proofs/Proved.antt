@@ -37,3 +37,9 @@ IsProvedKind step_unlock = ⊤
 IsProvedKind step_end = ⊤
 IsProvedKind migrates = ⊤
 IsProvedKind k = ⊥
+
+-- the kinds in which a task value may go: a join that is done, and the `release` of a task
+abbrev pub IsSpending : Kind → Type 0
+IsSpending step_join = ⊤
+IsSpending released = ⊤
+IsSpending k = ⊥

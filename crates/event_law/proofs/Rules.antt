@@ -88,17 +88,15 @@ pub data Rule : List Thing → List Thing → Type 0 where
   counts_on : (s next retired started made events retired2 started2 made2 events2 : ℕ)
       → Rule (counts s next retired started made events ∷ []) (counts s next retired2 started2 made2 events2 ∷ [])
   -- MUTEXES AND TASKS
-  -- a lock's mark; a task value whose join is done; a mutex with its first share
+  -- a lock's mark; a mutex with its first share
   marks : (l : Location) (m : MutexNo) → Rule [] (locks l m ∷ [])
-  spends : (p : Spot) (t : ℕ) → Rule (holds p (owned.Task t) ∷ []) []
   makes_mutex : (s : ℕ) (p : Spot) (m : Mutex) → m.shares ≡ 1 → Rule [] (at_home s m ∷ holds p (owned.Mutex m.number) ∷ [])
   -- a share more, which is sent; it is taken; a share less; a mutex without a share goes
   dups : (s r t : ℕ) (m m2 : Mutex) → m2.number ≡ m.number → m2.shares ≡ m.shares + 1 → Rule (at_home s m ∷ []) (at_home s m2 ∷ sent r (message.Dupped m.number t) ∷ [])
   takes_share : (r t : ℕ) (m : MutexNo) (p : Spot) → Rule (sent r (message.Dupped m t) ∷ []) (holds p (owned.Mutex m) ∷ [])
   less_share : (s r : ℕ) (m m2 : Mutex) → m2.number ≡ m.number → m.shares ≡ m2.shares + 1 → Rule (sent r (message.Release (released.Mutex m.number)) ∷ at_home s m ∷ []) (at_home s m2 ∷ [])
   closes : (s : ℕ) (m : Mutex) → m.shares ≡ 0 → Rule (at_home s m ∷ []) []
-  -- a task is let go; a note comes and goes; a parcel is unpacked and packed
-  lets_task : (r t : ℕ) → Rule (sent r (message.Release (released.Task t)) ∷ []) []
+  -- a note comes and goes; a parcel is unpacked and packed
   notes : (s : ℕ) (t : Task) → Rule [] (noted s t ∷ [])
   unnotes : (s : ℕ) (t : Task) → Rule (noted s t ∷ []) []
   packs : (s r : ℕ) (p q : Bool) (t t2 : ThreadState) → t2.number ≡ t.number → Rule (stands s p t ∷ []) (stands r q t2 ∷ [])
@@ -113,6 +111,11 @@ pub record Kept (K : List Thing → Type 0) : Type 0 where
   pub same : (a b : List Thing) → Same a b → K a → K b
   pub trades : {a olds news b : List Thing} → Trade a olds news b → Rule olds news → K a → K b
   pub placed : (b : List Thing) → K b → Placed b
+
+-- what is kept where a task value goes: its join is done, or its `release` comes
+pub record Spends (K : List Thing → Type 0) : Type 0 where
+  pub joined : {a b : List Thing} (p : Spot) (t : ℕ) → Trade a (holds p (owned.Task t) ∷ []) [] b → K a → K b
+  pub let_go : {a b : List Thing} (r t : ℕ) → Trade a (sent r (message.Release (released.Task t)) ∷ []) [] b → K a → K b
 
 -- RULES TOGETHER
 

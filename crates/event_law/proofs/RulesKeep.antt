@@ -1,5 +1,5 @@
 -- Each rule keeps the sums.
-use Rattle.std.proofs.Common.{◌≡◌, ℕ, ◌+◌, ◌≤◌, ◌==◌, ◌&&◌, Bool, true, false, List, ◌++◌, refl, sym, ap, ◌∙◌, arith}
+use Rattle.std.proofs.Common.{◌≡◌, ℕ, ◌+◌, ◌≤◌, ◌==◌, ◌&&◌, Bool, true, false, List, [], ◌∷◌, ◌++◌, refl, sym, ap, ◌∙◌, arith}
 use Rattle.std.specs.Prelude.{nat_lt}
 use Rattle.std.proofs.lemmas.Bool.Decides.{nat_tests}
 use Rattle.fr_base.specs.declared.name.ObjNo.{ObjNo}
@@ -20,7 +20,7 @@ use Rattle.heap_law.specs.Things.{Thing, Location, Spot, in_hand, holds, shares,
 use Rattle.heap_law.specs.Weights.{cells, owners, states, below, uses_of, users_of, shares_of, shares_at_home, tasks_of, is_thread}
 use Rattle.event_law.specs.Sums.{Sums, is_server}
 use Rattle.event_law.proofs.Trades.{Trade, Same, tot-append}
-use Rattle.event_law.proofs.Rules.{Rule, none, both, next, turned, comes, goes, carries, hands_on, recolours, exchanges, drops, unmarks, lifts, lifts_last, lands, grows, buries, fills, evicts, begins_use, ends_use, sends, receives, changes, turns_mutex, queues, dequeues, counts_on, marks, spends, makes_mutex, dups, takes_share, less_share, closes, lets_task, notes, unnotes, packs, is_loose, is_plain, dropped, Kept}
+use Rattle.event_law.proofs.Rules.{Rule, none, both, next, turned, comes, goes, carries, hands_on, recolours, exchanges, drops, unmarks, lifts, lifts_last, lands, grows, buries, fills, evicts, begins_use, ends_use, sends, receives, changes, turns_mutex, queues, dequeues, counts_on, marks, makes_mutex, dups, takes_share, less_share, closes, notes, unnotes, packs, is_loose, is_plain, dropped, Kept, Spends}
 
 -- a weight that doesn't see where a value stands
 pub record Blind (f : Thing → ℕ) : Type 0 where
@@ -51,6 +51,9 @@ same_fair f g a b p q = omega (arith, p, q)
 
 beside_falls : (f : Thing → ℕ) (a b c d : List Thing) → tot f b ≤ tot f a → tot f d ≤ tot f c → tot f (b ++ d) ≤ tot f (a ++ c)
 beside_falls f a b c d p q = omega (arith, p, q, tot-append f b d, tot-append f a c)
+
+beside_same : (f : Thing → ℕ) (a b c d : List Thing) → tot f b ≡ tot f a → tot f d ≡ tot f c → tot f (b ++ d) ≡ tot f (a ++ c)
+beside_same f a b c d p q = omega (arith, p, q, tot-append f b d, tot-append f a c)
 
 -- a weight that sees messages that own something alone
 abbrev SeesNoPlain : (Thing → ℕ) → Type 0
@@ -263,13 +266,11 @@ owner_fair o _ _ (queues j s x) = omega arith
 owner_fair o _ _ (dequeues j s x) = omega arith
 owner_fair o _ _ (counts_on s x y z u v y2 z2 u2 v2) = omega arith
 owner_fair o _ _ (marks l j) = omega arith
-owner_fair o _ _ (spends p x) = omega arith
 owner_fair o _ _ (makes_mutex s p x e) = omega arith
 owner_fair o _ _ (dups s r i x y e h) = omega arith
 owner_fair o _ _ (takes_share r i j p) = omega arith
 owner_fair o _ _ (less_share s r x y e h) = omega arith
 owner_fair o _ _ (closes s x e) = omega arith
-owner_fair o _ _ (lets_task r i) = omega arith
 owner_fair o _ _ (notes s x) = omega arith
 owner_fair o _ _ (unnotes s x) = omega arith
 owner_fair o _ _ (packs s r p q x y e) = omega arith
@@ -304,13 +305,11 @@ state_fair at _ _ (queues j s x) = omega arith
 state_fair at _ _ (dequeues j s x) = omega arith
 state_fair at _ _ (counts_on s x y z u v y2 z2 u2 v2) = omega arith
 state_fair at _ _ (marks l j) = omega arith
-state_fair at _ _ (spends p x) = omega arith
 state_fair at _ _ (makes_mutex s p x e) = omega arith
 state_fair at _ _ (dups s r i x y e h) = omega arith
 state_fair at _ _ (takes_share r i j p) = omega arith
 state_fair at _ _ (less_share s r x y e h) = omega arith
 state_fair at _ _ (closes s x e) = omega arith
-state_fair at _ _ (lets_task r i) = omega arith
 state_fair at _ _ (notes s x) = omega arith
 state_fair at _ _ (unnotes s x) = omega arith
 state_fair at _ _ (packs s r p q x y e) = omega arith
@@ -345,13 +344,11 @@ user_fair at _ _ (queues j s x) = omega arith
 user_fair at _ _ (dequeues j s x) = omega arith
 user_fair at _ _ (counts_on s x y z u v y2 z2 u2 v2) = omega arith
 user_fair at _ _ (marks l j) = omega arith
-user_fair at _ _ (spends p x) = omega arith
 user_fair at _ _ (makes_mutex s p x e) = omega arith
 user_fair at _ _ (dups s r i x y e h) = omega arith
 user_fair at _ _ (takes_share r i j p) = omega arith
 user_fair at _ _ (less_share s r x y e h) = omega arith
 user_fair at _ _ (closes s x e) = omega arith
-user_fair at _ _ (lets_task r i) = omega arith
 user_fair at _ _ (notes s x) = omega arith
 user_fair at _ _ (unnotes s x) = omega arith
 user_fair at _ _ (packs s r p q x y e) = omega arith
@@ -386,13 +383,11 @@ share_fair m _ _ (queues j s x) = omega arith
 share_fair m _ _ (dequeues j s x) = omega arith
 share_fair m _ _ (counts_on s x y z u v y2 z2 u2 v2) = omega arith
 share_fair m _ _ (marks l j) = omega arith
-share_fair m _ _ (spends p x) = omega arith
 share_fair m _ _ (makes_mutex s p x e) = omega (arith, counted_share (same_mutex x.number m) x.shares e)
 share_fair m _ _ (dups s r i x y e h) = omega (arith, other_shares x y m e, counted_use (same_mutex x.number m) (same_mutex x.number m) x.shares y.shares refl h)
 share_fair m _ _ (takes_share r i j p) = omega arith
 share_fair m _ _ (less_share s r x y e h) = omega (arith, other_shares x y m e, counted_use (same_mutex x.number m) (same_mutex x.number m) y.shares x.shares refl h)
 share_fair m _ _ (closes s x e) = omega (arith, no_users (same_mutex x.number m) x.shares e)
-share_fair m _ _ (lets_task r i) = omega arith
 share_fair m _ _ (notes s x) = omega arith
 share_fair m _ _ (unnotes s x) = omega arith
 share_fair m _ _ (packs s r p q x y e) = omega arith
@@ -427,57 +422,54 @@ cell_falls o _ _ (queues j s x) = omega arith
 cell_falls o _ _ (dequeues j s x) = omega arith
 cell_falls o _ _ (counts_on s x y z u v y2 z2 u2 v2) = omega arith
 cell_falls o _ _ (marks l j) = omega arith
-cell_falls o _ _ (spends p x) = omega arith
 cell_falls o _ _ (makes_mutex s p x e) = omega arith
 cell_falls o _ _ (dups s r i x y e h) = omega arith
 cell_falls o _ _ (takes_share r i j p) = omega arith
 cell_falls o _ _ (less_share s r x y e h) = omega arith
 cell_falls o _ _ (closes s x e) = omega arith
-cell_falls o _ _ (lets_task r i) = omega arith
 cell_falls o _ _ (notes s x) = omega arith
 cell_falls o _ _ (unnotes s x) = omega arith
 cell_falls o _ _ (packs s r p q x y e) = omega arith
 
-pub task_falls : (t : ℕ) (olds news : List Thing) → Rule olds news → tot (tasks_of t) news ≤ tot (tasks_of t) olds
-task_falls t _ _ (both x y z u r q) = beside_falls (tasks_of t) x y z u (task_falls t x y r) (task_falls t z u q)
-task_falls t _ _ (next x y z r q) = omega (arith, task_falls t x y r, task_falls t y z q)
-task_falls t _ _ (turned x y e) = omega (arith, e (tasks_of t))
-task_falls t _ _ none = omega arith
-task_falls t _ _ (comes x e) = omega (arith, task_loose t x e)
-task_falls t _ _ (goes x e) = omega (arith, task_loose t x e)
-task_falls t _ _ (carries s p q l j v) = omega (arith, carried (tasks_of t) (task_blind t) s p q l j v)
-task_falls t _ _ (hands_on p q v) = omega arith
-task_falls t _ _ (recolours p b w) = omega arith
-task_falls t _ _ (exchanges s a c p v) = omega arith
-task_falls t _ _ (drops p v) = omega (arith, task_dropped t v)
-task_falls t _ _ (unmarks l j) = omega arith
-task_falls t _ _ (lifts s a x w c) = omega arith
-task_falls t _ _ (lifts_last s a w c) = omega arith
-task_falls t _ _ (lands s a x w c) = omega arith
-task_falls t _ _ (grows s x y z u v w c) = omega arith
-task_falls t _ _ (buries t2 w u c p) = omega arith
-task_falls t _ _ (fills s w c) = omega arith
-task_falls t _ _ (evicts s c e) = omega arith
-task_falls t _ _ (begins_use s w c x e h) = omega arith
-task_falls t _ _ (ends_use s w c x e h) = omega arith
-task_falls t _ _ (sends s x e) = omega (arith, task_plain t s x e)
-task_falls t _ _ (receives s x e) = omega (arith, task_plain t s x e)
-task_falls t _ _ (changes s p x y e) = omega arith
-task_falls t _ _ (turns_mutex s x y e h) = omega arith
-task_falls t _ _ (queues j s x) = omega arith
-task_falls t _ _ (dequeues j s x) = omega arith
-task_falls t _ _ (counts_on s x y z u v y2 z2 u2 v2) = omega arith
-task_falls t _ _ (marks l j) = omega arith
-task_falls t _ _ (spends p x) = omega arith
-task_falls t _ _ (makes_mutex s p x e) = omega arith
-task_falls t _ _ (dups s r i x y e h) = omega arith
-task_falls t _ _ (takes_share r i j p) = omega arith
-task_falls t _ _ (less_share s r x y e h) = omega arith
-task_falls t _ _ (closes s x e) = omega arith
-task_falls t _ _ (lets_task r i) = omega arith
-task_falls t _ _ (notes s x) = omega arith
-task_falls t _ _ (unnotes s x) = omega arith
-task_falls t _ _ (packs s r p q x y e) = omega arith
+-- no task value goes or comes
+pub task_same : (t : ℕ) (olds news : List Thing) → Rule olds news → tot (tasks_of t) news ≡ tot (tasks_of t) olds
+task_same t _ _ (both x y z u r q) = beside_same (tasks_of t) x y z u (task_same t x y r) (task_same t z u q)
+task_same t _ _ (next x y z r q) = omega (arith, task_same t x y r, task_same t y z q)
+task_same t _ _ (turned x y e) = omega (arith, e (tasks_of t))
+task_same t _ _ none = omega arith
+task_same t _ _ (comes x e) = omega (arith, task_loose t x e)
+task_same t _ _ (goes x e) = omega (arith, task_loose t x e)
+task_same t _ _ (carries s p q l j v) = omega (arith, carried (tasks_of t) (task_blind t) s p q l j v)
+task_same t _ _ (hands_on p q v) = omega arith
+task_same t _ _ (recolours p b w) = omega arith
+task_same t _ _ (exchanges s a c p v) = omega arith
+task_same t _ _ (drops p v) = omega (arith, task_dropped t v)
+task_same t _ _ (unmarks l j) = omega arith
+task_same t _ _ (lifts s a x w c) = omega arith
+task_same t _ _ (lifts_last s a w c) = omega arith
+task_same t _ _ (lands s a x w c) = omega arith
+task_same t _ _ (grows s x y z u v w c) = omega arith
+task_same t _ _ (buries t2 w u c p) = omega arith
+task_same t _ _ (fills s w c) = omega arith
+task_same t _ _ (evicts s c e) = omega arith
+task_same t _ _ (begins_use s w c x e h) = omega arith
+task_same t _ _ (ends_use s w c x e h) = omega arith
+task_same t _ _ (sends s x e) = omega (arith, task_plain t s x e)
+task_same t _ _ (receives s x e) = omega (arith, task_plain t s x e)
+task_same t _ _ (changes s p x y e) = omega arith
+task_same t _ _ (turns_mutex s x y e h) = omega arith
+task_same t _ _ (queues j s x) = omega arith
+task_same t _ _ (dequeues j s x) = omega arith
+task_same t _ _ (counts_on s x y z u v y2 z2 u2 v2) = omega arith
+task_same t _ _ (marks l j) = omega arith
+task_same t _ _ (makes_mutex s p x e) = omega arith
+task_same t _ _ (dups s r i x y e h) = omega arith
+task_same t _ _ (takes_share r i j p) = omega arith
+task_same t _ _ (less_share s r x y e h) = omega arith
+task_same t _ _ (closes s x e) = omega arith
+task_same t _ _ (notes s x) = omega arith
+task_same t _ _ (unnotes s x) = omega arith
+task_same t _ _ (packs s r p q x y e) = omega arith
 
 pub thread_falls : (t : ℕ) (olds news : List Thing) → Rule olds news → tot (is_thread t) news ≤ tot (is_thread t) olds
 thread_falls t _ _ (both x y z u r q) = beside_falls (is_thread t) x y z u (thread_falls t x y r) (thread_falls t z u q)
@@ -509,13 +501,11 @@ thread_falls t _ _ (queues j s x) = omega arith
 thread_falls t _ _ (dequeues j s x) = omega arith
 thread_falls t _ _ (counts_on s x y z u v y2 z2 u2 v2) = omega arith
 thread_falls t _ _ (marks l j) = omega arith
-thread_falls t _ _ (spends p x) = omega arith
 thread_falls t _ _ (makes_mutex s p x e) = omega arith
 thread_falls t _ _ (dups s r i x y e h) = omega arith
 thread_falls t _ _ (takes_share r i j p) = omega arith
 thread_falls t _ _ (less_share s r x y e h) = omega arith
 thread_falls t _ _ (closes s x e) = omega arith
-thread_falls t _ _ (lets_task r i) = omega arith
 thread_falls t _ _ (notes s x) = omega arith
 thread_falls t _ _ (unnotes s x) = omega arith
 thread_falls t _ _ (packs s r p q x y e) = (let j : one (y.number == t) ≡ one (x.number == t) = ap (λ n. one (n == t)) e in omega (arith, j))
@@ -550,13 +540,11 @@ server_falls n _ _ (queues j s x) = omega arith
 server_falls n _ _ (dequeues j s x) = omega arith
 server_falls n _ _ (counts_on s x y z u v y2 z2 u2 v2) = omega arith
 server_falls n _ _ (marks l j) = omega arith
-server_falls n _ _ (spends p x) = omega arith
 server_falls n _ _ (makes_mutex s p x e) = omega arith
 server_falls n _ _ (dups s r i x y e h) = omega arith
 server_falls n _ _ (takes_share r i j p) = omega arith
 server_falls n _ _ (less_share s r x y e h) = omega arith
 server_falls n _ _ (closes s x e) = omega arith
-server_falls n _ _ (lets_task r i) = omega arith
 server_falls n _ _ (notes s x) = omega arith
 server_falls n _ _ (unnotes s x) = omega arith
 server_falls n _ _ (packs s r p q x y e) = omega arith
@@ -582,10 +570,44 @@ sums_trade {olds = olds} {news = news} t r k = record {
   one_state = λ at. omega (arith, t.before (states at), t.before (below at), t.after (states at), t.after (below at), state_fair at olds news r, k.one_state at);
   users_counted = λ at. omega (arith, t.before (uses_of at), t.before (users_of at), t.after (uses_of at), t.after (users_of at), user_fair at olds news r, k.users_counted at);
   shares_counted = λ m. omega (arith, t.before (shares_of m), t.before (shares_at_home m), t.after (shares_of m), t.after (shares_at_home m), share_fair m olds news r, k.shares_counted m);
-  one_task_value = λ i. omega (arith, t.before (tasks_of i), t.after (tasks_of i), task_falls i olds news r, k.one_task_value i);
+  one_task_value = λ i. omega (arith, t.before (tasks_of i), t.after (tasks_of i), task_same i olds news r, k.one_task_value i);
   numbers_differ = λ i. omega (arith, t.before (is_thread i), t.after (is_thread i), thread_falls i olds news r, k.numbers_differ i);
   servers_differ = λ n. omega (arith, t.before (is_server n), t.after (is_server n), server_falls n olds news r, k.servers_differ n);
 }
 
 pub sums_kept : Kept Sums
 sums_kept = record { same = sums_same; trades = sums_trade; placed = λ b k. record { one_state = k.one_state; servers_differ = k.servers_differ } }
+
+-- one task value less, and nothing else
+sums_spent : {a b : List Thing} (x : Thing) → ((o : ObjNo) → owners o x ≡ 0) → ((m : MutexNo) → shares_of m x ≡ 0) → ((o : ObjNo) → cells o x ≡ 0) → ((at : ℕ × ℕ) → states at x ≡ 0) → ((at : ℕ × ℕ) → below at x ≡ 0) → ((at : ℕ × ℕ) → uses_of at x ≡ 0) → ((at : ℕ × ℕ) → users_of at x ≡ 0)
+    → ((m : MutexNo) → shares_at_home m x ≡ 0) → Trade a (x ∷ []) [] b → Sums a → Sums b
+sums_spent x owner share cell state low used user home t k = record {
+  home_of_each = λ o. omega (arith, t.before (cells o), t.after (cells o), k.home_of_each o);
+  owner_of_each = λ o. omega (arith, t.before (owners o), t.before (cells o), t.after (owners o), t.after (cells o), owner o, cell o, k.owner_of_each o);
+  one_state = λ at. omega (arith, t.before (states at), t.before (below at), t.after (states at), t.after (below at), state at, low at, k.one_state at);
+  users_counted = λ at. omega (arith, t.before (uses_of at), t.before (users_of at), t.after (uses_of at), t.after (users_of at), used at, user at, k.users_counted at);
+  shares_counted = λ m. omega (arith, t.before (shares_of m), t.before (shares_at_home m), t.after (shares_of m), t.after (shares_at_home m), share m, home m, k.shares_counted m);
+  one_task_value = λ i. omega (arith, t.before (tasks_of i), t.after (tasks_of i), k.one_task_value i);
+  numbers_differ = λ i. omega (arith, t.before (is_thread i), t.after (is_thread i), k.numbers_differ i);
+  servers_differ = λ n. omega (arith, t.before (is_server n), t.after (is_server n), k.servers_differ n);
+}
+
+pub sums_spend : Spends Sums
+sums_spend = record {
+  joined = λ p i t k. sums_spent (holds p (owned.Task i)) (λ o. refl) (λ m. refl) (λ o. refl) (λ at. refl) (λ at. refl) (λ at. refl) (λ at. refl) (λ m. refl) t k;
+  let_go = λ r i t k. sums_spent (sent r (message.Release (released.Task i))) (λ o. refl) (λ m. refl) (λ o. refl) (λ at. refl) (λ at. refl) (λ at. refl) (λ at. refl) (λ m. refl) t k;
+}
+
+-- THE NUMBER OF TASK VALUES
+
+-- the sums, and of each thread so many task values
+pub record Counted (c : ℕ → ℕ) (b : List Thing) : Type 0 where
+  pub sums : Sums b
+  pub tasks : (t : ℕ) → tot (tasks_of t) b ≡ c t
+
+pub counted_kept : (c : ℕ → ℕ) → Kept (Counted c)
+counted_kept c = record {
+  same = λ a b e k. record { sums = sums_same a b e k.sums; tasks = λ i. omega (arith, e (tasks_of i), k.tasks i) };
+  trades = λ t r k. record { sums = sums_trade t r k.sums; tasks = λ i. omega (arith, t.before (tasks_of i), t.after (tasks_of i), task_same i _ _ r, k.tasks i) };
+  placed = λ b k. record { one_state = k.sums.one_state; servers_differ = k.sums.servers_differ };
+}

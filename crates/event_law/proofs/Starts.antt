@@ -31,7 +31,7 @@ use Rattle.event_law.proofs.Chains.{rest_trades, work_sends, thread_changes, bes
 use Rattle.event_law.proofs.Uses.{turns}
 use Rattle.event_law.proofs.Values.{held, slot_changes, beside_trades, pushes_temp}
 use Rattle.event_law.proofs.Commits.{CommittedOk, done_keeps, second_rule}
-use Rattle.event_law.proofs.NewThreads.{NewNames, names_kept, thread_appears, task_appears}
+use Rattle.event_law.proofs.NewThreads.{NewNames, names_kept, one_more, thread_appears, task_appears}
 
 -- WHAT MAY STAND ANYWHERE, AT ANY SERVER
 
@@ -157,33 +157,33 @@ start_rule n t r u pc vs a =
     in_turn (beside (sends r (message.Start x) refl) (beside (turned (stands r true x ∷ []) (stands r true x ∷ []) (λ f. refl)) (all_moved n t r u vs a 0 0)))
     (turned (sent r (message.Start x) ∷ stands r true x ∷ slots) (message_things r (message.Start x)) (λ f. omega (arith, tot-append f slots [])))
 
-module _ (n i j e t : ℕ) where
+module _ (w : ℕ → ℕ) (n i j e t : ℕ) where
   abbrev K : List Thing → Type 0
-  K = NewNames n i j
+  K = NewNames w n i j
 
   -- a thread starts
-  starts : (others : List Thing) (servers pc : ℕ) (vs : List Value) (w : Work) → AllMove vs → w.rest.started ≡ i → i + 1 < 2 ^ 32 → WorkOk K n e (carried n t vs ++ others) w → WorkOk (NewNames n (i + 1) j) n e others (start_thread servers pc vs w)
-  starts others servers pc vs w a q l g =
-      let u = next_thread w.rest in
-      let r = server_for servers w.rest in
+  starts : (others : List Thing) (servers pc : ℕ) (vs : List Value) (z : Work) → AllMove vs → z.rest.started ≡ i → i + 1 < 2 ^ 32 → WorkOk K n e (carried n t vs ++ others) z → WorkOk (NewNames w n (i + 1) j) n e others (start_thread servers pc vs z)
+  starts others servers pc vs z a q l g =
+      let u = next_thread z.rest in
+      let r = server_for servers z.rest in
       let x = new_thread u pc vs in
       let b = carried n t vs ++ others in
-      let w1 : Work = label_all (label.Start u ∷ []) (note (act.Start u r) (record w { rest = record w.rest { started = w.rest.started + 1 } })) in
-      let alone : Trade (rest_things n e w.rest) (counts_of n e w.rest ∷ []) (counts_of n e w1.rest ∷ []) (rest_things n e w1.rest) = record { rest = body_things n w.rest; before = λ f. omega arith; after = λ f. omega arith } in
-      let counted : WorkOk K n e b w1 = rest_trades (names_kept n i j) n e b w w1 refl alone (counts_on n _ _ _ _ e _ _ _ e) g in
-      let number : w.rest.number ≡ n = g.number in
+      let w1 : Work = label_all (label.Start u ∷ []) (note (act.Start u r) (record z { rest = record z.rest { started = z.rest.started + 1 } })) in
+      let alone : Trade (rest_things n e z.rest) (counts_of n e z.rest ∷ []) (counts_of n e w1.rest ∷ []) (rest_things n e w1.rest) = record { rest = body_things n z.rest; before = λ f. omega arith; after = λ f. omega arith } in
+      let counted : WorkOk K n e b w1 = rest_trades (names_kept w n i j) n e b z w1 refl alone (counts_on n _ _ _ _ e _ _ _ e) g in
+      let number : z.rest.number ≡ n = g.number in
       let named : x.number ≡ n * 2 ^ 32 + (i + 1) = omega (arith, number, q) in
       let comes_here : Trade (rest_things n e w1.rest ++ b) [] (stands r true x ∷ []) (rest_things n e w1.rest ++ (stands r true x ∷ b)) = trade_left (rest_things n e w1.rest) (record { rest = b; before = λ f. omega arith; after = λ f. omega arith }) in
-      let stood : WorkOk (NewNames n (i + 1) j) n e (stands r true x ∷ b) w1 = record { number = counted.number; bag = thread_appears n i j _ _ r true x named l comes_here counted.bag } in
-      work_sends (names_kept n (i + 1) j) n e (stands r true x ∷ b) w1 r (message.Start x)
+      let stood : WorkOk (NewNames w n (i + 1) j) n e (stands r true x ∷ b) w1 = record { number = counted.number; bag = thread_appears w n i j _ _ r true x named l comes_here counted.bag } in
+      work_sends (names_kept w n (i + 1) j) n e (stands r true x ∷ b) w1 r (message.Start x)
       (record { rest = others; before = λ f. omega (arith, tot-append f (carried n t vs) others); after = λ f. omega arith }) (start_rule n t r u pc vs a) stood
 
   -- its task comes to the hand
-  task_comes : (others : List Thing) (u : ℕ) (h : Hand) → u ≡ n * 2 ^ 32 + (j + 1) → j + 1 < 2 ^ 32 → HandOk K n e t others h → HandOk (NewNames n i (j + 1)) n e t (holds in_hand (owned.Task u) ∷ others) h
+  task_comes : (others : List Thing) (u : ℕ) (h : Hand) → u ≡ n * 2 ^ 32 + (j + 1) → j + 1 < 2 ^ 32 → HandOk K n e t others h → HandOk (NewNames (one_more w u) n i (j + 1)) n e t (holds in_hand (owned.Task u) ∷ others) h
   task_comes others u h q l g = record {
     number = g.number;
     thread = g.thread;
-    bag = task_appears n i j _ _ in_hand u q l (trade_left (thread_things n false h.thread) (trade_left (rest_things n e h.work.rest) (record { rest = others; before = λ f. omega arith; after = λ f. omega arith }))) g.bag;
+    bag = task_appears w n i j _ _ in_hand u q l (trade_left (thread_things n false h.thread) (trade_left (rest_things n e h.work.rest) (record { rest = others; before = λ f. omega arith; after = λ f. omega arith }))) g.bag;
   }
 
 start_counts : (servers pc i : ℕ) (vs : List Value) (w : Work) → w.rest.started ≡ i → (start_thread servers pc vs w).rest.started ≡ i + 1
@@ -194,7 +194,7 @@ start_counts servers pc i vs w q =
 
 -- THE STEPS
 
-module _ (n i e t : ℕ) (others : List Thing) where
+module _ (w : ℕ → ℕ) (n i e t : ℕ) (others : List Thing) where
   -- a hand with captured values, as work with the thread beside
   beside_carried : {K : List Thing → Type 0} (k : Kept K) (vs : List Value) (more : List Thing) (h : Hand) → HandOk K n e t (carried n t vs ++ more) h → WorkOk K n e (carried n t vs ++ (thread_things n false h.thread ++ more)) h.work
   beside_carried k vs more h g =
@@ -203,42 +203,42 @@ module _ (n i e t : ℕ) (others : List Thing) where
       turns k n e t (a ++ (c ++ more)) (c ++ (a ++ more)) h.work (λ f. omega (arith, tot-append f a (c ++ more), tot-append f c more, tot-append f c (a ++ more), tot-append f a more)) (beside_hand k n e t (c ++ more) h g)
 
   abbrev Begun : List Value → List Value → Hand → Type 0
-  Begun vs slots h = HandOk (NewNames n i i) n e t (carried n t vs ++ others) (with_slots slots h) × (h.work.rest.started ≡ i)
+  Begun vs slots h = HandOk (NewNames w n i i) n e t (carried n t vs ++ others) (with_slots slots h) × (h.work.rest.started ≡ i)
 
-  begins : (vs slots : List Value) (h : Hand) → h.work.rest.started ≡ i → HandOk (NewNames n i i) n e t (carried n t vs ++ others) (with_slots slots h) → Gives (Begun vs slots) (begun h)
+  begins : (vs slots : List Value) (h : Hand) → h.work.rest.started ≡ i → HandOk (NewNames w n i i) n e t (carried n t vs ++ others) (with_slots slots h) → Gives (Begun vs slots) (begun h)
   begins vs slots h q g =
       let u = next_thread h.work.rest in
-      test_gives (Begun vs slots) (can_begin h.work.rest.tasks u) _ (λ on. (notes_thread (names_kept n i i) n e t (carried n t vs ++ others) u going (with_slots slots h) (notes n (record { thread = u; state = going })) g, q))
+      test_gives (Begun vs slots) (can_begin h.work.rest.tasks u) _ (λ on. (notes_thread (names_kept w n i i) n e t (carried n t vs ++ others) u going (with_slots slots h) (notes n (record { thread = u; state = going })) g, q))
 
-  spawns_with : (servers pc u : ℕ) (h : Hand) (new : List Value × List Value) → AllMove new.0 → u ≡ n * 2 ^ 32 + (i + 1) → h.work.rest.started ≡ i → i + 1 < 2 ^ 32 → HandOk (NewNames n i i) n e t (carried n t new.0 ++ others) (with_slots new.1 h)
-      → Gives (HandOk (NewNames n (i + 1) (i + 1)) n e t others) (spawn_with servers pc u h new)
+  spawns_with : (servers pc u : ℕ) (h : Hand) (new : List Value × List Value) → AllMove new.0 → u ≡ n * 2 ^ 32 + (i + 1) → h.work.rest.started ≡ i → i + 1 < 2 ^ 32 → HandOk (NewNames w n i i) n e t (carried n t new.0 ++ others) (with_slots new.1 h)
+      → Gives (HandOk (NewNames (one_more w u) n (i + 1) (i + 1)) n e t others) (spawn_with servers pc u h new)
   spawns_with servers pc u h new a named q l g =
-      over_gives (Begun new.0 new.1) (HandOk (NewNames n (i + 1) (i + 1)) n e t others) (begun h) _ (begins new.0 new.1 h q g) (λ h2 b.
+      over_gives (Begun new.0 new.1) (HandOk (NewNames (one_more w u) n (i + 1) (i + 1)) n e t others) (begun h) _ (begins new.0 new.1 h q g) (λ h2 b.
       let h3 = with_slots new.1 h2 in
-      let started : WorkOk (NewNames n (i + 1) i) n e (thread_things n false h3.thread ++ others) (start_thread servers pc new.0 h2.work) =
-      starts n i i e t (thread_things n false h3.thread ++ others) servers pc new.0 h2.work a b.1 l (beside_carried (names_kept n i i) new.0 others h3 b.0) in
-      let back : HandOk (NewNames n (i + 1) i) n e t others (working (start_thread servers pc new.0) h3) = to_hand (names_kept n (i + 1) i) n e t others (start_thread servers pc new.0 h2.work) h3.thread b.0.thread started in
-      pushes_temp (names_kept n (i + 1) (i + 1)) n e t others (value.Own (owned.Task u)) (working (start_thread servers pc new.0) h3) (task_comes n (i + 1) i e t others u (working (start_thread servers pc new.0) h3) named l back))
+      let started : WorkOk (NewNames w n (i + 1) i) n e (thread_things n false h3.thread ++ others) (start_thread servers pc new.0 h2.work) =
+      starts w n i i e t (thread_things n false h3.thread ++ others) servers pc new.0 h2.work a b.1 l (beside_carried (names_kept w n i i) new.0 others h3 b.0) in
+      let back : HandOk (NewNames w n (i + 1) i) n e t others (working (start_thread servers pc new.0) h3) = to_hand (names_kept w n (i + 1) i) n e t others (start_thread servers pc new.0 h2.work) h3.thread b.0.thread started in
+      pushes_temp (names_kept (one_more w u) n (i + 1) (i + 1)) n e t others (value.Own (owned.Task u)) (working (start_thread servers pc new.0) h3) (task_comes w n (i + 1) i e t others u (working (start_thread servers pc new.0) h3) named l back))
 
-  pub spawns : (servers : ℕ) (cs : WithRoom (ℕ × Bool)) (pc : ℕ) (h : Hand) → h.work.rest.started ≡ i → i + 1 < 2 ^ 32 → HandOk (NewNames n i i) n e t others h → CommittedOk (HandOk (NewNames n (i + 1) (i + 1)) n e t others) (spawn servers cs pc h)
+  pub spawns : (servers : ℕ) (cs : WithRoom (ℕ × Bool)) (pc : ℕ) (h : Hand) → h.work.rest.started ≡ i → i + 1 < 2 ^ 32 → HandOk (NewNames w n i i) n e t others h → CommittedOk (HandOk (NewNames (one_more w (next_thread h.work.rest)) n (i + 1) (i + 1)) n e t others) (spawn servers cs pc h)
   spawns servers cs pc h q l g =
-      let k2 = names_kept n (i + 1) (i + 1) in
-      let number : h.work.rest.number ≡ n = g.number in
       let u = next_thread h.work.rest in
+      let k2 = names_kept (one_more w u) n (i + 1) (i + 1) in
+      let number : h.work.rest.number ≡ n = g.number in
       let named : u ≡ n * 2 ^ 32 + (i + 1) = omega (arith, number, q) in
-      done_keeps k2 n e t others (fresh.Thread u) _ (over_gives (HandOk (NewNames n (i + 1) (i + 1)) n e t others) (HandOk (NewNames n (i + 1) (i + 1)) n e t others) (then_some (capture false cs.items h.thread.slots) (spawn_with servers pc u h)) go_on
-      (bind_gives (Captured (names_kept n i i) n e t others h) (HandOk (NewNames n (i + 1) (i + 1)) n e t others) (capture false cs.items h.thread.slots) (spawn_with servers pc u h)
-      (captures (names_kept n i i) n e t others false cs.items [] h.thread.slots h tt g) (λ new c. spawns_with servers pc u h new c.0 named q l c.1))
+      done_keeps k2 n e t others (fresh.Thread u) _ (over_gives (HandOk (NewNames (one_more w u) n (i + 1) (i + 1)) n e t others) (HandOk (NewNames (one_more w u) n (i + 1) (i + 1)) n e t others) (then_some (capture false cs.items h.thread.slots) (spawn_with servers pc u h)) go_on
+      (bind_gives (Captured (names_kept w n i i) n e t others h) (HandOk (NewNames (one_more w u) n (i + 1) (i + 1)) n e t others) (capture false cs.items h.thread.slots) (spawn_with servers pc u h)
+      (captures (names_kept w n i i) n e t others false cs.items [] h.thread.slots h tt g) (λ new c. spawns_with servers pc u h new c.0 named q l c.1))
       (λ h2 x. thread_changes k2 n e t others h2 (record h2.thread { pc = h2.thread.pc + 1; phase = phase.Ready }) refl (λ f. refl) x))
 
   -- PAIRS
 
   abbrev BothBegun : List Value → List Value → List Value → Hand → Type 0
-  BothBegun vs us slots h = HandOk (NewNames n i i) n e t (carried n t us ++ (carried n t vs ++ others)) (with_slots slots h) × (h.work.rest.started ≡ i)
+  BothBegun vs us slots h = HandOk (NewNames w n i i) n e t (carried n t us ++ (carried n t vs ++ others)) (with_slots slots h) × (h.work.rest.started ≡ i)
 
-  pair_begins : (vs us slots : List Value) (h : Hand) (a b : ℕ) → h.work.rest.started ≡ i → HandOk (NewNames n i i) n e t (carried n t us ++ (carried n t vs ++ others)) (with_slots slots h) → Gives (BothBegun vs us slots) (pair_begun h a b)
+  pair_begins : (vs us slots : List Value) (h : Hand) (a b : ℕ) → h.work.rest.started ≡ i → HandOk (NewNames w n i i) n e t (carried n t us ++ (carried n t vs ++ others)) (with_slots slots h) → Gives (BothBegun vs us slots) (pair_begun h a b)
   pair_begins vs us slots h a b q g =
-      let k = names_kept n i i in
+      let k = names_kept w n i i in
       let more = carried n t us ++ (carried n t vs ++ others) in
       let p = h.thread.number in
       let h1 = working (with_tasks (tasks.noted h.work.rest.tasks a (in_pair p false))) h in
@@ -246,30 +246,30 @@ module _ (n i e t : ℕ) (others : List Thing) where
       test_gives (BothBegun vs us slots) (can_begin_pair h.work.rest.tasks p a b) _ (λ on. (notes_thread k n e t more b (in_pair p false) (with_slots slots h1) (notes n (record { thread = b; state = in_pair p false })) first, q))
 
   both_start : (servers pc other a b : ℕ) (h : Hand) (first second : List Value × List Value) → AllMove first.0 → AllMove second.0 → h.work.rest.started ≡ i → i + 2 < 2 ^ 32
-      → HandOk (NewNames n i i) n e t (carried n t second.0 ++ (carried n t first.0 ++ others)) (with_slots second.1 h) → Gives (HandOk (NewNames n (i + 1 + 1) i) n e t others) (par_with servers pc other a b h first.0 second)
+      → HandOk (NewNames w n i i) n e t (carried n t second.0 ++ (carried n t first.0 ++ others)) (with_slots second.1 h) → Gives (HandOk (NewNames w n (i + 1 + 1) i) n e t others) (par_with servers pc other a b h first.0 second)
   both_start servers pc other a b h first second x y q l g =
-      let k2 = names_kept n (i + 1 + 1) i in
-      over_gives (BothBegun first.0 second.0 second.1) (HandOk (NewNames n (i + 1 + 1) i) n e t others) (pair_begun h a b) _ (pair_begins first.0 second.0 second.1 h a b q g) (λ h2 z.
+      let k2 = names_kept w n (i + 1 + 1) i in
+      over_gives (BothBegun first.0 second.0 second.1) (HandOk (NewNames w n (i + 1 + 1) i) n e t others) (pair_begun h a b) _ (pair_begins first.0 second.0 second.1 h a b q g) (λ h2 z.
       let h3 = with_slots second.1 h2 in
       let th = thread_things n false h3.thread in
       let c1 = carried n t first.0 in
       let c2 = carried n t second.0 in
-      let all = beside_carried (names_kept n i i) second.0 (c1 ++ others) h3 z.0 in
-      let turned_so = turns (names_kept n i i) n e t (c2 ++ (th ++ (c1 ++ others))) (c1 ++ (c2 ++ (th ++ others))) h2.work
+      let all = beside_carried (names_kept w n i i) second.0 (c1 ++ others) h3 z.0 in
+      let turned_so = turns (names_kept w n i i) n e t (c2 ++ (th ++ (c1 ++ others))) (c1 ++ (c2 ++ (th ++ others))) h2.work
       (λ f. omega (arith, tot-append f c2 (th ++ (c1 ++ others)), tot-append f th (c1 ++ others), tot-append f c1 others, tot-append f c1 (c2 ++ (th ++ others)), tot-append f c2 (th ++ others), tot-append f th others)) all in
       let w1 = start_thread servers pc first.0 h2.work in
-      let one_started : WorkOk (NewNames n (i + 1) i) n e (c2 ++ (th ++ others)) w1 = starts n i i e t (c2 ++ (th ++ others)) servers pc first.0 h2.work x z.1 (omega (arith, l)) turned_so in
-      let two_started : WorkOk (NewNames n (i + 1 + 1) i) n e (th ++ others) (start_thread servers other second.0 w1) = starts n (i + 1) i e t (th ++ others) servers other second.0 w1 y (start_counts servers pc i first.0 h2.work z.1) (omega (arith, l)) one_started in
+      let one_started : WorkOk (NewNames w n (i + 1) i) n e (c2 ++ (th ++ others)) w1 = starts w n i i e t (c2 ++ (th ++ others)) servers pc first.0 h2.work x z.1 (omega (arith, l)) turned_so in
+      let two_started : WorkOk (NewNames w n (i + 1 + 1) i) n e (th ++ others) (start_thread servers other second.0 w1) = starts w n (i + 1) i e t (th ++ others) servers other second.0 w1 y (start_counts servers pc i first.0 h2.work z.1) (omega (arith, l)) one_started in
       let h4 : Hand = record { work = start_thread servers other second.0 w1; thread = h3.thread } in
       thread_changes k2 n e t others h4 (record h4.thread { pc = h4.thread.pc + 1; phase = phase.WaitPar a b }) refl (λ f. refl) (to_hand k2 n e t others h4.work h3.thread z.0.thread two_started))
 
-  pub pars : (servers : ℕ) (cs : WithRoom (ℕ × Bool)) (pc : ℕ) (ds : WithRoom (ℕ × Bool)) (other : ℕ) (h : Hand) → h.work.rest.started ≡ i → i + 2 < 2 ^ 32 → HandOk (NewNames n i i) n e t others h
-      → CommittedOk (HandOk (NewNames n (i + 1 + 1) i) n e t others) (par servers cs pc ds other h)
+  pub pars : (servers : ℕ) (cs : WithRoom (ℕ × Bool)) (pc : ℕ) (ds : WithRoom (ℕ × Bool)) (other : ℕ) (h : Hand) → h.work.rest.started ≡ i → i + 2 < 2 ^ 32 → HandOk (NewNames w n i i) n e t others h
+      → CommittedOk (HandOk (NewNames w n (i + 1 + 1) i) n e t others) (par servers cs pc ds other h)
   pars servers cs pc ds other h q l g =
-      let k = names_kept n i i in
+      let k = names_kept w n i i in
       let u = next_thread h.work.rest in
-      let Ok : Hand → Type 0 = HandOk (NewNames n (i + 1 + 1) i) n e t others in
-      done_keeps (names_kept n (i + 1 + 1) i) n e t others (fresh.Threads u (u + 1)) _
+      let Ok : Hand → Type 0 = HandOk (NewNames w n (i + 1 + 1) i) n e t others in
+      done_keeps (names_kept w n (i + 1 + 1) i) n e t others (fresh.Threads u (u + 1)) _
       (bind_gives (Captured k n e t others h) Ok (capture true cs.items h.thread.slots) _ (captures k n e t others true cs.items [] h.thread.slots h tt g) (λ first c.
       bind_gives (Captured k n e t (carried n t first.0 ++ others) h) Ok (capture true ds.items first.1) (par_with servers pc other u (u + 1) h first.0) (captures k n e t (carried n t first.0 ++ others) true ds.items [] first.1 h tt c.1) (λ second d.
       both_start servers pc other u (u + 1) h first second c.0 d.0 q l d.1)))

@@ -13,8 +13,8 @@ use Rattle.server_model.specs.Events.{begin_work, begin_at, Stepped, done_step, 
 use Rattle.heap_law.specs.Things.{Thing, server_things}
 use Rattle.event_law.specs.Kinds.{instr_kind}
 use Rattle.event_law.specs.Laws.{Gives}
-use Rattle.event_law.proofs.Proved.{IsProvedKind}
-use Rattle.event_law.proofs.Rules.{Kept}
+use Rattle.event_law.proofs.Proved.{IsProvedKind, IsSpending}
+use Rattle.event_law.proofs.Rules.{Kept, Spends}
 use Rattle.event_law.proofs.Results.{over_gives, then_gives}
 use Rattle.event_law.proofs.Bags.{HandOk, all_standing}
 use Rattle.event_law.proofs.Chains.{takes, puts_back}
@@ -39,16 +39,16 @@ module _ {K : List Thing → Type 0} (k : Kept K) (n e t : ℕ) (others : List T
   committed_keeps (waits h) g = waits_keep h g
   committed_keeps refused g = tt
 
-  prepared_keeps : (servers : ℕ) (i : Instr) (p : Prepared) → IsProvedKind (instr_kind i) → PreparedOk Ok p → Gives SteppedOk (prepared servers i p)
-  prepared_keeps servers i (ready h s) l g = committed_keeps (commit servers i s h) (commits k n e t others servers i s h l g)
-  prepared_keeps servers i (requested h) l g = waits_keep h g
-  prepared_keeps servers i nothing l g = tt
+  prepared_keeps : (servers : ℕ) (i : Instr) (p : Prepared) → IsProvedKind (instr_kind i) → (IsSpending (instr_kind i) → Spends K) → PreparedOk Ok p → Gives SteppedOk (prepared servers i p)
+  prepared_keeps servers i (ready h s) l sp g = committed_keeps (commit servers i s h) (commits k n e t others servers i s h l sp g)
+  prepared_keeps servers i (requested h) l sp g = waits_keep h g
+  prepared_keeps servers i nothing l sp g = tt
 
-  pub step_keeps : (servers : ℕ) (i : Instr) (h : Hand) → IsProvedKind (instr_kind i) → Ok h → Gives SteppedOk (step servers i h)
-  step_keeps servers i h l g = prepared_keeps servers i (prepare (access_of i h.thread) h) l (prepares k n e t others (access_of i h.thread) h g)
+  pub step_keeps : (servers : ℕ) (i : Instr) (h : Hand) → IsProvedKind (instr_kind i) → (IsSpending (instr_kind i) → Spends K) → Ok h → Gives SteppedOk (step servers i h)
+  step_keeps servers i h l sp g = prepared_keeps servers i (prepare (access_of i h.thread) h) l sp (prepares k n e t others (access_of i h.thread) h g)
 
 module _ {K : List Thing → Type 0} (k : Kept K) where
-  pub steps_keep : (code : List Instr) (o : Options) (others : List Thing) (s : Server) (t : ℕ) → ((x : ThreadState) (i : Instr) → thread_in s.threads t ≡ Some x → slice_get code x.pc ≡ Some i → IsProvedKind (instr_kind i))
+  pub steps_keep : (code : List Instr) (o : Options) (others : List Thing) (s : Server) (t : ℕ) → ((x : ThreadState) (i : Instr) → thread_in s.threads t ≡ Some x → slice_get code x.pc ≡ Some i → IsProvedKind (instr_kind i) × (IsSpending (instr_kind i) → Spends K))
       → K (server_things s ++ others) → Gives (Left k others) (does code o s (Step t))
   steps_keep code o others s t proved g = by (thread_in s.threads t) refl
     where
@@ -59,5 +59,5 @@ module _ {K : List Thing → Type 0} (k : Kept K) where
           let e = s.events in
           let b = all_standing n (without_thread s.threads t) ++ others in
           over_gives (SteppedOk k n e t b) (Left k others) (step_in code o.servers (record { work = begin_work s.rest; thread = y })) (stepped s)
-          (then_gives (SteppedOk k n e t b) (slice_get code y.pc) (λ i. step o.servers i (record { work = begin_work s.rest; thread = y })) (λ i r. step_keeps k n e t b o.servers i (record { work = begin_work s.rest; thread = y }) (proved y i q r) (takes k n e others t (begin_at s) y q (begins_site k others s g))))
+          (then_gives (SteppedOk k n e t b) (slice_get code y.pc) (λ i. step o.servers i (record { work = begin_work s.rest; thread = y })) (λ i r. step_keeps k n e t b o.servers i (record { work = begin_work s.rest; thread = y }) (proved y i q r).0 (proved y i q r).1 (takes k n e others t (begin_at s) y q (begins_site k others s g))))
           (λ d u. ends_site k n e others (Some d.hand.thread.number) d.names (put_back s.threads d.hand) (puts_back k n e others t s.threads y q d.hand u))

@@ -12,8 +12,8 @@ use Rattle.server_model.specs.Joining.{arrive, answer, answer_join, deliver_join
 use Rattle.heap_law.specs.Names.{tot}
 use Rattle.heap_law.specs.Things.{Thing, in_hand, as_result, holds, stands, sent, noted, things_at, result_things, task_things, thread_things}
 use Rattle.event_law.specs.Laws.{Gives}
-use Rattle.event_law.proofs.Trades.{Trade, tot-append, tot-front, trade_none}
-use Rattle.event_law.proofs.Rules.{Rule, turned, hands_on, sends, lets_task, notes, unnotes, packs, beside, in_turn, Kept}
+use Rattle.event_law.proofs.Trades.{Trade, tot-append, tot-front, trade_none, trade_left}
+use Rattle.event_law.proofs.Rules.{Rule, turned, hands_on, sends, notes, unnotes, packs, beside, in_turn, Kept, Spends}
 use Rattle.event_law.proofs.Results.{over_gives}
 use Rattle.event_law.proofs.Bags.{WorkOk, SiteOk, all_standing, rest_things, of_tasks}
 use Rattle.event_law.proofs.Chains.{work_trades, work_sends}
@@ -124,9 +124,9 @@ module _ {K : List Thing → Type 0} (k : Kept K) (n e : ℕ) where
       task None q = tt
       task (Some x) q = state x q x.state refl
 
-  pub releases_task : (others : List Thing) (t : ℕ) (w : Work) → WorkOk K n e (sent n (message.Release (released.Task t)) ∷ others) w → Gives (WorkOk K n e others) (release_task t w)
-  releases_task others t w g =
-      let less : WorkOk K n e others w = work_trades k n e w w refl (trade_none (rest_things n e w.rest)) (one_goes (sent n (message.Release (released.Task t))) others) (lets_task n t) g in
+  pub releases_task : Spends K → (others : List Thing) (t : ℕ) (w : Work) → WorkOk K n e (sent n (message.Release (released.Task t)) ∷ others) w → Gives (WorkOk K n e others) (release_task t w)
+  releases_task sp others t w g =
+      let less : WorkOk K n e others w = record { number = g.number; bag = sp.let_go n t (trade_left (rest_things n e w.rest) (one_goes (sent n (message.Release (released.Task t))) others)) g.bag } in
       over_gives (λ a. WorkOk K n e (left_things k n e a.1 ++ others) (with_tasks a.0 w)) (WorkOk K n e others) (let_go_of w.rest.tasks t) _ (lets others t w less) (λ a u. gives_up_left k n e others a.1 (with_tasks a.0 w) u)
 
   -- THREADS THAT ARRIVE

@@ -1,5 +1,5 @@
 -- Laws of events: from a cluster that has the sums, an event of a kind leaves them.
-use Rattle.std.specs.Prelude.{◌≡◌, ◌≤◌, ◌<◌, ◌+◌, ◌^◌, ⊤, ℕ, true, List, length, take, drop, Option, Some, None, IsSome, slice_get}
+use Rattle.std.specs.Prelude.{◌≡◌, ◌≤◌, ◌<◌, ◌+◌, ◌^◌, ◌==◌, ⊤, ℕ, true, List, length, take, drop, Option, Some, None, IsSome, slice_get}
 use Rattle.std.specs.List.{AllByRecursion}
 use Rattle.fr_base.specs.declared.name.MutexNo.{MutexNo}
 use Rattle.fr_base.specs.declared.instruction.Instr.{Instr}
@@ -20,9 +20,10 @@ use Rattle.server_model.specs.declared.event.What.TheVariants.{Deliver, Evict}
 use Rattle.server_model.specs.declared.event.What.TheVariants as what
 use Rattle.server_model.specs.Servers.{Sent, Server, Cluster, server_at, start_of}
 use Rattle.server_model.specs.Work.{thread_in}
+use Rattle.server_model.specs.Start.{next_thread}
 use Rattle.server_model.specs.Events.{enabled}
 use Rattle.server_model.specs.Clusters.{with_server, with_outbox, hand_over_newer, done_at, act_at, apply}
-use Rattle.heap_law.specs.Names.{tot, some}
+use Rattle.heap_law.specs.Names.{tot, some, one}
 use Rattle.heap_law.specs.Things.{Thing, servers_things, things_of}
 use Rattle.heap_law.specs.Sight.{sight, issued}
 use Rattle.heap_law.specs.Naming.{events_of, started_at, made_at}
@@ -31,7 +32,7 @@ use Rattle.heap_law.specs.Sharing.{going_notes, goes_on, results, has_ended}
 use Rattle.heap_law.specs.Balances.{Agree, AtMost, AtMostOne}
 use Rattle.heap_law.specs.Weights.{states, below, shares_of, shares_at_home, tasks_of, is_thread}
 use Rattle.heap_law.specs.Coherent.{IsSound, Holds, objects_made, names_counted, branches_give_unit, parts_are_typed, noted_at_home}
-use Rattle.event_law.specs.Kinds.{Kind, kind_of}
+use Rattle.event_law.specs.Kinds.{Kind, released, step_spawn, step_join, kind_of}
 use Rattle.event_law.specs.Sums.{Sums, is_server}
 
 -- where there is a result, it is so
@@ -70,6 +71,31 @@ FewEvents k = events_of (sight k) + 1 < 2 ^ 31
 -- an event of whatever kind, done at its server from a sound cluster, leaves the part; its messages stay in its outbox
 abbrev pub EachEventLeaves : (Cluster → Type 0) → Type 0
 EachEventLeaves Part = (k : Cluster) (e : Event) → IsSound k → FewEvents k → Gives (λ d. Part d.0) (act_at k e)
+
+-- HOW MANY TASK VALUES THERE ARE
+
+-- the task values and `release` messages of a thread, in the places that own
+abbrev pub task_values_in : Cluster → ℕ → ℕ
+task_values_in k t = tot (tasks_of t) (things_of k)
+
+-- the kinds of events that make none and spend none
+abbrev pub LeavesTaskValues : Kind → Type 0
+LeavesTaskValues step_spawn = ⊥
+LeavesTaskValues step_join = ⊥
+LeavesTaskValues released = ⊥
+LeavesTaskValues kind = ⊤
+
+-- an event of such a kind, done at its server from a sound cluster, leaves as many of each thread as there were
+abbrev pub OthersLeaveTaskValues : Type 0
+OthersLeaveTaskValues =
+    (k : Cluster) (e : Event) (kind : Kind) → kind_of k e ≡ Some kind → LeavesTaskValues kind → IsSound k → FewEvents k
+    → Gives (λ d. (t : ℕ) → task_values_in d.0 t ≡ task_values_in k t) (act_at k e)
+
+-- a spawn makes one of its thread, and none of another
+abbrev pub SpawnsMakeOne : Type 0
+SpawnsMakeOne =
+    (k : Cluster) (e : Event) (s : Server) → kind_of k e ≡ Some step_spawn → server_at k.servers e.server ≡ Some s → IsSound k → FewEvents k
+    → Gives (λ d. (t : ℕ) → task_values_in d.0 t ≡ task_values_in k t + one (next_thread s.rest == t)) (act_at k e)
 
 -- THE PARTS
 

@@ -1,6 +1,6 @@
 //! What an event of a sound cluster keeps, of whatever kind it is.
 
-ghost use Rattle.event_law.specs.Laws.{EachEventHandedOver, EachEventLeaves, EachEventSends, NotedAtHome, NotedGoOn, NumbersDiffer, OneAnswer, OneResult, OneState, OneTaskValue, PairsNoted, ServersDiffer, SharesCounted};
+ghost use Rattle.event_law.specs.Laws.{EachEventHandedOver, EachEventLeaves, EachEventSends, NotedAtHome, NotedGoOn, NumbersDiffer, OneAnswer, OneResult, OneState, OneTaskValue, OthersLeaveTaskValues, PairsNoted, ServersDiffer, SharesCounted, SpawnsMakeOne};
 ghost use Rattle.heap_law.specs.Coherent.{OneHome, OneOwner, Users};
 
 /// Whatever is delivered, stepped, evicted or migrated.
@@ -40,4 +40,10 @@ pub fn each_event_handed_over()
     ensures going { EachEventHandedOver NotedGoOn }
     ensures homes { EachEventHandedOver NotedAtHome }
     ensures results { EachEventHandedOver OneResult }
+{}
+
+/// A spawn makes one task value of its thread. But for spawns, joins and the delivery of a `release`, an event leaves as many of each thread as there were.
+pub fn task_values_counted()
+    ensures others { OthersLeaveTaskValues }
+    ensures spawns { SpawnsMakeOne }
 {}
