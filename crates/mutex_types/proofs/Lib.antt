@@ -7,3 +7,4 @@ pub mod Locks
 pub mod Unlocks
 pub mod Regiven
 pub mod Makes
+pub mod Example

@@ -1,1 +1,2 @@
 pub mod MutexActs
+pub mod Example

@@ -1,6 +1,7 @@
 //! Laws of the typing of acts at mutexes.
 
 ghost use Rattle.plain_types.specs.Keeps.{Keeps};
+ghost use Rattle.mutex_types.specs.Example.{DupIsReady, LockIsReady, MakeIsReady, UnlockIsReady};
 ghost use Rattle.mutex_types.specs.MutexActs.{IsDup, IsLocking, IsMake, IsUnlocking, KeepsNamed, KeepsUnlessWaiting};
 
 /// In a typed state, with whatever threads, mutexes and pairs, an act of this form that a row grants can be done without a new
@@ -11,4 +12,13 @@ pub fn mutex_acts_keep_types()
     ensures dup { Keeps IsDup }
     ensures lock { KeepsUnlessWaiting IsLocking }
     ensures unlock { Keeps IsUnlocking }
+{}
+
+/// At main's start a mutex of 1 may be made; once it is bound, it may be dupped, or locked without waiting, and then unlocked. So there
+/// are typed states in which the acts of the law above are granted, each by the laws before it.
+pub fn mutex_acts_are_ready()
+    ensures make { MakeIsReady }
+    ensures dup { DupIsReady }
+    ensures lock { LockIsReady }
+    ensures unlock { UnlockIsReady }
 {}

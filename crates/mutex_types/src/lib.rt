@@ -4,4 +4,4 @@
 
 mod laws;
 
-pub use laws::mutex_acts_keep_types;
+pub use laws::{mutex_acts_are_ready, mutex_acts_keep_types};

@@ -8,3 +8,4 @@ pub mod Written
 pub mod Moves
 pub mod Sums
 pub mod Boxes
+pub mod Example

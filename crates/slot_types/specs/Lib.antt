@@ -1,1 +1,2 @@
 pub mod SlotActs
+pub mod Example

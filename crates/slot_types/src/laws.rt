@@ -1,6 +1,7 @@
 //! Laws of the typing of acts that change slots, or make an object.
 
 ghost use Rattle.plain_types.specs.Keeps.{Keeps};
+ghost use Rattle.slot_types.specs.Example.{BoxIsReady, LetIsReady, MoveIsReady};
 ghost use Rattle.slot_types.specs.SlotActs.{IsBox, IsLet, IsMove};
 
 /// In a typed state, with whatever threads, mutexes and pairs, an act of this form that a row grants can be done without a new
@@ -9,4 +10,12 @@ pub fn slot_acts_keep_types()
     ensures bind { Keeps IsLet }
     ensures take { Keeps IsMove }
     ensures wrap { Keeps IsBox }
+{}
+
+/// At main's start 1 may be boxed; then the box may be bound, and then moved. So there are typed states in which the acts of the law above are
+/// granted, each by the law before it.
+pub fn slot_acts_are_ready()
+    ensures wrap { BoxIsReady }
+    ensures bind { LetIsReady }
+    ensures take { MoveIsReady }
 {}

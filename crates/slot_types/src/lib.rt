@@ -4,4 +4,4 @@
 
 mod laws;
 
-pub use laws::slot_acts_keep_types;
+pub use laws::{slot_acts_are_ready, slot_acts_keep_types};
