@@ -62,8 +62,12 @@ module _ {K : List Thing → Type 0} (k : Kept K) (n e t : ℕ) (others : List T
       let front = Rattle.heap_law.specs.Things.thread_things n false h.thread in
       record { number = g.number; thread = g.thread; bag = sp.joined in_hand u (trade_left front (trade_left (rest_things n e h.work.rest) (one_goes (holds in_hand (owned.Task u)) more))) g.bag }
 
+  -- it waits for the result
+  pub join_waits : (o : Operand) (h : Hand) → Ok h → CommittedOk Ok (join o None h)
+  join_waits o h g = waiting_keeps _ (map_gives Ok (then_some (pop o h) (λ p. task_of p.item)) (ask_join h) (λ u z. asks_join u h g))
+
   pub joins : Spends K → (o : Operand) (gift : Option Owned) (h : Hand) → h.thread.gift ≡ gift → Ok h → CommittedOk Ok (join o gift h)
-  joins sp o None h q g = waiting_keeps _ (map_gives Ok (then_some (pop o h) (λ p. task_of p.item)) (ask_join h) (λ u z. asks_join u h g))
+  joins sp o None h q g = join_waits o h g
   joins sp o (Some v) h q g =
       let out = takes_gift k n e t others v h q g in
       goes_keep k n e t others _

@@ -39,6 +39,7 @@ pub mod Finished
 pub mod FinishSteps
 pub mod Each
 pub mod TaskCounts
+pub mod TaskSpends
 pub mod Applied
 pub mod Askers
 pub mod Sends

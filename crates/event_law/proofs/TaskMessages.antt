@@ -124,10 +124,14 @@ module _ {K : List Thing → Type 0} (k : Kept K) (n e : ℕ) where
       task None q = tt
       task (Some x) q = state x q x.state refl
 
+  -- its `release` has gone
+  pub task_goes : (others : List Thing) (t : ℕ) (w : Work) → WorkOk K n e others w → Gives (WorkOk K n e others) (release_task t w)
+  task_goes others t w g =
+      over_gives (λ a. WorkOk K n e (left_things k n e a.1 ++ others) (with_tasks a.0 w)) (WorkOk K n e others) (let_go_of w.rest.tasks t) _ (lets others t w g) (λ a u. gives_up_left k n e others a.1 (with_tasks a.0 w) u)
+
   pub releases_task : Spends K → (others : List Thing) (t : ℕ) (w : Work) → WorkOk K n e (sent n (message.Release (released.Task t)) ∷ others) w → Gives (WorkOk K n e others) (release_task t w)
   releases_task sp others t w g =
-      let less : WorkOk K n e others w = record { number = g.number; bag = sp.let_go n t (trade_left (rest_things n e w.rest) (one_goes (sent n (message.Release (released.Task t))) others)) g.bag } in
-      over_gives (λ a. WorkOk K n e (left_things k n e a.1 ++ others) (with_tasks a.0 w)) (WorkOk K n e others) (let_go_of w.rest.tasks t) _ (lets others t w less) (λ a u. gives_up_left k n e others a.1 (with_tasks a.0 w) u)
+      task_goes others t w (record { number = g.number; bag = sp.let_go n t (trade_left (rest_things n e w.rest) (one_goes (sent n (message.Release (released.Task t))) others)) g.bag })
 
   -- THREADS THAT ARRIVE
 

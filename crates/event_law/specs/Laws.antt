@@ -26,6 +26,7 @@ use Rattle.server_model.specs.Clusters.{with_server, with_outbox, hand_over_newe
 use Rattle.heap_law.specs.Names.{tot, some, one}
 use Rattle.heap_law.specs.Things.{Thing, servers_things, things_of}
 use Rattle.heap_law.specs.Sight.{sight, issued}
+use Rattle.heap_law.specs.Paths.{joined_thread}
 use Rattle.heap_law.specs.Naming.{events_of, started_at, made_at}
 use Rattle.heap_law.specs.Requests.{stands_at, halves_to, halves_needed, pair_notes, pair_places}
 use Rattle.heap_law.specs.Sharing.{going_notes, goes_on, results, has_ended}
@@ -96,6 +97,29 @@ abbrev pub SpawnsMakeOne : Type 0
 SpawnsMakeOne =
     (k : Cluster) (e : Event) (s : Server) → kind_of k e ≡ Some step_spawn → server_at k.servers e.server ≡ Some s → IsSound k → FewEvents k
     → Gives (λ d. (t : ℕ) → task_values_in d.0 t ≡ task_values_in k t + one (next_thread s.rest == t)) (act_at k e)
+
+-- the delivery of a task's `release` spends one of it
+abbrev pub ReleasesSpendOne : Type 0
+ReleasesSpendOne =
+    (k : Cluster) (n i : ℕ) (s : Server) (u : ℕ) → IsSound k → server_at k.servers n ≡ Some s → slice_get s.rest.inbox i ≡ Some (Release (Task u))
+    → Gives (λ d. (t : ℕ) → task_values_in d.0 t + one (u == t) ≡ task_values_in k t) (act_at k (record { server = n; what = Deliver i }))
+
+-- a join that is done spends one of its operand
+abbrev pub JoinsSpendOne : Type 0
+JoinsSpendOne =
+    (k : Cluster) (n t : ℕ) (s : Server) (y : ThreadState) (o : Operand) (v : Owned) (u : ℕ) → IsSound k → server_at k.servers n ≡ Some s → thread_in s.threads t ≡ Some y → slice_get k.code y.pc ≡ Some (instr.Join o) → y.gift ≡ Some v
+    → joined_thread (Some (instr.Join o)) y ≡ Some u → Gives (λ d. (w : ℕ) → task_values_in d.0 w + one (u == w) ≡ task_values_in k w) (act_at k (record { server = n; what = what.Step t }))
+
+-- the delivery of a `release` of a mutex, and a join that asks, leave as many as there were
+abbrev pub SharesLeaveTaskValues : Type 0
+SharesLeaveTaskValues =
+    (k : Cluster) (n i : ℕ) (s : Server) (m : MutexNo) → IsSound k → server_at k.servers n ≡ Some s → slice_get s.rest.inbox i ≡ Some (Release (Mutex m))
+    → Gives (λ d. (t : ℕ) → task_values_in d.0 t ≡ task_values_in k t) (act_at k (record { server = n; what = Deliver i }))
+
+abbrev pub AskingLeavesTaskValues : Type 0
+AskingLeavesTaskValues =
+    (k : Cluster) (n t : ℕ) (s : Server) (y : ThreadState) (o : Operand) → IsSound k → server_at k.servers n ≡ Some s → thread_in s.threads t ≡ Some y → slice_get k.code y.pc ≡ Some (instr.Join o) → y.gift ≡ None
+    → Gives (λ d. (u : ℕ) → task_values_in d.0 u ≡ task_values_in k u) (act_at k (record { server = n; what = what.Step t }))
 
 -- THE PARTS
 

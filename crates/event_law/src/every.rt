@@ -1,6 +1,6 @@
 //! What an event of a sound cluster keeps, of whatever kind it is.
 
-ghost use Rattle.event_law.specs.Laws.{EachEventHandedOver, EachEventLeaves, EachEventSends, NotedAtHome, NotedGoOn, NumbersDiffer, OneAnswer, OneResult, OneState, OneTaskValue, OthersLeaveTaskValues, PairsNoted, ServersDiffer, SharesCounted, SpawnsMakeOne};
+ghost use Rattle.event_law.specs.Laws.{AskingLeavesTaskValues, EachEventHandedOver, EachEventLeaves, EachEventSends, NotedAtHome, NotedGoOn, NumbersDiffer, OneAnswer, OneResult, OneState, OneTaskValue, OthersLeaveTaskValues, JoinsSpendOne, PairsNoted, ReleasesSpendOne, ServersDiffer, SharesCounted, SharesLeaveTaskValues, SpawnsMakeOne};
 ghost use Rattle.heap_law.specs.Coherent.{OneHome, OneOwner, Users};
 
 /// Whatever is delivered, stepped, evicted or migrated.
@@ -42,8 +42,13 @@ pub fn each_event_handed_over()
     ensures results { EachEventHandedOver OneResult }
 {}
 
-/// A spawn makes one task value of its thread. But for spawns, joins and the delivery of a `release`, an event leaves as many of each thread as there were.
+/// How many task values of each thread an event leaves: a spawn makes one of its thread, a join that is done spends one of its operand and the delivery of a
+/// task's `release` one of it, and every other event leaves as many as there were.
 pub fn task_values_counted()
     ensures others { OthersLeaveTaskValues }
     ensures spawns { SpawnsMakeOne }
+    ensures joins { JoinsSpendOne }
+    ensures releases { ReleasesSpendOne }
+    ensures shares { SharesLeaveTaskValues }
+    ensures asking { AskingLeavesTaskValues }
 {}
