@@ -5,4 +5,5 @@ mod ServerLemmas
 mod DeliverLemmas
 mod PassLemmas
 mod PlaceLemmas
+mod EventLemmas
 mod LabelLemmas

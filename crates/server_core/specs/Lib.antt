@@ -6,6 +6,7 @@ pub mod Hands
 pub mod Sites
 pub mod Passes
 pub mod Spots
+pub mod Standing
 pub mod Prepareds
 pub mod Committeds
 pub mod Accesses

@@ -3,6 +3,7 @@
 
 mod access;
 mod answers;
+mod beginning;
 mod committed;
 mod delivering;
 mod dropping;
