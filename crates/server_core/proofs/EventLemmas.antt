@@ -1,9 +1,8 @@
 -- How an event begins at its server.
-use Rattle.std.proofs.Common.{◌≡◌, ℕ, List, [], Option, Some, None, IfSome, IsSome, option_map, refl, sym, ap, subst, ◌∙◌}
-use Rattle.std.specs.Prelude.{⊤, slice_get, true}
+use Rattle.std.proofs.Common.{◌≡◌, ℕ, List, [], Option, Some, IfSome, option_map, sym, ap, subst, ◌∙◌}
+use Rattle.std.specs.Prelude.{slice_get}
 use Rattle.fr_base.specs.declared.instruction.Instr.{Instr}
 use Rattle.rank_map.specs.Places.{Place}
-use Rattle.read_cache.specs.Cache.{Copy}
 use Rattle.read_cache.specs.View.{has_place}
 use Rattle.thread_state.specs.View.{ThreadView}
 use Rattle.server_msgs.specs.declared.message.Message.{Message}
@@ -11,7 +10,7 @@ use Rattle.server_msgs.specs.declared.message.Message.TheVariants as message
 use Rattle.server_model.specs.Servers.{Server, Rest}
 use Rattle.server_model.specs.Work.{Work, Site, receive, then_some, beside_threads}
 use Rattle.server_model.specs.Events.{begin_work, begin_at, received, deliver, deliver_message, evict_copy}
-use Rattle.server_core.specs.Sites.{site, CanTake, thread_room}
+use Rattle.server_core.specs.Sites.{site, CanTake}
 use Rattle.server_core.specs.Standing.{standing}
 use Rattle.server_core.specs.Threads.{states}
 use Rattle.server_core.specs.Works.{WorkView}
