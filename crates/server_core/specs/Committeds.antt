@@ -36,3 +36,8 @@ asks_or_ends (instr.Dup w) = true
 asks_or_ends (instr.Lock w) = true
 asks_or_ends (instr.End o) = true
 asks_or_ends i = false
+
+-- its step starts two threads
+abbrev pub starts_pair : Instr → Bool
+starts_pair (instr.Par cs pc ds other) = true
+starts_pair i = false

@@ -10,3 +10,4 @@ pub mod Standing
 pub mod Prepareds
 pub mod Committeds
 pub mod Accesses
+pub mod Spares

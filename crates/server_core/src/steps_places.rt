@@ -1,8 +1,9 @@
 //! The plain steps on slots and places.
 
-ghost use Rattle.std.specs.Prelude.{◌≡◌, ◌+◌, ◌<◌, ◌≤◌, true, Some, IsSome};
+ghost use Rattle.std.specs.Prelude.{◌≡◌, ◌+◌, ◌<◌, ◌≤◌, false, true, Some, IfSome, IsSome};
 ghost use Rattle.server_model.specs.Commit.{let_slot, replace_slot, store_at, replace_at, assign, take_out, read_as, read};
 ghost use Rattle.server_model.specs.Places.{second_of};
+ghost use Rattle.thread_state.specs.View.{is_pinned};
 ghost use Rattle.server_core.specs.Hands.{hand};
 ghost use Rattle.server_core.specs.Spots.{spot, has_top};
 
@@ -109,7 +110,8 @@ pub(crate) fn assign(work: &mut Work, thread: &mut Thread, place: Lval, operand:
 
 /// A second value like this one, of which there may be one; it pins nothing.
 pub(crate) fn second_of(value: &Value) -> Option<Value>
-    ensures { result ≡ second_of value.now }
+    ensures value { result ≡ second_of value.now }
+    ensures packed { IfSome result (λ v. is_pinned v ≡ false) }
 {
     match *value {
         Value::Own(Owned::Box(_)) => None,
