@@ -7,8 +7,6 @@ mod flow;
 mod gate;
 mod memory;
 mod steady;
-#[cfg(test)]
-mod tests;
 mod whole;
 
 pub use device::{StdSink, StdSource};

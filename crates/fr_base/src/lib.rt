@@ -14,8 +14,6 @@ mod place;
 mod release;
 mod settings;
 mod step;
-#[cfg(test)]
-mod tests;
 
 pub use instruction::{Captures, Instr, Operand};
 pub use instructions::Code;

@@ -61,6 +61,14 @@ impl<T: Drop> List<T> {
         Ok(())
     }
 
+    /// No value any more; what room the values had is there for others. It drops each, so that it takes time linear in their number.
+    pub fn clear(&mut self)
+        ensures items { self.new.items ≡ [] }
+        ensures spare { self.old.spare + length self.old.items ≤ self.new.spare }
+    {
+        self.items.clear();
+    }
+
     /// How many values there are.
     pub fn len(&self) -> u64
         ensures { result ≡ length self.now.items }

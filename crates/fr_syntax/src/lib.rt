@@ -9,8 +9,6 @@ mod laws;
 mod lexer;
 mod list;
 mod scan;
-#[cfg(test)]
-mod tests;
 mod token;
 mod tree;
 

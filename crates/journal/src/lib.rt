@@ -12,8 +12,6 @@ mod fault;
 mod laws;
 mod order;
 mod reading;
-#[cfg(test)]
-mod tests;
 mod writing;
 
 pub use act::{Act, Acts};

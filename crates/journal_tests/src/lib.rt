@@ -5,6 +5,8 @@
 #[cfg(test)]
 mod legality;
 #[cfg(test)]
+mod orders;
+#[cfg(test)]
 mod rows;
 #[cfg(test)]
 mod texts;

@@ -4,8 +4,6 @@
 
 mod map;
 mod queue;
-#[cfg(test)]
-mod tests;
 mod tree;
 
 pub use map::RankMap;

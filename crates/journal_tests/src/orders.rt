@@ -2,8 +2,8 @@
 
 ghost use Rattle.journal.specs.Journals.{NamesItsThread};
 
-use super::*;
 use fr_base::{Fresh, Labels, MutexNo, ThreadNo};
+use journal::{Acts, Entry, Journal, Order, OrderError, OrderLine, order_text, read_order};
 use std::alloc::Global;
 use std::process::Abort;
 use std::test::Fail;

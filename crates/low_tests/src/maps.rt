@@ -2,12 +2,12 @@
 
 ghost use Rattle.std.specs.Prelude.{◌<◌, ◌^◌};
 
-use super::*;
 use fr_base::NoMemory;
+use rank_map::{Queue, RankMap};
 use std::test::Fail;
 
 // Puts an item at a key, for which it makes a place.
-#[tactic(auto, using(crate::proofs::MarkLemmas::free_there))]
+#[tactic(auto, using(rank_map::proofs::MarkLemmas::free_there))]
 fn put(map: &mut RankMap<u64>, key: u64, item: u64) -> Result<Option<u64>, NoMemory>
     requires { key < 2 ^ 40 }
 {
@@ -16,7 +16,7 @@ fn put(map: &mut RankMap<u64>, key: u64, item: u64) -> Result<Option<u64>, NoMem
 }
 
 // Takes the item of a key out, for which it makes a place; the place goes too, or stays.
-#[tactic(auto, using(crate::proofs::MarkLemmas::free_there))]
+#[tactic(auto, using(rank_map::proofs::MarkLemmas::free_there))]
 fn take(map: &mut RankMap<u64>, key: u64, whole: bool) -> Result<Option<u64>, NoMemory>
     requires { key < 2 ^ 40 }
 {

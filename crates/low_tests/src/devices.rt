@@ -1,6 +1,9 @@
 //! Each source and sink at work: both sides of the limit, short calls, and faults in the middle.
 
-use super::*;
+use drust_io::{
+    Gate, MemorySink, MemorySource, NoFaultSink, NoFaultSource, NoGate, ReadError, Sink, Source,
+    StdSink, StdSource, WriteFault, read_all, write_all,
+};
 use std::cell::Cell;
 use std::io;
 use std::io::{ErrorKind, Read, Write};

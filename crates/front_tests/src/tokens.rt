@@ -3,7 +3,7 @@
 ghost use Rattle.std.specs.Prelude.{◌≤◌, length};
 ghost use Rattle.fr_syntax.specs.Bounds.{most_bytes};
 
-use super::*;
+use fr_syntax::{Node, Nodes, Term, Token, TokenError, TokenKind, Tree, tokens};
 use std::alloc::Global;
 use std::process::Abort;
 use std::test::Fail;

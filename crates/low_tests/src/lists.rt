@@ -1,10 +1,6 @@
 //! Lists that grow, and code whose bodies are put in.
 
-use crate::instruction::{Captures, Instr, Operand};
-use crate::instructions::Code;
-use crate::message::Kind;
-use crate::name::ThreadNo;
-use crate::step::{Wait, Waits};
+use fr_base::{Captures, Code, Instr, Kind, Operand, ThreadNo, Wait, Waits};
 use std::alloc::Global;
 use std::test::Fail;
 

@@ -1,0 +1,10 @@
+//! Tests of the crates at the bottom: lists and names of `fr_base`, devices of `drust_io`, maps and queues of `rank_map`. They
+//! stand in a crate of their own, since tests within a crate prove its functions once more.
+#![tactic(auto)]
+
+#[cfg(test)]
+mod devices;
+#[cfg(test)]
+mod lists;
+#[cfg(test)]
+mod maps;
