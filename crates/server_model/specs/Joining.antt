@@ -10,13 +10,18 @@ use Rattle.thread_state.specs.declared.phase.Phase.{Phase}
 use Rattle.thread_state.specs.declared.phase.Phase.TheVariants as phase
 use Rattle.server_msgs.specs.declared.message.Message.TheVariants as message
 use Rattle.journal.specs.declared.act.Act.TheVariants as act
-use Rattle.server_model.specs.Work.{Work, Hand, Site, send, note, with_tasks, with_thread, at_thread, beside_threads, with_phase, then_some}
+use Rattle.server_model.specs.Work.{Work, Hand, Site, send, note, with_tasks, thread_in, with_thread, at_thread, beside_threads, with_phase, then_some}
 use Rattle.server_model.specs.Drop.{give_up}
 use Rattle.server_model.specs.Sharing.{given, give_up_left}
 
--- a thread stands here from now on: a new one, or one that was moved
+-- a thread stands beside the others where none of its number was found
+abbrev pub stand : Option ThreadState → ThreadState → Site → Option Site
+stand None t s = Some (record s { threads = with_thread s.threads t })
+stand (Some x) t s = None
+
+-- a thread stands here from now on, a new one or one that was moved; None where one of its number stands already
 abbrev pub arrive : ThreadState → Site → Option Site
-arrive t s = Some (record s { threads = with_thread s.threads t })
+arrive t s = stand (thread_in s.threads t.number) t s
 
 -- the result of a thread goes to that thread at that server
 abbrev pub answer : ℕ → ℕ → ℕ → Owned → Work → Work
