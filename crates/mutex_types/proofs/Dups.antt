@@ -40,11 +40,12 @@ use Rattle.plain_types.proofs.Focus.{top_none, top_some, hand_at}
 use Rattle.plain_types.proofs.AtHand.{mark_off}
 use Rattle.plain_types.proofs.Hand.{At, Ranked, ranked, rehung, pushed_others, pushed_here}
 use Rattle.plain_types.proofs.Done.{runs_here, only_here}
-use Rattle.slot_types.proofs.Sums.{Lone, temp_after, keys_same, Base, Sums, turned}
+use Rattle.plain_types.proofs.Sums.{Lone, temp_after, keys_same, Base, Sums, turned}
 use Rattle.mutex_types.specs.MutexActs.{IsDup}
 use Rattle.mutex_types.proofs.Mutexes.{decide_mutex, there_set, there_off, given_set}
-use Rattle.mutex_types.proofs.Flat.{flat_typed}
-use Rattle.mutex_types.proofs.Found.{FoundMutex, found_mutex, step_by}
+use Rattle.plain_types.proofs.Flat.{flat_typed}
+use Rattle.mutex_types.proofs.Found.{FoundMutex, found_mutex}
+use Rattle.plain_types.proofs.Done.{step_by}
 
 -- counted values, but for those of one mutex
 abbrev pub But : MutexNo → Val → Type 0

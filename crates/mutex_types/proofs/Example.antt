@@ -17,9 +17,9 @@ use Rattle.plain_types.specs.ActRows.{quiet, loud, pops_int, pops_temp, r_let, r
 use Rattle.plain_types.specs.Keeps.{is_main, Ready}
 use Rattle.plain_types.specs.Example.{first, main, begun}
 use Rattle.plain_types.proofs.Example.{print_is_ready}
-use Rattle.slot_types.specs.Example.{main_at, alone_at, one, variable, the_variable, at_hand, bound}
-use Rattle.slot_types.proofs.Lets.{let_keeps}
-use Rattle.slot_types.proofs.Example.{no_end, no_move, follows}
+use Rattle.plain_types.specs.Example.{main_at, alone_at, one, variable, the_variable, at_hand, bound}
+use Rattle.plain_types.proofs.Lets.{let_keeps}
+use Rattle.plain_types.proofs.Example.{no_end, no_move, follows}
 use Rattle.mutex_types.specs.Example.{name, the_mutex, with_content, held, MakeIsReady, DupIsReady, LockIsReady, UnlockIsReady}
 use Rattle.mutex_types.proofs.Makes.{make_keeps}
 use Rattle.mutex_types.proofs.Locks.{lock_keeps}

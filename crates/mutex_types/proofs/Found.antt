@@ -4,8 +4,6 @@ use Rattle.fr_base.specs.declared.label.Label.{Label}
 use Rattle.fr_base.specs.declared.label.Plain.TheVariants as plain
 use Rattle.fr_base.specs.declared.name.MutexNo.{MutexNo}
 use Rattle.fr_base.specs.declared.place.Lval.{Lval}
-use Rattle.fr_base.specs.declared.step.Fresh.{Fresh}
-use Rattle.fr_base.specs.declared.step.Fresh.TheVariants as fresh
 use Rattle.fr_typing.specs.Kinds.{Owned, mutex, Kind, own, whole}
 use Rattle.fr_typing.specs.Places.{Env, found}
 use Rattle.fr_store.specs.Keys.{Key, slot_k}
@@ -21,18 +19,16 @@ use Rattle.fr_plain.specs.declared.value.Value.{Value}
 use Rattle.fr_plain.specs.declared.value.Value.TheVariants.{Own, ToSlot, ToObject, Held}
 use Rattle.fr_plain.specs.State.{then_reached, loads, slot_at}
 use Rattle.fr_plain.specs.State as machine
-use Rattle.fr_plain.specs.MachineThreads.{Now, Move, Life, Thread, Whole as Machine, Shared, state_of, settle_life}
-use Rattle.fr_plain.specs.Machine.{mutex_value, mutex_behind, done_act}
+use Rattle.fr_plain.specs.MachineThreads.{Thread, Whole as Machine, Shared, state_of}
+use Rattle.fr_plain.specs.Machine.{mutex_value, mutex_behind}
 use Rattle.fr_plain.specs.PlainState.{Running, plain_state}
 use Rattle.fr_sound.specs.Seen.{Gives, val_of, location_of}
 use Rattle.fr_sound.specs.States.{Typing}
 use Rattle.fr_code.specs.CodeTypes.{HasType}
-use Rattle.plain_types.specs.Positions.{Position, PositionTypes, moves_by}
-use Rattle.plain_types.specs.Keeps.{GoesOn, StepsTyped}
+use Rattle.plain_types.specs.Positions.{Position}
 use Rattle.plain_types.proofs.OneThread.{store}
 use Rattle.plain_types.proofs.Hand.{Ranked}
 use Rattle.plain_types.proofs.Copies.{not_gone, value_found}
-use Rattle.plain_types.proofs.Done.{settles}
 use Rattle.plain_types.proofs.Places.{variable_below, variable_seen, leads, value_there}
 use Rattle.plain_types.proofs.Borrows.{variable_clear}
 
@@ -100,24 +96,3 @@ found_mutex s t p e ts us o g x w z is =
   where
     some_val : {a b : Val} → Some a ≡ Some b → a ≡ b
     some_val e = cc
-
--- a step under these names that leads to a typed state, whatever it does beside its thread's life
-pub step_named : (now : Position → Now) (move : Position → Option (Move Position Position)) (s : Machine Position) (t : Thread Position) (wrap : Position → Life Position) (names : Fresh) (m : Move Position (Life Position)) (plug : Value → Position) (value : Value) (q : Position) (state : Life Position → Machine Position) (labels : List Label) (z : Typing)
-    → GoesOn wrap → plug value ≡ q
-    → done_act (moves_by now move) s t names m m.act ≡ Some (record { state = state (settle_life (moves_by now move) (wrap (plug value))); labels = labels })
-    → PositionTypes z (plain_state (state (wrap q)))
-    → StepsTyped (moves_by now move) s t names m
-step_named now move s t wrap names m plug value q state labels z goes comes done typed = record {
-  next = record { state = state (settle_life (moves_by now move) (wrap (plug value))); labels = labels };
-  is = done;
-  typing = z;
-  typed = subst (λ l. PositionTypes z (plain_state (state l))) (sym (settles now move wrap (plug value) goes ∙ ap wrap comes)) typed;
-}
-
--- without a name
-pub step_by : (now : Position → Now) (move : Position → Option (Move Position Position)) (s : Machine Position) (t : Thread Position) (wrap : Position → Life Position) (m : Move Position (Life Position)) (plug : Value → Position) (value : Value) (q : Position) (state : Life Position → Machine Position) (labels : List Label) (z : Typing)
-    → GoesOn wrap → plug value ≡ q
-    → done_act (moves_by now move) s t fresh.None m m.act ≡ Some (record { state = state (settle_life (moves_by now move) (wrap (plug value))); labels = labels })
-    → PositionTypes z (plain_state (state (wrap q)))
-    → StepsTyped (moves_by now move) s t fresh.None m
-step_by now move s t wrap = step_named now move s t wrap fresh.None

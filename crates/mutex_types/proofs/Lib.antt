@@ -1,10 +1,8 @@
 pub mod Mutexes
-pub mod Flat
 pub mod Found
 pub mod Dups
 pub mod LockTypes
 pub mod Locks
 pub mod Unlocks
-pub mod Regiven
 pub mod Makes
 pub mod Example

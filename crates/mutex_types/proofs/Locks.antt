@@ -46,13 +46,15 @@ use Rattle.plain_types.proofs.AtHand.{mark_off}
 use Rattle.plain_types.proofs.Hand.{At, Ranked, pushed_others, pushed_here}
 use Rattle.plain_types.proofs.Done.{runs_here, only_here}
 use Rattle.plain_types.proofs.Places.{variable_below}
-use Rattle.slot_types.proofs.SlotTurn.{alike_swap}
-use Rattle.slot_types.proofs.Lets.{below_new, here_new, slot_below, owned_in, lock_with, content_there}
-use Rattle.slot_types.proofs.Envs.{same_tree}
-use Rattle.slot_types.proofs.Sums.{Lone, slot_after, keys_same, Base, Sums, turned}
-use Rattle.mutex_types.specs.MutexActs.{IsLocking, KeepsUnlessWaiting}
+use Rattle.plain_types.proofs.SlotTurn.{alike_swap}
+use Rattle.plain_types.proofs.Slots.{below_new, here_new, slot_below, owned_in, lock_with, content_there}
+use Rattle.plain_types.proofs.Envs.{same_tree}
+use Rattle.plain_types.proofs.Sums.{Lone, slot_after, keys_same, Base, Sums, turned}
+use Rattle.mutex_types.specs.MutexActs.{IsLocking}
+use Rattle.plain_types.specs.Keeps.{KeepsUnlessWaiting}
 use Rattle.mutex_types.proofs.Mutexes.{decide_mutex, mutex_is, there_set, there_off, given_set}
-use Rattle.mutex_types.proofs.Found.{FoundMutex, found_mutex, step_by}
+use Rattle.mutex_types.proofs.Found.{FoundMutex, found_mutex}
+use Rattle.plain_types.proofs.Done.{step_by}
 use Rattle.mutex_types.proofs.LockTypes.{locked_types, locked_refs, locked_same, locked_thread, off_two}
 
 -- RANKS

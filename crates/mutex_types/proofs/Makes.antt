@@ -45,15 +45,16 @@ use Rattle.plain_types.proofs.AtHand.{Only, mark_off}
 use Rattle.plain_types.proofs.Hand.{At, ranked, room, pushed_others, pushed_here, only_put, put_running}
 use Rattle.plain_types.proofs.Done.{runs_here, only_here}
 use Rattle.plain_types.proofs.Operands.{load, hand_value}
-use Rattle.slot_types.proofs.Rethread.{rethread}
-use Rattle.slot_types.proofs.Boxes.{boxed_value}
-use Rattle.slot_types.proofs.Sums.{Lone, temp_after, keys_same, Base, Sums, turned}
-use Rattle.mutex_types.specs.MutexActs.{IsMake, KeepsNamed}
+use Rattle.plain_types.proofs.Rethread.{rethread}
+use Rattle.plain_types.proofs.Slots.{owned_value}
+use Rattle.plain_types.proofs.Sums.{Lone, temp_after, keys_same, Base, Sums, turned}
+use Rattle.mutex_types.specs.MutexActs.{IsMake}
+use Rattle.plain_types.specs.Keeps.{KeepsNamed}
 use Rattle.mutex_types.proofs.Mutexes.{decide_mutex, mutex_is, mutex_cases, made_at, made_off}
-use Rattle.mutex_types.proofs.Flat.{flat_typed}
-use Rattle.mutex_types.proofs.Found.{step_named}
+use Rattle.plain_types.proofs.Flat.{flat_typed}
+use Rattle.plain_types.proofs.Done.{step_named}
 use Rattle.mutex_types.proofs.Dups.{But}
-use Rattle.mutex_types.proofs.Regiven.{Regives, giving, regiven}
+use Rattle.plain_types.proofs.Regiven.{Regives, giving, regiven}
 
 -- THE STATE
 
@@ -345,7 +346,7 @@ module _ (now : Position → Now) (move : Position → Option (Move Position Pos
       let n = t.number in
       let at0 : At y (plain_state s) n x i.env i.before i.result = record { state = r.state; runs = runs_here s t p wrap r.goes_on r.found r.at; entry = i.entry } in
       let l = load y (plain_state s) n x i.env i.result at0 refl i.pops in
-      let d = boxed_value l (ranked l.typing l.state n l.running i.env (own i.content ∷ i.after) i.after (Some (own i.content)) i.result l.at top_some l.waits) s.heap l.objects in
+      let d = owned_value l (ranked l.typing l.state n l.running i.env (own i.content ∷ i.after) i.after (Some (own i.content)) i.result l.at top_some l.waits) in
       let same = l.only (put_running (plain_state s) n x) x (only_put (plain_state s) n x) in
       let first = only_put (plain_state s) n x in
       let free : l.state.is_given m ≡ false = sym (same.given m) ∙ first.given m ∙ ap is_some none in

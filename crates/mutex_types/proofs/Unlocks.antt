@@ -47,13 +47,13 @@ use Rattle.plain_types.proofs.AtHand.{mark_off}
 use Rattle.plain_types.proofs.Hand.{At, room, pushed_others, pushed_here}
 use Rattle.plain_types.proofs.Done.{runs_here, only_here}
 use Rattle.plain_types.proofs.Places.{seen_val_of}
-use Rattle.slot_types.proofs.Rethread.{rethread}
-use Rattle.slot_types.proofs.SlotTurn.{alike_swap}
-use Rattle.slot_types.proofs.Lets.{below_new, here_new, slot_below, owned_in, lock_with, content_there}
-use Rattle.slot_types.proofs.Sums.{Lone, slot_before, keys_same, Base, Sums, turned}
+use Rattle.plain_types.proofs.Rethread.{rethread}
+use Rattle.plain_types.proofs.SlotTurn.{alike_swap}
+use Rattle.plain_types.proofs.Slots.{below_new, here_new, slot_below, owned_in, lock_with, content_there}
+use Rattle.plain_types.proofs.Sums.{Lone, slot_before, keys_same, Base, Sums, turned}
 use Rattle.mutex_types.specs.MutexActs.{IsUnlocking}
 use Rattle.mutex_types.proofs.Mutexes.{decide_mutex, mutex_is, there_set, there_off, given_set}
-use Rattle.mutex_types.proofs.Found.{step_by}
+use Rattle.plain_types.proofs.Done.{step_by}
 
 -- TEMPORARY VALUES THAT STAY
 
@@ -185,7 +185,7 @@ module _ (s : Machine Position) (t : Thread Position) (p : Position) (e : Env) (
         (λ hm cn q. ap (content_val y.gives) (others (record { home = hm; count = cn }) (λ z. q.2 (ap (λ (n : MutexNo). content_k n.home n.count) z))))
 
     gone_slot : (i : ℕ) → length e ≤ i → s2.at (slot_k t.number i) ≡ gone_v
-    gone_slot i le = Rattle.slot_types.proofs.Sums.slot_after y (plain_state s) a2 t.number x1 x2 E2 y.marks at.runs lone (λ u j q. refl) i ∙ ap (seen_as y.gives t.number (ref_v (y.marks t.number i))) (temp_none rest i (omega (arith, le, long)))
+    gone_slot i le = Rattle.plain_types.proofs.Sums.slot_after y (plain_state s) a2 t.number x1 x2 E2 y.marks at.runs lone (λ u j q. refl) i ∙ ap (seen_as y.gives t.number (ref_v (y.marks t.number i))) (temp_none rest i (omega (arith, le, long)))
 
     at_b : s2.at b ≡ gone_v
     at_b = gone_slot (length e) (omega arith)
@@ -304,7 +304,7 @@ module _ (s : Machine Position) (t : Thread Position) (p : Position) (e : Env) (
       where
         by : (i < length e) ⊎ (length e ≤ i) → is_hidden (env_at e i) ≡ is_held (slot_at rest i)
         by (inl il) = ap is_hidden (sym (below_two i (λ j. omega (arith, il, j)) (λ j. omega (arith, il, j)))) ∙ ap (λ (z : Entry). is_hidden (env_at z.env i)) (sym e_is) ∙ run.hidden i ∙ sym (ap is_held (slot_same i (λ j. omega (arith, il, j)) (λ j. omega (arith, il, j))))
-        by (inr le) = ap is_hidden (Rattle.slot_types.proofs.Lets.env_none e i le) ∙ sym (ap is_held (temp_none rest i (omega (arith, le, long))))
+        by (inr le) = ap is_hidden (Rattle.plain_types.proofs.Slots.env_none e i le) ∙ sym (ap is_held (temp_none rest i (omega (arith, le, long))))
 
     off_other : (j : Key) → touched t.number j ≡ false → Off j
     off_other j q = ((λ z. mine (length e) (sym (ap (touched t.number) z) ∙ q)), (λ z. mine (suc (length e)) (sym (ap (touched t.number) z) ∙ q)), (λ z. let u : true ≡ false = sym (ap (touched t.number) z) ∙ q in cc))

@@ -15,7 +15,7 @@ use Rattle.fr_sound.specs.States.{Typing}
 use Rattle.plain_types.specs.Positions.{Position}
 use Rattle.plain_types.specs.Keeps.{Ready}
 use Rattle.plain_types.specs.Example.{first, main, begun}
-use Rattle.slot_types.specs.Example.{position, main_at, alone_at, one, variable, the_variable, at_hand, bound}
+use Rattle.plain_types.specs.Example.{position, main_at, alone_at, one, variable, the_variable, at_hand, bound}
 
 -- a mutex of 1, with one share, and a value of it
 abbrev pub name : MutexNo

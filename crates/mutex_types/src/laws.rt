@@ -1,8 +1,8 @@
 //! Laws of the typing of acts at mutexes.
 
-ghost use Rattle.plain_types.specs.Keeps.{Keeps};
+ghost use Rattle.plain_types.specs.Keeps.{Keeps, KeepsNamed, KeepsUnlessWaiting};
 ghost use Rattle.mutex_types.specs.Example.{DupIsReady, LockIsReady, MakeIsReady, UnlockIsReady};
-ghost use Rattle.mutex_types.specs.MutexActs.{IsDup, IsLocking, IsMake, IsUnlocking, KeepsNamed, KeepsUnlessWaiting};
+ghost use Rattle.mutex_types.specs.MutexActs.{IsDup, IsLocking, IsMake, IsUnlocking};
 
 /// In a typed state, with whatever threads, mutexes and pairs, an act of this form that a row grants can be done without a new
 /// name, and leaves a typed state; a lock, unless its mutex's content is out, and a new mutex under each name of a mutex that

@@ -3,12 +3,17 @@ use Rattle.std.proofs.Common.{◌≡◌, ◌≢◌, ⊎_elim, ◌∙◌, ℕ, �
 use Rattle.std.specs.Prelude.{if◌then◌else◌}
 use Rattle.fr_store.proofs.Keys.{decide_number}
 use Rattle.fr_plain.specs.declared.value.Value.{Value}
+use Rattle.fr_base.specs.declared.label.Label.{Label}
+use Rattle.fr_base.specs.declared.step.Fresh.{Fresh}
+use Rattle.fr_base.specs.declared.step.Fresh.TheVariants as fresh
 use Rattle.fr_plain.specs.Heap.{Heap, made_by}
+use Rattle.fr_plain.specs.Machine.{done_act}
+use Rattle.fr_sound.specs.States.{Typing}
 use Rattle.fr_plain.specs.MachineThreads.{Now, Move, Life, Thread, Whole, thread_at, with_thread, is_over, pair_of, settle_life}
 use Rattle.fr_plain.specs.PlainState.{Running, place_in, running, running_in, is_over_in, two_of, plain_state}
 use Rattle.fr_plain.proofs.ByName.{put_in, put_at, put_off}
-use Rattle.plain_types.specs.Positions.{Position, moves_by}
-use Rattle.plain_types.specs.Keeps.{GoesOn, is_main, is_owed, is_loose}
+use Rattle.plain_types.specs.Positions.{Position, PositionTypes, moves_by}
+use Rattle.plain_types.specs.Keeps.{GoesOn, is_main, is_owed, is_loose, StepsTyped}
 use Rattle.plain_types.proofs.OneThread.{with_running}
 use Rattle.plain_types.proofs.AtHand.{Only}
 
@@ -17,6 +22,27 @@ pub settles : (now : Position → Now) (move : Position → Option (Move Positio
 settles now move _ q is_main = refl
 settles now move _ q is_owed = refl
 settles now move _ q is_loose = refl
+
+-- a step under these names that leads to a typed state, whatever it does beside its thread's life
+pub step_named : (now : Position → Now) (move : Position → Option (Move Position Position)) (s : Whole Position) (t : Thread Position) (wrap : Position → Life Position) (names : Fresh) (m : Move Position (Life Position)) (plug : Value → Position) (value : Value) (q : Position) (state : Life Position → Whole Position) (labels : List Label) (z : Typing)
+    → GoesOn wrap → plug value ≡ q
+    → done_act (moves_by now move) s t names m m.act ≡ Some (record { state = state (settle_life (moves_by now move) (wrap (plug value))); labels = labels })
+    → PositionTypes z (plain_state (state (wrap q)))
+    → StepsTyped (moves_by now move) s t names m
+step_named now move s t wrap names m plug value q state labels z goes comes done typed = record {
+  next = record { state = state (settle_life (moves_by now move) (wrap (plug value))); labels = labels };
+  is = done;
+  typing = z;
+  typed = subst (λ l. PositionTypes z (plain_state (state l))) (sym (settles now move wrap (plug value) goes ∙ ap wrap comes)) typed;
+}
+
+-- without a name
+pub step_by : (now : Position → Now) (move : Position → Option (Move Position Position)) (s : Whole Position) (t : Thread Position) (wrap : Position → Life Position) (m : Move Position (Life Position)) (plug : Value → Position) (value : Value) (q : Position) (state : Life Position → Whole Position) (labels : List Label) (z : Typing)
+    → GoesOn wrap → plug value ≡ q
+    → done_act (moves_by now move) s t fresh.None m m.act ≡ Some (record { state = state (settle_life (moves_by now move) (wrap (plug value))); labels = labels })
+    → PositionTypes z (plain_state (state (wrap q)))
+    → StepsTyped (moves_by now move) s t fresh.None m
+step_by now move s t wrap = step_named now move s t wrap fresh.None
 
 module _ (s : Whole Position) (t : Thread Position) (p : Position) (wrap : Position → Life Position) (goes : GoesOn wrap) (found : thread_at s.threads t.number ≡ Some t) (at : t.life ≡ wrap p) where
   abbrev here : Running Position

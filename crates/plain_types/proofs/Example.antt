@@ -1,20 +1,23 @@
 -- A typed state in which an act is granted.
-use Rattle.std.proofs.Common.{◌≡◌, ◌∙◌, ℕ, zero, suc, [], Some, None, refl, sym, ap, subst, arith}
-use Rattle.std.specs.Prelude.{◌==◌, Bool, false, pos, if◌then◌else◌}
-use Rattle.fr_typing.specs.Kinds.{unit}
+use Rattle.std.proofs.Common.{◌≡◌, ◌∙◌, ℕ, zero, suc, [], ◌∷◌, Some, None, refl, sym, ap, subst, arith}
+use Rattle.std.specs.Prelude.{◌==◌, Bool, false, pos, Option, if◌then◌else◌}
+use Rattle.fr_typing.specs.Kinds.{unit, int}
 use Rattle.fr_typing.proofs.PlaceLemmas.{eq_cases}
 use Rattle.fr_store.specs.Keys.{Key, slot_k, temp_k, content_k, result_k, hand_k}
 use Rattle.fr_store.specs.Store.{Location, at_key, at_object, Val, gone_v, box_v, mutex_v, task_v, value_at}
 use Rattle.fr_store.specs.Typed.{Exact, hole, owns, KeyTypes, exact_under, Stands, Typed}
 use Rattle.fr_plain.specs.declared.value.Value.{Value}
-use Rattle.fr_plain.specs.MachineThreads.{ended}
+use Rattle.fr_base.specs.declared.step.Fresh.{Fresh}
+use Rattle.fr_plain.specs.MachineThreads.{Now, Move, Life, Thread, Whole, ended}
+use Rattle.fr_plain.specs.MachineThreads as machine
+use Rattle.fr_plain.specs.Machine.{Stepped, done_act}
 use Rattle.fr_plain.specs.PlainState.{Running, place_in, running_in, plain_state}
 use Rattle.fr_sound.specs.Entries.{going}
 use Rattle.fr_sound.specs.States.{Typing, RunningTyped, IsKept, IsOwed}
-use Rattle.plain_types.specs.Positions.{Position, Knows, temps_of, PositionTypes}
-use Rattle.plain_types.specs.ActRows.{quiet, pops_int, r_print}
-use Rattle.plain_types.specs.Keeps.{is_main}
-use Rattle.plain_types.specs.Example.{first, main, begun, PrintIsReady}
+use Rattle.plain_types.specs.Positions.{Position, Knows, temps_of, PositionTypes, moves_by}
+use Rattle.plain_types.specs.ActRows.{quiet, pops_int, r_let, r_print}
+use Rattle.plain_types.specs.Keeps.{is_main, StepsTyped}
+use Rattle.plain_types.specs.Example.{first, main, begun, variable, PrintIsReady, LetIsReady}
 use Rattle.plain_types.proofs.OneThread.{store}
 
 abbrev exact : KeyTypes
@@ -116,3 +119,19 @@ begun_typed = record {
 
 pub print_is_ready : PrintIsReady
 print_is_ready = (typing, record { state = begun_typed; found = refl; goes_on = is_main; at = refl; leaves = quiet []; after = going [] [] unit; row = r_print (pops_int (pos 1) refl); comes = λ v. refl })
+
+pub let_is_ready : LetIsReady
+let_is_ready = (typing, record { state = begun_typed; found = refl; goes_on = is_main; at = refl; leaves = quiet []; after = going (variable int ∷ []) [] unit; row = r_let (0 ∷ []) (pops_int (pos 1) refl) refl; comes = λ v. refl })
+
+-- WHAT FOLLOWS
+
+-- no position of the example is told its moves
+abbrev pub no_end : Position → Now
+no_end p = machine.going
+
+abbrev pub no_move : Position → Option (Move Position Position)
+no_move p = None
+
+-- what a step that keeps a state typed leads to is typed
+pub follows : {now : Position → Now} {move : Position → Option (Move Position Position)} {s : Whole Position} {t : Thread Position} {names : Fresh} {m : Move Position (Life Position)} (x : Stepped Position) → done_act (moves_by now move) s t names m m.act ≡ Some x → StepsTyped (moves_by now move) s t names m → (y : Typing) × PositionTypes y (plain_state x.state)
+follows x e z = let f : Some z.next ≡ Some x = sym z.is ∙ e in let same : z.next ≡ x = cc in (z.typing, subst (λ (q : Stepped Position). PositionTypes z.typing (plain_state q.state)) same z.typed)

@@ -15,4 +15,15 @@ pub mod Places
 pub mod Borrows
 pub mod Copies
 pub mod Moved
+pub mod Rethread
+pub mod SlotTurn
+pub mod Sums
+pub mod Slots
+pub mod Bound
+pub mod Lets
+pub mod Envs
+pub mod OwnPaths
+pub mod Written
+pub mod Flat
+pub mod Regiven
 pub mod Example

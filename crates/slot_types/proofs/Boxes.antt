@@ -12,17 +12,16 @@ use Rattle.fr_typing.specs.Places.{Env}
 use Rattle.fr_store.specs.Keys.{Key, slot_k, temp_k, content_k}
 use Rattle.fr_store.specs.Store.{Location, at_key, at_object, Val, box_v, mutex_v, task_v, gone_v, Store, value_at, Place}
 use Rattle.fr_store.specs.Changes.{SameButTwo}
-use Rattle.fr_store.specs.Typed.{Tree, box_tree, owns, refers, KeyTypes, Typed}
+use Rattle.fr_store.specs.Typed.{box_tree, owns, refers, KeyTypes, Typed}
 use Rattle.fr_store.specs.Below.{tree_of, ExactOf}
 use Rattle.fr_store.specs.Rows.{with_type}
 use Rattle.fr_store.specs.Thread.{ThreadTyped}
 use Rattle.fr_store.proofs.Keys.{key_same, key_other, decide_object, decide_number}
 use Rattle.fr_store.proofs.Chains.{decide_location}
 use Rattle.fr_store.proofs.Changes.{make_object}
-use Rattle.fr_store.proofs.Rows.{top_fits}
 use Rattle.fr_store.proofs.ThreadKept.{exact_owned, known_tree}
 use Rattle.fr_plain.specs.declared.value.Value.{Value}
-use Rattle.fr_plain.specs.declared.value.Value.TheVariants.{Own, ToSlot, ToObject, Held}
+use Rattle.fr_plain.specs.declared.value.Value.TheVariants.{Own, Held}
 use Rattle.fr_plain.specs.Heap.{Heap, made_by, cell_at, next_object, with_object}
 use Rattle.fr_plain.specs.MachineActs.{do_box, box_did}
 use Rattle.fr_plain.specs.State.{slot_at}
@@ -31,10 +30,9 @@ use Rattle.fr_plain.specs.Machine.{nameless, then_released, stepped}
 use Rattle.fr_plain.specs.PlainState.{Running, PlainState, place_in, plain_state}
 use Rattle.fr_plain.proofs.HeapLemmas.{next_new, new_same, new_other}
 use Rattle.fr_sound.specs.Entries.{Entry, going}
-use Rattle.fr_sound.specs.Seen.{Gives, val_of, seen_cell}
+use Rattle.fr_sound.specs.Seen.{seen_cell}
 use Rattle.fr_sound.specs.States.{Typing, RunningTyped, env_at, is_hidden, is_held, IsLock, thread_of_key, IsShare, MutexTyped}
 use Rattle.fr_sound.proofs.SeenLemmas.{made_grows, made_next}
-use Rattle.fr_sound.proofs.Hand.{fits_owned}
 use Rattle.plain_types.specs.Positions.{Position, PositionTypes, moves_by, StartsAs}
 use Rattle.plain_types.specs.ActRows.{Pops, Leaves, loud, left_after, ActRow, r_box}
 use Rattle.plain_types.specs.Keeps.{Ready, StepsTyped, Keeps}
@@ -49,14 +47,8 @@ use Rattle.plain_types.proofs.Hand.{At, Ranked, ranked, rehung, pushed_others, p
 use Rattle.plain_types.proofs.Done.{runs_here, only_here, made_here}
 use Rattle.plain_types.proofs.Operands.{Loaded, load, hand_value, steps_typed}
 use Rattle.slot_types.specs.SlotActs.{IsBox}
-use Rattle.slot_types.proofs.Sums.{Lone, temp_after, keys_same, Base, Sums, turned}
-
--- a value with nothing to mark looks as it is
-pub seen_plain : (g : Gives) (t : ℕ) (v : Value) → seen_as g t gone_v (Some v) ≡ val_of g t v
-seen_plain g t (Own v) = refl
-seen_plain g t (ToSlot i) = refl
-seen_plain g t (ToObject o) = refl
-seen_plain g t (Held m) = refl
+use Rattle.plain_types.proofs.Slots.{owned_value}
+use Rattle.plain_types.proofs.Sums.{Lone, temp_after, keys_same, Base, Sums, turned}
 
 -- values that pass into a new object and are no box
 abbrev Passed : Val → Type 0
@@ -116,10 +108,6 @@ module _ {a0 : PlainState Position} {n : ℕ} {x : Running Position} {e : Env} {
 
   tree_there : z.typing.exact (hand_at n us) ≡ owns (tree_of k)
   tree_there = exact_owned (slot_k n) z.typing.exact k (z.typing.exact (hand_at n us)) z.focus.thread.temp
-
-  -- the operand owns what it is
-  pub boxed_value : (p : Plain) × (v ≡ Own p)
-  boxed_value = fits_owned z.typing.gives n k v (subst (Rattle.fr_store.specs.Typed.TopFits (tree_of k)) (at_hand ∙ seen_plain z.typing.gives n v) (top_fits z.typing.rank z.typing.exact s1 z.at.state.typed (hand_at n us) (tree_of k) tree_there))
 
   none : s1.heap (next_object heap n) ≡ None
   none = ap (seen_cell z.typing.gives) (objects (next_object heap n) ∙ next_new heap n)
@@ -262,7 +250,7 @@ module _ (now : Position → Now) (move : Position → Option (Move Position Pos
       let h : At y (plain_state s) n x i.env i.before i.result = record { state = r.state; runs = runs_here s t p wrap r.goes_on r.found r.at; entry = i.entry } in
       let l = load y (plain_state s) n x i.env i.result h refl i.pops in
       let z = ranked l.typing l.state n l.running i.env (own i.content ∷ i.after) i.after (Some (own i.content)) i.result l.at top_some l.waits in
-      let d = boxed_value l z s.heap l.objects in
+      let d = owned_value l z in
       let b = Own (plain.Box (next_object s.heap n)) in
       let labels = label.Make (next_object s.heap n) d.0 ∷ [] in
       let heap = with_object s.heap n d.0 in

@@ -1,37 +1,25 @@
 -- Typed states in which an act that changes slots, or makes an object, is granted: each follows from the one before by a law.
-use Rattle.std.proofs.Common.{◌≡◌, ◌∙◌, [], ◌∷◌, Option, Some, None, refl, sym, subst, arith}
+use Rattle.std.proofs.Common.{[], ◌∷◌, refl, arith}
 use Rattle.std.specs.Prelude.{pos}
 use Rattle.fr_base.specs.declared.label.Label.TheVariants as label
-use Rattle.fr_base.specs.declared.step.Fresh.{Fresh}
 use Rattle.fr_typing.specs.Kinds.{unit, int, box, own, gone}
 use Rattle.fr_typing.specs.Places.{put_at}
+use Rattle.fr_plain.specs.declared.value.Value.{Value}
 use Rattle.fr_plain.specs.declared.value.Value.TheVariants.{Own}
 use Rattle.fr_plain.specs.MachineActs.{do_let, do_box}
-use Rattle.fr_plain.specs.MachineThreads.{Now, Move, Life, alive, Thread, Whole}
-use Rattle.fr_plain.specs.MachineThreads as machine
-use Rattle.fr_plain.specs.Machine.{Stepped, done_act}
+use Rattle.fr_plain.specs.MachineThreads.{alive}
 use Rattle.fr_plain.specs.PlainState.{plain_state}
 use Rattle.fr_sound.specs.Entries.{going}
 use Rattle.fr_sound.specs.States.{Typing}
-use Rattle.plain_types.specs.Positions.{Position, PositionTypes, moves_by}
+use Rattle.plain_types.specs.Positions.{PositionTypes}
 use Rattle.plain_types.specs.ActRows.{quiet, loud, pops_int, pops_temp, r_let, r_move, r_box}
-use Rattle.plain_types.specs.Keeps.{is_main, StepsTyped}
+use Rattle.plain_types.specs.Keeps.{is_main, Ready}
 use Rattle.plain_types.specs.Example.{first, main, begun}
-use Rattle.plain_types.proofs.Example.{print_is_ready}
-use Rattle.slot_types.specs.Example.{at_hand, bound, variable, the_variable, main_at, alone_at, one, object, the_box, one_object, BoxIsReady, LetIsReady, MoveIsReady}
+use Rattle.plain_types.proofs.Example.{print_is_ready, no_end, no_move, follows}
+use Rattle.plain_types.specs.Example.{at_hand, bound, variable, the_variable, main_at, alone_at, one}
+use Rattle.slot_types.specs.Example.{object, the_box, one_object, BoxIsReady, MoveIsReady}
 use Rattle.slot_types.proofs.Boxes.{box_keeps}
-use Rattle.slot_types.proofs.Lets.{let_keeps}
-
--- no position of the example is told its moves
-abbrev pub no_end : Position → Now
-no_end p = machine.going
-
-abbrev pub no_move : Position → Option (Move Position Position)
-no_move p = None
-
--- what a step that keeps a state typed leads to is typed
-pub follows : {now : Position → Now} {move : Position → Option (Move Position Position)} {s : Whole Position} {t : Thread Position} {names : Fresh} {m : Move Position (Life Position)} (x : Stepped Position) → done_act (moves_by now move) s t names m m.act ≡ Some x → StepsTyped (moves_by now move) s t names m → (y : Typing) × PositionTypes y (plain_state x.state)
-follows x e z = let f : Some z.next ≡ Some x = sym z.is ∙ e in let same : z.next ≡ x = cc in (z.typing, subst (λ (q : Stepped Position). PositionTypes z.typing (plain_state q.state)) same z.typed)
+use Rattle.plain_types.proofs.Lets.{let_keeps}
 
 pub box_is_ready : BoxIsReady
 box_is_ready = (print_is_ready.0, record { state = print_is_ready.1.state; found = refl; goes_on = is_main; at = refl; leaves = loud []; after = going [] (own (box int) ∷ []) unit; row = r_box (pops_int (pos 1) refl); comes = λ v. refl })
@@ -39,11 +27,11 @@ box_is_ready = (print_is_ready.0, record { state = print_is_ready.1.state; found
 boxed : (y : Typing) × PositionTypes y (plain_state (alone_at (at_hand (box int) the_box) [] one_object []))
 boxed = follows (record { state = alone_at (at_hand (box int) the_box) [] one_object []; labels = label.Make object one ∷ [] }) refl (box_keeps no_end no_move box_is_ready.0 begun main first alive (do_box (Own one)) (at_hand (box int)) (Own one, refl) box_is_ready.1)
 
-pub let_is_ready : LetIsReady
-let_is_ready = (boxed.0, record { state = boxed.1; found = refl; goes_on = is_main; at = refl; leaves = quiet []; after = going (variable (box int) ∷ []) [] unit; row = r_let (0 ∷ []) (pops_temp refl) refl; comes = λ v. refl })
+let_is_ready : Ready boxed.0 (alone_at (at_hand (box int) the_box) [] one_object []) (main_at (at_hand (box int) the_box) []) (at_hand (box int) the_box) alive (do_let the_box) (λ (v : Value). bound (box int))
+let_is_ready = record { state = boxed.1; found = refl; goes_on = is_main; at = refl; leaves = quiet []; after = going (variable (box int) ∷ []) [] unit; row = r_let (0 ∷ []) (pops_temp refl) refl; comes = λ v. refl }
 
 bound_typed : (y : Typing) × PositionTypes y (plain_state (alone_at (bound (box int)) (the_box ∷ []) one_object []))
-bound_typed = follows (record { state = alone_at (bound (box int)) (the_box ∷ []) one_object []; labels = [] }) refl (let_keeps no_end no_move let_is_ready.0 (alone_at (at_hand (box int) the_box) [] one_object []) (main_at (at_hand (box int) the_box) []) (at_hand (box int) the_box) alive (do_let the_box) (λ v. bound (box int)) (the_box, refl) let_is_ready.1)
+bound_typed = follows (record { state = alone_at (bound (box int)) (the_box ∷ []) one_object []; labels = [] }) refl (let_keeps no_end no_move boxed.0 (alone_at (at_hand (box int) the_box) [] one_object []) (main_at (at_hand (box int) the_box) []) (at_hand (box int) the_box) alive (do_let the_box) (λ v. bound (box int)) (the_box, refl) let_is_ready)
 
 pub move_is_ready : MoveIsReady
 move_is_ready = (bound_typed.0, record { state = bound_typed.1; found = refl; goes_on = is_main; at = refl; leaves = loud []; after = going (put_at (variable (box int) ∷ []) the_variable (gone (own (box int)))) (own (box int) ∷ []) unit; row = r_move refl (record { named = refl; short = omega arith; is = refl }) refl refl refl; comes = λ v. refl })

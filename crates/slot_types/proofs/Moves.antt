@@ -52,12 +52,12 @@ use Rattle.plain_types.proofs.Operands.{steps_typed}
 use Rattle.plain_types.proofs.Places.{variable_below, variable_seen, leads, value_there, seen_val_of}
 use Rattle.plain_types.proofs.Borrows.{variable_clear}
 use Rattle.slot_types.specs.SlotActs.{IsMove}
-use Rattle.slot_types.proofs.Rethread.{Stood, rethread}
-use Rattle.slot_types.proofs.SlotTurn.{some_none, slot_two, temp_two, same_two, alike_swap, slots_changed}
-use Rattle.slot_types.proofs.Lets.{owned_in, lock_with}
-use Rattle.slot_types.proofs.OwnPaths.{own_part, swapped_types, swapped_refs, own_swapped}
-use Rattle.slot_types.proofs.Envs.{hidden_put, owned_put, part_exact, part_type, owned_under}
-use Rattle.slot_types.proofs.Written.{Writes, slots_same, objects_same, spot_same, still_there, was_there, slots_many, made_many, held_same, mark_same, mark_was}
+use Rattle.plain_types.proofs.Rethread.{Stood, rethread}
+use Rattle.plain_types.proofs.SlotTurn.{some_none, slot_two, temp_two, same_two, alike_swap, slots_changed}
+use Rattle.plain_types.proofs.Slots.{owned_in, lock_with}
+use Rattle.plain_types.proofs.OwnPaths.{own_part, swapped_types, swapped_refs, own_swapped}
+use Rattle.plain_types.proofs.Envs.{hidden_put, owned_put, part_exact, part_type, owned_under}
+use Rattle.plain_types.proofs.Written.{Writes, slots_same, objects_same, spot_same, still_there, was_there, slots_many, made_many, held_same, mark_same, mark_was}
 
 -- THE TYPES AFTER A MOVE
 

@@ -2,12 +2,8 @@
 use Rattle.std.specs.Prelude.{◌≡◌, true}
 use Rattle.fr_base.specs.declared.place.Lval.{Lval}
 use Rattle.fr_plain.specs.declared.value.Value.{Value}
-use Rattle.fr_plain.specs.MachineActs.{Act, do_let, do_read, do_box}
+use Rattle.fr_plain.specs.MachineActs.{Act, do_read, do_box}
 use Rattle.plain_types.specs.Positions.{Position}
-
--- `let`
-abbrev pub IsLet : Act Position → Type 0
-IsLet a = (v : Value) × (a ≡ do_let v)
 
 -- a read that moves
 abbrev pub IsMove : Act Position → Type 0

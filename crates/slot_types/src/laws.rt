@@ -1,21 +1,19 @@
 //! Laws of the typing of acts that change slots, or make an object.
 
 ghost use Rattle.plain_types.specs.Keeps.{Keeps};
-ghost use Rattle.slot_types.specs.Example.{BoxIsReady, LetIsReady, MoveIsReady};
-ghost use Rattle.slot_types.specs.SlotActs.{IsBox, IsLet, IsMove};
+ghost use Rattle.slot_types.specs.Example.{BoxIsReady, MoveIsReady};
+ghost use Rattle.slot_types.specs.SlotActs.{IsBox, IsMove};
 
 /// In a typed state, with whatever threads, mutexes and pairs, an act of this form that a row grants can be done without a new
 /// name, and leaves a typed state. A clause an act.
 pub fn slot_acts_keep_types()
-    ensures bind { Keeps IsLet }
     ensures take { Keeps IsMove }
     ensures wrap { Keeps IsBox }
 {}
 
-/// At main's start 1 may be boxed; then the box may be bound, and then moved. So there are typed states in which the acts of the law above are
-/// granted, each by the law before it.
+/// At main's start 1 may be boxed; once it is bound, the box may be moved. So there are typed states in which the acts of the law above are
+/// granted, the second by the laws before it.
 pub fn slot_acts_are_ready()
     ensures wrap { BoxIsReady }
-    ensures bind { LetIsReady }
     ensures take { MoveIsReady }
 {}

@@ -1,4 +1,4 @@
-//! A plain step that lets, moves or boxes a value keeps a state typed, for running terms and code alike. There is no code here: a law is
+//! A plain step that moves or boxes a value keeps a state typed, for running terms and code alike. There is no code here: a law is
 //! the contract of a function with an empty body.
 #![tactic(auto)]
 

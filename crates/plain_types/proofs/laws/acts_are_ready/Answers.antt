@@ -1,5 +1,8 @@
 use Rattle.plain_types.proofs.laws.acts_are_ready.Goals as goal
-use Rattle.plain_types.proofs.Example.{print_is_ready}
+use Rattle.plain_types.proofs.Example.{print_is_ready, let_is_ready}
 
-pub returns : goal.returns
-returns c = print_is_ready
+pub returns-clause-print : goal.returns-clause-print
+returns-clause-print c = print_is_ready
+
+pub returns-clause-bind : goal.returns-clause-bind
+returns-clause-bind c = let_is_ready

@@ -2,6 +2,7 @@ use Rattle.plain_types.proofs.laws.acts_keep_types.Goals as goal
 use Rattle.plain_types.proofs.Numbers.{print_keeps, arith_keeps}
 use Rattle.plain_types.proofs.Borrows.{borrow_keeps, borrow_mut_keeps}
 use Rattle.plain_types.proofs.Copies.{copy_keeps}
+use Rattle.plain_types.proofs.Lets.{let_keeps}
 
 pub returns-clause-print : goal.returns-clause-print
 returns-clause-print c = print_keeps
@@ -17,3 +18,6 @@ returns-clause-borrow_mut c = borrow_mut_keeps
 
 pub returns-clause-copy : goal.returns-clause-copy
 returns-clause-copy c = copy_keeps
+
+pub returns-clause-bind : goal.returns-clause-bind
+returns-clause-bind c = let_keeps

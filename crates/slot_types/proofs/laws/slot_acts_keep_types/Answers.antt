@@ -1,10 +1,6 @@
 use Rattle.slot_types.proofs.laws.slot_acts_keep_types.Goals as goal
-use Rattle.slot_types.proofs.Lets.{let_keeps}
 use Rattle.slot_types.proofs.Moves.{move_keeps}
 use Rattle.slot_types.proofs.Boxes.{box_keeps}
-
-pub returns-clause-bind : goal.returns-clause-bind
-returns-clause-bind c = let_keeps
 
 pub returns-clause-take : goal.returns-clause-take
 returns-clause-take c = move_keeps

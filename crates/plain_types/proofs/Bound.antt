@@ -24,7 +24,7 @@ use Rattle.plain_types.specs.Positions.{Position, PositionTypes}
 use Rattle.plain_types.proofs.Lower.{decide_less}
 use Rattle.plain_types.proofs.Raised.{ranked_by, reranked}
 use Rattle.plain_types.proofs.Hand.{At}
-use Rattle.slot_types.proofs.Rethread.{IsOwn, rethread}
+use Rattle.plain_types.proofs.Rethread.{IsOwn, rethread}
 
 -- RANKS
 

@@ -18,7 +18,7 @@ use Rattle.fr_store.proofs.Rows.{unnamed_with}
 use Rattle.fr_store.proofs.Below.{or_false}
 use Rattle.fr_store.proofs.PutAt.{length_put, nested_put}
 use Rattle.fr_store.proofs.ThreadKept.{exact_with, known_tree, lent_ref, slots_with}
-use Rattle.slot_types.proofs.Rethread.{rethread}
+use Rattle.plain_types.proofs.Rethread.{rethread}
 
 -- OWN PATHS
 

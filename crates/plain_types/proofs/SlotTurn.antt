@@ -28,7 +28,7 @@ use Rattle.plain_types.proofs.Changed.{changed_typed}
 use Rattle.plain_types.proofs.Focus.{Tops, hand_at, Focus, unfocus, temp_is}
 use Rattle.plain_types.proofs.AtHand.{Only, result_same}
 use Rattle.plain_types.proofs.Hand.{At}
-use Rattle.slot_types.proofs.Rethread.{IsOwn, Stood}
+use Rattle.plain_types.proofs.Rethread.{IsOwn, Stood}
 
 -- WHAT STANDS AT THE THREAD'S KEYS AFTER THE CHANGE
 

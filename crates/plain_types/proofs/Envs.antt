@@ -10,7 +10,7 @@ use Rattle.fr_store.specs.Typed.{Tree, hole, box_tree, KeyTypes, tree_under}
 use Rattle.fr_store.specs.Below.{tree_of, TreeOf, ExactOf, SlotsBelow}
 use Rattle.fr_store.proofs.PutAt.{length_put}
 use Rattle.fr_sound.specs.States.{env_at, part_at, part_of, owned_part, is_hidden}
-use Rattle.slot_types.proofs.Lets.{owned_in}
+use Rattle.plain_types.proofs.Slots.{owned_in}
 
 -- slots keep their names
 pub hidden_put : (e : Env) (w : Lval) (new : Piece) (i : ℕ) → is_hidden (env_at (put_at e w new) i) ≡ is_hidden (env_at e i)
