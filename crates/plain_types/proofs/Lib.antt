@@ -2,6 +2,7 @@ pub mod CodeRows
 pub mod Lower
 pub mod OneThread
 pub mod Marks
+pub mod Turns
 pub mod Turned
 pub mod Changed
 pub mod Raised
