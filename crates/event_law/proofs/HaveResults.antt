@@ -1,15 +1,26 @@
--- An eviction that is enabled has a result, and so has the delivery of a thread, whatever else there is in the cluster.
-use Rattle.std.proofs.Common.{◌≡◌, ℕ, Bool, true, false, if◌then◌else◌, length, Option, Some, None, IsSome, refl, sym, subst}
+-- An eviction that is enabled has a result, whatever else there is in the cluster; in a sound one so has the delivery of a thread, since none of its number stands there.
+use Rattle.std.proofs.Common.{◌≡◌, ◌≤◌, ℕ, ◌+◌, Bool, true, false, if◌then◌else◌, length, Option, Some, None, IsSome, refl, sym, ap, subst, arith}
 use Rattle.std.specs.Prelude.{slice_get, option_map}
+use Rattle.std.proofs.lemmas.Bool.{eq-eqb}
+use Rattle.thread_state.specs.View.{ThreadState}
 use Rattle.server_msgs.specs.declared.message.Message.{Message}
 use Rattle.server_msgs.specs.declared.message.Message.TheVariants as message
 use Rattle.journal.specs.View.{EntryView}
 use Rattle.server_model.specs.declared.event.What.{What}
 use Rattle.server_model.specs.declared.event.What.TheVariants.{Deliver, Evict}
 use Rattle.server_model.specs.Servers.{Server, Cluster, server_at}
-use Rattle.server_model.specs.Work.{then_some}
+use Rattle.server_model.specs.Work.{thread_in, then_some}
+use Rattle.server_model.specs.Joining.{stand, arrive}
 use Rattle.server_model.specs.Events.{enabled, left_by, received, deliver_message, does}
 use Rattle.server_model.specs.Clusters.{hand_over_newer}
+use Rattle.heap_law.specs.Names.{tot, one}
+use Rattle.heap_law.specs.Things.{Thing, message_things, thread_things}
+use Rattle.heap_law.specs.Weights.{is_thread}
+use Rattle.heap_law.specs.Coherent.{IsSound}
+use Rattle.heap_law.proofs.Sums.{server_parts}
+use Rattle.event_law.proofs.Trades.{tot-remove}
+use Rattle.event_law.proofs.Bags.{had_by, thread_number, tot-without}
+use Rattle.event_law.proofs.Events.{tot-server}
 use Rattle.event_law.specs.Laws.{HasResult, EvictionsHaveResults, StartsHaveResults, ParcelsHaveResults}
 
 pub some_map : {X Y : Type 0} (f : X → Y) (o : Option X) → IsSome o → IsSome (option_map f o)
@@ -38,8 +49,30 @@ arrives k n i s m here on q h =
     applied k n (Deliver i) s here on
     (subst (λ (o : Option Message). IsSome (option_map (left_by s.events None None) (then_some o (λ z. deliver_message k.code z (received i s))))) (sym q) (some_map (left_by s.events None None) (deliver_message k.code m (received i s)) h))
 
+-- THREADS UNDER WAY
+
+module _ (k : Cluster) (sound : IsSound k) (number i : ℕ) (s : Server) (here : server_at k.servers number ≡ Some s) where
+  abbrev n : ℕ
+  n = s.rest.number
+
+  -- of a thread under way none of its number stands there
+  alone : (m : Message) (t : ThreadState) → slice_get s.rest.inbox i ≡ Some m → ((f : Thing → ℕ) → tot f (thread_things n true t) ≤ tot f (message_things n m)) → thread_in s.threads t.number ≡ None
+  alone m t q within = by (thread_in s.threads t.number) refl
+    where
+      by : (o : Option ThreadState) → thread_in s.threads t.number ≡ o → o ≡ None
+      by None e = refl
+      by (Some y) e =
+          let f = is_thread t.number in
+          let once = sound.names.numbers_differ t.number in
+          let packed : tot f (thread_things n true t) ≡ 1 + tot f (had_by n t) = ap (λ b. one b + tot f (had_by n t)) (eq-eqb t.number t.number refl) in
+          let standing : tot f (thread_things n false y) ≡ 1 + tot f (had_by n y) = ap (λ b. one b + tot f (had_by n y)) (eq-eqb y.number t.number (thread_number s.threads t.number y e)) in
+          absurd (omega (arith, once, packed, standing, within f, (tot-server f k.servers number s s here).0, server_parts f s, tot-remove (λ x. message_things n x) f 0 s.rest.inbox i m q, tot-without n f s.threads t.number y e))
+
+  stands : (m : Message) (t : ThreadState) → slice_get s.rest.inbox i ≡ Some m → ((f : Thing → ℕ) → tot f (thread_things n true t) ≤ tot f (message_things n m)) → IsSome (arrive t (received i s))
+  stands m t q within = subst (λ o. IsSome (stand o t (received i s))) (sym (alone m t q within)) refl
+
 pub starts : StartsHaveResults
-starts k n i s t here on q = arrives k n i s (message.Start t) here on q refl
+starts k n i s t sound here on q = arrives k n i s (message.Start t) here on q (stands k sound n i s here (message.Start t) t q (λ f. omega arith))
 
 pub parcels : ParcelsHaveResults
-parcels k n i s t here on q = arrives k n i s (message.Migrate t) here on q refl
+parcels k n i s t sound here on q = arrives k n i s (message.Migrate t) here on q (stands k sound n i s here (message.Migrate t) t q (λ f. omega arith))

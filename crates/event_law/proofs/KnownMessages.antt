@@ -42,7 +42,7 @@ use Rattle.server_model.specs.Joining.{answer_join, deliver_join, waits_for_join
 use Rattle.server_model.specs.Events.{release, deliver_message}
 use Rattle.journal.specs.declared.act.Act.TheVariants as act
 use Rattle.event_law.specs.Laws.{Gives}
-use Rattle.event_law.proofs.Results.{then_gives, map_gives, over_gives, bind_gives, test_gives}
+use Rattle.event_law.proofs.Results.{then_gives, map_gives, over_gives, bind_gives, test_gives, stand_gives}
 use Rattle.event_law.proofs.ObjectMessages.{looked_object}
 use Rattle.event_law.proofs.Sends.{Sends, sends_more}
 use Rattle.event_law.proofs.Known.{Here, OwnedKnown, CellKnown}
@@ -319,8 +319,8 @@ module _ (ss : List Server) (r : Rest) where
   message_sends code (message.Dup m s t) x k known a = beside (deliver_dup m s t) x (dups m s t x.work k a)
   message_sends code (message.Dupped m t) x k known a = at t (deliver_dupped m) x (λ y. test_gives SentHand (waits_for_dup y.phase m) _ (λ on. gives_it (owned.Mutex m) y.gift (record { work = x.work; thread = y }) a))
   message_sends code (message.Release m) x k known a = beside (release m) x (releases m x.work known a)
-  message_sends code (message.Start t) x k known a = a
+  message_sends code (message.Start t) x k known a = stand_gives SentSite (thread_in x.threads t.number) t x a
   message_sends code (message.Join u s t) x k known a = beside (deliver_join u s t) x (joins u s t x.work k a)
   message_sends code (message.Joined u v t) x k known a = at t (deliver_joined u v) x (λ y. test_gives SentHand (waits_for_join y.phase u) _ (λ on. gives_it v y.gift (record { work = x.work; thread = y }) a))
   message_sends code (message.Finished u v) x k known a = finishes u v x k known.tasks_named a
-  message_sends code (message.Migrate t) x k known a = a
+  message_sends code (message.Migrate t) x k known a = stand_gives SentSite (thread_in x.threads t.number) t x a

@@ -1,7 +1,9 @@
 -- What holds of a result, where there is one.
 use Rattle.std.proofs.Common.{◌≡◌, Bool, true, false, if◌then◌else◌, Option, Some, None, refl, subst}
 use Rattle.std.specs.Prelude.{option_map}
-use Rattle.server_model.specs.Work.{then_some}
+use Rattle.thread_state.specs.View.{ThreadState}
+use Rattle.server_model.specs.Work.{Site, with_thread, then_some}
+use Rattle.server_model.specs.Joining.{stand}
 use Rattle.event_law.specs.Laws.{Gives}
 
 pub then_gives : {X Y : Type 0} (P : Y → Type 0) (x : Option X) (go : X → Option Y) → ((a : X) → x ≡ Some a → Gives P (go a)) → Gives P (then_some x go)
@@ -33,3 +35,9 @@ weaker P Q (Some a) h k = k a h
 pub given_by : {X : Type 0} (P : X → Type 0) (x : Option X) (a : X) → Gives P x → x ≡ Some a → P a
 given_by P None a h e = cc
 given_by P (Some b) a h e = let same : b ≡ a = cc in subst P same h
+
+-- A THREAD THAT ARRIVES
+
+pub stand_gives : (P : Site → Type 0) (o : Option ThreadState) (t : ThreadState) (x : Site) → P (record x { threads = with_thread x.threads t }) → Gives P (stand o t x)
+stand_gives P None t x h = h
+stand_gives P (Some y) t x h = tt

@@ -7,14 +7,14 @@ use Rattle.join_home.specs.Tasks.{Task, TaskState, going, let_go, kept, asked, i
 use Rattle.thread_state.specs.View.{ThreadState}
 use Rattle.server_msgs.specs.declared.message.Message.TheVariants as message
 use Rattle.journal.specs.declared.act.Act.TheVariants as act
-use Rattle.server_model.specs.Work.{Work, Site, note, with_tasks, with_thread}
+use Rattle.server_model.specs.Work.{Work, Site, note, with_tasks, thread_in, with_thread}
 use Rattle.server_model.specs.Joining.{arrive, answer, answer_join, deliver_join, release_task}
 use Rattle.heap_law.specs.Names.{tot}
 use Rattle.heap_law.specs.Things.{Thing, in_hand, as_result, holds, stands, sent, noted, things_at, result_things, task_things, thread_things}
 use Rattle.event_law.specs.Laws.{Gives}
 use Rattle.event_law.proofs.Trades.{Trade, tot-append, tot-front, trade_none, trade_left}
 use Rattle.event_law.proofs.Rules.{Rule, turned, hands_on, sends, notes, unnotes, packs, beside, in_turn, Kept, Spends}
-use Rattle.event_law.proofs.Results.{over_gives}
+use Rattle.event_law.proofs.Results.{over_gives, stand_gives}
 use Rattle.event_law.proofs.Bags.{WorkOk, SiteOk, all_standing, rest_things, of_tasks}
 use Rattle.event_law.proofs.Chains.{work_trades, work_sends}
 use Rattle.event_law.proofs.Objects.{one_goes}
@@ -155,4 +155,4 @@ module _ {K : List Thing → Type 0} (k : Kept K) (n e : ℕ) where
         before = λ f. omega (arith, tot-append f a (r ++ (packed ++ others)), tot-append f r (packed ++ others), tot-append f packed others, tot-append f (Rattle.event_law.proofs.Bags.had_by n p) (a ++ (r ++ others)), tot-append f a (r ++ others), tot-append f r others);
         after = λ f. omega (arith, tot-with f x.threads p, tot-append f (all_standing n (with_thread x.threads p)) (r ++ others), tot-append f r others, tot-append f (Rattle.event_law.proofs.Bags.had_by n p) (a ++ (r ++ others)), tot-append f a (r ++ others));
       } in
-      record { number = g.number; bag = k.trades both (packs n n true false p p refl) g.bag }
+      stand_gives (SiteOk K n e others) (thread_in x.threads p.number) p x (record { number = g.number; bag = k.trades both (packs n n true false p p refl) g.bag })

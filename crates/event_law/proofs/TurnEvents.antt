@@ -30,7 +30,7 @@ use Rattle.heap_law.specs.Coherent.{IsSound}
 use Rattle.heap_law.proofs.Names.{and_left}
 use Rattle.heap_law.proofs.Sums.{server_parts}
 use Rattle.event_law.specs.Laws.{Gives, FewEvents, OneResult, EachEventLeaves, EachEventHandedOver}
-use Rattle.event_law.proofs.Results.{then_gives, over_gives, test_gives, weaker}
+use Rattle.event_law.proofs.Results.{then_gives, over_gives, test_gives, weaker, stand_gives}
 use Rattle.event_law.proofs.Events.{tot-server}
 use Rattle.event_law.proofs.MutexLists.{mutex_goes}
 use Rattle.event_law.proofs.Each.{names_left}
@@ -96,8 +96,8 @@ module _ (k : Cluster) (sound : IsSound k) (few : FewEvents k) (number : ℕ) (s
         (λ a x c d. omega (arith, dup_takes k sound number s here t y e m on a x c)) (owned.Mutex m) y.gift (awaits_dup y.phase m on)))
     message_turns (message.Release (released.Mutex x)) q = beside k.code s i (message.Release (released.Mutex x)) q (release (released.Mutex x)) (release_turns k.code s i x (none_waits i x) q)
     message_turns (message.Release (released.Task u)) q = beside k.code s i (message.Release (released.Task u)) q (release (released.Task u)) (let_go_turns k.code s i u q)
-    message_turns (message.Start t) q = arrives k.code s i (message.Start t) t q (λ f. refl) (record { answers = λ u. refl; pairs = λ b. refl; going = λ u. refl; homes = omega arith; ends = λ u. omega arith })
-    message_turns (message.Migrate t) q = arrives k.code s i (message.Migrate t) t q (λ f. refl) (record { answers = λ u. refl; pairs = λ b. refl; going = λ u. refl; homes = omega arith; ends = λ u. omega arith })
+    message_turns (message.Start t) q = stand_gives (SiteTurns k.code s i (message.Start t) q) (thread_in s.threads t.number) t (received i s) (arrives k.code s i (message.Start t) t q (λ f. refl) (record { answers = λ u. refl; pairs = λ b. refl; going = λ u. refl; homes = omega arith; ends = λ u. omega arith }))
+    message_turns (message.Migrate t) q = stand_gives (SiteTurns k.code s i (message.Migrate t) q) (thread_in s.threads t.number) t (received i s) (arrives k.code s i (message.Migrate t) t q (λ f. refl) (record { answers = λ u. refl; pairs = λ b. refl; going = λ u. refl; homes = omega arith; ends = λ u. omega arith }))
     message_turns (message.Join u r t) q = beside k.code s i (message.Join u r t) q (deliver_join u r t) (join_turns k.code s i u r t q)
     message_turns (message.Joined u v t) q =
         at k.code s i (message.Joined u v t) q (received i s).work t (deliver_joined u v) (λ y e. test_gives _ (waits_for_join y.phase u) _ (λ on.

@@ -209,15 +209,15 @@ HasResult k n w = IsSome (apply k (record { server = n; what = w }))
 abbrev pub EvictionsHaveResults : Type 0
 EvictionsHaveResults = (k : Cluster) (n w : ℕ) (s : Server) → server_at k.servers n ≡ Some s → enabled k.options s (Evict w) ≡ true → HasResult k n (Evict w)
 
--- the delivery of a new thread
+-- the delivery of a new thread, in a sound cluster
 abbrev pub StartsHaveResults : Type 0
 StartsHaveResults =
-    (k : Cluster) (n i : ℕ) (s : Server) (t : ThreadState) → server_at k.servers n ≡ Some s → enabled k.options s (Deliver i) ≡ true → slice_get s.rest.inbox i ≡ Some (Start t) → HasResult k n (Deliver i)
+    (k : Cluster) (n i : ℕ) (s : Server) (t : ThreadState) → IsSound k → server_at k.servers n ≡ Some s → enabled k.options s (Deliver i) ≡ true → slice_get s.rest.inbox i ≡ Some (Start t) → HasResult k n (Deliver i)
 
 -- that of a thread that moved
 abbrev pub ParcelsHaveResults : Type 0
 ParcelsHaveResults =
-    (k : Cluster) (n i : ℕ) (s : Server) (t : ThreadState) → server_at k.servers n ≡ Some s → enabled k.options s (Deliver i) ≡ true → slice_get s.rest.inbox i ≡ Some (Migrate t) → HasResult k n (Deliver i)
+    (k : Cluster) (n i : ℕ) (s : Server) (t : ThreadState) → IsSound k → server_at k.servers n ≡ Some s → enabled k.options s (Deliver i) ≡ true → slice_get s.rest.inbox i ≡ Some (Migrate t) → HasResult k n (Deliver i)
 
 -- a migration that is enabled, in a sound cluster
 abbrev pub MigrationsHaveResults : Type 0

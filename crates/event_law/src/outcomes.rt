@@ -2,7 +2,7 @@
 
 ghost use Rattle.event_law.specs.Laws.{AnswersHaveResults, DupsHaveResults, EvictionsHaveResults, FetchedHaveResults, FinishesHaveResults, JoinsHaveResults, MigrationsHaveResults, MutexesHaveResults, ParcelsHaveResults, StartsHaveResults, StepsHaveResults, TasksLetGoHaveResults};
 
-/// The eviction of a copy that nobody uses, and the delivery of a thread, in whatever cluster.
+/// The eviction of a copy that nobody uses, in whatever cluster, and the delivery of a thread, in a sound one.
 pub fn leaving_and_arriving()
     ensures evictions { EvictionsHaveResults }
     ensures starts { StartsHaveResults }
