@@ -1,20 +1,16 @@
 -- What the entries of a home's map stand for, once one of them is found or changed.
-use Rattle.std.proofs.Common.{◌≡◌, ℕ, zero, suc, ◌+◌, Bool, true, false, true≢false, not, ◌&&◌, ◌==◌, cond, List, [], ◌∷◌, drop, slice_get, None, Some, refl, sym, ap, ◌∙◌, arith}
-use Rattle.std.specs.Map.{lookup, set_value}
+use Rattle.std.proofs.Common.{◌≡◌, ℕ, Bool, true, false, true≢false, not, ◌&&◌, ◌||◌, ◌==◌, cond, if◌then◌else◌, List, [], ◌∷◌, Option, None, Some, is_some, IsSome, refl, sym, ap, subst, ◌∙◌}
+use Rattle.std.specs.List.{AllByRecursion, IsDistinct}
+use Rattle.std.specs.Map.{keys_of, lookup, set_value}
 use Rattle.std.proofs.lemmas.Bool.{eq-eqb, eqb-true, and_parts}
 use Rattle.indexmap.specs.IndexMap.{shift_remove_entry, insert_entry}
 use Rattle.join_home.specs.declared.note.Note.{Note}
-use Rattle.join_home.specs.Tasks.{Task, TaskState, task_in, state_in, state_of, with_state, without_task, noted, can_begin, can_begin_pair, has_pair, over_of, over_in}
-use Rattle.join_home.specs.Notes.{state_by, tasks_in, state_in_note}
+use Rattle.join_home.specs.declared.note.Note.TheVariants.{Going, Dropped, Ended, Asked, Branch}
+use Rattle.join_home.specs.Tasks.{Task, TaskState, task_in, state_in, state_of, with_state, without_task, noted, can_begin, can_begin_pair, has_parent, has_pair, over_of, over_in}
+use Rattle.join_home.specs.Notes.{state_by, tasks_in, state_in_note, half_by, half_in_note, note_at, half_at, KnowsHalves}
 
 abbrev Entries : Type 0
 Entries = List (ℕ × Note)
-
-ap₀ : {e : ℕ × Note} {k : ℕ} {note : Note} → Some e ≡ Some (k, note) → e.0 ≡ k
-ap₀ h = cc
-
-ap₁ : {e : ℕ × Note} {k : ℕ} {note : Note} → Some e ≡ Some (k, note) → e.1 ≡ note
-ap₁ h = cc
 
 -- the two ways to test a number answer alike
 flip : (t k : ℕ) → (t == k) ≡ (k == t)
@@ -64,18 +60,159 @@ module _ (t : ℕ) where
       by true p ih = absurd (true≢false (sym (rw p at h)))
       by false p ih = rw (flip t e.0, p) (ap (λ xs. record { thread = e.0; state = state_by e.1 } ∷ xs) (ih (rw p at h)))
 
--- the branch that has ended is looked for entry by entry
-module _ (p : ℕ) where
-  pub over_next : (es : Entries) (at k : ℕ) (note : Note) → slice_get es at ≡ Some (k, note) → over_in (tasks_in (drop at es)) p ≡ cond (over_of p (state_by note)) (Some k) (over_in (tasks_in (drop (at + 1) es)) p)
-  over_next [] at k note h = absurd cc
-  over_next (e ∷ es) zero k note h = rw (ap₁ h, ap₀ h) refl
-  over_next (e ∷ es) (suc at) k note h = let q : suc at + 1 ≡ suc (at + 1) = omega arith in rw q (over_next es at k note h)
+abbrev parent_in : Option (ℕ × ℕ) → ℕ
+parent_in None = 0
+parent_in (Some x) = x.0
 
-  pub over_none : (es : Entries) (at : ℕ) → None ≡ slice_get es at → over_in (tasks_in (drop at es)) p ≡ None
-  over_none [] zero h = refl
-  over_none [] (suc at) h = refl
-  over_none (e ∷ es) zero h = absurd cc
-  over_none (e ∷ es) (suc at) h = over_none es at h
+-- no key behind an entry is its own
+apart : (t k : ℕ) (es : Entries) (note : Note) → AllByRecursion (λ x. (k == x) ≡ false) (keys_of es) → note_at es t ≡ Some note → (t == k) ≡ false
+apart t k [] note d h = absurd cc
+apart t k (e ∷ es) note d h = by (t == e.0) refl (apart t k es note d.1)
+  where
+    by : (b : Bool) → (t == e.0) ≡ b → (note_at es t ≡ Some note → (t == k) ≡ false) → (t == k) ≡ false
+    by true p ih = rw (eqb-true t e.0 p) (flip e.0 k ∙ d.0)
+    by false p ih = ih (rw p at h)
+
+-- the first branch that has ended stands under its number, where no two keys are equal
+module _ (p : ℕ) where
+  pub over_found : (es : Entries) (t : ℕ) → IsDistinct (λ x y. x == y) (keys_of es) → over_in (tasks_in es) p ≡ Some t → (note : Note) × (note_at es t ≡ Some note) × (over_of p (state_by note) ≡ true)
+  unfolding IsDistinct
+  over_found [] t d h = absurd cc
+  over_found (e ∷ es) t d h = by (over_of p (state_by e.1)) refl (over_found es t d.1)
+    where
+      by : (b : Bool) → over_of p (state_by e.1) ≡ b → (over_in (tasks_in es) p ≡ Some t → (note : Note) × (note_at es t ≡ Some note) × (over_of p (state_by note) ≡ true))
+          → (note : Note) × (note_at (e ∷ es) t ≡ Some note) × (over_of p (state_by note) ≡ true)
+      by true o ih = let m : Some e.0 ≡ Some t = (rw o at h) in let k : e.0 ≡ t = cc in (e.1, rw (← k, eq-eqb e.0 e.0 refl) refl, o)
+      by false o ih =
+          let f = ih (rw o at h) in
+          (f.0, rw (apart t e.0 es f.0 d.0 f.1) f.1, f.2)
+
+  pub over_missing : (es : Entries) (t : ℕ) (note : Note) → over_in (tasks_in es) p ≡ None → note_at es t ≡ Some note → over_of p (state_by note) ≡ false
+  over_missing [] t note h n = absurd cc
+  over_missing (e ∷ es) t note h n = by (over_of p (state_by e.1)) refl (t == e.0) refl (over_missing es t note)
+    where
+      by : (b : Bool) → over_of p (state_by e.1) ≡ b → (q : Bool) → (t == e.0) ≡ q → (over_in (tasks_in es) p ≡ None → note_at es t ≡ Some note → over_of p (state_by note) ≡ false)
+          → over_of p (state_by note) ≡ false
+      by true o q k ih = let m : Some e.0 ≡ None = (rw o at h) in absurd cc
+      by false o true k ih = let m : Some e.1 ≡ Some note = (rw k at n) in let same : e.1 ≡ note = cc in rw (← same) o
+      by false o false k ih = ih (rw o at h) (rw k at n)
+
+  pub over_half : (note : Note) → over_of p (state_by note) ≡ true → (o : ℕ) × (half_by note ≡ Some (p, o))
+  over_half Going h = absurd (true≢false (sym h))
+  over_half Dropped h = absurd (true≢false (sym h))
+  over_half (Ended v) h = absurd (true≢false (sym h))
+  over_half (Asked s t) h = absurd (true≢false (sym h))
+  over_half (Branch q o v) h = (o, rw (eqb-true p q (and_parts (p == q) v h).0) refl)
+
+  -- no branch of a parent without a pair
+  pub no_pair : (es : Entries) (k o : ℕ) → has_pair (tasks_in es) p ≡ false → half_at es k ≡ Some (p, o) → true ≡ false
+  no_pair [] k o n h = cc
+  no_pair (e ∷ es) k o n h = by (has_parent p (state_by e.1)) refl (k == e.0) refl (no_pair es k o)
+    where
+      parent : (note : Note) → half_by note ≡ Some (p, o) → has_parent p (state_by note) ≡ true
+      parent Going q = absurd cc
+      parent Dropped q = absurd cc
+      parent (Ended v) q = absurd cc
+      parent (Asked s t) q = absurd cc
+      parent (Branch r u v) q = let m : r ≡ p = ap parent_in q in eq-eqb p r (sym m)
+
+      by : (b : Bool) → has_parent p (state_by e.1) ≡ b → (q : Bool) → (k == e.0) ≡ q → (has_pair (tasks_in es) p ≡ false → half_at es k ≡ Some (p, o) → true ≡ false) → true ≡ false
+      by true a q m ih = rw a at n
+      by false a true m ih = sym (parent e.1 (rw m at h)) ∙ a
+      by false a false m ih = ih (rw a at n) (rw m at h)
+
+abbrev pub over_at : ℕ → Option Note → Bool
+over_at p None = false
+over_at p (Some note) = over_of p (state_by note)
+
+-- the branch of a pair that has ended is the other half of the one that goes on
+module _ (es : Entries) (p t o : ℕ) where
+  pub other_over : IsDistinct (λ x y. x == y) (keys_of es) → note_at es t ≡ Some (Branch p o false) → KnowsHalves es → (found : Option Note) → note_at es o ≡ found
+      → over_in (tasks_in es) p ≡ (if over_at p found then Some o else None)
+  other_over d h known found f = by (over_in (tasks_in es) p) refl found f
+    where
+      no_other : (found : Option Note) → note_at es o ≡ found → over_in (tasks_in es) p ≡ None → None ≡ (if over_at p found then Some o else None)
+      no_other None f e = refl
+      no_other (Some note) f e = rw (over_missing p es o note e f) refl
+
+      this : (u : ℕ) (note : Note) → note_at es u ≡ Some note → over_of p (state_by note) ≡ true → (b : Bool) → (u == t) ≡ b → ((u == t) || (u == o)) ≡ true → u ≡ o
+      this u note n over true q e =
+          let same : u ≡ t = eqb-true u t q in
+          let m : Some note ≡ Some (Branch p o false) = sym n ∙ (rw (← same) at h) in
+          let k : note ≡ Branch p o false = cc in
+          absurd (true≢false (sym over ∙ ap (λ x. over_of p (state_by x)) k ∙ rw (eq-eqb p p refl) refl))
+      this u note n over false q e = eqb-true u o (rw q at e)
+
+      by : (r : Option ℕ) → over_in (tasks_in es) p ≡ r → (found : Option Note) → note_at es o ≡ found → r ≡ (if over_at p found then Some o else None)
+      by None e found f = no_other found f e
+      by (Some u) e found f =
+          let seen = over_found p es u d e in
+          let half = over_half p seen.0 seen.2 in
+          let same : u ≡ o = this u seen.0 seen.1 seen.2 (u == t) refl (known p t o u half.0 (ap half_in_note h) (ap half_in_note seen.1 ∙ half.1)) in
+          let m : found ≡ Some seen.0 = sym f ∙ subst (λ k. note_at es k ≡ Some seen.0) same seen.1 in
+          rw (same, m, seen.2) refl
+
+-- the halves are known still where no branch comes
+pub halves_stay : (es fs : Entries) → ((q : ℕ) (x : ℕ × ℕ) → half_at fs q ≡ Some x → half_at es q ≡ Some x) → KnowsHalves es → KnowsHalves fs
+halves_stay es fs stay known p k o j u h g = known p k o j u (stay k (p, o) h) (stay j (p, u) g)
+
+pub halves_less : (es fs : Entries) (t : ℕ) → ((q : ℕ) → note_at fs q ≡ cond (t == q) None (note_at es q)) → KnowsHalves es → KnowsHalves fs
+halves_less es fs t u = halves_stay es fs (λ q x h. by q x (t == q) (sym (ap half_in_note (u q)) ∙ h))
+  where
+    by : (q : ℕ) (x : ℕ × ℕ) (b : Bool) → half_in_note (cond b None (note_at es q)) ≡ Some x → half_at es q ≡ Some x
+    by q x true h = absurd cc
+    by q x false h = h
+
+pub halves_set : (es fs : Entries) (t : ℕ) (note : Note) → (IsSome (half_by note) → half_at es t ≡ half_by note) → ((q : ℕ) → note_at fs q ≡ cond (t == q) (Some note) (note_at es q)) → KnowsHalves es
+    → KnowsHalves fs
+halves_set es fs t note same u = halves_stay es fs (λ q x h. by q x (t == q) refl (sym (ap half_in_note (u q)) ∙ h))
+  where
+    by : (q : ℕ) (x : ℕ × ℕ) (b : Bool) → (t == q) ≡ b → half_in_note (cond b (Some note) (note_at es q)) ≡ Some x → half_at es q ≡ Some x
+    by q x true e h = rw (← (eqb-true t q e)) (same (ap is_some h) ∙ h)
+    by q x false e h = h
+
+is_not : (q : Bool) → not q ≡ true → q ≡ false
+is_not true h = absurd (true≢false (sym h))
+is_not false h = refl
+
+or_true : (q : Bool) → (q || true) ≡ true
+or_true true = refl
+or_true false = refl
+
+-- a branch after a pair began is one of the two, or was there before
+data Whose (es : Entries) (p a b q : ℕ) (x : ℕ × ℕ) : Type 0 where
+  first : q ≡ a → x ≡ (p, b) → Whose es p a b q x
+  second : q ≡ b → x ≡ (p, a) → Whose es p a b q x
+  old : half_at es q ≡ Some x → Whose es p a b q x
+
+module _ (es gs fs : Entries) (p a b : ℕ) where
+  pub pair_noted : can_begin_pair (tasks_in es) p a b ≡ true → ((q : ℕ) → note_at gs q ≡ (if a == q then Some (Branch p b false) else note_at es q))
+      → ((q : ℕ) → note_at fs q ≡ (if b == q then Some (Branch p a false) else note_at gs q)) → KnowsHalves es → KnowsHalves fs
+  pair_noted can g f known parent k o j u h i = by (whose k (parent, o) h) (whose j (parent, u) i)
+    where
+      none : has_pair (tasks_in es) p ≡ false
+      none =
+          let parts = and_parts (can_begin (tasks_in es) a && can_begin (tasks_in es) b) (not (a == b) && not (has_pair (tasks_in es) p)) can in
+          is_not (has_pair (tasks_in es) p) (and_parts (not (a == b)) (not (has_pair (tasks_in es) p)) parts.1).1
+
+      whose : (q : ℕ) (x : ℕ × ℕ) → half_at fs q ≡ Some x → Whose es p a b q x
+      whose q x h = of (b == q) refl (a == q) refl (sym (ap half_in_note (f q)) ∙ h)
+        where
+          of : (r : Bool) → (b == q) ≡ r → (s : Bool) → (a == q) ≡ s → half_in_note (if r then Some (Branch p a false) else note_at gs q) ≡ Some x → Whose es p a b q x
+          of true e s c h = let m : x ≡ (p, a) = cc in second (sym (eqb-true b q e)) m
+          of false e true c h = let w = sym (ap half_in_note (g q)) ∙ h in let n : Some (p, b) ≡ Some x = (rw c at w) in let m : x ≡ (p, b) = cc in first (sym (eqb-true a q c)) m
+          of false e false c h = let w = sym (ap half_in_note (g q)) ∙ h in old (rw c at w)
+
+      by : Whose es p a b k (parent, o) → Whose es p a b j (parent, u) → ((j == k) || (j == o)) ≡ true
+      by (old m) (old n) = known parent k o j u m n
+      by (old m) (first r s) = absurd (true≢false (no_pair p es k o none (rw (ap (λ x. x.0) s) at m)))
+      by (old m) (second r s) = absurd (true≢false (no_pair p es k o none (rw (ap (λ x. x.0) s) at m)))
+      by (first m n) (old s) = absurd (true≢false (no_pair p es j u none (rw (ap (λ x. x.0) n) at s)))
+      by (second m n) (old s) = absurd (true≢false (no_pair p es j u none (rw (ap (λ x. x.0) n) at s)))
+      by (first m n) (first r s) = rw (m, r, eq-eqb a a refl) refl
+      by (second m n) (second r s) = rw (m, r, eq-eqb b b refl) refl
+      by (first m n) (second r s) = rw (ap (λ x. x.1) n, r, eq-eqb b b refl) (or_true (b == k))
+      by (second m n) (first r s) = rw (ap (λ x. x.1) n, r, eq-eqb a a refl) (or_true (a == k))
 
 -- a thread that isn't there isn't there after another one began
 pub begin_second : (xs : List Task) (a b : ℕ) (s : TaskState) → can_begin xs b ≡ true → (a == b) ≡ false → can_begin (noted xs a s) b ≡ true

@@ -1,5 +1,6 @@
 -- What the entries of a home's map stand for.
-use Rattle.std.specs.Prelude.{ℕ, List, [], ◌∷◌, Option, None, Some}
+use Rattle.std.specs.Prelude.{◌≡◌, ℕ, true, ◌==◌, ◌||◌, List, [], ◌∷◌, Option, None, Some}
+use Rattle.std.specs.Map.{lookup}
 use Rattle.join_home.specs.Tasks.{Task, TaskState, going, let_go, kept, asked, in_pair}
 use Rattle.join_home.specs.declared.note.Note.{Note}
 use Rattle.join_home.specs.declared.note.Note.TheVariants.{Going, Dropped, Ended, Asked, Branch}
@@ -9,7 +10,7 @@ state_by Going = going
 state_by Dropped = let_go
 state_by (Ended value) = kept value
 state_by (Asked server thread) = asked server thread
-state_by (Branch parent over) = in_pair parent over
+state_by (Branch parent other over) = in_pair parent over
 
 abbrev pub tasks_in : List (ℕ × Note) → List Task
 tasks_in [] = []
@@ -18,3 +19,23 @@ tasks_in (e ∷ es) = record { thread = e.0; state = state_by e.1 } ∷ tasks_in
 abbrev pub state_in_note : Option Note → Option TaskState
 state_in_note None = None
 state_in_note (Some note) = Some (state_by note)
+
+-- the parent of a branch, and the other half of its pair
+abbrev pub half_by : Note → Option (ℕ × ℕ)
+half_by (Branch parent other over) = Some (parent, other)
+half_by note = None
+
+abbrev pub half_in_note : Option Note → Option (ℕ × ℕ)
+half_in_note None = None
+half_in_note (Some note) = half_by note
+
+-- what is noted of the thread k
+abbrev pub note_at : List (ℕ × Note) → ℕ → Option Note
+note_at es k = lookup (λ x. k == x) es
+
+abbrev pub half_at : List (ℕ × Note) → ℕ → Option (ℕ × ℕ)
+half_at es k = half_in_note (note_at es k)
+
+-- beside a branch k, only its other half has its parent
+abbrev pub KnowsHalves : List (ℕ × Note) → Type 0
+KnowsHalves es = (parent k other j further : ℕ) → half_at es k ≡ Some (parent, other) → half_at es j ≡ Some (parent, further) → ((j == k) || (j == other)) ≡ true

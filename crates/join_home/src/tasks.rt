@@ -1,9 +1,10 @@
 //! The threads that a server started, by their numbers.
 
-ghost use Rattle.std.specs.Prelude.{◌≡◌, ◌+◌, ◌≤◌, ◌<◌, [], true, None, Some, IsSome, IsOk, OnOk, OnErr, drop};
+ghost use Rattle.std.specs.Prelude.{◌≡◌, ◌+◌, ◌≤◌, ◌<◌, ◌==◌, ℕ, [], true, false, None, Some, IsSome, IsOk, OnOk, OnErr, if◌then◌else◌};
 ghost use Rattle.indexmap.specs.IndexMap.{spare};
 ghost use Rattle.join_home.specs.Tasks.{state_of, with_state, without_task, noted, over_of, over_in, pair_ended, can_begin, begin, can_begin_pair, begin_pair, ended, ask, let_go_of};
-ghost use Rattle.join_home.specs.Notes.{state_by, tasks_in, state_in_note};
+ghost use Rattle.join_home.specs.Notes.{state_by, tasks_in, state_in_note, half_by, half_at, note_at, KnowsHalves};
+ghost use Rattle.join_home.specs.declared.note.Note.TheVariants.{Branch};
 
 use crate::answers::EndedAs;
 use crate::note::Note;
@@ -17,8 +18,8 @@ use std::marker::Model;
 /// in the order in which they began, each with what is noted of it, and beside it as `room` how many more threads or pairs
 /// can begin without memory.
 ///
-/// A thread is found by its number in constant time. Where one goes, those that began later move up, since the order is kept; where
-/// a branch ends, the other one is looked for among all. Only `reserve` takes memory.
+/// A thread is found by its number in constant time, and so is the other half of a pair. Where a thread goes, those that began later
+/// move up, since the order is kept. Only `reserve` takes memory.
 #[derive(Drop)]
 pub struct Tasks {
     notes: IndexMap<u64, Note>,
@@ -29,19 +30,20 @@ pub struct Tasks {
 impl Model for Tasks {
     ghost use Rattle.std.specs.Prelude.{◌≤◌, ◌+◌};
     ghost use Rattle.indexmap.specs.IndexMap.{spare};
-    ghost use Rattle.join_home.specs.Notes.{tasks_in};
+    ghost use Rattle.join_home.specs.Notes.{tasks_in, KnowsHalves};
     ghost use Rattle.join_home.specs.View.{TasksView};
 
     ghost Value = { TasksView };
 
     ghost view = { λ t. record { state = tasks_in t.notes.entries; room = t.room } };
 
-    ghost invariant = { λ t. t.room + t.room ≤ spare t.notes };
+    ghost invariant = { λ t. (t.room + t.room ≤ spare t.notes) × KnowsHalves t.notes.entries };
 }
 
 // What is noted of a thread.
 fn note_of(notes: &IndexMap<u64, Note>, number: u64) -> Option<Note>
-    ensures { state_in_note result ≡ state_of (tasks_in notes.now.entries) number }
+    ensures note { result ≡ note_at notes.now.entries number }
+    ensures state { state_in_note result ≡ state_of (tasks_in notes.now.entries) number }
 {
     // The check asks that each type inside a note is named where a note is moved.
     let _inside: Option<Owned> = None;
@@ -51,9 +53,11 @@ fn note_of(notes: &IndexMap<u64, Note>, number: u64) -> Option<Note>
     }
 }
 
-// Notes another thing of a thread that is there.
+// Notes another thing of a thread that is there; a branch stays in its pair.
 fn set_note(notes: &mut IndexMap<u64, Note>, number: u64, note: Note)
+    requires half { IsSome (half_by note) → half_at notes.old.entries number ≡ half_by note }
     ensures tasks { tasks_in notes.new.entries ≡ with_state (tasks_in notes.old.entries) number (state_by note) }
+    ensures halves { KnowsHalves notes.old.entries → KnowsHalves notes.new.entries }
     ensures room { spare notes.new ≡ spare notes.old }
 {
     let _inside: Option<Owned> = None;
@@ -65,6 +69,7 @@ fn set_note(notes: &mut IndexMap<u64, Note>, number: u64, note: Note)
 // Takes out a thread; those that began later keep their order.
 fn remove(notes: &mut IndexMap<u64, Note>, number: u64)
     ensures tasks { tasks_in notes.new.entries ≡ without_task (tasks_in notes.old.entries) number }
+    ensures halves { KnowsHalves notes.old.entries → KnowsHalves notes.new.entries }
     ensures room { spare notes.old ≤ spare notes.new }
 {
     let _inside: Option<Owned> = None;
@@ -76,6 +81,7 @@ fn add(notes: &mut IndexMap<u64, Note>, number: u64, note: Note)
     requires room { 0 < spare notes.old }
     requires new { can_begin (tasks_in notes.old.entries) number ≡ true }
     ensures tasks { tasks_in notes.new.entries ≡ noted (tasks_in notes.old.entries) number (state_by note) }
+    ensures notes { (k : ℕ) → note_at notes.new.entries k ≡ (if number == k then Some note else note_at notes.old.entries k) }
     ensures room { spare notes.old ≤ spare notes.new + 1 }
 {
     let _inside: Option<Owned> = None;
@@ -85,47 +91,68 @@ fn add(notes: &mut IndexMap<u64, Note>, number: u64, note: Note)
     }
 }
 
+// Notes a pair. The two aren't there and differ, and the parent has no other pair here.
+fn add_pair(notes: &mut IndexMap<u64, Note>, parent: ThreadNo, a: ThreadNo, b: ThreadNo)
+    requires room { 1 < spare notes.old }
+    requires new { can_begin_pair (tasks_in notes.old.entries) parent a b ≡ true }
+    ensures tasks { tasks_in notes.new.entries ≡ begin_pair (tasks_in notes.old.entries) parent a b }
+    ensures halves { KnowsHalves notes.old.entries → KnowsHalves notes.new.entries }
+    ensures room { spare notes.old ≤ spare notes.new + 2 }
+{
+    add(notes, a.number(), Note::Branch(parent, b, false));
+    add(notes, b.number(), Note::Branch(parent, a, false));
+}
+
 // Whether it is a branch of that parent's pair that has ended.
 fn is_over(note: &Note, parent: ThreadNo) -> bool
     ensures { result ≡ over_of parent (state_by note.now) }
 {
     match note {
-        Note::Branch(of, over) => parent == *of && *over,
+        Note::Branch(of, _, over) => parent == *of && *over,
         Note::Going | Note::Dropped | Note::Ended(_) | Note::Asked(_, _) => false,
     }
 }
 
-// The first branch of that parent's pair that has ended.
-fn over_branch(notes: &IndexMap<u64, Note>, parent: ThreadNo) -> Option<u64>
-    ensures { result ≡ over_in (tasks_in notes.now.entries) parent }
+// Whether the other half of the pair of a branch that goes on has ended.
+fn is_other_over(
+    notes: &IndexMap<u64, Note>,
+    number: u64,
+    parent: ThreadNo,
+    other: ThreadNo,
+) -> bool
+    requires branch { note_at notes.now.entries number ≡ Some (Branch parent other false) }
+    requires halves { KnowsHalves notes.now.entries }
+    ensures { over_in (tasks_in notes.now.entries) parent ≡ (if result then Some other else None) }
 {
-    // The length is what says that `at + 1` fits.
+    let _inside: Option<Owned> = None;
+    // The length is what says that no two keys are equal.
     let _len = notes.len();
-    let mut at = 0;
-    while let Some((number, note)) = notes.get_index(at) {
-        if is_over(note, parent) {
-            return Some(*number);
-        }
-        at += 1;
+    match notes.get(&other.number()) {
+        Some(note) => is_over(note, parent),
+        None => false,
     }
-    None
 }
 
 // A branch of that parent's pair has ended: it waits for the other one, or both go.
-fn branch_ended(notes: &mut IndexMap<u64, Note>, number: u64, parent: ThreadNo) -> EndedAs
+fn branch_ended(
+    notes: &mut IndexMap<u64, Note>,
+    number: u64,
+    parent: ThreadNo,
+    other: ThreadNo,
+) -> EndedAs
+    requires branch { note_at notes.old.entries number ≡ Some (Branch parent other false) }
+    requires halves { KnowsHalves notes.old.entries }
     ensures tasks { pair_ended (tasks_in notes.old.entries) number parent (over_in (tasks_in notes.old.entries) parent) ≡ (tasks_in notes.new.entries, result) }
+    ensures halves { KnowsHalves notes.new.entries }
     ensures room { spare notes.old ≤ spare notes.new }
 {
-    match over_branch(notes, parent) {
-        None => {
-            set_note(notes, number, Note::Branch(parent, true));
-            EndedAs::Kept
-        }
-        Some(other) => {
-            remove(notes, number);
-            remove(notes, other);
-            EndedAs::Both(parent)
-        }
+    if is_other_over(notes, number, parent, other) {
+        remove(notes, number);
+        remove(notes, other.number());
+        EndedAs::Both(parent)
+    } else {
+        set_note(notes, number, Note::Branch(parent, other, true));
+        EndedAs::Kept
     }
 }
 
@@ -180,8 +207,7 @@ impl Tasks {
         ensures state { self.new.state ≡ begin_pair self.old.state parent a b }
         ensures spare { self.new.room + 1 ≡ self.old.room }
     {
-        add(&mut self.notes, a.number(), Note::Branch(parent, false));
-        add(&mut self.notes, b.number(), Note::Branch(parent, false));
+        add_pair(&mut self.notes, parent, a, b);
         self.room -= 1;
     }
 
@@ -206,7 +232,9 @@ impl Tasks {
                 remove(&mut self.notes, number);
                 EndedAs::Answer(*server, *by, value)
             }
-            Some(Note::Branch(parent, false)) => branch_ended(&mut self.notes, number, *parent),
+            Some(Note::Branch(parent, other, false)) => {
+                branch_ended(&mut self.notes, number, *parent, *other)
+            }
             _ => unreachable!(),
         }
     }
