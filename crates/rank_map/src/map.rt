@@ -1,6 +1,6 @@
 //! The map.
 
-ghost use Rattle.std.specs.Prelude.{◌≡◌, ◌<◌, ◌^◌, true, [], None, Some, length, option_map, slice_get, OnOk, OnErr};
+ghost use Rattle.std.specs.Prelude.{◌≡◌, ◌<◌, ◌^◌, true, [], None, Some, length, option_map, slice_get, IsOk, OnOk, OnErr};
 ghost use Rattle.rank_map.specs.Places.{has_place, item_at, with_place, with_free, entries};
 
 use crate::tree::Tree;
@@ -61,6 +61,13 @@ impl<T: Drop> RankMap<T> {
         }
     }
 
+    /// Whether a key has a place, free or with an item.
+    pub fn has_place(&self, key: u64) -> bool
+        ensures { result ≡ has_place self.now key }
+    {
+        self.tree.place(key).is_some()
+    }
+
     /// The key of the item that stands at that place, from 0, among the items by rising key; `None` exactly past the end.
     pub fn nth(&self, at: usize) -> Option<u64>
         ensures { result ≡ option_map (λ e. e.key) (slice_get (entries self.now) at) }
@@ -72,9 +79,10 @@ impl<T: Drop> RankMap<T> {
     pub fn reserve(&mut self, key: u64) -> Result<(), NoMemory>
         requires few { key < 2 ^ 40 }
         ensures place { OnOk result (self.new ≡ with_free self.old key) }
+        ensures had_place { has_place self.old key ≡ true → IsOk result }
         ensures refused { OnErr result (self.new ≡ self.old) }
     {
-        if self.tree.place(key).is_some() {
+        if self.has_place(key) {
             return Ok(());
         }
         self.tree.reserve(self.alloc, key)

@@ -4,6 +4,7 @@ ghost use Rattle.std.specs.Prelude.{◌≡◌};
 ghost use Rattle.thread_state.specs.View.{IsPacked};
 
 use crate::thread::Thread;
+use fr_base::ThreadNo;
 use std::marker::Model;
 
 /// A thread on its way to another server: it uses no cached word, and none of its references keeps a copy in use.
@@ -30,6 +31,13 @@ impl Parcel {
         ensures { result ≡ thread.state }
     {
         Parcel { thread }
+    }
+
+    /// The thread's number. No memory.
+    pub fn number(&self) -> ThreadNo
+        ensures { result ≡ self.now.number }
+    {
+        self.thread.number
     }
 
     /// The thread, unpacked. No memory.
