@@ -1,5 +1,5 @@
 -- Messages are counted act by act and entry by entry.
-use Rattle.std.proofs.Common.{arith, ◌≡◌, ◌+◌, ◌<◌, ◌&&◌, ◌==◌, ◌++◌, not, ℕ, Bool, true, false, List, [], ◌∷◌, length, drop, slice_index_or, Option, Some, None, refl, ap, sym, ◌∙◌}
+use Rattle.std.proofs.Common.{arith, ◌≡◌, ◌+◌, ◌<◌, ◌&&◌, ◌==◌, ◌++◌, not, ℕ, Bool, true, false, List, [], ◌∷◌, length, drop, slice_index_or, Option, Some, None, Result, Ok, Err, OnErr, refl, ap, sym, ◌∙◌}
 use native.Mathlib.Numerals.{unary_clauses}
 use Rattle.std.specs.Prelude.{map}
 use Rattle.std.proofs.lemmas.List.{drop_more}
@@ -14,11 +14,17 @@ use Rattle.journal.specs.View.{EntryView}
 use Rattle.coloured_heap.specs.Figures.{kinds}
 use Rattle.coloured_heap.specs.Messages.{as_sending, one_of, sent}
 use Rattle.coloured_heap.specs.Sends.{Sending, sends, sendings, count, counts}
+use Rattle.coloured_heap.proofs.Sums.{of_one_kind, tot_plus, tot_same}
 
 -- the same by each kind
 pub same_counts : (f g : Kind → ℕ) → ((k : Kind) → f k ≡ g k) → (ks : List Kind) → map f ks ≡ map g ks
 same_counts f g same [] = refl
 same_counts f g same (k ∷ ks) = ap (λ n. n ∷ map f ks) (same k) ∙ ap (λ ns. g k ∷ ns) (same_counts f g same ks)
+
+-- what holds anyway holds where a call is refused
+pub on_err : {T E P : Type 0} (r : Result T E) → P → OnErr r P
+on_err (Ok x) h = tt
+on_err (Err e) h = h
 
 -- a kind is counted once more
 pub kind_counted : (j : Kind) (f : Kind → ℕ) → one_more (map f kinds) (kind_number j) ≡ map (λ k. f k + one_of j k) kinds
@@ -39,6 +45,18 @@ kind_counted kind.Joined f = simp unary_clauses refl
 kind_counted kind.Finished f = simp unary_clauses refl
 kind_counted kind.Migrate f = simp unary_clauses refl
 
+always : (b : Bool) → one (b && true) ≡ one b
+always true = refl
+always false = refl
+
+-- and all kinds together once more
+pub one_kind_more : (j : Kind) (f : Kind → ℕ) → tot (λ k. f k + one_of j k) kinds ≡ tot f kinds + 1
+one_kind_more j f =
+    let parts = tot_plus f (one_of j) kinds in
+    let its : 1 ≡ tot (λ k. one ((kind_number j == kind_number k) && true)) kinds = of_one_kind j true in
+    let same : tot (λ k. one ((kind_number j == kind_number k) && true)) kinds ≡ tot (one_of j) kinds = tot_same (λ k. one ((kind_number j == kind_number k) && true)) (one_of j) kinds (λ k. always (kind_number j == kind_number k)) in
+    omega (arith, parts, its, same)
+
 -- ONE ACT
 
 abbrev of_one : Option Sending → List Sending
@@ -48,10 +66,6 @@ of_one (Some m) = m ∷ []
 never : (b : Bool) → one (b && false) ≡ 0
 never true = refl
 never false = refl
-
-always : (b : Bool) → one (b && true) ≡ one b
-always true = refl
-always false = refl
 
 module _ (here : ℕ) (a : Act) (f : Kind → ℕ) where
   of_sending : (r : Option Sending) → sends a ≡ r → (k : Kind) → sent here (a ∷ []) k ≡ tot (λ m. one (counts here k m)) (of_one r)
@@ -75,15 +89,15 @@ module _ (here : ℕ) (a : Act) (f : Kind → ℕ) where
           let its = of_sending (Some (as_sending (j, target))) (sym is) k in
           omega (arith, at_home, nothing, its)
 
+  pub a_message_each : (j : Kind) (target : ℕ) → Some (as_sending (j, target)) ≡ sends a → (target == here) ≡ false → (k : Kind) → f k + one_of j k ≡ f k + sent here (a ∷ []) k
+  a_message_each j target its_is away k =
+      let off : one (counts here k (as_sending (j, target))) ≡ one ((kind_number j == kind_number k) && true) = ap (λ b. one ((kind_number j == kind_number k) && not b)) away in
+      let whole : one ((kind_number j == kind_number k) && true) ≡ one_of j k = always (kind_number j == kind_number k) in
+      let its = of_sending (Some (as_sending (j, target))) (sym its_is) k in
+      omega (arith, off, whole, its)
+
   pub a_message : (j : Kind) (target : ℕ) → Some (as_sending (j, target)) ≡ sends a → (target == here) ≡ false → map (λ k. f k + one_of j k) kinds ≡ map (λ k. f k + sent here (a ∷ []) k) kinds
-  a_message j target is away = same_counts (λ k. f k + one_of j k) (λ k. f k + sent here (a ∷ []) k) (λ k. by k) kinds
-    where
-      by : (k : Kind) → f k + one_of j k ≡ f k + sent here (a ∷ []) k
-      by k =
-          let off : one (counts here k (as_sending (j, target))) ≡ one ((kind_number j == kind_number k) && true) = ap (λ b. one ((kind_number j == kind_number k) && not b)) away in
-          let whole : one ((kind_number j == kind_number k) && true) ≡ one_of j k = always (kind_number j == kind_number k) in
-          let its = of_sending (Some (as_sending (j, target))) (sym is) k in
-          omega (arith, off, whole, its)
+  a_message j target is away = same_counts (λ k. f k + one_of j k) (λ k. f k + sent here (a ∷ []) k) (a_message_each j target is away) kinds
 
 -- SUMS
 

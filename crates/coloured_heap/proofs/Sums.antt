@@ -1,13 +1,16 @@
 -- Sums over kinds, entries and acts in any order.
-use Rattle.std.proofs.Common.{arith, ◌≡◌, ◌+◌, ◌==◌, ◌&&◌, ℕ, Bool, true, false, List, [], ◌∷◌, refl, sym, ◌∙◌}
+use Rattle.std.proofs.Common.{arith, ◌≡◌, ◌≤◌, ◌+◌, ◌==◌, ◌&&◌, ℕ, Bool, true, false, List, [], ◌∷◌, refl, sym, ◌∙◌}
+use Rattle.std.specs.Prelude.{map, sum}
+use Rattle.std.specs.List.{fold}
+use Rattle.std.proofs.lemmas.List.Sums.{sum-map}
 use Rattle.fr_base.specs.Lists.{tot, one}
 use Rattle.fr_base.specs.Kinds.{kind_number}
 use Rattle.fr_base.specs.declared.message.Kind.{Kind}
 use Rattle.fr_base.specs.declared.message.Kind.TheVariants as kind
 use Rattle.journal.specs.View.{EntryView}
-use Rattle.coloured_heap.specs.Sends.{Sending, sendings, leaves, counts}
+use Rattle.coloured_heap.specs.Sends.{Sending, sendings, leaves, count, counts, messages}
 use Rattle.coloured_heap.specs.Laws.{KindsAddUp}
-use Rattle.coloured_heap.specs.Figures.{kinds}
+use Rattle.coloured_heap.specs.Figures.{by_kind, kinds}
 
 -- SUMS
 
@@ -15,11 +18,11 @@ tot_zero : {A : Type 0} (xs : List A) → tot (λ x. 0) xs ≡ 0
 tot_zero [] = refl
 tot_zero (x ∷ xs) = omega (arith, tot_zero xs)
 
-tot_plus : {A : Type 0} (f g : A → ℕ) (xs : List A) → tot (λ x. f x + g x) xs ≡ tot f xs + tot g xs
+pub tot_plus : {A : Type 0} (f g : A → ℕ) (xs : List A) → tot (λ x. f x + g x) xs ≡ tot f xs + tot g xs
 tot_plus f g [] = refl
 tot_plus f g (x ∷ xs) = omega (arith, tot_plus f g xs)
 
-tot_same : {A : Type 0} (f g : A → ℕ) (xs : List A) → ((x : A) → f x ≡ g x) → tot f xs ≡ tot g xs
+pub tot_same : {A : Type 0} (f g : A → ℕ) (xs : List A) → ((x : A) → f x ≡ g x) → tot f xs ≡ tot g xs
 tot_same f g [] same = refl
 tot_same f g (x ∷ xs) same = omega (arith, same x, tot_same f g xs same)
 
@@ -28,10 +31,23 @@ tot_swap : {A B : Type 0} (f : A → B → ℕ) (xs : List A) (ys : List B) → 
 tot_swap f [] ys = sym (tot_zero ys)
 tot_swap f (x ∷ xs) ys = let rest = tot_swap f xs ys in let parts = tot_plus (λ y. f x y) (λ y. tot (λ z. f z y) xs) ys in omega (arith, rest, parts)
 
+-- a sum of no less
+pub tot_most : {A : Type 0} (f g : A → ℕ) (xs : List A) → ((x : A) → f x ≤ g x) → tot f xs ≤ tot g xs
+tot_most f g [] most = omega arith
+tot_most f g (x ∷ xs) most = omega (arith, most x, tot_most f g xs most)
+
+folded : {A : Type 0} (f : A → ℕ) (n : ℕ) (xs : List A) → fold (λ (a : ℕ) (x : A). a + f x) n xs ≡ n + tot f xs
+folded f n [] = omega arith
+folded f n (x ∷ xs) = folded f (n + f x) xs ∙ omega arith
+
+-- the sum of a list of counts
+pub sum_of_counts : {A : Type 0} (f : A → ℕ) (xs : List A) → sum (map f xs) ≡ tot f xs
+sum_of_counts f xs = sum-map f xs ∙ folded f 0 xs ∙ omega arith
+
 -- ONE MESSAGE
 
 -- it has one kind
-of_one_kind : (k : Kind) (b : Bool) → one b ≡ tot (λ j. one ((kind_number k == kind_number j) && b)) kinds
+pub of_one_kind : (k : Kind) (b : Bool) → one b ≡ tot (λ j. one ((kind_number k == kind_number j) && b)) kinds
 of_one_kind kind.Fetch true = refl
 of_one_kind kind.Fetch false = refl
 of_one_kind kind.Fetched true = refl
@@ -83,3 +99,7 @@ by_entry e =
 
 pub kinds_add_up : KindsAddUp
 kinds_add_up es = tot_same leaving (λ e. tot (λ k. of_entry e k) kinds) es by_entry ∙ tot_swap (λ e k. of_entry e k) es kinds
+
+-- the counts by kind add up to the messages
+pub all_messages : (es : List EntryView) → sum (by_kind es) ≡ messages es
+all_messages es = sum_of_counts (count es) kinds ∙ sym (kinds_add_up es)

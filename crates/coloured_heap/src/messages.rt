@@ -1,10 +1,11 @@
 //! Which message an act sends, and how many messages go between different servers.
 
-ghost use Rattle.std.specs.Prelude.{◌≡◌, ◌+◌, ◌∷◌, [], ℕ, OnOk, IfOk, map, option_map};
+ghost use Rattle.std.specs.Prelude.{◌≡◌, ◌+◌, ◌<◌, ◌^◌, ◌∷◌, [], ℕ, OnOk, OnErr, IfOk, map, option_map};
+ghost use Rattle.fr_base.specs.Lists.{tot};
 ghost use Rattle.fr_base.specs.declared.message.Kind.{Kind};
 ghost use Rattle.fr_base.specs.Names.{released_home};
 ghost use Rattle.coloured_heap.specs.Figures.{by_kind, kinds};
-ghost use Rattle.coloured_heap.specs.Sends.{sends};
+ghost use Rattle.coloured_heap.specs.Sends.{messages, sends};
 ghost use Rattle.coloured_heap.specs.Messages.{as_sending, one_of, sent};
 
 use fr_base::{Kind, NoMemory, Released};
@@ -51,7 +52,8 @@ pub fn sending(act: &Act) -> Option<(Kind, u8)>
 
 // Counts a message of that kind once more.
 fn count_kind(tally: &mut Tally<16>, kind: Kind) -> Result<(), NoMemory>
-    ensures { OnOk result ((f : Kind → ℕ) → tally.old ≡ map f kinds → tally.new ≡ map (λ k. f k + one_of kind k) kinds) }
+    ensures counted { OnOk result ((f : Kind → ℕ) → tally.old ≡ map f kinds → tally.new ≡ map (λ k. f k + one_of kind k) kinds) }
+    ensures full { OnErr result ((f : Kind → ℕ) → tally.old ≡ map f kinds → 2 ^ 63 < tot (λ k. f k + one_of kind k) kinds) }
 {
     if tally.total() == MOST {
         return Err(NoMemory);
@@ -62,7 +64,8 @@ fn count_kind(tally: &mut Tally<16>, kind: Kind) -> Result<(), NoMemory>
 
 // Counts the message that an act sends to another server than its own.
 fn count_act(tally: &mut Tally<16>, here: u8, act: &Act) -> Result<(), NoMemory>
-    ensures { OnOk result ((f : Kind → ℕ) → tally.old ≡ map f kinds → tally.new ≡ map (λ k. f k + sent here (act.now ∷ []) k) kinds) }
+    ensures counted { OnOk result ((f : Kind → ℕ) → tally.old ≡ map f kinds → tally.new ≡ map (λ k. f k + sent here (act.now ∷ []) k) kinds) }
+    ensures full { OnErr result ((f : Kind → ℕ) → tally.old ≡ map f kinds → 2 ^ 63 < tot (λ k. f k + sent here (act.now ∷ []) k) kinds) }
 {
     match sending(act) {
         Some((kind, target)) => {
@@ -78,7 +81,8 @@ fn count_act(tally: &mut Tally<16>, here: u8, act: &Act) -> Result<(), NoMemory>
 
 // Counts the messages of an entry.
 fn count_entry(tally: &mut Tally<16>, entry: &Entry) -> Result<(), NoMemory>
-    ensures { OnOk result ((f : Kind → ℕ) → tally.old ≡ map f kinds → tally.new ≡ map (λ k. f k + sent entry.now.server entry.now.acts k) kinds) }
+    ensures counted { OnOk result ((f : Kind → ℕ) → tally.old ≡ map f kinds → tally.new ≡ map (λ k. f k + sent entry.now.server entry.now.acts k) kinds) }
+    ensures full { OnErr result ((f : Kind → ℕ) → tally.old ≡ map f kinds → 2 ^ 63 < tot (λ k. f k + sent entry.now.server entry.now.acts k) kinds) }
 {
     'acts: for act in entry.acts.as_slice() {
         count_act(tally, entry.server, act)?;
@@ -87,9 +91,10 @@ fn count_entry(tally: &mut Tally<16>, entry: &Entry) -> Result<(), NoMemory>
 }
 
 /// How many messages of each kind the acts of a journal send to other servers, by the kinds' numbers. It takes time in the number of
-/// acts. `NoMemory` comes where there are more than 2^63 messages, which no memory holds, and nowhere else.
+/// acts. `NoMemory` comes only where there are more than 2^63 messages, which no memory holds.
 pub fn message_counts(journal: &Journal) -> Result<Tally<16>, NoMemory>
-    ensures { IfOk result (λ tally. tally ≡ by_kind journal.now.items) }
+    ensures counts { IfOk result (λ tally. tally ≡ by_kind journal.now.items) }
+    ensures refused { OnErr result (2 ^ 63 < messages journal.now.items) }
 {
     let mut tally = Tally::new();
     'entries: for entry in journal.as_slice() {

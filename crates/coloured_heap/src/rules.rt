@@ -37,11 +37,14 @@ fn is_by(entry: &Entry, thread: ThreadNo) -> bool
     }
 }
 
+/// How far apart the words of two colours that follow each other are: colours stand above the 48 bits of server and address.
+const COLOUR_STEP: u128 = 1 << 48;
+
 // Whether the word is the other one with the next colour.
 fn is_next(word: Word, next: Word) -> bool
     ensures { result ≡ (next == next_word word) }
 {
-    u128::from(next.number()) == u128::from(word.number()) + 281_474_976_710_656
+    u128::from(next.number()) == u128::from(word.number()) + COLOUR_STEP
 }
 
 // Whether the word has the last colour.
