@@ -10,7 +10,8 @@ use Rattle.owner_box.specs.View.{PartitionState}
 use Rattle.owner_box.specs.Partition.{LeadsTo, cell_of}
 use Rattle.mutex_home.specs.Mutexes.{Mutexes, Mutex, mutex_in, asked_in, ask}
 use Rattle.thread_state.specs.View.{ThreadState}
-use Rattle.server_model.specs.Work.{Hand, Site, leads_here, look_object, then_some, thread_in, set_thread, put_back, at_thread}
+use Rattle.server_model.specs.Work.{Hand, Site, leads_here, look_object, then_some, thread_in, set_thread, with_thread, put_back, at_thread}
+use Rattle.server_model.specs.Joining.{stand, arrive}
 
 -- what is made of a value is there with it
 pub made_of : {X Y : Type 0} (f : X → Y) (o : Option X) → IsSome (option_map f o) → IsSome o
@@ -80,3 +81,14 @@ at_done t f s x h ts is done same =
     ap (λ o. then_some (option_map (λ y. record { work = s.work; thread = y }) o) (λ g. option_map (put_back s.threads) (f g))) is
     ∙ ap (option_map (put_back s.threads)) done
     ∙ ap (λ us. Some (record { work = h.work; threads = us })) (sym same)
+
+-- a thread that arrives is a new one there
+pub arrives_new : (t : ThreadState) (s : Site) → IsSome (arrive t s) → thread_in s.threads t.number ≡ None
+arrives_new t s h = by (thread_in s.threads t.number) h
+  where
+    by : (o : Option ThreadState) → IsSome (stand o t s) → o ≡ None
+    by None g = refl
+    by (Some x) g = absurd (true≢false (sym g))
+
+pub arrives : (t : ThreadState) (s : Site) → thread_in s.threads t.number ≡ None → arrive t s ≡ Some (record s { threads = with_thread s.threads t })
+arrives t s h = ap (λ o. stand o t s) h

@@ -6,5 +6,4 @@ mod DeliverLemmas
 mod PassLemmas
 mod PlaceLemmas
 mod EventLemmas
-mod LabelLemmas
 mod StartLemmas

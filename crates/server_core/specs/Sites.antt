@@ -35,10 +35,10 @@ passed_in None = 0
 passed_in (Some t) = t.passed
 
 -- what a delivery needs at its server beside a result: room for a copy and for its use, a thread whose counts aren't near their ends, or a
--- place for a thread that doesn't stand there
+-- place for a thread
 abbrev pub CanTake : Message → WorkView → List (Place ThreadView) → Type 0
 CanTake (message.Fetched w c t) x ps = (has_copy_room x w ≡ true) × (0 < thread_room ps t)
 CanTake (message.Moved w c t) x ps = (slots_in (thread_in (states ps) t) < 2 ^ 32) × (passed_in (thread_in (states ps) t) < 255)
-CanTake (message.Start p) x ps = (places.has_place ps p.number ≡ true) × (thread_in (states ps) p.number ≡ None)
-CanTake (message.Migrate p) x ps = (places.has_place ps p.number ≡ true) × (thread_in (states ps) p.number ≡ None)
+CanTake (message.Start p) x ps = places.has_place ps p.number ≡ true
+CanTake (message.Migrate p) x ps = places.has_place ps p.number ≡ true
 CanTake m x ps = ⊤

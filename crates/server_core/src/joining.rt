@@ -94,10 +94,11 @@ pub(crate) fn pair_over(work: &Work, thread: &mut Thread, other: ThreadNo)
     thread.phase = got_par(thread, other);
 }
 
-/// A thread stands here from now on: a new one, or one that was moved. There is room for it, and it doesn't stand here.
+/// A thread stands here from now on: a new one, or one that was moved. There is room for it.
+#[tactic(auto, using(crate::proofs::DeliverLemmas::arrives_new, crate::proofs::DeliverLemmas::arrives))]
 pub(crate) fn arrive(work: &Work, threads: &mut Threads, parcel: Parcel)
+    requires result { IsSome (arrive parcel (site work.now threads.old)) }
     requires room { has_place threads.old parcel.number ≡ true }
-    requires absent { thread_in (states threads.old) parcel.number ≡ None }
     ensures state { arrive parcel (site work.now threads.old) ≡ Some (site work.now threads.new) }
 {
     let _work = work;

@@ -35,14 +35,11 @@ pub(crate) struct Work {
     pub started: u32,
     pub acts: Acts,
     pub labels: Labels,
-    // how many labels at the front don't count
-    pub skipped: u64,
     // for how many of each thing there is still room, by what was reserved
     pub room: usize,
 }
 
 impl Model for Work {
-    ghost use Rattle.std.specs.Prelude.{◌≤◌, drop, length};
     ghost use Rattle.server_core.specs.Works.{WorkView, HasRooms, sendings};
 
     ghost Value = { WorkView };
@@ -60,14 +57,14 @@ impl Model for Work {
           started = w.started;
         };
         acts = w.acts.items;
-        labels = drop w.skipped w.labels.items;
+        labels = w.labels.items;
       };
       room = w.room;
       copies = w.cache.rooms;
       inbox_room = w.inbox.room;
     } };
 
-    ghost invariant = { λ w. HasRooms w.room w.inbox.room w.outbox.room w.partition.room w.mutexes.room.mutexes w.mutexes.room.threads w.tasks.room w.acts.spare w.labels.spare × (w.skipped ≤ length w.labels.items) };
+    ghost invariant = { λ w. HasRooms w.room w.inbox.room w.outbox.room w.partition.room w.mutexes.room.mutexes w.mutexes.room.threads w.tasks.room w.acts.spare w.labels.spare };
 }
 
 impl Work {
@@ -88,7 +85,6 @@ impl Work {
             started: 0,
             acts: Acts::new(alloc),
             labels: Labels::new(alloc),
-            skipped: 0,
             room: 0,
         }
     }
@@ -191,7 +187,6 @@ impl Work {
     }
 
     // Notes a label of the event's plain step.
-    #[tactic(auto, using(crate::proofs::LabelLemmas::label_behind))]
     pub fn label(&mut self, label: Label)
         requires room { 0 < self.old.room }
         ensures state { self.new.state ≡ label_all (label ∷ []) self.old.state }
@@ -207,13 +202,12 @@ impl Work {
     }
 
     // The labels so far don't count.
-    #[tactic(auto, using(crate::proofs::LabelLemmas::none_left))]
     pub fn unlabel(&mut self)
         ensures state { self.new.state ≡ record self.old.state { labels = [] } }
         ensures room { self.new.room ≡ self.old.room }
         ensures copies { self.new.copies ≡ self.old.copies }
     {
-        self.skipped = self.labels.len();
+        self.labels.clear();
     }
 
     // An owned value goes: whoever has what it leads to is told.
