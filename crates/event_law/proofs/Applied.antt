@@ -6,11 +6,12 @@ use Rattle.journal.specs.View.{EntryView}
 use Rattle.server_model.specs.declared.event.Event.{Event}
 use Rattle.server_model.specs.Servers.{Sent, Server, Cluster, server_at}
 use Rattle.server_model.specs.Work.{then_some}
-use Rattle.server_model.specs.Clusters.{with_server, with_outbox, hand_over_newer, done_at, apply}
+use Rattle.server_model.specs.Clusters.{with_server, with_outbox, hand_over_newer, done_at, act_at, apply}
 use Rattle.heap_law.specs.Things.{servers_things, things_of}
 use Rattle.heap_law.specs.Coherent.{IsSound}
 use Rattle.event_law.specs.Sums.{Sums}
 use Rattle.event_law.specs.Laws.{Gives, GoTo, FewEvents, SendsToServers}
+use Rattle.event_law.proofs.Trades.{Same}
 use Rattle.event_law.proofs.Rules.{Kept}
 use Rattle.event_law.proofs.RulesKeep.{sums_kept}
 use Rattle.event_law.proofs.Results.{weaker}
@@ -29,25 +30,35 @@ pub go_with : (ss : List Server) (n : ℕ) (new : Server) (ys : List Sent) (xs :
 go_with ss n new ys [] g = tt
 go_with ss n new ys (x ∷ xs) g = (there_with ss n new ys x.target g.0, go_with ss n new ys xs g.1)
 
-module _ (k : Cluster) (e : Event) where
+-- it sees neither the order of things nor anything else of the servers
+abbrev pub Unmoved : (Cluster → Type 0) → Type 0
+Unmoved P = (k : Cluster) (a b : List Server) → Same (servers_things a) (servers_things b) → P (record k { servers = a }) → P (record k { servers = b })
+
+module _ (P : Cluster → Type 0) (unmoved : Unmoved P) (k : Cluster) (e : Event) where
+  abbrev Then : Cluster × EntryView → Type 0
+  Then d = P d.0
+
   handed : (s : Server) → server_at k.servers e.server ≡ Some s → (o : Option (Server × EntryView))
       → Gives (λ (r : Server × EntryView). GoTo (with_server k.servers e.server r.0) (drop (length s.rest.outbox) r.0.rest.outbox)) o
-      → Gives (λ (d : Cluster × EntryView). Sums (things_of d.0)) (option_map (λ r. (record k { servers = with_server k.servers e.server r.0 }, r.1)) o)
-      → Gives (λ (d : Cluster × EntryView). Sums (things_of d.0)) (option_map (λ r. (record k { servers = hand_over_newer e.server (length s.rest.outbox) r.0 k.servers }, r.1)) o)
+      → Gives Then (option_map (λ r. (record k { servers = with_server k.servers e.server r.0 }, r.1)) o)
+      → Gives Then (option_map (λ r. (record k { servers = hand_over_newer e.server (length s.rest.outbox) r.0 k.servers }, r.1)) o)
   handed s h None go g = tt
   handed s h (Some r) go g =
-      let kept : Kept Sums = sums_kept in
-      kept.same (servers_things (with_server k.servers e.server r.0)) (servers_things (hand_over_newer e.server (length s.rest.outbox) r.0 k.servers))
+      unmoved k (with_server k.servers e.server r.0) (hand_over_newer e.server (length s.rest.outbox) r.0 k.servers)
       (λ f. sym (hand_over_newer_law f e.server (length s.rest.outbox) s r.0 k.servers h (go_with k.servers e.server r.0 (take (length s.rest.outbox) r.0.rest.outbox) (drop (length s.rest.outbox) r.0.rest.outbox) go))) g
 
   at_server : (o : Option Server) → server_at k.servers e.server ≡ o → SendsToServers k e
-      → Gives (λ (d : Cluster × EntryView). Sums (things_of d.0)) (then_some o (λ s. option_map (λ d. (record k { servers = with_server k.servers e.server d.0 }, d.1)) (done_at k e.what s)))
-      → Gives (λ (d : Cluster × EntryView). Sums (things_of d.0)) (then_some o (λ s. option_map (λ d. (record k { servers = hand_over_newer e.server (length s.rest.outbox) d.0 k.servers }, d.1)) (done_at k e.what s)))
+      → Gives Then (then_some o (λ s. option_map (λ d. (record k { servers = with_server k.servers e.server d.0 }, d.1)) (done_at k e.what s)))
+      → Gives Then (then_some o (λ s. option_map (λ d. (record k { servers = hand_over_newer e.server (length s.rest.outbox) d.0 k.servers }, d.1)) (done_at k e.what s)))
   at_server None h go g = tt
   at_server (Some s) h go g = handed s h (done_at k e.what s) (go s h) g
 
-each_handed_over : (k : Cluster) (e : Event) → IsSound k → FewEvents k → SendsToServers k e → Gives (λ (d : Cluster × EntryView). Sums (things_of d.0)) (apply k e)
-each_handed_over k e sound few go = at_server k e (server_at k.servers e.server) refl go (each_event_leaves k e sound few)
+  -- where the event leaves it at its server, it is so once its messages are handed over
+  pub handed_on : SendsToServers k e → Gives Then (act_at k e) → Gives Then (apply k e)
+  handed_on go g = at_server (server_at k.servers e.server) refl go g
 
 pub handed_part : (Part : Cluster → Type 0) → ((c : Cluster) → Sums (things_of c) → Part c) → (k : Cluster) (e : Event) → IsSound k → FewEvents k → SendsToServers k e → Gives (λ (d : Cluster × EntryView). Part d.0) (apply k e)
-handed_part Part has k e sound few go = weaker (λ (d : Cluster × EntryView). Sums (things_of d.0)) (λ (d : Cluster × EntryView). Part d.0) _ (each_handed_over k e sound few go) (λ d u. has d.0 u)
+handed_part Part has k e sound few go =
+    let kept : Kept Sums = sums_kept in
+    weaker (λ (d : Cluster × EntryView). Sums (things_of d.0)) (λ (d : Cluster × EntryView). Part d.0) _
+    (handed_on (λ c. Sums (things_of c)) (λ c a b same g. kept.same (servers_things a) (servers_things b) same g) k e go (each_event_leaves k e sound few)) (λ d u. has d.0 u)

@@ -8,9 +8,9 @@ use Rattle.heap_law.specs.Things.{Thing, counts, servers_things}
 use Rattle.heap_law.specs.Weights.{cells, owners, states, uses_of, users_of, shares_of, shares_at_home, tasks_of, is_thread}
 use Rattle.event_law.specs.Sums.{Sums, is_server}
 use Rattle.heap_law.specs.Requests.{halves_to, halves_needed, pair_notes, pair_places}
-use Rattle.heap_law.specs.Sharing.{going_notes, goes_on, noted_away, results, has_ended}
+use Rattle.heap_law.specs.Sharing.{going_notes, goes_on, noted_away, owed, results, has_ended}
 use Rattle.heap_law.specs.Sight.{Sight, sight}
-use Rattle.event_law.specs.Laws.{NotedAtHome, NotedGoOn, OneAnswer, OneResult, PairsNoted, StartHas, StartHasSums}
+use Rattle.event_law.specs.Laws.{NotedAtHome, NotedGoOn, OneAnswer, OneResult, PairsNoted, StartHas, StartHasSums, TaskValuesOwed}
 use Rattle.event_law.proofs.Fair.{if_none, needs_none}
 
 -- servers without a thread have nothing but their counts
@@ -95,3 +95,13 @@ start_results code o l t = by o.servers l
     by : (n : ℕ) → 1 ≤ n → tot (results q t) (servers_things (with_main (empty_servers o 0 n))) ≤ tot (has_ended t) (servers_things (with_main (empty_servers o 0 n)))
     by zero l = absurd (omega arith)
     by (suc n) l = omega (arith, nothing (results q t) o 1 n (λ r. refl), nothing (has_ended t) o 1 n (λ r. refl))
+
+pub start_owed : StartHas TaskValuesOwed
+start_owed code o l t = by o.servers l
+  where
+    q : Sight
+    q = sight (start_of code o)
+
+    by : (n : ℕ) → 1 ≤ n → tot (tasks_of t) (servers_things (with_main (empty_servers o 0 n))) ≡ tot (owed q t) (servers_things (with_main (empty_servers o 0 n)))
+    by zero l = absurd (omega arith)
+    by (suc n) l = omega (arith, nothing (tasks_of t) o 1 n (λ r. refl), nothing (owed q t) o 1 n (λ r. refl))

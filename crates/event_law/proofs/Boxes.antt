@@ -30,7 +30,7 @@ use Rattle.event_law.specs.Laws.{Gives}
 use Rattle.event_law.proofs.Trades.{Trade, tot-append}
 use Rattle.event_law.proofs.Rules.{recolours, Kept}
 use Rattle.event_law.proofs.RulesKeep.{cell_falls, Counted, counted_kept}
-use Rattle.event_law.proofs.Results.{map_gives, over_gives, bind_gives}
+use Rattle.event_law.proofs.Results.{map_gives, over_gives, bind_gives, both_give}
 use Rattle.event_law.proofs.Bags.{HandOk, had_by, rest_things}
 use Rattle.event_law.proofs.Values.{pushes_temp, beside_trades}
 use Rattle.event_law.proofs.ObjectMessages.{issues_placed}
@@ -204,10 +204,6 @@ module _ (w : ℕ → ℕ) (n e t : ℕ) (others : List Thing) where
   pop_owned_named o h =
       bind_gives (λ (p : Popped Value). next_object p.hand ≡ next_object h) (λ (p : Popped Owned). next_object p.hand ≡ next_object h) (pop o h) (taken_as owned_of) (pop_named o h)
       (λ p q. map_gives (λ (y : Popped Owned). next_object y.hand ≡ next_object h) (owned_of p.item) _ (λ v z. q))
-
-  both_give : {X : Type 0} (P Q R : X → Type 0) (x : Option X) → Gives P x → Gives Q x → ((a : X) → P a → Q a → R a) → Gives R x
-  both_give P Q R None p q f = tt
-  both_give P Q R (Some a) p q f = f a p q
 
   pub boxes_up : (o : Operand) (h : Hand) → HandOk (New w (next_object h)) n e t others h → Gives (HandOk (Counted w) n e t others) (box_up o h)
   boxes_up o h g =

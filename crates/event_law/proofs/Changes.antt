@@ -22,7 +22,7 @@ use Rattle.event_law.proofs.Bags.{all_standing, tot-without, tot-set, thread_num
 use Rattle.event_law.proofs.Unseen.{content_none, result_none, thread_alone}
 use Rattle.event_law.proofs.MutexLists.{mutex_changes, mutex_goes}
 use Rattle.event_law.proofs.TaskMessages.{tot-gone, tot-put}
-use Rattle.event_law.proofs.Fair.{Fair, Hears, fair_none}
+use Rattle.event_law.proofs.Fair.{Dues, even, Fair, Hears, fair_none}
 use Rattle.event_law.proofs.Quiet.{said, said_by, server_said, SaysOf, says_nothing, says_sent}
 use Rattle.event_law.proofs.Turns.{Turns}
 
@@ -59,16 +59,16 @@ change_then r r1 r2 g1 n1 g2 n2 c d = record { same = d.same ∙ c.same; change 
 -- a value that is let go says nothing that is answered
 pub record Gave (code : List Instr) (r : Rest) (gone news : List Thing) (r2 : Rest) : Type 0 where
   pub more : List Thing
-  pub light : Fair code [] more
+  pub light : Fair (even code) [] more
   pub change : ChangeOf r gone (news ++ more) r2
 
 pub gives_change : (code : List Instr) (r : Rest) (gone news : List Thing) (v : Owned) (w : Work) → ChangeOf r gone news w.rest → Gave code r gone news (give_up v w).rest
 gives_change code r gone news (owned.Box p) w c =
-    let m = message.Drop p.word p.object in record { more = message_things (server_of p.word) m; light = record { answers = λ t. refl; pairs = λ b. refl; going = λ t. refl; homes = omega arith; ends = λ t. omega arith }; change = change_sent r w.rest gone news (server_of p.word) m c }
+    let m = message.Drop p.word p.object in record { more = message_things (server_of p.word) m; light = record { answers = λ t. refl; pairs = λ b. refl; going = λ t. refl; homes = omega arith; ends = λ t. omega arith; owes = λ t. refl }; change = change_sent r w.rest gone news (server_of p.word) m c }
 gives_change code r gone news (owned.Mutex x) w c =
-    let m = message.Release (released.Mutex x) in record { more = message_things x.home m; light = record { answers = λ t. refl; pairs = λ b. refl; going = λ t. refl; homes = omega arith; ends = λ t. omega arith }; change = change_sent r w.rest gone news x.home m c }
+    let m = message.Release (released.Mutex x) in record { more = message_things x.home m; light = record { answers = λ t. refl; pairs = λ b. refl; going = λ t. refl; homes = omega arith; ends = λ t. omega arith; owes = λ t. refl }; change = change_sent r w.rest gone news x.home m c }
 gives_change code r gone news (owned.Task x) w c =
-    let m = message.Release (released.Task x) in record { more = message_things (home_of x) m; light = record { answers = λ t. refl; pairs = λ b. refl; going = λ t. refl; homes = omega arith; ends = λ t. omega arith }; change = change_sent r w.rest gone news (home_of x) m c }
+    let m = message.Release (released.Task x) in record { more = message_things (home_of x) m; light = record { answers = λ t. refl; pairs = λ b. refl; going = λ t. refl; homes = omega arith; ends = λ t. omega arith; owes = λ t. refl }; change = change_sent r w.rest gone news (home_of x) m c }
 gives_change code r gone news owned.Nothing w c = record { more = []; light = fair_none; change = record { same = c.same; change = λ f h. omega (arith, c.change f h, tot-append f news []) } }
 gives_change code r gone news owned.Unit w c = record { more = []; light = fair_none; change = record { same = c.same; change = λ f h. omega (arith, c.change f h, tot-append f news []) } }
 gives_change code r gone news (owned.Int n) w c = record { more = []; light = fair_none; change = record { same = c.same; change = λ f h. omega (arith, c.change f h, tot-append f news []) } }
@@ -124,7 +124,7 @@ module _ (s : Server) (i : ℕ) (m : Message) (q : slice_get s.rest.inbox i ≡ 
   pub taken_out : (f : Thing → ℕ) → said_by f s.rest ≡ said_by f left + tot f (message_things s.rest.number m)
   taken_out f = omega (arith, tot-remove (λ x. message_things s.rest.number x) f 0 s.rest.inbox i m q)
 
-module _ (code : List Instr) (s : Server) (i : ℕ) (m : Message) (q : slice_get s.rest.inbox i ≡ Some m) where
+module _ (dues : Dues) (s : Server) (i : ℕ) (m : Message) (q : slice_get s.rest.inbox i ≡ Some m) where
   abbrev there : Rest
   there = receive s.rest i
 
@@ -133,9 +133,9 @@ module _ (code : List Instr) (s : Server) (i : ℕ) (m : Message) (q : slice_get
     pub gone : List Thing
     pub news : List Thing
     pub change : ChangeOf there gone news r2
-    pub fair : Fair code (message_things s.rest.number m ++ gone) news
+    pub fair : Fair dues (message_things s.rest.number m ++ gone) news
 
-  pub rest_turns : (r2 : Rest) → RestTurns r2 → Turns code s (record { rest = r2; threads = s.threads; events = s.events + 1 })
+  pub rest_turns : (r2 : Rest) → RestTurns r2 → Turns dues s (record { rest = r2; threads = s.threads; events = s.events + 1 })
   rest_turns r2 g =
       let n = s.rest.number in
       let c = g.change in
@@ -155,9 +155,9 @@ module _ (code : List Instr) (s : Server) (i : ℕ) (m : Message) (q : slice_get
       pub gone : List Thing
       pub news : List Thing
       pub change : ChangeOf there gone news r2
-      pub fair : Fair code (message_things s.rest.number m ++ (gone ++ stands s.rest.number false y ∷ [])) (stands s.rest.number false y2 ∷ news)
+      pub fair : Fair dues (message_things s.rest.number m ++ (gone ++ stands s.rest.number false y ∷ [])) (stands s.rest.number false y2 ∷ news)
 
-    pub thread_turns : (r2 : Rest) (y2 : ThreadState) → ThreadTurns r2 y2 → Turns code s (record { rest = r2; threads = set_thread s.threads y2; events = s.events + 1 })
+    pub thread_turns : (r2 : Rest) (y2 : ThreadState) → ThreadTurns r2 y2 → Turns dues s (record { rest = r2; threads = set_thread s.threads y2; events = s.events + 1 })
     thread_turns r2 y2 g =
         let n = s.rest.number in
         let c = g.change in

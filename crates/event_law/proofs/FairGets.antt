@@ -15,8 +15,8 @@ use Rattle.heap_law.specs.Things.{Thing, stands, sent, message_things}
 use Rattle.heap_law.specs.Requests.{waits, whole_answer, message_answer, halves, halves_to, halves_needed, pair_notes, pair_places, branch_places}
 use Rattle.heap_law.specs.Sharing.{is_over, finished_of, joined_of, got_phase, going_notes, goes_on, has_ended}
 use Rattle.event_law.proofs.Trades.{tot-append}
-use Rattle.event_law.proofs.Held.{result_of, holds_result}
-use Rattle.event_law.proofs.Fair.{Fair, Hears, halves_heard, needed_heard, notes_heard, places_heard, going_heard, goes_heard, results_heard, ended_heard, not_ended, if_none, needs_none, needs_both, calm_waits, calm_over, calm_places}
+use Rattle.event_law.proofs.Held.{result_of, owed_of, holds_result}
+use Rattle.event_law.proofs.Fair.{Fair, even, Hears, owed_heard, halves_heard, needed_heard, notes_heard, places_heard, going_heard, goes_heard, results_heard, ended_heard, not_ended, if_none, needs_none, needs_both, calm_waits, calm_over, calm_places}
 
 -- it waits for one answer, and for no pair
 pub record Awaits (p : Phase) : Type 0 where
@@ -46,9 +46,9 @@ pub record Answers (n : ℕ) (m : Message) (t : ℕ) : Type 0 where
   pub goes_on : (u : ℕ) → finished_of u m ≡ 0
   pub plain : (f : Thing → ℕ) → Hears f → tot f (message_things n m) ≡ f (sent n m)
 
-pub fair_gets : {code : List Instr} (n : ℕ) (m : Message) (y y2 : ThreadState) → y2.number ≡ y.number → ((t : ℕ) → got_phase t y2.phase + holds_result code t y2 ≤ joined_of t m) → Awaits y.phase → can_step y2.phase ≡ true → Answers n m y.number
-    → Fair code (message_things n m ++ stands n false y ∷ []) (stands n false y2 ∷ [])
-fair_gets {code} n m y y2 e gift w c q = record {
+pub fair_gets : {code : List Instr} (n : ℕ) (m : Message) (y y2 : ThreadState) → y2.number ≡ y.number → ((t : ℕ) → got_phase t y2.phase + holds_result code t y2 ≤ joined_of t m) → ((t : ℕ) → holds_result code t y2 ≡ joined_of t m + holds_result code t y) → Awaits y.phase → can_step y2.phase ≡ true → Answers n m y.number
+    → Fair (even code) (message_things n m ++ stands n false y ∷ []) (stands n false y2 ∷ [])
+fair_gets {code} n m y y2 e gift holds w c q = record {
   answers = λ t.
       let is = ap (halves t) q.whole in
       omega (
@@ -91,4 +91,5 @@ fair_gets {code} n m y y2 e gift w c q = record {
     tot-append (has_ended t) (message_things n m) (stands n false y ∷ []),
     not_ended (y.number == t) (y.number == 0) (is_over y.phase) w.lives,
   );
+  owes = λ t. omega (arith, holds t, q.plain (owed_of code t) (owed_heard code t), tot-append (owed_of code t) (message_things n m) (stands n false y ∷ []));
 }

@@ -14,8 +14,8 @@ use Rattle.heap_law.specs.Requests.{Branch, waits, halves_to, halves_needed, pai
 use Rattle.heap_law.specs.Sharing.{is_over, got_phase, going_notes, goes_on, noted_away, has_ended}
 use Rattle.event_law.proofs.Trades.{tot-append}
 use Rattle.event_law.proofs.Unseen.{thread_alone}
-use Rattle.event_law.proofs.Held.{result_of, bare_held}
-use Rattle.event_law.proofs.Fair.{Fair, Hears, results_heard, ended_heard, not_ended, halves_heard, needed_heard, notes_heard, places_heard, going_heard, goes_heard, homes_heard, if_none, needs_none, calm_waits, calm_over, calm_places}
+use Rattle.event_law.proofs.Held.{result_of, owed_of, bare_held}
+use Rattle.event_law.proofs.Fair.{Fair, zeros, pays, Hears, owed_heard, results_heard, ended_heard, not_ended, halves_heard, needed_heard, notes_heard, places_heard, going_heard, goes_heard, homes_heard, if_none, needs_none, calm_waits, calm_over, calm_places}
 
 not_zero : (u : ℕ) → (u ≡ 0 → ⊥) → (u == 0) ≡ false
 not_zero u ne = eq_cases (λ b. b ≡ false) u 0 (λ e. absurd (ne e)) (λ n. refl)
@@ -64,6 +64,9 @@ module _ (s : ℕ) (x : ThreadState) (ready : x.phase ≡ phase.Ready) where
     omega (arith, alone (has_ended t) (ended_heard t), not_ended (x.number == t) (x.number == 0) (is_over x.phase) (ap is_over ready)),
   )
 
+  start_owes : x.gift ≡ None → (code : List Instr) (t : ℕ) → tot (owed_of code t) (message_things s (message.Start x)) ≡ 0
+  start_owes bare code t = omega (arith, alone (owed_of code t) (owed_heard code t), bare_held code t x bare)
+
   start_homes : tot noted_away (message_things s (message.Start x)) ≡ 0
   start_homes = omega (arith, alone noted_away homes_heard)
 
@@ -71,13 +74,14 @@ at_home : (u n : ℕ) → home_of u ≡ n → other (home_of u == n) ≡ 0
 at_home u n e = eq_cases (λ b. other b ≡ 0) (home_of u) n (λ q. refl) (λ ne. absurd (ne e))
 
 -- one thread starts, and is noted as going
-pub fair_starts : {code : List Instr} (n s : ℕ) (x : ThreadState) → x.phase ≡ phase.Ready → x.gift ≡ None → (x.number ≡ 0 → ⊥) → home_of x.number ≡ n → Fair code [] (task_things n 0 (record { thread = x.number; state = going }) ++ message_things s (message.Start x))
+pub fair_starts : {code : List Instr} (n s : ℕ) (x : ThreadState) → x.phase ≡ phase.Ready → x.gift ≡ None → (x.number ≡ 0 → ⊥) → home_of x.number ≡ n → Fair (record { code = code; made = λ t. one (x.number == t); spent = zeros }) [] (task_things n 0 (record { thread = x.number; state = going }) ++ message_things s (message.Start x))
 fair_starts {code} n s x ready bare ne home = record {
   answers = λ t. let a = start_answers s x ready t in omega (arith, a.0, a.1);
   pairs = λ b. let a = start_pairs s x ready b in omega (arith, a.0, a.1, none_half (n == b.server && x.number == b.thread));
   going = λ t. let a = start_going s x ready ne t in omega (arith, a.0, a.1, noting (x.number == t));
   homes = omega (arith, start_homes s x ready, at_home x.number n home);
   ends = λ t. let a = start_ends s x ready bare code t in omega (arith, a.0, a.1, if_none (x.number == t) 0 refl);
+  owes = λ t. omega (arith, start_owes s x ready bare code t, noting (x.number == t));
 }
 
 -- PAIRS
@@ -101,7 +105,7 @@ waits_for_two false = refl
 -- two threads start, and their parent waits for both
 pub fair_pair : {code : List Instr} (n s r : ℕ) (y y2 u v : ThreadState) → y2.number ≡ y.number → y2.gift ≡ None → u.gift ≡ None → v.gift ≡ None → can_step y.phase ≡ true → y2.phase ≡ phase.WaitPar u.number v.number
     → u.phase ≡ phase.Ready → v.phase ≡ phase.Ready → (u.number ≡ 0 → ⊥) → (v.number ≡ 0 → ⊥) → home_of u.number ≡ n → home_of v.number ≡ n
-    → Fair code (stands n false y ∷ []) (stands n false y2 ∷ (task_things n 0 (record { thread = u.number; state = in_pair y2.number false }) ++ task_things n 0 (record { thread = v.number; state = in_pair y2.number false }) ++ message_things s (message.Start u) ++ message_things r (message.Start v)))
+    → Fair (pays code y zeros) (stands n false y ∷ []) (stands n false y2 ∷ (task_things n 0 (record { thread = u.number; state = in_pair y2.number false }) ++ task_things n 0 (record { thread = v.number; state = in_pair y2.number false }) ++ message_things s (message.Start u) ++ message_things r (message.Start v)))
 fair_pair {code} n s r y y2 u v same bare new new2 c waiting ready ready2 ne ne2 home home2 = record {
   answers = λ t.
       let a = start_answers s u ready t in
@@ -148,6 +152,7 @@ fair_pair {code} n s r y y2 u v same bare new new2 c waiting ready ready2 ne ne2
         whole (result_of code t),
         whole (has_ended t),
       );
+  owes = λ t. omega (arith, start_owes s u ready new code t, start_owes r v ready2 new2 code t, none_half (u.number == t), none_half (v.number == t), bare_held code t y2 bare, whole (owed_of code t));
 }
   where
     whole : (f : Thing → ℕ)
@@ -175,7 +180,7 @@ main_none true false o e = absurd (cc e)
 main_none false z o e = refl
 
 -- main is over, and says nothing
-pub fair_main_ends : {code : List Instr} (n : ℕ) (y y2 : ThreadState) → y2.number ≡ y.number → y2.gift ≡ None → can_step y.phase ≡ true → y2.phase ≡ phase.Over → (y.number == 0) ≡ true → Fair code (stands n false y ∷ []) (stands n false y2 ∷ [])
+pub fair_main_ends : {code : List Instr} (n : ℕ) (y y2 : ThreadState) → y2.number ≡ y.number → y2.gift ≡ None → can_step y.phase ≡ true → y2.phase ≡ phase.Over → (y.number == 0) ≡ true → Fair (pays code y zeros) (stands n false y ∷ []) (stands n false y2 ∷ [])
 fair_main_ends {code} n y y2 same bare c over main = record {
   answers = λ t. omega (arith, needs_none (y.number == t) (waits y.phase) (calm_waits y.phase c), needs_none (y2.number == t) (waits y2.phase) (ap waits over));
   pairs = λ x. omega (
@@ -186,11 +191,12 @@ fair_main_ends {code} n y y2 same bare c over main = record {
   going = λ t. omega (arith, main_none (y.number == t) (y.number == 0) (is_over y.phase) main, over_none (y2.number == t) (y2.number == 0) (is_over y2.phase) (ap is_over over));
   homes = omega arith;
   ends = λ t. omega (arith, ap (got_phase t) over, bare_held code t y2 bare, not_ended (y.number == t) (y.number == 0) (is_over y.phase) (calm_over y.phase c));
+  owes = λ t. omega (arith, bare_held code t y2 bare);
 }
 
 -- another thread is over, and its result goes home
 pub fair_ends : {code : List Instr} (n s : ℕ) (y y2 : ThreadState) (v : Owned) → y2.number ≡ y.number → y2.gift ≡ None → can_step y.phase ≡ true → y2.phase ≡ phase.Over → (y.number == 0) ≡ false
-    → Fair code (stands n false y ∷ []) (stands n false y2 ∷ message_things s (message.Finished y2.number v))
+    → Fair (pays code y zeros) (stands n false y ∷ []) (stands n false y2 ∷ message_things s (message.Finished y2.number v))
 fair_ends {code} n s y y2 v same bare c over other = record {
   answers = λ t. omega (arith, needs_none (y.number == t) (waits y.phase) (calm_waits y.phase c), needs_none (y2.number == t) (waits y2.phase) (ap waits over));
   pairs = λ x. omega (
@@ -209,4 +215,5 @@ fair_ends {code} n s y y2 v same bare c over other = record {
     not_ended (y.number == t) (y.number == 0) (is_over y.phase) (calm_over y.phase c),
     ended_one (y2.number == t) (y2.number == 0) (is_over y2.phase) (ap (λ i. i == 0) same ∙ other) (ap is_over over),
   );
+  owes = λ t. omega (arith, bare_held code t y2 bare);
 }

@@ -1,5 +1,5 @@
 -- In a sound cluster a thread has a gift only where its instruction takes one, and one that waits for a gift stands at what it waits for.
-use Rattle.std.proofs.Common.{◌≡◌, ◌≤◌, ℕ, ◌==◌, ◌&&◌, not, Bool, true, false, List, Option, Some, None, refl, sym, ap, subst, ◌∙◌, arith}
+use Rattle.std.proofs.Common.{◌≡◌, ℕ, ◌==◌, ◌&&◌, not, Bool, true, false, List, Option, Some, None, refl, sym, ap, subst, ◌∙◌, arith}
 use Rattle.std.specs.Prelude.{slice_get, is_some}
 use Rattle.std.proofs.lemmas.Bool.{eqb-true}
 use Rattle.fr_typing.proofs.PlaceLemmas.{eq_cases}
@@ -40,16 +40,23 @@ pub cell_ungot : (p : Phase) (w : ℕ) → waits_for_cell p w ≡ true → is_go
 cell_ungot (phase.WaitCell x) w e = refl
 cell_ungot _ w e = absurd (cc e)
 
+pub lock_ungot : (p : Phase) (m : MutexNo) → waits_for_lock p m ≡ true → is_got p ≡ false
+lock_ungot (phase.WaitLock x) m e = refl
+lock_ungot _ m e = absurd (cc e)
+
+pub dup_ungot : (p : Phase) (m : MutexNo) → waits_for_dup p m ≡ true → is_got p ≡ false
+dup_ungot (phase.WaitDup x) m e = refl
+dup_ungot _ m e = absurd (cc e)
+
+pub join_ungot : (p : Phase) (u : ℕ) → waits_for_join p u ≡ true → is_got p ≡ false
+join_ungot (phase.WaitJoin x) u e = refl
+join_ungot _ u e = absurd (cc e)
+
 -- WHAT AN INSTRUCTION TAKES
 
 if_zero : (b : Bool) → if_so b 0 ≡ 0
 if_zero true = refl
 if_zero false = refl
-
-at_most_one : (g b : Bool) → if_so g (one b) ≤ 1
-at_most_one true true = omega arith
-at_most_one true false = omega arith
-at_most_one false b = omega arith
 
 held_none : (code : List Instr) (t : ℕ) (x : ThreadState) (i : Option Instr) → slice_get code x.pc ≡ i → joined_thread i x ≡ None → holds_result code t x ≡ 0
 held_none code t x i q e = ap (λ o. if_so (is_some x.gift) (one (is_task t o))) (ap (λ j. joined_thread j x) q ∙ e) ∙ if_zero (is_some x.gift)
@@ -78,9 +85,8 @@ task_is w (Some v) z = by (w == v) refl z
     by true e z = ap (λ i. Some i) (sym (eqb-true w v e))
     by false e z = absurd (cc z)
 
-joins_one : (g : Bool) (a u : ℕ) → if_so g (one (a == u)) ≤ one (u == a)
-joins_one g a u =
-    eq_cases (λ b. if_so g (one b) ≤ one (u == a)) a u (λ e. eq_cases (λ b. if_so g 1 ≤ one b) u a (λ d. at_most_one g true) (λ ne. absurd (ne (sym e)))) (λ ne. let z = if_zero g in omega (arith, z))
+pub turned_one : (a u : ℕ) → one (a == u) ≡ one (u == a)
+turned_one a u = eq_cases (λ b. one b ≡ one (u == a)) a u (λ e. eq_cases (λ b. 1 ≡ one b) u a (λ d. refl) (λ ne. absurd (ne (sym e)))) (λ ne. eq_cases (λ b. 0 ≡ one b) u a (λ d. absurd (ne (sym d))) (λ other. refl))
 
 module _ (k : Cluster) (sound : IsSound k) (number : ℕ) (s : Server) (here : server_at k.servers number ≡ Some s) (t : ℕ) (y : ThreadState) (at : thread_in s.threads t ≡ Some y) where
   abbrev n : ℕ
@@ -144,8 +150,9 @@ module _ (k : Cluster) (sound : IsSound k) (number : ℕ) (s : Server) (here : s
   pub dup_takes : (m : MutexNo) → waits_for_dup y.phase m ≡ true → (a : ℕ) (x : ThreadState) → x.pc ≡ y.pc → holds_result k.code a x ≡ 0
   dup_takes m on a x c = held_none k.code a x (slice_get k.code y.pc) (ap (slice_get k.code) c) (dups y.phase m on stand x)
 
-  pub join_takes : (u : ℕ) → waits_for_join y.phase u ≡ true → (a : ℕ) (x : ThreadState) → x.pc ≡ y.pc → x.temps ≡ y.temps → holds_result k.code a x ≤ one (u == a)
-  join_takes u on a x c e =
+  pub join_takes : (u : ℕ) → waits_for_join y.phase u ≡ true → (a : ℕ) (x : ThreadState) → x.pc ≡ y.pc → x.temps ≡ y.temps → is_some x.gift ≡ true → holds_result k.code a x ≡ one (u == a)
+  join_takes u on a x c e given =
       let takes : joined_thread (slice_get k.code x.pc) x ≡ Some u = ap (λ j. joined_thread (slice_get k.code j) x) c ∙ same_joined (slice_get k.code y.pc) x y e ∙ joins y.phase u on stand in
       let holds : holds_result k.code a x ≡ if_so (is_some x.gift) (one (a == u)) = ap (λ o. if_so (is_some x.gift) (one (is_task a o))) takes in
-      omega (arith, holds, joins_one (is_some x.gift) a u)
+      let gift : if_so (is_some x.gift) (one (a == u)) ≡ one (a == u) = ap (λ b. if_so b (one (a == u))) given in
+      omega (arith, holds, gift, turned_one a u)

@@ -1,5 +1,5 @@
--- Where the result of a thread stands, as the code tells it: a gift stands for the task that is the operand of its join.
-use Rattle.std.proofs.Common.{◌≡◌, ℕ, ◌+◌, ◌==◌, List, [], ◌∷◌, Option, Some, None, refl, ap, ap₂, ◌∙◌, arith}
+-- Where the result of a thread stands and what is owed of it, as the code tells it: a gift stands for the task that is the operand of its join.
+use Rattle.std.proofs.Common.{◌≡◌, ℕ, ◌+◌, ◌==◌, ◌&&◌, List, [], ◌∷◌, Option, Some, None, refl, ap, ap₂, ◌∙◌, arith}
 use Rattle.std.specs.Prelude.{slice_get, is_some}
 use Rattle.fr_base.specs.declared.instruction.Instr.{Instr}
 use Rattle.fr_base.specs.declared.instruction.Instr.TheVariants as instr
@@ -8,7 +8,7 @@ use Rattle.heap_law.specs.Names.{tot, one, if_so}
 use Rattle.heap_law.specs.Things.{Thing, sent, stands, noted}
 use Rattle.heap_law.specs.Sight.{Sight}
 use Rattle.heap_law.specs.Paths.{popped, task_in, joined_thread}
-use Rattle.heap_law.specs.Sharing.{is_task, finished_of, joined_of, kept_note, got_phase, results}
+use Rattle.heap_law.specs.Sharing.{is_task, finished_of, joined_of, owes, owed, kept_note, got_phase, results}
 
 -- the result of thread t is the gift of this one
 abbrev pub holds_result : List Instr → ℕ → ThreadState → ℕ
@@ -30,6 +30,23 @@ is_result s t _ = refl
 pub all_results : (s : Sight) (t : ℕ) (b : List Thing) → tot (results s t) b ≡ tot (result_of s.code t) b
 all_results s t [] = refl
 all_results s t (x ∷ b) = omega (arith, is_result s t x, all_results s t b)
+
+-- what is owed to a task value of the thread
+abbrev pub owed_of : List Instr → ℕ → Thing → ℕ
+owed_of code t (noted r x) = one (x.thread == t && owes x.state)
+owed_of code t (sent r m) = joined_of t m
+owed_of code t (stands r p x) = holds_result code t x
+owed_of code t x = 0
+
+is_owed : (s : Sight) (t : ℕ) (x : Thing) → owed s t x ≡ owed_of s.code t x
+is_owed s t (noted r x) = refl
+is_owed s t (sent r m) = refl
+is_owed s t (stands r p x) = refl
+is_owed s t _ = refl
+
+pub all_owed : (s : Sight) (t : ℕ) (b : List Thing) → tot (owed s t) b ≡ tot (owed_of s.code t) b
+all_owed s t [] = refl
+all_owed s t (x ∷ b) = omega (arith, is_owed s t x, all_owed s t b)
 
 -- it is told by the gift, the instruction and the temporary values
 pub same_joined : (i : Option Instr) (x y : ThreadState) → x.temps ≡ y.temps → joined_thread i x ≡ joined_thread i y

@@ -65,6 +65,7 @@ pub mod TurnFinished
 pub mod TurnPairs
 pub mod GiftsTaken
 pub mod TurnEvents
+pub mod Owed
 pub mod HaveResults
 pub mod StandsHere
 pub mod AnswerResults

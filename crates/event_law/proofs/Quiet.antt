@@ -21,7 +21,7 @@ use Rattle.event_law.proofs.Trades.{tot-append}
 use Rattle.event_law.proofs.Bags.{all_standing}
 use Rattle.event_law.proofs.Unseen.{partition_none, copies_none}
 use Rattle.event_law.proofs.Held.{holds_result}
-use Rattle.event_law.proofs.Fair.{Fair, Hears, Asks, Calmly, fair_none, fair_both, fair_calm, fair_asks, fair_beside}
+use Rattle.event_law.proofs.Fair.{Dues, zeros, even, pays, Fair, Hears, Asks, Calmly, fair_none, fair_both, fair_calm, fair_asks, fair_beside}
 use Rattle.event_law.proofs.KnownPlaces.{Told, Holds}
 use Rattle.event_law.proofs.KnownPrepares.{Asked}
 
@@ -83,7 +83,7 @@ pub record Quietly (code : List Instr) (gift : Option Owned → Type 0) (y : Thr
   pub begun : c ≡ r.started
   pub news : List Thing
   pub says : Says r news n i o ms ts
-  pub light : Fair code [] news
+  pub light : Fair (even code) [] news
 
 abbrev pub quiet : List Instr → (Option Owned → Type 0) → ThreadState → Rest → Told
 quiet code gift y r p t g pc n i o ms ts c = Quietly code gift y r p t g pc n i o ms ts c
@@ -106,14 +106,14 @@ pub quiet_gift : (code : List Instr) (gift gift2 : Option Owned → Type 0) (y :
 quiet_gift code gift gift2 y r h g t q = record { still = q.still; named = q.named; given = t; placed = q.placed; begun = q.begun; news = q.news; says = q.says; light = q.light }
 
 -- at its end the thread and what was said weigh as the thread did
-pub record After (code : List Instr) (y : ThreadState) (r : Rest) (h : Hand) : Type 0 where
+pub record After (dues : Dues) (y : ThreadState) (r : Rest) (h : Hand) : Type 0 where
   pub named : h.thread.number ≡ y.number
   pub news : List Thing
   pub says : SaysOf r news h.work.rest
-  pub fair : Fair code (stands r.number false y ∷ []) (stands r.number false h.thread ∷ news)
+  pub fair : Fair dues (stands r.number false y ∷ []) (stands r.number false h.thread ∷ news)
 
 module _ (code : List Instr) (gift : Option Owned → Type 0) (y : ThreadState) (r : Rest) where
-  pub quiet_sends : (t : ℕ) (m : Message) (h : Hand) → Fair code [] (message_things t m) → Quiet code gift y r h → Quiet code gift y r (working (send t m) h)
+  pub quiet_sends : (t : ℕ) (m : Message) (h : Hand) → Fair (even code) [] (message_things t m) → Quiet code gift y r h → Quiet code gift y r (working (send t m) h)
   quiet_sends t m h l g = record {
     still = g.still;
     named = g.named;
@@ -126,7 +126,7 @@ module _ (code : List Instr) (gift : Option Owned → Type 0) (y : ThreadState) 
   }
 
   -- it goes on
-  pub calm_after : (h : Hand) (y2 : ThreadState) → can_step y.phase ≡ true → Calmly y2.phase → y2.number ≡ h.thread.number → y2.gift ≡ None → Quiet code gift y r h → After code y r (record h { thread = y2 })
+  pub calm_after : (h : Hand) (y2 : ThreadState) → can_step y.phase ≡ true → Calmly y2.phase → y2.number ≡ h.thread.number → y2.gift ≡ None → Quiet code gift y r h → After (pays code y zeros) y r (record h { thread = y2 })
   calm_after h y2 c d e bare g = record {
     named = e ∙ g.named;
     news = g.news;
@@ -136,12 +136,12 @@ module _ (code : List Instr) (gift : Option Owned → Type 0) (y : ThreadState) 
 
   -- it asks
   pub asks_after : (a : ℕ) (m : Message) (h : Hand) (y2 : ThreadState) → message_things a m ≡ sent a m ∷ [] → can_step y.phase ≡ true → y2.number ≡ h.thread.number → ((t : ℕ) → holds_result code t y2 ≡ 0) → Asks y2 m → Quiet code gift y r h
-      → After code y r (record { work = send a m h.work; thread = y2 })
+      → After (pays code y zeros) y r (record { work = send a m h.work; thread = y2 })
   asks_after a m h y2 alone c e bare q g = record {
     named = e ∙ g.named;
     news = g.news ++ message_things a m;
     says = says_sent r h.work.rest g.news a m g.says;
-    fair = subst (λ l. Fair code (stands r.number false y ∷ []) (stands r.number false y2 ∷ (g.news ++ l))) (sym alone)
+    fair = subst (λ l. Fair (pays code y zeros) (stands r.number false y ∷ []) (stands r.number false y2 ∷ (g.news ++ l))) (sym alone)
         (fair_beside (stands r.number false y ∷ []) (stands r.number false y2 ∷ []) g.news (sent a m ∷ []) g.light (fair_asks r.number a y y2 m (e ∙ g.named) bare c q));
   }
 
@@ -150,7 +150,7 @@ abbrev pub NoJoin : List Instr → ThreadState → Type 0
 NoJoin code y = (t : ℕ) (x : ThreadState) → x.gift ≡ y.gift → x.pc ≡ y.pc → holds_result code t x ≡ 0
 
 -- the request for a copy or for an object
-pub quiet_asks : (code : List Instr) (y : ThreadState) (r : Rest) → can_step y.phase ≡ true → NoJoin code y → (ss : List Server) → Asked ss (quiet code (IsGift y) y r) (After code y r)
+pub quiet_asks : (code : List Instr) (y : ThreadState) (r : Rest) → can_step y.phase ≡ true → NoJoin code y → (ss : List Server) → Asked ss (quiet code (IsGift y) y r) (After (pays code y zeros) y r)
 quiet_asks code y r c none ss = record {
   for_copy = λ p h k g.
       let m = message.Fetch p.word p.object h.work.rest.number h.thread.number in

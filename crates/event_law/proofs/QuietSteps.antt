@@ -1,5 +1,5 @@
 -- What the plain step of each instruction says, and how its thread is then.
-use Rattle.std.proofs.Common.{◌≡◌, ℕ, ℤ, zero, suc, ◌+◌, ◌*◌, ◌^◌, ◌<◌, ◌==◌, Bool, true, false, if◌then◌else◌, List, [], ◌∷◌, ◌++◌, Option, Some, None, refl, sym, ap, subst, ◌∙◌, append_assoc, arith}
+use Rattle.std.proofs.Common.{◌≡◌, ℕ, ℤ, zero, suc, ◌+◌, ◌*◌, ◌^◌, ◌<◌, ◌==◌, Bool, true, false, if◌then◌else◌, List, [], ◌∷◌, ◌++◌, Option, Some, None, refl, sym, ap, ap₂, subst, ◌∙◌, append_assoc, arith}
 use Rattle.std.specs.Prelude.{slice_get}
 use Rattle.std.specs.Bool.{⊤}
 use Rattle.fr_base.specs.Rooms.{WithRoom}
@@ -38,16 +38,17 @@ use Rattle.server_model.specs.Start.{next_thread, server_for, start_thread, capt
 use Rattle.server_model.specs.Commit.{Committed, done, waits, refused, done_where, go_on, goes_on, waiting, label_dropped, replace_slot, store_labels, store_at, replace_at, assign, take_out, read_as, shared_from, borrow_from, mutable_from, borrow_mut_from, discard, drop_slot, next_object, push_box, box_up, arith as calculate, print, begun, spawn_with, spawn, ask_join, take_gift, join, pair_begun, par, par_end, end_with, end_thread, mutex_made, mutex, mutex_at, ask_dup, dup, ask_lock, lock, held_of, unlock, commit, settle}
 use Rattle.server_model.specs.Prepare.{Prepared, ready, requested, nothing, access_of, prepare}
 use Rattle.server_model.specs.Events.{can_step, Stepped, done_step, committed, prepared, step}
+use Rattle.heap_law.specs.Names.{one}
 use Rattle.heap_law.specs.Things.{Thing, as_content, stands, task_things, mutex_things, message_things}
 use Rattle.event_law.specs.Laws.{Gives}
 use Rattle.event_law.proofs.Results.{then_gives, map_gives, over_gives, bind_gives, test_gives}
 use Rattle.event_law.proofs.Trades.{tot-append, tot-push}
 use Rattle.event_law.proofs.Bags.{sent_number}
-use Rattle.event_law.proofs.Fair.{Fair, fair_both, fair_beside, fair_same, fair_thread, fair_calm}
+use Rattle.event_law.proofs.Fair.{Fair, zeros, pays, fair_sum, fair_both, fair_beside, fair_same, fair_thread, fair_calm}
 use Rattle.event_law.proofs.FairStarts.{fair_starts, fair_pair, fair_main_ends, fair_ends}
 use Rattle.event_law.proofs.KnownPlaces.{put_keeps, pointer_keeps}
 use Rattle.event_law.proofs.KnownPrepares.{Ok, Fine, prepare_fine}
-use Rattle.event_law.proofs.Held.{bare_held}
+use Rattle.event_law.proofs.Held.{holds_result, bare_held}
 use Rattle.event_law.proofs.Quiet.{sent_started, SaysOf, Quiet, quiet, IsGift, NoGift, NoJoin, quiet_sends, quiet_asks, After, calm_after, asks_after, says_sent}
 
 -- a note more, and a mutex more for which nobody waits
@@ -78,6 +79,11 @@ abbrev pub Unjoined : List Instr → ThreadState → Instr → Type 0
 Unjoined code y (instr.Join o) = ⊤
 Unjoined code y i = NoJoin code y
 
+-- a spawn makes the result of the thread that it starts owed, and no other step any
+abbrev pub made_by : Instr → ℕ → ℕ → ℕ
+made_by (instr.Spawn cs pc) u = λ t. one (u == t)
+made_by i u = zeros
+
 module _ (code : List Instr) (y : ThreadState) (r : Rest) (calm : can_step y.phase ≡ true) (names : r.started + 2 < 2 ^ 32) where
   -- it has no gift, or that with which it began
   abbrev Q : Hand → Type 0
@@ -92,17 +98,24 @@ module _ (code : List Instr) (y : ThreadState) (r : Rest) (calm : can_step y.pha
   taken : (h : Hand) → P h → Q (take_gift h)
   taken h g = record { still = g.still; named = g.named; given = refl; placed = g.placed; begun = g.begun; news = g.news; says = g.says; light = g.light }
 
+  -- so much is made; nothing is
+  abbrev Makes : (ℕ → ℕ) → Hand → Type 0
+  Makes made = After (pays code y made) y r
+
   abbrev Then : Hand → Type 0
-  Then = After code y r
+  Then = Makes zeros
+
+  abbrev MakesBy : (ℕ → ℕ) → Committed → Type 0
+  MakesBy made (done names h) = Makes made h
+  MakesBy made (waits h) = Makes made h
+  MakesBy made refused = ⊤
 
   abbrev ThenBy : Committed → Type 0
-  ThenBy (done names h) = Then h
-  ThenBy (waits h) = Then h
-  ThenBy refused = ⊤
+  ThenBy = MakesBy zeros
 
-  done_then : (names : Fresh) (o : Option Hand) → Gives Then o → ThenBy (done_where names o)
-  done_then names None g = tt
-  done_then names (Some h) g = g
+  done_then : (made : ℕ → ℕ) (names : Fresh) (o : Option Hand) → Gives (Makes made) o → MakesBy made (done_where names o)
+  done_then made names None g = tt
+  done_then made names (Some h) g = g
 
   waits_then : (o : Option Hand) → Gives Then o → ThenBy (waiting o)
   waits_then None g = tt
@@ -118,9 +131,9 @@ module _ (code : List Instr) (y : ThreadState) (r : Rest) (calm : can_step y.pha
   -- VALUES
 
   gives : (v : Owned) (h : Hand) → Q h → Q (working (give_up v) h)
-  gives (owned.Box p) h g = quiet_sends code NoGift y r (server_of p.word) (message.Drop p.word p.object) (working (note (act.Condemn p.object p.word)) h) (record { answers = λ t. refl; pairs = λ b. refl; going = λ t. refl; homes = omega arith; ends = λ t. omega arith }) g
-  gives (owned.Mutex m) h g = quiet_sends code NoGift y r m.home (message.Release (released.Mutex m)) (working (note (act.LetGo (released.Mutex m))) h) (record { answers = λ t. refl; pairs = λ b. refl; going = λ t. refl; homes = omega arith; ends = λ t. omega arith }) g
-  gives (owned.Task t) h g = quiet_sends code NoGift y r (home_of t) (message.Release (released.Task t)) (working (note (act.LetGo (released.Task t))) h) (record { answers = λ t. refl; pairs = λ b. refl; going = λ t. refl; homes = omega arith; ends = λ t. omega arith }) g
+  gives (owned.Box p) h g = quiet_sends code NoGift y r (server_of p.word) (message.Drop p.word p.object) (working (note (act.Condemn p.object p.word)) h) (record { answers = λ t. refl; pairs = λ b. refl; going = λ t. refl; homes = omega arith; ends = λ t. omega arith; owes = λ t. refl }) g
+  gives (owned.Mutex m) h g = quiet_sends code NoGift y r m.home (message.Release (released.Mutex m)) (working (note (act.LetGo (released.Mutex m))) h) (record { answers = λ t. refl; pairs = λ b. refl; going = λ t. refl; homes = omega arith; ends = λ t. omega arith; owes = λ t. refl }) g
+  gives (owned.Task t) h g = quiet_sends code NoGift y r (home_of t) (message.Release (released.Task t)) (working (note (act.LetGo (released.Task t))) h) (record { answers = λ t. refl; pairs = λ b. refl; going = λ t. refl; homes = omega arith; ends = λ t. omega arith; owes = λ t. refl }) g
   gives owned.Nothing h g = g
   gives owned.Unit h g = g
   gives (owned.Int n) h g = g
@@ -227,7 +240,7 @@ module _ (code : List Instr) (y : ThreadState) (r : Rest) (calm : can_step y.pha
 
   makes_mutex : (o : Operand) (h : Hand) → Q h → ThenBy (mutex o h)
   makes_mutex o h g =
-      done_then _ _ (over_gives Q Then (then_some (pop_owned o h) (λ p. mutex_made p.item p.hand)) go_on
+      done_then zeros _ _ (over_gives Q Then (then_some (pop_owned o h) (λ p. mutex_made p.item p.hand)) go_on
       (bind_gives (PoppedQ Owned) Q (pop_owned o h) _ (pops_owned o h g) (λ p u. test_gives Q (can_make p.hand.work.rest.mutexes) _ (λ z. record {
         still = u.still;
         named = u.named;
@@ -257,7 +270,7 @@ module _ (code : List Instr) (y : ThreadState) (r : Rest) (calm : can_step y.pha
   unlocks h g =
       bind_gives (PoppedQ Owned) Q (then_some (pop_slot h) (taken_as owned_of)) _ (takes_as owned_of (pop_slot h) (pops_slot h g)) (λ v u.
       over_gives (PoppedQ MutexNo) Q (then_some (pop_slot v.hand) (taken_as held_of)) _ (takes_as held_of (pop_slot v.hand) (pops_slot v.hand u)) (λ m w.
-      quiet_sends code NoGift y r m.item.home (message.Unlock m.item v.item) (working (λ x. label_all (label.Unlock m.item ∷ []) (note (act.GiveBack m.item) x)) m.hand) (record { answers = λ t. refl; pairs = λ b. refl; going = λ t. refl; homes = omega arith; ends = λ t. omega arith }) w))
+      quiet_sends code NoGift y r m.item.home (message.Unlock m.item v.item) (working (λ x. label_all (label.Unlock m.item ∷ []) (note (act.GiveBack m.item) x)) m.hand) (record { answers = λ t. refl; pairs = λ b. refl; going = λ t. refl; homes = omega arith; ends = λ t. omega arith; owes = λ t. refl }) w))
 
   -- THREADS
 
@@ -278,19 +291,22 @@ module _ (code : List Instr) (y : ThreadState) (r : Rest) (calm : can_step y.pha
   home_here : (a b c : ℕ) → a ≡ r.number → b ≡ r.started → c ≡ a * 2 ^ 32 + (b + 1) → home_of c ≡ r.number
   home_here a b c e h q = omega (arith, e, h, q, names)
 
-  spawns : (servers : ℕ) (cs : WithRoom (ℕ × Bool)) (pc : ℕ) (h : Hand) → Q h → ThenBy (spawn servers cs pc h)
+  spawns : (servers : ℕ) (cs : WithRoom (ℕ × Bool)) (pc : ℕ) (h : Hand) → Q h → MakesBy (λ t. one (next_thread r == t)) (spawn servers cs pc h)
   spawns servers cs pc h g =
-      done_then _ _ (over_gives (λ z. Then (go_on z)) Then (then_some (capture false cs.items h.thread.slots) (spawn_with servers pc u h)) go_on
-      (then_gives (λ z. Then (go_on z)) (capture false cs.items h.thread.slots) _ (λ new q.
-      over_gives (λ h2. h2 ≡ noted) (λ z. Then (go_on z)) (begun h) _ (test_gives (λ h2. h2 ≡ noted) (can_begin h.work.rest.tasks u) _ (λ z. refl)) (λ h2 same. started new h2 same))) (λ z k. k))
+      done_then makes _ _ (over_gives (λ z. Makes makes (go_on z)) (Makes makes) (then_some (capture false cs.items h.thread.slots) (spawn_with servers pc u h)) go_on
+      (then_gives (λ z. Makes makes (go_on z)) (capture false cs.items h.thread.slots) _ (λ new q.
+      over_gives (λ h2. h2 ≡ noted) (λ z. Makes makes (go_on z)) (begun h) _ (test_gives (λ h2. h2 ≡ noted) (can_begin h.work.rest.tasks u) _ (λ z. refl)) (λ h2 same. started new h2 same))) (λ z k. k))
     where
       u : ℕ
       u = next_thread h.work.rest
 
+      makes : ℕ → ℕ
+      makes = λ t. one (next_thread r == t)
+
       noted : Hand
       noted = working (with_tasks (begin h.work.rest.tasks u)) h
 
-      started : (new : List Value × List Value) (h2 : Hand) → h2 ≡ noted → Then (go_on (push_temp (value.Own (owned.Task u)) (working (start_thread servers pc new.0) (with_slots new.1 h2))))
+      started : (new : List Value × List Value) (h2 : Hand) → h2 ≡ noted → Makes makes (go_on (push_temp (value.Own (owned.Task u)) (working (start_thread servers pc new.0) (with_slots new.1 h2))))
       started new h2 same =
           let x = new_thread u pc new.0 in
           let s = server_for servers h.work.rest in
@@ -299,17 +315,20 @@ module _ (code : List Instr) (y : ThreadState) (r : Rest) (calm : can_step y.pha
           let y2 : ThreadState = record h.thread { pc = h.thread.pc + 1; slots = new.1; temps = h.thread.temps ++ value.Own (owned.Task u) ∷ []; phase = phase.Ready } in
           let says = g.says in
           let home = home_here h.work.rest.number h.work.rest.started u says.same g.begun refl in
-          let light = subst (Fair code []) (sym (append_assoc g.news n m)) (fair_both [] g.news [] (n ++ m) g.light (fair_starts r.number s x refl refl (new_name h.work.rest.number h.work.rest.started) home)) in
-          subst (λ z. Then (go_on (push_temp (value.Own (owned.Task u)) (working (start_thread servers pc new.0) (with_slots new.1 z))))) (sym same) (record {
+          let named : next_thread r ≡ u = ap₂ (λ a b. a * 2 ^ 32 + (b + 1)) (sym says.same) (sym g.begun) in
+          let makes_one : (t : ℕ) → 0 + one (u == t) ≡ makes t = λ t. let same : one (next_thread r == t) ≡ one (u == t) = ap (λ a. one (a == t)) named in omega (arith, same) in
+          let light : Fair (record { code = code; made = makes; spent = zeros }) [] ((g.news ++ n) ++ m) = subst (Fair (record { code = code; made = makes; spent = zeros }) []) (sym (append_assoc g.news n m))
+          (fair_sum code makes zeros zeros zeros (λ t. one (u == t)) zeros makes_one (λ t. refl) [] g.news [] (n ++ m) g.light (fair_starts r.number s x refl refl (new_name h.work.rest.number h.work.rest.started) home)) in
+          subst (λ z. Makes makes (go_on (push_temp (value.Own (owned.Task u)) (working (start_thread servers pc new.0) (with_slots new.1 z))))) (sym same) (record {
             named = g.named;
             news = (g.news ++ n) ++ m;
             says = says_sent r (record h.work.rest { tasks = h.work.rest.tasks ++ record { thread = u; state = going } ∷ []; started = h.work.rest.started + 1 }) (g.news ++ n) s (message.Start x) (noted_more r g.news (record { thread = u; state = going }) h.work.rest g.says);
-            fair = fair_both (stands r.number false y ∷ []) (stands r.number false y2 ∷ []) [] ((g.news ++ n) ++ m) (fair_calm r.number y y2 g.named g.given calm (record { steps = refl; got = λ t. refl })) light;
+            fair = fair_sum code makes (λ t. holds_result code t y) zeros (λ t. holds_result code t y) makes zeros (λ t. omega arith) (λ t. omega arith) (stands r.number false y ∷ []) (stands r.number false y2 ∷ []) [] ((g.news ++ n) ++ m) (fair_calm r.number y y2 g.named g.given calm (record { steps = refl; got = λ t. refl })) light;
           })
 
   pars : (servers : ℕ) (cs : WithRoom (ℕ × Bool)) (pc : ℕ) (ds : WithRoom (ℕ × Bool)) (other : ℕ) (h : Hand) → Q h → ThenBy (par servers cs pc ds other h)
   pars servers cs pc ds other h g =
-      done_then _ _ (then_gives Then (capture true cs.items h.thread.slots) _ (λ first p. then_gives Then (capture true ds.items first.1) _ (λ second q.
+      done_then zeros _ _ (then_gives Then (capture true cs.items h.thread.slots) _ (λ first p. then_gives Then (capture true ds.items first.1) _ (λ second q.
       over_gives (λ h2. h2 ≡ both) Then (pair_begun h a (a + 1)) _ (test_gives (λ h2. h2 ≡ both) (can_begin_pair h.work.rest.tasks h.thread.number a (a + 1)) _ (λ z. refl)) (λ h2 same. started first.0 second h2 same))))
     where
       a : ℕ
@@ -342,7 +361,7 @@ module _ (code : List Instr) (y : ThreadState) (r : Rest) (calm : can_step y.pha
           let home = home_here rest.number rest.started a says.same g.begun refl in
           let home2 : home_of (next_thread r1) ≡ r.number = omega (arith, next, says.same, g.begun, names) in
           let fair = fair_pair r.number s s2 y y2 u v g.named g.given refl refl calm (ap (λ i. phase.WaitPar a i) (sym next)) refl refl (new_name rest.number rest.started) (λ e. absurd (omega (arith, e, next))) home home2 in
-          let fair2 : Fair code (stands r.number false y ∷ []) (stands r.number false y2 ∷ (n1 ++ n2 ++ m1 ++ m2)) = subst (λ i. Fair code (stands r.number false y ∷ []) (stands r.number false y2 ∷ (n1 ++ task_things r.number 0 (record { thread = i; state = state }) ++ m1 ++ m2))) next fair in
+          let fair2 : Fair (pays code y zeros) (stands r.number false y ∷ []) (stands r.number false y2 ∷ (n1 ++ n2 ++ m1 ++ m2)) = subst (λ i. Fair (pays code y zeros) (stands r.number false y ∷ []) (stands r.number false y2 ∷ (n1 ++ task_things r.number 0 (record { thread = i; state = state }) ++ m1 ++ m2))) next fair in
           subst (λ z. Then (with_phase (phase.WaitPar a (a + 1)) (go_on (working (λ w. start_thread servers other second.0 (start_thread servers pc first w)) (with_slots second.1 z))))) (sym same) (record {
             named = g.named;
             news = (((g.news ++ n1) ++ n2) ++ m1) ++ m2;
@@ -383,7 +402,7 @@ module _ (code : List Instr) (y : ThreadState) (r : Rest) (calm : can_step y.pha
 
   ends : (o : Operand) (h : Hand) → Q h → ThenBy (end_thread o h)
   ends o h g =
-      done_then _ _ (over_gives (λ h2. Then (with_phase phase.Over h2)) Then (then_some (pop_owned o h) (λ p. end_with (h.thread.number == 0) p.item p.hand)) (with_phase phase.Over)
+      done_then zeros _ _ (over_gives (λ h2. Then (with_phase phase.Over h2)) Then (then_some (pop_owned o h) (λ p. end_with (h.thread.number == 0) p.item p.hand)) (with_phase phase.Over)
       (bind_gives (λ (p : Popped Owned). (p.hand.thread.number ≡ h.thread.number) × Q p.hand) (λ h2. Then (with_phase phase.Over h2)) (pop_owned o h) _ same_thread
       (λ p u. ends_with (h.thread.number == 0) p.item p.hand (ap (λ i. i == 0) u.0) u.1)) (λ h2 u. u))
     where
@@ -400,7 +419,7 @@ module _ (code : List Instr) (y : ThreadState) (r : Rest) (calm : can_step y.pha
 
   -- ALL INSTRUCTIONS
 
-  commits : (servers : ℕ) (i : Instr) (s : Spot) (h : Hand) → GiftFits i y.gift → P h → ThenBy (commit servers i s h)
+  commits : (servers : ℕ) (i : Instr) (s : Spot) (h : Hand) → GiftFits i y.gift → P h → MakesBy (made_by i (next_thread r)) (commit servers i s h)
   commits n (instr.Let o) s h f g = goes_then _ (over_gives (PoppedQ Value) Q (pop o h) _ (pops o h (bare h f g)) (λ p u. u))
   commits n (instr.Assign w o) s h f g = goes_then _ (assigns w w.depth o s h (bare h f g))
   commits n (instr.Read w take) s h f g = goes_then _ (then_gives Q (value_at h s) _ (λ v q. reads_as take s v (load_at s h) (bare h f g)))
@@ -423,42 +442,44 @@ module _ (code : List Instr) (y : ThreadState) (r : Rest) (calm : can_step y.pha
 
   -- A WHOLE STEP
 
-  abbrev ThenStep : Stepped → Type 0
-  ThenStep d = Then d.hand
+  module _ (made : ℕ → ℕ) where
+    abbrev ThenStep : Stepped → Type 0
+    ThenStep d = Makes made d.hand
 
-  settles : (h : Hand) → Then h → Gives Then (settle h)
-  settles h g = map_gives Then (unpin_all h.thread.walk h.work.rest.cache) _ (λ cs q. record {
-    named = g.named;
-    news = g.news;
-    says = g.says;
-    fair = fair_thread (stands r.number false y ∷ []) r.number h.thread (record h.thread { passed = 0; walk = []; moved_since_step = false }) g.news (record { number = refl; phase = refl; gift = refl; pc = refl; temps = refl }) g.fair;
-  })
+    settles : (h : Hand) → Makes made h → Gives (Makes made) (settle h)
+    settles h g = map_gives (Makes made) (unpin_all h.thread.walk h.work.rest.cache) _ (λ cs q. record {
+      named = g.named;
+      news = g.news;
+      says = g.says;
+      fair = fair_thread (stands r.number false y ∷ []) r.number h.thread (record h.thread { passed = 0; walk = []; moved_since_step = false }) g.news (record { number = refl; phase = refl; gift = refl; pc = refl; temps = refl }) g.fair;
+    })
 
-  commit_then : (c : Committed) → ThenBy c → Gives ThenStep (committed c)
-  commit_then (done names h) g = over_gives Then ThenStep (settle h) (done_step names) (settles h g) (λ h2 u. u)
-  commit_then (waits h) g = record { named = g.named; news = g.news; says = g.says; fair = g.fair }
-  commit_then refused g = tt
+    commit_then : (c : Committed) → MakesBy made c → Gives ThenStep (committed c)
+    commit_then (done names h) g = over_gives (Makes made) ThenStep (settle h) (done_step names) (settles h g) (λ h2 u. u)
+    commit_then (waits h) g = record { named = g.named; news = g.news; says = g.says; fair = g.fair }
+    commit_then refused g = tt
 
   module _ (ss : List Server) where
     -- the place is ready, or the request leaves what is wanted
-    abbrev FineStep : Prepared → Type 0
-    FineStep (ready h s) = P h
-    FineStep (requested h) = Then h
-    FineStep nothing = ⊤
+    abbrev FineStep : (ℕ → ℕ) → Prepared → Type 0
+    FineStep made (ready h s) = P h
+    FineStep made (requested h) = Makes made h
+    FineStep made nothing = ⊤
 
-    as_fine : (none : NoJoin code y) (p : Prepared) → Fine ss (quiet code (IsGift y) y r) (quiet_asks code y r calm none ss) p → FineStep p
+    as_fine : (none : NoJoin code y) (p : Prepared) → Fine ss (quiet code (IsGift y) y r) (quiet_asks code y r calm none ss) p → FineStep zeros p
     as_fine none (ready h s) g = g.1
     as_fine none (requested h) g = g
     as_fine none nothing g = tt
 
-    prepared_then : (servers : ℕ) (i : Instr) (p : Prepared) → GiftFits i y.gift → FineStep p → Gives ThenStep (prepared servers i p)
-    prepared_then servers i (ready h s) f g = commit_then (commit servers i s h) (commits servers i s h f g)
+    prepared_then : (servers : ℕ) (i : Instr) (p : Prepared) → GiftFits i y.gift → FineStep (made_by i (next_thread r)) p → Gives (ThenStep (made_by i (next_thread r))) (prepared servers i p)
+    prepared_then servers i (ready h s) f g = commit_then (made_by i (next_thread r)) (commit servers i s h) (commits servers i s h f g)
     prepared_then servers i (requested h) f g = record { named = g.named; news = g.news; says = g.says; fair = g.fair }
     prepared_then servers i nothing f g = tt
 
-    fine_step : (i : Instr) (h : Hand) → Unjoined code y i → Ok ss (quiet code (IsGift y) y r) h → FineStep (prepare (access_of i h.thread) h)
+    fine_step : (i : Instr) (h : Hand) → Unjoined code y i → Ok ss (quiet code (IsGift y) y r) h → FineStep (made_by i (next_thread r)) (prepare (access_of i h.thread) h)
     fine_step (instr.Join o) h none g = g.1
+    fine_step (instr.Spawn cs pc) h none g = g.1
     fine_step i h none g = as_fine none (prepare (access_of i h.thread) h) (prepare_fine ss (quiet code (IsGift y) y r) (quiet_asks code y r calm none ss) (access_of i h.thread) h g)
 
-    pub step_then : (servers : ℕ) (i : Instr) (h : Hand) → GiftFits i y.gift → Unjoined code y i → Ok ss (quiet code (IsGift y) y r) h → Gives ThenStep (step servers i h)
+    pub step_then : (servers : ℕ) (i : Instr) (h : Hand) → GiftFits i y.gift → Unjoined code y i → Ok ss (quiet code (IsGift y) y r) h → Gives (ThenStep (made_by i (next_thread r))) (step servers i h)
     step_then servers i h f none g = prepared_then servers i (prepare (access_of i h.thread) h) f (fine_step i h none g)

@@ -36,6 +36,10 @@ pub given_by : {X : Type 0} (P : X → Type 0) (x : Option X) (a : X) → Gives 
 given_by P None a h e = cc
 given_by P (Some b) a h e = let same : b ≡ a = cc in subst P same h
 
+pub both_give : {X : Type 0} (P Q R : X → Type 0) (x : Option X) → Gives P x → Gives Q x → ((a : X) → P a → Q a → R a) → Gives R x
+both_give P Q R None p q f = tt
+both_give P Q R (Some a) p q f = f a p q
+
 -- A THREAD THAT ARRIVES
 
 pub stand_gives : (P : Site → Type 0) (o : Option ThreadState) (t : ThreadState) (x : Site) → P (record x { threads = with_thread x.threads t }) → Gives P (stand o t x)

@@ -1,5 +1,5 @@
 -- An event that spends a task value: the delivery of a task's `release`, and a join that is done. The rules keep one fact until it goes, and another from there.
-use Rattle.std.proofs.Common.{◌≡◌, ℕ, ◌+◌, ◌==◌, false, List, [], ◌∷◌, ◌++◌, Option, Some, None, refl, sym, ap, subst, ◌∙◌, arith}
+use Rattle.std.proofs.Common.{◌≡◌, ℕ, ◌+◌, ◌==◌, false, List, [], ◌∷◌, ◌++◌, Some, None, refl, sym, ap, subst, ◌∙◌, arith}
 use Rattle.std.specs.Prelude.{slice_get, option_map}
 use Rattle.fr_base.specs.declared.instruction.Instr.{Instr}
 use Rattle.fr_base.specs.declared.instruction.Instr.TheVariants as instr
@@ -33,7 +33,7 @@ use Rattle.event_law.specs.Laws.{Gives, task_values_in, ReleasesSpendOne, JoinsS
 use Rattle.event_law.proofs.Trades.{Trade, Same, tot-append, trade_left}
 use Rattle.event_law.proofs.Rules.{Kept}
 use Rattle.event_law.proofs.RulesKeep.{task_same, sums_kept, sums_spend, Counted, counted_kept}
-use Rattle.event_law.proofs.Results.{map_gives, over_gives, bind_gives, test_gives, weaker}
+use Rattle.event_law.proofs.Results.{map_gives, over_gives, bind_gives, test_gives, weaker, both_give}
 use Rattle.event_law.proofs.Bags.{HandOk, SiteOk, all_standing, rest_things}
 use Rattle.event_law.proofs.Chains.{work_front, beside_keeps, takes, puts_back}
 use Rattle.event_law.proofs.Objects.{one_goes}
@@ -47,10 +47,6 @@ use Rattle.event_law.proofs.MutexMessages.{releases_deliver}
 use Rattle.event_law.proofs.TaskMessages.{task_goes}
 use Rattle.event_law.proofs.Events.{Left, others_of, tot-server, begins_site, ends_site, receives_site, delivers}
 use Rattle.event_law.proofs.Sound.{sound_has_sums}
-
-both_give : {X : Type 0} (P Q R : X → Type 0) (x : Option X) → Gives P x → Gives Q x → ((a : X) → P a → Q a → R a) → Gives R x
-both_give P Q R None p q f = tt
-both_give P Q R (Some a) p q f = f a p q
 
 some_same : {a b : ℕ} → Some a ≡ Some b → a ≡ b
 some_same e = cc

@@ -29,8 +29,8 @@ use Rattle.event_law.proofs.Results.{bind_gives}
 use Rattle.event_law.proofs.Bags.{thread_number}
 use Rattle.event_law.proofs.FinishSteps.{task_number}
 use Rattle.event_law.proofs.Finished.{pair_finds, other_stays, same_task, not_over}
-use Rattle.event_law.proofs.Held.{result_of, holds_result, same_held}
-use Rattle.event_law.proofs.Fair.{Fair, if_none}
+use Rattle.event_law.proofs.Held.{result_of, owed_of, holds_result, same_held}
+use Rattle.event_law.proofs.Fair.{even, Fair, if_none}
 use Rattle.event_law.proofs.FairStarts.{noting, waits_for_two, halves_match}
 use Rattle.event_law.proofs.Changes.{ChangeOf, change_sent, change_state, change_gone, change_then, rest_turns, ThreadTurns}
 use Rattle.event_law.proofs.TurnMessages.{SiteTurns, at, lets_go}
@@ -55,7 +55,7 @@ PairsMatch s = (u o p a b : ℕ) (x z : Task) (y : ThreadState) → task_in s.re
 -- both branches have ended, and their parent goes on
 fair_over : {code : List Instr} (n u o a b : ℕ) (v : Owned) (x z : Task) (y y2 : ThreadState) → x.thread ≡ u → z.thread ≡ o → x.state ≡ in_pair y.number false → z.state ≡ in_pair y.number true → y.phase ≡ phase.WaitPar a b → y2.number ≡ y.number → y2.phase ≡ phase.GotPar a b → ((t : ℕ) → holds_result code t y2 ≡ holds_result code t y)
     → ((w : ℕ) → one (u == w) + one (o == w) ≡ one (a == w) + one (b == w))
-    → Fair code (message_things n (message.Finished u v) ++ ((noted n x ∷ noted n z ∷ []) ++ stands n false y ∷ [])) (stands n false y2 ∷ [])
+    → Fair (even code) (message_things n (message.Finished u v) ++ ((noted n x ∷ noted n z ∷ []) ++ stands n false y ∷ [])) (stands n false y2 ∷ [])
 fair_over {code} n u o a b v x z y y2 e d first second waiting same got gift match = record {
   answers = λ t.
       let w : if_so (y.number == t && waits y.phase) 2 ≡ if_so (y.number == t && true) 2 = ap (λ p. if_so (y.number == t && waits p) 2) waiting in
@@ -86,6 +86,7 @@ fair_over {code} n u o a b v x z y y2 e d first second waiting same got gift mat
       let w : got_phase t y.phase ≡ 0 = ap (got_phase t) waiting in
       let g : got_phase t y2.phase ≡ one (a == t) + one (b == t) = ap (got_phase t) got in
       omega (arith, over, w, g, gift t, match t, if_none (u == t) 0 refl, if_one (o == t), f (result_of code t), h (result_of code t), f (has_ended t), h (has_ended t));
+  owes = λ t. omega (arith, gift t, none_so (u == t), none_so (o == t), f (owed_of code t), h (owed_of code t));
 }
   where
     f : (g : Thing → ℕ) → g (noted n x) ≡ g (noted n (record { thread = u; state = in_pair y.number false }))
@@ -116,7 +117,7 @@ module _ (code : List Instr) (s : Server) (i u : ℕ) (v : Owned) (q : slice_get
   m = message.Finished u v
 
   abbrev Site2 : Site → Type 0
-  Site2 = SiteTurns code s i m q
+  Site2 = SiteTurns (even code) s i m q
 
   -- where the result goes, once the notes have changed
   abbrev Ends : List Task × EndedAs → Type 0
@@ -124,13 +125,13 @@ module _ (code : List Instr) (s : Server) (i u : ℕ) (v : Owned) (q : slice_get
 
   -- the parent of a pair goes on
   parent_goes : (o p : ℕ) (x z : Task) (ts : List Task) → task_in r.tasks u ≡ Some x → task_in (without_task r.tasks u) o ≡ Some z → x.state ≡ in_pair p false → z.state ≡ in_pair p true → ChangeOf r (noted n x ∷ noted n z ∷ []) [] (record r { tasks = ts })
-      → (y : ThreadState) (here : thread_in s.threads p ≡ Some y) (j : Phase) → y.phase ≡ j → Gives (λ (h : Hand). ThreadTurns code s i m q p y here h.work.rest h.thread) (option_map (λ k. with_phase k (record { work = with_tasks ts start; thread = y })) (got_par u j))
+      → (y : ThreadState) (here : thread_in s.threads p ≡ Some y) (j : Phase) → y.phase ≡ j → Gives (λ (h : Hand). ThreadTurns (even code) s i m q p y here h.work.rest h.thread) (option_map (λ k. with_phase k (record { work = with_tasks ts start; thread = y })) (got_par u j))
   parent_goes o p x z ts e d first second c y here (phase.WaitPar a b) waiting = by ((a == u) || (b == u))
     where
       numbered : y.number ≡ p
       numbered = thread_number s.threads p y here
 
-      by : (k : Bool) → Gives (λ (h : Hand). ThreadTurns code s i m q p y here h.work.rest h.thread) (option_map (λ k. with_phase k (record { work = with_tasks ts start; thread = y })) (if k then Some (phase.GotPar a b) else None))
+      by : (k : Bool) → Gives (λ (h : Hand). ThreadTurns (even code) s i m q p y here h.work.rest h.thread) (option_map (λ k. with_phase k (record { work = with_tasks ts start; thread = y })) (if k then Some (phase.GotPar a b) else None))
       by false = tt
       by true = record {
         named = refl;
@@ -154,43 +155,43 @@ module _ (code : List Instr) (s : Server) (i u : ℕ) (v : Owned) (q : slice_get
       let ts = without_task (without_task r.tasks u) o in
       let r1 : Rest = record r { tasks = without_task r.tasks u } in
       let changed : ChangeOf r (noted n x ∷ noted n z ∷ []) [] (record r { tasks = ts }) = change_then r r1 (record r { tasks = ts }) (noted n x ∷ []) [] (noted n z ∷ []) [] (change_gone r u x e) (change_gone r1 o z there) in
-      at code s i m q (with_tasks ts start) p (pair_over u) (λ y here. parent_goes o p x z ts e there h second changed y here y.phase refl)
+      at (even code) s i m q (with_tasks ts start) p (pair_over u) (λ y here. parent_goes o p x z ts e there h second changed y here y.phase refl)
 
   pair_case : (x : Task) (p : ℕ) → task_in r.tasks u ≡ Some x → x.state ≡ in_pair p false → (o : Option ℕ) → over_in r.tasks p ≡ o → Ends (pair_ended r.tasks u p o)
   pair_case x p e h None d =
       let new = noted n (record { thread = u; state = in_pair p true }) ∷ [] in
-      rest_turns code s i m q (record r { tasks = with_state r.tasks u (in_pair p true) }) (record {
+      rest_turns (even code) s i m q (record r { tasks = with_state r.tasks u (in_pair p true) }) (record {
         gone = noted n x ∷ [];
         news = new;
         change = change_state r u x (in_pair p true) e;
-        fair = fair_noted (message_things n m) n u x (in_pair p false) new (task_number r.tasks u x e) h (record { answers = λ k. omega arith; pairs = λ b. omega arith; going = λ k. omega (arith, noting (u == k), none_so (u == k)); homes = omega arith; ends = λ k. omega (arith, if_none (u == k) 0 refl, if_one (u == k)) });
+        fair = fair_noted (message_things n m) n u x (in_pair p false) new (task_number r.tasks u x e) h (record { answers = λ k. omega arith; pairs = λ b. omega arith; going = λ k. omega (arith, noting (u == k), none_so (u == k)); homes = omega arith; ends = λ k. omega (arith, if_none (u == k) 0 refl, if_one (u == k)); owes = λ k. omega arith });
       })
   pair_case x p e h (Some o) d = both_over x p e h o d
 
   state : (x : Task) → task_in r.tasks u ≡ Some x → (z : TaskState) → x.state ≡ z → Gives Ends (ended_from r.tasks u v (Some z))
   state x e going h =
       let new = noted n (record { thread = u; state = kept v }) ∷ [] in
-      rest_turns code s i m q (record r { tasks = with_state r.tasks u (kept v) }) (record {
+      rest_turns (even code) s i m q (record r { tasks = with_state r.tasks u (kept v) }) (record {
         gone = noted n x ∷ [];
         news = new;
         change = change_state r u x (kept v) e;
         fair = fair_noted (message_things n m) n u x going new (task_number r.tasks u x e) h
-            (record { answers = λ k. omega arith; pairs = λ b. omega (arith, none_so (n == b.server && u == b.thread)); going = λ k. omega (arith, noting (u == k), none_so (u == k)); homes = omega arith; ends = λ k. omega (arith, if_none (u == k) 0 refl, if_one (u == k)) });
+            (record { answers = λ k. omega arith; pairs = λ b. omega (arith, none_so (n == b.server && u == b.thread)); going = λ k. omega (arith, noting (u == k), none_so (u == k)); homes = omega arith; ends = λ k. omega (arith, if_none (u == k) 0 refl, if_one (u == k)); owes = λ k. omega arith });
       })
   state x e let_go h =
       let w = with_tasks (without_task r.tasks u) start in
-      rest_turns code s i m q (give_up v w).rest (lets_go code s i m q (noted n x ∷ []) [] v w (change_gone r u x e)
+      rest_turns (even code) s i m q (give_up v w).rest (lets_go (even code) s i m q (noted n x ∷ []) [] v w (change_gone r u x e)
       (fair_noted (message_things n m) n u x let_go [] (task_number r.tasks u x e) h
-      (record { answers = λ k. omega arith; pairs = λ b. omega (arith, none_so (n == b.server && u == b.thread)); going = λ k. omega (arith, noting (u == k)); homes = omega arith; ends = λ k. omega (arith, if_none (u == k) 0 refl) })))
+      (record { answers = λ k. omega arith; pairs = λ b. omega (arith, none_so (n == b.server && u == b.thread)); going = λ k. omega (arith, noting (u == k)); homes = omega arith; ends = λ k. omega (arith, if_none (u == k) 0 refl); owes = λ k. omega (arith, none_so (u == k)) })))
   state x e (tasks.asked a t) h =
       let r1 : Rest = record r { tasks = without_task r.tasks u } in
       let m2 = message.Joined u v t in
-      rest_turns code s i m q (sent_from r1 a m2) (record {
+      rest_turns (even code) s i m q (sent_from r1 a m2) (record {
         gone = noted n x ∷ [];
         news = message_things a m2;
         change = change_sent r r1 (noted n x ∷ []) [] a m2 (change_gone r u x e);
         fair = fair_noted (message_things n m) n u x (tasks.asked a t) (message_things a m2) (task_number r.tasks u x e) h
-            (record { answers = λ k. omega arith; pairs = λ b. omega (arith, none_so (n == b.server && u == b.thread)); going = λ k. omega (arith, noting (u == k)); homes = omega arith; ends = λ k. omega (arith, if_none (u == k) 0 refl) });
+            (record { answers = λ k. omega arith; pairs = λ b. omega (arith, none_so (n == b.server && u == b.thread)); going = λ k. omega (arith, noting (u == k)); homes = omega arith; ends = λ k. omega (arith, if_none (u == k) 0 refl); owes = λ k. omega (arith, noting (u == k)) });
       })
   state x e (kept w) h = tt
   state x e (in_pair p true) h = tt

@@ -29,7 +29,7 @@ use Rattle.heap_law.specs.Sight.{sight, issued}
 use Rattle.heap_law.specs.Paths.{joined_thread}
 use Rattle.heap_law.specs.Naming.{events_of, started_at, made_at}
 use Rattle.heap_law.specs.Requests.{stands_at, halves_to, halves_needed, pair_notes, pair_places}
-use Rattle.heap_law.specs.Sharing.{going_notes, goes_on, results, has_ended}
+use Rattle.heap_law.specs.Sharing.{going_notes, goes_on, owed, results, has_ended}
 use Rattle.heap_law.specs.Balances.{Agree, AtMost, AtMostOne}
 use Rattle.heap_law.specs.Weights.{states, below, shares_of, shares_at_home, tasks_of, is_thread}
 use Rattle.heap_law.specs.Coherent.{IsSound, Holds, objects_made, names_counted, branches_give_unit, parts_are_typed, noted_at_home}
@@ -131,6 +131,10 @@ SharesCounted k = Agree shares_of shares_at_home (things_of k)
 
 abbrev pub OneTaskValue : Cluster → Type 0
 OneTaskValue k = AtMostOne tasks_of (things_of k)
+
+-- as many task values of each thread as are owed of its result
+abbrev pub TaskValuesOwed : Cluster → Type 0
+TaskValuesOwed k = Agree tasks_of (owed (sight k)) (things_of k)
 
 abbrev pub NumbersDiffer : Cluster → Type 0
 NumbersDiffer k = AtMostOne is_thread (things_of k)

@@ -1,6 +1,6 @@
 //! What an event of a sound cluster keeps, of whatever kind it is.
 
-ghost use Rattle.event_law.specs.Laws.{AskingLeavesTaskValues, EachEventHandedOver, EachEventLeaves, EachEventSends, NotedAtHome, NotedGoOn, NumbersDiffer, OneAnswer, OneResult, OneState, OneTaskValue, OthersLeaveTaskValues, JoinsSpendOne, PairsNoted, ReleasesSpendOne, ServersDiffer, SharesCounted, SharesLeaveTaskValues, SpawnsMakeOne};
+ghost use Rattle.event_law.specs.Laws.{AskingLeavesTaskValues, EachEventHandedOver, EachEventLeaves, EachEventSends, NotedAtHome, NotedGoOn, NumbersDiffer, OneAnswer, OneResult, OneState, OneTaskValue, OthersLeaveTaskValues, JoinsSpendOne, PairsNoted, ReleasesSpendOne, ServersDiffer, SharesCounted, SharesLeaveTaskValues, SpawnsMakeOne, TaskValuesOwed};
 ghost use Rattle.heap_law.specs.Coherent.{OneHome, OneOwner, Users};
 
 /// Whatever is delivered, stepped, evicted or migrated.
@@ -18,6 +18,7 @@ pub fn each_event_keeps()
     ensures going { EachEventLeaves NotedGoOn }
     ensures homes { EachEventLeaves NotedAtHome }
     ensures results { EachEventLeaves OneResult }
+    ensures owed { EachEventLeaves TaskValuesOwed }
 {}
 
 /// The messages of each event go to servers of the run.
@@ -40,6 +41,7 @@ pub fn each_event_handed_over()
     ensures going { EachEventHandedOver NotedGoOn }
     ensures homes { EachEventHandedOver NotedAtHome }
     ensures results { EachEventHandedOver OneResult }
+    ensures owed { EachEventHandedOver TaskValuesOwed }
 {}
 
 /// How many task values of each thread an event leaves: a spawn makes one of its thread, a join that is done spends one of its operand and the delivery of a

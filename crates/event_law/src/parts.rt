@@ -1,6 +1,6 @@
 //! The sums that every event is to keep are parts of coherent memory, and handing messages over changes none of them.
 
-ghost use Rattle.event_law.specs.Laws.{HandOverNewerLaw, NotedAtHome, NotedGoOn, OneAnswer, OneResult, PairsNoted, SoundHasSums, SoundNames, StartHas, StartHasSums};
+ghost use Rattle.event_law.specs.Laws.{HandOverNewerLaw, NotedAtHome, NotedGoOn, OneAnswer, OneResult, PairsNoted, SoundHasSums, SoundNames, StartHas, StartHasSums, TaskValuesOwed};
 
 /// A sound cluster has all of them, so that what the laws of events ask for holds in each coherent one.
 pub fn sound_has_sums()
@@ -15,6 +15,7 @@ pub fn start_has_sums()
     ensures going { StartHas NotedGoOn }
     ensures homes { StartHas NotedAtHome }
     ensures results { StartHas OneResult }
+    ensures owed { StartHas TaskValuesOwed }
 {}
 
 /// The messages that an event appended wait at their servers then, and no sum is another one.

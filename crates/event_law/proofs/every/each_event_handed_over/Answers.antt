@@ -1,6 +1,7 @@
 use Rattle.heap_law.specs.Coherent.{OneHome, OneOwner, Users}
 use Rattle.event_law.proofs.every.each_event_handed_over.Goals as goal
 use Rattle.event_law.specs.Laws.{NotedAtHome, NotedGoOn, NumbersDiffer, OneAnswer, OneResult, OneState, OneTaskValue, PairsNoted, ServersDiffer, SharesCounted}
+use Rattle.event_law.proofs.Owed.{owed_handed_over}
 use Rattle.event_law.proofs.TurnEvents.{asking_applied, result_once}
 use Rattle.event_law.proofs.Sending.{applied_part}
 
@@ -19,4 +20,5 @@ returns c = record {
   going = asking_applied NotedGoOn (λ k g. g.noted_go_on);
   homes = asking_applied NotedAtHome (λ k g. g.noted_at_home);
   results = asking_applied OneResult result_once;
+  owed = owed_handed_over;
 }

@@ -1,6 +1,7 @@
 use Rattle.heap_law.specs.Coherent.{OneHome, OneOwner, Users}
 use Rattle.event_law.proofs.every.each_event_keeps.Goals as goal
 use Rattle.event_law.specs.Laws.{NotedAtHome, NotedGoOn, NumbersDiffer, OneAnswer, OneResult, OneState, OneTaskValue, PairsNoted, ServersDiffer, SharesCounted}
+use Rattle.event_law.proofs.Owed.{owed_left}
 use Rattle.event_law.proofs.TurnEvents.{asking_part, result_once}
 use Rattle.event_law.proofs.Each.{each_part}
 
@@ -19,4 +20,5 @@ returns c = record {
   going = asking_part NotedGoOn (λ k g. g.noted_go_on);
   homes = asking_part NotedAtHome (λ k g. g.noted_at_home);
   results = asking_part OneResult result_once;
+  owed = owed_left;
 }
