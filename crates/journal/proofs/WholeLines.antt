@@ -11,7 +11,7 @@ use Rattle.journal.specs.OrderText.{name_text, thread_text, steps_text, spell, A
 use Rattle.journal.proofs.NumberLemmas.{AllDigits, decimal_all}
 
 -- no newline is among these
-abbrev has_none : List ℕ → Bool
+abbrev pub has_none : List ℕ → Bool
 has_none [] = true
 has_none (b ∷ bs) = not (b == 10) && has_none bs
 
@@ -55,12 +55,15 @@ ends_there (b ∷ t) after none =
     let p = and_parts (not (eqb b 10)) (has_none t) none in
     rw (not-true (eqb b 10) p.0) (ap (λ x. b ∷ x) (ends_there t after p.1))
 
+-- nor in a line before its end
+pub none_in_line : (l : OrderLine) → IsLine l → has_none (thread_text l.thread ++ codes " " ++ steps_text l.steps l.fresh) ≡ true
+none_in_line l is = none_in_both (thread_text l.thread ++ codes " ") (steps_text l.steps l.fresh) (none_in_both (thread_text l.thread) (codes " ") (none_in_thread l.thread is.0) refl) (none_in_steps l.steps l.fresh is.1)
+
 -- so the text of a line is the first line
 spell_first : (l : OrderLine) (after : List ℕ) → IsLine l → first_line (spell l ++ after) ≡ spell l
 spell_first l after is =
     let body = thread_text l.thread ++ codes " " ++ steps_text l.steps l.fresh in
-    ap first_line (append_assoc body (codes "\n") after)
-    ∙ ends_there body after (none_in_both (thread_text l.thread ++ codes " ") (steps_text l.steps l.fresh) (none_in_both (thread_text l.thread) (codes " ") (none_in_thread l.thread is.0) refl) (none_in_steps l.steps l.fresh is.1))
+    ap first_line (append_assoc body (codes "\n") after) ∙ ends_there body after (none_in_line l is)
 
 -- the first line stands in front
 in_front : (bytes : List ℕ) → (after : List ℕ) × (bytes ≡ first_line bytes ++ after)

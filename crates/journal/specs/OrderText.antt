@@ -17,6 +17,13 @@ thread_text thread = name_text (thread / 2 ^ 32) (thread % 2 ^ 32)
 abbrev pub mutex_text : MutexNo → List ℕ
 mutex_text m = name_text m.home m.count
 
+-- a text was to get more bytes, and got the first of them, or none
+pub record IsBegun (old more new : List ℕ) : Type 0 where
+  pub front : List ℕ
+  pub rest : List ℕ
+  pub whole : more ≡ front ++ rest
+  pub text : new ≡ old ++ front
+
 -- how many steps take no name, or the names that one step takes
 abbrev pub steps_text : ℕ → Fresh → List ℕ
 steps_text steps None = decimal steps

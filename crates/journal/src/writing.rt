@@ -1,10 +1,10 @@
 //! Writing an order.
 
-ghost use Rattle.std.specs.Prelude.{◌≡◌, ◌++◌, ◌∷◌, [], ℕ, List, codes, IfOk, OnOk, string_bytes};
+ghost use Rattle.std.specs.Prelude.{◌≡◌, ◌++◌, ◌∷◌, [], ℕ, List, codes, IfOk, OnOk, OnErr, string_bytes};
 ghost use Rattle.std.specs.Fmt.{decimal};
 ghost use Rattle.fr_base.specs.declared.step.Fresh.{Fresh};
 ghost use Rattle.journal.specs.Journals.{order};
-ghost use Rattle.journal.specs.OrderText.{AreSteps, mutex_text, name_text, steps_text, thread_text};
+ghost use Rattle.journal.specs.OrderText.{AreSteps, IsBegun, mutex_text, name_text, steps_text, thread_text};
 ghost use Rattle.journal.specs.WrittenOrder.{IsOrderText, IsWritten, joins, last_text};
 
 use crate::entries::Journal;
@@ -22,9 +22,10 @@ struct LastLine {
     steps: u64,
 }
 
-/// Adds a number in decimal digits. `NoMemory` alone is refused.
+/// Adds a number in decimal digits. `NoMemory` alone is refused, and leaves the text as it was.
 pub fn add_number(text: &mut String, number: u64) -> Result<(), NoMemory>
-    ensures { OnOk result (string_bytes text.new ≡ string_bytes text.old ++ decimal number) }
+    ensures added { OnOk result (string_bytes text.new ≡ string_bytes text.old ++ decimal number) }
+    ensures refused { OnErr result (string_bytes text.new ≡ string_bytes text.old) }
 {
     let mut buffer = Buffer::new();
     text.push_str(buffer.format(number))?;
@@ -33,23 +34,26 @@ pub fn add_number(text: &mut String, number: u64) -> Result<(), NoMemory>
 
 // Adds a server and a count.
 fn add_name(text: &mut String, server: u8, count: u32) -> Result<(), NoMemory>
-    ensures { OnOk result (string_bytes text.new ≡ string_bytes text.old ++ name_text server count) }
+    ensures added { OnOk result (string_bytes text.new ≡ string_bytes text.old ++ name_text server count) }
+    ensures refused { OnErr result (IsBegun (string_bytes text.old) (name_text server count) (string_bytes text.new)) }
 {
     add_number(text, u64::from(server))?;
     text.push_str(".")?;
     add_number(text, u64::from(count))
 }
 
-/// Adds a thread as its server and its count, as in `3.17`. `NoMemory` alone is refused.
+/// Adds a thread as its server and its count, as in `3.17`. `NoMemory` alone is refused, and leaves the first bytes of it, or none.
 pub fn add_thread(text: &mut String, thread: ThreadNo) -> Result<(), NoMemory>
-    ensures { OnOk result (string_bytes text.new ≡ string_bytes text.old ++ thread_text thread) }
+    ensures added { OnOk result (string_bytes text.new ≡ string_bytes text.old ++ thread_text thread) }
+    ensures refused { OnErr result (IsBegun (string_bytes text.old) (thread_text thread) (string_bytes text.new)) }
 {
     add_name(text, thread.server(), thread.count())
 }
 
-/// Adds a mutex as its server and its count. `NoMemory` alone is refused.
+/// Adds a mutex as its server and its count. `NoMemory` alone is refused, and leaves the first bytes of it, or none.
 pub fn add_mutex(text: &mut String, mutex: MutexNo) -> Result<(), NoMemory>
-    ensures { OnOk result (string_bytes text.new ≡ string_bytes text.old ++ mutex_text mutex) }
+    ensures added { OnOk result (string_bytes text.new ≡ string_bytes text.old ++ mutex_text mutex) }
+    ensures refused { OnErr result (IsBegun (string_bytes text.old) (mutex_text mutex) (string_bytes text.new)) }
 {
     add_name(text, mutex.home, mutex.count)
 }

@@ -1,15 +1,11 @@
--- Figures add up, entry by entry and act by act; and the messages of all kinds.
+-- Figures add up, entry by entry and act by act.
 use Rattle.std.proofs.Common.{◌≡◌, ℕ, ◌+◌, List, [], ◌∷◌, ◌<◌, length, drop, slice_index_or, sym, ap, ◌∙◌, arith}
-use Rattle.std.specs.Prelude.{is_some, sum}
-use Rattle.std.specs.List.{fold}
-use Rattle.std.proofs.lemmas.List.Sums.{sum-map}
+use Rattle.std.specs.Prelude.{is_some}
 use Rattle.std.proofs.lemmas.List.{drop_more}
-use Rattle.fr_base.specs.Lists.{tot, one}
+use Rattle.fr_base.specs.Lists.{one}
 use Rattle.journal.specs.declared.act.Act.{Act}
 use Rattle.journal.specs.View.{EntryView}
-use Rattle.coloured_heap.specs.Figures.{by_kind, kinds, steps}
-use Rattle.coloured_heap.specs.Sends.{count, messages}
-use Rattle.coloured_heap.proofs.Sums.{kinds_add_up}
+use Rattle.coloured_heap.specs.Figures.{steps}
 use Rattle.tracer.specs.declared.figures.Figure.{Figure}
 use Rattle.tracer.specs.declared.figures.Figure.TheVariants as figure
 use Rattle.tracer.specs.Counting.{figure_of, with_acts}
@@ -45,11 +41,3 @@ act_more figure.Evictions a more = first_and_rest _ _
 -- the same from a place on
 pub act_at : (f : Figure) (acts : List Act) (i : ℕ) (a : Act) → i < length acts → a ≡ slice_index_or acts i a → figure_of f (with_acts (drop i acts)) ≡ figure_of f (with_acts (a ∷ [])) + figure_of f (with_acts (drop (i + 1) acts))
 act_at f acts i a low is = ap (λ (xs : List Act). figure_of f (with_acts xs)) (drop_more acts i a low ∙ ap (λ (x : Act). x ∷ drop (i + 1) acts) (sym is)) ∙ act_more f a (drop (i + 1) acts)
-
-summed : {A : Type 0} (f : A → ℕ) (n : ℕ) (xs : List A) → fold (λ (a : ℕ) (x : A). a + f x) n xs ≡ n + tot f xs
-summed f n [] = omega arith
-summed f n (x ∷ xs) = summed f (n + f x) xs ∙ omega arith
-
--- the counts by kind add up to the messages
-pub all_messages : (es : List EntryView) → sum (by_kind es) ≡ messages es
-all_messages es = sum-map (count es) kinds ∙ summed (count es) 0 kinds ∙ omega arith ∙ sym (kinds_add_up es)

@@ -4,7 +4,7 @@ use Rattle.coloured_heap.specs.Figures.{by_kind, kinds}
 use Rattle.coloured_heap.specs.Sends.{messages}
 use Rattle.tracer.specs.Counting.{tally_lines}
 use Rattle.tracer.specs.ReportText.{count_lines}
-use Rattle.tracer.proofs.FigureLemmas.{all_messages}
+use Rattle.coloured_heap.proofs.Sums.{all_messages}
 use Rattle.tracer.proofs.report.add_figures.Goals as goal
 
 pub returns : goal.returns
