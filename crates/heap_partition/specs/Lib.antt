@@ -1,4 +1,5 @@
 pub mod Cells
+pub mod Chunks
 pub mod Plain
 pub mod Same
 pub mod View

@@ -1,28 +1,78 @@
 //! Cells by address.
 
-ghost use Rattle.std.specs.Prelude.{◌≡◌, ◌+◌, ◌<◌, ◌≤◌, ◌++◌, [], ◌∷◌, None, Some, IsOk, OnOk, OnErr, slice_set};
+ghost use Rattle.std.specs.Prelude.{◌≡◌, ℕ, ◌+◌, ◌<◌, ◌≤◌, ◌++◌, [], ◌∷◌, None, Some, IsOk, OnOk, OnErr, length, take, slice_index_or, slice_set};
 ghost use Rattle.heap_partition.specs.Cells.{next_of, cell_at, IsLive, IsVacant};
+ghost use Rattle.heap_partition.specs.Chunks.{slots_of, AreWhole};
 
+use crate::chunk::{Chunk, SLOTS};
 use crate::value::{Cell, Owned};
 use fr_base::NoMemory;
 use std::alloc::Global;
 use std::marker::Model;
 
 /// Cells by address, from 0. Contracts see the cell or nothing at each address, and beside it the room.
-/// Each call but `reserve` takes constant time; only `reserve` takes memory.
+///
+/// The cell of address `a` lies in chunk `a / 1024`, in slot `a % 1024`; no cell is moved by a later call. Each call but `reserve`
+/// takes constant time; only `reserve` takes memory.
 #[derive(Drop)]
 pub struct Cells {
-    slots: Vec<Option<Cell>>,
+    chunks: Vec<Chunk>,
+    next: usize,
+    // for how many more addresses there is room, by what was reserved
+    room: usize,
 }
 
 impl Model for Cells {
-    ghost use Rattle.std.specs.Prelude.{◌-◌, vec_len};
-    ghost use Rattle.std.specs.Vec.{vec_capacity};
+    ghost use Rattle.std.specs.Prelude.{◌+◌, ◌≤◌, ◌<◌, ◌^◌, length, take};
+    ghost use Rattle.heap_partition.specs.Chunks.{slots_of, AreWhole};
     ghost use Rattle.heap_partition.specs.View.{CellsView};
 
     ghost Value = { CellsView };
 
-    ghost view = { λ c. record { state = c.slots.items; room = vec_capacity c.slots - vec_len c.slots } };
+    ghost view = { λ c. record { state = take c.next (slots_of c.chunks.items); room = c.room } };
+
+    ghost invariant = { λ c. AreWhole c.chunks.items × (c.next + c.room ≤ length (slots_of c.chunks.items)) × (c.next + c.room < 2 ^ 64) };
+}
+
+// What stands at a place of the chunks.
+fn slot_at(chunks: &Vec<Chunk>, at: usize) -> Option<Cell>
+    requires whole { AreWhole chunks.now.items }
+    requires within { at < length (slots_of chunks.now.items) }
+    ensures { result ≡ slice_index_or (slots_of chunks.now.items) at None }
+{
+    // The check asks that each type inside a cell is named where a cell is moved.
+    let _inside: Option<Owned> = None;
+    chunks[at / SLOTS].get(at % SLOTS)
+}
+
+// Puts a cell or nothing at a place of the chunks.
+fn set_slot(chunks: &mut Vec<Chunk>, at: usize, slot: Option<Cell>)
+    requires whole { AreWhole chunks.old.items }
+    requires within { at < length (slots_of chunks.old.items) }
+    ensures slots { slots_of chunks.new.items ≡ slice_set (slots_of chunks.old.items) at slot }
+    ensures whole { AreWhole chunks.new.items }
+{
+    let _inside: Option<Owned> = None;
+    chunks[at / SLOTS].set(at % SLOTS, slot);
+}
+
+// Adds chunks until there are so many places.
+fn grow(chunks: &mut Vec<Chunk>, places: usize) -> Result<(), NoMemory>
+    requires whole { AreWhole chunks.old.items }
+    ensures whole { AreWhole chunks.new.items }
+    ensures slots { (n : ℕ) → n ≤ length (slots_of chunks.old.items) → take n (slots_of chunks.new.items) ≡ take n (slots_of chunks.old.items) }
+    ensures more { length (slots_of chunks.old.items) ≤ length (slots_of chunks.new.items) }
+    ensures enough { OnOk result (places ≤ length (slots_of chunks.new.items)) }
+{
+    let _inside: Option<(Cell, Owned)> = None;
+    while chunks.len() <= places / SLOTS {
+        let chunk = Chunk::new(*chunks.allocator())?;
+        match chunks.push(chunk) {
+            Ok(()) => {}
+            Err(_) => return Err(NoMemory),
+        }
+    }
+    Ok(())
 }
 
 impl Cells {
@@ -31,7 +81,9 @@ impl Cells {
         ensures { result.state ≡ [] }
     {
         Cells {
-            slots: Vec::new(alloc),
+            chunks: Vec::new(alloc),
+            next: 0,
+            room: 0,
         }
     }
 
@@ -43,17 +95,20 @@ impl Cells {
         ensures spare { self.old.room ≤ self.new.room }
         ensures refused { OnErr result (self.new ≡ self.old) }
     {
-        match self.slots.reserve(n) {
-            Ok(()) => Ok(()),
-            Err(_) => Err(NoMemory),
+        if n <= self.room {
+            return Ok(());
         }
+        let places = self.next.checked_add(n).ok_or(NoMemory)?;
+        grow(&mut self.chunks, places)?;
+        self.room = n;
+        Ok(())
     }
 
     /// The least address never used.
     pub fn next(&self) -> u64
         ensures { result ≡ next_of self.now.state }
     {
-        self.slots.len() as u64
+        self.next as u64
     }
 
     /// Puts the cell at the least address never used, and answers it. There is room.
@@ -63,9 +118,11 @@ impl Cells {
         ensures put { self.new.state ≡ self.old.state ++ Some cell ∷ [] }
         ensures spare { self.new.room + 1 ≡ self.old.room }
     {
-        let address = self.slots.len() as u64;
-        self.slots.push_reserved(Some(cell));
-        address
+        let address = self.next;
+        set_slot(&mut self.chunks, address, Some(cell));
+        self.next += 1;
+        self.room -= 1;
+        address as u64
     }
 
     /// Puts the cell at a vacant address that was used before.
@@ -75,16 +132,17 @@ impl Cells {
         ensures put { self.new.state ≡ slice_set self.old.state address (Some cell) }
         ensures spare { self.new.room ≡ self.old.room }
     {
-        self.slots[address as usize] = Some(cell);
+        set_slot(&mut self.chunks, address as usize, Some(cell));
     }
 
     /// The cell at the address; `None` exactly where it is vacant or was never used.
     pub fn get(&self, address: u64) -> Option<Cell>
         ensures { result ≡ cell_at self.now.state address }
     {
-        match self.slots.get(address as usize) {
-            Some(slot) => *slot,
-            None => None,
+        if address < self.next as u64 {
+            slot_at(&self.chunks, address as usize)
+        } else {
+            None
         }
     }
 
@@ -94,7 +152,7 @@ impl Cells {
         ensures set { self.new.state ≡ slice_set self.old.state address (Some cell) }
         ensures spare { self.new.room ≡ self.old.room }
     {
-        self.slots[address as usize] = Some(cell);
+        set_slot(&mut self.chunks, address as usize, Some(cell));
     }
 
     /// Takes the cell out of a live address, which is vacant afterwards.
@@ -104,10 +162,9 @@ impl Cells {
         ensures left { self.new.state ≡ slice_set self.old.state address None }
         ensures spare { self.new.room ≡ self.old.room }
     {
-        // The check asks that each type inside a cell is named where a cell is moved.
         let _inside: Option<Owned> = None;
-        let slot = self.slots[address as usize];
-        self.slots[address as usize] = None;
+        let slot = slot_at(&self.chunks, address as usize);
+        set_slot(&mut self.chunks, address as usize, None);
         slot.unwrap()
     }
 }

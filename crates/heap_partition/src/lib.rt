@@ -3,6 +3,7 @@
 #![tactic(auto)]
 
 mod cells;
+mod chunk;
 #[cfg(test)]
 mod tests;
 mod value;
