@@ -27,7 +27,7 @@ none_counted : (t : List ℕ) → has_none t ≡ true → newlines t ≡ 0
 none_counted [] none = refl
 none_counted (b ∷ t) none =
     let p = and_parts (not (b == 10)) (has_none t) none in
-    rw (not-true (b == 10) p.0) (none_counted t p.1)
+    rw (not-true (b == 10) p.0) (omega (arith, none_counted t p.1))
 
 -- a line's text has one
 one_in_line : (l : OrderLine) → IsLine l → newlines (spell l) ≡ 1

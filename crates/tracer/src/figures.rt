@@ -1,6 +1,6 @@
 //! What a report counts of a journal.
 
-ghost use Rattle.std.specs.Prelude.{◌≡◌, ◌≤◌, ◌∷◌, [], is_some};
+ghost use Rattle.std.specs.Prelude.{◌≡◌, ◌<◌, ◌≤◌, ◌^◌, ◌∷◌, [], is_some};
 ghost use Rattle.fr_base.specs.Lists.{one};
 ghost use Rattle.coloured_heap.specs.Figures.{evictions, hits, issues, renewals, steps};
 ghost use Rattle.tracer.specs.Counting.{figure_of, with_acts};
@@ -59,7 +59,7 @@ fn count_acts(figure: Figure, acts: &[Act]) -> u64
 // How many acts of an entry count for the figure.
 fn count_in(figure: Figure, entry: &Entry) -> u128
     ensures count { result ≡ figure_of figure (with_acts entry.now.acts) }
-    ensures most { result ≤ 18446744073709551615 }
+    ensures most { result < 2 ^ 64 }
 {
     u128::from(count_acts(figure, entry.acts.as_slice()))
 }

@@ -1,4 +1,4 @@
-use Rattle.std.proofs.Common.{◌≡◌, ◌+◌, ◌*◌, ◌≤◌, drop}
+use Rattle.std.proofs.Common.{◌≡◌, ◌+◌, ◌-◌, ◌*◌, ◌^◌, ◌≤◌, drop}
 use Rattle.coloured_heap.specs.Figures.{steps}
 use Rattle.tracer.specs.Counting.{figure_of}
 use Rattle.tracer.specs.declared.figures.Figure.TheVariants as figure
@@ -12,7 +12,7 @@ invariant-entries l =
     × (l.hits + figure_of figure.Hits (drop l.entry-index l.entry-items) ≡ figure_of figure.Hits l.entry-items)
     × (l.evictions + figure_of figure.Evictions (drop l.entry-index l.entry-items) ≡ figure_of figure.Evictions l.entry-items)
     × (l.steps ≤ l.entry-index)
-    × (l.issued ≤ l.entry-index * 18446744073709551615)
-    × (l.renewed ≤ l.entry-index * 18446744073709551615)
-    × (l.hits ≤ l.entry-index * 18446744073709551615)
-    × (l.evictions ≤ l.entry-index * 18446744073709551615)
+    × (l.issued ≤ l.entry-index * (2 ^ 64 - 1))
+    × (l.renewed ≤ l.entry-index * (2 ^ 64 - 1))
+    × (l.hits ≤ l.entry-index * (2 ^ 64 - 1))
+    × (l.evictions ≤ l.entry-index * (2 ^ 64 - 1))

@@ -12,7 +12,7 @@ returns c =
     let es = c.args.journal.now.items in
     let text = string_bytes c.args.text.now in
     let tally = c.in_ok-tally.tally in
-    let counted : tally ≡ by_kind es = c.in_ok-tally.ensures in
+    let counted : tally ≡ by_kind es = c.in_ok-tally.ensures.counts in
     let sent : c.total.result ≡ messages es = c.total.ensures.sum ∙ ap (λ (ns : List ℕ). sum ns) counted ∙ all_messages es in
     c.in_ok-add_kinds.ensures ∙ ap (λ (bytes : List ℕ). bytes ++ tally_lines tally kinds) (c.in_ok-add_counts.ensures sent)
     ∙ append_assoc text (count_lines es) (tally_lines tally kinds) ∙ ap (λ (ns : List ℕ). text ++ (count_lines es ++ tally_lines ns kinds)) counted
