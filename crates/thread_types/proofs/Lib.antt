@@ -1,0 +1,14 @@
+pub mod Stays
+pub mod Threads
+pub mod Finishes
+pub mod Joined
+pub mod Joins
+pub mod Fresh
+pub mod Started
+pub mod TwoTurn
+pub mod Captured
+pub mod CapturedMove
+pub mod CapturedCopy
+pub mod TwoStates
+pub mod Spawns
+pub mod Example

@@ -1,0 +1,11 @@
+use Rattle.thread_types.proofs.laws.thread_acts_are_ready.Goals as goal
+use Rattle.thread_types.proofs.Example.{start_is_ready, finish_is_ready, join_is_ready}
+
+pub returns-clause-start : goal.returns-clause-start
+returns-clause-start c = start_is_ready
+
+pub returns-clause-finish : goal.returns-clause-finish
+returns-clause-finish c = finish_is_ready
+
+pub returns-clause-join : goal.returns-clause-join
+returns-clause-join c = join_is_ready

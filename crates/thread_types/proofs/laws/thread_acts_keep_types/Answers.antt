@@ -1,0 +1,13 @@
+use Rattle.thread_types.proofs.laws.thread_acts_keep_types.Goals as goal
+use Rattle.thread_types.proofs.Spawns.{spawn_keeps}
+use Rattle.thread_types.proofs.Finishes.{finish_keeps}
+use Rattle.thread_types.proofs.Joins.{join_keeps}
+
+pub returns-clause-start : goal.returns-clause-start
+returns-clause-start c = spawn_keeps
+
+pub returns-clause-finish : goal.returns-clause-finish
+returns-clause-finish c = finish_keeps
+
+pub returns-clause-join : goal.returns-clause-join
+returns-clause-join c = join_keeps

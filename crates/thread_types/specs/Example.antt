@@ -1,0 +1,51 @@
+-- Typed states in which acts of threads are granted: main, which has bound a number, starts a thread that captures it; or main starts a thread
+-- without captures, which ends and is joined.
+use Rattle.std.specs.Prelude.{◌≡◌, false, [], ◌∷◌, None}
+use Rattle.fr_base.specs.declared.label.Plain.TheVariants as plain
+use Rattle.fr_base.specs.declared.step.Fresh.TheVariants as fresh
+use Rattle.fr_typing.specs.Kinds.{unit, int, task, own}
+use Rattle.fr_plain.specs.declared.value.Value.{Value}
+use Rattle.fr_plain.specs.declared.value.Value.TheVariants.{Own}
+use Rattle.fr_plain.specs.MachineActs.{do_spawn, do_join, unit as unit_value}
+use Rattle.fr_plain.specs.MachineThreads.{Life, alive, owing, ended, Thread, Whole}
+use Rattle.fr_plain.specs.Machine.{takes_of, refused_names, act_waits}
+use Rattle.fr_sound.specs.Entries.{going}
+use Rattle.fr_sound.specs.States.{Typing}
+use Rattle.fr_code.specs.Steps.{captured}
+use Rattle.plain_types.specs.Positions.{Position}
+use Rattle.plain_types.specs.Keeps.{Ready}
+use Rattle.plain_types.specs.Example.{position, main_at, alone_at, one, variable, at_hand, bound}
+use Rattle.thread_types.specs.ThreadActs.{AtEnd}
+
+-- where a number is bound, a thread may be started that captures it
+abbrev pub with_number : Position
+with_number = record { entry = going (variable int ∷ []) [] int; temps = [] }
+
+abbrev pub StartIsReady : Type 0
+StartIsReady = (y : Typing) × (refused_names (alone_at (bound int) (Own one ∷ []) [] []) (takes_of (do_spawn (captured ((0, false) ∷ [])) with_number)) (fresh.Thread 1) ≡ None)
+    × Ready y (alone_at (bound int) (Own one ∷ []) [] []) (main_at (bound int) (Own one ∷ [])) (bound int) alive (do_spawn (captured ((0, false) ∷ [])) with_number) (λ (v : Value). position (variable int ∷ []) (own (task int) ∷ []) (v ∷ []))
+
+-- a thread without captures, which has nothing to do
+abbrev pub empty : Position
+empty = record { entry = going [] [] unit; temps = [] }
+
+abbrev pub the_task : Value
+the_task = Own (plain.Task 1)
+
+-- main has its task at hand
+abbrev pub parent : Thread Position
+parent = main_at (at_hand (task unit) the_task) []
+
+abbrev pub child : Life Position → Thread Position
+child l = record { number = 1; life = l; slots = [] }
+
+abbrev pub both : Life Position → Whole Position
+both l = record { threads = parent ∷ child l ∷ []; heap = []; mutexes = []; pairs = []; output = [] }
+
+-- it may end
+abbrev pub FinishIsReady : Type 0
+FinishIsReady = (y : Typing) × AtEnd y (both (owing empty)) (child (owing empty)) empty unit_value
+
+-- and then main may join it
+abbrev pub JoinIsReady : Type 0
+JoinIsReady = (y : Typing) × (act_waits (both (ended unit_value)) parent (do_join the_task) ≡ None) × Ready y (both (ended unit_value)) parent (at_hand (task unit) the_task) alive (do_join the_task) (λ (v : Value). at_hand unit v)

@@ -1,0 +1,2 @@
+pub mod ThreadActs
+pub mod Example
