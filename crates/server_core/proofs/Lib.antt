@@ -7,3 +7,4 @@ mod PassLemmas
 mod PlaceLemmas
 mod EventLemmas
 mod StartLemmas
+mod EndLemmas

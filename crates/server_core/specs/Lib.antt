@@ -11,3 +11,5 @@ pub mod Prepareds
 pub mod Committeds
 pub mod Accesses
 pub mod Spares
+pub mod Stars
+pub mod Rooms

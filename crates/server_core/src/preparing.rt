@@ -2,10 +2,11 @@
 
 ghost use Rattle.std.specs.Prelude.{◌≡◌, ◌+◌, ◌*◌, ◌<◌, ◌≤◌, true, Some};
 ghost use Rattle.server_model.specs.Prepare.{clean_value, end_ref, follow_ended, is_taken, lend_pointer, lend_value, prepare, read_pointer};
-ghost use Rattle.server_core.specs.Accesses.{access_in, stars};
+ghost use Rattle.server_core.specs.Accesses.{access_in};
 ghost use Rattle.server_core.specs.Hands.{hand};
 ghost use Rattle.server_core.specs.Prepareds.{prepared, is_prepared};
 ghost use Rattle.server_core.specs.Spots.{spot};
+ghost use Rattle.server_core.specs.Stars.{ended_stars, own_value, stars};
 
 use crate::access::Access;
 use crate::places::{load_at, value_at};
@@ -117,9 +118,9 @@ pub(crate) fn lend_pointer(work: &mut Work, thread: &mut Thread, place: Lval) ->
 // The holder's place is followed where its pointer gets a word.
 fn follow_ended(work: &mut Work, thread: &mut Thread, value: Option<Value>) -> Prepared
     requires ready { is_prepared (follow_ended value (hand work.old thread.old)) ≡ true }
-    requires room { 765 ≤ work.old.room }
+    requires room { 3 * ended_stars value ≤ work.old.room }
     ensures state { follow_ended value (hand work.old thread.old) ≡ prepared result (hand work.new thread.new) }
-    ensures spare { work.old.room ≤ work.new.room + 765 }
+    ensures spare { work.old.room ≤ work.new.room + 3 * ended_stars value }
     ensures copies { work.new.copies ≡ work.old.copies }
     ensures thread_room { thread.new.room ≡ thread.old.room }
 {
@@ -135,11 +136,12 @@ fn follow_ended(work: &mut Work, thread: &mut Thread, value: Option<Value>) -> P
 }
 
 // A mutable reference that ends is cleaned, and where its holder's pointer gets its word, the holder's place is followed for writing.
+#[tactic(auto, using(crate::proofs::EndLemmas::cleaned_ends))]
 fn end_ref(work: &mut Work, thread: &mut Thread, at: &Spot) -> Prepared
     requires ready { is_prepared (end_ref (spot at.now) (hand work.old thread.old)) ≡ true }
-    requires room { 767 ≤ work.old.room }
+    requires room { 5 * ended_stars (own_value (spot at.now) thread.old.state) ≤ work.old.room }
     ensures state { end_ref (spot at.now) (hand work.old thread.old) ≡ prepared result (hand work.new thread.new) }
-    ensures spare { work.old.room ≤ work.new.room + 767 }
+    ensures spare { work.old.room ≤ work.new.room + 5 * ended_stars (own_value (spot at.now) thread.old.state) }
     ensures copies { work.new.copies ≡ work.old.copies }
     ensures thread_room { thread.new.room ≡ thread.old.room }
 {
@@ -163,12 +165,12 @@ fn end_ref(work: &mut Work, thread: &mut Thread, at: &Spot) -> Prepared
 /// Makes an access ready, as far as that is possible here.
 pub(crate) fn prepare(work: &mut Work, thread: &mut Thread, access: Option<Access>) -> Prepared
     requires ready { is_prepared (prepare (access_in access) (hand work.old thread.old)) ≡ true }
-    requires room { 5 * stars access ≤ work.old.room }
-    requires thread_room { stars access ≤ thread.old.room }
+    requires room { 5 * stars (access_in access) thread.old.state ≤ work.old.room }
+    requires thread_room { stars (access_in access) thread.old.state ≤ thread.old.room }
     ensures state { prepare (access_in access) (hand work.old thread.old) ≡ prepared result (hand work.new thread.new) }
-    ensures spare { work.old.room ≤ work.new.room + 5 * stars access }
+    ensures spare { work.old.room ≤ work.new.room + 5 * stars (access_in access) thread.old.state }
     ensures copies { work.new.copies ≡ work.old.copies }
-    ensures thread_spare { thread.old.room ≤ thread.new.room + stars access }
+    ensures thread_spare { thread.old.room ≤ thread.new.room + stars (access_in access) thread.old.state }
 {
     match access {
         None => Prepared::Ready(Spot::Nowhere),

@@ -9,6 +9,7 @@ ghost use Rattle.server_core.specs.Outboxes.{sending, taken_out};
 ghost use Rattle.server_core.specs.Threads.{states, first_threads};
 ghost use Rattle.server_model.specs.Questions.{due, runnable, active, movable, waits_among};
 
+use crate::spares::Spares;
 use crate::threads::{Threads, can_step};
 use crate::work::Work;
 use fr_base::{Code, NoMemory, Options, ThreadNo, Wait};
@@ -20,8 +21,8 @@ use std::marker::Model;
 use std::sync::Arc;
 use thread_state::{Phase, Thread};
 
-/// One server of a run. Contracts see its state as the definitions have it, the code and the options that it keeps, and beside them as
-/// `inbox_room` how many more messages can wait without memory.
+/// One server of a run. Contracts see its state as the definitions have it, the code and the options that it keeps, and beside them the
+/// room: as `inbox_room` how many more messages can wait without memory, and what room an event finds (`HasRoom`).
 #[derive(Drop)]
 pub struct Server {
     code: Arc<Code>,
@@ -29,6 +30,8 @@ pub struct Server {
     // without acts and labels between two events
     work: Work,
     threads: Threads,
+    // for the slots of new threads
+    spares: Spares,
     // how many events it has done
     events: u64,
 }
@@ -50,6 +53,10 @@ impl Model for Server {
       code = (arc_value s.code).items;
       options = s.options;
       inbox_room = s.work.inbox_room;
+      room = s.work.room;
+      copies = s.work.copies;
+      places = s.threads;
+      spares = s.spares;
     } };
 
     ghost invariant = { λ s. (s.work.state.acts ≡ []) × (s.work.state.labels ≡ []) };
@@ -97,6 +104,7 @@ impl Server {
             options: *options,
             work: Work::new(alloc, server, options),
             threads: first_threads(alloc, server)?,
+            spares: Spares::new(alloc),
             events: 0,
         })
     }
