@@ -79,20 +79,20 @@ task_by g (plain.Box o) k f = let q = f.1 in cc
 task_by g (plain.Mutex m) k f = let q = f.1 in cc
 task_by g (plain.Task u) k f = let q : task_v u (tree_of (g.result u)) ≡ task_v f.0 (tree_of k) = f.1 in let r : tree_of (g.result u) ≡ tree_of k = cc in (u, refl, same_tree (g.result u) k r)
 
-no_less : (n : ℕ) → n ≤ n
+pub no_less : (n : ℕ) → n ≤ n
 no_less n = omega arith
 
 one_less : (m n : ℕ) → suc m ≡ suc n → m ≡ n
 one_less m n e = omega (arith, e)
 
 -- a thread with a result has ended
-record Ended (ts : List (Thread Position)) (u : ℕ) : Type 0 where
-  thread : Thread Position
-  value : Value
-  found : thread_at ts u ≡ Some thread
-  life : thread.life ≡ ended value
+pub record Ended (ts : List (Thread Position)) (u : ℕ) : Type 0 where
+  pub thread : Thread Position
+  pub value : Value
+  pub found : thread_at ts u ≡ Some thread
+  pub life : thread.life ≡ ended value
 
-ended_by : (ts : List (Thread Position)) (u : ℕ) (w : Wait) → unless_some (result_at ts u) w ≡ None → Ended ts u
+pub ended_by : (ts : List (Thread Position)) (u : ℕ) (w : Wait) → unless_some (result_at ts u) w ≡ None → Ended ts u
 ended_by ts u w e = by (thread_at ts u) refl e
   where
     in_life : (x : Thread Position) (l : Life Position) → thread_at ts u ≡ Some x → x.life ≡ l → unless_some (result_of_life l) w ≡ None → Ended ts u

@@ -12,3 +12,7 @@ pub mod CapturedCopy
 pub mod TwoStates
 pub mod Spawns
 pub mod Example
+pub mod Woken
+pub mod Paired
+pub mod ParEnds
+pub mod PairExample

@@ -6,15 +6,15 @@ use Rattle.fr_base.specs.declared.step.Fresh.TheVariants as fresh
 use Rattle.fr_typing.specs.Kinds.{unit, int, task, own}
 use Rattle.fr_plain.specs.declared.value.Value.{Value}
 use Rattle.fr_plain.specs.declared.value.Value.TheVariants.{Own}
-use Rattle.fr_plain.specs.MachineActs.{do_spawn, do_join, unit as unit_value}
+use Rattle.fr_plain.specs.MachineActs.{do_spawn, do_join, do_par_end, unit as unit_value}
 use Rattle.fr_plain.specs.MachineThreads.{Life, alive, owing, ended, Thread, Whole}
 use Rattle.fr_plain.specs.Machine.{takes_of, refused_names, act_waits}
-use Rattle.fr_sound.specs.Entries.{going}
+use Rattle.fr_sound.specs.Entries.{going, forked_at}
 use Rattle.fr_sound.specs.States.{Typing}
 use Rattle.fr_code.specs.Steps.{captured}
 use Rattle.plain_types.specs.Positions.{Position}
 use Rattle.plain_types.specs.Keeps.{Ready}
-use Rattle.plain_types.specs.Example.{position, main_at, alone_at, one, variable, at_hand, bound}
+use Rattle.plain_types.specs.Example.{position, first, main_at, alone_at, one, variable, at_hand, bound}
 use Rattle.thread_types.specs.ThreadActs.{AtEnd}
 
 -- where a number is bound, a thread may be started that captures it
@@ -49,3 +49,17 @@ FinishIsReady = (y : Typing) × AtEnd y (both (owing empty)) (child (owing empty
 -- and then main may join it
 abbrev pub JoinIsReady : Type 0
 JoinIsReady = (y : Typing) × (act_waits (both (ended unit_value)) parent (do_join the_task) ≡ None) × Ready y (both (ended unit_value)) parent (at_hand (task unit) the_task) alive (do_join the_task) (λ (v : Value). at_hand unit v)
+
+-- main waits for two threads, and nothing else is there
+abbrev pub forked : Position
+forked = record { entry = forked_at [] [] unit; temps = [] }
+
+abbrev pub other : Life Position → Thread Position
+other l = record { number = 2; life = l; slots = [] }
+
+abbrev pub pair_of_two : Life Position → Life Position → Whole Position
+pair_of_two l k = record { threads = main_at forked [] ∷ child l ∷ other k ∷ []; heap = []; mutexes = []; pairs = record { parent = 0; first = 1; second = 2 } ∷ []; output = [] }
+
+-- where both have ended, main may go on
+abbrev pub ParEndIsReady : Type 0
+ParEndIsReady = (y : Typing) × (act_waits (pair_of_two (ended unit_value) (ended unit_value)) (main_at forked []) do_par_end ≡ None) × Ready y (pair_of_two (ended unit_value) (ended unit_value)) (main_at forked []) forked alive do_par_end (λ (v : Value). first)
