@@ -78,4 +78,5 @@ pub mod MigrateResults
 pub mod ValuesThere
 pub mod DupResults
 pub mod FetchedResults
+pub mod ObjectResults
 pub mod StepResults

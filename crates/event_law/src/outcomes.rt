@@ -1,6 +1,6 @@
 //! That an event that is enabled has a result.
 
-ghost use Rattle.event_law.specs.Laws.{AnswersHaveResults, DupsHaveResults, EvictionsHaveResults, FetchedHaveResults, FinishesHaveResults, JoinsHaveResults, MigrationsHaveResults, MutexesHaveResults, ParcelsHaveResults, StartsHaveResults, StepsHaveResults, TasksLetGoHaveResults};
+ghost use Rattle.event_law.specs.Laws.{AnswersHaveResults, DupsHaveResults, EvictionsHaveResults, FetchedHaveResults, FinishesHaveResults, JoinsHaveResults, MigrationsHaveResults, MutexesHaveResults, ObjectsHaveResults, ParcelsHaveResults, StartsHaveResults, StepsHaveResults, TasksLetGoHaveResults};
 
 /// The eviction of a copy that nobody uses, in whatever cluster, and the delivery of a thread, in a sound one.
 pub fn leaving_and_arriving()
@@ -23,6 +23,11 @@ pub fn mutexes()
 pub fn counting()
     ensures dups { DupsHaveResults }
     ensures copies { FetchedHaveResults }
+{}
+
+/// The delivery of a `fetch`, a `move` or a `drop`, in a sound cluster where its object lies where the word leads.
+pub fn objects()
+    ensures { ObjectsHaveResults }
 {}
 
 /// The delivery of a message about a thread that another one started, in a sound cluster: it has ended, it is joined, or its task was dropped.
