@@ -41,7 +41,7 @@ use Rattle.event_law.proofs.Copies.{copy_word, copy_goes}
 use Rattle.event_law.proofs.Events.{tot-server}
 use Rattle.event_law.proofs.Each.{at_most}
 use Rattle.event_law.proofs.Askers.{other_none}
-use Rattle.event_law.proofs.HaveResults.{some_map, arrives}
+use Rattle.event_law.proofs.HaveResults.{some_map, some_if, arrives}
 use Rattle.event_law.proofs.AnswerResults.{at_it}
 use Rattle.event_law.proofs.StandsHere.{IsWaiting, stands_here}
 use Rattle.event_law.proofs.MutexResults.{mutex_self, has}
@@ -152,10 +152,6 @@ cell_waits w = record { unready = by; ungot = by2 }
 waits : (p : Phase) (w : ℕ) → is_cell w p ≡ true → waits_for_cell p w ≡ true
 waits (phase.WaitCell v) w e = e
 waits _ w e = absurd (cc e)
-
-some_if : {X : Type 0} (b : Bool) (o : Option X) → b ≡ true → IsSome o → IsSome (if b then o else None)
-some_if true o e h = h
-some_if false o e h = absurd (cc e)
 
 module _ (k : Cluster) (sound : IsSound k) (few : FewEvents k) (number i : ℕ) (s : Server) (here : server_at k.servers number ≡ Some s) (w : ℕ) (c : Cell) (t : ℕ) (q : slice_get s.rest.inbox i ≡ Some (message.Fetched w c t)) where
   abbrev n : ℕ

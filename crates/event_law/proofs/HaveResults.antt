@@ -27,7 +27,7 @@ pub some_map : {X Y : Type 0} (f : X → Y) (o : Option X) → IsSome o → IsSo
 some_map f None h = absurd (cc h)
 some_map f (Some x) h = refl
 
-some_if : {X : Type 0} (b : Bool) (o : Option X) → b ≡ true → IsSome o → IsSome (if b then o else None)
+pub some_if : {X : Type 0} (b : Bool) (o : Option X) → b ≡ true → IsSome o → IsSome (if b then o else None)
 some_if true o e h = h
 some_if false o e h = absurd (cc e)
 

@@ -79,4 +79,6 @@ pub mod ValuesThere
 pub mod DupResults
 pub mod FetchedResults
 pub mod ObjectResults
+pub mod ThreadThere
+pub mod MovedResults
 pub mod StepResults

@@ -14,7 +14,7 @@ use Rattle.heap_partition.specs.declared.value.Cell.{Cell}
 use Rattle.heap_partition.specs.declared.value.Owned.{Owned}
 use Rattle.journal.specs.View.{EntryView}
 use Rattle.thread_state.specs.View.{ThreadState}
-use Rattle.server_msgs.specs.declared.message.Message.TheVariants.{Fetch, Fetched, Move, Drop, Lock, Granted, Unlock, Dup, Dupped, Release, Start, Join, Joined, Finished, Migrate}
+use Rattle.server_msgs.specs.declared.message.Message.TheVariants.{Fetch, Fetched, Move, Moved, Drop, Lock, Granted, Unlock, Dup, Dupped, Release, Start, Join, Joined, Finished, Migrate}
 use Rattle.server_model.specs.declared.event.Event.{Event}
 use Rattle.server_model.specs.declared.event.What.{What}
 use Rattle.server_model.specs.declared.event.What.TheVariants.{Deliver, Evict}
@@ -248,6 +248,13 @@ abbrev pub FetchedHaveResults : Type 0
 FetchedHaveResults =
     (k : Cluster) (n i : ℕ) (s : Server) (w : ℕ) (c : Cell) (t : ℕ) → IsSound k → FewEvents k → server_at k.servers n ≡ Some s → enabled k.options s (Deliver i) ≡ true → slice_get s.rest.inbox i ≡ Some (Fetched w c t)
     → HasResult k n (Deliver i)
+
+-- that of an object that comes, where few events were done, so that an address is left, and its thread has passed no hop of a write. (That the boxes
+-- which it has passed lead to where their objects lie follows from types)
+abbrev pub MovedHaveResults : Type 0
+MovedHaveResults =
+    (k : Cluster) (n i : ℕ) (s : Server) (w : ℕ) (c : Cell) (t : ℕ) (y : ThreadState) → IsSound k → FewEvents k → server_at k.servers n ≡ Some s → enabled k.options s (Deliver i) ≡ true → slice_get s.rest.inbox i ≡ Some (Moved w c t)
+    → thread_in s.threads t ≡ Some y → y.passed ≡ 0 → HasResult k n (Deliver i)
 
 -- the object lies where that word leads
 abbrev pub lies_under : ℕ → ObjNo → Thing → ℕ

@@ -1,6 +1,6 @@
 //! That an event that is enabled has a result.
 
-ghost use Rattle.event_law.specs.Laws.{AnswersHaveResults, DupsHaveResults, EvictionsHaveResults, FetchedHaveResults, FinishesHaveResults, JoinsHaveResults, MigrationsHaveResults, MutexesHaveResults, ObjectsHaveResults, ParcelsHaveResults, StartsHaveResults, StepsHaveResults, TasksLetGoHaveResults};
+ghost use Rattle.event_law.specs.Laws.{AnswersHaveResults, DupsHaveResults, EvictionsHaveResults, FetchedHaveResults, FinishesHaveResults, JoinsHaveResults, MigrationsHaveResults, MovedHaveResults, MutexesHaveResults, ObjectsHaveResults, ParcelsHaveResults, StartsHaveResults, StepsHaveResults, TasksLetGoHaveResults};
 
 /// The eviction of a copy that nobody uses, in whatever cluster, and the delivery of a thread, in a sound one.
 pub fn leaving_and_arriving()
@@ -19,10 +19,12 @@ pub fn mutexes()
     ensures { MutexesHaveResults }
 {}
 
-/// The delivery of a `dup`, and of a `fetched`, in a sound cluster where fewer than 2^31 - 1 events were done.
+/// The delivery of a `dup`, of a `fetched`, and of a `moved` whose thread has passed no hop of a write, in a sound cluster where fewer than 2^31 - 1
+/// events were done.
 pub fn counting()
     ensures dups { DupsHaveResults }
     ensures copies { FetchedHaveResults }
+    ensures objects { MovedHaveResults }
 {}
 
 /// The delivery of a `fetch`, a `move` or a `drop`, in a sound cluster where its object lies where the word leads.
