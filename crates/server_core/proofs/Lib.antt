@@ -7,4 +7,10 @@ mod PassLemmas
 mod PlaceLemmas
 mod EventLemmas
 mod StartLemmas
+mod StepLemmas
+mod ActLemmas
+mod KeptLemmas
+mod NumberLemmas
 mod EndLemmas
+mod RoomLemmas
+mod StarLemmas

@@ -3,7 +3,7 @@ use Rattle.std.proofs.lemmas.Option.{slice_get_within, slice_get_read}
 use Rattle.std.proofs.lemmas.List.{length-append, length-drop}
 use Rattle.std.proofs.lemmas.List.Elements.{All-append, All-cons, All-nil}
 use Rattle.thread_state.specs.View.{is_pinned}
-use Rattle.std.proofs.Common.{◌≡◌, ℕ, suc, ◌+◌, ◌<◌, ◌≤◌, All, arith, is_some, Bool, true, false, List, [], ◌∷◌, ◌++◌, length, drop, get_or, slice_get, Option, None, Some, IsSome, refl, sym, ap, subst, ◌∙◌, true≢false, add-one, drop-cons}
+use Rattle.std.proofs.Common.{◌≡◌, ℕ, ◌+◌, ◌<◌, ◌≤◌, All, arith, is_some, Bool, false, List, [], ◌∷◌, ◌++◌, length, drop, get_or, slice_get, Option, None, Some, IsSome, refl, sym, ap, subst, ◌∙◌, true≢false, add-one, drop-cons}
 use Rattle.thread_state.specs.declared.value.Value.{Value}
 use Rattle.server_model.specs.Work.{then_some}
 use Rattle.server_model.specs.Start.{captured, left_after, capture_from}

@@ -11,5 +11,7 @@ pub mod Prepareds
 pub mod Committeds
 pub mod Accesses
 pub mod Spares
+pub mod Steps
 pub mod Stars
 pub mod Rooms
+pub mod Growing

@@ -1,11 +1,12 @@
 //! Answers to threads that are here: a thread is taken out, has its answer, and stands again where it stood.
 
 ghost use Rattle.std.specs.Prelude.{◌≡◌, ◌+◌, ◌^◌, ◌<◌, ◌≤◌, true, Some, IsSome};
+ghost use Rattle.rank_map.specs.Places.{item_at};
 ghost use Rattle.server_model.specs.Work.{at_thread, thread_in};
 ghost use Rattle.server_model.specs.Objects.{deliver_fetched, deliver_moved};
 ghost use Rattle.server_model.specs.Sharing.{deliver_granted, deliver_dupped};
 ghost use Rattle.server_model.specs.Joining.{deliver_joined, pair_over};
-ghost use Rattle.server_core.specs.Sites.{site, has_copy_room, thread_room, slots_in, passed_in};
+ghost use Rattle.server_core.specs.Sites.{site, has_copy_room, HasItems, slots_in, passed_in};
 ghost use Rattle.server_core.specs.Threads.{states};
 
 use crate::joining::{deliver_joined, pair_over};
@@ -86,7 +87,7 @@ pub(crate) fn fetched_at(
     requires result { IsSome (at_thread thread (deliver_fetched word cell) (site work.old threads.old)) }
     requires place { has_copy_room work.old word ≡ true }
     requires room { 1 ≤ work.old.room }
-    requires thread_room { 0 < thread_room threads.old thread }
+    requires thread_room { HasItems 1 (item_at threads.old thread) }
     ensures state { at_thread thread (deliver_fetched word cell) (site work.old threads.old) ≡ Some (site work.new threads.new) }
     ensures spare { work.old.room ≤ work.new.room + 1 }
 {

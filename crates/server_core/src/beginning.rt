@@ -30,12 +30,13 @@ pub(crate) fn deliver(work: &mut Work, threads: &mut Threads, code: &Code, at: u
 
 /// A copy that nobody uses goes.
 #[tactic(auto, using(crate::proofs::EventLemmas::begins_eviction, crate::proofs::DeliverLemmas::made_of))]
-pub(crate) fn evict_at(work: &mut Work, threads: &mut Threads, word: Word, events: u64)
+pub(crate) fn evict_at(work: &mut Work, threads: &Threads, word: Word, events: u64)
     requires nothing { (work.old.state.acts ≡ []) × (work.old.state.labels ≡ []) }
-    requires result { IsSome (beside_threads (evict_copy word) (begin_at (standing work.old threads.old events))) }
+    requires result { IsSome (beside_threads (evict_copy word) (begin_at (standing work.old threads.now events))) }
     requires room { 1 ≤ work.old.room }
-    ensures state { beside_threads (evict_copy word) (begin_at (standing work.old threads.old events)) ≡ Some (site work.new threads.new) }
+    ensures state { beside_threads (evict_copy word) (begin_at (standing work.old threads.now events)) ≡ Some (site work.new threads.now) }
 {
+    let _threads = threads; // named in the contract alone
     evict_copy(work, word);
 }
 

@@ -1,19 +1,26 @@
 //! One server.
 
-ghost use Rattle.std.specs.Prelude.{◌≡◌, ◌+◌, ◌<◌, ◌≤◌, [], Some, None, length, slice_get, option_map, IsOk, IfOk, IfErr, OnOk, OnErr};
+ghost use Rattle.std.specs.Prelude.{◌≡◌, ◌+◌, ◌<◌, ◌≤◌, [], Some, None, true, length, slice_get, option_map, IsSome, IsOk, IfOk, IfErr, OnOk, OnErr};
 ghost use Rattle.server_model.specs.Servers.{start_of, server_at};
 ghost use Rattle.server_model.specs.Clusters.{accept};
-ghost use Rattle.server_model.specs.Events.{enabled, is_ready};
+ghost use Rattle.server_model.specs.Events.{does, enabled, is_ready};
 ghost use Rattle.std.specs.Arc.{arc_value};
 ghost use Rattle.server_core.specs.Outboxes.{sending, taken_out};
+ghost use Rattle.server_core.specs.Rooms.{HasRoom};
+ghost use Rattle.server_core.specs.Steps.{CountsLeft};
 ghost use Rattle.server_core.specs.Threads.{states, first_threads};
+ghost use Rattle.server_model.specs.declared.event.What.{What};
 ghost use Rattle.server_model.specs.Questions.{due, runnable, active, movable, waits_among};
 
+use crate::beginning::{deliver, evict_at, migrate_at};
+use crate::rooms::{delivery_room, step_room};
 use crate::spares::Spares;
+use crate::stepping::step_at;
 use crate::threads::{Threads, can_step};
 use crate::work::Work;
 use fr_base::{Code, NoMemory, Options, ThreadNo, Wait};
 use global_addr::Word;
+use journal::Entry;
 use server_model::What;
 use server_msgs::Message;
 use std::alloc::Global;
@@ -38,7 +45,7 @@ pub struct Server {
 
 impl Model for Server {
     ghost use Rattle.std.specs.Arc.{arc_value};
-    ghost use Rattle.std.specs.Prelude.{◌≡◌, []};
+    ghost use Rattle.std.specs.Prelude.{◌≡◌, ◌<◌, []};
     ghost use Rattle.server_core.specs.Servers.{ServerView};
     ghost use Rattle.server_core.specs.Threads.{states};
 
@@ -59,7 +66,7 @@ impl Model for Server {
       spares = s.spares;
     } };
 
-    ghost invariant = { λ s. (s.work.state.acts ≡ []) × (s.work.state.labels ≡ []) };
+    ghost invariant = { λ s. (s.work.state.acts ≡ []) × (s.work.state.labels ≡ []) × (0 < s.options.servers) };
 }
 
 // The threads of a server at the start: the main thread at server 0.
@@ -129,6 +136,72 @@ impl Server {
                     && *target != self.work.number,
                 None => false,
             },
+        }
+    }
+
+    /// Makes room for all that the event can need, the entry's lists included: with it the event takes no memory. What the server stands
+    /// for is unchanged either way, and room that was made for an event stays.
+    pub fn room(&mut self, what: What) -> Result<(), NoMemory>
+        ensures state { self.new.state ≡ self.old.state }
+        ensures kept { (self.new.code ≡ self.old.code) × (self.new.options ≡ self.old.options) }
+        ensures room { OnOk result (HasRoom what self.new) }
+        ensures had_room { HasRoom what self.old → IsOk result }
+        ensures stays { (other : What) → HasRoom other self.old → HasRoom other self.new }
+        ensures inbox_room { self.old.inbox_room ≤ self.new.inbox_room }
+    {
+        match what {
+            What::Step(thread) => step_room(
+                &mut self.work,
+                &mut self.threads,
+                &mut self.spares,
+                &self.code,
+                thread,
+            ),
+            What::Deliver(at) => delivery_room(&mut self.work, &mut self.threads, at),
+            What::Evict(_) => self.work.reserve(1),
+            What::Migrate(_, _) => self.work.reserve(2),
+        }
+    }
+
+    /// Does an event, and gives its entry of the journal. The event is enabled and has a result here, as each enabled one has at a server of
+    /// a coherent cluster; `room` made room for it, and no count of the server is near its end. Refuses nothing and takes no memory. A step
+    /// takes time in the stars of its place, an eviction, a migration and a delivery in the values of the thread that they move, and each
+    /// finds its thread in some forty steps.
+    #[tactic(auto, using(crate::proofs::ActLemmas::begins_step, crate::proofs::ActLemmas::ends_step, crate::proofs::ActLemmas::leaves, crate::proofs::ActLemmas::can_take, crate::proofs::DeliverLemmas::made_of))]
+    pub fn act(&mut self, what: What) -> Entry
+        requires enabled { enabled self.old.options self.old.state what ≡ true }
+        requires result { IsSome (does self.old.code self.old.options self.old.state what) }
+        requires room { HasRoom what self.old }
+        requires counts { CountsLeft self.old.state }
+        ensures done { does self.old.code self.old.options self.old.state what ≡ Some (self.new.state, result) }
+        ensures kept { (self.new.code ≡ self.old.code) × (self.new.options ≡ self.old.options) }
+    {
+        let events = self.events;
+        self.events += 1;
+        match what {
+            What::Step(thread) => {
+                let done = step_at(
+                    &mut self.work,
+                    &mut self.threads,
+                    &mut self.spares,
+                    &self.code,
+                    self.options.servers,
+                    thread,
+                );
+                self.work.entry(Some(thread), done)
+            }
+            What::Deliver(at) => {
+                deliver(&mut self.work, &mut self.threads, &self.code, at, events);
+                self.work.entry(None, None)
+            }
+            What::Evict(word) => {
+                evict_at(&mut self.work, &self.threads, word, events);
+                self.work.entry(None, None)
+            }
+            What::Migrate(thread, target) => {
+                migrate_at(&mut self.work, &mut self.threads, thread, target, events);
+                self.work.entry(Some(thread), None)
+            }
         }
     }
 

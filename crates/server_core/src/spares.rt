@@ -1,7 +1,8 @@
 //! Lists that are kept for the slots of new threads.
 
-ghost use Rattle.std.specs.Prelude.{◌≡◌, ◌≤◌, [], OnOk};
+ghost use Rattle.std.specs.Prelude.{◌≡◌, ◌≤◌, [], IsOk, OnOk};
 ghost use Rattle.std.specs.Vec.{vec_capacity};
+ghost use Rattle.server_core.specs.Growing.{HaveSparesGrown};
 
 use fr_base::NoMemory;
 use std::alloc::Global;
@@ -39,9 +40,11 @@ impl Spares {
         }
     }
 
-    /// Makes room for so many slots in each.
+    /// Makes room for so many slots in each; room that was made stays, also where it is refused.
     pub fn reserve(&mut self, first: usize, second: usize) -> Result<(), NoMemory>
         ensures room { OnOk result ((first ≤ self.new.first) × (second ≤ self.new.second)) }
+        ensures had_room { first ≤ self.old.first → second ≤ self.old.second → IsOk result }
+        ensures grown { HaveSparesGrown self.old self.new }
     {
         self.first.reserve(first)?;
         self.second.reserve(second)?;

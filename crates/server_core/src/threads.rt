@@ -1,11 +1,14 @@
 //! The threads that stand at a server.
 
-ghost use Rattle.std.specs.Prelude.{◌≡◌, ◌<◌, ◌^◌, true, [], None, Some, length, slice_get, option_map, IsSome, OnOk, OnErr};
+ghost use Rattle.std.specs.Prelude.{◌≡◌, ◌-◌, ◌<◌, ◌≤◌, ◌^◌, true, false, [], None, Some, length, vec_len, slice_get, option_map, IsTrue, IsOk, IsSome, OnOk, OnErr};
+ghost use Rattle.std.specs.Vec.{vec_capacity};
 ghost use Rattle.rank_map.specs.Places.{has_place, item_at, with_place, with_free};
 ghost use Rattle.rank_map.specs.Marks.{mark_if};
 ghost use Rattle.server_model.specs.Work.{thread_in, set_thread, with_thread, without_thread};
 ghost use Rattle.thread_state.specs.View.{ThreadState};
 ghost use Rattle.server_model.specs.Questions.{runnable_in, wait_of, waits_among, active_in, movable_in};
+ghost use Rattle.server_core.specs.Growing.{HaveThreadsGrown};
+ghost use Rattle.server_core.specs.Sites.{HasItems};
 ghost use Rattle.server_core.specs.Threads.{states, steps, waits, moves, acts};
 
 use fr_base::{NoMemory, ThreadNo, Wait};
@@ -100,6 +103,21 @@ fn is_active(thread: &Thread) -> bool
     !matches!(&thread.phase, Phase::Over)
 }
 
+// How many more items fit in a list.
+fn spare<T>(items: &Vec<T>) -> usize
+    ensures { result ≡ vec_capacity items.now - vec_len items.now }
+{
+    items.capacity() - items.len()
+}
+
+// Whether so many items more fit in each list of the thread.
+fn has_items(thread: &Thread, n: usize) -> bool
+    ensures yes { IsTrue result → n ≤ thread.now.room }
+    ensures no { result ≡ false → thread.now.room < n }
+{
+    n <= spare(&thread.slots) && n <= spare(&thread.temps) && n <= spare(&thread.walk)
+}
+
 impl Threads {
     /// No thread and no room, and no memory taken yet.
     pub fn new(alloc: Global) -> Threads
@@ -115,11 +133,18 @@ impl Threads {
     }
 
     /// Makes room for the thread of that number, which stays for good; a refusal leaves what is there.
+    #[tactic(auto, using(crate::proofs::RoomLemmas::same_grown, crate::proofs::RoomLemmas::reserved_grown, crate::proofs::RoomLemmas::reserved_place))]
     pub fn reserve(&mut self, thread: ThreadNo) -> Result<(), NoMemory>
         ensures room { OnOk result (self.new ≡ with_free self.old thread) }
+        ensures place { OnOk result (has_place self.new thread ≡ true) }
+        ensures had_room { has_place self.old thread ≡ true → IsOk result }
+        ensures grown { HaveThreadsGrown self.old self.new }
         ensures refused { OnErr result (self.new ≡ self.old) }
     {
         let number = thread.number();
+        if self.all.has_place(number) {
+            return Ok(());
+        }
         self.runnable.reserve(number)?;
         self.waiting.reserve(number)?;
         self.movable.reserve(number)?;
@@ -129,7 +154,8 @@ impl Threads {
 
     /// The thread of that number; `None` exactly where it doesn't stand there.
     pub fn get(&self, thread: ThreadNo) -> Option<&Thread>
-        ensures { option_map (λ t. t.now.state) result ≡ thread_in (states self.now) thread }
+        ensures state { option_map (λ t. t.now.state) result ≡ thread_in (states self.now) thread }
+        ensures item { option_map (λ t. t.now) result ≡ item_at self.now thread }
     {
         self.all.get(thread.number())
     }
@@ -171,6 +197,24 @@ impl Threads {
             Some(taken) => taken,
             None => unreachable!(),
         }
+    }
+
+    /// Makes room for `n` more items in each list of the thread of that number, where it stands there; a refusal leaves what is there.
+    pub fn reserve_lists(&mut self, thread: ThreadNo, n: usize) -> Result<(), NoMemory>
+        ensures grown { HaveThreadsGrown self.old self.new }
+        ensures room { OnOk result (HasItems n (item_at self.new thread)) }
+        ensures had_room { HasItems n (item_at self.old thread) → IsOk result }
+    {
+        let Some(standing) = self.get(thread) else {
+            return Ok(());
+        };
+        if has_items(standing, n) {
+            return Ok(());
+        }
+        let mut taken = self.take(thread);
+        let reserved = taken.reserve(n);
+        self.insert(taken);
+        reserved
     }
 
     /// How many threads aren't over.

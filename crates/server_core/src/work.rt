@@ -1,16 +1,17 @@
 //! A server in the middle of an event.
 
-ghost use Rattle.std.specs.Prelude.{◌≡◌, ◌+◌, ◌<◌, ◌≤◌, [], ◌∷◌, true, length, slice_get, Some, IsOk, OnOk, OnErr, IfErr};
+ghost use Rattle.std.specs.Prelude.{◌≡◌, ◌+◌, ◌<◌, ◌≤◌, ◌++◌, ℕ, [], ◌∷◌, true, length, slice_get, Some, IsOk, OnOk, OnErr, IfErr};
 ghost use Rattle.server_model.specs.Servers.{empty_server};
-ghost use Rattle.server_model.specs.Work.{add_waiting, send, receive, note, label_all};
+ghost use Rattle.server_model.specs.Work.{add_waiting, send, receive, note, label_all, is_hop, without_hops};
+ghost use Rattle.server_model.specs.Events.{entry_of};
 ghost use Rattle.server_model.specs.Drop.{give_up};
 ghost use Rattle.server_core.specs.Sites.{has_copy_room};
 
-use fr_base::{Label, Labels, NoMemory, Options, Plain, Released};
+use fr_base::{Fresh, Label, Labels, NoMemory, Options, Plain, Released, ThreadNo};
 use global_addr::Word;
 use heap_partition::Owned;
 use join_home::Tasks;
-use journal::{Act, Acts};
+use journal::{Act, Acts, Entry};
 use mutex_home::Mutexes;
 use owner_box::Partition;
 use rank_map::Queue;
@@ -18,6 +19,7 @@ use read_cache::Cache;
 use server_msgs::Message;
 use std::alloc::Global;
 use std::marker::Model;
+use std::mem;
 
 /// What an event touches of its server but for its threads, and what it has done so far. Contracts see it as `state`, and beside it
 /// as `room` how many of each thing an event adds fit without memory, as `copies` the words for whose copies there is room, and as
@@ -35,11 +37,15 @@ pub(crate) struct Work {
     pub started: u32,
     pub acts: Acts,
     pub labels: Labels,
+    // room for the acts of an event that ends with a request
+    asked: Acts,
+    alloc: Global,
     // for how many of each thing there is still room, by what was reserved
     pub room: usize,
 }
 
 impl Model for Work {
+    ghost use Rattle.std.specs.Prelude.{◌≡◌, ◌+◌, ◌≤◌, [], length};
     ghost use Rattle.server_core.specs.Works.{WorkView, HasRooms, sendings};
 
     ghost Value = { WorkView };
@@ -64,7 +70,42 @@ impl Model for Work {
       inbox_room = w.inbox.room;
     } };
 
-    ghost invariant = { λ w. HasRooms w.room w.inbox.room w.outbox.room w.partition.room w.mutexes.room.mutexes w.mutexes.room.threads w.tasks.room w.acts.spare w.labels.spare };
+    ghost invariant = { λ w. HasRooms w.room w.inbox.room w.outbox.room w.partition.room w.mutexes.room.mutexes w.mutexes.room.threads w.tasks.room w.acts.spare w.labels.spare × (w.asked.items ≡ []) × (length w.acts.items + w.room ≤ w.asked.spare) };
+}
+
+// Whether an act is a hop.
+fn is_hop(act: &Act) -> bool
+    ensures { result ≡ is_hop act.now }
+{
+    matches!(act, Act::Local(_, _) | Act::Hit(_, _))
+}
+
+// Adds an act that is no hop.
+fn add_request(act: &Act, asked: &mut Acts)
+    requires room { 0 < asked.old.spare }
+    ensures items { asked.new.items ≡ asked.old.items ++ without_hops (act.now ∷ []) }
+    ensures spare { asked.old.spare ≤ asked.new.spare + 1 }
+{
+    // The check asks that each type inside an act is named where an act is moved.
+    let _inside: Option<Released> = None;
+    if is_hop(act) {
+        return;
+    }
+    match asked.push(*act) {
+        Ok(()) => {}
+        Err(_) => unreachable!(),
+    }
+}
+
+// Adds those of the acts that are no hops, in order.
+fn add_without_hops(acts: &[Act], asked: &mut Acts)
+    requires nothing { asked.old.items ≡ [] }
+    requires room { length acts.now ≤ asked.old.spare }
+    ensures { asked.new.items ≡ without_hops acts.now }
+{
+    'acts: for act in acts {
+        add_request(act, asked);
+    }
 }
 
 impl Work {
@@ -85,6 +126,8 @@ impl Work {
             started: 0,
             acts: Acts::new(alloc),
             labels: Labels::new(alloc),
+            asked: Acts::new(alloc),
+            alloc,
             room: 0,
         }
     }
@@ -119,25 +162,35 @@ impl Work {
     pub fn reserve(&mut self, n: usize) -> Result<(), NoMemory>
         ensures state { self.new.state ≡ self.old.state }
         ensures room { OnOk result (n ≤ self.new.room) }
+        ensures had_room { n ≤ self.old.room → IsOk result }
         ensures spare { self.old.room ≤ self.new.room }
         ensures copies { self.new.copies ≡ self.old.copies }
         ensures inbox { self.old.inbox_room ≤ self.new.inbox_room }
     {
+        if n <= self.room {
+            return Ok(());
+        }
         self.inbox.reserve(n)?;
         self.outbox.reserve(n)?;
         self.partition.reserve(n)?;
         self.mutexes.reserve(n)?;
         self.tasks.reserve(n)?;
         self.acts.reserve(n)?;
+        let Some(asked) = n.checked_add(self.acts.len() as usize) else {
+            return Err(NoMemory);
+        };
+        self.asked.reserve(asked)?;
         self.labels.reserve(n)?;
-        self.room = self.room.max(n);
+        self.room = n;
         Ok(())
     }
 
-    // Makes room for a copy under that word; the state is unchanged either way.
+    // Makes room for a copy under that word; the state is unchanged either way, and room that was made stays.
     pub fn reserve_copy(&mut self, word: Word) -> Result<(), NoMemory>
         ensures state { self.new.state ≡ self.old.state }
         ensures place { OnOk result (has_copy_room self.new word ≡ true) }
+        ensures had_place { has_copy_room self.old word ≡ true → IsOk result }
+        ensures places { (w : ℕ) → has_copy_room self.old w ≡ true → has_copy_room self.new w ≡ true }
         ensures room { self.new.room ≡ self.old.room }
         ensures inbox { self.new.inbox_room ≡ self.old.inbox_room }
     {
@@ -208,6 +261,37 @@ impl Work {
         ensures copies { self.new.copies ≡ self.old.copies }
     {
         self.labels.clear();
+    }
+
+    // The event ends with a request: its hops and its labels count in the event that does the step.
+    #[tactic(auto, using(crate::proofs::StepLemmas::fewer_acts))]
+    pub fn put_off(&mut self)
+        ensures state { self.new.state ≡ record self.old.state { acts = without_hops self.old.state.acts; labels = [] } }
+        ensures copies { self.new.copies ≡ self.old.copies }
+    {
+        add_without_hops(self.acts.as_slice(), &mut self.asked);
+        mem::swap(&mut self.acts, &mut self.asked);
+        self.asked.clear();
+        self.labels.clear();
+        self.room = 0;
+    }
+
+    // The entry of the event, with the acts and labels that were noted; nothing is noted any more.
+    pub fn entry(&mut self, thread: Option<ThreadNo>, done: Option<Fresh>) -> Entry
+        ensures entry { result ≡ entry_of thread done self.old.state }
+        ensures rest { self.new.state.rest ≡ self.old.state.rest }
+        ensures nothing { (self.new.state.acts ≡ []) × (self.new.state.labels ≡ []) }
+    {
+        let acts = mem::replace(&mut self.acts, Acts::new(self.alloc));
+        let labels = mem::replace(&mut self.labels, Labels::new(self.alloc));
+        self.room = 0;
+        Entry {
+            server: self.number,
+            thread,
+            done,
+            acts,
+            labels,
+        }
     }
 
     // An owned value goes: whoever has what it leads to is told.

@@ -1,4 +1,4 @@
-use Rattle.std.proofs.Common.{rules, ◌≡◌, false, Some, IsSome, ◌∷◌, [], ◌++◌, sym, ap, subst, ◌∙◌}
+use Rattle.std.proofs.Common.{rules, IsSome, sym, subst, ◌∙◌}
 use Rattle.server_core.proofs.StartLemmas.{slot_within, none_lost, one_more, packed_more, room_more}
 use Rattle.server_core.proofs.starting.capture_all.Goals as goal
 

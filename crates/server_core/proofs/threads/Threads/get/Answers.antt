@@ -4,7 +4,7 @@ use Rattle.server_core.specs.Threads.{states}
 use Rattle.server_core.proofs.StandLemmas.{found_thread, then_state}
 use Rattle.server_core.proofs.threads.Threads.get.Goals as goal
 
-pub returns : goal.returns
-returns c =
+pub returns-clause-state : goal.returns-clause-state
+returns-clause-state c =
     then_state (λ t. t.now) c.get.result ∙ ap (option_map (λ v. v.state)) c.get.ensures ∙ sym (found_thread c.number.result c.self.invariant)
     ∙ ap (thread_in (states c.self.inside.all)) c.number.ensures.number ∙ ap (λ ps. thread_in (states ps) c.args.thread) c.self.view_is

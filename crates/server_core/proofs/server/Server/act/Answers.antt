@@ -1,0 +1,23 @@
+use Rattle.std.proofs.Common.{rules, ◌≡◌, Some, sym, ap, ◌∙◌}
+use Rattle.server_model.specs.Events.{does}
+use Rattle.server_core.specs.Standing.{standing}
+use Rattle.server_core.proofs.ActLemmas.{ends_step, leaves}
+use Rattle.server_model.specs.declared.event.What.TheVariants as what
+use Rattle.server_core.proofs.server.Server.act.Goals as goal
+
+pub returns-in-Step-clause-done : goal.returns-in-Step-clause-done
+returns-in-Step-clause-done c =
+    let code : c.args.self.now.code ≡ c.deref.result.now.items = search rules in
+    let options : c.args.self.now.options ≡ c.self.inside.options = sym (ap (λ v. v.options) c.self.view_is) in
+    let state : c.args.self.now.state ≡ standing c.self.inside.work c.self.inside.threads c.self.inside.events = sym (ap (λ v. v.state) c.self.view_is) in
+    let kind : c.args.what ≡ what.Step c.in-Step.thread = c.in-Step.is in
+    let step =
+    ends_step c.deref.result.now.items c.self.inside.options.servers c.in-Step.thread c.self.inside.work c.self.inside.threads c.self.inside.events _ c.self.invariant.0 c.self.invariant.1 (c.step_at-done.ensures.state c.self.inside.events) in
+    let entry =
+    leaves c.self.inside.events (Some c.in-Step.thread) c.step_at-done.result c.step_at-done.new.work c.entry.new.self c.step_at-done.new.threads c.entry.result c.entry.ensures.entry c.entry.ensures.rest in
+    ap (λ x. does x c.args.self.now.options c.args.self.now.state c.args.what) code
+    ∙ ap (λ x. does c.deref.result.now.items x c.args.self.now.state c.args.what) options
+    ∙ ap (λ x. does c.deref.result.now.items c.self.inside.options x c.args.what) state
+    ∙ ap (λ x. does c.deref.result.now.items c.self.inside.options (standing c.self.inside.work c.self.inside.threads c.self.inside.events) x) kind
+    ∙ step
+    ∙ ap Some entry
