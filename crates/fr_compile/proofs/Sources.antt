@@ -4,7 +4,7 @@ use Rattle.std.specs.Prelude.{if◌then◌else◌}
 use Rattle.fr_plain.specs.Run.{Run}
 use Rattle.fr_meaning.specs.declared.forms.Form.{Form}
 use Rattle.fr_meaning.specs.declared.forms.Form.TheVariants as form
-use Rattle.fr_meaning.specs.SlotOrder.{newest_first}
+use Rattle.fr_acts.specs.SlotOrder.{newest_first}
 use Rattle.fr_meaning.specs.FormTerms.{parts_from, parts_of, build, run_at, term_of}
 use Rattle.fr_code.specs.StandsFor.{IsSource, AreSource}
 

@@ -30,12 +30,12 @@ use Rattle.fr_meaning.specs.declared.forms.Form.TheVariants as form
 use Rattle.fr_meaning.specs.Contexts.{depth, depth_in}
 use Rattle.fr_meaning.specs.FormTerms as forms
 use Rattle.fr_meaning.specs.FormTerms.{build, run_at, NamesBelow, AreStacked, AreInOrder}
-use Rattle.fr_meaning.specs.SlotOrder.{onto, newest_first}
+use Rattle.fr_acts.specs.SlotOrder.{onto, newest_first}
 use Rattle.borrow_check.specs.Programs.{Program, takes_of, IsBlock, IsChecked}
 use Rattle.fr_meaning.specs.Forming.{place_in, captured_all, drops_of, clipped, count_at, count_of, IsBlockOf, IsSpawnOf, IsMade}
 use Rattle.fr_meaning.specs.Resolved.{IsTypedIn, IsRun, AreCounts, IsBuilt}
 use Rattle.fr_typing.proofs.PlaceLemmas.{eq_cases}
-use Rattle.fr_meaning.proofs.SlotLemmas.{length_onto}
+use Rattle.fr_acts.proofs.SlotLemmas.{length_onto}
 use Rattle.fr_meaning.proofs.FormLemmas.{push_same}
 use Rattle.borrow_check.proofs.TermLemmas.{IsHere}
 use Rattle.fr_meaning.proofs.PartLemmas.{term_is}

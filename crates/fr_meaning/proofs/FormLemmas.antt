@@ -5,7 +5,7 @@ use Rattle.std.proofs.lemmas.Bool.Decides.{eqb_tells}
 use Rattle.fr_plain.specs.Run.{Capture, Run, box_r, arith as arith_r, bind, print, assign, block, spawn, join_r, last, more}
 use Rattle.fr_meaning.specs.declared.forms.Form.{Form}
 use Rattle.fr_meaning.specs.declared.forms.Form.TheVariants as form
-use Rattle.fr_meaning.specs.SlotOrder.{onto, newest_first}
+use Rattle.fr_acts.specs.SlotOrder.{onto, newest_first}
 use Rattle.fr_meaning.specs.FormTerms.{IsSpawn, captures_of, parts_from, parts_of, build, run_at, term_of, AllBelow, NamesBelow, AreStacked, AreInOrder, items_in, items_at}
 
 -- a choice by whether two numbers are equal

@@ -1,9 +1,5 @@
 pub mod FormLemmas
 pub mod ContextLemmas
-pub mod PlaceLemmas
-pub mod HeapParts
-pub mod SlotLemmas
-pub mod ActLemmas
 pub mod FrameLemmas
 pub mod StepLemmas
 pub mod ThreadLemmas

@@ -21,7 +21,7 @@ use Rattle.fr_meaning.specs.declared.thread.Stage.TheVariants as stage
 use Rattle.fr_meaning.specs.declared.thread.Thread.{Thread}
 use Rattle.fr_meaning.specs.FormTerms.{AreInOrder}
 use Rattle.fr_meaning.specs.Next.{IsNext, next_waits, starts, thread_if, task_named}
-use Rattle.fr_meaning.specs.Places.{place_of}
+use Rattle.fr_shared.specs.Places.{place_of}
 use Rattle.fr_meaning.specs.PoolView.{error_of, refusal, kind_of, need_in, need_of}
 use Rattle.fr_meaning.specs.Threads.{run_in, IsWell, IsGoingOn, is_done, result_in, life_at, thread_of, whole, numbers_of}
 use Rattle.fr_meaning.proofs.NextMoves.{next_moves, moves_wait}

@@ -14,7 +14,7 @@ use Rattle.fr_meaning.specs.declared.thread.Thread.{Thread}
 use Rattle.fr_meaning.specs.Contexts.{depth}
 use Rattle.fr_meaning.specs.FormTerms.{captures_of, captures_in, captures_at, term_of, IsSpawn}
 use Rattle.fr_meaning.specs.FrameTerms.{wrapped, focus_run, HasMadeWay}
-use Rattle.fr_meaning.specs.SlotOrder.{newest_first}
+use Rattle.fr_acts.specs.SlotOrder.{newest_first}
 use Rattle.fr_meaning.specs.Threads.{run_in, IsWell, life_at, thread_of, AreWell, Starts}
 use Rattle.fr_meaning.proofs.FormLemmas.{get_or-any}
 use Rattle.fr_meaning.proofs.FrameLemmas.{length_depth}

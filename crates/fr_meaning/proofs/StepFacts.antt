@@ -7,7 +7,7 @@ use Rattle.fr_base.specs.declared.step.Fresh.TheVariants as fresh
 use Rattle.fr_plain.specs.declared.value.Value.{Value}
 use Rattle.fr_plain.specs.declared.value.Value.TheVariants.{Own, ToSlot, ToObject, Held}
 use Rattle.fr_plain.specs.Heap.{Heap}
-use Rattle.fr_plain.specs.Acts.{Act, do_spawn, do_join, Did, act, lets_go, drops_last}
+use Rattle.fr_plain.specs.Acts.{Act, do_spawn, do_join, Did, act, drops_last}
 use Rattle.fr_plain.specs.Run.{Run, Move, next, move, Life, life_move}
 use Rattle.fr_plain.specs.Threads.{Passed, result_of_life, result_in as result_in_plain}
 use Rattle.fr_plain.specs.Whole.{Thread as PlainThread, Whole, Stepped, thread_at, is_given, pass, stepped, then_released, alone_stepped, started_with, joined, joined_with, done_act, moved, step_of, step, state_of}
@@ -20,10 +20,11 @@ use Rattle.fr_meaning.specs.declared.thread.Stage.TheVariants as stage
 use Rattle.fr_meaning.specs.declared.thread.Thread.{Thread}
 use Rattle.fr_meaning.specs.FormTerms.{AreInOrder, captures_of, captures_at}
 use Rattle.fr_meaning.specs.Next.{IsNext, starts, task_named}
-use Rattle.fr_meaning.specs.Places.{place_of}
-use Rattle.fr_meaning.specs.SlotOrder.{newest_first}
+use Rattle.fr_shared.specs.Places.{place_of}
+use Rattle.fr_acts.specs.SlotOrder.{newest_first}
 use Rattle.fr_meaning.specs.Threads.{run_in, IsWell, AreWell, IsGoingOn, IsEnded, result_in, life_at, thread_of, threads_of, whole, numbers_of}
-use Rattle.fr_meaning.specs.Turning.{state, turned_by, turned, settled, term_step}
+use Rattle.fr_acts.specs.Acting.{state, releases}
+use Rattle.fr_meaning.specs.Turning.{turned_by, turned, settled, term_step}
 use Rattle.fr_meaning.proofs.EntryLemmas.{at_same}
 use Rattle.fr_meaning.proofs.FormLemmas.{eq_cases}
 use Rattle.fr_meaning.proofs.OwnActs.{Owns, own_named, own_done, nameless}
@@ -131,7 +132,7 @@ alone_goes : (s : Whole) (x : PlainThread) (g : Stage) (o : Option (Move Run)) �
 alone_goes s x g None w h = absurd (no_some {A = Stepped} None refl h)
 alone_goes s x g (Some m) w h = by (act m.act (state_of s x)) (subst (λ (o : Option Stepped). IsSome o) (own_done s x (moved_to g m) m.act w) h)
   where
-    by : (d : Option Did) → IsSome (then_released (drops_last m.act (state_of s x)) (stepped s x (moved_to g m) d)) → IsSome (settled (turned_by m (lets_go m.act (state_of s x)) d))
+    by : (d : Option Did) → IsSome (then_released (drops_last m.act (state_of s x)) (stepped s x (moved_to g m) d)) → IsSome (settled (turned_by m (releases m.act (state_of s x)) d))
     by None k = absurd (no_some {A = Stepped} None refl k)
     by (Some d) k = refl
 

@@ -6,7 +6,7 @@ use Rattle.fr_base.specs.declared.place.Lval.{Lval}
 use Rattle.fr_plain.specs.declared.value.Value.{Value}
 use Rattle.fr_plain.specs.Heap.{Heap}
 use Rattle.fr_plain.specs.State.{State}
-use Rattle.fr_plain.specs.Acts.{Did, act, lets_go, do_read, do_borrow, do_discard, do_drop, unit}
+use Rattle.fr_plain.specs.Acts.{Did, act, do_read, do_borrow, do_discard, do_drop, unit}
 use Rattle.fr_plain.specs.Run.{Run, temp, read, borrow, block, Parts, last, more, going, temporary, now, settle, leaves, Move, next, alone, move}
 use Rattle.fr_meaning.specs.declared.forms.Form.{Form}
 use Rattle.fr_meaning.specs.declared.forms.Form.TheVariants as form
@@ -20,7 +20,10 @@ use Rattle.fr_meaning.specs.Contexts.{Around, fill, wrap, IsOpen, IsHeld, IsSett
 use Rattle.fr_meaning.specs.FormTerms.{parts_from, parts_of, term_of, items_at, AreInOrder, IsSpawn}
 use Rattle.fr_meaning.specs.DoneTerms.{over, value_of}
 use Rattle.fr_meaning.specs.FrameTerms.{around_items, around, all_around, wrapped, focus_run, HasMadeWay, end_of}
-use Rattle.fr_meaning.specs.Turning.{did, Turned, turned_by, turned, turns_to, settled, term_step}
+use Rattle.fr_shared.specs.declared.heap.Released.{Released}
+use Rattle.fr_shared.specs.declared.heap.Released.TheVariants as released
+use Rattle.fr_acts.specs.Acting.{did, releases}
+use Rattle.fr_meaning.specs.Turning.{Turned, turned_by, turned, turns_to, settled, term_step}
 use Rattle.fr_meaning.proofs.FormLemmas.{spawn_run}
 use Rattle.fr_meaning.proofs.ContextLemmas.{now_fill, now_wrap, move_wrap, settled_fill}
 use Rattle.fr_meaning.proofs.FrameLemmas.{now_temporary, last_waits, more_waits}
@@ -30,24 +33,24 @@ use Rattle.fr_meaning.proofs.FrameLemmas.{now_temporary, last_waits, more_waits}
 -- the whole term's step, from that of the innermost one
 abbrev lifted : List Around → Option Turned → Option Turned
 lifted cs None = None
-lifted cs (Some x) = Some (record { run = settle (wrap cs x.run); state = x.state; labels = x.labels; task = x.task })
+lifted cs (Some x) = Some (record { run = settle (wrap cs x.run); state = x.state; labels = x.labels; released = x.released })
 
 -- by what the act does
-by_lifted : (cs : List Around) (m : Move Run) (u : Option ℕ) (d : Option Did) → settled (turned_by (record { act = m.act; plug = λ v. wrap cs (m.plug v) }) u d) ≡ lifted cs (turned_by m u d)
+by_lifted : (cs : List Around) (m : Move Run) (u : Released) (d : Option Did) → settled (turned_by (record { act = m.act; plug = λ v. wrap cs (m.plug v) }) u d) ≡ lifted cs (turned_by m u d)
 by_lifted cs m u None = refl
 by_lifted cs m u (Some d) = refl
 
 -- by the term's move
 turned_lifted : (cs : List Around) (o : Option (Move Run)) (s : State) → settled (turned (next (wrap cs) o) s) ≡ lifted cs (turned o s)
 turned_lifted cs None s = refl
-turned_lifted cs (Some m) s = by_lifted cs m (lets_go m.act s) (act m.act s)
+turned_lifted cs (Some m) s = by_lifted cs m (releases m.act s) (act m.act s)
 
 -- a term's step is that of its innermost term, settled
 step_wrap : (cs : List Around) (r : Run) (s : State) → now r ≡ going → term_step (wrap cs r) s ≡ lifted cs (turned (move r) s)
 step_wrap cs r s h = ap (λ o. settled (turned o s)) (move_wrap cs r h) ∙ turned_lifted cs (move r) s
 
 -- where the innermost term turns to another, the whole goes to the whole with that one, settled
-pub step_in : (fs : List Form) (gs : List Frame) (r q whole : Run) (s : State) (t : ℕ) (slots : List Value) (heap : Heap) (labels : List Label) (u : Option ℕ) →
+pub step_in : (fs : List Form) (gs : List Frame) (r q whole : Run) (s : State) (t : ℕ) (slots : List Value) (heap : Heap) (labels : List Label) (u : Released) →
     now r ≡ going → turned (move r) s ≡ turns_to q t slots heap labels u → whole ≡ settle (wrapped fs gs q) → term_step (wrapped fs gs r) s ≡ turns_to whole t slots heap labels u
 step_in fs gs r q whole s t slots heap labels u h e w = step_wrap (all_around fs gs) r s h ∙ ap (lifted (all_around fs gs)) e ∙ ap (λ x. turns_to x t slots heap labels u) (sym w)
 
@@ -62,25 +65,25 @@ goes_in_frames fs gs r s h g = by (turned (move r) s) (subst (λ (o : Option Tur
 -- INNERMOST TERMS
 
 -- an act that is done is defined
-pub turned_goes : (m : Move Run) (u : Option ℕ) (d : Option Did) → IsSome (turned_by m u d) → IsSome d
+pub turned_goes : (m : Move Run) (u : Released) (d : Option Did) → IsSome (turned_by m u d) → IsSome d
 turned_goes m u None h = h
 turned_goes m u (Some d) h = refl
 
 -- a read that is done is defined
 pub read_goes : (w : Lval) (take : Bool) (s : State) → IsSome (turned (move (read w take)) s) → IsSome (act (do_read w take) s)
-read_goes w take s h = turned_goes (record { act = do_read w take; plug = temp }) None (act (do_read w take) s) h
+read_goes w take s h = turned_goes (record { act = do_read w take; plug = temp }) released.Nothing (act (do_read w take) s) h
 
 -- a read leaves the value as a temporary one
-pub read_turns : (w : Lval) (take : Bool) (s : State) (v : Value) (t : ℕ) (slots : List Value) (heap : Heap) (labels : List Label) (u : Option ℕ) → u ≡ None → act (do_read w take) s ≡ did v t slots heap labels → turned (move (read w take)) s ≡ turns_to (temp v) t slots heap labels u
-read_turns w take s v t slots heap labels u e h = ap (turned_by (record { act = do_read w take; plug = temp }) None) h ∙ ap (turns_to (temp v) t slots heap labels) (sym e)
+pub read_turns : (w : Lval) (take : Bool) (s : State) (v : Value) (t : ℕ) (slots : List Value) (heap : Heap) (labels : List Label) (u : Released) → u ≡ released.Nothing → act (do_read w take) s ≡ did v t slots heap labels → turned (move (read w take)) s ≡ turns_to (temp v) t slots heap labels u
+read_turns w take s v t slots heap labels u e h = ap (turned_by (record { act = do_read w take; plug = temp }) released.Nothing) h ∙ ap (turns_to (temp v) t slots heap labels) (sym e)
 
 -- a reference that is made is defined
 pub borrow_goes : (w : Lval) (is_mut : Bool) (s : State) → IsSome (turned (move (borrow w is_mut)) s) → IsSome (act (do_borrow w is_mut) s)
-borrow_goes w is_mut s h = turned_goes (record { act = do_borrow w is_mut; plug = temp }) None (act (do_borrow w is_mut) s) h
+borrow_goes w is_mut s h = turned_goes (record { act = do_borrow w is_mut; plug = temp }) released.Nothing (act (do_borrow w is_mut) s) h
 
 -- and is a temporary value
-pub borrow_turns : (w : Lval) (is_mut : Bool) (s : State) (v : Value) (t : ℕ) (slots : List Value) (heap : Heap) (labels : List Label) (u : Option ℕ) → u ≡ None → act (do_borrow w is_mut) s ≡ did v t slots heap labels → turned (move (borrow w is_mut)) s ≡ turns_to (temp v) t slots heap labels u
-borrow_turns w is_mut s v t slots heap labels u e h = ap (turned_by (record { act = do_borrow w is_mut; plug = temp }) None) h ∙ ap (turns_to (temp v) t slots heap labels) (sym e)
+pub borrow_turns : (w : Lval) (is_mut : Bool) (s : State) (v : Value) (t : ℕ) (slots : List Value) (heap : Heap) (labels : List Label) (u : Released) → u ≡ released.Nothing → act (do_borrow w is_mut) s ≡ did v t slots heap labels → turned (move (borrow w is_mut)) s ≡ turns_to (temp v) t slots heap labels u
+borrow_turns w is_mut s v t slots heap labels u e h = ap (turned_by (record { act = do_borrow w is_mut; plug = temp }) released.Nothing) h ∙ ap (turns_to (temp v) t slots heap labels) (sym e)
 
 -- a settled block whose item is done holds a temporary value before a `;`, and has slots to drop after its last item
 pub held : (left : ℕ) (look : ℕ → Run) (js : List ℕ) (j : ℕ) (ks : List ℕ) (d : Done) → js ≡ j ∷ ks → IsSettled (fill (around_items left look js) (over d)) → leaves (over d) ≡ true
@@ -121,12 +124,12 @@ pub discard_move : (k : ℕ) (r : Run) (is : Parts) (v : Value) → now r ≡ te
 discard_move k r is v h = rw h refl
 
 -- a temporary value before a `;` is dropped, and the block goes on with the next item
-pub discard_turns : (left : ℕ) (look : ℕ → Run) (js : List ℕ) (j : ℕ) (ks : List ℕ) (d : Done) (s : State) (t : ℕ) (slots : List Value) (heap : Heap) (labels : List Label) (u : Option ℕ) →
-    js ≡ j ∷ ks → leaves (over d) ≡ true → act (do_discard (value_of d)) s ≡ did unit t slots heap labels → u ≡ lets_go (do_discard (value_of d)) s → turned (move (fill (around_items left look js) (over d))) s ≡ turns_to (block left (parts_of look js)) t slots heap labels u
+pub discard_turns : (left : ℕ) (look : ℕ → Run) (js : List ℕ) (j : ℕ) (ks : List ℕ) (d : Done) (s : State) (t : ℕ) (slots : List Value) (heap : Heap) (labels : List Label) (u : Released) →
+    js ≡ j ∷ ks → leaves (over d) ≡ true → act (do_discard (value_of d)) s ≡ did unit t slots heap labels → u ≡ releases (do_discard (value_of d)) s → turned (move (fill (around_items left look js) (over d))) s ≡ turns_to (block left (parts_of look js)) t slots heap labels u
 discard_turns left look js j ks d s t slots heap labels u e l h g =
     subst (λ (is : List ℕ). turned (move (fill (around_items left look is) (over d))) s ≡ turns_to (block left (parts_of look is)) t slots heap labels u) (sym e)
     (ap (λ o. turned o s) (discard_move left (over d) (parts_from look j ks) (value_of d) (now_temporary d l))
-    ∙ ap (turned_by (record { act = do_discard (value_of d); plug = λ x. block left (parts_from look j ks) }) (lets_go (do_discard (value_of d)) s)) h
+    ∙ ap (turned_by (record { act = do_discard (value_of d); plug = λ x. block left (parts_from look j ks) }) (releases (do_discard (value_of d)) s)) h
     ∙ ap (turns_to (block left (parts_from look j ks)) t slots heap labels) (sym g))
 
 -- the move after the last item
@@ -141,11 +144,11 @@ drop_goes left look js d s e n h = by left n (subst (λ (l : List ℕ). IsSome (
   where
     by : (k : ℕ) → k ≢ 0 → IsSome (turned (move (block k (last (over d)))) s) → IsSome (act do_drop s)
     by zero n i = absurd (n refl)
-    by (suc k) n i = turned_goes (record { act = do_drop; plug = λ x. block k (last (over d)) }) (lets_go do_drop s) (act do_drop s) (subst (λ (o : Option (Move Run)). IsSome (turned o s)) (drop_move k d) i)
+    by (suc k) n i = turned_goes (record { act = do_drop; plug = λ x. block k (last (over d)) }) (releases do_drop s) (act do_drop s) (subst (λ (o : Option (Move Run)). IsSome (turned o s)) (drop_move k d) i)
 
 -- and is then as before with a slot less to drop
-pub drop_turns : (left : ℕ) (look : ℕ → Run) (js : List ℕ) (d : Done) (s : State) (t : ℕ) (slots : List Value) (heap : Heap) (labels : List Label) (u : Option ℕ) →
-    js ≡ [] → left ≢ 0 → act do_drop s ≡ did unit t slots heap labels → u ≡ lets_go do_drop s → turned (move (fill (around_items left look js) (over d))) s ≡ turns_to (fill (around_items (left - 1) look js) (over d)) t slots heap labels u
+pub drop_turns : (left : ℕ) (look : ℕ → Run) (js : List ℕ) (d : Done) (s : State) (t : ℕ) (slots : List Value) (heap : Heap) (labels : List Label) (u : Released) →
+    js ≡ [] → left ≢ 0 → act do_drop s ≡ did unit t slots heap labels → u ≡ releases do_drop s → turned (move (fill (around_items left look js) (over d))) s ≡ turns_to (fill (around_items (left - 1) look js) (over d)) t slots heap labels u
 drop_turns left look js d s t slots heap labels u e n h g =
     subst (λ (l : List ℕ). turned (move (fill (around_items left look l) (over d))) s ≡ turns_to (fill (around_items (left - 1) look l) (over d)) t slots heap labels u) (sym e) (by left n)
   where
@@ -153,8 +156,8 @@ drop_turns left look js d s t slots heap labels u e n h g =
     by zero n = absurd (n refl)
     by (suc k) n =
         let one : suc k - 1 ≡ k = omega arith in
-        ap (λ o. turned o s) (drop_move k d) ∙ ap (turned_by (record { act = do_drop; plug = λ x. block k (last (over d)) }) (lets_go do_drop s)) h
-        ∙ ap (λ m. turns_to (block m (last (over d))) t slots heap labels (lets_go do_drop s)) (sym one) ∙ ap (turns_to (block (suc k - 1) (last (over d))) t slots heap labels) (sym g)
+        ap (λ o. turned o s) (drop_move k d) ∙ ap (turned_by (record { act = do_drop; plug = λ x. block k (last (over d)) }) (releases do_drop s)) h
+        ∙ ap (λ m. turns_to (block m (last (over d))) t slots heap labels (releases do_drop s)) (sym one) ∙ ap (turns_to (block (suc k - 1) (last (over d))) t slots heap labels) (sym g)
 
 -- WHERE A THREAD GOES ON
 

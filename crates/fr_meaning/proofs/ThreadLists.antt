@@ -12,11 +12,11 @@ use Rattle.fr_meaning.specs.declared.frame.Frame.{Frame}
 use Rattle.fr_meaning.specs.declared.frame.Focus.{Focus}
 use Rattle.fr_meaning.specs.Contexts.{depth, IsSettled}
 use Rattle.fr_meaning.specs.FrameTerms.{wrapped, focus_run, AreInside, HasMadeWay}
-use Rattle.fr_meaning.specs.SlotOrder.{newest_first}
-use Rattle.fr_meaning.specs.Places.{place_of}
+use Rattle.fr_acts.specs.SlotOrder.{newest_first}
+use Rattle.fr_shared.specs.Places.{place_of}
 use Rattle.fr_meaning.specs.Threads.{run_in, IsGoingOn, IsEnded, IsWell, life_at, thread_of, threads_of, whole, numbers_of, AreWell, after_release, released_heap, released_task}
 use Rattle.fr_meaning.proofs.FormLemmas.{eq_cases}
-use Rattle.fr_meaning.proofs.HeapParts.{later_place}
+use Rattle.fr_shared.proofs.PlaceLemmas.{later_place}
 
 -- as many numbers as threads
 pub length_numbers : (xs : List Thread) → length (numbers_of xs) ≡ length xs

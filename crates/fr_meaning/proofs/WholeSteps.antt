@@ -3,17 +3,19 @@ use Rattle.std.proofs.Common.{◌≡◌, ℕ, ℤ, Bool, List, [], ◌∷◌, �
 use Rattle.std.specs.Prelude.{is_some, slice_set, if◌then◌else◌}
 use Rattle.fr_base.specs.declared.label.Label.{Label}
 use Rattle.fr_base.specs.declared.label.Label.TheVariants as label
+use Rattle.fr_base.specs.declared.label.Plain.{Plain}
+use Rattle.fr_base.specs.declared.label.Plain.TheVariants as plain
 use Rattle.fr_base.specs.declared.label.Plain.TheVariants.{Task}
 use Rattle.fr_base.specs.declared.step.Fresh.TheVariants as fresh
 use Rattle.fr_plain.specs.declared.value.Value.{Value}
 use Rattle.fr_plain.specs.declared.value.Value.TheVariants.{Own}
-use Rattle.fr_plain.specs.Heap.{Heap}
+use Rattle.fr_plain.specs.Heap.{Heap, task_of}
 use Rattle.fr_plain.specs.State.{State}
-use Rattle.fr_plain.specs.Acts.{Act, do_let, do_read, do_borrow, do_assign, do_box, do_arith, do_print, do_discard, do_drop, do_end, do_spawn, do_join, do_finish, do_leave, do_mutex, do_dup, do_lock, do_unlock, do_par, do_par_end, Did, act, lets_go, drops_last}
+use Rattle.fr_plain.specs.Acts.{Act, do_let, do_read, do_borrow, do_assign, do_box, do_arith, do_print, do_discard, do_drop, do_end, do_spawn, do_join, do_finish, do_leave, do_mutex, do_dup, do_lock, do_unlock, do_par, do_par_end, Did, act, drops_last}
 use Rattle.fr_plain.proofs.Tasks.{release_tasks}
 use Rattle.fr_plain.specs.Run as run
 use Rattle.fr_plain.specs.Run.{Capture, Run, going, now, settle, Move, next, alone, move, Life, settle_life, life_move}
-use Rattle.fr_plain.specs.Threads.{Whole, Thread as PlainThread, with_thread, with_life, Passed, pass, result_of_life, result_in as result_in_plain}
+use Rattle.fr_plain.specs.Threads.{Whole, Thread as PlainThread, with_thread, with_life, Passed, pass, release, result_of_life, result_in as result_in_plain}
 use Rattle.fr_plain.specs.Whole.{Stepped, prints, let_go, then_released, stepped, alone_stepped, moved, step_of, step, state_of, joined, joined_with, started_with}
 use Rattle.fr_meaning.specs.declared.forms.Form.{Form}
 use Rattle.fr_meaning.specs.declared.frame.Done.{Done}
@@ -22,16 +24,19 @@ use Rattle.fr_meaning.specs.declared.thread.Stage.{Stage}
 use Rattle.fr_meaning.specs.declared.thread.Stage.TheVariants as stage
 use Rattle.fr_meaning.specs.declared.thread.Thread.{Thread}
 use Rattle.fr_meaning.specs.DoneTerms.{over, value_of}
-use Rattle.fr_meaning.specs.Places.{place_of}
-use Rattle.fr_meaning.specs.SlotOrder.{newest_first}
-use Rattle.fr_meaning.specs.Threads.{run_in, IsGoingOn, result_in, end_act, end_value, after_end, life_at, thread_of, threads_of, whole, numbers_of}
-use Rattle.fr_meaning.specs.Turning.{state, did, Turned, turned_by, turned, turns_to, settled, term_step}
+use Rattle.fr_shared.specs.Places.{place_of}
+use Rattle.fr_acts.specs.SlotOrder.{newest_first}
+use Rattle.fr_meaning.specs.Threads.{run_in, IsGoingOn, result_in, end_act, end_value, after_end, life_at, thread_of, threads_of, whole, numbers_of, task_from}
+use Rattle.fr_shared.specs.declared.heap.Released.{Released}
+use Rattle.fr_shared.specs.Releases.{released_of}
+use Rattle.fr_acts.specs.Acting.{state, did, releases}
+use Rattle.fr_meaning.specs.Turning.{Turned, turned_by, turned, turns_to, settled, term_step}
 use Rattle.std.proofs.lemmas.List.{append-nil}
 use Rattle.fr_meaning.specs.declared.frame.Frame.{Frame}
 use Rattle.fr_meaning.specs.Contexts.{wrap}
 use Rattle.fr_meaning.specs.FrameTerms.{wrapped, all_around, end_of}
 use Rattle.fr_meaning.proofs.ContextLemmas.{now_wrap, move_wrap}
-use Rattle.fr_meaning.proofs.ActLemmas.{IsSilent, silent}
+use Rattle.fr_acts.proofs.ActLemmas.{IsSilent, silent}
 use Rattle.fr_meaning.proofs.StepLemmas.{run_end}
 use Rattle.fr_meaning.proofs.OwnActs.{IsOwn, own_done}
 use Rattle.fr_meaning.proofs.ThreadLists.{none_there, there_at, set_at, numbers_set, threads_push}
@@ -77,6 +82,21 @@ own_act do_unlock s d h = absurd cc
 own_act (do_par cs r ds q) s d h = absurd cc
 own_act do_par_end s d h = absurd cc
 
+-- WHAT GOES WITH A DROPPED VALUE
+
+-- the thread of a task, as the code tells it
+pub task_goes : (v : Plain) → task_of v ≡ task_from (released_of v)
+task_goes plain.Nothing = refl
+task_goes plain.Unit = refl
+task_goes (plain.Int n) = refl
+task_goes (plain.Box o) = refl
+task_goes (plain.Mutex m) = refl
+task_goes (plain.Task t) = refl
+
+-- where no mutex is, threads go alone
+goes_alone : (s : Whole) → s.mutexes ≡ [] → (v : Plain) → release s v ≡ let_go s (task_from (released_of v))
+goes_alone s none v = release_tasks s none v ∙ ap (let_go s) (task_goes v)
+
 -- A THREAD ALONE
 
 turned_same : (a b : Turned) → Some a ≡ Some b → a ≡ b
@@ -91,42 +111,42 @@ abbrev pub stepped_to : Whole → List Label → Option Stepped
 stepped_to s labels = Some (record { state = s; labels = labels })
 
 -- what the step leaves
-abbrev left_by : Whole → PlainThread → Heap → List Label → Option ℕ → Option Stepped
-left_by s x heap labels u = Some (record { state = let_go (record s { threads = with_thread s.threads x; heap = heap; output = s.output ++ prints labels }) u; labels = labels })
+abbrev left_by : Whole → PlainThread → Heap → List Label → Released → Option Stepped
+left_by s x heap labels u = Some (record { state = let_go (record s { threads = with_thread s.threads x; heap = heap; output = s.output ++ prints labels }) (task_from u); labels = labels })
 
 -- by what the act does
-alone_by : (s : Whole) (x : PlainThread) (g : Stage) (q : Run) (m : Move Run) (d : Option Did) (slots : List Value) (heap : Heap) (labels : List Label) (u : Option ℕ) → s.mutexes ≡ [] → IsGoingOn g → act m.act (state_of s x) ≡ d →
-    settled (turned_by m (lets_go m.act (state_of s x)) d) ≡ turns_to q x.number slots heap labels u → alone_stepped s x (moved_to g m) m.act ≡ left_by s (record { number = x.number; life = life_at g q; slots = newest_first slots }) heap labels u
+alone_by : (s : Whole) (x : PlainThread) (g : Stage) (q : Run) (m : Move Run) (d : Option Did) (slots : List Value) (heap : Heap) (labels : List Label) (u : Released) → s.mutexes ≡ [] → IsGoingOn g → act m.act (state_of s x) ≡ d →
+    settled (turned_by m (releases m.act (state_of s x)) d) ≡ turns_to q x.number slots heap labels u → alone_stepped s x (moved_to g m) m.act ≡ left_by s (record { number = x.number; life = life_at g q; slots = newest_first slots }) heap labels u
 alone_by s x g q m None slots heap labels u none on a e = absurd cc
 alone_by s x g q m (Some d) slots heap labels u none on a e =
-    let f = turned_same (record { run = settle (m.plug d.value); state = d.state; labels = d.labels; task = lets_go m.act (state_of s x) }) (record { run = q; state = state x.number slots heap; labels = labels; task = u }) e in
+    let f = turned_same (record { run = settle (m.plug d.value); state = d.state; labels = d.labels; released = releases m.act (state_of s x) }) (record { run = q; state = state x.number slots heap; labels = labels; released = u }) e in
     let st = ap (λ (y : Turned). y.state) f in
     let last = drops_last m.act (state_of s x) in
     ap (λ o. then_released last (stepped s x (moved_to g m) o)) a
-    ∙ ap (λ z. stepped_to z d.labels) (release_tasks (record s { threads = with_thread s.threads (record { number = x.number; life = settle_life (life_at g (m.plug d.value)); slots = d.state.slots }); heap = d.state.heap; output = s.output ++ prints d.labels }) none last)
-    ∙ ap (λ l. left_by s (record { number = x.number; life = l; slots = d.state.slots }) d.state.heap d.labels (lets_go m.act (state_of s x))) (life_settles g (m.plug d.value) on ∙ ap (λ (y : Turned). life_at g y.run) f)
-    ∙ ap (λ (c : State). left_by s (record { number = x.number; life = life_at g q; slots = c.slots }) c.heap d.labels (lets_go m.act (state_of s x))) st
-    ∙ ap (λ ls. left_by s (record { number = x.number; life = life_at g q; slots = newest_first slots }) heap ls (lets_go m.act (state_of s x))) (ap (λ (y : Turned). y.labels) f)
-    ∙ ap (left_by s (record { number = x.number; life = life_at g q; slots = newest_first slots }) heap labels) (ap (λ (y : Turned). y.task) f)
+    ∙ ap (λ z. stepped_to z d.labels) (goes_alone (record s { threads = with_thread s.threads (record { number = x.number; life = settle_life (life_at g (m.plug d.value)); slots = d.state.slots }); heap = d.state.heap; output = s.output ++ prints d.labels }) none last)
+    ∙ ap (λ l. left_by s (record { number = x.number; life = l; slots = d.state.slots }) d.state.heap d.labels (releases m.act (state_of s x))) (life_settles g (m.plug d.value) on ∙ ap (λ (y : Turned). life_at g y.run) f)
+    ∙ ap (λ (c : State). left_by s (record { number = x.number; life = life_at g q; slots = c.slots }) c.heap d.labels (releases m.act (state_of s x))) st
+    ∙ ap (λ ls. left_by s (record { number = x.number; life = life_at g q; slots = newest_first slots }) heap ls (releases m.act (state_of s x))) (ap (λ (y : Turned). y.labels) f)
+    ∙ ap (left_by s (record { number = x.number; life = life_at g q; slots = newest_first slots }) heap labels) (ap (λ (y : Turned). y.released) f)
 
 -- an act that is done
-done_of : (m : Move Run) (w : Option ℕ) (d : Option Did) (y : Turned) → settled (turned_by m w d) ≡ Some y → (e : Did) × (d ≡ Some e)
+done_of : (m : Move Run) (w : Released) (d : Option Did) (y : Turned) → settled (turned_by m w d) ≡ Some y → (e : Did) × (d ≡ Some e)
 done_of m w None y h = absurd cc
 done_of m w (Some e) y h = (e, refl)
 
 -- by the term's move
-alone_in : (s : Whole) (x : PlainThread) (g : Stage) (q : Run) (o : Option (Move Run)) (slots : List Value) (heap : Heap) (labels : List Label) (u : Option ℕ) → s.mutexes ≡ [] → IsGoingOn g →
+alone_in : (s : Whole) (x : PlainThread) (g : Stage) (q : Run) (o : Option (Move Run)) (slots : List Value) (heap : Heap) (labels : List Label) (u : Released) → s.mutexes ≡ [] → IsGoingOn g →
     settled (turned o (state_of s x)) ≡ turns_to q x.number slots heap labels u → moved s x fresh.None (next (life_at g) o) ≡ left_by s (record { number = x.number; life = life_at g q; slots = newest_first slots }) heap labels u
 alone_in s x g q None slots heap labels u none on e = absurd cc
 alone_in s x g q (Some m) slots heap labels u none on e =
-    let d = done_of m (lets_go m.act (state_of s x)) (act m.act (state_of s x)) (record { run = q; state = state x.number slots heap; labels = labels; task = u }) e in
+    let d = done_of m (releases m.act (state_of s x)) (act m.act (state_of s x)) (record { run = q; state = state x.number slots heap; labels = labels; released = u }) e in
     own_done s x (moved_to g m) m.act (own_act m.act (state_of s x) d.0 d.1)
     ∙ alone_by s x g q m (act m.act (state_of s x)) slots heap labels u none on refl e
 
 -- the thread's step alone is a step of the plain state
-pub whole_alone : (fs : List Form) (xs : List Thread) (heap new : Heap) (output : List ℤ) (t i : ℕ) (x y : Thread) (labels : List Label) (u : Option ℕ) → place_of (numbers_of xs) t ≡ Some i → x ≡ get_or xs i x → IsGoingOn x.stage → now (run_in fs x) ≡ going →
+pub whole_alone : (fs : List Form) (xs : List Thread) (heap new : Heap) (output : List ℤ) (t i : ℕ) (x y : Thread) (labels : List Label) (u : Released) → place_of (numbers_of xs) t ≡ Some i → x ≡ get_or xs i x → IsGoingOn x.stage → now (run_in fs x) ≡ going →
     term_step (run_in fs x) (state x.number x.slots.items heap) ≡ turns_to (run_in fs y) x.number y.slots.items new labels u → y.number ≡ x.number → y.stage ≡ x.stage →
-    step (whole fs xs heap output) t fresh.None ≡ Some (record { state = let_go (whole fs (slice_set xs i y) new (output ++ prints labels)) u; labels = labels })
+    step (whole fs xs heap output) t fresh.None ≡ Some (record { state = let_go (whole fs (slice_set xs i y) new (output ++ prints labels)) (task_from u); labels = labels })
 whole_alone fs xs heap new output t i x y labels u h is on go e n same =
     let s = whole fs xs heap output in
     let there = there_at fs xs t i x h is in
@@ -135,8 +155,8 @@ whole_alone fs xs heap new output t i x y labels u h is on go e n same =
     ∙ ap (λ (z : PlainThread). left_by s z new labels u) (thread_again y x n same)
     ∙ ap (λ ts. left_with ts new (output ++ prints labels) labels u) (set_at fs xs t i y h (n ∙ there.1))
   where
-    left_with : List PlainThread → Heap → List ℤ → List Label → Option ℕ → Option Stepped
-    left_with ts h o ls u = Some (record { state = let_go (record { threads = ts; heap = h; mutexes = []; pairs = []; output = o }) u; labels = ls })
+    left_with : List PlainThread → Heap → List ℤ → List Label → Released → Option Stepped
+    left_with ts h o ls u = Some (record { state = let_go (record { threads = ts; heap = h; mutexes = []; pairs = []; output = o }) (task_from u); labels = ls })
 
     thread_again : (y x : Thread) → y.number ≡ x.number → y.stage ≡ x.stage → record { number = x.number; life = life_at x.stage (run_in fs y); slots = newest_first y.slots.items } ≡ thread_of fs y
     thread_again y x n same =
@@ -178,9 +198,9 @@ end_life stage.Over v q r = refl
 end_life (stage.Ended w) v q r = refl
 
 -- the end of a thread is a step of the plain state
-pub whole_end : (fs : List Form) (xs : List Thread) (heap new : Heap) (output : List ℤ) (t i : ℕ) (x y : Thread) (d : Done) (labels : List Label) (u : Option ℕ) → place_of (numbers_of xs) t ≡ Some i → x ≡ get_or xs i x → IsGoingOn x.stage → end_of x.focus x.frames.items ≡ Some d →
-    act (end_act x.stage (value_of d)) (state x.number x.slots.items heap) ≡ did (end_value x.stage (value_of d)) x.number y.slots.items new labels → u ≡ lets_go (end_act x.stage (value_of d)) (state x.number x.slots.items heap) → y.number ≡ x.number → y.stage ≡ after_end x.stage (value_of d) →
-    step (whole fs xs heap output) t fresh.None ≡ Some (record { state = let_go (whole fs (slice_set xs i y) new output) u; labels = labels })
+pub whole_end : (fs : List Form) (xs : List Thread) (heap new : Heap) (output : List ℤ) (t i : ℕ) (x y : Thread) (d : Done) (labels : List Label) (u : Released) → place_of (numbers_of xs) t ≡ Some i → x ≡ get_or xs i x → IsGoingOn x.stage → end_of x.focus x.frames.items ≡ Some d →
+    act (end_act x.stage (value_of d)) (state x.number x.slots.items heap) ≡ did (end_value x.stage (value_of d)) x.number y.slots.items new labels → u ≡ releases (end_act x.stage (value_of d)) (state x.number x.slots.items heap) → y.number ≡ x.number → y.stage ≡ after_end x.stage (value_of d) →
+    step (whole fs xs heap output) t fresh.None ≡ Some (record { state = let_go (whole fs (slice_set xs i y) new output) (task_from u); labels = labels })
 whole_end fs xs heap new output t i x y d labels u h is on e a task n same =
     let s = whole fs xs heap output in
     let there = there_at fs xs t i x h is in
@@ -192,7 +212,7 @@ whole_end fs xs heap new output t i x y d labels u h is on e a task n same =
     ap (step_of s fresh.None) there.0 ∙ ap (λ r. moved s (thread_of fs x) fresh.None (life_move (life_at x.stage r))) (run_end fs x.focus x.frames.items d e)
     ∙ ap (moved s (thread_of fs x) fresh.None) (end_moves x.stage d on) ∙ own_done s (thread_of fs x) m (end_act x.stage v) own.0
     ∙ ap (λ o. then_released (drops_last (end_act x.stage v) (state x.number x.slots.items heap)) (stepped s (thread_of fs x) m o)) a
-    ∙ ap (λ z. stepped_to z labels) (release_tasks (record s { threads = with_thread s.threads (record { number = x.number; life = settle_life (life_at (after_end x.stage (end_value x.stage v)) (over d)); slots = newest_first y.slots.items }); heap = new; output = output ++ prints labels }) refl (drops_last (end_act x.stage v) (state x.number x.slots.items heap)))
+    ∙ ap (λ z. stepped_to z labels) (goes_alone (record s { threads = with_thread s.threads (record { number = x.number; life = settle_life (life_at (after_end x.stage (end_value x.stage v)) (over d)); slots = newest_first y.slots.items }); heap = new; output = output ++ prints labels }) refl (drops_last (end_act x.stage v) (state x.number x.slots.items heap)))
     ∙ ap (λ w. left_by s (record { number = x.number; life = settle_life (life_at (after_end x.stage (end_value x.stage v)) (over d)); slots = newest_first y.slots.items }) new labels w) (sym task)
     ∙ ap (λ l. left_by s (record { number = x.number; life = l; slots = newest_first y.slots.items }) new labels u) (end_life x.stage v (over d) (run_in fs y))
     ∙ ap (λ k. left_by s (record { number = k; life = life_at (after_end x.stage v) (run_in fs y); slots = newest_first y.slots.items }) new labels u) (sym n)
@@ -200,10 +220,10 @@ whole_end fs xs heap new output t i x y d labels u h is on e a task n same =
     ∙ ap (λ ns. left_to ns) printed ∙ ap (λ ts. left_with ts) (set_at fs xs t i y h (n ∙ there.1))
   where
     left_to : List ℤ → Option Stepped
-    left_to ns = Some (record { state = let_go (record { threads = with_thread (threads_of fs xs) (thread_of fs y); heap = new; mutexes = []; pairs = []; output = ns }) u; labels = labels })
+    left_to ns = Some (record { state = let_go (record { threads = with_thread (threads_of fs xs) (thread_of fs y); heap = new; mutexes = []; pairs = []; output = ns }) (task_from u); labels = labels })
 
     left_with : List PlainThread → Option Stepped
-    left_with ts = Some (record { state = let_go (record { threads = ts; heap = new; mutexes = []; pairs = []; output = output }) u; labels = labels })
+    left_with ts = Some (record { state = let_go (record { threads = ts; heap = new; mutexes = []; pairs = []; output = output }) (task_from u); labels = labels })
 
 -- JOINING
 

@@ -4,7 +4,7 @@ use Rattle.fr_plain.specs.Run.{Capture, Run, unit_c, number, read, borrow, box_r
 use Rattle.fr_meaning.specs.declared.forms.Captured.{Captured}
 use Rattle.fr_meaning.specs.declared.forms.Form.{Form}
 use Rattle.fr_meaning.specs.declared.forms.Form.TheVariants as form
-use Rattle.fr_meaning.specs.SlotOrder.{newest_first}
+use Rattle.fr_acts.specs.SlotOrder.{newest_first}
 
 -- an item, and those after it
 abbrev pub parts_from : (ℕ → Run) → ℕ → List ℕ → Parts

@@ -1,11 +1,7 @@
-pub mod SlotOrder
 pub mod FormTerms
 pub mod DoneTerms
 pub mod Contexts
 pub mod FrameTerms
-pub mod Places
-pub mod HeapRoom
-pub mod HeapInside
 pub mod Turning
 pub mod Threads
 pub mod Next

@@ -14,7 +14,7 @@ use Rattle.fr_meaning.specs.declared.need.Need.TheVariants as need
 use Rattle.fr_meaning.specs.declared.error.StepError.{StepError}
 use Rattle.fr_meaning.specs.declared.error.StepError.TheVariants as error
 use Rattle.fr_meaning.specs.FrameTerms.{wrapped, focus_run}
-use Rattle.fr_meaning.specs.SlotOrder.{newest_first}
+use Rattle.fr_acts.specs.SlotOrder.{newest_first}
 use Rattle.fr_meaning.specs.Threads.{life_at}
 
 -- a thread, without what room it has

@@ -20,11 +20,14 @@ use Rattle.fr_meaning.specs.declared.frame.Done.{Done}
 use Rattle.fr_meaning.specs.declared.frame.Frame.{Frame}
 use Rattle.fr_meaning.specs.declared.frame.Frame.TheVariants as frame
 use Rattle.fr_meaning.specs.declared.frame.Focus.TheVariants as focus
+use Rattle.fr_shared.specs.declared.heap.Released.{Released}
+use Rattle.fr_shared.specs.declared.heap.Released.TheVariants as released
 use Rattle.fr_meaning.specs.DoneTerms.{value_of}
-use Rattle.fr_meaning.specs.HeapRoom.{HeapRoom}
+use Rattle.fr_shared.specs.HeapRoom.{HeapRoom}
 use Rattle.fr_meaning.specs.FrameTerms.{wrapped, focus_run, AreInside, HasMadeWay, end_of}
-use Rattle.fr_meaning.specs.Turning.{state, term_step, focus_labels, frame_labels}
-use Rattle.fr_meaning.specs.SlotOrder.{newest_first}
+use Rattle.fr_acts.specs.Acting.{state}
+use Rattle.fr_meaning.specs.Turning.{term_step, focus_labels, frame_labels}
+use Rattle.fr_acts.specs.SlotOrder.{newest_first}
 
 -- the running term
 abbrev pub run_in : List Form → Thread → Run
@@ -119,6 +122,11 @@ released_heap h _ = h
 abbrev pub released_task : Heap → Stage → Option ℕ
 released_task h (stage.Ended v) = task_in h v
 released_task h _ = None
+
+-- the thread that goes with a dropped value, where no mutex is
+abbrev pub task_from : Released → Option ℕ
+task_from (released.Task t) = Some t
+task_from _ = None
 
 -- the thread's own step can be done, and there is room for what it makes
 pub record CanGo (fs : List Form) (x : Thread) (heap : HeapRoom) (labels : WithRoom Label) : Type 0 where

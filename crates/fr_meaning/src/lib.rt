@@ -1,20 +1,16 @@
 //! The plain machine in code: a `Pool` of threads over one heap steps as the running terms do.
 #![tactic(auto)]
 
-mod acts;
 mod control;
 mod error;
 mod forming;
 mod forms;
 mod frame;
-mod heap;
 mod machine;
 mod need;
 mod next;
-mod places;
 mod pool;
 mod running;
-mod spot;
 mod standing;
 mod thread;
 mod threads;

@@ -8,15 +8,17 @@ ghost use Rattle.fr_meaning.specs.Contexts.{fill, depth, IsSettled};
 ghost use Rattle.fr_meaning.specs.FormTerms.{AreInOrder, term_of, parts_of, items_at};
 ghost use Rattle.fr_meaning.specs.DoneTerms.{over, value_of};
 ghost use Rattle.fr_meaning.specs.FrameTerms.{wrapped, around, around_items, focus_run, AreInside, IsInside, HasLastPart, IsPastLeft, HasMadeWay, end_of};
-ghost use Rattle.fr_meaning.specs.Turning.{state, turned, turns_to, term_step, frame_labels, focus_labels};
+ghost use Rattle.fr_shared.specs.declared.heap.Released.TheVariants as released;
+ghost use Rattle.fr_acts.specs.Acting.{state};
+ghost use Rattle.fr_meaning.specs.Turning.{turned, turns_to, term_step, frame_labels, focus_labels};
 
-use crate::acts::{arith, assign, borrow, discard, drop_slot, make_box, print, read};
 use crate::control::{enter_items, has_item, leave};
 use crate::forms::Form;
 use crate::frame::{Done, Entered, Focus, Frame};
-use crate::heap::Heap;
+use fr_acts::{arith, assign, borrow, discard, drop_slot, make_box, print, read};
 use fr_base::{Labels, Plain, ThreadNo};
 use fr_plain::Value;
+use fr_shared::{Heap, Released};
 
 // The value of a term that is done.
 pub fn value_in(done: Done) -> Value
@@ -56,7 +58,7 @@ fn operate(
     heap: &mut Heap,
     output: &mut Vec<i64>,
     labels: &mut Labels,
-    dropped: &mut Option<ThreadNo>,
+    dropped: &mut Released,
 ) -> Done
     requires part { HasLastPart frame }
     requires goes { IsSome (turned (move (fill (around forms.now frame) (over done))) (state thread slots.old.items heap.old.heap)) }
@@ -64,7 +66,7 @@ fn operate(
     requires heap { heap.old.ready ≡ Some thread }
     requires output { vec_len output.old < vec_capacity output.old }
     requires labels { labels.old.items ≡ [] }
-    requires task { dropped.old ≡ None }
+    requires none { dropped.old ≡ released.Nothing }
     requires room { frame_labels frame ≤ labels.old.spare }
     ensures turns { turned (move (fill (around forms.now frame) (over done))) (state thread slots.old.items heap.old.heap) ≡ turns_to (over result) thread slots.new.items heap.new.heap labels.new.items dropped.new }
     ensures output { output.new.items ≡ output.old.items ++ prints labels.new.items }
@@ -127,7 +129,7 @@ fn step_block(
     slots: &mut Vec<Value>,
     heap: &mut Heap,
     labels: &mut Labels,
-    dropped: &mut Option<ThreadNo>,
+    dropped: &mut Released,
 ) -> Focus
     requires order { AreInOrder forms.now }
     requires inside { node < length forms.now }
@@ -136,7 +138,7 @@ fn step_block(
     requires room { depth (wrapped forms.now frames.old.items (fill (around_items left (term_of forms.now) (drop next (items_at forms.now node))) (over done))) ≤ vec_capacity frames.old }
     requires goes { IsSome (turned (move (fill (around_items left (term_of forms.now) (drop next (items_at forms.now node))) (over done))) (state thread slots.old.items heap.old.heap)) }
     requires labels { labels.old.items ≡ [] }
-    requires task { dropped.old ≡ None }
+    requires none { dropped.old ≡ released.Nothing }
     requires spare { 2 ≤ labels.old.spare }
     ensures step { term_step (wrapped forms.now frames.old.items (fill (around_items left (term_of forms.now) (drop next (items_at forms.now node))) (over done))) (state thread slots.old.items heap.old.heap) ≡ turns_to (wrapped forms.now frames.new.items (focus_run forms.now result)) thread slots.new.items heap.new.heap labels.new.items dropped.new }
     ensures silent { prints labels.new.items ≡ [] }
@@ -168,7 +170,7 @@ fn step_frame(
     heap: &mut Heap,
     output: &mut Vec<i64>,
     labels: &mut Labels,
-    dropped: &mut Option<ThreadNo>,
+    dropped: &mut Released,
 ) -> Focus
     requires order { AreInOrder forms.now }
     requires frame { IsInside (length forms.now) frame }
@@ -181,7 +183,7 @@ fn step_frame(
     requires heap { heap.old.ready ≡ Some thread }
     requires output { vec_len output.old < vec_capacity output.old }
     requires labels { labels.old.items ≡ [] }
-    requires task { dropped.old ≡ None }
+    requires none { dropped.old ≡ released.Nothing }
     requires spare { frame_labels frame ≤ labels.old.spare }
     ensures step { term_step (wrapped forms.now frames.old.items (fill (around forms.now frame) (over done))) (state thread slots.old.items heap.old.heap) ≡ turns_to (wrapped forms.now frames.new.items (focus_run forms.now result)) thread slots.new.items heap.new.heap labels.new.items dropped.new }
     ensures output { output.new.items ≡ output.old.items ++ prints labels.new.items }
@@ -200,7 +202,7 @@ fn step_frame(
     leave(forms, frames, over)
 }
 
-/// One step that a thread does alone, which isn't its end. Tells the thread whose task was dropped.
+/// One step that a thread does alone, which isn't its end. Tells what goes last with a value that is dropped.
 pub fn advance(
     forms: &[Form],
     thread: ThreadNo,
@@ -210,7 +212,7 @@ pub fn advance(
     heap: &mut Heap,
     output: &mut Vec<i64>,
     labels: &mut Labels,
-    dropped: &mut Option<ThreadNo>,
+    dropped: &mut Released,
 ) -> Focus
     requires order { AreInOrder forms.now }
     requires frames { AreInside (length forms.now) frames.old.items }
@@ -223,7 +225,7 @@ pub fn advance(
     requires heap { heap.old.ready ≡ Some thread }
     requires output { vec_len output.old < vec_capacity output.old }
     requires labels { labels.old.items ≡ [] }
-    requires task { dropped.old ≡ None }
+    requires none { dropped.old ≡ released.Nothing }
     requires spare { focus_labels focus ≤ labels.old.spare }
     requires frame_spare { (gs : List Frame) (g : Frame) → frames.old.items ≡ gs ++ g ∷ [] → frame_labels g ≤ labels.old.spare }
     ensures step { term_step (wrapped forms.now frames.old.items (focus_run forms.now focus)) (state thread slots.old.items heap.old.heap) ≡ turns_to (wrapped forms.now frames.new.items (focus_run forms.now result)) thread slots.new.items heap.new.heap labels.new.items dropped.new }

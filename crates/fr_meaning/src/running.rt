@@ -8,21 +8,20 @@ ghost use Rattle.fr_meaning.specs.declared.thread.Thread.{Thread};
 ghost use Rattle.fr_meaning.specs.declared.next.Next.TheVariants as next_;
 ghost use Rattle.fr_meaning.specs.FormTerms.{AreInOrder, captures_at};
 ghost use Rattle.fr_meaning.specs.Next.{IsNext};
-ghost use Rattle.fr_meaning.specs.Places.{place_of};
+ghost use Rattle.fr_shared.specs.Places.{place_of};
 ghost use Rattle.fr_meaning.specs.Threads.{IsWell, numbers_of};
 ghost use Rattle.fr_meaning.specs.Entries.{entry_of};
 ghost use Rattle.fr_meaning.specs.Running.{plain_of, view_of, Stands};
 
 use crate::forms::Form;
 use crate::frame::Done;
-use crate::heap::Heap;
 use crate::machine::labels_ahead;
 use crate::next::{Next, next_of, task_named_by};
-use crate::places::Places;
 use crate::thread::Thread;
 use crate::threads::{go_alone, go_end, go_join, go_start};
 use fr_base::{Fresh, Labels, NoMemory, ThreadNo};
 use fr_plain::Value;
+use fr_shared::{Heap, Places};
 use std::alloc::Global;
 
 /// The threads in the order in which they were started, the place of each, the one heap and the output.

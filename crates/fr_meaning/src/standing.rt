@@ -7,7 +7,7 @@ ghost use Rattle.fr_meaning.specs.declared.forms.Form.{Form};
 ghost use Rattle.fr_meaning.specs.declared.thread.Thread.{Thread};
 ghost use Rattle.fr_meaning.specs.FormTerms.{AreInOrder};
 ghost use Rattle.fr_meaning.specs.Next.{next_waits, thread_if};
-ghost use Rattle.fr_meaning.specs.Places.{place_of};
+ghost use Rattle.fr_shared.specs.Places.{place_of};
 ghost use Rattle.fr_meaning.specs.PoolView.{error_of, refusal, need_of};
 ghost use Rattle.fr_meaning.specs.Running.{plain_of, Stands};
 ghost use Rattle.fr_meaning.specs.Threads.{result_in, is_done, numbers_of, thread_of, threads_of};
@@ -15,10 +15,10 @@ ghost use Rattle.fr_meaning.specs.Threads.{result_in, is_done, numbers_of, threa
 use crate::error::StepError;
 use crate::need::Need;
 use crate::next::{Next, next_of, takes_name, task_named_by};
-use crate::places::Places;
 use crate::running::Running;
 use crate::thread::{Stage, Thread};
 use fr_base::{Ending3, Fresh, ThreadNo, Wait};
+use fr_shared::Places;
 
 // The thread has ended.
 fn is_over(stage: &Stage) -> bool

@@ -1,7 +1,7 @@
 //! A thread, and what it does alone.
 
 ghost use Rattle.std.specs.Prelude.{◌≡◌, ◌<◌, ◌≤◌, ◌+◌, ◌++◌, ◌∷◌, [], List, length, vec_len, vec_capacity, Some, None, IsSome};
-ghost use Rattle.fr_plain.specs.Acts.{act, lets_go};
+ghost use Rattle.fr_plain.specs.Acts.{act};
 ghost use Rattle.fr_plain.specs.Run.{settle, block, last, temp};
 ghost use Rattle.fr_plain.specs.State.{slot_at};
 ghost use Rattle.fr_plain.specs.Threads.{pass, left_after};
@@ -12,18 +12,19 @@ ghost use Rattle.fr_meaning.specs.Contexts.{depth};
 ghost use Rattle.fr_meaning.specs.FormTerms.{AreInOrder, captures_of, term_of, items_at, parts_of, root_of};
 ghost use Rattle.fr_meaning.specs.DoneTerms.{value_of};
 ghost use Rattle.fr_meaning.specs.FrameTerms.{AreInside, wrapped, end_of};
-ghost use Rattle.fr_meaning.specs.SlotOrder.{newest_first};
+ghost use Rattle.fr_acts.specs.SlotOrder.{newest_first};
 ghost use Rattle.fr_meaning.specs.Threads.{IsWell, IsGoingOn, IsEnded, run_in, end_act, end_value, after_end, result_in};
-ghost use Rattle.fr_meaning.specs.Turning.{state, did, turns_to, term_step, frame_labels, focus_labels};
+ghost use Rattle.fr_acts.specs.Acting.{state, did, releases};
+ghost use Rattle.fr_meaning.specs.Turning.{turns_to, term_step, frame_labels, focus_labels};
 
-use crate::acts::{drop_result, finish, keep_result};
 use crate::control::{enter, enter_items, focus_in, leave};
 use crate::forms::{Captured, Form};
 use crate::frame::{Done, Focus, Frame};
-use crate::heap::Heap;
 use crate::machine::{advance, value_in};
+use fr_acts::{drop_result, finish, keep_result};
 use fr_base::{Labels, Plain, ThreadNo};
 use fr_plain::Value;
+use fr_shared::{Heap, Released};
 
 /// How a thread's life stands.
 #[derive(Clone, Copy)]
@@ -50,14 +51,14 @@ pub struct Thread {
     pub slots: Vec<Value>,
 }
 
-/// A step of a thread's term that the thread does alone. Gives the thread whose task was dropped.
+/// A step of a thread's term that the thread does alone. Gives what goes last with a value that is dropped.
 pub fn step_alone(
     forms: &[Form],
     thread: &mut Thread,
     heap: &mut Heap,
     output: &mut Vec<i64>,
     labels: &mut Labels,
-) -> Option<ThreadNo>
+) -> Released
     requires order { AreInOrder forms.now }
     requires well { IsWell forms.now thread.old }
     requires on { end_of thread.old.focus thread.old.frames.items ≡ None }
@@ -74,7 +75,7 @@ pub fn step_alone(
     ensures number { thread.new.number ≡ thread.old.number }
     ensures stage { thread.new.stage ≡ thread.old.stage }
 {
-    let mut dropped = None;
+    let mut dropped = Released::Nothing;
     let focus = thread.focus;
     thread.focus = advance(
         forms,
@@ -90,18 +91,13 @@ pub fn step_alone(
     dropped
 }
 
-/// The end of a thread whose term is done. Gives the thread whose task was dropped.
-pub fn end(
-    thread: &mut Thread,
-    heap: &mut Heap,
-    labels: &mut Labels,
-    done: Done,
-) -> Option<ThreadNo>
+/// The end of a thread whose term is done. Gives what goes last with a value that is dropped.
+pub fn end(thread: &mut Thread, heap: &mut Heap, labels: &mut Labels, done: Done) -> Released
     requires goes { IsGoingOn thread.old.stage }
     requires labels { labels.old.items ≡ [] }
     requires room { 2 ≤ labels.old.spare }
     ensures act { act (end_act thread.old.stage (value_of done)) (state thread.old.number thread.old.slots.items heap.old.heap) ≡ did (end_value thread.old.stage (value_of done)) thread.old.number thread.new.slots.items heap.new.heap labels.new.items }
-    ensures task { result ≡ lets_go (end_act thread.old.stage (value_of done)) (state thread.old.number thread.old.slots.items heap.old.heap) }
+    ensures released { result ≡ releases (end_act thread.old.stage (value_of done)) (state thread.old.number thread.old.slots.items heap.old.heap) }
     ensures stage { thread.new.stage ≡ after_end thread.old.stage (value_of done) }
     ensures number { thread.new.number ≡ thread.old.number }
     ensures frames { thread.new.frames ≡ thread.old.frames }
@@ -117,7 +113,7 @@ pub fn end(
         Stage::Owing => {
             let result = keep_result(thread.number, &thread.slots, heap, labels, value);
             thread.stage = Stage::Ended(result);
-            None
+            Released::Nothing
         }
         Stage::Loose => {
             thread.stage = Stage::Over;

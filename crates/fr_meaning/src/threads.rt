@@ -7,19 +7,29 @@ ghost use Rattle.fr_plain.specs.Whole.{let_go, step};
 ghost use Rattle.fr_meaning.specs.declared.thread.Thread.{Thread};
 ghost use Rattle.fr_meaning.specs.FormTerms.{AreInOrder, captures_at};
 ghost use Rattle.fr_meaning.specs.FrameTerms.{end_of};
-ghost use Rattle.fr_meaning.specs.Places.{place_of};
+ghost use Rattle.fr_shared.specs.Places.{place_of};
 ghost use Rattle.fr_meaning.specs.declared.forms.Form.{Form};
-ghost use Rattle.fr_meaning.specs.Threads.{AreWell, CanGo, IsEnded, IsGoingOn, Joins, Starts, after_release, released_heap, released_task, whole, numbers_of};
+ghost use Rattle.fr_meaning.specs.Threads.{AreWell, CanGo, IsEnded, IsGoingOn, Joins, Starts, after_release, released_heap, released_task, task_from, whole, numbers_of};
 
-use crate::acts::{drop_value, note};
 use crate::control::leave_top;
 use crate::forms::Form;
 use crate::frame::{Done, Frame};
-use crate::heap::Heap;
-use crate::places::Places;
 use crate::thread::{Stage, Thread, end, pass_captures, resume, start, step_alone, take_result};
+use fr_acts::{drop_value, note};
 use fr_base::{Label, Labels, Plain, ThreadNo};
 use fr_plain::Value;
+use fr_shared::{Heap, Places, Released};
+
+// The thread that goes with a dropped value, where no mutex is.
+fn task_in(released: Released) -> Option<ThreadNo>
+    ensures { result ≡ task_from released }
+{
+    match released {
+        Released::Task(thread) => Some(thread),
+        Released::Nothing => None,
+        Released::Share(_) => None,
+    }
+}
 
 // Lets a thread go whose task was dropped. Gives the thread whose task goes with its result.
 fn release(thread: &mut Thread, heap: &mut Heap) -> Option<ThreadNo>
@@ -38,7 +48,7 @@ fn release(thread: &mut Thread, heap: &mut Heap) -> Option<ThreadNo>
         }
         Stage::Ended(value) => {
             thread.stage = Stage::Over;
-            drop_value(heap, value)
+            task_in(drop_value(heap, value))
         }
         Stage::Alive => None,
         Stage::Loose => None,
@@ -46,20 +56,20 @@ fn release(thread: &mut Thread, heap: &mut Heap) -> Option<ThreadNo>
     }
 }
 
-/// Lets a thread go whose task was dropped, and with a result that is dropped the thread whose task stands in it, and so
+/// Lets the thread go whose task was dropped, and with a result that is dropped the thread whose task stands in it, and so
 /// on. Takes time in the threads that go.
 pub fn let_threads_go(
     threads: &mut Vec<Thread>,
     places: &Places,
     heap: &mut Heap,
-    task: Option<ThreadNo>,
+    released: Released,
 )
     requires { places.now.numbers ≡ numbers_of threads.old.items }
-    ensures whole { (fs : List Form) (output : List ℤ) → whole fs threads.new.items heap.new.heap output ≡ let_go (whole fs threads.old.items heap.old.heap output) task }
+    ensures whole { (fs : List Form) (output : List ℤ) → whole fs threads.new.items heap.new.heap output ≡ let_go (whole fs threads.old.items heap.old.heap output) (task_from released) }
     ensures numbers { numbers_of threads.new.items ≡ numbers_of threads.old.items }
     ensures well { (fs : List Form) → AreWell fs threads.old.items → AreWell fs threads.new.items }
 {
-    let mut task = task;
+    let mut task = task_in(released);
     'each: for gone in 0..threads.len() {
         let Some(number) = task else {
             return;
@@ -94,8 +104,8 @@ pub fn go_alone(
     ensures numbers { numbers_of threads.new.items ≡ numbers_of threads.old.items }
     ensures well { AreWell forms.now threads.new.items }
 {
-    let task = step_alone(forms, &mut threads[at], heap, output, labels);
-    let_threads_go(threads, places, heap, task);
+    let released = step_alone(forms, &mut threads[at], heap, output, labels);
+    let_threads_go(threads, places, heap, released);
 }
 
 /// The end of a thread whose term is done.
@@ -120,8 +130,8 @@ pub fn go_end(
     ensures numbers { numbers_of threads.new.items ≡ numbers_of threads.old.items }
     ensures well { AreWell forms.now threads.new.items }
 {
-    let task = end(&mut threads[at], heap, labels, done);
-    let_threads_go(threads, places, heap, task);
+    let released = end(&mut threads[at], heap, labels, done);
+    let_threads_go(threads, places, heap, released);
 }
 
 /// A join of a thread that has ended: the term goes on with its result, which nobody will have again.

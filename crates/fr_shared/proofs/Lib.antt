@@ -1,4 +1,5 @@
 pub mod PlaceLemmas
+pub mod HeapParts
 pub mod MutexParts
 pub mod PairParts
 pub mod ActsLemmas

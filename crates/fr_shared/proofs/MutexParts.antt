@@ -6,15 +6,11 @@ use Rattle.fr_base.specs.declared.name.MutexNo.{MutexNo}
 use Rattle.fr_plain.specs.MachineThreads as plain
 use Rattle.fr_plain.specs.MachineThreads.{Mutex, mutex_at, mutex_there, with_mutex}
 use Rattle.fr_typing.proofs.PlaceLemmas.{eq_cases}
+use Rattle.fr_shared.proofs.PlaceLemmas.{later_place, no_more}
 use Rattle.fr_shared.specs.declared.mutexes.Shared.{Shared}
 use Rattle.fr_shared.specs.declared.mutexes.Entry.{Entry}
 use Rattle.fr_shared.specs.Places.{place_of}
 use Rattle.fr_shared.specs.MutexInside.{there_of, mutex_of, mutexes_of, key_of, keys_of, AreSmall}
-
--- a place after the first
-pub later_place : (o : Option ℕ) (i : ℕ) → option_map (λ k. suc k) o ≡ Some i → (k : ℕ) × (o ≡ Some k) × (i ≡ suc k)
-later_place None i h = absurd cc
-later_place (Some k) i h = (k, refl, cc)
 
 -- names with the same number are the same
 pub same_key : (m n : MutexNo) → m.count < 2 ^ 32 → n.count < 2 ^ 32 → same_mutex m n ≡ key_of m == key_of n
@@ -24,10 +20,6 @@ same_key m n a b =
   where
     both : m.home ≡ n.home → m.count ≡ n.count → same_mutex m n ≡ true
     both h k = eq_cases (λ x. (x && (m.count == n.count)) ≡ true) m.home n.home (λ _. eq_cases (λ x. x ≡ true) m.count n.count (λ _. refl) (λ no. absurd (no k))) (λ no. absurd (no h))
-
-no_more : (o : Option ℕ) → option_map (λ i. suc i) o ≡ None → o ≡ None
-no_more None h = refl
-no_more (Some i) h = cc
 
 -- a name without a place wasn't given
 pub not_given : (es : List Entry) (n : MutexNo) → AreSmall es → n.count < 2 ^ 32 → place_of (keys_of es) (key_of n) ≡ None → mutex_at (mutexes_of es) n ≡ None

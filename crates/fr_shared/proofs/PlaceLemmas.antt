@@ -39,7 +39,7 @@ position_place (n ∷ ns) t =
     ∙ ap (λ o. if n == t then Some 0 else option_map (λ i. suc i) o) (position_place ns t)
 
 -- no place more
-no_more : (o : Option ℕ) → option_map (λ i. suc i) o ≡ None → o ≡ None
+pub no_more : (o : Option ℕ) → option_map (λ i. suc i) o ≡ None → o ≡ None
 no_more None h = refl
 no_more (Some i) h = cc
 
@@ -54,3 +54,8 @@ none_any (n ∷ ns) t h =
 -- a new number goes last
 pub new_last : (ns : List ℕ) (t : ℕ) → place_of ns t ≡ None → insert_key nat_eq ns t ≡ ns ++ t ∷ []
 new_last ns t h = ap (λ b. if b then ns else ns ++ t ∷ []) (none_any ns t h)
+
+-- a place after the first
+pub later_place : (o : Option ℕ) (i : ℕ) → option_map (λ k. suc k) o ≡ Some i → (k : ℕ) × (o ≡ Some k) × (i ≡ suc k)
+later_place None i h = absurd cc
+later_place (Some k) i h = (k, refl, cc)

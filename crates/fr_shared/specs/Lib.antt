@@ -1,4 +1,7 @@
 pub mod Places
+pub mod HeapRoom
+pub mod HeapInside
+pub mod Releases
 pub mod MutexRoom
 pub mod MutexInside
 pub mod Shares

@@ -1,7 +1,8 @@
-//! What the threads of the plain machine share beside the heap, in code: mutexes, and pairs of threads
-//! whose parents wait, each found without a scan.
+//! What the threads of the plain machine share, in code: the heap, mutexes, and pairs of threads whose parents
+//! wait, each found without a scan.
 #![tactic(auto)]
 
+mod heap;
 mod laws;
 mod mutexes;
 mod pairs;
@@ -9,6 +10,8 @@ mod places;
 #[cfg(test)]
 mod tests;
 
+pub use heap::{Heap, Released};
 pub use laws::{acts_change, shares_release};
 pub use mutexes::{Mutexes, Shared};
 pub use pairs::{Pairs, Two};
+pub use places::Places;

@@ -8,8 +8,9 @@ use Rattle.fr_meaning.specs.declared.frame.Focus.{Focus}
 use Rattle.fr_meaning.specs.Contexts.{fill, depth, IsSettled}
 use Rattle.fr_meaning.specs.DoneTerms.{over}
 use Rattle.fr_meaning.specs.FrameTerms.{wrapped, all_around, around, focus_run, AreInside, TopIsPastLeft, HasMadeWay}
-use Rattle.fr_meaning.specs.Turning.{state, did, term_step}
-use Rattle.fr_meaning.proofs.ActLemmas.{no_print}
+use Rattle.fr_acts.specs.Acting.{state, did}
+use Rattle.fr_meaning.specs.Turning.{term_step}
+use Rattle.fr_acts.proofs.ActLemmas.{no_print}
 use Rattle.fr_meaning.proofs.ContextLemmas.{settled_wrap}
 use Rattle.fr_meaning.proofs.FrameLemmas.{inside_front, wrap_push, room_less, top_past}
 use Rattle.fr_meaning.proofs.StepLemmas.{step_in, goes_in_frames, read_goes, read_turns, borrow_goes, borrow_turns, settled_waits, spawn_alone}
@@ -34,7 +35,7 @@ returns-in-Read-clause-step c =
     let s = state c.args.thread c.args.slots.now.items c.args.heap.now.heap in
     ap (λ (f : Focus). term_step (wrapped fs c.args.frames.now.items (focus_run fs f)) s) c.in-Read.is
     ∙ step_in fs c.args.frames.now.items (read c.in-Read.place c.in-Read.take) (temp c.read-value.result) (wrapped fs c.leave.new.frames.items (focus_run fs c.leave.result)) s c.args.thread c.read-value.new.slots.items c.read-value.new.heap.heap c.read-value.new.labels.items c.args.dropped.now
-    refl (read_turns c.in-Read.place c.in-Read.take s c.read-value.result c.args.thread c.read-value.new.slots.items c.read-value.new.heap.heap c.read-value.new.labels.items c.args.dropped.now c.requires.task c.read-value.ensures) c.leave.ensures.settles
+    refl (read_turns c.in-Read.place c.in-Read.take s c.read-value.result c.args.thread c.read-value.new.slots.items c.read-value.new.heap.heap c.read-value.new.labels.items c.args.dropped.now c.requires.none c.read-value.ensures) c.leave.ensures.settles
 
 pub returns-in-Read-clause-output : goal.returns-in-Read-clause-output
 returns-in-Read-clause-output c =
@@ -63,7 +64,7 @@ returns-in-Borrow-clause-step c =
     let acts = subst (λ (vs : List Value). act (do_borrow c.in-Borrow.place c.in-Borrow.field-1) (state c.args.thread vs h) ≡ did c.borrow-value.result c.args.thread vs h ls) c.deref.ensures.value c.borrow-value.ensures in
     ap (λ (f : Focus). term_step (wrapped fs c.args.frames.now.items (focus_run fs f)) s) c.in-Borrow.is
     ∙ step_in fs c.args.frames.now.items (borrow c.in-Borrow.place c.in-Borrow.field-1) (temp c.borrow-value.result) (wrapped fs c.leave-in-Borrow.new.frames.items (focus_run fs c.leave-in-Borrow.result)) s c.args.thread c.args.slots.now.items h ls c.args.dropped.now
-    refl (borrow_turns c.in-Borrow.place c.in-Borrow.field-1 s c.borrow-value.result c.args.thread c.args.slots.now.items h ls c.args.dropped.now c.requires.task acts) c.leave-in-Borrow.ensures.settles
+    refl (borrow_turns c.in-Borrow.place c.in-Borrow.field-1 s c.borrow-value.result c.args.thread c.args.slots.now.items h ls c.args.dropped.now c.requires.none acts) c.leave-in-Borrow.ensures.settles
 
 pub returns-in-Borrow-clause-output : goal.returns-in-Borrow-clause-output
 returns-in-Borrow-clause-output c =

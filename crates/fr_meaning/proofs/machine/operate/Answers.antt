@@ -1,6 +1,6 @@
 use Rattle.fr_plain.specs.Acts.{do_assign, unit}
-use Rattle.fr_meaning.specs.Turning.{state}
-use Rattle.fr_meaning.proofs.ActLemmas.{no_print}
+use Rattle.fr_acts.specs.Acting.{state}
+use Rattle.fr_acts.proofs.ActLemmas.{no_print}
 use Rattle.fr_meaning.proofs.machine.operate.Goals as goal
 
 pub returns-in-Assign-clause-output : goal.returns-in-Assign-clause-output

@@ -1,13 +1,13 @@
 use Rattle.std.proofs.Common.{◌≡◌, ◌-◌, List, length, drop, refl, sym, ap, ◌∙◌, subst, arith, vec_capacity}
 use Rattle.fr_plain.specs.declared.value.Value.{Value}
-use Rattle.fr_plain.specs.Acts.{act, lets_go, do_discard, unit}
+use Rattle.fr_plain.specs.Acts.{act, do_discard, unit}
 use Rattle.fr_plain.specs.Run.{block, settle}
 use Rattle.fr_meaning.specs.declared.frame.Frame.TheVariants as frame
 use Rattle.fr_meaning.specs.Contexts.{fill}
 use Rattle.fr_meaning.specs.FormTerms.{parts_of, term_of, items_at}
 use Rattle.fr_meaning.specs.DoneTerms.{over, value_of}
 use Rattle.fr_meaning.specs.FrameTerms.{wrapped, around_items, focus_run, AreInside}
-use Rattle.fr_meaning.specs.Turning.{state, did}
+use Rattle.fr_acts.specs.Acting.{state, did, releases}
 use Rattle.fr_meaning.proofs.FormLemmas.{at_drop, all_dropped}
 use Rattle.fr_meaning.proofs.FrameLemmas.{inside_push, has_place_in, room_in, room_less, rest_below, depth_left, wrap_push, not_below}
 use Rattle.fr_meaning.proofs.StepLemmas.{step_in, held, opened, settled_waits, discard_turns, drop_turns}
@@ -31,10 +31,10 @@ returns-then-has_item-clause-step c =
     let more = at_drop (items_at fs c.args.node) c.args.next 0 (c.has_item.ensures.0 c.if-has_item.true) in
     let acts = subst (λ (vs : List Value). act (do_discard (value_of d)) (state c.args.thread vs h) ≡ did unit c.args.thread vs new ls) c.deref.ensures.value
     (subst (λ (v : Value). act (do_discard v) (state c.args.thread c.deref.result.now h) ≡ did unit c.args.thread c.deref.result.now new ls) c.value_in.ensures c.discard.ensures.act) in
-    let task = c.discard.ensures.task ∙ ap (λ (v : Value). lets_go (do_discard v) (state c.args.thread c.deref.result.now h)) c.value_in.ensures ∙ ap (λ vs. lets_go (do_discard (value_of d)) (state c.args.thread vs h)) c.deref.ensures.value in
+    let last = c.discard.ensures.released ∙ ap (λ (v : Value). releases (do_discard v) (state c.args.thread c.deref.result.now h)) c.value_in.ensures ∙ ap (λ vs. releases (do_discard (value_of d)) (state c.args.thread vs h)) c.deref.ensures.value in
     step_in fs c.args.frames.now.items (fill (around_items c.args.left (term_of fs) js) (over d)) (block c.args.left (parts_of (term_of fs) js)) (wrapped fs c.next_item.new.frames.items (focus_run fs c.next_item.result)) (state c.args.thread c.args.slots.now.items h) c.args.thread c.args.slots.now.items new ls c.discard.result
     (settled_waits fs (frame.Block c.args.left c.args.node c.args.next) d c.requires.settled)
-    (discard_turns c.args.left (term_of fs) js _ _ d (state c.args.thread c.args.slots.now.items h) c.args.thread c.args.slots.now.items new ls c.discard.result more (held c.args.left (term_of fs) js _ _ d more c.requires.settled) acts task)
+    (discard_turns c.args.left (term_of fs) js _ _ d (state c.args.thread c.args.slots.now.items h) c.args.thread c.args.slots.now.items new ls c.discard.result more (held c.args.left (term_of fs) js _ _ d more c.requires.settled) acts last)
     c.next_item.ensures.settles
 
 pub overflow_sub-left : goal.overflow_sub-left
@@ -72,5 +72,5 @@ returns-clause-step c =
     let none = all_dropped (items_at fs c.args.node) c.args.next (not_below c.has_item.result c.args.next _ c.has_item.ensures c.if-has_item.false) in
     step_in fs c.args.frames.now.items (fill (around_items c.args.left (term_of fs) js) (over d)) (fill (around_items (c.args.left - 1) (term_of fs) js) (over d)) (wrapped fs c.leave.new.frames.items (focus_run fs c.leave.result)) s c.args.thread c.drop_slot.new.slots.items c.drop_slot.new.heap.heap c.drop_slot.new.labels.items c.drop_slot.result
     (settled_waits fs (frame.Block c.args.left c.args.node c.args.next) d c.requires.settled)
-    (drop_turns c.args.left (term_of fs) js d s c.args.thread c.drop_slot.new.slots.items c.drop_slot.new.heap.heap c.drop_slot.new.labels.items c.drop_slot.result none (opened c.args.left (term_of fs) js d none c.requires.settled) c.drop_slot.ensures.act c.drop_slot.ensures.task)
+    (drop_turns c.args.left (term_of fs) js d s c.args.thread c.drop_slot.new.slots.items c.drop_slot.new.heap.heap c.drop_slot.new.labels.items c.drop_slot.result none (opened c.args.left (term_of fs) js d none c.requires.settled) c.drop_slot.ensures.act c.drop_slot.ensures.released)
     (c.leave.ensures.settles ∙ ap (λ gs. settle (wrapped fs gs (over d))) c.push_reserved.ensures.items ∙ ap settle (wrap_push fs c.args.frames.now.items less (over d)))

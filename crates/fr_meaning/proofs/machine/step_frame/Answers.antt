@@ -2,7 +2,7 @@ use Rattle.std.proofs.Common.{refl, arith, vec_capacity}
 use Rattle.fr_meaning.specs.Contexts.{fill}
 use Rattle.fr_meaning.specs.DoneTerms.{over}
 use Rattle.fr_meaning.specs.FrameTerms.{wrapped, around, focus_run}
-use Rattle.fr_meaning.specs.Turning.{state}
+use Rattle.fr_acts.specs.Acting.{state}
 use Rattle.fr_meaning.proofs.FrameLemmas.{depth_over, room_less}
 use Rattle.fr_meaning.proofs.StepLemmas.{step_in, settled_waits}
 use Rattle.fr_meaning.proofs.machine.step_frame.Goals as goal

@@ -5,7 +5,7 @@ use Rattle.fr_base.specs.declared.label.Label.{Label}
 use Rattle.fr_base.specs.declared.step.Fresh.{Fresh}
 use Rattle.fr_plain.specs.Whole.{step}
 use Rattle.fr_meaning.specs.declared.next.Next.TheVariants as next
-use Rattle.fr_meaning.specs.Places.{place_of}
+use Rattle.fr_shared.specs.Places.{place_of}
 use Rattle.fr_meaning.specs.Threads.{numbers_of}
 use Rattle.fr_meaning.specs.Running.{plain_of}
 use Rattle.fr_meaning.proofs.StepFacts.{steps_at, no_step, takes_none, place_inside, thread_here, comes_at}

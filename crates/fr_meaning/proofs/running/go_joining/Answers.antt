@@ -4,7 +4,7 @@ use Rattle.fr_base.specs.declared.step.Fresh.TheVariants as fresh
 use Rattle.fr_plain.specs.declared.value.Value.TheVariants.{Own}
 use Rattle.fr_meaning.specs.declared.next.Next.TheVariants as next
 use Rattle.fr_meaning.specs.Next.{task_named}
-use Rattle.fr_meaning.specs.Places.{place_of}
+use Rattle.fr_shared.specs.Places.{place_of}
 use Rattle.fr_meaning.specs.Threads.{numbers_of}
 use Rattle.fr_meaning.proofs.StepFacts.{steps_at, is_on, join_steps, place_inside, thread_here, joined_same}
 use Rattle.fr_meaning.proofs.running.go_joining.Goals as goal

@@ -4,7 +4,7 @@ use Rattle.fr_base.specs.declared.step.Fresh.TheVariants as fresh
 use Rattle.fr_plain.specs.Whole.{Whole, step}
 use Rattle.fr_meaning.specs.declared.next.Next.TheVariants as next
 use Rattle.fr_meaning.specs.declared.thread.Thread.{Thread}
-use Rattle.fr_meaning.specs.Places.{Numbers, place_of}
+use Rattle.fr_shared.specs.Places.{Numbers, place_of}
 use Rattle.fr_meaning.specs.Turning.{focus_labels}
 use Rattle.fr_meaning.proofs.EntryLemmas.{same_whole, same_entries, same_length, same_comes, at_same, on_err}
 use Rattle.fr_meaning.proofs.ThreadLists.{there_at}

@@ -3,7 +3,7 @@ use Rattle.fr_meaning.specs.declared.next.Next.TheVariants as next
 use Rattle.fr_meaning.specs.declared.frame.Focus.{Focus}
 use Rattle.fr_meaning.specs.declared.thread.Thread.{Thread}
 use Rattle.fr_meaning.specs.FrameTerms.{HasMadeWay}
-use Rattle.fr_meaning.specs.Places.{place_of}
+use Rattle.fr_shared.specs.Places.{place_of}
 use Rattle.fr_meaning.specs.Threads.{numbers_of}
 use Rattle.fr_meaning.proofs.StepFacts.{steps_at, is_on, start_steps, thread_here, named_same}
 use Rattle.fr_meaning.proofs.running.go_starting.Goals as goal

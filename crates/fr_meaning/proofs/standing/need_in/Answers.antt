@@ -1,5 +1,5 @@
 use Rattle.std.proofs.Common.{true, false, List, sym, ap, ◌∙◌, subst, arith}
-use Rattle.fr_meaning.specs.Places.{place_of}
+use Rattle.fr_shared.specs.Places.{place_of}
 use Rattle.fr_meaning.specs.declared.frame.Frame.{Frame}
 use Rattle.fr_meaning.specs.Next.{IsNext}
 use Rattle.fr_meaning.proofs.StandLemmas.{need_nowhere, need_ended, need_there}

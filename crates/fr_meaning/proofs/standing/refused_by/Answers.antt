@@ -2,7 +2,7 @@ use Rattle.std.proofs.Common.{Some, None, List, sym, ap, ◌∙◌, subst, arith
 use Rattle.std.specs.Prelude.{is_some, option_map}
 use Rattle.fr_plain.specs.Whole.{refused_names}
 use Rattle.fr_meaning.specs.PoolView.{error_of}
-use Rattle.fr_meaning.specs.Places.{place_of}
+use Rattle.fr_shared.specs.Places.{place_of}
 use Rattle.fr_meaning.specs.Running.{plain_of}
 use Rattle.fr_meaning.specs.declared.frame.Frame.{Frame}
 use Rattle.fr_meaning.specs.Next.{IsNext, thread_if}

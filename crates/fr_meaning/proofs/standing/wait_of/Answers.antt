@@ -1,5 +1,5 @@
 use Rattle.std.proofs.Common.{true, false, sym, ap, ◌∙◌, arith}
-use Rattle.fr_meaning.specs.Places.{place_of}
+use Rattle.fr_shared.specs.Places.{place_of}
 use Rattle.fr_meaning.specs.Running.{plain_of}
 use Rattle.fr_meaning.specs.Next.{next_waits}
 use Rattle.fr_meaning.proofs.StandLemmas.{waits_nowhere, waits_there}

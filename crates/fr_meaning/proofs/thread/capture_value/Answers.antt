@@ -1,8 +1,8 @@
 use Rattle.std.proofs.Common.{Some, sym, ap, ◌∙◌, arith}
 use Rattle.fr_plain.specs.State.{gone}
 use Rattle.fr_plain.specs.Threads.{left_after}
-use Rattle.fr_meaning.specs.SlotOrder.{newest_first}
-use Rattle.fr_meaning.proofs.SlotLemmas.{slot_stands, slot_newest, with_newest}
+use Rattle.fr_acts.specs.SlotOrder.{newest_first}
+use Rattle.fr_acts.proofs.SlotLemmas.{slot_stands, slot_newest, with_newest}
 use Rattle.fr_meaning.proofs.thread.capture_value.Goals as goal
 
 pub index-value-requires : goal.index-value-requires

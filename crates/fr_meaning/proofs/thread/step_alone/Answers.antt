@@ -1,6 +1,6 @@
 use Rattle.std.proofs.Common.{arith}
 use Rattle.fr_meaning.specs.Threads.{run_in}
-use Rattle.fr_meaning.specs.Turning.{state}
+use Rattle.fr_acts.specs.Acting.{state}
 use Rattle.fr_meaning.specs.FrameTerms.{wrapped, focus_run}
 use Rattle.fr_meaning.proofs.ThreadLemmas.{term_kept}
 use Rattle.fr_meaning.proofs.thread.step_alone.Goals as goal

@@ -7,7 +7,7 @@ use Rattle.fr_meaning.specs.declared.thread.Stage.TheVariants as stage
 use Rattle.fr_meaning.specs.Contexts.{depth}
 use Rattle.fr_meaning.specs.DoneTerms.{over}
 use Rattle.fr_meaning.specs.FrameTerms.{wrapped, all_around, focus_run, AreInside}
-use Rattle.fr_meaning.specs.Places.{place_of}
+use Rattle.fr_shared.specs.Places.{place_of}
 use Rattle.fr_meaning.proofs.ContextLemmas.{depth_wrap}
 use Rattle.fr_meaning.proofs.FrameLemmas.{wrap_push, inside_front}
 use Rattle.fr_meaning.proofs.ThreadLists.{numbers_set, well_at, well_set, well_same, thread_same, places_differ, other_at}

@@ -9,8 +9,8 @@ use Rattle.fr_meaning.specs.declared.forms.Form.TheVariants as form
 use Rattle.fr_meaning.specs.Contexts.{depth}
 use Rattle.fr_meaning.specs.FormTerms.{captures_of, term_of, parts_of}
 use Rattle.fr_meaning.specs.FrameTerms.{wrapped, all_around}
-use Rattle.fr_meaning.specs.SlotOrder.{newest_first}
-use Rattle.fr_meaning.specs.Places.{place_of}
+use Rattle.fr_acts.specs.SlotOrder.{newest_first}
+use Rattle.fr_shared.specs.Places.{place_of}
 use Rattle.fr_meaning.specs.Threads.{whole, AreWell, numbers_of}
 use Rattle.fr_meaning.proofs.FormLemmas.{form_term, items_here}
 use Rattle.fr_meaning.proofs.ContextLemmas.{depth_wrap}
@@ -140,7 +140,7 @@ returns-clause-numbers c =
     let k = start_facts fs xs c.args.at x c.args.node c.requires.inside is c.requires.well s in
     let y = c.resume.new.thread in
     let n = c.start.result in
-    c.add.ensures ∙ ap (λ ns. ns ++ c.args.number ∷ []) (c.requires.numbers ∙ sym (numbers_set xs c.args.at x y is c.resume.ensures.number))
+    c.add.ensures.numbers ∙ ap (λ ns. ns ++ c.args.number ∷ []) (c.requires.numbers ∙ sym (numbers_set xs c.args.at x y is c.resume.ensures.number))
     ∙ ap (λ u. numbers_of (slice_set xs c.args.at y) ++ u ∷ []) (sym c.start.ensures.number)
     ∙ sym (numbers_push (slice_set xs c.args.at y) n) ∙ ap numbers_of (sym c.push_reserved.ensures.items)
 

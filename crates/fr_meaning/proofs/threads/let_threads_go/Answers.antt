@@ -1,7 +1,7 @@
 use Rattle.std.proofs.Common.{◌≡◌, suc, ◌+◌, ◌-◌, ◌<◌, length, Some, refl, sym, ap, ◌∙◌, arith}
 use Rattle.std.specs.Prelude.{slice_set}
-use Rattle.fr_plain.specs.Whole.{let_threads_go}
-use Rattle.fr_meaning.specs.Places.{place_of}
+use Rattle.fr_plain.specs.Whole.{let_go, let_threads_go}
+use Rattle.fr_shared.specs.Places.{place_of}
 use Rattle.fr_meaning.specs.Threads.{whole, after_release, released_heap}
 use Rattle.fr_meaning.proofs.ThreadLists.{length_numbers, length_threads, length_set, numbers_set, none_there, well_at, well_set, well_same, thread_same, unknown_goes, one_goes}
 use Rattle.fr_meaning.proofs.threads.let_threads_go.Goals as goal
@@ -9,7 +9,7 @@ use Rattle.fr_meaning.proofs.threads.let_threads_go.Goals as goal
 pub each-init : goal.each-init
 each-init c =
     record {
-      goes = λ fs output. (let many : length c.args.threads.now.items - 0 ≡ length (whole fs c.args.threads.now.items c.args.heap.now.heap output).threads = omega (arith, length_threads fs c.args.threads.now.items) in ap (λ k. let_threads_go k (whole fs c.args.threads.now.items c.args.heap.now.heap output) c.args.task) many);
+      goes = λ fs output. (let many : length c.args.threads.now.items - 0 ≡ length (whole fs c.args.threads.now.items c.args.heap.now.heap output).threads = omega (arith, length_threads fs c.args.threads.now.items) in ap (λ k. let_threads_go k (whole fs c.args.threads.now.items c.args.heap.now.heap output) c.task_in-task.result) many ∙ ap (let_go (whole fs c.args.threads.now.items c.args.heap.now.heap output)) c.task_in-task.ensures);
       many = refl;
       numbers = refl;
       well = λ fs w. w;

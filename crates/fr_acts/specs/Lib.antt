@@ -1,0 +1,2 @@
+pub mod SlotOrder
+pub mod Acting

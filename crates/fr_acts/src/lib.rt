@@ -1,0 +1,12 @@
+//! What a plain step does, in code: its act on a thread's slots (the newest last) and on what threads share, with its
+//! labels. An act says nothing of the term of which it is a step.
+#![tactic(auto)]
+
+mod acts;
+mod spot;
+
+pub use acts::{
+    arith, assign, borrow, discard, drop_result, drop_slot, drop_value, finish, keep_result,
+    make_box, note, print, read,
+};
+pub use spot::Where;
