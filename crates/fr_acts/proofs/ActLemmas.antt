@@ -18,7 +18,7 @@ use Rattle.fr_acts.specs.Acting.{IsReached, state, did}
 use Rattle.fr_typing.proofs.PlaceLemmas.{eq_cases}
 
 -- more stars than lead nowhere lead nowhere
-stars_none : (s : State) (slot n k : ℕ) → stars s slot n ≡ None → n ≤ k → stars s slot k ≡ None
+pub stars_none : (s : State) (slot n k : ℕ) → stars s slot n ≡ None → n ≤ k → stars s slot k ≡ None
 stars_none s slot n zero h le = let e : n ≡ zero = omega arith in subst (λ m. stars s slot m ≡ None) e h
 stars_none s slot n (suc k) h le =
     eq_cases (λ b. stars s slot (suc k) ≡ None) n (suc k) (λ e. subst (λ m. stars s slot m ≡ None) e h)

@@ -1,2 +1,4 @@
 pub mod SlotLemmas
 pub mod ActLemmas
+pub mod MutexLemmas
+pub mod GoLemmas

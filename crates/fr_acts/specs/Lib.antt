@@ -1,2 +1,4 @@
 pub mod SlotOrder
 pub mod Acting
+pub mod Behind
+pub mod MutexActs

@@ -28,7 +28,7 @@ pub fn note(labels: &mut Labels, label: Label)
 }
 
 // The label of a cell that is read.
-fn note_load(labels: &mut Labels, spot: &Where, value: &Value)
+pub(crate) fn note_load(labels: &mut Labels, spot: &Where, value: &Value)
     requires { 0 < labels.old.spare }
     ensures label { labels.new.items ≡ labels.old.items ++ loads (spot_of spot.now) value.now }
     ensures spare { labels.old.spare ≤ labels.new.spare + 1 }
@@ -65,7 +65,12 @@ fn note_drop(labels: &mut Labels, value: &Value)
 }
 
 // The value that stands there.
-fn value_there(thread: ThreadNo, slots: &[Value], heap: &Heap, spot: &Where) -> Option<Value>
+pub(crate) fn value_there(
+    thread: ThreadNo,
+    slots: &[Value],
+    heap: &Heap,
+    spot: &Where,
+) -> Option<Value>
     ensures { result ≡ value_at (state thread slots.now heap.now.heap) (spot_of spot.now) }
 {
     match spot {
@@ -146,7 +151,7 @@ fn lead(labels: &mut Labels, spot: &Where, value: &Value) -> Option<Where>
 }
 
 // Follows a place star by star.
-fn find(
+pub(crate) fn find(
     thread: ThreadNo,
     slots: &[Value],
     heap: &Heap,

@@ -3,10 +3,13 @@
 #![tactic(auto)]
 
 mod acts;
+mod laws;
+mod mutexes;
 mod spot;
 
 pub use acts::{
     arith, assign, borrow, discard, drop_result, drop_slot, drop_value, finish, keep_result,
     make_box, note, print, read,
 };
-pub use spot::Where;
+pub use laws::mutex_acts_go;
+pub use mutexes::{dup, lock, lock_wait, mutex_behind, new_mutex, unlock};
