@@ -40,6 +40,14 @@ fn keeps_cells_by_address(rt: HostRuntime) -> Result<(), Fail> {
     Ok(())
 }
 
+// Takes what may go to another thread and be shared by threads.
+fn crosses<T: Send + Sync + Drop>(_value: T) {}
+
+#[test]
+fn may_cross_threads(rt: HostRuntime) {
+    crosses(Cells::new(rt.alloc()));
+}
+
 fn object() -> ObjNo {
     ObjNo {
         thread: ThreadNo::new(1, 2),
