@@ -1,6 +1,6 @@
 //! The threads that a server started, by their numbers.
 
-ghost use Rattle.std.specs.Prelude.{◌≡◌, ◌+◌, ◌≤◌, ◌<◌, ◌==◌, ℕ, [], true, false, None, Some, IsSome, IsOk, OnOk, OnErr, if◌then◌else◌};
+ghost use Rattle.std.specs.Prelude.{◌≡◌, ◌+◌, ◌≤◌, ◌<◌, ◌==◌, ℕ, [], true, false, None, Some, is_some, IsSome, IsOk, OnOk, OnErr, if◌then◌else◌};
 ghost use Rattle.indexmap.specs.IndexMap.{spare};
 ghost use Rattle.join_home.specs.Tasks.{state_of, with_state, without_task, noted, over_of, over_in, pair_ended, can_begin, begin, can_begin_pair, begin_pair, ended, ask, let_go_of};
 ghost use Rattle.join_home.specs.Notes.{state_by, tasks_in, state_in_note, half_by, half_at, note_at, KnowsHalves};
@@ -18,11 +18,12 @@ use std::marker::Model;
 /// in the order in which they began, each with what is noted of it, and beside it as `room` how many more threads or pairs
 /// can begin without memory.
 ///
-/// A thread is found by its number in constant time, and so is the other half of a pair. Where a thread goes, those that began later
-/// move up, since the order is kept. Only `reserve` takes memory.
+/// Each call takes constant time, with the threads found by their numbers, but for two. `reserve` clears the entries of threads that have
+/// gone where it lacks room, in linear time, and makes room for as many as are left; so `n` threads that begin and go take linear time
+/// together. A thread that begins under the number of one that has gone moves those between them. Only `reserve` takes memory.
 #[derive(Drop)]
 pub struct Tasks {
-    notes: IndexMap<u64, Note>,
+    notes: IndexMap<u64, Option<Note>>,
     // how many beginnings there is still room for, by what was reserved
     room: usize,
 }
@@ -41,58 +42,102 @@ impl Model for Tasks {
 }
 
 // What is noted of a thread.
-fn note_of(notes: &IndexMap<u64, Note>, number: u64) -> Option<Note>
+fn note_of(notes: &IndexMap<u64, Option<Note>>, number: u64) -> Option<Note>
     ensures note { result ≡ note_at notes.now.entries number }
     ensures state { state_in_note result ≡ state_of (tasks_in notes.now.entries) number }
 {
     // The check asks that each type inside a note is named where a note is moved.
-    let _inside: Option<Owned> = None;
+    let _inside: Option<(Note, Owned)> = None;
+    // The length is what says that no two keys are equal.
+    let _len = notes.len();
     match notes.get(&number) {
-        Some(note) => Some(*note),
+        Some(note) => *note,
         None => None,
     }
 }
 
 // Notes another thing of a thread that is there; a branch stays in its pair.
-fn set_note(notes: &mut IndexMap<u64, Note>, number: u64, note: Note)
+fn set_note(notes: &mut IndexMap<u64, Option<Note>>, number: u64, note: Note)
+    requires there { IsSome (note_at notes.old.entries number) }
     requires half { IsSome (half_by note) → half_at notes.old.entries number ≡ half_by note }
     ensures tasks { tasks_in notes.new.entries ≡ with_state (tasks_in notes.old.entries) number (state_by note) }
     ensures halves { KnowsHalves notes.old.entries → KnowsHalves notes.new.entries }
     ensures room { spare notes.new ≡ spare notes.old }
 {
     let _inside: Option<Owned> = None;
-    if let Some(old) = notes.get_mut(&number) {
-        *old = note;
+    match notes.get_mut(&number) {
+        Some(old) => *old = Some(note),
+        None => unreachable!(),
     }
 }
 
-// Takes out a thread; those that began later keep their order.
-fn remove(notes: &mut IndexMap<u64, Note>, number: u64)
+// Takes out a thread; its entry stays until it is cleared.
+fn remove(notes: &mut IndexMap<u64, Option<Note>>, number: u64)
     ensures tasks { tasks_in notes.new.entries ≡ without_task (tasks_in notes.old.entries) number }
     ensures halves { KnowsHalves notes.old.entries → KnowsHalves notes.new.entries }
     ensures room { spare notes.old ≤ spare notes.new }
 {
-    let _inside: Option<Owned> = None;
-    notes.shift_remove(&number);
+    let _inside: Option<(Note, Owned)> = None;
+    if let Some(old) = notes.get_mut(&number) {
+        *old = None;
+    }
+}
+
+// Clears the entries of threads that have gone.
+fn clear(notes: &mut IndexMap<u64, Option<Note>>)
+    ensures tasks { tasks_in notes.new.entries ≡ tasks_in notes.old.entries }
+    ensures halves { KnowsHalves notes.old.entries → KnowsHalves notes.new.entries }
+    ensures room { spare notes.old ≤ spare notes.new }
+{
+    let _inside: Option<(Note, Owned)> = None;
+    // The length is what says that no two keys are equal.
+    let _len = notes.len();
+    notes.retain(
+        |_number: &u64, note: &mut Option<Note>| -> bool
+            ensures { (result ≡ is_some note.old) × (note.new ≡ note.old) }
+        { note.is_some() },
+    );
+}
+
+// Makes so many free places. Where they lack, entries of threads that have gone are cleared first, and there is room for as many as
+// are left, so that each clearing is paid by as many beginnings.
+fn make_places(notes: &mut IndexMap<u64, Option<Note>>, places: usize) -> Result<(), NoMemory>
+    ensures tasks { tasks_in notes.new.entries ≡ tasks_in notes.old.entries }
+    ensures halves { KnowsHalves notes.old.entries → KnowsHalves notes.new.entries }
+    ensures room { spare notes.old ≤ spare notes.new }
+    ensures enough { OnOk result (places ≤ spare notes.new) }
+{
+    let _inside: Option<(Note, Owned)> = None;
+    let mut more = places;
+    if notes.capacity().saturating_sub(notes.len()) < places {
+        clear(notes);
+        more = places.max(notes.len());
+    }
+    match notes.reserve(more) {
+        Ok(()) => Ok(()),
+        Err(_) => Err(NoMemory),
+    }
 }
 
 // Notes a thread that isn't there.
-fn add(notes: &mut IndexMap<u64, Note>, number: u64, note: Note)
+fn add(notes: &mut IndexMap<u64, Option<Note>>, number: u64, note: Note)
     requires room { 0 < spare notes.old }
     requires new { can_begin (tasks_in notes.old.entries) number ≡ true }
     ensures tasks { tasks_in notes.new.entries ≡ noted (tasks_in notes.old.entries) number (state_by note) }
     ensures notes { (k : ℕ) → note_at notes.new.entries k ≡ (if number == k then Some note else note_at notes.old.entries k) }
     ensures room { spare notes.old ≤ spare notes.new + 1 }
 {
-    let _inside: Option<Owned> = None;
-    match notes.insert(number, note) {
+    let _inside: Option<(Note, Owned)> = None;
+    // A thread of that number may have gone.
+    notes.shift_remove(&number);
+    match notes.insert(number, Some(note)) {
         Ok(_) => {}
         Err(_) => unreachable!(),
     }
 }
 
 // Notes a pair. The two aren't there and differ, and the parent has no other pair here.
-fn add_pair(notes: &mut IndexMap<u64, Note>, parent: ThreadNo, a: ThreadNo, b: ThreadNo)
+fn add_pair(notes: &mut IndexMap<u64, Option<Note>>, parent: ThreadNo, a: ThreadNo, b: ThreadNo)
     requires room { 1 < spare notes.old }
     requires new { can_begin_pair (tasks_in notes.old.entries) parent a b ≡ true }
     ensures tasks { tasks_in notes.new.entries ≡ begin_pair (tasks_in notes.old.entries) parent a b }
@@ -115,7 +160,7 @@ fn is_over(note: &Note, parent: ThreadNo) -> bool
 
 // Whether the other half of the pair of a branch that goes on has ended.
 fn is_other_over(
-    notes: &IndexMap<u64, Note>,
+    notes: &IndexMap<u64, Option<Note>>,
     number: u64,
     parent: ThreadNo,
     other: ThreadNo,
@@ -127,15 +172,15 @@ fn is_other_over(
     let _inside: Option<Owned> = None;
     // The length is what says that no two keys are equal.
     let _len = notes.len();
-    match notes.get(&other.number()) {
-        Some(note) => is_over(note, parent),
+    match note_of(notes, other.number()) {
+        Some(note) => is_over(&note, parent),
         None => false,
     }
 }
 
 // A branch of that parent's pair has ended: it waits for the other one, or both go.
 fn branch_ended(
-    notes: &mut IndexMap<u64, Note>,
+    notes: &mut IndexMap<u64, Option<Note>>,
     number: u64,
     parent: ThreadNo,
     other: ThreadNo,
@@ -180,10 +225,7 @@ impl Tasks {
             return Ok(());
         }
         let places = n.checked_add(n).ok_or(NoMemory)?;
-        match self.notes.reserve(places) {
-            Ok(()) => {}
-            Err(_) => return Err(NoMemory),
-        }
+        make_places(&mut self.notes, places)?;
         self.room = n;
         Ok(())
     }

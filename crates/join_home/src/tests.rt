@@ -28,5 +28,12 @@ fn hands_results_on(rt: HostRuntime) -> Result<(), Fail> {
     tasks.begin_pair(by, second, third);
     assert_eq!(rt; tasks.ended(third, Owned::Unit), EndedAs::Kept);
     assert_eq!(rt; tasks.ended(second, Owned::Unit), EndedAs::Both(by));
+    // More room than before: what has gone is cleared, and the first thread's number is free.
+    tasks.reserve(9)?;
+    tasks.begin(third);
+    tasks.begin(first);
+    assert_eq!(rt; tasks.ended(first, Owned::Int(6)), EndedAs::Kept);
+    assert_eq!(rt; tasks.ask(first, 3, by), Some(Owned::Int(6)));
+    assert_eq!(rt; tasks.let_go(third), None);
     Ok(())
 }
