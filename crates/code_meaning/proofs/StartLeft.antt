@@ -1,7 +1,7 @@
 -- The start of any code is left by the empty journal: beside the main thread there are the counts of servers, which are 0.
-use Rattle.std.proofs.Common.{◌≡◌, ℕ, zero, suc, ◌+◌, ◌≤◌, ◌==◌, Bool, true, false, not, ◌&&◌, ◌||◌, List, [], ◌∷◌, length, Option, Some, None, refl, sym, ap, ◌∙◌, arith}
+use Rattle.std.proofs.Common.{◌≡◌, ℕ, zero, suc, ◌+◌, ◌≤◌, ◌==◌, Bool, true, false, not, ◌&&◌, ◌||◌, List, [], ◌∷◌, length, Option, Some, None, refl, sym, ap, subst, ◌∙◌, arith}
 use Rattle.std.proofs.Math.Dec.{leb-suc-zero, eqb-suc-zero, eqb-zero-suc}
-use Rattle.std.specs.Prelude.{◌/◌, ◌%◌, ◌^◌, nat_le, is_some, if◌then◌else◌, slice_get}
+use Rattle.std.specs.Prelude.{◌/◌, ◌%◌, ◌^◌, nat_le, is_some, if◌then◌else◌, take, slice_get}
 use Rattle.fr_base.specs.declared.name.ObjNo.{ObjNo}
 use Rattle.fr_base.specs.declared.name.MutexNo.{MutexNo}
 use Rattle.fr_base.specs.declared.instruction.Instr.{Instr}
@@ -19,8 +19,10 @@ use Rattle.heap_law.specs.Sight.{Sight, sight, Pointer, is_issued}
 use Rattle.heap_law.specs.Naming.{events_of}
 use Rattle.heap_law.specs.OneHeap.{Node, object_n, mutex_n, Owner, a_thread, inside, outside, owner_of, names, is_in_state, first_shown, is_given_thread, one_heap}
 use Rattle.heap_law.specs.Colours.{IsColoured, running_of, has_finished, served_of, wishes_of, is_mutex_there}
-use Rattle.heap_law.specs.LeftBy.{messages_of}
+use Rattle.heap_law.specs.LeftBy.{RunsWith, messages_of}
 use Rattle.fr_code.specs.Machine.{code_start}
+use Rattle.journal.specs.View.{EntryView}
+use Rattle.code_meaning.specs.OneHeap.{plain_run}
 use Rattle.code_meaning.specs.LeftByItsCode.{LeftByItsCode}
 use Rattle.code_meaning.specs.Laws.{StartsLeft}
 
@@ -203,9 +205,17 @@ module _ (code : List Instr) (o : Options) (n : ℕ) where
   none_sent : messages_of seen ≡ 0
   none_sent = search main_alone
 
+  abbrev no_entries : List EntryView
+  no_entries = []
+
+  none_taken : (m : ℕ) → take m no_entries ≡ []
+  none_taken zero = refl
+  none_taken (suc m) = refl
+
   left_start : LeftByItsCode at_start []
   left_start = record {
     plain = record { state = plain_state code_start; runs = refl; same = same_start };
+    labelled = λ m. subst (RunsWith (plain_run code)) (sym (none_taken m)) (record { state = plain_state code_start; runs = refl });
     reached = refl;
     coloured = record { state = coloured.start; legal = refl; stands = coloured_start };
     events = none_done;

@@ -1,5 +1,5 @@
 -- The start of any code is left by it, and what a run printed (this project's rule).
-use Rattle.std.specs.Prelude.{◌≡◌, ℤ, ◌≤◌, List, [], Option, Some, None}
+use Rattle.std.specs.Prelude.{◌≡◌, ℕ, ℤ, ◌≤◌, List, [], take, Option, Some, None}
 use Rattle.fr_base.specs.declared.instruction.Instr.{Instr}
 use Rattle.fr_base.specs.declared.settings.Options.{Options}
 use Rattle.fr_base.specs.declared.label.Label.{Label}
@@ -36,6 +36,10 @@ IsRunWith None ls = ⊥
 IsRunWith (Some x) ls = (x.labels ≡ ls) × (x.state.output ≡ printed ls)
 
 -- where the code is that of a program, the program's own plain run under the journal's order is there, with the journal's
--- labels and prints
+-- labels and prints; and so is that under each beginning of the journal
+pub record RunsAlike (r : Run) (es : List EntryView) : Type 0 where
+  pub whole : IsRunWith (term.plain r (order es)) (labels es)
+  pub beginning : (n : ℕ) → IsRunWith (term.plain r (order (take n es))) (labels (take n es))
+
 abbrev pub RunsAsProgram : Type 0
-RunsAsProgram = (k : Cluster) (es : List EntryView) (r : Run) → IsCodeOf k.code r → LeftByItsCode k es → IsRunWith (term.plain r (order es)) (labels es)
+RunsAsProgram = (k : Cluster) (es : List EntryView) (r : Run) → IsCodeOf k.code r → LeftByItsCode k es → RunsAlike r es

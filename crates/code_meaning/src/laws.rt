@@ -37,7 +37,7 @@ pub fn prints_alike()
 {}
 
 /// A cluster that is left by the code of a program ran that program: its journal's order is one of the plain run of
-/// the program's term, with the labels and the prints of the journal.
+/// the program's term, with the labels and the prints of the journal, entry by entry.
 pub fn runs_as_program()
     ensures { RunsAsProgram }
 {}

@@ -1,6 +1,6 @@
 -- In a sound cluster with few events the delivery of a `moved` has a result where its thread has passed no hop of a write: the pointer under the old word
 -- is found where the thread waits for it, and an address is left.
-use Rattle.std.proofs.Common.{◌≡◌, ◌⊎◌, inl, inr, ⊎_elim, ◌≤◌, ◌<◌, ℕ, zero, suc, ◌+◌, ◌-◌, ◌*◌, ◌^◌, ◌==◌, ◌&&◌, ◌||◌, nat_lt, Bool, true, false, if◌then◌else◌, List, [], ◌∷◌, length, Option, Some, None, IsSome, refl, sym, ap, subst, ◌∙◌, arith}
+use Rattle.std.proofs.Common.{◌≡◌, ◌⊎◌, inl, inr, ⊎_elim, ◌≤◌, ◌<◌, ℕ, zero, suc, ◌+◌, ◌-◌, ◌*◌, ◌^◌, ◌==◌, ◌&&◌, nat_lt, Bool, true, false, not, if◌then◌else◌, List, [], ◌∷◌, length, Option, Some, None, IsSome, refl, sym, ap, subst, ◌∙◌, arith}
 use Rattle.std.specs.Prelude.{slice_get}
 use Rattle.std.specs.Bool.{⊤}
 use Rattle.std.proofs.lemmas.Option.{slice_get_within}
@@ -27,17 +27,17 @@ use Rattle.server_model.specs.Places.{Spot, in_slot, on_top, with_word, put_at, 
 use Rattle.server_model.specs.Prepare.{passing, write_stars}
 use Rattle.server_model.specs.Objects.{waits_for_cell, chased, waits_under, arrived_at, arrived_slot, passed_spot, arrived_read, arrived_write, arrived_lend, arrived_end, arrived, instr_access, came, deliver_moved}
 use Rattle.server_model.specs.Events.{received}
-use Rattle.heap_law.specs.Names.{tot, one, other, if_so, some, Among}
+use Rattle.heap_law.specs.Names.{tot, one, other, if_so, some, same_object, Among}
 use Rattle.heap_law.specs.Things.{Location, at_slot, at_temp, in_cell, Thing, sent, stands, things_of}
 use Rattle.heap_law.specs.Follow.{Standing, Ground, threads_in, thread_at, cell_of, value_in, value_behind, leads, locate, hop_at, hops}
 use Rattle.heap_law.specs.Sight.{sight}
-use Rattle.heap_law.specs.Paths.{Path, no_path, reads, shares, lends, writes, ends, path_of, Awaited, is_spent, to_read, to_write, to_clean, all_to, borrow_to, awaited, awaited_under}
+use Rattle.heap_law.specs.Paths.{Path, no_path, reads, shares, lends, writes, ends, path_of, Awaited, is_spent, to_read, to_write, to_clean, all_to, borrow_to, awaited, is_readable, first_unreadable}
 use Rattle.heap_law.specs.Weights.{is_thread}
-use Rattle.heap_law.specs.Walking.{is_hop_word, is_next_hop, waits_in_turn, out_of_turn}
-use Rattle.heap_law.specs.Requests.{waits, halves_to, halves_needed, comes_in, is_waited, awaited_at, cell_phase, is_cell, in_phase, carries}
+use Rattle.heap_law.specs.Walking.{first_of, next_hop, in_turn, asked_for, not_asked, out_of_turn}
+use Rattle.heap_law.specs.Requests.{waits, halves_to, halves_needed, is_cell, in_phase, carries}
 use Rattle.heap_law.specs.Naming.{events_of, large_counts}
 use Rattle.heap_law.specs.Coherent.{IsSound}
-use Rattle.heap_law.proofs.Names.{and_right}
+use Rattle.heap_law.proofs.Names.{and_left, and_right}
 use Rattle.heap_law.proofs.Bags.{among_split}
 use Rattle.heap_law.proofs.Passing.{one_more}
 use Rattle.event_law.specs.Laws.{FewEvents, MovedHaveResults}
@@ -53,14 +53,14 @@ use Rattle.event_law.proofs.ThreadThere.{thread_there}
 
 -- WHAT IS WAITED FOR
 
--- the first one with the word is among them, and has it
-under : (xs : List Awaited) (w : ℕ) (a : Awaited) → awaited_under xs w ≡ Some a → Among a xs × (a.word ≡ w)
-under [] w a e = absurd (cc e)
-under (x ∷ xs) w a e = by (x.word == w) refl e (λ d. under xs w a d)
+-- the first that can't be read is among them
+first_among : (kept : List ℕ) (r : ℕ) (xs : List Awaited) (a : Awaited) → first_unreadable kept r xs ≡ Some a → Among a xs
+first_among kept r [] a e = absurd (cc e)
+first_among kept r (x ∷ xs) a e = by (is_readable kept r x) e (λ d. first_among kept r xs a d)
   where
-    by : (b : Bool) → (x.word == w) ≡ b → (if b then Some x else awaited_under xs w) ≡ Some a → (awaited_under xs w ≡ Some a → Among a xs × (a.word ≡ w)) → Among a (x ∷ xs) × (a.word ≡ w)
-    by true q d go = let same : x ≡ a = cc in (inl same, subst (λ (z : Awaited). z.word ≡ w) same (eqb-true x.word w q))
-    by false q d go = let later = go d in (inr later.0, later.1)
+    by : (b : Bool) → (if b then first_unreadable kept r xs else Some x) ≡ Some a → (first_unreadable kept r xs ≡ Some a → Among a xs) → Among a (x ∷ xs)
+    by true d go = inr (go d)
+    by false d go = let same : x ≡ a = cc in inl same
 
 -- it is asked for at one of these values
 abbrev FromOne : (Option Value → List Awaited) → Awaited → List (Option Value) → Type 0
@@ -215,6 +215,36 @@ just : (b : Bool) → one (b && true) ≡ one b
 just true = refl
 just false = refl
 
+-- it asks for a copy for the thread, or brings it; or for the object, where that comes
+abbrev comes_by : ℕ → Message → Bool → Bool
+comes_by t (message.Fetch w o s u) comes = u == t && not comes
+comes_by t (message.Fetched w c u) comes = u == t && not comes
+comes_by t (message.Move w o s u) comes = u == t && comes
+comes_by t (message.Moved w c u) comes = u == t && comes
+comes_by t m comes = false
+
+abbrev comes_in : ℕ → Bool → Thing → ℕ
+comes_in t comes (sent r m) = one (comes_by t m comes)
+comes_in t comes x = 0
+
+fewer : (p q : Bool) → one (p && q) ≤ one p
+fewer true true = omega arith
+fewer true false = omega arith
+fewer false q = omega arith
+
+-- what asks for it does
+asked_comes : (t : ℕ) (a : Awaited) (x : Thing) → asked_for t a x ≤ comes_in t a.comes x
+asked_comes t a (sent r (message.Fetch w o s u)) = fewer (u == t && not a.comes) (a.word == w && same_object o a.object)
+asked_comes t a (sent r (message.Fetched w c u)) = fewer (u == t && not a.comes) (a.word == w && same_object c.object a.object)
+asked_comes t a (sent r (message.Move w o s u)) = fewer (u == t && a.comes) (a.word == w && same_object o a.object)
+asked_comes t a (sent r (message.Moved w c u)) = fewer (u == t && a.comes) (a.word == w && same_object c.object a.object)
+asked_comes t a (sent r _) = omega arith
+asked_comes t a _ = omega arith
+
+all_comes : (t : ℕ) (a : Awaited) (b : List Thing) → tot (asked_for t a) b ≤ tot (comes_in t a.comes) b
+all_comes t a [] = omega arith
+all_comes t a (x ∷ b) = omega (arith, asked_comes t a x, all_comes t a b)
+
 -- each whole answer comes or doesn't
 counted : (t : ℕ) (x : Thing) → comes_in t false x + comes_in t false x + (comes_in t true x + comes_in t true x) ≤ halves_to t x
 counted t (sent r (message.Fetch w o s u)) = omega (arith, twice (u == t), just (u == t), none_both (u == t))
@@ -250,15 +280,35 @@ sets_slot j new v h q w = subst (λ o. IsSome (then_some o (λ x. then_some (wit
     by None s = absurd (cc s)
     by (Some y) s = rw below refl
 
+-- the pointer has the word
+abbrev is_hop_word : ℕ → Option Value → Bool
+is_hop_word w (Some (value.Own (owned.Box p))) = p.word == w
+is_hop_word w (Some (value.Mut r)) = r.word == w
+is_hop_word w v = false
+
+-- what comes for a write is that of a box or of a mutable reference
+hop_word : (w : ℕ) (o : Option Value) (a : Awaited) → first_of (to_write o) ≡ Some a → a.word ≡ w → is_hop_word w o ≡ true
+hop_word w (Some (value.Own (owned.Box p))) a e word = let same : p.word ≡ a.word = ap (λ (x : Option Awaited). word_of x) e in eq-eqb p.word w (same ∙ word)
+  where
+    word_of : Option Awaited → ℕ
+    word_of None = 0
+    word_of (Some x) = x.word
+hop_word w (Some (value.Mut r)) a e word = let same : r.word ≡ a.word = ap (λ (x : Option Awaited). word_of x) e in eq-eqb r.word w (same ∙ word)
+  where
+    word_of : Option Awaited → ℕ
+    word_of None = 0
+    word_of (Some x) = x.word
+hop_word w _ a e word = absurd (cc e)
+
+only_so : (b : Bool) (x : Option Awaited) (a : Awaited) → (if b then x else None) ≡ Some a → x ≡ Some a
+only_so true x a e = e
+only_so false x a e = absurd (cc e)
+
 -- the word under which a hop waits is that of a box or of a mutable reference
 worded : (w new : ℕ) (o : Option Value) → is_hop_word w o ≡ true → (v : Value) × (o ≡ Some v) × IsSome (with_word new v)
 worded w new (Some (value.Own (owned.Box p))) e = (value.Own (owned.Box p), refl, refl)
 worded w new (Some (value.Mut r)) e = (value.Mut r, refl, refl)
 worded w new _ e = absurd (cc e)
-
-either : (a b : Bool) → (a || b) ≡ true → a ≡ false → b ≡ true
-either true b e n = absurd (cc n)
-either false b e n = e
 
 -- a new word is placed
 placed : {X Y : Type 0} (b : Bool) (x : X) (go : X → Option Y) → b ≡ true → IsSome (go x) → IsSome (then_some (if b then Some x else None) go)
@@ -291,22 +341,18 @@ module _ (k : Cluster) (sound : IsSound k) (few : FewEvents k) (number i : ℕ) 
   it_is = subst (λ u. thread_at g.threads u ≡ Some me) (sym numbered) (thread_there k sound number s here t y at)
 
   -- it waits for what comes, as the one answer to it does
-  comes : (a : Awaited) → other (some (tot (comes_in y.number a.comes) (things_of k))) ≡ 0 → a.comes ≡ true
-  comes a z = by a.comes z
+  comes : (a : Awaited) → 1 ≤ tot (asked_for y.number a) (things_of k) → a.comes ≡ true
+  comes a z = by a.comes (omega (arith, z, all_comes y.number a (things_of k)))
     where
       itself : one (t == y.number && true) ≡ 1
       itself = ap (λ b. one (b && true)) (eq-eqb t y.number (sym numbered))
 
-      one_there : (x : ℕ) → other (some x) ≡ 0 → 1 ≤ x
-      one_there zero e = absurd (cc e)
-      one_there (suc x) e = omega arith
-
-      by : (b : Bool) → other (some (tot (comes_in y.number b) (things_of k))) ≡ 0 → b ≡ true
+      by : (b : Bool) → 1 ≤ tot (comes_in y.number b) (things_of k) → b ≡ true
       by true e = refl
       by false e =
           absurd (omega (
             arith,
-            one_there _ e,
+            e,
             itself,
             has k sound number s here i m q (comes_in y.number true),
             all_counted y.number (things_of k),
@@ -315,32 +361,32 @@ module _ (k : Cluster) (sound : IsSound k) (few : FewEvents k) (number i : ℕ) 
             sound.names.numbers_differ y.number,
           ))
 
-  -- what it waits for on its path
-  awaits : (p : Path) → path_of (slice_get k.code y.pc) y ≡ p → (a : Awaited) × Among a (awaited colours g y.number p) × (a.word ≡ old) × (a.comes ≡ true)
-  awaits p e = by (awaited_under (awaited colours g y.number p) old) refl wrong
+  -- what it waits for in turn on its path: it has the old word, and comes
+  abbrev Turn : Path → Type 0
+  Turn p = (a : Awaited) × (in_turn (sight k) me old p ≡ Some a) × (a.word ≡ old) × (a.comes ≡ true)
+
+  turn : (p : Path) → path_of (slice_get k.code y.pc) y ≡ p → Turn p
+  turn p e = by (in_turn (sight k) me old p) refl none
     where
-      all : cell_phase (sight k) me y.phase ≡ 0
-      all = none_here k sound number s here t y at (λ x. cell_phase (sight k) x x.thread.phase) sound.requests.cells_awaited
+      all : out_of_turn (sight k) me y.phase ≡ 0
+      all = none_here k sound number s here t y at (λ x. out_of_turn (sight k) x x.thread.phase) (Rattle.heap_law.proofs.Turn.turn_law.none_counted (sight k) sound.walks.wait_in_turn)
 
-      at_cell : is_waited (sight k) me (awaited_at (sight k) me old) ≡ 0
-      at_cell = subst (λ z. cell_phase (sight k) me z ≡ 0) waiting all
+      at_cell : not_asked (sight k) me old (in_turn (sight k) me old (path_of (slice_get k.code y.pc) y)) ≡ 0
+      at_cell = subst (λ z. out_of_turn (sight k) me z ≡ 0) waiting all
 
-      wrong : is_waited (sight k) me (awaited_under (awaited colours g y.number p) old) ≡ 0
-      wrong = subst (λ z. is_waited (sight k) me (awaited_under (awaited colours g y.number z) old) ≡ 0) e at_cell
+      none : not_asked (sight k) me old (in_turn (sight k) me old p) ≡ 0
+      none = subst (λ z. not_asked (sight k) me old (in_turn (sight k) me old z) ≡ 0) e at_cell
 
-      by : (o : Option Awaited) → awaited_under (awaited colours g y.number p) old ≡ o → is_waited (sight k) me o ≡ 0 → (a : Awaited) × Among a (awaited colours g y.number p) × (a.word ≡ old) × (a.comes ≡ true)
+      some_one : (x : ℕ) → some x ≡ true → 1 ≤ x
+      some_one zero d = absurd (cc d)
+      some_one (suc x) d = omega arith
+
+      by : (o : Option Awaited) → in_turn (sight k) me old p ≡ o → not_asked (sight k) me old o ≡ 0 → Turn p
       by None d z = absurd (cc z)
-      by (Some a) d z = let x = under (awaited colours g y.number p) old a d in (a, x.0, x.1, comes a z)
-
-  -- it waits in turn
-  turn : (p : Path) → path_of (slice_get k.code y.pc) y ≡ p → waits_in_turn (sight k) me old p ≡ 0
-  turn p e =
-      let all : out_of_turn (sight k) me y.phase ≡ 0 = none_here k sound number s here t y at (λ x. out_of_turn (sight k) x x.thread.phase) in_turn in
-      let at_cell : waits_in_turn (sight k) me old (path_of (slice_get k.code y.pc) y) ≡ 0 = subst (λ z. out_of_turn (sight k) me z ≡ 0) waiting all in
-      subst (λ z. waits_in_turn (sight k) me old z ≡ 0) e at_cell
-    where
-      in_turn : Rattle.heap_law.specs.Walking.turn_wrong (sight k) ≡ 0
-      in_turn = Rattle.heap_law.proofs.Turn.turn_law.none_counted (sight k) sound.walks.wait_in_turn
+      by (Some a) d z =
+          let count = tot (asked_for y.number a) (things_of k) in
+          let both : (a.word == old && some count) ≡ true = other_none _ z in
+          (a, d, eqb-true a.word old (and_left (a.word == old) (some count) both), comes a (some_one count (and_right (a.word == old) (some count) both)))
 
   module _ (new : ℕ) (h : Hand) (mine : h.thread ≡ y) (passed : y.passed ≡ 0) where
     slot_has : (j : ℕ) → slice_get h.thread.slots j ≡ slice_get y.slots j
@@ -364,15 +410,15 @@ module _ (k : Cluster) (sound : IsSound k) (few : FewEvents k) (number i : ℕ) 
 
     for_read : (w : Lval) → path_of (slice_get k.code y.pc) y ≡ reads w → IsSome (arrived_read w old new h)
     for_read w e =
-        let x = awaits (reads w) e in
-        let f = from_all (to_read colours) x.0 (hops g y.number w w.depth) x.1 in
+        let x = turn (reads w) e in
+        let f = from_all (to_read colours) x.0 (hops g y.number w w.depth) (first_among _ _ _ x.0 x.1) in
         by_lent w x.0 f.0 x.2 f.1 (read_lent colours f.0 x.0 f.2 x.3)
 
     for_share : (w : Lval) → path_of (slice_get k.code y.pc) y ≡ shares w → IsSome (arrived_read w old new h)
     for_share w e =
-        let x = awaits (shares w) e in
+        let x = turn (shares w) e in
         ⊎_elim (λ (f : FromOne (to_read colours) x.0 (hops g y.number w w.depth)). by_lent w x.0 f.0 x.2 f.1 (read_lent colours f.0 x.0 f.2 x.3))
-        (λ (f : FromOne (to_clean colours) x.0 (hops g y.number w w.depth)). by_lent w x.0 f.0 x.2 f.1 (clean_lent colours f.0 x.0 f.2)) (from_borrow colours (to_clean colours) x.0 (hops g y.number w w.depth) x.1)
+        (λ (f : FromOne (to_clean colours) x.0 (hops g y.number w w.depth)). by_lent w x.0 f.0 x.2 f.1 (clean_lent colours f.0 x.0 f.2)) (from_borrow colours (to_clean colours) x.0 (hops g y.number w w.depth) (first_among _ _ _ x.0 x.1))
 
     -- a reference with the old word gets the new one
     under_old : (j : ℕ) (o : Option Value) → slice_get h.thread.slots j ≡ o → waits_under old o ≡ true → IsSome (arrived_at (in_slot j) new h)
@@ -391,19 +437,19 @@ module _ (k : Cluster) (sound : IsSound k) (few : FewEvents k) (number i : ℕ) 
 
     for_lend : (w : Lval) → path_of (slice_get k.code y.pc) y ≡ lends w → IsSome (arrived_lend w.slot w.depth old new h)
     for_lend w e =
-        let x = awaits (lends w) e in
-        lent_from w.slot w.depth (some_hop w.depth x.1)
+        let x = turn (lends w) e in
+        lent_from w.slot w.depth (some_hop w.depth (first_among _ _ _ x.0 x.1))
       where
-        some_hop : (d : ℕ) → Among (awaits (lends w) e).0 (borrow_to colours to_write (hops g y.number w d)) → 1 ≤ d
+        some_hop : (d : ℕ) → Among (turn (lends w) e).0 (borrow_to colours to_write (hops g y.number w d)) → 1 ≤ d
         some_hop zero a = absurd a
         some_hop (suc d) a = omega arith
 
     -- WRITES
 
     -- the first hop of a place
-    first_hop : (w : Lval) → is_next_hop (sight k) me old w ≡ true → IsSome (arrived_write w new h)
-    first_hop w e =
-        let hop : is_hop_word old (hop_at g y.number w y.passed) ≡ true = and_right (nat_lt y.passed w.depth) (is_hop_word old (hop_at g y.number w y.passed)) e in
+    first_hop : (w : Lval) (a : Awaited) → next_hop (sight k) me w ≡ Some a → a.word ≡ old → IsSome (arrived_write w new h)
+    first_hop w a e word =
+        let hop : is_hop_word old (hop_at g y.number w y.passed) ≡ true = hop_word old (hop_at g y.number w y.passed) a (only_so (nat_lt y.passed w.depth) (first_of (to_write (hop_at g y.number w y.passed))) a e) word in
         let first : is_hop_word old (hop_at g y.number w 0) ≡ true = subst (λ j. is_hop_word old (hop_at g y.number w j) ≡ true) passed hop in
         let has_word : is_hop_word old (slice_get y.slots w.slot) ≡ true = subst (λ o. is_hop_word old o ≡ true) (slot_value g y.number me it_is w.slot) first in
         let v = worded old new (slice_get y.slots w.slot) has_word in
@@ -412,7 +458,7 @@ module _ (k : Cluster) (sound : IsSound k) (few : FewEvents k) (number i : ℕ) 
         (some_map _ _ (sets_slot w.slot new v.0 (passing (h.thread.passed + 1) h) (slot_has w.slot ∙ v.1) v.2))
 
     for_write : (w : Lval) → path_of (slice_get k.code y.pc) y ≡ writes w → IsSome (arrived_write w new h)
-    for_write w e = first_hop w (other_none _ (turn (writes w) e))
+    for_write w e = let x = turn (writes w) e in first_hop w x.0 x.1 x.2
 
     -- ENDS
 
@@ -421,10 +467,12 @@ module _ (k : Cluster) (sound : IsSound k) (few : FewEvents k) (number i : ℕ) 
       where
         by : (b : Bool) → (r.word == old) ≡ b → IsSome (if b then arrived_at x new h else arrived_write r.holder new h)
         by true d = some_map _ _ sets
-        by false d = first_hop r.holder (either (r.word == old) (is_next_hop (sight k) me old r.holder) (other_none _ (turn (ends r) e)) d)
+        by false d =
+            let x = turn (ends r) e in
+            first_hop r.holder x.0 (subst (λ b. (if b then first_of (to_write (Some (value.Mut r))) else next_hop (sight k) me r.holder) ≡ Some x.0) d x.1) x.2
 
     no_path_none : (X : Type 0) → path_of (slice_get k.code y.pc) y ≡ no_path → X
-    no_path_none X e = let x = awaits no_path e in absurd x.1
+    no_path_none X e = let x = turn no_path e in let none : None ≡ Some x.0 = x.1 in absurd (cc none)
 
     slot_ends : (j : ℕ) (o : Option Value) → slice_get y.slots j ≡ o → path_of (slice_get k.code y.pc) y ≡ Rattle.heap_law.specs.Paths.ending o → IsSome (arrived (Rattle.server_model.specs.Prepare.ending (in_slot j) o) old new h)
     slot_ends j (Some (value.Mut r)) d e =

@@ -1,6 +1,6 @@
--- In a sound cluster a message about an object that lies where its word leads is delivered, since the word is of its server and below the colour limit.
--- An object that was dropped and isn't under way lies there, since its `drop` has its word.
-use Rattle.std.proofs.Common.{◌≡◌, ◌≤◌, ◌<◌, ℕ, suc, ◌+◌, ◌==◌, ◌&&◌, nat_lt, is_some, Bool, true, false, if◌then◌else◌, List, [], ◌∷◌, ◌++◌, Option, Some, None, IsSome, refl, sym, ap, subst, ◌∙◌, arith}
+-- In a sound cluster a message about an object is delivered, since the object lies where the message's word leads, which is of its server and below the
+-- colour limit.
+use Rattle.std.proofs.Common.{◌≡◌, ◌≤◌, ◌<◌, ℕ, zero, suc, ◌+◌, ◌==◌, ◌&&◌, nat_lt, is_some, Bool, true, false, if◌then◌else◌, List, [], ◌∷◌, Option, Some, None, IsSome, refl, sym, ap, subst, ◌∙◌, arith}
 use Rattle.std.specs.Prelude.{slice_get, slice_index_or}
 use Rattle.std.proofs.lemmas.Bool.Decides.{nat_tests}
 use Rattle.fr_typing.proofs.PlaceLemmas.{eq_cases}
@@ -16,19 +16,18 @@ use Rattle.server_msgs.specs.declared.message.Message.{Message}
 use Rattle.server_msgs.specs.declared.message.Message.TheVariants as message
 use Rattle.server_model.specs.Servers.{Server, Cluster, server_at}
 use Rattle.server_model.specs.Work.{leads_here, look_object}
-use Rattle.heap_law.specs.Names.{tot, one, other, same_object}
+use Rattle.heap_law.specs.Names.{tot, one, other, some, same_object}
 use Rattle.heap_law.specs.Things.{Location, Thing, lies, flies, sent, things_at, cell_things, queue_things, mutex_things, task_things, thread_things, standing_things, message_things, waiting_things, leaving_things, partition_things, server_things, things_of}
-use Rattle.heap_law.specs.Sight.{Sight, Pointer, is_stale, unless, fresh_ones, pointers_of, pointers_in, taken_pointers, is_word, sight, word}
-use Rattle.heap_law.specs.Placing.{words, other_word, same_word_wrong, is_spot, other_spot, homeward_wrong}
-use Rattle.heap_law.specs.Weights.{cells, owners}
-use Rattle.heap_law.specs.Requests.{misrouted}
+use Rattle.heap_law.specs.Sight.{Sight, is_word, sight, word}
+use Rattle.heap_law.specs.Placing.{words}
+use Rattle.heap_law.specs.Weights.{lies_under}
+use Rattle.heap_law.specs.Requests.{misrouted, not_under, not_there}
 use Rattle.heap_law.specs.Naming.{servers_wrong, pinned_parcel}
 use Rattle.heap_law.specs.Walking.{sum_threads}
 use Rattle.heap_law.specs.Coherent.{IsSound}
 use Rattle.heap_law.proofs.Names.{and_left, and_right, same_number}
-use Rattle.heap_law.proofs.Words.{named, itself, words_law}
 use Rattle.heap_law.proofs.Sums.{tot-append, server_parts}
-use Rattle.event_law.specs.Laws.{lies_under, flying, ObjectsHaveResults}
+use Rattle.event_law.specs.Laws.{ObjectsHaveResults}
 use Rattle.event_law.proofs.Unseen.{Unseen, none_at, thread_alone, content_none, result_none, partition_none, copies_none}
 use Rattle.event_law.proofs.Askers.{other_none}
 use Rattle.event_law.proofs.Elsewhere.{here_alone}
@@ -198,70 +197,24 @@ module _ (k : Cluster) (sound : IsSound k) (number : ℕ) (s : Server) (here : s
       other_way : (r : ℕ) → server_of w ≡ n → (r == n) ≡ false → (server_of w == r) ≡ false
       other_way r e ne = eq_cases (λ b. b ≡ false) (server_of w) r (λ d. let same : (r == n) ≡ true = grind (arith, nat_tests, sym d ∙ e) in let wrong : true ≡ false = sym same ∙ ne in absurd (cc wrong)) (λ x. refl)
 
--- A DROPPED OBJECT
-
--- of the pointers that aren't stale
-module _ (places : List Location) (g : Pointer → ℕ) where
-  more : (b : Bool) (x : Pointer) (ps : List Pointer) → tot g (unless b x ps) ≡ tot g (unless b x []) + tot g ps
-  more true x ps = omega arith
-  more false x ps = omega arith
-
-  fresh-append : (ps qs : List Pointer) → tot g (fresh_ones places (ps ++ qs)) ≡ tot g (fresh_ones places ps) + tot g (fresh_ones places qs)
-  fresh-append [] qs = omega arith
-  fresh-append (x ∷ ps) qs = omega (arith, fresh-append ps qs, more (is_stale places x.at) x (fresh_ones places (ps ++ qs)), more (is_stale places x.at) x (fresh_ones places ps))
-
-  abbrev fresh_at : Thing → ℕ
-  fresh_at x = tot g (fresh_ones places (pointers_of x))
-
-  fresh_all : (b : List Thing) → tot g (fresh_ones places (pointers_in b)) ≡ tot fresh_at b
-  fresh_all [] = refl
-  fresh_all (x ∷ b) = omega (arith, fresh-append (pointers_of x) (pointers_in b), fresh_all b)
-
-word_told : (v : Option ℕ) (w : ℕ) → is_word v w ≡ true → v ≡ Some w
-word_told None w e = absurd (cc e)
-word_told (Some x) w e = ap (λ y. Some y) (same_number x w e)
-
-module _ (k : Cluster) (sound : IsSound k) (number : ℕ) (s : Server) (here : server_at k.servers number ≡ Some s) (i w : ℕ) (o : ObjNo) (q : slice_get s.rest.inbox i ≡ Some (message.Drop w o)) where
-  -- its `drop` has its word
-  its_word : word (sight k) o ≡ Some w
-  its_word =
-      let z = words_law.none_counted k sound.words.have_words in
-      let g = other_word (sight k) in
-      let places = (sight k).stale in
-      let all : tot g (fresh_ones places (pointers_in (things_of k) ++ taken_pointers k.code (sight k).ground (sight k).ground.threads)) ≡ 0 = omega (arith, z) in
-      let things : tot (fresh_at places g) (things_of k) ≡ 0 = omega (arith, all, fresh-append places g (pointers_in (things_of k)) (taken_pointers k.code (sight k).ground (sight k).ground.threads), fresh_all places g (things_of k)) in
-      let mine : other (is_word (word (sight k) o) w) ≡ 0 = omega (arith, things, has k sound number s here i (message.Drop w o) q (fresh_at places g)) in
-      word_told (word (sight k) o) w (other_none (is_word (word (sight k) o) w) mine)
-
-  under : (x : Thing) → other_spot (sight k) x ≡ 0 → cells o x ≤ lies_under w o x + flying o x
-  under (lies r a c) z = by (same_object c.object o) refl
+  -- as no such message names an object that lies elsewhere, or is under way
+  lies_there : not_there (sight k) (sent n m) ≡ not_under (sight k) w o → 1 ≤ tot (lies_under w o) (things_of k)
+  lies_there e =
+      let all : tot (not_there (sight k)) (things_of k) ≡ 0 = sound.requests.objects_there in
+      let mine : not_there (sight k) (sent n m) ≡ 0 = omega (arith, all, has k sound number s here i m q (not_there (sight k))) in
+      let count = tot (lies_under w o) (things_of k) in
+      some_one count (and_right (is_word (word (sight k) o) w) (some count) (other_none (is_word (word (sight k) o) w && some count) (sym e ∙ mine)))
     where
-      by : (b : Bool) → same_object c.object o ≡ b → one b ≤ one ((server_of w == r && address_of w == a) && b) + 0
-      by false e = omega arith
-      by true e =
-          let object : c.object ≡ o = named c.object o e in
-          let spot : is_spot r a (word (sight k) o) ≡ true = other_none _ (subst (λ x. other (is_spot r a (word (sight k) x)) ≡ 0) object z) in
-          let leads : (server_of w == r && address_of w == a) ≡ true = subst (λ v. is_spot r a v ≡ true) its_word spot in
-          let weighs : one ((server_of w == r && address_of w == a) && true) ≡ one (true && true) = ap (λ b. one (b && true)) leads in
-          omega (arith, weighs)
-  under (flies v c) z = omega arith
-  under _ z = omega arith
-
-  all_under : (b : List Thing) → tot (other_spot (sight k)) b ≡ 0 → tot (cells o) b ≤ tot (lies_under w o) b + tot (flying o) b
-  all_under [] z = omega arith
-  all_under (x ∷ b) z = omega (arith, under x (omega (arith, z)), all_under b (omega (arith, z)))
-
-  lies_there : tot (flying o) (things_of k) ≡ 0 → 1 ≤ tot (lies_under w o) (things_of k)
-  lies_there none =
-      let z = words_law.none_counted k sound.words.have_words in
-      let home : tot (other_spot (sight k)) (things_of k) ≡ 0 = omega (arith, z) in
-      let owned : one (same_object o o) ≡ 1 = ap one (itself o o refl) in
-      omega (arith, none, all_under (things_of k) home, sound.one_owner.owner_of_each o, has k sound number s here i (message.Drop w o) q (owners o), owned)
+      some_one : (x : ℕ) → some x ≡ true → 1 ≤ x
+      some_one zero d = absurd (cc d)
+      some_one (suc x) d = omega arith
 
 pub objects_have_results : ObjectsHaveResults
 objects_have_results = record {
-  fetches = λ k n i s w o a t sound there here on q. arrives k n i s (message.Fetch w o a t) here on q (some_map _ _ (some_map _ _ (found k sound n s here i (message.Fetch w o a t) q w o refl refl there)));
-  moves = λ k n i s w o a t sound there here on q. arrives k n i s (message.Move w o a t) here on q (some_map _ _ (some_map _ _ (found k sound n s here i (message.Move w o a t) q w o refl refl there)));
-  drops = λ k n i s w o sound none here on q.
-      arrives k n i s (message.Drop w o) here on q (some_map _ _ (some_map _ _ (found k sound n s here i (message.Drop w o) q w o refl refl (lies_there k sound n s here i w o q none))));
+  fetches = λ k n i s w o a t sound here on q.
+      let m = message.Fetch w o a t in arrives k n i s m here on q (some_map _ _ (some_map _ _ (found k sound n s here i m q w o refl refl (lies_there k sound n s here i m q w o refl))));
+  moves = λ k n i s w o a t sound here on q.
+      let m = message.Move w o a t in arrives k n i s m here on q (some_map _ _ (some_map _ _ (found k sound n s here i m q w o refl refl (lies_there k sound n s here i m q w o refl))));
+  drops = λ k n i s w o sound here on q.
+      let m = message.Drop w o in arrives k n i s m here on q (some_map _ _ (some_map _ _ (found k sound n s here i m q w o refl refl (lies_there k sound n s here i m q w o refl))));
 }

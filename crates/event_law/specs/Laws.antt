@@ -1,5 +1,5 @@
 -- Laws of events: from a cluster that has the sums, an event of a kind leaves them.
-use Rattle.std.specs.Prelude.{◌≡◌, ◌≤◌, ◌<◌, ◌+◌, ◌^◌, ◌==◌, ◌&&◌, ⊤, ℕ, true, List, length, take, drop, Option, Some, None, IsSome, slice_get}
+use Rattle.std.specs.Prelude.{◌≡◌, ◌≤◌, ◌<◌, ◌+◌, ◌^◌, ◌==◌, ⊤, ℕ, true, List, length, take, drop, Option, Some, None, IsSome, slice_get}
 use Rattle.std.specs.List.{AllByRecursion}
 use Rattle.fr_base.specs.declared.name.MutexNo.{MutexNo}
 use Rattle.fr_base.specs.declared.name.ObjNo.{ObjNo}
@@ -9,7 +9,7 @@ use Rattle.fr_base.specs.declared.instruction.Instr.TheVariants as instr
 use Rattle.fr_base.specs.declared.instruction.Operand.{Operand}
 use Rattle.fr_base.specs.declared.release.Released.TheVariants.{Mutex, Task}
 use Rattle.fr_base.specs.declared.settings.Options.{Options}
-use Rattle.global_addr.specs.Words.{server_of, address_of}
+use Rattle.global_addr.specs.Words.{server_of}
 use Rattle.heap_partition.specs.declared.value.Cell.{Cell}
 use Rattle.heap_partition.specs.declared.value.Owned.{Owned}
 use Rattle.journal.specs.View.{EntryView}
@@ -24,8 +24,8 @@ use Rattle.server_model.specs.Work.{thread_in}
 use Rattle.server_model.specs.Start.{next_thread}
 use Rattle.server_model.specs.Events.{enabled}
 use Rattle.server_model.specs.Clusters.{with_server, with_outbox, hand_over_newer, done_at, act_at, apply}
-use Rattle.heap_law.specs.Names.{tot, some, one, same_object}
-use Rattle.heap_law.specs.Things.{Thing, lies, flies, servers_things, things_of}
+use Rattle.heap_law.specs.Names.{tot, some, one}
+use Rattle.heap_law.specs.Things.{Thing, servers_things, things_of}
 use Rattle.heap_law.specs.Sight.{sight, issued}
 use Rattle.heap_law.specs.Paths.{joined_thread}
 use Rattle.heap_law.specs.Naming.{events_of, started_at, made_at}
@@ -256,24 +256,13 @@ MovedHaveResults =
     (k : Cluster) (n i : ℕ) (s : Server) (w : ℕ) (c : Cell) (t : ℕ) (y : ThreadState) → IsSound k → FewEvents k → server_at k.servers n ≡ Some s → enabled k.options s (Deliver i) ≡ true → slice_get s.rest.inbox i ≡ Some (Moved w c t)
     → thread_in s.threads t ≡ Some y → y.passed ≡ 0 → HasResult k n (Deliver i)
 
--- the object lies where that word leads
-abbrev pub lies_under : ℕ → ObjNo → Thing → ℕ
-lies_under w o (lies r a c) = one ((server_of w == r && address_of w == a) && same_object c.object o)
-lies_under w o x = 0
-
--- it is under way
-abbrev pub flying : ObjNo → Thing → ℕ
-flying o (flies w c) = one (same_object c.object o)
-flying o x = 0
-
--- that of a message about an object which lies where its word leads: of a `drop` it is enough that it isn't under way. (That it lies there follows
--- from types)
+-- that of a message about an object
 pub record ObjectsHaveResults : Type 0 where
-  pub fetches : (k : Cluster) (n i : ℕ) (s : Server) (w : ℕ) (o : ObjNo) (a t : ℕ) → IsSound k → 1 ≤ tot (lies_under w o) (things_of k) → server_at k.servers n ≡ Some s → enabled k.options s (Deliver i) ≡ true
-      → slice_get s.rest.inbox i ≡ Some (Fetch w o a t) → HasResult k n (Deliver i)
-  pub moves : (k : Cluster) (n i : ℕ) (s : Server) (w : ℕ) (o : ObjNo) (a t : ℕ) → IsSound k → 1 ≤ tot (lies_under w o) (things_of k) → server_at k.servers n ≡ Some s → enabled k.options s (Deliver i) ≡ true
-      → slice_get s.rest.inbox i ≡ Some (Move w o a t) → HasResult k n (Deliver i)
-  pub drops : (k : Cluster) (n i : ℕ) (s : Server) (w : ℕ) (o : ObjNo) → IsSound k → tot (flying o) (things_of k) ≡ 0 → server_at k.servers n ≡ Some s → enabled k.options s (Deliver i) ≡ true → slice_get s.rest.inbox i ≡ Some (Drop w o)
+  pub fetches : (k : Cluster) (n i : ℕ) (s : Server) (w : ℕ) (o : ObjNo) (a t : ℕ) → IsSound k → server_at k.servers n ≡ Some s → enabled k.options s (Deliver i) ≡ true → slice_get s.rest.inbox i ≡ Some (Fetch w o a t)
+      → HasResult k n (Deliver i)
+  pub moves : (k : Cluster) (n i : ℕ) (s : Server) (w : ℕ) (o : ObjNo) (a t : ℕ) → IsSound k → server_at k.servers n ≡ Some s → enabled k.options s (Deliver i) ≡ true → slice_get s.rest.inbox i ≡ Some (Move w o a t)
+      → HasResult k n (Deliver i)
+  pub drops : (k : Cluster) (n i : ℕ) (s : Server) (w : ℕ) (o : ObjNo) → IsSound k → server_at k.servers n ≡ Some s → enabled k.options s (Deliver i) ≡ true → slice_get s.rest.inbox i ≡ Some (Drop w o)
       → HasResult k n (Deliver i)
 
 -- that of the end of a thread

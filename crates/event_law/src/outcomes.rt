@@ -27,7 +27,7 @@ pub fn counting()
     ensures objects { MovedHaveResults }
 {}
 
-/// The delivery of a `fetch`, a `move` or a `drop`, in a sound cluster where its object lies where the word leads.
+/// The delivery of a `fetch`, a `move` or a `drop`, in a sound cluster: its object lies where the word leads.
 pub fn objects()
     ensures { ObjectsHaveResults }
 {}

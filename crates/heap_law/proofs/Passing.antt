@@ -17,7 +17,7 @@ use Rattle.heap_law.specs.Follow.{Standing, Ground, value_in, value_behind, lead
 use Rattle.heap_law.specs.Sight.{Sight, is_stale, sight}
 use Rattle.heap_law.specs.Weights.{lies_at}
 use Rattle.heap_law.specs.Paths.{written_place}
-use Rattle.heap_law.specs.Walking.{path, over_hops, over_place, over_passed, away, passed_wrong, copied_box, passed_boxes_wrong, stale_hop, passed_references_wrong}
+use Rattle.heap_law.specs.Walking.{path, over_hops, over_place, over_passed, away, passed_wrong, copied_box, passed_boxes_wrong, stale_hop, passed_stale_wrong}
 use Rattle.heap_law.specs.Words.{IsStale}
 use Rattle.heap_law.specs.Passing.{PathTo, at_its_slot, by_star, HopOf, PathsLaw, LiesAt, MayPass, over_box, over_reference, to_slot, to_lent_slot, IsPassed, HavePassed, PassedLaw}
 use Rattle.heap_law.proofs.Names.{and_left, and_right, same_number}
@@ -149,7 +149,7 @@ not_stale : (k : Cluster) (l : Location) → one (is_stale (sight k).stale (Some
 not_stale k l z s = let e : is_stale (sight k).stale (Some l) ≡ true = told k (Some l) s in let w : one (is_stale (sight k).stale (Some l)) ≡ 1 = rw e refl in omega (arith, z, w)
 
 passes_by : (k : Cluster) (r : ℕ) (l : Location) (v : Value) → away (sight k) r (Some l) (Some v) ≡ 0 → copied_box (sight k) r (Some l) (Some v) ≡ 0 → stale_hop (sight k) r (Some l) (Some v) ≡ 0 → MayPass (sight k) r l v
-passes_by k r l (value.Own (owned.Box p)) a b c = over_box p (lies_found r p.object (sight k).things (some_there (tot (lies_at r p.object) (sight k).things) a)) b
+passes_by k r l (value.Own (owned.Box p)) a b c = over_box p (lies_found r p.object (sight k).things (some_there (tot (lies_at r p.object) (sight k).things) a)) b (not_stale k l c)
 passes_by k r l (value.Mut q) a b c = over_reference q (lies_found r q.object (sight k).things (some_there (tot (lies_at r q.object) (sight k).things) a)) (not_stale k l c)
 passes_by k r l (value.SharedSlot i) a b c = to_slot i
 passes_by k r l (value.MutSlot i) a b c = to_lent_slot i
@@ -173,7 +173,7 @@ passed_at s f x w i z m e l =
     let there : over_hops s.ground x.thread.number w.slot (f x.server) x.thread.passed ≡ 0 = subst (λ o. over_place s.ground x.thread.number x.thread.passed (f x.server) o ≡ 0) e here in
     hop_none s.ground x.thread.number w.slot (f x.server) x.thread.passed i there l
 
-from_counts : (k : Cluster) → passed_wrong (sight k) ≡ 0 → passed_boxes_wrong (sight k) ≡ 0 → passed_references_wrong (sight k) ≡ 0 → HavePassed (sight k)
+from_counts : (k : Cluster) → passed_wrong (sight k) ≡ 0 → passed_boxes_wrong (sight k) ≡ 0 → passed_stale_wrong (sight k) ≡ 0 → HavePassed (sight k)
 from_counts k a b c x w i m e l =
     hop_passed k x w i (locate (sight k).ground x.thread.number w.slot i) refl (passed_at (sight k) (away (sight k)) x w i a m e l) (passed_at (sight k) (copied_box (sight k)) x w i b m e l)
     (passed_at (sight k) (stale_hop (sight k)) x w i c m e l)
@@ -181,13 +181,13 @@ from_counts k a b c x w i m e l =
 -- FROM WHAT IS PASSED
 
 not_away : (k : Cluster) (r : ℕ) (l : Location) (v : Value) → MayPass (sight k) r l v → away (sight k) r (Some l) (Some v) ≡ 0
-not_away k r l _ (over_box p a n) = none_away (tot (lies_at r p.object) (sight k).things) (lies_counted r p.object a.address a.cell (sight k).things a.object a.among)
+not_away k r l _ (over_box p a n f) = none_away (tot (lies_at r p.object) (sight k).things) (lies_counted r p.object a.address a.cell (sight k).things a.object a.among)
 not_away k r l _ (over_reference q a n) = none_away (tot (lies_at r q.object) (sight k).things) (lies_counted r q.object a.address a.cell (sight k).things a.object a.among)
 not_away k r l _ (to_slot i) = refl
 not_away k r l _ (to_lent_slot i) = refl
 
 not_copied : (k : Cluster) (r : ℕ) (l : Location) (v : Value) → MayPass (sight k) r l v → copied_box (sight k) r (Some l) (Some v) ≡ 0
-not_copied k r l _ (over_box p a n) = n
+not_copied k r l _ (over_box p a n f) = n
 not_copied k r l _ (over_reference q a n) = refl
 not_copied k r l _ (to_slot i) = refl
 not_copied k r l _ (to_lent_slot i) = refl
@@ -200,7 +200,7 @@ no_stale k l n = by (is_stale (sight k).stale (Some l)) refl
     by false e = refl
 
 not_stale_hop : (k : Cluster) (r : ℕ) (l : Location) (v : Value) → MayPass (sight k) r l v → stale_hop (sight k) r (Some l) (Some v) ≡ 0
-not_stale_hop k r l _ (over_box p a n) = refl
+not_stale_hop k r l _ (over_box p a n f) = no_stale k l f
 not_stale_hop k r l _ (over_reference q a n) = no_stale k l n
 not_stale_hop k r l _ (to_slot i) = refl
 not_stale_hop k r l _ (to_lent_slot i) = refl
@@ -224,7 +224,7 @@ thread_none k f z h x m (Some w) e = hops_none (sight k).ground x.thread.number 
 threads_none : (k : Cluster) (f : ℕ → Option Location → Option Value → ℕ) → Weightless k f → HavePassed (sight k) → tot (over_passed (sight k) f) (sight k).ground.threads ≡ 0
 threads_none k f z h = none_all (over_passed (sight k) f) (sight k).ground.threads (λ x m. thread_none k f z h x m (written_place (path (sight k) x)) refl)
 
-none_counted : (k : Cluster) → HavePassed (sight k) → passed_wrong (sight k) + passed_boxes_wrong (sight k) + passed_references_wrong (sight k) ≡ 0
+none_counted : (k : Cluster) → HavePassed (sight k) → passed_wrong (sight k) + passed_boxes_wrong (sight k) + passed_stale_wrong (sight k) ≡ 0
 none_counted k h =
     omega (arith, threads_none k (away (sight k)) (not_away k) h, threads_none k (copied_box (sight k)) (not_copied k) h, threads_none k (stale_hop (sight k)) (not_stale_hop k) h)
 

@@ -1,25 +1,26 @@
 -- A walk waits in turn exactly where nothing is counted.
-use Rattle.std.proofs.Common.{◌≡◌, ◌⊎◌, inl, inr, ⊎_elim, ℕ, zero, suc, ◌<◌, Bool, true, false, ◌||◌, if◌then◌else◌, List, [], ◌∷◌, ◌++◌, Option, Some, None, refl, sym, ap, subst, ◌∙◌, arith}
+use Rattle.std.proofs.Common.{◌≡◌, ◌⊎◌, inl, inr, ℕ, zero, suc, ◌<◌, ◌≤◌, Bool, true, false, ◌&&◌, if◌then◌else◌, List, [], ◌∷◌, ◌++◌, Option, Some, None, refl, sym, ap, subst, ◌∙◌, arith}
 use Rattle.std.specs.Prelude.{◌==◌, nat_lt}
 use Rattle.std.proofs.lemmas.Bool.Decides.{nat_tests}
 use Rattle.std.proofs.lemmas.List.{append-nil, append_assoc}
 use Rattle.fr_base.specs.declared.place.Lval.{Lval}
+use Rattle.fr_typing.proofs.PlaceLemmas.{eq_cases}
+use Rattle.mut_borrow.specs.declared.mutable.MutRef.{MutRef}
 use Rattle.heap_partition.specs.declared.value.Owned.TheVariants as owned
 use Rattle.thread_state.specs.declared.phase.Phase.{Phase}
 use Rattle.thread_state.specs.declared.phase.Phase.TheVariants as phase
 use Rattle.thread_state.specs.declared.value.Value.{Value}
 use Rattle.thread_state.specs.declared.value.Value.TheVariants as value
-use Rattle.heap_law.specs.Names.{other, Among}
+use Rattle.heap_law.specs.Names.{tot, some, other, Among}
 use Rattle.heap_law.specs.Things.{Location}
 use Rattle.heap_law.specs.Follow.{Standing, Ground, value_in, value_behind, locate, hop_at, hops}
 use Rattle.heap_law.specs.Sight.{Sight}
 use Rattle.heap_law.specs.Paths.{Path, no_path, reads, shares, lends, writes, ends, Awaited, is_spent, to_read, to_write, to_clean, all_to, borrow_to, awaited, is_readable, first_unreadable}
-use Rattle.heap_law.specs.Walking.{path, words_kept, is_awaited, is_hop_word, is_next_hop, waits_in_turn, out_of_turn, turn_wrong}
-use Rattle.heap_law.specs.Turn.{IsAsked, AwaitsAt, read_at, before_share, at_share, before_lend, at_lend, FirstUnread, NextHop, InTurn, nothing, by_read, by_share, by_lend, by_write, by_end, by_holder, WaitInTurn, TurnLaw}
+use Rattle.heap_law.specs.Walking.{path, words_kept, first_of, next_hop, in_turn, asked_for, not_asked, out_of_turn, turn_wrong}
+use Rattle.heap_law.specs.Turn.{IsAsked, AwaitsAt, read_at, before_share, at_share, before_lend, at_lend, FirstUnread, NextHop, InTurn, by_read, by_share, by_lend, by_write, by_end, by_holder, WaitsFor, WaitInTurn, TurnLaw}
 use Rattle.heap_law.proofs.Names.{and_left, and_right, same_number}
 use Rattle.heap_law.proofs.Words.{none_at, none_all}
 use Rattle.heap_law.proofs.Passing.{located, one_more, at_hop}
-use Rattle.heap_law.proofs.StaleRounds.{or_split, or_left, or_right}
 
 -- WHAT IS WAITED FOR, IN ORDER
 
@@ -234,28 +235,26 @@ module _ (s : Sight) (x : Standing) (w : Lval) where
   read_within : (i : ℕ) (a : Awaited) → AwaitsAt s x (reads w) i a → i < w.depth
   read_within _ _ (read_at _ i a l q) = l
 
-  reads_first : (v : ℕ) (a : Awaited) → first_unreadable (words_kept x.thread) x.server (awaited s.options.colours s.ground x.thread.number (reads w)) ≡ Some a → a.word ≡ v → FirstUnread s x (reads w) v
-  reads_first v a e q =
+  reads_first : (a : Awaited) → first_unreadable (words_kept x.thread) x.server (awaited s.options.colours s.ground x.thread.number (reads w)) ≡ Some a → FirstUnread s x (reads w) a
+  reads_first a e =
       let p = first_at (words_kept x.thread) x.server w.depth read_list a (ap (first_unreadable (words_kept x.thread) x.server) (sym (all_collected (to_read s.options.colours) s.ground x.thread.number w w.depth)) ∙ e) in
       record {
         number = p.number;
-        awaited = a;
         at = read_at w p.number a p.within (asked_from s x w (to_read s.options.colours) (reads_ask s.options.colours) p.number a p.among);
-        word = q;
         unread = p.unread;
         before = λ j b l h. p.before j l b (read_back j b h);
       }
 
-  reads_told : (v : ℕ) → (u : FirstUnread s x (reads w) v) → first_unreadable (words_kept x.thread) x.server (awaited s.options.colours s.ground x.thread.number (reads w)) ≡ Some u.awaited
-  reads_told v u =
+  reads_told : (a : Awaited) (u : FirstUnread s x (reads w) a) → first_unreadable (words_kept x.thread) x.server (awaited s.options.colours s.ground x.thread.number (reads w)) ≡ Some a
+  reads_told a u =
       ap (first_unreadable (words_kept x.thread) x.server) (all_collected (to_read s.options.colours) s.ground x.thread.number w w.depth)
-      ∙ first_told (words_kept x.thread) x.server w.depth read_list u.awaited
+      ∙ first_told (words_kept x.thread) x.server w.depth read_list a
       (record {
         number = u.number;
-        within = read_within u.number u.awaited u.at;
-        among = read_back u.number u.awaited u.at;
+        within = read_within u.number a u.at;
+        among = read_back u.number a u.at;
         unread = u.unread;
-        before = λ j l b m. u.before j b l (read_at w j b (let k = read_within u.number u.awaited u.at in omega (arith, k, l)) (asked_from s x w (to_read s.options.colours) (reads_ask s.options.colours) j b m));
+        before = λ j l b m. u.before j b l (read_at w j b (let k = read_within u.number a u.at in omega (arith, k, l)) (asked_from s x w (to_read s.options.colours) (reads_ask s.options.colours) j b m));
       })
       (λ b m. read_one s.options.colours (hop_at s.ground x.thread.number w u.number) b m)
 
@@ -323,39 +322,37 @@ module _ (s : Sight) (x : Standing) (w : Lval) (f : Option Value → List Awaite
   no_stars i a d (inl q) = let l = q.0 in omega (arith, l, d)
   no_stars i a d (inr q) = let l = q.0 in omega (arith, l, d)
 
-  borrow_first_by : (v : ℕ) (a : Awaited) (m : ℕ) → w.depth ≡ m → first_unreadable (words_kept x.thread) x.server (borrow_to s.options.colours f (hops s.ground x.thread.number w m)) ≡ Some a → a.word ≡ v → FirstUnread s x p v
-  borrow_first_by v a zero d e q = absurd (cc e)
-  borrow_first_by v a (suc n) d e q =
+  borrow_first_by : (a : Awaited) (m : ℕ) → w.depth ≡ m → first_unreadable (words_kept x.thread) x.server (borrow_to s.options.colours f (hops s.ground x.thread.number w m)) ≡ Some a → FirstUnread s x p a
+  borrow_first_by a zero d e = absurd (cc e)
+  borrow_first_by a (suc n) d e =
       let y = first_at (words_kept x.thread) x.server (suc n) (borrow_list n) a (ap (first_unreadable (words_kept x.thread) x.server) (sym (joined n)) ∙ e) in
       record {
         number = y.number;
-        awaited = a;
         at = from_list_by n y.number a d y.within (y.number == n) refl y.among;
-        word = q;
         unread = y.unread;
         before = λ j b l h. y.before j l b (listed_by n j b d (told j b h));
       }
 
-  borrow_first : (v : ℕ) (a : Awaited) → first_unreadable (words_kept x.thread) x.server (borrow_to s.options.colours f (hops s.ground x.thread.number w w.depth)) ≡ Some a → a.word ≡ v → FirstUnread s x p v
-  borrow_first v a e q = borrow_first_by v a w.depth refl e q
+  borrow_first : (a : Awaited) → first_unreadable (words_kept x.thread) x.server (borrow_to s.options.colours f (hops s.ground x.thread.number w w.depth)) ≡ Some a → FirstUnread s x p a
+  borrow_first a e = borrow_first_by a w.depth refl e
 
-  borrow_told_by : (v : ℕ) (u : FirstUnread s x p v) (m : ℕ) → w.depth ≡ m → first_unreadable (words_kept x.thread) x.server (borrow_to s.options.colours f (hops s.ground x.thread.number w m)) ≡ Some u.awaited
-  borrow_told_by v u zero d = absurd (no_stars u.number u.awaited d (told u.number u.awaited u.at))
-  borrow_told_by v u (suc n) d =
-      let within : u.number < suc n = within_by n u.number u.awaited d (told u.number u.awaited u.at) in
+  borrow_told_by : (a : Awaited) (u : FirstUnread s x p a) (m : ℕ) → w.depth ≡ m → first_unreadable (words_kept x.thread) x.server (borrow_to s.options.colours f (hops s.ground x.thread.number w m)) ≡ Some a
+  borrow_told_by a u zero d = absurd (no_stars u.number a d (told u.number a u.at))
+  borrow_told_by a u (suc n) d =
+      let within : u.number < suc n = within_by n u.number a d (told u.number a u.at) in
       ap (first_unreadable (words_kept x.thread) x.server) (joined n)
-      ∙ first_told (words_kept x.thread) x.server (suc n) (borrow_list n) u.awaited
+      ∙ first_told (words_kept x.thread) x.server (suc n) (borrow_list n) a
       (record {
         number = u.number;
         within = within;
-        among = listed_by n u.number u.awaited d (told u.number u.awaited u.at);
+        among = listed_by n u.number a d (told u.number a u.at);
         unread = u.unread;
         before = λ j l b m. u.before j b l (from_list_by n j b d (omega (arith, l, within)) (j == n) refl m);
       })
       (λ b m. one_by (u.number == n) u.number b m)
 
-  borrow_told : (v : ℕ) (u : FirstUnread s x p v) → first_unreadable (words_kept x.thread) x.server (borrow_to s.options.colours f (hops s.ground x.thread.number w w.depth)) ≡ Some u.awaited
-  borrow_told v u = borrow_told_by v u w.depth refl
+  borrow_told : (a : Awaited) (u : FirstUnread s x p a) → first_unreadable (words_kept x.thread) x.server (borrow_to s.options.colours f (hops s.ground x.thread.number w w.depth)) ≡ Some a
+  borrow_told a u = borrow_told_by a u w.depth refl
 
 share_made : (s : Sight) (x : Standing) (w : Lval) (i : ℕ) (a : Awaited) → Borrowed s x w (to_clean s.options.colours) i a → AwaitsAt s x (shares w) i a
 share_made s x w i a (inl q) = before_share w i a q.0 q.1
@@ -375,83 +372,102 @@ lend_back s x w _ _ (at_lend _ i a l q) = inr (l, q)
 
 -- WRITES AND ENDS
 
-other_so : (q : Bool) → other q ≡ 0 → q ≡ true
-other_so true z = refl
-other_so false z = absurd (cc z)
+first_is : (xs : List Awaited) (a : Awaited) → first_of xs ≡ Some a → Among a xs
+first_is [] a e = absurd (cc e)
+first_is (x ∷ xs) a e = let s : x ≡ a = cc e in inl s
 
-so_none : (q : Bool) → q ≡ true → other q ≡ 0
-so_none true e = refl
-so_none false e = absurd (cc e)
+told_first : (xs : List Awaited) (a : Awaited) → xs ≡ a ∷ [] → first_of xs ≡ Some a
+told_first xs a e = ap first_of e
 
-next_value : (s : Sight) (x : Standing) (w : ℕ) (p : Lval) (l : Location) → x.thread.passed < p.depth → locate s.ground x.thread.number p.slot x.thread.passed ≡ Some l → (v : Option Value) → value_in s.ground l ≡ v → is_hop_word w v ≡ true → NextHop s x w p
-next_value s x w p l b at None e h = absurd (cc h)
-next_value s x w p l b at (Some v) e h = record { location = l; value = v; within = b; hop = record { path = located s.ground x.thread.number p.slot x.thread.passed l at; stands = e }; word = h }
+module _ (s : Sight) (x : Standing) (w : Lval) (a : Awaited) where
+  next_by : (q : Bool) → nat_lt x.thread.passed w.depth ≡ q → (if q then first_of (to_write (hop_at s.ground x.thread.number w x.thread.passed)) else None) ≡ Some a → NextHop s x w a
+  next_by true e h =
+      record { within = grind (arith, nat_tests, e); asked = asked_from s x w to_write writes_ask x.thread.passed a (first_is (to_write (hop_at s.ground x.thread.number w x.thread.passed)) a h) }
+  next_by false e h = absurd (cc h)
 
-next_by : (s : Sight) (x : Standing) (w : ℕ) (p : Lval) → x.thread.passed < p.depth → (o : Option Location) → locate s.ground x.thread.number p.slot x.thread.passed ≡ o → is_hop_word w (value_behind s.ground o) ≡ true → NextHop s x w p
-next_by s x w p b None at h = absurd (cc h)
-next_by s x w p b (Some l) at h = next_value s x w p l b at (value_in s.ground l) refl h
+  next_from : next_hop s x w ≡ Some a → NextHop s x w a
+  next_from e = next_by (nat_lt x.thread.passed w.depth) refl e
 
-next_hop : (s : Sight) (x : Standing) (w : ℕ) (p : Lval) → is_next_hop s x w p ≡ true → NextHop s x w p
-next_hop s x w p e =
-    let low : nat_lt x.thread.passed p.depth ≡ true = and_left (nat_lt x.thread.passed p.depth) (is_hop_word w (hop_at s.ground x.thread.number p x.thread.passed)) e in
-    next_by s x w p (grind (arith, nat_tests, low)) (locate s.ground x.thread.number p.slot x.thread.passed) refl (and_right (nat_lt x.thread.passed p.depth) (is_hop_word w (hop_at s.ground x.thread.number p x.thread.passed)) e)
-
-hop_next : (s : Sight) (x : Standing) (w : ℕ) (p : Lval) → NextHop s x w p → is_next_hop s x w p ≡ true
-hop_next s x w p n =
-    let l = n.within in
-    let low : nat_lt x.thread.passed p.depth ≡ true = grind (arith, nat_tests, l) in
-    let word : is_hop_word w (hop_at s.ground x.thread.number p x.thread.passed) ≡ true =
-    subst (λ v. is_hop_word w v ≡ true) (sym (at_hop s.ground x.thread.number p.slot x.thread.passed n.location n.value n.hop)) n.word in
-    rw low word
+  next_told : NextHop s x w a → next_hop s x w ≡ Some a
+  next_told n =
+      let l = n.within in
+      let low : nat_lt x.thread.passed w.depth ≡ true = grind (arith, nat_tests, l) in
+      let one : to_write (hop_at s.ground x.thread.number w x.thread.passed) ≡ a ∷ [] = writes_ask.one (hop_at s.ground x.thread.number w x.thread.passed) a (asked_here s x w to_write x.thread.passed a n.asked) in
+      rw low (told_first (to_write (hop_at s.ground x.thread.number w x.thread.passed)) a one)
 
 -- ALL PATHS
 
-first_is : (w : ℕ) (o : Option Awaited) → is_awaited w o ≡ true → (a : Awaited) × (o ≡ Some a) × (a.word ≡ w)
-first_is w None e = absurd (cc e)
-first_is w (Some a) e = (a, refl, same_number a.word w e)
+module _ (s : Sight) (x : Standing) (w : ℕ) (a : Awaited) where
+  end_by : (r : MutRef) (q : Bool) → (r.word == w) ≡ q → (if q then first_of (to_write (Some (value.Mut r))) else next_hop s x r.holder) ≡ Some a → InTurn s x w a (ends r)
+  end_by r true e h = by_end r (same_number r.word w e) (first_is (to_write (Some (value.Mut r))) a h)
+  end_by r false e h = by_holder r (λ same. let t : (r.word == w) ≡ true = grind (arith, nat_tests, same) in let z : true ≡ false = sym t ∙ e in absurd (cc z)) (next_from s x r.holder a h)
 
-awaited_none : (w : ℕ) (o : Option Awaited) (a : Awaited) → o ≡ Some a → a.word ≡ w → other (is_awaited w o) ≡ 0
-awaited_none w o a e q = let t : (a.word == w) ≡ true = grind (arith, nat_tests, q) in rw e (rw t refl)
+  turn_from : (p : Path) → in_turn s x w p ≡ Some a → InTurn s x w a p
+  turn_from no_path e = absurd (cc e)
+  turn_from (reads p) e = by_read p (reads_first s x p a e)
+  turn_from (shares p) e = by_share p (borrow_first s x p (to_clean s.options.colours) (cleans_ask s.options.colours) (shares p) (share_made s x p) (share_back s x p) a e)
+  turn_from (lends p) e = by_lend p (borrow_first s x p to_write writes_ask (lends p) (lend_made s x p) (lend_back s x p) a e)
+  turn_from (writes p) e = by_write p (next_from s x p a e)
+  turn_from (ends r) e = end_by r (r.word == w) refl e
 
-module _ (s : Sight) (x : Standing) (w : ℕ) where
-  abbrev first_of_path : Path → Option Awaited
-  first_of_path p = first_unreadable (words_kept x.thread) x.server (awaited s.options.colours s.ground x.thread.number p)
+  turn_told : (p : Path) → InTurn s x w a p → in_turn s x w p ≡ Some a
+  turn_told _ (by_read p u) = reads_told s x p a u
+  turn_told _ (by_share p u) = borrow_told s x p (to_clean s.options.colours) (cleans_ask s.options.colours) (shares p) (share_made s x p) (share_back s x p) a u
+  turn_told _ (by_lend p u) = borrow_told s x p to_write writes_ask (lends p) (lend_made s x p) (lend_back s x p) a u
+  turn_told _ (by_write p n) = next_told s x p a n
+  turn_told _ (by_end r e m) =
+      let t : (r.word == w) ≡ true = grind (arith, nat_tests, e) in
+      rw t (told_first (to_write (Some (value.Mut r))) a (writes_ask.one (Some (value.Mut r)) a m))
+  turn_told _ (by_holder r n h) =
+      let t : (r.word == w) ≡ false = eq_cases (λ b. b ≡ false) r.word w (λ e. absurd (n e)) (λ e. refl) in
+      rw t (next_told s x r.holder a h)
 
-  in_turn : (p : Path) → waits_in_turn s x w p ≡ 0 → InTurn s x w p
-  in_turn no_path z = nothing
-  in_turn (reads p) z = let y = first_is w (first_of_path (reads p)) (other_so (is_awaited w (first_of_path (reads p))) z) in by_read p (reads_first s x p w y.0 y.1 y.2)
-  in_turn (shares p) z =
-      let y = first_is w (first_of_path (shares p)) (other_so (is_awaited w (first_of_path (shares p))) z) in
-      by_share p (borrow_first s x p (to_clean s.options.colours) (cleans_ask s.options.colours) (shares p) (share_made s x p) (share_back s x p) w y.0 y.1 y.2)
-  in_turn (lends p) z =
-      let y = first_is w (first_of_path (lends p)) (other_so (is_awaited w (first_of_path (lends p))) z) in
-      by_lend p (borrow_first s x p to_write writes_ask (lends p) (lend_made s x p) (lend_back s x p) w y.0 y.1 y.2)
-  in_turn (writes p) z = by_write p (next_hop s x w p (other_so (is_next_hop s x w p) z))
-  in_turn (ends r) z =
-      ⊎_elim (λ (e : (r.word == w) ≡ true). by_end r (same_number r.word w e)) (λ (e : is_next_hop s x w r.holder ≡ true). by_holder r (next_hop s x w r.holder e))
-      (or_split (r.word == w) (is_next_hop s x w r.holder) (other_so (r.word == w || is_next_hop s x w r.holder) z))
+-- THE SENTENCE
 
-  turn_none : (p : Path) → InTurn s x w p → waits_in_turn s x w p ≡ 0
-  turn_none _ nothing = refl
-  turn_none _ (by_read p u) = awaited_none w (first_of_path (reads p)) u.awaited (reads_told s x p w u) u.word
-  turn_none _ (by_share p u) =
-      awaited_none w (first_of_path (shares p)) u.awaited (borrow_told s x p (to_clean s.options.colours) (cleans_ask s.options.colours) (shares p) (share_made s x p) (share_back s x p) w u) u.word
-  turn_none _ (by_lend p u) = awaited_none w (first_of_path (lends p)) u.awaited (borrow_told s x p to_write writes_ask (lends p) (lend_made s x p) (lend_back s x p) w u) u.word
-  turn_none _ (by_write p n) = so_none (is_next_hop s x w p) (hop_next s x w p n)
-  turn_none _ (by_end r e) = let t : (r.word == w) ≡ true = grind (arith, nat_tests, e) in so_none (r.word == w || is_next_hop s x w r.holder) (or_left (r.word == w) (is_next_hop s x w r.holder) t)
-  turn_none _ (by_holder r n) = so_none (r.word == w || is_next_hop s x w r.holder) (or_right (r.word == w) (is_next_hop s x w r.holder) (hop_next s x w r.holder n))
+some_one : (n : ℕ) → some n ≡ true → 1 ≤ n
+some_one zero e = absurd (cc e)
+some_one (suc n) e = omega arith
+
+one_some : (n : ℕ) → 1 ≤ n → some n ≡ true
+one_some zero l = absurd (omega (arith, l))
+one_some (suc n) l = refl
+
+is_so : (q : Bool) → other q ≡ 0 → q ≡ true
+is_so true z = refl
+is_so false z = absurd (cc z)
+
+waits_by : (s : Sight) (x : Standing) (w : ℕ) (o : Option Awaited) → in_turn s x w (path s x) ≡ o → not_asked s x w o ≡ 0 → WaitsFor s x w
+waits_by s x w None e z = absurd (cc z)
+waits_by s x w (Some a) e z =
+    let n = tot (asked_for x.thread.number a) s.things in
+    let both = is_so (a.word == w && some n) z in
+    record {
+      awaited = a;
+      turn = turn_from s x w a (path s x) e;
+      word = same_number a.word w (and_left (a.word == w) (some n) both);
+      asked = some_one n (and_right (a.word == w) (some n) both);
+    }
 
 from_count : (s : Sight) → turn_wrong s ≡ 0 → WaitInTurn s
 from_count s z x w m e =
     let here : out_of_turn s x x.thread.phase ≡ 0 = none_at (λ (y : Standing). out_of_turn s y y.thread.phase) x s.ground.threads z m in
-    in_turn s x w (path s x) (subst (λ f. out_of_turn s x f ≡ 0) e here)
+    waits_by s x w (in_turn s x w (path s x)) refl (subst (λ f. out_of_turn s x f ≡ 0) e here)
 
-phase_none : (s : Sight) (x : Standing) (f : Phase) → ((w : ℕ) → f ≡ phase.WaitCell w → InTurn s x w (path s x)) → out_of_turn s x f ≡ 0
-phase_none s x (phase.WaitCell w) h = turn_none s x w (path s x) (h w refl)
+none_asked : (s : Sight) (x : Standing) (w : ℕ) → WaitsFor s x w → not_asked s x w (in_turn s x w (path s x)) ≡ 0
+none_asked s x w h =
+    let told : in_turn s x w (path s x) ≡ Some h.awaited = turn_told s x w h.awaited (path s x) h.turn in
+    let same = h.word in
+    let word : (h.awaited.word == w) ≡ true = grind (arith, nat_tests, same) in
+    let asked : some (tot (asked_for x.thread.number h.awaited) s.things) ≡ true = one_some (tot (asked_for x.thread.number h.awaited) s.things) h.asked in
+    let so : not_asked s x w (Some h.awaited) ≡ 0 = rw word (rw asked refl) in
+    subst (λ o. not_asked s x w o ≡ 0) (sym told) so
+
+phase_none : (s : Sight) (x : Standing) (f : Phase) → ((w : ℕ) → f ≡ phase.WaitCell w → WaitsFor s x w) → out_of_turn s x f ≡ 0
+phase_none s x (phase.WaitCell w) h = none_asked s x w (h w refl)
 phase_none s x _ h = refl
 
 none_counted : (s : Sight) → WaitInTurn s → turn_wrong s ≡ 0
 none_counted s h = none_all (λ (y : Standing). out_of_turn s y y.thread.phase) s.ground.threads (λ x m. phase_none s x x.thread.phase (λ w e. h x w m e))
 
 pub turn_law : TurnLaw
-turn_law = record { from_count = from_count; none_counted = none_counted }
+turn_law = record { from_count = from_count; none_counted = none_counted; told = λ s x w a h. turn_told s x w a (path s x) h }

@@ -8,12 +8,12 @@ use Rattle.heap_law.specs.Sight.{sight}
 use Rattle.heap_law.specs.Weights.{cells, owners, objects, states, below, addresses, uses_of, users_of, kept_words, is_home_of, shares_of, shares_at_home, shared_mutexes, tasks_of, is_thread, numbers}
 use Rattle.heap_law.specs.Requests.{halves_to, halves_needed, answered_threads, pair_notes, pair_places, branches}
 use Rattle.heap_law.specs.Sharing.{contents, held_mutexes, going_notes, goes_on, started_threads, tasks, owed, owed_threads, results, has_ended, resulting}
-use Rattle.heap_law.specs.Coherent.{Sentence, home_of_each, owner_of_each, are_issued, below_limit, same_word, lead_home, one_state, first_at_holder, different_words, dirty_alone, copies_agree, served_are_clean, passed_lie_here, passed_not_copied, passed_not_stale, passed_in_a_walk, passed_within, walk_empty, join_walks_nothing, parcels_ready, place_followed, waits_in_turn, asks_others, users_counted, one_answer, carry_what_is_asked, go_right, return_right, askers_stand, phases_stand, par_ends, pairs_noted, pairs_go_on, cells_awaited, taken_stands, taken_is_new, gifts_got, gifts_fit, named_are_there, at_their_home, one_content, marks_in_slots, shares_counted, queue_while_out, content_without_shares, thread_homes, noted_go_on, noted_at_home, one_task_value, task_values_owed, one_result, pairs_unnamed, over_are_bare, none_owns_itself, parents_end, branches_give_unit, numbers_differ, objects_made, names_counted, counts_from_one, few_names, counts_bounded, parts_are_typed, options_in_range, holders_short, breaches_in, Holds, OneHome, OneOwner, Words, Copies, Walks, Users, Requests, MutexesAndTasks, Rooted, Names, Parts, IsSound, one_home_sentences, one_owner_sentences, words_sentences, copies_sentences, walks_sentences, users_sentences, requests_sentences, mutexes_and_tasks_sentences, rooted_sentences, names_sentences, parts_sentences, if_broken, broken_among, all_sentences}
+use Rattle.heap_law.specs.Coherent.{Sentence, home_of_each, owner_of_each, are_issued, below_limit, same_word, lead_home, one_state, first_at_holder, different_words, dirty_alone, copies_agree, served_are_clean, passed_lie_here, passed_not_copied, passed_not_stale, passed_in_a_walk, passed_within, walk_empty, join_walks_nothing, parcels_ready, place_followed, waits_in_turn, asks_others, users_counted, one_answer, carry_what_is_asked, go_right, return_right, askers_stand, objects_there, phases_stand, par_ends, pairs_noted, pairs_go_on, taken_stands, taken_is_new, gifts_got, gifts_fit, named_are_there, at_their_home, one_content, marks_in_slots, shares_counted, queue_while_out, content_without_shares, thread_homes, noted_go_on, noted_at_home, one_task_value, task_values_owed, one_result, pairs_unnamed, over_are_bare, none_owns_itself, parents_end, branches_give_unit, numbers_differ, objects_made, names_counted, counts_from_one, few_names, counts_bounded, parts_are_typed, options_in_range, holders_short, breaches_in, Holds, OneHome, OneOwner, Words, Copies, Walks, Users, Requests, MutexesAndTasks, Rooted, Names, Parts, IsSound, one_home_sentences, one_owner_sentences, words_sentences, copies_sentences, walks_sentences, users_sentences, requests_sentences, mutexes_and_tasks_sentences, rooted_sentences, names_sentences, parts_sentences, if_broken, broken_among, all_sentences}
 use Rattle.heap_law.specs.Rooted.{ownings, parents}
 use Rattle.heap_law.specs.Laws.{SoundLaw}
 use Rattle.heap_law.specs.Placing.{same_word_wrong, homeward_wrong}
 use Rattle.heap_law.proofs.Names.{left_none, right_none}
-use Rattle.heap_law.specs.Walking.{passed_wrong, passed_boxes_wrong, passed_references_wrong}
+use Rattle.heap_law.specs.Walking.{passed_wrong, passed_boxes_wrong, passed_stale_wrong}
 use Rattle.heap_law.proofs.Words.{words_law}
 use Rattle.heap_law.proofs.Dirty.{dirty_law}
 use Rattle.heap_law.proofs.Passing.{passed_law}
@@ -106,11 +106,11 @@ requests_from k p = record {
   go_right = p.1.1.0;
   return_right = p.1.1.1.0;
   askers_stand = p.1.1.1.1.0;
-  phases_stand = p.1.1.1.1.1.0;
-  par_ends = p.1.1.1.1.1.1.0;
-  pairs_noted = agree_from pair_notes pair_places branches notes_seen places_seen (things_of k) p.1.1.1.1.1.1.1.0;
-  pairs_go_on = p.1.1.1.1.1.1.1.1.0;
-  cells_awaited = p.1.1.1.1.1.1.1.1.1.0;
+  objects_there = p.1.1.1.1.1.0;
+  phases_stand = p.1.1.1.1.1.1.0;
+  par_ends = p.1.1.1.1.1.1.1.0;
+  pairs_noted = agree_from pair_notes pair_places branches notes_seen places_seen (things_of k) p.1.1.1.1.1.1.1.1.0;
+  pairs_go_on = p.1.1.1.1.1.1.1.1.1.0;
   taken_stands = p.1.1.1.1.1.1.1.1.1.1.0;
   taken_is_new = p.1.1.1.1.1.1.1.1.1.1.1.0;
   gifts_got = p.1.1.1.1.1.1.1.1.1.1.1.1.0;
@@ -176,10 +176,10 @@ holds k s dirty_alone = dirty_law.none_counted k s.words.dirty_alone
 holds k s copies_agree = s.copies.copies_agree
 holds k s served_are_clean = s.copies.served_are_clean
 holds k s passed_lie_here =
-    left_none (passed_wrong (sight k)) (passed_boxes_wrong (sight k)) (left_none (passed_wrong (sight k) + passed_boxes_wrong (sight k)) (passed_references_wrong (sight k)) (passed_law.none_counted k s.walks.have_passed))
+    left_none (passed_wrong (sight k)) (passed_boxes_wrong (sight k)) (left_none (passed_wrong (sight k) + passed_boxes_wrong (sight k)) (passed_stale_wrong (sight k)) (passed_law.none_counted k s.walks.have_passed))
 holds k s passed_not_copied =
-    right_none (passed_wrong (sight k)) (passed_boxes_wrong (sight k)) (left_none (passed_wrong (sight k) + passed_boxes_wrong (sight k)) (passed_references_wrong (sight k)) (passed_law.none_counted k s.walks.have_passed))
-holds k s passed_not_stale = right_none (passed_wrong (sight k) + passed_boxes_wrong (sight k)) (passed_references_wrong (sight k)) (passed_law.none_counted k s.walks.have_passed)
+    right_none (passed_wrong (sight k)) (passed_boxes_wrong (sight k)) (left_none (passed_wrong (sight k) + passed_boxes_wrong (sight k)) (passed_stale_wrong (sight k)) (passed_law.none_counted k s.walks.have_passed))
+holds k s passed_not_stale = right_none (passed_wrong (sight k) + passed_boxes_wrong (sight k)) (passed_stale_wrong (sight k)) (passed_law.none_counted k s.walks.have_passed)
 holds k s passed_in_a_walk = s.walks.passed_in_a_walk
 holds k s passed_within = s.walks.passed_within
 holds k s walk_empty = s.walks.walk_empty
@@ -194,11 +194,11 @@ holds k s carry_what_is_asked = s.requests.carry_what_is_asked
 holds k s go_right = s.requests.go_right
 holds k s return_right = s.requests.return_right
 holds k s askers_stand = s.requests.askers_stand
+holds k s objects_there = s.requests.objects_there
 holds k s phases_stand = s.requests.phases_stand
 holds k s par_ends = s.requests.par_ends
 holds k s pairs_noted = agree_none pair_notes pair_places branches branches_quiet (things_of k) s.requests.pairs_noted
 holds k s pairs_go_on = s.requests.pairs_go_on
-holds k s cells_awaited = s.requests.cells_awaited
 holds k s taken_stands = s.requests.taken_stands
 holds k s taken_is_new = s.requests.taken_is_new
 holds k s gifts_got = s.requests.gifts_got

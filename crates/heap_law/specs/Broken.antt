@@ -105,6 +105,8 @@ pub record MemoryBreaks : Type 0 where
   pub dirty_shared : Breaks dirty_alone (cluster (with_slot 3 (value.Shared (record { word = word_0; object = object 0; pinned = false }))) server_1)
   -- a clean reference made from a dirty one
   pub dirty_below : Breaks dirty_alone (cluster (with_slot 3 (value.Mut (record { word = word_0; first = word_0; object = object 0; dirty = false; holder = place 2 0 }))) server_1)
+  -- a reference made from the same box as a dirty one, with its word
+  pub dirty_beside : Breaks dirty_alone (cluster (with_slot 3 (value.Mut (record { word = word_0; first = word_0; object = object 0; dirty = false; holder = place 0 0 }))) server_1)
   -- a copy with an old value under the object's word
   pub old_copy : Breaks copies_agree (cluster server_0 (with_copies (copy_of word_1 1 (int 4) 0 ∷ copy_of word_3 3 (int 3) 1 ∷ [])))
   -- a copy is asked for while a dirty reference to the object is alive
@@ -119,6 +121,8 @@ pub record WalksBreak : Type 0 where
   pub passed_copied : Breaks passed_not_copied (of_busy (writing_here (passed_writer 0 1)) (without_fetcher (copy_of at_2 2 (box at_4 4) 1 ∷ copy_of at_3 3 (int 6) 0 ∷ [])))
   -- a reference that is passed is stale
   pub passed_stale : Breaks passed_not_stale (of_busy (writing_here (record (passed_writer 8 1) { slots = value.Own (box at_3 3) ∷ value.Mut (reference at_3 3 false 0) ∷ value.Mut (reference at_3 3 true 1) ∷ [] })) (without_fetcher busy_1.rest.cache))
+  -- a box that is passed is stale
+  pub passed_stale_box : Breaks passed_not_stale (of_busy (writing_here (record (passed_writer 0 1) { slots = value.Own (box at_3 3) ∷ value.Mut (reference at_3 3 true 0) ∷ [] })) (without_fetcher busy_1.rest.cache))
   -- a thread that is ready has passed a hop
   pub passed_ready : Breaks passed_in_a_walk (of_busy (writing_here (record (passed_writer 0 1) { phase = phase.Ready })) (without_fetcher busy_1.rest.cache))
   -- a read has passed a hop

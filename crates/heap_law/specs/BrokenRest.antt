@@ -12,7 +12,7 @@ use Rattle.join_home.specs.Tasks.{Task, going, let_go, kept, asked, in_pair}
 use Rattle.server_msgs.specs.declared.message.Message.{Message}
 use Rattle.server_msgs.specs.declared.message.Message.TheVariants.{Fetch, Move, Moved, Drop, Dupped, Release, Finished}
 use Rattle.server_model.specs.Servers.{Server, Cluster}
-use Rattle.heap_law.specs.Coherent.{broken, one_answer, carry_what_is_asked, go_right, return_right, askers_stand, phases_stand, par_ends, pairs_noted, pairs_go_on, cells_awaited, taken_stands, taken_is_new, gifts_got, gifts_fit, named_are_there, at_their_home, one_content, shares_counted, queue_while_out, content_without_shares, thread_homes, noted_go_on, noted_at_home, one_task_value, task_values_owed, one_result, pairs_unnamed, marks_in_slots, over_are_bare, none_owns_itself, parents_end, branches_give_unit, numbers_differ, objects_made, names_counted, counts_from_one, few_names, counts_bounded, parts_are_typed, options_in_range, holders_short}
+use Rattle.heap_law.specs.Coherent.{broken, waits_in_turn, one_answer, carry_what_is_asked, go_right, return_right, askers_stand, objects_there, phases_stand, par_ends, pairs_noted, pairs_go_on, taken_stands, taken_is_new, gifts_got, gifts_fit, named_are_there, at_their_home, one_content, shares_counted, queue_while_out, content_without_shares, thread_homes, noted_go_on, noted_at_home, one_task_value, task_values_owed, one_result, pairs_unnamed, marks_in_slots, over_are_bare, none_owns_itself, parents_end, branches_give_unit, numbers_differ, objects_made, names_counted, counts_from_one, few_names, counts_bounded, parts_are_typed, options_in_range, holders_short}
 use Rattle.heap_law.specs.Clusters.{place, thread_no, object, int, cell, box, the_mutex, word_1, word_2, word_3, main_waiting, locker, worker, copy_of, held_mutex, task, options, server_0, server_1, cluster, middle, relent_server, relent}
 use Rattle.heap_law.specs.Busy.{old_0, new_1, at_2, at_3, at_4, has_task, parent, writer, lender, viewer, ended, gifted, dupper, joined, fetcher, dropped, mover, shared_mutex, busy_partition, busy_notes, busy_0, busy_1, of_busy}
 use Rattle.heap_law.specs.Broken.{reference, Breaks}
@@ -65,13 +65,19 @@ pub record RequestsBreak : Type 0 where
   -- a queue place of a thread that is ready
   pub unasked : broken (cluster (record server_0 { rest = record server_0.rest { mutexes = record { home = 0; made = 1; there = record held_mutex { queue = (0, 0) ∷ (0, thread_no 1 1) ∷ [] } ∷ [] } } }) server_1) ≡ one_answer ∷ carry_what_is_asked ∷ []
   -- a request for another object
-  pub other_object : Breaks carry_what_is_asked (busy_inbox (Dupped the_mutex (thread_no 0 6) ∷ Fetch at_3 (object 2) 1 (thread_no 0 8) ∷ []))
+  pub other_object : broken (busy_inbox (Dupped the_mutex (thread_no 0 6) ∷ Fetch at_3 (object 2) 1 (thread_no 0 8) ∷ [])) ≡ waits_in_turn ∷ objects_there ∷ []
   -- a `drop` that waits at another server
   pub misrouted : Breaks go_right (cluster (record server_0 { rest = record server_0.rest { inbox = [] } }) (record server_1 { rest = record server_1.rest { inbox = Drop word_2 (object 2) ∷ [] } }))
   -- an answer at another server than its thread
   pub astray : Breaks return_right (of_busy (record busy_0 { rest = record busy_0.rest { inbox = Fetch at_3 (object 3) 1 (thread_no 0 8) ∷ [] } }) (record busy_1 { rest = record busy_1.rest { inbox = busy_1.rest.inbox ++ Dupped the_mutex (thread_no 0 6) ∷ [] } }))
   -- an asker noted at another server than its own
   pub asker_away : Breaks askers_stand (cluster server_0 (record server_1 { rest = record server_1.rest { tasks = task (thread_no 1 1) (asked 0 (thread_no 0 3)) ∷ [] } }))
+  -- a copy is asked for of an object under way
+  pub asked_under_way : Breaks objects_there (of_busy (record busy_0 { rest = record busy_0.rest { inbox = Dupped the_mutex (thread_no 0 6) ∷ Fetch old_0 (object 0) 1 (thread_no 0 8) ∷ [] } })
+      (record busy_1 { threads = writer ∷ lender ∷ viewer ∷ gifted ∷ joined ∷ record fetcher { slots = value.Own (box at_3 3) ∷ value.Shared (record { word = old_0; object = object 0; pinned = false }) ∷ []; pc = 14; phase = phase.WaitCell old_0 } ∷ ended 1 2 ∷ [] }))
+  -- an object under way was dropped, and goes to a reference that was made from itself
+  pub dropped_under_way : Breaks objects_there (of_busy (record busy_0 { rest = record busy_0.rest { inbox = busy_0.rest.inbox ++ Drop old_0 (object 0) ∷ [] } })
+      (record busy_1 { threads = record writer { slots = value.Mut (reference old_0 0 false 0) ∷ [] } ∷ lender ∷ viewer ∷ gifted ∷ joined ∷ fetcher ∷ ended 1 2 ∷ [] }))
   -- a thread waits for a lock at a print
   pub no_lock : Breaks phases_stand (cluster (record server_0 { threads = record main_waiting { pc = 2 } ∷ locker ∷ worker ∷ [] }) server_1)
   -- a thread waits for its branches at its end
@@ -86,9 +92,9 @@ pub record RequestsBreak : Type 0 where
   pub both_over : Breaks pairs_go_on (of_busy (record busy_0 { rest = record busy_0.rest { tasks = slice_set busy_notes 2 (task (thread_no 0 3) (in_pair 0 true)) } })
       (record busy_1 { rest = record busy_1.rest { cache = copy_of at_2 2 (box at_4 4) 0 ∷ [] }; threads = writer ∷ lender ∷ ended 0 3 ∷ gifted ∷ joined ∷ fetcher ∷ ended 1 2 ∷ [] }))
   -- a read asks for the object itself
-  pub pulls_to_read : Breaks cells_awaited (busy_inbox (Dupped the_mutex (thread_no 0 6) ∷ Move at_3 (object 3) 1 (thread_no 0 8) ∷ []))
+  pub pulls_to_read : Breaks waits_in_turn (busy_inbox (Dupped the_mutex (thread_no 0 6) ∷ Move at_3 (object 3) 1 (thread_no 0 8) ∷ []))
   -- a read through a dirty reference asks for the object itself while colours are left
-  pub pulls_early : Breaks cells_awaited (of_busy (record busy_0 { rest = record busy_0.rest { inbox = Dupped the_mutex (thread_no 0 6) ∷ Move at_3 (object 3) 1 (thread_no 0 8) ∷ [] } })
+  pub pulls_early : Breaks waits_in_turn (of_busy (record busy_0 { rest = record busy_0.rest { inbox = Dupped the_mutex (thread_no 0 6) ∷ Move at_3 (object 3) 1 (thread_no 0 8) ∷ [] } })
       (record busy_1 { threads = writer ∷ lender ∷ viewer ∷ gifted ∷ joined ∷ record fetcher { pc = 14; slots = value.Own (box at_3 3) ∷ value.Mut (reference at_3 3 true 0) ∷ [] } ∷ ended 1 2 ∷ [] }))
   -- the object that was taken lies elsewhere
   pub taken_elsewhere : Breaks taken_stands (of_busy (busy_threads_0 (parent ∷ lender ∷ ended 0 4 ∷ dupper ∷ ended 1 1 ∷ dropped ∷ [])) (record busy_1 { threads = writer ∷ viewer ∷ gifted ∷ joined ∷ fetcher ∷ ended 1 2 ∷ [] }))

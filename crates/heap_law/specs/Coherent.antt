@@ -9,8 +9,8 @@ use Rattle.heap_law.specs.Things.{things_of}
 use Rattle.heap_law.specs.Balances.{Agree, AtMost, AtMostOne}
 use Rattle.heap_law.specs.Weights.{cells, owners, states, below, uses_of, users_of, is_home_of, shares_of, shares_at_home, tasks_of, is_thread}
 use Rattle.heap_law.specs.Placing.{homes_wrong, owners_wrong, issued_wrong, colours_wrong, same_word_wrong, homeward_wrong, states_wrong, first_wrong, different_words_wrong, dirty_wrong, copies_wrong, served_wrong}
-use Rattle.heap_law.specs.Walking.{passed_wrong, passed_boxes_wrong, passed_references_wrong, passed_phase_wrong, passed_count_wrong, walk_phase_wrong, join_walk_wrong, parcels_wrong, followed_wrong, turn_wrong, own_requests_wrong, users_wrong}
-use Rattle.heap_law.specs.Requests.{halves_to, halves_needed, pair_notes, pair_places, answers_wrong, carried_wrong, routes_wrong, returns_wrong, askers_wrong, phases_wrong, par_ends_wrong, pairs_wrong, waited_pairs_wrong, cells_wrong, taken_wrong, taken_words_wrong, gift_phases_wrong, gifts_wrong}
+use Rattle.heap_law.specs.Walking.{passed_wrong, passed_boxes_wrong, passed_stale_wrong, passed_phase_wrong, passed_count_wrong, walk_phase_wrong, join_walk_wrong, parcels_wrong, followed_wrong, turn_wrong, own_requests_wrong, users_wrong}
+use Rattle.heap_law.specs.Requests.{halves_to, halves_needed, pair_notes, pair_places, answers_wrong, carried_wrong, routes_wrong, returns_wrong, askers_wrong, objects_wrong, phases_wrong, par_ends_wrong, pairs_wrong, waited_pairs_wrong, taken_wrong, taken_words_wrong, gift_phases_wrong, gifts_wrong}
 use Rattle.heap_law.specs.Sharing.{contents, going_notes, goes_on, owed, results, has_ended, named_wrong, mutex_homes_wrong, contents_wrong, marks_wrong, shares_wrong, queues_wrong, last_shares_wrong, thread_homes_wrong, noted_wrong, notes_wrong, tasks_wrong, owed_wrong, results_wrong, got_pairs_wrong}
 use Rattle.heap_law.specs.Words.{HasWords}
 use Rattle.heap_law.specs.Dirty.{DirtyAlone}
@@ -58,11 +58,11 @@ pub data Sentence : Type 0 where
   go_right : Sentence
   return_right : Sentence
   askers_stand : Sentence
+  objects_there : Sentence
   phases_stand : Sentence
   par_ends : Sentence
   pairs_noted : Sentence
   pairs_go_on : Sentence
-  cells_awaited : Sentence
   taken_stands : Sentence
   taken_is_new : Sentence
   gifts_got : Sentence
@@ -115,7 +115,7 @@ breaches_in k s copies_agree = copies_wrong s
 breaches_in k s served_are_clean = served_wrong s
 breaches_in k s passed_lie_here = passed_wrong s
 breaches_in k s passed_not_copied = passed_boxes_wrong s
-breaches_in k s passed_not_stale = passed_references_wrong s
+breaches_in k s passed_not_stale = passed_stale_wrong s
 breaches_in k s passed_in_a_walk = passed_phase_wrong s
 breaches_in k s passed_within = passed_count_wrong s
 breaches_in k s walk_empty = walk_phase_wrong s
@@ -130,11 +130,11 @@ breaches_in k s carry_what_is_asked = carried_wrong s
 breaches_in k s go_right = routes_wrong s
 breaches_in k s return_right = returns_wrong s
 breaches_in k s askers_stand = askers_wrong s
+breaches_in k s objects_there = objects_wrong s
 breaches_in k s phases_stand = phases_wrong s
 breaches_in k s par_ends = par_ends_wrong s
 breaches_in k s pairs_noted = pairs_wrong s
 breaches_in k s pairs_go_on = waited_pairs_wrong s
-breaches_in k s cells_awaited = cells_wrong s
 breaches_in k s taken_stands = taken_wrong s
 breaches_in k s taken_is_new = taken_words_wrong s
 breaches_in k s gifts_got = gift_phases_wrong s
@@ -198,7 +198,7 @@ pub record Words (k : Cluster) : Type 0 where
   pub first_at_holder : Holds k first_at_holder
   -- different live objects have different words
   pub different_words : Holds k different_words
-  -- no mutable reference was made from a dirty one that isn't stale, and no shared reference or view leads to its object
+  -- no mutable reference was made from a dirty one that isn't stale, and each other pointer to its object is stale; so no shared reference or view leads to it
   pub dirty_alone : DirtyAlone (sight k)
 
 -- COPIES
@@ -210,8 +210,8 @@ pub record Copies (k : Cluster) : Type 0 where
 
 -- WALKS
 pub record Walks (k : Cluster) : Type 0 where
-  -- each of the first `passed` hops of a thread's write is over a box without a copy or a mutable reference that isn't stale, of an object that
-  -- lies at its server, or leads to a slot
+  -- each of the first `passed` hops of a thread's write is over a box without a copy or a mutable reference, neither of them stale, of an object
+  -- that lies at its server, or leads to a slot
   pub have_passed : HavePassed (sight k)
   -- `passed` is 0 outside the phases `WaitCell`, `Got` and `Taken`
   pub passed_in_a_walk : Holds k passed_in_a_walk
@@ -225,7 +225,8 @@ pub record Walks (k : Cluster) : Type 0 where
   pub parcels_ready : Holds k parcels_ready
   -- where a thread has followed its place, each pointer on the way leads to its server or, but for a dirty reference, to a copy that it keeps
   pub have_followed : HaveFollowed (sight k)
-  -- a write waits for its first hop that isn't passed or the reference that it ends, a read for its first hop that it can't read
+  -- in `WaitCell(w)` a write waits for its first hop that isn't passed or the reference that it ends, a read for its first hop that it can't read; that
+  -- pointer has the word w, and the thread's message asks for its object, or a copy where it is read, or brings it
   pub wait_in_turn : WaitInTurn (sight k)
   -- no request for an object goes to the thread's own server
   pub asks_others : Holds k asks_others
@@ -247,6 +248,8 @@ pub record Requests (k : Cluster) : Type 0 where
   pub return_right : Holds k return_right
   -- the server and thread in a request, a queue place or a noted asker are those of the thread that waits
   pub askers_stand : Holds k askers_stand
+  -- the object of a `fetch`, a `move` or a `drop` has that message's word and lies where it leads
+  pub objects_there : Holds k objects_there
   -- `WaitLock`, `WaitDup` and `WaitJoin` stand at their instructions, with their mutex at the place or their thread as operand
   pub phases_stand : Holds k phases_stand
   -- a thread is at a `ParEnd` exactly in the phases `WaitPar` and `GotPar`
@@ -255,8 +258,6 @@ pub record Requests (k : Cluster) : Type 0 where
   pub pairs_noted : Agree pair_notes pair_places (things_of k)
   -- in `WaitPar(a, b)` these differ, and not both are noted as over
   pub pairs_go_on : Holds k pairs_go_on
-  -- `WaitCell(w)` has the word of a pointer that is followed or ended; a copy is asked for where it is read, else the object
-  pub cells_awaited : Holds k cells_awaited
   -- `Taken(w)` stands at a `BorrowMut`; w is the word of the object at its place, which lies at the thread's server
   pub taken_stands : Holds k taken_stands
   -- in `Taken(w)` the pointer that the place follows last has another word than w
@@ -368,7 +369,7 @@ abbrev pub users_sentences : List Sentence
 users_sentences = users_counted ∷ []
 
 abbrev pub requests_sentences : List Sentence
-requests_sentences = one_answer ∷ carry_what_is_asked ∷ go_right ∷ return_right ∷ askers_stand ∷ phases_stand ∷ par_ends ∷ pairs_noted ∷ pairs_go_on ∷ cells_awaited ∷ taken_stands ∷ taken_is_new ∷ gifts_got ∷ gifts_fit ∷ []
+requests_sentences = one_answer ∷ carry_what_is_asked ∷ go_right ∷ return_right ∷ askers_stand ∷ objects_there ∷ phases_stand ∷ par_ends ∷ pairs_noted ∷ pairs_go_on ∷ taken_stands ∷ taken_is_new ∷ gifts_got ∷ gifts_fit ∷ []
 
 abbrev pub mutexes_and_tasks_sentences : List Sentence
 mutexes_and_tasks_sentences = named_are_there ∷ at_their_home ∷ one_content ∷ marks_in_slots ∷ shares_counted ∷ queue_while_out ∷ content_without_shares ∷ thread_homes ∷ noted_go_on ∷ noted_at_home ∷ one_task_value ∷ task_values_owed ∷ one_result ∷ pairs_unnamed ∷ []

@@ -1,18 +1,19 @@
 -- DIRTY REFERENCES: a mutable reference through which its object was changed, while it isn't stale (this project's rules).
-use Rattle.std.specs.Prelude.{◌≡◌, true, Some}
+use Rattle.std.specs.Prelude.{◌≡◌, ◌⊎◌, true, Some}
 use Rattle.mut_borrow.specs.declared.shared.SharedRef.{SharedRef}
 use Rattle.server_model.specs.Servers.{Cluster}
 use Rattle.heap_law.specs.Names.{Among}
 use Rattle.heap_law.specs.Things.{Location, shares}
 use Rattle.heap_law.specs.Stale.{Reference, references, is_held_at}
-use Rattle.heap_law.specs.Sight.{Sight, sight}
-use Rattle.heap_law.specs.Placing.{dirty_wrong}
+use Rattle.heap_law.specs.Sight.{Sight, Pointer, sight}
+use Rattle.heap_law.specs.Placing.{standing_pointers, dirty_wrong}
 use Rattle.heap_law.specs.Words.{IsStale}
 
--- no mutable reference was made from it, and no shared reference or view leads to its object
+-- no mutable reference was made from it, and each other pointer to its object is stale: a box or a reference, the word of a `drop`, that of an object
+-- taken for a mutable borrow. (The old word of an object under way is the reference's own)
 pub record IsAlone (s : Sight) (r : Reference) : Type 0 where
   pub unlent : (q : Reference) → Among q (references s.ground s.things) → is_held_at r.at q.holder ≡ true → ⊥
-  pub unshared : (l : Location) (q : SharedRef) → Among (shares l q) s.things → q.object ≡ r.reference.object → ⊥
+  pub sole : (p : Pointer) → Among p (standing_pointers s) → p.object ≡ r.reference.object → IsStale s p.at ⊎ (is_held_at r.at p.at ≡ true)
 
 -- each dirty reference that isn't stale is alone
 abbrev pub DirtyAlone : Sight → Type 0
@@ -21,5 +22,7 @@ DirtyAlone s = (r : Reference) → Among r (references s.ground s.things) → r.
 pub record DirtyLaw : Type 0 where
   pub from_count : (k : Cluster) → dirty_wrong (sight k) ≡ 0 → DirtyAlone (sight k)
   pub none_counted : (k : Cluster) → DirtyAlone (sight k) → dirty_wrong (sight k) ≡ 0
+  -- no shared reference or view leads to its object
+  pub unshared : (s : Sight) (r : Reference) → IsAlone s r → (l : Location) (q : SharedRef) → Among (shares l q) s.things → q.object ≡ r.reference.object → ⊥
   -- the pointer that a dirty reference was made from is stale, and so is each one above it
   pub stale_above : (k : Cluster) (r : Reference) (l : Location) → Among r (references (sight k).ground (sight k).things) → r.reference.dirty ≡ true → is_held_at l r.holder ≡ true → IsStale (sight k) (Some l)

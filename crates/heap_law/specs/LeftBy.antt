@@ -1,5 +1,5 @@
 -- LEFT BY: a cluster is what a journal leaves (this project's rule).
-use Rattle.std.specs.Prelude.{◌≡◌, ℕ, ◌+◌, true, List, Option, Some}
+use Rattle.std.specs.Prelude.{◌≡◌, ℕ, ◌+◌, true, List, take, Option, Some}
 use Rattle.fr_base.specs.declared.label.Label.{Label}
 use Rattle.fr_base.specs.declared.step.Fresh.{Fresh}
 use Rattle.fr_plain.specs.PlainState.{SameState}
@@ -35,6 +35,11 @@ pub record LeavesColoured (k : Cluster) (es : List EntryView) : Type 0 where
   pub legal : journal_after k.options es ≡ Some state
   pub stands : StandsColoured k state
 
+-- the plain run under the journal's order is there, with the journal's labels
+pub record RunsWith (run : PlainRun) (es : List EntryView) : Type 0 where
+  pub state : CodeState
+  pub runs : run (order es) ≡ Some (state, labels es)
+
 abbrev is_message : Thing → ℕ
 is_message (sent r m) = 1
 is_message x = 0
@@ -47,6 +52,8 @@ messages_of s = tot is_message s.things
 pub record LeftBy (run : PlainRun) (k : Cluster) (es : List EntryView) : Type 0 where
   -- the plain run under the journal's order is there; its state is the cluster's one heap, and its labels are the journal's
   pub plain : LeadsTo run (order es) (one_heap k) (labels es)
+  -- and so is that under each beginning of it: entry by entry the journal's labels are those of its plain steps
+  pub labelled : (n : ℕ) → RunsWith run (take n es)
   -- each entry reaches what it loads and stores
   pub reached : is_all_reached k.options es ≡ true
   -- the journal is legal, and leaves the cluster's coloured heap

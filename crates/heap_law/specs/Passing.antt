@@ -16,7 +16,7 @@ use Rattle.heap_law.specs.Follow.{Standing, Ground, value_in, leads, locate, hop
 use Rattle.heap_law.specs.Sight.{Sight, sight}
 use Rattle.heap_law.specs.Weights.{copies}
 use Rattle.heap_law.specs.Paths.{Path, reads, lends, written_place}
-use Rattle.heap_law.specs.Walking.{path, words_kept, loose_hop, has_followed, followed_wrong, passed_wrong, passed_boxes_wrong, passed_references_wrong}
+use Rattle.heap_law.specs.Walking.{path, words_kept, loose_hop, has_followed, followed_wrong, passed_wrong, passed_boxes_wrong, passed_stale_wrong}
 use Rattle.heap_law.specs.Words.{IsStale}
 
 -- from a slot of a thread so many stars lead to the location
@@ -49,10 +49,9 @@ pub record LiesAt (b : List Thing) (r : ℕ) (o : ObjNo) : Type 0 where
 abbrev pub NotCopied : Sight → ℕ → Type 0
 NotCopied s w = tot (copies w) s.things ≡ 0
 
--- a pointer there may be passed by a write at that server: its object lies there, and a box has no copy and a mutable reference isn't stale; or it
--- leads to a slot
+-- a pointer there may be passed by a write at that server: its object lies there, it isn't stale, and of a box no copy exists; or it leads to a slot
 pub data MayPass (s : Sight) (r : ℕ) (l : Location) : Value → Type 0 where
-  over_box : (p : BoxPtr) → LiesAt s.things r p.object → NotCopied s p.word → MayPass s r l (value.Own (owned.Box p))
+  over_box : (p : BoxPtr) → LiesAt s.things r p.object → NotCopied s p.word → (IsStale s (Some l) → ⊥) → MayPass s r l (value.Own (owned.Box p))
   over_reference : (q : MutRef) → LiesAt s.things r q.object → (IsStale s (Some l) → ⊥) → MayPass s r l (value.Mut q)
   to_slot : (i : ℕ) → MayPass s r l (value.SharedSlot i)
   to_lent_slot : (i : ℕ) → MayPass s r l (value.MutSlot i)
@@ -69,8 +68,8 @@ abbrev pub HavePassed : Sight → Type 0
 HavePassed s = (x : Standing) (w : Lval) (i : ℕ) → Among x s.ground.threads → written_place (path s x) ≡ Some w → i < x.thread.passed → IsPassed s x w i
 
 pub record PassedLaw : Type 0 where
-  pub from_counts : (k : Cluster) → passed_wrong (sight k) ≡ 0 → passed_boxes_wrong (sight k) ≡ 0 → passed_references_wrong (sight k) ≡ 0 → HavePassed (sight k)
-  pub none_counted : (k : Cluster) → HavePassed (sight k) → passed_wrong (sight k) + passed_boxes_wrong (sight k) + passed_references_wrong (sight k) ≡ 0
+  pub from_counts : (k : Cluster) → passed_wrong (sight k) ≡ 0 → passed_boxes_wrong (sight k) ≡ 0 → passed_stale_wrong (sight k) ≡ 0 → HavePassed (sight k)
+  pub none_counted : (k : Cluster) → HavePassed (sight k) → passed_wrong (sight k) + passed_boxes_wrong (sight k) + passed_stale_wrong (sight k) ≡ 0
 
 -- WHAT A STEP HAS FOLLOWED
 

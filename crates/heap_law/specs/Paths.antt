@@ -140,8 +140,3 @@ is_readable kept s a = is_at_hand kept s a.by_copy a.word
 abbrev pub first_unreadable : List ℕ → ℕ → List Awaited → Option Awaited
 first_unreadable kept s [] = None
 first_unreadable kept s (a ∷ rest) = if is_readable kept s a then first_unreadable kept s rest else Some a
-
--- the first one with that word
-abbrev pub awaited_under : List Awaited → ℕ → Option Awaited
-awaited_under [] w = None
-awaited_under (a ∷ rest) w = if a.word == w then Some a else awaited_under rest w

@@ -1,6 +1,6 @@
 -- ONE HOME, ONE OWNER, and the words that lead there (in the manner of DRust; colours and stale pointers are this project's rules).
 -- Each function counts what breaks the sentence above it.
-use Rattle.std.specs.Prelude.{ℕ, ◌+◌, ◌==◌, nat_lt, Bool, true, false, not, ◌&&◌, List, Option, Some, None, is_some}
+use Rattle.std.specs.Prelude.{ℕ, ◌+◌, ◌==◌, nat_lt, Bool, true, false, not, ◌&&◌, List, [], ◌∷◌, ◌++◌, Option, Some, None, is_some}
 use Rattle.fr_base.specs.declared.name.ObjNo.{ObjNo}
 use Rattle.global_addr.specs.Words.{colour_of, server_of, address_of}
 use Rattle.heap_partition.specs.declared.value.Cell.{Cell}
@@ -14,10 +14,10 @@ use Rattle.thread_state.specs.declared.phase.Phase.TheVariants as phase
 use Rattle.server_msgs.specs.declared.message.Message.{Message}
 use Rattle.server_msgs.specs.declared.message.Message.TheVariants.{Fetch, Fetched, Move, Drop}
 use Rattle.heap_law.specs.Names.{tot, one, other, if_so, some, same_object, same_cell}
-use Rattle.heap_law.specs.Things.{Location, Thing, holds, shares, borrows, lies, flies, vacant, copied, uses, sent, stands}
+use Rattle.heap_law.specs.Things.{Location, in_cell, Thing, holds, shares, borrows, lies, flies, vacant, copied, uses, sent, stands}
 use Rattle.heap_law.specs.Follow.{Ground, value_behind}
 use Rattle.heap_law.specs.Stale.{Reference, references, is_among, is_held_at}
-use Rattle.heap_law.specs.Sight.{Sight, Pointer, is_word, cell_of_word, is_object_among, word, issued}
+use Rattle.heap_law.specs.Sight.{Sight, Pointer, pointer_in, pointers_of, taken_pointers, is_stale, is_word, cell_of_word, is_object_among, word, issued}
 use Rattle.heap_law.specs.Balances.{disagree, too_many, more_than_one}
 use Rattle.heap_law.specs.Weights.{cells, owners, objects, states, below, addresses}
 
@@ -140,18 +140,29 @@ shared_words s x = 0
 abbrev pub different_words_wrong : Sight → ℕ
 different_words_wrong s = sum_over s (shared_words s)
 
--- a dirty mutable reference that isn't stale is not the pointer at the holder of a mutable reference, and no shared reference or view
--- leads to its object
+-- a dirty mutable reference that isn't stale is not the pointer at the holder of a mutable reference, and each other pointer to its object is stale, but for
+-- the old word of the object where it is under way; so no shared reference or view leads to the object, and no `drop` names it
 abbrev pub held_by : Location → Reference → ℕ
 held_by l r = one (is_held_at l r.holder)
 
-abbrev pub shared_of : ObjNo → Thing → ℕ
-shared_of o (shares l r) = one (same_object r.object o)
-shared_of o x = 0
+-- the pointers of a thing, without the old word of an object under way
+abbrev pub standing_of : Thing → List Pointer
+standing_of (flies w c) = pointer_in (Some (in_cell c.object)) c.value
+standing_of x = pointers_of x
+
+abbrev pub standing_in : List Thing → List Pointer
+standing_in [] = []
+standing_in (x ∷ b) = standing_of x ++ standing_in b
+
+abbrev pub standing_pointers : Sight → List Pointer
+standing_pointers s = standing_in s.things ++ taken_pointers s.code s.ground s.ground.threads
+
+abbrev pub fresh_beside : Sight → Reference → Pointer → ℕ
+fresh_beside s r p = if_so (same_object p.object r.reference.object) (one (not (is_stale s.stale p.at) && not (is_held_at r.at p.at)))
 
 abbrev pub not_alone : Sight → List Reference → Reference → ℕ
 not_alone s rs r =
-    if_so (r.reference.dirty && not (is_among r.at s.stale)) (tot (held_by r.at) rs + sum_over s (shared_of r.reference.object))
+    if_so (r.reference.dirty && not (is_among r.at s.stale)) (tot (held_by r.at) rs + tot (fresh_beside s r) (standing_pointers s))
 
 abbrev pub dirty_wrong : Sight → ℕ
 dirty_wrong s = let rs = references s.ground s.things in tot (not_alone s rs) rs

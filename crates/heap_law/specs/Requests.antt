@@ -18,15 +18,15 @@ use Rattle.thread_state.specs.declared.phase.Phase.TheVariants as phase
 use Rattle.join_home.specs.Tasks.{TaskState, asked, in_pair}
 use Rattle.server_msgs.specs.declared.message.Message.{Message}
 use Rattle.server_msgs.specs.declared.message.Message.TheVariants.{Fetch, Fetched, Move, Moved, Drop, Lock, Granted, Unlock, Dup, Dupped, Release, Start, Join, Joined, Finished}
-use Rattle.heap_law.specs.Names.{one, other, if_so, some, same_object, same_mutex, same_owned}
+use Rattle.heap_law.specs.Names.{one, other, if_so, some, same_mutex, same_owned}
 use Rattle.heap_law.specs.Things.{Location, in_cell, Thing, sent, stands, queued, noted}
 use Rattle.heap_law.specs.Follow.{Standing, thread_at, place_at, value_at, hop_at}
 use Rattle.heap_law.specs.Sight.{Sight, is_word, word}
 use Rattle.heap_law.specs.Balances.{disagree}
-use Rattle.heap_law.specs.Weights.{lies_at}
-use Rattle.heap_law.specs.Paths.{Awaited, awaited, awaited_under, joined_thread}
+use Rattle.heap_law.specs.Weights.{lies_at, lies_under}
+use Rattle.heap_law.specs.Paths.{joined_thread}
 use Rattle.heap_law.specs.Placing.{sum_over}
-use Rattle.heap_law.specs.Walking.{sum_threads, instr_of, path}
+use Rattle.heap_law.specs.Walking.{sum_threads, instr_of}
 
 -- ANSWERS
 
@@ -124,26 +124,11 @@ in_phase f (Some x) = f x.thread.phase
 abbrev pub phase_fits : Sight → ℕ → (Phase → Bool) → ℕ
 phase_fits s t f = other (in_phase f (thread_at s.ground.threads t))
 
-abbrev pub awaited_at : Sight → Standing → ℕ → Option Awaited
-awaited_at s x w = awaited_under (awaited s.options.colours s.ground x.thread.number (path s x)) w
-
-abbrev pub is_its_object : ObjNo → Option Awaited → Bool
-is_its_object o None = false
-is_its_object o (Some a) = same_object a.object o
-
--- the object of the pointer with that word that the thread follows or ends
-abbrev pub is_object_of : Sight → ℕ → ObjNo → Option Standing → Bool
-is_object_of s w o None = false
-is_object_of s w o (Some x) = is_its_object o (awaited_at s x w)
-
-abbrev pub object_fits : Sight → ℕ → ℕ → ObjNo → ℕ
-object_fits s t w o = phase_fits s t (is_cell w) + other (is_object_of s w o (thread_at s.ground.threads t))
-
 abbrev pub message_carries : Sight → Message → ℕ
-message_carries s (Fetch w o r t) = object_fits s t w o
-message_carries s (Fetched w c t) = object_fits s t w c.object
-message_carries s (Move w o r t) = object_fits s t w o
-message_carries s (Moved w c t) = object_fits s t w c.object
+message_carries s (Fetch w o r t) = phase_fits s t (is_cell w)
+message_carries s (Fetched w c t) = phase_fits s t (is_cell w)
+message_carries s (Move w o r t) = phase_fits s t (is_cell w)
+message_carries s (Moved w c t) = phase_fits s t (is_cell w)
 message_carries s (Lock m r t) = phase_fits s t (is_lock m)
 message_carries s (Granted m v t) = phase_fits s t (is_lock m)
 message_carries s (Dup m r t) = phase_fits s t (is_dup m)
@@ -156,8 +141,8 @@ abbrev pub note_carries : Sight → ℕ → TaskState → ℕ
 note_carries s u (asked r t) = phase_fits s t (is_join u)
 note_carries s u x = 0
 
--- what will answer a thread carries, or is kept for, what its phase names: the word of `WaitCell` (in a `moved` as the old word) and the object of
--- that pointer, the mutex of `WaitLock` or `WaitDup`, the thread of `WaitJoin`
+-- what will answer a thread carries, or is kept for, what its phase names: the word of `WaitCell` (in a `moved` as the old word), the mutex of
+-- `WaitLock` or `WaitDup`, the thread of `WaitJoin`. (Which object that is: a walk waits in turn)
 abbrev pub carries : Sight → Thing → ℕ
 carries s (sent r m) = message_carries s m
 carries s (queued m r t) = phase_fits s t (is_lock m)
@@ -239,6 +224,23 @@ other_asker s x = 0
 
 abbrev pub askers_wrong : Sight → ℕ
 askers_wrong s = sum_over s (other_asker s)
+
+abbrev pub not_under : Sight → ℕ → ObjNo → ℕ
+not_under s w o = other (is_word (word s o) w && some (sum_over s (lies_under w o)))
+
+abbrev pub message_leads : Sight → Message → ℕ
+message_leads s (Fetch w o r t) = not_under s w o
+message_leads s (Move w o r t) = not_under s w o
+message_leads s (Drop w o) = not_under s w o
+message_leads s m = 0
+
+abbrev pub not_there : Sight → Thing → ℕ
+not_there s (sent r m) = message_leads s m
+not_there s x = 0
+
+-- the object of a `fetch`, a `move` or a `drop` has that message's word and lies where it leads; so it isn't under way
+abbrev pub objects_wrong : Sight → ℕ
+objects_wrong s = sum_over s (not_there s)
 
 -- PHASES AND INSTRUCTIONS
 
@@ -352,30 +354,6 @@ both_over s x p = 0
 -- in `WaitPar(a, b)` the threads a and b differ, and not both are noted as over at that thread's server
 abbrev pub waited_pairs_wrong : Sight → ℕ
 waited_pairs_wrong s = sum_threads s (λ x. both_over s x x.thread.phase)
-
-abbrev pub comes_by : ℕ → Message → Bool → Bool
-comes_by t (Fetch w o s u) comes = u == t && not comes
-comes_by t (Fetched w c u) comes = u == t && not comes
-comes_by t (Move w o s u) comes = u == t && comes
-comes_by t (Moved w c u) comes = u == t && comes
-comes_by t m comes = false
-
-abbrev pub comes_in : ℕ → Bool → Thing → ℕ
-comes_in t comes (sent r m) = one (comes_by t m comes)
-comes_in t comes x = 0
-
-abbrev pub is_waited : Sight → Standing → Option Awaited → ℕ
-is_waited s x None = 1
-is_waited s x (Some a) = other (some (sum_over s (comes_in x.thread.number a.comes)))
-
-abbrev pub cell_phase : Sight → Standing → Phase → ℕ
-cell_phase s x (phase.WaitCell w) = is_waited s x (awaited_at s x w)
-cell_phase s x p = 0
-
--- `WaitCell(w)` has the word of a pointer that its instruction follows or of a reference that it ends. Its message is a `fetch` or `fetched` where
--- that object is read, and a `move` or `moved` where it comes
-abbrev pub cells_wrong : Sight → ℕ
-cells_wrong s = sum_threads s (λ x. cell_phase s x x.thread.phase)
 
 -- TAKEN OBJECTS
 

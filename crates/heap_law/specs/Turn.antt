@@ -1,15 +1,16 @@
 -- WHAT A WALK WAITS FOR, hop by hop (this project's rules).
-use Rattle.std.specs.Prelude.{◌≡◌, ℕ, suc, ◌<◌, true, false, List, Option, Some}
+use Rattle.std.specs.Prelude.{◌≡◌, ℕ, suc, ◌<◌, ◌≤◌, true, false, List, Option, Some}
 use Rattle.fr_base.specs.declared.place.Lval.{Lval}
 use Rattle.mut_borrow.specs.declared.mutable.MutRef.{MutRef}
 use Rattle.thread_state.specs.declared.phase.Phase.TheVariants as phase
 use Rattle.thread_state.specs.declared.value.Value.{Value}
-use Rattle.heap_law.specs.Names.{Among}
+use Rattle.thread_state.specs.declared.value.Value.TheVariants as value
+use Rattle.heap_law.specs.Names.{tot, Among}
 use Rattle.heap_law.specs.Things.{Location}
 use Rattle.heap_law.specs.Follow.{Standing}
 use Rattle.heap_law.specs.Sight.{Sight}
-use Rattle.heap_law.specs.Paths.{Path, no_path, reads, shares, lends, writes, ends, Awaited, to_read, to_write, to_clean, is_readable}
-use Rattle.heap_law.specs.Walking.{path, words_kept, is_hop_word, turn_wrong}
+use Rattle.heap_law.specs.Paths.{Path, reads, shares, lends, writes, ends, Awaited, to_read, to_write, to_clean, is_readable}
+use Rattle.heap_law.specs.Walking.{path, words_kept, in_turn, asked_for, turn_wrong}
 use Rattle.heap_law.specs.Passing.{HopOf}
 
 -- a hop of a place over a pointer of which this may be waited for
@@ -31,37 +32,40 @@ pub data AwaitsAt (s : Sight) (x : Standing) : Path → ℕ → Awaited → Type
 abbrev pub CanRead : Standing → Awaited → Type 0
 CanRead x a = is_readable (words_kept x.thread) x.server a ≡ true
 
--- the first hop of a path that can't be read waits under that word
-pub record FirstUnread (s : Sight) (x : Standing) (p : Path) (w : ℕ) : Type 0 where
+-- the first hop of a path that can't be read waits for this
+pub record FirstUnread (s : Sight) (x : Standing) (p : Path) (a : Awaited) : Type 0 where
   pub number : ℕ
+  pub at : AwaitsAt s x p number a
+  pub unread : is_readable (words_kept x.thread) x.server a ≡ false
+  pub before : (j : ℕ) (b : Awaited) → j < number → AwaitsAt s x p j b → CanRead x b
+
+-- the hop of a write after those that are passed waits for this
+pub record NextHop (s : Sight) (x : Standing) (w : Lval) (a : Awaited) : Type 0 where
+  pub within : x.thread.passed < w.depth
+  pub asked : IsAsked s x w x.thread.passed to_write a
+
+-- what a thread that waits under the word waits for in turn: a read for its first hop that it can't read, a write for its next hop, the end of a reference
+-- for that reference where it has the word, else for the next hop of its holder
+pub data InTurn (s : Sight) (x : Standing) (w : ℕ) (a : Awaited) : Path → Type 0 where
+  by_read : (p : Lval) → FirstUnread s x (reads p) a → InTurn s x w a (reads p)
+  by_share : (p : Lval) → FirstUnread s x (shares p) a → InTurn s x w a (shares p)
+  by_lend : (p : Lval) → FirstUnread s x (lends p) a → InTurn s x w a (lends p)
+  by_write : (p : Lval) → NextHop s x p a → InTurn s x w a (writes p)
+  by_end : (r : MutRef) → r.word ≡ w → Among a (to_write (Some (value.Mut r))) → InTurn s x w a (ends r)
+  by_holder : (r : MutRef) → (r.word ≡ w → ⊥) → NextHop s x r.holder a → InTurn s x w a (ends r)
+
+-- what the thread waits for in turn has that word, and the thread's message asks for its object, or for a copy where it is read, or brings it
+pub record WaitsFor (s : Sight) (x : Standing) (w : ℕ) : Type 0 where
   pub awaited : Awaited
-  pub at : AwaitsAt s x p number awaited
+  pub turn : InTurn s x w awaited (path s x)
   pub word : awaited.word ≡ w
-  pub unread : is_readable (words_kept x.thread) x.server awaited ≡ false
-  pub before : (j : ℕ) (a : Awaited) → j < number → AwaitsAt s x p j a → CanRead x a
-
--- the hop of a write after those that are passed has that word
-pub record NextHop (s : Sight) (x : Standing) (w : ℕ) (p : Lval) : Type 0 where
-  pub location : Location
-  pub value : Value
-  pub within : x.thread.passed < p.depth
-  pub hop : HopOf s.ground x.thread.number p.slot x.thread.passed location value
-  pub word : is_hop_word w (Some value) ≡ true
-
--- a thread that waits for a cell under the word waits in turn: a read for its first hop that it can't read, a write for its next hop, the end of a
--- reference for that reference or the next hop of its holder
-pub data InTurn (s : Sight) (x : Standing) (w : ℕ) : Path → Type 0 where
-  nothing : InTurn s x w no_path
-  by_read : (p : Lval) → FirstUnread s x (reads p) w → InTurn s x w (reads p)
-  by_share : (p : Lval) → FirstUnread s x (shares p) w → InTurn s x w (shares p)
-  by_lend : (p : Lval) → FirstUnread s x (lends p) w → InTurn s x w (lends p)
-  by_write : (p : Lval) → NextHop s x w p → InTurn s x w (writes p)
-  by_end : (r : MutRef) → r.word ≡ w → InTurn s x w (ends r)
-  by_holder : (r : MutRef) → NextHop s x w r.holder → InTurn s x w (ends r)
+  pub asked : 1 ≤ tot (asked_for x.thread.number awaited) s.things
 
 abbrev pub WaitInTurn : Sight → Type 0
-WaitInTurn s = (x : Standing) (w : ℕ) → Among x s.ground.threads → x.thread.phase ≡ phase.WaitCell w → InTurn s x w (path s x)
+WaitInTurn s = (x : Standing) (w : ℕ) → Among x s.ground.threads → x.thread.phase ≡ phase.WaitCell w → WaitsFor s x w
 
 pub record TurnLaw : Type 0 where
   pub from_count : (s : Sight) → turn_wrong s ≡ 0 → WaitInTurn s
   pub none_counted : (s : Sight) → WaitInTurn s → turn_wrong s ≡ 0
+  -- there is one thing that it may wait for
+  pub told : (s : Sight) (x : Standing) (w : ℕ) (a : Awaited) → InTurn s x w a (path s x) → in_turn s x w (path s x) ≡ Some a

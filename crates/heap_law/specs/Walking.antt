@@ -1,6 +1,6 @@
 -- WALKS AND USERS: what a thread in the middle of a step has made ready, and which cached words are in use (this project's rules).
 -- Each function counts what breaks the sentence above it.
-use Rattle.std.specs.Prelude.{ℕ, zero, suc, ◌+◌, ◌==◌, nat_lt, nat_le, Bool, true, false, not, ◌&&◌, ◌||◌, List, [], ◌∷◌, ◌++◌, length, Option, Some, None, slice_get}
+use Rattle.std.specs.Prelude.{ℕ, zero, suc, ◌+◌, ◌==◌, nat_lt, nat_le, Bool, true, false, not, ◌&&◌, if◌then◌else◌, List, [], ◌∷◌, ◌++◌, length, Option, Some, None, slice_get}
 use Rattle.fr_base.specs.declared.place.Lval.{Lval}
 use Rattle.fr_base.specs.declared.instruction.Instr.{Instr}
 use Rattle.fr_base.specs.declared.instruction.Instr.TheVariants as instr
@@ -13,15 +13,15 @@ use Rattle.thread_state.specs.declared.value.Value.TheVariants as value
 use Rattle.thread_state.specs.declared.phase.Phase.{Phase}
 use Rattle.thread_state.specs.declared.phase.Phase.TheVariants as phase
 use Rattle.server_msgs.specs.declared.message.Message.{Message}
-use Rattle.server_msgs.specs.declared.message.Message.TheVariants.{Fetch, Move}
+use Rattle.server_msgs.specs.declared.message.Message.TheVariants.{Fetch, Fetched, Move, Moved}
 use Rattle.migration.specs.Packing.{pinned_words}
-use Rattle.heap_law.specs.Names.{tot, one, other, if_so, some}
+use Rattle.heap_law.specs.Names.{tot, one, other, if_so, some, same_object}
 use Rattle.heap_law.specs.Things.{Location, Thing, sent}
 use Rattle.heap_law.specs.Follow.{Standing, Ground, locate, value_behind, hop_at}
 use Rattle.heap_law.specs.Sight.{Sight, is_stale}
 use Rattle.heap_law.specs.Balances.{disagree}
 use Rattle.heap_law.specs.Weights.{lies_at, copies, uses_of, users_of, kept_words}
-use Rattle.heap_law.specs.Paths.{Path, no_path, lends, writes, ends, path_of, written_place, Awaited, awaited, followed, is_at_hand, first_unreadable}
+use Rattle.heap_law.specs.Paths.{Path, no_path, lends, writes, ends, path_of, written_place, Awaited, to_write, awaited, followed, is_at_hand, first_unreadable}
 use Rattle.heap_law.specs.Placing.{sum_over}
 
 -- the sum over all threads, those in parcels too
@@ -68,13 +68,14 @@ copied_box s r l v = 0
 abbrev pub passed_boxes_wrong : Sight → ℕ
 passed_boxes_wrong s = sum_threads s (over_passed s (copied_box s))
 
--- each of these hops over a mutable reference is over one that isn't stale
+-- each of these hops over a box or a mutable reference is over one that isn't stale
 abbrev pub stale_hop : Sight → ℕ → Option Location → Option Value → ℕ
+stale_hop s r l (Some (value.Own (owned.Box p))) = one (is_stale s.stale l)
 stale_hop s r l (Some (value.Mut q)) = one (is_stale s.stale l)
 stale_hop s r l v = 0
 
-abbrev pub passed_references_wrong : Sight → ℕ
-passed_references_wrong s = sum_threads s (over_passed s (stale_hop s))
+abbrev pub passed_stale_wrong : Sight → ℕ
+passed_stale_wrong s = sum_threads s (over_passed s (stale_hop s))
 
 abbrev pub in_walk : Phase → Bool
 in_walk (phase.WaitCell w) = true
@@ -183,32 +184,44 @@ followed_wrong s = sum_threads s (lost_place s)
 
 -- WHAT A WALK WAITS FOR
 
-abbrev pub is_awaited : ℕ → Option Awaited → Bool
-is_awaited w None = false
-is_awaited w (Some a) = a.word == w
+abbrev pub first_of : List Awaited → Option Awaited
+first_of [] = None
+first_of (a ∷ rest) = Some a
 
--- the pointer of that star, from 0, has the word
-abbrev pub is_hop_word : ℕ → Option Value → Bool
-is_hop_word w (Some (value.Own (owned.Box p))) = p.word == w
-is_hop_word w (Some (value.Mut r)) = r.word == w
-is_hop_word w v = false
+-- the object of the first hop of a write that isn't passed
+abbrev pub next_hop : Sight → Standing → Lval → Option Awaited
+next_hop s x p = if nat_lt x.thread.passed p.depth then first_of (to_write (hop_at s.ground x.thread.number p x.thread.passed)) else None
 
-abbrev pub is_next_hop : Sight → Standing → ℕ → Lval → Bool
-is_next_hop s x w p = nat_lt x.thread.passed p.depth && is_hop_word w (hop_at s.ground x.thread.number p x.thread.passed)
+-- what a thread that waits under the word waits for on its path: a write for the object of its first hop that isn't passed, the end of a reference for that of
+-- the reference itself where it has the word, and a read for its first hop that is neither here nor in a copy that the thread keeps
+abbrev pub in_turn : Sight → Standing → ℕ → Path → Option Awaited
+in_turn s x w no_path = None
+in_turn s x w (writes p) = next_hop s x p
+in_turn s x w (ends r) = if r.word == w then first_of (to_write (Some (value.Mut r))) else next_hop s x r.holder
+in_turn s x w p = first_unreadable (words_kept x.thread) x.server (awaited s.options.colours s.ground x.thread.number p)
 
-abbrev pub waits_in_turn : Sight → Standing → ℕ → Path → ℕ
-waits_in_turn s x w no_path = 0
-waits_in_turn s x w (writes p) = other (is_next_hop s x w p)
-waits_in_turn s x w (ends r) = other (r.word == w || is_next_hop s x w r.holder)
-waits_in_turn s x w p = other (is_awaited w (first_unreadable (words_kept x.thread) x.server (awaited s.options.colours s.ground x.thread.number p)))
+-- the message asks for a copy of that object for the thread, or brings it; or for the object, where it comes
+abbrev pub asks_for : ℕ → Awaited → Message → Bool
+asks_for t a (Fetch w o s u) = (u == t && not a.comes) && (a.word == w && same_object o a.object)
+asks_for t a (Fetched w c u) = (u == t && not a.comes) && (a.word == w && same_object c.object a.object)
+asks_for t a (Move w o s u) = (u == t && a.comes) && (a.word == w && same_object o a.object)
+asks_for t a (Moved w c u) = (u == t && a.comes) && (a.word == w && same_object c.object a.object)
+asks_for t a m = false
+
+abbrev pub asked_for : ℕ → Awaited → Thing → ℕ
+asked_for t a (sent r m) = one (asks_for t a m)
+asked_for t a x = 0
+
+abbrev pub not_asked : Sight → Standing → ℕ → Option Awaited → ℕ
+not_asked s x w None = 1
+not_asked s x w (Some a) = other (a.word == w && some (sum_over s (asked_for x.thread.number a)))
 
 abbrev pub out_of_turn : Sight → Standing → Phase → ℕ
-out_of_turn s x (phase.WaitCell w) = waits_in_turn s x w (path s x)
+out_of_turn s x (phase.WaitCell w) = not_asked s x w (in_turn s x w (path s x))
 out_of_turn s x p = 0
 
--- a write that waits for a pull waits for the object of its first hop that isn't passed, or for that of the reference that it ends; a read
--- waits for its first hop that is neither here nor in a copy that the thread keeps. (A copy under the word that it waits for may have come here for
--- another thread in the meantime)
+-- a thread in phase `WaitCell(w)` waits in turn: what it waits for on its path has the word w, and its message asks for that object or brings it, a copy
+-- where it is read and the object where it comes. (A copy under the word that it waits for may have come here for another thread in the meantime)
 abbrev pub turn_wrong : Sight → ℕ
 turn_wrong s = sum_threads s (λ x. out_of_turn s x x.thread.phase)
 

@@ -4,6 +4,7 @@ use Rattle.fr_base.specs.declared.name.ObjNo.{ObjNo}
 use Rattle.fr_base.specs.declared.name.MutexNo.{MutexNo}
 use Rattle.fr_base.specs.declared.release.Released.{Released}
 use Rattle.fr_base.specs.declared.release.Released.TheVariants as released
+use Rattle.global_addr.specs.Words.{server_of, address_of}
 use Rattle.heap_partition.specs.declared.value.Owned.{Owned}
 use Rattle.heap_partition.specs.declared.value.Owned.TheVariants as owned
 use Rattle.server_msgs.specs.declared.message.Message.{Message}
@@ -71,6 +72,11 @@ addresses f x = 0
 abbrev pub lies_at : ℕ → ObjNo → Thing → ℕ
 lies_at s o (lies r a c) = one (r == s && same_object c.object o)
 lies_at s o x = 0
+
+-- the object lies where that word leads
+abbrev pub lies_under : ℕ → ObjNo → Thing → ℕ
+lies_under w o (lies r a c) = one ((server_of w == r && address_of w == a) && same_object c.object o)
+lies_under w o x = 0
 
 -- COPIES
 
