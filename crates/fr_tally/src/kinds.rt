@@ -1,25 +1,31 @@
-//! The macro that writes out one arm for each kind.
+//! The macro that writes out one arm for each kind of messages.
 
-/// Inside a function's body, a `match` on a kind's number: one arm for each answer, in the order of the kinds, from 0 on. At most
-/// sixteen kinds; a number past the last kind gets the last answer.
+/// Inside a function's body, what there is for each of the sixteen kinds of messages, in their order, where `Kind` is a type with a
+/// variant for each: `each_kind!(Kind)` is the array of all of them, and `each_kind!(kind, Kind; ..)` a `match` with an arm for each, of
+/// which the answers are given. It has no arm for others, and one answer too few or too many doesn't compile.
 #[macro_export]
 macro_rules! each_kind {
-    ($kind:expr; $($answers:tt)+) => {
-        $crate::kind_arms!($kind; []; 0 1 2 3 4 5 6 7 8 9 10 11 12 13 14 15; $($answers)+)
+    ($($asked:tt)+) => {
+        $crate::kind_arms!(
+            [
+                Fetch Fetched Move Moved Drop Lock Granted Unlock
+                Dup Dupped Release Start Join Joined Finished Migrate
+            ];
+            $($asked)+
+        )
     };
 }
 
-/// The arms of `each_kind`, one after another.
+/// What `each_kind` writes, over those variants.
 #[doc(hidden)]
 #[macro_export]
 macro_rules! kind_arms {
-    ($kind:expr; [$($arms:tt)*]; $($numbers:literal)*; $last:expr $(,)?) => {
-        match $kind {
-            $($arms)*
-            _ => $last,
-        }
+    ([$($variant:ident)+]; $type:ident) => {
+        [$($type::$variant),+]
     };
-    ($kind:expr; [$($arms:tt)*]; $number:literal $($numbers:literal)*; $answer:expr, $($answers:tt)+) => {
-        $crate::kind_arms!($kind; [$($arms)* $number => $answer,]; $($numbers)*; $($answers)+)
+    ([$($variant:ident)+]; $kind:expr, $type:ident; $($answer:expr),+ $(,)?) => {
+        match $kind {
+            $($type::$variant => $answer,)+
+        }
     };
 }

@@ -12,30 +12,10 @@ use crate::figures::figures_of;
 use crate::names::add_signed;
 use coloured_heap::message_counts;
 use fr_base::{Ending, Kind, Label, List, NoMemory, ThreadNo, Wait, Waits};
-use fr_tally::Tally;
+use fr_tally::{Tally, each_kind};
 use itoa::Buffer;
 use journal::{Journal, add_mutex, add_thread, order_text};
 use std::alloc::Global;
-
-/// The kinds of messages by number.
-const KINDS: [Kind; 16] = [
-    Kind::Fetch,
-    Kind::Fetched,
-    Kind::Move,
-    Kind::Moved,
-    Kind::Drop,
-    Kind::Lock,
-    Kind::Granted,
-    Kind::Unlock,
-    Kind::Dup,
-    Kind::Dupped,
-    Kind::Release,
-    Kind::Start,
-    Kind::Join,
-    Kind::Joined,
-    Kind::Finished,
-    Kind::Migrate,
-];
 
 // How a run ended, as a word.
 fn ending_name(ending: Ending) -> &'static str
@@ -52,24 +32,11 @@ fn ending_name(ending: Ending) -> &'static str
 fn kind_name(kind: Kind) -> &'static str
     ensures { result.now ≡ kind_text kind }
 {
-    match kind {
-        Kind::Fetch => "fetch",
-        Kind::Fetched => "fetched",
-        Kind::Move => "move",
-        Kind::Moved => "moved",
-        Kind::Drop => "drop",
-        Kind::Lock => "lock",
-        Kind::Granted => "granted",
-        Kind::Unlock => "unlock",
-        Kind::Dup => "dup",
-        Kind::Dupped => "dupped",
-        Kind::Release => "release",
-        Kind::Start => "start",
-        Kind::Join => "join",
-        Kind::Joined => "joined",
-        Kind::Finished => "finished",
-        Kind::Migrate => "migrate",
-    }
+    each_kind!(
+        kind, Kind;
+        "fetch", "fetched", "move", "moved", "drop", "lock", "granted", "unlock",
+        "dup", "dupped", "release", "start", "join", "joined", "finished", "migrate",
+    )
 }
 
 // Adds a line with a name and a number.
@@ -166,7 +133,7 @@ fn add_figures(text: &mut String, journal: &Journal) -> Result<(), NoMemory>
 {
     let tally = message_counts(journal)?;
     add_counts(text, journal, tally.total())?;
-    add_kinds(text, &tally, &KINDS)?;
+    add_kinds(text, &tally, &each_kind!(Kind))?;
     Ok(())
 }
 
