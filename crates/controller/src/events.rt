@@ -1,8 +1,9 @@
 //! The choice of a server's next event.
 
-ghost use Rattle.std.specs.Prelude.{◌≡◌, ◌%◌, ◌<◌, ◌^◌, option_map, IfNone};
+ghost use Rattle.std.specs.Prelude.{◌≡◌, ◌%◌, ◌<◌, ◌^◌, true, option_map, IfSome, IfNone};
 ghost use Rattle.rand_pcg.specs.Pcg.{pcg32};
 ghost use Rattle.drive_model.specs.Choice.{generator_of, next};
+ghost use Rattle.server_model.specs.Events.{enabled};
 
 use rand_core::utils::NextWord;
 use rand_pcg::Lcg64Xsh32;
@@ -46,10 +47,11 @@ impl Choice {
 
 /// The server's next event: the eviction that is due; else a message that waits or a step of a thread that can, drawn by one word of the
 /// generator modulo their number. `None` exactly where no eviction is due, no message waits and no thread can step; then no word is
-/// drawn, nor for an eviction. It takes the time of the server's questions.
+/// drawn, nor for an eviction. The event that it gives is enabled. It takes the time of the server's questions.
 pub fn next(server: &Server, choice: &mut Choice) -> Option<What>
     ensures next { next server.now.options server.now.state choice.old ≡ option_map (λ w. record { what = w; generator = choice.new }) result }
     ensures none { IfNone result (choice.new ≡ choice.old) }
+    ensures enabled { IfSome result (λ what. enabled server.now.options server.now.state what ≡ true) }
 {
     if let Some(word) = server.due() {
         return Some(What::Evict(word));

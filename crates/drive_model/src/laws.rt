@@ -1,6 +1,6 @@
 //! Laws of driven runs.
 
-ghost use Rattle.drive_model.specs.Laws.{JournalsBounded};
+ghost use Rattle.drive_model.specs.Laws.{BalanceMoves, JournalsBounded};
 ghost use Rattle.drive_model.specs.Rows.{BalanceComputes, LongRunComputes, RoundsCompute};
 
 /// Whole runs in rounds, each under two choices, with what a report shows of it; a run of a thousand steps among them.
@@ -17,4 +17,9 @@ pub fn balance_computes()
 /// The journal of a run in rounds has no more entries than the run has turns.
 pub fn journals_are_bounded()
     ensures { JournalsBounded }
+{}
+
+/// A balance moves the candidate of one server to another one.
+pub fn balances_move()
+    ensures { BalanceMoves }
 {}

@@ -468,3 +468,21 @@ old_copy cs ws w c h r = by (copy_of cs w) refl (rw r at h)
 pub among_last : (ws : List ℕ) (w : ℕ) → is_among (ws ++ w ∷ []) w ≡ true
 among_last [] w = rw (same w) refl
 among_last (x ∷ xs) w = or_right (x == w) (is_among (xs ++ w ∷ []) w) (among_last xs w)
+
+first_is_unused : (w : ℕ) (es : Entries) (at : ℕ) (slot : Slot) → StandsAt es w at slot → at ≡ first_unused es → is_unused slot ≡ true
+first_is_unused w [] at slot h q = absurd (true≢false h)
+first_is_unused w (e ∷ es) zero slot h q = by (is_unused e.1) refl q
+  where
+    by : (b : Bool) → is_unused e.1 ≡ b → zero ≡ cond b 0 (suc (first_unused es)) → is_unused slot ≡ true
+    by true p q = ap is_unused (sym h.1) ∙ p
+    by false p q = absurd (omega (arith, q))
+first_is_unused w (e ∷ es) (suc at) slot h q = by (is_unused e.1) q (first_is_unused w es at slot h.1)
+  where
+    by : (b : Bool) → suc at ≡ cond b 0 (suc (first_unused es)) → (at ≡ first_unused es → is_unused slot ≡ true) → is_unused slot ≡ true
+    by true q ih = absurd (omega (arith, q))
+    by false q ih = ih (omega (arith, q))
+
+-- the first copy that nobody uses can be evicted
+pub first_can_go : (w : ℕ) (es : Entries) (at : ℕ) (slot : Slot) → StandsAt es w at slot → at ≡ first_unused es → can_evict (copies_in es) w ≡ true
+first_can_go w es at Room h q = absurd (true≢false (sym (first_is_unused w es at Room h q)))
+first_can_go w es at (Held c u) h q = can_evict_is (copies_in es) w c u (held_copy w es at c u h) ∙ first_is_unused w es at (Held c u) h q

@@ -263,10 +263,13 @@ impl Cache {
         true
     }
 
-    /// The word of the copy that was filled first of those that nobody uses; `None` exactly where all are in use.
+    /// The word of the copy that was filled first of those that nobody uses, which `evict` takes out; `None` exactly where all are in use.
     pub fn oldest_unused(&self) -> Option<Word>
-        ensures { result ≡ oldest_unused self.now.state }
+        ensures word { result ≡ oldest_unused self.now.state }
+        ensures unused { IfSome result (λ word. can_evict self.now.state word ≡ true) }
     {
+        // The length is what says that no two keys are equal.
+        let _len = self.slots.len();
         match self.slots.get_index(self.oldest) {
             Some((word, _)) => Some(*word),
             None => None,

@@ -1,13 +1,16 @@
 -- The threads of a server beside the sets of those that can step, wait, may be moved and aren't over.
-use Rattle.std.proofs.Common.{if◌then◌else◌, ◌≡◌, ℕ, ◌^◌, ◌<◌, ◌==◌, nat_lt, Bool, true, false, true≢false, List, [], ◌∷◌, map, length, slice_get, is_some, Option, None, Some, IsSome, option_map, Result, Ok, Err, OnOk, OnErr, refl, sym, subst, ap, ◌∙◌, arith}
+use Rattle.std.proofs.Common.{if◌then◌else◌, ◌≡◌, ℕ, ◌^◌, ◌<◌, ◌==◌, ◌&&◌, nat_lt, Bool, true, false, true≢false, List, [], ◌∷◌, map, length, slice_get, is_some, Option, None, Some, IsSome, option_map, Result, Ok, Err, OnOk, OnErr, refl, sym, subst, ap, ◌∙◌, arith}
 use Rattle.std.proofs.lemmas.Bool.{eq-eqb, eqb-true}
 use Rattle.std.proofs.lemmas.List.{length-map}
 use Rattle.std.proofs.lemmas.Option.{slice_get-map}
-use Rattle.rank_map.specs.Places.{Place, place_at, has_place, item_in, item_at, put_first, with_place, with_free, entries, Rises}
-use Rattle.rank_map.specs.Marks.{mark_of, IsMarked}
+use Rattle.rank_map.specs.Places.{Place, Entry, place_at, has_place, item_in, item_at, put_first, with_place, with_free, entries, Rises}
+use Rattle.rank_map.specs.Marks.{mark_if, mark_of, marked, IsMarked}
 use Rattle.rank_map.proofs.PlaceLemmas.{rises_with}
-use Rattle.rank_map.proofs.MarkLemmas.{marked_change, set_free, map_free, free_rises, free_there, nth_below}
+use Rattle.rank_map.proofs.RankLemmas.{entry_place}
+use Rattle.rank_map.proofs.MarkLemmas.{marked_change, marked_rises, set_free, map_free, free_rises, free_there, nth_below}
 use Rattle.thread_state.specs.View.{ThreadState, ThreadView}
+use Rattle.thread_state.specs.declared.phase.Phase.{Phase}
+use Rattle.server_model.specs.Events.{can_step, is_ready, has_phase}
 use Rattle.server_model.specs.Work.{thread_in, set_thread, with_thread}
 use Rattle.server_model.specs.Questions.{runnable_in, active_in, movable_in}
 use Rattle.server_core.specs.Threads.{states, HasKey, AreNumbered, steps, waits, moves, acts, AreThreads}
@@ -118,6 +121,50 @@ active_many {all} t = ap length t.active_set.same ∙ active_count all
 -- a number of some rank is below the bound
 pub rank_below : {f : ThreadView → Bool} {all : List (Place ThreadView)} {set : List (Place (Unit {0}))} (i k : ℕ) → IsMarked f all set → option_map (λ e. e.key) (slice_get (entries set) i) ≡ Some k → k < 2 ^ 40
 rank_below {set = set} i k m h = nth_below set (2 ^ 40) i k m.rises h
+
+-- the marks at places are those of the items
+marks_at : (f : ThreadView → Bool) (ps : List (Place ThreadView)) (k : ℕ) → place_at (marked f ps) k ≡ option_map (mark_of f) (place_at ps k)
+marks_at f [] k = refl
+marks_at f (p ∷ ps) k = by (p.key == k) (marks_at f ps k)
+  where
+    by : (b : Bool) → place_at (marked f ps) k ≡ option_map (mark_of f) (place_at ps k) → (if b then Some (mark_of f p.item) else place_at (marked f ps) k) ≡ option_map (mark_of f) (if b then Some p.item else place_at ps k)
+    by true ih = refl
+    by false ih = ih
+
+-- a thread of some rank in a set stands there, in a phase that the set's test tells
+member_stands : {f : ThreadView → Bool} {all : List (Place ThreadView)} {set : List (Place (Unit {0}))} (g : Phase → Bool) (i k : ℕ) → ((v : ThreadView) → f v ≡ true → g v.state.phase ≡ true) → Rises 0 (2 ^ 40) all → AreNumbered all → IsMarked f all set
+    → option_map (λ e. e.key) (slice_get (entries set) i) ≡ Some k → has_phase g (thread_in (states all) k) ≡ true
+member_stands {f} {all} g i k tells r n m h =
+    ap (has_phase g) (thread_at all 0 (2 ^ 40) k r n) ∙ by (slice_get (entries (marked f all)) i) refl (ap (λ es. option_map (λ e. e.key) (slice_get es i)) (sym m.same) ∙ h)
+  where
+    marks : (v : ThreadView) (u : Unit {0}) (b : Bool) → f v ≡ b → Some (mark_if b) ≡ Some (Some u) → g v.state.phase ≡ true
+    marks v u true e q = tells v e
+    marks v u false e q = absurd cc
+
+    found : (x : Option (Option ThreadView)) (u : Unit {0}) → option_map (mark_of f) x ≡ Some (Some u) → has_phase g (option_map (λ v. v.state) (item_in x)) ≡ true
+    found None u q = absurd cc
+    found (Some None) u q = absurd cc
+    found (Some (Some v)) u q = marks v u (f v) refl q
+
+    by : (x : Option (Entry (Unit {0}))) → slice_get (entries (marked f all)) i ≡ x → option_map (λ e. e.key) x ≡ Some k → has_phase g (option_map (λ v. v.state) (item_at all k)) ≡ true
+    by None is q = absurd cc
+    by (Some e) is q =
+        let key : e.key ≡ k = cc in
+        found (place_at all k) e.item (sym (marks_at f all k) ∙ subst (λ j. place_at (marked f all) j ≡ Some (Some e.item)) key (entry_place (marked f all) 0 (2 ^ 40) i e (marked_rises f all 0 (2 ^ 40) r) is))
+
+-- one that can step by its rank does, and the first that may be moved is ready
+pub runnable_stands : {all : List (Place ThreadView)} {r w m a : List (Place (Unit {0}))} (i k : ℕ) → AreThreads all r w m a → option_map (λ e. e.key) (slice_get (entries r) i) ≡ Some k → has_phase can_step (thread_in (states all) k) ≡ true
+runnable_stands i k t h = member_stands can_step i k (λ v e. e) t.rises t.numbered t.runnable_set h
+
+pub movable_stands : {all : List (Place ThreadView)} {r w m a : List (Place (Unit {0}))} (i k : ℕ) → AreThreads all r w m a → option_map (λ e. e.key) (slice_get (entries m) i) ≡ Some k → has_phase is_ready (thread_in (states all) k) ≡ true
+movable_stands i k t h = member_stands is_ready i k ready t.rises t.numbered t.movable_set h
+  where
+    first : (a b : Bool) → (a && b) ≡ true → a ≡ true
+    first true b e = refl
+    first false b e = e
+
+    ready : (v : ThreadView) → moves v ≡ true → is_ready v.state.phase ≡ true
+    ready v e = first (is_ready v.state.phase) _ e
 
 -- one that stands there is an item
 pub there_item : {all : List (Place ThreadView)} {r w m a : List (Place (Unit {0}))} (k : ℕ) → AreThreads all r w m a → IsSome (thread_in (states all) k) → item_at all k ≡ None → ⊥

@@ -1,6 +1,6 @@
 //! One server.
 
-ghost use Rattle.std.specs.Prelude.{◌≡◌, ◌+◌, ◌<◌, ◌≤◌, [], Some, None, true, length, slice_get, option_map, IsSome, IsOk, IfOk, IfErr, OnOk, OnErr};
+ghost use Rattle.std.specs.Prelude.{◌≡◌, ◌≢◌, ℕ, ◌+◌, ◌<◌, ◌≤◌, [], Some, None, true, length, slice_get, option_map, IfSome, IsSome, IsOk, IfOk, IfErr, OnOk, OnErr};
 ghost use Rattle.server_model.specs.Servers.{start_of, server_at};
 ghost use Rattle.server_model.specs.Clusters.{accept};
 ghost use Rattle.server_model.specs.Events.{does, enabled, is_ready};
@@ -10,6 +10,7 @@ ghost use Rattle.server_core.specs.Rooms.{HasRoom};
 ghost use Rattle.server_core.specs.Steps.{CountsLeft};
 ghost use Rattle.server_core.specs.Threads.{states, first_threads};
 ghost use Rattle.server_model.specs.declared.event.What.{What};
+ghost use Rattle.server_model.specs.declared.event.What.TheVariants.{Step, Evict, Migrate};
 ghost use Rattle.server_model.specs.Questions.{due, runnable, active, movable, waits_among};
 
 use crate::beginning::{deliver, evict_at, migrate_at};
@@ -256,9 +257,11 @@ impl Server {
         self.work.inbox.at(at)
     }
 
-    /// The oldest cached word that nobody uses, exactly where the cache holds more words than the options keep; else `None`.
+    /// The oldest cached word that nobody uses, exactly where the cache holds more words than the options keep; else `None`. Its eviction is
+    /// enabled.
     pub fn due(&self) -> Option<Word>
-        ensures { result ≡ due self.now.options self.now.state }
+        ensures word { result ≡ due self.now.options self.now.state }
+        ensures enabled { IfSome result (λ word. enabled self.now.options self.now.state (Evict word) ≡ true) }
     {
         if self.work.cache.len() > self.options.cache as usize {
             self.work.cache.oldest_unused()
@@ -276,7 +279,8 @@ impl Server {
 
     /// The thread at that place, from 0, among those whose step is enabled, by rising number; `None` exactly past the end.
     pub fn runnable(&self, at: usize) -> Option<ThreadNo>
-        ensures { result ≡ slice_get (runnable self.now.state) at }
+        ensures thread { result ≡ slice_get (runnable self.now.state) at }
+        ensures enabled { IfSome result (λ thread. enabled self.now.options self.now.state (Step thread) ≡ true) }
     {
         self.threads.runnable(at)
     }
@@ -288,9 +292,11 @@ impl Server {
         self.threads.active() as u64
     }
 
-    /// The least thread here that is ready and hasn't moved since its last plain step; `None` exactly where there is none.
+    /// The least thread here that is ready and hasn't moved since its last plain step; `None` exactly where there is none. Its migration to
+    /// any other server of the run is enabled.
     pub fn movable(&self) -> Option<ThreadNo>
-        ensures { result ≡ movable self.now.state }
+        ensures thread { result ≡ movable self.now.state }
+        ensures enabled { IfSome result (λ thread. (target : ℕ) → target < self.now.options.servers → target ≢ self.now.state.rest.number → enabled self.now.options self.now.state (Migrate thread target) ≡ true) }
     {
         self.threads.movable()
     }

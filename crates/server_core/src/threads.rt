@@ -1,9 +1,10 @@
 //! The threads that stand at a server.
 
-ghost use Rattle.std.specs.Prelude.{◌≡◌, ◌-◌, ◌<◌, ◌≤◌, ◌^◌, true, false, [], None, Some, length, vec_len, slice_get, option_map, IsTrue, IsOk, IsSome, OnOk, OnErr};
+ghost use Rattle.std.specs.Prelude.{◌≡◌, ◌-◌, ◌<◌, ◌≤◌, ◌^◌, true, false, [], None, Some, length, vec_len, slice_get, option_map, IfSome, IsTrue, IsOk, IsSome, OnOk, OnErr};
 ghost use Rattle.std.specs.Vec.{vec_capacity};
 ghost use Rattle.rank_map.specs.Places.{has_place, item_at, with_place, with_free};
 ghost use Rattle.rank_map.specs.Marks.{mark_if};
+ghost use Rattle.server_model.specs.Events.{can_step, has_phase, is_ready};
 ghost use Rattle.server_model.specs.Work.{thread_in, set_thread, with_thread, without_thread};
 ghost use Rattle.thread_state.specs.View.{ThreadState};
 ghost use Rattle.server_model.specs.Questions.{runnable_in, wait_of, waits_among, active_in, movable_in};
@@ -231,9 +232,10 @@ impl Threads {
         self.runnable.len()
     }
 
-    /// The thread at that place, from 0, among those that can step, by rising number; `None` exactly past the end.
+    /// The thread at that place, from 0, among those that can step, by rising number; it stands there. `None` exactly past the end.
     pub fn runnable(&self, at: usize) -> Option<ThreadNo>
-        ensures { result ≡ slice_get (runnable_in (states self.now)) at }
+        ensures thread { result ≡ slice_get (runnable_in (states self.now)) at }
+        ensures stands { IfSome result (λ thread. has_phase can_step (thread_in (states self.now) thread) ≡ true) }
     {
         match self.runnable.nth(at) {
             Some(number) => Some(ThreadNo::from_number(number)),
@@ -258,9 +260,10 @@ impl Threads {
         }
     }
 
-    /// The least thread that is ready and hasn't moved since its last plain step; `None` exactly where there is none.
+    /// The least thread that is ready and hasn't moved since its last plain step; it stands there. `None` exactly where there is none.
     pub fn movable(&self) -> Option<ThreadNo>
-        ensures { result ≡ movable_in (states self.now) }
+        ensures thread { result ≡ movable_in (states self.now) }
+        ensures stands { IfSome result (λ thread. has_phase is_ready (thread_in (states self.now) thread) ≡ true) }
     {
         match self.movable.nth(0) {
             Some(number) => Some(ThreadNo::from_number(number)),
