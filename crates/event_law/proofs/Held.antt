@@ -8,7 +8,8 @@ use Rattle.heap_law.specs.Names.{tot, one, if_so}
 use Rattle.heap_law.specs.Things.{Thing, sent, stands, noted}
 use Rattle.heap_law.specs.Sight.{Sight}
 use Rattle.heap_law.specs.Paths.{popped, task_in, joined_thread}
-use Rattle.heap_law.specs.Sharing.{is_task, finished_of, joined_of, owes, owed, kept_note, got_phase, results}
+use Rattle.heap_law.specs.Requests.{is_task}
+use Rattle.heap_law.specs.Sharing.{finished_of, joined_of, owes, owed, kept_note, got_phase, results}
 
 -- the result of thread t is the gift of this one
 abbrev pub holds_result : List Instr → ℕ → ThreadState → ℕ

@@ -29,9 +29,8 @@ use Rattle.heap_law.specs.Paths.{popped, joined_thread}
 use Rattle.heap_law.specs.Paths as paths
 use Rattle.heap_law.specs.Weights.{is_thread, tasks_of}
 use Rattle.heap_law.specs.Walking.{instr_of}
-use Rattle.heap_law.specs.Requests.{is_join, is_got, in_phase, phase_fits, carries, misrouted, home_of, stands_wrong, early_gift, halves_to, halves_needed, waits}
-use Rattle.heap_law.specs.Requests as requests
-use Rattle.heap_law.specs.Sharing.{is_task, gift_result, owes, owed, joined_of}
+use Rattle.heap_law.specs.Requests.{is_task, is_join, is_got, in_phase, phase_fits, carries, misrouted, home_of, stands_wrong, early_gift, halves_to, halves_needed, waits}
+use Rattle.heap_law.specs.Sharing.{gift_result, owes, owed, joined_of}
 use Rattle.heap_law.specs.Coherent.{IsSound}
 use Rattle.heap_law.proofs.Names.{and_right}
 use Rattle.heap_law.proofs.Sums.{tot-append, server_parts}
@@ -166,7 +165,7 @@ module _ (u : ℕ) where
     one_most true = omega arith
     one_most false = omega arith
 
-    waits_for : (w : ℕ) (o : Option ℕ) → one (u == w) ≤ one (is_task u o) + 2 * other (requests.is_task w o)
+    waits_for : (w : ℕ) (o : Option ℕ) → one (u == w) ≤ one (is_task u o) + 2 * other (is_task w o)
     waits_for w None = omega (arith, one_most (u == w))
     waits_for w (Some v) = eq_cases (λ b. one (u == w) ≤ one (u == v) + 2 * other b) w v (λ e. let same : one (u == w) ≡ one (u == v) = ap (λ i. one (u == i)) e in omega (arith, same)) (λ ne. omega (arith, one_most (u == w)))
 

@@ -18,8 +18,8 @@ use Rattle.heap_law.specs.Follow.{Standing}
 use Rattle.heap_law.specs.Sight.{Sight}
 use Rattle.heap_law.specs.Walking.{instr_of}
 use Rattle.heap_law.specs.Weights.{cells, drops, owners, owned_object, dropped_object, objects, states, addresses, uses_of, users_of, kept_words, is_home_of, shares_of, shares_sent, released_mutex, shares_at_home, owned_share, released_share, sent_share, shared_mutexes}
-use Rattle.heap_law.specs.Requests.{Answer, no_answer, whole_answer, half_answer, message_answer, noted_answer, halves, halves_to, halves_needed, answered, answered_threads, waits, Branch, half_noted, pair_notes, branch_places, pair_places, noted_branch, phase_branches, branches, locked_mutex}
-use Rattle.heap_law.specs.Sharing.{is_mutex, contents, is_content_of, spot_mutex, some_mutex, held_mutexes}
+use Rattle.heap_law.specs.Requests.{is_mutex, Answer, no_answer, whole_answer, half_answer, message_answer, noted_answer, halves, halves_to, halves_needed, answered, answered_threads, waits, Branch, half_noted, pair_notes, branch_places, pair_places, noted_branch, phase_branches, branches, locked_mutex}
+use Rattle.heap_law.specs.Sharing.{contents, is_content_of, spot_mutex, some_mutex, held_mutexes}
 use Rattle.heap_law.proofs.Shown.{Sees, Quiet}
 use Rattle.heap_law.proofs.Names.{left_none, right_none, both_none, and_left, and_right, same_number, one_not, if_not, if_none, apart, other_number, other_object, other_mutex, same_mutexes, two, other_pair, same_pairs}
 

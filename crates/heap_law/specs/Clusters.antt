@@ -21,7 +21,7 @@ use Rattle.thread_state.specs.declared.phase.Phase.TheVariants as phase
 use Rattle.read_cache.specs.Cache.{Copy}
 use Rattle.mutex_home.specs.Mutexes.{Mutex}
 use Rattle.join_home.specs.Tasks.{Task, TaskState, going, asked}
-use Rattle.server_msgs.specs.declared.message.Message.TheVariants.{Drop}
+use Rattle.server_msgs.specs.declared.message.Message.TheVariants.{Moved, Drop}
 use Rattle.server_model.specs.Servers.{Server, Cluster}
 
 -- SHORT NAMES
@@ -193,3 +193,33 @@ relent_server = record {
 
 abbrev pub relent : Cluster
 relent = record { code = some_code; options = options 1; servers = relent_server ∷ [] }
+
+-- THE END OF A DIRTY REFERENCE
+
+-- slot 0's box holds object 0, whose box of object 1 is lent to slot 1; that reference is dirty and ends, and waits for object 0, through which its
+-- holder's place leads. (No run comes here: a run cleans the reference before it asks)
+abbrev pub ending_code : List Instr
+ending_code = instr.DropSlot ∷ instr.DropSlot ∷ instr.End operand.Unit ∷ []
+
+abbrev pub ending_reference : MutRef
+ending_reference = record { word = word_of 1 1 0; first = word_of 0 1 0; object = object 1; dirty = true; holder = place 0 1 }
+
+abbrev pub ending_thread : ThreadState
+ending_thread = record (new_thread 0 0 (value.Own (box (word_of 0 0 0) 0) ∷ value.Mut ending_reference ∷ [])) { phase = phase.WaitCell (word_of 0 0 0); made = 2 }
+
+abbrev pub ending_server : Server
+ending_server = record relent_server {
+  rest = record relent_server.rest {
+    number = 1;
+    partition = record { server = 1; limit = 4; cells = cell 1 (int 5) ∷ []; free = []; retired = 0 };
+    mutexes = record { home = 1; made = 0; there = [] };
+    inbox = Moved (word_of 0 0 0) (record { object = object 0; value = box (word_of 0 1 0) 1 }) 0 ∷ [];
+  };
+  threads = ending_thread ∷ [];
+}
+
+abbrev pub left_server : Server
+left_server = record relent_server { rest = record relent_server.rest { partition = record { server = 0; limit = 4; cells = None ∷ []; free = (0, 1) ∷ []; retired = 0 } }; threads = [] }
+
+abbrev pub ends_dirty : Cluster
+ends_dirty = record { code = ending_code; options = options 2; servers = left_server ∷ ending_server ∷ [] }

@@ -20,7 +20,7 @@ use Rattle.heap_law.specs.Weights.{is_home_of, shares_of, shares_at_home, shared
 use Rattle.heap_law.specs.Paths.{joined_thread}
 use Rattle.heap_law.specs.Placing.{sum_over}
 use Rattle.heap_law.specs.Walking.{sum_threads, instr_of}
-use Rattle.heap_law.specs.Requests.{home_of, locked_mutex}
+use Rattle.heap_law.specs.Requests.{home_of, is_mutex, is_task, locked_mutex}
 
 -- NAMES OF MUTEXES
 
@@ -74,10 +74,6 @@ abbrev pub mutex_homes_wrong : Sight → ℕ
 mutex_homes_wrong s = sum_over s elsewhere
 
 -- CONTENTS
-
-abbrev pub is_mutex : MutexNo → Option MutexNo → Bool
-is_mutex m None = false
-is_mutex m (Some n) = same_mutex m n
 
 abbrev pub is_content_of : MutexNo → Spot → ℕ
 is_content_of m (as_content n) = one (same_mutex n m)
@@ -234,10 +230,6 @@ tasks f x = 0
 -- a thread is named by at most one task value or `release` message, in the places that own
 abbrev pub tasks_wrong : Sight → ℕ
 tasks_wrong s = more_than_one tasks_of tasks s.things
-
-abbrev pub is_task : ℕ → Option ℕ → Bool
-is_task t None = false
-is_task t (Some u) = t == u
 
 -- the result of that thread is the gift of a join
 abbrev pub gift_result : Sight → ℕ → Standing → ℕ
