@@ -98,21 +98,21 @@ names n (lies r a c) = owns n c.value
 names n (flies w c) = owns n c.value
 names n x = false
 
-abbrev owner_in : (Node → Bool) → Owner → Bool
+abbrev pub owner_in : (Node → Bool) → Owner → Bool
 owner_in go a_thread = true
 owner_in go (inside n) = go n
 owner_in go outside = false
 
-abbrev named_in : Bool → (Node → Bool) → Owner → Bool
+abbrev pub named_in : Bool → (Node → Bool) → Owner → Bool
 named_in true go o = owner_in go o
 named_in false go o = false
 
-abbrev any_named : Sight → (Node → Bool) → Node → List Thing → Bool
+abbrev pub any_named : Sight → (Node → Bool) → Node → List Thing → Bool
 any_named s go n [] = false
 any_named s go n (x ∷ b) = named_in (names n x) go (owner_of s x) || any_named s go n b
 
 -- a chain of owners isn't longer than there are things
-abbrev in_state_by : ℕ → Sight → Node → Bool
+abbrev pub in_state_by : ℕ → Sight → Node → Bool
 in_state_by zero s n = false
 in_state_by (suc k) s n = any_named s (in_state_by k s) n s.things
 
@@ -127,16 +127,16 @@ value_is_in s x = owner_in (is_in_state s) (owner_of s x)
 
 -- OBJECTS
 
-abbrev if_in : Bool → Option Plain → Option Plain
+abbrev pub if_in : Bool → Option Plain → Option Plain
 if_in true v = v
 if_in false v = None
 
-abbrev cell_value : ObjNo → Thing → Option Plain
+abbrev pub cell_value : ObjNo → Thing → Option Plain
 cell_value o (lies r a c) = if_in (same_object c.object o) (Some (plain_of c.value))
 cell_value o (flies w c) = if_in (same_object c.object o) (Some (plain_of c.value))
 cell_value o x = None
 
-abbrev or_else : {A : Type 0} → Option A → Option A → Option A
+abbrev pub or_else : {A : Type 0} → Option A → Option A → Option A
 or_else None y = y
 or_else (Some x) y = Some x
 
@@ -145,7 +145,7 @@ abbrev pub first_shown : {A : Type 0} → (Thing → Option A) → List Thing �
 first_shown f [] = None
 first_shown f (x ∷ b) = or_else (f x) (first_shown f b)
 
-abbrev object_value : Sight → ObjNo → Option Plain
+abbrev pub object_value : Sight → ObjNo → Option Plain
 object_value s o = if_in (is_in_state s (object_n o)) (first_shown (cell_value o) s.things)
 
 -- MUTEXES
@@ -181,7 +181,7 @@ mutex_state s m =
 abbrev pub PlainLife : Type 0
 PlainLife = Life CodeRunning
 
-abbrev plain_value : Value → PlainValue
+abbrev pub plain_value : Value → PlainValue
 plain_value value.Gone = Own plain.Nothing
 plain_value (value.Own v) = Own (plain_of v)
 plain_value (value.SharedSlot i) = ToSlot i
@@ -229,27 +229,27 @@ result_value s t x = None
 abbrev result_of : Sight → ℕ → Option Plain
 result_of s t = or_else (first_shown (branch_result t) s.things) (if_in (is_branch s t || is_in_state s (task_n t)) (first_shown (result_value s t) s.things))
 
-abbrev ended_with : Option Plain → PlainLife
+abbrev pub ended_with : Option Plain → PlainLife
 ended_with None = over
 ended_with (Some v) = ended (Own v)
 
 -- a thread other than main was let go where no task value in the state and no par that goes on names it
-abbrev was_let_go : Sight → ℕ → Bool
+abbrev pub was_let_go : Sight → ℕ → Bool
 was_let_go s t = not (is_branch s t || is_in_state s (task_n t))
 
-abbrev going_on : Sight → ℕ → CodeRunning → PlainLife
+abbrev pub going_on : Sight → ℕ → CodeRunning → PlainLife
 going_on s zero p = alive p
 going_on s (suc t) p = if was_let_go s (suc t) then loose p else owing p
 
-abbrev running_at : ThreadState → CodeRunning
+abbrev pub running_at : ThreadState → CodeRunning
 running_at t = record { place = record { pc = t.pc; temps = reverse (map plain_value t.temps) }; slots = reverse (map plain_value t.slots) }
 
-abbrev life_of : Sight → ThreadState → Bool → PlainLife
+abbrev pub life_of : Sight → ThreadState → Bool → PlainLife
 life_of s t true = ended_with (result_of s t.number)
 life_of s t false = going_on s t.number (running_at t)
 
 -- a thread that was counted and stands nowhere has ended, and its result was taken
-abbrev life_at : Sight → ℕ → Option Standing → PlainLife
+abbrev pub life_at : Sight → ℕ → Option Standing → PlainLife
 life_at s t None = ended_with (result_of s t)
 life_at s t (Some x) = life_of s x.thread (is_over x.thread.phase)
 
@@ -267,7 +267,7 @@ abbrev pub pair_of : Option Standing → Option (ℕ × ℕ)
 pair_of None = None
 pair_of (Some x) = two_in x.thread.phase
 
-abbrev started_by : ℕ → ℕ → Thing → ℕ
+abbrev pub started_by : ℕ → ℕ → Thing → ℕ
 started_by r n (counts q next old started made events) = one (q == r && nat_le n started)
 started_by r n x = 0
 
@@ -282,11 +282,11 @@ is_given_thread s t = t == 0 || (not (t % 2 ^ 32 == 0) && some (tot (started_by 
 abbrev pub is_given_mutex : Sight → MutexNo → Bool
 is_given_mutex s m = not (m.count == 0) && some (tot (made_by m.home m.count) s.things)
 
-abbrev if_given : Bool → PlainLife → Option PlainLife
+abbrev pub if_given : Bool → PlainLife → Option PlainLife
 if_given true l = Some l
 if_given false l = None
 
-abbrev thread_state : Sight → ℕ → Option PlainLife
+abbrev pub thread_state : Sight → ℕ → Option PlainLife
 thread_state s t = if_given (is_given_thread s t) (life_at s t (thread_at s.ground.threads t))
 
 -- ONE HEAP

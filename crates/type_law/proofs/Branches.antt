@@ -31,7 +31,8 @@ counted x (stands s p t ∷ b) (inl e) =
 counted x (stands s p t ∷ b) (inr h) = omega (arith, counted x b h)
 counted x (_ ∷ b) h = omega (arith, counted x b h)
 
-found : (x : Standing) (b : List Thing) → tot (is_thread x.thread.number) b ≤ 1 → Among x (threads_in b) → thread_at (threads_in b) x.thread.number ≡ Some x
+-- a thread that stands somewhere is found by its number
+pub found : (x : Standing) (b : List Thing) → tot (is_thread x.thread.number) b ≤ 1 → Among x (threads_in b) → thread_at (threads_in b) x.thread.number ≡ Some x
 found x [] l h = absurd h
 found x (stands s p t ∷ b) l (inl e) =
     subst (λ (y : Standing). thread_at (threads_in (stands s p t ∷ b)) y.thread.number ≡ Some y) e

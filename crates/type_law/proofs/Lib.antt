@@ -5,7 +5,7 @@ mod Start
 mod Boxed
 mod Tables
 mod Owning
-mod Branches
+pub mod Branches
 mod Paired
 mod Locking
 mod Whole

@@ -168,7 +168,7 @@ ends_wrong table n s = sum_threads s (λ x. entry_wrong (gives_other n x.thread.
 
 -- PLACES OF REFERENCES
 
-abbrev same_place : Option Location → Option Location → Bool
+abbrev pub same_place : Option Location → Option Location → Bool
 same_place (Some l) (Some m) = same_location l m
 same_place l m = false
 
@@ -177,31 +177,31 @@ is_value_of m (Some (value.Own (owned.Mutex n))) = same_mutex n m
 is_value_of m v = false
 
 -- a holder is the place with one star less, as slot and stars
-abbrev is_held_at : ℕ → ℕ → Lval → Bool
+abbrev pub is_held_at : ℕ → ℕ → Lval → Bool
 is_held_at slot zero h = false
 is_held_at slot (suc n) h = (h.slot == slot) && (h.depth == n)
 
 -- a reference leads where that place of its thread leads; the holder of a mutable one to an object is that place with one star less, and no other
 -- way to the same pointer; a mark is of the mutex that stands there
-abbrev leads_as : Ground → ℕ → Lval → Value → Bool
+abbrev pub leads_as : Ground → ℕ → Lval → Value → Bool
 leads_as g t w (value.Held m) = is_value_of m (value_at g t w)
 leads_as g t w (value.Mut r) = same_place (leads t (Some (value.Mut r))) (place_at g t w) && is_held_at w.slot w.depth r.holder
 leads_as g t w v = same_place (leads t (Some v)) (place_at g t w)
 
 -- the exact type of a reference that is no view names a place of its own thread
-abbrev astray_from : Ground → ℕ → Key → ℕ → Value → ℕ
+abbrev pub astray_from : Ground → ℕ → Key → ℕ → Value → ℕ
 astray_from g t (slot_k u i) n v = if_so (u == t) (other (leads_as g t (record { slot = i; depth = n }) v))
 astray_from g t k n v = 0
 
-abbrev astray : Ground → ℕ → Exact → Value → ℕ
+abbrev pub astray : Ground → ℕ → Exact → Value → ℕ
 astray g t (owns x) v = 0
 astray g t (refers m u) v = astray_from g t u.key u.depth v
 
-abbrev all_astray : KeyTypes → Ground → ℕ → (ℕ → Key) → ℕ → List Value → ℕ
+abbrev pub all_astray : KeyTypes → Ground → ℕ → (ℕ → Key) → ℕ → List Value → ℕ
 all_astray exact g t key i [] = 0
 all_astray exact g t key i (v ∷ vs) = astray g t (exact (key i)) v + all_astray exact g t key (i + 1) vs
 
-abbrev astray_of : KeyTypes → Ground → ThreadState → ℕ
+abbrev pub astray_of : KeyTypes → Ground → ThreadState → ℕ
 astray_of exact g t = all_astray exact g t.number (slot_k t.number) 0 t.slots + all_astray exact g t.number (temp_k t.number) 0 t.temps
 
 -- a reference leads to the slot or object that the place of its exact type leads to in its thread, one of the places that typing gives it; where

@@ -1,0 +1,175 @@
+-- The value in a slot has the form of its exact type: where that is a mutable reference, so is the value.
+use Rattle.std.proofs.Common.{◌≡◌, inl, inr, ℕ, zero, suc, ◌+◌, ◌==◌, not, Bool, true, false, if◌then◌else◌, List, [], ◌∷◌, ◌++◌, length, reverse, Option, Some, None, is_some, refl, sym, ap, subst, ◌∙◌, arith}
+use Rattle.std.specs.Prelude.{slice_get}
+use Rattle.std.proofs.lemmas.Grind.{reverse_onto}
+use Rattle.fr_typing.proofs.PlaceLemmas.{eq_cases}
+use Rattle.fr_typing.specs.Kinds.{Piece, whole, gone, boxed, own, shared, mutable, view}
+use Rattle.fr_typing.specs.Places.{Slot, Env}
+use Rattle.fr_base.specs.declared.place.Lval.{Lval}
+use Rattle.fr_store.specs.Keys.{Key, slot_k}
+use Rattle.fr_store.specs.Store.{Place as StorePlace}
+use Rattle.fr_store.specs.Typed.{refers, KeyTypes}
+use Rattle.fr_store.specs.Below.{ExactOf, RefOf, SlotsBelow}
+use Rattle.fr_sound.specs.States.{RunningTyped, IsThread, hand_key, hand_kind}
+use Rattle.fr_code.specs.Steps.{Place}
+use Rattle.fr_code.specs.CodeTypes.{is_variable}
+use Rattle.mut_borrow.specs.declared.shared.SharedRef.{SharedRef}
+use Rattle.thread_state.specs.declared.value.Value.{Value}
+use Rattle.thread_state.specs.declared.value.Value.TheVariants as value
+use Rattle.server_model.specs.Servers.{Cluster}
+use Rattle.heap_law.specs.Names.{tot, if_so, Among}
+use Rattle.heap_law.specs.Follow.{Standing, Ground}
+use Rattle.heap_law.specs.Sight.{sight}
+use Rattle.heap_law.specs.Sharing.{is_over}
+use Rattle.heap_law.specs.OneHeap.{one_heap, running_at}
+use Rattle.type_law.specs.Names.{NameTypes, names_of}
+use Rattle.type_law.specs.ClusterTypes.{KnownAt, astray, all_astray, astray_of, IsCoherent, slot_form, slots_wrong, has_form, entry_wrong, forms_of}
+use Rattle.path_law.specs.HeapStore.{GoesOn, heap_store}
+use Rattle.path_law.proofs.Shown.{none_else, some_is, is_running, length_one_more}
+
+-- AN ELEMENT BY ITS NUMBER FROM BEHIND
+
+abbrev at_behind : {A : Type 0} → List A → ℕ → Option A
+at_behind [] i = None
+at_behind (x ∷ xs) i = if i == length xs then Some x else at_behind xs i
+
+last_zero : {A : Type 0} (ys : List A) (v : A) → at_behind (ys ++ (v ∷ [])) 0 ≡ Some v
+last_zero [] v = refl
+last_zero (y ∷ ys) v =
+    eq_cases (λ b. (if b then Some y else at_behind (ys ++ (v ∷ [])) 0) ≡ Some v) 0 (length (ys ++ (v ∷ []))) (λ e. absurd (omega (arith, e, length_one_more ys v))) (λ ne. last_zero ys v)
+
+last_suc : {A : Type 0} (ys : List A) (v : A) (i : ℕ) → at_behind (ys ++ (v ∷ [])) (suc i) ≡ at_behind ys i
+last_suc [] v i = eq_cases (λ b. (if b then Some v else None) ≡ None) (suc i) 0 (λ e. absurd (omega (arith, e))) (λ ne. refl)
+last_suc (y ∷ ys) v i =
+    eq_cases (λ b. (if b then Some y else at_behind (ys ++ (v ∷ [])) (suc i)) ≡ at_behind (y ∷ ys) i) (suc i) (length (ys ++ (v ∷ [])))
+    (λ e. eq_cases (λ b. Some y ≡ (if b then Some y else at_behind ys i)) i (length ys) (λ e2. refl) (λ ne. absurd (ne (omega (arith, e, length_one_more ys v)))))
+    (λ ne. eq_cases (λ b. at_behind (ys ++ (v ∷ [])) (suc i) ≡ (if b then Some y else at_behind ys i)) i (length ys) (λ e2. absurd (ne (omega (arith, e2, length_one_more ys v)))) (λ n2. last_suc ys v i))
+
+behind_is : {A : Type 0} (xs : List A) (i : ℕ) → at_behind (reverse xs) i ≡ slice_get xs i
+behind_is [] i = refl
+behind_is (x ∷ xs) zero = ap (λ l. at_behind l 0) (reverse_onto xs x []) ∙ last_zero (reverse xs) x
+behind_is (x ∷ xs) (suc i) = ap (λ l. at_behind l (suc i)) (reverse_onto xs x []) ∙ last_suc (reverse xs) x i ∙ behind_is xs i
+
+-- THE PART OF A SLOT
+
+-- the part that typing gives a slot, with the value there
+pub record HasPart (key : ℕ → Key) (E : KeyTypes) (n : NameTypes) (e : Env) (i : ℕ) (v : Value) : Type 0 where
+  pub slot : Slot
+  pub exact : ExactOf key E slot.part (E (key i))
+  pub form : slot_form n slot (is_some slot.name) v ≡ true
+  pub variable : is_variable e i ≡ is_some slot.name
+
+same_length : (n : NameTypes) (e : Env) (vs : List Value) → slots_wrong n e vs ≡ 0 → length e ≡ length vs
+same_length n [] [] z = refl
+same_length n [] (v ∷ vs) z = absurd cc
+same_length n (s ∷ e) [] z = absurd cc
+same_length n (s ∷ e) (v ∷ vs) z = ap suc (same_length n e vs (omega (arith, z)))
+
+part_behind : (key : ℕ → Key) (E : KeyTypes) (n : NameTypes) (e : Env) (vs : List Value) (i : ℕ) (v : Value) → SlotsBelow key E e → slots_wrong n e vs ≡ 0 → at_behind vs i ≡ Some v → HasPart key E n e i v
+part_behind key E n [] [] i v below z h = absurd cc
+part_behind key E n [] (w ∷ vs) i v below z h = absurd cc
+part_behind key E n (s ∷ e) [] i v below z h = absurd cc
+part_behind key E n (s ∷ e) (w ∷ vs) i v below z h =
+    let lengths = same_length n e vs (omega (arith, z)) in
+    eq_cases (λ b. (if b then Some w else at_behind vs i) ≡ Some v → HasPart key E n (s ∷ e) i v) i (length vs)
+    (λ same found.
+    let value_is : w ≡ v = some_is found in
+    let number : length e ≡ i = lengths ∙ sym same in
+    let form : slot_form n s (is_some s.name) w ≡ true = none_else (slot_form n s (is_some s.name) w) (omega (arith, z)) in
+    record {
+      slot = s;
+      exact = subst (λ j. ExactOf key E s.part (E (key j))) number below.0;
+      form = subst (λ y. slot_form n s (is_some s.name) y ≡ true) value_is form;
+      variable = eq_cases (λ b. (if b then is_some s.name else is_variable e i) ≡ is_some s.name) i (length e) (λ e2. refl) (λ ne. absurd (ne (sym number)));
+    })
+    (λ ne found.
+    let q = part_behind key E n e vs i v below.1 (omega (arith, z)) found in
+    record {
+      slot = q.slot;
+      exact = q.exact;
+      form = q.form;
+      variable = eq_cases (λ b. (if b then is_some s.name else is_variable e i) ≡ is_some q.slot.name) i (length e) (λ e2. absurd (ne (e2 ∙ lengths))) (λ ne2. q.variable);
+    })
+    h
+
+-- a sum over threads that is nothing is nothing at each
+pub none_of : (f : Standing → ℕ) (x : Standing) (xs : List Standing) → tot f xs ≡ 0 → Among x xs → f x ≡ 0
+none_of f x [] z h = absurd h
+none_of f x (y ∷ xs) z (inl e) = subst (λ w. f w ≡ 0) e (omega (arith, z))
+none_of f x (y ∷ xs) z (inr h) = none_of f x xs (omega (arith, z)) h
+
+no_part : (key : ℕ → Key) (E : KeyTypes) (n : NameTypes) (s : Slot) (r : SharedRef) (u : StorePlace) → ExactOf key E s.part (refers true u) → slot_form n s (is_some s.name) (value.Shared r) ≡ true → ⊥
+no_part key E n s r u ex = by (is_some s.name)
+  where
+    named : (p : Piece) → RefOf key E p true u → has_form n p (value.Shared r) ≡ true → ⊥
+    named (whole (own o)) x f = x
+    named (whole (shared us)) x f = let z = x.0 in absurd cc
+    named (whole (mutable us)) x f = absurd cc
+    named (whole (view o)) x f = let z = x.0 in absurd cc
+    named (gone q) x f = x
+    named (boxed q) x f = x
+
+    by : (b : Bool) → slot_form n s b (value.Shared r) ≡ true → ⊥
+    by true f = named s.part ex f
+    by false f = absurd cc
+
+own_of : (key : ℕ → Key) (E : KeyTypes) (p : Piece) (u : StorePlace) → ExactOf key E p (refers true u) → (w : Lval) × (u ≡ (record { key = key w.slot; depth = w.depth }))
+own_of key E (whole (own o)) u x = absurd x
+own_of key E (whole (shared us)) u x = let z = x.0 in absurd cc
+own_of key E (whole (mutable us)) u x = (x.1.place, x.1.is)
+own_of key E (whole (view o)) u x = let z = x.0 in absurd cc
+own_of key E (gone q) u x = absurd x
+own_of key E (boxed q) u x = absurd x
+
+astray_at : (E : KeyTypes) (g : Ground) (t : ℕ) (key : ℕ → Key) (j i : ℕ) (vs : List Value) (v : Value) → all_astray E g t key j vs ≡ 0 → slice_get vs i ≡ Some v → astray g t (E (key (j + i))) v ≡ 0
+astray_at E g t key j i [] v z e = absurd cc
+astray_at E g t key j zero (w ∷ vs) v z e =
+    let same : w ≡ v = some_is e in
+    let here_it : astray g t (E (key j)) w ≡ 0 = omega (arith, z) in
+    subst (λ n. astray g t (E (key n)) v ≡ 0) (omega arith) (subst (λ y. astray g t (E (key j)) y ≡ 0) same here_it)
+astray_at E g t key j (suc i) (w ∷ vs) v z e = subst (λ n. astray g t (E (key n)) v ≡ 0) (omega arith) (astray_at E g t key (j + 1) i vs v (omega (arith, z)) e)
+
+module _ (k : Cluster) (c : IsCoherent k) (x : Standing) (g : GoesOn k x) where
+  abbrev pub names : NameTypes
+  names = names_of c.types.object c.types.typing.gives
+
+  -- what typing knows of the thread
+  pub running_typed : RunningTyped (KnownAt c.types.table) (λ (p : Place). p.temps) c.types.typing (heap_store k c.types) x.thread.number ((one_heap k).pair x.thread.number) (running_at x.thread)
+  running_typed = c.types.state.threads x.thread.number (running_at x.thread) (is_running k c x g)
+
+  slots_right : slots_wrong names running_typed.entry.env (reverse x.thread.slots) ≡ 0
+  slots_right =
+      let all = none_of (λ y. if_so (not (is_over y.thread.phase)) (entry_wrong (forms_of names y.thread) (c.types.table y.thread.pc))) x (sight k).ground.threads c.types.forms g.among in
+      let here_it : entry_wrong (forms_of names x.thread) (c.types.table x.thread.pc) ≡ 0 = sym (ap (λ b. if_so (not b) (entry_wrong (forms_of names x.thread) (c.types.table x.thread.pc))) g.going) ∙ all in
+      let known : forms_of names x.thread running_typed.entry ≡ 0 = sym (ap (entry_wrong (forms_of names x.thread)) running_typed.known) ∙ here_it in
+      omega (arith, known)
+
+  pub slots_below : SlotsBelow (slot_k x.thread.number) c.types.typing.exact running_typed.entry.env
+  slots_below = by running_typed.entry.forked running_typed.thread
+    where
+      by : (b : Bool) → IsThread b (slot_k x.thread.number) c.types.typing.rank (hand_key x.thread.number running_typed.entry.temps) running_typed.entry.env c.types.typing.exact (heap_store k c.types) (hand_kind running_typed.entry.temps) → SlotsBelow (slot_k x.thread.number) c.types.typing.exact running_typed.entry.env
+      by true t = t.slots
+      by false t = t.slots
+
+  pub slot_part : (i : ℕ) (v : Value) → slice_get x.thread.slots i ≡ Some v → HasPart (slot_k x.thread.number) c.types.typing.exact names running_typed.entry.env i v
+  slot_part i v e = part_behind (slot_k x.thread.number) c.types.typing.exact names running_typed.entry.env (reverse x.thread.slots) i v slots_below slots_right (behind_is x.thread.slots i ∙ e)
+
+  -- a shared reference has no mutable exact type
+  pub not_mutable : (i : ℕ) (r : SharedRef) (u : StorePlace) → slice_get x.thread.slots i ≡ Some (value.Shared r) → c.types.typing.exact (slot_k x.thread.number i) ≡ refers true u → ⊥
+  not_mutable i r u e is =
+      let q = slot_part i (value.Shared r) e in
+      no_part (slot_k x.thread.number) c.types.typing.exact names q.slot r u (subst (ExactOf (slot_k x.thread.number) c.types.typing.exact q.slot.part) is q.exact) q.form
+
+  -- the exact type of a mutable reference names a place of its own thread, and so is its value one
+  pub own_place : (i : ℕ) (v : Value) (u : StorePlace) → slice_get x.thread.slots i ≡ Some v → c.types.typing.exact (slot_k x.thread.number i) ≡ refers true u
+      → (w : Lval) × (u ≡ (record { key = slot_k x.thread.number w.slot; depth = w.depth }))
+  own_place i v u e is =
+      let q = slot_part i v e in
+      own_of (slot_k x.thread.number) c.types.typing.exact q.slot.part u (subst (ExactOf (slot_k x.thread.number) c.types.typing.exact q.slot.part) is q.exact)
+
+  -- each value leads as its exact type says
+  pub not_astray : (i : ℕ) (v : Value) → slice_get x.thread.slots i ≡ Some v → astray (sight k).ground x.thread.number (c.types.typing.exact (slot_k x.thread.number i)) v ≡ 0
+  not_astray i v e =
+      let all = none_of (λ y. astray_of c.types.typing.exact (sight k).ground y.thread) x (sight k).ground.threads c.types.lead g.among in
+      subst (λ j. astray (sight k).ground x.thread.number (c.types.typing.exact (slot_k x.thread.number j)) v ≡ 0) (omega arith)
+      (astray_at c.types.typing.exact (sight k).ground x.thread.number (slot_k x.thread.number) 0 i x.thread.slots v (omega (arith, all)) e)

@@ -1,0 +1,9 @@
+pub mod Sole
+pub mod Shown
+pub mod Alike
+pub mod Origins
+pub mod Forms
+pub mod Climbs
+pub mod InState
+pub mod Pointers
+pub mod MayWrites

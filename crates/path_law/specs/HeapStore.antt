@@ -1,0 +1,49 @@
+-- PLACES IN THE ONE HEAP: a thread's place leads in a coherent cluster, star by star, to where it leads in the plain state that the cluster stands
+-- for (this project's rule).
+use Rattle.std.specs.Prelude.{◌≡◌, ℕ, Bool, false, Some, slice_get}
+use Rattle.fr_base.specs.declared.name.MutexNo.{MutexNo}
+use Rattle.fr_base.specs.declared.place.Lval.{Lval}
+use Rattle.thread_state.specs.declared.value.Value.TheVariants as value
+use Rattle.server_model.specs.Servers.{Cluster}
+use Rattle.fr_store.specs.Keys.{Key, slot_k, temp_k}
+use Rattle.fr_store.specs.Store.{Location as StoreLocation, at_key, at_object, Store, Place as StorePlace, locate}
+use Rattle.fr_store.specs.Typed.{Exact, Resolves}
+use Rattle.fr_sound.specs.States.{store_of}
+use Rattle.fr_code.specs.Steps.{Place}
+use Rattle.heap_law.specs.Names.{Among}
+use Rattle.heap_law.specs.Things.{Location, at_slot, at_temp, in_cell}
+use Rattle.heap_law.specs.Follow.{Standing, place_at}
+use Rattle.heap_law.specs.Sight.{sight}
+use Rattle.heap_law.specs.Sharing.{is_over}
+use Rattle.heap_law.specs.OneHeap.{one_heap}
+use Rattle.type_law.specs.ClusterTypes.{Types, IsCoherent}
+
+-- a location of the cluster, in the store
+abbrev pub in_store : Location → StoreLocation
+in_store (at_slot t i) = at_key (slot_k t i)
+in_store (at_temp t i) = at_key (temp_k t i)
+in_store (in_cell o) = at_object o
+
+-- the one heap of a cluster that has types, as a store
+abbrev pub heap_store : (k : Cluster) → Types k → Store
+heap_store k t = store_of (λ (p : Place). p.temps) t.typing (one_heap k)
+
+abbrev pub store_place : ℕ → Lval → StorePlace
+store_place t w = record { key = slot_k t w.slot; depth = w.depth }
+
+-- a thread that stands somewhere and goes on
+pub record GoesOn (k : Cluster) (x : Standing) : Type 0 where
+  pub among : Among x (sight k).ground.threads
+  pub going : is_over x.thread.phase ≡ false
+
+-- the slot isn't the mark of a lock
+abbrev pub IsUnmarked : Standing → ℕ → Type 0
+IsUnmarked x i = (m : MutexNo) → slice_get x.thread.slots i ≡ Some (value.Held m) → ⊥
+
+pub record PlacesLeadAlike : Type 0 where
+  -- where a place leads in the cluster it leads in the one heap
+  pub in_heap : (k : Cluster) (c : IsCoherent k) (x : Standing) (w : Lval) (l : Location) → GoesOn k x → place_at (sight k).ground x.thread.number w ≡ Some l
+      → locate (heap_store k c.types) (store_place x.thread.number w) ≡ Some (in_store l)
+  -- a place that types resolve leads somewhere in the cluster, where it doesn't begin at a mark
+  pub in_cluster : (k : Cluster) (c : IsCoherent k) (x : Standing) (w : Lval) (only : Bool) (b : Key) (n : ℕ) (p : Exact) → GoesOn k x → IsUnmarked x w.slot
+      → Resolves c.types.typing.exact only (slot_k x.thread.number w.slot) w.depth b n p → (l : Location) × (place_at (sight k).ground x.thread.number w ≡ Some l)

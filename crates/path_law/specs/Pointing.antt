@@ -1,0 +1,62 @@
+-- WHO POINTS TO WHAT A THREAD WRITES, over the locations of a coherent cluster (Featherweight Rust's borrow invariance, made exact; this project's rule).
+use Rattle.std.specs.Prelude.{◌≡◌, ◌⊎◌, ℕ, suc, true, Some}
+use Rattle.fr_base.specs.declared.name.ObjNo.{ObjNo}
+use Rattle.fr_base.specs.declared.place.Lval.{Lval}
+use Rattle.fr_base.specs.declared.instruction.Operand.{Operand}
+use Rattle.fr_base.specs.declared.instruction.Instr.{Instr}
+use Rattle.fr_base.specs.declared.instruction.Instr.TheVariants as instr
+use Rattle.mut_borrow.specs.declared.mutable.MutRef.{MutRef}
+use Rattle.mut_borrow.specs.declared.shared.SharedRef.{SharedRef}
+use Rattle.thread_state.specs.declared.value.Value.TheVariants as value
+use Rattle.server_model.specs.Servers.{Cluster}
+use Rattle.fr_store.specs.Keys.{Key, slot_k}
+use Rattle.fr_store.specs.Typed.{Exact, Resolves, Unnamed}
+use Rattle.heap_law.specs.Names.{Among}
+use Rattle.heap_law.specs.Things.{Location, in_cell, shares, things_of}
+use Rattle.heap_law.specs.Follow.{Standing, Ground, value_in, locate, place_at}
+use Rattle.heap_law.specs.Walking.{instr_of}
+use Rattle.heap_law.specs.Stale.{holder_of}
+use Rattle.heap_law.specs.Sight.{Pointer, pointers_in, sight}
+use Rattle.type_law.specs.ClusterTypes.{Types, IsCoherent}
+use Rattle.path_law.specs.HeapStore.{GoesOn, IsUnmarked}
+
+-- the pointer at l stands above the one at m: the mutable reference there was made from it, or from one that it stands above
+pub data Above (g : Ground) (l : Location) : Location → Type 0 where
+  made_from : {m : Location} (r : MutRef) → value_in g m ≡ Some (value.Mut r) → holder_of g m r.holder ≡ Some l → Above g l m
+  made_below : {m h : Location} (r : MutRef) → value_in g m ≡ Some (value.Mut r) → holder_of g m r.holder ≡ Some h → Above g l h → Above g l m
+
+-- by the types the thread may write the place, lend it mutably or drop what stands there: no type names its slot, and boxes and mutable references
+-- alone lead to it
+pub record MayWrite (k : Cluster) (t : Types k) (x : Standing) (w : Lval) : Type 0 where
+  pub free : Unnamed t.typing.exact (slot_k x.thread.number w.slot)
+  pub base : Key
+  pub boxes : ℕ
+  pub type : Exact
+  pub resolves : Resolves t.typing.exact true (slot_k x.thread.number w.slot) w.depth base boxes type
+  pub unmarked : IsUnmarked x w.slot
+
+-- the place that an instruction writes, moves out of, or lends mutably
+pub data WritesTo : Instr → Lval → Type 0 where
+  assigns : {w : Lval} {o : Operand} → WritesTo (instr.Assign w o) w
+  moves : {w : Lval} → WritesTo (instr.Read w true) w
+  lends : {w : Lval} → WritesTo (instr.BorrowMut w) w
+
+-- typing grants it
+abbrev pub MayWriteThere : Type 0
+MayWriteThere = (k : Cluster) (c : IsCoherent k) (x : Standing) (i : Instr) (w : Lval) → GoesOn k x → instr_of (sight k) x ≡ Some i → WritesTo i w → MayWrite k c.types x w
+
+-- the last star of the place follows the pointer at h, which leads to the object
+pub record LastHop (g : Ground) (t : ℕ) (w : Lval) (h : Location) (o : ObjNo) : Type 0 where
+  pub stars : ℕ
+  pub last : w.depth ≡ suc stars
+  pub pointer : locate g t w.slot stars ≡ Some h
+  pub leads : place_at g t w ≡ Some (in_cell o)
+
+pub record SolePointers : Type 0 where
+  -- each box of what a thread may write, and each mutable reference to it, in whatever thread, is the pointer that the place follows last or stands
+  -- above it
+  pub above : (k : Cluster) (c : IsCoherent k) (x : Standing) (w : Lval) (h : Location) (o : ObjNo) → GoesOn k x → MayWrite k c.types x w → LastHop (sight k).ground x.thread.number w h o
+      → (p : Pointer) (l : Location) → Among p (pointers_in (things_of k)) → p.object ≡ o → p.at ≡ Some l → (l ≡ h) ⊎ Above (sight k).ground l h
+  -- and no shared reference or view leads to it
+  pub unshared : (k : Cluster) (c : IsCoherent k) (x : Standing) (w : Lval) (h : Location) (o : ObjNo) → GoesOn k x → MayWrite k c.types x w → LastHop (sight k).ground x.thread.number w h o
+      → (l : Location) (r : SharedRef) → Among (shares l r) (things_of k) → r.object ≡ o → ⊥

@@ -1,0 +1,20 @@
+//! Laws of places.
+
+ghost use Rattle.path_law.specs.Above.{SolePointer};
+ghost use Rattle.path_law.specs.HeapStore.{PlacesLeadAlike};
+ghost use Rattle.path_law.specs.Pointing.{MayWriteThere, SolePointers};
+
+/// A place of a thread of a coherent cluster leads, star by star, to where it leads in the one heap that the cluster stands for; and a place that
+/// typing gives a type leads somewhere.
+pub fn places_lead_alike()
+    ensures { PlacesLeadAlike }
+{}
+
+/// Whoever points to an object that a typed place may write, in whatever thread, is the pointer that the place follows last, or a pointer from which
+/// that one was made: in a typed store, and over the locations of a coherent cluster, where no shared reference and no view leads there. The places
+/// that assignments, moves and mutable borrows have at a thread's instruction are such.
+pub fn one_may_write()
+    ensures store { SolePointer }
+    ensures cluster { SolePointers }
+    ensures written { MayWriteThere }
+{}
