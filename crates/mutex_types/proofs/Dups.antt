@@ -42,7 +42,7 @@ use Rattle.plain_types.proofs.Hand.{At, Ranked, ranked, rehung, pushed_others, p
 use Rattle.plain_types.proofs.Done.{runs_here, only_here}
 use Rattle.plain_types.proofs.Sums.{Lone, temp_after, keys_same, Base, Sums, turned}
 use Rattle.mutex_types.specs.MutexActs.{IsDup}
-use Rattle.mutex_types.proofs.Mutexes.{decide_mutex, there_set, there_off, given_set}
+use Rattle.plain_types.proofs.Mutexes.{decide_mutex, there_set, there_off, given_set}
 use Rattle.plain_types.proofs.Flat.{flat_typed}
 use Rattle.mutex_types.proofs.Found.{FoundMutex, found_mutex}
 use Rattle.plain_types.proofs.Done.{step_by}

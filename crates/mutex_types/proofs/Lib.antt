@@ -1,4 +1,3 @@
-pub mod Mutexes
 pub mod Found
 pub mod Dups
 pub mod LockTypes

@@ -52,7 +52,7 @@ use Rattle.plain_types.proofs.Envs.{same_tree}
 use Rattle.plain_types.proofs.Sums.{Lone, slot_after, keys_same, Base, Sums, turned}
 use Rattle.mutex_types.specs.MutexActs.{IsLocking}
 use Rattle.plain_types.specs.Keeps.{KeepsUnlessWaiting}
-use Rattle.mutex_types.proofs.Mutexes.{decide_mutex, mutex_is, there_set, there_off, given_set}
+use Rattle.plain_types.proofs.Mutexes.{decide_mutex, mutex_is, there_set, there_off, given_set}
 use Rattle.mutex_types.proofs.Found.{FoundMutex, found_mutex}
 use Rattle.plain_types.proofs.Done.{step_by}
 use Rattle.mutex_types.proofs.LockTypes.{locked_types, locked_refs, locked_same, locked_thread, off_two}

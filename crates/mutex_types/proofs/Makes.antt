@@ -50,7 +50,7 @@ use Rattle.plain_types.proofs.Slots.{owned_value}
 use Rattle.plain_types.proofs.Sums.{Lone, temp_after, keys_same, Base, Sums, turned}
 use Rattle.mutex_types.specs.MutexActs.{IsMake}
 use Rattle.plain_types.specs.Keeps.{KeepsNamed}
-use Rattle.mutex_types.proofs.Mutexes.{decide_mutex, mutex_is, mutex_cases, made_at, made_off}
+use Rattle.plain_types.proofs.Mutexes.{decide_mutex, mutex_is, mutex_cases, made_at, made_off}
 use Rattle.plain_types.proofs.Flat.{flat_typed}
 use Rattle.plain_types.proofs.Done.{step_named}
 use Rattle.mutex_types.proofs.Dups.{But}

@@ -52,7 +52,7 @@ use Rattle.plain_types.proofs.SlotTurn.{alike_swap}
 use Rattle.plain_types.proofs.Slots.{below_new, here_new, slot_below, owned_in, lock_with, content_there}
 use Rattle.plain_types.proofs.Sums.{Lone, slot_before, keys_same, Base, Sums, turned}
 use Rattle.mutex_types.specs.MutexActs.{IsUnlocking}
-use Rattle.mutex_types.proofs.Mutexes.{decide_mutex, mutex_is, there_set, there_off, given_set}
+use Rattle.plain_types.proofs.Mutexes.{decide_mutex, mutex_is, there_set, there_off, given_set}
 use Rattle.plain_types.proofs.Done.{step_by}
 
 -- TEMPORARY VALUES THAT STAY

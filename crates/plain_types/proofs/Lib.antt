@@ -28,3 +28,7 @@ pub mod Written
 pub mod Flat
 pub mod Regiven
 pub mod Example
+pub mod Stays
+pub mod Threads
+pub mod Fresh
+pub mod Mutexes

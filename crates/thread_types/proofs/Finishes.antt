@@ -43,8 +43,8 @@ use Rattle.plain_types.proofs.Done.{runs_here}
 use Rattle.plain_types.proofs.Operands.{load}
 use Rattle.plain_types.proofs.Slots.{owned_value}
 use Rattle.thread_types.specs.ThreadActs.{FinishKeeps}
-use Rattle.thread_types.proofs.Threads.{no_pair, objects_counted, put_here, put_elsewhere, pairs_same, owing_before, still_here}
-use Rattle.thread_types.proofs.Stays.{Stays, there_by, mutexes_by, objects_by, owned_by, of_by, near_by, named_by}
+use Rattle.plain_types.proofs.Threads.{no_pair, objects_counted, put_here, put_elsewhere, pairs_same, owing_before, still_here}
+use Rattle.plain_types.proofs.Stays.{Stays, there_by, mutexes_by, objects_by, owned_by, of_by, near_by, named_by}
 use Rattle.fr_plain.specs.PlainState.{is_over_in, running}
 
 -- THE STATE

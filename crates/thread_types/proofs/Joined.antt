@@ -37,8 +37,8 @@ use Rattle.plain_types.proofs.Hand.{At, pushed_others, pushed_here}
 use Rattle.plain_types.proofs.Operands.{hand_value}
 use Rattle.plain_types.proofs.Rethread.{rethread}
 use Rattle.plain_types.proofs.SlotTurn.{alike_swap}
-use Rattle.thread_types.proofs.Stays.{Stays, there_by, mutexes_by, objects_by, owned_by, of_by, near_by, named_by}
-use Rattle.thread_types.proofs.Threads.{no_pair}
+use Rattle.plain_types.proofs.Stays.{Stays, there_by, mutexes_by, objects_by, owned_by, of_by, near_by, named_by}
+use Rattle.plain_types.proofs.Threads.{no_pair}
 use Rattle.plain_types.proofs.AtHand.{result_same}
 
 -- counted values, but for the tasks of one thread

@@ -49,8 +49,8 @@ use Rattle.plain_types.proofs.Hand.{ranked}
 use Rattle.plain_types.proofs.Operands.{load}
 use Rattle.plain_types.proofs.Slots.{owned_value}
 use Rattle.thread_types.specs.ThreadActs.{IsJoin}
-use Rattle.thread_types.proofs.Threads.{objects_counted, goes_by, pairs_by, marks_to_by, marks_back_by, still_here}
-use Rattle.thread_types.proofs.Stays.{Stays}
+use Rattle.plain_types.proofs.Threads.{objects_counted, goes_by, pairs_by, marks_to_by, marks_back_by, still_here}
+use Rattle.plain_types.proofs.Stays.{Stays}
 use Rattle.thread_types.proofs.Joined.{E2, joined_typed}
 
 -- THE ACT

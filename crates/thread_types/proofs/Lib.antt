@@ -1,9 +1,6 @@
-pub mod Stays
-pub mod Threads
 pub mod Finishes
 pub mod Joined
 pub mod Joins
-pub mod Fresh
 pub mod Started
 pub mod TwoTurn
 pub mod Captured

@@ -24,8 +24,8 @@ use Rattle.plain_types.proofs.Regiven.{giving, regiven}
 use Rattle.plain_types.proofs.Example.{print_is_ready, no_end, no_move, follows}
 use Rattle.plain_types.proofs.OneThread.{differs_by}
 use Rattle.thread_types.specs.Example.{empty, child, other, forked, pair_of_two, ParEndIsReady}
-use Rattle.thread_types.proofs.Threads.{objects_counted}
-use Rattle.thread_types.proofs.Fresh.{lifted_slots, lifted_keys, lifted_typed}
+use Rattle.plain_types.proofs.Threads.{objects_counted}
+use Rattle.plain_types.proofs.Fresh.{lifted_slots, lifted_keys, lifted_typed}
 use Rattle.thread_types.proofs.Paired.{reordered, paired_typed}
 use Rattle.thread_types.proofs.Finishes.{finish_keeps}
 

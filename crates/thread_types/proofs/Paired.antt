@@ -25,9 +25,9 @@ use Rattle.plain_types.proofs.Turns.{nobody_by, waits_more, turns_typed}
 use Rattle.plain_types.proofs.Focus.{temp_is, temp_free}
 use Rattle.plain_types.proofs.AtHand.{result_same}
 use Rattle.plain_types.proofs.Hand.{At}
-use Rattle.thread_types.proofs.Stays.{Stays, there_by, mutexes_by, objects_by, owned_by, of_by, near_by, named_by}
-use Rattle.thread_types.proofs.Threads.{no_pair}
-use Rattle.thread_types.proofs.Fresh.{none_waits, not_kept, none_for, none_slot, none_temp, none_result, hole_slot, hole_temp, free_slot, new_core}
+use Rattle.plain_types.proofs.Stays.{Stays, there_by, mutexes_by, objects_by, owned_by, of_by, near_by, named_by}
+use Rattle.plain_types.proofs.Threads.{no_pair}
+use Rattle.plain_types.proofs.Fresh.{none_waits, not_kept, none_for, none_slot, none_temp, none_result, hole_slot, hole_temp, free_slot, new_core}
 
 -- HOW MANY WAIT ABOVE may be told otherwise, of threads that aren't there
 

@@ -22,7 +22,7 @@ use Rattle.plain_types.specs.Keeps.{GoesOn, Ready, StepsTyped, KeepsUnlessWaitin
 use Rattle.plain_types.proofs.OneThread.{with_running, runs_still}
 use Rattle.plain_types.proofs.Done.{runs_here, step_by}
 use Rattle.thread_types.specs.ThreadActs.{IsParEnd}
-use Rattle.thread_types.proofs.Threads.{objects_counted, goes_by, marks_to_by, marks_back_by}
+use Rattle.plain_types.proofs.Threads.{objects_counted, goes_by, marks_to_by, marks_back_by}
 use Rattle.thread_types.proofs.TwoStates.{goes_with}
 use Rattle.thread_types.proofs.Joins.{Ended, ended_by}
 use Rattle.thread_types.proofs.Woken.{woken_typed}

@@ -36,8 +36,8 @@ use Rattle.plain_types.proofs.Hand.{At, room}
 use Rattle.plain_types.proofs.Done.{runs_here, step_named}
 use Rattle.plain_types.proofs.Regiven.{Regives, giving, regiven}
 use Rattle.thread_types.specs.ThreadActs.{IsSpawn}
-use Rattle.thread_types.proofs.Threads.{objects_counted, pairs_by}
-use Rattle.thread_types.proofs.Fresh.{lifted_slots, lifted_keys, lifted_typed}
+use Rattle.plain_types.proofs.Threads.{objects_counted, pairs_by}
+use Rattle.plain_types.proofs.Fresh.{lifted_slots, lifted_keys, lifted_typed}
 use Rattle.thread_types.proofs.Started.{started_typed}
 use Rattle.thread_types.proofs.TwoStates.{goes_with, not_over, child_at, two_state, here, there, beyond, parent_runs, child_runs, over_same, value_is, take_typed, copy_typed}
 use Rattle.fr_plain.specs.Machine.{name_used}

@@ -31,10 +31,10 @@ use Rattle.plain_types.proofs.Focus.{top_some, hand_at, Focus, unfocus, temp_is,
 use Rattle.plain_types.proofs.AtHand.{mark_off, result_same}
 use Rattle.plain_types.proofs.Flat.{flat_typed}
 use Rattle.plain_types.proofs.Hand.{At, rehung, pushed_others, pushed_here}
-use Rattle.thread_types.proofs.Stays.{Stays, there_by, mutexes_by, objects_by, owned_by, of_by, near_by, named_by}
-use Rattle.thread_types.proofs.Threads.{no_pair}
+use Rattle.plain_types.proofs.Stays.{Stays, there_by, mutexes_by, objects_by, owned_by, of_by, near_by, named_by}
+use Rattle.plain_types.proofs.Threads.{no_pair}
 use Rattle.thread_types.proofs.Joined.{ButTask}
-use Rattle.thread_types.proofs.Fresh.{either, either_first, either_is, either_not, none_waits, not_kept, none_for, none_task, none_slot, none_temp, none_result, hole_slot, hole_temp, free_slot, new_core}
+use Rattle.plain_types.proofs.Fresh.{either, either_first, either_is, either_not, none_waits, not_kept, none_for, none_task, none_slot, none_temp, none_result, hole_slot, hole_temp, free_slot, new_core}
 
 module _ (y : Typing) (a a2 : PlainState Position) (t u : ℕ) (x : Running Position) (e : Env) (us : List Kind) (g k : Owned) (p : Position) (at : At y a t x e us g) (fc : Focus y a t e us None) (none : a.thread u ≡ None) (gives_is : y.gives.result u ≡ k) (keys : ThreadKeys (slot_k u) y.rank (temp_k u 0)) (entry : p.entry ≡ going [] [] k) (temps : p.temps ≡ []) where
   abbrev h : Key

@@ -30,7 +30,7 @@ use Rattle.plain_types.proofs.OneThread.{store, with_running}
 use Rattle.plain_types.proofs.Raised.{raised, raised_typing}
 use Rattle.plain_types.proofs.Focus.{top_none, top_some, Focus, focus}
 use Rattle.plain_types.proofs.Hand.{At}
-use Rattle.thread_types.proofs.Threads.{objects_counted, pairs_by}
+use Rattle.plain_types.proofs.Threads.{objects_counted, pairs_by}
 use Rattle.thread_types.proofs.Captured.{own_by, slot_there}
 use Rattle.thread_types.proofs.CapturedMove.{moved_typed}
 use Rattle.thread_types.proofs.CapturedCopy.{copied_typed}

@@ -22,9 +22,9 @@ use Rattle.plain_types.proofs.Turns.{theirs, nobody_by, turns_typed}
 use Rattle.plain_types.proofs.Focus.{Tops, hand_at, Focus, unfocus, temp_free}
 use Rattle.plain_types.proofs.Hand.{At}
 use Rattle.fr_code.specs.CodeTypes.{wait}
-use Rattle.thread_types.proofs.Stays.{Stays, there_by, mutexes_by, objects_by, owned_by, of_by, near_by, named_by}
-use Rattle.thread_types.proofs.Threads.{no_pair}
-use Rattle.thread_types.proofs.Fresh.{either, either_first, either_second, either_is, either_not}
+use Rattle.plain_types.proofs.Stays.{Stays, there_by, mutexes_by, objects_by, owned_by, of_by, near_by, named_by}
+use Rattle.plain_types.proofs.Threads.{no_pair}
+use Rattle.plain_types.proofs.Fresh.{either, either_first, either_second, either_is, either_not}
 use Rattle.fr_base.specs.declared.name.ObjNo.{ObjNo}
 use Rattle.fr_base.specs.declared.label.Plain.{Plain}
 

@@ -30,7 +30,7 @@ use Rattle.plain_types.proofs.OneThread.{store, typing_with, Counted, Carried, R
 use Rattle.plain_types.proofs.Turns.{theirs, theirs_other, turns_typed}
 use Rattle.plain_types.proofs.Focus.{hole_there, temp_is, temp_none}
 use Rattle.plain_types.proofs.AtHand.{mark_off, result_same}
-use Rattle.thread_types.proofs.Stays.{Stays, there_by, mutexes_by, objects_by, owned_by, of_by, named_by}
+use Rattle.plain_types.proofs.Stays.{Stays, there_by, mutexes_by, objects_by, owned_by, of_by, named_by}
 
 -- nothing refers at the keys of a thread that doesn't go on
 pub no_refs : (y : Typing) (a : PlainState Position) → PositionTypes y a → (u : ℕ) → place_in (a.thread u) ≡ None → (k : Key) (m : Bool) (w : Place) → y.exact k ≡ refers m w → thread_of_key k ≡ Some u → ⊥

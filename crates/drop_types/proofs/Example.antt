@@ -1,0 +1,30 @@
+-- Typed states in which a drop is asked for.
+use Rattle.std.proofs.Common.{[], refl}
+use Rattle.fr_typing.specs.Kinds.{unit}
+use Rattle.fr_plain.specs.MachineThreads.{alive}
+use Rattle.fr_plain.specs.PlainState.{plain_state}
+use Rattle.plain_types.specs.ActRows.{quiet, pops_unit, pops_int, r_discard, ends_as}
+use Rattle.plain_types.specs.Keeps.{is_main}
+use Rattle.plain_types.specs.Example.{first, main, begun}
+use Rattle.plain_types.proofs.Hand.{At}
+use Rattle.plain_types.proofs.Operands.{load}
+use Rattle.plain_types.proofs.Threads.{still_here}
+use Rattle.fr_sound.specs.Entries.{going}
+use Rattle.plain_types.proofs.Example.{print_is_ready}
+use Rattle.drop_types.specs.Example.{DropIsReady, DiscardIsReady, EndIsReady}
+use Rattle.drop_types.specs.DropActs.{main_ends}
+use Rattle.drop_types.proofs.Discards.{carried}
+
+pub discard_is_ready : DiscardIsReady
+discard_is_ready = (print_is_ready.0, record { state = print_is_ready.1.state; found = refl; goes_on = is_main; at = refl; leaves = quiet []; after = going [] [] unit; row = r_discard (pops_int _ refl); comes = λ v. refl })
+
+main_at_first : At print_is_ready.0 (plain_state begun) 0 (record { place = first; slots = [] }) [] [] unit
+main_at_first = record { state = print_is_ready.1.state; runs = refl; entry = refl }
+
+pub drop_is_ready : DropIsReady
+drop_is_ready =
+    let c = carried (load print_is_ready.0 (plain_state begun) 0 (record { place = first; slots = [] }) [] unit main_at_first refl (pops_int _ refl)) begun (still_here begun main first alive is_main refl refl) (λ o. refl) main refl in
+    (c.0, c.1, c.0.gives.result 1, refl, c.2.carries.state)
+
+pub end_is_ready : EndIsReady
+end_is_ready = (print_is_ready.0, record { state = print_is_ready.1.state; found = refl; by = main_ends; at = refl; ends = ends_as (pops_unit refl) })

@@ -1,0 +1,9 @@
+use Rattle.drop_types.proofs.laws.dropping_acts_keep_types.Goals as goal
+use Rattle.drop_types.proofs.Discards.{discard_keeps}
+use Rattle.drop_types.proofs.Ends.{end_keeps}
+
+pub returns-clause-discard : goal.returns-clause-discard
+returns-clause-discard c = discard_keeps
+
+pub returns-clause-end : goal.returns-clause-end
+returns-clause-end c = end_keeps

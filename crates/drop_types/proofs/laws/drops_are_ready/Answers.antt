@@ -1,0 +1,11 @@
+use Rattle.drop_types.proofs.laws.drops_are_ready.Goals as goal
+use Rattle.drop_types.proofs.Example.{drop_is_ready, discard_is_ready, end_is_ready}
+
+pub returns-clause-keeps : goal.returns-clause-keeps
+returns-clause-keeps c = drop_is_ready
+
+pub returns-clause-discard : goal.returns-clause-discard
+returns-clause-discard c = discard_is_ready
+
+pub returns-clause-end : goal.returns-clause-end
+returns-clause-end c = end_is_ready

@@ -1,0 +1,30 @@
+-- Typed states in which a drop is asked for: at main's start a number may be discarded, and a number is carried beside it.
+use Rattle.std.specs.Prelude.{◌≡◌, pos, None}
+use Rattle.fr_base.specs.declared.label.Plain.{Plain}
+use Rattle.fr_base.specs.declared.label.Plain.TheVariants as plain
+use Rattle.fr_typing.specs.Kinds.{Owned, Piece}
+use Rattle.fr_plain.specs.declared.value.Value.{Value}
+use Rattle.fr_plain.specs.declared.value.Value.TheVariants.{Own}
+use Rattle.fr_plain.specs.MachineActs.{do_discard, do_end, unit as unit_value}
+use Rattle.fr_plain.specs.MachineThreads.{alive, thread_at}
+use Rattle.fr_plain.specs.PlainState.{plain_state}
+use Rattle.fr_sound.specs.States.{Typing}
+use Rattle.plain_types.specs.Positions.{PositionTypes}
+use Rattle.plain_types.specs.Keeps.{Ready}
+use Rattle.plain_types.specs.Example.{first, main, begun, one}
+use Rattle.drop_types.specs.Drops.{with_carrier}
+use Rattle.drop_types.specs.DropActs.{AtLast}
+
+-- the value that is dropped
+abbrev pub dropped_one : Plain
+dropped_one = plain.Int (pos 1)
+
+abbrev pub DropIsReady : Type 0
+DropIsReady = (y : Typing) × (p : Piece) × (g : Owned) × (thread_at begun.threads 1 ≡ None) × PositionTypes y (plain_state (with_carrier begun 1 p g dropped_one))
+
+abbrev pub DiscardIsReady : Type 0
+DiscardIsReady = (y : Typing) × Ready y begun main first alive (do_discard (Own one)) (λ (v : Value). first)
+
+-- main may end with unit
+abbrev pub EndIsReady : Type 0
+EndIsReady = (y : Typing) × AtLast y begun main first alive do_end unit_value

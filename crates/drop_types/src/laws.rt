@@ -1,0 +1,29 @@
+//! Laws of drops.
+
+ghost use Rattle.drop_types.specs.DropActs.{EndKeeps, IsDiscard};
+ghost use Rattle.drop_types.specs.Drops.{DropKeeps};
+ghost use Rattle.drop_types.specs.Example.{DiscardIsReady, DropIsReady, EndIsReady};
+ghost use Rattle.plain_types.specs.Keeps.{Keeps};
+
+/// A drop leaves a typed state (`keeps`): where a state is typed in which the value that is dropped stands in the one slot of a thread of
+/// its own, it is typed once that thread and the value are gone, with the objects of its boxes, and with the results and contents of the
+/// threads and mutexes whose last task or value goes with it.
+pub fn drops_keep_types()
+    ensures keeps { DropKeeps }
+{}
+
+/// In a typed state, with whatever threads, mutexes and pairs, an act of this form that a row grants can be done without a new name, and
+/// leaves a typed state: a value at hand goes, whatever it owns (`discard`); so does the result of main, or of a thread whose task was
+/// dropped, and the thread is over (`end`).
+pub fn dropping_acts_keep_types()
+    ensures discard { Keeps IsDiscard }
+    ensures end { EndKeeps }
+{}
+
+/// At main's start a number may be discarded, and main may end; and there is a typed state with a number that is carried beside main. So what the laws
+/// above ask for can be met.
+pub fn drops_are_ready()
+    ensures keeps { DropIsReady }
+    ensures discard { DiscardIsReady }
+    ensures end { EndIsReady }
+{}
