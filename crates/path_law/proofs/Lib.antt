@@ -7,3 +7,4 @@ pub mod Climbs
 pub mod InState
 pub mod Pointers
 pub mod MayWrites
+pub mod Contained

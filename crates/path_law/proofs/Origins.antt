@@ -44,17 +44,17 @@ Origins b = (y : Thing) → Among y b → Origin b y
 abbrev Free : List Thing → Type 0
 Free b = (y : Thing) → Among y b → placed y ≡ 0
 
-threads_joined : (a b : List Thing) → threads_in (a ++ b) ≡ threads_in a ++ threads_in b
+pub threads_joined : (a b : List Thing) → threads_in (a ++ b) ≡ threads_in a ++ threads_in b
 threads_joined [] b = refl
 threads_joined (stands s p t ∷ a) b = ap (λ xs. record { server = s; packed = p; thread = t } ∷ xs) (threads_joined a b)
 threads_joined (_ ∷ a) b = threads_joined a b
 
-among_first : {A : Type 0} (x : A) (xs ys : List A) → Among x xs → Among x (xs ++ ys)
+pub among_first : {A : Type 0} (x : A) (xs ys : List A) → Among x xs → Among x (xs ++ ys)
 among_first x [] ys h = absurd h
 among_first x (y ∷ xs) ys (inl e) = inl e
 among_first x (y ∷ xs) ys (inr h) = inr (among_first x xs ys h)
 
-among_second : {A : Type 0} (x : A) (xs ys : List A) → Among x ys → Among x (xs ++ ys)
+pub among_second : {A : Type 0} (x : A) (xs ys : List A) → Among x ys → Among x (xs ++ ys)
 among_second x [] ys h = h
 among_second x (y ∷ xs) ys h = inr (among_second x xs ys h)
 

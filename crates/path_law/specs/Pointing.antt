@@ -7,6 +7,7 @@ use Rattle.fr_base.specs.declared.instruction.Instr.{Instr}
 use Rattle.fr_base.specs.declared.instruction.Instr.TheVariants as instr
 use Rattle.mut_borrow.specs.declared.mutable.MutRef.{MutRef}
 use Rattle.mut_borrow.specs.declared.shared.SharedRef.{SharedRef}
+use Rattle.mut_borrow.specs.Refs.{changed}
 use Rattle.thread_state.specs.declared.value.Value.TheVariants as value
 use Rattle.server_model.specs.Servers.{Cluster}
 use Rattle.fr_store.specs.Keys.{Key, slot_k}
@@ -17,6 +18,7 @@ use Rattle.heap_law.specs.Follow.{Standing, Ground, value_in, locate, place_at}
 use Rattle.heap_law.specs.Walking.{instr_of}
 use Rattle.heap_law.specs.Stale.{holder_of}
 use Rattle.heap_law.specs.Sight.{Pointer, pointers_in, sight}
+use Rattle.heap_law.specs.Words.{IsStale}
 use Rattle.type_law.specs.ClusterTypes.{Types, IsCoherent}
 use Rattle.path_law.specs.HeapStore.{GoesOn, IsUnmarked}
 
@@ -60,3 +62,9 @@ pub record SolePointers : Type 0 where
   -- and no shared reference or view leads to it
   pub unshared : (k : Cluster) (c : IsCoherent k) (x : Standing) (w : Lval) (h : Location) (o : ObjNo) → GoesOn k x → MayWrite k c.types x w → LastHop (sight k).ground x.thread.number w h o
       → (l : Location) (r : SharedRef) → Among (shares l r) (things_of k) → r.object ≡ o → ⊥
+
+pub record AboveIsStale : Type 0 where
+  -- what stands above a changed mutable reference is stale
+  pub changed : (k : Cluster) (l h : Location) (r : MutRef) → value_in (sight k).ground h ≡ Some (value.Mut r) → changed r ≡ true → Above (sight k).ground l h → IsStale (sight k) (Some l)
+  -- and so is what stands above a stale pointer
+  pub stale : (k : Cluster) (l h : Location) → IsStale (sight k) (Some h) → Above (sight k).ground l h → IsStale (sight k) (Some l)

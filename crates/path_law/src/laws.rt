@@ -2,7 +2,7 @@
 
 ghost use Rattle.path_law.specs.Above.{SolePointer};
 ghost use Rattle.path_law.specs.HeapStore.{PlacesLeadAlike};
-ghost use Rattle.path_law.specs.Pointing.{MayWriteThere, SolePointers};
+ghost use Rattle.path_law.specs.Pointing.{AboveIsStale, MayWriteThere, SolePointers};
 
 /// A place of a thread of a coherent cluster leads, star by star, to where it leads in the one heap that the cluster stands for; and a place that
 /// typing gives a type leads somewhere.
@@ -17,4 +17,9 @@ pub fn one_may_write()
     ensures store { SolePointer }
     ensures cluster { SolePointers }
     ensures written { MayWriteThere }
+{}
+
+/// In every cluster, what stands above a changed mutable reference, or above a stale pointer, is stale.
+pub fn those_above_are_stale()
+    ensures { AboveIsStale }
 {}
