@@ -1,6 +1,7 @@
--- What a thread of a cluster has stands among the cluster's things, and so does the content that an `unlock` brings.
-use Rattle.std.proofs.Common.{◌≡◌, ◌⊎◌, inl, inr, ⊎_elim, ℕ, ◌+◌, ◌≤◌, Bool, true, false, List, [], ◌∷◌, ◌++◌, Option, Some, None, refl, ap, subst, ◌∙◌, arith}
+-- What a thread of a cluster has stands among the cluster's things, and so do the content that an `unlock` brings and the object that a `moved` brings.
+use Rattle.std.proofs.Common.{◌≡◌, ◌⊎◌, inl, inr, ⊎_elim, ℕ, ◌+◌, ◌≤◌, ◌==◌, ◌&&◌, Bool, true, false, List, [], ◌∷◌, ◌++◌, Option, Some, None, refl, ap, subst, ◌∙◌, arith}
 use Rattle.fr_base.specs.declared.name.MutexNo.{MutexNo}
+use Rattle.fr_base.specs.declared.name.ObjNo.{ObjNo}
 use Rattle.heap_partition.specs.declared.value.Cell.{Cell}
 use Rattle.heap_partition.specs.declared.value.Owned.{Owned}
 use Rattle.owner_box.specs.View.{PartitionState}
@@ -14,21 +15,44 @@ use Rattle.join_home.specs.Tasks.{Task, TaskState, kept}
 use Rattle.server_msgs.specs.declared.message.Message.{Message}
 use Rattle.server_msgs.specs.declared.message.Message.TheVariants.{Moved, Granted, Unlock, Start, Joined, Finished, Migrate}
 use Rattle.server_model.specs.Servers.{Server, Cluster}
-use Rattle.heap_law.specs.Names.{tot, one, same_mutex, Among}
-use Rattle.heap_law.specs.Things.{in_cell, Thing, holds, locks, sent, stands, things_at, pin_things, slot_things, temp_things, gift_things, walk_things, thread_things, standing_things, message_things, waiting_things, leaving_things, is_free, cell_things, free_things, partition_things, copy_things, content_things, queue_things, mutex_things, result_things, task_things, server_things, servers_things, things_of}
+use Rattle.heap_law.specs.Names.{tot, one, same_object, same_mutex, Among}
+use Rattle.heap_law.specs.Things.{in_cell, Spot, as_content, Thing, flies, holds, locks, sent, stands, things_at, pin_things, slot_things, temp_things, gift_things, walk_things, thread_things, standing_things, message_things, waiting_things, leaving_things, is_free, cell_things, free_things, partition_things, copy_things, content_things, queue_things, mutex_things, result_things, task_things, server_things, servers_things, things_of}
 use Rattle.heap_law.specs.Follow.{Standing, threads_in}
 use Rattle.heap_law.specs.Sharing.{is_content_of}
 use Rattle.heap_law.proofs.Sums.{tot-append}
 
--- a content that is not held in a place of its own: an `unlock` brings it, or a lock's mark stands where no slot is
-abbrev pub loose : MutexNo → Thing → ℕ
-loose m (sent r (Unlock n v)) = one (same_mutex n m)
+-- what a message brings: a mutex's content, or an object under way with its old word
+pub data Brought : Type 0 where
+  a_content : (m : MutexNo) → Brought
+  an_object : (word : ℕ) (o : ObjNo) → Brought
+
+abbrev pub unlocks : Brought → MutexNo → ℕ
+unlocks (a_content m) n = one (same_mutex n m)
+unlocks (an_object w o) n = 0
+
+abbrev pub moves : Brought → ℕ → ObjNo → ℕ
+moves (a_content m) v p = 0
+moves (an_object w o) v p = one (v == w && same_object p o)
+
+abbrev pub kept_at : Brought → Spot → ℕ
+kept_at (a_content m) p = is_content_of m p
+kept_at (an_object w o) p = 0
+
+-- what is not held in a place of its own: an `unlock` brings the content or a `moved` the object, or a lock's mark stands where no slot is
+abbrev pub loose : Brought → Thing → ℕ
+loose m (sent r (Unlock n v)) = unlocks m n
+loose m (sent r (Moved w c t)) = moves m w c.object
 loose m (locks (in_cell o) n) = 1
 loose m x = 0
 
-abbrev pub content_held : MutexNo → Thing → ℕ
-content_held m (holds p v) = is_content_of m p
+abbrev pub content_held : Brought → Thing → ℕ
+content_held m (holds p v) = kept_at m p
+content_held m (flies w c) = moves m w c.object
 content_held m x = 0
+
+unlock_held : (m : Brought) (n : MutexNo) → unlocks m n ≤ kept_at m (as_content n)
+unlock_held (a_content m) n = omega arith
+unlock_held (an_object w o) n = omega arith
 
 pub among_split : {A : Type 0} (x : A) (xs ys : List A) → Among x (xs ++ ys) → Among x xs ⊎ Among x ys
 among_split x [] ys h = inr h
@@ -43,12 +67,12 @@ threads_joined (_ ∷ a) b = threads_joined a b
 -- each thread of these has its things among them, and each loose content is held
 pub record Whole (b : List Thing) : Type 0 where
   pub has : (x : Standing) → Among x (threads_in b) → (f : Thing → ℕ) → tot f (thread_things x.server x.packed x.thread) ≤ tot f b
-  pub held : (m : MutexNo) → tot (loose m) b ≤ tot (content_held m) b
+  pub held : (m : Brought) → tot (loose m) b ≤ tot (content_held m) b
 
 -- no thread is among these
 record Plain (b : List Thing) : Type 0 where
   none : threads_in b ≡ []
-  held : (m : MutexNo) → tot (loose m) b ≤ tot (content_held m) b
+  held : (m : Brought) → tot (loose m) b ≤ tot (content_held m) b
 
 none_joined : (xs ys : List Standing) → xs ≡ [] → ys ≡ [] → xs ++ ys ≡ []
 none_joined xs ys e f = rw e f
@@ -133,7 +157,7 @@ standing_whole s i t = thread_whole s false t
 message_whole : (s : ℕ) (m : Message) → Whole (message_things s m)
 message_whole s (Moved w c t) = plain_whole (message_things s (Moved w c t)) (record { none = refl; held = λ m. omega arith })
 message_whole s (Granted n v t) = plain_whole (message_things s (Granted n v t)) (record { none = refl; held = λ m. omega arith })
-message_whole s (Unlock n v) = plain_whole (message_things s (Unlock n v)) (record { none = refl; held = λ m. omega arith })
+message_whole s (Unlock n v) = plain_whole (message_things s (Unlock n v)) (record { none = refl; held = λ m. omega (arith, unlock_held m n) })
 message_whole s (Joined t v by) = plain_whole (message_things s (Joined t v by)) (record { none = refl; held = λ m. omega arith })
 message_whole s (Finished t v) = plain_whole (message_things s (Finished t v)) (record { none = refl; held = λ m. omega arith })
 message_whole s (Start t) = let p = thread_whole s true t in record { has = λ x h f. (let l = p.has x h f in omega (arith, l)); held = λ m. (let l = p.held m in omega (arith, l)) }

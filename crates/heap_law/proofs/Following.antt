@@ -16,6 +16,7 @@ use Rattle.heap_law.specs.Weights.{tasks_of, is_thread}
 use Rattle.heap_law.specs.Sharing.{is_over, going_on, finished, going_notes, goes_on, owes, owed, kept_note, got_phase, results, has_ended, named_pair}
 use Rattle.heap_law.specs.Following.{TasksNoted, FollowLaw}
 use Rattle.heap_law.proofs.Named.{named_there}
+use Rattle.heap_law.proofs.Asked.{awaited_word}
 
 module _ (s : Sight) (t : ℕ) where
   -- what a parent that was answered by its pair has of the thread
@@ -165,4 +166,4 @@ two_differ k p g x a b h e same =
     omega (arith, r, both, places, g (branch_of x a), note_all (sight k) a x.server x.thread.number (things_of k), paired_sum (sight k) a (things_of k), p.numbers_differ a, p.noted_go_on a, p.one_result a)
 
 pub follow_law : FollowLaw
-follow_law = record { one_task_value = one_task; pairs_differ = two_differ; pairs_unnamed = λ k p. all_unnamed k p (sight k).ground.threads (λ x h. h); named_are_there = named_there }
+follow_law = record { one_task_value = one_task; pairs_differ = two_differ; pairs_unnamed = λ k p. all_unnamed k p (sight k).ground.threads (λ x h. h); named_are_there = named_there; awaited_words = awaited_word }

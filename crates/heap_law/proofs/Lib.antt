@@ -11,6 +11,7 @@ pub mod SeesThreads
 pub mod Unbroken
 pub mod Ranks
 mod Following
+pub mod Asked
 pub mod Bags
 mod Named
 pub mod Words

@@ -31,7 +31,7 @@ use Rattle.heap_law.specs.Following.{MutexesNoted}
 use Rattle.heap_law.proofs.Names.{same_mutexes}
 use Rattle.heap_law.proofs.Sums.{tot-append}
 use Rattle.heap_law.proofs.Words.{none_at, none_all}
-use Rattle.heap_law.proofs.Bags.{loose, content_held, cluster_whole}
+use Rattle.heap_law.proofs.Bags.{a_content, loose, content_held, cluster_whole}
 
 abbrev standing : ℕ → Bool → ThreadState → Standing
 standing s q t = record { server = s; packed = q; thread = t }
@@ -192,11 +192,11 @@ module _ (k : Cluster) where
   some_none zero l = absurd (omega (arith, l))
   some_none (suc n) l = refl
 
-  held_contents : (m : MutexNo) (b : List Thing) → tot (content_held m) b ≤ tot (contents (sight k) m) b
+  held_contents : (m : MutexNo) (b : List Thing) → tot (content_held (a_content m)) b ≤ tot (contents (sight k) m) b
   held_contents m [] = omega arith
   held_contents m (x ∷ b) = omega (arith, by x, held_contents m b)
     where
-      by : (y : Thing) → content_held m y ≤ contents (sight k) m y
+      by : (y : Thing) → content_held (a_content m) y ≤ contents (sight k) m y
       by (holds p v) = omega arith
       by _ = omega arith
 
@@ -210,8 +210,8 @@ module _ (k : Cluster) where
     by_content : (m : MutexNo) → 1 ≤ tot (contents (sight k) m) all → absent m ≡ 0
     by_content m l = by_home m (omega (arith, l, p.one_content m))
 
-    by_loose : (m : MutexNo) → 1 ≤ tot (loose m) all → absent m ≡ 0
-    by_loose m l = by_content m (omega (arith, l, (cluster_whole k).held m, held_contents m all))
+    by_loose : (m : MutexNo) → 1 ≤ tot (loose (a_content m)) all → absent m ≡ 0
+    by_loose m l = by_content m (omega (arith, l, (cluster_whole k).held (a_content m), held_contents m all))
 
     -- a thread that waits for the mutex stands where a value of it is
     mutex_is : (m : MutexNo) (o : Option MutexNo) → other (is_mutex m o) ≡ 0 → o ≡ Some m
@@ -280,7 +280,7 @@ module _ (k : Cluster) where
     message_there : (r : ℕ) (m : Message) → Among (sent r m) all → message_mutex absent m ≡ 0
     message_there r (Lock m s t) h = lock_waits m t (none_at (carries (sight k)) (sent r (Lock m s t)) all p.carry_what_is_asked h)
     message_there r (Granted m v t) h = lock_waits m t (none_at (carries (sight k)) (sent r (Granted m v t)) all p.carry_what_is_asked h)
-    message_there r (Unlock m v) h = by_loose m (shown m (loose m) (sent r (Unlock m v)) h (one_itself m))
+    message_there r (Unlock m v) h = by_loose m (shown m (loose (a_content m)) (sent r (Unlock m v)) h (one_itself m))
     message_there r (Dup m s t) h = dup_waits m t (none_at (carries (sight k)) (sent r (Dup m s t)) all p.carry_what_is_asked h)
     message_there r (Dupped m t) h = by_share m (shown m (shares_of m) (sent r (Dupped m t)) h (one_itself m))
     message_there r (Release x) h = released_there r x h
@@ -300,7 +300,7 @@ module _ (k : Cluster) where
     thing_there (holds q v) h = owned_there v (λ m. weighs (shares_of m) (holds q v) all h)
     thing_there (locks (at_slot t i) m) h = by_content m (shown m (contents (sight k) m) (locks (at_slot t i) m) h (one_itself m))
     thing_there (locks (at_temp t i) m) h = let z : loose_mark (locks (at_temp t i) m) ≡ 0 = none_at loose_mark (locks (at_temp t i) m) all p.marks_in_slots h in absurd (cc z)
-    thing_there (locks (in_cell o) m) h = by_loose m (shown m (loose m) (locks (in_cell o) m) h (omega arith))
+    thing_there (locks (in_cell o) m) h = by_loose m (shown m (loose (a_content m)) (locks (in_cell o) m) h (omega arith))
     thing_there (lies s a c) h = owned_there c.value (λ m. weighs (shares_of m) (lies s a c) all h)
     thing_there (flies w c) h = owned_there c.value (λ m. weighs (shares_of m) (flies w c) all h)
     thing_there (sent r m) h = message_there r m h

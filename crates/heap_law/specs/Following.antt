@@ -1,16 +1,19 @@
 -- Sentences of a sound cluster that follow from others. They stay sentences where events keep them one by one.
-use Rattle.std.specs.Prelude.{◌≡◌, ◌≢◌, ℕ}
+use Rattle.std.specs.Prelude.{◌≡◌, ◌≢◌, ℕ, Some}
 use Rattle.thread_state.specs.declared.phase.Phase.TheVariants as phase
 use Rattle.server_model.specs.Servers.{Cluster}
 use Rattle.heap_law.specs.Names.{Among}
 use Rattle.heap_law.specs.Things.{things_of}
 use Rattle.heap_law.specs.Follow.{Standing}
-use Rattle.heap_law.specs.Sight.{sight}
+use Rattle.heap_law.specs.Sight.{sight, word}
+use Rattle.heap_law.specs.Paths.{Awaited}
+use Rattle.heap_law.specs.Walking.{path}
+use Rattle.heap_law.specs.Turn.{InTurn}
 use Rattle.heap_law.specs.Balances.{Agree, AtMost, AtMostOne}
 use Rattle.heap_law.specs.Weights.{is_home_of, shares_of, shares_at_home, tasks_of, is_thread}
 use Rattle.heap_law.specs.Requests.{pair_notes, pair_places}
 use Rattle.heap_law.specs.Sharing.{contents, going_notes, goes_on, owed, results, has_ended}
-use Rattle.heap_law.specs.Coherent.{Holds, at_their_home, marks_in_slots, carry_what_is_asked, phases_stand, pairs_unnamed, named_are_there}
+use Rattle.heap_law.specs.Coherent.{Holds, IsSound, at_their_home, marks_in_slots, carry_what_is_asked, phases_stand, pairs_unnamed, named_are_there}
 
 -- what is said of threads, of the notes and results of each, and of what is owed to its task values
 pub record TasksNoted (k : Cluster) : Type 0 where
@@ -35,5 +38,7 @@ pub record FollowLaw : Type 0 where
   pub pairs_unnamed : (k : Cluster) → TasksNoted k → Holds k pairs_unnamed
   -- the two threads that a parent waits for differ
   pub pairs_differ : (k : Cluster) → TasksNoted k → Agree pair_notes pair_places (things_of k) → (x : Standing) (a b : ℕ) → Among x (sight k).ground.threads → x.thread.phase ≡ phase.WaitPar a b → a ≢ b
+  -- what a thread waits for in turn is under its object's word: the pointer there has that word, and the message too
+  pub awaited_words : (k : Cluster) → IsSound k → (x : Standing) (w : ℕ) → Among x (sight k).ground.threads → x.thread.phase ≡ phase.WaitCell w → (a : Awaited) → InTurn (sight k) x w a (path (sight k) x) → word (sight k) a.object ≡ Some w
   -- what names a mutex is a share of it, its content, or waits for it where a value of it stands
   pub named_are_there : (k : Cluster) → MutexesNoted k → Holds k named_are_there

@@ -25,7 +25,7 @@ pub fn sound_is_unbroken()
 {}
 
 /// Sentences that follow from others: each thread has one task value at most, and the two of a pair that have both ended have none; the two of
-/// a pair differ; each mutex that is named is there.
+/// a pair differ; each mutex that is named is there; what a thread waits for is under its object's word.
 pub fn some_follow()
     ensures { FollowLaw }
 {}
