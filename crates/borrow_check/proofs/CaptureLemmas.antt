@@ -108,8 +108,8 @@ none_below n k h = subst (NamesBelow n) (sym h) tt
 -- NAMES IN ORDER
 
 -- so many names are captured: what is left goes on from here
-pub record IsCapturing (by : Capturer) (a : Arena) (bound : ℕ) (ids rest : List ℕ) (vs0 ns0 vs ns : List Held) (us0 us : List Usage) : Type 0 where
-  pub names : AreNames a bound rest
+pub record IsCapturing (by : Capturer) (a : Arena) (ids rest : List ℕ) (vs0 ns0 vs ns : List Held) (us0 us : List Usage) : Type 0 where
+  pub names : AreNames a rest
   pub goes : (go : Env → Env → Outcome) → capture_all by (captures_at (meanings a) ids) (env_of a.names vs0) (env_of a.names ns0) go ≡ capture_all by (captures_at (meanings a) rest) (env_of a.names vs) (env_of a.names ns) go
   pub marks : (final : List Usage) → AreWritten us final (nodes_in (meanings a) (all_need capture_s rest)) (capture_usages by (env_of a.names vs) (env_of a.names ns) (captures_at (meanings a) rest)) → AreWritten us0 final (nodes_in (meanings a) (all_need capture_s ids)) (capture_usages by (env_of a.names vs0) (env_of a.names ns0) (captures_at (meanings a) ids))
   pub scope : IsInScope a.names vs
@@ -118,8 +118,8 @@ pub record IsCapturing (by : Capturer) (a : Arena) (bound : ℕ) (ids rest : Lis
   pub few : length ns + length (nodes_in (meanings a) (all_need capture_s rest)) ≡ length ns0 + length (nodes_in (meanings a) (all_need capture_s ids))
   pub long : length us ≡ length (meanings a)
 
-pub capturing_start : (by : Capturer) (a : Arena) (bound : ℕ) (ids : List ℕ) (vs ns : List Held) (us : List Usage) → AreNames a bound ids → IsInScope a.names vs → IsInScope a.names ns → length us ≡ length (meanings a) → IsCapturing by a bound ids ids vs ns vs ns us us
-capturing_start by a bound ids vs ns us names scope new_scope long = record {
+pub capturing_start : (by : Capturer) (a : Arena) (ids : List ℕ) (vs ns : List Held) (us : List Usage) → AreNames a ids → IsInScope a.names vs → IsInScope a.names ns → length us ≡ length (meanings a) → IsCapturing by a ids ids vs ns vs ns us us
+capturing_start by a ids vs ns us names scope new_scope long = record {
   names = names;
   goes = λ go. refl;
   marks = λ final h. h;
@@ -136,9 +136,9 @@ one_captured us new k ns u is lt wrote =
     subst (λ l. AreWritten us new l (Some u ∷ [])) (sym is) (record { same = wrote; each = refl; within = (lt, tt) })
 
 -- one name more
-pub capturing_step : (by : Capturer) (a : Arena) (bound id : ℕ) (ids rest : List ℕ) (vs0 ns0 vs ns vs1 ns1 : List Held) (us0 us us1 : List Usage) (u : Usage) → IsCapturing by a bound ids (id ∷ rest) vs0 ns0 vs ns us0 us → (meaning_at (meanings a) id).nodes ≡ id ∷ [] → ((go : Env → Env → Outcome) → capture by (env_of a.names vs) (env_of a.names ns) (capture_at (meanings a) id) go ≡ go (env_of a.names vs1) (env_of a.names ns1)) → u ≡ capture_usage (env_of a.names vs) (capture_at (meanings a) id) → us1 ≡ write us id (Some u) → IsInScope a.names vs1 → IsInScope a.names ns1 → length vs1 ≡ length vs → length ns1 ≡ length ns + 1 → IsCapturing by a bound ids rest vs0 ns0 vs1 ns1 us0 us1
-capturing_step by a bound id ids rest vs0 ns0 vs ns vs1 ns1 us0 us us1 u h node goes used wrote scope new_scope same one = record {
-  names = record { inside = h.names.inside; parts = h.names.parts.2 };
+pub capturing_step : (by : Capturer) (a : Arena) (id : ℕ) (ids rest : List ℕ) (vs0 ns0 vs ns vs1 ns1 : List Held) (us0 us us1 : List Usage) (u : Usage) → IsCapturing by a ids (id ∷ rest) vs0 ns0 vs ns us0 us → (meaning_at (meanings a) id).nodes ≡ id ∷ [] → ((go : Env → Env → Outcome) → capture by (env_of a.names vs) (env_of a.names ns) (capture_at (meanings a) id) go ≡ go (env_of a.names vs1) (env_of a.names ns1)) → u ≡ capture_usage (env_of a.names vs) (capture_at (meanings a) id) → us1 ≡ write us id (Some u) → IsInScope a.names vs1 → IsInScope a.names ns1 → length vs1 ≡ length vs → length ns1 ≡ length ns + 1 → IsCapturing by a ids rest vs0 ns0 vs1 ns1 us0 us1
+capturing_step by a id ids rest vs0 ns0 vs ns vs1 ns1 us0 us us1 u h node goes used wrote scope new_scope same one = record {
+  names = record { parts = h.names.parts.2 };
   goes = λ go. h.goes go ∙ goes (λ e1 n1. capture_all by (captures_at (meanings a) rest) e1 n1 go);
   marks = λ final more. h.marks final (step final more);
   scope = scope;
@@ -152,7 +152,7 @@ capturing_step by a bound id ids rest vs0 ns0 vs ns vs1 ns1 us0 us us1 u h node 
 }
   where
     before : id < length us
-    before = omega (arith, h.names.parts.0, h.names.inside, h.long)
+    before = omega (arith, h.names.parts.0, h.long)
 
     step : (final : List Usage) → AreWritten us1 final (nodes_in (meanings a) (all_need capture_s rest)) (capture_usages by (env_of a.names vs1) (env_of a.names ns1) (captures_at (meanings a) rest)) → AreWritten us final (nodes_in (meanings a) (all_need capture_s (id ∷ rest))) (capture_usages by (env_of a.names vs) (env_of a.names ns) (captures_at (meanings a) (id ∷ rest)))
     step final more =
@@ -166,26 +166,26 @@ capturing_step by a bound id ids rest vs0 ns0 vs ns vs1 ns1 us0 us us1 u h node 
         (subst (λ n1. AreWritten us final ((meaning_at (meanings a) id).nodes ++ nodes_in (meanings a) (all_need capture_s rest)) (Some u ∷ capture_usages by (env_of a.names vs1) n1 (captures_at (meanings a) rest))) (sym new) both))
 
 -- so few slots are there before a name
-pub capturing_room : (by : Capturer) (a : Arena) (bound id : ℕ) (ids rest : List ℕ) (vs0 ns0 vs ns : List Held) (us0 us : List Usage) → IsCapturing by a bound ids (id ∷ rest) vs0 ns0 vs ns us0 us → (meaning_at (meanings a) id).nodes ≡ id ∷ [] → length ns0 + length (nodes_in (meanings a) (all_need capture_s ids)) ≤ 268435456 → length ns < 268435456
-capturing_room by a bound id ids rest vs0 ns0 vs ns us0 us h node few =
+pub capturing_room : (by : Capturer) (a : Arena) (id : ℕ) (ids rest : List ℕ) (vs0 ns0 vs ns : List Held) (us0 us : List Usage) → IsCapturing by a ids (id ∷ rest) vs0 ns0 vs ns us0 us → (meaning_at (meanings a) id).nodes ≡ id ∷ [] → length ns0 + length (nodes_in (meanings a) (all_need capture_s ids)) ≤ 268435456 → length ns < 268435456
+capturing_room by a id ids rest vs0 ns0 vs ns us0 us h node few =
     let all : length ns + length ((meaning_at (meanings a) id).nodes ++ nodes_in (meanings a) (all_need capture_s rest)) ≡ length ns0 + length (nodes_in (meanings a) (all_need capture_s ids)) = h.few in
     let first : length ((meaning_at (meanings a) id).nodes ++ nodes_in (meanings a) (all_need capture_s rest)) ≡ suc (length (nodes_in (meanings a) (all_need capture_s rest))) = ap (λ (l : List ℕ). length (l ++ nodes_in (meanings a) (all_need capture_s rest))) node in
     omega (arith, all, first, few)
 
 -- a name is denied
-pub capturing_fails : (by : Capturer) (A B : Type 0) (a : Arena) (bound id : ℕ) (ids rest : List ℕ) (vs0 ns0 vs ns : List Held) (us0 us : List Usage) (error : CheckError) (e1 n1 e2 n2 : Env) → IsCapturing by a bound ids (id ∷ rest) vs0 ns0 vs ns us0 us → GoesOn {A = B} (Err error) (capture by (env_of a.names vs) (env_of a.names ns) (capture_at (meanings a) id)) e1 n1 → GoesOn {A = A} (Err error) (capture_all by (captures_at (meanings a) ids) (env_of a.names vs0) (env_of a.names ns0)) e2 n2
-capturing_fails by A B a bound id ids rest vs0 ns0 vs ns us0 us (Fault p r) e1 n1 e2 n2 h fails = λ go. h.goes go ∙ fails (λ e1 n1. capture_all by (captures_at (meanings a) rest) e1 n1 go)
-capturing_fails by A B a bound id ids rest vs0 ns0 vs ns us0 us NoMemory e1 n1 e2 n2 h fails = tt
+pub capturing_fails : (by : Capturer) (A B : Type 0) (a : Arena) (id : ℕ) (ids rest : List ℕ) (vs0 ns0 vs ns : List Held) (us0 us : List Usage) (error : CheckError) (e1 n1 e2 n2 : Env) → IsCapturing by a ids (id ∷ rest) vs0 ns0 vs ns us0 us → GoesOn {A = B} (Err error) (capture by (env_of a.names vs) (env_of a.names ns) (capture_at (meanings a) id)) e1 n1 → GoesOn {A = A} (Err error) (capture_all by (captures_at (meanings a) ids) (env_of a.names vs0) (env_of a.names ns0)) e2 n2
+capturing_fails by A B a id ids rest vs0 ns0 vs ns us0 us (Fault p r) e1 n1 e2 n2 h fails = λ go. h.goes go ∙ fails (λ e1 n1. capture_all by (captures_at (meanings a) rest) e1 n1 go)
+capturing_fails by A B a id ids rest vs0 ns0 vs ns us0 us NoMemory e1 n1 e2 n2 h fails = tt
 
 -- all names are captured
-pub capturing_goes : (by : Capturer) (a : Arena) (bound : ℕ) (ids rest : List ℕ) (vs0 ns0 vs ns : List Held) (us0 us : List Usage) → IsCapturing by a bound ids rest vs0 ns0 vs ns us0 us → rest ≡ [] → (go : Env → Env → Outcome) → capture_all by (captures_at (meanings a) ids) (env_of a.names vs0) (env_of a.names ns0) go ≡ go (env_of a.names vs) (env_of a.names ns)
-capturing_goes by a bound ids rest vs0 ns0 vs ns us0 us h e = λ go. h.goes go ∙ ap (λ l. capture_all by (captures_at (meanings a) l) (env_of a.names vs) (env_of a.names ns) go) e
+pub capturing_goes : (by : Capturer) (a : Arena) (ids rest : List ℕ) (vs0 ns0 vs ns : List Held) (us0 us : List Usage) → IsCapturing by a ids rest vs0 ns0 vs ns us0 us → rest ≡ [] → (go : Env → Env → Outcome) → capture_all by (captures_at (meanings a) ids) (env_of a.names vs0) (env_of a.names ns0) go ≡ go (env_of a.names vs) (env_of a.names ns)
+capturing_goes by a ids rest vs0 ns0 vs ns us0 us h e = λ go. h.goes go ∙ ap (λ l. capture_all by (captures_at (meanings a) l) (env_of a.names vs) (env_of a.names ns) go) e
 
-pub capturing_written : (by : Capturer) (a : Arena) (bound : ℕ) (ids rest : List ℕ) (vs0 ns0 vs ns : List Held) (us0 us : List Usage) → IsCapturing by a bound ids rest vs0 ns0 vs ns us0 us → rest ≡ [] → AreWritten us0 us (nodes_in (meanings a) (all_need capture_s ids)) (capture_usages by (env_of a.names vs0) (env_of a.names ns0) (captures_at (meanings a) ids))
-capturing_written by a bound ids rest vs0 ns0 vs ns us0 us h e =
+pub capturing_written : (by : Capturer) (a : Arena) (ids rest : List ℕ) (vs0 ns0 vs ns : List Held) (us0 us : List Usage) → IsCapturing by a ids rest vs0 ns0 vs ns us0 us → rest ≡ [] → AreWritten us0 us (nodes_in (meanings a) (all_need capture_s ids)) (capture_usages by (env_of a.names vs0) (env_of a.names ns0) (captures_at (meanings a) ids))
+capturing_written by a ids rest vs0 ns0 vs ns us0 us h e =
     h.marks us (subst (λ l. AreWritten us us (nodes_in (meanings a) (all_need capture_s l)) (capture_usages by (env_of a.names vs) (env_of a.names ns) (captures_at (meanings a) l))) (sym e) (written_none us))
 
-pub capturing_few : (by : Capturer) (a : Arena) (bound : ℕ) (ids rest : List ℕ) (vs0 ns0 vs ns : List Held) (us0 us : List Usage) → IsCapturing by a bound ids rest vs0 ns0 vs ns us0 us → rest ≡ [] → length ns ≡ length ns0 + length (nodes_in (meanings a) (all_need capture_s ids))
-capturing_few by a bound ids rest vs0 ns0 vs ns us0 us h e =
+pub capturing_few : (by : Capturer) (a : Arena) (ids rest : List ℕ) (vs0 ns0 vs ns : List Held) (us0 us : List Usage) → IsCapturing by a ids rest vs0 ns0 vs ns us0 us → rest ≡ [] → length ns ≡ length ns0 + length (nodes_in (meanings a) (all_need capture_s ids))
+capturing_few by a ids rest vs0 ns0 vs ns us0 us h e =
     let none : length (nodes_in (meanings a) (all_need capture_s rest)) ≡ 0 = ap (λ l. length (nodes_in (meanings a) (all_need capture_s l))) e in
     omega (arith, h.few, none)

@@ -15,6 +15,7 @@ use Rattle.fr_syntax.specs.declared.tree.Node.{Node}
 use Rattle.fr_syntax.specs.Arena.{Arena, text_of}
 use Rattle.fr_base.specs.Rooms.{WithRoom}
 use Rattle.fr_syntax.specs.Meanings.{Meaning, meaning_at, term_at, place_at, items_at, captures_at, stands_for, Sort, term_s, place_s, capture_s, Need, need, all_need, needs, nodes_in, meanings, AreBelow, AreDifferent}
+use Rattle.fr_syntax.proofs.TreeLemmas.{same_below, below_same}
 use Rattle.borrow_check.specs.declared.usage.Usage.{Usage}
 use Rattle.fr_types.specs.declared.types.Ty.{Ty}
 use Rattle.fr_types.specs.States.{Held, env_of}
@@ -139,10 +140,16 @@ arith_parts a at l r op n h is ready =
       count = two_count a at l r term_s n h e;
     }
 
--- a new thread's names stand before its node, and its body too, which is ready
+-- names that stand before a node are names of the tree
+pub names_there : (a : Arena) (at : ℕ) (ids : List ℕ) → at < length (meanings a) → AreBelow (meanings a) at (all_need capture_s ids) → AreNames a ids
+names_there a at ids here below =
+    let same = same_below (meanings a) (meanings a) at (all_need capture_s ids) (λ k lt. refl) below in
+    record { parts = below_same (meanings a) (meanings a) at (length (meanings a)) (all_need capture_s ids) (omega arith) same below }
+
+-- a new thread's names are of the tree, and its body stands before its node and is ready
 pub record AreParts (a : Arena) (at : ℕ) (ids : List ℕ) (v : ℕ) : Type 0 where
   pub before : v < at
-  pub names : AreNames a at ids
+  pub names : AreNames a ids
   pub ready : IsReady a v
   pub count : length (nodes_in (meanings a) (all_need capture_s ids)) + length (meaning_at (meanings a) v).nodes + 1 ≤ length (meaning_at (meanings a) at).nodes
 
@@ -164,7 +171,7 @@ spawn_parts a at captures v n h is ready =
     let nodes = spawn_nodes a at captures v n h is in
     record {
       before = below.1.0;
-      names = record { inside = omega (arith, ready.here); parts = below.0 };
+      names = names_there a at captures.items ready.here below.0;
       ready = record {
         here = omega (arith, below.1.0, ready.here);
         sort = below.1.1;

@@ -30,7 +30,7 @@ use Rattle.borrow_check.specs.Capturing.{AreNames, GoesOn, GoesOnBoth}
 use Rattle.borrow_check.specs.Usages.{env_after, env_left_by_all, env_of_all, capture_usages, usages_of, written, AreWritten, AreBothWritten}
 use Rattle.borrow_check.proofs.UsageLemmas.{written_both, written_node, written_long, length-written, written-set, different_front, different_back, IsOut}
 use Rattle.borrow_check.proofs.TermLemmas.{IsHere, term_here}
-use Rattle.borrow_check.proofs.CheckLemmas.{nodes_append, needs_append, into_none}
+use Rattle.borrow_check.proofs.CheckLemmas.{nodes_append, needs_append, names_there, into_none}
 
 -- NODES
 
@@ -54,10 +54,10 @@ par_nodes a at cs v ds w n h is =
     ∙ ap (λ l. l ++ at ∷ []) (append_assoc first (ours ++ second) theirs)
     ∙ ap (λ l. (first ++ l) ++ at ∷ []) (append_assoc ours second theirs)
 
--- both lists of names and both blocks stand before their node, and the blocks are ready
+-- both lists of names are of the tree, and both blocks stand before their node and are ready
 pub record AreBranches (a : Arena) (at : ℕ) (cs : List ℕ) (v : ℕ) (ds : List ℕ) (w : ℕ) : Type 0 where
-  pub first : AreNames a at cs
-  pub second : AreNames a at ds
+  pub first : AreNames a cs
+  pub second : AreNames a ds
   pub ours_before : v < at
   pub theirs_before : w < at
   pub ours : IsReady a v
@@ -77,8 +77,8 @@ par_parts a at cs v ds w n h is ready =
     let nodes = par_nodes a at cs v ds w n h is in
     let rest : AreDifferent (ours ++ (second ++ theirs)) = different_back first (ours ++ (second ++ theirs)) (different_front (first ++ (ours ++ (second ++ theirs))) (at ∷ []) (subst AreDifferent nodes ready.own)) in
     record {
-      first = record { inside = omega (arith, ready.here); parts = front.0 };
-      second = record { inside = omega (arith, ready.here); parts = front.1.2 };
+      first = names_there a at cs.items ready.here front.0;
+      second = names_there a at ds.items ready.here front.1.2;
       ours_before = front.1.0;
       theirs_before = back.1.0;
       ours = record { here = omega (arith, front.1.0, ready.here); sort = front.1.1; own = different_front ours (second ++ theirs) rest };

@@ -7,7 +7,7 @@ use Rattle.fr_base.specs.declared.place.Lval.{Lval}
 use Rattle.fr_terms.specs.Terms.{Text, Spot, borrow_t, borrow_mut_t}
 use Rattle.fr_typing.specs.declared.reason.Reason.TheVariants.{NameInScope, ReadBlocked, WrongType, Outlives}
 use Rattle.fr_typing.specs.Kinds.{unit, Kind, own, shared, mutable, view, Piece, whole}
-use Rattle.fr_typing.specs.Places.{Env, found, read_blocked, on_path, is_mutable, put_at, slot_of, kind_places, piece_places, AreBelow}
+use Rattle.fr_typing.specs.Places.{Env, found, read_blocked, on_path, is_mutable, put_at, slot_of, kind_places, AreBelow}
 use Rattle.fr_typing.specs.Checks.{place_of, is_kept_out, has_shape_of, names_from, keep, set_through}
 use Rattle.fr_typing.specs.Finding.{Outcome, typed, fault, unless, Has, find_whole}
 use Rattle.fr_typing.specs.Typing.{typing}
@@ -121,6 +121,3 @@ borrow_mut_gives names vs p w x t result spot there gives =
 -- what a type names is there
 pub kind_below : (m n : ℕ) (k l : Kind) → AreBelow m (kind_places k) → m < n → l ≡ k → AreBelow n (kind_places l)
 kind_below m n k l h lt is = subst (λ j. AreBelow n (kind_places j)) (sym is) (AreBelow-weaker m n (kind_places k) (omega arith) h)
-
-pub part_below : (m n : ℕ) (p : Piece) → AreBelow m (piece_places p) → m < n → AreBelow n (piece_places p)
-part_below m n p h lt = AreBelow-weaker m n (piece_places p) (omega arith) h

@@ -1,5 +1,5 @@
 -- What the checker's answers say of captured names (this project's rules).
-use Rattle.std.specs.Prelude.{◌≡◌, ◌≤◌, ℕ, ⊤, List, length, Option, Some, Result, Ok, Err, if◌then◌else◌}
+use Rattle.std.specs.Prelude.{◌≡◌, ℕ, ⊤, List, length, Option, Some, Result, Ok, Err, if◌then◌else◌}
 use Rattle.fr_base.specs.declared.place.Lval.{Lval}
 use Rattle.fr_terms.specs.Terms.{Text, Captured}
 use Rattle.fr_typing.specs.declared.reason.Reason.TheVariants.{ReadBlocked, WriteBlocked, NotOwned}
@@ -25,10 +25,9 @@ captured_of names c = record { at = c.place; name = text_of names c.name }
 abbrev pub capture_at : List Meaning → ℕ → Captured
 capture_at ms n = as_capture (meaning_at ms n).what
 
--- the nodes are captured names, which stand before this node
-pub record AreNames (a : Arena) (bound : ℕ) (ids : List ℕ) : Type 0 where
-  pub inside : bound ≤ length (meanings a)
-  pub parts : AreBelow (meanings a) bound (all_need capture_s ids)
+-- the nodes are captured names of the tree
+pub record AreNames (a : Arena) (ids : List ℕ) : Type 0 where
+  pub parts : AreBelow (meanings a) (length (meanings a)) (all_need capture_s ids)
 
 -- the term that captures
 abbrev pub capturer_of : Starter → Capturer

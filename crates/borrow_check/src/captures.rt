@@ -16,10 +16,10 @@ ghost use Rattle.borrow_check.specs.Heaps.{owned_in};
 ghost use Rattle.borrow_check.specs.Usages.{env_left_by_all, env_of_all, capture_usage, capture_usages, AreWritten, AreBothWritten};
 
 use crate::check_error::CheckError;
+use crate::checker::Checker;
 use crate::finding::find;
 use crate::heap_place::heap_type;
 use crate::rules::bind;
-use crate::spare::Spare;
 use crate::usage::Usage;
 use crate::written::{Name, Starter, Written};
 use fr_base::{Lval, NoMemory};
@@ -180,52 +180,47 @@ fn capture(
 
 /// Captures the names of nodes in order, and notes how their variables are used.
 pub fn capture_all(
-    alloc: Global,
+    checker: &mut Checker,
     tree: &Tree,
     by: Starter,
     captures: &Nodes,
-    bound: u32,
     env: &mut Env,
     new: &mut Env,
-    usages: &mut Vec<Usage>,
 ) -> Result<(), CheckError>
-    requires names { AreNames tree.now bound captures.now.items }
+    requires names { AreNames tree.now captures.now.items }
     requires scope { IsInScope tree.now.names env.old }
     requires new_scope { IsInScope tree.now.names new.old }
-    requires usages { length usages.old.items ≡ length (meanings tree.now) }
+    requires usages { length checker.old.usages.items ≡ length (meanings tree.now) }
     requires few { length new.old + length (nodes_in (meanings tree.now) (all_need capture_s captures.now.items)) ≤ 268435456 }
     ensures goes_on { GoesOn result (capture_all (capturer_of by) (captures_at (meanings tree.now) captures.now.items) (env_of tree.now.names env.old) (env_of tree.now.names new.old)) (env_of tree.now.names env.new) (env_of tree.now.names new.new) }
     ensures scope { OnOk result (IsInScope tree.now.names env.new) }
     ensures new_scope { OnOk result (IsInScope tree.now.names new.new) }
     ensures same { OnOk result (length env.new ≡ length env.old) }
     ensures few { OnOk result (length new.new ≡ length new.old + length (nodes_in (meanings tree.now) (all_need capture_s captures.now.items))) }
-    ensures usages { OnOk result (AreWritten usages.old.items usages.new.items (nodes_in (meanings tree.now) (all_need capture_s captures.now.items)) (capture_usages (capturer_of by) (env_of tree.now.names env.old) (env_of tree.now.names new.old) (captures_at (meanings tree.now) captures.now.items))) }
+    ensures usages { OnOk result (AreWritten checker.old.usages.items checker.new.usages.items (nodes_in (meanings tree.now) (all_need capture_s captures.now.items)) (capture_usages (capturer_of by) (env_of tree.now.names env.old) (env_of tree.now.names new.old) (captures_at (meanings tree.now) captures.now.items))) }
 {
     'names: for next in 0..captures.len() {
         let Some(at) = captures.at(next) else {
             unreachable!()
         };
-        let usage = capture(alloc, by, env, new, name_at(tree, *at))?;
-        usages[*at as usize] = usage;
+        let usage = capture(checker.alloc, by, env, new, name_at(tree, *at))?;
+        checker.usages[*at as usize] = usage;
     }
     Ok(())
 }
 
 /// Captures the two lists of names of a `par`, the second from what the first leaves.
 pub fn capture_both(
-    alloc: Global,
+    checker: &mut Checker,
     tree: &Tree,
     first: &Nodes,
     second: &Nodes,
-    bound: u32,
     env: &mut Env,
-    usages: &mut Vec<Usage>,
-    spare: &mut Spare,
 ) -> Result<(Env, Env), CheckError>
-    requires first { AreNames tree.now bound first.now.items }
-    requires second { AreNames tree.now bound second.now.items }
+    requires first { AreNames tree.now first.now.items }
+    requires second { AreNames tree.now second.now.items }
     requires scope { IsInScope tree.now.names env.old }
-    requires usages { length usages.old.items ≡ length (meanings tree.now) }
+    requires usages { length checker.old.usages.items ≡ length (meanings tree.now) }
     requires few { length (nodes_in (meanings tree.now) (all_need capture_s first.now.items)) + length (nodes_in (meanings tree.now) (all_need capture_s second.now.items)) ≤ 268435456 }
     ensures goes_on { GoesOnBoth result tree.now.names (capture_both (captures_at (meanings tree.now) first.now.items) (captures_at (meanings tree.now) second.now.items) (env_of tree.now.names env.old)) (env_of tree.now.names env.new) }
     ensures scope { OnOk result (IsInScope tree.now.names env.new) }
@@ -238,31 +233,13 @@ pub fn capture_both(
     ensures second_new { let left = env_left_by_all by_par (env_of tree.now.names env.old) (captures_at (meanings tree.now) first.now.items) in
         IfOk result (λ p. env_of tree.now.names p.1 ≡ env_of_all by_par left (captures_at (meanings tree.now) second.now.items)) }
     ensures usages { let left = env_left_by_all by_par (env_of tree.now.names env.old) (captures_at (meanings tree.now) first.now.items) in
-        OnOk result (AreBothWritten usages.old.items usages.new.items
+        OnOk result (AreBothWritten checker.old.usages.items checker.new.usages.items
         (nodes_in (meanings tree.now) (all_need capture_s first.now.items)) (nodes_in (meanings tree.now) (all_need capture_s second.now.items))
         (capture_usages by_par (env_of tree.now.names env.old) [] (captures_at (meanings tree.now) first.now.items)) (capture_usages by_par left [] (captures_at (meanings tree.now) second.now.items))) }
 {
-    let mut ours = spare.take();
-    capture_all(
-        alloc,
-        tree,
-        Starter::Par,
-        first,
-        bound,
-        env,
-        &mut ours,
-        usages,
-    )?;
-    let mut theirs = spare.take();
-    capture_all(
-        alloc,
-        tree,
-        Starter::Par,
-        second,
-        bound,
-        env,
-        &mut theirs,
-        usages,
-    )?;
+    let mut ours = checker.spare.take();
+    capture_all(checker, tree, Starter::Par, first, env, &mut ours)?;
+    let mut theirs = checker.spare.take();
+    capture_all(checker, tree, Starter::Par, second, env, &mut theirs)?;
     Ok((ours, theirs))
 }

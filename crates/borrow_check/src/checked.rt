@@ -6,7 +6,7 @@ ghost use Rattle.fr_syntax.specs.Meanings.{meanings, meaning_at, term_of};
 ghost use Rattle.borrow_check.specs.Programs.{IsCheckable, IsChecked, IsFault, HasPlace, lval_of, takes_of};
 
 use crate::check_error::CheckError;
-use crate::checker::check_term;
+use crate::checker::{Checker, check_term};
 use crate::spare::Spare;
 use crate::usage::Usage;
 use fr_base::{Lval, NoMemory};
@@ -97,11 +97,19 @@ pub fn check(alloc: Global, tree: Tree) -> Result<Checked, CheckError>
     ensures typed { OnOk result (IsTyped [] (term_of tree)) }
     ensures fault { IfErr result (λ e. IsFault e (term_of tree)) }
 {
-    let mut usages = no_usages(alloc, tree.len())?;
+    let usages = no_usages(alloc, tree.len())?;
+    let spare = Spare::new(alloc);
+    let mut checker = Checker {
+        alloc,
+        usages,
+        spare,
+    };
     let mut env = Env::new(alloc);
-    let mut spare = Spare::new(alloc);
-    match check_term(alloc, &tree, tree.root(), &mut env, &mut usages, &mut spare) {
-        Ok(_) => Ok(Checked { tree, usages }),
+    match check_term(&mut checker, &tree, tree.root(), &mut env) {
+        Ok(_) => {
+            let Checker { usages, .. } = checker;
+            Ok(Checked { tree, usages })
+        }
         Err(e) => Err(e),
     }
 }

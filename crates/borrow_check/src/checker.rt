@@ -18,7 +18,8 @@ use crate::captures::{capture_all, capture_both};
 use crate::check_error::CheckError;
 use crate::nodes::{assign, borrow, borrow_mut, dup, lock, read};
 use crate::rules::{
-    bind, combined, end_block, in_box, in_mutex, in_task, joined, number, paired, printed, unlock,
+    Typed, bind, combined, end_block, in_box, in_mutex, in_task, joined, number, paired, printed,
+    unlock,
 };
 use crate::spare::Spare;
 use crate::usage::Usage;
@@ -27,6 +28,15 @@ use fr_syntax::{Nodes, Term, Tree};
 use fr_types::{Env, Ty};
 use std::alloc::Global;
 use std::mem;
+
+/// What a check has at hand beside the tree: the allocator, by node how its place is used, and the environments that are kept
+/// for the next thread.
+#[derive(Drop)]
+pub struct Checker {
+    pub alloc: Global,
+    pub usages: Vec<Usage>,
+    pub spare: Spare,
+}
 
 // Where the first token of a term stands.
 fn start(tree: &Tree, at: u32) -> u32
@@ -43,23 +53,21 @@ fn start(tree: &Tree, at: u32) -> u32
 /// The type of the term of a node, or its first fault. Each slot that it leaves has a node of its own.
 #[cycle(check)]
 pub fn check_term(
-    alloc: Global,
+    checker: &mut Checker,
     tree: &Tree,
     at: u32,
     env: &mut Env,
-    usages: &mut Vec<Usage>,
-    spare: &mut Spare,
 ) -> Result<Ty, CheckError>
     requires ready { IsReady tree.now at }
     requires scope { IsInScope tree.now.names env.old }
-    requires usages { length usages.old.items ≡ length (meanings tree.now) }
+    requires usages { length checker.old.usages.items ≡ length (meanings tree.now) }
     requires few { length env.old + length (meaning_at (meanings tree.now) at).nodes ≤ 268435456 }
     ensures gives { Gives result (typing (term_at (meanings tree.now) at) (env_of tree.now.names env.old)) (env_of tree.now.names env.new) }
     ensures below { IfOk result (λ t. AreBelow (length env.new) (kind_places (kind_of t))) }
     ensures scope { OnOk result (IsInScope tree.now.names env.new) }
     ensures grows { OnOk result (length env.old ≤ length env.new) }
     ensures few { OnOk result (length env.new ≤ length env.old + length (meaning_at (meanings tree.now) at).nodes) }
-    ensures usages { OnOk result (AreWritten usages.old.items usages.new.items (meaning_at (meanings tree.now) at).nodes (usages_of (term_at (meanings tree.now) at) (env_of tree.now.names env.old))) }
+    ensures usages { OnOk result (AreWritten checker.old.usages.items checker.new.usages.items (meaning_at (meanings tree.now) at).nodes (usages_of (term_at (meanings tree.now) at) (env_of tree.now.names env.old))) }
 {
     let Some(node) = tree.node(at) else {
         unreachable!()
@@ -67,57 +75,55 @@ pub fn check_term(
     match &node.term {
         Term::Number(_) => Ok(Ty::Int),
         Term::Unit => Ok(Ty::Unit),
-        Term::Read(from) => read(alloc, tree, env, usages, at, *from),
-        Term::Borrow(of) => borrow(alloc, tree, env, usages, *of),
-        Term::BorrowMut(of) => borrow_mut(alloc, tree, env, usages, *of),
+        Term::Read(from) => read(checker, tree, env, at, *from),
+        Term::Borrow(of) => borrow(checker, tree, env, *of),
+        Term::BorrowMut(of) => borrow_mut(checker, tree, env, *of),
         Term::Box(value) => {
-            let t = check_term(alloc, tree, *value, env, usages, spare)?;
-            in_box(alloc, t, start(tree, *value))
+            let t = check_term(checker, tree, *value, env)?;
+            in_box(checker.alloc, t, start(tree, *value))
         }
         Term::Print(value) => {
-            let t = check_term(alloc, tree, *value, env, usages, spare)?;
+            let t = check_term(checker, tree, *value, env)?;
             printed(&t, start(tree, *value))
         }
-        Term::Arith(_, left, right) => check_arith(
-            alloc, tree, *left, *right, at, env, usages, spare,
-        ),
+        Term::Arith(_, left, right) => check_arith(checker, tree, *left, *right, at, env),
         Term::Let(name, value) => {
-            let t = check_term(alloc, tree, *value, env, usages, spare)?;
+            let t = check_term(checker, tree, *value, env)?;
             bind(env, *name, t, node.place)
         }
         Term::Assign(to, value) => {
-            let t = check_term(alloc, tree, *value, env, usages, spare)?;
-            assign(alloc, tree, env, usages, *to, t, start(tree, *value))
+            let t = check_term(checker, tree, *value, env)?;
+            let value = Typed {
+                t,
+                place: start(tree, *value),
+            };
+            assign(checker, tree, env, *to, value)
         }
         Term::Join(task) => {
-            let t = check_term(alloc, tree, *task, env, usages, spare)?;
+            let t = check_term(checker, tree, *task, env)?;
             joined(t, start(tree, *task))
         }
-        Term::Spawn(captures, body) => check_spawn(
-            alloc, tree, captures, *body, at, env, usages, spare,
-        ),
+        Term::Spawn(captures, body) => check_spawn(checker, tree, captures, *body, env),
         Term::Block(items) => {
             let base = env.len();
-            let (t, last) = check_items(alloc, tree, items, node.place, at, env, usages, spare)?;
+            let (t, last) = check_items(checker, tree, items, node.place, at, env)?;
             end_block(env, base, t, last)
         }
         Term::Mutex(value) => {
-            let t = check_term(alloc, tree, *value, env, usages, spare)?;
-            in_mutex(alloc, t, start(tree, *value))
+            let t = check_term(checker, tree, *value, env)?;
+            in_mutex(checker.alloc, t, start(tree, *value))
         }
-        Term::Dup(of) => dup(alloc, tree, env, usages, *of),
+        Term::Dup(of) => dup(checker, tree, env, *of),
         Term::Lock(of, name, body) => {
             let base = env.len();
-            lock(alloc, tree, env, usages, *of, *name, node.place)?;
-            let t = check_term(alloc, tree, *body, env, usages, spare)?;
+            lock(checker, tree, env, *of, *name, node.place)?;
+            let t = check_term(checker, tree, *body, env)?;
             unlock(env, base, t, node.place, start(tree, *body))
         }
         Term::Par(captures, body, others, other) => {
-            let (ours, theirs) = capture_both(
-                alloc, tree, captures, others, at, env, usages, spare,
-            )?;
-            let first = check_branch(alloc, tree, *body, ours, usages, spare)?;
-            let second = check_branch(alloc, tree, *other, theirs, usages, spare)?;
+            let (ours, theirs) = capture_both(checker, tree, captures, others, env)?;
+            let first = check_branch(checker, tree, *body, ours)?;
+            let second = check_branch(checker, tree, *other, theirs)?;
             paired(&first, start(tree, *body), &second, start(tree, *other))
         }
         Term::Place(..) | Term::Capture(_) => unreachable!(),
@@ -127,121 +133,97 @@ pub fn check_term(
 // The operands, which stand before this node: the right one is typed in the environment that the left one leaves.
 #[cycle(check)]
 fn check_arith(
-    alloc: Global,
+    checker: &mut Checker,
     tree: &Tree,
     left: u32,
     right: u32,
     bound: u32,
     env: &mut Env,
-    usages: &mut Vec<Usage>,
-    spare: &mut Spare,
 ) -> Result<Ty, CheckError>
     requires left { left < bound }
     requires right { right < bound }
     requires left_ready { IsReady tree.now left }
     requires right_ready { IsReady tree.now right }
     requires scope { IsInScope tree.now.names env.old }
-    requires usages { length usages.old.items ≡ length (meanings tree.now) }
+    requires usages { length checker.old.usages.items ≡ length (meanings tree.now) }
     requires few { length env.old + length (meaning_at (meanings tree.now) left).nodes + length (meaning_at (meanings tree.now) right).nodes ≤ 268435456 }
     ensures gives { (op : Op) → Gives result (typing (arith_t 0 op (term_at (meanings tree.now) left) (term_at (meanings tree.now) right)) (env_of tree.now.names env.old)) (env_of tree.now.names env.new) }
     ensures below { IfOk result (λ t. AreBelow (length env.new) (kind_places (kind_of t))) }
     ensures scope { OnOk result (IsInScope tree.now.names env.new) }
     ensures grows { OnOk result (length env.old ≤ length env.new) }
     ensures few { OnOk result (length env.new ≤ length env.old + length (meaning_at (meanings tree.now) left).nodes + length (meaning_at (meanings tree.now) right).nodes) }
-    ensures usages { OnOk result (AreWritten usages.old.items usages.new.items ((meaning_at (meanings tree.now) left).nodes ++ (meaning_at (meanings tree.now) right).nodes) (usages_of (term_at (meanings tree.now) left) (env_of tree.now.names env.old) ++ usages_of (term_at (meanings tree.now) right) (env_after (typing (term_at (meanings tree.now) left) (env_of tree.now.names env.old))))) }
+    ensures usages { OnOk result (AreWritten checker.old.usages.items checker.new.usages.items ((meaning_at (meanings tree.now) left).nodes ++ (meaning_at (meanings tree.now) right).nodes) (usages_of (term_at (meanings tree.now) left) (env_of tree.now.names env.old) ++ usages_of (term_at (meanings tree.now) right) (env_after (typing (term_at (meanings tree.now) left) (env_of tree.now.names env.old))))) }
 {
-    let first = check_term(alloc, tree, left, env, usages, spare)?;
+    let first = check_term(checker, tree, left, env)?;
     number(&first, start(tree, left))?;
     drop(first);
-    let second = check_term(alloc, tree, right, env, usages, spare)?;
+    let second = check_term(checker, tree, right, env)?;
     combined(&second, start(tree, right))
 }
 
-// A new thread's captures and its body, which stand before this node: the body is typed in an environment of the captures alone.
+// A new thread's captures and its body: the body is typed in an environment of the captures alone.
 #[cycle(check)]
 fn check_spawn(
-    alloc: Global,
+    checker: &mut Checker,
     tree: &Tree,
     captures: &Nodes,
     body: u32,
-    bound: u32,
     env: &mut Env,
-    usages: &mut Vec<Usage>,
-    spare: &mut Spare,
 ) -> Result<Ty, CheckError>
-    requires body { body < bound }
-    requires names { AreNames tree.now bound captures.now.items }
+    requires names { AreNames tree.now captures.now.items }
     requires ready { IsReady tree.now body }
     requires scope { IsInScope tree.now.names env.old }
-    requires usages { length usages.old.items ≡ length (meanings tree.now) }
+    requires usages { length checker.old.usages.items ≡ length (meanings tree.now) }
     requires few { length (nodes_in (meanings tree.now) (all_need capture_s captures.now.items)) + length (meaning_at (meanings tree.now) body).nodes ≤ 268435456 }
     ensures gives { Gives result (typing (spawn_t 0 (captures_at (meanings tree.now) captures.now.items) (term_at (meanings tree.now) body)) (env_of tree.now.names env.old)) (env_of tree.now.names env.new) }
     ensures below { IfOk result (λ t. kind_places (kind_of t) ≡ []) }
     ensures scope { OnOk result (IsInScope tree.now.names env.new) }
     ensures same { OnOk result (length env.new ≡ length env.old) }
-    ensures usages { OnOk result (AreWritten usages.old.items usages.new.items (nodes_in (meanings tree.now) (all_need capture_s captures.now.items) ++ (meaning_at (meanings tree.now) body).nodes) (capture_usages by_spawn (env_of tree.now.names env.old) [] (captures_at (meanings tree.now) captures.now.items) ++ usages_of (term_at (meanings tree.now) body) (env_of_all by_spawn (env_of tree.now.names env.old) (captures_at (meanings tree.now) captures.now.items)))) }
+    ensures usages { OnOk result (AreWritten checker.old.usages.items checker.new.usages.items (nodes_in (meanings tree.now) (all_need capture_s captures.now.items) ++ (meaning_at (meanings tree.now) body).nodes) (capture_usages by_spawn (env_of tree.now.names env.old) [] (captures_at (meanings tree.now) captures.now.items) ++ usages_of (term_at (meanings tree.now) body) (env_of_all by_spawn (env_of tree.now.names env.old) (captures_at (meanings tree.now) captures.now.items)))) }
 {
-    let mut new = spare.take();
-    capture_all(
-        alloc,
-        tree,
-        Starter::Spawn,
-        captures,
-        bound,
-        env,
-        &mut new,
-        usages,
-    )?;
-    let t = check_term(alloc, tree, body, &mut new, usages, spare)?;
-    spare.put(new)?;
-    in_task(alloc, t, start(tree, body))
+    let mut new = checker.spare.take();
+    capture_all(checker, tree, Starter::Spawn, captures, env, &mut new)?;
+    let t = check_term(checker, tree, body, &mut new)?;
+    checker.spare.put(new)?;
+    in_task(checker.alloc, t, start(tree, body))
 }
 
 // A block of a `par`, in an environment of its captures alone, which is kept for the next thread.
 #[cycle(check)]
-fn check_branch(
-    alloc: Global,
-    tree: &Tree,
-    body: u32,
-    new: Env,
-    usages: &mut Vec<Usage>,
-    spare: &mut Spare,
-) -> Result<Ty, CheckError>
+fn check_branch(checker: &mut Checker, tree: &Tree, body: u32, new: Env) -> Result<Ty, CheckError>
     requires ready { IsReady tree.now body }
     requires scope { IsInScope tree.now.names new }
-    requires usages { length usages.old.items ≡ length (meanings tree.now) }
+    requires usages { length checker.old.usages.items ≡ length (meanings tree.now) }
     requires few { length new + length (meaning_at (meanings tree.now) body).nodes ≤ 268435456 }
     ensures gives { GivesType result (typing (term_at (meanings tree.now) body) (env_of tree.now.names new)) }
-    ensures usages { OnOk result (AreWritten usages.old.items usages.new.items (meaning_at (meanings tree.now) body).nodes (usages_of (term_at (meanings tree.now) body) (env_of tree.now.names new))) }
+    ensures usages { OnOk result (AreWritten checker.old.usages.items checker.new.usages.items (meaning_at (meanings tree.now) body).nodes (usages_of (term_at (meanings tree.now) body) (env_of tree.now.names new))) }
 {
     let mut new = new;
-    let t = check_term(alloc, tree, body, &mut new, usages, spare)?;
-    spare.put(new)?;
+    let t = check_term(checker, tree, body, &mut new)?;
+    checker.spare.put(new)?;
     Ok(t)
 }
 
 // The items in order: the last one's type and place.
 #[cycle(check)]
 fn check_items(
-    alloc: Global,
+    checker: &mut Checker,
     tree: &Tree,
     items: &Nodes,
     place: u32,
     bound: u32,
     env: &mut Env,
-    usages: &mut Vec<Usage>,
-    spare: &mut Spare,
 ) -> Result<(Ty, u32), CheckError>
     requires ready { AreReady tree.now bound items.now.items }
     requires scope { IsInScope tree.now.names env.old }
-    requires usages { length usages.old.items ≡ length (meanings tree.now) }
+    requires usages { length checker.old.usages.items ≡ length (meanings tree.now) }
     requires few { length env.old + length (nodes_in (meanings tree.now) (all_need term_s items.now.items)) ≤ 268435456 }
     ensures gives { GivesItems result (items_at (meanings tree.now) items.now.items) place (env_of tree.now.names env.old) (env_of tree.now.names env.new) }
     ensures below { IfOk result (λ p. AreBelow (length env.new) (kind_places (kind_of p.0))) }
     ensures scope { OnOk result (IsInScope tree.now.names env.new) }
     ensures grows { OnOk result (length env.old ≤ length env.new) }
     ensures few { OnOk result (length env.new ≤ length env.old + length (nodes_in (meanings tree.now) (all_need term_s items.now.items))) }
-    ensures usages { OnOk result (AreWritten usages.old.items usages.new.items (nodes_in (meanings tree.now) (all_need term_s items.now.items)) (usages_in (items_at (meanings tree.now) items.now.items) (env_of tree.now.names env.old))) }
+    ensures usages { OnOk result (AreWritten checker.old.usages.items checker.new.usages.items (nodes_in (meanings tree.now) (all_need term_s items.now.items)) (usages_in (items_at (meanings tree.now) items.now.items) (env_of tree.now.names env.old))) }
 {
     let mut t = Ty::Unit;
     let mut last = place;
@@ -249,7 +231,7 @@ fn check_items(
         let Some(item) = items.at(next) else {
             unreachable!()
         };
-        let found = check_term(alloc, tree, *item, env, usages, spare)?;
+        let found = check_term(checker, tree, *item, env)?;
         drop(mem::replace(&mut t, found));
         last = start(tree, *item);
     }

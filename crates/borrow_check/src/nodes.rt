@@ -15,13 +15,13 @@ ghost use Rattle.borrow_check.specs.Rules.{IsInScope, Gives, GoesTo};
 ghost use Rattle.borrow_check.specs.Usages.{write, usage_of, read_usage};
 
 use crate::check_error::CheckError;
+use crate::checker::Checker;
 use crate::finding::{find, find_shown, find_whole, written_at};
-use crate::rules::{borrow_mut_whole, borrow_whole, content, read_whole, with_lock, write};
+use crate::rules::{Typed, borrow_mut_whole, borrow_whole, content, read_whole, with_lock, write};
 use crate::usage::Usage;
 use fr_base::Lval;
 use fr_syntax::Tree;
 use fr_types::{Env, Ty, copies};
-use std::alloc::Global;
 
 // The use of a place where nothing is taken out.
 fn used(x: Lval) -> Usage
@@ -35,148 +35,126 @@ fn used(x: Lval) -> Usage
 
 /// Types a read node of the place of a node, and notes its use at both.
 pub fn read(
-    alloc: Global,
+    checker: &mut Checker,
     tree: &Tree,
     env: &mut Env,
-    usages: &mut Vec<Usage>,
     at: u32,
     from: u32,
 ) -> Result<Ty, CheckError>
     requires here { from < length (meanings tree.now) }
     requires sort { sort_of (meaning_at (meanings tree.now) from).what ≡ place_s }
     requires scope { IsInScope tree.now.names env.old }
-    requires usages { from < length usages.old.items }
-    requires read { at < length usages.old.items }
+    requires usages { from < length checker.old.usages.items }
+    requires read { at < length checker.old.usages.items }
     ensures gives { Gives result (typing (read_t 0 (place_at (meanings tree.now) from)) (env_of tree.now.names env.old)) (env_of tree.now.names env.new) }
     ensures below { IfOk result (λ t. AreBelow (length env.new) (kind_places (kind_of t))) }
     ensures scope { OnOk result (IsInScope tree.now.names env.new) }
     ensures same { OnOk result (length env.new ≡ length env.old) }
     ensures place { OnOk result ((meaning_at (meanings tree.now) from).nodes ≡ from ∷ []) }
     ensures usages { let usage = Some (read_usage (place_at (meanings tree.now) from) (env_of tree.now.names env.old)) in
-        OnOk result (usages.new.items ≡ write (write usages.old.items from usage) at usage) }
+        OnOk result (checker.new.usages.items ≡ write (write checker.old.usages.items from usage) at usage) }
 {
     let w = written_at(tree, from);
-    let (x, t) = find_whole(alloc, env, w)?;
+    let (x, t) = find_whole(checker.alloc, env, w)?;
     let usage = Usage {
         slot: x.slot,
         takes: !copies(&t),
     };
-    let t = read_whole(alloc, env, w, x, t)?;
-    usages[from as usize] = usage;
-    usages[at as usize] = usage;
+    let t = read_whole(checker.alloc, env, w, x, t)?;
+    checker.usages[from as usize] = usage;
+    checker.usages[at as usize] = usage;
     Ok(t)
 }
 
 /// Types a shared borrow of the place of a node, and notes its use there.
-pub fn borrow(
-    alloc: Global,
-    tree: &Tree,
-    env: &Env,
-    usages: &mut Vec<Usage>,
-    of: u32,
-) -> Result<Ty, CheckError>
+pub fn borrow(checker: &mut Checker, tree: &Tree, env: &Env, of: u32) -> Result<Ty, CheckError>
     requires here { of < length (meanings tree.now) }
     requires sort { sort_of (meaning_at (meanings tree.now) of).what ≡ place_s }
     requires scope { IsInScope tree.now.names env.now }
-    requires usages { of < length usages.old.items }
+    requires usages { of < length checker.old.usages.items }
     ensures gives { Gives result (typing (borrow_t 0 (place_at (meanings tree.now) of)) (env_of tree.now.names env.now)) (env_of tree.now.names env.now) }
     ensures below { IfOk result (λ t. AreBelow (length env.now) (kind_places (kind_of t))) }
     ensures place { OnOk result ((meaning_at (meanings tree.now) of).nodes ≡ of ∷ []) }
-    ensures usages { OnOk result (usages.new.items ≡ write usages.old.items of (Some (usage_of (env_of tree.now.names env.now) (place_at (meanings tree.now) of) false))) }
+    ensures usages { OnOk result (checker.new.usages.items ≡ write checker.old.usages.items of (Some (usage_of (env_of tree.now.names env.now) (place_at (meanings tree.now) of) false))) }
 {
     let w = written_at(tree, of);
-    let (x, t) = find_whole(alloc, env, w)?;
+    let (x, t) = find_whole(checker.alloc, env, w)?;
     drop(t);
-    let t = borrow_whole(alloc, env, w, x)?;
-    usages[of as usize] = used(x);
+    let t = borrow_whole(checker.alloc, env, w, x)?;
+    checker.usages[of as usize] = used(x);
     Ok(t)
 }
 
 /// The same of a mutable borrow.
-pub fn borrow_mut(
-    alloc: Global,
-    tree: &Tree,
-    env: &Env,
-    usages: &mut Vec<Usage>,
-    of: u32,
-) -> Result<Ty, CheckError>
+pub fn borrow_mut(checker: &mut Checker, tree: &Tree, env: &Env, of: u32) -> Result<Ty, CheckError>
     requires here { of < length (meanings tree.now) }
     requires sort { sort_of (meaning_at (meanings tree.now) of).what ≡ place_s }
     requires scope { IsInScope tree.now.names env.now }
-    requires usages { of < length usages.old.items }
+    requires usages { of < length checker.old.usages.items }
     ensures gives { Gives result (typing (borrow_mut_t 0 (place_at (meanings tree.now) of)) (env_of tree.now.names env.now)) (env_of tree.now.names env.now) }
     ensures below { IfOk result (λ t. AreBelow (length env.now) (kind_places (kind_of t))) }
     ensures place { OnOk result ((meaning_at (meanings tree.now) of).nodes ≡ of ∷ []) }
-    ensures usages { OnOk result (usages.new.items ≡ write usages.old.items of (Some (usage_of (env_of tree.now.names env.now) (place_at (meanings tree.now) of) false))) }
+    ensures usages { OnOk result (checker.new.usages.items ≡ write checker.old.usages.items of (Some (usage_of (env_of tree.now.names env.now) (place_at (meanings tree.now) of) false))) }
 {
     let w = written_at(tree, of);
-    let (x, t) = find_whole(alloc, env, w)?;
+    let (x, t) = find_whole(checker.alloc, env, w)?;
     drop(t);
-    let t = borrow_mut_whole(alloc, env, w, x)?;
-    usages[of as usize] = used(x);
+    let t = borrow_mut_whole(checker.alloc, env, w, x)?;
+    checker.usages[of as usize] = used(x);
     Ok(t)
 }
 
 /// Types an assignment to the place of a node, after its value, and notes the use of the place.
 pub fn assign(
-    alloc: Global,
+    checker: &mut Checker,
     tree: &Tree,
     env: &mut Env,
-    usages: &mut Vec<Usage>,
     to: u32,
-    t: Ty,
-    value: u32,
+    value: Typed,
 ) -> Result<Ty, CheckError>
     requires here { to < length (meanings tree.now) }
     requires sort { sort_of (meaning_at (meanings tree.now) to).what ≡ place_s }
     requires scope { IsInScope tree.now.names env.old }
-    requires below { AreBelow (length env.old) (kind_places (kind_of t)) }
-    requires usages { to < length usages.old.items }
-    ensures gives { Gives result (assign_rule (place_at (meanings tree.now) to) value (kind_of t) (env_of tree.now.names env.old)) (env_of tree.now.names env.new) }
+    requires below { AreBelow (length env.old) (kind_places (kind_of value.t)) }
+    requires usages { to < length checker.old.usages.items }
+    ensures gives { Gives result (assign_rule (place_at (meanings tree.now) to) value.place (kind_of value.t) (env_of tree.now.names env.old)) (env_of tree.now.names env.new) }
     ensures unit { IfOk result (λ u. kind_of u ≡ own unit) }
     ensures scope { OnOk result (IsInScope tree.now.names env.new) }
     ensures same { OnOk result (length env.new ≡ length env.old) }
     ensures place { OnOk result ((meaning_at (meanings tree.now) to).nodes ≡ to ∷ []) }
-    ensures usages { OnOk result (usages.new.items ≡ write usages.old.items to (Some (usage_of (env_of tree.now.names env.old) (place_at (meanings tree.now) to) false))) }
+    ensures usages { OnOk result (checker.new.usages.items ≡ write checker.old.usages.items to (Some (usage_of (env_of tree.now.names env.old) (place_at (meanings tree.now) to) false))) }
 {
     let w = written_at(tree, to);
-    let (x, part) = find(alloc, env, w)?;
-    drop(write(alloc, env, w, x, part, t, value)?);
-    usages[to as usize] = used(x);
+    let (x, part) = find(checker.alloc, env, w)?;
+    drop(write(checker.alloc, env, w, x, part, value)?);
+    checker.usages[to as usize] = used(x);
     Ok(Ty::Unit)
 }
 
 /// Types a second value of the mutex at the place of a node, and notes the use of the place.
-pub fn dup(
-    alloc: Global,
-    tree: &Tree,
-    env: &Env,
-    usages: &mut Vec<Usage>,
-    of: u32,
-) -> Result<Ty, CheckError>
+pub fn dup(checker: &mut Checker, tree: &Tree, env: &Env, of: u32) -> Result<Ty, CheckError>
     requires here { of < length (meanings tree.now) }
     requires sort { sort_of (meaning_at (meanings tree.now) of).what ≡ place_s }
     requires scope { IsInScope tree.now.names env.now }
-    requires usages { of < length usages.old.items }
+    requires usages { of < length checker.old.usages.items }
     ensures gives { Gives result (typing (dup_t 0 (place_at (meanings tree.now) of)) (env_of tree.now.names env.now)) (env_of tree.now.names env.now) }
     ensures below { IfOk result (λ t. kind_places (kind_of t) ≡ []) }
     ensures place { OnOk result ((meaning_at (meanings tree.now) of).nodes ≡ of ∷ []) }
-    ensures usages { OnOk result (usages.new.items ≡ write usages.old.items of (Some (usage_of (env_of tree.now.names env.now) (place_at (meanings tree.now) of) false))) }
+    ensures usages { OnOk result (checker.new.usages.items ≡ write checker.old.usages.items of (Some (usage_of (env_of tree.now.names env.now) (place_at (meanings tree.now) of) false))) }
 {
     let w = written_at(tree, of);
-    let (x, t) = find_shown(alloc, env, w)?;
+    let (x, t) = find_shown(checker.alloc, env, w)?;
     let o = content(t, w.place)?;
-    usages[of as usize] = used(x);
+    checker.usages[of as usize] = used(x);
     Ok(Ty::Mutex(o))
 }
 
 /// Takes the content of the mutex at the place of a node, by a `lock` at `at`: the mutex's slot has no name, and the content's stands above
 /// it. Notes the use of the place.
 pub fn lock(
-    alloc: Global,
+    checker: &mut Checker,
     tree: &Tree,
     env: &mut Env,
-    usages: &mut Vec<Usage>,
     of: u32,
     name: u32,
     at: u32,
@@ -185,19 +163,19 @@ pub fn lock(
     requires sort { sort_of (meaning_at (meanings tree.now) of).what ≡ place_s }
     requires scope { IsInScope tree.now.names env.old }
     requires name { name < length tree.now.names }
-    requires usages { of < length usages.old.items }
+    requires usages { of < length checker.old.usages.items }
     requires few { length env.old + length (meaning_at (meanings tree.now) of).nodes + 1 ≤ 268435456 }
     ensures goes_to { let e = env_of tree.now.names env.old in
         GoesTo result (λ (go : TypingEnv → Outcome). find_shown e (place_at (meanings tree.now) of) (lock_rule at e (place_at (meanings tree.now) of) (text_of tree.now.names name) go)) (env_of tree.now.names env.new) }
     ensures scope { OnOk result (IsInScope tree.now.names env.new) }
     ensures two { OnOk result (length env.new ≡ length env.old + 2) }
     ensures place { OnOk result ((meaning_at (meanings tree.now) of).nodes ≡ of ∷ []) }
-    ensures usages { OnOk result (usages.new.items ≡ write usages.old.items of (Some (usage_of (env_of tree.now.names env.old) (place_at (meanings tree.now) of) false))) }
+    ensures usages { OnOk result (checker.new.usages.items ≡ write checker.old.usages.items of (Some (usage_of (env_of tree.now.names env.old) (place_at (meanings tree.now) of) false))) }
 {
     let w = written_at(tree, of);
-    let (x, t) = find_shown(alloc, env, w)?;
+    let (x, t) = find_shown(checker.alloc, env, w)?;
     let o = content(t, w.place)?;
-    with_lock(alloc, env, x, name, o, at)?;
-    usages[of as usize] = used(x);
+    with_lock(checker.alloc, env, x, name, o, at)?;
+    checker.usages[of as usize] = used(x);
     Ok(())
 }

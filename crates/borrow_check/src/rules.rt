@@ -4,7 +4,7 @@ ghost use Rattle.std.specs.Prelude.{◌≡◌, ℕ, ◌-◌, ◌+◌, ◌<◌, �
 ghost use Rattle.fr_terms.specs.Terms.{Text};
 ghost use Rattle.fr_typing.specs.declared.reason.Reason.TheVariants.{NameInScope, ReadBlocked, WrongType};
 ghost use Rattle.fr_typing.specs.Kinds.{Owned, mutex, task, Kind, own, unit};
-ghost use Rattle.fr_typing.specs.Places.{AreBelow, kind_places, piece_places, found, read_blocked, slot_of, type_at, Env as TypingEnv};
+ghost use Rattle.fr_typing.specs.Places.{AreBelow, kind_places, found, read_blocked, slot_of, type_at, Env as TypingEnv};
 ghost use Rattle.fr_typing.specs.Checks.{is_kept_out, is_unit, is_whole, mutex_of, names_from, set_through, with_lock};
 ghost use Rattle.fr_typing.specs.Finding.{Outcome, given, typed, unless};
 ghost use Rattle.fr_typing.specs.Rules.{read_rule, borrow_rule, borrow_mut_rule, held_rule, box_rule, int_rule, print_rule, arith_rule, let_rule, write_rule, end_rule, join_rule, par_rule, unlock_rule};
@@ -23,6 +23,13 @@ use fr_types::{
 };
 use fr_typing::Reason;
 use std::alloc::Global;
+
+/// The type of a value, and the byte of the source where its first token stands.
+#[derive(Drop)]
+pub struct Typed {
+    pub t: Ty,
+    pub place: u32,
+}
 
 /// A read of a whole place: the type copies where the place may be read, or moves out where nothing refers to it.
 pub fn read_whole(
@@ -325,19 +332,18 @@ pub fn write(
     w: Written,
     x: Lval,
     part: Part,
-    t: Ty,
-    value: u32,
+    value: Typed,
 ) -> Result<Ty, CheckError>
     requires here { x.slot < length env.old }
-    requires part { AreBelow (length env.old) (piece_places (piece_of part)) }
-    requires below { AreBelow (length env.old) (kind_places (kind_of t)) }
-    ensures gives { (names : List Text) → Gives result (write_rule (env_of names env.old) (spot_of names w) value (kind_of t) x (piece_of part)) (env_of names env.new) }
+    requires below { AreBelow (length env.old) (kind_places (kind_of value.t)) }
+    ensures gives { (names : List Text) → Gives result (write_rule (env_of names env.old) (spot_of names w) value.place (kind_of value.t) x (piece_of part)) (env_of names env.new) }
     ensures unit { IfOk result (λ u. kind_of u ≡ own unit) }
     ensures names { OnOk result ((name : ℕ) → slot_in env.new name ≡ slot_in env.old name) }
     ensures same { OnOk result (length env.new ≡ length env.old) }
 {
+    let Typed { t, place } = value;
     may_open(alloc, env, w.place, x)?;
-    may_hold(env, value, x, &part, &t)?;
+    may_hold(env, place, x, &part, &t)?;
     drop(part);
     set_through(alloc, env, x, t)?;
     Ok(Ty::Unit)

@@ -125,13 +125,12 @@ place_long a at of n m t e u arena h is one stands usages r =
     ∙ sym (ap (λ x. length (usages_of x e)) (term_is a at n m t h is stands) ∙ ap length usages)
 
 -- captured names are nodes of their own
-pub names_long : (a : Arena) (at : ℕ) (ids : List ℕ) → IsArena a → AreNames a at ids → length (nodes_in (meanings a) (all_need capture_s ids)) ≡ length ids
-names_long a at [] arena h = refl
-names_long a at (i ∷ is) arena h =
-    let lt : i < at = h.parts.0 in
+pub names_long : (a : Arena) (ids : List ℕ) → IsArena a → AreNames a ids → length (nodes_in (meanings a) (all_need capture_s ids)) ≡ length ids
+names_long a [] arena h = refl
+names_long a (i ∷ is) arena h =
     let own = (meaning_at (meanings a) i).nodes in
-    let alone = ap length (name_alone a i arena (omega (arith, lt, h.inside)) h.parts.1) in
-    let rest = names_long a at is arena (record { inside = h.inside; parts = h.parts.2 }) in
+    let alone = ap length (name_alone a i arena h.parts.0 h.parts.1) in
+    let rest = names_long a is arena (record { parts = h.parts.2 }) in
     omega (arith, alone, rest, length-append own (nodes_in (meanings a) (all_need capture_s is)))
 
 -- and each has a usage
@@ -212,7 +211,7 @@ long_row a at n e arena h r below (a_spawn names v is) =
       nodes,
       uses,
       below v parts.before parts.ready f,
-      names_long a at names.items arena parts.names,
+      names_long a names.items arena parts.names,
       names_used a names.items e [],
       length-append (ks ++ ns) (at ∷ []),
       length-append ks ns,
@@ -328,7 +327,7 @@ spawn_typed p at names v n e arena h is w =
     let term = term_is a at n (Spawn names v) (spawn_t n.place cs t) h is refl in
     let b = body_typed cs t e w.kind w.after (sym (ap (λ x. typing x e) term) ∙ w.typed) in
     let all : AreUsed p.usages ((ks ++ ns) ++ at ∷ []) ((ms ++ us) ++ None ∷ []) = subst (λ l. AreUsed p.usages ((ks ++ ns) ++ at ∷ []) l) (ap (λ x. usages_of x e) term) (subst (λ l. AreUsed p.usages l (usages_of (term_at (meanings a) at) e)) (spawn_nodes a at names v n h is) w.used) in
-    let first = names_long a at names.items arena parts.names ∙ sym (names_used a names.items e []) in
+    let first = names_long a names.items arena parts.names ∙ sym (names_used a names.items e []) in
     let second = long_below a arena at v parts.before parts.ready f in
     let front = (used_both p.usages (ks ++ ns) (at ∷ []) (ms ++ us) (None ∷ []) (omega (arith, first, second, length-append ks ns, length-append ms us)) all).0 in
     let both = used_both p.usages ks ns ms us first front in

@@ -64,7 +64,7 @@ arith_parts a at l r op n h is ready =
 -- a new thread's names and its body
 pub record AreParts (a : Arena) (at : ℕ) (ids : List ℕ) (v : ℕ) : Type 0 where
   pub before : v < at
-  pub names : AreNames a at ids
+  pub names : AreNames a ids
   pub ready : IsResolvable a v
   pub count : length (nodes_in (meanings a) (all_need capture_s ids)) + length (meaning_at (meanings a) v).nodes + 1 ≤ length (meaning_at (meanings a) at).nodes
 

@@ -140,17 +140,16 @@ capture_named p i e sort h =
     made s b = record { slot = s; take = b }
 
 -- the captured slots are those of the names
-captures_run : (p : Program) (bound : ℕ) (ids : List ℕ) (e n : Env) → IsArena p.arena → AreNames p.arena bound ids → AreUsed p.usages (nodes_in (meanings p.arena) (all_need capture_s ids)) (capture_usages by_spawn e n (captures_at (meanings p.arena) ids)) →
+captures_run : (p : Program) (ids : List ℕ) (e n : Env) → IsArena p.arena → AreNames p.arena ids → AreUsed p.usages (nodes_in (meanings p.arena) (all_need capture_s ids)) (capture_usages by_spawn e n (captures_at (meanings p.arena) ids)) →
     captures_of (captured_all p ids) ≡ captures by_spawn e n (captures_at (meanings p.arena) ids)
-captures_run p bound [] e n arena h used = refl
-captures_run p bound (i ∷ is) e n arena h used =
+captures_run p [] e n arena h used = refl
+captures_run p (i ∷ is) e n arena h used =
     let a = p.arena in
     let c = as_capture (meaning_at (meanings a) i).what in
     let cs = captures_at (meanings a) is in
-    let lt : i < bound = h.parts.0 in
-    let alone = name_alone a i arena (omega (arith, lt, h.inside)) h.parts.1 in
+    let alone = name_alone a i arena h.parts.0 h.parts.1 in
     let all : AreUsed p.usages (i ∷ nodes_in (meanings a) (all_need capture_s is)) (capture_usages by_spawn e n (c ∷ cs)) = subst (λ (l : List ℕ). AreUsed p.usages (l ++ nodes_in (meanings a) (all_need capture_s is)) (capture_usages by_spawn e n (c ∷ cs))) alone used in
-    let rest = captures_run p bound is (env_left by_spawn e n c) (env_new by_spawn e n c) arena (record { inside = h.inside; parts = h.parts.2 }) all.1 in
+    let rest = captures_run p is (env_left by_spawn e n c) (env_new by_spawn e n c) arena (record { parts = h.parts.2 }) all.1 in
     let left = same_after (capture by_spawn e n c (λ e1 n1. typed (own unit) e1)) in
     let new = same_after (capture by_spawn e n c (λ e1 n1. typed (own unit) n1)) in
     ap₂ (λ (x : Passed) (xs : List Passed). x ∷ xs) (capture_named p i e h.parts.1 all.0) (rest ∙ ap₂ (λ x y. captures by_spawn x y cs) left new)
@@ -257,7 +256,7 @@ spawn_few p at names v n e arena h is w =
     let a = p.arena in
     let parts = spawn_parts a at names v n h is w.ready in
     let few = nodes_few a at arena w.ready.node.here w.ready.node.own in
-    let long = names_long a at names.items arena parts.names in
+    let long = names_long a names.items arena parts.names in
     let body = long_below a arena at v parts.before parts.ready e in
     omega (arith, few, long, body, parts.count, lets_few (term_at (meanings a) v) e parts.ready.threaded)
 
@@ -275,7 +274,7 @@ spawn_run p at counts look names v n e (form.Spawn ds b k) arena h is w c same r
     let total : k ≡ length cs + lets_in t = omega (arith, made.2, count, few, long) in
     let body : look b ≡ resolve t (plain.env_of_all by_spawn e cs) =
     ap look made.1 ∙ runs v parts.before (env_of_all by_spawn e cs) s.body ∙ ap (λ x. resolve t x) (same_after (capture_all by_spawn cs e [] (λ e1 n1. typed (own unit) n1))) in
-    let all : captures_of ds.items ≡ captures by_spawn e [] cs = ap captures_of made.0 ∙ captures_run p at names.items e [] arena parts.names s.names in
+    let all : captures_of ds.items ≡ captures by_spawn e [] cs = ap captures_of made.0 ∙ captures_run p names.items e [] arena parts.names s.names in
     ap₂ spawn all (ap₂ (λ x y. block x (last y)) total body)
 spawn_run p at counts look names v n e (form.Number x) arena h is w c same runs made = absurd made
 spawn_run p at counts look names v n e form.Unit arena h is w c same runs made = absurd made

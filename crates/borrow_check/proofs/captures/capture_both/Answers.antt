@@ -10,5 +10,5 @@ pub capture_all-requires-2-clause-usages : goal.capture_all-requires-2-clause-us
 capture_all-requires-2-clause-usages c =
     let names = c.args.tree.now.names in
     let ms = meanings c.args.tree.now in
-    written_long c.args.usages.now.items c.capture_all.new.usages.items (nodes_in ms (all_need capture_s c.args.first.now.items)) (capture_usages by_par (env_of names c.args.env.now) (env_of names c.take-ours.result) (captures_at ms c.args.first.now.items)) c.in_ok-capture_all.ensures.usages
+    written_long c.args.checker.now.usages.items c.capture_all.new.checker.usages.items (nodes_in ms (all_need capture_s c.args.first.now.items)) (capture_usages by_par (env_of names c.args.env.now) (env_of names c.take-ours.result) (captures_at ms c.args.first.now.items)) c.in_ok-capture_all.ensures.usages
     ∙ c.requires.usages

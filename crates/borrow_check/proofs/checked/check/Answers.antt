@@ -8,7 +8,7 @@ check_term-requires-clause-few c = few_at_root c.args.tree c.root.result c.new-e
 
 pub invariant_of-result : goal.invariant_of-result
 invariant_of-result c =
-    checked_at_root c.args.tree c.root.result c.new-env.result (kind_of c.in-Ok.field-0) _ c.in_ok-usages.usages.items c.check_term.new.usages.items
+    checked_at_root c.args.tree c.root.result c.new-env.result (kind_of c.in-Ok.field-0) _ c.in_ok-usages.usages.items c.check_term.new.checker.usages.items
     c.len.ensures.arena c.requires c.root.ensures c.new-env.ensures c.in-Ok.ensures.gives c.in-Ok.ensures.usages (c.in_ok-usages.ensures ∙ c.len.ensures.meanings)
 
 pub returns-in-Ok-clause-typed : goal.returns-in-Ok-clause-typed

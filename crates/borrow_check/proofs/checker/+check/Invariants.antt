@@ -10,7 +10,7 @@ abbrev pub decreases-check_arith : goal.decreases-check_arith
 decreases-check_arith l = 2 * l.bound
 
 abbrev pub decreases-check_spawn : goal.decreases-check_spawn
-decreases-check_spawn l = 2 * l.bound
+decreases-check_spawn l = 2 * l.body + 2
 
 abbrev pub decreases-check_branch : goal.decreases-check_branch
 decreases-check_branch l = 2 * l.body + 2
@@ -19,4 +19,4 @@ abbrev pub decreases-check_items : goal.decreases-check_items
 decreases-check_items l = 2 * l.bound
 
 abbrev pub invariant-check_items-items : goal.invariant-check_items-items
-invariant-check_items-items l = IsAlong l.tree l.bound l.place l.items.items (drop l.next l.items.items) l.initial.env l.env l.initial.usages.items l.usages.items (kind_of l.t) l.last
+invariant-check_items-items l = IsAlong l.tree l.bound l.place l.items.items (drop l.next l.items.items) l.initial.env l.env l.initial.checker.usages.items l.checker.usages.items (kind_of l.t) l.last

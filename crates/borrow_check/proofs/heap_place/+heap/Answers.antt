@@ -1,7 +1,7 @@
 use Rattle.std.proofs.Common.{◌≡◌, ◌+◌, ◌∙◌, sym, ap, arith, subst, drop, Bool}
 use Rattle.std.specs.Prelude.{◌&&◌, IfOk}
 use Rattle.std.specs.List.{list_all}
-use Rattle.fr_typing.specs.Places.{is_heap_place, leads_to_heap, found, undefined, no_target}
+use Rattle.fr_typing.specs.Places.{is_heap_place, found, undefined, no_target}
 use Rattle.fr_types.specs.declared.error.TypeError.TheVariants.{NotDefined, NoTarget}
 use Rattle.fr_types.specs.Types.{piece_of}
 use Rattle.fr_types.specs.States.{env_of}
