@@ -1,6 +1,6 @@
 -- A step that a thread does alone, from its parts: its term, its slots (the newest last), the heap, the labels, and what
 -- goes last with the value that it drops.
-use Rattle.std.specs.Prelude.{ℕ, ◌+◌, ◌≡◌, List, Option, Some, None}
+use Rattle.std.specs.Prelude.{ℕ, ◌+◌, List, Option, Some, None}
 use Rattle.fr_base.specs.declared.label.Label.{Label}
 use Rattle.fr_plain.specs.declared.value.Value.{Value}
 use Rattle.fr_plain.specs.Heap.{Heap}

@@ -2,21 +2,22 @@
 
 ghost use Rattle.std.specs.Prelude.{◌≡◌, ◌<◌, ◌≤◌, ◌+◌, ◌++◌, ◌∷◌, [], List, length, drop, vec_len, vec_capacity, Some, None, IsSome};
 ghost use Rattle.fr_meaning.specs.declared.frame.Frame.{Frame};
-ghost use Rattle.fr_plain.specs.Run.{Run, settle, block, move};
+ghost use Rattle.fr_plain.specs.Run.{settle, block, move};
 ghost use Rattle.fr_plain.specs.Whole.{prints};
 ghost use Rattle.fr_meaning.specs.Contexts.{fill, depth, IsSettled};
 ghost use Rattle.fr_meaning.specs.FormTerms.{AreInOrder, term_of, parts_of, items_at};
 ghost use Rattle.fr_meaning.specs.DoneTerms.{over, value_of};
 ghost use Rattle.fr_meaning.specs.FrameTerms.{wrapped, around, around_items, focus_run, AreInside, IsInside, HasLastPart, IsPastLeft, HasMadeWay, end_of};
-ghost use Rattle.fr_shared.specs.declared.heap.Released.TheVariants as released;
 ghost use Rattle.fr_acts.specs.Acting.{state};
+ghost use Rattle.fr_meaning.specs.Threads.{IsWell, run_in};
 ghost use Rattle.fr_meaning.specs.Turning.{turned, turns_to, term_step, frame_labels, focus_labels};
 
 use crate::control::{enter_items, has_item, leave};
 use crate::forms::Form;
 use crate::frame::{Done, Entered, Focus, Frame};
+use crate::thread::Thread;
 use fr_acts::{arith, assign, borrow, discard, drop_slot, make_box, print, read};
-use fr_base::{Labels, Plain, ThreadNo};
+use fr_base::{Labels, Plain};
 use fr_plain::Value;
 use fr_shared::{Heap, Released};
 
@@ -48,52 +49,59 @@ pub fn labels_ahead(focus: &Focus, frames: &[Frame]) -> usize
     }
 }
 
-// What the term of the frame does with its part.
-fn operate(
-    forms: &[Form],
-    thread: ThreadNo,
+// A frame whose part is done.
+#[derive(Clone, Copy)]
+struct Filled {
     frame: Frame,
     done: Done,
-    slots: &mut Vec<Value>,
+}
+
+// What the term of a frame does with its part: what it comes to, and what goes last with a value that is dropped.
+fn operate(
+    forms: &[Form],
+    thread: &mut Thread,
+    filled: Filled,
     heap: &mut Heap,
     output: &mut Vec<i64>,
     labels: &mut Labels,
-    dropped: &mut Released,
-) -> Done
-    requires part { HasLastPart frame }
-    requires goes { IsSome (turned (move (fill (around forms.now frame) (over done))) (state thread slots.old.items heap.old.heap)) }
-    requires slots { vec_len slots.old < vec_capacity slots.old }
-    requires heap { heap.old.ready ≡ Some thread }
+) -> (Done, Released)
+    requires part { HasLastPart filled.frame }
+    requires goes { IsSome (turned (move (fill (around forms.now filled.frame) (over filled.done))) (state thread.old.number thread.old.slots.items heap.old.heap)) }
+    requires slots { vec_len thread.old.slots < vec_capacity thread.old.slots }
+    requires heap { heap.old.ready ≡ Some thread.old.number }
     requires output { vec_len output.old < vec_capacity output.old }
     requires labels { labels.old.items ≡ [] }
-    requires none { dropped.old ≡ released.Nothing }
-    requires room { frame_labels frame ≤ labels.old.spare }
-    ensures turns { turned (move (fill (around forms.now frame) (over done))) (state thread slots.old.items heap.old.heap) ≡ turns_to (over result) thread slots.new.items heap.new.heap labels.new.items dropped.new }
+    requires room { frame_labels filled.frame ≤ labels.old.spare }
+    ensures turns { turned (move (fill (around forms.now filled.frame) (over filled.done))) (state thread.old.number thread.old.slots.items heap.old.heap) ≡ turns_to (over result.0) thread.old.number thread.new.slots.items heap.new.heap labels.new.items result.1 }
     ensures output { output.new.items ≡ output.old.items ++ prints labels.new.items }
+    ensures number { thread.new.number ≡ thread.old.number }
+    ensures stage { thread.new.stage ≡ thread.old.stage }
+    ensures frames { thread.new.frames ≡ thread.old.frames }
 {
+    let Filled { frame, done } = filled;
     let value = value_in(done);
+    let number = thread.number;
     match frame {
-        Frame::Box => Done::Temp(make_box(thread, slots, heap, labels, value)),
+        Frame::Box => {
+            let made = make_box(number, &thread.slots, heap, labels, value);
+            (Done::Temp(made), Released::Nothing)
+        }
         Frame::Let => {
-            slots.push_reserved(value);
-            Done::Unit
+            thread.slots.push_reserved(value);
+            (Done::Unit, Released::Nothing)
         }
         Frame::Print => {
-            print(thread, slots, heap, output, labels, value);
-            Done::Unit
+            print(number, &thread.slots, heap, output, labels, value);
+            (Done::Unit, Released::Nothing)
         }
         Frame::Assign(place) => {
-            *dropped = assign(thread, slots, heap, labels, place, value);
-            Done::Unit
+            let released = assign(number, &mut thread.slots, heap, labels, place, value);
+            (Done::Unit, released)
         }
-        Frame::Right { op, left } => Done::Temp(arith(
-            thread,
-            slots,
-            heap,
-            op,
-            value_in(left),
-            value,
-        )),
+        Frame::Right { op, left } => {
+            let result = arith(number, &thread.slots, heap, op, value_in(left), value);
+            (Done::Temp(result), Released::Nothing)
+        }
         Frame::Join => unreachable!(),
         Frame::Left { .. } => unreachable!(),
         Frame::Block { .. } => unreachable!(),
@@ -117,140 +125,135 @@ fn next_item(forms: &[Form], frames: &mut Vec<Frame>, left: u32, node: usize, ne
     }
 }
 
-// A step of a block whose item is done: its value before a `;` is dropped, or after the last item a slot.
-fn step_block(
-    forms: &[Form],
-    thread: ThreadNo,
-    frames: &mut Vec<Frame>,
+// A block in progress: how many slots it has still to drop, its form, and the item after the one in progress.
+#[derive(Clone, Copy)]
+struct Block {
     left: u32,
     node: usize,
     next: usize,
+}
+
+// A step of a block whose item is done: its value before a `;` is dropped, or after the last item a slot. Gives what goes last
+// with what is dropped.
+fn step_block(
+    forms: &[Form],
+    thread: &mut Thread,
+    block: Block,
     done: Done,
-    slots: &mut Vec<Value>,
     heap: &mut Heap,
     labels: &mut Labels,
-    dropped: &mut Released,
-) -> Focus
+) -> Released
     requires order { AreInOrder forms.now }
-    requires inside { node < length forms.now }
-    requires frames { AreInside (length forms.now) frames.old.items }
-    requires settled { IsSettled (fill (around_items left (term_of forms.now) (drop next (items_at forms.now node))) (over done)) }
-    requires room { depth (wrapped forms.now frames.old.items (fill (around_items left (term_of forms.now) (drop next (items_at forms.now node))) (over done))) ≤ vec_capacity frames.old }
-    requires goes { IsSome (turned (move (fill (around_items left (term_of forms.now) (drop next (items_at forms.now node))) (over done))) (state thread slots.old.items heap.old.heap)) }
+    requires inside { block.node < length forms.now }
+    requires frames { AreInside (length forms.now) thread.old.frames.items }
+    requires settled { IsSettled (fill (around_items block.left (term_of forms.now) (drop block.next (items_at forms.now block.node))) (over done)) }
+    requires room { depth (wrapped forms.now thread.old.frames.items (fill (around_items block.left (term_of forms.now) (drop block.next (items_at forms.now block.node))) (over done))) ≤ vec_capacity thread.old.frames }
+    requires goes { IsSome (turned (move (fill (around_items block.left (term_of forms.now) (drop block.next (items_at forms.now block.node))) (over done))) (state thread.old.number thread.old.slots.items heap.old.heap)) }
     requires labels { labels.old.items ≡ [] }
-    requires none { dropped.old ≡ released.Nothing }
     requires spare { 2 ≤ labels.old.spare }
-    ensures step { term_step (wrapped forms.now frames.old.items (fill (around_items left (term_of forms.now) (drop next (items_at forms.now node))) (over done))) (state thread slots.old.items heap.old.heap) ≡ turns_to (wrapped forms.now frames.new.items (focus_run forms.now result)) thread slots.new.items heap.new.heap labels.new.items dropped.new }
+    ensures step { term_step (wrapped forms.now thread.old.frames.items (fill (around_items block.left (term_of forms.now) (drop block.next (items_at forms.now block.node))) (over done))) (state thread.old.number thread.old.slots.items heap.old.heap) ≡ turns_to (run_in forms.now thread.new) thread.old.number thread.new.slots.items heap.new.heap labels.new.items result }
     ensures silent { prints labels.new.items ≡ [] }
-    ensures way { HasMadeWay forms.now frames.new.items result }
-    ensures capacity { vec_capacity frames.new ≡ vec_capacity frames.old }
-    ensures frames { AreInside (length forms.now) frames.new.items }
+    ensures way { HasMadeWay forms.now thread.new.frames.items thread.new.focus }
+    ensures capacity { vec_capacity thread.new.frames ≡ vec_capacity thread.old.frames }
+    ensures frames { AreInside (length forms.now) thread.new.frames.items }
+    ensures number { thread.new.number ≡ thread.old.number }
+    ensures stage { thread.new.stage ≡ thread.old.stage }
 {
+    let Block { left, node, next } = block;
     if has_item(forms, node, next) {
-        *dropped = discard(thread, slots, heap, labels, value_in(done));
-        return next_item(forms, frames, left, node, next);
+        let released = discard(thread.number, &thread.slots, heap, labels, value_in(done));
+        thread.focus = next_item(forms, &mut thread.frames, left, node, next);
+        return released;
     }
-    *dropped = drop_slot(thread, slots, heap, labels);
-    frames.push_reserved(Frame::Block {
+    let released = drop_slot(thread.number, &mut thread.slots, heap, labels);
+    thread.frames.push_reserved(Frame::Block {
         left: left - 1,
         node,
         next,
     });
-    leave(forms, frames, done)
+    thread.focus = leave(forms, &mut thread.frames, done);
+    released
 }
 
-// A step of the term of a frame, whose part is done.
+// A step of the term of a frame, whose part is done. Gives what goes last with a value that is dropped.
 fn step_frame(
     forms: &[Form],
-    thread: ThreadNo,
-    frames: &mut Vec<Frame>,
-    frame: Frame,
-    done: Done,
-    slots: &mut Vec<Value>,
+    thread: &mut Thread,
+    filled: Filled,
     heap: &mut Heap,
     output: &mut Vec<i64>,
     labels: &mut Labels,
-    dropped: &mut Released,
-) -> Focus
+) -> Released
     requires order { AreInOrder forms.now }
-    requires frame { IsInside (length forms.now) frame }
-    requires past { IsPastLeft frame }
-    requires frames { AreInside (length forms.now) frames.old.items }
-    requires settled { IsSettled (fill (around forms.now frame) (over done)) }
-    requires room { depth (wrapped forms.now frames.old.items (fill (around forms.now frame) (over done))) ≤ vec_capacity frames.old }
-    requires goes { IsSome (turned (move (fill (around forms.now frame) (over done))) (state thread slots.old.items heap.old.heap)) }
-    requires slots { vec_len slots.old < vec_capacity slots.old }
-    requires heap { heap.old.ready ≡ Some thread }
+    requires frame { IsInside (length forms.now) filled.frame }
+    requires past { IsPastLeft filled.frame }
+    requires frames { AreInside (length forms.now) thread.old.frames.items }
+    requires settled { IsSettled (fill (around forms.now filled.frame) (over filled.done)) }
+    requires room { depth (wrapped forms.now thread.old.frames.items (fill (around forms.now filled.frame) (over filled.done))) ≤ vec_capacity thread.old.frames }
+    requires goes { IsSome (turned (move (fill (around forms.now filled.frame) (over filled.done))) (state thread.old.number thread.old.slots.items heap.old.heap)) }
+    requires slots { vec_len thread.old.slots < vec_capacity thread.old.slots }
+    requires heap { heap.old.ready ≡ Some thread.old.number }
     requires output { vec_len output.old < vec_capacity output.old }
     requires labels { labels.old.items ≡ [] }
-    requires none { dropped.old ≡ released.Nothing }
-    requires spare { frame_labels frame ≤ labels.old.spare }
-    ensures step { term_step (wrapped forms.now frames.old.items (fill (around forms.now frame) (over done))) (state thread slots.old.items heap.old.heap) ≡ turns_to (wrapped forms.now frames.new.items (focus_run forms.now result)) thread slots.new.items heap.new.heap labels.new.items dropped.new }
+    requires spare { frame_labels filled.frame ≤ labels.old.spare }
+    ensures step { term_step (wrapped forms.now thread.old.frames.items (fill (around forms.now filled.frame) (over filled.done))) (state thread.old.number thread.old.slots.items heap.old.heap) ≡ turns_to (run_in forms.now thread.new) thread.old.number thread.new.slots.items heap.new.heap labels.new.items result }
     ensures output { output.new.items ≡ output.old.items ++ prints labels.new.items }
-    ensures way { HasMadeWay forms.now frames.new.items result }
-    ensures capacity { vec_capacity frames.new ≡ vec_capacity frames.old }
-    ensures frames { AreInside (length forms.now) frames.new.items }
+    ensures way { HasMadeWay forms.now thread.new.frames.items thread.new.focus }
+    ensures capacity { vec_capacity thread.new.frames ≡ vec_capacity thread.old.frames }
+    ensures frames { AreInside (length forms.now) thread.new.frames.items }
+    ensures number { thread.new.number ≡ thread.old.number }
+    ensures stage { thread.new.stage ≡ thread.old.stage }
 {
-    if let Frame::Block { left, node, next } = frame {
-        return step_block(
-            forms, thread, frames, left, node, next, done, slots, heap, labels, dropped,
-        );
+    if let Frame::Block { left, node, next } = filled.frame {
+        let block = Block { left, node, next };
+        return step_block(forms, thread, block, filled.done, heap, labels);
     }
-    let over = operate(
-        forms, thread, frame, done, slots, heap, output, labels, dropped,
-    );
-    leave(forms, frames, over)
+    let (over, released) = operate(forms, thread, filled, heap, output, labels);
+    thread.focus = leave(forms, &mut thread.frames, over);
+    released
 }
 
-/// One step that a thread does alone, which isn't its end. Tells what goes last with a value that is dropped.
-pub fn advance(
+/// A step of a thread's term that the thread does alone, and not its end. Gives what goes last with a value that is dropped.
+pub fn step_alone(
     forms: &[Form],
-    thread: ThreadNo,
-    focus: Focus,
-    frames: &mut Vec<Frame>,
-    slots: &mut Vec<Value>,
+    thread: &mut Thread,
     heap: &mut Heap,
     output: &mut Vec<i64>,
     labels: &mut Labels,
-    dropped: &mut Released,
-) -> Focus
+) -> Released
     requires order { AreInOrder forms.now }
-    requires frames { AreInside (length forms.now) frames.old.items }
-    requires way { HasMadeWay forms.now frames.old.items focus }
-    requires settled { IsSettled (wrapped forms.now frames.old.items (focus_run forms.now focus)) }
-    requires room { depth (wrapped forms.now frames.old.items (focus_run forms.now focus)) ≤ vec_capacity frames.old }
-    requires goes { IsSome (term_step (wrapped forms.now frames.old.items (focus_run forms.now focus)) (state thread slots.old.items heap.old.heap)) }
-    requires on { end_of focus frames.old.items ≡ None }
-    requires slots { vec_len slots.old < vec_capacity slots.old }
-    requires heap { heap.old.ready ≡ Some thread }
+    requires well { IsWell forms.now thread.old }
+    requires on { end_of thread.old.focus thread.old.frames.items ≡ None }
+    requires goes { IsSome (term_step (run_in forms.now thread.old) (state thread.old.number thread.old.slots.items heap.old.heap)) }
+    requires slots { vec_len thread.old.slots < vec_capacity thread.old.slots }
+    requires heap { heap.old.ready ≡ Some thread.old.number }
     requires output { vec_len output.old < vec_capacity output.old }
     requires labels { labels.old.items ≡ [] }
-    requires none { dropped.old ≡ released.Nothing }
-    requires spare { focus_labels focus ≤ labels.old.spare }
-    requires frame_spare { (gs : List Frame) (g : Frame) → frames.old.items ≡ gs ++ g ∷ [] → frame_labels g ≤ labels.old.spare }
-    ensures step { term_step (wrapped forms.now frames.old.items (focus_run forms.now focus)) (state thread slots.old.items heap.old.heap) ≡ turns_to (wrapped forms.now frames.new.items (focus_run forms.now result)) thread slots.new.items heap.new.heap labels.new.items dropped.new }
+    requires spare { focus_labels thread.old.focus ≤ labels.old.spare }
+    requires frame_spare { (gs : List Frame) (g : Frame) → thread.old.frames.items ≡ gs ++ g ∷ [] → frame_labels g ≤ labels.old.spare }
+    ensures step { term_step (run_in forms.now thread.old) (state thread.old.number thread.old.slots.items heap.old.heap) ≡ turns_to (run_in forms.now thread.new) thread.old.number thread.new.slots.items heap.new.heap labels.new.items result }
     ensures output { output.new.items ≡ output.old.items ++ prints labels.new.items }
-    ensures way { HasMadeWay forms.now frames.new.items result }
-    ensures capacity { vec_capacity frames.new ≡ vec_capacity frames.old }
-    ensures frames { AreInside (length forms.now) frames.new.items }
+    ensures well { IsWell forms.now thread.new }
+    ensures number { thread.new.number ≡ thread.old.number }
+    ensures stage { thread.new.stage ≡ thread.old.stage }
 {
-    match focus {
+    match thread.focus {
         Focus::Read(place, take) => {
-            let value = read(thread, slots, heap, labels, place, take);
-            leave(forms, frames, Done::Temp(value))
+            let value = read(thread.number, &mut thread.slots, heap, labels, place, take);
+            thread.focus = leave(forms, &mut thread.frames, Done::Temp(value));
+            Released::Nothing
         }
         Focus::Spawn(_) => unreachable!(),
         Focus::Borrow(place, _) => {
-            let value = borrow(thread, slots, heap, labels, place);
-            leave(forms, frames, Done::Temp(value))
+            let value = borrow(thread.number, &thread.slots, heap, labels, place);
+            thread.focus = leave(forms, &mut thread.frames, Done::Temp(value));
+            Released::Nothing
         }
         Focus::Over(done) => {
-            let Some(frame) = frames.pop() else {
+            let Some(frame) = thread.frames.pop() else {
                 unreachable!()
             };
-            step_frame(
-                forms, thread, frames, frame, done, slots, heap, output, labels, dropped,
-            )
+            step_frame(forms, thread, Filled { frame, done }, heap, output, labels)
         }
     }
 }

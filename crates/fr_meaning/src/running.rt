@@ -1,6 +1,6 @@
 //! All that runs: its steps, with the room for each made first.
 
-ghost use Rattle.std.specs.Prelude.{◌≡◌, ◌<◌, ◌≤◌, ◌∷◌, [], List, length, slice_index_or, vec_len, vec_capacity, Some, None, IsSome, IfOk, OnOk, OnErr};
+ghost use Rattle.std.specs.Prelude.{◌≡◌, ◌<◌, ◌∷◌, [], List, length, slice_index_or, vec_len, vec_capacity, Some, None, IsSome, IfOk, OnOk, OnErr};
 ghost use Rattle.fr_base.specs.declared.step.Fresh.TheVariants as fresh_;
 ghost use Rattle.fr_plain.specs.Whole.{step};
 ghost use Rattle.fr_meaning.specs.declared.forms.Form.{Form};
@@ -9,7 +9,7 @@ ghost use Rattle.fr_meaning.specs.declared.next.Next.TheVariants as next_;
 ghost use Rattle.fr_meaning.specs.FormTerms.{AreInOrder, captures_at};
 ghost use Rattle.fr_meaning.specs.Next.{IsNext};
 ghost use Rattle.fr_shared.specs.Places.{place_of};
-ghost use Rattle.fr_meaning.specs.Threads.{IsWell, numbers_of};
+ghost use Rattle.fr_meaning.specs.Threads.{IsWell};
 ghost use Rattle.fr_meaning.specs.Entries.{entry_of};
 ghost use Rattle.fr_meaning.specs.Running.{plain_of, view_of, Stands};
 
@@ -18,7 +18,7 @@ use crate::frame::Done;
 use crate::machine::labels_ahead;
 use crate::next::{Next, next_of, task_named_by};
 use crate::thread::Thread;
-use crate::threads::{go_alone, go_end, go_join, go_start};
+use crate::threads::{Made, Runner, go_alone, go_end, go_join, go_start};
 use fr_base::{Fresh, Labels, NoMemory, ThreadNo};
 use fr_plain::Value;
 use fr_shared::{Heap, Places};
@@ -66,17 +66,17 @@ fn reserve_slot(thread: &mut Thread) -> Result<(), NoMemory>
 }
 
 // Makes room for what an act of the thread alone makes: a slot, an object and a number of the output.
-fn reserve_act(running: &mut Running, thread: ThreadNo, at: usize) -> Result<(), NoMemory>
-    requires inside { at < length running.old.threads.items }
+fn reserve_act(running: &mut Running, turn: &Runner) -> Result<(), NoMemory>
+    requires inside { turn.now.at < length running.old.threads.items }
     ensures view { (fs : List Form) → view_of fs running.new ≡ view_of fs running.old }
     ensures places { running.new.places ≡ running.old.places }
     ensures stands { (fs : List Form) → Stands fs running.old → Stands fs running.new }
-    ensures slots { OnOk result ((x : Thread) → x ≡ slice_index_or running.new.threads.items at x → vec_len x.slots < vec_capacity x.slots) }
-    ensures ready { OnOk result (running.new.heap.ready ≡ Some thread) }
+    ensures slots { OnOk result ((x : Thread) → x ≡ slice_index_or running.new.threads.items turn.now.at x → vec_len x.slots < vec_capacity x.slots) }
+    ensures ready { OnOk result (running.new.heap.ready ≡ Some turn.now.thread) }
     ensures output { OnOk result (vec_len running.new.output < vec_capacity running.new.output) }
 {
-    reserve_slot(&mut running.threads[at])?;
-    running.heap.reserve(thread)?;
+    reserve_slot(&mut running.threads[turn.at])?;
+    running.heap.reserve(turn.thread)?;
     running.output.reserve(1)?;
     Ok(())
 }
@@ -86,32 +86,23 @@ fn go_own(
     alloc: Global,
     forms: &[Form],
     running: &mut Running,
-    thread: ThreadNo,
-    at: usize,
+    turn: &Runner,
 ) -> Result<Labels, NoMemory>
     requires order { AreInOrder forms.now }
     requires stands { Stands forms.now running.old }
-    requires place { place_of running.old.places.numbers thread ≡ Some at }
-    requires inside { at < length running.old.threads.items }
-    requires next { (x : Thread) → x ≡ slice_index_or running.old.threads.items at x → IsNext x.focus x.frames.items next_.Own }
-    requires goes { IsSome (step (plain_of forms.now running.old) thread fresh_.None) }
-    ensures step { IfOk result (λ l. step (plain_of forms.now running.old) thread fresh_.None ≡ Some (record { state = plain_of forms.now running.new; labels = l.items })) }
+    requires place { place_of running.old.places.numbers turn.now.thread ≡ Some turn.now.at }
+    requires inside { turn.now.at < length running.old.threads.items }
+    requires next { (x : Thread) → x ≡ slice_index_or running.old.threads.items turn.now.at x → IsNext x.focus x.frames.items next_.Own }
+    requires goes { IsSome (step (plain_of forms.now running.old) turn.now.thread fresh_.None) }
+    ensures step { IfOk result (λ l. step (plain_of forms.now running.old) turn.now.thread fresh_.None ≡ Some (record { state = plain_of forms.now running.new; labels = l.items })) }
     ensures stands { Stands forms.now running.new }
     ensures err { OnErr result (view_of forms.now running.new ≡ view_of forms.now running.old) }
 {
-    reserve_act(running, thread, at)?;
+    reserve_act(running, turn)?;
     let mut labels = Labels::new(alloc);
+    let at = turn.at;
     labels.reserve(labels_ahead(&running.threads[at].focus, &running.threads[at].frames))?;
-    go_alone(
-        forms,
-        &mut running.threads,
-        &running.places,
-        thread,
-        at,
-        &mut running.heap,
-        &mut running.output,
-        &mut labels,
-    );
+    go_alone(forms, running, turn, &mut labels);
     Ok(labels)
 }
 
@@ -120,61 +111,44 @@ fn go_to_end(
     alloc: Global,
     forms: &[Form],
     running: &mut Running,
-    thread: ThreadNo,
-    at: usize,
+    turn: &Runner,
     done: Done,
 ) -> Result<Labels, NoMemory>
     requires order { AreInOrder forms.now }
     requires stands { Stands forms.now running.old }
-    requires place { place_of running.old.places.numbers thread ≡ Some at }
-    requires inside { at < length running.old.threads.items }
-    requires next { (x : Thread) → x ≡ slice_index_or running.old.threads.items at x → IsNext x.focus x.frames.items (next_.End done) }
-    requires goes { IsSome (step (plain_of forms.now running.old) thread fresh_.None) }
-    ensures step { IfOk result (λ l. step (plain_of forms.now running.old) thread fresh_.None ≡ Some (record { state = plain_of forms.now running.new; labels = l.items })) }
+    requires place { place_of running.old.places.numbers turn.now.thread ≡ Some turn.now.at }
+    requires inside { turn.now.at < length running.old.threads.items }
+    requires next { (x : Thread) → x ≡ slice_index_or running.old.threads.items turn.now.at x → IsNext x.focus x.frames.items (next_.End done) }
+    requires goes { IsSome (step (plain_of forms.now running.old) turn.now.thread fresh_.None) }
+    ensures step { IfOk result (λ l. step (plain_of forms.now running.old) turn.now.thread fresh_.None ≡ Some (record { state = plain_of forms.now running.new; labels = l.items })) }
     ensures stands { Stands forms.now running.new }
     ensures err { OnErr result (view_of forms.now running.new ≡ view_of forms.now running.old) }
 {
     let mut labels = Labels::new(alloc);
     labels.reserve(2)?;
-    go_end(
-        forms,
-        &mut running.threads,
-        &running.places,
-        thread,
-        at,
-        &mut running.heap,
-        &mut labels,
-        done,
-    );
+    go_end(forms, running, turn, &mut labels, done);
     Ok(labels)
 }
 
 // A join of the thread whose task the value is.
-fn go_joining(forms: &[Form], running: &mut Running, thread: ThreadNo, at: usize, value: Value)
+fn go_joining(forms: &[Form], running: &mut Running, turn: &Runner, value: Value)
     requires order { AreInOrder forms.now }
     requires stands { Stands forms.now running.old }
-    requires place { place_of running.old.places.numbers thread ≡ Some at }
-    requires inside { at < length running.old.threads.items }
-    requires next { (x : Thread) → x ≡ slice_index_or running.old.threads.items at x → IsNext x.focus x.frames.items (next_.Join value) }
-    requires goes { IsSome (step (plain_of forms.now running.old) thread fresh_.None) }
-    ensures step { step (plain_of forms.now running.old) thread fresh_.None ≡ Some (record { state = plain_of forms.now running.new; labels = [] }) }
+    requires place { place_of running.old.places.numbers turn.now.thread ≡ Some turn.now.at }
+    requires inside { turn.now.at < length running.old.threads.items }
+    requires next { (x : Thread) → x ≡ slice_index_or running.old.threads.items turn.now.at x → IsNext x.focus x.frames.items (next_.Join value) }
+    requires goes { IsSome (step (plain_of forms.now running.old) turn.now.thread fresh_.None) }
+    ensures step { step (plain_of forms.now running.old) turn.now.thread fresh_.None ≡ Some (record { state = plain_of forms.now running.new; labels = [] }) }
     ensures stands { Stands forms.now running.new }
 {
-    let Some(joined) = task_named_by(&value) else {
+    let Some(thread) = task_named_by(&value) else {
         unreachable!()
     };
-    let Some(from) = running.places.at(joined) else {
+    let Some(at) = running.places.at(thread) else {
         unreachable!()
     };
-    go_join(
-        forms,
-        &mut running.threads,
-        &running.places,
-        thread,
-        at,
-        joined,
-        from,
-    );
+    let joined = Runner { thread, at };
+    go_join(forms, running, turn, &joined);
 }
 
 // How many slots the new thread of a form captures.
@@ -193,18 +167,17 @@ fn go_starting(
     alloc: Global,
     forms: &[Form],
     running: &mut Running,
-    thread: ThreadNo,
-    at: usize,
+    turn: &Runner,
     node: usize,
     fresh: Fresh,
 ) -> Result<Labels, NoMemory>
     requires order { AreInOrder forms.now }
     requires stands { Stands forms.now running.old }
-    requires place { place_of running.old.places.numbers thread ≡ Some at }
-    requires inside { at < length running.old.threads.items }
-    requires next { (x : Thread) → x ≡ slice_index_or running.old.threads.items at x → IsNext x.focus x.frames.items (next_.Start node) }
-    requires goes { IsSome (step (plain_of forms.now running.old) thread fresh) }
-    ensures step { IfOk result (λ l. step (plain_of forms.now running.old) thread fresh ≡ Some (record { state = plain_of forms.now running.new; labels = l.items })) }
+    requires place { place_of running.old.places.numbers turn.now.thread ≡ Some turn.now.at }
+    requires inside { turn.now.at < length running.old.threads.items }
+    requires next { (x : Thread) → x ≡ slice_index_or running.old.threads.items turn.now.at x → IsNext x.focus x.frames.items (next_.Start node) }
+    requires goes { IsSome (step (plain_of forms.now running.old) turn.now.thread fresh) }
+    ensures step { IfOk result (λ l. step (plain_of forms.now running.old) turn.now.thread fresh ≡ Some (record { state = plain_of forms.now running.new; labels = l.items })) }
     ensures stands { Stands forms.now running.new }
     ensures err { OnErr result (view_of forms.now running.new ≡ view_of forms.now running.old) }
 {
@@ -219,18 +192,12 @@ fn go_starting(
     slots.reserve(captured(forms, node))?;
     running.threads.reserve(1)?;
     running.places.reserve()?;
-    go_start(
-        forms,
-        &mut running.threads,
-        &mut running.places,
-        thread,
-        at,
-        node,
+    let made = Made {
         number,
         frames,
         slots,
-        &mut labels,
-    );
+    };
+    go_start(forms, running, turn, node, made, &mut labels);
     Ok(labels)
 }
 
@@ -252,13 +219,14 @@ pub fn go(
     let Some(at) = running.places.at(thread) else {
         unreachable!()
     };
+    let turn = Runner { thread, at };
     match next_of(&running.threads[at].focus, &running.threads[at].frames) {
-        Next::End(done) => go_to_end(alloc, forms, running, thread, at, done),
+        Next::End(done) => go_to_end(alloc, forms, running, &turn, done),
         Next::Join(value) => {
-            go_joining(forms, running, thread, at, value);
+            go_joining(forms, running, &turn, value);
             Ok(Labels::new(alloc))
         }
-        Next::Start(node) => go_starting(alloc, forms, running, thread, at, node, fresh),
-        Next::Own => go_own(alloc, forms, running, thread, at),
+        Next::Start(node) => go_starting(alloc, forms, running, &turn, node, fresh),
+        Next::Own => go_own(alloc, forms, running, &turn),
     }
 }

@@ -1,26 +1,23 @@
 //! A thread, and what it does alone.
 
-ghost use Rattle.std.specs.Prelude.{◌≡◌, ◌<◌, ◌≤◌, ◌+◌, ◌++◌, ◌∷◌, [], List, length, vec_len, vec_capacity, Some, None, IsSome};
+ghost use Rattle.std.specs.Prelude.{◌≡◌, ◌<◌, ◌≤◌, ◌+◌, [], length, vec_len, vec_capacity, Some, None, IsSome};
 ghost use Rattle.fr_plain.specs.Acts.{act};
 ghost use Rattle.fr_plain.specs.Run.{settle, block, last, temp};
 ghost use Rattle.fr_plain.specs.State.{slot_at};
 ghost use Rattle.fr_plain.specs.Threads.{pass, left_after};
 ghost use Rattle.fr_meaning.specs.declared.thread.Stage.TheVariants as stage_;
-ghost use Rattle.fr_plain.specs.Whole.{prints};
-ghost use Rattle.fr_meaning.specs.declared.frame.Frame.{Frame};
 ghost use Rattle.fr_meaning.specs.Contexts.{depth};
 ghost use Rattle.fr_meaning.specs.FormTerms.{AreInOrder, captures_of, term_of, items_at, parts_of, root_of};
 ghost use Rattle.fr_meaning.specs.DoneTerms.{value_of};
-ghost use Rattle.fr_meaning.specs.FrameTerms.{AreInside, wrapped, end_of};
+ghost use Rattle.fr_meaning.specs.FrameTerms.{AreInside, wrapped};
 ghost use Rattle.fr_acts.specs.SlotOrder.{newest_first};
 ghost use Rattle.fr_meaning.specs.Threads.{IsWell, IsGoingOn, IsEnded, run_in, end_act, end_value, after_end, result_in};
 ghost use Rattle.fr_acts.specs.Acting.{state, did, releases};
-ghost use Rattle.fr_meaning.specs.Turning.{turns_to, term_step, frame_labels, focus_labels};
 
 use crate::control::{enter, enter_items, focus_in, leave};
 use crate::forms::{Captured, Form};
 use crate::frame::{Done, Focus, Frame};
-use crate::machine::{advance, value_in};
+use crate::machine::value_in;
 use fr_acts::{drop_result, finish, keep_result};
 use fr_base::{Labels, Plain, ThreadNo};
 use fr_plain::Value;
@@ -49,46 +46,6 @@ pub struct Thread {
     pub frames: Vec<Frame>,
     pub focus: Focus,
     pub slots: Vec<Value>,
-}
-
-/// A step of a thread's term that the thread does alone. Gives what goes last with a value that is dropped.
-pub fn step_alone(
-    forms: &[Form],
-    thread: &mut Thread,
-    heap: &mut Heap,
-    output: &mut Vec<i64>,
-    labels: &mut Labels,
-) -> Released
-    requires order { AreInOrder forms.now }
-    requires well { IsWell forms.now thread.old }
-    requires on { end_of thread.old.focus thread.old.frames.items ≡ None }
-    requires goes { IsSome (term_step (run_in forms.now thread.old) (state thread.old.number thread.old.slots.items heap.old.heap)) }
-    requires slots { vec_len thread.old.slots < vec_capacity thread.old.slots }
-    requires heap { heap.old.ready ≡ Some thread.old.number }
-    requires output { vec_len output.old < vec_capacity output.old }
-    requires labels { labels.old.items ≡ [] }
-    requires spare { focus_labels thread.old.focus ≤ labels.old.spare }
-    requires frame_spare { (gs : List Frame) (g : Frame) → thread.old.frames.items ≡ gs ++ g ∷ [] → frame_labels g ≤ labels.old.spare }
-    ensures step { term_step (run_in forms.now thread.old) (state thread.old.number thread.old.slots.items heap.old.heap) ≡ turns_to (run_in forms.now thread.new) thread.old.number thread.new.slots.items heap.new.heap labels.new.items result }
-    ensures output { output.new.items ≡ output.old.items ++ prints labels.new.items }
-    ensures well { IsWell forms.now thread.new }
-    ensures number { thread.new.number ≡ thread.old.number }
-    ensures stage { thread.new.stage ≡ thread.old.stage }
-{
-    let mut dropped = Released::Nothing;
-    let focus = thread.focus;
-    thread.focus = advance(
-        forms,
-        thread.number,
-        focus,
-        &mut thread.frames,
-        &mut thread.slots,
-        heap,
-        output,
-        labels,
-        &mut dropped,
-    );
-    dropped
 }
 
 /// The end of a thread whose term is done. Gives what goes last with a value that is dropped.

@@ -2,19 +2,21 @@
 
 ghost use Rattle.std.specs.Prelude.{◌≡◌, ◌<◌, ◌≤◌, [], List, ℤ, length, Some, None, slice_index_or, vec_len, vec_capacity};
 ghost use Rattle.fr_base.specs.declared.step.Fresh.TheVariants as fresh;
-ghost use Rattle.fr_plain.specs.Heap.{Heap as PlainHeap};
 ghost use Rattle.fr_plain.specs.Whole.{let_go, step};
 ghost use Rattle.fr_meaning.specs.declared.thread.Thread.{Thread};
 ghost use Rattle.fr_meaning.specs.FormTerms.{AreInOrder, captures_at};
 ghost use Rattle.fr_meaning.specs.FrameTerms.{end_of};
 ghost use Rattle.fr_shared.specs.Places.{place_of};
 ghost use Rattle.fr_meaning.specs.declared.forms.Form.{Form};
+ghost use Rattle.fr_meaning.specs.Running.{plain_of, Stands};
 ghost use Rattle.fr_meaning.specs.Threads.{AreWell, CanGo, IsEnded, IsGoingOn, Joins, Starts, after_release, released_heap, released_task, task_from, whole, numbers_of};
 
 use crate::control::leave_top;
 use crate::forms::Form;
 use crate::frame::{Done, Frame};
-use crate::thread::{Stage, Thread, end, pass_captures, resume, start, step_alone, take_result};
+use crate::machine::step_alone;
+use crate::running::Running;
+use crate::thread::{Stage, Thread, end, pass_captures, resume, start, take_result};
 use fr_acts::{drop_value, note};
 use fr_base::{Label, Labels, Plain, ThreadNo};
 use fr_plain::Value;
@@ -81,129 +83,135 @@ pub fn let_threads_go(
     }
 }
 
+/// One of the threads that run: its number, and its place among them.
+#[derive(Clone, Copy)]
+pub struct Runner {
+    pub thread: ThreadNo,
+    pub at: usize,
+}
+
+/// What was made for a new thread: its number, and room for its frames and its slots.
+#[derive(Drop)]
+pub struct Made {
+    pub number: ThreadNo,
+    pub frames: Vec<Frame>,
+    pub slots: Vec<Value>,
+}
+
 /// A step of a thread that it does alone, and not its end.
-pub fn go_alone(
-    forms: &[Form],
-    threads: &mut Vec<Thread>,
-    places: &Places,
-    thread: ThreadNo,
-    at: usize,
-    heap: &mut Heap,
-    output: &mut Vec<i64>,
-    labels: &mut Labels,
-)
+pub fn go_alone(forms: &[Form], running: &mut Running, turn: &Runner, labels: &mut Labels)
     requires order { AreInOrder forms.now }
-    requires numbers { places.now.numbers ≡ numbers_of threads.old.items }
-    requires place { place_of places.now.numbers thread ≡ Some at }
-    requires inside { at < length threads.old.items }
-    requires well { AreWell forms.now threads.old.items }
-    requires goes { (x : Thread) → x ≡ slice_index_or threads.old.items at x → CanGo forms.now x heap.old labels.old }
-    requires output { vec_len output.old < vec_capacity output.old }
+    requires stands { Stands forms.now running.old }
+    requires place { place_of running.old.places.numbers turn.now.thread ≡ Some turn.now.at }
+    requires inside { turn.now.at < length running.old.threads.items }
+    requires goes { (x : Thread) → x ≡ slice_index_or running.old.threads.items turn.now.at x → CanGo forms.now x running.old.heap labels.old }
+    requires output { vec_len running.old.output < vec_capacity running.old.output }
     requires labels { labels.old.items ≡ [] }
-    ensures step { step (whole forms.now threads.old.items heap.old.heap output.old.items) thread fresh.None ≡ Some (record { state = whole forms.now threads.new.items heap.new.heap output.new.items; labels = labels.new.items }) }
-    ensures numbers { numbers_of threads.new.items ≡ numbers_of threads.old.items }
-    ensures well { AreWell forms.now threads.new.items }
+    ensures step { step (plain_of forms.now running.old) turn.now.thread fresh.None ≡ Some (record { state = plain_of forms.now running.new; labels = labels.new.items }) }
+    ensures places { running.new.places ≡ running.old.places }
+    ensures stands { Stands forms.now running.new }
 {
-    let released = step_alone(forms, &mut threads[at], heap, output, labels);
-    let_threads_go(threads, places, heap, released);
+    let released = step_alone(
+        forms,
+        &mut running.threads[turn.at],
+        &mut running.heap,
+        &mut running.output,
+        labels,
+    );
+    let_threads_go(
+        &mut running.threads,
+        &running.places,
+        &mut running.heap,
+        released,
+    );
 }
 
 /// The end of a thread whose term is done.
-pub fn go_end(
-    forms: &[Form],
-    threads: &mut Vec<Thread>,
-    places: &Places,
-    thread: ThreadNo,
-    at: usize,
-    heap: &mut Heap,
-    labels: &mut Labels,
-    done: Done,
-)
-    requires numbers { places.now.numbers ≡ numbers_of threads.old.items }
-    requires place { place_of places.now.numbers thread ≡ Some at }
-    requires inside { at < length threads.old.items }
-    requires well { AreWell forms.now threads.old.items }
-    requires on { (x : Thread) → x ≡ slice_index_or threads.old.items at x → IsGoingOn x.stage × (end_of x.focus x.frames.items ≡ Some done) }
+pub fn go_end(forms: &[Form], running: &mut Running, turn: &Runner, labels: &mut Labels, done: Done)
+    requires stands { Stands forms.now running.old }
+    requires place { place_of running.old.places.numbers turn.now.thread ≡ Some turn.now.at }
+    requires inside { turn.now.at < length running.old.threads.items }
+    requires on { (x : Thread) → x ≡ slice_index_or running.old.threads.items turn.now.at x → IsGoingOn x.stage × (end_of x.focus x.frames.items ≡ Some done) }
     requires labels { labels.old.items ≡ [] }
     requires room { 2 ≤ labels.old.spare }
-    ensures step { (output : List ℤ) → step (whole forms.now threads.old.items heap.old.heap output) thread fresh.None ≡ Some (record { state = whole forms.now threads.new.items heap.new.heap output; labels = labels.new.items }) }
-    ensures numbers { numbers_of threads.new.items ≡ numbers_of threads.old.items }
-    ensures well { AreWell forms.now threads.new.items }
+    ensures step { step (plain_of forms.now running.old) turn.now.thread fresh.None ≡ Some (record { state = plain_of forms.now running.new; labels = labels.new.items }) }
+    ensures places { running.new.places ≡ running.old.places }
+    ensures stands { Stands forms.now running.new }
 {
-    let released = end(&mut threads[at], heap, labels, done);
-    let_threads_go(threads, places, heap, released);
+    let released = end(
+        &mut running.threads[turn.at],
+        &mut running.heap,
+        labels,
+        done,
+    );
+    let_threads_go(
+        &mut running.threads,
+        &running.places,
+        &mut running.heap,
+        released,
+    );
 }
 
 /// A join of a thread that has ended: the term goes on with its result, which nobody will have again.
-pub fn go_join(
-    forms: &[Form],
-    threads: &mut Vec<Thread>,
-    places: &Places,
-    thread: ThreadNo,
-    at: usize,
-    joined: ThreadNo,
-    from: usize,
-)
+pub fn go_join(forms: &[Form], running: &mut Running, turn: &Runner, joined: &Runner)
     requires order { AreInOrder forms.now }
-    requires numbers { places.now.numbers ≡ numbers_of threads.old.items }
-    requires place { place_of places.now.numbers thread ≡ Some at }
-    requires inside { at < length threads.old.items }
-    requires other_place { place_of places.now.numbers joined ≡ Some from }
-    requires other_inside { from < length threads.old.items }
-    requires well { AreWell forms.now threads.old.items }
-    requires joins { (x : Thread) → x ≡ slice_index_or threads.old.items at x → Joins x joined }
-    requires ended { (z : Thread) → z ≡ slice_index_or threads.old.items from z → IsEnded z.stage }
-    ensures step { (heap : PlainHeap) (output : List ℤ) → step (whole forms.now threads.old.items heap output) thread fresh.None ≡ Some (record { state = whole forms.now threads.new.items heap output; labels = [] }) }
-    ensures numbers { numbers_of threads.new.items ≡ numbers_of threads.old.items }
-    ensures well { AreWell forms.now threads.new.items }
+    requires stands { Stands forms.now running.old }
+    requires place { place_of running.old.places.numbers turn.now.thread ≡ Some turn.now.at }
+    requires inside { turn.now.at < length running.old.threads.items }
+    requires other_place { place_of running.old.places.numbers joined.now.thread ≡ Some joined.now.at }
+    requires other_inside { joined.now.at < length running.old.threads.items }
+    requires joins { (x : Thread) → x ≡ slice_index_or running.old.threads.items turn.now.at x → Joins x joined.now.thread }
+    requires ended { (z : Thread) → z ≡ slice_index_or running.old.threads.items joined.now.at z → IsEnded z.stage }
+    ensures step { step (plain_of forms.now running.old) turn.now.thread fresh.None ≡ Some (record { state = plain_of forms.now running.new; labels = [] }) }
+    ensures places { running.new.places ≡ running.old.places }
+    ensures stands { Stands forms.now running.new }
 {
-    let value = take_result(&mut threads[from]);
-    let joining = &mut threads[at];
+    let value = take_result(&mut running.threads[joined.at]);
+    let joining = &mut running.threads[turn.at];
     leave_top(&mut joining.frames);
     resume(forms, joining, value);
 }
 
-/// The start of a thread under a new number, with what was made for it: its frames, its slots, and its places.
+/// The start of a thread under a new number, with what was made for it.
 pub fn go_start(
     forms: &[Form],
-    threads: &mut Vec<Thread>,
-    places: &mut Places,
-    thread: ThreadNo,
-    at: usize,
+    running: &mut Running,
+    turn: &Runner,
     node: usize,
-    number: ThreadNo,
-    frames: Vec<Frame>,
-    slots: Vec<Value>,
+    made: Made,
     labels: &mut Labels,
 )
     requires order { AreInOrder forms.now }
-    requires numbers { places.old.numbers ≡ numbers_of threads.old.items }
-    requires place { place_of places.old.numbers thread ≡ Some at }
-    requires inside { at < length threads.old.items }
+    requires stands { Stands forms.now running.old }
+    requires place { place_of running.old.places.numbers turn.now.thread ≡ Some turn.now.at }
+    requires inside { turn.now.at < length running.old.threads.items }
     requires node { node < length forms.now }
-    requires well { AreWell forms.now threads.old.items }
-    requires starts { (x : Thread) → x ≡ slice_index_or threads.old.items at x → Starts forms.now x node }
-    requires new { place_of places.old.numbers number ≡ None }
-    requires frames { frames.items ≡ [] }
-    requires frame_room { 64 ≤ vec_capacity frames }
-    requires slots { slots.items ≡ [] }
-    requires slot_room { length (captures_at forms.now node) ≤ vec_capacity slots }
-    requires thread_room { vec_len threads.old < vec_capacity threads.old }
-    requires place_room { 0 < places.old.spare }
+    requires starts { (x : Thread) → x ≡ slice_index_or running.old.threads.items turn.now.at x → Starts forms.now x node }
+    requires new { place_of running.old.places.numbers made.number ≡ None }
+    requires frames { made.frames.items ≡ [] }
+    requires frame_room { 64 ≤ vec_capacity made.frames }
+    requires slots { made.slots.items ≡ [] }
+    requires slot_room { length (captures_at forms.now node) ≤ vec_capacity made.slots }
+    requires thread_room { vec_len running.old.threads < vec_capacity running.old.threads }
+    requires place_room { 0 < running.old.places.spare }
     requires labels { labels.old.items ≡ [] }
     requires label_room { 0 < labels.old.spare }
-    ensures step { (heap : PlainHeap) (output : List ℤ) → step (whole forms.now threads.old.items heap output) thread (fresh.Thread number) ≡ Some (record { state = whole forms.now threads.new.items heap output; labels = labels.new.items }) }
-    ensures numbers { places.new.numbers ≡ numbers_of threads.new.items }
-    ensures well { AreWell forms.now threads.new.items }
+    ensures step { step (plain_of forms.now running.old) turn.now.thread (fresh.Thread made.number) ≡ Some (record { state = plain_of forms.now running.new; labels = labels.new.items }) }
+    ensures stands { Stands forms.now running.new }
 {
-    let mut slots = slots;
-    let starting = &mut threads[at];
+    let Made {
+        number,
+        frames,
+        mut slots,
+    } = made;
+    let starting = &mut running.threads[turn.at];
     let Form::Spawn(captures, _, drops) = &forms[node] else {
         unreachable!()
     };
     pass_captures(captures, &mut starting.slots, &mut slots);
     resume(forms, starting, Value::Own(Plain::Task(number)));
-    threads.push_reserved(start(forms, node, *drops, number, frames, slots));
-    places.add(number);
+    let started = start(forms, node, *drops, number, frames, slots);
+    running.threads.push_reserved(started);
+    running.places.add(number);
     note(labels, Label::Start(number));
 }

@@ -13,9 +13,9 @@ pub unreachable-requires : goal.unreachable-requires
 unreachable-requires c =
     let fs = c.args.forms.now in
     let r = c.args.running.now in
-    let x = thread_here r.threads.items c.args.at c.requires.inside in
-    let s = steps_at fs r.threads.items r.heap.heap r.output.items c.args.thread fresh.None c.args.at (next.Join c.args.value) r.places.numbers c.requires.order c.requires.stands.well c.requires.stands.numbers c.requires.place c.requires.inside c.requires.next c.requires.goes x.0 x.1 in
-    let j = join_steps fs r.threads.items r.heap.heap r.output.items c.args.thread c.args.at x.0 c.args.value s in
+    let x = thread_here r.threads.items c.args.turn.now.at c.requires.inside in
+    let s = steps_at fs r.threads.items r.heap.heap r.output.items c.args.turn.now.thread fresh.None c.args.turn.now.at (next.Join c.args.value) r.places.numbers c.requires.order c.requires.stands.well c.requires.stands.numbers c.requires.place c.requires.inside c.requires.next c.requires.goes x.0 x.1 in
+    let j = join_steps fs r.threads.items r.heap.heap r.output.items c.args.turn.now.thread c.args.turn.now.at x.0 c.args.value s in
     let f = sym c.in_default.is ∙ c.task_named_by.ensures ∙ ap task_named j.task in
     cc
 
@@ -23,24 +23,24 @@ pub unreachable-requires-in_default-at : goal.unreachable-requires-in_default-at
 unreachable-requires-in_default-at c =
     let fs = c.args.forms.now in
     let r = c.args.running.now in
-    let x = thread_here r.threads.items c.args.at c.requires.inside in
-    let s = steps_at fs r.threads.items r.heap.heap r.output.items c.args.thread fresh.None c.args.at (next.Join c.args.value) r.places.numbers c.requires.order c.requires.stands.well c.requires.stands.numbers c.requires.place c.requires.inside c.requires.next c.requires.goes x.0 x.1 in
-    let j = join_steps fs r.threads.items r.heap.heap r.output.items c.args.thread c.args.at x.0 c.args.value s in
-    let same = joined_same c.args.value j.joined c.in-Some.joined j.task (sym c.in-Some.is ∙ c.task_named_by.ensures) in
-    j.there (ap (place_of (numbers_of r.threads.items)) (sym same) ∙ ap (λ ns. place_of ns c.in-Some.joined) (sym c.requires.stands.numbers) ∙ sym c.at.ensures.place ∙ c.in_default-at.is)
+    let x = thread_here r.threads.items c.args.turn.now.at c.requires.inside in
+    let s = steps_at fs r.threads.items r.heap.heap r.output.items c.args.turn.now.thread fresh.None c.args.turn.now.at (next.Join c.args.value) r.places.numbers c.requires.order c.requires.stands.well c.requires.stands.numbers c.requires.place c.requires.inside c.requires.next c.requires.goes x.0 x.1 in
+    let j = join_steps fs r.threads.items r.heap.heap r.output.items c.args.turn.now.thread c.args.turn.now.at x.0 c.args.value s in
+    let same = joined_same c.args.value j.joined c.in-Some.thread j.task (sym c.in-Some.is ∙ c.task_named_by.ensures) in
+    j.there (ap (place_of (numbers_of r.threads.items)) (sym same) ∙ ap (λ ns. place_of ns c.in-Some.thread) (sym c.requires.stands.numbers) ∙ sym c.at.ensures.place ∙ c.in_default-at.is)
 
 pub go_join-requires-clause-other_inside : goal.go_join-requires-clause-other_inside
 go_join-requires-clause-other_inside c =
     let r = c.args.running.now in
-    place_inside r.threads.items c.in-Some.joined c.in-Some-at.from (ap (λ ns. place_of ns c.in-Some.joined) (sym c.requires.stands.numbers) ∙ sym c.at.ensures.place ∙ c.in-Some-at.is)
+    place_inside r.threads.items c.in-Some.thread c.in-Some-at.at (ap (λ ns. place_of ns c.in-Some.thread) (sym c.requires.stands.numbers) ∙ sym c.at.ensures.place ∙ c.in-Some-at.is)
 
 pub go_join-requires-clause-joins : goal.go_join-requires-clause-joins
 go_join-requires-clause-joins c = λ x is. (
     let fs = c.args.forms.now in
     let r = c.args.running.now in
-    let s = steps_at fs r.threads.items r.heap.heap r.output.items c.args.thread fresh.None c.args.at (next.Join c.args.value) r.places.numbers c.requires.order c.requires.stands.well c.requires.stands.numbers c.requires.place c.requires.inside c.requires.next c.requires.goes x is in
-    let j = join_steps fs r.threads.items r.heap.heap r.output.items c.args.thread c.args.at x c.args.value s in
-    let same = joined_same c.args.value j.joined c.in-Some.joined j.task (sym c.in-Some.is ∙ c.task_named_by.ensures) in
+    let s = steps_at fs r.threads.items r.heap.heap r.output.items c.args.turn.now.thread fresh.None c.args.turn.now.at (next.Join c.args.value) r.places.numbers c.requires.order c.requires.stands.well c.requires.stands.numbers c.requires.place c.requires.inside c.requires.next c.requires.goes x is in
+    let j = join_steps fs r.threads.items r.heap.heap r.output.items c.args.turn.now.thread c.args.turn.now.at x c.args.value s in
+    let same = joined_same c.args.value j.joined c.in-Some.thread j.task (sym c.in-Some.is ∙ c.task_named_by.ensures) in
     let n = c.requires.next x is in
     record { on = is_on s; around = n.around; top = n.top; done = n.done; at_end = n.at_end; task = n.value ∙ j.task ∙ ap (λ u. Own (Task u)) (sym same) })
 
@@ -48,8 +48,8 @@ pub go_join-requires-clause-ended : goal.go_join-requires-clause-ended
 go_join-requires-clause-ended c = λ z is. (
     let fs = c.args.forms.now in
     let r = c.args.running.now in
-    let x = thread_here r.threads.items c.args.at c.requires.inside in
-    let s = steps_at fs r.threads.items r.heap.heap r.output.items c.args.thread fresh.None c.args.at (next.Join c.args.value) r.places.numbers c.requires.order c.requires.stands.well c.requires.stands.numbers c.requires.place c.requires.inside c.requires.next c.requires.goes x.0 x.1 in
-    let j = join_steps fs r.threads.items r.heap.heap r.output.items c.args.thread c.args.at x.0 c.args.value s in
-    let same = joined_same c.args.value j.joined c.in-Some.joined j.task (sym c.in-Some.is ∙ c.task_named_by.ensures) in
-    j.ended c.in-Some-at.from z (ap (place_of (numbers_of r.threads.items)) (sym same) ∙ ap (λ ns. place_of ns c.in-Some.joined) (sym c.requires.stands.numbers) ∙ sym c.at.ensures.place ∙ c.in-Some-at.is) is)
+    let x = thread_here r.threads.items c.args.turn.now.at c.requires.inside in
+    let s = steps_at fs r.threads.items r.heap.heap r.output.items c.args.turn.now.thread fresh.None c.args.turn.now.at (next.Join c.args.value) r.places.numbers c.requires.order c.requires.stands.well c.requires.stands.numbers c.requires.place c.requires.inside c.requires.next c.requires.goes x.0 x.1 in
+    let j = join_steps fs r.threads.items r.heap.heap r.output.items c.args.turn.now.thread c.args.turn.now.at x.0 c.args.value s in
+    let same = joined_same c.args.value j.joined c.in-Some.thread j.task (sym c.in-Some.is ∙ c.task_named_by.ensures) in
+    j.ended c.in-Some-at.at z (ap (place_of (numbers_of r.threads.items)) (sym same) ∙ ap (λ ns. place_of ns c.in-Some.thread) (sym c.requires.stands.numbers) ∙ sym c.at.ensures.place ∙ c.in-Some-at.is) is)

@@ -7,46 +7,46 @@ pub returns-in_err-reserve_slot-clause-view : goal.returns-in_err-reserve_slot-c
 returns-in_err-reserve_slot-clause-view c = λ fs. (
     let r = c.args.running.now in
     let y = c.reserve_slot.new.thread in
-    view_same fs r.threads.items (slice_set r.threads.items c.args.at y) r.heap.heap r.heap.heap r.output.items r.output.items (entries_set r.threads.items c.args.at c.index_mut.result.now y c.index_mut.ensures.value c.reserve_slot.ensures.entry) refl refl)
+    view_same fs r.threads.items (slice_set r.threads.items c.args.turn.now.at y) r.heap.heap r.heap.heap r.output.items r.output.items (entries_set r.threads.items c.args.turn.now.at c.index_mut.result.now y c.index_mut.ensures.value c.reserve_slot.ensures.entry) refl refl)
 
 pub returns-in_err-reserve_slot-clause-stands : goal.returns-in_err-reserve_slot-clause-stands
 returns-in_err-reserve_slot-clause-stands c = λ fs s. (
     let r = c.args.running.now in
-    let k = reserved fs r.threads.items c.args.at c.index_mut.result.now c.reserve_slot.new.thread c.requires.inside c.index_mut.ensures.value c.reserve_slot.ensures.entry (c.reserve_slot.ensures.well fs) s.well in
+    let k = reserved fs r.threads.items c.args.turn.now.at c.index_mut.result.now c.reserve_slot.new.thread c.requires.inside c.index_mut.ensures.value c.reserve_slot.ensures.entry (c.reserve_slot.ensures.well fs) s.well in
     record { numbers = s.numbers ∙ sym k.0; well = k.1 })
 
 pub returns-in_err-reserve-clause-view : goal.returns-in_err-reserve-clause-view
 returns-in_err-reserve-clause-view c = λ fs. (
     let r = c.args.running.now in
     let y = c.reserve_slot.new.thread in
-    view_same fs r.threads.items (slice_set r.threads.items c.args.at y) r.heap.heap c.reserve.new.self.heap r.output.items r.output.items (entries_set r.threads.items c.args.at c.index_mut.result.now y c.index_mut.ensures.value c.reserve_slot.ensures.entry) c.reserve.ensures.heap refl)
+    view_same fs r.threads.items (slice_set r.threads.items c.args.turn.now.at y) r.heap.heap c.reserve.new.self.heap r.output.items r.output.items (entries_set r.threads.items c.args.turn.now.at c.index_mut.result.now y c.index_mut.ensures.value c.reserve_slot.ensures.entry) c.reserve.ensures.heap refl)
 
 pub returns-in_err-reserve-clause-stands : goal.returns-in_err-reserve-clause-stands
 returns-in_err-reserve-clause-stands c = λ fs s. (
     let r = c.args.running.now in
-    let k = reserved fs r.threads.items c.args.at c.index_mut.result.now c.reserve_slot.new.thread c.requires.inside c.index_mut.ensures.value c.reserve_slot.ensures.entry (c.reserve_slot.ensures.well fs) s.well in
+    let k = reserved fs r.threads.items c.args.turn.now.at c.index_mut.result.now c.reserve_slot.new.thread c.requires.inside c.index_mut.ensures.value c.reserve_slot.ensures.entry (c.reserve_slot.ensures.well fs) s.well in
     record { numbers = s.numbers ∙ sym k.0; well = k.1 })
 
 pub returns-in_err-reserve-2-clause-view : goal.returns-in_err-reserve-2-clause-view
 returns-in_err-reserve-2-clause-view c = λ fs. (
     let r = c.args.running.now in
     let y = c.reserve_slot.new.thread in
-    view_same fs r.threads.items (slice_set r.threads.items c.args.at y) r.heap.heap c.reserve.new.self.heap r.output.items c.reserve-2.new.self.items (entries_set r.threads.items c.args.at c.index_mut.result.now y c.index_mut.ensures.value c.reserve_slot.ensures.entry) c.reserve.ensures.heap c.reserve-2.ensures.items)
+    view_same fs r.threads.items (slice_set r.threads.items c.args.turn.now.at y) r.heap.heap c.reserve.new.self.heap r.output.items c.reserve-2.new.self.items (entries_set r.threads.items c.args.turn.now.at c.index_mut.result.now y c.index_mut.ensures.value c.reserve_slot.ensures.entry) c.reserve.ensures.heap c.reserve-2.ensures.items)
 
 pub returns-in_err-reserve-2-clause-stands : goal.returns-in_err-reserve-2-clause-stands
 returns-in_err-reserve-2-clause-stands c = λ fs s. (
     let r = c.args.running.now in
-    let k = reserved fs r.threads.items c.args.at c.index_mut.result.now c.reserve_slot.new.thread c.requires.inside c.index_mut.ensures.value c.reserve_slot.ensures.entry (c.reserve_slot.ensures.well fs) s.well in
+    let k = reserved fs r.threads.items c.args.turn.now.at c.index_mut.result.now c.reserve_slot.new.thread c.requires.inside c.index_mut.ensures.value c.reserve_slot.ensures.entry (c.reserve_slot.ensures.well fs) s.well in
     record { numbers = s.numbers ∙ sym k.0; well = k.1 })
 
 pub returns-clause-view : goal.returns-clause-view
 returns-clause-view c = λ fs. (
     let r = c.args.running.now in
     let y = c.reserve_slot.new.thread in
-    view_same fs r.threads.items (slice_set r.threads.items c.args.at y) r.heap.heap c.reserve.new.self.heap r.output.items c.reserve-2.new.self.items (entries_set r.threads.items c.args.at c.index_mut.result.now y c.index_mut.ensures.value c.reserve_slot.ensures.entry) c.reserve.ensures.heap c.reserve-2.ensures.items)
+    view_same fs r.threads.items (slice_set r.threads.items c.args.turn.now.at y) r.heap.heap c.reserve.new.self.heap r.output.items c.reserve-2.new.self.items (entries_set r.threads.items c.args.turn.now.at c.index_mut.result.now y c.index_mut.ensures.value c.reserve_slot.ensures.entry) c.reserve.ensures.heap c.reserve-2.ensures.items)
 
 pub returns-clause-stands : goal.returns-clause-stands
 returns-clause-stands c = λ fs s. (
     let r = c.args.running.now in
-    let k = reserved fs r.threads.items c.args.at c.index_mut.result.now c.reserve_slot.new.thread c.requires.inside c.index_mut.ensures.value c.reserve_slot.ensures.entry (c.reserve_slot.ensures.well fs) s.well in
+    let k = reserved fs r.threads.items c.args.turn.now.at c.index_mut.result.now c.reserve_slot.new.thread c.requires.inside c.index_mut.ensures.value c.reserve_slot.ensures.entry (c.reserve_slot.ensures.well fs) s.well in
     record { numbers = s.numbers ∙ sym k.0; well = k.1 })

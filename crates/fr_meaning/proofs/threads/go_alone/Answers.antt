@@ -9,31 +9,30 @@ use Rattle.fr_meaning.proofs.WholeSteps.{whole_alone, stepped_to}
 use Rattle.fr_meaning.proofs.threads.go_alone.Goals as goal
 
 pub step_alone-released-requires-clause-well : goal.step_alone-released-requires-clause-well
-step_alone-released-requires-clause-well c = well_at c.args.forms.now c.args.threads.now.items c.args.at c.index_mut.result.now c.requires.inside c.index_mut.ensures.value c.requires.well
+step_alone-released-requires-clause-well c = well_at c.args.forms.now c.args.running.now.threads.items c.args.turn.now.at c.index_mut.result.now c.requires.inside c.index_mut.ensures.value c.requires.stands.well
 
 pub let_threads_go-requires : goal.let_threads_go-requires
 let_threads_go-requires c =
-    c.requires.numbers ∙ sym (numbers_set c.args.threads.now.items c.args.at c.index_mut.result.now c.step_alone-released.new.thread c.index_mut.ensures.value c.step_alone-released.ensures.number)
+    c.requires.stands.numbers ∙ sym (numbers_set c.args.running.now.threads.items c.args.turn.now.at c.index_mut.result.now c.step_alone-released.new.thread c.index_mut.ensures.value c.step_alone-released.ensures.number)
 
 pub returns-clause-step : goal.returns-clause-step
 returns-clause-step c =
     let fs = c.args.forms.now in
-    let xs = c.args.threads.now.items in
+    let xs = c.args.running.now.threads.items in
     let x = c.index_mut.result.now in
     let y = c.step_alone-released.new.thread in
     let a = c.step_alone-released in
     let can = c.requires.goes x c.index_mut.ensures.value in
-    let well = well_at fs xs c.args.at x c.requires.inside c.index_mut.ensures.value c.requires.well in
-    let place = ap (λ ns. place_of ns c.args.thread) (sym c.requires.numbers) ∙ c.requires.place in
+    let well = well_at fs xs c.args.turn.now.at x c.requires.inside c.index_mut.ensures.value c.requires.stands.well in
+    let place = ap (λ ns. place_of ns c.args.turn.now.thread) (sym c.requires.stands.numbers) ∙ c.requires.place in
     let go = not_done fs x.frames.items x.focus c.requires.order well.settled well.way can.at_step in
-    whole_alone fs xs c.args.heap.now.heap a.new.heap.heap c.args.output.now.items c.args.thread c.args.at x y a.new.labels.items a.result place c.index_mut.ensures.value can.on go a.ensures.step a.ensures.number a.ensures.stage
-    ∙ ap (λ ns. stepped_to (let_go (whole fs (slice_set xs c.args.at y) a.new.heap.heap ns) (task_from a.result)) a.new.labels.items) (sym a.ensures.output)
+    whole_alone fs xs c.args.running.now.heap.heap a.new.heap.heap c.args.running.now.output.items c.args.turn.now.thread c.args.turn.now.at x y a.new.labels.items a.result place c.index_mut.ensures.value can.on go a.ensures.step a.ensures.number a.ensures.stage
+    ∙ ap (λ ns. stepped_to (let_go (whole fs (slice_set xs c.args.turn.now.at y) a.new.heap.heap ns) (task_from a.result)) a.new.labels.items) (sym a.ensures.output)
     ∙ ap (λ s. stepped_to s a.new.labels.items) (sym (c.let_threads_go.ensures.whole fs a.new.output.items))
 
-pub returns-clause-numbers : goal.returns-clause-numbers
-returns-clause-numbers c =
-    c.let_threads_go.ensures.numbers ∙ numbers_set c.args.threads.now.items c.args.at c.index_mut.result.now c.step_alone-released.new.thread c.index_mut.ensures.value c.step_alone-released.ensures.number
-
-pub returns-clause-well : goal.returns-clause-well
-returns-clause-well c =
-    c.let_threads_go.ensures.well c.args.forms.now (well_set c.args.forms.now c.args.threads.now.items c.args.at c.step_alone-released.new.thread c.step_alone-released.ensures.well c.requires.well)
+pub returns-clause-stands : goal.returns-clause-stands
+returns-clause-stands c =
+    record {
+      numbers = c.requires.stands.numbers ∙ sym (c.let_threads_go.ensures.numbers ∙ numbers_set c.args.running.now.threads.items c.args.turn.now.at c.index_mut.result.now c.step_alone-released.new.thread c.index_mut.ensures.value c.step_alone-released.ensures.number);
+      well = c.let_threads_go.ensures.well c.args.forms.now (well_set c.args.forms.now c.args.running.now.threads.items c.args.turn.now.at c.step_alone-released.new.thread c.step_alone-released.ensures.well c.requires.stands.well);
+    }
