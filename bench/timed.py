@@ -1,9 +1,10 @@
 """How the benchmarks time a program."""
 import os, subprocess, time
 
-def timed(command, text=""):
-    """The best of five runs with that text on standard input: its seconds; of the last run the exit status and the output; and the most
-    memory that any of them took, in bytes (never less than this interpreter's own, since they start as copies of it)."""
+def timed(command, text="", processor=False):
+    """The best of five runs with that text on standard input: its seconds, or its processor seconds, which other work on the machine
+    changes less; of the last run the exit status and the output; and the most memory that any of them took, in bytes (never less than
+    this interpreter's own, since they start as copies of it)."""
     best, peak = None, 0
     for _ in range(5):
         start = time.perf_counter()
@@ -12,7 +13,7 @@ def timed(command, text=""):
         process.stdin.close()
         out = process.stdout.read()
         _, status, usage = os.wait4(process.pid, 0)
-        taken = time.perf_counter() - start
+        taken = usage.ru_utime + usage.ru_stime if processor else time.perf_counter() - start
         best = taken if best is None else min(best, taken)
         peak = max(peak, usage.ru_maxrss * 1024)
     return best, os.waitstatus_to_exitcode(status), out.decode(), peak
