@@ -1,17 +1,22 @@
 -- Typed states in which a drop is asked for.
-use Rattle.std.proofs.Common.{[], refl}
-use Rattle.fr_typing.specs.Kinds.{unit}
+use Rattle.std.proofs.Common.{[], ◌∷◌, refl}
+use Rattle.fr_typing.specs.Kinds.{int, unit}
 use Rattle.fr_plain.specs.MachineThreads.{alive}
 use Rattle.fr_plain.specs.PlainState.{plain_state}
-use Rattle.plain_types.specs.ActRows.{quiet, pops_unit, pops_int, r_discard, ends_as}
+use Rattle.plain_types.specs.ActRows.{quiet, pops_unit, pops_int, r_discard, r_drop, ends_as}
 use Rattle.plain_types.specs.Keeps.{is_main}
-use Rattle.plain_types.specs.Example.{first, main, begun}
+use Rattle.plain_types.specs.Example.{first, main, begun, alone_at, one, bound}
 use Rattle.plain_types.proofs.Hand.{At}
 use Rattle.plain_types.proofs.Operands.{load}
 use Rattle.plain_types.proofs.Threads.{still_here}
 use Rattle.fr_sound.specs.Entries.{going}
-use Rattle.plain_types.proofs.Example.{print_is_ready}
-use Rattle.drop_types.specs.Example.{DropIsReady, DiscardIsReady, EndIsReady}
+use Rattle.plain_types.proofs.Example.{print_is_ready, let_is_ready, no_end, no_move, follows}
+use Rattle.plain_types.proofs.Lets.{let_keeps}
+use Rattle.plain_types.specs.Positions.{PositionTypes}
+use Rattle.fr_sound.specs.States.{Typing}
+use Rattle.fr_plain.specs.MachineActs.{do_let}
+use Rattle.fr_plain.specs.declared.value.Value.TheVariants.{Own}
+use Rattle.drop_types.specs.Example.{DropIsReady, DiscardIsReady, EndIsReady, SlotIsReady}
 use Rattle.drop_types.specs.DropActs.{main_ends}
 use Rattle.drop_types.proofs.Discards.{carried}
 
@@ -28,3 +33,9 @@ drop_is_ready =
 
 pub end_is_ready : EndIsReady
 end_is_ready = (print_is_ready.0, record { state = print_is_ready.1.state; found = refl; by = main_ends; at = refl; ends = ends_as (pops_unit refl) })
+
+bound_typed : (y : Typing) × PositionTypes y (plain_state (alone_at (bound int) (Own one ∷ []) [] []))
+bound_typed = follows (record { state = alone_at (bound int) (Own one ∷ []) [] []; labels = [] }) refl (let_keeps no_end no_move let_is_ready.0 begun main first alive (do_let (Own one)) (λ v. bound int) (Own one, refl) let_is_ready.1)
+
+pub slot_is_ready : SlotIsReady
+slot_is_ready = (bound_typed.0, record { state = bound_typed.1; found = refl; goes_on = is_main; at = refl; leaves = quiet []; after = going [] [] unit; row = r_drop refl refl refl; comes = λ v. refl })

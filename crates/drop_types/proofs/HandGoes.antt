@@ -39,7 +39,7 @@ use Rattle.drop_types.proofs.Handed.{Handed, handed, handed_typed, handed_off, h
 use Rattle.drop_types.proofs.Prepared.{IsBeside}
 
 -- what stands at a key as an owned value owns
-owned_tree : {y : Typing} {a : PlainState Position} (k : Key) (q : Piece) (key : ℕ → Key) (v : Plain) → PositionTypes y a → (store y a).at k ≡ owned_val y.gives v → ExactOf key y.exact q (y.exact k) → (t : Tree) × (y.exact k ≡ owns t) × TreeOf q t
+pub owned_tree : {y : Typing} {a : PlainState Position} (k : Key) (q : Piece) (key : ℕ → Key) (v : Plain) → PositionTypes y a → (store y a).at k ≡ owned_val y.gives v → ExactOf key y.exact q (y.exact k) → (t : Tree) × (y.exact k ≡ owns t) × TreeOf q t
 owned_tree {y = y} {a = a} k q key v st is exact = by (y.exact k) refl
   where
     plain_value : (v : Plain) (l : Location) → owned_val y.gives v ≡ ref_v l → ⊥

@@ -19,3 +19,5 @@ pub mod Discards
 pub mod Example
 pub mod EndGoes
 pub mod Ends
+pub mod SlotGoes
+pub mod SlotDrops

@@ -8,7 +8,7 @@ use Rattle.fr_store.specs.Rows.{with_type}
 use Rattle.fr_store.proofs.Keys.{key_same, key_other}
 use Rattle.fr_store.proofs.Chains.{decide_location}
 use Rattle.fr_store.proofs.Rows.{forget, swap_own, same_store, unnamed_with, put_there, put_other}
-use Rattle.plain_types.proofs.OneThread.{CarriedOf}
+use Rattle.plain_types.proofs.OneThread.{CarriedOf, Carried, Counted}
 use Rattle.plain_types.proofs.Moved.{flip, flip_first, flip_second, flip_third, flip_twice}
 use Rattle.plain_types.proofs.SlotTurn.{alike_swap}
 use Rattle.drop_types.proofs.Lost.{Others}
@@ -105,6 +105,17 @@ module _ {s s2 : Store} {h : Key} {w : Val} (k : Went s s2 h w) where
     where
       alike : Alike (put_value s (at_key h) gone_v) s2
       alike q = ⊎_elim (λ (e : q ≡ at_key h). ap (value_at s2) e ∙ ap Some k.now ∙ sym (put_there s (at_key h) gone_v) ∙ ap (value_at (put_value s (at_key h) gone_v)) (sym e)) (λ (ne : q ≢ at_key h). k.same q ne ∙ sym (put_other s (at_key h) gone_v q ne)) (decide_location q (at_key h))
+
+-- where the value that went is counted nowhere, each counted value stands where it stood
+pub light_carried : {s s2 : Store} {h : Key} {w : Val} → Went s s2 h w → (Counted w → ⊥) → Carried s s2
+light_carried {s = s} {s2 = s2} {h = h} {w = w} k light = record {
+  to = λ q. q;
+  from = λ q. q;
+  from_to = λ q. refl;
+  to_from = λ q. refl;
+  there = λ q v c i. ⊎_elim (λ (e : q ≡ at_key h). let g : Some w ≡ Some v = ap Some (sym k.was) ∙ sym (ap (value_at s) e) ∙ i in let z : v ≡ w = cc in absurd (light (subst Counted z c))) (λ (ne : q ≢ at_key h). k.same q ne ∙ i) (decide_location q (at_key h));
+  back = λ q v c i. ⊎_elim (λ (e : q ≡ at_key h). let g : Some gone_v ≡ Some v = ap Some (sym k.now) ∙ sym (ap (value_at s2) e) ∙ i in let z : v ≡ gone_v = cc in absurd (subst Counted z c)) (λ (ne : q ≢ at_key h). sym (k.same q ne) ∙ i) (decide_location q (at_key h));
+}
 
 -- THE TYPES, where the value of another key comes
 

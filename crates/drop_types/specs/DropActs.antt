@@ -2,7 +2,7 @@
 use Rattle.std.specs.Prelude.{◌≡◌, Option, Some}
 use Rattle.fr_base.specs.declared.step.Fresh.TheVariants as fresh
 use Rattle.fr_plain.specs.declared.value.Value.{Value}
-use Rattle.fr_plain.specs.MachineActs.{Act, do_discard, do_end, do_leave}
+use Rattle.fr_plain.specs.MachineActs.{Act, do_discard, do_drop, do_end, do_leave}
 use Rattle.fr_plain.specs.MachineThreads.{Now, Move, Life, alive, over, loose, Thread, Whole, thread_at}
 use Rattle.fr_plain.specs.PlainState.{plain_state}
 use Rattle.fr_sound.specs.States.{Typing}
@@ -13,6 +13,10 @@ use Rattle.plain_types.specs.Keeps.{StepsTyped}
 -- a value at hand is dropped
 abbrev pub IsDiscard : Act Position → Type 0
 IsDiscard a = (v : Value) × (a ≡ do_discard v)
+
+-- the newest slot goes
+abbrev pub IsDrop : Act Position → Type 0
+IsDrop a = a ≡ do_drop
 
 -- main ends, or a thread that was let go: nobody has its result, which is dropped
 pub data EndsBy : (Position → Life Position) → (Value → Act Position) → Type 0 where

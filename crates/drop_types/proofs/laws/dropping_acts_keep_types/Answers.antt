@@ -1,5 +1,6 @@
 use Rattle.drop_types.proofs.laws.dropping_acts_keep_types.Goals as goal
 use Rattle.drop_types.proofs.Discards.{discard_keeps}
+use Rattle.drop_types.proofs.SlotDrops.{drop_slot_keeps}
 use Rattle.drop_types.proofs.Ends.{end_keeps}
 
 pub returns-clause-discard : goal.returns-clause-discard
@@ -7,3 +8,6 @@ returns-clause-discard c = discard_keeps
 
 pub returns-clause-end : goal.returns-clause-end
 returns-clause-end c = end_keeps
+
+pub returns-clause-slot : goal.returns-clause-slot
+returns-clause-slot c = drop_slot_keeps
