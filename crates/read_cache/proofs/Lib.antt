@@ -1,1 +1,2 @@
+mod AgeLemmas
 mod SlotLemmas

@@ -1,3 +1,4 @@
+pub mod Ages
 pub mod Cache
 pub mod Computes
 pub mod Slots

@@ -1,36 +1,50 @@
 -- What the entries of a cache's map stand for.
-use Rattle.std.specs.Prelude.{◌≡◌, ℕ, zero, suc, Bool, true, false, ◌==◌, if◌then◌else◌, List, [], ◌∷◌}
+use Rattle.std.specs.Prelude.{◌≡◌, ℕ, zero, suc, Bool, true, false, ◌==◌, List, [], ◌∷◌}
+use Rattle.heap_partition.specs.declared.value.Cell.{Cell}
 use Rattle.read_cache.specs.Cache.{Copy}
 use Rattle.read_cache.specs.declared.slot.Slot.{Slot}
-use Rattle.read_cache.specs.declared.slot.Slot.TheVariants.{Room, Held}
+use Rattle.read_cache.specs.declared.slot.Slot.TheVariants.{Room, Gone, Held}
 
-abbrev pub copy_before : ℕ → Slot → List Copy → List Copy
-copy_before w Room cs = cs
-copy_before w (Held cell users) cs = record { word = w; cell = cell; users = users } ∷ cs
+-- a copy and its age: how many copies were filled before it
+pub record Aged : Type 0 where
+  pub word : ℕ
+  pub cell : Cell
+  pub users : ℕ
+  pub age : ℕ
+
+abbrev pub held_before : ℕ → Slot → List Aged → List Aged
+held_before w Room hs = hs
+held_before w Gone hs = hs
+held_before w (Held cell users age) hs = record { word = w; cell = cell; users = users; age = age } ∷ hs
+
+-- the copies among the entries, each with its age
+abbrev pub held_in : List (ℕ × Slot) → List Aged
+held_in [] = []
+held_in (e ∷ es) = held_before e.0 e.1 (held_in es)
+
+abbrev pub copies_of : List Aged → List Copy
+copies_of [] = []
+copies_of (h ∷ hs) = record { word = h.word; cell = h.cell; users = h.users } ∷ copies_of hs
 
 -- the copies among the entries
 abbrev pub copies_in : List (ℕ × Slot) → List Copy
-copies_in [] = []
-copies_in (e ∷ es) = copy_before e.0 e.1 (copies_in es)
+copies_in es = copies_of (held_in es)
 
 abbrev pub room_before : ℕ → Slot → List ℕ → List ℕ
 room_before w Room ws = w ∷ ws
-room_before w (Held cell users) ws = ws
+room_before w Gone ws = ws
+room_before w (Held cell users age) ws = ws
 
 -- the words that have room alone
 abbrev pub rooms_in : List (ℕ × Slot) → List ℕ
 rooms_in [] = []
 rooms_in (e ∷ es) = room_before e.0 e.1 (rooms_in es)
 
--- a copy that nobody uses
-abbrev pub is_unused : Slot → Bool
-is_unused Room = false
-is_unused (Held cell users) = users == 0
-
--- the place of the first copy that nobody uses, or the number of entries
-abbrev pub first_unused : List (ℕ × Slot) → ℕ
-first_unused [] = 0
-first_unused (e ∷ es) = if is_unused e.1 then 0 else suc (first_unused es)
+-- the word of a copy that was evicted, whose entry stays until it is cleared
+abbrev pub is_gone : Slot → Bool
+is_gone Room = false
+is_gone Gone = true
+is_gone (Held cell users age) = false
 
 -- no entry has the word
 abbrev pub IsAbsent : List (ℕ × Slot) → ℕ → Type 0

@@ -1,9 +1,10 @@
 //! Copies by word, in the order in which they were filled.
 
-ghost use Rattle.std.specs.Prelude.{◌≡◌, ◌≢◌, ◌≤◌, ◌<◌, ◌-◌, ◌==◌, ◌||◌, [], true, false, min, None, length, if◌then◌else◌, IsOk, OnOk, OnErr, IfSome, IfNone};
+ghost use Rattle.std.specs.Prelude.{◌≡◌, ◌<◌, ◌==◌, ◌||◌, ◌++◌, [], ◌∷◌, true, false, not, None, Some, length, if◌then◌else◌, IsOk, OnOk, OnErr, IfSome, IfNone};
+ghost use Rattle.rank_map.specs.Places.{has_place as has_age, with_place};
 ghost use Rattle.indexmap.specs.IndexMap.{index_map_len};
 ghost use Rattle.read_cache.specs.Cache.{copy_of, is_cached, hit, can_fill, fill, can_pin, pin, can_unpin, unpin, users, can_evict, evict, oldest_unused};
-ghost use Rattle.read_cache.specs.Slots.{copies_in, rooms_in, first_unused, IsAbsent, StandsAt};
+ghost use Rattle.read_cache.specs.Slots.{held_in, copies_in, rooms_in, is_gone, IsAbsent, StandsAt};
 ghost use Rattle.read_cache.specs.declared.slot.Slot.TheVariants.{Room, Held};
 ghost use Rattle.read_cache.specs.View.{is_among, has_place, with_room, without_room};
 
@@ -12,52 +13,55 @@ use fr_base::NoMemory;
 use global_addr::Word;
 use heap_partition::{Cell, Owned};
 use indexmap::IndexMap;
+use rank_map::RankMap;
 use std::alloc::Global;
 use std::marker::Model;
+
+// Ages are below this number.
+const AGES: u64 = 1 << 40;
 
 /// The cached copies of one server. Contracts see as `state` the copies in the order in which they were filled, each with its
 /// word, its cell and the number of its users, and beside it as `rooms` the words for which there is room.
 ///
-/// `hit`, `users`, `oldest_unused` and `len` take constant time, and so does `unpin`. The place of the oldest copy that nobody
-/// uses is kept: only a `pin` or an `evict` of that very copy looks for the next one, past the copies in use that were filled
-/// between the two. `evict` moves the entries behind the word, since they keep their order, and `fill` those behind the word's
-/// room, which are none where the room was made last. Only `reserve` takes memory.
+/// `hit`, `users` and `len` take constant time, and so do `pin` and `unpin` of a copy that is in use before and after; the others
+/// take besides some forty steps in the set of the copies that nobody uses, by age, however many copies there are. `evict` leaves the
+/// entry of the copy, which is cleared by a `reserve` that lacks room: that takes linear time, and makes room for as many entries as are
+/// left, so that each clearing is paid by as many calls. `fill` moves the entries behind the word's room, which are none where the
+/// room was made last, and `reserve` those behind an evicted copy of the same word. Only `reserve` takes memory. 2^40 copies can be
+/// filled over a cache's whole life.
 #[derive(Drop)]
 pub struct Cache {
     slots: IndexMap<Word, Slot>,
-    // the place of the first copy that nobody uses, or the number of slots
-    oldest: usize,
+    // the words of the copies that nobody uses, by age
+    unused: RankMap<Word>,
+    // how many copies were filled, which is the age of the next one
+    next: u64,
+    // how many words have room alone
+    rooms: u64,
     // how many slots are copies
     filled: usize,
 }
 
 impl Model for Cache {
     ghost use Rattle.std.specs.Prelude.{◌≡◌, length};
-    ghost use Rattle.read_cache.specs.Slots.{copies_in, rooms_in, first_unused};
+    ghost use Rattle.read_cache.specs.Ages.{IsAged};
+    ghost use Rattle.read_cache.specs.Slots.{held_in, copies_in, rooms_in};
     ghost use Rattle.read_cache.specs.View.{CacheView};
 
     ghost Value = { CacheView };
 
     ghost view = { λ c. record { state = copies_in c.slots.entries; rooms = rooms_in c.slots.entries } };
 
-    ghost invariant = { λ c. (c.oldest ≡ first_unused c.slots.entries) × (c.filled ≡ length (copies_in c.slots.entries)) };
+    ghost invariant = { λ c. IsAged (held_in c.slots.entries) c.unused c.next c.rooms × (c.rooms ≡ length (rooms_in c.slots.entries)) × (c.filled ≡ length (copies_in c.slots.entries)) };
 }
 
-// The place of the first copy that nobody uses, looked for from a place that isn't behind it.
-fn next_unused(slots: &IndexMap<Word, Slot>, from: usize) -> usize
-    requires { from ≤ first_unused slots.now.entries }
-    ensures { result ≡ first_unused slots.now.entries }
-{
-    // The length is what says that `at + 1` fits.
-    let _len = slots.len();
-    let mut at = from;
-    while let Some((_, slot)) = slots.get_index(at) {
-        if slot.is_unused() {
-            return at;
-        }
-        at += 1;
-    }
-    at
+// A copy: its place, its cell, the number of its users and its age.
+#[derive(Clone, Copy)]
+struct Found {
+    at: usize,
+    cell: Cell,
+    users: u64,
+    age: u64,
 }
 
 // What stands under the word, and at which place.
@@ -76,16 +80,22 @@ fn find(slots: &IndexMap<Word, Slot>, word: Word) -> Option<(usize, Slot)>
     }
 }
 
-// The copy under the word: its place, its cell and the number of its users.
-fn copy_at(slots: &IndexMap<Word, Slot>, word: Word) -> Option<(usize, Cell, u64)>
-    ensures copy { IfSome result (λ copy. StandsAt slots.now.entries word copy.0 (Held copy.1 copy.2)) }
-    ensures within { IfSome result (λ copy. copy.0 < index_map_len slots.now) }
+// The copy under the word.
+fn copy_at(slots: &IndexMap<Word, Slot>, word: Word) -> Option<Found>
+    ensures copy { IfSome result (λ copy. StandsAt slots.now.entries word copy.at (Held copy.cell copy.users copy.age)) }
+    ensures within { IfSome result (λ copy. copy.at < index_map_len slots.now) }
     ensures none { IfNone result (copy_of (copies_in slots.now.entries) word ≡ None) }
 {
     let _inside: Option<Owned> = None;
     match find(slots, word) {
-        Some((at, Slot::Held(cell, users))) => Some((at, cell, users)),
+        Some((at, Slot::Held(cell, users, age))) => Some(Found {
+            at,
+            cell,
+            users,
+            age,
+        }),
         Some((_, Slot::Room)) => None,
+        Some((_, Slot::Gone)) => None,
         None => None,
     }
 }
@@ -98,7 +108,8 @@ fn room_at(slots: &IndexMap<Word, Slot>, word: Word) -> Option<usize>
 {
     match find(slots, word) {
         Some((at, Slot::Room)) => Some(at),
-        Some((_, Slot::Held(_, _))) => None,
+        Some((_, Slot::Held(_, _, _))) => None,
+        Some((_, Slot::Gone)) => None,
         None => None,
     }
 }
@@ -109,37 +120,76 @@ fn is_there(slots: &IndexMap<Word, Slot>, word: Word) -> bool
 {
     match find(slots, word) {
         Some((_, Slot::Room)) => true,
-        Some((_, Slot::Held(_, _))) => true,
+        Some((_, Slot::Held(_, _, _))) => true,
+        Some((_, Slot::Gone)) => false,
         None => false,
     }
 }
 
-// The place of the first copy that nobody uses, after the slot at `at` was taken into use or went; it was at `oldest` before.
-fn oldest_after(slots: &IndexMap<Word, Slot>, oldest: usize, at: usize) -> usize
-    requires same { at ≢ oldest → oldest ≡ first_unused slots.now.entries }
-    requires later { at ≡ oldest → oldest ≤ first_unused slots.now.entries }
-    ensures { result ≡ first_unused slots.now.entries }
+// Clears the entries of copies that were evicted.
+fn clear(slots: &mut IndexMap<Word, Slot>)
+    ensures held { held_in slots.new.entries ≡ held_in slots.old.entries }
+    ensures rooms { rooms_in slots.new.entries ≡ rooms_in slots.old.entries }
 {
-    if at == oldest {
-        next_unused(slots, oldest)
-    } else {
-        oldest
+    let _inside: Option<(Cell, Owned)> = None;
+    slots.retain(
+        |_word: &Word, slot: &mut Slot| -> bool
+            ensures { (result ≡ not (is_gone slot.old)) × (slot.new ≡ slot.old) }
+        { !slot.is_gone() },
+    );
+}
+
+// Makes a free entry. Where none is left, those of evicted copies are cleared first, and there is room for as many as are left.
+fn make_entry(slots: &mut IndexMap<Word, Slot>) -> Result<(), NoMemory>
+    ensures held { held_in slots.new.entries ≡ held_in slots.old.entries }
+    ensures rooms { rooms_in slots.new.entries ≡ rooms_in slots.old.entries }
+{
+    let _inside: Option<(Slot, Cell, Owned)> = None;
+    if slots.len() < slots.capacity() {
+        return Ok(());
+    }
+    clear(slots);
+    match slots.reserve(slots.len().max(1)) {
+        Ok(()) => Ok(()),
+        Err(_) => Err(NoMemory),
     }
 }
 
-// The same after the copy at `at` lost one of so many users.
-fn oldest_before(oldest: usize, at: usize, users: u64) -> usize
-    ensures { result ≡ (if users == 1 then min at oldest else oldest) }
+// Adds room for a word that has neither a copy nor room; a copy of it may have been evicted.
+fn add_room(slots: &mut IndexMap<Word, Slot>, word: Word) -> Result<(), NoMemory>
+    requires copy { is_cached (copies_in slots.old.entries) word ≡ false }
+    requires room { is_among (rooms_in slots.old.entries) word ≡ false }
+    ensures held { held_in slots.new.entries ≡ held_in slots.old.entries }
+    ensures added { OnOk result (rooms_in slots.new.entries ≡ rooms_in slots.old.entries ++ word ∷ []) }
+    ensures refused { OnErr result (rooms_in slots.new.entries ≡ rooms_in slots.old.entries) }
 {
-    if users == 1 { at.min(oldest) } else { oldest }
+    let _inside: Option<(Slot, Cell, Owned)> = None;
+    make_entry(slots)?;
+    slots.shift_remove(&word);
+    match slots.insert(word, Slot::Room) {
+        Ok(_) => Ok(()),
+        Err(_) => Err(NoMemory),
+    }
 }
 
-// The same after what stood at `at` went, which wasn't that copy.
-fn oldest_without(oldest: usize, at: usize) -> usize
-    ensures behind { at < oldest → result ≡ oldest - 1 }
-    ensures before { oldest ≤ at → result ≡ oldest }
+// A copy of that age, which had so many users, gets one more.
+fn take_into_use(unused: &mut RankMap<Word>, age: u64, users: u64)
+    requires place { has_age unused.old age ≡ true }
+    ensures { unused.new ≡ (if users == 0 then with_place unused.old age (Some None) else unused.old) }
 {
-    if at < oldest { oldest - 1 } else { oldest }
+    if users == 0 {
+        unused.take(age);
+    }
+}
+
+// A copy of that age, which had so many users, loses one.
+fn give_up(unused: &mut RankMap<Word>, word: Word, age: u64, users: u64)
+    requires place { has_age unused.old age ≡ true }
+    ensures { unused.new ≡ (if users == 1 then with_place unused.old age (Some (Some word)) else unused.old) }
+{
+    if users == 1 {
+        unused.insert(age, word);
+    }
 }
 
 impl Cache {
@@ -150,7 +200,9 @@ impl Cache {
     {
         Cache {
             slots: IndexMap::new(alloc),
-            oldest: 0,
+            unused: RankMap::new(alloc),
+            next: 0,
+            rooms: 0,
             filled: 0,
         }
     }
@@ -164,16 +216,16 @@ impl Cache {
         ensures had_place { has_place self.old word ≡ true → IsOk result }
         ensures refused { OnErr result (self.new ≡ self.old) }
     {
-        // The check asks that each type inside a slot is named where a slot is moved.
-        let _inside: Option<(Cell, Owned)> = None;
         if is_there(&self.slots, word) {
             return Ok(());
         }
-        match self.slots.insert(word, Slot::Room) {
-            Ok(_) => {}
-            Err(_) => return Err(NoMemory),
+        let age = self.next + self.rooms;
+        if age == AGES {
+            return Err(NoMemory);
         }
-        self.oldest = next_unused(&self.slots, self.oldest);
+        self.unused.reserve(age)?;
+        add_room(&mut self.slots, word)?;
+        self.rooms += 1;
         Ok(())
     }
 
@@ -192,9 +244,11 @@ impl Cache {
         };
         let last = self.slots.len() - 1;
         self.slots.move_index(at, last);
-        self.slots[last] = Slot::Held(cell, 0);
+        self.slots[last] = Slot::Held(cell, 0, self.next);
+        self.unused.insert(self.next, word);
+        self.next += 1;
+        self.rooms -= 1;
         self.filled += 1;
-        self.oldest = oldest_without(self.oldest, at);
     }
 
     /// The cell that is copied under the word; `None` exactly where no copy is there.
@@ -203,7 +257,7 @@ impl Cache {
     {
         let _inside: Option<Owned> = None;
         match copy_at(&self.slots, word) {
-            Some((_, cell, _)) => Some(cell),
+            Some(found) => Some(found.cell),
             None => None,
         }
     }
@@ -214,11 +268,19 @@ impl Cache {
         ensures { self.new ≡ record self.old { state = pin self.old.state word } }
     {
         let _inside: Option<Owned> = None;
-        let Some((at, cell, users)) = copy_at(&self.slots, word) else {
+        let Some(
+            Found {
+                at,
+                cell,
+                users,
+                age,
+            },
+        ) = copy_at(&self.slots, word)
+        else {
             unreachable!();
         };
-        self.slots[at] = Slot::Held(cell, users + 1);
-        self.oldest = oldest_after(&self.slots, self.oldest, at);
+        self.slots[at] = Slot::Held(cell, users + 1, age);
+        take_into_use(&mut self.unused, age, users);
     }
 
     /// Counts one user less of the copy, which has one.
@@ -227,11 +289,19 @@ impl Cache {
         ensures { self.new ≡ record self.old { state = unpin self.old.state word } }
     {
         let _inside: Option<Owned> = None;
-        let Some((at, cell, users)) = copy_at(&self.slots, word) else {
+        let Some(
+            Found {
+                at,
+                cell,
+                users,
+                age,
+            },
+        ) = copy_at(&self.slots, word)
+        else {
             unreachable!();
         };
-        self.slots[at] = Slot::Held(cell, users - 1);
-        self.oldest = oldest_before(self.oldest, at, users);
+        self.slots[at] = Slot::Held(cell, users - 1, age);
+        give_up(&mut self.unused, word, age, users);
     }
 
     /// How many use the copy; 0 where none is there.
@@ -239,7 +309,7 @@ impl Cache {
         ensures { result ≡ users self.now.state word }
     {
         match copy_at(&self.slots, word) {
-            Some((_, _, users)) => users,
+            Some(found) => found.users,
             None => 0,
         }
     }
@@ -251,15 +321,15 @@ impl Cache {
         ensures cache { self.new ≡ record self.old { state = evict self.old.state word } }
     {
         let _inside: Option<Owned> = None;
-        let Some((at, _, users)) = copy_at(&self.slots, word) else {
+        let Some(Found { at, users, age, .. }) = copy_at(&self.slots, word) else {
             return false;
         };
         if users > 0 {
             return false;
         }
-        self.slots.shift_remove_index(at);
+        self.slots[at] = Slot::Gone;
+        self.unused.remove(age);
         self.filled -= 1;
-        self.oldest = oldest_after(&self.slots, self.oldest, at);
         true
     }
 
@@ -270,8 +340,11 @@ impl Cache {
     {
         // The length is what says that no two keys are equal.
         let _len = self.slots.len();
-        match self.slots.get_index(self.oldest) {
-            Some((word, _)) => Some(*word),
+        let Some(age) = self.unused.nth(0) else {
+            return None;
+        };
+        match self.unused.get(age) {
+            Some(word) => Some(*word),
             None => None,
         }
     }

@@ -1,14 +1,18 @@
-use Rattle.std.proofs.Common.{refl, sym}
-use Rattle.read_cache.proofs.SlotLemmas.{oldest, stands, first_can_go}
+use Rattle.std.proofs.Common.{sym, ◌∙◌}
+use Rattle.read_cache.proofs.AgeLemmas.{oldest_is, none_unused}
+use Rattle.read_cache.proofs.SlotLemmas.{oldest_goes}
 use Rattle.read_cache.proofs.cache.Cache.oldest_unused.Goals as goal
 
-pub returns-in-Some-clause-word : goal.returns-in-Some-clause-word
-returns-in-Some-clause-word c = rw (← c.self.view_is, oldest c.self.inside.slots.entries, ← c.self.invariant.0, ← c.in-Some.ensures.entry) refl
+pub returns-in_default-clause-word : goal.returns-in_default-clause-word
+returns-in_default-clause-word c = rw (← c.self.view_is) (sym (none_unused c.self.invariant.0 c.in_default.ensures))
 
-pub returns-in-Some-clause-unused : goal.returns-in-Some-clause-unused
-returns-in-Some-clause-unused c =
-    let here = stands c.self.inside.slots.entries c.self.inside.oldest c.in-Some.word.now c.in-Some.field-0-1.now c.len-len.ensures.unique (sym c.in-Some.ensures.entry) in
-    rw (← c.self.view_is) (first_can_go c.in-Some.word.now c.self.inside.slots.entries c.self.inside.oldest c.in-Some.field-0-1.now here c.self.invariant.0)
+pub returns-in-Some-get-clause-word : goal.returns-in-Some-get-clause-word
+returns-in-Some-get-clause-word c = rw (← c.self.view_is) (c.in-Some-get.ensures ∙ sym (oldest_is c.self.invariant.0 c.in-Some.age c.in-Some.ensures))
+
+pub returns-in-Some-get-clause-unused : goal.returns-in-Some-get-clause-unused
+returns-in-Some-get-clause-unused c =
+    rw (← c.self.view_is)
+    (oldest_goes c.self.inside.slots.entries c.len-len.ensures.unique c.in-Some-get.word.now (oldest_is c.self.invariant.0 c.in-Some.age c.in-Some.ensures ∙ sym c.in-Some-get.ensures))
 
 pub returns-in-None-clause-word : goal.returns-in-None-clause-word
-returns-in-None-clause-word c = rw (← c.self.view_is, oldest c.self.inside.slots.entries, ← c.self.invariant.0, ← c.in-None.ensures.entry) refl
+returns-in-None-clause-word c = rw (← c.self.view_is) (c.in-None.ensures ∙ sym (oldest_is c.self.invariant.0 c.in-Some.age c.in-Some.ensures))

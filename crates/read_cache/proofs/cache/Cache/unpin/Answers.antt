@@ -1,29 +1,40 @@
-use Rattle.std.proofs.Common.{◌≡◌, ◌<◌, ◌-◌, refl, sym, ◌∙◌, arith, true}
-use Rattle.read_cache.specs.Slots.{copies_in}
+use Rattle.std.proofs.Common.{◌≡◌, ◌<◌, ◌-◌, refl, arith, true}
+use Rattle.read_cache.specs.Slots.{held_in, copies_in}
 use Rattle.read_cache.specs.Cache.{can_unpin}
-use Rattle.read_cache.proofs.SlotLemmas.{held_copy, users_set, rooms_stay, users_is, can_unpin_is, first_lost, length_with}
+use Rattle.read_cache.proofs.AgeLemmas.{aged, held_place, freed_aged, copies_users}
+use Rattle.read_cache.proofs.SlotLemmas.{held_aged, held_copy, users_set, rooms_stay, users_is, can_unpin_is, length_with}
 use Rattle.read_cache.proofs.cache.Cache.unpin.Goals as goal
 
 pub overflow_sub-users : goal.overflow_sub-users
 overflow_sub-users c =
-    let h = held_copy c.args.word c.self.inside.slots.entries c.in-Some.at c.in-Some.cell c.in-Some.users c.in-Some.ensures.copy in
-    let p : can_unpin (copies_in c.self.inside.slots.entries) c.args.word ≡ true = (rw (← c.self.view_is) at c.requires.can_unpin) in
-    let l : 0 < c.in-Some.users = can_unpin_is (copies_in c.self.inside.slots.entries) c.args.word c.in-Some.cell c.in-Some.users h p in
+    let w = c.args.word in let es = c.self.inside.slots.entries in let at = c.in-Some.field-0.at in let u = c.in-Some.field-0.users in let a = c.in-Some.field-0.age in let cell = c.in-Some.field-0.cell in let copy = c.in-Some.ensures.copy in
+    let p : can_unpin (copies_in es) w ≡ true = (rw (← c.self.view_is) at c.requires.can_unpin) in
+    let l : 0 < u = can_unpin_is (copies_in es) w cell u (held_copy w es at cell u a copy) p in
     omega (arith, l)
+
+pub give_up-requires : goal.give_up-requires
+give_up-requires c =
+    let w = c.args.word in let es = c.self.inside.slots.entries in let at = c.in-Some.field-0.at in let u = c.in-Some.field-0.users in let a = c.in-Some.field-0.age in let cell = c.in-Some.field-0.cell in let copy = c.in-Some.ensures.copy in
+    record { place = held_place (held_in es) w (aged w cell u a) c.self.inside.unused (held_aged w es at cell u a copy) c.self.invariant.0.held }
 
 pub invariant_of-self : goal.invariant_of-self
 invariant_of-self c =
-    let e = users_set c.args.word c.self.inside.slots.entries c.in-Some.at c.in-Some.cell c.in-Some.users (c.in-Some.users - 1) c.in-Some.ensures.copy in
-    let h = held_copy c.args.word c.self.inside.slots.entries c.in-Some.at c.in-Some.cell c.in-Some.users c.in-Some.ensures.copy in
-    let p : can_unpin (copies_in c.self.inside.slots.entries) c.args.word ≡ true = (rw (← c.self.view_is) at c.requires.can_unpin) in
-    let l : 0 < c.in-Some.users = can_unpin_is (copies_in c.self.inside.slots.entries) c.args.word c.in-Some.cell c.in-Some.users h p in (
-      rw c.oldest_before-self-inside.ensures (rw c.self.invariant.0 (first_lost c.args.word c.self.inside.slots.entries c.in-Some.at c.in-Some.cell c.in-Some.users c.in-Some.ensures.copy l)),
-      rw e (c.self.invariant.1 ∙ sym (length_with c.args.word (copies_in c.self.inside.slots.entries) (c.in-Some.users - 1))),
+    let w = c.args.word in let es = c.self.inside.slots.entries in let at = c.in-Some.field-0.at in let u = c.in-Some.field-0.users in let a = c.in-Some.field-0.age in let cell = c.in-Some.field-0.cell in let copy = c.in-Some.ensures.copy in
+    let e = users_set w es at cell u a (u - 1) copy in
+    let p : can_unpin (copies_in es) w ≡ true = (rw (← c.self.view_is) at c.requires.can_unpin) in
+    let l : 0 < u = can_unpin_is (copies_in es) w cell u (held_copy w es at cell u a copy) p in (
+      rw e (freed_aged c.self.invariant.0 w (aged w cell u a) (held_aged w es at cell u a copy) c.give_up.new.unused u refl l c.give_up.ensures),
+      rw (rooms_stay w es at cell u a (u - 1) copy) c.self.invariant.1,
+      rw (e, copies_users (held_in es) w (u - 1), length_with w (copies_in es) (u - 1)) c.self.invariant.2,
     )
 
 pub returns : goal.returns
 returns c =
-    let e = users_set c.args.word c.self.inside.slots.entries c.in-Some.at c.in-Some.cell c.in-Some.users (c.in-Some.users - 1) c.in-Some.ensures.copy in
-    let r = rooms_stay c.args.word c.self.inside.slots.entries c.in-Some.at c.in-Some.cell c.in-Some.users (c.in-Some.users - 1) c.in-Some.ensures.copy in
-    let h = held_copy c.args.word c.self.inside.slots.entries c.in-Some.at c.in-Some.cell c.in-Some.users c.in-Some.ensures.copy in
-    rw (← c.self.view_is, e, r, users_is (copies_in c.self.inside.slots.entries) c.args.word c.in-Some.cell c.in-Some.users h) refl
+    let w = c.args.word in let es = c.self.inside.slots.entries in let at = c.in-Some.field-0.at in let u = c.in-Some.field-0.users in let a = c.in-Some.field-0.age in let cell = c.in-Some.field-0.cell in let copy = c.in-Some.ensures.copy in
+    rw (
+      ← c.self.view_is,
+      users_set w es at cell u a (u - 1) copy,
+      copies_users (held_in es) w (u - 1),
+      rooms_stay w es at cell u a (u - 1) copy,
+      users_is (copies_in es) w cell u (held_copy w es at cell u a copy),
+    ) refl
