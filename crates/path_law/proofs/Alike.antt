@@ -25,8 +25,7 @@ use Rattle.heap_law.specs.Things.{Location, at_slot, in_cell}
 use Rattle.heap_law.specs.Follow.{Standing, Ground, cell_of, slot_of, value_of, value_in, value_behind, leads, locate}
 use Rattle.heap_law.specs.Sight.{sight}
 use Rattle.heap_law.specs.OneHeap.{plain_value, object_value, running_at}
-use Rattle.type_law.specs.ClusterTypes.{IsCoherent}
-use Rattle.path_law.specs.HeapStore.{in_store, heap_store, store_place, GoesOn, IsUnmarked, PlacesLeadAlike}
+use Rattle.path_law.specs.HeapStore.{in_store, heap_store, store_place, GoesOn, IsUnmarked, PlacesLeadAlike, CoherentHasPaths, HasPaths}
 use Rattle.path_law.proofs.Shown.{shown_value, object_shown, stands_there, is_running}
 
 some_is : {A : Type 0} {x y : A} → Some x ≡ Some y → x ≡ y
@@ -90,7 +89,7 @@ there_of rank E s t k l is =
     let loc : p.loc ≡ l = some_is (sym p.chain ∙ f.leads) ∙ one in
     (p.value, sym (ap (value_at s) loc) ∙ p.there)
 
-module _ (k : Cluster) (c : IsCoherent k) (x : Standing) (g : GoesOn k x) where
+module _ (k : Cluster) (c : HasPaths k) (x : Standing) (g : GoesOn k x) where
   abbrev st : Store
   st = heap_store k c.types
 
@@ -295,4 +294,15 @@ lead_alike = record {
       let f = found_place c.types.typing.rank c.types.typing.exact (heap_store k c.types) only (store_place x.thread.number w) b n p c.types.state.typed r in
       let q = leads_in_cluster k c x g w.slot w.depth f.loc clear f.at in
       (q.0, q.1);
+}
+
+pub coherent_has_paths : CoherentHasPaths
+coherent_has_paths k c = record {
+  types = c.types;
+  numbers_differ = c.sound.names.numbers_differ;
+  names_counted = c.sound.names.names_counted;
+  counts_from_one = c.sound.names.counts_from_one;
+  over_are_bare = c.sound.rooted.over_are_bare;
+  home_of_each = c.sound.one_home.home_of_each;
+  owner_of_each = c.sound.one_owner.owner_of_each;
 }

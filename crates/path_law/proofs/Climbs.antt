@@ -22,9 +22,9 @@ use Rattle.heap_law.specs.Things.{Location, at_slot, at_temp, in_cell}
 use Rattle.heap_law.specs.Follow.{Standing, Ground, slot_of, value_in, locate}
 use Rattle.heap_law.specs.Stale.{holder_of}
 use Rattle.heap_law.specs.Sight.{sight}
-use Rattle.type_law.specs.ClusterTypes.{IsCoherent, astray, leads_as, is_held_at}
+use Rattle.type_law.specs.ClusterTypes.{astray, leads_as, is_held_at}
 use Rattle.path_law.specs.Above.{IsMadeFrom, StandsAbove, holder, higher}
-use Rattle.path_law.specs.HeapStore.{in_store, heap_store, GoesOn, IsUnmarked}
+use Rattle.path_law.specs.HeapStore.{in_store, heap_store, GoesOn, IsUnmarked, HasPaths}
 use Rattle.path_law.specs.Pointing.{Above, made_from, made_below}
 use Rattle.path_law.proofs.Shown.{none_else, some_is, stands_there}
 use Rattle.path_law.proofs.Alike.{IsShown, a_slot, an_object, mark_unnamed, leads_in_heap, leads_in_cluster, slot_none, slot_gone, slot_own, slot_shared_slot, slot_mut_slot}
@@ -75,7 +75,7 @@ and_second : (a b : Bool) → a && b ≡ true → b ≡ true
 and_second true b e = e
 and_second false b e = absurd cc
 
-module _ (k : Cluster) (c : IsCoherent k) (x : Standing) (g : GoesOn k x) where
+module _ (k : Cluster) (c : HasPaths k) (x : Standing) (g : GoesOn k x) where
   abbrev st : Store
   st = heap_store k c.types
 

@@ -23,8 +23,8 @@ use Rattle.heap_law.specs.Sight.{sight}
 use Rattle.heap_law.specs.Sharing.{is_over}
 use Rattle.heap_law.specs.OneHeap.{one_heap, running_at}
 use Rattle.type_law.specs.Names.{NameTypes, names_of}
-use Rattle.type_law.specs.ClusterTypes.{KnownAt, astray, all_astray, astray_of, IsCoherent, slot_form, slots_wrong, has_form, entry_wrong, forms_of}
-use Rattle.path_law.specs.HeapStore.{GoesOn, heap_store}
+use Rattle.type_law.specs.ClusterTypes.{KnownAt, astray, all_astray, astray_of, slot_form, slots_wrong, has_form, entry_wrong, forms_of}
+use Rattle.path_law.specs.HeapStore.{GoesOn, heap_store, HasPaths}
 use Rattle.path_law.proofs.Shown.{none_else, some_is, is_running, length_one_more}
 
 -- AN ELEMENT BY ITS NUMBER FROM BEHIND
@@ -129,7 +129,7 @@ astray_at E g t key j zero (w ∷ vs) v z e =
     subst (λ n. astray g t (E (key n)) v ≡ 0) (omega arith) (subst (λ y. astray g t (E (key j)) y ≡ 0) same here_it)
 astray_at E g t key j (suc i) (w ∷ vs) v z e = subst (λ n. astray g t (E (key n)) v ≡ 0) (omega arith) (astray_at E g t key (j + 1) i vs v (omega (arith, z)) e)
 
-module _ (k : Cluster) (c : IsCoherent k) (x : Standing) (g : GoesOn k x) where
+module _ (k : Cluster) (c : HasPaths k) (x : Standing) (g : GoesOn k x) where
   abbrev pub names : NameTypes
   names = names_of c.types.object c.types.typing.gives
 

@@ -11,7 +11,7 @@ use Rattle.heap_law.specs.Names.{tot, one, Among, boxes, same_object}
 use Rattle.heap_law.specs.Things.{Thing, holds, lies, flies, things_of}
 use Rattle.heap_law.specs.Sight.{Sight, sight}
 use Rattle.heap_law.specs.Weights.{owners, cells}
-use Rattle.heap_law.specs.Coherent.{IsSound}
+use Rattle.path_law.specs.HeapStore.{HasPaths}
 use Rattle.heap_law.specs.OneHeap.{Node, object_n, owns, Owner, a_thread, inside, outside, names, owner_of, named_in, owner_in, any_named, in_state_by, is_in_state, first_shown, cell_value, or_else, if_in, object_value}
 use Rattle.heap_law.proofs.Words.{itself}
 
@@ -143,10 +143,10 @@ shown_only c y (flies w d ∷ b) few cell (inr h) =
 shown_only c y (_ ∷ b) few cell (inr h) = shown_only c y b (omega (arith, few)) cell h
 
 -- an object of the one heap whose box a cell has: the cell's value is shown in the one heap
-pub holder_shown : (k : Cluster) → IsSound k → (o : ObjNo) (c : Cell) (y : Thing) → CellThing c y → Among y (things_of k) → 1 ≤ boxes o c.value → is_in_state (sight k) (object_n o) ≡ true
+pub holder_shown : (k : Cluster) → HasPaths k → (o : ObjNo) (c : Cell) (y : Thing) → CellThing c y → Among y (things_of k) → 1 ≤ boxes o c.value → is_in_state (sight k) (object_n o) ≡ true
     → object_value (sight k) c.object ≡ Some (plain_of c.value)
-holder_shown k sound o c y cell h l is =
-    let homes = sound.one_home.home_of_each in
-    let few : tot (owners o) (things_of k) ≤ 1 = omega (arith, sound.one_owner.owner_of_each o, homes o) in
+holder_shown k c2 o c y cell h l is =
+    let homes = c2.home_of_each in
+    let few : tot (owners o) (things_of k) ≤ 1 = omega (arith, c2.owner_of_each o, homes o) in
     let inside_it = holder_in (sight k) o c y few cell h l is in
     ap (λ q. if_in q (first_shown (cell_value c.object) (things_of k))) inside_it ∙ shown_only c y (things_of k) (homes c.object) cell h

@@ -27,8 +27,8 @@ use Rattle.heap_law.specs.Follow.{Standing}
 use Rattle.heap_law.specs.Sight.{sight}
 use Rattle.heap_law.specs.Walking.{instr_of}
 use Rattle.type_law.specs.Names.{NameTypes}
-use Rattle.type_law.specs.ClusterTypes.{IsCoherent, has_form, slot_form}
-use Rattle.path_law.specs.HeapStore.{heap_store, GoesOn, IsUnmarked}
+use Rattle.type_law.specs.ClusterTypes.{has_form, slot_form}
+use Rattle.path_law.specs.HeapStore.{heap_store, GoesOn, IsUnmarked, HasPaths}
 use Rattle.path_law.specs.Pointing.{MayWrite, WritesTo, assigns, moves, lends, MayWriteThere}
 use Rattle.path_law.proofs.Shown.{some_is}
 use Rattle.path_law.proofs.Forms.{running_typed, slot_part, names}
@@ -150,7 +150,7 @@ no_mark n (boxed p) m e = absurd cc
 
 -- WHAT TYPING LETS AN INSTRUCTION WRITE MAY BE WRITTEN
 
-module _ (k : Cluster) (c : IsCoherent k) (x : Standing) (g : GoesOn k x) where
+module _ (k : Cluster) (c : HasPaths k) (x : Standing) (g : GoesOn k x) where
   abbrev n : ℕ
   n = x.thread.number
 

@@ -30,9 +30,8 @@ use Rattle.heap_law.specs.Sight.{sight, Pointer, pointer_in, location_of, droppe
 use Rattle.heap_law.specs.OneHeap.{object_n, is_in_state, object_value, if_in, first_shown, cell_value}
 use Rattle.heap_law.proofs.Bags.{among_split}
 use Rattle.heap_law.proofs.Words.{itself}
-use Rattle.type_law.specs.ClusterTypes.{IsCoherent}
 use Rattle.path_law.specs.Above.{PointsTo, its_box, a_reference, StandsAbove}
-use Rattle.path_law.specs.HeapStore.{in_store, heap_store, GoesOn, IsUnmarked}
+use Rattle.path_law.specs.HeapStore.{in_store, heap_store, GoesOn, IsUnmarked, HasPaths}
 use Rattle.path_law.specs.Pointing.{Above, MayWrite, LastHop, SolePointers}
 use Rattle.path_law.proofs.Sole.{sole_pointer, sole_mutable, sole_named}
 use Rattle.path_law.proofs.Shown.{some_is}
@@ -60,13 +59,13 @@ slot_no_temp t i u j e = absurd cc
 slot_is_no_temp : (t i u j : ℕ) → slot_k t i ≡ temp_k u j → ⊥
 slot_is_no_temp t i u j e = absurd cc
 
-module _ (k : Cluster) (c : IsCoherent k) where
+module _ (k : Cluster) (c : HasPaths k) where
   abbrev st : Store
   st = heap_store k c.types
 
   bare : (x : Standing) → Among x (sight k).ground.threads → is_over x.thread.phase ≡ true → (length x.thread.slots ≡ 0) × (length x.thread.temps ≡ 0)
   bare x h over =
-      let all = none_of (dressed (sight k)) x (sight k).ground.threads c.sound.rooted.over_are_bare h in
+      let all = none_of (dressed (sight k)) x (sight k).ground.threads c.over_are_bare h in
       let here_it = sym (ap (λ b. if_so b (other (is_end (instr_of (sight k) x)) + length x.thread.slots + length x.thread.temps + one (is_some x.thread.gift))) over) ∙ all in
       (omega (arith, here_it), omega (arith, here_it))
 
@@ -154,7 +153,7 @@ module _ (k : Cluster) (c : IsCoherent k) where
   cell_points : (cell : Cell) (y : Thing) (p : BoxPtr) → CellThing cell y → Among y (things_of k) → cell.value ≡ owned.Box p → is_in_state (sight k) (object_n p.object) ≡ true → PointsTo st p.object (at_object cell.object)
   cell_points cell y p it h e is =
       let one_box : boxes p.object cell.value ≡ 1 = ap (boxes p.object) e ∙ ap one (itself p.object p.object refl) in
-      let shown = holder_shown k c.sound p.object cell y it h (omega (arith, one_box)) is in
+      let shown = holder_shown k c p.object cell y it h (omega (arith, one_box)) is in
       its_box (ap (seen_cell c.types.typing.gives) (shown ∙ ap (λ v. Some (plain_of v)) e))
 
   -- A POINTER THAT STANDS SOMEWHERE

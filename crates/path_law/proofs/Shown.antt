@@ -22,9 +22,8 @@ use Rattle.heap_law.specs.Sight.{Sight, sight}
 use Rattle.heap_law.specs.Naming.{threads, started_at, zeroth_thread, uncounted_thread}
 use Rattle.heap_law.specs.Requests.{home_of}
 use Rattle.heap_law.specs.OneHeap.{one_heap, first_shown, cell_value, or_else, if_in, plain_value, going_on, was_let_go, started_by, running_at, life_of, life_at, if_given, is_given_thread, is_in_state, object_n, object_value}
-use Rattle.type_law.specs.ClusterTypes.{IsCoherent}
 use Rattle.type_law.proofs.Branches.{found}
-use Rattle.path_law.specs.HeapStore.{GoesOn}
+use Rattle.path_law.specs.HeapStore.{GoesOn, HasPaths}
 
 -- LISTS
 
@@ -106,9 +105,9 @@ going_place s (suc t) p = by (was_let_go s (suc t))
     by true = refl
     by false = refl
 
-module _ (k : Cluster) (c : IsCoherent k) (x : Standing) (g : GoesOn k x) where
+module _ (k : Cluster) (c : HasPaths k) (x : Standing) (g : GoesOn k x) where
   pub stands_there : thread_at (sight k).ground.threads x.thread.number ≡ Some x
-  stands_there = found x (things_of k) (c.sound.names.numbers_differ x.thread.number) g.among
+  stands_there = found x (things_of k) (c.numbers_differ x.thread.number) g.among
 
   -- its name was given
   pub is_given : is_given_thread (sight k) x.thread.number ≡ true
@@ -116,12 +115,12 @@ module _ (k : Cluster) (c : IsCoherent k) (x : Standing) (g : GoesOn k x) where
     where
       zeroth : one ((x.thread.number % 2 ^ 32 == 0) && not (x.thread.number == 0)) ≡ 0
       zeroth =
-          let all : tot (threads zeroth_thread) (things_of k) ≡ 0 = omega (arith, c.sound.names.counts_from_one) in
+          let all : tot (threads zeroth_thread) (things_of k) ≡ 0 = omega (arith, c.counts_from_one) in
           omega (arith, none_at (threads zeroth_thread) x (things_of k) all g.among)
 
       counted : some (tot (started_by (home_of x.thread.number) (x.thread.number % 2 ^ 32)) (things_of k)) ≡ true
       counted =
-          let all : tot (threads (uncounted_thread (sight k))) (things_of k) ≡ 0 = omega (arith, c.sound.names.names_counted) in
+          let all : tot (threads (uncounted_thread (sight k))) (things_of k) ≡ 0 = omega (arith, c.names_counted) in
           let one_of : uncounted_thread (sight k) x.thread.number ≡ 0 = omega (arith, none_at (threads (uncounted_thread (sight k))) x (things_of k) all g.among) in
           ap some (started_same (home_of x.thread.number) (x.thread.number % 2 ^ 32) (things_of k)) ∙ none_else (some (tot (started_at (home_of x.thread.number) (x.thread.number % 2 ^ 32)) (things_of k))) one_of
 

@@ -11,7 +11,10 @@ use Rattle.fr_store.specs.Typed.{Exact, Resolves}
 use Rattle.fr_sound.specs.States.{store_of}
 use Rattle.fr_code.specs.Steps.{Place}
 use Rattle.heap_law.specs.Names.{Among}
-use Rattle.heap_law.specs.Things.{Location, at_slot, at_temp, in_cell}
+use Rattle.heap_law.specs.Things.{Location, at_slot, at_temp, in_cell, things_of}
+use Rattle.heap_law.specs.Balances.{Agree, AtMostOne}
+use Rattle.heap_law.specs.Weights.{cells, owners, is_thread}
+use Rattle.heap_law.specs.Coherent.{Holds, names_counted, counts_from_one, over_are_bare}
 use Rattle.heap_law.specs.Follow.{Standing, place_at}
 use Rattle.heap_law.specs.Sight.{sight}
 use Rattle.heap_law.specs.Sharing.{is_over}
@@ -40,10 +43,25 @@ pub record GoesOn (k : Cluster) (x : Standing) : Type 0 where
 abbrev pub IsUnmarked : Standing → ℕ → Type 0
 IsUnmarked x i = (m : MutexNo) → slice_get x.thread.slots i ≡ Some (value.Held m) → ⊥
 
+-- what the laws of places ask of a cluster: its types, that threads are found by their numbers, which were given, that a thread that is over has nothing,
+-- and that each object has one home and one owner. No word, no copy, no walk and no message counts, so it holds also between the small steps of an event
+pub record HasPaths (k : Cluster) : Type 0 where
+  pub types : Types k
+  pub numbers_differ : AtMostOne is_thread (things_of k)
+  pub names_counted : Holds k names_counted
+  pub counts_from_one : Holds k counts_from_one
+  pub over_are_bare : Holds k over_are_bare
+  pub home_of_each : AtMostOne cells (things_of k)
+  pub owner_of_each : Agree owners cells (things_of k)
+
+-- a coherent cluster has it
+abbrev pub CoherentHasPaths : Type 0
+CoherentHasPaths = (k : Cluster) → IsCoherent k → HasPaths k
+
 pub record PlacesLeadAlike : Type 0 where
   -- where a place leads in the cluster it leads in the one heap
-  pub in_heap : (k : Cluster) (c : IsCoherent k) (x : Standing) (w : Lval) (l : Location) → GoesOn k x → place_at (sight k).ground x.thread.number w ≡ Some l
+  pub in_heap : (k : Cluster) (c : HasPaths k) (x : Standing) (w : Lval) (l : Location) → GoesOn k x → place_at (sight k).ground x.thread.number w ≡ Some l
       → locate (heap_store k c.types) (store_place x.thread.number w) ≡ Some (in_store l)
   -- a place that types resolve leads somewhere in the cluster, where it doesn't begin at a mark
-  pub in_cluster : (k : Cluster) (c : IsCoherent k) (x : Standing) (w : Lval) (only : Bool) (b : Key) (n : ℕ) (p : Exact) → GoesOn k x → IsUnmarked x w.slot
+  pub in_cluster : (k : Cluster) (c : HasPaths k) (x : Standing) (w : Lval) (only : Bool) (b : Key) (n : ℕ) (p : Exact) → GoesOn k x → IsUnmarked x w.slot
       → Resolves c.types.typing.exact only (slot_k x.thread.number w.slot) w.depth b n p → (l : Location) × (place_at (sight k).ground x.thread.number w ≡ Some l)

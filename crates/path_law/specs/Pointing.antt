@@ -19,8 +19,8 @@ use Rattle.heap_law.specs.Walking.{instr_of}
 use Rattle.heap_law.specs.Stale.{holder_of}
 use Rattle.heap_law.specs.Sight.{Pointer, pointers_in, sight}
 use Rattle.heap_law.specs.Words.{IsStale}
-use Rattle.type_law.specs.ClusterTypes.{Types, IsCoherent}
-use Rattle.path_law.specs.HeapStore.{GoesOn, IsUnmarked}
+use Rattle.type_law.specs.ClusterTypes.{Types}
+use Rattle.path_law.specs.HeapStore.{GoesOn, IsUnmarked, HasPaths}
 
 -- the pointer at l stands above the one at m: the mutable reference there was made from it, or from one that it stands above
 pub data Above (g : Ground) (l : Location) : Location → Type 0 where
@@ -45,7 +45,7 @@ pub data WritesTo : Instr → Lval → Type 0 where
 
 -- typing grants it
 abbrev pub MayWriteThere : Type 0
-MayWriteThere = (k : Cluster) (c : IsCoherent k) (x : Standing) (i : Instr) (w : Lval) → GoesOn k x → instr_of (sight k) x ≡ Some i → WritesTo i w → MayWrite k c.types x w
+MayWriteThere = (k : Cluster) (c : HasPaths k) (x : Standing) (i : Instr) (w : Lval) → GoesOn k x → instr_of (sight k) x ≡ Some i → WritesTo i w → MayWrite k c.types x w
 
 -- the last star of the place follows the pointer at h, which leads to the object
 pub record LastHop (g : Ground) (t : ℕ) (w : Lval) (h : Location) (o : ObjNo) : Type 0 where
@@ -57,10 +57,10 @@ pub record LastHop (g : Ground) (t : ℕ) (w : Lval) (h : Location) (o : ObjNo) 
 pub record SolePointers : Type 0 where
   -- each box of what a thread may write, and each mutable reference to it, in whatever thread, is the pointer that the place follows last or stands
   -- above it
-  pub above : (k : Cluster) (c : IsCoherent k) (x : Standing) (w : Lval) (h : Location) (o : ObjNo) → GoesOn k x → MayWrite k c.types x w → LastHop (sight k).ground x.thread.number w h o
+  pub above : (k : Cluster) (c : HasPaths k) (x : Standing) (w : Lval) (h : Location) (o : ObjNo) → GoesOn k x → MayWrite k c.types x w → LastHop (sight k).ground x.thread.number w h o
       → (p : Pointer) (l : Location) → Among p (pointers_in (things_of k)) → p.object ≡ o → p.at ≡ Some l → (l ≡ h) ⊎ Above (sight k).ground l h
   -- and no shared reference or view leads to it
-  pub unshared : (k : Cluster) (c : IsCoherent k) (x : Standing) (w : Lval) (h : Location) (o : ObjNo) → GoesOn k x → MayWrite k c.types x w → LastHop (sight k).ground x.thread.number w h o
+  pub unshared : (k : Cluster) (c : HasPaths k) (x : Standing) (w : Lval) (h : Location) (o : ObjNo) → GoesOn k x → MayWrite k c.types x w → LastHop (sight k).ground x.thread.number w h o
       → (l : Location) (r : SharedRef) → Among (shares l r) (things_of k) → r.object ≡ o → ⊥
 
 pub record AboveIsStale : Type 0 where

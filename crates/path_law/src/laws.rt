@@ -1,17 +1,18 @@
 //! Laws of places.
 
 ghost use Rattle.path_law.specs.Above.{SolePointer};
-ghost use Rattle.path_law.specs.HeapStore.{PlacesLeadAlike};
+ghost use Rattle.path_law.specs.HeapStore.{CoherentHasPaths, PlacesLeadAlike};
 ghost use Rattle.path_law.specs.Pointing.{AboveIsStale, MayWriteThere, SolePointers};
 
-/// A place of a thread of a coherent cluster leads, star by star, to where it leads in the one heap that the cluster stands for; and a place that
-/// typing gives a type leads somewhere.
+/// A place of a thread of a cluster leads, star by star, to where it leads in the one heap that the cluster stands for; and a place that typing gives a
+/// type leads somewhere. What is asked of the cluster (`HasPaths`) every coherent one has.
 pub fn places_lead_alike()
-    ensures { PlacesLeadAlike }
+    ensures alike { PlacesLeadAlike }
+    ensures coherent { CoherentHasPaths }
 {}
 
 /// Whoever points to an object that a typed place may write, in whatever thread, is the pointer that the place follows last, or a pointer from which
-/// that one was made: in a typed store, and over the locations of a coherent cluster, where no shared reference and no view leads there. The places
+/// that one was made: in a typed store, and over the locations of a cluster, where no shared reference and no view leads there. The places
 /// that assignments, moves and mutable borrows have at a thread's instruction are such.
 pub fn one_may_write()
     ensures store { SolePointer }

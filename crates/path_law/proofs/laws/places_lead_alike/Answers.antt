@@ -1,5 +1,8 @@
 use Rattle.path_law.proofs.laws.places_lead_alike.Goals as goal
-use Rattle.path_law.proofs.Alike.{lead_alike}
+use Rattle.path_law.proofs.Alike.{lead_alike, coherent_has_paths}
 
-pub returns : goal.returns
-returns c = lead_alike
+pub returns-clause-alike : goal.returns-clause-alike
+returns-clause-alike c = lead_alike
+
+pub returns-clause-coherent : goal.returns-clause-coherent
+returns-clause-coherent c = coherent_has_paths
