@@ -9,4 +9,6 @@ mod orders;
 #[cfg(test)]
 mod rows;
 #[cfg(test)]
+mod runs;
+#[cfg(test)]
 mod texts;

@@ -3,13 +3,13 @@
 ghost use Rattle.std.specs.Prelude.{IfOk};
 ghost use Rattle.journal.specs.Journals.{NamesItsThread};
 
-use fr_base::{Fresh, Labels, MutexNo, ObjNo, Released, ThreadNo};
+use fr_base::{Fresh, Label, Labels, MutexNo, ObjNo, Plain, Released, ThreadNo};
 use global_addr::Word;
 use journal::{Act, Acts, Entry, Journal};
 use std::alloc::Global;
 use std::test::Fail;
 
-/// An entry without labels and with two acts at most: its server, its thread, and the new names of its plain step where it did one.
+/// An entry with two acts and two labels at most: its server, its thread, and the new names of its plain step where it did one.
 #[derive(Clone, Copy)]
 pub struct Row {
     pub server: u8,
@@ -17,7 +17,20 @@ pub struct Row {
     pub done: Option<Fresh>,
     pub first: Option<Act>,
     pub second: Option<Act>,
+    pub label: Option<Label>,
+    pub other_label: Option<Label>,
 }
+
+// Without acts and labels.
+const NOTHING: Row = Row {
+    server: 0,
+    thread: None,
+    done: None,
+    first: None,
+    second: None,
+    label: None,
+    other_label: None,
+};
 
 /// A plain step that takes these names, with an act or none.
 pub fn step(server: u8, thread: ThreadNo, fresh: Fresh, act: Option<Act>) -> Row {
@@ -26,7 +39,7 @@ pub fn step(server: u8, thread: ThreadNo, fresh: Fresh, act: Option<Act>) -> Row
         thread: Some(thread),
         done: Some(fresh),
         first: act,
-        second: None,
+        ..NOTHING
     }
 }
 
@@ -40,9 +53,8 @@ pub fn turn(server: u8, thread: ThreadNo, act: Act) -> Row {
     Row {
         server,
         thread: Some(thread),
-        done: None,
         first: Some(act),
-        second: None,
+        ..NOTHING
     }
 }
 
@@ -54,6 +66,7 @@ pub fn both(server: u8, thread: ThreadNo, first: Act, second: Act) -> Row {
         done: Some(Fresh::None),
         first: Some(first),
         second: Some(second),
+        ..NOTHING
     }
 }
 
@@ -61,10 +74,16 @@ pub fn both(server: u8, thread: ThreadNo, first: Act, second: Act) -> Row {
 pub fn event(server: u8, act: Option<Act>) -> Row {
     Row {
         server,
-        thread: None,
-        done: None,
         first: act,
-        second: None,
+        ..NOTHING
+    }
+}
+
+/// The row with a label.
+pub fn labelled(row: Row, label: Label) -> Row {
+    Row {
+        label: Some(label),
+        ..row
     }
 }
 
@@ -78,6 +97,16 @@ fn add(acts: &mut Acts, act: &Option<Act>) -> Result<(), Fail> {
     Ok(())
 }
 
+// A label more, where there is one.
+fn add_label(labels: &mut Labels, label: &Option<Label>) -> Result<(), Fail> {
+    // The check asks that each type inside a label is named where a label is moved.
+    let _inside: Option<(Plain, MutexNo, ObjNo)> = None;
+    if let Some(label) = label {
+        labels.push(*label)?;
+    }
+    Ok(())
+}
+
 // The entry of a row.
 fn entry_of(alloc: Global, row: &Row) -> Result<Entry, Fail>
     ensures names { IfOk result NamesItsThread }
@@ -85,6 +114,9 @@ fn entry_of(alloc: Global, row: &Row) -> Result<Entry, Fail>
     let mut acts = Acts::new(alloc);
     add(&mut acts, &row.first)?;
     add(&mut acts, &row.second)?;
+    let mut labels = Labels::new(alloc);
+    add_label(&mut labels, &row.label)?;
+    add_label(&mut labels, &row.other_label)?;
     let done = match row.thread {
         Some(_) => row.done,
         None => None,
@@ -94,16 +126,22 @@ fn entry_of(alloc: Global, row: &Row) -> Result<Entry, Fail>
         thread: row.thread,
         done,
         acts,
-        labels: Labels::new(alloc),
+        labels,
     })
+}
+
+/// Adds the rows' entries.
+pub fn add_rows(alloc: Global, journal: &mut Journal, rows: &[Row]) -> Result<(), Fail> {
+    for row in rows {
+        journal.push(entry_of(alloc, row)?)?;
+    }
+    Ok(())
 }
 
 /// The journal of the rows.
 pub fn journal_of(alloc: Global, rows: &[Row]) -> Result<Journal, Fail> {
     let mut journal = Journal::new(alloc);
-    for row in rows {
-        journal.push(entry_of(alloc, row)?)?;
-    }
+    add_rows(alloc, &mut journal, rows)?;
     Ok(journal)
 }
 
