@@ -1,0 +1,2 @@
+mod DrivingLemmas
+mod RunLemmas
