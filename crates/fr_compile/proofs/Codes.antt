@@ -17,7 +17,8 @@ use Rattle.fr_code.specs.StandsFor.{borrowing, operand_of, operand_of_last, IsSo
 use Rattle.fr_code.proofs.Finished.{later, later_parts}
 use Rattle.fr_compile.specs.declared.body.Body.{Body}
 use Rattle.fr_compile.specs.Bodies.{is_hole, thread_steps}
-use Rattle.fr_compile.specs.Emitting.{Agrees, Grows, IsEmitted, ArePartsEmitted, IsDiscarded, drop_slots, AreAdded}
+use Rattle.fr_compile.specs.Emitting.{Agrees, Grows, IsEmitted, ArePartsEmitted, IsDiscarded, drop_slots, AreAdded, starts_thread}
+use Rattle.fr_compile.proofs.Owed.{no_hole, one_starts, drops_start, owed_none, owed_append, owed_spawn, owed_join, owed_discard}
 use Rattle.fr_compile.proofs.Bodies.{holes_kept, holes_join, started_first, started_last, steps_join}
 use Rattle.fr_compile.proofs.Sources.{parts_source, term_source}
 
@@ -132,7 +133,7 @@ pub dropped_next : (a c f : List Instr) (k : ℕ) → c ≡ a ++ drop_slots k �
 dropped_next a c f k e h = h ∙ ap (λ z. z ++ instr.DropSlot ∷ []) e ∙ append_assoc a (drop_slots k) (instr.DropSlot ∷ []) ∙ ap (λ z. a ++ z) (sym (one_more_drop k))
 
 -- a reference starts no thread
-pub no_borrow : (w : Lval) (is_mut : Bool) → is_hole (borrowing w is_mut) ≡ false
+pub no_borrow : (w : Lval) (is_mut : Bool) → starts_thread (borrowing w is_mut) ≡ false
 no_borrow w true = refl
 no_borrow w false = refl
 
@@ -148,11 +149,12 @@ module _ (fs : List Form) where
     added = sym (append-nil bs);
     holes = omega arith;
     steps = omega (arith, none);
+    new = owed_none a;
     at = λ b ag st. stands b (length a);
   }
 
   -- a term of one instruction
-  pub leaf_emitted : (a f : List Instr) (bs : List Body) (i : Instr) (o : Operand) (r : Run) → f ≡ a ++ i ∷ [] → is_hole i ≡ false → o ≡ operand_of r → steps_left r ≡ 1 →
+  pub leaf_emitted : (a f : List Instr) (bs : List Body) (i : Instr) (o : Operand) (r : Run) → f ≡ a ++ i ∷ [] → starts_thread i ≡ false → o ≡ operand_of r → steps_left r ≡ 1 →
       ((b : List Instr) (p q : ℕ) → slice_get b p ≡ Some i → q ≡ p + 1 → At b p r q) → IsEmitted fs a f bs bs o r
   leaf_emitted a f bs i o r e known same one stands =
       let len = pushed_len a f i e in
@@ -163,7 +165,8 @@ module _ (fs : List Form) where
         added = sym (append-nil bs);
         holes = omega (arith, len);
         steps = omega (arith, len, one);
-        at = λ b ag st. stands b (length a) (length f) (pushed_at a f b i (length a) e known (omega arith) ag) len;
+        new = owed_append a (i ∷ []) f (length a) [] e (one_starts i known) (owed_none a);
+        at = λ b ag st. stands b (length a) (length f) (pushed_at a f b i (length a) e (no_hole i known) (omega arith) ag) len;
       }
 
   -- a term that starts a thread: the thread's body is still to come
@@ -184,11 +187,12 @@ module _ (fs : List Form) where
           omega (arith, next),
         );
         steps = omega (arith, len, ap thread_steps (is ∙ spawns), ap steps_left spawns);
+        new = owed_spawn a f xs b e place;
         at = λ d ag st. subst (λ p. At d p r (length f)) place (subst (λ q. At d b.hole r q) next (subst (λ s. At d b.hole s (b.hole + 1)) is st.0));
       }
 
   -- a term of one part and one instruction
-  pub unary_emitted : (a c f : List Instr) (bs cs : List Body) (I : Operand → Instr) (v o : Operand) (r s : Run) → IsEmitted fs a c bs cs v r → f ≡ c ++ I v ∷ [] → is_hole (I v) ≡ false → o ≡ operand_of s → steps_left s ≡ steps_left r + 1 →
+  pub unary_emitted : (a c f : List Instr) (bs cs : List Body) (I : Operand → Instr) (v o : Operand) (r s : Run) → IsEmitted fs a c bs cs v r → f ≡ c ++ I v ∷ [] → starts_thread (I v) ≡ false → o ≡ operand_of s → steps_left s ≡ steps_left r + 1 →
       ((b : List Instr) (p m q : ℕ) → At b p r m → slice_get b m ≡ Some (I (operand_of r)) → q ≡ m + 1 → At b p s q) → IsEmitted fs a f bs cs o s
   unary_emitted a c f bs cs I v o r s h e known same one stands =
       let g = grows_append c (I v ∷ []) f e in
@@ -200,7 +204,8 @@ module _ (fs : List Form) where
         added = h.added;
         holes = holes_kept fs c f (length a) (length c) (length f) h.owed (λ k i lo. g.same k i) g.longer h.holes;
         steps = omega (arith, len, one, h.steps);
-        at = λ b ag st. stands b (length a) (length c) (length f) (h.at b (part_agrees c f b (length a) (length f) (length a) (length c) g (omega arith) g.longer ag) st) (pushed_at c f b (I v) (length a) e known h.grows.longer ag ∙ ap (λ z. Some (I z)) h.operand) len;
+        new = owed_append c (I v ∷ []) f (length a) h.owed e (one_starts (I v) known) h.new;
+        at = λ b ag st. stands b (length a) (length c) (length f) (h.at b (part_agrees c f b (length a) (length f) (length a) (length c) g (omega arith) g.longer ag) st) (pushed_at c f b (I v) (length a) e (no_hole (I v) known) h.grows.longer ag ∙ ap (λ z. Some (I z)) h.operand) len;
       }
 
   -- a term of two parts and one instruction
@@ -219,6 +224,7 @@ module _ (fs : List Form) where
             (holes_kept fs c f (length a) (length c) (length c) h.owed (λ n i lo. gc.same n i) (omega arith) h.holes)
             (holes_kept fs d f (length c) (length d) (length f) k.owed (λ n i lo. g.same n i) g.longer k.holes);
         steps = omega (arith, len, h.steps, k.steps, steps_join fs h.owed k.owed);
+        new = owed_append d (instr.Arith op v w ∷ []) f (length a) (h.owed ++ k.owed) e (one_starts (instr.Arith op v w) refl) (owed_join c d (length a) h.owed k.owed k.grows.same h.new k.new);
         at = λ b ag st. (
           length c,
           length d,
@@ -244,12 +250,13 @@ module _ (fs : List Form) where
         added = h.added;
         holes = holes_kept fs c f (length a) (length c) (length f) h.owed (λ n i lo. g.same n i) g.longer h.holes;
         steps = omega (arith, len, h.steps);
+        new = owed_append c (drop_slots k) f (length a) h.owed e (drops_start k) h.new;
         at = λ b ag st. (length c, h.at b (part_agrees c f b (length a) (length f) (length a) (length c) g (omega arith) g.longer ag) st, drops_at k c f b e (λ j i lo hi q z. ag j i (omega (arith, lo, h.grows.longer)) hi q z));
       }
 
   -- the last item
   pub last_emitted : (a f : List Instr) (bs cs : List Body) (o : Operand) (r : Run) → IsEmitted fs a f bs cs o r → ArePartsEmitted fs a f bs cs o (last r)
-  last_emitted a f bs cs o r h = record { grows = h.grows; operand = h.operand; owed = h.owed; added = h.added; holes = h.holes; steps = h.steps; at = h.at }
+  last_emitted a f bs cs o r h = record { grows = h.grows; operand = h.operand; owed = h.owed; added = h.added; holes = h.holes; steps = h.steps; new = h.new; at = h.at }
 
   -- an item before others
   more_emitted : (a c d f : List Instr) (bs cs ds : List Body) (o v : Operand) (r : Run) (is : Parts) → IsEmitted fs a c bs cs o r → IsDiscarded c o d → ArePartsEmitted fs d f cs ds v is → AreSource is → ArePartsEmitted fs a f bs ds v (more r is)
@@ -265,6 +272,7 @@ module _ (fs : List Form) where
         added = k.added ∙ ap (λ z. z ++ k.owed) h.added ∙ append_assoc bs h.owed k.owed;
         holes = holes_join fs f (length a) (length d) (length f) h.owed k.owed (holes_kept fs c f (length a) (length c) (length d) h.owed (λ n i lo. gc.same n i) gd.longer h.holes) k.holes;
         steps = omega (arith, len, up, h.steps, k.steps, steps_join fs h.owed k.owed);
+        new = owed_join d f (length a) h.owed k.owed k.grows.same (owed_discard c d o (length a) h.owed e h.new) k.new;
         at = λ b ag st. (
           length c,
           length d,

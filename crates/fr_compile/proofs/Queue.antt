@@ -1,7 +1,8 @@
 -- The code of threads, one behind another.
-use Rattle.std.proofs.Common.{◌≡◌, ◌≢◌, ℕ, Bool, zero, suc, ◌+◌, ◌<◌, ◌≤◌, ◌^◌, true, false, List, [], ◌∷◌, ◌++◌, length, drop, get_or, Some, refl, sym, ap, ◌∙◌, subst, arith, length-append}
+use Rattle.std.proofs.Common.{◌≡◌, ◌≢◌, ◌⊎◌, inl, inr, ℕ, Bool, zero, suc, ◌+◌, ◌<◌, ◌≤◌, true, false, List, [], ◌∷◌, ◌++◌, length, drop, get_or, Option, None, Some, refl, sym, ap, ◌∙◌, subst, arith, length-append}
 use Rattle.std.specs.Prelude.{slice_get, slice_set}
 use Rattle.std.proofs.lemmas.List.{drop-append-le}
+use Rattle.fr_typing.proofs.PlaceLemmas.{eq_cases}
 use Rattle.std.proofs.lemmas.Option.{slice_get_within}
 use Rattle.fr_base.specs.declared.instruction.Operand.{Operand}
 use Rattle.fr_base.specs.declared.instruction.Instr.{Instr}
@@ -14,8 +15,9 @@ use Rattle.fr_meaning.specs.FormTerms.{term_of}
 use Rattle.fr_code.specs.Steps.{captured}
 use Rattle.fr_code.specs.StandsFor.{IsSource, At, IsCodeOf}
 use Rattle.fr_compile.specs.declared.body.Body.{Body}
-use Rattle.fr_compile.specs.Bodies.{is_hole, IsHole, AreHoles, AreStarted, thread_steps, all_steps}
-use Rattle.fr_compile.specs.Emitting.{Agrees, IsEmitted, IsStarted}
+use Rattle.fr_compile.specs.Bodies.{is_hole, BodiesRise, IsHole, AreHoles, AreStarted, thread_steps, all_steps}
+use Rattle.fr_compile.specs.Emitting.{Agrees, IsHoleOf, AreOwed, IsEmitted, IsStarted}
+use Rattle.fr_compile.proofs.Owed.{one_starts, owed_append, hole_first, hole_second, hole_either, past}
 use Rattle.fr_compile.proofs.Bodies.{from_next, none_left, holes_from, holes_kept, holes_join, started_first, started_last, steps_join}
 use Rattle.fr_compile.proofs.Codes.{grows_append, grows_on, part_agrees, pushed_at, pushed_len}
 
@@ -54,14 +56,49 @@ elsewhere a k h i xs there at known same =
 same_captures : (cs ds : List Capture) (r s : Run) → spawn cs r ≡ spawn ds s → cs ≡ ds
 same_captures cs ds r s e = cc
 
+same_place : {o : Option Instr} {xs ys : WithRoom (ℕ × Bool)} {m n : ℕ} → o ≡ Some (instr.Spawn xs m) → o ≡ Some (instr.Spawn ys n) → n ≡ m
+same_place e f = let g : Some (instr.Spawn _ _) ≡ Some (instr.Spawn _ _) = sym e ∙ f in cc
+
 -- A THREAD
+
+-- each instruction that starts a thread without a place is left; those with a place come before, and their bodies rise
+pub record InOrder (code : List Instr) (left : List Body) : Type 0 where
+  pub complete : (k : ℕ) (xs : WithRoom (ℕ × Bool)) → slice_get code k ≡ Some (instr.Spawn xs 0) → IsHoleOf k left
+  pub inside : (p : ℕ) (xs : WithRoom (ℕ × Bool)) (m : ℕ) → slice_get code p ≡ Some (instr.Spawn xs (suc m)) → suc m < length code
+  pub before : (p : ℕ) (xs : WithRoom (ℕ × Bool)) (m : ℕ) → slice_get code p ≡ Some (instr.Spawn xs (suc m)) → (k : ℕ) → IsHoleOf k left → p < k
+  pub rising : (p q : ℕ) (xs ys : WithRoom (ℕ × Bool)) (m n : ℕ) → p < q → slice_get code p ≡ Some (instr.Spawn xs (suc m)) → slice_get code q ≡ Some (instr.Spawn ys (suc n)) → m < n
+
+-- where an instruction that starts a thread comes from, once one more thread has its code: it is new, the one of that thread, or was there
+pub data Comes (a : List Instr) (hole : ℕ) (owed : List Body) (p : ℕ) (xs : WithRoom (ℕ × Bool)) (to : ℕ) : Type 0 where
+  is_new : length a ≤ p → to ≡ 0 → IsHoleOf p owed → Comes a hole owed p xs to
+  is_started : p ≡ hole → to ≡ length a → Comes a hole owed p xs to
+  was_there : p ≢ hole → slice_get a p ≡ Some (instr.Spawn xs to) → Comes a hole owed p xs to
+
+not_both : {A : Type 0} {n m : ℕ} → n ≡ suc m → n ≡ 0 → A
+not_both e f = absurd (omega (arith, e, f))
 
 -- the program's code stands in each later code in which the threads are started whose bodies are left; with these the code has
 -- a place for each instruction
 pub record Waits (fs : List Form) (code : List Instr) (left : List Body) (r : Run) : Type 0 where
   pub holes : AreHoles fs code 0 left (length code)
-  pub few : length code + all_steps fs left < 2 ^ 32
+  pub size : length code + all_steps fs left ≡ steps_left r + 1
   pub stands : (b : List Instr) → Agrees code b 0 (length code) → AreStarted fs b left → IsCodeOf b r
+  pub order : InOrder code left
+
+-- behind main's code no instruction that starts a thread has a place yet
+main_order : (f : List Instr) (cs : List Body) → AreOwed f 0 cs → InOrder f cs
+main_order f cs owed = record {
+  complete = λ k xs h. (owed k xs 0 (omega arith) h).1;
+  inside = λ p xs m h. not_both refl ((owed p xs (suc m) (omega arith) h).0);
+  before = λ p xs m h k q. not_both refl ((owed p xs (suc m) (omega arith) h).0);
+  rising = λ p q xs ys m n lt g h. not_both refl ((owed p xs (suc m) (omega arith) g).0);
+}
+
+-- with no body left the bodies rise
+rise : (a : List Instr) → InOrder a [] → BodiesRise a
+rise a w p q xs ys zero n lt g h = absurd (w.complete p xs g)
+rise a w p q xs ys (suc m) zero lt g h = absurd (w.complete q ys h)
+rise a w p q xs ys (suc m) (suc n) lt g h = let l = w.rising p q xs ys m n lt g h in omega (arith, l)
 
 module _ (fs : List Form) where
   -- a thread whose code was added at the end, and whose place stands in the instruction that starts it
@@ -84,6 +121,8 @@ module _ (fs : List Form) where
         added = em.added;
         holes = holes_kept fs c f n (length c) (length f) em.owed (λ k i lo. g.same k i) g.longer (subst (λ m. AreHoles fs c m em.owed (length c)) len em.holes);
         steps = omega (arith, len, one, em.steps, ap thread_steps is);
+        new = owed_append c (instr.End v ∷ []) f n em.owed end (one_starts (instr.End v) refl) (subst (λ m. AreOwed c m em.owed) len em.new);
+        placed = λ ys to q. same_place (gb.same e.hole (instr.Spawn xs n) (subst (λ z. slice_get z e.hole ≡ Some (instr.Spawn xs n)) (sym same) (set_there a e.hole (instr.Spawn xs n) (instr.Spawn xs 0) h.there))) q;
         at = λ d ag st. subst (λ s. At d e.hole s (e.hole + 1)) (sym is) (
           xs,
           n,
@@ -100,21 +139,82 @@ module _ (fs : List Form) where
   -- THE QUEUE
 
   -- behind the main thread's code
-  pub main_waits : (a c f : List Instr) (bs cs : List Body) (o : Operand) (r : Run) → length a ≡ 0 → bs ≡ [] → IsEmitted fs a c bs cs o r → f ≡ c ++ instr.End o ∷ [] → IsSource r → steps_left r + 1 < 2 ^ 32 → Waits fs f cs r
-  main_waits a c f bs cs o r empty none h e src few =
+  pub main_waits : (a c f : List Instr) (bs cs : List Body) (o : Operand) (r : Run) → length a ≡ 0 → bs ≡ [] → IsEmitted fs a c bs cs o r → f ≡ c ++ instr.End o ∷ [] → IsSource r → Waits fs f cs r
+  main_waits a c f bs cs o r empty none h e src =
       let g = grows_append c (instr.End o ∷ []) f e in
       let len = pushed_len c f (instr.End o) e in
       let owed : cs ≡ h.owed = h.added ∙ ap (λ z. z ++ h.owed) none in
       record {
         holes = subst (λ z. AreHoles fs f 0 z (length f)) (sym owed) (holes_kept fs c f 0 (length c) (length f) h.owed (λ k i lo. g.same k i) g.longer (subst (λ m. AreHoles fs c m h.owed (length c)) empty h.holes));
-        few = omega (arith, few, len, h.steps, empty, ap (all_steps fs) owed);
+        size = omega (arith, len, h.steps, empty, ap (all_steps fs) owed);
         stands = λ b ag st. record {
           to = length c;
           at = subst (λ m. At b m r (length c)) empty (h.at b (part_agrees c f b 0 (length f) (length a) (length c) g (omega arith) g.longer ag) (subst (AreStarted fs b) owed st));
           over = pushed_at c f b (instr.End o) 0 e refl (omega arith) ag ∙ ap (λ z. Some (instr.End z)) h.operand;
           source = src;
         };
+        order = main_order f cs (subst (AreOwed f 0) (sym owed) (owed_append c (instr.End o ∷ []) f 0 h.owed e (one_starts (instr.End o) refl) (subst (λ m. AreOwed c m h.owed) empty h.new)));
       }
+
+  -- WHERE THE INSTRUCTIONS THAT START THREADS STAND
+
+  comes : (a f : List Instr) (e : Body) (bs cs : List Body) (p : ℕ) (xs : WithRoom (ℕ × Bool)) (to : ℕ) → (s : IsStarted fs a f bs cs e) → slice_get f p ≡ Some (instr.Spawn xs to) → Comes a e.hole s.owed p xs to
+  comes a f e bs cs p xs to s h = by (slice_get a p) refl
+    where
+      later : length a ≤ p → Comes a e.hole s.owed p xs to
+      later le = let q = s.new p xs to le h in is_new le q.0 q.1
+
+      by : (o : Option Instr) → slice_get a p ≡ o → Comes a e.hole s.owed p xs to
+      by None q = later (past a p q)
+      by (Some j) q = eq_cases (λ b. Comes a e.hole s.owed p xs to) p e.hole
+          (λ same. is_started same (s.placed xs to (ap (slice_get f) (sym same) ∙ h)))
+          (λ ne. was_there ne (q ∙ (sym (s.kept p j ne q) ∙ h)))
+
+  holes_after : (code : List Instr) (n : ℕ) (bs : List Body) (m k : ℕ) → AreHoles fs code n bs m → IsHoleOf k bs → n ≤ k
+  holes_after code n [] m k h q = absurd q
+  holes_after code n (b ∷ bs) m k h (inl e) = let l = h.0 in omega (arith, l, e)
+  holes_after code n (b ∷ bs) m k h (inr q) = let l = h.0 in let r = holes_after code (b.hole + 1) bs m k h.2 q in omega (arith, l, r)
+
+  turn_order : (a f : List Instr) (e : Body) (left bs cs : List Body) → AreHoles fs a 0 (e ∷ left) (length a) → InOrder a (e ∷ left) → (s : IsStarted fs a f bs cs e) → InOrder f (left ++ s.owed)
+  turn_order a f e left bs cs holes w s = record {
+    complete = λ k xs h. complete k xs (comes a f e bs cs k xs 0 s h);
+    inside = λ p xs m h. inside p xs m (comes a f e bs cs p xs (suc m) s h);
+    before = λ p xs m h k q. before p xs m k (comes a f e bs cs p xs (suc m) s h) (hole_either k left s.owed q);
+    rising = λ p q xs ys m n lt g h. rising p q xs ys m n lt (comes a f e bs cs p xs (suc m) s g) (comes a f e bs cs q ys (suc n) s h);
+  }
+    where
+      hole_there : e.hole < length a
+      hole_there = slice_get_within a e.hole (instr.Spawn holes.1.captures 0) holes.1.there
+
+      complete : (k : ℕ) (xs : WithRoom (ℕ × Bool)) → Comes a e.hole s.owed k xs 0 → IsHoleOf k (left ++ s.owed)
+      complete k xs (is_new le z q) = hole_second k left s.owed q
+      complete k xs (is_started same to) = absurd (omega (arith, to, hole_there))
+      complete k xs (was_there ne h) = by (w.complete k xs h)
+        where
+          by : IsHoleOf k (e ∷ left) → IsHoleOf k (left ++ s.owed)
+          by (inl same) = absurd (ne (sym same))
+          by (inr q) = hole_first k left s.owed q
+
+      inside : (p : ℕ) (xs : WithRoom (ℕ × Bool)) (m : ℕ) → Comes a e.hole s.owed p xs (suc m) → suc m < length f
+      inside p xs m (is_new le z q) = absurd cc
+      inside p xs m (is_started same to) = omega (arith, to, s.longer)
+      inside p xs m (was_there ne h) = omega (arith, w.inside p xs m h, s.longer)
+
+      before : (p : ℕ) (xs : WithRoom (ℕ × Bool)) (m k : ℕ) → Comes a e.hole s.owed p xs (suc m) → IsHoleOf k left ⊎ IsHoleOf k s.owed → p < k
+      before p xs m k (is_new le z q) h = absurd cc
+      before p xs m k (is_started same to) (inl h) = omega (arith, same, holes_after a (e.hole + 1) left (length a) k holes.2 h)
+      before p xs m k (is_started same to) (inr h) = omega (arith, same, hole_there, holes_after f (length a) s.owed (length f) k s.holes h)
+      before p xs m k (was_there ne g) (inl h) = w.before p xs m g k (inr h)
+      before p xs m k (was_there ne g) (inr h) = omega (arith, slice_get_within a p (instr.Spawn xs (suc m)) g, holes_after f (length a) s.owed (length f) k s.holes h)
+
+      rising : (p q : ℕ) (xs ys : WithRoom (ℕ × Bool)) (m n : ℕ) → p < q → Comes a e.hole s.owed p xs (suc m) → Comes a e.hole s.owed q ys (suc n) → m < n
+      rising p q xs ys m n lt (is_new le z h) d = absurd cc
+      rising p q xs ys m n lt (is_started same to) (is_new le z h) = absurd cc
+      rising p q xs ys m n lt (is_started same to) (is_started same2 to2) = absurd (omega (arith, lt, same, same2))
+      rising p q xs ys m n lt (is_started same to) (was_there ne h) = absurd (omega (arith, lt, same, w.before q ys n h e.hole (inl refl)))
+      rising p q xs ys m n lt (was_there ne g) (is_new le z h) = absurd cc
+      rising p q xs ys m n lt (was_there ne g) (is_started same to) = omega (arith, to, w.inside p xs m g)
+      rising p q xs ys m n lt (was_there ne g) (was_there ne2 h) = w.rising p q xs ys m n lt g h
 
   -- one thread more
   turn : (a f : List Instr) (e : Body) (left bs cs : List Body) (r : Run) → Waits fs a (e ∷ left) r → (s : IsStarted fs a f bs cs e) → Waits fs f (left ++ s.owed) r
@@ -122,10 +222,11 @@ module _ (fs : List Form) where
     holes = holes_join fs f 0 (length a) (length f) left s.owed
         (holes_from fs f 0 (e.hole + 1) (length a) left (omega arith)
         (holes_kept fs a f (e.hole + 1) (length a) (length a) left (λ k i lo at. s.kept k i (λ q. absurd (omega (arith, lo, q))) at) (omega arith) w.holes.2)) s.holes;
-    few = omega (arith, w.few, s.steps, steps_join fs left s.owed);
+    size = omega (arith, w.size, s.steps, steps_join fs left s.owed);
     stands = λ b ag st.
         w.stands b (λ k i lo hi at known. ag k i lo (omega (arith, hi, s.longer)) (s.kept k i (elsewhere a k e.hole i w.holes.1.captures w.holes.1.there at known) at) known)
         (s.at b ag (started_last fs b left s.owed st), started_first fs b left s.owed st);
+    order = turn_order a f e left bs cs w.holes w.order s;
   }
 
   pub next_hole : (a : List Instr) (bs : List Body) (k : ℕ) (d : Body) (r : Run) → k < length bs → Waits fs a (drop k bs) r → IsHole fs a (get_or bs k d)
@@ -151,3 +252,11 @@ module _ (fs : List Form) where
   -- past the last body the program's code stands
   pub all_started : (a : List Instr) (bs : List Body) (k : ℕ) (r : Run) → length bs ≤ k → Waits fs a (drop k bs) r → IsCodeOf a r
   all_started a bs k r le w = (subst (λ z. Waits fs a z r) (none_left bs k le) w).stands a (λ n i lo hi at known. at) tt
+
+  -- and has no other instruction
+  pub all_counted : (a : List Instr) (bs : List Body) (k : ℕ) (r : Run) → length bs ≤ k → Waits fs a (drop k bs) r → length a ≡ steps_left r + 1
+  all_counted a bs k r le w = let size = (subst (λ z. Waits fs a z r) (none_left bs k le) w).size in omega (arith, size)
+
+  -- the bodies rise
+  pub all_rise : (a : List Instr) (bs : List Body) (k : ℕ) (r : Run) → length bs ≤ k → Waits fs a (drop k bs) r → BodiesRise a
+  all_rise a bs k r le w = rise a ((subst (λ z. Waits fs a z r) (none_left bs k le) w).order)

@@ -1,10 +1,11 @@
 -- What the compiler adds to code for a term (this project's rule): it stands there, and in each later code that has the same
 -- instructions at these places and in which the threads are started whose bodies it left for later.
-use Rattle.std.specs.Prelude.{◌≡◌, ◌≢◌, ℕ, zero, suc, ◌+◌, ◌<◌, ◌≤◌, false, List, [], ◌∷◌, ◌++◌, length, Some, slice_get}
+use Rattle.std.specs.Prelude.{◌≡◌, ◌≢◌, ◌⊎◌, ℕ, zero, suc, ◌+◌, ◌<◌, ◌≤◌, Bool, true, false, List, [], ◌∷◌, ◌++◌, length, Some, slice_get}
 use Rattle.fr_base.specs.declared.instruction.Operand.{Operand}
 use Rattle.fr_base.specs.declared.instruction.Operand.TheVariants as operand
 use Rattle.fr_base.specs.declared.instruction.Instr.{Instr}
 use Rattle.fr_base.specs.declared.instruction.Instr.TheVariants as instr
+use Rattle.fr_base.specs.Rooms.{WithRoom}
 use Rattle.fr_plain.specs.Run.{Run, Parts, steps_left, steps_in}
 use Rattle.fr_meaning.specs.declared.forms.Form.{Form}
 use Rattle.fr_meaning.specs.FormTerms.{term_of}
@@ -15,6 +16,20 @@ use Rattle.fr_compile.specs.Bodies.{is_hole, AreHoles, AreStarted, thread_steps,
 -- what stands at these places of the first code stands there in the second one, where it is no hole
 abbrev pub Agrees : List Instr → List Instr → ℕ → ℕ → Type 0
 Agrees a b p q = (k : ℕ) (i : Instr) → p ≤ k → k < q → slice_get a k ≡ Some i → is_hole i ≡ false → slice_get b k ≡ Some i
+
+-- the instruction starts a thread
+abbrev pub starts_thread : Instr → Bool
+starts_thread (instr.Spawn captures body) = true
+starts_thread _ = false
+
+-- the place is the hole of one of these bodies
+abbrev pub IsHoleOf : ℕ → List Body → Type 0
+IsHoleOf k [] = ⊥
+IsHoleOf k (b ∷ bs) = (b.hole ≡ k) ⊎ IsHoleOf k bs
+
+-- from that place on each instruction that starts a thread is the hole of one of these bodies
+abbrev pub AreOwed : List Instr → ℕ → List Body → Type 0
+AreOwed f n bs = (k : ℕ) (xs : WithRoom (ℕ × Bool)) (to : ℕ) → n ≤ k → slice_get f k ≡ Some (instr.Spawn xs to) → (to ≡ 0) × IsHoleOf k bs
 
 -- nothing that was there is changed
 pub record Grows (a f : List Instr) : Type 0 where
@@ -30,6 +45,7 @@ pub record IsEmitted (forms : List Form) (a f : List Instr) (before after : List
   pub added : after ≡ before ++ owed
   pub holes : AreHoles forms f (length a) owed (length f)
   pub steps : length f + all_steps forms owed ≡ length a + steps_left r
+  pub new : AreOwed f (length a) owed
   pub at : (b : List Instr) → Agrees f b (length a) (length f) → AreStarted forms b owed → At b (length a) r (length f)
 
 -- the code of a block's items was added
@@ -40,6 +56,7 @@ pub record ArePartsEmitted (forms : List Form) (a f : List Instr) (before after 
   pub added : after ≡ before ++ owed
   pub holes : AreHoles forms f (length a) owed (length f)
   pub steps : length f + all_steps forms owed ≡ length a + steps_in is
+  pub new : AreOwed f (length a) owed
   pub at : (b : List Instr) → Agrees f b (length a) (length f) → AreStarted forms b owed → AtParts b (length a) is (length f)
 
 -- a thread's code was added, and its place put into the instruction that starts it: it is started in each later code that has
@@ -51,6 +68,8 @@ pub record IsStarted (forms : List Form) (a f : List Instr) (before after : List
   pub added : after ≡ before ++ owed
   pub holes : AreHoles forms f (length a) owed (length f)
   pub steps : length f + all_steps forms owed ≡ length a + thread_steps (term_of forms started.form)
+  pub new : AreOwed f (length a) owed
+  pub placed : (xs : WithRoom (ℕ × Bool)) (to : ℕ) → slice_get f started.hole ≡ Some (instr.Spawn xs to) → to ≡ length a
   pub at : (b : List Instr) → Agrees f b 0 (length f) → AreStarted forms b owed → At b started.hole (term_of forms started.form) (started.hole + 1)
 
 -- a value before a `;` is given up

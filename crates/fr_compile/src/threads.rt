@@ -4,7 +4,7 @@ ghost use Rattle.std.specs.Prelude.{◌≡◌, ◌+◌, ◌<◌, ◌^◌, length
 ghost use Rattle.fr_plain.specs.Run.{steps_left};
 ghost use Rattle.fr_meaning.specs.FormTerms.{root_of, AreInOrder};
 ghost use Rattle.fr_code.specs.StandsFor.{IsCodeOf};
-ghost use Rattle.fr_compile.specs.Bodies.{IsHole};
+ghost use Rattle.fr_compile.specs.Bodies.{BodiesRise, IsHole};
 ghost use Rattle.fr_compile.specs.Emitting.{IsStarted};
 
 use crate::body::Body;
@@ -37,13 +37,15 @@ fn emit_body(
 }
 
 /// The code of the last form's term: the main thread's, and behind it that of the new threads, in the order in which the
-/// instructions that start them stand in the code.
+/// instructions that start them stand in the code. It has an instruction for each step of the term, and one more, and no others.
 pub fn emit_threads(alloc: Global, forms: &[Form], code: &mut Code) -> Result<(), NoMemory>
     requires order { AreInOrder forms.now }
     requires some { 0 < length forms.now }
     requires empty { length code.old.items ≡ 0 }
     requires few { steps_left (root_of forms.now) + 1 < 2 ^ 32 }
-    ensures { OnOk result (IsCodeOf code.new.items (root_of forms.now)) }
+    ensures code { OnOk result (IsCodeOf code.new.items (root_of forms.now)) }
+    ensures length { OnOk result (length code.new.items ≡ steps_left (root_of forms.now) + 1) }
+    ensures order { OnOk result (BodiesRise code.new.items) }
 {
     let mut bodies = Vec::new(alloc);
     let value = emit(alloc, forms, forms.len() - 1, code, &mut bodies)?;
