@@ -4,8 +4,8 @@ use Rattle.fr_base.specs.declared.label.Plain.{Plain}
 use Rattle.fr_base.specs.declared.label.Label.{Label}
 use Rattle.fr_base.specs.declared.name.ObjNo.{ObjNo}
 use Rattle.fr_base.specs.declared.step.Fresh.TheVariants as fresh
-use Rattle.fr_typing.specs.Kinds.{Owned, Kind, Piece, whole}
-use Rattle.fr_typing.specs.Places.{Env}
+use Rattle.fr_typing.specs.Kinds.{Owned, unit, Kind, own, shared, mutable, view, Piece, whole, gone}
+use Rattle.fr_typing.specs.Places.{Env, AreBelow, piece_places}
 use Rattle.fr_plain.specs.declared.value.Value.{Value}
 use Rattle.fr_plain.specs.declared.value.Value.TheVariants.{Own, ToSlot, ToObject, Held}
 use Rattle.fr_plain.specs.State.{drops}
@@ -18,6 +18,8 @@ use Rattle.fr_sound.specs.Entries.{Entry, going}
 use Rattle.fr_sound.specs.Seen.{Gives}
 use Rattle.fr_sound.specs.States.{Typing}
 use Rattle.fr_store.specs.Store.{gone_v}
+use Rattle.fr_store.specs.Typed.{Tree}
+use Rattle.fr_store.specs.Below.{TreeOf}
 use Rattle.plain_types.specs.Positions.{Position, moves_by, StartsAs}
 use Rattle.plain_types.specs.ActRows.{Leaves, quiet, left_after, Pops, ActRow, r_discard}
 use Rattle.plain_types.specs.Keeps.{Ready, StepsTyped, Keeps}
@@ -30,7 +32,6 @@ use Rattle.plain_types.proofs.Operands.{Loaded, load, hand_value}
 use Rattle.plain_types.proofs.Done.{runs_here, only_here, step_by}
 use Rattle.drop_types.specs.Drops.{with_carrier}
 use Rattle.drop_types.specs.DropActs.{IsDiscard}
-use Rattle.drop_types.proofs.Handed.{own_part}
 use Rattle.drop_types.proofs.Prepared.{name_for, name_free, beside, prepared_at, prepared_focus, prepared_keys, prepared_over}
 use Rattle.drop_types.proofs.HandGoes.{hand_tree, hand_goes}
 use Rattle.drop_types.proofs.Dropped.{IsTyped, Dropping, drop_typed}
@@ -50,9 +51,20 @@ record DiscardRow (x : Entry) (vs : List Value) (v : Value) (l : Leaves) (z : En
 discard_row : {x z : Entry} {vs : List Value} {v : Value} {l : Leaves} → ActRow StartsAs x vs (do_discard v) l z → DiscardRow x vs v l z
 discard_row (r_discard {e = e} {ts = ts} {us = us} {ws = ws} {g = g} {k = k} pops) = record { env = e; before = ts; after = us; left = ws; result = g; kind = k; pops = pops; entry = refl; leaves = refl; comes = refl }
 
+-- the part of a value of that type at hand that is dropped
+abbrev pub owned_piece : Kind → Piece
+owned_piece (own o) = whole (own o)
+owned_piece k = gone (own unit)
+
+owned_piece_of : (k : Kind) (t : Tree) → TreeOf (whole k) t → TreeOf (owned_piece k) t × AreBelow 0 (piece_places (owned_piece k))
+owned_piece_of (own o) t h = (h, tt)
+owned_piece_of (shared us) t h = absurd h
+owned_piece_of (mutable us) t h = absurd h
+owned_piece_of (view o) t h = absurd h
+
 -- an owned value at hand comes to a carrier, where its thread goes on in the state s without it
 pub carried : {a0 : PlainState Position} {n : ℕ} {x : Running Position} {e : Env} {us : List Kind} {g : Owned} {k : Kind} {v : Plain} {ws : List Value} (l : Loaded a0 n x e us g k (Own v) ws) (s : Machine Position) → Only a0 (plain_state s) n (record { place = record { entry = going e us g; temps = ws }; slots = x.slots })
-    → ((o : ObjNo) → (plain_state s).object o ≡ a0.object o) → (t : Thread Position) → thread_at s.threads n ≡ Some t → (y : Typing) × (q : Piece) × Dropping (name_for s) s y q v
+    → ((o : ObjNo) → (plain_state s).object o ≡ a0.object o) → (t : Thread Position) → thread_at s.threads n ≡ Some t → (y : Typing) × Dropping (name_for s) s y (owned_piece k) v
 carried {a0 = a0} {n = n} {x = x} {e = e} {us = us} {g = g} {k = k} {v = v} {ws = ws} l s only objects t found =
     let u = name_for s in
     let free = name_free s in
@@ -63,19 +75,18 @@ carried {a0 = a0} {n = n} {x = x} {e = e} {us = us} {g = g} {k = k} {v = v} {ws 
     let at = prepared_at l.at u none in
     let fc = prepared_focus l.at u none us (Some k) top_some (λ q. cc) in
     let tree = hand_tree at fc l.waits v ws l.temps in
-    let q = own_part (whole k) tree.0 tree.2 in (
+    let q = owned_piece_of k tree.0 tree.2 in (
       _,
-      q.0,
       record {
         none = free;
-        carries = hand_goes at fc l.waits v ws l.temps u none (prepared_keys l.at u none) (prepared_over l.at u none) (plain_state s) (plain_state (with_carrier s u q.0 (l.typing.gives.result u) v)) here (λ o. objects o ∙ sym (l.objects o)) q.0 tree.0 tree.1 q.1 q.2 (beside s u q.0 (l.typing.gives.result u) v free);
+        carries = hand_goes at fc l.waits v ws l.temps u none (prepared_keys l.at u none) (prepared_over l.at u none) (plain_state s) (plain_state (with_carrier s u (owned_piece k) (l.typing.gives.result u) v)) here (λ o. objects o ∙ sym (l.objects o)) (owned_piece k) tree.0 tree.1 q.0 q.1 (beside s u (owned_piece k) (l.typing.gives.result u) v free);
       },
     )
 
 -- and is dropped
 pub discarded : {a0 : PlainState Position} {n : ℕ} {x : Running Position} {e : Env} {us : List Kind} {g : Owned} {k : Kind} {v : Plain} {ws : List Value} (l : Loaded a0 n x e us g k (Own v) ws) (s : Machine Position) → Only a0 (plain_state s) n (record { place = record { entry = going e us g; temps = ws }; slots = x.slots })
     → ((o : ObjNo) → (plain_state s).object o ≡ a0.object o) → (t : Thread Position) → thread_at s.threads n ≡ Some t → IsTyped (dropped s v)
-discarded {v = v} l s only objects t found = let c = carried l s only objects t found in drop_typed (name_for s) s c.0 c.1 v c.2
+discarded {k = k} {v = v} l s only objects t found = let c = carried l s only objects t found in drop_typed (name_for s) s c.0 (owned_piece k) v c.1
 
 -- a value at hand that is counted nowhere goes
 light_gone : {a0 : PlainState Position} {n : ℕ} {x : Running Position} {e : Env} {us : List Kind} {g : Owned} {k : Kind} {v : Value} {ws : List Value} (l : Loaded a0 n x e us g k v ws) (s : Machine Position) → Only a0 (plain_state s) n (record { place = record { entry = going e us g; temps = ws }; slots = x.slots })

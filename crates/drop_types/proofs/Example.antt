@@ -1,11 +1,11 @@
 -- Typed states in which a drop is asked for.
-use Rattle.std.proofs.Common.{[], ◌∷◌, refl}
-use Rattle.fr_typing.specs.Kinds.{int, unit}
+use Rattle.std.proofs.Common.{[], ◌∷◌, refl, arith}
+use Rattle.fr_typing.specs.Kinds.{int, unit, own, whole}
 use Rattle.fr_plain.specs.MachineThreads.{alive}
 use Rattle.fr_plain.specs.PlainState.{plain_state}
-use Rattle.plain_types.specs.ActRows.{quiet, pops_unit, pops_int, r_discard, r_drop, ends_as}
+use Rattle.plain_types.specs.ActRows.{quiet, pops_unit, pops_int, r_assign, r_discard, r_drop, ends_as}
 use Rattle.plain_types.specs.Keeps.{is_main}
-use Rattle.plain_types.specs.Example.{first, main, begun, alone_at, one, bound}
+use Rattle.plain_types.specs.Example.{first, main, begun, alone_at, one, variable, bound}
 use Rattle.plain_types.proofs.Hand.{At}
 use Rattle.plain_types.proofs.Operands.{load}
 use Rattle.plain_types.proofs.Threads.{still_here}
@@ -16,7 +16,7 @@ use Rattle.plain_types.specs.Positions.{PositionTypes}
 use Rattle.fr_sound.specs.States.{Typing}
 use Rattle.fr_plain.specs.MachineActs.{do_let}
 use Rattle.fr_plain.specs.declared.value.Value.TheVariants.{Own}
-use Rattle.drop_types.specs.Example.{DropIsReady, DiscardIsReady, EndIsReady, SlotIsReady}
+use Rattle.drop_types.specs.Example.{DropIsReady, DiscardIsReady, EndIsReady, SlotIsReady, AssignIsReady}
 use Rattle.drop_types.specs.DropActs.{main_ends}
 use Rattle.drop_types.proofs.Discards.{carried}
 
@@ -29,7 +29,7 @@ main_at_first = record { state = print_is_ready.1.state; runs = refl; entry = re
 pub drop_is_ready : DropIsReady
 drop_is_ready =
     let c = carried (load print_is_ready.0 (plain_state begun) 0 (record { place = first; slots = [] }) [] unit main_at_first refl (pops_int _ refl)) begun (still_here begun main first alive is_main refl refl) (λ o. refl) main refl in
-    (c.0, c.1, c.0.gives.result 1, refl, c.2.carries.state)
+    (c.0, whole (own int), c.0.gives.result 1, refl, c.1.carries.state)
 
 pub end_is_ready : EndIsReady
 end_is_ready = (print_is_ready.0, record { state = print_is_ready.1.state; found = refl; by = main_ends; at = refl; ends = ends_as (pops_unit refl) })
@@ -39,3 +39,18 @@ bound_typed = follows (record { state = alone_at (bound int) (Own one ∷ []) []
 
 pub slot_is_ready : SlotIsReady
 slot_is_ready = (bound_typed.0, record { state = bound_typed.1; found = refl; goes_on = is_main; at = refl; leaves = quiet []; after = going [] [] unit; row = r_drop refl refl refl; comes = λ v. refl })
+
+pub assign_is_ready : AssignIsReady
+assign_is_ready = (
+  bound_typed.0,
+  record {
+    state = bound_typed.1;
+    found = refl;
+    goes_on = is_main;
+    at = refl;
+    leaves = quiet [];
+    after = going (variable int ∷ []) [] unit;
+    row = r_assign (pops_int _ refl) (record { named = refl; short = omega arith; is = refl }) (record { free = refl; path = refl }) refl refl refl;
+    comes = λ v. refl;
+  },
+)

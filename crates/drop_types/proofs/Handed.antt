@@ -88,14 +88,14 @@ module _ {y : Typing} {a a2 : PlainState Position} {t u : ℕ} {h0 : Key} {p : P
   abbrev h : Key
   h = slot_k u 0
 
-  abbrev T2 : KeyTypes
-  T2 = with_type (with_type y.exact h0 (owns hole)) (slot_k u 0) (owns tr)
+  abbrev types : KeyTypes
+  types = with_type (with_type y.exact h0 (owns hole)) (slot_k u 0) (owns tr)
 
   abbrev s1 : Store
   s1 = store y a
 
   abbrev s2 : Store
-  s2 = store (typing_with y T2 y.marks) a2
+  s2 = store (typing_with y types y.marks) a2
 
   abbrev T : ℕ → Bool
   T = either t u
@@ -117,12 +117,12 @@ module _ {y : Typing} {a a2 : PlainState Position} {t u : ℕ} {h0 : Key} {p : P
   alike = alike_swap s1 s2 h (at_key h0) (owned_val y.gives v) (λ e. apart (let f : h0 ≡ h = cc in sym f)) (ap Some c.was) same (ap Some (c.now ∙ sym was_h)) c.came
 
   pub handed_typed : Typed y.rank (with_type (with_type y.exact h0 (owns hole)) (slot_k u 0) (owns tr)) (store (typing_with y (with_type (with_type y.exact h0 (owns hole)) (slot_k u 0) (owns tr)) y.marks) a2)
-  handed_typed = same_store y.rank T2 T2 (swap s1 h (at_key h0)) s2 (swap_own y.rank y.exact s1 h h0 0 hole tr tr (at_key h0) c.state.typed free_h apart (hole_slot y a c.state u c.none 0) c.free c.full refl refl) (λ j. refl) alike
+  handed_typed = same_store y.rank types types (swap s1 h (at_key h0)) s2 (swap_own y.rank y.exact s1 h h0 0 hole tr tr (at_key h0) c.state.typed free_h apart (hole_slot y a c.state u c.none 0) c.free c.full refl refl) (λ j. refl) alike
 
   pub handed_off : (k : Key) → k ≢ slot_k u 0 → k ≢ h0 → with_type (with_type y.exact h0 (owns hole)) (slot_k u 0) (owns tr) k ≡ y.exact k
   handed_off k nh n0 = key_other k h (owns tr) (with_type y.exact h0 (owns hole) k) nh ∙ key_other k h0 (owns hole) (y.exact k) n0
 
-  here_type : T2 h ≡ owns tr
+  here_type : types h ≡ owns tr
   here_type = key_same h (owns tr) (with_type y.exact h0 (owns hole) h)
 
   pub handed_gone : with_type (with_type y.exact h0 (owns hole)) (slot_k u 0) (owns tr) h0 ≡ owns hole
@@ -135,11 +135,11 @@ module _ {y : Typing} {a a2 : PlainState Position} {t u : ℕ} {h0 : Key} {p : P
   handed_held n i m z runs mark = same (y.marks n i) (mark_off y a n i m z h c.state runs mark free_h) (mark_off y a n i m z h0 c.state runs mark c.free)
 
   -- THE CARRIER
-  thread : ThreadTyped (slot_k u) y.rank (temp_k u 0) (slot_of_part p ∷ []) T2 s2 None
+  thread : ThreadTyped (slot_k u) y.rank (temp_k u 0) (slot_of_part p ∷ []) types s2 None
   thread = record {
     typed = handed_typed;
     nested = (c.nested, tt);
-    slots = (subst (ExactOf (slot_k u) T2 p) (sym here_type) c.tree, tt);
+    slots = (subst (ExactOf (slot_k u) types p) (sym here_type) c.tree, tt);
     above = λ i le. handed_off (slot_k u i) (λ e. let f : i ≡ 0 = cc in omega (arith, f, le)) (λ e. not_u e refl) ∙ hole_slot y a c.state u c.none i;
     temp = handed_off (temp_k u 0) (λ e. cc) (λ e. not_u e refl) ∙ hole_temp y a c.state u c.none 0;
     names = tt;
@@ -151,7 +151,7 @@ module _ {y : Typing} {a a2 : PlainState Position} {t u : ℕ} {h0 : Key} {p : P
       not_u : {k : Key} → k ≡ h0 → thread_of_key k ≡ Some u → ⊥
       not_u e f = let g : Some u ≡ Some t = sym f ∙ ap thread_of_key e ∙ c.of in let q : t ≡ u = cc in c.differ q
 
-  core : RunningCore (typing_with y T2 y.marks) s2 u (a2.pair u) (carries p (y.gives.result u) v)
+  core : RunningCore (typing_with y types y.marks) s2 u (a2.pair u) (carries p (y.gives.result u) v)
   core = record {
     entry = going (slot_of_part p ∷ []) [] (y.gives.result u);
     known = refl;
@@ -204,26 +204,26 @@ module _ {y : Typing} {a a2 : PlainState Position} {t u : ℕ} {h0 : Key} {p : P
   carried : Carried s1 s2
   carried = carried_swap s1 s2 h (at_key h0) same (ap Some (c.now ∙ sym was_h)) (ap Some (c.came ∙ sym c.was))
 
-  off_result : (n : ℕ) → T2 (result_k n) ≡ y.exact (result_k n)
+  off_result : (n : ℕ) → types (result_k n) ≡ y.exact (result_k n)
   off_result n = handed_off (result_k n) (λ e. cc) (λ e. let f : None ≡ Some t = ap thread_of_key e ∙ c.of in cc)
 
-  off_content : (m : MutexNo) → T2 (content_k m.home m.count) ≡ y.exact (content_k m.home m.count)
+  off_content : (m : MutexNo) → types (content_k m.home m.count) ≡ y.exact (content_k m.home m.count)
   off_content m = handed_off (content_k m.home m.count) (λ e. cc) (λ e. let f : None ≡ Some t = ap thread_of_key e ∙ c.of in cc)
 
-  results : (n : ℕ) (r : Value) → a2.thread n ≡ Some (ended r) → T2 (result_k n) ≡ owns (tree_of (y.gives.result n))
+  results : (n : ℕ) (r : Value) → a2.thread n ≡ Some (ended r) → types (result_k n) ≡ owns (tree_of (y.gives.result n))
   results n r e =
       let nt : n ≢ t = λ z. c.unended r (ap a2.thread (sym z) ∙ e) in
       let nu : n ≢ u = λ z. (let f : Some (loose (carries p (y.gives.result u) v)) ≡ Some (ended r) = sym c.here ∙ ap a2.thread (sym z) ∙ e in cc) in
       off_result n ∙ c.state.results n r (sym (c.others n nt nu) ∙ e)
 
-  other_keys : (k : Key) → theirs T k ≡ false → T2 k ≡ y.exact k
+  other_keys : (k : Key) → theirs T k ≡ false → types k ≡ y.exact k
   other_keys k e = handed_off k (λ f. let g : true ≡ false = sym (either_second t u) ∙ sym (ap (theirs T) f) ∙ e in cc) (λ f. let g : true ≡ false = sym (key_theirs T h0 t c.of (either_first t u)) ∙ sym (ap (theirs T) f) ∙ e in cc)
 
   -- THE STATE, where the thread is typed
   module _ (typed_there : (z : Running Position) → place_in (a2.thread t) ≡ Some z → RunningCore (typing_with y (with_type (with_type y.exact h0 (owns hole)) (slot_k u 0) (owns tr)) y.marks) (store (typing_with y (with_type (with_type y.exact h0 (owns hole)) (slot_k u 0) (owns tr)) y.marks) a2) t (a2.pair t) z) where
-    mine : (n : ℕ) (z : Running Position) → (n ≡ t) ⊎ (n ≡ u) → place_in (a2.thread n) ≡ Some z → RunningCore (typing_with y T2 y.marks) s2 n (a2.pair n) z
-    mine n z (inl e) f = subst (λ i. RunningCore (typing_with y T2 y.marks) s2 i (a2.pair i) z) (sym e) (typed_there z (ap (λ i. place_in (a2.thread i)) (sym e) ∙ f))
-    mine n z (inr e) f = subst (λ i. RunningCore (typing_with y T2 y.marks) s2 i (a2.pair i) z) (sym e) (mine_by (typing_with y T2 y.marks) s2 a2 u (carries p (y.gives.result u) v) z (ap place_in c.here) core (ap (λ i. place_in (a2.thread i)) (sym e) ∙ f))
+    mine : (n : ℕ) (z : Running Position) → (n ≡ t) ⊎ (n ≡ u) → place_in (a2.thread n) ≡ Some z → RunningCore (typing_with y types y.marks) s2 n (a2.pair n) z
+    mine n z (inl e) f = subst (λ i. RunningCore (typing_with y types y.marks) s2 i (a2.pair i) z) (sym e) (typed_there z (ap (λ i. place_in (a2.thread i)) (sym e) ∙ f))
+    mine n z (inr e) f = subst (λ i. RunningCore (typing_with y types y.marks) s2 i (a2.pair i) z) (sym e) (mine_by (typing_with y types y.marks) s2 a2 u (carries p (y.gives.result u) v) z (ap place_in c.here) core (ap (λ i. place_in (a2.thread i)) (sym e) ∙ f))
 
     pub handed : Carries (typing_with y (with_type (with_type y.exact h0 (owns hole)) (slot_k u 0) (owns tr)) y.marks) a2 u p v
     handed = record {
@@ -233,22 +233,22 @@ module _ {y : Typing} {a a2 : PlainState Position} {t u : ℕ} {h0 : Key} {p : P
         others = λ n z q e. let ne = either_not t u n q in sym (ap place_in (c.others n ne.0 ne.1)) ∙ e;
         pairs = λ n q. c.pairs n;
         same = other_keys;
-        of = of_by y a a2 T T2 c.state handed_refs;
-        near = near_by y a a2 T T2 c.state handed_refs (λ n b e. c.pairs n ∙ e);
-        named = named_by y a a2 T T2 c.state handed_refs;
+        of = of_by y a a2 T types c.state handed_refs;
+        near = near_by y a a2 T types c.state handed_refs (λ n b e. c.pairs n ∙ e);
+        named = named_by y a a2 T types c.state handed_refs;
         nobody = nobody_by y a T c.state (λ n q. no_pairs n (either_is t u n q));
         marks = λ n i q. refl;
         held = λ n i m z q runs mark. handed_held n i m z runs mark;
         results = results;
         branches = λ q b d e. let k = c.state.pairs q b d (sym (c.pairs q) ∙ e) in (k.0, branch q b k.1, branch q d k.2);
         parents = parents;
-        there = there_by y a a2 T2 _ c.state c.stays carried (λ m q. tt);
-        mutexes = mutexes_by y a a2 T2 _ c.state c.stays carried (λ m q. tt) off_content;
+        there = there_by y a a2 types _ c.state c.stays carried (λ m q. tt);
+        mutexes = mutexes_by y a a2 types _ c.state c.stays carried (λ m q. tt) off_content;
         one_task = λ l m n b q e f. sym (carried.to_from l) ∙ ap carried.to (c.state.one_task (carried.from l) (carried.from m) n b q (carried.back l (task_v n b) tt e) (carried.back m (task_v n q) tt f)) ∙ carried.to_from m;
         tasks_owed = λ l n r e. owed_to n (c.state.tasks_owed (carried.from l) n r (carried.back l (task_v n r) tt e));
         owed_stand = λ n d. let f = c.state.owed_stand n (owed_back n d) in (carried.to f.0, f.1, carried.there f.0 (task_v n f.1) tt f.2);
-        objects_there = objects_by y a a2 T2 _ c.state c.stays carried (λ o. tt);
-        objects_owned = owned_by y a a2 T2 _ c.state c.stays carried (λ o. tt);
+        objects_there = objects_by y a a2 types _ c.state c.stays carried (λ o. tt);
+        objects_owned = owned_by y a a2 types _ c.state c.stays carried (λ o. tt);
         objects_made = c.stays.made;
       });
       here = c.here;

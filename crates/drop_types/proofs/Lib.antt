@@ -21,3 +21,10 @@ pub mod EndGoes
 pub mod Ends
 pub mod SlotGoes
 pub mod SlotDrops
+pub mod Parts
+pub mod Placed
+pub mod Exchanged
+pub mod Puts
+pub mod Lent
+pub mod Targets
+pub mod Assigns

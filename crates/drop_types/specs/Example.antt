@@ -5,13 +5,13 @@ use Rattle.fr_base.specs.declared.label.Plain.TheVariants as plain
 use Rattle.fr_typing.specs.Kinds.{Owned, int, Piece}
 use Rattle.fr_plain.specs.declared.value.Value.{Value}
 use Rattle.fr_plain.specs.declared.value.Value.TheVariants.{Own}
-use Rattle.fr_plain.specs.MachineActs.{do_discard, do_drop, do_end, unit as unit_value}
+use Rattle.fr_plain.specs.MachineActs.{do_assign, do_discard, do_drop, do_end, unit as unit_value}
 use Rattle.fr_plain.specs.MachineThreads.{alive, thread_at}
 use Rattle.fr_plain.specs.PlainState.{plain_state}
 use Rattle.fr_sound.specs.States.{Typing}
 use Rattle.plain_types.specs.Positions.{PositionTypes}
 use Rattle.plain_types.specs.Keeps.{Ready}
-use Rattle.plain_types.specs.Example.{first, main, begun, main_at, alone_at, one, bound}
+use Rattle.plain_types.specs.Example.{first, main, begun, main_at, alone_at, one, the_variable, bound}
 use Rattle.drop_types.specs.Drops.{with_carrier}
 use Rattle.drop_types.specs.DropActs.{AtLast}
 
@@ -32,3 +32,10 @@ EndIsReady = (y : Typing) × AtLast y begun main first alive do_end unit_value
 -- where it has bound a number, the slot may go
 abbrev pub SlotIsReady : Type 0
 SlotIsReady = (y : Typing) × Ready y (alone_at (bound int) (Own one ∷ []) [] []) (main_at (bound int) (Own one ∷ [])) (bound int) alive do_drop (λ (v : Value). first)
+
+abbrev pub two : Plain
+two = plain.Int (pos 2)
+
+-- and 2 may be assigned to it
+abbrev pub AssignIsReady : Type 0
+AssignIsReady = (y : Typing) × Ready y (alone_at (bound int) (Own one ∷ []) [] []) (main_at (bound int) (Own one ∷ [])) (bound int) alive (do_assign the_variable (Own two)) (λ (v : Value). bound int)

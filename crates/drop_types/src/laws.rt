@@ -1,8 +1,8 @@
 //! Laws of drops.
 
-ghost use Rattle.drop_types.specs.DropActs.{EndKeeps, IsDiscard, IsDrop};
+ghost use Rattle.drop_types.specs.DropActs.{EndKeeps, IsAssignOwned, IsDiscard, IsDrop};
 ghost use Rattle.drop_types.specs.Drops.{DropKeeps};
-ghost use Rattle.drop_types.specs.Example.{DiscardIsReady, DropIsReady, EndIsReady, SlotIsReady};
+ghost use Rattle.drop_types.specs.Example.{AssignIsReady, DiscardIsReady, DropIsReady, EndIsReady, SlotIsReady};
 ghost use Rattle.plain_types.specs.Keeps.{Keeps};
 
 /// A drop leaves a typed state (`keeps`): where a state is typed in which the value that is dropped stands in the one slot of a thread of
@@ -14,18 +14,21 @@ pub fn drops_keep_types()
 
 /// In a typed state, with whatever threads, mutexes and pairs, an act of this form that a row grants can be done without a new name, and
 /// leaves a typed state: a value at hand goes, whatever it owns (`discard`); so does the newest slot with its value, whatever moved out of
-/// it (`slot`), and the result of main, or of a thread whose task was dropped, and the thread is over (`end`).
+/// it (`slot`), and the result of main, or of a thread whose task was dropped, and the thread is over (`end`); and so does what stood where an
+/// owned value is assigned, over boxes alone or through mutable references, whatever moved out of it (`assign`).
 pub fn dropping_acts_keep_types()
     ensures discard { Keeps IsDiscard }
     ensures slot { Keeps IsDrop }
     ensures end { EndKeeps }
+    ensures assign { Keeps IsAssignOwned }
 {}
 
-/// At main's start a number may be discarded, and main may end; where it has bound a number, the slot may go; and there is a typed state with a number that is carried beside main. So what the laws
+/// At main's start a number may be discarded, and main may end; where it has bound a number, the slot may go, and another number may be assigned to it; and there is a typed state with a number that is carried beside main. So what the laws
 /// above ask for can be met.
 pub fn drops_are_ready()
     ensures keeps { DropIsReady }
     ensures discard { DiscardIsReady }
     ensures end { EndIsReady }
     ensures slot { SlotIsReady }
+    ensures assign { AssignIsReady }
 {}

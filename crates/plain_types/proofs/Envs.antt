@@ -105,7 +105,7 @@ part_is (boxed p) t o h e = by o (sym h.1 ∙ e) (λ a f. part_is p h.0 a h.2 f)
     by (task a) f go = cc
 
 -- a box around a part is of the box's type
-owned_box : (p : Piece) → owned_part (box_of p) ≡ map_some box (owned_part p)
+pub owned_box : (p : Piece) → owned_part (box_of p) ≡ map_some box (owned_part p)
 owned_box (whole (own o)) = refl
 owned_box (whole (shared us)) = refl
 owned_box (whole (mutable us)) = refl

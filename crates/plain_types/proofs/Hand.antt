@@ -216,7 +216,7 @@ made_put : (a : PlainState Position) (t : ℕ) (x : Running Position) → (u : �
 unfolding put_running
 made_put a t x u = refl
 
-with_twice : (l : Option (Life (Running Position))) (x z : Running Position) → with_running (with_running l x) z ≡ with_running l z
+pub with_twice : (l : Option (Life (Running Position))) (x z : Running Position) → with_running (with_running l x) z ≡ with_running l z
 with_twice None x z = refl
 with_twice (Some (alive q)) x z = refl
 with_twice (Some over) x z = refl

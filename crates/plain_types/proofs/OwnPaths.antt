@@ -99,7 +99,7 @@ tree_put (suc n) new (whole (mutable us)) th t t0 h e f = absurd h
 tree_put (suc n) new (whole (view o)) th t t0 h e f = absurd h
 
 -- the slots after a write under a variable's own boxes
-slots_put : (key : ℕ → Key) (E : KeyTypes) (e : List Slot) (w : Lval) (new : Piece) (th t t0 : Tree) → Apart key → SlotsBelow key E e → Unnamed E (key w.slot) → E (key w.slot) ≡ owns t → tree_under w.depth t ≡ Some t0 → TreeOf new th
+pub slots_put : (key : ℕ → Key) (E : KeyTypes) (e : List Slot) (w : Lval) (new : Piece) (th t t0 : Tree) → Apart key → SlotsBelow key E e → Unnamed E (key w.slot) → E (key w.slot) ≡ owns t → tree_under w.depth t ≡ Some t0 → TreeOf new th
     → SlotsBelow key (with_type E (key w.slot) (owns (put_tree w.depth th t))) (put_at e w new)
 slots_put key E [] w new th t t0 differ h free is un f = tt
 slots_put key E (s ∷ e) w new th t t0 differ h free is un f =

@@ -1,5 +1,5 @@
 use Rattle.drop_types.proofs.laws.drops_are_ready.Goals as goal
-use Rattle.drop_types.proofs.Example.{drop_is_ready, discard_is_ready, end_is_ready, slot_is_ready}
+use Rattle.drop_types.proofs.Example.{drop_is_ready, discard_is_ready, end_is_ready, slot_is_ready, assign_is_ready}
 
 pub returns-clause-keeps : goal.returns-clause-keeps
 returns-clause-keeps c = drop_is_ready
@@ -12,3 +12,6 @@ returns-clause-end c = end_is_ready
 
 pub returns-clause-slot : goal.returns-clause-slot
 returns-clause-slot c = slot_is_ready
+
+pub returns-clause-assign : goal.returns-clause-assign
+returns-clause-assign c = assign_is_ready
