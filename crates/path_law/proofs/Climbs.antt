@@ -51,7 +51,7 @@ no_reference g (owned.Mutex m) l e = absurd cc
 no_reference g (owned.Task t) l e = absurd cc
 
 -- the holder is the place with one star less
-held_as : (slot stars depth : ℕ) (r : MutRef) → depth ≡ suc stars → is_held_at slot depth r.holder ≡ true → (r.holder.slot ≡ slot) × (r.holder.depth ≡ stars)
+pub held_as : (slot stars depth : ℕ) (r : MutRef) → depth ≡ suc stars → is_held_at slot depth r.holder ≡ true → (r.holder.slot ≡ slot) × (r.holder.depth ≡ stars)
 held_as slot stars depth r d e = by (r.holder.slot == slot) (r.holder.depth == stars) refl refl (subst (λ z. is_held_at slot z r.holder ≡ true) d e)
   where
     by : (a b : Bool) → (r.holder.slot == slot) ≡ a → (r.holder.depth == stars) ≡ b → a && b ≡ true → (r.holder.slot ≡ slot) × (r.holder.depth ≡ stars)
@@ -68,10 +68,10 @@ key_no_object e = absurd cc
 abbrev star_of : Val → Option StoreLocation
 star_of v = star_target (Some v)
 
-ref_is : {l m : StoreLocation} → ref_v l ≡ ref_v m → l ≡ m
+pub ref_is : {l m : StoreLocation} → ref_v l ≡ ref_v m → l ≡ m
 ref_is e = cc
 
-and_second : (a b : Bool) → a && b ≡ true → b ≡ true
+pub and_second : (a b : Bool) → a && b ≡ true → b ≡ true
 and_second true b e = e
 and_second false b e = absurd cc
 
@@ -107,7 +107,7 @@ module _ (k : Cluster) (c : HasPaths k) (x : Standing) (g : GoesOn k x) where
   named_unmarked i j u is key m e = (mark_unnamed k c x g j m e) (slot_k n i) true u is key
 
   -- a value that isn't astray leads as the place does
-  right_place : (w : Lval) (v : Value) → astray ground n (refers true (record { key = slot_k n w.slot; depth = w.depth })) v ≡ 0 → leads_as ground n w v ≡ true
+  pub right_place : (w : Lval) (v : Value) → astray ground n (refers true (record { key = slot_k n w.slot; depth = w.depth })) v ≡ 0 → leads_as ground n w v ≡ true
   right_place w v z = eq_cases (λ b. if_so b (other (leads_as ground n w v)) ≡ 0 → leads_as ground n w v ≡ true) n n (λ e y. none_else (leads_as ground n w v) y) (λ ne y. absurd (ne refl)) z
 
   -- the mutable reference in a slot, and the pointer from which it was made

@@ -1,18 +1,20 @@
 -- The value in a slot has the form of its exact type: where that is a mutable reference, so is the value.
-use Rattle.std.proofs.Common.{◌≡◌, inl, inr, ℕ, zero, suc, ◌+◌, ◌==◌, not, Bool, true, false, if◌then◌else◌, List, [], ◌∷◌, ◌++◌, length, reverse, Option, Some, None, is_some, refl, sym, ap, subst, ◌∙◌, arith}
+use Rattle.std.proofs.Common.{◌≡◌, inl, inr, ℕ, zero, suc, ◌+◌, ◌==◌, not, Bool, true, false, if◌then◌else◌, List, [], ◌∷◌, ◌++◌, length, reverse, Option, Some, None, is_some, refl, sym, ap, subst, ◌∙◌, arith, ◌<◌}
 use Rattle.std.specs.Prelude.{slice_get}
 use Rattle.std.proofs.lemmas.Grind.{reverse_onto}
 use Rattle.fr_typing.proofs.PlaceLemmas.{eq_cases}
-use Rattle.fr_typing.specs.Kinds.{Piece, whole, gone, boxed, own, shared, mutable, view}
+use Rattle.fr_typing.specs.Kinds.{Kind, Piece, whole, gone, boxed, own, shared, mutable, view}
 use Rattle.fr_typing.specs.Places.{Slot, Env}
 use Rattle.fr_base.specs.declared.place.Lval.{Lval}
-use Rattle.fr_store.specs.Keys.{Key, slot_k}
+use Rattle.fr_store.specs.Keys.{Key, slot_k, temp_k}
 use Rattle.fr_store.specs.Store.{Place as StorePlace}
-use Rattle.fr_store.specs.Typed.{refers, KeyTypes}
+use Rattle.fr_store.specs.Thread.{TempIs}
+use Rattle.fr_store.specs.Typed.{owns, int_tree, refers, KeyTypes}
 use Rattle.fr_store.specs.Below.{ExactOf, RefOf, SlotsBelow}
-use Rattle.fr_sound.specs.States.{RunningTyped, IsThread, hand_key, hand_kind}
+use Rattle.fr_sound.specs.States.{RunningTyped, IsThread, hand_key, hand_kind, operands}
 use Rattle.fr_code.specs.Steps.{Place}
 use Rattle.fr_code.specs.CodeTypes.{is_variable}
+use Rattle.mut_borrow.specs.declared.mutable.MutRef.{MutRef}
 use Rattle.mut_borrow.specs.declared.shared.SharedRef.{SharedRef}
 use Rattle.thread_state.specs.declared.value.Value.{Value}
 use Rattle.thread_state.specs.declared.value.Value.TheVariants as value
@@ -23,7 +25,7 @@ use Rattle.heap_law.specs.Sight.{sight}
 use Rattle.heap_law.specs.Sharing.{is_over}
 use Rattle.heap_law.specs.OneHeap.{one_heap, running_at}
 use Rattle.type_law.specs.Names.{NameTypes, names_of}
-use Rattle.type_law.specs.ClusterTypes.{KnownAt, astray, all_astray, astray_of, slot_form, slots_wrong, has_form, entry_wrong, forms_of}
+use Rattle.type_law.specs.ClusterTypes.{temps_wrong, is_mark, KnownAt, astray, all_astray, astray_of, slot_form, slots_wrong, has_form, entry_wrong, forms_of}
 use Rattle.path_law.specs.HeapStore.{GoesOn, heap_store, HasPaths}
 use Rattle.path_law.proofs.Shown.{none_else, some_is, is_running, length_one_more}
 
@@ -129,6 +131,58 @@ astray_at E g t key j zero (w ∷ vs) v z e =
     subst (λ n. astray g t (E (key n)) v ≡ 0) (omega arith) (subst (λ y. astray g t (E (key j)) y ≡ 0) same here_it)
 astray_at E g t key j (suc i) (w ∷ vs) v z e = subst (λ n. astray g t (E (key n)) v ≡ 0) (omega arith) (astray_at E g t key (j + 1) i vs v (omega (arith, z)) e)
 
+-- the part of a value whose exact type is a reference
+pub record HasPiece (key : ℕ → Key) (E : KeyTypes) (n : NameTypes) (a : Key) (v : Value) : Type 0 where
+  pub piece : Piece
+  pub exact : ExactOf key E piece (E a)
+  pub form : has_form n piece v ≡ true
+
+named_piece : (key : ℕ → Key) (E : KeyTypes) (n : NameTypes) (s : Slot) (a : Key) (v : Value) → is_mark v ≡ false → ExactOf key E s.part (E a) → slot_form n s (is_some s.name) v ≡ true → HasPiece key E n a v
+named_piece key E n s a v plain ex = by (is_some s.name)
+  where
+    by : (b : Bool) → slot_form n s b v ≡ true → HasPiece key E n a v
+    by true f = record { piece = s.part; exact = ex; form = f }
+    by false f = let z : false ≡ true = sym plain ∙ f in absurd cc
+
+-- a mutable reference has the exact type of one, of a place of its own thread
+pub mutable_own : (key : ℕ → Key) (E : KeyTypes) (n : NameTypes) (p : Piece) (m : Bool) (u : StorePlace) (q : MutRef) → ExactOf key E p (refers m u) → has_form n p (value.Mut q) ≡ true
+    → (m ≡ true) × (w : Lval) × (u ≡ (record { key = key w.slot; depth = w.depth }))
+mutable_own key E n (whole (own o)) m u q x f = absurd x
+mutable_own key E n (whole (shared us)) m u q x f = absurd cc
+mutable_own key E n (whole (mutable us)) m u q x f = (x.0, x.1.place, x.1.is)
+mutable_own key E n (whole (view o)) m u q x f = absurd cc
+mutable_own key E n (gone k) m u q x f = absurd x
+mutable_own key E n (boxed p) m u q x f = absurd x
+
+same_count : (n : NameTypes) (ks : List Kind) (vs : List Value) → temps_wrong n ks vs ≡ 0 → length ks ≡ length vs
+same_count n [] [] z = refl
+same_count n [] (v ∷ vs) z = absurd cc
+same_count n (k ∷ ks) [] z = absurd cc
+same_count n (k ∷ ks) (v ∷ vs) z = ap suc (same_count n ks vs (omega (arith, z)))
+
+within_behind : {A : Type 0} (xs : List A) (i : ℕ) (v : A) → at_behind xs i ≡ Some v → i < length xs
+within_behind [] i v e = absurd cc
+within_behind (x ∷ xs) i v e = eq_cases (λ b. (if b then Some x else at_behind xs i) ≡ Some v → i < suc (length xs)) i (length xs) (λ q f. omega (arith, q)) (λ ne f. omega (arith, within_behind xs i v f)) e
+
+temp_behind : (t : ℕ) (E : KeyTypes) (n : NameTypes) (ks : List Kind) (vs : List Value) (i : ℕ) (v : Value) (m : Bool) (u : StorePlace) → temps_wrong n ks vs ≡ 0 → TempIs (slot_k t) E (hand_key t ks) (hand_kind ks)
+    → ((j : ℕ) → j < operands ks → E (temp_k t j) ≡ owns int_tree) → at_behind vs i ≡ Some v → E (temp_k t i) ≡ refers m u → HasPiece (slot_k t) E n (temp_k t i) v
+temp_behind t E n [] [] i v m u z hand waits e is = absurd cc
+temp_behind t E n [] (w ∷ vs) i v m u z hand waits e is = absurd cc
+temp_behind t E n (k ∷ ks) [] i v m u z hand waits e is = absurd cc
+temp_behind t E n (k ∷ ks) (w ∷ vs) i v m u z hand waits e is =
+    let lengths = same_count n ks vs (omega (arith, z)) in
+    eq_cases (λ b. (if b then Some w else at_behind vs i) ≡ Some v → HasPiece (slot_k t) E n (temp_k t i) v) i (length vs)
+    (λ q f.
+    let here_it : i ≡ length ks = q ∙ sym lengths in
+    let form : has_form n (whole k) w ≡ true = none_else (has_form n (whole k) w) (omega (arith, z)) in
+    record { piece = whole k; exact = subst (λ j. ExactOf (slot_k t) E (whole k) (E (temp_k t j))) (sym here_it) hand; form = subst (λ y. has_form n (whole k) y ≡ true) (some_is f) form })
+    (λ ne f.
+    let inside = within_behind vs i v f in
+    let int_there = waits i (omega (arith, inside, lengths)) in
+    let y : owns int_tree ≡ refers m u = sym int_there ∙ is in
+    absurd cc)
+    e
+
 module _ (k : Cluster) (c : HasPaths k) (x : Standing) (g : GoesOn k x) where
   abbrev pub names : NameTypes
   names = names_of c.types.object c.types.typing.gives
@@ -173,3 +227,32 @@ module _ (k : Cluster) (c : HasPaths k) (x : Standing) (g : GoesOn k x) where
       let all = none_of (λ y. astray_of c.types.typing.exact (sight k).ground y.thread) x (sight k).ground.threads c.types.lead g.among in
       subst (λ j. astray (sight k).ground x.thread.number (c.types.typing.exact (slot_k x.thread.number j)) v ≡ 0) (omega arith)
       (astray_at c.types.typing.exact (sight k).ground x.thread.number (slot_k x.thread.number) 0 i x.thread.slots v (omega (arith, all)) e)
+
+  -- the part that typing gives a value with an exact type that is a reference, where it is no mark
+  pub slot_piece : (i : ℕ) (v : Value) → is_mark v ≡ false → slice_get x.thread.slots i ≡ Some v → HasPiece (slot_k x.thread.number) c.types.typing.exact names (slot_k x.thread.number i) v
+  slot_piece i v plain e = let q = slot_part i v e in named_piece (slot_k x.thread.number) c.types.typing.exact names q.slot (slot_k x.thread.number i) v plain q.exact q.form
+
+  temps_right : temps_wrong names running_typed.entry.temps (reverse x.thread.temps) ≡ 0
+  temps_right =
+      let all = none_of (λ y. if_so (not (is_over y.thread.phase)) (entry_wrong (forms_of names y.thread) (c.types.table y.thread.pc))) x (sight k).ground.threads c.types.forms g.among in
+      let here_it : entry_wrong (forms_of names x.thread) (c.types.table x.thread.pc) ≡ 0 = sym (ap (λ b. if_so (not b) (entry_wrong (forms_of names x.thread) (c.types.table x.thread.pc))) g.going) ∙ all in
+      let known : forms_of names x.thread running_typed.entry ≡ 0 = sym (ap (entry_wrong (forms_of names x.thread)) running_typed.known) ∙ here_it in
+      omega (arith, known)
+
+  hand_is : TempIs (slot_k x.thread.number) c.types.typing.exact (hand_key x.thread.number running_typed.entry.temps) (hand_kind running_typed.entry.temps)
+  hand_is = by running_typed.entry.forked running_typed.thread
+    where
+      by : (b : Bool) → IsThread b (slot_k x.thread.number) c.types.typing.rank (hand_key x.thread.number running_typed.entry.temps) running_typed.entry.env c.types.typing.exact (heap_store k c.types) (hand_kind running_typed.entry.temps)
+          → TempIs (slot_k x.thread.number) c.types.typing.exact (hand_key x.thread.number running_typed.entry.temps) (hand_kind running_typed.entry.temps)
+      by true t = t.temp
+      by false t = t.temp
+
+  pub temp_piece : (i : ℕ) (v : Value) (m : Bool) (u : StorePlace) → slice_get x.thread.temps i ≡ Some v → c.types.typing.exact (temp_k x.thread.number i) ≡ refers m u → HasPiece (slot_k x.thread.number) c.types.typing.exact names (temp_k x.thread.number i) v
+  temp_piece i v m u e is =
+      temp_behind x.thread.number c.types.typing.exact names running_typed.entry.temps (reverse x.thread.temps) i v m u temps_right hand_is running_typed.waiting (behind_is x.thread.temps i ∙ e) is
+
+  pub temp_not_astray : (i : ℕ) (v : Value) → slice_get x.thread.temps i ≡ Some v → astray (sight k).ground x.thread.number (c.types.typing.exact (temp_k x.thread.number i)) v ≡ 0
+  temp_not_astray i v e =
+      let all = none_of (λ y. astray_of c.types.typing.exact (sight k).ground y.thread) x (sight k).ground.threads c.types.lead g.among in
+      subst (λ j. astray (sight k).ground x.thread.number (c.types.typing.exact (temp_k x.thread.number j)) v ≡ 0) (omega arith)
+      (astray_at c.types.typing.exact (sight k).ground x.thread.number (temp_k x.thread.number) 0 i x.thread.temps v (omega (arith, all)) e)

@@ -1,4 +1,5 @@
 pub mod Sole
+pub mod Circles
 pub mod Shown
 pub mod Alike
 pub mod Origins
@@ -8,3 +9,4 @@ pub mod InState
 pub mod Pointers
 pub mod MayWrites
 pub mod Contained
+pub mod FreshPaths

@@ -185,7 +185,7 @@ module _ (k : Cluster) (c : HasPaths k) (x : Standing) (g : GoesOn k x) where
           let form : slot_form (names k c x g) q.slot true (value.Held m) ≡ true = subst (λ b. slot_form (names k c x g) q.slot b (value.Held m) ≡ true) (sym q.variable ∙ named) q.form in
           no_mark (names k c x g) q.slot.part m form
 
-  may_write_there : (i : Instr) (w : Lval) → instr_of (sight k) x ≡ Some i → WritesTo i w → MayWrite k c.types x w
+  pub may_write_there : (i : Instr) (w : Lval) → instr_of (sight k) x ≡ Some i → WritesTo i w → MayWrite k c.types x w
   may_write_there i w at writes =
       let row = c.types.is_table.rows x.thread.pc entry (running_typed k c x g).known in
       let same : row.instruction ≡ i = some_is (sym row.there ∙ at) in

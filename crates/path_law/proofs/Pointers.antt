@@ -83,11 +83,11 @@ module _ (k : Cluster) (c : HasPaths k) where
   with_temp x i v h e = going x h (λ over. not_empty x.thread.temps i v (bare x h over).1 e)
 
   -- where a thing of a thread stands: a slot or a temporary value
-  record Stood (l : Location) (v : Value) : Type 0 where
-    thread : Standing
-    goes : GoesOn k thread
-    number : ℕ
-    at : ((l ≡ at_slot thread.thread.number number) × (slice_get thread.thread.slots number ≡ Some v)) ⊎ ((l ≡ at_temp thread.thread.number number) × (slice_get thread.thread.temps number ≡ Some v))
+  pub record Stood (l : Location) (v : Value) : Type 0 where
+    pub thread : Standing
+    pub goes : GoesOn k thread
+    pub number : ℕ
+    pub at : ((l ≡ at_slot thread.thread.number number) × (slice_get thread.thread.slots number ≡ Some v)) ⊎ ((l ≡ at_temp thread.thread.number number) × (slice_get thread.thread.temps number ≡ Some v))
 
   stood_from : (y : Thing) (l : Location) (v : Value) → placed y ≡ 1 → Among y (things_of k)
       → ((s t i : ℕ) (w : Value) → Among y (slot_things s t i w) → (w ≡ v) × (l ≡ at_slot t i))
@@ -113,7 +113,7 @@ module _ (k : Cluster) (c : HasPaths k) where
       by (of_none z) = absurd (omega (arith, one, z))
       by (of_thread x hx q) = ⊎_elim (λ (a : Listed (slot_things x.server x.thread.number) y 0 x.thread.slots). in_slot_so x hx a) (λ (b : Listed (temp_things x.server x.thread.number) y 0 x.thread.temps). in_temp_so x hx b) (in_slots x.server x.packed x.thread y one q)
 
-  borrowed_at : (l : Location) (r : MutRef) → Among (borrows l r) (things_of k) → Stood l (value.Mut r)
+  pub borrowed_at : (l : Location) (r : MutRef) → Among (borrows l r) (things_of k) → Stood l (value.Mut r)
   borrowed_at l r h =
       stood_from (borrows l r) l (value.Mut r) refl h (λ s t i w q. borrow_value s (in_slot t i) (at_slot t i) l r w q) (λ s t i w q. borrow_value s (in_temp t i) (at_temp t i) l r w q)
 

@@ -1,5 +1,5 @@
 -- WHO POINTS TO WHAT A THREAD WRITES, over the locations of a coherent cluster (Featherweight Rust's borrow invariance, made exact; this project's rule).
-use Rattle.std.specs.Prelude.{◌≡◌, ◌⊎◌, ℕ, suc, true, Some}
+use Rattle.std.specs.Prelude.{◌≡◌, ◌⊎◌, ℕ, suc, ◌<◌, true, Some}
 use Rattle.fr_base.specs.declared.name.ObjNo.{ObjNo}
 use Rattle.fr_base.specs.declared.place.Lval.{Lval}
 use Rattle.fr_base.specs.declared.instruction.Operand.{Operand}
@@ -9,6 +9,7 @@ use Rattle.mut_borrow.specs.declared.mutable.MutRef.{MutRef}
 use Rattle.mut_borrow.specs.declared.shared.SharedRef.{SharedRef}
 use Rattle.mut_borrow.specs.Refs.{changed}
 use Rattle.thread_state.specs.declared.value.Value.TheVariants as value
+use Rattle.thread_state.specs.declared.phase.Phase.TheVariants as phase
 use Rattle.server_model.specs.Servers.{Cluster}
 use Rattle.fr_store.specs.Keys.{Key, slot_k}
 use Rattle.fr_store.specs.Typed.{Exact, Resolves, Unnamed}
@@ -46,6 +47,16 @@ pub data WritesTo : Instr → Lval → Type 0 where
 -- typing grants it
 abbrev pub MayWriteThere : Type 0
 MayWriteThere = (k : Cluster) (c : HasPaths k) (x : Standing) (i : Instr) (w : Lval) → GoesOn k x → instr_of (sight k) x ≡ Some i → WritesTo i w → MayWrite k c.types x w
+
+-- a thread that hasn't taken the object for a mutable borrow: no pointer that a place of its instruction follows for writing is stale
+abbrev pub WrittenAreFresh : Type 0
+WrittenAreFresh = (k : Cluster) (c : HasPaths k) (x : Standing) (i : Instr) (w : Lval) (d : ℕ) (l : Location) → GoesOn k x → instr_of (sight k) x ≡ Some i → WritesTo i w → ((v : ℕ) → x.thread.phase ≡ phase.Taken v → ⊥) → d < w.depth
+    → locate (sight k).ground x.thread.number w.slot d ≡ Some l → IsStale (sight k) (Some l) → ⊥
+
+-- threads that follow a pointer in common for writing are one thread
+abbrev pub WrittenAreApart : Type 0
+WrittenAreApart = (k : Cluster) (c : HasPaths k) (x z : Standing) (i j : Instr) (w v : Lval) (d e : ℕ) (l : Location) → GoesOn k x → GoesOn k z → instr_of (sight k) x ≡ Some i → instr_of (sight k) z ≡ Some j → WritesTo i w → WritesTo j v → d < w.depth → e < v.depth
+    → locate (sight k).ground x.thread.number w.slot d ≡ Some l → locate (sight k).ground z.thread.number v.slot e ≡ Some l → x.thread.number ≡ z.thread.number
 
 -- the last star of the place follows the pointer at h, which leads to the object
 pub record LastHop (g : Ground) (t : ℕ) (w : Lval) (h : Location) (o : ObjNo) : Type 0 where

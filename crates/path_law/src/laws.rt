@@ -2,7 +2,7 @@
 
 ghost use Rattle.path_law.specs.Above.{SolePointer};
 ghost use Rattle.path_law.specs.HeapStore.{CoherentHasPaths, PlacesLeadAlike};
-ghost use Rattle.path_law.specs.Pointing.{AboveIsStale, MayWriteThere, SolePointers};
+ghost use Rattle.path_law.specs.Pointing.{AboveIsStale, MayWriteThere, SolePointers, WrittenAreApart, WrittenAreFresh};
 
 /// A place of a thread of a cluster leads, star by star, to where it leads in the one heap that the cluster stands for; and a place that typing gives a
 /// type leads somewhere. What is asked of the cluster (`HasPaths`) every coherent one has.
@@ -23,4 +23,11 @@ pub fn one_may_write()
 /// In every cluster, what stands above a changed mutable reference, or above a stale pointer, is stale.
 pub fn those_above_are_stale()
     ensures { AboveIsStale }
+{}
+
+/// No pointer that a place of an assignment, a move or a mutable borrow follows at its thread's instruction is stale, unless that thread has taken the
+/// object for the borrow itself: no mutable reference was made from such a pointer, and no place of another thread meets it.
+pub fn written_are_fresh()
+    ensures fresh { WrittenAreFresh }
+    ensures apart { WrittenAreApart }
 {}

@@ -4,4 +4,4 @@
 
 mod laws;
 
-pub use laws::{one_may_write, places_lead_alike, those_above_are_stale};
+pub use laws::{one_may_write, places_lead_alike, those_above_are_stale, written_are_fresh};
