@@ -6,14 +6,14 @@ use Rattle.fr_base.specs.declared.place.Lval.{Lval}
 use Rattle.fr_base.specs.declared.step.Fresh.TheVariants as fresh
 use Rattle.fr_typing.specs.Kinds.{Owned, Kind, own, shared, mutable, view, Piece, whole}
 use Rattle.fr_typing.specs.Places.{Env, found, on_path, is_lent, is_mutable, is_writable, is_own_path, owned_shape, piece_shape, shape_at, type_at, put_at}
-use Rattle.fr_typing.specs.Checks.{has_shape_of, set_through}
+use Rattle.fr_typing.specs.Checks.{is_kept_out, has_shape_of, names_from, set_through}
 use Rattle.fr_typing.specs.Finding.{IsOpen}
 use Rattle.fr_store.specs.Keys.{slot_k}
 use Rattle.fr_store.specs.Typed.{Tree}
 use Rattle.fr_store.specs.Below.{TreeOf}
 use Rattle.fr_plain.specs.declared.value.Value.{Value}
 use Rattle.fr_plain.specs.declared.value.Value.TheVariants.{Own}
-use Rattle.fr_plain.specs.State.{drops, stores, with_value, then_reached}
+use Rattle.fr_plain.specs.State.{drops, in_slot, slot_at, stores, with_slot, with_value, then_reached}
 use Rattle.fr_plain.specs.State as machine
 use Rattle.fr_plain.specs.MachineActs.{do_assign, assign_did, end_of_some, where_reached, unit as unit_value}
 use Rattle.fr_plain.specs.MachineThreads.{Now, Move, Life, Thread, Whole as Machine, state_of, with_thread, dropped}
@@ -25,7 +25,7 @@ use Rattle.fr_sound.specs.States.{Typing}
 use Rattle.fr_code.specs.CodeTypes.{HasType}
 use Rattle.plain_types.specs.Positions.{Position, moves_by, StartsAs}
 use Rattle.plain_types.specs.ActRows.{Leaves, quiet, left_after, Pops, ActRow, r_assign}
-use Rattle.plain_types.specs.Keeps.{Ready, StepsTyped, Keeps}
+use Rattle.plain_types.specs.Keeps.{Ready, StepsTyped}
 use Rattle.plain_types.proofs.Raised.{raised_typing}
 use Rattle.plain_types.proofs.Focus.{top_some}
 use Rattle.plain_types.proofs.Hand.{At, ranked}
@@ -33,7 +33,6 @@ use Rattle.plain_types.proofs.Operands.{Loaded, load}
 use Rattle.plain_types.proofs.Places.{variable_below}
 use Rattle.plain_types.proofs.Done.{runs_here, only_here, step_by}
 use Rattle.drop_types.specs.Drops.{with_carrier}
-use Rattle.drop_types.specs.DropActs.{IsAssignOwned}
 use Rattle.drop_types.proofs.Prepared.{name_for}
 use Rattle.drop_types.proofs.HandGoes.{hand_tree}
 use Rattle.drop_types.proofs.Discards.{carried}
@@ -42,24 +41,26 @@ use Rattle.drop_types.proofs.Parts.{shape_is}
 use Rattle.drop_types.proofs.Puts.{Target, before, at_before, focus_before, carries_before, differ_before, standing, put_down}
 use Rattle.drop_types.proofs.Targets.{own_target, lent_target}
 
-record AssignRow (x : Entry) (vs : List Value) (w : Lval) (v : Value) (l : Leaves) (z : Entry) : Type 0 where
-  env : Env
-  temps : List Kind
-  after : List Kind
-  left : List Value
-  result : Owned
-  kind : Kind
-  piece : Piece
-  pops : Pops temps vs v kind after left
-  is : HasType env w (found piece)
-  open_place : IsOpen env w
-  shape : has_shape_of env piece kind ≡ true
-  entry : x ≡ going env temps result
-  leaves : l ≡ quiet left
-  comes : z ≡ going (set_through env w kind) after result
+pub record AssignRow (x : Entry) (vs : List Value) (w : Lval) (v : Value) (l : Leaves) (z : Entry) : Type 0 where
+  pub env : Env
+  pub temps : List Kind
+  pub after : List Kind
+  pub left : List Value
+  pub result : Owned
+  pub kind : Kind
+  pub piece : Piece
+  pub pops : Pops temps vs v kind after left
+  pub is : HasType env w (found piece)
+  pub open_place : IsOpen env w
+  pub kept : is_kept_out kind w.depth ≡ false
+  pub shape : has_shape_of env piece kind ≡ true
+  pub names : names_from w.slot kind ≡ false
+  pub entry : x ≡ going env temps result
+  pub leaves : l ≡ quiet left
+  pub comes : z ≡ going (set_through env w kind) after result
 
-assign_row : {x z : Entry} {vs : List Value} {w : Lval} {v : Value} {l : Leaves} → ActRow StartsAs x vs (do_assign w v) l z → AssignRow x vs w v l z
-assign_row (r_assign {e = e} {ts = ts} {us = us} {ws = ws} {g = g} {k = k} {p = p} pops h o kept shape names) = record { env = e; temps = ts; after = us; left = ws; result = g; kind = k; piece = p; pops = pops; is = h; open_place = o; shape = shape; entry = refl; leaves = refl; comes = refl }
+pub assign_row : {x z : Entry} {vs : List Value} {w : Lval} {v : Value} {l : Leaves} → ActRow StartsAs x vs (do_assign w v) l z → AssignRow x vs w v l z
+assign_row (r_assign {e = e} {ts = ts} {us = us} {ws = ws} {g = g} {k = k} {p = p} pops h o kept shape names) = record { env = e; temps = ts; after = us; left = ws; result = g; kind = k; piece = p; pops = pops; is = h; open_place = o; kept = kept; shape = shape; names = names; entry = refl; leaves = refl; comes = refl }
 
 -- PATHS
 
@@ -158,7 +159,7 @@ module _ (now : Position → Now) (move : Position → Option (Move Position Pos
           (carries_before s t p wrap r.goes_on r.found r.at i.env i.env i.after i.result i.left l.waits s.output d.1) (differ_before s t p wrap r.goes_on r.found r.at i.env i.env i.after i.result i.left l.waits s.output d.1) w i.piece lt i.is.is shape i.open_place.free i.is.named i.open_place.path f)
 
   -- an owned value has an owned type
-  assign_steps : StepsTyped (moves_by now move) s t fresh.None (record { act = do_assign w (Own v); plug = λ z. wrap (plug z) })
+  pub assign_steps : StepsTyped (moves_by now move) s t fresh.None (record { act = do_assign w (Own v); plug = λ z. wrap (plug z) })
   assign_steps =
       let z = ranked loaded.typing loaded.state t.number loaded.running i.env (i.kind ∷ i.after) i.after (Some i.kind) i.result loaded.at top_some loaded.waits in
       let tree = hand_tree z.at z.focus loaded.waits v i.left loaded.temps in
@@ -169,8 +170,3 @@ module _ (now : Position → Now) (move : Position → Option (Move Position Pos
       by tr (shared us) f h = absurd h
       by tr (mutable us) f h = absurd h
       by tr (view o) f h = absurd h
-
-pub assign_owned_keeps : Keeps IsAssignOwned
-assign_owned_keeps now move y s t p wrap act plug h r =
-    let k : Ready y s t p wrap (do_assign h.0 (Own h.1)) plug = subst (λ a. Ready y s t p wrap a plug) h.2 r in
-    subst (λ a. StepsTyped (moves_by now move) s t fresh.None (record { act = a; plug = λ z. wrap (plug z) })) (sym h.2) (assign_steps now move y s t p wrap plug h.0 h.1 k (assign_row k.row))

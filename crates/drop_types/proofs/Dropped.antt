@@ -286,6 +286,10 @@ gone u (suc k) s y p v d le = links_gone u (suc k) (end_gone u (suc k) (λ j e. 
 pub drop_typed : (u : ℕ) (s : Whole Position) (y : Typing) (p : Piece) (v : Plain) → Dropping u s y p v → IsTyped (dropped s v)
 drop_typed u s y p v d = gone u (count_both s.mutexes s.threads) s y p v d (left_bounded s.mutexes s.threads)
 
+-- where nothing is dropped all stays
+pub nothing_dropped : (s : Whole Position) → IsTyped s → IsTyped (dropped s plain.Nothing)
+nothing_dropped s t = no_box (count_both s.mutexes s.threads) (live s.heap) s plain.Nothing tt t
+
 pub drop_keeps : DropKeeps
 drop_keeps y s u p g v none st =
     let here = carrier_here s u p g v in

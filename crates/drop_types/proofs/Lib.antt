@@ -27,4 +27,6 @@ pub mod Exchanged
 pub mod Puts
 pub mod Lent
 pub mod Targets
+pub mod Turned
 pub mod Assigns
+pub mod References

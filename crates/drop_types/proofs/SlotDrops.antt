@@ -63,7 +63,7 @@ none_from : (n : ℕ) (us : List Lval) → list_any (λ u. nat_le n u.slot) us �
 none_from n [] h = tt
 none_from n (u ∷ us) h = let o = or_false (nat_le n u.slot) (list_any (λ v. nat_le n v.slot) us) h in (leb-false n u.slot o.0, none_from n us o.1)
 
-names_below : (n : ℕ) (k : Kind) → names_from n k ≡ false → AreBelow n (kind_places k)
+pub names_below : (n : ℕ) (k : Kind) → names_from n k ≡ false → AreBelow n (kind_places k)
 names_below n (own x) h = tt
 names_below n (shared us) h = none_from n us h
 names_below n (mutable us) h = none_from n us h

@@ -1,10 +1,8 @@
 -- The acts that drop a value.
 use Rattle.std.specs.Prelude.{◌≡◌, Option, Some}
-use Rattle.fr_base.specs.declared.label.Plain.{Plain}
 use Rattle.fr_base.specs.declared.place.Lval.{Lval}
 use Rattle.fr_base.specs.declared.step.Fresh.TheVariants as fresh
 use Rattle.fr_plain.specs.declared.value.Value.{Value}
-use Rattle.fr_plain.specs.declared.value.Value.TheVariants.{Own}
 use Rattle.fr_plain.specs.MachineActs.{Act, do_assign, do_discard, do_drop, do_end, do_leave}
 use Rattle.fr_plain.specs.MachineThreads.{Now, Move, Life, alive, over, loose, Thread, Whole, thread_at}
 use Rattle.fr_plain.specs.PlainState.{plain_state}
@@ -21,9 +19,9 @@ IsDiscard a = (v : Value) × (a ≡ do_discard v)
 abbrev pub IsDrop : Act Position → Type 0
 IsDrop a = a ≡ do_drop
 
--- an owned value is assigned
-abbrev pub IsAssignOwned : Act Position → Type 0
-IsAssignOwned a = (w : Lval) × (v : Plain) × (a ≡ do_assign w (Own v))
+-- an assignment, which drops what stood there
+abbrev pub IsAssign : Act Position → Type 0
+IsAssign a = (w : Lval) × (v : Value) × (a ≡ do_assign w v)
 
 -- main ends, or a thread that was let go: nobody has its result, which is dropped
 pub data EndsBy : (Position → Life Position) → (Value → Act Position) → Type 0 where

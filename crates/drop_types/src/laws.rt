@@ -1,6 +1,6 @@
 //! Laws of drops.
 
-ghost use Rattle.drop_types.specs.DropActs.{EndKeeps, IsAssignOwned, IsDiscard, IsDrop};
+ghost use Rattle.drop_types.specs.DropActs.{EndKeeps, IsAssign, IsDiscard, IsDrop};
 ghost use Rattle.drop_types.specs.Drops.{DropKeeps};
 ghost use Rattle.drop_types.specs.Example.{AssignIsReady, DiscardIsReady, DropIsReady, EndIsReady, SlotIsReady};
 ghost use Rattle.plain_types.specs.Keeps.{Keeps};
@@ -14,13 +14,13 @@ pub fn drops_keep_types()
 
 /// In a typed state, with whatever threads, mutexes and pairs, an act of this form that a row grants can be done without a new name, and
 /// leaves a typed state: a value at hand goes, whatever it owns (`discard`); so does the newest slot with its value, whatever moved out of
-/// it (`slot`), and the result of main, or of a thread whose task was dropped, and the thread is over (`end`); and so does what stood where an
-/// owned value is assigned, over boxes alone or through mutable references, whatever moved out of it (`assign`).
+/// it (`slot`), and the result of main, or of a thread whose task was dropped, and the thread is over (`end`); and so does what stood where a
+/// value is assigned, whatever moved out of it: an owned one over boxes alone or through mutable references, a reference or a view in a variable (`assign`).
 pub fn dropping_acts_keep_types()
     ensures discard { Keeps IsDiscard }
     ensures slot { Keeps IsDrop }
     ensures end { EndKeeps }
-    ensures assign { Keeps IsAssignOwned }
+    ensures assign { Keeps IsAssign }
 {}
 
 /// At main's start a number may be discarded, and main may end; where it has bound a number, the slot may go, and another number may be assigned to it; and there is a typed state with a number that is carried beside main. So what the laws

@@ -6,6 +6,7 @@ pub mod Turns
 pub mod Turned
 pub mod Changed
 pub mod Raised
+pub mod Hoisted
 pub mod Focus
 pub mod AtHand
 pub mod Done

@@ -40,24 +40,28 @@ pub record Reranks (y : Typing) (a : PlainState Position) (rank2 : Key → ℕ) 
 abbrev pub ranked_by : (Key → ℕ) → Typing → Typing
 ranked_by rank2 y = record y { rank = rank2 }
 
-module _ (rank2 : Key → ℕ) (y : Typing) (a : PlainState Position) (st : PositionTypes y a) (h : Reranks y a rank2) where
-  raised_below : (k : Key) (m : Bool) (u : Place) → y.exact k ≡ refers m u → rank2 u.key < rank2 k
-  raised_below k m u is =
-      let low = st.typed.below k m u is in
-      let up = h.higher k in
-      let same = h.named k m u is in
-      omega (arith, low, up, same)
+-- ranks may change where what is named ranks below what names it, each thread's slots still rise, and its hand is above them
+pub record Orders (y : Typing) (a : PlainState Position) (rank2 : Key → ℕ) : Type 0 where
+  pub below : (k : Key) (m : Bool) (u : Place) → y.exact k ≡ refers m u → rank2 u.key < rank2 k
+  pub rising : (t i j : ℕ) → y.rank (slot_k t i) < y.rank (slot_k t j) → i < j → rank2 (slot_k t i) < rank2 (slot_k t j)
+  pub over : (t : ℕ) (x : Running Position) (r : RunningTyped Knows temps_of y (store y a) t (a.pair t) x) (i : ℕ) → place_in (a.thread t) ≡ Some x → i < length r.entry.env → rank2 (slot_k t i) < rank2 (hand_key t r.entry.temps)
 
+-- a thread's hand is above its slots
+pub over_was : (y : Typing) (a : PlainState Position) (b : Bool) (t : ℕ) (ts : List Kind) (e : Env) (k : Option Kind) → IsThread b (slot_k t) y.rank (hand_key t ts) e y.exact (store y a) k → (i : ℕ) → i < length e → y.rank (slot_k t i) < y.rank (hand_key t ts)
+over_was y a true t ts e k z i l = let x : Asleep (slot_k t) y.rank (hand_key t ts) e y.exact k = z in x.over i l
+over_was y a false t ts e k z i l = let x : ThreadTyped (slot_k t) y.rank (hand_key t ts) e y.exact (store y a) k = z in x.over i l
+
+module _ (rank2 : Key → ℕ) (y : Typing) (a : PlainState Position) (st : PositionTypes y a) (h : Orders y a rank2) where
   raised_store : Typed rank2 y.exact (store y a)
-  raised_store = record { stands = st.typed.stands; below = raised_below; once = st.typed.once; owner = st.typed.owner }
+  raised_store = record { stands = st.typed.stands; below = h.below; once = st.typed.once; owner = st.typed.owner }
 
-  raised_thread : (b : Bool) (t : ℕ) (ts : List Kind) (e : Env) (k : Option Kind) → ((i : ℕ) → i < length e → rank2 (slot_k t i) ≡ y.rank (slot_k t i)) → IsThread b (slot_k t) y.rank (hand_key t ts) e y.exact (store y a) k → IsThread b (slot_k t) rank2 (hand_key t ts) e y.exact (store y a) k
-  raised_thread true t ts e k same z =
+  raised_thread : (b : Bool) (t : ℕ) (ts : List Kind) (e : Env) (k : Option Kind) → ((i : ℕ) → i < length e → rank2 (slot_k t i) < rank2 (hand_key t ts)) → IsThread b (slot_k t) y.rank (hand_key t ts) e y.exact (store y a) k → IsThread b (slot_k t) rank2 (hand_key t ts) e y.exact (store y a) k
+  raised_thread true t ts e k over z =
       let x : Asleep (slot_k t) y.rank (hand_key t ts) e y.exact k = z in
-      record { nested = x.nested; slots = x.slots; above = x.above; temp = x.temp; names = x.names; quiet = x.quiet; over = λ i l. let low = x.over i l in let up = h.higher (hand_key t ts) in let q = same i l in omega (arith, low, up, q) }
-  raised_thread false t ts e k same z =
+      record { nested = x.nested; slots = x.slots; above = x.above; temp = x.temp; names = x.names; quiet = x.quiet; over = over }
+  raised_thread false t ts e k over z =
       let x : ThreadTyped (slot_k t) y.rank (hand_key t ts) e y.exact (store y a) k = z in
-      record { typed = raised_store; nested = x.nested; slots = x.slots; above = x.above; temp = x.temp; names = x.names; quiet = x.quiet; over = λ i l. let low = x.over i l in let up = h.higher (hand_key t ts) in let q = same i l in omega (arith, low, up, q); alone = x.alone }
+      record { typed = raised_store; nested = x.nested; slots = x.slots; above = x.above; temp = x.temp; names = x.names; quiet = x.quiet; over = over; alone = x.alone }
 
   raised_lock : {e : Env} {t i : ℕ} {m : MutexNo} → IsLock y (store y a) e t i m → IsLock (ranked_by rank2 y) (store y a) e t i m
   raised_lock l = record { leads = l.leads; unnamed = l.unnamed; content = l.content }
@@ -68,7 +72,7 @@ module _ (rank2 : Key → ℕ) (y : Typing) (a : PlainState Position) (st : Posi
     known = r.known;
     gives = r.gives;
     keys = record { differ = r.keys.differ; off = r.keys.off; ranks = λ i j l. h.rising t i j (r.keys.ranks i j l) l };
-    thread = raised_thread r.entry.forked t r.entry.temps r.entry.env (hand_kind r.entry.temps) (λ i l. h.slots t x r i runs l) r.thread;
+    thread = raised_thread r.entry.forked t r.entry.temps r.entry.env (hand_kind r.entry.temps) (λ i l. h.over t x r i runs l) r.thread;
     waiting = r.waiting;
     all_slots = r.all_slots;
     all_temps = r.all_temps;
@@ -82,8 +86,8 @@ module _ (rank2 : Key → ℕ) (y : Typing) (a : PlainState Position) (st : Posi
   raised_branch p b z = record { kept = z.kept; gives = z.gives; only = z.only; below = z.below }
 
   -- KEYS RANK OTHERWISE
-  pub reranked : PositionTypes (ranked_by rank2 y) a
-  reranked = record {
+  pub reordered : PositionTypes (ranked_by rank2 y) a
+  reordered = record {
     typed = raised_store;
     threads = λ t x e. raised_running t x e (st.threads t x e);
     results = st.results;
@@ -99,6 +103,13 @@ module _ (rank2 : Key → ℕ) (y : Typing) (a : PlainState Position) (st : Posi
     objects_owned = st.objects_owned;
     objects_made = st.objects_made;
   }
+
+pub reranked : (rank2 : Key → ℕ) (y : Typing) (a : PlainState Position) → PositionTypes y a → Reranks y a rank2 → PositionTypes (ranked_by rank2 y) a
+reranked rank2 y a st h = reordered rank2 y a st (record {
+  below = λ k m u is. let low = st.typed.below k m u is in let up = h.higher k in let same = h.named k m u is in omega (arith, low, up, same);
+  rising = h.rising;
+  over = λ t x r i runs l. let low = over_was y a r.entry.forked t r.entry.temps r.entry.env (hand_kind r.entry.temps) r.thread i l in let up = h.higher (hand_key t r.entry.temps) in let same = h.slots t x r i runs l in omega (arith, low, up, same);
+})
 
 -- TEMPORARY VALUES RANK HIGHER
 pub raised : (n : ℕ) (y : Typing) (a : PlainState Position) → PositionTypes y a → PositionTypes (raised_typing n y) a

@@ -2,7 +2,7 @@ use Rattle.drop_types.proofs.laws.dropping_acts_keep_types.Goals as goal
 use Rattle.drop_types.proofs.Discards.{discard_keeps}
 use Rattle.drop_types.proofs.SlotDrops.{drop_slot_keeps}
 use Rattle.drop_types.proofs.Ends.{end_keeps}
-use Rattle.drop_types.proofs.Assigns.{assign_owned_keeps}
+use Rattle.drop_types.proofs.References.{assign_keeps}
 
 pub returns-clause-discard : goal.returns-clause-discard
 returns-clause-discard c = discard_keeps
@@ -14,4 +14,4 @@ pub returns-clause-slot : goal.returns-clause-slot
 returns-clause-slot c = drop_slot_keeps
 
 pub returns-clause-assign : goal.returns-clause-assign
-returns-clause-assign c = assign_owned_keeps
+returns-clause-assign c = assign_keeps
