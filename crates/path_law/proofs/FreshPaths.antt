@@ -129,16 +129,16 @@ module _ (k : Cluster) (c : HasPaths k) where
   -- WHAT A MUTABLE REFERENCE WAS MADE FROM
 
   -- a mutable reference in a thread, with its exact type
-  record MutThere (y : Standing) (m : Location) (q : MutRef) : Type 0 where
-    key : Key
-    is : in_store m ≡ at_key key
-    shown : st.at key ≡ ref_v (at_object q.object)
-    place : Lval
-    exact : E key ≡ refers true (record { key = slot_k y.thread.number place.slot; depth = place.depth })
-    leads_so : leads_as ground y.thread.number place (value.Mut q) ≡ true
-    holder_is : holder_of ground m q.holder ≡ place_at ground y.thread.number q.holder
+  pub record MutThere (y : Standing) (m : Location) (q : MutRef) : Type 0 where
+    pub key : Key
+    pub is : in_store m ≡ at_key key
+    pub shown : st.at key ≡ ref_v (at_object q.object)
+    pub place : Lval
+    pub exact : E key ≡ refers true (record { key = slot_k y.thread.number place.slot; depth = place.depth })
+    pub leads_so : leads_as ground y.thread.number place (value.Mut q) ≡ true
+    pub holder_is : holder_of ground m q.holder ≡ place_at ground y.thread.number q.holder
 
-  slot_there : (y : Standing) (g : GoesOn k y) (i : ℕ) (q : MutRef) → slice_get y.thread.slots i ≡ Some (value.Mut q) → MutThere y (at_slot y.thread.number i) q
+  pub slot_there : (y : Standing) (g : GoesOn k y) (i : ℕ) (q : MutRef) → slice_get y.thread.slots i ≡ Some (value.Mut q) → MutThere y (at_slot y.thread.number i) q
   slot_there y g i q e =
       let shown = slot_mut k c y g i q e in
       let r = ref_type c.types.typing.rank E st c.types.state.typed (slot_k y.thread.number i) (at_object q.object) shown in

@@ -9,4 +9,5 @@ pub mod InState
 pub mod Pointers
 pub mod MayWrites
 pub mod Contained
+pub mod Ended
 pub mod FreshPaths

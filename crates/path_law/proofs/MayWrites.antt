@@ -36,7 +36,7 @@ use Rattle.path_law.proofs.Forms.{running_typed, slot_part, names}
 -- WHAT THE ROWS OF THE TYPING GRANT
 
 -- the value on top is of a type that names this slot or a later one
-abbrev top_names : ℕ → List Kind → Bool
+abbrev pub top_names : ℕ → List Kind → Bool
 top_names n [] = false
 top_names n (k ∷ ks) = names_from n k
 
@@ -54,7 +54,7 @@ int_names n (shared us) e = absurd cc
 int_names n (mutable us) e = absurd cc
 int_names n (view o) e = refl
 
-and_first : (a b : Bool) → a && b ≡ true → a ≡ true
+pub and_first : (a b : Bool) → a && b ≡ true → a ≡ true
 and_first true b e = refl
 and_first false b e = absurd cc
 
@@ -77,7 +77,7 @@ lent_less e x (suc n) h = by (on_path (λ f. is_lent f || is_mutable f) e x n) (
     by false true d go q r = absurd cc
     by false false d go q r = rw (go refl) r
 
-negated : (b : Bool) → not b ≡ true → b ≡ false
+pub negated : (b : Bool) → not b ≡ true → b ≡ false
 negated true e = absurd cc
 negated false e = refl
 
@@ -124,7 +124,7 @@ one_below t n us u e o = λ (z : u.key ≡ slot_k t n).
     let same : o.place.slot ≡ n = slot_keys_differ t o.place.slot n (sym (ap (λ (y : StorePlace). y.key) o.is) ∙ z) in
     omega (arith, same, none_from n us o.place e o.among)
 
-top_free : (t n : ℕ) (E : KeyTypes) (ts : List Kind) → TempIs (slot_k t) E (hand_key t ts) (hand_kind ts) → top_names n ts ≡ false → (m : Bool) (u : StorePlace) → E (hand_key t ts) ≡ refers m u → u.key ≢ slot_k t n
+pub top_free : (t n : ℕ) (E : KeyTypes) (ts : List Kind) → TempIs (slot_k t) E (hand_key t ts) (hand_kind ts) → top_names n ts ≡ false → (m : Bool) (u : StorePlace) → E (hand_key t ts) ≡ refers m u → u.key ≢ slot_k t n
 top_free t n E [] is e m u q = let z : owns hole ≡ refers m u = sym is ∙ q in absurd cc
 top_free t n E (k ∷ ts) is e m u q = by k e (subst (ExactOf (slot_k t) E (whole k)) q is)
   where
@@ -160,7 +160,7 @@ module _ (k : Cluster) (c : HasPaths k) (x : Standing) (g : GoesOn k x) where
   abbrev entry : Entry
   entry = (running_typed k c x g).entry
 
-  awake_thread : entry.forked ≡ false → ThreadTyped (slot_k n) c.types.typing.rank (hand_key n entry.temps) entry.env E (heap_store k c.types) (hand_kind entry.temps)
+  pub awake_thread : entry.forked ≡ false → ThreadTyped (slot_k n) c.types.typing.rank (hand_key n entry.temps) entry.env E (heap_store k c.types) (hand_kind entry.temps)
   awake_thread e =
       subst (λ b. IsThread b (slot_k n) c.types.typing.rank (hand_key n entry.temps) entry.env E (heap_store k c.types) (hand_kind entry.temps)) e (running_typed k c x g).thread
 

@@ -1,5 +1,5 @@
 -- WHO POINTS TO WHAT A THREAD WRITES, over the locations of a coherent cluster (Featherweight Rust's borrow invariance, made exact; this project's rule).
-use Rattle.std.specs.Prelude.{◌≡◌, ◌⊎◌, ℕ, suc, ◌<◌, true, Some}
+use Rattle.std.specs.Prelude.{◌≡◌, ◌⊎◌, ℕ, suc, ◌<◌, true, length, Some, slice_get}
 use Rattle.fr_base.specs.declared.name.ObjNo.{ObjNo}
 use Rattle.fr_base.specs.declared.place.Lval.{Lval}
 use Rattle.fr_base.specs.declared.instruction.Operand.{Operand}
@@ -9,6 +9,7 @@ use Rattle.mut_borrow.specs.declared.mutable.MutRef.{MutRef}
 use Rattle.mut_borrow.specs.declared.shared.SharedRef.{SharedRef}
 use Rattle.mut_borrow.specs.Refs.{changed}
 use Rattle.thread_state.specs.declared.value.Value.TheVariants as value
+use Rattle.thread_state.specs.View.{ThreadState}
 use Rattle.thread_state.specs.declared.phase.Phase.TheVariants as phase
 use Rattle.server_model.specs.Servers.{Cluster}
 use Rattle.fr_store.specs.Keys.{Key, slot_k}
@@ -47,6 +48,16 @@ pub data WritesTo : Instr → Lval → Type 0 where
 -- typing grants it
 abbrev pub MayWriteThere : Type 0
 MayWriteThere = (k : Cluster) (c : HasPaths k) (x : Standing) (i : Instr) (w : Lval) → GoesOn k x → instr_of (sight k) x ≡ Some i → WritesTo i w → MayWrite k c.types x w
+
+-- the slot whose mutable reference an instruction ends, if there is one: an assignment to a variable, and the end of a variable
+pub data EndsSlot (t : ThreadState) : Instr → ℕ → Type 0 where
+  assigned : {w : Lval} {o : Operand} → w.depth ≡ 0 → EndsSlot t (instr.Assign w o) w.slot
+  dropped : {slot : ℕ} → length t.slots ≡ suc slot → EndsSlot t instr.DropSlot slot
+
+-- typing lets the thread write what a mutable reference leads to that its instruction ends
+abbrev pub EndedMayWrite : Type 0
+EndedMayWrite = (k : Cluster) (c : HasPaths k) (x : Standing) (i : Instr) (slot : ℕ) (r : MutRef) → GoesOn k x → instr_of (sight k) x ≡ Some i → EndsSlot x.thread i slot → slice_get x.thread.slots slot ≡ Some (value.Mut r)
+    → MayWrite k c.types x (record { slot = slot; depth = 1 })
 
 -- a thread that hasn't taken the object for a mutable borrow: no pointer that a place of its instruction follows for writing is stale
 abbrev pub WrittenAreFresh : Type 0

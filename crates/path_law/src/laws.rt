@@ -2,7 +2,7 @@
 
 ghost use Rattle.path_law.specs.Above.{SolePointer};
 ghost use Rattle.path_law.specs.HeapStore.{CoherentHasPaths, PlacesLeadAlike};
-ghost use Rattle.path_law.specs.Pointing.{AboveIsStale, MayWriteThere, SolePointers, WrittenAreApart, WrittenAreFresh};
+ghost use Rattle.path_law.specs.Pointing.{AboveIsStale, EndedMayWrite, MayWriteThere, SolePointers, WrittenAreApart, WrittenAreFresh};
 
 /// A place of a thread of a cluster leads, star by star, to where it leads in the one heap that the cluster stands for; and a place that typing gives a
 /// type leads somewhere. What is asked of the cluster (`HasPaths`) every coherent one has.
@@ -13,11 +13,13 @@ pub fn places_lead_alike()
 
 /// Whoever points to an object that a typed place may write, in whatever thread, is the pointer that the place follows last, or a pointer from which
 /// that one was made: in a typed store, and over the locations of a cluster, where no shared reference and no view leads there. The places
-/// that assignments, moves and mutable borrows have at a thread's instruction are such.
+/// that assignments, moves and mutable borrows have at a thread's instruction are such, and so is what a mutable reference in a slot leads to that the
+/// instruction ends.
 pub fn one_may_write()
     ensures store { SolePointer }
     ensures cluster { SolePointers }
     ensures written { MayWriteThere }
+    ensures ended { EndedMayWrite }
 {}
 
 /// In every cluster, what stands above a changed mutable reference, or above a stale pointer, is stale.

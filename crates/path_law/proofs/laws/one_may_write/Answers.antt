@@ -2,6 +2,7 @@ use Rattle.path_law.proofs.laws.one_may_write.Goals as goal
 use Rattle.path_law.proofs.Sole.{sole_pointer}
 use Rattle.path_law.proofs.Pointers.{sole_pointers}
 use Rattle.path_law.proofs.MayWrites.{may_write_so}
+use Rattle.path_law.proofs.Ended.{ended_may_write}
 
 pub returns-clause-store : goal.returns-clause-store
 returns-clause-store c = sole_pointer
@@ -11,3 +12,6 @@ returns-clause-cluster c = sole_pointers
 
 pub returns-clause-written : goal.returns-clause-written
 returns-clause-written c = may_write_so
+
+pub returns-clause-ended : goal.returns-clause-ended
+returns-clause-ended c = ended_may_write
