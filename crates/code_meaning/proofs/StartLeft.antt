@@ -16,8 +16,8 @@ use Rattle.heap_law.specs.Names.{tot, one, some, same_mutex}
 use Rattle.heap_law.specs.Things.{Thing, counts, stands, at_home, servers_things}
 use Rattle.heap_law.specs.Follow.{threads_in}
 use Rattle.heap_law.specs.Sight.{Sight, sight, Pointer, is_issued}
-use Rattle.heap_law.specs.Naming.{events_of}
-use Rattle.heap_law.specs.OneHeap.{Node, object_n, mutex_n, Owner, a_thread, inside, outside, owner_of, names, is_in_state, first_shown, is_given_thread, one_heap}
+use Rattle.heap_law.specs.Naming.{events_of, started_at, made_at}
+use Rattle.heap_law.specs.OneHeap.{Node, object_n, mutex_n, Owner, a_thread, inside, outside, owner_of, owner_in, names, named_in, any_named, in_state_by, is_in_state, first_shown, is_given_thread, one_heap}
 use Rattle.heap_law.specs.Colours.{IsColoured, running_of, has_finished, served_of, wishes_of, is_mutex_there}
 use Rattle.heap_law.specs.LeftBy.{RunsWith, messages_of}
 use Rattle.fr_code.specs.Machine.{code_start}
@@ -31,35 +31,9 @@ use Rattle.code_meaning.specs.Laws.{StartsLeft}
 abbrev none_counted : ℕ → Thing
 none_counted s = counts s 0 0 0 0 0
 
--- who owns, and who was counted, as the one heap tells it
-abbrev owner_in : (Node → Bool) → Owner → Bool
-owner_in go a_thread = true
-owner_in go (inside n) = go n
-owner_in go outside = false
-
-abbrev named_in : Bool → (Node → Bool) → Owner → Bool
-named_in true go o = owner_in go o
-named_in false go o = false
-
-abbrev any_named : Sight → (Node → Bool) → Node → List Thing → Bool
-any_named s go n [] = false
-any_named s go n (x ∷ b) = named_in (names n x) go (owner_of s x) || any_named s go n b
-
 abbrev there_in : MutexNo → Thing → ℕ
 there_in m (at_home r n) = one (same_mutex n.number m)
 there_in m x = 0
-
-abbrev in_state_by : ℕ → Sight → Node → Bool
-in_state_by zero s n = false
-in_state_by (suc k) s n = any_named s (in_state_by k s) n s.things
-
-abbrev started_by : ℕ → ℕ → Thing → ℕ
-started_by r n (counts q next old started made events) = one (q == r && nat_le n started)
-started_by r n x = 0
-
-abbrev made_by : ℕ → ℕ → Thing → ℕ
-made_by r n (counts q next old started made events) = one (q == r && nat_le n made)
-made_by r n x = 0
 
 module _ (o : Options) where
   abbrev others : ℕ → ℕ → List Thing
@@ -124,13 +98,13 @@ module _ (code : List Instr) (o : Options) (n : ℕ) where
 
   -- NAMES
 
-  started_nowhere : (r x : ℕ) → (not (x == 0) && some (tot (started_by r x) seen.things)) ≡ false
+  started_nowhere : (r x : ℕ) → (not (x == 0) && some (tot (started_at r x) seen.things)) ≡ false
   started_nowhere r zero = refl
-  started_nowhere r (suc x) = rw (main_alone (started_by r (suc x)) (λ s. not_reached (s == r) x)) (and_false (not (suc x == 0)))
+  started_nowhere r (suc x) = rw (main_alone (started_at r (suc x)) (λ s. not_reached (s == r) x)) (and_false (not (suc x == 0)))
 
-  made_nowhere : (r x : ℕ) → (not (x == 0) && some (tot (made_by r x) seen.things)) ≡ false
+  made_nowhere : (r x : ℕ) → (not (x == 0) && some (tot (made_at r x) seen.things)) ≡ false
   made_nowhere r zero = refl
-  made_nowhere r (suc x) = rw (main_alone (made_by r (suc x)) (λ s. not_reached (s == r) x)) (and_false (not (suc x == 0)))
+  made_nowhere r (suc x) = rw (main_alone (made_at r (suc x)) (λ s. not_reached (s == r) x)) (and_false (not (suc x == 0)))
 
   -- no thread but main was given a name
   not_given : (m : ℕ) → is_given_thread seen (suc m) ≡ false

@@ -30,6 +30,7 @@ use Rattle.heap_law.specs.Paths.{joined_thread}
 use Rattle.heap_law.specs.Walking.{instr_of}
 use Rattle.heap_law.specs.Requests.{home_of, locked_mutex}
 use Rattle.heap_law.specs.Sharing.{is_over, gift_content, gift_result, got_phase}
+use Rattle.heap_law.specs.Naming.{started_at, made_at}
 
 -- WHAT IS IN THE STATE
 
@@ -267,20 +268,12 @@ abbrev pub pair_of : Option Standing → Option (ℕ × ℕ)
 pair_of None = None
 pair_of (Some x) = two_in x.thread.phase
 
-abbrev pub started_by : ℕ → ℕ → Thing → ℕ
-started_by r n (counts q next old started made events) = one (q == r && nat_le n started)
-started_by r n x = 0
-
-abbrev made_by : ℕ → ℕ → Thing → ℕ
-made_by r n (counts q next old started made events) = one (q == r && nat_le n made)
-made_by r n x = 0
-
 -- the given names: main, and the threads and mutexes that the servers have counted, from 1
 abbrev pub is_given_thread : Sight → ℕ → Bool
-is_given_thread s t = t == 0 || (not (t % 2 ^ 32 == 0) && some (tot (started_by (home_of t) (t % 2 ^ 32)) s.things))
+is_given_thread s t = t == 0 || (not (t % 2 ^ 32 == 0) && some (tot (started_at (home_of t) (t % 2 ^ 32)) s.things))
 
 abbrev pub is_given_mutex : Sight → MutexNo → Bool
-is_given_mutex s m = not (m.count == 0) && some (tot (made_by m.home m.count) s.things)
+is_given_mutex s m = not (m.count == 0) && some (tot (made_at m.home m.count) s.things)
 
 abbrev pub if_given : Bool → PlainLife → Option PlainLife
 if_given true l = Some l

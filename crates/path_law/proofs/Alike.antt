@@ -15,9 +15,9 @@ use Rattle.thread_state.specs.declared.value.Value.{Value}
 use Rattle.thread_state.specs.declared.value.Value.TheVariants as value
 use Rattle.server_model.specs.Servers.{Cluster}
 use Rattle.fr_store.specs.Keys.{Key, slot_k, temp_k}
-use Rattle.fr_store.specs.Store.{Location as StoreLocation, at_key, at_object, Val, gone_v, box_v, ref_v, Place as StorePlace, unit_v, int_v, mutex_v, task_v, Store, value_at, star_target, star_hop, then_location, walk}
+use Rattle.fr_store.specs.Store.{Location as StoreLocation, at_key, at_object, Val, gone_v, box_v, ref_v, Place as StorePlace, unit_v, int_v, mutex_v, task_v, Store, value_at, star_target, star_hop, walk}
 use Rattle.fr_store.specs.Typed.{Tree, hole, unit_tree, int_tree, mutex_tree, task_tree, box_tree, Exact, owns, refers, KeyTypes, Typed, TopFits, Unnamed}
-use Rattle.fr_store.proofs.Chains.{then_some, unique}
+use Rattle.fr_store.proofs.Chains.{unique}
 use Rattle.fr_store.proofs.Sound.{walk_last, ref_at}
 use Rattle.fr_store.proofs.Rows.{top_fits, found_place, not_to}
 use Rattle.fr_sound.specs.Seen.{Gives, owned_val, seen_cell}
@@ -26,10 +26,8 @@ use Rattle.heap_law.specs.Follow.{Standing, Ground, cell_of, slot_of, value_of, 
 use Rattle.heap_law.specs.Sight.{sight}
 use Rattle.heap_law.specs.OneHeap.{plain_value, object_value, running_at}
 use Rattle.path_law.specs.HeapStore.{in_store, heap_store, store_place, GoesOn, IsUnmarked, PlacesLeadAlike, CoherentHasPaths, HasPaths}
+use Rattle.path_law.proofs.Sole.{some_is, walk_prefix}
 use Rattle.path_law.proofs.Shown.{shown_value, object_shown, stands_there, is_running}
-
-some_is : {A : Type 0} {x y : A} → Some x ≡ Some y → x ≡ y
-some_is e = cc
 
 same_slot : (t i j : ℕ) → at_slot t i ≡ at_slot t j → i ≡ j
 same_slot t i j e = cc
@@ -57,16 +55,6 @@ ref_type rank E s t k l is = by (E k) refl
     by : (q : Exact) → E k ≡ q → (m : Bool) × (u : StorePlace) × (E k ≡ refers m u)
     by (owns q) e = absurd (not_ref q (top_fits rank E s t k q e))
     by (refers m u) e = (m, u, e)
-
--- what a walk passes
-pub walk_prefix : (s : Store) (d : ℕ) (l m : StoreLocation) → walk s (suc d) l ≡ Some m → (h : StoreLocation) × (walk s d l ≡ Some h) × (star_hop s h ≡ Some m)
-walk_prefix s zero l m e =
-    let x = then_some (star_hop s l) (walk s zero) m e in
-    (l, refl, x.1 ∙ x.2)
-walk_prefix s (suc d) l m e =
-    let x = then_some (star_hop s l) (walk s (suc d)) m e in
-    let y = walk_prefix s d x.0 m x.2 in
-    (y.0, ap (λ z. then_location z (walk s d)) x.1 ∙ y.1, y.2)
 
 -- no reference leads to a key that no type names
 unnamed_target : (rank : Key → ℕ) (E : KeyTypes) (s : Store) → Typed rank E s → (j k : Key) → s.at j ≡ ref_v (at_key k) → Unnamed E k → ⊥

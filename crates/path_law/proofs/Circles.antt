@@ -8,7 +8,8 @@ use Rattle.fr_store.proofs.Chains.{part_suc, add_plus, unique}
 use Rattle.fr_store.proofs.Below.{part_zero}
 use Rattle.fr_store.proofs.Sound.{ref_at}
 use Rattle.fr_store.proofs.ThreadKept.{res_low}
-use Rattle.path_law.proofs.Alike.{ref_type, walk_prefix}
+use Rattle.path_law.proofs.Sole.{walk_prefix}
+use Rattle.path_law.proofs.Alike.{ref_type}
 use Rattle.path_law.specs.Above.{IsMadeFrom, StandsAbove, holder, higher}
 
 -- a place with fewer stars resolves too

@@ -23,10 +23,11 @@ use Rattle.heap_law.specs.Follow.{Standing, Ground, slot_of, value_in, locate}
 use Rattle.heap_law.specs.Stale.{holder_of}
 use Rattle.heap_law.specs.Sight.{sight}
 use Rattle.type_law.specs.ClusterTypes.{astray, leads_as, is_held_at}
+use Rattle.path_law.proofs.Sole.{some_is}
 use Rattle.path_law.specs.Above.{IsMadeFrom, StandsAbove, holder, higher}
 use Rattle.path_law.specs.HeapStore.{in_store, heap_store, GoesOn, IsUnmarked, HasPaths}
 use Rattle.path_law.specs.Pointing.{Above, made_from, made_below}
-use Rattle.path_law.proofs.Shown.{none_else, some_is, stands_there}
+use Rattle.path_law.proofs.Shown.{none_else, stands_there}
 use Rattle.path_law.proofs.Alike.{IsShown, a_slot, an_object, mark_unnamed, leads_in_heap, leads_in_cluster, slot_none, slot_gone, slot_own, slot_shared_slot, slot_mut_slot}
 use Rattle.path_law.proofs.Forms.{not_mutable, own_place, not_astray}
 

@@ -25,9 +25,9 @@ use Rattle.heap_law.proofs.Bags.{among_split}
 use Rattle.heap_law.proofs.Words.{itself}
 use Rattle.std.proofs.lemmas.Bool.Decides.{nat_tests}
 use Rattle.fr_typing.proofs.PlaceLemmas.{eq_cases}
+use Rattle.path_law.proofs.Sole.{some_is}
 use Rattle.path_law.specs.Pointing.{Above, made_from, made_below, AboveIsStale}
 use Rattle.path_law.proofs.Origins.{among_first, among_second, threads_joined}
-use Rattle.path_law.proofs.Shown.{some_is}
 
 one_reference : (q r : MutRef) → Some (value.Mut q) ≡ Some (value.Mut r) → q ≡ r
 one_reference q r e = cc

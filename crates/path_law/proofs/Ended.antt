@@ -27,9 +27,9 @@ use Rattle.heap_law.specs.Follow.{Standing}
 use Rattle.heap_law.specs.Sight.{sight}
 use Rattle.heap_law.specs.Walking.{instr_of}
 use Rattle.heap_law.specs.OneHeap.{plain_value}
+use Rattle.path_law.proofs.Sole.{some_is}
 use Rattle.path_law.specs.HeapStore.{heap_store, GoesOn, HasPaths}
 use Rattle.path_law.specs.Pointing.{MayWrite, assigns, EndsSlot, assigned, dropped, EndedMayWrite}
-use Rattle.path_law.proofs.Shown.{some_is}
 use Rattle.path_law.proofs.Alike.{ref_type, slot_mut}
 use Rattle.path_law.proofs.Forms.{running_typed, slot_piece, mutable_own}
 use Rattle.fr_store.specs.Below.{ExactOf}

@@ -1,7 +1,6 @@
 -- The value in a slot has the form of its exact type: where that is a mutable reference, so is the value.
-use Rattle.std.proofs.Common.{◌≡◌, inl, inr, ℕ, zero, suc, ◌+◌, ◌==◌, not, Bool, true, false, if◌then◌else◌, List, [], ◌∷◌, ◌++◌, length, reverse, Option, Some, None, is_some, refl, sym, ap, subst, ◌∙◌, arith, ◌<◌}
+use Rattle.std.proofs.Common.{◌≡◌, inl, inr, ℕ, zero, suc, ◌+◌, not, Bool, true, false, if◌then◌else◌, List, [], ◌∷◌, length, reverse, Some, is_some, refl, sym, ap, subst, ◌∙◌, arith, ◌<◌}
 use Rattle.std.specs.Prelude.{slice_get}
-use Rattle.std.proofs.lemmas.Grind.{reverse_onto}
 use Rattle.fr_typing.proofs.PlaceLemmas.{eq_cases}
 use Rattle.fr_typing.specs.Kinds.{Kind, Piece, whole, gone, boxed, own, shared, mutable, view}
 use Rattle.fr_typing.specs.Places.{Slot, Env}
@@ -27,30 +26,8 @@ use Rattle.heap_law.specs.OneHeap.{one_heap, running_at}
 use Rattle.type_law.specs.Names.{NameTypes, names_of}
 use Rattle.type_law.specs.ClusterTypes.{temps_wrong, is_mark, KnownAt, astray, all_astray, astray_of, slot_form, slots_wrong, has_form, entry_wrong, forms_of}
 use Rattle.path_law.specs.HeapStore.{GoesOn, heap_store, HasPaths}
-use Rattle.path_law.proofs.Shown.{none_else, some_is, is_running, length_one_more}
-
--- AN ELEMENT BY ITS NUMBER FROM BEHIND
-
-abbrev at_behind : {A : Type 0} → List A → ℕ → Option A
-at_behind [] i = None
-at_behind (x ∷ xs) i = if i == length xs then Some x else at_behind xs i
-
-last_zero : {A : Type 0} (ys : List A) (v : A) → at_behind (ys ++ (v ∷ [])) 0 ≡ Some v
-last_zero [] v = refl
-last_zero (y ∷ ys) v =
-    eq_cases (λ b. (if b then Some y else at_behind (ys ++ (v ∷ [])) 0) ≡ Some v) 0 (length (ys ++ (v ∷ []))) (λ e. absurd (omega (arith, e, length_one_more ys v))) (λ ne. last_zero ys v)
-
-last_suc : {A : Type 0} (ys : List A) (v : A) (i : ℕ) → at_behind (ys ++ (v ∷ [])) (suc i) ≡ at_behind ys i
-last_suc [] v i = eq_cases (λ b. (if b then Some v else None) ≡ None) (suc i) 0 (λ e. absurd (omega (arith, e))) (λ ne. refl)
-last_suc (y ∷ ys) v i =
-    eq_cases (λ b. (if b then Some y else at_behind (ys ++ (v ∷ [])) (suc i)) ≡ at_behind (y ∷ ys) i) (suc i) (length (ys ++ (v ∷ [])))
-    (λ e. eq_cases (λ b. Some y ≡ (if b then Some y else at_behind ys i)) i (length ys) (λ e2. refl) (λ ne. absurd (ne (omega (arith, e, length_one_more ys v)))))
-    (λ ne. eq_cases (λ b. at_behind (ys ++ (v ∷ [])) (suc i) ≡ (if b then Some y else at_behind ys i)) i (length ys) (λ e2. absurd (ne (omega (arith, e2, length_one_more ys v)))) (λ n2. last_suc ys v i))
-
-behind_is : {A : Type 0} (xs : List A) (i : ℕ) → at_behind (reverse xs) i ≡ slice_get xs i
-behind_is [] i = refl
-behind_is (x ∷ xs) zero = ap (λ l. at_behind l 0) (reverse_onto xs x []) ∙ last_zero (reverse xs) x
-behind_is (x ∷ xs) (suc i) = ap (λ l. at_behind l (suc i)) (reverse_onto xs x []) ∙ last_suc (reverse xs) x i ∙ behind_is xs i
+use Rattle.path_law.proofs.Sole.{some_is}
+use Rattle.path_law.proofs.Shown.{none_else, is_running, at_behind, behind_is}
 
 -- THE PART OF A SLOT
 

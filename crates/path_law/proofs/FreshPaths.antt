@@ -35,9 +35,9 @@ use Rattle.type_law.specs.ClusterTypes.{astray, leads_as, is_held_at}
 use Rattle.path_law.specs.Above.{IsMadeFrom, a_reference}
 use Rattle.path_law.specs.HeapStore.{in_store, heap_store, GoesOn, HasPaths}
 use Rattle.path_law.specs.Pointing.{WritesTo, lends, WrittenAreFresh, WrittenAreApart}
-use Rattle.path_law.proofs.Sole.{sole_pointer}
+use Rattle.path_law.proofs.Sole.{sole_pointer, some_is}
 use Rattle.path_law.proofs.Circles.{shorter, base_in, no_circle}
-use Rattle.path_law.proofs.Shown.{some_is, stands_there}
+use Rattle.path_law.proofs.Shown.{stands_there}
 use Rattle.path_law.proofs.Alike.{leads_in_heap, ref_type, slot_none, slot_mut, temp_mut}
 use Rattle.path_law.proofs.Forms.{own_place, mutable_own, slot_piece, temp_piece, not_astray, temp_not_astray}
 use Rattle.path_law.proofs.Climbs.{held_as, right_place, and_second, ref_is}

@@ -11,3 +11,4 @@ pub mod MayWrites
 pub mod Contained
 pub mod Ended
 pub mod FreshPaths
+pub mod Example

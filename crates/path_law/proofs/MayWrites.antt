@@ -28,9 +28,9 @@ use Rattle.heap_law.specs.Sight.{sight}
 use Rattle.heap_law.specs.Walking.{instr_of}
 use Rattle.type_law.specs.Names.{NameTypes}
 use Rattle.type_law.specs.ClusterTypes.{has_form, slot_form}
+use Rattle.path_law.proofs.Sole.{some_is}
 use Rattle.path_law.specs.HeapStore.{heap_store, GoesOn, IsUnmarked, HasPaths}
 use Rattle.path_law.specs.Pointing.{MayWrite, WritesTo, assigns, moves, lends, MayWriteThere}
-use Rattle.path_law.proofs.Shown.{some_is}
 use Rattle.path_law.proofs.Forms.{running_typed, slot_part, names}
 
 -- WHAT THE ROWS OF THE TYPING GRANT

@@ -33,8 +33,7 @@ use Rattle.heap_law.proofs.Words.{itself}
 use Rattle.path_law.specs.Above.{PointsTo, its_box, a_reference, StandsAbove}
 use Rattle.path_law.specs.HeapStore.{in_store, heap_store, GoesOn, IsUnmarked, HasPaths}
 use Rattle.path_law.specs.Pointing.{Above, MayWrite, LastHop, SolePointers}
-use Rattle.path_law.proofs.Sole.{sole_pointer, sole_mutable, sole_named}
-use Rattle.path_law.proofs.Shown.{some_is}
+use Rattle.path_law.proofs.Sole.{sole_pointer, sole_mutable, sole_named, some_is}
 use Rattle.path_law.proofs.Alike.{leads_in_heap, leads_in_cluster, heap_of_shown, slot_own, slot_shared, slot_mut, temp_own, temp_shared, temp_mut}
 use Rattle.path_law.proofs.Origins.{placed, Origin, of_thread, of_none, origin, Listed, in_slots, borrow_value, share_value, own_value}
 use Rattle.path_law.proofs.Forms.{none_of, not_mutable}

@@ -1,5 +1,5 @@
 -- What stands at a location of a coherent cluster stands there in its one heap.
-use Rattle.std.proofs.Common.{◌≡◌, inl, inr, ℕ, zero, suc, ◌%◌, ◌^◌, ◌==◌, ◌&&◌, ◌||◌, not, Bool, true, false, if◌then◌else◌, List, [], ◌∷◌, ◌++◌, length, map, reverse, Some, None, option_map, refl, ap, subst, ◌∙◌, arith}
+use Rattle.std.proofs.Common.{◌≡◌, inl, inr, ℕ, zero, suc, ◌%◌, ◌^◌, ◌==◌, ◌&&◌, ◌||◌, not, Bool, true, false, if◌then◌else◌, List, [], ◌∷◌, ◌++◌, length, map, reverse, Option, Some, None, option_map, refl, ap, subst, ◌∙◌, arith}
 use Rattle.std.specs.Prelude.{slice_get}
 use Rattle.std.proofs.lemmas.Grind.{reverse_onto}
 use Rattle.std.proofs.lemmas.Option.{slice_get-map}
@@ -16,13 +16,14 @@ use Rattle.heap_partition.specs.declared.value.Cell.{Cell}
 use Rattle.thread_state.specs.declared.value.Value.{Value}
 use Rattle.server_model.specs.Servers.{Cluster}
 use Rattle.heap_law.specs.Names.{tot, one, other, some, Among, same_object}
-use Rattle.heap_law.specs.Things.{Thing, lies, flies, stands, counts, things_of}
+use Rattle.heap_law.specs.Things.{Thing, lies, flies, stands, things_of}
 use Rattle.heap_law.specs.Follow.{Standing, threads_in, thread_at, cells_in, cell_of}
 use Rattle.heap_law.specs.Sight.{Sight, sight}
 use Rattle.heap_law.specs.Naming.{threads, started_at, zeroth_thread, uncounted_thread}
 use Rattle.heap_law.specs.Requests.{home_of}
-use Rattle.heap_law.specs.OneHeap.{one_heap, first_shown, cell_value, or_else, if_in, plain_value, going_on, was_let_go, started_by, running_at, life_of, life_at, if_given, is_given_thread, is_in_state, object_n, object_value}
+use Rattle.heap_law.specs.OneHeap.{one_heap, first_shown, cell_value, or_else, if_in, plain_value, going_on, was_let_go, running_at, life_of, life_at, if_given, is_given_thread, is_in_state, object_n, object_value}
 use Rattle.type_law.proofs.Branches.{found}
+use Rattle.path_law.proofs.Sole.{some_is}
 use Rattle.path_law.specs.HeapStore.{GoesOn, HasPaths}
 
 -- LISTS
@@ -35,32 +36,37 @@ pub length_one_more : {A : Type 0} (ys : List A) (v : A) → length (ys ++ (v �
 length_one_more [] v = refl
 length_one_more (y ∷ ys) v = ap suc (length_one_more ys v)
 
--- the oldest of a thread's slots, and those above it
-last_zero : (ys : List PlainValue) (v : PlainValue) → slot_at (ys ++ (v ∷ [])) 0 ≡ Some v
+-- an element by its number from behind: the last one has 0
+abbrev pub at_behind : {A : Type 0} → List A → ℕ → Option A
+at_behind [] i = None
+at_behind (x ∷ xs) i = if i == length xs then Some x else at_behind xs i
+
+last_zero : {A : Type 0} (ys : List A) (v : A) → at_behind (ys ++ (v ∷ [])) 0 ≡ Some v
 last_zero [] v = refl
 last_zero (y ∷ ys) v =
-    eq_cases (λ b. (if b then Some y else slot_at (ys ++ (v ∷ [])) 0) ≡ Some v) 0 (length (ys ++ (v ∷ []))) (λ e. absurd (omega (arith, e, length_one_more ys v))) (λ ne. last_zero ys v)
+    eq_cases (λ b. (if b then Some y else at_behind (ys ++ (v ∷ [])) 0) ≡ Some v) 0 (length (ys ++ (v ∷ []))) (λ e. absurd (omega (arith, e, length_one_more ys v))) (λ ne. last_zero ys v)
 
-last_suc : (ys : List PlainValue) (v : PlainValue) (i : ℕ) → slot_at (ys ++ (v ∷ [])) (suc i) ≡ slot_at ys i
+last_suc : {A : Type 0} (ys : List A) (v : A) (i : ℕ) → at_behind (ys ++ (v ∷ [])) (suc i) ≡ at_behind ys i
 last_suc [] v i = eq_cases (λ b. (if b then Some v else None) ≡ None) (suc i) 0 (λ e. absurd (omega (arith, e))) (λ ne. refl)
 last_suc (y ∷ ys) v i =
-    eq_cases (λ b. (if b then Some y else slot_at (ys ++ (v ∷ [])) (suc i)) ≡ slot_at (y ∷ ys) i) (suc i) (length (ys ++ (v ∷ [])))
-    (λ e. eq_cases (λ b. Some y ≡ (if b then Some y else slot_at ys i)) i (length ys) (λ e2. refl) (λ ne. absurd (ne (omega (arith, e, length_one_more ys v)))))
-    (λ ne. eq_cases (λ b. slot_at (ys ++ (v ∷ [])) (suc i) ≡ (if b then Some y else slot_at ys i)) i (length ys) (λ e2. absurd (ne (omega (arith, e2, length_one_more ys v)))) (λ n2. last_suc ys v i))
+    eq_cases (λ b. (if b then Some y else at_behind (ys ++ (v ∷ [])) (suc i)) ≡ at_behind (y ∷ ys) i) (suc i) (length (ys ++ (v ∷ [])))
+    (λ e. eq_cases (λ b. Some y ≡ (if b then Some y else at_behind ys i)) i (length ys) (λ e2. refl) (λ ne. absurd (ne (omega (arith, e, length_one_more ys v)))))
+    (λ ne. eq_cases (λ b. at_behind (ys ++ (v ∷ [])) (suc i) ≡ (if b then Some y else at_behind ys i)) i (length ys) (λ e2. absurd (ne (omega (arith, e2, length_one_more ys v)))) (λ n2. last_suc ys v i))
+
+pub behind_is : {A : Type 0} (xs : List A) (i : ℕ) → at_behind (reverse xs) i ≡ slice_get xs i
+behind_is [] i = refl
+behind_is (x ∷ xs) zero = ap (λ l. at_behind l 0) (reverse_onto xs x []) ∙ last_zero (reverse xs) x
+behind_is (x ∷ xs) (suc i) = ap (λ l. at_behind l (suc i)) (reverse_onto xs x []) ∙ last_suc (reverse xs) x i ∙ behind_is xs i
 
 -- the newest comes first in a plain state, and the oldest in a cluster
-pub from_behind : (xs : List PlainValue) (i : ℕ) → slot_at (reverse xs) i ≡ slice_get xs i
-from_behind [] i = refl
-from_behind (x ∷ xs) zero = ap (λ l. slot_at l 0) (reverse_onto xs x []) ∙ last_zero (reverse xs) x
-from_behind (x ∷ xs) (suc i) = ap (λ l. slot_at l (suc i)) (reverse_onto xs x []) ∙ last_suc (reverse xs) x i ∙ from_behind xs i
+slot_behind : (xs : List PlainValue) (i : ℕ) → slot_at xs i ≡ at_behind xs i
+slot_behind [] i = refl
+slot_behind (x ∷ xs) i = ap (λ o. if i == length xs then Some x else o) (slot_behind xs i)
 
 pub shown_value : (vs : List Value) (i : ℕ) → slot_at (reverse (map plain_value vs)) i ≡ option_map plain_value (slice_get vs i)
-shown_value vs i = from_behind (map plain_value vs) i ∙ slice_get-map plain_value vs i
+shown_value vs i = slot_behind (reverse (map plain_value vs)) i ∙ behind_is (map plain_value vs) i ∙ slice_get-map plain_value vs i
 
 -- OBJECTS
-
-pub some_is : {A : Type 0} {x y : A} → Some x ≡ Some y → x ≡ y
-some_is e = cc
 
 shown_first : (o : ObjNo) (c : Cell) (b : List Thing) (v : Plain)
     → (first_shown (cell_value o) b ≡ Some v → (d : Cell) × (cell_of (cells_in b) o ≡ Some d) × (plain_of d.value ≡ v))
@@ -92,11 +98,6 @@ none_at f x (stands s p t ∷ b) z (inl e) = subst (λ (y : Standing). f (stands
 none_at f x (stands s p t ∷ b) z (inr h) = none_at f x b (omega (arith, z)) h
 none_at f x (_ ∷ b) z h = none_at f x b (omega (arith, z)) h
 
-started_same : (r n : ℕ) (b : List Thing) → tot (started_by r n) b ≡ tot (started_at r n) b
-started_same r n [] = refl
-started_same r n (counts q next old started made events ∷ b) = omega (arith, started_same r n b)
-started_same r n (_ ∷ b) = omega (arith, started_same r n b)
-
 going_place : (s : Sight) (t : ℕ) (p : CodeRunning) → place_of (going_on s t p) ≡ Some p
 going_place s zero p = refl
 going_place s (suc t) p = by (was_let_go s (suc t))
@@ -111,18 +112,18 @@ module _ (k : Cluster) (c : HasPaths k) (x : Standing) (g : GoesOn k x) where
 
   -- its name was given
   pub is_given : is_given_thread (sight k) x.thread.number ≡ true
-  is_given = by (x.thread.number == 0) (x.thread.number % 2 ^ 32 == 0) (some (tot (started_by (home_of x.thread.number) (x.thread.number % 2 ^ 32)) (things_of k))) zeroth counted
+  is_given = by (x.thread.number == 0) (x.thread.number % 2 ^ 32 == 0) (some (tot (started_at (home_of x.thread.number) (x.thread.number % 2 ^ 32)) (things_of k))) zeroth counted
     where
       zeroth : one ((x.thread.number % 2 ^ 32 == 0) && not (x.thread.number == 0)) ≡ 0
       zeroth =
           let all : tot (threads zeroth_thread) (things_of k) ≡ 0 = omega (arith, c.counts_from_one) in
           omega (arith, none_at (threads zeroth_thread) x (things_of k) all g.among)
 
-      counted : some (tot (started_by (home_of x.thread.number) (x.thread.number % 2 ^ 32)) (things_of k)) ≡ true
+      counted : some (tot (started_at (home_of x.thread.number) (x.thread.number % 2 ^ 32)) (things_of k)) ≡ true
       counted =
           let all : tot (threads (uncounted_thread (sight k))) (things_of k) ≡ 0 = omega (arith, c.names_counted) in
           let one_of : uncounted_thread (sight k) x.thread.number ≡ 0 = omega (arith, none_at (threads (uncounted_thread (sight k))) x (things_of k) all g.among) in
-          ap some (started_same (home_of x.thread.number) (x.thread.number % 2 ^ 32) (things_of k)) ∙ none_else (some (tot (started_at (home_of x.thread.number) (x.thread.number % 2 ^ 32)) (things_of k))) one_of
+          none_else (some (tot (started_at (home_of x.thread.number) (x.thread.number % 2 ^ 32)) (things_of k))) one_of
 
       by : (a b d : Bool) → one (b && not a) ≡ 0 → d ≡ true → a || (not b && d) ≡ true
       by true b d z e = refl

@@ -25,7 +25,7 @@ unnamed_loan E k _ free self = refl
 unnamed_loan E k _ free (loan {t = i} q u e) = absurd (free i true u e refl)
 
 -- what a longer walk passes
-walk_prefix : (s : Store) (d : ℕ) (l m : Location) → walk s (suc d) l ≡ Some m → (h : Location) × (walk s d l ≡ Some h) × (star_hop s h ≡ Some m)
+pub walk_prefix : (s : Store) (d : ℕ) (l m : Location) → walk s (suc d) l ≡ Some m → (h : Location) × (walk s d l ≡ Some h) × (star_hop s h ≡ Some m)
 walk_prefix s zero l m e =
     let x = then_some (star_hop s l) (walk s zero) m e in
     (l, refl, x.1 ∙ x.2)
@@ -34,7 +34,7 @@ walk_prefix s (suc d) l m e =
     let y = walk_prefix s d x.0 m x.2 in
     (y.0, ap (λ z. then_location z (walk s d)) x.1 ∙ y.1, y.2)
 
-some_is : {A : Type 0} {x y : A} → Some x ≡ Some y → x ≡ y
+pub some_is : {A : Type 0} {x y : A} → Some x ≡ Some y → x ≡ y
 some_is e = cc
 
 -- a pointer below a place: a mutable reference on the way, or the object's box

@@ -1,14 +1,17 @@
 //! Laws of places.
 
 ghost use Rattle.path_law.specs.Above.{SolePointer};
+ghost use Rattle.path_law.specs.Example.{PlacesApply};
 ghost use Rattle.path_law.specs.HeapStore.{CoherentHasPaths, PlacesLeadAlike};
 ghost use Rattle.path_law.specs.Pointing.{AboveIsStale, EndedMayWrite, MayWriteThere, SolePointers, WrittenAreApart, WrittenAreFresh};
 
 /// A place of a thread of a cluster leads, star by star, to where it leads in the one heap that the cluster stands for; and a place that typing gives a
-/// type leads somewhere. What is asked of the cluster (`HasPaths`) every coherent one has.
+/// type leads somewhere. What is asked of the cluster (`HasPaths`) every coherent one has; in one
+/// of them main stands at an assignment through its box, and all that these laws ask is there.
 pub fn places_lead_alike()
     ensures alike { PlacesLeadAlike }
     ensures coherent { CoherentHasPaths }
+    ensures applies { PlacesApply }
 {}
 
 /// Whoever points to an object that a typed place may write, in whatever thread, is the pointer that the place follows last, or a pointer from which

@@ -8,4 +8,4 @@ mod Owning
 pub mod Branches
 mod Paired
 mod Locking
-mod Whole
+pub mod Whole

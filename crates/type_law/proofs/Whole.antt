@@ -4,15 +4,20 @@ use Rattle.server_model.specs.Servers.{start_of}
 use Rattle.heap_law.specs.Clusters.{boxed_code, options}
 use Rattle.heap_law.specs.Coherent.{IsSound}
 use Rattle.heap_law.proofs.Unbroken.{sound_law}
+use Rattle.type_law.specs.Typed.{boxed_cluster}
 use Rattle.type_law.specs.Paired.{paired_cluster}
 use Rattle.type_law.specs.Locking.{locking_cluster}
 use Rattle.type_law.specs.Whole.{CoherentCompute}
 use Rattle.type_law.proofs.Start.{start_has_types}
+use Rattle.type_law.proofs.Boxed.{boxed_has_types}
 use Rattle.type_law.proofs.Paired.{pair_has_types}
 use Rattle.type_law.proofs.Locking.{lock_has_types}
 
 start_sound : IsSound (start_of boxed_code (options 1))
 start_sound = sound_law.sound (start_of boxed_code (options 1)) refl
+
+boxed_sound : IsSound boxed_cluster
+boxed_sound = sound_law.sound boxed_cluster refl
 
 paired_sound : IsSound paired_cluster
 paired_sound = sound_law.sound paired_cluster refl
@@ -23,6 +28,7 @@ locked_sound = sound_law.sound locking_cluster refl
 pub coherent_compute : CoherentCompute
 coherent_compute = record {
   starts = record { sound = start_sound; types = start_has_types };
+  boxed = record { sound = boxed_sound; types = boxed_has_types };
   paired = record { sound = paired_sound; types = pair_has_types.typed };
   locked = record { sound = locked_sound; types = lock_has_types.typed };
 }
