@@ -136,12 +136,12 @@ module _ {P : Type 0} (y : Typing) (a : PlainState P) (pairs : (p b c : ℕ) →
   above_before p t (above {q = q} w r) = let x = waits_before p q w in let z = above_before q t r in omega (arith, x, z)
 
 -- a slot of a thread, or of one that waits for it
-abbrev UpFrom : {P : Type 0} → PlainState P → ℕ → Key → Type 0
+abbrev pub UpFrom : {P : Type 0} → PlainState P → ℕ → Key → Type 0
 UpFrom a t k = (w : ℕ) × (i : ℕ) × (k ≡ slot_k w i) × WaitsAbove a w t
 
 module _ {P : Type 0} (a : PlainState P) (E : KeyTypes) (near : (k : Key) (m : Bool) (u : Place) → E k ≡ refers m u → IsNear a k u) where
   -- what such a slot names is one again
-  up_near : (t : ℕ) (k : Key) (m : Bool) (u : Place) → UpFrom a t k → E k ≡ refers m u → UpFrom a t u.key
+  pub up_near : (t : ℕ) (k : Key) (m : Bool) (u : Place) → UpFrom a t k → E k ≡ refers m u → UpFrom a t u.key
   up_near t k m u up is = by (near k m u is)
     where
       by : IsNear a k u → UpFrom a t u.key
@@ -155,7 +155,7 @@ module _ {P : Type 0} (a : PlainState P) (E : KeyTypes) (near : (k : Key) (m : B
           own (inr o) = (n.owner, n.slot, n.is, above_trans a (subst (WaitsAbove a n.owner) (sym same) o) up.3)
 
   -- and so is all to which a place there leads
-  up_res : (t : ℕ) (only : Bool) (k : Key) (d : ℕ) (b : Key) (n : ℕ) (p : Exact) → UpFrom a t k → Resolves E only k d b n p → UpFrom a t b
+  pub up_res : (t : ℕ) (only : Bool) (k : Key) (d : ℕ) (b : Key) (n : ℕ) (p : Exact) → UpFrom a t k → Resolves E only k d b n p → UpFrom a t b
   up_res t only k d b n p up (here e) = up
   up_res t only k d b n p up (through m u e is o de r) = up_res t only u.key (add u.depth e) b n p (up_near t k m u up is) r
 

@@ -38,14 +38,14 @@ use Rattle.thread_types.proofs.TwoTurn.{two_typed}
 use Rattle.thread_types.proofs.Captured.{many, free_to, was_to, fits, new_turn, now_slot, now_to, same_two}
 
 -- what is copied has no boxes and isn't counted
-flat_copy : (o : Owned) → copies (own o) ≡ true → (i : ℕ) → tree_under (suc i) (tree_of o) ≡ None
+pub flat_copy : (o : Owned) → copies (own o) ≡ true → (i : ℕ) → tree_under (suc i) (tree_of o) ≡ None
 flat_copy unit c i = refl
 flat_copy int c i = refl
 flat_copy (box o) c i = cc
 flat_copy (mutex o) c i = cc
 flat_copy (task o) c i = cc
 
-plain_copy : (o : Owned) (v : Val) → copies (own o) ≡ true → TopFits (tree_of o) v → Counted v → ⊥
+pub plain_copy : (o : Owned) (v : Val) → copies (own o) ≡ true → TopFits (tree_of o) v → Counted v → ⊥
 plain_copy unit v c f d = subst Counted f d
 plain_copy int v c f d = subst Counted f.1 d
 plain_copy (box o) v c f d = cc

@@ -5,22 +5,22 @@ use Rattle.fr_base.specs.declared.label.Label.TheVariants as label
 use Rattle.fr_base.specs.declared.step.Fresh.TheVariants as fresh
 use Rattle.fr_terms.specs.Terms.{Captured}
 use Rattle.fr_typing.specs.Kinds.{unit, int, task, own}
-use Rattle.fr_typing.specs.Captures.{captures_copy}
+use Rattle.fr_typing.specs.Captures.{by_par, captures_copy}
 use Rattle.fr_plain.specs.declared.value.Value.{Value}
 use Rattle.fr_plain.specs.declared.value.Value.TheVariants.{Own}
 use Rattle.fr_plain.specs.MachineActs.{do_let, do_spawn, unit as unit_value}
 use Rattle.fr_plain.specs.MachineThreads.{alive, owing, ended}
 use Rattle.fr_plain.specs.PlainState.{plain_state}
-use Rattle.fr_sound.specs.Entries.{going}
+use Rattle.fr_sound.specs.Entries.{going, forked_at}
 use Rattle.fr_sound.specs.States.{Typing}
-use Rattle.fr_code.specs.CodeTypes.{passes, pass_none, pass_next}
+use Rattle.fr_code.specs.CodeTypes.{SlotsPass, passes, pass_none, pass_next}
 use Rattle.plain_types.specs.Positions.{PositionTypes}
-use Rattle.plain_types.specs.ActRows.{loud, pops_unit, pops_temp, r_spawn, r_join, ends_as}
+use Rattle.plain_types.specs.ActRows.{loud, quiet, pops_unit, pops_temp, r_spawn, r_join, r_par, ends_as}
 use Rattle.plain_types.specs.Keeps.{is_main, Ready}
 use Rattle.plain_types.specs.Example.{first, main, begun, alone_at, one, variable, at_hand, bound}
 use Rattle.plain_types.proofs.Example.{print_is_ready, let_is_ready, no_end, no_move, follows}
 use Rattle.plain_types.proofs.Lets.{let_keeps}
-use Rattle.thread_types.specs.Example.{empty, child, both, StartIsReady, FinishIsReady, JoinIsReady}
+use Rattle.thread_types.specs.Example.{empty, child, both, StartIsReady, ParIsReady, FinishIsReady, JoinIsReady}
 use Rattle.thread_types.proofs.Spawns.{spawn_keeps}
 use Rattle.thread_types.proofs.Finishes.{finish_keeps}
 
@@ -47,6 +47,18 @@ start_is_ready = (
     row = r_spawn ((0, false) ∷ []) refl (pass_next (passes named refl (captures_copy (record { is = record { named = refl; is = refl }; becomes = refl }) refl refl refl) refl refl) pass_none) (refl, refl);
     comes = λ v. refl;
   },
+)
+
+-- by each of two threads
+copied : SlotsPass by_par (variable int ∷ []) [] ((0, false) ∷ []) (variable int ∷ []) (variable int ∷ [])
+unfolding named
+copied = pass_next (passes named refl (captures_copy (record { is = record { named = refl; is = refl }; becomes = refl }) refl refl refl) refl refl) pass_none
+
+pub par_is_ready : ParIsReady
+par_is_ready = (
+  bound_typed.0,
+  refl,
+  record { state = bound_typed.1; found = refl; goes_on = is_main; at = refl; leaves = quiet []; after = forked_at (variable int ∷ []) [] unit; row = r_par ((0, false) ∷ []) ((0, false) ∷ []) refl copied copied (refl, refl) (refl, refl); comes = λ v. refl },
 )
 
 -- A THREAD WITHOUT CAPTURES

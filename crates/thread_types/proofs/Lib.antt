@@ -13,3 +13,13 @@ pub mod Woken
 pub mod Paired
 pub mod ParEnds
 pub mod PairExample
+pub mod Several
+pub mod Views
+pub mod Passed
+pub mod Forked
+pub mod ForkedCopy
+pub mod ForkedMove
+pub mod ForkedValues
+pub mod ForkedPasses
+pub mod ThreeStates
+pub mod Pars

@@ -57,15 +57,26 @@ reordered order2 y a st rises = record {
 abbrev pub three : ℕ → ℕ → ℕ → ℕ → Bool
 three t b c w = w == t || (w == b || w == c)
 
-three_is : (t b c w : ℕ) → three t b c w ≡ true → (w ≡ t) ⊎ ((w ≡ b) ⊎ (w ≡ c))
+pub three_is : (t b c w : ℕ) → three t b c w ≡ true → (w ≡ t) ⊎ ((w ≡ b) ⊎ (w ≡ c))
 three_is t b c w =
     eq_cases (λ d. (d || (w == b || w == c)) ≡ true → (w ≡ t) ⊎ ((w ≡ b) ⊎ (w ≡ c))) w t (λ e h. inl e)
     (λ nt. eq_cases (λ d. (d || w == c) ≡ true → (w ≡ t) ⊎ ((w ≡ b) ⊎ (w ≡ c))) w b (λ e h. inr (inl e)) (λ nb. eq_cases (λ d. d ≡ true → (w ≡ t) ⊎ ((w ≡ b) ⊎ (w ≡ c))) w c (λ e h. inr (inr e)) (λ nc h. cc)))
 
-three_not : (t b c w : ℕ) → three t b c w ≡ false → (w ≢ t) × (w ≢ b) × (w ≢ c)
+pub three_not : (t b c w : ℕ) → three t b c w ≡ false → (w ≢ t) × (w ≢ b) × (w ≢ c)
 three_not t b c w =
     eq_cases (λ d. (d || (w == b || w == c)) ≡ false → (w ≢ t) × (w ≢ b) × (w ≢ c)) w t (λ e h. cc)
     (λ nt. eq_cases (λ d. (d || w == c) ≡ false → (w ≢ t) × (w ≢ b) × (w ≢ c)) w b (λ e h. cc) (λ nb. eq_cases (λ d. d ≡ false → (w ≢ t) × (w ≢ b) × (w ≢ c)) w c (λ e h. cc) (λ nc h. (nt, nb, nc))))
+
+-- the three are three
+pub three_first : (t b c : ℕ) → three t b c t ≡ true
+three_first t b c = eq_cases (λ d. (d || (t == b || t == c)) ≡ true) t t (λ e. refl) (λ ne. absurd (ne refl))
+
+pub three_second : (t b c : ℕ) → three t b c b ≡ true
+three_second t b c = eq_cases (λ d. (b == t || (d || b == c)) ≡ true) b b (λ e. or_true (b == t)) (λ ne. absurd (ne refl))
+  where
+    or_true : (d : Bool) → (d || true) ≡ true
+    or_true true = refl
+    or_true false = refl
 
 module _ (y : Typing) (a a2 : PlainState Position) (t b c : ℕ) (x : Running Position) (e : Env) (ts : List Kind) (g : Owned) (pb pc : Position) (at : At y a t x e ts g) (none_b : a.thread b ≡ None) (none_c : a.thread c ≡ None) (differ : b ≢ c) (gives_b : y.gives.result b ≡ unit) (gives_c : y.gives.result c ≡ unit)
     (order_b : y.order t < y.order b) (order_c : y.order t < y.order c) (keys_b : ThreadKeys (slot_k b) y.rank (temp_k b 0)) (keys_c : ThreadKeys (slot_k c) y.rank (temp_k c 0)) (entry_b : pb.entry ≡ going [] [] unit) (entry_c : pc.entry ≡ going [] [] unit) (temps_b : pb.temps ≡ []) (temps_c : pc.temps ≡ []) where

@@ -7,7 +7,7 @@ use Rattle.fr_base.specs.declared.name.MutexNo.{MutexNo}
 use Rattle.fr_base.specs.declared.step.Fresh.{Fresh}
 use Rattle.fr_base.specs.declared.step.Fresh.TheVariants as fresh
 use Rattle.fr_terms.specs.Terms.{Text, Captured}
-use Rattle.fr_typing.specs.Kinds.{Owned, task, Kind, own, shared, mutable, view, whole, gone, copies}
+use Rattle.fr_typing.specs.Kinds.{Owned, unit, task, Kind, own, shared, mutable, view, whole, gone, copies}
 use Rattle.fr_typing.specs.Places.{Env, found, type_at, same_name, write_blocked, put_at, slot_of}
 use Rattle.fr_typing.specs.Captures.{by_spawn, captured_kind, captured_slot, Captures, captures_copy, captures_move}
 use Rattle.fr_typing.proofs.PlaceLemmas.{eq_cases}
@@ -56,12 +56,12 @@ named_if : (b : Bool) (below : Env) (x : Text) (n : ℕ) → (slot_of below x �
 named_if true below x n go h = let e : length below ≡ n = cc in omega (arith, e)
 named_if false below x n go h = let l = go h in omega (arith, l)
 
-named_below : (e : Env) (x : Text) (n : ℕ) → slot_of e x ≡ Some n → n < length e
+pub named_below : (e : Env) (x : Text) (n : ℕ) → slot_of e x ≡ Some n → n < length e
 named_below [] x n h = cc
 named_below (s ∷ below) x n h = named_if (same_name s.name x) below x n (named_below below x n) h
 
 -- the newest slot has this kind
-abbrev HeadIs : Env → Kind → Type 0
+abbrev pub HeadIs : Env → Kind → Type 0
 HeadIs [] k = ⊥
 HeadIs (s ∷ n) k = s.part ≡ whole k
 
@@ -131,14 +131,19 @@ module _ (s : Whole Position) (t : Thread Position) (wrap : Position → Life Po
 -- THE NEW THREAD
 
 -- its result is of this type
-with_result : Gives → ℕ → Owned → Gives
+pub with_result : Gives → ℕ → Owned → Gives
 with_result g u k = record g { result = λ w. if w == u then k else g.result w }
 
-result_new : (g : Gives) (u : ℕ) (k : Owned) → (with_result g u k).result u ≡ k
+pub result_new : (g : Gives) (u : ℕ) (k : Owned) → (with_result g u k).result u ≡ k
 unfolding with_result
 result_new g u k = eq_cases (λ b. (if b then k else g.result u) ≡ k) u u (λ e. refl) (λ ne. absurd (ne refl))
 
-result_regives : (a : PlainState Position) (g : Gives) (u : ℕ) (k : Owned) → a.thread u ≡ None → Regives a g (with_result g u k)
+-- a result that is unit stays so
+pub unit_still : (g : Gives) (u w : ℕ) → g.result w ≡ unit → (with_result g u unit).result w ≡ unit
+unfolding with_result
+unit_still g u w h = eq_cases (λ d. (if d then unit else g.result w) ≡ unit) w u (λ q. refl) (λ ne. h)
+
+pub result_regives : (a : PlainState Position) (g : Gives) (u : ℕ) (k : Owned) → a.thread u ≡ None → Regives a g (with_result g u k)
 unfolding with_result
 result_regives a g u k none = record {
   mutexes = λ m e. refl;

@@ -1,12 +1,12 @@
--- Typed states in which acts of threads are granted: main, which has bound a number, starts a thread that captures it; or main starts a thread
--- without captures, which ends and is joined.
+-- Typed states in which acts of threads are granted: main, which has bound a number, starts a thread that captures it, or two that do; or main starts a
+-- thread without captures, which ends and is joined.
 use Rattle.std.specs.Prelude.{◌≡◌, false, [], ◌∷◌, None}
 use Rattle.fr_base.specs.declared.label.Plain.TheVariants as plain
 use Rattle.fr_base.specs.declared.step.Fresh.TheVariants as fresh
 use Rattle.fr_typing.specs.Kinds.{unit, int, task, own}
 use Rattle.fr_plain.specs.declared.value.Value.{Value}
 use Rattle.fr_plain.specs.declared.value.Value.TheVariants.{Own}
-use Rattle.fr_plain.specs.MachineActs.{do_spawn, do_join, do_par_end, unit as unit_value}
+use Rattle.fr_plain.specs.MachineActs.{do_spawn, do_join, do_par, do_par_end, unit as unit_value}
 use Rattle.fr_plain.specs.MachineThreads.{Life, alive, owing, ended, Thread, Whole}
 use Rattle.fr_plain.specs.Machine.{takes_of, refused_names, act_waits}
 use Rattle.fr_sound.specs.Entries.{going, forked_at}
@@ -24,6 +24,14 @@ with_number = record { entry = going (variable int ∷ []) [] int; temps = [] }
 abbrev pub StartIsReady : Type 0
 StartIsReady = (y : Typing) × (refused_names (alone_at (bound int) (Own one ∷ []) [] []) (takes_of (do_spawn (captured ((0, false) ∷ [])) with_number)) (fresh.Thread 1) ≡ None)
     × Ready y (alone_at (bound int) (Own one ∷ []) [] []) (main_at (bound int) (Own one ∷ [])) (bound int) alive (do_spawn (captured ((0, false) ∷ [])) with_number) (λ (v : Value). position (variable int ∷ []) (own (task int) ∷ []) (v ∷ []))
+
+-- or two that both capture it, while main waits
+abbrev pub forked_with : Position
+forked_with = record { entry = forked_at (variable int ∷ []) [] unit; temps = [] }
+
+abbrev pub ParIsReady : Type 0
+ParIsReady = (y : Typing) × (refused_names (alone_at (bound int) (Own one ∷ []) [] []) (takes_of (do_par (captured ((0, false) ∷ [])) (bound int) (captured ((0, false) ∷ [])) (bound int))) (fresh.Threads 1 2) ≡ None)
+    × Ready y (alone_at (bound int) (Own one ∷ []) [] []) (main_at (bound int) (Own one ∷ [])) (bound int) alive (do_par (captured ((0, false) ∷ [])) (bound int) (captured ((0, false) ∷ [])) (bound int)) (λ (v : Value). forked_with)
 
 -- a thread without captures, which has nothing to do
 abbrev pub empty : Position

@@ -2,7 +2,7 @@
 use Rattle.std.specs.Prelude.{◌≡◌}
 use Rattle.fr_base.specs.declared.step.Fresh.TheVariants as fresh
 use Rattle.fr_plain.specs.declared.value.Value.{Value}
-use Rattle.fr_plain.specs.MachineActs.{Capture, Act, do_spawn, do_finish, do_join, do_par_end}
+use Rattle.fr_plain.specs.MachineActs.{Capture, Act, do_spawn, do_finish, do_join, do_par, do_par_end}
 use Rattle.fr_plain.specs.MachineThreads.{Now, Move, owing, ended, Thread, Whole, thread_at}
 use Rattle.std.specs.Prelude.{List, Option, Some}
 use Rattle.fr_plain.specs.PlainState.{plain_state}
@@ -18,6 +18,10 @@ IsSpawn a = (cs : List Capture) × (body : Position) × (a ≡ do_spawn cs body)
 -- a join
 abbrev pub IsJoin : Act Position → Type 0
 IsJoin a = (v : Value) × (a ≡ do_join v)
+
+-- the start of a pair
+abbrev pub IsPar : Act Position → Type 0
+IsPar a = (cs : List Capture) × (body : Position) × (ds : List Capture) × (other : Position) × (a ≡ do_par cs body ds other)
 
 -- the end of a pair, at which its parent goes on
 abbrev pub IsParEnd : Act Position → Type 0

@@ -2,6 +2,7 @@ use Rattle.thread_types.proofs.laws.thread_acts_keep_types.Goals as goal
 use Rattle.thread_types.proofs.Spawns.{spawn_keeps}
 use Rattle.thread_types.proofs.Finishes.{finish_keeps}
 use Rattle.thread_types.proofs.Joins.{join_keeps}
+use Rattle.thread_types.proofs.Pars.{par_keeps}
 use Rattle.thread_types.proofs.ParEnds.{par_end_keeps}
 
 pub returns-clause-start : goal.returns-clause-start
@@ -12,6 +13,9 @@ returns-clause-finish c = finish_keeps
 
 pub returns-clause-join : goal.returns-clause-join
 returns-clause-join c = join_keeps
+
+pub returns-clause-par : goal.returns-clause-par
+returns-clause-par c = par_keeps
 
 pub returns-clause-par_end : goal.returns-clause-par_end
 returns-clause-par_end c = par_end_keeps

@@ -1,0 +1,278 @@
+-- The captures of a par, one by one, while the thread that starts both waits.
+use Rattle.std.proofs.Common.{◌≡◌, ◌≢◌, ◌⊎◌, inl, inr, ◌∙◌, ℕ, suc, ◌<◌, Bool, true, false, List, [], ◌∷◌, length, Option, Some, None, refl, sym, ap, subst, arith}
+use Rattle.std.specs.Prelude.{not, if◌then◌else◌, is_some}
+use Rattle.fr_base.specs.declared.label.Plain.{Plain}
+use Rattle.fr_base.specs.declared.label.Plain.TheVariants as plain
+use Rattle.fr_base.specs.declared.name.ObjNo.{ObjNo}
+use Rattle.fr_base.specs.declared.name.MutexNo.{MutexNo}
+use Rattle.fr_terms.specs.Terms.{Text, Captured}
+use Rattle.fr_typing.specs.Kinds.{Owned, unit, Kind, own, shared, mutable, view, whole, gone, copies, map_some}
+use Rattle.fr_typing.specs.Places.{Slot, Env, found, type_at, same_name, read_blocked, write_blocked, heap_type, put_at, slot_of}
+use Rattle.fr_typing.specs.Captures.{by_par, captured_kind, captured_slot, Captures, captures_copy, captures_move}
+use Rattle.fr_typing.proofs.PlaceLemmas.{eq_cases}
+use Rattle.fr_store.specs.Keys.{slot_k, temp_k}
+use Rattle.fr_store.specs.Typed.{Exact, owns, refers}
+use Rattle.fr_store.specs.Below.{tree_of}
+use Rattle.fr_store.specs.Thread.{ThreadKeys}
+use Rattle.fr_plain.specs.declared.value.Value.{Value}
+use Rattle.fr_plain.specs.declared.value.Value.TheVariants.{Own, ToObject}
+use Rattle.fr_plain.specs.State.{slot_at, with_slot}
+use Rattle.fr_plain.specs.MachineThreads.{left_after as slots_after, then_passed, pass}
+use Rattle.fr_plain.specs.PlainState.{Running, PlainState, place_in}
+use Rattle.fr_sound.specs.Entries.{going, forked_at}
+use Rattle.fr_sound.specs.States.{Typing, env_at, is_hidden}
+use Rattle.fr_code.specs.CodeTypes.{SlotPasses, passes, SlotsPass, pass_none, pass_next}
+use Rattle.fr_code.specs.Steps.{captured}
+use Rattle.plain_types.specs.Positions.{Position, PositionTypes}
+use Rattle.plain_types.proofs.OneThread.{with_running}
+use Rattle.plain_types.proofs.Raised.{raised, raised_typing}
+use Rattle.plain_types.proofs.Focus.{top_none, Focus, focus}
+use Rattle.plain_types.proofs.Hand.{room, pushed_others}
+use Rattle.plain_types.proofs.Written.{slot_unwritten}
+use Rattle.thread_types.proofs.Passed.{Passes}
+use Rattle.thread_types.proofs.Spawns.{named_below, HeadIs}
+use Rattle.thread_types.proofs.Forked.{Forked, parent_hidden, first_slots}
+use Rattle.thread_types.proofs.ForkedCopy.{Copies, copy_caught}
+use Rattle.thread_types.proofs.ForkedMove.{move_caught}
+use Rattle.thread_types.proofs.ForkedValues.{owned_there, owned_copies, view_there, view_copies}
+
+-- RANKS
+
+-- temporary values of both children rank above their slots
+pub record Ready (a : PlainState Position) (t u w : ℕ) (x xu xw : Running Position) (e n m : Env) (ts : List Kind) (g : Owned) : Type 0 where
+  pub typing : Typing
+  pub forked : Forked typing a t u w x xu xw e n m ts g
+  pub focus : Focus typing a u n [] None
+  pub focus_other : Focus typing a w m [] None
+
+pub readied : (y : Typing) (a : PlainState Position) (t u w : ℕ) (x xu xw : Running Position) (e n m : Env) (ts : List Kind) (g : Owned) → Forked y a t u w x xu xw e n m ts g → Ready a t u w x xu xw e n m ts g
+readied y a t u w x xu xw e n m ts g f = record {
+  typing = y2;
+  forked = record {
+    state = state;
+    runs = f.runs;
+    entry = f.entry;
+    idle = f.idle;
+    first = record { state = state; runs = f.first.runs; entry = f.first.entry };
+    second = record { state = state; runs = f.second.runs; entry = f.second.entry };
+    differ = f.differ;
+    other = f.other;
+    apart = f.apart;
+    waits = f.waits;
+    waits_other = f.waits_other;
+    only = f.only;
+    foreign = f.foreign;
+    low = f.low;
+    low_other = f.low_other;
+  };
+  focus = focus y2 a u xu n [] unit state f.first.runs f.first.entry (λ i k le. let r = room y u n keys_one i k le in omega (arith, r)) [] None top_none (λ q. refl);
+  focus_other = focus y2 a w xw m [] unit state f.second.runs f.second.entry (room y1 w m keys_two) [] None top_none (λ q. refl);
+}
+  where
+    y1 : Typing
+    y1 = raised_typing (suc (y.rank (slot_k u (length n)))) y
+
+    y2 : Typing
+    y2 = raised_typing (suc (y1.rank (slot_k w (length m)))) y1
+
+    state : PositionTypes y2 a
+    state = raised (suc (y1.rank (slot_k w (length m)))) y1 a (raised (suc (y.rank (slot_k u (length n)))) y a f.state)
+
+    keys_one : ThreadKeys (slot_k u) y.rank (temp_k u 0)
+    keys_one = let r = (f.state.threads u xu f.first.runs).keys in record { differ = r.differ; off = λ i q. absurd cc; ranks = r.ranks }
+
+    keys_two : ThreadKeys (slot_k w) y1.rank (temp_k w 0)
+    keys_two = let r = (f.state.threads w xw f.second.runs).keys in record { differ = r.differ; off = λ i q. absurd cc; ranks = λ i j l. r.ranks i j l }
+
+-- the two change places
+pub swapped : {y : Typing} {a : PlainState Position} {t u w : ℕ} {x xu xw : Running Position} {e n m : Env} {ts : List Kind} {g : Owned} → Forked y a t u w x xu xw e n m ts g → Forked y a t w u x xw xu e m n ts g
+swapped f = record {
+  state = f.state;
+  runs = f.runs;
+  entry = f.entry;
+  idle = f.idle;
+  first = f.second;
+  second = f.first;
+  differ = f.other;
+  other = f.differ;
+  apart = λ q. f.apart (sym q);
+  waits = f.waits_other;
+  waits_other = f.waits;
+  only = λ v h. turn (f.only v h);
+  foreign = f.foreign;
+  low = f.low_other;
+  low_other = f.low;
+}
+  where
+    turn : {A B : Type 0} → A ⊎ B → B ⊎ A
+    turn (inl p) = inr p
+    turn (inr p) = inl p
+
+-- KINDS
+
+-- what par makes of a captured type
+par_kind : (e : Env) (k l : Kind) → captured_kind by_par e k ≡ Some l → ((o : Owned) × (k ≡ own o) × (l ≡ own o)) ⊎ ((o : Owned) × (l ≡ view o))
+par_kind e (own o) l h = let f : own o ≡ l = cc in inl (o, refl, sym f)
+par_kind e (view o) l h = let f : view o ≡ l = cc in inr (o, sym f)
+par_kind e (shared us) l h = by (heap_type e us) h
+  where
+    by : (q : Option Owned) → map_some view q ≡ Some l → ((o : Owned) × (shared us ≡ own o) × (l ≡ own o)) ⊎ ((o : Owned) × (l ≡ view o))
+    by None h = cc
+    by (Some o) h = let f : view o ≡ l = cc in inr (o, sym f)
+par_kind e (mutable us) l h = cc
+
+-- what moves is owned
+par_moves : (e : Env) (k l : Kind) → captured_kind by_par e k ≡ Some l → copies k ≡ false → (o : Owned) × (k ≡ own o) × (l ≡ own o)
+par_moves e (own o) l h c = let f : own o ≡ l = cc in (o, refl, sym f)
+par_moves e (view o) l h c = cc
+par_moves e (shared us) l h c = cc
+par_moves e (mutable us) l h c = cc
+
+-- a slot that a name has is no mark
+shown_if : (b : Bool) (s : Slot) (below : Env) (x : Text) (i : ℕ) → same_name s.name x ≡ b → (slot_of below x ≡ Some i → is_hidden (env_at below i) ≡ false) → (slot_of below x ≡ Some i → i < length below) → (if b then Some (length below) else slot_of below x) ≡ Some i → is_hidden (env_at (s ∷ below) i) ≡ false
+shown_if true s below x i named go low h =
+    let e : length below ≡ i = cc in
+    eq_cases (λ b. is_hidden (if b then Some s else env_at below i) ≡ false) i (length below) (λ q. by s.name named) (λ ne. absurd (ne (sym e)))
+  where
+    by : (q : Option Text) → same_name q x ≡ true → not (is_some q) ≡ false
+    by None h = cc
+    by (Some z) h = refl
+shown_if false s below x i named go low h = eq_cases (λ b. is_hidden (if b then Some s else env_at below i) ≡ false) i (length below) (λ q. let l = low h in absurd (omega (arith, l, q))) (λ ne. go h)
+
+shown : (e : Env) (x : Text) (i : ℕ) → slot_of e x ≡ Some i → is_hidden (env_at e i) ≡ false
+shown [] x i h = cc
+shown (s ∷ below) x i h = shown_if (same_name s.name x) s below x i refl (shown below x i) (named_below below x i) h
+
+-- STATES THAT DIFFER IN THE SLOTS OF TWO
+
+-- states of which the parent and one child have these slots and environments
+pub record Family (t u : ℕ) (ts : List Kind) (g : Owned) (temps : List Value) (state : Env → List Value → Env → List Value → PlainState Position) : Type 0 where
+  pub now : (e e2 : Env) (sl sl2 : List Value) (n n2 : Env) (new new2 : List Value) → (state e2 sl2 n2 new2).thread t ≡ with_running ((state e sl n new).thread t) (record { place = record { entry = forked_at e2 ts g; temps = temps }; slots = sl2 })
+  pub now_new : (e e2 : Env) (sl sl2 : List Value) (n n2 : Env) (new new2 : List Value) → (state e2 sl2 n2 new2).thread u ≡ with_running ((state e sl n new).thread u) (record { place = record { entry = going n2 [] unit; temps = [] }; slots = new2 })
+  pub others : (e e2 : Env) (sl sl2 : List Value) (n n2 : Env) (new new2 : List Value) (w : ℕ) → w ≢ t → w ≢ u → (state e2 sl2 n2 new2).thread w ≡ (state e sl n new).thread w
+  pub pairs : (e e2 : Env) (sl sl2 : List Value) (n n2 : Env) (new new2 : List Value) (w : ℕ) → (state e2 sl2 n2 new2).pair w ≡ (state e sl n new).pair w
+  pub mutexes : (e e2 : Env) (sl sl2 : List Value) (n n2 : Env) (new new2 : List Value) (q : MutexNo) → (state e2 sl2 n2 new2).mutex q ≡ (state e sl n new).mutex q
+  pub given : (e e2 : Env) (sl sl2 : List Value) (n n2 : Env) (new new2 : List Value) (q : MutexNo) → (state e2 sl2 n2 new2).is_given q ≡ (state e sl n new).is_given q
+  pub objects : (e e2 : Env) (sl sl2 : List Value) (n n2 : Env) (new new2 : List Value) (o : ObjNo) → (state e2 sl2 n2 new2).object o ≡ (state e sl n new).object o
+  pub made : (e : Env) (sl : List Value) (n : Env) (new : List Value) (o : ObjNo) (v : Plain) (w : Running Position) → (state e sl n new).object o ≡ Some v → place_in ((state e sl n new).thread o.thread) ≡ Some w → o.count < (state e sl n new).made o.thread
+
+module _ {t u : ℕ} {ts : List Kind} {g : Owned} {temps : List Value} {state : Env → List Value → Env → List Value → PlainState Position} (family : Family t u ts g temps state) (w : ℕ) (xw : Running Position) (m : Env) where
+  abbrev pub parent : Env → List Value → Running Position
+  parent e sl = record { place = record { entry = forked_at e ts g; temps = temps }; slots = sl }
+
+  abbrev pub child : Env → List Value → Running Position
+  child n new = record { place = record { entry = going n [] unit; temps = [] }; slots = new }
+
+  -- the state is typed, and the thread waits for its two
+  abbrev pub IsForked : Env → List Value → Env → List Value → Type 0
+  IsForked e sl n new = (y : Typing) × Forked y (state e sl n new) t u w (record { place = record { entry = forked_at e ts g; temps = temps }; slots = sl }) (record { place = record { entry = going n [] unit; temps = [] }; slots = new }) xw e n m ts g
+
+  passing : (e e2 : Env) (sl sl2 : List Value) (n : Env) (s : Slot) (new : List Value) (v : Value) (i : ℕ) {y : Typing} → Forked y (state e sl n new) t u w (parent e sl) (child n new) xw e n m ts g → ((b : ℕ) → b ≢ i → slot_at sl2 b ≡ slot_at sl b)
+      → Passes (state e sl n new) (state e2 sl2 (s ∷ n) (v ∷ new)) t u (parent e sl) (parent e2 sl2) (child n new) (child (s ∷ n) (v ∷ new)) i (length n)
+  passing e e2 sl sl2 n s new v i f same = record {
+    runs = f.runs;
+    runs_new = f.first.runs;
+    now = family.now e e2 sl sl2 n (s ∷ n) new (v ∷ new);
+    now_new = family.now_new e e2 sl sl2 n (s ∷ n) new (v ∷ new);
+    others = family.others e e2 sl sl2 n (s ∷ n) new (v ∷ new);
+    pairs = family.pairs e e2 sl sl2 n (s ∷ n) new (v ∷ new);
+    mutexes = family.mutexes e e2 sl sl2 n (s ∷ n) new (v ∷ new);
+    given = family.given e e2 sl sl2 n (s ∷ n) new (v ∷ new);
+    objects = family.objects e e2 sl sl2 n (s ∷ n) new (v ∷ new);
+    made = family.made e2 sl2 (s ∷ n) (v ∷ new);
+    temps = refl;
+    temps_new = refl;
+    slots = same;
+    slots_new = λ b ne. pushed_others v new b (length n) (sym (first_slots f)) ne;
+  }
+
+  -- ONE CAPTURE
+
+  record OnePass (sl : List Value) (new : List Value) (i : ℕ) (take : Bool) (e2 n2 : Env) : Type 0 where
+    value : Value
+    is : slot_at sl i ≡ Some value
+    typed : IsForked e2 (slots_after take sl i) n2 (value ∷ new)
+
+  -- a copy, or a view
+  put : (e n : Env) (sl new : List Value) (name : Text) (l : Kind) (v : Value) (i : ℕ) (p : Exact) (r : Ready (state e sl n new) t u w (parent e sl) (child n new) xw e n m ts g) → Copies r.typing (state e sl n new) t u (parent e sl) n l v i p
+      → IsForked e sl (record { name = Some name; part = whole l } ∷ n) (v ∷ new)
+  put e n sl new name l v i p r c = (_, copy_caught r.forked r.focus r.focus_other name c (passing e e sl sl n (record { name = Some name; part = whole l }) new v i r.forked (λ b ne. refl)))
+
+  one_pass : (e n e2 n2 : Env) (sl new : List Value) (c : Captured) (i : ℕ) (take : Bool) → IsForked e sl n new → Captures by_par e n c e2 n2 → slot_of e c.name ≡ Some i → (z : Kind) → HeadIs n2 z → take ≡ not (copies z) → OnePass sl new i take e2 n2
+  one_pass e n _ _ sl new c i take st (captures_copy {s = j} {k = q} {l = l} may copied free fresh) at z head way = by (par_kind e q l may.becomes)
+    where
+      r : Ready (state e sl n new) t u w (parent e sl) (child n new) xw e n m ts g
+      r = readied st.0 (state e sl n new) t u w (parent e sl) (child n new) xw e n m ts g st.1
+
+      same : j ≡ i
+      same = let f : Some j ≡ Some i = sym may.is.named ∙ at in cc
+
+      same_kind : l ≡ z
+      same_kind = cc
+
+      type : type_at e (record { slot = i; depth = 0 }) ≡ found (whole q)
+      type = ap (λ b. type_at e (record { slot = b; depth = 0 })) (sym same) ∙ may.is.is
+
+      lt : i < length e
+      lt = named_below e c.name i at
+
+      done : (v : Value) (p : Exact) → copies l ≡ true → slot_at sl i ≡ Some v → Copies r.typing (state e sl n new) t u (parent e sl) n l v i p → OnePass sl new i take e (captured_slot c l ∷ n)
+      done v p stays is k = record {
+        value = v;
+        is = is;
+        typed = subst (λ b. IsForked e (slots_after b sl i) (captured_slot c l ∷ n) (v ∷ new)) (sym (way ∙ ap (λ b. not (copies b)) (sym same_kind) ∙ ap not stays)) (put e n sl new c.name l v i p r k);
+      }
+
+      by : ((o : Owned) × (q ≡ own o) × (l ≡ own o)) ⊎ ((o : Owned) × (l ≡ view o)) → OnePass sl new i take e (captured_slot c l ∷ n)
+      by (inl o) =
+          let type_o : type_at e (record { slot = i; depth = 0 }) ≡ found (whole (own o.0)) = type ∙ ap (λ b. found (whole b)) o.1 in
+          let v = owned_there r.forked i lt o.0 type_o in
+          let k = owned_copies r.forked i lt o.0 type_o r.focus (ap copies (sym o.1) ∙ copied) v.0 v.1 in
+          done (Own v.0) (owns (tree_of o.0)) (ap copies (o.2 ∙ sym o.1) ∙ copied) v.1 (subst (λ b. Copies r.typing (state e sl n new) t u (parent e sl) n b (Own v.0) i (owns (tree_of o.0))) (sym o.2) k)
+      by (inr o) =
+          let hidden = sym (parent_hidden r.forked i) ∙ shown e c.name i at in
+          let becomes = may.becomes ∙ ap Some o.1 in
+          let v = view_there r.forked i lt q o.0 type becomes hidden in
+          let k = view_copies r.forked i lt q o.0 type becomes hidden r.focus (ap (read_blocked e) (sym same) ∙ free) v.0 v.1 in
+          done (ToObject v.0) (refers false (record { key = slot_k t i; depth = 1 })) (ap copies o.1) v.1 (subst (λ b. Copies r.typing (state e sl n new) t u (parent e sl) n b (ToObject v.0) i (refers false (record { key = slot_k t i; depth = 1 }))) (sym o.1) k)
+  one_pass e n _ _ sl new c i take st (captures_move {s = j} {k = q} {l = l} may moves free fresh) at z head way =
+      let r = readied st.0 (state e sl n new) t u w (parent e sl) (child n new) xw e n m ts g st.1 in
+      let o = par_moves e q l may.becomes moves in
+      let same : j ≡ i = let f : Some j ≡ Some i = sym may.is.named ∙ at in cc in
+      let same_kind : l ≡ z = cc in
+      let type : type_at e (record { slot = i; depth = 0 }) ≡ found (whole (own o.0)) = ap (λ b. type_at e (record { slot = b; depth = 0 })) (sym same) ∙ may.is.is ∙ ap (λ b. found (whole b)) o.1 in
+      let lt = named_below e c.name i at in
+      let v = owned_there r.forked i lt o.0 type in
+      let e2 = put_at e (record { slot = i; depth = 0 }) (gone (own o.0)) in
+      let d : IsForked (put_at e (record { slot = i; depth = 0 }) (gone (own o.0))) (with_slot sl i (Own plain.Nothing)) (captured_slot c (own o.0) ∷ n) (Own v.0 ∷ new) = (
+        _,
+        move_caught r.forked r.focus r.focus_other c.name i o.0 v.0 type (ap (write_blocked e) (sym same) ∙ free) v.1 lt
+            (passing e (put_at e (record { slot = i; depth = 0 }) (gone (own o.0))) sl (with_slot sl i (Own plain.Nothing)) n (captured_slot c (own o.0)) new (Own v.0) i r.forked (λ b ne. slot_unwritten sl i b (Own plain.Nothing) ne)),
+      ) in
+      let goes_away : take ≡ true = way ∙ ap (λ b. not (copies b)) (sym same_kind ∙ o.2) ∙ ap not (ap copies (sym o.1) ∙ moves) in
+      record {
+        value = Own v.0;
+        is = v.1;
+        typed = subst (λ b. IsForked (put_at e (record { slot = j; depth = 0 }) (gone q)) (slots_after b sl i) (captured_slot c l ∷ n) (Own v.0 ∷ new)) (sym goes_away)
+            (subst (λ b. IsForked (put_at e (record { slot = j; depth = 0 }) (gone b)) (with_slot sl i (Own plain.Nothing)) (captured_slot c l ∷ n) (Own v.0 ∷ new)) (sym o.1)
+            (subst (λ b. IsForked (put_at e (record { slot = j; depth = 0 }) (gone (own o.0))) (with_slot sl i (Own plain.Nothing)) (captured_slot c b ∷ n) (Own v.0 ∷ new)) (sym o.2)
+            (subst (λ b. IsForked (put_at e (record { slot = b; depth = 0 }) (gone (own o.0))) (with_slot sl i (Own plain.Nothing)) (captured_slot c (own o.0) ∷ n) (Own v.0 ∷ new)) (sym same) d)));
+      }
+
+  -- ALL OF A LIST
+
+  pub record AllPass (sl new : List Value) (cs : List (ℕ × Bool)) (e2 n2 : Env) : Type 0 where
+    pub left : List Value
+    pub news : List Value
+    pub is : pass (captured cs) sl new ≡ Some (record { left = left; new = news })
+    pub typed : IsForked e2 left n2 news
+
+  pub all_pass : (e n e2 n2 : Env) (sl new : List Value) (cs : List (ℕ × Bool)) → IsForked e sl n new → SlotsPass by_par e n cs e2 n2 → AllPass sl new cs e2 n2
+  all_pass e n _ _ sl new _ st pass_none = record { left = sl; news = new; is = refl; typed = st }
+  all_pass e n e2 n2 sl new _ st (pass_next {e1 = e1} {n1 = n1} {x = x} {xs = xs} one rest) =
+      let d = first e n x e1 n1 sl new st one in
+      let r = all_pass e1 n1 e2 n2 (slots_after x.1 sl x.0) (d.value ∷ new) xs d.typed rest in
+      record { left = r.left; news = r.news; is = ap (λ o. then_passed o (λ v. pass (captured xs) (slots_after x.1 sl x.0) (v ∷ new))) d.is ∙ r.is; typed = r.typed }
+    where
+      first : (e n : Env) (x : ℕ × Bool) (e1 n1 : Env) (sl new : List Value) → IsForked e sl n new → SlotPasses by_par e n x e1 n1 → OnePass sl new x.0 x.1 e1 n1
+      first e n _ _ _ sl new st (passes {e1 = e1} {n1 = n1} {s = z} {i = i} {take = take} {k = q} c at cap part way) = one_pass e n e1 (z ∷ n1) sl new c i take st cap at q part way
