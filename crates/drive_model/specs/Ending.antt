@@ -4,11 +4,11 @@ use Rattle.std.specs.Prelude.{ℕ, ◌&&◌, ◌||◌, Bool, true, false, is_som
 use Rattle.fr_base.specs.declared.step.Wait.{Wait}
 use Rattle.fr_base.specs.declared.step.Ending3.{Ending3}
 use Rattle.fr_base.specs.declared.step.Ending3.TheVariants.{Finished, Deadlocked, Going}
-use Rattle.thread_state.specs.View.{ThreadState}
+use Rattle.thread_state.specs.View.{ThreadState, is_over}
 use Rattle.thread_state.specs.declared.phase.Phase.{Phase}
 use Rattle.thread_state.specs.declared.phase.Phase.TheVariants as phase
 use Rattle.server_model.specs.Servers.{Server, Cluster}
-use Rattle.server_model.specs.Questions.{wait_of, is_over, waits_among}
+use Rattle.server_model.specs.Questions.{wait_of, waits_among}
 
 abbrev pub waits_in : List Server → List (ℕ × Wait)
 waits_in [] = []

@@ -5,7 +5,7 @@ use Rattle.std.proofs.lemmas.Bool.{eq-eqb}
 use Rattle.fr_base.specs.declared.instruction.Instr.{Instr}
 use Rattle.fr_base.specs.declared.instruction.Instr.TheVariants as instr
 use Rattle.fr_base.specs.declared.instruction.Operand.{Operand}
-use Rattle.thread_state.specs.View.{ThreadState}
+use Rattle.thread_state.specs.View.{ThreadState, is_over}
 use Rattle.thread_state.specs.declared.phase.Phase.{Phase}
 use Rattle.thread_state.specs.declared.phase.Phase.TheVariants as phase
 use Rattle.server_msgs.specs.declared.message.Message.{Message}
@@ -23,7 +23,6 @@ use Rattle.heap_law.specs.Names.{tot, one}
 use Rattle.heap_law.specs.Things.{Thing, stands, server_things, servers_things, things_of}
 use Rattle.heap_law.specs.Weights.{cells, tasks_of}
 use Rattle.heap_law.specs.Sight.{sight}
-use Rattle.heap_law.specs.Sharing.{is_over}
 use Rattle.heap_law.specs.Coherent.{Holds, objects_made}
 use Rattle.event_law.specs.Kinds.{Kind, step_box, message_kind, instr_kind, kind_at, kind_of}
 use Rattle.event_law.specs.Sums.{Sums}

@@ -11,7 +11,7 @@ use Rattle.heap_partition.specs.declared.value.BoxPtr.{BoxPtr}
 use Rattle.heap_partition.specs.declared.value.Cell.{Cell}
 use Rattle.heap_partition.specs.declared.value.Owned.{Owned}
 use Rattle.heap_partition.specs.declared.value.Owned.TheVariants as owned
-use Rattle.thread_state.specs.View.{ThreadState}
+use Rattle.thread_state.specs.View.{ThreadState, is_over}
 use Rattle.thread_state.specs.declared.value.Value.{Value}
 use Rattle.thread_state.specs.declared.value.Value.TheVariants as value
 use Rattle.journal.specs.declared.act.Act.TheVariants as act
@@ -23,7 +23,6 @@ use Rattle.heap_law.specs.Things.{Thing, in_hand, holds, lies, flies, stands, th
 use Rattle.heap_law.specs.Weights.{cells, owners, states, below, uses_of, users_of, shares_of, shares_at_home, tasks_of, is_thread}
 use Rattle.heap_law.specs.Follow.{Standing, threads_in, thread_at}
 use Rattle.heap_law.specs.Sight.{Sight}
-use Rattle.heap_law.specs.Sharing.{is_over}
 use Rattle.heap_law.specs.Naming.{was_made, not_made}
 use Rattle.event_law.specs.Sums.{Sums, is_server}
 use Rattle.event_law.specs.Laws.{Gives}

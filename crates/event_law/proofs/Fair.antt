@@ -3,7 +3,7 @@
 use Rattle.std.proofs.Common.{◌≡◌, ◌≤◌, ℕ, ◌+◌, ◌==◌, ◌&&◌, not, Bool, true, false, List, [], ◌∷◌, ◌++◌, None, refl, sym, ap, ap₂, ◌∙◌, arith}
 use Rattle.fr_base.specs.declared.instruction.Instr.{Instr}
 use Rattle.heap_partition.specs.declared.value.Cell.{Cell}
-use Rattle.thread_state.specs.View.{ThreadState}
+use Rattle.thread_state.specs.View.{ThreadState, is_over}
 use Rattle.thread_state.specs.declared.phase.Phase.{Phase}
 use Rattle.thread_state.specs.declared.phase.Phase.TheVariants as phase
 use Rattle.server_msgs.specs.declared.message.Message.{Message}
@@ -12,7 +12,7 @@ use Rattle.heap_law.specs.Names.{tot, one, if_so}
 use Rattle.mutex_home.specs.Mutexes.{Mutex}
 use Rattle.heap_law.specs.Things.{Thing, at_home, flies, sent, stands, counts}
 use Rattle.heap_law.specs.Requests.{Branch, waits, whole_answer, message_answer, halves, halves_to, halves_needed, pair_notes, pair_places, branch_places}
-use Rattle.heap_law.specs.Sharing.{is_over, finished_of, joined_of, got_phase, going_notes, goes_on, noted_away, has_ended}
+use Rattle.heap_law.specs.Sharing.{finished_of, joined_of, got_phase, going_notes, goes_on, noted_away, has_ended}
 use Rattle.heap_law.specs.Balances.{Agree, AtMost}
 use Rattle.event_law.proofs.Trades.{Same, tot-append}
 use Rattle.event_law.proofs.Unseen.{Unseen}

@@ -2,7 +2,7 @@
 use Rattle.std.proofs.Common.{◌≡◌, ◌≤◌, ℕ, ◌+◌, ◌==◌, ◌&&◌, not, List, true, false, [], ◌∷◌, ◌++◌, refl, sym, ap, ap₂, ◌∙◌, arith}
 use Rattle.fr_base.specs.declared.instruction.Instr.{Instr}
 use Rattle.fr_base.specs.declared.name.MutexNo.{MutexNo}
-use Rattle.thread_state.specs.View.{ThreadState}
+use Rattle.thread_state.specs.View.{ThreadState, is_over}
 use Rattle.thread_state.specs.declared.phase.Phase.{Phase}
 use Rattle.thread_state.specs.declared.phase.Phase.TheVariants as phase
 use Rattle.server_msgs.specs.declared.message.Message.{Message}
@@ -13,7 +13,7 @@ use Rattle.server_model.specs.Joining.{waits_for_join}
 use Rattle.heap_law.specs.Names.{tot, one}
 use Rattle.heap_law.specs.Things.{Thing, stands, sent, message_things}
 use Rattle.heap_law.specs.Requests.{waits, whole_answer, message_answer, halves, halves_to, halves_needed, pair_notes, pair_places, branch_places}
-use Rattle.heap_law.specs.Sharing.{is_over, finished_of, joined_of, got_phase, going_notes, goes_on, has_ended}
+use Rattle.heap_law.specs.Sharing.{finished_of, joined_of, got_phase, going_notes, goes_on, has_ended}
 use Rattle.event_law.proofs.Trades.{tot-append}
 use Rattle.event_law.proofs.Held.{result_of, owed_of, holds_result}
 use Rattle.event_law.proofs.Fair.{Fair, even, Hears, owed_heard, halves_heard, needed_heard, notes_heard, places_heard, going_heard, goes_heard, results_heard, ended_heard, not_ended, if_none, needs_none, needs_both, calm_waits, calm_over, calm_places}

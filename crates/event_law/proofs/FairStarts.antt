@@ -4,14 +4,14 @@ use Rattle.fr_typing.proofs.PlaceLemmas.{eq_cases}
 use Rattle.fr_base.specs.declared.instruction.Instr.{Instr}
 use Rattle.heap_partition.specs.declared.value.Owned.{Owned}
 use Rattle.join_home.specs.Tasks.{going, in_pair}
-use Rattle.thread_state.specs.View.{ThreadState}
+use Rattle.thread_state.specs.View.{ThreadState, is_over}
 use Rattle.thread_state.specs.declared.phase.Phase.TheVariants as phase
 use Rattle.server_msgs.specs.declared.message.Message.TheVariants as message
 use Rattle.server_model.specs.Events.{can_step}
 use Rattle.heap_law.specs.Names.{tot, one, if_so, other}
 use Rattle.heap_law.specs.Things.{Thing, stands, noted, message_things, task_things, thread_things}
 use Rattle.heap_law.specs.Requests.{Branch, waits, halves_to, halves_needed, pair_notes, pair_places, branch_places, home_of}
-use Rattle.heap_law.specs.Sharing.{is_over, got_phase, going_notes, goes_on, noted_away, has_ended}
+use Rattle.heap_law.specs.Sharing.{got_phase, going_notes, goes_on, noted_away, has_ended}
 use Rattle.event_law.proofs.Trades.{tot-append}
 use Rattle.event_law.proofs.Unseen.{thread_alone}
 use Rattle.event_law.proofs.Held.{result_of, owed_of, bare_held}

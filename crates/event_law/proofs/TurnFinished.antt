@@ -8,7 +8,7 @@ use Rattle.join_home.specs.Tasks.{Task, TaskState, going, let_go, kept, in_pair,
 use Rattle.join_home.specs.Tasks as tasks
 use Rattle.join_home.specs.declared.answers.EndedAs.{EndedAs}
 use Rattle.join_home.specs.declared.answers.EndedAs.TheVariants as over
-use Rattle.thread_state.specs.View.{ThreadState}
+use Rattle.thread_state.specs.View.{ThreadState, is_over}
 use Rattle.thread_state.specs.declared.phase.Phase.{Phase}
 use Rattle.thread_state.specs.declared.phase.Phase.TheVariants as phase
 use Rattle.server_msgs.specs.declared.message.Message.{Message}
@@ -22,7 +22,7 @@ use Rattle.heap_law.specs.Names.{one, if_so}
 use Rattle.heap_law.specs.Naming.{rising, numbers_of}
 use Rattle.heap_law.specs.Things.{Thing, stands, noted, message_things}
 use Rattle.heap_law.specs.Requests.{waits, halves_to, pair_notes, pair_places, branch_places}
-use Rattle.heap_law.specs.Sharing.{is_over, got_phase, going_notes, has_ended}
+use Rattle.heap_law.specs.Sharing.{got_phase, going_notes, has_ended}
 use Rattle.heap_law.proofs.Names.{and_left, and_right}
 use Rattle.event_law.specs.Laws.{Gives}
 use Rattle.event_law.proofs.Results.{bind_gives}

@@ -7,7 +7,7 @@ use Rattle.fr_base.specs.declared.release.Released.TheVariants as released
 use Rattle.read_cache.specs.Cache.{Copy}
 use Rattle.join_home.specs.Tasks.{Task, TaskState, going, let_go, kept, in_pair, task_in, state_in, with_state, without_task, asked_from, let_go_from}
 use Rattle.join_home.specs.Tasks as tasks
-use Rattle.thread_state.specs.View.{ThreadState}
+use Rattle.thread_state.specs.View.{ThreadState, is_over}
 use Rattle.thread_state.specs.declared.phase.Phase.{Phase}
 use Rattle.thread_state.specs.declared.phase.Phase.TheVariants as phase
 use Rattle.server_msgs.specs.declared.message.Message.{Message}
@@ -20,7 +20,7 @@ use Rattle.server_model.specs.Events.{is_ready, begin_work}
 use Rattle.heap_law.specs.Names.{tot, one, if_so}
 use Rattle.heap_law.specs.Things.{Thing, stands, noted, sent, message_things, thread_things}
 use Rattle.heap_law.specs.Requests.{waits, branch_places, halves_to, halves_needed, pair_notes, pair_places}
-use Rattle.heap_law.specs.Sharing.{is_over, got_phase, going_notes, goes_on, noted_away, has_ended}
+use Rattle.heap_law.specs.Sharing.{got_phase, going_notes, goes_on, noted_away, has_ended}
 use Rattle.event_law.specs.Laws.{Gives}
 use Rattle.event_law.proofs.Results.{over_gives}
 use Rattle.event_law.proofs.Trades.{tot-append, tot-front}

@@ -2,6 +2,7 @@
 use Rattle.std.proofs.Common.{◌≡◌, ◌≢◌, inl, inr, ℕ, ◌+◌, ◌≤◌, Bool, true, false, not, ◌&&◌, List, [], ◌∷◌, refl, subst, arith}
 use Rattle.std.specs.Prelude.{◌==◌}
 use Rattle.std.proofs.lemmas.Bool.Decides.{nat_tests}
+use Rattle.thread_state.specs.View.{is_over}
 use Rattle.thread_state.specs.declared.phase.Phase.{Phase}
 use Rattle.thread_state.specs.declared.phase.Phase.TheVariants as phase
 use Rattle.join_home.specs.Tasks.{TaskState, going, let_go, kept, asked, in_pair}
@@ -13,7 +14,7 @@ use Rattle.heap_law.specs.Sight.{Sight, sight}
 use Rattle.heap_law.specs.Balances.{Agree}
 use Rattle.heap_law.specs.Requests.{Branch, half_noted, pair_notes, branch_places, pair_places}
 use Rattle.heap_law.specs.Weights.{tasks_of, is_thread}
-use Rattle.heap_law.specs.Sharing.{is_over, going_on, finished, going_notes, goes_on, owes, owed, kept_note, got_phase, results, has_ended, named_pair}
+use Rattle.heap_law.specs.Sharing.{going_on, finished, going_notes, goes_on, owes, owed, kept_note, got_phase, results, has_ended, named_pair}
 use Rattle.heap_law.specs.Following.{TasksNoted, FollowLaw}
 use Rattle.heap_law.proofs.Named.{named_there}
 use Rattle.heap_law.proofs.Asked.{awaited_word}

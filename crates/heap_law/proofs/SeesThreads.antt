@@ -5,6 +5,7 @@ use Rattle.fr_base.specs.declared.release.Released.{Released}
 use Rattle.fr_base.specs.declared.release.Released.TheVariants as released
 use Rattle.heap_partition.specs.declared.value.Owned.{Owned}
 use Rattle.heap_partition.specs.declared.value.Owned.TheVariants as owned
+use Rattle.thread_state.specs.View.{is_over}
 use Rattle.thread_state.specs.declared.phase.Phase.{Phase}
 use Rattle.thread_state.specs.declared.phase.Phase.TheVariants as phase
 use Rattle.server_msgs.specs.declared.message.Message.{Message}
@@ -17,7 +18,7 @@ use Rattle.heap_law.specs.Paths.{joined_thread}
 use Rattle.heap_law.specs.Walking.{instr_of}
 use Rattle.heap_law.specs.Weights.{tasks_of, tasks_sent, released_task, is_thread, numbers}
 use Rattle.heap_law.specs.Requests.{is_task}
-use Rattle.heap_law.specs.Sharing.{going_on, going_notes, goes_on, is_over, finished_of, finished_thread, started_threads, owned_task, released_task as released_weight, message_task, tasks, gift_result, some_task, gift_task, joined_of, owes, owed, joined_thread_in, owed_threads, kept_note, got_phase, results, phase_result, resulting}
+use Rattle.heap_law.specs.Sharing.{going_on, going_notes, goes_on, finished_of, finished_thread, started_threads, owned_task, released_task as released_weight, message_task, tasks, gift_result, some_task, gift_task, joined_of, owes, owed, joined_thread_in, owed_threads, kept_note, got_phase, results, phase_result, resulting}
 use Rattle.heap_law.proofs.Shown.{Sees, Quiet}
 use Rattle.heap_law.proofs.Names.{left_none, right_none, both_none, and_left, same_number, one_not, if_not, if_none, apart, other_number}
 

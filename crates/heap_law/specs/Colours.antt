@@ -8,6 +8,7 @@ use Rattle.heap_partition.specs.declared.value.Cell.{Cell}
 use Rattle.join_home.specs.Tasks.{TaskState, asked}
 use Rattle.server_msgs.specs.declared.message.Message.{Message}
 use Rattle.server_msgs.specs.declared.message.Message.TheVariants.{Fetch, Fetched, Move, Moved, Lock, Granted, Dup, Join}
+use Rattle.thread_state.specs.View.{is_over}
 use Rattle.server_model.specs.Servers.{Cluster}
 use Rattle.fr_base.specs.Names.{same_plain}
 use Rattle.coloured_heap.specs.Heap.{Place, Lies, Flies, Living, Copied, Wish, ForCopy, ForObject, ForContent, ForShare, ForResult, Running, Coloured, object_at, copy_at, thread_at, same_wish, mutex_at}
@@ -18,7 +19,7 @@ use Rattle.heap_law.specs.Follow as follow
 use Rattle.heap_law.specs.Follow.{Standing}
 use Rattle.heap_law.specs.Sight.{Sight, sight, word, issued}
 use Rattle.heap_law.specs.Weights.{drops}
-use Rattle.heap_law.specs.Sharing.{is_over, gift_content}
+use Rattle.heap_law.specs.Sharing.{gift_content}
 use Rattle.heap_law.specs.OneHeap.{first_shown, is_given_thread, is_given_mutex}
 
 abbrev if_some : {A : Type 0} → Bool → A → Option A

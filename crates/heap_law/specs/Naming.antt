@@ -7,7 +7,7 @@ use Rattle.fr_base.specs.declared.release.Released.TheVariants as released
 use Rattle.fr_base.specs.declared.settings.Options.{Options}
 use Rattle.heap_partition.specs.declared.value.Owned.{Owned}
 use Rattle.heap_partition.specs.declared.value.Owned.TheVariants as owned
-use Rattle.thread_state.specs.View.{is_pinned}
+use Rattle.thread_state.specs.View.{is_pinned, is_over}
 use Rattle.thread_state.specs.declared.value.Value.{Value}
 use Rattle.thread_state.specs.declared.phase.Phase.{Phase}
 use Rattle.thread_state.specs.declared.phase.Phase.TheVariants as phase
@@ -25,7 +25,7 @@ use Rattle.heap_law.specs.Weights.{is_thread, numbers}
 use Rattle.heap_law.specs.Placing.{sum_over}
 use Rattle.heap_law.specs.Walking.{sum_threads}
 use Rattle.heap_law.specs.Requests.{home_of}
-use Rattle.heap_law.specs.Sharing.{owned_mutex, message_mutex, mutexes, is_over}
+use Rattle.heap_law.specs.Sharing.{owned_mutex, message_mutex, mutexes}
 
 -- NUMBERS
 

@@ -15,7 +15,7 @@ use Rattle.fr_code.specs.Machine.{CodeRunning, CodeState}
 use Rattle.heap_partition.specs.Plain.{plain_of}
 use Rattle.heap_partition.specs.declared.value.Owned.{Owned}
 use Rattle.heap_partition.specs.declared.value.Owned.TheVariants as owned
-use Rattle.thread_state.specs.View.{ThreadState}
+use Rattle.thread_state.specs.View.{ThreadState, is_over}
 use Rattle.thread_state.specs.declared.phase.Phase.{Phase}
 use Rattle.thread_state.specs.declared.phase.Phase.TheVariants as phase
 use Rattle.thread_state.specs.declared.value.Value.{Value}
@@ -29,7 +29,7 @@ use Rattle.heap_law.specs.Sight.{Sight, sight}
 use Rattle.heap_law.specs.Paths.{joined_thread}
 use Rattle.heap_law.specs.Walking.{instr_of}
 use Rattle.heap_law.specs.Requests.{home_of, locked_mutex}
-use Rattle.heap_law.specs.Sharing.{is_over, gift_content, gift_result, got_phase}
+use Rattle.heap_law.specs.Sharing.{gift_content, gift_result, got_phase}
 use Rattle.heap_law.specs.Naming.{started_at, made_at}
 
 -- WHAT IS IN THE STATE

@@ -8,13 +8,13 @@ use Rattle.heap_partition.specs.declared.value.Owned.TheVariants as owned
 use Rattle.join_home.specs.Tasks.{TaskState, in_pair}
 use Rattle.server_msgs.specs.declared.message.Message.{Message}
 use Rattle.server_msgs.specs.declared.message.Message.TheVariants.{Finished}
+use Rattle.thread_state.specs.View.{is_over}
 use Rattle.heap_law.specs.Names.{one, other, if_so}
 use Rattle.heap_law.specs.Things.{Thing, holds, lies, flies, sent, noted}
 use Rattle.heap_law.specs.Follow.{Standing}
 use Rattle.heap_law.specs.Sight.{Sight}
 use Rattle.heap_law.specs.Placing.{sum_over}
 use Rattle.heap_law.specs.Walking.{sum_threads, instr_of}
-use Rattle.heap_law.specs.Sharing.{is_over}
 use Rattle.heap_law.specs.OneHeap.{Node, object_n, mutex_n, task_n, same_node, Owner, inside, owner_of, is_branch}
 use Rattle.heap_law.specs.Ranks.{Step, steps_of, endless}
 

@@ -6,6 +6,7 @@ use Rattle.fr_base.specs.declared.release.Released.{Released}
 use Rattle.fr_base.specs.declared.release.Released.TheVariants as released
 use Rattle.heap_partition.specs.declared.value.Owned.{Owned}
 use Rattle.heap_partition.specs.declared.value.Owned.TheVariants as owned
+use Rattle.thread_state.specs.View.{is_over}
 use Rattle.thread_state.specs.declared.phase.Phase.{Phase}
 use Rattle.thread_state.specs.declared.phase.Phase.TheVariants as phase
 use Rattle.join_home.specs.Tasks.{TaskState, going, let_go, kept, asked, in_pair}
@@ -150,10 +151,6 @@ other_home x = other (x.thread.home == home_of x.thread.number)
 -- each thread's `home` is the server of its number
 abbrev pub thread_homes_wrong : Sight → ℕ
 thread_homes_wrong s = sum_threads s other_home
-
-abbrev pub is_over : Phase → Bool
-is_over phase.Over = true
-is_over p = false
 
 abbrev pub going_on : TaskState → Bool
 going_on going = true

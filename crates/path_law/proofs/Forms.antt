@@ -15,13 +15,13 @@ use Rattle.fr_code.specs.Steps.{Place}
 use Rattle.fr_code.specs.CodeTypes.{is_variable}
 use Rattle.mut_borrow.specs.declared.mutable.MutRef.{MutRef}
 use Rattle.mut_borrow.specs.declared.shared.SharedRef.{SharedRef}
+use Rattle.thread_state.specs.View.{is_over}
 use Rattle.thread_state.specs.declared.value.Value.{Value}
 use Rattle.thread_state.specs.declared.value.Value.TheVariants as value
 use Rattle.server_model.specs.Servers.{Cluster}
 use Rattle.heap_law.specs.Names.{tot, if_so, Among}
 use Rattle.heap_law.specs.Follow.{Standing, Ground}
 use Rattle.heap_law.specs.Sight.{sight}
-use Rattle.heap_law.specs.Sharing.{is_over}
 use Rattle.heap_law.specs.OneHeap.{one_heap, running_at}
 use Rattle.type_law.specs.Names.{NameTypes, names_of}
 use Rattle.type_law.specs.ClusterTypes.{temps_wrong, is_mark, KnownAt, astray, all_astray, astray_of, slot_form, slots_wrong, has_form, entry_wrong, forms_of}

@@ -16,6 +16,7 @@ use Rattle.fr_store.proofs.Chains.{unique}
 use Rattle.fr_store.proofs.Sound.{walk_last, ref_at, sound}
 use Rattle.fr_sound.specs.Seen.{seen_cell}
 use Rattle.mut_borrow.specs.declared.mutable.MutRef.{MutRef}
+use Rattle.thread_state.specs.View.{is_over}
 use Rattle.thread_state.specs.declared.phase.Phase.{Phase}
 use Rattle.thread_state.specs.declared.phase.Phase.TheVariants as phase
 use Rattle.thread_state.specs.declared.value.Value.{Value}
@@ -27,7 +28,6 @@ use Rattle.heap_law.specs.Follow.{Standing, Ground, threads_in, thread_at, locat
 use Rattle.heap_law.specs.Stale.{same_location, is_among, Reference, references, holder_of, is_held_at as is_held_there, one_star_less, lent_place, with_place, lent_places, changed_above, stale_above, taken_above}
 use Rattle.heap_law.specs.Sight.{sight}
 use Rattle.heap_law.specs.Walking.{instr_of}
-use Rattle.heap_law.specs.Sharing.{is_over}
 use Rattle.heap_law.specs.Words.{IsStale}
 use Rattle.heap_law.specs.OneHeap.{object_value}
 use Rattle.heap_law.proofs.Words.{named}

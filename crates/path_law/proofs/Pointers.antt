@@ -15,6 +15,7 @@ use Rattle.heap_partition.specs.declared.value.Owned.TheVariants as owned
 use Rattle.heap_partition.specs.Plain.{plain_of}
 use Rattle.mut_borrow.specs.declared.mutable.MutRef.{MutRef}
 use Rattle.mut_borrow.specs.declared.shared.SharedRef.{SharedRef}
+use Rattle.thread_state.specs.View.{is_over}
 use Rattle.thread_state.specs.declared.value.Value.{Value}
 use Rattle.thread_state.specs.declared.value.Value.TheVariants as value
 use Rattle.server_model.specs.Servers.{Cluster}
@@ -23,7 +24,6 @@ use Rattle.server_msgs.specs.declared.message.Message.TheVariants.{Drop}
 use Rattle.heap_law.specs.Names.{one, other, if_so, Among, boxes}
 use Rattle.heap_law.specs.Things.{Location, at_slot, at_temp, in_cell, Spot, in_slot, in_temp, Thing, holds, shares, borrows, lies, flies, sent, slot_things, temp_things, things_of}
 use Rattle.heap_law.specs.Follow.{Standing}
-use Rattle.heap_law.specs.Sharing.{is_over}
 use Rattle.heap_law.specs.Rooted.{is_end, dressed}
 use Rattle.heap_law.specs.Walking.{instr_of}
 use Rattle.heap_law.specs.Sight.{sight, Pointer, pointer_in, location_of, dropped_pointer, pointers_of, pointers_in}

@@ -3,6 +3,7 @@
 use Rattle.std.specs.Prelude.{◌≡◌, ℕ, Bool, false, Some, slice_get}
 use Rattle.fr_base.specs.declared.name.MutexNo.{MutexNo}
 use Rattle.fr_base.specs.declared.place.Lval.{Lval}
+use Rattle.thread_state.specs.View.{is_over}
 use Rattle.thread_state.specs.declared.value.Value.TheVariants as value
 use Rattle.server_model.specs.Servers.{Cluster}
 use Rattle.fr_store.specs.Keys.{Key, slot_k, temp_k}
@@ -17,7 +18,6 @@ use Rattle.heap_law.specs.Weights.{cells, owners, is_thread}
 use Rattle.heap_law.specs.Coherent.{Holds, names_counted, counts_from_one, over_are_bare}
 use Rattle.heap_law.specs.Follow.{Standing, place_at}
 use Rattle.heap_law.specs.Sight.{sight}
-use Rattle.heap_law.specs.Sharing.{is_over}
 use Rattle.heap_law.specs.OneHeap.{one_heap}
 use Rattle.type_law.specs.ClusterTypes.{Types, IsCoherent}
 

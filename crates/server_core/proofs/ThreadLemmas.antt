@@ -4,10 +4,10 @@ use Rattle.std.proofs.lemmas.Bool.{eq-eqb, eqb-true, ltb-true, ltb-false, lt-ltb
 use Rattle.rank_map.specs.Places.{Place, Entry, place_at, item_in, item_at, put_first, with_place, entry_first, entries, Rises}
 use Rattle.rank_map.specs.Marks.{mark_if, mark_of, marked}
 use Rattle.rank_map.proofs.PlaceLemmas.{below_all}
-use Rattle.thread_state.specs.View.{ThreadState, ThreadView}
+use Rattle.thread_state.specs.View.{ThreadState, ThreadView, is_over}
 use Rattle.server_model.specs.Work.{thread_in, set_thread, with_thread, without_thread}
 use Rattle.server_model.specs.Events.{can_step, is_ready}
-use Rattle.server_model.specs.Questions.{is_over, runnable_in, active_in, movable_in}
+use Rattle.server_model.specs.Questions.{runnable_in, active_in, movable_in}
 use Rattle.server_core.specs.Threads.{states, HasKey, AreNumbered, steps, moves, acts}
 
 -- the threads of entries

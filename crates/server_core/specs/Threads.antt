@@ -3,10 +3,10 @@ use Rattle.std.specs.Prelude.{if◌then◌else◌, ◌≡◌, ℕ, ◌^◌, ◌&
 use Rattle.rank_map.specs.Places.{Place, Rises}
 use Rattle.rank_map.specs.Queues.{items_of}
 use Rattle.rank_map.specs.Marks.{IsMarked}
-use Rattle.thread_state.specs.View.{ThreadState, ThreadView}
+use Rattle.thread_state.specs.View.{ThreadState, ThreadView, is_over}
 use Rattle.server_model.specs.Servers.{main_thread}
 use Rattle.server_model.specs.Events.{can_step, is_ready}
-use Rattle.server_model.specs.Questions.{wait_of, is_over}
+use Rattle.server_model.specs.Questions.{wait_of}
 
 -- the threads that stand there, by rising number
 abbrev pub states : List (Place ThreadView) → List ThreadState

@@ -3,7 +3,7 @@ use Rattle.std.specs.Prelude.{ℕ, ℤ, zero, suc, ◌+◌, ◌==◌, ◌&&◌, 
 use Rattle.fr_base.specs.Kinds.{kind_number}
 use Rattle.fr_base.specs.declared.instruction.Instr.{Instr}
 use Rattle.fr_base.specs.declared.settings.Options.{Options}
-use Rattle.thread_state.specs.View.{ThreadState}
+use Rattle.thread_state.specs.View.{ThreadState, is_over}
 use Rattle.thread_state.specs.declared.phase.Phase.{Phase}
 use Rattle.thread_state.specs.declared.phase.Phase.TheVariants as phase
 use Rattle.heap_partition.specs.declared.value.Cell.{Cell}
@@ -102,10 +102,6 @@ counts_from zero k kinds = []
 counts_from (suc n) k kinds = counted k (count_of k kinds) (counts_from n (k + 1) kinds)
 
 -- THE STATE AT THE END
-
-abbrev pub is_over : Phase → Bool
-is_over phase.Over = true
-is_over p = false
 
 abbrev pub all_over : List ThreadState → Bool
 all_over [] = true

@@ -4,7 +4,7 @@ use Rattle.fr_base.specs.declared.settings.Options.{Options}
 use Rattle.fr_base.specs.declared.step.Wait.{Wait}
 use Rattle.fr_base.specs.declared.step.Wait.TheVariants as wait
 use Rattle.read_cache.specs.Cache.{oldest_unused}
-use Rattle.thread_state.specs.View.{ThreadState}
+use Rattle.thread_state.specs.View.{ThreadState, is_over}
 use Rattle.thread_state.specs.declared.phase.Phase.{Phase}
 use Rattle.thread_state.specs.declared.phase.Phase.TheVariants as phase
 use Rattle.server_model.specs.Servers.{Server}
@@ -28,10 +28,6 @@ wait_of (phase.WaitLock m) = Some (wait.Lock m)
 wait_of (phase.WaitJoin t) = Some (wait.Join t)
 wait_of (phase.WaitPar a b) = Some (wait.Par a b)
 wait_of p = None
-
-abbrev pub is_over : Phase → Bool
-is_over phase.Over = true
-is_over p = false
 
 -- a thread with what it waits for, among others by rising thread
 abbrev pub add_wait : ℕ → Option Wait → List (ℕ × Wait) → List (ℕ × Wait)

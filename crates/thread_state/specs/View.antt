@@ -1,5 +1,5 @@
 -- What contracts see of a thread: its state, and beside it the room.
-use Rattle.std.specs.Prelude.{◌≡◌, ℕ, ◌/◌, ◌^◌, Bool, false, List, [], All, Option, None}
+use Rattle.std.specs.Prelude.{◌≡◌, ℕ, ◌/◌, ◌^◌, Bool, true, false, List, [], All, Option, None}
 use Rattle.heap_partition.specs.declared.value.Owned.{Owned}
 use Rattle.thread_state.specs.declared.value.Value.{Value}
 use Rattle.thread_state.specs.declared.value.Value.TheVariants as value
@@ -44,6 +44,11 @@ new_thread number pc slots = record {
 abbrev pub is_pinned : Value → Bool
 is_pinned (value.Shared r) = r.pinned
 is_pinned _ = false
+
+-- the thread has ended
+abbrev pub is_over : Phase → Bool
+is_over phase.Over = true
+is_over p = false
 
 -- it uses no cached word, and none of its references keeps a copy in use
 pub record IsPacked (t : ThreadState) : Type 0 where

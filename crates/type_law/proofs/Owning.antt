@@ -9,7 +9,7 @@ use Rattle.heap_partition.specs.declared.value.Owned.TheVariants as owned
 use Rattle.fr_typing.specs.Kinds.{Owned, unit, int, box, mutex, task, same_owned, own, shared, mutable, view, Piece, whole, gone, boxed}
 use Rattle.fr_typing.specs.Places.{Slot, Env}
 use Rattle.fr_typing.specs.Checks.{owned_levels}
-use Rattle.thread_state.specs.View.{ThreadState}
+use Rattle.thread_state.specs.View.{ThreadState, is_over}
 use Rattle.thread_state.specs.declared.value.Value.{Value as Any}
 use Rattle.thread_state.specs.declared.value.Value.TheVariants as value
 use Rattle.heap_law.specs.Names.{tot, other, if_so, Among}
@@ -18,7 +18,6 @@ use Rattle.heap_law.specs.Sight.{Sight, sight}
 use Rattle.heap_law.specs.Walking.{instr_of}
 use Rattle.heap_law.specs.Paths.{joined_thread}
 use Rattle.heap_law.specs.Requests.{locked_mutex}
-use Rattle.heap_law.specs.Sharing.{is_over}
 use Rattle.heap_law.specs.OneHeap.{Node, object_n, mutex_n, task_n, owns}
 use Rattle.fr_code.specs.CodeTypes.{Entry, Table}
 use Rattle.fr_sound.specs.States.{owned_part}

@@ -6,7 +6,7 @@ use Rattle.fr_base.specs.declared.name.MutexNo.{MutexNo}
 use Rattle.fr_base.specs.declared.place.Lval.{Lval}
 use Rattle.heap_partition.specs.declared.value.Owned.{Owned}
 use Rattle.heap_partition.specs.declared.value.Owned.TheVariants as owned
-use Rattle.thread_state.specs.View.{ThreadState}
+use Rattle.thread_state.specs.View.{ThreadState, is_over}
 use Rattle.thread_state.specs.declared.value.Value.{Value}
 use Rattle.thread_state.specs.declared.value.Value.TheVariants as value
 use Rattle.thread_state.specs.declared.phase.Phase.{Phase}
@@ -25,7 +25,6 @@ use Rattle.heap_law.specs.Placing.{sum_over}
 use Rattle.heap_law.specs.Walking.{sum_threads, instr_of}
 use Rattle.heap_law.specs.Paths.{joined_thread}
 use Rattle.heap_law.specs.Requests.{locked_mutex}
-use Rattle.heap_law.specs.Sharing.{is_over}
 use Rattle.heap_law.specs.Coherent.{IsSound}
 use Rattle.heap_law.specs.OneHeap.{one_heap}
 use Rattle.type_law.specs.Names.{NameTypes, names_of, fits, is_there, fits_some, is_type}
