@@ -51,7 +51,7 @@ abbrev pub copying : ℕ → WithRoom (ℕ × Bool)
 copying slot = record { items = (slot, false) ∷ []; spare = 0 }
 
 -- { let mut x = box 1; let mut h = spawn (x) { *x }; print join h }
-abbrev started_code : List Instr
+abbrev pub started_code : List Instr
 started_code =
     instr.Box (constant 1) ∷ instr.Let operand.Pop ∷ instr.Spawn (taking 0) 10 ∷ instr.Let operand.Pop ∷ instr.Read (place 1 0) true ∷ instr.Join operand.Pop ∷ instr.Print operand.Pop ∷ instr.DropSlot ∷ instr.DropSlot ∷ instr.End operand.Unit
     ∷ instr.Read (place 0 1) false ∷ instr.DropSlot ∷ instr.End operand.Pop ∷ []
@@ -68,7 +68,7 @@ exchanged_code =
     ∷ instr.Unlock ∷ instr.Let operand.Pop ∷ instr.Read (place 1 1) false ∷ instr.Print operand.Pop ∷ instr.DropSlot ∷ instr.DropSlot ∷ instr.End operand.Unit ∷ []
 
 -- { let mut m = mutex 0; let mut n = dup m; let mut h = spawn (n) { lock n as c { c = (c + 1) } }; join h; lock m as c { print c } }
-abbrev counted_code : List Instr
+abbrev pub counted_code : List Instr
 counted_code =
     instr.Mutex (constant 0) ∷ instr.Let operand.Pop ∷ instr.Dup (place 0 0) ∷ instr.Let operand.Pop ∷ instr.Spawn (taking 1) 17 ∷ instr.Let operand.Pop ∷ instr.Read (place 2 0) true ∷ instr.Join operand.Pop ∷ instr.Discard
     ∷ instr.Lock (place 0 0) ∷ instr.Read (place 4 0) false ∷ instr.Print operand.Pop ∷ instr.Unlock ∷ instr.DropSlot ∷ instr.DropSlot ∷ instr.DropSlot ∷ instr.End operand.Unit
@@ -85,7 +85,7 @@ handed_code =
     ++ instr.Assign (place 0 1) (constant 3) ∷ printing
 
 -- { let mut x = box 1; { let mut r = &*x; par (r) { print *r } (r) { print *r } }; *x = 2; { let mut s = &*x; par (s) { print *s } (s) { print *s } } }
-abbrev shared_code : List Instr
+abbrev pub shared_code : List Instr
 shared_code =
     instr.Box (constant 1) ∷ instr.Let operand.Pop ∷ instr.Borrow (place 0 1) ∷ instr.Let operand.Pop ∷ instr.Par (copying 1) 15 (copying 1) 19 ∷ instr.ParEnd ∷ instr.DropSlot ∷ instr.Assign (place 0 1) (constant 2)
     ∷ instr.Borrow (place 0 1) ∷ instr.Let operand.Pop ∷ instr.Par (copying 1) 23 (copying 1) 27 ∷ instr.ParEnd ∷ instr.DropSlot ∷ instr.DropSlot ∷ instr.End operand.Unit ∷ printing ++ printing ++ printing ++ printing

@@ -1,0 +1,11 @@
+pub mod OwnedParts
+pub mod Grown
+pub mod Lines
+pub mod Falling
+pub mod Captured
+pub mod Emitted
+pub mod Placed
+pub mod Tabled
+pub mod Lending
+pub mod Programs
+pub mod Examples

@@ -1,0 +1,31 @@
+-- The code of a typed program has a table.
+use Rattle.std.proofs.Common.{◌≡◌, ℕ, [], refl, sym, ap, ◌∙◌, subst}
+use Rattle.fr_terms.specs.Terms.{block_t, Items}
+use Rattle.fr_typing.specs.Kinds.{Owned, Kind, own}
+use Rattle.fr_typing.specs.Places.{Env}
+use Rattle.fr_typing.specs.Typing.{Types, types_block}
+use Rattle.fr_plain.specs.Resolve.{program}
+use Rattle.fr_code.specs.StandsFor.{operand_of}
+use Rattle.table_law.specs.Tables.{ProgramsHaveTables}
+use Rattle.table_law.proofs.Grown.{Grown, kept, newer, like_none, grown}
+use Rattle.table_law.proofs.Lines.{taken, Emits}
+use Rattle.table_law.proofs.Emitted.{emits}
+use Rattle.table_law.proofs.Tabled.{has_table}
+use Rattle.table_law.proofs.Lending.{lends, owned_alone}
+
+-- the result's type, which names no slot
+block_owned : {at : ℕ} {items : Items} {k : Kind} {e : Env} → Types [] (block_t at items) k e → (o : Owned) × (k ≡ own o)
+block_owned (types_block ts n) = owned_alone _ (lends (types_block ts n) tt).0 n
+
+none_left : {e : Env} {n : ℕ} → Grown n [] e → n ≡ 0 → e ≡ []
+none_left (kept h) z = like_none _ h
+none_left (newer g s) z = absurd cc
+
+pub programs_have_tables : ProgramsHaveTables
+programs_have_tables code at items k e short types is laid =
+    let o = block_owned types in
+    let empty : e ≡ [] = none_left (grown types) refl in
+    let run : Emits code 0 [] [] o.0 is.to e (operand_of (program (block_t at items))) k = emits code (block_t at items) short types refl 0 is.to [] o.0 refl is.at in
+    let main : Emits code 0 [] [] o.0 is.to [] (operand_of (program (block_t at items))) (own o.0) = subst (λ f. Emits code 0 [] [] o.0 is.to f (operand_of (program (block_t at items))) (own o.0)) empty (subst (λ z. Emits code 0 [] [] o.0 is.to e (operand_of (program (block_t at items))) z) o.1 run) in
+    let found = has_table code laid o.0 is.to main.line is.over (taken [] main.value refl) in
+    record { table = found.0; is = found.1; result = o.1 ∙ ap own (sym found.2) }
