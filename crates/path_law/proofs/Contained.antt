@@ -29,25 +29,25 @@ use Rattle.path_law.proofs.Sole.{some_is}
 use Rattle.path_law.specs.Pointing.{Above, made_from, made_below, AboveIsStale}
 use Rattle.path_law.proofs.Origins.{among_first, among_second, threads_joined}
 
-one_reference : (q r : MutRef) → Some (value.Mut q) ≡ Some (value.Mut r) → q ≡ r
+pub one_reference : (q r : MutRef) → Some (value.Mut q) ≡ Some (value.Mut r) → q ≡ r
 one_reference q r e = cc
 
 number_itself : (n : ℕ) → (n == n) ≡ true
 number_itself n = grind (arith, nat_tests)
 
-location_itself : (l : Location) → same_location l l ≡ true
+pub location_itself : (l : Location) → same_location l l ≡ true
 location_itself (at_slot t i) = rw (number_itself t) (number_itself i)
 location_itself (at_temp t i) = rw (number_itself t) (number_itself i)
 location_itself (in_cell o) = itself o o refl
 
-abbrev reference_at : Ground → Location → MutRef → Reference
+abbrev pub reference_at : Ground → Location → MutRef → Reference
 reference_at g l r = record { at = l; holder = holder_of g l r.holder; reference = r }
 
 same_reference : (g : Ground) (l m : Location) (q r : MutRef) → borrows l q ≡ borrows m r → (reference_at g l q) ≡ (reference_at g m r)
 same_reference g l m q r e = cc
 
 -- all that a thread of these has is among them
-abbrev Contains : List Thing → Type 0
+abbrev pub Contains : List Thing → Type 0
 Contains b = (x : Standing) → Among x (threads_in b) → (y : Thing) → Among y (thread_things x.server x.packed x.thread) → Among y b
 
 contains_join : (a b : List Thing) → Contains a → Contains b → Contains (a ++ b)
@@ -108,7 +108,7 @@ gift_none t None = refl
 gift_none t (Some v) = refl
 
 -- what a thread has beside itself holds no thread
-rest_none : (s : ℕ) (t : ThreadState) → threads_in (gift_things t.number t.gift ++ things_at (walk_things s) 0 t.walk ++ things_at (slot_things s t.number) 0 t.slots ++ things_at (temp_things s t.number) 0 t.temps) ≡ []
+pub rest_none : (s : ℕ) (t : ThreadState) → threads_in (gift_things t.number t.gift ++ things_at (walk_things s) 0 t.walk ++ things_at (slot_things s t.number) 0 t.slots ++ things_at (temp_things s t.number) 0 t.temps) ≡ []
 rest_none s t =
     none_joined (gift_things t.number t.gift ++ things_at (walk_things s) 0 t.walk ++ things_at (slot_things s t.number) 0 t.slots) (things_at (temp_things s t.number) 0 t.temps)
     (none_joined (gift_things t.number t.gift ++ things_at (walk_things s) 0 t.walk) (things_at (slot_things s t.number) 0 t.slots)
@@ -150,19 +150,19 @@ server_contains s =
     (contains_all (waiting_things n) (λ j x. message_contains n x) 0 s.rest.inbox))
     (contains_all leaving_things (λ j x. message_contains x.target x.message) 0 s.rest.outbox)
 
-servers_contain : (ss : List Server) → Contains (servers_things ss)
+pub servers_contain : (ss : List Server) → Contains (servers_things ss)
 servers_contain [] = λ x h y m. absurd h
 servers_contain (s ∷ ss) = contains_join (server_things s) (servers_things ss) (server_contains s) (servers_contain ss)
 
 -- A REFERENCE THAT STANDS IN A THREAD IS ONE OF THE CLUSTER'S
 
-among_thread : (xs : List Standing) (t : ℕ) (x : Standing) → thread_at xs t ≡ Some x → Among x xs × (x.thread.number ≡ t)
+pub among_thread : (xs : List Standing) (t : ℕ) (x : Standing) → thread_at xs t ≡ Some x → Among x xs × (x.thread.number ≡ t)
 among_thread [] t x e = absurd cc
 among_thread (y ∷ xs) t x e =
     eq_cases (λ b. (if b then Some y else thread_at xs t) ≡ Some x → Among x (y ∷ xs) × (x.thread.number ≡ t)) y.thread.number t
     (λ q f. let same : y ≡ x = some_is f in (inl same, sym (ap (λ (z : Standing). z.thread.number) same) ∙ q)) (λ ne f. let r = among_thread xs t x f in (inr r.0, r.1)) e
 
-listed_in : {A : Type 0} (g : ℕ → A → List Thing) (y : Thing) (j i : ℕ) (xs : List A) (v : A) → slice_get xs i ≡ Some v → Among y (g (j + i) v) → Among y (things_at g j xs)
+pub listed_in : {A : Type 0} (g : ℕ → A → List Thing) (y : Thing) (j i : ℕ) (xs : List A) (v : A) → slice_get xs i ≡ Some v → Among y (g (j + i) v) → Among y (things_at g j xs)
 listed_in g y j i [] v e h = absurd cc
 listed_in g y j zero (x ∷ xs) v e h =
     let same : v ≡ x = sym (some_is e) in
@@ -212,10 +212,10 @@ module _ (k : Cluster) where
   among_references g m r (_ ∷ b) (inl e) = absurd cc
   among_references g m r (_ ∷ b) (inr h) = among_references g m r b h
 
-  reference_there : (m : Location) (r : MutRef) → value_in (sight k).ground m ≡ Some (value.Mut r) → Among (record { at = m; holder = holder_of (sight k).ground m r.holder; reference = r }) (references (sight k).ground (sight k).things)
+  pub reference_there : (m : Location) (r : MutRef) → value_in (sight k).ground m ≡ Some (value.Mut r) → Among (record { at = m; holder = holder_of (sight k).ground m r.holder; reference = r }) (references (sight k).ground (sight k).things)
   reference_there m r e = among_references (sight k).ground m r (things_of k) (borrowed m r e)
 
-  held_there : (l : Location) (o : Option Location) → o ≡ Some l → is_held_at l o ≡ true
+  pub held_there : (l : Location) (o : Option Location) → o ≡ Some l → is_held_at l o ≡ true
   held_there l o e = ap (is_held_at l) e ∙ location_itself l
 
   -- what stands above a stale pointer is stale

@@ -44,7 +44,7 @@ use Rattle.path_law.proofs.Climbs.{held_as, right_place, and_second, ref_is}
 use Rattle.path_law.proofs.Pointers.{borrowed_at}
 use Rattle.path_law.proofs.MayWrites.{may_write_there}
 
-same_is : (l m : Location) → same_location l m ≡ true → l ≡ m
+pub same_is : (l m : Location) → same_location l m ≡ true → l ≡ m
 same_is (at_slot t i) (at_slot u j) e = by (t == u) (i == j) refl refl e
   where
     by : (a b : Bool) → (t == u) ≡ a → (i == j) ≡ b → a && b ≡ true → at_slot t i ≡ at_slot u j
@@ -81,7 +81,7 @@ nothing_there : {A : Type 0} {x : A} → None ≡ Some x → ⊥
 nothing_there e = absurd cc
 
 -- who holds there
-held_at : (l : Location) (o : Option Location) → is_held_there l o ≡ true → o ≡ Some l
+pub held_at : (l : Location) (o : Option Location) → is_held_there l o ≡ true → o ≡ Some l
 held_at l None e = absurd cc
 held_at l (Some h) e = ap Some (same_is h l e)
 
@@ -222,18 +222,18 @@ module _ (k : Cluster) (c : HasPaths k) where
 
   -- NO REFERENCE WAS MADE FROM A POINTER THAT IS FOLLOWED
 
-  record Followed (x : Standing) (l : Location) : Type 0 where
-    goes : GoesOn k x
-    slot : ℕ
-    stars : ℕ
-    free : Unnamed E (slot_k x.thread.number slot)
-    base : Key
-    boxes : ℕ
-    type : Exact
-    resolves : Resolves E true (slot_k x.thread.number slot) (suc stars) base boxes type
-    located : locate ground x.thread.number slot stars ≡ Some l
+  pub record Followed (x : Standing) (l : Location) : Type 0 where
+    pub goes : GoesOn k x
+    pub slot : ℕ
+    pub stars : ℕ
+    pub free : Unnamed E (slot_k x.thread.number slot)
+    pub base : Key
+    pub boxes : ℕ
+    pub type : Exact
+    pub resolves : Resolves E true (slot_k x.thread.number slot) (suc stars) base boxes type
+    pub located : locate ground x.thread.number slot stars ≡ Some l
 
-  none_made : (x : Standing) (l : Location) (r : Reference) → Followed x l → Among r (references ground (things_of k)) → is_held_there l r.holder ≡ true → ⊥
+  pub none_made : (x : Standing) (l : Location) (r : Reference) → Followed x l → Among r (references ground (things_of k)) → is_held_there l r.holder ≡ true → ⊥
   none_made x l r f among held =
       let h = holds_there r l among held in
       let q = h.1 in
@@ -247,10 +247,10 @@ module _ (k : Cluster) (c : HasPaths k) where
   -- OTHER THREADS
 
   -- a key is a slot of the thread
-  abbrev OwnSlot : ℕ → Key → Type 0
+  abbrev pub OwnSlot : ℕ → Key → Type 0
   OwnSlot t a = (j : ℕ) × (a ≡ slot_k t j)
 
-  own_closed : (x : Standing) (g : GoesOn k x) (a : Key) (u : StorePlace) → OwnSlot x.thread.number a → E a ≡ refers true u → OwnSlot x.thread.number u.key
+  pub own_closed : (x : Standing) (g : GoesOn k x) (a : Key) (u : StorePlace) → OwnSlot x.thread.number a → E a ≡ refers true u → OwnSlot x.thread.number u.key
   own_closed x g a u o is = by (slice_get x.thread.slots o.0) refl
     where
       exact : E (slot_k x.thread.number o.0) ≡ refers true u

@@ -1,0 +1,84 @@
+-- The laws of words apply to main at its assignment.
+use Rattle.std.proofs.Common.{◌≡◌, inl, inr, ℕ, [], ◌∷◌, refl, arith}
+use Rattle.fr_base.specs.declared.instruction.Operand.TheVariants as operand
+use Rattle.fr_base.specs.declared.instruction.Instr.TheVariants as instr
+use Rattle.std.specs.Prelude.{pos}
+use Rattle.global_addr.specs.Words.{word_of}
+use Rattle.heap_partition.specs.declared.value.Cell.{Cell}
+use Rattle.thread_state.specs.declared.value.Value.TheVariants as value
+use Rattle.heap_law.specs.Names.{Among}
+use Rattle.heap_law.specs.Clusters.{place, object, box, int}
+use Rattle.heap_law.specs.Things.{at_slot, lies, things_of}
+use Rattle.heap_law.specs.Coherent.{IsSound}
+use Rattle.heap_law.proofs.Unbroken.{sound_law}
+use Rattle.server_model.specs.Servers.{Cluster}
+use Rattle.type_law.specs.Typed.{boxed_main, boxed_cluster}
+use Rattle.type_law.proofs.Whole.{coherent_compute}
+use Rattle.path_law.specs.HeapStore.{GoesOn, HasPaths}
+use Rattle.path_law.specs.Pointing.{assigns}
+use Rattle.path_law.specs.Example.{main_stands}
+use Rattle.path_law.proofs.Alike.{coherent_has_paths}
+use Rattle.path_law.proofs.FreshPaths.{written_are_fresh}
+use Rattle.path_law.proofs.MayWrites.{may_write_there}
+use Rattle.word_law.specs.Reworded.{HasPlaces, Reworded}
+use Rattle.word_law.specs.Example.{tinted_cluster, main_hand, tinted_hand, WordsApply}
+use Rattle.word_law.specs.PutBack.{StandsHere, LeadsHome}
+use Rattle.word_law.proofs.Tints.{tint_rewords}
+
+sound_before : IsSound boxed_cluster
+sound_before = sound_law.sound boxed_cluster refl
+
+sound_after : IsSound tinted_cluster
+sound_after = sound_law.sound tinted_cluster refl
+
+paths : HasPaths boxed_cluster
+paths = coherent_has_paths boxed_cluster coherent_compute.boxed
+
+goes : GoesOn boxed_cluster main_stands
+goes = record { among = inl refl; going = refl }
+
+abbrev only_cell : Cell
+only_cell = record { object = object 0; value = int 1 }
+
+is_only : (r a : ℕ) (c : Cell) → Among (lies r a c) (things_of boxed_cluster) → lies 0 0 only_cell ≡ lies r a c
+is_only r a c (inl e) = absurd cc
+is_only r a c (inr (inl e)) = e
+is_only r a c (inr (inr (inl e))) = absurd cc
+is_only r a c (inr (inr (inr (inl e)))) = absurd cc
+is_only r a c (inr (inr (inr (inr h)))) = absurd h
+
+home : LeadsHome boxed_cluster (record { word = word_of 0 0 0; object = object 0 })
+home = record {
+  server = 0;
+  address = 0;
+  lying = record { cell = only_cell; among = inr (inl refl); object = refl };
+  leads = λ r a c m f. (let e = is_only r a c m in record { server = cc; address = cc });
+}
+
+places_of : (k : Cluster) → IsSound k → HasPlaces k
+places_of k s = record { numbers_differ = s.names.numbers_differ; home_of_each = s.one_home.home_of_each; owner_of_each = s.one_owner.owner_of_each }
+
+here : StandsHere boxed_cluster 0 (boxed_main ∷ []) main_hand
+here = record { server = refl; number = refl; thread = refl }
+
+reworded : Reworded boxed_cluster tinted_cluster (at_slot 0 0) (object 0) (word_of 1 0 0)
+reworded =
+    tint_rewords boxed_cluster 0 (boxed_main ∷ []) 2 main_hand tinted_hand 0 (value.Own (box (word_of 0 0 0) 0)) (record { word = word_of 0 0 0; object = object 0 }) here refl refl refl
+    (places_of boxed_cluster sound_before) (places_of tinted_cluster sound_after) home (λ r e. absurd cc)
+
+pub words_apply : WordsApply
+words_apply = record {
+  paths = paths;
+  goes = goes;
+  may = may_write_there boxed_cluster paths main_stands goes (instr.Assign (place 0 1) (operand.Const (pos 2))) (place 0 1) refl assigns;
+  hop = record { stars = 0; last = refl; pointer = refl; leads = refl };
+  fresh = written_are_fresh boxed_cluster paths main_stands (instr.Assign (place 0 1) (operand.Const (pos 2))) (place 0 1) 0 (at_slot 0 0) goes refl assigns (λ v e. absurd cc) (omega arith) refl;
+  firsts = sound_before.words.first_at_holder;
+  words = sound_before.words.have_words;
+  places = places_of tinted_cluster sound_after;
+  stands = here;
+  tinted = refl;
+  before = refl;
+  after = refl;
+  reworded = reworded;
+}

@@ -1,0 +1,9 @@
+pub mod GoOn
+pub mod Standing
+pub mod Grounds
+pub mod Alone
+pub mod Words
+pub mod Put
+pub mod Slots
+pub mod Tints
+pub mod Example

@@ -1,0 +1,186 @@
+-- Things of a thread with another value in one of its slots, as lists.
+use Rattle.std.proofs.Common.{◌≡◌, ◌⊎◌, inl, inr, ⊎_elim, ℕ, zero, suc, ◌+◌, ◌==◌, Bool, true, false, if◌then◌else◌, List, [], ◌∷◌, ◌++◌, map, Option, Some, None, refl, sym, ap, subst, ◌∙◌, arith}
+use Rattle.std.specs.Prelude.{slice_get, slice_set}
+use Rattle.std.proofs.lemmas.Bool.Decides.{nat_tests}
+use Rattle.heap_partition.specs.declared.value.Cell.{Cell}
+use Rattle.heap_partition.specs.declared.value.Owned.{Owned}
+use Rattle.heap_partition.specs.declared.value.Owned.TheVariants as owned
+use Rattle.mut_borrow.specs.declared.shared.SharedRef.{SharedRef}
+use Rattle.thread_state.specs.View.{ThreadState}
+use Rattle.thread_state.specs.declared.value.Value.{Value}
+use Rattle.thread_state.specs.declared.value.Value.TheVariants as value
+use Rattle.server_model.specs.Places.{took, with_word}
+use Rattle.heap_law.specs.Names.{Among}
+use Rattle.heap_law.specs.Things.{Location, at_slot, at_temp, in_cell, in_slot, in_temp, Thing, lies, stands, uses, things_at, pin_things, value_things, slot_things, temp_things, gift_things, walk_things, thread_things, things_of}
+use Rattle.heap_law.specs.Follow.{Standing, thread_at, cells_in}
+use Rattle.heap_law.specs.Sight.{Pointer, pointers_of, pointers_in}
+use Rattle.heap_law.proofs.Bags.{among_split}
+use Rattle.path_law.proofs.Sole.{some_is}
+use Rattle.path_law.proofs.Origins.{among_first, among_second}
+use Rattle.word_law.specs.Reworded.{turn_of}
+
+-- LISTS
+
+pub set_same : {A : Type 0} (xs : List A) (i : ℕ) (a b : A) → slice_get xs i ≡ Some a → slice_get (slice_set xs i b) i ≡ Some b
+set_same [] i a b e = absurd cc
+set_same (x ∷ xs) zero a b e = refl
+set_same (x ∷ xs) (suc i) a b e = set_same xs i a b e
+
+pub set_other : {A : Type 0} (xs : List A) (i j : ℕ) (b : A) → (j ≡ i → ⊥) → slice_get (slice_set xs i b) j ≡ slice_get xs j
+set_other [] i j b n = refl
+set_other (x ∷ xs) zero zero b n = absurd (n refl)
+set_other (x ∷ xs) zero (suc j) b n = refl
+set_other (x ∷ xs) (suc i) zero b n = refl
+set_other (x ∷ xs) (suc i) (suc j) b n = set_other xs i j b (λ e. n (ap suc e))
+
+pub cells_joined : (a b : List Thing) → cells_in (a ++ b) ≡ cells_in a ++ cells_in b
+cells_joined [] b = refl
+cells_joined (lies s a c ∷ xs) b = ap (λ l. c ∷ l) (cells_joined xs b)
+cells_joined (Rattle.heap_law.specs.Things.flies w c ∷ xs) b = ap (λ l. c ∷ l) (cells_joined xs b)
+cells_joined (_ ∷ xs) b = cells_joined xs b
+
+pub joined : (p : Pointer) (a b : List Thing) → Among p (pointers_in (a ++ b)) → Among p (pointers_in a) ⊎ Among p (pointers_in b)
+joined p [] b h = inr h
+joined p (x ∷ a) b h =
+    ⊎_elim (λ (l : Among p (pointers_of x)). inl (among_first p (pointers_of x) (pointers_in a) l))
+    (λ (r : Among p (pointers_in (a ++ b))).
+    ⊎_elim (λ (q : Among p (pointers_in a)). inl (among_second p (pointers_of x) (pointers_in a) q)) (λ (q : Among p (pointers_in b)). inr q) (joined p a b r)) (among_split p (pointers_of x) (pointers_in (a ++ b)) h)
+
+pub in_first : (p : Pointer) (a b : List Thing) → Among p (pointers_in a) → Among p (pointers_in (a ++ b))
+in_first p [] b h = absurd h
+in_first p (x ∷ a) b h =
+    ⊎_elim (λ (l : Among p (pointers_of x)). among_first p (pointers_of x) (pointers_in (a ++ b)) l) (λ (r : Among p (pointers_in a)). among_second p (pointers_of x) (pointers_in (a ++ b)) (in_first p a b r))
+    (among_split p (pointers_of x) (pointers_in a) h)
+
+pub in_second : (p : Pointer) (a b : List Thing) → Among p (pointers_in b) → Among p (pointers_in (a ++ b))
+in_second p [] b h = h
+in_second p (x ∷ a) b h = among_second p (pointers_of x) (pointers_in (a ++ b)) (in_second p a b h)
+
+-- a thread in place of another one
+pub thread_replaced : (xs bs : List Standing) (x y : Standing) (u : ℕ) → y.thread.number ≡ x.thread.number
+    → (thread_at (xs ++ (y ∷ bs)) u ≡ thread_at (xs ++ (x ∷ bs)) u) ⊎ ((x.thread.number ≡ u) × (thread_at (xs ++ (x ∷ bs)) u ≡ Some x) × (thread_at (xs ++ (y ∷ bs)) u ≡ Some y))
+thread_replaced [] bs x y u e = by (x.thread.number == u) refl
+  where
+    by : (b : Bool) → (x.thread.number == u) ≡ b → (thread_at (y ∷ bs) u ≡ thread_at (x ∷ bs) u) ⊎ ((x.thread.number ≡ u) × (thread_at (x ∷ bs) u ≡ Some x) × (thread_at (y ∷ bs) u ≡ Some y))
+    by true q =
+        let n : x.thread.number ≡ u = grind (arith, nat_tests, q) in
+        inr (n, ap (λ b. if b then Some x else thread_at bs u) q, ap (λ m. if m == u then Some y else thread_at bs u) e ∙ ap (λ b. if b then Some y else thread_at bs u) q)
+    by false q = inl (ap (λ m. if m == u then Some y else thread_at bs u) e ∙ ap (λ b. if b then Some y else thread_at bs u) q ∙ sym (ap (λ b. if b then Some x else thread_at bs u) q))
+thread_replaced (a ∷ xs) bs x y u e = by (a.thread.number == u) (thread_replaced xs bs x y u e)
+  where
+    by : (b : Bool) → (thread_at (xs ++ (y ∷ bs)) u ≡ thread_at (xs ++ (x ∷ bs)) u) ⊎ ((x.thread.number ≡ u) × (thread_at (xs ++ (x ∷ bs)) u ≡ Some x) × (thread_at (xs ++ (y ∷ bs)) u ≡ Some y))
+        → ((if b then Some a else thread_at (xs ++ (y ∷ bs)) u) ≡ (if b then Some a else thread_at (xs ++ (x ∷ bs)) u)) ⊎ ((x.thread.number ≡ u) × ((if b then Some a else thread_at (xs ++ (x ∷ bs)) u) ≡ Some x) × ((if b then Some a else thread_at (xs ++ (y ∷ bs)) u) ≡ Some y))
+    by true go = inl refl
+    by false go = go
+
+pub turns_replaced : (xs bs : List Standing) (x y : Standing) → turn_of y ≡ turn_of x → map turn_of (xs ++ (y ∷ bs)) ≡ map turn_of (xs ++ (x ∷ bs))
+turns_replaced [] bs x y e = ap (λ t. t ∷ map turn_of bs) e
+turns_replaced (a ∷ xs) bs x y e = ap (λ l. turn_of a ∷ l) (turns_replaced xs bs x y e)
+
+pub among_replaced : (xs bs : List Standing) (x : Standing) → Among x (xs ++ (x ∷ bs))
+among_replaced [] bs x = inl refl
+among_replaced (a ∷ xs) bs x = inr (among_replaced xs bs x)
+
+-- WHAT A THREAD HAS
+
+no_cells_joined : (a b : List Thing) → cells_in a ≡ [] → cells_in b ≡ [] → cells_in (a ++ b) ≡ []
+no_cells_joined a b e f = cells_joined a b ∙ rw e f
+
+no_cells_all : {A : Type 0} (g : ℕ → A → List Thing) → ((i : ℕ) (x : A) → cells_in (g i x) ≡ []) → (i : ℕ) (xs : List A) → cells_in (things_at g i xs) ≡ []
+no_cells_all g p i [] = refl
+no_cells_all g p i (x ∷ xs) = no_cells_joined (g i x) (things_at g (i + 1) xs) (p i x) (no_cells_all g p (i + 1) xs)
+
+pin_cells : (s : ℕ) (r : SharedRef) → cells_in (pin_things s r) ≡ []
+pin_cells s r = by r.pinned
+  where
+    by : (q : Bool) → cells_in (if q then uses s r.word ∷ [] else []) ≡ []
+    by true = refl
+    by false = refl
+
+value_cells : (s : ℕ) (p : Rattle.heap_law.specs.Things.Spot) (l : Location) (v : Value) → cells_in (value_things s p l v) ≡ []
+value_cells s p l (value.Shared r) = pin_cells s r
+value_cells s p l value.Gone = refl
+value_cells s p l (value.Own u) = refl
+value_cells s p l (value.SharedSlot i) = refl
+value_cells s p l (value.MutSlot i) = refl
+value_cells s p l (value.Mut r) = refl
+value_cells s p l (value.Held m) = refl
+
+gift_cells : (t : ℕ) (v : Option Owned) → cells_in (gift_things t v) ≡ []
+gift_cells t None = refl
+gift_cells t (Some v) = refl
+
+pub thread_cells : (s : ℕ) (t : ThreadState) → cells_in (thread_things s false t) ≡ []
+thread_cells s t =
+    no_cells_joined (gift_things t.number t.gift ++ things_at (walk_things s) 0 t.walk ++ things_at (slot_things s t.number) 0 t.slots) (things_at (temp_things s t.number) 0 t.temps)
+    (no_cells_joined (gift_things t.number t.gift ++ things_at (walk_things s) 0 t.walk) (things_at (slot_things s t.number) 0 t.slots)
+    (no_cells_joined (gift_things t.number t.gift) (things_at (walk_things s) 0 t.walk) (gift_cells t.number t.gift) (no_cells_all (walk_things s) (λ i x. refl) 0 t.walk))
+    (no_cells_all (slot_things s t.number) (λ i x. value_cells s (in_slot t.number i) (at_slot t.number i) x) 0 t.slots))
+    (no_cells_all (temp_things s t.number) (λ i x. value_cells s (in_temp t.number i) (at_temp t.number i) x) 0 t.temps)
+
+pub lying_in : (r a : ℕ) (c : Cell) (b : List Thing) → Among (lies r a c) b → Among c (cells_in b)
+lying_in r a c [] h = absurd h
+lying_in r a c (lies s d e ∷ b) (inl f) = inl cc
+lying_in r a c (lies s d e ∷ b) (inr h) = inr (lying_in r a c b h)
+lying_in r a c (Rattle.heap_law.specs.Things.flies w e ∷ b) (inl f) = absurd cc
+lying_in r a c (Rattle.heap_law.specs.Things.flies w e ∷ b) (inr h) = inr (lying_in r a c b h)
+lying_in r a c (_ ∷ b) (inl f) = absurd cc
+lying_in r a c (_ ∷ b) (inr h) = lying_in r a c b h
+
+-- every pointer of it stands in its slot
+abbrev pub Placed : ℕ → ℕ → ℕ → Value → Type 0
+Placed s t i v = (p : Pointer) → Among p (pointers_in (slot_things s t i v)) → p.at ≡ None → ⊥
+
+not_none : (l : Location) (p : Pointer) → p.at ≡ Some l → p.at ≡ None → ⊥
+not_none l p e f = let y : None ≡ Some l = sym f ∙ e in absurd cc
+
+-- so it is of a box and a mutable reference, also with another word
+pub placed_old : (s t i w : ℕ) (v new : Value) → with_word w v ≡ Some new → Placed s t i v
+placed_old s t i w (value.Own (owned.Box b)) new e p (inl q) f = not_none (at_slot t i) p (sym (ap (λ (y : Pointer). y.at) q)) f
+placed_old s t i w (value.Own (owned.Box b)) new e p (inr q) f = q
+placed_old s t i w (value.Mut r) new e p (inl q) f = not_none (at_slot t i) p (sym (ap (λ (y : Pointer). y.at) q)) f
+placed_old s t i w (value.Mut r) new e p (inr q) f = q
+placed_old s t i w _ new e p q f = absurd cc
+
+pub placed_new : (s t i w : ℕ) (v new : Value) → with_word w v ≡ Some new → Placed s t i new
+placed_new s t i w (value.Own (owned.Box b)) new e = subst (Placed s t i) (some_is e) (placed_old s t i w (value.Own (owned.Box (record b { word = w }))) (value.Own (owned.Box (record b { word = w }))) refl)
+placed_new s t i w (value.Mut r) new e = subst (Placed s t i) (some_is e) (placed_old s t i w (value.Mut (took r w)) (value.Mut (took (took r w) w)) refl)
+placed_new s t i w _ new e = absurd cc
+
+-- a value in a slot that is put there, seen by what stands at no location
+pub slots_after : (s t j i : ℕ) (vs : List Value) (new : Value) (p : Pointer) → ((n : ℕ) → Placed s t n new) → p.at ≡ None → Among p (pointers_in (things_at (slot_things s t) j (slice_set vs i new))) → Among p (pointers_in (things_at (slot_things s t) j vs))
+slots_after s t j i [] new p f e h = h
+slots_after s t j zero (v ∷ vs) new p f e h =
+    ⊎_elim (λ (l : Among p (pointers_in (slot_things s t j new))). absurd (f j p l e)) (λ (r : Among p (pointers_in (things_at (slot_things s t) (j + 1) vs))). in_second p (slot_things s t j v) (things_at (slot_things s t) (j + 1) vs) r)
+    (joined p (slot_things s t j new) (things_at (slot_things s t) (j + 1) vs) h)
+slots_after s t j (suc i) (v ∷ vs) new p f e h =
+    ⊎_elim (λ (l : Among p (pointers_in (slot_things s t j v))). in_first p (slot_things s t j v) (things_at (slot_things s t) (j + 1) vs) l)
+    (λ (r : Among p (pointers_in (things_at (slot_things s t) (j + 1) (slice_set vs i new)))). in_second p (slot_things s t j v) (things_at (slot_things s t) (j + 1) vs) (slots_after s t (j + 1) i vs new p f e r))
+    (joined p (slot_things s t j v) (things_at (slot_things s t) (j + 1) (slice_set vs i new)) h)
+
+pub slots_before : (s t j i : ℕ) (vs : List Value) (old new : Value) (p : Pointer) → slice_get vs i ≡ Some old → ((n : ℕ) → Placed s t n old) → p.at ≡ None → Among p (pointers_in (things_at (slot_things s t) j vs))
+    → Among p (pointers_in (things_at (slot_things s t) j (slice_set vs i new)))
+slots_before s t j i [] old new p g f e h = h
+slots_before s t j zero (v ∷ vs) old new p g f e h =
+    let same : v ≡ old = some_is g in
+    ⊎_elim (λ (l : Among p (pointers_in (slot_things s t j v))). absurd (f j p (subst (λ u. Among p (pointers_in (slot_things s t j u))) same l) e))
+    (λ (r : Among p (pointers_in (things_at (slot_things s t) (j + 1) vs))). in_second p (slot_things s t j new) (things_at (slot_things s t) (j + 1) vs) r) (joined p (slot_things s t j v) (things_at (slot_things s t) (j + 1) vs) h)
+slots_before s t j (suc i) (v ∷ vs) old new p g f e h =
+    ⊎_elim (λ (l : Among p (pointers_in (slot_things s t j v))). in_first p (slot_things s t j v) (things_at (slot_things s t) (j + 1) (slice_set vs i new)) l)
+    (λ (r : Among p (pointers_in (things_at (slot_things s t) (j + 1) vs))). in_second p (slot_things s t j v) (things_at (slot_things s t) (j + 1) (slice_set vs i new)) (slots_before s t (j + 1) i vs old new p g f e r))
+    (joined p (slot_things s t j v) (things_at (slot_things s t) (j + 1) vs) h)
+
+-- the pointers of a thread whose slots are other ones
+pub thread_pointers : (s : ℕ) (t u : ThreadState) (p : Pointer) → u.number ≡ t.number → u.gift ≡ t.gift → u.walk ≡ t.walk → u.temps ≡ t.temps
+    → (Among p (pointers_in (things_at (slot_things s t.number) 0 u.slots)) → Among p (pointers_in (things_at (slot_things s t.number) 0 t.slots))) → Among p (pointers_in (thread_things s false u)) → Among p (pointers_in (thread_things s false t))
+thread_pointers s t u p n g w q go h = by (gift_things t.number t.gift) (things_at (walk_things s) 0 t.walk) (things_at (temp_things s t.number) 0 t.temps) (rw (sym n) (rw (sym g) (rw (sym w) (rw (sym q) h))))
+  where
+    by : (a b d : List Thing) → Among p (pointers_in (a ++ b ++ things_at (slot_things s t.number) 0 u.slots ++ d)) → Among p (pointers_in (a ++ b ++ things_at (slot_things s t.number) 0 t.slots ++ d))
+    by a b d m =
+        let old = things_at (slot_things s t.number) 0 t.slots in
+        let new = things_at (slot_things s t.number) 0 u.slots in
+        ⊎_elim
+        (λ (l : Among p (pointers_in (a ++ b ++ new))).
+        in_first p (a ++ b ++ old) d
+        (⊎_elim (λ (x : Among p (pointers_in (a ++ b))). in_first p (a ++ b) old x) (λ (x : Among p (pointers_in new)). in_second p (a ++ b) old (go x)) (joined p (a ++ b) new l)))
+        (λ (r : Among p (pointers_in d)). in_second p (a ++ b ++ old) d r) (joined p (a ++ b ++ new) d m)

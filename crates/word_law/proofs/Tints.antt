@@ -1,0 +1,206 @@
+-- A pointer in a slot gets the next colour: the clusters with the thread put back are the same but for its word.
+use Rattle.std.proofs.Common.{◌≡◌, ◌≢◌, ◌⊎◌, inl, inr, ⊎_elim, ℕ, ◌==◌, ◌||◌, not, Bool, true, false, nat_lt, if◌then◌else◌, List, [], ◌∷◌, ◌++◌, length, map, Option, Some, None, refl, sym, ap, subst, ◌∙◌, arith}
+use Rattle.std.specs.Prelude.{slice_get, slice_set}
+use Rattle.std.proofs.lemmas.Bool.Decides.{nat_tests}
+use Rattle.std.proofs.lemmas.List.{append_assoc}
+use Rattle.fr_base.specs.declared.name.ObjNo.{ObjNo}
+use Rattle.global_addr.specs.Words.{server_of, address_of, next_word}
+use Rattle.heap_partition.specs.declared.value.BoxPtr.{BoxPtr}
+use Rattle.heap_partition.specs.declared.value.Cell.{Cell}
+use Rattle.heap_partition.specs.declared.value.Owned.TheVariants as owned
+use Rattle.mut_borrow.specs.declared.mutable.MutRef.{MutRef}
+use Rattle.mut_borrow.specs.Refs.{changed}
+use Rattle.thread_state.specs.View.{ThreadState}
+use Rattle.thread_state.specs.declared.value.Value.{Value}
+use Rattle.thread_state.specs.declared.value.Value.TheVariants as value
+use Rattle.server_model.specs.Servers.{Cluster}
+use Rattle.server_model.specs.Work.{Hand, then_some}
+use Rattle.server_model.specs.NewWords.{issue_tint}
+use Rattle.server_model.specs.Places.{in_slot as spot_slot, put_slot, took, with_word, put_word}
+use Rattle.heap_law.specs.Names.{Among}
+use Rattle.heap_law.specs.Things.{Location, at_slot, at_temp, in_cell, Thing, lies, thread_things, things_of}
+use Rattle.heap_law.specs.Follow.{Standing, threads_in, thread_at, cells_in, cell_of, slot_of, temp_of, value_of, value_in}
+use Rattle.heap_law.specs.Sight.{Pointer, pointers_in, sight}
+use Rattle.heap_law.specs.Words.{LeadsTo}
+use Rattle.heap_law.proofs.Bags.{among_split}
+use Rattle.type_law.proofs.Branches.{found}
+use Rattle.path_law.proofs.Sole.{some_is}
+use Rattle.path_law.proofs.Origins.{threads_joined, among_first, among_second}
+use Rattle.path_law.proofs.Contained.{rest_none}
+use Rattle.word_law.specs.Reworded.{HasPlaces, turn_of, LiesThere, Reworded}
+use Rattle.word_law.specs.PutBack.{put_in, TintRewords}
+use Rattle.word_law.proofs.Put.{Split, put_split}
+use Rattle.word_law.proofs.Slots.{set_same, set_other, cells_joined, joined, in_first, in_second, thread_replaced, turns_replaced, among_replaced, thread_cells, lying_in, placed_old, placed_new, slots_after, slots_before, thread_pointers}
+
+-- WHAT THE STEP DOES
+
+-- the hand with that value in the slot
+abbrev with_slot : ℕ → Value → Hand → Hand
+with_slot i new h = record h { thread = record h.thread { slots = slice_set h.thread.slots i new } }
+
+record SlotPut (h h2 : Hand) (i w : ℕ) (v : Value) : Type 0 where
+  new : Value
+  worded : with_word w v ≡ Some new
+  thread : h2.thread ≡ (with_slot i new h).thread
+  rest : h2.work.rest ≡ h.work.rest
+
+slot_put : (h h2 : Hand) (i : ℕ) (v : Value) (p : BoxPtr) → slice_get h.thread.slots i ≡ Some v → put_word (spot_slot i) (issue_tint p h.work) h ≡ Some h2 → SlotPut h h2 i (next_word p.word) v
+slot_put h h2 i v p at e = by (with_word (next_word p.word) v) refl (subst (λ o. then_some o (λ u. then_some (with_word (next_word p.word) u) (λ new. put_slot i new h3)) ≡ Some h2) at e)
+  where
+    h3 : Hand
+    h3 = record h { work = (issue_tint p h.work).work }
+
+    tested : (new : Value) → with_word (next_word p.word) v ≡ Some new → (b : Bool) → (if b then Some (with_slot i new h3) else None) ≡ Some h2 → SlotPut h h2 i (next_word p.word) v
+    tested new q true f = let s : with_slot i new h3 ≡ h2 = some_is f in record { new = new; worded = q; thread = ap (λ (y : Hand). y.thread) (sym s); rest = ap (λ (y : Hand). y.work.rest) (sym s) }
+    tested new q false f = absurd cc
+
+    by : (o : Option Value) → with_word (next_word p.word) v ≡ o → then_some o (λ new. put_slot i new h3) ≡ Some h2 → SlotPut h h2 i (next_word p.word) v
+    by None q f = absurd cc
+    by (Some new) q f = tested new q (nat_lt i (length h.thread.slots)) f
+
+-- a tint leads where the word led
+next_leads : (r a w : ℕ) → LeadsTo r a w → LeadsTo r a (next_word w)
+next_leads r a w l =
+    let s : server_of (next_word w) ≡ server_of w = omega arith in
+    let t : address_of (next_word w) ≡ address_of w = omega arith in
+    record { server = s ∙ l.server; address = t ∙ l.address }
+
+-- a reference with another word than its first is changed
+not_first : (r : MutRef) (w : ℕ) → w ≢ r.first → changed (took r w) ≡ true
+not_first r w n = by (w == r.first) refl
+  where
+    by : (b : Bool) → (w == r.first) ≡ b → (false || not (w == r.first)) ≡ true
+    by true e = let s : w ≡ r.first = grind (arith, nat_tests, e) in absurd (n s)
+    by false e = ap (λ b. false || not b) e
+
+module _ (a b : Cluster) (n i w : ℕ) (t : ThreadState) (v new : Value) (old : slice_get t.slots i ≡ Some v) (worded : with_word w v ≡ Some new)
+    (s : Split (things_of a) (things_of b) (thread_things n false t) (thread_things n false (record t { slots = slice_set t.slots i new }))) (code : b.code ≡ a.code) (c : HasPlaces a) (d : HasPlaces b) where
+  abbrev u : ThreadState
+  u = record t { slots = slice_set t.slots i new }
+
+  abbrev x : Standing
+  x = record { server = n; packed = false; thread = t }
+
+  abbrev y : Standing
+  y = record { server = n; packed = false; thread = u }
+
+  -- THREADS AND CELLS
+
+  parts : (l m r : List Thing) (z : Standing) → threads_in m ≡ z ∷ [] → threads_in (l ++ m ++ r) ≡ threads_in l ++ (z ∷ threads_in r)
+  parts l m r z e = threads_joined (l ++ m) r ∙ ap (λ q. q ++ threads_in r) (threads_joined l m) ∙ ap (λ q. threads_in l ++ q ++ threads_in r) e ∙ append_assoc (threads_in l) (z ∷ []) (threads_in r)
+
+  threads_a : threads_in (things_of a) ≡ threads_in s.left ++ (x ∷ threads_in s.right)
+  threads_a = ap threads_in s.before ∙ parts s.left (thread_things n false t) s.right x (ap (λ q. x ∷ q) (rest_none n t))
+
+  threads_b : threads_in (things_of b) ≡ threads_in s.left ++ (y ∷ threads_in s.right)
+  threads_b = ap threads_in s.after ∙ parts s.left (thread_things n false u) s.right y (ap (λ q. y ∷ q) (rest_none n u))
+
+  cells_parts : (l m r : List Thing) → cells_in m ≡ [] → cells_in (l ++ m ++ r) ≡ cells_in l ++ cells_in r
+  cells_parts l m r e = cells_joined (l ++ m) r ∙ ap (λ q. q ++ cells_in r) (cells_joined l m ∙ ap (λ q. cells_in l ++ q) e ∙ nil_right (cells_in l))
+    where
+      nil_right : (k : List Cell) → k ++ [] ≡ k
+      nil_right [] = refl
+      nil_right (z ∷ k) = ap (λ q. z ∷ q) (nil_right k)
+
+  cells_same : cells_in (things_of b) ≡ cells_in (things_of a)
+  cells_same = ap cells_in s.after ∙ cells_parts s.left (thread_things n false u) s.right (thread_cells n u) ∙ sym (cells_parts s.left (thread_things n false t) s.right (thread_cells n t)) ∙ sym (ap cells_in s.before)
+
+  at_a : thread_at (sight a).ground.threads t.number ≡ Some x
+  at_a = found x (things_of a) (c.numbers_differ t.number) (subst (λ q. Among x q) (sym threads_a) (among_replaced (threads_in s.left) (threads_in s.right) x))
+
+  at_b : thread_at (sight b).ground.threads t.number ≡ Some y
+  at_b = found y (things_of b) (d.numbers_differ t.number) (subst (λ q. Among y q) (sym threads_b) (among_replaced (threads_in s.left) (threads_in s.right) y))
+
+  replaced : (m : ℕ) → (thread_at (sight b).ground.threads m ≡ thread_at (sight a).ground.threads m) ⊎ ((t.number ≡ m) × (thread_at (sight a).ground.threads m ≡ Some x) × (thread_at (sight b).ground.threads m ≡ Some y))
+  replaced m =
+      ⊎_elim
+      (λ (e : thread_at (threads_in s.left ++ (y ∷ threads_in s.right)) m ≡ thread_at (threads_in s.left ++ (x ∷ threads_in s.right)) m). inl (ap (λ q. thread_at q m) threads_b ∙ e ∙ sym (ap (λ q. thread_at q m) threads_a)))
+      (λ (e : (t.number ≡ m) × (thread_at (threads_in s.left ++ (x ∷ threads_in s.right)) m ≡ Some x) × (thread_at (threads_in s.left ++ (y ∷ threads_in s.right)) m ≡ Some y)). inr (e.0, ap (λ q. thread_at q m) threads_a ∙ e.1, ap (λ q. thread_at q m) threads_b ∙ e.2))
+      (thread_replaced (threads_in s.left) (threads_in s.right) x y m refl)
+
+  -- VALUES
+
+  elsewhere : (l : Location) → (l ≡ at_slot t.number i → ⊥) → value_in (sight b).ground l ≡ value_in (sight a).ground l
+  elsewhere (at_slot m j) f =
+      ⊎_elim (λ (e : thread_at (sight b).ground.threads m ≡ thread_at (sight a).ground.threads m). ap (λ o. slot_of o j) e)
+      (λ (e : (t.number ≡ m) × (thread_at (sight a).ground.threads m ≡ Some x) × (thread_at (sight b).ground.threads m ≡ Some y)).
+      ap (λ o. slot_of o j) e.2 ∙ set_other t.slots i j new (λ q. f (ap (λ k. at_slot k j) (sym e.0) ∙ ap (at_slot t.number) q)) ∙ sym (ap (λ o. slot_of o j) e.1)) (replaced m)
+  elsewhere (at_temp m j) f =
+      ⊎_elim (λ (e : thread_at (sight b).ground.threads m ≡ thread_at (sight a).ground.threads m). ap (λ o. temp_of o j) e)
+      (λ (e : (t.number ≡ m) × (thread_at (sight a).ground.threads m ≡ Some x) × (thread_at (sight b).ground.threads m ≡ Some y)). ap (λ o. temp_of o j) e.2 ∙ sym (ap (λ o. temp_of o j) e.1)) (replaced m)
+  elsewhere (in_cell o) f = ap (λ q. value_of (cell_of q o)) cells_same
+
+  -- POINTERS THAT STAND NOWHERE
+
+  around : (p : Pointer) (l m k r : List Thing) → (Among p (pointers_in m) → Among p (pointers_in k)) → Among p (pointers_in (l ++ m ++ r)) → Among p (pointers_in (l ++ k ++ r))
+  around p l m k r go h =
+      ⊎_elim (λ (q : Among p (pointers_in (l ++ m))). in_first p (l ++ k) r (⊎_elim (λ (z : Among p (pointers_in l)). in_first p l k z) (λ (z : Among p (pointers_in m)). in_second p l k (go z)) (joined p l m q)))
+      (λ (q : Among p (pointers_in r)). in_second p (l ++ k) r q) (joined p (l ++ m) r h)
+
+  unplaced : (p : Pointer) → Among p (pointers_in (things_of b)) → p.at ≡ None → Among p (pointers_in (things_of a))
+  unplaced p h e =
+      let go = thread_pointers n t u p refl refl refl refl (slots_after n t.number 0 i t.slots new p (λ j. placed_new n t.number j w v new worded) e) in
+      subst (λ q. Among p (pointers_in q)) (sym s.before) (around p s.left (thread_things n false u) (thread_things n false t) s.right go (subst (λ q. Among p (pointers_in q)) s.after h))
+
+  remain : (p : Pointer) → Among p (pointers_in (things_of a)) → p.at ≡ None → Among p (pointers_in (things_of b))
+  remain p h e =
+      let go = thread_pointers n u t p refl refl refl refl (slots_before n t.number 0 i t.slots v new p old (λ j. placed_old n t.number j w v new worded) e) in
+      subst (λ q. Among p (pointers_in q)) (sym s.after) (around p s.left (thread_things n false t) (thread_things n false u) s.right go (subst (λ q. Among p (pointers_in q)) s.before h))
+
+  -- WHAT LIES
+
+  still_lies : (l m k r : List Thing) (j g : ℕ) (z : Cell) → cells_in m ≡ [] → Among (lies j g z) (l ++ m ++ r) → Among (lies j g z) (l ++ k ++ r)
+  still_lies l m k r j g z e h =
+      ⊎_elim
+      (λ (q : Among (lies j g z) (l ++ m)).
+      among_first (lies j g z) (l ++ k) r
+      (⊎_elim (λ (f : Among (lies j g z) l). among_first (lies j g z) l k f) (λ (f : Among (lies j g z) m). let none : Among z [] = subst (λ cs. Among z cs) e (lying_in j g z m f) in absurd none) (among_split (lies j g z) l m q)))
+      (λ (q : Among (lies j g z) r). among_second (lies j g z) (l ++ k) r q) (among_split (lies j g z) (l ++ m) r h)
+
+  lies_before : (j g : ℕ) (z : Cell) → Among (lies j g z) (things_of b) → Among (lies j g z) (things_of a)
+  lies_before j g z h = subst (λ q. Among (lies j g z) q) (sym s.before) (still_lies s.left (thread_things n false u) (thread_things n false t) s.right j g z (thread_cells n u) (subst (λ q. Among (lies j g z) q) s.after h))
+
+  lies_after : (j g : ℕ) (z : Cell) → Among (lies j g z) (things_of a) → Among (lies j g z) (things_of b)
+  lies_after j g z h = subst (λ q. Among (lies j g z) q) (sym s.after) (still_lies s.left (thread_things n false t) (thread_things n false u) s.right j g z (thread_cells n t) (subst (λ q. Among (lies j g z) q) s.before h))
+
+  -- ALL OF IT
+
+  pub slot_reworded : (o : ObjNo) → ((r : MutRef) → new ≡ value.Mut r → changed r ≡ true) → (j g : ℕ) → LiesThere a j g o → ((m k : ℕ) (z : Cell) → Among (lies m k z) (things_of a) → z.object ≡ o → LeadsTo m k w) → Reworded a b (at_slot t.number i) o w
+  slot_reworded o ch j g there leads = record {
+    code = code;
+    old = v;
+    new = new;
+    stood = ap (λ q. slot_of q i) at_a ∙ old;
+    worded = worded;
+    stands = ap (λ q. slot_of q i) at_b ∙ set_same t.slots i v new old;
+    changed = ch;
+    elsewhere = elsewhere;
+    turns = ap (map turn_of) threads_b ∙ turns_replaced (threads_in s.left) (threads_in s.right) x y refl ∙ sym (ap (map turn_of) threads_a);
+    unplaced = unplaced;
+    remain = λ p h e f. remain p h e;
+    server = j;
+    address = g;
+    lying = record { cell = there.cell; among = lies_after j g there.cell there.among; object = there.object };
+    leads = λ m k z h e. leads m k z (lies_before m k z h) e;
+    lay = λ m k z h e. record { cell = z; among = lies_before m k z h; object = refl };
+  }
+
+-- a mutable reference that got the word is changed
+worded_changed : (w : ℕ) (v new : Value) → with_word w v ≡ Some new → ((r : MutRef) → v ≡ value.Mut r → w ≢ r.first) → (r : MutRef) → new ≡ value.Mut r → changed r ≡ true
+worded_changed w (value.Mut q) new e f r g =
+    let s : value.Mut (took q w) ≡ value.Mut r = some_is e ∙ g in
+    let same : took q w ≡ r = cc in
+    subst (λ m. changed m ≡ true) same (not_first q w (f q refl))
+worded_changed w (value.Own (owned.Box p)) new e f r g = let s : value.Own (owned.Box (record p { word = w })) ≡ value.Mut r = some_is e ∙ g in absurd cc
+worded_changed w _ new e f r g = absurd cc
+
+pub tint_rewords : TintRewords
+tint_rewords k n ts e h h2 i v p here at points put c d home firsts =
+    let q = slot_put h h2 i v p at put in
+    let w = next_word p.word in
+    let number : h2.thread.number ≡ h.thread.number = ap (λ (y : ThreadState). y.number) q.thread in
+    let split : Split (things_of (put_in k n ts e h)) (things_of (put_in k n ts e h2)) (thread_things n false h.thread) (thread_things n false h2.thread) = put_split k n ts e h h2 here q.rest number in
+    let there : Split (things_of (put_in k n ts e h)) (things_of (put_in k n ts e h2)) (thread_things n false h.thread) (thread_things n false (with_slot i q.new h).thread) =
+    subst (λ y. Split (things_of (put_in k n ts e h)) (things_of (put_in k n ts e h2)) (thread_things n false h.thread) (thread_things n false y)) q.thread split in
+    slot_reworded (put_in k n ts e h) (put_in k n ts e h2) n i w h.thread v q.new at q.worded there refl c d p.object (worded_changed w v q.new q.worded firsts) home.server home.address home.lying
+    (λ r a y m f. next_leads r a p.word (home.leads r a y m f))

@@ -1,0 +1,296 @@
+-- The pointer that a thread may write through gets another word: whoever else points to the object stands above it, so the words go on.
+use Rattle.std.proofs.Common.{◌≡◌, ◌⊎◌, inl, inr, ⊎_elim, ℕ, ◌==◌, true, List, [], ◌∷◌, Option, Some, None, refl, sym, ap, subst, ◌∙◌}
+use Rattle.fr_base.specs.declared.name.ObjNo.{ObjNo}
+use Rattle.fr_base.specs.declared.instruction.Instr.{Instr}
+use Rattle.fr_base.specs.declared.instruction.Instr.TheVariants as instr
+use Rattle.fr_base.specs.declared.place.Lval.{Lval}
+use Rattle.heap_partition.specs.declared.value.Owned.TheVariants as owned
+use Rattle.fr_store.specs.Keys.{slot_k}
+use Rattle.fr_store.specs.Typed.{Resolves}
+use Rattle.mut_borrow.specs.declared.mutable.MutRef.{MutRef}
+use Rattle.thread_state.specs.declared.phase.Phase.{Phase}
+use Rattle.thread_state.specs.declared.phase.Phase.TheVariants as phase
+use Rattle.thread_state.specs.declared.value.Value.{Value}
+use Rattle.thread_state.specs.declared.value.Value.TheVariants as value
+use Rattle.server_model.specs.Servers.{Cluster}
+use Rattle.server_model.specs.Places.{with_word, took}
+use Rattle.std.specs.Prelude.{slice_get}
+use Rattle.heap_law.specs.Names.{Among, same_object}
+use Rattle.heap_law.specs.Things.{Location, in_cell, things_of}
+use Rattle.heap_law.specs.Follow.{Standing, Ground, value_in, value_behind, leads, locate}
+use Rattle.heap_law.specs.Stale.{Reference, references, holder_of, is_held_at, changed_above, stale_above}
+use Rattle.heap_law.specs.Sight.{Pointer, pointers_in, taken_object, taken_of, taken_pointers, sight}
+use Rattle.heap_law.specs.Placing.{is_first, other_first}
+use Rattle.heap_law.specs.Coherent.{Holds, first_at_holder}
+use Rattle.heap_law.specs.Words.{all_pointers, IsStale}
+use Rattle.heap_law.proofs.Bags.{among_split}
+use Rattle.heap_law.proofs.Words.{none_at, named}
+use Rattle.heap_law.proofs.Names.{and_right}
+use Rattle.path_law.specs.HeapStore.{GoesOn, HasPaths}
+use Rattle.path_law.specs.Pointing.{Above, made_from, made_below, MayWrite, LastHop}
+use Rattle.path_law.proofs.Sole.{some_is}
+use Rattle.path_law.proofs.Shown.{none_else}
+use Rattle.path_law.proofs.Origins.{among_first, among_second}
+use Rattle.path_law.proofs.Contained.{reference_there, held_there}
+use Rattle.path_law.proofs.Pointers.{sole_pointers}
+use Rattle.path_law.proofs.FreshPaths.{Followed, none_made}
+use Rattle.word_law.specs.Reworded.{HasPlaces, Reworded}
+use Rattle.word_law.specs.WordsAfter.{WordsGoOn}
+use Rattle.word_law.proofs.GoOn.{pointer_to, StoodElsewhere, Change, go_on}
+use Rattle.word_law.proofs.Standing.{pointer_at, told, tells}
+use Rattle.word_law.proofs.Alone.{alone}
+use Rattle.word_law.proofs.Grounds.{same_place, reference_word, holders_same, taken_all, now, still_stale, newly_stale}
+
+-- WHAT A VALUE POINTS TO
+
+in_cell_is : {p o : ObjNo} → Some (in_cell p) ≡ Some (in_cell o) → p ≡ o
+in_cell_is e = cc
+
+pointer_of_object : (t : ℕ) (l : Location) (v : Value) (o : ObjNo) (p : Pointer) → leads t (Some v) ≡ Some (in_cell o) → Among p (pointer_at l v) → p.object ≡ o
+pointer_of_object t l (value.Own (owned.Box b)) o p e (inl q) = ap (λ (y : Pointer). y.object) (sym q) ∙ in_cell_is e
+pointer_of_object t l (value.Own (owned.Box b)) o p e (inr q) = absurd q
+pointer_of_object t l (value.Mut r) o p e (inl q) = ap (λ (y : Pointer). y.object) (sym q) ∙ in_cell_is e
+pointer_of_object t l (value.Mut r) o p e (inr q) = absurd q
+pointer_of_object t l (value.Own owned.Nothing) o p e q = absurd q
+pointer_of_object t l (value.Own owned.Unit) o p e q = absurd q
+pointer_of_object t l (value.Own (owned.Int n)) o p e q = absurd q
+pointer_of_object t l (value.Own (owned.Mutex m)) o p e q = absurd q
+pointer_of_object t l (value.Own (owned.Task n)) o p e q = absurd q
+pointer_of_object t l value.Gone o p e q = absurd q
+pointer_of_object t l (value.SharedSlot i) o p e q = absurd q
+pointer_of_object t l (value.MutSlot i) o p e q = absurd q
+pointer_of_object t l (value.Shared r) o p e q = absurd q
+pointer_of_object t l (value.Held m) o p e q = absurd q
+
+-- with another word it is one pointer, with that word
+worded_pointer : (t w : ℕ) (l : Location) (old new : Value) (o : ObjNo) → with_word w old ≡ Some new → leads t (Some old) ≡ Some (in_cell o) → pointer_at l new ≡ pointer_to l w o ∷ []
+worded_pointer t w l (value.Own (owned.Box b)) new o e f = ap (pointer_at l) (sym (some_is e)) ∙ ap (λ p. pointer_to l w p ∷ []) (in_cell_is f)
+worded_pointer t w l (value.Mut r) new o e f = ap (pointer_at l) (sym (some_is e)) ∙ ap (λ p. pointer_to l w p ∷ []) (in_cell_is f)
+worded_pointer t w l _ new o e f = absurd cc
+
+-- what was taken stands at no location
+taken_object_nowhere : (w : ℕ) (l : Option Location) (p : Pointer) → Among p (taken_object w l) → p.at ≡ None
+taken_object_nowhere w (Some (in_cell o)) p (inl e) = sym (ap (λ (y : Pointer). y.at) e)
+taken_object_nowhere w (Some (in_cell o)) p (inr q) = absurd q
+taken_object_nowhere w _ p q = absurd q
+
+taken_of_nowhere : (g : Ground) (x : Standing) (f : Phase) (i : Option Instr) (p : Pointer) → Among p (taken_of g x.thread f i) → p.at ≡ None
+taken_of_nowhere g x (phase.Taken w) (Some (instr.BorrowMut v)) p q = taken_object_nowhere w (locate g x.thread.number v.slot v.depth) p q
+taken_of_nowhere g x (phase.Taken w) (Some _) p q = absurd q
+taken_of_nowhere g x (phase.Taken w) None p q = absurd q
+taken_of_nowhere g x _ i p q = absurd q
+
+taken_nowhere : (code : List Instr) (g : Ground) (xs : List Standing) (p : Pointer) → Among p (taken_pointers code g xs) → p.at ≡ None
+taken_nowhere code g [] p h = absurd h
+taken_nowhere code g (x ∷ xs) p h =
+    ⊎_elim (λ (l : Among p (taken_of g x.thread x.thread.phase (slice_get code x.thread.pc))). taken_of_nowhere g x x.thread.phase (slice_get code x.thread.pc) p l) (λ (q : Among p (taken_pointers code g xs)). taken_nowhere code g xs p q)
+    (among_split p (taken_of g x.thread x.thread.phase (slice_get code x.thread.pc)) (taken_pointers code g xs) h)
+
+-- WHAT STANDS ABOVE A POINTER IS TO THE SAME OBJECT
+
+first_object : (t : ℕ) (q : MutRef) (v : Option Value) → is_first q v ≡ true → leads t v ≡ Some (in_cell q.object)
+first_object t q (Some (value.Own (owned.Box p))) e = ap (λ y. Some (in_cell y)) (sym (named q.object p.object (and_right (q.first == p.word) (same_object q.object p.object) e)))
+first_object t q (Some (value.Mut r)) e = ap (λ y. Some (in_cell y)) (sym (named q.object r.object (and_right (q.first == r.word) (same_object q.object r.object) e)))
+first_object t q (Some (value.Own owned.Nothing)) e = absurd cc
+first_object t q (Some (value.Own owned.Unit)) e = absurd cc
+first_object t q (Some (value.Own (owned.Int n))) e = absurd cc
+first_object t q (Some (value.Own (owned.Mutex m))) e = absurd cc
+first_object t q (Some (value.Own (owned.Task n))) e = absurd cc
+first_object t q (Some value.Gone) e = absurd cc
+first_object t q (Some (value.SharedSlot i)) e = absurd cc
+first_object t q (Some (value.MutSlot i)) e = absurd cc
+first_object t q (Some (value.Shared r)) e = absurd cc
+first_object t q (Some (value.Held m)) e = absurd cc
+first_object t q None e = absurd cc
+
+module _ (k : Cluster) (firsts : Holds k first_at_holder) where
+  abbrev ground : Ground
+  ground = (sight k).ground
+
+  -- what a reference was made from leads where it does
+  made_object : (t : ℕ) (l m : Location) (q : MutRef) → value_in ground m ≡ Some (value.Mut q) → holder_of ground m q.holder ≡ Some l → leads t (value_in ground l) ≡ Some (in_cell q.object)
+  made_object t l m q e held =
+      let there = reference_there k m q e in
+      let none : other_first ground (record { at = m; holder = holder_of ground m q.holder; reference = q }) ≡ 0 = none_at (other_first ground) (record { at = m; holder = holder_of ground m q.holder; reference = q }) (references ground (things_of k)) firsts there in
+      let first : is_first q (value_behind ground (holder_of ground m q.holder)) ≡ true = none_else (is_first q (value_behind ground (holder_of ground m q.holder))) none in
+      first_object t q (value_in ground l) (ap (λ n. is_first q (value_behind ground n)) (sym held) ∙ first)
+
+  pub above_leads : (t : ℕ) (l m : Location) (o : ObjNo) → Above ground l m → leads t (value_in ground m) ≡ Some (in_cell o) → leads t (value_in ground l) ≡ Some (in_cell o)
+  above_leads t l m o (made_from q e held) f = made_object t l m q e held ∙ sym (ap (leads t) e) ∙ f
+  above_leads t l m o (made_below {h = j} q e held rest) f = above_leads t l j o rest (made_object t j m q e held ∙ sym (ap (leads t) e) ∙ f)
+
+-- a reference was made from what stands above another one
+above_holds : (k : Cluster) (l m : Location) → Above (sight k).ground l m → (r : Reference) × Among r (references (sight k).ground (things_of k)) × (is_held_at l r.holder ≡ true)
+above_holds k l m (made_from q e held) = (record { at = m; holder = holder_of (sight k).ground m q.holder; reference = q }, reference_there k m q e, held_there k l (holder_of (sight k).ground m q.holder) held)
+above_holds k l m (made_below {h = j} q e held rest) = above_holds k l j rest
+
+module _ (k z : Cluster) (c : HasPaths k) (d : HasPlaces z) (x : Standing) (v : Lval) (h : Location) (o : ObjNo) (w : ℕ) (g : GoesOn k x) (may : MayWrite k c.types x v) (hop : LastHop (sight k).ground x.thread.number v h o)
+    (fresh : IsStale (sight k) (Some h) → ⊥) (r : Reworded k z h o w) (firsts : Holds k first_at_holder) where
+  abbrev gk : Ground
+  gk = (sight k).ground
+
+  abbrev gz : Ground
+  gz = (sight z).ground
+
+  abbrev n : ℕ
+  n = x.thread.number
+
+  places : HasPlaces k
+  places = record { numbers_differ = c.numbers_differ; home_of_each = c.home_of_each; owner_of_each = c.owner_of_each }
+
+  points : leads n (Some r.old) ≡ Some (in_cell o)
+  points = sym (ap (leads n) r.stood) ∙ sym (ap (λ m. leads n (value_behind gk m)) hop.pointer) ∙ sym (ap (locate gk n v.slot) hop.last) ∙ hop.leads
+
+  pointer_now : pointer_at h r.new ≡ pointer_to h w o ∷ []
+  pointer_now = worded_pointer n w h r.old r.new o r.worded points
+
+  only_one : (p q : Pointer) (ps : List Pointer) → ps ≡ q ∷ [] → Among p ps → p ≡ q
+  only_one p q ps e m = by (subst (λ xs. Among p xs) e m)
+    where
+      by : Among p (q ∷ []) → p ≡ q
+      by (inl s) = sym s
+      by (inr s) = absurd s
+
+  no_place : (p : Pointer) (l : Location) → p.at ≡ None → p.at ≡ Some l → ⊥
+  no_place p l e f = let y : None ≡ Some l = sym e ∙ f in absurd cc
+
+  taken_before : (p : Pointer) → Among p (taken_pointers (sight z).code gz gz.threads) → Among p (taken_pointers (sight k).code gk gk.threads)
+  taken_before p m = subst (λ ps. Among p ps) (taken_all k z h o w r) m
+
+  taken_after : (p : Pointer) → Among p (taken_pointers (sight k).code gk gk.threads) → Among p (taken_pointers (sight z).code gz gz.threads)
+  taken_after p m = subst (λ ps. Among p ps) (sym (taken_all k z h o w r)) m
+
+  stood : (p : Pointer) → Among p (all_pointers (sight z)) → (p ≡ pointer_to h w o) ⊎ StoodElsewhere (sight k) h p
+  stood p m =
+      ⊎_elim (λ (q : Among p (pointers_in (things_of z))). by p.at refl q)
+      (λ (q : Among p (taken_pointers (sight z).code gz gz.threads)).
+      let t = taken_before p q in
+      inr (record { among = among_second p (pointers_in (things_of k)) (taken_pointers (sight k).code gk gk.threads) t; at = no_place p h (taken_nowhere (sight k).code gk gk.threads p t) }))
+      (among_split p (pointers_in (things_of z)) (taken_pointers (sight z).code gz gz.threads) m)
+    where
+      from : Among p (pointers_in (things_of k)) → (p.at ≡ Some h → ⊥) → (p ≡ pointer_to h w o) ⊎ StoodElsewhere (sight k) h p
+      from q f = inr (record { among = among_first p (pointers_in (things_of k)) (taken_pointers (sight k).code gk gk.threads) q; at = f })
+
+      at_place : (l : Location) → p.at ≡ Some l → Among p (pointers_in (things_of z)) → (l ≡ h) ⊎ (l ≡ h → ⊥) → (p ≡ pointer_to h w o) ⊎ StoodElsewhere (sight k) h p
+      at_place l e q (inl s) =
+          let t = tells z d p l q e in
+          let is : t.value ≡ r.new = some_is (sym t.stands ∙ ap (value_in gz) s ∙ r.stands) in
+          inl (only_one p (pointer_to h w o) (pointer_at l t.value) (ap (pointer_at l) is ∙ ap (λ m. pointer_at m r.new) s ∙ pointer_now) t.pointer)
+      at_place l e q (inr f) =
+          let t = tells z d p l q e in
+          from (told k l t.value p (sym (r.elsewhere l f) ∙ t.stands) t.pointer) (λ u. f (some_is (sym e ∙ u)))
+
+      by : (a : Option Location) → p.at ≡ a → Among p (pointers_in (things_of z)) → (p ≡ pointer_to h w o) ⊎ StoodElsewhere (sight k) h p
+      by None e q = from (r.unplaced p q e) (no_place p h e)
+      by (Some l) e q = at_place l e q (same_place l h)
+
+  stays : (p : Pointer) → Among p (all_pointers (sight k)) → (p.object ≡ o → ⊥) → Among p (all_pointers (sight z))
+  stays p m f =
+      ⊎_elim (λ (q : Among p (pointers_in (things_of k))). among_first p (pointers_in (things_of z)) (taken_pointers (sight z).code gz gz.threads) (by p.at refl q))
+      (λ (q : Among p (taken_pointers (sight k).code gk gk.threads)). among_second p (pointers_in (things_of z)) (taken_pointers (sight z).code gz gz.threads) (taken_after p q))
+      (among_split p (pointers_in (things_of k)) (taken_pointers (sight k).code gk gk.threads) m)
+    where
+      at_place : (l : Location) → p.at ≡ Some l → Among p (pointers_in (things_of k)) → (l ≡ h) ⊎ (l ≡ h → ⊥) → Among p (pointers_in (things_of z))
+      at_place l e q (inl s) =
+          let t = tells k places p l q e in
+          let is : t.value ≡ r.old = some_is (sym t.stands ∙ ap (value_in gk) s ∙ r.stood) in
+          absurd (f (pointer_of_object n l t.value o p (ap (λ y. leads n (Some y)) is ∙ points) t.pointer))
+      at_place l e q (inr u) = let t = tells k places p l q e in told z l t.value p (r.elsewhere l u ∙ t.stands) t.pointer
+
+      by : (a : Option Location) → p.at ≡ a → Among p (pointers_in (things_of k)) → Among p (pointers_in (things_of z))
+      by None e q = r.remain p q e f
+      by (Some l) e q = at_place l e q (same_place l h)
+
+  here : Among (pointer_to h w o) (all_pointers (sight z))
+  here =
+      among_first (pointer_to h w o) (pointers_in (things_of z)) (taken_pointers (sight z).code gz gz.threads)
+      (told z h r.new (pointer_to h w o) r.stands (subst (λ ps. Among (pointer_to h w o) ps) (sym pointer_now) (inl refl)))
+
+  -- NO REFERENCE WAS MADE FROM IT
+
+  followed : Followed k c x h
+  followed = record {
+    goes = g;
+    slot = v.slot;
+    stars = hop.stars;
+    free = may.free;
+    base = may.base;
+    boxes = may.boxes;
+    type = may.type;
+    resolves = subst (λ y. Resolves c.types.typing.exact true (slot_k n v.slot) y may.base may.boxes may.type) hop.last may.resolves;
+    located = hop.pointer;
+  }
+
+  not_above_itself : Above gk h h → ⊥
+  not_above_itself a = let y = above_holds k h h a in none_made k c x h y.0 followed y.1 y.2
+
+  sole : (p : Pointer) → Among p (all_pointers (sight z)) → p.object ≡ o → (p.at ≡ Some h) ⊎ ((l : Location) × (p.at ≡ Some l) × Above gk l h)
+  sole p m e = by p.at refl
+    where
+      above : (l : Location) → p.at ≡ Some l → (l ≡ h) ⊎ Above gk l h → (p.at ≡ Some h) ⊎ ((l : Location) × (p.at ≡ Some l) × Above gk l h)
+      above l f (inl s) = inl (f ∙ ap Some s)
+      above l f (inr a) = inr (l, f, a)
+
+      among : (l : Location) → p.at ≡ Some l → Among p (all_pointers (sight k)) → Among p (pointers_in (things_of k))
+      among l f q =
+          ⊎_elim (λ (y : Among p (pointers_in (things_of k))). y) (λ (y : Among p (taken_pointers (sight k).code gk gk.threads)). absurd (no_place p l (taken_nowhere (sight k).code gk gk.threads p y) f))
+          (among_split p (pointers_in (things_of k)) (taken_pointers (sight k).code gk gk.threads) q)
+
+      by : (a : Option Location) → p.at ≡ a → (p.at ≡ Some h) ⊎ ((l : Location) × (p.at ≡ Some l) × Above gk l h)
+      by None f = absurd (alone k z c d x v h o w g may hop fresh r not_above_itself p m e f)
+      by (Some l) f =
+          ⊎_elim (λ (q : p ≡ pointer_to h w o). inl (ap (λ (y : Pointer). y.at) q)) (λ (q : StoodElsewhere (sight k) h p). above l f (sole_pointers.above k c x v h o g may hop p l (among l f q.among) e f)) (stood p m)
+
+  -- WHAT STANDS ABOVE IT IS STALE
+
+  up : (l m : Location) → IsStale (sight z) (Some m) → Above gk l m → IsStale (sight z) (Some l)
+  up l m s (made_from q e held) =
+      let y = (now k z h o w r places d (record { at = m; holder = holder_of gk m q.holder; reference = q }) (reference_there k m q e)).0 in
+      stale_above y.reference y.among (held_there z l y.reference.holder (y.holder ∙ held)) (subst (λ j. IsStale (sight z) (Some j)) (sym y.at) s)
+  up l m s (made_below {h = j} q e held rest) =
+      let y = (now k z h o w r places d (record { at = m; holder = holder_of gk m q.holder; reference = q }) (reference_there k m q e)).0 in
+      up l j (stale_above y.reference y.among (held_there z j y.reference.holder (y.holder ∙ held)) (subst (λ i. IsStale (sight z) (Some i)) (sym y.at) s)) rest
+
+  -- the pointer from which the changed reference was made
+  made_stale : (l : Location) (q : MutRef) → value_in gk h ≡ Some (value.Mut q) → holder_of gk h q.holder ≡ Some l → IsStale (sight z) (Some l)
+  made_stale l q e held =
+      let m = took q w in
+      let there = reference_word k z h o w r q e in
+      let is : r.new ≡ value.Mut m = some_is (sym r.stands ∙ there) in
+      changed_above (record { at = h; holder = holder_of gz h m.holder; reference = m }) (reference_there z h m there) (held_there z l (holder_of gz h m.holder) (holders_same k z h o w r h q.holder ∙ held)) (r.changed m is)
+
+  above_stale : (l : Location) → Above gk l h → IsStale (sight z) (Some l)
+  above_stale l (made_from q e held) = made_stale l q e held
+  above_stale l (made_below {h = j} q e held rest) = up l j (made_stale j q e held) rest
+
+  fresh_now : IsStale (sight z) (Some h) → ⊥
+  fresh_now s = ⊎_elim fresh not_above_itself (newly_stale k z h o w r places d h s)
+
+  above_object : (p : Pointer) (l : Location) → Among p (all_pointers (sight k)) → p.at ≡ Some l → Above gk l h → p.object ≡ o
+  above_object p l m f a =
+      ⊎_elim
+      (λ (q : Among p (pointers_in (things_of k))).
+      let t = tells k places p l q f in
+      let to : leads n (value_in gk h) ≡ Some (in_cell o) = ap (leads n) r.stood ∙ points in
+      let is : leads n (Some t.value) ≡ Some (in_cell o) = sym (ap (leads n) t.stands) ∙ above_leads k firsts n l h o a to in
+      pointer_of_object n l t.value o p is t.pointer)
+      (λ (q : Among p (taken_pointers (sight k).code gk gk.threads)). absurd (no_place p l (taken_nowhere (sight k).code gk gk.threads p q) f))
+      (among_split p (pointers_in (things_of k)) (taken_pointers (sight k).code gk gk.threads) m)
+
+  change : Change (sight k) (sight z) h o w
+  change = record {
+    here = here;
+    stood = stood;
+    stays = stays;
+    stale = still_stale k z h o w r places d;
+    newly = newly_stale k z h o w r places d;
+    leads = r.leads;
+    lay = λ i a y m f. let q = r.lay i a y m f in record { cell = q.cell; among = q.among; object = q.object };
+    sole = sole;
+    above_stale = above_stale;
+    above_object = above_object;
+    fresh = fresh_now;
+  }
+
+pub words_go_on : WordsGoOn
+words_go_on k z c x v h o w d g may hop fresh r firsts before = go_on (sight k) (sight z) h o w (change k z c d x v h o w g may hop fresh r firsts) before

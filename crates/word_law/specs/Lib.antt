@@ -1,0 +1,4 @@
+pub mod Reworded
+pub mod WordsAfter
+pub mod PutBack
+pub mod Example

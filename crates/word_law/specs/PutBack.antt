@@ -1,0 +1,48 @@
+-- A SMALL STEP OF AN EVENT gives a pointer another word: the cluster with the thread put back where it stood, before the step and after it (this project's
+-- rule).
+use Rattle.std.specs.Prelude.{◌≡◌, ◌≢◌, ℕ, List, Some, IsSome, slice_get}
+use Rattle.global_addr.specs.Words.{next_word}
+use Rattle.heap_partition.specs.declared.value.BoxPtr.{BoxPtr}
+use Rattle.heap_partition.specs.declared.value.Cell.{Cell}
+use Rattle.mut_borrow.specs.declared.mutable.MutRef.{MutRef}
+use Rattle.thread_state.specs.View.{ThreadState}
+use Rattle.thread_state.specs.declared.value.Value.{Value}
+use Rattle.thread_state.specs.declared.value.Value.TheVariants as value
+use Rattle.server_model.specs.Servers.{Cluster, server_at}
+use Rattle.server_model.specs.Work.{Hand, thread_in, set_thread}
+use Rattle.server_model.specs.Clusters.{with_server}
+use Rattle.server_model.specs.NewWords.{issue_tint}
+use Rattle.server_model.specs.Places.{in_slot, pointer_of, put_word}
+use Rattle.heap_law.specs.Names.{Among}
+use Rattle.heap_law.specs.Things.{at_slot, lies, things_of}
+use Rattle.heap_law.specs.Words.{LeadsTo}
+use Rattle.word_law.specs.Reworded.{HasPlaces, LiesThere, Reworded}
+
+-- the cluster with a hand's thread among those of its server, which has done so many events
+abbrev pub put_in : Cluster → ℕ → List ThreadState → ℕ → Hand → Cluster
+put_in k n ts e h = record k { servers = with_server k.servers n (record { rest = h.work.rest; threads = set_thread ts h.thread; events = e }) }
+
+-- the thread of a hand stands at a server of the cluster
+pub record StandsHere (k : Cluster) (n : ℕ) (ts : List ThreadState) (h : Hand) : Type 0 where
+  pub server : IsSome (server_at k.servers n)
+  pub number : h.work.rest.number ≡ n
+  pub thread : IsSome (thread_in ts h.thread.number)
+
+-- the object lies where its pointer's word leads
+pub record LeadsHome (k : Cluster) (p : BoxPtr) : Type 0 where
+  pub server : ℕ
+  pub address : ℕ
+  pub lying : LiesThere k server address p.object
+  pub leads : (r a : ℕ) (c : Cell) → Among (lies r a c) (things_of k) → c.object ≡ p.object → LeadsTo r a p.word
+
+-- TINT: the pointer in a slot gets the next colour
+abbrev pub TintRewords : Type 0
+TintRewords = (k : Cluster) (n : ℕ) (ts : List ThreadState) (e : ℕ) (h h2 : Hand) (i : ℕ) (v : Value) (p : BoxPtr) → StandsHere k n ts h
+    → slice_get h.thread.slots i ≡ Some v
+    → pointer_of v ≡ Some p
+    → put_word (in_slot i) (issue_tint p h.work) h ≡ Some h2
+    → HasPlaces (put_in k n ts e h)
+    → HasPlaces (put_in k n ts e h2)
+    → LeadsHome (put_in k n ts e h) p
+    → ((r : MutRef) → v ≡ value.Mut r → next_word p.word ≢ r.first)
+    → Reworded (put_in k n ts e h) (put_in k n ts e h2) (at_slot h.thread.number i) p.object (next_word p.word)

@@ -1,0 +1,69 @@
+-- ONE OBJECT GETS ANOTHER WORD (this project's rule): two clusters of which the second shows what the first does, but for the word of the pointer at one
+-- location, and for where the object of that pointer lies.
+use Rattle.std.specs.Prelude.{◌≡◌, ℕ, true, map, Option, Some, None}
+use Rattle.fr_base.specs.declared.name.ObjNo.{ObjNo}
+use Rattle.heap_partition.specs.declared.value.Cell.{Cell}
+use Rattle.mut_borrow.specs.declared.mutable.MutRef.{MutRef}
+use Rattle.mut_borrow.specs.Refs.{changed}
+use Rattle.thread_state.specs.declared.phase.Phase.{Phase}
+use Rattle.thread_state.specs.declared.phase.Phase.TheVariants as phase
+use Rattle.thread_state.specs.declared.value.Value.{Value}
+use Rattle.thread_state.specs.declared.value.Value.TheVariants as value
+use Rattle.server_model.specs.Servers.{Cluster}
+use Rattle.server_model.specs.Places.{with_word}
+use Rattle.heap_law.specs.Names.{Among}
+use Rattle.heap_law.specs.Things.{Location, lies, things_of}
+use Rattle.heap_law.specs.Follow.{Standing, value_in}
+use Rattle.heap_law.specs.Sight.{Pointer, pointers_in, sight}
+use Rattle.heap_law.specs.Words.{LeadsTo}
+use Rattle.heap_law.specs.Balances.{Agree, AtMostOne}
+use Rattle.heap_law.specs.Weights.{cells, owners, is_thread}
+
+-- the word that a thread has taken for its mutable borrow
+abbrev pub taken_word : Phase → Option ℕ
+taken_word (phase.Taken w) = Some w
+taken_word p = None
+
+-- what tells of a thread from which pointer it has taken an object
+pub record Turn : Type 0 where
+  pub number : ℕ
+  pub pc : ℕ
+  pub taken : Option ℕ
+
+abbrev pub turn_of : Standing → Turn
+turn_of x = record { number = x.thread.number; pc = x.thread.pc; taken = taken_word x.thread.phase }
+
+-- threads are told by their numbers, and each object has one cell and one owner
+pub record HasPlaces (k : Cluster) : Type 0 where
+  pub numbers_differ : AtMostOne is_thread (things_of k)
+  pub home_of_each : AtMostOne cells (things_of k)
+  pub owner_of_each : Agree owners cells (things_of k)
+
+-- the object lies there
+pub record LiesThere (k : Cluster) (r a : ℕ) (o : ObjNo) : Type 0 where
+  pub cell : Cell
+  pub among : Among (lies r a cell) (things_of k)
+  pub object : cell.object ≡ o
+
+pub record Reworded (k z : Cluster) (h : Location) (o : ObjNo) (w : ℕ) : Type 0 where
+  pub code : z.code ≡ k.code
+  -- the box or the mutable reference at h gets the word, and a reference is changed by it
+  pub old : Value
+  pub new : Value
+  pub stood : value_in (sight k).ground h ≡ Some old
+  pub worded : with_word w old ≡ Some new
+  pub stands : value_in (sight z).ground h ≡ Some new
+  pub changed : (r : MutRef) → new ≡ value.Mut r → changed r ≡ true
+  -- elsewhere stands what stood there
+  pub elsewhere : (l : Location) → (l ≡ h → ⊥) → value_in (sight z).ground l ≡ value_in (sight k).ground l
+  -- each thread is where it was, and has taken what it had taken
+  pub turns : map turn_of (sight z).ground.threads ≡ map turn_of (sight k).ground.threads
+  -- the pointers that stand at no location are the same, but for the old word of the object where it was under way
+  pub unplaced : (p : Pointer) → Among p (pointers_in (things_of z)) → p.at ≡ None → Among p (pointers_in (things_of k))
+  pub remain : (p : Pointer) → Among p (pointers_in (things_of k)) → p.at ≡ None → (p.object ≡ o → ⊥) → Among p (pointers_in (things_of z))
+  -- the object lies at an address, to which the word leads, and each other object lies where it lay
+  pub server : ℕ
+  pub address : ℕ
+  pub lying : LiesThere z server address o
+  pub leads : (r a : ℕ) (c : Cell) → Among (lies r a c) (things_of z) → c.object ≡ o → LeadsTo r a w
+  pub lay : (r a : ℕ) (c : Cell) → Among (lies r a c) (things_of z) → (c.object ≡ o → ⊥) → LiesThere k r a c.object

@@ -1,0 +1,18 @@
+//! Laws of words.
+
+ghost use Rattle.word_law.specs.Example.{WordsApply};
+ghost use Rattle.word_law.specs.PutBack.{TintRewords};
+ghost use Rattle.word_law.specs.WordsAfter.{WordsGoOn};
+
+/// Where the pointer that a thread may write through gets another word of its object, and the object lies where that leads, each object has a word as before:
+/// whoever else points to the object stands above that pointer, and is stale. In one coherent cluster all that is asked is there.
+pub fn words_go_on()
+    ensures words { WordsGoOn }
+    ensures applies { WordsApply }
+{}
+
+/// A tint is such a change: where the box or the mutable reference in a slot gets the next colour, the cluster with the thread put back is as it was but for
+/// that word.
+pub fn small_steps_reword()
+    ensures { TintRewords }
+{}

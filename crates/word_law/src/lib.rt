@@ -1,0 +1,6 @@
+//! How the words of objects go on where one of them changes. There is no code here: a law is the contract of a function with an empty body.
+#![tactic(auto)]
+
+mod laws;
+
+pub use laws::{small_steps_reword, words_go_on};
