@@ -30,7 +30,7 @@ use Rattle.heap_law.specs.Names.{Among, one, same_object, boxes}
 use Rattle.heap_law.specs.Things.{Location, at_slot, at_temp, in_cell, Spot, in_slot, in_temp, as_gift, as_content, as_result, in_hand, Thing, holds, shares, borrows, lies, flies, sent, things_of}
 use Rattle.heap_law.specs.Follow.{Standing, Ground, slot_of, value_in, value_of, value_behind, cell_of, leads, locate, place_at}
 use Rattle.heap_law.specs.Weights.{owners, cells}
-use Rattle.heap_law.specs.Sharing.{is_over}
+use Rattle.thread_state.specs.View.{is_over}
 use Rattle.heap_law.specs.Stale.{same_location, is_among, lent_place, with_place, lent_places, one_star_less, taken_above}
 use Rattle.heap_law.specs.OneHeap.{object_value}
 use Rattle.heap_law.specs.Sight.{Pointer, pointer_in, location_of, dropped_pointer, pointers_of, pointers_in, taken_object, taken_of, taken_pointers, sight}
