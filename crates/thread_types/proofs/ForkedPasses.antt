@@ -8,7 +8,7 @@ use Rattle.fr_base.specs.declared.name.MutexNo.{MutexNo}
 use Rattle.fr_terms.specs.Terms.{Text, Captured}
 use Rattle.fr_typing.specs.Kinds.{Owned, unit, Kind, own, shared, mutable, view, whole, gone, copies, map_some}
 use Rattle.fr_typing.specs.Places.{Slot, Env, found, type_at, same_name, read_blocked, write_blocked, heap_type, put_at, slot_of}
-use Rattle.fr_typing.specs.Captures.{by_par, captured_kind, captured_slot, Captures, captures_copy, captures_move}
+use Rattle.fr_typing.specs.Captures.{by_par, captured_kind, captured_slot, MayPass}
 use Rattle.fr_typing.proofs.PlaceLemmas.{eq_cases}
 use Rattle.fr_store.specs.Keys.{slot_k, temp_k}
 use Rattle.fr_store.specs.Typed.{Exact, owns, refers}
@@ -17,12 +17,9 @@ use Rattle.fr_store.specs.Thread.{ThreadKeys}
 use Rattle.fr_plain.specs.declared.value.Value.{Value}
 use Rattle.fr_plain.specs.declared.value.Value.TheVariants.{Own, ToObject}
 use Rattle.fr_plain.specs.State.{slot_at, with_slot}
-use Rattle.fr_plain.specs.MachineThreads.{left_after as slots_after, then_passed, pass}
 use Rattle.fr_plain.specs.PlainState.{Running, PlainState, place_in}
 use Rattle.fr_sound.specs.Entries.{going, forked_at}
 use Rattle.fr_sound.specs.States.{Typing, env_at, is_hidden}
-use Rattle.fr_code.specs.CodeTypes.{SlotPasses, passes, SlotsPass, pass_none, pass_next}
-use Rattle.fr_code.specs.Steps.{captured}
 use Rattle.plain_types.specs.Positions.{Position, PositionTypes}
 use Rattle.plain_types.proofs.OneThread.{with_running}
 use Rattle.plain_types.proofs.Raised.{raised, raised_typing}
@@ -30,23 +27,25 @@ use Rattle.plain_types.proofs.Focus.{top_none, Focus, focus}
 use Rattle.plain_types.proofs.Hand.{room, pushed_others}
 use Rattle.plain_types.proofs.Written.{slot_unwritten}
 use Rattle.thread_types.proofs.Passed.{Passes}
-use Rattle.thread_types.proofs.Spawns.{named_below, HeadIs}
-use Rattle.thread_types.proofs.Forked.{Forked, parent_hidden, first_slots}
-use Rattle.thread_types.proofs.ForkedCopy.{Copies, copy_caught}
-use Rattle.thread_types.proofs.ForkedMove.{move_caught}
-use Rattle.thread_types.proofs.ForkedValues.{owned_there, owned_copies, view_there, view_copies}
+use Rattle.thread_types.proofs.AllPass.{named_below, Copied, Moved, Passing}
+use Rattle.thread_types.proofs.Forked.{Forked, parent_hidden, parent_free, forked_giver, caught}
+use Rattle.thread_types.proofs.GivenCopy.{Copies, copy_given}
+use Rattle.thread_types.proofs.GivenMove.{move_given}
+use Rattle.thread_types.proofs.GivenValues.{owned_type, owned_there, owned_copies}
+use Rattle.thread_types.proofs.ForkedViews.{view_there, view_copies}
+use Rattle.thread_types.proofs.Given.{new_many}
 
 -- RANKS
 
 -- temporary values of both children rank above their slots
-pub record Ready (a : PlainState Position) (t u w : ℕ) (x xu xw : Running Position) (e n m : Env) (ts : List Kind) (g : Owned) : Type 0 where
+pub record HasRoom (a : PlainState Position) (t u w : ℕ) (x xu xw : Running Position) (e n m : Env) (ts : List Kind) (g : Owned) : Type 0 where
   pub typing : Typing
   pub forked : Forked typing a t u w x xu xw e n m ts g
   pub focus : Focus typing a u n [] None
   pub focus_other : Focus typing a w m [] None
 
-pub readied : (y : Typing) (a : PlainState Position) (t u w : ℕ) (x xu xw : Running Position) (e n m : Env) (ts : List Kind) (g : Owned) → Forked y a t u w x xu xw e n m ts g → Ready a t u w x xu xw e n m ts g
-readied y a t u w x xu xw e n m ts g f = record {
+pub has_room : (y : Typing) (a : PlainState Position) (t u w : ℕ) (x xu xw : Running Position) (e n m : Env) (ts : List Kind) (g : Owned) → Forked y a t u w x xu xw e n m ts g → HasRoom a t u w x xu xw e n m ts g
+has_room y a t u w x xu xw e n m ts g f = record {
   typing = y2;
   forked = record {
     state = state;
@@ -167,9 +166,9 @@ module _ {t u : ℕ} {ts : List Kind} {g : Owned} {temps : List Value} {state : 
   abbrev pub IsForked : Env → List Value → Env → List Value → Type 0
   IsForked e sl n new = (y : Typing) × Forked y (state e sl n new) t u w (record { place = record { entry = forked_at e ts g; temps = temps }; slots = sl }) (record { place = record { entry = going n [] unit; temps = [] }; slots = new }) xw e n m ts g
 
-  passing : (e e2 : Env) (sl sl2 : List Value) (n : Env) (s : Slot) (new : List Value) (v : Value) (i : ℕ) {y : Typing} → Forked y (state e sl n new) t u w (parent e sl) (child n new) xw e n m ts g → ((b : ℕ) → b ≢ i → slot_at sl2 b ≡ slot_at sl b)
+  passing : (e e2 : Env) (sl sl2 : List Value) (n : Env) (s : Slot) (new : List Value) (v : Value) (i : ℕ) {y : Typing} → Forked y (state e sl n new) t u w (parent e sl) (child n new) xw e n m ts g → length new ≡ length n → ((b : ℕ) → b ≢ i → slot_at sl2 b ≡ slot_at sl b)
       → Passes (state e sl n new) (state e2 sl2 (s ∷ n) (v ∷ new)) t u (parent e sl) (parent e2 sl2) (child n new) (child (s ∷ n) (v ∷ new)) i (length n)
-  passing e e2 sl sl2 n s new v i f same = record {
+  passing e e2 sl sl2 n s new v i f many same = record {
     runs = f.runs;
     runs_new = f.first.runs;
     now = family.now e e2 sl sl2 n (s ∷ n) new (v ∷ new);
@@ -183,96 +182,63 @@ module _ {t u : ℕ} {ts : List Kind} {g : Owned} {temps : List Value} {state : 
     temps = refl;
     temps_new = refl;
     slots = same;
-    slots_new = λ b ne. pushed_others v new b (length n) (sym (first_slots f)) ne;
+    slots_new = λ b ne. pushed_others v new b (length n) (sym many) ne;
   }
 
-  -- ONE CAPTURE
-
-  record OnePass (sl : List Value) (new : List Value) (i : ℕ) (take : Bool) (e2 n2 : Env) : Type 0 where
-    value : Value
-    is : slot_at sl i ≡ Some value
-    typed : IsForked e2 (slots_after take sl i) n2 (value ∷ new)
-
   -- a copy, or a view
-  put : (e n : Env) (sl new : List Value) (name : Text) (l : Kind) (v : Value) (i : ℕ) (p : Exact) (r : Ready (state e sl n new) t u w (parent e sl) (child n new) xw e n m ts g) → Copies r.typing (state e sl n new) t u (parent e sl) n l v i p
+  put : (e n : Env) (sl new : List Value) (name : Text) (l : Kind) (v : Value) (i : ℕ) (p : Exact) (r : HasRoom (state e sl n new) t u w (parent e sl) (child n new) xw e n m ts g) → Copies r.typing (state e sl n new) t u (parent e sl) n l v i p
       → IsForked e sl (record { name = Some name; part = whole l } ∷ n) (v ∷ new)
-  put e n sl new name l v i p r c = (_, copy_caught r.forked r.focus r.focus_other name c (passing e e sl sl n (record { name = Some name; part = whole l }) new v i r.forked (λ b ne. refl)))
+  put e n sl new name l v i p r c =
+      let f = forked_giver r.forked r.focus in
+      let q = passing e e sl sl n (record { name = Some name; part = whole l }) new v i r.forked (new_many f) (λ b ne. refl) in
+      (_, caught r.forked r.focus r.focus_other q (copy_given f name c q refl refl))
 
-  one_pass : (e n e2 n2 : Env) (sl new : List Value) (c : Captured) (i : ℕ) (take : Bool) → IsForked e sl n new → Captures by_par e n c e2 n2 → slot_of e c.name ≡ Some i → (z : Kind) → HeadIs n2 z → take ≡ not (copies z) → OnePass sl new i take e2 n2
-  one_pass e n _ _ sl new c i take st (captures_copy {s = j} {k = q} {l = l} may copied free fresh) at z head way = by (par_kind e q l may.becomes)
+  copy : (e n : Env) (sl new : List Value) (c : Captured) (i : ℕ) (k l : Kind) → IsForked e sl n new → MayPass by_par e c i k l → copies k ≡ true → read_blocked e i ≡ false → Copied by_par IsForked e sl n new c i l
+  copy e n sl new c i k l st may copied free = by (par_kind e k l may.becomes)
     where
-      r : Ready (state e sl n new) t u w (parent e sl) (child n new) xw e n m ts g
-      r = readied st.0 (state e sl n new) t u w (parent e sl) (child n new) xw e n m ts g st.1
-
-      same : j ≡ i
-      same = let f : Some j ≡ Some i = sym may.is.named ∙ at in cc
-
-      same_kind : l ≡ z
-      same_kind = cc
-
-      type : type_at e (record { slot = i; depth = 0 }) ≡ found (whole q)
-      type = ap (λ b. type_at e (record { slot = b; depth = 0 })) (sym same) ∙ may.is.is
+      r : HasRoom (state e sl n new) t u w (parent e sl) (child n new) xw e n m ts g
+      r = has_room st.0 (state e sl n new) t u w (parent e sl) (child n new) xw e n m ts g st.1
 
       lt : i < length e
-      lt = named_below e c.name i at
+      lt = named_below e c.name i may.is.named
 
-      done : (v : Value) (p : Exact) → copies l ≡ true → slot_at sl i ≡ Some v → Copies r.typing (state e sl n new) t u (parent e sl) n l v i p → OnePass sl new i take e (captured_slot c l ∷ n)
-      done v p stays is k = record {
-        value = v;
-        is = is;
-        typed = subst (λ b. IsForked e (slots_after b sl i) (captured_slot c l ∷ n) (v ∷ new)) (sym (way ∙ ap (λ b. not (copies b)) (sym same_kind) ∙ ap not stays)) (put e n sl new c.name l v i p r k);
-      }
-
-      by : ((o : Owned) × (q ≡ own o) × (l ≡ own o)) ⊎ ((o : Owned) × (l ≡ view o)) → OnePass sl new i take e (captured_slot c l ∷ n)
+      by : ((o : Owned) × (k ≡ own o) × (l ≡ own o)) ⊎ ((o : Owned) × (l ≡ view o)) → Copied by_par IsForked e sl n new c i l
       by (inl o) =
-          let type_o : type_at e (record { slot = i; depth = 0 }) ≡ found (whole (own o.0)) = type ∙ ap (λ b. found (whole b)) o.1 in
-          let v = owned_there r.forked i lt o.0 type_o in
-          let k = owned_copies r.forked i lt o.0 type_o r.focus (ap copies (sym o.1) ∙ copied) v.0 v.1 in
-          done (Own v.0) (owns (tree_of o.0)) (ap copies (o.2 ∙ sym o.1) ∙ copied) v.1 (subst (λ b. Copies r.typing (state e sl n new) t u (parent e sl) n b (Own v.0) i (owns (tree_of o.0))) (sym o.2) k)
+          let type : type_at e (record { slot = i; depth = 0 }) ≡ found (whole (own o.0)) = may.is.is ∙ ap (λ b. found (whole b)) o.1 in
+          let f = forked_giver r.forked r.focus in
+          let v = owned_there f i lt o.0 type in
+          let q = owned_copies f i lt o.0 type (ap copies (sym o.1) ∙ copied) v.0 v.1 in
+          record { value = Own v.0; is = v.1; stays = ap copies (o.2 ∙ sym o.1) ∙ copied; kept = put e n sl new c.name l (Own v.0) i (owns (tree_of o.0)) r (subst (λ b. Copies r.typing (state e sl n new) t u (parent e sl) n b (Own v.0) i (owns (tree_of o.0))) (sym o.2) q) }
       by (inr o) =
-          let hidden = sym (parent_hidden r.forked i) ∙ shown e c.name i at in
+          let hidden = sym (parent_hidden r.forked i) ∙ shown e c.name i may.is.named in
           let becomes = may.becomes ∙ ap Some o.1 in
-          let v = view_there r.forked i lt q o.0 type becomes hidden in
-          let k = view_copies r.forked i lt q o.0 type becomes hidden r.focus (ap (read_blocked e) (sym same) ∙ free) v.0 v.1 in
-          done (ToObject v.0) (refers false (record { key = slot_k t i; depth = 1 })) (ap copies o.1) v.1 (subst (λ b. Copies r.typing (state e sl n new) t u (parent e sl) n b (ToObject v.0) i (refers false (record { key = slot_k t i; depth = 1 }))) (sym o.1) k)
-  one_pass e n _ _ sl new c i take st (captures_move {s = j} {k = q} {l = l} may moves free fresh) at z head way =
-      let r = readied st.0 (state e sl n new) t u w (parent e sl) (child n new) xw e n m ts g st.1 in
-      let o = par_moves e q l may.becomes moves in
-      let same : j ≡ i = let f : Some j ≡ Some i = sym may.is.named ∙ at in cc in
-      let same_kind : l ≡ z = cc in
-      let type : type_at e (record { slot = i; depth = 0 }) ≡ found (whole (own o.0)) = ap (λ b. type_at e (record { slot = b; depth = 0 })) (sym same) ∙ may.is.is ∙ ap (λ b. found (whole b)) o.1 in
-      let lt = named_below e c.name i at in
-      let v = owned_there r.forked i lt o.0 type in
-      let e2 = put_at e (record { slot = i; depth = 0 }) (gone (own o.0)) in
-      let d : IsForked (put_at e (record { slot = i; depth = 0 }) (gone (own o.0))) (with_slot sl i (Own plain.Nothing)) (captured_slot c (own o.0) ∷ n) (Own v.0 ∷ new) = (
-        _,
-        move_caught r.forked r.focus r.focus_other c.name i o.0 v.0 type (ap (write_blocked e) (sym same) ∙ free) v.1 lt
-            (passing e (put_at e (record { slot = i; depth = 0 }) (gone (own o.0))) sl (with_slot sl i (Own plain.Nothing)) n (captured_slot c (own o.0)) new (Own v.0) i r.forked (λ b ne. slot_unwritten sl i b (Own plain.Nothing) ne)),
-      ) in
-      let goes_away : take ≡ true = way ∙ ap (λ b. not (copies b)) (sym same_kind ∙ o.2) ∙ ap not (ap copies (sym o.1) ∙ moves) in
+          let v = view_there r.forked r.focus i lt k o.0 may.is.is becomes hidden in
+          let q = view_copies r.forked r.focus i lt k o.0 may.is.is becomes hidden free v.0 v.1 in
+          record {
+            value = ToObject v.0;
+            is = v.1;
+            stays = ap copies o.1;
+            kept = put e n sl new c.name l (ToObject v.0) i (refers false (record { key = slot_k t i; depth = 1 })) r (subst (λ b. Copies r.typing (state e sl n new) t u (parent e sl) n b (ToObject v.0) i (refers false (record { key = slot_k t i; depth = 1 }))) (sym o.1) q);
+          }
+
+  move : (e n : Env) (sl new : List Value) (c : Captured) (i : ℕ) (k l : Kind) → IsForked e sl n new → MayPass by_par e c i k l → copies k ≡ false → write_blocked e i ≡ false → Moved by_par IsForked e sl n new c i k l
+  move e n sl new c i k l st may moves free =
+      let r = has_room st.0 (state e sl n new) t u w (parent e sl) (child n new) xw e n m ts g st.1 in
+      let o = par_moves e k l may.becomes moves in
+      let type : type_at e (record { slot = i; depth = 0 }) ≡ found (whole (own o.0)) = may.is.is ∙ ap (λ b. found (whole b)) o.1 in
+      let lt = named_below e c.name i may.is.named in
+      let f = forked_giver r.forked r.focus in
+      let v = owned_there f i lt o.0 type in
+      let open_to = parent_free r.forked i (tree_of o.0) (owned_type f i lt o.0 type) free in
+      let step = passing e (put_at e (record { slot = i; depth = 0 }) (gone (own o.0))) sl (with_slot sl i (Own plain.Nothing)) n (captured_slot c (own o.0)) new (Own v.0) i r.forked (new_many f) (λ b ne. slot_unwritten sl i b (Own plain.Nothing) ne) in
+      let d : IsForked (put_at e (record { slot = i; depth = 0 }) (gone (own o.0))) (with_slot sl i (Own plain.Nothing)) (captured_slot c (own o.0) ∷ n) (Own v.0 ∷ new) = (_, caught r.forked r.focus r.focus_other step (move_given f c.name i o.0 v.0 type open_to v.1 step refl refl)) in
       record {
         value = Own v.0;
         is = v.1;
-        typed = subst (λ b. IsForked (put_at e (record { slot = j; depth = 0 }) (gone q)) (slots_after b sl i) (captured_slot c l ∷ n) (Own v.0 ∷ new)) (sym goes_away)
-            (subst (λ b. IsForked (put_at e (record { slot = j; depth = 0 }) (gone b)) (with_slot sl i (Own plain.Nothing)) (captured_slot c l ∷ n) (Own v.0 ∷ new)) (sym o.1)
-            (subst (λ b. IsForked (put_at e (record { slot = j; depth = 0 }) (gone (own o.0))) (with_slot sl i (Own plain.Nothing)) (captured_slot c b ∷ n) (Own v.0 ∷ new)) (sym o.2)
-            (subst (λ b. IsForked (put_at e (record { slot = b; depth = 0 }) (gone (own o.0))) (with_slot sl i (Own plain.Nothing)) (captured_slot c (own o.0) ∷ n) (Own v.0 ∷ new)) (sym same) d)));
+        goes = ap copies (o.2 ∙ sym o.1) ∙ moves;
+        kept = subst (λ b. IsForked (put_at e (record { slot = i; depth = 0 }) (gone b)) (with_slot sl i (Own plain.Nothing)) (captured_slot c l ∷ n) (Own v.0 ∷ new)) (sym o.1)
+            (subst (λ b. IsForked (put_at e (record { slot = i; depth = 0 }) (gone (own o.0))) (with_slot sl i (Own plain.Nothing)) (captured_slot c b ∷ n) (Own v.0 ∷ new)) (sym o.2) d);
       }
 
-  -- ALL OF A LIST
-
-  pub record AllPass (sl new : List Value) (cs : List (ℕ × Bool)) (e2 n2 : Env) : Type 0 where
-    pub left : List Value
-    pub news : List Value
-    pub is : pass (captured cs) sl new ≡ Some (record { left = left; new = news })
-    pub typed : IsForked e2 left n2 news
-
-  pub all_pass : (e n e2 n2 : Env) (sl new : List Value) (cs : List (ℕ × Bool)) → IsForked e sl n new → SlotsPass by_par e n cs e2 n2 → AllPass sl new cs e2 n2
-  all_pass e n _ _ sl new _ st pass_none = record { left = sl; news = new; is = refl; typed = st }
-  all_pass e n e2 n2 sl new _ st (pass_next {e1 = e1} {n1 = n1} {x = x} {xs = xs} one rest) =
-      let d = first e n x e1 n1 sl new st one in
-      let r = all_pass e1 n1 e2 n2 (slots_after x.1 sl x.0) (d.value ∷ new) xs d.typed rest in
-      record { left = r.left; news = r.news; is = ap (λ o. then_passed o (λ v. pass (captured xs) (slots_after x.1 sl x.0) (v ∷ new))) d.is ∙ r.is; typed = r.typed }
-    where
-      first : (e n : Env) (x : ℕ × Bool) (e1 n1 : Env) (sl new : List Value) → IsForked e sl n new → SlotPasses by_par e n x e1 n1 → OnePass sl new x.0 x.1 e1 n1
-      first e n _ _ _ sl new st (passes {e1 = e1} {n1 = n1} {s = z} {i = i} {take = take} {k = q} c at cap part way) = one_pass e n e1 (z ∷ n1) sl new c i take st cap at q part way
+  pub forked_passing : Passing by_par IsForked
+  forked_passing = record { copy = copy; move = move }

@@ -4,8 +4,6 @@ pub mod Joins
 pub mod Started
 pub mod TwoTurn
 pub mod Captured
-pub mod CapturedMove
-pub mod CapturedCopy
 pub mod TwoStates
 pub mod Spawns
 pub mod Example
@@ -17,9 +15,13 @@ pub mod Several
 pub mod Views
 pub mod Passed
 pub mod Forked
-pub mod ForkedCopy
-pub mod ForkedMove
-pub mod ForkedValues
 pub mod ForkedPasses
 pub mod ThreeStates
 pub mod Pars
+pub mod Given
+pub mod GivenCopy
+pub mod GivenMove
+pub mod GivenValues
+pub mod ForkedViews
+pub mod AllPass
+pub mod Added

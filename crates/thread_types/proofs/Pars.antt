@@ -44,8 +44,10 @@ use Rattle.thread_types.proofs.TwoStates.{goes_with, not_over}
 use Rattle.thread_types.proofs.Spawns.{with_result, result_new, unit_still, result_regives}
 use Rattle.thread_types.proofs.Paired.{reordered, paired_typed}
 use Rattle.thread_types.proofs.ThreeStates.{three_state, not_parent, three_here, three_one, three_two, three_beyond, three_runs, three_pair, three_pairs, first_family, second_family}
-use Rattle.thread_types.proofs.Forked.{Refers, Forked}
-use Rattle.thread_types.proofs.ForkedPasses.{swapped, all_pass}
+use Rattle.thread_types.proofs.Given.{Refers}
+use Rattle.thread_types.proofs.Forked.{Forked}
+use Rattle.thread_types.proofs.AllPass.{all_pass}
+use Rattle.thread_types.proofs.ForkedPasses.{swapped, IsForked, forked_passing}
 
 -- WHAT BOTH RESULTS ARE, and how many wait above the two
 
@@ -308,9 +310,12 @@ module _ (s : Whole Position) (t : Thread Position) (p : Position) (wrap : Posit
 
   pub both_pass : (e1 e2 n m : Env) (cs ds : List (ℕ × Bool)) → SlotsPass by_par e [] cs e1 n → SlotsPass by_par e1 [] ds e2 m → BothPass cs ds e2 n m
   both_pass e1 e2 n m cs ds passed passed2 =
-      let one = all_pass (first_family s t wrap goes stands still b c none_b none_c differ ts g p.temps [] []) c (record { place = branch; slots = [] }) [] e [] e1 n t.slots [] cs (y5, forked) passed in
-      let two = all_pass (second_family s t wrap goes stands still b c none_b none_c differ ts g p.temps n one.news) b (record { place = record { entry = going n [] unit; temps = [] }; slots = one.news }) n e1 [] e2 m one.left [] ds (one.typed.0, swapped one.typed.1) passed2 in
-      record { between = one.left; left = two.left; new = one.news; newer = two.news; first = one.is; second = two.is; typing = two.typed.0; typed = two.typed.1.state }
+      let f = first_family s t wrap goes stands still b c none_b none_c differ ts g p.temps [] [] in
+      let one = all_pass by_par (IsForked f c (record { place = branch; slots = [] }) []) (forked_passing f c (record { place = branch; slots = [] }) []) e [] e1 n t.slots [] cs (y5, forked) passed in
+      let h = second_family s t wrap goes stands still b c none_b none_c differ ts g p.temps n one.news in
+      let had : Running Position = record { place = record { entry = going n [] unit; temps = [] }; slots = one.news } in
+      let two = all_pass by_par (IsForked h b had n) (forked_passing h b had n) e1 [] e2 m one.left [] ds (one.kept.0, swapped one.kept.1) passed2 in
+      record { between = one.left; left = two.left; new = one.news; newer = two.news; first = one.is; second = two.is; typing = two.kept.0; typed = two.kept.1.state }
 
 -- THE ACT
 

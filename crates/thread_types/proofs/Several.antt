@@ -29,7 +29,7 @@ pub record GoesOnAs (y : Typing) (a a2 : PlainState Position) (w : ℕ) (E2 : Ke
   pub still : (i : ℕ) (m : MutexNo) → slot_at before.slots i ≡ Some (Held m) → slot_at after.slots i ≡ Some (Held m)
 
 -- what they leave of the state
-pub record Leaves (y : Typing) (a a2 : PlainState Position) (T : ℕ → Bool) (E2 : KeyTypes) : Type 0 where
+pub record SeveralTurn (y : Typing) (a a2 : PlainState Position) (T : ℕ → Bool) (E2 : KeyTypes) : Type 0 where
   pub each : (w : ℕ) → T w ≡ true → GoesOnAs y a a2 w E2
   pub others : (w : ℕ) → T w ≡ false → a2.thread w ≡ a.thread w
   pub pairs : (w : ℕ) → a2.pair w ≡ a.pair w
@@ -48,7 +48,7 @@ pub record Leaves (y : Typing) (a a2 : PlainState Position) (T : ℕ → Bool) (
   pub objects : (o : ObjNo) → a2.object o ≡ a.object o
   pub made : (o : ObjNo) (v : Plain) (w : Running Position) → a2.object o ≡ Some v → place_in (a2.thread o.thread) ≡ Some w → o.count < a2.made o.thread
 
-module _ {y : Typing} {a a2 : PlainState Position} {T : ℕ → Bool} {E2 : KeyTypes} (st : PositionTypes y a) (c : Leaves y a a2 T E2) where
+module _ {y : Typing} {a a2 : PlainState Position} {T : ℕ → Bool} {E2 : KeyTypes} (st : PositionTypes y a) (c : SeveralTurn y a a2 T E2) where
   runs_two : (w : ℕ) (z : GoesOnAs y a a2 w E2) → place_in (a2.thread w) ≡ Some z.after
   runs_two w z = ap place_in z.now ∙ runs_still (a.thread w) z.before z.after z.runs
 

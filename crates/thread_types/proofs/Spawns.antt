@@ -1,15 +1,15 @@
 -- Starting a thread keeps a state typed: first the new thread is there without slots and its task at hand, and then its captures go slot by slot.
-use Rattle.std.proofs.Common.{◌≡◌, ◌≢◌, ⊎_elim, ◌∙◌, ap₂, ℕ, suc, ◌<◌, Bool, true, false, List, [], ◌∷◌, ◌++◌, length, Option, Some, None, refl, sym, ap, subst, arith}
-use Rattle.std.specs.Prelude.{◌==◌, not, is_some, if◌then◌else◌}
+use Rattle.std.proofs.Common.{◌≡◌, ◌≢◌, ⊎_elim, ◌∙◌, ap₂, ℕ, suc, Bool, true, false, List, [], ◌∷◌, ◌++◌, length, Option, Some, None, refl, sym, ap, subst}
+use Rattle.std.specs.Prelude.{◌==◌, is_some, if◌then◌else◌}
 use Rattle.fr_base.specs.declared.label.Label.TheVariants as label
 use Rattle.fr_base.specs.declared.label.Plain.TheVariants as plain
 use Rattle.fr_base.specs.declared.name.MutexNo.{MutexNo}
 use Rattle.fr_base.specs.declared.step.Fresh.{Fresh}
 use Rattle.fr_base.specs.declared.step.Fresh.TheVariants as fresh
-use Rattle.fr_terms.specs.Terms.{Text, Captured}
+use Rattle.fr_terms.specs.Terms.{Captured}
 use Rattle.fr_typing.specs.Kinds.{Owned, unit, task, Kind, own, shared, mutable, view, whole, gone, copies}
-use Rattle.fr_typing.specs.Places.{Env, found, type_at, same_name, write_blocked, put_at, slot_of}
-use Rattle.fr_typing.specs.Captures.{by_spawn, captured_kind, captured_slot, Captures, captures_copy, captures_move}
+use Rattle.fr_typing.specs.Places.{Env, found, type_at, read_blocked, write_blocked, put_at}
+use Rattle.fr_typing.specs.Captures.{by_spawn, captured_kind, captured_slot, MayPass}
 use Rattle.fr_typing.proofs.PlaceLemmas.{eq_cases}
 use Rattle.fr_store.specs.Keys.{slot_k, temp_k}
 use Rattle.fr_store.specs.Thread.{ThreadKeys}
@@ -18,13 +18,13 @@ use Rattle.fr_plain.specs.declared.value.Value.{Value}
 use Rattle.fr_plain.specs.declared.value.Value.TheVariants.{Own, Held}
 use Rattle.fr_plain.specs.State.{slot_at, with_slot}
 use Rattle.fr_plain.specs.MachineActs.{Capture, do_spawn}
-use Rattle.fr_plain.specs.MachineThreads.{Now, Move, Life, owing, Thread, Whole, thread_at, with_thread, is_over, left_after as slots_after, then_passed, pass}
+use Rattle.fr_plain.specs.MachineThreads.{Now, Move, Life, owing, Thread, Whole, thread_at, with_thread, is_over, pass}
 use Rattle.fr_plain.specs.Machine.{takes_of, refused_names, started_with, started}
 use Rattle.fr_plain.specs.PlainState.{Running, PlainState, place_in, running, running_in, plain_state}
 use Rattle.fr_sound.specs.Entries.{Entry, going}
 use Rattle.fr_sound.specs.Seen.{Gives}
 use Rattle.fr_sound.specs.States.{Typing, IsMark}
-use Rattle.fr_code.specs.CodeTypes.{wait, SlotPasses, passes, SlotsPass, pass_none, pass_next}
+use Rattle.fr_code.specs.CodeTypes.{wait, SlotsPass}
 use Rattle.fr_code.specs.Steps.{captured}
 use Rattle.plain_types.specs.Positions.{Position, PositionTypes, moves_by, StartsAs}
 use Rattle.plain_types.specs.ActRows.{Leaves, loud, left_after, ActRow, r_spawn}
@@ -38,6 +38,7 @@ use Rattle.plain_types.proofs.Regiven.{Regives, giving, regiven}
 use Rattle.thread_types.specs.ThreadActs.{IsSpawn}
 use Rattle.plain_types.proofs.Threads.{objects_counted, pairs_by}
 use Rattle.plain_types.proofs.Fresh.{lifted_slots, lifted_keys, lifted_typed}
+use Rattle.thread_types.proofs.AllPass.{named_below, Copied, Moved, Passing, all_pass}
 use Rattle.thread_types.proofs.Started.{started_typed}
 use Rattle.thread_types.proofs.TwoStates.{goes_with, not_over, child_at, two_state, here, there, beyond, parent_runs, child_runs, over_same, value_is, take_typed, copy_typed}
 use Rattle.fr_plain.specs.Machine.{name_used}
@@ -51,20 +52,6 @@ spawn_kind e (shared us) l h = cc
 spawn_kind e (mutable us) l h = cc
 spawn_kind e (view o) l h = cc
 
--- a slot that a name has is there
-named_if : (b : Bool) (below : Env) (x : Text) (n : ℕ) → (slot_of below x ≡ Some n → n < length below) → (if b then Some (length below) else slot_of below x) ≡ Some n → n < suc (length below)
-named_if true below x n go h = let e : length below ≡ n = cc in omega (arith, e)
-named_if false below x n go h = let l = go h in omega (arith, l)
-
-pub named_below : (e : Env) (x : Text) (n : ℕ) → slot_of e x ≡ Some n → n < length e
-named_below [] x n h = cc
-named_below (s ∷ below) x n h = named_if (same_name s.name x) below x n (named_below below x n) h
-
--- the newest slot has this kind
-abbrev pub HeadIs : Env → Kind → Type 0
-HeadIs [] k = ⊥
-HeadIs (s ∷ n) k = s.part ≡ whole k
-
 module _ (s : Whole Position) (t : Thread Position) (wrap : Position → Life Position) (goes : GoesOn wrap) (stands : thread_at s.threads t.number ≡ Some t) (u : ℕ) (none : thread_at s.threads u ≡ None) (ts : List Kind) (g k : Owned) (temps : List Value) (still : is_over t.life ≡ false) where
   abbrev state : Env → List Value → Env → List Value → Whole Position
   state e sl n new = two_state s t wrap goes stands u none ts g k temps e sl n new
@@ -72,61 +59,32 @@ module _ (s : Whole Position) (t : Thread Position) (wrap : Position → Life Po
   abbrev IsTyped : Env → List Value → Env → List Value → Type 0
   IsTyped e sl n new = (y : Typing) × PositionTypes y (plain_state (two_state s t wrap goes stands u none ts g k temps e sl n new))
 
-  -- one capture is done, and leaves a typed state
-  record OnePass (sl : List Value) (new : List Value) (i : ℕ) (take : Bool) (e2 n2 : Env) : Type 0 where
-    value : Value
-    is : slot_at sl i ≡ Some value
-    typed : IsTyped e2 (slots_after take sl i) n2 (value ∷ new)
-
-  one_pass : (e n e2 n2 : Env) (sl new : List Value) (c : Captured) (i : ℕ) (take : Bool) → IsTyped e sl n new → Captures by_spawn e n c e2 n2 → slot_of e c.name ≡ Some i → (z : Kind) → HeadIs n2 z → take ≡ not (copies z) → OnePass sl new i take e2 n2
-  one_pass e n _ _ sl new c i take st (captures_copy {s = j} {k = q} {l = l} may copied free fresh) at z head way =
+  copy : (e n : Env) (sl new : List Value) (c : Captured) (i : ℕ) (q l : Kind) → IsTyped e sl n new → MayPass by_spawn e c i q l → copies q ≡ true → read_blocked e i ≡ false → Copied by_spawn IsTyped e sl n new c i l
+  copy e n sl new c i q l st may copied free =
       let o = spawn_kind e q l may.becomes in
-      let same : j ≡ i = let f : Some j ≡ Some i = sym may.is.named ∙ at in cc in
-      let same_kind : l ≡ z = cc in
-      let type : type_at e (record { slot = i; depth = 0 }) ≡ found (whole (own o.0)) = ap (λ b. type_at e (record { slot = b; depth = 0 })) (sym same) ∙ may.is.is ∙ ap (λ b. found (whole b)) o.1 in
-      let lt = named_below e c.name i at in
+      let type : type_at e (record { slot = i; depth = 0 }) ≡ found (whole (own o.0)) = may.is.is ∙ ap (λ b. found (whole b)) o.1 in
+      let lt = named_below e c.name i may.is.named in
       let v = value_is s t wrap goes stands u none ts g k temps still st.0 e sl n new st.1 i o.0 lt type in
       let d = copy_typed s t wrap goes stands u none ts g k temps still st.0 e sl n new st.1 c.name i o.0 v.0 lt type v.1 (ap copies (sym o.1) ∙ copied) in
-      let stays : take ≡ false = way ∙ ap (λ b. not (copies b)) (sym same_kind ∙ o.2) ∙ ap not (ap copies (sym o.1) ∙ copied) in
-      record {
-        value = Own v.0;
-        is = v.1;
-        typed = subst (λ b. IsTyped e (slots_after b sl i) (captured_slot c l ∷ n) (Own v.0 ∷ new)) (sym stays) (subst (λ b. IsTyped e sl (captured_slot c b ∷ n) (Own v.0 ∷ new)) (sym o.2) d);
-      }
-  one_pass e n _ _ sl new c i take st (captures_move {s = j} {k = q} {l = l} may moves free fresh) at z head way =
+      record { value = Own v.0; is = v.1; stays = ap copies (o.2 ∙ sym o.1) ∙ copied; kept = subst (λ b. IsTyped e sl (captured_slot c b ∷ n) (Own v.0 ∷ new)) (sym o.2) d }
+
+  move : (e n : Env) (sl new : List Value) (c : Captured) (i : ℕ) (q l : Kind) → IsTyped e sl n new → MayPass by_spawn e c i q l → copies q ≡ false → write_blocked e i ≡ false → Moved by_spawn IsTyped e sl n new c i q l
+  move e n sl new c i q l st may moves free =
       let o = spawn_kind e q l may.becomes in
-      let same : j ≡ i = let f : Some j ≡ Some i = sym may.is.named ∙ at in cc in
-      let same_kind : l ≡ z = cc in
-      let type : type_at e (record { slot = i; depth = 0 }) ≡ found (whole (own o.0)) = ap (λ b. type_at e (record { slot = b; depth = 0 })) (sym same) ∙ may.is.is ∙ ap (λ b. found (whole b)) o.1 in
-      let lt = named_below e c.name i at in
+      let type : type_at e (record { slot = i; depth = 0 }) ≡ found (whole (own o.0)) = may.is.is ∙ ap (λ b. found (whole b)) o.1 in
+      let lt = named_below e c.name i may.is.named in
       let v = value_is s t wrap goes stands u none ts g k temps still st.0 e sl n new st.1 i o.0 lt type in
-      let d = take_typed s t wrap goes stands u none ts g k temps still st.0 e sl n new st.1 c.name i o.0 v.0 lt type v.1 (ap (write_blocked e) (sym same) ∙ free) in
-      let goes_away : take ≡ true = way ∙ ap (λ b. not (copies b)) (sym same_kind ∙ o.2) ∙ ap not (ap copies (sym o.1) ∙ moves) in
+      let d = take_typed s t wrap goes stands u none ts g k temps still st.0 e sl n new st.1 c.name i o.0 v.0 lt type v.1 free in
       record {
         value = Own v.0;
         is = v.1;
-        typed = subst (λ b. IsTyped (put_at e (record { slot = j; depth = 0 }) (gone q)) (slots_after b sl i) (captured_slot c l ∷ n) (Own v.0 ∷ new)) (sym goes_away)
-            (subst (λ b. IsTyped (put_at e (record { slot = j; depth = 0 }) (gone b)) (with_slot sl i (Own plain.Nothing)) (captured_slot c l ∷ n) (Own v.0 ∷ new)) (sym o.1)
-            (subst (λ b. IsTyped (put_at e (record { slot = j; depth = 0 }) (gone (own o.0))) (with_slot sl i (Own plain.Nothing)) (captured_slot c b ∷ n) (Own v.0 ∷ new)) (sym o.2)
-            (subst (λ b. IsTyped (put_at e (record { slot = b; depth = 0 }) (gone (own o.0))) (with_slot sl i (Own plain.Nothing)) (captured_slot c (own o.0) ∷ n) (Own v.0 ∷ new)) (sym same) d)));
+        goes = ap copies (o.2 ∙ sym o.1) ∙ moves;
+        kept = subst (λ b. IsTyped (put_at e (record { slot = i; depth = 0 }) (gone b)) (with_slot sl i (Own plain.Nothing)) (captured_slot c l ∷ n) (Own v.0 ∷ new)) (sym o.1)
+            (subst (λ b. IsTyped (put_at e (record { slot = i; depth = 0 }) (gone (own o.0))) (with_slot sl i (Own plain.Nothing)) (captured_slot c b ∷ n) (Own v.0 ∷ new)) (sym o.2) d);
       }
 
-  -- all captures are done
-  record AllPass (sl new : List Value) (cs : List (ℕ × Bool)) (e2 n2 : Env) : Type 0 where
-    left : List Value
-    news : List Value
-    is : pass (captured cs) sl new ≡ Some (record { left = left; new = news })
-    typed : IsTyped e2 left n2 news
-
-  all_pass : (e n e2 n2 : Env) (sl new : List Value) (cs : List (ℕ × Bool)) → IsTyped e sl n new → SlotsPass by_spawn e n cs e2 n2 → AllPass sl new cs e2 n2
-  all_pass e n _ _ sl new _ st pass_none = record { left = sl; news = new; is = refl; typed = st }
-  all_pass e n e2 n2 sl new _ st (pass_next {e1 = e1} {n1 = n1} {x = x} {xs = xs} one rest) =
-      let d = first e n x e1 n1 sl new st one in
-      let r = all_pass e1 n1 e2 n2 (slots_after x.1 sl x.0) (d.value ∷ new) xs d.typed rest in
-      record { left = r.left; news = r.news; is = ap (λ o. then_passed o (λ v. pass (captured xs) (slots_after x.1 sl x.0) (v ∷ new))) d.is ∙ r.is; typed = r.typed }
-    where
-      first : (e n : Env) (x : ℕ × Bool) (e1 n1 : Env) (sl new : List Value) → IsTyped e sl n new → SlotPasses by_spawn e n x e1 n1 → OnePass sl new x.0 x.1 e1 n1
-      first e n _ _ _ sl new st (passes {e1 = e1} {n1 = n1} {s = z} {i = i} {take = take} {k = q} c at cap part way) = one_pass e n e1 (z ∷ n1) sl new c i take st cap at q part way
+  spawn_passing : Passing by_spawn IsTyped
+  spawn_passing = record { copy = copy; move = move }
 
 -- THE NEW THREAD
 
@@ -280,18 +238,19 @@ module _ (now : Position → Now) (move : Position → Option (Move Position Pos
       let i = spawn_row r.row in
       let at : At y (plain_state s) t.number (record { place = p; slots = t.slots }) i.env i.temps i.result = record { state = r.state; runs = runs_here s t p wrap r.goes_on r.found r.at; entry = i.entry } in
       let z = spawned s t p wrap r.goes_on r.found r.at u none i.env i.temps i.result i.content i.waits y at in
-      let d = all_pass s t wrap r.goes_on r.found u none i.temps i.result i.content p.temps (ap is_over r.at ∙ not_over wrap r.goes_on p) i.env [] i.after i.new t.slots [] i.names z i.passing in
+      let still : is_over t.life ≡ false = ap is_over r.at ∙ not_over wrap r.goes_on p in
+      let d = all_pass by_spawn (IsTyped s t wrap r.goes_on r.found u none i.temps i.result i.content p.temps still) (spawn_passing s t wrap r.goes_on r.found u none i.temps i.result i.content p.temps still) i.env [] i.after i.new t.slots [] i.names z i.passing in
       let v : Value = Own (plain.Task u) in
       let q : Position = record { entry = going i.after (own (task i.content) ∷ i.temps) i.result; temps = v ∷ p.temps } in
       let m : Move Position (Life Position) = record { act = do_spawn cs body; plug = λ b. wrap (plug b) } in
       let child : Position = record { entry = going i.new [] i.content; temps = [] } in
       let same : body ≡ child = place_is body (going i.new [] i.content) i.starts in
-      step_named now move s t wrap (fresh.Thread u) m plug v q (λ b. record s { threads = with_thread s.threads (record { number = t.number; life = b; slots = d.left }) ++ record { number = u; life = owing body; slots = d.news } ∷ [] }) (label.Start u ∷ []) d.typed.0 r.goes_on
+      step_named now move s t wrap (fresh.Thread u) m plug v q (λ b. record s { threads = with_thread s.threads (record { number = t.number; life = b; slots = d.left }) ++ record { number = u; life = owing body; slots = d.news } ∷ [] }) (label.Start u ∷ []) d.kept.0 r.goes_on
       (r.comes v ∙ ap₂ (λ a b. record { entry = a; temps = left_after b v }) i.comes i.leaves)
       (ap (λ b. started (moves_by now move) s t m (fresh.Thread u) body (λ slots. pass b slots [])) i.is
       ∙ ap (λ o. if is_some o then None else started_with (moves_by now move) s t m body u (pass (captured i.names) t.slots [])) none
       ∙ ap (started_with (moves_by now move) s t m body u) d.is)
-      (subst (λ b. PositionTypes d.typed.0 (plain_state (record s { threads = with_thread s.threads (record { number = t.number; life = wrap q; slots = d.left }) ++ record { number = u; life = owing b; slots = d.news } ∷ [] }))) (sym same) d.typed.1)
+      (subst (λ b. PositionTypes d.kept.0 (plain_state (record s { threads = with_thread s.threads (record { number = t.number; life = wrap q; slots = d.left }) ++ record { number = u; life = owing b; slots = d.news } ∷ [] }))) (sym same) d.kept.1)
     where
       place_is : (b : Position) (e : Entry) → (b.entry ≡ e) × (b.temps ≡ []) → b ≡ (record { entry = e; temps = [] })
       place_is b e h = ap₂ (λ c d. (let q : Position = record { entry = c; temps = d } in q)) h.0 h.1

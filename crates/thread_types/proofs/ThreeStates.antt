@@ -1,5 +1,5 @@
 -- A thread that waits for two new ones, in a list of threads, and their captures one by one.
-use Rattle.std.proofs.Common.{◌≡◌, ◌≢◌, ⊎_elim, ◌∙◌, ℕ, Bool, false, List, [], ◌∷◌, ◌++◌, Option, Some, None, refl, sym, ap, subst}
+use Rattle.std.proofs.Common.{◌≡◌, ◌≢◌, ⊎_elim, ◌∙◌, ℕ, Bool, false, List, [], ◌∷◌, ◌++◌, Some, None, refl, sym, ap, subst}
 use Rattle.std.specs.Prelude.{if◌then◌else◌}
 use Rattle.fr_typing.proofs.PlaceLemmas.{eq_cases}
 use Rattle.fr_typing.specs.Kinds.{Owned, unit, Kind}
@@ -8,7 +8,8 @@ use Rattle.fr_store.proofs.Keys.{decide_number}
 use Rattle.fr_plain.specs.declared.value.Value.{Value}
 use Rattle.fr_plain.specs.MachineThreads.{Life, owing, Thread, Whole, thread_at, with_thread, is_over, pair_of}
 use Rattle.fr_plain.specs.PlainState.{place_in, running_in, is_over_in, two_of, plain_state}
-use Rattle.fr_plain.proofs.ByName.{put_in, put_at as put_thread, put_off, thread_more, or_else}
+use Rattle.fr_plain.proofs.ByName.{or_else}
+use Rattle.thread_types.proofs.Added.{thread_first, thread_skip, or_none, more_here, more_off}
 use Rattle.fr_sound.specs.Entries.{going, forked_at}
 use Rattle.plain_types.specs.Positions.{Position}
 use Rattle.plain_types.specs.Keeps.{GoesOn}
@@ -16,26 +17,6 @@ use Rattle.plain_types.proofs.OneThread.{with_running}
 use Rattle.plain_types.proofs.Threads.{objects_counted, pairs_by}
 use Rattle.thread_types.proofs.TwoStates.{goes_place, goes_with, not_over}
 use Rattle.thread_types.proofs.ForkedPasses.{Family}
-
--- THREADS
-
-pub thread_first : (x : Thread Position) (xs : List (Thread Position)) (w : ℕ) → x.number ≡ w → thread_at (x ∷ xs) w ≡ Some x
-thread_first x xs w e = eq_cases (λ (b : Bool). (if b then Some x else thread_at xs w) ≡ Some x) x.number w (λ q. refl) (λ ne. absurd (ne e))
-
-pub thread_skip : (x : Thread Position) (xs : List (Thread Position)) (w : ℕ) → x.number ≢ w → thread_at (x ∷ xs) w ≡ thread_at xs w
-thread_skip x xs w ne = eq_cases (λ (b : Bool). (if b then Some x else thread_at xs w) ≡ thread_at xs w) x.number w (λ q. absurd (ne q)) (λ q. refl)
-
-or_none : (o : Option (Thread Position)) → or_else o None ≡ o
-or_none None = refl
-or_none (Some x) = refl
-
--- where more threads follow a changed one
-module _ (ts rest : List (Thread Position)) (n : ℕ) (t tn : Thread Position) (named : tn.number ≡ n) (found : thread_at ts n ≡ Some t) where
-  more_here : thread_at (with_thread ts tn ++ rest) n ≡ Some tn
-  more_here = thread_more (with_thread ts tn) rest n ∙ ap (λ o. or_else o (thread_at rest n)) (put_thread ts tn n named ∙ ap (put_in tn) found)
-
-  more_off : (w : ℕ) → w ≢ n → thread_at (with_thread ts tn ++ rest) w ≡ or_else (thread_at ts w) (thread_at rest w)
-  more_off w ne = thread_more (with_thread ts tn) rest w ∙ ap (λ o. or_else o (thread_at rest w)) (put_off ts tn w (λ e. ne (sym e ∙ named)))
 
 -- STATES
 

@@ -1,63 +1,38 @@
 -- A thread and a new one, in a list of threads, and their captures one by one.
-use Rattle.std.proofs.Common.{◌≡◌, ◌≢◌, ◌⊎◌, inl, inr, ⊎_elim, ◌∙◌, ℕ, suc, ◌+◌, ◌<◌, ◌≤◌, true, false, List, [], ◌∷◌, ◌++◌, length, Option, Some, None, refl, sym, ap, subst, arith}
-use Rattle.std.specs.Prelude.{if◌then◌else◌}
+use Rattle.std.proofs.Common.{◌≡◌, ◌≢◌, ◌⊎◌, inl, inr, ⊎_elim, ◌∙◌, ℕ, suc, ◌+◌, ◌<◌, ◌≤◌, true, false, List, [], ◌∷◌, ◌++◌, length, Some, None, refl, sym, ap, subst, arith}
 use Rattle.fr_base.specs.declared.label.Plain.{Plain}
 use Rattle.fr_base.specs.declared.label.Plain.TheVariants as plain
-use Rattle.fr_typing.proofs.PlaceLemmas.{eq_cases}
 use Rattle.fr_terms.specs.Terms.{Text}
 use Rattle.fr_typing.specs.Kinds.{Owned, task, Kind, own, whole, gone, copies}
 use Rattle.fr_typing.specs.Places.{Env, found, type_at, write_blocked, put_at}
 use Rattle.fr_store.specs.Keys.{slot_k, temp_k}
-use Rattle.fr_store.specs.Store.{ref_v}
-use Rattle.fr_store.specs.Typed.{TopFits}
 use Rattle.fr_store.specs.Below.{tree_of}
 use Rattle.fr_store.proofs.Keys.{decide_number}
-use Rattle.fr_store.proofs.Below.{slot_exact, mut_place}
-use Rattle.fr_store.proofs.Rows.{top_fits}
-use Rattle.fr_store.proofs.ThreadKept.{exact_owned}
 use Rattle.fr_plain.specs.declared.value.Value.{Value}
 use Rattle.fr_plain.specs.declared.value.Value.TheVariants.{Own}
 use Rattle.fr_plain.specs.State.{slot_at, with_slot}
 use Rattle.fr_plain.specs.MachineThreads.{Life, owing, Thread, Whole, thread_at, with_thread, is_over}
 use Rattle.fr_plain.specs.PlainState.{Running, PlainState, place_in, running, running_in, is_over_in, plain_state}
-use Rattle.fr_plain.proofs.ByName.{put_in, put_at as put_thread, put_off, thread_more, or_else}
-use Rattle.fr_sound.specs.Entries.{Entry, going}
-use Rattle.fr_sound.specs.States.{Typing, slot_val}
-use Rattle.plain_types.specs.Positions.{Position, temps_of, PositionTypes}
+use Rattle.fr_plain.proofs.ByName.{or_else}
+use Rattle.thread_types.proofs.Added.{thread_first, thread_skip, or_none, more_here, more_off}
+use Rattle.fr_sound.specs.Entries.{going}
+use Rattle.fr_sound.specs.States.{Typing}
+use Rattle.plain_types.specs.Positions.{Position, PositionTypes}
 use Rattle.plain_types.specs.Keeps.{GoesOn, is_main, is_owed, is_loose}
-use Rattle.plain_types.proofs.Lower.{seen_is}
-use Rattle.plain_types.proofs.OneThread.{store, with_running}
+use Rattle.plain_types.proofs.OneThread.{with_running}
 use Rattle.plain_types.proofs.Raised.{raised, raised_typing}
 use Rattle.plain_types.proofs.Focus.{top_none, top_some, Focus, focus}
 use Rattle.plain_types.proofs.Hand.{At}
 use Rattle.plain_types.proofs.Threads.{objects_counted, pairs_by}
-use Rattle.thread_types.proofs.Captured.{own_by, slot_there}
-use Rattle.thread_types.proofs.CapturedMove.{moved_typed}
-use Rattle.thread_types.proofs.CapturedCopy.{copied_typed}
-use Rattle.plain_types.proofs.Lower.{seen_as}
-
--- THREADS
-
-module _ (ts : List (Thread Position)) (n u : ℕ) (t tn un : Thread Position) (differ : u ≢ n) (named : tn.number ≡ n) (named_new : un.number ≡ u) (found : thread_at ts n ≡ Some t) (none : thread_at ts u ≡ None) where
-  abbrev both : List (Thread Position)
-  both = with_thread ts tn ++ un ∷ []
-
-  pub two_here : thread_at (with_thread ts tn ++ un ∷ []) n ≡ Some tn
-  two_here = thread_more (with_thread ts tn) (un ∷ []) n ∙ ap (λ o. or_else o (thread_at (un ∷ []) n)) (put_thread ts tn n named ∙ ap (put_in tn) found)
-
-  pub two_new : thread_at (with_thread ts tn ++ un ∷ []) u ≡ Some un
-  two_new =
-      thread_more (with_thread ts tn) (un ∷ []) u ∙ ap (λ o. or_else o (thread_at (un ∷ []) u)) (put_off ts tn u (λ e. differ (sym e ∙ named)) ∙ none)
-      ∙ eq_cases (λ b. (if b then Some un else None) ≡ Some un) un.number u (λ e. refl) (λ ne. absurd (ne named_new))
-
-  pub two_off : (w : ℕ) → w ≢ n → w ≢ u → thread_at (with_thread ts tn ++ un ∷ []) w ≡ thread_at ts w
-  two_off w nt nu =
-      thread_more (with_thread ts tn) (un ∷ []) w ∙ ap (λ o. or_else o (thread_at (un ∷ []) w)) (put_off ts tn w (λ e. nt (sym e ∙ named)))
-      ∙ ap (or_else (thread_at ts w)) (eq_cases (λ b. (if b then Some un else None) ≡ None) un.number w (λ e. absurd (nu (sym e ∙ named_new))) (λ ne. refl)) ∙ or_none (thread_at ts w)
-    where
-      or_none : (o : Option (Thread Position)) → or_else o None ≡ o
-      or_none None = refl
-      or_none (Some x) = refl
+use Rattle.thread_types.proofs.Captured.{awake_giver, awake_free, given_typed}
+use Rattle.thread_types.proofs.Given.{Giver, new_many}
+use Rattle.thread_types.proofs.GivenCopy.{copy_given}
+use Rattle.thread_types.proofs.GivenMove.{move_given, move_refs}
+use Rattle.thread_types.proofs.GivenValues.{owned_there, owned_copies}
+use Rattle.thread_types.proofs.Passed.{Passes}
+use Rattle.plain_types.proofs.Hand.{pushed_others}
+use Rattle.plain_types.proofs.Written.{slot_unwritten}
+use Rattle.fr_store.proofs.ThreadKept.{known_tree}
 
 -- STATES
 
@@ -92,14 +67,20 @@ module _ (s : Whole Position) (t : Thread Position) (wrap : Position → Life Po
   apart q = let f : None ≡ Some t = sym none ∙ ap (thread_at s.threads) q ∙ stands in cc
 
   module _ (e : Env) (sl : List Value) (n : Env) (new : List Value) where
+    abbrev un : Thread Position
+    un = record { number = u; life = owing (child_at n); slots = new }
+
+    abbrev tn : Thread Position
+    tn = record { number = t.number; life = wrap (parent_at e); slots = sl }
+
     pub here : thread_at (two_state e sl n new).threads t.number ≡ Some (record { number = t.number; life = wrap (parent_at e); slots = sl })
-    here = two_here s.threads t.number u t (record { number = t.number; life = wrap (parent_at e); slots = sl }) (record { number = u; life = owing (child_at n); slots = new }) apart refl refl stands none
+    here = more_here s.threads (un ∷ []) t.number t tn refl stands
 
     pub there : thread_at (two_state e sl n new).threads u ≡ Some (record { number = u; life = owing (child_at n); slots = new })
-    there = two_new s.threads t.number u t (record { number = t.number; life = wrap (parent_at e); slots = sl }) (record { number = u; life = owing (child_at n); slots = new }) apart refl refl stands none
+    there = more_off s.threads (un ∷ []) t.number t tn refl stands u apart ∙ ap (λ o. or_else o (thread_at (un ∷ []) u)) none ∙ thread_first un [] u refl
 
     pub beyond : (w : ℕ) → w ≢ t.number → w ≢ u → thread_at (two_state e sl n new).threads w ≡ thread_at s.threads w
-    beyond w nt nu = two_off s.threads t.number u t (record { number = t.number; life = wrap (parent_at e); slots = sl }) (record { number = u; life = owing (child_at n); slots = new }) apart refl refl stands none w nt nu
+    beyond w nt nu = more_off s.threads (un ∷ []) t.number t tn refl stands w nt ∙ ap (or_else (thread_at s.threads w)) (thread_skip un [] w (λ q. nu (sym q))) ∙ or_none (thread_at s.threads w)
 
     pub parent_runs : place_in ((plain_state (two_state e sl n new)).thread t.number) ≡ Some (record { place = parent_at e; slots = sl })
     parent_runs = ap (λ o. place_in (running_in o)) here ∙ goes_place wrap goes sl (parent_at e)
@@ -175,36 +156,46 @@ module _ (s : Whole Position) (t : Thread Position) (wrap : Position → Life Po
     fcu : Focus y2 a u n [] None
     fcu = focus y2 a u xu n [] k state (child_runs e sl n new) refl low_new [] None top_none (λ q. refl)
 
+    giver : Giver y2 a t.number u x xu e n k
+    giver = awake_giver at fc atu fcu apart
+
+    passing : (name : Text) (i : ℕ) (o : Owned) (v : Plain) (e2 : Env) (sl2 : List Value) → ((b : ℕ) → b ≢ i → slot_at sl2 b ≡ slot_at sl b)
+        → Passes a (plain_state (two_state e2 sl2 (record { name = Some name; part = whole (own o) } ∷ n) (Own v ∷ new))) t.number u x (record { place = parent_at e2; slots = sl2 }) xu (record { place = child_at (record { name = Some name; part = whole (own o) } ∷ n); slots = Own v ∷ new }) i (length n)
+    passing name i o v e2 sl2 same =
+        let n2 = record { name = Some name; part = whole (own o) } ∷ n in
+        let new2 = Own v ∷ new in
+        record {
+          runs = parent_runs e sl n new;
+          runs_new = child_runs e sl n new;
+          now = parent_now still e e2 sl sl2 n n2 new new2;
+          now_new = child_now still e e2 sl sl2 n n2 new new2;
+          others = beyond_now still e e2 sl sl2 n n2 new new2;
+          pairs = pairs_now still e e2 sl sl2 n n2 new new2;
+          mutexes = λ m. refl;
+          given = λ m. refl;
+          objects = λ q. refl;
+          made = objects_counted (two_state e2 sl2 n2 new2);
+          temps = refl;
+          temps_new = refl;
+          slots = same;
+          slots_new = λ b ne. pushed_others (Own v) new b (length n) (sym (new_many giver)) ne;
+        }
+
     -- the value of an owned variable
     pub value_is : (i : ℕ) (o : Owned) → i < length e → type_at e (record { slot = i; depth = 0 }) ≡ found (whole (own o)) → (v : Plain) × (slot_at sl i ≡ Some (Own v))
-    value_is i o lt type =
-        let many : length sl ≡ length e = (state.threads t.number x at.runs).all_slots ∙ ap (λ (z : Entry). length z.env) (sym (state.threads t.number x at.runs).known) in
-        let v = slot_there sl i (omega (arith, lt, many)) in
-        let full = exact_owned (slot_k t.number) y2.exact o (y2.exact (slot_k t.number i)) (slot_exact (slot_k t.number) y2.exact (mut_place y2.rank y2.exact (store y2 a) state.typed) e i (whole (own o)) fc.thread.slots type) in
-        let seen = ap (slot_val temps_of y2 t.number i) at.runs ∙ seen_is temps_of y2 t.number i x ∙ ap (seen_as y2.gives t.number (ref_v (y2.marks t.number i))) v.1 in
-        let d = own_by y2.gives t.number (y2.marks t.number i) o v.0 (subst (TopFits (tree_of o)) seen (top_fits y2.rank y2.exact (store y2 a) state.typed (slot_k t.number i) (tree_of o) full)) in
-        (d.0, v.1 ∙ ap Some d.1)
+    value_is i o lt type = owned_there giver i lt o type
 
     -- it moves
     pub take_typed : (name : Text) (i : ℕ) (o : Owned) (v : Plain) → i < length e → type_at e (record { slot = i; depth = 0 }) ≡ found (whole (own o)) → slot_at sl i ≡ Some (Own v) → write_blocked e i ≡ false
         → (z : Typing) × PositionTypes z (plain_state (two_state (put_at e (record { slot = i; depth = 0 }) (gone (own o))) (with_slot sl i (Own plain.Nothing)) (record { name = Some name; part = whole (own o) } ∷ n) (Own v ∷ new)))
     take_typed name i o v lt type is free =
-        let e2 = put_at e (record { slot = i; depth = 0 }) (gone (own o)) in
-        let sl2 = with_slot sl i (Own plain.Nothing) in
-        let n2 = record { name = Some name; part = whole (own o) } ∷ n in
-        let new2 = Own v ∷ new in (
-          _,
-          moved_typed y2 a t.number u x xu e n ts g k (task k) o at atu fc fcu apart name i lt type v is free (plain_state (two_state e2 sl2 n2 new2)) (parent_now still e e2 sl sl2 n n2 new new2) (child_now still e e2 sl sl2 n n2 new new2) (beyond_now still e e2 sl sl2 n n2 new new2)
-              (pairs_now still e e2 sl sl2 n n2 new new2) (λ m. refl) (λ m. refl) (λ q. refl) (objects_counted (two_state e2 sl2 n2 new2)),
-        )
+        let step = passing name i o v (put_at e (record { slot = i; depth = 0 }) (gone (own o))) (with_slot sl i (Own plain.Nothing)) (λ b ne. slot_unwritten sl i b (Own plain.Nothing) ne) in
+        let open_to = awake_free at fc i free in
+        (_, given_typed at fc giver step (move_given giver name i o v type open_to is step refl refl) (move_refs giver name i o v type open_to is step refl refl))
 
     -- or it is copied
     pub copy_typed : (name : Text) (i : ℕ) (o : Owned) (v : Plain) → i < length e → type_at e (record { slot = i; depth = 0 }) ≡ found (whole (own o)) → slot_at sl i ≡ Some (Own v) → copies (own o) ≡ true
         → (z : Typing) × PositionTypes z (plain_state (two_state e sl (record { name = Some name; part = whole (own o) } ∷ n) (Own v ∷ new)))
     copy_typed name i o v lt type is copied =
-        let n2 = record { name = Some name; part = whole (own o) } ∷ n in
-        let new2 = Own v ∷ new in (
-          _,
-          copied_typed y2 a t.number u x xu e n ts g k (task k) o at atu fc fcu apart name i lt type v is copied (plain_state (two_state e sl n2 new2)) (parent_now still e e sl sl n n2 new new2) (child_now still e e sl sl n n2 new new2) (beyond_now still e e sl sl n n2 new new2)
-              (pairs_now still e e sl sl n n2 new new2) (λ m. refl) (λ m. refl) (λ q. refl) (objects_counted (two_state e sl n2 new2)),
-        )
+        let step = passing name i o v e sl (λ b ne. refl) in
+        (_, given_typed at fc giver step (copy_given giver name (owned_copies giver i lt o type copied v is) step refl refl) (λ j b z r. known_tree (slot_k u) (slot_k u 0) y2.exact (slot_k u (length n)) (tree_of o) j b z r))

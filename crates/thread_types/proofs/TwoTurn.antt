@@ -23,7 +23,7 @@ use Rattle.plain_types.proofs.Threads.{no_pair}
 use Rattle.plain_types.proofs.Fresh.{either, either_first, either_second, either_is, either_not}
 use Rattle.fr_base.specs.declared.name.ObjNo.{ObjNo}
 use Rattle.fr_base.specs.declared.label.Plain.{Plain}
-use Rattle.thread_types.proofs.Several.{GoesOnAs, Leaves, several_typed}
+use Rattle.thread_types.proofs.Several.{GoesOnAs, SeveralTurn, several_typed}
 use Rattle.fr_store.specs.Typed.{Unnamed}
 
 -- what a thread whose slots changed is then
@@ -91,7 +91,7 @@ module _ {y : Typing} {a a2 : PlainState Position} {t u : ℕ} {x x2 xu xu2 : Ru
       → PositionTypes (typing_with y E2 y.marks) a2
   two_typed mutexes given objects made = several_typed c.at.state leaves
     where
-      leaves : Leaves y a a2 (either t u) E2
+      leaves : SeveralTurn y a a2 (either t u) E2
       leaves = record {
         each = λ w q. each w (either_is t u w q);
         others = λ w q. let ne = either_not t u w q in others w ne.0 ne.1;
