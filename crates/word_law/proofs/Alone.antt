@@ -49,6 +49,7 @@ use Rattle.path_law.proofs.Contained.{location_itself}
 use Rattle.path_law.proofs.Pointers.{sole_pointers}
 use Rattle.path_law.proofs.FreshPaths.{OwnSlot, own_closed}
 use Rattle.word_law.specs.Reworded.{HasPlaces, Reworded}
+use Rattle.word_law.proofs.Loose.{box_nowhere}
 use Rattle.word_law.proofs.Standing.{pointer_at, told, slot_among, temp_among, CellOf, lying, flying, cell_among, of_thing, share_stands}
 use Rattle.word_law.proofs.Grounds.{same_place, taken_all}
 
@@ -384,15 +385,6 @@ module _ (k z : Cluster) (c : HasPaths k) (d : HasPlaces z) (x : Standing) (v : 
 
   some_nothing : (l : Location) (p : Pointer) → p.at ≡ Some l → p.at ≡ None → ⊥
   some_nothing l p e f = let y : None ≡ Some l = sym f ∙ e in absurd cc
-
-  box_nowhere : (l : Location) (u : Owned) (p : Pointer) → Among p (pointer_in (Some l) u) → p.at ≡ None → ⊥
-  box_nowhere l (owned.Box b) p (inl e) f = some_nothing l p (sym (ap (λ (y : Pointer). y.at) e)) f
-  box_nowhere l (owned.Box b) p (inr m) f = m
-  box_nowhere l owned.Nothing p m f = m
-  box_nowhere l owned.Unit p m f = m
-  box_nowhere l (owned.Int n) p m f = m
-  box_nowhere l (owned.Mutex n) p m f = m
-  box_nowhere l (owned.Task t) p m f = m
 
   held_weighs : (u : Owned) (p : Pointer) → Among p (pointer_in None u) → p.object ≡ o → 1 ≤ boxes o u
   held_weighs (owned.Box b) p (inl e) f = weighs_one b o (ap (λ (y : Pointer). y.object) e ∙ f)

@@ -68,17 +68,22 @@ reworded =
 
 pub words_apply : WordsApply
 words_apply = record {
-  paths = paths;
-  goes = goes;
-  may = may_write_there boxed_cluster paths main_stands goes (instr.Assign (place 0 1) (operand.Const (pos 2))) (place 0 1) refl assigns;
-  hop = record { stars = 0; last = refl; pointer = refl; leads = refl };
-  fresh = written_are_fresh boxed_cluster paths main_stands (instr.Assign (place 0 1) (operand.Const (pos 2))) (place 0 1) 0 (at_slot 0 0) goes refl assigns (λ v e. absurd cc) (omega arith) refl;
-  firsts = sound_before.words.first_at_holder;
+  rewrites = record {
+    paths = paths;
+    thread = main_stands;
+    place = place 0 1;
+    goes = goes;
+    may = may_write_there boxed_cluster paths main_stands goes (instr.Assign (place 0 1) (operand.Const (pos 2))) (place 0 1) refl assigns;
+    hop = record { stars = 0; last = refl; pointer = refl; leads = refl };
+    fresh = written_are_fresh boxed_cluster paths main_stands (instr.Assign (place 0 1) (operand.Const (pos 2))) (place 0 1) 0 (at_slot 0 0) goes refl assigns (λ v e. absurd cc) (omega arith) refl;
+    firsts = sound_before.words.first_at_holder;
+    places = places_of tinted_cluster sound_after;
+    reworded = reworded;
+  };
   words = sound_before.words.have_words;
-  places = places_of tinted_cluster sound_after;
+  dirty = sound_before.words.dirty_alone;
   stands = here;
   tinted = refl;
   before = refl;
   after = refl;
-  reworded = reworded;
 }

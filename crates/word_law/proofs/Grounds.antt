@@ -179,6 +179,9 @@ module _ (k z : Cluster) (h : Location) (o : ObjNo) (w : ℕ) (r : Reworded k z 
     pub holder : reference.holder ≡ q.holder
     pub value : value_in g reference.at ≡ Some (value.Mut reference.reference)
     pub held : holder_of g reference.at reference.reference.holder ≡ reference.holder
+    -- what it was made from: the same word of the same object
+    pub first : reference.reference.first ≡ q.reference.first
+    pub object : reference.reference.object ≡ q.reference.object
 
   pub reference_word : (q : MutRef) → value_in gk h ≡ Some (value.Mut q) → value_in gz h ≡ Some (value.Mut (took q w))
   reference_word q e =
@@ -186,11 +189,8 @@ module _ (k z : Cluster) (h : Location) (o : ObjNo) (w : ℕ) (r : Reworded k z 
       let new : Some (value.Mut (took q w)) ≡ Some r.new = sym (ap (with_word w) old) ∙ r.worded in
       r.stands ∙ sym new
 
-  with_word_reference : (old : Value) (q : MutRef) → with_word w old ≡ Some (value.Mut q) → (p : MutRef) × (old ≡ value.Mut p) × (q.holder ≡ p.holder)
-  with_word_reference (value.Mut p) q e = let s : value.Mut (took p w) ≡ value.Mut q = some_is e in (p, refl, holder_same s)
-    where
-      holder_same : value.Mut (took p w) ≡ value.Mut q → q.holder ≡ p.holder
-      holder_same s = let t : took p w ≡ q = cc in ap (λ (y : MutRef). y.holder) (sym t)
+  pub with_word_reference : (old : Value) (q : MutRef) → with_word w old ≡ Some (value.Mut q) → (p : MutRef) × (old ≡ value.Mut p) × (took p w ≡ q)
+  with_word_reference (value.Mut p) q e = let s : value.Mut (took p w) ≡ value.Mut q = some_is e in (p, refl, cc)
   with_word_reference (value.Own (owned.Box p)) q e = absurd cc
   with_word_reference _ q e = absurd cc
 
@@ -204,14 +204,16 @@ module _ (k z : Cluster) (h : Location) (o : ObjNo) (w : ℕ) (r : Reworded k z 
         stood : value_in gk q.at ≡ Some (value.Mut q.reference)
         stood = borrow_stands k c q.at q.reference b.among
 
-        from : (m : MutRef) → m.holder ≡ q.reference.holder → value_in gz q.at ≡ Some (value.Mut m) → Opposite gz (references gz (things_of z)) q
-        from m e f = record {
+        from : (m : MutRef) → m.holder ≡ q.reference.holder → m.first ≡ q.reference.first → m.object ≡ q.reference.object → value_in gz q.at ≡ Some (value.Mut m) → Opposite gz (references gz (things_of z)) q
+        from m e first object f = record {
           reference = record { at = q.at; holder = holder_of gz q.at m.holder; reference = m };
           among = reference_there z q.at m f;
           at = refl;
           holder = ap (holder_of gz q.at) e ∙ holders_same q.at q.reference.holder ∙ sym b.holder;
           value = f;
           held = refl;
+          first = first;
+          object = object;
         }
 
         by : (q.at ≡ h) ⊎ (q.at ≡ h → ⊥) → Opposite gz (references gz (things_of z)) q × (changed q.reference ≡ true → (y : Opposite gz (references gz (things_of z)) q) × (changed y.reference.reference ≡ true))
@@ -219,8 +221,8 @@ module _ (k z : Cluster) (h : Location) (o : ObjNo) (w : ℕ) (r : Reworded k z 
             let m = took q.reference w in
             let there : value_in gz q.at ≡ Some (value.Mut m) = ap (value_in gz) e ∙ reference_word q.reference (ap (value_in gk) (sym e) ∙ stood) in
             let is : r.new ≡ value.Mut m = some_is (sym r.stands ∙ ap (value_in gz) (sym e) ∙ there) in
-            (from m refl there, λ f. (from m refl there, r.changed m is))
-        by (inr n) = let there : value_in gz q.at ≡ Some (value.Mut q.reference) = r.elsewhere q.at n ∙ stood in (from q.reference refl there, λ f. (from q.reference refl there, f))
+            (from m refl refl refl there, λ f. (from m refl refl refl there, r.changed m is))
+        by (inr n) = let there : value_in gz q.at ≡ Some (value.Mut q.reference) = r.elsewhere q.at n ∙ stood in (from q.reference refl refl refl there, λ f. (from q.reference refl refl refl there, f))
 
     pub before : (q : Reference) → Among q (references gz (things_of z)) → Opposite gk (references gk (things_of k)) q × (changed q.reference ≡ true → (q.at ≡ h) ⊎ ((y : Opposite gk (references gk (things_of k)) q) × (changed y.reference.reference ≡ true)))
     before q i = by (same_place q.at h)
@@ -231,22 +233,24 @@ module _ (k z : Cluster) (h : Location) (o : ObjNo) (w : ℕ) (r : Reworded k z 
         stands : value_in gz q.at ≡ Some (value.Mut q.reference)
         stands = borrow_stands z d q.at q.reference b.among
 
-        from : (m : MutRef) → q.reference.holder ≡ m.holder → value_in gk q.at ≡ Some (value.Mut m) → Opposite gk (references gk (things_of k)) q
-        from m e f = record {
+        from : (m : MutRef) → q.reference.holder ≡ m.holder → m.first ≡ q.reference.first → m.object ≡ q.reference.object → value_in gk q.at ≡ Some (value.Mut m) → Opposite gk (references gk (things_of k)) q
+        from m e first object f = record {
           reference = record { at = q.at; holder = holder_of gk q.at m.holder; reference = m };
           among = reference_there k q.at m f;
           at = refl;
           holder = sym (holders_same q.at m.holder) ∙ ap (holder_of gz q.at) (sym e) ∙ sym b.holder;
           value = f;
           held = refl;
+          first = first;
+          object = object;
         }
 
         by : (q.at ≡ h) ⊎ (q.at ≡ h → ⊥) → Opposite gk (references gk (things_of k)) q × (changed q.reference ≡ true → (q.at ≡ h) ⊎ ((y : Opposite gk (references gk (things_of k)) q) × (changed y.reference.reference ≡ true)))
         by (inl e) =
             let is : r.new ≡ value.Mut q.reference = some_is (sym r.stands ∙ ap (value_in gz) (sym e) ∙ stands) in
             let y = with_word_reference r.old q.reference (r.worded ∙ ap Some is) in
-            (from y.0 y.2 (ap (value_in gk) e ∙ r.stood ∙ ap Some y.1), λ f. inl e)
-        by (inr n) = let there : value_in gk q.at ≡ Some (value.Mut q.reference) = sym (r.elsewhere q.at n) ∙ stands in (from q.reference refl there, λ f. inr (from q.reference refl there, f))
+            (from y.0 (ap (λ (m : MutRef). m.holder) (sym y.2)) (ap (λ (m : MutRef). m.first) y.2) (ap (λ (m : MutRef). m.object) y.2) (ap (value_in gk) e ∙ r.stood ∙ ap Some y.1), λ f. inl e)
+        by (inr n) = let there : value_in gk q.at ≡ Some (value.Mut q.reference) = sym (r.elsewhere q.at n) ∙ stands in (from q.reference refl refl refl there, λ f. inr (from q.reference refl refl refl there, f))
 
     -- WHAT IS STALE
 

@@ -1,9 +1,13 @@
 pub mod GoOn
 pub mod Standing
+pub mod Loose
 pub mod Grounds
 pub mod Alone
 pub mod Words
+pub mod Beside
 pub mod Put
 pub mod Slots
 pub mod Tints
+pub mod NewWord
+pub mod TintWords
 pub mod Example

@@ -11,13 +11,12 @@ use Rattle.thread_state.specs.declared.value.Value.{Value}
 use Rattle.thread_state.specs.declared.value.Value.TheVariants as value
 use Rattle.server_model.specs.Places.{took, with_word}
 use Rattle.heap_law.specs.Names.{Among}
-use Rattle.heap_law.specs.Things.{Location, at_slot, at_temp, in_cell, in_slot, in_temp, Thing, lies, stands, uses, things_at, pin_things, value_things, slot_things, temp_things, gift_things, walk_things, thread_things, things_of}
+use Rattle.heap_law.specs.Things.{Location, at_slot, at_temp, in_cell, in_slot, in_temp, Thing, lies, stands, uses, things_at, pin_things, value_things, slot_things, temp_things, gift_things, walk_things, thread_things, things_of, holds, borrows}
 use Rattle.heap_law.specs.Follow.{Standing, thread_at, cells_in}
-use Rattle.heap_law.specs.Sight.{Pointer, pointers_of, pointers_in}
 use Rattle.heap_law.proofs.Bags.{among_split}
 use Rattle.path_law.proofs.Sole.{some_is}
 use Rattle.path_law.proofs.Origins.{among_first, among_second}
-use Rattle.word_law.specs.Reworded.{turn_of}
+use Rattle.word_law.specs.Reworded.{is_loose, turn_of}
 
 -- LISTS
 
@@ -38,23 +37,6 @@ cells_joined [] b = refl
 cells_joined (lies s a c ∷ xs) b = ap (λ l. c ∷ l) (cells_joined xs b)
 cells_joined (Rattle.heap_law.specs.Things.flies w c ∷ xs) b = ap (λ l. c ∷ l) (cells_joined xs b)
 cells_joined (_ ∷ xs) b = cells_joined xs b
-
-pub joined : (p : Pointer) (a b : List Thing) → Among p (pointers_in (a ++ b)) → Among p (pointers_in a) ⊎ Among p (pointers_in b)
-joined p [] b h = inr h
-joined p (x ∷ a) b h =
-    ⊎_elim (λ (l : Among p (pointers_of x)). inl (among_first p (pointers_of x) (pointers_in a) l))
-    (λ (r : Among p (pointers_in (a ++ b))).
-    ⊎_elim (λ (q : Among p (pointers_in a)). inl (among_second p (pointers_of x) (pointers_in a) q)) (λ (q : Among p (pointers_in b)). inr q) (joined p a b r)) (among_split p (pointers_of x) (pointers_in (a ++ b)) h)
-
-pub in_first : (p : Pointer) (a b : List Thing) → Among p (pointers_in a) → Among p (pointers_in (a ++ b))
-in_first p [] b h = absurd h
-in_first p (x ∷ a) b h =
-    ⊎_elim (λ (l : Among p (pointers_of x)). among_first p (pointers_of x) (pointers_in (a ++ b)) l) (λ (r : Among p (pointers_in a)). among_second p (pointers_of x) (pointers_in (a ++ b)) (in_first p a b r))
-    (among_split p (pointers_of x) (pointers_in a) h)
-
-pub in_second : (p : Pointer) (a b : List Thing) → Among p (pointers_in b) → Among p (pointers_in (a ++ b))
-in_second p [] b h = h
-in_second p (x ∷ a) b h = among_second p (pointers_of x) (pointers_in (a ++ b)) (in_second p a b h)
 
 -- a thread in place of another one
 pub thread_replaced : (xs bs : List Standing) (x y : Standing) (u : ℕ) → y.thread.number ≡ x.thread.number
@@ -127,60 +109,63 @@ lying_in r a c (Rattle.heap_law.specs.Things.flies w e ∷ b) (inr h) = inr (lyi
 lying_in r a c (_ ∷ b) (inl f) = absurd cc
 lying_in r a c (_ ∷ b) (inr h) = lying_in r a c b h
 
--- every pointer of it stands in its slot
-abbrev pub Placed : ℕ → ℕ → ℕ → Value → Type 0
-Placed s t i v = (p : Pointer) → Among p (pointers_in (slot_things s t i v)) → p.at ≡ None → ⊥
+-- nothing of it is loose
+abbrev pub Fixed : ℕ → ℕ → ℕ → Value → Type 0
+Fixed s t i v = (y : Thing) → Among y (slot_things s t i v) → is_loose y ≡ true → ⊥
 
-not_none : (l : Location) (p : Pointer) → p.at ≡ Some l → p.at ≡ None → ⊥
-not_none l p e f = let y : None ≡ Some l = sym f ∙ e in absurd cc
+fixed_thing : (x y : Thing) → is_loose x ≡ false → x ≡ y → is_loose y ≡ true → ⊥
+fixed_thing x y f e g = let z : true ≡ false = sym g ∙ sym (ap is_loose e) ∙ f in absurd cc
 
 -- so it is of a box and a mutable reference, also with another word
-pub placed_old : (s t i w : ℕ) (v new : Value) → with_word w v ≡ Some new → Placed s t i v
-placed_old s t i w (value.Own (owned.Box b)) new e p (inl q) f = not_none (at_slot t i) p (sym (ap (λ (y : Pointer). y.at) q)) f
-placed_old s t i w (value.Own (owned.Box b)) new e p (inr q) f = q
-placed_old s t i w (value.Mut r) new e p (inl q) f = not_none (at_slot t i) p (sym (ap (λ (y : Pointer). y.at) q)) f
-placed_old s t i w (value.Mut r) new e p (inr q) f = q
-placed_old s t i w _ new e p q f = absurd cc
+pub fixed_old : (s t i w : ℕ) (v new : Value) → with_word w v ≡ Some new → Fixed s t i v
+fixed_old s t i w (value.Own (owned.Box b)) new e y (inl q) f = fixed_thing (holds (in_slot t i) (owned.Box b)) y refl q f
+fixed_old s t i w (value.Own (owned.Box b)) new e y (inr q) f = q
+fixed_old s t i w (value.Mut r) new e y (inl q) f = fixed_thing (borrows (at_slot t i) r) y refl q f
+fixed_old s t i w (value.Mut r) new e y (inr q) f = q
+fixed_old s t i w _ new e y q f = absurd cc
 
-pub placed_new : (s t i w : ℕ) (v new : Value) → with_word w v ≡ Some new → Placed s t i new
-placed_new s t i w (value.Own (owned.Box b)) new e = subst (Placed s t i) (some_is e) (placed_old s t i w (value.Own (owned.Box (record b { word = w }))) (value.Own (owned.Box (record b { word = w }))) refl)
-placed_new s t i w (value.Mut r) new e = subst (Placed s t i) (some_is e) (placed_old s t i w (value.Mut (took r w)) (value.Mut (took (took r w) w)) refl)
-placed_new s t i w _ new e = absurd cc
+pub fixed_new : (s t i w : ℕ) (v new : Value) → with_word w v ≡ Some new → Fixed s t i new
+fixed_new s t i w (value.Own (owned.Box b)) new e = subst (Fixed s t i) (some_is e) (fixed_old s t i w (value.Own (owned.Box (record b { word = w }))) (value.Own (owned.Box (record b { word = w }))) refl)
+fixed_new s t i w (value.Mut r) new e = subst (Fixed s t i) (some_is e) (fixed_old s t i w (value.Mut (took r w)) (value.Mut (took (took r w) w)) refl)
+fixed_new s t i w _ new e = absurd cc
 
--- a value in a slot that is put there, seen by what stands at no location
-pub slots_after : (s t j i : ℕ) (vs : List Value) (new : Value) (p : Pointer) → ((n : ℕ) → Placed s t n new) → p.at ≡ None → Among p (pointers_in (things_at (slot_things s t) j (slice_set vs i new))) → Among p (pointers_in (things_at (slot_things s t) j vs))
-slots_after s t j i [] new p f e h = h
-slots_after s t j zero (v ∷ vs) new p f e h =
-    ⊎_elim (λ (l : Among p (pointers_in (slot_things s t j new))). absurd (f j p l e)) (λ (r : Among p (pointers_in (things_at (slot_things s t) (j + 1) vs))). in_second p (slot_things s t j v) (things_at (slot_things s t) (j + 1) vs) r)
-    (joined p (slot_things s t j new) (things_at (slot_things s t) (j + 1) vs) h)
-slots_after s t j (suc i) (v ∷ vs) new p f e h =
-    ⊎_elim (λ (l : Among p (pointers_in (slot_things s t j v))). in_first p (slot_things s t j v) (things_at (slot_things s t) (j + 1) vs) l)
-    (λ (r : Among p (pointers_in (things_at (slot_things s t) (j + 1) (slice_set vs i new)))). in_second p (slot_things s t j v) (things_at (slot_things s t) (j + 1) vs) (slots_after s t (j + 1) i vs new p f e r))
-    (joined p (slot_things s t j v) (things_at (slot_things s t) (j + 1) (slice_set vs i new)) h)
+-- loose things of slots of which one is put
+slots_after : (s t j i : ℕ) (vs : List Value) (new : Value) (y : Thing) → ((n : ℕ) → Fixed s t n new) → is_loose y ≡ true → Among y (things_at (slot_things s t) j (slice_set vs i new)) → Among y (things_at (slot_things s t) j vs)
+slots_after s t j i [] new y f e h = h
+slots_after s t j zero (v ∷ vs) new y f e h =
+    ⊎_elim (λ (l : Among y (slot_things s t j new)). absurd (f j y l e)) (λ (r : Among y (things_at (slot_things s t) (j + 1) vs)). among_second y (slot_things s t j v) (things_at (slot_things s t) (j + 1) vs) r)
+    (among_split y (slot_things s t j new) (things_at (slot_things s t) (j + 1) vs) h)
+slots_after s t j (suc i) (v ∷ vs) new y f e h =
+    ⊎_elim (λ (l : Among y (slot_things s t j v)). among_first y (slot_things s t j v) (things_at (slot_things s t) (j + 1) vs) l)
+    (λ (r : Among y (things_at (slot_things s t) (j + 1) (slice_set vs i new))). among_second y (slot_things s t j v) (things_at (slot_things s t) (j + 1) vs) (slots_after s t (j + 1) i vs new y f e r))
+    (among_split y (slot_things s t j v) (things_at (slot_things s t) (j + 1) (slice_set vs i new)) h)
 
-pub slots_before : (s t j i : ℕ) (vs : List Value) (old new : Value) (p : Pointer) → slice_get vs i ≡ Some old → ((n : ℕ) → Placed s t n old) → p.at ≡ None → Among p (pointers_in (things_at (slot_things s t) j vs))
-    → Among p (pointers_in (things_at (slot_things s t) j (slice_set vs i new)))
-slots_before s t j i [] old new p g f e h = h
-slots_before s t j zero (v ∷ vs) old new p g f e h =
-    let same : v ≡ old = some_is g in
-    ⊎_elim (λ (l : Among p (pointers_in (slot_things s t j v))). absurd (f j p (subst (λ u. Among p (pointers_in (slot_things s t j u))) same l) e))
-    (λ (r : Among p (pointers_in (things_at (slot_things s t) (j + 1) vs))). in_second p (slot_things s t j new) (things_at (slot_things s t) (j + 1) vs) r) (joined p (slot_things s t j v) (things_at (slot_things s t) (j + 1) vs) h)
-slots_before s t j (suc i) (v ∷ vs) old new p g f e h =
-    ⊎_elim (λ (l : Among p (pointers_in (slot_things s t j v))). in_first p (slot_things s t j v) (things_at (slot_things s t) (j + 1) (slice_set vs i new)) l)
-    (λ (r : Among p (pointers_in (things_at (slot_things s t) (j + 1) vs))). in_second p (slot_things s t j v) (things_at (slot_things s t) (j + 1) (slice_set vs i new)) (slots_before s t (j + 1) i vs old new p g f e r))
-    (joined p (slot_things s t j v) (things_at (slot_things s t) (j + 1) vs) h)
+slots_before : (s t j i : ℕ) (vs : List Value) (old new : Value) (y : Thing) → slice_get vs i ≡ Some old → ((n : ℕ) → Fixed s t n old) → is_loose y ≡ true → Among y (things_at (slot_things s t) j vs) → Among y (things_at (slot_things s t) j (slice_set vs i new))
+slots_before s t j i [] old new y g f e h = h
+slots_before s t j zero (v ∷ vs) old new y g f e h =
+    ⊎_elim (λ (l : Among y (slot_things s t j v)). absurd (f j y (subst (λ u. Among y (slot_things s t j u)) (some_is g) l) e))
+    (λ (r : Among y (things_at (slot_things s t) (j + 1) vs)). among_second y (slot_things s t j new) (things_at (slot_things s t) (j + 1) vs) r) (among_split y (slot_things s t j v) (things_at (slot_things s t) (j + 1) vs) h)
+slots_before s t j (suc i) (v ∷ vs) old new y g f e h =
+    ⊎_elim (λ (l : Among y (slot_things s t j v)). among_first y (slot_things s t j v) (things_at (slot_things s t) (j + 1) (slice_set vs i new)) l)
+    (λ (r : Among y (things_at (slot_things s t) (j + 1) vs)). among_second y (slot_things s t j v) (things_at (slot_things s t) (j + 1) (slice_set vs i new)) (slots_before s t (j + 1) i vs old new y g f e r))
+    (among_split y (slot_things s t j v) (things_at (slot_things s t) (j + 1) vs) h)
 
--- the pointers of a thread whose slots are other ones
-pub thread_pointers : (s : ℕ) (t u : ThreadState) (p : Pointer) → u.number ≡ t.number → u.gift ≡ t.gift → u.walk ≡ t.walk → u.temps ≡ t.temps
-    → (Among p (pointers_in (things_at (slot_things s t.number) 0 u.slots)) → Among p (pointers_in (things_at (slot_things s t.number) 0 t.slots))) → Among p (pointers_in (thread_things s false u)) → Among p (pointers_in (thread_things s false t))
-thread_pointers s t u p n g w q go h = by (gift_things t.number t.gift) (things_at (walk_things s) 0 t.walk) (things_at (temp_things s t.number) 0 t.temps) (rw (sym n) (rw (sym g) (rw (sym w) (rw (sym q) h))))
-  where
-    by : (a b d : List Thing) → Among p (pointers_in (a ++ b ++ things_at (slot_things s t.number) 0 u.slots ++ d)) → Among p (pointers_in (a ++ b ++ things_at (slot_things s t.number) 0 t.slots ++ d))
-    by a b d m =
-        let old = things_at (slot_things s t.number) 0 t.slots in
-        let new = things_at (slot_things s t.number) 0 u.slots in
-        ⊎_elim
-        (λ (l : Among p (pointers_in (a ++ b ++ new))).
-        in_first p (a ++ b ++ old) d
-        (⊎_elim (λ (x : Among p (pointers_in (a ++ b))). in_first p (a ++ b) old x) (λ (x : Among p (pointers_in new)). in_second p (a ++ b) old (go x)) (joined p (a ++ b) new l)))
-        (λ (r : Among p (pointers_in d)). in_second p (a ++ b ++ old) d r) (joined p (a ++ b ++ new) d m)
+-- loose things of a thread with other slots
+loose_thread : (s : ℕ) (t : ThreadState) (us vs : List Value) (y : Thing) → is_loose y ≡ true → (Among y (things_at (slot_things s t.number) 0 us) → Among y (things_at (slot_things s t.number) 0 vs))
+    → Among y (thread_things s false (record t { slots = us })) → Among y (thread_things s false (record t { slots = vs }))
+loose_thread s t us vs y e go (inl q) = absurd (fixed_thing (stands s false (record t { slots = us })) y refl q e)
+loose_thread s t us vs y e go (inr h) =
+    let a = gift_things t.number t.gift ++ things_at (walk_things s) 0 t.walk in
+    let old = things_at (slot_things s t.number) 0 us in
+    let new = things_at (slot_things s t.number) 0 vs in
+    let d = things_at (temp_things s t.number) 0 t.temps in
+    inr
+    (⊎_elim
+    (λ (l : Among y (a ++ old)). among_first y (a ++ new) d (⊎_elim (λ (x : Among y a). among_first y a new x) (λ (x : Among y old). among_second y a new (go x)) (among_split y a old l)))
+    (λ (r : Among y d). among_second y (a ++ new) d r) (among_split y (a ++ old) d h))
+
+pub loose_after : (s i : ℕ) (t : ThreadState) (new : Value) (y : Thing) → ((n : ℕ) → Fixed s t.number n new) → is_loose y ≡ true → Among y (thread_things s false (record t { slots = slice_set t.slots i new })) → Among y (thread_things s false t)
+loose_after s i t new y f e h = loose_thread s t (slice_set t.slots i new) t.slots y e (slots_after s t.number 0 i t.slots new y f e) h
+
+pub loose_before : (s i : ℕ) (t : ThreadState) (old new : Value) (y : Thing) → slice_get t.slots i ≡ Some old → ((n : ℕ) → Fixed s t.number n old) → is_loose y ≡ true → Among y (thread_things s false t) → Among y (thread_things s false (record t { slots = slice_set t.slots i new }))
+loose_before s i t old new y g f e h = loose_thread s t t.slots (slice_set t.slots i new) y e (slots_before s t.number 0 i t.slots old new y g f e) h

@@ -14,6 +14,7 @@ use Rattle.heap_law.specs.Names.{tot, one, Among, same_object}
 use Rattle.heap_law.specs.Things.{Location, at_slot, at_temp, in_cell, Spot, in_slot, in_temp, as_gift, as_content, as_result, in_hand, Thing, holds, shares, borrows, lies, flies, sent, stands, things_at, slot_things, temp_things, gift_things, walk_things, things_of}
 use Rattle.heap_law.specs.Follow.{Standing, thread_at, cells_in, cell_of, slot_of, temp_of, value_of, value_in}
 use Rattle.heap_law.specs.Weights.{cells}
+use Rattle.heap_law.specs.Placing.{standing_of, standing_in}
 use Rattle.heap_law.specs.Sight.{sight, Pointer, pointer_in, location_of, dropped_pointer, pointers_of, pointers_in}
 use Rattle.heap_law.proofs.Words.{itself, named}
 use Rattle.mut_borrow.specs.declared.shared.SharedRef.{SharedRef}
@@ -120,9 +121,9 @@ cell_among o c (flies w d ∷ b) e = cell_by o c d (flies w d) b (flying w) (sam
 cell_among o c (x ∷ b) e = later_cell o c x b (cell_among o c b e)
 
 -- and so is the pointer in it
-in_it : (p : Pointer) (c : Cell) (y : Thing) → CellOf c y → Among p (pointer_in (Some (in_cell c.object)) c.value) → Among p (pointers_of y)
+in_it : (p : Pointer) (c : Cell) (y : Thing) → CellOf c y → Among p (pointer_in (Some (in_cell c.object)) c.value) → Among p (standing_of y)
 in_it p c _ (lying r a) h = h
-in_it p c _ (flying w) h = inr h
+in_it p c _ (flying w) h = h
 
 -- a pointer is of a thing
 pub record OfThing (p : Pointer) (b : List Thing) : Type 0 where
@@ -150,6 +151,22 @@ pub pointers_among : (p : Pointer) (y : Thing) (b : List Thing) → Among y b �
 pointers_among p y [] h q = absurd h
 pointers_among p y (x ∷ b) (inl e) q = among_first p (pointers_of x) (pointers_in b) (subst (λ z. Among p (pointers_of z)) (sym e) q)
 pointers_among p y (x ∷ b) (inr h) q = among_second p (pointers_of x) (pointers_in b) (pointers_among p y b h q)
+
+pub standing_among : (p : Pointer) (y : Thing) (b : List Thing) → Among y b → Among p (standing_of y) → Among p (standing_in b)
+standing_among p y [] h q = absurd h
+standing_among p y (x ∷ b) (inl e) q = among_first p (standing_of x) (standing_in b) (subst (λ z. Among p (standing_of z)) (sym e) q)
+standing_among p y (x ∷ b) (inr h) q = among_second p (standing_of x) (standing_in b) (standing_among p y b h q)
+
+-- what stands is a pointer
+pub stands_of : (p : Pointer) (y : Thing) → Among p (standing_of y) → Among p (pointers_of y)
+stands_of p (flies w c) h = inr h
+stands_of p _ h = h
+
+pub stands_in : (p : Pointer) (b : List Thing) → Among p (standing_in b) → Among p (pointers_in b)
+stands_in p [] h = absurd h
+stands_in p (x ∷ b) h =
+    ⊎_elim (λ (l : Among p (standing_of x)). among_first p (pointers_of x) (pointers_in b) (stands_of p x l)) (λ (r : Among p (standing_in b)). among_second p (pointers_of x) (pointers_in b) (stands_in p b r))
+    (among_split p (standing_of x) (standing_in b) h)
 
 module _ (k : Cluster) where
   -- WHAT STANDS AT A LOCATION IS AMONG THE THINGS
@@ -182,36 +199,39 @@ module _ (k : Cluster) where
           let w = stands x.server x.packed x.thread ∷ gift_things x.thread.number x.thread.gift ++ things_at (walk_things x.server) 0 x.thread.walk in
           servers_contain k.servers x q.0 y (among_second y (w ++ slots) temps (listed_in (temp_things x.server x.thread.number) y 0 i x.thread.temps v f here_it))
 
-  slot_pointer : (t i : ℕ) (v : Value) (p : Pointer) → value_in (sight k).ground (at_slot t i) ≡ Some v → Among p (pointer_at (at_slot t i) v) → Among p (pointers_in (things_of k))
-  slot_pointer t i (value.Own u) p e h = pointers_among p (holds (in_slot t i) u) (things_of k) (slot_among t i (value.Own u) e (holds (in_slot t i) u) (λ s. inl refl)) h
-  slot_pointer t i (value.Mut r) p e h = pointers_among p (borrows (at_slot t i) r) (things_of k) (slot_among t i (value.Mut r) e (borrows (at_slot t i) r) (λ s. inl refl)) h
+  slot_pointer : (t i : ℕ) (v : Value) (p : Pointer) → value_in (sight k).ground (at_slot t i) ≡ Some v → Among p (pointer_at (at_slot t i) v) → Among p (standing_in (things_of k))
+  slot_pointer t i (value.Own u) p e h = standing_among p (holds (in_slot t i) u) (things_of k) (slot_among t i (value.Own u) e (holds (in_slot t i) u) (λ s. inl refl)) h
+  slot_pointer t i (value.Mut r) p e h = standing_among p (borrows (at_slot t i) r) (things_of k) (slot_among t i (value.Mut r) e (borrows (at_slot t i) r) (λ s. inl refl)) h
   slot_pointer t i value.Gone p e h = absurd h
   slot_pointer t i (value.SharedSlot j) p e h = absurd h
   slot_pointer t i (value.MutSlot j) p e h = absurd h
   slot_pointer t i (value.Shared r) p e h = absurd h
   slot_pointer t i (value.Held m) p e h = absurd h
 
-  temp_pointer : (t i : ℕ) (v : Value) (p : Pointer) → value_in (sight k).ground (at_temp t i) ≡ Some v → Among p (pointer_at (at_temp t i) v) → Among p (pointers_in (things_of k))
-  temp_pointer t i (value.Own u) p e h = pointers_among p (holds (in_temp t i) u) (things_of k) (temp_among t i (value.Own u) e (holds (in_temp t i) u) (λ s. inl refl)) h
-  temp_pointer t i (value.Mut r) p e h = pointers_among p (borrows (at_temp t i) r) (things_of k) (temp_among t i (value.Mut r) e (borrows (at_temp t i) r) (λ s. inl refl)) h
+  temp_pointer : (t i : ℕ) (v : Value) (p : Pointer) → value_in (sight k).ground (at_temp t i) ≡ Some v → Among p (pointer_at (at_temp t i) v) → Among p (standing_in (things_of k))
+  temp_pointer t i (value.Own u) p e h = standing_among p (holds (in_temp t i) u) (things_of k) (temp_among t i (value.Own u) e (holds (in_temp t i) u) (λ s. inl refl)) h
+  temp_pointer t i (value.Mut r) p e h = standing_among p (borrows (at_temp t i) r) (things_of k) (temp_among t i (value.Mut r) e (borrows (at_temp t i) r) (λ s. inl refl)) h
   temp_pointer t i value.Gone p e h = absurd h
   temp_pointer t i (value.SharedSlot j) p e h = absurd h
   temp_pointer t i (value.MutSlot j) p e h = absurd h
   temp_pointer t i (value.Shared r) p e h = absurd h
   temp_pointer t i (value.Held m) p e h = absurd h
 
-  cell_pointer : (o : ObjNo) (v : Value) (p : Pointer) (d : Option Cell) → cell_of (sight k).ground.cells o ≡ d → value_of d ≡ Some v → Among p (pointer_at (in_cell o) v) → Among p (pointers_in (things_of k))
+  cell_pointer : (o : ObjNo) (v : Value) (p : Pointer) (d : Option Cell) → cell_of (sight k).ground.cells o ≡ d → value_of d ≡ Some v → Among p (pointer_at (in_cell o) v) → Among p (standing_in (things_of k))
   cell_pointer o v p None at e h = absurd cc
   cell_pointer o v p (Some d) at e h =
       let i = cell_among o d (things_of k) at in
       let same : value.Own d.value ≡ v = some_is e in
       let here_it : Among p (pointer_in (Some (in_cell o)) d.value) = subst (λ u. Among p (pointer_at (in_cell o) u)) (sym same) h in
-      pointers_among p i.thing (things_of k) i.among (in_it p d i.thing i.is (subst (λ n. Among p (pointer_in (Some (in_cell n)) d.value)) (sym i.object) here_it))
+      standing_among p i.thing (things_of k) i.among (in_it p d i.thing i.is (subst (λ n. Among p (pointer_in (Some (in_cell n)) d.value)) (sym i.object) here_it))
+
+  pub told_standing : (l : Location) (v : Value) (p : Pointer) → value_in (sight k).ground l ≡ Some v → Among p (pointer_at l v) → Among p (standing_in (things_of k))
+  told_standing (at_slot t i) v p e h = slot_pointer t i v p e h
+  told_standing (at_temp t i) v p e h = temp_pointer t i v p e h
+  told_standing (in_cell o) v p e h = cell_pointer o v p (cell_of (sight k).ground.cells o) refl e h
 
   pub told : (l : Location) (v : Value) (p : Pointer) → value_in (sight k).ground l ≡ Some v → Among p (pointer_at l v) → Among p (pointers_in (things_of k))
-  told (at_slot t i) v p e h = slot_pointer t i v p e h
-  told (at_temp t i) v p e h = temp_pointer t i v p e h
-  told (in_cell o) v p e h = cell_pointer o v p (cell_of (sight k).ground.cells o) refl e h
+  told l v p e h = stands_in p (things_of k) (told_standing l v p e h)
 
   -- A POINTER THAT STANDS AT A LOCATION
 

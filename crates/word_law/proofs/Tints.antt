@@ -20,31 +20,31 @@ use Rattle.server_model.specs.Places.{in_slot as spot_slot, put_slot, took, with
 use Rattle.heap_law.specs.Names.{Among}
 use Rattle.heap_law.specs.Things.{Location, at_slot, at_temp, in_cell, Thing, lies, thread_things, things_of}
 use Rattle.heap_law.specs.Follow.{Standing, threads_in, thread_at, cells_in, cell_of, slot_of, temp_of, value_of, value_in}
-use Rattle.heap_law.specs.Sight.{Pointer, pointers_in, sight}
+use Rattle.heap_law.specs.Sight.{sight}
 use Rattle.heap_law.specs.Words.{LeadsTo}
 use Rattle.heap_law.proofs.Bags.{among_split}
 use Rattle.type_law.proofs.Branches.{found}
 use Rattle.path_law.proofs.Sole.{some_is}
 use Rattle.path_law.proofs.Origins.{threads_joined, among_first, among_second}
 use Rattle.path_law.proofs.Contained.{rest_none}
-use Rattle.word_law.specs.Reworded.{HasPlaces, turn_of, LiesThere, Reworded}
+use Rattle.word_law.specs.Reworded.{HasPlaces, is_loose, turn_of, LiesThere, Reworded}
 use Rattle.word_law.specs.PutBack.{put_in, TintRewords}
 use Rattle.word_law.proofs.Put.{Split, put_split}
-use Rattle.word_law.proofs.Slots.{set_same, set_other, cells_joined, joined, in_first, in_second, thread_replaced, turns_replaced, among_replaced, thread_cells, lying_in, placed_old, placed_new, slots_after, slots_before, thread_pointers}
+use Rattle.word_law.proofs.Slots.{set_same, set_other, cells_joined, thread_replaced, turns_replaced, among_replaced, thread_cells, lying_in, fixed_old, fixed_new, loose_after, loose_before}
 
 -- WHAT THE STEP DOES
 
 -- the hand with that value in the slot
-abbrev with_slot : ℕ → Value → Hand → Hand
+abbrev pub with_slot : ℕ → Value → Hand → Hand
 with_slot i new h = record h { thread = record h.thread { slots = slice_set h.thread.slots i new } }
 
-record SlotPut (h h2 : Hand) (i w : ℕ) (v : Value) : Type 0 where
-  new : Value
-  worded : with_word w v ≡ Some new
-  thread : h2.thread ≡ (with_slot i new h).thread
-  rest : h2.work.rest ≡ h.work.rest
+pub record SlotPut (h h2 : Hand) (i w : ℕ) (v : Value) : Type 0 where
+  pub new : Value
+  pub worded : with_word w v ≡ Some new
+  pub thread : h2.thread ≡ (with_slot i new h).thread
+  pub rest : h2.work.rest ≡ h.work.rest
 
-slot_put : (h h2 : Hand) (i : ℕ) (v : Value) (p : BoxPtr) → slice_get h.thread.slots i ≡ Some v → put_word (spot_slot i) (issue_tint p h.work) h ≡ Some h2 → SlotPut h h2 i (next_word p.word) v
+pub slot_put : (h h2 : Hand) (i : ℕ) (v : Value) (p : BoxPtr) → slice_get h.thread.slots i ≡ Some v → put_word (spot_slot i) (issue_tint p h.work) h ≡ Some h2 → SlotPut h h2 i (next_word p.word) v
 slot_put h h2 i v p at e = by (with_word (next_word p.word) v) refl (subst (λ o. then_some o (λ u. then_some (with_word (next_word p.word) u) (λ new. put_slot i new h3)) ≡ Some h2) at e)
   where
     h3 : Hand
@@ -59,7 +59,7 @@ slot_put h h2 i v p at e = by (with_word (next_word p.word) v) refl (subst (λ o
     by (Some new) q f = tested new q (nat_lt i (length h.thread.slots)) f
 
 -- a tint leads where the word led
-next_leads : (r a w : ℕ) → LeadsTo r a w → LeadsTo r a (next_word w)
+pub next_leads : (r a w : ℕ) → LeadsTo r a w → LeadsTo r a (next_word w)
 next_leads r a w l =
     let s : server_of (next_word w) ≡ server_of w = omega arith in
     let t : address_of (next_word w) ≡ address_of w = omega arith in
@@ -130,32 +130,27 @@ module _ (a b : Cluster) (n i w : ℕ) (t : ThreadState) (v new : Value) (old : 
       (λ (e : (t.number ≡ m) × (thread_at (sight a).ground.threads m ≡ Some x) × (thread_at (sight b).ground.threads m ≡ Some y)). ap (λ o. temp_of o j) e.2 ∙ sym (ap (λ o. temp_of o j) e.1)) (replaced m)
   elsewhere (in_cell o) f = ap (λ q. value_of (cell_of q o)) cells_same
 
-  -- POINTERS THAT STAND NOWHERE
+  -- WHAT STANDS AT NO LOCATION
 
-  around : (p : Pointer) (l m k r : List Thing) → (Among p (pointers_in m) → Among p (pointers_in k)) → Among p (pointers_in (l ++ m ++ r)) → Among p (pointers_in (l ++ k ++ r))
-  around p l m k r go h =
-      ⊎_elim (λ (q : Among p (pointers_in (l ++ m))). in_first p (l ++ k) r (⊎_elim (λ (z : Among p (pointers_in l)). in_first p l k z) (λ (z : Among p (pointers_in m)). in_second p l k (go z)) (joined p l m q)))
-      (λ (q : Among p (pointers_in r)). in_second p (l ++ k) r q) (joined p (l ++ m) r h)
+  around : (y : Thing) (l m k r : List Thing) → (Among y m → Among y k) → Among y (l ++ m ++ r) → Among y (l ++ k ++ r)
+  around y l m k r go h =
+      ⊎_elim (λ (q : Among y (l ++ m)). among_first y (l ++ k) r (⊎_elim (λ (z : Among y l). among_first y l k z) (λ (z : Among y m). among_second y l k (go z)) (among_split y l m q))) (λ (q : Among y r). among_second y (l ++ k) r q)
+      (among_split y (l ++ m) r h)
 
-  unplaced : (p : Pointer) → Among p (pointers_in (things_of b)) → p.at ≡ None → Among p (pointers_in (things_of a))
-  unplaced p h e =
-      let go = thread_pointers n t u p refl refl refl refl (slots_after n t.number 0 i t.slots new p (λ j. placed_new n t.number j w v new worded) e) in
-      subst (λ q. Among p (pointers_in q)) (sym s.before) (around p s.left (thread_things n false u) (thread_things n false t) s.right go (subst (λ q. Among p (pointers_in q)) s.after h))
+  loose : (y : Thing) → Among y (things_of b) → is_loose y ≡ true → Among y (things_of a)
+  loose y h e =
+      let go = loose_after n i t new y (λ j. fixed_new n t.number j w v new worded) e in
+      subst (λ q. Among y q) (sym s.before) (around y s.left (thread_things n false u) (thread_things n false t) s.right go (subst (λ q. Among y q) s.after h))
 
-  remain : (p : Pointer) → Among p (pointers_in (things_of a)) → p.at ≡ None → Among p (pointers_in (things_of b))
-  remain p h e =
-      let go = thread_pointers n u t p refl refl refl refl (slots_before n t.number 0 i t.slots v new p old (λ j. placed_old n t.number j w v new worded) e) in
-      subst (λ q. Among p (pointers_in q)) (sym s.after) (around p s.left (thread_things n false t) (thread_things n false u) s.right go (subst (λ q. Among p (pointers_in q)) s.before h))
+  remain : (y : Thing) → Among y (things_of a) → is_loose y ≡ true → Among y (things_of b)
+  remain y h e =
+      let go = loose_before n i t v new y old (λ j. fixed_old n t.number j w v new worded) e in
+      subst (λ q. Among y q) (sym s.after) (around y s.left (thread_things n false t) (thread_things n false u) s.right go (subst (λ q. Among y q) s.before h))
 
   -- WHAT LIES
 
   still_lies : (l m k r : List Thing) (j g : ℕ) (z : Cell) → cells_in m ≡ [] → Among (lies j g z) (l ++ m ++ r) → Among (lies j g z) (l ++ k ++ r)
-  still_lies l m k r j g z e h =
-      ⊎_elim
-      (λ (q : Among (lies j g z) (l ++ m)).
-      among_first (lies j g z) (l ++ k) r
-      (⊎_elim (λ (f : Among (lies j g z) l). among_first (lies j g z) l k f) (λ (f : Among (lies j g z) m). let none : Among z [] = subst (λ cs. Among z cs) e (lying_in j g z m f) in absurd none) (among_split (lies j g z) l m q)))
-      (λ (q : Among (lies j g z) r). among_second (lies j g z) (l ++ k) r q) (among_split (lies j g z) (l ++ m) r h)
+  still_lies l m k r j g z e h = around (lies j g z) l m k r (λ f. let none : Among z [] = subst (λ cs. Among z cs) e (lying_in j g z m f) in absurd none) h
 
   lies_before : (j g : ℕ) (z : Cell) → Among (lies j g z) (things_of b) → Among (lies j g z) (things_of a)
   lies_before j g z h = subst (λ q. Among (lies j g z) q) (sym s.before) (still_lies s.left (thread_things n false u) (thread_things n false t) s.right j g z (thread_cells n u) (subst (λ q. Among (lies j g z) q) s.after h))
@@ -176,8 +171,8 @@ module _ (a b : Cluster) (n i w : ℕ) (t : ThreadState) (v new : Value) (old : 
     changed = ch;
     elsewhere = elsewhere;
     turns = ap (map turn_of) threads_b ∙ turns_replaced (threads_in s.left) (threads_in s.right) x y refl ∙ sym (ap (map turn_of) threads_a);
-    unplaced = unplaced;
-    remain = λ p h e f. remain p h e;
+    loose = loose;
+    remain = λ y h e f. remain y h e;
     server = j;
     address = g;
     lying = record { cell = there.cell; among = lies_after j g there.cell there.among; object = there.object };

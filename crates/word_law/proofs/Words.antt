@@ -35,10 +35,11 @@ use Rattle.path_law.proofs.Contained.{reference_there, held_there}
 use Rattle.path_law.proofs.Pointers.{sole_pointers}
 use Rattle.path_law.proofs.FreshPaths.{Followed, none_made}
 use Rattle.word_law.specs.Reworded.{HasPlaces, Reworded}
-use Rattle.word_law.specs.WordsAfter.{WordsGoOn}
+use Rattle.word_law.specs.WordsAfter.{Rewrites, WordsGoOn}
 use Rattle.word_law.proofs.GoOn.{pointer_to, StoodElsewhere, Change, go_on}
 use Rattle.word_law.proofs.Standing.{pointer_at, told, tells}
 use Rattle.word_law.proofs.Alone.{alone}
+use Rattle.word_law.proofs.Loose.{unplaced, remains}
 use Rattle.word_law.proofs.Grounds.{same_place, reference_word, holders_same, taken_all, now, still_stale, newly_stale}
 
 -- WHAT A VALUE POINTS TO
@@ -80,7 +81,7 @@ taken_of_nowhere g x (phase.Taken w) (Some _) p q = absurd q
 taken_of_nowhere g x (phase.Taken w) None p q = absurd q
 taken_of_nowhere g x _ i p q = absurd q
 
-taken_nowhere : (code : List Instr) (g : Ground) (xs : List Standing) (p : Pointer) → Among p (taken_pointers code g xs) → p.at ≡ None
+pub taken_nowhere : (code : List Instr) (g : Ground) (xs : List Standing) (p : Pointer) → Among p (taken_pointers code g xs) → p.at ≡ None
 taken_nowhere code g [] p h = absurd h
 taken_nowhere code g (x ∷ xs) p h =
     ⊎_elim (λ (l : Among p (taken_of g x.thread x.thread.phase (slice_get code x.thread.pc))). taken_of_nowhere g x x.thread.phase (slice_get code x.thread.pc) p l) (λ (q : Among p (taken_pointers code g xs)). taken_nowhere code g xs p q)
@@ -124,8 +125,31 @@ above_holds : (k : Cluster) (l m : Location) → Above (sight k).ground l m → 
 above_holds k l m (made_from q e held) = (record { at = m; holder = holder_of (sight k).ground m q.holder; reference = q }, reference_there k m q e, held_there k l (holder_of (sight k).ground m q.holder) held)
 above_holds k l m (made_below {h = j} q e held rest) = above_holds k l j rest
 
-module _ (k z : Cluster) (c : HasPaths k) (d : HasPlaces z) (x : Standing) (v : Lval) (h : Location) (o : ObjNo) (w : ℕ) (g : GoesOn k x) (may : MayWrite k c.types x v) (hop : LastHop (sight k).ground x.thread.number v h o)
-    (fresh : IsStale (sight k) (Some h) → ⊥) (r : Reworded k z h o w) (firsts : Holds k first_at_holder) where
+module _ (k z : Cluster) (h : Location) (o : ObjNo) (w : ℕ) (all : Rewrites k z h o w) where
+  abbrev c : HasPaths k
+  c = all.paths
+
+  abbrev d : HasPlaces z
+  d = all.places
+
+  abbrev x : Standing
+  x = all.thread
+
+  abbrev v : Lval
+  v = all.place
+
+  abbrev g : GoesOn k all.thread
+  g = all.goes
+
+  abbrev may : MayWrite k all.paths.types all.thread all.place
+  may = all.may
+
+  abbrev hop : LastHop (sight k).ground all.thread.thread.number all.place h o
+  hop = all.hop
+
+  abbrev r : Reworded k z h o w
+  r = all.reworded
+
   abbrev gk : Ground
   gk = (sight k).ground
 
@@ -135,7 +159,7 @@ module _ (k z : Cluster) (c : HasPaths k) (d : HasPlaces z) (x : Standing) (v : 
   abbrev n : ℕ
   n = x.thread.number
 
-  places : HasPlaces k
+  pub places : HasPlaces k
   places = record { numbers_differ = c.numbers_differ; home_of_each = c.home_of_each; owner_of_each = c.owner_of_each }
 
   points : leads n (Some r.old) ≡ Some (in_cell o)
@@ -150,6 +174,13 @@ module _ (k z : Cluster) (c : HasPaths k) (d : HasPlaces z) (x : Standing) (v : 
       by : Among p (q ∷ []) → p ≡ q
       by (inl s) = sym s
       by (inr s) = absurd s
+
+  -- a pointer at h is the new one
+  pub at_h : (p : Pointer) → Among p (pointers_in (things_of z)) → p.at ≡ Some h → p ≡ pointer_to h w o
+  at_h p m e =
+      let t = tells z d p h m e in
+      let is : t.value ≡ r.new = some_is (sym t.stands ∙ r.stands) in
+      only_one p (pointer_to h w o) (pointer_at h t.value) (ap (pointer_at h) is ∙ pointer_now) t.pointer
 
   no_place : (p : Pointer) (l : Location) → p.at ≡ None → p.at ≡ Some l → ⊥
   no_place p l e f = let y : None ≡ Some l = sym e ∙ f in absurd cc
@@ -172,16 +203,13 @@ module _ (k z : Cluster) (c : HasPaths k) (d : HasPlaces z) (x : Standing) (v : 
       from q f = inr (record { among = among_first p (pointers_in (things_of k)) (taken_pointers (sight k).code gk gk.threads) q; at = f })
 
       at_place : (l : Location) → p.at ≡ Some l → Among p (pointers_in (things_of z)) → (l ≡ h) ⊎ (l ≡ h → ⊥) → (p ≡ pointer_to h w o) ⊎ StoodElsewhere (sight k) h p
-      at_place l e q (inl s) =
-          let t = tells z d p l q e in
-          let is : t.value ≡ r.new = some_is (sym t.stands ∙ ap (value_in gz) s ∙ r.stands) in
-          inl (only_one p (pointer_to h w o) (pointer_at l t.value) (ap (pointer_at l) is ∙ ap (λ m. pointer_at m r.new) s ∙ pointer_now) t.pointer)
+      at_place l e q (inl s) = inl (at_h p q (e ∙ ap Some s))
       at_place l e q (inr f) =
           let t = tells z d p l q e in
           from (told k l t.value p (sym (r.elsewhere l f) ∙ t.stands) t.pointer) (λ u. f (some_is (sym e ∙ u)))
 
       by : (a : Option Location) → p.at ≡ a → Among p (pointers_in (things_of z)) → (p ≡ pointer_to h w o) ⊎ StoodElsewhere (sight k) h p
-      by None e q = from (r.unplaced p q e) (no_place p h e)
+      by None e q = from (unplaced k z o r.loose p q e) (no_place p h e)
       by (Some l) e q = at_place l e q (same_place l h)
 
   stays : (p : Pointer) → Among p (all_pointers (sight k)) → (p.object ≡ o → ⊥) → Among p (all_pointers (sight z))
@@ -198,7 +226,7 @@ module _ (k z : Cluster) (c : HasPaths k) (d : HasPlaces z) (x : Standing) (v : 
       at_place l e q (inr u) = let t = tells k places p l q e in told z l t.value p (r.elsewhere l u ∙ t.stands) t.pointer
 
       by : (a : Option Location) → p.at ≡ a → Among p (pointers_in (things_of k)) → Among p (pointers_in (things_of z))
-      by None e q = r.remain p q e f
+      by None e q = remains k z o r.remain p q e f
       by (Some l) e q = at_place l e q (same_place l h)
 
   here : Among (pointer_to h w o) (all_pointers (sight z))
@@ -208,7 +236,7 @@ module _ (k z : Cluster) (c : HasPaths k) (d : HasPlaces z) (x : Standing) (v : 
 
   -- NO REFERENCE WAS MADE FROM IT
 
-  followed : Followed k c x h
+  pub followed : Followed k c x h
   followed = record {
     goes = g;
     slot = v.slot;
@@ -237,7 +265,7 @@ module _ (k z : Cluster) (c : HasPaths k) (d : HasPlaces z) (x : Standing) (v : 
           (among_split p (pointers_in (things_of k)) (taken_pointers (sight k).code gk gk.threads) q)
 
       by : (a : Option Location) → p.at ≡ a → (p.at ≡ Some h) ⊎ ((l : Location) × (p.at ≡ Some l) × Above gk l h)
-      by None f = absurd (alone k z c d x v h o w g may hop fresh r not_above_itself p m e f)
+      by None f = absurd (alone k z c d x v h o w g may hop all.fresh r not_above_itself p m e f)
       by (Some l) f =
           ⊎_elim (λ (q : p ≡ pointer_to h w o). inl (ap (λ (y : Pointer). y.at) q)) (λ (q : StoodElsewhere (sight k) h p). above l f (sole_pointers.above k c x v h o g may hop p l (among l f q.among) e f)) (stood p m)
 
@@ -259,12 +287,12 @@ module _ (k z : Cluster) (c : HasPaths k) (d : HasPlaces z) (x : Standing) (v : 
       let is : r.new ≡ value.Mut m = some_is (sym r.stands ∙ there) in
       changed_above (record { at = h; holder = holder_of gz h m.holder; reference = m }) (reference_there z h m there) (held_there z l (holder_of gz h m.holder) (holders_same k z h o w r h q.holder ∙ held)) (r.changed m is)
 
-  above_stale : (l : Location) → Above gk l h → IsStale (sight z) (Some l)
+  pub above_stale : (l : Location) → Above gk l h → IsStale (sight z) (Some l)
   above_stale l (made_from q e held) = made_stale l q e held
   above_stale l (made_below {h = j} q e held rest) = up l j (made_stale j q e held) rest
 
   fresh_now : IsStale (sight z) (Some h) → ⊥
-  fresh_now s = ⊎_elim fresh not_above_itself (newly_stale k z h o w r places d h s)
+  fresh_now s = ⊎_elim all.fresh not_above_itself (newly_stale k z h o w r places d h s)
 
   above_object : (p : Pointer) (l : Location) → Among p (all_pointers (sight k)) → p.at ≡ Some l → Above gk l h → p.object ≡ o
   above_object p l m f a =
@@ -272,7 +300,7 @@ module _ (k z : Cluster) (c : HasPaths k) (d : HasPlaces z) (x : Standing) (v : 
       (λ (q : Among p (pointers_in (things_of k))).
       let t = tells k places p l q f in
       let to : leads n (value_in gk h) ≡ Some (in_cell o) = ap (leads n) r.stood ∙ points in
-      let is : leads n (Some t.value) ≡ Some (in_cell o) = sym (ap (leads n) t.stands) ∙ above_leads k firsts n l h o a to in
+      let is : leads n (Some t.value) ≡ Some (in_cell o) = sym (ap (leads n) t.stands) ∙ above_leads k all.firsts n l h o a to in
       pointer_of_object n l t.value o p is t.pointer)
       (λ (q : Among p (taken_pointers (sight k).code gk gk.threads)). absurd (no_place p l (taken_nowhere (sight k).code gk gk.threads p q) f))
       (among_split p (pointers_in (things_of k)) (taken_pointers (sight k).code gk gk.threads) m)
@@ -293,4 +321,4 @@ module _ (k z : Cluster) (c : HasPaths k) (d : HasPlaces z) (x : Standing) (v : 
   }
 
 pub words_go_on : WordsGoOn
-words_go_on k z c x v h o w d g may hop fresh r firsts before = go_on (sight k) (sight z) h o w (change k z c d x v h o w g may hop fresh r firsts) before
+words_go_on k z h o w r before = go_on (sight k) (sight z) h o w (change k z h o w r) before

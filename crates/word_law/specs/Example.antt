@@ -8,16 +8,13 @@ use Rattle.server_model.specs.Servers.{Server, Cluster}
 use Rattle.server_model.specs.Work.{Hand}
 use Rattle.server_model.specs.NewWords.{issue_tint}
 use Rattle.server_model.specs.Places.{in_slot, put_word}
-use Rattle.heap_law.specs.Clusters.{place, object, box}
+use Rattle.heap_law.specs.Clusters.{object, box}
 use Rattle.heap_law.specs.Things.{at_slot}
 use Rattle.heap_law.specs.Sight.{sight}
-use Rattle.heap_law.specs.Words.{IsStale, HasWords}
-use Rattle.heap_law.specs.Coherent.{Holds, first_at_holder}
+use Rattle.heap_law.specs.Words.{HasWords}
 use Rattle.type_law.specs.Typed.{boxed_main, boxed_server, boxed_cluster}
-use Rattle.path_law.specs.HeapStore.{GoesOn, HasPaths}
-use Rattle.path_law.specs.Pointing.{MayWrite, LastHop}
-use Rattle.path_law.specs.Example.{main_stands}
-use Rattle.word_law.specs.Reworded.{HasPlaces, Reworded}
+use Rattle.word_law.specs.WordsAfter.{Rewrites}
+use Rattle.heap_law.specs.Dirty.{DirtyAlone}
 use Rattle.word_law.specs.PutBack.{put_in, StandsHere}
 
 abbrev pub tinted_main : ThreadState
@@ -38,16 +35,10 @@ tinted_hand = record { work = record main_hand.work { acts = act.Tint (object 0)
 
 -- what the laws ask
 pub record WordsApply : Type 0 where
-  pub paths : HasPaths boxed_cluster
-  pub goes : GoesOn boxed_cluster main_stands
-  pub may : MayWrite boxed_cluster paths.types main_stands (place 0 1)
-  pub hop : LastHop (sight boxed_cluster).ground 0 (place 0 1) (at_slot 0 0) (object 0)
-  pub fresh : IsStale (sight boxed_cluster) (Some (at_slot 0 0)) → ⊥
-  pub firsts : Holds boxed_cluster first_at_holder
+  pub rewrites : Rewrites boxed_cluster tinted_cluster (at_slot 0 0) (object 0) (word_of 1 0 0)
   pub words : HasWords (sight boxed_cluster)
-  pub places : HasPlaces tinted_cluster
+  pub dirty : DirtyAlone (sight boxed_cluster)
   pub stands : StandsHere boxed_cluster 0 (boxed_main ∷ []) main_hand
   pub tinted : put_word (in_slot 0) (issue_tint (record { word = word_of 0 0 0; object = object 0 }) main_hand.work) main_hand ≡ Some tinted_hand
   pub before : put_in boxed_cluster 0 (boxed_main ∷ []) 2 main_hand ≡ boxed_cluster
   pub after : put_in boxed_cluster 0 (boxed_main ∷ []) 2 tinted_hand ≡ tinted_cluster
-  pub reworded : Reworded boxed_cluster tinted_cluster (at_slot 0 0) (object 0) (word_of 1 0 0)

@@ -1,6 +1,7 @@
 -- A SMALL STEP OF AN EVENT gives a pointer another word: the cluster with the thread put back where it stood, before the step and after it (this project's
 -- rule).
-use Rattle.std.specs.Prelude.{◌≡◌, ◌≢◌, ℕ, List, Some, IsSome, slice_get}
+use Rattle.fr_base.specs.declared.place.Lval.{Lval}
+use Rattle.std.specs.Prelude.{false, ◌≡◌, ◌≢◌, ℕ, List, Some, IsSome, slice_get}
 use Rattle.global_addr.specs.Words.{next_word}
 use Rattle.heap_partition.specs.declared.value.BoxPtr.{BoxPtr}
 use Rattle.heap_partition.specs.declared.value.Cell.{Cell}
@@ -15,8 +16,16 @@ use Rattle.server_model.specs.NewWords.{issue_tint}
 use Rattle.server_model.specs.Places.{in_slot, pointer_of, put_word}
 use Rattle.heap_law.specs.Names.{Among}
 use Rattle.heap_law.specs.Things.{at_slot, lies, things_of}
-use Rattle.heap_law.specs.Words.{LeadsTo}
+use Rattle.heap_law.specs.Words.{IsStale, HasWords, LeadsTo}
+use Rattle.heap_law.specs.Balances.{AtMostOne}
+use Rattle.heap_law.specs.Weights.{states}
+use Rattle.heap_law.specs.Follow.{Standing}
+use Rattle.heap_law.specs.Sight.{sight}
+use Rattle.heap_law.specs.Coherent.{Holds, are_issued, first_at_holder}
+use Rattle.path_law.specs.HeapStore.{GoesOn, HasPaths}
+use Rattle.path_law.specs.Pointing.{MayWrite, LastHop}
 use Rattle.word_law.specs.Reworded.{HasPlaces, LiesThere, Reworded}
+use Rattle.word_law.specs.WordsAfter.{WordsAfter}
 
 -- the cluster with a hand's thread among those of its server, which has done so many events
 abbrev pub put_in : Cluster → ℕ → List ThreadState → ℕ → Hand → Cluster
@@ -46,3 +55,27 @@ TintRewords = (k : Cluster) (n : ℕ) (ts : List ThreadState) (e : ℕ) (h h2 : 
     → LeadsHome (put_in k n ts e h) p
     → ((r : MutRef) → v ≡ value.Mut r → next_word p.word ≢ r.first)
     → Reworded (put_in k n ts e h) (put_in k n ts e h2) (at_slot h.thread.number i) p.object (next_word p.word)
+
+-- the thread of a hand, at its server
+abbrev pub standing_of : ℕ → Hand → Standing
+standing_of n h = record { server = n; packed = false; thread = h.thread }
+
+-- so where the thread may write the place whose last star follows that pointer, which isn't stale, and the object lies, each object has a word
+-- afterwards: that of the object is the next colour. What is asked beside `HasPaths`: each address has one state, words that stand anywhere were
+-- issued, and references know their holders' words
+abbrev pub TintKeepsWords : Type 0
+TintKeepsWords = (k : Cluster) (n : ℕ) (ts : List ThreadState) (e : ℕ) (h h2 : Hand) (i : ℕ) (v : Value) (p : BoxPtr) (w : Lval) → StandsHere k n ts h
+    → slice_get h.thread.slots i ≡ Some v
+    → pointer_of v ≡ Some p
+    → put_word (in_slot i) (issue_tint p h.work) h ≡ Some h2
+    → (c : HasPaths (put_in k n ts e h))
+    → HasPlaces (put_in k n ts e h2)
+    → GoesOn (put_in k n ts e h) (standing_of n h)
+    → MayWrite (put_in k n ts e h) c.types (standing_of n h) w
+    → LastHop (sight (put_in k n ts e h)).ground h.thread.number w (at_slot h.thread.number i) p.object
+    → (IsStale (sight (put_in k n ts e h)) (Some (at_slot h.thread.number i)) → ⊥)
+    → Holds (put_in k n ts e h) are_issued
+    → Holds (put_in k n ts e h) first_at_holder
+    → AtMostOne states (things_of (put_in k n ts e h))
+    → (before : HasWords (sight (put_in k n ts e h))) (r a : ℕ) → LiesThere (put_in k n ts e h) r a p.object
+    → WordsAfter (sight (put_in k n ts e h)) (sight (put_in k n ts e h2)) p.object (next_word p.word) before

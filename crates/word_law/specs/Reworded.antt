@@ -1,6 +1,6 @@
 -- ONE OBJECT GETS ANOTHER WORD (this project's rule): two clusters of which the second shows what the first does, but for the word of the pointer at one
 -- location, and for where the object of that pointer lies.
-use Rattle.std.specs.Prelude.{◌≡◌, ℕ, true, map, Option, Some, None}
+use Rattle.std.specs.Prelude.{Bool, false, not, is_some, ◌≡◌, ℕ, true, map, Option, Some, None}
 use Rattle.fr_base.specs.declared.name.ObjNo.{ObjNo}
 use Rattle.heap_partition.specs.declared.value.Cell.{Cell}
 use Rattle.mut_borrow.specs.declared.mutable.MutRef.{MutRef}
@@ -12,9 +12,11 @@ use Rattle.thread_state.specs.declared.value.Value.TheVariants as value
 use Rattle.server_model.specs.Servers.{Cluster}
 use Rattle.server_model.specs.Places.{with_word}
 use Rattle.heap_law.specs.Names.{Among}
-use Rattle.heap_law.specs.Things.{Location, lies, things_of}
+use Rattle.heap_law.specs.Things.{Location, Thing, holds, shares, lies, flies, sent, things_of}
+use Rattle.server_msgs.specs.declared.message.Message.{Message}
+use Rattle.server_msgs.specs.declared.message.Message.TheVariants.{Drop}
 use Rattle.heap_law.specs.Follow.{Standing, value_in}
-use Rattle.heap_law.specs.Sight.{Pointer, pointers_in, sight}
+use Rattle.heap_law.specs.Sight.{location_of, sight}
 use Rattle.heap_law.specs.Words.{LeadsTo}
 use Rattle.heap_law.specs.Balances.{Agree, AtMostOne}
 use Rattle.heap_law.specs.Weights.{cells, owners, is_thread}
@@ -32,6 +34,18 @@ pub record Turn : Type 0 where
 
 abbrev pub turn_of : Standing → Turn
 turn_of x = record { number = x.thread.number; pc = x.thread.pc; taken = taken_word x.thread.phase }
+
+abbrev is_drop : Message → Bool
+is_drop (Drop w o) = true
+is_drop m = false
+
+-- what points to an object, or is one, and stands at no location
+abbrev pub is_loose : Thing → Bool
+is_loose (holds p v) = not (is_some (location_of p))
+is_loose (shares l r) = true
+is_loose (flies w c) = true
+is_loose (sent s m) = is_drop m
+is_loose x = false
 
 -- threads are told by their numbers, and each object has one cell and one owner
 pub record HasPlaces (k : Cluster) : Type 0 where
@@ -58,9 +72,9 @@ pub record Reworded (k z : Cluster) (h : Location) (o : ObjNo) (w : ℕ) : Type 
   pub elsewhere : (l : Location) → (l ≡ h → ⊥) → value_in (sight z).ground l ≡ value_in (sight k).ground l
   -- each thread is where it was, and has taken what it had taken
   pub turns : map turn_of (sight z).ground.threads ≡ map turn_of (sight k).ground.threads
-  -- the pointers that stand at no location are the same, but for the old word of the object where it was under way
-  pub unplaced : (p : Pointer) → Among p (pointers_in (things_of z)) → p.at ≡ None → Among p (pointers_in (things_of k))
-  pub remain : (p : Pointer) → Among p (pointers_in (things_of k)) → p.at ≡ None → (p.object ≡ o → ⊥) → Among p (pointers_in (things_of z))
+  -- what points outside of locations is the same, but for the object itself where it was under way
+  pub loose : (y : Thing) → Among y (things_of z) → is_loose y ≡ true → Among y (things_of k)
+  pub remain : (y : Thing) → Among y (things_of k) → is_loose y ≡ true → cells o y ≡ 0 → Among y (things_of z)
   -- the object lies at an address, to which the word leads, and each other object lies where it lay
   pub server : ℕ
   pub address : ℕ

@@ -7,6 +7,7 @@ use Rattle.heap_law.specs.Things.{Location}
 use Rattle.heap_law.specs.Follow.{Standing}
 use Rattle.heap_law.specs.Sight.{Sight, sight}
 use Rattle.heap_law.specs.Coherent.{Holds, first_at_holder}
+use Rattle.heap_law.specs.Dirty.{DirtyAlone}
 use Rattle.heap_law.specs.Words.{IsStale, HasWords}
 use Rattle.path_law.specs.HeapStore.{GoesOn, HasPaths}
 use Rattle.path_law.specs.Pointing.{MayWrite, LastHop}
@@ -18,10 +19,28 @@ pub record WordsAfter (s z : Sight) (o : ObjNo) (w : ℕ) (before : HasWords s) 
   pub new : after.word o ≡ w
   pub others : (p : ObjNo) → (p ≡ o → ⊥) → after.word p ≡ before.word p
 
--- a thread may write the place whose last star follows the pointer at h to the object, and that pointer isn't stale. Where it gets another word, the words go on
+-- a thread may write the place whose last star follows the pointer at h to the object, this pointer isn't stale, and it gets another word
+pub record Rewrites (k z : Cluster) (h : Location) (o : ObjNo) (w : ℕ) : Type 0 where
+  pub paths : HasPaths k
+  pub thread : Standing
+  pub place : Lval
+  pub goes : GoesOn k thread
+  pub may : MayWrite k paths.types thread place
+  pub hop : LastHop (sight k).ground thread.thread.number place h o
+  pub fresh : IsStale (sight k) (Some h) → ⊥
+  -- each reference knows the word at its holder
+  pub firsts : Holds k first_at_holder
+  pub places : HasPlaces z
+  pub reworded : Reworded k z h o w
+
+-- then the words go on
 abbrev pub WordsGoOn : Type 0
-WordsGoOn = (k z : Cluster) (c : HasPaths k) (x : Standing) (v : Lval) (h : Location) (o : ObjNo) (w : ℕ) → HasPlaces z → GoesOn k x → MayWrite k c.types x v → LastHop (sight k).ground x.thread.number v h o
-    → (IsStale (sight k) (Some h) → ⊥)
-    → Reworded k z h o w
-    → Holds k first_at_holder
-    → (before : HasWords (sight k)) → WordsAfter (sight k) (sight z) o w before
+WordsGoOn = (k z : Cluster) (h : Location) (o : ObjNo) (w : ℕ) → Rewrites k z h o w → (before : HasWords (sight k)) → WordsAfter (sight k) (sight z) o w before
+
+-- references know the words at their holders, since none was made from that pointer
+abbrev pub HoldersGoOn : Type 0
+HoldersGoOn = (k z : Cluster) (h : Location) (o : ObjNo) (w : ℕ) → Rewrites k z h o w → Holds z first_at_holder
+
+-- and dirty references are alone, as a reference with another word is clean
+abbrev pub DirtyGoOn : Type 0
+DirtyGoOn = (k z : Cluster) (h : Location) (o : ObjNo) (w : ℕ) → Rewrites k z h o w → DirtyAlone (sight k) → DirtyAlone (sight z)

@@ -1,18 +1,23 @@
 //! Laws of words.
 
 ghost use Rattle.word_law.specs.Example.{WordsApply};
-ghost use Rattle.word_law.specs.PutBack.{TintRewords};
-ghost use Rattle.word_law.specs.WordsAfter.{WordsGoOn};
+ghost use Rattle.word_law.specs.PutBack.{TintKeepsWords, TintRewords};
+ghost use Rattle.word_law.specs.WordsAfter.{DirtyGoOn, HoldersGoOn, WordsGoOn};
 
 /// Where the pointer that a thread may write through gets another word of its object, and the object lies where that leads, each object has a word as before:
-/// whoever else points to the object stands above that pointer, and is stale. In one coherent cluster all that is asked is there.
+/// whoever else points to the object stands above that pointer, and is stale. References know the words at their holders as before, and dirty references
+/// are alone. In one coherent cluster all that is asked is there.
 pub fn words_go_on()
     ensures words { WordsGoOn }
+    ensures holders { HoldersGoOn }
+    ensures dirty { DirtyGoOn }
     ensures applies { WordsApply }
 {}
 
 /// A tint is such a change: where the box or the mutable reference in a slot gets the next colour, the cluster with the thread put back is as it was but for
-/// that word.
+/// that word. So it leaves each object a word, where the thread may write through that pointer; that the next colour wasn't issued follows from the words of
+/// objects.
 pub fn small_steps_reword()
-    ensures { TintRewords }
+    ensures tints { TintRewords }
+    ensures words { TintKeepsWords }
 {}

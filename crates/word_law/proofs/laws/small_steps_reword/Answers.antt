@@ -1,5 +1,9 @@
 use Rattle.word_law.proofs.laws.small_steps_reword.Goals as goal
 use Rattle.word_law.proofs.Tints.{tint_rewords}
+use Rattle.word_law.proofs.TintWords.{tint_keeps_words}
 
-pub returns : goal.returns
-returns c = tint_rewords
+pub returns-clause-tints : goal.returns-clause-tints
+returns-clause-tints c = tint_rewords
+
+pub returns-clause-words : goal.returns-clause-words
+returns-clause-words c = tint_keeps_words

@@ -1,9 +1,16 @@
 use Rattle.word_law.proofs.laws.words_go_on.Goals as goal
 use Rattle.word_law.proofs.Words.{words_go_on}
+use Rattle.word_law.proofs.Beside.{holders_go_on, dirty_goes_on}
 use Rattle.word_law.proofs.Example.{words_apply}
 
 pub returns-clause-words : goal.returns-clause-words
 returns-clause-words c = words_go_on
+
+pub returns-clause-holders : goal.returns-clause-holders
+returns-clause-holders c = holders_go_on
+
+pub returns-clause-dirty : goal.returns-clause-dirty
+returns-clause-dirty c = dirty_goes_on
 
 pub returns-clause-applies : goal.returns-clause-applies
 returns-clause-applies c = words_apply

@@ -1,0 +1,91 @@
+-- The next colour of an object's word wasn't issued.
+use Rattle.std.proofs.Common.{◌≡◌, inl, inr, ℕ, ◌+◌, ◌≤◌, ◌==◌, ◌&&◌, ◌||◌, Bool, true, false, List, [], ◌∷◌, Some, refl, sym, ap, subst, ◌∙◌, arith}
+use Rattle.std.proofs.lemmas.Bool.Decides.{nat_tests}
+use Rattle.fr_base.specs.declared.name.ObjNo.{ObjNo}
+use Rattle.global_addr.specs.Words.{colour_of, server_of, address_of, next_word}
+use Rattle.heap_partition.specs.declared.value.Cell.{Cell}
+use Rattle.mut_borrow.specs.declared.mutable.MutRef.{MutRef}
+use Rattle.server_model.specs.Servers.{Cluster}
+use Rattle.heap_law.specs.Names.{Among, one, other}
+use Rattle.heap_law.specs.Things.{Location, Thing, borrows, lies, vacant, retired, things_of}
+use Rattle.heap_law.specs.Balances.{AtMostOne}
+use Rattle.heap_law.specs.Weights.{states}
+use Rattle.heap_law.specs.Sight.{Pointer, word_of_object, colour_up_to, is_spot, is_issued_at, is_issued, sight, issued}
+use Rattle.heap_law.specs.Placing.{words}
+use Rattle.heap_law.specs.Coherent.{Holds, are_issued}
+use Rattle.heap_law.specs.Words.{HasWords, LeadsTo}
+use Rattle.heap_law.proofs.Names.{and_left, and_right, same_number, right_none}
+use Rattle.heap_law.proofs.Words.{none_at, words_law}
+use Rattle.path_law.proofs.Shown.{none_else}
+use Rattle.path_law.proofs.InState.{only_one}
+use Rattle.word_law.specs.Reworded.{LiesThere}
+use Rattle.word_law.proofs.Tints.{next_leads}
+
+none_issued : (colours w : ℕ) (ps : List Pointer) (b : List Thing) → ((x : Thing) → Among x b → is_issued_at colours ps w x ≡ false) → is_issued colours ps b w ≡ false
+none_issued colours w ps [] f = refl
+none_issued colours w ps (x ∷ b) f = ap (λ q. q || is_issued colours ps b w) (f x (inl refl)) ∙ none_issued colours w ps b (λ y h. f y (inr h))
+
+same_spot : (r a s d : ℕ) → s ≡ r → d ≡ a → 1 ≤ one (s == r && d == a)
+same_spot r a s d e f =
+    let x : (s == r) ≡ true = grind (arith, nat_tests, e) in
+    let y : (d == a) ≡ true = grind (arith, nat_tests, f) in
+    rw x (rw y (omega arith))
+
+-- the next colour is later
+later_colour : (w : ℕ) → colour_up_to (Some w) (next_word w) ≡ false
+later_colour w =
+    let l : colour_of (next_word w) ≡ colour_of w + 1 = omega arith in
+    grind (arith, nat_tests, l)
+
+lies_same : (r a s d : ℕ) (c e : Cell) → lies r a c ≡ lies s d e → c ≡ e
+lies_same r a s d c e f = cc
+
+module _ (k : Cluster) (b : HasWords (sight k)) (states_differ : AtMostOne states (things_of k)) where
+  module _ (r a : ℕ) (o : ObjNo) (there : LiesThere k r a o) where
+    abbrev w : ℕ
+    w = next_word (b.word o)
+
+    leads : LeadsTo r a w
+    leads = next_leads r a (b.word o) (subst (λ q. LeadsTo r a (b.word q)) there.object (b.home r a there.cell there.among))
+
+    told : word_of_object (sight k).pointers o ≡ Some (b.word o)
+    told = words_law.first_tells k b o (subst (λ q. Rattle.heap_law.specs.Words.Fresh (sight k) q) there.object (b.live r a there.cell there.among))
+
+    -- what has a state at that address is the object's cell
+    its_cell : (x : Thing) → Among x (things_of k) → 1 ≤ states (r, a) x → lies r a there.cell ≡ x
+    its_cell x h l = only_one (states (r, a)) (lies r a there.cell) x (things_of k) (states_differ (r, a)) there.among h (same_spot r a r a refl refl) l
+
+    spot_is : (s d : ℕ) → is_spot s d w ≡ true → (s ≡ r) × (d ≡ a)
+    spot_is s d e =
+        (sym (same_number (server_of w) s (and_left (server_of w == s) (address_of w == d) e)) ∙ leads.server, sym (same_number (address_of w) d (and_right (server_of w == s) (address_of w == d) e)) ∙ leads.address)
+
+    not_issued : (x : Thing) → Among x (things_of k) → is_issued_at (sight k).options.colours (sight k).pointers w x ≡ false
+    not_issued (lies s d c) h = by (is_spot s d w) refl
+      where
+        by : (q : Bool) → is_spot s d w ≡ q → (q && colour_up_to (word_of_object (sight k).pointers c.object) w) ≡ false
+        by false e = refl
+        by true e =
+            let p = spot_is s d e in
+            let same : there.cell ≡ c = lies_same r a s d there.cell c (its_cell (lies s d c) h (same_spot r a s d p.0 p.1)) in
+            let object : c.object ≡ o = sym (ap (λ (y : Cell). y.object) same) ∙ there.object in
+            ap (λ q. colour_up_to (word_of_object (sight k).pointers q) w) object ∙ ap (λ q. colour_up_to q w) told ∙ later_colour (b.word o)
+    not_issued (vacant s d n) h = by (is_spot s d w) refl
+      where
+        by : (q : Bool) → is_spot s d w ≡ q → (q && Rattle.std.specs.Prelude.nat_lt (colour_of w) n) ≡ false
+        by false e = refl
+        by true e = let p = spot_is s d e in let same = its_cell (vacant s d n) h (same_spot r a s d p.0 p.1) in absurd cc
+    not_issued (retired s d) h = by (is_spot s d w) refl
+      where
+        by : (q : Bool) → is_spot s d w ≡ q → (q && Rattle.std.specs.Prelude.nat_lt (colour_of w) (sight k).options.colours) ≡ false
+        by false e = refl
+        by true e = let p = spot_is s d e in let same = its_cell (retired s d) h (same_spot r a s d p.0 p.1) in absurd cc
+    not_issued _ h = refl
+
+    pub is_new : issued (sight k) w ≡ false
+    is_new = none_issued (sight k).options.colours w (sight k).pointers (things_of k) not_issued
+
+  -- a reference's first word was issued
+  pub first_issued : (l : Location) (q : MutRef) → Holds k are_issued → Among (borrows l q) (things_of k) → issued (sight k) q.first ≡ true
+  first_issued l q all h =
+      let both : other (issued (sight k) q.word) + other (issued (sight k) q.first) ≡ 0 = none_at (words (λ v. other (issued (sight k) v))) (borrows l q) (things_of k) all h in
+      none_else (issued (sight k) q.first) (right_none (other (issued (sight k) q.word)) (other (issued (sight k) q.first)) both)

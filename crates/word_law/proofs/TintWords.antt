@@ -1,0 +1,75 @@
+-- A tint of what stands in a slot leaves each object a word.
+use Rattle.std.proofs.Common.{◌≡◌, ◌≢◌, inl, ⊎_elim, ℕ, true, false, Some, refl, sym, ap, subst, ◌∙◌}
+use Rattle.global_addr.specs.Words.{next_word}
+use Rattle.heap_partition.specs.declared.value.BoxPtr.{BoxPtr}
+use Rattle.heap_partition.specs.declared.value.Owned.TheVariants as owned
+use Rattle.mut_borrow.specs.declared.mutable.MutRef.{MutRef}
+use Rattle.thread_state.specs.declared.value.Value.{Value}
+use Rattle.thread_state.specs.declared.value.Value.TheVariants as value
+use Rattle.server_model.specs.Servers.{Cluster}
+use Rattle.server_model.specs.Places.{pointer_of, with_word}
+use Rattle.heap_law.specs.Names.{Among}
+use Rattle.heap_law.specs.Things.{Location, at_slot, borrows, things_of}
+use Rattle.heap_law.specs.Follow.{Standing, slot_of, value_in}
+use Rattle.heap_law.specs.Sight.{pointers_in, taken_pointers, sight, issued}
+use Rattle.heap_law.specs.Words.{all_pointers, IsStale, LeadsTo}
+use Rattle.path_law.proofs.Sole.{some_is}
+use Rattle.path_law.proofs.Shown.{stands_there}
+use Rattle.path_law.proofs.Origins.{among_first}
+use Rattle.word_law.specs.Reworded.{HasPlaces}
+use Rattle.word_law.specs.WordsAfter.{Rewrites}
+use Rattle.word_law.specs.PutBack.{put_in, standing_of, LeadsHome, TintKeepsWords}
+use Rattle.word_law.proofs.GoOn.{pointer_to}
+use Rattle.word_law.proofs.Standing.{pointer_at, told, slot_among}
+use Rattle.word_law.proofs.Words.{words_go_on}
+use Rattle.word_law.proofs.NewWord.{is_new, first_issued}
+use Rattle.word_law.proofs.Tints.{slot_put, tint_rewords}
+
+-- a value that may get another word is its pointer
+pointer_is : (w : ℕ) (v new : Value) (p : BoxPtr) (l : Location) → with_word w v ≡ Some new → pointer_of v ≡ Some p → Among (pointer_to l p.word p.object) (pointer_at l v)
+pointer_is w (value.Own (owned.Box b)) new p l e f = inl (ap (λ (q : BoxPtr). pointer_to l q.word q.object) (some_is f))
+pointer_is w (value.Mut r) new p l e f = inl (ap (λ (q : BoxPtr). pointer_to l q.word q.object) (some_is f))
+pointer_is w _ new p l e f = absurd cc
+
+pub tint_keeps_words : TintKeepsWords
+tint_keeps_words k n ts e h h2 i v p w here at points put c d g may hop fresh issued_all firsts states_differ before r a there =
+    words_go_on kh (put_in k n ts e h2) l p.object (next_word p.word) rewrites before
+  where
+    kh : Cluster
+    kh = put_in k n ts e h
+
+    x : Standing
+    x = standing_of n h
+
+    l : Location
+    l = at_slot h.thread.number i
+
+    places : HasPlaces kh
+    places = record { numbers_differ = c.numbers_differ; home_of_each = c.home_of_each; owner_of_each = c.owner_of_each }
+
+    stands : value_in (sight kh).ground l ≡ Some v
+    stands = ap (λ o. slot_of o i) (stands_there kh c x g) ∙ at
+
+    pointer : Among (pointer_to l p.word p.object) (all_pointers (sight kh))
+    pointer =
+        let q = slot_put h h2 i v p at put in
+        among_first (pointer_to l p.word p.object) (pointers_in (things_of kh)) (taken_pointers (sight kh).code (sight kh).ground (sight kh).ground.threads)
+        (told kh l v (pointer_to l p.word p.object) stands (pointer_is (next_word p.word) v q.new p l q.worded points))
+
+    its_word : p.word ≡ before.word p.object
+    its_word = ⊎_elim (λ (s : IsStale (sight kh) (Some l)). absurd (fresh s)) (λ (q : p.word ≡ before.word p.object). q) (before.same (pointer_to l p.word p.object) pointer)
+
+    home : LeadsHome kh p
+    home = record { server = r; address = a; lying = there; leads = λ m y z q f. subst (λ j. LeadsTo m y j) (ap before.word f ∙ sym its_word) (before.home m y z q) }
+
+    new_word : (q : MutRef) → v ≡ value.Mut q → next_word p.word ≢ q.first
+    new_word q f s =
+        let among : Among (borrows l q) (things_of kh) = slot_among kh h.thread.number i (value.Mut q) (stands ∙ ap Some f) (borrows l q) (λ m. inl refl) in
+        let was : issued (sight kh) q.first ≡ true = first_issued kh before states_differ l q issued_all among in
+        let isnt : issued (sight kh) (next_word (before.word p.object)) ≡ false = is_new kh before states_differ r a p.object there in
+        let same : q.first ≡ next_word (before.word p.object) = sym s ∙ ap next_word its_word in
+        let z : true ≡ false = sym was ∙ ap (issued (sight kh)) same ∙ isnt in
+        absurd cc
+
+    rewrites : Rewrites kh (put_in k n ts e h2) l p.object (next_word p.word)
+    rewrites = record { paths = c; thread = x; place = w; goes = g; may = may; hop = hop; fresh = fresh; firsts = firsts; places = d; reworded = tint_rewords k n ts e h h2 i v p here at points put places d home new_word }
