@@ -25,7 +25,7 @@ mutex h c = record { home = h; count = c }
 pub mutex_is : (m : MutexNo) (h c : ℕ) → m.home ≡ h → m.count ≡ c → mutex h c ≡ m
 mutex_is m h c e f = ap (λ n. mutex n c) (sym e) ∙ ap (mutex m.home) (sym f)
 
-suc_le_zero : (n : ℕ) → nat_le (suc n) 0 ≡ false
+pub suc_le_zero : (n : ℕ) → nat_le (suc n) 0 ≡ false
 suc_le_zero n = grind (arith, nat_tests)
 
 none_left : (c : Bool) → some (one (c && false) + 0) ≡ false

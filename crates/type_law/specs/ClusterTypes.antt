@@ -143,11 +143,11 @@ abbrev unseen : Sight → ℕ → Piece → Value → ℕ
 unseen s t (whole (view o)) (value.Shared r) = other (some (sum_threads s (parent_sees t r.object)))
 unseen s t p v = 0
 
-abbrev unseen_slots : Sight → ℕ → List Slot → List Value → ℕ
+abbrev pub unseen_slots : Sight → ℕ → List Slot → List Value → ℕ
 unseen_slots s t (x ∷ e) (v ∷ vs) = unseen s t x.part v + unseen_slots s t e vs
 unseen_slots s t e vs = 0
 
-abbrev unseen_temps : Sight → ℕ → List Kind → List Value → ℕ
+abbrev pub unseen_temps : Sight → ℕ → List Kind → List Value → ℕ
 unseen_temps s t (k ∷ ks) (v ∷ vs) = unseen s t (whole k) v + unseen_temps s t ks vs
 unseen_temps s t ks vs = 0
 
@@ -158,7 +158,7 @@ views_wrong table s =
 
 -- RESULTS OF THREADS
 
-abbrev gives_other : NameTypes → ℕ → Entry → ℕ
+abbrev pub gives_other : NameTypes → ℕ → Entry → ℕ
 gives_other n t x = other (same_owned x.gives (n.result t))
 
 -- the code of each thread, over or not, ends with the type that its task has

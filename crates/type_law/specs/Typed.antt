@@ -1,10 +1,14 @@
--- Clusters that have types: the start of a code, and its run after two events.
-use Rattle.std.specs.Prelude.{◌≡◌, [], ◌∷◌, Option, Some, None}
+-- Clusters that have types: the start of each code that has a table, and the run of a code after two events.
+use Rattle.std.specs.Prelude.{◌≡◌, ◌≤◌, List, [], ◌∷◌, Option, Some, None}
+use Rattle.fr_base.specs.declared.instruction.Instr.{Instr}
+use Rattle.fr_base.specs.declared.settings.Options.{Options}
 use Rattle.global_addr.specs.Words.{word_of}
 use Rattle.thread_state.specs.View.{ThreadState, new_thread}
 use Rattle.thread_state.specs.declared.value.Value.TheVariants as value
 use Rattle.server_model.specs.Servers.{Server, Cluster, start_of}
 use Rattle.server_model.specs.Figures.{Ran, run, steps_of}
+use Rattle.fr_code.specs.CodeTypes.{Table}
+use Rattle.fr_code.specs.CodeTable.{IsTable}
 use Rattle.heap_law.specs.Clusters.{boxed_code, options, cell, int, box}
 use Rattle.type_law.specs.ClusterTypes.{Types}
 
@@ -34,6 +38,10 @@ boxed_cluster = record { code = boxed_code; options = options 1; servers = boxed
 abbrev pub cluster_of : Option Ran → Option Cluster
 cluster_of None = None
 cluster_of (Some r) = Some r.cluster
+
+-- the start of a code that has a table, whatever the options and however many servers
+abbrev pub StartHasTypes : Type 0
+StartHasTypes = (code : List Instr) (table : Table) (o : Options) → IsTable code table → 1 ≤ o.servers → Types (start_of code o)
 
 pub record TypesCompute : Type 0 where
   pub starts : Types (start_of boxed_code (options 1))

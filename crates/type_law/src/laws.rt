@@ -8,7 +8,7 @@ ghost use Rattle.type_law.specs.Locking.{LockHasTypes};
 ghost use Rattle.type_law.specs.Owning.{NoneOwnsItself};
 ghost use Rattle.type_law.specs.Paired.{PairHasTypes};
 ghost use Rattle.type_law.specs.Tables.{TablesCompute};
-ghost use Rattle.type_law.specs.Typed.{TypesCompute};
+ghost use Rattle.type_law.specs.Typed.{StartHasTypes, TypesCompute};
 ghost use Rattle.type_law.specs.Whole.{CoherentCompute};
 
 /// The tables of four small codes, with all kinds of captures, a lock, a task and references, and a code that reads what has moved away,
@@ -16,6 +16,11 @@ ghost use Rattle.type_law.specs.Whole.{CoherentCompute};
 pub fn codes_are_typed()
     ensures small { CodesCompute }
     ensures tables { TablesCompute }
+{}
+
+/// The start of each code that has a table has types, whatever the options, with one server or more.
+pub fn starts_have_types()
+    ensures { StartHasTypes }
 {}
 
 /// Clusters that have types: the start of a code, its run after two events, a parent that waits beside two branches with views,
