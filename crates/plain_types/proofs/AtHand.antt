@@ -1,6 +1,6 @@
 -- The value at hand changes, and neither the old one nor the new one owns or counts: constants, copies, borrows, and what they end as.
 use Rattle.std.proofs.Common.{◌≡◌, ◌≢◌, ◌⊎◌, inl, inr, ⊎_elim, ◌∙◌, ℕ, ◌≤◌, Bool, true, false, List, length, Option, Some, None, refl, sym, ap, subst, arith}
-use Rattle.std.specs.Prelude.{is_some, if◌then◌else◌}
+use Rattle.std.specs.Prelude.{if◌then◌else◌}
 use Rattle.fr_base.specs.declared.name.ObjNo.{ObjNo}
 use Rattle.fr_base.specs.declared.name.MutexNo.{MutexNo}
 use Rattle.fr_typing.specs.Kinds.{Owned, Kind}
@@ -24,7 +24,7 @@ use Rattle.fr_sound.specs.States.{Typing, key_val, slot_val, temp_val, result_va
 use Rattle.fr_code.specs.CodeTypes.{wait}
 use Rattle.plain_types.specs.Positions.{Position, Knows, temps_of, PositionTypes}
 use Rattle.plain_types.proofs.Lower.{seen_as, seen_is, below_object}
-use Rattle.plain_types.proofs.OneThread.{store, typing_with, Counted, Carried, with_running, RunningCore, Changes, runs_still}
+use Rattle.plain_types.proofs.OneThread.{store, typing_with, Counted, Carried, with_running, RunningCore, Changes, runs_still, no_branches}
 use Rattle.plain_types.proofs.Changed.{changed_typed}
 use Rattle.plain_types.proofs.Focus.{Tops, hand_at, Focus, unfocus, temp_is, temp_free}
 
@@ -173,11 +173,7 @@ hand_changed y a a2 t x x2 e ts us ts2 o o2 g E2 v st runs at fc only objects sl
     entry_is = sym mine.known ∙ at
 
     alone : a.pair t ≡ None
-    alone = by (a.pair t) (sym (ap (λ (z : Entry). z.forked) entry_is) ∙ mine.forks)
-      where
-        by : (p : Option (ℕ × ℕ)) → false ≡ is_some p → p ≡ None
-        by None f = refl
-        by (Some q) f = cc
+    alone = no_branches (a.pair t) (sym (ap (λ (z : Entry). z.forked) entry_is) ∙ mine.forks)
 
     hand_free : Unnamed y.exact (hand_at t us)
     hand_free = temp_free y a t (length us) st

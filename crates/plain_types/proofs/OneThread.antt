@@ -107,6 +107,11 @@ with_lower y a t x typed near pairs is c =
       marked = c.marked;
     }
 
+-- where nothing branches no pair is waited for
+pub no_branches : (p : Option (ℕ × ℕ)) → false ≡ is_some p → p ≡ None
+no_branches None f = refl
+no_branches (Some q) f = cc
+
 -- KEYS OF A THREAD
 
 pub same_by : (u t : ℕ) → (u == t) ≡ true → u ≡ t

@@ -1,6 +1,5 @@
 -- Slots and the value at hand change, and each counted value stands again.
-use Rattle.std.proofs.Common.{◌≡◌, ◌≢◌, ◌⊎◌, inl, inr, ⊎_elim, ◌∙◌, ℕ, suc, ◌≤◌, Bool, true, false, List, length, Option, Some, None, refl, sym, ap, subst, arith}
-use Rattle.std.specs.Prelude.{is_some}
+use Rattle.std.proofs.Common.{◌≡◌, ◌≢◌, ◌⊎◌, inl, inr, ⊎_elim, ◌∙◌, ℕ, suc, ◌≤◌, Bool, true, List, length, Option, Some, None, refl, sym, ap, subst, arith}
 use Rattle.fr_base.specs.declared.name.ObjNo.{ObjNo}
 use Rattle.fr_base.specs.declared.name.MutexNo.{MutexNo}
 use Rattle.fr_base.specs.declared.label.Plain.{Plain}
@@ -23,7 +22,7 @@ use Rattle.fr_sound.specs.States.{Typing, slot_val, temp_val, result_val, conten
 use Rattle.fr_code.specs.CodeTypes.{wait}
 use Rattle.plain_types.specs.Positions.{Position, Knows, temps_of, PositionTypes}
 use Rattle.plain_types.proofs.Lower.{seen_as, seen_is}
-use Rattle.plain_types.proofs.OneThread.{store, typing_with, Carried, RunningCore, Changes, runs_still}
+use Rattle.plain_types.proofs.OneThread.{store, typing_with, Carried, RunningCore, Changes, runs_still, no_branches}
 use Rattle.plain_types.proofs.Changed.{changed_typed}
 use Rattle.plain_types.proofs.Focus.{Tops, hand_at, Focus, unfocus, temp_is}
 use Rattle.plain_types.proofs.AtHand.{Only, result_same}
@@ -155,11 +154,7 @@ slots_changed {y = y} {a = a} {a2 = a2} {t = t} {x = x} {x2 = x2} {e = e} {e2 = 
     entry_is = sym mine.known ∙ h.entry
 
     alone : a.pair t ≡ None
-    alone = by (a.pair t) (sym (ap (λ (z : Entry). z.forked) entry_is) ∙ mine.forks)
-      where
-        by : (p : Option (ℕ × ℕ)) → false ≡ is_some p → p ≡ None
-        by None f = refl
-        by (Some q) f = cc
+    alone = no_branches (a.pair t) (sym (ap (λ (z : Entry). z.forked) entry_is) ∙ mine.forks)
 
     -- what a reference names was named before
     named : (j : Key) (m : Bool) (u : Place) → E2 j ≡ refers m u → (i : Key) × (y.exact i ≡ refers m u)

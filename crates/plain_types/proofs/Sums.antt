@@ -1,6 +1,5 @@
 -- A change of a thread's slots and temporary values where objects and mutexes may come and go: what is counted is told sum by sum.
 use Rattle.std.proofs.Common.{◌≡◌, ◌≢◌, ◌⊎◌, inl, inr, ⊎_elim, ◌∙◌, ℕ, ◌<◌, Bool, true, false, List, length, Option, Some, None, refl, sym, ap, subst}
-use Rattle.std.specs.Prelude.{is_some}
 use Rattle.fr_base.specs.declared.name.ObjNo.{ObjNo}
 use Rattle.fr_base.specs.declared.name.MutexNo.{MutexNo}
 use Rattle.fr_base.specs.declared.label.Plain.{Plain}
@@ -21,7 +20,7 @@ use Rattle.fr_sound.specs.States.{Typing, slot_val, temp_val, result_val, conten
 use Rattle.fr_code.specs.CodeTypes.{wait}
 use Rattle.plain_types.specs.Positions.{Position, Knows, temps_of, PositionTypes}
 use Rattle.plain_types.proofs.Lower.{seen_as, seen_is}
-use Rattle.plain_types.proofs.OneThread.{store, typing_with, with_running, RunningCore, touched, Turn, runs_still}
+use Rattle.plain_types.proofs.OneThread.{store, typing_with, with_running, RunningCore, touched, Turn, runs_still, no_branches}
 use Rattle.plain_types.proofs.Turned.{touched_own, turn_typed}
 use Rattle.plain_types.proofs.Focus.{Tops, hand_at, Focus, unfocus, temp_is}
 use Rattle.plain_types.proofs.AtHand.{result_same}
@@ -124,11 +123,7 @@ turned {y = y} {a = a} {a2 = a2} {t = t} {x = x} {x2 = x2} {e = e} {e2 = e2} {ts
     entry_is = sym mine.known ∙ h.entry
 
     alone : a.pair t ≡ None
-    alone = by (a.pair t) (sym (ap (λ (z : Entry). z.forked) entry_is) ∙ mine.forks)
-      where
-        by : (p : Option (ℕ × ℕ)) → false ≡ is_some p → p ≡ None
-        by None f = refl
-        by (Some q) f = cc
+    alone = no_branches (a.pair t) (sym (ap (λ (z : Entry). z.forked) entry_is) ∙ mine.forks)
 
     temps_free : (n : ℕ) → Unnamed E2 (temp_k t n)
     temps_free n j m u is f = by (c.named j m u is)

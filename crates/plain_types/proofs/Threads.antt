@@ -19,18 +19,13 @@ use Rattle.fr_sound.specs.States.{IsMark}
 use Rattle.plain_types.specs.Keeps.{GoesOn, is_main, is_owed, is_loose}
 use Rattle.plain_types.proofs.AtHand.{Only}
 use Rattle.plain_types.specs.Positions.{Position}
-use Rattle.plain_types.proofs.OneThread.{with_running}
+use Rattle.plain_types.proofs.OneThread.{with_running, no_branches}
 use Rattle.plain_types.proofs.Hand.{At}
-use Rattle.std.specs.Prelude.{is_some}
 use Rattle.fr_plain.specs.MachineThreads.{is_over}
 
 -- a thread at an entry where nothing branches waits for no pair
 pub no_pair : {y : Typing} {a : PlainState Position} {t : ℕ} {x : Running Position} {e : Env} {ts : List Kind} {g : Owned} → At y a t x e ts g → a.pair t ≡ None
-no_pair {a = a} {t = t} {x = x} h = let r = h.state.threads t x h.runs in by (a.pair t) (sym (ap (λ (z : Entry). z.forked) (sym r.known ∙ h.entry)) ∙ r.forks)
-  where
-    by : (p : Option (ℕ × ℕ)) → false ≡ is_some p → p ≡ None
-    by None f = refl
-    by (Some q) f = cc
+no_pair {a = a} {t = t} {x = x} h = let r = h.state.threads t x h.runs in no_branches (a.pair t) (sym (ap (λ (z : Entry). z.forked) (sym r.known ∙ h.entry)) ∙ r.forks)
 
 -- a thread that goes on isn't over
 pub goes_by : (o : Option (Thread Position)) (w : Running Position) → place_in (running_in o) ≡ Some w → is_over_in o ≡ false

@@ -1,5 +1,5 @@
 -- A change of some threads, where what is counted is told sum by sum, leaves a typed state.
-use Rattle.std.proofs.Common.{◌≡◌, ◌≢◌, ◌⊎◌, inl, inr, ◌∙◌, ℕ, ◌<◌, Bool, true, false, List, [], ◌∷◌, length, Option, Some, None, refl, sym, ap}
+use Rattle.std.proofs.Common.{◌≡◌, ◌≢◌, ◌⊎◌, inl, inr, ◌∙◌, ℕ, ◌<◌, Bool, true, false, List, [], ◌∷◌, length, Option, Some, None, sym, ap}
 use Rattle.std.specs.Prelude.{is_some}
 use Rattle.fr_base.specs.declared.label.Plain.{Plain}
 use Rattle.fr_base.specs.declared.name.ObjNo.{ObjNo}
@@ -19,7 +19,7 @@ use Rattle.fr_plain.specs.PlainState.{Running, PlainState, place_in}
 use Rattle.fr_sound.specs.Seen.{OneTask}
 use Rattle.fr_sound.specs.States.{Typing, RunningTyped, IsThread, hand_key, hand_kind, IsLock, WaitsFor, WaitsAbove, directly, through, IsNear, IsBranch, thread_of_key, IsShare, MutexTyped, IsOwed}
 use Rattle.plain_types.specs.Positions.{Position, Knows, temps_of, PositionTypes}
-use Rattle.plain_types.proofs.OneThread.{store, typing_with, RunningCore, with_lower, by_bool, has_pair}
+use Rattle.plain_types.proofs.OneThread.{store, typing_with, RunningCore, with_lower, by_bool, has_pair, no_branches}
 
 -- the keys that a change of these threads may touch: theirs, and those of contents and results
 abbrev pub theirs : (ℕ → Bool) → Key → Bool
@@ -106,11 +106,7 @@ module _ {y : Typing} {a a2 : PlainState Position} {T : ℕ → Bool} {E2 : KeyT
   thread_other u ne true ts e k forks h = sleep_row (slot_k u) y.rank (hand_key u ts) e y.exact E2 k (theirs T) h c.same (λ i. ne) (hand_other u ts ne) (λ j m v z is. not_hand u ts j m v is) c.nobody
   thread_other u ne false ts e k forks h =
       other_row (slot_k u) y.rank (hand_key u ts) e y.exact E2 (store y a) s2 k (theirs T) h c.typed c.same (λ i. ne) (hand_other u ts ne)
-      (λ j m v z is. (fresh u ne (alone (a2.pair u) forks) j m v z is, not_hand u ts j m v is)) c.nobody
-    where
-      alone : (p : Option (ℕ × ℕ)) → false ≡ is_some p → p ≡ None
-      alone None f = refl
-      alone (Some q) f = cc
+      (λ j m v z is. (fresh u ne (no_branches (a2.pair u) forks) j m v z is, not_hand u ts j m v is)) c.nobody
 
   lock_other : (u i : ℕ) (m : MutexNo) (w : Running Position) (e : Env) → T u ≡ false → place_in (a.thread u) ≡ Some w → slot_at w.slots i ≡ Some (Held m) → IsLock y (store y a) e u i m → IsLock y2 s2 e u i m
   lock_other u i m w e ne runs h l = record {
