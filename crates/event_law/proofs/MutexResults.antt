@@ -49,11 +49,11 @@ if_true false m e = absurd (cc e)
 
 -- a weight of the mutexes of that number, and the same at server n
 module _ (m : MutexNo) (n : ℕ) (h : Mutex → ℕ) where
-  abbrev weighed : Thing → ℕ
+  abbrev pub weighed : Thing → ℕ
   weighed (at_home r x) = if_so (same_mutex x.number m) (h x)
   weighed x = 0
 
-  abbrev here : Thing → ℕ
+  abbrev pub here : Thing → ℕ
   here (at_home r x) = if_so (r == n) (if_so (same_mutex x.number m) (h x))
   here x = 0
 
@@ -94,7 +94,7 @@ module _ (m : MutexNo) (n : ℕ) (h : Mutex → ℕ) where
         none_at here r (unseen r) leaving_things (λ i x. message_none x.target x.message) 0 s.rest.outbox,
       )
 
-  no_server : (s : Server) → (s.rest.number == n) ≡ false → tot here (server_things s) ≡ 0
+  pub no_server : (s : Server) → (s.rest.number == n) ≡ false → tot here (server_things s) ≡ 0
   no_server s e =
       let r = s.rest.number in
       omega (arith, mutexes_alone s, none_at here r (unseen r) (mutex_things r) (λ i x. omega (arith, mutex_seen r i x, if_false (r == n) (if_so (same_mutex x.number m) (h x)) e)) 0 s.rest.mutexes.there)
@@ -116,7 +116,7 @@ module _ (m : MutexNo) (n : ℕ) (h : Mutex → ℕ) where
       by false e = eq_cases (λ c. 0 ≡ if_so c 0) r n (λ d. refl) (λ ne. refl)
   at_its_home home _ z = refl
 
-  all_at_home : m.home ≡ n → (b : List Thing) → tot elsewhere b ≡ 0 → tot weighed b ≡ tot here b
+  pub all_at_home : m.home ≡ n → (b : List Thing) → tot elsewhere b ≡ 0 → tot weighed b ≡ tot here b
   all_at_home home [] z = refl
   all_at_home home (x ∷ b) z = omega (arith, at_its_home home x (omega (arith, z)), all_at_home home b (omega (arith, z)))
 

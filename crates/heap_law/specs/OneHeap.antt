@@ -52,25 +52,25 @@ pub data Owner : Type 0 where
   inside : Node → Owner
   outside : Owner
 
-abbrev content_owner : Option MutexNo → Owner
+abbrev pub content_owner : Option MutexNo → Owner
 content_owner None = outside
 content_owner (Some m) = inside (mutex_n m)
 
-abbrev result_owner : Option ℕ → Owner
+abbrev pub result_owner : Option ℕ → Owner
 result_owner None = outside
 result_owner (Some t) = inside (task_n t)
 
 -- a gift is still the mutex's content, or the other thread's result; a share that a dup was answered isn't in the state yet
-abbrev gift_owner : Sight → Standing → Option Instr → Owner
+abbrev pub gift_owner : Sight → Standing → Option Instr → Owner
 gift_owner s x (Some (instr.Lock w)) = content_owner (locked_mutex s x (Some (instr.Lock w)))
 gift_owner s x (Some (instr.Join o)) = result_owner (joined_thread (Some (instr.Join o)) x.thread)
 gift_owner s x i = outside
 
-abbrev gift_owner_of : Sight → Option Standing → Owner
+abbrev pub gift_owner_of : Sight → Option Standing → Owner
 gift_owner_of s None = outside
 gift_owner_of s (Some x) = gift_owner s x (instr_of s x)
 
-abbrev spot_owner : Sight → Spot → Owner
+abbrev pub spot_owner : Sight → Spot → Owner
 spot_owner s (in_slot t i) = a_thread
 spot_owner s (in_temp t i) = a_thread
 spot_owner s (as_gift t) = gift_owner_of s (thread_at s.ground.threads t)
@@ -151,29 +151,29 @@ object_value s o = if_in (is_in_state s (object_n o)) (first_shown (cell_value o
 
 -- MUTEXES
 
-abbrev is_gift_of : Sight → MutexNo → Option Standing → Bool
+abbrev pub is_gift_of : Sight → MutexNo → Option Standing → Bool
 is_gift_of s m None = false
 is_gift_of s m (Some x) = some (gift_content s m x)
 
-abbrev is_content : Sight → MutexNo → Spot → Bool
+abbrev pub is_content : Sight → MutexNo → Spot → Bool
 is_content s m (as_content n) = same_mutex n m
 is_content s m (as_gift t) = is_gift_of s m (thread_at s.ground.threads t)
 is_content s m p = false
 
 -- the content, at its home, in a message or a gift; it is out where it stands in a holder's slot
-abbrev content_value : Sight → MutexNo → Thing → Option Plain
+abbrev pub content_value : Sight → MutexNo → Thing → Option Plain
 content_value s m (holds p v) = if_in (is_content s m p) (Some (plain_of v))
 content_value s m x = None
 
 -- a value of the mutex that is in the state
-abbrev share_in : Sight → MutexNo → Thing → ℕ
+abbrev pub share_in : Sight → MutexNo → Thing → ℕ
 share_in s m x = if_so (names (mutex_n m) x) (one (value_is_in s x))
 
-abbrev if_there : Bool → Shared → Option Shared
+abbrev pub if_there : Bool → Shared → Option Shared
 if_there true m = Some m
 if_there false m = None
 
-abbrev mutex_state : Sight → MutexNo → Option Shared
+abbrev pub mutex_state : Sight → MutexNo → Option Shared
 mutex_state s m =
     if_there (is_in_state s (mutex_n m)) (record { content = first_shown (content_value s m) s.things; shares = tot (share_in s m) s.things })
 
@@ -192,15 +192,15 @@ plain_value (value.Mut r) = ToObject r.object
 plain_value (value.Held m) = Held m
 
 -- a branch of a pair: its home has noted it, until the parent is at the end of its par
-abbrev pair_note : TaskState → ℕ
+abbrev pub pair_note : TaskState → ℕ
 pair_note (in_pair p is_done) = 1
 pair_note x = 0
 
-abbrev pair_over : TaskState → Option Plain
+abbrev pub pair_over : TaskState → Option Plain
 pair_over (in_pair p true) = Some plain.Unit
 pair_over x = None
 
-abbrev in_pair_of : ℕ → Thing → ℕ
+abbrev pub in_pair_of : ℕ → Thing → ℕ
 in_pair_of t (noted r x) = if_so (x.thread == t) (pair_note x.state)
 in_pair_of t x = 0
 
@@ -208,26 +208,26 @@ abbrev pub is_branch : Sight → ℕ → Bool
 is_branch s t = some (tot (in_pair_of t) s.things)
 
 -- the result of a branch that is over, until its par is done
-abbrev branch_result : ℕ → Thing → Option Plain
+abbrev pub branch_result : ℕ → Thing → Option Plain
 branch_result t (noted r x) = if x.thread == t then pair_over x.state else None
 branch_result t (stands r p x) = if_in (some (got_phase t x.phase)) (Some plain.Unit)
 branch_result t x = None
 
-abbrev is_joined_by : Sight → ℕ → Option Standing → Bool
+abbrev pub is_joined_by : Sight → ℕ → Option Standing → Bool
 is_joined_by s t None = false
 is_joined_by s t (Some x) = some (gift_result s t x)
 
-abbrev is_result : Sight → ℕ → Spot → Bool
+abbrev pub is_result : Sight → ℕ → Spot → Bool
 is_result s t (as_result u) = u == t
 is_result s t (as_gift u) = is_joined_by s t (thread_at s.ground.threads u)
 is_result s t p = false
 
-abbrev result_value : Sight → ℕ → Thing → Option Plain
+abbrev pub result_value : Sight → ℕ → Thing → Option Plain
 result_value s t (holds p v) = if_in (is_result s t p) (Some (plain_of v))
 result_value s t x = None
 
 -- a result is its thread's until the join is done, where the thread wasn't let go
-abbrev result_of : Sight → ℕ → Option Plain
+abbrev pub result_of : Sight → ℕ → Option Plain
 result_of s t = or_else (first_shown (branch_result t) s.things) (if_in (is_branch s t || is_in_state s (task_n t)) (first_shown (result_value s t) s.things))
 
 abbrev pub ended_with : Option Plain → PlainLife
@@ -254,7 +254,7 @@ abbrev pub life_at : Sight → ℕ → Option Standing → PlainLife
 life_at s t None = ended_with (result_of s t)
 life_at s t (Some x) = life_of s x.thread (is_over x.thread.phase)
 
-abbrev made_of : Option Standing → ℕ
+abbrev pub made_of : Option Standing → ℕ
 made_of None = 0
 made_of (Some x) = if is_over x.thread.phase then 0 else x.thread.made
 
@@ -284,7 +284,7 @@ thread_state s t = if_given (is_given_thread s t) (life_at s t (thread_at s.grou
 
 -- ONE HEAP
 
-abbrev state_of : Sight → CodeState
+abbrev pub state_of : Sight → CodeState
 state_of s = record {
   thread = thread_state s;
   made = λ t. made_of (thread_at s.ground.threads t);

@@ -1,0 +1,608 @@
+-- Clusters whose things show alike stand for the same one heap, where each object, content and result is shown once and no two threads have one number.
+use Rattle.std.proofs.Common.{◌≡◌, ℕ, zero, suc, ◌+◌, ◌-◌, ◌≤◌, ◌==◌, ◌&&◌, ◌||◌, not, Bool, true, false, if◌then◌else◌, List, [], ◌∷◌, length, reverse, map, Option, Some, None, is_some, option_map, refl, sym, ap, ap₂, ◌∙◌, arith}
+use Rattle.std.specs.Prelude.{◌%◌, ◌^◌, slice_get, nat_le}
+use Rattle.std.proofs.lemmas.Option.{slice_get-map}
+use Rattle.std.proofs.lemmas.List.{length-map}
+use Rattle.fr_base.specs.declared.name.MutexNo.{MutexNo}
+use Rattle.fr_base.specs.declared.name.ObjNo.{ObjNo}
+use Rattle.fr_base.specs.declared.label.Plain.{Plain}
+use Rattle.fr_base.specs.declared.label.Plain.TheVariants as plain
+use Rattle.fr_base.specs.declared.instruction.Instr.{Instr}
+use Rattle.fr_base.specs.declared.instruction.Instr.TheVariants as instr
+use Rattle.fr_base.specs.declared.instruction.Operand.{Operand}
+use Rattle.fr_base.specs.declared.instruction.Operand.TheVariants as operand
+use Rattle.fr_base.specs.declared.place.Lval.{Lval}
+use Rattle.fr_base.specs.Names.{same_plain}
+use Rattle.fr_base.specs.Lists.{last_of}
+use Rattle.fr_plain.specs.declared.value.Value.{Value as PlainValue}
+use Rattle.fr_plain.specs.declared.value.Value.TheVariants.{Own, ToSlot, ToObject}
+use Rattle.fr_plain.specs.PlainState.{SameState}
+use Rattle.fr_code.specs.Machine.{CodeRunning}
+use Rattle.heap_partition.specs.Plain.{plain_of}
+use Rattle.heap_partition.specs.declared.value.Cell.{Cell}
+use Rattle.heap_partition.specs.declared.value.Owned.{Owned}
+use Rattle.heap_partition.specs.declared.value.Owned.TheVariants as owned
+use Rattle.thread_state.specs.View.{is_over}
+use Rattle.thread_state.specs.declared.phase.Phase.{Phase}
+use Rattle.thread_state.specs.declared.phase.Phase.TheVariants as phase
+use Rattle.thread_state.specs.declared.value.Value.{Value}
+use Rattle.thread_state.specs.declared.value.Value.TheVariants as value
+use Rattle.join_home.specs.Tasks.{TaskState, going, let_go, kept, asked, in_pair}
+use Rattle.server_model.specs.Servers.{Cluster}
+use Rattle.heap_law.specs.Names.{tot, one, if_so, some, same_object, same_mutex}
+use Rattle.heap_law.specs.Things.{Location, at_slot, at_temp, in_cell, Spot, in_slot, in_temp, as_gift, as_content, as_result, in_hand, Thing, holds, lies, flies, stands, noted, things_of}
+use Rattle.heap_law.specs.Follow.{Standing, threads_in, thread_at, cells_in, cell_of, slot_of, temp_of, value_of, value_in, value_behind, leads, locate, value_at}
+use Rattle.heap_law.specs.Sight.{Sight, sight}
+use Rattle.heap_law.specs.Paths.{popped, task_in, joined_thread}
+use Rattle.heap_law.specs.Walking.{instr_of}
+use Rattle.heap_law.specs.Requests.{home_of, mutex_of, locked_mutex, is_mutex, is_task}
+use Rattle.heap_law.specs.Sharing.{gift_content, gift_result, got_phase}
+use Rattle.heap_law.specs.Naming.{started_at, made_at}
+use Rattle.heap_law.specs.Weights.{is_thread}
+use Rattle.heap_law.specs.OneHeap.{Node, object_n, mutex_n, task_n, inside, content_owner, result_owner, gift_owner, gift_owner_of, spot_owner, owner_of, owns, names, owner_in, named_in, any_named, in_state_by, is_in_state, if_in, cell_value, or_else, first_shown, object_value, is_gift_of, is_content, content_value, share_in, if_there, plain_value, pair_note, pair_over, in_pair_of, is_branch, branch_result, is_joined_by, is_result, result_value, result_of, ended_with, going_on, running_at, life_of, life_at, made_of, two_in, pair_of, is_given_thread, is_given_mutex, if_given, one_heap}
+use Rattle.still_law.specs.Shows.{ShownThread, Sign, nothing, a_value, an_object, a_thread as a_shown_thread, a_branch, a_count, has_both, shown_thread, note_sign, sign_of, ShowAlike}
+use Rattle.still_law.proofs.Tests.{plains, same_part, threads as thread_test}
+use Rattle.still_law.proofs.Rounds.{owner_same, named_alike, enough}
+use Rattle.still_law.proofs.Told.{tot_same, told, ones, same_told, first_told, at_thread, thread_told, some_or}
+use Rattle.fr_plain.specs.MachineThreads.{loose, owing}
+
+-- what is shown of each object, thread, content, branch and result is shown once
+pub record Once (s : Sight) : Type 0 where
+  pub cells : (o : ObjNo) → tot (λ x. told ones (cell_value o x)) s.things ≤ 1
+  pub threads : (t : ℕ) → tot (is_thread t) s.things ≤ 1
+  pub contents : (m : MutexNo) → tot (λ x. told ones (content_value s m x)) s.things ≤ 1
+  pub branches : (t : ℕ) → tot (λ x. told ones (branch_result t x)) s.things ≤ 1
+  pub results : (t : ℕ) → tot (λ x. told ones (result_value s t x)) s.things ≤ 1
+
+-- WEIGHTS
+
+told_map : {A B : Type 0} (g : B → ℕ) (f : A → B) (o : Option A) → told g (option_map f o) ≡ told (λ x. g (f x)) o
+told_map g f None = refl
+told_map g f (Some x) = refl
+
+told_if : (g : Plain → ℕ) (q : Bool) (v : Plain) → told g (if_in q (Some v)) ≡ if_so q (g v)
+told_if g true v = refl
+told_if g false v = refl
+
+one_so : (q : Bool) → one q ≡ if_so q 1
+one_so true = refl
+one_so false = refl
+
+-- a note that isn't one of a pair shows nothing
+unnoted : (w : Sign → ℕ) → w nothing ≡ 0 → ((t : ℕ) (d : Bool) → w (a_branch t d) ≡ 0) → (t : ℕ) (x : TaskState) → 0 ≡ w (note_sign t x)
+unnoted w z b t (in_pair p d) = sym (b t d)
+unnoted w z b t going = sym z
+unnoted w z b t let_go = sym z
+unnoted w z b t (kept v) = sym z
+unnoted w z b t (asked r u) = sym z
+
+-- VALUES
+
+abbrev plain_owns : Node → Plain → Bool
+plain_owns (object_n o) (plain.Box p) = same_object p o
+plain_owns (mutex_n m) (plain.Mutex n) = same_mutex n m
+plain_owns (task_n t) (plain.Task u) = u == t
+plain_owns n v = false
+
+owns_plain : (n : Node) (v : Owned) → owns n v ≡ plain_owns n (plain_of v)
+owns_plain (object_n o) (owned.Box p) = refl
+owns_plain (mutex_n m) (owned.Mutex p) = refl
+owns_plain (task_n t) (owned.Task p) = refl
+owns_plain (object_n o) owned.Nothing = refl
+owns_plain (object_n o) owned.Unit = refl
+owns_plain (object_n o) (owned.Int i) = refl
+owns_plain (object_n o) (owned.Mutex m) = refl
+owns_plain (object_n o) (owned.Task m) = refl
+owns_plain (mutex_n o) owned.Nothing = refl
+owns_plain (mutex_n o) owned.Unit = refl
+owns_plain (mutex_n o) (owned.Int i) = refl
+owns_plain (mutex_n o) (owned.Box m) = refl
+owns_plain (mutex_n o) (owned.Task m) = refl
+owns_plain (task_n o) owned.Nothing = refl
+owns_plain (task_n o) owned.Unit = refl
+owns_plain (task_n o) (owned.Int i) = refl
+owns_plain (task_n o) (owned.Box m) = refl
+owns_plain (task_n o) (owned.Mutex m) = refl
+
+-- where a value leads, and what it is of
+abbrev plain_leads : ℕ → Option PlainValue → Option Location
+plain_leads t (Some (Own (plain.Box o))) = Some (in_cell o)
+plain_leads t (Some (ToSlot i)) = Some (at_slot t i)
+plain_leads t (Some (ToObject o)) = Some (in_cell o)
+plain_leads t v = None
+
+abbrev plain_mutex : Option PlainValue → Option MutexNo
+plain_mutex (Some (Own (plain.Mutex m))) = Some m
+plain_mutex v = None
+
+abbrev plain_task : Option PlainValue → Option ℕ
+plain_task (Some (Own (plain.Task t))) = Some t
+plain_task v = None
+
+leads_plain : (t : ℕ) (v : Option Value) → leads t v ≡ plain_leads t (option_map plain_value v)
+leads_plain t None = refl
+leads_plain t (Some value.Gone) = refl
+leads_plain t (Some (value.Own (owned.Box p))) = refl
+leads_plain t (Some (value.Own owned.Nothing)) = refl
+leads_plain t (Some (value.Own owned.Unit)) = refl
+leads_plain t (Some (value.Own (owned.Int i))) = refl
+leads_plain t (Some (value.Own (owned.Mutex m))) = refl
+leads_plain t (Some (value.Own (owned.Task u))) = refl
+leads_plain t (Some (value.SharedSlot i)) = refl
+leads_plain t (Some (value.MutSlot i)) = refl
+leads_plain t (Some (value.Shared r)) = refl
+leads_plain t (Some (value.Mut r)) = refl
+leads_plain t (Some (value.Held m)) = refl
+
+mutex_plain : (v : Option Value) → mutex_of v ≡ plain_mutex (option_map plain_value v)
+mutex_plain None = refl
+mutex_plain (Some value.Gone) = refl
+mutex_plain (Some (value.Own (owned.Box p))) = refl
+mutex_plain (Some (value.Own owned.Nothing)) = refl
+mutex_plain (Some (value.Own owned.Unit)) = refl
+mutex_plain (Some (value.Own (owned.Int i))) = refl
+mutex_plain (Some (value.Own (owned.Mutex m))) = refl
+mutex_plain (Some (value.Own (owned.Task u))) = refl
+mutex_plain (Some (value.SharedSlot i)) = refl
+mutex_plain (Some (value.MutSlot i)) = refl
+mutex_plain (Some (value.Shared r)) = refl
+mutex_plain (Some (value.Mut r)) = refl
+mutex_plain (Some (value.Held m)) = refl
+
+task_plain : (v : Option Value) → task_in v ≡ plain_task (option_map plain_value v)
+task_plain None = refl
+task_plain (Some value.Gone) = refl
+task_plain (Some (value.Own (owned.Box p))) = refl
+task_plain (Some (value.Own owned.Nothing)) = refl
+task_plain (Some (value.Own owned.Unit)) = refl
+task_plain (Some (value.Own (owned.Int i))) = refl
+task_plain (Some (value.Own (owned.Mutex m))) = refl
+task_plain (Some (value.Own (owned.Task u))) = refl
+task_plain (Some (value.SharedSlot i)) = refl
+task_plain (Some (value.MutSlot i)) = refl
+task_plain (Some (value.Shared r)) = refl
+task_plain (Some (value.Mut r)) = refl
+task_plain (Some (value.Held m)) = refl
+
+-- the temporary value on top
+last_plain : (vs : List Value) → option_map plain_value (last_of vs) ≡ last_of (map plain_value vs)
+last_plain vs = sym (slice_get-map plain_value vs (length vs - 1)) ∙ ap (λ n. slice_get (map plain_value vs) (n - 1)) (sym (length-map vs plain_value))
+
+abbrev popped_plain : Operand → List PlainValue → Option PlainValue
+popped_plain operand.Pop vs = last_of vs
+popped_plain o vs = None
+
+pop_plain : (o : Operand) (vs : List Value) → option_map plain_value (popped o vs) ≡ popped_plain o (map plain_value vs)
+pop_plain operand.Pop vs = last_plain vs
+pop_plain operand.Unit vs = refl
+pop_plain (operand.Const n) vs = refl
+
+-- the cell that is found is the one that is shown
+abbrev plain_in : Cell → Plain
+plain_in c = plain_of c.value
+
+found_first : (c : Cell) (o : Option Cell) (v : Option Plain) (q : Bool) → option_map plain_in o ≡ v → option_map plain_in (if q then Some c else o) ≡ or_else (if_in q (Some (plain_of c.value))) v
+found_first c o v true e = refl
+found_first c o v false e = e
+
+cell_found : (o : ObjNo) (b : List Thing) → option_map plain_in (cell_of (cells_in b) o) ≡ first_shown (cell_value o) b
+cell_found o [] = refl
+cell_found o (lies r a c ∷ b) = found_first c (cell_of (cells_in b) o) (first_shown (cell_value o) b) (same_object c.object o) (cell_found o b)
+cell_found o (flies w c ∷ b) = found_first c (cell_of (cells_in b) o) (first_shown (cell_value o) b) (same_object c.object o) (cell_found o b)
+cell_found o (_ ∷ b) = cell_found o b
+
+abbrev pub shown_of : Standing → ShownThread
+shown_of x = shown_thread x.thread
+
+abbrev slot_from : Option ShownThread → ℕ → Option PlainValue
+slot_from None i = None
+slot_from (Some y) i = slice_get y.slots i
+
+abbrev temp_from : Option ShownThread → ℕ → Option PlainValue
+temp_from None i = None
+temp_from (Some y) i = slice_get y.temps i
+
+slot_shown : (o : Option Standing) (i : ℕ) → option_map plain_value (slot_of o i) ≡ slot_from (option_map shown_of o) i
+slot_shown None i = refl
+slot_shown (Some x) i = sym (slice_get-map plain_value x.thread.slots i)
+
+temp_shown : (o : Option Standing) (i : ℕ) → option_map plain_value (temp_of o i) ≡ temp_from (option_map shown_of o) i
+temp_shown None i = refl
+temp_shown (Some x) i = sym (slice_get-map plain_value x.thread.temps i)
+
+abbrev owned_from : Option Plain → Option PlainValue
+owned_from None = None
+owned_from (Some v) = Some (Own v)
+
+value_shown : (o : Option Cell) → option_map plain_value (value_of o) ≡ owned_from (option_map plain_in o)
+value_shown None = refl
+value_shown (Some c) = refl
+
+abbrev got_of : ℕ → Option (ℕ × ℕ) → Bool → ℕ
+got_of t (Some p) true = one (p.0 == t) + one (p.1 == t)
+got_of t o q = 0
+
+got_is : (t : ℕ) (p : Phase) → got_phase t p ≡ got_of t (two_in p) (has_both p)
+got_is t phase.Ready = refl
+got_is t (phase.WaitCell w) = refl
+got_is t phase.Got = refl
+got_is t (phase.Taken w) = refl
+got_is t (phase.WaitLock m) = refl
+got_is t (phase.WaitDup m) = refl
+got_is t (phase.WaitJoin u) = refl
+got_is t (phase.WaitPar a b) = refl
+got_is t (phase.GotPar a b) = refl
+got_is t phase.Over = refl
+
+abbrev code_running : ℕ → List PlainValue → List PlainValue → CodeRunning
+code_running pc temps slots = record { place = record { pc = pc; temps = reverse temps }; slots = reverse slots }
+
+module _ (k c : Cluster) (code : c.code ≡ k.code) (once : Once (sight k)) (alike : ShowAlike (things_of k) (things_of c)) where
+  abbrev a : List Thing
+  a = things_of k
+
+  abbrev b : List Thing
+  b = things_of c
+
+  abbrev s : Sight
+  s = sight k
+
+  abbrev s2 : Sight
+  s2 = sight c
+
+  -- a weight of each side that is one of what is shown
+  carried : (w : Sign → ℕ) → w nothing ≡ 0 → (f f2 : Thing → ℕ) → ((x : Thing) → f x ≡ w (sign_of x)) → ((x : Thing) → f2 x ≡ w (sign_of x)) → tot f a ≡ tot f2 b
+  carried w z f f2 e e2 = tot_same f (λ x. w (sign_of x)) e a ∙ alike w z ∙ sym (tot_same f2 (λ x. w (sign_of x)) e2 b)
+
+  -- what is shown first, where it is shown once
+  first_same : (f f2 : Thing → Option Plain) (w : (Plain → ℕ) → Sign → ℕ) → ((g : Plain → ℕ) → w g nothing ≡ 0) → ((g : Plain → ℕ) (x : Thing) → told g (f x) ≡ w g (sign_of x)) → ((g : Plain → ℕ) (x : Thing) → told g (f2 x) ≡ w g (sign_of x))
+      → tot (λ x. told ones (f x)) a ≤ 1 → first_shown f a ≡ first_shown f2 b
+  first_same f f2 w z e e2 few =
+      let few2 : tot (λ x. told ones (f2 x)) b ≤ 1 = omega (arith, few, carried (w ones) (z ones) (λ x. told ones (f x)) (λ x. told ones (f2 x)) (e ones) (e2 ones)) in
+      same_told same_plain plains (first_shown f a) (first_shown f2 b) (λ g. sym (first_told f g a few) ∙ carried (w g) (z g) (λ x. told g (f x)) (λ x. told g (f2 x)) (e g) (e2 g) ∙ first_told f2 g b few2)
+
+  -- THREADS
+
+  abbrev thread_weight : (ShownThread → ℕ) → ℕ → Sign → ℕ
+  thread_weight h t (a_shown_thread y) = if_so (y.number == t) (h y)
+  thread_weight h t x = 0
+
+  thread_is : (h : ShownThread → ℕ) (t : ℕ) (x : Thing) → at_thread (λ y. h (shown_of y)) t x ≡ thread_weight h t (sign_of x)
+  thread_is h t (noted r x) = unnoted (thread_weight h t) refl (λ u d. refl) x.thread x.state
+  thread_is h t _ = refl
+
+  number_is : (t : ℕ) (x : Thing) → is_thread t x ≡ thread_weight ones t (sign_of x)
+  number_is t (stands r p x) = one_so (x.number == t)
+  number_is t (noted r x) = unnoted (thread_weight ones t) refl (λ u d. refl) x.thread x.state
+  number_is t _ = refl
+
+  found : (t : ℕ) → option_map shown_of (thread_at (threads_in a) t) ≡ option_map shown_of (thread_at (threads_in b) t)
+  found t =
+      let few2 : tot (is_thread t) b ≤ 1 = omega (arith, once.threads t, carried (thread_weight ones t) refl (is_thread t) (is_thread t) (number_is t) (number_is t)) in
+      let oa = thread_at (threads_in a) t in
+      let ob = thread_at (threads_in b) t in
+      same_told same_part thread_test (option_map shown_of oa) (option_map shown_of ob) (λ h.
+      let g : Standing → ℕ = λ y. h (shown_of y) in
+      told_map h shown_of oa ∙ sym (thread_told g t a (once.threads t)) ∙ carried (thread_weight h t) refl (at_thread g t) (at_thread g t) (thread_is h t) (thread_is h t) ∙ thread_told g t b few2 ∙ sym (told_map h shown_of ob))
+
+  -- OBJECTS
+
+  abbrev object_weight : ObjNo → (Plain → ℕ) → Sign → ℕ
+  object_weight o g (an_object p v) = if_so (same_object p o) (g v)
+  object_weight o g x = 0
+
+  object_is : (o : ObjNo) (g : Plain → ℕ) (x : Thing) → told g (cell_value o x) ≡ object_weight o g (sign_of x)
+  object_is o g (lies r i d) = told_if g (same_object d.object o) (plain_of d.value)
+  object_is o g (flies w d) = told_if g (same_object d.object o) (plain_of d.value)
+  object_is o g (noted r x) = unnoted (object_weight o g) refl (λ u d. refl) x.thread x.state
+  object_is o g _ = refl
+
+  cell_same : (o : ObjNo) → first_shown (cell_value o) a ≡ first_shown (cell_value o) b
+  cell_same o = first_same (cell_value o) (cell_value o) (object_weight o) (λ g. refl) (object_is o) (object_is o) (once.cells o)
+
+  -- PLACES
+
+  value_same : (l : Location) → option_map plain_value (value_in s.ground l) ≡ option_map plain_value (value_in s2.ground l)
+  value_same (at_slot t i) = slot_shown (thread_at (threads_in a) t) i ∙ ap (λ o. slot_from o i) (found t) ∙ sym (slot_shown (thread_at (threads_in b) t) i)
+  value_same (at_temp t i) = temp_shown (thread_at (threads_in a) t) i ∙ ap (λ o. temp_from o i) (found t) ∙ sym (temp_shown (thread_at (threads_in b) t) i)
+  value_same (in_cell o) =
+      value_shown (cell_of (cells_in a) o) ∙ ap owned_from (cell_found o a ∙ cell_same o ∙ sym (cell_found o b)) ∙ sym (value_shown (cell_of (cells_in b) o))
+
+  behind_same : (o : Option Location) → option_map plain_value (value_behind s.ground o) ≡ option_map plain_value (value_behind s2.ground o)
+  behind_same None = refl
+  behind_same (Some l) = value_same l
+
+  place_same : (t slot n : ℕ) → locate s.ground t slot n ≡ locate s2.ground t slot n
+  place_same t slot zero = refl
+  place_same t slot (suc n) =
+      let at : Option Location = locate s.ground t slot n in
+      ap (λ o. leads t (value_behind s.ground o)) (place_same t slot n) ∙ leads_plain t (value_behind s.ground (locate s2.ground t slot n)) ∙ ap (plain_leads t) (behind_same (locate s2.ground t slot n)) ∙ sym (leads_plain t (value_behind s2.ground (locate s2.ground t slot n)))
+
+  mutex_same : (t : ℕ) (w : Lval) → mutex_of (value_at s.ground t w) ≡ mutex_of (value_at s2.ground t w)
+  mutex_same t w =
+      ap (λ o. mutex_of (value_behind s.ground o)) (place_same t w.slot w.depth) ∙ mutex_plain (value_behind s.ground (locate s2.ground t w.slot w.depth)) ∙ ap plain_mutex (behind_same (locate s2.ground t w.slot w.depth))
+      ∙ sym (mutex_plain (value_behind s2.ground (locate s2.ground t w.slot w.depth)))
+
+  -- WHO OWNS A GIFT
+
+  module _ (x y : Standing) (q : shown_of x ≡ shown_of y) where
+    instr_same : instr_of s x ≡ instr_of s2 y
+    instr_same = ap₂ (λ (cs : List Instr) i. slice_get cs i) (sym code) (ap (λ (z : ShownThread). z.pc) q)
+
+    number_same : x.thread.number ≡ y.thread.number
+    number_same = ap (λ (z : ShownThread). z.number) q
+
+    gift_there : is_some x.thread.gift ≡ is_some y.thread.gift
+    gift_there = ap (λ (z : ShownThread). z.has_gift) q
+
+    locked_at : (w : Lval) → mutex_of (value_at s.ground x.thread.number w) ≡ mutex_of (value_at s2.ground y.thread.number w)
+    locked_at w = mutex_same x.thread.number w ∙ ap (λ t. mutex_of (value_at s2.ground t w)) number_same
+
+    joined_at : (o : Operand) → task_in (popped o x.thread.temps) ≡ task_in (popped o y.thread.temps)
+    joined_at o =
+        task_plain (popped o x.thread.temps) ∙ ap plain_task (pop_plain o x.thread.temps ∙ ap (λ (z : ShownThread). popped_plain o z.temps) q ∙ sym (pop_plain o y.thread.temps)) ∙ sym (task_plain (popped o y.thread.temps))
+
+    locked_by : (i : Option Instr) → locked_mutex s x i ≡ locked_mutex s2 y i
+    locked_by (Some (instr.Lock w)) = locked_at w
+    locked_by _ = refl
+
+    joined_by : (i : Option Instr) → joined_thread i x.thread ≡ joined_thread i y.thread
+    joined_by (Some (instr.Join o)) = joined_at o
+    joined_by _ = refl
+
+    owner_by : (i : Option Instr) → gift_owner s x i ≡ gift_owner s2 y i
+    owner_by (Some (instr.Lock w)) = ap content_owner (locked_at w)
+    owner_by (Some (instr.Join o)) = ap result_owner (joined_at o)
+    owner_by _ = refl
+
+    gift_owner_same : gift_owner s x (instr_of s x) ≡ gift_owner s2 y (instr_of s2 y)
+    gift_owner_same = owner_by (instr_of s x) ∙ ap (gift_owner s2 y) instr_same
+
+    gift_content_same : (m : MutexNo) → gift_content s m x ≡ gift_content s2 m y
+    gift_content_same m = ap₂ (λ g o. if_so g (one (is_mutex m o))) gift_there (locked_by (instr_of s x) ∙ ap (locked_mutex s2 y) instr_same)
+
+    gift_result_same : (t : ℕ) → gift_result s t x ≡ gift_result s2 t y
+    gift_result_same t = ap₂ (λ g o. if_so g (one (is_task t o))) gift_there (joined_by (instr_of s x) ∙ ap (λ i. joined_thread i y.thread) instr_same)
+
+  -- what is the same of threads that are shown alike is the same of those that are found
+  by_found : {A : Type 0} (f f2 : Option Standing → A) → f None ≡ f2 None → ((x y : Standing) → shown_of x ≡ shown_of y → f (Some x) ≡ f2 (Some y)) → (t : ℕ) → f (thread_at (threads_in a) t) ≡ f2 (thread_at (threads_in b) t)
+  by_found f f2 z e t = by (thread_at (threads_in a) t) (thread_at (threads_in b) t) (found t)
+    where
+      by : (o p : Option Standing) → option_map shown_of o ≡ option_map shown_of p → f o ≡ f2 p
+      by None None q = z
+      by None (Some y) q = absurd (cc q)
+      by (Some x) None q = absurd (cc q)
+      by (Some x) (Some y) q = e x y (let r : shown_of x ≡ shown_of y = cc in r)
+
+  spot_same : (p : Spot) → spot_owner s p ≡ spot_owner s2 p
+  spot_same (as_gift t) = by_found (gift_owner_of s) (gift_owner_of s2) refl gift_owner_same t
+  spot_same (in_slot t i) = refl
+  spot_same (in_temp t i) = refl
+  spot_same (as_content m) = refl
+  spot_same (as_result t) = refl
+  spot_same in_hand = refl
+
+  content_spot : (m : MutexNo) (p : Spot) → is_content s m p ≡ is_content s2 m p
+  content_spot m (as_gift t) = by_found (is_gift_of s m) (is_gift_of s2 m) refl (λ x y q. ap some (gift_content_same x y q m)) t
+  content_spot m (in_slot t i) = refl
+  content_spot m (in_temp t i) = refl
+  content_spot m (as_content n) = refl
+  content_spot m (as_result t) = refl
+  content_spot m in_hand = refl
+
+  result_spot : (t : ℕ) (p : Spot) → is_result s t p ≡ is_result s2 t p
+  result_spot t (as_gift u) = by_found (is_joined_by s t) (is_joined_by s2 t) refl (λ x y q. ap some (gift_result_same x y q t)) u
+  result_spot t (in_slot u i) = refl
+  result_spot t (in_temp u i) = refl
+  result_spot t (as_content n) = refl
+  result_spot t (as_result u) = refl
+  result_spot t in_hand = refl
+
+  -- WHAT IS IN THE STATE
+
+  abbrev named_weight : (Node → Bool) → Node → Sign → ℕ
+  named_weight go n (a_value p v) = one (named_in (plain_owns n v) go (spot_owner s p))
+  named_weight go n (an_object o v) = one (named_in (plain_owns n v) go (inside (object_n o)))
+  named_weight go n x = 0
+
+  abbrev named_one : Sight → (Node → Bool) → Node → Thing → ℕ
+  named_one r go n x = one (named_in (names n x) go (owner_of r x))
+
+  named_is : (r : Sight) → ((p : Spot) → spot_owner r p ≡ spot_owner s p) → (go : Node → Bool) (n : Node) (x : Thing) → named_one r go n x ≡ named_weight go n (sign_of x)
+  named_is r e go n (holds p v) = ap₂ (λ q o. one (named_in q go o)) (owns_plain n v) (e p)
+  named_is r e go n (lies i j d) = ap (λ q. one (named_in q go (inside (object_n d.object)))) (owns_plain n d.value)
+  named_is r e go n (flies w d) = ap (λ q. one (named_in q go (inside (object_n d.object)))) (owns_plain n d.value)
+  named_is r e go n (noted i x) = unnoted (named_weight go n) refl (λ u d. refl) x.thread x.state
+  named_is r e go n _ = refl
+
+  any_is : (r : Sight) (go : Node → Bool) (n : Node) (xs : List Thing) → any_named r go n xs ≡ some (tot (named_one r go n) xs)
+  any_is r go n [] = refl
+  any_is r go n (x ∷ xs) =
+      let q = named_in (names n x) go (owner_of r x) in
+      ap (λ p. q || p) (any_is r go n xs) ∙ sym (some_or q (tot (named_one r go n) xs))
+
+  back : (p : Spot) → spot_owner s2 p ≡ spot_owner s p
+  back p = sym (spot_same p)
+
+  any_same : (go : Node → Bool) (n : Node) → any_named s go n a ≡ any_named s2 go n b
+  any_same go n = any_is s go n a ∙ ap some (carried (named_weight go n) refl (named_one s go n) (named_one s2 go n) (named_is s (λ p. refl) go n) (named_is s2 back go n)) ∙ sym (any_is s2 go n b)
+
+  round_same : (i : ℕ) (n : Node) → in_state_by i s n ≡ in_state_by i s2 n
+  round_same zero n = refl
+  round_same (suc i) n = any_same (in_state_by i s) n ∙ named_alike s2 (in_state_by i s) (in_state_by i s2) (round_same i) n b
+
+  both_ways : (p q : Bool) → (p ≡ true → q ≡ true) → (q ≡ true → p ≡ true) → p ≡ q
+  both_ways true q f g = sym (f refl)
+  both_ways false true f g = g refl
+  both_ways false false f g = refl
+
+  in_same : (n : Node) → is_in_state s n ≡ is_in_state s2 n
+  in_same n =
+      both_ways (is_in_state s n) (is_in_state s2 n) (λ e. enough s2 (length a) n (sym (round_same (length a) n) ∙ e))
+      (λ e. enough s (length b) n (round_same (length b) n ∙ e))
+
+  -- OBJECTS AND MUTEXES
+
+  object_same : (o : ObjNo) → object_value s o ≡ object_value s2 o
+  object_same o = ap₂ (λ q v. if_in q v) (in_same (object_n o)) (cell_same o)
+
+  abbrev content_weight : MutexNo → (Plain → ℕ) → Sign → ℕ
+  content_weight m g (a_value p v) = if_so (is_content s m p) (g v)
+  content_weight m g x = 0
+
+  content_is : (r : Sight) → (m : MutexNo) → ((p : Spot) → is_content r m p ≡ is_content s m p) → (g : Plain → ℕ) (x : Thing) → told g (content_value r m x) ≡ content_weight m g (sign_of x)
+  content_is r m e g (holds p v) = told_if g (is_content r m p) (plain_of v) ∙ ap (λ q. if_so q (g (plain_of v))) (e p)
+  content_is r m e g (noted i x) = unnoted (content_weight m g) refl (λ u d. refl) x.thread x.state
+  content_is r m e g _ = refl
+
+  content_same : (m : MutexNo) → first_shown (content_value s m) a ≡ first_shown (content_value s2 m) b
+  content_same m =
+      first_same (content_value s m) (content_value s2 m) (content_weight m) (λ g. refl) (content_is s m (λ p. refl)) (content_is s2 m (λ p. sym (content_spot m p))) (once.contents m)
+
+  abbrev share_weight : MutexNo → Sign → ℕ
+  share_weight m (a_value p v) = if_so (plain_owns (mutex_n m) v) (one (owner_in (is_in_state s) (spot_owner s p)))
+  share_weight m (an_object o v) = if_so (plain_owns (mutex_n m) v) (one (owner_in (is_in_state s) (inside (object_n o))))
+  share_weight m x = 0
+
+  share_is : (r : Sight) → ((p : Spot) → spot_owner r p ≡ spot_owner s p) → ((n : Node) → is_in_state r n ≡ is_in_state s n) → (m : MutexNo) (x : Thing) → share_in r m x ≡ share_weight m (sign_of x)
+  share_is r e f m (holds p v) =
+      ap₂ (λ q o. if_so q (one o)) (owns_plain (mutex_n m) v) (owner_same (is_in_state r) (is_in_state s) f (spot_owner r p) ∙ ap (owner_in (is_in_state s)) (e p))
+  share_is r e f m (lies i j d) = ap₂ (λ q o. if_so q (one o)) (owns_plain (mutex_n m) d.value) (f (object_n d.object))
+  share_is r e f m (flies w d) = ap₂ (λ q o. if_so q (one o)) (owns_plain (mutex_n m) d.value) (f (object_n d.object))
+  share_is r e f m (noted i x) = unnoted (share_weight m) refl (λ u d. refl) x.thread x.state
+  share_is r e f m _ = refl
+
+  shares_same : (m : MutexNo) → tot (share_in s m) a ≡ tot (share_in s2 m) b
+  shares_same m = carried (share_weight m) refl (share_in s m) (share_in s2 m) (share_is s (λ p. refl) (λ n. refl) m) (share_is s2 back (λ n. sym (in_same n)) m)
+
+  mutexes_same : (m : MutexNo) → (one_heap k).mutex m ≡ (one_heap c).mutex m
+  mutexes_same m =
+      ap (λ q. if_there q (record { content = first_shown (content_value s m) a; shares = tot (share_in s m) a })) (in_same (mutex_n m))
+      ∙ ap₂ (λ v n. if_there (is_in_state s2 (mutex_n m)) (record { content = v; shares = n })) (content_same m) (shares_same m)
+
+  -- RESULTS
+
+  abbrev branch_weight : ℕ → Sign → ℕ
+  branch_weight t (a_branch u d) = if_so (u == t) 1
+  branch_weight t x = 0
+
+  none_if : (q : Bool) → if_so q 0 ≡ 0
+  none_if true = refl
+  none_if false = refl
+
+  noted_is : (t u : ℕ) (x : TaskState) → if_so (u == t) (pair_note x) ≡ branch_weight t (note_sign u x)
+  noted_is t u (in_pair p d) = refl
+  noted_is t u going = none_if (u == t)
+  noted_is t u let_go = none_if (u == t)
+  noted_is t u (kept v) = none_if (u == t)
+  noted_is t u (asked r w) = none_if (u == t)
+
+  branch_is : (t : ℕ) (x : Thing) → in_pair_of t x ≡ branch_weight t (sign_of x)
+  branch_is t (noted r x) = noted_is t x.thread x.state
+  branch_is t _ = refl
+
+  branch_same : (t : ℕ) → is_branch s t ≡ is_branch s2 t
+  branch_same t = ap some (carried (branch_weight t) refl (in_pair_of t) (in_pair_of t) (branch_is t) (branch_is t))
+
+  abbrev done_weight : ℕ → (Plain → ℕ) → Sign → ℕ
+  done_weight t g (a_branch u d) = if_so (u == t) (if_so d (g plain.Unit))
+  done_weight t g (a_shown_thread y) = if_so (some (got_of t y.pair y.got_pair)) (g plain.Unit)
+  done_weight t g x = 0
+
+  done_note : (t : ℕ) (g : Plain → ℕ) (u : ℕ) (x : TaskState) → told g (if u == t then pair_over x else None) ≡ done_weight t g (note_sign u x)
+  done_note t g u x = by (u == t) x refl
+    where
+      none : (q : Bool) → told g (if q then None else None) ≡ 0
+      none true = refl
+      none false = refl
+
+      both : (q d : Bool) → told g (if q then pair_over (in_pair 0 d) else None) ≡ if_so q (if_so d (g plain.Unit))
+      both true true = refl
+      both true false = refl
+      both false d = refl
+
+      by : (q : Bool) (z : TaskState) → x ≡ z → told g (if u == t then pair_over z else None) ≡ done_weight t g (note_sign u z)
+      by q (in_pair p true) e = both (u == t) true
+      by q (in_pair p false) e = both (u == t) false
+      by q going e = none (u == t)
+      by q let_go e = none (u == t)
+      by q (kept v) e = none (u == t)
+      by q (asked r w) e = none (u == t)
+
+  done_is : (t : ℕ) (g : Plain → ℕ) (x : Thing) → told g (branch_result t x) ≡ done_weight t g (sign_of x)
+  done_is t g (noted r x) = done_note t g x.thread x.state
+  done_is t g (stands r p x) = told_if g (some (got_phase t x.phase)) plain.Unit ∙ ap (λ n. if_so (some n) (g plain.Unit)) (got_is t x.phase)
+  done_is t g _ = refl
+
+  done_same : (t : ℕ) → first_shown (branch_result t) a ≡ first_shown (branch_result t) b
+  done_same t = first_same (branch_result t) (branch_result t) (done_weight t) (λ g. refl) (done_is t) (done_is t) (once.branches t)
+
+  abbrev result_weight : ℕ → (Plain → ℕ) → Sign → ℕ
+  result_weight t g (a_value p v) = if_so (is_result s t p) (g v)
+  result_weight t g x = 0
+
+  result_is : (r : Sight) (t : ℕ) → ((p : Spot) → is_result r t p ≡ is_result s t p) → (g : Plain → ℕ) (x : Thing) → told g (result_value r t x) ≡ result_weight t g (sign_of x)
+  result_is r t e g (holds p v) = told_if g (is_result r t p) (plain_of v) ∙ ap (λ q. if_so q (g (plain_of v))) (e p)
+  result_is r t e g (noted i x) = unnoted (result_weight t g) refl (λ u d. refl) x.thread x.state
+  result_is r t e g _ = refl
+
+  kept_same : (t : ℕ) → first_shown (result_value s t) a ≡ first_shown (result_value s2 t) b
+  kept_same t = first_same (result_value s t) (result_value s2 t) (result_weight t) (λ g. refl) (result_is s t (λ p. refl)) (result_is s2 t (λ p. sym (result_spot t p))) (once.results t)
+
+  owed_same : (t : ℕ) → is_branch s t || is_in_state s (task_n t) ≡ is_branch s2 t || is_in_state s2 (task_n t)
+  owed_same t = ap₂ (λ p q. p || q) (branch_same t) (in_same (task_n t))
+
+  result_same : (t : ℕ) → result_of s t ≡ result_of s2 t
+  result_same t = ap₂ or_else (done_same t) (ap₂ if_in (owed_same t) (kept_same t))
+
+  -- LIVES
+
+  going_same : (t : ℕ) (p : CodeRunning) → going_on s t p ≡ going_on s2 t p
+  going_same zero p = refl
+  going_same (suc t) p = ap (λ q. if not q then loose p else owing p) (owed_same (suc t))
+
+  life_by : (x y : Standing) → shown_of x ≡ shown_of y → (q : Bool) → life_of s x.thread q ≡ life_of s2 y.thread q
+  life_by x y e true = ap ended_with (result_same x.thread.number ∙ ap (result_of s2) (number_same x y e))
+  life_by x y e false =
+      going_same x.thread.number (running_at x.thread) ∙ ap₂ (going_on s2) (number_same x y e) (ap (λ (z : ShownThread). code_running z.pc z.temps z.slots) e)
+
+  life_same : (t : ℕ) → life_at s t (thread_at (threads_in a) t) ≡ life_at s2 t (thread_at (threads_in b) t)
+  life_same t =
+      by_found (life_at s t) (life_at s2 t) (ap ended_with (result_same t)) (λ x y e. life_by x y e (is_over x.thread.phase) ∙ ap (life_of s2 y.thread) (ap (λ (z : ShownThread). z.is_over) e)) t
+
+  -- NAMES
+
+  abbrev started_weight : ℕ → ℕ → Sign → ℕ
+  started_weight h n (a_count r started made) = one (r == h && nat_le n started)
+  started_weight h n x = 0
+
+  started_is : (h n : ℕ) (x : Thing) → started_at h n x ≡ started_weight h n (sign_of x)
+  started_is h n (noted i x) = unnoted (started_weight h n) refl (λ u d. refl) x.thread x.state
+  started_is h n _ = refl
+
+  abbrev made_weight : ℕ → ℕ → Sign → ℕ
+  made_weight h n (a_count r started made) = one (r == h && nat_le n made)
+  made_weight h n x = 0
+
+  made_is : (h n : ℕ) (x : Thing) → made_at h n x ≡ made_weight h n (sign_of x)
+  made_is h n (noted i x) = unnoted (made_weight h n) refl (λ u d. refl) x.thread x.state
+  made_is h n _ = refl
+
+  given_same : (t : ℕ) → is_given_thread s t ≡ is_given_thread s2 t
+  given_same t =
+      let h = home_of t in
+      let n = t % 2 ^ 32 in
+      ap (λ m. t == 0 || (not (n == 0) && some m)) (carried (started_weight h n) refl (started_at h n) (started_at h n) (started_is h n) (started_is h n))
+
+  mutex_given : (m : MutexNo) → is_given_mutex s m ≡ is_given_mutex s2 m
+  mutex_given m = ap (λ n. not (m.count == 0) && some n) (carried (made_weight m.home m.count) refl (made_at m.home m.count) (made_at m.home m.count) (made_is m.home m.count) (made_is m.home m.count))
+
+  pub same_heap : SameState (one_heap c) (one_heap k)
+  same_heap = record {
+    threads = λ t. sym (ap₂ if_given (given_same t) (life_same t));
+    made = λ t. sym (by_found made_of made_of refl (λ x y e. ap (λ (z : ShownThread). if z.is_over then 0 else z.made) e) t);
+    pairs = λ t. sym (by_found pair_of pair_of refl (λ x y e. ap (λ (z : ShownThread). z.pair) e) t);
+    objects = λ o. sym (object_same o);
+    mutexes = λ m. sym (mutexes_same m);
+    given = λ m. sym (mutex_given m);
+  }

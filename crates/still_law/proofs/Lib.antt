@@ -1,0 +1,11 @@
+pub mod Tests
+pub mod Rounds
+pub mod Told
+pub mod Alike
+pub mod Gifts
+pub mod Once
+pub mod Sites
+pub mod Evictions
+pub mod Arrivals
+pub mod Requests
+pub mod StillKinds

@@ -1,0 +1,99 @@
+-- Each kind of event that is proved to leave the one heap.
+use Rattle.std.proofs.Common.{◌≡◌, ℕ, Option, Some, None, refl, subst}
+use Rattle.std.specs.Bool.{⊤}
+use Rattle.std.specs.Prelude.{slice_get, option_map}
+use Rattle.fr_base.specs.declared.instruction.Instr.{Instr}
+use Rattle.fr_base.specs.declared.instruction.Instr.TheVariants as instr
+use Rattle.thread_state.specs.View.{ThreadState}
+use Rattle.server_msgs.specs.declared.message.Message.{Message}
+use Rattle.server_msgs.specs.declared.message.Message.TheVariants as message
+use Rattle.server_model.specs.declared.event.What.{What}
+use Rattle.server_model.specs.declared.event.What.TheVariants.{Step, Deliver, Evict, Migrate}
+use Rattle.server_model.specs.Servers.{Server, Cluster}
+use Rattle.server_model.specs.Work.{thread_in, then_some}
+use Rattle.server_model.specs.Events.{does}
+use Rattle.event_law.specs.Kinds.{Kind, evicts, migrates, starts, arrives, fetch, message_kind, instr_kind, kind_at}
+use Rattle.event_law.specs.Laws.{Gives}
+use Rattle.still_law.specs.Laws.{LeaveHeap}
+use Rattle.still_law.proofs.Sites.{ServerStill, leaves_heap}
+use Rattle.still_law.proofs.Once.{shown_once}
+use Rattle.still_law.proofs.Evictions.{evictions}
+use Rattle.still_law.proofs.Arrivals.{starts as new_threads, parcels, migrations}
+use Rattle.still_law.proofs.Requests.{fetches}
+
+abbrev pub IsStill : Kind → Type 0
+IsStill evicts = ⊤
+IsStill migrates = ⊤
+IsStill starts = ⊤
+IsStill arrives = ⊤
+IsStill fetch = ⊤
+IsStill kind = ⊥
+
+some_same : {a b : Kind} → Some a ≡ Some b → b ≡ a
+some_same e = cc
+
+still_as : (a b : Kind) → Some a ≡ Some b → IsStill b → IsStill a
+still_as a b q p = subst IsStill (some_same q) p
+
+-- no step is one of these
+no_step : (i : Instr) → IsStill (instr_kind i) → ⊥
+no_step (instr.Let o) p = p
+no_step (instr.Assign w o) p = p
+no_step (instr.Read w t) p = p
+no_step (instr.Borrow w) p = p
+no_step (instr.BorrowMut w) p = p
+no_step (instr.Box o) p = p
+no_step (instr.Arith f a b) p = p
+no_step (instr.Print o) p = p
+no_step instr.Discard p = p
+no_step instr.DropSlot p = p
+no_step (instr.Spawn cs pc) p = p
+no_step (instr.Join o) p = p
+no_step (instr.Mutex o) p = p
+no_step (instr.Dup w) p = p
+no_step (instr.Lock w) p = p
+no_step instr.Unlock p = p
+no_step (instr.Par cs pc ds other) p = p
+no_step instr.ParEnd p = p
+no_step (instr.End o) p = p
+
+module _ (k : Cluster) (s : Server) where
+  message_still : (i : ℕ) (m : Message) → slice_get s.rest.inbox i ≡ Some m → IsStill (message_kind m) → Gives (ServerStill s) (does k.code k.options s (Deliver i))
+  message_still i (message.Fetch w o a t) q p = fetches k s i w o a t q
+  message_still i (message.Start t) q p = new_threads k s i t q
+  message_still i (message.Migrate t) q p = parcels k s i t q
+  message_still i (message.Fetched w c t) q p = absurd p
+  message_still i (message.Move w o a t) q p = absurd p
+  message_still i (message.Moved w c t) q p = absurd p
+  message_still i (message.Drop w o) q p = absurd p
+  message_still i (message.Lock m a t) q p = absurd p
+  message_still i (message.Granted m v t) q p = absurd p
+  message_still i (message.Unlock m v) q p = absurd p
+  message_still i (message.Dup m a t) q p = absurd p
+  message_still i (message.Dupped m t) q p = absurd p
+  message_still i (message.Release r) q p = absurd p
+  message_still i (message.Join u a t) q p = absurd p
+  message_still i (message.Joined u v t) q p = absurd p
+  message_still i (message.Finished u v) q p = absurd p
+
+  module _ (kind : Kind) (p : IsStill kind) where
+    of_message : (i : ℕ) (o : Option Message) → slice_get s.rest.inbox i ≡ o → option_map message_kind o ≡ Some kind → Gives (ServerStill s) (does k.code k.options s (Deliver i))
+    of_message i None h r = absurd (cc r)
+    of_message i (Some m) h r = message_still i m h (still_as (message_kind m) kind r p)
+
+    of_instr : {X : Type 0} (o : Option Instr) → option_map instr_kind o ≡ Some kind → X
+    of_instr None r = absurd (cc r)
+    of_instr (Some i) r = absurd (no_step i (still_as (instr_kind i) kind r p))
+
+    of_thread : {X : Type 0} (o : Option ThreadState) → then_some o (λ x. option_map instr_kind (slice_get k.code x.pc)) ≡ Some kind → X
+    of_thread None r = absurd (cc r)
+    of_thread (Some x) r = of_instr (slice_get k.code x.pc) r
+
+    pub server_still : (w : What) → kind_at k w s ≡ Some kind → Gives (ServerStill s) (does k.code k.options s w)
+    server_still (Step t) q = of_thread (thread_in s.threads t) q
+    server_still (Deliver i) q = of_message i (slice_get s.rest.inbox i) refl q
+    server_still (Evict w) q = evictions k s w
+    server_still (Migrate t target) q = migrations k s t target
+
+pub kind_leaves : (kind : Kind) → IsStill kind → LeaveHeap kind
+kind_leaves kind p k e q sound few = leaves_heap shown_once k e sound few (λ s h. server_still k s kind p e.what (subst (λ o. then_some o (kind_at k e.what) ≡ Some kind) h q))

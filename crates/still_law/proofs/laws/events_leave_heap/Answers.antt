@@ -1,0 +1,12 @@
+use Rattle.event_law.specs.Kinds.{evicts, migrates, starts, arrives, fetch}
+use Rattle.still_law.proofs.laws.events_leave_heap.Goals as goal
+use Rattle.still_law.proofs.StillKinds.{kind_leaves}
+
+pub returns : goal.returns
+returns c = record {
+  evictions = kind_leaves evicts tt;
+  migrations = kind_leaves migrates tt;
+  starts = kind_leaves starts tt;
+  parcels = kind_leaves arrives tt;
+  fetches = kind_leaves fetch tt;
+}

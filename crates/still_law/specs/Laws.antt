@@ -1,0 +1,25 @@
+-- Laws of events without a plain step: the one heap stays as it was.
+use Rattle.std.specs.Prelude.{◌≡◌, Some}
+use Rattle.fr_plain.specs.PlainState.{SameState}
+use Rattle.journal.specs.View.{EntryView}
+use Rattle.server_model.specs.declared.event.Event.{Event}
+use Rattle.server_model.specs.Servers.{Cluster}
+use Rattle.server_model.specs.Clusters.{apply}
+use Rattle.heap_law.specs.Things.{things_of}
+use Rattle.heap_law.specs.OneHeap.{one_heap}
+use Rattle.heap_law.specs.Coherent.{IsSound}
+use Rattle.event_law.specs.Kinds.{Kind, kind_of}
+use Rattle.event_law.specs.Laws.{Gives, FewEvents}
+use Rattle.still_law.specs.Shows.{ShowAlike}
+
+-- clusters of one code whose things show alike stand for the same one heap
+abbrev pub AlikeStandForOne : Type 0
+AlikeStandForOne = (k c : Cluster) → IsSound k → c.code ≡ k.code → ShowAlike (things_of k) (things_of c) → SameState (one_heap c) (one_heap k)
+
+-- the event, with its messages handed over, leaves the one heap as it was
+abbrev pub LeavesHeap : Cluster → Event → Type 0
+LeavesHeap k e = Gives (λ (d : Cluster × EntryView). SameState (one_heap d.0) (one_heap k)) (apply k e)
+
+-- each event of that kind does, from a sound cluster
+abbrev pub LeaveHeap : Kind → Type 0
+LeaveHeap kind = (k : Cluster) (e : Event) → kind_of k e ≡ Some kind → IsSound k → FewEvents k → LeavesHeap k e

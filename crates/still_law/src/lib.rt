@@ -1,0 +1,6 @@
+//! An event that does no plain step leaves the one heap as it was. There is no code here: a law is the contract of a function with an empty body.
+#![tactic(auto)]
+
+mod laws;
+
+pub use laws::{alike_stand_for_one, events_leave_heap};
