@@ -8,8 +8,8 @@ use fr_base::NoMemory;
 use std::alloc::Global;
 use std::marker::Model;
 
-// Keys are below this number.
-const KEYS: u64 = 1 << 40;
+/// Keys are below this number.
+pub(crate) const KEYS: u64 = 1 << 40;
 
 /// Items by key, in the order of their keys; keys are below 2^40. An item stands at a place, and only making a place takes memory.
 /// Contracts see the places by rising key, each free or with its item.

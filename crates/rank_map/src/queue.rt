@@ -3,7 +3,7 @@
 ghost use Rattle.std.specs.Prelude.{◌≡◌, ◌+◌, ◌++◌, ◌<◌, ◌≤◌, [], ◌∷◌, Some, length, option_map, slice_get, IsOk, OnOk, OnErr};
 ghost use Rattle.std.specs.List.{remove};
 
-use crate::map::RankMap;
+use crate::map::{KEYS, RankMap};
 use fr_base::NoMemory;
 use std::alloc::Global;
 use std::marker::Model;
@@ -61,13 +61,17 @@ impl<T: Drop> Queue<T> {
         }
     }
 
-    /// Makes room for `n` more items. The items stay as they are, also where it is refused; room that was made stays.
+    /// Makes room for `n` more items. The items stay as they are, also where it is refused; room that was made stays. More than the queue
+    /// can take in its life are refused at once.
     pub fn reserve(&mut self, n: usize) -> Result<(), NoMemory>
         ensures items { self.new.items ≡ self.old.items }
         ensures room { OnOk result (n ≤ self.new.room) }
         ensures had_room { n ≤ self.old.room → IsOk result }
         ensures spare { self.old.room ≤ self.new.room }
     {
+        if n as u64 > KEYS - self.next {
+            return Err(NoMemory);
+        }
         while self.room < n as u64 {
             self.make_room()?;
         }
@@ -81,7 +85,7 @@ impl<T: Drop> Queue<T> {
         ensures refused { OnErr result (self.new ≡ self.old) }
     {
         let key = self.next + self.room;
-        if key == 1 << 40 {
+        if key == KEYS {
             return Err(NoMemory);
         }
         self.map.reserve(key)?;

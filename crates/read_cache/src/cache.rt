@@ -208,7 +208,8 @@ impl Cache {
     }
 
     /// Makes room for a copy under the word, which stays until `fill` uses it. A word that is there needs none. The copies stay
-    /// as they are, and a refusal changes nothing.
+    /// as they are, and a refusal changes nothing. Once 2^40 copies were filled or have room, it answers `NoMemory` for each word that
+    /// isn't there, whatever memory there is.
     pub fn reserve(&mut self, word: Word) -> Result<(), NoMemory>
         ensures state { self.new.state ≡ self.old.state }
         ensures rooms { OnOk result (self.new.rooms ≡ with_room self.old word) }
