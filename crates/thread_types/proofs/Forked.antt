@@ -243,7 +243,7 @@ module _ {y : Typing} {a a2 : PlainState Position} {t u w : ℕ} {x xu xw : Runn
   known b nt j q z is = ⊎_elim (λ (r : y.exact j ≡ refers q z). inl (j, r)) (λ (r : NewView y t u x n j q z). inr (t, r.1, (λ d. nt (sym d)), r.3)) (c.refs j q z is)
 
   one_of : (b : ℕ) → (b ≡ t) ⊎ ((b ≡ u) ⊎ (b ≡ w)) → GoesOnAs y a a2 b E2
-  one_of b (inl q) = subst (λ z. GoesOnAs y a a2 z E2) (sym q) (record { before = x; after = x2; runs = f.runs; now = passes.now; core = parent_core; marked = c.marked; still = c.still })
+  one_of b (inl q) = subst (λ z. GoesOnAs y a a2 z E2) (sym q) (record { thread = record { before = x; after = x2; runs = f.runs; now = passes.now; marked = c.marked; still = c.still }; core = parent_core })
   one_of b (inr (inl q)) = subst (λ z. GoesOnAs y a a2 z E2) (sym q) (turned (new_turn giver c passes.now_new) passes.pairs (known u f.differ) (off_temp giver c u) c.held)
   one_of b (inr (inr q)) = subst (λ z. GoesOnAs y a a2 z E2) (sym q) (turned second_turn passes.pairs (known w f.other) (off_temp giver c w) c.held)
 

@@ -25,3 +25,4 @@ pub mod GivenValues
 pub mod ForkedViews
 pub mod AllPass
 pub mod Added
+pub mod Fates

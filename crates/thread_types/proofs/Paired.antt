@@ -7,20 +7,18 @@ use Rattle.fr_typing.proofs.PlaceLemmas.{eq_cases}
 use Rattle.fr_store.specs.Keys.{Key, slot_k, temp_k, content_k, result_k, hand_k}
 use Rattle.fr_store.specs.Store.{Alike, at_key, at_object, gone_v, Store, Place}
 use Rattle.fr_store.specs.Typed.{int_tree, owns, refers, KeyTypes, Typed}
-use Rattle.fr_store.specs.Below.{tree_of}
 use Rattle.fr_store.specs.Thread.{ThreadKeys, ThreadTyped, Asleep}
 use Rattle.fr_store.proofs.Keys.{decide_number}
 use Rattle.fr_store.proofs.Rows.{same_store}
-use Rattle.fr_plain.specs.declared.value.Value.{Value}
 use Rattle.fr_plain.specs.State.{slot_at}
-use Rattle.fr_plain.specs.MachineThreads.{owing, ended}
+use Rattle.fr_plain.specs.MachineThreads.{owing}
 use Rattle.fr_plain.specs.PlainState.{Running, PlainState, place_in}
 use Rattle.fr_sound.specs.Entries.{Entry, going, forked_at}
 use Rattle.fr_sound.specs.Seen.{seen_cell}
 use Rattle.fr_sound.specs.States.{Typing, RunningTyped, slot_val, temp_val, result_val, content_val, hand_key, hand_kind, operands, IsThread, env_at, is_hidden, IsLock, WaitsFor, IsKept, IsBranch, IsOwed}
 use Rattle.plain_types.specs.Positions.{Position, Knows, temps_of, PositionTypes}
 use Rattle.plain_types.proofs.Lower.{seen_as, seen_is}
-use Rattle.plain_types.proofs.OneThread.{store, typing_with, Counted, Carried, RunningCore, with_running, runs_still, kept_still, kept_before, none_ended}
+use Rattle.plain_types.proofs.OneThread.{store, typing_with, Counted, Carried, RunningCore, with_running, runs_still, kept_before}
 use Rattle.plain_types.proofs.Turns.{nobody_by, waits_more, turns_typed}
 use Rattle.plain_types.proofs.Focus.{temp_is, temp_free}
 use Rattle.plain_types.proofs.AtHand.{result_same}
@@ -28,6 +26,10 @@ use Rattle.plain_types.proofs.Hand.{At}
 use Rattle.plain_types.proofs.Stays.{Stays, there_by, mutexes_by, objects_by, owned_by, of_by, near_by, named_by}
 use Rattle.plain_types.proofs.Threads.{no_pair}
 use Rattle.plain_types.proofs.Fresh.{none_waits, not_kept, none_for, none_slot, none_temp, none_result, hole_slot, hole_temp, free_slot, new_core}
+use Rattle.thread_types.proofs.Fates.{Fate, goes_on, comes, kept_to, ended_back, runs_to, mark_to, mark_back}
+use Rattle.fr_base.specs.declared.name.MutexNo.{MutexNo}
+use Rattle.fr_base.specs.declared.name.ObjNo.{ObjNo}
+use Rattle.fr_base.specs.declared.label.Plain.{Plain}
 
 -- HOW MANY WAIT ABOVE may be told otherwise, of threads that aren't there
 
@@ -98,7 +100,8 @@ module _ (y : Typing) (a a2 : PlainState Position) (t b c : ℕ) (x : Running Po
   abbrev s2 : Store
   s2 = store (typing_with y y.exact y.marks) a2
 
-  module _ (now : a2.thread t ≡ with_running (a.thread t) x2) (new_b : a2.thread b ≡ Some (owing xb)) (new_c : a2.thread c ≡ Some (owing xc)) (others : (w : ℕ) → w ≢ t → w ≢ b → w ≢ c → a2.thread w ≡ a.thread w) (pair : a2.pair t ≡ Some (b, c)) (pairs : (w : ℕ) → w ≢ t → a2.pair w ≡ a.pair w) (stays : Stays a a2) where
+  module _ (now : a2.thread t ≡ with_running (a.thread t) x2) (new_b : a2.thread b ≡ Some (owing xb)) (new_c : a2.thread c ≡ Some (owing xc)) (others : (w : ℕ) → w ≢ t → w ≢ b → w ≢ c → a2.thread w ≡ a.thread w) (pair : a2.pair t ≡ Some (b, c)) (pairs : (w : ℕ) → w ≢ t → a2.pair w ≡ a.pair w) (mutexes : (m : MutexNo) → a2.mutex m ≡ a.mutex m) (given : (m : MutexNo) → a2.is_given m ≡ a.is_given m) (objects : (o : ObjNo) → a2.object o ≡ a.object o)
+      (made : (o : ObjNo) (v : Plain) (w : Running Position) → a2.object o ≡ Some v → place_in (a2.thread o.thread) ≡ Some w → o.count < a2.made o.thread) where
     run : RunningTyped Knows temps_of y s1 t (a.pair t) x
     run = at.state.threads t x at.runs
 
@@ -140,7 +143,7 @@ module _ (y : Typing) (a a2 : PlainState Position) (t b c : ℕ) (x : Running Po
         (λ q. subst (λ v. s2.at (temp_k v i) ≡ s1.at (temp_k v i)) (sym q) (new_temp b i pb new_b temps_b ∙ sym (none_temp y a at.state b none_b i)))
         (λ q. subst (λ v. s2.at (temp_k v i) ≡ s1.at (temp_k v i)) (sym q) (new_temp c i pc new_c temps_c ∙ sym (none_temp y a at.state c none_c i)))
         (λ nt nb nc. ap (λ z. temp_val temps_of y w i (place_in z)) (others w nt nb nc))
-    same_key (content_k m n) = ap (content_val y.gives) (stays.mutexes (record { home = m; count = n }))
+    same_key (content_k m n) = ap (content_val y.gives) (mutexes (record { home = m; count = n }))
     same_key (result_k w) =
         by_three (λ v. s2.at (result_k v) ≡ s1.at (result_k v)) w
         (λ q. subst (λ v. s2.at (result_k v) ≡ s1.at (result_k v)) (sym q) (ap (result_val temps_of y t) now ∙ result_same y t (a.thread t) x x2 at.runs))
@@ -150,7 +153,7 @@ module _ (y : Typing) (a a2 : PlainState Position) (t b c : ℕ) (x : Running Po
     same_key (hand_k w) = refl
 
     alike : Alike s1 s2
-    alike (at_object o) = ap (seen_cell y.gives) (stays.objects o)
+    alike (at_object o) = ap (seen_cell y.gives) (objects o)
     alike (at_key k) = ap Some (same_key k)
 
     typed : Typed y.rank y.exact s2
@@ -225,17 +228,26 @@ module _ (y : Typing) (a a2 : PlainState Position) (t b c : ℕ) (x : Running Po
     back : (p w : ℕ) → p ≢ t → WaitsFor a2 p w → WaitsFor a p w
     back p w nt h = record { first = h.first; second = h.second; pair = sym (pairs p nt) ∙ h.pair; one = h.one }
 
-    kept_to : (w : ℕ) → IsKept (a.thread w) → IsKept (a2.thread w)
-    kept_to w z =
-        by_three (λ v. IsKept (a2.thread v)) w (λ q. subst (λ n. IsKept (a2.thread n)) (sym q) (subst IsKept (sym now) (kept_still (a.thread t) x2 (subst (λ n. IsKept (a.thread n)) q z))))
-        (λ q. absurd (not_kept y a at.state w (fresh w (inl q)) z)) (λ q. absurd (not_kept y a at.state w (fresh w (inr q)) z)) (λ nt nb nc. subst IsKept (sym (others w nt nb nc)) z)
+    fates : (w : ℕ) → three t b c w ≡ true → Fate a a2 w
+    fates w q = by (three_is t b c w q)
+      where
+        by : (w ≡ t) ⊎ ((w ≡ b) ⊎ (w ≡ c)) → Fate a a2 w
+        by (inl f) = subst (Fate a a2) (sym f) (goes_on (record { before = x; after = x2; runs = at.runs; now = now; marked = λ i m h. h; still = λ i m h. h }))
+        by (inr (inl f)) = subst (Fate a a2) (sym f) (comes (record { none = none_b; after = xb; now = new_b; empty = refl }))
+        by (inr (inr f)) = subst (Fate a a2) (sym f) (comes (record { none = none_c; after = xc; now = new_c; empty = refl }))
+
+    beyond : (w : ℕ) → three t b c w ≡ false → a2.thread w ≡ a.thread w
+    beyond w q = let ne = three_not t b c w q in others w ne.0 ne.1 ne.2
+
+    stays : Stays a a2
+    stays = record { mutexes = mutexes; given = given; objects = objects; marks_to = mark_to fates beyond; marks_back = mark_back fates beyond; made = made }
 
     -- whom somebody waited for is none of the new ones
     not_new : (w : ℕ) → IsKept (a.thread w) → (w ≡ b) ⊎ (w ≡ c) → ⊥
     not_new w z q = not_kept y a at.state w (fresh w q) z
 
     branch : (p w : ℕ) → IsBranch y a p w → IsBranch y a2 p w
-    branch p w d = record { kept = kept_to w d.kept; gives = d.gives; only = λ q r. ⊎_elim (λ (f : q ≡ t). absurd (not_new w d.kept (one_of w (subst (λ z. WaitsFor a2 z w) f r)))) (λ (nt : q ≢ t). d.only q (back q w nt r)) (decide_number q t); below = d.below }
+    branch p w d = record { kept = kept_to fates beyond w d.kept; gives = d.gives; only = λ q r. ⊎_elim (λ (f : q ≡ t). absurd (not_new w d.kept (one_of w (subst (λ z. WaitsFor a2 z w) f r)))) (λ (nt : q ≢ t). d.only q (back q w nt r)) (decide_number q t); below = d.below }
 
     branch_new : (w : ℕ) (p : Position) → (w ≡ b) ⊎ (w ≡ c) → a2.thread w ≡ Some (owing (record { place = p; slots = [] })) → y.gives.result w ≡ unit → y.order t < y.order w → IsBranch y a2 t w
     branch_new w p f is gives below = record { kept = subst IsKept (sym is) tt; gives = gives; only = λ q r. ⊎_elim (λ (i : q ≡ t). i) (λ (nt : q ≢ t). absurd (none_for y a at.state w (fresh w f) q (back q w nt r))) (decide_number q t); below = below }
@@ -260,18 +272,10 @@ module _ (y : Typing) (a a2 : PlainState Position) (t b c : ℕ) (x : Running Po
         old nt = let k = at.state.pairs p f d (sym (pairs p nt) ∙ z) in (k.0, branch p f k.1, branch p d k.2)
 
     parents : (p f d : ℕ) → a2.pair p ≡ Some (f, d) → (w : Running Position) × (place_in (a2.thread p) ≡ Some w)
-    parents p f d z = ⊎_elim (λ (q : p ≡ t). (x2, ap (λ n. place_in (a2.thread n)) q ∙ runs_two)) (λ (nt : p ≢ t). old nt) (decide_number p t)
-      where
-        old : p ≢ t → (w : Running Position) × (place_in (a2.thread p) ≡ Some w)
-        old nt =
-            let k = at.state.parents p f d (sym (pairs p nt) ∙ z) in
-            (k.0, ap place_in (others p nt (λ q. none p k.0 k.1 (inl q)) (λ q. none p k.0 k.1 (inr q))) ∙ k.1)
-          where
-            none : (p : ℕ) (w : Running Position) → place_in (a.thread p) ≡ Some w → (p ≡ b) ⊎ (p ≡ c) → ⊥
-            none p w i q = let n : None ≡ Some w = sym (ap place_in (fresh p q)) ∙ i in cc
+    parents p f d z = ⊎_elim (λ (q : p ≡ t). (x2, ap (λ n. place_in (a2.thread n)) q ∙ runs_two)) (λ (nt : p ≢ t). let k = at.state.parents p f d (sym (pairs p nt) ∙ z) in runs_to fates beyond p k.0 k.1) (decide_number p t)
 
     owed_to : (w : ℕ) → IsOwed a w → IsOwed a2 w
-    owed_to w d = record { free = λ p r. ⊎_elim (λ (f : p ≡ t). not_new w d.kept (one_of w (subst (λ z. WaitsFor a2 z w) f r))) (λ (nt : p ≢ t). d.free p (back p w nt r)) (decide_number p t); kept = kept_to w d.kept }
+    owed_to w d = record { free = λ p r. ⊎_elim (λ (f : p ≡ t). not_new w d.kept (one_of w (subst (λ z. WaitsFor a2 z w) f r))) (λ (nt : p ≢ t). d.free p (back p w nt r)) (decide_number p t); kept = kept_to fates beyond w d.kept }
 
     owed_back : (w : ℕ) → IsOwed a2 w → IsOwed a w
     owed_back w d = record { free = λ p r. d.free p (waits_more a a2 more p w r); kept = kept d.kept }
@@ -284,13 +288,6 @@ module _ (y : Typing) (a a2 : PlainState Position) (t b c : ℕ) (x : Running Po
             by_three (λ v. IsKept (a.thread v)) w (λ q. subst (λ n. IsKept (a.thread n)) (sym q) (kept_before (a.thread t) x2 (subst IsKept now (subst (λ n. IsKept (a2.thread n)) q z))))
             (λ q. absurd (d.free t (waited (inl q)))) (λ q. absurd (d.free t (waited (inr q)))) (λ nt nb nc. subst IsKept (others w nt nb nc) z)
 
-    results : (w : ℕ) (r : Value) → a2.thread w ≡ Some (ended r) → y.exact (result_k w) ≡ owns (tree_of (y.gives.result w))
-    results w r z =
-        by_three (λ v. y.exact (result_k v) ≡ owns (tree_of (y.gives.result v))) w (λ q. absurd (none_ended (a.thread t) x x2 r at.runs (sym now ∙ ap a2.thread (sym q) ∙ z)))
-        (λ q. let f : Some (owing xb) ≡ Some (ended r) = sym new_b ∙ ap a2.thread (sym q) ∙ z in absurd cc)
-        (λ q. let f : Some (owing xc) ≡ Some (ended r) = sym new_c ∙ ap a2.thread (sym q) ∙ z in absurd cc)
-        (λ nt nb nc. at.state.results w r (sym (others w nt nb nc) ∙ z))
-
     no_pairs : (w : ℕ) → (w ≡ t) ⊎ ((w ≡ b) ⊎ (w ≡ c)) → a.pair w ≡ None
     no_pairs w (inl q) = ap a.pair q ∙ alone
     no_pairs w (inr q) = none_waits y a at.state w (fresh w q)
@@ -300,7 +297,7 @@ module _ (y : Typing) (a a2 : PlainState Position) (t b c : ℕ) (x : Running Po
     paired_typed = turns_typed at.state (record {
       typed = typed;
       mine = λ w z q i. mine w z (three_is t b c w q) i;
-      others = λ w z q i. let ne = three_not t b c w q in sym (ap place_in (others w ne.0 ne.1 ne.2)) ∙ i;
+      others = λ w z q i. sym (ap place_in (beyond w q)) ∙ i;
       pairs = λ w q. let ne = three_not t b c w q in pairs w ne.0;
       same = λ k q. refl;
       of = of_by y a a2 (three t b c) y.exact at.state refs;
@@ -309,7 +306,7 @@ module _ (y : Typing) (a a2 : PlainState Position) (t b c : ℕ) (x : Running Po
       nobody = nobody_by y a (three t b c) at.state (λ w q. no_pairs w (three_is t b c w q));
       marks = λ w i q. refl;
       held = λ w i m z q r f. alike (y.marks w i);
-      results = results;
+      results = λ w r z. at.state.results w r (ended_back fates beyond w r z);
       branches = branches;
       parents = parents;
       there = there_by y a a2 y.exact Counted at.state stays carried (λ m q. tt);
@@ -319,5 +316,5 @@ module _ (y : Typing) (a a2 : PlainState Position) (t b c : ℕ) (x : Running Po
       owed_stand = λ w d. let f = at.state.owed_stand w (owed_back w d) in (f.0, f.1, alike f.0 ∙ f.2);
       objects_there = objects_by y a a2 y.exact Counted at.state stays carried (λ o. tt);
       objects_owned = owned_by y a a2 y.exact Counted at.state stays carried (λ o. tt);
-      objects_made = stays.made;
+      objects_made = made;
     })

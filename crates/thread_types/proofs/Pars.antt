@@ -2,7 +2,6 @@
 use Rattle.std.proofs.Common.{◌≡◌, ◌≢◌, ◌⊎◌, inl, inr, ⊎_elim, ◌∙◌, ap₂, ℕ, suc, ◌<◌, Bool, true, false, List, [], ◌∷◌, ◌++◌, length, Option, Some, None, refl, sym, ap, subst, arith}
 use Rattle.std.specs.Prelude.{◌==◌, ◌||◌, is_some, if◌then◌else◌}
 use Rattle.fr_base.specs.declared.label.Label.TheVariants as label
-use Rattle.fr_base.specs.declared.name.MutexNo.{MutexNo}
 use Rattle.fr_base.specs.declared.step.Fresh.{Fresh}
 use Rattle.fr_base.specs.declared.step.Fresh.TheVariants as fresh
 use Rattle.fr_typing.specs.Kinds.{Owned, unit, Kind}
@@ -13,17 +12,14 @@ use Rattle.fr_store.specs.Keys.{Key, slot_k, temp_k}
 use Rattle.fr_store.specs.Store.{Place}
 use Rattle.fr_store.specs.Typed.{hole, owns, refers}
 use Rattle.fr_store.specs.Thread.{ThreadKeys, OwnOrForeign}
-use Rattle.fr_store.proofs.Keys.{decide_number}
 use Rattle.fr_plain.specs.declared.value.Value.{Value}
-use Rattle.fr_plain.specs.declared.value.Value.TheVariants.{Held}
-use Rattle.fr_plain.specs.State.{slot_at}
 use Rattle.fr_plain.specs.MachineActs.{Capture, do_par, unit as unit_value}
 use Rattle.fr_plain.specs.MachineThreads.{Now, Move, Life, owing, Thread, Whole, thread_at, with_thread, is_over, is_given, pass}
 use Rattle.fr_plain.specs.Machine.{two_threads, takes_of, refused_names, two_with, second_of, name_used}
 use Rattle.fr_plain.specs.PlainState.{Running, PlainState, place_in, running, running_in, plain_state}
 use Rattle.fr_sound.specs.Entries.{Entry, going, forked_at}
 use Rattle.fr_sound.specs.Seen.{Gives}
-use Rattle.fr_sound.specs.States.{Typing, WaitsFor, IsKept, IsBranch, IsMark}
+use Rattle.fr_sound.specs.States.{Typing, WaitsFor, IsKept, IsBranch}
 use Rattle.fr_code.specs.CodeTypes.{wait, SlotsPass}
 use Rattle.fr_code.specs.Steps.{captured}
 use Rattle.plain_types.specs.Positions.{Position, PositionTypes, moves_by, StartsAs}
@@ -34,7 +30,6 @@ use Rattle.plain_types.proofs.Raised.{ranked_by, raised_typing}
 use Rattle.plain_types.proofs.Focus.{top_none, Focus}
 use Rattle.plain_types.proofs.Slots.{focus_at}
 use Rattle.plain_types.proofs.Hand.{At}
-use Rattle.plain_types.proofs.Stays.{Stays}
 use Rattle.plain_types.proofs.Done.{runs_here, step_named}
 use Rattle.plain_types.proofs.Regiven.{giving, regiven}
 use Rattle.plain_types.proofs.Threads.{objects_counted}
@@ -204,47 +199,6 @@ module _ (s : Whole Position) (t : Thread Position) (p : Position) (wrap : Posit
   others : (w : ℕ) → w ≢ t.number → w ≢ b → w ≢ c → a2.thread w ≡ a.thread w
   others w nt nb nc = ap running_in (three_beyond s t wrap goes stands still b c none_b none_c differ ts g p.temps e t.slots [] [] [] [] w nt nb nc)
 
-  -- the new threads have no mark
-  empty_b : (m : MutexNo) (w i : ℕ) → (w ≡ b) ⊎ (w ≡ c) → IsMark a2 m w i → ⊥
-  empty_b m w i q h =
-      let f : h.thread.slots ≡ [] = slots q in
-      let k : None ≡ Some (Held m) = ap (λ z. slot_at z i) (sym f) ∙ h.mark in
-      cc
-    where
-      slots : (w ≡ b) ⊎ (w ≡ c) → h.thread.slots ≡ []
-      slots (inl q) = let f : Some (record { place = branch; slots = [] }) ≡ Some h.thread = sym (ap place_in now_first) ∙ ap (λ z. place_in (a2.thread z)) (sym q) ∙ h.goes_on in cc
-      slots (inr q) = let f : Some (record { place = branch; slots = [] }) ≡ Some h.thread = sym (ap place_in now_second) ∙ ap (λ z. place_in (a2.thread z)) (sym q) ∙ h.goes_on in cc
-
-  by_four : (P : ℕ → Type 0) (w : ℕ) → (w ≡ t.number → P w) → ((w ≡ b) ⊎ (w ≡ c) → P w) → (w ≢ t.number → w ≢ b → w ≢ c → P w) → P w
-  by_four P w pt pn other = ⊎_elim pt (λ (nt : w ≢ t.number). ⊎_elim (λ (q : w ≡ b). pn (inl q)) (λ (nb : w ≢ b). ⊎_elim (λ (q : w ≡ c). pn (inr q)) (λ (nc : w ≢ c). other nt nb nc) (decide_number w c)) (decide_number w b)) (decide_number w t.number)
-
-  gone : (w : ℕ) → (w ≡ b) ⊎ (w ≡ c) → a.thread w ≡ None
-  gone w (inl q) = ap a.thread q ∙ gone_b
-  gone w (inr q) = ap a.thread q ∙ gone_c
-
-  mark_to : (m : MutexNo) (w i : ℕ) → IsMark a m w i → IsMark a2 m w i
-  mark_to m w i h =
-      by_four (λ v. IsMark a2 m v i) w mine (λ q. let f : None ≡ Some h.thread = sym (ap place_in (gone w q)) ∙ h.goes_on in absurd cc) (λ nt nb nc. record { thread = h.thread; goes_on = ap place_in (others w nt nb nc) ∙ h.goes_on; mark = h.mark })
-    where
-      mine : w ≡ t.number → IsMark a2 m w i
-      mine q =
-          let f : Some x ≡ Some h.thread = sym at.runs ∙ ap (λ z. place_in (a.thread z)) (sym q) ∙ h.goes_on in
-          let same : h.thread ≡ x = cc in
-          record { thread = x2; goes_on = ap (λ z. place_in (a2.thread z)) q ∙ runs_two; mark = ap (λ (z : Running Position). slot_at z.slots i) (sym same) ∙ h.mark }
-
-  mark_back : (m : MutexNo) (w i : ℕ) → IsMark a2 m w i → IsMark a m w i
-  mark_back m w i h =
-      by_four (λ v. IsMark a m v i) w mine (λ q. absurd (empty_b m w i q h)) (λ nt nb nc. record { thread = h.thread; goes_on = sym (ap place_in (others w nt nb nc)) ∙ h.goes_on; mark = h.mark })
-    where
-      mine : w ≡ t.number → IsMark a m w i
-      mine q =
-          let f : Some x2 ≡ Some h.thread = sym runs_two ∙ ap (λ z. place_in (a2.thread z)) (sym q) ∙ h.goes_on in
-          let same : h.thread ≡ x2 = cc in
-          record { thread = x; goes_on = ap (λ z. place_in (a.thread z)) q ∙ at.runs; mark = ap (λ (z : Running Position). slot_at z.slots i) (sym same) ∙ h.mark }
-
-  stays : Stays a a2
-  stays = record { mutexes = λ m. refl; given = λ m. refl; objects = λ o. refl; marks_to = mark_to; marks_back = mark_back; made = objects_counted next }
-
   pair : a2.pair t.number ≡ Some (b, c)
   pair = three_pair s t wrap goes stands still b c none_b none_c differ ts g p.temps e t.slots [] [] [] []
 
@@ -254,7 +208,7 @@ module _ (s : Whole Position) (t : Thread Position) (p : Position) (wrap : Posit
       (let f = order_off y.order t.number b c t.number (λ q. not_parent s t wrap goes stands still b c none_b none_c differ ts g p.temps b none_b (sym q)) (λ q. not_parent s t wrap goes stands still b c none_b none_c differ ts g p.temps c none_c (sym q)) in let h = order_first y.order t.number b c in omega (arith, f, h))
       (let f = order_off y.order t.number b c t.number (λ q. not_parent s t wrap goes stands still b c none_b none_c differ ts g p.temps b none_b (sym q)) (λ q. not_parent s t wrap goes stands still b c none_b none_c differ ts g p.temps c none_c (sym q)) in let h = order_second y.order t.number b c in omega (arith, f, h))
       keys_first keys_second refl refl refl refl now_here now_first now_second others pair
-      (three_pairs s t wrap goes stands still b c none_b none_c differ ts g p.temps e t.slots [] [] [] []) stays
+      (three_pairs s t wrap goes stands still b c none_b none_c differ ts g p.temps e t.slots [] [] [] []) (λ m. refl) (λ m. refl) (λ o. refl) (objects_counted next)
 
   -- BOTH ARE THERE, without slots; nobody names the parent's slots but itself
   pub forked : Forked y5 a2 t.number b c x2 (record { place = branch; slots = [] }) (record { place = branch; slots = [] }) e [] [] ts g

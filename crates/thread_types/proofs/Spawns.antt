@@ -1,9 +1,8 @@
 -- Starting a thread keeps a state typed: first the new thread is there without slots and its task at hand, and then its captures go slot by slot.
-use Rattle.std.proofs.Common.{◌≡◌, ◌≢◌, ⊎_elim, ◌∙◌, ap₂, ℕ, suc, Bool, true, false, List, [], ◌∷◌, ◌++◌, length, Option, Some, None, refl, sym, ap, subst}
+use Rattle.std.proofs.Common.{◌≡◌, ◌≢◌, ◌∙◌, ap₂, ℕ, suc, Bool, true, false, List, [], ◌∷◌, ◌++◌, length, Option, Some, None, refl, sym, ap, subst}
 use Rattle.std.specs.Prelude.{◌==◌, is_some, if◌then◌else◌}
 use Rattle.fr_base.specs.declared.label.Label.TheVariants as label
 use Rattle.fr_base.specs.declared.label.Plain.TheVariants as plain
-use Rattle.fr_base.specs.declared.name.MutexNo.{MutexNo}
 use Rattle.fr_base.specs.declared.step.Fresh.{Fresh}
 use Rattle.fr_base.specs.declared.step.Fresh.TheVariants as fresh
 use Rattle.fr_terms.specs.Terms.{Captured}
@@ -13,17 +12,16 @@ use Rattle.fr_typing.specs.Captures.{by_spawn, captured_kind, captured_slot, May
 use Rattle.fr_typing.proofs.PlaceLemmas.{eq_cases}
 use Rattle.fr_store.specs.Keys.{slot_k, temp_k}
 use Rattle.fr_store.specs.Thread.{ThreadKeys}
-use Rattle.fr_store.proofs.Keys.{decide_number}
 use Rattle.fr_plain.specs.declared.value.Value.{Value}
-use Rattle.fr_plain.specs.declared.value.Value.TheVariants.{Own, Held}
-use Rattle.fr_plain.specs.State.{slot_at, with_slot}
+use Rattle.fr_plain.specs.declared.value.Value.TheVariants.{Own}
+use Rattle.fr_plain.specs.State.{with_slot}
 use Rattle.fr_plain.specs.MachineActs.{Capture, do_spawn}
 use Rattle.fr_plain.specs.MachineThreads.{Now, Move, Life, owing, Thread, Whole, thread_at, with_thread, is_over, pass}
 use Rattle.fr_plain.specs.Machine.{takes_of, refused_names, started_with, started}
-use Rattle.fr_plain.specs.PlainState.{Running, PlainState, place_in, running, running_in, plain_state}
+use Rattle.fr_plain.specs.PlainState.{Running, PlainState, running, running_in, plain_state}
 use Rattle.fr_sound.specs.Entries.{Entry, going}
 use Rattle.fr_sound.specs.Seen.{Gives}
-use Rattle.fr_sound.specs.States.{Typing, IsMark}
+use Rattle.fr_sound.specs.States.{Typing}
 use Rattle.fr_code.specs.CodeTypes.{wait, SlotsPass}
 use Rattle.fr_code.specs.Steps.{captured}
 use Rattle.plain_types.specs.Positions.{Position, PositionTypes, moves_by, StartsAs}
@@ -40,7 +38,7 @@ use Rattle.plain_types.proofs.Threads.{objects_counted, pairs_by}
 use Rattle.plain_types.proofs.Fresh.{lifted_slots, lifted_keys, lifted_typed}
 use Rattle.thread_types.proofs.AllPass.{named_below, Copied, Moved, Passing, all_pass}
 use Rattle.thread_types.proofs.Started.{started_typed}
-use Rattle.thread_types.proofs.TwoStates.{goes_with, not_over, child_at, two_state, here, there, beyond, parent_runs, child_runs, over_same, value_is, take_typed, copy_typed}
+use Rattle.thread_types.proofs.TwoStates.{goes_with, not_over, child_at, two_state, here, there, beyond, over_same, value_is, take_typed, copy_typed}
 use Rattle.fr_plain.specs.Machine.{name_used}
 
 -- CAPTURES
@@ -165,40 +163,6 @@ module _ (s : Whole Position) (t : Thread Position) (p : Position) (wrap : Posit
   others : (w : ℕ) → w ≢ t.number → w ≢ u → (plain_state next).thread w ≡ (plain_state s).thread w
   others w nt nu = ap running_in (beyond s t wrap goes stands u none ts g k p.temps e t.slots [] [] w nt nu)
 
-  runs_two : place_in ((plain_state next).thread t.number) ≡ Some x2
-  runs_two = parent_runs s t wrap goes stands u none ts g k p.temps e t.slots [] []
-
-  mark_to : (m : MutexNo) (w i : ℕ) → IsMark (plain_state s) m w i → IsMark (plain_state next) m w i
-  mark_to m w i h =
-      ⊎_elim (λ (q : w ≡ t.number). mine q)
-      (λ (nt : w ≢ t.number). ⊎_elim (λ (q : w ≡ u). let f : None ≡ Some h.thread = sym (ap place_in none_there) ∙ ap (λ b. place_in ((plain_state s).thread b)) (sym q) ∙ h.goes_on in absurd cc)
-      (λ (nu : w ≢ u). record { thread = h.thread; goes_on = ap place_in (others w nt nu) ∙ h.goes_on; mark = h.mark }) (decide_number w u)) (decide_number w t.number)
-    where
-      mine : w ≡ t.number → IsMark (plain_state next) m w i
-      mine q =
-          let f : Some x ≡ Some h.thread = sym at.runs ∙ ap (λ b. place_in ((plain_state s).thread b)) (sym q) ∙ h.goes_on in
-          let same : h.thread ≡ x = cc in
-          record { thread = x2; goes_on = ap (λ b. place_in ((plain_state next).thread b)) q ∙ runs_two; mark = ap (λ (b : Running Position). slot_at b.slots i) (sym same) ∙ h.mark }
-
-  mark_back : (m : MutexNo) (w i : ℕ) → IsMark (plain_state next) m w i → IsMark (plain_state s) m w i
-  mark_back m w i h =
-      ⊎_elim (λ (q : w ≡ t.number). mine q)
-      (λ (nt : w ≢ t.number). ⊎_elim (λ (q : w ≡ u). absurd (empty q))
-      (λ (nu : w ≢ u). record { thread = h.thread; goes_on = sym (ap place_in (others w nt nu)) ∙ h.goes_on; mark = h.mark }) (decide_number w u)) (decide_number w t.number)
-    where
-      mine : w ≡ t.number → IsMark (plain_state s) m w i
-      mine q =
-          let f : Some x2 ≡ Some h.thread = sym runs_two ∙ ap (λ b. place_in ((plain_state next).thread b)) (sym q) ∙ h.goes_on in
-          let same : h.thread ≡ x2 = cc in
-          record { thread = x; goes_on = ap (λ b. place_in ((plain_state s).thread b)) q ∙ at.runs; mark = ap (λ (b : Running Position). slot_at b.slots i) (sym same) ∙ h.mark }
-
-      empty : w ≡ u → ⊥
-      empty q =
-          let f : Some (record { place = child_at s t wrap goes stands u none ts g k p.temps []; slots = [] }) ≡ Some h.thread = sym (child_runs s t wrap goes stands u none ts g k p.temps e t.slots [] []) ∙ ap (λ b. place_in ((plain_state next).thread b)) (sym q) ∙ h.goes_on in
-          let same : h.thread.slots ≡ [] = cc in
-          let g : None ≡ Some (Held m) = ap (λ b. slot_at b i) (sym same) ∙ h.mark in
-          cc
-
   keys : ThreadKeys (slot_k u) y3.rank (temp_k u 0)
   keys = record { differ = λ i j f. cc; off = λ i f. absurd cc; ranks = λ i j l. (lifted_keys 0 u 0 y.rank).ranks i j l }
 
@@ -208,7 +172,7 @@ module _ (s : Whole Position) (t : Thread Position) (p : Position) (wrap : Posit
     _,
     started_typed y3 (plain_state s) (plain_state next) t.number u x e ts g k (child_at s t wrap goes stands u none ts g k p.temps []) at_three focused none_there (result_new y.gives u k) keys refl refl now new others
         (pairs_by s next refl (over_same s t wrap goes stands u none ts g k p.temps e t.slots [] [] still))
-        (record { mutexes = λ m. refl; given = λ m. refl; objects = λ o. refl; marks_to = mark_to; marks_back = mark_back; made = objects_counted next }),
+        (λ m. refl) (λ m. refl) (λ o. refl) (objects_counted next),
   )
 
 -- THE ACT

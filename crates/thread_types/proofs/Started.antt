@@ -1,5 +1,5 @@
 -- A thread was started without slots, and its task came to hand: the state is typed again.
-use Rattle.std.proofs.Common.{◌≡◌, ◌≢◌, ◌⊎◌, inl, inr, ⊎_elim, ◌∙◌, ap₂, ℕ, suc, Bool, true, false, List, [], ◌∷◌, length, Some, None, refl, sym, ap, subst, arith}
+use Rattle.std.proofs.Common.{◌≡◌, ◌≢◌, ◌⊎◌, inl, inr, ⊎_elim, ◌∙◌, ap₂, ℕ, suc, ◌<◌, Bool, true, false, List, [], ◌∷◌, length, Some, None, refl, sym, ap, subst, arith}
 use Rattle.fr_base.specs.declared.label.Plain.TheVariants as plain
 use Rattle.fr_base.specs.declared.name.MutexNo.{MutexNo}
 use Rattle.fr_typing.specs.Kinds.{Owned, task, Kind, own, whole}
@@ -15,17 +15,16 @@ use Rattle.fr_store.proofs.Keys.{key_same, key_other, decide_number}
 use Rattle.fr_store.proofs.Chains.{decide_location}
 use Rattle.fr_store.proofs.Rows.{top_fits}
 use Rattle.fr_store.proofs.ThreadKept.{known_tree}
-use Rattle.fr_plain.specs.declared.value.Value.{Value}
 use Rattle.fr_plain.specs.declared.value.Value.TheVariants.{Own, Held}
 use Rattle.fr_plain.specs.State.{slot_at}
-use Rattle.fr_plain.specs.MachineThreads.{owing, ended}
+use Rattle.fr_plain.specs.MachineThreads.{owing}
 use Rattle.fr_plain.specs.PlainState.{Running, PlainState, place_in}
 use Rattle.fr_sound.specs.Entries.{Entry, going}
 use Rattle.fr_sound.specs.Seen.{seen_cell, OneTask}
 use Rattle.fr_sound.specs.States.{Typing, RunningTyped, slot_val, temp_val, result_val, content_val, env_at, is_hidden, IsLock, IsKept, IsBranch, IsOwed}
 use Rattle.plain_types.specs.Positions.{Position, Knows, temps_of, PositionTypes}
 use Rattle.plain_types.proofs.Lower.{seen_as, seen_is}
-use Rattle.plain_types.proofs.OneThread.{store, typing_with, CarriedOf, RunningCore, with_running, runs_still, kept_still, kept_before, none_ended, waits_same}
+use Rattle.plain_types.proofs.OneThread.{store, typing_with, CarriedOf, RunningCore, with_running, runs_still, kept_before, waits_same}
 use Rattle.plain_types.proofs.Turns.{theirs, nobody_by, turns_typed}
 use Rattle.plain_types.proofs.Focus.{top_some, hand_at, Focus, unfocus, temp_is, temp_free}
 use Rattle.plain_types.proofs.AtHand.{mark_off, result_same}
@@ -33,8 +32,11 @@ use Rattle.plain_types.proofs.Flat.{flat_typed}
 use Rattle.plain_types.proofs.Hand.{At, rehung, pushed_others, pushed_here}
 use Rattle.plain_types.proofs.Stays.{Stays, there_by, mutexes_by, objects_by, owned_by, of_by, near_by, named_by}
 use Rattle.plain_types.proofs.Threads.{no_pair}
+use Rattle.thread_types.proofs.Fates.{Fate, goes_on, comes, kept_to, ended_back, runs_to, mark_to, mark_back}
+use Rattle.fr_base.specs.declared.name.ObjNo.{ObjNo}
+use Rattle.fr_base.specs.declared.label.Plain.{Plain}
 use Rattle.thread_types.proofs.Joined.{ButTask}
-use Rattle.plain_types.proofs.Fresh.{either, either_first, either_is, either_not, none_waits, not_kept, none_for, none_task, none_slot, none_temp, none_result, hole_slot, hole_temp, free_slot, new_core}
+use Rattle.plain_types.proofs.Fresh.{either, either_first, either_is, either_not, none_waits, none_for, none_task, none_slot, none_temp, none_result, hole_slot, hole_temp, free_slot, new_core}
 
 module _ (y : Typing) (a a2 : PlainState Position) (t u : ℕ) (x : Running Position) (e : Env) (us : List Kind) (g k : Owned) (p : Position) (at : At y a t x e us g) (fc : Focus y a t e us None) (none : a.thread u ≡ None) (gives_is : y.gives.result u ≡ k) (keys : ThreadKeys (slot_k u) y.rank (temp_k u 0)) (entry : p.entry ≡ going [] [] k) (temps : p.temps ≡ []) where
   abbrev h : Key
@@ -58,7 +60,8 @@ module _ (y : Typing) (a a2 : PlainState Position) (t u : ℕ) (x : Running Posi
   abbrev s2 : Store
   s2 = store (typing_with y E2 y.marks) a2
 
-  module _ (now : a2.thread t ≡ with_running (a.thread t) x2) (new : a2.thread u ≡ Some (owing xu)) (others : (w : ℕ) → w ≢ t → w ≢ u → a2.thread w ≡ a.thread w) (pairs : (w : ℕ) → a2.pair w ≡ a.pair w) (stays : Stays a a2) where
+  module _ (now : a2.thread t ≡ with_running (a.thread t) x2) (new : a2.thread u ≡ Some (owing xu)) (others : (w : ℕ) → w ≢ t → w ≢ u → a2.thread w ≡ a.thread w) (pairs : (w : ℕ) → a2.pair w ≡ a.pair w) (mutexes : (m : MutexNo) → a2.mutex m ≡ a.mutex m) (given : (m : MutexNo) → a2.is_given m ≡ a.is_given m) (objects : (o : ObjNo) → a2.object o ≡ a.object o)
+      (made : (o : ObjNo) (v : Plain) (w : Running Position) → a2.object o ≡ Some v → place_in (a2.thread o.thread) ≡ Some w → o.count < a2.made o.thread) where
     run : RunningTyped Knows temps_of y s1 t (a.pair t) x
     run = at.state.threads t x at.runs
 
@@ -100,7 +103,7 @@ module _ (y : Typing) (a a2 : PlainState Position) (t u : ℕ) (x : Running Posi
     new_temp i = ap (λ z. temp_val temps_of (typing_with y E2 y.marks) u i (place_in z)) new ∙ temp_is (typing_with y E2 y.marks) u i xu ∙ ap (λ z. seen_as y.gives u gone_v (slot_at z i)) temps
 
     same : SameBut (at_key h) s1 s2
-    same (at_object o) nh = ap (seen_cell y.gives) (stays.objects o)
+    same (at_object o) nh = ap (seen_cell y.gives) (objects o)
     same (at_key j) nh = ap Some (by j nh)
       where
         by : (j : Key) → at_key j ≢ at_key h → s2.at j ≡ s1.at j
@@ -110,7 +113,7 @@ module _ (y : Typing) (a a2 : PlainState Position) (t u : ℕ) (x : Running Posi
         by (temp_k w i) nh =
             ⊎_elim (λ (q : w ≡ t). ap (λ z. s2.at (temp_k z i)) q ∙ temp_two i (λ f. nh (ap₂ (λ z n. at_key (temp_k z n)) q f)) ∙ ap (λ z. s1.at (temp_k z i)) (sym q))
             (λ (nt : w ≢ t). ⊎_elim (λ (q : w ≡ u). ap (λ z. s2.at (temp_k z i)) q ∙ new_temp i ∙ sym (none_temp y a at.state u none i) ∙ ap (λ z. s1.at (temp_k z i)) (sym q)) (λ (nu : w ≢ u). ap (λ z. temp_val temps_of y w i (place_in z)) (others w nt nu)) (decide_number w u)) (decide_number w t)
-        by (content_k m c) nh = ap (content_val y.gives) (stays.mutexes (record { home = m; count = c }))
+        by (content_k m c) nh = ap (content_val y.gives) (mutexes (record { home = m; count = c }))
         by (result_k w) nh =
             ⊎_elim (λ (q : w ≡ t). ap (λ z. s2.at (result_k z)) q ∙ ap (result_val temps_of y t) now ∙ result_same y t (a.thread t) x x2 at.runs ∙ ap (λ z. s1.at (result_k z)) (sym q))
             (λ (nt : w ≢ t). ⊎_elim (λ (q : w ≡ u). ap (λ z. s2.at (result_k z)) q ∙ ap (result_val temps_of y u) new ∙ sym (none_result y a at.state u none) ∙ ap (λ z. s1.at (result_k z)) (sym q)) (λ (nu : w ≢ u). ap (result_val temps_of y w) (others w nt nu)) (decide_number w u)) (decide_number w t)
@@ -182,37 +185,33 @@ module _ (y : Typing) (a a2 : PlainState Position) (t u : ℕ) (x : Running Posi
 
     -- WHO IS KEPT
 
-    kept_to : (w : ℕ) → IsKept (a.thread w) → IsKept (a2.thread w)
-    kept_to w z =
-        ⊎_elim (λ (q : w ≡ t). subst (λ n. IsKept (a2.thread n)) (sym q) (subst IsKept (sym now) (kept_still (a.thread t) x2 (subst (λ n. IsKept (a.thread n)) q z))))
-        (λ (nt : w ≢ t). ⊎_elim (λ (q : w ≡ u). absurd (not_kept y a at.state u none (subst (λ n. IsKept (a.thread n)) q z))) (λ (nu : w ≢ u). subst IsKept (sym (others w nt nu)) z) (decide_number w u)) (decide_number w t)
+    fates : (w : ℕ) → either t u w ≡ true → Fate a a2 w
+    fates w q = by (either_is t u w q)
+      where
+        by : (w ≡ t) ⊎ (w ≡ u) → Fate a a2 w
+        by (inl f) = subst (Fate a a2) (sym f) (goes_on (record { before = x; after = x2; runs = at.runs; now = now; marked = λ i m h. h; still = λ i m h. h }))
+        by (inr f) = subst (Fate a a2) (sym f) (comes (record { none = none; after = xu; now = new; empty = refl }))
+
+    beyond : (w : ℕ) → either t u w ≡ false → a2.thread w ≡ a.thread w
+    beyond w q = let ne = either_not t u w q in others w ne.0 ne.1
+
+    stays : Stays a a2
+    stays = record { mutexes = mutexes; given = given; objects = objects; marks_to = mark_to fates beyond; marks_back = mark_back fates beyond; made = made }
 
     kept_back : (w : ℕ) → w ≢ u → IsKept (a2.thread w) → IsKept (a.thread w)
     kept_back w nu z = ⊎_elim (λ (q : w ≡ t). subst (λ n. IsKept (a.thread n)) (sym q) (kept_before (a.thread t) x2 (subst IsKept now (subst (λ n. IsKept (a2.thread n)) q z)))) (λ (nt : w ≢ t). subst IsKept (others w nt nu) z) (decide_number w t)
 
     branch : (p b : ℕ) → IsBranch y a p b → IsBranch y a2 p b
-    branch p b d = record { kept = kept_to b d.kept; gives = d.gives; only = λ q r. d.only q (waits_same a2 a (λ z. sym (pairs z)) q b r); below = d.below }
+    branch p b d = record { kept = kept_to fates beyond b d.kept; gives = d.gives; only = λ q r. d.only q (waits_same a2 a (λ z. sym (pairs z)) q b r); below = d.below }
 
     owed_to : (w : ℕ) → IsOwed a w → IsOwed a2 w
-    owed_to w d = record { free = λ q r. d.free q (waits_same a2 a (λ z. sym (pairs z)) q w r); kept = kept_to w d.kept }
+    owed_to w d = record { free = λ q r. d.free q (waits_same a2 a (λ z. sym (pairs z)) q w r); kept = kept_to fates beyond w d.kept }
 
     owed_back : (w : ℕ) → w ≢ u → IsOwed a2 w → IsOwed a w
     owed_back w nu d = record { free = λ q r. d.free q (waits_same a a2 pairs q w r); kept = kept_back w nu d.kept }
 
     owed_new : IsOwed a2 u
     owed_new = record { free = λ q r. none_for y a at.state u none q (waits_same a2 a (λ z. sym (pairs z)) q u r); kept = subst IsKept (sym new) tt }
-
-    parents : (p b c : ℕ) → a2.pair p ≡ Some (b, c) → (w : Running Position) × (place_in (a2.thread p) ≡ Some w)
-    parents p b c z =
-        let d = at.state.parents p b c (sym (pairs p) ∙ z) in
-        ⊎_elim (λ (q : p ≡ t). (x2, ap (λ n. place_in (a2.thread n)) q ∙ runs_two))
-        (λ (nt : p ≢ t). ⊎_elim (λ (q : p ≡ u). (xu, ap (λ n. place_in (a2.thread n)) q ∙ ap place_in new)) (λ (nu : p ≢ u). (d.0, ap place_in (others p nt nu) ∙ d.1)) (decide_number p u)) (decide_number p t)
-
-    results : (w : ℕ) (r : Value) → a2.thread w ≡ Some (ended r) → E2 (result_k w) ≡ owns (tree_of (y.gives.result w))
-    results w r z =
-        ⊎_elim (λ (q : w ≡ t). absurd (none_ended (a.thread t) x x2 r at.runs (sym now ∙ ap a2.thread (sym q) ∙ z)))
-        (λ (nt : w ≢ t). ⊎_elim (λ (q : w ≡ u). let f : Some (owing xu) ≡ Some (ended r) = sym new ∙ ap a2.thread (sym q) ∙ z in absurd cc)
-        (λ (nu : w ≢ u). off (result_k w) (λ q. cc) ∙ at.state.results w r (sym (others w nt nu) ∙ z)) (decide_number w u)) (decide_number w t)
 
     other_keys : (j : Key) → theirs (either t u) j ≡ false → E2 j ≡ y.exact j
     other_keys j z = off j (λ q. let f : true ≡ false = sym (either_first t u) ∙ sym (ap (theirs (either t u)) q) ∙ z in cc)
@@ -226,7 +225,7 @@ module _ (y : Typing) (a a2 : PlainState Position) (t u : ℕ) (x : Running Posi
     started_typed = turns_typed at.state (record {
       typed = typed;
       mine = λ w z q i. mine w z (either_is t u w q) i;
-      others = λ w z q i. let ne = either_not t u w q in sym (ap place_in (others w ne.0 ne.1)) ∙ i;
+      others = λ w z q i. sym (ap place_in (beyond w q)) ∙ i;
       pairs = λ w q. pairs w;
       same = other_keys;
       of = of_by y a a2 (either t u) E2 at.state refs;
@@ -235,9 +234,9 @@ module _ (y : Typing) (a a2 : PlainState Position) (t u : ℕ) (x : Running Posi
       nobody = nobody_by y a (either t u) at.state (λ w q. no_pairs w (either_is t u w q));
       marks = λ w i q. refl;
       held = λ w i m z q runs mark. held w i m z runs mark;
-      results = results;
+      results = λ w r z. off (result_k w) (λ q. cc) ∙ at.state.results w r (ended_back fates beyond w r z);
       branches = λ p b c z. let d = at.state.pairs p b c (sym (pairs p) ∙ z) in (d.0, branch p b d.1, branch p c d.2);
-      parents = parents;
+      parents = λ p b c z. let d = at.state.parents p b c (sym (pairs p) ∙ z) in runs_to fates beyond p d.0 d.1;
       there = there_by y a a2 E2 (ButTask u) at.state stays carried (λ m q. tt);
       mutexes = mutexes_by y a a2 E2 (ButTask u) at.state stays carried (λ m q. tt) (λ m. off (content_k m.home m.count) (λ q. cc));
       one_task = one_task;
@@ -245,5 +244,5 @@ module _ (y : Typing) (a a2 : PlainState Position) (t u : ℕ) (x : Running Posi
       owed_stand = λ w d. ⊎_elim (λ (q : w ≡ u). (at_key h, K, ap Some now_h ∙ ap (λ n. Some (task_v n K)) (sym q))) (λ (ne : w ≢ u). let f = at.state.owed_stand w (owed_back w ne d) in (f.0, f.1, carried.there f.0 (task_v w f.1) ne f.2)) (decide_number w u);
       objects_there = objects_by y a a2 E2 (ButTask u) at.state stays carried (λ o. tt);
       objects_owned = owned_by y a a2 E2 (ButTask u) at.state stays carried (λ o. tt);
-      objects_made = stays.made;
+      objects_made = made;
     })

@@ -50,7 +50,7 @@ module _ {y : Typing} {a a2 : PlainState Position} {t : ℕ} {x x2 : Running Pos
       → ((i : ℕ) → E2 (temp_k t i) ≡ y.exact (temp_k t i))
       → ((w i : ℕ) (m : MutexNo) (z : Running Position) → place_in (a.thread w) ≡ Some z → slot_at z.slots i ≡ Some (Held m) → value_at (store (typing_with y E2 y.marks) a2) (y.marks w i) ≡ value_at (store y a) (y.marks w i))
       → GoesOnAs y a a2 t E2
-  turned pairs refs same held = record { before = x; after = x2; runs = c.at.runs; now = c.now; core = core; marked = c.marked; still = c.still }
+  turned pairs refs same held = record { thread = record { before = x; after = x2; runs = c.at.runs; now = c.now; marked = c.marked; still = c.still }; core = core }
     where
       free : (n : ℕ) → Unnamed E2 (temp_k t n)
       free n j m w z f = ⊎_elim (λ (q : (k : Key) × (y.exact k ≡ refers m w)). temp_free y a t n c.at.state q.0 m w q.1 f) (λ (q : (v : ℕ) × (i : ℕ) × (v ≢ t) × (w.key ≡ slot_k v i)). let d : slot_k q.0 q.1 ≡ temp_k t n = sym q.3 ∙ f in absurd cc) (refs j m w z)
