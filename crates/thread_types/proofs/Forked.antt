@@ -48,15 +48,17 @@ pub record Forked (y : Typing) (a : PlainState Position) (t u w : ℕ) (x xu xw 
   pub waits : WaitsFor a t u
   pub waits_other : WaitsFor a t w
   pub only : (v : ℕ) → WaitsFor a t v → (v ≡ u) ⊎ (v ≡ w)
+  -- a reference stands in one of its slots, or it is shared and names no slot of it but one that refers
   pub foreign : (j : Key) (b : Bool) (z : Place) → y.exact j ≡ refers b z → ((i : ℕ) × (i < length e) × (j ≡ slot_k t i)) ⊎ ((k : ℕ) → z.key ≡ slot_k t k → (b ≡ false) × Refers (y.exact (slot_k t k)))
+  -- its slots rank below those of the two
   pub low : (i k : ℕ) → i < length e → y.rank (slot_k t i) < y.rank (slot_k u k)
   pub low_other : (i k : ℕ) → i < length e → y.rank (slot_k t i) < y.rank (slot_k w k)
 
 module _ {y : Typing} {a : PlainState Position} {t u w : ℕ} {x xu xw : Running Position} {e n m : Env} {ts : List Kind} {g : Owned} (f : Forked y a t u w x xu xw e n m ts g) where
-  pub parent_is : RunningTyped Knows temps_of y (store y a) t (a.pair t) x
+  parent_is : RunningTyped Knows temps_of y (store y a) t (a.pair t) x
   parent_is = f.state.threads t x f.runs
 
-  pub entry_is : parent_is.entry ≡ forked_at e ts g
+  entry_is : parent_is.entry ≡ forked_at e ts g
   entry_is = sym parent_is.known ∙ f.entry
 
   pub asleep : Asleep (slot_k t) y.rank (hand_key t ts) e y.exact (hand_kind ts)
@@ -104,17 +106,16 @@ module _ {y : Typing} {a : PlainState Position} {t u w : ℕ} {x xu xw : Running
       by q (inl i) = let c : true ≡ false = sym q ∙ ap (three t u w) i ∙ away in cc
       by q (inr r) = above (three_is t u w near.owner q) r
 
-module _ {y : Typing} {a : PlainState Position} {t u w : ℕ} {x xu xw : Running Position} {e n m : Env} {ts : List Kind} {g : Owned} (f : Forked y a t u w x xu xw e n m ts g) where
   -- it gives to the first one
   pub forked_giver : Focus y a u n [] None → Giver y a t u x xu e n unit
-  forked_giver fu = record { state = f.state; runs = f.runs; new = f.first; focus = fu; differ = f.differ; nested = (asleep f).nested; slots = (asleep f).slots; above = (asleep f).above; many = parent_slots f; hidden = parent_hidden f }
+  forked_giver fu = record { state = f.state; runs = f.runs; new = f.first; focus = fu; differ = f.differ; nested = asleep.nested; slots = asleep.slots; above = asleep.above; many = parent_slots; hidden = parent_hidden }
 
   -- an owned variable that isn't write blocked is lent to nobody: other threads name only slots that refer
   pub parent_free : (i : ℕ) (z : Tree) → y.exact (slot_k t i) ≡ owns z → write_blocked e i ≡ false → Unnamed y.exact (slot_k t i)
   parent_free i z is free j b p r = by (f.foreign j b p r)
     where
       by : ((k : ℕ) × (k < length e) × (j ≡ slot_k t k)) ⊎ ((k : ℕ) → p.key ≡ slot_k t k → (b ≡ false) × Refers (y.exact (slot_k t k))) → p.key ≢ slot_k t i
-      by (inl q) = slots_unnamed (slot_k t) y.exact (λ c d h. cc) e i q.0 b p (asleep f).slots free q.1 (ap y.exact (sym q.2) ∙ r)
+      by (inl q) = slots_unnamed (slot_k t) y.exact (λ c d h. cc) e i q.0 b p asleep.slots free q.1 (ap y.exact (sym q.2) ∙ r)
       by (inr q) = λ h. let d = (q i h).1 in let c : owns z ≡ refers d.0 d.1 = sym is ∙ d.2 in cc
 
 module _ {y : Typing} {a a2 : PlainState Position} {t u w : ℕ} {x xu xw : Running Position} {e e2 n m : Env} {ts : List Kind} {g : Owned} {sl : List Value} {new : Slot} {v : Value} {i : ℕ} {E2 : KeyTypes} (f : Forked y a t u w x xu xw e n m ts g) (fu : Focus y a u n [] None) (fw : Focus y a w m [] None)
@@ -124,9 +125,6 @@ module _ {y : Typing} {a a2 : PlainState Position} {t u w : ℕ} {x xu xw : Runn
 
   abbrev xu2 : Running Position
   xu2 = record { place = record { entry = going (new ∷ n) [] unit; temps = xu.place.temps }; slots = v ∷ xu.slots }
-
-  abbrev y2 : Typing
-  y2 = typing_with y E2 y.marks
 
   abbrev s2 : Store
   s2 = store (typing_with y E2 y.marks) a2
@@ -162,21 +160,15 @@ module _ {y : Typing} {a a2 : PlainState Position} {t u w : ℕ} {x xu xw : Runn
         content = λ s k q h d. d;
       }
     where
+      some : {p : Running Position} → Some p ≡ Some xw → p ≡ xw
+      some h = cc
+
       same : (l : Option (Life (Running Position))) → place_in l ≡ Some xw → l ≡ with_running l xw
       same None h = cc
       same (Some (alive p)) h = ap (λ z. Some (alive z)) (some h)
-        where
-          some : Some p ≡ Some xw → p ≡ xw
-          some h = cc
       same (Some over) h = cc
       same (Some (owing p)) h = ap (λ z. Some (owing z)) (some h)
-        where
-          some : Some p ≡ Some xw → p ≡ xw
-          some h = cc
       same (Some (loose p)) h = ap (λ z. Some (loose z)) (some h)
-        where
-          some : Some p ≡ Some xw → p ≡ xw
-          some h = cc
       same (Some (ended r)) h = cc
 
   -- THE PARENT
