@@ -8,4 +8,6 @@ pub mod Sites
 pub mod Evictions
 pub mod Arrivals
 pub mod Requests
+pub mod Hands
+pub mod Leaving
 pub mod StillKinds

@@ -9,17 +9,20 @@ use Rattle.server_msgs.specs.declared.message.Message.{Message}
 use Rattle.server_msgs.specs.declared.message.Message.TheVariants as message
 use Rattle.server_model.specs.declared.event.What.{What}
 use Rattle.server_model.specs.declared.event.What.TheVariants.{Step, Deliver, Evict, Migrate}
-use Rattle.server_model.specs.Servers.{Server, Cluster}
+use Rattle.server_model.specs.Servers.{Server, Cluster, server_at}
 use Rattle.server_model.specs.Work.{thread_in, then_some}
 use Rattle.server_model.specs.Events.{does}
-use Rattle.event_law.specs.Kinds.{Kind, evicts, migrates, starts, arrives, fetch, message_kind, instr_kind, kind_at}
+use Rattle.heap_law.specs.Coherent.{IsSound}
+use Rattle.event_law.specs.Kinds.{Kind, evicts, migrates, starts, arrives, fetch, fetched, moving, asks_lock, asks_dup, asks_join, message_kind, instr_kind, kind_at}
 use Rattle.event_law.specs.Laws.{Gives}
 use Rattle.still_law.specs.Laws.{LeaveHeap}
 use Rattle.still_law.proofs.Sites.{ServerStill, leaves_heap}
 use Rattle.still_law.proofs.Once.{shown_once}
 use Rattle.still_law.proofs.Evictions.{evictions}
 use Rattle.still_law.proofs.Arrivals.{starts as new_threads, parcels, migrations}
-use Rattle.still_law.proofs.Requests.{fetches}
+use Rattle.still_law.proofs.Hands.{copies}
+use Rattle.still_law.proofs.Leaving.{moves}
+use Rattle.still_law.proofs.Requests.{fetches, locks, dups, joins}
 
 abbrev pub IsStill : Kind → Type 0
 IsStill evicts = ⊤
@@ -27,6 +30,11 @@ IsStill migrates = ⊤
 IsStill starts = ⊤
 IsStill arrives = ⊤
 IsStill fetch = ⊤
+IsStill fetched = ⊤
+IsStill moving = ⊤
+IsStill asks_lock = ⊤
+IsStill asks_dup = ⊤
+IsStill asks_join = ⊤
 IsStill kind = ⊥
 
 some_same : {a b : Kind} → Some a ≡ Some b → b ≡ a
@@ -57,22 +65,22 @@ no_step (instr.Par cs pc ds other) p = p
 no_step instr.ParEnd p = p
 no_step (instr.End o) p = p
 
-module _ (k : Cluster) (s : Server) where
+module _ (k : Cluster) (sound : IsSound k) (number : ℕ) (s : Server) (here : server_at k.servers number ≡ Some s) where
   message_still : (i : ℕ) (m : Message) → slice_get s.rest.inbox i ≡ Some m → IsStill (message_kind m) → Gives (ServerStill s) (does k.code k.options s (Deliver i))
   message_still i (message.Fetch w o a t) q p = fetches k s i w o a t q
   message_still i (message.Start t) q p = new_threads k s i t q
   message_still i (message.Migrate t) q p = parcels k s i t q
-  message_still i (message.Fetched w c t) q p = absurd p
-  message_still i (message.Move w o a t) q p = absurd p
+  message_still i (message.Fetched w c t) q p = copies k s i w c t q
+  message_still i (message.Move w o a t) q p = moves k sound number s here i w o a t q
   message_still i (message.Moved w c t) q p = absurd p
   message_still i (message.Drop w o) q p = absurd p
-  message_still i (message.Lock m a t) q p = absurd p
+  message_still i (message.Lock m a t) q p = locks k s i m a t q
   message_still i (message.Granted m v t) q p = absurd p
   message_still i (message.Unlock m v) q p = absurd p
-  message_still i (message.Dup m a t) q p = absurd p
+  message_still i (message.Dup m a t) q p = dups k s i m a t q
   message_still i (message.Dupped m t) q p = absurd p
   message_still i (message.Release r) q p = absurd p
-  message_still i (message.Join u a t) q p = absurd p
+  message_still i (message.Join u a t) q p = joins k s i u a t q
   message_still i (message.Joined u v t) q p = absurd p
   message_still i (message.Finished u v) q p = absurd p
 
@@ -96,4 +104,4 @@ module _ (k : Cluster) (s : Server) where
     server_still (Migrate t target) q = migrations k s t target
 
 pub kind_leaves : (kind : Kind) → IsStill kind → LeaveHeap kind
-kind_leaves kind p k e q sound few = leaves_heap shown_once k e sound few (λ s h. server_still k s kind p e.what (subst (λ o. then_some o (kind_at k e.what) ≡ Some kind) h q))
+kind_leaves kind p k e q sound few = leaves_heap shown_once k e sound few (λ s h. server_still k sound e.server s h kind p e.what (subst (λ o. then_some o (kind_at k e.what) ≡ Some kind) h q))

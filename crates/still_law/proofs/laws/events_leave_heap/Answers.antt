@@ -1,4 +1,4 @@
-use Rattle.event_law.specs.Kinds.{evicts, migrates, starts, arrives, fetch}
+use Rattle.event_law.specs.Kinds.{evicts, migrates, starts, arrives, fetch, fetched, moving, asks_lock, asks_dup, asks_join}
 use Rattle.still_law.proofs.laws.events_leave_heap.Goals as goal
 use Rattle.still_law.proofs.StillKinds.{kind_leaves}
 
@@ -9,4 +9,9 @@ returns c = record {
   starts = kind_leaves starts tt;
   parcels = kind_leaves arrives tt;
   fetches = kind_leaves fetch tt;
+  copies = kind_leaves fetched tt;
+  moves = kind_leaves moving tt;
+  locks = kind_leaves asks_lock tt;
+  dups = kind_leaves asks_dup tt;
+  joins = kind_leaves asks_join tt;
 }

@@ -1,0 +1,77 @@
+-- An object that leaves its address for a message shows what it showed.
+use Rattle.std.proofs.Common.{◌≡◌, ℕ, ◌+◌, Bool, true, false, if◌then◌else◌, List, [], ◌∷◌, ◌++◌, Some, ◌≤◌, refl, sym, subst, arith}
+use Rattle.std.specs.Prelude.{slice_get, nat_lt}
+use Rattle.fr_base.specs.declared.name.ObjNo.{ObjNo}
+use Rattle.global_addr.specs.Words.{colour_of, address_of}
+use Rattle.owner_box.specs.Partition.{freed}
+use Rattle.server_msgs.specs.declared.message.Message.TheVariants as message
+use Rattle.journal.specs.declared.act.Act.TheVariants as act
+use Rattle.server_model.specs.declared.event.What.TheVariants.{Deliver}
+use Rattle.server_model.specs.Servers.{Rest, Server, Cluster, server_at}
+use Rattle.server_model.specs.Work.{Work, note, with_partition, look_object}
+use Rattle.server_model.specs.Objects.{deliver_move}
+use Rattle.server_model.specs.Events.{received, does}
+use Rattle.heap_law.specs.Names.{tot}
+use Rattle.heap_law.specs.Things.{Thing, lies, vacant, retired, sent, partition_things, message_things, servers_things, things_of}
+use Rattle.heap_law.specs.Weights.{states, below}
+use Rattle.heap_law.specs.Coherent.{IsSound}
+use Rattle.event_law.specs.Sums.{is_server}
+use Rattle.event_law.specs.Laws.{Gives}
+use Rattle.event_law.proofs.Trades.{tot-append}
+use Rattle.event_law.proofs.Rules.{Placed}
+use Rattle.event_law.proofs.Results.{map_gives}
+use Rattle.event_law.proofs.Bags.{all_standing, rest_things, of_partition, server_same}
+use Rattle.event_law.proofs.Events.{others_of, tot-server}
+use Rattle.event_law.proofs.Cells.{left_by, frees, not_free, looked}
+use Rattle.event_law.proofs.Objects.{one_state}
+use Rattle.event_law.proofs.ObjectMessages.{looked_object}
+use Rattle.event_law.proofs.Sound.{sound_has_sums}
+use Rattle.still_law.specs.Shows.{Sign, nothing, sign_of}
+use Rattle.still_law.proofs.Sites.{Moves, sends, beside_still, ServerStill, deliveries}
+
+-- the address that is left isn't shown
+address_unseen : (v : Sign → ℕ) → v nothing ≡ 0 → (n limit w : ℕ) → v (sign_of (left_by n limit w)) ≡ 0
+address_unseen v z n limit w = by (nat_lt (colour_of w + 1) limit)
+  where
+    by : (b : Bool) → v (sign_of (if b then vacant n (address_of w) (colour_of w + 1) else retired n (address_of w))) ≡ 0
+    by true = z
+    by false = z
+
+module _ (k : Cluster) (sound : IsSound k) (number : ℕ) (s : Server) (here : server_at k.servers number ≡ Some s) where
+  abbrev others : List Thing
+  others = all_standing s.rest.number s.threads ++ servers_things (others_of k.servers number)
+
+  placed_here : Placed (rest_things s.rest.number s.events s.rest ++ others)
+  placed_here =
+      let sums = sound_has_sums k sound in
+      record { one_state = λ a. omega (arith, sums.one_state a, same (states a), same (below a)); servers_differ = λ n. omega (arith, sums.servers_differ n, same (is_server n)) }
+    where
+      same : (f : Thing → ℕ) → tot f (things_of k) ≡ tot f (rest_things s.rest.number s.events s.rest ++ others)
+      same f =
+          let n = s.rest.number in
+          let r = rest_things n s.events s.rest in
+          let ts = all_standing n s.threads in
+          let rest = servers_things (others_of k.servers number) in
+          omega (arith, (tot-server f k.servers number s s here).0, server_same s f, tot-append f ts r, tot-append f r (ts ++ rest), tot-append f ts rest)
+
+  gives : (w : ℕ) (o : ObjNo) (a t : ℕ) (x : Work) → x.rest.number ≡ s.rest.number → x.rest.partition ≡ s.rest.partition → Gives (λ (y : Work). Moves (sent s.rest.number (message.Move w o a t) ∷ []) [] x.rest y.rest) (deliver_move w o a t x)
+  gives w o a t x e f =
+      map_gives (λ (y : Work). Moves (sent s.rest.number (message.Move w o a t) ∷ []) [] x.rest y.rest) (look_object x.rest.partition w o) _ (λ c q.
+      let p = x.rest.partition in
+      let gone : List Thing = sent s.rest.number (message.Move w o a t) ∷ [] in
+      let hand : List Thing = lies x.rest.number (address_of w) c ∷ [] in
+      let at : slice_get p.cells (address_of w) ≡ Some (Some c) = looked p w c (looked_object p w o c q).0 in
+      let few : tot (states (x.rest.number, address_of w)) (partition_things x.rest.number p) ≤ 1 =
+      subst (λ m. tot (states (m, address_of w)) (partition_things m p) ≤ 1) (sym e)
+      (subst (λ u. tot (states (s.rest.number, address_of w)) (partition_things s.rest.number u) ≤ 1) (sym f) (one_state s.rest.number s.events s.rest others placed_here (address_of w))) in
+      let free = not_free x.rest.number p (address_of w) c at few in
+      let r2 : Rest = record x.rest { partition = freed p w } in
+      let u = of_partition x.rest.number 0 x.rest (freed p w) (frees x.rest.number p w c at free) in
+      let left : Moves gone hand x.rest r2 = record {
+        number = refl;
+        alike = λ v z. (let g : Thing → ℕ = λ y. v (sign_of y) in omega (arith, z, u.before g, u.after g, address_unseen v z x.rest.number p.limit w));
+      } in
+      sends gone hand x.rest (note (act.Give o w a) (with_partition (freed p w) x)) a (message.Moved w c t) left (λ v z. omega (arith, z)))
+
+  pub moves : (i w : ℕ) (o : ObjNo) (a t : ℕ) → slice_get s.rest.inbox i ≡ Some (message.Move w o a t) → Gives (ServerStill s) (does k.code k.options s (Deliver i))
+  moves i w o a t q = deliveries k s i (message.Move w o a t) q (beside_still (message_things s.rest.number (message.Move w o a t)) (deliver_move w o a t) (received i s) (gives w o a t (received i s).work refl refl))
