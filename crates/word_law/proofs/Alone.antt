@@ -17,6 +17,7 @@ use Rattle.heap_partition.specs.declared.value.BoxPtr.{BoxPtr}
 use Rattle.heap_partition.specs.declared.value.Cell.{Cell}
 use Rattle.heap_partition.specs.declared.value.Owned.{Owned}
 use Rattle.heap_partition.specs.declared.value.Owned.TheVariants as owned
+use Rattle.mut_borrow.specs.declared.mutable.MutRef.{MutRef}
 use Rattle.mut_borrow.specs.declared.shared.SharedRef.{SharedRef}
 use Rattle.server_msgs.specs.declared.message.Message.{Message}
 use Rattle.server_msgs.specs.declared.message.Message.TheVariants.{Drop}
@@ -25,7 +26,6 @@ use Rattle.thread_state.specs.declared.phase.Phase.TheVariants as phase
 use Rattle.thread_state.specs.declared.value.Value.{Value}
 use Rattle.thread_state.specs.declared.value.Value.TheVariants as value
 use Rattle.server_model.specs.Servers.{Cluster}
-use Rattle.server_model.specs.Places.{with_word}
 use Rattle.heap_law.specs.Names.{Among, one, same_object, boxes}
 use Rattle.heap_law.specs.Things.{Location, at_slot, at_temp, in_cell, Spot, in_slot, in_temp, as_gift, as_content, as_result, in_hand, Thing, holds, shares, borrows, lies, flies, sent, things_of}
 use Rattle.heap_law.specs.Follow.{Standing, Ground, slot_of, value_in, value_of, value_behind, cell_of, leads, locate, place_at}
@@ -48,7 +48,7 @@ use Rattle.path_law.proofs.MayWrites.{may_write_there}
 use Rattle.path_law.proofs.Contained.{location_itself}
 use Rattle.path_law.proofs.Pointers.{sole_pointers}
 use Rattle.path_law.proofs.FreshPaths.{OwnSlot, own_closed}
-use Rattle.word_law.specs.Reworded.{HasPlaces, Reworded}
+use Rattle.word_law.specs.Reworded.{HasPlaces, Renewed, a_box, a_reference, Reworded}
 use Rattle.word_law.proofs.Loose.{box_nowhere}
 use Rattle.word_law.proofs.Standing.{pointer_at, told, slot_among, temp_among, CellOf, lying, flying, cell_among, of_thing, share_stands}
 use Rattle.word_law.proofs.Grounds.{same_place, taken_all}
@@ -353,13 +353,20 @@ module _ (k z : Cluster) (c : HasPaths k) (d : HasPlaces z) (x : Standing) (v : 
       b : BoxThere k o
       b = box_there k c x v h o g may hop
 
-      reworded_box : (old new : Value) → old ≡ value.Own (owned.Box b.box) → with_word w old ≡ Some new → new ≡ value.Own (owned.Box (record b.box { word = w }))
-      reworded_box old new e f = some_is (sym f ∙ ap (with_word w) e)
+      box_same : (p q : BoxPtr) → value.Own (owned.Box p) ≡ value.Own (owned.Box q) → p ≡ q
+      box_same p q e = cc
+
+      no_box : (m : MutRef) (q : BoxPtr) → value.Mut m ≡ value.Own (owned.Box q) → ⊥
+      no_box m q e = absurd cc
+
+      renewed_box : (old new : Value) → old ≡ value.Own (owned.Box b.box) → Renewed w old new → new ≡ value.Own (owned.Box (record b.box { word = w }))
+      renewed_box old new e (a_box p f g) = g ∙ ap (λ (y : BoxPtr). value.Own (owned.Box (record y { word = w }))) (box_same p b.box (sym f ∙ e))
+      renewed_box old new e (a_reference m q f g i j l n) = absurd (no_box m b.box (sym f ∙ e))
 
       by : (b.location ≡ h) ⊎ (b.location ≡ h → ⊥) → BoxThere z o
       by (inl e) =
           let old : r.old ≡ value.Own (owned.Box b.box) = some_is (sym r.stood ∙ ap (value_in (sight k).ground) (sym e) ∙ b.stands) in
-          record { location = h; box = record b.box { word = w }; stands = r.stands ∙ ap Some (reworded_box r.old r.new old r.worded); object = b.object }
+          record { location = h; box = record b.box { word = w }; stands = r.stands ∙ ap Some (renewed_box r.old r.new old r.renewed); object = b.object }
       by (inr n) = record { location = b.location; box = b.box; stands = r.elsewhere b.location n ∙ b.stands; object = b.object }
 
   owner : Owner z o
@@ -369,15 +376,14 @@ module _ (k z : Cluster) (c : HasPaths k) (d : HasPlaces z) (x : Standing) (v : 
   shared_before : (l : Location) (q : SharedRef) → value_in (sight z).ground l ≡ Some (value.Shared q) → value_in (sight k).ground l ≡ Some (value.Shared q)
   shared_before l q e = by (same_place l h)
     where
-      not_worded : (old : Value) → with_word w old ≡ Some (value.Shared q) → ⊥
-      not_worded (value.Own (owned.Box p)) f = absurd cc
-      not_worded (value.Mut m) f = absurd cc
-      not_worded _ f = absurd cc
+      not_renewed : (old new : Value) → Renewed w old new → new ≡ value.Shared q → ⊥
+      not_renewed old new (a_box p f g) y = let e : value.Own (owned.Box (record p { word = w })) ≡ value.Shared q = sym g ∙ y in absurd cc
+      not_renewed old new (a_reference m n f g i j u v) y = let e : value.Mut n ≡ value.Shared q = sym g ∙ y in absurd cc
 
       by : (l ≡ h) ⊎ (l ≡ h → ⊥) → value_in (sight k).ground l ≡ Some (value.Shared q)
       by (inl s) =
           let new : r.new ≡ value.Shared q = some_is (sym r.stands ∙ ap (value_in (sight z).ground) (sym s) ∙ e) in
-          absurd (not_worded r.old (r.worded ∙ ap Some new))
+          absurd (not_renewed r.old r.new r.renewed new)
       by (inr n) = sym (r.elsewhere l n) ∙ e
 
   not_shared : (l : Location) (q : SharedRef) → Among (shares l q) (things_of z) → q.object ≡ o → ⊥

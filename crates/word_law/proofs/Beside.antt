@@ -1,5 +1,5 @@
 -- Where one pointer gets another word, references know the words at their holders, and dirty references are alone.
-use Rattle.std.proofs.Common.{◌≡◌, ◌⊎◌, inl, inr, ⊎_elim, ℕ, ◌==◌, ◌&&◌, Bool, true, false, Option, Some, None, refl, sym, ap, subst, ◌∙◌}
+use Rattle.std.proofs.Common.{◌≡◌, ◌⊎◌, inl, inr, ⊎_elim, ℕ, ◌==◌, ◌&&◌, Bool, true, Option, Some, None, refl, sym, ap, subst, ◌∙◌}
 use Rattle.fr_base.specs.declared.name.ObjNo.{ObjNo}
 use Rattle.heap_partition.specs.declared.value.Owned.TheVariants as owned
 use Rattle.mut_borrow.specs.declared.mutable.MutRef.{MutRef}
@@ -10,7 +10,7 @@ use Rattle.heap_law.specs.Names.{Among, other, same_object}
 use Rattle.heap_law.specs.Things.{Location, things_of}
 use Rattle.heap_law.specs.Follow.{Ground, value_in, value_behind}
 use Rattle.heap_law.specs.Stale.{Reference, references, holder_of, is_held_at}
-use Rattle.heap_law.specs.Sight.{Pointer, taken_pointers, sight}
+use Rattle.heap_law.specs.Sight.{Pointer, pointers_in, taken_pointers, sight}
 use Rattle.heap_law.specs.Placing.{is_first, other_first, standing_in, standing_pointers}
 use Rattle.heap_law.specs.Coherent.{Holds, first_at_holder}
 use Rattle.heap_law.specs.Words.{IsStale}
@@ -18,7 +18,6 @@ use Rattle.heap_law.specs.Dirty.{IsAlone, DirtyAlone}
 use Rattle.heap_law.proofs.Bags.{among_split}
 use Rattle.heap_law.proofs.Words.{none_at, none_all}
 use Rattle.path_law.specs.Pointing.{Above}
-use Rattle.path_law.proofs.Sole.{some_is}
 use Rattle.path_law.proofs.Shown.{none_else}
 use Rattle.path_law.proofs.Origins.{among_first, among_second}
 use Rattle.path_law.proofs.Contained.{held_there, reference_there}
@@ -27,8 +26,8 @@ use Rattle.path_law.proofs.FreshPaths.{none_made}
 use Rattle.word_law.specs.WordsAfter.{Rewrites, HoldersGoOn, DirtyGoOn}
 use Rattle.word_law.proofs.Standing.{tells, told, told_standing, stands_in, borrow_stands}
 use Rattle.word_law.proofs.Loose.{unplaced_standing}
-use Rattle.word_law.proofs.Grounds.{Opposite, OfBorrows, of_borrows, same_place, with_word_reference, taken_all, before, still_stale}
-use Rattle.word_law.proofs.Words.{places, followed, at_h, above_stale}
+use Rattle.word_law.proofs.Grounds.{Opposite, OfBorrows, of_borrows, same_place, taken_all, before, still_stale}
+use Rattle.word_law.proofs.Words.{places, followed, at_h, sole, above_stale}
 
 -- two references that were made from the same word of an object
 is_first_same : (r q : MutRef) (v : Option Value) → r.first ≡ q.first → r.object ≡ q.object → is_first r v ≡ is_first q v
@@ -80,23 +79,34 @@ module _ (k z : Cluster) (h : Location) (o : ObjNo) (w : ℕ) (r : Rewrites k z 
 
   -- DIRTY REFERENCES
 
-  module _ (alone : DirtyAlone (sight k)) (q : Reference) (m : Among q (references gz (things_of z))) (d : q.reference.dirty ≡ true) (f : IsStale (sight z) (Some q.at) → ⊥) where
+  -- each pointer to the object but the one with the new word is stale
+  not_beside : (p : Pointer) → Among p (standing_pointers (sight z)) → p.object ≡ o → IsStale (sight z) p.at ⊎ (p.at ≡ Some h)
+  not_beside p i e =
+      ⊎_elim (λ (s : p.at ≡ Some h). inr s) (λ (s : (l : Location) × (p.at ≡ Some l) × Above gk l h). inl (subst (λ n. IsStale (sight z) n) (sym s.1) (above_stale k z h o w r s.0 s.2)))
+      (sole k z h o w r p
+      (⊎_elim (λ (y : Among p (standing_in (things_of z))). among_first p (pointers_in (things_of z)) (taken_pointers (sight z).code gz gz.threads) (stands_in p (things_of z) y))
+      (λ (y : Among p (taken_pointers (sight z).code gz gz.threads)). among_second p (pointers_in (things_of z)) (taken_pointers (sight z).code gz gz.threads) y)
+      (among_split p (standing_in (things_of z)) (taken_pointers (sight z).code gz gz.threads) i)) e)
+
+  -- so a reference with the new word is alone
+  new_alone : (q : Reference) → Among q (references gz (things_of z)) → q.at ≡ h → IsAlone (sight z) q
+  new_alone q m e = record { unlent = unlent; sole = λ p i s. ⊎_elim (λ (n : IsStale (sight z) p.at). inl n) (λ (n : p.at ≡ Some h). inr (held_there z q.at p.at (n ∙ ap Some (sym e)))) (not_beside p i (s ∙ object)) }
+    where
+      b : OfBorrows gz q (things_of z)
+      b = of_borrows gz q (things_of z) m
+
+      object : q.reference.object ≡ o
+      object = ap (λ (y : Pointer). y.object) (at_h k z h o w r (record { at = Some q.at; word = q.reference.word; object = q.reference.object }) (told z q.at (value.Mut q.reference) (record { at = Some q.at; word = q.reference.word; object = q.reference.object }) (borrow_stands z r.places q.at q.reference b.among) (inl refl)) (ap Some e))
+
+      unlent : (g : Reference) → Among g (references gz (things_of z)) → is_held_at q.at g.holder ≡ true → ⊥
+      unlent g i f = let y = back g i in unmade y.reference y.among (subst (λ l. is_held_at l y.reference.holder ≡ true) e (ap (is_held_at q.at) y.holder ∙ f))
+
+  module _ (alone : DirtyAlone (sight k)) (q : Reference) (m : Among q (references gz (things_of z))) (d : q.reference.dirty ≡ true) (f : IsStale (sight z) (Some q.at) → ⊥) (other_place : q.at ≡ h → ⊥) where
     b : OfBorrows gz q (things_of z)
     b = of_borrows gz q (things_of z) m
 
-    stands : value_in gz q.at ≡ Some (value.Mut q.reference)
-    stands = borrow_stands z r.places q.at q.reference b.among
-
-    -- it is not the one with the new word, which is clean
-    other_place : q.at ≡ h → ⊥
-    other_place e =
-        let new : r.reworded.new ≡ value.Mut q.reference = some_is (sym r.reworded.stands ∙ ap (value_in gz) (sym e) ∙ stands) in
-        let y = with_word_reference k z h o w r.reworded r.reworded.old q.reference (r.reworded.worded ∙ ap Some new) in
-        let c : false ≡ true = ap (λ (n : MutRef). n.dirty) y.2 ∙ d in
-        absurd cc
-
     stood : value_in gk q.at ≡ Some (value.Mut q.reference)
-    stood = sym (r.reworded.elsewhere q.at other_place) ∙ stands
+    stood = sym (r.reworded.elsewhere q.at other_place) ∙ borrow_stands z r.places q.at q.reference b.among
 
     abbrev old : Reference
     old = record { at = q.at; holder = holder_of gk q.at q.reference.holder; reference = q.reference }
@@ -127,22 +137,22 @@ module _ (k z : Cluster) (h : Location) (o : ObjNo) (w : ℕ) (r : Rewrites k z 
         by None s = unplaced_standing k z o r.reworded.loose p i s
         by (Some l) s = at l s (same_place l h)
 
-    sole : (p : Pointer) → Among p (standing_pointers (sight z)) → p.object ≡ q.reference.object → IsStale (sight z) p.at ⊎ (is_held_at q.at p.at ≡ true)
-    sole p i e =
+    sole_still : (p : Pointer) → Among p (standing_pointers (sight z)) → p.object ≡ q.reference.object → IsStale (sight z) p.at ⊎ (is_held_at q.at p.at ≡ true)
+    sole_still p i e =
         ⊎_elim (λ (s : IsStale (sight k) p.at). inl (still p.at s)) (λ (s : is_held_at q.at p.at ≡ true). inr s)
         (was_alone.sole p
         (⊎_elim (λ (y : Among p (standing_in (things_of z))). among_first p (standing_in (things_of k)) (taken_pointers (sight k).code gk gk.threads) (stood_before p y e))
         (λ (y : Among p (taken_pointers (sight z).code gz gz.threads)). among_second p (standing_in (things_of k)) (taken_pointers (sight k).code gk gk.threads) (subst (λ ps. Among p ps) (taken_all k z h o w r.reworded) y))
         (among_split p (standing_in (things_of z)) (taken_pointers (sight z).code gz gz.threads) i)) e)
 
-    unlent : (g : Reference) → Among g (references gz (things_of z)) → is_held_at q.at g.holder ≡ true → ⊥
-    unlent g i e = let y = back g i in was_alone.unlent y.reference y.among (ap (is_held_at q.at) y.holder ∙ e)
+    unlent_still : (g : Reference) → Among g (references gz (things_of z)) → is_held_at q.at g.holder ≡ true → ⊥
+    unlent_still g i e = let y = back g i in was_alone.unlent y.reference y.among (ap (is_held_at q.at) y.holder ∙ e)
 
     pub still_alone : IsAlone (sight z) q
-    still_alone = record { unlent = unlent; sole = sole }
+    still_alone = record { unlent = unlent_still; sole = sole_still }
 
 pub holders_go_on : HoldersGoOn
 holders_go_on k z h o w r = holders k z h o w r
 
 pub dirty_goes_on : DirtyGoOn
-dirty_goes_on k z h o w r alone q m d f = still_alone k z h o w r alone q m d f
+dirty_goes_on k z h o w r alone q m d f = ⊎_elim (λ (e : q.at ≡ h). new_alone k z h o w r q m e) (λ (n : q.at ≡ h → ⊥). still_alone k z h o w r alone q m d f n) (same_place q.at h)

@@ -1,30 +1,27 @@
 -- Where one pointer gets another word, places lead where they led, and what is stale was so or stands above that pointer.
-use Rattle.std.proofs.Common.{◌≡◌, ◌⊎◌, inl, inr, ⊎_elim, ℕ, zero, suc, Bool, true, false, List, [], ◌∷◌, ◌++◌, map, Option, Some, None, refl, sym, ap, subst, ◌∙◌}
-use Rattle.std.specs.Prelude.{slice_get}
-use Rattle.fr_base.specs.declared.instruction.Instr.{Instr}
-use Rattle.fr_base.specs.declared.instruction.Instr.TheVariants as instr
+use Rattle.std.proofs.Common.{◌≡◌, ◌⊎◌, inl, inr, ⊎_elim, ℕ, Bool, true, false, List, [], ◌∷◌, Some, refl, sym, ap, subst, ◌∙◌}
 use Rattle.fr_base.specs.declared.name.ObjNo.{ObjNo}
 use Rattle.fr_base.specs.declared.place.Lval.{Lval}
+use Rattle.heap_partition.specs.declared.value.BoxPtr.{BoxPtr}
 use Rattle.heap_partition.specs.declared.value.Owned.TheVariants as owned
 use Rattle.mut_borrow.specs.declared.mutable.MutRef.{MutRef}
 use Rattle.mut_borrow.specs.Refs.{changed}
-use Rattle.thread_state.specs.declared.phase.Phase.{Phase}
-use Rattle.thread_state.specs.declared.phase.Phase.TheVariants as phase
 use Rattle.thread_state.specs.declared.value.Value.{Value}
 use Rattle.thread_state.specs.declared.value.Value.TheVariants as value
 use Rattle.server_model.specs.Servers.{Cluster}
 use Rattle.server_model.specs.Places.{with_word, took}
 use Rattle.heap_law.specs.Names.{Among}
-use Rattle.heap_law.specs.Things.{Location, at_slot, at_temp, in_cell, Thing, borrows, things_of}
-use Rattle.heap_law.specs.Follow.{Standing, Ground, value_in, value_behind, leads, locate, place_at}
-use Rattle.heap_law.specs.Stale.{same_location, is_among, Reference, references, holder_of, is_held_at, one_star_less, lent_place, with_place, lent_places, changed_above, stale_above, taken_above}
-use Rattle.heap_law.specs.Sight.{Pointer, taken_object, taken_of, taken_pointers, sight}
+use Rattle.heap_law.specs.Things.{Location, in_cell, Thing, borrows, things_of}
+use Rattle.heap_law.specs.Follow.{Ground, value_in, leads}
+use Rattle.heap_law.specs.Stale.{same_location, is_among, Reference, references, holder_of, is_held_at, lent_places, changed_above, stale_above, taken_above}
+use Rattle.heap_law.specs.Sight.{taken_pointers, sight}
 use Rattle.heap_law.specs.Words.{IsStale}
 use Rattle.path_law.specs.Pointing.{Above, made_from, made_below}
 use Rattle.path_law.proofs.Sole.{some_is}
 use Rattle.path_law.proofs.Contained.{location_itself, reference_there}
 use Rattle.path_law.proofs.FreshPaths.{same_is, held_at}
-use Rattle.word_law.specs.Reworded.{HasPlaces, taken_word, Turn, turn_of, Reworded}
+use Rattle.word_law.specs.Reworded.{HasPlaces, Renewed, a_box, a_reference, Reworded}
+use Rattle.word_law.proofs.Follows.{holders_lead, lents_lead, takens_lead}
 use Rattle.word_law.proofs.Standing.{borrow_stands}
 
 -- a location is another one or the same
@@ -35,39 +32,39 @@ same_place l m = by (same_location l m) refl
     by true e = inl (same_is l m e)
     by false e = inr (λ q. let t : true ≡ false = sym (location_itself m) ∙ ap (λ n. same_location n m) (sym q) ∙ e in absurd cc)
 
-first_same : {A : Type 0} {a b : A} {us vs : List A} → a ∷ us ≡ b ∷ vs → a ≡ b
-first_same e = cc
+-- RENEWED POINTERS
 
-rest_same : {A : Type 0} {a b : A} {us vs : List A} → a ∷ us ≡ b ∷ vs → us ≡ vs
-rest_same e = cc
+pub renews : (w : ℕ) (old new : Value) → with_word w old ≡ Some new → Renewed w old new
+renews w (value.Own (owned.Box p)) new e = a_box p refl (sym (some_is e))
+renews w (value.Mut r) new e = a_reference r (took r w) refl (sym (some_is e)) refl refl refl refl
+renews w _ new e = absurd cc
 
 -- another word leads to the same object
-pub leads_same : (t w : ℕ) (old new : Value) → with_word w old ≡ Some new → leads t (Some new) ≡ leads t (Some old)
-leads_same t w (value.Own (owned.Box p)) new e = ap (λ v. leads t (Some v)) (sym (some_is e))
-leads_same t w (value.Mut r) new e = ap (λ v. leads t (Some v)) (sym (some_is e))
-leads_same t w _ new e = absurd cc
+leads_same : (t w : ℕ) (old new : Value) → Renewed w old new → leads t (Some new) ≡ leads t (Some old)
+leads_same t w old new (a_box p e f) = ap (λ v. leads t (Some v)) f ∙ sym (ap (λ v. leads t (Some v)) e)
+leads_same t w old new (a_reference r q e f word first object holder) = ap (λ v. leads t (Some v)) f ∙ ap (λ o. Some (in_cell o)) object ∙ sym (ap (λ v. leads t (Some v)) e)
 
--- WHAT A THREAD HAS TAKEN
+-- two references that were made from the same word of an object, at one place
+pub record AlikeMade (r q : MutRef) : Type 0 where
+  pub first : r.first ≡ q.first
+  pub object : r.object ≡ q.object
+  pub holder : r.holder ≡ q.holder
 
-abbrev lent_taken : Ground → ℕ → Option ℕ → Option Instr → Option Location
-lent_taken g t (Some w) (Some (instr.BorrowMut p)) = one_star_less g t p.slot p.depth
-lent_taken g t _ _ = None
+mut_same : (r q : MutRef) → value.Mut r ≡ value.Mut q → r ≡ q
+mut_same r q e = cc
 
-lent_is : (g : Ground) (t : ℕ) (p : Phase) (i : Option Instr) → lent_place g t p i ≡ lent_taken g t (taken_word p) i
-lent_is g t (phase.Taken w) (Some (instr.BorrowMut p)) = refl
-lent_is g t (phase.Taken w) (Some _) = refl
-lent_is g t (phase.Taken w) None = refl
-lent_is g t _ i = refl
+no_mut : (p : BoxPtr) (q : MutRef) → value.Own (owned.Box p) ≡ value.Mut q → ⊥
+no_mut p q e = absurd cc
 
-abbrev object_taken : Ground → ℕ → Option ℕ → Option Instr → List Pointer
-object_taken g t (Some w) (Some (instr.BorrowMut p)) = taken_object w (place_at g t p)
-object_taken g t _ _ = []
+renewed_reference : (w : ℕ) (old new : Value) (q : MutRef) → Renewed w old new → old ≡ value.Mut q → (m : MutRef) × (new ≡ value.Mut m) × AlikeMade m q
+renewed_reference w old new q (a_box p e f) g = absurd (no_mut p q (sym e ∙ g))
+renewed_reference w old new q (a_reference r m e f word first object holder) g =
+    let same : r ≡ q = mut_same r q (sym e ∙ g) in (m, f, subst (λ y. AlikeMade m y) same (record { first = first; object = object; holder = holder }))
 
-taken_is : (g : Ground) (x : Standing) (p : Phase) (i : Option Instr) → taken_of g x.thread p i ≡ object_taken g x.thread.number (taken_word p) i
-taken_is g x (phase.Taken w) (Some (instr.BorrowMut p)) = refl
-taken_is g x (phase.Taken w) (Some _) = refl
-taken_is g x (phase.Taken w) None = refl
-taken_is g x _ i = refl
+reference_renewed : (w : ℕ) (old new : Value) (q : MutRef) → Renewed w old new → new ≡ value.Mut q → (m : MutRef) × (old ≡ value.Mut m) × AlikeMade m q
+reference_renewed w old new q (a_box p e f) g = absurd (no_mut (record p { word = w }) q (sym f ∙ g))
+reference_renewed w old new q (a_reference r m e f word first object holder) g =
+    let same : m ≡ q = mut_same m q (sym f ∙ g) in (r, e, subst (λ y. AlikeMade r y) same (record { first = sym first; object = sym object; holder = sym holder }))
 
 -- a reference of these stands among them
 pub record OfBorrows (g : Ground) (q : Reference) (b : List Thing) : Type 0 where
@@ -98,76 +95,17 @@ module _ (k z : Cluster) (h : Location) (o : ObjNo) (w : ℕ) (r : Reworded k z 
   value_leads : (t : ℕ) (l : Location) → leads t (value_in gz l) ≡ leads t (value_in gk l)
   value_leads t l =
       ⊎_elim
-      (λ (e : l ≡ h). ap (λ n. leads t (value_in gz n)) e ∙ ap (leads t) r.stands ∙ leads_same t w r.old r.new r.worded ∙ sym (ap (leads t) r.stood) ∙ sym (ap (λ n. leads t (value_in gk n)) e))
+      (λ (e : l ≡ h). ap (λ n. leads t (value_in gz n)) e ∙ ap (leads t) r.stands ∙ leads_same t w r.old r.new r.renewed ∙ sym (ap (leads t) r.stood) ∙ sym (ap (λ n. leads t (value_in gk n)) e))
       (λ (n : l ≡ h → ⊥). ap (leads t) (r.elsewhere l n)) (same_place l h)
 
-  behind : (t : ℕ) (m : Option Location) → leads t (value_behind gz m) ≡ leads t (value_behind gk m)
-  behind t None = refl
-  behind t (Some l) = value_leads t l
-
-  pub locates : (t slot n : ℕ) → locate gz t slot n ≡ locate gk t slot n
-  locates t slot zero = refl
-  locates t slot (suc n) = ap (λ m. leads t (value_behind gz m)) (locates t slot n) ∙ behind t (locate gk t slot n)
-
   pub holders_same : (l : Location) (v : Lval) → holder_of gz l v ≡ holder_of gk l v
-  holders_same (at_slot t i) v = locates t v.slot v.depth
-  holders_same (at_temp t i) v = locates t v.slot v.depth
-  holders_same (in_cell p) v = refl
-
-  -- WHAT IS TAKEN
-
-  less_same : (t slot d : ℕ) → one_star_less gz t slot d ≡ one_star_less gk t slot d
-  less_same t slot zero = refl
-  less_same t slot (suc d) = locates t slot d
-
-  lent_same : (t : ℕ) (v : Option ℕ) (i : Option Instr) → lent_taken gz t v i ≡ lent_taken gk t v i
-  lent_same t (Some v) (Some (instr.BorrowMut p)) = less_same t p.slot p.depth
-  lent_same t (Some v) (Some _) = refl
-  lent_same t (Some v) None = refl
-  lent_same t None i = refl
-
-  object_same : (t : ℕ) (v : Option ℕ) (i : Option Instr) → object_taken gz t v i ≡ object_taken gk t v i
-  object_same t (Some v) (Some (instr.BorrowMut p)) = ap (taken_object v) (locates t p.slot p.depth)
-  object_same t (Some v) (Some _) = refl
-  object_same t (Some v) None = refl
-  object_same t None i = refl
-
-  module _ (code : List Instr) where
-    abbrev lent_turn : Ground → Turn → Option Location
-    lent_turn g t = lent_taken g t.number t.taken (slice_get code t.pc)
-
-    abbrev taken_turn : Ground → Turn → List Pointer
-    taken_turn g t = object_taken g t.number t.taken (slice_get code t.pc)
-
-    pub lents : (xs ys : List Standing) → map turn_of xs ≡ map turn_of ys → lent_places code gz xs ≡ lent_places code gk ys
-    lents [] [] e = refl
-    lents [] (y ∷ ys) e = absurd cc
-    lents (x ∷ xs) [] e = absurd cc
-    lents (x ∷ xs) (y ∷ ys) e =
-        let head : lent_place gz x.thread.number x.thread.phase (slice_get code x.thread.pc) ≡ lent_place gk y.thread.number y.thread.phase (slice_get code y.thread.pc) =
-        lent_is gz x.thread.number x.thread.phase (slice_get code x.thread.pc)
-        ∙ lent_same x.thread.number (taken_word x.thread.phase) (slice_get code x.thread.pc)
-        ∙ ap (lent_turn gk) (first_same e)
-        ∙ sym (lent_is gk y.thread.number y.thread.phase (slice_get code y.thread.pc)) in
-        ap (λ m. with_place m (lent_places code gz xs)) head ∙ ap (with_place (lent_place gk y.thread.number y.thread.phase (slice_get code y.thread.pc))) (lents xs ys (rest_same e))
-
-    pub takens : (xs ys : List Standing) → map turn_of xs ≡ map turn_of ys → taken_pointers code gz xs ≡ taken_pointers code gk ys
-    takens [] [] e = refl
-    takens [] (y ∷ ys) e = absurd cc
-    takens (x ∷ xs) [] e = absurd cc
-    takens (x ∷ xs) (y ∷ ys) e =
-        let head : taken_of gz x.thread x.thread.phase (slice_get code x.thread.pc) ≡ taken_of gk y.thread y.thread.phase (slice_get code y.thread.pc) =
-        taken_is gz x x.thread.phase (slice_get code x.thread.pc)
-        ∙ object_same x.thread.number (taken_word x.thread.phase) (slice_get code x.thread.pc)
-        ∙ ap (taken_turn gk) (first_same e)
-        ∙ sym (taken_is gk y y.thread.phase (slice_get code y.thread.pc)) in
-        ap (λ m. m ++ taken_pointers code gz xs) head ∙ ap (λ m. taken_of gk y.thread y.thread.phase (slice_get code y.thread.pc) ++ m) (takens xs ys (rest_same e))
+  holders_same l v = holders_lead gk gz value_leads l v
 
   pub lent_all : lent_places (sight z).code gz gz.threads ≡ lent_places (sight k).code gk gk.threads
-  lent_all = ap (λ c. lent_places c gz gz.threads) r.code ∙ lents k.code gz.threads gk.threads r.turns
+  lent_all = ap (λ c. lent_places c gz gz.threads) r.code ∙ lents_lead gk gz value_leads k.code gz.threads gk.threads r.turns
 
   pub taken_all : taken_pointers (sight z).code gz gz.threads ≡ taken_pointers (sight k).code gk gk.threads
-  taken_all = ap (λ c. taken_pointers c gz gz.threads) r.code ∙ takens k.code gz.threads gk.threads r.turns
+  taken_all = ap (λ c. taken_pointers c gz gz.threads) r.code ∙ takens_lead gk gz value_leads k.code gz.threads gk.threads r.turns
 
   -- REFERENCES
 
@@ -183,16 +121,10 @@ module _ (k z : Cluster) (h : Location) (o : ObjNo) (w : ℕ) (r : Reworded k z 
     pub first : reference.reference.first ≡ q.reference.first
     pub object : reference.reference.object ≡ q.reference.object
 
-  pub reference_word : (q : MutRef) → value_in gk h ≡ Some (value.Mut q) → value_in gz h ≡ Some (value.Mut (took q w))
-  reference_word q e =
-      let old : r.old ≡ value.Mut q = some_is (sym r.stood ∙ e) in
-      let new : Some (value.Mut (took q w)) ≡ Some r.new = sym (ap (with_word w) old) ∙ r.worded in
-      r.stands ∙ sym new
-
-  pub with_word_reference : (old : Value) (q : MutRef) → with_word w old ≡ Some (value.Mut q) → (p : MutRef) × (old ≡ value.Mut p) × (took p w ≡ q)
-  with_word_reference (value.Mut p) q e = let s : value.Mut (took p w) ≡ value.Mut q = some_is e in (p, refl, cc)
-  with_word_reference (value.Own (owned.Box p)) q e = absurd cc
-  with_word_reference _ q e = absurd cc
+  pub reference_now : (q : MutRef) → value_in gk h ≡ Some (value.Mut q) → (m : MutRef) × (value_in gz h ≡ Some (value.Mut m)) × (r.new ≡ value.Mut m) × AlikeMade m q
+  reference_now q e =
+      let y = renewed_reference w r.old r.new q r.renewed (some_is (sym r.stood ∙ e)) in
+      (y.0, r.stands ∙ ap Some y.1, y.1, y.2)
 
   module _ (c : HasPlaces k) (d : HasPlaces z) where
     pub now : (q : Reference) → Among q (references gk (things_of k)) → Opposite gz (references gz (things_of z)) q × (changed q.reference ≡ true → (y : Opposite gz (references gz (things_of z)) q) × (changed y.reference.reference ≡ true))
@@ -218,10 +150,9 @@ module _ (k z : Cluster) (h : Location) (o : ObjNo) (w : ℕ) (r : Reworded k z 
 
         by : (q.at ≡ h) ⊎ (q.at ≡ h → ⊥) → Opposite gz (references gz (things_of z)) q × (changed q.reference ≡ true → (y : Opposite gz (references gz (things_of z)) q) × (changed y.reference.reference ≡ true))
         by (inl e) =
-            let m = took q.reference w in
-            let there : value_in gz q.at ≡ Some (value.Mut m) = ap (value_in gz) e ∙ reference_word q.reference (ap (value_in gk) (sym e) ∙ stood) in
-            let is : r.new ≡ value.Mut m = some_is (sym r.stands ∙ ap (value_in gz) (sym e) ∙ there) in
-            (from m refl refl refl there, λ f. (from m refl refl refl there, r.changed m is))
+            let y = reference_now q.reference (ap (value_in gk) (sym e) ∙ stood) in
+            let there : value_in gz q.at ≡ Some (value.Mut y.0) = ap (value_in gz) e ∙ y.1 in
+            let opposite = from y.0 y.3.holder y.3.first y.3.object there in (opposite, λ f. (opposite, r.changed y.0 y.2))
         by (inr n) = let there : value_in gz q.at ≡ Some (value.Mut q.reference) = r.elsewhere q.at n ∙ stood in (from q.reference refl refl refl there, λ f. (from q.reference refl refl refl there, f))
 
     pub before : (q : Reference) → Among q (references gz (things_of z)) → Opposite gk (references gk (things_of k)) q × (changed q.reference ≡ true → (q.at ≡ h) ⊎ ((y : Opposite gk (references gk (things_of k)) q) × (changed y.reference.reference ≡ true)))
@@ -248,8 +179,8 @@ module _ (k z : Cluster) (h : Location) (o : ObjNo) (w : ℕ) (r : Reworded k z 
         by : (q.at ≡ h) ⊎ (q.at ≡ h → ⊥) → Opposite gk (references gk (things_of k)) q × (changed q.reference ≡ true → (q.at ≡ h) ⊎ ((y : Opposite gk (references gk (things_of k)) q) × (changed y.reference.reference ≡ true)))
         by (inl e) =
             let is : r.new ≡ value.Mut q.reference = some_is (sym r.stands ∙ ap (value_in gz) (sym e) ∙ stands) in
-            let y = with_word_reference r.old q.reference (r.worded ∙ ap Some is) in
-            (from y.0 (ap (λ (m : MutRef). m.holder) (sym y.2)) (ap (λ (m : MutRef). m.first) y.2) (ap (λ (m : MutRef). m.object) y.2) (ap (value_in gk) e ∙ r.stood ∙ ap Some y.1), λ f. inl e)
+            let y = reference_renewed w r.old r.new q.reference r.renewed is in
+            (from y.0 (sym y.2.holder) y.2.first y.2.object (ap (value_in gk) e ∙ r.stood ∙ ap Some y.1), λ f. inl e)
         by (inr n) = let there : value_in gk q.at ≡ Some (value.Mut q.reference) = sym (r.elsewhere q.at n) ∙ stands in (from q.reference refl refl refl there, λ f. inr (from q.reference refl refl refl there, f))
 
     -- WHAT IS STALE

@@ -1,6 +1,7 @@
 pub mod GoOn
 pub mod Standing
 pub mod Loose
+pub mod Follows
 pub mod Grounds
 pub mod Alone
 pub mod Words
@@ -8,6 +9,9 @@ pub mod Beside
 pub mod Put
 pub mod Slots
 pub mod Tints
+pub mod Marks
 pub mod NewWord
 pub mod TintWords
 pub mod Example
+pub mod Unmoved
+pub mod Unseen

@@ -3,20 +3,21 @@ use Rattle.std.proofs.Common.{◌≡◌, ◌⊎◌, inl, inr, ⊎_elim, ℕ, zer
 use Rattle.std.specs.Prelude.{slice_get, slice_set}
 use Rattle.std.proofs.lemmas.Bool.Decides.{nat_tests}
 use Rattle.heap_partition.specs.declared.value.Cell.{Cell}
+use Rattle.heap_partition.specs.declared.value.BoxPtr.{BoxPtr}
 use Rattle.heap_partition.specs.declared.value.Owned.{Owned}
 use Rattle.heap_partition.specs.declared.value.Owned.TheVariants as owned
+use Rattle.mut_borrow.specs.declared.mutable.MutRef.{MutRef}
 use Rattle.mut_borrow.specs.declared.shared.SharedRef.{SharedRef}
 use Rattle.thread_state.specs.View.{ThreadState}
 use Rattle.thread_state.specs.declared.value.Value.{Value}
 use Rattle.thread_state.specs.declared.value.Value.TheVariants as value
-use Rattle.server_model.specs.Places.{took, with_word}
 use Rattle.heap_law.specs.Names.{Among}
 use Rattle.heap_law.specs.Things.{Location, at_slot, at_temp, in_cell, in_slot, in_temp, Thing, lies, stands, uses, things_at, pin_things, value_things, slot_things, temp_things, gift_things, walk_things, thread_things, things_of, holds, borrows}
 use Rattle.heap_law.specs.Follow.{Standing, thread_at, cells_in}
 use Rattle.heap_law.proofs.Bags.{among_split}
 use Rattle.path_law.proofs.Sole.{some_is}
 use Rattle.path_law.proofs.Origins.{among_first, among_second}
-use Rattle.word_law.specs.Reworded.{is_loose, turn_of}
+use Rattle.word_law.specs.Reworded.{is_loose, turn_of, Renewed, a_box, a_reference}
 
 -- LISTS
 
@@ -116,18 +117,22 @@ Fixed s t i v = (y : Thing) → Among y (slot_things s t i v) → is_loose y ≡
 fixed_thing : (x y : Thing) → is_loose x ≡ false → x ≡ y → is_loose y ≡ true → ⊥
 fixed_thing x y f e g = let z : true ≡ false = sym g ∙ sym (ap is_loose e) ∙ f in absurd cc
 
--- so it is of a box and a mutable reference, also with another word
-pub fixed_old : (s t i w : ℕ) (v new : Value) → with_word w v ≡ Some new → Fixed s t i v
-fixed_old s t i w (value.Own (owned.Box b)) new e y (inl q) f = fixed_thing (holds (in_slot t i) (owned.Box b)) y refl q f
-fixed_old s t i w (value.Own (owned.Box b)) new e y (inr q) f = q
-fixed_old s t i w (value.Mut r) new e y (inl q) f = fixed_thing (borrows (at_slot t i) r) y refl q f
-fixed_old s t i w (value.Mut r) new e y (inr q) f = q
-fixed_old s t i w _ new e y q f = absurd cc
+fixed_box : (s t i : ℕ) (b : BoxPtr) → Fixed s t i (value.Own (owned.Box b))
+fixed_box s t i b y (inl q) f = fixed_thing (holds (in_slot t i) (owned.Box b)) y refl q f
+fixed_box s t i b y (inr q) f = q
 
-pub fixed_new : (s t i w : ℕ) (v new : Value) → with_word w v ≡ Some new → Fixed s t i new
-fixed_new s t i w (value.Own (owned.Box b)) new e = subst (Fixed s t i) (some_is e) (fixed_old s t i w (value.Own (owned.Box (record b { word = w }))) (value.Own (owned.Box (record b { word = w }))) refl)
-fixed_new s t i w (value.Mut r) new e = subst (Fixed s t i) (some_is e) (fixed_old s t i w (value.Mut (took r w)) (value.Mut (took (took r w) w)) refl)
-fixed_new s t i w _ new e = absurd cc
+fixed_reference : (s t i : ℕ) (r : MutRef) → Fixed s t i (value.Mut r)
+fixed_reference s t i r y (inl q) f = fixed_thing (borrows (at_slot t i) r) y refl q f
+fixed_reference s t i r y (inr q) f = q
+
+-- so it is of what gets a word
+pub fixed_old : (s t i w : ℕ) (old new : Value) → Renewed w old new → Fixed s t i old
+fixed_old s t i w old new (a_box p e f) = subst (Fixed s t i) (sym e) (fixed_box s t i p)
+fixed_old s t i w old new (a_reference r q e f a b c d) = subst (Fixed s t i) (sym e) (fixed_reference s t i r)
+
+pub fixed_new : (s t i w : ℕ) (old new : Value) → Renewed w old new → Fixed s t i new
+fixed_new s t i w old new (a_box p e f) = subst (Fixed s t i) (sym f) (fixed_box s t i (record p { word = w }))
+fixed_new s t i w old new (a_reference r q e f a b c d) = subst (Fixed s t i) (sym f) (fixed_reference s t i q)
 
 -- loose things of slots of which one is put
 slots_after : (s t j i : ℕ) (vs : List Value) (new : Value) (y : Thing) → ((n : ℕ) → Fixed s t n new) → is_loose y ≡ true → Among y (things_at (slot_things s t) j (slice_set vs i new)) → Among y (things_at (slot_things s t) j vs)

@@ -27,8 +27,9 @@ use Rattle.type_law.proofs.Branches.{found}
 use Rattle.path_law.proofs.Sole.{some_is}
 use Rattle.path_law.proofs.Origins.{threads_joined, among_first, among_second}
 use Rattle.path_law.proofs.Contained.{rest_none}
-use Rattle.word_law.specs.Reworded.{HasPlaces, is_loose, turn_of, LiesThere, Reworded}
+use Rattle.word_law.specs.Reworded.{HasPlaces, is_loose, turn_of, Renewed, LiesThere, Reworded}
 use Rattle.word_law.specs.PutBack.{put_in, TintRewords}
+use Rattle.word_law.proofs.Grounds.{renews}
 use Rattle.word_law.proofs.Put.{Split, put_split}
 use Rattle.word_law.proofs.Slots.{set_same, set_other, cells_joined, thread_replaced, turns_replaced, among_replaced, thread_cells, lying_in, fixed_old, fixed_new, loose_after, loose_before}
 
@@ -73,7 +74,7 @@ not_first r w n = by (w == r.first) refl
     by true e = let s : w ≡ r.first = grind (arith, nat_tests, e) in absurd (n s)
     by false e = ap (λ b. false || not b) e
 
-module _ (a b : Cluster) (n i w : ℕ) (t : ThreadState) (v new : Value) (old : slice_get t.slots i ≡ Some v) (worded : with_word w v ≡ Some new)
+module _ (a b : Cluster) (n i w : ℕ) (t : ThreadState) (v new : Value) (old : slice_get t.slots i ≡ Some v) (renewed : Renewed w v new)
     (s : Split (things_of a) (things_of b) (thread_things n false t) (thread_things n false (record t { slots = slice_set t.slots i new }))) (code : b.code ≡ a.code) (c : HasPlaces a) (d : HasPlaces b) where
   abbrev u : ThreadState
   u = record t { slots = slice_set t.slots i new }
@@ -139,12 +140,12 @@ module _ (a b : Cluster) (n i w : ℕ) (t : ThreadState) (v new : Value) (old : 
 
   loose : (y : Thing) → Among y (things_of b) → is_loose y ≡ true → Among y (things_of a)
   loose y h e =
-      let go = loose_after n i t new y (λ j. fixed_new n t.number j w v new worded) e in
+      let go = loose_after n i t new y (λ j. fixed_new n t.number j w v new renewed) e in
       subst (λ q. Among y q) (sym s.before) (around y s.left (thread_things n false u) (thread_things n false t) s.right go (subst (λ q. Among y q) s.after h))
 
   remain : (y : Thing) → Among y (things_of a) → is_loose y ≡ true → Among y (things_of b)
   remain y h e =
-      let go = loose_before n i t v new y old (λ j. fixed_old n t.number j w v new worded) e in
+      let go = loose_before n i t v new y old (λ j. fixed_old n t.number j w v new renewed) e in
       subst (λ q. Among y q) (sym s.after) (around y s.left (thread_things n false t) (thread_things n false u) s.right go (subst (λ q. Among y q) s.before h))
 
   -- WHAT LIES
@@ -166,7 +167,7 @@ module _ (a b : Cluster) (n i w : ℕ) (t : ThreadState) (v new : Value) (old : 
     old = v;
     new = new;
     stood = ap (λ q. slot_of q i) at_a ∙ old;
-    worded = worded;
+    renewed = renewed;
     stands = ap (λ q. slot_of q i) at_b ∙ set_same t.slots i v new old;
     changed = ch;
     elsewhere = elsewhere;
@@ -197,5 +198,5 @@ tint_rewords k n ts e h h2 i v p here at points put c d home firsts =
     let split : Split (things_of (put_in k n ts e h)) (things_of (put_in k n ts e h2)) (thread_things n false h.thread) (thread_things n false h2.thread) = put_split k n ts e h h2 here q.rest number in
     let there : Split (things_of (put_in k n ts e h)) (things_of (put_in k n ts e h2)) (thread_things n false h.thread) (thread_things n false (with_slot i q.new h).thread) =
     subst (λ y. Split (things_of (put_in k n ts e h)) (things_of (put_in k n ts e h2)) (thread_things n false h.thread) (thread_things n false y)) q.thread split in
-    slot_reworded (put_in k n ts e h) (put_in k n ts e h2) n i w h.thread v q.new at q.worded there refl c d p.object (worded_changed w v q.new q.worded firsts) home.server home.address home.lying
+    slot_reworded (put_in k n ts e h) (put_in k n ts e h2) n i w h.thread v q.new at (renews w v q.new q.worded) there refl c d p.object (worded_changed w v q.new q.worded firsts) home.server home.address home.lying
     (λ r a y m f. next_leads r a p.word (home.leads r a y m f))

@@ -13,7 +13,6 @@ use Rattle.thread_state.specs.declared.phase.Phase.TheVariants as phase
 use Rattle.thread_state.specs.declared.value.Value.{Value}
 use Rattle.thread_state.specs.declared.value.Value.TheVariants as value
 use Rattle.server_model.specs.Servers.{Cluster}
-use Rattle.server_model.specs.Places.{with_word, took}
 use Rattle.std.specs.Prelude.{slice_get}
 use Rattle.heap_law.specs.Names.{Among, same_object}
 use Rattle.heap_law.specs.Things.{Location, in_cell, things_of}
@@ -34,13 +33,13 @@ use Rattle.path_law.proofs.Origins.{among_first, among_second}
 use Rattle.path_law.proofs.Contained.{reference_there, held_there}
 use Rattle.path_law.proofs.Pointers.{sole_pointers}
 use Rattle.path_law.proofs.FreshPaths.{Followed, none_made}
-use Rattle.word_law.specs.Reworded.{HasPlaces, Reworded}
+use Rattle.word_law.specs.Reworded.{HasPlaces, Renewed, a_box, a_reference, Reworded}
 use Rattle.word_law.specs.WordsAfter.{Rewrites, WordsGoOn}
 use Rattle.word_law.proofs.GoOn.{pointer_to, StoodElsewhere, Change, go_on}
 use Rattle.word_law.proofs.Standing.{pointer_at, told, tells}
 use Rattle.word_law.proofs.Alone.{alone}
 use Rattle.word_law.proofs.Loose.{unplaced, remains}
-use Rattle.word_law.proofs.Grounds.{same_place, reference_word, holders_same, taken_all, now, still_stale, newly_stale}
+use Rattle.word_law.proofs.Grounds.{same_place, reference_now, holders_same, taken_all, now, still_stale, newly_stale}
 
 -- WHAT A VALUE POINTS TO
 
@@ -64,10 +63,10 @@ pointer_of_object t l (value.Shared r) o p e q = absurd q
 pointer_of_object t l (value.Held m) o p e q = absurd q
 
 -- with another word it is one pointer, with that word
-worded_pointer : (t w : ℕ) (l : Location) (old new : Value) (o : ObjNo) → with_word w old ≡ Some new → leads t (Some old) ≡ Some (in_cell o) → pointer_at l new ≡ pointer_to l w o ∷ []
-worded_pointer t w l (value.Own (owned.Box b)) new o e f = ap (pointer_at l) (sym (some_is e)) ∙ ap (λ p. pointer_to l w p ∷ []) (in_cell_is f)
-worded_pointer t w l (value.Mut r) new o e f = ap (pointer_at l) (sym (some_is e)) ∙ ap (λ p. pointer_to l w p ∷ []) (in_cell_is f)
-worded_pointer t w l _ new o e f = absurd cc
+renewed_pointer : (t w : ℕ) (l : Location) (old new : Value) (o : ObjNo) → Renewed w old new → leads t (Some old) ≡ Some (in_cell o) → pointer_at l new ≡ pointer_to l w o ∷ []
+renewed_pointer t w l old new o (a_box p e f) to = ap (pointer_at l) f ∙ ap (λ y. pointer_to l w y ∷ []) (in_cell_is (sym (ap (λ v. leads t (Some v)) e) ∙ to))
+renewed_pointer t w l old new o (a_reference r q e f word first object holder) to =
+    ap (pointer_at l) f ∙ ap (λ n. pointer_to l n q.object ∷ []) word ∙ ap (λ y. pointer_to l w y ∷ []) (object ∙ in_cell_is (sym (ap (λ v. leads t (Some v)) e) ∙ to))
 
 -- what was taken stands at no location
 taken_object_nowhere : (w : ℕ) (l : Option Location) (p : Pointer) → Among p (taken_object w l) → p.at ≡ None
@@ -166,7 +165,7 @@ module _ (k z : Cluster) (h : Location) (o : ObjNo) (w : ℕ) (all : Rewrites k 
   points = sym (ap (leads n) r.stood) ∙ sym (ap (λ m. leads n (value_behind gk m)) hop.pointer) ∙ sym (ap (locate gk n v.slot) hop.last) ∙ hop.leads
 
   pointer_now : pointer_at h r.new ≡ pointer_to h w o ∷ []
-  pointer_now = worded_pointer n w h r.old r.new o r.worded points
+  pointer_now = renewed_pointer n w h r.old r.new o r.renewed points
 
   only_one : (p q : Pointer) (ps : List Pointer) → ps ≡ q ∷ [] → Among p ps → p ≡ q
   only_one p q ps e m = by (subst (λ xs. Among p xs) e m)
@@ -252,7 +251,7 @@ module _ (k z : Cluster) (h : Location) (o : ObjNo) (w : ℕ) (all : Rewrites k 
   not_above_itself : Above gk h h → ⊥
   not_above_itself a = let y = above_holds k h h a in none_made k c x h y.0 followed y.1 y.2
 
-  sole : (p : Pointer) → Among p (all_pointers (sight z)) → p.object ≡ o → (p.at ≡ Some h) ⊎ ((l : Location) × (p.at ≡ Some l) × Above gk l h)
+  pub sole : (p : Pointer) → Among p (all_pointers (sight z)) → p.object ≡ o → (p.at ≡ Some h) ⊎ ((l : Location) × (p.at ≡ Some l) × Above gk l h)
   sole p m e = by p.at refl
     where
       above : (l : Location) → p.at ≡ Some l → (l ≡ h) ⊎ Above gk l h → (p.at ≡ Some h) ⊎ ((l : Location) × (p.at ≡ Some l) × Above gk l h)
@@ -282,10 +281,9 @@ module _ (k z : Cluster) (h : Location) (o : ObjNo) (w : ℕ) (all : Rewrites k 
   -- the pointer from which the changed reference was made
   made_stale : (l : Location) (q : MutRef) → value_in gk h ≡ Some (value.Mut q) → holder_of gk h q.holder ≡ Some l → IsStale (sight z) (Some l)
   made_stale l q e held =
-      let m = took q w in
-      let there = reference_word k z h o w r q e in
-      let is : r.new ≡ value.Mut m = some_is (sym r.stands ∙ there) in
-      changed_above (record { at = h; holder = holder_of gz h m.holder; reference = m }) (reference_there z h m there) (held_there z l (holder_of gz h m.holder) (holders_same k z h o w r h q.holder ∙ held)) (r.changed m is)
+      let y = reference_now k z h o w r q e in
+      let there : holder_of gz h y.0.holder ≡ Some l = ap (holder_of gz h) y.3.holder ∙ holders_same k z h o w r h q.holder ∙ held in
+      changed_above (record { at = h; holder = holder_of gz h y.0.holder; reference = y.0 }) (reference_there z h y.0 y.1) (held_there z l (holder_of gz h y.0.holder) there) (r.changed y.0 y.2)
 
   pub above_stale : (l : Location) → Above gk l h → IsStale (sight z) (Some l)
   above_stale l (made_from q e held) = made_stale l q e held

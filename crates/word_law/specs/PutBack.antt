@@ -13,7 +13,8 @@ use Rattle.server_model.specs.Servers.{Cluster, server_at}
 use Rattle.server_model.specs.Work.{Hand, thread_in, set_thread}
 use Rattle.server_model.specs.Clusters.{with_server}
 use Rattle.server_model.specs.NewWords.{issue_tint}
-use Rattle.server_model.specs.Places.{in_slot, pointer_of, put_word}
+use Rattle.server_model.specs.Places.{in_slot, note_write, pointer_of, put_word}
+use Rattle.server_model.specs.Prepare.{box_of}
 use Rattle.heap_law.specs.Names.{Among}
 use Rattle.heap_law.specs.Things.{at_slot, lies, things_of}
 use Rattle.heap_law.specs.Words.{IsStale, HasWords, LeadsTo}
@@ -79,3 +80,12 @@ TintKeepsWords = (k : Cluster) (n : ℕ) (ts : List ThreadState) (e : ℕ) (h h2
     → AtMostOne states (things_of (put_in k n ts e h))
     → (before : HasWords (sight (put_in k n ts e h))) (r a : ℕ) → LiesThere (put_in k n ts e h) r a p.object
     → WordsAfter (sight (put_in k n ts e h)) (sight (put_in k n ts e h2)) p.object (next_word p.word) before
+
+-- MARK: what a mutable reference in a slot leads to is written, which is noted on the reference. Its word stays
+abbrev pub MarkRewords : Type 0
+MarkRewords = (k : Cluster) (n : ℕ) (ts : List ThreadState) (e : ℕ) (h : Hand) (i : ℕ) (r : MutRef) → StandsHere k n ts h
+    → slice_get h.thread.slots i ≡ Some (value.Mut r)
+    → HasPlaces (put_in k n ts e h)
+    → HasPlaces (put_in k n ts e (note_write (Some i) h))
+    → LeadsHome (put_in k n ts e h) (box_of r)
+    → Reworded (put_in k n ts e h) (put_in k n ts e (note_write (Some i) h)) (at_slot h.thread.number i) r.object r.word

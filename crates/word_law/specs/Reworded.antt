@@ -10,7 +10,8 @@ use Rattle.thread_state.specs.declared.phase.Phase.TheVariants as phase
 use Rattle.thread_state.specs.declared.value.Value.{Value}
 use Rattle.thread_state.specs.declared.value.Value.TheVariants as value
 use Rattle.server_model.specs.Servers.{Cluster}
-use Rattle.server_model.specs.Places.{with_word}
+use Rattle.heap_partition.specs.declared.value.BoxPtr.{BoxPtr}
+use Rattle.heap_partition.specs.declared.value.Owned.TheVariants as owned
 use Rattle.heap_law.specs.Names.{Among}
 use Rattle.heap_law.specs.Things.{Location, Thing, holds, shares, lies, flies, sent, things_of}
 use Rattle.server_msgs.specs.declared.message.Message.{Message}
@@ -53,6 +54,11 @@ pub record HasPlaces (k : Cluster) : Type 0 where
   pub home_of_each : AtMostOne cells (things_of k)
   pub owner_of_each : Agree owners cells (things_of k)
 
+-- a box gets a word; a mutable reference gets a word, and its mark may change
+pub data Renewed (w : ℕ) (old new : Value) : Type 0 where
+  a_box : (p : BoxPtr) → old ≡ value.Own (owned.Box p) → new ≡ value.Own (owned.Box (record p { word = w })) → Renewed w old new
+  a_reference : (r q : MutRef) → old ≡ value.Mut r → new ≡ value.Mut q → q.word ≡ w → q.first ≡ r.first → q.object ≡ r.object → q.holder ≡ r.holder → Renewed w old new
+
 -- the object lies there
 pub record LiesThere (k : Cluster) (r a : ℕ) (o : ObjNo) : Type 0 where
   pub cell : Cell
@@ -61,11 +67,11 @@ pub record LiesThere (k : Cluster) (r a : ℕ) (o : ObjNo) : Type 0 where
 
 pub record Reworded (k z : Cluster) (h : Location) (o : ObjNo) (w : ℕ) : Type 0 where
   pub code : z.code ≡ k.code
-  -- the box or the mutable reference at h gets the word, and a reference is changed by it
+  -- the box or the mutable reference at h gets the word, and a reference is changed then
   pub old : Value
   pub new : Value
   pub stood : value_in (sight k).ground h ≡ Some old
-  pub worded : with_word w old ≡ Some new
+  pub renewed : Renewed w old new
   pub stands : value_in (sight z).ground h ≡ Some new
   pub changed : (r : MutRef) → new ≡ value.Mut r → changed r ≡ true
   -- elsewhere stands what stood there

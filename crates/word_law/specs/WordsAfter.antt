@@ -41,6 +41,6 @@ WordsGoOn = (k z : Cluster) (h : Location) (o : ObjNo) (w : ℕ) → Rewrites k 
 abbrev pub HoldersGoOn : Type 0
 HoldersGoOn = (k z : Cluster) (h : Location) (o : ObjNo) (w : ℕ) → Rewrites k z h o w → Holds z first_at_holder
 
--- and dirty references are alone, as a reference with another word is clean
+-- and dirty references are alone
 abbrev pub DirtyGoOn : Type 0
 DirtyGoOn = (k z : Cluster) (h : Location) (o : ObjNo) (w : ℕ) → Rewrites k z h o w → DirtyAlone (sight k) → DirtyAlone (sight z)

@@ -1,7 +1,8 @@
 //! Laws of words.
 
 ghost use Rattle.word_law.specs.Example.{WordsApply};
-ghost use Rattle.word_law.specs.PutBack.{TintKeepsWords, TintRewords};
+ghost use Rattle.word_law.specs.PutBack.{MarkRewords, TintKeepsWords, TintRewords};
+ghost use Rattle.word_law.specs.Unmoved.{EvictionsUnmoved, UnmovedStays};
 ghost use Rattle.word_law.specs.WordsAfter.{DirtyGoOn, HoldersGoOn, WordsGoOn};
 
 /// Where the pointer that a thread may write through gets another word of its object, and the object lies where that leads, each object has a word as before:
@@ -16,8 +17,16 @@ pub fn words_go_on()
 
 /// A tint is such a change: where the box or the mutable reference in a slot gets the next colour, the cluster with the thread put back is as it was but for
 /// that word. So it leaves each object a word, where the thread may write through that pointer; that the next colour wasn't issued follows from the words of
-/// objects.
+/// objects. The mark of a write on the mutable reference that led to its cell is such a change too, with the word as it was.
 pub fn small_steps_reword()
     ensures tints { TintRewords }
     ensures words { TintKeepsWords }
+    ensures marks { MarkRewords }
+{}
+
+/// Where nothing changes that words see, each object has the word that it had, references know the words at their holders, and dirty references are alone. No
+/// types are asked for. An eviction at its server is such an event.
+pub fn words_stay()
+    ensures unmoved { UnmovedStays }
+    ensures evictions { EvictionsUnmoved }
 {}

@@ -1,5 +1,6 @@
 use Rattle.word_law.proofs.laws.small_steps_reword.Goals as goal
 use Rattle.word_law.proofs.Tints.{tint_rewords}
+use Rattle.word_law.proofs.Marks.{mark_rewords}
 use Rattle.word_law.proofs.TintWords.{tint_keeps_words}
 
 pub returns-clause-tints : goal.returns-clause-tints
@@ -7,3 +8,6 @@ returns-clause-tints c = tint_rewords
 
 pub returns-clause-words : goal.returns-clause-words
 returns-clause-words c = tint_keeps_words
+
+pub returns-clause-marks : goal.returns-clause-marks
+returns-clause-marks c = mark_rewords

@@ -1,0 +1,9 @@
+use Rattle.word_law.proofs.laws.words_stay.Goals as goal
+use Rattle.word_law.proofs.Unmoved.{unmoved_stays}
+use Rattle.word_law.proofs.Unseen.{evictions_unmoved}
+
+pub returns-clause-unmoved : goal.returns-clause-unmoved
+returns-clause-unmoved c = unmoved_stays
+
+pub returns-clause-evictions : goal.returns-clause-evictions
+returns-clause-evictions c = evictions_unmoved
