@@ -15,3 +15,4 @@ pub mod TintWords
 pub mod Example
 pub mod Unmoved
 pub mod Unseen
+pub mod Fetches

@@ -5,7 +5,9 @@ use Rattle.read_cache.specs.Cache.{Copy, can_evict, evict}
 use Rattle.journal.specs.View.{EntryView}
 use Rattle.journal.specs.declared.act.Act.TheVariants as act
 use Rattle.server_model.specs.declared.event.Event.{Event}
-use Rattle.server_model.specs.Servers.{Rest, Server, Cluster, server_at}
+use Rattle.thread_state.specs.View.{ThreadState}
+use Rattle.server_msgs.specs.declared.message.Message.{Message}
+use Rattle.server_model.specs.Servers.{Sent, Rest, Server, Cluster, server_at}
 use Rattle.server_model.specs.Work.{Work, note, with_cache, then_some}
 use Rattle.server_model.specs.Events.{enabled, does, begin_at, left_by}
 use Rattle.server_model.specs.Clusters.{with_server, done_at, act_at}
@@ -71,7 +73,7 @@ unseen_one x t c l n = record { threads = t; cells = c; loose = loose; lies = li
     lies_none r a d (inl e) = n r a d e
     lies_none r a d (inr h) = h
 
-unseen_join : (a b : List Thing) → Unseen a → Unseen b → Unseen (a ++ b)
+pub unseen_join : (a b : List Thing) → Unseen a → Unseen b → Unseen (a ++ b)
 unseen_join a b p q = record {
   threads = threads_joined a b ∙ ap (λ l. l ++ threads_in b) p.threads ∙ q.threads;
   cells = cells_joined a b ∙ ap (λ l. l ++ cells_in b) p.cells ∙ q.cells;
@@ -79,7 +81,7 @@ unseen_join a b p q = record {
   lies = λ r g x h. ⊎_elim (λ (l : Among (lies r g x) a). p.lies r g x l) (λ (m : Among (lies r g x) b). q.lies r g x m) (among_split (lies r g x) a b h);
 }
 
-unseen_none : Unseen []
+pub unseen_none : Unseen []
 unseen_none = record { threads = refl; cells = refl; loose = λ y h e. h; lies = λ r a c h. h }
 
 pub unseen_all : {A : Type 0} (g : ℕ → A → List Thing) → ((i : ℕ) (x : A) → Unseen (g i x)) → (i : ℕ) (xs : List A) → Unseen (things_at g i xs)
@@ -94,15 +96,18 @@ counts_unseen s next retired begun made events = unseen_one _ refl refl refl (λ
 
 -- SERVERS
 
--- the same server with other copies after some events
-pub cache_alike : (r : Rest) (ts : List Rattle.thread_state.specs.View.ThreadState) (cs : List Copy) (e f : ℕ) → Alike (server_things (record { rest = r; threads = ts; events = e })) (server_things (record { rest = record r { cache = cs }; threads = ts; events = f }))
-cache_alike r ts cs e f =
+-- the same server with other copies and messages, of which words see the same, after some events
+pub server_alike : (r : Rest) (ts : List ThreadState) (cs : List Copy) (ms : List Message) (os : List Sent) (e f : ℕ) → Alike (things_at (copy_things r.number) 0 r.cache) (things_at (copy_things r.number) 0 cs)
+    → Alike (things_at (waiting_things r.number) 0 r.inbox) (things_at (waiting_things r.number) 0 ms)
+    → Alike (things_at leaving_things 0 r.outbox) (things_at leaving_things 0 os)
+    → Alike (server_things (record { rest = r; threads = ts; events = e })) (server_things (record { rest = record r { cache = cs; inbox = ms; outbox = os }; threads = ts; events = f }))
+server_alike r ts cs ms os e f copies waiting leaving =
     let n = r.number in
     let m = things_at (mutex_things n) 0 r.mutexes.there in
     let t = things_at (task_things n) 0 r.tasks in
     let x = things_at (standing_things n) 0 ts in
     let i = things_at (waiting_things n) 0 r.inbox in
-    let o = things_at leaving_things 0 r.outbox in
+    let j = things_at (waiting_things n) 0 ms in
     let c = things_at (copy_things n) 0 r.cache in
     let d = things_at (copy_things n) 0 cs in
     let a = counts n (length r.partition.cells) r.partition.retired r.started r.mutexes.made e ∷ partition_things n r.partition in
@@ -110,11 +115,16 @@ cache_alike r ts cs e f =
     let first : Alike a b =
     alike_join (counts n (length r.partition.cells) r.partition.retired r.started r.mutexes.made e ∷ []) (counts n (length r.partition.cells) r.partition.retired r.started r.mutexes.made f ∷ []) (partition_things n r.partition) (partition_things n r.partition)
     (alike_unseen _ _ (counts_unseen n (length r.partition.cells) r.partition.retired r.started r.mutexes.made e) (counts_unseen n (length r.partition.cells) r.partition.retired r.started r.mutexes.made f)) (alike_itself (partition_things n r.partition)) in
-    alike_join (a ++ c ++ m ++ t ++ x ++ i) (b ++ d ++ m ++ t ++ x ++ i) o o
-    (alike_join (a ++ c ++ m ++ t ++ x) (b ++ d ++ m ++ t ++ x) i i
+    alike_join (a ++ c ++ m ++ t ++ x ++ i) (b ++ d ++ m ++ t ++ x ++ j) (things_at leaving_things 0 r.outbox) (things_at leaving_things 0 os)
+    (alike_join (a ++ c ++ m ++ t ++ x) (b ++ d ++ m ++ t ++ x) i j
     (alike_join (a ++ c ++ m ++ t) (b ++ d ++ m ++ t) x x
-    (alike_join (a ++ c ++ m) (b ++ d ++ m) t t
-    (alike_join (a ++ c) (b ++ d) m m (alike_join a b c d first (alike_unseen c d (copies_unseen n r.cache) (copies_unseen n cs))) (alike_itself m)) (alike_itself t)) (alike_itself x)) (alike_itself i)) (alike_itself o)
+    (alike_join (a ++ c ++ m) (b ++ d ++ m) t t (alike_join (a ++ c) (b ++ d) m m (alike_join a b c d first copies) (alike_itself m)) (alike_itself t)) (alike_itself x)) waiting) leaving
+
+-- the same server with other copies
+cache_alike : (r : Rest) (ts : List ThreadState) (cs : List Copy) (e f : ℕ) → Alike (server_things (record { rest = r; threads = ts; events = e })) (server_things (record { rest = record r { cache = cs }; threads = ts; events = f }))
+cache_alike r ts cs e f =
+    server_alike r ts cs r.inbox r.outbox e f (alike_unseen (things_at (copy_things r.number) 0 r.cache) (things_at (copy_things r.number) 0 cs) (copies_unseen r.number r.cache) (copies_unseen r.number cs))
+    (alike_itself (things_at (waiting_things r.number) 0 r.inbox)) (alike_itself (things_at leaving_things 0 r.outbox))
 
 pub servers_alike : (n : ℕ) (ss : List Server) (s y : Server) → server_at ss n ≡ Some s → Alike (server_things s) (server_things y) → Alike (servers_things ss) (servers_things (with_server ss n y))
 servers_alike n [] s y e h = absurd cc

@@ -1,12 +1,14 @@
 -- NOTHING THAT THE WORDS OF OBJECTS SEE CHANGES (this project's rule): two clusters of which the second has at each location what the first has, and the
 -- same outside of locations.
-use Rattle.std.specs.Prelude.{◌≡◌, ℕ, true, map, Some}
+use Rattle.std.specs.Prelude.{◌≡◌, ℕ, true, map, Some, slice_get}
 use Rattle.fr_base.specs.declared.name.ObjNo.{ObjNo}
 use Rattle.heap_partition.specs.declared.value.Cell.{Cell}
 use Rattle.journal.specs.View.{EntryView}
 use Rattle.server_model.specs.declared.event.Event.{Event}
-use Rattle.server_model.specs.declared.event.What.TheVariants.{Evict}
-use Rattle.server_model.specs.Servers.{Cluster}
+use Rattle.server_model.specs.declared.event.What.TheVariants.{Deliver, Evict}
+use Rattle.server_msgs.specs.declared.message.Message.{Message}
+use Rattle.server_msgs.specs.declared.message.Message.TheVariants.{Fetch}
+use Rattle.server_model.specs.Servers.{Server, Cluster, server_at}
 use Rattle.server_model.specs.Clusters.{act_at}
 use Rattle.heap_law.specs.Names.{Among}
 use Rattle.heap_law.specs.Things.{Location, Thing, lies, things_of}
@@ -41,3 +43,15 @@ pub record UnmovedStays : Type 0 where
 -- an eviction changes nothing that words see
 abbrev pub EvictionsUnmoved : Type 0
 EvictionsUnmoved = (k z : Cluster) (e : Event) (w : ℕ) (v : EntryView) → e.what ≡ Evict w → act_at k e ≡ Some (z, v) → Unmoved k z
+
+-- the message is delivered
+pub record Delivers (k : Cluster) (e : Event) (m : Message) : Type 0 where
+  pub place : ℕ
+  pub what : e.what ≡ Deliver place
+  pub server : Server
+  pub there : server_at k.servers e.server ≡ Some server
+  pub message : slice_get server.rest.inbox place ≡ Some m
+
+-- nor does the delivery of a `fetch`
+abbrev pub FetchesUnmoved : Type 0
+FetchesUnmoved = (k z : Cluster) (e : Event) (w : ℕ) (o : ObjNo) (s t : ℕ) (v : EntryView) → Delivers k e (Fetch w o s t) → act_at k e ≡ Some (z, v) → Unmoved k z

@@ -2,7 +2,7 @@
 
 ghost use Rattle.word_law.specs.Example.{WordsApply};
 ghost use Rattle.word_law.specs.PutBack.{MarkRewords, TintKeepsWords, TintRewords};
-ghost use Rattle.word_law.specs.Unmoved.{EvictionsUnmoved, UnmovedStays};
+ghost use Rattle.word_law.specs.Unmoved.{EvictionsUnmoved, FetchesUnmoved, UnmovedStays};
 ghost use Rattle.word_law.specs.WordsAfter.{DirtyGoOn, HoldersGoOn, WordsGoOn};
 
 /// Where the pointer that a thread may write through gets another word of its object, and the object lies where that leads, each object has a word as before:
@@ -25,8 +25,9 @@ pub fn small_steps_reword()
 {}
 
 /// Where nothing changes that words see, each object has the word that it had, references know the words at their holders, and dirty references are alone. No
-/// types are asked for. An eviction at its server is such an event.
+/// types are asked for. An eviction at its server is such an event, and so is the delivery of a `fetch`.
 pub fn words_stay()
     ensures unmoved { UnmovedStays }
     ensures evictions { EvictionsUnmoved }
+    ensures fetches { FetchesUnmoved }
 {}

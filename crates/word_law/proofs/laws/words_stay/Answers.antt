@@ -1,5 +1,6 @@
 use Rattle.word_law.proofs.laws.words_stay.Goals as goal
 use Rattle.word_law.proofs.Unmoved.{unmoved_stays}
+use Rattle.word_law.proofs.Fetches.{fetches_unmoved}
 use Rattle.word_law.proofs.Unseen.{evictions_unmoved}
 
 pub returns-clause-unmoved : goal.returns-clause-unmoved
@@ -7,3 +8,6 @@ returns-clause-unmoved c = unmoved_stays
 
 pub returns-clause-evictions : goal.returns-clause-evictions
 returns-clause-evictions c = evictions_unmoved
+
+pub returns-clause-fetches : goal.returns-clause-fetches
+returns-clause-fetches c = fetches_unmoved
