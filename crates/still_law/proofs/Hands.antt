@@ -34,37 +34,38 @@ pub record HandStill (gone : List Thing) (h h2 : Hand) : Type 0 where
   pub thread : h2.thread.number ≡ h.thread.number
   pub alike : ShowAlike (gone ++ hand_things h.work.rest.number h) (hand_things h.work.rest.number h2)
 
+-- the hand is put back where its thread stood
+pub put_still : (gone : List Thing) (t : ℕ) (x : Site) (y : ThreadState) → thread_in x.threads t ≡ Some y → (h : Hand) → HandStill gone (record { work = x.work; thread = y }) h → Still gone x (put_back x.threads h)
+put_still gone t x y q h s w z =
+    let g : Thing → ℕ = λ u. w (sign_of u) in
+    let n = x.work.rest.number in
+    let r = rest_things n 0 x.work.rest in
+    let r2 = rest_things n 0 h.work.rest in
+    let ts = set_thread x.threads h.thread in
+    let moved : shown w (site_things (put_back x.threads h)) ≡ shown w (all_standing n ts ++ r2) = ap (λ m. shown w (all_standing m ts ++ rest_things m 0 h.work.rest)) s.number in
+    omega (
+      arith,
+      moved,
+      s.alike w z,
+      tot-without n g x.threads t y q,
+      tot-set n g x.threads t y h.thread q (s.thread ∙ thread_number x.threads t y q),
+      tot-append g gone (all_standing n x.threads ++ r),
+      tot-append g (all_standing n x.threads) r,
+      tot-append g (all_standing n ts) r2,
+      tot-append g gone (thread_things n false y ++ r),
+      tot-append g (thread_things n false y) r,
+      tot-append g (thread_things n false h.thread) r2,
+    )
+
 pub thread_still : (gone : List Thing) (t : ℕ) (f : Hand → Option Hand) (x : Site)
     → ((y : ThreadState) → thread_in x.threads t ≡ Some y → Gives (HandStill gone (record { work = x.work; thread = y })) (f (record { work = x.work; thread = y })))
     → Gives (Still gone x) (at_thread t f x)
 thread_still gone t f x go = by (thread_in x.threads t) refl
   where
-    there : (y : ThreadState) → thread_in x.threads t ≡ Some y → (h : Hand) → HandStill gone (record { work = x.work; thread = y }) h → Still gone x (put_back x.threads h)
-    there y q h s w z =
-        let g : Thing → ℕ = λ u. w (sign_of u) in
-        let n = x.work.rest.number in
-        let r = rest_things n 0 x.work.rest in
-        let r2 = rest_things n 0 h.work.rest in
-        let ts = set_thread x.threads h.thread in
-        let moved : shown w (site_things (put_back x.threads h)) ≡ shown w (all_standing n ts ++ r2) = ap (λ m. shown w (all_standing m ts ++ rest_things m 0 h.work.rest)) s.number in
-        omega (
-          arith,
-          moved,
-          s.alike w z,
-          tot-without n g x.threads t y q,
-          tot-set n g x.threads t y h.thread q (s.thread ∙ thread_number x.threads t y q),
-          tot-append g gone (all_standing n x.threads ++ r),
-          tot-append g (all_standing n x.threads) r,
-          tot-append g (all_standing n ts) r2,
-          tot-append g gone (thread_things n false y ++ r),
-          tot-append g (thread_things n false y) r,
-          tot-append g (thread_things n false h.thread) r2,
-        )
-
     by : (o : Option ThreadState) → thread_in x.threads t ≡ o
         → Gives (Still gone x) (then_some (option_map (λ y. record { work = x.work; thread = y }) o) (λ h. option_map (put_back x.threads) (f h)))
     by None q = tt
-    by (Some y) q = over_gives (HandStill gone (record { work = x.work; thread = y })) (Still gone x) (f (record { work = x.work; thread = y })) (put_back x.threads) (go y q) (λ h s. there y q h s)
+    by (Some y) q = over_gives (HandStill gone (record { work = x.work; thread = y })) (Still gone x) (f (record { work = x.work; thread = y })) (put_back x.threads) (go y q) (λ h s. put_still gone t x y q h s)
 
 -- A PHASE THAT SHOWS NOTHING
 

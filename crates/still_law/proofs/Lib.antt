@@ -11,3 +11,4 @@ pub mod Requests
 pub mod Hands
 pub mod Leaving
 pub mod StillKinds
+pub mod Asking

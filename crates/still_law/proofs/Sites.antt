@@ -1,5 +1,5 @@
 -- From what shows alike at a server to the one heap of its cluster, with its messages handed over.
-use Rattle.std.proofs.Common.{◌≡◌, ℕ, ◌+◌, List, [], ◌++◌, Option, Some, None, refl, sym, ap, subst, ◌∙◌, arith}
+use Rattle.std.proofs.Common.{◌≡◌, true, ℕ, ◌+◌, List, [], ◌++◌, Option, Some, None, refl, sym, ap, subst, ◌∙◌, arith}
 use Rattle.std.specs.Prelude.{slice_get}
 use Rattle.fr_base.specs.declared.step.Fresh.{Fresh}
 use Rattle.fr_plain.specs.PlainState.{SameState}
@@ -128,10 +128,10 @@ deliveries k s i m q g =
 abbrev pub ClusterStill : Cluster → Cluster → Type 0
 ClusterStill k c = (c.code ≡ k.code) × ShowAlike (things_of k) (things_of c)
 
-acts_still : (k : Cluster) (e : Event) → ((s : Server) → server_at k.servers e.server ≡ Some s → Gives (ServerStill s) (does k.code k.options s e.what)) → Gives (λ (d : Cluster × EntryView). ClusterStill k d.0) (act_at k e)
+acts_still : (k : Cluster) (e : Event) → ((s : Server) → server_at k.servers e.server ≡ Some s → enabled k.options s e.what ≡ true → Gives (ServerStill s) (does k.code k.options s e.what)) → Gives (λ (d : Cluster × EntryView). ClusterStill k d.0) (act_at k e)
 acts_still k e go =
     then_gives Then (server_at k.servers e.server) _ (λ s h.
-    over_gives (ServerStill s) Then (done_at k e.what s) _ (test_gives (ServerStill s) (enabled k.options s e.what) (does k.code k.options s e.what) (λ on. go s h))
+    over_gives (ServerStill s) Then (done_at k e.what s) _ (test_gives (ServerStill s) (enabled k.options s e.what) (does k.code k.options s e.what) (λ on. go s h on))
     (λ r u. (refl, λ w z. (let f : Thing → ℕ = λ x. w (sign_of x) in let t = tot-server f k.servers e.server s r.0 h in omega (arith, t.0, t.1, u w z)))))
   where
     Then : Cluster × EntryView → Type 0
@@ -139,7 +139,7 @@ acts_still k e go =
 
 -- what shows alike at its server leaves the one heap
 pub leaves_heap : ((k : Cluster) → IsSound k → Once (sight k)) → (k : Cluster) (e : Event) → IsSound k → FewEvents k
-    → ((s : Server) → server_at k.servers e.server ≡ Some s → Gives (ServerStill s) (does k.code k.options s e.what)) → LeavesHeap k e
+    → ((s : Server) → server_at k.servers e.server ≡ Some s → enabled k.options s e.what ≡ true → Gives (ServerStill s) (does k.code k.options s e.what)) → LeavesHeap k e
 leaves_heap once k e sound few go =
     weaker (λ (d : Cluster × EntryView). ClusterStill k d.0) (λ (d : Cluster × EntryView). SameState (one_heap d.0) (one_heap k)) (apply k e)
     (handed_on (ClusterStill k) (λ c a b same g. (g.0, λ w z. g.1 w z ∙ same (λ x. w (sign_of x)))) k e (each_event_sends k e sound few) (acts_still k e go))

@@ -104,4 +104,4 @@ module _ (k : Cluster) (sound : IsSound k) (number : ℕ) (s : Server) (here : s
     server_still (Migrate t target) q = migrations k s t target
 
 pub kind_leaves : (kind : Kind) → IsStill kind → LeaveHeap kind
-kind_leaves kind p k e q sound few = leaves_heap shown_once k e sound few (λ s h. server_still k sound e.server s h kind p e.what (subst (λ o. then_some o (kind_at k e.what) ≡ Some kind) h q))
+kind_leaves kind p k e q sound few = leaves_heap shown_once k e sound few (λ s h on. server_still k sound e.server s h kind p e.what (subst (λ o. then_some o (kind_at k e.what) ≡ Some kind) h q))

@@ -1,9 +1,14 @@
 -- Laws of events without a plain step: the one heap stays as it was.
-use Rattle.std.specs.Prelude.{◌≡◌, Some}
+use Rattle.std.specs.Prelude.{◌≡◌, ℕ, Some, None, slice_get}
+use Rattle.fr_base.specs.declared.instruction.Instr.TheVariants as instr
+use Rattle.fr_base.specs.declared.instruction.Operand.{Operand}
 use Rattle.fr_plain.specs.PlainState.{SameState}
 use Rattle.journal.specs.View.{EntryView}
 use Rattle.server_model.specs.declared.event.Event.{Event}
-use Rattle.server_model.specs.Servers.{Cluster}
+use Rattle.server_model.specs.declared.event.What.TheVariants.{Step}
+use Rattle.server_model.specs.Servers.{Server, Cluster, server_at}
+use Rattle.server_model.specs.Work.{thread_in}
+use Rattle.thread_state.specs.View.{ThreadState}
 use Rattle.server_model.specs.Clusters.{apply}
 use Rattle.heap_law.specs.Things.{things_of}
 use Rattle.heap_law.specs.OneHeap.{one_heap}
@@ -23,3 +28,9 @@ LeavesHeap k e = Gives (λ (d : Cluster × EntryView). SameState (one_heap d.0) 
 -- each event of that kind does, from a sound cluster
 abbrev pub LeaveHeap : Kind → Type 0
 LeaveHeap kind = (k : Cluster) (e : Event) → kind_of k e ≡ Some kind → IsSound k → FewEvents k → LeavesHeap k e
+
+-- the step of a thread at a join without its gift, which asks for the result
+abbrev pub JoinsThatAsk : Type 0
+JoinsThatAsk =
+    (k : Cluster) (n t : ℕ) (s : Server) (y : ThreadState) (o : Operand) → IsSound k → FewEvents k → server_at k.servers n ≡ Some s → thread_in s.threads t ≡ Some y → slice_get k.code y.pc ≡ Some (instr.Join o) → y.gift ≡ None
+    → LeavesHeap k (record { server = n; what = Step t })

@@ -1,7 +1,7 @@
 //! Laws of events without a plain step.
 
 ghost use Rattle.event_law.specs.Kinds.{arrives, asks_dup, asks_join, asks_lock, evicts, fetch, fetched, migrates, moving, starts};
-ghost use Rattle.still_law.specs.Laws.{AlikeStandForOne, LeaveHeap};
+ghost use Rattle.still_law.specs.Laws.{AlikeStandForOne, JoinsThatAsk, LeaveHeap};
 
 /// Where all that is shown of things is the same, the one heap is: no word, copy, use, address, message, pin or server counts.
 pub fn alike_stand_for_one()
@@ -21,4 +21,9 @@ pub fn events_leave_heap()
     ensures locks { LeaveHeap asks_lock }
     ensures dups { LeaveHeap asks_dup }
     ensures joins { LeaveHeap asks_join }
+{}
+
+/// A join that asks for its result leaves the one heap as it was.
+pub fn asking_leaves_heap()
+    ensures { JoinsThatAsk }
 {}
