@@ -1,5 +1,6 @@
 -- The next colour of an object's word wasn't issued.
 use Rattle.std.proofs.Common.{◌≡◌, inl, inr, ℕ, ◌+◌, ◌≤◌, ◌==◌, ◌&&◌, ◌||◌, Bool, true, false, List, [], ◌∷◌, Some, refl, sym, ap, subst, ◌∙◌, arith}
+use Rattle.std.specs.Prelude.{nat_lt}
 use Rattle.std.proofs.lemmas.Bool.Decides.{nat_tests}
 use Rattle.fr_base.specs.declared.name.ObjNo.{ObjNo}
 use Rattle.global_addr.specs.Words.{colour_of, server_of, address_of, next_word}
@@ -13,7 +14,7 @@ use Rattle.heap_law.specs.Weights.{states}
 use Rattle.heap_law.specs.Sight.{Pointer, word_of_object, colour_up_to, is_spot, is_issued_at, is_issued, sight, issued}
 use Rattle.heap_law.specs.Placing.{words}
 use Rattle.heap_law.specs.Coherent.{Holds, are_issued}
-use Rattle.heap_law.specs.Words.{HasWords, LeadsTo}
+use Rattle.heap_law.specs.Words.{HasWords, LeadsTo, Fresh}
 use Rattle.heap_law.proofs.Names.{and_left, and_right, same_number, right_none}
 use Rattle.heap_law.proofs.Words.{none_at, words_law}
 use Rattle.path_law.proofs.Shown.{none_else}
@@ -49,7 +50,7 @@ module _ (k : Cluster) (b : HasWords (sight k)) (states_differ : AtMostOne state
     leads = next_leads r a (b.word o) (subst (λ q. LeadsTo r a (b.word q)) there.object (b.home r a there.cell there.among))
 
     told : word_of_object (sight k).pointers o ≡ Some (b.word o)
-    told = words_law.first_tells k b o (subst (λ q. Rattle.heap_law.specs.Words.Fresh (sight k) q) there.object (b.live r a there.cell there.among))
+    told = words_law.first_tells k b o (subst (λ q. Fresh (sight k) q) there.object (b.live r a there.cell there.among))
 
     -- what has a state at that address is the object's cell
     its_cell : (x : Thing) → Among x (things_of k) → 1 ≤ states (r, a) x → lies r a there.cell ≡ x
@@ -71,12 +72,12 @@ module _ (k : Cluster) (b : HasWords (sight k)) (states_differ : AtMostOne state
             ap (λ q. colour_up_to (word_of_object (sight k).pointers q) w) object ∙ ap (λ q. colour_up_to q w) told ∙ later_colour (b.word o)
     not_issued (vacant s d n) h = by (is_spot s d w) refl
       where
-        by : (q : Bool) → is_spot s d w ≡ q → (q && Rattle.std.specs.Prelude.nat_lt (colour_of w) n) ≡ false
+        by : (q : Bool) → is_spot s d w ≡ q → (q && nat_lt (colour_of w) n) ≡ false
         by false e = refl
         by true e = let p = spot_is s d e in let same = its_cell (vacant s d n) h (same_spot r a s d p.0 p.1) in absurd cc
     not_issued (retired s d) h = by (is_spot s d w) refl
       where
-        by : (q : Bool) → is_spot s d w ≡ q → (q && Rattle.std.specs.Prelude.nat_lt (colour_of w) (sight k).options.colours) ≡ false
+        by : (q : Bool) → is_spot s d w ≡ q → (q && nat_lt (colour_of w) (sight k).options.colours) ≡ false
         by false e = refl
         by true e = let p = spot_is s d e in let same = its_cell (retired s d) h (same_spot r a s d p.0 p.1) in absurd cc
     not_issued _ h = refl

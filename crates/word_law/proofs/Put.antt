@@ -1,6 +1,6 @@
 -- What a cluster with a thread put back has: what the thread has, between what doesn't depend on it.
 use Rattle.std.proofs.Common.{◌≡◌, ℕ, ◌+◌, ◌==◌, Bool, true, false, if◌then◌else◌, List, [], ◌∷◌, ◌++◌, Some, IsSome, refl, sym, ap, subst, ◌∙◌}
-use Rattle.std.specs.Prelude.{slice_get, slice_set}
+use Rattle.std.specs.Prelude.{length}
 use Rattle.std.proofs.lemmas.List.{append_assoc}
 use Rattle.thread_state.specs.View.{ThreadState}
 use Rattle.server_model.specs.Servers.{Rest, Server, Cluster, server_at}
@@ -62,7 +62,7 @@ server_split r ts us e c d s =
     let n = r.number in
     split_right (things_at leaving_things 0 r.outbox)
     (split_right (things_at (waiting_things n) 0 r.inbox)
-    (split_left (counts n (Rattle.std.specs.Prelude.length r.partition.cells) r.partition.retired r.started r.mutexes.made e ∷ partition_things n r.partition ++ things_at (copy_things n) 0 r.cache ++ things_at (mutex_things n) 0 r.mutexes.there ++ things_at (task_things n) 0 r.tasks) s))
+    (split_left (counts n (length r.partition.cells) r.partition.retired r.started r.mutexes.made e ∷ partition_things n r.partition ++ things_at (copy_things n) 0 r.cache ++ things_at (mutex_things n) 0 r.mutexes.there ++ things_at (task_things n) 0 r.tasks) s))
 
 servers_split : (n : ℕ) (ss : List Server) (x y : Server) (c d : List Thing) → IsSome (server_at ss n) → Split (server_things x) (server_things y) c d → Split (servers_things (with_server ss n x)) (servers_things (with_server ss n y)) c d
 servers_split n [] x y c d h s = absurd cc

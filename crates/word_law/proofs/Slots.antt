@@ -12,7 +12,7 @@ use Rattle.thread_state.specs.View.{ThreadState}
 use Rattle.thread_state.specs.declared.value.Value.{Value}
 use Rattle.thread_state.specs.declared.value.Value.TheVariants as value
 use Rattle.heap_law.specs.Names.{Among}
-use Rattle.heap_law.specs.Things.{Location, at_slot, at_temp, in_cell, in_slot, in_temp, Thing, lies, stands, uses, things_at, pin_things, value_things, slot_things, temp_things, gift_things, walk_things, thread_things, things_of, holds, borrows}
+use Rattle.heap_law.specs.Things.{Location, at_slot, at_temp, in_slot, in_temp, Thing, lies, stands, uses, things_at, pin_things, value_things, slot_things, temp_things, gift_things, walk_things, thread_things, holds, borrows, flies, Spot}
 use Rattle.heap_law.specs.Follow.{Standing, thread_at, cells_in}
 use Rattle.heap_law.proofs.Bags.{among_split}
 use Rattle.path_law.proofs.Sole.{some_is}
@@ -36,7 +36,7 @@ set_other (x ∷ xs) (suc i) (suc j) b n = set_other xs i j b (λ e. n (ap suc e
 pub cells_joined : (a b : List Thing) → cells_in (a ++ b) ≡ cells_in a ++ cells_in b
 cells_joined [] b = refl
 cells_joined (lies s a c ∷ xs) b = ap (λ l. c ∷ l) (cells_joined xs b)
-cells_joined (Rattle.heap_law.specs.Things.flies w c ∷ xs) b = ap (λ l. c ∷ l) (cells_joined xs b)
+cells_joined (flies w c ∷ xs) b = ap (λ l. c ∷ l) (cells_joined xs b)
 cells_joined (_ ∷ xs) b = cells_joined xs b
 
 -- a thread in place of another one
@@ -80,7 +80,7 @@ pin_cells s r = by r.pinned
     by true = refl
     by false = refl
 
-value_cells : (s : ℕ) (p : Rattle.heap_law.specs.Things.Spot) (l : Location) (v : Value) → cells_in (value_things s p l v) ≡ []
+value_cells : (s : ℕ) (p : Spot) (l : Location) (v : Value) → cells_in (value_things s p l v) ≡ []
 value_cells s p l (value.Shared r) = pin_cells s r
 value_cells s p l value.Gone = refl
 value_cells s p l (value.Own u) = refl
@@ -105,8 +105,8 @@ pub lying_in : (r a : ℕ) (c : Cell) (b : List Thing) → Among (lies r a c) b 
 lying_in r a c [] h = absurd h
 lying_in r a c (lies s d e ∷ b) (inl f) = inl cc
 lying_in r a c (lies s d e ∷ b) (inr h) = inr (lying_in r a c b h)
-lying_in r a c (Rattle.heap_law.specs.Things.flies w e ∷ b) (inl f) = absurd cc
-lying_in r a c (Rattle.heap_law.specs.Things.flies w e ∷ b) (inr h) = inr (lying_in r a c b h)
+lying_in r a c (flies w e ∷ b) (inl f) = absurd cc
+lying_in r a c (flies w e ∷ b) (inr h) = inr (lying_in r a c b h)
 lying_in r a c (_ ∷ b) (inl f) = absurd cc
 lying_in r a c (_ ∷ b) (inr h) = lying_in r a c b h
 

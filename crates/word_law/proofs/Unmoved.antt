@@ -1,5 +1,6 @@
 -- Where nothing changes that words see, the words stay.
 use Rattle.std.proofs.Common.{◌≡◌, ◌⊎◌, inl, inr, ⊎_elim, ℕ, true, Option, Some, None, refl, sym, ap, subst, ◌∙◌}
+use Rattle.fr_base.specs.declared.place.Lval.{Lval}
 use Rattle.heap_partition.specs.declared.value.Cell.{Cell}
 use Rattle.server_model.specs.Servers.{Cluster}
 use Rattle.heap_law.specs.Names.{Among, other}
@@ -24,7 +25,7 @@ use Rattle.word_law.proofs.Grounds.{of_borrows}
 
 -- FROM ONE CLUSTER TO THE OTHER
 
-module _ (a b : Cluster) (c : HasPlaces a) (st : (l : Location) → value_in (sight b).ground l ≡ value_in (sight a).ground l) (held : (l : Location) (v : Rattle.fr_base.specs.declared.place.Lval.Lval) → holder_of (sight b).ground l v ≡ holder_of (sight a).ground l v)
+module _ (a b : Cluster) (c : HasPlaces a) (st : (l : Location) → value_in (sight b).ground l ≡ value_in (sight a).ground l) (held : (l : Location) (v : Lval) → holder_of (sight b).ground l v ≡ holder_of (sight a).ground l v)
     (lent : lent_places (sight b).code (sight b).ground (sight b).ground.threads ≡ lent_places (sight a).code (sight a).ground (sight a).ground.threads)
     (taken : taken_pointers (sight b).code (sight b).ground (sight b).ground.threads ≡ taken_pointers (sight a).code (sight a).ground (sight a).ground.threads)
     (loose : (y : Thing) → Among y (things_of a) → is_loose y ≡ true → Among y (things_of b)) where
@@ -89,7 +90,7 @@ module _ (k z : Cluster) (c : HasPlaces k) (d : HasPlaces z) (u : Unmoved k z) w
   lead : (t : ℕ) (l : Location) → leads t (value_in gz l) ≡ leads t (value_in gk l)
   lead t l = ap (leads t) (u.stands l)
 
-  held : (l : Location) (v : Rattle.fr_base.specs.declared.place.Lval.Lval) → holder_of gz l v ≡ holder_of gk l v
+  held : (l : Location) (v : Lval) → holder_of gz l v ≡ holder_of gk l v
   held l v = holders_lead gk gz lead l v
 
   lent : lent_places (sight z).code gz gz.threads ≡ lent_places (sight k).code gk gk.threads
