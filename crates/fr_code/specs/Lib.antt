@@ -7,3 +7,4 @@ pub mod TypedCode
 pub mod CodeTypes
 pub mod Joins
 pub mod CodeTable
+pub mod TableStates

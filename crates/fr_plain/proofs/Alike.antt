@@ -451,7 +451,7 @@ module _ {P Q : Type 0} (R : P → Q → Type 0) (ms : Moves P) (ns : Moves Q) w
     same_own names (do_finish v) = lone names (do_finish v) (do_finish v) (λ z. refl) (λ z. refl)
     same_own names (do_leave v) = lone names (do_leave v) (do_leave v) (λ z. refl) (λ z. refl)
 
-    same_done : (names : Fresh) {a : Act P} {b : Act Q} → ActsAlike R ms ns a b → SteppedAlike R (done_act ms s x names m a) (done_act ns c y names n b)
+    pub same_done : (names : Fresh) {a : Act P} {b : Act Q} → ActsAlike R ms ns a b → SteppedAlike R (done_act ms s x names m a) (done_act ns c y names n b)
     same_done names (same_act a) = same_own names a
     same_done names (same_start {cs = cs} {p = p} {q = q} f) = same_started names p q f (λ slots. pass cs slots [])
     same_done names (same_starts {cs = cs} {ds = ds} {p = p} {p2 = p2} {q = q} {q2 = q2} e f) = same_two_started names cs p q e ds p2 q2 f
@@ -579,7 +579,7 @@ module _ {P Q : Type 0} (R : P → Q → Type 0) (ms : Moves P) (ns : Moves Q) w
       own_waits (do_dup w) = refl
       own_waits do_unlock = refl
 
-      act_alike : {a : Act P} {b : Act Q} → ActsAlike R ms ns a b → act_waits s x a ≡ act_waits c y b
+      pub act_alike : {a : Act P} {b : Act Q} → ActsAlike R ms ns a b → act_waits s x a ≡ act_waits c y b
       act_alike (same_act a) = own_waits a
       act_alike (same_start e) = refl
       act_alike (same_starts e f) = refl
@@ -612,7 +612,7 @@ module _ {P Q : Type 0} (R : P → Q → Type 0) (ms : Moves P) (ns : Moves Q) w
     own_takes do_unlock = refl
     own_takes do_par_end = refl
 
-    act_takes : {a : Act P} {b : Act Q} → ActsAlike R ms ns a b → takes_of a ≡ takes_of b
+    pub act_takes : {a : Act P} {b : Act Q} → ActsAlike R ms ns a b → takes_of a ≡ takes_of b
     act_takes (same_act a) = own_takes a
     act_takes (same_start e) = refl
     act_takes (same_starts e f) = refl
@@ -623,7 +623,7 @@ module _ {P Q : Type 0} (R : P → Q → Type 0) (ms : Moves P) (ns : Moves Q) w
     name_alike (Some m) None e = absurd e
     name_alike (Some m) (Some n) e = act_takes e.act
 
-    names_alike : (k : Takes) (names : Fresh) → refused_names s k names ≡ refused_names c k names
+    pub names_alike : (k : Takes) (names : Fresh) → refused_names s k names ≡ refused_names c k names
     names_alike no_name fresh.None = refl
     names_alike a_thread (fresh.Thread u) = ap (λ b. if b then Some name_used else None) (given_alike u)
     names_alike two_threads (fresh.Threads u v) = ap (λ b. if u == v || b || is_given s v then Some name_used else None) (given_alike u) ∙ ap (λ b. if u == v || is_given c u || b then Some name_used else None) (given_alike v)

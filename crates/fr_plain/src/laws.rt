@@ -28,7 +28,7 @@ pub fn shared_run()
 
 /// A step that is refused is no plain step.
 pub fn refused_steps()
-    ensures { RefusedIsNoStep }
+    ensures { RefusedIsNoStep terms }
 {}
 
 /// States of terms whose plain states are the same take the same steps and runs, which lead to the same again; their

@@ -28,11 +28,10 @@ use Rattle.heap_law.specs.Requests.{locked_mutex}
 use Rattle.heap_law.specs.Coherent.{IsSound}
 use Rattle.heap_law.specs.OneHeap.{one_heap}
 use Rattle.type_law.specs.Names.{NameTypes, names_of, fits, is_there, fits_some, is_type}
-use Rattle.fr_sound.specs.States.{owned_part, Typing, StateTypes}
-use Rattle.fr_code.specs.Steps.{Place}
-use Rattle.fr_code.specs.Machine.{CodeState}
+use Rattle.fr_sound.specs.States.{owned_part, Typing}
 use Rattle.fr_code.specs.CodeTypes.{Entry, Table}
 use Rattle.fr_code.specs.CodeTable.{IsTable}
+pub use Rattle.fr_code.specs.TableStates.{KnownAt, CodeStateTypes}
 
 -- CELLS, CONTENTS AND RESULTS
 
@@ -212,14 +211,6 @@ leads_wrong exact s = sum_threads s (λ x. astray_of exact s.ground x.thread)
 
 -- THE PART
 
--- the table has this entry at the thread's instruction
-abbrev pub KnownAt : Table → Place → Entry → Type 0
-KnownAt table p x = table p.pc ≡ Some x
-
--- the one heap of a cluster is typed by a table of its code
-abbrev pub CodeStateTypes : Table → Typing → CodeState → Type 0
-CodeStateTypes table y a = StateTypes (KnownAt table) (λ (p : Place). p.temps) y a
-
 pub record Types (k : Cluster) : Type 0 where
   -- what typing gives at each instruction
   pub table : Table
@@ -227,6 +218,7 @@ pub record Types (k : Cluster) : Type 0 where
   -- one type for each object, each thread's result and each mutex's content; the exact types below the environments
   pub object : ObjNo → OwnedType
   pub typing : Typing
+  -- the one heap of the cluster is typed by that table
   pub state : CodeStateTypes table typing (one_heap k)
   pub agree : misfits (names_of object typing.gives) (sight k) ≡ 0
   pub forms : forms_wrong table (names_of object typing.gives) (sight k) ≡ 0
