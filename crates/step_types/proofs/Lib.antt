@@ -1,0 +1,9 @@
+pub mod AllActs
+pub mod Mirrored
+pub mod Joined
+pub mod Rejoined
+pub mod Seen
+pub mod AllSteps
+pub mod CodeSteps
+pub mod Starts
+pub mod Programs

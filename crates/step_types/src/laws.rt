@@ -1,0 +1,29 @@
+//! Laws of plain steps.
+
+ghost use Rattle.step_types.specs.Machines.{TermsKeepTypes};
+ghost use Rattle.step_types.specs.Steps.{ExamplesNeverStuck, NeverStuck, ProgramsNeverStuck, RunsKeepTypes, ShownStepsKeepTypes, StartsTyped, StepsKeepTypes};
+
+/// Each plain step of a code with a table, of whatever thread and instruction, leads from a typed state to a typed one (`step`); nothing but the
+/// plain state counts in that (`shown`). The start of such a code is typed (`start`), and so is each state to which its plain run comes, under
+/// whatever order (`run`). Steps of running terms keep types likewise, where each term of which something is known goes by a row of the typing of
+/// acts, or is at its end (`terms`): what typing knows of a term isn't said here.
+pub fn steps_keep_types()
+    ensures step { StepsKeepTypes }
+    ensures shown { ShownStepsKeepTypes }
+    ensures start { StartsTyped }
+    ensures run { RunsKeepTypes }
+    ensures terms { TermsKeepTypes }
+{}
+
+/// Of a typed state of such a code each thread has ended, waits, or steps under every new name of the kind that it takes (`code`). So it is with the
+/// terms of a typed program of whatever forms, wherever its plain run comes to under whatever order (`program`), where its places have at most eight
+/// stars and there is a code of it in which the threads' codes stand one behind another.
+pub fn never_stuck()
+    ensures code { NeverStuck }
+    ensures program { ProgramsNeverStuck }
+{}
+
+/// Programs with locks and with pairs of threads of which no thread is stuck: the law before this one applies to them.
+pub fn examples_never_stuck()
+    ensures { ExamplesNeverStuck }
+{}
