@@ -7,8 +7,8 @@ use Rattle.fr_typing.specs.declared.reason.Reason.TheVariants.{NameInScope, NotO
 use Rattle.fr_typing.specs.Kinds.{Kind, own, unit, Piece, whole, copies}
 use Rattle.fr_typing.specs.Places.{AreBelow as NamesBelow, Env, found, type_at, slot_of, kind_places}
 use Rattle.fr_typing.specs.Checks.{place_of}
-use Rattle.fr_typing.specs.Finding.{Has, Outcome, typed, fault, unless, given}
-use Rattle.fr_typing.specs.Captures.{Capturer, spot_of, captured_kind, captured_slot, add_captured, pass_rule, capture_rule, capture, capture_all}
+use Rattle.fr_typing.specs.Finding.{Has, Outcome, typed, fault, unless, given, env_after, is_moved}
+use Rattle.fr_typing.specs.Captures.{Capturer, spot_of, captured_kind, captured_slot, add_captured, pass_rule, capture_rule, capture, capture_all, env_left, env_new}
 use Rattle.fr_typing.specs.Rules.{let_rule}
 use Rattle.fr_typing.proofs.FindingLemmas.{find_by, misses_by}
 use Rattle.fr_syntax.specs.Arena.{Arena}
@@ -21,7 +21,7 @@ use Rattle.borrow_check.specs.declared.check_error.CheckError.TheVariants.{Fault
 use Rattle.borrow_check.specs.declared.usage.Usage.{Usage}
 use Rattle.borrow_check.specs.Rules.{IsInScope, Finds, Gives, Passes}
 use Rattle.borrow_check.specs.Capturing.{capture_at, AreNames, IsFull, IsSent, when_free, GoesOn}
-use Rattle.borrow_check.specs.Usages.{env_after, usage_of, is_moved, capture_usage, env_left, env_new, capture_usages, write, AreWritten}
+use Rattle.borrow_check.specs.Usages.{usage_of, capture_usage, capture_usages, write, AreWritten}
 use Rattle.borrow_check.proofs.UsageLemmas.{written_none, written_both, length-write}
 
 -- ONE NAME

@@ -7,8 +7,8 @@ use Rattle.fr_terms.specs.Terms as terms
 use Rattle.fr_terms.specs.Terms.{Text, Captured, block_t, let_t, assign_t, box_t, print_t, arith_t, join_t, mutex_t, spawn_t}
 use Rattle.fr_typing.specs.Kinds.{Kind, own, unit}
 use Rattle.fr_typing.specs.Places.{Env}
-use Rattle.fr_typing.specs.Finding.{Outcome, typed}
-use Rattle.fr_typing.specs.Captures.{Capturer, by_spawn, capture_all}
+use Rattle.fr_typing.specs.Finding.{Outcome, typed, env_after}
+use Rattle.fr_typing.specs.Captures.{Capturer, by_spawn, capture_all, env_of_all}
 use Rattle.fr_typing.specs.Typing.{typing}
 use Rattle.fr_syntax.specs.declared.tree.Term.TheVariants.{Block, Let, Assign, Box, Print, Arith, Join, Mutex, Spawn}
 use Rattle.fr_syntax.specs.declared.tree.Node.{Node}
@@ -23,7 +23,7 @@ use Rattle.borrow_check.specs.declared.check_error.CheckError.{CheckError}
 use Rattle.borrow_check.specs.Rules.{Gives}
 use Rattle.borrow_check.specs.Capturing.{AreNames}
 use Rattle.borrow_check.specs.Nodes.{IsReady, AreReady}
-use Rattle.borrow_check.specs.Usages.{env_after, env_of_all, usage_of, capture_usages, usages_of, usages_in, write, AreWritten}
+use Rattle.borrow_check.specs.Usages.{usage_of, capture_usages, usages_of, usages_in, write, AreWritten}
 use Rattle.borrow_check.proofs.UsageLemmas.{written_both, written_node, different_front, different_back}
 use Rattle.borrow_check.proofs.TermLemmas.{left_part, right_part, arith_written, IsHere, term_here, one_part, value_part, items_part, one_written, block_written, assign_written}
 

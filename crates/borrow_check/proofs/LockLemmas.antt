@@ -9,7 +9,7 @@ use Rattle.fr_typing.specs.declared.reason.Reason.TheVariants.{NameInScope, Wron
 use Rattle.fr_typing.specs.Kinds.{Owned, Kind, own, unit, shared, whole}
 use Rattle.fr_typing.specs.Places.{Env, slot_of, type_at}
 use Rattle.fr_typing.specs.Checks.{is_owned, is_whole, keep, mutex_of, with_lock, has_content}
-use Rattle.fr_typing.specs.Finding.{Outcome, typed, fault, unless, given, then_typed, find_shown}
+use Rattle.fr_typing.specs.Finding.{Outcome, typed, fault, unless, given, then_typed, find_shown, env_after}
 use Rattle.fr_typing.specs.Rules.{lock_rule, unlock_rule}
 use Rattle.fr_typing.specs.Typing.{typing}
 use Rattle.fr_syntax.specs.declared.tree.Term.TheVariants.{Lock}
@@ -26,7 +26,7 @@ use Rattle.borrow_check.specs.declared.check_error.CheckError.TheVariants.{Fault
 use Rattle.borrow_check.specs.declared.usage.Usage.{Usage}
 use Rattle.borrow_check.specs.Rules.{IsInScope, FindsShown, GoesTo, Gives, IsContent}
 use Rattle.borrow_check.specs.Nodes.{IsReady}
-use Rattle.borrow_check.specs.Usages.{env_after, env_locked, usage_of, usages_of, write, AreWritten}
+use Rattle.borrow_check.specs.Usages.{env_locked, usage_of, usages_of, write, AreWritten}
 use Rattle.borrow_check.proofs.UsageLemmas.{written_both, written_node}
 use Rattle.borrow_check.proofs.ScopeLemmas.{scope_same, keep-env_of}
 use Rattle.borrow_check.proofs.RuleLemmas.{is_some_slot}

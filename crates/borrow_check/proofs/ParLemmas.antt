@@ -9,9 +9,9 @@ use Rattle.fr_terms.specs.Terms as terms
 use Rattle.fr_terms.specs.Terms.{Text, Captured, par_t, start_of}
 use Rattle.fr_typing.specs.Kinds.{Kind, own, unit}
 use Rattle.fr_typing.specs.Places.{Env}
-use Rattle.fr_typing.specs.Finding.{Outcome, typed, then_typed}
+use Rattle.fr_typing.specs.Finding.{Outcome, typed, then_typed, env_after}
 use Rattle.fr_typing.specs.Rules.{par_rule}
-use Rattle.fr_typing.specs.Captures.{Capturer, by_par, capture_all, capture_both}
+use Rattle.fr_typing.specs.Captures.{Capturer, by_par, capture_all, capture_both, env_left_by_all, env_of_all}
 use Rattle.fr_typing.specs.Typing.{typing}
 use Rattle.fr_base.specs.Rooms.{WithRoom}
 use Rattle.fr_syntax.specs.declared.tree.Term.TheVariants.{Par}
@@ -27,7 +27,7 @@ use Rattle.borrow_check.specs.declared.usage.Usage.{Usage}
 use Rattle.borrow_check.specs.Rules.{Gives, GivesType}
 use Rattle.borrow_check.specs.Nodes.{IsReady}
 use Rattle.borrow_check.specs.Capturing.{AreNames, GoesOn, GoesOnBoth}
-use Rattle.borrow_check.specs.Usages.{env_after, env_left_by_all, env_of_all, capture_usages, usages_of, written, AreWritten, AreBothWritten}
+use Rattle.borrow_check.specs.Usages.{capture_usages, usages_of, written, AreWritten, AreBothWritten}
 use Rattle.borrow_check.proofs.UsageLemmas.{written_both, written_node, written_long, length-written, written-set, different_front, different_back, IsOut}
 use Rattle.borrow_check.proofs.TermLemmas.{IsHere, term_here}
 use Rattle.borrow_check.proofs.CheckLemmas.{nodes_append, needs_append, names_there, into_none}

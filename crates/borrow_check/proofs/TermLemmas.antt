@@ -6,7 +6,7 @@ use Rattle.fr_terms.specs.Terms.{item, start_of}
 use Rattle.fr_terms.specs.Terms as terms
 use Rattle.fr_typing.specs.Kinds.{Kind, own, unit}
 use Rattle.fr_typing.specs.Places.{Env, AreBelow as NamesBelow, kind_places}
-use Rattle.fr_typing.specs.Finding.{Outcome, typed, then_typed}
+use Rattle.fr_typing.specs.Finding.{Outcome, typed, then_typed, env_after}
 use Rattle.fr_typing.specs.Typing.{typing, typing_items}
 use Rattle.fr_syntax.specs.declared.tree.Node.{Node}
 use Rattle.fr_syntax.specs.Arena.{Arena}
@@ -19,7 +19,7 @@ use Rattle.fr_types.specs.Types.{kind_of}
 use Rattle.fr_types.specs.States.{Held, env_of}
 use Rattle.borrow_check.specs.Rules.{IsInScope, Gives, Follows, GivesItems}
 use Rattle.borrow_check.specs.Nodes.{IsReady, AreReady}
-use Rattle.borrow_check.specs.Usages.{env_after, usages_of, usages_in, write, AreWritten}
+use Rattle.borrow_check.specs.Usages.{usages_of, usages_in, write, AreWritten}
 use Rattle.borrow_check.proofs.UsageLemmas.{written_none, written_both, written_node, written_first, written_long, different_front, different_back}
 
 -- what a node's answer says of it

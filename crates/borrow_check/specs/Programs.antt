@@ -1,7 +1,7 @@
 -- Checked programs (this project's rule).
 use Rattle.std.specs.Prelude.{◌≡◌, ℕ, Bool, false, ⊤, List, [], length, slice_index_or, Option, Some, None}
 use Rattle.fr_base.specs.declared.place.Lval.{Lval}
-use Rattle.fr_terms.specs.Terms.{block_t, read_t}
+use Rattle.fr_terms.specs.Terms.{read_t, IsBlock}
 use Rattle.fr_terms.specs.Terms as terms
 use Rattle.fr_terms.specs.Limits.{IsWithinLimits}
 use Rattle.fr_typing.specs.Typing.{Faults}
@@ -14,10 +14,6 @@ use Rattle.borrow_check.specs.declared.check_error.CheckError.TheVariants.{Fault
 use Rattle.borrow_check.specs.declared.usage.Usage.{Usage}
 use Rattle.borrow_check.specs.Rules.{AreDifferentTexts}
 use Rattle.borrow_check.specs.Usages.{usages_of, AreUsed}
-
-abbrev pub IsBlock : terms.Term → Type 0
-IsBlock (block_t at items) = ⊤
-IsBlock t = ⊥
 
 -- each term has a node of its own; the tree's term is a block within the limits; its names are different
 pub record IsCheckable (a : Arena) : Type 0 where

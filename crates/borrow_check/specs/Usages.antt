@@ -1,20 +1,15 @@
 -- How the nodes of a typed term use their places (this project's rule).
 use Rattle.std.specs.Prelude.{◌≡◌, ℕ, Bool, false, not, ⊤, List, [], ◌∷◌, ◌++◌, length, slice_set, slice_get, Option, Some, None, unwrap_or}
 use Rattle.fr_terms.specs.Terms.{Text, Spot, Captured, Term, number_t, unit_t, block_t, let_t, assign_t, read_t, borrow_t, borrow_mut_t, box_t, print_t, arith_t, join_t, mutex_t, dup_t, lock_t, spawn_t, par_t, Items, none, item}
-use Rattle.fr_typing.specs.Kinds.{own, unit, whole, copies}
-use Rattle.fr_typing.specs.Places.{Env, Found, found, type_at, slot_of}
+use Rattle.fr_typing.specs.Kinds.{own, unit, copies}
+use Rattle.fr_typing.specs.Places.{Env, type_at, slot_of}
 use Rattle.fr_typing.specs.Checks.{place_of}
-use Rattle.fr_typing.specs.Finding.{Outcome, typed, fault, find_shown}
+use Rattle.fr_typing.specs.Finding.{Outcome, typed, fault, env_after, is_moved, find_shown}
 use Rattle.fr_typing.specs.Rules.{lock_rule}
-use Rattle.fr_typing.specs.Captures.{Capturer, by_spawn, by_par, spot_of, capture, capture_all}
+use Rattle.fr_typing.specs.Captures.{Capturer, by_spawn, by_par, spot_of, env_left, env_new, env_left_by_all, env_of_all}
 use Rattle.fr_typing.specs.Typing.{typing}
 use Rattle.fr_syntax.specs.Meanings.{AllBelow}
 use Rattle.borrow_check.specs.declared.usage.Usage.{Usage}
-
--- the environment after a typed term; after another nobody asks
-abbrev pub env_after : Outcome → Env
-env_after (typed k e) = e
-env_after (fault at r) = []
 
 -- a typed read that moves
 abbrev pub is_taken : Outcome → Bool
@@ -30,28 +25,9 @@ read_usage w e = usage_of e w (is_taken (typing (read_t 0 w) e))
 
 -- CAPTURES
 
--- a whole variable of a type that moves
-abbrev pub is_moved : Found → Bool
-is_moved (found (whole k)) = not (copies k)
-is_moved f = false
-
 -- a captured name's slot, and whether its value goes to the new thread
 abbrev pub capture_usage : Env → Captured → Usage
 capture_usage e c = usage_of e (spot_of c) (is_moved (type_at e (place_of (spot_of c) (unwrap_or (slot_of e c.name) 0))))
-
--- what a captured name leaves of the environment, and the new environment with it
-abbrev pub env_left : Capturer → Env → Env → Captured → Env
-env_left by e n c = env_after (capture by e n c (λ e1 n1. typed (own unit) e1))
-
-abbrev pub env_new : Capturer → Env → Env → Captured → Env
-env_new by e n c = env_after (capture by e n c (λ e1 n1. typed (own unit) n1))
-
--- what all captured names leave, and the new environment of all of them
-abbrev pub env_left_by_all : Capturer → Env → List Captured → Env
-env_left_by_all by e cs = env_after (capture_all by cs e [] (λ e1 n1. typed (own unit) e1))
-
-abbrev pub env_of_all : Capturer → Env → List Captured → Env
-env_of_all by e cs = env_after (capture_all by cs e [] (λ e1 n1. typed (own unit) n1))
 
 -- for each captured name its usage, from the environments before it
 abbrev pub capture_usages : Capturer → Env → Env → List Captured → List (Option Usage)

@@ -6,14 +6,14 @@ ghost use Rattle.fr_typing.specs.Places.{AreBelow, kind_places, found, type_at, 
 ghost use Rattle.fr_typing.specs.Finding.{Outcome};
 ghost use Rattle.fr_typing.specs.Kinds.{map_some, view, whole};
 ghost use Rattle.fr_typing.specs.Checks.{is_owned};
-ghost use Rattle.fr_typing.specs.Captures.{by_par, captured_kind, capture, capture_all, capture_both};
+ghost use Rattle.fr_typing.specs.Captures.{by_par, captured_kind, capture, capture_all, capture_both, env_left_by_all, env_of_all};
 ghost use Rattle.fr_syntax.specs.Meanings.{meanings, meaning_at, captures_at, sort_of, capture_s, all_need, nodes_in};
 ghost use Rattle.fr_types.specs.Types.{kind_of, piece_of};
 ghost use Rattle.fr_types.specs.States.{slot_in, env_of, AreNested};
 ghost use Rattle.borrow_check.specs.Rules.{IsInScope, Passes};
 ghost use Rattle.borrow_check.specs.Capturing.{captured_of, capture_at, capturer_of, AreNames, IsFull, IsSent, when_free, GoesOn, GoesOnBoth};
 ghost use Rattle.borrow_check.specs.Heaps.{owned_in};
-ghost use Rattle.borrow_check.specs.Usages.{env_left_by_all, env_of_all, capture_usage, capture_usages, AreWritten, AreBothWritten};
+ghost use Rattle.borrow_check.specs.Usages.{capture_usage, capture_usages, AreWritten, AreBothWritten};
 
 use crate::check_error::CheckError;
 use crate::checker::Checker;

@@ -4,7 +4,7 @@ ghost use Rattle.std.specs.Prelude.{◌≡◌, ◌<◌, ◌≤◌, ◌+◌, ◌+
 ghost use Rattle.fr_base.specs.declared.place.Op.{Op};
 ghost use Rattle.fr_terms.specs.Terms.{arith_t, spawn_t, start_of};
 ghost use Rattle.fr_typing.specs.Places.{AreBelow, kind_places};
-ghost use Rattle.fr_typing.specs.Captures.{by_spawn};
+ghost use Rattle.fr_typing.specs.Captures.{by_spawn, env_of_all};
 ghost use Rattle.fr_typing.specs.Typing.{typing};
 ghost use Rattle.fr_syntax.specs.Meanings.{meanings, meaning_at, term_at, items_at, captures_at, sort_of, term_s, capture_s, all_need, nodes_in};
 ghost use Rattle.fr_types.specs.Types.{kind_of};
@@ -12,7 +12,8 @@ ghost use Rattle.fr_types.specs.States.{env_of};
 ghost use Rattle.borrow_check.specs.Rules.{IsInScope, Gives, GivesType, GivesItems};
 ghost use Rattle.borrow_check.specs.Nodes.{IsReady, AreReady};
 ghost use Rattle.borrow_check.specs.Capturing.{AreNames};
-ghost use Rattle.borrow_check.specs.Usages.{env_after, env_of_all, capture_usages, usages_of, usages_in, AreWritten};
+ghost use Rattle.borrow_check.specs.Usages.{capture_usages, usages_of, usages_in, AreWritten};
+ghost use Rattle.fr_typing.specs.Finding.{env_after};
 
 use crate::captures::{capture_all, capture_both};
 use crate::check_error::CheckError;

@@ -1,30 +1,24 @@
 -- What is read from tokens can be checked.
 use Rattle.std.proofs.Common.{◌≡◌, ℕ, List, [], sym, subst}
-use Rattle.fr_terms.specs.Terms.{Text, Term, block_t}
+use Rattle.fr_terms.specs.Terms.{Text}
 use Rattle.fr_typing.specs.Laws as laws
 use Rattle.fr_syntax.specs.declared.token.Token.{Token}
 use Rattle.fr_syntax.specs.Arena.{Arena}
 use Rattle.fr_syntax.specs.Meanings.{term_of, IsTree}
-use Rattle.fr_parse.specs.Grammar as grammar
 use Rattle.fr_syntax.specs.Tokens.{AreTokens}
 use Rattle.fr_parse.specs.Source.{Spelled, IsSource}
 use Rattle.fr_syntax.proofs.NameTexts.{names_apart}
 use Rattle.borrow_check.specs.Rules.{AreDifferentTexts}
-use Rattle.borrow_check.specs.Programs.{IsBlock, IsCheckable}
+use Rattle.borrow_check.specs.Programs.{IsCheckable}
 use Rattle.drust_main.specs.declared.words.Command.{Command}
 use Rattle.drust_main.specs.Headline.{IsAccepted, IsTyped}
-
--- a program is a block
-is_block : (t : Term) → grammar.IsBlock t → IsBlock t
-is_block (block_t at items) h = tt
-is_block t h = absurd h
 
 pub checkable : (bytes : List ℕ) (ts : List Token) (names : List Text) (tree : Arena) → AreTokens bytes ts names → Spelled names ts (term_of tree) → tree.names ≡ names → IsTree tree → IsCheckable tree
 checkable bytes ts names tree tokens spelled same whole =
     record {
       tree = whole;
       within = spelled.limits;
-      block = is_block (term_of tree) spelled.grammar.0;
+      block = spelled.grammar.0;
       names = subst AreDifferentTexts (sym same) (names_apart bytes ts names tokens);
     }
 

@@ -13,8 +13,10 @@ use Rattle.fr_parse.specs.Grammar.{mark_of_op, Has, SpellsPath, SpellsOthers, Sp
 use Rattle.fr_parse.specs.Source.{IsSource}
 use Rattle.fr_parse.proofs.Complete.{takes_some}
 use Rattle.fr_plain.specs.Run.{Run, temp, unit_c, number, read, borrow, box_r, arith as arith_r, bind, print, assign, block, spawn, join_r, mutex_r, dup, lock, locked, par, par_end, Parts, last, more, Now, going, constant, temporary, now, settle_more, settle_right, close_last, close, settle, settle_parts, alive, one_if_temporary, leaves, leaves_last, steps_left, steps_in, life_left}
-use Rattle.fr_typing.specs.Captures.{by_spawn}
-use Rattle.fr_plain.specs.Resolve.{env_after, env_of_all, lets_in, lets, before, resolve, resolve_items, program}
+use Rattle.fr_typing.specs.Finding.{env_after}
+use Rattle.fr_typing.specs.Typing.{typing}
+use Rattle.fr_typing.specs.Captures.{by_spawn, env_of_all}
+use Rattle.fr_plain.specs.Resolve.{lets_in, lets, before, resolve, resolve_items, program}
 
 -- TOKENS PAY FOR STEPS
 
@@ -73,7 +75,7 @@ mutual
         has_one OpenParen ts x begins.0,
         term_pays names false left x y e h ok.0,
         has_one (mark_of_op op) y z mark,
-        term_pays names false right z w (env_after left e) g ok.1,
+        term_pays names false right z w (env_after (typing left e)) g ok.1,
         has_one CloseParen w rest close,
       )
   term_pays names b (number_t at value) ts rest e h ok = omega (arith, takes_some names b (number_t at value) ts rest h)
@@ -84,14 +86,14 @@ mutual
   items_pay : (names : List Text) (items : Items) (ts rest : List Token) (e : Env) → SpellsItems names items ts rest → AreThreaded items → steps_in (resolve_items items e) + lets items + length rest ≤ length ts
   items_pay names none ts rest e h ok = omega (arith, has_one CloseBrace ts rest h)
   items_pay names (item first items) ts rest e (x, h, next) ok =
-      omega (arith, term_pays names true first ts x e h ok.0, more_pay names items (resolve first e) x rest (env_after first e) next ok.1)
+      omega (arith, term_pays names true first ts x e h ok.0, more_pay names items (resolve first e) x rest (env_after (typing first e)) next ok.1)
 
   -- and so do those behind an item, where a semicolon pays for the value that the item leaves
   more_pay : (names : List Text) (items : Items) (r : Run) (ts rest : List Token) (e : Env) → SpellsMore names items ts rest → AreThreaded items →
       steps_in (before items r (resolve_items items e)) + lets items + length rest ≤ steps_left r + length ts
   more_pay names none r ts rest e h ok = omega (arith, has_one CloseBrace ts rest h)
   more_pay names (item first items) r ts rest e (x, mark, inl (y, h, next)) ok =
-      omega (arith, one_at_most (leaves r), has_one Semicolon ts x mark, term_pays names true first x y e h ok.0, more_pay names items (resolve first e) y rest (env_after first e) next ok.1)
+      omega (arith, one_at_most (leaves r), has_one Semicolon ts x mark, term_pays names true first x y e h ok.0, more_pay names items (resolve first e) y rest (env_after (typing first e)) next ok.1)
   more_pay names (item first items) r ts rest e (x, mark, inr (place, unit, over, close)) ok =
       omega (arith, one_at_most (leaves r), has_one Semicolon ts x mark, has_one CloseBrace x rest close.0, unit_is_free first items place e unit over)
 

@@ -6,7 +6,7 @@ use Rattle.fr_base.specs.declared.step.Wait.{Wait}
 use Rattle.fr_base.specs.declared.step.Ending3.{Ending3}
 use Rattle.fr_base.specs.declared.step.Ending3.TheVariants as ending
 use Rattle.fr_typing.specs.Kinds.{Kind}
-use Rattle.fr_terms.specs.Terms.{Term, block_t}
+use Rattle.fr_terms.specs.Terms.{Term, block_t, IsBlock}
 use Rattle.fr_plain.specs.declared.value.Value.{Value}
 use Rattle.fr_plain.specs.declared.value.Value.TheVariants.{Own, Held}
 use Rattle.fr_base.specs.declared.label.Plain.{Plain}
@@ -28,7 +28,6 @@ use Rattle.fr_typing.proofs.PlaceLemmas.{eq_cases}
 use Rattle.fr_typing.specs.Sequential.{IsSequential}
 use Rattle.fr_typing.specs.Places.{Env}
 use Rattle.fr_typing.specs.Typing.{Types}
-use Rattle.fr_parse.specs.Grammar as grammar
 use Rattle.fr_meaning.specs.PoolView.{error_of, refusal}
 use Rattle.drust_main.specs.declared.words.Command.TheVariants.{Run as RunAlone}
 use Rattle.drust_main.specs.Headline.{IsTyped as IsTypedSource}
@@ -265,7 +264,7 @@ step_main s x h is = by (goes s h)
 
 -- THE START
 
-block_starts : (t : Term) → grammar.IsBlock t → IsSequential t → (k : Kind) (e : Env) → Types [] t k e → IsMain (start (program t))
+block_starts : (t : Term) → IsBlock t → IsSequential t → (k : Kind) (e : Env) → Types [] t k e → IsMain (start (program t))
 block_starts (block_t at items) b s k e h = let y = starts_typed_lem at items k e s h in record { typed = y; main = ap first_number (sym y.only) }
 block_starts t b s k e h = absurd b
 

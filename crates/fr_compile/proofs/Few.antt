@@ -2,17 +2,17 @@
 use Rattle.std.proofs.Common.{◌≡◌, ℕ, suc, ◌+◌, ◌*◌, ◌<◌, ◌≤◌, ◌^◌, Bool, true, false, List, [], ◌∷◌, ◌++◌, length, Option, None, refl, ap, arith, length-append}
 use Rattle.fr_terms.specs.Terms.{Captured, Term, block_t, let_t, assign_t, read_t, borrow_t, borrow_mut_t, number_t, unit_t, box_t, print_t, arith_t, join_t, mutex_t, dup_t, lock_t, spawn_t, par_t, Items, none, item}
 use Rattle.fr_typing.specs.Places.{Env}
-use Rattle.fr_typing.specs.Captures.{by_spawn}
+use Rattle.fr_typing.specs.Captures.{by_spawn, env_left, env_new, env_of_all}
 use Rattle.fr_typing.specs.Typing.{typing}
 use Rattle.fr_typing.specs.Threaded.{IsThreaded, AreThreaded}
 use Rattle.fr_syntax.specs.Meanings.{meaning_at, meanings, root_of, term_of}
 use Rattle.fr_syntax.proofs.TreeLemmas.{length_meanings}
 use Rattle.borrow_check.specs.declared.usage.Usage.{Usage}
 use Rattle.borrow_check.specs.Programs.{Program, IsChecked}
-use Rattle.borrow_check.specs.Usages.{env_after, env_left, env_new, env_of_all, capture_usages, usages_of, usages_in, AreUsed}
+use Rattle.borrow_check.specs.Usages.{capture_usages, usages_of, usages_in, AreUsed}
+use Rattle.fr_typing.specs.Finding.{env_after}
 use Rattle.borrow_check.proofs.NodeLemmas.{nodes_few}
 use Rattle.fr_plain.specs.Run.{Run, Parts, one_if_temporary, leaves, steps_left, steps_in}
-use Rattle.fr_plain.specs.Resolve as run
 use Rattle.fr_plain.specs.Resolve.{lets_in, lets, before, resolve, resolve_items, program}
 
 -- a value before a `;` is dropped in one step
@@ -43,12 +43,12 @@ mutual
   steps_few (assign_t at w t) e d h = omega (arith, steps_few t e d h, length-append (usages_of t d) (None ∷ []))
   steps_few (arith_t at op a b) e d h =
       let d1 = env_after (typing a d) in
-      omega (arith, steps_few a e d h.0, steps_few b (run.env_after a e) d1 h.1, length-append (usages_of a d ++ usages_of b d1) (None ∷ []), length-append (usages_of a d) (usages_of b d1))
+      omega (arith, steps_few a e d h.0, steps_few b (env_after (typing a e)) d1 h.1, length-append (usages_of a d ++ usages_of b d1) (None ∷ []), length-append (usages_of a d) (usages_of b d1))
   steps_few (block_t at ts) e d h = omega (arith, items_few ts e d h, length-append (usages_in ts d) (None ∷ []))
   steps_few (spawn_t at cs t) e d h =
       let us = capture_usages by_spawn d [] cs in
       let vs = usages_of t (env_of_all by_spawn d cs) in
-      omega (arith, steps_few t (run.env_of_all by_spawn e cs) (env_of_all by_spawn d cs) h, captures_long d [] cs, length-append (us ++ vs) (None ∷ []), length-append us vs)
+      omega (arith, steps_few t (env_of_all by_spawn e cs) (env_of_all by_spawn d cs) h, captures_long d [] cs, length-append (us ++ vs) (None ∷ []), length-append us vs)
   steps_few (mutex_t at t) e d h = absurd h
   steps_few (dup_t at w) e d h = absurd h
   steps_few (lock_t at w x t) e d h = absurd h
@@ -59,7 +59,7 @@ mutual
   items_few none e d h = omega arith
   items_few (item t ts) e d h =
       let d1 = env_after (typing t d) in
-      let e1 = run.env_after t e in
+      let e1 = env_after (typing t e) in
       omega (arith, steps_few t e d h.0, items_few ts e1 d1 h.1, before_few ts (resolve t e) (resolve_items ts e1), length-append (usages_of t d) (usages_in ts d1))
 
 -- as many nodes as usages

@@ -2,7 +2,8 @@
 
 ghost use Rattle.std.specs.Prelude.{◌≡◌, ◌<◌, ◌≤◌, ◌++◌, [], ◌∷◌, length, IfOk, OnOk};
 ghost use Rattle.fr_base.specs.declared.instruction.Operand.TheVariants as operand;
-ghost use Rattle.fr_meaning.specs.FormTerms.{term_of, parts_of, captures_in, captures_of, AreInOrder, AllBelow};
+ghost use Rattle.fr_meaning.specs.FormTerms.{term_of, parts_of, captures_in, captures_of, AreInOrder};
+ghost use Rattle.fr_syntax.specs.Meanings.{AllBelow};
 ghost use Rattle.fr_code.specs.StandsFor.{borrowing};
 ghost use Rattle.fr_code.specs.Steps.{captured};
 ghost use Rattle.fr_compile.specs.Emitting.{drop_slots, ArePartsEmitted, IsDiscarded, IsEmitted};

@@ -1,12 +1,14 @@
 -- Forms that are made one after another, and the one of the tree's term.
 use Rattle.std.proofs.Common.{◌≡◌, ℕ, zero, suc, ◌+◌, ◌-◌, ◌<◌, ◌≤◌, true, false, List, [], ◌∷◌, ◌++◌, length, refl, sym, ap, ◌∙◌, subst, arith, length-append}
 use Rattle.std.specs.Prelude.{max, if◌then◌else◌}
-use Rattle.fr_terms.specs.Terms.{block_t, let_t, assign_t, read_t, borrow_t, borrow_mut_t, number_t, unit_t, box_t, print_t, arith_t, join_t, mutex_t, dup_t, lock_t, spawn_t, par_t, Items, none, item}
+use Rattle.fr_terms.specs.Terms.{block_t, let_t, assign_t, read_t, borrow_t, borrow_mut_t, number_t, unit_t, box_t, print_t, arith_t, join_t, mutex_t, dup_t, lock_t, spawn_t, par_t, Items, none, item, IsBlock}
 use Rattle.fr_terms.specs.Terms as terms
 use Rattle.fr_terms.specs.Limits.{levels, levels_of, IsWithinLimits}
 use Rattle.fr_typing.specs.Sequential.{IsSequential}
 use Rattle.fr_typing.specs.Threaded.{IsThreaded, AreThreaded}
-use Rattle.fr_typing.specs.Captures.{by_spawn}
+use Rattle.fr_typing.specs.Finding.{env_after}
+use Rattle.fr_typing.specs.Typing.{typing}
+use Rattle.fr_typing.specs.Captures.{by_spawn, env_of_all}
 use Rattle.fr_typing.specs.Places.{Env}
 use Rattle.fr_typing.proofs.Agree.{exactly_one_lem}
 use Rattle.fr_syntax.specs.declared.tree.Term.{Term}
@@ -23,7 +25,7 @@ use Rattle.fr_sound.specs.NeverStuck.{IsTyped as IsTypedState}
 use Rattle.fr_sound.proofs.Whole.{starts_typed_lem}
 use Rattle.fr_sound.specs.Together.{AreTyped}
 use Rattle.fr_sound.proofs.Starting.{starts_together_lem}
-use Rattle.fr_plain.specs.Resolve.{lets_in, before, resolve, resolve_items, program, env_after, env_of_all}
+use Rattle.fr_plain.specs.Resolve.{lets_in, before, resolve, resolve_items, program}
 use Rattle.fr_meaning.specs.declared.forms.Captured.{Captured}
 use Rattle.fr_meaning.specs.declared.forms.Form.{Form}
 use Rattle.fr_meaning.specs.declared.forms.Form.TheVariants as form
@@ -31,7 +33,7 @@ use Rattle.fr_meaning.specs.Contexts.{depth, depth_in}
 use Rattle.fr_meaning.specs.FormTerms as forms
 use Rattle.fr_meaning.specs.FormTerms.{build, run_at, NamesBelow, AreStacked, AreInOrder}
 use Rattle.fr_acts.specs.SlotOrder.{onto, newest_first}
-use Rattle.borrow_check.specs.Programs.{Program, takes_of, IsBlock, IsChecked}
+use Rattle.borrow_check.specs.Programs.{Program, takes_of, IsChecked}
 use Rattle.fr_meaning.specs.Forming.{place_in, captured_all, drops_of, clipped, count_at, count_of, IsBlockOf, IsSpawnOf, IsMade}
 use Rattle.fr_meaning.specs.Resolved.{IsTypedIn, IsRun, AreCounts, IsBuilt}
 use Rattle.fr_typing.proofs.PlaceLemmas.{eq_cases}
@@ -260,7 +262,7 @@ mutual
   depth_few (borrow_mut_t at w) e h = omega arith
   depth_few (number_t at n) e h = omega arith
   depth_few (unit_t at) e h = omega arith
-  depth_few (arith_t at op l r) e h = omega (arith, depth_few l e h.0, depth_few r (env_after l e) h.1)
+  depth_few (arith_t at op l r) e h = omega (arith, depth_few l e h.0, depth_few r (env_after (typing l e)) h.1)
   depth_few (join_t at t) e h = omega (arith, depth_few t e h)
   depth_few (spawn_t at cs t) e h = omega (arith, depth_few t (env_of_all by_spawn e cs) h)
   depth_few (mutex_t at t) e h = absurd h
@@ -270,7 +272,7 @@ mutual
 
   items_few : (ts : Items) (e : Env) → AreThreaded ts → depth_in (resolve_items ts e) ≤ levels_of ts
   items_few none e h = omega arith
-  items_few (item t ts) e h = before_few ts (resolve t e) (resolve_items ts (env_after t e)) (levels t) (levels_of ts) (depth_few t e h.0) (items_few ts (env_after t e) h.1)
+  items_few (item t ts) e h = before_few ts (resolve t e) (resolve_items ts (env_after (typing t e))) (levels t) (levels_of ts) (depth_few t e h.0) (items_few ts (env_after (typing t e)) h.1)
 
 -- a program within the limits fits in 64 frames
 pub program_depth : (t : terms.Term) → IsWithinLimits t → IsThreaded t → depth (program t) ≤ 64

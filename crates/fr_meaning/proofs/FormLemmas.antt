@@ -6,7 +6,8 @@ use Rattle.fr_plain.specs.Run.{Capture, Run, box_r, arith as arith_r, bind, prin
 use Rattle.fr_meaning.specs.declared.forms.Form.{Form}
 use Rattle.fr_meaning.specs.declared.forms.Form.TheVariants as form
 use Rattle.fr_acts.specs.SlotOrder.{onto, newest_first}
-use Rattle.fr_meaning.specs.FormTerms.{IsSpawn, captures_of, parts_from, parts_of, build, run_at, term_of, AllBelow, NamesBelow, AreStacked, AreInOrder, items_in, items_at}
+use Rattle.fr_meaning.specs.FormTerms.{IsSpawn, captures_of, parts_from, parts_of, build, run_at, term_of, NamesBelow, AreStacked, AreInOrder, items_in, items_at}
+use Rattle.fr_syntax.specs.Meanings.{AllBelow}
 
 -- a choice by whether two numbers are equal
 pub eq_cases : (P : Bool → Type 0) (a b : ℕ) → (a ≡ b → P true) → (a ≢ b → P false) → P (a == b)

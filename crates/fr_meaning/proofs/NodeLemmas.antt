@@ -6,12 +6,11 @@ use Rattle.fr_syntax.specs.declared.tree.Term.TheVariants.{Block, Let, Assign, R
 use Rattle.fr_syntax.specs.Arena.{Arena}
 use Rattle.fr_syntax.specs.Ordered.{IsArena}
 use Rattle.fr_base.specs.Rooms.{WithRoom}
-use Rattle.fr_syntax.specs.Meanings.{What, a_term, a_place, a_capture, Meaning, term_s, place_s, capture_s, as_place, as_capture, sort_of, meaning_at, stands_for, need, all_need, needs, nodes_in, meanings, AreBelow}
+use Rattle.fr_syntax.specs.Meanings.{What, a_term, a_place, a_capture, Meaning, term_s, place_s, capture_s, as_place, as_capture, sort_of, meaning_at, stands_for, need, all_need, needs, nodes_in, meanings, AreBelow, AllBelow}
 use Rattle.borrow_check.proofs.NodeLemmas.{here}
 use Rattle.borrow_check.proofs.CheckLemmas.{needs_append}
 use Rattle.borrow_check.specs.Programs.{Program}
 use Rattle.fr_meaning.specs.declared.forms.Captured.{Captured}
-use Rattle.fr_meaning.specs.FormTerms as forms
 use Rattle.fr_meaning.specs.Forming.{captured_in, captured_all}
 
 -- PLACES
@@ -96,7 +95,7 @@ taken_next [] k j h = absurd cc
 taken_next (x ∷ is) zero j h = let same : x ≡ j = cc in ap (λ n. n ∷ []) (sym same)
 taken_next (x ∷ is) (suc k) j h = let same : suc (k + 1) ≡ suc k + 1 = omega arith in ap (λ l. x ∷ l) (taken_next is k j h) ∙ ap (λ n. take n (x ∷ is)) same
 
-pub all_at : (n : ℕ) (is : List ℕ) (k j : ℕ) → forms.AllBelow n is → Some j ≡ slice_get is k → j < n
+pub all_at : (n : ℕ) (is : List ℕ) (k j : ℕ) → AllBelow n is → Some j ≡ slice_get is k → j < n
 all_at n [] k j h e = absurd cc
 all_at n (x ∷ is) zero j h e = let same : x ≡ j = cc in omega (arith, h.0, same)
 all_at n (x ∷ is) (suc k) j h e = all_at n is k j h.1 e

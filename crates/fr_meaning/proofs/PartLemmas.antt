@@ -10,9 +10,9 @@ use Rattle.fr_typing.specs.Places.{Env}
 use Rattle.fr_typing.specs.Checks.{is_int}
 use Rattle.fr_typing.specs.declared.reason.Reason.{Reason}
 use Rattle.fr_typing.specs.declared.reason.Reason.TheVariants.{WrongType}
-use Rattle.fr_typing.specs.Finding.{Outcome, typed, fault, unless, then_typed}
+use Rattle.fr_typing.specs.Finding.{Outcome, typed, fault, unless, then_typed, env_after}
 use Rattle.fr_typing.specs.Rules.{box_rule, int_rule, print_rule, arith_rule, let_rule, assign_rule, join_rule, held_rule, end_rule}
-use Rattle.fr_typing.specs.Captures.{by_spawn}
+use Rattle.fr_typing.specs.Captures.{by_spawn, env_left, env_new, env_of_all}
 use Rattle.fr_typing.specs.Typing.{typing, typing_items}
 use Rattle.fr_typing.proofs.CaptureLemmas.{capture_all_by, capture_all_cases}
 use Rattle.fr_syntax.specs.declared.tree.Term.{Term}
@@ -23,7 +23,7 @@ use Rattle.fr_syntax.specs.Ordered.{IsArena}
 use Rattle.fr_base.specs.Rooms.{WithRoom}
 use Rattle.fr_syntax.specs.Meanings.{a_term, term_s, place_s, capture_s, sort_of, as_capture, captures_at, meanings, meaning_at, term_at, place_at, items_at, stands_for, need, all_need, needs, nodes_in, AreBelow}
 use Rattle.borrow_check.specs.declared.usage.Usage.{Usage}
-use Rattle.borrow_check.specs.Usages.{env_after, usage_of, read_usage, env_left, env_new, env_of_all, capture_usages, usages_of, usages_in, AreUsed}
+use Rattle.borrow_check.specs.Usages.{usage_of, read_usage, capture_usages, usages_of, usages_in, AreUsed}
 use Rattle.borrow_check.specs.Capturing.{AreNames}
 use Rattle.borrow_check.specs.Programs.{Program}
 use Rattle.fr_meaning.specs.Resolved.{IsResolvable, AreResolvable, IsTypedIn}

@@ -10,9 +10,9 @@ use Rattle.fr_typing.specs.Places.{Env, Found, found, undefined, no_target, type
 use Rattle.fr_typing.specs.Checks.{place_of}
 use Rattle.fr_typing.specs.declared.reason.Reason.{Reason}
 use Rattle.fr_typing.specs.declared.reason.Reason.TheVariants.{ReadBlocked, WriteBlocked, MovedThrough}
-use Rattle.fr_typing.specs.Finding.{Outcome, typed, fault, unless, with_slot, with_part, with_whole}
+use Rattle.fr_typing.specs.Finding.{Outcome, typed, fault, unless, with_slot, with_part, with_whole, env_after, is_moved}
 use Rattle.fr_typing.specs.Rules.{read_rule}
-use Rattle.fr_typing.specs.Captures.{by_spawn, spot_of, capture, capture_all}
+use Rattle.fr_typing.specs.Captures.{by_spawn, spot_of, capture, capture_all, env_left, env_new, env_of_all}
 use Rattle.fr_typing.specs.Typing.{typing}
 use Rattle.fr_syntax.specs.declared.tree.Term.{Term}
 use Rattle.fr_syntax.specs.declared.tree.Term.TheVariants.{Block, Let, Assign, Read, Borrow, BorrowMut, Number, Unit, Box, Print, Join, Arith, Spawn}
@@ -22,15 +22,14 @@ use Rattle.fr_syntax.specs.Ordered.{IsArena}
 use Rattle.fr_base.specs.Rooms.{WithRoom}
 use Rattle.fr_syntax.specs.Meanings.{a_term, a_capture, Meaning, term_s, place_s, capture_s, sort_of, as_capture, captures_at, meanings, meaning_at, term_at, place_at, items_at, stands_for, all_need, needs, nodes_in, AreBelow, AllBelow}
 use Rattle.fr_plain.specs.Run.{Capture as Passed, Run, unit_c, number, read, borrow, box_r, arith as arith_r, bind, print, assign, block, spawn, join_r, last, more}
-use Rattle.fr_plain.specs.Resolve.{or_zero, named, found_moves, moves, captures, lets_in, lets, before, resolve, resolve_items}
-use Rattle.fr_plain.specs.Resolve as plain
+use Rattle.fr_plain.specs.Resolve.{or_zero, named, moves, captures, lets_in, lets, before, resolve, resolve_items}
 use Rattle.borrow_check.specs.declared.usage.Usage.{Usage}
 use Rattle.fr_meaning.specs.declared.forms.Captured as forms_captured
 use Rattle.fr_meaning.specs.declared.forms.Form.{Form}
 use Rattle.fr_meaning.specs.declared.forms.Form.TheVariants as form
 use Rattle.fr_meaning.specs.FormTerms as forms
 use Rattle.fr_meaning.specs.FormTerms.{parts_of, captures_of, build}
-use Rattle.borrow_check.specs.Usages.{env_after, is_taken, is_moved, usage_of, read_usage, capture_usage, env_left, env_new, env_of_all, capture_usages, usages_of, usages_in, AreUsed}
+use Rattle.borrow_check.specs.Usages.{is_taken, usage_of, read_usage, capture_usage, capture_usages, usages_of, usages_in, AreUsed}
 use Rattle.borrow_check.specs.Capturing.{AreNames}
 use Rattle.borrow_check.specs.Programs.{Program, usage_at, is_taking, takes_of}
 use Rattle.borrow_check.specs.Programs as programs
@@ -44,11 +43,6 @@ use Rattle.fr_meaning.proofs.NodeLemmas.{name_alone, as_place_is, as_capture_is}
 use Rattle.fr_meaning.proofs.PartLemmas.{Row, a_number, a_unit, a_read, a_borrow, a_borrow_mut, an_arith, a_box, a_let, a_print, an_assign, a_block, a_join, a_spawn, term_is, nodes_are, row, items_long, names_long, long_below, box_typed, print_typed, let_typed, join_typed, no_fault, spawn_typed, assign_typed, lent_place, arith_typed, read_taken, AreTypedIn, block_typed, parted}
 
 -- RUNNING TERMS
-
--- the two ways to tell the environment after a term agree
-same_after : (o : Outcome) → env_after o ≡ plain.env_of o
-same_after (typed k e) = refl
-same_after (fault p r) = refl
 
 same_slot : (o : Option ℕ) → unwrap_or o 0 ≡ or_zero o
 same_slot None = refl
@@ -86,7 +80,7 @@ taken_by false e w x j k e1 is h =
     takes_by (write_blocked e x.slot) j k e e1 w.at WriteBlocked (unless (not (is_own_path e x)) w.at MovedThrough (typed j (put_at e x (gone j)))) (not (copies j)) h
     (λ g. takes_by (not (is_own_path e x)) j k e e1 w.at MovedThrough (typed j (put_at e x (gone j))) (not (copies j)) g (λ f. refl))
 
-taken_part : (f : Found) (e : Env) (w : Spot) (x : Lval) (k : Kind) (e1 : Env) → with_part w.at f (λ q. with_whole w.at q (read_rule e w x)) ≡ typed k e1 → found_moves f ≡ is_taken (with_part w.at f (λ q. with_whole w.at q (read_rule e w x)))
+taken_part : (f : Found) (e : Env) (w : Spot) (x : Lval) (k : Kind) (e1 : Env) → with_part w.at f (λ q. with_whole w.at q (read_rule e w x)) ≡ typed k e1 → is_moved f ≡ is_taken (with_part w.at f (λ q. with_whole w.at q (read_rule e w x)))
 taken_part (found (whole j)) e w x k e1 h = taken_by (copies j) e w x j k e1 refl h
 taken_part (found (gone j)) e w x k e1 h = absurd (no_fault _ _ k e1 h)
 taken_part (found (boxed q)) e w x k e1 h = absurd (no_fault _ _ k e1 h)
@@ -94,21 +88,13 @@ taken_part undefined e w x k e1 h = absurd (no_fault _ _ k e1 h)
 taken_part no_target e w x k e1 h = absurd (no_fault _ _ k e1 h)
 
 taken_slot : (o : Option ℕ) (e : Env) (w : Spot) (k : Kind) (e1 : Env) → with_slot w.at o (λ s. with_part w.at (type_at e (place_of w s)) (λ q. with_whole w.at q (read_rule e w (place_of w s)))) ≡ typed k e1 →
-    found_moves (type_at e (place_of w (or_zero o))) ≡ is_taken (with_slot w.at o (λ s. with_part w.at (type_at e (place_of w s)) (λ q. with_whole w.at q (read_rule e w (place_of w s)))))
+    is_moved (type_at e (place_of w (or_zero o))) ≡ is_taken (with_slot w.at o (λ s. with_part w.at (type_at e (place_of w s)) (λ q. with_whole w.at q (read_rule e w (place_of w s)))))
 taken_slot None e w k e1 h = absurd (no_fault _ _ k e1 h)
 taken_slot (Some s) e w k e1 h = taken_part (type_at e (place_of w s)) e w (place_of w s) k e1 h
 
 -- a typed read takes where its type moves
 read_moves : (w : Spot) (e : Env) (k : Kind) (e1 : Env) → typing (read_t 0 w) e ≡ typed k e1 → moves e w ≡ is_taken (typing (read_t 0 w) e)
 read_moves w e k e1 h = taken_slot (slot_of e w.name) e w k e1 h
-
--- the two ways to tell whether a captured name is taken agree
-same_moves : (f : Found) → is_moved f ≡ found_moves f
-same_moves (found (whole k)) = refl
-same_moves (found (gone k)) = refl
-same_moves (found (boxed q)) = refl
-same_moves undefined = refl
-same_moves no_target = refl
 
 -- the slot of a captured name
 abbrev capture_of : Env → Captured → Passed
@@ -130,7 +116,7 @@ capture_named p i e sort h =
     let slot : (place_in p i).slot ≡ (named e w).slot = ap (λ (x : Lval). x.slot) place ∙ same_slot (slot_of e c.name) in
     let take : takes_of p i ≡ moves e w =
     ap (λ x. is_taking x (usage_at p i)) is ∙ ap (λ (x : Usage). x.takes) used
-    ∙ ap (λ s. is_moved (type_at e (place_of w s))) (same_slot (slot_of e c.name)) ∙ same_moves (type_at e (named e w)) in
+    ∙ ap (λ s. is_moved (type_at e (place_of w s))) (same_slot (slot_of e c.name)) in
     ap₂ made slot take
   where
     lval : ℕ → Lval
@@ -150,9 +136,7 @@ captures_run p (i ∷ is) e n arena h used =
     let alone = name_alone a i arena h.parts.0 h.parts.1 in
     let all : AreUsed p.usages (i ∷ nodes_in (meanings a) (all_need capture_s is)) (capture_usages by_spawn e n (c ∷ cs)) = subst (λ (l : List ℕ). AreUsed p.usages (l ++ nodes_in (meanings a) (all_need capture_s is)) (capture_usages by_spawn e n (c ∷ cs))) alone used in
     let rest = captures_run p is (env_left by_spawn e n c) (env_new by_spawn e n c) arena (record { parts = h.parts.2 }) all.1 in
-    let left = same_after (capture by_spawn e n c (λ e1 n1. typed (own unit) e1)) in
-    let new = same_after (capture by_spawn e n c (λ e1 n1. typed (own unit) n1)) in
-    ap₂ (λ (x : Passed) (xs : List Passed). x ∷ xs) (capture_named p i e h.parts.1 all.0) (rest ∙ ap₂ (λ x y. captures by_spawn x y cs) left new)
+    ap₂ (λ (x : Passed) (xs : List Passed). x ∷ xs) (capture_named p i e h.parts.1 all.0) rest
 
 -- items are those of their forms
 items_run : (p : Program) (at : ℕ) (look : ℕ → Run) (ids : List ℕ) (e : Env) → IsArena p.arena → AreRuns p at look → AreTypedIn p at ids e → parts_of look ids ≡ resolve_items (items_at (meanings p.arena) ids) e
@@ -164,8 +148,7 @@ items_run p at look (i ∷ j ∷ is) e arena runs w =
     let s = parted p at i (j ∷ is) e arena w in
     let t = term_at (meanings p.arena) i in
     let rest = items_run p at look (j ∷ is) (env_after (typing t e)) arena runs s.rest in
-    let env = ap (λ x. resolve_items (items_at (meanings p.arena) (j ∷ is)) x) (same_after (typing t e)) in
-    ap₂ more (runs i w.ready.nodes.parts.0 e s.first) (rest ∙ env)
+    ap₂ more (runs i w.ready.nodes.parts.0 e s.first) rest
 
 -- HOW MANY VARIABLES
 
@@ -218,10 +201,10 @@ below_of a at [] h = tt
 below_of a at (i ∷ is) h = (h.0, below_of a at is h.2)
 
 -- items stand before their block
-pub items_before : (ms : List Meaning) (at n : ℕ) (ids : List ℕ) (m : Term) (items : WithRoom ℕ) → AreBelow ms at (needs m) → m ≡ Block items → n ≡ at → ids ≡ items.items → forms.AllBelow n ids
-items_before ms at n ids m items h is same are = subst (λ l. forms.AllBelow n l) (sym are) (subst (λ k. forms.AllBelow k items.items) (sym same) (all items.items (subst (AreBelow ms at) (ap needs is) h)))
+pub items_before : (ms : List Meaning) (at n : ℕ) (ids : List ℕ) (m : Term) (items : WithRoom ℕ) → AreBelow ms at (needs m) → m ≡ Block items → n ≡ at → ids ≡ items.items → AllBelow n ids
+items_before ms at n ids m items h is same are = subst (λ l. AllBelow n l) (sym are) (subst (λ k. AllBelow k items.items) (sym same) (all items.items (subst (AreBelow ms at) (ap needs is) h)))
   where
-    all : (ks : List ℕ) → AreBelow ms at (all_need term_s ks) → forms.AllBelow at ks
+    all : (ks : List ℕ) → AreBelow ms at (all_need term_s ks) → AllBelow at ks
     all [] g = tt
     all (k ∷ ks) g = (g.0, all ks g.2)
 
@@ -272,8 +255,8 @@ spawn_run p at counts look names v n e (form.Spawn ds b k) arena h is w c same r
     let long = length_captures a names.items in
     let count = c v (omega (arith, parts.before, same)) parts.ready.threaded in
     let total : k ≡ length cs + lets_in t = omega (arith, made.2, count, few, long) in
-    let body : look b ≡ resolve t (plain.env_of_all by_spawn e cs) =
-    ap look made.1 ∙ runs v parts.before (env_of_all by_spawn e cs) s.body ∙ ap (λ x. resolve t x) (same_after (capture_all by_spawn cs e [] (λ e1 n1. typed (own unit) n1))) in
+    let body : look b ≡ resolve t (env_of_all by_spawn e cs) =
+    ap look made.1 ∙ runs v parts.before (env_of_all by_spawn e cs) s.body in
     let all : captures_of ds.items ≡ captures by_spawn e [] cs = ap captures_of made.0 ∙ captures_run p names.items e [] arena parts.names s.names in
     ap₂ spawn all (ap₂ (λ x y. block x (last y)) total body)
 spawn_run p at counts look names v n e (form.Number x) arena h is w c same runs made = absurd made
@@ -332,9 +315,8 @@ run_row p at counts look n e f arena h w c same runs made (an_arith op left righ
     let u = term_at (meanings p.arena) right in
     let pair = arith_parts p.arena at left right op n h is w.ready in
     let o = arith_typed p at left right op n e arena h is w in
-    let after = ap (λ x. resolve u x) (same_after (typing t e)) in
-    resolved p at n (Arith op left right) (arith_t n.place op t u) e (build look f) (arith_r op (resolve t e) (resolve u (plain.env_after t e))) h is refl
-    (ap (build look) (made_is p counts at n (Arith op left right) f is made) ∙ ap₂ (arith_r op) (runs left pair.left_before e o.first) (runs right pair.right_before (env_after (typing t e)) o.second ∙ after)) refl
+    resolved p at n (Arith op left right) (arith_t n.place op t u) e (build look f) (arith_r op (resolve t e) (resolve u (env_after (typing t e)))) h is refl
+    (ap (build look) (made_is p counts at n (Arith op left right) f is made) ∙ ap₂ (arith_r op) (runs left pair.left_before e o.first) (runs right pair.right_before (env_after (typing t e)) o.second)) refl
 run_row p at counts look n e f arena h w c same runs made (a_box v is) =
     let t = term_at (meanings p.arena) v in
     let part = box_part p.arena at v n h is w.ready in
@@ -357,8 +339,8 @@ run_row p at counts look n e f arena h w c same runs made (an_assign to v is) =
     let part = assign_part a at to v n h is w.ready in
     let parts = subst (AreBelow (meanings a) at) (ap needs is) h.parts in
     let g = assign_typed p at to v n e arena h is w in
-    let place = place_named p to (env_after (typing t e)) false parts.1 g.place ∙ ap (λ x. named x spot) (same_after (typing t e)) in
-    resolved p at n (Assign to v) (assign_t n.place spot t) e (build look f) (assign (named (plain.env_after t e) spot) (resolve t e)) h is refl
+    let place = place_named p to (env_after (typing t e)) false parts.1 g.place in
+    resolved p at n (Assign to v) (assign_t n.place spot t) e (build look f) (assign (named (env_after (typing t e)) spot) (resolve t e)) h is refl
     (ap (build look) (made_is p counts at n (Assign to v) f is made) ∙ ap₂ assign place (runs v part.before e g.value)) refl
 run_row p at counts look n e f arena h w c same runs made (a_block items is) =
     let ts = items_at (meanings p.arena) items.items in

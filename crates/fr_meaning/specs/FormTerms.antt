@@ -1,5 +1,6 @@
 -- The running term of a form (this project's rule): a form names lower ones, and its term is made of theirs.
 use Rattle.std.specs.Prelude.{ℕ, ◌-◌, ◌<◌, ◌==◌, ⊤, List, [], ◌∷◌, length, slice_index_or, if◌then◌else◌}
+use Rattle.fr_syntax.specs.Meanings.{AllBelow}
 use Rattle.fr_plain.specs.Run.{Capture, Run, unit_c, number, read, borrow, box_r, arith, bind, print, assign, block, spawn, join_r, Parts, last, more}
 use Rattle.fr_meaning.specs.declared.forms.Captured.{Captured}
 use Rattle.fr_meaning.specs.declared.forms.Form.{Form}
@@ -49,10 +50,6 @@ term_of fs i = run_at (newest_first fs) i
 -- the term of the last form
 abbrev pub root_of : List Form → Run
 root_of fs = term_of fs (length fs - 1)
-
-abbrev pub AllBelow : ℕ → List ℕ → Type 0
-AllBelow n [] = ⊤
-AllBelow n (i ∷ is) = (i < n) × AllBelow n is
 
 abbrev pub NamesBelow : ℕ → Form → Type 0
 NamesBelow n (form.Box value) = value < n

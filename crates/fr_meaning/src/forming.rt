@@ -2,12 +2,12 @@
 
 ghost use Rattle.std.specs.Prelude.{◌≡◌, ◌+◌, ◌<◌, ◌≤◌, length, IfOk};
 ghost use Rattle.fr_typing.specs.Threaded.{IsThreaded};
-ghost use Rattle.fr_syntax.specs.Meanings.{meanings, meaning_at, needs, all_need, sort_of, term_of, place_s, capture_s, AreBelow};
+ghost use Rattle.fr_syntax.specs.Meanings.{meanings, meaning_at, needs, all_need, sort_of, term_of, place_s, capture_s, AreBelow, AllBelow};
 ghost use Rattle.fr_plain.specs.Resolve.{program};
 ghost use Rattle.fr_plain.specs.Whole.{start};
 ghost use Rattle.fr_sound.specs.Together.{AreTyped};
 ghost use Rattle.fr_meaning.specs.Contexts.{depth};
-ghost use Rattle.fr_meaning.specs.FormTerms.{AllBelow, AreInOrder, NamesBelow};
+ghost use Rattle.fr_meaning.specs.FormTerms.{AreInOrder, NamesBelow};
 ghost use Rattle.fr_meaning.specs.Forming.{clipped, count_of, place_in, captured_in, captured_all, IsCount, IsMade};
 ghost use Rattle.fr_meaning.specs.FormTerms.{root_of as root_run};
 

@@ -3,13 +3,13 @@ use Rattle.std.proofs.Common.{◌≡◌, ℕ, zero, suc, ◌<◌, ◌^◌, ℤ, 
 use Rattle.std.specs.Prelude.{Some, decimal, nat_abs}
 use Rattle.fr_base.specs.declared.place.Op.{Op}
 use Rattle.fr_base.specs.declared.place.Op.TheVariants.{Add, Sub, Mul}
-use Rattle.fr_terms.specs.Terms.{Text, Spot, Captured, Term, block_t, let_t, assign_t, read_t, borrow_t, borrow_mut_t, number_t, unit_t, box_t, print_t, arith_t, join_t, mutex_t, dup_t, lock_t, spawn_t, par_t, Items, none, item}
+use Rattle.fr_terms.specs.Terms.{Text, Spot, Captured, Term, block_t, let_t, assign_t, read_t, borrow_t, borrow_mut_t, number_t, unit_t, box_t, print_t, arith_t, join_t, mutex_t, dup_t, lock_t, spawn_t, par_t, Items, none, item, IsBlock}
 use Rattle.fr_syntax.specs.Arena.{text_of}
 use Rattle.fr_syntax.specs.Words.{fixed_of}
 use Rattle.fr_syntax.specs.declared.kind.TokenKind.{TokenKind}
 use Rattle.fr_syntax.specs.declared.kind.TokenKind.TheVariants.{Name, Number, LetWord, MutWord, BoxWord, PrintWord, SpawnWord, JoinWord, ParWord, MutexWord, LockWord, AsWord, DupWord, OpenBrace, CloseBrace, OpenParen, CloseParen, Semicolon, Comma, Equals, Amp, Star, Minus}
 use Rattle.fr_syntax.specs.declared.token.Token.{Token}
-use Rattle.fr_parse.specs.Grammar.{Has, IsAt, Begins, SpellsName, SpellsPath, SpellsPlace, SpellsOthers, SpellsCaptures, SpellsNumber, mark_of_op, IsBlock, Spells, SpellsItems, SpellsMore}
+use Rattle.fr_parse.specs.Grammar.{Has, IsAt, Begins, SpellsName, SpellsPath, SpellsPlace, SpellsOthers, SpellsCaptures, SpellsNumber, mark_of_op, Spells, SpellsItems, SpellsMore}
 use Rattle.fr_parse.specs.Reading.{place_of}
 use Rattle.fr_parse.specs.Canonical.{path_words, place_words, other_words, name_words, capture_words, number_words, op_word, words, item_words, more_words, IsName, AreNames, IsSpellable, AreSpellable, forget_spot, forget_captured, forget, forget_items}
 

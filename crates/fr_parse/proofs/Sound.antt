@@ -1,7 +1,7 @@
 -- What is read is in the grammar and within the limits.
 use Rattle.std.proofs.Common.{◌≡◌, ℕ, zero, suc, ◌≤◌, Bool, true, false, List, [], ◌∷◌, length, refl, sym, ap, ◌∙◌, subst, subst₂, inl, inr, arith}
 use Rattle.std.specs.Prelude.{Ok}
-use Rattle.fr_terms.specs.Terms.{Text, Spot, Captured, Term, block_t, let_t, assign_t, read_t, borrow_t, borrow_mut_t, number_t, unit_t, box_t, print_t, arith_t, join_t, mutex_t, dup_t, lock_t, spawn_t, par_t, Items, none, item}
+use Rattle.fr_terms.specs.Terms.{Text, Spot, Captured, Term, block_t, let_t, assign_t, read_t, borrow_t, borrow_mut_t, number_t, unit_t, box_t, print_t, arith_t, join_t, mutex_t, dup_t, lock_t, spawn_t, par_t, Items, none, item, IsBlock}
 use Rattle.fr_terms.specs.Limits.{levels, levels_of, IsShort, HasShortPlaces, HaveShortPlaces}
 use Rattle.fr_syntax.specs.Arena.{text_of}
 use Rattle.fr_syntax.specs.declared.kind.TokenKind.{TokenKind}
@@ -10,7 +10,7 @@ use Rattle.fr_syntax.specs.declared.token.Token.{Token}
 use Rattle.fr_parse.specs.declared.marks.Next.{Next}
 use Rattle.fr_parse.specs.declared.marks.Terminal.TheVariants as terminal
 use Rattle.fr_parse.specs.declared.marks.Next.TheVariants.{Close, LastUnit, More}
-use Rattle.fr_parse.specs.Grammar.{Has, Begins, SpellsPlace, SpellsCaptures, IsBlock, Spells, SpellsMore}
+use Rattle.fr_parse.specs.Grammar.{Has, Begins, SpellsPlace, SpellsCaptures, Spells, SpellsMore}
 use Rattle.fr_parse.specs.Reading.{◌>>=◌, Read, after_terminal, bound_at, spot_at, turned_at, borrow_kind, borrow_at, leaf_kind, leaf_at, op_at, held_at, captures_at, semicolon_at, semicolon_kind, next_kind, next_at, item_next, after_item, items_at, block_kind, block_at, rest_kind, rest_at, placed_at, arith_at, inner_kind, inner_at, body_kind, body_at, branch_at, spawn_at, par_at, lock_at, term_kind, any_kind, any_at}
 use Rattle.fr_parse.proofs.Complete.{some_levels}
 use Rattle.fr_parse.proofs.SoundParts.{bind_ok, ok, ok_parts, ok_three, after_of, bound_of, turned_of, place_of_read, op_of, held_of, captures_of, opens_block}

@@ -4,7 +4,7 @@ use Rattle.std.proofs.lemmas.Bool.{leb-true}
 use Rattle.std.specs.Prelude.{Result, Ok, Err}
 use Rattle.fr_base.specs.declared.place.Op.{Op}
 use Rattle.fr_base.specs.declared.place.Op.TheVariants.{Add, Sub, Mul}
-use Rattle.fr_terms.specs.Terms.{Text, Spot, Captured, Term, block_t, let_t, assign_t, read_t, borrow_t, borrow_mut_t, number_t, unit_t, box_t, print_t, arith_t, join_t, mutex_t, dup_t, lock_t, spawn_t, par_t}
+use Rattle.fr_terms.specs.Terms.{Text, Spot, Captured, Term, block_t, let_t, assign_t, read_t, borrow_t, borrow_mut_t, number_t, unit_t, box_t, print_t, arith_t, join_t, mutex_t, dup_t, lock_t, spawn_t, par_t, IsBlock}
 use Rattle.fr_terms.specs.Limits.{IsShort}
 use Rattle.fr_syntax.specs.Arena.{text_of}
 use Rattle.fr_syntax.specs.declared.kind.TokenKind.{TokenKind}
@@ -14,7 +14,7 @@ use Rattle.fr_parse.specs.declared.fault.ParseError.{ParseError}
 use Rattle.fr_parse.specs.declared.fault.ParseError.TheVariants.{Syntax, TooDeep}
 use Rattle.fr_parse.specs.declared.marks.Terminal.{Terminal}
 use Rattle.fr_parse.specs.declared.marks.Terminal.TheVariants as terminal
-use Rattle.fr_parse.specs.Grammar.{Has, IsAt, SpellsName, SpellsPath, SpellsPlace, SpellsOthers, SpellsNames, SpellsCaptures, mark_of_op, IsBlock, Spells}
+use Rattle.fr_parse.specs.Grammar.{Has, IsAt, SpellsName, SpellsPath, SpellsPlace, SpellsOthers, SpellsNames, SpellsCaptures, mark_of_op, Spells}
 use Rattle.fr_parse.specs.Reading.{◌>>=◌, Read, place_of, is_terminal, after_terminal, name_kind, name_at, bound_at, is_star, stars_of, spot_at, turned_kind, turned_at, op_kind, op_at, held_at, comma_kind, comma_at, capture_at, capture_next, after_capture, captured_at, list_kind, list_at, captures_at}
 use Rattle.fr_parse.proofs.ReadingSteps.{kind_of, only_kind}
 

@@ -4,12 +4,12 @@ use Rattle.std.proofs.lemmas.List.{append_assoc, append-nil}
 use Rattle.std.specs.Prelude.{Option, Some, None, neg_ℤ}
 use Rattle.fr_base.specs.declared.place.Op.{Op}
 use Rattle.fr_base.specs.declared.place.Op.TheVariants.{Add, Sub, Mul}
-use Rattle.fr_terms.specs.Terms.{Text, Spot, Captured, Term, block_t, let_t, assign_t, read_t, borrow_t, borrow_mut_t, number_t, unit_t, box_t, print_t, arith_t, join_t, mutex_t, dup_t, lock_t, spawn_t, par_t, Items, none, item}
+use Rattle.fr_terms.specs.Terms.{Text, Spot, Captured, Term, block_t, let_t, assign_t, read_t, borrow_t, borrow_mut_t, number_t, unit_t, box_t, print_t, arith_t, join_t, mutex_t, dup_t, lock_t, spawn_t, par_t, Items, none, item, IsBlock}
 use Rattle.fr_syntax.specs.Arena.{text_of}
 use Rattle.fr_syntax.specs.declared.kind.TokenKind.{TokenKind}
 use Rattle.fr_syntax.specs.declared.kind.TokenKind.TheVariants.{Name, Number, End, LetWord, MutWord, BoxWord, PrintWord, SpawnWord, JoinWord, ParWord, MutexWord, LockWord, AsWord, DupWord, OpenBrace, CloseBrace, OpenParen, CloseParen, Semicolon, Comma, Equals, Amp, Star, Plus, Minus}
 use Rattle.fr_syntax.specs.declared.token.Token.{Token}
-use Rattle.fr_parse.specs.Grammar.{Has, IsAt, SpellsName, SpellsPlace, SpellsCaptures, SpellsNames, SpellsOthers, mark_of_op, IsBlock, Spells, SpellsItems, SpellsMore, IsProgram}
+use Rattle.fr_parse.specs.Grammar.{Has, IsAt, SpellsName, SpellsPlace, SpellsCaptures, SpellsNames, SpellsOthers, mark_of_op, Spells, SpellsItems, SpellsMore, IsProgram}
 use Rattle.fr_parse.specs.Refusals.{IsFront}
 use Rattle.fr_parse.specs.Table.{Symbol, block_s, items_s, more_s, term_s, rest_s, inner_s, op_s, borrow_s, place_s, captures_s, list_s, next_s, name_s, number_s, mut_s, as_s, equals_s, close_s, end_s, one_less, place_entry, term_entry, item_entry, and_then, entry, none_left}
 use Rattle.fr_parse.proofs.TableSteps.{next_of, after_or, after, or_nothing}

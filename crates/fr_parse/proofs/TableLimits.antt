@@ -5,14 +5,14 @@ use Rattle.std.proofs.lemmas.List.{append_assoc}
 use Rattle.std.specs.Prelude.{Option, Some, None}
 use Rattle.fr_base.specs.declared.place.Op.{Op}
 use Rattle.fr_base.specs.declared.place.Op.TheVariants.{Add, Sub, Mul}
-use Rattle.fr_terms.specs.Terms.{Text, Spot, Captured, Term, block_t, let_t, assign_t, read_t, borrow_t, borrow_mut_t, number_t, unit_t, box_t, print_t, arith_t, join_t, mutex_t, dup_t, lock_t, spawn_t, par_t, Items, none, item, start_of}
+use Rattle.fr_terms.specs.Terms.{Text, Spot, Captured, Term, block_t, let_t, assign_t, read_t, borrow_t, borrow_mut_t, number_t, unit_t, box_t, print_t, arith_t, join_t, mutex_t, dup_t, lock_t, spawn_t, par_t, Items, none, item, start_of, IsBlock}
 use Rattle.fr_terms.specs.Limits.{levels, levels_of, IsShort, HasShortPlaces, HaveShortPlaces, IsWithinLimits}
 use Rattle.fr_syntax.specs.declared.kind.TokenKind.{TokenKind}
 use Rattle.fr_syntax.specs.declared.kind.TokenKind.TheVariants.{Name, Number, End, LetWord, MutWord, BoxWord, PrintWord, SpawnWord, JoinWord, ParWord, MutexWord, LockWord, AsWord, DupWord, OpenBrace, CloseBrace, OpenParen, CloseParen, Semicolon, Comma, Equals, Amp, Star, Plus, Minus}
 use Rattle.fr_syntax.specs.declared.token.Token.{Token}
 use Rattle.fr_parse.specs.declared.fault.ParseError.{ParseError}
 use Rattle.fr_parse.specs.declared.fault.ParseError.TheVariants.{Syntax, TooDeep}
-use Rattle.fr_parse.specs.Grammar.{Has, IsAt, Begins, SpellsPath, SpellsPlace, SpellsCaptures, SpellsOthers, SpellsNumber, mark_of_op, IsBlock, Spells, SpellsItems, SpellsMore, IsProgram}
+use Rattle.fr_parse.specs.Grammar.{Has, IsAt, Begins, SpellsPath, SpellsPlace, SpellsCaptures, SpellsOthers, SpellsNumber, mark_of_op, Spells, SpellsItems, SpellsMore, IsProgram}
 use Rattle.fr_parse.specs.Reading.{place_of, begins_term, begins_kind}
 use Rattle.fr_parse.specs.Table.{Symbol, block_s, items_s, more_s, term_s, rest_s, inner_s, op_s, borrow_s, place_s, captures_s, list_s, next_s, name_s, number_s, mut_s, as_s, equals_s, close_s, end_s, term_entry, goes_on, met, meets, refused_or, refusal_of}
 use Rattle.fr_parse.specs.Refusals.{Over, deep, starry, or_else, over_place, first_over, first_over_of, IsNinthStar, IsRefusalOf}

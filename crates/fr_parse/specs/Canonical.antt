@@ -3,11 +3,10 @@ use Rattle.std.specs.Prelude.{◌≡◌, ℕ, zero, suc, ◌<◌, ◌≤◌, ◌
 use Rattle.std.specs.List.{AllPass}
 use Rattle.fr_base.specs.declared.place.Op.{Op}
 use Rattle.fr_base.specs.declared.place.Op.TheVariants.{Add, Sub, Mul}
-use Rattle.fr_terms.specs.Terms.{Text, Spot, Captured, Term, block_t, let_t, assign_t, read_t, borrow_t, borrow_mut_t, number_t, unit_t, box_t, print_t, arith_t, join_t, mutex_t, dup_t, lock_t, spawn_t, par_t, Items, none, item}
+use Rattle.fr_terms.specs.Terms.{Text, Spot, Captured, Term, block_t, let_t, assign_t, read_t, borrow_t, borrow_mut_t, number_t, unit_t, box_t, print_t, arith_t, join_t, mutex_t, dup_t, lock_t, spawn_t, par_t, Items, none, item, IsBlock}
 use Rattle.fr_terms.specs.Limits.{IsWithinLimits}
 use Rattle.fr_syntax.specs.Words.{is_letter, is_word_byte, word_of}
 use Rattle.fr_syntax.specs.Text.{head_is}
-use Rattle.fr_parse.specs.Grammar.{IsBlock}
 
 -- so many stars, then the name
 abbrev pub path_words : ℕ → Text → List Text

@@ -1,9 +1,9 @@
 -- Which tokens spell which term: the grammar of the language, a row of it each line (Featherweight Rust with this project's threads,
 -- mutexes, arithmetic and print). A term stands at the start of its first token. Names are texts: a token's number stands for one.
-use Rattle.std.specs.Prelude.{◌≡◌, ℕ, zero, suc, ℤ, neg_ℤ, Bool, true, false, IsTrue, List, [], ◌∷◌, ◌⊎◌, ⊤}
+use Rattle.std.specs.Prelude.{◌≡◌, ℕ, zero, suc, ℤ, neg_ℤ, Bool, true, false, IsTrue, List, [], ◌∷◌, ◌⊎◌}
 use Rattle.fr_base.specs.declared.place.Op.{Op}
 use Rattle.fr_base.specs.declared.place.Op.TheVariants.{Add, Sub, Mul}
-use Rattle.fr_terms.specs.Terms.{Text, Spot, Captured, Term, block_t, let_t, assign_t, read_t, borrow_t, borrow_mut_t, number_t, unit_t, box_t, print_t, arith_t, join_t, mutex_t, dup_t, lock_t, spawn_t, par_t, Items, none, item}
+use Rattle.fr_terms.specs.Terms.{Text, Spot, Captured, Term, block_t, let_t, assign_t, read_t, borrow_t, borrow_mut_t, number_t, unit_t, box_t, print_t, arith_t, join_t, mutex_t, dup_t, lock_t, spawn_t, par_t, Items, none, item, IsBlock}
 use Rattle.fr_syntax.specs.Arena.{text_of}
 use Rattle.fr_syntax.specs.declared.kind.TokenKind.{TokenKind}
 use Rattle.fr_syntax.specs.declared.kind.TokenKind.TheVariants.{Name, Number, End, LetWord, MutWord, BoxWord, PrintWord, SpawnWord, JoinWord, ParWord, MutexWord, LockWord, AsWord, DupWord, OpenBrace, CloseBrace, OpenParen, CloseParen, Semicolon, Comma, Equals, Amp, Star, Plus, Minus}
@@ -59,10 +59,6 @@ abbrev pub mark_of_op : Op → TokenKind
 mark_of_op Add = Plus
 mark_of_op Sub = Minus
 mark_of_op Mul = Star
-
-abbrev pub IsBlock : Term → Type 0
-IsBlock (block_t at items) = ⊤
-IsBlock _ = ⊥
 
 abbrev mutual
   -- ts are the tokens of this term and then the rest; a `let` is an item of a block, and no part of a term

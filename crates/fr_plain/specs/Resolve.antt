@@ -1,23 +1,15 @@
 -- The running term of a source: slots for names, how many variables a block has, and for each read and capture whether
 -- it moves, all as the typing has them (this project's rule).
-use Rattle.std.specs.Prelude.{ℕ, zero, suc, ◌+◌, Bool, true, false, not, List, [], ◌∷◌, length, Option, Some, None}
+use Rattle.std.specs.Prelude.{ℕ, zero, suc, ◌+◌, Bool, true, false, List, [], ◌∷◌, length, Option, Some, None}
 use Rattle.fr_base.specs.declared.place.Lval.{Lval}
 use Rattle.fr_terms.specs.Terms.{Text, Spot, Term, block_t, let_t, assign_t, read_t, borrow_t, borrow_mut_t, number_t, unit_t, box_t, print_t, arith_t, join_t, mutex_t, dup_t, lock_t, spawn_t, par_t, Captured, Items, none, item}
-use Rattle.fr_typing.specs.Kinds.{Owned, unit, own, whole, copies}
+use Rattle.fr_typing.specs.Kinds.{Owned, unit, whole}
 use Rattle.fr_typing.specs.Places.{Env, Found, found, type_at, slot_of}
 use Rattle.fr_typing.specs.Checks.{place_of, mutex_of, with_lock}
-use Rattle.fr_typing.specs.Finding.{Outcome, typed, fault}
-use Rattle.fr_typing.specs.Captures.{Capturer, by_spawn, by_par, spot_of, capture, capture_all}
+use Rattle.fr_typing.specs.Finding.{env_after, is_moved}
+use Rattle.fr_typing.specs.Captures.{Capturer, by_spawn, by_par, spot_of, env_left, env_new, env_left_by_all, env_of_all}
 use Rattle.fr_typing.specs.Typing.{typing}
 use Rattle.fr_plain.specs.Run.{Capture, Run, unit_c, number, read, borrow, box_r, arith, bind, print, assign, block, spawn, join_r, mutex_r, dup, lock, par, Parts, last, more}
-
--- the environment that a typed term leaves
-abbrev pub env_of : Outcome → Env
-env_of (typed k e) = e
-env_of (fault at r) = []
-
-abbrev pub env_after : Term → Env → Env
-env_after t e = env_of (typing t e)
 
 abbrev pub or_zero : Option ℕ → ℕ
 or_zero None = 0
@@ -27,29 +19,11 @@ or_zero (Some s) = s
 abbrev pub named : Env → Spot → Lval
 named e w = place_of w (or_zero (slot_of e w.name))
 
-abbrev pub found_moves : Found → Bool
-found_moves (found (whole k)) = not (copies k)
-found_moves _ = false
-
 -- a read of a moved type takes the value out
 abbrev pub moves : Env → Spot → Bool
-moves e w = found_moves (type_at e (named e w))
+moves e w = is_moved (type_at e (named e w))
 
 -- CAPTURES
-
--- what a captured name leaves of the environment, and the new environment with it
-abbrev pub env_left : Capturer → Env → Env → Captured → Env
-env_left by e n c = env_of (capture by e n c (λ e1 n1. typed (own unit) e1))
-
-abbrev pub env_new : Capturer → Env → Env → Captured → Env
-env_new by e n c = env_of (capture by e n c (λ e1 n1. typed (own unit) n1))
-
--- what all captured names leave of the environment, and the new environment of them
-abbrev pub env_left_of : Capturer → Env → List Captured → Env
-env_left_of by e cs = env_of (capture_all by cs e [] (λ e1 n1. typed (own unit) e1))
-
-abbrev pub env_of_all : Capturer → Env → List Captured → Env
-env_of_all by e cs = env_of (capture_all by cs e [] (λ e1 n1. typed (own unit) n1))
 
 -- each captured name's slot, and whether its value is taken
 abbrev pub captures : Capturer → Env → Env → List Captured → List Capture
@@ -108,10 +82,10 @@ abbrev mutual
   resolve (borrow_t at w) e = borrow (named e w) false
   resolve (borrow_mut_t at w) e = borrow (named e w) true
   resolve (box_t at t) e = box_r (resolve t e)
-  resolve (arith_t at op a b) e = arith op (resolve a e) (resolve b (env_after a e))
+  resolve (arith_t at op a b) e = arith op (resolve a e) (resolve b (env_after (typing a e)))
   resolve (print_t at t) e = print (resolve t e)
   resolve (let_t at x t) e = bind (resolve t e)
-  resolve (assign_t at w t) e = assign (named (env_after t e) w) (resolve t e)
+  resolve (assign_t at w t) e = assign (named (env_after (typing t e)) w) (resolve t e)
   resolve (block_t at ts) e = block (lets ts) (resolve_items ts e)
   resolve (spawn_t at cs t) e = spawn (captures by_spawn e [] cs) (body_of cs t (resolve t (env_of_all by_spawn e cs)))
   resolve (join_t at t) e = join_r (resolve t e)
@@ -121,12 +95,12 @@ abbrev mutual
   -- the second thread captures what the first leaves
   resolve (par_t at cs t ds u) e =
       par (captures by_par e [] cs) (body_of cs t (resolve t (env_of_all by_par e cs)))
-      (captures by_par (env_left_of by_par e cs) [] ds) (body_of ds u (resolve u (env_of_all by_par (env_left_of by_par e cs) ds)))
+      (captures by_par (env_left_by_all by_par e cs) [] ds) (body_of ds u (resolve u (env_of_all by_par (env_left_by_all by_par e cs) ds)))
 
   -- a block without items is the constant unit
   pub resolve_items : Items → Env → Parts
   resolve_items none e = last unit_c
-  resolve_items (item t ts) e = before ts (resolve t e) (resolve_items ts (env_after t e))
+  resolve_items (item t ts) e = before ts (resolve t e) (resolve_items ts (env_after (typing t e)))
 
 -- the running term of a program
 abbrev pub program : Term → Run

@@ -8,18 +8,18 @@ use Rattle.fr_base.specs.declared.place.Lval.{Lval}
 use Rattle.fr_base.specs.declared.place.Op.{Op}
 use Rattle.fr_terms.specs.Terms.{Text, Captured, Spot, Term, block_t, let_t, assign_t, read_t, number_t, unit_t, box_t, print_t, borrow_t, borrow_mut_t, arith_t, join_t, mutex_t, dup_t, lock_t, spawn_t, par_t, Items, none, item}
 use Rattle.fr_typing.specs.Sequential.{IsSequential, AreSequential}
-use Rattle.fr_typing.specs.Captures.{by_spawn, Capturer, spot_of, captured_kind, captured_slot, Captures, captures_copy, captures_move, CapturesAll, captures_none, captures_next}
+use Rattle.fr_typing.specs.Captures.{by_spawn, Capturer, spot_of, captured_kind, captured_slot, Captures, captures_copy, captures_move, CapturesAll, captures_none, captures_next, env_left, env_new, env_of_all}
 use Rattle.fr_typing.proofs.CaptureLemmas.{capture_by, capture_all_by}
 use Rattle.fr_typing.specs.Kinds.{Owned, unit, int, box, mutex, task, same_owned, Kind, own, shared, mutable, view, Piece, whole, gone, copies}
 use Rattle.fr_typing.specs.Places.{Env, found, type_at, write_blocked, on_path, is_lent, is_mutable, is_writable, is_own_path, slot_of, same_name, put_under, put_at, Shape, owned_shape, shared_to, mutable_to, piece_shape, shape_at, AreBelow, kind_places, equal_shapes}
 use Rattle.fr_typing.specs.Checks.{place_of, is_int, is_owned, is_kept_out, has_shape_of, names_from, set_through}
-use Rattle.fr_typing.specs.Finding.{typed, Has, IsOpen, Shows}
-use Rattle.fr_typing.specs.Typing.{Types, types_number, types_unit, types_copy, types_move, types_borrow, types_borrow_mut, types_box, types_mutex, types_arith, types_print, types_let, types_assign, types_block, types_join, types_dup, types_lock, types_spawn, types_par, TypesItems, types_none, types_item}
+use Rattle.fr_typing.specs.Finding.{typed, env_after, is_moved, Has, IsOpen, Shows}
+use Rattle.fr_typing.specs.Typing.{typing, Types, types_number, types_unit, types_copy, types_move, types_borrow, types_borrow_mut, types_box, types_mutex, types_arith, types_print, types_let, types_assign, types_block, types_join, types_dup, types_lock, types_spawn, types_par, TypesItems, types_none, types_item}
 use Rattle.fr_typing.proofs.Agree.{typing_by}
 use Rattle.fr_store.proofs.Below.{or_false}
 use Rattle.fr_plain.specs.declared.value.Value.{Value}
 use Rattle.fr_plain.specs.Run.{Capture, Run, unit_c, read, borrow, arith, assign, block, last as last_p, more, Now, now}
-use Rattle.fr_plain.specs.Resolve.{env_of, env_after, named, moves, found_moves, or_zero, lets_in, lets, before, env_left, env_new, env_of_all, captures, resolve, resolve_items}
+use Rattle.fr_plain.specs.Resolve.{named, moves, or_zero, lets_in, lets, before, captures, resolve, resolve_items}
 use Rattle.fr_typing.specs.Threaded.{IsThreaded, AreThreaded}
 use Rattle.fr_sound.specs.RunTypes.{Forms, one_thread, threads, RunCaptures, c_none, c_copy, c_move, t_spawn, t_join, Assigns, to_own, to_lent, to_variable, IsNumber, o_int, Falls, f_none, f_one, RunTypes, t_unit, t_number, t_copy, t_move, t_borrow, t_borrow_mut, t_box, t_left, t_right, t_let, t_print, t_assign, t_block, PartsTypes, p_last, p_more}
 use Rattle.fr_sound.proofs.DoneTerms.{Done, d_going, d_constant, done}
@@ -163,8 +163,8 @@ int_is (view x) h = cc
 -- THE LENGTHS
 
 -- the environment that typing computes is that of the relation
-env_is : {e e1 : Env} {t : Term} {k : Kind} → Types e t k e1 → env_after t e ≡ e1
-env_is t = ap env_of (typing_by t)
+env_is : {e e1 : Env} {t : Term} {k : Kind} → Types e t k e1 → env_after (typing t e) ≡ e1
+env_is t = ap env_after (typing_by t)
 
 -- an assignment adds no slot
 length_set : (e : Env) (w : Lval) (k : Kind) → length (set_through e w k) ≡ length e
@@ -283,7 +283,7 @@ read_as {forms = forms} {e = e} {e1 = e1} {k = k} w s b h m r = subst (λ (o : O
 
 -- whether a read moves, by the type that is found
 found_at : {e : Env} {w : Spot} {s : ℕ} {k : Kind} → Has e w s (found (whole k)) → moves e w ≡ not (copies k)
-found_at {e = e} {w = w} h = ap (λ o. found_moves (type_at e (place_of w (or_zero o)))) h.named ∙ ap found_moves h.is
+found_at {e = e} {w = w} h = ap (λ o. is_moved (type_at e (place_of w (or_zero o)))) h.named ∙ ap is_moved h.is
 
 -- a read that copies
 copy_runs : {forms : Forms} {e : Env} {w : Spot} {s : ℕ} {k : Kind} → Has e w s (found (whole k)) → copies k ≡ true → RunTypes forms e None (read (named e w) (moves e w)) k e
@@ -402,8 +402,8 @@ capture_runs {e = e} {n = n} {e2 = e2} {n2 = n2} {c = c} {rest = rest} (captures
 captures_run : {e n e1 n1 : Env} {cs : List Captured} → CapturesAll by_spawn e n cs e1 n1 → RunCaptures e n (captures by_spawn e n cs) e1 n1
 captures_run captures_none = c_none
 captures_run (captures_next {e = e} {n = n} {e1 = e1} {n1 = n1} {e2 = e2} {n2 = n2} {c = c} {cs = cs} h hs) =
-    let left : env_left by_spawn e n c ≡ e1 = ap env_of (capture_by (λ e1 n1. typed (own unit) e1) h) in
-    let new : env_new by_spawn e n c ≡ n1 = ap env_of (capture_by (λ e1 n1. typed (own unit) n1) h) in
+    let left : env_left by_spawn e n c ≡ e1 = ap env_after (capture_by (λ e1 n1. typed (own unit) e1) h) in
+    let new : env_new by_spawn e n c ≡ n1 = ap env_after (capture_by (λ e1 n1. typed (own unit) n1) h) in
     capture_runs h (subst (λ (f : Env). RunCaptures e1 n1 (captures by_spawn f (env_new by_spawn e n c) cs) e2 n2) (sym left) (subst (λ (f : Env). RunCaptures e1 n1 (captures by_spawn e1 f cs) e2 n2) (sym new) (captures_run hs)))
 
 mutual
@@ -419,8 +419,8 @@ mutual
   resolve_runs forms (print_t at t) a (types_print {e = e} {e1 = e1} {k = k} y i) = t_print (subst (λ (l : Kind). RunTypes forms e None (resolve t e) l e1) (int_is k i) (resolve_runs forms t a y))
   resolve_runs forms (arith_t at f x y) a (types_arith {e = e} {e1 = e1} {e2 = e2} {k = k} {l = l} t i u j) =
       let left : RunTypes forms e None (resolve x e) (own int) e1 = subst (λ (q : Kind). RunTypes forms e None (resolve x e) q e1) (int_is k i) (resolve_runs forms x a.0 t) in
-      let right : RunTypes forms e1 None (resolve y (env_after x e)) (own int) e2 = subst (λ (g : Env). RunTypes forms e1 None (resolve y g) (own int) e2) (sym (env_is t)) (subst (λ (q : Kind). RunTypes forms e1 None (resolve y e1) q e2) (int_is l j) (resolve_runs forms y a.1 u)) in
-      arith_by f (resolve x e) (resolve y (env_after x e)) refl left right (done (resolve x e) left)
+      let right : RunTypes forms e1 None (resolve y (env_after (typing x e))) (own int) e2 = subst (λ (g : Env). RunTypes forms e1 None (resolve y g) (own int) e2) (sym (env_is t)) (subst (λ (q : Kind). RunTypes forms e1 None (resolve y e1) q e2) (int_is l j) (resolve_runs forms y a.1 u)) in
+      arith_by f (resolve x e) (resolve y (env_after (typing x e))) refl left right (done (resolve x e) left)
   resolve_runs forms (let_t at x t) a (types_let y n) = t_let (Some x) (resolve_runs forms t a y)
   resolve_runs forms (assign_t at w t) a (types_assign {e = e} {e1 = e1} {k = k} {s = s} y f o kept shape out) =
       subst (λ (g : Env). RunTypes forms e None (assign (named g w) (resolve t e)) (own unit) (set_through e1 (place_of w s) k)) (sym (env_is y)) (assign_as e1 w s f.named (t_assign (resolve_runs forms t a y) (assigns k f o kept shape out)))
@@ -444,7 +444,7 @@ mutual
       let count = length cs + lets_in t in
       let none : drop count n1 ≡ [] = drop_all count n1 (omega (numbers, l, m)) in
       let ends : RunTypes threads n None (block count (last_p (resolve t n))) (own o) [] = t_block (p_last body) (subst (Falls count n1) none (falls_to count n1 (omega (numbers, l, m)))) tt in
-      let same : env_of_all by_spawn e cs ≡ n = ap env_of (capture_all_by (λ e1 n1. typed (own unit) n1) c) in
+      let same : env_of_all by_spawn e cs ≡ n = ap env_after (capture_all_by (λ e1 n1. typed (own unit) n1) c) in
       t_spawn (captures_run c) (subst (λ (g : Env). RunTypes threads n None (block count (last_p (resolve t g))) (own o) []) (sym same) ends)
   resolve_runs forms (par_t at cs t ds u) ok y = absurd ok
 

@@ -149,6 +149,7 @@ abbrev pub AreBelow : List Meaning → ℕ → List Need → Type 0
 AreBelow ms n [] = ⊤
 AreBelow ms n (x ∷ xs) = (x.node < n) × (sort_of (meaning_at ms x.node).what ≡ x.sort) × AreBelow ms n xs
 
+-- each number of a list is below n
 abbrev pub AllBelow : ℕ → List ℕ → Type 0
 AllBelow n [] = ⊤
 AllBelow n (k ∷ ks) = (k < n) × AllBelow n ks

@@ -1,6 +1,6 @@
 -- The terms of the language (Featherweight Rust with this project's threads, mutexes, arithmetic and print),
 -- each with the place of its first token. Names are texts.
-use Rattle.std.specs.Prelude.{ℕ, ℤ, Bool, List}
+use Rattle.std.specs.Prelude.{ℕ, ℤ, Bool, ⊤, List}
 use Rattle.std.specs.Str.{bytes_eq}
 use Rattle.fr_base.specs.declared.place.Op.{Op}
 
@@ -65,3 +65,8 @@ start_of (dup_t at of) = at
 start_of (lock_t at of name body) = at
 start_of (spawn_t at captures body) = at
 start_of (par_t at captures body others other) = at
+
+-- a block, as programs and the bodies of threads and locks are
+abbrev pub IsBlock : Term → Type 0
+IsBlock (block_t at items) = ⊤
+IsBlock _ = ⊥

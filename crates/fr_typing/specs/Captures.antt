@@ -5,10 +5,10 @@ use Rattle.fr_base.specs.declared.place.Lval.{Lval}
 use Rattle.fr_terms.specs.Terms.{Spot, Captured}
 use Rattle.fr_typing.specs.declared.reason.Reason.{Reason}
 use Rattle.fr_typing.specs.declared.reason.Reason.TheVariants.{NameInScope, NotDefined, ReadBlocked, WriteBlocked, NotOwned, NotFull}
-use Rattle.fr_typing.specs.Kinds.{Kind, own, shared, view, Piece, whole, gone, boxed, map_some, copies}
+use Rattle.fr_typing.specs.Kinds.{Kind, own, unit, shared, view, Piece, whole, gone, boxed, map_some, copies}
 use Rattle.fr_typing.specs.Places.{Env, Slot, found, read_blocked, write_blocked, put_at, slot_of, heap_type}
 use Rattle.fr_typing.specs.Checks.{place_of}
-use Rattle.fr_typing.specs.Finding.{Has, Misses, Outcome, fault, unless, given, find}
+use Rattle.fr_typing.specs.Finding.{Has, Misses, Outcome, typed, fault, env_after, unless, given, find}
 
 -- the term that captures
 pub data Capturer : Type 0 where
@@ -103,3 +103,17 @@ capture_all by (c ∷ cs) e n go = capture by e n c (λ e1 n1. capture_all by cs
 -- both lists of a par; what follows is given the two new environments and what is left
 abbrev pub capture_both : List Captured → List Captured → Env → (Env → Env → Env → Outcome) → Outcome
 capture_both cs ds e go = capture_all by_par cs e [] (λ e1 n. capture_all by_par ds e1 [] (λ e2 m. go n m e2))
+
+-- what a captured name leaves of the environment, and the new environment with it
+abbrev pub env_left : Capturer → Env → Env → Captured → Env
+env_left by e n c = env_after (capture by e n c (λ e1 n1. typed (own unit) e1))
+
+abbrev pub env_new : Capturer → Env → Env → Captured → Env
+env_new by e n c = env_after (capture by e n c (λ e1 n1. typed (own unit) n1))
+
+-- what all captured names leave, and the new environment of all of them
+abbrev pub env_left_by_all : Capturer → Env → List Captured → Env
+env_left_by_all by e cs = env_after (capture_all by cs e [] (λ e1 n1. typed (own unit) e1))
+
+abbrev pub env_of_all : Capturer → Env → List Captured → Env
+env_of_all by e cs = env_after (capture_all by cs e [] (λ e1 n1. typed (own unit) n1))

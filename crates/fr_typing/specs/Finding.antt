@@ -1,10 +1,10 @@
 -- What typing comes to, and finding a written place: as a relation and as a function (Featherweight Rust).
-use Rattle.std.specs.Prelude.{◌≡◌, ℕ, Bool, true, false, Option, Some, None}
+use Rattle.std.specs.Prelude.{◌≡◌, ℕ, Bool, true, false, not, [], Option, Some, None}
 use Rattle.fr_base.specs.declared.place.Lval.{Lval}
 use Rattle.fr_terms.specs.Terms.{Spot}
 use Rattle.fr_typing.specs.declared.reason.Reason.{Reason}
 use Rattle.fr_typing.specs.declared.reason.Reason.TheVariants.{UnknownName, NotDefined, NoTarget, ReadBlocked}
-use Rattle.fr_typing.specs.Kinds.{Kind, Piece, whole, gone, boxed}
+use Rattle.fr_typing.specs.Kinds.{Kind, Piece, whole, gone, boxed, copies}
 use Rattle.fr_typing.specs.Places.{Env, Found, found, undefined, no_target, type_at, read_blocked, write_blocked, is_writable, slot_of}
 use Rattle.fr_typing.specs.Checks.{place_of}
 
@@ -49,6 +49,11 @@ pub data Outcome : Type 0 where
   typed : Kind → Env → Outcome
   fault : (at : ℕ) → Reason → Outcome
 
+-- the environment that a typed term leaves; after a fault nobody asks
+abbrev pub env_after : Outcome → Env
+env_after (typed k e) = e
+env_after (fault at r) = []
+
 abbrev pub then_typed : Outcome → (Kind → Env → Outcome) → Outcome
 then_typed (typed k e) go = go k e
 then_typed (fault at r) go = fault at r
@@ -62,6 +67,11 @@ unless false at r rest = rest
 abbrev pub given : {A : Type 0} → ℕ → Reason → Option A → (A → Outcome) → Outcome
 given at r None go = fault at r
 given at r (Some x) go = go x
+
+-- what is found is whole and of a type that moves
+abbrev pub is_moved : Found → Bool
+is_moved (found (whole k)) = not (copies k)
+is_moved f = false
 
 abbrev pub with_slot : ℕ → Option ℕ → (ℕ → Outcome) → Outcome
 with_slot at None go = fault at UnknownName

@@ -5,13 +5,13 @@ use Rattle.fr_terms.specs.Terms.{Captured, Spot, Term}
 use Rattle.fr_typing.specs.Kinds.{Owned, unit, Kind, own, shared, mutable, view, whole, copies, map_some}
 use Rattle.fr_typing.specs.Places.{Env, found, type_at, slot_of, heap_type}
 use Rattle.fr_typing.specs.Checks.{place_of}
-use Rattle.fr_typing.specs.Finding.{typed, Has}
-use Rattle.fr_typing.specs.Captures.{Capturer, by_spawn, by_par, spot_of, captured_kind, captured_slot, MayPass, Captures, captures_copy, captures_move, CapturesAll, captures_none, captures_next}
-use Rattle.fr_typing.specs.Typing.{Types}
+use Rattle.fr_typing.specs.Finding.{typed, env_after, is_moved, Has}
+use Rattle.fr_typing.specs.Captures.{Capturer, by_spawn, by_par, spot_of, env_left, env_new, env_left_by_all, env_of_all, captured_kind, captured_slot, MayPass, Captures, captures_copy, captures_move, CapturesAll, captures_none, captures_next}
+use Rattle.fr_typing.specs.Typing.{Types, typing}
 use Rattle.fr_typing.proofs.Agree.{typing_by}
 use Rattle.fr_typing.proofs.CaptureLemmas.{capture_by, capture_all_by}
 use Rattle.fr_plain.specs.Run.{Capture}
-use Rattle.fr_plain.specs.Resolve.{env_of, env_after, named, moves, found_moves, or_zero, env_left, env_new, env_left_of, env_of_all, captures}
+use Rattle.fr_plain.specs.Resolve.{named, moves, or_zero, captures}
 use Rattle.fr_code.specs.CodeTypes.{SlotPasses, passes, SlotsPass, pass_none, pass_next}
 use Rattle.fr_code.specs.Steps.{captured}
 
@@ -23,11 +23,11 @@ named_is e w h = ap (λ o. place_of w (or_zero o)) h
 
 -- whether a read moves, by the type that is found
 pub moves_is : {e : Env} {w : Spot} {s : ℕ} {k : Kind} → Has e w s (found (whole k)) → moves e w ≡ not (copies k)
-moves_is {e = e} {w = w} h = ap (λ p. found_moves (type_at e p)) (named_is e w h.named) ∙ ap found_moves h.is
+moves_is {e = e} {w = w} h = ap (λ p. is_moved (type_at e p)) (named_is e w h.named) ∙ ap is_moved h.is
 
 -- the environment that typing computes is that of the relation
-pub after_is : {e e1 : Env} {t : Term} {k : Kind} → Types e t k e1 → env_after t e ≡ e1
-after_is t = ap env_of (typing_by t)
+pub after_is : {e e1 : Env} {t : Term} {k : Kind} → Types e t k e1 → env_after (typing t e) ≡ e1
+after_is t = ap env_after (typing_by t)
 
 -- CAPTURES
 
@@ -65,8 +65,8 @@ slots_pass [] captures_none same = pass_none
 slots_pass (x ∷ xs) captures_none same = absurd cc
 slots_pass [] (captures_next h hs) same = absurd cc
 slots_pass ((i, take) ∷ xs) (captures_next {by = by} {e = e} {n = n} {e1 = e1} {n1 = n1} {c = c} {cs = cs} h hs) same =
-    let left : env_left by e n c ≡ e1 = ap env_of (capture_by (λ e1 n1. typed (own unit) e1) h) in
-    let new : env_new by e n c ≡ n1 = ap env_of (capture_by (λ e1 n1. typed (own unit) n1) h) in
+    let left : env_left by e n c ≡ e1 = ap env_after (capture_by (λ e1 n1. typed (own unit) e1) h) in
+    let new : env_new by e n c ≡ n1 = ap env_after (capture_by (λ e1 n1. typed (own unit) n1) h) in
     let both = cons_is same in
     let at = ap (λ (x : Capture). x.slot) both.0 in
     let is = ap (λ (x : Capture). x.take) both.0 in
@@ -75,7 +75,7 @@ slots_pass ((i, take) ∷ xs) (captures_next {by = by} {e = e} {n = n} {e1 = e1}
 
 -- the new environment, and what is left
 pub new_is : {by : Capturer} {e e1 n : Env} {cs : List Captured} → CapturesAll by e [] cs e1 n → env_of_all by e cs ≡ n
-new_is c = ap env_of (capture_all_by (λ e1 n1. typed (own unit) n1) c)
+new_is c = ap env_after (capture_all_by (λ e1 n1. typed (own unit) n1) c)
 
-pub left_is : {by : Capturer} {e e1 n : Env} {cs : List Captured} → CapturesAll by e [] cs e1 n → env_left_of by e cs ≡ e1
-left_is c = ap env_of (capture_all_by (λ e1 n1. typed (own unit) e1) c)
+pub left_is : {by : Capturer} {e e1 n : Env} {cs : List Captured} → CapturesAll by e [] cs e1 n → env_left_by_all by e cs ≡ e1
+left_is c = ap env_after (capture_all_by (λ e1 n1. typed (own unit) e1) c)

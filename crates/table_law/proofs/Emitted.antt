@@ -12,11 +12,11 @@ use Rattle.fr_terms.specs.Limits.{IsShort, HasShortPlaces, HaveShortPlaces}
 use Rattle.fr_typing.specs.Kinds.{Owned, unit, int, box, mutex, task, Kind, own, shared, mutable, view, whole}
 use Rattle.fr_typing.specs.Places.{Env, Found, found}
 use Rattle.fr_typing.specs.Checks.{place_of, is_int, is_unit, is_owned, names_from, keep, with_lock, has_content}
-use Rattle.fr_typing.specs.Finding.{Has}
-use Rattle.fr_typing.specs.Captures.{by_par, CapturesBoth}
-use Rattle.fr_typing.specs.Typing.{Types, types_number, types_unit, types_copy, types_move, types_borrow, types_borrow_mut, types_box, types_mutex, types_arith, types_print, types_let, types_assign, types_block, types_join, types_dup, types_lock, types_spawn, types_par, TypesItems, types_none, types_item}
+use Rattle.fr_typing.specs.Finding.{env_after, Has}
+use Rattle.fr_typing.specs.Captures.{by_par, env_left_by_all, env_of_all, CapturesBoth}
+use Rattle.fr_typing.specs.Typing.{typing, Types, types_number, types_unit, types_copy, types_move, types_borrow, types_borrow_mut, types_box, types_mutex, types_arith, types_print, types_let, types_assign, types_block, types_join, types_dup, types_lock, types_spawn, types_par, TypesItems, types_none, types_item}
 use Rattle.fr_plain.specs.Run.{Run}
-use Rattle.fr_plain.specs.Resolve.{env_after, named, lets_in, body_of, dropping, env_locked, env_left_of, env_of_all, captures, resolve, resolve_items}
+use Rattle.fr_plain.specs.Resolve.{named, lets_in, body_of, dropping, env_locked, captures, resolve, resolve_items}
 use Rattle.fr_code.specs.CodeTypes.{going, HasType, Table, wait, is_locked, Takes, InstrTypes, i_let, i_assign, i_copy, i_move, i_borrow, i_borrow_mut, i_box, i_arith, i_print, i_discard, i_spawn, i_join, i_mutex, i_dup, i_lock, i_unlock, i_par, i_par_end}
 use Rattle.fr_code.specs.StandsFor.{operand_of, operand_of_last, Discards, DropsAt, Ends, Unlocks, At, AtParts}
 use Rattle.table_law.specs.Layout.{bodies_of}
@@ -158,7 +158,7 @@ module _ (code : List Instr) where
   as_unit : {p q : ℕ} {e f : Env} {ts : List Kind} {g : Owned} {o : Operand} (k : Kind) → is_unit k ≡ true → Emits code p e ts g q f o k → Emits code p e ts g q f o (own unit)
   as_unit {p = p} {q = q} {e = e} {f = f} {ts = ts} {g = g} {o = o} k i v = subst (λ z. Emits code p e ts g q f o z) (unit_is k i) v
 
-  new_of_left : {e n m e2 : Env} {cs ds : List Captured} → CapturesBoth e cs ds n m e2 → env_of_all by_par (env_left_of by_par e cs) ds ≡ m
+  new_of_left : {e n m e2 : Env} {cs ds : List Captured} → CapturesBoth e cs ds n m e2 → env_of_all by_par (env_left_by_all by_par e cs) ds ≡ m
   new_of_left {ds = ds} c = ap (λ f. env_of_all by_par f ds) (left_is c.first) ∙ new_is c.second
 
   mutual
@@ -189,7 +189,7 @@ module _ (code : List Instr) where
         let right = subst (λ f. At code h.0 (resolve b f) h.1 → Emits code h.0 e1 (push x (own int) ts) g h.1 e2 (operand_of (resolve b f)) j) (sym (after_is y))
         (emits b short.1 z (grown_open (grown y) l) h.0 h.1 (push x (own int) ts) g (push_waits x ts w)) h.3 in
         let both = as_int j m right in
-        record { line = then_line left.line (then_line both.line (one (instr.Arith op x (operand_of (resolve b (env_after a e)))) h.4 refl (λ table. i_arith (taken (push x (own int) ts) both.value (push_waits x ts w)) (taken ts left.value w)) h.5)); value = gives_pop }
+        record { line = then_line left.line (then_line both.line (one (instr.Arith op x (operand_of (resolve b (env_after (typing a e))))) h.4 refl (λ table. i_arith (taken (push x (own int) ts) both.value (push_waits x ts w)) (taken ts left.value w)) h.5)); value = gives_pop }
     emits (dup_t at v) short (types_dup {e = e} {s = s} f) l p q ts g w h =
         loud (instr.Dup (place_of v s)) (h.0 ∙ ap (λ z. Some (instr.Dup z)) (named_is e v f.is.named)) refl (λ table. i_dup w (has_type short f.is) f.free) h.1
     emits (block_t at us) {e = e} short (types_block {e1 = e1} {k = k} ys n) l p q ts g w h =

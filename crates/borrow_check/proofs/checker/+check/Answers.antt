@@ -7,8 +7,8 @@ use Rattle.fr_types.specs.declared.types.Ty.{Ty}
 use Rattle.fr_types.specs.Types.{kind_of}
 use Rattle.fr_types.specs.States.{env_of}
 use Rattle.fr_typing.specs.Rules.{par_rule}
-use Rattle.fr_typing.specs.Captures.{by_spawn, by_par}
-use Rattle.borrow_check.specs.Usages.{usage_of, env_left_by_all, capture_usages, usages_of}
+use Rattle.fr_typing.specs.Captures.{by_spawn, by_par, env_left_by_all}
+use Rattle.borrow_check.specs.Usages.{usage_of, capture_usages, usages_of}
 use Rattle.borrow_check.proofs.ScopeLemmas.{length-env_of}
 use Rattle.borrow_check.proofs.UsageLemmas.{length-write, written_long}
 use Rattle.borrow_check.proofs.RuleLemmas.{on_ok_map}

@@ -5,7 +5,8 @@ use Rattle.fr_base.specs.declared.instruction.Instr.{Instr}
 use Rattle.fr_base.specs.declared.instruction.Instr.TheVariants as instr
 use Rattle.fr_plain.specs.Run.{Capture, spawn, last, Run, number, unit_c, read, borrow, box_r, join_r, bind, print, assign, block}
 use Rattle.fr_meaning.specs.declared.forms.Form.{Form}
-use Rattle.fr_meaning.specs.FormTerms.{term_of, parts_of, captures_of, captures_in, AllBelow}
+use Rattle.fr_meaning.specs.FormTerms.{term_of, parts_of, captures_of, captures_in}
+use Rattle.fr_syntax.specs.Meanings.{AllBelow}
 use Rattle.fr_meaning.proofs.FormLemmas.{form_term, form_below, get_or-any, all_dropped}
 use Rattle.fr_code.specs.StandsFor.{borrowing}
 use Rattle.fr_compile.specs.Emitting.{IsEmitted, ArePartsEmitted}
