@@ -10,8 +10,6 @@ mod heap_place;
 mod nodes;
 mod rules;
 mod spare;
-#[cfg(test)]
-mod tests;
 mod usage;
 mod written;
 

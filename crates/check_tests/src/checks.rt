@@ -1,10 +1,9 @@
-//! Checks of small trees.
+//! Checks of small trees: what is typed, and the first fault.
 
 ghost use Rattle.std.specs.Prelude.{IfOk};
 ghost use Rattle.borrow_check.specs.Programs.{IsCheckable};
 
-use crate::check_error::CheckError;
-use crate::checked::check;
+use borrow_check::{CheckError, check};
 use fr_base::{Lval, NoMemory, Op};
 use fr_syntax::{Nodes, Term, Tree};
 use fr_typing::Reason;
