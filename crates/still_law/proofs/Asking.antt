@@ -1,7 +1,6 @@
 -- A join that asks for its result changes what its thread waits for, and nothing that is shown.
-use Rattle.std.proofs.Common.{◌≡◌, ℕ, ◌+◌, Bool, true, false, List, [], ◌∷◌, ◌++◌, Option, Some, None, refl, sym, ap, subst, ◌∙◌, arith}
+use Rattle.std.proofs.Common.{◌≡◌, ℕ, Bool, true, false, [], Option, Some, None, refl, sym, subst, ◌∙◌, arith}
 use Rattle.std.specs.Prelude.{slice_get, option_map}
-use Rattle.fr_base.specs.declared.instruction.Instr.{Instr}
 use Rattle.fr_base.specs.declared.instruction.Instr.TheVariants as instr
 use Rattle.fr_base.specs.declared.instruction.Operand.{Operand}
 use Rattle.thread_state.specs.View.{ThreadState}
@@ -12,9 +11,9 @@ use Rattle.server_model.specs.declared.event.What.TheVariants.{Step}
 use Rattle.server_model.specs.Servers.{Server, Cluster, server_at}
 use Rattle.server_model.specs.Work.{Hand, then_some, pop, task_of, thread_in, put_back}
 use Rattle.server_model.specs.Drop.{home_of}
-use Rattle.server_model.specs.Commit.{Committed, waiting, ask_join, join}
-use Rattle.server_model.specs.Events.{can_step, has_phase, begin_work, begin_at, left_by, Stepped, committed, wait_step, step, step_in, stepped, enabled, does}
-use Rattle.heap_law.specs.Names.{tot, other}
+use Rattle.server_model.specs.Commit.{waiting, ask_join, join}
+use Rattle.server_model.specs.Events.{can_step, has_phase, begin_work, begin_at, committed, wait_step, step, step_in, stepped, enabled, does}
+use Rattle.heap_law.specs.Names.{other}
 use Rattle.heap_law.specs.Things.{Thing, thread_things}
 use Rattle.heap_law.specs.Sight.{sight}
 use Rattle.heap_law.specs.Requests.{is_par, is_par_end, same_truth, par_end}
@@ -24,7 +23,7 @@ use Rattle.event_law.proofs.Trades.{tot-append}
 use Rattle.event_law.proofs.Bags.{rest_things, of_sending, sent_number}
 use Rattle.event_law.proofs.ThreadThere.{thread_there}
 use Rattle.event_law.proofs.StandsHere.{found_none}
-use Rattle.still_law.specs.Shows.{Sign, nothing, sign_of}
+use Rattle.still_law.specs.Shows.{sign_of}
 use Rattle.still_law.specs.Laws.{JoinsThatAsk}
 use Rattle.still_law.proofs.Sites.{begins, ends, ServerStill, leaves_heap}
 use Rattle.still_law.proofs.Arrivals.{thread_parts}

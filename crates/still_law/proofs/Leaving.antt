@@ -38,10 +38,10 @@ address_unseen v z n limit w = by (nat_lt (colour_of w + 1) limit)
     by false = z
 
 module _ (k : Cluster) (sound : IsSound k) (number : ℕ) (s : Server) (here : server_at k.servers number ≡ Some s) where
-  abbrev others : List Thing
+  abbrev pub others : List Thing
   others = all_standing s.rest.number s.threads ++ servers_things (others_of k.servers number)
 
-  placed_here : Placed (rest_things s.rest.number s.events s.rest ++ others)
+  pub placed_here : Placed (rest_things s.rest.number s.events s.rest ++ others)
   placed_here =
       let sums = sound_has_sums k sound in
       record { one_state = λ a. omega (arith, sums.one_state a, same (states a), same (below a)); servers_differ = λ n. omega (arith, sums.servers_differ n, same (is_server n)) }

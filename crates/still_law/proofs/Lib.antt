@@ -10,5 +10,6 @@ pub mod Arrivals
 pub mod Requests
 pub mod Hands
 pub mod Leaving
+pub mod Coming
 pub mod StillKinds
 pub mod Asking

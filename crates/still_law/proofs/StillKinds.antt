@@ -13,7 +13,7 @@ use Rattle.server_model.specs.Servers.{Server, Cluster, server_at}
 use Rattle.server_model.specs.Work.{thread_in, then_some}
 use Rattle.server_model.specs.Events.{does}
 use Rattle.heap_law.specs.Coherent.{IsSound}
-use Rattle.event_law.specs.Kinds.{Kind, evicts, migrates, starts, arrives, fetch, fetched, moving, asks_lock, asks_dup, asks_join, message_kind, instr_kind, kind_at}
+use Rattle.event_law.specs.Kinds.{Kind, evicts, migrates, starts, arrives, fetch, fetched, moving, moved, asks_lock, asks_dup, asks_join, message_kind, instr_kind, kind_at}
 use Rattle.event_law.specs.Laws.{Gives}
 use Rattle.still_law.specs.Laws.{LeaveHeap}
 use Rattle.still_law.proofs.Sites.{ServerStill, leaves_heap}
@@ -22,6 +22,7 @@ use Rattle.still_law.proofs.Evictions.{evictions}
 use Rattle.still_law.proofs.Arrivals.{starts as new_threads, parcels, migrations}
 use Rattle.still_law.proofs.Hands.{copies}
 use Rattle.still_law.proofs.Leaving.{moves}
+use Rattle.still_law.proofs.Coming.{objects_come}
 use Rattle.still_law.proofs.Requests.{fetches, locks, dups, joins}
 
 abbrev pub IsStill : Kind → Type 0
@@ -32,6 +33,7 @@ IsStill arrives = ⊤
 IsStill fetch = ⊤
 IsStill fetched = ⊤
 IsStill moving = ⊤
+IsStill moved = ⊤
 IsStill asks_lock = ⊤
 IsStill asks_dup = ⊤
 IsStill asks_join = ⊤
@@ -72,7 +74,7 @@ module _ (k : Cluster) (sound : IsSound k) (number : ℕ) (s : Server) (here : s
   message_still i (message.Migrate t) q p = parcels k s i t q
   message_still i (message.Fetched w c t) q p = copies k s i w c t q
   message_still i (message.Move w o a t) q p = moves k sound number s here i w o a t q
-  message_still i (message.Moved w c t) q p = absurd p
+  message_still i (message.Moved w c t) q p = objects_come k sound number s here i w c t q
   message_still i (message.Drop w o) q p = absurd p
   message_still i (message.Lock m a t) q p = locks k s i m a t q
   message_still i (message.Granted m v t) q p = absurd p

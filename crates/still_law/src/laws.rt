@@ -1,6 +1,6 @@
 //! Laws of events without a plain step.
 
-ghost use Rattle.event_law.specs.Kinds.{arrives, asks_dup, asks_join, asks_lock, evicts, fetch, fetched, migrates, moving, starts};
+ghost use Rattle.event_law.specs.Kinds.{arrives, asks_dup, asks_join, asks_lock, evicts, fetch, fetched, migrates, moved, moving, starts};
 ghost use Rattle.still_law.specs.Laws.{AlikeStandForOne, JoinsThatAsk, LeaveHeap};
 
 /// Where all that is shown of things is the same, the one heap is: no word, copy, use, address, message, pin or server counts.
@@ -8,7 +8,7 @@ pub fn alike_stand_for_one()
     ensures { AlikeStandForOne }
 {}
 
-/// An eviction, a migration, and the delivery of a new thread, of a parcel, of a copy and of what asks for a copy, for an object, for a mutex's content or a
+/// An eviction, a migration, and the delivery of a new thread, of a parcel, of a copy, of an object and of what asks for a copy, for an object, for a mutex's content or a
 /// share of it, or for a result, leave the one heap as it was, their messages handed over.
 pub fn events_leave_heap()
     ensures evictions { LeaveHeap evicts }
@@ -18,6 +18,7 @@ pub fn events_leave_heap()
     ensures fetches { LeaveHeap fetch }
     ensures copies { LeaveHeap fetched }
     ensures moves { LeaveHeap moving }
+    ensures objects { LeaveHeap moved }
     ensures locks { LeaveHeap asks_lock }
     ensures dups { LeaveHeap asks_dup }
     ensures joins { LeaveHeap asks_join }

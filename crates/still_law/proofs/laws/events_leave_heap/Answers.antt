@@ -1,4 +1,4 @@
-use Rattle.event_law.specs.Kinds.{evicts, migrates, starts, arrives, fetch, fetched, moving, asks_lock, asks_dup, asks_join}
+use Rattle.event_law.specs.Kinds.{evicts, migrates, starts, arrives, fetch, fetched, moving, moved, asks_lock, asks_dup, asks_join}
 use Rattle.still_law.proofs.laws.events_leave_heap.Goals as goal
 use Rattle.still_law.proofs.StillKinds.{kind_leaves}
 
@@ -11,6 +11,7 @@ returns c = record {
   fetches = kind_leaves fetch tt;
   copies = kind_leaves fetched tt;
   moves = kind_leaves moving tt;
+  objects = kind_leaves moved tt;
   locks = kind_leaves asks_lock tt;
   dups = kind_leaves asks_dup tt;
   joins = kind_leaves asks_join tt;
