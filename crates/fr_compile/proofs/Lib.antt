@@ -3,6 +3,8 @@ pub mod Bodies
 pub mod Captured
 pub mod Owed
 pub mod Codes
+pub mod Laid
 pub mod Queue
 pub mod Forms
 pub mod Few
+pub mod CheckedCode

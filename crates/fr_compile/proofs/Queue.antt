@@ -15,11 +15,13 @@ use Rattle.fr_meaning.specs.FormTerms.{term_of}
 use Rattle.fr_code.specs.Steps.{captured}
 use Rattle.fr_code.specs.StandsFor.{IsSource, At, IsCodeOf}
 use Rattle.fr_compile.specs.declared.body.Body.{Body}
-use Rattle.fr_compile.specs.Bodies.{is_hole, BodiesRise, IsHole, AreHoles, AreStarted, thread_steps, all_steps}
-use Rattle.fr_compile.specs.Emitting.{Agrees, IsHoleOf, AreOwed, IsEmitted, IsStarted}
+use Rattle.fr_compile.specs.Bodies.{is_hole, IsHole, AreHoles, AreStarted, thread_steps, all_steps}
+use Rattle.fr_compile.specs.Emitting.{Agrees, starts_thread, IsHoleOf, IsOwed, AreOwed, EndsLast, IsEmitted, IsStarted}
+use Rattle.table_law.specs.Layout.{IsLaidOut}
+use Rattle.fr_compile.proofs.Laid.{IsSpawn, HasEnd, to_zero, InOrder, is_laid_out}
 use Rattle.fr_compile.proofs.Owed.{one_starts, owed_append, hole_first, hole_second, hole_either, past}
 use Rattle.fr_compile.proofs.Bodies.{from_next, none_left, holes_from, holes_kept, holes_join, started_first, started_last, steps_join}
-use Rattle.fr_compile.proofs.Codes.{grows_append, grows_on, part_agrees, pushed_at, pushed_len}
+use Rattle.fr_compile.proofs.Codes.{append_at, grows_append, grows_on, part_agrees, pushed_at, pushed_len}
 
 -- ANOTHER INSTRUCTION AT A PLACE
 
@@ -61,13 +63,6 @@ same_place e f = let g : Some (instr.Spawn _ _) ≡ Some (instr.Spawn _ _) = sym
 
 -- A THREAD
 
--- each instruction that starts a thread without a place is left; those with a place come before, and their bodies rise
-pub record InOrder (code : List Instr) (left : List Body) : Type 0 where
-  pub complete : (k : ℕ) (xs : WithRoom (ℕ × Bool)) → slice_get code k ≡ Some (instr.Spawn xs 0) → IsHoleOf k left
-  pub inside : (p : ℕ) (xs : WithRoom (ℕ × Bool)) (m : ℕ) → slice_get code p ≡ Some (instr.Spawn xs (suc m)) → suc m < length code
-  pub before : (p : ℕ) (xs : WithRoom (ℕ × Bool)) (m : ℕ) → slice_get code p ≡ Some (instr.Spawn xs (suc m)) → (k : ℕ) → IsHoleOf k left → p < k
-  pub rising : (p q : ℕ) (xs ys : WithRoom (ℕ × Bool)) (m n : ℕ) → p < q → slice_get code p ≡ Some (instr.Spawn xs (suc m)) → slice_get code q ≡ Some (instr.Spawn ys (suc n)) → m < n
-
 -- where an instruction that starts a thread comes from, once one more thread has its code: it is new, the one of that thread, or was there
 pub data Comes (a : List Instr) (hole : ℕ) (owed : List Body) (p : ℕ) (xs : WithRoom (ℕ × Bool)) (to : ℕ) : Type 0 where
   is_new : length a ≤ p → to ≡ 0 → IsHoleOf p owed → Comes a hole owed p xs to
@@ -86,19 +81,23 @@ pub record Waits (fs : List Form) (code : List Instr) (left : List Body) (r : Ru
   pub order : InOrder code left
 
 -- behind main's code no instruction that starts a thread has a place yet
-main_order : (f : List Instr) (cs : List Body) → AreOwed f 0 cs → InOrder f cs
-main_order f cs owed = record {
-  complete = λ k xs h. (owed k xs 0 (omega arith) h).1;
-  inside = λ p xs m h. not_both refl ((owed p xs (suc m) (omega arith) h).0);
-  before = λ p xs m h k q. not_both refl ((owed p xs (suc m) (omega arith) h).0);
-  rising = λ p q xs ys m n lt g h. not_both refl ((owed p xs (suc m) (omega arith) g).0);
+main_order : (f : List Instr) (cs : List Body) → AreOwed f 0 cs → EndsLast f → InOrder f cs
+main_order f cs owed last = record {
+  complete = λ k xs h. (owed k (instr.Spawn xs 0) (omega arith) h refl).hole;
+  inside = λ p xs m h. no_place p xs m h;
+  before = λ p xs m h k q. no_place p xs m h;
+  rising = λ p q xs ys m n lt g h. no_place p xs m g;
+  single = λ k i h st. (let q = owed k i (omega arith) h st in record { captures = q.captures; to = 0; is = q.is });
+  behind = λ p xs m h. no_place p xs m h;
+  last = last;
 }
+  where
+    no_place : {A : Type 0} (p : ℕ) (xs : WithRoom (ℕ × Bool)) (m : ℕ) → slice_get f p ≡ Some (instr.Spawn xs (suc m)) → A
+    no_place p xs m h = not_both refl (to_zero (owed p (instr.Spawn xs (suc m)) (omega arith) h refl).is)
 
--- with no body left the bodies rise
-rise : (a : List Instr) → InOrder a [] → BodiesRise a
-rise a w p q xs ys zero n lt g h = absurd (w.complete p xs g)
-rise a w p q xs ys (suc m) zero lt g h = absurd (w.complete q ys h)
-rise a w p q xs ys (suc m) (suc n) lt g h = let l = w.rising p q xs ys m n lt g h in omega (arith, l)
+-- an end was added
+ends_last : (c f : List Instr) (o : Operand) → f ≡ c ++ instr.End o ∷ [] → EndsLast f
+ends_last c f o e = record { at = length c; result = o; there = subst (λ z. slice_get z (length c) ≡ Some (instr.End o)) (sym e) (append_at c (instr.End o) []); next = pushed_len c f (instr.End o) e }
 
 module _ (fs : List Form) where
   -- a thread whose code was added at the end, and whose place stands in the instruction that starts it
@@ -122,7 +121,9 @@ module _ (fs : List Form) where
         holes = holes_kept fs c f n (length c) (length f) em.owed (λ k i lo. g.same k i) g.longer (subst (λ m. AreHoles fs c m em.owed (length c)) len em.holes);
         steps = omega (arith, len, one, em.steps, ap thread_steps is);
         new = owed_append c (instr.End v ∷ []) f n em.owed end (one_starts (instr.End v) refl) (subst (λ m. AreOwed c m em.owed) len em.new);
-        placed = λ ys to q. same_place (gb.same e.hole (instr.Spawn xs n) (subst (λ z. slice_get z e.hole ≡ Some (instr.Spawn xs n)) (sym same) (set_there a e.hole (instr.Spawn xs n) (instr.Spawn xs 0) h.there))) q;
+        captures = xs;
+        placed = there;
+        last = ends_last c f v end;
         at = λ d ag st. subst (λ s. At d e.hole s (e.hole + 1)) (sym is) (
           xs,
           n,
@@ -153,7 +154,7 @@ module _ (fs : List Form) where
           over = pushed_at c f b (instr.End o) 0 e refl (omega arith) ag ∙ ap (λ z. Some (instr.End z)) h.operand;
           source = src;
         };
-        order = main_order f cs (subst (AreOwed f 0) (sym owed) (owed_append c (instr.End o ∷ []) f 0 h.owed e (one_starts (instr.End o) refl) (subst (λ m. AreOwed c m h.owed) empty h.new)));
+        order = main_order f cs (subst (AreOwed f 0) (sym owed) (owed_append c (instr.End o ∷ []) f 0 h.owed e (one_starts (instr.End o) refl) (subst (λ m. AreOwed c m h.owed) empty h.new))) (ends_last c f o e);
       }
 
   -- WHERE THE INSTRUCTIONS THAT START THREADS STAND
@@ -162,12 +163,12 @@ module _ (fs : List Form) where
   comes a f e bs cs p xs to s h = by (slice_get a p) refl
     where
       later : length a ≤ p → Comes a e.hole s.owed p xs to
-      later le = let q = s.new p xs to le h in is_new le q.0 q.1
+      later le = let q = s.new p (instr.Spawn xs to) le h refl in is_new le (to_zero q.is) q.hole
 
       by : (o : Option Instr) → slice_get a p ≡ o → Comes a e.hole s.owed p xs to
       by None q = later (past a p q)
       by (Some j) q = eq_cases (λ b. Comes a e.hole s.owed p xs to) p e.hole
-          (λ same. is_started same (s.placed xs to (ap (slice_get f) (sym same) ∙ h)))
+          (λ same. is_started same (same_place s.placed (ap (slice_get f) (sym same) ∙ h)))
           (λ ne. was_there ne (q ∙ (sym (s.kept p j ne q) ∙ h)))
 
   holes_after : (code : List Instr) (n : ℕ) (bs : List Body) (m k : ℕ) → AreHoles fs code n bs m → IsHoleOf k bs → n ≤ k
@@ -181,8 +182,34 @@ module _ (fs : List Form) where
     inside = λ p xs m h. inside p xs m (comes a f e bs cs p xs (suc m) s h);
     before = λ p xs m h k q. before p xs m k (comes a f e bs cs p xs (suc m) s h) (hole_either k left s.owed q);
     rising = λ p q xs ys m n lt g h. rising p q xs ys m n lt (comes a f e bs cs p xs (suc m) s g) (comes a f e bs cs q ys (suc n) s h);
+    single = λ k i h st. single k i h st (slice_get a k) refl;
+    behind = λ p xs m h. behind p xs m (comes a f e bs cs p xs (suc m) s h);
+    last = s.last;
   }
     where
+      same_head : {i j : Instr} {o : Option Instr} → o ≡ Some i → o ≡ Some j → i ≡ j
+      same_head p q = let z : Some _ ≡ Some _ = sym p ∙ q in cc
+
+      single : (k : ℕ) (i : Instr) → slice_get f k ≡ Some i → starts_thread i ≡ true → (o : Option Instr) → slice_get a k ≡ o → IsSpawn i
+      single k i h st None q = let z = s.new k i (past a k q) h st in record { captures = z.captures; to = 0; is = z.is }
+      single k i h st (Some j) q = eq_cases (λ b. IsSpawn i) k e.hole
+          (λ same. record { captures = s.captures; to = length a; is = same_head (ap (slice_get f) (sym same) ∙ h) s.placed })
+          (λ ne. w.single k i (q ∙ ap Some (same_head (s.kept k j ne q) h)) st)
+
+      end_no_hole : (m : ℕ) (o : Operand) → slice_get a m ≡ Some (instr.End o) → m ≢ e.hole
+      end_no_hole m o h q = let z : instr.End o ≡ instr.Spawn holes.1.captures 0 = same_head h (ap (slice_get a) q ∙ holes.1.there) in absurd cc
+
+      kept_end : (m : ℕ) → HasEnd a m → HasEnd f m
+      kept_end m x = record { result = x.result; there = s.kept m (instr.End x.result) (end_no_hole m x.result x.there) x.there }
+
+      behind : (p : ℕ) (xs : WithRoom (ℕ × Bool)) (m : ℕ) → Comes a e.hole s.owed p xs (suc m) → HasEnd f m
+      behind p xs m (is_new le z q) = absurd cc
+      behind p xs m (is_started same to) =
+          let next = w.last.next in
+          let at : w.last.at ≡ m = omega (arith, next, to) in
+          kept_end m (record { result = w.last.result; there = subst (λ k. slice_get a k ≡ Some (instr.End w.last.result)) at w.last.there })
+      behind p xs m (was_there ne h) = kept_end m (w.behind p xs m h)
+
       hole_there : e.hole < length a
       hole_there = slice_get_within a e.hole (instr.Spawn holes.1.captures 0) holes.1.there
 
@@ -257,6 +284,6 @@ module _ (fs : List Form) where
   pub all_counted : (a : List Instr) (bs : List Body) (k : ℕ) (r : Run) → length bs ≤ k → Waits fs a (drop k bs) r → length a ≡ steps_left r + 1
   all_counted a bs k r le w = let size = (subst (λ z. Waits fs a z r) (none_left bs k le) w).size in omega (arith, size)
 
-  -- the bodies rise
-  pub all_rise : (a : List Instr) (bs : List Body) (k : ℕ) (r : Run) → length bs ≤ k → Waits fs a (drop k bs) r → BodiesRise a
-  all_rise a bs k r le w = rise a ((subst (λ z. Waits fs a z r) (none_left bs k le) w).order)
+  -- its threads' codes stand one behind another
+  pub all_laid : (a : List Instr) (bs : List Body) (k : ℕ) (r : Run) → length bs ≤ k → Waits fs a (drop k bs) r → IsLaidOut a
+  all_laid a bs k r le w = is_laid_out a ((subst (λ z. Waits fs a z r) (none_left bs k le) w).order)

@@ -42,7 +42,3 @@ thread_steps _ = 0
 abbrev pub all_steps : List Form → List Body → ℕ
 all_steps forms [] = 0
 all_steps forms (b ∷ bs) = thread_steps (term_of forms b.form) + all_steps forms bs
-
--- of two instructions that start threads the later one has its body later
-abbrev pub BodiesRise : List Instr → Type 0
-BodiesRise code = (p q : ℕ) (xs ys : WithRoom (ℕ × Bool)) (m n : ℕ) → p < q → slice_get code p ≡ Some (instr.Spawn xs m) → slice_get code q ≡ Some (instr.Spawn ys n) → m < n

@@ -17,9 +17,10 @@ use Rattle.fr_compile.specs.Bodies.{is_hole, AreHoles, AreStarted, thread_steps,
 abbrev pub Agrees : List Instr → List Instr → ℕ → ℕ → Type 0
 Agrees a b p q = (k : ℕ) (i : Instr) → p ≤ k → k < q → slice_get a k ≡ Some i → is_hole i ≡ false → slice_get b k ≡ Some i
 
--- the instruction starts a thread
+-- the instruction starts threads
 abbrev pub starts_thread : Instr → Bool
 starts_thread (instr.Spawn captures body) = true
+starts_thread (instr.Par captures body others other) = true
 starts_thread _ = false
 
 -- the place is the hole of one of these bodies
@@ -27,9 +28,22 @@ abbrev pub IsHoleOf : ℕ → List Body → Type 0
 IsHoleOf k [] = ⊥
 IsHoleOf k (b ∷ bs) = (b.hole ≡ k) ⊎ IsHoleOf k bs
 
--- from that place on each instruction that starts a thread is the hole of one of these bodies
+-- the instruction at that place starts one thread and is the hole of one of these bodies
+pub record IsOwed (k : ℕ) (i : Instr) (bs : List Body) : Type 0 where
+  pub captures : WithRoom (ℕ × Bool)
+  pub is : i ≡ instr.Spawn captures 0
+  pub hole : IsHoleOf k bs
+
+-- from that place on each instruction that starts threads is the hole of one of these bodies
 abbrev pub AreOwed : List Instr → ℕ → List Body → Type 0
-AreOwed f n bs = (k : ℕ) (xs : WithRoom (ℕ × Bool)) (to : ℕ) → n ≤ k → slice_get f k ≡ Some (instr.Spawn xs to) → (to ≡ 0) × IsHoleOf k bs
+AreOwed f n bs = (k : ℕ) (i : Instr) → n ≤ k → slice_get f k ≡ Some i → starts_thread i ≡ true → IsOwed k i bs
+
+-- the last instruction ends a thread
+pub record EndsLast (f : List Instr) : Type 0 where
+  pub at : ℕ
+  pub result : Operand
+  pub there : slice_get f at ≡ Some (instr.End result)
+  pub next : length f ≡ at + 1
 
 -- nothing that was there is changed
 pub record Grows (a f : List Instr) : Type 0 where
@@ -69,7 +83,9 @@ pub record IsStarted (forms : List Form) (a f : List Instr) (before after : List
   pub holes : AreHoles forms f (length a) owed (length f)
   pub steps : length f + all_steps forms owed ≡ length a + thread_steps (term_of forms started.form)
   pub new : AreOwed f (length a) owed
-  pub placed : (xs : WithRoom (ℕ × Bool)) (to : ℕ) → slice_get f started.hole ≡ Some (instr.Spawn xs to) → to ≡ length a
+  pub captures : WithRoom (ℕ × Bool)
+  pub placed : slice_get f started.hole ≡ Some (instr.Spawn captures (length a))
+  pub last : EndsLast f
   pub at : (b : List Instr) → Agrees f b 0 (length f) → AreStarted forms b owed → At b started.hole (term_of forms started.form) (started.hole + 1)
 
 -- a value before a `;` is given up

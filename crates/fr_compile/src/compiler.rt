@@ -1,12 +1,14 @@
 //! The code of a program.
 
 ghost use Rattle.std.specs.Prelude.{◌≡◌, ◌+◌, length, IfOk};
+ghost use Rattle.fr_typing.specs.Kinds.{Kind};
 ghost use Rattle.fr_typing.specs.Threaded.{IsThreaded};
 ghost use Rattle.fr_syntax.specs.Meanings.{term_of};
 ghost use Rattle.fr_plain.specs.Resolve.{program};
 ghost use Rattle.fr_plain.specs.Run.{steps_left};
 ghost use Rattle.fr_code.specs.StandsFor.{IsCodeOf};
-ghost use Rattle.fr_compile.specs.Bodies.{BodiesRise};
+ghost use Rattle.table_law.specs.Layout.{IsLaidOut};
+ghost use Rattle.table_law.specs.Tables.{HasTable};
 
 use crate::threads::emit_threads;
 use borrow_check::Checked;
@@ -14,12 +16,13 @@ use fr_base::{Code, NoMemory};
 use fr_meaning::forms_of;
 use std::alloc::Global;
 
-/// The code of a checked program: it stands for the program, so it does the program's steps, and it has an instruction for each of these, and one more, and no others. The main thread's code comes first and ends with its `End`; behind it stands the code of each new thread, in the
+/// The code of a checked program: it stands for the program, so it does the program's steps, it has an instruction for each of these, and one more, and no others, and it has a table of types. The main thread's code comes first and ends with its `End`; behind it stands the code of each new thread, in the
 /// order in which the instructions that start them stand in the code. It takes time in the number of nodes and captured names, and stack in the depth of the program, which is at most 64.
 pub fn compile(alloc: Global, checked: &Checked) -> Result<Code, NoMemory>
     requires threaded { IsThreaded (term_of checked.now.arena) }
     ensures code { IfOk result (λ code. IsCodeOf code.items (program (term_of checked.now.arena))) }
-    ensures order { IfOk result (λ code. BodiesRise code.items) }
+    ensures table { IfOk result (λ code. (k : Kind) × HasTable code.items k) }
+    ensures layout { IfOk result (λ code. IsLaidOut code.items) }
     ensures length { IfOk result (λ code. length code.items ≡ steps_left (program (term_of checked.now.arena)) + 1) }
 {
     let forms = forms_of(alloc, checked)?;

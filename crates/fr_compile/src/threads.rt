@@ -4,7 +4,8 @@ ghost use Rattle.std.specs.Prelude.{◌≡◌, ◌+◌, ◌<◌, ◌^◌, length
 ghost use Rattle.fr_plain.specs.Run.{steps_left};
 ghost use Rattle.fr_meaning.specs.FormTerms.{root_of, AreInOrder};
 ghost use Rattle.fr_code.specs.StandsFor.{IsCodeOf};
-ghost use Rattle.fr_compile.specs.Bodies.{BodiesRise, IsHole};
+ghost use Rattle.table_law.specs.Layout.{IsLaidOut};
+ghost use Rattle.fr_compile.specs.Bodies.{IsHole};
 ghost use Rattle.fr_compile.specs.Emitting.{IsStarted};
 
 use crate::body::Body;
@@ -45,7 +46,7 @@ pub fn emit_threads(alloc: Global, forms: &[Form], code: &mut Code) -> Result<()
     requires few { steps_left (root_of forms.now) + 1 < 2 ^ 32 }
     ensures code { OnOk result (IsCodeOf code.new.items (root_of forms.now)) }
     ensures length { OnOk result (length code.new.items ≡ steps_left (root_of forms.now) + 1) }
-    ensures order { OnOk result (BodiesRise code.new.items) }
+    ensures layout { OnOk result (IsLaidOut code.new.items) }
 {
     let mut bodies = Vec::new(alloc);
     let value = emit(alloc, forms, forms.len() - 1, code, &mut bodies)?;

@@ -4,7 +4,7 @@ use Rattle.fr_compile.specs.declared.body.Body.{Body}
 use Rattle.fr_compile.specs.Bodies.{IsHole}
 use Rattle.fr_compile.specs.Emitting.{IsStarted}
 use Rattle.fr_compile.proofs.Sources.{term_source}
-use Rattle.fr_compile.proofs.Queue.{main_waits, next_hole, turn_next, less_left, all_started, all_counted, all_rise}
+use Rattle.fr_compile.proofs.Queue.{main_waits, next_hole, turn_next, less_left, all_started, all_counted, all_laid}
 use Rattle.fr_compile.proofs.threads.emit_threads.Goals as goal
 
 pub bodies-init : goal.bodies-init
@@ -38,5 +38,5 @@ returns-clause-code c = all_started c.args.forms.now c.bodies.code.items c.bodie
 pub returns-clause-length : goal.returns-clause-length
 returns-clause-length c = all_counted c.args.forms.now c.bodies.code.items c.bodies.bodies.items c.bodies.next (root_of c.args.forms.now) (omega (arith, c.len.ensures, c.bodies-test.false)) c.bodies.invariant
 
-pub returns-clause-order : goal.returns-clause-order
-returns-clause-order c = all_rise c.args.forms.now c.bodies.code.items c.bodies.bodies.items c.bodies.next (root_of c.args.forms.now) (omega (arith, c.len.ensures, c.bodies-test.false)) c.bodies.invariant
+pub returns-clause-layout : goal.returns-clause-layout
+returns-clause-layout c = all_laid c.args.forms.now c.bodies.code.items c.bodies.bodies.items c.bodies.next (root_of c.args.forms.now) (omega (arith, c.len.ensures, c.bodies-test.false)) c.bodies.invariant
