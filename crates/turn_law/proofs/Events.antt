@@ -1,0 +1,330 @@
+-- From an instruction's line to the event: it is that plain step on the cluster's one heap.
+use Rattle.std.proofs.Common.{◌≡◌, ℕ, ◌+◌, ◌≤◌, ◌==◌, ◌&&◌, ◌||◌, not, Bool, true, false, if◌then◌else◌, List, [], ◌∷◌, ◌++◌, length, take, drop, Option, Some, None, is_some, option_map, refl, sym, ap, ap₂, ◌∙◌, subst, arith}
+use Rattle.std.specs.Prelude.{slice_get}
+use Rattle.std.proofs.Math.Seq.{drop-length}
+use Rattle.fr_typing.proofs.PlaceLemmas.{eq_cases}
+use Rattle.fr_base.specs.declared.step.Fresh.TheVariants as fresh
+use Rattle.fr_base.specs.declared.instruction.Instr.{Instr}
+use Rattle.fr_plain.specs.PlainState.{SameState, plain_state}
+use Rattle.fr_code.specs.Machine.{CodeState}
+use Rattle.join_home.specs.Tasks.{Task, TaskState, going, let_go, kept, asked, in_pair}
+use Rattle.journal.specs.View.{EntryView}
+use Rattle.server_msgs.specs.declared.message.Message.{Message}
+use Rattle.server_msgs.specs.declared.message.Message.TheVariants as message
+use Rattle.heap_partition.specs.declared.value.Owned.{Owned}
+use Rattle.thread_state.specs.View.{ThreadState, is_over}
+use Rattle.thread_state.specs.declared.phase.Phase.{Phase}
+use Rattle.thread_state.specs.declared.phase.Phase.TheVariants as phase
+use Rattle.server_model.specs.declared.event.Event.{Event}
+use Rattle.server_model.specs.declared.event.What.{What}
+use Rattle.server_model.specs.declared.event.What.TheVariants.{Step, Deliver, Evict, Migrate}
+use Rattle.server_model.specs.Servers.{Rest, Server, Cluster, server_at}
+use Rattle.server_model.specs.Work.{thread_in, set_thread, put_back, then_some}
+use Rattle.server_model.specs.Events.{Stepped, can_step, has_phase, enabled, begin_work, step, step_in, stepped, does}
+use Rattle.server_model.specs.Clusters.{with_server, with_outbox, hand_over_newer, done_at, apply}
+use Rattle.heap_law.specs.Names.{tot, one, other, some, if_so}
+use Rattle.heap_law.specs.Things.{Spot, in_slot, in_temp, as_gift, as_content, as_result, in_hand, Thing, holds, sent, stands, noted, thread_things, server_things, things_of}
+use Rattle.heap_law.specs.Sight.{sight, with_things}
+use Rattle.heap_law.specs.Requests.{home_of, is_par, is_par_end, same_truth, par_end}
+use Rattle.heap_law.specs.Naming.{count_of, threads, started_at, uncounted_thread, zeroth_thread, named_mutexes, uncounted_mutex, zeroth_mutex}
+use Rattle.heap_law.specs.Weights.{is_thread}
+use Rattle.heap_law.specs.OneHeap.{two_in, is_given_thread, running_at, one_heap, state_of}
+use Rattle.heap_law.specs.Coherent.{IsSound}
+use Rattle.event_law.specs.Laws.{Gives, GoTo}
+use Rattle.event_law.proofs.Trades.{tot-append}
+use Rattle.event_law.proofs.Bags.{all_standing, rest_things}
+use Rattle.event_law.proofs.Events.{tot-server}
+use Rattle.event_law.proofs.Handing.{hand_over_newer_law}
+use Rattle.event_law.proofs.GiftsTaken.{none_here, gift_fits}
+use Rattle.event_law.proofs.QuietSteps.{GiftFits}
+use Rattle.event_law.proofs.Results.{then_gives, over_gives, test_gives}
+use Rattle.still_law.specs.Shows.{sign_of, ShowAlike}
+use Rattle.still_law.proofs.Alike.{Once, same_heap}
+use Rattle.still_law.proofs.Arrivals.{cache_shown}
+use Rattle.still_law.proofs.Gifts.{placed, telling, places_told}
+use Rattle.still_law.proofs.Once.{shown_once}
+use Rattle.still_law.proofs.Sites.{begins, ends}
+use Rattle.turn_law.specs.Turns.{StepsTo, IsPlainStep, instr_at, instr_of}
+use Rattle.turn_law.proofs.Parts.{Own}
+use Rattle.turn_law.proofs.OneTurn.{Calm, of_thread, tot_it, after, TurnOf, turn_of, once_too}
+use Rattle.turn_law.proofs.PlainTurn.{turned}
+use Rattle.turn_law.proofs.Instructions.{Turn}
+use Rattle.turn_law.proofs.Within.{Within, with_turn, servers_within}
+
+-- NOTHING ELSE IS OF THE THREAD
+
+abbrev nought : {A : Type 0} → A → ℕ
+nought x = 0
+
+abbrev gift_at : ℕ → ℕ → ℕ
+gift_at t u = one (u == t)
+
+abbrev placed_at : ℕ → Thing → ℕ
+placed_at t = placed nought nought (gift_at t)
+
+abbrev told_at : ℕ → Thing → ℕ
+told_at t = telling nought nought (gift_at t)
+
+so_at_most : (q : Bool) (n : ℕ) → if_so q n ≤ n
+so_at_most true n = omega arith
+so_at_most false n = omega arith
+
+unkept : (t : ℕ) (r : Task) (n : ℕ) → told_at t (noted n r) ≡ 0
+unkept t r n = by r.state
+  where
+    by : (x : TaskState) → told_at t (noted n (record { thread = r.thread; state = x })) ≡ 0
+    by (kept v) = refl
+    by going = refl
+    by let_go = refl
+    by (asked a b) = refl
+    by (in_pair a b) = refl
+
+unsent : (t n : ℕ) (m : Message) → told_at t (sent n m) ≡ 0
+unsent t n (message.Finished u v) = refl
+unsent t n (message.Joined u v b) = refl
+unsent t n _ = refl
+
+told_one : (t : ℕ) (x : Thing) → told_at t x ≤ is_thread t x
+told_one t (stands s p z) = so_at_most (is_some z.gift) (one (z.number == t))
+told_one t (noted n r) = omega (arith, unkept t r n)
+told_one t (sent n m) = omega (arith, unsent t n m)
+told_one t (holds p v) = by p
+  where
+    by : (p : Spot) → told_at t (holds p v) ≤ 0
+    by (as_gift u) = omega arith
+    by (in_slot u i) = omega arith
+    by (in_temp u i) = omega arith
+    by (as_content m) = omega arith
+    by (as_result u) = omega arith
+    by in_hand = omega arith
+told_one t _ = omega arith
+
+told_by : (t : ℕ) (xs : List Thing) → tot (told_at t) xs ≤ tot (is_thread t) xs
+told_by t [] = omega arith
+told_by t (x ∷ xs) = omega (arith, told_one t x, told_by t xs)
+
+of_both : (t : ℕ) (x : Thing) → of_thread t x ≤ is_thread t x + placed_at t x
+of_both t (stands s p z) = omega arith
+of_both t (holds p v) = omega (arith, by p)
+  where
+    by : (p : Spot) → of_thread t (holds p v) ≤ placed_at t (holds p v)
+    by (as_gift u) = omega arith
+    by (in_slot u i) = omega arith
+    by (in_temp u i) = omega arith
+    by (as_content m) = omega arith
+    by (as_result u) = omega arith
+    by in_hand = omega arith
+of_both t _ = omega arith
+
+all_of : (t : ℕ) (xs : List Thing) → tot (of_thread t) xs ≤ tot (is_thread t) xs + tot (placed_at t) xs
+all_of t [] = omega arith
+all_of t (x ∷ xs) = omega (arith, of_both t x, all_of t xs)
+
+itself_counts : (t : ℕ) → one (t == t) ≡ 1
+itself_counts t = eq_cases (λ b. one b ≡ 1) t t (λ _. refl) (λ ne. absurd (ne refl))
+
+-- a thread without a gift stands once, and no gift is its
+module _ (k : Cluster) (sound : IsSound k) (A B : List Thing) (n : ℕ) (x : ThreadState) (bare : x.gift ≡ None) (things : things_of k ≡ A ++ (thread_things n false x ++ B)) where
+  abbrev tx : ℕ
+  tx = x.number
+
+  alone_there : tot (is_thread tx) A + tot (is_thread tx) B ≡ 0
+  alone_there =
+      let differ : tot (is_thread tx) (things_of k) ≤ 1 = sound.names.numbers_differ tx in
+      let here : tot (is_thread tx) (things_of k) ≡ tot (is_thread tx) (A ++ (thread_things n false x ++ B)) = ap (tot (is_thread tx)) things in
+      omega (arith, differ, here, itself_counts tx, tot_it A B n x bare (is_thread tx) (record { slots = λ u i v. refl; temps = λ u i v. refl; shared = λ l r. refl; lent = λ l r. refl; marks = λ l m. refl; used = λ u w. refl }))
+
+  ungifted : tot (placed_at tx) A + tot (placed_at tx) B ≡ 0
+  ungifted =
+      let places : tot (placed_at tx) (things_of k) ≡ tot (told_at tx) (things_of k) = places_told nought nought (gift_at tx) k in
+      let a : tot (placed_at tx) (things_of k) ≡ tot (placed_at tx) (A ++ (thread_things n false x ++ B)) = ap (tot (placed_at tx)) things in
+      let b : tot (told_at tx) (things_of k) ≡ tot (told_at tx) (A ++ (thread_things n false x ++ B)) = ap (tot (told_at tx)) things in
+      let mine : told_at tx (stands n false x) ≡ 0 = ap (λ o. if_so (is_some o) (one (tx == tx))) bare in
+      let flat : Own (λ v. placed_at tx v ≡ 0) = record { slots = λ u i v. refl; temps = λ u i v. refl; shared = λ l r. refl; lent = λ l r. refl; marks = λ l m. refl; used = λ u w. refl } in
+      let quiet : Own (λ v. told_at tx v ≡ 0) = record { slots = λ u i v. refl; temps = λ u i v. refl; shared = λ l r. refl; lent = λ l r. refl; marks = λ l m. refl; used = λ u w. refl } in
+      omega (arith, places, a, b, mine, alone_there, told_by tx A, told_by tx B, tot_it A B n x bare (placed_at tx) flat, tot_it A B n x bare (told_at tx) quiet)
+
+  lone : tot (of_thread tx) A + tot (of_thread tx) B ≡ 0
+  lone = omega (arith, alone_there, ungifted, all_of tx A, all_of tx B)
+
+  -- ITS NAME WAS GIVEN
+
+  counted : (f : Thing → ℕ) → tot f (things_of k) ≡ 0 → f (stands n false x) ≡ 0
+  counted f z =
+      let here : tot f (things_of k) ≡ tot f (A ++ (thread_things n false x ++ B)) = ap (tot f) things in
+      omega (arith, z, here, tot-append f A (thread_things n false x ++ B), tot-append f (thread_things n false x) B)
+
+  given_by_count : (q r b : Bool) → one (q && not r) ≡ 0 → other b ≡ 0 → r || (not q && b) ≡ true
+  given_by_count q true b z w = refl
+  given_by_count true false b z w = absurd (cc z)
+  given_by_count false false true z w = refl
+  given_by_count false false false z w = absurd (cc w)
+
+  given : is_given_thread (sight k) tx ≡ true
+  given =
+      let b : tot (threads (uncounted_thread (sight k))) (things_of k) + tot (named_mutexes (uncounted_mutex (sight k))) (things_of k) ≡ 0 = sound.names.names_counted in
+      let c : tot (threads zeroth_thread) (things_of k) + tot (named_mutexes zeroth_mutex) (things_of k) ≡ 0 = sound.names.counts_from_one in
+      let named : threads (uncounted_thread (sight k)) (stands n false x) ≡ 0 = counted (threads (uncounted_thread (sight k))) (omega (arith, b)) in
+      let first : threads zeroth_thread (stands n false x) ≡ 0 = counted (threads zeroth_thread) (omega (arith, c)) in
+      given_by_count (count_of tx == 0) (tx == 0) (some (tot (started_at (home_of tx) (count_of tx)) (things_of k))) (omega (arith, first)) (omega (arith, named))
+
+-- THE CLUSTER AFTERWARDS
+
+false_par : (i : Bool) → i ≡ false → (p : Bool) → other (same_truth i p) ≡ 0 → p ≡ false
+false_par false e false z = refl
+false_par false e true z = absurd (cc z)
+false_par true e p z = absurd (cc e)
+
+no_pair : (p : Phase) → is_par p ≡ false → two_in p ≡ None
+no_pair (phase.WaitPar a b) e = absurd (cc e)
+no_pair (phase.GotPar a b) e = absurd (cc e)
+no_pair _ e = refl
+
+not_over : (p : Phase) → can_step p ≡ true → is_over p ≡ false
+not_over phase.Over e = absurd (cc e)
+not_over _ e = refl
+
+module _ (k : Cluster) (e : Event) (sound : IsSound k) (i : Instr) (s : Server) (here : server_at k.servers e.server ≡ Some s) (t : ℕ) (x : ThreadState) (at : thread_in s.threads t ≡ Some x) (number : x.number ≡ t) (on : can_step x.phase ≡ true)
+    (code : slice_get k.code x.pc ≡ Some i) (plain_one : is_par_end (Some i) ≡ false) (bare : x.gift ≡ None) where
+  abbrev n : ℕ
+  n = s.rest.number
+
+  calm : Calm x.phase
+  calm = record {
+    alone =
+        let wrong : par_end (sight k) (record { server = n; packed = false; thread = x }) ≡ 0 = none_here k sound e.server s here t x at (par_end (sight k)) sound.requests.par_ends in
+        let par : other (same_truth (is_par_end (Some i)) (is_par x.phase)) ≡ 0 = subst (λ j. other (same_truth (is_par_end j) (is_par x.phase)) ≡ 0) code wrong in
+        no_pair x.phase (false_par (is_par_end (Some i)) plain_one (is_par x.phase) par);
+    goes = not_over x.phase on;
+  }
+
+  module _ (d : Stepped) (turn : Turn k.code s.rest x d) where
+    abbrev y : ThreadState
+    y = after x turn.pc turn.slots turn.temps
+
+    there : thread_in s.threads x.number ≡ Some x
+    there = subst (λ u. thread_in s.threads u ≡ Some x) (sym number) at
+
+    -- the server with the turn alone, and after the event
+    abbrev s2 : Server
+    s2 = with_turn s x y there
+
+    abbrev s3 : Server
+    s3 = (stepped s d).0
+
+    abbrev k2 : Cluster
+    k2 = record k { servers = with_server k.servers e.server s2 }
+
+    abbrev k3 : Cluster
+    k3 = record k { servers = hand_over_newer e.server (length s.rest.outbox) s3 k.servers }
+
+    within : Within (thread_things n false x) (thread_things n false y) (things_of k) (things_of k2)
+    within = servers_within s x y there k.servers e.server here
+
+    lone_there : tot (of_thread x.number) within.front + tot (of_thread x.number) within.back ≡ 0
+    lone_there = lone k sound within.front within.back n x bare within.before
+
+    turns : TurnOf x.number (running_at x) (running_at y) (one_heap k) (one_heap k2)
+    turns =
+        let f = within.front in
+        let r = within.back in
+        let named : is_given_thread (with_things k (f ++ (thread_things n false x ++ r))) x.number ≡ true = subst (λ l. is_given_thread (with_things k l) x.number ≡ true) within.before (given k sound f r n x bare within.before) in
+        let both : TurnOf x.number (running_at x) (running_at y) (state_of (with_things k (f ++ (thread_things n false x ++ r)))) (state_of (with_things k (f ++ (thread_things n false y ++ r)))) =
+        turn_of k f r n x turn.pc turn.slots turn.temps bare calm (omega (arith, lone_there)) (omega (arith, lone_there)) turn.even named in
+        subst (λ l. TurnOf x.number (running_at x) (running_at y) (state_of (with_things k l)) (one_heap k2)) (sym within.before)
+        (subst (λ l. TurnOf x.number (running_at x) (running_at y) (state_of (with_things k (f ++ (thread_things n false x ++ r)))) (state_of (with_things k l))) (sym within.afterwards) both)
+
+    once : Once (sight k2)
+    once =
+        let f = within.front in
+        let r = within.back in
+        subst (λ l. Once (with_things k l)) (sym within.afterwards)
+        (once_too k f r n x turn.pc turn.slots turn.temps bare calm (omega (arith, lone_there)) (omega (arith, lone_there)) turn.even (subst (λ l. Once (with_things k l)) within.before (shown_once k sound)))
+
+    -- the rest of the server shows the same
+    server_alike : ShowAlike (server_things s2) (server_things s3)
+    server_alike w z =
+        let g : Thing → ℕ = λ v. w (sign_of v) in
+        let r2 : Rest = record s.rest { cache = turn.cache } in
+        let ts = set_thread s.threads y in
+        let site : tot g (all_standing d.hand.work.rest.number (set_thread s.threads d.hand.thread) ++ rest_things d.hand.work.rest.number 0 d.hand.work.rest) ≡ tot g (all_standing n ts ++ rest_things n 0 r2) =
+        ap₂ (λ (q : Rest) (v : ThreadState). tot g (all_standing q.number (set_thread s.threads v) ++ rest_things q.number 0 q)) turn.rest turn.thread in
+        omega (
+          arith,
+          begins s2 w z,
+          ends s.events (Some d.hand.thread.number) d.names (put_back s.threads d.hand) w z,
+          site,
+          cache_shown s.rest turn.cache w z,
+          tot-append g (all_standing n ts) (rest_things n 0 s.rest),
+          tot-append g (all_standing n ts) (rest_things n 0 r2),
+        )
+
+    nothing_sent : drop (length s.rest.outbox) s3.rest.outbox ≡ []
+    nothing_sent = ap (λ (q : Rest). drop (length s.rest.outbox) q.outbox) turn.rest ∙ drop-length s.rest.outbox
+
+    alike : ShowAlike (things_of k2) (things_of k3)
+    alike w z =
+        let g : Thing → ℕ = λ v. w (sign_of v) in
+        let older = length s.rest.outbox in
+        let goes : GoTo (with_server k.servers e.server (with_outbox (take older s3.rest.outbox) s3)) (drop older s3.rest.outbox) =
+        subst (λ l. GoTo (with_server k.servers e.server (with_outbox (take older s3.rest.outbox) s3)) l) (sym nothing_sent) tt in
+        omega (arith, hand_over_newer_law g e.server older s s3 k.servers here goes, (tot-server g k.servers e.server s s3 here).1, (tot-server g k.servers e.server s s2 here).1, server_alike w z)
+
+    heap_same : SameState (one_heap k3) (one_heap k2)
+    heap_same = same_heap k2 k3 refl once alike
+
+    then_same : (a b c : CodeState) → SameState a b → SameState c b → SameState a c
+    then_same a b c p q = record {
+      threads = λ u. p.threads u ∙ sym (q.threads u);
+      made = λ u. p.made u ∙ sym (q.made u);
+      pairs = λ u. p.pairs u ∙ sym (q.pairs u);
+      objects = λ u. p.objects u ∙ sym (q.objects u);
+      mutexes = λ u. p.mutexes u ∙ sym (q.mutexes u);
+      given = λ u. p.given u ∙ sym (q.given u);
+    }
+
+    -- the event is that step
+    pub is_step : IsPlainStep k (k3, (stepped s d).1)
+    is_step u names who done c same =
+        let own : x.number ≡ u = sym (ap (λ (v : ThreadState). v.number) turn.thread) ∙ (let r : d.hand.thread.number ≡ u = cc in r) in
+        let quiet : names ≡ fresh.None = (let r : Some names ≡ Some fresh.None = sym done ∙ turn.named in cc) in
+        let steps : StepsTo k.code c x.number fresh.None (one_heap k2) d.hand.work.labels = turned k.code c x.number (running_at x) (running_at y) (one_heap k) (one_heap k2) turns same d.hand.work.labels turn.does in
+        let at_end : StepsTo k.code c x.number fresh.None (one_heap k3) d.hand.work.labels = record { after = steps.after; steps = steps.steps; same = then_same (plain_state steps.after.state) (one_heap k2) (one_heap k3) steps.same heap_same; labelled = steps.labelled } in
+        subst (λ v. StepsTo k.code c v names (one_heap k3) d.hand.work.labels) own (subst (λ f. StepsTo k.code c x.number f (one_heap k3) d.hand.work.labels) (sym quiet) at_end)
+
+-- FROM THE LINE TO THE EVENT
+
+numbered : (ts : List ThreadState) (t : ℕ) (x : ThreadState) → thread_in ts t ≡ Some x → x.number ≡ t
+numbered [] t x h = absurd (cc h)
+numbered (z ∷ ts) t x h = eq_cases (λ q. (if q then Some z else thread_in ts t) ≡ Some x → x.number ≡ t) z.number t (λ f g. let same : z ≡ x = cc in subst (λ (v : ThreadState). v.number ≡ t) same f) (λ _ g. numbered ts t x g) h
+
+-- what an instruction's line says
+abbrev pub Line : Cluster → Instr → Type 0
+Line k i = (r : Rest) (x : ThreadState) → slice_get k.code x.pc ≡ Some i → Gives (Turn k.code r x) (step k.options.servers i (record { work = begin_work r; thread = x }))
+
+module _ (k : Cluster) (e : Event) (i : Instr) (sound : IsSound k) (p : is_par_end (Some i) ≡ false) (bare : (g : Option Owned) → GiftFits i g → g ≡ None) (line : Line k i) where
+  abbrev Done : Server → Server × EntryView → Type 0
+  Done s r = IsPlainStep k (record k { servers = hand_over_newer e.server (length s.rest.outbox) r.0 k.servers }, r.1)
+
+  of_thread_there : (s : Server) → server_at k.servers e.server ≡ Some s → (t : ℕ) → enabled k.options s (Step t) ≡ true → (o : Option ThreadState) → thread_in s.threads t ≡ o → then_some o (λ x. slice_get k.code x.pc) ≡ Some i
+      → Gives (Done s) (option_map (stepped s) (then_some (option_map (λ x. record { work = begin_work s.rest; thread = x }) o) (step_in k.code k.options.servers)))
+  of_thread_there s h t on None a j = tt
+  of_thread_there s h t on (Some x) a j =
+      let fit = gift_fits k sound e.server s h t x a i j in
+      let able : can_step x.phase ≡ true = subst (λ o. has_phase can_step o ≡ true) a on in
+      subst (λ o. Gives (Done s) (option_map (stepped s) (then_some o (λ z. step k.options.servers z (record { work = begin_work s.rest; thread = x }))))) (sym j)
+      (over_gives (Turn k.code s.rest x) (Done s) (step k.options.servers i (record { work = begin_work s.rest; thread = x })) (stepped s) (line s.rest x j)
+      (λ d turn. is_step k e sound i s h t x a (numbered s.threads t x a) able j p (bare x.gift fit.0) d turn))
+
+  of_what : (s : Server) → server_at k.servers e.server ≡ Some s → (w : What) → instr_at k w s ≡ Some i → Gives (Done s) (done_at k w s)
+  of_what s h (Step t) j = test_gives (Done s) (enabled k.options s (Step t)) (does k.code k.options s (Step t)) (λ on. of_thread_there s h t on (thread_in s.threads t) refl j)
+  of_what s h (Deliver m) j = absurd (cc j)
+  of_what s h (Evict c) j = absurd (cc j)
+  of_what s h (Migrate t g) j = absurd (cc j)
+
+  of_server : (s : Server) → server_at k.servers e.server ≡ Some s → instr_at k e.what s ≡ Some i → Gives (IsPlainStep k) (option_map (λ d. (record k { servers = hand_over_newer e.server (length s.rest.outbox) d.0 k.servers }, d.1)) (done_at k e.what s))
+  of_server s h j = over_gives (Done s) (IsPlainStep k) (done_at k e.what s) _ (of_what s h e.what j) (λ r g. g)
+
+  -- where the line stands, each event that steps the instruction is that plain step
+  pub steps_are_plain : instr_of k e ≡ Some i → Gives (IsPlainStep k) (apply k e)
+  steps_are_plain q = then_gives (IsPlainStep k) (server_at k.servers e.server) _ (λ s h. of_server s h (subst (λ o. then_some o (instr_at k e.what) ≡ Some i) h q))

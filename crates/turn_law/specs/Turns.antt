@@ -1,0 +1,68 @@
+-- ONE STEP: an event that has a `done` of its thread is exactly that step of the plain machine on the cluster's one heap (this project's rule).
+use Rattle.std.specs.Prelude.{◌≡◌, ℕ, ◌==◌, Bool, true, false, Option, Some, None, List, slice_get}
+use Rattle.fr_base.specs.declared.label.Label.{Label}
+use Rattle.fr_base.specs.declared.step.Fresh.{Fresh}
+use Rattle.fr_base.specs.declared.instruction.Instr.{Instr}
+use Rattle.fr_base.specs.declared.instruction.Instr.TheVariants as instr
+use Rattle.fr_plain.specs.PlainState.{SameState, plain_state}
+use Rattle.fr_code.specs.Machine.{CodeWhole, CodeStepped, CodeState, code_step}
+use Rattle.journal.specs.View.{EntryView}
+use Rattle.server_model.specs.declared.event.Event.{Event}
+use Rattle.server_model.specs.declared.event.What.{What}
+use Rattle.server_model.specs.declared.event.What.TheVariants.{Step}
+use Rattle.server_model.specs.Servers.{Server, Cluster, server_at}
+use Rattle.server_model.specs.Work.{then_some, thread_in}
+use Rattle.server_model.specs.Clusters.{apply}
+use Rattle.heap_law.specs.OneHeap.{one_heap}
+use Rattle.event_law.specs.Laws.{Gives, FewEvents}
+
+-- a plain step of the thread with these new names is there; it leads to that state, name by name, with these labels
+pub record StepsTo (code : List Instr) (c : CodeWhole) (t : ℕ) (names : Fresh) (s : CodeState) (labels : List Label) : Type 0 where
+  pub after : CodeStepped
+  pub steps : code_step code c t names ≡ Some after
+  pub same : SameState (plain_state after.state) s
+  pub labelled : after.labels ≡ labels
+
+-- an event and its entry: where the entry has a `done` of a thread, the plain step of that thread with its names leads from the one heap to the one heap
+-- afterwards, with the entry's labels
+abbrev pub IsPlainStep : Cluster → Cluster × EntryView → Type 0
+IsPlainStep k d =
+    (t : ℕ) (names : Fresh) → d.1.thread ≡ Some t → d.1.done ≡ Some names → (c : CodeWhole) → SameState (plain_state c) (one_heap k)
+    → StepsTo k.code c t names (one_heap d.0) d.1.labels
+
+-- WHICH INSTRUCTIONS
+
+-- the instruction that an event steps, or whose request it sends
+abbrev pub instr_at : Cluster → What → Server → Option Instr
+instr_at k (Step t) s = then_some (thread_in s.threads t) (λ x. slice_get k.code x.pc)
+instr_at k w s = None
+
+abbrev pub instr_of : Cluster → Event → Option Instr
+instr_of k e = then_some (server_at k.servers e.server) (instr_at k e.what)
+
+abbrev pub is_let : Instr → Bool
+is_let (instr.Let o) = true
+is_let i = false
+
+abbrev pub is_arith : Instr → Bool
+is_arith (instr.Arith f a b) = true
+is_arith i = false
+
+abbrev pub is_print : Instr → Bool
+is_print (instr.Print o) = true
+is_print i = false
+
+-- a read of a variable, without a star: a copy, or a move out of it
+abbrev pub reads_slot : Instr → Bool
+reads_slot (instr.Read w take) = w.depth == 0
+reads_slot i = false
+
+-- a borrow of a variable, shared or mutable
+abbrev pub borrows_slot : Instr → Bool
+borrows_slot (instr.Borrow w) = w.depth == 0
+borrows_slot (instr.BorrowMut w) = w.depth == 0
+borrows_slot i = false
+
+-- from a cluster with that property, each step of such an instruction is a plain step where it has a `done`, its messages handed over
+abbrev pub ArePlainSteps : (Cluster → Type 0) → (Instr → Bool) → Type 0
+ArePlainSteps Has is = (k : Cluster) (e : Event) (i : Instr) → instr_of k e ≡ Some i → is i ≡ true → Has k → FewEvents k → Gives (IsPlainStep k) (apply k e)

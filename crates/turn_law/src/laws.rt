@@ -1,0 +1,20 @@
+//! Laws of events that do a plain step.
+
+ghost use Rattle.heap_law.specs.Coherent.{IsSound};
+ghost use Rattle.turn_law.specs.Rows.{RowsCompute};
+ghost use Rattle.turn_law.specs.Turns.{ArePlainSteps, borrows_slot, is_arith, is_let, is_print, reads_slot};
+
+/// From a sound cluster, each of these steps is the plain step of its thread on the one heap, with the entry's names and labels, its messages handed over:
+/// a new variable, arithmetic, a print, and reads and borrows of a variable.
+pub fn own_steps()
+    ensures lets { ArePlainSteps IsSound is_let }
+    ensures sums { ArePlainSteps IsSound is_arith }
+    ensures prints { ArePlainSteps IsSound is_print }
+    ensures reads { ArePlainSteps IsSound reads_slot }
+    ensures borrows { ArePlainSteps IsSound borrows_slot }
+{}
+
+/// A run whose steps are all of these kinds, computed: no sentence is broken before any of them, and each is done.
+pub fn rows_compute()
+    ensures { RowsCompute }
+{}
