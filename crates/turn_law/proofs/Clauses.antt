@@ -17,21 +17,21 @@ pub lets : ArePlainSteps IsSound is_let
 lets k e i q it sound few = by i q it
   where
     by : (i : Instr) → instr_of k e ≡ Some i → is_let i ≡ true → Gives (IsPlainStep k) (apply k e)
-    by (instr.Let o) q it = steps_are_plain k e (instr.Let o) sound refl (λ g f. f) (λ r x here. let_line k.code k.options.servers r x o here) q
+    by (instr.Let o) q it = steps_are_plain k e (instr.Let o) sound few refl (λ g f. f) (λ r x here. let_line k.code k.options.servers r x o here) q
     by _ q it = absurd (cc it)
 
 pub sums : ArePlainSteps IsSound is_arith
 sums k e i q it sound few = by i q it
   where
     by : (i : Instr) → instr_of k e ≡ Some i → is_arith i ≡ true → Gives (IsPlainStep k) (apply k e)
-    by (instr.Arith f a b) q it = steps_are_plain k e (instr.Arith f a b) sound refl (λ g f. f) (λ r x here. arith_line k.code k.options.servers r x f a b here) q
+    by (instr.Arith f a b) q it = steps_are_plain k e (instr.Arith f a b) sound few refl (λ g f. f) (λ r x here. arith_line k.code k.options.servers r x f a b here) q
     by _ q it = absurd (cc it)
 
 pub prints : ArePlainSteps IsSound is_print
 prints k e i q it sound few = by i q it
   where
     by : (i : Instr) → instr_of k e ≡ Some i → is_print i ≡ true → Gives (IsPlainStep k) (apply k e)
-    by (instr.Print o) q it = steps_are_plain k e (instr.Print o) sound refl (λ g f. f) (λ r x here. print_line k.code k.options.servers r x o here) q
+    by (instr.Print o) q it = steps_are_plain k e (instr.Print o) sound few refl (λ g f. f) (λ r x here. print_line k.code k.options.servers r x o here) q
     by _ q it = absurd (cc it)
 
 -- A VARIABLE WITHOUT A STAR
@@ -50,13 +50,13 @@ pub reads : ArePlainSteps IsSound reads_slot
 reads k e i q it sound few = by i q it
   where
     by : (i : Instr) → instr_of k e ≡ Some i → reads_slot i ≡ true → Gives (IsPlainStep k) (apply k e)
-    by (instr.Read w take) q it = steps_are_plain k e (instr.Read w take) sound refl (λ g f. f) (line_at k (λ v. instr.Read v take) w it (λ r x here. read_line k.code k.options.servers r x w.slot take here)) q
+    by (instr.Read w take) q it = steps_are_plain k e (instr.Read w take) sound few refl (λ g f. f) (line_at k (λ v. instr.Read v take) w it (λ r x here. read_line k.code k.options.servers r x w.slot take here)) q
     by _ q it = absurd (cc it)
 
 pub borrows : ArePlainSteps IsSound borrows_slot
 borrows k e i q it sound few = by i q it
   where
     by : (i : Instr) → instr_of k e ≡ Some i → borrows_slot i ≡ true → Gives (IsPlainStep k) (apply k e)
-    by (instr.Borrow w) q it = steps_are_plain k e (instr.Borrow w) sound refl (λ g f. f) (line_at k (λ v. instr.Borrow v) w it (λ r x here. shared_borrows k.code k.options.servers r x w.slot here)) q
-    by (instr.BorrowMut w) q it = steps_are_plain k e (instr.BorrowMut w) sound refl (λ g f. f) (line_at k (λ v. instr.BorrowMut v) w it (λ r x here. mutable_borrows k.code k.options.servers r x w.slot here)) q
+    by (instr.Borrow w) q it = steps_are_plain k e (instr.Borrow w) sound few refl (λ g f. f) (line_at k (λ v. instr.Borrow v) w it (λ r x here. shared_borrows k.code k.options.servers r x w.slot here)) q
+    by (instr.BorrowMut w) q it = steps_are_plain k e (instr.BorrowMut w) sound few refl (λ g f. f) (line_at k (λ v. instr.BorrowMut v) w it (λ r x here. mutable_borrows k.code k.options.servers r x w.slot here)) q
     by _ q it = absurd (cc it)

@@ -1,7 +1,6 @@
 -- From an instruction's line to the event: it is that plain step on the cluster's one heap.
 use Rattle.std.proofs.Common.{◌≡◌, ℕ, ◌+◌, ◌≤◌, ◌==◌, ◌&&◌, ◌||◌, not, Bool, true, false, if◌then◌else◌, List, [], ◌∷◌, ◌++◌, length, take, drop, Option, Some, None, is_some, option_map, refl, sym, ap, ap₂, ◌∙◌, subst, arith}
 use Rattle.std.specs.Prelude.{slice_get}
-use Rattle.std.proofs.Math.Seq.{drop-length}
 use Rattle.fr_typing.proofs.PlaceLemmas.{eq_cases}
 use Rattle.fr_base.specs.declared.step.Fresh.TheVariants as fresh
 use Rattle.fr_base.specs.declared.instruction.Instr.{Instr}
@@ -30,17 +29,18 @@ use Rattle.heap_law.specs.Naming.{count_of, threads, started_at, uncounted_threa
 use Rattle.heap_law.specs.Weights.{is_thread}
 use Rattle.heap_law.specs.OneHeap.{two_in, is_given_thread, running_at, one_heap, state_of}
 use Rattle.heap_law.specs.Coherent.{IsSound}
-use Rattle.event_law.specs.Laws.{Gives, GoTo}
+use Rattle.event_law.specs.Laws.{Gives, GoTo, FewEvents}
 use Rattle.event_law.proofs.Trades.{tot-append}
 use Rattle.event_law.proofs.Bags.{all_standing, rest_things}
 use Rattle.event_law.proofs.Events.{tot-server}
+use Rattle.event_law.proofs.Applied.{go_with}
 use Rattle.event_law.proofs.Handing.{hand_over_newer_law}
+use Rattle.event_law.proofs.Sending.{each_event_sends}
 use Rattle.event_law.proofs.GiftsTaken.{none_here, gift_fits}
 use Rattle.event_law.proofs.QuietSteps.{GiftFits}
-use Rattle.event_law.proofs.Results.{then_gives, over_gives, test_gives}
+use Rattle.event_law.proofs.Results.{both_give, then_gives, over_gives, test_gives}
 use Rattle.still_law.specs.Shows.{sign_of, ShowAlike}
 use Rattle.still_law.proofs.Alike.{Once, same_heap}
-use Rattle.still_law.proofs.Arrivals.{cache_shown}
 use Rattle.still_law.proofs.Gifts.{placed, telling, places_told}
 use Rattle.still_law.proofs.Once.{shown_once}
 use Rattle.still_law.proofs.Sites.{begins, ends}
@@ -198,7 +198,7 @@ module _ (k : Cluster) (e : Event) (sound : IsSound k) (i : Instr) (s : Server) 
     goes = not_over x.phase on;
   }
 
-  module _ (d : Stepped) (turn : Turn k.code s.rest x d) where
+  module _ (d : Stepped) (turn : Turn k.code s.rest x d) (sends : GoTo (with_server k.servers e.server (stepped s d).0) (drop (length s.rest.outbox) (stepped s d).0.rest.outbox)) where
     abbrev y : ThreadState
     y = after x turn.pc turn.slots turn.temps
 
@@ -245,29 +245,26 @@ module _ (k : Cluster) (e : Event) (sound : IsSound k) (i : Instr) (s : Server) 
     server_alike : ShowAlike (server_things s2) (server_things s3)
     server_alike w z =
         let g : Thing → ℕ = λ v. w (sign_of v) in
-        let r2 : Rest = record s.rest { cache = turn.cache } in
+        let r2 = d.hand.work.rest in
         let ts = set_thread s.threads y in
-        let site : tot g (all_standing d.hand.work.rest.number (set_thread s.threads d.hand.thread) ++ rest_things d.hand.work.rest.number 0 d.hand.work.rest) ≡ tot g (all_standing n ts ++ rest_things n 0 r2) =
-        ap₂ (λ (q : Rest) (v : ThreadState). tot g (all_standing q.number (set_thread s.threads v) ++ rest_things q.number 0 q)) turn.rest turn.thread in
+        let site : tot g (all_standing r2.number (set_thread s.threads d.hand.thread) ++ rest_things r2.number 0 r2) ≡ tot g (all_standing n ts ++ rest_things n 0 r2) =
+        ap₂ (λ (m : ℕ) (v : ThreadState). tot g (all_standing m (set_thread s.threads v) ++ rest_things m 0 r2)) turn.moves.number turn.thread in
+        let rest : tot g (rest_things n 0 s.rest) ≡ tot g (rest_things n 0 r2) = turn.moves.alike w z in
         omega (
           arith,
           begins s2 w z,
           ends s.events (Some d.hand.thread.number) d.names (put_back s.threads d.hand) w z,
           site,
-          cache_shown s.rest turn.cache w z,
+          rest,
           tot-append g (all_standing n ts) (rest_things n 0 s.rest),
           tot-append g (all_standing n ts) (rest_things n 0 r2),
         )
-
-    nothing_sent : drop (length s.rest.outbox) s3.rest.outbox ≡ []
-    nothing_sent = ap (λ (q : Rest). drop (length s.rest.outbox) q.outbox) turn.rest ∙ drop-length s.rest.outbox
 
     alike : ShowAlike (things_of k2) (things_of k3)
     alike w z =
         let g : Thing → ℕ = λ v. w (sign_of v) in
         let older = length s.rest.outbox in
-        let goes : GoTo (with_server k.servers e.server (with_outbox (take older s3.rest.outbox) s3)) (drop older s3.rest.outbox) =
-        subst (λ l. GoTo (with_server k.servers e.server (with_outbox (take older s3.rest.outbox) s3)) l) (sym nothing_sent) tt in
+        let goes = go_with k.servers e.server s3 (take older s3.rest.outbox) (drop older s3.rest.outbox) sends in
         omega (arith, hand_over_newer_law g e.server older s s3 k.servers here goes, (tot-server g k.servers e.server s s3 here).1, (tot-server g k.servers e.server s s2 here).1, server_alike w z)
 
     heap_same : SameState (one_heap k3) (one_heap k2)
@@ -302,9 +299,12 @@ numbered (z ∷ ts) t x h = eq_cases (λ q. (if q then Some z else thread_in ts 
 abbrev pub Line : Cluster → Instr → Type 0
 Line k i = (r : Rest) (x : ThreadState) → slice_get k.code x.pc ≡ Some i → Gives (Turn k.code r x) (step k.options.servers i (record { work = begin_work r; thread = x }))
 
-module _ (k : Cluster) (e : Event) (i : Instr) (sound : IsSound k) (p : is_par_end (Some i) ≡ false) (bare : (g : Option Owned) → GiftFits i g → g ≡ None) (line : Line k i) where
+module _ (k : Cluster) (e : Event) (i : Instr) (sound : IsSound k) (few : FewEvents k) (p : is_par_end (Some i) ≡ false) (bare : (g : Option Owned) → GiftFits i g → g ≡ None) (line : Line k i) where
+  abbrev Sends : Server → Server × EntryView → Type 0
+  Sends s r = GoTo (with_server k.servers e.server r.0) (drop (length s.rest.outbox) r.0.rest.outbox)
+
   abbrev Done : Server → Server × EntryView → Type 0
-  Done s r = IsPlainStep k (record k { servers = hand_over_newer e.server (length s.rest.outbox) r.0 k.servers }, r.1)
+  Done s r = Sends s r → IsPlainStep k (record k { servers = hand_over_newer e.server (length s.rest.outbox) r.0 k.servers }, r.1)
 
   of_thread_there : (s : Server) → server_at k.servers e.server ≡ Some s → (t : ℕ) → enabled k.options s (Step t) ≡ true → (o : Option ThreadState) → thread_in s.threads t ≡ o → then_some o (λ x. slice_get k.code x.pc) ≡ Some i
       → Gives (Done s) (option_map (stepped s) (then_some (option_map (λ x. record { work = begin_work s.rest; thread = x }) o) (step_in k.code k.options.servers)))
@@ -314,7 +314,7 @@ module _ (k : Cluster) (e : Event) (i : Instr) (sound : IsSound k) (p : is_par_e
       let able : can_step x.phase ≡ true = subst (λ o. has_phase can_step o ≡ true) a on in
       subst (λ o. Gives (Done s) (option_map (stepped s) (then_some o (λ z. step k.options.servers z (record { work = begin_work s.rest; thread = x }))))) (sym j)
       (over_gives (Turn k.code s.rest x) (Done s) (step k.options.servers i (record { work = begin_work s.rest; thread = x })) (stepped s) (line s.rest x j)
-      (λ d turn. is_step k e sound i s h t x a (numbered s.threads t x a) able j p (bare x.gift fit.0) d turn))
+      (λ d turn sends. is_step k e sound i s h t x a (numbered s.threads t x a) able j p (bare x.gift fit.0) d turn sends))
 
   of_what : (s : Server) → server_at k.servers e.server ≡ Some s → (w : What) → instr_at k w s ≡ Some i → Gives (Done s) (done_at k w s)
   of_what s h (Step t) j = test_gives (Done s) (enabled k.options s (Step t)) (does k.code k.options s (Step t)) (λ on. of_thread_there s h t on (thread_in s.threads t) refl j)
@@ -323,7 +323,9 @@ module _ (k : Cluster) (e : Event) (i : Instr) (sound : IsSound k) (p : is_par_e
   of_what s h (Migrate t g) j = absurd (cc j)
 
   of_server : (s : Server) → server_at k.servers e.server ≡ Some s → instr_at k e.what s ≡ Some i → Gives (IsPlainStep k) (option_map (λ d. (record k { servers = hand_over_newer e.server (length s.rest.outbox) d.0 k.servers }, d.1)) (done_at k e.what s))
-  of_server s h j = over_gives (Done s) (IsPlainStep k) (done_at k e.what s) _ (of_what s h e.what j) (λ r g. g)
+  of_server s h j =
+      over_gives (λ r. Sends s r × Done s r) (IsPlainStep k) (done_at k e.what s) _
+      (both_give (Sends s) (Done s) (λ r. Sends s r × Done s r) (done_at k e.what s) (each_event_sends k e sound few s h) (of_what s h e.what j) (λ r a b. (a, b))) (λ r g. g.1 g.0)
 
   -- where the line stands, each event that steps the instruction is that plain step
   pub steps_are_plain : instr_of k e ≡ Some i → Gives (IsPlainStep k) (apply k e)

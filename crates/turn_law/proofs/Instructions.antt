@@ -30,12 +30,16 @@ use Rattle.server_model.specs.Servers.{Rest}
 use Rattle.server_model.specs.Work.{Hand, Popped, with_cache, with_temps, pop, pop_int, int_of, taken_as, last_of, front_of, push_slot, push_temp, working, label_all}
 use Rattle.server_model.specs.Commit.{goes_on, go_on, let_slot, arith as arith_step, print}
 use Rattle.server_model.specs.Events.{Stepped, begin_work, committed, step}
-use Rattle.heap_law.specs.Names.{one}
+use Rattle.heap_law.specs.Names.{tot, one}
 use Rattle.heap_law.specs.OneHeap.{Node, object_n, mutex_n, task_n, owns, plain_value, running_at}
 use Rattle.event_law.specs.Laws.{Gives}
 use Rattle.event_law.proofs.Results.{map_gives, over_gives, bind_gives}
 use Rattle.event_law.proofs.Values.{last_split}
+use Rattle.event_law.proofs.Bags.{rest_things}
 use Rattle.event_law.proofs.Trades.{tot-append}
+use Rattle.still_law.specs.Shows.{sign_of}
+use Rattle.still_law.proofs.Arrivals.{cache_shown}
+use Rattle.still_law.proofs.Sites.{Moves}
 use Rattle.turn_law.proofs.Parts.{value_owns, owned_in}
 use Rattle.turn_law.proofs.OneTurn.{after}
 use Rattle.turn_law.proofs.PlainTurn.{Does, state_at, alone_does}
@@ -120,9 +124,9 @@ pub record Turn (code : List Instr) (r : Rest) (x : ThreadState) (d : Stepped) :
   pub pc : ℕ
   pub slots : List Value
   pub temps : List Value
-  pub cache : List Copy
   pub thread : d.hand.thread ≡ after x pc slots temps
-  pub rest : d.hand.work.rest ≡ record r { cache = cache }
+  -- beside the threads, what shows in the one heap is as it was
+  pub moves : Moves [] [] r d.hand.work.rest
   pub named : d.names ≡ Some fresh.None
   pub even : (q : Node) → owned_in q x.slots + owned_in q x.temps ≡ owned_in q slots + owned_in q temps
   pub does : Does code (running_at x) (running_at (after x pc slots temps)) d.hand.work.labels
@@ -151,9 +155,11 @@ module _ (code : List Instr) (servers : ℕ) (r : Rest) (x : ThreadState) where
         pc = x.pc + 1;
         slots = g.slots;
         temps = g.temps;
-        cache = cs;
         thread = ap (λ (y : ThreadState). after y (y.pc + 1) y.slots y.temps) g.thread;
-        rest = ap (λ (q : Rest). record q { cache = cs }) g.rest;
+        moves = record {
+          number = ap (λ (q : Rest). q.number) g.rest;
+          alike = λ w z. cache_shown r cs w z ∙ ap (λ (q : Rest). tot (λ y. w (sign_of y)) (rest_things r.number 0 (record q { cache = cs }))) (sym g.rest);
+        };
         named = refl;
         even = g.even;
         does = g.does;

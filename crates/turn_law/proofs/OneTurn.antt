@@ -32,7 +32,8 @@ use Rattle.event_law.proofs.Trades.{tot-append}
 use Rattle.still_law.proofs.Alike.{Once}
 use Rattle.still_law.proofs.Rounds.{owner_same, named_alike, enough}
 use Rattle.still_law.proofs.Told.{told, ones}
-use Rattle.turn_law.proofs.Parts.{shown_both, any_both, threads_both, cells_both, thread_both, found_number, Own, own_all, none_shown, same_counted, none_counted, no_threads, no_cells, any_told, owned_in, own_named}
+use Rattle.path_law.proofs.Contained.{among_thread}
+use Rattle.turn_law.proofs.Parts.{shown_both, any_both, threads_both, cells_both, thread_both, Own, own_all, none_shown, same_counted, none_counted, no_threads, no_cells, any_told, owned_in, own_named}
 
 -- THE WAY A THREAD GOES ON
 
@@ -267,7 +268,7 @@ module _ (k : Cluster) (A B : List Thing) (n : ℕ) (x : ThreadState) (pc : ℕ)
     where
       by : (o : Option Standing) → thread_at (threads_in a) u ≡ o → f o ≡ g o
       by None q = e
-      by (Some z) q = h z (λ d. ne (d ∙ found_number (threads_in a) u z q))
+      by (Some z) q = h z (λ d. ne (d ∙ (among_thread (threads_in a) u z q).1))
 
   owner_same_of : (th : Thing) → of_thread t th ≡ 0 → owner_of s th ≡ owner_of s2 th
   owner_same_of (holds (as_gift u) v) z = by_seen (gift_owner_of s) (gift_owner_of s2) refl (λ w ne. gift_owned w ne (instr_of s w)) u (differs t u z)

@@ -53,11 +53,6 @@ thread_both [] ys t = refl
 thread_both (x ∷ xs) ys t =
     eq_cases (λ b. (if b then Some x else thread_at (xs ++ ys) t) ≡ or_else (if b then Some x else thread_at xs t) (thread_at ys t)) x.thread.number t (λ _. refl) (λ _. thread_both xs ys t)
 
-pub found_number : (xs : List Standing) (t : ℕ) (x : Standing) → thread_at xs t ≡ Some x → x.thread.number ≡ t
-found_number [] t x e = absurd (cc e)
-found_number (y ∷ ys) t x e =
-    eq_cases (λ b. (if b then Some y else thread_at ys t) ≡ Some x → x.thread.number ≡ t) y.thread.number t (λ f g. let same : y ≡ x = cc in subst (λ (z : Standing). z.thread.number ≡ t) same f) (λ _ g. found_number ys t x g) e
-
 -- WHAT A THREAD HAS
 
 -- what is so of an owned value in a slot or a temporary value, of references, marks and uses
