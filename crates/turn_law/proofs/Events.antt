@@ -20,7 +20,7 @@ use Rattle.server_model.specs.declared.event.What.TheVariants.{Step, Deliver, Ev
 use Rattle.server_model.specs.Servers.{Rest, Server, Cluster, server_at}
 use Rattle.server_model.specs.Work.{thread_in, set_thread, put_back, then_some}
 use Rattle.server_model.specs.Events.{Stepped, can_step, has_phase, enabled, begin_work, step, step_in, stepped, does}
-use Rattle.server_model.specs.Clusters.{with_server, with_outbox, hand_over_newer, done_at, apply}
+use Rattle.server_model.specs.Clusters.{with_server, hand_over_newer, done_at, apply}
 use Rattle.heap_law.specs.Names.{tot, one, other, some, if_so}
 use Rattle.heap_law.specs.Things.{Spot, in_slot, in_temp, as_gift, as_content, as_result, in_hand, Thing, holds, sent, stands, noted, thread_things, server_things, things_of}
 use Rattle.heap_law.specs.Sight.{sight, with_things}
