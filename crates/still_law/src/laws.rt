@@ -3,13 +3,15 @@
 ghost use Rattle.event_law.specs.Kinds.{arrives, asks_dup, asks_join, asks_lock, evicts, fetch, fetched, migrates, moved, moving, starts};
 ghost use Rattle.still_law.specs.Laws.{AlikeStandForOne, JoinsThatAsk, LeaveHeap};
 
-/// Where all that is shown of things is the same, the one heap is: no word, copy, use, address, message, pin or server counts.
+/// Two clusters of one code, the first of them sound, stand for the same one heap where all that is shown of their things is the same: no word, copy, use,
+/// address, message, pin or server counts.
 pub fn alike_stand_for_one()
     ensures { AlikeStandForOne }
 {}
 
-/// An eviction, a migration, and the delivery of a new thread, of a parcel, of a copy, of an object and of what asks for a copy, for an object, for a mutex's content or a
-/// share of it, or for a result, leave the one heap as it was, their messages handed over.
+/// From a sound cluster with few events, where they have a result, an eviction, a migration, and the delivery of a new thread, of a parcel, of a copy, of an
+/// object and of what asks for a copy, for an object, for a mutex's content or a share of it, or for a result, leave the one heap as it was, their messages
+/// handed over.
 pub fn events_leave_heap()
     ensures evictions { LeaveHeap evicts }
     ensures migrations { LeaveHeap migrates }
