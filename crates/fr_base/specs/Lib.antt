@@ -3,3 +3,4 @@ pub mod Code
 pub mod Kinds
 pub mod Lists
 pub mod Names
+pub mod Numbers

@@ -22,7 +22,7 @@ use Rattle.fr_syntax.specs.Ordered.{IsArena}
 use Rattle.fr_base.specs.Rooms.{WithRoom}
 use Rattle.fr_syntax.specs.Meanings.{a_term, a_capture, Meaning, term_s, place_s, capture_s, sort_of, as_capture, captures_at, meanings, meaning_at, term_at, place_at, items_at, stands_for, all_need, needs, nodes_in, AreBelow, AllBelow}
 use Rattle.fr_plain.specs.Run.{Capture as Passed, Run, unit_c, number, read, borrow, box_r, arith as arith_r, bind, print, assign, block, spawn, join_r, last, more}
-use Rattle.fr_plain.specs.Resolve.{or_zero, named, moves, captures, lets_in, lets, before, resolve, resolve_items}
+use Rattle.fr_plain.specs.Resolve.{named, moves, captures, lets_in, lets, before, resolve, resolve_items}
 use Rattle.borrow_check.specs.declared.usage.Usage.{Usage}
 use Rattle.fr_meaning.specs.declared.forms.Captured as forms_captured
 use Rattle.fr_meaning.specs.declared.forms.Form.{Form}
@@ -44,10 +44,6 @@ use Rattle.fr_meaning.proofs.PartLemmas.{Row, a_number, a_unit, a_read, a_borrow
 
 -- RUNNING TERMS
 
-same_slot : (o : Option ℕ) → unwrap_or o 0 ≡ or_zero o
-same_slot None = refl
-same_slot (Some s) = refl
-
 index_is : (us : List Usage) (n : ℕ) (u d : Usage) → slice_get us n ≡ Some u → slice_index_or us n d ≡ u
 index_is [] n u d h = absurd cc
 index_is (x ∷ us) zero u d h = let e : Some x ≡ Some u = h in cc
@@ -63,7 +59,6 @@ place_named p to e taken sort h =
     let used : usage_at p to ≡ u = index_is p.usages to u (record { slot = 0; takes = false }) h in
     ap (λ w. unwrap_or (programs.place_of w (usage_at p to)) d) is
     ∙ ap (λ (x : Usage). place_of spot x.slot) used
-    ∙ ap (place_of spot) (same_slot (slot_of e spot.name))
 
 -- whether a typed read takes
 takes_by : (b : Bool) (j k : Kind) (e e1 : Env) (at : ℕ) (r : Reason) (rest : Outcome) (c : Bool) → unless b at r rest ≡ typed k e1 → (rest ≡ typed k e1 → c ≡ is_taken rest) → c ≡ is_taken (unless b at r rest)
@@ -88,7 +83,7 @@ taken_part undefined e w x k e1 h = absurd (no_fault _ _ k e1 h)
 taken_part no_target e w x k e1 h = absurd (no_fault _ _ k e1 h)
 
 taken_slot : (o : Option ℕ) (e : Env) (w : Spot) (k : Kind) (e1 : Env) → with_slot w.at o (λ s. with_part w.at (type_at e (place_of w s)) (λ q. with_whole w.at q (read_rule e w (place_of w s)))) ≡ typed k e1 →
-    is_moved (type_at e (place_of w (or_zero o))) ≡ is_taken (with_slot w.at o (λ s. with_part w.at (type_at e (place_of w s)) (λ q. with_whole w.at q (read_rule e w (place_of w s)))))
+    is_moved (type_at e (place_of w (unwrap_or o 0))) ≡ is_taken (with_slot w.at o (λ s. with_part w.at (type_at e (place_of w s)) (λ q. with_whole w.at q (read_rule e w (place_of w s)))))
 taken_slot None e w k e1 h = absurd (no_fault _ _ k e1 h)
 taken_slot (Some s) e w k e1 h = taken_part (type_at e (place_of w s)) e w (place_of w s) k e1 h
 
@@ -113,10 +108,9 @@ capture_named p i e sort h =
     let used : usage_at p i ≡ u = index_is p.usages i u (record { slot = 0; takes = false }) h in
     let d : Lval = record { slot = 0; depth = 0 } in
     let place : place_in p i ≡ lval u.slot = ap (λ x. unwrap_or (programs.place_of x (usage_at p i)) d) is ∙ ap (λ (x : Usage). lval x.slot) used in
-    let slot : (place_in p i).slot ≡ (named e w).slot = ap (λ (x : Lval). x.slot) place ∙ same_slot (slot_of e c.name) in
+    let slot : (place_in p i).slot ≡ (named e w).slot = ap (λ (x : Lval). x.slot) place in
     let take : takes_of p i ≡ moves e w =
-    ap (λ x. is_taking x (usage_at p i)) is ∙ ap (λ (x : Usage). x.takes) used
-    ∙ ap (λ s. is_moved (type_at e (place_of w s))) (same_slot (slot_of e c.name)) in
+    ap (λ x. is_taking x (usage_at p i)) is ∙ ap (λ (x : Usage). x.takes) used in
     ap₂ made slot take
   where
     lval : ℕ → Lval

@@ -15,7 +15,8 @@ use Rattle.fr_terms.specs.Terms.{Text}
 use Rattle.fr_syntax.specs.Arena.{text_of}
 use Rattle.fr_syntax.specs.Names.{with_text}
 use Rattle.fr_syntax.specs.Text.{text_len, head_is}
-use Rattle.fr_syntax.specs.Tokens.{number_value, kind_or, kind_at, free_at, names_after}
+use Rattle.fr_base.specs.Numbers.{number_value}
+use Rattle.fr_syntax.specs.Tokens.{kind_or, kind_at, free_at, names_after}
 use Rattle.fr_syntax.specs.Words.{fixed_of, word_of, mark_of, is_letter, is_digit, is_word_byte, is_blank}
 use Rattle.fr_syntax.specs.declared.kind.TokenKind.{TokenKind}
 use Rattle.fr_syntax.specs.declared.kind.TokenKind.TheVariants.{Name, Number}

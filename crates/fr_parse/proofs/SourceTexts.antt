@@ -9,7 +9,8 @@ use Rattle.std.proofs.lemmas.List.Sums.{prefix_len_passes}
 use Rattle.fr_terms.specs.Terms.{Text, Captured, Term, block_t, let_t, assign_t, read_t, borrow_t, borrow_mut_t, number_t, unit_t, box_t, print_t, arith_t, join_t, mutex_t, dup_t, lock_t, spawn_t, par_t, Items, none, item}
 use Rattle.fr_syntax.specs.Arena.{text_of}
 use Rattle.fr_syntax.specs.Text.{text_len, head_is}
-use Rattle.fr_syntax.specs.Tokens.{number_value, kind_or, kind_at, free_at, name_at, number_at, names_after, unblanked, first_text, after_text, end_at, Leads, AreTokens}
+use Rattle.fr_base.specs.Numbers.{number_value}
+use Rattle.fr_syntax.specs.Tokens.{kind_or, kind_at, free_at, name_at, number_at, names_after, unblanked, first_text, after_text, end_at, Leads, AreTokens}
 use Rattle.fr_syntax.specs.Words.{fixed_of, word_of, mark_of, is_letter, is_digit, is_word_byte}
 use Rattle.fr_syntax.specs.declared.kind.TokenKind.{TokenKind}
 use Rattle.fr_syntax.specs.declared.kind.TokenKind.TheVariants.{Name, Number, LetWord, MutWord, BoxWord, PrintWord, SpawnWord, JoinWord, ParWord, MutexWord, LockWord, AsWord, DupWord, OpenBrace, CloseBrace, OpenParen, CloseParen, Semicolon, Comma, Equals, Amp, Star, Minus}

@@ -1,6 +1,6 @@
 -- The running term of a source: slots for names, how many variables a block has, and for each read and capture whether
 -- it moves, all as the typing has them (this project's rule).
-use Rattle.std.specs.Prelude.{ℕ, zero, suc, ◌+◌, Bool, true, false, List, [], ◌∷◌, length, Option, Some, None}
+use Rattle.std.specs.Prelude.{ℕ, zero, suc, ◌+◌, Bool, true, false, List, [], ◌∷◌, length, Option, Some, None, unwrap_or}
 use Rattle.fr_base.specs.declared.place.Lval.{Lval}
 use Rattle.fr_terms.specs.Terms.{Text, Spot, Term, block_t, let_t, assign_t, read_t, borrow_t, borrow_mut_t, number_t, unit_t, box_t, print_t, arith_t, join_t, mutex_t, dup_t, lock_t, spawn_t, par_t, Captured, Items, none, item}
 use Rattle.fr_typing.specs.Kinds.{Owned, unit, whole}
@@ -11,13 +11,9 @@ use Rattle.fr_typing.specs.Captures.{Capturer, by_spawn, by_par, spot_of, env_le
 use Rattle.fr_typing.specs.Typing.{typing}
 use Rattle.fr_plain.specs.Run.{Capture, Run, unit_c, number, read, borrow, box_r, arith, bind, print, assign, block, spawn, join_r, mutex_r, dup, lock, par, Parts, last, more}
 
-abbrev pub or_zero : Option ℕ → ℕ
-or_zero None = 0
-or_zero (Some s) = s
-
 -- the place that a written place names
 abbrev pub named : Env → Spot → Lval
-named e w = place_of w (or_zero (slot_of e w.name))
+named e w = place_of w (unwrap_or (slot_of e w.name) 0)
 
 -- a read of a moved type takes the value out
 abbrev pub moves : Env → Spot → Bool

@@ -1,6 +1,6 @@
 -- A typed term of the source resolves to a typed running term.
 use Rattle.std.proofs.Common.{◌≡◌, ◌==◌, ℕ, zero, suc, ◌+◌, ◌-◌, ◌<◌, ◌≤◌, Bool, true, false, not, [], ◌∷◌, List, length, drop, Option, Some, None, refl, sym, ap, ◌∙◌, subst, arith as numbers, length-drop, add-zero}
-use Rattle.std.specs.Prelude.{⊤, ◌⊎◌, ◌||◌, nat_lt, nat_le, if◌then◌else◌}
+use Rattle.std.specs.Prelude.{⊤, ◌⊎◌, ◌||◌, nat_lt, nat_le, if◌then◌else◌, unwrap_or}
 use Rattle.std.specs.List.{list_any}
 use Rattle.std.proofs.Common.{inl, inr}
 use Rattle.std.proofs.lemmas.Bool.{leb-false, ltb-false}
@@ -19,7 +19,7 @@ use Rattle.fr_typing.proofs.Agree.{typing_by}
 use Rattle.fr_store.proofs.Below.{or_false}
 use Rattle.fr_plain.specs.declared.value.Value.{Value}
 use Rattle.fr_plain.specs.Run.{Capture, Run, unit_c, read, borrow, arith, assign, block, last as last_p, more, Now, now}
-use Rattle.fr_plain.specs.Resolve.{named, moves, or_zero, lets_in, lets, before, captures, resolve, resolve_items}
+use Rattle.fr_plain.specs.Resolve.{named, moves, lets_in, lets, before, captures, resolve, resolve_items}
 use Rattle.fr_typing.specs.Threaded.{IsThreaded, AreThreaded}
 use Rattle.fr_sound.specs.RunTypes.{Forms, one_thread, threads, RunCaptures, c_none, c_copy, c_move, t_spawn, t_join, Assigns, to_own, to_lent, to_variable, IsNumber, o_int, Falls, f_none, f_one, RunTypes, t_unit, t_number, t_copy, t_move, t_borrow, t_borrow_mut, t_box, t_left, t_right, t_let, t_print, t_assign, t_block, PartsTypes, p_last, p_more}
 use Rattle.fr_sound.proofs.DoneTerms.{Done, d_going, d_constant, done}
@@ -279,11 +279,11 @@ set_if e w k b h = ap (λ c. if c then e else put_at e w (whole k)) h
 
 -- a read of a place that is named
 read_as : {forms : Forms} {e e1 : Env} {k : Kind} (w : Spot) (s : ℕ) (b : Bool) → slot_of e w.name ≡ Some s → moves e w ≡ b → RunTypes forms e None (read (place_of w s) b) k e1 → RunTypes forms e None (read (named e w) (moves e w)) k e1
-read_as {forms = forms} {e = e} {e1 = e1} {k = k} w s b h m r = subst (λ (o : Option ℕ). RunTypes forms e None (read (place_of w (or_zero o)) (moves e w)) k e1) (sym h) (subst (λ (c : Bool). RunTypes forms e None (read (place_of w s) c) k e1) (sym m) r)
+read_as {forms = forms} {e = e} {e1 = e1} {k = k} w s b h m r = subst (λ (o : Option ℕ). RunTypes forms e None (read (place_of w (unwrap_or o 0)) (moves e w)) k e1) (sym h) (subst (λ (c : Bool). RunTypes forms e None (read (place_of w s) c) k e1) (sym m) r)
 
 -- whether a read moves, by the type that is found
 found_at : {e : Env} {w : Spot} {s : ℕ} {k : Kind} → Has e w s (found (whole k)) → moves e w ≡ not (copies k)
-found_at {e = e} {w = w} h = ap (λ o. is_moved (type_at e (place_of w (or_zero o)))) h.named ∙ ap is_moved h.is
+found_at {e = e} {w = w} h = ap (λ o. is_moved (type_at e (place_of w (unwrap_or o 0)))) h.named ∙ ap is_moved h.is
 
 -- a read that copies
 copy_runs : {forms : Forms} {e : Env} {w : Spot} {s : ℕ} {k : Kind} → Has e w s (found (whole k)) → copies k ≡ true → RunTypes forms e None (read (named e w) (moves e w)) k e
@@ -296,7 +296,7 @@ move_runs {e = e} {w = w} {s = s} f c b p =
 
 -- a borrow of a place that is named
 borrow_as : {forms : Forms} {e : Env} {k : Kind} (m : Bool) (w : Spot) (s : ℕ) → slot_of e w.name ≡ Some s → RunTypes forms e None (borrow (place_of w s) m) k e → RunTypes forms e None (borrow (named e w) m) k e
-borrow_as {forms = forms} {e = e} {k = k} m w s h r = subst (λ (o : Option ℕ). RunTypes forms e None (borrow (place_of w (or_zero o)) m) k e) (sym h) r
+borrow_as {forms = forms} {e = e} {k = k} m w s h r = subst (λ (o : Option ℕ). RunTypes forms e None (borrow (place_of w (unwrap_or o 0)) m) k e) (sym h) r
 
 -- a shared borrow
 borrow_runs : {forms : Forms} {e : Env} {w : Spot} {s : ℕ} {k : Kind} → Shows e w s k → RunTypes forms e None (borrow (named e w) false) (shared (place_of w s ∷ [])) e
@@ -341,7 +341,7 @@ assigns (view x) f o kept shape out = assigns_reference (view x) f o refl kept o
 
 -- an assignment to a place that is named
 assign_as : {forms : Forms} {e e2 : Env} {r : Run} (e1 : Env) (w : Spot) (s : ℕ) → slot_of e1 w.name ≡ Some s → RunTypes forms e None (assign (place_of w s) r) (own unit) e2 → RunTypes forms e None (assign (named e1 w) r) (own unit) e2
-assign_as {forms = forms} {e = e} {e2 = e2} {r = r} e1 w s h t = subst (λ (o : Option ℕ). RunTypes forms e None (assign (place_of w (or_zero o)) r) (own unit) e2) (sym h) t
+assign_as {forms = forms} {e = e} {e2 = e2} {r = r} e1 w s h t = subst (λ (o : Option ℕ). RunTypes forms e None (assign (place_of w (unwrap_or o 0)) r) (own unit) e2) (sym h) t
 
 -- arithmetic: the left operand is a constant, or goes on
 arith_by : {forms : Forms} {n : Now} {e e1 e2 : Env} {h : Option Value} (f : Op) (a b : Run) → now a ≡ n → RunTypes forms e None a (own int) e1 → RunTypes forms e1 None b (own int) e2 → Done n e None h (own int) e1 → RunTypes forms e None (arith f a b) (own int) e2
@@ -376,7 +376,7 @@ drop_all (suc n) (s ∷ e) h = drop_all n e (omega numbers)
 capture_as : {e e2 n n2 : Env} {rest : List Capture} (c : Captured) (s : ℕ) (b : Bool) → slot_of e c.name ≡ Some s → moves e (spot_of c) ≡ b → RunCaptures e n (record { slot = s; take = b } ∷ rest) e2 n2
     → RunCaptures e n (record { slot = (named e (spot_of c)).slot; take = moves e (spot_of c) } ∷ rest) e2 n2
 capture_as {e = e} {e2 = e2} {n = n} {n2 = n2} {rest = rest} c s b h m r =
-    subst (λ (o : Option ℕ). RunCaptures e n (record { slot = or_zero o; take = moves e (spot_of c) } ∷ rest) e2 n2) (sym h) (subst (λ (t : Bool). RunCaptures e n (record { slot = s; take = t } ∷ rest) e2 n2) (sym m) r)
+    subst (λ (o : Option ℕ). RunCaptures e n (record { slot = unwrap_or o 0; take = moves e (spot_of c) } ∷ rest) e2 n2) (sym h) (subst (λ (t : Bool). RunCaptures e n (record { slot = s; take = t } ∷ rest) e2 n2) (sym m) r)
 
 -- spawn captures owned types as they are
 spawn_kind : (e : Env) (k l : Kind) → captured_kind by_spawn e k ≡ Some l → (x : Owned) × (k ≡ own x) × (l ≡ own x)

@@ -2,6 +2,7 @@
 use Rattle.std.specs.Prelude.{◌≡◌, ℕ, ◌+◌, ◌*◌, ◌<◌, ◌^◌, ◌-◌, nat_lt, nat_le, List, [], ◌∷◌, ◌++◌, length, drop, take, fold, Option, Some, None, is_some, Result, Ok, Err, if◌then◌else◌, pos}
 use Rattle.std.specs.List.{position_or_len}
 use Rattle.std.specs.Str.{bytes_eq}
+use Rattle.fr_base.specs.Numbers.{number_value}
 use Rattle.fr_syntax.specs.Names.{with_text}
 use Rattle.fr_syntax.specs.Words.{fixed_of, is_letter, is_digit}
 use Rattle.fr_syntax.specs.Text.{blanks, text_len, head_is}
@@ -10,10 +11,6 @@ use Rattle.fr_syntax.specs.declared.kind.TokenKind.TheVariants.{Name, Number, En
 use Rattle.fr_syntax.specs.declared.token.Token.{Token}
 use Rattle.fr_syntax.specs.declared.token.TokenError.{TokenError}
 use Rattle.fr_syntax.specs.declared.token.TokenError.TheVariants.{BadByte, NameTooLong, NumberTooLarge, NoMemory}
-
--- the number that a text of digits stands for
-abbrev pub number_value : List ℕ → ℕ
-number_value text = fold (λ n d. n * 10 + (d - 48)) 0 text
 
 abbrev pub name_at : List (List ℕ) → ℕ → List ℕ → Result TokenKind TokenError
 name_at names place text = if nat_le (length text) 32 then Ok (Name (position_or_len (bytes_eq text) names)) else Err (NameTooLong place)

@@ -8,7 +8,8 @@ ghost use Rattle.fr_syntax.specs.Names.{with_text};
 ghost use Rattle.fr_syntax.specs.Words.{is_letter, is_digit, is_word_byte, is_blank};
 ghost use Rattle.fr_syntax.specs.Text.{blanks, text_len, head_is};
 ghost use Rattle.fr_syntax.specs.TokenList.{IsInner};
-ghost use Rattle.fr_syntax.specs.Tokens.{kind_at, name_at, names_after, Gives, number_value, first_text, after_text};
+ghost use Rattle.fr_base.specs.Numbers.{number_value};
+ghost use Rattle.fr_syntax.specs.Tokens.{kind_at, name_at, names_after, Gives, first_text, after_text};
 
 use crate::kind::{TokenKind, fixed_of, is_blank, is_digit, is_letter, is_word_byte};
 use crate::known::Known;

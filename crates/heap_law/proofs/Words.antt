@@ -1,6 +1,6 @@
 -- The objects have words exactly where nothing is counted.
 use Rattle.std.proofs.Common.{◌≡◌, ◌⊎◌, inl, inr, ⊎_elim, ℕ, ◌+◌, Bool, true, false, if◌then◌else◌, List, [], ◌∷◌, length, Option, Some, None, refl, sym, ap, subst, ◌∙◌, arith}
-use Rattle.std.specs.Prelude.{◌==◌}
+use Rattle.std.specs.Prelude.{◌==◌, unwrap_or}
 use Rattle.std.proofs.lemmas.Bool.Decides.{nat_tests}
 use Rattle.fr_base.specs.declared.name.ObjNo.{ObjNo}
 use Rattle.fr_store.proofs.Keys.{object_cases}
@@ -111,11 +111,7 @@ first_told (q ∷ ps) o w e = told_by q ps o w (same_object q.object o) refl (fi
 
 -- FROM THE COUNTS
 
-abbrev pub or_zero : Option ℕ → ℕ
-or_zero None = 0
-or_zero (Some w) = w
-
-word_is : (o : Option ℕ) (w : ℕ) → is_word o w ≡ true → w ≡ or_zero o
+word_is : (o : Option ℕ) (w : ℕ) → is_word o w ≡ true → w ≡ unwrap_or o 0
 word_is None w e = absurd (cc e)
 word_is (Some v) w e = sym (same_number v w e)
 
@@ -123,7 +119,7 @@ word_is (Some v) w e = sym (same_number v w e)
 pub record Led (r a : ℕ) (o : Option ℕ) : Type 0 where
   pub word : ℕ
   pub is : o ≡ Some word
-  pub leads : LeadsTo r a (or_zero o)
+  pub leads : LeadsTo r a (unwrap_or o 0)
 
 led : (r a : ℕ) (o : Option ℕ) → is_spot r a o ≡ true → Led r a o
 led r a None e = absurd (cc e)
@@ -133,7 +129,7 @@ led r a (Some w) e = record {
   leads = record { server = same_number (server_of w) r (and_left (server_of w == r) (address_of w == a) e); address = same_number (address_of w) a (and_right (server_of w == r) (address_of w == a) e) };
 }
 
-same_by : (k : Cluster) → same_word_wrong (sight k) ≡ 0 → (p : Pointer) → Among p (all_pointers (sight k)) → (b : Bool) → is_stale (sight k).stale p.at ≡ b → IsStale (sight k) p.at ⊎ (p.word ≡ or_zero (word (sight k) p.object))
+same_by : (k : Cluster) → same_word_wrong (sight k) ≡ 0 → (p : Pointer) → Among p (all_pointers (sight k)) → (b : Bool) → is_stale (sight k).stale p.at ≡ b → IsStale (sight k) p.at ⊎ (p.word ≡ unwrap_or (word (sight k) p.object) 0)
 same_by k z p m true e = inl (tells k p.at e)
 same_by k z p m false e =
     let here : Among p (sight k).pointers = fresh_in (sight k).stale p (all_pointers (sight k)) e m in
@@ -149,7 +145,7 @@ led_home k z r a c m = led r a (word (sight k) c.object) (is_so (is_spot r a (wo
 
 from_counts : (k : Cluster) → same_word_wrong (sight k) ≡ 0 → homeward_wrong (sight k) ≡ 0 → HasWords (sight k)
 from_counts k z h = record {
-  word = λ o. or_zero (word (sight k) o);
+  word = λ o. unwrap_or (word (sight k) o) 0;
   same = λ p m. same_by k z p m (is_stale (sight k).stale p.at) refl;
   live = λ r a c m. let y = led_home k h r a c m in fresh_of k c.object (first_told (sight k).pointers c.object y.word y.is);
   home = λ r a c m. (led_home k h r a c m).leads;

@@ -1,6 +1,6 @@
 -- THE COLOURED HEAP of a cluster: the state of the shared memory, as acts leave it, that the cluster stands for (in the manner of DRust; the state is
 -- this project's).
-use Rattle.std.specs.Prelude.{◌≡◌, ℕ, ◌==◌, Bool, true, false, not, ◌&&◌, List, [], ◌∷◌, Option, Some, None, is_some, is_none}
+use Rattle.std.specs.Prelude.{◌≡◌, ℕ, ◌==◌, Bool, true, false, not, ◌&&◌, List, [], ◌∷◌, Option, Some, None, is_some, is_none, unwrap_or}
 use Rattle.fr_base.specs.declared.name.ObjNo.{ObjNo}
 use Rattle.fr_base.specs.declared.name.MutexNo.{MutexNo}
 use Rattle.heap_partition.specs.Plain.{plain_of}
@@ -32,10 +32,6 @@ or_other (Some x) y = Some x
 
 -- OBJECTS
 
-abbrev word_or_zero : Option ℕ → ℕ
-word_or_zero None = 0
-word_or_zero (Some w) = w
-
 abbrev dropped_by : ObjNo → Thing → ℕ
 dropped_by o (sent r m) = drops o m
 dropped_by o x = 0
@@ -43,7 +39,7 @@ dropped_by o x = 0
 -- an object with its word and its value without words, condemned where a `drop` message names it
 abbrev living_as : Sight → ObjNo → Cell → Place → Option Living
 living_as s o c p =
-    if_some (same_object c.object o) (record { object = o; place = p; word = word_or_zero (word s o); value = plain_of c.value; is_condemned = some (tot (dropped_by o) s.things) })
+    if_some (same_object c.object o) (record { object = o; place = p; word = unwrap_or (word s o) 0; value = plain_of c.value; is_condemned = some (tot (dropped_by o) s.things) })
 
 -- it lies at a server, or flies to the one that its message goes to
 abbrev moved_living : Sight → ObjNo → ℕ → Message → Option Living

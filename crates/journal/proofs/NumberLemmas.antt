@@ -8,7 +8,8 @@ use Rattle.std.proofs.lemmas.Bool.{and_parts, and_from, leb-true, le-leb, ne_eqb
 use Rattle.std.proofs.lemmas.List.{take-append-drop, take_at, drop_at}
 use Rattle.std.proofs.lemmas.Fmt.{digits_decimal, digits_value-decimal, decimal-digits_value, decimal_nonempty, first_decimal, decimal_digit}
 use Rattle.std.proofs.lemmas.Str.Parse.{IsNumeralModel, numerals_by_fold, tells_all_ascii_digits}
-use Rattle.journal.specs.OrderReading.{number_value, is_plain, number_at}
+use Rattle.fr_base.specs.Numbers.{number_value}
+use Rattle.journal.specs.OrderReading.{is_plain, number_at}
 use Rattle.journal.proofs.Tools.{guard_some}
 
 -- all of these are digits

@@ -2,6 +2,7 @@
 use Rattle.std.specs.Prelude.{◌≡◌, ℕ, ◌+◌, ◌*◌, ◌-◌, ◌^◌, nat_le, Bool, true, false, not, ◌&&◌, ◌==◌, List, [], ◌∷◌, take, drop, fold, Option, Some, None, if◌then◌else◌, codes}
 use Rattle.std.specs.List.{prefix_len}
 use Rattle.std.specs.Char.{is_ascii_digit}
+use Rattle.fr_base.specs.Numbers.{number_value}
 use Rattle.fr_base.specs.declared.name.MutexNo.{MutexNo}
 use Rattle.fr_base.specs.declared.step.Fresh.{Fresh}
 use Rattle.fr_base.specs.declared.step.Fresh.TheVariants as fresh
@@ -19,10 +20,6 @@ None >>= f = None
 
 abbrev pub Read : Type 0 → Type 0
 Read X = Option (X × List ℕ)
-
--- the number that digits stand for
-abbrev pub number_value : List ℕ → ℕ
-number_value text = fold (λ n d. n * 10 + (d - 48)) 0 text
 
 -- some digits without a zero in front
 abbrev pub is_plain : List ℕ → Bool

@@ -3,7 +3,8 @@
 ghost use Rattle.std.specs.Prelude.{◌≡◌, ℕ, ◌≤◌, ◌<◌, ◌-◌, ◌^◌, length, min, IsNone, IfSome};
 ghost use Rattle.std.specs.List.{prefix_len};
 ghost use Rattle.std.specs.Char.{is_ascii_digit};
-ghost use Rattle.journal.specs.OrderReading.{Gives, number_value, is_plain, number_at, behind, name_at, thread_at, mutex_at, numbered_at, one_thread_at, two_threads_at, one_mutex_at, steps_at, line_at};
+ghost use Rattle.fr_base.specs.Numbers.{number_value};
+ghost use Rattle.journal.specs.OrderReading.{Gives, is_plain, number_at, behind, name_at, thread_at, mutex_at, numbered_at, one_thread_at, two_threads_at, one_mutex_at, steps_at, line_at};
 
 use crate::order::OrderLine;
 use fr_base::{Fresh, MutexNo, ThreadNo};

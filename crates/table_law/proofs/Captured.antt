@@ -1,5 +1,6 @@
 -- The slots of captured names pass as the names do.
 use Rattle.std.proofs.Common.{◌≡◌, ℕ, Bool, true, not, List, [], ◌∷◌, Option, Some, None, refl, sym, ap, ◌∙◌}
+use Rattle.std.specs.Prelude.{unwrap_or}
 use Rattle.fr_base.specs.declared.place.Lval.{Lval}
 use Rattle.fr_terms.specs.Terms.{Captured, Spot, Term}
 use Rattle.fr_typing.specs.Kinds.{Owned, unit, Kind, own, shared, mutable, view, whole, copies, map_some}
@@ -11,7 +12,7 @@ use Rattle.fr_typing.specs.Typing.{Types, typing}
 use Rattle.fr_typing.proofs.Agree.{typing_by}
 use Rattle.fr_typing.proofs.CaptureLemmas.{capture_by, capture_all_by}
 use Rattle.fr_plain.specs.Run.{Capture}
-use Rattle.fr_plain.specs.Resolve.{named, moves, or_zero, captures}
+use Rattle.fr_plain.specs.Resolve.{named, moves, captures}
 use Rattle.fr_code.specs.CodeTypes.{SlotPasses, passes, SlotsPass, pass_none, pass_next}
 use Rattle.fr_code.specs.Steps.{captured}
 
@@ -19,7 +20,7 @@ use Rattle.fr_code.specs.Steps.{captured}
 
 -- the place of a name that has a slot
 pub named_is : (e : Env) (w : Spot) {s : ℕ} → slot_of e w.name ≡ Some s → named e w ≡ place_of w s
-named_is e w h = ap (λ o. place_of w (or_zero o)) h
+named_is e w h = ap (λ o. place_of w (unwrap_or o 0)) h
 
 -- whether a read moves, by the type that is found
 pub moves_is : {e : Env} {w : Spot} {s : ℕ} {k : Kind} → Has e w s (found (whole k)) → moves e w ≡ not (copies k)

@@ -1,5 +1,5 @@
 use Rattle.std.proofs.Common.{◌≡◌, ◌^◌, ◌-◌, min, take}
-use Rattle.fr_syntax.specs.Tokens.{number_value}
+use Rattle.fr_base.specs.Numbers.{number_value}
 use Rattle.fr_syntax.proofs.scan.number_of.Given as goal
 
 abbrev pub invariant-loop-d : goal.invariant-loop-d

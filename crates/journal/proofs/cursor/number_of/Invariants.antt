@@ -1,5 +1,5 @@
 use Rattle.std.proofs.Common.{◌≡◌, ◌^◌, ◌-◌, min, take}
-use Rattle.journal.specs.OrderReading.{number_value}
+use Rattle.fr_base.specs.Numbers.{number_value}
 use Rattle.journal.proofs.cursor.number_of.Given as goal
 
 abbrev pub invariant-loop-d : goal.invariant-loop-d
