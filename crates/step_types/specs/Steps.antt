@@ -21,9 +21,7 @@ use Rattle.fr_code.specs.Steps.{code_moves}
 use Rattle.fr_code.specs.Machine.{CodeState, CodeThread, CodeWhole, CodeStepped, code_step, code_run, code_start}
 use Rattle.fr_code.specs.CodeTypes.{Table}
 use Rattle.fr_code.specs.CodeTable.{IsTable}
-use Rattle.fr_code.specs.StandsFor.{IsCodeOf}
 use Rattle.fr_code.specs.TableStates.{CodeStateTypes}
-use Rattle.table_law.specs.Layout.{IsLaidOut}
 
 -- each plain step of a code with a table leads from a typed state to a typed one
 abbrev pub StepsKeepTypes : Type 0
@@ -57,9 +55,9 @@ NeverStuck = (code : List Instr) (table : Table) → IsTable code table → (y :
 abbrev pub RunsUnstuck : Run → Type 0
 RunsUnstuck r = (order : List Turn) (s : Stepped Run) → plain terms r order ≡ Some s → (t : ℕ) (x : Thread Run) → thread_at s.state.threads t ≡ Some x → IsNotStuck terms s.state t x
 
--- so it is with a typed program, whatever its forms, where there is a code of it in which the threads' codes stand one behind another
+-- so it is with each typed program, whatever its forms, whose places have at most eight stars
 abbrev pub ProgramsNeverStuck : Type 0
-ProgramsNeverStuck = (code : List Instr) (at : ℕ) (items : Items) (k : Kind) (e : Env) → HasShortPlaces (block_t at items) → Types [] (block_t at items) k e → IsCodeOf code (program (block_t at items)) → IsLaidOut code → RunsUnstuck (program (block_t at items))
+ProgramsNeverStuck = (at : ℕ) (items : Items) (k : Kind) (e : Env) → HasShortPlaces (block_t at items) → Types [] (block_t at items) k e → RunsUnstuck (program (block_t at items))
 
 -- such programs: a count under a lock in two threads, and two pairs of threads that see one box
 pub record ExamplesNeverStuck : Type 0 where

@@ -4,4 +4,4 @@
 
 mod laws;
 
-pub use laws::{examples_never_stuck, never_stuck, steps_keep_types};
+pub use laws::{examples_never_stuck, never_stuck, steps_keep_types, typed_terms_step};

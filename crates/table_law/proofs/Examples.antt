@@ -18,6 +18,7 @@ use Rattle.fr_code.proofs.Codes.{codes_compute_lem}
 use Rattle.table_law.specs.Layout.{IsLaidOut}
 use Rattle.table_law.specs.Tables.{HasTable}
 use Rattle.table_law.specs.Examples.{ExamplesHaveTables}
+use Rattle.table_law.specs.ProgramCodes.{CodesOfExamples}
 use Rattle.table_law.proofs.Programs.{programs_have_tables}
 
 -- the items of a program
@@ -47,3 +48,6 @@ examples_have_tables = record {
   counted = (counted_laid, computed counted_code (items_of counted) (tt, (omega arith, (((omega arith, ((omega arith, (omega arith, tt)), tt)), tt), (omega arith, ((omega arith, (omega arith, tt)), tt))))) refl codes_compute_lem.counted counted_laid);
   shared = (shared_laid, computed shared_code (items_of twice_shared) (tt, ((omega arith, (((omega arith, tt), (omega arith, tt)), tt)), ((omega arith, tt), ((omega arith, (((omega arith, tt), (omega arith, tt)), tt)), tt)))) refl codes_compute_lem.twice_shared shared_laid);
 }
+
+pub codes_of_examples : CodesOfExamples
+codes_of_examples = record { started = refl; counted = refl; shared = refl }

@@ -9,3 +9,7 @@ pub mod Tabled
 pub mod Lending
 pub mod Programs
 pub mod Examples
+pub mod Coded
+pub mod CountedPieces
+pub mod Generations
+pub mod SourceTerms

@@ -43,7 +43,7 @@ behind_in code m [] h i = absurd i
 behind_in code m (k ∷ ks) h (inl e) = subst (IsBehindEnd code) (sym e) h.0
 behind_in code m (k ∷ ks) h (inr i) = behind_in code m ks h.1 i
 
-above_all : (n : ℕ) (ms : List ℕ) → ((m : ℕ) → In m ms → n < m) → AllAbove n ms
+pub above_all : (n : ℕ) (ms : List ℕ) → ((m : ℕ) → In m ms → n < m) → AllAbove n ms
 above_all n [] h = tt
 above_all n (m ∷ ms) h = (h m (inl refl), above_all n ms (λ k i. h k (inr i)))
 

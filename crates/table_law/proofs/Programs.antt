@@ -7,11 +7,15 @@ use Rattle.fr_typing.specs.Typing.{Types, types_block}
 use Rattle.fr_plain.specs.Resolve.{program}
 use Rattle.fr_code.specs.StandsFor.{operand_of}
 use Rattle.table_law.specs.Tables.{ProgramsHaveTables}
+use Rattle.table_law.specs.CodeOf.{code_of}
+use Rattle.table_law.specs.ProgramCodes.{ProgramsHaveCodes, CodesHaveTables}
 use Rattle.table_law.proofs.Grown.{Grown, kept, newer, like_none, grown}
 use Rattle.table_law.proofs.Lines.{taken, Emits}
 use Rattle.table_law.proofs.Emitted.{emits}
 use Rattle.table_law.proofs.Tabled.{has_table}
 use Rattle.table_law.proofs.Lending.{lends, owned_alone}
+use Rattle.table_law.proofs.Generations.{has_its_code}
+use Rattle.table_law.proofs.SourceTerms.{resolve_source}
 
 -- the result's type, which names no slot
 block_owned : {at : ℕ} {items : Items} {k : Kind} {e : Env} → Types [] (block_t at items) k e → (o : Owned) × (k ≡ own o)
@@ -29,3 +33,11 @@ programs_have_tables code at items k e short types is laid =
     let main : Emits code 0 [] [] o.0 is.to [] (operand_of (program (block_t at items))) (own o.0) = subst (λ f. Emits code 0 [] [] o.0 is.to f (operand_of (program (block_t at items))) (own o.0)) empty (subst (λ z. Emits code 0 [] [] o.0 is.to e (operand_of (program (block_t at items))) z) o.1 run) in
     let found = has_table code laid o.0 is.to main.line is.over (taken [] main.value refl) in
     record { table = found.0; is = found.1; result = o.1 ∙ ap own (sym found.2) }
+
+pub programs_have_codes : ProgramsHaveCodes
+programs_have_codes t = has_its_code (program t) (resolve_source t [])
+
+pub codes_have_tables : CodesHaveTables
+codes_have_tables at items k e short types =
+    let c = programs_have_codes (block_t at items) in
+    programs_have_tables (code_of (program (block_t at items))) at items k e short types c.is c.laid

@@ -1,3 +1,5 @@
 pub mod Layout
 pub mod Tables
 pub mod Examples
+pub mod CodeOf
+pub mod ProgramCodes

@@ -1,6 +1,7 @@
 //! Laws of tables of compiled code.
 
 ghost use Rattle.table_law.specs.Examples.{ExamplesHaveTables};
+ghost use Rattle.table_law.specs.ProgramCodes.{CodesHaveTables, CodesOfExamples, ProgramsHaveCodes, TermsHaveCodes};
 ghost use Rattle.table_law.specs.Tables.{ProgramsHaveTables};
 
 /// A code of a typed program, whatever its forms, in which the threads' codes stand one behind another, has a table: an entry at each
@@ -13,4 +14,18 @@ pub fn typed_code_has_table()
 /// Codes to which the law applies, and so their tables.
 pub fn examples_have_tables()
     ensures { ExamplesHaveTables }
+{}
+
+/// Each term in which no step was made has a code, of whatever forms it is (`terms`): it stands for the term, each thread's code in it begins behind the
+/// end of another's, and it has an instruction for each of the term's steps, and one more. So has each program (`programs`), and where typing gives
+/// the program a type and its places have at most eight stars, that code has a table (`tables`).
+pub fn programs_have_codes()
+    ensures terms { TermsHaveCodes }
+    ensures programs { ProgramsHaveCodes }
+    ensures tables { CodesHaveTables }
+{}
+
+/// The codes of programs with threads, a lock and pairs of threads are those that are written by hand.
+pub fn codes_of_examples()
+    ensures { CodesOfExamples }
 {}

@@ -1,0 +1,41 @@
+-- That each program has a code, of whatever forms it is.
+use Rattle.std.specs.Prelude.{◌≡◌, ℕ, ◌+◌, [], length}
+use Rattle.fr_terms.specs.Terms.{Term, block_t, Items}
+use Rattle.fr_terms.specs.Limits.{HasShortPlaces}
+use Rattle.fr_typing.specs.Kinds.{Kind}
+use Rattle.fr_typing.specs.Places.{Env}
+use Rattle.fr_typing.specs.Typing.{Types}
+use Rattle.fr_plain.specs.Run.{Run, steps_left}
+use Rattle.fr_plain.specs.Resolve.{program}
+use Rattle.fr_plain.specs.ThreadRuns.{moved_in}
+use Rattle.fr_plain.specs.LockRuns.{counted}
+use Rattle.fr_plain.specs.PairRuns.{twice_shared}
+use Rattle.fr_code.specs.StandsFor.{IsSource, IsCodeOf}
+use Rattle.fr_code.specs.Examples.{started_code, counted_code, shared_code}
+use Rattle.table_law.specs.Layout.{IsLaidOut}
+use Rattle.table_law.specs.CodeOf.{code_of}
+use Rattle.table_law.specs.Tables.{HasTable}
+
+-- the term's code stands for it, each thread's code behind the end of another's, and it has an instruction for each step of the term and one more
+pub record HasItsCode (r : Run) : Type 0 where
+  pub is : IsCodeOf (code_of r) r
+  pub laid : IsLaidOut (code_of r)
+  pub long : length (code_of r) ≡ steps_left r + 1
+
+-- each term in which no step was made
+abbrev pub TermsHaveCodes : Type 0
+TermsHaveCodes = (r : Run) → IsSource r → HasItsCode r
+
+-- each program
+abbrev pub ProgramsHaveCodes : Type 0
+ProgramsHaveCodes = (t : Term) → HasItsCode (program t)
+
+-- the code of a typed program has a table, where the program's places have at most eight stars
+abbrev pub CodesHaveTables : Type 0
+CodesHaveTables = (at : ℕ) (items : Items) (k : Kind) (e : Env) → HasShortPlaces (block_t at items) → Types [] (block_t at items) k e → HasTable (code_of (program (block_t at items))) k
+
+-- codes written by hand
+pub record CodesOfExamples : Type 0 where
+  pub started : code_of (program moved_in) ≡ started_code
+  pub counted : code_of (program counted) ≡ counted_code
+  pub shared : code_of (program twice_shared) ≡ shared_code
