@@ -1,0 +1,5 @@
+pub mod Usable
+pub mod Operands
+pub mod Known
+pub mod Lines
+pub mod Variables

@@ -1,0 +1,26 @@
+-- THAT AN ENABLED EVENT HAS A RESULT: from a coherent cluster nothing that a server needs on the way of an event is missing (this project's rule).
+use Rattle.std.specs.Prelude.{◌≡◌, ℕ, true, Option, Some, None, slice_get}
+use Rattle.fr_base.specs.declared.place.Lval.{Lval}
+use Rattle.fr_base.specs.declared.instruction.Instr.{Instr}
+use Rattle.thread_state.specs.View.{ThreadState}
+use Rattle.server_model.specs.declared.event.What.TheVariants.{Step}
+use Rattle.server_model.specs.Servers.{Server, Cluster, server_at}
+use Rattle.server_model.specs.Work.{thread_in}
+use Rattle.server_model.specs.Prepare.{Access, ReadTo, ReadPointer, LendTo, access_of}
+use Rattle.server_model.specs.Events.{enabled}
+use Rattle.event_law.specs.Kinds.{Kind, instr_kind}
+use Rattle.event_law.specs.Laws.{FewEvents, HasResult}
+use Rattle.type_law.specs.ClusterTypes.{IsCoherent}
+
+-- no pointer is followed: there is no place, or it is a variable without a star
+pub data FollowsNone : Option Access → Type 0 where
+  no_place : FollowsNone None
+  reads_variable : {w : Lval} → w.depth ≡ 0 → FollowsNone (Some (ReadTo w))
+  shares_variable : {w : Lval} → w.depth ≡ 0 → FollowsNone (Some (ReadPointer w))
+  lends_variable : {w : Lval} → w.depth ≡ 0 → FollowsNone (Some (LendTo w))
+
+-- in a coherent cluster where few events were done, each enabled step of an instruction of that kind has a result, where it follows places so
+abbrev pub StepsHaveResults : Kind → (Option Access → Type 0) → Type 0
+StepsHaveResults kind Follows =
+    (k : Cluster) (n t : ℕ) (s : Server) (y : ThreadState) (i : Instr) → IsCoherent k → FewEvents k → server_at k.servers n ≡ Some s → enabled k.options s (Step t) ≡ true → thread_in s.threads t ≡ Some y
+    → slice_get k.code y.pc ≡ Some i → instr_kind i ≡ kind → Follows (access_of i y) → HasResult k n (Step t)
