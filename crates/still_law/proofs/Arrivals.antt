@@ -36,7 +36,7 @@ module _ (w : Sign → ℕ) (z : w nothing ≡ 0) where
   no_walk s i [] = refl
   no_walk s i (u ∷ ws) = omega (arith, z, no_walk s (i + 1) ws)
 
-  no_pin : (s : ℕ) (r : SharedRef) → tot f (pin_things s r) ≡ 0
+  pub no_pin : (s : ℕ) (r : SharedRef) → tot f (pin_things s r) ≡ 0
   no_pin s r = by r.pinned
     where
       by : (q : Bool) → tot f (if q then uses s r.word ∷ [] else []) ≡ 0

@@ -1,70 +1,26 @@
 -- A join that asks for its result changes what its thread waits for, and nothing that is shown.
-use Rattle.std.proofs.Common.{◌≡◌, ℕ, Bool, true, false, [], Option, Some, None, refl, sym, subst, ◌∙◌, arith}
+use Rattle.std.proofs.Common.{◌≡◌, ℕ, Bool, true, false, [], Option, Some, None, refl, sym, subst, ◌∙◌}
 use Rattle.std.specs.Prelude.{slice_get, option_map}
 use Rattle.fr_base.specs.declared.instruction.Instr.TheVariants as instr
 use Rattle.fr_base.specs.declared.instruction.Operand.{Operand}
 use Rattle.thread_state.specs.View.{ThreadState}
-use Rattle.thread_state.specs.declared.phase.Phase.{Phase}
-use Rattle.thread_state.specs.declared.phase.Phase.TheVariants as phase
-use Rattle.server_msgs.specs.declared.message.Message.TheVariants as message
 use Rattle.server_model.specs.declared.event.What.TheVariants.{Step}
 use Rattle.server_model.specs.Servers.{Server, Cluster, server_at}
 use Rattle.server_model.specs.Work.{Hand, then_some, pop, task_of, thread_in, put_back}
-use Rattle.server_model.specs.Drop.{home_of}
 use Rattle.server_model.specs.Commit.{waiting, ask_join, join}
 use Rattle.server_model.specs.Events.{can_step, has_phase, begin_work, begin_at, committed, wait_step, step, step_in, stepped, enabled, does}
 use Rattle.heap_law.specs.Names.{other}
-use Rattle.heap_law.specs.Things.{Thing, thread_things}
 use Rattle.heap_law.specs.Sight.{sight}
 use Rattle.heap_law.specs.Requests.{is_par, is_par_end, same_truth, par_end}
 use Rattle.heap_law.specs.Coherent.{IsSound}
 use Rattle.event_law.specs.Laws.{Gives}
-use Rattle.event_law.proofs.Trades.{tot-append}
-use Rattle.event_law.proofs.Bags.{rest_things, of_sending, sent_number}
 use Rattle.event_law.proofs.ThreadThere.{thread_there}
 use Rattle.event_law.proofs.StandsHere.{found_none}
-use Rattle.still_law.specs.Shows.{sign_of}
 use Rattle.still_law.specs.Laws.{JoinsThatAsk}
 use Rattle.still_law.proofs.Sites.{begins, ends, ServerStill, leaves_heap}
-use Rattle.still_law.proofs.Arrivals.{thread_parts}
 use Rattle.still_law.proofs.Once.{shown_once}
-use Rattle.still_law.proofs.Hands.{HandStill, put_still, IsQuiet, quiet_shown}
-
-step_quiet : (p : Phase) → can_step p ≡ true → is_par p ≡ false → IsQuiet p
-step_quiet phase.Ready e f = record { goes_on = refl; alone = refl; unpaired = refl }
-step_quiet phase.Got e f = record { goes_on = refl; alone = refl; unpaired = refl }
-step_quiet (phase.Taken w) e f = record { goes_on = refl; alone = refl; unpaired = refl }
-step_quiet (phase.GotPar a b) e f = absurd (cc f)
-step_quiet (phase.WaitCell w) e f = absurd (cc e)
-step_quiet (phase.WaitLock m) e f = absurd (cc e)
-step_quiet (phase.WaitDup m) e f = absurd (cc e)
-step_quiet (phase.WaitJoin u) e f = absurd (cc e)
-step_quiet (phase.WaitPar a b) e f = absurd (cc e)
-step_quiet phase.Over e f = absurd (cc e)
-
-asked : (s : Server) (y : ThreadState) → IsQuiet y.phase → (u : ℕ) → HandStill [] (record { work = begin_work s.rest; thread = y }) (wait_step (ask_join (record { work = begin_work s.rest; thread = y }) u)).hand
-asked s y quiet u =
-    let n = s.rest.number in
-    let m = message.Join u n y.number in
-    let y2 : ThreadState = record y { phase = phase.WaitJoin u } in
-    let t = of_sending n 0 s.rest refl (home_of u) m in
-    let r2 = (wait_step (ask_join (record { work = begin_work s.rest; thread = y }) u)).hand.work.rest in record {
-      number = sent_number s.rest (home_of u) m;
-      thread = refl;
-      alike = λ w z.
-          let f : Thing → ℕ = λ x. w (sign_of x) in
-          omega (
-            arith,
-            z,
-            t.before f,
-            t.after f,
-            thread_parts w z n false y,
-            thread_parts w z n false y2,
-            quiet_shown w n y (phase.WaitJoin u) quiet (record { goes_on = refl; alone = refl; unpaired = refl }),
-            tot-append f (thread_things n false y) (rest_things n 0 s.rest),
-            tot-append f (thread_things n false y2) (rest_things n 0 r2),
-          );
-    }
+use Rattle.still_law.proofs.Hands.{put_still, IsQuiet}
+use Rattle.still_law.proofs.Undone.{step_quiet, asks_join, wait_still}
 
 module _ (k : Cluster) (sound : IsSound k) (number : ℕ) (s : Server) (here : server_at k.servers number ≡ Some s) (t : ℕ) (y : ThreadState) (at : thread_in s.threads t ≡ Some y) (o : Operand)
     (i : slice_get k.code y.pc ≡ Some (instr.Join o)) (bare : y.gift ≡ None) where
@@ -86,7 +42,7 @@ module _ (k : Cluster) (sound : IsSound k) (number : ℕ) (s : Server) (here : s
   waits_on q None = tt
   waits_on q (Some u) =
       let d = wait_step (ask_join h u) in
-      let still = put_still [] t (begin_at s) y at d.hand (asked s y q u) in
+      let still = put_still [] t (begin_at s) y at d.hand (wait_still h (ask_join h u) (asks_join h (Some u) q)) in
       λ w z. begins s w z ∙ still w z ∙ ends s.events (Some d.hand.thread.number) d.names (put_back s.threads d.hand) w z
 
   asks : IsQuiet y.phase → Gives (ServerStill s) (does k.code k.options s (Step t))

@@ -1,5 +1,5 @@
 -- What an answer changes of its thread: the thread is in the hand, and shows what it showed.
-use Rattle.std.proofs.Common.{◌≡◌, ℕ, Bool, true, false, List, [], ◌∷◌, ◌++◌, Option, Some, None, refl, sym, ap, ◌∙◌, arith}
+use Rattle.std.proofs.Common.{◌≡◌, ℕ, Bool, true, false, List, [], ◌∷◌, ◌++◌, Option, Some, None, refl, sym, ap, subst, ◌∙◌, arith}
 use Rattle.std.specs.Prelude.{slice_get, option_map}
 use Rattle.fr_base.specs.Lists.{is_in}
 use Rattle.heap_partition.specs.declared.value.Cell.{Cell}
@@ -33,6 +33,11 @@ pub record HandStill (gone : List Thing) (h h2 : Hand) : Type 0 where
   pub number : h2.work.rest.number ≡ h.work.rest.number
   pub thread : h2.thread.number ≡ h.thread.number
   pub alike : ShowAlike (gone ++ hand_things h.work.rest.number h) (hand_things h.work.rest.number h2)
+
+pub then_hand : (gone : List Thing) (h h1 h2 : Hand) → HandStill gone h h1 → HandStill [] h1 h2 → HandStill gone h h2
+then_hand gone h h1 h2 a b =
+    let there : ShowAlike (hand_things h.work.rest.number h1) (hand_things h.work.rest.number h2) = subst (λ m. ShowAlike (hand_things m h1) (hand_things m h2)) a.number b.alike in
+    record { number = b.number ∙ a.number; thread = b.thread ∙ a.thread; alike = λ w z. a.alike w z ∙ there w z }
 
 -- the hand is put back where its thread stood
 pub put_still : (gone : List Thing) (t : ℕ) (x : Site) (y : ThreadState) → thread_in x.threads t ≡ Some y → (h : Hand) → HandStill gone (record { work = x.work; thread = y }) h → Still gone x (put_back x.threads h)
@@ -98,6 +103,18 @@ cell_quiet (phase.WaitJoin u) v e = absurd (cc e)
 cell_quiet (phase.WaitPar a b) v e = absurd (cc e)
 cell_quiet (phase.GotPar a b) v e = absurd (cc e)
 cell_quiet phase.Over v e = absurd (cc e)
+
+-- another phase that shows nothing
+pub phased : (h : Hand) (p : Phase) → IsQuiet h.thread.phase → IsQuiet p → HandStill [] h (with_phase p h)
+phased h p a b = record {
+  number = refl;
+  thread = refl;
+  alike = λ w z.
+      let f : Thing → ℕ = λ x. w (sign_of x) in
+      let n = h.work.rest.number in
+      let y2 : ThreadState = record h.thread { phase = p } in
+      omega (arith, thread_parts w z n false h.thread, thread_parts w z n false y2, quiet_shown w n h.thread p a b, tot-append f (thread_things n false h.thread) (rest_things n 0 h.work.rest), tot-append f (thread_things n false y2) (rest_things n 0 h.work.rest));
+}
 
 -- the walk of a thread and its phase change, and copies
 pub walk_still : (gone : List Thing) → ((w : Sign → ℕ) → w nothing ≡ 0 → shown w gone ≡ 0) → (h : Hand) (cs : List Copy) (walk : List ℕ) (p : Phase) (r2 : Rest) → r2 ≡ record h.work.rest { cache = cs } → IsQuiet h.thread.phase → IsQuiet p

@@ -1,8 +1,8 @@
 -- An object that leaves its address for a message shows what it showed.
-use Rattle.std.proofs.Common.{◌≡◌, ℕ, ◌+◌, Bool, true, false, if◌then◌else◌, List, [], ◌∷◌, ◌++◌, Some, ◌≤◌, refl, sym, subst, arith}
-use Rattle.std.specs.Prelude.{slice_get, nat_lt}
+use Rattle.std.proofs.Common.{◌≡◌, ℕ, List, [], ◌∷◌, ◌++◌, Some, ◌≤◌, refl, sym, subst, arith}
+use Rattle.std.specs.Prelude.{slice_get}
 use Rattle.fr_base.specs.declared.name.ObjNo.{ObjNo}
-use Rattle.global_addr.specs.Words.{colour_of, address_of}
+use Rattle.global_addr.specs.Words.{address_of}
 use Rattle.owner_box.specs.Partition.{freed}
 use Rattle.server_msgs.specs.declared.message.Message.TheVariants as message
 use Rattle.journal.specs.declared.act.Act.TheVariants as act
@@ -12,7 +12,7 @@ use Rattle.server_model.specs.Work.{Work, note, with_partition, look_object}
 use Rattle.server_model.specs.Objects.{deliver_move}
 use Rattle.server_model.specs.Events.{received, does}
 use Rattle.heap_law.specs.Names.{tot}
-use Rattle.heap_law.specs.Things.{Thing, lies, vacant, retired, sent, partition_things, message_things, servers_things, things_of}
+use Rattle.heap_law.specs.Things.{Thing, lies, sent, partition_things, message_things, servers_things, things_of}
 use Rattle.heap_law.specs.Weights.{states, below}
 use Rattle.heap_law.specs.Coherent.{IsSound}
 use Rattle.event_law.specs.Sums.{is_server}
@@ -22,20 +22,13 @@ use Rattle.event_law.proofs.Rules.{Placed}
 use Rattle.event_law.proofs.Results.{map_gives}
 use Rattle.event_law.proofs.Bags.{all_standing, rest_things, of_partition, server_same}
 use Rattle.event_law.proofs.Events.{others_of, tot-server}
-use Rattle.event_law.proofs.Cells.{left_by, frees, not_free, looked}
+use Rattle.event_law.proofs.Cells.{frees, not_free, looked}
 use Rattle.event_law.proofs.Objects.{one_state}
 use Rattle.event_law.proofs.ObjectMessages.{looked_object}
 use Rattle.event_law.proofs.Sound.{sound_has_sums}
-use Rattle.still_law.specs.Shows.{Sign, nothing, sign_of}
+use Rattle.still_law.specs.Shows.{sign_of}
 use Rattle.still_law.proofs.Sites.{Moves, sends, beside_still, ServerStill, deliveries}
-
--- the address that is left isn't shown
-address_unseen : (v : Sign → ℕ) → v nothing ≡ 0 → (n limit w : ℕ) → v (sign_of (left_by n limit w)) ≡ 0
-address_unseen v z n limit w = by (nat_lt (colour_of w + 1) limit)
-  where
-    by : (b : Bool) → v (sign_of (if b then vacant n (address_of w) (colour_of w + 1) else retired n (address_of w))) ≡ 0
-    by true = z
-    by false = z
+use Rattle.still_law.proofs.Addresses.{address_unseen}
 
 module _ (k : Cluster) (sound : IsSound k) (number : ℕ) (s : Server) (here : server_at k.servers number ≡ Some s) where
   abbrev pub others : List Thing

@@ -7,9 +7,13 @@ pub mod Once
 pub mod Sites
 pub mod Evictions
 pub mod Arrivals
+pub mod Addresses
 pub mod Requests
 pub mod Hands
 pub mod Leaving
+pub mod Readied
 pub mod Coming
 pub mod StillKinds
+pub mod Prepares
+pub mod Undone
 pub mod Asking

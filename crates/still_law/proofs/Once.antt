@@ -21,15 +21,11 @@ use Rattle.heap_law.specs.OneHeap.{if_in, cell_value, is_gift_of, content_value,
 use Rattle.heap_law.specs.Coherent.{IsSound}
 use Rattle.heap_law.proofs.Sums.{tot-append}
 use Rattle.event_law.proofs.MutexResults.{weighed, here, Weight, mutex_weighs, all_at_home, no_server}
-use Rattle.still_law.proofs.Told.{told, ones}
+use Rattle.still_law.proofs.Told.{at_most, told, ones}
 use Rattle.still_law.proofs.Alike.{Once}
 use Rattle.still_law.proofs.Gifts.{placed, telling, places_told}
 use Rattle.heap_partition.specs.Plain.{plain_of}
 use Rattle.heap_partition.specs.declared.value.Owned.{Owned}
-
-at_most : (f g : Thing → ℕ) → ((x : Thing) → f x ≤ g x) → (b : List Thing) → tot f b ≤ tot g b
-at_most f g e [] = omega arith
-at_most f g e (x ∷ b) = omega (arith, e x, at_most f g e b)
 
 told_one : (q : Bool) (v : Plain) → told ones (if_in q (Some v)) ≡ one q
 told_one true v = refl

@@ -1,5 +1,6 @@
 -- From what shows alike at a server to the one heap of its cluster, with its messages handed over.
-use Rattle.std.proofs.Common.{◌≡◌, true, ℕ, ◌+◌, List, [], ◌++◌, Option, Some, None, refl, sym, ap, subst, ◌∙◌, arith}
+use Rattle.std.proofs.Common.{◌≡◌, true, ℕ, ◌+◌, List, [], ◌++◌, length, take, drop, Option, Some, None, refl, sym, ap, subst, ◌∙◌, arith}
+use Rattle.std.specs.Bool.{⊤}
 use Rattle.std.specs.Prelude.{slice_get}
 use Rattle.fr_base.specs.declared.step.Fresh.{Fresh}
 use Rattle.fr_plain.specs.PlainState.{SameState}
@@ -10,18 +11,19 @@ use Rattle.server_model.specs.declared.event.What.TheVariants.{Deliver}
 use Rattle.server_model.specs.Servers.{Rest, Server, Cluster, server_at}
 use Rattle.server_model.specs.Work.{Work, Site, then_some, receive, send, beside_threads}
 use Rattle.server_model.specs.Events.{enabled, begin_at, left_by, received, deliver_message, deliver, does}
-use Rattle.server_model.specs.Clusters.{done_at, act_at, apply}
+use Rattle.server_model.specs.Clusters.{with_server, hand_over_newer, done_at, apply}
 use Rattle.heap_law.specs.Names.{tot}
-use Rattle.heap_law.specs.Things.{Thing, message_things, server_things, things_of}
+use Rattle.heap_law.specs.Things.{Thing, message_things, server_things, servers_things, things_of}
 use Rattle.heap_law.specs.Sight.{sight}
 use Rattle.heap_law.specs.OneHeap.{one_heap}
 use Rattle.heap_law.specs.Coherent.{IsSound}
-use Rattle.event_law.specs.Laws.{Gives, FewEvents}
+use Rattle.event_law.specs.Laws.{Gives, GoTo, FewEvents}
 use Rattle.event_law.proofs.Trades.{Trade, tot-append}
-use Rattle.event_law.proofs.Results.{then_gives, over_gives, test_gives, weaker}
+use Rattle.event_law.proofs.Results.{then_gives, over_gives, both_give, test_gives, weaker}
 use Rattle.event_law.proofs.Bags.{all_standing, rest_things, of_sending, of_receiving, server_same, sent_number}
 use Rattle.event_law.proofs.Events.{tot-server}
-use Rattle.event_law.proofs.Applied.{handed_on}
+use Rattle.event_law.proofs.Applied.{go_with}
+use Rattle.event_law.proofs.Handing.{hand_over_newer_law}
 use Rattle.event_law.proofs.Sending.{each_event_sends}
 use Rattle.still_law.specs.Shows.{Sign, sign_of, ShowAlike}
 use Rattle.still_law.specs.Laws.{LeavesHeap}
@@ -124,23 +126,35 @@ deliveries k s i m q g =
           tot-append f threads (rest_things n 0 r2),
         )
 
--- the cluster after an event has the code and shows alike
-abbrev pub ClusterStill : Cluster → Cluster → Type 0
-ClusterStill k c = (c.code ≡ k.code) × ShowAlike (things_of k) (things_of c)
+-- what shows alike at its server, where the entry is of that sort, leaves the one heap
+module _ (Sort : EntryView → Type 0) where
+  abbrev StillThere : Server → Server × EntryView → Type 0
+  StillThere s r = Sort r.1 → ServerStill s r
 
-acts_still : (k : Cluster) (e : Event) → ((s : Server) → server_at k.servers e.server ≡ Some s → enabled k.options s e.what ≡ true → Gives (ServerStill s) (does k.code k.options s e.what)) → Gives (λ (d : Cluster × EntryView). ClusterStill k d.0) (act_at k e)
-acts_still k e go =
-    then_gives Then (server_at k.servers e.server) _ (λ s h.
-    over_gives (ServerStill s) Then (done_at k e.what s) _ (test_gives (ServerStill s) (enabled k.options s e.what) (does k.code k.options s e.what) (λ on. go s h on))
-    (λ r u. (refl, λ w z. (let f : Thing → ℕ = λ x. w (sign_of x) in let t = tot-server f k.servers e.server s r.0 h in omega (arith, t.0, t.1, u w z)))))
-  where
-    Then : Cluster × EntryView → Type 0
-    Then d = ClusterStill k d.0
+  abbrev Goes : Cluster → Event → Server → Server × EntryView → Type 0
+  Goes k e s r = GoTo (with_server k.servers e.server r.0) (drop (length s.rest.outbox) r.0.rest.outbox)
 
--- what shows alike at its server leaves the one heap
+  abbrev SameHeap : Cluster → Cluster × EntryView → Type 0
+  SameHeap k d = Sort d.1 → SameState (one_heap d.0) (one_heap k)
+
+  handed_alike : (k : Cluster) (e : Event) (s : Server) → server_at k.servers e.server ≡ Some s → (r : Server × EntryView) → Goes k e s r → ServerStill s r → ShowAlike (things_of k) (servers_things (hand_over_newer e.server (length s.rest.outbox) r.0 k.servers))
+  handed_alike k e s here r go u w z =
+      let f : Thing → ℕ = λ x. w (sign_of x) in
+      let older = length s.rest.outbox in
+      let t = tot-server f k.servers e.server s r.0 here in
+      let goes = go_with k.servers e.server r.0 (take older r.0.rest.outbox) (drop older r.0.rest.outbox) go in
+      omega (arith, hand_over_newer_law f e.server older s r.0 k.servers here goes, t.0, t.1, u w z)
+
+  pub leaves_heap_where : ((k : Cluster) → IsSound k → Once (sight k)) → (k : Cluster) (e : Event) → IsSound k → FewEvents k
+      → ((s : Server) → server_at k.servers e.server ≡ Some s → enabled k.options s e.what ≡ true → Gives (StillThere s) (does k.code k.options s e.what)) → Gives (SameHeap k) (apply k e)
+  leaves_heap_where once k e sound few go =
+      then_gives (SameHeap k) (server_at k.servers e.server) _ (λ s here.
+      over_gives (λ r. Goes k e s r × StillThere s r) (SameHeap k) (done_at k e.what s) _
+      (both_give (Goes k e s) (StillThere s) (λ r. Goes k e s r × StillThere s r) (done_at k e.what s) (each_event_sends k e sound few s here) (test_gives (StillThere s) (enabled k.options s e.what) (does k.code k.options s e.what) (λ on. go s here on)) (λ r a b. (a, b)))
+      (λ r u sort. same_heap k (record k { servers = hand_over_newer e.server (length s.rest.outbox) r.0 k.servers }) refl (once k sound) (handed_alike k e s here r u.0 (u.1 sort))))
+
 pub leaves_heap : ((k : Cluster) → IsSound k → Once (sight k)) → (k : Cluster) (e : Event) → IsSound k → FewEvents k
     → ((s : Server) → server_at k.servers e.server ≡ Some s → enabled k.options s e.what ≡ true → Gives (ServerStill s) (does k.code k.options s e.what)) → LeavesHeap k e
 leaves_heap once k e sound few go =
-    weaker (λ (d : Cluster × EntryView). ClusterStill k d.0) (λ (d : Cluster × EntryView). SameState (one_heap d.0) (one_heap k)) (apply k e)
-    (handed_on (ClusterStill k) (λ c a b same g. (g.0, λ w z. g.1 w z ∙ same (λ x. w (sign_of x)))) k e (each_event_sends k e sound few) (acts_still k e go))
-    (λ d u. same_heap k d.0 u.0 (once k sound) u.1)
+    weaker (SameHeap (λ r. ⊤) k) (λ (d : Cluster × EntryView). SameState (one_heap d.0) (one_heap k)) (apply k e)
+    (leaves_heap_where (λ r. ⊤) once k e sound few (λ s here on. weaker (ServerStill s) (StillThere (λ r. ⊤) s) (does k.code k.options s e.what) (go s here on) (λ r u sort. u))) (λ d u. u tt)

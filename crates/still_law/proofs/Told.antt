@@ -12,6 +12,10 @@ pub tot_same : {A : Type 0} (f g : A → ℕ) → ((x : A) → f x ≡ g x) → 
 tot_same f g e [] = refl
 tot_same f g e (x ∷ b) = ap₂ (λ m n. m + n) (e x) (tot_same f g e b)
 
+pub at_most : (f g : Thing → ℕ) → ((x : Thing) → f x ≤ g x) → (b : List Thing) → tot f b ≤ tot g b
+at_most f g e [] = omega arith
+at_most f g e (x ∷ b) = omega (arith, e x, at_most f g e b)
+
 -- the weight of what is there
 abbrev pub told : {A : Type 0} → (A → ℕ) → Option A → ℕ
 told g None = 0

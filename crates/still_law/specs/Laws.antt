@@ -25,6 +25,10 @@ AlikeStandForOne = (k c : Cluster) → IsSound k → c.code ≡ k.code → ShowA
 abbrev pub LeavesHeap : Cluster → Event → Type 0
 LeavesHeap k e = Gives (λ (d : Cluster × EntryView). SameState (one_heap d.0) (one_heap k)) (apply k e)
 
+-- the same where its entry has no `done`: it does no plain step
+abbrev pub LeavesHeapUndone : Cluster → Event → Type 0
+LeavesHeapUndone k e = Gives (λ (d : Cluster × EntryView). d.1.done ≡ None → SameState (one_heap d.0) (one_heap k)) (apply k e)
+
 -- each event of that kind does, from a sound cluster
 abbrev pub LeaveHeap : Kind → Type 0
 LeaveHeap kind = (k : Cluster) (e : Event) → kind_of k e ≡ Some kind → IsSound k → FewEvents k → LeavesHeap k e
@@ -34,3 +38,7 @@ abbrev pub JoinsThatAsk : Type 0
 JoinsThatAsk =
     (k : Cluster) (n t : ℕ) (s : Server) (y : ThreadState) (o : Operand) → IsSound k → FewEvents k → server_at k.servers n ≡ Some s → thread_in s.threads t ≡ Some y → slice_get k.code y.pc ≡ Some (instr.Join o) → y.gift ≡ None
     → LeavesHeap k (record { server = n; what = Step t })
+
+-- each step of a thread that does no plain step: it ends in a request
+abbrev pub RequestsLeaveHeap : Type 0
+RequestsLeaveHeap = (k : Cluster) (n t : ℕ) → IsSound k → FewEvents k → LeavesHeapUndone k (record { server = n; what = Step t })

@@ -1,7 +1,7 @@
 //! Laws of events without a plain step.
 
 ghost use Rattle.event_law.specs.Kinds.{arrives, asks_dup, asks_join, asks_lock, evicts, fetch, fetched, migrates, moved, moving, starts};
-ghost use Rattle.still_law.specs.Laws.{AlikeStandForOne, JoinsThatAsk, LeaveHeap};
+ghost use Rattle.still_law.specs.Laws.{AlikeStandForOne, JoinsThatAsk, LeaveHeap, RequestsLeaveHeap};
 
 /// Two clusters of one code, the first of them sound, stand for the same one heap where all that is shown of their things is the same: no word, copy, use,
 /// address, message, pin or server counts.
@@ -29,4 +29,10 @@ pub fn events_leave_heap()
 /// A join that asks for its result leaves the one heap as it was.
 pub fn asking_leaves_heap()
     ensures { JoinsThatAsk }
+{}
+
+/// From a sound cluster with few events, a step that does no plain step, as it ends in a request for a copy or an object, for a mutex's content or a share of
+/// it, or for a result, leaves the one heap as it was, its messages handed over.
+pub fn requests_leave_heap()
+    ensures { RequestsLeaveHeap }
 {}

@@ -3,4 +3,4 @@
 
 mod laws;
 
-pub use laws::{alike_stand_for_one, asking_leaves_heap, events_leave_heap};
+pub use laws::{alike_stand_for_one, asking_leaves_heap, events_leave_heap, requests_leave_heap};
