@@ -123,7 +123,7 @@ module _ (k : Cluster) (c : HasPaths k) (x : Standing) (g : GoesOn k x) where
   temp_mut i r e = rw (is_running k c x g) (rw (shown_value x.thread.temps i) (rw e refl))
 
   -- an object of the one heap has its cell
-  cell_there : (o : ObjNo) (v : Val) → st.heap o ≡ Some v → (d : Cell) × (cell_of ground.cells o ≡ Some d) × (v ≡ owned_val gives (plain_of d.value))
+  pub cell_there : (o : ObjNo) (v : Val) → st.heap o ≡ Some v → (d : Cell) × (cell_of ground.cells o ≡ Some d) × (v ≡ owned_val gives (plain_of d.value))
   cell_there o v e = by (object_value (sight k) o) refl e
     where
       by : (p : Option Plain) → object_value (sight k) o ≡ p → seen_cell gives p ≡ Some v → (d : Cell) × (cell_of ground.cells o ≡ Some d) × (v ≡ owned_val gives (plain_of d.value))

@@ -155,7 +155,7 @@ module _ (k : Cluster) (c : HasPaths k) where
         holder_is = refl;
       }
 
-  temp_there : (y : Standing) (g : GoesOn k y) (i : ℕ) (q : MutRef) → slice_get y.thread.temps i ≡ Some (value.Mut q) → MutThere y (at_temp y.thread.number i) q
+  pub temp_there : (y : Standing) (g : GoesOn k y) (i : ℕ) (q : MutRef) → slice_get y.thread.temps i ≡ Some (value.Mut q) → MutThere y (at_temp y.thread.number i) q
   temp_there y g i q e =
       let shown = temp_mut k c y g i q e in
       let r = ref_type c.types.typing.rank E st c.types.state.typed (temp_k y.thread.number i) (at_object q.object) shown in
@@ -177,12 +177,12 @@ module _ (k : Cluster) (c : HasPaths k) where
   has_star slot h zero e = absurd cc
   has_star slot h (suc s) e = (s, refl)
 
-  record MadeFrom (y : Standing) (m : Location) (q : MutRef) (l : Location) : Type 0 where
-    key : Key
-    is : in_store m ≡ at_key key
-    shown : st.at key ≡ ref_v (at_object q.object)
-    made : IsMadeFrom E st key (in_store l)
-    star : star_hop st (in_store l) ≡ Some (at_object q.object)
+  pub record MadeFrom (y : Standing) (m : Location) (q : MutRef) (l : Location) : Type 0 where
+    pub key : Key
+    pub is : in_store m ≡ at_key key
+    pub shown : st.at key ≡ ref_v (at_object q.object)
+    pub made : IsMadeFrom E st key (in_store l)
+    pub star : star_hop st (in_store l) ≡ Some (at_object q.object)
 
   made_from_there : (y : Standing) (g : GoesOn k y) (m l : Location) (q : MutRef) → MutThere y m q → holder_of ground m q.holder ≡ Some l → MadeFrom y m q l
   made_from_there y g m l q t held =
@@ -207,7 +207,7 @@ module _ (k : Cluster) (c : HasPaths k) where
       }
 
   -- whatever holds there was made from it
-  holds_there : (r : Reference) (l : Location) → Among r (references ground (things_of k)) → is_held_there l r.holder ≡ true → (y : Standing) × (q : MutRef) × MadeFrom y r.at q l
+  pub holds_there : (r : Reference) (l : Location) → Among r (references ground (things_of k)) → is_held_there l r.holder ≡ true → (y : Standing) × (q : MutRef) × MadeFrom y r.at q l
   holds_there r l among e =
       let b = of_borrow ground r (things_of k) among in
       let held : holder_of ground r.at b.reference.holder ≡ Some l = sym b.holder ∙ held_at l r.holder e in
@@ -264,12 +264,12 @@ module _ (k : Cluster) (c : HasPaths k) where
       by (Some v) e = let w = own_place k c x g o.0 v u e exact in (w.0.slot, ap (λ (z : StorePlace). z.key) w.1)
 
   -- the pointer that a place follows stands in a chain of a slot of the thread
-  record OwnChain (t : ℕ) (l : Location) : Type 0 where
-    slot : ℕ
-    boxes : ℕ
-    leads_there : below_key st (slot_k t slot) boxes ≡ Some (in_store l)
+  pub record OwnChain (t : ℕ) (l : Location) : Type 0 where
+    pub slot : ℕ
+    pub boxes : ℕ
+    pub leads_there : below_key st (slot_k t slot) boxes ≡ Some (in_store l)
 
-  chain_of : (x : Standing) (l : Location) → Followed x l → OwnChain x.thread.number l
+  pub chain_of : (x : Standing) (l : Location) → Followed x l → OwnChain x.thread.number l
   chain_of x l f =
       let key = slot_k x.thread.number f.slot in
       let s = shorter E true key 1 (suc f.stars) f.stars f.base f.boxes f.type (omega arith) f.resolves in
@@ -287,7 +287,7 @@ module _ (k : Cluster) (c : HasPaths k) where
       threads_same same.0
 
   -- the place of an instruction is followed star by star
-  followed_of : (x : Standing) (i : Instr) (w : Lval) (d : ℕ) (l : Location) → GoesOn k x → instr_of (sight k) x ≡ Some i → WritesTo i w → d < w.depth → locate ground x.thread.number w.slot d ≡ Some l → Followed x l
+  pub followed_of : (x : Standing) (i : Instr) (w : Lval) (d : ℕ) (l : Location) → GoesOn k x → instr_of (sight k) x ≡ Some i → WritesTo i w → d < w.depth → locate ground x.thread.number w.slot d ≡ Some l → Followed x l
   followed_of x i w d l g at writes lt there =
       let may = may_write_there k c x g i w at writes in
       let more : w.depth ≡ (w.depth - suc d) + suc d = omega (arith, lt) in
@@ -295,14 +295,14 @@ module _ (k : Cluster) (c : HasPaths k) where
       record { goes = g; slot = w.slot; stars = d; free = may.free; base = s.base; boxes = s.boxes; type = s.type; resolves = s.res; located = there }
 
   -- a thread that has taken an object
-  record HasTaken (z : Standing) (l : Location) : Type 0 where
-    word : ℕ
-    taken : z.thread.phase ≡ phase.Taken word
-    place : Lval
-    at : slice_get (sight k).code z.thread.pc ≡ Some (instr.BorrowMut place)
-    stars : ℕ
-    depth : place.depth ≡ suc stars
-    located : locate ground z.thread.number place.slot stars ≡ Some l
+  pub record HasTaken (z : Standing) (l : Location) : Type 0 where
+    pub word : ℕ
+    pub taken : z.thread.phase ≡ phase.Taken word
+    pub place : Lval
+    pub at : slice_get (sight k).code z.thread.pc ≡ Some (instr.BorrowMut place)
+    pub stars : ℕ
+    pub depth : place.depth ≡ suc stars
+    pub located : locate ground z.thread.number place.slot stars ≡ Some l
 
   taken_of : (z : Standing) (l : Location) (m : Location) → lent_place ground z.thread.number z.thread.phase (slice_get (sight k).code z.thread.pc) ≡ Some m → m ≡ l → HasTaken z l
   taken_of z l m e same = by z.thread.phase refl (slice_get (sight k).code z.thread.pc) refl e
@@ -315,7 +315,7 @@ module _ (k : Cluster) (c : HasPaths k) where
       by (phase.Taken w) t (Some (instr.BorrowMut p)) i f = at_depth w p t i p.depth refl f
       by _ t _ i f = absurd (nothing_there f)
 
-  taken_among : (xs : List Standing) (l : Location) → is_among l (lent_places (sight k).code ground xs) ≡ true → (z : Standing) × Among z xs × HasTaken z l
+  pub taken_among : (xs : List Standing) (l : Location) → is_among l (lent_places (sight k).code ground xs) ≡ true → (z : Standing) × Among z xs × HasTaken z l
   taken_among [] l e = absurd cc
   taken_among (z ∷ xs) l e = by (lent_place ground z.thread.number z.thread.phase (slice_get (sight k).code z.thread.pc)) refl e (taken_among xs l)
     where

@@ -58,7 +58,7 @@ pub and_first : (a b : Bool) → a && b ≡ true → a ≡ true
 and_first true b e = refl
 and_first false b e = absurd cc
 
-wait_names : (n : ℕ) (ts : List Kind) → wait ts ≡ true → top_names n ts ≡ false
+pub wait_names : (n : ℕ) (ts : List Kind) → wait ts ≡ true → top_names n ts ≡ false
 wait_names n [] e = refl
 wait_names n (k ∷ ts) e = int_names n k (and_first (is_int k) (list_all is_int ts) e)
 
@@ -135,12 +135,12 @@ top_free t n E (k ∷ ts) is e m u q = by k e (subst (ExactOf (slot_k t) E (whol
     by (view o) f r = let s : Seen (slot_k t) E o u = r.1 in s.foreign n
 
 -- a place that has a type starts at a slot that is there
-slot_there : (e : Env) (w : Lval) (q : Piece) → type_at e w ≡ found q → w.slot < length e
+pub slot_there : (e : Env) (w : Lval) (q : Piece) → type_at e w ≡ found q → w.slot < length e
 slot_there [] w q h = absurd cc
 slot_there (s ∷ e) w q h = eq_cases (λ b. (if b then stars (alike e) (type_at e) w.depth s.part else type_at e w) ≡ found q → w.slot < suc (length e)) w.slot (length e) (λ same f. omega (arith, same)) (λ ne f. omega (arith, slot_there e w q f)) h
 
 -- no variable is a mark
-no_mark : (n : NameTypes) (p : Piece) (m : MutexNo) → has_form n p (value.Held m) ≡ true → ⊥
+pub no_mark : (n : NameTypes) (p : Piece) (m : MutexNo) → has_form n p (value.Held m) ≡ true → ⊥
 no_mark n (whole (own o)) m e = absurd cc
 no_mark n (whole (shared us)) m e = absurd cc
 no_mark n (whole (mutable us)) m e = absurd cc

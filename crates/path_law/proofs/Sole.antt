@@ -66,7 +66,7 @@ module _ (rank : Key → ℕ) (E : KeyTypes) (s : Store) (t : Typed rank E s) wh
       by (refers m u) eq = let g : None ≡ Some p = sym (ap (exact_under (suc n)) eq) ∙ e in cc
 
   -- a place that leads as far with more stars has none more
-  more_stars : (m o : Bool) (k : Key) (d e : ℕ) (b : Key) (n : ℕ) (p q : Exact) → Resolves E m k d b n p → Resolves E o k (add d e) b n q → e ≡ 0
+  pub more_stars : (m o : Bool) (k : Key) (d e : ℕ) (b : Key) (n : ℕ) (p q : Exact) → Resolves E m k d b n p → Resolves E o k (add d e) b n q → e ≡ 0
   more_stars m o k d e _ _ p q (here x) r = by (how_resolved E o k (add d e) k d q r)
     where
       by : ((k ≡ k) × (d ≡ add d e)) ⊎ ((m : Bool) × (u : Place) × (f : ℕ) × (E k ≡ refers m u) × (add d e ≡ suc f) × Resolves E o u.key (add u.depth f) k d q) → e ≡ 0

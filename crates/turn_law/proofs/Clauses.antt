@@ -4,6 +4,7 @@ use Rattle.fr_typing.proofs.PlaceLemmas.{eq_cases}
 use Rattle.fr_base.specs.declared.place.Lval.{Lval}
 use Rattle.fr_base.specs.declared.instruction.Instr.{Instr}
 use Rattle.fr_base.specs.declared.instruction.Instr.TheVariants as instr
+use Rattle.server_model.specs.declared.event.Event.{Event}
 use Rattle.server_model.specs.Servers.{Cluster}
 use Rattle.server_model.specs.Clusters.{apply}
 use Rattle.heap_law.specs.Coherent.{IsSound}
@@ -11,27 +12,27 @@ use Rattle.event_law.specs.Laws.{Gives}
 use Rattle.turn_law.specs.Turns.{IsPlainStep, instr_of, ArePlainSteps, is_let, is_arith, is_print, reads_slot, borrows_slot}
 use Rattle.turn_law.proofs.Instructions.{lets as let_line, prints as print_line, sums as arith_line, shared_borrows, mutable_borrows}
 use Rattle.turn_law.proofs.SlotReads.{reads as read_line}
-use Rattle.turn_law.proofs.Events.{Line, steps_are_plain}
+use Rattle.turn_law.proofs.Events.{Line, own_line, steps_are_plain}
 
 pub lets : ArePlainSteps IsSound is_let
 lets k e i q it sound few = by i q it
   where
     by : (i : Instr) → instr_of k e ≡ Some i → is_let i ≡ true → Gives (IsPlainStep k) (apply k e)
-    by (instr.Let o) q it = steps_are_plain k e (instr.Let o) sound few refl (λ g f. f) (λ r x here. let_line k.code k.options.servers r x o here) q
+    by (instr.Let o) q it = steps_are_plain k e (instr.Let o) sound few refl (λ g f. f) (own_line k e (instr.Let o) (λ r x here. let_line k.code k.options.servers r x o here)) q
     by _ q it = absurd (cc it)
 
 pub sums : ArePlainSteps IsSound is_arith
 sums k e i q it sound few = by i q it
   where
     by : (i : Instr) → instr_of k e ≡ Some i → is_arith i ≡ true → Gives (IsPlainStep k) (apply k e)
-    by (instr.Arith f a b) q it = steps_are_plain k e (instr.Arith f a b) sound few refl (λ g f. f) (λ r x here. arith_line k.code k.options.servers r x f a b here) q
+    by (instr.Arith f a b) q it = steps_are_plain k e (instr.Arith f a b) sound few refl (λ g f. f) (own_line k e (instr.Arith f a b) (λ r x here. arith_line k.code k.options.servers r x f a b here)) q
     by _ q it = absurd (cc it)
 
 pub prints : ArePlainSteps IsSound is_print
 prints k e i q it sound few = by i q it
   where
     by : (i : Instr) → instr_of k e ≡ Some i → is_print i ≡ true → Gives (IsPlainStep k) (apply k e)
-    by (instr.Print o) q it = steps_are_plain k e (instr.Print o) sound few refl (λ g f. f) (λ r x here. print_line k.code k.options.servers r x o here) q
+    by (instr.Print o) q it = steps_are_plain k e (instr.Print o) sound few refl (λ g f. f) (own_line k e (instr.Print o) (λ r x here. print_line k.code k.options.servers r x o here)) q
     by _ q it = absurd (cc it)
 
 -- A VARIABLE WITHOUT A STAR
@@ -43,20 +44,20 @@ is_variable : (w : Lval) → (w.depth == 0) ≡ true → w ≡ of_slot w.slot 0
 is_variable w = eq_cases (λ b. b ≡ true → w ≡ of_slot w.slot 0) w.depth 0 (λ e z. ap (of_slot w.slot) e) (λ ne z. absurd (cc z))
 
 -- the line of a variable is that of its place
-line_at : (k : Cluster) (f : Lval → Instr) (w : Lval) → (w.depth == 0) ≡ true → Line k (f (of_slot w.slot 0)) → Line k (f w)
-line_at k f w z line = subst (λ v. Line k (f v)) (sym (is_variable w z)) line
+line_at : (k : Cluster) (e : Event) (f : Lval → Instr) (w : Lval) → (w.depth == 0) ≡ true → Line k e (f (of_slot w.slot 0)) → Line k e (f w)
+line_at k e f w z line = subst (λ v. Line k e (f v)) (sym (is_variable w z)) line
 
 pub reads : ArePlainSteps IsSound reads_slot
 reads k e i q it sound few = by i q it
   where
     by : (i : Instr) → instr_of k e ≡ Some i → reads_slot i ≡ true → Gives (IsPlainStep k) (apply k e)
-    by (instr.Read w take) q it = steps_are_plain k e (instr.Read w take) sound few refl (λ g f. f) (line_at k (λ v. instr.Read v take) w it (λ r x here. read_line k.code k.options.servers r x w.slot take here)) q
+    by (instr.Read w take) q it = steps_are_plain k e (instr.Read w take) sound few refl (λ g f. f) (line_at k e (λ v. instr.Read v take) w it (own_line k e (instr.Read (of_slot w.slot 0) take) (λ r x here. read_line k.code k.options.servers r x w.slot take here))) q
     by _ q it = absurd (cc it)
 
 pub borrows : ArePlainSteps IsSound borrows_slot
 borrows k e i q it sound few = by i q it
   where
     by : (i : Instr) → instr_of k e ≡ Some i → borrows_slot i ≡ true → Gives (IsPlainStep k) (apply k e)
-    by (instr.Borrow w) q it = steps_are_plain k e (instr.Borrow w) sound few refl (λ g f. f) (line_at k (λ v. instr.Borrow v) w it (λ r x here. shared_borrows k.code k.options.servers r x w.slot here)) q
-    by (instr.BorrowMut w) q it = steps_are_plain k e (instr.BorrowMut w) sound few refl (λ g f. f) (line_at k (λ v. instr.BorrowMut v) w it (λ r x here. mutable_borrows k.code k.options.servers r x w.slot here)) q
+    by (instr.Borrow w) q it = steps_are_plain k e (instr.Borrow w) sound few refl (λ g f. f) (line_at k e (λ v. instr.Borrow v) w it (own_line k e (instr.Borrow (of_slot w.slot 0)) (λ r x here. shared_borrows k.code k.options.servers r x w.slot here))) q
+    by (instr.BorrowMut w) q it = steps_are_plain k e (instr.BorrowMut w) sound few refl (λ g f. f) (line_at k e (λ v. instr.BorrowMut v) w it (own_line k e (instr.BorrowMut (of_slot w.slot 0)) (λ r x here. mutable_borrows k.code k.options.servers r x w.slot here))) q
     by _ q it = absurd (cc it)

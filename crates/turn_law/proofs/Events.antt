@@ -2,6 +2,7 @@
 use Rattle.std.proofs.Common.{◌≡◌, ℕ, ◌+◌, ◌≤◌, ◌==◌, ◌&&◌, ◌||◌, not, Bool, true, false, if◌then◌else◌, List, [], ◌∷◌, ◌++◌, length, take, drop, Option, Some, None, is_some, option_map, refl, sym, ap, ap₂, ◌∙◌, subst, arith}
 use Rattle.std.specs.Prelude.{slice_get}
 use Rattle.fr_typing.proofs.PlaceLemmas.{eq_cases}
+use Rattle.fr_base.specs.declared.step.Fresh.{Fresh}
 use Rattle.fr_base.specs.declared.step.Fresh.TheVariants as fresh
 use Rattle.fr_base.specs.declared.instruction.Instr.{Instr}
 use Rattle.fr_plain.specs.PlainState.{SameState, plain_state}
@@ -38,7 +39,7 @@ use Rattle.event_law.proofs.Handing.{hand_over_newer_law}
 use Rattle.event_law.proofs.Sending.{each_event_sends}
 use Rattle.event_law.proofs.GiftsTaken.{none_here, gift_fits}
 use Rattle.event_law.proofs.QuietSteps.{GiftFits}
-use Rattle.event_law.proofs.Results.{both_give, then_gives, over_gives, test_gives}
+use Rattle.event_law.proofs.Results.{both_give, then_gives, over_gives, test_gives, weaker}
 use Rattle.still_law.specs.Shows.{sign_of, ShowAlike}
 use Rattle.still_law.proofs.Alike.{Once, same_heap}
 use Rattle.still_law.proofs.Gifts.{placed, telling, places_told}
@@ -48,7 +49,7 @@ use Rattle.turn_law.specs.Turns.{StepsTo, IsPlainStep, instr_at, instr_of}
 use Rattle.turn_law.proofs.Parts.{Own}
 use Rattle.turn_law.proofs.OneTurn.{Calm, of_thread, tot_it, after, TurnOf, turn_of, once_too}
 use Rattle.turn_law.proofs.PlainTurn.{turned}
-use Rattle.turn_law.proofs.Instructions.{Turn}
+use Rattle.turn_law.proofs.Instructions.{Turn, TurnIn, turn_in}
 use Rattle.turn_law.proofs.Within.{Within, with_turn, servers_within}
 
 -- NOTHING ELSE IS OF THE THREAD
@@ -198,7 +199,7 @@ module _ (k : Cluster) (e : Event) (sound : IsSound k) (i : Instr) (s : Server) 
     goes = not_over x.phase on;
   }
 
-  module _ (d : Stepped) (turn : Turn k.code s.rest x d) (sends : GoTo (with_server k.servers e.server (stepped s d).0) (drop (length s.rest.outbox) (stepped s d).0.rest.outbox)) where
+  module _ (d : Stepped) (turn : TurnIn (one_heap k) k.code s.rest x d) (sends : GoTo (with_server k.servers e.server (stepped s d).0) (drop (length s.rest.outbox) (stepped s d).0.rest.outbox)) where
     abbrev y : ThreadState
     y = after x turn.pc turn.slots turn.temps
 
@@ -295,11 +296,27 @@ numbered : (ts : List ThreadState) (t : ℕ) (x : ThreadState) → thread_in ts 
 numbered [] t x h = absurd (cc h)
 numbered (z ∷ ts) t x h = eq_cases (λ q. (if q then Some z else thread_in ts t) ≡ Some x → x.number ≡ t) z.number t (λ f g. let same : z ≡ x = cc in subst (λ (v : ThreadState). v.number ≡ t) same f) (λ _ g. numbered ts t x g) h
 
--- what an instruction's line says
-abbrev pub Line : Cluster → Instr → Type 0
-Line k i = (r : Rest) (x : ThreadState) → slice_get k.code x.pc ≡ Some i → Gives (Turn k.code r x) (step k.options.servers i (record { work = begin_work r; thread = x }))
+-- a thread that is about to step the instruction at the event's server
+pub record AtStep (k : Cluster) (e : Event) (i : Instr) (s : Server) (t : ℕ) (x : ThreadState) : Type 0 where
+  pub here : server_at k.servers e.server ≡ Some s
+  pub at : thread_in s.threads t ≡ Some x
+  pub number : x.number ≡ t
+  pub on : can_step x.phase ≡ true
+  pub code : slice_get k.code x.pc ≡ Some i
 
-module _ (k : Cluster) (e : Event) (i : Instr) (sound : IsSound k) (few : FewEvents k) (p : is_par_end (Some i) ≡ false) (bare : (g : Option Owned) → GiftFits i g → g ≡ None) (line : Line k i) where
+-- what an instruction's line says: a step that is done is such a turn
+abbrev pub Line : Cluster → Event → Instr → Type 0
+Line k e i =
+    (s : Server) (t : ℕ) (x : ThreadState) → AtStep k e i s t x
+    → Gives (λ (d : Stepped). (names : Fresh) → d.names ≡ Some names → TurnIn (one_heap k) k.code s.rest x d) (step k.options.servers i (record { work = begin_work s.rest; thread = x }))
+
+-- a line that needs nothing of the cluster
+pub own_line : (k : Cluster) (e : Event) (i : Instr) → ((r : Rest) (x : ThreadState) → slice_get k.code x.pc ≡ Some i → Gives (Turn k.code r x) (step k.options.servers i (record { work = begin_work r; thread = x }))) → Line k e i
+own_line k e i line s t x a =
+    weaker (Turn k.code s.rest x) (λ (d : Stepped). (names : Fresh) → d.names ≡ Some names → TurnIn (one_heap k) k.code s.rest x d) (step k.options.servers i (record { work = begin_work s.rest; thread = x })) (line s.rest x a.code)
+    (λ d turn names done. turn_in (one_heap k) k.code s.rest x d turn)
+
+module _ (k : Cluster) (e : Event) (i : Instr) (sound : IsSound k) (few : FewEvents k) (p : is_par_end (Some i) ≡ false) (bare : (g : Option Owned) → GiftFits i g → g ≡ None) (line : Line k e i) where
   abbrev Sends : Server → Server × EntryView → Type 0
   Sends s r = GoTo (with_server k.servers e.server r.0) (drop (length s.rest.outbox) r.0.rest.outbox)
 
@@ -312,9 +329,11 @@ module _ (k : Cluster) (e : Event) (i : Instr) (sound : IsSound k) (few : FewEve
   of_thread_there s h t on (Some x) a j =
       let fit = gift_fits k sound e.server s h t x a i j in
       let able : can_step x.phase ≡ true = subst (λ o. has_phase can_step o ≡ true) a on in
+      let number = numbered s.threads t x a in
       subst (λ o. Gives (Done s) (option_map (stepped s) (then_some o (λ z. step k.options.servers z (record { work = begin_work s.rest; thread = x }))))) (sym j)
-      (over_gives (Turn k.code s.rest x) (Done s) (step k.options.servers i (record { work = begin_work s.rest; thread = x })) (stepped s) (line s.rest x j)
-      (λ d turn sends. is_step k e sound i s h t x a (numbered s.threads t x a) able j p (bare x.gift fit.0) d turn sends))
+      (over_gives (λ (d : Stepped). (names : Fresh) → d.names ≡ Some names → TurnIn (one_heap k) k.code s.rest x d) (Done s) (step k.options.servers i (record { work = begin_work s.rest; thread = x })) (stepped s)
+      (line s t x (record { here = h; at = a; number = number; on = able; code = j }))
+      (λ d turn sends u names who done. is_step k e sound i s h t x a number able j p (bare x.gift fit.0) d (turn names done) sends u names who done))
 
   of_what : (s : Server) → server_at k.servers e.server ≡ Some s → (w : What) → instr_at k w s ≡ Some i → Gives (Done s) (done_at k w s)
   of_what s h (Step t) j = test_gives (Done s) (enabled k.options s (Step t)) (does k.code k.options s (Step t)) (λ on. of_thread_there s h t on (thread_in s.threads t) refl j)

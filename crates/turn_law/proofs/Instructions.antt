@@ -19,7 +19,7 @@ use Rattle.fr_plain.specs.MachineActs as acts
 use Rattle.fr_code.specs.Steps.{Place, CodeMove, over_at, with_operand, loud, quiet, run_instr, code_moves}
 use Rattle.fr_plain.specs.MachineThreads.{going, Move}
 use Rattle.fr_plain.specs.Machine.{alone_stepped, done_act}
-use Rattle.fr_code.specs.Machine.{CodeLife, CodeThread, CodeWhole}
+use Rattle.fr_code.specs.Machine.{CodeLife, CodeThread, CodeWhole, CodeState}
 use Rattle.heap_partition.specs.declared.value.Owned.TheVariants as owned
 use Rattle.read_cache.specs.Cache.{Copy}
 use Rattle.migration.specs.Packing.{unpin_all}
@@ -42,7 +42,7 @@ use Rattle.still_law.proofs.Arrivals.{cache_shown}
 use Rattle.still_law.proofs.Sites.{Moves}
 use Rattle.turn_law.proofs.Parts.{value_owns, owned_in}
 use Rattle.turn_law.proofs.OneTurn.{after}
-use Rattle.turn_law.proofs.PlainTurn.{Does, state_at, alone_does}
+use Rattle.turn_law.proofs.PlainTurn.{Does, DoesIn, state_at, alone_does}
 
 -- VALUES, THE NEWEST FIRST
 
@@ -130,6 +130,21 @@ pub record Turn (code : List Instr) (r : Rest) (x : ThreadState) (d : Stepped) :
   pub named : d.names ≡ Some fresh.None
   pub even : (q : Node) → owned_in q x.slots + owned_in q x.temps ≡ owned_in q slots + owned_in q temps
   pub does : Does code (running_at x) (running_at (after x pc slots temps)) d.hand.work.labels
+
+-- the same where that depends on the heap: in a state of the plain machine that shows this one
+pub record TurnIn (a : CodeState) (code : List Instr) (r : Rest) (x : ThreadState) (d : Stepped) : Type 0 where
+  pub pc : ℕ
+  pub slots : List Value
+  pub temps : List Value
+  pub thread : d.hand.thread ≡ after x pc slots temps
+  pub moves : Moves [] [] r d.hand.work.rest
+  pub named : d.names ≡ Some fresh.None
+  pub even : (q : Node) → owned_in q x.slots + owned_in q x.temps ≡ owned_in q slots + owned_in q temps
+  pub does : DoesIn a code x.number (running_at x) (running_at (after x pc slots temps)) d.hand.work.labels
+
+-- what doesn't depend on it is so in each state
+pub turn_in : (a : CodeState) (code : List Instr) (r : Rest) (x : ThreadState) (d : Stepped) → Turn code r x d → TurnIn a code r x d
+turn_in a code r x d u = record { pc = u.pc; slots = u.slots; temps = u.temps; thread = u.thread; moves = u.moves; named = u.named; even = u.even; does = λ g c same. u.does g c x.number }
 
 -- the same before the step is settled, for one that goes on to the next instruction
 pub record Quick (code : List Instr) (r : Rest) (x : ThreadState) (h : Hand) : Type 0 where

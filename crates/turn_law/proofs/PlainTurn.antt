@@ -84,6 +84,10 @@ turned_to c g t q ls = record { state = record c { threads = with_thread c.threa
 abbrev pub Does : List Instr → CodeRunning → CodeRunning → List Label → Type 0
 Does code p q ls = (g : Going) (c : CodeWhole) (t : ℕ) → step_of (code_moves code) c fresh.None (Some (thread_as g t p)) ≡ Some (turned_to c g t q ls)
 
+-- the same of thread t, in each state of the plain machine that shows this one
+abbrev pub DoesIn : CodeState → List Instr → ℕ → CodeRunning → CodeRunning → List Label → Type 0
+DoesIn a code t p q ls = (g : Going) (c : CodeWhole) → SameState (plain_state c) a → step_of (code_moves code) c fresh.None (Some (thread_as g t p)) ≡ Some (turned_to c g t q ls)
+
 none_released : (n : ℕ) (c : CodeWhole) → release_by n c plain.Nothing ≡ c
 none_released zero c = refl
 none_released (suc n) c = refl
@@ -92,30 +96,37 @@ abbrev pub state_at : CodeWhole → ℕ → List Value → State
 state_at c t slots = record { thread = t; slots = slots; heap = c.heap }
 
 -- an act of the thread alone that changes its slots, and drops nothing
-pub alone_does : (code : List Instr) (p : CodeRunning) (a : CodeAct) (plug : Value → Place) (v : Value) (slots : List Value) (ls : List Label)
-    → over_at (slice_get code p.place.pc) p.place.temps ≡ going
-    → code_move code p.place.pc p.place.temps ≡ Some (record { act = a; plug = plug })
-    → ((c : CodeWhole) (x : CodeThread) (m : Move Place CodeLife) → done_act (code_moves code) c x fresh.None m a ≡ alone_stepped (code_moves code) c x m a)
-    → ((c : CodeWhole) (t : ℕ) → act a (state_at c t p.slots) ≡ Some (record { value = v; state = state_at c t slots; labels = ls }))
-    → ((c : CodeWhole) (t : ℕ) → drops_last a (state_at c t p.slots) ≡ plain.Nothing)
-    → Does code p (record { place = plug v; slots = slots }) ls
-alone_does code p a plug v slots ls now move lone did last g c t =
-    let m : Move Place CodeLife = record { act = a; plug = λ w. life_as g (plug w) } in
-    let x : CodeThread = thread_as g t p in
-    let going_on : life_move (code_moves code) (life_as g p.place) ≡ Some m = moves g in
-    let acted : CodeLife → CodeStepped = λ l. record { state = record c { threads = with_thread c.threads (record { number = t; life = l; slots = slots }); output = c.output ++ prints ls }; labels = ls } in
-    ap (moved (code_moves code) c x fresh.None) going_on ∙ lone c x m
-    ∙ ap₂ (λ u d. then_released u (stepped (code_moves code) c x m d)) (last c t) (did c t)
-    ∙ ap (λ l. then_released plain.Nothing (Some (acted l))) (settled_as code g (plug v))
-    ∙ ap (λ s. Some (record { state = s; labels = ls })) (none_released (count_both (acted (life_as g (plug v))).state.mutexes (acted (life_as g (plug v))).state.threads) (acted (life_as g (plug v))).state)
-  where
-    moves : (g : Going) → life_move (code_moves code) (life_as g p.place) ≡ Some (record { act = a; plug = λ w. life_as g (plug w) })
-    moves as_main =
-        ap₂ (λ n m. on_value n (λ v. alone (λ x. over) (do_end v)) (next alive m)) now move
-    moves as_owing =
-        ap₂ (λ n m. on_value n (λ v. alone ended (do_finish v)) (next owing m)) now move
-    moves as_loose =
-        ap₂ (λ n m. on_value n (λ v. alone (λ x. over) (do_leave v)) (next loose m)) now move
+module _ (code : List Instr) (p : CodeRunning) (a : CodeAct) (plug : Value → Place) (v : Value) (slots : List Value) (ls : List Label) (now : over_at (slice_get code p.place.pc) p.place.temps ≡ going)
+    (move : code_move code p.place.pc p.place.temps ≡ Some (record { act = a; plug = plug }))
+    (lone : (c : CodeWhole) (x : CodeThread) (m : Move Place CodeLife) → done_act (code_moves code) c x fresh.None m a ≡ alone_stepped (code_moves code) c x m a) where
+  alone_at : (g : Going) (c : CodeWhole) (t : ℕ) → act a (state_at c t p.slots) ≡ Some (record { value = v; state = state_at c t slots; labels = ls }) → drops_last a (state_at c t p.slots) ≡ plain.Nothing
+      → step_of (code_moves code) c fresh.None (Some (thread_as g t p)) ≡ Some (turned_to c g t (record { place = plug v; slots = slots }) ls)
+  alone_at g c t did last =
+      let m : Move Place CodeLife = record { act = a; plug = λ w. life_as g (plug w) } in
+      let x : CodeThread = thread_as g t p in
+      let going_on : life_move (code_moves code) (life_as g p.place) ≡ Some m = moves g in
+      let acted : CodeLife → CodeStepped = λ l. record { state = record c { threads = with_thread c.threads (record { number = t; life = l; slots = slots }); output = c.output ++ prints ls }; labels = ls } in
+      ap (moved (code_moves code) c x fresh.None) going_on ∙ lone c x m
+      ∙ ap₂ (λ u d. then_released u (stepped (code_moves code) c x m d)) last did
+      ∙ ap (λ l. then_released plain.Nothing (Some (acted l))) (settled_as code g (plug v))
+      ∙ ap (λ s. Some (record { state = s; labels = ls })) (none_released (count_both (acted (life_as g (plug v))).state.mutexes (acted (life_as g (plug v))).state.threads) (acted (life_as g (plug v))).state)
+    where
+      moves : (g : Going) → life_move (code_moves code) (life_as g p.place) ≡ Some (record { act = a; plug = λ w. life_as g (plug w) })
+      moves as_main =
+          ap₂ (λ n m. on_value n (λ v. alone (λ x. over) (do_end v)) (next alive m)) now move
+      moves as_owing =
+          ap₂ (λ n m. on_value n (λ v. alone ended (do_finish v)) (next owing m)) now move
+      moves as_loose =
+          ap₂ (λ n m. on_value n (λ v. alone (λ x. over) (do_leave v)) (next loose m)) now move
+
+  pub alone_does : ((c : CodeWhole) (t : ℕ) → act a (state_at c t p.slots) ≡ Some (record { value = v; state = state_at c t slots; labels = ls })) → ((c : CodeWhole) (t : ℕ) → drops_last a (state_at c t p.slots) ≡ plain.Nothing)
+      → Does code p (record { place = plug v; slots = slots }) ls
+  alone_does did last g c t = alone_at g c t (did c t) (last c t)
+
+  -- where that depends on the heap
+  pub alone_does_in : (b : CodeState) (t : ℕ) → ((c : CodeWhole) → SameState (plain_state c) b → act a (state_at c t p.slots) ≡ Some (record { value = v; state = state_at c t slots; labels = ls }))
+      → ((c : CodeWhole) → drops_last a (state_at c t p.slots) ≡ plain.Nothing) → DoesIn b code t p (record { place = plug v; slots = slots }) ls
+  alone_does_in b t did last g c same = alone_at g c t (did c same) (last c)
 
 -- THE STATE
 
@@ -146,10 +157,10 @@ module _ (code : List Instr) (c : CodeWhole) (t : ℕ) (p q : CodeRunning) (a b 
       (λ ne. ap is_over_in (put_off c.threads w u ne))
 
   -- a thread that does that on the plain machine takes the one state to the other
-  pub turned : (ls : List Label) → Does code p q ls → StepsTo code c t fresh.None b ls
+  pub turned : (ls : List Label) → DoesIn a code t p q ls → StepsTo code c t fresh.None b ls
   turned ls does = record {
     after = turned_to c turn.way t q ls;
-    steps = ap (step_of (code_moves code) c fresh.None) found ∙ does turn.way c t;
+    steps = ap (step_of (code_moves code) c fresh.None) found ∙ does turn.way c same;
     same = record {
       threads = thread_same;
       made = λ u. ap (λ r. if r then 0 else length (made_by c.heap u)) (over_same u) ∙ same.made u ∙ turn.made u;

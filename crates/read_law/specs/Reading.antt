@@ -1,0 +1,59 @@
+-- WHAT A THREAD READS: the pointers that a place of an instruction follows for reading (Featherweight Rust's rule that what is lent mutably isn't read,
+-- over the locations of a cluster; this project's rule).
+use Rattle.std.specs.Prelude.{◌≡◌, ℕ, suc, ◌<◌, false, Some}
+use Rattle.fr_base.specs.declared.place.Lval.{Lval}
+use Rattle.fr_base.specs.declared.instruction.Instr.{Instr}
+use Rattle.fr_base.specs.declared.instruction.Instr.TheVariants as instr
+use Rattle.heap_partition.specs.declared.value.BoxPtr.{BoxPtr}
+use Rattle.thread_state.specs.declared.value.Value.{Value}
+use Rattle.thread_state.specs.declared.phase.Phase.TheVariants as phase
+use Rattle.server_model.specs.Servers.{Cluster}
+use Rattle.server_model.specs.Places.{pointer_of}
+use Rattle.fr_store.specs.Keys.{Key, slot_k}
+use Rattle.fr_store.specs.Typed.{Exact, Resolves, Unlent}
+use Rattle.heap_law.specs.Things.{Location}
+use Rattle.heap_law.specs.Follow.{Standing, value_in, locate}
+use Rattle.heap_law.specs.Walking.{instr_of}
+use Rattle.heap_law.specs.Sight.{sight}
+use Rattle.heap_law.specs.Words.{IsStale, LeadsTo}
+use Rattle.type_law.specs.ClusterTypes.{Types, IsCoherent}
+use Rattle.path_law.specs.HeapStore.{GoesOn, IsUnmarked, HasPaths}
+use Rattle.word_law.specs.Reworded.{LiesThere}
+
+-- the place that an instruction reads, and how many of its stars it follows: all of them, or those before the pointer from which it borrows
+pub data Reads : Instr → Lval → ℕ → Type 0 where
+  copies : {w : Lval} {n : ℕ} → w.depth ≡ n → Reads (instr.Read w false) w n
+  shares : {w : Lval} {n : ℕ} → w.depth ≡ suc n → Reads (instr.Borrow w) w n
+  lends : {w : Lval} {n : ℕ} → w.depth ≡ suc n → Reads (instr.BorrowMut w) w n
+  dups : {w : Lval} {n : ℕ} → w.depth ≡ n → Reads (instr.Dup w) w n
+  locks : {w : Lval} {n : ℕ} → w.depth ≡ n → Reads (instr.Lock w) w n
+
+-- by the types the thread may read the place: no mutable reference's type names its slot, and it leads somewhere
+pub record MayRead (k : Cluster) (t : Types k) (x : Standing) (w : Lval) : Type 0 where
+  pub free : Unlent t.typing.exact (slot_k x.thread.number w.slot)
+  pub base : Key
+  pub boxes : ℕ
+  pub type : Exact
+  pub resolves : Resolves t.typing.exact false (slot_k x.thread.number w.slot) w.depth base boxes type
+  pub unmarked : IsUnmarked x w.slot
+
+-- typing grants it
+abbrev pub MayReadThere : Type 0
+MayReadThere = (k : Cluster) (c : HasPaths k) (x : Standing) (i : Instr) (w : Lval) (n : ℕ) → GoesOn k x → instr_of (sight k) x ≡ Some i → Reads i w n → MayRead k c.types x w
+
+-- no pointer that the thread follows there is stale
+abbrev pub ReadAreFresh : Type 0
+ReadAreFresh = (k : Cluster) (c : HasPaths k) (x : Standing) (i : Instr) (w : Lval) (n d : ℕ) (l : Location) → GoesOn k x → instr_of (sight k) x ≡ Some i → Reads i w n → d < n
+    → locate (sight k).ground x.thread.number w.slot d ≡ Some l → IsStale (sight k) (Some l) → ⊥
+
+-- the pointer's object lies where its word leads
+pub record LiesUnder (k : Cluster) (p : BoxPtr) : Type 0 where
+  pub server : ℕ
+  pub address : ℕ
+  pub there : LiesThere k server address p.object
+  pub leads : LeadsTo server address p.word
+
+-- a thread that doesn't wait for a cell: each pointer that it follows there leads to where the object lies
+abbrev pub ReadLieThere : Type 0
+ReadLieThere = (k : Cluster) → IsCoherent k → (x : Standing) (i : Instr) (w : Lval) (n d : ℕ) (l : Location) (v : Value) (p : BoxPtr) → GoesOn k x → instr_of (sight k) x ≡ Some i → Reads i w n → d < n
+    → ((u : ℕ) → x.thread.phase ≡ phase.WaitCell u → ⊥) → locate (sight k).ground x.thread.number w.slot d ≡ Some l → value_in (sight k).ground l ≡ Some v → pointer_of v ≡ Some p → LiesUnder k p
