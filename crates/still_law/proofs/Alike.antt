@@ -1,5 +1,5 @@
 -- Clusters whose things show alike stand for the same one heap, where each object, content and result is shown once and no two threads have one number.
-use Rattle.std.proofs.Common.{◌≡◌, ℕ, zero, suc, ◌+◌, ◌-◌, ◌≤◌, ◌==◌, ◌&&◌, ◌||◌, not, Bool, true, false, if◌then◌else◌, List, [], ◌∷◌, length, reverse, map, Option, Some, None, is_some, option_map, refl, sym, ap, ap₂, ◌∙◌, arith}
+use Rattle.std.proofs.Common.{◌≡◌, inl, inr, ℕ, zero, suc, ◌+◌, ◌-◌, ◌≤◌, ◌==◌, ◌&&◌, ◌||◌, not, Bool, true, false, if◌then◌else◌, List, [], ◌∷◌, length, reverse, map, Option, Some, None, is_some, option_map, refl, sym, ap, ap₂, ◌∙◌, arith}
 use Rattle.std.specs.Prelude.{◌%◌, ◌^◌, slice_get, nat_le}
 use Rattle.std.proofs.lemmas.Option.{slice_get-map}
 use Rattle.std.proofs.lemmas.List.{length-map}
@@ -13,6 +13,7 @@ use Rattle.fr_base.specs.declared.instruction.Operand.{Operand}
 use Rattle.fr_base.specs.declared.instruction.Operand.TheVariants as operand
 use Rattle.fr_base.specs.declared.place.Lval.{Lval}
 use Rattle.fr_base.specs.Names.{same_plain}
+use Rattle.fr_typing.proofs.PlaceLemmas.{eq_cases}
 use Rattle.fr_base.specs.Lists.{last_of}
 use Rattle.fr_plain.specs.declared.value.Value.{Value as PlainValue}
 use Rattle.fr_plain.specs.declared.value.Value.TheVariants.{Own, ToSlot, ToObject}
@@ -28,22 +29,26 @@ use Rattle.thread_state.specs.declared.phase.Phase.TheVariants as phase
 use Rattle.thread_state.specs.declared.value.Value.{Value}
 use Rattle.thread_state.specs.declared.value.Value.TheVariants as value
 use Rattle.join_home.specs.Tasks.{TaskState, going, let_go, kept, asked, in_pair}
+use Rattle.server_msgs.specs.declared.message.Message.{Message}
+use Rattle.server_msgs.specs.declared.message.Message.TheVariants as message
 use Rattle.server_model.specs.Servers.{Cluster}
-use Rattle.heap_law.specs.Names.{tot, one, if_so, some, same_object, same_mutex}
-use Rattle.heap_law.specs.Things.{Location, at_slot, at_temp, in_cell, Spot, in_slot, in_temp, as_gift, as_content, as_result, in_hand, Thing, holds, lies, flies, stands, noted, things_of}
+use Rattle.heap_law.specs.Names.{tot, one, other, if_so, some, same_object, same_mutex, Among}
+use Rattle.heap_law.specs.Things.{Location, at_slot, at_temp, in_cell, Spot, in_slot, in_temp, as_gift, as_content, as_result, in_hand, Thing, holds, lies, flies, sent, stands, noted, things_of}
 use Rattle.heap_law.specs.Follow.{Standing, threads_in, thread_at, cells_in, cell_of, slot_of, temp_of, value_of, value_in, value_behind, leads, locate, value_at}
 use Rattle.heap_law.specs.Sight.{Sight, sight}
 use Rattle.heap_law.specs.Paths.{popped, task_in, joined_thread}
 use Rattle.heap_law.specs.Walking.{instr_of}
 use Rattle.heap_law.specs.Requests.{home_of, mutex_of, locked_mutex, is_mutex, is_task}
-use Rattle.heap_law.specs.Sharing.{gift_content, gift_result, got_phase}
+use Rattle.heap_law.specs.Sharing.{got_phase}
 use Rattle.heap_law.specs.Naming.{started_at, made_at}
 use Rattle.heap_law.specs.Weights.{is_thread}
-use Rattle.heap_law.specs.OneHeap.{Node, object_n, mutex_n, task_n, inside, content_owner, result_owner, gift_owner, gift_owner_of, spot_owner, owner_of, owns, names, owner_in, named_in, any_named, in_state_by, is_in_state, if_in, cell_value, or_else, first_shown, object_value, is_gift_of, is_content, content_value, share_in, if_there, plain_value, pair_note, pair_over, in_pair_of, is_branch, branch_result, is_joined_by, is_result, result_value, result_of, ended_with, going_on, running_at, life_of, life_at, made_of, two_in, pair_of, is_given_thread, is_given_mutex, if_given, one_heap}
-use Rattle.still_law.specs.Shows.{ShownThread, Sign, nothing, a_value, an_object, a_thread as a_shown_thread, a_branch, a_count, has_both, shown_thread, note_sign, sign_of, ShowAlike}
+use Rattle.heap_law.specs.OneHeap.{Node, object_n, mutex_n, task_n, Owner, inside, outside, content_owner, result_owner, gift_owner, gift_owner_of, spot_owner, owner_of, owns, names, owner_in, named_in, any_named, in_state_by, is_in_state, if_in, cell_value, or_else, first_shown, object_value, is_gift_of, is_content, content_value, share_in, if_there, plain_value, pair_note, pair_over, in_pair_of, is_branch, branch_result, is_joined_by, is_result, result_value, result_of, ended_with, going_on, running_at, life_of, life_at, made_of, two_in, pair_of, is_given_thread, is_given_mutex, if_given, one_heap}
+use Rattle.heap_law.proofs.Names.{if_not, same_mutexes}
+use Rattle.still_law.specs.Shows.{ShownThread, Sign, nothing, a_value, an_object, a_thread as a_shown_thread, a_branch, a_count, has_both, shown_thread, note_sign, sign_of, gift_spot_at, gift_spot_of, gift_spot, counted_at, is_named, Counts, CountAlike, ShowAlike}
 use Rattle.still_law.proofs.Tests.{plains, same_part, threads as thread_test}
 use Rattle.still_law.proofs.Rounds.{owner_same, named_alike, enough}
-use Rattle.still_law.proofs.Told.{tot_same, told, ones, same_told, first_told, at_thread, thread_told, some_or}
+use Rattle.still_law.proofs.Told.{tot_same, tot_but, told, ones, same_told, first_told, at_thread, thread_told, some_or, found}
+use Rattle.still_law.proofs.Gifts.{placed, telling, places_told}
 use Rattle.fr_plain.specs.MachineThreads.{loose, owing}
 
 -- what is shown of each object, thread, content, branch and result is shown once
@@ -237,7 +242,199 @@ got_is t phase.Over = refl
 abbrev code_running : ℕ → List PlainValue → List PlainValue → CodeRunning
 code_running pc temps slots = record { place = record { pc = pc; temps = reverse temps }; slots = reverse slots }
 
-module _ (k c : Cluster) (code : c.code ≡ k.code) (once : Once (sight k)) (alike : ShowAlike (things_of k) (things_of c)) where
+-- GIFTS
+
+-- a gift whose thread isn't found with one
+abbrev gifted : Option Standing → Bool
+gifted None = false
+gifted (Some x) = is_some x.thread.gift
+
+abbrev stray : Sight → Thing → ℕ
+stray r (holds (as_gift t) v) = other (gifted (thread_at r.ground.threads t))
+stray r x = 0
+
+-- there is none, where no two threads have one number
+no_stray : (c : Cluster) → ((t : ℕ) → tot (is_thread t) (things_of c) ≤ 1) → tot (stray (sight c)) (things_of c) ≡ 0
+no_stray c few =
+    let b = things_of c in
+    let places : tot (placed nought nought lost) b ≡ tot (telling nought nought lost) b = places_told nought nought lost c in
+    omega (arith, tot_same (stray (sight c)) (placed nought nought lost) as_placed b, places, told_none b (λ x h. found x b (few x.thread.number) h))
+  where
+    nought : {A : Type 0} → A → ℕ
+    nought x = 0
+
+    lost : ℕ → ℕ
+    lost t = other (gifted (thread_at (threads_in (things_of c)) t))
+
+    as_placed : (x : Thing) → stray (sight c) x ≡ placed nought nought lost x
+    as_placed (holds (as_gift t) v) = refl
+    as_placed (holds (in_slot t i) v) = refl
+    as_placed (holds (in_temp t i) v) = refl
+    as_placed (holds (as_content m) v) = refl
+    as_placed (holds (as_result t) v) = refl
+    as_placed (holds in_hand v) = refl
+    as_placed _ = refl
+
+    kept_none : (r t : ℕ) (x : TaskState) → telling nought nought lost (noted r (record { thread = t; state = x })) ≡ 0
+    kept_none r t (kept v) = refl
+    kept_none r t going = refl
+    kept_none r t let_go = refl
+    kept_none r t (asked p u) = refl
+    kept_none r t (in_pair p d) = refl
+
+    sent_none : (r : ℕ) (m : Message) → telling nought nought lost (sent r m) ≡ 0
+    sent_none r (message.Finished t v) = refl
+    sent_none r (message.Joined t v by) = refl
+    sent_none r _ = refl
+
+    held_none : (p : Spot) (v : Owned) → telling nought nought lost (holds p v) ≡ 0
+    held_none (as_content m) v = refl
+    held_none (as_result u) v = refl
+    held_none (as_gift u) v = refl
+    held_none (in_slot u i) v = refl
+    held_none (in_temp u i) v = refl
+    held_none in_hand v = refl
+
+    found_gift : (g : Bool) (o : Option Standing) → gifted o ≡ g → if_so g (other (gifted o)) ≡ 0
+    found_gift true o e = ap other e
+    found_gift false o e = refl
+
+    told_none : (b : List Thing) → ((x : Standing) → Among x (threads_in b) → thread_at (threads_in (things_of c)) x.thread.number ≡ Some x) → tot (telling nought nought lost) b ≡ 0
+    told_none [] h = refl
+    told_none (stands r p x ∷ b) h =
+        let y : Standing = record { server = r; packed = p; thread = x } in
+        let own : if_so (is_some x.gift) (lost x.number) ≡ 0 = found_gift (is_some x.gift) (thread_at (threads_in (things_of c)) x.number) (ap gifted (h y (inl refl))) in
+        omega (arith, own, told_none b (λ z q. h z (inr q)))
+    told_none (noted r x ∷ b) h = omega (arith, kept_none r x.thread x.state, told_none b h)
+    told_none (sent r m ∷ b) h = omega (arith, sent_none r m, told_none b h)
+    told_none (holds p v ∷ b) h = omega (arith, held_none p v, told_none b h)
+    told_none (_ ∷ b) h = omega (arith, told_none b h)
+
+-- a gift counts as a content or a result, if as anything
+by_gift_spot : (s : Sight) (P : Option Spot → Type 0) → P None → ((m : MutexNo) → P (Some (as_content m))) → ((t : ℕ) → P (Some (as_result t))) → (t : ℕ) → P (gift_spot s t)
+by_gift_spot s P none content result t = by_thread (thread_at s.ground.threads t)
+  where
+    by_mutex : (o : Option MutexNo) → P (option_map as_content o)
+    by_mutex None = none
+    by_mutex (Some m) = content m
+
+    by_task : (o : Option ℕ) → P (option_map as_result o)
+    by_task None = none
+    by_task (Some u) = result u
+
+    by_instr : (x : Standing) (i : Option Instr) → P (gift_spot_at s x i)
+    by_instr x (Some (instr.Lock w)) = by_mutex (locked_mutex s x (Some (instr.Lock w)))
+    by_instr x (Some (instr.Join o)) = by_task (joined_thread (Some (instr.Join o)) x.thread)
+    by_instr x _ = none
+
+    by_thread : (o : Option Standing) → P (gift_spot_of s o)
+    by_thread None = none
+    by_thread (Some x) = by_instr x (instr_of s x)
+
+-- who owns what stands there
+abbrev spot_owned : Sight → Option Spot → Owner
+spot_owned s None = outside
+spot_owned s (Some p) = spot_owner s p
+
+gift_owned : (s : Sight) (t : ℕ) → gift_owner_of s (thread_at s.ground.threads t) ≡ spot_owned s (gift_spot s t)
+gift_owned s t = by_thread (thread_at s.ground.threads t)
+  where
+    by_mutex : (o : Option MutexNo) → content_owner o ≡ spot_owned s (option_map as_content o)
+    by_mutex None = refl
+    by_mutex (Some m) = refl
+
+    by_task : (o : Option ℕ) → result_owner o ≡ spot_owned s (option_map as_result o)
+    by_task None = refl
+    by_task (Some u) = refl
+
+    by_instr : (x : Standing) (i : Option Instr) → gift_owner s x i ≡ spot_owned s (gift_spot_at s x i)
+    by_instr x (Some (instr.Lock w)) = by_mutex (locked_mutex s x (Some (instr.Lock w)))
+    by_instr x (Some (instr.Join o)) = by_task (joined_thread (Some (instr.Join o)) x.thread)
+    by_instr x _ = refl
+
+    by_thread : (o : Option Standing) → gift_owner_of s o ≡ spot_owned s (gift_spot_of s o)
+    by_thread None = refl
+    by_thread (Some x) = by_instr x (instr_of s x)
+
+-- which mutex's content a value there is, and which thread's result
+abbrev is_content_at : MutexNo → Option Spot → Bool
+is_content_at m (Some (as_content n)) = same_mutex n m
+is_content_at m o = false
+
+abbrev is_result_at : ℕ → Option Spot → Bool
+is_result_at t (Some (as_result u)) = u == t
+is_result_at t o = false
+
+number_turned : (t u : ℕ) → (t == u) ≡ (u == t)
+number_turned t u = eq_cases (λ q. q ≡ (u == t)) t u (λ e. eq_cases (λ q. true ≡ q) u t (λ d. refl) (λ ne. absurd (ne (sym e)))) (λ ne. eq_cases (λ q. false ≡ q) u t (λ d. absurd (ne (sym d))) (λ other. refl))
+
+same_turned : (m n : MutexNo) → same_mutex m n ≡ same_mutex n m
+same_turned m n = ap₂ (λ p q. p && q) (number_turned m.home n.home) (number_turned m.count n.count)
+
+some_one : (q : Bool) → some (one q) ≡ q
+some_one true = refl
+some_one false = refl
+
+gift_is_content : (s : Sight) (m : MutexNo) (o : Option Standing) → gifted o ≡ true → is_gift_of s m o ≡ is_content_at m (gift_spot_of s o)
+gift_is_content s m None e = absurd (cc e)
+gift_is_content s m (Some x) e = ap (λ g. some (if_so g (one (is_mutex m (locked_mutex s x (instr_of s x)))))) e ∙ some_one (is_mutex m (locked_mutex s x (instr_of s x))) ∙ by (instr_of s x)
+  where
+    by_mutex : (o : Option MutexNo) → is_mutex m o ≡ is_content_at m (option_map as_content o)
+    by_mutex None = refl
+    by_mutex (Some n) = same_turned m n
+
+    no_task : (o : Option ℕ) → false ≡ is_content_at m (option_map as_result o)
+    no_task None = refl
+    no_task (Some u) = refl
+
+    by : (i : Option Instr) → is_mutex m (locked_mutex s x i) ≡ is_content_at m (gift_spot_at s x i)
+    by (Some (instr.Lock w)) = by_mutex (locked_mutex s x (Some (instr.Lock w)))
+    by (Some (instr.Join o)) = no_task (joined_thread (Some (instr.Join o)) x.thread)
+    by _ = refl
+
+gift_is_result : (s : Sight) (t : ℕ) (o : Option Standing) → gifted o ≡ true → is_joined_by s t o ≡ is_result_at t (gift_spot_of s o)
+gift_is_result s t None e = absurd (cc e)
+gift_is_result s t (Some x) e = ap (λ g. some (if_so g (one (is_task t (joined_thread (instr_of s x) x.thread))))) e ∙ some_one (is_task t (joined_thread (instr_of s x) x.thread)) ∙ by (instr_of s x)
+  where
+    by_task : (o : Option ℕ) → is_task t o ≡ is_result_at t (option_map as_result o)
+    by_task None = refl
+    by_task (Some u) = number_turned t u
+
+    no_mutex : (o : Option MutexNo) → false ≡ is_result_at t (option_map as_content o)
+    no_mutex None = refl
+    no_mutex (Some m) = refl
+
+    by : (i : Option Instr) → is_task t (joined_thread i x.thread) ≡ is_result_at t (gift_spot_at s x i)
+    by (Some (instr.Lock w)) = no_mutex (locked_mutex s x (Some (instr.Lock w)))
+    by (Some (instr.Join o)) = by_task (joined_thread (Some (instr.Join o)) x.thread)
+    by _ = refl
+
+-- WHAT COUNTS
+
+-- a weight of what is no value
+no_values : (s : Sight) (w : Sign → ℕ) → ((p : Spot) (v : Plain) → w (a_value p v) ≡ 0) → Counts s w
+no_values s w z = record { gifts = λ t v. z (as_gift t) v ∙ sym (by (gift_spot s t) v); contents = λ m v e. z (as_content m) v; results = λ t v e f. z (as_result t) v }
+  where
+    by : (o : Option Spot) (v : Plain) → counted_at w o v ≡ 0
+    by None v = refl
+    by (Some p) v = z p v
+
+-- what nothing names isn't in the state
+unnamed_out : (s : Sight) (i : ℕ) (n : Node) → is_named s n ≡ false → in_state_by i s n ≡ false
+unnamed_out s zero n e = refl
+unnamed_out s (suc i) n e = none s.things e
+  where
+    neither : (p q : Bool) → (p || q) ≡ false → (p ≡ false) × (q ≡ false)
+    neither true q z = absurd (cc z)
+    neither false q z = (refl, z)
+
+    none : (b : List Thing) → some (tot (λ x. one (names n x)) b) ≡ false → any_named s (in_state_by i s) n b ≡ false
+    none [] z = refl
+    none (x ∷ b) z =
+        let p = neither (names n x) (some (tot (λ y. one (names n y)) b)) (sym (some_or (names n x) (tot (λ y. one (names n y)) b)) ∙ z) in
+        ap (λ q. named_in q (in_state_by i s) (owner_of s x) || any_named s (in_state_by i s) n b) p.0 ∙ none b p.1
+
+module _ (k c : Cluster) (code : c.code ≡ k.code) (once : Once (sight k)) (alike : CountAlike (sight k) (things_of k) (things_of c)) where
   abbrev a : List Thing
   a = things_of k
 
@@ -251,15 +448,18 @@ module _ (k c : Cluster) (code : c.code ≡ k.code) (once : Once (sight k)) (ali
   s2 = sight c
 
   -- a weight of each side that is one of what is shown
-  carried : (w : Sign → ℕ) → w nothing ≡ 0 → (f f2 : Thing → ℕ) → ((x : Thing) → f x ≡ w (sign_of x)) → ((x : Thing) → f2 x ≡ w (sign_of x)) → tot f a ≡ tot f2 b
-  carried w z f f2 e e2 = tot_same f (λ x. w (sign_of x)) e a ∙ alike w z ∙ sym (tot_same f2 (λ x. w (sign_of x)) e2 b)
+  carried : (w : Sign → ℕ) → w nothing ≡ 0 → Counts s w → (f f2 : Thing → ℕ) → ((x : Thing) → f x ≡ w (sign_of x)) → ((x : Thing) → f2 x ≡ w (sign_of x)) → tot f a ≡ tot f2 b
+  carried w z n f f2 e e2 = tot_same f (λ x. w (sign_of x)) e a ∙ alike w z n ∙ sym (tot_same f2 (λ x. w (sign_of x)) e2 b)
 
   -- what is shown first, where it is shown once
-  first_same : (f f2 : Thing → Option Plain) (w : (Plain → ℕ) → Sign → ℕ) → ((g : Plain → ℕ) → w g nothing ≡ 0) → ((g : Plain → ℕ) (x : Thing) → told g (f x) ≡ w g (sign_of x)) → ((g : Plain → ℕ) (x : Thing) → told g (f2 x) ≡ w g (sign_of x))
-      → tot (λ x. told ones (f x)) a ≤ 1 → first_shown f a ≡ first_shown f2 b
-  first_same f f2 w z e e2 few =
-      let few2 : tot (λ x. told ones (f2 x)) b ≤ 1 = omega (arith, few, carried (w ones) (z ones) (λ x. told ones (f x)) (λ x. told ones (f2 x)) (e ones) (e2 ones)) in
-      same_told same_plain plains (first_shown f a) (first_shown f2 b) (λ g. sym (first_told f g a few) ∙ carried (w g) (z g) (λ x. told g (f x)) (λ x. told g (f2 x)) (e g) (e2 g) ∙ first_told f2 g b few2)
+  first_by : (f f2 : Thing → Option Plain) → ((g : Plain → ℕ) → tot (λ x. told g (f x)) a ≡ tot (λ x. told g (f2 x)) b) → tot (λ x. told ones (f x)) a ≤ 1 → first_shown f a ≡ first_shown f2 b
+  first_by f f2 e few =
+      let few2 : tot (λ x. told ones (f2 x)) b ≤ 1 = omega (arith, few, e ones) in
+      same_told same_plain plains (first_shown f a) (first_shown f2 b) (λ g. sym (first_told f g a few) ∙ e g ∙ first_told f2 g b few2)
+
+  first_same : (f f2 : Thing → Option Plain) (w : (Plain → ℕ) → Sign → ℕ) → ((g : Plain → ℕ) → w g nothing ≡ 0) → ((g : Plain → ℕ) → Counts s (w g)) → ((g : Plain → ℕ) (x : Thing) → told g (f x) ≡ w g (sign_of x))
+      → ((g : Plain → ℕ) (x : Thing) → told g (f2 x) ≡ w g (sign_of x)) → tot (λ x. told ones (f x)) a ≤ 1 → first_shown f a ≡ first_shown f2 b
+  first_same f f2 w z n e e2 few = first_by f f2 (λ g. carried (w g) (z g) (n g) (λ x. told g (f x)) (λ x. told g (f2 x)) (e g) (e2 g)) few
 
   -- THREADS
 
@@ -276,14 +476,20 @@ module _ (k c : Cluster) (code : c.code ≡ k.code) (once : Once (sight k)) (ali
   number_is t (noted r x) = unnoted (thread_weight ones t) refl (λ u d. refl) x.thread x.state
   number_is t _ = refl
 
-  found : (t : ℕ) → option_map shown_of (thread_at (threads_in a) t) ≡ option_map shown_of (thread_at (threads_in b) t)
-  found t =
-      let few2 : tot (is_thread t) b ≤ 1 = omega (arith, once.threads t, carried (thread_weight ones t) refl (is_thread t) (is_thread t) (number_is t) (number_is t)) in
+  no_thread_value : (h : ShownThread → ℕ) (t : ℕ) → Counts s (thread_weight h t)
+  no_thread_value h t = no_values s (thread_weight h t) (λ p v. refl)
+
+  numbers_differ : (t : ℕ) → tot (is_thread t) b ≤ 1
+  numbers_differ t = omega (arith, once.threads t, carried (thread_weight ones t) refl (no_thread_value ones t) (is_thread t) (is_thread t) (number_is t) (number_is t))
+
+  thread_same : (t : ℕ) → option_map shown_of (thread_at (threads_in a) t) ≡ option_map shown_of (thread_at (threads_in b) t)
+  thread_same t =
+      let few2 = numbers_differ t in
       let oa = thread_at (threads_in a) t in
       let ob = thread_at (threads_in b) t in
       same_told same_part thread_test (option_map shown_of oa) (option_map shown_of ob) (λ h.
       let g : Standing → ℕ = λ y. h (shown_of y) in
-      told_map h shown_of oa ∙ sym (thread_told g t a (once.threads t)) ∙ carried (thread_weight h t) refl (at_thread g t) (at_thread g t) (thread_is h t) (thread_is h t) ∙ thread_told g t b few2 ∙ sym (told_map h shown_of ob))
+      told_map h shown_of oa ∙ sym (thread_told g t a (once.threads t)) ∙ carried (thread_weight h t) refl (no_thread_value h t) (at_thread g t) (at_thread g t) (thread_is h t) (thread_is h t) ∙ thread_told g t b few2 ∙ sym (told_map h shown_of ob))
 
   -- OBJECTS
 
@@ -298,13 +504,13 @@ module _ (k c : Cluster) (code : c.code ≡ k.code) (once : Once (sight k)) (ali
   object_is o g _ = refl
 
   cell_same : (o : ObjNo) → first_shown (cell_value o) a ≡ first_shown (cell_value o) b
-  cell_same o = first_same (cell_value o) (cell_value o) (object_weight o) (λ g. refl) (object_is o) (object_is o) (once.cells o)
+  cell_same o = first_same (cell_value o) (cell_value o) (object_weight o) (λ g. refl) (λ g. no_values s (object_weight o g) (λ p v. refl)) (object_is o) (object_is o) (once.cells o)
 
   -- PLACES
 
   value_same : (l : Location) → option_map plain_value (value_in s.ground l) ≡ option_map plain_value (value_in s2.ground l)
-  value_same (at_slot t i) = slot_shown (thread_at (threads_in a) t) i ∙ ap (λ o. slot_from o i) (found t) ∙ sym (slot_shown (thread_at (threads_in b) t) i)
-  value_same (at_temp t i) = temp_shown (thread_at (threads_in a) t) i ∙ ap (λ o. temp_from o i) (found t) ∙ sym (temp_shown (thread_at (threads_in b) t) i)
+  value_same (at_slot t i) = slot_shown (thread_at (threads_in a) t) i ∙ ap (λ o. slot_from o i) (thread_same t) ∙ sym (slot_shown (thread_at (threads_in b) t) i)
+  value_same (at_temp t i) = temp_shown (thread_at (threads_in a) t) i ∙ ap (λ o. temp_from o i) (thread_same t) ∙ sym (temp_shown (thread_at (threads_in b) t) i)
   value_same (in_cell o) =
       value_shown (cell_of (cells_in a) o) ∙ ap owned_from (cell_found o a ∙ cell_same o ∙ sym (cell_found o b)) ∙ sym (value_shown (cell_of (cells_in b) o))
 
@@ -332,9 +538,6 @@ module _ (k c : Cluster) (code : c.code ≡ k.code) (once : Once (sight k)) (ali
     number_same : x.thread.number ≡ y.thread.number
     number_same = ap (λ (z : ShownThread). z.number) q
 
-    gift_there : is_some x.thread.gift ≡ is_some y.thread.gift
-    gift_there = ap (λ (z : ShownThread). z.has_gift) q
-
     locked_at : (w : Lval) → mutex_of (value_at s.ground x.thread.number w) ≡ mutex_of (value_at s2.ground y.thread.number w)
     locked_at w = mutex_same x.thread.number w ∙ ap (λ t. mutex_of (value_at s2.ground t w)) number_same
 
@@ -358,15 +561,17 @@ module _ (k c : Cluster) (code : c.code ≡ k.code) (once : Once (sight k)) (ali
     gift_owner_same : gift_owner s x (instr_of s x) ≡ gift_owner s2 y (instr_of s2 y)
     gift_owner_same = owner_by (instr_of s x) ∙ ap (gift_owner s2 y) instr_same
 
-    gift_content_same : (m : MutexNo) → gift_content s m x ≡ gift_content s2 m y
-    gift_content_same m = ap₂ (λ g o. if_so g (one (is_mutex m o))) gift_there (locked_by (instr_of s x) ∙ ap (locked_mutex s2 y) instr_same)
+    spot_by : (i : Option Instr) → gift_spot_at s x i ≡ gift_spot_at s2 y i
+    spot_by (Some (instr.Lock w)) = ap (option_map as_content) (locked_at w)
+    spot_by (Some (instr.Join o)) = ap (option_map as_result) (joined_at o)
+    spot_by _ = refl
 
-    gift_result_same : (t : ℕ) → gift_result s t x ≡ gift_result s2 t y
-    gift_result_same t = ap₂ (λ g o. if_so g (one (is_task t o))) gift_there (joined_by (instr_of s x) ∙ ap (λ i. joined_thread i y.thread) instr_same)
+    gift_spot_same : gift_spot_at s x (instr_of s x) ≡ gift_spot_at s2 y (instr_of s2 y)
+    gift_spot_same = spot_by (instr_of s x) ∙ ap (gift_spot_at s2 y) instr_same
 
   -- what is the same of threads that are shown alike is the same of those that are found
   by_found : {A : Type 0} (f f2 : Option Standing → A) → f None ≡ f2 None → ((x y : Standing) → shown_of x ≡ shown_of y → f (Some x) ≡ f2 (Some y)) → (t : ℕ) → f (thread_at (threads_in a) t) ≡ f2 (thread_at (threads_in b) t)
-  by_found f f2 z e t = by (thread_at (threads_in a) t) (thread_at (threads_in b) t) (found t)
+  by_found f f2 z e t = by (thread_at (threads_in a) t) (thread_at (threads_in b) t) (thread_same t)
     where
       by : (o p : Option Standing) → option_map shown_of o ≡ option_map shown_of p → f o ≡ f2 p
       by None None q = z
@@ -382,21 +587,8 @@ module _ (k c : Cluster) (code : c.code ≡ k.code) (once : Once (sight k)) (ali
   spot_same (as_result t) = refl
   spot_same in_hand = refl
 
-  content_spot : (m : MutexNo) (p : Spot) → is_content s m p ≡ is_content s2 m p
-  content_spot m (as_gift t) = by_found (is_gift_of s m) (is_gift_of s2 m) refl (λ x y q. ap some (gift_content_same x y q m)) t
-  content_spot m (in_slot t i) = refl
-  content_spot m (in_temp t i) = refl
-  content_spot m (as_content n) = refl
-  content_spot m (as_result t) = refl
-  content_spot m in_hand = refl
-
-  result_spot : (t : ℕ) (p : Spot) → is_result s t p ≡ is_result s2 t p
-  result_spot t (as_gift u) = by_found (is_joined_by s t) (is_joined_by s2 t) refl (λ x y q. ap some (gift_result_same x y q t)) u
-  result_spot t (in_slot u i) = refl
-  result_spot t (in_temp u i) = refl
-  result_spot t (as_content n) = refl
-  result_spot t (as_result u) = refl
-  result_spot t in_hand = refl
+  places_same : (t : ℕ) → gift_spot s t ≡ gift_spot s2 t
+  places_same t = by_found (gift_spot_of s) (gift_spot_of s2) refl gift_spot_same t
 
   -- WHAT IS IN THE STATE
 
@@ -424,12 +616,39 @@ module _ (k c : Cluster) (code : c.code ≡ k.code) (once : Once (sight k)) (ali
   back : (p : Spot) → spot_owner s2 p ≡ spot_owner s p
   back p = sym (spot_same p)
 
-  any_same : (go : Node → Bool) (n : Node) → any_named s go n a ≡ any_named s2 go n b
-  any_same go n = any_is s go n a ∙ ap some (carried (named_weight go n) refl (named_one s go n) (named_one s2 go n) (named_is s (λ p. refl) go n) (named_is s2 back go n)) ∙ sym (any_is s2 go n b)
+  -- a weight by owners, where what nothing names owns nothing
+  by_owner : (f : Plain → Owner → ℕ) → ((v : Plain) → f v outside ≡ 0) → ((n : Node) (v : Plain) → is_named s n ≡ false → f v (inside n) ≡ 0) → (w : Sign → ℕ) → ((p : Spot) (v : Plain) → w (a_value p v) ≡ f v (spot_owner s p)) → Counts s w
+  by_owner f out none w e = record {
+    gifts = λ t v. e (as_gift t) v ∙ ap (f v) (gift_owned s t) ∙ sym (at_spot (gift_spot s t) v);
+    contents = λ m v q. e (as_content m) v ∙ none (mutex_n m) v q;
+    results = λ t v q r. e (as_result t) v ∙ none (task_n t) v q;
+  }
+    where
+      at_spot : (o : Option Spot) (v : Plain) → counted_at w o v ≡ f v (spot_owned s o)
+      at_spot None v = sym (out v)
+      at_spot (Some p) v = e p v
+
+  named_none : (q : Bool) (go : Node → Bool) → one (named_in q go outside) ≡ 0
+  named_none true go = refl
+  named_none false go = refl
+
+  unnamed_none : (q : Bool) (go : Node → Bool) (n : Node) → go n ≡ false → one (named_in q go (inside n)) ≡ 0
+  unnamed_none true go n e = ap one e
+  unnamed_none false go n e = refl
+
+  named_counts : (i : ℕ) (n : Node) → Counts s (named_weight (in_state_by i s) n)
+  named_counts i n =
+      by_owner (λ v o. one (named_in (plain_owns n v) (in_state_by i s) o)) (λ v. named_none (plain_owns n v) (in_state_by i s))
+      (λ m v e. unnamed_none (plain_owns n v) (in_state_by i s) m (unnamed_out s i m e)) (named_weight (in_state_by i s) n) (λ p v. refl)
+
+  any_same : (i : ℕ) (n : Node) → any_named s (in_state_by i s) n a ≡ any_named s2 (in_state_by i s) n b
+  any_same i n =
+      let go = in_state_by i s in
+      any_is s go n a ∙ ap some (carried (named_weight go n) refl (named_counts i n) (named_one s go n) (named_one s2 go n) (named_is s (λ p. refl) go n) (named_is s2 back go n)) ∙ sym (any_is s2 go n b)
 
   round_same : (i : ℕ) (n : Node) → in_state_by i s n ≡ in_state_by i s2 n
   round_same zero n = refl
-  round_same (suc i) n = any_same (in_state_by i s) n ∙ named_alike s2 (in_state_by i s) (in_state_by i s2) (round_same i) n b
+  round_same (suc i) n = any_same i n ∙ named_alike s2 (in_state_by i s) (in_state_by i s2) (round_same i) n b
 
   both_ways : (p q : Bool) → (p ≡ true → q ≡ true) → (q ≡ true → p ≡ true) → p ≡ q
   both_ways true q f g = sym (f refl)
@@ -446,18 +665,52 @@ module _ (k c : Cluster) (code : c.code ≡ k.code) (once : Once (sight k)) (ali
   object_same : (o : ObjNo) → object_value s o ≡ object_value s2 o
   object_same o = ap₂ (λ q v. if_in q v) (in_same (object_n o)) (cell_same o)
 
+  -- by where a value counts, and no gift is without its thread
+  abbrev counts_as : Spot → Option Spot
+  counts_as (as_gift t) = gift_spot s t
+  counts_as p = Some p
+
+  real : (w : Sign → ℕ) → w nothing ≡ 0 → Counts s w → (f f2 : Thing → ℕ) → ((x : Thing) → stray s x ≡ 0 → f x ≡ w (sign_of x)) → ((x : Thing) → stray s2 x ≡ 0 → f2 x ≡ w (sign_of x)) → tot f a ≡ tot f2 b
+  real w z n f f2 e e2 = tot_but (stray s) f (λ x. w (sign_of x)) e a (no_stray k once.threads) ∙ alike w z n ∙ sym (tot_but (stray s2) f2 (λ x. w (sign_of x)) e2 b (no_stray c numbers_differ))
+
+  first_real : (f f2 : Thing → Option Plain) (w : (Plain → ℕ) → Sign → ℕ) → ((g : Plain → ℕ) → w g nothing ≡ 0) → ((g : Plain → ℕ) → Counts s (w g)) → ((g : Plain → ℕ) (x : Thing) → stray s x ≡ 0 → told g (f x) ≡ w g (sign_of x))
+      → ((g : Plain → ℕ) (x : Thing) → stray s2 x ≡ 0 → told g (f2 x) ≡ w g (sign_of x)) → tot (λ x. told ones (f x)) a ≤ 1 → first_shown f a ≡ first_shown f2 b
+  first_real f f2 w z n e e2 few = first_by f f2 (λ g. real (w g) (z g) (n g) (λ x. told g (f x)) (λ x. told g (f2 x)) (e g) (e2 g)) few
+
+  found_gift : (o : Option Standing) → other (gifted o) ≡ 0 → gifted o ≡ true
+  found_gift o z = by (gifted o) z
+    where
+      by : (q : Bool) → other q ≡ 0 → q ≡ true
+      by true z = refl
+      by false z = absurd (cc z)
+
   abbrev content_weight : MutexNo → (Plain → ℕ) → Sign → ℕ
-  content_weight m g (a_value p v) = if_so (is_content s m p) (g v)
+  content_weight m g (a_value p v) = if_so (is_content_at m (counts_as p)) (g v)
   content_weight m g x = 0
 
-  content_is : (r : Sight) → (m : MutexNo) → ((p : Spot) → is_content r m p ≡ is_content s m p) → (g : Plain → ℕ) (x : Thing) → told g (content_value r m x) ≡ content_weight m g (sign_of x)
-  content_is r m e g (holds p v) = told_if g (is_content r m p) (plain_of v) ∙ ap (λ q. if_so q (g (plain_of v))) (e p)
-  content_is r m e g (noted i x) = unnoted (content_weight m g) refl (λ u d. refl) x.thread x.state
-  content_is r m e g _ = refl
+  content_spot : (r : Sight) → ((t : ℕ) → gift_spot r t ≡ gift_spot s t) → (m : MutexNo) (p : Spot) (v : Owned) → stray r (holds p v) ≡ 0 → is_content r m p ≡ is_content_at m (counts_as p)
+  content_spot r e m (as_gift t) v z = gift_is_content r m (thread_at r.ground.threads t) (found_gift (thread_at r.ground.threads t) z) ∙ ap (is_content_at m) (e t)
+  content_spot r e m (in_slot t i) v z = refl
+  content_spot r e m (in_temp t i) v z = refl
+  content_spot r e m (as_content n) v z = refl
+  content_spot r e m (as_result t) v z = refl
+  content_spot r e m in_hand v z = refl
 
-  content_same : (m : MutexNo) → first_shown (content_value s m) a ≡ first_shown (content_value s2 m) b
-  content_same m =
-      first_same (content_value s m) (content_value s2 m) (content_weight m) (λ g. refl) (content_is s m (λ p. refl)) (content_is s2 m (λ p. sym (content_spot m p))) (once.contents m)
+  content_is : (r : Sight) → ((t : ℕ) → gift_spot r t ≡ gift_spot s t) → (m : MutexNo) (g : Plain → ℕ) (x : Thing) → stray r x ≡ 0 → told g (content_value r m x) ≡ content_weight m g (sign_of x)
+  content_is r e m g (holds p v) z = told_if g (is_content r m p) (plain_of v) ∙ ap (λ q. if_so q (g (plain_of v))) (content_spot r e m p v z)
+  content_is r e m g (noted i x) z = unnoted (content_weight m g) refl (λ u d. refl) x.thread x.state
+  content_is r e m g _ z = refl
+
+  content_counts : (m : MutexNo) → is_named s (mutex_n m) ≡ true → (g : Plain → ℕ) → Counts s (content_weight m g)
+  content_counts m named g = record {
+    gifts = λ t v. by_gift_spot s (λ o. if_so (is_content_at m o) (g v) ≡ counted_at (content_weight m g) o v) refl (λ n. refl) (λ u. refl) t;
+    contents = λ n v e. if_not (same_mutex n m) (g v) (λ q. let same : is_named s (mutex_n n) ≡ is_named s (mutex_n m) = ap (λ i. is_named s (mutex_n i)) (same_mutexes n m q) in cc (sym e ∙ same ∙ named));
+    results = λ t v e f. refl;
+  }
+
+  content_same : (m : MutexNo) → is_named s (mutex_n m) ≡ true → first_shown (content_value s m) a ≡ first_shown (content_value s2 m) b
+  content_same m named =
+      first_real (content_value s m) (content_value s2 m) (content_weight m) (λ g. refl) (content_counts m named) (content_is s (λ t. refl) m) (content_is s2 (λ t. sym (places_same t)) m) (once.contents m)
 
   abbrev share_weight : MutexNo → Sign → ℕ
   share_weight m (a_value p v) = if_so (plain_owns (mutex_n m) v) (one (owner_in (is_in_state s) (spot_owner s p)))
@@ -472,23 +725,35 @@ module _ (k c : Cluster) (code : c.code ≡ k.code) (once : Once (sight k)) (ali
   share_is r e f m (noted i x) = unnoted (share_weight m) refl (λ u d. refl) x.thread x.state
   share_is r e f m _ = refl
 
+  none_if : (q : Bool) → if_so q 0 ≡ 0
+  none_if true = refl
+  none_if false = refl
+
+  unowned : (q r : Bool) → r ≡ false → if_so q (one r) ≡ 0
+  unowned q r e = ap (λ i. if_so q (one i)) e ∙ none_if q
+
   shares_same : (m : MutexNo) → tot (share_in s m) a ≡ tot (share_in s2 m) b
-  shares_same m = carried (share_weight m) refl (share_in s m) (share_in s2 m) (share_is s (λ p. refl) (λ n. refl) m) (share_is s2 back (λ n. sym (in_same n)) m)
+  shares_same m =
+      carried (share_weight m) refl
+      (by_owner (λ v o. if_so (plain_owns (mutex_n m) v) (one (owner_in (is_in_state s) o))) (λ v. none_if (plain_owns (mutex_n m) v)) (λ n v e. unowned (plain_owns (mutex_n m) v) (is_in_state s n) (unnamed_out s (length a) n e)) (share_weight m) (λ p v. refl)) (share_in s m) (share_in s2 m) (share_is s (λ p. refl) (λ n. refl) m) (share_is s2 back (λ n. sym (in_same n)) m)
 
   mutexes_same : (m : MutexNo) → (one_heap k).mutex m ≡ (one_heap c).mutex m
-  mutexes_same m =
-      ap (λ q. if_there q (record { content = first_shown (content_value s m) a; shares = tot (share_in s m) a })) (in_same (mutex_n m))
-      ∙ ap₂ (λ v n. if_there (is_in_state s2 (mutex_n m)) (record { content = v; shares = n })) (content_same m) (shares_same m)
+  mutexes_same m = by (is_named s (mutex_n m)) refl
+    where
+      by : (q : Bool) → is_named s (mutex_n m) ≡ q → (one_heap k).mutex m ≡ (one_heap c).mutex m
+      by true e =
+          ap (λ q. if_there q (record { content = first_shown (content_value s m) a; shares = tot (share_in s m) a })) (in_same (mutex_n m))
+          ∙ ap₂ (λ v n. if_there (is_in_state s2 (mutex_n m)) (record { content = v; shares = n })) (content_same m e) (shares_same m)
+      by false e =
+          let out : is_in_state s (mutex_n m) ≡ false = unnamed_out s (length a) (mutex_n m) e in
+          ap (λ q. if_there q (record { content = first_shown (content_value s m) a; shares = tot (share_in s m) a })) out
+          ∙ ap (λ q. if_there q (record { content = first_shown (content_value s2 m) b; shares = tot (share_in s2 m) b })) (sym out ∙ in_same (mutex_n m))
 
   -- RESULTS
 
   abbrev branch_weight : ℕ → Sign → ℕ
   branch_weight t (a_branch u d) = if_so (u == t) 1
   branch_weight t x = 0
-
-  none_if : (q : Bool) → if_so q 0 ≡ 0
-  none_if true = refl
-  none_if false = refl
 
   noted_is : (t u : ℕ) (x : TaskState) → if_so (u == t) (pair_note x) ≡ branch_weight t (note_sign u x)
   noted_is t u (in_pair p d) = refl
@@ -502,7 +767,7 @@ module _ (k c : Cluster) (code : c.code ≡ k.code) (once : Once (sight k)) (ali
   branch_is t _ = refl
 
   branch_same : (t : ℕ) → is_branch s t ≡ is_branch s2 t
-  branch_same t = ap some (carried (branch_weight t) refl (in_pair_of t) (in_pair_of t) (branch_is t) (branch_is t))
+  branch_same t = ap some (carried (branch_weight t) refl (no_values s (branch_weight t) (λ p v. refl)) (in_pair_of t) (in_pair_of t) (branch_is t) (branch_is t))
 
   abbrev done_weight : ℕ → (Plain → ℕ) → Sign → ℕ
   done_weight t g (a_branch u d) = if_so (u == t) (if_so d (g plain.Unit))
@@ -535,25 +800,60 @@ module _ (k c : Cluster) (code : c.code ≡ k.code) (once : Once (sight k)) (ali
   done_is t g _ = refl
 
   done_same : (t : ℕ) → first_shown (branch_result t) a ≡ first_shown (branch_result t) b
-  done_same t = first_same (branch_result t) (branch_result t) (done_weight t) (λ g. refl) (done_is t) (done_is t) (once.branches t)
+  done_same t = first_same (branch_result t) (branch_result t) (done_weight t) (λ g. refl) (λ g. no_values s (done_weight t g) (λ p v. refl)) (done_is t) (done_is t) (once.branches t)
 
   abbrev result_weight : ℕ → (Plain → ℕ) → Sign → ℕ
-  result_weight t g (a_value p v) = if_so (is_result s t p) (g v)
+  result_weight t g (a_value p v) = if_so (is_result_at t (counts_as p)) (g v)
   result_weight t g x = 0
 
-  result_is : (r : Sight) (t : ℕ) → ((p : Spot) → is_result r t p ≡ is_result s t p) → (g : Plain → ℕ) (x : Thing) → told g (result_value r t x) ≡ result_weight t g (sign_of x)
-  result_is r t e g (holds p v) = told_if g (is_result r t p) (plain_of v) ∙ ap (λ q. if_so q (g (plain_of v))) (e p)
-  result_is r t e g (noted i x) = unnoted (result_weight t g) refl (λ u d. refl) x.thread x.state
-  result_is r t e g _ = refl
+  result_spot : (r : Sight) → ((t : ℕ) → gift_spot r t ≡ gift_spot s t) → (t : ℕ) (p : Spot) (v : Owned) → stray r (holds p v) ≡ 0 → is_result r t p ≡ is_result_at t (counts_as p)
+  result_spot r e t (as_gift u) v z = gift_is_result r t (thread_at r.ground.threads u) (found_gift (thread_at r.ground.threads u) z) ∙ ap (is_result_at t) (e u)
+  result_spot r e t (in_slot u i) v z = refl
+  result_spot r e t (in_temp u i) v z = refl
+  result_spot r e t (as_content n) v z = refl
+  result_spot r e t (as_result u) v z = refl
+  result_spot r e t in_hand v z = refl
 
-  kept_same : (t : ℕ) → first_shown (result_value s t) a ≡ first_shown (result_value s2 t) b
-  kept_same t = first_same (result_value s t) (result_value s2 t) (result_weight t) (λ g. refl) (result_is s t (λ p. refl)) (result_is s2 t (λ p. sym (result_spot t p))) (once.results t)
+  result_is : (r : Sight) → ((t : ℕ) → gift_spot r t ≡ gift_spot s t) → (t : ℕ) (g : Plain → ℕ) (x : Thing) → stray r x ≡ 0 → told g (result_value r t x) ≡ result_weight t g (sign_of x)
+  result_is r e t g (holds p v) z = told_if g (is_result r t p) (plain_of v) ∙ ap (λ q. if_so q (g (plain_of v))) (result_spot r e t p v z)
+  result_is r e t g (noted i x) z = unnoted (result_weight t g) refl (λ u d. refl) x.thread x.state
+  result_is r e t g _ z = refl
+
+  -- somebody names the thread, or it is a branch
+  abbrev owed : ℕ → Bool
+  owed t = is_branch s t || is_named s (task_n t)
+
+  neither : (p q : Bool) → p ≡ false → q ≡ false → (p || q) ≡ true → ⊥
+  neither false false d e f = cc f
+  neither true q d e f = cc d
+  neither false true d e f = cc e
+
+  result_counts : (t : ℕ) → owed t ≡ true → (g : Plain → ℕ) → Counts s (result_weight t g)
+  result_counts t some_owe g = record {
+    gifts = λ u v. by_gift_spot s (λ o. if_so (is_result_at t o) (g v) ≡ counted_at (result_weight t g) o v) refl (λ n. refl) (λ i. refl) u;
+    contents = λ n v e. refl;
+    results = λ u v e f. eq_cases (λ q. if_so q (g v) ≡ 0) u t (λ same. absurd (neither (is_branch s u) (is_named s (task_n u)) f e (ap owed same ∙ some_owe))) (λ ne. refl);
+  }
+
+  kept_same : (t : ℕ) → owed t ≡ true → first_shown (result_value s t) a ≡ first_shown (result_value s2 t) b
+  kept_same t some_owe = first_real (result_value s t) (result_value s2 t) (result_weight t) (λ g. refl) (result_counts t some_owe) (result_is s (λ u. refl) t) (result_is s2 (λ u. sym (places_same u)) t) (once.results t)
 
   owed_same : (t : ℕ) → is_branch s t || is_in_state s (task_n t) ≡ is_branch s2 t || is_in_state s2 (task_n t)
   owed_same t = ap₂ (λ p q. p || q) (branch_same t) (in_same (task_n t))
 
+  unowed : (p q r : Bool) → (p || q) ≡ false → (q ≡ false → r ≡ false) → (p || r) ≡ false
+  unowed true q r e f = absurd (cc e)
+  unowed false true r e f = absurd (cc e)
+  unowed false false r e f = f refl
+
   result_same : (t : ℕ) → result_of s t ≡ result_of s2 t
-  result_same t = ap₂ or_else (done_same t) (ap₂ if_in (owed_same t) (kept_same t))
+  result_same t = ap₂ or_else (done_same t) (by (owed t) refl)
+    where
+      by : (q : Bool) → owed t ≡ q → if_in (is_branch s t || is_in_state s (task_n t)) (first_shown (result_value s t) a) ≡ if_in (is_branch s2 t || is_in_state s2 (task_n t)) (first_shown (result_value s2 t) b)
+      by true e = ap₂ if_in (owed_same t) (kept_same t e)
+      by false e =
+          let out : is_branch s t || is_in_state s (task_n t) ≡ false = unowed (is_branch s t) (is_named s (task_n t)) (is_in_state s (task_n t)) e (unnamed_out s (length a) (task_n t)) in
+          ap (λ q. if_in q (first_shown (result_value s t) a)) out ∙ ap (λ q. if_in q (first_shown (result_value s2 t) b)) (sym out ∙ owed_same t)
 
   -- LIVES
 
@@ -592,13 +892,13 @@ module _ (k c : Cluster) (code : c.code ≡ k.code) (once : Once (sight k)) (ali
   given_same t =
       let h = home_of t in
       let n = t % 2 ^ 32 in
-      ap (λ m. t == 0 || (not (n == 0) && some m)) (carried (started_weight h n) refl (started_at h n) (started_at h n) (started_is h n) (started_is h n))
+      ap (λ m. t == 0 || (not (n == 0) && some m)) (carried (started_weight h n) refl (no_values s (started_weight h n) (λ p v. refl)) (started_at h n) (started_at h n) (started_is h n) (started_is h n))
 
   mutex_given : (m : MutexNo) → is_given_mutex s m ≡ is_given_mutex s2 m
-  mutex_given m = ap (λ n. not (m.count == 0) && some n) (carried (made_weight m.home m.count) refl (made_at m.home m.count) (made_at m.home m.count) (made_is m.home m.count) (made_is m.home m.count))
+  mutex_given m = ap (λ n. not (m.count == 0) && some n) (carried (made_weight m.home m.count) refl (no_values s (made_weight m.home m.count) (λ p v. refl)) (made_at m.home m.count) (made_at m.home m.count) (made_is m.home m.count) (made_is m.home m.count))
 
-  pub same_heap : SameState (one_heap c) (one_heap k)
-  same_heap = record {
+  pub counts_same_heap : SameState (one_heap c) (one_heap k)
+  counts_same_heap = record {
     threads = λ t. sym (ap₂ if_given (given_same t) (life_same t));
     made = λ t. sym (by_found made_of made_of refl (λ x y e. ap (λ (z : ShownThread). if z.is_over then 0 else z.made) e) t);
     pairs = λ t. sym (by_found pair_of pair_of refl (λ x y e. ap (λ (z : ShownThread). z.pair) e) t);
@@ -606,3 +906,7 @@ module _ (k c : Cluster) (code : c.code ≡ k.code) (once : Once (sight k)) (ali
     mutexes = λ m. sym (mutexes_same m);
     given = λ m. sym (mutex_given m);
   }
+
+-- where all that is shown is the same, whatever counts is
+pub same_heap : (k c : Cluster) → c.code ≡ k.code → Once (sight k) → ShowAlike (things_of k) (things_of c) → SameState (one_heap c) (one_heap k)
+same_heap k c code once alike = counts_same_heap k c code once (λ w z n. alike w z)

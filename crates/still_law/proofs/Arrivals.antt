@@ -168,10 +168,10 @@ arrived m p q x = stand_gives (Still (message_things x.work.rest.number m) x) (t
           tot-append g (all_standing n (with_thread x.threads p)) r,
         )
 
-pub starts : (k : Cluster) (s : Server) (i : ℕ) (p : ThreadState) → slice_get s.rest.inbox i ≡ Some (message.Start p) → Gives (ServerStill s) (does k.code k.options s (Deliver i))
+pub starts : (k : Cluster) (s : Server) (i : ℕ) (p : ThreadState) → slice_get s.rest.inbox i ≡ Some (message.Start p) → Gives (ServerStill k s) (does k.code k.options s (Deliver i))
 starts k s i p q = deliveries k s i (message.Start p) q (arrived (message.Start p) p (record { carries = λ n f. refl }) (received i s))
 
-pub parcels : (k : Cluster) (s : Server) (i : ℕ) (p : ThreadState) → slice_get s.rest.inbox i ≡ Some (message.Migrate p) → Gives (ServerStill s) (does k.code k.options s (Deliver i))
+pub parcels : (k : Cluster) (s : Server) (i : ℕ) (p : ThreadState) → slice_get s.rest.inbox i ≡ Some (message.Migrate p) → Gives (ServerStill k s) (does k.code k.options s (Deliver i))
 parcels k s i p q = deliveries k s i (message.Migrate p) q (arrived (message.Migrate p) p (record { carries = λ n f. refl }) (received i s))
 
 -- A THREAD LEAVES
@@ -223,6 +223,6 @@ departed t target x =
           tot-append g (all_standing n (without_thread x.threads t)) (rest_things n 0 y2.rest),
         )
 
-pub migrations : (k : Cluster) (s : Server) (t target : ℕ) → Gives (ServerStill s) (does k.code k.options s (Migrate t target))
+pub migrations : (k : Cluster) (s : Server) (t target : ℕ) → Gives (ServerStill k s) (does k.code k.options s (Migrate t target))
 migrations k s t target =
-    over_gives (Still [] (begin_at s)) (ServerStill s) (migrate t target (begin_at s)) (left_by s.events (Some t) None) (departed t target (begin_at s)) (λ x e w z. begins s w z ∙ e w z ∙ ends s.events (Some t) None x w z)
+    over_gives (Still [] (begin_at s)) (ServerStill k s) (migrate t target (begin_at s)) (left_by s.events (Some t) None) (departed t target (begin_at s)) (λ x e w z c. begins s w z ∙ e w z ∙ ends s.events (Some t) None x w z)

@@ -38,21 +38,21 @@ module _ (k : Cluster) (sound : IsSound k) (number : ℕ) (s : Server) (here : s
   abbrev h : Hand
   h = record { work = begin_work s.rest; thread = y }
 
-  waits_on : IsQuiet y.phase → (u : Option ℕ) → Gives (ServerStill s) (option_map (stepped s) (committed (waiting (option_map (ask_join h) u))))
+  waits_on : IsQuiet y.phase → (u : Option ℕ) → Gives (ServerStill k s) (option_map (stepped s) (committed (waiting (option_map (ask_join h) u))))
   waits_on q None = tt
   waits_on q (Some u) =
       let d = wait_step (ask_join h u) in
       let still = put_still [] t (begin_at s) y at d.hand (wait_still h (ask_join h u) (asks_join h (Some u) q)) in
-      λ w z. begins s w z ∙ still w z ∙ ends s.events (Some d.hand.thread.number) d.names (put_back s.threads d.hand) w z
+      λ w z c. begins s w z ∙ still w z ∙ ends s.events (Some d.hand.thread.number) d.names (put_back s.threads d.hand) w z
 
-  asks : IsQuiet y.phase → Gives (ServerStill s) (does k.code k.options s (Step t))
+  asks : IsQuiet y.phase → Gives (ServerStill k s) (does k.code k.options s (Step t))
   asks q =
-      subst (λ x. Gives (ServerStill s) (option_map (stepped s) (then_some (option_map (λ v. record { work = begin_work s.rest; thread = v }) x) (step_in k.code k.options.servers)))) (sym at)
-      (subst (λ x. Gives (ServerStill s) (option_map (stepped s) (then_some x (λ j. step k.options.servers j h)))) (sym i)
-      (subst (λ g. Gives (ServerStill s) (option_map (stepped s) (committed (join o g h)))) (sym bare) (waits_on q (then_some (pop o h) (λ p. task_of p.item)))))
+      subst (λ x. Gives (ServerStill k s) (option_map (stepped s) (then_some (option_map (λ v. record { work = begin_work s.rest; thread = v }) x) (step_in k.code k.options.servers)))) (sym at)
+      (subst (λ x. Gives (ServerStill k s) (option_map (stepped s) (then_some x (λ j. step k.options.servers j h)))) (sym i)
+      (subst (λ g. Gives (ServerStill k s) (option_map (stepped s) (committed (join o g h)))) (sym bare) (waits_on q (then_some (pop o h) (λ p. task_of p.item)))))
 
 pub joins_that_ask : JoinsThatAsk
 joins_that_ask k n t s y o sound few here at i bare =
     leaves_heap shown_once k (record { server = n; what = Step t }) sound few (λ r e on.
     let same : r ≡ s = (let both : Some r ≡ Some s = sym e ∙ here in cc) in
-    subst (λ (x : Server). Gives (ServerStill x) (does k.code k.options x (Step t))) (sym same) (asks k sound n s here t y at o i bare (quiet k sound n s here t y at o i bare (subst (λ (x : Server). enabled k.options x (Step t) ≡ true) same on))))
+    subst (λ (x : Server). Gives (ServerStill k x) (does k.code k.options x (Step t))) (sym same) (asks k sound n s here t y at o i bare (quiet k sound n s here t y at o i bare (subst (λ (x : Server). enabled k.options x (Step t) ≡ true) same on))))

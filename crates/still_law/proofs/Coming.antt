@@ -104,6 +104,6 @@ module _ (k : Cluster) (sound : IsSound k) (number : ℕ) (s : Server) (here : s
       weaker (HandStill [] h1) (HandStill gone h) (arrived (instr_access h (slice_get k.code h.thread.pc)) old m.word h1) (got_for (instr_access h (slice_get k.code h.thread.pc)) old m.word h1 (cell_quiet h.thread.phase old on))
       (λ h2 x. then_hand gone h h1 h2 g x)))
 
-  pub objects_come : (i old : ℕ) (c : Cell) (t : ℕ) → slice_get s.rest.inbox i ≡ Some (message.Moved old c t) → Gives (ServerStill s) (does k.code k.options s (Deliver i))
+  pub objects_come : (i old : ℕ) (c : Cell) (t : ℕ) → slice_get s.rest.inbox i ≡ Some (message.Moved old c t) → Gives (ServerStill k s) (does k.code k.options s (Deliver i))
   objects_come i old c t q =
       deliveries k s i (message.Moved old c t) q (thread_still (message_things s.rest.number (message.Moved old c t)) t (deliver_moved k.code old c) (received i s) (λ y e. comes old c t (record { work = (received i s).work; thread = y }) refl refl))

@@ -22,7 +22,7 @@ evicted c x = by (can_evict x.rest.cache c) refl (copy_of x.rest.cache c) refl
     by true a None q = let z : is_cached x.rest.cache c ≡ false = ap is_some q in absurd (cc (sym z ∙ and_left (is_cached x.rest.cache c) (users x.rest.cache c == 0) a))
     by true a (Some d) q = record { number = refl; alike = trade_alike _ _ _ _ (of_cache x.rest.number 0 x.rest (without_copy x.rest.cache c) (copy_goes x.rest.number x.rest.cache c d q)) (λ w z. omega (arith, z)) }
 
-pub evictions : (k : Cluster) (s : Server) (c : ℕ) → Gives (ServerStill s) (does k.code k.options s (Evict c))
+pub evictions : (k : Cluster) (s : Server) (c : ℕ) → Gives (ServerStill k s) (does k.code k.options s (Evict c))
 evictions k s c =
-    over_gives (Still [] (begin_at s)) (ServerStill s) (beside_threads (evict_copy c) (begin_at s)) (left_by s.events None None) (beside_still [] (evict_copy c) (begin_at s) (evicted c (begin_at s).work))
-    (λ x e w z. begins s w z ∙ e w z ∙ ends s.events None None x w z)
+    over_gives (Still [] (begin_at s)) (ServerStill k s) (beside_threads (evict_copy c) (begin_at s)) (left_by s.events None None) (beside_still [] (evict_copy c) (begin_at s) (evicted c (begin_at s).work))
+    (λ x e w z c. begins s w z ∙ e w z ∙ ends s.events None None x w z)

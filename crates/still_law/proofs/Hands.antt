@@ -1,5 +1,6 @@
 -- What an answer changes of its thread: the thread is in the hand, and shows what it showed.
 use Rattle.std.proofs.Common.{◌≡◌, ℕ, Bool, true, false, List, [], ◌∷◌, ◌++◌, Option, Some, None, refl, sym, ap, subst, ◌∙◌, arith}
+use Rattle.std.specs.Bool.{⊤}
 use Rattle.std.specs.Prelude.{slice_get, option_map}
 use Rattle.fr_base.specs.Lists.{is_in}
 use Rattle.heap_partition.specs.declared.value.Cell.{Cell}
@@ -18,7 +19,7 @@ use Rattle.heap_law.specs.Things.{Thing, stands, sent, thread_things, message_th
 use Rattle.heap_law.specs.OneHeap.{two_in}
 use Rattle.event_law.specs.Laws.{Gives}
 use Rattle.event_law.proofs.Trades.{tot-append}
-use Rattle.event_law.proofs.Results.{over_gives, map_gives, test_gives, given_by}
+use Rattle.event_law.proofs.Results.{over_gives, map_gives, test_gives, given_by, weaker}
 use Rattle.event_law.proofs.Bags.{all_standing, rest_things, thread_number, tot-without, tot-set}
 use Rattle.still_law.specs.Shows.{Sign, nothing, a_thread, has_both, shown_thread, sign_of, ShowAlike}
 use Rattle.still_law.proofs.Sites.{shown, site_things, Still, ServerStill, deliveries}
@@ -62,15 +63,25 @@ put_still gone t x y q h s w z =
       tot-append g (thread_things n false h.thread) r2,
     )
 
+-- so it does what its hand does, and what is known where it does anything
+pub thread_knows : (gone : List Thing) (D : Type 0) (t : ℕ) (f : Hand → Option Hand) (x : Site)
+    → ((y : ThreadState) → thread_in x.threads t ≡ Some y → Gives (λ h. HandStill gone (record { work = x.work; thread = y }) h × D) (f (record { work = x.work; thread = y })))
+    → Gives (λ y. Still gone x y × D) (at_thread t f x)
+thread_knows gone D t f x go = by (thread_in x.threads t) refl
+  where
+    by : (o : Option ThreadState) → thread_in x.threads t ≡ o
+        → Gives (λ y. Still gone x y × D) (then_some (option_map (λ y. record { work = x.work; thread = y }) o) (λ h. option_map (put_back x.threads) (f h)))
+    by None q = tt
+    by (Some y) q =
+        over_gives (λ h. HandStill gone (record { work = x.work; thread = y }) h × D) (λ y. Still gone x y × D) (f (record { work = x.work; thread = y })) (put_back x.threads) (go y q)
+        (λ h s. (put_still gone t x y q h s.0, s.1))
+
 pub thread_still : (gone : List Thing) (t : ℕ) (f : Hand → Option Hand) (x : Site)
     → ((y : ThreadState) → thread_in x.threads t ≡ Some y → Gives (HandStill gone (record { work = x.work; thread = y })) (f (record { work = x.work; thread = y })))
     → Gives (Still gone x) (at_thread t f x)
-thread_still gone t f x go = by (thread_in x.threads t) refl
-  where
-    by : (o : Option ThreadState) → thread_in x.threads t ≡ o
-        → Gives (Still gone x) (then_some (option_map (λ y. record { work = x.work; thread = y }) o) (λ h. option_map (put_back x.threads) (f h)))
-    by None q = tt
-    by (Some y) q = over_gives (HandStill gone (record { work = x.work; thread = y })) (Still gone x) (f (record { work = x.work; thread = y })) (put_back x.threads) (go y q) (λ h s. put_still gone t x y q h s)
+thread_still gone t f x go =
+    weaker (λ y. Still gone x y × ⊤) (Still gone x) (at_thread t f x)
+    (thread_knows gone ⊤ t f x (λ y q. weaker (HandStill gone (record { work = x.work; thread = y })) (λ h. HandStill gone (record { work = x.work; thread = y }) h × ⊤) (f (record { work = x.work; thread = y })) (go y q) (λ h s. (s, tt)))) (λ y s. s.0)
 
 -- A PHASE THAT SHOWS NOTHING
 
@@ -173,5 +184,5 @@ came n v c t h = test_gives (HandStill gone h) (waits_for_cell h.thread.phase v)
         walk_still (sent n (message.Fetched v c t) ∷ []) quiet h u.0 u.1 phase.Got (record h.work.rest { cache = u.0 }) refl (cell_quiet h.thread.phase v on) got_quiet (with_phase phase.Got (working (note (act.Fill c.object v)) h2)) u.2
         (ap (λ (y : ThreadState). record y { phase = phase.Got }) u.3)
 
-pub copies : (k : Cluster) (s : Server) (i v : ℕ) (c : Cell) (t : ℕ) → slice_get s.rest.inbox i ≡ Some (message.Fetched v c t) → Gives (ServerStill s) (does k.code k.options s (Deliver i))
+pub copies : (k : Cluster) (s : Server) (i v : ℕ) (c : Cell) (t : ℕ) → slice_get s.rest.inbox i ≡ Some (message.Fetched v c t) → Gives (ServerStill k s) (does k.code k.options s (Deliver i))
 copies k s i v c t q = deliveries k s i (message.Fetched v c t) q (thread_still (message_things s.rest.number (message.Fetched v c t)) t (deliver_fetched v c) (received i s) (λ y e. came s.rest.number v c t (record { work = (received i s).work; thread = y })))

@@ -66,5 +66,5 @@ module _ (k : Cluster) (sound : IsSound k) (number : ℕ) (s : Server) (here : s
       } in
       sends gone hand x.rest (note (act.Give o w a) (with_partition (freed p w) x)) a (message.Moved w c t) left (λ v z. omega (arith, z)))
 
-  pub moves : (i w : ℕ) (o : ObjNo) (a t : ℕ) → slice_get s.rest.inbox i ≡ Some (message.Move w o a t) → Gives (ServerStill s) (does k.code k.options s (Deliver i))
+  pub moves : (i w : ℕ) (o : ObjNo) (a t : ℕ) → slice_get s.rest.inbox i ≡ Some (message.Move w o a t) → Gives (ServerStill k s) (does k.code k.options s (Deliver i))
   moves i w o a t q = deliveries k s i (message.Move w o a t) q (beside_still (message_things s.rest.number (message.Move w o a t)) (deliver_move w o a t) (received i s) (gives w o a t (received i s).work refl refl))

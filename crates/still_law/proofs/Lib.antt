@@ -13,6 +13,7 @@ pub mod Hands
 pub mod Leaving
 pub mod Readied
 pub mod Coming
+pub mod Given
 pub mod StillKinds
 pub mod Prepares
 pub mod Undone

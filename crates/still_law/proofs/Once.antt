@@ -21,7 +21,7 @@ use Rattle.heap_law.specs.OneHeap.{if_in, cell_value, is_gift_of, content_value,
 use Rattle.heap_law.specs.Coherent.{IsSound}
 use Rattle.heap_law.proofs.Sums.{tot-append}
 use Rattle.event_law.proofs.MutexResults.{weighed, here, Weight, mutex_weighs, all_at_home, no_server}
-use Rattle.still_law.proofs.Told.{at_most, told, ones}
+use Rattle.still_law.proofs.Told.{at_most, found, told, ones}
 use Rattle.still_law.proofs.Alike.{Once}
 use Rattle.still_law.proofs.Gifts.{placed, telling, places_told}
 use Rattle.heap_partition.specs.Plain.{plain_of}
@@ -37,28 +37,6 @@ cell_once : (o : ObjNo) (x : Thing) → told ones (cell_value o x) ≤ cells o x
 cell_once o (lies r a c) = let e = told_one (same_object c.object o) (plain_of c.value) in omega (arith, e)
 cell_once o (flies w c) = let e = told_one (same_object c.object o) (plain_of c.value) in omega (arith, e)
 cell_once o _ = omega arith
-
--- THREADS THAT ARE FOUND
-
-counted : (x : Standing) (b : List Thing) → Among x (threads_in b) → 1 ≤ tot (is_thread x.thread.number) b
-counted x [] h = absurd h
-counted x (stands s p t ∷ b) (inl e) =
-    let mine : 1 ≤ one (t.number == x.thread.number) = subst (λ (y : Standing). 1 ≤ one (t.number == y.thread.number)) e (eq_cases (λ q. 1 ≤ one q) t.number t.number (λ q. omega arith) (λ n. absurd (n refl))) in
-    omega (arith, mine)
-counted x (stands s p t ∷ b) (inr h) = omega (arith, counted x b h)
-counted x (_ ∷ b) h = omega (arith, counted x b h)
-
--- a thread that stands somewhere is found by its number
-found : (x : Standing) (b : List Thing) → tot (is_thread x.thread.number) b ≤ 1 → Among x (threads_in b) → thread_at (threads_in b) x.thread.number ≡ Some x
-found x [] l h = absurd h
-found x (stands s p t ∷ b) l (inl e) =
-    subst (λ (y : Standing). thread_at (threads_in (stands s p t ∷ b)) y.thread.number ≡ Some y) e
-    (eq_cases (λ q. (if q then Some (record { server = s; packed = p; thread = t }) else thread_at (threads_in b) t.number) ≡ Some (record { server = s; packed = p; thread = t })) t.number t.number (λ q. refl) (λ n. absurd (n refl)))
-found x (stands s p t ∷ b) l (inr h) =
-    let more : 1 ≤ tot (is_thread x.thread.number) b = counted x b h in
-    eq_cases (λ q. one q + tot (is_thread x.thread.number) b ≤ 1 → (if q then Some (record { server = s; packed = p; thread = t }) else thread_at (threads_in b) x.thread.number) ≡ Some x) t.number x.thread.number
-    (λ q m. absurd (omega (arith, m, more))) (λ n m. found x b (omega (arith, m)) h) l
-found x (_ ∷ b) l h = found x b (omega (arith, l)) h
 
 some_at_most : (n : ℕ) → one (some n) ≤ n
 some_at_most zero = omega arith

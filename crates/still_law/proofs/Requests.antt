@@ -38,7 +38,7 @@ served n w o a t x =
     map_gives (λ (y : Work). Moves (sent n (message.Fetch w o a t) ∷ []) [] x.rest y.rest) (look_object x.rest.partition w o) _ (λ c q.
     sends (sent n (message.Fetch w o a t) ∷ []) [] x.rest (note (act.Serve o w a) x) a (message.Fetched w c t) (heard n (message.Fetch w o a t) x.rest) (λ v z. omega (arith, z)))
 
-pub fetches : (k : Cluster) (s : Server) (i w : ℕ) (o : ObjNo) (a t : ℕ) → slice_get s.rest.inbox i ≡ Some (message.Fetch w o a t) → Gives (ServerStill s) (does k.code k.options s (Deliver i))
+pub fetches : (k : Cluster) (s : Server) (i w : ℕ) (o : ObjNo) (a t : ℕ) → slice_get s.rest.inbox i ≡ Some (message.Fetch w o a t) → Gives (ServerStill k s) (does k.code k.options s (Deliver i))
 fetches k s i w o a t q =
     deliveries k s i (message.Fetch w o a t) q (beside_still (message_things s.rest.number (message.Fetch w o a t)) (deliver_fetch w o a t) (received i s) (served s.rest.number w o a t (received i s).work))
 
@@ -86,7 +86,7 @@ locked n m a t x = by (mutex_in x.rest.mutexes.there m) refl
     by None q = tt
     by (Some y) q = content y q y.content refl
 
-pub locks : (k : Cluster) (s : Server) (i : ℕ) (m : MutexNo) (a t : ℕ) → slice_get s.rest.inbox i ≡ Some (message.Lock m a t) → Gives (ServerStill s) (does k.code k.options s (Deliver i))
+pub locks : (k : Cluster) (s : Server) (i : ℕ) (m : MutexNo) (a t : ℕ) → slice_get s.rest.inbox i ≡ Some (message.Lock m a t) → Gives (ServerStill k s) (does k.code k.options s (Deliver i))
 locks k s i m a t q =
     deliveries k s i (message.Lock m a t) q (beside_still (message_things s.rest.number (message.Lock m a t)) (deliver_lock m a t) (received i s) (locked s.rest.number m a t (received i s).work))
 
@@ -107,7 +107,7 @@ shared n m a t x = by (mutex_in x.rest.mutexes.there m) refl
     by None q = tt
     by (Some y) q = more_shares y q (nat_lt 0 y.shares && nat_lt y.shares (2 ^ 64 - 1))
 
-pub dups : (k : Cluster) (s : Server) (i : ℕ) (m : MutexNo) (a t : ℕ) → slice_get s.rest.inbox i ≡ Some (message.Dup m a t) → Gives (ServerStill s) (does k.code k.options s (Deliver i))
+pub dups : (k : Cluster) (s : Server) (i : ℕ) (m : MutexNo) (a t : ℕ) → slice_get s.rest.inbox i ≡ Some (message.Dup m a t) → Gives (ServerStill k s) (does k.code k.options s (Deliver i))
 dups k s i m a t q = deliveries k s i (message.Dup m a t) q (beside_still (message_things s.rest.number (message.Dup m a t)) (deliver_dup m a t) (received i s) (shared s.rest.number m a t (received i s).work))
 
 -- RESULTS
@@ -158,5 +158,5 @@ joined n u a t x = by (task_in x.rest.tasks u) refl
     by None q = tt
     by (Some y) q = state y q y.state refl
 
-pub joins : (k : Cluster) (s : Server) (i u a t : ℕ) → slice_get s.rest.inbox i ≡ Some (message.Join u a t) → Gives (ServerStill s) (does k.code k.options s (Deliver i))
+pub joins : (k : Cluster) (s : Server) (i u a t : ℕ) → slice_get s.rest.inbox i ≡ Some (message.Join u a t) → Gives (ServerStill k s) (does k.code k.options s (Deliver i))
 joins k s i u a t q = deliveries k s i (message.Join u a t) q (beside_still (message_things s.rest.number (message.Join u a t)) (deliver_join u a t) (received i s) (joined s.rest.number u a t (received i s).work))

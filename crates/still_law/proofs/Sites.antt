@@ -25,9 +25,9 @@ use Rattle.event_law.proofs.Events.{tot-server}
 use Rattle.event_law.proofs.Applied.{go_with}
 use Rattle.event_law.proofs.Handing.{hand_over_newer_law}
 use Rattle.event_law.proofs.Sending.{each_event_sends}
-use Rattle.still_law.specs.Shows.{Sign, sign_of, ShowAlike}
+use Rattle.still_law.specs.Shows.{Sign, nothing, sign_of, Counts, ShowAlike, CountAlike}
 use Rattle.still_law.specs.Laws.{LeavesHeap}
-use Rattle.still_law.proofs.Alike.{Once, same_heap}
+use Rattle.still_law.proofs.Alike.{Once, counts_same_heap}
 
 -- how much of what is shown
 abbrev pub shown : (Sign → ℕ) → List Thing → ℕ
@@ -58,33 +58,39 @@ ends e t names x w z =
     let n = x.work.rest.number in
     omega (arith, server_same (left_by e t names x).0 f, tot-append f (all_standing n x.threads) (rest_things n (e + 1) x.work.rest), tot-append f (all_standing n x.threads) (rest_things n 0 x.work.rest))
 
--- another site shows the same, with these things beside the first
+-- another site shows the same, with these things beside the first and those beside the second
+abbrev pub Leaves : List Thing → List Thing → Site → Site → Type 0
+Leaves gone hand x y = ShowAlike (gone ++ site_things x) (hand ++ site_things y)
+
+-- the same with nothing beside the second
 abbrev pub Still : List Thing → Site → Site → Type 0
-Still gone x y = ShowAlike (gone ++ site_things x) (site_things y)
+Still gone x y = Leaves gone [] x y
 
 -- what a step changes beside the threads: these things go into it, and these are in its hand
 pub record Moves (gone hand : List Thing) (r r2 : Rest) : Type 0 where
   pub number : r2.number ≡ r.number
   pub alike : ShowAlike (gone ++ rest_things r.number 0 r) (hand ++ rest_things r.number 0 r2)
 
+beside_leaves : (gone hand : List Thing) (x : Site) (y : Work) → Moves gone hand x.work.rest y.rest → Leaves gone hand x (record x { work = y })
+beside_leaves gone hand x y s w z =
+    let f : Thing → ℕ = λ x. w (sign_of x) in
+    let n = x.work.rest.number in
+    let threads = all_standing n x.threads in
+    let there : shown w (site_things (record x { work = y })) ≡ shown w (threads ++ rest_things n 0 y.rest) = ap (λ m. shown w (all_standing m x.threads ++ rest_things m 0 y.rest)) s.number in
+    omega (
+      arith,
+      there,
+      s.alike w z,
+      tot-append f gone (threads ++ rest_things n 0 x.work.rest),
+      tot-append f gone (rest_things n 0 x.work.rest),
+      tot-append f hand (site_things (record x { work = y })),
+      tot-append f hand (rest_things n 0 y.rest),
+      tot-append f threads (rest_things n 0 x.work.rest),
+      tot-append f threads (rest_things n 0 y.rest),
+    )
+
 pub beside_still : (gone : List Thing) (f : Work → Option Work) (x : Site) → Gives (λ (w : Work). Moves gone [] x.work.rest w.rest) (f x.work) → Gives (Still gone x) (beside_threads f x)
-beside_still gone f x g = over_gives (λ (w : Work). Moves gone [] x.work.rest w.rest) (Still gone x) (f x.work) (λ w. record x { work = w }) g still
-  where
-    still : (y : Work) → Moves gone [] x.work.rest y.rest → Still gone x (record x { work = y })
-    still y s w z =
-        let f : Thing → ℕ = λ x. w (sign_of x) in
-        let n = x.work.rest.number in
-        let threads = all_standing n x.threads in
-        let there : shown w (site_things (record x { work = y })) ≡ shown w (threads ++ rest_things n 0 y.rest) = ap (λ m. shown w (all_standing m x.threads ++ rest_things m 0 y.rest)) s.number in
-        omega (
-          arith,
-          there,
-          s.alike w z,
-          tot-append f gone (threads ++ rest_things n 0 x.work.rest),
-          tot-append f gone (rest_things n 0 x.work.rest),
-          tot-append f threads (rest_things n 0 x.work.rest),
-          tot-append f threads (rest_things n 0 y.rest),
-        )
+beside_still gone f x g = over_gives (λ (w : Work). Moves gone [] x.work.rest w.rest) (Still gone x) (f x.work) (λ w. record x { work = w }) g (λ y s. beside_leaves gone [] x y s)
 
 -- what is in the hand goes with a message
 pub sends : (gone hand : List Thing) (r : Rest) (w : Work) (target : ℕ) (m : Message) → Moves gone hand r w.rest → ShowAlike hand (message_things target m) → Moves gone [] r (send target m w).rest
@@ -98,19 +104,50 @@ sends gone hand r w target m s e = record {
 
 -- A SERVER AND ITS CLUSTER
 
-abbrev pub ServerStill : Server → Server × EntryView → Type 0
-ServerStill s r = ShowAlike (server_things s) (server_things r.0)
+-- all that counts in cluster k is shown by the server afterwards
+abbrev pub ServerStill : Cluster → Server → Server × EntryView → Type 0
+ServerStill k s r = CountAlike (sight k) (server_things s) (server_things r.0)
+
+-- in cluster k what a message has counts as what goes into a site, less what is beside the site afterwards
+abbrev CountsAs : Cluster → List Thing → List Thing → List Thing → Type 0
+CountsAs k has gone hand = (w : Sign → ℕ) → w nothing ≡ 0 → Counts (sight k) w → shown w has + shown w hand ≡ shown w gone
+
+-- so a site takes a message, or the rest of a server does
+pub record Takes (k : Cluster) (has : List Thing) (x y : Site) : Type 0 where
+  pub gone : List Thing
+  pub hand : List Thing
+  pub leaves : Leaves gone hand x y
+  pub counts : CountsAs k has gone hand
+
+pub record RestTakes (k : Cluster) (has : List Thing) (r r2 : Rest) : Type 0 where
+  pub gone : List Thing
+  pub hand : List Thing
+  pub moves : Moves gone hand r r2
+  pub counts : CountsAs k has gone hand
+
+pub beside_takes : (k : Cluster) (has : List Thing) (f : Work → Option Work) (x : Site) → Gives (λ (w : Work). RestTakes k has x.work.rest w.rest) (f x.work) → Gives (Takes k has x) (beside_threads f x)
+beside_takes k has f x g =
+    over_gives (λ (w : Work). RestTakes k has x.work.rest w.rest) (Takes k has x) (f x.work) (λ w. record x { work = w }) g
+    (λ y s. record { gone = s.gone; hand = s.hand; leaves = beside_leaves s.gone s.hand x y s.moves; counts = s.counts })
+
+-- whatever counts, all that the message has goes into it
+pub all_taken : (k : Cluster) (has : List Thing) (x y : Site) → Still has x y → Takes k has x y
+all_taken k has x y e = record { gone = has; hand = []; leaves = e; counts = λ w z c. omega arith }
+
+pub takes_all : (k : Cluster) (has : List Thing) (r r2 : Rest) → Moves has [] r r2 → RestTakes k has r r2
+takes_all k has r r2 e = record { gone = has; hand = []; moves = e; counts = λ w z c. omega arith }
 
 -- a delivery: the message and what it carries are beside the site
-pub deliveries : (k : Cluster) (s : Server) (i : ℕ) (m : Message) → slice_get s.rest.inbox i ≡ Some m → Gives (Still (message_things s.rest.number m) (received i s)) (deliver_message k.code m (received i s))
-    → Gives (ServerStill s) (does k.code k.options s (Deliver i))
-deliveries k s i m q g =
-    over_gives (Still (message_things s.rest.number m) (received i s)) (ServerStill s) (deliver k.code i s) (left_by s.events None None)
-    (subst (λ o. Gives (Still (message_things s.rest.number m) (received i s)) (then_some o (λ y. deliver_message k.code y (received i s)))) (sym q) g)
-    (λ x e w z. taken_out w z ∙ e w z ∙ ends s.events None None x w z)
+pub deliveries_by : (k : Cluster) (s : Server) (i : ℕ) (m : Message) → slice_get s.rest.inbox i ≡ Some m → Gives (Takes k (message_things s.rest.number m) (received i s)) (deliver_message k.code m (received i s))
+    → Gives (ServerStill k s) (does k.code k.options s (Deliver i))
+deliveries_by k s i m q g =
+    over_gives Taken (ServerStill k s) (deliver k.code i s) (left_by s.events None None) (subst (λ o. Gives Taken (then_some o (λ y. deliver_message k.code y (received i s)))) (sym q) g) still
   where
-    taken_out : ShowAlike (server_things s) (message_things s.rest.number m ++ site_things (received i s))
-    taken_out w z =
+    Taken : Site → Type 0
+    Taken x = Takes k (message_things s.rest.number m) (received i s) x
+
+    still : (x : Site) → Taken x → ServerStill k s (left_by s.events None None x)
+    still x e w z c =
         let f : Thing → ℕ = λ x. w (sign_of x) in
         let n = s.rest.number in
         let t = of_receiving n 0 s.rest i m q in
@@ -121,15 +158,24 @@ deliveries k s i m q g =
           begins s w z,
           t.before f,
           t.after f,
+          e.leaves w z,
+          e.counts w z c,
+          ends s.events None None x w z,
           tot-append f threads (rest_things n 0 s.rest),
-          tot-append f (message_things n m) (threads ++ rest_things n 0 r2),
+          tot-append f e.gone (threads ++ rest_things n 0 r2),
           tot-append f threads (rest_things n 0 r2),
+          tot-append f e.hand (site_things x),
         )
+
+pub deliveries : (k : Cluster) (s : Server) (i : ℕ) (m : Message) → slice_get s.rest.inbox i ≡ Some m → Gives (Still (message_things s.rest.number m) (received i s)) (deliver_message k.code m (received i s))
+    → Gives (ServerStill k s) (does k.code k.options s (Deliver i))
+deliveries k s i m q g =
+    deliveries_by k s i m q (weaker (Still (message_things s.rest.number m) (received i s)) (Takes k (message_things s.rest.number m) (received i s)) (deliver_message k.code m (received i s)) g (λ x e. all_taken k (message_things s.rest.number m) (received i s) x e))
 
 -- what shows alike at its server, where the entry is of that sort, leaves the one heap
 module _ (Sort : EntryView → Type 0) where
-  abbrev StillThere : Server → Server × EntryView → Type 0
-  StillThere s r = Sort r.1 → ServerStill s r
+  abbrev StillThere : Cluster → Server → Server × EntryView → Type 0
+  StillThere k s r = Sort r.1 → ServerStill k s r
 
   abbrev Goes : Cluster → Event → Server → Server × EntryView → Type 0
   Goes k e s r = GoTo (with_server k.servers e.server r.0) (drop (length s.rest.outbox) r.0.rest.outbox)
@@ -137,24 +183,25 @@ module _ (Sort : EntryView → Type 0) where
   abbrev SameHeap : Cluster → Cluster × EntryView → Type 0
   SameHeap k d = Sort d.1 → SameState (one_heap d.0) (one_heap k)
 
-  handed_alike : (k : Cluster) (e : Event) (s : Server) → server_at k.servers e.server ≡ Some s → (r : Server × EntryView) → Goes k e s r → ServerStill s r → ShowAlike (things_of k) (servers_things (hand_over_newer e.server (length s.rest.outbox) r.0 k.servers))
-  handed_alike k e s here r go u w z =
+  handed_alike : (k : Cluster) (e : Event) (s : Server) → server_at k.servers e.server ≡ Some s → (r : Server × EntryView) → Goes k e s r → ServerStill k s r
+      → CountAlike (sight k) (things_of k) (servers_things (hand_over_newer e.server (length s.rest.outbox) r.0 k.servers))
+  handed_alike k e s here r go u w z c =
       let f : Thing → ℕ = λ x. w (sign_of x) in
       let older = length s.rest.outbox in
       let t = tot-server f k.servers e.server s r.0 here in
       let goes = go_with k.servers e.server r.0 (take older r.0.rest.outbox) (drop older r.0.rest.outbox) go in
-      omega (arith, hand_over_newer_law f e.server older s r.0 k.servers here goes, t.0, t.1, u w z)
+      omega (arith, hand_over_newer_law f e.server older s r.0 k.servers here goes, t.0, t.1, u w z c)
 
   pub leaves_heap_where : ((k : Cluster) → IsSound k → Once (sight k)) → (k : Cluster) (e : Event) → IsSound k → FewEvents k
-      → ((s : Server) → server_at k.servers e.server ≡ Some s → enabled k.options s e.what ≡ true → Gives (StillThere s) (does k.code k.options s e.what)) → Gives (SameHeap k) (apply k e)
+      → ((s : Server) → server_at k.servers e.server ≡ Some s → enabled k.options s e.what ≡ true → Gives (StillThere k s) (does k.code k.options s e.what)) → Gives (SameHeap k) (apply k e)
   leaves_heap_where once k e sound few go =
       then_gives (SameHeap k) (server_at k.servers e.server) _ (λ s here.
-      over_gives (λ r. Goes k e s r × StillThere s r) (SameHeap k) (done_at k e.what s) _
-      (both_give (Goes k e s) (StillThere s) (λ r. Goes k e s r × StillThere s r) (done_at k e.what s) (each_event_sends k e sound few s here) (test_gives (StillThere s) (enabled k.options s e.what) (does k.code k.options s e.what) (λ on. go s here on)) (λ r a b. (a, b)))
-      (λ r u sort. same_heap k (record k { servers = hand_over_newer e.server (length s.rest.outbox) r.0 k.servers }) refl (once k sound) (handed_alike k e s here r u.0 (u.1 sort))))
+      over_gives (λ r. Goes k e s r × StillThere k s r) (SameHeap k) (done_at k e.what s) _
+      (both_give (Goes k e s) (StillThere k s) (λ r. Goes k e s r × StillThere k s r) (done_at k e.what s) (each_event_sends k e sound few s here) (test_gives (StillThere k s) (enabled k.options s e.what) (does k.code k.options s e.what) (λ on. go s here on)) (λ r a b. (a, b)))
+      (λ r u sort. counts_same_heap k (record k { servers = hand_over_newer e.server (length s.rest.outbox) r.0 k.servers }) refl (once k sound) (handed_alike k e s here r u.0 (u.1 sort))))
 
 pub leaves_heap : ((k : Cluster) → IsSound k → Once (sight k)) → (k : Cluster) (e : Event) → IsSound k → FewEvents k
-    → ((s : Server) → server_at k.servers e.server ≡ Some s → enabled k.options s e.what ≡ true → Gives (ServerStill s) (does k.code k.options s e.what)) → LeavesHeap k e
+    → ((s : Server) → server_at k.servers e.server ≡ Some s → enabled k.options s e.what ≡ true → Gives (ServerStill k s) (does k.code k.options s e.what)) → LeavesHeap k e
 leaves_heap once k e sound few go =
     weaker (SameHeap (λ r. ⊤) k) (λ (d : Cluster × EntryView). SameState (one_heap d.0) (one_heap k)) (apply k e)
-    (leaves_heap_where (λ r. ⊤) once k e sound few (λ s here on. weaker (ServerStill s) (StillThere (λ r. ⊤) s) (does k.code k.options s e.what) (go s here on) (λ r u sort. u))) (λ d u. u tt)
+    (leaves_heap_where (λ r. ⊤) once k e sound few (λ s here on. weaker (ServerStill k s) (StillThere (λ r. ⊤) k s) (does k.code k.options s e.what) (go s here on) (λ r u sort. u))) (λ d u. u tt)

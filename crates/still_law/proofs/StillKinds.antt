@@ -13,7 +13,7 @@ use Rattle.server_model.specs.Servers.{Server, Cluster, server_at}
 use Rattle.server_model.specs.Work.{thread_in, then_some}
 use Rattle.server_model.specs.Events.{does}
 use Rattle.heap_law.specs.Coherent.{IsSound}
-use Rattle.event_law.specs.Kinds.{Kind, evicts, migrates, starts, arrives, fetch, fetched, moving, moved, asks_lock, asks_dup, asks_join, message_kind, instr_kind, kind_at}
+use Rattle.event_law.specs.Kinds.{Kind, evicts, migrates, starts, arrives, fetch, fetched, moving, moved, asks_lock, asks_dup, asks_join, granted, dupped, joined, message_kind, instr_kind, kind_at}
 use Rattle.event_law.specs.Laws.{Gives}
 use Rattle.still_law.specs.Laws.{LeaveHeap}
 use Rattle.still_law.proofs.Sites.{ServerStill, leaves_heap}
@@ -24,6 +24,7 @@ use Rattle.still_law.proofs.Hands.{copies}
 use Rattle.still_law.proofs.Leaving.{moves}
 use Rattle.still_law.proofs.Coming.{objects_come}
 use Rattle.still_law.proofs.Requests.{fetches, locks, dups, joins}
+use Rattle.still_law.proofs.Given.{contents_come, shares_come, results_come}
 
 abbrev pub IsStill : Kind → Type 0
 IsStill evicts = ⊤
@@ -37,6 +38,9 @@ IsStill moved = ⊤
 IsStill asks_lock = ⊤
 IsStill asks_dup = ⊤
 IsStill asks_join = ⊤
+IsStill granted = ⊤
+IsStill dupped = ⊤
+IsStill joined = ⊤
 IsStill kind = ⊥
 
 some_same : {a b : Kind} → Some a ≡ Some b → b ≡ a
@@ -68,7 +72,7 @@ no_step instr.ParEnd p = p
 no_step (instr.End o) p = p
 
 module _ (k : Cluster) (sound : IsSound k) (number : ℕ) (s : Server) (here : server_at k.servers number ≡ Some s) where
-  message_still : (i : ℕ) (m : Message) → slice_get s.rest.inbox i ≡ Some m → IsStill (message_kind m) → Gives (ServerStill s) (does k.code k.options s (Deliver i))
+  message_still : (i : ℕ) (m : Message) → slice_get s.rest.inbox i ≡ Some m → IsStill (message_kind m) → Gives (ServerStill k s) (does k.code k.options s (Deliver i))
   message_still i (message.Fetch w o a t) q p = fetches k s i w o a t q
   message_still i (message.Start t) q p = new_threads k s i t q
   message_still i (message.Migrate t) q p = parcels k s i t q
@@ -77,17 +81,17 @@ module _ (k : Cluster) (sound : IsSound k) (number : ℕ) (s : Server) (here : s
   message_still i (message.Moved w c t) q p = objects_come k sound number s here i w c t q
   message_still i (message.Drop w o) q p = absurd p
   message_still i (message.Lock m a t) q p = locks k s i m a t q
-  message_still i (message.Granted m v t) q p = absurd p
+  message_still i (message.Granted m v t) q p = contents_come k sound number s here i m v t q
   message_still i (message.Unlock m v) q p = absurd p
   message_still i (message.Dup m a t) q p = dups k s i m a t q
-  message_still i (message.Dupped m t) q p = absurd p
+  message_still i (message.Dupped m t) q p = shares_come k sound number s here i m t q
   message_still i (message.Release r) q p = absurd p
   message_still i (message.Join u a t) q p = joins k s i u a t q
-  message_still i (message.Joined u v t) q p = absurd p
+  message_still i (message.Joined u v t) q p = results_come k sound number s here i u v t q
   message_still i (message.Finished u v) q p = absurd p
 
   module _ (kind : Kind) (p : IsStill kind) where
-    of_message : (i : ℕ) (o : Option Message) → slice_get s.rest.inbox i ≡ o → option_map message_kind o ≡ Some kind → Gives (ServerStill s) (does k.code k.options s (Deliver i))
+    of_message : (i : ℕ) (o : Option Message) → slice_get s.rest.inbox i ≡ o → option_map message_kind o ≡ Some kind → Gives (ServerStill k s) (does k.code k.options s (Deliver i))
     of_message i None h r = absurd (cc r)
     of_message i (Some m) h r = message_still i m h (still_as (message_kind m) kind r p)
 
@@ -99,7 +103,7 @@ module _ (k : Cluster) (sound : IsSound k) (number : ℕ) (s : Server) (here : s
     of_thread None r = absurd (cc r)
     of_thread (Some x) r = of_instr (slice_get k.code x.pc) r
 
-    pub server_still : (w : What) → kind_at k w s ≡ Some kind → Gives (ServerStill s) (does k.code k.options s w)
+    pub server_still : (w : What) → kind_at k w s ≡ Some kind → Gives (ServerStill k s) (does k.code k.options s w)
     server_still (Step t) q = of_thread (thread_in s.threads t) q
     server_still (Deliver i) q = of_message i (slice_get s.rest.inbox i) refl q
     server_still (Evict w) q = evictions k s w

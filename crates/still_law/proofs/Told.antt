@@ -1,7 +1,7 @@
 -- What is found first is told by sums, where at most one thing shows it.
-use Rattle.std.proofs.Common.{◌≡◌, ℕ, suc, ◌+◌, ◌≤◌, ◌==◌, ◌||◌, Bool, true, false, if◌then◌else◌, List, [], ◌∷◌, Option, Some, None, refl, sym, ap, ap₂, ◌∙◌, arith}
+use Rattle.std.proofs.Common.{◌≡◌, inl, inr, ℕ, suc, ◌+◌, ◌≤◌, ◌==◌, ◌||◌, Bool, true, false, if◌then◌else◌, List, [], ◌∷◌, Option, Some, None, refl, sym, ap, ap₂, ◌∙◌, subst, arith}
 use Rattle.fr_typing.proofs.PlaceLemmas.{eq_cases}
-use Rattle.heap_law.specs.Names.{tot, one, if_so, some}
+use Rattle.heap_law.specs.Names.{tot, one, if_so, some, Among}
 use Rattle.heap_law.specs.Things.{Thing, stands}
 use Rattle.heap_law.specs.Follow.{Standing, threads_in, thread_at}
 use Rattle.heap_law.specs.Weights.{is_thread}
@@ -15,6 +15,11 @@ tot_same f g e (x ∷ b) = ap₂ (λ m n. m + n) (e x) (tot_same f g e b)
 pub at_most : (f g : Thing → ℕ) → ((x : Thing) → f x ≤ g x) → (b : List Thing) → tot f b ≤ tot g b
 at_most f g e [] = omega arith
 at_most f g e (x ∷ b) = omega (arith, e x, at_most f g e b)
+
+-- the same but for what isn't there
+pub tot_but : (none f g : Thing → ℕ) → ((x : Thing) → none x ≡ 0 → f x ≡ g x) → (b : List Thing) → tot none b ≡ 0 → tot f b ≡ tot g b
+tot_but none f g e [] z = refl
+tot_but none f g e (x ∷ b) z = ap₂ (λ m n. m + n) (e x (omega (arith, z))) (tot_but none f g e b (omega (arith, z)))
 
 -- the weight of what is there
 abbrev pub told : {A : Type 0} → (A → ℕ) → Option A → ℕ
@@ -81,3 +86,25 @@ module _ (g : Standing → ℕ) (t : ℕ) where
 pub some_or : (q : Bool) (m : ℕ) → some (one q + m) ≡ (q || some m)
 some_or true m = let e : 1 + m ≡ suc m = omega arith in ap some e
 some_or false m = ap some (omega arith)
+
+-- THREADS THAT ARE FOUND
+
+counted : (x : Standing) (b : List Thing) → Among x (threads_in b) → 1 ≤ tot (is_thread x.thread.number) b
+counted x [] h = absurd h
+counted x (stands s p t ∷ b) (inl e) =
+    let mine : 1 ≤ one (t.number == x.thread.number) = subst (λ (y : Standing). 1 ≤ one (t.number == y.thread.number)) e (eq_cases (λ q. 1 ≤ one q) t.number t.number (λ q. omega arith) (λ n. absurd (n refl))) in
+    omega (arith, mine)
+counted x (stands s p t ∷ b) (inr h) = omega (arith, counted x b h)
+counted x (_ ∷ b) h = omega (arith, counted x b h)
+
+-- a thread that stands somewhere is found by its number
+pub found : (x : Standing) (b : List Thing) → tot (is_thread x.thread.number) b ≤ 1 → Among x (threads_in b) → thread_at (threads_in b) x.thread.number ≡ Some x
+found x [] l h = absurd h
+found x (stands s p t ∷ b) l (inl e) =
+    subst (λ (y : Standing). thread_at (threads_in (stands s p t ∷ b)) y.thread.number ≡ Some y) e
+    (eq_cases (λ q. (if q then Some (record { server = s; packed = p; thread = t }) else thread_at (threads_in b) t.number) ≡ Some (record { server = s; packed = p; thread = t })) t.number t.number (λ q. refl) (λ n. absurd (n refl)))
+found x (stands s p t ∷ b) l (inr h) =
+    let more : 1 ≤ tot (is_thread x.thread.number) b = counted x b h in
+    eq_cases (λ q. one q + tot (is_thread x.thread.number) b ≤ 1 → (if q then Some (record { server = s; packed = p; thread = t }) else thread_at (threads_in b) x.thread.number) ≡ Some x) t.number x.thread.number
+    (λ q m. absurd (omega (arith, m, more))) (λ n m. found x b (omega (arith, m)) h) l
+found x (_ ∷ b) l h = found x b (omega (arith, l)) h

@@ -173,7 +173,7 @@ module _ (k : Cluster) (sound : IsSound k) (number : ℕ) (s : Server) (here : s
     undone = step_undone k.options.servers i h (in_place s.rest.number s.events s.rest (others k sound number s here) (placed_here k sound number s here)) quiet_or_end
 
   abbrev Then : Server × EntryView → Type 0
-  Then r = r.1.done ≡ None → ServerStill s r
+  Then r = r.1.done ≡ None → ServerStill k s r
 
   steps : Gives Then (does k.code k.options s (Step t))
   steps = by (thread_in s.threads t) refl
@@ -184,7 +184,7 @@ module _ (k : Cluster) (sound : IsSound k) (number : ℕ) (s : Server) (here : s
       by (Some y) at =
           over_gives (Undone (record { work = begin_work s.rest; thread = y })) Then (step_in k.code k.options.servers (record { work = begin_work s.rest; thread = y })) (stepped s)
           (then_gives (Undone (record { work = begin_work s.rest; thread = y })) (slice_get k.code y.pc) (λ i. step k.options.servers i (record { work = begin_work s.rest; thread = y })) (λ i code. undone y at i code))
-          (λ d u none w z. begins s w z ∙ put_still [] t (begin_at s) y at d.hand (u none) w z ∙ ends s.events (Some d.hand.thread.number) d.names (put_back s.threads d.hand) w z)
+          (λ d u none w z c. begins s w z ∙ put_still [] t (begin_at s) y at d.hand (u none) w z ∙ ends s.events (Some d.hand.thread.number) d.names (put_back s.threads d.hand) w z)
 
 pub requests_leave : RequestsLeaveHeap
 requests_leave k n t sound few = leaves_heap_where (λ (e : EntryView). e.done ≡ None) shown_once k (record { server = n; what = Step t }) sound few (λ s here on. steps k sound n s here t on)

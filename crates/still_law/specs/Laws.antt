@@ -11,15 +11,16 @@ use Rattle.server_model.specs.Work.{thread_in}
 use Rattle.thread_state.specs.View.{ThreadState}
 use Rattle.server_model.specs.Clusters.{apply}
 use Rattle.heap_law.specs.Things.{things_of}
+use Rattle.heap_law.specs.Sight.{sight}
 use Rattle.heap_law.specs.OneHeap.{one_heap}
 use Rattle.heap_law.specs.Coherent.{IsSound}
 use Rattle.event_law.specs.Kinds.{Kind, kind_of}
 use Rattle.event_law.specs.Laws.{Gives, FewEvents}
-use Rattle.still_law.specs.Shows.{ShowAlike}
+use Rattle.still_law.specs.Shows.{CountAlike}
 
 -- clusters of one code whose things show alike stand for the same one heap
 abbrev pub AlikeStandForOne : Type 0
-AlikeStandForOne = (k c : Cluster) → IsSound k → c.code ≡ k.code → ShowAlike (things_of k) (things_of c) → SameState (one_heap c) (one_heap k)
+AlikeStandForOne = (k c : Cluster) → IsSound k → c.code ≡ k.code → CountAlike (sight k) (things_of k) (things_of c) → SameState (one_heap c) (one_heap k)
 
 -- the event, with its messages handed over, leaves the one heap as it was
 abbrev pub LeavesHeap : Cluster → Event → Type 0

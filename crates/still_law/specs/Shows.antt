@@ -1,17 +1,25 @@
 -- WHAT A THING SHOWS IN THE ONE HEAP: its part in the plain state that a cluster stands for (this project's rule). Words, copies, uses, addresses,
--- messages, queues, pins and servers aren't seen, nor whether an object lies or flies.
-use Rattle.std.specs.Prelude.{◌≡◌, ℕ, Bool, true, false, List, map, Option, is_some}
+-- messages, queues, pins and servers aren't seen, nor whether an object lies or flies, nor whether a content or a result is in a message or a gift.
+use Rattle.std.specs.Prelude.{◌≡◌, ℕ, Bool, true, false, List, map, Option, Some, None, option_map}
 use Rattle.fr_base.specs.declared.name.ObjNo.{ObjNo}
+use Rattle.fr_base.specs.declared.name.MutexNo.{MutexNo}
 use Rattle.fr_base.specs.declared.label.Plain.{Plain}
+use Rattle.fr_base.specs.declared.instruction.Instr.{Instr}
+use Rattle.fr_base.specs.declared.instruction.Instr.TheVariants as instr
 use Rattle.fr_plain.specs.declared.value.Value.{Value as PlainValue}
 use Rattle.heap_partition.specs.Plain.{plain_of}
 use Rattle.thread_state.specs.View.{ThreadState, is_over}
 use Rattle.thread_state.specs.declared.phase.Phase.{Phase}
 use Rattle.thread_state.specs.declared.phase.Phase.TheVariants as phase
 use Rattle.join_home.specs.Tasks.{TaskState, in_pair}
-use Rattle.heap_law.specs.Names.{tot}
-use Rattle.heap_law.specs.Things.{Spot, Thing, holds, lies, flies, stands, noted, counts}
-use Rattle.heap_law.specs.OneHeap.{plain_value, two_in}
+use Rattle.heap_law.specs.Names.{tot, one, some}
+use Rattle.heap_law.specs.Things.{Spot, as_gift, as_content, as_result, Thing, holds, lies, flies, stands, noted, counts}
+use Rattle.heap_law.specs.Follow.{Standing, thread_at}
+use Rattle.heap_law.specs.Sight.{Sight}
+use Rattle.heap_law.specs.Paths.{joined_thread}
+use Rattle.heap_law.specs.Walking.{instr_of}
+use Rattle.heap_law.specs.Requests.{locked_mutex}
+use Rattle.heap_law.specs.OneHeap.{Node, mutex_n, task_n, names, is_branch, plain_value, two_in}
 
 -- a thread, wherever it stands
 pub record ShownThread : Type 0 where
@@ -20,7 +28,6 @@ pub record ShownThread : Type 0 where
   -- the two threads that it waits for, and whether both have ended
   pub pair : Option (ℕ × ℕ)
   pub got_pair : Bool
-  pub has_gift : Bool
   pub pc : ℕ
   pub temps : List PlainValue
   pub slots : List PlainValue
@@ -47,7 +54,6 @@ shown_thread t = record {
   is_over = is_over t.phase;
   pair = two_in t.phase;
   got_pair = has_both t.phase;
-  has_gift = is_some t.gift;
   pc = t.pc;
   temps = map plain_value t.temps;
   slots = map plain_value t.slots;
@@ -70,3 +76,37 @@ sign_of x = nothing
 -- all weights of what is shown have the same sums over both
 abbrev pub ShowAlike : List Thing → List Thing → Type 0
 ShowAlike a b = (weight : Sign → ℕ) → weight nothing ≡ 0 → tot (λ x. weight (sign_of x)) a ≡ tot (λ x. weight (sign_of x)) b
+
+-- WHERE A VALUE COUNTS
+
+-- a gift is still the content of the mutex at its lock's place, or the result of its join's task; a share that a dup was answered counts nowhere yet
+abbrev pub gift_spot_at : Sight → Standing → Option Instr → Option Spot
+gift_spot_at s x (Some (instr.Lock w)) = option_map as_content (locked_mutex s x (Some (instr.Lock w)))
+gift_spot_at s x (Some (instr.Join o)) = option_map as_result (joined_thread (Some (instr.Join o)) x.thread)
+gift_spot_at s x i = None
+
+abbrev pub gift_spot_of : Sight → Option Standing → Option Spot
+gift_spot_of s None = None
+gift_spot_of s (Some x) = gift_spot_at s x (instr_of s x)
+
+-- what the gift of that thread counts as
+abbrev pub gift_spot : Sight → ℕ → Option Spot
+gift_spot s t = gift_spot_of s (thread_at s.ground.threads t)
+
+abbrev pub counted_at : (Sign → ℕ) → Option Spot → Plain → ℕ
+counted_at weight None v = 0
+counted_at weight (Some p) v = weight (a_value p v)
+
+-- something owns a value of the mutex, or a task value of the thread
+abbrev pub is_named : Sight → Node → Bool
+is_named s n = some (tot (λ x. one (names n x)) s.things)
+
+-- a weight that counts a gift as what it is, and neither the content of a mutex nor the result of a thread that nothing names
+pub record Counts (s : Sight) (weight : Sign → ℕ) : Type 0 where
+  pub gifts : (t : ℕ) (v : Plain) → weight (a_value (as_gift t) v) ≡ counted_at weight (gift_spot s t) v
+  pub contents : (m : MutexNo) (v : Plain) → is_named s (mutex_n m) ≡ false → weight (a_value (as_content m) v) ≡ 0
+  pub results : (t : ℕ) (v : Plain) → is_named s (task_n t) ≡ false → is_branch s t ≡ false → weight (a_value (as_result t) v) ≡ 0
+
+-- these weights of what is shown have the same sums over both
+abbrev pub CountAlike : Sight → List Thing → List Thing → Type 0
+CountAlike s a b = (weight : Sign → ℕ) → weight nothing ≡ 0 → Counts s weight → tot (λ x. weight (sign_of x)) a ≡ tot (λ x. weight (sign_of x)) b

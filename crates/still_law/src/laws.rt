@@ -1,17 +1,16 @@
 //! Laws of events without a plain step.
 
-ghost use Rattle.event_law.specs.Kinds.{arrives, asks_dup, asks_join, asks_lock, evicts, fetch, fetched, migrates, moved, moving, starts};
+ghost use Rattle.event_law.specs.Kinds.{arrives, asks_dup, asks_join, asks_lock, dupped, evicts, fetch, fetched, granted, joined, migrates, moved, moving, starts};
 ghost use Rattle.still_law.specs.Laws.{AlikeStandForOne, JoinsThatAsk, LeaveHeap, RequestsLeaveHeap};
 
-/// Two clusters of one code, the first of them sound, stand for the same one heap where all that is shown of their things is the same: no word, copy, use,
-/// address, message, pin or server counts.
+/// Two clusters of one code, the first of them sound, stand for the same one heap where all that counts of their things is the same: no word, copy, use,
+/// address, message, pin or server counts, and a gift counts as the content or result that it is.
 pub fn alike_stand_for_one()
     ensures { AlikeStandForOne }
 {}
 
 /// From a sound cluster with few events, where they have a result, an eviction, a migration, and the delivery of a new thread, of a parcel, of a copy, of an
-/// object and of what asks for a copy, for an object, for a mutex's content or a share of it, or for a result, leave the one heap as it was, their messages
-/// handed over.
+/// object, of a mutex's content or a share of it, of a result, and of what asks for one of these, leave the one heap as it was, their messages handed over.
 pub fn events_leave_heap()
     ensures evictions { LeaveHeap evicts }
     ensures migrations { LeaveHeap migrates }
@@ -24,6 +23,9 @@ pub fn events_leave_heap()
     ensures locks { LeaveHeap asks_lock }
     ensures dups { LeaveHeap asks_dup }
     ensures joins { LeaveHeap asks_join }
+    ensures contents { LeaveHeap granted }
+    ensures shares { LeaveHeap dupped }
+    ensures results { LeaveHeap joined }
 {}
 
 /// A join that asks for its result leaves the one heap as it was.

@@ -1,4 +1,4 @@
-use Rattle.event_law.specs.Kinds.{evicts, migrates, starts, arrives, fetch, fetched, moving, moved, asks_lock, asks_dup, asks_join}
+use Rattle.event_law.specs.Kinds.{evicts, migrates, starts, arrives, fetch, fetched, moving, moved, asks_lock, asks_dup, asks_join, granted, dupped, joined}
 use Rattle.still_law.proofs.laws.events_leave_heap.Goals as goal
 use Rattle.still_law.proofs.StillKinds.{kind_leaves}
 
@@ -15,4 +15,7 @@ returns c = record {
   locks = kind_leaves asks_lock tt;
   dups = kind_leaves asks_dup tt;
   joins = kind_leaves asks_join tt;
+  contents = kind_leaves granted tt;
+  shares = kind_leaves dupped tt;
+  results = kind_leaves joined tt;
 }
