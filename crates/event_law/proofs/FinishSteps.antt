@@ -77,7 +77,7 @@ module _ (c : Cluster) (others : List Thing) (s : Server) (same : Same (things_o
       let standing = all_standing s.rest.number s.threads in
       omega (arith, same f, tot-append f (server_things s) others, server_same s f, tot-append f standing (rest_things s.rest.number s.events s.rest))
 
-  unit_result : (i u : ℕ) (v : Owned) → slice_get s.rest.inbox i ≡ Some (message.Finished u v) → Holds c branches_give_unit → (x : Task) (p : ℕ) → task_in s.rest.tasks u ≡ Some x → x.state ≡ in_pair p false → is_unit v ≡ true
+  pub unit_result : (i u : ℕ) (v : Owned) → slice_get s.rest.inbox i ≡ Some (message.Finished u v) → Holds c branches_give_unit → (x : Task) (p : ℕ) → task_in s.rest.tasks u ≡ Some x → x.state ≡ in_pair p false → is_unit v ≡ true
   unit_result i u v q units x p found z =
       let n = s.rest.number in
       let e = s.events in

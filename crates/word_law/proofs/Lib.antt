@@ -13,6 +13,7 @@ pub mod Marks
 pub mod NewWord
 pub mod TintWords
 pub mod Example
+pub mod Takings
 pub mod Unmoved
 pub mod Unseen
 pub mod Fetches

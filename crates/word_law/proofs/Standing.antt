@@ -88,7 +88,7 @@ past : (c d : Cell) (b : List Thing) (q : Bool) → one q + tot (cells c.object)
 past c d b true l m e = absurd (omega (arith, l, m))
 past c d b false l m e = e
 
-cell_found : (c : Cell) (y : Thing) (b : List Thing) → tot (cells c.object) b ≤ 1 → CellOf c y → Among y b → cell_of (cells_in b) c.object ≡ Some c
+pub cell_found : (c : Cell) (y : Thing) (b : List Thing) → tot (cells c.object) b ≤ 1 → CellOf c y → Among y b → cell_of (cells_in b) c.object ≡ Some c
 cell_found c y [] l is h = absurd h
 cell_found c _ (x ∷ b) l (lying r a) (inl e) = subst (λ z. cell_of (cells_in (z ∷ b)) c.object ≡ Some c) (sym e) (ap (λ (q : Bool). if q then Some c else cell_of (cells_in b) c.object) (itself c.object c.object refl))
 cell_found c _ (x ∷ b) l (flying w) (inl e) = subst (λ z. cell_of (cells_in (z ∷ b)) c.object ≡ Some c) (sym e) (ap (λ (q : Bool). if q then Some c else cell_of (cells_in b) c.object) (itself c.object c.object refl))

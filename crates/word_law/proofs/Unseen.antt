@@ -1,5 +1,6 @@
 -- Lists of things that are the same but for what words don't see: copies, uses, counts, notes and messages that carry nothing.
-use Rattle.std.proofs.Common.{◌≡◌, inl, inr, ⊎_elim, ℕ, ◌+◌, ◌==◌, Bool, true, false, if◌then◌else◌, List, [], ◌∷◌, ◌++◌, length, map, Option, Some, None, option_map, refl, sym, ap, subst, ◌∙◌}
+use Rattle.std.proofs.Common.{◌≡◌, inl, inr, ⊎_elim, ℕ, ◌+◌, ◌==◌, Bool, true, false, if◌then◌else◌, List, [], ◌∷◌, ◌++◌, length, Option, Some, None, option_map, refl, sym, ap, subst, ◌∙◌}
+use Rattle.fr_base.specs.declared.name.ObjNo.{ObjNo}
 use Rattle.heap_partition.specs.declared.value.Cell.{Cell}
 use Rattle.read_cache.specs.Cache.{Copy, can_evict, evict}
 use Rattle.journal.specs.View.{EntryView}
@@ -17,8 +18,9 @@ use Rattle.heap_law.specs.Follow.{threads_in, cells_in, value_in}
 use Rattle.heap_law.proofs.Bags.{among_split}
 use Rattle.path_law.proofs.Sole.{some_is}
 use Rattle.path_law.proofs.Origins.{threads_joined, among_first, among_second}
-use Rattle.word_law.specs.Reworded.{is_loose, turn_of}
-use Rattle.word_law.specs.Unmoved.{Unmoved, EvictionsUnmoved}
+use Rattle.word_law.specs.Reworded.{is_loose}
+use Rattle.word_law.specs.Unmoved.{pointing, takings, Unmoved, EvictionsUnmoved}
+use Rattle.word_law.proofs.Loose.{unplaced, unplaced_standing}
 use Rattle.word_law.proofs.Slots.{cells_joined}
 
 -- words see nothing of these
@@ -137,13 +139,20 @@ servers_alike n (z ∷ ss) s y e h = by (z.rest.number == n) refl e (λ g. serve
 -- clusters of which words see the same
 pub unmoved : (k z : Cluster) → z.code ≡ k.code → Alike (things_of k) (things_of z) → Unmoved k z
 unmoved k z code h = record {
-  code = code;
-  stands = λ l. ap (λ ts. value_in (record { threads = ts; cells = cells_in (things_of z) }) l) h.threads ∙ ap (λ cs. value_in (record { threads = threads_in (things_of k); cells = cs }) l) h.cells;
-  turns = ap (map turn_of) h.threads;
-  loose = h.loose;
-  remain = h.remain;
+  stands = λ l. ap pointing (ap (λ ts. value_in (record { threads = ts; cells = cells_in (things_of z) }) l) h.threads ∙ ap (λ cs. value_in (record { threads = threads_in (things_of k); cells = cs }) l) h.cells);
+  takes = λ t m. subst (λ ts. Among t ts) same m;
+  took = λ t m. subst (λ ts. Among t ts) (sym same) m;
+  loose = λ p e m. unplaced k z none h.loose p m e;
+  remain = λ p e m. unplaced z k none h.remain p m e;
+  standing = λ p e m. unplaced_standing k z none h.loose p m e;
   lay = λ r a c m. record { cell = c; among = h.lies r a c m; object = refl };
 }
+  where
+    same : takings z.code (threads_in (things_of z)) ≡ takings k.code (threads_in (things_of k))
+    same = ap (λ c. takings c (threads_in (things_of z))) code ∙ ap (takings k.code) h.threads
+
+    none : ObjNo
+    none = record { thread = 0; count = 0 }
 
 -- EVENTS AT THEIR SERVERS
 

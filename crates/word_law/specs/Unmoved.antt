@@ -1,9 +1,17 @@
--- NOTHING THAT THE WORDS OF OBJECTS SEE CHANGES (this project's rule): two clusters of which the second has at each location what the first has, and the
--- same outside of locations.
-use Rattle.std.specs.Prelude.{◌≡◌, ℕ, true, map, Some, slice_get}
+-- NOTHING THAT THE WORDS OF OBJECTS SEE CHANGES (this project's rule): two clusters of which the second has at each location the pointer that the first has, and
+-- the same pointers outside of locations.
+use Rattle.std.specs.Prelude.{false, ◌≡◌, ℕ, List, [], ◌∷◌, Option, Some, None, slice_get}
 use Rattle.fr_base.specs.declared.name.ObjNo.{ObjNo}
+use Rattle.fr_base.specs.declared.place.Lval.{Lval}
+use Rattle.fr_base.specs.declared.instruction.Instr.{Instr}
+use Rattle.fr_base.specs.declared.instruction.Instr.TheVariants as instr
 use Rattle.heap_partition.specs.declared.value.Cell.{Cell}
+use Rattle.heap_partition.specs.declared.value.Owned.TheVariants as owned
 use Rattle.journal.specs.View.{EntryView}
+use Rattle.thread_state.specs.declared.phase.Phase.{Phase}
+use Rattle.thread_state.specs.declared.phase.Phase.TheVariants as phase
+use Rattle.thread_state.specs.declared.value.Value.{Value}
+use Rattle.thread_state.specs.declared.value.Value.TheVariants as value
 use Rattle.server_model.specs.declared.event.Event.{Event}
 use Rattle.server_model.specs.declared.event.What.TheVariants.{Deliver, Evict}
 use Rattle.server_msgs.specs.declared.message.Message.{Message}
@@ -11,20 +19,56 @@ use Rattle.server_msgs.specs.declared.message.Message.TheVariants.{Fetch}
 use Rattle.server_model.specs.Servers.{Server, Cluster, server_at}
 use Rattle.server_model.specs.Clusters.{act_at}
 use Rattle.heap_law.specs.Names.{Among}
-use Rattle.heap_law.specs.Things.{Location, Thing, lies, things_of}
-use Rattle.heap_law.specs.Follow.{value_in}
-use Rattle.heap_law.specs.Sight.{Sight, sight}
+use Rattle.heap_law.specs.Things.{Location, lies, things_of}
+use Rattle.heap_law.specs.Follow.{Standing, value_in}
+use Rattle.heap_law.specs.Sight.{Pointer, pointers_in, Sight, sight}
+use Rattle.heap_law.specs.Placing.{standing_in}
 use Rattle.heap_law.specs.Words.{HasWords}
 use Rattle.heap_law.specs.Dirty.{DirtyAlone}
 use Rattle.heap_law.specs.Coherent.{Holds, first_at_holder}
-use Rattle.word_law.specs.Reworded.{is_loose, turn_of, HasPlaces, LiesThere}
+use Rattle.word_law.specs.Reworded.{HasPlaces, LiesThere}
+
+-- a value that leads somewhere. Whether a shared reference keeps a copy in use isn't seen
+abbrev pub pointing : Option Value → Option Value
+pointing (Some (value.Own (owned.Box p))) = Some (value.Own (owned.Box p))
+pointing (Some (value.SharedSlot i)) = Some (value.SharedSlot i)
+pointing (Some (value.MutSlot i)) = Some (value.MutSlot i)
+pointing (Some (value.Shared r)) = Some (value.Shared (record r { pinned = false }))
+pointing (Some (value.Mut r)) = Some (value.Mut r)
+pointing v = None
+
+-- a thread has taken the object for the mutable borrow of that place: under which word
+pub record Taking : Type 0 where
+  pub thread : ℕ
+  pub place : Lval
+  pub word : ℕ
+
+abbrev pub taking_by : ℕ → Phase → Option Instr → Option Taking
+taking_by t (phase.Taken w) (Some (instr.BorrowMut p)) = Some (record { thread = t; place = p; word = w })
+taking_by t _ _ = None
+
+abbrev pub with_taking : Option Taking → List Taking → List Taking
+with_taking None ts = ts
+with_taking (Some t) ts = t ∷ ts
+
+abbrev pub taking_of : List Instr → Standing → Option Taking
+taking_of code x = taking_by x.thread.number x.thread.phase (slice_get code x.thread.pc)
+
+abbrev pub takings : List Instr → List Standing → List Taking
+takings code [] = []
+takings code (x ∷ xs) = with_taking (taking_of code x) (takings code xs)
 
 pub record Unmoved (k z : Cluster) : Type 0 where
-  pub code : z.code ≡ k.code
-  pub stands : (l : Location) → value_in (sight z).ground l ≡ value_in (sight k).ground l
-  pub turns : map turn_of (sight z).ground.threads ≡ map turn_of (sight k).ground.threads
-  pub loose : (y : Thing) → Among y (things_of z) → is_loose y ≡ true → Among y (things_of k)
-  pub remain : (y : Thing) → Among y (things_of k) → is_loose y ≡ true → Among y (things_of z)
+  -- at each location stands the same pointer
+  pub stands : (l : Location) → pointing (value_in (sight z).ground l) ≡ pointing (value_in (sight k).ground l)
+  -- threads have taken the same
+  pub takes : (t : Taking) → Among t (takings z.code (sight z).ground.threads) → Among t (takings k.code (sight k).ground.threads)
+  pub took : (t : Taking) → Among t (takings k.code (sight k).ground.threads) → Among t (takings z.code (sight z).ground.threads)
+  -- what points from no location is the same, also where the old words of objects under way are left out
+  pub loose : (p : Pointer) → p.at ≡ None → Among p (pointers_in (things_of z)) → Among p (pointers_in (things_of k))
+  pub remain : (p : Pointer) → p.at ≡ None → Among p (pointers_in (things_of k)) → Among p (pointers_in (things_of z))
+  pub standing : (p : Pointer) → p.at ≡ None → Among p (standing_in (things_of z)) → Among p (standing_in (things_of k))
+  -- objects lie where they lay
   pub lay : (r a : ℕ) (c : Cell) → Among (lies r a c) (things_of z) → LiesThere k r a c.object
 
 -- each object has the word that it had
@@ -32,11 +76,15 @@ pub record WordsStay (s z : Sight) (before : HasWords s) : Type 0 where
   pub after : HasWords z
   pub same : (p : ObjNo) → after.word p ≡ before.word p
 
--- then the words stay, references know the words at their holders, and dirty references are alone
-pub record UnmovedStays : Type 0 where
-  pub words : (k z : Cluster) → HasPlaces k → HasPlaces z → Unmoved k z → (before : HasWords (sight k)) → WordsStay (sight k) (sight z) before
-  pub holders : (k z : Cluster) → HasPlaces k → HasPlaces z → Unmoved k z → Holds k first_at_holder → Holds z first_at_holder
-  pub dirty : (k z : Cluster) → HasPlaces k → HasPlaces z → Unmoved k z → DirtyAlone (sight k) → DirtyAlone (sight z)
+-- the words stay, references know the words at their holders as before, and dirty references are alone as before
+pub record LeavesWords (k z : Cluster) : Type 0 where
+  pub words : (before : HasWords (sight k)) → WordsStay (sight k) (sight z) before
+  pub holders : Holds k first_at_holder → Holds z first_at_holder
+  pub dirty : DirtyAlone (sight k) → DirtyAlone (sight z)
+
+-- so it is where nothing changes that words see
+abbrev pub UnmovedStays : Type 0
+UnmovedStays = (k z : Cluster) → HasPlaces k → HasPlaces z → Unmoved k z → LeavesWords k z
 
 -- EVENTS, done at their servers
 

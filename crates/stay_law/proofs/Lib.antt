@@ -1,0 +1,10 @@
+pub mod Alike
+pub mod Lists
+pub mod Servers
+pub mod Threads
+pub mod Sites
+pub mod Seen
+pub mod Deliveries
+pub mod Answers
+pub mod Finishes
+pub mod StayKinds

@@ -1,0 +1,184 @@
+-- Each kind of event that is proved to leave the words.
+use Rattle.std.proofs.Common.{◌≡◌, ℕ, ◌+◌, [], ◌++◌, Option, Some, None, option_map, refl, subst, arith}
+use Rattle.std.specs.Prelude.{⊤, slice_get, take, drop as drop_first, length}
+use Rattle.fr_base.specs.declared.instruction.Instr.{Instr}
+use Rattle.fr_base.specs.declared.instruction.Instr.TheVariants as instr
+use Rattle.fr_base.specs.declared.release.Released.TheVariants as release
+use Rattle.journal.specs.View.{EntryView}
+use Rattle.thread_state.specs.View.{ThreadState}
+use Rattle.server_msgs.specs.declared.message.Message.{Message}
+use Rattle.server_msgs.specs.declared.message.Message.TheVariants as message
+use Rattle.server_model.specs.declared.event.Event.{Event}
+use Rattle.server_model.specs.declared.event.What.{What}
+use Rattle.server_model.specs.declared.event.What.TheVariants.{Step, Deliver, Evict, Migrate}
+use Rattle.server_model.specs.Servers.{Server, Cluster, server_at}
+use Rattle.server_model.specs.Work.{Work, beside_threads, receive, then_some, thread_in}
+use Rattle.server_model.specs.Events.{enabled, does, begin_at, left_by, received, evict_copy}
+use Rattle.server_model.specs.Objects.{deliver_fetch, deliver_fetched}
+use Rattle.server_model.specs.Sharing.{deliver_lock, deliver_granted, deliver_unlock, deliver_dup, deliver_dupped, release_mutex}
+use Rattle.server_model.specs.Joining.{deliver_join, deliver_joined, release_task}
+use Rattle.server_model.specs.Moving.{migrate}
+use Rattle.server_model.specs.Clusters.{with_server, hand_over_newer, done_at, apply}
+use Rattle.heap_partition.specs.declared.value.Owned.{Owned}
+use Rattle.heap_law.specs.Things.{message_things, server_things, servers_things, things_of}
+use Rattle.heap_law.specs.Sight.{sight}
+use Rattle.heap_law.specs.Naming.{servers_wrong, pinned_parcel}
+use Rattle.heap_law.specs.Walking.{sum_threads}
+use Rattle.heap_law.specs.Coherent.{IsSound}
+use Rattle.word_law.specs.Reworded.{HasPlaces}
+use Rattle.word_law.specs.Unmoved.{LeavesWords}
+use Rattle.word_law.proofs.Unmoved.{unmoved_stays}
+use Rattle.event_law.specs.Kinds.{Kind, fetch, fetched, asks_lock, granted, unlocked, asks_dup, dupped, released, starts, asks_join, joined, finished, arrives, evicts, migrates, message_kind, instr_kind, kind_at}
+use Rattle.event_law.specs.Laws.{Gives, GoTo, SendsToServers}
+use Rattle.event_law.proofs.Results.{over_gives, test_gives, both_give}
+use Rattle.event_law.proofs.Trades.{Same, tot-append}
+use Rattle.event_law.proofs.Bags.{body_things}
+use Rattle.event_law.proofs.Events.{others_of, tot-server}
+use Rattle.event_law.proofs.Finished.{PairsAreRight}
+use Rattle.event_law.proofs.FinishSteps.{notes_rise, unit_result}
+use Rattle.event_law.proofs.Applied.{go_with}
+use Rattle.event_law.proofs.Sending.{applied_part, each_event_sends}
+use Rattle.stay_law.specs.Laws.{LeaveWords}
+use Rattle.stay_law.proofs.Alike.{Alike, chain}
+use Rattle.stay_law.proofs.Servers.{RestAlike}
+use Rattle.stay_law.proofs.Sites.{SiteAlike, ServerAlike, beside_alike, thread_alike_at, deliveries, begun_alike, servers_alike, handed_over}
+use Rattle.stay_law.proofs.Deliveries.{fetches, locks, unlocks, dups, shares_go, joins, tasks_go}
+use Rattle.stay_law.proofs.Answers as answer
+use Rattle.stay_law.proofs.Finishes.{finishes}
+use Rattle.stay_law.proofs.Seen.{seen_alike}
+
+abbrev pub Stays : Kind → Type 0
+Stays evicts = ⊤
+Stays migrates = ⊤
+Stays starts = ⊤
+Stays arrives = ⊤
+Stays fetch = ⊤
+Stays fetched = ⊤
+Stays asks_lock = ⊤
+Stays granted = ⊤
+Stays unlocked = ⊤
+Stays asks_dup = ⊤
+Stays dupped = ⊤
+Stays released = ⊤
+Stays asks_join = ⊤
+Stays joined = ⊤
+Stays finished = ⊤
+Stays kind = ⊥
+
+some_same : {a b : Kind} → Some a ≡ Some b → b ≡ a
+some_same e = cc
+
+stays_as : (a b : Kind) → Some a ≡ Some b → Stays b → Stays a
+stays_as a b q p = subst Stays (some_same q) p
+
+-- no step is one of these
+no_step : (i : Instr) → Stays (instr_kind i) → ⊥
+no_step (instr.Let o) p = p
+no_step (instr.Assign w o) p = p
+no_step (instr.Read w t) p = p
+no_step (instr.Borrow w) p = p
+no_step (instr.BorrowMut w) p = p
+no_step (instr.Box o) p = p
+no_step (instr.Arith f a b) p = p
+no_step (instr.Print o) p = p
+no_step instr.Discard p = p
+no_step instr.DropSlot p = p
+no_step (instr.Spawn cs pc) p = p
+no_step (instr.Join o) p = p
+no_step (instr.Mutex o) p = p
+no_step (instr.Dup w) p = p
+no_step (instr.Lock w) p = p
+no_step instr.Unlock p = p
+no_step (instr.Par cs pc ds other) p = p
+no_step instr.ParEnd p = p
+no_step (instr.End o) p = p
+
+-- AT ITS SERVER
+
+module _ (k : Cluster) (sound : IsSound k) (number : ℕ) (s : Server) (here : server_at k.servers number ≡ Some s) where
+  abbrev n : ℕ
+  n = s.rest.number
+
+  beside : (i : ℕ) (m : Message) → slice_get s.rest.inbox i ≡ Some m → (f : Work → Option Work) → Gives (λ (w : Work). RestAlike k.code n (message_things n m ++ body_things n (receive s.rest i)) w.rest) (f (received i s).work)
+      → Gives (SiteAlike k.code (message_things n m) (received i s)) (beside_threads f (received i s))
+  beside i m q f g = beside_alike k.code (message_things n m) f (received i s) g
+
+  -- the notes of a pair are right, and a branch gives unit
+  pairs_right : (i u : ℕ) (v : Owned) → slice_get s.rest.inbox i ≡ Some (message.Finished u v) → PairsAreRight s.rest.tasks u v
+  pairs_right i u v q =
+      let parts : servers_wrong (sight k) 0 k.servers + sum_threads (sight k) pinned_parcel ≡ 0 = sound.parts.parts_are_typed in
+      let others = servers_things (others_of k.servers number) in
+      let same : Same (things_of k) (server_things s ++ others) = λ f. omega (arith, (tot-server f k.servers number s s here).0, tot-append f (server_things s) others) in
+      record { rise = notes_rise (sight k) 0 number k.servers s (omega (arith, parts)) here; unit = unit_result k others s same i u v q sound.rooted.branches_give_unit }
+
+  message_stays : (i : ℕ) (m : Message) → slice_get s.rest.inbox i ≡ Some m → Stays (message_kind m) → Gives (ServerAlike k.code s) (does k.code k.options s (Deliver i))
+  message_stays i (message.Fetch w o a t) q p = deliveries k s i (message.Fetch w o a t) q (beside i (message.Fetch w o a t) q (deliver_fetch w o a t) (fetches k.code n (receive s.rest i) refl w o a t))
+  message_stays i (message.Fetched w c t) q p =
+      deliveries k s i (message.Fetched w c t) q (thread_alike_at k.code (message_things n (message.Fetched w c t)) t (deliver_fetched w c) (received i s) (λ y e. answer.fetched k.code n (record { work = (received i s).work; thread = y }) n w c t))
+  message_stays i (message.Move w o a t) q p = absurd p
+  message_stays i (message.Moved w c t) q p = absurd p
+  message_stays i (message.Drop w o) q p = absurd p
+  message_stays i (message.Lock m a t) q p = deliveries k s i (message.Lock m a t) q (beside i (message.Lock m a t) q (deliver_lock m a t) (locks k.code n (receive s.rest i) refl m a t))
+  message_stays i (message.Granted m v t) q p =
+      deliveries k s i (message.Granted m v t) q (thread_alike_at k.code (message_things n (message.Granted m v t)) t (deliver_granted m v) (received i s) (λ y e. answer.granted k.code n (record { work = (received i s).work; thread = y }) n m v t))
+  message_stays i (message.Unlock m v) q p = deliveries k s i (message.Unlock m v) q (beside i (message.Unlock m v) q (deliver_unlock m v) (unlocks k.code n (receive s.rest i) refl m v))
+  message_stays i (message.Dup m a t) q p = deliveries k s i (message.Dup m a t) q (beside i (message.Dup m a t) q (deliver_dup m a t) (dups k.code n (receive s.rest i) refl m a t))
+  message_stays i (message.Dupped m t) q p =
+      deliveries k s i (message.Dupped m t) q (thread_alike_at k.code (message_things n (message.Dupped m t)) t (deliver_dupped m) (received i s) (λ y e. answer.dupped k.code n (record { work = (received i s).work; thread = y }) n m t))
+  message_stays i (message.Release (release.Mutex m)) q p = deliveries k s i (message.Release (release.Mutex m)) q (beside i (message.Release (release.Mutex m)) q (release_mutex m) (shares_go k.code n (receive s.rest i) refl m))
+  message_stays i (message.Release (release.Task u)) q p = deliveries k s i (message.Release (release.Task u)) q (beside i (message.Release (release.Task u)) q (release_task u) (tasks_go k.code n (receive s.rest i) refl u))
+  message_stays i (message.Start y) q p = deliveries k s i (message.Start y) q (answer.starts k.code y (received i s))
+  message_stays i (message.Migrate y) q p = deliveries k s i (message.Migrate y) q (answer.parcels k.code y (received i s))
+  message_stays i (message.Join u a t) q p = deliveries k s i (message.Join u a t) q (beside i (message.Join u a t) q (deliver_join u a t) (joins k.code n (receive s.rest i) refl u a t))
+  message_stays i (message.Joined u v t) q p =
+      deliveries k s i (message.Joined u v t) q (thread_alike_at k.code (message_things n (message.Joined u v t)) t (deliver_joined u v) (received i s) (λ y e. answer.joined_to k.code n (record { work = (received i s).work; thread = y }) n u v t))
+  message_stays i (message.Finished u v) q p = deliveries k s i (message.Finished u v) q (finishes k.code u v (received i s) (pairs_right i u v q))
+
+  module _ (kind : Kind) (p : Stays kind) where
+    of_message : (i : ℕ) (o : Option Message) → slice_get s.rest.inbox i ≡ o → option_map message_kind o ≡ Some kind → Gives (ServerAlike k.code s) (does k.code k.options s (Deliver i))
+    of_message i None h r = absurd cc
+    of_message i (Some m) h r = message_stays i m h (stays_as (message_kind m) kind r p)
+
+    of_instr : {X : Type 0} (o : Option Instr) → option_map instr_kind o ≡ Some kind → X
+    of_instr None r = absurd cc
+    of_instr (Some i) r = absurd (no_step i (stays_as (instr_kind i) kind r p))
+
+    of_thread : {X : Type 0} (o : Option ThreadState) → then_some o (λ x. option_map instr_kind (slice_get k.code x.pc)) ≡ Some kind → X
+    of_thread None r = absurd cc
+    of_thread (Some x) r = of_instr (slice_get k.code x.pc) r
+
+    pub server_stays : (w : What) → kind_at k w s ≡ Some kind → Gives (ServerAlike k.code s) (does k.code k.options s w)
+    server_stays (Step t) q = of_thread (thread_in s.threads t) q
+    server_stays (Deliver i) q = of_message i (slice_get s.rest.inbox i) refl q
+    server_stays (Evict w) q = over_gives (SiteAlike k.code [] (begin_at s)) (ServerAlike k.code s) (beside_threads (evict_copy w) (begin_at s)) (left_by s.events None None) (answer.evictions k.code w (begin_at s)) (λ x a. begun_alike s s.events None None x a)
+    server_stays (Migrate t target) q =
+        over_gives (SiteAlike k.code [] (begin_at s)) (ServerAlike k.code s) (migrate t target (begin_at s)) (left_by s.events (Some t) None) (answer.migrations k.code t target (begin_at s)) (λ x a. begun_alike s s.events (Some t) None x a)
+
+-- IN ITS CLUSTER
+
+module _ (k : Cluster) (e : Event) where
+  abbrev Seen : Cluster × EntryView → Type 0
+  Seen d = (d.0.code ≡ k.code) × Alike k.code (things_of k) (things_of d.0)
+
+  handed : (s : Server) → server_at k.servers e.server ≡ Some s → (o : Option (Server × EntryView)) → Gives (ServerAlike k.code s) o → Gives (λ (r : Server × EntryView). GoTo (with_server k.servers e.server r.0) (drop_first (length s.rest.outbox) r.0.rest.outbox)) o
+      → Gives Seen (option_map (λ r. (record k { servers = hand_over_newer e.server (length s.rest.outbox) r.0 k.servers }, r.1)) o)
+  handed s h None a g = tt
+  handed s h (Some r) a g =
+      let older = length s.rest.outbox in
+      (refl, chain (servers_alike e.server k.servers s r.0 h a) (handed_over e.server older s r.0 k.servers h (go_with k.servers e.server r.0 (take older r.0.rest.outbox) (drop_first older r.0.rest.outbox) g)))
+
+  at_server : (o : Option Server) → server_at k.servers e.server ≡ o → SendsToServers k e → ((s : Server) → server_at k.servers e.server ≡ Some s → Gives (ServerAlike k.code s) (done_at k e.what s))
+      → Gives Seen (then_some o (λ s. option_map (λ d. (record k { servers = hand_over_newer e.server (length s.rest.outbox) d.0 k.servers }, d.1)) (done_at k e.what s)))
+  at_server None h go f = tt
+  at_server (Some s) h go f = handed s h (done_at k e.what s) (f s h) (go s h)
+
+pub kind_stays : (kind : Kind) → Stays kind → LeaveWords kind
+kind_stays kind p k e q sound few =
+    both_give (Seen k e) (λ (d : Cluster × EntryView). HasPlaces d.0) (λ (d : Cluster × EntryView). LeavesWords k d.0) (apply k e)
+    (at_server k e (server_at k.servers e.server) refl (each_event_sends k e sound few)
+    (λ s h. test_gives (ServerAlike k.code s) (enabled k.options s e.what) (does k.code k.options s e.what) (λ on. server_stays k sound e.server s h kind p e.what (subst (λ o. then_some o (kind_at k e.what) ≡ Some kind) h q))))
+    (applied_part HasPlaces (λ c g. record { numbers_differ = g.numbers_differ; home_of_each = g.home_of_each; owner_of_each = g.owner_of_each }) k e sound few)
+    (λ d a places. unmoved_stays k d.0 here places (seen_alike k d.0 here places a.0 a.1))
+  where
+    here : HasPlaces k
+    here = record { numbers_differ = sound.names.numbers_differ; home_of_each = sound.one_home.home_of_each; owner_of_each = sound.one_owner.owner_of_each }

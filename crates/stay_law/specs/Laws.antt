@@ -1,0 +1,15 @@
+-- Laws of events: the words of objects stay.
+use Rattle.std.specs.Prelude.{◌≡◌, Some}
+use Rattle.journal.specs.View.{EntryView}
+use Rattle.server_model.specs.declared.event.Event.{Event}
+use Rattle.server_model.specs.Servers.{Cluster}
+use Rattle.server_model.specs.Clusters.{apply}
+use Rattle.heap_law.specs.Coherent.{IsSound}
+use Rattle.event_law.specs.Kinds.{Kind, kind_of}
+use Rattle.event_law.specs.Laws.{Gives, FewEvents}
+use Rattle.word_law.specs.Unmoved.{LeavesWords}
+
+-- each event of that kind from a sound cluster, with its messages handed over, leaves each object the word that it had; references know the words at their holders,
+-- and dirty references are alone
+abbrev pub LeaveWords : Kind → Type 0
+LeaveWords kind = (k : Cluster) (e : Event) → kind_of k e ≡ Some kind → IsSound k → FewEvents k → Gives (λ (d : Cluster × EntryView). LeavesWords k d.0) (apply k e)

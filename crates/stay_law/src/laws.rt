@@ -1,0 +1,25 @@
+//! Laws of events that leave words.
+
+ghost use Rattle.event_law.specs.Kinds.{arrives, asks_dup, asks_join, asks_lock, dupped, evicts, fetch, fetched, finished, granted, joined, migrates, released, starts, unlocked};
+ghost use Rattle.stay_law.specs.Laws.{LeaveWords};
+
+/// Each object has the word that it had, references know the words at their holders and dirty references are alone, where an event of these kinds is done in a
+/// sound cluster and its messages are handed over: a copy goes, a thread leaves for another server and comes there, one starts, a copy is served and filled, a
+/// mutex is asked for, granted and given back, a share of it is asked for and comes, a share or a task is let go, a result is asked for and comes, and a home is told that a thread has ended.
+pub fn events_leave_words()
+    ensures evictions { LeaveWords evicts }
+    ensures migrations { LeaveWords migrates }
+    ensures starts { LeaveWords starts }
+    ensures parcels { LeaveWords arrives }
+    ensures fetches { LeaveWords fetch }
+    ensures copies { LeaveWords fetched }
+    ensures locks { LeaveWords asks_lock }
+    ensures grants { LeaveWords granted }
+    ensures unlocks { LeaveWords unlocked }
+    ensures dups { LeaveWords asks_dup }
+    ensures shares { LeaveWords dupped }
+    ensures releases { LeaveWords released }
+    ensures joins { LeaveWords asks_join }
+    ensures results { LeaveWords joined }
+    ensures ends { LeaveWords finished }
+{}

@@ -1,0 +1,219 @@
+-- What words see of a value, and who has taken an object for a mutable borrow.
+use Rattle.std.proofs.Common.{◌≡◌, inl, inr, ⊎_elim, ℕ, Bool, true, false, ◌||◌, List, [], ◌∷◌, ◌++◌, Option, Some, None, refl, sym, ap, subst, ◌∙◌}
+use Rattle.std.specs.Prelude.{slice_get}
+use Rattle.fr_base.specs.declared.instruction.Instr.{Instr}
+use Rattle.fr_base.specs.declared.instruction.Instr.TheVariants as instr
+use Rattle.heap_partition.specs.declared.value.BoxPtr.{BoxPtr}
+use Rattle.heap_partition.specs.declared.value.Owned.TheVariants as owned
+use Rattle.mut_borrow.specs.declared.mutable.MutRef.{MutRef}
+use Rattle.thread_state.specs.View.{ThreadState}
+use Rattle.thread_state.specs.declared.phase.Phase.{Phase}
+use Rattle.thread_state.specs.declared.phase.Phase.TheVariants as phase
+use Rattle.thread_state.specs.declared.value.Value.{Value}
+use Rattle.thread_state.specs.declared.value.Value.TheVariants as value
+use Rattle.heap_law.specs.Names.{Among}
+use Rattle.heap_law.specs.Things.{Location}
+use Rattle.heap_law.specs.Follow.{Ground, Standing, leads, place_at}
+use Rattle.heap_law.specs.Stale.{same_location, is_among, one_star_less, lent_place, lent_places, with_place}
+use Rattle.heap_law.specs.Sight.{Pointer, taken_object, taken_of, taken_pointers}
+use Rattle.heap_law.specs.Placing.{is_first}
+use Rattle.heap_law.proofs.Bags.{among_split}
+use Rattle.path_law.proofs.Origins.{among_first, among_second}
+use Rattle.word_law.specs.Unmoved.{pointing, Taking, taking_by, with_taking, taking_of, takings}
+use Rattle.word_law.proofs.Standing.{pointer_at}
+
+-- WHAT IS SEEN OF A VALUE
+
+pub leads_pointing : (t : ℕ) (v : Option Value) → leads t (pointing v) ≡ leads t v
+leads_pointing t None = refl
+leads_pointing t (Some value.Gone) = refl
+leads_pointing t (Some (value.Own (owned.Box p))) = refl
+leads_pointing t (Some (value.Own owned.Nothing)) = refl
+leads_pointing t (Some (value.Own owned.Unit)) = refl
+leads_pointing t (Some (value.Own (owned.Int n))) = refl
+leads_pointing t (Some (value.Own (owned.Mutex m))) = refl
+leads_pointing t (Some (value.Own (owned.Task u))) = refl
+leads_pointing t (Some (value.SharedSlot i)) = refl
+leads_pointing t (Some (value.MutSlot i)) = refl
+leads_pointing t (Some (value.Shared r)) = refl
+leads_pointing t (Some (value.Mut r)) = refl
+leads_pointing t (Some (value.Held m)) = refl
+
+pub first_pointing : (r : MutRef) (v : Option Value) → is_first r (pointing v) ≡ is_first r v
+first_pointing r None = refl
+first_pointing r (Some value.Gone) = refl
+first_pointing r (Some (value.Own (owned.Box p))) = refl
+first_pointing r (Some (value.Own owned.Nothing)) = refl
+first_pointing r (Some (value.Own owned.Unit)) = refl
+first_pointing r (Some (value.Own (owned.Int n))) = refl
+first_pointing r (Some (value.Own (owned.Mutex m))) = refl
+first_pointing r (Some (value.Own (owned.Task u))) = refl
+first_pointing r (Some (value.SharedSlot i)) = refl
+first_pointing r (Some (value.MutSlot i)) = refl
+first_pointing r (Some (value.Shared q)) = refl
+first_pointing r (Some (value.Mut q)) = refl
+first_pointing r (Some (value.Held m)) = refl
+
+-- a box and a mutable reference are seen whole
+seen_box : (v : Option Value) (p : BoxPtr) → pointing v ≡ Some (value.Own (owned.Box p)) → v ≡ Some (value.Own (owned.Box p))
+seen_box None p e = absurd cc
+seen_box (Some value.Gone) p e = absurd cc
+seen_box (Some (value.Own (owned.Box q))) p e = e
+seen_box (Some (value.Own owned.Nothing)) p e = absurd cc
+seen_box (Some (value.Own owned.Unit)) p e = absurd cc
+seen_box (Some (value.Own (owned.Int n))) p e = absurd cc
+seen_box (Some (value.Own (owned.Mutex m))) p e = absurd cc
+seen_box (Some (value.Own (owned.Task u))) p e = absurd cc
+seen_box (Some (value.SharedSlot i)) p e = absurd cc
+seen_box (Some (value.MutSlot i)) p e = absurd cc
+seen_box (Some (value.Shared r)) p e = absurd cc
+seen_box (Some (value.Mut r)) p e = absurd cc
+seen_box (Some (value.Held m)) p e = absurd cc
+
+pub seen_reference : (v : Option Value) (q : MutRef) → pointing v ≡ Some (value.Mut q) → v ≡ Some (value.Mut q)
+seen_reference None q e = absurd cc
+seen_reference (Some value.Gone) q e = absurd cc
+seen_reference (Some (value.Own (owned.Box p))) q e = absurd cc
+seen_reference (Some (value.Own owned.Nothing)) q e = absurd cc
+seen_reference (Some (value.Own owned.Unit)) q e = absurd cc
+seen_reference (Some (value.Own (owned.Int n))) q e = absurd cc
+seen_reference (Some (value.Own (owned.Mutex m))) q e = absurd cc
+seen_reference (Some (value.Own (owned.Task u))) q e = absurd cc
+seen_reference (Some (value.SharedSlot i)) q e = absurd cc
+seen_reference (Some (value.MutSlot i)) q e = absurd cc
+seen_reference (Some (value.Shared r)) q e = absurd cc
+seen_reference (Some (value.Mut r)) q e = e
+seen_reference (Some (value.Held m)) q e = absurd cc
+
+-- so what has a pointer at its location is
+pub seen_pointer : (o : Option Value) (v : Value) (l : Location) (p : Pointer) → pointing o ≡ pointing (Some v) → Among p (pointer_at l v) → o ≡ Some v
+seen_pointer o (value.Own (owned.Box b)) l p e h = seen_box o b e
+seen_pointer o (value.Own owned.Nothing) l p e h = absurd h
+seen_pointer o (value.Own owned.Unit) l p e h = absurd h
+seen_pointer o (value.Own (owned.Int n)) l p e h = absurd h
+seen_pointer o (value.Own (owned.Mutex m)) l p e h = absurd h
+seen_pointer o (value.Own (owned.Task u)) l p e h = absurd h
+seen_pointer o (value.Mut r) l p e h = seen_reference o r e
+seen_pointer o value.Gone l p e h = absurd h
+seen_pointer o (value.SharedSlot i) l p e h = absurd h
+seen_pointer o (value.MutSlot i) l p e h = absurd h
+seen_pointer o (value.Shared r) l p e h = absurd h
+seen_pointer o (value.Held m) l p e h = absurd h
+
+-- WHAT THREADS HAVE TAKEN
+
+-- the pointer that was taken from, and that to the object
+abbrev pub lent_by : Ground → Taking → Option Location
+lent_by g t = one_star_less g t.thread t.place.slot t.place.depth
+
+abbrev pub taken_by : Ground → Taking → List Pointer
+taken_by g t = taken_object t.word (place_at g t.thread t.place)
+
+abbrev lent_if : Ground → Option Taking → Option Location
+lent_if g None = None
+lent_if g (Some t) = lent_by g t
+
+abbrev taken_if : Ground → Option Taking → List Pointer
+taken_if g None = []
+taken_if g (Some t) = taken_by g t
+
+lent_is : (g : Ground) (t : ℕ) (p : Phase) (i : Option Instr) → lent_place g t p i ≡ lent_if g (taking_by t p i)
+lent_is g t (phase.Taken w) (Some (instr.BorrowMut p)) = refl
+lent_is g t (phase.Taken w) (Some _) = refl
+lent_is g t (phase.Taken w) None = refl
+lent_is g t _ i = refl
+
+taken_is : (g : Ground) (x : ThreadState) (p : Phase) (i : Option Instr) → taken_of g x p i ≡ taken_if g (taking_by x.number p i)
+taken_is g x (phase.Taken w) (Some (instr.BorrowMut p)) = refl
+taken_is g x (phase.Taken w) (Some _) = refl
+taken_is g x (phase.Taken w) None = refl
+taken_is g x _ i = refl
+
+-- of all of them
+abbrev pub lent_all : Ground → List Taking → List Location
+lent_all g [] = []
+lent_all g (t ∷ ts) = with_place (lent_by g t) (lent_all g ts)
+
+abbrev pub taken_all : Ground → List Taking → List Pointer
+taken_all g [] = []
+taken_all g (t ∷ ts) = taken_by g t ++ taken_all g ts
+
+pub lents_are : (code : List Instr) (g : Ground) (xs : List Standing) → lent_places code g xs ≡ lent_all g (takings code xs)
+lents_are code g [] = refl
+lents_are code g (x ∷ xs) =
+    ap (λ m. with_place m (lent_places code g xs)) (lent_is g x.thread.number x.thread.phase (slice_get code x.thread.pc))
+    ∙ ap (with_place (lent_if g (taking_of code x))) (lents_are code g xs) ∙ by (taking_of code x)
+  where
+    by : (o : Option Taking) → with_place (lent_if g o) (lent_all g (takings code xs)) ≡ lent_all g (with_taking o (takings code xs))
+    by None = refl
+    by (Some t) = refl
+
+pub takens_are : (code : List Instr) (g : Ground) (xs : List Standing) → taken_pointers code g xs ≡ taken_all g (takings code xs)
+takens_are code g [] = refl
+takens_are code g (x ∷ xs) =
+    ap (λ m. m ++ taken_pointers code g xs) (taken_is g x.thread x.thread.phase (slice_get code x.thread.pc))
+    ∙ ap (λ m. taken_if g (taking_of code x) ++ m) (takens_are code g xs) ∙ by (taking_of code x)
+  where
+    by : (o : Option Taking) → taken_if g o ++ taken_all g (takings code xs) ≡ taken_all g (with_taking o (takings code xs))
+    by None = refl
+    by (Some t) = refl
+
+-- ONE OF THEM
+
+first_place : (m : Option Location) (l : Location) (ls : List Location) → is_among l (with_place m []) ≡ true → is_among l (with_place m ls) ≡ true
+first_place None l ls e = absurd cc
+first_place (Some n) l ls e = by (same_location n l) e
+  where
+    by : (b : Bool) → (b || false) ≡ true → (b || is_among l ls) ≡ true
+    by true f = refl
+    by false f = absurd cc
+
+later_place : (m : Option Location) (l : Location) (ls : List Location) → is_among l ls ≡ true → is_among l (with_place m ls) ≡ true
+later_place None l ls e = e
+later_place (Some n) l ls e = by (same_location n l)
+  where
+    by : (b : Bool) → (b || is_among l ls) ≡ true
+    by true = refl
+    by false = e
+
+pub lent_listed : (g : Ground) (l : Location) (t : Taking) (ts : List Taking) → Among t ts → is_among l (with_place (lent_by g t) []) ≡ true → is_among l (lent_all g ts) ≡ true
+lent_listed g l t [] h e = absurd h
+lent_listed g l t (u ∷ ts) (inl q) e = first_place (lent_by g u) l (lent_all g ts) (subst (λ y. is_among l (with_place (lent_by g y) []) ≡ true) (sym q) e)
+lent_listed g l t (u ∷ ts) (inr h) e = later_place (lent_by g u) l (lent_all g ts) (lent_listed g l t ts h e)
+
+pub record LentBy (g : Ground) (l : Location) (ts : List Taking) : Type 0 where
+  pub taking : Taking
+  pub among : Among taking ts
+  pub at : is_among l (with_place (lent_by g taking) []) ≡ true
+
+pub lent_told : (g : Ground) (l : Location) (ts : List Taking) → is_among l (lent_all g ts) ≡ true → LentBy g l ts
+lent_told g l [] e = absurd cc
+lent_told g l (t ∷ ts) e = by (lent_by g t) refl e (λ f. lent_told g l ts f)
+  where
+    later : LentBy g l ts → LentBy g l (t ∷ ts)
+    later y = record { taking = y.taking; among = inr y.among; at = y.at }
+
+    tested : (n : Location) → lent_by g t ≡ Some n → (b : Bool) → same_location n l ≡ b → (b || is_among l (lent_all g ts)) ≡ true → (is_among l (lent_all g ts) ≡ true → LentBy g l ts) → LentBy g l (t ∷ ts)
+    tested n q true s f go = record { taking = t; among = inl refl; at = ap (λ m. is_among l (with_place m [])) q ∙ ap (λ c. c || false) s }
+    tested n q false s f go = later (go f)
+
+    by : (m : Option Location) → lent_by g t ≡ m → is_among l (with_place m (lent_all g ts)) ≡ true → (is_among l (lent_all g ts) ≡ true → LentBy g l ts) → LentBy g l (t ∷ ts)
+    by None q f go = later (go f)
+    by (Some n) q f go = tested n q (same_location n l) refl f go
+
+pub taken_listed : (g : Ground) (p : Pointer) (t : Taking) (ts : List Taking) → Among t ts → Among p (taken_by g t) → Among p (taken_all g ts)
+taken_listed g p t [] h e = absurd h
+taken_listed g p t (u ∷ ts) (inl q) e = among_first p (taken_by g u) (taken_all g ts) (subst (λ y. Among p (taken_by g y)) (sym q) e)
+taken_listed g p t (u ∷ ts) (inr h) e = among_second p (taken_by g u) (taken_all g ts) (taken_listed g p t ts h e)
+
+pub record TakenBy (g : Ground) (p : Pointer) (ts : List Taking) : Type 0 where
+  pub taking : Taking
+  pub among : Among taking ts
+  pub pointer : Among p (taken_by g taking)
+
+pub taken_told : (g : Ground) (p : Pointer) (ts : List Taking) → Among p (taken_all g ts) → TakenBy g p ts
+taken_told g p [] h = absurd h
+taken_told g p (t ∷ ts) h =
+    ⊎_elim (λ (l : Among p (taken_by g t)). record { taking = t; among = inl refl; pointer = l })
+    (λ (r : Among p (taken_all g ts)). let y = taken_told g p ts r in record { taking = y.taking; among = inr y.among; pointer = y.pointer })
+    (among_split p (taken_by g t) (taken_all g ts) h)
