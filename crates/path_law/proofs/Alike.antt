@@ -67,7 +67,7 @@ unnamed_target rank E s t j k is free =
     not_to E k free q.0 q.1.key q.1.depth f.base f.boxes f.type f.res (free j q.0 q.1 q.2) one.0
 
 -- where a reference leads, something stands
-there_of : (rank : Key → ℕ) (E : KeyTypes) (s : Store) → Typed rank E s → (k : Key) (l : StoreLocation) → s.at k ≡ ref_v l → (v : Val) × (value_at s l ≡ Some v)
+pub there_of : (rank : Key → ℕ) (E : KeyTypes) (s : Store) → Typed rank E s → (k : Key) (l : StoreLocation) → s.at k ≡ ref_v l → (v : Val) × (value_at s l ≡ Some v)
 there_of rank E s t k l is =
     let q = ref_type rank E s t k l is in
     let f = ref_at rank E s t k q.0 q.1 q.2 in

@@ -74,17 +74,17 @@ not_blocked (s ∷ e) x le h = by (blocks_write x s.part) (part_names x s.part (
     by false q r = r
 
 -- the newest slot may go
-record IsDropped (x : Entry) : Type 0 where
-  awake : x.forked ≡ false
-  slot : Slot
-  below : Env
-  env : x.env ≡ slot ∷ below
-  outlives : outlive (length below) x.temps ≡ true
+pub record IsDropped (x : Entry) : Type 0 where
+  pub awake : x.forked ≡ false
+  pub slot : Slot
+  pub below : Env
+  pub env : x.env ≡ slot ∷ below
+  pub outlives : outlive (length below) x.temps ≡ true
 
 dropped_of : (table : Table) (x y : Entry) → InstrTypes table x instr.DropSlot y → IsDropped x
 dropped_of table _ _ (i_drop {e = e} {s = s} named locked outlives) = record { awake = refl; slot = s; below = e; env = refl; outlives = outlives }
 
-dropped_at : (table : Table) (pc : ℕ) (x : Entry) (ss : Successors) → Leads table pc x instr.DropSlot ss → IsDropped x
+pub dropped_at : (table : Table) (pc : ℕ) (x : Entry) (ss : Successors) → Leads table pc x instr.DropSlot ss → IsDropped x
 dropped_at table pc x _ (to_next {y = y} typed) = dropped_of table x y typed
 
 top_outlives : (n : ℕ) (ts : List Kind) → outlive n ts ≡ true → top_names n ts ≡ false
@@ -123,11 +123,15 @@ module _ (k : Cluster) (c : HasPaths k) (x : Standing) (g : GoesOn k x) where
         unmarked = λ m h. no_mark_here r m (sym e ∙ h);
       }
 
-  newest_free : (slot : ℕ) → length x.thread.slots ≡ suc slot → IsDropped entry → Unnamed E (slot_k n slot)
+  -- there are as many slots as typing knows
+  pub slots_long : length x.thread.slots ≡ length entry.env
+  slots_long = sym (map_length plain_value x.thread.slots) ∙ sym (length-reverse _) ∙ (running_typed k c x g).all_slots
+
+  -- no type names the newest slot
+  pub newest_free : (slot : ℕ) → length x.thread.slots ≡ suc slot → IsDropped entry → Unnamed E (slot_k n slot)
   newest_free slot len d =
       let thread = awake_thread k c x g d.awake in
-      let slots : length x.thread.slots ≡ length entry.env = sym (map_length plain_value x.thread.slots) ∙ sym (length-reverse _) ∙ (running_typed k c x g).all_slots in
-      let below : length d.below ≡ slot = omega (arith, slots, len, ap length d.env) in
+      let below : length d.below ≡ slot = omega (arith, slots_long, len, ap length d.env) in
       let nested : IsNested (d.slot ∷ d.below) = subst IsNested d.env thread.nested in
       let one = part_names (length d.below) d.slot.part nested.0 in
       let rest = not_blocked d.below (length d.below) (omega arith) nested.1 in

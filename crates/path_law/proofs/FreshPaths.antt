@@ -71,7 +71,7 @@ same_is (at_temp t i) (in_cell o) e = absurd cc
 same_is (in_cell o) (at_slot u j) e = absurd cc
 same_is (in_cell o) (at_temp u j) e = absurd cc
 
-threads_same : {t u i j : ℕ} → slot_k t i ≡ slot_k u j → t ≡ u
+pub threads_same : {t u i j : ℕ} → slot_k t i ≡ slot_k u j → t ≡ u
 threads_same e = cc
 
 gone_no_ref : {l : StoreLocation} → gone_v ≡ ref_v l → ⊥
@@ -114,7 +114,7 @@ module _ (k : Cluster) (c : HasPaths k) where
   ground = (sight k).ground
 
   -- objects hold no references
-  flat : (o : ObjNo) (l : StoreLocation) → st.heap o ≡ Some (ref_v l) → ⊥
+  pub flat : (o : ObjNo) (l : StoreLocation) → st.heap o ≡ Some (ref_v l) → ⊥
   flat o l e = by (object_value (sight k) o) e
     where
       by : (p : Option Plain) → seen_cell c.types.typing.gives p ≡ Some (ref_v l) → ⊥

@@ -164,6 +164,13 @@ module _ (k : Cluster) (c : HasPaths k) (x : Standing) (g : GoesOn k x) where
   awake_thread e =
       subst (λ b. IsThread b (slot_k n) c.types.typing.rank (hand_key n entry.temps) entry.env E (heap_store k c.types) (hand_kind entry.temps)) e (running_typed k c x g).thread
 
+  -- a variable is no mark
+  pub variable_unmarked : (i : ℕ) → is_variable entry.env i ≡ true → IsUnmarked x i
+  variable_unmarked i named m e =
+      let q = slot_part k c x g i (value.Held m) e in
+      let form : slot_form (names k c x g) q.slot true (value.Held m) ≡ true = subst (λ b. slot_form (names k c x g) q.slot b (value.Held m) ≡ true) (sym q.variable ∙ named) q.form in
+      no_mark (names k c x g) q.slot.part m form
+
   may_write : (w : Lval) → IsGranted entry w → MayWrite k c.types x w
   may_write w may =
       let thread = awake_thread may.awake in
@@ -176,14 +183,8 @@ module _ (k : Cluster) (c : HasPaths k) (x : Standing) (g : GoesOn k x) where
         boxes = q.boxes;
         type = q.type;
         resolves = q.res;
-        unmarked = unmarked w.slot may.has.named;
+        unmarked = variable_unmarked w.slot may.has.named;
       }
-    where
-      unmarked : (i : ℕ) → is_variable entry.env i ≡ true → IsUnmarked x i
-      unmarked i named m e =
-          let q = slot_part k c x g i (value.Held m) e in
-          let form : slot_form (names k c x g) q.slot true (value.Held m) ≡ true = subst (λ b. slot_form (names k c x g) q.slot b (value.Held m) ≡ true) (sym q.variable ∙ named) q.form in
-          no_mark (names k c x g) q.slot.part m form
 
   pub may_write_there : (i : Instr) (w : Lval) → instr_of (sight k) x ≡ Some i → WritesTo i w → MayWrite k c.types x w
   may_write_there i w at writes =

@@ -116,7 +116,7 @@ module _ (k : Cluster) (c : HasPaths k) where
   borrowed_at l r h =
       stood_from (borrows l r) l (value.Mut r) refl h (λ s t i w q. borrow_value s (in_slot t i) (at_slot t i) l r w q) (λ s t i w q. borrow_value s (in_temp t i) (at_temp t i) l r w q)
 
-  shared_at : (l : Location) (r : SharedRef) → Among (shares l r) (things_of k) → Stood l (value.Shared r)
+  pub shared_at : (l : Location) (r : SharedRef) → Among (shares l r) (things_of k) → Stood l (value.Shared r)
   shared_at l r h =
       stood_from (shares l r) l (value.Shared r) refl h (λ s t i w q. share_value s (in_slot t i) (at_slot t i) l r w q) (λ s t i w q. share_value s (in_temp t i) (at_temp t i) l r w q)
 
@@ -220,13 +220,13 @@ module _ (k : Cluster) (c : HasPaths k) where
           let z : None ≡ Some v = sym (ap (seen_cell c.types.typing.gives) none) ∙ e in
           absurd cc
 
-  pointed_at : (p : Pointer) (l : Location) (o : ObjNo) (v : Val) → Among p (pointers_in (things_of k)) → p.object ≡ o → p.at ≡ Some l → st.heap o ≡ Some v → PointsTo st o (in_store l)
+  pub pointed_at : (p : Pointer) (l : Location) (o : ObjNo) (v : Val) → Among p (pointers_in (things_of k)) → p.object ≡ o → p.at ≡ Some l → st.heap o ≡ Some v → PointsTo st o (in_store l)
   pointed_at p l o v h e f there =
       let q = of_thing p (things_of k) h in
       subst (λ z. PointsTo st z (in_store l)) e (points_of q.thing p l q.among q.pointer f (ap (λ z. is_in_state (sight k) (object_n z)) e ∙ in_state_of o v there))
 
   -- no type names a temporary value
-  temp_unnamed : (t i : ℕ) → Unnamed c.types.typing.exact (temp_k t i)
+  pub temp_unnamed : (t i : ℕ) → Unnamed c.types.typing.exact (temp_k t i)
   temp_unnamed t i j m u is e = let n = c.types.state.near j m u is in slot_is_no_temp n.owner n.slot t i (sym n.is ∙ e)
 
   -- WHAT A THREAD WRITES

@@ -11,7 +11,7 @@ use Rattle.fr_store.proofs.ThreadKept.{res_low}
 use Rattle.path_law.specs.Above.{IsMadeFrom, StandsAbove, holder, higher, PointsTo, its_box, a_reference, SolePointer}
 
 -- the first loan of a key, and the rest
-loaned_first : (E : KeyTypes) (k j : Key) → Loaned E k j → (j ≡ k) ⊎ ((u : Place) × (E k ≡ refers true u) × Loaned E u.key j)
+pub loaned_first : (E : KeyTypes) (k j : Key) → Loaned E k j → (j ≡ k) ⊎ ((u : Place) × (E k ≡ refers true u) × Loaned E u.key j)
 loaned_first E k j self = inl refl
 loaned_first E k j (loan {t = t} r u is) = by (loaned_first E k t r)
   where
@@ -38,7 +38,7 @@ pub some_is : {A : Type 0} {x y : A} → Some x ≡ Some y → x ≡ y
 some_is e = cc
 
 -- a pointer below a place: a mutable reference on the way, or the object's box
-data Points (E : KeyTypes) (s : Store) (k : Key) (o : ObjNo) : Location → Type 0 where
+pub data Points (E : KeyTypes) (s : Store) (k : Key) (o : ObjNo) : Location → Type 0 where
   by_reference : {j : Key} → Loaned E k j → s.at j ≡ ref_v (at_object o) → Points E s k o (at_key j)
   by_box : {l : Location} → value_at s l ≡ Some (box_v o) → Points E s k o l
 
@@ -107,7 +107,7 @@ module _ (rank : Key → ℕ) (E : KeyTypes) (s : Store) (t : Typed rank E s) wh
           inr (by_reference (subst (λ (z : Place). Loaned E z.key j) v q.2) at)
 
   -- by induction on how the place resolves
-  above : (k : Key) (d : ℕ) (b : Key) (n : ℕ) (p : Exact) (d1 : ℕ) (h l : Location) (o : ObjNo)
+  pub above : (k : Key) (d : ℕ) (b : Key) (n : ℕ) (p : Exact) (d1 : ℕ) (h l : Location) (o : ObjNo)
       → Resolves E true k d b n p
       → d ≡ suc d1
       → walk s d1 (at_key k) ≡ Some h

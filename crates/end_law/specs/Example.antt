@@ -1,0 +1,20 @@
+-- A cluster to which the laws of writes apply: main stands at an assignment through its box.
+use Rattle.std.specs.Prelude.{◌≡◌, Some}
+use Rattle.heap_law.specs.Clusters.{place}
+use Rattle.heap_law.specs.Things.{at_slot}
+use Rattle.heap_law.specs.Follow.{locate}
+use Rattle.heap_law.specs.Paths.{written_place}
+use Rattle.heap_law.specs.Sight.{sight}
+use Rattle.heap_law.specs.Walking.{path}
+use Rattle.heap_law.specs.Coherent.{Holds, passed_in_a_walk, passed_within}
+use Rattle.type_law.specs.Typed.{boxed_cluster}
+use Rattle.path_law.specs.HeapStore.{GoesOn, HasPaths}
+use Rattle.path_law.specs.Example.{main_stands}
+
+pub record WritesApply : Type 0 where
+  pub paths : HasPaths boxed_cluster
+  pub goes : GoesOn boxed_cluster main_stands
+  pub writes : written_place (path (sight boxed_cluster) main_stands) ≡ Some (place 0 1)
+  pub hop : locate (sight boxed_cluster).ground 0 0 0 ≡ Some (at_slot 0 0)
+  pub in_a_walk : Holds boxed_cluster passed_in_a_walk
+  pub within : Holds boxed_cluster passed_within

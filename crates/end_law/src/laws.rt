@@ -1,0 +1,27 @@
+//! Laws of what ends.
+
+ghost use Rattle.end_law.specs.Dropped.{GivenUpMayBe, OwnedAreAlone};
+ghost use Rattle.end_law.specs.Example.{WritesApply};
+ghost use Rattle.end_law.specs.Ending.{EndedAreAlone, PassedFollows, WritesAreFresh};
+
+/// A mutable reference that a thread's instruction ends, in a slot or from the hand: each pointer to its object is that reference or one that it was made
+/// from, no shared reference leads there, none was made from it, and it isn't stale.
+pub fn ended_are_alone()
+    ensures { EndedAreAlone }
+{}
+
+/// No pointer that a thread's write follows is stale, also where the write is that of an ending reference's holder (`fresh`). So that what a write has passed
+/// isn't stale follows from types, where it passes no more than it has, and in a walk alone (`passed`). There is a
+/// coherent cluster to which both apply (`applies`).
+pub fn writes_are_fresh()
+    ensures fresh { WritesAreFresh }
+    ensures passed { PassedFollows }
+    ensures applies { WritesApply }
+{}
+
+/// To each object that a temporary value owns, or a value at a place that typing lets the thread write, its box is the only pointer (`alone`). Such are the
+/// places that are assigned or moved out of, a slot that goes with its value, and one from which a lock's content is put back (`given`).
+pub fn owned_are_alone()
+    ensures alone { OwnedAreAlone }
+    ensures given { GivenUpMayBe }
+{}
