@@ -14,6 +14,8 @@ pub mod Leaving
 pub mod Readied
 pub mod Coming
 pub mod Given
+pub mod Unnamed
+pub mod Back
 pub mod StillKinds
 pub mod Prepares
 pub mod Undone

@@ -1,7 +1,6 @@
 -- Requests that a server answers or notes show nothing of it.
-use Rattle.std.proofs.Common.{◌≡◌, ℕ, ◌+◌, ◌-◌, ◌^◌, ◌&&◌, Bool, true, false, if◌then◌else◌, List, [], ◌∷◌, ◌++◌, Option, Some, None, option_map, refl, ap, ap₂, subst, arith}
+use Rattle.std.proofs.Common.{◌≡◌, ℕ, ◌+◌, ◌-◌, ◌^◌, ◌&&◌, Bool, true, false, if◌then◌else◌, List, [], ◌∷◌, ◌++◌, Option, Some, None, option_map, refl, ap, ap₂, arith}
 use Rattle.std.specs.Prelude.{slice_get, nat_lt}
-use Rattle.fr_typing.proofs.PlaceLemmas.{eq_cases}
 use Rattle.fr_base.specs.declared.name.MutexNo.{MutexNo}
 use Rattle.fr_base.specs.declared.name.ObjNo.{ObjNo}
 use Rattle.heap_partition.specs.declared.value.Owned.{Owned}
@@ -25,6 +24,7 @@ use Rattle.event_law.proofs.Bags.{rest_things, of_mutexes, of_tasks}
 use Rattle.event_law.proofs.MutexLists.{found_number, mutex_changes}
 use Rattle.event_law.proofs.TaskMessages.{tot-gone, tot-put}
 use Rattle.still_law.specs.Shows.{Sign, nothing, sign_of}
+use Rattle.still_law.proofs.Unnamed.{task_thread}
 use Rattle.still_law.proofs.Sites.{shown, Moves, sends, beside_still, ServerStill, deliveries}
 
 -- a message that carries nothing goes
@@ -45,7 +45,7 @@ fetches k s i w o a t q =
 -- MUTEXES
 
 -- of a mutex its content is shown
-mutex_shown : (w : Sign → ℕ) → w nothing ≡ 0 → (n : ℕ) (x : Mutex) → shown w (mutex_things n 0 x) ≡ shown w (content_things x.number x.content)
+pub mutex_shown : (w : Sign → ℕ) → w nothing ≡ 0 → (n : ℕ) (x : Mutex) → shown w (mutex_things n 0 x) ≡ shown w (content_things x.number x.content)
 mutex_shown w z n x = omega (arith, z, no_queue 0 x.queue, tot-append (λ y. w (sign_of y)) (content_things x.number x.content) (things_at (queue_things x.number) 0 x.queue))
   where
     no_queue : (i : ℕ) (q : List (ℕ × ℕ)) → shown w (things_at (queue_things x.number) i q) ≡ 0
@@ -53,7 +53,7 @@ mutex_shown w z n x = omega (arith, z, no_queue 0 x.queue, tot-append (λ y. w (
     no_queue i (a ∷ q) = omega (arith, z, no_queue (i + 1) q)
 
 -- a mutex changes, and its content may come to the hand
-mutex_moves : (gone hand : List Thing) (r : Rest) (m : MutexNo) (x new : Mutex) → mutex_in r.mutexes.there m ≡ Some x → new.number ≡ x.number
+pub mutex_moves : (gone hand : List Thing) (r : Rest) (m : MutexNo) (x new : Mutex) → mutex_in r.mutexes.there m ≡ Some x → new.number ≡ x.number
     → ((w : Sign → ℕ) → w nothing ≡ 0 → shown w gone + shown w (content_things x.number x.content) ≡ shown w hand + shown w (content_things new.number new.content))
     → Moves gone hand r (record r { mutexes = put_mutex r.mutexes new })
 mutex_moves gone hand r m x new q named e = record {
@@ -113,7 +113,7 @@ dups k s i m a t q = deliveries k s i (message.Dup m a t) q (beside_still (messa
 -- RESULTS
 
 -- a note that isn't of a pair changes, and its result may come to the hand
-task_moves : (gone hand : List Thing) (r : Rest) (ts : List Task) (olds news : List Thing) → Trade (things_at (task_things r.number) 0 r.tasks) olds news (things_at (task_things r.number) 0 ts)
+pub task_moves : (gone hand : List Thing) (r : Rest) (ts : List Task) (olds news : List Thing) → Trade (things_at (task_things r.number) 0 r.tasks) olds news (things_at (task_things r.number) 0 ts)
     → ((w : Sign → ℕ) → w nothing ≡ 0 → shown w gone + shown w olds ≡ shown w hand + shown w news) → Moves gone hand r (record r { tasks = ts })
 task_moves gone hand r ts olds news u e = record {
   number = refl;
@@ -126,12 +126,6 @@ task_moves gone hand r ts olds news u e = record {
 joined : (n u a t : ℕ) (x : Work) → Gives (λ (y : Work). Moves (sent n (message.Join u a t) ∷ []) [] x.rest y.rest) (deliver_join u a t x)
 joined n u a t x = by (task_in x.rest.tasks u) refl
   where
-    number_of : (xs : List Task) (y : Task) → task_in xs u ≡ Some y → y.thread ≡ u
-    number_of [] y e = absurd (cc e)
-    number_of (z ∷ xs) y e =
-        eq_cases (λ b. (if b then Some z else task_in xs u) ≡ Some y → y.thread ≡ u) z.thread u
-        (λ q g. let same : z ≡ y = cc in subst (λ (v : Task). v.thread ≡ u) same q) (λ ne g. number_of xs y g) e
-
     Then : Work → Type 0
     Then y = Moves (sent n (message.Join u a t) ∷ []) [] x.rest y.rest
 
@@ -148,7 +142,7 @@ joined n u a t x = by (task_in x.rest.tasks u) refl
         (task_moves (sent n (message.Join u a t) ∷ []) hand x.rest (without_task x.rest.tasks u) (task_things m 0 y) []
         (record { rest = things_at (task_things m) 0 (without_task x.rest.tasks u); before = λ f. tot-gone f m x.rest.tasks u y q; after = λ f. omega arith })
         (λ w z.
-        let shows : shown w (task_things m 0 y) ≡ shown w (task_things m 0 (record { thread = u; state = kept v })) = ap₂ (λ i s. shown w (task_things m 0 (record { thread = i; state = s }))) (number_of x.rest.tasks y q) h in
+        let shows : shown w (task_things m 0 y) ≡ shown w (task_things m 0 (record { thread = u; state = kept v })) = ap₂ (λ i s. shown w (task_things m 0 (record { thread = i; state = s }))) (task_thread x.rest.tasks u y q) h in
         omega (arith, z, shows))) (λ w z. omega (arith, z))
     state y q let_go h = tt
     state y q (asked r b) h = tt

@@ -4,6 +4,7 @@ use Rattle.std.specs.Bool.{⊤}
 use Rattle.std.specs.Prelude.{slice_get, option_map}
 use Rattle.fr_base.specs.declared.instruction.Instr.{Instr}
 use Rattle.fr_base.specs.declared.instruction.Instr.TheVariants as instr
+use Rattle.fr_base.specs.declared.release.Released.TheVariants as released_as
 use Rattle.thread_state.specs.View.{ThreadState}
 use Rattle.server_msgs.specs.declared.message.Message.{Message}
 use Rattle.server_msgs.specs.declared.message.Message.TheVariants as message
@@ -13,7 +14,7 @@ use Rattle.server_model.specs.Servers.{Server, Cluster, server_at}
 use Rattle.server_model.specs.Work.{thread_in, then_some}
 use Rattle.server_model.specs.Events.{does}
 use Rattle.heap_law.specs.Coherent.{IsSound}
-use Rattle.event_law.specs.Kinds.{Kind, evicts, migrates, starts, arrives, fetch, fetched, moving, moved, asks_lock, asks_dup, asks_join, granted, dupped, joined, message_kind, instr_kind, kind_at}
+use Rattle.event_law.specs.Kinds.{Kind, evicts, migrates, starts, arrives, fetch, fetched, moving, moved, asks_lock, asks_dup, asks_join, granted, dupped, joined, unlocked, released, message_kind, instr_kind, kind_at}
 use Rattle.event_law.specs.Laws.{Gives}
 use Rattle.still_law.specs.Laws.{LeaveHeap}
 use Rattle.still_law.proofs.Sites.{ServerStill, leaves_heap}
@@ -25,6 +26,7 @@ use Rattle.still_law.proofs.Leaving.{moves}
 use Rattle.still_law.proofs.Coming.{objects_come}
 use Rattle.still_law.proofs.Requests.{fetches, locks, dups, joins}
 use Rattle.still_law.proofs.Given.{contents_come, shares_come, results_come}
+use Rattle.still_law.proofs.Back.{contents_back, share_dropped, task_released}
 
 abbrev pub IsStill : Kind → Type 0
 IsStill evicts = ⊤
@@ -41,6 +43,8 @@ IsStill asks_join = ⊤
 IsStill granted = ⊤
 IsStill dupped = ⊤
 IsStill joined = ⊤
+IsStill unlocked = ⊤
+IsStill released = ⊤
 IsStill kind = ⊥
 
 some_same : {a b : Kind} → Some a ≡ Some b → b ≡ a
@@ -82,10 +86,11 @@ module _ (k : Cluster) (sound : IsSound k) (number : ℕ) (s : Server) (here : s
   message_still i (message.Drop w o) q p = absurd p
   message_still i (message.Lock m a t) q p = locks k s i m a t q
   message_still i (message.Granted m v t) q p = contents_come k sound number s here i m v t q
-  message_still i (message.Unlock m v) q p = absurd p
+  message_still i (message.Unlock m v) q p = contents_back k sound number s here i m v q
   message_still i (message.Dup m a t) q p = dups k s i m a t q
   message_still i (message.Dupped m t) q p = shares_come k sound number s here i m t q
-  message_still i (message.Release r) q p = absurd p
+  message_still i (message.Release (released_as.Mutex m)) q p = share_dropped k sound number s here i m q
+  message_still i (message.Release (released_as.Task u)) q p = task_released k sound number s here i u q
   message_still i (message.Join u a t) q p = joins k s i u a t q
   message_still i (message.Joined u v t) q p = results_come k sound number s here i u v t q
   message_still i (message.Finished u v) q p = absurd p

@@ -1,6 +1,6 @@
 //! Laws of events without a plain step.
 
-ghost use Rattle.event_law.specs.Kinds.{arrives, asks_dup, asks_join, asks_lock, dupped, evicts, fetch, fetched, granted, joined, migrates, moved, moving, starts};
+ghost use Rattle.event_law.specs.Kinds.{arrives, asks_dup, asks_join, asks_lock, dupped, evicts, fetch, fetched, granted, joined, migrates, moved, moving, released, starts, unlocked};
 ghost use Rattle.still_law.specs.Laws.{AlikeStandForOne, JoinsThatAsk, LeaveHeap, RequestsLeaveHeap};
 
 /// Two clusters of one code, the first of them sound, stand for the same one heap where all that counts of their things is the same: no word, copy, use,
@@ -10,7 +10,8 @@ pub fn alike_stand_for_one()
 {}
 
 /// From a sound cluster with few events, where they have a result, an eviction, a migration, and the delivery of a new thread, of a parcel, of a copy, of an
-/// object, of a mutex's content or a share of it, of a result, and of what asks for one of these, leave the one heap as it was, their messages handed over.
+/// object, of a mutex's content or a share of it, of a result, of what asks for one of these, of a content that comes back, and of a share or a task that was
+/// dropped, leave the one heap as it was, their messages handed over.
 pub fn events_leave_heap()
     ensures evictions { LeaveHeap evicts }
     ensures migrations { LeaveHeap migrates }
@@ -26,6 +27,8 @@ pub fn events_leave_heap()
     ensures contents { LeaveHeap granted }
     ensures shares { LeaveHeap dupped }
     ensures results { LeaveHeap joined }
+    ensures unlocks { LeaveHeap unlocked }
+    ensures releases { LeaveHeap released }
 {}
 
 /// A join that asks for its result leaves the one heap as it was.
