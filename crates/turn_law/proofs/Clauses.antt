@@ -1,5 +1,5 @@
 -- Each kind of instruction whose line stands.
-use Rattle.std.proofs.Common.{◌≡◌, ℕ, ◌==◌, true, Some, refl, sym, ap, subst}
+use Rattle.std.proofs.Common.{◌≡◌, ℕ, zero, suc, ◌==◌, true, false, Some, refl, sym, ap, subst}
 use Rattle.fr_typing.proofs.PlaceLemmas.{eq_cases}
 use Rattle.fr_base.specs.declared.place.Lval.{Lval}
 use Rattle.fr_base.specs.declared.instruction.Instr.{Instr}
@@ -9,9 +9,12 @@ use Rattle.server_model.specs.Servers.{Cluster}
 use Rattle.server_model.specs.Clusters.{apply}
 use Rattle.heap_law.specs.Coherent.{IsSound}
 use Rattle.event_law.specs.Laws.{Gives}
-use Rattle.turn_law.specs.Turns.{IsPlainStep, instr_of, ArePlainSteps, is_let, is_arith, is_print, reads_slot, borrows_slot}
+use Rattle.turn_law.specs.Turns.{IsPlainStep, instr_of, ArePlainSteps, is_let, is_arith, is_print, reads_slot, borrows_slot, copies_place, borrows_place, lends_place}
 use Rattle.turn_law.proofs.Instructions.{lets as let_line, prints as print_line, sums as arith_line, shared_borrows, mutable_borrows}
 use Rattle.turn_law.proofs.SlotReads.{reads as read_line}
+use Rattle.type_law.specs.ClusterTypes.{IsCoherent}
+use Rattle.turn_law.proofs.StarLines.{copy_line}
+use Rattle.turn_law.proofs.BorrowLines.{shared_line, mutable_line}
 use Rattle.turn_law.proofs.Events.{Line, own_line, steps_are_plain}
 
 pub lets : ArePlainSteps IsSound is_let
@@ -60,4 +63,36 @@ borrows k e i q it sound few = by i q it
     by : (i : Instr) → instr_of k e ≡ Some i → borrows_slot i ≡ true → Gives (IsPlainStep k) (apply k e)
     by (instr.Borrow w) q it = steps_are_plain k e (instr.Borrow w) sound few refl (λ g f. f) (line_at k e (λ v. instr.Borrow v) w it (own_line k e (instr.Borrow (of_slot w.slot 0)) (λ r x here. shared_borrows k.code k.options.servers r x w.slot here))) q
     by (instr.BorrowMut w) q it = steps_are_plain k e (instr.BorrowMut w) sound few refl (λ g f. f) (line_at k e (λ v. instr.BorrowMut v) w it (own_line k e (instr.BorrowMut (of_slot w.slot 0)) (λ r x here. mutable_borrows k.code k.options.servers r x w.slot here))) q
+    by _ q it = absurd (cc it)
+
+-- THROUGH STARS
+
+pub copies : ArePlainSteps IsCoherent copies_place
+copies k e i q it co few = by i q it
+  where
+    by : (i : Instr) → instr_of k e ≡ Some i → copies_place i ≡ true → Gives (IsPlainStep k) (apply k e)
+    by (instr.Read w false) q it = steps_are_plain k e (instr.Read w false) co.sound few refl (λ g f. f) (λ s t y a. copy_line k co e w s t y a) q
+    by (instr.Read w true) q it = absurd (cc it)
+    by _ q it = absurd (cc it)
+
+pub shared : ArePlainSteps IsCoherent borrows_place
+shared k e i q it co few = by i q it
+  where
+    line : (w : Lval) (d : ℕ) → w.depth ≡ d → Line k e (instr.Borrow w)
+    line w zero deep = line_at k e (λ v. instr.Borrow v) w (ap (λ z. z == 0) deep) (own_line k e (instr.Borrow (of_slot w.slot 0)) (λ r x here. shared_borrows k.code k.options.servers r x w.slot here))
+    line w (suc d) deep = λ s t y a. shared_line k co e w d deep s t y a
+
+    by : (i : Instr) → instr_of k e ≡ Some i → borrows_place i ≡ true → Gives (IsPlainStep k) (apply k e)
+    by (instr.Borrow w) q it = steps_are_plain k e (instr.Borrow w) co.sound few refl (λ g f. f) (line w w.depth refl) q
+    by _ q it = absurd (cc it)
+
+pub lent : ArePlainSteps IsCoherent lends_place
+lent k e i q it co few = by i q it
+  where
+    line : (w : Lval) (d : ℕ) → w.depth ≡ d → Line k e (instr.BorrowMut w)
+    line w zero deep = line_at k e (λ v. instr.BorrowMut v) w (ap (λ z. z == 0) deep) (own_line k e (instr.BorrowMut (of_slot w.slot 0)) (λ r x here. mutable_borrows k.code k.options.servers r x w.slot here))
+    line w (suc d) deep = λ s t y a. mutable_line k co e w d deep s t y a
+
+    by : (i : Instr) → instr_of k e ≡ Some i → lends_place i ≡ true → Gives (IsPlainStep k) (apply k e)
+    by (instr.BorrowMut w) q it = steps_are_plain k e (instr.BorrowMut w) co.sound few refl (λ g f. f) (line w w.depth refl) q
     by _ q it = absurd (cc it)

@@ -181,7 +181,7 @@ no_pair (phase.WaitPar a b) e = absurd (cc e)
 no_pair (phase.GotPar a b) e = absurd (cc e)
 no_pair _ e = refl
 
-not_over : (p : Phase) → can_step p ≡ true → is_over p ≡ false
+pub not_over : (p : Phase) → can_step p ≡ true → is_over p ≡ false
 not_over phase.Over e = absurd (cc e)
 not_over _ e = refl
 

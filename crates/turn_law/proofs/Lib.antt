@@ -5,4 +5,9 @@ pub mod Instructions
 pub mod SlotReads
 pub mod Within
 pub mod Events
+pub mod ReadWalk
+pub mod PlainReads
+pub mod StarSteps
+pub mod StarLines
+pub mod BorrowLines
 pub mod Clauses

@@ -72,7 +72,7 @@ nothing_owns (object_n o) = refl
 nothing_owns (mutex_n m) = refl
 nothing_owns (task_n t) = refl
 
-second : (v : Value) → Gives (Second v) (second_of v)
+pub second : (v : Value) → Gives (Second v) (second_of v)
 second (value.Own owned.Nothing) = record { shown = refl; bare = nothing_owns }
 second (value.Own owned.Unit) = record { shown = refl; bare = unit_owns }
 second (value.Own (owned.Int n)) = record { shown = refl; bare = λ q. int_owns q n }

@@ -63,6 +63,19 @@ borrows_slot (instr.Borrow w) = w.depth == 0
 borrows_slot (instr.BorrowMut w) = w.depth == 0
 borrows_slot i = false
 
+-- a copy of what a place leads to, a shared borrow and a mutable one, through however many stars
+abbrev pub copies_place : Instr → Bool
+copies_place (instr.Read w false) = true
+copies_place i = false
+
+abbrev pub borrows_place : Instr → Bool
+borrows_place (instr.Borrow w) = true
+borrows_place i = false
+
+abbrev pub lends_place : Instr → Bool
+lends_place (instr.BorrowMut w) = true
+lends_place i = false
+
 -- from a cluster with that property, each step of such an instruction is a plain step where it has a `done`, its messages handed over
 abbrev pub ArePlainSteps : (Cluster → Type 0) → (Instr → Bool) → Type 0
 ArePlainSteps Has is = (k : Cluster) (e : Event) (i : Instr) → instr_of k e ≡ Some i → is i ≡ true → Has k → FewEvents k → Gives (IsPlainStep k) (apply k e)

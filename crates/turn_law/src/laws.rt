@@ -2,7 +2,8 @@
 
 ghost use Rattle.heap_law.specs.Coherent.{IsSound};
 ghost use Rattle.turn_law.specs.Rows.{RowsCompute};
-ghost use Rattle.turn_law.specs.Turns.{ArePlainSteps, borrows_slot, is_arith, is_let, is_print, reads_slot};
+ghost use Rattle.turn_law.specs.Turns.{ArePlainSteps, borrows_place, borrows_slot, copies_place, is_arith, is_let, is_print, lends_place, reads_slot};
+ghost use Rattle.type_law.specs.ClusterTypes.{IsCoherent};
 
 /// From a sound cluster, each of these steps is the plain step of its thread on the one heap, with the entry's names and labels, its messages handed over:
 /// a new variable, arithmetic, a print, and reads and borrows of a variable.
@@ -12,6 +13,14 @@ pub fn own_steps()
     ensures prints { ArePlainSteps IsSound is_print }
     ensures reads { ArePlainSteps IsSound reads_slot }
     ensures borrows { ArePlainSteps IsSound borrows_slot }
+{}
+
+/// From a coherent cluster, so is each step of a copy and of a borrow, shared or mutable, through however many stars: the place is followed to what it leads to
+/// in the one heap, and the loads on the way are the entry's labels. A step that ends with a request does no plain step.
+pub fn star_steps()
+    ensures copies { ArePlainSteps IsCoherent copies_place }
+    ensures shared { ArePlainSteps IsCoherent borrows_place }
+    ensures lent { ArePlainSteps IsCoherent lends_place }
 {}
 
 /// A run whose steps are all of these kinds, computed: no sentence is broken before any of them, and each is done.

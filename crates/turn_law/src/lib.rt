@@ -3,4 +3,4 @@
 
 mod laws;
 
-pub use laws::{own_steps, rows_compute};
+pub use laws::{own_steps, rows_compute, star_steps};

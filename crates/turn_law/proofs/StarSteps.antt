@@ -1,0 +1,124 @@
+-- A step that follows a place for reading, at the server and on the plain machine: from the hand in which the place is ready to the turn.
+use Rattle.std.proofs.Common.{◌≡◌, ℕ, ◌+◌, ◌==◌, Bool, false, List, [], ◌∷◌, map, Option, Some, None, option_map, refl, sym, ap, ap₂, ◌∙◌}
+use Rattle.fr_base.specs.Names.{same_object, same_mutex}
+use Rattle.fr_base.specs.declared.label.Plain.{Plain}
+use Rattle.fr_base.specs.declared.label.Plain.TheVariants as plain
+use Rattle.fr_base.specs.declared.step.Fresh.TheVariants as fresh
+use Rattle.fr_base.specs.declared.instruction.Instr.{Instr}
+use Rattle.fr_plain.specs.declared.value.Value.{Value as PlainValue}
+use Rattle.fr_plain.specs.declared.value.Value.TheVariants.{Own}
+use Rattle.fr_code.specs.Machine.{CodeState}
+use Rattle.heap_partition.specs.Plain.{plain_of}
+use Rattle.heap_partition.specs.declared.value.Owned.{Owned}
+use Rattle.heap_partition.specs.declared.value.Owned.TheVariants as owned
+use Rattle.read_cache.specs.Cache.{Copy}
+use Rattle.migration.specs.Packing.{unpin_all}
+use Rattle.thread_state.specs.View.{ThreadState}
+use Rattle.thread_state.specs.declared.value.Value.{Value}
+use Rattle.thread_state.specs.declared.value.Value.TheVariants as value
+use Rattle.server_model.specs.Servers.{Rest}
+use Rattle.server_model.specs.Work.{Hand, with_cache}
+use Rattle.server_model.specs.Commit.{goes_on, go_on}
+use Rattle.server_model.specs.Events.{begin_work, committed}
+use Rattle.heap_law.specs.Names.{tot, one}
+use Rattle.heap_law.specs.OneHeap.{Node, object_n, mutex_n, task_n, owns, plain_value, running_at}
+use Rattle.event_law.specs.Laws.{Gives}
+use Rattle.event_law.proofs.Bags.{rest_things}
+use Rattle.still_law.specs.Shows.{Sign, nothing, sign_of}
+use Rattle.still_law.proofs.Readied.{Readied, then_ready, copies_ready}
+use Rattle.turn_law.proofs.Parts.{value_owns, owned_in}
+use Rattle.turn_law.proofs.OneTurn.{after}
+use Rattle.turn_law.proofs.PlainTurn.{DoesIn}
+use Rattle.turn_law.proofs.Instructions.{TurnIn}
+
+-- WHAT IS OWNED SHOWS
+
+abbrev plain_owns : Node → Plain → Bool
+plain_owns (object_n o) (plain.Box p) = same_object p o
+plain_owns (mutex_n m) (plain.Mutex n) = same_mutex n m
+plain_owns (task_n t) (plain.Task u) = u == t
+plain_owns q v = false
+
+abbrev shown_owns : Node → PlainValue → Bool
+shown_owns q (Own v) = plain_owns q v
+shown_owns q v = false
+
+owns_shown : (q : Node) (v : Owned) → owns q v ≡ plain_owns q (plain_of v)
+owns_shown (object_n o) owned.Nothing = refl
+owns_shown (object_n o) owned.Unit = refl
+owns_shown (object_n o) (owned.Int n) = refl
+owns_shown (object_n o) (owned.Box p) = refl
+owns_shown (object_n o) (owned.Mutex m) = refl
+owns_shown (object_n o) (owned.Task u) = refl
+owns_shown (mutex_n m) owned.Nothing = refl
+owns_shown (mutex_n m) owned.Unit = refl
+owns_shown (mutex_n m) (owned.Int n) = refl
+owns_shown (mutex_n m) (owned.Box p) = refl
+owns_shown (mutex_n m) (owned.Mutex n) = refl
+owns_shown (mutex_n m) (owned.Task u) = refl
+owns_shown (task_n t) owned.Nothing = refl
+owns_shown (task_n t) owned.Unit = refl
+owns_shown (task_n t) (owned.Int n) = refl
+owns_shown (task_n t) (owned.Box p) = refl
+owns_shown (task_n t) (owned.Mutex m) = refl
+owns_shown (task_n t) (owned.Task u) = refl
+
+value_shown : (q : Node) (v : Value) → value_owns q v ≡ shown_owns q (plain_value v)
+value_shown q (value.Own v) = owns_shown q v
+value_shown (object_n o) value.Gone = refl
+value_shown (mutex_n m) value.Gone = refl
+value_shown (task_n t) value.Gone = refl
+value_shown q (value.SharedSlot i) = refl
+value_shown q (value.MutSlot i) = refl
+value_shown q (value.Shared r) = refl
+value_shown q (value.Mut r) = refl
+value_shown q (value.Held m) = refl
+
+all_shown : (q : Node) (vs : List Value) → owned_in q vs ≡ tot (λ v. one (shown_owns q v)) (map plain_value vs)
+all_shown q [] = refl
+all_shown q (v ∷ vs) = ap₂ (λ a b. one a + b) (value_shown q v) (all_shown q vs)
+
+-- values that show the same own the same
+pub alike_owned : (q : Node) (vs us : List Value) → map plain_value us ≡ map plain_value vs → owned_in q vs ≡ owned_in q us
+alike_owned q vs us e = all_shown q vs ∙ ap (tot (λ v. one (shown_owns q v))) (sym e) ∙ sym (all_shown q us)
+
+-- THE TURN BEFORE IT IS SETTLED
+
+-- from a hand that is ready, with other slots and temporary values: the thread goes on to the next instruction
+pub record QuickIn (a : CodeState) (code : List Instr) (r : Rest) (x : ThreadState) (h : Hand) : Type 0 where
+  pub before : Hand
+  pub ready : Readied (record { work = begin_work r; thread = x }) before
+  pub rest : h.work.rest ≡ before.work.rest
+  pub slots : List Value
+  pub temps : List Value
+  pub thread : h.thread ≡ record before.thread { slots = slots; temps = temps }
+  pub even : (q : Node) → owned_in q x.slots + owned_in q x.temps ≡ owned_in q slots + owned_in q temps
+  pub does : DoesIn a code x.number (running_at x) (running_at (after x (x.pc + 1) slots temps)) h.work.labels
+
+module _ (a : CodeState) (code : List Instr) (r : Rest) (x : ThreadState) where
+  abbrev h0 : Hand
+  h0 = record { work = begin_work r; thread = x }
+
+  pub settles_in : (o : Option Hand) → Gives (QuickIn a code r x) o → Gives (TurnIn a code r x) (committed (goes_on o))
+  settles_in None g = tt
+  settles_in (Some h) g = by (unpin_all h.thread.walk h.work.rest.cache)
+    where
+      by : (o : Option (List Copy)) → Gives (TurnIn a code r x) (option_map (λ h2. record { hand = h2; names = Some fresh.None })
+          (option_map (λ cs. record { work = with_cache cs h.work; thread = record (go_on h).thread { passed = 0; walk = []; moved_since_step = false } }) o))
+      by None = tt
+      by (Some cs) =
+          let left : Hand = record { work = with_cache cs g.before.work; thread = record g.before.thread { walk = [] } } in
+          let all = then_ready h0 g.before left g.ready (copies_ready g.before cs []).0 in record {
+            pc = x.pc + 1;
+            slots = g.slots;
+            temps = g.temps;
+            thread = ap (λ (y : ThreadState). after y (y.pc + 1) y.slots y.temps) g.thread ∙ ap (λ (y : ThreadState). after y (y.pc + 1) g.slots g.temps) g.ready.thread;
+            moves = record { number = ap (λ (q : Rest). q.number) g.rest ∙ all.moves.number; alike = λ w z. all.moves.alike w z ∙ rest_same w z };
+            named = refl;
+            even = g.even;
+            does = g.does;
+          }
+        where
+          rest_same : (w : Sign → ℕ) → w nothing ≡ 0
+              → tot (λ y. w (sign_of y)) (rest_things r.number 0 (record g.before.work.rest { cache = cs })) ≡ tot (λ y. w (sign_of y)) (rest_things r.number 0 (record h.work.rest { cache = cs }))
+          rest_same w z = ap (λ (q : Rest). tot (λ y. w (sign_of y)) (rest_things r.number 0 (record q { cache = cs }))) (sym g.rest)
