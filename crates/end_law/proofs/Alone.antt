@@ -205,7 +205,7 @@ module _ (k : Cluster) (c : HasPaths k) (x : Standing) (g : GoesOn k x) (r : Mut
   fresh (stale_above q among held s) = none_made q among held
   fresh (taken_above t) = not_taken_here t
 
-  ended : EndsAlone k r
+  pub ended : EndsAlone k r
   ended = record { at = e.at; stands = e.stands; alone = record { above = pointed_above; unshared = unshared; none_made = none_made }; fresh = fresh }
 
 pub ended_are_alone : EndedAreAlone

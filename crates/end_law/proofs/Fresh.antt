@@ -39,14 +39,14 @@ some_place e = cc
 -- HOW A THREAD WRITES
 
 -- it assigns or moves through stars, and lends nothing
-record Through (k : Cluster) (x : Standing) (w : Lval) : Type 0 where
-  instruction : Instr
-  at : instr_of (sight k) x ≡ Some instruction
-  writes_to : WritesTo instruction w
-  no_lend : (p : Lval) → instruction ≡ instr.BorrowMut p → ⊥
+pub record Through (k : Cluster) (x : Standing) (w : Lval) : Type 0 where
+  pub instruction : Instr
+  pub at : instr_of (sight k) x ≡ Some instruction
+  pub writes_to : WritesTo instruction w
+  pub no_lend : (p : Lval) → instruction ≡ instr.BorrowMut p → ⊥
 
 -- or it ends a reference whose holder's place that is
-data Writing (k : Cluster) (x : Standing) (w : Lval) : Type 0 where
+pub data Writing (k : Cluster) (x : Standing) (w : Lval) : Type 0 where
   through_it : Through k x w → Writing k x w
   of_holder : (r : MutRef) → path (sight k) x ≡ ends r → r.holder ≡ w → Writing k x w
 
@@ -72,7 +72,7 @@ module _ (k : Cluster) (x : Standing) (w : Lval) where
   take_of v at zero e = absurd cc
   take_of v at (suc d) e = through_it (record { instruction = instr.Read v true; at = at; writes_to = subst (WritesTo (instr.Read v true)) (some_place e) moves; no_lend = λ p q. absurd cc })
 
-  writing : written_place (path (sight k) x) ≡ Some w → Writing k x w
+  pub writing : written_place (path (sight k) x) ≡ Some w → Writing k x w
   writing e = by (instr_of (sight k) x) refl refl e
     where
       by : (i : Option Instr) → instr_of (sight k) x ≡ i → path (sight k) x ≡ path_of i x.thread → written_place (path_of i x.thread) ≡ Some w → Writing k x w

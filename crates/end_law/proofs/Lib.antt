@@ -6,3 +6,4 @@ pub mod Passed
 pub mod Owned
 pub mod Given
 pub mod Example
+pub mod Lying

@@ -1,3 +1,4 @@
 pub mod Ending
 pub mod Dropped
 pub mod Example
+pub mod Lying

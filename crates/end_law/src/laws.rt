@@ -3,6 +3,7 @@
 ghost use Rattle.end_law.specs.Dropped.{GivenUpMayBe, OwnedAreAlone};
 ghost use Rattle.end_law.specs.Example.{WritesApply};
 ghost use Rattle.end_law.specs.Ending.{EndedAreAlone, PassedFollows, WritesAreFresh};
+ghost use Rattle.end_law.specs.Lying.{EndedLiesThere, WrittenLieThere};
 
 /// A mutable reference that a thread's instruction ends, in a slot or from the hand: each pointer to its object is that reference or one that it was made
 /// from, no shared reference leads there, none was made from it, and it isn't stale.
@@ -24,4 +25,11 @@ pub fn writes_are_fresh()
 pub fn owned_are_alone()
     ensures alone { OwnedAreAlone }
     ensures given { GivenUpMayBe }
+{}
+
+/// In a coherent cluster, of a thread that doesn't wait for a cell: the object of each pointer that its write follows lies where the pointer's word leads
+/// (`written`), and so does the object of a mutable reference that its instruction ends (`ended`).
+pub fn written_lie_there()
+    ensures written { WrittenLieThere }
+    ensures ended { EndedLiesThere }
 {}

@@ -4,4 +4,4 @@
 
 mod laws;
 
-pub use laws::{ended_are_alone, owned_are_alone, writes_are_fresh};
+pub use laws::{ended_are_alone, owned_are_alone, writes_are_fresh, written_lie_there};
