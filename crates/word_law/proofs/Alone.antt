@@ -9,6 +9,7 @@ use Rattle.fr_base.specs.declared.name.ObjNo.{ObjNo}
 use Rattle.fr_base.specs.declared.place.Lval.{Lval}
 use Rattle.fr_store.specs.Keys.{Key, slot_k}
 use Rattle.fr_store.specs.Store.{Location as StoreLocation, at_key, at_object, gone_v, box_v, ref_v, Store, value_at, below_key}
+use Rattle.fr_store.specs.Typed.{Resolves}
 use Rattle.fr_store.proofs.Chains.{from_suc}
 use Rattle.fr_store.proofs.Sound.{sound}
 use Rattle.fr_sound.specs.Seen.{Gives, owned_val, seen_cell}
@@ -17,7 +18,6 @@ use Rattle.heap_partition.specs.declared.value.BoxPtr.{BoxPtr}
 use Rattle.heap_partition.specs.declared.value.Cell.{Cell}
 use Rattle.heap_partition.specs.declared.value.Owned.{Owned}
 use Rattle.heap_partition.specs.declared.value.Owned.TheVariants as owned
-use Rattle.mut_borrow.specs.declared.mutable.MutRef.{MutRef}
 use Rattle.mut_borrow.specs.declared.shared.SharedRef.{SharedRef}
 use Rattle.server_msgs.specs.declared.message.Message.{Message}
 use Rattle.server_msgs.specs.declared.message.Message.TheVariants.{Drop}
@@ -29,12 +29,13 @@ use Rattle.server_model.specs.Servers.{Cluster}
 use Rattle.heap_law.specs.Names.{Among, one, same_object, boxes}
 use Rattle.heap_law.specs.Things.{Location, at_slot, at_temp, in_cell, Spot, in_slot, in_temp, as_gift, as_content, as_result, in_hand, Thing, holds, shares, borrows, lies, flies, sent, things_of}
 use Rattle.heap_law.specs.Follow.{Standing, Ground, slot_of, value_in, value_of, value_behind, cell_of, leads, locate, place_at}
-use Rattle.heap_law.specs.Weights.{owners, cells}
+use Rattle.heap_law.specs.Weights.{owners}
+use Rattle.heap_law.specs.Placing.{standing_of, standing_in, standing_pointers}
 use Rattle.thread_state.specs.View.{is_over}
-use Rattle.heap_law.specs.Stale.{same_location, is_among, lent_place, with_place, lent_places, one_star_less, taken_above}
+use Rattle.heap_law.specs.Stale.{Reference, references, holder_of, is_held_at, same_location, is_among, lent_place, with_place, lent_places, one_star_less, taken_above}
 use Rattle.heap_law.specs.OneHeap.{object_value}
-use Rattle.heap_law.specs.Sight.{Pointer, pointer_in, location_of, dropped_pointer, pointers_of, pointers_in, taken_object, taken_of, taken_pointers, sight}
-use Rattle.heap_law.specs.Words.{all_pointers, IsStale}
+use Rattle.heap_law.specs.Sight.{Pointer, pointer_in, location_of, dropped_pointer, taken_object, taken_of, taken_pointers, sight}
+use Rattle.heap_law.specs.Words.{IsStale}
 use Rattle.heap_law.proofs.Bags.{among_split}
 use Rattle.heap_law.proofs.Words.{itself}
 use Rattle.path_law.specs.HeapStore.{heap_store, GoesOn, HasPaths}
@@ -45,13 +46,13 @@ use Rattle.path_law.proofs.Alike.{leads_in_heap, slot_none, slot_gone, slot_own,
 use Rattle.path_law.proofs.Circles.{base_in}
 use Rattle.path_law.proofs.InState.{only_one}
 use Rattle.path_law.proofs.MayWrites.{may_write_there}
-use Rattle.path_law.proofs.Contained.{location_itself}
+use Rattle.path_law.proofs.Contained.{location_itself, reference_there, held_there}
 use Rattle.path_law.proofs.Pointers.{sole_pointers}
-use Rattle.path_law.proofs.FreshPaths.{OwnSlot, own_closed}
-use Rattle.word_law.specs.Reworded.{HasPlaces, Renewed, a_box, a_reference, Reworded}
+use Rattle.path_law.proofs.FreshPaths.{OwnSlot, own_closed, Followed, none_made}
+use Rattle.word_law.specs.Reworded.{HasPlaces}
+use Rattle.word_law.specs.Soles.{WrittenAreSole}
 use Rattle.word_law.proofs.Loose.{box_nowhere}
-use Rattle.word_law.proofs.Standing.{pointer_at, told, slot_among, temp_among, CellOf, lying, flying, cell_among, of_thing, share_stands}
-use Rattle.word_law.proofs.Grounds.{same_place, taken_all}
+use Rattle.word_law.proofs.Standing.{pointer_at, told, slot_among, temp_among, CellOf, lying, flying, cell_among}
 
 cell_same : {p o : ObjNo} → Some (in_cell p) ≡ Some (in_cell o) → p ≡ o
 cell_same e = cc
@@ -344,105 +345,117 @@ module _ (k : Cluster) (c : HasPaths k) (x : Standing) (v : Lval) (h : Location)
 
 -- A POINTER OUTSIDE OF PLACES
 
-module _ (k z : Cluster) (c : HasPaths k) (d : HasPlaces z) (x : Standing) (v : Lval) (h : Location) (o : ObjNo) (w : ℕ) (g : GoesOn k x) (may : MayWrite k c.types x v) (hop : LastHop (sight k).ground x.thread.number v h o)
-    (fresh : IsStale (sight k) (Some h) → ⊥) (r : Reworded k z h o w) where
-  -- the box of the object stands where it stood
-  still_boxed : BoxThere z o
-  still_boxed = by (same_place b.location h)
-    where
-      b : BoxThere k o
-      b = box_there k c x v h o g may hop
+-- a reference was made from what stands above another one
+pub above_holds : (k : Cluster) (l m : Location) → Above (sight k).ground l m → (r : Reference) × Among r (references (sight k).ground (things_of k)) × (is_held_at l r.holder ≡ true)
+above_holds k l m (made_from q e held) = (record { at = m; holder = holder_of (sight k).ground m q.holder; reference = q }, reference_there k m q e, held_there k l (holder_of (sight k).ground m q.holder) held)
+above_holds k l m (made_below {h = j} q e held rest) = above_holds k l j rest
 
-      box_same : (p q : BoxPtr) → value.Own (owned.Box p) ≡ value.Own (owned.Box q) → p ≡ q
-      box_same p q e = cc
+-- a pointer that stands is of a thing
+pub record OfStanding (p : Pointer) (b : List Thing) : Type 0 where
+  pub thing : Thing
+  pub among : Among thing b
+  pub pointer : Among p (standing_of thing)
 
-      no_box : (m : MutRef) (q : BoxPtr) → value.Mut m ≡ value.Own (owned.Box q) → ⊥
-      no_box m q e = absurd cc
+pub of_standing : (p : Pointer) (b : List Thing) → Among p (standing_in b) → OfStanding p b
+of_standing p [] h = absurd h
+of_standing p (x ∷ b) h =
+    ⊎_elim (λ (l : Among p (standing_of x)). record { thing = x; among = inl refl; pointer = l }) (λ (r : Among p (standing_in b)). let q = of_standing p b r in record { thing = q.thing; among = inr q.among; pointer = q.pointer })
+    (among_split p (standing_of x) (standing_in b) h)
 
-      renewed_box : (old new : Value) → old ≡ value.Own (owned.Box b.box) → Renewed w old new → new ≡ value.Own (owned.Box (record b.box { word = w }))
-      renewed_box old new e (a_box p f g) = g ∙ ap (λ (y : BoxPtr). value.Own (owned.Box (record y { word = w }))) (box_same p b.box (sym f ∙ e))
-      renewed_box old new e (a_reference m q f g i j l n) = absurd (no_box m b.box (sym f ∙ e))
+-- where a pointer leads to an object it does so for every thread
+pub leads_any : (n t : ℕ) (v : Option Value) (o : ObjNo) → leads n v ≡ Some (in_cell o) → leads t v ≡ Some (in_cell o)
+leads_any n t (Some (value.Own (owned.Box b))) o e = e
+leads_any n t (Some (value.Shared r)) o e = e
+leads_any n t (Some (value.Mut r)) o e = e
+leads_any n t (Some (value.SharedSlot i)) o e = absurd cc
+leads_any n t (Some (value.MutSlot i)) o e = absurd cc
+leads_any n t (Some value.Gone) o e = absurd cc
+leads_any n t (Some (value.Held m)) o e = absurd cc
+leads_any n t (Some (value.Own owned.Nothing)) o e = absurd cc
+leads_any n t (Some (value.Own owned.Unit)) o e = absurd cc
+leads_any n t (Some (value.Own (owned.Int j))) o e = absurd cc
+leads_any n t (Some (value.Own (owned.Mutex m))) o e = absurd cc
+leads_any n t (Some (value.Own (owned.Task u))) o e = absurd cc
+leads_any n t None o e = absurd cc
 
-      by : (b.location ≡ h) ⊎ (b.location ≡ h → ⊥) → BoxThere z o
-      by (inl e) =
-          let old : r.old ≡ value.Own (owned.Box b.box) = some_is (sym r.stood ∙ ap (value_in (sight k).ground) (sym e) ∙ b.stands) in
-          record { location = h; box = record b.box { word = w }; stands = r.stands ∙ ap Some (renewed_box r.old r.new old r.renewed); object = b.object }
-      by (inr n) = record { location = b.location; box = b.box; stands = r.elsewhere b.location n ∙ b.stands; object = b.object }
+some_nothing : (l : Location) (p : Pointer) → p.at ≡ Some l → p.at ≡ None → ⊥
+some_nothing l p e f = let y : None ≡ Some l = sym f ∙ e in absurd cc
 
-  owner : Owner z o
-  owner = owner_of_box z o still_boxed
+held_weighs : (o : ObjNo) (u : Owned) (p : Pointer) → Among p (pointer_in None u) → p.object ≡ o → 1 ≤ boxes o u
+held_weighs o (owned.Box b) p (inl e) f = weighs_one b o (ap (λ (y : Pointer). y.object) e ∙ f)
+held_weighs o (owned.Box b) p (inr m) f = absurd m
+held_weighs o owned.Nothing p m f = absurd m
+held_weighs o owned.Unit p m f = absurd m
+held_weighs o (owned.Int n) p m f = absurd m
+held_weighs o (owned.Mutex n) p m f = absurd m
+held_weighs o (owned.Task t) p m f = absurd m
 
-  -- a shared reference stood where it stands
-  shared_before : (l : Location) (q : SharedRef) → value_in (sight z).ground l ≡ Some (value.Shared q) → value_in (sight k).ground l ≡ Some (value.Shared q)
-  shared_before l q e = by (same_place l h)
-    where
-      not_renewed : (old new : Value) → Renewed w old new → new ≡ value.Shared q → ⊥
-      not_renewed old new (a_box p f g) y = let e : value.Own (owned.Box (record p { word = w })) ≡ value.Shared q = sym g ∙ y in absurd cc
-      not_renewed old new (a_reference m n f g i j u v) y = let e : value.Mut n ≡ value.Shared q = sym g ∙ y in absurd cc
+module _ (k : Cluster) (c : HasPaths k) (x : Standing) (v : Lval) (h : Location) (o : ObjNo) (g : GoesOn k x) (may : MayWrite k c.types x v) (hop : LastHop (sight k).ground x.thread.number v h o)
+    (fresh : IsStale (sight k) (Some h) → ⊥) where
+  places : HasPlaces k
+  places = record { numbers_differ = c.numbers_differ; home_of_each = c.home_of_each; owner_of_each = c.owner_of_each }
 
-      by : (l ≡ h) ⊎ (l ≡ h → ⊥) → value_in (sight k).ground l ≡ Some (value.Shared q)
-      by (inl s) =
-          let new : r.new ≡ value.Shared q = some_is (sym r.stands ∙ ap (value_in (sight z).ground) (sym s) ∙ e) in
-          absurd (not_renewed r.old r.new r.renewed new)
-      by (inr n) = sym (r.elsewhere l n) ∙ e
+  followed : Followed k c x h
+  followed = record {
+    goes = g;
+    slot = v.slot;
+    stars = hop.stars;
+    free = may.free;
+    base = may.base;
+    boxes = may.boxes;
+    type = may.type;
+    resolves = subst (λ y. Resolves c.types.typing.exact true (slot_k x.thread.number v.slot) y may.base may.boxes may.type) hop.last may.resolves;
+    located = hop.pointer;
+  }
 
-  not_shared : (l : Location) (q : SharedRef) → Among (shares l q) (things_of z) → q.object ≡ o → ⊥
-  not_shared l q m e = no_shared k c x v h o g may hop l q (shared_before l q (share_stands z d l q m)) e
+  unmade : (q : Reference) → Among q (references (sight k).ground (things_of k)) → is_held_at h q.holder ≡ true → ⊥
+  unmade q m e = none_made k c x h q followed m e
 
-  some_nothing : (l : Location) (p : Pointer) → p.at ≡ Some l → p.at ≡ None → ⊥
-  some_nothing l p e f = let y : None ≡ Some l = sym f ∙ e in absurd cc
+  apart : Above (sight k).ground h h → ⊥
+  apart a = let y = above_holds k h h a in unmade y.0 y.1 y.2
 
-  held_weighs : (u : Owned) (p : Pointer) → Among p (pointer_in None u) → p.object ≡ o → 1 ≤ boxes o u
-  held_weighs (owned.Box b) p (inl e) f = weighs_one b o (ap (λ (y : Pointer). y.object) e ∙ f)
-  held_weighs (owned.Box b) p (inr m) f = absurd m
-  held_weighs owned.Nothing p m f = absurd m
-  held_weighs owned.Unit p m f = absurd m
-  held_weighs (owned.Int n) p m f = absurd m
-  held_weighs (owned.Mutex n) p m f = absurd m
-  held_weighs (owned.Task t) p m f = absurd m
+  owner : Owner k o
+  owner = owner_of_box k o (box_there k c x v h o g may hop)
 
-  outside : (sp : Spot) (u : Owned) (p : Pointer) → Among (holds sp u) (things_of z) → Among p (pointer_in (location_of sp) u) → p.object ≡ o → p.at ≡ None → ⊥
+  outside : (sp : Spot) (u : Owned) (p : Pointer) → Among (holds sp u) (things_of k) → Among p (pointer_in (location_of sp) u) → p.object ≡ o → p.at ≡ None → ⊥
   outside (in_slot t i) u p m q e f = box_nowhere (at_slot t i) u p q f
   outside (in_temp t i) u p m q e f = box_nowhere (at_temp t i) u p q f
-  outside (as_gift t) u p m q e f = no_other z o d owner (holds (as_gift t) u) m (held_weighs u p q e) refl
-  outside (as_content n) u p m q e f = no_other z o d owner (holds (as_content n) u) m (held_weighs u p q e) refl
-  outside (as_result t) u p m q e f = no_other z o d owner (holds (as_result t) u) m (held_weighs u p q e) refl
-  outside in_hand u p m q e f = no_other z o d owner (holds in_hand u) m (held_weighs u p q e) refl
+  outside (as_gift t) u p m q e f = no_other k o places owner (holds (as_gift t) u) m (held_weighs o u p q e) refl
+  outside (as_content n) u p m q e f = no_other k o places owner (holds (as_content n) u) m (held_weighs o u p q e) refl
+  outside (as_result t) u p m q e f = no_other k o places owner (holds (as_result t) u) m (held_weighs o u p q e) refl
+  outside in_hand u p m q e f = no_other k o places owner (holds in_hand u) m (held_weighs o u p q e) refl
 
-  dropped : (s : ℕ) (n : Message) (p : Pointer) → Among (sent s n) (things_of z) → Among p (dropped_pointer n) → p.object ≡ o → ⊥
+  dropped : (s : ℕ) (n : Message) (p : Pointer) → Among (sent s n) (things_of k) → Among p (dropped_pointer n) → p.object ≡ o → ⊥
   dropped s (Drop a b) p m (inl e) f =
       let same : b ≡ o = ap (λ (y : Pointer). y.object) e ∙ f in
       let y : one (same_object b o) ≡ 1 = ap one (itself b o same) in
-      no_other z o d owner (sent s (Drop a b)) m (omega (arith, y)) refl
+      no_other k o places owner (sent s (Drop a b)) m (omega (arith, y)) refl
   dropped s (Drop a b) p m (inr q) f = q
   dropped s _ p m q f = q
 
-  -- the object lies, so it isn't under way
-  flown : (a : ℕ) (e : Cell) → Among (flies a e) (things_of z) → e.object ≡ o → ⊥
-  flown a e m s =
-      let y = r.lying in
-      let at_home : 1 ≤ cells o (lies r.server r.address y.cell) = (let q : one (same_object y.cell.object o) ≡ 1 = ap one (itself y.cell.object o y.object) in omega (arith, q)) in
-      let away : 1 ≤ cells o (flies a e) = (let q : one (same_object e.object o) ≡ 1 = ap one (itself e.object o s) in omega (arith, q)) in
-      let same : lies r.server r.address y.cell ≡ flies a e = only_one (cells o) (lies r.server r.address y.cell) (flies a e) (things_of z) (d.home_of_each o) y.among m at_home away in
-      absurd cc
-
-  thing_alone : (y : Thing) (p : Pointer) → Among y (things_of z) → Among p (pointers_of y) → p.object ≡ o → p.at ≡ None → ⊥
+  thing_alone : (y : Thing) (p : Pointer) → Among y (things_of k) → Among p (standing_of y) → p.object ≡ o → p.at ≡ None → ⊥
   thing_alone (holds sp u) p m q e f = outside sp u p m q e f
-  thing_alone (shares l s) p m (inl q) e f = not_shared l s m (ap (λ (y : Pointer). y.object) q ∙ e)
+  thing_alone (shares l s) p m (inl q) e f = sole_pointers.unshared k c x v h o g may hop l s m (ap (λ (y : Pointer). y.object) q ∙ e)
   thing_alone (shares l s) p m (inr q) e f = q
   thing_alone (borrows l s) p m (inl q) e f = some_nothing l p (sym (ap (λ (y : Pointer). y.at) q)) f
   thing_alone (borrows l s) p m (inr q) e f = q
   thing_alone (lies i a b) p m q e f = box_nowhere (in_cell b.object) b.value p q f
-  thing_alone (flies a b) p m (inl q) e f = flown a b m (ap (λ (y : Pointer). y.object) q ∙ e)
-  thing_alone (flies a b) p m (inr q) e f = box_nowhere (in_cell b.object) b.value p q f
+  thing_alone (flies a b) p m q e f = box_nowhere (in_cell b.object) b.value p q f
   thing_alone (sent s n) p m q e f = dropped s n p m q e
   thing_alone _ p m q e f = q
 
-  pub alone : (Above (sight k).ground h h → ⊥) → (p : Pointer) → Among p (all_pointers (sight z)) → p.object ≡ o → p.at ≡ None → ⊥
-  alone apart p m e f =
-      ⊎_elim (λ (q : Among p (pointers_in (things_of z))). let y = of_thing p (things_of z) q in thing_alone y.thing p y.among y.pointer e f)
-      (λ (q : Among p (taken_pointers (sight z).code (sight z).ground (sight z).ground.threads)).
-      let before : Among p (taken_pointers (sight k).code (sight k).ground (sight k).ground.threads) = subst (λ ps. Among p ps) (taken_all k z h o w r) q in
-      let y = took_object k (sight k).ground.threads p before in
+  placed_alone : (p : Pointer) → Among p (standing_pointers (sight k)) → p.object ≡ o → p.at ≡ None → ⊥
+  placed_alone p m e f =
+      ⊎_elim (λ (q : Among p (standing_in (things_of k))). let y = of_standing p (things_of k) q in thing_alone y.thing p y.among y.pointer e f)
+      (λ (q : Among p (taken_pointers (sight k).code (sight k).ground (sight k).ground.threads)).
+      let y = took_object k (sight k).ground.threads p q in
       not_taken k c x v h o g may hop fresh apart y.0 y.1 (subst (λ i. TookObject k y.0 i) e y.2))
-      (among_split p (pointers_in (things_of z)) (taken_pointers (sight z).code (sight z).ground (sight z).ground.threads) m)
+      (among_split p (standing_in (things_of k)) (taken_pointers (sight k).code (sight k).ground (sight k).ground.threads) m)
+
+pub written_are_sole : WrittenAreSole
+written_are_sole k c x v h o g may hop fresh = record {
+  to = λ t. leads_any x.thread.number t (value_in (sight k).ground h) o (object_at k c x v h o g may hop);
+  above = λ p l m e f. sole_pointers.above k c x v h o g may hop p l m e f;
+  placed = placed_alone k c x v h o g may hop fresh;
+  unmade = unmade k c x v h o g may hop fresh;
+}

@@ -21,13 +21,11 @@ use Rattle.path_law.specs.Pointing.{Above}
 use Rattle.path_law.proofs.Shown.{none_else}
 use Rattle.path_law.proofs.Origins.{among_first, among_second}
 use Rattle.path_law.proofs.Contained.{held_there, reference_there}
-use Rattle.path_law.proofs.Pointers.{sole_pointers}
-use Rattle.path_law.proofs.FreshPaths.{none_made}
 use Rattle.word_law.specs.WordsAfter.{Rewrites, HoldersGoOn, DirtyGoOn}
 use Rattle.word_law.proofs.Standing.{tells, told, told_standing, stands_in, borrow_stands}
 use Rattle.word_law.proofs.Loose.{unplaced_standing}
 use Rattle.word_law.proofs.Grounds.{Opposite, OfBorrows, of_borrows, same_place, taken_all, before, still_stale}
-use Rattle.word_law.proofs.Words.{places, followed, at_h, sole, above_stale}
+use Rattle.word_law.proofs.Words.{places, at_h, sole, above_stale}
 
 -- two references that were made from the same word of an object
 is_first_same : (r q : MutRef) (v : Option Value) → r.first ≡ q.first → r.object ≡ q.object → is_first r v ≡ is_first q v
@@ -47,7 +45,7 @@ module _ (k z : Cluster) (h : Location) (o : ObjNo) (w : ℕ) (r : Rewrites k z 
 
   -- none was made from the pointer that got the word
   unmade : (q : Reference) → Among q (references gk (things_of k)) → is_held_at h q.holder ≡ true → ⊥
-  unmade q m e = none_made k r.paths r.thread h q (followed k z h o w r) m e
+  unmade q m e = r.sole.unmade q m e
 
   back : (q : Reference) → Among q (references gz (things_of z)) → Opposite k z h o w r.reworded gk (references gk (things_of k)) q
   back q m = (before k z h o w r.reworded (places k z h o w r) r.places q m).0
@@ -122,7 +120,7 @@ module _ (k z : Cluster) (h : Location) (o : ObjNo) (w : ℕ) (r : Rewrites k z 
     other_object : q.reference.object ≡ o → ⊥
     other_object e =
         ⊎_elim other_place (λ (a : Above gk q.at h). f (above_stale k z h o w r q.at a))
-        (sole_pointers.above k r.paths r.thread r.place h o r.goes r.may r.hop (record { at = Some q.at; word = q.reference.word; object = q.reference.object }) q.at
+        (r.sole.above (record { at = Some q.at; word = q.reference.word; object = q.reference.object }) q.at
         (told k q.at (value.Mut q.reference) (record { at = Some q.at; word = q.reference.word; object = q.reference.object }) stood (inl refl)) e refl)
 
     -- a pointer that stands stood, where it isn't to that object

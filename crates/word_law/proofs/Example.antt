@@ -1,5 +1,5 @@
 -- The laws of words apply to main at its assignment.
-use Rattle.std.proofs.Common.{◌≡◌, inl, inr, ℕ, [], ◌∷◌, refl, arith}
+use Rattle.std.proofs.Common.{◌≡◌, inl, inr, ℕ, [], ◌∷◌, Some, refl, arith}
 use Rattle.fr_base.specs.declared.instruction.Operand.TheVariants as operand
 use Rattle.fr_base.specs.declared.instruction.Instr.TheVariants as instr
 use Rattle.std.specs.Prelude.{pos}
@@ -21,6 +21,9 @@ use Rattle.path_law.proofs.Alike.{coherent_has_paths}
 use Rattle.path_law.proofs.FreshPaths.{written_are_fresh}
 use Rattle.path_law.proofs.MayWrites.{may_write_there}
 use Rattle.word_law.specs.Reworded.{HasPlaces, Reworded}
+use Rattle.heap_law.specs.Words.{IsStale}
+use Rattle.heap_law.specs.Sight.{sight}
+use Rattle.word_law.proofs.Alone.{written_are_sole}
 use Rattle.word_law.specs.Example.{tinted_cluster, main_hand, tinted_hand, WordsApply}
 use Rattle.word_law.specs.PutBack.{StandsHere, LeadsHome}
 use Rattle.word_law.proofs.Tints.{tint_rewords}
@@ -66,16 +69,16 @@ reworded =
     tint_rewords boxed_cluster 0 (boxed_main ∷ []) 2 main_hand tinted_hand 0 (value.Own (box (word_of 0 0 0) 0)) (record { word = word_of 0 0 0; object = object 0 }) here refl refl refl
     (places_of boxed_cluster sound_before) (places_of tinted_cluster sound_after) home (λ r e. absurd cc)
 
+fresh : IsStale (sight boxed_cluster) (Some (at_slot 0 0)) → ⊥
+fresh = written_are_fresh boxed_cluster paths main_stands (instr.Assign (place 0 1) (operand.Const (pos 2))) (place 0 1) 0 (at_slot 0 0) goes refl assigns (λ v e. absurd cc) (omega arith) refl
+
 pub words_apply : WordsApply
 words_apply = record {
   rewrites = record {
-    paths = paths;
-    thread = main_stands;
-    place = place 0 1;
-    goes = goes;
-    may = may_write_there boxed_cluster paths main_stands goes (instr.Assign (place 0 1) (operand.Const (pos 2))) (place 0 1) refl assigns;
-    hop = record { stars = 0; last = refl; pointer = refl; leads = refl };
-    fresh = written_are_fresh boxed_cluster paths main_stands (instr.Assign (place 0 1) (operand.Const (pos 2))) (place 0 1) 0 (at_slot 0 0) goes refl assigns (λ v e. absurd cc) (omega arith) refl;
+    before = places_of boxed_cluster sound_before;
+    sole = written_are_sole boxed_cluster paths main_stands (place 0 1) (at_slot 0 0) (object 0) goes
+        (may_write_there boxed_cluster paths main_stands goes (instr.Assign (place 0 1) (operand.Const (pos 2))) (place 0 1) refl assigns) (record { stars = 0; last = refl; pointer = refl; leads = refl }) fresh;
+    fresh = fresh;
     firsts = sound_before.words.first_at_holder;
     places = places_of tinted_cluster sound_after;
     reworded = reworded;

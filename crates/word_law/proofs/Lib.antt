@@ -4,6 +4,8 @@ pub mod Loose
 pub mod Follows
 pub mod Grounds
 pub mod Alone
+pub mod Takings
+pub mod Outlines
 pub mod Words
 pub mod Beside
 pub mod Put
@@ -11,9 +13,9 @@ pub mod Slots
 pub mod Tints
 pub mod Marks
 pub mod NewWord
+pub mod Cells
 pub mod TintWords
 pub mod Example
-pub mod Takings
 pub mod Unmoved
 pub mod Unseen
 pub mod Fetches

@@ -64,7 +64,7 @@ server_split r ts us e c d s =
     (split_right (things_at (waiting_things n) 0 r.inbox)
     (split_left (counts n (length r.partition.cells) r.partition.retired r.started r.mutexes.made e ∷ partition_things n r.partition ++ things_at (copy_things n) 0 r.cache ++ things_at (mutex_things n) 0 r.mutexes.there ++ things_at (task_things n) 0 r.tasks) s))
 
-servers_split : (n : ℕ) (ss : List Server) (x y : Server) (c d : List Thing) → IsSome (server_at ss n) → Split (server_things x) (server_things y) c d → Split (servers_things (with_server ss n x)) (servers_things (with_server ss n y)) c d
+pub servers_split : (n : ℕ) (ss : List Server) (x y : Server) (c d : List Thing) → IsSome (server_at ss n) → Split (server_things x) (server_things y) c d → Split (servers_things (with_server ss n x)) (servers_things (with_server ss n y)) c d
 servers_split n [] x y c d h s = absurd cc
 servers_split n (z ∷ ss) x y c d h s = by (z.rest.number == n) refl h (λ g. servers_split n ss x y c d g s)
   where

@@ -10,20 +10,18 @@ use Rattle.server_model.specs.Servers.{Cluster}
 use Rattle.server_model.specs.Places.{pointer_of, with_word}
 use Rattle.heap_law.specs.Names.{Among}
 use Rattle.heap_law.specs.Things.{Location, at_slot, borrows, things_of}
-use Rattle.heap_law.specs.Follow.{Standing, slot_of, value_in}
+use Rattle.heap_law.specs.Follow.{value_in}
 use Rattle.heap_law.specs.Sight.{pointers_in, taken_pointers, sight, issued}
 use Rattle.heap_law.specs.Words.{all_pointers, IsStale, LeadsTo}
 use Rattle.path_law.proofs.Sole.{some_is}
-use Rattle.path_law.proofs.Shown.{stands_there}
 use Rattle.path_law.proofs.Origins.{among_first}
-use Rattle.word_law.specs.Reworded.{HasPlaces}
 use Rattle.word_law.specs.WordsAfter.{Rewrites}
-use Rattle.word_law.specs.PutBack.{put_in, standing_of, LeadsHome, TintKeepsWords}
+use Rattle.word_law.specs.PutBack.{put_in, LeadsHome, TintKeepsWords}
 use Rattle.word_law.proofs.GoOn.{pointer_to}
 use Rattle.word_law.proofs.Standing.{pointer_at, told, slot_among}
 use Rattle.word_law.proofs.Words.{words_go_on}
 use Rattle.word_law.proofs.NewWord.{is_new, first_issued}
-use Rattle.word_law.proofs.Tints.{slot_put, tint_rewords}
+use Rattle.word_law.proofs.Tints.{slot_put, slot_stands, tint_rewords}
 
 -- a value that may get another word is its pointer
 pointer_is : (w : ℕ) (v new : Value) (p : BoxPtr) (l : Location) → with_word w v ≡ Some new → pointer_of v ≡ Some p → Among (pointer_to l p.word p.object) (pointer_at l v)
@@ -32,23 +30,17 @@ pointer_is w (value.Mut r) new p l e f = inl (ap (λ (q : BoxPtr). pointer_to l 
 pointer_is w _ new p l e f = absurd cc
 
 pub tint_keeps_words : TintKeepsWords
-tint_keeps_words k n ts e h h2 i v p w here at points put c d g may hop fresh issued_all firsts states_differ before r a there =
+tint_keeps_words k n ts e h h2 i v p here at points put c d sole fresh issued_all firsts states_differ before r a there =
     words_go_on kh (put_in k n ts e h2) l p.object (next_word p.word) rewrites before
   where
     kh : Cluster
     kh = put_in k n ts e h
 
-    x : Standing
-    x = standing_of n h
-
     l : Location
     l = at_slot h.thread.number i
 
-    places : HasPlaces kh
-    places = record { numbers_differ = c.numbers_differ; home_of_each = c.home_of_each; owner_of_each = c.owner_of_each }
-
     stands : value_in (sight kh).ground l ≡ Some v
-    stands = ap (λ o. slot_of o i) (stands_there kh c x g) ∙ at
+    stands = slot_stands k n ts e h i v here c at
 
     pointer : Among (pointer_to l p.word p.object) (all_pointers (sight kh))
     pointer =
@@ -72,4 +64,4 @@ tint_keeps_words k n ts e h h2 i v p w here at points put c d g may hop fresh is
         absurd cc
 
     rewrites : Rewrites kh (put_in k n ts e h2) l p.object (next_word p.word)
-    rewrites = record { paths = c; thread = x; place = w; goes = g; may = may; hop = hop; fresh = fresh; firsts = firsts; places = d; reworded = tint_rewords k n ts e h h2 i v p here at points put places d home new_word }
+    rewrites = record { before = c; sole = sole; fresh = fresh; firsts = firsts; places = d; reworded = tint_rewords k n ts e h h2 i v p here at points put c d home new_word }

@@ -28,7 +28,7 @@ use Rattle.path_law.proofs.Sole.{some_is}
 use Rattle.path_law.proofs.Origins.{threads_joined, among_first, among_second}
 use Rattle.path_law.proofs.Contained.{rest_none}
 use Rattle.word_law.specs.Reworded.{HasPlaces, is_loose, turn_of, Renewed, LiesThere, Reworded}
-use Rattle.word_law.specs.PutBack.{put_in, TintRewords}
+use Rattle.word_law.specs.PutBack.{put_in, StandsHere, TintRewords}
 use Rattle.word_law.proofs.Grounds.{renews}
 use Rattle.word_law.proofs.Put.{Split, put_split}
 use Rattle.word_law.proofs.Slots.{set_same, set_other, cells_joined, thread_replaced, turns_replaced, among_replaced, thread_cells, lying_in, fixed_old, fixed_new, loose_after, loose_before}
@@ -200,3 +200,17 @@ tint_rewords k n ts e h h2 i v p here at points put c d home firsts =
     subst (λ y. Split (things_of (put_in k n ts e h)) (things_of (put_in k n ts e h2)) (thread_things n false h.thread) (thread_things n false y)) q.thread split in
     slot_reworded (put_in k n ts e h) (put_in k n ts e h2) n i w h.thread v q.new at (renews w v q.new q.worded) there refl c d p.object (worded_changed w v q.new q.worded firsts) home.server home.address home.lying
     (λ r a y m f. next_leads r a p.word (home.leads r a y m f))
+
+-- what stands in a slot of the hand's thread stands there in the cluster
+pub slot_stands : (k : Cluster) (n : ℕ) (ts : List ThreadState) (e : ℕ) (h : Hand) (i : ℕ) (v : Value) → StandsHere k n ts h → HasPlaces (put_in k n ts e h) → slice_get h.thread.slots i ≡ Some v
+    → value_in (sight (put_in k n ts e h)).ground (at_slot h.thread.number i) ≡ Some v
+slot_stands k n ts e h i v here c at =
+    let x : Standing = record { server = n; packed = false; thread = h.thread } in
+    let kh = put_in k n ts e h in
+    let s : Split (things_of kh) (things_of kh) (thread_things n false h.thread) (thread_things n false h.thread) = put_split k n ts e h h here refl refl in
+    let one : threads_in (thread_things n false h.thread) ≡ x ∷ [] = ap (λ q. x ∷ q) (rest_none n h.thread) in
+    let all : threads_in (things_of kh) ≡ threads_in s.left ++ (x ∷ threads_in s.right) =
+    ap threads_in s.before ∙ threads_joined (s.left ++ thread_things n false h.thread) s.right ∙ ap (λ q. q ++ threads_in s.right) (threads_joined s.left (thread_things n false h.thread))
+    ∙ ap (λ q. threads_in s.left ++ q ++ threads_in s.right) one ∙ append_assoc (threads_in s.left) (x ∷ []) (threads_in s.right) in
+    let there : thread_at (threads_in (things_of kh)) h.thread.number ≡ Some x = found x (things_of kh) (c.numbers_differ h.thread.number) (subst (λ q. Among x q) (sym all) (among_replaced (threads_in s.left) (threads_in s.right) x)) in
+    ap (λ o. slot_of o i) there ∙ at

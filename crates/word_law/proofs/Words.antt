@@ -3,10 +3,7 @@ use Rattle.std.proofs.Common.{◌≡◌, ◌⊎◌, inl, inr, ⊎_elim, ℕ, ◌
 use Rattle.fr_base.specs.declared.name.ObjNo.{ObjNo}
 use Rattle.fr_base.specs.declared.instruction.Instr.{Instr}
 use Rattle.fr_base.specs.declared.instruction.Instr.TheVariants as instr
-use Rattle.fr_base.specs.declared.place.Lval.{Lval}
 use Rattle.heap_partition.specs.declared.value.Owned.TheVariants as owned
-use Rattle.fr_store.specs.Keys.{slot_k}
-use Rattle.fr_store.specs.Typed.{Resolves}
 use Rattle.mut_borrow.specs.declared.mutable.MutRef.{MutRef}
 use Rattle.thread_state.specs.declared.phase.Phase.{Phase}
 use Rattle.thread_state.specs.declared.phase.Phase.TheVariants as phase
@@ -17,7 +14,7 @@ use Rattle.std.specs.Prelude.{slice_get}
 use Rattle.heap_law.specs.Names.{Among, same_object}
 use Rattle.heap_law.specs.Things.{Location, in_cell, things_of}
 use Rattle.heap_law.specs.Follow.{Standing, Ground, value_in, value_behind, leads, locate}
-use Rattle.heap_law.specs.Stale.{Reference, references, holder_of, is_held_at, changed_above, stale_above}
+use Rattle.heap_law.specs.Stale.{references, holder_of, changed_above, stale_above}
 use Rattle.heap_law.specs.Sight.{Pointer, pointers_in, taken_object, taken_of, taken_pointers, sight}
 use Rattle.heap_law.specs.Placing.{is_first, other_first}
 use Rattle.heap_law.specs.Coherent.{Holds, first_at_holder}
@@ -25,19 +22,18 @@ use Rattle.heap_law.specs.Words.{all_pointers, IsStale}
 use Rattle.heap_law.proofs.Bags.{among_split}
 use Rattle.heap_law.proofs.Words.{none_at, named}
 use Rattle.heap_law.proofs.Names.{and_right}
-use Rattle.path_law.specs.HeapStore.{GoesOn, HasPaths}
-use Rattle.path_law.specs.Pointing.{Above, made_from, made_below, MayWrite, LastHop}
+use Rattle.path_law.specs.Pointing.{Above, made_from, made_below}
 use Rattle.path_law.proofs.Sole.{some_is}
 use Rattle.path_law.proofs.Shown.{none_else}
 use Rattle.path_law.proofs.Origins.{among_first, among_second}
 use Rattle.path_law.proofs.Contained.{reference_there, held_there}
-use Rattle.path_law.proofs.Pointers.{sole_pointers}
-use Rattle.path_law.proofs.FreshPaths.{Followed, none_made}
 use Rattle.word_law.specs.Reworded.{HasPlaces, Renewed, a_box, a_reference, Reworded}
-use Rattle.word_law.specs.WordsAfter.{Rewrites, WordsGoOn}
+use Rattle.word_law.specs.Soles.{IsSole}
+use Rattle.word_law.specs.WordsAfter.{Rewrites, WordsGoOn, FreshGoOn}
 use Rattle.word_law.proofs.GoOn.{pointer_to, StoodElsewhere, Change, go_on}
 use Rattle.word_law.proofs.Standing.{pointer_at, told, tells}
-use Rattle.word_law.proofs.Alone.{alone}
+use Rattle.word_law.proofs.Alone.{above_holds}
+use Rattle.word_law.proofs.Outlines.{sole_stays, reworded_outlines, lies_alone}
 use Rattle.word_law.proofs.Loose.{unplaced, remains}
 use Rattle.word_law.proofs.Grounds.{same_place, reference_now, holders_same, taken_all, now, still_stale, newly_stale}
 
@@ -119,32 +115,9 @@ module _ (k : Cluster) (firsts : Holds k first_at_holder) where
   above_leads t l m o (made_from q e held) f = made_object t l m q e held ∙ sym (ap (leads t) e) ∙ f
   above_leads t l m o (made_below {h = j} q e held rest) f = above_leads t l j o rest (made_object t j m q e held ∙ sym (ap (leads t) e) ∙ f)
 
--- a reference was made from what stands above another one
-above_holds : (k : Cluster) (l m : Location) → Above (sight k).ground l m → (r : Reference) × Among r (references (sight k).ground (things_of k)) × (is_held_at l r.holder ≡ true)
-above_holds k l m (made_from q e held) = (record { at = m; holder = holder_of (sight k).ground m q.holder; reference = q }, reference_there k m q e, held_there k l (holder_of (sight k).ground m q.holder) held)
-above_holds k l m (made_below {h = j} q e held rest) = above_holds k l j rest
-
 module _ (k z : Cluster) (h : Location) (o : ObjNo) (w : ℕ) (all : Rewrites k z h o w) where
-  abbrev c : HasPaths k
-  c = all.paths
-
   abbrev d : HasPlaces z
   d = all.places
-
-  abbrev x : Standing
-  x = all.thread
-
-  abbrev v : Lval
-  v = all.place
-
-  abbrev g : GoesOn k all.thread
-  g = all.goes
-
-  abbrev may : MayWrite k all.paths.types all.thread all.place
-  may = all.may
-
-  abbrev hop : LastHop (sight k).ground all.thread.thread.number all.place h o
-  hop = all.hop
 
   abbrev r : Reworded k z h o w
   r = all.reworded
@@ -156,13 +129,13 @@ module _ (k z : Cluster) (h : Location) (o : ObjNo) (w : ℕ) (all : Rewrites k 
   gz = (sight z).ground
 
   abbrev n : ℕ
-  n = x.thread.number
+  n = 0
 
   pub places : HasPlaces k
-  places = record { numbers_differ = c.numbers_differ; home_of_each = c.home_of_each; owner_of_each = c.owner_of_each }
+  places = all.before
 
   points : leads n (Some r.old) ≡ Some (in_cell o)
-  points = sym (ap (leads n) r.stood) ∙ sym (ap (λ m. leads n (value_behind gk m)) hop.pointer) ∙ sym (ap (locate gk n v.slot) hop.last) ∙ hop.leads
+  points = sym (ap (leads n) r.stood) ∙ all.sole.to n
 
   pointer_now : pointer_at h r.new ≡ pointer_to h w o ∷ []
   pointer_now = renewed_pointer n w h r.old r.new o r.renewed points
@@ -235,21 +208,11 @@ module _ (k z : Cluster) (h : Location) (o : ObjNo) (w : ℕ) (all : Rewrites k 
 
   -- NO REFERENCE WAS MADE FROM IT
 
-  pub followed : Followed k c x h
-  followed = record {
-    goes = g;
-    slot = v.slot;
-    stars = hop.stars;
-    free = may.free;
-    base = may.base;
-    boxes = may.boxes;
-    type = may.type;
-    resolves = subst (λ y. Resolves c.types.typing.exact true (slot_k n v.slot) y may.base may.boxes may.type) hop.last may.resolves;
-    located = hop.pointer;
-  }
-
   not_above_itself : Above gk h h → ⊥
-  not_above_itself a = let y = above_holds k h h a in none_made k c x h y.0 followed y.1 y.2
+  not_above_itself a = let y = above_holds k h h a in all.sole.unmade y.0 y.1 y.2
+
+  sole_after : IsSole z h o
+  sole_after = sole_stays k z places d (reworded_outlines k z h o w r) h o all.sole
 
   pub sole : (p : Pointer) → Among p (all_pointers (sight z)) → p.object ≡ o → (p.at ≡ Some h) ⊎ ((l : Location) × (p.at ≡ Some l) × Above gk l h)
   sole p m e = by p.at refl
@@ -264,9 +227,9 @@ module _ (k z : Cluster) (h : Location) (o : ObjNo) (w : ℕ) (all : Rewrites k 
           (among_split p (pointers_in (things_of k)) (taken_pointers (sight k).code gk gk.threads) q)
 
       by : (a : Option Location) → p.at ≡ a → (p.at ≡ Some h) ⊎ ((l : Location) × (p.at ≡ Some l) × Above gk l h)
-      by None f = absurd (alone k z c d x v h o w g may hop all.fresh r not_above_itself p m e f)
+      by None f = absurd (lies_alone z h o r.server r.address d sole_after r.lying p m e f)
       by (Some l) f =
-          ⊎_elim (λ (q : p ≡ pointer_to h w o). inl (ap (λ (y : Pointer). y.at) q)) (λ (q : StoodElsewhere (sight k) h p). above l f (sole_pointers.above k c x v h o g may hop p l (among l f q.among) e f)) (stood p m)
+          ⊎_elim (λ (q : p ≡ pointer_to h w o). inl (ap (λ (y : Pointer). y.at) q)) (λ (q : StoodElsewhere (sight k) h p). above l f (all.sole.above p l (among l f q.among) e f)) (stood p m)
 
   -- WHAT STANDS ABOVE IT IS STALE
 
@@ -318,5 +281,12 @@ module _ (k z : Cluster) (h : Location) (o : ObjNo) (w : ℕ) (all : Rewrites k 
     fresh = fresh_now;
   }
 
+  -- another pointer from which none was made stays fresh
+  pub fresh_stays : (l : Location) (p : ObjNo) → IsSole k l p → (IsStale (sight k) (Some l) → ⊥) → IsStale (sight z) (Some l) → ⊥
+  fresh_stays l p u f s = ⊎_elim f (λ (a : Above gk l h). let y = above_holds k l h a in u.unmade y.0 y.1 y.2) (newly_stale k z h o w r places d l s)
+
 pub words_go_on : WordsGoOn
 words_go_on k z h o w r before = go_on (sight k) (sight z) h o w (change k z h o w r) before
+
+pub fresh_go_on : FreshGoOn
+fresh_go_on k z h o w r l p u f s = fresh_stays k z h o w r l p u f s

@@ -1,31 +1,29 @@
 -- A SMALL STEP OF AN EVENT gives a pointer another word: the cluster with the thread put back where it stood, before the step and after it (this project's
 -- rule).
-use Rattle.fr_base.specs.declared.place.Lval.{Lval}
-use Rattle.std.specs.Prelude.{false, ◌≡◌, ◌≢◌, ℕ, List, Some, IsSome, slice_get}
+use Rattle.std.specs.Prelude.{◌≡◌, ◌≢◌, ℕ, List, Option, Some, None, IsSome, option_map, slice_get}
 use Rattle.global_addr.specs.Words.{next_word}
 use Rattle.heap_partition.specs.declared.value.BoxPtr.{BoxPtr}
 use Rattle.heap_partition.specs.declared.value.Cell.{Cell}
+use Rattle.heap_partition.specs.declared.value.Owned.TheVariants as owned
 use Rattle.mut_borrow.specs.declared.mutable.MutRef.{MutRef}
 use Rattle.thread_state.specs.View.{ThreadState}
 use Rattle.thread_state.specs.declared.value.Value.{Value}
 use Rattle.thread_state.specs.declared.value.Value.TheVariants as value
 use Rattle.server_model.specs.Servers.{Cluster, server_at}
-use Rattle.server_model.specs.Work.{Hand, thread_in, set_thread}
+use Rattle.server_model.specs.Work.{Hand, look, thread_in, set_thread}
 use Rattle.server_model.specs.Clusters.{with_server}
-use Rattle.server_model.specs.NewWords.{issue_tint}
-use Rattle.server_model.specs.Places.{in_slot, note_write, pointer_of, put_word}
+use Rattle.server_model.specs.NewWords.{NewWord, issue_tint}
+use Rattle.server_model.specs.Places.{in_slot, in_cell, note_write, pointer_of, set_pointer, put_word}
 use Rattle.server_model.specs.Prepare.{box_of}
 use Rattle.heap_law.specs.Names.{Among}
-use Rattle.heap_law.specs.Things.{at_slot, lies, things_of}
+use Rattle.heap_law.specs.Things.{at_slot, in_cell as heap_cell, lies, things_of}
 use Rattle.heap_law.specs.Words.{IsStale, HasWords, LeadsTo}
 use Rattle.heap_law.specs.Balances.{AtMostOne}
 use Rattle.heap_law.specs.Weights.{states}
-use Rattle.heap_law.specs.Follow.{Standing}
 use Rattle.heap_law.specs.Sight.{sight}
 use Rattle.heap_law.specs.Coherent.{Holds, are_issued, first_at_holder}
-use Rattle.path_law.specs.HeapStore.{GoesOn, HasPaths}
-use Rattle.path_law.specs.Pointing.{MayWrite, LastHop}
 use Rattle.word_law.specs.Reworded.{HasPlaces, LiesThere, Reworded}
+use Rattle.word_law.specs.Soles.{IsSole}
 use Rattle.word_law.specs.WordsAfter.{WordsAfter}
 
 -- the cluster with a hand's thread among those of its server, which has done so many events
@@ -57,29 +55,46 @@ TintRewords = (k : Cluster) (n : ℕ) (ts : List ThreadState) (e : ℕ) (h h2 : 
     → ((r : MutRef) → v ≡ value.Mut r → next_word p.word ≢ r.first)
     → Reworded (put_in k n ts e h) (put_in k n ts e h2) (at_slot h.thread.number i) p.object (next_word p.word)
 
--- the thread of a hand, at its server
-abbrev pub standing_of : ℕ → Hand → Standing
-standing_of n h = record { server = n; packed = false; thread = h.thread }
-
--- so where the thread may write the place whose last star follows that pointer, which isn't stale, and the object lies, each object has a word
--- afterwards: that of the object is the next colour. What is asked beside `HasPaths`: each address has one state, words that stand anywhere were
--- issued, and references know their holders' words
+-- so where that pointer is the one through which its object is written, and isn't stale, and the object lies, each object has a word afterwards: that of the
+-- object is the next colour. What is asked beside it: each address has one state, words that stand anywhere were issued, and references know their holders' words
 abbrev pub TintKeepsWords : Type 0
-TintKeepsWords = (k : Cluster) (n : ℕ) (ts : List ThreadState) (e : ℕ) (h h2 : Hand) (i : ℕ) (v : Value) (p : BoxPtr) (w : Lval) → StandsHere k n ts h
+TintKeepsWords = (k : Cluster) (n : ℕ) (ts : List ThreadState) (e : ℕ) (h h2 : Hand) (i : ℕ) (v : Value) (p : BoxPtr) → StandsHere k n ts h
     → slice_get h.thread.slots i ≡ Some v
     → pointer_of v ≡ Some p
     → put_word (in_slot i) (issue_tint p h.work) h ≡ Some h2
-    → (c : HasPaths (put_in k n ts e h))
+    → HasPlaces (put_in k n ts e h)
     → HasPlaces (put_in k n ts e h2)
-    → GoesOn (put_in k n ts e h) (standing_of n h)
-    → MayWrite (put_in k n ts e h) c.types (standing_of n h) w
-    → LastHop (sight (put_in k n ts e h)).ground h.thread.number w (at_slot h.thread.number i) p.object
+    → IsSole (put_in k n ts e h) (at_slot h.thread.number i) p.object
     → (IsStale (sight (put_in k n ts e h)) (Some (at_slot h.thread.number i)) → ⊥)
     → Holds (put_in k n ts e h) are_issued
     → Holds (put_in k n ts e h) first_at_holder
     → AtMostOne states (things_of (put_in k n ts e h))
     → (before : HasWords (sight (put_in k n ts e h))) (r a : ℕ) → LiesThere (put_in k n ts e h) r a p.object
     → WordsAfter (sight (put_in k n ts e h)) (sight (put_in k n ts e h2)) p.object (next_word p.word) before
+
+-- A WORD IN A CELL: the box in a cell that lies here gets another word. `put_word` also marks the mutable reference in a slot that led straight to the cell, which
+-- is a mark as below
+pub record CellsReword : Type 0 where
+  -- whatever word is put, where the object lies where it leads
+  pub put : (k : Cluster) (n : ℕ) (ts : List ThreadState) (e : ℕ) (h h2 : Hand) (at v : ℕ) (c : Cell) (p : BoxPtr) → StandsHere k n ts h
+      → look h.work.rest.partition at ≡ Some c
+      → c.value ≡ owned.Box p
+      → set_pointer (in_cell at None) v h ≡ Some h2
+      → HasPlaces (put_in k n ts e h)
+      → HasPlaces (put_in k n ts e h2)
+      → LeadsHome (put_in k n ts e h) (record p { word = v })
+      → Reworded (put_in k n ts e h) (put_in k n ts e h2) (heap_cell c.object) p.object v
+  -- so is a tint
+  pub tint : (k : Cluster) (n : ℕ) (ts : List ThreadState) (e : ℕ) (h h2 : Hand) (at : ℕ) (c : Cell) (p : BoxPtr) → StandsHere k n ts h
+      → look h.work.rest.partition at ≡ Some c
+      → c.value ≡ owned.Box p
+      → put_word (in_cell at None) (issue_tint p h.work) h ≡ Some h2
+      → HasPlaces (put_in k n ts e h)
+      → HasPlaces (put_in k n ts e h2)
+      → LeadsHome (put_in k n ts e h) p
+      → Reworded (put_in k n ts e h) (put_in k n ts e h2) (heap_cell c.object) p.object (next_word p.word)
+  -- with a reference that led there it is that and then the mark
+  pub in_two : (at : ℕ) (through : Option ℕ) (v : NewWord) (h : Hand) → put_word (in_cell at through) v h ≡ option_map (note_write through) (put_word (in_cell at None) v h)
 
 -- MARK: what a mutable reference in a slot leads to is written, which is noted on the reference. Its word stays
 abbrev pub MarkRewords : Type 0

@@ -1,17 +1,14 @@
 -- THE WORDS OF OBJECTS GO ON where one of them changes (this project's rules).
 use Rattle.std.specs.Prelude.{◌≡◌, ℕ, Some}
 use Rattle.fr_base.specs.declared.name.ObjNo.{ObjNo}
-use Rattle.fr_base.specs.declared.place.Lval.{Lval}
 use Rattle.server_model.specs.Servers.{Cluster}
 use Rattle.heap_law.specs.Things.{Location}
-use Rattle.heap_law.specs.Follow.{Standing}
 use Rattle.heap_law.specs.Sight.{Sight, sight}
 use Rattle.heap_law.specs.Coherent.{Holds, first_at_holder}
 use Rattle.heap_law.specs.Dirty.{DirtyAlone}
 use Rattle.heap_law.specs.Words.{IsStale, HasWords}
-use Rattle.path_law.specs.HeapStore.{GoesOn, HasPaths}
-use Rattle.path_law.specs.Pointing.{MayWrite, LastHop}
 use Rattle.word_law.specs.Reworded.{HasPlaces, Reworded}
+use Rattle.word_law.specs.Soles.{IsSole}
 
 -- the words afterwards: that of the object is the new one, and each other one is what it was
 pub record WordsAfter (s z : Sight) (o : ObjNo) (w : ℕ) (before : HasWords s) : Type 0 where
@@ -19,14 +16,10 @@ pub record WordsAfter (s z : Sight) (o : ObjNo) (w : ℕ) (before : HasWords s) 
   pub new : after.word o ≡ w
   pub others : (p : ObjNo) → (p ≡ o → ⊥) → after.word p ≡ before.word p
 
--- a thread may write the place whose last star follows the pointer at h to the object, this pointer isn't stale, and it gets another word
+-- the pointer at h is the one through which its object is written, it isn't stale, and it gets another word
 pub record Rewrites (k z : Cluster) (h : Location) (o : ObjNo) (w : ℕ) : Type 0 where
-  pub paths : HasPaths k
-  pub thread : Standing
-  pub place : Lval
-  pub goes : GoesOn k thread
-  pub may : MayWrite k paths.types thread place
-  pub hop : LastHop (sight k).ground thread.thread.number place h o
+  pub before : HasPlaces k
+  pub sole : IsSole k h o
   pub fresh : IsStale (sight k) (Some h) → ⊥
   -- each reference knows the word at its holder
   pub firsts : Holds k first_at_holder
@@ -44,3 +37,7 @@ HoldersGoOn = (k z : Cluster) (h : Location) (o : ObjNo) (w : ℕ) → Rewrites 
 -- and dirty references are alone
 abbrev pub DirtyGoOn : Type 0
 DirtyGoOn = (k z : Cluster) (h : Location) (o : ObjNo) (w : ℕ) → Rewrites k z h o w → DirtyAlone (sight k) → DirtyAlone (sight z)
+
+-- a pointer from which no reference was made, and that isn't stale, isn't stale afterwards
+abbrev pub FreshGoOn : Type 0
+FreshGoOn = (k z : Cluster) (h : Location) (o : ObjNo) (w : ℕ) → Rewrites k z h o w → (l : Location) (p : ObjNo) → IsSole k l p → (IsStale (sight k) (Some l) → ⊥) → IsStale (sight z) (Some l) → ⊥

@@ -1,17 +1,26 @@
 //! Laws of words.
 
 ghost use Rattle.word_law.specs.Example.{WordsApply};
-ghost use Rattle.word_law.specs.PutBack.{MarkRewords, TintKeepsWords, TintRewords};
+ghost use Rattle.word_law.specs.PutBack.{CellsReword, MarkRewords, TintKeepsWords, TintRewords};
+ghost use Rattle.word_law.specs.Soles.{SolesStay, WrittenAreSole};
 ghost use Rattle.word_law.specs.Unmoved.{EvictionsUnmoved, FetchesUnmoved, UnmovedStays};
-ghost use Rattle.word_law.specs.WordsAfter.{DirtyGoOn, HoldersGoOn, WordsGoOn};
+ghost use Rattle.word_law.specs.WordsAfter.{DirtyGoOn, FreshGoOn, HoldersGoOn, WordsGoOn};
 
-/// Where the pointer that a thread may write through gets another word of its object, and the object lies where that leads, each object has a word as before:
+/// A pointer that a thread may write through, and that isn't stale, is the one through which its object is written: each other pointer to the object stands above
+/// it, and no reference was made from it. That sees no words, marks and pins, and no types, so it stays from one small step of an event to the next.
+pub fn soles_stay()
+    ensures written { WrittenAreSole }
+    ensures steps { SolesStay }
+{}
+
+/// Where the pointer through which an object is written gets another word, and the object lies where that leads, each object has a word as before:
 /// whoever else points to the object stands above that pointer, and is stale. References know the words at their holders as before, and dirty references
-/// are alone. In one coherent cluster all that is asked is there.
+/// are alone; other pointers through which objects are written don't become stale. In one coherent cluster all that is asked is there.
 pub fn words_go_on()
     ensures words { WordsGoOn }
     ensures holders { HoldersGoOn }
     ensures dirty { DirtyGoOn }
+    ensures fresh { FreshGoOn }
     ensures applies { WordsApply }
 {}
 
@@ -21,6 +30,7 @@ pub fn words_go_on()
 pub fn small_steps_reword()
     ensures tints { TintRewords }
     ensures words { TintKeepsWords }
+    ensures cells { CellsReword }
     ensures marks { MarkRewords }
 {}
 

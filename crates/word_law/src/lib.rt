@@ -3,4 +3,4 @@
 
 mod laws;
 
-pub use laws::{small_steps_reword, words_go_on, words_stay};
+pub use laws::{small_steps_reword, soles_stay, words_go_on, words_stay};

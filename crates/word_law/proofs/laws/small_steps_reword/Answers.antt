@@ -1,5 +1,6 @@
 use Rattle.word_law.proofs.laws.small_steps_reword.Goals as goal
 use Rattle.word_law.proofs.Tints.{tint_rewords}
+use Rattle.word_law.proofs.Cells.{cells_reword}
 use Rattle.word_law.proofs.Marks.{mark_rewords}
 use Rattle.word_law.proofs.TintWords.{tint_keeps_words}
 
@@ -11,3 +12,6 @@ returns-clause-words c = tint_keeps_words
 
 pub returns-clause-marks : goal.returns-clause-marks
 returns-clause-marks c = mark_rewords
+
+pub returns-clause-cells : goal.returns-clause-cells
+returns-clause-cells c = cells_reword

@@ -1,5 +1,5 @@
 use Rattle.word_law.proofs.laws.words_go_on.Goals as goal
-use Rattle.word_law.proofs.Words.{words_go_on}
+use Rattle.word_law.proofs.Words.{words_go_on, fresh_go_on}
 use Rattle.word_law.proofs.Beside.{holders_go_on, dirty_goes_on}
 use Rattle.word_law.proofs.Example.{words_apply}
 
@@ -14,3 +14,6 @@ returns-clause-dirty c = dirty_goes_on
 
 pub returns-clause-applies : goal.returns-clause-applies
 returns-clause-applies c = words_apply
+
+pub returns-clause-fresh : goal.returns-clause-fresh
+returns-clause-fresh c = fresh_go_on

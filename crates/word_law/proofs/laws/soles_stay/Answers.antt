@@ -1,0 +1,9 @@
+use Rattle.word_law.proofs.laws.soles_stay.Goals as goal
+use Rattle.word_law.proofs.Alone.{written_are_sole}
+use Rattle.word_law.proofs.Outlines.{soles_stay}
+
+pub returns-clause-written : goal.returns-clause-written
+returns-clause-written c = written_are_sole
+
+pub returns-clause-steps : goal.returns-clause-steps
+returns-clause-steps c = soles_stay
