@@ -3,8 +3,6 @@
 
 mod events;
 mod loads;
-#[cfg(test)]
-mod tests;
 
 pub use events::{Choice, next};
 pub use loads::{Load, balance};

@@ -12,13 +12,7 @@ mod replay;
 mod report;
 mod run;
 #[cfg(test)]
-mod sharing_cases;
-#[cfg(test)]
 mod tests;
-#[cfg(test)]
-mod thread_cases;
-#[cfg(test)]
-mod thread_typing_tests;
 mod top;
 mod words;
 

@@ -2,7 +2,7 @@
 
 ghost use Rattle.std.specs.Prelude.{◌<◌};
 
-use super::*;
+use controller::{Choice, Load, balance, next};
 use fr_base::{Code, Instr, MutexNo, Operand, Options, ThreadNo};
 use server_core::Server;
 use server_model::What;
