@@ -13,6 +13,7 @@ use Rattle.fr_typing.specs.Rules.{let_rule}
 use Rattle.fr_typing.proofs.FindingLemmas.{find_by, misses_by}
 use Rattle.fr_syntax.specs.Arena.{Arena}
 use Rattle.fr_syntax.specs.Meanings.{meanings, meaning_at, captures_at, capture_s, all_need, nodes_in}
+use Rattle.fr_types.specs.Bounds.{most_slots}
 use Rattle.fr_types.specs.declared.types.Ty.{Ty}
 use Rattle.fr_types.specs.Types.{kind_of}
 use Rattle.fr_types.specs.States.{Held, env_of}
@@ -166,7 +167,7 @@ capturing_step by a id ids rest vs0 ns0 vs ns vs1 ns1 us0 us us1 u h node goes u
         (subst (λ n1. AreWritten us final ((meaning_at (meanings a) id).nodes ++ nodes_in (meanings a) (all_need capture_s rest)) (Some u ∷ capture_usages by (env_of a.names vs1) n1 (captures_at (meanings a) rest))) (sym new) both))
 
 -- so few slots are there before a name
-pub capturing_room : (by : Capturer) (a : Arena) (id : ℕ) (ids rest : List ℕ) (vs0 ns0 vs ns : List Held) (us0 us : List Usage) → IsCapturing by a ids (id ∷ rest) vs0 ns0 vs ns us0 us → (meaning_at (meanings a) id).nodes ≡ id ∷ [] → length ns0 + length (nodes_in (meanings a) (all_need capture_s ids)) ≤ 268435456 → length ns < 268435456
+pub capturing_room : (by : Capturer) (a : Arena) (id : ℕ) (ids rest : List ℕ) (vs0 ns0 vs ns : List Held) (us0 us : List Usage) → IsCapturing by a ids (id ∷ rest) vs0 ns0 vs ns us0 us → (meaning_at (meanings a) id).nodes ≡ id ∷ [] → length ns0 + length (nodes_in (meanings a) (all_need capture_s ids)) ≤ most_slots → length ns < most_slots
 capturing_room by a id ids rest vs0 ns0 vs ns us0 us h node few =
     let all : length ns + length ((meaning_at (meanings a) id).nodes ++ nodes_in (meanings a) (all_need capture_s rest)) ≡ length ns0 + length (nodes_in (meanings a) (all_need capture_s ids)) = h.few in
     let first : length ((meaning_at (meanings a) id).nodes ++ nodes_in (meanings a) (all_need capture_s rest)) ≡ suc (length (nodes_in (meanings a) (all_need capture_s rest))) = ap (λ (l : List ℕ). length (l ++ nodes_in (meanings a) (all_need capture_s rest))) node in

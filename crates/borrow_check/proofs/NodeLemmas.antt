@@ -10,6 +10,7 @@ use Rattle.fr_syntax.specs.Ordered.{IsArena}
 use Rattle.fr_syntax.specs.Meanings.{Meaning, meaning_at, Need, needs, nodes_in, meanings, AreBelow, AllBelow, AreDifferent}
 use Rattle.fr_syntax.proofs.TreeLemmas.{node_here, length_meanings}
 use Rattle.fr_typing.proofs.PlaceLemmas.{eq_cases}
+use Rattle.fr_types.specs.Bounds.{most_slots}
 use Rattle.borrow_check.proofs.UsageLemmas.{below-append, IsOut}
 use Rattle.borrow_check.proofs.TermLemmas.{IsHere}
 
@@ -98,8 +99,8 @@ at_most (suc n) (j ∷ js) d b =
     omega (arith, r, s)
 
 -- the slots that a term leaves have so many nodes
-pub nodes_few : (a : Arena) (at : ℕ) → IsArena a → at < length (meanings a) → AreDifferent (meaning_at (meanings a) at).nodes → length (meaning_at (meanings a) at).nodes ≤ 268435456
+pub nodes_few : (a : Arena) (at : ℕ) → IsArena a → at < length (meanings a) → AreDifferent (meaning_at (meanings a) at).nodes → length (meaning_at (meanings a) at).nodes ≤ most_slots
 nodes_few a at h lt own =
-    let few : length a.nodes ≤ 268435456 = h.few in
+    let few : length a.nodes ≤ most_slots = h.few in
     let count = at_most (at + 1) (meaning_at (meanings a) at).nodes own (nodes_below a h (at + 1) at (omega arith) lt) in
     omega (arith, count, lt, length_meanings a)

@@ -12,6 +12,7 @@ use Rattle.fr_syntax.specs.Arena.{Arena}
 use Rattle.fr_syntax.specs.Ordered.{IsArena}
 use Rattle.fr_syntax.specs.Meanings.{meanings, meaning_at, term_at, root_of, term_of}
 use Rattle.fr_syntax.proofs.TreeLemmas.{length_meanings}
+use Rattle.fr_types.specs.Bounds.{most_slots}
 use Rattle.borrow_check.specs.declared.check_error.CheckError.{CheckError}
 use Rattle.borrow_check.specs.declared.check_error.CheckError.TheVariants.{Fault, NoMemory}
 use Rattle.borrow_check.specs.declared.usage.Usage.{Usage}
@@ -23,11 +24,11 @@ use Rattle.borrow_check.proofs.NodeLemmas.{nodes_few}
 use Rattle.borrow_check.proofs.UsageLemmas.{used_of_written, written_long}
 
 -- the slots of a term that starts without any are few
-pub few_at_root : (a : Arena) (at : ℕ) (vs : List Held) → IsArena a → IsCheckable a → at ≡ root_of a → vs ≡ [] → length vs + length (meaning_at (meanings a) at).nodes ≤ 268435456
+pub few_at_root : (a : Arena) (at : ℕ) (vs : List Held) → IsArena a → IsCheckable a → at ≡ root_of a → vs ≡ [] → length vs + length (meaning_at (meanings a) at).nodes ≤ most_slots
 few_at_root a at vs arena checkable root none =
     let here : root_of a < length (meanings a) = omega (arith, checkable.tree.some, length_meanings a) in
     let few = nodes_few a (root_of a) arena here checkable.tree.own in
-    subst (λ n. length vs + length (meaning_at (meanings a) n).nodes ≤ 268435456) (sym root)
+    subst (λ n. length vs + length (meaning_at (meanings a) n).nodes ≤ most_slots) (sym root)
     (omega (arith, few, ap length none))
 
 -- a typed term has a type by the rules

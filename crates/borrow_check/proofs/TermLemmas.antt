@@ -11,6 +11,7 @@ use Rattle.fr_typing.specs.Typing.{typing, typing_items}
 use Rattle.fr_syntax.specs.declared.tree.Node.{Node}
 use Rattle.fr_syntax.specs.Arena.{Arena}
 use Rattle.fr_syntax.specs.Meanings.{a_term, term_s, place_s, as_term, meaning_at, term_at, items_at, stands_for, need, all_need, needs, nodes_in, meanings, AreBelow, AreDifferent}
+use Rattle.fr_types.specs.Bounds.{most_slots}
 use Rattle.borrow_check.specs.declared.check_error.CheckError.{CheckError}
 use Rattle.borrow_check.specs.declared.check_error.CheckError.TheVariants.{Fault, NoMemory}
 use Rattle.fr_types.specs.declared.types.Ty.{Ty}
@@ -223,7 +224,7 @@ along_step a bound place id ids rest vs0 vs new us0 us next k l last start h typ
 }
 
 -- so few slots are there before an item
-pub along_few : (a : Arena) (bound place id : ℕ) (ids rest : List ℕ) (vs0 vs : List Held) (us0 us : List Usage) (k : Kind) (last : ℕ) → IsAlong a bound place ids (id ∷ rest) vs0 vs us0 us k last → length vs0 + length (nodes_in (meanings a) (all_need term_s ids)) ≤ 268435456 → length vs + length (meaning_at (meanings a) id).nodes ≤ 268435456
+pub along_few : (a : Arena) (bound place id : ℕ) (ids rest : List ℕ) (vs0 vs : List Held) (us0 us : List Usage) (k : Kind) (last : ℕ) → IsAlong a bound place ids (id ∷ rest) vs0 vs us0 us k last → length vs0 + length (nodes_in (meanings a) (all_need term_s ids)) ≤ most_slots → length vs + length (meaning_at (meanings a) id).nodes ≤ most_slots
 along_few a bound place id ids rest vs0 vs us0 us k last h few =
     let more : length vs + length ((meaning_at (meanings a) id).nodes ++ nodes_in (meanings a) (all_need term_s rest)) ≤ length vs0 + length (nodes_in (meanings a) (all_need term_s ids)) = h.few in
     omega (arith, more, few, length-append (meaning_at (meanings a) id).nodes (nodes_in (meanings a) (all_need term_s rest)))

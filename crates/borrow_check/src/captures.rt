@@ -8,6 +8,7 @@ ghost use Rattle.fr_typing.specs.Kinds.{map_some, view, whole};
 ghost use Rattle.fr_typing.specs.Checks.{is_owned};
 ghost use Rattle.fr_typing.specs.Captures.{by_par, captured_kind, capture, capture_all, capture_both, env_left_by_all, env_of_all};
 ghost use Rattle.fr_syntax.specs.Meanings.{meanings, meaning_at, captures_at, sort_of, capture_s, all_need, nodes_in};
+ghost use Rattle.fr_types.specs.Bounds.{most_slots};
 ghost use Rattle.fr_types.specs.Types.{kind_of, piece_of};
 ghost use Rattle.fr_types.specs.States.{slot_in, env_of, AreNested};
 ghost use Rattle.borrow_check.specs.Rules.{IsInScope, Passes};
@@ -151,7 +152,7 @@ fn capture(
     new: &mut Env,
     captured: Name,
 ) -> Result<Usage, CheckError>
-    requires few { length new.old < 268435456 }
+    requires few { length new.old < most_slots }
     ensures goes_on { (names : List Text) → IsInScope names env.old → IsInScope names new.old → captured.name < length names → GoesOn result (capture (capturer_of by) (env_of names env.old) (env_of names new.old) (captured_of names captured)) (env_of names env.new) (env_of names new.new) }
     ensures usage { IfOk result (λ u. (names : List Text) → IsInScope names env.old → captured.name < length names → u ≡ capture_usage (env_of names env.old) (captured_of names captured)) }
     ensures scope { OnOk result ((names : List Text) → IsInScope names env.old → IsInScope names env.new) }
@@ -191,7 +192,7 @@ pub fn capture_all(
     requires scope { IsInScope tree.now.names env.old }
     requires new_scope { IsInScope tree.now.names new.old }
     requires usages { length checker.old.usages.items ≡ length (meanings tree.now) }
-    requires few { length new.old + length (nodes_in (meanings tree.now) (all_need capture_s captures.now.items)) ≤ 268435456 }
+    requires few { length new.old + length (nodes_in (meanings tree.now) (all_need capture_s captures.now.items)) ≤ most_slots }
     ensures goes_on { GoesOn result (capture_all (capturer_of by) (captures_at (meanings tree.now) captures.now.items) (env_of tree.now.names env.old) (env_of tree.now.names new.old)) (env_of tree.now.names env.new) (env_of tree.now.names new.new) }
     ensures scope { OnOk result (IsInScope tree.now.names env.new) }
     ensures new_scope { OnOk result (IsInScope tree.now.names new.new) }
@@ -221,7 +222,7 @@ pub fn capture_both(
     requires second { AreNames tree.now second.now.items }
     requires scope { IsInScope tree.now.names env.old }
     requires usages { length checker.old.usages.items ≡ length (meanings tree.now) }
-    requires few { length (nodes_in (meanings tree.now) (all_need capture_s first.now.items)) + length (nodes_in (meanings tree.now) (all_need capture_s second.now.items)) ≤ 268435456 }
+    requires few { length (nodes_in (meanings tree.now) (all_need capture_s first.now.items)) + length (nodes_in (meanings tree.now) (all_need capture_s second.now.items)) ≤ most_slots }
     ensures goes_on { GoesOnBoth result tree.now.names (capture_both (captures_at (meanings tree.now) first.now.items) (captures_at (meanings tree.now) second.now.items) (env_of tree.now.names env.old)) (env_of tree.now.names env.new) }
     ensures scope { OnOk result (IsInScope tree.now.names env.new) }
     ensures first_scope { IfOk result (λ p. IsInScope tree.now.names p.0) }

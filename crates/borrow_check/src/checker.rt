@@ -14,6 +14,7 @@ ghost use Rattle.borrow_check.specs.Nodes.{IsReady, AreReady};
 ghost use Rattle.borrow_check.specs.Capturing.{AreNames};
 ghost use Rattle.borrow_check.specs.Usages.{capture_usages, usages_of, usages_in, AreWritten};
 ghost use Rattle.fr_typing.specs.Finding.{env_after};
+ghost use Rattle.fr_types.specs.Bounds.{most_slots};
 
 use crate::captures::{capture_all, capture_both};
 use crate::check_error::CheckError;
@@ -62,7 +63,7 @@ pub fn check_term(
     requires ready { IsReady tree.now at }
     requires scope { IsInScope tree.now.names env.old }
     requires usages { length checker.old.usages.items ≡ length (meanings tree.now) }
-    requires few { length env.old + length (meaning_at (meanings tree.now) at).nodes ≤ 268435456 }
+    requires few { length env.old + length (meaning_at (meanings tree.now) at).nodes ≤ most_slots }
     ensures gives { Gives result (typing (term_at (meanings tree.now) at) (env_of tree.now.names env.old)) (env_of tree.now.names env.new) }
     ensures below { IfOk result (λ t. AreBelow (length env.new) (kind_places (kind_of t))) }
     ensures scope { OnOk result (IsInScope tree.now.names env.new) }
@@ -147,7 +148,7 @@ fn check_arith(
     requires right_ready { IsReady tree.now right }
     requires scope { IsInScope tree.now.names env.old }
     requires usages { length checker.old.usages.items ≡ length (meanings tree.now) }
-    requires few { length env.old + length (meaning_at (meanings tree.now) left).nodes + length (meaning_at (meanings tree.now) right).nodes ≤ 268435456 }
+    requires few { length env.old + length (meaning_at (meanings tree.now) left).nodes + length (meaning_at (meanings tree.now) right).nodes ≤ most_slots }
     ensures gives { (op : Op) → Gives result (typing (arith_t 0 op (term_at (meanings tree.now) left) (term_at (meanings tree.now) right)) (env_of tree.now.names env.old)) (env_of tree.now.names env.new) }
     ensures below { IfOk result (λ t. AreBelow (length env.new) (kind_places (kind_of t))) }
     ensures scope { OnOk result (IsInScope tree.now.names env.new) }
@@ -175,7 +176,7 @@ fn check_spawn(
     requires ready { IsReady tree.now body }
     requires scope { IsInScope tree.now.names env.old }
     requires usages { length checker.old.usages.items ≡ length (meanings tree.now) }
-    requires few { length (nodes_in (meanings tree.now) (all_need capture_s captures.now.items)) + length (meaning_at (meanings tree.now) body).nodes ≤ 268435456 }
+    requires few { length (nodes_in (meanings tree.now) (all_need capture_s captures.now.items)) + length (meaning_at (meanings tree.now) body).nodes ≤ most_slots }
     ensures gives { Gives result (typing (spawn_t 0 (captures_at (meanings tree.now) captures.now.items) (term_at (meanings tree.now) body)) (env_of tree.now.names env.old)) (env_of tree.now.names env.new) }
     ensures below { IfOk result (λ t. kind_places (kind_of t) ≡ []) }
     ensures scope { OnOk result (IsInScope tree.now.names env.new) }
@@ -195,7 +196,7 @@ fn check_branch(checker: &mut Checker, tree: &Tree, body: u32, new: Env) -> Resu
     requires ready { IsReady tree.now body }
     requires scope { IsInScope tree.now.names new }
     requires usages { length checker.old.usages.items ≡ length (meanings tree.now) }
-    requires few { length new + length (meaning_at (meanings tree.now) body).nodes ≤ 268435456 }
+    requires few { length new + length (meaning_at (meanings tree.now) body).nodes ≤ most_slots }
     ensures gives { GivesType result (typing (term_at (meanings tree.now) body) (env_of tree.now.names new)) }
     ensures usages { OnOk result (AreWritten checker.old.usages.items checker.new.usages.items (meaning_at (meanings tree.now) body).nodes (usages_of (term_at (meanings tree.now) body) (env_of tree.now.names new))) }
 {
@@ -218,7 +219,7 @@ fn check_items(
     requires ready { AreReady tree.now bound items.now.items }
     requires scope { IsInScope tree.now.names env.old }
     requires usages { length checker.old.usages.items ≡ length (meanings tree.now) }
-    requires few { length env.old + length (nodes_in (meanings tree.now) (all_need term_s items.now.items)) ≤ 268435456 }
+    requires few { length env.old + length (nodes_in (meanings tree.now) (all_need term_s items.now.items)) ≤ most_slots }
     ensures gives { GivesItems result (items_at (meanings tree.now) items.now.items) place (env_of tree.now.names env.old) (env_of tree.now.names env.new) }
     ensures below { IfOk result (λ p. AreBelow (length env.new) (kind_places (kind_of p.0))) }
     ensures scope { OnOk result (IsInScope tree.now.names env.new) }

@@ -9,6 +9,7 @@ ghost use Rattle.fr_typing.specs.Rules.{assign_rule, lock_rule};
 ghost use Rattle.fr_typing.specs.Typing.{typing};
 ghost use Rattle.fr_syntax.specs.Arena.{text_of};
 ghost use Rattle.fr_syntax.specs.Meanings.{meanings, meaning_at, place_at, sort_of, place_s};
+ghost use Rattle.fr_types.specs.Bounds.{most_slots};
 ghost use Rattle.fr_types.specs.Types.{kind_of};
 ghost use Rattle.fr_types.specs.States.{env_of};
 ghost use Rattle.borrow_check.specs.Rules.{IsInScope, Gives, GoesTo};
@@ -164,7 +165,7 @@ pub fn lock(
     requires scope { IsInScope tree.now.names env.old }
     requires name { name < length tree.now.names }
     requires usages { of < length checker.old.usages.items }
-    requires few { length env.old + length (meaning_at (meanings tree.now) of).nodes + 1 ≤ 268435456 }
+    requires few { length env.old + length (meaning_at (meanings tree.now) of).nodes + 1 ≤ most_slots }
     ensures goes_to { let e = env_of tree.now.names env.old in
         GoesTo result (λ (go : TypingEnv → Outcome). find_shown e (place_at (meanings tree.now) of) (lock_rule at e (place_at (meanings tree.now) of) (text_of tree.now.names name) go)) (env_of tree.now.names env.new) }
     ensures scope { OnOk result (IsInScope tree.now.names env.new) }

@@ -9,6 +9,7 @@ ghost use Rattle.fr_typing.specs.Checks.{is_kept_out, is_unit, is_whole, mutex_o
 ghost use Rattle.fr_typing.specs.Finding.{Outcome, given, typed, unless};
 ghost use Rattle.fr_typing.specs.Rules.{read_rule, borrow_rule, borrow_mut_rule, held_rule, box_rule, int_rule, print_rule, arith_rule, let_rule, write_rule, end_rule, join_rule, par_rule, unlock_rule};
 ghost use Rattle.fr_syntax.specs.Arena.{text_of};
+ghost use Rattle.fr_types.specs.Bounds.{most_slots};
 ghost use Rattle.fr_types.specs.OwnedTypes.{owned_of};
 ghost use Rattle.fr_types.specs.Types.{kind_of, piece_of};
 ghost use Rattle.fr_types.specs.States.{slot_in, env_of};
@@ -242,7 +243,7 @@ pub fn combined(t: &Ty, place: u32) -> Result<Ty, CheckError>
 /// A new variable of that type, by a `let` at this place.
 pub fn bind(env: &mut Env, name: u32, t: Ty, place: u32) -> Result<Ty, CheckError>
     requires below { AreBelow (length env.old) (kind_places (kind_of t)) }
-    requires few { length env.old < 268435456 }
+    requires few { length env.old < most_slots }
     ensures gives { (names : List Text) → IsInScope names env.old → name < length names → Gives result (let_rule place (text_of names name) (kind_of t) (env_of names env.old)) (env_of names env.new) }
     ensures unit { IfOk result (λ u. kind_of u ≡ own unit) }
     ensures scope { OnOk result ((names : List Text) → IsInScope names env.old → name < length names → IsInScope names env.new) }
@@ -387,7 +388,7 @@ pub fn with_lock(
     at: u32,
 ) -> Result<(), CheckError>
     requires here { x.slot < length env.old }
-    requires few { length env.old + 2 ≤ 268435456 }
+    requires few { length env.old + 2 ≤ most_slots }
     ensures goes_to { (names : List Text) → IsInScope names env.old → name < length names → GoesTo result (λ (go : TypingEnv → Outcome). unless (is_some (slot_of (env_of names env.old) (text_of names name))) at NameInScope (go (with_lock (env_of names env.old) x (text_of names name) (owned_of content)))) (env_of names env.new) }
     ensures scope { OnOk result ((names : List Text) → IsInScope names env.old → name < length names → IsInScope names env.new) }
     ensures two { OnOk result (length env.new ≡ length env.old + 2) }
@@ -427,7 +428,7 @@ fn holds_whole(part: &Part) -> bool
 /// The end of a `lock` at `at`, which began with so many slots, and whose block at `body` ends with a value of this type.
 pub fn unlock(env: &mut Env, base: u32, t: Ty, at: u32, body: u32) -> Result<Ty, CheckError>
     requires base { base + 2 ≤ length env.old }
-    requires few { base < 268435456 }
+    requires few { base < most_slots }
     ensures gives { (names : List Text) → Gives result (unlock_rule at body base (kind_of t) (env_of names env.old)) (env_of names env.new) }
     ensures below { IfOk result (λ u. kind_places (kind_of u) ≡ []) }
     ensures scope { OnOk result ((names : List Text) → IsInScope names env.old → IsInScope names env.new) }

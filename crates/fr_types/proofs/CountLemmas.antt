@@ -7,6 +7,7 @@ use Rattle.fr_terms.specs.Terms.{Text}
 use Rattle.fr_typing.specs.Kinds.{Piece}
 use Rattle.fr_typing.specs.Places.{blocks_read, blocks_write, read_blocked, write_blocked}
 use Rattle.fr_typing.proofs.PlaceLemmas.{eq_cases}
+use Rattle.fr_types.specs.Bounds.{most_slots}
 use Rattle.fr_types.specs.declared.loans.Loans.{Loans}
 use Rattle.fr_types.specs.States.{Held, env_of, part_in, put_in}
 use Rattle.fr_types.specs.Lent.{bit, count_at, loans_at, IsLent, HasLoans, HasSpace, AreCounted}
@@ -50,7 +51,7 @@ write_counted names vs all loans x b h e is =
     is ∙ ap (nat_lt 0) (h.any x) ∙ count_any (blocks_write x) names vs ∙ ap (λ l. write_blocked (env_of names l) x) e
 
 -- each count fits
-pub counted_space : (vs : List Held) (loans : List Loans) → length vs ≤ 268435456 → AreCounted vs loans → HasSpace loans
+pub counted_space : (vs : List Held) (loans : List Loans) → length vs ≤ most_slots → AreCounted vs loans → HasSpace loans
 counted_space vs loans few h = record {
   mutable = λ x. omega (arith, few, h.mutable x, count_le (blocks_read x) vs);
   any = λ x. omega (arith, few, h.any x, count_le (blocks_write x) vs);

@@ -5,6 +5,7 @@ use Rattle.std.proofs.lemmas.List.{get_or-set_same, get_or-set_other, get_or_def
 use Rattle.fr_typing.specs.Kinds.{Piece}
 use Rattle.fr_typing.specs.Places.{piece_places, AreBelow}
 use Rattle.fr_typing.proofs.PlaceLemmas.{eq_cases}
+use Rattle.fr_types.specs.Bounds.{most_slots}
 use Rattle.fr_types.specs.declared.types.Part.{Part}
 use Rattle.fr_types.specs.declared.variable.Variable.{Variable}
 use Rattle.fr_types.specs.Types.{piece_of}
@@ -73,7 +74,7 @@ found_push vs xs (Some n) p h room at =
     (λ ne. get_or-set_other xs n at (Some (length vs)) None (λ e. ne (sym e)) ∙ h.found at)
 
 -- a new slot
-pub kept_push : (vs : List Held) (xs : List (Option ℕ)) (s : Held) → IsKept vs xs → IsNew vs s.name → AreBelow (length vs) (piece_places s.part) → length vs < 268435456 → HasRoom s.name xs → IsKept (s ∷ vs) (with_entry xs s.name (Some (length vs)))
+pub kept_push : (vs : List Held) (xs : List (Option ℕ)) (s : Held) → IsKept vs xs → IsNew vs s.name → AreBelow (length vs) (piece_places s.part) → length vs < most_slots → HasRoom s.name xs → IsKept (s ∷ vs) (with_entry xs s.name (Some (length vs)))
 kept_push vs xs s h new below few room = record {
   found = found_push vs xs s.name s.part h room;
   apart = (new, h.apart);
@@ -103,7 +104,7 @@ kept_pop vs xs s h = record {
   found = found_pop vs xs s.name s.part h;
   apart = h.apart.1;
   nested = h.nested.1;
-  few = let few : suc (length vs) ≤ 268435456 = h.few in omega arith;
+  few = let few : suc (length vs) ≤ most_slots = h.few in omega arith;
 }
 
 -- PARTS
@@ -185,7 +186,7 @@ kept_put vs xs slot p h g = record {
   found = λ name. h.found name ∙ sym (slot_in-put_in vs slot name p);
   apart = apart-put_in vs slot p h.apart;
   nested = nested-put_in vs slot p g h.nested;
-  few = let same = length_put_in vs slot p in let few : length vs ≤ 268435456 = h.few in omega arith;
+  few = let same = length_put_in vs slot p in let few : length vs ≤ most_slots = h.few in omega arith;
 }
 
 -- WHAT CONTRACTS SEE
@@ -212,16 +213,16 @@ pub below_seen : (vs : List Variable) (all : List Held) (xs : List (Option ℕ))
 below_seen vs all xs slot v h e lt is =
     subst (λ p. AreBelow slot (piece_places p)) (sym (part_seen vs (newest vs) slot v refl lt is)) (part_in_below (newest vs) slot h.nested)
 
-pub few_inside : (vs : List Variable) (xs : List (Option ℕ)) → IsKept (newest vs) xs → length vs ≤ 268435456
-few_inside vs xs h = let few : length (newest vs) ≤ 268435456 = h.few in omega (arith, length_newest vs)
+pub few_inside : (vs : List Variable) (xs : List (Option ℕ)) → IsKept (newest vs) xs → length vs ≤ most_slots
+few_inside vs xs h = let few : length (newest vs) ≤ most_slots = h.few in omega (arith, length_newest vs)
 
 pub nested_seen : (vs : List Variable) (all : List Held) (xs : List (Option ℕ)) → IsKept (newest vs) xs → newest vs ≡ all → AreNested all
 nested_seen vs all xs h e = subst AreNested e h.nested
 
 -- the slots after a push, and their table
-pub push_kept : (vs new : List Variable) (all : List Held) (xs ys : List (Option ℕ)) (v : Variable) (slot : ℕ) → IsKept (newest vs) xs → newest vs ≡ all → ((at : ℕ) → get_or ys at None ≡ get_or xs at None) → new ≡ vs ++ v ∷ [] → slot ≡ length vs → IsNew all v.name → AreBelow (length all) (piece_places (piece_of v.part)) → length all < 268435456 → HasRoom v.name ys → IsKept (newest new) (with_entry ys v.name (Some slot))
+pub push_kept : (vs new : List Variable) (all : List Held) (xs ys : List (Option ℕ)) (v : Variable) (slot : ℕ) → IsKept (newest vs) xs → newest vs ≡ all → ((at : ℕ) → get_or ys at None ≡ get_or xs at None) → new ≡ vs ++ v ∷ [] → slot ≡ length vs → IsNew all v.name → AreBelow (length all) (piece_places (piece_of v.part)) → length all < most_slots → HasRoom v.name ys → IsKept (newest new) (with_entry ys v.name (Some slot))
 push_kept vs new all xs ys v slot h e same is at free below few room =
-    let more = kept_push (newest vs) ys (held_of v) (kept_same (newest vs) xs ys same h) (subst (λ l. IsNew l v.name) (sym e) free) (subst (λ l. AreBelow (length l) (piece_places (piece_of v.part))) (sym e) below) (subst (λ l. length l < 268435456) (sym e) few) room in
+    let more = kept_push (newest vs) ys (held_of v) (kept_same (newest vs) xs ys same h) (subst (λ l. IsNew l v.name) (sym e) free) (subst (λ l. AreBelow (length l) (piece_places (piece_of v.part))) (sym e) below) (subst (λ l. length l < most_slots) (sym e) few) room in
     subst (λ l. IsKept l (with_entry ys v.name (Some slot))) (sym (ap newest is ∙ newest-push vs v))
     (subst (λ n. IsKept (held_of v ∷ newest vs) (with_entry ys v.name (Some n))) (length_newest vs ∙ sym at) more)
 

@@ -5,6 +5,7 @@ use Rattle.std.proofs.lemmas.List.{length-set}
 use Rattle.fr_typing.specs.Kinds.{Piece}
 use Rattle.fr_typing.specs.Places.{piece_places, AreBelow, write_blocked}
 use Rattle.fr_typing.proofs.PlaceLemmas.{eq_cases, AreBelow-weaker}
+use Rattle.fr_types.specs.Bounds.{most_slots}
 use Rattle.fr_types.specs.declared.types.Part.{Part}
 use Rattle.fr_types.specs.declared.variable.Variable.{Variable}
 use Rattle.fr_types.specs.declared.loans.Loans.{Loans}
@@ -73,7 +74,7 @@ push_space vs names xs ys ts h longer same = counted_space (newest vs) ys h.kept
 pub push_aimed : (vs : List Variable) (names : List (Option ℕ)) (xs : List Loans) (ts us : List (Option Starred)) → IsTabled (newest vs) names xs ts → length ts ≤ length us → ((x : ℕ) → target_at us x ≡ target_at ts x) → AreAimedBelow (length (newest vs)) (newest vs) us
 push_aimed vs names xs ts us h longer same = all_below (newest vs) us h.kept.nested (aimed_as (newest vs) ts us h.aimed longer same)
 
-pub push_tabled : (vs new : List Variable) (all : List Held) (names others : List (Option ℕ)) (xs ys zs : List Loans) (ts us : List (Option Starred)) (v : Variable) (slot : ℕ) (t : Option Starred) → IsTabled (newest vs) names xs ts → newest vs ≡ all → ((at : ℕ) → get_or others at None ≡ get_or names at None) → new ≡ vs ++ v ∷ [] → slot ≡ length vs → IsNew all v.name → AreBelow (length all) (piece_places (piece_of v.part)) → length all < 268435456 → HasRoom v.name others → length xs ≤ length ys → ((x : ℕ) → loans_at ys x ≡ loans_at xs x) → slot < length ys → IsLent ys zs (piece_of v.part) → length ts ≤ length us → length us ≤ 268435456 → ((x : ℕ) → target_at us x ≡ target_at ts x) → slot < length us → t ≡ aimed (base (newest vs)) (target (piece_of v.part)) → IsLow (length (newest vs)) t → IsTabled (newest new) (with_entry others v.name (Some slot)) zs (set us slot t)
+pub push_tabled : (vs new : List Variable) (all : List Held) (names others : List (Option ℕ)) (xs ys zs : List Loans) (ts us : List (Option Starred)) (v : Variable) (slot : ℕ) (t : Option Starred) → IsTabled (newest vs) names xs ts → newest vs ≡ all → ((at : ℕ) → get_or others at None ≡ get_or names at None) → new ≡ vs ++ v ∷ [] → slot ≡ length vs → IsNew all v.name → AreBelow (length all) (piece_places (piece_of v.part)) → length all < most_slots → HasRoom v.name others → length xs ≤ length ys → ((x : ℕ) → loans_at ys x ≡ loans_at xs x) → slot < length ys → IsLent ys zs (piece_of v.part) → length ts ≤ length us → length us ≤ most_slots → ((x : ℕ) → target_at us x ≡ target_at ts x) → slot < length us → t ≡ aimed (base (newest vs)) (target (piece_of v.part)) → IsLow (length (newest vs)) t → IsTabled (newest new) (with_entry others v.name (Some slot)) zs (set us slot t)
 push_tabled vs new all names others xs ys zs ts us v slot t h e same is at free below few room longer loans space lent wider small targets there leads low =
     let here : slot ≡ length (newest vs) = at ∙ sym (length_newest vs) in
     let inside : AreBelow (length (newest vs)) (piece_places (piece_of v.part)) = subst (λ l. AreBelow (length l) (piece_places (piece_of v.part))) (sym e) below in

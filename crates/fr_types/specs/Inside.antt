@@ -1,5 +1,6 @@
 -- What the code's environment keeps.
 use Rattle.std.specs.Prelude.{◌≡◌, ℕ, ◌<◌, ◌≤◌, ⊤, List, [], ◌∷◌, length, slice_index_or, slice_set, Option, Some, None}
+use Rattle.fr_types.specs.Bounds.{most_slots}
 use Rattle.fr_types.specs.declared.variable.Variable.{Variable}
 use Rattle.fr_types.specs.Types.{piece_of}
 use Rattle.fr_types.specs.States.{Held, slot_in, AreNested, AreApart}
@@ -26,14 +27,14 @@ pub record IsKept (vs : List Held) (slots : List (Option ℕ)) : Type 0 where
   pub found : (name : ℕ) → slice_index_or slots name None ≡ slot_in vs name
   pub apart : AreApart vs
   pub nested : AreNested vs
-  pub few : length vs ≤ 268435456
+  pub few : length vs ≤ most_slots
 
 -- the tables of names, of loans and of targets are those of the slots
 pub record IsTabled (vs : List Held) (slots : List (Option ℕ)) (loans : List Loans) (targets : List (Option Starred)) : Type 0 where
   pub kept : IsKept vs slots
   pub counted : AreCounted vs loans
   pub aimed : AreAimed vs targets
-  pub small : length targets ≤ 268435456
+  pub small : length targets ≤ most_slots
 
 -- and the slots' shapes, where they are known
 pub record IsInside (vs : List Held) (slots : List (Option ℕ)) (loans : List Loans) (targets : List (Option Starred)) (shapes : Known) : Type 0 where

@@ -3,6 +3,7 @@ use Rattle.std.specs.Prelude.{◌≡◌, ℕ, ◌+◌, ◌≤◌, Bool, true, fa
 use Rattle.fr_base.specs.declared.place.Lval.{Lval}
 use Rattle.fr_typing.specs.Kinds.{shared, mutable, Piece, whole}
 use Rattle.fr_typing.specs.Places.{starts_at, blocks_read, blocks_write}
+use Rattle.fr_types.specs.Bounds.{most_slots}
 use Rattle.fr_types.specs.declared.loans.Loans.{Loans}
 use Rattle.fr_types.specs.States.{Held}
 
@@ -44,8 +45,8 @@ pub record HasLoans (loans : List Loans) (p : Piece) : Type 0 where
 
 -- no count is larger than that of the slots
 pub record HasSpace (loans : List Loans) : Type 0 where
-  pub mutable : (x : ℕ) → (loans_at loans x).mutable ≤ 268435456
-  pub any : (x : ℕ) → (loans_at loans x).any ≤ 268435456
+  pub mutable : (x : ℕ) → (loans_at loans x).mutable ≤ most_slots
+  pub any : (x : ℕ) → (loans_at loans x).any ≤ most_slots
 
 -- each slot's counts are those of the environment
 pub record AreCounted (vs : List Held) (loans : List Loans) : Type 0 where

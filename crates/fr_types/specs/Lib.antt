@@ -6,6 +6,7 @@ pub mod Parts
 pub mod States
 pub mod Lent
 pub mod Bases
+pub mod Bounds
 pub mod Codes
 pub mod Inside
 pub mod Paths

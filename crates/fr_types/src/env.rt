@@ -4,6 +4,7 @@ ghost use Rattle.std.specs.Prelude.{◌≡◌, ℕ, ◌<◌, ◌≤◌, ◌↔�
 ghost use Rattle.fr_terms.specs.Terms.{Text};
 ghost use Rattle.fr_typing.specs.Places.{AreBelow, piece_places, read_blocked, write_blocked, put_at, kind_shape, shape_at, equal_shapes};
 ghost use Rattle.fr_typing.specs.Checks.{has_shape_of};
+ghost use Rattle.fr_types.specs.Bounds.{most_slots};
 ghost use Rattle.fr_types.specs.Types.{kind_of, piece_of};
 ghost use Rattle.fr_types.specs.States.{slot_in, part_in, put_in, env_of, IsNew, AreNested};
 ghost use Rattle.fr_types.specs.Inside.{HasRoom, with_entry};
@@ -69,7 +70,7 @@ impl Env {
     #[tactic(auto, using(crate::proofs::EnvLemmas::length_newest))]
     pub fn len(&self) -> u32
         ensures len { result ≡ length self.now }
-        ensures few { result ≤ 268435456 }
+        ensures few { result ≤ most_slots }
         ensures nested { AreNested self.now }
     {
         self.slots.len() as u32
@@ -108,7 +109,7 @@ impl Env {
     pub fn push(&mut self, name: Option<u32>, part: Part) -> Result<(), NoMemory>
         requires below { AreBelow (length self.old) (piece_places (piece_of part)) }
         requires new { IsNew self.old name }
-        requires few { length self.old < 268435456 }
+        requires few { length self.old < most_slots }
         ensures pushed { OnOk result (self.new ≡ record { name = name; part = piece_of part } ∷ self.old) }
         ensures refused { OnErr result (self.new ≡ self.old) }
     {
@@ -306,11 +307,11 @@ fn make_space(loans: &mut Vec<Loans>, slot: u32) -> Result<(), NoMemory>
 
 // Slots that lead nowhere, up to this one.
 fn make_targets(targets: &mut Vec<Option<Starred>>, slot: u32) -> Result<(), NoMemory>
-    requires few { slot < 268435456 }
-    requires small { length targets.old.items ≤ 268435456 }
+    requires few { slot < most_slots }
+    requires small { length targets.old.items ≤ most_slots }
     ensures same { (at : ℕ) → target_at targets.new.items at ≡ target_at targets.old.items at }
     ensures longer { length targets.old.items ≤ length targets.new.items }
-    ensures small { length targets.new.items ≤ 268435456 }
+    ensures small { length targets.new.items ≤ most_slots }
     ensures room { OnOk result (slot < length targets.new.items) }
 {
     'slots: while targets.len() <= slot as usize {

@@ -4,6 +4,7 @@ use Rattle.fr_types.specs.Inside.{newest, IsTabled}
 use Rattle.fr_types.specs.States.{Held}
 use Rattle.fr_types.proofs.EnvLemmas.{length_newest, few_inside, push_seen}
 use Rattle.fr_typing.specs.Places.{AreBelow, piece_places}
+use Rattle.fr_types.specs.Bounds.{most_slots}
 use Rattle.fr_types.specs.declared.resolved.Starred.{Starred}
 use Rattle.fr_types.specs.Bases.{AreAimedBelow}
 use Rattle.fr_types.proofs.ShapedLemmas.{push_shaped}
@@ -11,7 +12,7 @@ use Rattle.fr_types.proofs.TableLemmas.{push_below, loans_room, push_space, push
 use Rattle.fr_types.proofs.env.Env.push.Goals as goal
 
 pub overflow_cast-slot : goal.overflow_cast-slot
-overflow_cast-slot c = let few : length c.self.inside.slots.items ≤ 268435456 = few_inside c.self.inside.slots.items c.self.inside.slot_of.items c.self.invariant.tabled.kept in omega arith
+overflow_cast-slot c = let few : length c.self.inside.slots.items ≤ most_slots = few_inside c.self.inside.slots.items c.self.inside.slot_of.items c.self.invariant.tabled.kept in omega arith
 
 pub returns-clause-pushed : goal.returns-clause-pushed
 returns-clause-pushed c = push_seen c.self.inside.slots.items c.push_reserved.new.self.items c.args.self.now (record { name = c.args.name; part = c.args.part }) c.self.view_is (c.push_reserved.ensures.items ∙ ap (λ l. l ++ record { name = c.args.name; part = c.args.part } ∷ []) c.reserve.ensures.items)
