@@ -21,6 +21,11 @@ impl Model for Word {
     ghost inverse = { λ n. record { 0 = n } };
 }
 
+// Where the colour begins in a word, 2^48, and where the server does, 2^40.
+const COLOUR: u64 = 281_474_976_710_656;
+
+const SERVER: u64 = 1_099_511_627_776;
+
 impl Word {
     /// The word of that colour, server and address; the address is below 2^40.
     pub fn pack(colour: u16, server: u8, address: u64) -> Word
@@ -30,11 +35,7 @@ impl Word {
         ensures server { server_of result ≡ server }
         ensures address { address_of result ≡ address }
     {
-        Word(
-            u64::from(colour) * 281_474_976_710_656
-                + u64::from(server) * 1_099_511_627_776
-                + address,
-        )
+        Word(u64::from(colour) * COLOUR + u64::from(server) * SERVER + address)
     }
 
     /// The word as one number.
@@ -48,14 +49,14 @@ impl Word {
     pub fn colour(self) -> u16
         ensures { result ≡ colour_of self }
     {
-        (self.0 / 281_474_976_710_656) as u16
+        (self.0 / COLOUR) as u16
     }
 
     /// The server whose memory the word points into.
     pub fn server(self) -> u8
         ensures { result ≡ server_of self }
     {
-        (self.0 % 281_474_976_710_656 / 1_099_511_627_776) as u8
+        (self.0 % COLOUR / SERVER) as u8
     }
 
     /// The address at that server, below 2^40.
@@ -63,7 +64,7 @@ impl Word {
         ensures address { result ≡ address_of self }
         ensures below { result < 2 ^ 40 }
     {
-        self.0 % 1_099_511_627_776
+        self.0 % SERVER
     }
 
     /// The same server and address with the next colour; `None` exactly where the colour is the last, `limit - 1`.
@@ -77,7 +78,7 @@ impl Word {
         ensures spot { IfSome result (λ w. spot_of w ≡ spot_of self) }
     {
         if u32::from(self.colour()) + 1 < limit {
-            Some(Word(self.0 + 281_474_976_710_656))
+            Some(Word(self.0 + COLOUR))
         } else {
             None
         }

@@ -269,19 +269,11 @@ impl Cache {
         ensures { self.new ≡ record self.old { state = pin self.old.state word } }
     {
         let _inside: Option<Owned> = None;
-        let Some(
-            Found {
-                at,
-                cell,
-                users,
-                age,
-            },
-        ) = copy_at(&self.slots, word)
-        else {
+        let Some(copy) = copy_at(&self.slots, word) else {
             unreachable!();
         };
-        self.slots[at] = Slot::Held(cell, users + 1, age);
-        take_into_use(&mut self.unused, age, users);
+        self.slots[copy.at] = Slot::Held(copy.cell, copy.users + 1, copy.age);
+        take_into_use(&mut self.unused, copy.age, copy.users);
     }
 
     /// Counts one user less of the copy, which has one.
@@ -290,19 +282,11 @@ impl Cache {
         ensures { self.new ≡ record self.old { state = unpin self.old.state word } }
     {
         let _inside: Option<Owned> = None;
-        let Some(
-            Found {
-                at,
-                cell,
-                users,
-                age,
-            },
-        ) = copy_at(&self.slots, word)
-        else {
+        let Some(copy) = copy_at(&self.slots, word) else {
             unreachable!();
         };
-        self.slots[at] = Slot::Held(cell, users - 1, age);
-        give_up(&mut self.unused, word, age, users);
+        self.slots[copy.at] = Slot::Held(copy.cell, copy.users - 1, copy.age);
+        give_up(&mut self.unused, word, copy.age, copy.users);
     }
 
     /// How many use the copy; 0 where none is there.

@@ -5,21 +5,21 @@ use Rattle.read_cache.proofs.AgeLemmas.{aged, held_place, freed_aged, copies_use
 use Rattle.read_cache.proofs.SlotLemmas.{held_aged, held_copy, users_set, rooms_stay, users_is, can_unpin_is, length_with}
 use Rattle.read_cache.proofs.cache.Cache.unpin.Goals as goal
 
-pub overflow_sub-users : goal.overflow_sub-users
-overflow_sub-users c =
-    let w = c.args.word in let es = c.self.inside.slots.entries in let at = c.in-Some.field-0.at in let u = c.in-Some.field-0.users in let a = c.in-Some.field-0.age in let cell = c.in-Some.field-0.cell in let copy = c.in-Some.ensures.copy in
+pub overflow_sub-copy : goal.overflow_sub-copy
+overflow_sub-copy c =
+    let w = c.args.word in let es = c.self.inside.slots.entries in let at = c.in-Some.copy.at in let u = c.in-Some.copy.users in let a = c.in-Some.copy.age in let cell = c.in-Some.copy.cell in let copy = c.in-Some.ensures.copy in
     let p : can_unpin (copies_in es) w ≡ true = (rw (← c.self.view_is) at c.requires.can_unpin) in
     let l : 0 < u = can_unpin_is (copies_in es) w cell u (held_copy w es at cell u a copy) p in
     omega (arith, l)
 
 pub give_up-requires : goal.give_up-requires
 give_up-requires c =
-    let w = c.args.word in let es = c.self.inside.slots.entries in let at = c.in-Some.field-0.at in let u = c.in-Some.field-0.users in let a = c.in-Some.field-0.age in let cell = c.in-Some.field-0.cell in let copy = c.in-Some.ensures.copy in
+    let w = c.args.word in let es = c.self.inside.slots.entries in let at = c.in-Some.copy.at in let u = c.in-Some.copy.users in let a = c.in-Some.copy.age in let cell = c.in-Some.copy.cell in let copy = c.in-Some.ensures.copy in
     record { place = held_place (held_in es) w (aged w cell u a) c.self.inside.unused (held_aged w es at cell u a copy) c.self.invariant.0.held }
 
 pub invariant_of-self : goal.invariant_of-self
 invariant_of-self c =
-    let w = c.args.word in let es = c.self.inside.slots.entries in let at = c.in-Some.field-0.at in let u = c.in-Some.field-0.users in let a = c.in-Some.field-0.age in let cell = c.in-Some.field-0.cell in let copy = c.in-Some.ensures.copy in
+    let w = c.args.word in let es = c.self.inside.slots.entries in let at = c.in-Some.copy.at in let u = c.in-Some.copy.users in let a = c.in-Some.copy.age in let cell = c.in-Some.copy.cell in let copy = c.in-Some.ensures.copy in
     let e = users_set w es at cell u a (u - 1) copy in
     let p : can_unpin (copies_in es) w ≡ true = (rw (← c.self.view_is) at c.requires.can_unpin) in
     let l : 0 < u = can_unpin_is (copies_in es) w cell u (held_copy w es at cell u a copy) p in (
@@ -30,7 +30,7 @@ invariant_of-self c =
 
 pub returns : goal.returns
 returns c =
-    let w = c.args.word in let es = c.self.inside.slots.entries in let at = c.in-Some.field-0.at in let u = c.in-Some.field-0.users in let a = c.in-Some.field-0.age in let cell = c.in-Some.field-0.cell in let copy = c.in-Some.ensures.copy in
+    let w = c.args.word in let es = c.self.inside.slots.entries in let at = c.in-Some.copy.at in let u = c.in-Some.copy.users in let a = c.in-Some.copy.age in let cell = c.in-Some.copy.cell in let copy = c.in-Some.ensures.copy in
     rw (
       ← c.self.view_is,
       users_set w es at cell u a (u - 1) copy,
