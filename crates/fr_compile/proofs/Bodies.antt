@@ -2,7 +2,7 @@
 use Rattle.std.proofs.Common.{◌≡◌, ℕ, zero, suc, ◌+◌, ◌<◌, ◌≤◌, List, [], ◌∷◌, ◌++◌, length, drop, get_or, Some, refl, arith, add-one, drop-cons}
 use Rattle.std.specs.Prelude.{slice_get}
 use Rattle.fr_base.specs.declared.instruction.Instr.{Instr}
-use Rattle.fr_meaning.specs.declared.forms.Form.{Form}
+use Rattle.fr_forms.specs.declared.forms.Form.{Form}
 use Rattle.fr_compile.specs.declared.body.Body.{Body}
 use Rattle.fr_compile.specs.Bodies.{IsHole, AreHoles, AreStarted, all_steps}
 
@@ -20,7 +20,7 @@ none_left (x ∷ xs) (suc k) h = none_left xs k (omega arith)
 module _ (fs : List Form) where
   -- an instruction that is kept is a hole still
   hole_kept : (c f : List Instr) (b : Body) → ((i : Instr) → slice_get c b.hole ≡ Some i → slice_get f b.hole ≡ Some i) → IsHole fs c b → IsHole fs f b
-  hole_kept c f b kept h = record { here = h.here; captures = h.captures; body = h.body; term = h.term; there = kept _ h.there }
+  hole_kept c f b kept h = record { here = h.here; captures = h.captures; body = h.body; term = h.term; compiled = h.compiled; there = kept _ h.there }
 
   -- holes from an earlier place on
   pub holes_from : (c : List Instr) (p q r : ℕ) (bs : List Body) → p ≤ q → AreHoles fs c q bs r → AreHoles fs c p bs r

@@ -2,10 +2,10 @@
 use Rattle.std.proofs.Common.{Vec, Global, ◌≡◌, ℕ, ◌+◌, ◌<◌, ◌≤◌, Bool, List, [], ◌∷◌, ◌++◌, length, drop, get_or, refl, sym, ap, ◌∙◌}
 use Rattle.std.proofs.lemmas.List.{append_assoc, append-nil}
 use Rattle.fr_plain.specs.Run.{Capture, Run, spawn}
-use Rattle.fr_meaning.specs.declared.forms.Captured.{Captured}
-use Rattle.fr_meaning.specs.declared.forms.Form.{Form}
-use Rattle.fr_meaning.specs.declared.forms.Form.TheVariants as form
-use Rattle.fr_meaning.specs.FormTerms.{captures_of, captures_in, build}
+use Rattle.fr_forms.specs.declared.forms.Captured.{Captured}
+use Rattle.fr_forms.specs.declared.forms.Form.{Form}
+use Rattle.fr_forms.specs.declared.forms.Form.TheVariants as form
+use Rattle.fr_forms.specs.FormTerms.{captures_of, captures_in, build}
 use Rattle.fr_code.specs.Steps.{captured}
 use Rattle.fr_compile.proofs.Bodies.{from_next, none_left}
 
@@ -40,6 +40,10 @@ no_captures (form.Join x) other = refl
 no_captures (form.Assign w x) other = refl
 no_captures (form.Arith f x y) other = refl
 no_captures (form.Block items lets) other = refl
+no_captures (form.Mutex x) other = refl
+no_captures (form.Dup w) other = refl
+no_captures (form.Lock w x drops) other = refl
+no_captures (form.Par ours theirs) other = refl
 no_captures form.Place other = refl
 
 -- a form whose term starts a thread is no other form
@@ -56,4 +60,8 @@ no_other look (form.Join x) cs r h other = cc
 no_other look (form.Assign w x) cs r h other = cc
 no_other look (form.Arith f x y) cs r h other = cc
 no_other look (form.Block items lets) cs r h other = cc
+no_other look (form.Mutex x) cs r h other = cc
+no_other look (form.Dup w) cs r h other = cc
+no_other look (form.Lock w x drops) cs r h other = cc
+no_other look (form.Par ours theirs) cs r h other = cc
 no_other look form.Place cs r h other = cc

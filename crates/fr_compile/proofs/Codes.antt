@@ -10,11 +10,12 @@ use Rattle.fr_base.specs.declared.instruction.Instr.{Instr}
 use Rattle.fr_base.specs.declared.instruction.Instr.TheVariants as instr
 use Rattle.fr_base.specs.Rooms.{WithRoom}
 use Rattle.fr_plain.specs.Run.{Run, temp, unit_c, number, read, borrow, box_r, arith as arith_r, bind, print, assign, block, spawn, join_r, mutex_r, dup, lock, locked, par, par_end, Parts, last, more, now, one_if_temporary, leaves, leaves_last, steps_left}
-use Rattle.fr_meaning.specs.declared.forms.Form.{Form}
-use Rattle.fr_meaning.specs.FormTerms.{parts_from, parts_of, term_of}
+use Rattle.fr_forms.specs.declared.forms.Form.{Form}
+use Rattle.fr_forms.specs.FormTerms.{parts_from, parts_of, term_of}
 use Rattle.fr_code.specs.Steps.{captured}
 use Rattle.fr_code.specs.StandsFor.{borrowing, operand_of, operand_of_last, IsSource, AreSource, Discards, DropsAt, At}
 use Rattle.fr_code.proofs.Finished.{later, later_parts}
+use Rattle.fr_compile.specs.Compiled.{IsCompiled}
 use Rattle.fr_compile.specs.declared.body.Body.{Body}
 use Rattle.fr_compile.specs.Bodies.{is_hole, thread_steps}
 use Rattle.fr_compile.specs.Emitting.{Agrees, Grows, IsEmitted, ArePartsEmitted, IsDiscarded, drop_slots, AreAdded, starts_thread}
@@ -170,9 +171,9 @@ module _ (fs : List Form) where
       }
 
   -- a term that starts a thread: the thread's body is still to come
-  pub spawn_emitted : (a f : List Instr) (bs cs : List Body) (b : Body) (xs : WithRoom (ℕ × Bool)) (body r : Run) → f ≡ a ++ instr.Spawn xs 0 ∷ [] → b.hole ≡ length a → b.form < length fs → term_of fs b.form ≡ r → r ≡ spawn (captured xs.items) body →
+  pub spawn_emitted : (a f : List Instr) (bs cs : List Body) (b : Body) (xs : WithRoom (ℕ × Bool)) (body r : Run) → f ≡ a ++ instr.Spawn xs 0 ∷ [] → b.hole ≡ length a → b.form < length fs → term_of fs b.form ≡ r → r ≡ spawn (captured xs.items) body → IsCompiled body →
       cs ≡ bs ++ b ∷ [] → IsEmitted fs a f bs cs operand.Pop r
-  spawn_emitted a f bs cs b xs body r e place here is spawns pushed =
+  spawn_emitted a f bs cs b xs body r e place here is spawns compiled pushed =
       let len = pushed_len a f (instr.Spawn xs 0) e in
       let there = subst (λ z. slice_get z (length a) ≡ Some (instr.Spawn xs 0)) (sym e) (append_at a (instr.Spawn xs 0) []) in
       let next : b.hole + 1 ≡ length f = omega (arith, place, len) in
@@ -183,7 +184,7 @@ module _ (fs : List Form) where
         added = pushed;
         holes = (
           omega (arith, place),
-          record { here = here; captures = xs; body = body; term = is ∙ spawns; there = subst (λ k. slice_get f k ≡ Some (instr.Spawn xs 0)) (sym place) there },
+          record { here = here; captures = xs; body = body; term = is ∙ spawns; compiled = compiled; there = subst (λ k. slice_get f k ≡ Some (instr.Spawn xs 0)) (sym place) there },
           omega (arith, next),
         );
         steps = omega (arith, len, ap thread_steps (is ∙ spawns), ap steps_left spawns);

@@ -2,10 +2,10 @@
 use Rattle.std.proofs.Common.{◌≡◌, ℕ, zero, suc, ◌+◌, ◌<◌, List, [], ◌∷◌, length, drop, Result, Ok, Err, IfOk, OnOk, sym, subst, arith, get_or}
 use Rattle.fr_base.specs.declared.instruction.Operand.{Operand}
 use Rattle.fr_base.specs.declared.instruction.Instr.{Instr}
-use Rattle.fr_meaning.specs.declared.forms.Form.{Form}
-use Rattle.fr_meaning.specs.FormTerms.{parts_of, term_of}
+use Rattle.fr_forms.specs.declared.forms.Form.{Form}
+use Rattle.fr_forms.specs.FormTerms.{parts_of, term_of}
 use Rattle.fr_syntax.specs.Meanings.{AllBelow}
-use Rattle.fr_meaning.proofs.FormLemmas.{at_drop}
+use Rattle.fr_forms.proofs.FormLemmas.{at_drop}
 use Rattle.fr_compile.specs.declared.body.Body.{Body}
 use Rattle.fr_compile.specs.Emitting.{IsEmitted, ArePartsEmitted, IsDiscarded, AreAdded}
 

@@ -1,4 +1,5 @@
 pub mod Sources
+pub mod CompiledLemmas
 pub mod Bodies
 pub mod Captured
 pub mod Owed

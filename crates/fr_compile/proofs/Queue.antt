@@ -10,8 +10,8 @@ use Rattle.fr_base.specs.declared.instruction.Instr.TheVariants as instr
 use Rattle.fr_base.specs.Rooms.{WithRoom}
 use Rattle.fr_base.specs.Code.{starting, change, with_body}
 use Rattle.fr_plain.specs.Run.{Capture, Run, spawn, steps_left}
-use Rattle.fr_meaning.specs.declared.forms.Form.{Form}
-use Rattle.fr_meaning.specs.FormTerms.{term_of}
+use Rattle.fr_forms.specs.declared.forms.Form.{Form}
+use Rattle.fr_forms.specs.FormTerms.{term_of}
 use Rattle.fr_code.specs.Steps.{captured}
 use Rattle.fr_code.specs.StandsFor.{IsSource, At, IsCodeOf}
 use Rattle.fr_compile.specs.declared.body.Body.{Body}

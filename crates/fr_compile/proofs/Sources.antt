@@ -1,12 +1,17 @@
 -- In the term of a form no step was made.
-use Rattle.std.proofs.Common.{ℕ, ◌==◌, Bool, true, false, List, [], ◌∷◌, length}
+use Rattle.std.proofs.Common.{ℕ, zero, suc, ◌==◌, Bool, true, false, List, [], ◌∷◌, length}
 use Rattle.std.specs.Prelude.{if◌then◌else◌}
 use Rattle.fr_plain.specs.Run.{Run}
-use Rattle.fr_meaning.specs.declared.forms.Form.{Form}
-use Rattle.fr_meaning.specs.declared.forms.Form.TheVariants as form
+use Rattle.fr_plain.specs.Resolve.{dropping}
+use Rattle.fr_forms.specs.declared.forms.Form.{Form}
+use Rattle.fr_forms.specs.declared.forms.Form.TheVariants as form
 use Rattle.fr_acts.specs.SlotOrder.{newest_first}
-use Rattle.fr_meaning.specs.FormTerms.{parts_from, parts_of, build, run_at, term_of}
+use Rattle.fr_forms.specs.FormTerms.{parts_from, parts_of, build, run_at, term_of}
 use Rattle.fr_code.specs.StandsFor.{IsSource, AreSource}
+
+dropping_source : (k : ℕ) (r : Run) → IsSource r → IsSource (dropping k r)
+dropping_source zero r h = h
+dropping_source (suc k) r h = h
 
 module _ (look : ℕ → Run) (sources : (i : ℕ) → IsSource (look i)) where
   -- items
@@ -32,6 +37,10 @@ module _ (look : ℕ → Run) (sources : (i : ℕ) → IsSource (look i)) where
   build_source (form.Assign w value) = sources value
   build_source (form.Arith f left right) = (sources left, sources right)
   build_source (form.Block items lets) = all_source items.items
+  build_source (form.Mutex value) = sources value
+  build_source (form.Dup w) = tt
+  build_source (form.Lock w body drops) = dropping_source drops (look body) (sources body)
+  build_source (form.Par ours theirs) = (sources ours.term, sources theirs.term)
   build_source form.Place = tt
 
 chosen : (b : Bool) (r s : Run) → IsSource r → IsSource s → IsSource (if b then r else s)

@@ -5,11 +5,12 @@ use Rattle.fr_base.specs.declared.instruction.Instr.{Instr}
 use Rattle.fr_base.specs.declared.instruction.Instr.TheVariants as instr
 use Rattle.fr_base.specs.Rooms.{WithRoom}
 use Rattle.fr_plain.specs.Run.{Run, spawn, steps_left}
-use Rattle.fr_meaning.specs.declared.forms.Form.{Form}
-use Rattle.fr_meaning.specs.FormTerms.{term_of}
+use Rattle.fr_forms.specs.declared.forms.Form.{Form}
+use Rattle.fr_forms.specs.FormTerms.{term_of}
 use Rattle.fr_code.specs.Steps.{captured}
 use Rattle.fr_code.specs.StandsFor.{At}
 use Rattle.fr_compile.specs.declared.body.Body.{Body}
+use Rattle.fr_compile.specs.Compiled.{IsCompiled}
 
 -- no body stands at 0, where main's code begins
 abbrev pub is_hole : Instr → Bool
@@ -22,6 +23,7 @@ pub record IsHole (forms : List Form) (code : List Instr) (b : Body) : Type 0 wh
   pub captures : WithRoom (ℕ × Bool)
   pub body : Run
   pub term : term_of forms b.form ≡ spawn (captured captures.items) body
+  pub compiled : IsCompiled body
   pub there : slice_get code b.hole ≡ Some (instr.Spawn captures 0)
 
 -- the holes of these bodies stand from place p to place q, in this order

@@ -13,7 +13,7 @@ ghost use Rattle.table_law.specs.Tables.{HasTable};
 use crate::threads::emit_threads;
 use borrow_check::Checked;
 use fr_base::{Code, NoMemory};
-use fr_meaning::forms_of;
+use fr_forms::forms_of;
 use std::alloc::Global;
 
 /// The code of a checked program: it stands for the program, so it does the program's steps, it has an instruction for each of these, and one more, and no others, and it has a table of types. The main thread's code comes first and ends with its `End`; behind it stands the code of each new thread, in the

@@ -2,15 +2,16 @@
 
 ghost use Rattle.std.specs.Prelude.{◌≡◌, ◌<◌, ◌≤◌, ◌++◌, [], ◌∷◌, length, IfOk, OnOk};
 ghost use Rattle.fr_base.specs.declared.instruction.Operand.TheVariants as operand;
-ghost use Rattle.fr_meaning.specs.FormTerms.{term_of, parts_of, captures_in, captures_of, AreInOrder};
+ghost use Rattle.fr_forms.specs.FormTerms.{term_of, parts_of, captures_in, captures_of, AreInOrder};
 ghost use Rattle.fr_syntax.specs.Meanings.{AllBelow};
 ghost use Rattle.fr_code.specs.StandsFor.{borrowing};
 ghost use Rattle.fr_code.specs.Steps.{captured};
+ghost use Rattle.fr_compile.specs.Compiled.{IsCompiled, AllCompiled};
 ghost use Rattle.fr_compile.specs.Emitting.{drop_slots, ArePartsEmitted, IsDiscarded, IsEmitted};
 
 use crate::body::Body;
 use fr_base::{Captures, Code, Instr, Lval, NoMemory, Operand};
-use fr_meaning::Form;
+use fr_forms::Form;
 use std::alloc::Global;
 
 // Adds an instruction that leaves a temporary value.
@@ -96,6 +97,7 @@ fn emit_items(
     requires order { AreInOrder forms.now }
     requires inside { bound ≤ length forms.now }
     requires below { AllBelow bound items.now }
+    requires compiled { AllCompiled (term_of forms.now) items.now }
     ensures { IfOk result (λ value. ArePartsEmitted forms.now code.old.items code.new.items bodies.old.items bodies.new.items value (parts_of (term_of forms.now) items.now)) }
 {
     let mut value = Operand::Unit;
@@ -118,6 +120,7 @@ pub fn emit(
 ) -> Result<Operand, NoMemory>
     requires order { AreInOrder forms.now }
     requires here { node < length forms.now }
+    requires compiled { IsCompiled (term_of forms.now node) }
     ensures { IfOk result (λ value. IsEmitted forms.now code.old.items code.new.items bodies.old.items bodies.new.items value (term_of forms.now node)) }
 {
     match &forms[node] {
@@ -162,5 +165,9 @@ pub fn emit(
             drop_all(code, *lets)?;
             Ok(value)
         }
+        Form::Mutex(_) => unreachable!(),
+        Form::Dup(_) => unreachable!(),
+        Form::Lock(_, _, _) => unreachable!(),
+        Form::Par(_, _) => unreachable!(),
     }
 }

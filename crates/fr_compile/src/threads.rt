@@ -2,16 +2,17 @@
 
 ghost use Rattle.std.specs.Prelude.{◌≡◌, ◌+◌, ◌<◌, ◌^◌, length, IfOk, OnOk};
 ghost use Rattle.fr_plain.specs.Run.{steps_left};
-ghost use Rattle.fr_meaning.specs.FormTerms.{root_of, AreInOrder};
+ghost use Rattle.fr_forms.specs.FormTerms.{root_of, AreInOrder};
 ghost use Rattle.fr_code.specs.StandsFor.{IsCodeOf};
 ghost use Rattle.table_law.specs.Layout.{IsLaidOut};
 ghost use Rattle.fr_compile.specs.Bodies.{IsHole};
+ghost use Rattle.fr_compile.specs.Compiled.{IsCompiled};
 ghost use Rattle.fr_compile.specs.Emitting.{IsStarted};
 
 use crate::body::Body;
 use crate::emitting::{drop_all, emit};
 use fr_base::{Code, Instr, NoMemory};
-use fr_meaning::Form;
+use fr_forms::Form;
 use std::alloc::Global;
 
 // Adds the code of a new thread, and says in the instruction that starts the thread where it stands: its body, the slots
@@ -44,6 +45,7 @@ pub fn emit_threads(alloc: Global, forms: &[Form], code: &mut Code) -> Result<()
     requires some { 0 < length forms.now }
     requires empty { length code.old.items ≡ 0 }
     requires few { steps_left (root_of forms.now) + 1 < 2 ^ 32 }
+    requires compiled { IsCompiled (root_of forms.now) }
     ensures code { OnOk result (IsCodeOf code.new.items (root_of forms.now)) }
     ensures length { OnOk result (length code.new.items ≡ steps_left (root_of forms.now) + 1) }
     ensures layout { OnOk result (IsLaidOut code.new.items) }

@@ -2,7 +2,8 @@
 use Rattle.std.proofs.Common.{◌≡◌, zero, suc, ◌<◌, ◌≤◌, List, [], ◌∷◌, Option, Some, None, refl, ap, ◌∙◌, arith}
 use Rattle.fr_plain.specs.Run.{Run, block, last, more, going, after, now, now_parts, settle, Move, next, move}
 use Rattle.fr_meaning.specs.declared.frame.Done.TheVariants as done
-use Rattle.fr_meaning.specs.Contexts.{Around, in_box, in_bind, in_print, in_join, in_assign, in_left, in_right, in_last, in_more, fill, wrap, depth, IsSettled}
+use Rattle.fr_meaning.specs.Contexts.{Around, in_box, in_bind, in_print, in_join, in_mutex, in_locked, in_assign, in_left, in_right, in_last, in_more, fill, wrap, IsSettled}
+use Rattle.fr_forms.specs.Depths.{depth}
 
 -- a term around one that goes on goes on
 pub now_fill : (c : Around) (r : Run) → now r ≡ going → now (fill c r) ≡ going
@@ -10,6 +11,8 @@ now_fill in_box r h = refl
 now_fill in_bind r h = refl
 now_fill in_print r h = refl
 now_fill in_join r h = refl
+now_fill in_mutex r h = refl
+now_fill in_locked r h = refl
 now_fill (in_assign w) r h = refl
 now_fill (in_left f b) r h = refl
 now_fill (in_right f d) r h = refl
@@ -39,6 +42,8 @@ move_fill in_box r h = rw h refl
 move_fill in_bind r h = rw h refl
 move_fill in_print r h = rw h refl
 move_fill in_join r h = rw h refl
+move_fill in_mutex r h = rw h refl
+move_fill in_locked r h = rw h refl
 move_fill (in_assign w) r h = rw h refl
 move_fill (in_left f b) r h = rw h refl
 move_fill (in_right f done.Unit) r h = rw h refl
@@ -58,6 +63,8 @@ settle_fill in_box r h = refl
 settle_fill in_bind r h = refl
 settle_fill in_print r h = refl
 settle_fill in_join r h = refl
+settle_fill in_mutex r h = refl
+settle_fill in_locked r h = refl
 settle_fill (in_assign w) r h = refl
 settle_fill (in_left f b) r h = rw h refl
 settle_fill (in_right f done.Unit) r h = refl
@@ -81,6 +88,8 @@ settle_same_fill in_box r q h = rw h refl
 settle_same_fill in_bind r q h = rw h refl
 settle_same_fill in_print r q h = rw h refl
 settle_same_fill in_join r q h = rw h refl
+settle_same_fill in_mutex r q h = rw h refl
+settle_same_fill in_locked r q h = rw h refl
 settle_same_fill (in_assign w) r q h = rw h refl
 settle_same_fill (in_left f b) r q h = rw h refl
 settle_same_fill (in_right f done.Unit) r q h = rw h refl
@@ -100,6 +109,8 @@ settled_fill in_box r h = h
 settled_fill in_bind r h = h
 settled_fill in_print r h = h
 settled_fill in_join r h = h
+settled_fill in_mutex r h = h
+settled_fill in_locked r h = h
 settled_fill (in_assign w) r h = h
 settled_fill (in_left f b) r h = h.0
 settled_fill (in_right f done.Unit) r h = h.1
@@ -119,6 +130,8 @@ depth_fill in_box q r h = omega arith
 depth_fill in_bind q r h = omega arith
 depth_fill in_print q r h = omega arith
 depth_fill in_join q r h = omega arith
+depth_fill in_mutex q r h = omega arith
+depth_fill in_locked q r h = omega arith
 depth_fill (in_assign w) q r h = omega arith
 depth_fill (in_left f b) q r h = omega arith
 depth_fill (in_right f d) q r h = omega arith
@@ -131,6 +144,8 @@ depth_above in_box r = omega arith
 depth_above in_bind r = omega arith
 depth_above in_print r = omega arith
 depth_above in_join r = omega arith
+depth_above in_mutex r = omega arith
+depth_above in_locked r = omega arith
 depth_above (in_assign w) r = omega arith
 depth_above (in_left f b) r = omega arith
 depth_above (in_right f d) r = omega arith

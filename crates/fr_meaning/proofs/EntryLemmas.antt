@@ -3,7 +3,7 @@ use Rattle.std.proofs.Common.{◌≡◌, ℕ, ℤ, zero, suc, ◌<◌, List, [],
 use Rattle.std.specs.Prelude.{slice_set, OnErr}
 use Rattle.fr_plain.specs.Heap.{Heap}
 use Rattle.fr_plain.specs.Whole.{Thread as PlainThread, Whole}
-use Rattle.fr_meaning.specs.declared.forms.Form.{Form}
+use Rattle.fr_forms.specs.declared.forms.Form.{Form}
 use Rattle.fr_meaning.specs.declared.thread.Thread.{Thread}
 use Rattle.fr_meaning.specs.Entries.{entry_of, entries_of}
 use Rattle.fr_meaning.specs.declared.next.Next.{Next}

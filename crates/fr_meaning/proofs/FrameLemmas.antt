@@ -3,7 +3,7 @@ use Rattle.std.proofs.Common.{◌≡◌, ◌≢◌, ℕ, zero, suc, ◌+◌, ◌
 use Rattle.std.specs.Prelude.{◌↔◌, IsTrue}
 use Rattle.fr_base.specs.declared.place.Op.{Op}
 use Rattle.fr_plain.specs.Run.{Run, arith as arith_r, block, last, more, going, constant, temporary, now, settle, leaves}
-use Rattle.fr_meaning.specs.declared.forms.Form.{Form}
+use Rattle.fr_forms.specs.declared.forms.Form.{Form}
 use Rattle.fr_meaning.specs.declared.frame.Done.{Done}
 use Rattle.fr_meaning.specs.declared.frame.Done.TheVariants as done
 use Rattle.fr_meaning.specs.declared.frame.Frame.{Frame}
@@ -12,11 +12,12 @@ use Rattle.fr_meaning.specs.declared.frame.Focus.{Focus}
 use Rattle.fr_meaning.specs.declared.frame.Focus.TheVariants as focus
 use Rattle.fr_meaning.specs.declared.frame.Entered.{Entered}
 use Rattle.fr_meaning.specs.declared.frame.Entered.TheVariants as entered
-use Rattle.fr_meaning.specs.Contexts.{fill, depth, depth_in}
-use Rattle.fr_meaning.specs.FormTerms.{parts_from, parts_of, term_of, items_at}
+use Rattle.fr_meaning.specs.Contexts.{fill}
+use Rattle.fr_forms.specs.Depths.{depth, depth_in}
+use Rattle.fr_forms.specs.FormTerms.{parts_from, parts_of, term_of, items_at}
 use Rattle.fr_meaning.specs.DoneTerms.{over, value_of}
 use Rattle.fr_meaning.specs.FrameTerms.{around_items, around, all_around, wrapped, focus_run, IsInside, AreInside, HasLastPart, IsPastLeft, TopIsPastLeft, HasMadeWay, Enters, EntersItem, waits_of, focus_of}
-use Rattle.fr_meaning.proofs.FormLemmas.{at_drop}
+use Rattle.fr_forms.proofs.FormLemmas.{at_drop}
 use Rattle.fr_meaning.proofs.ContextLemmas.{settle_wrap, settle_same, depth_above, depth_wrap}
 
 -- FRAMES
@@ -171,6 +172,8 @@ last_part_waits fs frame.Box r h = refl
 last_part_waits fs frame.Let r h = refl
 last_part_waits fs frame.Print r h = refl
 last_part_waits fs frame.Join r h = refl
+last_part_waits fs frame.Mutex r h = refl
+last_part_waits fs frame.Locked r h = refl
 last_part_waits fs (frame.Assign w) r h = refl
 last_part_waits fs (frame.Right f d) r h = refl
 last_part_waits fs (frame.Left f right) r h = absurd h
@@ -182,6 +185,8 @@ last_part_settles fs frame.Box r h = refl
 last_part_settles fs frame.Let r h = refl
 last_part_settles fs frame.Print r h = refl
 last_part_settles fs frame.Join r h = refl
+last_part_settles fs frame.Mutex r h = refl
+last_part_settles fs frame.Locked r h = refl
 last_part_settles fs (frame.Assign w) r h = refl
 last_part_settles fs (frame.Right f done.Unit) r h = refl
 last_part_settles fs (frame.Right f (done.Number n)) r h = refl
@@ -195,10 +200,25 @@ last_part_past frame.Box h = tt
 last_part_past frame.Let h = tt
 last_part_past frame.Print h = tt
 last_part_past frame.Join h = tt
+last_part_past frame.Mutex h = tt
+last_part_past frame.Locked h = tt
 last_part_past (frame.Assign w) h = tt
 last_part_past (frame.Right f d) h = tt
 last_part_past (frame.Left f right) h = absurd h
 last_part_past (frame.Block left node next) h = absurd h
+
+-- and names no form
+pub last_inside : (n : ℕ) (g : Frame) → HasLastPart g → IsInside n g
+last_inside n frame.Box h = tt
+last_inside n frame.Let h = tt
+last_inside n frame.Print h = tt
+last_inside n frame.Join h = tt
+last_inside n frame.Mutex h = tt
+last_inside n frame.Locked h = tt
+last_inside n (frame.Assign w) h = tt
+last_inside n (frame.Right f d) h = tt
+last_inside n (frame.Left f right) h = absurd h
+last_inside n (frame.Block left node next) h = absurd h
 
 -- the top one of frames
 past_top : (gs : List Frame) (g : Frame) → IsPastLeft g → TopIsPastLeft (gs ++ g ∷ [])
@@ -287,6 +307,8 @@ last_part frame.Box l h = tt
 last_part frame.Let l h = tt
 last_part frame.Print l h = tt
 last_part frame.Join l h = tt
+last_part frame.Mutex l h = tt
+last_part frame.Locked l h = tt
 last_part (frame.Assign w) l h = tt
 last_part (frame.Right f d) l h = tt
 last_part (frame.Left f right) l h = l f right refl

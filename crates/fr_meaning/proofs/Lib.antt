@@ -1,4 +1,3 @@
-pub mod FormLemmas
 pub mod ContextLemmas
 pub mod FrameLemmas
 pub mod StepLemmas
@@ -16,8 +15,3 @@ pub mod StandLemmas
 pub mod PoolLemmas
 pub mod ExampleLemmas
 pub mod StartLemmas
-pub mod NodeLemmas
-pub mod ReadyLemmas
-pub mod PartLemmas
-pub mod ResolveLemmas
-pub mod BuiltLemmas

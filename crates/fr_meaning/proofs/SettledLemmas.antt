@@ -4,7 +4,8 @@ use Rattle.std.specs.Prelude.{max, ⊤}
 use Rattle.fr_plain.specs.declared.value.Value.{Value}
 use Rattle.fr_plain.specs.Acts.{do_box, do_arith, do_let, do_print, do_assign, do_discard, do_join, do_mutex, do_unlock}
 use Rattle.fr_plain.specs.Run.{Run, temp, unit_c, number, read, borrow, box_r, arith as arith_r, bind, print, assign, block, spawn, join_r, mutex_r, dup, lock, locked, par, par_end, Parts, last, more, Now, going, constant, temporary, on_value, by_now, now, now_parts, settle_more, settle_right, close_last, close, settle, settle_parts, Move, next, alone, block_end, move, move_parts}
-use Rattle.fr_meaning.specs.Contexts.{depth, depth_in, IsOpen, IsHeld, RightSettled, IsSettled}
+use Rattle.fr_meaning.specs.Contexts.{IsOpen, IsHeld, RightSettled, IsSettled}
+use Rattle.fr_forms.specs.Depths.{depth, depth_in}
 
 -- WHAT IS SETTLED
 

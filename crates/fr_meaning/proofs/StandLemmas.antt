@@ -1,5 +1,5 @@
 -- How a thread stands: what it waits for, why its step is refused, and which names it takes.
-use Rattle.std.proofs.Common.{◌≡◌, ℕ, ℤ, Bool, true, false, List, get_or, Option, Some, None, refl, ap, ◌∙◌}
+use Rattle.std.proofs.Common.{◌≡◌, ℕ, ℤ, Bool, true, false, List, get_or, Option, Some, None, refl, sym, ap, ◌∙◌}
 use Rattle.std.specs.Prelude.{is_some, ◌||◌, option_map, if◌then◌else◌}
 use Rattle.fr_base.specs.declared.label.Plain.TheVariants as plain
 use Rattle.fr_base.specs.declared.step.Fresh.{Fresh}
@@ -9,20 +9,24 @@ use Rattle.fr_plain.specs.declared.value.Value.{Value}
 use Rattle.fr_plain.specs.declared.value.Value.TheVariants.{Own, ToSlot, ToObject, Held}
 use Rattle.fr_plain.specs.Heap.{Heap}
 use Rattle.fr_plain.specs.Run.{Run, life_move}
-use Rattle.fr_plain.specs.Threads.{unless_some, join_waits, result_in as result_in_plain}
-use Rattle.fr_plain.specs.Whole.{Thread as PlainThread, Whole, result_at, is_over, waits_for, has_ended, Takes, takes_name, refused_names, refused_wait, refused_of}
+use Rattle.fr_base.specs.declared.name.MutexNo.{MutexNo}
+use Rattle.fr_base.specs.declared.label.Label.{Label}
+use Rattle.fr_plain.specs.Machine.{lock_waits, mutex_behind}
+use Rattle.fr_plain.specs.Threads.{state_of, unless_some, join_waits, result_in as result_in_plain}
+use Rattle.fr_plain.specs.Whole.{Thread as PlainThread, Whole, result_at, is_over, waits_for, has_ended, Takes, no_name, a_thread, two_threads, a_mutex, takes_name, refused_names, refused_wait, refused_of}
 use Rattle.fr_meaning.specs.declared.error.StepError.{StepError}
 use Rattle.fr_meaning.specs.declared.error.StepError.TheVariants as error
-use Rattle.fr_meaning.specs.declared.forms.Form.{Form}
+use Rattle.fr_forms.specs.declared.forms.Form.{Form}
 use Rattle.fr_meaning.specs.declared.need.Need.{Need}
 use Rattle.fr_meaning.specs.declared.next.Next.{Next}
+use Rattle.fr_meaning.specs.declared.next.Next.TheVariants as next_
 use Rattle.fr_meaning.specs.declared.thread.Stage.{Stage}
 use Rattle.fr_meaning.specs.declared.thread.Stage.TheVariants as stage
 use Rattle.fr_meaning.specs.declared.thread.Thread.{Thread}
-use Rattle.fr_meaning.specs.FormTerms.{AreInOrder}
-use Rattle.fr_meaning.specs.Next.{IsNext, next_waits, starts, thread_if, task_named}
+use Rattle.fr_forms.specs.FormTerms.{AreInOrder}
+use Rattle.fr_meaning.specs.Next.{IsNext, next_waits, next_takes, task_named}
 use Rattle.fr_shared.specs.Places.{place_of}
-use Rattle.fr_meaning.specs.PoolView.{error_of, refusal, kind_of, need_in, need_of}
+use Rattle.fr_meaning.specs.PoolView.{error_of, takes_for, refusal, kind_of, need_in, need_of}
 use Rattle.fr_meaning.specs.Threads.{run_in, IsWell, IsGoingOn, is_done, result_in, life_at, thread_of, whole, numbers_of}
 use Rattle.fr_meaning.proofs.NextMoves.{next_moves, moves_wait}
 use Rattle.fr_meaning.proofs.ThreadLists.{none_there, there_at}
@@ -45,7 +49,7 @@ not_done_on stage.Over h = absurd cc
 not_done_on (stage.Ended v) h = absurd cc
 
 -- what a thread in progress waits for and which names it takes, by what it does next
-pub stands : (fs : List Form) (s : Whole) (x : Thread) (n : Next) → AreInOrder fs → IsWell fs x → is_done x.stage ≡ false → IsNext x.focus x.frames.items n → (waits_for s (thread_of fs x) ≡ next_waits s n) × (takes_name (life_move (thread_of fs x).life) ≡ thread_if (starts n))
+pub stands : (fs : List Form) (s : Whole) (x : Thread) (n : Next) → AreInOrder fs → IsWell fs x → is_done x.stage ≡ false → IsNext x.focus x.frames.items n → (waits_for s (thread_of fs x) ≡ next_waits s (thread_of fs x) n) × (takes_name (life_move (thread_of fs x).life) ≡ next_takes n)
 stands fs s x n a w g h = moves_wait fs s (thread_of fs x) n (life_move (life_at x.stage (run_in fs x))) (next_moves fs x n a w (not_done_on x.stage g) h)
 
 -- A JOIN
@@ -79,6 +83,36 @@ waits_there fs xs heap output v u k z b h e is r =
     task_waits (whole fs xs heap output) v u h ∙ ap (λ o. unless_some (result_in_plain o) (wait.Join u)) (there_at fs xs u k z e is).0
     ∙ ap (λ o. unless_some o (wait.Join u)) (kept_result z.stage (run_in fs z)) ∙ waits_by (result_in z.stage) b (wait.Join u) r
 
+-- where no mutex was made no lock waits
+no_lock_waits : (fs : List Form) (xs : List Thread) (heap : Heap) (output : List ℤ) (o : Option (MutexNo × List Label)) → lock_waits (whole fs xs heap output) o ≡ None
+no_lock_waits fs xs heap output None = refl
+no_lock_waits fs xs heap output (Some p) = refl
+
+-- and nothing waits but joins
+pub waits_none : (fs : List Form) (xs : List Thread) (heap : Heap) (output : List ℤ) (x : PlainThread) (n : Next) → ((v : Value) → n ≡ next_.Join v → ⊥) → next_waits (whole fs xs heap output) x n ≡ None
+waits_none fs xs heap output x (next_.End d) h = refl
+waits_none fs xs heap output x (next_.Join v) h = absurd (h v refl)
+waits_none fs xs heap output x (next_.Start node) h = refl
+waits_none fs xs heap output x (next_.Mutex v) h = refl
+waits_none fs xs heap output x (next_.Dup w) h = refl
+waits_none fs xs heap output x (next_.Lock w node) h = no_lock_waits fs xs heap output (mutex_behind (state_of (whole fs xs heap output) x) w)
+waits_none fs xs heap output x (next_.Unlock d) h = refl
+waits_none fs xs heap output x (next_.Par node) h = refl
+waits_none fs xs heap output x next_.ParEnd h = refl
+waits_none fs xs heap output x next_.Own h = refl
+
+-- a value that is no task waits for nobody
+pub waits_nobody : (s : Whole) (v : Value) → None ≡ task_named v → join_waits s v ≡ None
+waits_nobody s (Own (plain.Task t)) h = absurd cc
+waits_nobody s (Own plain.Nothing) h = refl
+waits_nobody s (Own plain.Unit) h = refl
+waits_nobody s (Own (plain.Int n)) h = refl
+waits_nobody s (Own (plain.Box o)) h = refl
+waits_nobody s (Own (plain.Mutex n)) h = refl
+waits_nobody s (ToSlot n) h = refl
+waits_nobody s (ToObject o) h = refl
+waits_nobody s (Held o) h = refl
+
 -- REFUSALS
 
 pub refused_nowhere : (fs : List Form) (xs : List Thread) (heap : Heap) (output : List ℤ) (t : ℕ) (names : Fresh) → place_of (numbers_of xs) t ≡ None → refusal (whole fs xs heap output) t names ≡ Some error.NoThread
@@ -95,7 +129,7 @@ refused_ended fs xs heap output t names i x h is e =
     ∙ ap (λ b. by_causes s names b (waits_for s (thread_of fs x)) (takes_name (life_move (thread_of fs x).life))) (life_done x.stage (run_in fs x) ∙ e)
 
 pub refused_there : (fs : List Form) (xs : List Thread) (heap : Heap) (output : List ℤ) (t : ℕ) (names : Fresh) (i : ℕ) (x : Thread) (n : Next) (w : Option Wait) → AreInOrder fs → IsWell fs x → place_of (numbers_of xs) t ≡ Some i → x ≡ get_or xs i x → is_done x.stage ≡ false → IsNext x.focus x.frames.items n →
-    next_waits (whole fs xs heap output) n ≡ w → refusal (whole fs xs heap output) t names ≡ option_map error_of (refused_wait w (refused_names (whole fs xs heap output) (thread_if (starts n)) names))
+    next_waits (whole fs xs heap output) (thread_of fs x) n ≡ w → refusal (whole fs xs heap output) t names ≡ option_map error_of (refused_wait w (refused_names (whole fs xs heap output) (next_takes n) names))
 refused_there fs xs heap output t names i x n w a well h is e comes stays =
     let s = whole fs xs heap output in
     let st = stands fs s x n a well e comes in
@@ -104,6 +138,12 @@ refused_there fs xs heap output t names i x n w a well h is e comes stays =
     ∙ ap (λ o. by_causes s names false o (takes_name (life_move (thread_of fs x).life))) (st.0 ∙ stays) ∙ ap (λ b. by_causes s names false w b) st.1
 
 -- NAMES
+
+pub takes_kind : (t : Takes) → takes_for (kind_of t) ≡ t
+takes_kind no_name = refl
+takes_kind a_thread = refl
+takes_kind two_threads = refl
+takes_kind a_mutex = refl
 
 pub need_nowhere : (fs : List Form) (xs : List Thread) (heap : Heap) (output : List ℤ) (t : ℕ) → place_of (numbers_of xs) t ≡ None → need_of (whole fs xs heap output) t ≡ None
 need_nowhere fs xs heap output t h = ap need_in (none_there fs xs t h)
@@ -114,11 +154,11 @@ by_need over takes = if over then None else Some (kind_of takes)
 pub need_ended : (fs : List Form) (xs : List Thread) (heap : Heap) (output : List ℤ) (t i : ℕ) (x : Thread) → place_of (numbers_of xs) t ≡ Some i → x ≡ get_or xs i x → is_done x.stage ≡ true → need_of (whole fs xs heap output) t ≡ None
 need_ended fs xs heap output t i x h is e = ap need_in (there_at fs xs t i x h is).0 ∙ ap (λ b. by_need b (takes_name (life_move (thread_of fs x).life))) (life_done x.stage (run_in fs x) ∙ e)
 
-pub need_there : (fs : List Form) (xs : List Thread) (heap : Heap) (output : List ℤ) (t i : ℕ) (x : Thread) (n : Next) (takes : Bool) → AreInOrder fs → IsWell fs x → place_of (numbers_of xs) t ≡ Some i → x ≡ get_or xs i x → is_done x.stage ≡ false → IsNext x.focus x.frames.items n →
-    starts n ≡ takes → need_of (whole fs xs heap output) t ≡ Some (kind_of (thread_if takes))
-need_there fs xs heap output t i x n takes a well h is e comes same =
+pub need_there : (fs : List Form) (xs : List Thread) (heap : Heap) (output : List ℤ) (t i : ℕ) (x : Thread) (n : Next) (need : Need) → AreInOrder fs → IsWell fs x → place_of (numbers_of xs) t ≡ Some i → x ≡ get_or xs i x → is_done x.stage ≡ false → IsNext x.focus x.frames.items n →
+    need ≡ kind_of (next_takes n) → need_of (whole fs xs heap output) t ≡ Some need
+need_there fs xs heap output t i x n need a well h is e comes same =
     ap need_in (there_at fs xs t i x h is).0 ∙ ap (λ b. by_need b (takes_name (life_move (thread_of fs x).life))) (life_done x.stage (run_in fs x) ∙ e)
-    ∙ ap (by_need false) ((stands fs (whole fs xs heap output) x n a well e comes).1 ∙ ap thread_if same)
+    ∙ ap (by_need false) (stands fs (whole fs xs heap output) x n a well e comes).1 ∙ ap Some (sym same)
 
 -- STANDING STILL
 
@@ -126,6 +166,6 @@ need_there fs xs heap output t i x n takes a well h is e comes same =
 abbrev pub still : Whole → PlainThread → Bool
 still s x = is_over x.life || is_some (waits_for s x)
 
-pub still_waits : (fs : List Form) (s : Whole) (x : Thread) (n : Next) (w : Option Wait) → AreInOrder fs → IsWell fs x → is_done x.stage ≡ false → IsNext x.focus x.frames.items n → next_waits s n ≡ w → still s (thread_of fs x) ≡ is_some w
+pub still_waits : (fs : List Form) (s : Whole) (x : Thread) (n : Next) (w : Option Wait) → AreInOrder fs → IsWell fs x → is_done x.stage ≡ false → IsNext x.focus x.frames.items n → next_waits s (thread_of fs x) n ≡ w → still s (thread_of fs x) ≡ is_some w
 still_waits fs s x n w a well e comes h =
     ap (λ b. b || is_some (waits_for s (thread_of fs x))) (life_done x.stage (run_in fs x) ∙ e) ∙ ap is_some ((stands fs s x n a well e comes).0 ∙ h)

@@ -4,19 +4,19 @@ use Rattle.std.specs.Prelude.{IsSome}
 use Rattle.fr_plain.specs.declared.value.Value.{Value}
 use Rattle.fr_plain.specs.Run.{Run, owing}
 use Rattle.fr_plain.specs.Threads.{Passed, pass, Thread as PlainThread}
-use Rattle.fr_meaning.specs.declared.forms.Captured.{Captured}
-use Rattle.fr_meaning.specs.declared.forms.Form.{Form}
-use Rattle.fr_meaning.specs.declared.forms.Form.TheVariants as form
+use Rattle.fr_forms.specs.declared.forms.Captured.{Captured}
+use Rattle.fr_forms.specs.declared.forms.Form.{Form}
+use Rattle.fr_forms.specs.declared.forms.Form.TheVariants as form
 use Rattle.fr_meaning.specs.declared.frame.Focus.{Focus}
 use Rattle.fr_meaning.specs.declared.thread.Stage.{Stage}
 use Rattle.fr_meaning.specs.declared.thread.Stage.TheVariants as stage
 use Rattle.fr_meaning.specs.declared.thread.Thread.{Thread}
-use Rattle.fr_meaning.specs.Contexts.{depth}
-use Rattle.fr_meaning.specs.FormTerms.{captures_of, captures_in, captures_at, term_of, IsSpawn}
+use Rattle.fr_forms.specs.Depths.{depth}
+use Rattle.fr_forms.specs.FormTerms.{captures_of, captures_in, captures_at, term_of, IsSpawn}
 use Rattle.fr_meaning.specs.FrameTerms.{wrapped, focus_run, HasMadeWay}
 use Rattle.fr_acts.specs.SlotOrder.{newest_first}
 use Rattle.fr_meaning.specs.Threads.{run_in, IsWell, life_at, thread_of, AreWell, Starts}
-use Rattle.fr_meaning.proofs.FormLemmas.{get_or-any}
+use Rattle.fr_forms.proofs.FormLemmas.{get_or-any}
 use Rattle.fr_meaning.proofs.FrameLemmas.{length_depth}
 use Rattle.fr_meaning.proofs.ThreadLists.{well_at}
 
@@ -26,7 +26,7 @@ pub record StartFacts (fs : List Form) (x : Thread) (node : ℕ) : Type 0 where
   pub inside : node < length fs
   pub spawn : IsSpawn (get_or fs node form.Unit)
   pub run : run_in fs x ≡ wrapped fs x.frames.items (term_of fs node)
-  pub depth : depth (term_of fs node) ≤ 64
+  pub depth : depth (term_of fs node) ≤ 128
 
 pub start_facts : (fs : List Form) (xs : List Thread) (i : ℕ) (x : Thread) (node : ℕ) → i < length xs → x ≡ get_or xs i x → AreWell fs xs → Starts fs x node → StartFacts fs x node
 start_facts fs xs i x node lt is all s =
@@ -76,6 +76,10 @@ not_other ns i e lt s is other = by e refl (subst IsSpawn (get_or-any ns i form.
     by (form.Let x) q h = h
     by (form.Print x) q h = h
     by (form.Join x) q h = h
+    by (form.Mutex x) q h = h
+    by (form.Dup place) q h = h
+    by (form.Lock place x k2) q h = h
+    by (form.Par ours theirs) q h = h
     by (form.Assign w x) q h = h
     by (form.Arith f x y) q h = h
     by (form.Block items lets) q h = h

@@ -7,9 +7,9 @@ use Rattle.fr_plain.specs.declared.value.Value.{Value}
 use Rattle.fr_plain.specs.Heap.{Heap}
 use Rattle.fr_plain.specs.State.{State}
 use Rattle.fr_plain.specs.Acts.{Did, act, do_read, do_borrow, do_discard, do_drop, unit}
-use Rattle.fr_plain.specs.Run.{Run, temp, read, borrow, block, Parts, last, more, going, temporary, now, settle, leaves, Move, next, alone, move}
-use Rattle.fr_meaning.specs.declared.forms.Form.{Form}
-use Rattle.fr_meaning.specs.declared.forms.Form.TheVariants as form
+use Rattle.fr_plain.specs.Run.{Run, temp, read, borrow, block, spawn, dup, lock, par, par_end, Parts, last, more, going, temporary, now, settle, leaves, Move, next, alone, move}
+use Rattle.fr_forms.specs.declared.forms.Form.{Form}
+use Rattle.fr_forms.specs.declared.forms.Form.TheVariants as form
 use Rattle.fr_meaning.specs.declared.frame.Done.{Done}
 use Rattle.fr_meaning.specs.declared.frame.Done.TheVariants as done
 use Rattle.fr_meaning.specs.declared.frame.Frame.{Frame}
@@ -17,14 +17,14 @@ use Rattle.fr_meaning.specs.declared.frame.Frame.TheVariants as frame
 use Rattle.fr_meaning.specs.declared.frame.Focus.{Focus}
 use Rattle.fr_meaning.specs.declared.frame.Focus.TheVariants as focus
 use Rattle.fr_meaning.specs.Contexts.{Around, fill, wrap, IsOpen, IsHeld, IsSettled}
-use Rattle.fr_meaning.specs.FormTerms.{parts_from, parts_of, term_of, items_at, AreInOrder, IsSpawn}
+use Rattle.fr_forms.specs.FormTerms.{parts_from, parts_of, term_of, items_at, AreInOrder, IsSpawn, IsLock, IsPar}
 use Rattle.fr_meaning.specs.DoneTerms.{over, value_of}
 use Rattle.fr_meaning.specs.FrameTerms.{around_items, around, all_around, wrapped, focus_run, HasMadeWay, end_of}
 use Rattle.fr_shared.specs.declared.heap.Released.{Released}
 use Rattle.fr_shared.specs.declared.heap.Released.TheVariants as released
 use Rattle.fr_acts.specs.Acting.{did, releases}
 use Rattle.fr_meaning.specs.Turning.{Turned, turned_by, turned, turns_to, settled, term_step}
-use Rattle.fr_meaning.proofs.FormLemmas.{spawn_run}
+use Rattle.fr_forms.proofs.FormLemmas.{spawn_run, lock_run, par_run}
 use Rattle.fr_meaning.proofs.ContextLemmas.{now_fill, now_wrap, move_wrap, settled_fill}
 use Rattle.fr_meaning.proofs.FrameLemmas.{now_temporary, last_waits, more_waits}
 
@@ -110,6 +110,8 @@ settled_waits fs frame.Box d h = refl
 settled_waits fs frame.Let d h = refl
 settled_waits fs frame.Print d h = refl
 settled_waits fs frame.Join d h = refl
+settled_waits fs frame.Mutex d h = refl
+settled_waits fs frame.Locked d h = refl
 settled_waits fs (frame.Assign w) d h = refl
 settled_waits fs (frame.Left f right) d h = refl
 settled_waits fs (frame.Right f left) d h = refl
@@ -177,6 +179,10 @@ not_done fs (g ∷ gs) (focus.Over d) a h w e = over_waits fs g gs d h
 not_done fs gs (focus.Read w take) a h y e = now_wrap (all_around fs gs) (read w take) refl
 not_done fs gs (focus.Borrow w is_mut) a h y e = now_wrap (all_around fs gs) (borrow w is_mut) refl
 not_done fs gs (focus.Spawn node) a h y e = now_wrap (all_around fs gs) (term_of fs node) (spawn_now fs node a y)
+not_done fs gs (focus.Dup w) a h y e = now_wrap (all_around fs gs) (dup w) refl
+not_done fs gs (focus.Lock w node) a h y e = now_wrap (all_around fs gs) (term_of fs node) (ap now (lock_run fs node w a y.0 y.1).1)
+not_done fs gs (focus.Par node) a h y e = now_wrap (all_around fs gs) (term_of fs node) (ap now (par_run fs node a y.0 y.1).4)
+not_done fs gs focus.ParEnd a h y e = now_wrap (all_around fs gs) par_end refl
 
 -- with no frame left the term is the focus
 pub run_end : (fs : List Form) (f : Focus) (gs : List Frame) (d : Done) → end_of f gs ≡ Some d → wrapped fs gs (focus_run fs f) ≡ over d
@@ -188,11 +194,28 @@ run_end fs (focus.Borrow w is_mut) [] d h = absurd cc
 run_end fs (focus.Borrow w is_mut) (g ∷ gs) d h = absurd cc
 run_end fs (focus.Spawn node) [] d h = absurd cc
 run_end fs (focus.Spawn node) (g ∷ gs) d h = absurd cc
+run_end fs (focus.Dup w) [] d h = absurd cc
+run_end fs (focus.Dup w) (g ∷ gs) d h = absurd cc
+run_end fs (focus.Lock w node) [] d h = absurd cc
+run_end fs (focus.Lock w node) (g ∷ gs) d h = absurd cc
+run_end fs (focus.Par node) [] d h = absurd cc
+run_end fs (focus.Par node) (g ∷ gs) d h = absurd cc
+run_end fs focus.ParEnd [] d h = absurd cc
+run_end fs focus.ParEnd (g ∷ gs) d h = absurd cc
 
--- starting a thread is no act of the thread alone
-pub spawn_alone : (fs : List Form) (gs : List Frame) (node : ℕ) (s : State) → AreInOrder fs → (node < length fs) × IsSpawn (slice_index_or fs node form.Unit) → IsSome (term_step (wrapped fs gs (term_of fs node)) s) → ⊥
-spawn_alone fs gs node s a h goes =
-    let r = spawn_run fs node a h.0 h.1 in
-    let g = goes_in_frames fs gs (term_of fs node) s (spawn_now fs node a h) goes in
-    let no : false ≡ true = subst (λ (q : Run). IsSome (turned (move q) s)) r.2 g in
+-- a term whose next act is none of the thread alone
+pub not_alone : (fs : List Form) (gs : List Frame) (r q : Run) (s : State) → r ≡ q → now q ≡ going → turned (move q) s ≡ None → IsSome (term_step (wrapped fs gs r) s) → ⊥
+not_alone fs gs r q s e g none goes =
+    let n : now r ≡ going = ap now e ∙ g in
+    let no : false ≡ true = subst (λ (o : Option Turned). IsSome o) (ap (λ x. turned (move x) s) e ∙ none) (goes_in_frames fs gs r s n goes) in
     cc
+
+-- neither starting threads nor a lock is an act of the thread alone
+pub spawn_alone : (fs : List Form) (gs : List Frame) (node : ℕ) (s : State) → AreInOrder fs → (node < length fs) × IsSpawn (slice_index_or fs node form.Unit) → IsSome (term_step (wrapped fs gs (term_of fs node)) s) → ⊥
+spawn_alone fs gs node s a h goes = let r = spawn_run fs node a h.0 h.1 in not_alone fs gs (term_of fs node) (spawn r.0 r.1) s r.2 refl refl goes
+
+pub lock_alone : (fs : List Form) (gs : List Frame) (w : Lval) (node : ℕ) (s : State) → AreInOrder fs → (node < length fs) × IsLock w (slice_index_or fs node form.Unit) → IsSome (term_step (wrapped fs gs (term_of fs node)) s) → ⊥
+lock_alone fs gs w node s a h goes = let r = lock_run fs node w a h.0 h.1 in not_alone fs gs (term_of fs node) (lock w r.0) s r.1 refl refl goes
+
+pub par_alone : (fs : List Form) (gs : List Frame) (node : ℕ) (s : State) → AreInOrder fs → (node < length fs) × IsPar (slice_index_or fs node form.Unit) → IsSome (term_step (wrapped fs gs (term_of fs node)) s) → ⊥
+par_alone fs gs node s a h goes = let r = par_run fs node a h.0 h.1 in not_alone fs gs (term_of fs node) (par r.0 r.1 r.2 r.3) s r.4 refl refl goes

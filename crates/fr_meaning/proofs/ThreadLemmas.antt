@@ -8,7 +8,8 @@ use Rattle.fr_plain.specs.State.{State, slot_at}
 use Rattle.fr_plain.specs.Acts.{Did, act}
 use Rattle.fr_plain.specs.Run.{Capture, Run, Move, move, settle}
 use Rattle.fr_plain.specs.Threads.{left_after, then_passed, pass}
-use Rattle.fr_meaning.specs.Contexts.{depth, IsSettled}
+use Rattle.fr_meaning.specs.Contexts.{IsSettled}
+use Rattle.fr_forms.specs.Depths.{depth}
 use Rattle.fr_shared.specs.declared.heap.Released.{Released}
 use Rattle.fr_acts.specs.Acting.{state, releases}
 use Rattle.fr_meaning.specs.Turning.{Turned, turned_by, turned, turns_to, settled, term_step}

@@ -4,18 +4,19 @@ use Rattle.std.specs.Prelude.{◌==◌, option_map, slice_set, vec_capacity, if�
 use Rattle.fr_plain.specs.declared.value.Value.{Value}
 use Rattle.fr_plain.specs.Heap.{Heap}
 use Rattle.fr_plain.specs.Threads.{Thread as PlainThread, Whole, thread_at, with_thread, released, released_in, let_threads_go}
-use Rattle.fr_meaning.specs.declared.forms.Form.{Form}
+use Rattle.fr_forms.specs.declared.forms.Form.{Form}
 use Rattle.fr_meaning.specs.declared.thread.Stage.{Stage}
 use Rattle.fr_meaning.specs.declared.thread.Stage.TheVariants as stage
 use Rattle.fr_meaning.specs.declared.thread.Thread.{Thread}
 use Rattle.fr_meaning.specs.declared.frame.Frame.{Frame}
 use Rattle.fr_meaning.specs.declared.frame.Focus.{Focus}
-use Rattle.fr_meaning.specs.Contexts.{depth, IsSettled}
+use Rattle.fr_meaning.specs.Contexts.{IsSettled}
+use Rattle.fr_forms.specs.Depths.{depth}
 use Rattle.fr_meaning.specs.FrameTerms.{wrapped, focus_run, AreInside, HasMadeWay}
 use Rattle.fr_acts.specs.SlotOrder.{newest_first}
 use Rattle.fr_shared.specs.Places.{place_of}
 use Rattle.fr_meaning.specs.Threads.{run_in, IsGoingOn, IsEnded, IsWell, life_at, thread_of, threads_of, whole, numbers_of, AreWell, after_release, released_heap, released_task}
-use Rattle.fr_meaning.proofs.FormLemmas.{eq_cases}
+use Rattle.fr_forms.proofs.FormLemmas.{eq_cases}
 use Rattle.fr_shared.proofs.PlaceLemmas.{later_place}
 
 -- as many numbers as threads

@@ -20,7 +20,7 @@ use Rattle.fr_plain.specs.Threads.{result_of_life, result_in}
 use Rattle.fr_plain.specs.Whole.{Thread, Whole, Stepped, thread_at, with_thread, with_life, is_given, Passed, pass, result_at, prints, stepped, then_released, alone_stepped, started, started_with, joined, joined_with, is_nameless, done_act, moved, step_of, step, state_of}
 use Rattle.fr_sound.proofs.Focus.{number_of, with_same, with_other}
 use Rattle.fr_meaning.specs.PoolView.{total_left}
-use Rattle.fr_meaning.proofs.FormLemmas.{eq_cases}
+use Rattle.fr_forms.proofs.FormLemmas.{eq_cases}
 use Rattle.fr_meaning.proofs.StepsLeft.{born, life_falls, settle_left}
 
 -- another thread for the one of its number

@@ -17,7 +17,7 @@ use Rattle.fr_plain.specs.Run as run
 use Rattle.fr_plain.specs.Run.{Capture, Run, going, now, settle, Move, next, alone, move, Life, settle_life, life_move}
 use Rattle.fr_plain.specs.Threads.{Whole, Thread as PlainThread, with_thread, with_life, Passed, pass, release, result_of_life, result_in as result_in_plain}
 use Rattle.fr_plain.specs.Whole.{Stepped, prints, let_go, then_released, stepped, alone_stepped, moved, step_of, step, state_of, joined, joined_with, started_with}
-use Rattle.fr_meaning.specs.declared.forms.Form.{Form}
+use Rattle.fr_forms.specs.declared.forms.Form.{Form}
 use Rattle.fr_meaning.specs.declared.frame.Done.{Done}
 use Rattle.fr_meaning.specs.declared.frame.Done.TheVariants as done
 use Rattle.fr_meaning.specs.declared.thread.Stage.{Stage}

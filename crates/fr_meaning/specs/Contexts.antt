@@ -1,4 +1,4 @@
--- A running term as the terms around its innermost one, how deep it is, and when it waits for a step.
+-- A running term as the terms around its innermost one, and when it waits for a step.
 use Rattle.std.specs.Prelude.{ℕ, zero, suc, ◌+◌, max, ⊤, List, [], ◌∷◌}
 use Rattle.fr_base.specs.declared.place.Lval.{Lval}
 use Rattle.fr_base.specs.declared.place.Op.{Op}
@@ -12,6 +12,8 @@ pub data Around : Type 0 where
   in_bind : Around
   in_print : Around
   in_join : Around
+  in_mutex : Around
+  in_locked : Around
   in_assign : Lval → Around
   in_left : Op → Run → Around
   in_right : Op → Done → Around
@@ -23,6 +25,8 @@ fill in_box r = box_r r
 fill in_bind r = bind r
 fill in_print r = print r
 fill in_join r = join_r r
+fill in_mutex r = mutex_r r
+fill in_locked r = locked r
 fill (in_assign w) r = assign w r
 fill (in_left f b) r = arith f r b
 fill (in_right f d) r = arith f (over d) r
@@ -33,33 +37,6 @@ fill (in_more k is) r = block k (more r is)
 abbrev pub wrap : List Around → Run → Run
 wrap [] r = r
 wrap (c ∷ cs) r = fill c (wrap cs r)
-
-abbrev mutual
-  -- how many terms stand around its innermost one, at most
-  pub depth : Run → ℕ
-  depth (temp v) = 0
-  depth unit_c = 0
-  depth (number n) = 0
-  depth (read w take) = 0
-  depth (borrow w is_mut) = 0
-  depth (box_r r) = depth r + 1
-  depth (arith f a b) = max (depth a) (depth b) + 1
-  depth (bind r) = depth r + 1
-  depth (print r) = depth r + 1
-  depth (assign w r) = depth r + 1
-  depth (block k is) = depth_in is + 1
-  depth (spawn cs r) = depth r
-  depth (join_r r) = depth r + 1
-  depth (mutex_r r) = depth r + 1
-  depth (dup w) = 0
-  depth (lock w r) = depth r + 1
-  depth (locked r) = depth r + 1
-  depth (par cs a ds b) = max (depth a) (depth b)
-  depth par_end = 0
-
-  pub depth_in : Parts → ℕ
-  depth_in (last r) = depth r
-  depth_in (more r is) = max (depth r) (depth_in is)
 
 -- a block with no slot left to drop isn't done
 abbrev pub IsOpen : ℕ → Now → Type 0

@@ -1,8 +1,8 @@
 -- What frames and the focus mean: the terms around the innermost term, and that term.
 use Rattle.std.specs.Prelude.{◌≡◌, ℕ, ◌<◌, ⊤, List, [], ◌∷◌, length, drop, slice_index_or, Option, Some, None}
-use Rattle.fr_plain.specs.Run.{Run, read, borrow, going, now}
-use Rattle.fr_meaning.specs.declared.forms.Form.{Form}
-use Rattle.fr_meaning.specs.declared.forms.Form.TheVariants as form
+use Rattle.fr_plain.specs.Run.{Run, read, borrow, dup, par_end, going, now}
+use Rattle.fr_forms.specs.declared.forms.Form.{Form}
+use Rattle.fr_forms.specs.declared.forms.Form.TheVariants as form
 use Rattle.fr_meaning.specs.declared.frame.Done.{Done}
 use Rattle.fr_meaning.specs.declared.frame.Frame.{Frame}
 use Rattle.fr_meaning.specs.declared.frame.Frame.TheVariants as frame
@@ -11,8 +11,8 @@ use Rattle.fr_meaning.specs.declared.frame.Focus.TheVariants as focus
 use Rattle.fr_meaning.specs.declared.frame.Entered.{Entered}
 use Rattle.fr_meaning.specs.declared.frame.Entered.TheVariants as entered
 use Rattle.fr_meaning.specs.DoneTerms.{over}
-use Rattle.fr_meaning.specs.Contexts.{Around, in_box, in_bind, in_print, in_join, in_assign, in_left, in_right, in_last, in_more, wrap}
-use Rattle.fr_meaning.specs.FormTerms.{parts_from, term_of, items_at, IsSpawn}
+use Rattle.fr_meaning.specs.Contexts.{Around, in_box, in_bind, in_print, in_join, in_mutex, in_locked, in_assign, in_left, in_right, in_last, in_more, wrap}
+use Rattle.fr_forms.specs.FormTerms.{parts_from, term_of, items_at, IsSpawn, IsLock, IsPar}
 
 -- an item of a block that has still to drop so many slots, before the items after it
 abbrev pub around_items : ℕ → (ℕ → Run) → List ℕ → Around
@@ -24,6 +24,8 @@ around fs frame.Box = in_box
 around fs frame.Let = in_bind
 around fs frame.Print = in_print
 around fs frame.Join = in_join
+around fs frame.Mutex = in_mutex
+around fs frame.Locked = in_locked
 around fs (frame.Assign w) = in_assign w
 around fs (frame.Left f right) = in_left f (term_of fs right)
 around fs (frame.Right f left) = in_right f left
@@ -37,12 +39,16 @@ all_around fs (g ∷ gs) = around fs g ∷ all_around fs gs
 abbrev pub wrapped : List Form → List Frame → Run → Run
 wrapped fs gs r = wrap (all_around fs gs) r
 
--- a new thread is a form
+-- new threads and a lock are forms
 abbrev pub focus_run : List Form → Focus → Run
 focus_run fs (focus.Over d) = over d
 focus_run fs (focus.Read w take) = read w take
 focus_run fs (focus.Borrow w is_mut) = borrow w is_mut
 focus_run fs (focus.Spawn node) = term_of fs node
+focus_run fs (focus.Dup w) = dup w
+focus_run fs (focus.Lock w node) = term_of fs node
+focus_run fs (focus.Par node) = term_of fs node
+focus_run fs focus.ParEnd = par_end
 
 -- the form that a frame names is there
 abbrev pub IsInside : ℕ → Frame → Type 0
@@ -71,10 +77,12 @@ TopIsPastLeft [] = ⊤
 TopIsPastLeft (g ∷ []) = IsPastLeft g
 TopIsPastLeft (g ∷ h ∷ gs) = TopIsPastLeft (h ∷ gs)
 
--- a left operand that is done has made way for the right one, and a new thread is a form that is there
+-- a left operand that is done has made way for the right one, and new threads and a lock are forms that are there
 abbrev pub HasMadeWay : List Form → List Frame → Focus → Type 0
 HasMadeWay fs gs (focus.Over d) = TopIsPastLeft gs
 HasMadeWay fs gs (focus.Spawn node) = (node < length fs) × IsSpawn (slice_index_or fs node form.Unit)
+HasMadeWay fs gs (focus.Lock w node) = (node < length fs) × IsLock w (slice_index_or fs node form.Unit)
+HasMadeWay fs gs (focus.Par node) = (node < length fs) × IsPar (slice_index_or fs node form.Unit)
 HasMadeWay fs gs _ = ⊤
 
 -- the settled term is done, with the frames as they were, or it is the focus in frames above the old ones

@@ -1,4 +1,3 @@
-pub mod FormTerms
 pub mod DoneTerms
 pub mod Contexts
 pub mod FrameTerms
@@ -9,5 +8,3 @@ pub mod PoolView
 pub mod Entries
 pub mod Running
 pub mod PoolInside
-pub mod Forming
-pub mod Resolved

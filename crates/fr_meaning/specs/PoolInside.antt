@@ -1,6 +1,6 @@
 -- A pool's fields.
 use Rattle.fr_meaning.specs.declared.pool.Pool.TheInside.{Inside}
-use Rattle.fr_meaning.specs.FormTerms.{AreInOrder}
+use Rattle.fr_forms.specs.FormTerms.{AreInOrder}
 use Rattle.fr_meaning.specs.Running.{view_of, Stands}
 use Rattle.fr_meaning.specs.PoolView.{View, whole_of}
 use Rattle.fr_sound.specs.Together.{AreTyped}

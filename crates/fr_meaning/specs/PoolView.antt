@@ -5,7 +5,7 @@ use Rattle.fr_plain.specs.declared.value.Value.{Value}
 use Rattle.fr_plain.specs.Heap.{Heap}
 use Rattle.fr_plain.specs.Run.{Run, life_move, life_left}
 use Rattle.fr_plain.specs.Whole.{Thread as PlainThread, Whole, thread_at, is_over, Takes, no_name, a_thread, two_threads, a_mutex, takes_name, Refusal, no_thread, has_ended, waits, name_kind, name_used, refused}
-use Rattle.fr_meaning.specs.declared.forms.Form.{Form}
+use Rattle.fr_forms.specs.declared.forms.Form.{Form}
 use Rattle.fr_meaning.specs.declared.frame.Frame.{Frame}
 use Rattle.fr_meaning.specs.declared.frame.Focus.{Focus}
 use Rattle.fr_meaning.specs.declared.thread.Stage.{Stage}
@@ -73,6 +73,13 @@ kind_of no_name = need.Nothing
 kind_of a_thread = need.Thread
 kind_of two_threads = need.Threads
 kind_of a_mutex = need.Mutex
+
+-- the names of a kind
+abbrev pub takes_for : Need → Takes
+takes_for need.Nothing = no_name
+takes_for need.Thread = a_thread
+takes_for need.Threads = two_threads
+takes_for need.Mutex = a_mutex
 
 abbrev pub need_in : Option PlainThread → Option Need
 need_in None = None

@@ -1,7 +1,7 @@
 -- All that runs, and what it stands for.
 use Rattle.std.specs.Prelude.{◌≡◌, List}
 use Rattle.fr_plain.specs.Whole.{Whole}
-use Rattle.fr_meaning.specs.declared.forms.Form.{Form}
+use Rattle.fr_forms.specs.declared.forms.Form.{Form}
 use Rattle.fr_meaning.specs.declared.running.Running.{Running}
 use Rattle.fr_meaning.specs.Threads.{whole, numbers_of, AreWell}
 use Rattle.fr_meaning.specs.Entries.{entries_of}

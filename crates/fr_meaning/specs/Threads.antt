@@ -8,12 +8,13 @@ use Rattle.fr_plain.specs.Heap.{Heap}
 use Rattle.fr_plain.specs.State.{without}
 use Rattle.fr_plain.specs.Run.{Run, Life, alive, over, owing, loose, ended}
 use Rattle.fr_plain.specs.Threads.{Whole, Thread as PlainThread, pass}
-use Rattle.fr_meaning.specs.FormTerms.{captures_of, captures_at}
-use Rattle.fr_meaning.specs.declared.forms.Form.{Form}
+use Rattle.fr_forms.specs.FormTerms.{captures_of, captures_at}
+use Rattle.fr_forms.specs.declared.forms.Form.{Form}
 use Rattle.fr_meaning.specs.declared.thread.Stage.{Stage}
 use Rattle.fr_meaning.specs.declared.thread.Stage.TheVariants as stage
 use Rattle.fr_meaning.specs.declared.thread.Thread.{Thread}
-use Rattle.fr_meaning.specs.Contexts.{depth, IsSettled}
+use Rattle.fr_meaning.specs.Contexts.{IsSettled}
+use Rattle.fr_forms.specs.Depths.{depth}
 use Rattle.fr_base.specs.declared.label.Plain.TheVariants.{Task}
 use Rattle.fr_plain.specs.declared.value.Value.TheVariants.{Own}
 use Rattle.fr_meaning.specs.declared.frame.Done.{Done}
@@ -39,8 +40,8 @@ pub record IsWell (fs : List Form) (x : Thread) : Type 0 where
   pub frames : AreInside (length fs) x.frames.items
   pub way : HasMadeWay fs x.frames.items x.focus
   pub settled : IsSettled (run_in fs x)
-  pub depth : depth (run_in fs x) ≤ 64
-  pub room : 64 ≤ vec_capacity x.frames
+  pub depth : depth (run_in fs x) ≤ 128
+  pub room : 128 ≤ vec_capacity x.frames
 
 -- the thread is in progress
 abbrev pub IsGoingOn : Stage → Type 0

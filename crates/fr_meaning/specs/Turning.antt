@@ -49,4 +49,6 @@ frame_labels _ = 2
 abbrev pub focus_labels : Focus → ℕ
 focus_labels (focus.Read w take) = w.depth + 2
 focus_labels (focus.Borrow w is_mut) = w.depth + 2
+focus_labels (focus.Dup w) = w.depth + 2
+focus_labels (focus.Lock w node) = w.depth + 2
 focus_labels _ = 2

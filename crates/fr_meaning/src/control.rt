@@ -6,14 +6,16 @@ ghost use Rattle.fr_meaning.specs.declared.frame.Done.TheVariants as done;
 ghost use Rattle.fr_meaning.specs.declared.frame.Entered.TheVariants as entered;
 ghost use Rattle.fr_meaning.specs.declared.frame.Focus.TheVariants as focus;
 ghost use Rattle.fr_plain.specs.Run.{settle, arith, block, last, leaves};
-ghost use Rattle.fr_meaning.specs.Contexts.{fill, depth};
-ghost use Rattle.fr_meaning.specs.FormTerms.{AreInOrder, term_of, parts_of, items_at};
+ghost use Rattle.fr_meaning.specs.Contexts.{fill};
+ghost use Rattle.fr_forms.specs.Depths.{depth};
+ghost use Rattle.fr_forms.specs.FormTerms.{AreInOrder, term_of, parts_of, items_at};
 ghost use Rattle.fr_meaning.specs.DoneTerms.{over};
-ghost use Rattle.fr_meaning.specs.FrameTerms.{Enters, EntersItem, waits_of, focus_of, wrapped, around, focus_run, AreInside, IsInside, HasMadeWay};
+ghost use Rattle.fr_meaning.specs.FrameTerms.{Enters, EntersItem, waits_of, focus_of, wrapped, around, focus_run, AreInside, IsInside, HasLastPart, HasMadeWay};
 
-use crate::forms::Form;
 use crate::frame::{Done, Entered, Focus, Frame};
-use fr_base::Op;
+use fr_base::{Op, Plain};
+use fr_forms::Form;
+use fr_plain::Value;
 use std::slice;
 
 // The term around it waits.
@@ -134,26 +136,15 @@ pub fn enter(forms: &[Form], at: usize, frames: &mut Vec<Frame>) -> Entered
         Form::Read(place, take) => Entered::Waits(Focus::Read(*place, *take)),
         Form::Borrow(place, is_mut) => Entered::Waits(Focus::Borrow(*place, *is_mut)),
         Form::Spawn(_, _, _) => Entered::Waits(Focus::Spawn(at)),
-        Form::Box(part) => {
-            frames.push_reserved(Frame::Box);
-            waits(enter(forms, *part as usize, frames))
-        }
-        Form::Let(part) => {
-            frames.push_reserved(Frame::Let);
-            waits(enter(forms, *part as usize, frames))
-        }
-        Form::Print(part) => {
-            frames.push_reserved(Frame::Print);
-            waits(enter(forms, *part as usize, frames))
-        }
-        Form::Join(part) => {
-            frames.push_reserved(Frame::Join);
-            waits(enter(forms, *part as usize, frames))
-        }
-        Form::Assign(place, part) => {
-            frames.push_reserved(Frame::Assign(*place));
-            waits(enter(forms, *part as usize, frames))
-        }
+        Form::Dup(place) => Entered::Waits(Focus::Dup(*place)),
+        Form::Lock(place, _, _) => Entered::Waits(Focus::Lock(*place, at)),
+        Form::Par(_, _) => Entered::Waits(Focus::Par(at)),
+        Form::Box(part) => enter_part(forms, Frame::Box, *part as usize, frames),
+        Form::Let(part) => enter_part(forms, Frame::Let, *part as usize, frames),
+        Form::Print(part) => enter_part(forms, Frame::Print, *part as usize, frames),
+        Form::Join(part) => enter_part(forms, Frame::Join, *part as usize, frames),
+        Form::Mutex(part) => enter_part(forms, Frame::Mutex, *part as usize, frames),
+        Form::Assign(to, part) => enter_part(forms, Frame::Assign(*to), *part as usize, frames),
         Form::Arith(op, left, right) => enter_operands(
             forms,
             *op,
@@ -163,6 +154,24 @@ pub fn enter(forms: &[Form], at: usize, frames: &mut Vec<Frame>) -> Entered
         ),
         Form::Block(_, lets) => enter_items(forms, at, 0, *lets, frames),
     }
+}
+
+// Goes into the last part of a term, or its only one, under its frame.
+#[cycle(enter)]
+fn enter_part(forms: &[Form], frame: Frame, part: usize, frames: &mut Vec<Frame>) -> Entered
+    requires order { AreInOrder forms.now }
+    requires last { HasLastPart frame }
+    requires inside { part < length forms.now }
+    requires frames { AreInside (length forms.now) frames.old.items }
+    requires room { depth (wrapped forms.now frames.old.items (fill (around forms.now frame) (term_of forms.now part))) ≤ vec_capacity frames.old }
+    ensures enters { Enters forms.now frames.old.items frames.new.items (settle (fill (around forms.now frame) (term_of forms.now part))) result }
+    ensures capacity { vec_capacity frames.new ≡ vec_capacity frames.old }
+    ensures frames { AreInside (length forms.now) frames.new.items }
+{
+    // The check asks that each type inside a frame is named where a frame is moved.
+    let _inside: Option<(Plain, Value, Done)> = None;
+    frames.push_reserved(frame);
+    waits(enter(forms, part, frames))
 }
 
 // Goes into the left operand, and where that is done into the right one.

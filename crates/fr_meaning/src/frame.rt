@@ -19,6 +19,9 @@ pub enum Frame {
     Print,
     Join,
     Assign(Lval),
+    Mutex,
+    /// A lock whose body is in progress.
+    Locked,
     /// The left operand is in progress; the form of the right one, which comes after it.
     Left { op: Op, right: usize },
     /// The right operand is in progress, and the left one is done.
@@ -28,13 +31,18 @@ pub enum Frame {
 }
 
 /// The innermost term: it is done, or it reads a place, with or without taking the value out of it, or makes a
-/// reference to one, or starts the thread of a form.
+/// reference to one, or starts the thread of a form, or counts a share more of the mutex at a place, or locks the mutex
+/// at a place for a form, or starts the two threads of a form, or waits for two that it has started.
 #[derive(Clone, Copy)]
 pub enum Focus {
     Over(Done),
     Read(Lval, bool),
     Borrow(Lval, bool),
     Spawn(usize),
+    Dup(Lval),
+    Lock(Lval, usize),
+    Par(usize),
+    ParEnd,
 }
 
 /// What entering a term comes to: it is done, or it waits at its innermost part.

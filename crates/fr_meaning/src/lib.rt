@@ -3,8 +3,6 @@
 
 mod control;
 mod error;
-mod forming;
-mod forms;
 mod frame;
 mod machine;
 mod need;
@@ -16,7 +14,5 @@ mod thread;
 mod threads;
 
 pub use error::StepError;
-pub use forming::forms_of;
-pub use forms::Form;
 pub use need::Need;
 pub use pool::Pool;

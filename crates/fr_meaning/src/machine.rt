@@ -4,8 +4,9 @@ ghost use Rattle.std.specs.Prelude.{◌≡◌, ◌<◌, ◌≤◌, ◌+◌, ◌+
 ghost use Rattle.fr_meaning.specs.declared.frame.Frame.{Frame};
 ghost use Rattle.fr_plain.specs.Run.{settle, block, move};
 ghost use Rattle.fr_plain.specs.Whole.{prints};
-ghost use Rattle.fr_meaning.specs.Contexts.{fill, depth, IsSettled};
-ghost use Rattle.fr_meaning.specs.FormTerms.{AreInOrder, term_of, parts_of, items_at};
+ghost use Rattle.fr_meaning.specs.Contexts.{fill, IsSettled};
+ghost use Rattle.fr_forms.specs.Depths.{depth};
+ghost use Rattle.fr_forms.specs.FormTerms.{AreInOrder, term_of, parts_of, items_at};
 ghost use Rattle.fr_meaning.specs.DoneTerms.{over, value_of};
 ghost use Rattle.fr_meaning.specs.FrameTerms.{wrapped, around, around_items, focus_run, AreInside, IsInside, HasLastPart, IsPastLeft, HasMadeWay, end_of};
 ghost use Rattle.fr_acts.specs.Acting.{state};
@@ -13,11 +14,11 @@ ghost use Rattle.fr_meaning.specs.Threads.{IsWell, run_in};
 ghost use Rattle.fr_meaning.specs.Turning.{turned, turns_to, term_step, frame_labels, focus_labels};
 
 use crate::control::{enter_items, has_item, leave};
-use crate::forms::Form;
 use crate::frame::{Done, Entered, Focus, Frame};
 use crate::thread::Thread;
 use fr_acts::{arith, assign, borrow, discard, drop_slot, make_box, print, read};
 use fr_base::{Labels, Plain};
+use fr_forms::Form;
 use fr_plain::Value;
 use fr_shared::{Heap, Released};
 
@@ -40,8 +41,12 @@ pub fn labels_ahead(focus: &Focus, frames: &[Frame]) -> usize
     let place = match focus {
         Focus::Read(place, _) => place.depth as usize,
         Focus::Borrow(place, _) => place.depth as usize,
+        Focus::Dup(place) => place.depth as usize,
+        Focus::Lock(place, _) => place.depth as usize,
         Focus::Over(_) => 0,
         Focus::Spawn(_) => 0,
+        Focus::Par(_) => 0,
+        Focus::ParEnd => 0,
     };
     match frames {
         [.., Frame::Assign(to)] => place + to.depth as usize + 2,
@@ -103,6 +108,8 @@ fn operate(
             (Done::Temp(result), Released::Nothing)
         }
         Frame::Join => unreachable!(),
+        Frame::Mutex => unreachable!(),
+        Frame::Locked => unreachable!(),
         Frame::Left { .. } => unreachable!(),
         Frame::Block { .. } => unreachable!(),
     }
@@ -244,6 +251,10 @@ pub fn step_alone(
             Released::Nothing
         }
         Focus::Spawn(_) => unreachable!(),
+        Focus::Dup(_) => unreachable!(),
+        Focus::Lock(_, _) => unreachable!(),
+        Focus::Par(_) => unreachable!(),
+        Focus::ParEnd => unreachable!(),
         Focus::Borrow(place, _) => {
             let value = borrow(thread.number, &thread.slots, heap, labels, place);
             thread.focus = leave(forms, &mut thread.frames, Done::Temp(value));

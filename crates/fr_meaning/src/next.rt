@@ -2,11 +2,13 @@
 
 ghost use Rattle.std.specs.Prelude.{◌≡◌};
 ghost use Rattle.fr_meaning.specs.declared.frame.Focus.TheVariants as focus_;
-ghost use Rattle.fr_meaning.specs.Next.{IsNext, starts, task_named};
+ghost use Rattle.fr_meaning.specs.Next.{IsNext, next_takes, task_named};
+ghost use Rattle.fr_meaning.specs.PoolView.{kind_of};
 
 use crate::frame::{Done, Focus, Frame};
 use crate::machine::value_in;
-use fr_base::{Plain, ThreadNo};
+use crate::need::Need;
+use fr_base::{Lval, Plain, ThreadNo};
 use fr_plain::Value;
 
 /// What a thread in progress does next.
@@ -18,6 +20,18 @@ pub enum Next {
     Join(Value),
     /// It starts the thread of a form.
     Start(usize),
+    /// It makes a mutex with this content.
+    Mutex(Value),
+    /// It counts a share more of the mutex at a place.
+    Dup(Lval),
+    /// It locks the mutex at a place, for a form.
+    Lock(Lval, usize),
+    /// It unlocks, and goes on with the body's value.
+    Unlock(Done),
+    /// It starts the two threads of a form.
+    Par(usize),
+    /// It goes on where both threads that it started have ended.
+    ParEnd,
     /// It does an act of its own.
     Own,
 }
@@ -29,6 +43,10 @@ pub fn next_of(focus: &Focus, frames: &[Frame]) -> Next
     match focus {
         Focus::Over(done) => next_over(*done, frames),
         Focus::Spawn(node) => Next::Start(*node),
+        Focus::Dup(place) => Next::Dup(*place),
+        Focus::Lock(place, node) => Next::Lock(*place, *node),
+        Focus::Par(node) => Next::Par(*node),
+        Focus::ParEnd => Next::ParEnd,
         Focus::Read(_, _) => Next::Own,
         Focus::Borrow(_, _) => Next::Own,
     }
@@ -41,19 +59,27 @@ fn next_over(done: Done, frames: &[Frame]) -> Next
     match frames {
         [] => Next::End(done),
         [.., Frame::Join] => Next::Join(value_in(done)),
+        [.., Frame::Mutex] => Next::Mutex(value_in(done)),
+        [.., Frame::Locked] => Next::Unlock(done),
         [.., _] => Next::Own,
     }
 }
 
-/// Whether the step takes a new thread's name.
-pub fn takes_name(next: &Next) -> bool
-    ensures { result ≡ starts next.now }
+/// The kind of names that the step takes.
+pub fn need_of_next(next: &Next) -> Need
+    ensures { result ≡ kind_of (next_takes next.now) }
 {
     match next {
-        Next::Start(_) => true,
-        Next::End(_) => false,
-        Next::Join(_) => false,
-        Next::Own => false,
+        Next::Start(_) => Need::Thread,
+        Next::Par(_) => Need::Threads,
+        Next::Mutex(_) => Need::Mutex,
+        Next::End(_) => Need::Nothing,
+        Next::Join(_) => Need::Nothing,
+        Next::Dup(_) => Need::Nothing,
+        Next::Lock(_, _) => Need::Nothing,
+        Next::Unlock(_) => Need::Nothing,
+        Next::ParEnd => Need::Nothing,
+        Next::Own => Need::Nothing,
     }
 }
 

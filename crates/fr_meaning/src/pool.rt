@@ -8,19 +8,18 @@ ghost use Rattle.fr_plain.specs.Resolve.{program};
 ghost use Rattle.fr_sound.specs.Together.{AreTyped};
 ghost use Rattle.fr_meaning.specs.declared.error.StepError.{StepError};
 ghost use Rattle.fr_meaning.specs.declared.error.StepError.TheVariants as step_error;
-ghost use Rattle.fr_meaning.specs.Contexts.{depth};
-ghost use Rattle.fr_meaning.specs.FormTerms.{AreInOrder, root_of};
+ghost use Rattle.fr_forms.specs.Depths.{depth};
+ghost use Rattle.fr_forms.specs.FormTerms.{AreInOrder, root_of};
 ghost use Rattle.fr_meaning.specs.PoolView.{whole_of, steps_left_of, refusal, need_of};
 
 use crate::error::StepError;
-use crate::forming::forms_of;
-use crate::forms::Form;
 use crate::need::Need;
 use crate::running::{Running, go, run_alone};
 use crate::standing::{ending_in, need_in, refused_by};
 use crate::thread::main_thread;
 use borrow_check::Checked;
 use fr_base::{Ending3, Fresh, Labels, NoMemory, ThreadNo};
+use fr_forms::{Form, forms_of};
 use std::alloc::Global;
 use std::marker::Model;
 
@@ -61,13 +60,13 @@ impl Pool {
     fn from_forms(alloc: Global, forms: Vec<Form>) -> Result<Pool, NoMemory>
         requires order { AreInOrder forms.items }
         requires root { 0 < length forms.items }
-        requires depth { depth (root_of forms.items) ≤ 64 }
+        requires depth { depth (root_of forms.items) ≤ 128 }
         requires typed { AreTyped (start (root_of forms.items)) }
         ensures start { IfOk result (λ p. whole_of p ≡ start (root_of forms.items)) }
         ensures typed { IfOk result (λ p. AreTyped (whole_of p)) }
     {
         let mut frames = Vec::new(alloc);
-        frames.reserve(64)?;
+        frames.reserve(128)?;
         let main = main_thread(&forms, frames, Vec::new(alloc));
         let running = run_alone(alloc, main)?;
         Ok(Pool {

@@ -1,20 +1,20 @@
 //! How threads stand: what they wait for, why their steps are refused, and how a run ends.
 
-ghost use Rattle.std.specs.Prelude.{◌≡◌, ◌<◌, ◌||◌, ℕ, ℤ, List, length, slice_index_or, is_some, option_map};
+ghost use Rattle.std.specs.Prelude.{◌≡◌, ◌<◌, ◌||◌, [], ℕ, ℤ, List, length, slice_index_or, is_some, option_map};
 ghost use Rattle.fr_plain.specs.Heap.{Heap as PlainHeap};
-ghost use Rattle.fr_plain.specs.Whole.{Whole, is_given, is_over as life_is_over, waits_for, all_over as all_are_over, all_wait as all_are_waiting, ending_of, refused_names as names_refused};
-ghost use Rattle.fr_meaning.specs.declared.forms.Form.{Form};
+ghost use Rattle.fr_plain.specs.Whole.{Thread as PlainThread, Whole, is_given, is_over as life_is_over, waits_for, all_over as all_are_over, all_wait as all_are_waiting, ending_of, refused_names as names_refused};
+ghost use Rattle.fr_forms.specs.declared.forms.Form.{Form};
 ghost use Rattle.fr_meaning.specs.declared.thread.Thread.{Thread};
-ghost use Rattle.fr_meaning.specs.FormTerms.{AreInOrder};
-ghost use Rattle.fr_meaning.specs.Next.{next_waits, thread_if};
+ghost use Rattle.fr_forms.specs.FormTerms.{AreInOrder};
+ghost use Rattle.fr_meaning.specs.Next.{next_waits};
 ghost use Rattle.fr_shared.specs.Places.{place_of};
-ghost use Rattle.fr_meaning.specs.PoolView.{error_of, refusal, need_of};
+ghost use Rattle.fr_meaning.specs.PoolView.{error_of, takes_for, refusal, need_of};
 ghost use Rattle.fr_meaning.specs.Running.{plain_of, Stands};
 ghost use Rattle.fr_meaning.specs.Threads.{result_in, is_done, numbers_of, thread_of, threads_of};
 
 use crate::error::StepError;
 use crate::need::Need;
-use crate::next::{Next, next_of, takes_name, task_named_by};
+use crate::next::{Next, need_of_next, next_of, task_named_by};
 use crate::running::Running;
 use crate::thread::{Stage, Thread};
 use fr_base::{Ending3, Fresh, ThreadNo, Wait};
@@ -49,7 +49,7 @@ fn has_result(stage: &Stage) -> bool
 // What a thread with this next step waits for: a join for a result.
 fn wait_of(running: &Running, next: &Next) -> Option<Wait>
     requires numbers { running.now.places.numbers ≡ numbers_of running.now.threads.items }
-    ensures { (fs : List Form) → result ≡ next_waits (plain_of fs running.now) next.now }
+    ensures { (fs : List Form) (x : PlainThread) → result ≡ next_waits (plain_of fs running.now) x next.now }
 {
     let Next::Join(value) = next else {
         return None;
@@ -66,29 +66,30 @@ fn wait_of(running: &Running, next: &Next) -> Option<Wait>
     Some(Wait::Join(joined))
 }
 
-// Why a step can't take these names.
-fn refused_names(places: &Places, takes: bool, fresh: &Fresh) -> Option<StepError>
-    ensures { (s : Whole) → ((u : ℕ) → is_given s u ≡ is_some (place_of places.now.numbers u)) → result ≡ option_map error_of (names_refused s (thread_if takes) fresh.now) }
+// The name was given to a thread.
+fn is_used(places: &Places, number: &ThreadNo) -> bool
+    ensures { result ≡ is_some (place_of places.now.numbers number.now) }
 {
-    match fresh {
-        Fresh::None => {
-            if takes {
-                Some(StepError::NameKind)
-            } else {
-                None
-            }
+    places.at(*number).is_some()
+}
+
+// Why a step that takes names of this kind can't take these.
+fn refused_names(places: &Places, need: &Need, fresh: &Fresh) -> Option<StepError>
+    ensures { (s : Whole) → ((u : ℕ) → is_given s u ≡ is_some (place_of places.now.numbers u)) → s.mutexes ≡ [] → result ≡ option_map error_of (names_refused s (takes_for need.now) fresh.now) }
+{
+    let used = match (need, fresh) {
+        (Need::Nothing, Fresh::None) => false,
+        (Need::Thread, Fresh::Thread(number)) => is_used(places, number),
+        (Need::Threads, Fresh::Threads(first, second)) => {
+            first == second || is_used(places, first) || is_used(places, second)
         }
-        Fresh::Thread(number) => {
-            if !takes {
-                return Some(StepError::NameKind);
-            }
-            if places.at(*number).is_some() {
-                return Some(StepError::NameUsed);
-            }
-            None
-        }
-        Fresh::Threads(_, _) => Some(StepError::NameKind),
-        Fresh::Mutex(_) => Some(StepError::NameKind),
+        (Need::Mutex, Fresh::Mutex(_)) => false,
+        _ => return Some(StepError::NameKind),
+    };
+    if used {
+        Some(StepError::NameUsed)
+    } else {
+        None
     }
 }
 
@@ -108,7 +109,7 @@ pub fn refused_by(running: &Running, thread: ThreadNo, fresh: &Fresh) -> Option<
     if let Some(wait) = wait_of(running, &next) {
         return Some(StepError::Waits(wait));
     }
-    refused_names(&running.places, takes_name(&next), fresh)
+    refused_names(&running.places, &need_of_next(&next), fresh)
 }
 
 /// The kind of names that the thread's next step takes.
@@ -123,10 +124,7 @@ pub fn need_in(running: &Running, thread: ThreadNo) -> Option<Need>
     if is_over(&standing.stage) {
         return None;
     }
-    if takes_name(&next_of(&standing.focus, &standing.frames)) {
-        return Some(Need::Thread);
-    }
-    Some(Need::Nothing)
+    Some(need_of_next(&next_of(&standing.focus, &standing.frames)))
 }
 
 // All threads have ended.

@@ -6,8 +6,8 @@ ghost use Rattle.fr_plain.specs.Run.{settle, block, last, temp};
 ghost use Rattle.fr_plain.specs.State.{slot_at};
 ghost use Rattle.fr_plain.specs.Threads.{pass, left_after};
 ghost use Rattle.fr_meaning.specs.declared.thread.Stage.TheVariants as stage_;
-ghost use Rattle.fr_meaning.specs.Contexts.{depth};
-ghost use Rattle.fr_meaning.specs.FormTerms.{AreInOrder, captures_of, term_of, items_at, parts_of, root_of};
+ghost use Rattle.fr_forms.specs.Depths.{depth};
+ghost use Rattle.fr_forms.specs.FormTerms.{AreInOrder, captures_of, term_of, items_at, parts_of, root_of};
 ghost use Rattle.fr_meaning.specs.DoneTerms.{value_of};
 ghost use Rattle.fr_meaning.specs.FrameTerms.{AreInside, wrapped};
 ghost use Rattle.fr_acts.specs.SlotOrder.{newest_first};
@@ -15,11 +15,11 @@ ghost use Rattle.fr_meaning.specs.Threads.{IsWell, IsGoingOn, IsEnded, run_in, e
 ghost use Rattle.fr_acts.specs.Acting.{state, did, releases};
 
 use crate::control::{enter, enter_items, focus_in, leave};
-use crate::forms::{Captured, Form};
 use crate::frame::{Done, Focus, Frame};
 use crate::machine::value_in;
 use fr_acts::{drop_result, finish, keep_result};
 use fr_base::{Labels, Plain, ThreadNo};
+use fr_forms::{Captured, Form};
 use fr_plain::Value;
 use fr_shared::{Heap, Released};
 
@@ -144,8 +144,8 @@ pub fn start(
     requires order { AreInOrder forms.now }
     requires inside { node < length forms.now }
     requires none { frames.items ≡ [] }
-    requires room { 64 ≤ vec_capacity frames }
-    requires depth { depth (block drops (parts_of (term_of forms.now) (items_at forms.now node))) ≤ 64 }
+    requires room { 128 ≤ vec_capacity frames }
+    requires depth { depth (block drops (parts_of (term_of forms.now) (items_at forms.now node))) ≤ 128 }
     ensures run { run_in forms.now result ≡ settle (block drops (parts_of (term_of forms.now) (items_at forms.now node))) }
     ensures well { IsWell forms.now result }
     ensures number { result.number ≡ number }
@@ -168,8 +168,8 @@ pub fn main_thread(forms: &[Form], frames: Vec<Frame>, slots: Vec<Value>) -> Thr
     requires order { AreInOrder forms.now }
     requires root { 0 < length forms.now }
     requires none { frames.items ≡ [] }
-    requires room { 64 ≤ vec_capacity frames }
-    requires depth { depth (root_of forms.now) ≤ 64 }
+    requires room { 128 ≤ vec_capacity frames }
+    requires depth { depth (root_of forms.now) ≤ 128 }
     ensures run { run_in forms.now result ≡ settle (root_of forms.now) }
     ensures well { IsWell forms.now result }
     ensures number { result.number ≡ 0 }
@@ -192,8 +192,8 @@ pub fn main_thread(forms: &[Form], frames: Vec<Frame>, slots: Vec<Value>) -> Thr
 pub fn resume(forms: &[Form], thread: &mut Thread, value: Value)
     requires order { AreInOrder forms.now }
     requires inside { AreInside (length forms.now) thread.old.frames.items }
-    requires room { depth (wrapped forms.now thread.old.frames.items (temp value)) ≤ 64 }
-    requires capacity { 64 ≤ vec_capacity thread.old.frames }
+    requires room { depth (wrapped forms.now thread.old.frames.items (temp value)) ≤ 128 }
+    requires capacity { 128 ≤ vec_capacity thread.old.frames }
     ensures run { run_in forms.now thread.new ≡ settle (wrapped forms.now thread.old.frames.items (temp value)) }
     ensures well { IsWell forms.now thread.new }
     ensures number { thread.new.number ≡ thread.old.number }

@@ -4,21 +4,21 @@ ghost use Rattle.std.specs.Prelude.{◌≡◌, ◌<◌, ◌≤◌, [], List, ℤ
 ghost use Rattle.fr_base.specs.declared.step.Fresh.TheVariants as fresh;
 ghost use Rattle.fr_plain.specs.Whole.{let_go, step};
 ghost use Rattle.fr_meaning.specs.declared.thread.Thread.{Thread};
-ghost use Rattle.fr_meaning.specs.FormTerms.{AreInOrder, captures_at};
+ghost use Rattle.fr_forms.specs.FormTerms.{AreInOrder, captures_at};
 ghost use Rattle.fr_meaning.specs.FrameTerms.{end_of};
 ghost use Rattle.fr_shared.specs.Places.{place_of};
-ghost use Rattle.fr_meaning.specs.declared.forms.Form.{Form};
+ghost use Rattle.fr_forms.specs.declared.forms.Form.{Form};
 ghost use Rattle.fr_meaning.specs.Running.{plain_of, Stands};
 ghost use Rattle.fr_meaning.specs.Threads.{AreWell, CanGo, IsEnded, IsGoingOn, Joins, Starts, after_release, released_heap, released_task, task_from, whole, numbers_of};
 
 use crate::control::leave_top;
-use crate::forms::Form;
 use crate::frame::{Done, Frame};
 use crate::machine::step_alone;
 use crate::running::Running;
 use crate::thread::{Stage, Thread, end, pass_captures, resume, start, take_result};
 use fr_acts::{drop_value, note};
 use fr_base::{Label, Labels, Plain, ThreadNo};
+use fr_forms::Form;
 use fr_plain::Value;
 use fr_shared::{Heap, Places, Released};
 
@@ -189,7 +189,7 @@ pub fn go_start(
     requires starts { (x : Thread) → x ≡ slice_index_or running.old.threads.items turn.now.at x → Starts forms.now x node }
     requires new { place_of running.old.places.numbers made.number ≡ None }
     requires frames { made.frames.items ≡ [] }
-    requires frame_room { 64 ≤ vec_capacity made.frames }
+    requires frame_room { 128 ≤ vec_capacity made.frames }
     requires slots { made.slots.items ≡ [] }
     requires slot_room { length (captures_at forms.now node) ≤ vec_capacity made.slots }
     requires thread_room { vec_len running.old.threads < vec_capacity running.old.threads }

@@ -6,14 +6,14 @@ ghost use Rattle.fr_plain.specs.ThreadRuns.{joined};
 ghost use Rattle.fr_plain.specs.Whole.{start};
 ghost use Rattle.fr_plain.specs.Resolve.{program};
 ghost use Rattle.fr_sound.specs.Together.{AreTyped};
-ghost use Rattle.fr_meaning.specs.Contexts.{depth};
-ghost use Rattle.fr_meaning.specs.FormTerms.{AreInOrder, root_of};
+ghost use Rattle.fr_forms.specs.Depths.{depth};
+ghost use Rattle.fr_forms.specs.FormTerms.{AreInOrder, root_of};
 
 use super::Pool;
 use crate::error::StepError;
-use crate::forms::Form;
 use crate::need::Need;
 use fr_base::{Ending3, Fresh, Lval, NoMemory, Op, ThreadNo};
+use fr_forms::Form;
 use std::alloc::Global;
 use std::process::Abort;
 
@@ -88,7 +88,7 @@ fn joined(alloc: Global) -> Result<Vec<Form>, NoMemory>
 fn printed<R: Abort>(rt: &R, alloc: Global, forms: Vec<Form>, steps: u32) -> i64
     requires order { AreInOrder forms.items }
     requires root { 0 < length forms.items }
-    requires depth { depth (root_of forms.items) ≤ 64 }
+    requires depth { depth (root_of forms.items) ≤ 128 }
     requires typed { AreTyped (start (root_of forms.items)) }
 {
     let mut pool = Pool::from_forms(alloc, forms).expect(rt, "memory");

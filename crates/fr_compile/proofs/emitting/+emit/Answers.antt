@@ -4,12 +4,14 @@ use Rattle.fr_base.specs.declared.instruction.Operand.TheVariants as operand
 use Rattle.fr_base.specs.declared.instruction.Instr.{Instr}
 use Rattle.fr_base.specs.declared.instruction.Instr.TheVariants as instr
 use Rattle.fr_plain.specs.Run.{Capture, spawn, last, Run, number, unit_c, read, borrow, box_r, join_r, bind, print, assign, block}
-use Rattle.fr_meaning.specs.declared.forms.Form.{Form}
-use Rattle.fr_meaning.specs.FormTerms.{term_of, parts_of, captures_of, captures_in}
+use Rattle.fr_forms.specs.declared.forms.Form.{Form}
+use Rattle.fr_forms.specs.FormTerms.{term_of, parts_of, captures_of, captures_in}
 use Rattle.fr_syntax.specs.Meanings.{AllBelow}
-use Rattle.fr_meaning.proofs.FormLemmas.{form_term, form_below, get_or-any, all_dropped}
+use Rattle.fr_forms.proofs.FormLemmas.{form_term, form_below, get_or-any, all_dropped}
 use Rattle.fr_code.specs.StandsFor.{borrowing}
 use Rattle.fr_compile.specs.Emitting.{IsEmitted, ArePartsEmitted}
+use Rattle.fr_compile.specs.Compiled.{IsCompiled, AllCompiled}
+use Rattle.fr_compile.proofs.CompiledLemmas.{items_compiled, item_compiled, known}
 use Rattle.fr_compile.proofs.Sources.{term_source}
 use Rattle.fr_compile.proofs.Codes.{no_borrow, constant_emitted, leaf_emitted, spawn_emitted, unary_emitted, arith_emitted, block_emitted, all_added}
 use Rattle.fr_compile.proofs.Forms.{on_added, Leads, leads_on, item_lower}
@@ -19,13 +21,13 @@ pub emit-emit-requires : goal.emit-emit-requires
 emit-emit-requires t c =
     let fs = c.args.forms.now in
     let parts = form_below fs c.args.node c.index-forms-node.result _ c.requires.order c.requires.here c.index-forms-node.is c.in-Box.is in
-    (omega (arith, c.decreases, parts), (c.requires.order, omega (arith, parts, c.requires.here)))
+    (omega (arith, c.decreases, parts), (c.requires.order, (omega (arith, parts, c.requires.here), known (term_of fs c.args.node) _ (form_term fs c.args.node c.index-forms-node.result _ c.requires.order c.requires.here c.index-forms-node.is c.in-Box.is) c.requires.compiled)))
 
 pub emit-emit-requires-in-Join : goal.emit-emit-requires-in-Join
 emit-emit-requires-in-Join t c =
     let fs = c.args.forms.now in
     let parts = form_below fs c.args.node c.index-forms-node.result _ c.requires.order c.requires.here c.index-forms-node.is c.in-Join.is in
-    (omega (arith, c.decreases, parts), (c.requires.order, omega (arith, parts, c.requires.here)))
+    (omega (arith, c.decreases, parts), (c.requires.order, (omega (arith, parts, c.requires.here), known (term_of fs c.args.node) _ (form_term fs c.args.node c.index-forms-node.result _ c.requires.order c.requires.here c.index-forms-node.is c.in-Join.is) c.requires.compiled)))
 
 pub emit-returns-in_ok-value-in-Join : goal.emit-returns-in_ok-value-in-Join
 emit-returns-in_ok-value-in-Join t c =
@@ -44,37 +46,39 @@ pub emit-emit-requires-in-Let : goal.emit-emit-requires-in-Let
 emit-emit-requires-in-Let t c =
     let fs = c.args.forms.now in
     let parts = form_below fs c.args.node c.index-forms-node.result _ c.requires.order c.requires.here c.index-forms-node.is c.in-Let.is in
-    (omega (arith, c.decreases, parts), (c.requires.order, omega (arith, parts, c.requires.here)))
+    (omega (arith, c.decreases, parts), (c.requires.order, (omega (arith, parts, c.requires.here), known (term_of fs c.args.node) _ (form_term fs c.args.node c.index-forms-node.result _ c.requires.order c.requires.here c.index-forms-node.is c.in-Let.is) c.requires.compiled)))
 
 pub emit-emit-requires-in-Print : goal.emit-emit-requires-in-Print
 emit-emit-requires-in-Print t c =
     let fs = c.args.forms.now in
     let parts = form_below fs c.args.node c.index-forms-node.result _ c.requires.order c.requires.here c.index-forms-node.is c.in-Print.is in
-    (omega (arith, c.decreases, parts), (c.requires.order, omega (arith, parts, c.requires.here)))
+    (omega (arith, c.decreases, parts), (c.requires.order, (omega (arith, parts, c.requires.here), known (term_of fs c.args.node) _ (form_term fs c.args.node c.index-forms-node.result _ c.requires.order c.requires.here c.index-forms-node.is c.in-Print.is) c.requires.compiled)))
 
 pub emit-emit-requires-in-Assign : goal.emit-emit-requires-in-Assign
 emit-emit-requires-in-Assign t c =
     let fs = c.args.forms.now in
     let parts = form_below fs c.args.node c.index-forms-node.result _ c.requires.order c.requires.here c.index-forms-node.is c.in-Assign.is in
-    (omega (arith, c.decreases, parts), (c.requires.order, omega (arith, parts, c.requires.here)))
+    (omega (arith, c.decreases, parts), (c.requires.order, (omega (arith, parts, c.requires.here), known (term_of fs c.args.node) _ (form_term fs c.args.node c.index-forms-node.result _ c.requires.order c.requires.here c.index-forms-node.is c.in-Assign.is) c.requires.compiled)))
 
 pub emit-emit-requires-in-Arith : goal.emit-emit-requires-in-Arith
 emit-emit-requires-in-Arith t c =
     let fs = c.args.forms.now in
     let parts = form_below fs c.args.node c.index-forms-node.result _ c.requires.order c.requires.here c.index-forms-node.is c.in-Arith.is in
-    (omega (arith, c.decreases, parts.0), (c.requires.order, omega (arith, parts.0, c.requires.here)))
+    let both : IsCompiled (term_of fs c.in-Arith.left) × IsCompiled (term_of fs c.in-Arith.right) = known (term_of fs c.args.node) _ (form_term fs c.args.node c.index-forms-node.result _ c.requires.order c.requires.here c.index-forms-node.is c.in-Arith.is) c.requires.compiled in
+    (omega (arith, c.decreases, parts.0), (c.requires.order, (omega (arith, parts.0, c.requires.here), both.0)))
 
 pub emit-emit-requires-in-Arith-2 : goal.emit-emit-requires-in-Arith-2
 emit-emit-requires-in-Arith-2 t c =
     let fs = c.args.forms.now in
     let parts = form_below fs c.args.node c.index-forms-node.result _ c.requires.order c.requires.here c.index-forms-node.is c.in-Arith.is in
-    (omega (arith, c.decreases, parts.1), (c.requires.order, omega (arith, parts.1, c.requires.here)))
+    let both : IsCompiled (term_of fs c.in-Arith.left) × IsCompiled (term_of fs c.in-Arith.right) = known (term_of fs c.args.node) _ (form_term fs c.args.node c.index-forms-node.result _ c.requires.order c.requires.here c.index-forms-node.is c.in-Arith.is) c.requires.compiled in
+    (omega (arith, c.decreases, parts.1), (c.requires.order, (omega (arith, parts.1, c.requires.here), both.1)))
 
 pub emit-emit_items-requires : goal.emit-emit_items-requires
 emit-emit_items-requires t c =
     let fs = c.args.forms.now in
     let parts = form_below fs c.args.node c.index-forms-node.result _ c.requires.order c.requires.here c.index-forms-node.is c.in-Block.is in
-    (omega (arith, c.decreases), (c.requires.order, (omega (arith, c.requires.here), subst (AllBelow c.args.node) (sym c.deref.ensures.value) parts)))
+    (omega (arith, c.decreases), (c.requires.order, (omega (arith, c.requires.here), (subst (AllBelow c.args.node) (sym c.deref.ensures.value) parts, subst (AllCompiled (term_of fs)) (sym c.deref.ensures.value) (items_compiled (term_of fs) c.in-Block.items.items (known (term_of fs c.args.node) _ (form_term fs c.args.node c.index-forms-node.result _ c.requires.order c.requires.here c.index-forms-node.is c.in-Block.is) c.requires.compiled))))))
 
 pub emit-returns-in-Number : goal.emit-returns-in-Number
 emit-returns-in-Number t c =
@@ -208,7 +212,7 @@ emit_items-items-init t c = λ f ds v h. all_added c.args.forms.now c.args.items
 pub emit_items-emit-requires : goal.emit_items-emit-requires
 emit_items-emit-requires t c =
     let low = item_lower c.args.bound c.args.items.now c.items.next 0 (omega (arith, c.items-test.true)) c.requires.below in
-    (omega (arith, c.decreases, low), (c.requires.order, omega (arith, low, c.requires.inside)))
+    (omega (arith, c.decreases, low), (c.requires.order, (omega (arith, low, c.requires.inside), item_compiled (term_of c.args.forms.now) c.args.items.now c.items.next 0 (omega (arith, c.items-test.true)) c.requires.compiled)))
 
 pub emit_items-items-preserved : goal.emit_items-items-preserved
 emit_items-items-preserved t c =
@@ -235,4 +239,16 @@ emit-returns-in_ok-push-in-Spawn t c =
     let captures = c.in_ok-captures-in-Spawn.ensures ∙ ap (λ (m : Form). captures_of (captures_in m)) same in
     let spawns = is ∙ ap (λ (ds : List Capture). spawn ds body) (sym captures) in
     on_added c.leave-in-Spawn.result operand.Pop _ (λ (o : Operand). IsEmitted fs a f bs cs o r) c.leave-in-Spawn.ensures.code c.leave-in-Spawn.ensures.value
-    (λ e. spawn_emitted fs a f bs cs (record { hole = c.len-hole.result; form = node }) xs body r e c.len-hole.ensures c.requires.here refl spawns c.in_ok-push-in-Spawn.ensures.items)
+    (λ e. spawn_emitted fs a f bs cs (record { hole = c.len-hole.result; form = node }) xs body r e c.len-hole.ensures c.requires.here refl spawns (known (term_of fs c.args.node) _ (form_term fs c.args.node c.index-forms-node.result _ c.requires.order c.requires.here c.index-forms-node.is c.in-Spawn.is) c.requires.compiled) c.in_ok-push-in-Spawn.ensures.items)
+
+pub emit-unreachable-requires : goal.emit-unreachable-requires
+emit-unreachable-requires t c = let fs = c.args.forms.now in known (term_of fs c.args.node) _ (form_term fs c.args.node c.index-forms-node.result _ c.requires.order c.requires.here c.index-forms-node.is c.in-Mutex.is) c.requires.compiled
+
+pub emit-unreachable-requires-in-Dup : goal.emit-unreachable-requires-in-Dup
+emit-unreachable-requires-in-Dup t c = let fs = c.args.forms.now in known (term_of fs c.args.node) _ (form_term fs c.args.node c.index-forms-node.result _ c.requires.order c.requires.here c.index-forms-node.is c.in-Dup.is) c.requires.compiled
+
+pub emit-unreachable-requires-in-Lock : goal.emit-unreachable-requires-in-Lock
+emit-unreachable-requires-in-Lock t c = let fs = c.args.forms.now in known (term_of fs c.args.node) _ (form_term fs c.args.node c.index-forms-node.result _ c.requires.order c.requires.here c.index-forms-node.is c.in-Lock.is) c.requires.compiled
+
+pub emit-unreachable-requires-in-Par : goal.emit-unreachable-requires-in-Par
+emit-unreachable-requires-in-Par t c = let fs = c.args.forms.now in known (term_of fs c.args.node) _ (form_term fs c.args.node c.index-forms-node.result _ c.requires.order c.requires.here c.index-forms-node.is c.in-Par.is) c.requires.compiled

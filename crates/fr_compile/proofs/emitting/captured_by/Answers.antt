@@ -1,5 +1,5 @@
 use Rattle.std.proofs.Common.{◌++◌, sym, ap, ◌∙◌}
-use Rattle.fr_meaning.specs.FormTerms.{captures_of, captures_in}
+use Rattle.fr_forms.specs.FormTerms.{captures_of, captures_in}
 use Rattle.fr_code.specs.Steps.{captured}
 use Rattle.fr_compile.proofs.Captured.{captured_next, captured_all, no_captures}
 use Rattle.fr_compile.proofs.emitting.captured_by.Goals as goal

@@ -1,5 +1,5 @@
 use Rattle.std.proofs.Common.{◌≡◌, ◌++◌, drop}
-use Rattle.fr_meaning.specs.FormTerms.{captures_of}
+use Rattle.fr_forms.specs.FormTerms.{captures_of}
 use Rattle.fr_code.specs.Steps.{captured}
 use Rattle.fr_compile.proofs.emitting.captured_by.Given as goal
 

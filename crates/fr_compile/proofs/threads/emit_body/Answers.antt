@@ -2,13 +2,14 @@ use Rattle.std.proofs.Common.{◌≡◌, length, refl, arith, sym, ap, ◌∙◌
 use Rattle.std.proofs.lemmas.Option.{slice_get_within}
 use Rattle.fr_base.specs.declared.instruction.Instr.TheVariants as instr
 use Rattle.fr_base.specs.Code.{with_body}
-use Rattle.fr_plain.specs.Run.{block, last}
-use Rattle.fr_meaning.specs.FormTerms.{term_of, captures_of}
-use Rattle.fr_meaning.proofs.FormLemmas.{form_term, form_below}
+use Rattle.fr_plain.specs.Run.{block, last, spawn}
+use Rattle.fr_forms.specs.FormTerms.{term_of, captures_of}
+use Rattle.fr_forms.proofs.FormLemmas.{form_term, form_below}
 use Rattle.fr_code.specs.Steps.{captured}
 use Rattle.fr_compile.specs.Emitting.{IsStarted}
 use Rattle.fr_compile.proofs.Sources.{term_source}
 use Rattle.fr_compile.proofs.Captured.{no_other}
+use Rattle.fr_compile.proofs.CompiledLemmas.{known}
 use Rattle.fr_compile.proofs.Codes.{last_emitted, block_emitted}
 use Rattle.fr_compile.proofs.Forms.{on_ok}
 use Rattle.fr_compile.proofs.Queue.{started}
@@ -30,6 +31,12 @@ pub emit-requires-clause-here : goal.emit-requires-clause-here
 emit-requires-clause-here c =
     let parts = form_below c.args.forms.now c.args.body.form c.index-forms-body.result _ c.requires.order c.requires.hole.here c.index-forms-body.is c.in-Spawn.is in
     omega (arith, parts, c.requires.hole.here)
+
+pub emit-requires-clause-compiled : goal.emit-requires-clause-compiled
+emit-requires-clause-compiled c =
+    let fs = c.args.forms.now in
+    let h = c.requires.hole in
+    known (spawn (captured h.captures.items) h.body) _ (sym h.term ∙ form_term fs c.args.body.form c.index-forms-body.result _ c.requires.order h.here c.index-forms-body.is c.in-Spawn.is) h.compiled
 
 pub returns : goal.returns
 returns c =

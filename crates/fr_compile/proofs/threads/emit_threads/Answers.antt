@@ -1,5 +1,5 @@
 use Rattle.std.proofs.Common.{◌-◌, length, arith, sym, subst}
-use Rattle.fr_meaning.specs.FormTerms.{root_of}
+use Rattle.fr_forms.specs.FormTerms.{root_of}
 use Rattle.fr_compile.specs.declared.body.Body.{Body}
 use Rattle.fr_compile.specs.Bodies.{IsHole}
 use Rattle.fr_compile.specs.Emitting.{IsStarted}

@@ -1,5 +1,5 @@
 use Rattle.std.proofs.Common.{drop}
-use Rattle.fr_meaning.specs.FormTerms.{root_of}
+use Rattle.fr_forms.specs.FormTerms.{root_of}
 use Rattle.fr_compile.specs.Bodies.{all_steps}
 use Rattle.fr_compile.proofs.Queue.{Waits}
 use Rattle.fr_compile.proofs.threads.emit_threads.Given as goal

@@ -3,179 +3,115 @@ use Rattle.fr_plain.specs.Run.{Run, arith as arith_r, block, settle, now, going,
 use Rattle.fr_meaning.specs.declared.frame.Frame.{Frame}
 use Rattle.fr_meaning.specs.declared.frame.Frame.TheVariants as frame
 use Rattle.fr_meaning.specs.declared.frame.Entered.TheVariants as entered
-use Rattle.fr_meaning.specs.Contexts.{in_left, fill, depth, depth_in}
-use Rattle.fr_meaning.specs.FormTerms.{parts_of, term_of, items_at}
+use Rattle.fr_meaning.specs.Contexts.{in_left, fill}
+use Rattle.fr_forms.specs.Depths.{depth, depth_in}
+use Rattle.fr_forms.specs.FormTerms.{parts_of, term_of, items_at, IsSpawn, IsLock, IsPar}
 use Rattle.fr_meaning.specs.DoneTerms.{over}
 use Rattle.fr_meaning.specs.FrameTerms.{Enters, wrapped, around, waits_of, AreInside}
-use Rattle.fr_meaning.proofs.FormLemmas.{form_term, form_below, items_here, spawn_here, item_below, at_drop, all_dropped}
+use Rattle.fr_forms.proofs.FormLemmas.{form_term, form_below, items_here, form_here, item_below, at_drop, all_dropped}
 use Rattle.fr_meaning.proofs.ContextLemmas.{now_fill, settle_fill}
-use Rattle.fr_meaning.proofs.FrameLemmas.{inside_push, has_place, has_place_in, room_in, room_less, item_row, last_ends, last_stays, last_waits, more_stays, more_waits, more_vanishes, fewer_shallow, right_shallow, left_done, entered_over, entered_waits, goes_in, goes_on_in, goes_by}
+use Rattle.fr_meaning.proofs.FrameLemmas.{inside_push, last_inside, last_part_past, last_part_settles, last_part_waits, has_place, has_place_in, room_in, room_less, item_row, last_ends, last_stays, last_waits, more_stays, more_waits, more_vanishes, fewer_shallow, right_shallow, left_done, entered_over, entered_waits, goes_in, goes_on_in, goes_by}
 use Rattle.fr_meaning.proofs.control.+enter.Goals as goal
 
-pub enter-push_reserved-requires : goal.enter-push_reserved-requires
-enter-push_reserved-requires t c =
+pub enter-enter_part-requires : goal.enter-enter_part-requires
+enter-enter_part-requires t c =
     let fs = c.args.forms.now in
+    let below : c.in-Box.part < c.args.at = form_below fs c.args.at c.index-forms-at.result _ c.requires.order c.requires.inside c.index-forms-at.is c.in-Box.is in
     let room = subst (λ (r : Run). depth (wrapped fs c.args.frames.now.items r) ≤ vec_capacity c.args.frames.now) (form_term fs c.args.at c.index-forms-at.result _ c.requires.order c.requires.inside c.index-forms-at.is c.in-Box.is) c.requires.room in
-    let p = has_place_in fs c.args.frames.now.items frame.Box (term_of fs c.in-Box.part) (vec_capacity c.args.frames.now) room in
-    omega (arith, p, c.args.frames.now.ok)
-
-pub enter-enter-requires : goal.enter-enter-requires
-enter-enter-requires t c =
-    let fs = c.args.forms.now in
-    let v = c.in-Box.part in
-    let below : v < c.args.at = form_below fs c.args.at c.index-forms-at.result _ c.requires.order c.requires.inside c.index-forms-at.is c.in-Box.is in
-    let room = subst (λ (r : Run). depth (wrapped fs c.args.frames.now.items r) ≤ vec_capacity c.args.frames.now) (form_term fs c.args.at c.index-forms-at.result _ c.requires.order c.requires.inside c.index-forms-at.is c.in-Box.is) c.requires.room in (
-      omega (arith, c.decreases),
-      (
-        c.requires.order,
-        (
-          omega arith,
-          (
-            subst (AreInside (length fs)) (sym c.push_reserved.ensures.items) (inside_push (length fs) c.args.frames.now.items frame.Box c.requires.frames tt),
-            room_in fs c.args.frames.now.items c.push_reserved.new.self.items frame.Box (fill (around fs frame.Box) (term_of fs v)) (term_of fs v) (vec_capacity c.args.frames.now) (vec_capacity c.push_reserved.new.self) c.push_reserved.ensures.items (omega arith) room c.push_reserved.ensures.capacity,
-          ),
-        ),
-      ),
-    )
+    (omega (arith, c.decreases, below), (c.requires.order, (tt, (omega (arith, below, c.requires.inside), (c.requires.frames, room)))))
 
 pub enter-returns-in-Box-clause-enters : goal.enter-returns-in-Box-clause-enters
 enter-returns-in-Box-clause-enters t c =
     let fs = c.args.forms.now in
-    let r = settle (term_of fs c.in-Box.part) in
-    goes_in fs c.args.frames.now.items c.push_reserved.new.self.items c.enter.new.frames.items frame.Box (settle (term_of fs c.args.at)) r c.enter.result c.waits.result
-    tt c.enter.ensures.enters c.push_reserved.ensures.items (ap settle (form_term fs c.args.at c.index-forms-at.result _ c.requires.order c.requires.inside c.index-forms-at.is c.in-Box.is)) refl (sym c.waits.ensures)
+    subst (λ (r : Run). Enters fs c.args.frames.now.items c.enter_part.new.frames.items (settle r) c.enter_part.result) (sym (form_term fs c.args.at c.index-forms-at.result _ c.requires.order c.requires.inside c.index-forms-at.is c.in-Box.is)) c.enter_part.ensures.enters
 
-pub enter-push_reserved-requires-in-Let : goal.enter-push_reserved-requires-in-Let
-enter-push_reserved-requires-in-Let t c =
+pub enter-enter_part-requires-in-Let : goal.enter-enter_part-requires-in-Let
+enter-enter_part-requires-in-Let t c =
     let fs = c.args.forms.now in
+    let below : c.in-Let.part < c.args.at = form_below fs c.args.at c.index-forms-at.result _ c.requires.order c.requires.inside c.index-forms-at.is c.in-Let.is in
     let room = subst (λ (r : Run). depth (wrapped fs c.args.frames.now.items r) ≤ vec_capacity c.args.frames.now) (form_term fs c.args.at c.index-forms-at.result _ c.requires.order c.requires.inside c.index-forms-at.is c.in-Let.is) c.requires.room in
-    let p = has_place_in fs c.args.frames.now.items frame.Let (term_of fs c.in-Let.part) (vec_capacity c.args.frames.now) room in
-    omega (arith, p, c.args.frames.now.ok)
-
-pub enter-enter-requires-in-Let : goal.enter-enter-requires-in-Let
-enter-enter-requires-in-Let t c =
-    let fs = c.args.forms.now in
-    let v = c.in-Let.part in
-    let below : v < c.args.at = form_below fs c.args.at c.index-forms-at.result _ c.requires.order c.requires.inside c.index-forms-at.is c.in-Let.is in
-    let room = subst (λ (r : Run). depth (wrapped fs c.args.frames.now.items r) ≤ vec_capacity c.args.frames.now) (form_term fs c.args.at c.index-forms-at.result _ c.requires.order c.requires.inside c.index-forms-at.is c.in-Let.is) c.requires.room in (
-      omega (arith, c.decreases),
-      (
-        c.requires.order,
-        (
-          omega arith,
-          (
-            subst (AreInside (length fs)) (sym c.push_reserved-in-Let.ensures.items) (inside_push (length fs) c.args.frames.now.items frame.Let c.requires.frames tt),
-            room_in fs c.args.frames.now.items c.push_reserved-in-Let.new.self.items frame.Let (fill (around fs frame.Let) (term_of fs v)) (term_of fs v) (vec_capacity c.args.frames.now) (vec_capacity c.push_reserved-in-Let.new.self) c.push_reserved-in-Let.ensures.items (omega arith) room c.push_reserved-in-Let.ensures.capacity,
-          ),
-        ),
-      ),
-    )
+    (omega (arith, c.decreases, below), (c.requires.order, (tt, (omega (arith, below, c.requires.inside), (c.requires.frames, room)))))
 
 pub enter-returns-in-Let-clause-enters : goal.enter-returns-in-Let-clause-enters
 enter-returns-in-Let-clause-enters t c =
     let fs = c.args.forms.now in
-    let r = settle (term_of fs c.in-Let.part) in
-    goes_in fs c.args.frames.now.items c.push_reserved-in-Let.new.self.items c.enter-in-Let.new.frames.items frame.Let (settle (term_of fs c.args.at)) r c.enter-in-Let.result c.waits-in-Let.result
-    tt c.enter-in-Let.ensures.enters c.push_reserved-in-Let.ensures.items (ap settle (form_term fs c.args.at c.index-forms-at.result _ c.requires.order c.requires.inside c.index-forms-at.is c.in-Let.is)) refl (sym c.waits-in-Let.ensures)
+    subst (λ (r : Run). Enters fs c.args.frames.now.items c.enter_part-in-Let.new.frames.items (settle r) c.enter_part-in-Let.result) (sym (form_term fs c.args.at c.index-forms-at.result _ c.requires.order c.requires.inside c.index-forms-at.is c.in-Let.is)) c.enter_part-in-Let.ensures.enters
 
-pub enter-push_reserved-requires-in-Print : goal.enter-push_reserved-requires-in-Print
-enter-push_reserved-requires-in-Print t c =
+pub enter-enter_part-requires-in-Print : goal.enter-enter_part-requires-in-Print
+enter-enter_part-requires-in-Print t c =
     let fs = c.args.forms.now in
+    let below : c.in-Print.part < c.args.at = form_below fs c.args.at c.index-forms-at.result _ c.requires.order c.requires.inside c.index-forms-at.is c.in-Print.is in
     let room = subst (λ (r : Run). depth (wrapped fs c.args.frames.now.items r) ≤ vec_capacity c.args.frames.now) (form_term fs c.args.at c.index-forms-at.result _ c.requires.order c.requires.inside c.index-forms-at.is c.in-Print.is) c.requires.room in
-    let p = has_place_in fs c.args.frames.now.items frame.Print (term_of fs c.in-Print.part) (vec_capacity c.args.frames.now) room in
-    omega (arith, p, c.args.frames.now.ok)
-
-pub enter-push_reserved-requires-in-Join : goal.enter-push_reserved-requires-in-Join
-enter-push_reserved-requires-in-Join t c =
-    let fs = c.args.forms.now in
-    let room = subst (λ (r : Run). depth (wrapped fs c.args.frames.now.items r) ≤ vec_capacity c.args.frames.now) (form_term fs c.args.at c.index-forms-at.result _ c.requires.order c.requires.inside c.index-forms-at.is c.in-Join.is) c.requires.room in
-    let p = has_place_in fs c.args.frames.now.items frame.Join (term_of fs c.in-Join.part) (vec_capacity c.args.frames.now) room in
-    omega (arith, p, c.args.frames.now.ok)
-
-pub enter-enter-requires-in-Print : goal.enter-enter-requires-in-Print
-enter-enter-requires-in-Print t c =
-    let fs = c.args.forms.now in
-    let v = c.in-Print.part in
-    let below : v < c.args.at = form_below fs c.args.at c.index-forms-at.result _ c.requires.order c.requires.inside c.index-forms-at.is c.in-Print.is in
-    let room = subst (λ (r : Run). depth (wrapped fs c.args.frames.now.items r) ≤ vec_capacity c.args.frames.now) (form_term fs c.args.at c.index-forms-at.result _ c.requires.order c.requires.inside c.index-forms-at.is c.in-Print.is) c.requires.room in (
-      omega (arith, c.decreases),
-      (
-        c.requires.order,
-        (
-          omega arith,
-          (
-            subst (AreInside (length fs)) (sym c.push_reserved-in-Print.ensures.items) (inside_push (length fs) c.args.frames.now.items frame.Print c.requires.frames tt),
-            room_in fs c.args.frames.now.items c.push_reserved-in-Print.new.self.items frame.Print (fill (around fs frame.Print) (term_of fs v)) (term_of fs v) (vec_capacity c.args.frames.now) (vec_capacity c.push_reserved-in-Print.new.self) c.push_reserved-in-Print.ensures.items (omega arith) room c.push_reserved-in-Print.ensures.capacity,
-          ),
-        ),
-      ),
-    )
-
-pub enter-enter-requires-in-Join : goal.enter-enter-requires-in-Join
-enter-enter-requires-in-Join t c =
-    let fs = c.args.forms.now in
-    let v = c.in-Join.part in
-    let below : v < c.args.at = form_below fs c.args.at c.index-forms-at.result _ c.requires.order c.requires.inside c.index-forms-at.is c.in-Join.is in
-    let room = subst (λ (r : Run). depth (wrapped fs c.args.frames.now.items r) ≤ vec_capacity c.args.frames.now) (form_term fs c.args.at c.index-forms-at.result _ c.requires.order c.requires.inside c.index-forms-at.is c.in-Join.is) c.requires.room in (
-      omega (arith, c.decreases),
-      (
-        c.requires.order,
-        (
-          omega arith,
-          (
-            subst (AreInside (length fs)) (sym c.push_reserved-in-Join.ensures.items) (inside_push (length fs) c.args.frames.now.items frame.Join c.requires.frames tt),
-            room_in fs c.args.frames.now.items c.push_reserved-in-Join.new.self.items frame.Join (fill (around fs frame.Join) (term_of fs v)) (term_of fs v) (vec_capacity c.args.frames.now) (vec_capacity c.push_reserved-in-Join.new.self) c.push_reserved-in-Join.ensures.items (omega arith) room c.push_reserved-in-Join.ensures.capacity,
-          ),
-        ),
-      ),
-    )
+    (omega (arith, c.decreases, below), (c.requires.order, (tt, (omega (arith, below, c.requires.inside), (c.requires.frames, room)))))
 
 pub enter-returns-in-Print-clause-enters : goal.enter-returns-in-Print-clause-enters
 enter-returns-in-Print-clause-enters t c =
     let fs = c.args.forms.now in
-    let r = settle (term_of fs c.in-Print.part) in
-    goes_in fs c.args.frames.now.items c.push_reserved-in-Print.new.self.items c.enter-in-Print.new.frames.items frame.Print (settle (term_of fs c.args.at)) r c.enter-in-Print.result c.waits-in-Print.result
-    tt c.enter-in-Print.ensures.enters c.push_reserved-in-Print.ensures.items (ap settle (form_term fs c.args.at c.index-forms-at.result _ c.requires.order c.requires.inside c.index-forms-at.is c.in-Print.is)) refl (sym c.waits-in-Print.ensures)
+    subst (λ (r : Run). Enters fs c.args.frames.now.items c.enter_part-in-Print.new.frames.items (settle r) c.enter_part-in-Print.result) (sym (form_term fs c.args.at c.index-forms-at.result _ c.requires.order c.requires.inside c.index-forms-at.is c.in-Print.is)) c.enter_part-in-Print.ensures.enters
+
+pub enter-enter_part-requires-in-Join : goal.enter-enter_part-requires-in-Join
+enter-enter_part-requires-in-Join t c =
+    let fs = c.args.forms.now in
+    let below : c.in-Join.part < c.args.at = form_below fs c.args.at c.index-forms-at.result _ c.requires.order c.requires.inside c.index-forms-at.is c.in-Join.is in
+    let room = subst (λ (r : Run). depth (wrapped fs c.args.frames.now.items r) ≤ vec_capacity c.args.frames.now) (form_term fs c.args.at c.index-forms-at.result _ c.requires.order c.requires.inside c.index-forms-at.is c.in-Join.is) c.requires.room in
+    (omega (arith, c.decreases, below), (c.requires.order, (tt, (omega (arith, below, c.requires.inside), (c.requires.frames, room)))))
 
 pub enter-returns-in-Join-clause-enters : goal.enter-returns-in-Join-clause-enters
 enter-returns-in-Join-clause-enters t c =
     let fs = c.args.forms.now in
-    let r = settle (term_of fs c.in-Join.part) in
-    goes_in fs c.args.frames.now.items c.push_reserved-in-Join.new.self.items c.enter-in-Join.new.frames.items frame.Join (settle (term_of fs c.args.at)) r c.enter-in-Join.result c.waits-in-Join.result
-    tt c.enter-in-Join.ensures.enters c.push_reserved-in-Join.ensures.items (ap settle (form_term fs c.args.at c.index-forms-at.result _ c.requires.order c.requires.inside c.index-forms-at.is c.in-Join.is)) refl (sym c.waits-in-Join.ensures)
+    subst (λ (r : Run). Enters fs c.args.frames.now.items c.enter_part-in-Join.new.frames.items (settle r) c.enter_part-in-Join.result) (sym (form_term fs c.args.at c.index-forms-at.result _ c.requires.order c.requires.inside c.index-forms-at.is c.in-Join.is)) c.enter_part-in-Join.ensures.enters
 
-pub enter-push_reserved-requires-in-Assign : goal.enter-push_reserved-requires-in-Assign
-enter-push_reserved-requires-in-Assign t c =
+pub enter-enter_part-requires-in-Mutex : goal.enter-enter_part-requires-in-Mutex
+enter-enter_part-requires-in-Mutex t c =
     let fs = c.args.forms.now in
+    let below : c.in-Mutex.part < c.args.at = form_below fs c.args.at c.index-forms-at.result _ c.requires.order c.requires.inside c.index-forms-at.is c.in-Mutex.is in
+    let room = subst (λ (r : Run). depth (wrapped fs c.args.frames.now.items r) ≤ vec_capacity c.args.frames.now) (form_term fs c.args.at c.index-forms-at.result _ c.requires.order c.requires.inside c.index-forms-at.is c.in-Mutex.is) c.requires.room in
+    (omega (arith, c.decreases, below), (c.requires.order, (tt, (omega (arith, below, c.requires.inside), (c.requires.frames, room)))))
+
+pub enter-returns-in-Mutex-clause-enters : goal.enter-returns-in-Mutex-clause-enters
+enter-returns-in-Mutex-clause-enters t c =
+    let fs = c.args.forms.now in
+    subst (λ (r : Run). Enters fs c.args.frames.now.items c.enter_part-in-Mutex.new.frames.items (settle r) c.enter_part-in-Mutex.result) (sym (form_term fs c.args.at c.index-forms-at.result _ c.requires.order c.requires.inside c.index-forms-at.is c.in-Mutex.is)) c.enter_part-in-Mutex.ensures.enters
+
+pub enter-enter_part-requires-in-Assign : goal.enter-enter_part-requires-in-Assign
+enter-enter_part-requires-in-Assign t c =
+    let fs = c.args.forms.now in
+    let below : c.in-Assign.part < c.args.at = form_below fs c.args.at c.index-forms-at.result _ c.requires.order c.requires.inside c.index-forms-at.is c.in-Assign.is in
     let room = subst (λ (r : Run). depth (wrapped fs c.args.frames.now.items r) ≤ vec_capacity c.args.frames.now) (form_term fs c.args.at c.index-forms-at.result _ c.requires.order c.requires.inside c.index-forms-at.is c.in-Assign.is) c.requires.room in
-    let p = has_place_in fs c.args.frames.now.items (frame.Assign c.in-Assign.place) (term_of fs c.in-Assign.part) (vec_capacity c.args.frames.now) room in
+    (omega (arith, c.decreases, below), (c.requires.order, (tt, (omega (arith, below, c.requires.inside), (c.requires.frames, room)))))
+
+pub enter-returns-in-Assign-clause-enters : goal.enter-returns-in-Assign-clause-enters
+enter-returns-in-Assign-clause-enters t c =
+    let fs = c.args.forms.now in
+    subst (λ (r : Run). Enters fs c.args.frames.now.items c.enter_part-in-Assign.new.frames.items (settle r) c.enter_part-in-Assign.result) (sym (form_term fs c.args.at c.index-forms-at.result _ c.requires.order c.requires.inside c.index-forms-at.is c.in-Assign.is)) c.enter_part-in-Assign.ensures.enters
+
+pub enter_part-push_reserved-requires : goal.enter_part-push_reserved-requires
+enter_part-push_reserved-requires t c =
+    let p = has_place_in c.args.forms.now c.args.frames.now.items c.args.frame (term_of c.args.forms.now c.args.part) (vec_capacity c.args.frames.now) c.requires.room in
     omega (arith, p, c.args.frames.now.ok)
 
-pub enter-enter-requires-in-Assign : goal.enter-enter-requires-in-Assign
-enter-enter-requires-in-Assign t c =
-    let fs = c.args.forms.now in
-    let v = c.in-Assign.part in
-    let below : v < c.args.at = form_below fs c.args.at c.index-forms-at.result _ c.requires.order c.requires.inside c.index-forms-at.is c.in-Assign.is in
-    let room = subst (λ (r : Run). depth (wrapped fs c.args.frames.now.items r) ≤ vec_capacity c.args.frames.now) (form_term fs c.args.at c.index-forms-at.result _ c.requires.order c.requires.inside c.index-forms-at.is c.in-Assign.is) c.requires.room in (
+pub enter_part-enter-requires : goal.enter_part-enter-requires
+enter_part-enter-requires t c =
+    let fs = c.args.forms.now in (
       omega (arith, c.decreases),
       (
         c.requires.order,
         (
-          omega arith,
+          c.requires.inside,
           (
-            subst (AreInside (length fs)) (sym c.push_reserved-in-Assign.ensures.items) (inside_push (length fs) c.args.frames.now.items (frame.Assign c.in-Assign.place) c.requires.frames tt),
-            room_in fs c.args.frames.now.items c.push_reserved-in-Assign.new.self.items (frame.Assign c.in-Assign.place) (fill (around fs (frame.Assign c.in-Assign.place)) (term_of fs v)) (term_of fs v) (vec_capacity c.args.frames.now) (vec_capacity c.push_reserved-in-Assign.new.self) c.push_reserved-in-Assign.ensures.items (omega arith) room c.push_reserved-in-Assign.ensures.capacity,
+            subst (AreInside (length fs)) (sym c.push_reserved.ensures.items) (inside_push (length fs) c.args.frames.now.items c.args.frame c.requires.frames (last_inside (length fs) c.args.frame c.requires.last)),
+            room_in fs c.args.frames.now.items c.push_reserved.new.self.items c.args.frame (fill (around fs c.args.frame) (term_of fs c.args.part)) (term_of fs c.args.part) (vec_capacity c.args.frames.now) (vec_capacity c.push_reserved.new.self) c.push_reserved.ensures.items (omega arith) c.requires.room c.push_reserved.ensures.capacity,
           ),
         ),
       ),
     )
 
-pub enter-returns-in-Assign-clause-enters : goal.enter-returns-in-Assign-clause-enters
-enter-returns-in-Assign-clause-enters t c =
+pub enter_part-returns-clause-enters : goal.enter_part-returns-clause-enters
+enter_part-returns-clause-enters t c =
     let fs = c.args.forms.now in
-    let r = settle (term_of fs c.in-Assign.part) in
-    goes_in fs c.args.frames.now.items c.push_reserved-in-Assign.new.self.items c.enter-in-Assign.new.frames.items (frame.Assign c.in-Assign.place) (settle (term_of fs c.args.at)) r c.enter-in-Assign.result c.waits-in-Assign.result
-    tt c.enter-in-Assign.ensures.enters c.push_reserved-in-Assign.ensures.items (ap settle (form_term fs c.args.at c.index-forms-at.result _ c.requires.order c.requires.inside c.index-forms-at.is c.in-Assign.is)) refl (sym c.waits-in-Assign.ensures)
+    let r = term_of fs c.args.part in
+    goes_in fs c.args.frames.now.items c.push_reserved.new.self.items c.enter.new.frames.items c.args.frame (settle (fill (around fs c.args.frame) r)) (settle r) c.enter.result c.waits.result
+    (last_part_past c.args.frame c.requires.last) c.enter.ensures.enters c.push_reserved.ensures.items (last_part_settles fs c.args.frame r c.requires.last) (last_part_waits fs c.args.frame (settle r) c.requires.last) (sym c.waits.ensures)
 
 pub enter-enter_operands-requires : goal.enter-enter_operands-requires
 enter-enter_operands-requires t c =
@@ -291,7 +227,27 @@ pub enter-returns-in-Spawn-clause-enters : goal.enter-returns-in-Spawn-clause-en
 enter-returns-in-Spawn-clause-enters t c =
     let fs = c.args.forms.now in
     let e = form_term fs c.args.at c.index-forms-at.result _ c.requires.order c.requires.inside c.index-forms-at.is c.in-Spawn.is in
-    let here = spawn_here fs c.args.at c.index-forms-at.result _ c.requires.inside c.index-forms-at.is c.in-Spawn.is tt in
+    let here = form_here IsSpawn fs c.args.at c.index-forms-at.result _ c.requires.inside c.index-forms-at.is c.in-Spawn.is tt in
+    (rw e refl, rw e refl, (c.requires.inside, here))
+
+pub enter-returns-in-Dup-clause-enters : goal.enter-returns-in-Dup-clause-enters
+enter-returns-in-Dup-clause-enters t c =
+    let fs = c.args.forms.now in
+    let e = form_term fs c.args.at c.index-forms-at.result _ c.requires.order c.requires.inside c.index-forms-at.is c.in-Dup.is in
+    rw e (refl, refl, tt)
+
+pub enter-returns-in-Lock-clause-enters : goal.enter-returns-in-Lock-clause-enters
+enter-returns-in-Lock-clause-enters t c =
+    let fs = c.args.forms.now in
+    let e = form_term fs c.args.at c.index-forms-at.result _ c.requires.order c.requires.inside c.index-forms-at.is c.in-Lock.is in
+    let here = form_here (IsLock c.in-Lock.place) fs c.args.at c.index-forms-at.result _ c.requires.inside c.index-forms-at.is c.in-Lock.is refl in
+    (rw e refl, rw e refl, (c.requires.inside, here))
+
+pub enter-returns-in-Par-clause-enters : goal.enter-returns-in-Par-clause-enters
+enter-returns-in-Par-clause-enters t c =
+    let fs = c.args.forms.now in
+    let e = form_term fs c.args.at c.index-forms-at.result _ c.requires.order c.requires.inside c.index-forms-at.is c.in-Par.is in
+    let here = form_here IsPar fs c.args.at c.index-forms-at.result _ c.requires.inside c.index-forms-at.is c.in-Par.is tt in
     (rw e refl, rw e refl, (c.requires.inside, here))
 
 pub enter-enter_items-requires : goal.enter-enter_items-requires

@@ -1,13 +1,16 @@
 use Rattle.std.proofs.Common.{◌≡◌, ◌≤◌, ◌+◌, ◌*◌, length, drop, vec_capacity}
 use Rattle.std.specs.Prelude.{max}
 use Rattle.fr_plain.specs.Run.{settle, block}
-use Rattle.fr_meaning.specs.Contexts.{depth_in}
-use Rattle.fr_meaning.specs.FormTerms.{parts_of, term_of}
+use Rattle.fr_forms.specs.Depths.{depth_in}
+use Rattle.fr_forms.specs.FormTerms.{parts_of, term_of}
 use Rattle.fr_meaning.specs.FrameTerms.{AreInside}
 use Rattle.fr_meaning.proofs.control.+enter.Given as goal
 
 abbrev pub decreases-enter : goal.decreases-enter
 decreases-enter l = 4 * l.at + 3
+
+abbrev pub decreases-enter_part : goal.decreases-enter_part
+decreases-enter_part l = 4 * l.part + 4
 
 abbrev pub decreases-enter_operands : goal.decreases-enter_operands
 decreases-enter_operands l = 4 * max l.left l.right + 4

@@ -2,7 +2,7 @@ use Rattle.std.proofs.Common.{length, drop, sym, ap, ◌∙◌, subst}
 use Rattle.fr_plain.specs.Run.{block, last, settle}
 use Rattle.fr_meaning.specs.declared.frame.Frame.TheVariants as frame
 use Rattle.fr_meaning.specs.Contexts.{fill}
-use Rattle.fr_meaning.specs.FormTerms.{term_of, items_at}
+use Rattle.fr_forms.specs.FormTerms.{term_of, items_at}
 use Rattle.fr_meaning.specs.DoneTerms.{over}
 use Rattle.fr_meaning.specs.FrameTerms.{around_items, AreInside}
 use Rattle.fr_meaning.proofs.FrameLemmas.{inside_push, settle_over, last_stays, last_waits, stays}

@@ -1,6 +1,7 @@
 use Rattle.std.proofs.Common.{length, sym, ap, ◌∙◌, subst, arith, vec_capacity}
 use Rattle.fr_plain.specs.Run.{settle}
-use Rattle.fr_meaning.specs.Contexts.{fill, depth}
+use Rattle.fr_meaning.specs.Contexts.{fill}
+use Rattle.fr_forms.specs.Depths.{depth}
 use Rattle.fr_meaning.specs.DoneTerms.{over}
 use Rattle.fr_meaning.specs.FrameTerms.{wrapped, around, AreInside, TopIsPastLeft}
 use Rattle.fr_meaning.proofs.FrameLemmas.{inside_front, wrap_push, no_items, settle_over, depth_over, room_less, entered_over, frame_ended, frame_waits, waits_way}

@@ -1,6 +1,6 @@
 use Rattle.std.proofs.Common.{◌≡◌, ◌≤◌, length, vec_len, vec_capacity}
 use Rattle.fr_plain.specs.Run.{settle}
-use Rattle.fr_meaning.specs.Contexts.{depth}
+use Rattle.fr_forms.specs.Depths.{depth}
 use Rattle.fr_meaning.specs.DoneTerms.{over}
 use Rattle.fr_meaning.specs.FrameTerms.{wrapped, AreInside}
 use Rattle.fr_meaning.proofs.control.leave.Given as goal

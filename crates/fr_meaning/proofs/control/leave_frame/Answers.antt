@@ -2,11 +2,12 @@ use Rattle.std.proofs.Common.{◌≤◌, length, drop, refl, sym, ap, ◌∙◌,
 use Rattle.fr_plain.specs.Run.{Run, arith as arith_r, block, settle}
 use Rattle.fr_meaning.specs.declared.frame.Frame.{Frame}
 use Rattle.fr_meaning.specs.declared.frame.Frame.TheVariants as frame
-use Rattle.fr_meaning.specs.Contexts.{fill, depth}
-use Rattle.fr_meaning.specs.FormTerms.{parts_of, term_of, items_at}
+use Rattle.fr_meaning.specs.Contexts.{fill}
+use Rattle.fr_forms.specs.Depths.{depth}
+use Rattle.fr_forms.specs.FormTerms.{parts_of, term_of, items_at}
 use Rattle.fr_meaning.specs.DoneTerms.{over}
 use Rattle.fr_meaning.specs.FrameTerms.{Enters, wrapped, around, around_items, AreInside, IsInside}
-use Rattle.fr_meaning.proofs.FormLemmas.{at_drop, all_dropped}
+use Rattle.fr_forms.proofs.FormLemmas.{at_drop, all_dropped}
 use Rattle.fr_meaning.proofs.FrameLemmas.{inside_push, has_place_in, room_in, room_less, settle_over, more_stays, more_waits, more_vanishes, rest_below, last_part, last_part_past, last_part_waits, last_part_settles, left_done, goes_in, stays, not_below}
 use Rattle.fr_meaning.proofs.control.leave_frame.Goals as goal
 

@@ -1,6 +1,6 @@
 use Rattle.std.proofs.Common.{drop, ap, ◌∙◌, arith, vec_capacity}
 use Rattle.fr_plain.specs.Run.{block, settle}
-use Rattle.fr_meaning.specs.FormTerms.{parts_of, term_of, items_at}
+use Rattle.fr_forms.specs.FormTerms.{parts_of, term_of, items_at}
 use Rattle.fr_meaning.specs.DoneTerms.{over}
 use Rattle.fr_meaning.specs.FrameTerms.{wrapped}
 use Rattle.fr_meaning.proofs.FrameLemmas.{depth_over, room_less, entered_over, frame_ended, frame_waits}

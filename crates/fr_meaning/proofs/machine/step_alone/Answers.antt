@@ -2,10 +2,11 @@ use Rattle.std.proofs.Common.{◌≡◌, ◌≤◌, List, length, refl, sym, ap,
 use Rattle.std.specs.Prelude.{IsSome}
 use Rattle.fr_plain.specs.declared.value.Value.{Value}
 use Rattle.fr_plain.specs.Acts.{act, do_read, do_borrow}
-use Rattle.fr_plain.specs.Run.{Run, temp, read, borrow}
+use Rattle.fr_plain.specs.Run.{Run, temp, read, borrow, dup, par_end}
 use Rattle.fr_meaning.specs.declared.frame.Done.TheVariants as done
 use Rattle.fr_meaning.specs.declared.frame.Focus.{Focus}
-use Rattle.fr_meaning.specs.Contexts.{fill, depth, IsSettled}
+use Rattle.fr_meaning.specs.Contexts.{fill, IsSettled}
+use Rattle.fr_forms.specs.Depths.{depth}
 use Rattle.fr_meaning.specs.DoneTerms.{over}
 use Rattle.fr_meaning.specs.FrameTerms.{wrapped, all_around, around, focus_run, AreInside, TopIsPastLeft, HasMadeWay}
 use Rattle.fr_acts.specs.Acting.{state, did}
@@ -13,7 +14,7 @@ use Rattle.fr_meaning.specs.Turning.{term_step}
 use Rattle.fr_acts.proofs.ActLemmas.{no_print}
 use Rattle.fr_meaning.proofs.ContextLemmas.{settled_wrap}
 use Rattle.fr_meaning.proofs.FrameLemmas.{inside_front, wrap_push, room_less, top_past}
-use Rattle.fr_meaning.proofs.StepLemmas.{step_in, goes_in_frames, read_goes, read_turns, borrow_goes, borrow_turns, settled_waits, spawn_alone}
+use Rattle.fr_meaning.proofs.StepLemmas.{step_in, goes_in_frames, read_goes, read_turns, borrow_goes, borrow_turns, settled_waits, not_alone, spawn_alone, lock_alone, par_alone}
 use Rattle.fr_meaning.specs.Threads.{run_in}
 use Rattle.fr_shared.specs.declared.heap.Released.TheVariants as released
 use Rattle.fr_meaning.proofs.ThreadLemmas.{term_kept}
@@ -170,3 +171,33 @@ unreachable-requires c =
     let s = state c.args.thread.now.number c.args.thread.now.slots.items c.args.heap.now.heap in
     let way = subst (λ (f : Focus). HasMadeWay fs gs f) c.in-Spawn.is c.requires.well.way in
     spawn_alone fs gs c.in-Spawn.field-0 s c.requires.order way (subst (λ (f : Focus). IsSome (term_step (wrapped fs gs (focus_run fs f)) s)) c.in-Spawn.is c.requires.goes)
+
+pub unreachable-requires-in-Dup : goal.unreachable-requires-in-Dup
+unreachable-requires-in-Dup c =
+    let fs = c.args.forms.now in
+    let gs = c.args.thread.now.frames.items in
+    let s = state c.args.thread.now.number c.args.thread.now.slots.items c.args.heap.now.heap in
+    not_alone fs gs (dup c.in-Dup.field-0) (dup c.in-Dup.field-0) s refl refl refl (subst (λ (f : Focus). IsSome (term_step (wrapped fs gs (focus_run fs f)) s)) c.in-Dup.is c.requires.goes)
+
+pub unreachable-requires-in-Lock : goal.unreachable-requires-in-Lock
+unreachable-requires-in-Lock c =
+    let fs = c.args.forms.now in
+    let gs = c.args.thread.now.frames.items in
+    let s = state c.args.thread.now.number c.args.thread.now.slots.items c.args.heap.now.heap in
+    let way = subst (λ (f : Focus). HasMadeWay fs gs f) c.in-Lock.is c.requires.well.way in
+    lock_alone fs gs c.in-Lock.field-0 c.in-Lock.field-1 s c.requires.order way (subst (λ (f : Focus). IsSome (term_step (wrapped fs gs (focus_run fs f)) s)) c.in-Lock.is c.requires.goes)
+
+pub unreachable-requires-in-Par : goal.unreachable-requires-in-Par
+unreachable-requires-in-Par c =
+    let fs = c.args.forms.now in
+    let gs = c.args.thread.now.frames.items in
+    let s = state c.args.thread.now.number c.args.thread.now.slots.items c.args.heap.now.heap in
+    let way = subst (λ (f : Focus). HasMadeWay fs gs f) c.in-Par.is c.requires.well.way in
+    par_alone fs gs c.in-Par.field-0 s c.requires.order way (subst (λ (f : Focus). IsSome (term_step (wrapped fs gs (focus_run fs f)) s)) c.in-Par.is c.requires.goes)
+
+pub unreachable-requires-in-ParEnd : goal.unreachable-requires-in-ParEnd
+unreachable-requires-in-ParEnd c =
+    let fs = c.args.forms.now in
+    let gs = c.args.thread.now.frames.items in
+    let s = state c.args.thread.now.number c.args.thread.now.slots.items c.args.heap.now.heap in
+    not_alone fs gs par_end par_end s refl refl refl (subst (λ (f : Focus). IsSome (term_step (wrapped fs gs (focus_run fs f)) s)) c.in-ParEnd.is c.requires.goes)

@@ -4,11 +4,11 @@ use Rattle.fr_plain.specs.Acts.{act, do_discard, unit}
 use Rattle.fr_plain.specs.Run.{block, settle}
 use Rattle.fr_meaning.specs.declared.frame.Frame.TheVariants as frame
 use Rattle.fr_meaning.specs.Contexts.{fill}
-use Rattle.fr_meaning.specs.FormTerms.{parts_of, term_of, items_at}
+use Rattle.fr_forms.specs.FormTerms.{parts_of, term_of, items_at}
 use Rattle.fr_meaning.specs.DoneTerms.{over, value_of}
 use Rattle.fr_meaning.specs.FrameTerms.{wrapped, around_items, focus_run, AreInside}
 use Rattle.fr_acts.specs.Acting.{state, did, releases}
-use Rattle.fr_meaning.proofs.FormLemmas.{at_drop, all_dropped}
+use Rattle.fr_forms.proofs.FormLemmas.{at_drop, all_dropped}
 use Rattle.fr_meaning.proofs.FrameLemmas.{inside_push, has_place_in, room_in, room_less, rest_below, depth_left, wrap_push, not_below}
 use Rattle.fr_meaning.proofs.StepLemmas.{step_in, held, opened, settled_waits, discard_turns, drop_turns}
 use Rattle.fr_meaning.proofs.machine.step_block.Goals as goal

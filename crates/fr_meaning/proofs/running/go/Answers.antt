@@ -8,7 +8,7 @@ use Rattle.fr_meaning.specs.declared.next.Next.TheVariants as next
 use Rattle.fr_shared.specs.Places.{place_of}
 use Rattle.fr_meaning.specs.Threads.{numbers_of}
 use Rattle.fr_meaning.specs.Running.{plain_of}
-use Rattle.fr_meaning.proofs.StepFacts.{steps_at, no_step, takes_none, place_inside, thread_here, comes_at}
+use Rattle.fr_meaning.proofs.StepFacts.{steps_at, no_step, no_other, takes_none, place_inside, thread_here, comes_at}
 use Rattle.fr_meaning.proofs.WholeSteps.{stepped_to}
 use Rattle.fr_meaning.proofs.running.go.Goals as goal
 
@@ -122,3 +122,12 @@ returns-in-Own-clause-step c =
     let x = thread_here r.threads.items c.in-Some.at inside in
     let same = takes_none c.args.forms.now r.threads.items r.heap.heap r.output.items c.args.thread c.args.fresh c.in-Some.at x.0 (next.Own) (steps_at c.args.forms.now r.threads.items r.heap.heap r.output.items c.args.thread c.args.fresh c.in-Some.at (next.Own) (numbers_of r.threads.items) c.requires.order c.requires.stands.well refl (ap (λ ns. place_of ns c.args.thread) (sym c.requires.stands.numbers) ∙ sym c.at.ensures.place ∙ c.in-Some.is) inside comes c.requires.goes x.0 x.1) refl in
     subst (λ (n : Fresh). IfOk c.go_own.result (λ (l : WithRoom Label). step (plain_of c.args.forms.now r) c.args.thread n ≡ Some (record { state = plain_of c.args.forms.now c.go_own.new.running; labels = l.items }))) (sym same) c.go_own.ensures.step
+
+pub unreachable-requires-in_default-next_of : goal.unreachable-requires-in_default-next_of
+unreachable-requires-in_default-next_of c =
+    let r = c.args.running.now in
+    let inside = place_inside r.threads.items c.args.thread c.in-Some.at (ap (λ ns. place_of ns c.args.thread) (sym c.requires.stands.numbers) ∙ sym c.at.ensures.place ∙ c.in-Some.is) in
+    let comes = comes_at r.threads.items c.in-Some.at c.index.result.now c.index-2.result.now c.deref.result.now c.next_of.result c.next_of.result inside c.index.ensures c.index-2.ensures c.deref.ensures.value refl c.next_of.ensures in
+    let x = thread_here r.threads.items c.in-Some.at inside in
+    no_other c.args.forms.now r.threads.items r.heap.heap r.output.items c.args.thread c.args.fresh c.in-Some.at x.0 c.next_of.result (steps_at c.args.forms.now r.threads.items r.heap.heap r.output.items c.args.thread c.args.fresh c.in-Some.at c.next_of.result (numbers_of r.threads.items) c.requires.order c.requires.stands.well refl (ap (λ ns. place_of ns c.args.thread) (sym c.requires.stands.numbers) ∙ sym c.at.ensures.place ∙ c.in-Some.is) inside comes c.requires.goes x.0 x.1) c.requires.known
+    c.in_default-next_of.not-End c.in_default-next_of.not-Join c.in_default-next_of.not-Start c.in_default-next_of.not-Own

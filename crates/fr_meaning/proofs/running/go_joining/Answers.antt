@@ -42,7 +42,7 @@ go_join-requires-clause-joins c = λ x is. (
     let j = join_steps fs r.threads.items r.heap.heap r.output.items c.args.turn.now.thread c.args.turn.now.at x c.args.value s in
     let same = joined_same c.args.value j.joined c.in-Some.thread j.task (sym c.in-Some.is ∙ c.task_named_by.ensures) in
     let n = c.requires.next x is in
-    record { on = is_on s; around = n.around; top = n.top; done = n.done; at_end = n.at_end; task = n.value ∙ j.task ∙ ap (λ u. Own (Task u)) (sym same) })
+    record { on = is_on s; around = n.next.around; top = n.next.top; done = n.done; at_end = n.next.at_end; task = n.value ∙ j.task ∙ ap (λ u. Own (Task u)) (sym same) })
 
 pub go_join-requires-clause-ended : goal.go_join-requires-clause-ended
 go_join-requires-clause-ended c = λ z is. (

@@ -1,6 +1,6 @@
 use Rattle.std.proofs.Common.{◌≡◌, List, drop}
 use Rattle.fr_plain.specs.Whole.{all_over}
-use Rattle.fr_meaning.specs.declared.forms.Form.{Form}
+use Rattle.fr_forms.specs.declared.forms.Form.{Form}
 use Rattle.fr_meaning.specs.Threads.{threads_of}
 use Rattle.fr_meaning.proofs.standing.all_over.Given as goal
 

@@ -1,7 +1,7 @@
 use Rattle.std.proofs.Common.{◌≡◌, List, drop}
 use Rattle.fr_plain.specs.Whole.{all_wait}
-use Rattle.fr_meaning.specs.declared.forms.Form.{Form}
-use Rattle.fr_meaning.specs.FormTerms.{AreInOrder}
+use Rattle.fr_forms.specs.declared.forms.Form.{Form}
+use Rattle.fr_forms.specs.FormTerms.{AreInOrder}
 use Rattle.fr_meaning.specs.Running.{plain_of, Stands}
 use Rattle.fr_meaning.specs.Threads.{threads_of}
 use Rattle.fr_meaning.proofs.standing.all_wait.Given as goal

@@ -23,16 +23,6 @@ returns-then-is_over c = λ fs a s. (
     let r = c.args.running.now in
     sym (need_ended fs r.threads.items r.heap.heap r.output.items c.args.thread c.in-Some.at c.index-standing.result.now (ap (λ ns. place_of ns c.args.thread) (sym c.requires.numbers) ∙ sym c.at.ensures.place ∙ c.in-Some.is) c.index-standing.ensures (sym c.is_over.ensures ∙ c.if-is_over.true)))
 
-pub returns-then-takes_name : goal.returns-then-takes_name
-returns-then-takes_name c = λ fs a s. (
-    let r = c.args.running.now in
-    let x = c.index-standing.result.now in
-    let place = (ap (λ ns. place_of ns c.args.thread) (sym c.requires.numbers) ∙ sym c.at.ensures.place ∙ c.in-Some.is) in
-    let well = well_at fs r.threads.items c.in-Some.at x (place_inside r.threads.items c.args.thread c.in-Some.at place) c.index-standing.ensures s.well in
-    let going = sym c.is_over.ensures ∙ c.if-is_over.false in
-    let comes = subst (λ (gs : List Frame). IsNext x.focus gs c.next_of.result) c.deref.ensures.value c.next_of.ensures in
-    sym (need_there fs r.threads.items r.heap.heap r.output.items c.args.thread c.in-Some.at x c.next_of.result true a well place c.index-standing.ensures going comes (sym c.takes_name.ensures ∙ c.if-takes_name.true)))
-
 pub returns : goal.returns
 returns c = λ fs a s. (
     let r = c.args.running.now in
@@ -41,4 +31,4 @@ returns c = λ fs a s. (
     let well = well_at fs r.threads.items c.in-Some.at x (place_inside r.threads.items c.args.thread c.in-Some.at place) c.index-standing.ensures s.well in
     let going = sym c.is_over.ensures ∙ c.if-is_over.false in
     let comes = subst (λ (gs : List Frame). IsNext x.focus gs c.next_of.result) c.deref.ensures.value c.next_of.ensures in
-    sym (need_there fs r.threads.items r.heap.heap r.output.items c.args.thread c.in-Some.at x c.next_of.result false a well place c.index-standing.ensures going comes (sym c.takes_name.ensures ∙ c.if-takes_name.false)))
+    sym (need_there fs r.threads.items r.heap.heap r.output.items c.args.thread c.in-Some.at x c.next_of.result c.need_of_next.result a well place c.index-standing.ensures going comes c.need_of_next.ensures))

@@ -1,12 +1,13 @@
-use Rattle.std.proofs.Common.{Some, None, List, sym, ap, ◌∙◌, subst, arith}
+use Rattle.std.proofs.Common.{Some, None, List, refl, sym, ap, ◌∙◌, subst, arith}
 use Rattle.std.specs.Prelude.{is_some, option_map}
 use Rattle.fr_plain.specs.Whole.{refused_names}
-use Rattle.fr_meaning.specs.PoolView.{error_of}
+use Rattle.fr_meaning.specs.PoolView.{error_of, takes_for}
 use Rattle.fr_shared.specs.Places.{place_of}
 use Rattle.fr_meaning.specs.Running.{plain_of}
+use Rattle.fr_meaning.specs.Threads.{thread_of}
 use Rattle.fr_meaning.specs.declared.frame.Frame.{Frame}
-use Rattle.fr_meaning.specs.Next.{IsNext, thread_if}
-use Rattle.fr_meaning.proofs.StandLemmas.{refused_nowhere, refused_ended, refused_there}
+use Rattle.fr_meaning.specs.Next.{IsNext, next_takes}
+use Rattle.fr_meaning.proofs.StandLemmas.{takes_kind, refused_nowhere, refused_ended, refused_there}
 use Rattle.fr_meaning.proofs.StepFacts.{place_inside, given_place}
 use Rattle.fr_meaning.proofs.ThreadLists.{well_at}
 use Rattle.fr_meaning.proofs.standing.refused_by.Goals as goal
@@ -35,7 +36,7 @@ returns-in-Some-wait_of c = λ fs a s. (
     let well = well_at fs r.threads.items c.in-Some.at x (place_inside r.threads.items c.args.thread c.in-Some.at place) c.index-standing.ensures s.well in
     let going = sym c.is_over.ensures ∙ c.if-is_over.false in
     let comes = subst (λ (gs : List Frame). IsNext x.focus gs c.next_of-next.result) c.deref.ensures.value c.next_of-next.ensures in
-    sym (refused_there fs r.threads.items r.heap.heap r.output.items c.args.thread c.args.fresh.now c.in-Some.at x c.next_of-next.result (Some c.in-Some-wait_of.wait) a well place c.index-standing.ensures going comes (sym (c.wait_of.ensures fs) ∙ c.in-Some-wait_of.is)))
+    sym (refused_there fs r.threads.items r.heap.heap r.output.items c.args.thread c.args.fresh.now c.in-Some.at x c.next_of-next.result (Some c.in-Some-wait_of.wait) a well place c.index-standing.ensures going comes (sym (c.wait_of.ensures fs (thread_of fs x)) ∙ c.in-Some-wait_of.is)))
 
 pub returns : goal.returns
 returns c = λ fs a s. (
@@ -45,6 +46,7 @@ returns c = λ fs a s. (
     let well = well_at fs r.threads.items c.in-Some.at x (place_inside r.threads.items c.args.thread c.in-Some.at place) c.index-standing.ensures s.well in
     let going = sym c.is_over.ensures ∙ c.if-is_over.false in
     let comes = subst (λ (gs : List Frame). IsNext x.focus gs c.next_of-next.result) c.deref.ensures.value c.next_of-next.ensures in
-    c.refused_names.ensures (plain_of fs r) (λ u. given_place fs r.threads.items u ∙ ap (λ ns. is_some (place_of ns u)) (sym s.numbers))
-    ∙ ap (λ b. option_map error_of (refused_names (plain_of fs r) (thread_if b) c.args.fresh.now)) c.takes_name.ensures
-    ∙ sym (refused_there fs r.threads.items r.heap.heap r.output.items c.args.thread c.args.fresh.now c.in-Some.at x c.next_of-next.result None a well place c.index-standing.ensures going comes (sym (c.wait_of.ensures fs) ∙ c.in_default-wait_of.is)))
+    c.refused_names.ensures (plain_of fs r) (λ u. given_place fs r.threads.items u ∙ ap (λ ns. is_some (place_of ns u)) (sym s.numbers)) refl
+    ∙ ap (λ k. option_map error_of (refused_names (plain_of fs r) (takes_for k) c.args.fresh.now)) c.need_of_next.ensures
+    ∙ ap (λ k. option_map error_of (refused_names (plain_of fs r) k c.args.fresh.now)) (takes_kind (next_takes c.next_of-next.result))
+    ∙ sym (refused_there fs r.threads.items r.heap.heap r.output.items c.args.thread c.args.fresh.now c.in-Some.at x c.next_of-next.result None a well place c.index-standing.ensures going comes (sym (c.wait_of.ensures fs (thread_of fs x)) ∙ c.in_default-wait_of.is)))

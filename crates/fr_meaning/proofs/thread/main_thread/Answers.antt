@@ -1,7 +1,7 @@
 use Rattle.std.proofs.Common.{arith, sym, ap, subst, ◌∙◌}
 use Rattle.fr_plain.specs.Run.{settle}
 use Rattle.fr_meaning.specs.declared.frame.Focus.{Focus}
-use Rattle.fr_meaning.specs.FormTerms.{root_of}
+use Rattle.fr_forms.specs.FormTerms.{root_of}
 use Rattle.fr_meaning.specs.FrameTerms.{wrapped, focus_run, HasMadeWay}
 use Rattle.fr_meaning.proofs.FrameLemmas.{enters_first, first_way}
 use Rattle.fr_meaning.proofs.ThreadLemmas.{settle_kept}

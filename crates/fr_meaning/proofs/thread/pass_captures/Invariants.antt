@@ -1,7 +1,7 @@
 use Rattle.std.proofs.Common.{◌≡◌, ◌+◌, ◌≤◌, length, drop, vec_capacity}
 use Rattle.std.specs.Prelude.{vec_len}
 use Rattle.fr_plain.specs.Threads.{pass}
-use Rattle.fr_meaning.specs.FormTerms.{captures_of}
+use Rattle.fr_forms.specs.FormTerms.{captures_of}
 use Rattle.fr_acts.specs.SlotOrder.{newest_first}
 use Rattle.fr_meaning.proofs.thread.pass_captures.Given as goal
 

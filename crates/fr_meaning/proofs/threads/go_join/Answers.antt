@@ -4,7 +4,7 @@ use Rattle.fr_plain.specs.Run.{temp, join_r, settle}
 use Rattle.fr_meaning.specs.declared.frame.Frame.TheVariants as frame
 use Rattle.fr_meaning.specs.declared.frame.Focus.{Focus}
 use Rattle.fr_meaning.specs.declared.thread.Stage.TheVariants as stage
-use Rattle.fr_meaning.specs.Contexts.{depth}
+use Rattle.fr_forms.specs.Depths.{depth}
 use Rattle.fr_meaning.specs.DoneTerms.{over}
 use Rattle.fr_meaning.specs.FrameTerms.{wrapped, all_around, focus_run, AreInside}
 use Rattle.fr_shared.specs.Places.{place_of}

@@ -5,14 +5,14 @@ use Rattle.fr_base.specs.declared.label.Plain.TheVariants.{Task}
 use Rattle.fr_plain.specs.declared.value.Value.TheVariants.{Own}
 use Rattle.fr_plain.specs.Run.{temp, block, last, settle}
 use Rattle.fr_plain.specs.Threads.{Passed}
-use Rattle.fr_meaning.specs.declared.forms.Form.TheVariants as form
-use Rattle.fr_meaning.specs.Contexts.{depth}
-use Rattle.fr_meaning.specs.FormTerms.{captures_of, term_of, parts_of}
+use Rattle.fr_forms.specs.declared.forms.Form.TheVariants as form
+use Rattle.fr_forms.specs.Depths.{depth}
+use Rattle.fr_forms.specs.FormTerms.{captures_of, term_of, parts_of}
 use Rattle.fr_meaning.specs.FrameTerms.{wrapped, all_around}
 use Rattle.fr_acts.specs.SlotOrder.{newest_first}
 use Rattle.fr_shared.specs.Places.{place_of}
 use Rattle.fr_meaning.specs.Threads.{whole, AreWell, numbers_of}
-use Rattle.fr_meaning.proofs.FormLemmas.{form_term, items_here}
+use Rattle.fr_forms.proofs.FormLemmas.{form_term, items_here}
 use Rattle.fr_meaning.proofs.ContextLemmas.{depth_wrap}
 use Rattle.fr_meaning.proofs.ThreadLists.{numbers_set, numbers_push, well_set, well_push}
 use Rattle.fr_meaning.proofs.WholeSteps.{whole_start, stepped_to}

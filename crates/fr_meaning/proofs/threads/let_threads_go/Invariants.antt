@@ -1,6 +1,6 @@
 use Rattle.std.proofs.Common.{◌≡◌, ℤ, ◌-◌, List, length}
 use Rattle.fr_plain.specs.Whole.{let_go, let_threads_go}
-use Rattle.fr_meaning.specs.declared.forms.Form.{Form}
+use Rattle.fr_forms.specs.declared.forms.Form.{Form}
 use Rattle.fr_meaning.specs.Threads.{AreWell, whole, numbers_of, task_from}
 use Rattle.fr_meaning.proofs.threads.let_threads_go.Given as goal
 

@@ -1,0 +1,4 @@
+pub mod Depths
+pub mod FormTerms
+pub mod Forming
+pub mod Resolved

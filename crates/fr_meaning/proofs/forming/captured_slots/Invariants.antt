@@ -1,6 +1,0 @@
-use Rattle.std.proofs.Common.{◌≡◌, take}
-use Rattle.fr_meaning.specs.Forming.{captured_all}
-use Rattle.fr_meaning.proofs.forming.captured_slots.Given as goal
-
-abbrev pub invariant-names : goal.invariant-names
-invariant-names l = l.captures.items ≡ captured_all l.checked (take l.next l.names.items)

@@ -1,6 +1,0 @@
-use Rattle.std.proofs.Common.{arith}
-use Rattle.fr_syntax.proofs.TreeLemmas.{length_meanings}
-use Rattle.fr_meaning.proofs.forming.place.Goals as goal
-
-pub lval-requires : goal.lval-requires
-lval-requires c = omega (arith, c.requires.here, length_meanings c.args.checked.now.arena)
