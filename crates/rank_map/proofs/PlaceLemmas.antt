@@ -67,6 +67,30 @@ at_high (p ∷ ps) qs low middle k r h =
     let bound = rises_bounds ps (p.key + 1) middle r.1 in
     rw (differ p.key k (λ e. omega (arith, e, h, bound))) (at_high ps qs (p.key + 1) middle k r.1 h)
 
+-- keys that rise between two bounds rise between wider ones
+pub rises_wider : {T : Type 0} (ps : List (Place T)) (lower low high higher : ℕ) → lower ≤ low → high ≤ higher → Rises low high ps → Rises lower higher ps
+rises_wider [] lower low high higher h g r = omega (arith, h, g, r)
+rises_wider (p ∷ ps) lower low high higher h g r = (omega (arith, h, r.0), rises_wider ps (p.key + 1) (p.key + 1) high higher (omega arith) g r.1)
+
+pub append_none : {X : Type 0} (xs : List X) → xs ++ [] ≡ xs
+append_none [] = refl
+append_none (x ∷ xs) = ap (λ ys. x ∷ ys) (append_none xs)
+
+-- a place for a key below all of them comes first
+pub with_below : {T : Type 0} (ps : List (Place T)) (low high k : ℕ) (new : Option (Option T)) → Rises low high ps → k < low → with_place ps k new ≡ put_first k new ps
+with_below [] low high k new r h = refl
+with_below (p ∷ ps) low high k new r h = rw (lt-ltb k p.key (omega (arith, h, r.0))) refl
+
+-- where a place comes or changes there is one
+pub with_some : {T : Type 0} (ps : List (Place T)) (k : ℕ) (x : Option T) → 0 < length (with_place ps k (Some x))
+with_some [] k x = omega arith
+with_some (p ∷ ps) k x = by (nat_lt k p.key) (p.key == k)
+  where
+    by : (a b : Bool) → 0 < length (cond a (put_first k (Some x) (p ∷ ps)) (cond b (put_first k (Some x) ps) (p ∷ with_place ps k (Some x))))
+    by true b = omega arith
+    by false true = omega arith
+    by false false = omega arith
+
 first_append : {T : Type 0} (k : ℕ) (new : Option (Option T)) (ps qs : List (Place T)) → put_first k new (ps ++ qs) ≡ put_first k new ps ++ qs
 first_append k None ps qs = refl
 first_append k (Some x) ps qs = refl

@@ -6,7 +6,7 @@ use Rattle.std.proofs.lemmas.List.{map-append}
 use Rattle.std.proofs.lemmas.Option.{slice_get-map}
 use Rattle.rank_map.specs.Places.{Place, Entry, place_at, has_place, with_place, with_free, entries, Rises}
 use Rattle.rank_map.specs.Queues.{items_of, free_from, IsLine}
-use Rattle.rank_map.proofs.PlaceLemmas.{rises_append, entries_append, above_all, at_high, with_low, with_high, rises_with}
+use Rattle.rank_map.proofs.PlaceLemmas.{rises_append, entries_append, above_all, at_high, with_low, with_high, rises_with, append_none}
 use Rattle.rank_map.proofs.ForkLemmas.{place_bounds}
 use Rattle.rank_map.proofs.RankLemmas.{entry_place, entry_removed}
 
@@ -31,10 +31,6 @@ free_more T k (suc n) =
 
 pub line_rises : {T : Type 0} {ps : List (Place T)} {next room : ℕ} → IsLine next room ps → Rises 0 (next + room) ps
 line_rises {T} {ps} {next} {room} l = subst (Rises 0 (next + room)) (sym l.all) (rises_append l.front (free_from next room) 0 next (next + room) l.rises (free_rises T next room))
-
-append_none : {X : Type 0} (xs : List X) → xs ++ [] ≡ xs
-append_none [] = refl
-append_none (x ∷ xs) = ap (λ ys. x ∷ ys) (append_none xs)
 
 -- the items are those of the places in front
 line_entries : {T : Type 0} (front : List (Place T)) (next room : ℕ) → entries (front ++ free_from next room) ≡ entries front

@@ -57,9 +57,3 @@ count_of (Some x) = 1
 abbrev pub Rises : {T : Type 0} → ℕ → ℕ → List (Place T) → Type 0
 Rises low high [] = low ≤ high
 Rises low high (p ∷ ps) = (low ≤ p.key) × Rises (p.key + 1) high ps
-
--- the keys from `base` on, so many of them, and the places among them
-pub record Range (T : Type 0) : Type 0 where
-  pub base : ℕ
-  pub width : ℕ
-  pub places : List (Place T)

@@ -14,8 +14,9 @@ pub(crate) const KEYS: u64 = 1 << 40;
 /// Items by key, in the order of their keys; keys are below 2^40. An item stands at a place, and only making a place takes memory.
 /// Contracts see the places by rising key, each free or with its item.
 ///
-/// Each call takes as many steps as a key has bits, 40, however many items there are; `len` takes one step. (A trie by the bits
-/// of the keys that counts its items at each fork.)
+/// A call takes at most as many steps as a key has bits, 40, and some twelve where a thousand keys stand side by side; `len` takes one.
+/// No item is moved but the one that comes or goes. (A trie by the bits of the keys that counts its items at each fork. A fork stands
+/// only where keys part, so there is one fewer than there are places.)
 #[derive(Drop)]
 pub struct RankMap<T> {
     tree: Tree<T>,
@@ -23,14 +24,12 @@ pub struct RankMap<T> {
 }
 
 impl<T> Model for RankMap<T> {
-    ghost use Rattle.std.specs.Prelude.{◌≡◌, ◌^◌, List};
+    ghost use Rattle.std.specs.Prelude.{List};
     ghost use Rattle.rank_map.specs.Places.{Place};
 
     ghost Value = { List (Place T) };
 
-    ghost view = { λ m. m.tree.places };
-
-    ghost invariant = { λ m. (m.tree.base ≡ 0) × (m.tree.width ≡ 2 ^ 40) };
+    ghost view = { λ m. m.tree };
 }
 
 impl<T: Drop> RankMap<T> {
@@ -39,7 +38,7 @@ impl<T: Drop> RankMap<T> {
         ensures { result ≡ [] }
     {
         RankMap {
-            tree: Tree::new(0, KEYS),
+            tree: Tree::new(),
             alloc,
         }
     }
@@ -94,7 +93,9 @@ impl<T: Drop> RankMap<T> {
         ensures item { result ≡ item_at self.old key }
         ensures places { self.new ≡ with_place self.old key (Some (Some item)) }
     {
-        self.tree.change(key, Some(Some(item)))
+        let mut standing = Some(item);
+        self.tree.swap(key, &mut standing);
+        standing
     }
 
     /// Takes the item from a key's place, which is free afterwards. There is such a place.
@@ -103,7 +104,9 @@ impl<T: Drop> RankMap<T> {
         ensures item { result ≡ item_at self.old key }
         ensures places { self.new ≡ with_place self.old key (Some None) }
     {
-        self.tree.change(key, Some(None))
+        let mut standing = None;
+        self.tree.swap(key, &mut standing);
+        standing
     }
 
     /// Takes a key's place out with its item, and gives its memory back. There is such a place.
@@ -112,6 +115,6 @@ impl<T: Drop> RankMap<T> {
         ensures item { result ≡ item_at self.old key }
         ensures places { self.new ≡ with_place self.old key None }
     {
-        self.tree.change(key, None)
+        self.tree.remove(key)
     }
 }

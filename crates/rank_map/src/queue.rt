@@ -11,7 +11,7 @@ use std::marker::Model;
 /// Items in the order in which they came, any of which can be taken out. Contracts see the items as `items`, and beside them as
 /// `room` how many more fit without memory.
 ///
-/// Each call takes some forty steps, however many items there are, and no item is moved but the one that comes or goes. 2^40 items fit
+/// A call takes at most some forty steps, and some twelve where a thousand items wait; no item is moved but the one that comes or goes. 2^40 items fit
 /// over a queue's whole life. (A map from a running number to the item.)
 #[derive(Drop)]
 pub struct Queue<T> {

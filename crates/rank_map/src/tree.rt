@@ -1,80 +1,67 @@
 //! The tree behind the map.
 
 ghost use Rattle.std.specs.Prelude.{◌≡◌, ◌+◌, ◌^◌, ◌<◌, ◌≤◌, [], ◌∷◌, ◌++◌, true, false, None, Some, length, option_map, slice_get, IsTrue, IfOk, OnOk, OnErr};
-ghost use Rattle.rank_map.specs.Places.{place_at, has_place, item_in, item_at, with_place, count_of, entries, Range};
+ghost use Rattle.rank_map.specs.Places.{place_at, has_place, item_in, item_at, with_place, count_of, entries, Rises};
 
+use crate::map::KEYS;
 use fr_base::NoMemory;
 use std::alloc::Global;
 use std::marker::Model;
 use std::mem;
 
-// The places of the keys from `base` on, so many as `width` says.
+// Places by rising key.
 #[cycle(tree)]
 #[derive(Drop)]
 pub(crate) struct Tree<T> {
-    base: u64,
-    width: u64,
     node: Node<T>,
 }
 
 #[cycle(tree)]
 #[derive(Drop)]
 enum Node<T> {
-    // No place.
+    // No place, which is so only of a whole tree.
     Empty,
-    // The place of the only key.
-    Leaf(Option<T>),
-    // The lower half, how many items there are in both, and the upper half.
-    Fork(Box<Tree<T>>, usize, Box<Tree<T>>),
+    Leaf(Box<Leaf<T>>),
+    Fork(Box<Fork<T>>),
+}
+
+// One place.
+#[derive(Drop)]
+struct Leaf<T> {
+    key: u64,
+    item: Option<T>,
+}
+
+// The places below the middle, and those from there on. All keys are among those from `from` on and below `to`: these are the keys
+// that have their higher bits in common, and in the middle the next bit turns.
+#[cycle(tree)]
+#[derive(Drop)]
+struct Fork<T> {
+    from: u64,
+    middle: u64,
+    to: u64,
+    // how many items there are in both
+    count: usize,
+    low: Tree<T>,
+    high: Tree<T>,
 }
 
 impl<T> Model for Tree<T> {
-    ghost use Rattle.rank_map.specs.Places.{Range};
+    ghost use Rattle.std.specs.Prelude.{List, length};
+    ghost use Rattle.rank_map.specs.Places.{Place};
 
-    ghost Value = { Range T };
+    ghost Value = { List (Place T) };
 
     ghost use Rattle.rank_map.specs.Nodes.{places_in, IsNode};
-    ghost use Rattle.std.proofs.Common.{arith};
+    ghost use Rattle.std.proofs.Common.{arith, length-append};
 
-    ghost view = { λ a. record { base = a.base; width = a.width; places = places_in a.base a.node } };
+    ghost view = { λ a. places_in a.node };
 
-    ghost invariant = { λ a. IsNode a.base a.width a.node };
+    ghost invariant = { λ a. IsNode a.node };
 
-    ghost size = { λ r. r.width };
+    ghost size = { length };
 
-    ghost size_decreases = { λ a h. Prim.grind (arith) };
-}
-
-// The tree of one free place: that of the key.
-fn path<T: Drop>(alloc: Global, base: u64, width: u64, key: u64) -> Result<Tree<T>, NoMemory>
-    requires above { base ≤ key }
-    requires below { key < base + width }
-    requires few { base + width ≤ 2 ^ 40 }
-    ensures { IfOk result (λ tree. tree ≡ record { base = base; width = width; places = record { key = key; item = None } ∷ [] }) }
-{
-    if width == 1 {
-        return Ok(Tree {
-            base,
-            width,
-            node: Node::Leaf(None),
-        });
-    }
-    let half = width / 2;
-    let split = base + half;
-    let (low, high) = if key < split {
-        let low = path(alloc, base, half, key)?;
-        (low, Tree::new(split, width - half))
-    } else {
-        let high = path(alloc, split, width - half, key)?;
-        (Tree::new(base, half), high)
-    };
-    let low = Box::new(alloc, low)?;
-    let high = Box::new(alloc, high)?;
-    Ok(Tree {
-        base,
-        width,
-        node: Node::Fork(low, 0, high),
-    })
+    ghost size_decreases = { λ a h. Prim.grind (arith, length-append) };
 }
 
 // One item, or none.
@@ -84,79 +71,86 @@ fn count_of<T>(item: &Option<T>) -> usize
     usize::from(item.is_some())
 }
 
-// The same of a place.
-fn count_in<T>(place: &Option<Option<T>>) -> usize
-    ensures { result ≡ count_of (item_in place.now) }
+// The number above `low` and not above `high` that has the most zeros at its end.
+fn middle(low: u64, high: u64) -> u64
+    requires { low < high }
+    ensures above { low < result }
+    ensures within { result ≤ high }
 {
-    match place {
-        Some(item) => count_of(item),
-        None => 0,
+    let mut middle = high;
+    'zeros: while middle & (middle - 1) > low {
+        middle = middle & (middle - 1);
     }
+    middle
 }
 
-// Whether no place is below a tree's node.
-fn is_hollow<T>(tree: &Tree<T>) -> bool
-    ensures { IsTrue result → tree.now.places ≡ [] }
+// The tree of one free place.
+fn make_leaf<T: Drop>(alloc: Global, key: u64) -> Result<Tree<T>, NoMemory>
+    requires few { key < 2 ^ 40 }
+    ensures { IfOk result (λ tree. tree ≡ record { key = key; item = None } ∷ []) }
 {
-    match &tree.node {
-        Node::Empty => true,
-        Node::Leaf(_) => false,
-        Node::Fork(low, _, high) => are_empty(low, high),
-    }
+    let leaf = Box::new(alloc, Leaf { key, item: None })?;
+    Ok(Tree {
+        node: Node::Leaf(leaf),
+    })
 }
 
-// Whether two trees have no node.
-fn are_empty<T>(low: &Tree<T>, high: &Tree<T>) -> bool
-    ensures { IsTrue result → low.now.places ++ high.now.places ≡ [] }
+// The keys that have the bits above the middle's last one in common, from the first on and below the second: at least those from `from` on
+// and below `to`.
+fn around(middle: u64, from: u64, to: u64) -> (u64, u64)
+    requires above { 0 < middle }
+    requires few { middle ≤ 2 ^ 40 }
+    requires bound { to ≤ 2 ^ 40 }
+    ensures from { result.0 ≤ from }
+    ensures to { to ≤ result.1 }
+    ensures fits { result.1 ≤ 2 ^ 40 }
 {
-    matches!((&low.node, &high.node), (Node::Empty, Node::Empty))
-}
-
-// Lets the nodes go below which no place is.
-fn prune<T: Drop>(tree: &mut Tree<T>)
-    ensures { tree.new ≡ tree.old }
-{
-    if is_hollow(tree) {
-        *tree = Tree::new(tree.base, tree.width);
-    }
+    let lower = middle & (middle - 1);
+    let upper = middle + (middle - lower);
+    (lower.min(from), upper.max(to).min(KEYS))
 }
 
 impl<T: Drop> Tree<T> {
     // No place.
-    pub(crate) fn new(base: u64, width: u64) -> Tree<T>
-        ensures { result ≡ record { base = base; width = width; places = [] } }
+    pub(crate) fn new() -> Tree<T>
+        ensures { result ≡ [] }
     {
-        Tree {
-            base,
-            width,
-            node: Node::Empty,
-        }
+        Tree { node: Node::Empty }
+    }
+
+    // Whether there is no place.
+    fn is_empty(&self) -> bool
+        ensures none { IsTrue result → self.now ≡ [] }
+        ensures some { result ≡ false → 0 < length self.now }
+    {
+        matches!(&self.node, Node::Empty)
     }
 
     // How many items there are.
     pub(crate) fn len(&self) -> usize
-        ensures { result ≡ length (entries self.now.places) }
+        ensures { result ≡ length (entries self.now) }
     {
         match &self.node {
             Node::Empty => 0,
-            Node::Leaf(item) => usize::from(item.is_some()),
-            Node::Fork(_, count, _) => *count,
+            Node::Leaf(leaf) => usize::from(leaf.item.is_some()),
+            Node::Fork(fork) => fork.count,
         }
     }
 
     // The place of a key: its item, or none.
     pub(crate) fn place(&self, key: u64) -> Option<&Option<T>>
-        ensures { option_map (λ x. x.now) result ≡ place_at self.now.places key }
+        ensures { option_map (λ x. x.now) result ≡ place_at self.now key }
     {
         match &self.node {
             Node::Empty => None,
-            Node::Leaf(item) if key == self.base => Some(item),
+            Node::Leaf(leaf) if key == leaf.key => Some(&leaf.item),
             Node::Leaf(_) => None,
-            Node::Fork(low, _, high) => {
-                if key < self.base + self.width / 2 {
-                    low.place(key)
+            Node::Fork(fork) => {
+                let fork = &**fork;
+                if key < fork.middle {
+                    fork.low.place(key)
                 } else {
-                    high.place(key)
+                    fork.high.place(key)
                 }
             }
         }
@@ -164,75 +158,186 @@ impl<T: Drop> Tree<T> {
 
     // The key of the item at that place among the items.
     pub(crate) fn nth(&self, at: usize) -> Option<u64>
-        ensures { result ≡ option_map (λ e. e.key) (slice_get (entries self.now.places) at) }
+        ensures { result ≡ option_map (λ e. e.key) (slice_get (entries self.now) at) }
     {
         match &self.node {
             Node::Empty => None,
-            Node::Leaf(item) => (at == 0 && item.is_some()).then_some(self.base),
-            Node::Fork(low, _, high) => {
-                let below = low.len();
+            Node::Leaf(leaf) => (at == 0 && leaf.item.is_some()).then_some(leaf.key),
+            Node::Fork(fork) => {
+                let fork = &**fork;
+                let below = fork.low.len();
                 if at < below {
-                    low.nth(at)
+                    fork.low.nth(at)
                 } else {
-                    high.nth(at - below)
+                    fork.high.nth(at - below)
                 }
             }
         }
     }
 
-    // Makes a free place for a key of the tree that has none; a refusal changes nothing.
+    // Makes a free place for a key that has none; a refusal changes nothing.
     pub(crate) fn reserve(&mut self, alloc: Global, key: u64) -> Result<(), NoMemory>
-        requires above { self.old.base ≤ key }
-        requires below { key < self.old.base + self.old.width }
-        requires few { self.old.base + self.old.width ≤ 2 ^ 40 }
-        requires new { has_place self.old.places key ≡ false }
-        ensures places { OnOk result (self.new ≡ record self.old { places = with_place self.old.places key (Some None) }) }
+        requires few { key < 2 ^ 40 }
+        requires new { has_place self.old key ≡ false }
+        ensures places { OnOk result (self.new ≡ with_place self.old key (Some None)) }
         ensures refused { OnErr result (self.new ≡ self.old) }
     {
         match &mut self.node {
             Node::Empty => {
-                *self = path(alloc, self.base, self.width, key)?;
+                *self = make_leaf(alloc, key)?;
                 Ok(())
             }
-            Node::Leaf(_) => unreachable!(),
-            Node::Fork(low, _, high) => {
-                if key < self.base + self.width / 2 {
-                    low.reserve(alloc, key)
+            Node::Leaf(leaf) => {
+                let leaf = &mut **leaf;
+                let at = leaf.key;
+                if key < at {
+                    self.add_below(alloc, key, at, at + 1)
                 } else {
-                    high.reserve(alloc, key)
+                    self.add_above(alloc, key, at, at + 1)
+                }
+            }
+            Node::Fork(fork) => {
+                let fork = &mut **fork;
+                let (from, to) = (fork.from, fork.to);
+                if key < from {
+                    self.add_below(alloc, key, from, to)
+                } else if to <= key {
+                    self.add_above(alloc, key, from, to)
+                } else if key < fork.middle {
+                    fork.low.reserve(alloc, key)
+                } else {
+                    fork.high.reserve(alloc, key)
                 }
             }
         }
     }
 
-    // Another place of a key that has one, or none, and the item before.
-    pub(crate) fn change(&mut self, key: u64, new: Option<Option<T>>) -> Option<T>
-        requires place { has_place self.old.places key ≡ true }
-        ensures item { result ≡ item_at self.old.places key }
-        ensures places { self.new ≡ record self.old { places = with_place self.old.places key new } }
+    // The same of a key below all places, which are from `from` on and below `to`.
+    fn add_below(&mut self, alloc: Global, key: u64, from: u64, to: u64) -> Result<(), NoMemory>
+        requires below { key < from }
+        requires bound { to ≤ 2 ^ 40 }
+        requires rises { Rises from to self.old }
+        requires some { 0 < length self.old }
+        ensures places { OnOk result (self.new ≡ with_place self.old key (Some None)) }
+        ensures refused { OnErr result (self.new ≡ self.old) }
+    {
+        let low = make_leaf(alloc, key)?;
+        let middle = middle(key, from);
+        let (from, to) = around(middle, key, to);
+        let count = self.len();
+        let high = mem::replace(self, Tree::new());
+        let fork = Fork {
+            from,
+            middle,
+            to,
+            count,
+            low,
+            high,
+        };
+        match Box::new(alloc, fork) {
+            Ok(fork) => {
+                self.node = Node::Fork(fork);
+                Ok(())
+            }
+            Err(failed) => {
+                let fork = failed.value;
+                *self = fork.high;
+                Err(NoMemory)
+            }
+        }
+    }
+
+    // The same of a key above all of them.
+    fn add_above(&mut self, alloc: Global, key: u64, from: u64, to: u64) -> Result<(), NoMemory>
+        requires above { to ≤ key }
+        requires few { key < 2 ^ 40 }
+        requires rises { Rises from to self.old }
+        requires some { 0 < length self.old }
+        ensures places { OnOk result (self.new ≡ with_place self.old key (Some None)) }
+        ensures refused { OnErr result (self.new ≡ self.old) }
+    {
+        let high = make_leaf(alloc, key)?;
+        let middle = middle(to - 1, key);
+        let (from, to) = around(middle, from, key + 1);
+        let count = self.len();
+        let low = mem::replace(self, Tree::new());
+        let fork = Fork {
+            from,
+            middle,
+            to,
+            count,
+            low,
+            high,
+        };
+        match Box::new(alloc, fork) {
+            Ok(fork) => {
+                self.node = Node::Fork(fork);
+                Ok(())
+            }
+            Err(failed) => {
+                let fork = failed.value;
+                *self = fork.low;
+                Err(NoMemory)
+            }
+        }
+    }
+
+    // Another item at a key that has a place, or none, in exchange for the one that is there.
+    pub(crate) fn swap(&mut self, key: u64, item: &mut Option<T>)
+        requires place { has_place self.old key ≡ true }
+        ensures item { item.new ≡ item_at self.old key }
+        ensures places { self.new ≡ with_place self.old key (Some item.old) }
     {
         match &mut self.node {
             Node::Empty => unreachable!(),
-            Node::Leaf(old) => match new {
-                Some(item) => mem::replace(old, item),
-                None => {
-                    let old = old.take();
-                    self.node = Node::Empty;
-                    old
-                }
-            },
-            Node::Fork(low, count, high) => {
-                let more = count_in(&new);
-                if key < self.base + self.width / 2 {
-                    let old = low.change(key, new);
-                    prune(low);
-                    *count = *count + more - count_of(&old);
-                    old
+            Node::Leaf(leaf) => mem::swap(&mut leaf.item, item),
+            Node::Fork(fork) => {
+                let fork = &mut **fork;
+                let more = count_of(item);
+                if key < fork.middle {
+                    fork.low.swap(key, item);
+                    fork.count = fork.count + more - count_of(item);
                 } else {
-                    let old = high.change(key, new);
-                    prune(high);
-                    *count = *count + more - count_of(&old);
-                    old
+                    fork.high.swap(key, item);
+                    fork.count = fork.count + more - count_of(item);
+                }
+            }
+        }
+    }
+
+    // Takes a key's place out with its item. There is such a place.
+    pub(crate) fn remove(&mut self, key: u64) -> Option<T>
+        requires place { has_place self.old key ≡ true }
+        ensures item { result ≡ item_at self.old key }
+        ensures places { self.new ≡ with_place self.old key None }
+    {
+        match &mut self.node {
+            Node::Empty => unreachable!(),
+            Node::Leaf(leaf) => {
+                let item = leaf.item.take();
+                self.node = Node::Empty;
+                item
+            }
+            Node::Fork(fork) => {
+                let fork = &mut **fork;
+                if key < fork.middle {
+                    let item = fork.low.remove(key);
+                    if fork.low.is_empty() {
+                        let rest = mem::replace(&mut fork.high, Tree::new());
+                        *self = rest;
+                    } else {
+                        fork.count -= count_of(&item);
+                    }
+                    item
+                } else {
+                    let item = fork.high.remove(key);
+                    if fork.high.is_empty() {
+                        let rest = mem::replace(&mut fork.low, Tree::new());
+                        *self = rest;
+                    } else {
+                        fork.count -= count_of(&item);
+                    }
+                    item
                 }
             }
         }

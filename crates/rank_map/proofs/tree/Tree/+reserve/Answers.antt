@@ -1,44 +1,49 @@
-use Rattle.std.proofs.Common.{sym, subst, rules}
-use Rattle.rank_map.proofs.ForkLemmas.{at_fork, CanReserve, low_reserve, high_reserve, low_reserved, high_reserved}
+use Rattle.std.proofs.Common.{is_some, sym, subst, ap, ◌∙◌, rules, arith}
+use Rattle.rank_map.specs.Places.{Rises}
+use Rattle.rank_map.proofs.ForkLemmas.{at_fork, low_less, high_less, low_item, high_item, both_rise, low_reserved, high_reserved}
 use Rattle.rank_map.proofs.tree.Tree.+reserve.Goals as goal
-use Rattle.rank_map.proofs.tree.Tree.+reserve.Goals.{then-key-self, else-key-self}
+use Rattle.rank_map.proofs.tree.Tree.+reserve.Goals.{then-key-fork, else-key-fork}
+
+pub add_below-requires-then-key-from-clause-rises : goal.add_below-requires-then-key-from-clause-rises
+add_below-requires-then-key-from-clause-rises g t c =
+    let f = at_fork c.self.view_is c.self.invariant c.in-Fork.is c.deref_mut-fork.ensures.value in
+    subst (Rises c.deref_mut-fork.result.now.from c.deref_mut-fork.result.now.to) f.places (both_rise f)
+
+pub add_above-requires-then-to-key-clause-rises : goal.add_above-requires-then-to-key-clause-rises
+add_above-requires-then-to-key-clause-rises g t c =
+    let f = at_fork c.self.view_is c.self.invariant c.in-Fork.is c.deref_mut-fork.ensures.value in
+    subst (Rises c.deref_mut-fork.result.now.from c.deref_mut-fork.result.now.to) f.places (both_rise f)
 
 pub reserve-requires : goal.reserve-requires
 reserve-requires g t c κs within =
-    let f = at_fork c.self.view_is c.self.invariant c.in-Fork.is in
-    let can = low_reserve c.args.key f (c.requires.above, (c.requires.below, (c.requires.few, c.requires.new))) c.if-key-self.true in
-    (search rules, (search rules, subst (λ r. CanReserve r c.args.key) (sym c.deref_mut.ensures.value) can))
+    let f = at_fork c.self.view_is c.self.invariant c.in-Fork.is c.deref_mut-fork.ensures.value in
+    (omega (arith, c.decreases, low_less f), (search rules, (c.requires.few, sym (ap is_some (low_item c.args.key f c.if-key-fork.true)) ∙ c.requires.new)))
 
-pub reserve-requires-else-key-self : goal.reserve-requires-else-key-self
-reserve-requires-else-key-self g t c κs within =
-    let f = at_fork c.self.view_is c.self.invariant c.in-Fork.is in
-    let can = high_reserve c.args.key f (c.requires.above, (c.requires.below, (c.requires.few, c.requires.new))) c.if-key-self.false in
-    (search rules, (search rules, subst (λ r. CanReserve r c.args.key) (sym c.deref_mut-else-key-self.ensures.value) can))
+pub reserve-requires-else-key-fork : goal.reserve-requires-else-key-fork
+reserve-requires-else-key-fork g t c κs within =
+    let f = at_fork c.self.view_is c.self.invariant c.in-Fork.is c.deref_mut-fork.ensures.value in
+    (omega (arith, c.decreases, high_less f), (search rules, (c.requires.few, sym (ap is_some (high_item c.args.key f c.if-key-fork.false)) ∙ c.requires.new)))
 
-pub invariant_of-self-in-Fork : goal.invariant_of-self-in-Fork
-invariant_of-self-in-Fork g t c =
-    let f = at_fork c.self.view_is c.self.invariant c.in-Fork.is in
-    let can : CanReserve c.args.self.now c.args.key = (c.requires.above, (c.requires.below, (c.requires.few, c.requires.new))) in
-    elim c.if-key-self.branch [
-      | then-key-self w ↦
+pub invariant_of-self-else-to-key : goal.invariant_of-self-else-to-key
+invariant_of-self-else-to-key g t c =
+    let f = at_fork c.self.view_is c.self.invariant c.in-Fork.is c.deref_mut-fork.ensures.value in
+    elim c.if-key-fork.branch [
+      | then-key-fork w ↦
           rw w.self-inside-is
-          (low_reserved c.args.key w.reserve.result f can w.if-key-self.true (rw w.deref_mut.ensures.value at w.reserve.ensures.places) (rw w.deref_mut.ensures.value at w.reserve.ensures.refused)).fork
-      | else-key-self w ↦
+          (low_reserved c.args.key w.reserve.result f c.requires.new c.if-key-from.false w.if-key-fork.true w.reserve.ensures.places w.reserve.ensures.refused).fork
+      | else-key-fork w ↦
           rw w.self-inside-is
-          (high_reserved c.args.key w.reserve-else-key-self.result f can w.if-key-self.false (rw w.deref_mut-else-key-self.ensures.value at w.reserve-else-key-self.ensures.places)
-          (rw w.deref_mut-else-key-self.ensures.value at w.reserve-else-key-self.ensures.refused)).fork
+          (high_reserved c.args.key w.reserve-else-key-fork.result f c.requires.new w.if-key-fork.false c.if-to-key.false w.reserve-else-key-fork.ensures.places w.reserve-else-key-fork.ensures.refused).fork
     ]
 
-pub returns-after-key-self-clause-places : goal.returns-after-key-self-clause-places
-returns-after-key-self-clause-places g t c =
-    let f = at_fork c.self.view_is c.self.invariant c.in-Fork.is in
-    let can : CanReserve c.args.self.now c.args.key = (c.requires.above, (c.requires.below, (c.requires.few, c.requires.new))) in
-    elim c.if-key-self.branch [
-      | then-key-self w ↦
+pub returns-after-key-fork-clause-places : goal.returns-after-key-fork-clause-places
+returns-after-key-fork-clause-places g t c =
+    let f = at_fork c.self.view_is c.self.invariant c.in-Fork.is c.deref_mut-fork.ensures.value in
+    elim c.if-key-fork.branch [
+      | then-key-fork w ↦
           rw (w.self-inside-is, w.result-is)
-          (low_reserved c.args.key w.reserve.result f can w.if-key-self.true (rw w.deref_mut.ensures.value at w.reserve.ensures.places) (rw w.deref_mut.ensures.value at w.reserve.ensures.refused)).ok
-      | else-key-self w ↦
+          (low_reserved c.args.key w.reserve.result f c.requires.new c.if-key-from.false w.if-key-fork.true w.reserve.ensures.places w.reserve.ensures.refused).ok
+      | else-key-fork w ↦
           rw (w.self-inside-is, w.result-is)
-          (high_reserved c.args.key w.reserve-else-key-self.result f can w.if-key-self.false (rw w.deref_mut-else-key-self.ensures.value at w.reserve-else-key-self.ensures.places)
-          (rw w.deref_mut-else-key-self.ensures.value at w.reserve-else-key-self.ensures.refused)).ok
+          (high_reserved c.args.key w.reserve-else-key-fork.result f c.requires.new w.if-key-fork.false c.if-to-key.false w.reserve-else-key-fork.ensures.places w.reserve-else-key-fork.ensures.refused).ok
     ]
