@@ -48,49 +48,6 @@ fn finds_by_key_and_by_rank(rt: HostRuntime) -> Result<(), Fail> {
 }
 
 #[test]
-fn parts_keys_in_any_order(rt: HostRuntime) -> Result<(), Fail> {
-    let (far, last) = (12_884_901_888, 549_755_813_888);
-    let mut map = RankMap::new(rt.alloc());
-    assert_eq!(rt; (put(&mut map, 40, 4)?, put(&mut map, 8, 2)?), (None, None));
-    assert_eq!(rt;
-        (put(&mut map, far, 6)?, put(&mut map, 9, 3)?),
-        (None, None)
-    );
-    assert_eq!(rt;
-        (put(&mut map, 0, 0)?, put(&mut map, last, 7)?),
-        (None, None)
-    );
-    assert_eq!(rt; (put(&mut map, 41, 5)?, put(&mut map, 1, 1)?), (None, None));
-    assert_eq!(rt;
-        (map.nth(0), map.nth(1), map.nth(2)),
-        (Some(0), Some(1), Some(8))
-    );
-    assert_eq!(rt;
-        (map.nth(3), map.nth(4), map.nth(5)),
-        (Some(9), Some(40), Some(41))
-    );
-    assert_eq!(rt;
-        (map.nth(6), map.nth(7), map.nth(8)),
-        (Some(far), Some(last), None)
-    );
-    assert_eq!(rt;
-        (take(&mut map, 9, true)?, take(&mut map, 0, true)?),
-        (Some(3), Some(0))
-    );
-    assert_eq!(rt;
-        (take(&mut map, far, true)?, take(&mut map, 41, false)?),
-        (Some(6), Some(5))
-    );
-    assert!(rt; map.get(1) == Some(&1) && map.get(8) == Some(&2) && map.get(40) == Some(&4));
-    assert!(rt; map.get(0).is_none() && map.get(9).is_none() && map.get(far).is_none());
-    assert_eq!(rt;
-        (map.len(), map.nth(2), map.nth(3)),
-        (4, Some(40), Some(last))
-    );
-    Ok(())
-}
-
-#[test]
 fn takes_from_the_middle(rt: HostRuntime) -> Result<(), Fail> {
     let mut queue = Queue::new(rt.alloc());
     queue.reserve(3)?;
