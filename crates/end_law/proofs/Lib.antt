@@ -7,3 +7,5 @@ pub mod Owned
 pub mod Given
 pub mod Example
 pub mod Lying
+pub mod ReadPaths
+pub mod Requested

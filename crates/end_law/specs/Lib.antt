@@ -2,3 +2,4 @@ pub mod Ending
 pub mod Dropped
 pub mod Example
 pub mod Lying
+pub mod Objects

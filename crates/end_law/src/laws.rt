@@ -4,6 +4,7 @@ ghost use Rattle.end_law.specs.Dropped.{GivenUpMayBe, OwnedAreAlone};
 ghost use Rattle.end_law.specs.Example.{WritesApply};
 ghost use Rattle.end_law.specs.Ending.{EndedAreAlone, PassedFollows, WritesAreFresh};
 ghost use Rattle.end_law.specs.Lying.{EndedLiesThere, WrittenLieThere};
+ghost use Rattle.end_law.specs.Objects.{ObjectsFollow};
 
 /// A mutable reference that a thread's instruction ends, in a slot or from the hand: each pointer to its object is that reference or one that it was made
 /// from, no shared reference leads there, none was made from it, and it isn't stale.
@@ -32,4 +33,10 @@ pub fn owned_are_alone()
 pub fn written_lie_there()
     ensures written { WrittenLieThere }
     ensures ended { EndedLiesThere }
+{}
+
+/// The object of a `fetch`, a `move` or a `drop` has the message's word and lies where it leads: a sentence of a coherent cluster that follows from types,
+/// from the words of objects, and from what is told of answers. Where it were under way a thread would wait for it that has it in its own slots' chains.
+pub fn objects_follow()
+    ensures { ObjectsFollow }
 {}

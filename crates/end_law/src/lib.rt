@@ -4,4 +4,6 @@
 
 mod laws;
 
-pub use laws::{ended_are_alone, owned_are_alone, writes_are_fresh, written_lie_there};
+pub use laws::{
+    ended_are_alone, objects_follow, owned_are_alone, writes_are_fresh, written_lie_there,
+};

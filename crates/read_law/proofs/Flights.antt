@@ -23,15 +23,16 @@ use Rattle.heap_law.proofs.Words.{none_at, named, itself}
 use Rattle.event_law.proofs.Trades.{tot-append}
 use Rattle.event_law.proofs.Unseen.{Unseen, Unnoted, thread_alone, none_at as none_in, seen_of}
 use Rattle.event_law.proofs.Askers.{other_none}
+use Rattle.read_law.specs.Answering.{AnswersTold}
 use Rattle.path_law.proofs.Contained.{among_thread}
 use Rattle.path_law.proofs.InState.{only_one}
 
 -- THINGS THAT WEIGH
 
-abbrev Found : (Thing → ℕ) → List Thing → Type 0
+abbrev pub Found : (Thing → ℕ) → List Thing → Type 0
 Found f b = (y : Thing) × Among y b × (1 ≤ f y)
 
-found : (f : Thing → ℕ) (b : List Thing) → 1 ≤ tot f b → Found f b
+pub found : (f : Thing → ℕ) (b : List Thing) → 1 ≤ tot f b → Found f b
 found f [] l = absurd (omega (arith, l))
 found f (y ∷ b) l = by (f y) refl (λ z. found f b z)
   where
@@ -44,7 +45,7 @@ weighs f [] y h = absurd h
 weighs f (x ∷ b) y (inl e) = subst (λ z. f z ≤ tot f (x ∷ b)) e (omega arith)
 weighs f (x ∷ b) y (inr h) = omega (arith, weighs f b y h)
 
-truly : (b : Bool) → 1 ≤ one b → b ≡ true
+pub truly : (b : Bool) → 1 ≤ one b → b ≡ true
 truly true l = refl
 truly false l = absurd (omega (arith, l))
 
@@ -133,12 +134,12 @@ module _ (w : ℕ) (o : ObjNo) where
 
 -- ONE ANSWER
 
-abbrev whole : ℕ → Answer → ℕ
+abbrev pub whole : ℕ → Answer → ℕ
 whole t no_answer = 0
 whole t (whole_answer u) = one (u == t)
 whole t (half_answer u) = 0
 
-abbrev whole_to : ℕ → Thing → ℕ
+abbrev pub whole_to : ℕ → Thing → ℕ
 whole_to t x = whole t (answer_of x)
 
 twice : (b : Bool) → one b + one b ≡ if_so b 2
@@ -167,30 +168,30 @@ all_needed : (t : ℕ) (b : List Thing) → tot (halves_needed t) b ≤ tot (is_
 all_needed t [] = omega arith
 all_needed t (x ∷ b) = omega (arith, needed_of t x, all_needed t b)
 
-one_answer : (k : Cluster) → IsSound k → (t : ℕ) → tot (whole_to t) (things_of k) ≤ 1
-one_answer k sound t = omega (arith, sound.requests.one_answer t, sound.names.numbers_differ t, all_halves t (things_of k), all_needed t (things_of k))
+pub one_answer : (k : Cluster) → AnswersTold k → (t : ℕ) → tot (whole_to t) (things_of k) ≤ 1
+one_answer k told t = omega (arith, told.one_answer t, told.numbers_differ t, all_halves t (things_of k), all_needed t (things_of k))
 
-same_one : (u n : ℕ) → (u == n) ≡ true → 1 ≤ one (u == n)
+pub same_one : (u n : ℕ) → (u == n) ≡ true → 1 ≤ one (u == n)
 same_one u n e = rw e (omega arith)
 
 -- what asks for it answers the thread
-asks_whole : (n : ℕ) (a : Awaited) (r : ℕ) (m : Message) → asks_for n a m ≡ true → 1 ≤ whole_to n (sent r m)
+pub asks_whole : (n : ℕ) (a : Awaited) (r : ℕ) (m : Message) → asks_for n a m ≡ true → 1 ≤ whole_to n (sent r m)
 asks_whole n a r (message.Fetch w o s u) e = same_one u n (and_left (u == n) _ (and_left _ _ e))
 asks_whole n a r (message.Fetched w c u) e = same_one u n (and_left (u == n) _ (and_left _ _ e))
 asks_whole n a r (message.Move w o s u) e = same_one u n (and_left (u == n) _ (and_left _ _ e))
 asks_whole n a r (message.Moved w c u) e = same_one u n (and_left (u == n) _ (and_left _ _ e))
 asks_whole n a r _ e = absurd (cc e)
 
-one_message : (r s : ℕ) (m l : Message) → sent r m ≡ sent s l → m ≡ l
+pub one_message : (r s : ℕ) (m l : Message) → sent r m ≡ sent s l → m ≡ l
 one_message r s m l e = cc
 
-is_waiting : (p : Phase) (w : ℕ) → is_cell w p ≡ true → p ≡ phase.WaitCell w
+pub is_waiting : (p : Phase) (w : ℕ) → is_cell w p ≡ true → p ≡ phase.WaitCell w
 is_waiting (phase.WaitCell v) w e = ap phase.WaitCell (eqb-true v w e)
 is_waiting _ w e = absurd (cc e)
 
 -- WHO WAITS FOR IT
 
--- the thread waits for the object, which comes
+-- the thread waits for the object, which comes in a message to it
 pub record Awaits (k : Cluster) (w : ℕ) (o : ObjNo) : Type 0 where
   pub thread : Standing
   pub among : Among thread (sight k).ground.threads
@@ -199,10 +200,17 @@ pub record Awaits (k : Cluster) (w : ℕ) (o : ObjNo) : Type 0 where
   pub turn : InTurn (sight k) thread w awaited (path (sight k) thread)
   pub comes : awaited.comes ≡ true
   pub object : awaited.object ≡ o
+  pub target : ℕ
+  pub cell : Cell
+  pub brought : Among (sent target (message.Moved w cell thread.thread.number)) (things_of k)
 
-module _ (k : Cluster) (sound : IsSound k) where
+-- a sound cluster tells it
+pub answers_told : (k : Cluster) → IsSound k → AnswersTold k
+answers_told k sound = record { numbers_differ = sound.names.numbers_differ; one_answer = sound.requests.one_answer; carry_what_is_asked = sound.requests.carry_what_is_asked; wait_in_turn = sound.walks.wait_in_turn }
+
+module _ (k : Cluster) (told : AnswersTold k) where
   pub who_waits : (w : ℕ) (c : Cell) → Among (flies w c) (things_of k) → Awaits k w c.object
-  who_waits w c h = by (thread_at (threads_in (things_of k)) b.thread) refl (other_none _ (none_at (carries (sight k)) (sent b.target (message.Moved w b.cell b.thread)) (things_of k) sound.requests.carry_what_is_asked b.among))
+  who_waits w c h = by (thread_at (threads_in (things_of k)) b.thread) refl (other_none _ (none_at (carries (sight k)) (sent b.target (message.Moved w b.cell b.thread)) (things_of k) told.carry_what_is_asked b.among))
     where
       b : Bringer w c.object k
       b = bringer w c.object k c h refl
@@ -214,7 +222,7 @@ module _ (k : Cluster) (sound : IsSound k) where
           let asks : asks_for n a m ≡ true = truly (asks_for n a m) l in
           let moved = message.Moved w b.cell b.thread in
           let mine : 1 ≤ whole_to n (sent b.target moved) = same_one b.thread n (eq-eqb b.thread n (sym number)) in
-          let same : m ≡ moved = one_message r b.target m moved (only_one (whole_to n) (sent r m) (sent b.target moved) (things_of k) (one_answer k sound n) there b.among (asks_whole n a r m asks) mine) in
+          let same : m ≡ moved = one_message r b.target m moved (only_one (whole_to n) (sent r m) (sent b.target moved) (things_of k) (one_answer k told n) there b.among (asks_whole n a r m asks) mine) in
           let it : ((b.thread == n && a.comes) && (a.word == w && same_object b.cell.object a.object)) ≡ true = subst (λ z. asks_for n a z ≡ true) same asks in
           record {
             thread = x;
@@ -223,6 +231,9 @@ module _ (k : Cluster) (sound : IsSound k) where
             awaited = a;
             turn = turn;
             comes = and_right (b.thread == n) a.comes (and_left (b.thread == n && a.comes) _ it);
+            target = b.target;
+            cell = b.cell;
+            brought = subst (λ y. Among (sent b.target (message.Moved w b.cell y)) (things_of k)) (sym number) b.among;
             object = sym (named b.cell.object a.object (and_right (a.word == w) (same_object b.cell.object a.object) (and_right (b.thread == n && a.comes) _ it))) ∙ b.object;
           }
       of_ask x among number phase a turn _ there l = absurd (omega (arith, l))
@@ -232,6 +243,6 @@ module _ (k : Cluster) (sound : IsSound k) where
       by (Some x) at e =
           let q = among_thread (threads_in (things_of k)) b.thread x at in
           let phase = is_waiting x.thread.phase w e in
-          let f = sound.walks.wait_in_turn x w q.0 phase in
+          let f = told.wait_in_turn x w q.0 phase in
           let it = found (asked_for x.thread.number f.awaited) (things_of k) f.asked in
           of_ask x q.0 q.1 phase f.awaited f.turn it.0 it.1 it.2

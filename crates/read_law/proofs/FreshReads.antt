@@ -139,7 +139,7 @@ module _ (k : Cluster) (c : HasPaths k) where
 
   -- STALE
 
-  fresh_if : (x : Standing) (l : Location) → Reading x l → ((z : Standing) → HasTaken k c z l → z ≡ x → ⊥) → IsStale (sight k) (Some l) → ⊥
+  pub fresh_if : (x : Standing) (l : Location) → Reading x l → ((z : Standing) → HasTaken k c z l → z ≡ x → ⊥) → IsStale (sight k) (Some l) → ⊥
   fresh_if x l f own (changed_above r among held ch) = read_unmade x l r f among held
   fresh_if x l f own (stale_above r among held s) = read_unmade x l r f among held
   fresh_if x l f own (taken_above e) =

@@ -31,7 +31,7 @@ use Rattle.path_law.proofs.Alike.{leads_in_heap, heap_of_shown, cell_there, cohe
 use Rattle.word_law.proofs.Standing.{CellOf, lying, flying, cell_among, pointers_among, slot_among, temp_among, told}
 use Rattle.read_law.specs.Reading.{Reads, copies, shares as shares_it, lends, dups, locks, ReadLieThere}
 use Rattle.read_law.proofs.FreshReads.{reading_of, chain_apart, read_fresh}
-use Rattle.read_law.proofs.Flights.{who_waits}
+use Rattle.read_law.proofs.Flights.{answers_told, who_waits}
 use Rattle.read_law.proofs.OwnChains.{comes_own}
 
 pub pointer_leads : (t : ℕ) (v : Value) (p : BoxPtr) → pointer_of v ≡ Some p → leads t (Some v) ≡ Some (in_cell p.object)
@@ -48,30 +48,22 @@ follows _ w n d (lends e) lt = omega (arith, e, lt)
 follows _ w n d (dups e) lt = omega (arith, e, lt)
 follows _ w n d (locks e) lt = omega (arith, e, lt)
 
-module _ (k : Cluster) (co : IsCoherent k) where
-  abbrev c : HasPaths k
-  c = coherent_has_paths k co
-
-  abbrev ground : Ground
-  ground = (sight k).ground
-
-  abbrev words : HasWords (sight k)
-  words = co.sound.words.have_words
-
-  of_all : (p : Pointer) → Among p (pointers_in (things_of k)) → IsStale (sight k) p.at ⊎ (p.word ≡ words.word p.object)
-  of_all p h = words.same p (among_first p (pointers_in (things_of k)) (taken_pointers (sight k).code ground ground.threads) h)
-
+module _ (k : Cluster) where
   no_cell_shares : (d : Option Cell) (r : SharedRef) → value_of d ≡ Some (value.Shared r) → ⊥
   no_cell_shares None r e = cc e
   no_cell_shares (Some x) r e = cc e
 
-  pub shared_among : (l : Location) (r : SharedRef) → value_in ground l ≡ Some (value.Shared r) → Among (shares l r) (things_of k)
+  pub shared_among : (l : Location) (r : SharedRef) → value_in (sight k).ground l ≡ Some (value.Shared r) → Among (shares l r) (things_of k)
   shared_among (at_slot t i) r e = slot_among k t i (value.Shared r) e (shares (at_slot t i) r) (λ s. inl refl)
   shared_among (at_temp t i) r e = temp_among k t i (value.Shared r) e (shares (at_temp t i) r) (λ s. inl refl)
-  shared_among (in_cell o) r e = absurd (no_cell_shares (cell_of ground.cells o) r e)
+  shared_among (in_cell o) r e = absurd (no_cell_shares (cell_of (sight k).ground.cells o) r e)
+
+module _ (k : Cluster) (words : HasWords (sight k)) where
+  pub of_all : (p : Pointer) → Among p (pointers_in (things_of k)) → IsStale (sight k) p.at ⊎ (p.word ≡ words.word p.object)
+  of_all p h = words.same p (among_first p (pointers_in (things_of k)) (taken_pointers (sight k).code (sight k).ground (sight k).ground.threads) h)
 
   -- a pointer that isn't stale has its object's word
-  pub fresh_word : (l : Location) (v : Value) (p : BoxPtr) → value_in ground l ≡ Some v → pointer_of v ≡ Some p → (IsStale (sight k) (Some l) → ⊥) → p.word ≡ words.word p.object
+  pub fresh_word : (l : Location) (v : Value) (p : BoxPtr) → value_in (sight k).ground l ≡ Some v → pointer_of v ≡ Some p → (IsStale (sight k) (Some l) → ⊥) → p.word ≡ words.word p.object
   fresh_word l (value.Own (owned.Box b)) p e f fresh =
       let q : Pointer = record { at = Some l; word = b.word; object = b.object } in
       let own : b.word ≡ words.word b.object = ⊎_elim (λ (s : IsStale (sight k) (Some l)). absurd (fresh s)) (λ (w : b.word ≡ words.word b.object). w) (of_all q (told k l (value.Own (owned.Box b)) q e (inl refl))) in
@@ -82,15 +74,25 @@ module _ (k : Cluster) (co : IsCoherent k) where
       subst (λ (x : BoxPtr). x.word ≡ words.word x.object) (some_is f) own
   fresh_word l (value.Shared r) p e f fresh =
       let q : Pointer = record { at = None; word = r.word; object = r.object } in
-      let own : r.word ≡ words.word r.object = ⊎_elim (λ (s : ⊥). absurd s) (λ (w : r.word ≡ words.word r.object). w) (of_all q (pointers_among q (shares l r) (things_of k) (shared_among l r e) (inl refl))) in
+      let own : r.word ≡ words.word r.object = ⊎_elim (λ (s : ⊥). absurd s) (λ (w : r.word ≡ words.word r.object). w) (of_all q (pointers_among q (shares l r) (things_of k) (shared_among k l r e) (inl refl))) in
       subst (λ (x : BoxPtr). x.word ≡ words.word x.object) (some_is f) own
   fresh_word l _ p e f fresh = absurd (cc f)
+
+module _ (k : Cluster) (co : IsCoherent k) where
+  abbrev c : HasPaths k
+  c = coherent_has_paths k co
+
+  abbrev ground : Ground
+  ground = (sight k).ground
+
+  abbrev words : HasWords (sight k)
+  words = co.sound.words.have_words
 
   module _ (x : Standing) (i : Instr) (w : Lval) (n d : ℕ) (g : GoesOn k x) (at : instr_of (sight k) x ≡ Some i) (reads : Reads i w n) (lt : d < n) (awake : (u : ℕ) → x.thread.phase ≡ phase.WaitCell u → ⊥) where
     -- an object to which it leads isn't under way
     unflown : (o : ObjNo) (u : ℕ) (b : Cell) → locate ground x.thread.number w.slot (suc d) ≡ Some (in_cell o) → Among (flies u b) (things_of k) → b.object ≡ o → ⊥
     unflown o u b next h same =
-        let a = who_waits k co.sound u b h in
+        let a = who_waits k (answers_told k co.sound) u b h in
         let z = a.thread in
         let goes : GoesOn k z = record { among = a.among; going = ap is_over a.waits } in
         let own = comes_own k c z goes u a.awaited (path (sight k) z) refl a.turn a.comes in
@@ -105,7 +107,7 @@ module _ (k : Cluster) (co : IsCoherent k) where
       next = ap (λ o. leads x.thread.number (value_behind ground o)) there ∙ ap (leads x.thread.number) stands ∙ pointer_leads x.thread.number v p pointer
 
       pub its_word : p.word ≡ words.word p.object
-      its_word = fresh_word l v p stands pointer (read_fresh k c x i w n d l g at reads lt there)
+      its_word = fresh_word k words l v p stands pointer (read_fresh k c x i w n d l g at reads lt there)
 
       -- the object's cell, which lies where the word leads
       pub record Home : Type 0 where

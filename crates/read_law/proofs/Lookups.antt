@@ -271,7 +271,7 @@ module _ (k : Cluster) (co : IsCoherent k) where
     its = home k co x i w n d g at reads lt awake l v p there stands pointer
 
     abbrev word_is : p.word ≡ words.word p.object
-    word_is = fresh_word k co l v p stands pointer fresh
+    word_is = fresh_word k co.sound.words.have_words l v p stands pointer fresh
 
     -- IN THE PARTITION
 
@@ -311,7 +311,7 @@ module _ (k : Cluster) (co : IsCoherent k) where
         (q, among_standing q (told_standing k l (value.Mut r) q e (inl refl)), ap (λ (z : BoxPtr). z.object) (some_is f), inr refl)
     stands_as (value.Shared r) b e f =
         let q : Pointer = record { at = None; word = r.word; object = r.object } in
-        (q, among_standing q (standing_among q (shares l r) (things_of k) (shared_among k co l r e) (inl refl)), ap (λ (z : BoxPtr). z.object) (some_is f), inl refl)
+        (q, among_standing q (standing_among q (shares l r) (things_of k) (shared_among k l r e) (inl refl)), ap (λ (z : BoxPtr). z.object) (some_is f), inl refl)
     stands_as _ b e f = absurd (cc f)
 
     abbrev IsClean : Type 0

@@ -72,7 +72,7 @@ writes_of (Some (instr.Read w false)) t p e = absurd (cc e)
 writes_of (Some _) t p e = absurd (cc e)
 writes_of None t p e = absurd (cc e)
 
-lends_of : (o : Option Instr) (t : ThreadState) (p : Lval) → path_of o t ≡ lends p → o ≡ Some (instr.BorrowMut p)
+pub lends_of : (o : Option Instr) (t : ThreadState) (p : Lval) → path_of o t ≡ lends p → o ≡ Some (instr.BorrowMut p)
 lends_of (Some (instr.BorrowMut w)) t p e = ap (λ z. Some (instr.BorrowMut z)) (one_lend w p e)
 lends_of (Some (instr.Read w true)) t p e = by w.depth e
   where
