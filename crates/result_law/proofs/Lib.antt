@@ -3,3 +3,15 @@ pub mod Operands
 pub mod Known
 pub mod Lines
 pub mod Variables
+pub mod Lent
+pub mod Made
+pub mod Near
+pub mod Flights
+pub mod Awaits
+pub mod Pointing
+pub mod Copied
+pub mod Followed
+pub mod Reading
+pub mod Starred
+pub mod Found
+pub mod Readers

@@ -1,5 +1,5 @@
 -- THAT AN ENABLED EVENT HAS A RESULT: from a coherent cluster nothing that a server needs on the way of an event is missing (this project's rule).
-use Rattle.std.specs.Prelude.{◌≡◌, ℕ, true, Option, Some, None, slice_get}
+use Rattle.std.specs.Prelude.{◌≡◌, ℕ, ⊤, true, Option, Some, None, slice_get}
 use Rattle.fr_base.specs.declared.place.Lval.{Lval}
 use Rattle.fr_base.specs.declared.instruction.Instr.{Instr}
 use Rattle.thread_state.specs.View.{ThreadState}
@@ -18,6 +18,14 @@ pub data FollowsNone : Option Access → Type 0 where
   reads_variable : {w : Lval} → w.depth ≡ 0 → FollowsNone (Some (ReadTo w))
   shares_variable : {w : Lval} → w.depth ≡ 0 → FollowsNone (Some (ReadPointer w))
   lends_variable : {w : Lval} → w.depth ≡ 0 → FollowsNone (Some (LendTo w))
+
+-- a place is read, with however many stars
+pub data ReadsPlace : Option Access → Type 0 where
+  reads : {w : Lval} → ReadsPlace (Some (ReadTo w))
+
+-- places are followed in whatever way
+abbrev pub Anyhow : Option Access → Type 0
+Anyhow a = ⊤
 
 -- in a coherent cluster where few events were done, each enabled step of an instruction of that kind has a result, where it follows places so
 abbrev pub StepsHaveResults : Kind → (Option Access → Type 0) → Type 0

@@ -1,7 +1,7 @@
 //! That a step that is enabled has a result.
 
 ghost use Rattle.event_law.specs.Kinds.{step_arith, step_assign, step_borrow, step_borrow_mut, step_box, step_discard, step_drop_slot, step_dup, step_end, step_join, step_let, step_lock, step_mutex, step_par_end, step_print, step_read, step_unlock};
-ghost use Rattle.result_law.specs.Results.{FollowsNone, StepsHaveResults};
+ghost use Rattle.result_law.specs.Results.{Anyhow, FollowsNone, ReadsPlace, StepsHaveResults};
 
 /// In a coherent cluster, where fewer than 2^31 - 1 events were done, each enabled step that follows no pointer has a result: the operands, the variable and
 /// what goes are there and of the right kind, an address or a number is left, and all that the thread has in use can go.
@@ -23,4 +23,12 @@ pub fn steps_of_variables()
     ensures unlocks { StepsHaveResults step_unlock FollowsNone }
     ensures pair_ends { StepsHaveResults step_par_end FollowsNone }
     ensures ends { StepsHaveResults step_end FollowsNone }
+{}
+
+/// So has each step that reads a place, with however many stars: a copy, a dup and a lock. Each pointer on the way isn't stale, its object lies where its word
+/// leads or a copy under that word is the object's, or it is asked for; and what stands at the end is of the place's type.
+pub fn steps_that_read()
+    ensures copies { StepsHaveResults step_read ReadsPlace }
+    ensures dups { StepsHaveResults step_dup Anyhow }
+    ensures locks { StepsHaveResults step_lock Anyhow }
 {}

@@ -3,4 +3,4 @@
 
 mod laws;
 
-pub use laws::steps_of_variables;
+pub use laws::{steps_of_variables, steps_that_read};
