@@ -1,8 +1,6 @@
 -- Clusters whose things show alike stand for the same one heap, where each object, content and result is shown once and no two threads have one number.
-use Rattle.std.proofs.Common.{◌≡◌, inl, inr, ℕ, zero, suc, ◌+◌, ◌-◌, ◌≤◌, ◌==◌, ◌&&◌, ◌||◌, not, Bool, true, false, if◌then◌else◌, List, [], ◌∷◌, length, reverse, map, Option, Some, None, is_some, option_map, refl, sym, ap, ap₂, ◌∙◌, arith}
+use Rattle.std.proofs.Common.{◌≡◌, ℕ, zero, suc, ◌+◌, ◌≤◌, ◌==◌, ◌&&◌, ◌||◌, not, Bool, true, false, if◌then◌else◌, List, [], ◌∷◌, length, Option, Some, None, option_map, refl, sym, ap, ap₂, subst, ◌∙◌, arith}
 use Rattle.std.specs.Prelude.{◌%◌, ◌^◌, slice_get, nat_le}
-use Rattle.std.proofs.lemmas.Option.{slice_get-map}
-use Rattle.std.proofs.lemmas.List.{length-map}
 use Rattle.fr_base.specs.declared.name.MutexNo.{MutexNo}
 use Rattle.fr_base.specs.declared.name.ObjNo.{ObjNo}
 use Rattle.fr_base.specs.declared.label.Plain.{Plain}
@@ -10,429 +8,43 @@ use Rattle.fr_base.specs.declared.label.Plain.TheVariants as plain
 use Rattle.fr_base.specs.declared.instruction.Instr.{Instr}
 use Rattle.fr_base.specs.declared.instruction.Instr.TheVariants as instr
 use Rattle.fr_base.specs.declared.instruction.Operand.{Operand}
-use Rattle.fr_base.specs.declared.instruction.Operand.TheVariants as operand
 use Rattle.fr_base.specs.declared.place.Lval.{Lval}
 use Rattle.fr_base.specs.Names.{same_plain}
 use Rattle.fr_typing.proofs.PlaceLemmas.{eq_cases}
-use Rattle.fr_base.specs.Lists.{last_of}
-use Rattle.fr_plain.specs.declared.value.Value.{Value as PlainValue}
-use Rattle.fr_plain.specs.declared.value.Value.TheVariants.{Own, ToSlot, ToObject}
 use Rattle.fr_plain.specs.PlainState.{SameState}
 use Rattle.fr_code.specs.Machine.{CodeRunning}
 use Rattle.heap_partition.specs.Plain.{plain_of}
-use Rattle.heap_partition.specs.declared.value.Cell.{Cell}
 use Rattle.heap_partition.specs.declared.value.Owned.{Owned}
-use Rattle.heap_partition.specs.declared.value.Owned.TheVariants as owned
 use Rattle.thread_state.specs.View.{is_over}
-use Rattle.thread_state.specs.declared.phase.Phase.{Phase}
-use Rattle.thread_state.specs.declared.phase.Phase.TheVariants as phase
-use Rattle.thread_state.specs.declared.value.Value.{Value}
-use Rattle.thread_state.specs.declared.value.Value.TheVariants as value
 use Rattle.join_home.specs.Tasks.{TaskState, going, let_go, kept, asked, in_pair}
-use Rattle.server_msgs.specs.declared.message.Message.{Message}
-use Rattle.server_msgs.specs.declared.message.Message.TheVariants as message
 use Rattle.server_model.specs.Servers.{Cluster}
-use Rattle.heap_law.specs.Names.{tot, one, other, if_so, some, same_object, same_mutex, Among}
-use Rattle.heap_law.specs.Things.{Location, at_slot, at_temp, in_cell, Spot, in_slot, in_temp, as_gift, as_content, as_result, in_hand, Thing, holds, lies, flies, sent, stands, noted, things_of}
-use Rattle.heap_law.specs.Follow.{Standing, threads_in, thread_at, cells_in, cell_of, slot_of, temp_of, value_of, value_in, value_behind, leads, locate, value_at}
+use Rattle.heap_law.specs.Names.{tot, one, other, if_so, some, same_object, same_mutex}
+use Rattle.heap_law.specs.Things.{Location, at_slot, at_temp, in_cell, Spot, in_slot, in_temp, as_gift, as_content, as_result, in_hand, Thing, holds, lies, flies, stands, noted, things_of}
+use Rattle.heap_law.specs.Follow.{Standing, threads_in, thread_at, cells_in, cell_of, value_in, value_behind, leads, locate, value_at}
 use Rattle.heap_law.specs.Sight.{Sight, sight}
 use Rattle.heap_law.specs.Paths.{popped, task_in, joined_thread}
 use Rattle.heap_law.specs.Walking.{instr_of}
-use Rattle.heap_law.specs.Requests.{home_of, mutex_of, locked_mutex, is_mutex, is_task}
-use Rattle.heap_law.specs.Sharing.{got_phase}
+use Rattle.heap_law.specs.Requests.{home_of, mutex_of, locked_mutex}
+use Rattle.heap_law.specs.Sharing.{got_phase, has_ended}
 use Rattle.heap_law.specs.Naming.{started_at, made_at}
 use Rattle.heap_law.specs.Weights.{is_thread}
-use Rattle.heap_law.specs.OneHeap.{Node, object_n, mutex_n, task_n, Owner, inside, outside, content_owner, result_owner, gift_owner, gift_owner_of, spot_owner, owner_of, owns, names, owner_in, named_in, any_named, in_state_by, is_in_state, if_in, cell_value, or_else, first_shown, object_value, is_gift_of, is_content, content_value, share_in, if_there, plain_value, pair_note, pair_over, in_pair_of, is_branch, branch_result, is_joined_by, is_result, result_value, result_of, ended_with, going_on, running_at, life_of, life_at, made_of, two_in, pair_of, is_given_thread, is_given_mutex, if_given, one_heap}
-use Rattle.heap_law.proofs.Names.{if_not, same_mutexes}
-use Rattle.still_law.specs.Shows.{ShownThread, Sign, nothing, a_value, an_object, a_thread as a_shown_thread, a_branch, a_count, has_both, shown_thread, note_sign, sign_of, gift_spot_at, gift_spot_of, gift_spot, counted_at, is_named, Counts, CountAlike, ShowAlike}
+use Rattle.heap_law.specs.OneHeap.{Node, object_n, mutex_n, task_n, Owner, inside, outside, content_owner, result_owner, gift_owner, gift_owner_of, spot_owner, owner_of, names, owner_in, named_in, any_named, in_state_by, is_in_state, if_in, cell_value, or_else, first_shown, object_value, is_content, content_value, share_in, if_there, plain_value, pair_note, pair_over, is_branch, branch_result, is_result, result_of, ended_with, going_on, running_at, life_of, life_at, made_of, pair_of, is_given_thread, is_given_mutex, if_given, one_heap}
+use Rattle.heap_law.proofs.Names.{if_not, same_number, same_mutexes}
+use Rattle.still_law.specs.Shows.{ShownThread, Sign, nothing, a_value, an_object, a_thread as a_shown_thread, a_branch, a_count, note_sign, sign_of, gift_spot_at, gift_spot_of, gift_spot, counted_at, is_named, held_branch, is_held, Counts, CountAlike, ShowAlike}
 use Rattle.still_law.proofs.Tests.{plains, same_part, threads as thread_test}
 use Rattle.still_law.proofs.Rounds.{owner_same, named_alike, enough}
-use Rattle.still_law.proofs.Told.{tot_same, tot_but, told, ones, same_told, first_told, at_thread, thread_told, some_or, found}
-use Rattle.still_law.proofs.Gifts.{placed, telling, places_told}
+use Rattle.still_law.proofs.Told.{at_most, tot_same, tot_but, told, ones, same_told, first_told, at_thread, thread_told, some_or}
 use Rattle.fr_plain.specs.MachineThreads.{loose, owing}
+use Rattle.still_law.proofs.PlainValues.{told_map, told_if, one_so, unnoted, plain_owns, owns_plain, unit_owns, plain_leads, plain_mutex, plain_task, leads_plain, mutex_plain, task_plain, popped_plain, pop_plain, cell_found, shown_of, slot_from, temp_from, slot_shown, temp_shown, owned_from, value_shown, got_of, got_is, code_running}
+use Rattle.still_law.proofs.Counting.{shown_result, gifted, stray, no_stray, by_gift_spot, spot_owned, gift_owned, is_content_at, is_result_at, gift_is_content, gift_is_result, no_values, unnamed_out, none_some, got_at, got_held, held_branches, no_got, result_none, result_shown}
 
--- what is shown of each object, thread, content, branch and result is shown once
+-- what is shown of each object, thread, content and result is shown once
 pub record Once (s : Sight) : Type 0 where
   pub cells : (o : ObjNo) → tot (λ x. told ones (cell_value o x)) s.things ≤ 1
   pub threads : (t : ℕ) → tot (is_thread t) s.things ≤ 1
   pub contents : (m : MutexNo) → tot (λ x. told ones (content_value s m x)) s.things ≤ 1
-  pub branches : (t : ℕ) → tot (λ x. told ones (branch_result t x)) s.things ≤ 1
-  pub results : (t : ℕ) → tot (λ x. told ones (result_value s t x)) s.things ≤ 1
-
--- WEIGHTS
-
-told_map : {A B : Type 0} (g : B → ℕ) (f : A → B) (o : Option A) → told g (option_map f o) ≡ told (λ x. g (f x)) o
-told_map g f None = refl
-told_map g f (Some x) = refl
-
-told_if : (g : Plain → ℕ) (q : Bool) (v : Plain) → told g (if_in q (Some v)) ≡ if_so q (g v)
-told_if g true v = refl
-told_if g false v = refl
-
-one_so : (q : Bool) → one q ≡ if_so q 1
-one_so true = refl
-one_so false = refl
-
--- a note that isn't one of a pair shows nothing
-unnoted : (w : Sign → ℕ) → w nothing ≡ 0 → ((t : ℕ) (d : Bool) → w (a_branch t d) ≡ 0) → (t : ℕ) (x : TaskState) → 0 ≡ w (note_sign t x)
-unnoted w z b t (in_pair p d) = sym (b t d)
-unnoted w z b t going = sym z
-unnoted w z b t let_go = sym z
-unnoted w z b t (kept v) = sym z
-unnoted w z b t (asked r u) = sym z
-
--- VALUES
-
-abbrev plain_owns : Node → Plain → Bool
-plain_owns (object_n o) (plain.Box p) = same_object p o
-plain_owns (mutex_n m) (plain.Mutex n) = same_mutex n m
-plain_owns (task_n t) (plain.Task u) = u == t
-plain_owns n v = false
-
-owns_plain : (n : Node) (v : Owned) → owns n v ≡ plain_owns n (plain_of v)
-owns_plain (object_n o) (owned.Box p) = refl
-owns_plain (mutex_n m) (owned.Mutex p) = refl
-owns_plain (task_n t) (owned.Task p) = refl
-owns_plain (object_n o) owned.Nothing = refl
-owns_plain (object_n o) owned.Unit = refl
-owns_plain (object_n o) (owned.Int i) = refl
-owns_plain (object_n o) (owned.Mutex m) = refl
-owns_plain (object_n o) (owned.Task m) = refl
-owns_plain (mutex_n o) owned.Nothing = refl
-owns_plain (mutex_n o) owned.Unit = refl
-owns_plain (mutex_n o) (owned.Int i) = refl
-owns_plain (mutex_n o) (owned.Box m) = refl
-owns_plain (mutex_n o) (owned.Task m) = refl
-owns_plain (task_n o) owned.Nothing = refl
-owns_plain (task_n o) owned.Unit = refl
-owns_plain (task_n o) (owned.Int i) = refl
-owns_plain (task_n o) (owned.Box m) = refl
-owns_plain (task_n o) (owned.Mutex m) = refl
-
--- where a value leads, and what it is of
-abbrev plain_leads : ℕ → Option PlainValue → Option Location
-plain_leads t (Some (Own (plain.Box o))) = Some (in_cell o)
-plain_leads t (Some (ToSlot i)) = Some (at_slot t i)
-plain_leads t (Some (ToObject o)) = Some (in_cell o)
-plain_leads t v = None
-
-abbrev plain_mutex : Option PlainValue → Option MutexNo
-plain_mutex (Some (Own (plain.Mutex m))) = Some m
-plain_mutex v = None
-
-abbrev plain_task : Option PlainValue → Option ℕ
-plain_task (Some (Own (plain.Task t))) = Some t
-plain_task v = None
-
-leads_plain : (t : ℕ) (v : Option Value) → leads t v ≡ plain_leads t (option_map plain_value v)
-leads_plain t None = refl
-leads_plain t (Some value.Gone) = refl
-leads_plain t (Some (value.Own (owned.Box p))) = refl
-leads_plain t (Some (value.Own owned.Nothing)) = refl
-leads_plain t (Some (value.Own owned.Unit)) = refl
-leads_plain t (Some (value.Own (owned.Int i))) = refl
-leads_plain t (Some (value.Own (owned.Mutex m))) = refl
-leads_plain t (Some (value.Own (owned.Task u))) = refl
-leads_plain t (Some (value.SharedSlot i)) = refl
-leads_plain t (Some (value.MutSlot i)) = refl
-leads_plain t (Some (value.Shared r)) = refl
-leads_plain t (Some (value.Mut r)) = refl
-leads_plain t (Some (value.Held m)) = refl
-
-mutex_plain : (v : Option Value) → mutex_of v ≡ plain_mutex (option_map plain_value v)
-mutex_plain None = refl
-mutex_plain (Some value.Gone) = refl
-mutex_plain (Some (value.Own (owned.Box p))) = refl
-mutex_plain (Some (value.Own owned.Nothing)) = refl
-mutex_plain (Some (value.Own owned.Unit)) = refl
-mutex_plain (Some (value.Own (owned.Int i))) = refl
-mutex_plain (Some (value.Own (owned.Mutex m))) = refl
-mutex_plain (Some (value.Own (owned.Task u))) = refl
-mutex_plain (Some (value.SharedSlot i)) = refl
-mutex_plain (Some (value.MutSlot i)) = refl
-mutex_plain (Some (value.Shared r)) = refl
-mutex_plain (Some (value.Mut r)) = refl
-mutex_plain (Some (value.Held m)) = refl
-
-task_plain : (v : Option Value) → task_in v ≡ plain_task (option_map plain_value v)
-task_plain None = refl
-task_plain (Some value.Gone) = refl
-task_plain (Some (value.Own (owned.Box p))) = refl
-task_plain (Some (value.Own owned.Nothing)) = refl
-task_plain (Some (value.Own owned.Unit)) = refl
-task_plain (Some (value.Own (owned.Int i))) = refl
-task_plain (Some (value.Own (owned.Mutex m))) = refl
-task_plain (Some (value.Own (owned.Task u))) = refl
-task_plain (Some (value.SharedSlot i)) = refl
-task_plain (Some (value.MutSlot i)) = refl
-task_plain (Some (value.Shared r)) = refl
-task_plain (Some (value.Mut r)) = refl
-task_plain (Some (value.Held m)) = refl
-
--- the temporary value on top
-last_plain : (vs : List Value) → option_map plain_value (last_of vs) ≡ last_of (map plain_value vs)
-last_plain vs = sym (slice_get-map plain_value vs (length vs - 1)) ∙ ap (λ n. slice_get (map plain_value vs) (n - 1)) (sym (length-map vs plain_value))
-
-abbrev popped_plain : Operand → List PlainValue → Option PlainValue
-popped_plain operand.Pop vs = last_of vs
-popped_plain o vs = None
-
-pop_plain : (o : Operand) (vs : List Value) → option_map plain_value (popped o vs) ≡ popped_plain o (map plain_value vs)
-pop_plain operand.Pop vs = last_plain vs
-pop_plain operand.Unit vs = refl
-pop_plain (operand.Const n) vs = refl
-
--- the cell that is found is the one that is shown
-abbrev plain_in : Cell → Plain
-plain_in c = plain_of c.value
-
-found_first : (c : Cell) (o : Option Cell) (v : Option Plain) (q : Bool) → option_map plain_in o ≡ v → option_map plain_in (if q then Some c else o) ≡ or_else (if_in q (Some (plain_of c.value))) v
-found_first c o v true e = refl
-found_first c o v false e = e
-
-cell_found : (o : ObjNo) (b : List Thing) → option_map plain_in (cell_of (cells_in b) o) ≡ first_shown (cell_value o) b
-cell_found o [] = refl
-cell_found o (lies r a c ∷ b) = found_first c (cell_of (cells_in b) o) (first_shown (cell_value o) b) (same_object c.object o) (cell_found o b)
-cell_found o (flies w c ∷ b) = found_first c (cell_of (cells_in b) o) (first_shown (cell_value o) b) (same_object c.object o) (cell_found o b)
-cell_found o (_ ∷ b) = cell_found o b
-
-abbrev pub shown_of : Standing → ShownThread
-shown_of x = shown_thread x.thread
-
-abbrev slot_from : Option ShownThread → ℕ → Option PlainValue
-slot_from None i = None
-slot_from (Some y) i = slice_get y.slots i
-
-abbrev temp_from : Option ShownThread → ℕ → Option PlainValue
-temp_from None i = None
-temp_from (Some y) i = slice_get y.temps i
-
-slot_shown : (o : Option Standing) (i : ℕ) → option_map plain_value (slot_of o i) ≡ slot_from (option_map shown_of o) i
-slot_shown None i = refl
-slot_shown (Some x) i = sym (slice_get-map plain_value x.thread.slots i)
-
-temp_shown : (o : Option Standing) (i : ℕ) → option_map plain_value (temp_of o i) ≡ temp_from (option_map shown_of o) i
-temp_shown None i = refl
-temp_shown (Some x) i = sym (slice_get-map plain_value x.thread.temps i)
-
-abbrev owned_from : Option Plain → Option PlainValue
-owned_from None = None
-owned_from (Some v) = Some (Own v)
-
-value_shown : (o : Option Cell) → option_map plain_value (value_of o) ≡ owned_from (option_map plain_in o)
-value_shown None = refl
-value_shown (Some c) = refl
-
-abbrev got_of : ℕ → Option (ℕ × ℕ) → Bool → ℕ
-got_of t (Some p) true = one (p.0 == t) + one (p.1 == t)
-got_of t o q = 0
-
-got_is : (t : ℕ) (p : Phase) → got_phase t p ≡ got_of t (two_in p) (has_both p)
-got_is t phase.Ready = refl
-got_is t (phase.WaitCell w) = refl
-got_is t phase.Got = refl
-got_is t (phase.Taken w) = refl
-got_is t (phase.WaitLock m) = refl
-got_is t (phase.WaitDup m) = refl
-got_is t (phase.WaitJoin u) = refl
-got_is t (phase.WaitPar a b) = refl
-got_is t (phase.GotPar a b) = refl
-got_is t phase.Over = refl
-
-abbrev code_running : ℕ → List PlainValue → List PlainValue → CodeRunning
-code_running pc temps slots = record { place = record { pc = pc; temps = reverse temps }; slots = reverse slots }
-
--- GIFTS
-
--- a gift whose thread isn't found with one
-abbrev gifted : Option Standing → Bool
-gifted None = false
-gifted (Some x) = is_some x.thread.gift
-
-abbrev stray : Sight → Thing → ℕ
-stray r (holds (as_gift t) v) = other (gifted (thread_at r.ground.threads t))
-stray r x = 0
-
--- there is none, where no two threads have one number
-no_stray : (c : Cluster) → ((t : ℕ) → tot (is_thread t) (things_of c) ≤ 1) → tot (stray (sight c)) (things_of c) ≡ 0
-no_stray c few =
-    let b = things_of c in
-    let places : tot (placed nought nought lost) b ≡ tot (telling nought nought lost) b = places_told nought nought lost c in
-    omega (arith, tot_same (stray (sight c)) (placed nought nought lost) as_placed b, places, told_none b (λ x h. found x b (few x.thread.number) h))
-  where
-    nought : {A : Type 0} → A → ℕ
-    nought x = 0
-
-    lost : ℕ → ℕ
-    lost t = other (gifted (thread_at (threads_in (things_of c)) t))
-
-    as_placed : (x : Thing) → stray (sight c) x ≡ placed nought nought lost x
-    as_placed (holds (as_gift t) v) = refl
-    as_placed (holds (in_slot t i) v) = refl
-    as_placed (holds (in_temp t i) v) = refl
-    as_placed (holds (as_content m) v) = refl
-    as_placed (holds (as_result t) v) = refl
-    as_placed (holds in_hand v) = refl
-    as_placed _ = refl
-
-    kept_none : (r t : ℕ) (x : TaskState) → telling nought nought lost (noted r (record { thread = t; state = x })) ≡ 0
-    kept_none r t (kept v) = refl
-    kept_none r t going = refl
-    kept_none r t let_go = refl
-    kept_none r t (asked p u) = refl
-    kept_none r t (in_pair p d) = refl
-
-    sent_none : (r : ℕ) (m : Message) → telling nought nought lost (sent r m) ≡ 0
-    sent_none r (message.Finished t v) = refl
-    sent_none r (message.Joined t v by) = refl
-    sent_none r _ = refl
-
-    held_none : (p : Spot) (v : Owned) → telling nought nought lost (holds p v) ≡ 0
-    held_none (as_content m) v = refl
-    held_none (as_result u) v = refl
-    held_none (as_gift u) v = refl
-    held_none (in_slot u i) v = refl
-    held_none (in_temp u i) v = refl
-    held_none in_hand v = refl
-
-    found_gift : (g : Bool) (o : Option Standing) → gifted o ≡ g → if_so g (other (gifted o)) ≡ 0
-    found_gift true o e = ap other e
-    found_gift false o e = refl
-
-    told_none : (b : List Thing) → ((x : Standing) → Among x (threads_in b) → thread_at (threads_in (things_of c)) x.thread.number ≡ Some x) → tot (telling nought nought lost) b ≡ 0
-    told_none [] h = refl
-    told_none (stands r p x ∷ b) h =
-        let y : Standing = record { server = r; packed = p; thread = x } in
-        let own : if_so (is_some x.gift) (lost x.number) ≡ 0 = found_gift (is_some x.gift) (thread_at (threads_in (things_of c)) x.number) (ap gifted (h y (inl refl))) in
-        omega (arith, own, told_none b (λ z q. h z (inr q)))
-    told_none (noted r x ∷ b) h = omega (arith, kept_none r x.thread x.state, told_none b h)
-    told_none (sent r m ∷ b) h = omega (arith, sent_none r m, told_none b h)
-    told_none (holds p v ∷ b) h = omega (arith, held_none p v, told_none b h)
-    told_none (_ ∷ b) h = omega (arith, told_none b h)
-
--- a gift counts as a content or a result, if as anything
-by_gift_spot : (s : Sight) (P : Option Spot → Type 0) → P None → ((m : MutexNo) → P (Some (as_content m))) → ((t : ℕ) → P (Some (as_result t))) → (t : ℕ) → P (gift_spot s t)
-by_gift_spot s P none content result t = by_thread (thread_at s.ground.threads t)
-  where
-    by_mutex : (o : Option MutexNo) → P (option_map as_content o)
-    by_mutex None = none
-    by_mutex (Some m) = content m
-
-    by_task : (o : Option ℕ) → P (option_map as_result o)
-    by_task None = none
-    by_task (Some u) = result u
-
-    by_instr : (x : Standing) (i : Option Instr) → P (gift_spot_at s x i)
-    by_instr x (Some (instr.Lock w)) = by_mutex (locked_mutex s x (Some (instr.Lock w)))
-    by_instr x (Some (instr.Join o)) = by_task (joined_thread (Some (instr.Join o)) x.thread)
-    by_instr x _ = none
-
-    by_thread : (o : Option Standing) → P (gift_spot_of s o)
-    by_thread None = none
-    by_thread (Some x) = by_instr x (instr_of s x)
-
--- who owns what stands there
-abbrev spot_owned : Sight → Option Spot → Owner
-spot_owned s None = outside
-spot_owned s (Some p) = spot_owner s p
-
-gift_owned : (s : Sight) (t : ℕ) → gift_owner_of s (thread_at s.ground.threads t) ≡ spot_owned s (gift_spot s t)
-gift_owned s t = by_thread (thread_at s.ground.threads t)
-  where
-    by_mutex : (o : Option MutexNo) → content_owner o ≡ spot_owned s (option_map as_content o)
-    by_mutex None = refl
-    by_mutex (Some m) = refl
-
-    by_task : (o : Option ℕ) → result_owner o ≡ spot_owned s (option_map as_result o)
-    by_task None = refl
-    by_task (Some u) = refl
-
-    by_instr : (x : Standing) (i : Option Instr) → gift_owner s x i ≡ spot_owned s (gift_spot_at s x i)
-    by_instr x (Some (instr.Lock w)) = by_mutex (locked_mutex s x (Some (instr.Lock w)))
-    by_instr x (Some (instr.Join o)) = by_task (joined_thread (Some (instr.Join o)) x.thread)
-    by_instr x _ = refl
-
-    by_thread : (o : Option Standing) → gift_owner_of s o ≡ spot_owned s (gift_spot_of s o)
-    by_thread None = refl
-    by_thread (Some x) = by_instr x (instr_of s x)
-
--- which mutex's content a value there is, and which thread's result
-abbrev is_content_at : MutexNo → Option Spot → Bool
-is_content_at m (Some (as_content n)) = same_mutex n m
-is_content_at m o = false
-
-abbrev is_result_at : ℕ → Option Spot → Bool
-is_result_at t (Some (as_result u)) = u == t
-is_result_at t o = false
-
-number_turned : (t u : ℕ) → (t == u) ≡ (u == t)
-number_turned t u = eq_cases (λ q. q ≡ (u == t)) t u (λ e. eq_cases (λ q. true ≡ q) u t (λ d. refl) (λ ne. absurd (ne (sym e)))) (λ ne. eq_cases (λ q. false ≡ q) u t (λ d. absurd (ne (sym d))) (λ other. refl))
-
-same_turned : (m n : MutexNo) → same_mutex m n ≡ same_mutex n m
-same_turned m n = ap₂ (λ p q. p && q) (number_turned m.home n.home) (number_turned m.count n.count)
-
-some_one : (q : Bool) → some (one q) ≡ q
-some_one true = refl
-some_one false = refl
-
-gift_is_content : (s : Sight) (m : MutexNo) (o : Option Standing) → gifted o ≡ true → is_gift_of s m o ≡ is_content_at m (gift_spot_of s o)
-gift_is_content s m None e = absurd (cc e)
-gift_is_content s m (Some x) e = ap (λ g. some (if_so g (one (is_mutex m (locked_mutex s x (instr_of s x)))))) e ∙ some_one (is_mutex m (locked_mutex s x (instr_of s x))) ∙ by (instr_of s x)
-  where
-    by_mutex : (o : Option MutexNo) → is_mutex m o ≡ is_content_at m (option_map as_content o)
-    by_mutex None = refl
-    by_mutex (Some n) = same_turned m n
-
-    no_task : (o : Option ℕ) → false ≡ is_content_at m (option_map as_result o)
-    no_task None = refl
-    no_task (Some u) = refl
-
-    by : (i : Option Instr) → is_mutex m (locked_mutex s x i) ≡ is_content_at m (gift_spot_at s x i)
-    by (Some (instr.Lock w)) = by_mutex (locked_mutex s x (Some (instr.Lock w)))
-    by (Some (instr.Join o)) = no_task (joined_thread (Some (instr.Join o)) x.thread)
-    by _ = refl
-
-gift_is_result : (s : Sight) (t : ℕ) (o : Option Standing) → gifted o ≡ true → is_joined_by s t o ≡ is_result_at t (gift_spot_of s o)
-gift_is_result s t None e = absurd (cc e)
-gift_is_result s t (Some x) e = ap (λ g. some (if_so g (one (is_task t (joined_thread (instr_of s x) x.thread))))) e ∙ some_one (is_task t (joined_thread (instr_of s x) x.thread)) ∙ by (instr_of s x)
-  where
-    by_task : (o : Option ℕ) → is_task t o ≡ is_result_at t (option_map as_result o)
-    by_task None = refl
-    by_task (Some u) = number_turned t u
-
-    no_mutex : (o : Option MutexNo) → false ≡ is_result_at t (option_map as_content o)
-    no_mutex None = refl
-    no_mutex (Some m) = refl
-
-    by : (i : Option Instr) → is_task t (joined_thread i x.thread) ≡ is_result_at t (gift_spot_at s x i)
-    by (Some (instr.Lock w)) = no_mutex (locked_mutex s x (Some (instr.Lock w)))
-    by (Some (instr.Join o)) = by_task (joined_thread (Some (instr.Join o)) x.thread)
-    by _ = refl
-
--- WHAT COUNTS
-
--- a weight of what is no value
-no_values : (s : Sight) (w : Sign → ℕ) → ((p : Spot) (v : Plain) → w (a_value p v) ≡ 0) → Counts s w
-no_values s w z = record { gifts = λ t v. z (as_gift t) v ∙ sym (by (gift_spot s t) v); contents = λ m v e. z (as_content m) v; results = λ t v e f. z (as_result t) v }
-  where
-    by : (o : Option Spot) (v : Plain) → counted_at w o v ≡ 0
-    by None v = refl
-    by (Some p) v = z p v
-
--- what nothing names isn't in the state
-unnamed_out : (s : Sight) (i : ℕ) (n : Node) → is_named s n ≡ false → in_state_by i s n ≡ false
-unnamed_out s zero n e = refl
-unnamed_out s (suc i) n e = none s.things e
-  where
-    neither : (p q : Bool) → (p || q) ≡ false → (p ≡ false) × (q ≡ false)
-    neither true q z = absurd (cc z)
-    neither false q z = (refl, z)
-
-    none : (b : List Thing) → some (tot (λ x. one (names n x)) b) ≡ false → any_named s (in_state_by i s) n b ≡ false
-    none [] z = refl
-    none (x ∷ b) z =
-        let p = neither (names n x) (some (tot (λ y. one (names n y)) b)) (sym (some_or (names n x) (tot (λ y. one (names n y)) b)) ∙ z) in
-        ap (λ q. named_in q (in_state_by i s) (owner_of s x) || any_named s (in_state_by i s) n b) p.0 ∙ none b p.1
+  -- a result, in whatever place, where its thread has ended
+  pub ends : (t : ℕ) → tot (λ x. told ones (shown_result s t x)) s.things ≤ tot (has_ended t) s.things
 
 module _ (k c : Cluster) (code : c.code ≡ k.code) (once : Once (sight k)) (alike : CountAlike (sight k) (things_of k) (things_of c)) where
   abbrev a : List Thing
@@ -464,7 +76,7 @@ module _ (k c : Cluster) (code : c.code ≡ k.code) (once : Once (sight k)) (ali
   -- THREADS
 
   abbrev thread_weight : (ShownThread → ℕ) → ℕ → Sign → ℕ
-  thread_weight h t (a_shown_thread y) = if_so (y.number == t) (h y)
+  thread_weight h t (a_shown_thread y q) = if_so (y.number == t) (h y)
   thread_weight h t x = 0
 
   thread_is : (h : ShownThread → ℕ) (t : ℕ) (x : Thing) → at_thread (λ y. h (shown_of y)) t x ≡ thread_weight h t (sign_of x)
@@ -477,7 +89,7 @@ module _ (k c : Cluster) (code : c.code ≡ k.code) (once : Once (sight k)) (ali
   number_is t _ = refl
 
   no_thread_value : (h : ShownThread → ℕ) (t : ℕ) → Counts s (thread_weight h t)
-  no_thread_value h t = no_values s (thread_weight h t) (λ p v. refl)
+  no_thread_value h t = no_values s (thread_weight h t) (λ p v. refl) (λ u d. refl) (λ y. refl)
 
   numbers_differ : (t : ℕ) → tot (is_thread t) b ≤ 1
   numbers_differ t = omega (arith, once.threads t, carried (thread_weight ones t) refl (no_thread_value ones t) (is_thread t) (is_thread t) (number_is t) (number_is t))
@@ -504,7 +116,7 @@ module _ (k c : Cluster) (code : c.code ≡ k.code) (once : Once (sight k)) (ali
   object_is o g _ = refl
 
   cell_same : (o : ObjNo) → first_shown (cell_value o) a ≡ first_shown (cell_value o) b
-  cell_same o = first_same (cell_value o) (cell_value o) (object_weight o) (λ g. refl) (λ g. no_values s (object_weight o g) (λ p v. refl)) (object_is o) (object_is o) (once.cells o)
+  cell_same o = first_same (cell_value o) (cell_value o) (object_weight o) (λ g. refl) (λ g. no_values s (object_weight o g) (λ p v. refl) (λ u d. refl) (λ y. refl)) (object_is o) (object_is o) (once.cells o)
 
   -- PLACES
 
@@ -617,11 +229,14 @@ module _ (k c : Cluster) (code : c.code ≡ k.code) (once : Once (sight k)) (ali
   back p = sym (spot_same p)
 
   -- a weight by owners, where what nothing names owns nothing
-  by_owner : (f : Plain → Owner → ℕ) → ((v : Plain) → f v outside ≡ 0) → ((n : Node) (v : Plain) → is_named s n ≡ false → f v (inside n) ≡ 0) → (w : Sign → ℕ) → ((p : Spot) (v : Plain) → w (a_value p v) ≡ f v (spot_owner s p)) → Counts s w
-  by_owner f out none w e = record {
+  by_owner : (f : Plain → Owner → ℕ) → ((v : Plain) → f v outside ≡ 0) → ((n : Node) (v : Plain) → is_named s n ≡ false → f v (inside n) ≡ 0) → ((o : Owner) → f plain.Unit o ≡ 0)
+      → (w : Sign → ℕ) → ((p : Spot) (v : Plain) → w (a_value p v) ≡ f v (spot_owner s p)) → ((t : ℕ) (d : Bool) → w (a_branch t d) ≡ 0) → ((y : ShownThread) (q : Bool) → w (a_shown_thread y q) ≡ 0) → Counts s w
+  by_owner f out none unit w e b p = record {
     gifts = λ t v. e (as_gift t) v ∙ ap (f v) (gift_owned s t) ∙ sym (at_spot (gift_spot s t) v);
     contents = λ m v q. e (as_content m) v ∙ none (mutex_n m) v q;
     results = λ t v q r. e (as_result t) v ∙ none (task_n t) v q;
+    branches = λ t. omega (arith, b t true, b t false, e (as_result t) plain.Unit, unit (spot_owner s (as_result t)));
+    pairs = λ y i j q r. omega (arith, p y true, p y false, b i true, b j true);
   }
     where
       at_spot : (o : Option Spot) (v : Plain) → counted_at w o v ≡ f v (spot_owned s o)
@@ -639,7 +254,7 @@ module _ (k c : Cluster) (code : c.code ≡ k.code) (once : Once (sight k)) (ali
   named_counts : (i : ℕ) (n : Node) → Counts s (named_weight (in_state_by i s) n)
   named_counts i n =
       by_owner (λ v o. one (named_in (plain_owns n v) (in_state_by i s) o)) (λ v. named_none (plain_owns n v) (in_state_by i s))
-      (λ m v e. unnamed_none (plain_owns n v) (in_state_by i s) m (unnamed_out s i m e)) (named_weight (in_state_by i s) n) (λ p v. refl)
+      (λ m v e. unnamed_none (plain_owns n v) (in_state_by i s) m (unnamed_out s i m e)) (λ o. ap (λ q. one (named_in q (in_state_by i s) o)) (unit_owns n)) (named_weight (in_state_by i s) n) (λ p v. refl) (λ t d. refl) (λ y q. refl)
 
   any_same : (i : ℕ) (n : Node) → any_named s (in_state_by i s) n a ≡ any_named s2 (in_state_by i s) n b
   any_same i n =
@@ -706,6 +321,8 @@ module _ (k c : Cluster) (code : c.code ≡ k.code) (once : Once (sight k)) (ali
     gifts = λ t v. by_gift_spot s (λ o. if_so (is_content_at m o) (g v) ≡ counted_at (content_weight m g) o v) refl (λ n. refl) (λ u. refl) t;
     contents = λ n v e. if_not (same_mutex n m) (g v) (λ q. let same : is_named s (mutex_n n) ≡ is_named s (mutex_n m) = ap (λ i. is_named s (mutex_n i)) (same_mutexes n m q) in cc (sym e ∙ same ∙ named));
     results = λ t v e f. refl;
+    branches = λ t. refl;
+    pairs = λ y i j e f. refl;
   }
 
   content_same : (m : MutexNo) → is_named s (mutex_n m) ≡ true → first_shown (content_value s m) a ≡ first_shown (content_value s2 m) b
@@ -735,7 +352,7 @@ module _ (k c : Cluster) (code : c.code ≡ k.code) (once : Once (sight k)) (ali
   shares_same : (m : MutexNo) → tot (share_in s m) a ≡ tot (share_in s2 m) b
   shares_same m =
       carried (share_weight m) refl
-      (by_owner (λ v o. if_so (plain_owns (mutex_n m) v) (one (owner_in (is_in_state s) o))) (λ v. none_if (plain_owns (mutex_n m) v)) (λ n v e. unowned (plain_owns (mutex_n m) v) (is_in_state s n) (unnamed_out s (length a) n e)) (share_weight m) (λ p v. refl)) (share_in s m) (share_in s2 m) (share_is s (λ p. refl) (λ n. refl) m) (share_is s2 back (λ n. sym (in_same n)) m)
+      (by_owner (λ v o. if_so (plain_owns (mutex_n m) v) (one (owner_in (is_in_state s) o))) (λ v. none_if (plain_owns (mutex_n m) v)) (λ n v e. unowned (plain_owns (mutex_n m) v) (is_in_state s n) (unnamed_out s (length a) n e)) (λ o. refl) (share_weight m) (λ p v. refl) (λ t d. refl) (λ y q. refl)) (share_in s m) (share_in s2 m) (share_is s (λ p. refl) (λ n. refl) m) (share_is s2 back (λ n. sym (in_same n)) m)
 
   mutexes_same : (m : MutexNo) → (one_heap k).mutex m ≡ (one_heap c).mutex m
   mutexes_same m = by (is_named s (mutex_n m)) refl
@@ -751,8 +368,22 @@ module _ (k c : Cluster) (code : c.code ≡ k.code) (once : Once (sight k)) (ali
 
   -- RESULTS
 
+  abbrev got_weight : ℕ → ℕ → Option (ℕ × ℕ) → Bool → ℕ
+  got_weight t g p q = if_so (some (got_of t p q)) g
+
+  -- both threads of a pair, which differ
+  got_both : (t g : ℕ) (y : ShownThread) (i j : ℕ) → y.pair ≡ Some (i, j) → (i == j) ≡ false → got_weight t g y.pair true ≡ got_weight t g y.pair false + if_so (i == t) g + if_so (j == t) g
+  got_both t g y i j e f = ap (λ p. got_weight t g p true) e ∙ by (i == t) refl (j == t) refl ∙ sym (ap (λ p. got_weight t g p false + if_so (i == t) g + if_so (j == t) g) e)
+    where
+      by : (p : Bool) → (i == t) ≡ p → (q : Bool) → (j == t) ≡ q → if_so (some (one p + one q)) g ≡ 0 + if_so p g + if_so q g
+      by true c true d = absurd (cc (sym f ∙ ap (λ l. i == l) (same_number j t d) ∙ c))
+      by true c false d = omega arith
+      by false c true d = omega arith
+      by false c false d = omega arith
+
   abbrev branch_weight : ℕ → Sign → ℕ
   branch_weight t (a_branch u d) = if_so (u == t) 1
+  branch_weight t (a_shown_thread y q) = got_weight t 1 y.pair q
   branch_weight t x = 0
 
   noted_is : (t u : ℕ) (x : TaskState) → if_so (u == t) (pair_note x) ≡ branch_weight t (note_sign u x)
@@ -762,19 +393,45 @@ module _ (k c : Cluster) (code : c.code ≡ k.code) (once : Once (sight k)) (ali
   noted_is t u (kept v) = none_if (u == t)
   noted_is t u (asked r w) = none_if (u == t)
 
-  branch_is : (t : ℕ) (x : Thing) → in_pair_of t x ≡ branch_weight t (sign_of x)
+  branch_is : (t : ℕ) (x : Thing) → held_branch t x ≡ branch_weight t (sign_of x)
   branch_is t (noted r x) = noted_is t x.thread x.state
+  branch_is t (stands r p x) = one_so (some (got_phase t x.phase)) ∙ ap (λ n. if_so (some n) 1) (got_is t x.phase)
   branch_is t _ = refl
 
-  branch_same : (t : ℕ) → is_branch s t ≡ is_branch s2 t
-  branch_same t = ap some (carried (branch_weight t) refl (no_values s (branch_weight t) (λ p v. refl)) (in_pair_of t) (in_pair_of t) (branch_is t) (branch_is t))
+  branch_counts : (t : ℕ) → Counts s (branch_weight t)
+  branch_counts t = record {
+    gifts = λ u v. by_gift_spot s (λ o. 0 ≡ counted_at (branch_weight t) o v) refl (λ m. refl) (λ i. refl) u;
+    contents = λ m v e. refl;
+    results = λ u v e f. refl;
+    branches = λ u. omega arith;
+    pairs = got_both t 1;
+  }
 
-  abbrev done_weight : ℕ → (Plain → ℕ) → Sign → ℕ
-  done_weight t g (a_branch u d) = if_so (u == t) (if_so d (g plain.Unit))
-  done_weight t g (a_shown_thread y) = if_so (some (got_of t y.pair y.got_pair)) (g plain.Unit)
-  done_weight t g x = 0
+  held_sums : (t : ℕ) → tot (held_branch t) a ≡ tot (held_branch t) b
+  held_sums t = carried (branch_weight t) refl (branch_counts t) (held_branch t) (held_branch t) (branch_is t) (branch_is t)
 
-  done_note : (t : ℕ) (g : Plain → ℕ) (u : ℕ) (x : TaskState) → told g (if u == t then pair_over x else None) ≡ done_weight t g (note_sign u x)
+  held_same : (t : ℕ) → is_held s t ≡ is_held s2 t
+  held_same t = ap some (held_sums t)
+
+  abbrev result_weight : ℕ → (Plain → ℕ) → Sign → ℕ
+  result_weight t g (a_value p v) = if_so (is_result_at t (counts_as p)) (g v)
+  result_weight t g (a_branch u d) = if_so (u == t) (if_so d (g plain.Unit))
+  result_weight t g (a_shown_thread y q) = got_weight t (g plain.Unit) y.pair q
+  result_weight t g x = 0
+
+  result_spot : (r : Sight) → ((t : ℕ) → gift_spot r t ≡ gift_spot s t) → (t : ℕ) (p : Spot) (v : Owned) → stray r (holds p v) ≡ 0 → is_result r t p ≡ is_result_at t (counts_as p)
+  result_spot r e t (as_gift u) v z = gift_is_result r t (thread_at r.ground.threads u) (found_gift (thread_at r.ground.threads u) z) ∙ ap (is_result_at t) (e u)
+  result_spot r e t (in_slot u i) v z = refl
+  result_spot r e t (in_temp u i) v z = refl
+  result_spot r e t (as_content n) v z = refl
+  result_spot r e t (as_result u) v z = refl
+  result_spot r e t in_hand v z = refl
+
+  or_none : (o : Option Plain) → or_else o None ≡ o
+  or_none None = refl
+  or_none (Some v) = refl
+
+  done_note : (t : ℕ) (g : Plain → ℕ) (u : ℕ) (x : TaskState) → told g (if u == t then pair_over x else None) ≡ result_weight t g (note_sign u x)
   done_note t g u x = by (u == t) x refl
     where
       none : (q : Bool) → told g (if q then None else None) ≡ 0
@@ -786,7 +443,7 @@ module _ (k c : Cluster) (code : c.code ≡ k.code) (once : Once (sight k)) (ali
       both true false = refl
       both false d = refl
 
-      by : (q : Bool) (z : TaskState) → x ≡ z → told g (if u == t then pair_over z else None) ≡ done_weight t g (note_sign u z)
+      by : (q : Bool) (z : TaskState) → x ≡ z → told g (if u == t then pair_over z else None) ≡ result_weight t g (note_sign u z)
       by q (in_pair p true) e = both (u == t) true
       by q (in_pair p false) e = both (u == t) false
       by q going e = none (u == t)
@@ -794,34 +451,15 @@ module _ (k c : Cluster) (code : c.code ≡ k.code) (once : Once (sight k)) (ali
       by q (kept v) e = none (u == t)
       by q (asked r w) e = none (u == t)
 
-  done_is : (t : ℕ) (g : Plain → ℕ) (x : Thing) → told g (branch_result t x) ≡ done_weight t g (sign_of x)
-  done_is t g (noted r x) = done_note t g x.thread x.state
-  done_is t g (stands r p x) = told_if g (some (got_phase t x.phase)) plain.Unit ∙ ap (λ n. if_so (some n) (g plain.Unit)) (got_is t x.phase)
-  done_is t g _ = refl
-
-  done_same : (t : ℕ) → first_shown (branch_result t) a ≡ first_shown (branch_result t) b
-  done_same t = first_same (branch_result t) (branch_result t) (done_weight t) (λ g. refl) (λ g. no_values s (done_weight t g) (λ p v. refl)) (done_is t) (done_is t) (once.branches t)
-
-  abbrev result_weight : ℕ → (Plain → ℕ) → Sign → ℕ
-  result_weight t g (a_value p v) = if_so (is_result_at t (counts_as p)) (g v)
-  result_weight t g x = 0
-
-  result_spot : (r : Sight) → ((t : ℕ) → gift_spot r t ≡ gift_spot s t) → (t : ℕ) (p : Spot) (v : Owned) → stray r (holds p v) ≡ 0 → is_result r t p ≡ is_result_at t (counts_as p)
-  result_spot r e t (as_gift u) v z = gift_is_result r t (thread_at r.ground.threads u) (found_gift (thread_at r.ground.threads u) z) ∙ ap (is_result_at t) (e u)
-  result_spot r e t (in_slot u i) v z = refl
-  result_spot r e t (in_temp u i) v z = refl
-  result_spot r e t (as_content n) v z = refl
-  result_spot r e t (as_result u) v z = refl
-  result_spot r e t in_hand v z = refl
-
-  result_is : (r : Sight) → ((t : ℕ) → gift_spot r t ≡ gift_spot s t) → (t : ℕ) (g : Plain → ℕ) (x : Thing) → stray r x ≡ 0 → told g (result_value r t x) ≡ result_weight t g (sign_of x)
+  result_is : (r : Sight) → ((t : ℕ) → gift_spot r t ≡ gift_spot s t) → (t : ℕ) (g : Plain → ℕ) (x : Thing) → stray r x ≡ 0 → told g (shown_result r t x) ≡ result_weight t g (sign_of x)
   result_is r e t g (holds p v) z = told_if g (is_result r t p) (plain_of v) ∙ ap (λ q. if_so q (g (plain_of v))) (result_spot r e t p v z)
-  result_is r e t g (noted i x) z = unnoted (result_weight t g) refl (λ u d. refl) x.thread x.state
+  result_is r e t g (noted i x) z = ap (told g) (or_none (branch_result t (noted i x))) ∙ done_note t g x.thread x.state
+  result_is r e t g (stands i p x) z = ap (told g) (or_none (branch_result t (stands i p x))) ∙ told_if g (some (got_phase t x.phase)) plain.Unit ∙ ap (λ n. if_so (some n) (g plain.Unit)) (got_is t x.phase)
   result_is r e t g _ z = refl
 
   -- somebody names the thread, or it is a branch
   abbrev owed : ℕ → Bool
-  owed t = is_branch s t || is_named s (task_n t)
+  owed t = is_held s t || is_named s (task_n t)
 
   neither : (p q : Bool) → p ≡ false → q ≡ false → (p || q) ≡ true → ⊥
   neither false false d e f = cc f
@@ -832,43 +470,107 @@ module _ (k c : Cluster) (code : c.code ≡ k.code) (once : Once (sight k)) (ali
   result_counts t some_owe g = record {
     gifts = λ u v. by_gift_spot s (λ o. if_so (is_result_at t o) (g v) ≡ counted_at (result_weight t g) o v) refl (λ n. refl) (λ i. refl) u;
     contents = λ n v e. refl;
-    results = λ u v e f. eq_cases (λ q. if_so q (g v) ≡ 0) u t (λ same. absurd (neither (is_branch s u) (is_named s (task_n u)) f e (ap owed same ∙ some_owe))) (λ ne. refl);
+    results = λ u v e f. eq_cases (λ q. if_so q (g v) ≡ 0) u t (λ same. absurd (neither (is_held s u) (is_named s (task_n u)) f e (ap owed same ∙ some_owe))) (λ ne. refl);
+    branches = λ u. omega (arith, none_if (u == t));
+    pairs = got_both t (g plain.Unit);
   }
 
-  kept_same : (t : ℕ) → owed t ≡ true → first_shown (result_value s t) a ≡ first_shown (result_value s2 t) b
-  kept_same t some_owe = first_real (result_value s t) (result_value s2 t) (result_weight t) (λ g. refl) (result_counts t some_owe) (result_is s (λ u. refl) t) (result_is s2 (λ u. sym (places_same u)) t) (once.results t)
+  result_sums : (t : ℕ) → owed t ≡ true → (g : Plain → ℕ) → tot (λ x. told g (shown_result s t x)) a ≡ tot (λ x. told g (shown_result s2 t x)) b
+  result_sums t some_owe g =
+      real (result_weight t g) refl (result_counts t some_owe g) (λ x. told g (shown_result s t x)) (λ x. told g (shown_result s2 t x)) (result_is s (λ u. refl) t g) (result_is s2 (λ u. sym (places_same u)) t g)
 
-  owed_same : (t : ℕ) → is_branch s t || is_in_state s (task_n t) ≡ is_branch s2 t || is_in_state s2 (task_n t)
-  owed_same t = ap₂ (λ p q. p || q) (branch_same t) (in_same (task_n t))
+  ended_there : (t : ℕ) (x : Thing) → has_ended t x ≤ is_thread t x
+  ended_there t (stands r p x) = at_most_one (x.number == t) (not (x.number == 0) && is_over x.phase)
+    where
+      at_most_one : (p q : Bool) → one (p && q) ≤ one p
+      at_most_one true true = omega arith
+      at_most_one true false = omega arith
+      at_most_one false q = omega arith
+  ended_there t _ = omega arith
+
+  few_results : (t : ℕ) → tot (λ x. told ones (shown_result s t x)) a ≤ 1
+  few_results t = omega (arith, once.ends t, at_most (has_ended t) (is_thread t) (ended_there t) a, once.threads t)
+
+  shown_same : (t : ℕ) → owed t ≡ true → first_shown (shown_result s t) a ≡ first_shown (shown_result s2 t) b
+  shown_same t some_owe = first_by (shown_result s t) (shown_result s2 t) (result_sums t some_owe) (few_results t)
 
   unowed : (p q r : Bool) → (p || q) ≡ false → (q ≡ false → r ≡ false) → (p || r) ≡ false
   unowed true q r e f = absurd (cc e)
   unowed false true r e f = absurd (cc e)
   unowed false false r e f = f refl
 
+  first_half : (p q : Bool) → (p || q) ≡ false → p ≡ false
+  first_half true q e = absurd (cc e)
+  first_half false q e = refl
+
+  owed_same : (t : ℕ) → is_held s t || is_in_state s (task_n t) ≡ is_held s2 t || is_in_state s2 (task_n t)
+  owed_same t = ap₂ (λ p q. p || q) (held_same t) (in_same (task_n t))
+
   result_same : (t : ℕ) → result_of s t ≡ result_of s2 t
-  result_same t = ap₂ or_else (done_same t) (by (owed t) refl)
+  result_same t = by (owed t) refl
     where
-      by : (q : Bool) → owed t ≡ q → if_in (is_branch s t || is_in_state s (task_n t)) (first_shown (result_value s t) a) ≡ if_in (is_branch s2 t || is_in_state s2 (task_n t)) (first_shown (result_value s2 t) b)
-      by true e = ap₂ if_in (owed_same t) (kept_same t e)
+      by : (q : Bool) → owed t ≡ q → result_of s t ≡ result_of s2 t
+      by true e =
+          let few2 : tot (λ x. told ones (shown_result s2 t x)) b ≤ 1 = omega (arith, few_results t, result_sums t e ones) in
+          result_shown s t (few_results t) ∙ ap₂ if_in (owed_same t) (shown_same t e) ∙ sym (result_shown s2 t few2)
       by false e =
-          let out : is_branch s t || is_in_state s (task_n t) ≡ false = unowed (is_branch s t) (is_named s (task_n t)) (is_in_state s (task_n t)) e (unnamed_out s (length a) (task_n t)) in
-          ap (λ q. if_in q (first_shown (result_value s t) a)) out ∙ ap (λ q. if_in q (first_shown (result_value s2 t) b)) (sym out ∙ owed_same t)
+          let out : is_held s t || is_in_state s (task_n t) ≡ false = unowed (is_held s t) (is_named s (task_n t)) (is_in_state s (task_n t)) e (unnamed_out s (length a) (task_n t)) in
+          result_none s t out ∙ sym (result_none s2 t (sym (owed_same t) ∙ out))
+
+  -- a thread that goes on has no result yet, so it is in no pair that its parent has
+  still_going : (t : ℕ) → tot (has_ended t) a ≡ 0 → is_branch s t || is_in_state s (task_n t) ≡ is_branch s2 t || is_in_state s2 (task_n t)
+  still_going t z =
+      let ours : tot (λ x. told ones (shown_result s t x)) a ≡ 0 = omega (arith, once.ends t, z) in
+      ap (λ q. q || is_in_state s (task_n t)) (sym (held_branches s t (no_got s t ours))) ∙ owed_same t ∙ ap (λ q. q || is_in_state s2 (task_n t)) (held_branches s2 t (theirs (owed t) refl ours))
+    where
+      theirs : (q : Bool) → owed t ≡ q → tot (λ x. told ones (shown_result s t x)) a ≡ 0 → tot (got_at t) b ≡ 0
+      theirs true e o = no_got s2 t (sym (result_sums t e ones) ∙ o)
+      theirs false e o =
+          let none : tot (held_branch t) b ≡ 0 = none_some (tot (held_branch t) b) (sym (held_same t) ∙ first_half (is_held s t) (is_named s (task_n t)) e) in
+          omega (arith, none, at_most (got_at t) (held_branch t) (got_held t) b)
 
   -- LIVES
 
-  going_same : (t : ℕ) (p : CodeRunning) → going_on s t p ≡ going_on s2 t p
-  going_same zero p = refl
-  going_same (suc t) p = ap (λ q. if not q then loose p else owing p) (owed_same (suc t))
+  going_same : (t : ℕ) (p : CodeRunning) → tot (has_ended t) a ≡ 0 → going_on s t p ≡ going_on s2 t p
+  going_same zero p z = refl
+  going_same (suc t) p z = ap (λ q. if not q then loose p else owing p) (still_going (suc t) z)
 
-  life_by : (x y : Standing) → shown_of x ≡ shown_of y → (q : Bool) → life_of s x.thread q ≡ life_of s2 y.thread q
-  life_by x y e true = ap ended_with (result_same x.thread.number ∙ ap (result_of s2) (number_same x y e))
-  life_by x y e false =
-      going_same x.thread.number (running_at x.thread) ∙ ap₂ (going_on s2) (number_same x y e) (ap (λ (z : ShownThread). code_running z.pc z.temps z.slots) e)
+  life_by : (x y : Standing) → tot (has_ended x.thread.number) a ≤ one (is_over x.thread.phase) → shown_of x ≡ shown_of y → (q : Bool) → is_over x.thread.phase ≡ q → life_of s x.thread q ≡ life_of s2 y.thread q
+  life_by x y ends e true over = ap ended_with (result_same x.thread.number ∙ ap (result_of s2) (number_same x y e))
+  life_by x y ends e false over =
+      going_same x.thread.number (running_at x.thread) (let none : one (is_over x.thread.phase) ≡ 0 = ap one over in omega (arith, ends, none)) ∙ ap₂ (going_on s2) (number_same x y e) (ap (λ (z : ShownThread). code_running z.pc z.temps z.slots) e)
+
+  -- a found thread that isn't main has ended where it is over
+  ended_found : (t : ℕ) → tot (has_ended t) a ≤ told (λ z. one (is_over z.thread.phase)) (thread_at (threads_in a) t)
+  ended_found t = let g : Standing → ℕ = λ z. one (is_over z.thread.phase) in omega (arith, at_most (has_ended t) (at_thread g t) (less g) a, thread_told g t a (once.threads t))
+    where
+      parts : (p q o : Bool) → one (p && (q && o)) ≤ if_so p (one o)
+      parts true true o = omega arith
+      parts true false true = omega arith
+      parts true false false = omega arith
+      parts false q o = omega arith
+
+      less : (g : Standing → ℕ) (x : Thing) → has_ended t x ≤ at_thread (λ z. one (is_over z.thread.phase)) t x
+      less g (stands r p x) = parts (x.number == t) (not (x.number == 0)) (is_over x.phase)
+      less g _ = omega arith
 
   life_same : (t : ℕ) → life_at s t (thread_at (threads_in a) t) ≡ life_at s2 t (thread_at (threads_in b) t)
-  life_same t =
-      by_found (life_at s t) (life_at s2 t) (ap ended_with (result_same t)) (λ x y e. life_by x y e (is_over x.thread.phase) ∙ ap (life_of s2 y.thread) (ap (λ (z : ShownThread). z.is_over) e)) t
+  life_same t = by (thread_at (threads_in a) t) (thread_at (threads_in b) t) (ended_found t) refl (thread_same t)
+    where
+      numbered : (xs : List Standing) (x : Standing) → thread_at xs t ≡ Some x → x.thread.number ≡ t
+      numbered [] x e = absurd (cc e)
+      numbered (y ∷ xs) x e =
+          eq_cases (λ q. (if q then Some y else thread_at xs t) ≡ Some x → x.thread.number ≡ t) y.thread.number t
+          (λ same d. let it : y ≡ x = cc in subst (λ (z : Standing). z.thread.number ≡ t) it same) (λ ne d. numbered xs x d) e
+
+      by : (o p : Option Standing) → tot (has_ended t) a ≤ told (λ z. one (is_over z.thread.phase)) o → thread_at (threads_in a) t ≡ o → option_map shown_of o ≡ option_map shown_of p → life_at s t o ≡ life_at s2 t p
+      by None None l e q = ap ended_with (result_same t)
+      by None (Some y) l e q = absurd (cc q)
+      by (Some x) None l e q = absurd (cc q)
+      by (Some x) (Some y) l e q =
+          let same : shown_of x ≡ shown_of y = cc in
+          let number = numbered (threads_in a) x e in
+          life_by x y (subst (λ i. tot (has_ended i) a ≤ one (is_over x.thread.phase)) (sym number) l) same (is_over x.thread.phase) refl ∙ ap (life_of s2 y.thread) (ap (λ (z : ShownThread). z.is_over) same)
 
   -- NAMES
 
@@ -892,10 +594,10 @@ module _ (k c : Cluster) (code : c.code ≡ k.code) (once : Once (sight k)) (ali
   given_same t =
       let h = home_of t in
       let n = t % 2 ^ 32 in
-      ap (λ m. t == 0 || (not (n == 0) && some m)) (carried (started_weight h n) refl (no_values s (started_weight h n) (λ p v. refl)) (started_at h n) (started_at h n) (started_is h n) (started_is h n))
+      ap (λ m. t == 0 || (not (n == 0) && some m)) (carried (started_weight h n) refl (no_values s (started_weight h n) (λ p v. refl) (λ u d. refl) (λ y. refl)) (started_at h n) (started_at h n) (started_is h n) (started_is h n))
 
   mutex_given : (m : MutexNo) → is_given_mutex s m ≡ is_given_mutex s2 m
-  mutex_given m = ap (λ n. not (m.count == 0) && some n) (carried (made_weight m.home m.count) refl (no_values s (made_weight m.home m.count) (λ p v. refl)) (made_at m.home m.count) (made_at m.home m.count) (made_is m.home m.count) (made_is m.home m.count))
+  mutex_given m = ap (λ n. not (m.count == 0) && some n) (carried (made_weight m.home m.count) refl (no_values s (made_weight m.home m.count) (λ p v. refl) (λ u d. refl) (λ y. refl)) (made_at m.home m.count) (made_at m.home m.count) (made_is m.home m.count) (made_is m.home m.count))
 
   pub counts_same_heap : SameState (one_heap c) (one_heap k)
   counts_same_heap = record {

@@ -23,7 +23,7 @@ use Rattle.event_law.specs.Laws.{Gives}
 use Rattle.event_law.proofs.Trades.{tot-append, tot-front, trade_whole}
 use Rattle.event_law.proofs.Results.{then_gives, over_gives, map_gives, stand_gives}
 use Rattle.event_law.proofs.Bags.{all_standing, rest_things, of_cache, tot-without, of_sending, sent_number}
-use Rattle.still_law.specs.Shows.{Sign, nothing, sign_of, shown_thread, ShowAlike, a_thread}
+use Rattle.still_law.specs.Shows.{Sign, nothing, sign_of, has_both, shown_thread, ShowAlike, a_thread}
 use Rattle.still_law.proofs.Sites.{shown, site_things, begins, ends, Still, Moves, ServerStill, deliveries}
 
 -- A THREAD SHOWS THE SAME ANYWHERE, PINNED OR NOT
@@ -132,7 +132,7 @@ module _ (w : Sign → ℕ) (z : w nothing ≡ 0) where
       )
     where
       sign_of_thread : List PlainValue → List PlainValue → Sign
-      sign_of_thread xs ys = a_thread (record (shown_thread t) { slots = xs; temps = ys })
+      sign_of_thread xs ys = a_thread (record (shown_thread t) { slots = xs; temps = ys }) (has_both t.phase)
 
 -- A PARCEL COMES
 

@@ -29,10 +29,11 @@ use Rattle.event_law.proofs.Results.{over_gives, test_gives}
 use Rattle.event_law.proofs.Bags.{rest_things, of_mutexes, of_sending, sent_number}
 use Rattle.event_law.proofs.MutexLists.{found_number, mutex_goes}
 use Rattle.event_law.proofs.TaskMessages.{tot-gone, tot-put}
+use Rattle.event_law.proofs.FinishSteps.{task_number}
 use Rattle.still_law.specs.Shows.{Sign, nothing, a_value, sign_of}
 use Rattle.still_law.proofs.Sites.{shown, Moves, sends, ServerStill, RestTakes, beside_takes, takes_all, deliveries_by}
 use Rattle.still_law.proofs.Requests.{mutex_shown, mutex_moves, task_moves}
-use Rattle.still_law.proofs.Unnamed.{task_thread, shareless, last_share, task_dropped, kept_alone}
+use Rattle.still_law.proofs.Unnamed.{shareless, last_share, task_dropped, kept_alone}
 
 -- WHAT IS LET GO
 
@@ -193,7 +194,7 @@ module _ (k : Cluster) (sound : IsSound k) (number : ℕ) (s : Server) (here : s
           (task_moves heard (holds (as_result u) v ∷ []) w2.rest (without_task s.rest.tasks u) (task_things n 0 y) []
           (record { rest = things_at (task_things n) 0 (without_task s.rest.tasks u); before = λ f. tot-gone f n s.rest.tasks u y e; after = λ f. omega arith })
           (λ w z.
-          let shows : shown w (task_things n 0 y) ≡ shown w (task_things n 0 (record { thread = u; state = kept v })) = ap₂ (λ j x. shown w (task_things n 0 (record { thread = j; state = x }))) (task_thread s.rest.tasks u y e) h in
+          let shows : shown w (task_things n 0 y) ≡ shown w (task_things n 0 (record { thread = u; state = kept v })) = ap₂ (λ j x. shown w (task_things n 0 (record { thread = j; state = x }))) (task_number s.rest.tasks u y e) h in
           omega (arith, z, shows)));
       counts = λ w z c. (let none : w (a_value (as_result u) (plain_of v)) ≡ 0 = c.results u (plain_of v) (task_dropped k sound number s here i u q) (kept_alone k sound number s here i u y v e h) in omega (arith, none));
     }

@@ -95,7 +95,7 @@ pub quiet_shown : (w : Sign → ℕ) (n : ℕ) (y : ThreadState) (p : Phase) →
 quiet_shown w n y p a b = all y.phase a ∙ sym (all p b)
   where
     shape : Bool → Option (ℕ × ℕ) → Bool → ℕ
-    shape i j l = w (a_thread (record (shown_thread y) { is_over = i; pair = j; got_pair = l }))
+    shape i j l = w (a_thread (record (shown_thread y) { is_over = i; pair = j }) l)
 
     all : (q : Phase) → IsQuiet q → shape (is_over q) (two_in q) (has_both q) ≡ shape false None false
     all q c = ap (λ i. shape i (two_in q) (has_both q)) c.goes_on ∙ ap (λ j. shape false j (has_both q)) c.alone ∙ ap (shape false None) c.unpaired

@@ -1,6 +1,8 @@
 pub mod Tests
 pub mod Rounds
 pub mod Told
+pub mod PlainValues
+pub mod Counting
 pub mod Alike
 pub mod Gifts
 pub mod Once
@@ -16,6 +18,7 @@ pub mod Coming
 pub mod Given
 pub mod Unnamed
 pub mod Back
+pub mod Ended
 pub mod StillKinds
 pub mod Prepares
 pub mod Undone

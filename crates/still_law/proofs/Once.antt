@@ -1,5 +1,5 @@
 -- In a sound cluster each object, each content and each result is shown once, and no two threads have one number.
-use Rattle.std.proofs.Common.{◌≡◌, inl, inr, ℕ, zero, suc, ◌+◌, ◌≤◌, ◌==◌, ◌&&◌, not, Bool, true, false, if◌then◌else◌, List, [], ◌∷◌, Option, Some, None, is_some, refl, sym, ap, subst, arith}
+use Rattle.std.proofs.Common.{◌≡◌, inl, inr, ℕ, zero, suc, ◌+◌, ◌≤◌, ◌==◌, Bool, true, false, if◌then◌else◌, List, [], ◌∷◌, Option, Some, None, is_some, refl, sym, ap, subst, arith}
 use Rattle.fr_typing.proofs.PlaceLemmas.{eq_cases}
 use Rattle.fr_base.specs.declared.label.Plain.{Plain}
 use Rattle.fr_base.specs.declared.label.Plain.TheVariants as plain
@@ -7,7 +7,6 @@ use Rattle.fr_base.specs.declared.name.MutexNo.{MutexNo}
 use Rattle.fr_base.specs.declared.name.ObjNo.{ObjNo}
 use Rattle.mutex_home.specs.Mutexes.{Mutex, mutex_in}
 use Rattle.join_home.specs.Tasks.{TaskState, going, let_go, kept, asked, in_pair}
-use Rattle.thread_state.specs.View.{is_over}
 use Rattle.server_msgs.specs.declared.message.Message.{Message}
 use Rattle.server_msgs.specs.declared.message.Message.TheVariants as message
 use Rattle.server_model.specs.Servers.{Server, Cluster, server_at}
@@ -16,12 +15,13 @@ use Rattle.heap_law.specs.Things.{Spot, in_slot, in_temp, as_gift, as_content, a
 use Rattle.heap_law.specs.Follow.{Standing, threads_in, thread_at}
 use Rattle.heap_law.specs.Sight.{Sight, sight}
 use Rattle.heap_law.specs.Sharing.{is_content_of, gift_content, contents, finished_of, joined_of, got_phase, kept_note, gift_result, results, has_ended}
-use Rattle.heap_law.specs.Weights.{cells, is_home_of, is_thread}
-use Rattle.heap_law.specs.OneHeap.{if_in, cell_value, is_gift_of, content_value, pair_over, branch_result, is_joined_by, result_value}
+use Rattle.heap_law.specs.Weights.{cells, is_home_of}
+use Rattle.heap_law.specs.OneHeap.{if_in, or_else, cell_value, is_gift_of, content_value, pair_over, branch_result, is_joined_by, result_value}
 use Rattle.heap_law.specs.Coherent.{IsSound}
 use Rattle.heap_law.proofs.Sums.{tot-append}
 use Rattle.event_law.proofs.MutexResults.{weighed, here, Weight, mutex_weighs, all_at_home, no_server}
 use Rattle.still_law.proofs.Told.{at_most, found, told, ones}
+use Rattle.still_law.proofs.Counting.{shown_result}
 use Rattle.still_law.proofs.Alike.{Once}
 use Rattle.still_law.proofs.Gifts.{placed, telling, places_told}
 use Rattle.heap_partition.specs.Plain.{plain_of}
@@ -98,16 +98,25 @@ module _ (k : Cluster) (sound : IsSound k) where
         by in_hand = omega arith
     value_placed _ = omega arith
 
-    note_at_most : (u : ℕ) (x : TaskState) → telling nought mine joined (noted 0 (record { thread = u; state = x })) ≤ if_so (u == t) (kept_note x)
-    note_at_most u (kept v) = by (u == t)
+    none : (q : Bool) → 0 + told {A = Plain} ones (if q then None else None) ≤ if_so q 0
+    none true = omega arith
+    none false = omega arith
+
+    branch_note : (u : ℕ) (x : TaskState) → telling nought mine joined (noted 0 (record { thread = u; state = x })) + told ones (if u == t then pair_over x else None) ≤ if_so (u == t) (kept_note x)
+    branch_note u (kept v) = by (u == t)
       where
-        by : (q : Bool) → one q ≤ if_so q 1
+        by : (q : Bool) → one q + told {A = Plain} ones (if q then None else None) ≤ if_so q 1
         by true = omega arith
         by false = omega arith
-    note_at_most u going = omega arith
-    note_at_most u let_go = omega arith
-    note_at_most u (asked r w) = omega arith
-    note_at_most u (in_pair p d) = omega arith
+    branch_note u (in_pair p d) = by (u == t) d
+      where
+        by : (q d : Bool) → 0 + told ones (if q then pair_over (in_pair p d) else None) ≤ if_so q (one d)
+        by true true = omega arith
+        by true false = omega arith
+        by false d = omega arith
+    branch_note u going = none (u == t)
+    branch_note u let_go = none (u == t)
+    branch_note u (asked r w) = none (u == t)
 
     sent_at_most : (r : ℕ) (m : Message) → telling nought mine joined (sent r m) ≤ finished_of t m + joined_of t m
     sent_at_most r (message.Finished u v) = omega arith
@@ -122,53 +131,34 @@ module _ (k : Cluster) (sound : IsSound k) where
     held_none (in_temp u i) v = refl
     held_none in_hand v = refl
 
-    results_told : (b : List Thing) → ((x : Standing) → Among x (threads_in b) → joined x.thread.number ≤ gift_result s t x) → tot (telling nought mine joined) b ≤ tot (results s t) b
+    results_told : (b : List Thing) → ((x : Standing) → Among x (threads_in b) → joined x.thread.number ≤ gift_result s t x) → tot (telling nought mine joined) b + tot (λ x. told ones (branch_result t x)) b ≤ tot (results s t) b
     results_told [] h = omega arith
-    results_told (noted r x ∷ b) h = omega (arith, note_at_most x.thread x.state, results_told b h)
+    results_told (noted r x ∷ b) h = omega (arith, branch_note x.thread x.state, results_told b h)
     results_told (sent r m ∷ b) h = omega (arith, sent_at_most r m, results_told b h)
     results_told (stands r p x ∷ b) h =
         let y : Standing = record { server = r; packed = p; thread = x } in
-        omega (arith, so_at_most (is_some x.gift) (joined x.number), h y (inl refl), results_told b (λ z q. h z (inr q)))
+        let e = told_one (some (got_phase t x.phase)) plain.Unit in
+        omega (arith, e, some_at_most (got_phase t x.phase), so_at_most (is_some x.gift) (joined x.number), h y (inl refl), results_told b (λ z q. h z (inr q)))
     results_told (holds p v ∷ b) h = omega (arith, held_none p v, results_told b h)
     results_told (_ ∷ b) h = omega (arith, results_told b h)
 
     joined_there : (x : Standing) → Among x (threads_in a) → joined x.thread.number ≤ gift_result s t x
     joined_there x h = subst (λ o. one (is_joined_by s t o) ≤ gift_result s t x) (sym (found_there x h)) (some_at_most (gift_result s t x))
 
-    ended_once : (x : Thing) → has_ended t x ≤ is_thread t x
-    ended_once (stands r p x) = by (x.number == t) (not (x.number == 0) && is_over x.phase)
+    either_at_most : (x : Thing) → told ones (shown_result s t x) ≤ told ones (branch_result t x) + told ones (result_value s t x)
+    either_at_most x = by (branch_result t x) (result_value s t x)
       where
-        by : (p q : Bool) → one (p && q) ≤ one p
-        by true true = omega arith
-        by true false = omega arith
-        by false q = omega arith
-    ended_once _ = omega arith
+        by : (o p : Option Plain) → told ones (or_else o p) ≤ told ones o + told ones p
+        by None p = omega arith
+        by (Some v) p = omega arith
 
-    few_results : tot (results s t) a ≤ 1
-    few_results = omega (arith, sound.mutexes_and_tasks.one_result t, at_most (has_ended t) (is_thread t) ended_once a, sound.names.numbers_differ t)
+    both_at_most : (b : List Thing) → tot (λ x. told ones (shown_result s t x)) b ≤ tot (λ x. told ones (branch_result t x)) b + tot (λ x. told ones (result_value s t x)) b
+    both_at_most [] = omega arith
+    both_at_most (x ∷ b) = omega (arith, either_at_most x, both_at_most b)
 
-    results_once : tot (λ x. told ones (result_value s t x)) a ≤ 1
-    results_once = omega (arith, at_most (λ x. told ones (result_value s t x)) (placed nought mine joined) value_placed a, places_told nought mine joined k, results_told a joined_there, few_results)
-
-    branch_note : (u : ℕ) (x : TaskState) → told ones (if u == t then pair_over x else None) ≤ if_so (u == t) (kept_note x)
-    branch_note u x = by (u == t) x
-      where
-        by : (q : Bool) (x : TaskState) → told ones (if q then pair_over x else None) ≤ if_so q (kept_note x)
-        by true (in_pair p true) = omega arith
-        by true (in_pair p false) = omega arith
-        by true going = omega arith
-        by true let_go = omega arith
-        by true (kept v) = omega arith
-        by true (asked r w) = omega arith
-        by false x = omega arith
-
-    branch_at_most : (x : Thing) → told ones (branch_result t x) ≤ results s t x
-    branch_at_most (noted r x) = branch_note x.thread x.state
-    branch_at_most (stands r p x) = let e = told_one (some (got_phase t x.phase)) plain.Unit in omega (arith, e, some_at_most (got_phase t x.phase))
-    branch_at_most _ = omega arith
-
-    branches_once : tot (λ x. told ones (branch_result t x)) a ≤ 1
-    branches_once = omega (arith, at_most (λ x. told ones (branch_result t x)) (results s t) branch_at_most a, few_results)
+    results_end : tot (λ x. told ones (shown_result s t x)) a ≤ tot (has_ended t) a
+    results_end =
+        omega (arith, both_at_most a, at_most (λ x. told ones (result_value s t x)) (placed nought mine joined) value_placed a, places_told nought mine joined k, results_told a joined_there, sound.mutexes_and_tasks.one_result t)
 
   -- CONTENTS
 
@@ -256,6 +246,5 @@ module _ (k : Cluster) (sound : IsSound k) where
     cells = λ o. omega (arith, at_most (λ x. told ones (cell_value o x)) (cells o) (cell_once o) a, sound.one_home.home_of_each o);
     threads = sound.names.numbers_differ;
     contents = contents_once;
-    branches = branches_once;
-    results = results_once;
+    ends = results_end;
   }

@@ -26,7 +26,7 @@ use Rattle.event_law.proofs.Trades.{tot-append, tot-push, trade_at, trade_whole}
 use Rattle.event_law.proofs.Results.{then_gives, test_gives}
 use Rattle.event_law.proofs.Bags.{rest_things, of_partition}
 use Rattle.event_law.proofs.Values.{last_split, stores}
-use Rattle.still_law.specs.Shows.{Sign, nothing, an_object, a_thread, sign_of, shown_thread}
+use Rattle.still_law.specs.Shows.{Sign, nothing, an_object, a_thread, has_both, sign_of, shown_thread}
 use Rattle.still_law.proofs.Sites.{shown, Moves}
 use Rattle.still_law.proofs.Arrivals.{thread_parts, cache_shown, no_pin}
 use Rattle.still_law.proofs.Hands.{hand_things, HandStill}
@@ -106,7 +106,7 @@ ready_still h h2 r = record {
       let y = h.thread in
       let y2 : ThreadState = record y { slots = r.slots; temps = r.temps; walk = r.walk; passed = r.passed } in
       let there : shown w (hand_things n h2) ≡ shown w (thread_things n false y2 ++ rest_things n 0 h2.work.rest) = ap (λ (t : ThreadState). shown w (thread_things n false t ++ rest_things n 0 h2.work.rest)) r.thread in
-      let shows : w (sign_of (stands n false y2)) ≡ w (sign_of (stands n false y)) = ap₂ (λ a b. w (a_thread (record (shown_thread y) { slots = a; temps = b }))) r.slots_plain r.temps_plain in
+      let shows : w (sign_of (stands n false y2)) ≡ w (sign_of (stands n false y)) = ap₂ (λ a b. w (a_thread (record (shown_thread y) { slots = a; temps = b }) (has_both y.phase))) r.slots_plain r.temps_plain in
       omega (
         arith,
         there,

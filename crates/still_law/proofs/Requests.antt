@@ -23,8 +23,8 @@ use Rattle.event_law.proofs.Results.{map_gives}
 use Rattle.event_law.proofs.Bags.{rest_things, of_mutexes, of_tasks}
 use Rattle.event_law.proofs.MutexLists.{found_number, mutex_changes}
 use Rattle.event_law.proofs.TaskMessages.{tot-gone, tot-put}
+use Rattle.event_law.proofs.FinishSteps.{task_number}
 use Rattle.still_law.specs.Shows.{Sign, nothing, sign_of}
-use Rattle.still_law.proofs.Unnamed.{task_thread}
 use Rattle.still_law.proofs.Sites.{shown, Moves, sends, beside_still, ServerStill, deliveries}
 
 -- a message that carries nothing goes
@@ -142,7 +142,7 @@ joined n u a t x = by (task_in x.rest.tasks u) refl
         (task_moves (sent n (message.Join u a t) ∷ []) hand x.rest (without_task x.rest.tasks u) (task_things m 0 y) []
         (record { rest = things_at (task_things m) 0 (without_task x.rest.tasks u); before = λ f. tot-gone f m x.rest.tasks u y q; after = λ f. omega arith })
         (λ w z.
-        let shows : shown w (task_things m 0 y) ≡ shown w (task_things m 0 (record { thread = u; state = kept v })) = ap₂ (λ i s. shown w (task_things m 0 (record { thread = i; state = s }))) (task_thread x.rest.tasks u y q) h in
+        let shows : shown w (task_things m 0 y) ≡ shown w (task_things m 0 (record { thread = u; state = kept v })) = ap₂ (λ i s. shown w (task_things m 0 (record { thread = i; state = s }))) (task_number x.rest.tasks u y q) h in
         omega (arith, z, shows))) (λ w z. omega (arith, z))
     state y q let_go h = tt
     state y q (asked r b) h = tt

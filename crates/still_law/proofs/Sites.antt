@@ -71,7 +71,7 @@ pub record Moves (gone hand : List Thing) (r r2 : Rest) : Type 0 where
   pub number : r2.number ≡ r.number
   pub alike : ShowAlike (gone ++ rest_things r.number 0 r) (hand ++ rest_things r.number 0 r2)
 
-beside_leaves : (gone hand : List Thing) (x : Site) (y : Work) → Moves gone hand x.work.rest y.rest → Leaves gone hand x (record x { work = y })
+pub beside_leaves : (gone hand : List Thing) (x : Site) (y : Work) → Moves gone hand x.work.rest y.rest → Leaves gone hand x (record x { work = y })
 beside_leaves gone hand x y s w z =
     let f : Thing → ℕ = λ x. w (sign_of x) in
     let n = x.work.rest.number in
@@ -109,7 +109,7 @@ abbrev pub ServerStill : Cluster → Server → Server × EntryView → Type 0
 ServerStill k s r = CountAlike (sight k) (server_things s) (server_things r.0)
 
 -- in cluster k what a message has counts as what goes into a site, less what is beside the site afterwards
-abbrev CountsAs : Cluster → List Thing → List Thing → List Thing → Type 0
+abbrev pub CountsAs : Cluster → List Thing → List Thing → List Thing → Type 0
 CountsAs k has gone hand = (w : Sign → ℕ) → w nothing ≡ 0 → Counts (sight k) w → shown w has + shown w hand ≡ shown w gone
 
 -- so a site takes a message, or the rest of a server does
@@ -125,10 +125,12 @@ pub record RestTakes (k : Cluster) (has : List Thing) (r r2 : Rest) : Type 0 whe
   pub moves : Moves gone hand r r2
   pub counts : CountsAs k has gone hand
 
+pub site_takes : (k : Cluster) (has : List Thing) (x : Site) (y : Work) → RestTakes k has x.work.rest y.rest → Takes k has x (record x { work = y })
+site_takes k has x y s = record { gone = s.gone; hand = s.hand; leaves = beside_leaves s.gone s.hand x y s.moves; counts = s.counts }
+
 pub beside_takes : (k : Cluster) (has : List Thing) (f : Work → Option Work) (x : Site) → Gives (λ (w : Work). RestTakes k has x.work.rest w.rest) (f x.work) → Gives (Takes k has x) (beside_threads f x)
 beside_takes k has f x g =
-    over_gives (λ (w : Work). RestTakes k has x.work.rest w.rest) (Takes k has x) (f x.work) (λ w. record x { work = w }) g
-    (λ y s. record { gone = s.gone; hand = s.hand; leaves = beside_leaves s.gone s.hand x y s.moves; counts = s.counts })
+    over_gives (λ (w : Work). RestTakes k has x.work.rest w.rest) (Takes k has x) (f x.work) (λ w. record x { work = w }) g (λ y s. site_takes k has x y s)
 
 -- whatever counts, all that the message has goes into it
 pub all_taken : (k : Cluster) (has : List Thing) (x y : Site) → Still has x y → Takes k has x y

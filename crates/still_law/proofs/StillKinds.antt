@@ -14,7 +14,7 @@ use Rattle.server_model.specs.Servers.{Server, Cluster, server_at}
 use Rattle.server_model.specs.Work.{thread_in, then_some}
 use Rattle.server_model.specs.Events.{does}
 use Rattle.heap_law.specs.Coherent.{IsSound}
-use Rattle.event_law.specs.Kinds.{Kind, evicts, migrates, starts, arrives, fetch, fetched, moving, moved, asks_lock, asks_dup, asks_join, granted, dupped, joined, unlocked, released, message_kind, instr_kind, kind_at}
+use Rattle.event_law.specs.Kinds.{Kind, evicts, migrates, starts, arrives, fetch, fetched, moving, moved, asks_lock, asks_dup, asks_join, granted, dupped, joined, unlocked, released, finished, message_kind, instr_kind, kind_at}
 use Rattle.event_law.specs.Laws.{Gives}
 use Rattle.still_law.specs.Laws.{LeaveHeap}
 use Rattle.still_law.proofs.Sites.{ServerStill, leaves_heap}
@@ -26,6 +26,7 @@ use Rattle.still_law.proofs.Leaving.{moves}
 use Rattle.still_law.proofs.Coming.{objects_come}
 use Rattle.still_law.proofs.Requests.{fetches, locks, dups, joins}
 use Rattle.still_law.proofs.Given.{contents_come, shares_come, results_come}
+use Rattle.still_law.proofs.Ended.{threads_end}
 use Rattle.still_law.proofs.Back.{contents_back, share_dropped, task_released}
 
 abbrev pub IsStill : Kind → Type 0
@@ -45,6 +46,7 @@ IsStill dupped = ⊤
 IsStill joined = ⊤
 IsStill unlocked = ⊤
 IsStill released = ⊤
+IsStill finished = ⊤
 IsStill kind = ⊥
 
 some_same : {a b : Kind} → Some a ≡ Some b → b ≡ a
@@ -93,7 +95,7 @@ module _ (k : Cluster) (sound : IsSound k) (number : ℕ) (s : Server) (here : s
   message_still i (message.Release (released_as.Task u)) q p = task_released k sound number s here i u q
   message_still i (message.Join u a t) q p = joins k s i u a t q
   message_still i (message.Joined u v t) q p = results_come k sound number s here i u v t q
-  message_still i (message.Finished u v) q p = absurd p
+  message_still i (message.Finished u v) q p = threads_end k sound number s here i u v q
 
   module _ (kind : Kind) (p : IsStill kind) where
     of_message : (i : ℕ) (o : Option Message) → slice_get s.rest.inbox i ≡ o → option_map message_kind o ≡ Some kind → Gives (ServerStill k s) (does k.code k.options s (Deliver i))

@@ -144,12 +144,12 @@ same_values xs ys = same_list same_value values xs ys
 
 abbrev pub same_part : ShownThread → ShownThread → Bool
 same_part x y =
-    (x.number == y.number) && (same_truth x.is_over y.is_over && (same_pair x.pair y.pair && (same_truth x.got_pair y.got_pair
-    && ((x.pc == y.pc) && (same_values x.temps y.temps && (same_values x.slots y.slots && (x.made == y.made)))))))
+    (x.number == y.number) && (same_truth x.is_over y.is_over && (same_pair x.pair y.pair
+    && ((x.pc == y.pc) && (same_values x.temps y.temps && (same_values x.slots y.slots && (x.made == y.made))))))
 
 -- all that is shown of a thread
-abbrev pub thread_of : ℕ → Bool → Option (ℕ × ℕ) → Bool → ℕ → List Value → List Value → ℕ → ShownThread
-thread_of a b c d e f g h = record { number = a; is_over = b; pair = c; got_pair = d; pc = e; temps = f; slots = g; made = h }
+abbrev pub thread_of : ℕ → Bool → Option (ℕ × ℕ) → ℕ → List Value → List Value → ℕ → ShownThread
+thread_of a b c d e f g = record { number = a; is_over = b; pair = c; pc = d; temps = e; slots = f; made = g }
 
 all_true : (p q : Bool) → (p && q) ≡ true → (p ≡ true) × (q ≡ true)
 all_true p q e = (and_left p q e, and_right p q e)
@@ -159,8 +159,8 @@ threads = record { itself = itself; tells = tells }
   where
     itself : (x : ShownThread) → same_part x x ≡ true
     itself x =
-        both_true _ _ (numbers.itself x.number) (both_true _ _ (truths.itself x.is_over) (both_true _ _ (pairs.itself x.pair) (both_true _ _ (truths.itself x.got_pair)
-        (both_true _ _ (numbers.itself x.pc) (both_true _ _ (lists_itself same_value values x.temps) (both_true _ _ (lists_itself same_value values x.slots) (numbers.itself x.made)))))))
+        both_true _ _ (numbers.itself x.number) (both_true _ _ (truths.itself x.is_over) (both_true _ _ (pairs.itself x.pair)
+        (both_true _ _ (numbers.itself x.pc) (both_true _ _ (lists_itself same_value values x.temps) (both_true _ _ (lists_itself same_value values x.slots) (numbers.itself x.made))))))
 
     tells : (x y : ShownThread) → same_part x y ≡ true → x ≡ y
     tells x y e =
@@ -170,14 +170,12 @@ threads = record { itself = itself; tells = tells }
         let p4 = all_true _ _ p3.1 in
         let p5 = all_true _ _ p4.1 in
         let p6 = all_true _ _ p5.1 in
-        let p7 = all_true _ _ p6.1 in
         let e1 : x.number ≡ y.number = numbers.tells x.number y.number p1.0 in
         let e2 : x.is_over ≡ y.is_over = truths.tells x.is_over y.is_over p2.0 in
         let e3 : x.pair ≡ y.pair = pairs.tells x.pair y.pair p3.0 in
-        let e4 : x.got_pair ≡ y.got_pair = truths.tells x.got_pair y.got_pair p4.0 in
-        let e5 : x.pc ≡ y.pc = numbers.tells x.pc y.pc p5.0 in
-        let e6 : x.temps ≡ y.temps = lists_tell same_value values x.temps y.temps p6.0 in
-        let e7 : x.slots ≡ y.slots = lists_tell same_value values x.slots y.slots p7.0 in
-        let e8 : x.made ≡ y.made = numbers.tells x.made y.made p7.1 in
-        let same : thread_of x.number x.is_over x.pair x.got_pair x.pc x.temps x.slots x.made ≡ thread_of y.number y.is_over y.pair y.got_pair y.pc y.temps y.slots y.made = cc in
+        let e4 : x.pc ≡ y.pc = numbers.tells x.pc y.pc p4.0 in
+        let e5 : x.temps ≡ y.temps = lists_tell same_value values x.temps y.temps p5.0 in
+        let e6 : x.slots ≡ y.slots = lists_tell same_value values x.slots y.slots p6.0 in
+        let e7 : x.made ≡ y.made = numbers.tells x.made y.made p6.1 in
+        let same : thread_of x.number x.is_over x.pair x.pc x.temps x.slots x.made ≡ thread_of y.number y.is_over y.pair y.pc y.temps y.slots y.made = cc in
         same

@@ -1,8 +1,7 @@
 -- A content or a result that goes is one of a mutex or a thread that nothing names: its shares are gone, or its one task value is the message that comes.
-use Rattle.std.proofs.Common.{◌≡◌, ℕ, ◌+◌, ◌≤◌, ◌==◌, ◌&&◌, not, Bool, true, false, if◌then◌else◌, List, [], ◌∷◌, Some, refl, ap, ap₂, subst, ◌∙◌, arith}
+use Rattle.std.proofs.Common.{◌≡◌, ℕ, zero, suc, ◌+◌, ◌≤◌, ◌==◌, ◌&&◌, not, Bool, true, false, List, [], ◌∷◌, Some, refl, ap, ap₂, ◌∙◌, arith}
 use Rattle.std.specs.Prelude.{slice_get}
 use Rattle.std.proofs.lemmas.Bool.{eq-eqb}
-use Rattle.fr_typing.proofs.PlaceLemmas.{eq_cases}
 use Rattle.fr_base.specs.declared.name.MutexNo.{MutexNo}
 use Rattle.fr_base.specs.declared.release.Released.TheVariants as released
 use Rattle.heap_partition.specs.declared.value.Owned.{Owned}
@@ -16,14 +15,15 @@ use Rattle.heap_law.specs.Names.{tot, one, if_so, some, mutex_values, task_value
 use Rattle.heap_law.specs.Things.{Thing, holds, lies, flies, sent, stands, noted, things_of}
 use Rattle.heap_law.specs.Sight.{Sight, sight}
 use Rattle.heap_law.specs.Weights.{shares_sent, shares_of, tasks_sent, tasks_of, is_thread}
-use Rattle.heap_law.specs.Sharing.{going_on, finished_of, going_notes, goes_on, owes, owed, kept_note, results, has_ended}
-use Rattle.heap_law.specs.OneHeap.{mutex_n, task_n, owns, names, pair_note, in_pair_of, is_branch}
+use Rattle.heap_law.specs.Sharing.{got_phase, going_on, finished_of, going_notes, goes_on, owes, owed, kept_note, results, has_ended}
+use Rattle.heap_law.specs.OneHeap.{mutex_n, task_n, owns, names, pair_note}
 use Rattle.heap_law.specs.Coherent.{IsSound}
 use Rattle.heap_law.proofs.Sums.{server_parts}
 use Rattle.event_law.proofs.Events.{tot-server}
 use Rattle.event_law.proofs.MutexResults.{Weight, mutex_self, mutex_weighs, has, home, same_shares}
 use Rattle.event_law.proofs.TaskMessages.{tot-gone}
-use Rattle.still_law.specs.Shows.{is_named}
+use Rattle.event_law.proofs.FinishSteps.{task_number}
+use Rattle.still_law.specs.Shows.{is_named, held_branch, is_held}
 
 -- WEIGHTS OF NAMES
 
@@ -99,7 +99,7 @@ module _ (t : ℕ) where
   is_let_go x = 0
 
   -- notes of the thread in a state
-  abbrev notes_as : (TaskState → ℕ) → Thing → ℕ
+  abbrev pub notes_as : (TaskState → ℕ) → Thing → ℕ
   notes_as f (noted r x) = if_so (x.thread == t) (f x.state)
   notes_as f x = 0
 
@@ -123,6 +123,10 @@ module _ (t : ℕ) where
   ended_there (stands r p x) = omega (arith, both_parts (x.number == t) (x.number == 0) (is_over x.phase))
   ended_there _ = omega arith
 
+  some_at_most : (c : ℕ) → one (some c) ≤ c
+  some_at_most zero = omega arith
+  some_at_most (suc c) = omega arith
+
   -- a branch is noted as one that goes on, or its result stands there
   kept_branch : (q : Bool) (x : TaskState) → if_so q (pair_note x) + if_so q (is_kept x) ≤ one (q && going_on x) + if_so q (kept_note x)
   kept_branch true going = omega arith
@@ -134,8 +138,9 @@ module _ (t : ℕ) where
   kept_branch false x = omega arith
 
   module _ (s : Sight) where
-    kept_or_branch : (x : Thing) → in_pair_of t x + notes_as is_kept x ≤ going_notes t x + results s t x
+    kept_or_branch : (x : Thing) → held_branch t x + notes_as is_kept x ≤ going_notes t x + results s t x
     kept_or_branch (noted r x) = kept_branch (x.thread == t) x.state
+    kept_or_branch (stands r p x) = omega (arith, some_at_most (got_phase t x.phase))
     kept_or_branch _ = omega arith
 
     kept_or_finished : (x : Thing) → notes_as is_kept x + finishes x ≤ results s t x
@@ -174,9 +179,10 @@ module _ (t : ℕ) where
     let_go_owes true (in_pair p false) = omega arith
     let_go_owes false x = omega arith
 
-    branch_let_go : (x : Thing) → in_pair_of t x + notes_as is_let_go x + finishes x ≤ going_notes t x + results s t x
+    branch_let_go : (x : Thing) → held_branch t x + notes_as is_let_go x + finishes x ≤ going_notes t x + results s t x
     branch_let_go (noted r x) = omega (arith, let_go_branch (x.thread == t) x.state)
     branch_let_go (sent r m) = omega arith
+    branch_let_go (stands r p x) = omega (arith, some_at_most (got_phase t x.phase))
     branch_let_go _ = omega arith
 
     owed_let_go : (x : Thing) → owed s t x + notes_as is_let_go x + finishes x ≤ going_notes t x + results s t x
@@ -184,12 +190,6 @@ module _ (t : ℕ) where
     owed_let_go (sent r m) = omega arith
     owed_let_go (stands r p x) = omega arith
     owed_let_go _ = omega arith
-
--- the note that is found is the thread's
-pub task_thread : (xs : List Task) (u : ℕ) (y : Task) → task_in xs u ≡ Some y → y.thread ≡ u
-task_thread [] u y e = absurd (cc e)
-task_thread (z ∷ xs) u y e =
-    eq_cases (λ b. (if b then Some z else task_in xs u) ≡ Some y → y.thread ≡ u) z.thread u (λ q g. let same : z ≡ y = cc in subst (λ (v : Task). v.thread ≡ u) same q) (λ ne g. task_thread xs u y g) e
 
 -- IN A SOUND CLUSTER
 
@@ -201,11 +201,11 @@ module _ (k : Cluster) (sound : IsSound k) (number : ℕ) (s : Server) (here : s
   a = things_of k
 
   -- a note that is found counts
-  note_counts : (u : ℕ) (f : TaskState → ℕ) (y : Task) (z : TaskState) → task_in s.rest.tasks u ≡ Some y → y.state ≡ z → f z ≤ tot (notes_as u f) a
+  pub note_counts : (u : ℕ) (f : TaskState → ℕ) (y : Task) (z : TaskState) → task_in s.rest.tasks u ≡ Some y → y.state ≡ z → f z ≤ tot (notes_as u f) a
   note_counts u f y z q h =
       let g = notes_as u f in
       let mine : g (noted n y) ≡ f z =
-      ap₂ (λ i (x : TaskState). if_so (i == u) (f x)) (task_thread s.rest.tasks u y q) h ∙ ap (λ b. if_so b (f z)) (eq-eqb u u refl) in
+      ap₂ (λ i (x : TaskState). if_so (i == u) (f x)) (task_number s.rest.tasks u y q) h ∙ ap (λ b. if_so b (f z)) (eq-eqb u u refl) in
       omega (arith, mine, (tot-server g k.servers number s s here).0, server_parts g s, tot-gone g n s.rest.tasks u y q)
 
   -- each thread's result is in one place, and it goes on or has ended
@@ -257,12 +257,12 @@ module _ (k : Cluster) (sound : IsSound k) (number : ℕ) (s : Server) (here : s
         (omega (arith, mine, has k sound number s here i x q (task_gone u), two_at_most (names_thread u) (task_gone u) (tasks_of u) (task_or_gone u) a, sound.mutexes_and_tasks.one_task_value u))
 
     -- a thread whose result is kept is no branch
-    pub kept_alone : (u : ℕ) (y : Task) (v : Owned) → task_in s.rest.tasks u ≡ Some y → y.state ≡ kept v → is_branch (sight k) u ≡ false
+    pub kept_alone : (u : ℕ) (y : Task) (v : Owned) → task_in s.rest.tasks u ≡ Some y → y.state ≡ kept v → is_held (sight k) u ≡ false
     kept_alone u y v q h =
-        some_none (tot (in_pair_of u) a) (omega (
+        some_none (tot (held_branch u) a) (omega (
           arith,
           note_counts u (is_kept u) y (kept v) q h,
-          pair_at_most (in_pair_of u) (notes_as u (is_kept u)) (going_notes u) (results (sight k) u) (kept_or_branch u (sight k)) a,
+          pair_at_most (held_branch u) (notes_as u (is_kept u)) (going_notes u) (results (sight k) u) (kept_or_branch u (sight k)) a,
           two_at_most (notes_as u (is_kept u)) (finishes u) (results (sight k) u) (kept_or_finished u (sight k)) a,
           pair_at_most (goes_on u) (has_ended u) (is_thread u) (finishes u) (one_or_other u) a,
           two_at_most (has_ended u) (λ x. 0) (is_thread u) (ended_there u) a,
@@ -276,14 +276,14 @@ module _ (k : Cluster) (sound : IsSound k) (number : ℕ) (s : Server) (here : s
       mine : finishes u (sent n (message.Finished u v)) ≡ 1
       mine = ap one (eq-eqb u u refl)
 
-      pub nobody_waits : is_branch (sight k) u ≡ false
+      pub nobody_waits : is_held (sight k) u ≡ false
       nobody_waits =
-          some_none (tot (in_pair_of u) a) (omega (
+          some_none (tot (held_branch u) a) (omega (
             arith,
             mine,
             has k sound number s here i (message.Finished u v) q (finishes u),
             note_counts u (is_let_go u) y let_go e h,
-            three_at_most (in_pair_of u) (notes_as u (is_let_go u)) (finishes u) (going_notes u) (results (sight k) u) (branch_let_go u (sight k)) a,
+            three_at_most (held_branch u) (notes_as u (is_let_go u)) (finishes u) (going_notes u) (results (sight k) u) (branch_let_go u (sight k)) a,
             two_at_most (finishes u) (λ x. 0) (results (sight k) u) (finished_once u (sight k)) a,
             pair_at_most (goes_on u) (has_ended u) (is_thread u) (finishes u) (one_or_other u) a,
             sound.mutexes_and_tasks.noted_go_on u,

@@ -1,9 +1,10 @@
 -- WHAT A THING SHOWS IN THE ONE HEAP: its part in the plain state that a cluster stands for (this project's rule). Words, copies, uses, addresses,
 -- messages, queues, pins and servers aren't seen, nor whether an object lies or flies, nor whether a content or a result is in a message or a gift.
-use Rattle.std.specs.Prelude.{◌≡◌, ℕ, Bool, true, false, List, map, Option, Some, None, option_map}
+use Rattle.std.specs.Prelude.{◌≡◌, ℕ, ◌+◌, ◌==◌, Bool, true, false, List, map, Option, Some, None, option_map}
 use Rattle.fr_base.specs.declared.name.ObjNo.{ObjNo}
 use Rattle.fr_base.specs.declared.name.MutexNo.{MutexNo}
 use Rattle.fr_base.specs.declared.label.Plain.{Plain}
+use Rattle.fr_base.specs.declared.label.Plain.TheVariants as plain
 use Rattle.fr_base.specs.declared.instruction.Instr.{Instr}
 use Rattle.fr_base.specs.declared.instruction.Instr.TheVariants as instr
 use Rattle.fr_plain.specs.declared.value.Value.{Value as PlainValue}
@@ -12,22 +13,22 @@ use Rattle.thread_state.specs.View.{ThreadState, is_over}
 use Rattle.thread_state.specs.declared.phase.Phase.{Phase}
 use Rattle.thread_state.specs.declared.phase.Phase.TheVariants as phase
 use Rattle.join_home.specs.Tasks.{TaskState, in_pair}
-use Rattle.heap_law.specs.Names.{tot, one, some}
+use Rattle.heap_law.specs.Names.{tot, one, if_so, some}
 use Rattle.heap_law.specs.Things.{Spot, as_gift, as_content, as_result, Thing, holds, lies, flies, stands, noted, counts}
 use Rattle.heap_law.specs.Follow.{Standing, thread_at}
 use Rattle.heap_law.specs.Sight.{Sight}
 use Rattle.heap_law.specs.Paths.{joined_thread}
 use Rattle.heap_law.specs.Walking.{instr_of}
 use Rattle.heap_law.specs.Requests.{locked_mutex}
-use Rattle.heap_law.specs.OneHeap.{Node, mutex_n, task_n, names, is_branch, plain_value, two_in}
+use Rattle.heap_law.specs.Sharing.{got_phase}
+use Rattle.heap_law.specs.OneHeap.{Node, mutex_n, task_n, names, pair_note, plain_value, two_in}
 
 -- a thread, wherever it stands
 pub record ShownThread : Type 0 where
   pub number : ℕ
   pub is_over : Bool
-  -- the two threads that it waits for, and whether both have ended
+  -- the two threads that it waits for, or that have both ended
   pub pair : Option (ℕ × ℕ)
-  pub got_pair : Bool
   pub pc : ℕ
   pub temps : List PlainValue
   pub slots : List PlainValue
@@ -38,7 +39,8 @@ pub data Sign : Type 0 where
   -- a value that is owned outside the heap; an object and what it holds
   a_value : (p : Spot) (v : Plain) → Sign
   an_object : (o : ObjNo) (v : Plain) → Sign
-  a_thread : ShownThread → Sign
+  -- a thread, and whether both threads of its pair have ended
+  a_thread : ShownThread → (has_pair : Bool) → Sign
   -- a branch of a pair, and whether it has ended
   a_branch : (thread : ℕ) (is_done : Bool) → Sign
   -- how many threads and mutexes a server has counted
@@ -53,7 +55,6 @@ shown_thread t = record {
   number = t.number;
   is_over = is_over t.phase;
   pair = two_in t.phase;
-  got_pair = has_both t.phase;
   pc = t.pc;
   temps = map plain_value t.temps;
   slots = map plain_value t.slots;
@@ -68,7 +69,7 @@ abbrev pub sign_of : Thing → Sign
 sign_of (holds p v) = a_value p (plain_of v)
 sign_of (lies s a c) = an_object c.object (plain_of c.value)
 sign_of (flies w c) = an_object c.object (plain_of c.value)
-sign_of (stands s p t) = a_thread (shown_thread t)
+sign_of (stands s p t) = a_thread (shown_thread t) (has_both t.phase)
 sign_of (noted s x) = note_sign x.thread x.state
 sign_of (counts s next retired started made events) = a_count s started made
 sign_of x = nothing
@@ -101,11 +102,23 @@ counted_at weight (Some p) v = weight (a_value p v)
 abbrev pub is_named : Sight → Node → Bool
 is_named s n = some (tot (λ x. one (names n x)) s.things)
 
--- a weight that counts a gift as what it is, and neither the content of a mutex nor the result of a thread that nothing names
+-- a branch of a pair whose par isn't done: it is noted, or its parent has both
+abbrev pub held_branch : ℕ → Thing → ℕ
+held_branch t (noted s x) = if_so (x.thread == t) (pair_note x.state)
+held_branch t (stands s p x) = one (some (got_phase t x.phase))
+held_branch t x = 0
+
+abbrev pub is_held : Sight → ℕ → Bool
+is_held s t = some (tot (held_branch t) s.things)
+
+-- a weight that counts a gift as what it is; neither the content of a mutex nor the result of a thread that nothing names; a branch that has ended as one
+-- that goes on beside its result, which is unit; and a parent that has its pair as one that waits beside two branches that have ended
 pub record Counts (s : Sight) (weight : Sign → ℕ) : Type 0 where
   pub gifts : (t : ℕ) (v : Plain) → weight (a_value (as_gift t) v) ≡ counted_at weight (gift_spot s t) v
   pub contents : (m : MutexNo) (v : Plain) → is_named s (mutex_n m) ≡ false → weight (a_value (as_content m) v) ≡ 0
-  pub results : (t : ℕ) (v : Plain) → is_named s (task_n t) ≡ false → is_branch s t ≡ false → weight (a_value (as_result t) v) ≡ 0
+  pub results : (t : ℕ) (v : Plain) → is_named s (task_n t) ≡ false → is_held s t ≡ false → weight (a_value (as_result t) v) ≡ 0
+  pub branches : (t : ℕ) → weight (a_branch t true) ≡ weight (a_branch t false) + weight (a_value (as_result t) plain.Unit)
+  pub pairs : (y : ShownThread) (a b : ℕ) → y.pair ≡ Some (a, b) → (a == b) ≡ false → weight (a_thread y true) ≡ weight (a_thread y false) + weight (a_branch a true) + weight (a_branch b true)
 
 -- these weights of what is shown have the same sums over both
 abbrev pub CountAlike : Sight → List Thing → List Thing → Type 0

@@ -1,17 +1,18 @@
 //! Laws of events without a plain step.
 
-ghost use Rattle.event_law.specs.Kinds.{arrives, asks_dup, asks_join, asks_lock, dupped, evicts, fetch, fetched, granted, joined, migrates, moved, moving, released, starts, unlocked};
+ghost use Rattle.event_law.specs.Kinds.{arrives, asks_dup, asks_join, asks_lock, dupped, evicts, fetch, fetched, finished, granted, joined, migrates, moved, moving, released, starts, unlocked};
 ghost use Rattle.still_law.specs.Laws.{AlikeStandForOne, JoinsThatAsk, LeaveHeap, RequestsLeaveHeap};
 
 /// Two clusters of one code, the first of them sound, stand for the same one heap where all that counts of their things is the same: no word, copy, use,
-/// address, message, pin or server counts, and a gift counts as the content or result that it is.
+/// address, message, pin or server counts, a gift counts as the content or result that it is, a
+/// branch that has ended beside its result, and no content of a mutex or result of a thread that nothing names.
 pub fn alike_stand_for_one()
     ensures { AlikeStandForOne }
 {}
 
 /// From a sound cluster with few events, where they have a result, an eviction, a migration, and the delivery of a new thread, of a parcel, of a copy, of an
-/// object, of a mutex's content or a share of it, of a result, of what asks for one of these, of a content that comes back, and of a share or a task that was
-/// dropped, leave the one heap as it was, their messages handed over.
+/// object, of a mutex's content or a share of it, of a result, of what asks for one of these, of a content that comes back, of a share or a task that was
+/// dropped, and of the end of a thread, leave the one heap as it was, their messages handed over.
 pub fn events_leave_heap()
     ensures evictions { LeaveHeap evicts }
     ensures migrations { LeaveHeap migrates }
@@ -29,6 +30,7 @@ pub fn events_leave_heap()
     ensures results { LeaveHeap joined }
     ensures unlocks { LeaveHeap unlocked }
     ensures releases { LeaveHeap released }
+    ensures ends { LeaveHeap finished }
 {}
 
 /// A join that asks for its result leaves the one heap as it was.

@@ -23,12 +23,13 @@ use Rattle.heap_law.specs.Follow.{Standing, threads_in, thread_at, cells_in, cel
 use Rattle.heap_law.specs.Sight.{Sight, with_things}
 use Rattle.heap_law.specs.Walking.{instr_of}
 use Rattle.heap_law.specs.Requests.{home_of, mutex_of, locked_mutex, is_mutex}
-use Rattle.heap_law.specs.Sharing.{got_phase}
+use Rattle.heap_law.specs.Sharing.{got_phase, has_ended}
 use Rattle.heap_law.specs.Naming.{started_at, made_at}
 use Rattle.heap_law.specs.Weights.{is_thread}
 use Rattle.heap_law.specs.OneHeap.{Node, object_n, mutex_n, task_n, a_thread, owns, content_owner, gift_owner, gift_owner_of, owner_of, names, owner_in, named_in, any_named, in_state_by, is_in_state, if_in, cell_value, or_else, first_shown, object_value, is_gift_of, content_value, share_in, if_there, in_pair_of, is_branch, branch_result, is_joined_by, result_value, result_of, ended_with, going_on, running_at, life_of, life_at, made_of, two_in, pair_of, was_let_go, is_given_thread, is_given_mutex, if_given, state_of}
 use Rattle.event_law.proofs.Bags.{had_by}
 use Rattle.event_law.proofs.Trades.{tot-append}
+use Rattle.still_law.proofs.Counting.{shown_result}
 use Rattle.still_law.proofs.Alike.{Once}
 use Rattle.still_law.proofs.Rounds.{owner_same, named_alike, enough}
 use Rattle.still_law.proofs.Told.{told, ones}
@@ -431,6 +432,11 @@ module _ (k : Cluster) (A B : List Thing) (n : ℕ) (x : ThreadState) (pc : ℕ)
     cells = λ o. omega (arith, once.cells o, tot_same_of (λ v. told ones (cell_value o v)) (λ v. told ones (cell_value o v)) (record { slots = λ w i v. refl; temps = λ w i v. refl; shared = λ l w. refl; lent = λ l w. refl; marks = λ l w. refl; used = λ w v. refl }) (record { slots = λ w i v. refl; temps = λ w i v. refl; shared = λ l w. refl; lent = λ l w. refl; marks = λ l w. refl; used = λ w v. refl }) refl (λ th z. refl));
     threads = λ u. omega (arith, once.threads u, tot_same_of (is_thread u) (is_thread u) (record { slots = λ w i v. refl; temps = λ w i v. refl; shared = λ l w. refl; lent = λ l w. refl; marks = λ l w. refl; used = λ w v. refl }) (record { slots = λ w i v. refl; temps = λ w i v. refl; shared = λ l w. refl; lent = λ l w. refl; marks = λ l w. refl; used = λ w v. refl }) refl (λ th z. refl));
     contents = λ m. omega (arith, once.contents m, tot_same_of (λ v. told ones (content_value s m v)) (λ v. told ones (content_value s2 m v)) (record { slots = λ w i v. refl; temps = λ w i v. refl; shared = λ l w. refl; lent = λ l w. refl; marks = λ l w. refl; used = λ w v. refl }) (record { slots = λ w i v. refl; temps = λ w i v. refl; shared = λ l w. refl; lent = λ l w. refl; marks = λ l w. refl; used = λ w v. refl }) refl (λ th z. ap (told ones) (content_same_of m th z)));
-    branches = λ r. omega (arith, once.branches r, tot_same_of (λ v. told ones (branch_result r v)) (λ v. told ones (branch_result r v)) (record { slots = λ w i v. refl; temps = λ w i v. refl; shared = λ l w. refl; lent = λ l w. refl; marks = λ l w. refl; used = λ w v. refl }) (record { slots = λ w i v. refl; temps = λ w i v. refl; shared = λ l w. refl; lent = λ l w. refl; marks = λ l w. refl; used = λ w v. refl }) (ap (λ m. told ones (if_in (some m) (Some plain.Unit))) (none_got r x.phase calm.alone)) (λ th z. refl));
-    results = λ r. omega (arith, once.results r, tot_same_of (λ v. told ones (result_value s r v)) (λ v. told ones (result_value s2 r v)) (record { slots = λ w i v. refl; temps = λ w i v. refl; shared = λ l w. refl; lent = λ l w. refl; marks = λ l w. refl; used = λ w v. refl }) (record { slots = λ w i v. refl; temps = λ w i v. refl; shared = λ l w. refl; lent = λ l w. refl; marks = λ l w. refl; used = λ w v. refl }) refl (λ th z. ap (told ones) (result_same_of r th z)));
+    ends = λ r. omega (
+      arith,
+      once.ends r,
+      tot_same_of (λ v. told ones (shown_result s r v)) (λ v. told ones (shown_result s2 r v)) (record { slots = λ w i v. refl; temps = λ w i v. refl; shared = λ l w. refl; lent = λ l w. refl; marks = λ l w. refl; used = λ w v. refl }) (record { slots = λ w i v. refl; temps = λ w i v. refl; shared = λ l w. refl; lent = λ l w. refl; marks = λ l w. refl; used = λ w v. refl }) (ap (λ m. told ones (or_else (if_in (some m) (Some plain.Unit)) None)) (none_got r x.phase calm.alone))
+          (λ th z. ap (λ o. told ones (or_else (branch_result r th) o)) (result_same_of r th z)),
+      tot_same_of (has_ended r) (has_ended r) (record { slots = λ w i v. refl; temps = λ w i v. refl; shared = λ l w. refl; lent = λ l w. refl; marks = λ l w. refl; used = λ w v. refl }) (record { slots = λ w i v. refl; temps = λ w i v. refl; shared = λ l w. refl; lent = λ l w. refl; marks = λ l w. refl; used = λ w v. refl }) (ap (λ o. one (x.number == r && (not (x.number == 0) && o))) calm.goes) (λ th z. refl),
+    );
   }

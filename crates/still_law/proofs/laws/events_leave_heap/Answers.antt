@@ -1,4 +1,4 @@
-use Rattle.event_law.specs.Kinds.{evicts, migrates, starts, arrives, fetch, fetched, moving, moved, asks_lock, asks_dup, asks_join, granted, dupped, joined, unlocked, released}
+use Rattle.event_law.specs.Kinds.{evicts, migrates, starts, arrives, fetch, fetched, moving, moved, asks_lock, asks_dup, asks_join, granted, dupped, joined, unlocked, released, finished}
 use Rattle.still_law.proofs.laws.events_leave_heap.Goals as goal
 use Rattle.still_law.proofs.StillKinds.{kind_leaves}
 
@@ -20,4 +20,5 @@ returns c = record {
   results = kind_leaves joined tt;
   unlocks = kind_leaves unlocked tt;
   releases = kind_leaves released tt;
+  ends = kind_leaves finished tt;
 }
