@@ -1,21 +1,28 @@
 -- Each kind of instruction whose line stands.
-use Rattle.std.proofs.Common.{◌≡◌, ℕ, zero, suc, ◌==◌, true, false, Some, refl, sym, ap, subst}
+use Rattle.std.proofs.Common.{◌≡◌, ℕ, zero, suc, ◌==◌, true, false, Some, refl, sym, ap, ◌∙◌, subst}
+use Rattle.std.specs.Prelude.{slice_get}
 use Rattle.fr_typing.proofs.PlaceLemmas.{eq_cases}
+use Rattle.fr_base.specs.Lists.{last_of}
 use Rattle.fr_base.specs.declared.place.Lval.{Lval}
+use Rattle.fr_base.specs.declared.instruction.Operand.{Operand}
 use Rattle.fr_base.specs.declared.instruction.Instr.{Instr}
 use Rattle.fr_base.specs.declared.instruction.Instr.TheVariants as instr
 use Rattle.server_model.specs.declared.event.Event.{Event}
-use Rattle.server_model.specs.Servers.{Cluster}
+use Rattle.thread_state.specs.View.{ThreadState}
+use Rattle.server_model.specs.Servers.{Server, Cluster}
+use Rattle.server_model.specs.Work.{then_some}
 use Rattle.server_model.specs.Clusters.{apply}
 use Rattle.heap_law.specs.Coherent.{IsSound}
+use Rattle.heap_law.proofs.Names.{and_left, and_right}
 use Rattle.event_law.specs.Laws.{Gives}
-use Rattle.turn_law.specs.Turns.{IsPlainStep, instr_of, ArePlainSteps, is_let, is_arith, is_print, reads_slot, borrows_slot, copies_place, borrows_place, lends_place}
+use Rattle.turn_law.specs.Turns.{IsPlainStep, instr_of, ArePlainSteps, is_let, is_arith, is_print, reads_slot, borrows_slot, copies_place, borrows_place, lends_place, none_goes, discards_none, drops_none, replaces_none, thread_at, thread_of, ArePlainStepsWhere}
 use Rattle.turn_law.proofs.Instructions.{lets as let_line, prints as print_line, sums as arith_line, shared_borrows, mutable_borrows}
 use Rattle.turn_law.proofs.SlotReads.{reads as read_line}
 use Rattle.type_law.specs.ClusterTypes.{IsCoherent}
 use Rattle.turn_law.proofs.StarLines.{copy_line}
 use Rattle.turn_law.proofs.BorrowLines.{shared_line, mutable_line}
-use Rattle.turn_law.proofs.Events.{Line, own_line, steps_are_plain}
+use Rattle.turn_law.proofs.DropLines.{discard_line, drop_line, assign_line}
+use Rattle.turn_law.proofs.Events.{AtStep, Line, own_line, steps_are_plain}
 
 pub lets : ArePlainSteps IsSound is_let
 lets k e i q it sound few = by i q it
@@ -95,4 +102,44 @@ lent k e i q it co few = by i q it
 
     by : (i : Instr) → instr_of k e ≡ Some i → lends_place i ≡ true → Gives (IsPlainStep k) (apply k e)
     by (instr.BorrowMut w) q it = steps_are_plain k e (instr.BorrowMut w) co.sound few refl (λ g f. f) (line w w.depth refl) q
+    by _ q it = absurd (cc it)
+
+-- WHAT LETS NOTHING GO
+
+-- the thread of the event is the one that steps
+same_thread : (k : Cluster) (e : Event) (i : Instr) (s : Server) (t : ℕ) (x y : ThreadState) → AtStep k e i s t x → thread_of k e ≡ Some y → x ≡ y
+same_thread k e i s t x y a q = some_is (sym found ∙ q)
+  where
+    some_is : Some x ≡ Some y → x ≡ y
+    some_is r = cc
+
+    found : thread_of k e ≡ Some x
+    found = ap (λ o. then_some o (thread_at e.what)) a.here ∙ ap (λ w. thread_at w s) a.what ∙ a.at
+
+pub discards : ArePlainStepsWhere IsSound discards_none
+discards k e i y q th it sound few = by i q it
+  where
+    by : (i : Instr) → instr_of k e ≡ Some i → discards_none i y ≡ true → Gives (IsPlainStep k) (apply k e)
+    by instr.Discard q it =
+        steps_are_plain k e instr.Discard sound few refl (λ g f. f) (λ s t x a. discard_line k sound e s t x a (subst (λ (z : ThreadState). none_goes (last_of z.temps) ≡ true) (sym (same_thread k e instr.Discard s t x y a th)) it)) q
+    by _ q it = absurd (cc it)
+
+pub drops : ArePlainStepsWhere IsSound drops_none
+drops k e i y q th it sound few = by i q it
+  where
+    by : (i : Instr) → instr_of k e ≡ Some i → drops_none i y ≡ true → Gives (IsPlainStep k) (apply k e)
+    by instr.DropSlot q it =
+        steps_are_plain k e instr.DropSlot sound few refl (λ g f. f) (λ s t x a. drop_line k sound e s t x a (subst (λ (z : ThreadState). none_goes (last_of z.slots) ≡ true) (sym (same_thread k e instr.DropSlot s t x y a th)) it)) q
+    by _ q it = absurd (cc it)
+
+pub replaces : ArePlainStepsWhere IsSound replaces_none
+replaces k e i y q th it sound few = by i q it
+  where
+    of_variable : (w : Lval) (o : Operand) → (w.depth == 0) ≡ true → none_goes (slice_get y.slots w.slot) ≡ true → Line k e (instr.Assign w o)
+    of_variable w o z there =
+        line_at k e (λ v. instr.Assign v o) w z (λ s t x a.
+        assign_line k sound e w.slot o s t x a (subst (λ (v : ThreadState). none_goes (slice_get v.slots w.slot) ≡ true) (sym (same_thread k e (instr.Assign (of_slot w.slot 0) o) s t x y a th)) there))
+
+    by : (i : Instr) → instr_of k e ≡ Some i → replaces_none i y ≡ true → Gives (IsPlainStep k) (apply k e)
+    by (instr.Assign w o) q it = steps_are_plain k e (instr.Assign w o) sound few refl (λ g f. f) (of_variable w o (and_left (w.depth == 0) _ it) (and_right (w.depth == 0) _ it)) q
     by _ q it = absurd (cc it)

@@ -303,6 +303,7 @@ pub record AtStep (k : Cluster) (e : Event) (i : Instr) (s : Server) (t : ℕ) (
   pub number : x.number ≡ t
   pub on : can_step x.phase ≡ true
   pub code : slice_get k.code x.pc ≡ Some i
+  pub what : e.what ≡ Step t
 
 -- what an instruction's line says: a step that is done is such a turn
 abbrev pub Line : Cluster → Event → Instr → Type 0
@@ -323,28 +324,28 @@ module _ (k : Cluster) (e : Event) (i : Instr) (sound : IsSound k) (few : FewEve
   abbrev Done : Server → Server × EntryView → Type 0
   Done s r = Sends s r → IsPlainStep k (record k { servers = hand_over_newer e.server (length s.rest.outbox) r.0 k.servers }, r.1)
 
-  of_thread_there : (s : Server) → server_at k.servers e.server ≡ Some s → (t : ℕ) → enabled k.options s (Step t) ≡ true → (o : Option ThreadState) → thread_in s.threads t ≡ o → then_some o (λ x. slice_get k.code x.pc) ≡ Some i
+  of_thread_there : (s : Server) → server_at k.servers e.server ≡ Some s → (t : ℕ) → e.what ≡ Step t → enabled k.options s (Step t) ≡ true → (o : Option ThreadState) → thread_in s.threads t ≡ o → then_some o (λ x. slice_get k.code x.pc) ≡ Some i
       → Gives (Done s) (option_map (stepped s) (then_some (option_map (λ x. record { work = begin_work s.rest; thread = x }) o) (step_in k.code k.options.servers)))
-  of_thread_there s h t on None a j = tt
-  of_thread_there s h t on (Some x) a j =
+  of_thread_there s h t what on None a j = tt
+  of_thread_there s h t what on (Some x) a j =
       let fit = gift_fits k sound e.server s h t x a i j in
       let able : can_step x.phase ≡ true = subst (λ o. has_phase can_step o ≡ true) a on in
       let number = numbered s.threads t x a in
       subst (λ o. Gives (Done s) (option_map (stepped s) (then_some o (λ z. step k.options.servers z (record { work = begin_work s.rest; thread = x }))))) (sym j)
       (over_gives (λ (d : Stepped). (names : Fresh) → d.names ≡ Some names → TurnIn (one_heap k) k.code s.rest x d) (Done s) (step k.options.servers i (record { work = begin_work s.rest; thread = x })) (stepped s)
-      (line s t x (record { here = h; at = a; number = number; on = able; code = j }))
+      (line s t x (record { here = h; at = a; number = number; on = able; code = j; what = what }))
       (λ d turn sends u names who done. is_step k e sound i s h t x a number able j p (bare x.gift fit.0) d (turn names done) sends u names who done))
 
-  of_what : (s : Server) → server_at k.servers e.server ≡ Some s → (w : What) → instr_at k w s ≡ Some i → Gives (Done s) (done_at k w s)
-  of_what s h (Step t) j = test_gives (Done s) (enabled k.options s (Step t)) (does k.code k.options s (Step t)) (λ on. of_thread_there s h t on (thread_in s.threads t) refl j)
-  of_what s h (Deliver m) j = absurd (cc j)
-  of_what s h (Evict c) j = absurd (cc j)
-  of_what s h (Migrate t g) j = absurd (cc j)
+  of_what : (s : Server) → server_at k.servers e.server ≡ Some s → (w : What) → e.what ≡ w → instr_at k w s ≡ Some i → Gives (Done s) (done_at k w s)
+  of_what s h (Step t) what j = test_gives (Done s) (enabled k.options s (Step t)) (does k.code k.options s (Step t)) (λ on. of_thread_there s h t what on (thread_in s.threads t) refl j)
+  of_what s h (Deliver m) what j = absurd (cc j)
+  of_what s h (Evict c) what j = absurd (cc j)
+  of_what s h (Migrate t g) what j = absurd (cc j)
 
   of_server : (s : Server) → server_at k.servers e.server ≡ Some s → instr_at k e.what s ≡ Some i → Gives (IsPlainStep k) (option_map (λ d. (record k { servers = hand_over_newer e.server (length s.rest.outbox) d.0 k.servers }, d.1)) (done_at k e.what s))
   of_server s h j =
       over_gives (λ r. Sends s r × Done s r) (IsPlainStep k) (done_at k e.what s) _
-      (both_give (Sends s) (Done s) (λ r. Sends s r × Done s r) (done_at k e.what s) (each_event_sends k e sound few s h) (of_what s h e.what j) (λ r a b. (a, b))) (λ r g. g.1 g.0)
+      (both_give (Sends s) (Done s) (λ r. Sends s r × Done s r) (done_at k e.what s) (each_event_sends k e sound few s h) (of_what s h e.what refl j) (λ r a b. (a, b))) (λ r g. g.1 g.0)
 
   -- where the line stands, each event that steps the instruction is that plain step
   pub steps_are_plain : instr_of k e ≡ Some i → Gives (IsPlainStep k) (apply k e)

@@ -10,4 +10,5 @@ pub mod PlainReads
 pub mod StarSteps
 pub mod StarLines
 pub mod BorrowLines
+pub mod DropLines
 pub mod Clauses

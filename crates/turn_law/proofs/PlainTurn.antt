@@ -99,7 +99,7 @@ state_at c t slots = record { thread = t; slots = slots; heap = c.heap }
 module _ (code : List Instr) (p : CodeRunning) (a : CodeAct) (plug : Value → Place) (v : Value) (slots : List Value) (ls : List Label) (now : over_at (slice_get code p.place.pc) p.place.temps ≡ going)
     (move : code_move code p.place.pc p.place.temps ≡ Some (record { act = a; plug = plug }))
     (lone : (c : CodeWhole) (x : CodeThread) (m : Move Place CodeLife) → done_act (code_moves code) c x fresh.None m a ≡ alone_stepped (code_moves code) c x m a) where
-  alone_at : (g : Going) (c : CodeWhole) (t : ℕ) → act a (state_at c t p.slots) ≡ Some (record { value = v; state = state_at c t slots; labels = ls }) → drops_last a (state_at c t p.slots) ≡ plain.Nothing
+  alone_at : (g : Going) (c : CodeWhole) (t : ℕ) → act a (state_at c t p.slots) ≡ Some (record { value = v; state = state_at c t slots; labels = ls }) → ((n : ℕ) (z : CodeWhole) → release_by n z (drops_last a (state_at c t p.slots)) ≡ z)
       → step_of (code_moves code) c fresh.None (Some (thread_as g t p)) ≡ Some (turned_to c g t (record { place = plug v; slots = slots }) ls)
   alone_at g c t did last =
       let m : Move Place CodeLife = record { act = a; plug = λ w. life_as g (plug w) } in
@@ -107,9 +107,9 @@ module _ (code : List Instr) (p : CodeRunning) (a : CodeAct) (plug : Value → P
       let going_on : life_move (code_moves code) (life_as g p.place) ≡ Some m = moves g in
       let acted : CodeLife → CodeStepped = λ l. record { state = record c { threads = with_thread c.threads (record { number = t; life = l; slots = slots }); output = c.output ++ prints ls }; labels = ls } in
       ap (moved (code_moves code) c x fresh.None) going_on ∙ lone c x m
-      ∙ ap₂ (λ u d. then_released u (stepped (code_moves code) c x m d)) last did
-      ∙ ap (λ l. then_released plain.Nothing (Some (acted l))) (settled_as code g (plug v))
-      ∙ ap (λ s. Some (record { state = s; labels = ls })) (none_released (count_both (acted (life_as g (plug v))).state.mutexes (acted (life_as g (plug v))).state.threads) (acted (life_as g (plug v))).state)
+      ∙ ap (λ d. then_released (drops_last a (state_at c t p.slots)) (stepped (code_moves code) c x m d)) did
+      ∙ ap (λ l. then_released (drops_last a (state_at c t p.slots)) (Some (acted l))) (settled_as code g (plug v))
+      ∙ ap (λ s. Some (record { state = s; labels = ls })) (last (count_both (acted (life_as g (plug v))).state.mutexes (acted (life_as g (plug v))).state.threads) (acted (life_as g (plug v))).state)
     where
       moves : (g : Going) → life_move (code_moves code) (life_as g p.place) ≡ Some (record { act = a; plug = λ w. life_as g (plug w) })
       moves as_main =
@@ -121,12 +121,17 @@ module _ (code : List Instr) (p : CodeRunning) (a : CodeAct) (plug : Value → P
 
   pub alone_does : ((c : CodeWhole) (t : ℕ) → act a (state_at c t p.slots) ≡ Some (record { value = v; state = state_at c t slots; labels = ls })) → ((c : CodeWhole) (t : ℕ) → drops_last a (state_at c t p.slots) ≡ plain.Nothing)
       → Does code p (record { place = plug v; slots = slots }) ls
-  alone_does did last g c t = alone_at g c t (did c t) (last c t)
+  alone_does did last g c t = alone_at g c t (did c t) (λ n z. ap (release_by n z) (last c t) ∙ none_released n z)
 
   -- where that depends on the heap
   pub alone_does_in : (b : CodeState) (t : ℕ) → ((c : CodeWhole) → SameState (plain_state c) b → act a (state_at c t p.slots) ≡ Some (record { value = v; state = state_at c t slots; labels = ls }))
       → ((c : CodeWhole) → drops_last a (state_at c t p.slots) ≡ plain.Nothing) → DoesIn b code t p (record { place = plug v; slots = slots }) ls
-  alone_does_in b t did last g c same = alone_at g c t (did c same) (last c)
+  alone_does_in b t did last g c same = alone_at g c t (did c same) (λ n z. ap (release_by n z) (last c) ∙ none_released n z)
+
+  -- where what is dropped lets nothing go
+  pub alone_drops_in : (b : CodeState) (t : ℕ) → ((c : CodeWhole) → SameState (plain_state c) b → act a (state_at c t p.slots) ≡ Some (record { value = v; state = state_at c t slots; labels = ls }))
+      → ((c : CodeWhole) (n : ℕ) (z : CodeWhole) → release_by n z (drops_last a (state_at c t p.slots)) ≡ z) → DoesIn b code t p (record { place = plug v; slots = slots }) ls
+  alone_drops_in b t did last g c same = alone_at g c t (did c same) (last c)
 
 -- THE STATE
 

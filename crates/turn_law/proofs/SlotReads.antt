@@ -67,7 +67,7 @@ pub record Second (v u : Value) : Type 0 where
   pub shown : plain_value u ≡ plain_value v
   pub bare : (q : Node) → value_owns q u ≡ false
 
-nothing_owns : (q : Node) → owns q owned.Nothing ≡ false
+pub nothing_owns : (q : Node) → owns q owned.Nothing ≡ false
 nothing_owns (object_n o) = refl
 nothing_owns (mutex_n m) = refl
 nothing_owns (task_n t) = refl

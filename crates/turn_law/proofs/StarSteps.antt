@@ -1,5 +1,5 @@
 -- A step that follows a place for reading, at the server and on the plain machine: from the hand in which the place is ready to the turn.
-use Rattle.std.proofs.Common.{◌≡◌, ℕ, ◌+◌, ◌==◌, Bool, false, List, [], ◌∷◌, map, Option, Some, None, option_map, refl, sym, ap, ap₂, ◌∙◌}
+use Rattle.std.proofs.Common.{◌≡◌, ℕ, ◌+◌, ◌==◌, Bool, false, List, [], ◌∷◌, map, reverse, Option, Some, None, option_map, refl, sym, ap, ap₂, subst, ◌∙◌, arith}
 use Rattle.fr_base.specs.Names.{same_object, same_mutex}
 use Rattle.fr_base.specs.declared.label.Plain.{Plain}
 use Rattle.fr_base.specs.declared.label.Plain.TheVariants as plain
@@ -25,6 +25,7 @@ use Rattle.heap_law.specs.OneHeap.{Node, object_n, mutex_n, task_n, owns, plain_
 use Rattle.event_law.specs.Laws.{Gives}
 use Rattle.event_law.proofs.Bags.{rest_things}
 use Rattle.still_law.specs.Shows.{Sign, nothing, sign_of}
+use Rattle.still_law.proofs.Sites.{shown, Moves}
 use Rattle.still_law.proofs.Readied.{Readied, then_ready, copies_ready}
 use Rattle.turn_law.proofs.Parts.{value_owns, owned_in}
 use Rattle.turn_law.proofs.OneTurn.{after}
@@ -122,3 +123,52 @@ module _ (a : CodeState) (code : List Instr) (r : Rest) (x : ThreadState) where
           rest_same : (w : Sign → ℕ) → w nothing ≡ 0
               → tot (λ y. w (sign_of y)) (rest_things r.number 0 (record g.before.work.rest { cache = cs })) ≡ tot (λ y. w (sign_of y)) (rest_things r.number 0 (record h.work.rest { cache = cs }))
           rest_same w z = ap (λ (q : Rest). tot (λ y. w (sign_of y)) (rest_things r.number 0 (record q { cache = cs }))) (sym g.rest)
+
+  -- THE SAME, WHERE MORE IS DONE AFTER SLOTS AND TEMPORARY VALUES CHANGED
+
+  -- the thread of that hand goes on to the next instruction
+  pub record GoesOn (h : Hand) : Type 0 where
+    pub moves : Moves [] [] r h.work.rest
+    pub thread : after h.thread (h.thread.pc + 1) h.thread.slots h.thread.temps ≡ after x (x.pc + 1) h.thread.slots h.thread.temps
+    pub even : (q : Node) → owned_in q x.slots + owned_in q x.temps ≡ owned_in q h.thread.slots + owned_in q h.thread.temps
+    pub does : DoesIn a code x.number (running_at x) (running_at (after x (x.pc + 1) h.thread.slots h.thread.temps)) h.work.labels
+
+  pub both_moves : (b c : Rest) → Moves [] [] r b → Moves [] [] b c → Moves [] [] r c
+  both_moves b c m n = record { number = n.number ∙ m.number; alike = λ w z. m.alike w z ∙ subst (λ q. shown w (rest_things q 0 b) ≡ shown w (rest_things q 0 c)) m.number (n.alike w z) }
+
+  pub settles_on : (o : Option Hand) → Gives GoesOn o → Gives (TurnIn a code r x) (committed (goes_on o))
+  settles_on None g = tt
+  settles_on (Some h) g = by (unpin_all h.thread.walk h.work.rest.cache)
+    where
+      by : (o : Option (List Copy)) → Gives (TurnIn a code r x) (option_map (λ h2. record { hand = h2; names = Some fresh.None })
+          (option_map (λ cs. record { work = with_cache cs h.work; thread = record (go_on h).thread { passed = 0; walk = []; moved_since_step = false } }) o))
+      by None = tt
+      by (Some cs) = record {
+        pc = x.pc + 1;
+        slots = h.thread.slots;
+        temps = h.thread.temps;
+        thread = g.thread;
+        moves = both_moves h.work.rest (record h.work.rest { cache = cs }) g.moves (copies_ready h cs []).0.moves;
+        named = refl;
+        even = g.even;
+        does = g.does;
+      }
+
+  -- a hand that is ready, then other slots and temporary values, then a hand that shows what that one showed
+  pub goes_on_from : (h2 mid h : Hand) → Readied h0 h2 → mid.work.rest ≡ h2.work.rest → mid.thread ≡ record h2.thread { slots = mid.thread.slots; temps = mid.thread.temps } → Readied mid h
+      → ((q : Node) → owned_in q x.slots + owned_in q x.temps ≡ owned_in q mid.thread.slots + owned_in q mid.thread.temps)
+      → DoesIn a code x.number (running_at x) (running_at (after x (x.pc + 1) mid.thread.slots mid.thread.temps)) h.work.labels → GoesOn h
+  goes_on_from h2 mid h first rest thread later even does = record {
+    moves = both_moves mid.work.rest h.work.rest (subst (λ q. Moves [] [] r q) (sym rest) first.moves) later.moves;
+    thread =
+        ap (λ (y : ThreadState). after y (y.pc + 1) h.thread.slots h.thread.temps) later.thread ∙ ap (λ (y : ThreadState). after y (y.pc + 1) h.thread.slots h.thread.temps) thread ∙ ap (λ (y : ThreadState). after y (y.pc + 1) h.thread.slots h.thread.temps) first.thread;
+    even = λ q. omega (arith, even q, alike_owned q mid.thread.slots h.thread.slots slots_plain, alike_owned q mid.thread.temps h.thread.temps temps_plain);
+    does = subst (λ ss. DoesIn a code x.number (running_at x) (record { place = record { pc = x.pc + 1; temps = reverse (map plain_value h.thread.temps) }; slots = ss }) h.work.labels) (sym (ap reverse slots_plain))
+        (subst (λ ts. DoesIn a code x.number (running_at x) (record { place = record { pc = x.pc + 1; temps = ts }; slots = reverse (map plain_value mid.thread.slots) }) h.work.labels) (sym (ap reverse temps_plain)) does);
+  }
+    where
+      slots_plain : map plain_value h.thread.slots ≡ map plain_value mid.thread.slots
+      slots_plain = ap (λ (y : ThreadState). map plain_value y.slots) later.thread ∙ later.slots_plain
+
+      temps_plain : map plain_value h.thread.temps ≡ map plain_value mid.thread.temps
+      temps_plain = ap (λ (y : ThreadState). map plain_value y.temps) later.thread ∙ later.temps_plain

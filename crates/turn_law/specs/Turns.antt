@@ -1,5 +1,6 @@
 -- ONE STEP: an event that has a `done` of its thread is exactly that step of the plain machine on the cluster's one heap (this project's rule).
-use Rattle.std.specs.Prelude.{◌≡◌, ℕ, ◌==◌, Bool, true, false, Option, Some, None, List, slice_get}
+use Rattle.std.specs.Prelude.{◌≡◌, ℕ, ◌==◌, ◌&&◌, Bool, true, false, Option, Some, None, List, slice_get}
+use Rattle.fr_base.specs.Lists.{last_of}
 use Rattle.fr_base.specs.declared.label.Label.{Label}
 use Rattle.fr_base.specs.declared.step.Fresh.{Fresh}
 use Rattle.fr_base.specs.declared.instruction.Instr.{Instr}
@@ -7,6 +8,10 @@ use Rattle.fr_base.specs.declared.instruction.Instr.TheVariants as instr
 use Rattle.fr_plain.specs.PlainState.{SameState, plain_state}
 use Rattle.fr_code.specs.Machine.{CodeWhole, CodeStepped, CodeState, code_step}
 use Rattle.journal.specs.View.{EntryView}
+use Rattle.thread_state.specs.View.{ThreadState}
+use Rattle.thread_state.specs.declared.value.Value.{Value}
+use Rattle.thread_state.specs.declared.value.Value.TheVariants as value
+use Rattle.server_model.specs.Places.{owns_nothing}
 use Rattle.server_model.specs.declared.event.Event.{Event}
 use Rattle.server_model.specs.declared.event.What.{What}
 use Rattle.server_model.specs.declared.event.What.TheVariants.{Step}
@@ -76,6 +81,41 @@ abbrev pub lends_place : Instr → Bool
 lends_place (instr.BorrowMut w) = true
 lends_place i = false
 
+-- a value whose drop lets nothing go: no box, mutex or task
+abbrev pub lets_none_go : Value → Bool
+lets_none_go (value.Own v) = owns_nothing v
+lets_none_go v = true
+
+abbrev pub none_goes : Option Value → Bool
+none_goes None = false
+none_goes (Some v) = lets_none_go v
+
+-- the value that an instruction drops is such: the temporary value that it discards, the last slot, or what stands in the variable that it assigns
+abbrev pub discards_none : Instr → ThreadState → Bool
+discards_none instr.Discard y = none_goes (last_of y.temps)
+discards_none i y = false
+
+abbrev pub drops_none : Instr → ThreadState → Bool
+drops_none instr.DropSlot y = none_goes (last_of y.slots)
+drops_none i y = false
+
+abbrev pub replaces_none : Instr → ThreadState → Bool
+replaces_none (instr.Assign w o) y = (w.depth == 0) && none_goes (slice_get y.slots w.slot)
+replaces_none i y = false
+
 -- from a cluster with that property, each step of such an instruction is a plain step where it has a `done`, its messages handed over
 abbrev pub ArePlainSteps : (Cluster → Type 0) → (Instr → Bool) → Type 0
 ArePlainSteps Has is = (k : Cluster) (e : Event) (i : Instr) → instr_of k e ≡ Some i → is i ≡ true → Has k → FewEvents k → Gives (IsPlainStep k) (apply k e)
+
+-- the thread that an event steps, or whose request it sends
+abbrev pub thread_at : What → Server → Option ThreadState
+thread_at (Step t) s = thread_in s.threads t
+thread_at w s = None
+
+abbrev pub thread_of : Cluster → Event → Option ThreadState
+thread_of k e = then_some (server_at k.servers e.server) (thread_at e.what)
+
+-- the same of the instructions of threads where that is so
+abbrev pub ArePlainStepsWhere : (Cluster → Type 0) → (Instr → ThreadState → Bool) → Type 0
+ArePlainStepsWhere Has is =
+    (k : Cluster) (e : Event) (i : Instr) (y : ThreadState) → instr_of k e ≡ Some i → thread_of k e ≡ Some y → is i y ≡ true → Has k → FewEvents k → Gives (IsPlainStep k) (apply k e)

@@ -2,7 +2,7 @@
 
 ghost use Rattle.heap_law.specs.Coherent.{IsSound};
 ghost use Rattle.turn_law.specs.Rows.{RowsCompute};
-ghost use Rattle.turn_law.specs.Turns.{ArePlainSteps, borrows_place, borrows_slot, copies_place, is_arith, is_let, is_print, lends_place, reads_slot};
+ghost use Rattle.turn_law.specs.Turns.{ArePlainSteps, ArePlainStepsWhere, borrows_place, borrows_slot, copies_place, discards_none, drops_none, is_arith, is_let, is_print, lends_place, reads_slot, replaces_none};
 ghost use Rattle.type_law.specs.ClusterTypes.{IsCoherent};
 
 /// From a sound cluster, each of these steps is the plain step of its thread on the one heap, with the entry's names and labels, its messages handed over:
@@ -21,6 +21,14 @@ pub fn star_steps()
     ensures copies { ArePlainSteps IsCoherent copies_place }
     ensures shared { ArePlainSteps IsCoherent borrows_place }
     ensures lent { ArePlainSteps IsCoherent lends_place }
+{}
+
+/// From a sound cluster, so is a discard, the end of a variable and an assignment to one, where the value that is dropped is no box, mutex or task. A mutable
+/// reference that ends gives its word to its holder, and a pinned one its copy back: neither shows.
+pub fn drop_steps()
+    ensures discards { ArePlainStepsWhere IsSound discards_none }
+    ensures drops { ArePlainStepsWhere IsSound drops_none }
+    ensures replaces { ArePlainStepsWhere IsSound replaces_none }
 {}
 
 /// A run whose steps are all of these kinds, computed: no sentence is broken before any of them, and each is done.

@@ -3,4 +3,4 @@
 
 mod laws;
 
-pub use laws::{own_steps, rows_compute, star_steps};
+pub use laws::{drop_steps, own_steps, rows_compute, star_steps};
