@@ -1,5 +1,7 @@
 -- Clusters whose things show alike stand for the same one heap, where each object, content and result is shown once and no two threads have one number.
-use Rattle.std.proofs.Common.{◌≡◌, ℕ, zero, suc, ◌+◌, ◌≤◌, ◌==◌, ◌&&◌, ◌||◌, not, Bool, true, false, if◌then◌else◌, List, [], ◌∷◌, length, Option, Some, None, option_map, refl, sym, ap, ap₂, subst, ◌∙◌, arith}
+use Rattle.std.proofs.Common.{◌≡◌, ℕ, zero, ◌<◌, suc, ◌+◌, ◌≤◌, ◌==◌, ◌&&◌, ◌||◌, not, Bool, true, false, if◌then◌else◌, List, [], ◌∷◌, length, Option, Some, None, option_map, refl, sym, ap, ap₂, subst, ◌∙◌, arith}
+use Rattle.std.specs.Bool.{⊤}
+use Rattle.fr_store.proofs.Keys.{object_cases}
 use Rattle.std.specs.Prelude.{◌%◌, ◌^◌, slice_get, nat_le}
 use Rattle.fr_base.specs.declared.name.MutexNo.{MutexNo}
 use Rattle.fr_base.specs.declared.name.ObjNo.{ObjNo}
@@ -46,7 +48,26 @@ pub record Once (s : Sight) : Type 0 where
   -- a result, in whatever place, where its thread has ended
   pub ends : (t : ℕ) → tot (λ x. told ones (shown_result s t x)) s.things ≤ tot (has_ended t) s.things
 
-module _ (k c : Cluster) (code : c.code ≡ k.code) (once : Once (sight k)) (alike : CountAlike (sight k) (things_of k) (things_of c)) where
+-- an object that a place passes is seen
+abbrev pub SeenAt : (ObjNo → Bool) → Option Location → Type 0
+SeenAt seen (Some (in_cell o)) = seen o ≡ true
+SeenAt seen l = ⊤
+
+-- so is each one that the place of a lock passes
+abbrev pub LocksSee : (ObjNo → Bool) → Cluster → Type 0
+LocksSee seen k =
+    (t : ℕ) (x : Standing) (w : Lval) → thread_at (threads_in (things_of k)) t ≡ Some x → instr_of (sight k) x ≡ Some (instr.Lock w) → (n : ℕ) → n ≤ w.depth → SeenAt seen (locate (sight k).ground x.thread.number w.slot n)
+
+-- a weight of what counts and of objects that are seen
+abbrev pub Heeds : (ObjNo → Bool) → Sight → (Sign → ℕ) → Type 0
+Heeds seen s w = Counts s w × ((o : ObjNo) (v : Plain) → seen o ≡ false → w (an_object o v) ≡ 0)
+
+abbrev pub HeedAlike : (ObjNo → Bool) → Sight → List Thing → List Thing → Type 0
+HeedAlike seen s a b = (w : Sign → ℕ) → w nothing ≡ 0 → Heeds seen s w → tot (λ x. w (sign_of x)) a ≡ tot (λ x. w (sign_of x)) b
+
+-- where what something names is seen
+module _ (k c : Cluster) (code : c.code ≡ k.code) (once : Once (sight k)) (seen : ObjNo → Bool) (covers : (o : ObjNo) → seen o ≡ false → is_named (sight k) (object_n o) ≡ false) (paths : LocksSee seen k)
+    (alike : HeedAlike seen (sight k) (things_of k) (things_of c)) where
   abbrev a : List Thing
   a = things_of k
 
@@ -60,7 +81,7 @@ module _ (k c : Cluster) (code : c.code ≡ k.code) (once : Once (sight k)) (ali
   s2 = sight c
 
   -- a weight of each side that is one of what is shown
-  carried : (w : Sign → ℕ) → w nothing ≡ 0 → Counts s w → (f f2 : Thing → ℕ) → ((x : Thing) → f x ≡ w (sign_of x)) → ((x : Thing) → f2 x ≡ w (sign_of x)) → tot f a ≡ tot f2 b
+  carried : (w : Sign → ℕ) → w nothing ≡ 0 → Heeds seen s w → (f f2 : Thing → ℕ) → ((x : Thing) → f x ≡ w (sign_of x)) → ((x : Thing) → f2 x ≡ w (sign_of x)) → tot f a ≡ tot f2 b
   carried w z n f f2 e e2 = tot_same f (λ x. w (sign_of x)) e a ∙ alike w z n ∙ sym (tot_same f2 (λ x. w (sign_of x)) e2 b)
 
   -- what is shown first, where it is shown once
@@ -69,7 +90,7 @@ module _ (k c : Cluster) (code : c.code ≡ k.code) (once : Once (sight k)) (ali
       let few2 : tot (λ x. told ones (f2 x)) b ≤ 1 = omega (arith, few, e ones) in
       same_told same_plain plains (first_shown f a) (first_shown f2 b) (λ g. sym (first_told f g a few) ∙ e g ∙ first_told f2 g b few2)
 
-  first_same : (f f2 : Thing → Option Plain) (w : (Plain → ℕ) → Sign → ℕ) → ((g : Plain → ℕ) → w g nothing ≡ 0) → ((g : Plain → ℕ) → Counts s (w g)) → ((g : Plain → ℕ) (x : Thing) → told g (f x) ≡ w g (sign_of x))
+  first_same : (f f2 : Thing → Option Plain) (w : (Plain → ℕ) → Sign → ℕ) → ((g : Plain → ℕ) → w g nothing ≡ 0) → ((g : Plain → ℕ) → Heeds seen s (w g)) → ((g : Plain → ℕ) (x : Thing) → told g (f x) ≡ w g (sign_of x))
       → ((g : Plain → ℕ) (x : Thing) → told g (f2 x) ≡ w g (sign_of x)) → tot (λ x. told ones (f x)) a ≤ 1 → first_shown f a ≡ first_shown f2 b
   first_same f f2 w z n e e2 few = first_by f f2 (λ g. carried (w g) (z g) (n g) (λ x. told g (f x)) (λ x. told g (f2 x)) (e g) (e2 g)) few
 
@@ -88,8 +109,8 @@ module _ (k c : Cluster) (code : c.code ≡ k.code) (once : Once (sight k)) (ali
   number_is t (noted r x) = unnoted (thread_weight ones t) refl (λ u d. refl) x.thread x.state
   number_is t _ = refl
 
-  no_thread_value : (h : ShownThread → ℕ) (t : ℕ) → Counts s (thread_weight h t)
-  no_thread_value h t = no_values s (thread_weight h t) (λ p v. refl) (λ u d. refl) (λ y. refl)
+  no_thread_value : (h : ShownThread → ℕ) (t : ℕ) → Heeds seen s (thread_weight h t)
+  no_thread_value h t = (no_values s (thread_weight h t) (λ p v. refl) (λ u d. refl) (λ y. refl), λ o v e. refl)
 
   numbers_differ : (t : ℕ) → tot (is_thread t) b ≤ 1
   numbers_differ t = omega (arith, once.threads t, carried (thread_weight ones t) refl (no_thread_value ones t) (is_thread t) (is_thread t) (number_is t) (number_is t))
@@ -115,84 +136,81 @@ module _ (k c : Cluster) (code : c.code ≡ k.code) (once : Once (sight k)) (ali
   object_is o g (noted r x) = unnoted (object_weight o g) refl (λ u d. refl) x.thread x.state
   object_is o g _ = refl
 
-  cell_same : (o : ObjNo) → first_shown (cell_value o) a ≡ first_shown (cell_value o) b
-  cell_same o = first_same (cell_value o) (cell_value o) (object_weight o) (λ g. refl) (λ g. no_values s (object_weight o g) (λ p v. refl) (λ u d. refl) (λ y. refl)) (object_is o) (object_is o) (once.cells o)
+  object_heeds : (o : ObjNo) → seen o ≡ true → (g : Plain → ℕ) → Heeds seen s (object_weight o g)
+  object_heeds o there g =
+      (no_values s (object_weight o g) (λ p v. refl) (λ u d. refl) (λ y. refl), λ p v e. object_cases (λ q. if_so q (g v) ≡ 0) p o (λ same. absurd (cc (sym e ∙ ap seen same ∙ there))) (λ ne. refl))
+
+  cell_same : (o : ObjNo) → seen o ≡ true → first_shown (cell_value o) a ≡ first_shown (cell_value o) b
+  cell_same o there = first_same (cell_value o) (cell_value o) (object_weight o) (λ g. refl) (object_heeds o there) (object_is o) (object_is o) (once.cells o)
 
   -- PLACES
 
-  value_same : (l : Location) → option_map plain_value (value_in s.ground l) ≡ option_map plain_value (value_in s2.ground l)
-  value_same (at_slot t i) = slot_shown (thread_at (threads_in a) t) i ∙ ap (λ o. slot_from o i) (thread_same t) ∙ sym (slot_shown (thread_at (threads_in b) t) i)
-  value_same (at_temp t i) = temp_shown (thread_at (threads_in a) t) i ∙ ap (λ o. temp_from o i) (thread_same t) ∙ sym (temp_shown (thread_at (threads_in b) t) i)
-  value_same (in_cell o) =
-      value_shown (cell_of (cells_in a) o) ∙ ap owned_from (cell_found o a ∙ cell_same o ∙ sym (cell_found o b)) ∙ sym (value_shown (cell_of (cells_in b) o))
+  value_same : (l : Location) → SeenAt seen (Some l) → option_map plain_value (value_in s.ground l) ≡ option_map plain_value (value_in s2.ground l)
+  value_same (at_slot t i) p = slot_shown (thread_at (threads_in a) t) i ∙ ap (λ o. slot_from o i) (thread_same t) ∙ sym (slot_shown (thread_at (threads_in b) t) i)
+  value_same (at_temp t i) p = temp_shown (thread_at (threads_in a) t) i ∙ ap (λ o. temp_from o i) (thread_same t) ∙ sym (temp_shown (thread_at (threads_in b) t) i)
+  value_same (in_cell o) p =
+      value_shown (cell_of (cells_in a) o) ∙ ap owned_from (cell_found o a ∙ cell_same o p ∙ sym (cell_found o b)) ∙ sym (value_shown (cell_of (cells_in b) o))
 
-  behind_same : (o : Option Location) → option_map plain_value (value_behind s.ground o) ≡ option_map plain_value (value_behind s2.ground o)
-  behind_same None = refl
-  behind_same (Some l) = value_same l
+  behind_same : (o : Option Location) → SeenAt seen o → option_map plain_value (value_behind s.ground o) ≡ option_map plain_value (value_behind s2.ground o)
+  behind_same None p = refl
+  behind_same (Some l) p = value_same l p
 
-  place_same : (t slot n : ℕ) → locate s.ground t slot n ≡ locate s2.ground t slot n
-  place_same t slot zero = refl
-  place_same t slot (suc n) =
+  place_same : (t slot n : ℕ) → ((m : ℕ) → m < n → SeenAt seen (locate s.ground t slot m)) → locate s.ground t slot n ≡ locate s2.ground t slot n
+  place_same t slot zero p = refl
+  place_same t slot (suc n) p =
       let at : Option Location = locate s.ground t slot n in
-      ap (λ o. leads t (value_behind s.ground o)) (place_same t slot n) ∙ leads_plain t (value_behind s.ground (locate s2.ground t slot n)) ∙ ap (plain_leads t) (behind_same (locate s2.ground t slot n)) ∙ sym (leads_plain t (value_behind s2.ground (locate s2.ground t slot n)))
+      leads_plain t (value_behind s.ground at) ∙ ap (plain_leads t) (behind_same at (p n (omega arith))) ∙ sym (leads_plain t (value_behind s2.ground at)) ∙ ap (λ o. leads t (value_behind s2.ground o)) (place_same t slot n (λ m l. p m (omega (arith, l))))
 
-  mutex_same : (t : ℕ) (w : Lval) → mutex_of (value_at s.ground t w) ≡ mutex_of (value_at s2.ground t w)
-  mutex_same t w =
-      ap (λ o. mutex_of (value_behind s.ground o)) (place_same t w.slot w.depth) ∙ mutex_plain (value_behind s.ground (locate s2.ground t w.slot w.depth)) ∙ ap plain_mutex (behind_same (locate s2.ground t w.slot w.depth))
-      ∙ sym (mutex_plain (value_behind s2.ground (locate s2.ground t w.slot w.depth)))
+  mutex_same : (t : ℕ) (w : Lval) → ((n : ℕ) → n ≤ w.depth → SeenAt seen (locate s.ground t w.slot n)) → mutex_of (value_at s.ground t w) ≡ mutex_of (value_at s2.ground t w)
+  mutex_same t w p =
+      let at : Option Location = locate s.ground t w.slot w.depth in
+      mutex_plain (value_behind s.ground at) ∙ ap plain_mutex (behind_same at (p w.depth (omega arith))) ∙ sym (mutex_plain (value_behind s2.ground at))
+      ∙ ap (λ o. mutex_of (value_behind s2.ground o)) (place_same t w.slot w.depth (λ m l. p m (omega (arith, l))))
 
   -- WHO OWNS A GIFT
 
-  module _ (x y : Standing) (q : shown_of x ≡ shown_of y) where
+  module _ (u : ℕ) (x y : Standing) (there : thread_at (threads_in a) u ≡ Some x) (q : shown_of x ≡ shown_of y) where
     instr_same : instr_of s x ≡ instr_of s2 y
     instr_same = ap₂ (λ (cs : List Instr) i. slice_get cs i) (sym code) (ap (λ (z : ShownThread). z.pc) q)
 
     number_same : x.thread.number ≡ y.thread.number
     number_same = ap (λ (z : ShownThread). z.number) q
 
-    locked_at : (w : Lval) → mutex_of (value_at s.ground x.thread.number w) ≡ mutex_of (value_at s2.ground y.thread.number w)
-    locked_at w = mutex_same x.thread.number w ∙ ap (λ t. mutex_of (value_at s2.ground t w)) number_same
+    locked_at : (w : Lval) → instr_of s x ≡ Some (instr.Lock w) → mutex_of (value_at s.ground x.thread.number w) ≡ mutex_of (value_at s2.ground y.thread.number w)
+    locked_at w e = mutex_same x.thread.number w (paths u x w there e) ∙ ap (λ t. mutex_of (value_at s2.ground t w)) number_same
 
     joined_at : (o : Operand) → task_in (popped o x.thread.temps) ≡ task_in (popped o y.thread.temps)
     joined_at o =
         task_plain (popped o x.thread.temps) ∙ ap plain_task (pop_plain o x.thread.temps ∙ ap (λ (z : ShownThread). popped_plain o z.temps) q ∙ sym (pop_plain o y.thread.temps)) ∙ sym (task_plain (popped o y.thread.temps))
 
-    locked_by : (i : Option Instr) → locked_mutex s x i ≡ locked_mutex s2 y i
-    locked_by (Some (instr.Lock w)) = locked_at w
-    locked_by _ = refl
-
-    joined_by : (i : Option Instr) → joined_thread i x.thread ≡ joined_thread i y.thread
-    joined_by (Some (instr.Join o)) = joined_at o
-    joined_by _ = refl
-
-    owner_by : (i : Option Instr) → gift_owner s x i ≡ gift_owner s2 y i
-    owner_by (Some (instr.Lock w)) = ap content_owner (locked_at w)
-    owner_by (Some (instr.Join o)) = ap result_owner (joined_at o)
-    owner_by _ = refl
+    owner_by : (i : Option Instr) → instr_of s x ≡ i → gift_owner s x i ≡ gift_owner s2 y i
+    owner_by (Some (instr.Lock w)) e = ap content_owner (locked_at w e)
+    owner_by (Some (instr.Join o)) e = ap result_owner (joined_at o)
+    owner_by _ e = refl
 
     gift_owner_same : gift_owner s x (instr_of s x) ≡ gift_owner s2 y (instr_of s2 y)
-    gift_owner_same = owner_by (instr_of s x) ∙ ap (gift_owner s2 y) instr_same
+    gift_owner_same = owner_by (instr_of s x) refl ∙ ap (gift_owner s2 y) instr_same
 
-    spot_by : (i : Option Instr) → gift_spot_at s x i ≡ gift_spot_at s2 y i
-    spot_by (Some (instr.Lock w)) = ap (option_map as_content) (locked_at w)
-    spot_by (Some (instr.Join o)) = ap (option_map as_result) (joined_at o)
-    spot_by _ = refl
+    spot_by : (i : Option Instr) → instr_of s x ≡ i → gift_spot_at s x i ≡ gift_spot_at s2 y i
+    spot_by (Some (instr.Lock w)) e = ap (option_map as_content) (locked_at w e)
+    spot_by (Some (instr.Join o)) e = ap (option_map as_result) (joined_at o)
+    spot_by _ e = refl
 
     gift_spot_same : gift_spot_at s x (instr_of s x) ≡ gift_spot_at s2 y (instr_of s2 y)
-    gift_spot_same = spot_by (instr_of s x) ∙ ap (gift_spot_at s2 y) instr_same
+    gift_spot_same = spot_by (instr_of s x) refl ∙ ap (gift_spot_at s2 y) instr_same
 
   -- what is the same of threads that are shown alike is the same of those that are found
-  by_found : {A : Type 0} (f f2 : Option Standing → A) → f None ≡ f2 None → ((x y : Standing) → shown_of x ≡ shown_of y → f (Some x) ≡ f2 (Some y)) → (t : ℕ) → f (thread_at (threads_in a) t) ≡ f2 (thread_at (threads_in b) t)
-  by_found f f2 z e t = by (thread_at (threads_in a) t) (thread_at (threads_in b) t) (thread_same t)
+  by_found : {A : Type 0} (t : ℕ) (f f2 : Option Standing → A) → f None ≡ f2 None → ((x y : Standing) → thread_at (threads_in a) t ≡ Some x → shown_of x ≡ shown_of y → f (Some x) ≡ f2 (Some y)) → f (thread_at (threads_in a) t) ≡ f2 (thread_at (threads_in b) t)
+  by_found t f f2 z e = by (thread_at (threads_in a) t) (thread_at (threads_in b) t) refl (thread_same t)
     where
-      by : (o p : Option Standing) → option_map shown_of o ≡ option_map shown_of p → f o ≡ f2 p
-      by None None q = z
-      by None (Some y) q = absurd (cc q)
-      by (Some x) None q = absurd (cc q)
-      by (Some x) (Some y) q = e x y (let r : shown_of x ≡ shown_of y = cc in r)
+      by : (o p : Option Standing) → thread_at (threads_in a) t ≡ o → option_map shown_of o ≡ option_map shown_of p → f o ≡ f2 p
+      by None None h q = z
+      by None (Some y) h q = absurd (cc q)
+      by (Some x) None h q = absurd (cc q)
+      by (Some x) (Some y) h q = e x y h (let r : shown_of x ≡ shown_of y = cc in r)
 
   spot_same : (p : Spot) → spot_owner s p ≡ spot_owner s2 p
-  spot_same (as_gift t) = by_found (gift_owner_of s) (gift_owner_of s2) refl gift_owner_same t
+  spot_same (as_gift t) = by_found t (gift_owner_of s) (gift_owner_of s2) refl (gift_owner_same t)
   spot_same (in_slot t i) = refl
   spot_same (in_temp t i) = refl
   spot_same (as_content m) = refl
@@ -200,7 +218,7 @@ module _ (k c : Cluster) (code : c.code ≡ k.code) (once : Once (sight k)) (ali
   spot_same in_hand = refl
 
   places_same : (t : ℕ) → gift_spot s t ≡ gift_spot s2 t
-  places_same t = by_found (gift_spot_of s) (gift_spot_of s2) refl gift_spot_same t
+  places_same t = by_found t (gift_spot_of s) (gift_spot_of s2) refl (gift_spot_same t)
 
   -- WHAT IS IN THE STATE
 
@@ -259,7 +277,7 @@ module _ (k c : Cluster) (code : c.code ≡ k.code) (once : Once (sight k)) (ali
   any_same : (i : ℕ) (n : Node) → any_named s (in_state_by i s) n a ≡ any_named s2 (in_state_by i s) n b
   any_same i n =
       let go = in_state_by i s in
-      any_is s go n a ∙ ap some (carried (named_weight go n) refl (named_counts i n) (named_one s go n) (named_one s2 go n) (named_is s (λ p. refl) go n) (named_is s2 back go n)) ∙ sym (any_is s2 go n b)
+      any_is s go n a ∙ ap some (carried (named_weight go n) refl (named_counts i n, λ o v e. unnamed_none (plain_owns n v) go (object_n o) (unnamed_out s i (object_n o) (covers o e))) (named_one s go n) (named_one s2 go n) (named_is s (λ p. refl) go n) (named_is s2 back go n)) ∙ sym (any_is s2 go n b)
 
   round_same : (i : ℕ) (n : Node) → in_state_by i s n ≡ in_state_by i s2 n
   round_same zero n = refl
@@ -278,17 +296,23 @@ module _ (k c : Cluster) (code : c.code ≡ k.code) (once : Once (sight k)) (ali
   -- OBJECTS AND MUTEXES
 
   object_same : (o : ObjNo) → object_value s o ≡ object_value s2 o
-  object_same o = ap₂ (λ q v. if_in q v) (in_same (object_n o)) (cell_same o)
+  object_same o = by (seen o) refl
+    where
+      by : (q : Bool) → seen o ≡ q → object_value s o ≡ object_value s2 o
+      by true e = ap₂ (λ q v. if_in q v) (in_same (object_n o)) (cell_same o e)
+      by false e =
+          let out : is_in_state s (object_n o) ≡ false = unnamed_out s (length a) (object_n o) (covers o e) in
+          ap (λ q. if_in q (first_shown (cell_value o) a)) out ∙ ap (λ q. if_in q (first_shown (cell_value o) b)) (sym out ∙ in_same (object_n o))
 
   -- by where a value counts, and no gift is without its thread
   abbrev counts_as : Spot → Option Spot
   counts_as (as_gift t) = gift_spot s t
   counts_as p = Some p
 
-  real : (w : Sign → ℕ) → w nothing ≡ 0 → Counts s w → (f f2 : Thing → ℕ) → ((x : Thing) → stray s x ≡ 0 → f x ≡ w (sign_of x)) → ((x : Thing) → stray s2 x ≡ 0 → f2 x ≡ w (sign_of x)) → tot f a ≡ tot f2 b
+  real : (w : Sign → ℕ) → w nothing ≡ 0 → Heeds seen s w → (f f2 : Thing → ℕ) → ((x : Thing) → stray s x ≡ 0 → f x ≡ w (sign_of x)) → ((x : Thing) → stray s2 x ≡ 0 → f2 x ≡ w (sign_of x)) → tot f a ≡ tot f2 b
   real w z n f f2 e e2 = tot_but (stray s) f (λ x. w (sign_of x)) e a (no_stray k once.threads) ∙ alike w z n ∙ sym (tot_but (stray s2) f2 (λ x. w (sign_of x)) e2 b (no_stray c numbers_differ))
 
-  first_real : (f f2 : Thing → Option Plain) (w : (Plain → ℕ) → Sign → ℕ) → ((g : Plain → ℕ) → w g nothing ≡ 0) → ((g : Plain → ℕ) → Counts s (w g)) → ((g : Plain → ℕ) (x : Thing) → stray s x ≡ 0 → told g (f x) ≡ w g (sign_of x))
+  first_real : (f f2 : Thing → Option Plain) (w : (Plain → ℕ) → Sign → ℕ) → ((g : Plain → ℕ) → w g nothing ≡ 0) → ((g : Plain → ℕ) → Heeds seen s (w g)) → ((g : Plain → ℕ) (x : Thing) → stray s x ≡ 0 → told g (f x) ≡ w g (sign_of x))
       → ((g : Plain → ℕ) (x : Thing) → stray s2 x ≡ 0 → told g (f2 x) ≡ w g (sign_of x)) → tot (λ x. told ones (f x)) a ≤ 1 → first_shown f a ≡ first_shown f2 b
   first_real f f2 w z n e e2 few = first_by f f2 (λ g. real (w g) (z g) (n g) (λ x. told g (f x)) (λ x. told g (f2 x)) (e g) (e2 g)) few
 
@@ -327,7 +351,7 @@ module _ (k c : Cluster) (code : c.code ≡ k.code) (once : Once (sight k)) (ali
 
   content_same : (m : MutexNo) → is_named s (mutex_n m) ≡ true → first_shown (content_value s m) a ≡ first_shown (content_value s2 m) b
   content_same m named =
-      first_real (content_value s m) (content_value s2 m) (content_weight m) (λ g. refl) (content_counts m named) (content_is s (λ t. refl) m) (content_is s2 (λ t. sym (places_same t)) m) (once.contents m)
+      first_real (content_value s m) (content_value s2 m) (content_weight m) (λ g. refl) (λ g. (content_counts m named g, λ o v e. refl)) (content_is s (λ t. refl) m) (content_is s2 (λ t. sym (places_same t)) m) (once.contents m)
 
   abbrev share_weight : MutexNo → Sign → ℕ
   share_weight m (a_value p v) = if_so (plain_owns (mutex_n m) v) (one (owner_in (is_in_state s) (spot_owner s p)))
@@ -352,7 +376,7 @@ module _ (k c : Cluster) (code : c.code ≡ k.code) (once : Once (sight k)) (ali
   shares_same : (m : MutexNo) → tot (share_in s m) a ≡ tot (share_in s2 m) b
   shares_same m =
       carried (share_weight m) refl
-      (by_owner (λ v o. if_so (plain_owns (mutex_n m) v) (one (owner_in (is_in_state s) o))) (λ v. none_if (plain_owns (mutex_n m) v)) (λ n v e. unowned (plain_owns (mutex_n m) v) (is_in_state s n) (unnamed_out s (length a) n e)) (λ o. refl) (share_weight m) (λ p v. refl) (λ t d. refl) (λ y q. refl)) (share_in s m) (share_in s2 m) (share_is s (λ p. refl) (λ n. refl) m) (share_is s2 back (λ n. sym (in_same n)) m)
+      (by_owner (λ v o. if_so (plain_owns (mutex_n m) v) (one (owner_in (is_in_state s) o))) (λ v. none_if (plain_owns (mutex_n m) v)) (λ n v e. unowned (plain_owns (mutex_n m) v) (is_in_state s n) (unnamed_out s (length a) n e)) (λ o. refl) (share_weight m) (λ p v. refl) (λ t d. refl) (λ y q. refl), λ o v e. unowned (plain_owns (mutex_n m) v) (is_in_state s (object_n o)) (unnamed_out s (length a) (object_n o) (covers o e))) (share_in s m) (share_in s2 m) (share_is s (λ p. refl) (λ n. refl) m) (share_is s2 back (λ n. sym (in_same n)) m)
 
   mutexes_same : (m : MutexNo) → (one_heap k).mutex m ≡ (one_heap c).mutex m
   mutexes_same m = by (is_named s (mutex_n m)) refl
@@ -408,7 +432,7 @@ module _ (k c : Cluster) (code : c.code ≡ k.code) (once : Once (sight k)) (ali
   }
 
   held_sums : (t : ℕ) → tot (held_branch t) a ≡ tot (held_branch t) b
-  held_sums t = carried (branch_weight t) refl (branch_counts t) (held_branch t) (held_branch t) (branch_is t) (branch_is t)
+  held_sums t = carried (branch_weight t) refl (branch_counts t, λ o v e. refl) (held_branch t) (held_branch t) (branch_is t) (branch_is t)
 
   held_same : (t : ℕ) → is_held s t ≡ is_held s2 t
   held_same t = ap some (held_sums t)
@@ -477,7 +501,7 @@ module _ (k c : Cluster) (code : c.code ≡ k.code) (once : Once (sight k)) (ali
 
   result_sums : (t : ℕ) → owed t ≡ true → (g : Plain → ℕ) → tot (λ x. told g (shown_result s t x)) a ≡ tot (λ x. told g (shown_result s2 t x)) b
   result_sums t some_owe g =
-      real (result_weight t g) refl (result_counts t some_owe g) (λ x. told g (shown_result s t x)) (λ x. told g (shown_result s2 t x)) (result_is s (λ u. refl) t g) (result_is s2 (λ u. sym (places_same u)) t g)
+      real (result_weight t g) refl (result_counts t some_owe g, λ o v e. refl) (λ x. told g (shown_result s t x)) (λ x. told g (shown_result s2 t x)) (result_is s (λ u. refl) t g) (result_is s2 (λ u. sym (places_same u)) t g)
 
   ended_there : (t : ℕ) (x : Thing) → has_ended t x ≤ is_thread t x
   ended_there t (stands r p x) = at_most_one (x.number == t) (not (x.number == 0) && is_over x.phase)
@@ -536,9 +560,9 @@ module _ (k c : Cluster) (code : c.code ≡ k.code) (once : Once (sight k)) (ali
   going_same (suc t) p z = ap (λ q. if not q then loose p else owing p) (still_going (suc t) z)
 
   life_by : (x y : Standing) → tot (has_ended x.thread.number) a ≤ one (is_over x.thread.phase) → shown_of x ≡ shown_of y → (q : Bool) → is_over x.thread.phase ≡ q → life_of s x.thread q ≡ life_of s2 y.thread q
-  life_by x y ends e true over = ap ended_with (result_same x.thread.number ∙ ap (result_of s2) (number_same x y e))
+  life_by x y ends e true over = ap ended_with (result_same x.thread.number ∙ ap (result_of s2) (ap (λ (z : ShownThread). z.number) e))
   life_by x y ends e false over =
-      going_same x.thread.number (running_at x.thread) (let none : one (is_over x.thread.phase) ≡ 0 = ap one over in omega (arith, ends, none)) ∙ ap₂ (going_on s2) (number_same x y e) (ap (λ (z : ShownThread). code_running z.pc z.temps z.slots) e)
+      going_same x.thread.number (running_at x.thread) (let none : one (is_over x.thread.phase) ≡ 0 = ap one over in omega (arith, ends, none)) ∙ ap₂ (going_on s2) (ap (λ (z : ShownThread). z.number) e) (ap (λ (z : ShownThread). code_running z.pc z.temps z.slots) e)
 
   -- a found thread that isn't main has ended where it is over
   ended_found : (t : ℕ) → tot (has_ended t) a ≤ told (λ z. one (is_over z.thread.phase)) (thread_at (threads_in a) t)
@@ -594,20 +618,31 @@ module _ (k c : Cluster) (code : c.code ≡ k.code) (once : Once (sight k)) (ali
   given_same t =
       let h = home_of t in
       let n = t % 2 ^ 32 in
-      ap (λ m. t == 0 || (not (n == 0) && some m)) (carried (started_weight h n) refl (no_values s (started_weight h n) (λ p v. refl) (λ u d. refl) (λ y. refl)) (started_at h n) (started_at h n) (started_is h n) (started_is h n))
+      ap (λ m. t == 0 || (not (n == 0) && some m)) (carried (started_weight h n) refl (no_values s (started_weight h n) (λ p v. refl) (λ u d. refl) (λ y. refl), λ o v e. refl) (started_at h n) (started_at h n) (started_is h n) (started_is h n))
 
   mutex_given : (m : MutexNo) → is_given_mutex s m ≡ is_given_mutex s2 m
-  mutex_given m = ap (λ n. not (m.count == 0) && some n) (carried (made_weight m.home m.count) refl (no_values s (made_weight m.home m.count) (λ p v. refl) (λ u d. refl) (λ y. refl)) (made_at m.home m.count) (made_at m.home m.count) (made_is m.home m.count) (made_is m.home m.count))
+  mutex_given m = ap (λ n. not (m.count == 0) && some n) (carried (made_weight m.home m.count) refl (no_values s (made_weight m.home m.count) (λ p v. refl) (λ u d. refl) (λ y. refl), λ o v e. refl) (made_at m.home m.count) (made_at m.home m.count) (made_is m.home m.count) (made_is m.home m.count))
 
-  pub counts_same_heap : SameState (one_heap c) (one_heap k)
-  counts_same_heap = record {
+  pub heeds_same_heap : SameState (one_heap c) (one_heap k)
+  heeds_same_heap = record {
     threads = λ t. sym (ap₂ if_given (given_same t) (life_same t));
-    made = λ t. sym (by_found made_of made_of refl (λ x y e. ap (λ (z : ShownThread). if z.is_over then 0 else z.made) e) t);
-    pairs = λ t. sym (by_found pair_of pair_of refl (λ x y e. ap (λ (z : ShownThread). z.pair) e) t);
+    made = λ t. sym (by_found t made_of made_of refl (λ x y h e. ap (λ (z : ShownThread). if z.is_over then 0 else z.made) e));
+    pairs = λ t. sym (by_found t pair_of pair_of refl (λ x y h e. ap (λ (z : ShownThread). z.pair) e));
     objects = λ o. sym (object_same o);
     mutexes = λ m. sym (mutexes_same m);
     given = λ m. sym (mutex_given m);
   }
+
+-- where objects count that nothing names
+pub counts_same_heap : (k c : Cluster) → c.code ≡ k.code → Once (sight k) → CountAlike (sight k) (things_of k) (things_of c) → SameState (one_heap c) (one_heap k)
+counts_same_heap k c code once alike =
+    heeds_same_heap k c code once (λ o. true) (λ o e. absurd (cc e)) (λ t x w h e n l. all_seen (locate (sight k).ground x.thread.number w.slot n)) (λ w z n. alike w z n.0)
+  where
+    all_seen : (l : Option Location) → SeenAt (λ o. true) l
+    all_seen None = tt
+    all_seen (Some (at_slot t i)) = tt
+    all_seen (Some (at_temp t i)) = tt
+    all_seen (Some (in_cell o)) = refl
 
 -- where all that is shown is the same, whatever counts is
 pub same_heap : (k c : Cluster) → c.code ≡ k.code → Once (sight k) → ShowAlike (things_of k) (things_of c) → SameState (one_heap c) (one_heap k)

@@ -19,6 +19,7 @@ pub mod Given
 pub mod Unnamed
 pub mod Back
 pub mod Ended
+pub mod Drops
 pub mod StillKinds
 pub mod Prepares
 pub mod Undone

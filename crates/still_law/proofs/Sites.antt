@@ -25,7 +25,7 @@ use Rattle.event_law.proofs.Events.{tot-server}
 use Rattle.event_law.proofs.Applied.{go_with}
 use Rattle.event_law.proofs.Handing.{hand_over_newer_law}
 use Rattle.event_law.proofs.Sending.{each_event_sends}
-use Rattle.still_law.specs.Shows.{Sign, nothing, sign_of, Counts, ShowAlike, CountAlike}
+use Rattle.still_law.specs.Shows.{Sign, nothing, sign_of, Counts, ShowAlike}
 use Rattle.still_law.specs.Laws.{LeavesHeap}
 use Rattle.still_law.proofs.Alike.{Once, counts_same_heap}
 
@@ -104,29 +104,42 @@ sends gone hand r w target m s e = record {
 
 -- A SERVER AND ITS CLUSTER
 
+-- weights of one class have the same sums over both
+abbrev pub AlikeBy : ((Sign → ℕ) → Type 0) → List Thing → List Thing → Type 0
+AlikeBy Class a b = (w : Sign → ℕ) → w nothing ≡ 0 → Class w → shown w a ≡ shown w b
+
 -- all that counts in cluster k is shown by the server afterwards
 abbrev pub ServerStill : Cluster → Server → Server × EntryView → Type 0
-ServerStill k s r = CountAlike (sight k) (server_things s) (server_things r.0)
+ServerStill k s r = AlikeBy (Counts (sight k)) (server_things s) (server_things r.0)
 
--- in cluster k what a message has counts as what goes into a site, less what is beside the site afterwards
-abbrev pub CountsAs : Cluster → List Thing → List Thing → List Thing → Type 0
-CountsAs k has gone hand = (w : Sign → ℕ) → w nothing ≡ 0 → Counts (sight k) w → shown w has + shown w hand ≡ shown w gone
+-- what a message has counts as what goes into a site, less what is beside the site afterwards
+abbrev pub CountsAs : ((Sign → ℕ) → Type 0) → List Thing → List Thing → List Thing → Type 0
+CountsAs Class has gone hand = (w : Sign → ℕ) → w nothing ≡ 0 → Class w → shown w has + shown w hand ≡ shown w gone
 
 -- so a site takes a message, or the rest of a server does
-pub record Takes (k : Cluster) (has : List Thing) (x y : Site) : Type 0 where
+pub record TakesBy (Class : (Sign → ℕ) → Type 0) (has : List Thing) (x y : Site) : Type 0 where
   pub gone : List Thing
   pub hand : List Thing
   pub leaves : Leaves gone hand x y
-  pub counts : CountsAs k has gone hand
+  pub counts : CountsAs Class has gone hand
 
-pub record RestTakes (k : Cluster) (has : List Thing) (r r2 : Rest) : Type 0 where
+pub record RestTakesBy (Class : (Sign → ℕ) → Type 0) (has : List Thing) (r r2 : Rest) : Type 0 where
   pub gone : List Thing
   pub hand : List Thing
   pub moves : Moves gone hand r r2
-  pub counts : CountsAs k has gone hand
+  pub counts : CountsAs Class has gone hand
+
+abbrev pub Takes : Cluster → List Thing → Site → Site → Type 0
+Takes k has x y = TakesBy (Counts (sight k)) has x y
+
+abbrev pub RestTakes : Cluster → List Thing → Rest → Rest → Type 0
+RestTakes k has r r2 = RestTakesBy (Counts (sight k)) has r r2
+
+pub site_takes_by : (Class : (Sign → ℕ) → Type 0) (has : List Thing) (x : Site) (y : Work) → RestTakesBy Class has x.work.rest y.rest → TakesBy Class has x (record x { work = y })
+site_takes_by Class has x y s = record { gone = s.gone; hand = s.hand; leaves = beside_leaves s.gone s.hand x y s.moves; counts = s.counts }
 
 pub site_takes : (k : Cluster) (has : List Thing) (x : Site) (y : Work) → RestTakes k has x.work.rest y.rest → Takes k has x (record x { work = y })
-site_takes k has x y s = record { gone = s.gone; hand = s.hand; leaves = beside_leaves s.gone s.hand x y s.moves; counts = s.counts }
+site_takes k has x y s = site_takes_by (Counts (sight k)) has x y s
 
 pub beside_takes : (k : Cluster) (has : List Thing) (f : Work → Option Work) (x : Site) → Gives (λ (w : Work). RestTakes k has x.work.rest w.rest) (f x.work) → Gives (Takes k has x) (beside_threads f x)
 beside_takes k has f x g =
@@ -140,15 +153,16 @@ pub takes_all : (k : Cluster) (has : List Thing) (r r2 : Rest) → Moves has [] 
 takes_all k has r r2 e = record { gone = has; hand = []; moves = e; counts = λ w z c. omega arith }
 
 -- a delivery: the message and what it carries are beside the site
-pub deliveries_by : (k : Cluster) (s : Server) (i : ℕ) (m : Message) → slice_get s.rest.inbox i ≡ Some m → Gives (Takes k (message_things s.rest.number m) (received i s)) (deliver_message k.code m (received i s))
-    → Gives (ServerStill k s) (does k.code k.options s (Deliver i))
-deliveries_by k s i m q g =
-    over_gives Taken (ServerStill k s) (deliver k.code i s) (left_by s.events None None) (subst (λ o. Gives Taken (then_some o (λ y. deliver_message k.code y (received i s)))) (sym q) g) still
+pub deliveries_in : (Class : (Sign → ℕ) → Type 0) (k : Cluster) (s : Server) (i : ℕ) (m : Message) → slice_get s.rest.inbox i ≡ Some m
+    → Gives (TakesBy Class (message_things s.rest.number m) (received i s)) (deliver_message k.code m (received i s)) → Gives (λ r. AlikeBy Class (server_things s) (server_things r.0)) (does k.code k.options s (Deliver i))
+deliveries_in Class k s i m q g =
+    over_gives Taken (λ r. AlikeBy Class (server_things s) (server_things r.0)) (deliver k.code i s) (left_by s.events None None)
+    (subst (λ o. Gives Taken (then_some o (λ y. deliver_message k.code y (received i s)))) (sym q) g) still
   where
     Taken : Site → Type 0
-    Taken x = Takes k (message_things s.rest.number m) (received i s) x
+    Taken x = TakesBy Class (message_things s.rest.number m) (received i s) x
 
-    still : (x : Site) → Taken x → ServerStill k s (left_by s.events None None x)
+    still : (x : Site) → Taken x → AlikeBy Class (server_things s) (server_things (left_by s.events None None x).0)
     still x e w z c =
         let f : Thing → ℕ = λ x. w (sign_of x) in
         let n = s.rest.number in
@@ -169,15 +183,19 @@ deliveries_by k s i m q g =
           tot-append f e.hand (site_things x),
         )
 
+pub deliveries_by : (k : Cluster) (s : Server) (i : ℕ) (m : Message) → slice_get s.rest.inbox i ≡ Some m → Gives (Takes k (message_things s.rest.number m) (received i s)) (deliver_message k.code m (received i s))
+    → Gives (ServerStill k s) (does k.code k.options s (Deliver i))
+deliveries_by k s i m q g = deliveries_in (Counts (sight k)) k s i m q g
+
 pub deliveries : (k : Cluster) (s : Server) (i : ℕ) (m : Message) → slice_get s.rest.inbox i ≡ Some m → Gives (Still (message_things s.rest.number m) (received i s)) (deliver_message k.code m (received i s))
     → Gives (ServerStill k s) (does k.code k.options s (Deliver i))
 deliveries k s i m q g =
     deliveries_by k s i m q (weaker (Still (message_things s.rest.number m) (received i s)) (Takes k (message_things s.rest.number m) (received i s)) (deliver_message k.code m (received i s)) g (λ x e. all_taken k (message_things s.rest.number m) (received i s) x e))
 
 -- what shows alike at its server, where the entry is of that sort, leaves the one heap
-module _ (Sort : EntryView → Type 0) where
-  abbrev StillThere : Cluster → Server → Server × EntryView → Type 0
-  StillThere k s r = Sort r.1 → ServerStill k s r
+module _ (Sort : EntryView → Type 0) (Class : (Sign → ℕ) → Type 0) where
+  abbrev StillThere : Server → Server × EntryView → Type 0
+  StillThere s r = Sort r.1 → AlikeBy Class (server_things s) (server_things r.0)
 
   abbrev Goes : Cluster → Event → Server → Server × EntryView → Type 0
   Goes k e s r = GoTo (with_server k.servers e.server r.0) (drop (length s.rest.outbox) r.0.rest.outbox)
@@ -185,8 +203,8 @@ module _ (Sort : EntryView → Type 0) where
   abbrev SameHeap : Cluster → Cluster × EntryView → Type 0
   SameHeap k d = Sort d.1 → SameState (one_heap d.0) (one_heap k)
 
-  handed_alike : (k : Cluster) (e : Event) (s : Server) → server_at k.servers e.server ≡ Some s → (r : Server × EntryView) → Goes k e s r → ServerStill k s r
-      → CountAlike (sight k) (things_of k) (servers_things (hand_over_newer e.server (length s.rest.outbox) r.0 k.servers))
+  handed_alike : (k : Cluster) (e : Event) (s : Server) → server_at k.servers e.server ≡ Some s → (r : Server × EntryView) → Goes k e s r → AlikeBy Class (server_things s) (server_things r.0)
+      → AlikeBy Class (things_of k) (servers_things (hand_over_newer e.server (length s.rest.outbox) r.0 k.servers))
   handed_alike k e s here r go u w z c =
       let f : Thing → ℕ = λ x. w (sign_of x) in
       let older = length s.rest.outbox in
@@ -194,16 +212,20 @@ module _ (Sort : EntryView → Type 0) where
       let goes = go_with k.servers e.server r.0 (take older r.0.rest.outbox) (drop older r.0.rest.outbox) go in
       omega (arith, hand_over_newer_law f e.server older s r.0 k.servers here goes, t.0, t.1, u w z c)
 
-  pub leaves_heap_where : ((k : Cluster) → IsSound k → Once (sight k)) → (k : Cluster) (e : Event) → IsSound k → FewEvents k
-      → ((s : Server) → server_at k.servers e.server ≡ Some s → enabled k.options s e.what ≡ true → Gives (StillThere k s) (does k.code k.options s e.what)) → Gives (SameHeap k) (apply k e)
-  leaves_heap_where once k e sound few go =
+  pub leaves_heap_by : (k : Cluster) (e : Event) → IsSound k → FewEvents k → ((c : Cluster) → c.code ≡ k.code → AlikeBy Class (things_of k) (things_of c) → SameState (one_heap c) (one_heap k))
+      → ((s : Server) → server_at k.servers e.server ≡ Some s → enabled k.options s e.what ≡ true → Gives (StillThere s) (does k.code k.options s e.what)) → Gives (SameHeap k) (apply k e)
+  leaves_heap_by k e sound few same go =
       then_gives (SameHeap k) (server_at k.servers e.server) _ (λ s here.
-      over_gives (λ r. Goes k e s r × StillThere k s r) (SameHeap k) (done_at k e.what s) _
-      (both_give (Goes k e s) (StillThere k s) (λ r. Goes k e s r × StillThere k s r) (done_at k e.what s) (each_event_sends k e sound few s here) (test_gives (StillThere k s) (enabled k.options s e.what) (does k.code k.options s e.what) (λ on. go s here on)) (λ r a b. (a, b)))
-      (λ r u sort. counts_same_heap k (record k { servers = hand_over_newer e.server (length s.rest.outbox) r.0 k.servers }) refl (once k sound) (handed_alike k e s here r u.0 (u.1 sort))))
+      over_gives (λ r. Goes k e s r × StillThere s r) (SameHeap k) (done_at k e.what s) _
+      (both_give (Goes k e s) (StillThere s) (λ r. Goes k e s r × StillThere s r) (done_at k e.what s) (each_event_sends k e sound few s here) (test_gives (StillThere s) (enabled k.options s e.what) (does k.code k.options s e.what) (λ on. go s here on)) (λ r a b. (a, b)))
+      (λ r u sort. same (record k { servers = hand_over_newer e.server (length s.rest.outbox) r.0 k.servers }) refl (handed_alike k e s here r u.0 (u.1 sort))))
+
+pub leaves_heap_where : (Sort : EntryView → Type 0) → ((k : Cluster) → IsSound k → Once (sight k)) → (k : Cluster) (e : Event) → IsSound k → FewEvents k
+    → ((s : Server) → server_at k.servers e.server ≡ Some s → enabled k.options s e.what ≡ true → Gives (λ r. Sort r.1 → ServerStill k s r) (does k.code k.options s e.what)) → Gives (λ d. Sort d.1 → SameState (one_heap d.0) (one_heap k)) (apply k e)
+leaves_heap_where Sort once k e sound few go = leaves_heap_by Sort (Counts (sight k)) k e sound few (λ c code alike. counts_same_heap k c code (once k sound) alike) go
 
 pub leaves_heap : ((k : Cluster) → IsSound k → Once (sight k)) → (k : Cluster) (e : Event) → IsSound k → FewEvents k
     → ((s : Server) → server_at k.servers e.server ≡ Some s → enabled k.options s e.what ≡ true → Gives (ServerStill k s) (does k.code k.options s e.what)) → LeavesHeap k e
 leaves_heap once k e sound few go =
-    weaker (SameHeap (λ r. ⊤) k) (λ (d : Cluster × EntryView). SameState (one_heap d.0) (one_heap k)) (apply k e)
-    (leaves_heap_where (λ r. ⊤) once k e sound few (λ s here on. weaker (ServerStill k s) (StillThere (λ r. ⊤) k s) (does k.code k.options s e.what) (go s here on) (λ r u sort. u))) (λ d u. u tt)
+    weaker (λ (d : Cluster × EntryView). ⊤ → SameState (one_heap d.0) (one_heap k)) (λ (d : Cluster × EntryView). SameState (one_heap d.0) (one_heap k)) (apply k e)
+    (leaves_heap_where (λ r. ⊤) once k e sound few (λ s here on. weaker (ServerStill k s) (λ r. ⊤ → ServerStill k s r) (does k.code k.options s e.what) (go s here on) (λ r u sort. u))) (λ d u. u tt)

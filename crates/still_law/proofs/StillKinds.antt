@@ -78,7 +78,7 @@ no_step instr.ParEnd p = p
 no_step (instr.End o) p = p
 
 module _ (k : Cluster) (sound : IsSound k) (number : ℕ) (s : Server) (here : server_at k.servers number ≡ Some s) where
-  message_still : (i : ℕ) (m : Message) → slice_get s.rest.inbox i ≡ Some m → IsStill (message_kind m) → Gives (ServerStill k s) (does k.code k.options s (Deliver i))
+  pub message_still : (i : ℕ) (m : Message) → slice_get s.rest.inbox i ≡ Some m → IsStill (message_kind m) → Gives (ServerStill k s) (does k.code k.options s (Deliver i))
   message_still i (message.Fetch w o a t) q p = fetches k s i w o a t q
   message_still i (message.Start t) q p = new_threads k s i t q
   message_still i (message.Migrate t) q p = parcels k s i t q

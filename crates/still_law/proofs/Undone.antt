@@ -175,7 +175,7 @@ module _ (k : Cluster) (sound : IsSound k) (number : ℕ) (s : Server) (here : s
   abbrev Then : Server × EntryView → Type 0
   Then r = r.1.done ≡ None → ServerStill k s r
 
-  steps : Gives Then (does k.code k.options s (Step t))
+  pub steps : Gives Then (does k.code k.options s (Step t))
   steps = by (thread_in s.threads t) refl
     where
       by : (o : Option ThreadState) → thread_in s.threads t ≡ o

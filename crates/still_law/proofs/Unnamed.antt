@@ -28,7 +28,7 @@ use Rattle.still_law.specs.Shows.{is_named, held_branch, is_held}
 -- WEIGHTS OF NAMES
 
 -- of two weights together
-two_at_most : (f g h : Thing → ℕ) → ((x : Thing) → f x + g x ≤ h x) → (b : List Thing) → tot f b + tot g b ≤ tot h b
+pub two_at_most : (f g h : Thing → ℕ) → ((x : Thing) → f x + g x ≤ h x) → (b : List Thing) → tot f b + tot g b ≤ tot h b
 two_at_most f g h e [] = omega arith
 two_at_most f g h e (x ∷ b) = omega (arith, e x, two_at_most f g h e b)
 

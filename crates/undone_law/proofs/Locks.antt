@@ -1,0 +1,72 @@
+-- In a coherent cluster the place of a lock passes objects of the one heap alone, and each of these is named by something.
+use Rattle.std.proofs.Common.{◌≡◌, ℕ, ◌+◌, ◌≤◌, Bool, true, false, length, Option, Some, None, is_some, refl, sym, ap, subst, ◌∙◌, arith}
+use Rattle.fr_base.specs.declared.name.ObjNo.{ObjNo}
+use Rattle.fr_base.specs.declared.label.Plain.{Plain}
+use Rattle.fr_base.specs.declared.place.Lval.{Lval}
+use Rattle.fr_base.specs.declared.instruction.Instr.{Instr}
+use Rattle.fr_base.specs.declared.instruction.Instr.TheVariants as instr
+use Rattle.fr_store.specs.Store.{Val}
+use Rattle.fr_sound.specs.Seen.{seen_cell}
+use Rattle.thread_state.specs.View.{is_over}
+use Rattle.server_model.specs.Servers.{Cluster}
+use Rattle.heap_law.specs.Names.{other, if_so, one}
+use Rattle.heap_law.specs.Things.{Location, at_slot, at_temp, in_cell, things_of}
+use Rattle.heap_law.specs.Follow.{Standing, threads_in, thread_at, locate}
+use Rattle.heap_law.specs.Sight.{sight}
+use Rattle.heap_law.specs.Walking.{instr_of}
+use Rattle.heap_law.specs.Rooted.{dressed, is_end}
+use Rattle.heap_law.specs.OneHeap.{object_n, if_in, is_in_state, object_value, first_shown, cell_value}
+use Rattle.path_law.specs.HeapStore.{GoesOn, HasPaths}
+use Rattle.path_law.proofs.Alike.{leads_in_heap, heap_of_shown}
+use Rattle.path_law.proofs.Contained.{among_thread}
+use Rattle.path_law.proofs.Forms.{none_of}
+use Rattle.still_law.specs.Shows.{is_named}
+use Rattle.still_law.proofs.Counting.{unnamed_out}
+use Rattle.still_law.proofs.Alike.{SeenAt, LocksSee}
+use Rattle.still_law.proofs.Drops.{named}
+
+module _ (k : Cluster) (c : HasPaths k) where
+  -- what is in the one heap is named
+  in_heap : (o : ObjNo) (p : Option Plain) → object_value (sight k) o ≡ p → is_some p ≡ true → named k o ≡ true
+  in_heap o p e there = by (named k o) refl
+    where
+      nothing : (q : Bool) → q ≡ false → if_in q (first_shown (cell_value o) (sight k).things) ≡ None
+      nothing q f = ap (λ b. if_in b (first_shown (cell_value o) (sight k).things)) f
+
+      by : (q : Bool) → named k o ≡ q → q ≡ true
+      by true f = refl
+      by false f =
+          let out : object_value (sight k) o ≡ None = nothing (is_in_state (sight k) (object_n o)) (unnamed_out (sight k) (length (sight k).things) (object_n o) f) in
+          absurd (cc (sym there ∙ ap is_some (sym e ∙ out)))
+
+  -- a thread at a lock goes on
+  goes_on : (x : Standing) (w : Lval) → instr_of (sight k) x ≡ Some (instr.Lock w) → dressed (sight k) x ≡ 0 → is_over x.thread.phase ≡ false
+  goes_on x w at none = by (is_over x.thread.phase) refl
+    where
+      by : (q : Bool) → is_over x.thread.phase ≡ q → q ≡ false
+      by false e = refl
+      by true e =
+          let all = sym (ap (λ b. if_so b (other (is_end (instr_of (sight k) x)) + length x.thread.slots + length x.thread.temps + one (is_some x.thread.gift))) e) ∙ none in
+          let ends : other (is_end (instr_of (sight k) x)) ≡ 1 = ap (λ i. other (is_end i)) at in
+          absurd (omega (arith, all, ends))
+
+  pub locks_see : LocksSee (named k) k
+  locks_see t x w there at n within = by (locate (sight k).ground x.thread.number w.slot n) refl
+    where
+      goes : GoesOn k x
+      goes =
+          let among = (among_thread (threads_in (things_of k)) t x there).0 in
+          record { among = among; going = goes_on x w at (none_of (dressed (sight k)) x (sight k).ground.threads c.over_are_bare among) }
+
+      by : (l : Option Location) → locate (sight k).ground x.thread.number w.slot n ≡ l → SeenAt (named k) l
+      by None e = tt
+      by (Some (at_slot u i)) e = tt
+      by (Some (at_temp u i)) e = tt
+      by (Some (in_cell o)) e =
+          let shown = leads_in_heap k c x goes w.slot n (in_cell o) e in
+          let value = heap_of_shown k c x goes o shown.1 in
+          seen (object_value (sight k) o) refl value.1
+        where
+          seen : (p : Option Plain) → object_value (sight k) o ≡ p → {v : Val} → seen_cell c.types.typing.gives p ≡ Some v → named k o ≡ true
+          seen None q r = absurd (cc r)
+          seen (Some v) q r = in_heap o (Some v) q refl
