@@ -15,3 +15,5 @@ pub mod Reading
 pub mod Starred
 pub mod Found
 pub mod Readers
+pub mod Borrowing
+pub mod Lending

@@ -32,3 +32,10 @@ pub fn steps_that_read()
     ensures dups { StepsHaveResults step_dup Anyhow }
     ensures locks { StepsHaveResults step_lock Anyhow }
 {}
+
+/// So has each borrow, with however many stars. The pointer that the last star follows is there. At a shared borrow a changed mutable reference is cleaned: it
+/// gets the next colour or a new address, or its object is asked for; at a mutable one that pointer isn't shared, and its object is here, came or is asked for.
+pub fn steps_that_borrow()
+    ensures shared { StepsHaveResults step_borrow Anyhow }
+    ensures mutable { StepsHaveResults step_borrow_mut Anyhow }
+{}

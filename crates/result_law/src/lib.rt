@@ -3,4 +3,4 @@
 
 mod laws;
 
-pub use laws::{steps_of_variables, steps_that_read};
+pub use laws::{steps_of_variables, steps_that_borrow, steps_that_read};
