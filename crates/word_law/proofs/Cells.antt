@@ -219,7 +219,7 @@ module _ (a b : Cluster) (n g w : ℕ) (c : Cell) (p : BoxPtr) (boxed : c.value 
 
 -- THE STEP
 
-looked : (p : PartitionState) (w : ℕ) (c : Cell) → look p w ≡ Some c → cell_under p w ≡ Some c
+pub looked : (p : PartitionState) (w : ℕ) (c : Cell) → look p w ≡ Some c → cell_under p w ≡ Some c
 looked p w c e = by (leads_here p w) e
   where
     by : (b : Bool) → (if b then cell_under p w else None) ≡ Some c → cell_under p w ≡ Some c

@@ -16,7 +16,7 @@ use Rattle.thread_state.specs.declared.value.Value.TheVariants as value
 use Rattle.server_model.specs.Servers.{Cluster}
 use Rattle.server_model.specs.Work.{Hand, then_some}
 use Rattle.server_model.specs.NewWords.{issue_tint}
-use Rattle.server_model.specs.Places.{in_slot as spot_slot, put_slot, took, with_word, put_word}
+use Rattle.server_model.specs.Places.{in_slot as spot_slot, put_slot, took, with_word, set_pointer, put_word}
 use Rattle.heap_law.specs.Names.{Among}
 use Rattle.heap_law.specs.Things.{Location, at_slot, at_temp, in_cell, Thing, lies, thread_things, things_of}
 use Rattle.heap_law.specs.Follow.{Standing, threads_in, thread_at, cells_in, cell_of, slot_of, temp_of, value_of, value_in}
@@ -28,7 +28,7 @@ use Rattle.path_law.proofs.Sole.{some_is}
 use Rattle.path_law.proofs.Origins.{threads_joined, among_first, among_second}
 use Rattle.path_law.proofs.Contained.{rest_none}
 use Rattle.word_law.specs.Reworded.{HasPlaces, is_loose, turn_of, Renewed, LiesThere, Reworded}
-use Rattle.word_law.specs.PutBack.{put_in, StandsHere, TintRewords}
+use Rattle.word_law.specs.PutBack.{put_in, StandsHere, SlotsReword, TintRewords}
 use Rattle.word_law.proofs.Grounds.{renews}
 use Rattle.word_law.proofs.Put.{Split, put_split}
 use Rattle.word_law.proofs.Slots.{set_same, set_other, cells_joined, thread_replaced, turns_replaced, among_replaced, thread_cells, lying_in, fixed_old, fixed_new, loose_after, loose_before}
@@ -45,19 +45,19 @@ pub record SlotPut (h h2 : Hand) (i w : ℕ) (v : Value) : Type 0 where
   pub thread : h2.thread ≡ (with_slot i new h).thread
   pub rest : h2.work.rest ≡ h.work.rest
 
-pub slot_put : (h h2 : Hand) (i : ℕ) (v : Value) (p : BoxPtr) → slice_get h.thread.slots i ≡ Some v → put_word (spot_slot i) (issue_tint p h.work) h ≡ Some h2 → SlotPut h h2 i (next_word p.word) v
-slot_put h h2 i v p at e = by (with_word (next_word p.word) v) refl (subst (λ o. then_some o (λ u. then_some (with_word (next_word p.word) u) (λ new. put_slot i new h3)) ≡ Some h2) at e)
+pub word_put : (h h2 : Hand) (i w : ℕ) (v : Value) → slice_get h.thread.slots i ≡ Some v → set_pointer (spot_slot i) w h ≡ Some h2 → SlotPut h h2 i w v
+word_put h h2 i w v at e = by (with_word w v) refl (subst (λ o. then_some o (λ u. then_some (with_word w u) (λ new. put_slot i new h)) ≡ Some h2) at e)
   where
-    h3 : Hand
-    h3 = record h { work = (issue_tint p h.work).work }
-
-    tested : (new : Value) → with_word (next_word p.word) v ≡ Some new → (b : Bool) → (if b then Some (with_slot i new h3) else None) ≡ Some h2 → SlotPut h h2 i (next_word p.word) v
-    tested new q true f = let s : with_slot i new h3 ≡ h2 = some_is f in record { new = new; worded = q; thread = ap (λ (y : Hand). y.thread) (sym s); rest = ap (λ (y : Hand). y.work.rest) (sym s) }
+    tested : (new : Value) → with_word w v ≡ Some new → (b : Bool) → (if b then Some (with_slot i new h) else None) ≡ Some h2 → SlotPut h h2 i w v
+    tested new q true f = let s : with_slot i new h ≡ h2 = some_is f in record { new = new; worded = q; thread = ap (λ (y : Hand). y.thread) (sym s); rest = ap (λ (y : Hand). y.work.rest) (sym s) }
     tested new q false f = absurd cc
 
-    by : (o : Option Value) → with_word (next_word p.word) v ≡ o → then_some o (λ new. put_slot i new h3) ≡ Some h2 → SlotPut h h2 i (next_word p.word) v
+    by : (o : Option Value) → with_word w v ≡ o → then_some o (λ new. put_slot i new h) ≡ Some h2 → SlotPut h h2 i w v
     by None q f = absurd cc
     by (Some new) q f = tested new q (nat_lt i (length h.thread.slots)) f
+
+pub slot_put : (h h2 : Hand) (i : ℕ) (v : Value) (p : BoxPtr) → slice_get h.thread.slots i ≡ Some v → put_word (spot_slot i) (issue_tint p h.work) h ≡ Some h2 → SlotPut h h2 i (next_word p.word) v
+slot_put h h2 i v p at e = let q = word_put (record h { work = (issue_tint p h.work).work }) h2 i (next_word p.word) v at e in record { new = q.new; worded = q.worded; thread = q.thread; rest = q.rest }
 
 -- a tint leads where the word led
 pub next_leads : (r a w : ℕ) → LeadsTo r a w → LeadsTo r a (next_word w)
@@ -190,16 +190,20 @@ worded_changed w (value.Mut q) new e f r g =
 worded_changed w (value.Own (owned.Box p)) new e f r g = let s : value.Own (owned.Box (record p { word = w })) ≡ value.Mut r = some_is e ∙ g in absurd cc
 worded_changed w _ new e f r g = absurd cc
 
-pub tint_rewords : TintRewords
-tint_rewords k n ts e h h2 i v p here at points put c d home firsts =
-    let q = slot_put h h2 i v p at put in
-    let w = next_word p.word in
+pub slots_reword : SlotsReword
+slots_reword k n ts e h h2 i w v p here at points put c d home firsts =
+    let q = word_put h h2 i w v at put in
     let number : h2.thread.number ≡ h.thread.number = ap (λ (y : ThreadState). y.number) q.thread in
     let split : Split (things_of (put_in k n ts e h)) (things_of (put_in k n ts e h2)) (thread_things n false h.thread) (thread_things n false h2.thread) = put_split k n ts e h h2 here q.rest number in
     let there : Split (things_of (put_in k n ts e h)) (things_of (put_in k n ts e h2)) (thread_things n false h.thread) (thread_things n false (with_slot i q.new h).thread) =
     subst (λ y. Split (things_of (put_in k n ts e h)) (things_of (put_in k n ts e h2)) (thread_things n false h.thread) (thread_things n false y)) q.thread split in
-    slot_reworded (put_in k n ts e h) (put_in k n ts e h2) n i w h.thread v q.new at (renews w v q.new q.worded) there refl c d p.object (worded_changed w v q.new q.worded firsts) home.server home.address home.lying
-    (λ r a y m f. next_leads r a p.word (home.leads r a y m f))
+    slot_reworded (put_in k n ts e h) (put_in k n ts e h2) n i w h.thread v q.new at (renews w v q.new q.worded) there refl c d p.object (worded_changed w v q.new q.worded firsts) home.server home.address home.lying home.leads
+
+pub tint_rewords : TintRewords
+tint_rewords k n ts e h h2 i v p here at points put c d home firsts =
+    let h3 = record h { work = (issue_tint p h.work).work } in
+    slots_reword k n ts e h3 h2 i (next_word p.word) v p (record { server = here.server; number = here.number; thread = here.thread }) at points put c d
+    (record { server = home.server; address = home.address; lying = home.lying; leads = λ r a y m f. next_leads r a p.word (home.leads r a y m f) }) firsts
 
 -- what stands in a slot of the hand's thread stands there in the cluster
 pub slot_stands : (k : Cluster) (n : ℕ) (ts : List ThreadState) (e : ℕ) (h : Hand) (i : ℕ) (v : Value) → StandsHere k n ts h → HasPlaces (put_in k n ts e h) → slice_get h.thread.slots i ≡ Some v

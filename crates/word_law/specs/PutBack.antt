@@ -43,6 +43,18 @@ pub record LeadsHome (k : Cluster) (p : BoxPtr) : Type 0 where
   pub lying : LiesThere k server address p.object
   pub leads : (r a : ℕ) (c : Cell) → Among (lies r a c) (things_of k) → c.object ≡ p.object → LeadsTo r a p.word
 
+-- A WORD IN A SLOT: whatever word is put, where the object lies where it leads; that of a mutable reference isn't its first one
+abbrev pub SlotsReword : Type 0
+SlotsReword = (k : Cluster) (n : ℕ) (ts : List ThreadState) (e : ℕ) (h h2 : Hand) (i w : ℕ) (v : Value) (p : BoxPtr) → StandsHere k n ts h
+    → slice_get h.thread.slots i ≡ Some v
+    → pointer_of v ≡ Some p
+    → set_pointer (in_slot i) w h ≡ Some h2
+    → HasPlaces (put_in k n ts e h)
+    → HasPlaces (put_in k n ts e h2)
+    → LeadsHome (put_in k n ts e h) (record p { word = w })
+    → ((r : MutRef) → v ≡ value.Mut r → w ≢ r.first)
+    → Reworded (put_in k n ts e h) (put_in k n ts e h2) (at_slot h.thread.number i) p.object w
+
 -- TINT: the pointer in a slot gets the next colour
 abbrev pub TintRewords : Type 0
 TintRewords = (k : Cluster) (n : ℕ) (ts : List ThreadState) (e : ℕ) (h h2 : Hand) (i : ℕ) (v : Value) (p : BoxPtr) → StandsHere k n ts h

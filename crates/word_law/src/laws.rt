@@ -1,7 +1,7 @@
 //! Laws of words.
 
 ghost use Rattle.word_law.specs.Example.{WordsApply};
-ghost use Rattle.word_law.specs.PutBack.{CellsReword, MarkRewords, TintKeepsWords, TintRewords};
+ghost use Rattle.word_law.specs.PutBack.{CellsReword, MarkRewords, SlotsReword, TintKeepsWords, TintRewords};
 ghost use Rattle.word_law.specs.Soles.{SolesStay, WrittenAreSole};
 ghost use Rattle.word_law.specs.Unmoved.{EvictionsUnmoved, FetchesUnmoved, UnmovedStays};
 ghost use Rattle.word_law.specs.WordsAfter.{DirtyGoOn, FreshGoOn, HoldersGoOn, WordsGoOn};
@@ -30,6 +30,7 @@ pub fn words_go_on()
 pub fn small_steps_reword()
     ensures tints { TintRewords }
     ensures words { TintKeepsWords }
+    ensures slots { SlotsReword }
     ensures cells { CellsReword }
     ensures marks { MarkRewords }
 {}

@@ -1,5 +1,5 @@
 use Rattle.word_law.proofs.laws.small_steps_reword.Goals as goal
-use Rattle.word_law.proofs.Tints.{tint_rewords}
+use Rattle.word_law.proofs.Tints.{slots_reword, tint_rewords}
 use Rattle.word_law.proofs.Cells.{cells_reword}
 use Rattle.word_law.proofs.Marks.{mark_rewords}
 use Rattle.word_law.proofs.TintWords.{tint_keeps_words}
@@ -15,3 +15,6 @@ returns-clause-marks c = mark_rewords
 
 pub returns-clause-cells : goal.returns-clause-cells
 returns-clause-cells c = cells_reword
+
+pub returns-clause-slots : goal.returns-clause-slots
+returns-clause-slots c = slots_reword

@@ -1,0 +1,67 @@
+-- A MUTABLE REFERENCE ENDS (this project's rule): the pointer that it was made from gets its word, where that isn't the first one, and the reference is gone.
+use Rattle.std.specs.Prelude.{false, ◌≡◌, ◌≢◌, ℕ, true, Some, None}
+use Rattle.heap_partition.specs.declared.value.Cell.{Cell}
+use Rattle.mut_borrow.specs.declared.mutable.MutRef.{MutRef}
+use Rattle.mut_borrow.specs.Refs.{changed}
+use Rattle.thread_state.specs.declared.value.Value.{Value}
+use Rattle.thread_state.specs.declared.value.Value.TheVariants as value
+use Rattle.server_model.specs.Servers.{Cluster}
+use Rattle.server_model.specs.Places.{with_word}
+use Rattle.heap_law.specs.Names.{Among}
+use Rattle.heap_law.specs.Things.{Location, lies, things_of}
+use Rattle.heap_law.specs.Follow.{value_in, place_at}
+use Rattle.heap_law.specs.Stale.{Reference, references, holder_of, is_held_at, is_among, lent_places, one_star_less}
+use Rattle.heap_law.specs.Sight.{Pointer, pointers_in, sight}
+use Rattle.heap_law.specs.Placing.{standing_in}
+use Rattle.heap_law.specs.Words.{IsStale, HasWords}
+use Rattle.heap_law.specs.Dirty.{DirtyAlone}
+use Rattle.heap_law.specs.Coherent.{Holds, first_at_holder}
+use Rattle.word_law.specs.Reworded.{HasPlaces, LiesThere}
+use Rattle.word_law.specs.Unmoved.{pointing, Taking, takings, WordsStay}
+
+-- the pointer that the reference was made from: as it was, where the reference's word is the first one, else with that word
+pub data GetsBack (r : MutRef) (old new : Value) : Type 0 where
+  as_it_was : r.word ≡ r.first → new ≡ old → GetsBack r old new
+  its_word : r.word ≢ r.first → with_word r.word old ≡ Some new → GetsBack r old new
+
+-- a clean reference at `at`, which isn't stale, was made from the pointer at h, and is gone
+pub record Ended (k z : Cluster) (at h : Location) (r : MutRef) : Type 0 where
+  pub stood : value_in (sight k).ground at ≡ Some (value.Mut r)
+  pub held : holder_of (sight k).ground at r.holder ≡ Some h
+  pub clean : r.dirty ≡ false
+  pub fresh : IsStale (sight k) (Some at) → ⊥
+  -- no other reference was made from the pointer at h, no thread has taken an object from it, and none was made from the one that ends
+  pub only : (q : Reference) → Among q (references (sight k).ground (things_of k)) → is_held_at h q.holder ≡ true → q.at ≡ at
+  pub untaken : is_among h (lent_places k.code (sight k).ground (sight k).ground.threads) ≡ true → ⊥
+  pub unmade : (q : Reference) → Among q (references (sight k).ground (things_of k)) → is_held_at at q.holder ≡ true → ⊥
+  -- what stands afterwards
+  pub gone : pointing (value_in (sight z).ground at) ≡ None
+  pub old : Value
+  pub new : Value
+  pub before : value_in (sight k).ground h ≡ Some old
+  pub after : value_in (sight z).ground h ≡ Some new
+  pub back : GetsBack r old new
+  pub elsewhere : (l : Location) → (l ≡ at → ⊥) → (l ≡ h → ⊥) → pointing (value_in (sight z).ground l) ≡ pointing (value_in (sight k).ground l)
+  -- no holder of another reference, and no place that a thread has taken, leads through the one that ends
+  pub holders : (l : Location) (q : MutRef) → (l ≡ at → ⊥) → value_in (sight k).ground l ≡ Some (value.Mut q) → holder_of (sight z).ground l q.holder ≡ holder_of (sight k).ground l q.holder
+  pub taken : (t : Taking) → Among t (takings k.code (sight k).ground.threads) → (place_at (sight z).ground t.thread t.place ≡ place_at (sight k).ground t.thread t.place)
+      × (one_star_less (sight z).ground t.thread t.place.slot t.place.depth ≡ one_star_less (sight k).ground t.thread t.place.slot t.place.depth)
+  pub takes : (t : Taking) → Among t (takings z.code (sight z).ground.threads) → Among t (takings k.code (sight k).ground.threads)
+  pub took : (t : Taking) → Among t (takings k.code (sight k).ground.threads) → Among t (takings z.code (sight z).ground.threads)
+  pub loose : (p : Pointer) → p.at ≡ None → Among p (pointers_in (things_of z)) → Among p (pointers_in (things_of k))
+  pub remain : (p : Pointer) → p.at ≡ None → Among p (pointers_in (things_of k)) → Among p (pointers_in (things_of z))
+  pub standing : (p : Pointer) → p.at ≡ None → Among p (standing_in (things_of z)) → Among p (standing_in (things_of k))
+  pub lay : (m a : ℕ) (c : Cell) → Among (lies m a c) (things_of z) → LiesThere k m a c.object
+
+-- what `dirty_alone` asks beside it, which no sentence of a coherent cluster says: a reference that was made from a dirty one is changed, and the first word of a
+-- reference that has another one isn't its object's word
+pub record PastWords (k : Cluster) (b : HasWords (sight k)) : Type 0 where
+  pub lent_changed : (q p : Reference) → Among q (references (sight k).ground (things_of k)) → Among p (references (sight k).ground (things_of k)) → q.reference.dirty ≡ true → is_held_at q.at p.holder ≡ true → changed p.reference ≡ true
+  pub first_past : (q : Reference) → Among q (references (sight k).ground (things_of k)) → q.reference.word ≢ q.reference.first → b.word q.reference.object ≢ q.reference.first
+
+-- then each object keeps its word: what becomes fresh is the pointer at h, and what is joined to that by references that aren't changed, so has the same word;
+-- references know the words at their holders; and dirty references are alone
+pub record EndsLeaveWords : Type 0 where
+  pub words : (k z : Cluster) (at h : Location) (r : MutRef) → HasPlaces k → HasPlaces z → Ended k z at h r → Holds k first_at_holder → (b : HasWords (sight k)) → WordsStay (sight k) (sight z) b
+  pub holders : (k z : Cluster) (at h : Location) (r : MutRef) → HasPlaces k → HasPlaces z → Ended k z at h r → Holds k first_at_holder → Holds z first_at_holder
+  pub dirty : (k z : Cluster) (at h : Location) (r : MutRef) → HasPlaces k → HasPlaces z → Ended k z at h r → Holds k first_at_holder → (b : HasWords (sight k)) → PastWords k b → DirtyAlone (sight k) → DirtyAlone (sight z)
