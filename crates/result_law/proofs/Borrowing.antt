@@ -7,8 +7,6 @@ use Rattle.fr_base.specs.declared.place.Lval.{Lval}
 use Rattle.fr_base.specs.declared.instruction.Instr.{Instr}
 use Rattle.fr_base.specs.declared.instruction.Instr.TheVariants as instr
 use Rattle.fr_typing.specs.Kinds.{Kind}
-use Rattle.fr_store.specs.Store.{walk}
-use Rattle.fr_store.specs.Typed.{here}
 use Rattle.fr_code.specs.CodeTypes.{Entry, Table, InstrTypes, i_borrow}
 use Rattle.global_addr.specs.Words.{colour_of, server_of, next_word}
 use Rattle.heap_partition.specs.declared.value.Cell.{Cell}
