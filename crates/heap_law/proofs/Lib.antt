@@ -16,6 +16,7 @@ pub mod Bags
 mod Named
 pub mod Words
 pub mod Passing
+pub mod Past
 pub mod Followed
 pub mod Dirty
 pub mod Turn

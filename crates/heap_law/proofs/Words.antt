@@ -45,7 +45,7 @@ kept ls p q ps f true e (inl s) = let z : true ≡ false = sym e ∙ (subst (λ 
 kept ls p q ps f true e (inr h) = h
 kept ls p q ps f false e h = h
 
-fresh_in : (ls : List Location) (p : Pointer) (ps : List Pointer) → is_stale ls p.at ≡ false → Among p ps → Among p (fresh_ones ls ps)
+pub fresh_in : (ls : List Location) (p : Pointer) (ps : List Pointer) → is_stale ls p.at ≡ false → Among p ps → Among p (fresh_ones ls ps)
 fresh_in ls p [] f h = absurd h
 fresh_in ls p (q ∷ ps) f (inl e) = kept ls p q ps f (is_stale ls q.at) refl (inl e)
 fresh_in ls p (q ∷ ps) f (inr h) = kept ls p q ps f (is_stale ls q.at) refl (inr (fresh_in ls p ps f h))
@@ -59,7 +59,7 @@ fresh_by ls p q ps true e go h = let y = go h in record { fresh = y.fresh; among
 fresh_by ls p q ps false e go (inl s) = record { fresh = subst (λ (x : Pointer). is_stale ls x.at ≡ false) s e; among = inl s }
 fresh_by ls p q ps false e go (inr h) = let y = go h in record { fresh = y.fresh; among = inr y.among }
 
-fresh_from : (ls : List Location) (p : Pointer) (ps : List Pointer) → Among p (fresh_ones ls ps) → IsFresh ls p ps
+pub fresh_from : (ls : List Location) (p : Pointer) (ps : List Pointer) → Among p (fresh_ones ls ps) → IsFresh ls p ps
 fresh_from ls p [] h = absurd h
 fresh_from ls p (q ∷ ps) h = fresh_by ls p q ps (is_stale ls q.at) refl (fresh_from ls p ps) h
 
@@ -168,7 +168,7 @@ first_tells : (k : Cluster) (h : HasWords (sight k)) (o : ObjNo) → Fresh (sigh
 first_tells k h o f =
     first_word k h o f.pointer (fresh_in (sight k).stale f.pointer (all_pointers (sight k)) (not_told k f.pointer.at f.fresh) f.among) f.object
 
-equal_numbers : (m n : ℕ) → m ≡ n → (m == n) ≡ true
+pub equal_numbers : (m n : ℕ) → m ≡ n → (m == n) ≡ true
 equal_numbers m n e = grind (arith, nat_tests, e)
 
 no_other : (o : Option ℕ) (v w : ℕ) → o ≡ Some v → v ≡ w → other (is_word o w) ≡ 0

@@ -11,7 +11,7 @@ ghost use Rattle.heap_law.specs.Appended.{RowsSendTheirActs};
 ghost use Rattle.heap_law.specs.OneHeapRuns.{OneHeapsCompute};
 ghost use Rattle.heap_law.specs.Stale.{RoundsLaw};
 ghost use Rattle.heap_law.specs.Words.{WordsLaw};
-ghost use Rattle.heap_law.specs.Dirty.{DirtyLaw};
+ghost use Rattle.heap_law.specs.Dirty.{DirtyLaw, PastLaw};
 ghost use Rattle.heap_law.specs.Passing.{FollowedLaw, PassedLaw, PathsLaw};
 ghost use Rattle.heap_law.specs.Turn.{TurnLaw};
 ghost use Rattle.heap_law.specs.OneEvent.{OneEventKeeps};
@@ -93,10 +93,11 @@ pub fn rounds_tell_stale()
 {}
 
 /// The objects of a cluster have words exactly where nothing is counted that breaks it, and the first pointer that isn't stale tells an object's word.
-/// Dirty references that aren't stale are alone exactly where none is counted.
+/// Dirty references that aren't stale are alone exactly where none is counted, and what was before today's words is past exactly where nothing is counted.
 pub fn words_are_told()
     ensures words { WordsLaw }
     ensures dirty { DirtyLaw }
+    ensures past { PastLaw }
 {}
 
 /// What computes where a place leads, star by star, tells the path that leads there. Nothing is counted of what a write has passed exactly where it

@@ -18,7 +18,7 @@ use Rattle.heap_law.specs.Stale.{Reference, references, holder_of, is_held_at, i
 use Rattle.heap_law.specs.Sight.{Pointer, pointers_in, taken_object, taken_pointers, sight}
 use Rattle.heap_law.specs.Placing.{is_first, other_first, standing_in, standing_pointers}
 use Rattle.heap_law.specs.Words.{all_pointers, IsStale, Fresh, HasWords, LeadsTo}
-use Rattle.heap_law.specs.Dirty.{IsAlone, DirtyAlone}
+use Rattle.heap_law.specs.Dirty.{IsAlone, DirtyAlone, PastWords}
 use Rattle.heap_law.specs.Coherent.{Holds, first_at_holder}
 use Rattle.heap_law.proofs.Bags.{among_split}
 use Rattle.heap_law.proofs.Words.{none_at, none_all, named}
@@ -35,7 +35,7 @@ use Rattle.word_law.proofs.Standing.{pointer_at, tells, told, told_standing, sta
 use Rattle.word_law.proofs.Takings.{first_pointing, seen_reference, seen_pointer, lents_are, takens_are, lent_listed, lent_told, taken_listed, taken_told}
 use Rattle.word_law.proofs.Grounds.{same_place, OfBorrows, of_borrows}
 use Rattle.word_law.proofs.Words.{taken_nowhere}
-use Rattle.move_law.specs.Ended.{GetsBack, as_it_was, its_word, Ended, PastWords, EndsLeaveWords}
+use Rattle.move_law.specs.Ended.{GetsBack, as_it_was, its_word, Ended, EndsLeaveWords}
 
 -- POINTERS AND WORDS
 
@@ -537,7 +537,7 @@ module _ (k z : Cluster) (at h : Location) (r : MutRef) (c : HasPlaces k) (d : H
 
     -- DIRTY REFERENCES
 
-    module _ (past : PastWords k b) (alone : DirtyAlone (sight k)) (q : Reference) (m : Among q rz) (dirty : q.reference.dirty ≡ true) (fresh : IsStale (sight z) (Some q.at) → ⊥) where
+    module _ (past : PastWords (sight k)) (alone : DirtyAlone (sight k)) (q : Reference) (m : Among q rz) (dirty : q.reference.dirty ≡ true) (fresh : IsStale (sight z) (Some q.at) → ⊥) where
       y : Other gk rk q (Was q)
       y = back_reference q m
 
@@ -579,7 +579,7 @@ module _ (k z : Cluster) (at h : Location) (r : MutRef) (c : HasPlaces k) (d : H
           by (inl v) = let t : true ≡ false = sym ch ∙ ap changed v.1 ∙ un in absurd cc
           by (inr v) =
               ⊎_elim (λ (s : x.reference.reference.word ≡ x.reference.reference.first). v.0 (now_first ∙ sym s ∙ ap (λ (n : Pointer). n.word) was_pointer))
-              (λ (s : x.reference.reference.word ≢ x.reference.reference.first). past.first_past x.reference x.among s (ap b.word (ap (λ (n : Pointer). n.object) was_pointer) ∙ sym its ∙ now_first)) (same_or_other x.reference.reference.word x.reference.reference.first)
+              (λ (s : x.reference.reference.word ≢ x.reference.reference.first). past.first_past x.reference x.among s (pointer_to at r.word r.object) ended_pointer u.fresh (sym (ap (λ (n : Pointer). n.object) was_pointer)) now_first) (same_or_other x.reference.reference.word x.reference.reference.first)
 
       -- and it wasn't stale
       lent : (p : Reference) → Among p rz → is_held_at q.at p.holder ≡ true → changed p.reference ≡ false → ⊥

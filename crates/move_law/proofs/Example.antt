@@ -17,7 +17,7 @@ use Rattle.heap_law.specs.Coherent.{IsSound}
 use Rattle.heap_law.proofs.Unbroken.{sound_law}
 use Rattle.word_law.specs.Reworded.{HasPlaces, LiesThere}
 use Rattle.word_law.specs.Unmoved.{pointing}
-use Rattle.move_law.specs.Ended.{its_word, Ended, PastWords}
+use Rattle.move_law.specs.Ended.{its_word, Ended}
 use Rattle.move_law.specs.Example.{ending, ending_main, ending_cluster, ended_main, ended_cluster, EndsApply}
 
 sound_before : IsSound ending_cluster
@@ -129,22 +129,6 @@ ends = record {
 words : HasWords (sight ending_cluster)
 words = sound_before.words.have_words
 
-past : PastWords ending_cluster words
-past = record {
-  lent_changed = λ q p m n d e. (let f : false ≡ true = ap (λ (x : Reference). x.reference.dirty) (only_reference q m) ∙ d in absurd cc);
-  first_past = λ q m n e. is_past q (only_reference q m) e;
-}
-  where
-    its : words.word (object 0) ≡ word_of 1 0 0
-    its = sym (by (words.same (record { at = Some (at_slot 0 1); word = word_of 1 0 0; object = object 0 }) (inr (inl refl))))
-      where
-        by : IsStale (sight ending_cluster) (Some (at_slot 0 1)) ⊎ (word_of 1 0 0 ≡ words.word (object 0)) → word_of 1 0 0 ≡ words.word (object 0)
-        by (inl s) = absurd (fresh s)
-        by (inr e) = e
-
-    is_past : (q : Reference) → the_reference ≡ q → words.word q.reference.object ≡ q.reference.first → ⊥
-    is_past q e f = let g : word_of 1 0 0 ≡ word_of 0 0 0 = sym its ∙ ap (λ (x : Reference). words.word x.reference.object) e ∙ f ∙ sym (ap (λ (x : Reference). x.reference.first) e) in absurd cc
-
 pub ends_apply : EndsApply
 ends_apply = record {
   done = refl;
@@ -153,6 +137,6 @@ ends_apply = record {
   after = places_of ended_cluster sound_after;
   firsts = sound_before.words.first_at_holder;
   words = words;
-  past = past;
+  past = sound_before.words.past_words;
   dirty = sound_before.words.dirty_alone;
 }

@@ -2,7 +2,6 @@
 use Rattle.std.specs.Prelude.{false, ◌≡◌, ◌≢◌, ℕ, true, Some, None}
 use Rattle.heap_partition.specs.declared.value.Cell.{Cell}
 use Rattle.mut_borrow.specs.declared.mutable.MutRef.{MutRef}
-use Rattle.mut_borrow.specs.Refs.{changed}
 use Rattle.thread_state.specs.declared.value.Value.{Value}
 use Rattle.thread_state.specs.declared.value.Value.TheVariants as value
 use Rattle.server_model.specs.Servers.{Cluster}
@@ -14,7 +13,7 @@ use Rattle.heap_law.specs.Stale.{Reference, references, holder_of, is_held_at, i
 use Rattle.heap_law.specs.Sight.{Pointer, pointers_in, sight}
 use Rattle.heap_law.specs.Placing.{standing_in}
 use Rattle.heap_law.specs.Words.{IsStale, HasWords}
-use Rattle.heap_law.specs.Dirty.{DirtyAlone}
+use Rattle.heap_law.specs.Dirty.{DirtyAlone, PastWords}
 use Rattle.heap_law.specs.Coherent.{Holds, first_at_holder}
 use Rattle.word_law.specs.Reworded.{HasPlaces, LiesThere}
 use Rattle.word_law.specs.Unmoved.{pointing, Taking, takings, WordsStay}
@@ -53,15 +52,9 @@ pub record Ended (k z : Cluster) (at h : Location) (r : MutRef) : Type 0 where
   pub standing : (p : Pointer) → p.at ≡ None → Among p (standing_in (things_of z)) → Among p (standing_in (things_of k))
   pub lay : (m a : ℕ) (c : Cell) → Among (lies m a c) (things_of z) → LiesThere k m a c.object
 
--- what `dirty_alone` asks beside it, which no sentence of a coherent cluster says: a reference that was made from a dirty one is changed, and the first word of a
--- reference that has another one isn't its object's word
-pub record PastWords (k : Cluster) (b : HasWords (sight k)) : Type 0 where
-  pub lent_changed : (q p : Reference) → Among q (references (sight k).ground (things_of k)) → Among p (references (sight k).ground (things_of k)) → q.reference.dirty ≡ true → is_held_at q.at p.holder ≡ true → changed p.reference ≡ true
-  pub first_past : (q : Reference) → Among q (references (sight k).ground (things_of k)) → q.reference.word ≢ q.reference.first → b.word q.reference.object ≢ q.reference.first
-
 -- then each object keeps its word: what becomes fresh is the pointer at h, and what is joined to that by references that aren't changed, so has the same word;
 -- references know the words at their holders; and dirty references are alone
 pub record EndsLeaveWords : Type 0 where
   pub words : (k z : Cluster) (at h : Location) (r : MutRef) → HasPlaces k → HasPlaces z → Ended k z at h r → Holds k first_at_holder → (b : HasWords (sight k)) → WordsStay (sight k) (sight z) b
   pub holders : (k z : Cluster) (at h : Location) (r : MutRef) → HasPlaces k → HasPlaces z → Ended k z at h r → Holds k first_at_holder → Holds z first_at_holder
-  pub dirty : (k z : Cluster) (at h : Location) (r : MutRef) → HasPlaces k → HasPlaces z → Ended k z at h r → Holds k first_at_holder → (b : HasWords (sight k)) → PastWords k b → DirtyAlone (sight k) → DirtyAlone (sight z)
+  pub dirty : (k z : Cluster) (at h : Location) (r : MutRef) → HasPlaces k → HasPlaces z → Ended k z at h r → Holds k first_at_holder → HasWords (sight k) → PastWords (sight k) → DirtyAlone (sight k) → DirtyAlone (sight z)

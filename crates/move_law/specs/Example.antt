@@ -13,11 +13,11 @@ use Rattle.heap_law.specs.Clusters.{place, object, box}
 use Rattle.heap_law.specs.Things.{at_slot}
 use Rattle.heap_law.specs.Sight.{sight}
 use Rattle.heap_law.specs.Words.{HasWords}
-use Rattle.heap_law.specs.Dirty.{DirtyAlone}
+use Rattle.heap_law.specs.Dirty.{DirtyAlone, PastWords}
 use Rattle.heap_law.specs.Coherent.{Holds, first_at_holder}
 use Rattle.type_law.specs.Typed.{boxed_server, boxed_cluster}
 use Rattle.word_law.specs.Reworded.{HasPlaces}
-use Rattle.move_law.specs.Ended.{Ended, PastWords}
+use Rattle.move_law.specs.Ended.{Ended}
 
 abbrev pub ending : MutRef
 ending = record { word = word_of 1 0 0; first = word_of 0 0 0; object = object 0; dirty = false; holder = place 0 0 }
@@ -42,5 +42,5 @@ pub record EndsApply : Type 0 where
   pub after : HasPlaces ended_cluster
   pub firsts : Holds ending_cluster first_at_holder
   pub words : HasWords (sight ending_cluster)
-  pub past : PastWords ending_cluster words
+  pub past : PastWords (sight ending_cluster)
   pub dirty : DirtyAlone (sight ending_cluster)

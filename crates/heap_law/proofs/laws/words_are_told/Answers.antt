@@ -1,9 +1,13 @@
 use Rattle.heap_law.proofs.laws.words_are_told.Goals as goal
 use Rattle.heap_law.proofs.Words.{words_law}
 use Rattle.heap_law.proofs.Dirty.{dirty_law}
+use Rattle.heap_law.proofs.Past.{past_law}
 
 pub returns-clause-words : goal.returns-clause-words
 returns-clause-words c = words_law
 
 pub returns-clause-dirty : goal.returns-clause-dirty
 returns-clause-dirty c = dirty_law
+
+pub returns-clause-past : goal.returns-clause-past
+returns-clause-past c = past_law
