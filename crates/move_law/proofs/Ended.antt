@@ -15,13 +15,13 @@ use Rattle.heap_law.specs.Names.{Among, other, same_object}
 use Rattle.heap_law.specs.Things.{Location, lies, things_of}
 use Rattle.heap_law.specs.Follow.{Ground, value_in, value_behind}
 use Rattle.heap_law.specs.Stale.{Reference, references, holder_of, is_held_at, is_among, with_place, lent_places, changed_above, stale_above, taken_above}
-use Rattle.heap_law.specs.Sight.{Pointer, pointers_in, taken_object, taken_pointers, sight}
+use Rattle.heap_law.specs.Sight.{Pointer, pointers_in, taken_object, taken_pointers, is_stale, sight}
 use Rattle.heap_law.specs.Placing.{is_first, other_first, standing_in, standing_pointers}
 use Rattle.heap_law.specs.Words.{all_pointers, IsStale, Fresh, HasWords, LeadsTo}
 use Rattle.heap_law.specs.Dirty.{IsAlone, DirtyAlone, PastWords}
 use Rattle.heap_law.specs.Coherent.{Holds, first_at_holder}
 use Rattle.heap_law.proofs.Bags.{among_split}
-use Rattle.heap_law.proofs.Words.{none_at, none_all, named}
+use Rattle.heap_law.proofs.Words.{none_at, none_all, named, tells as tells_stale, told as told_stale}
 use Rattle.heap_law.proofs.Names.{and_left, and_right, same_number}
 use Rattle.path_law.proofs.FreshPaths.{held_at}
 use Rattle.path_law.proofs.Sole.{some_is}
@@ -535,6 +535,115 @@ module _ (k z : Cluster) (at h : Location) (r : MutRef) (c : HasPlaces k) (d : H
     pub words_stay : WordsStay (sight k) (sight z) b
     words_stay = record { after = record { word = b.word; same = same; live = live; home = home }; same = λ p. refl }
 
+    -- WHAT WAS BEFORE THE WORDS OF TODAY
+
+    module _ (past : PastWords (sight k)) where
+      here : (q : Reference) → Among q rz → q.at ≡ h → (q.reference.word ≡ r.word) × (q.reference.object ≡ r.object)
+      here q i e =
+          let p : Pointer = record { at = Some q.at; word = q.reference.word; object = q.reference.object } in
+          regains_word q.at (the_holder e) p (told z q.at (value.Mut q.reference) p (borrow_stands z d q.at q.reference (of_borrows gz q (things_of z) i).among) (inl refl)) refl
+
+      -- a word that the holder's reference gets isn't its first one
+      other_now : (q : Reference) → (i : Among q rz) → q.at ≡ h → (y : Other gk rk q (Was q)) → (u.old ≡ value.Mut y.reference.reference) → r.word ≢ r.first → q.reference.word ≢ q.reference.first
+      other_now q i e y stood n s =
+          ⊎_elim (λ (v : y.reference.reference.word ≡ y.reference.reference.first). n (now_first ∙ sym v ∙ ap (λ (x : Pointer). x.word) was_pointer))
+          (λ (v : y.reference.reference.word ≢ y.reference.reference.first). past.first_past y.reference y.among v (pointer_to at r.word r.object) ended_pointer u.fresh (sym (ap (λ (x : Pointer). x.object) was_pointer)) now_first)
+          (same_or_other y.reference.reference.word y.reference.reference.first)
+        where
+          was_pointer : record { at = Some h; word = y.reference.reference.word; object = y.reference.reference.object } ≡ pointer_to h r.first r.object
+          was_pointer = one_head (sym (ap (pointer_at h) stood) ∙ old_pointer)
+
+          now_first : r.word ≡ y.reference.reference.first
+          now_first = sym (here q i e).0 ∙ s ∙ sym y.first
+
+      past_lent : (a q : Reference) → Among a rz → Among q rz → a.reference.dirty ≡ true → is_held_at a.at q.holder ≡ true → changed q.reference ≡ true
+      past_lent a q i j dirty held = by (same_place a.at h)
+        where
+          x : Other gk rk a (Was a)
+          x = back_reference a i
+
+          y : Other gk rk q (Was q)
+          y = back_reference q j
+
+          held_before : is_held_at a.at y.reference.holder ≡ true
+          held_before = ap (is_held_at a.at) y.holder ∙ held
+
+          so : changed y.reference.reference ≡ true → (q.at ≡ h) ⊎ (q.at ≡ h → ⊥) → changed q.reference ≡ true
+          so ch (inr n) = sym (ap changed (y.elsewhere n)) ∙ ch
+          so ch (inl e) =
+              ⊎_elim (λ (v : (r.word ≡ r.first) × (y.reference.reference ≡ q.reference)). sym (ap changed v.1) ∙ ch)
+              (λ (v : (r.word ≢ r.first) × (q.reference.dirty ≡ false)). other_word q.reference (other_now q j e y (y.kept e).1 v.0)) (y.kept e).0.same
+
+          by : (a.at ≡ h) ⊎ (a.at ≡ h → ⊥) → changed q.reference ≡ true
+          by (inl e) = absurd (not_gone q j (sym y.at_same ∙ u.only y.reference y.among (subst (λ l. is_held_at l y.reference.holder ≡ true) e held_before)))
+          by (inr n) =
+              so (past.lent_changed x.reference y.reference x.among y.among (ap (λ (m : MutRef). m.dirty) (x.elsewhere n) ∙ dirty) (ap (λ l. is_held_at l y.reference.holder) x.at_same ∙ held_before)) (same_place q.at h)
+
+      -- before, a pointer to its object with its word wasn't stale
+      record Stood (p : Pointer) : Type 0 where
+        pointer : Pointer
+        among : Among pointer (all_pointers (sight k))
+        fresh : IsStale (sight k) pointer.at → ⊥
+        word : pointer.word ≡ p.word
+        object : pointer.object ≡ p.object
+
+      the_ended : (p : Pointer) → (p.word ≡ r.word) × (p.object ≡ r.object) → Stood p
+      the_ended p e = record { pointer = pointer_to at r.word r.object; among = ended_pointer; fresh = u.fresh; word = sym e.0; object = sym e.1 }
+
+      as_it_is : (p : Pointer) → Among p (all_pointers (sight k)) → (IsStale (sight k) p.at → ⊥) → Stood p
+      as_it_is p m f = record { pointer = p; among = m; fresh = f; word = refl; object = refl }
+
+      stale_or_not : (l : Option Location) → IsStale (sight k) l ⊎ (IsStale (sight k) l → ⊥)
+      stale_or_not l = by (is_stale (sight k).stale l) refl
+        where
+          by : (b : Bool) → is_stale (sight k).stale l ≡ b → IsStale (sight k) l ⊎ (IsStale (sight k) l → ⊥)
+          by true e = inl (tells_stale k l e)
+          by false e = inr (λ s. let t : true ≡ false = sym (told_stale k l s) ∙ e in absurd cc)
+
+      stood : (p : Pointer) → Among p (all_pointers (sight z)) → (IsStale (sight z) p.at → ⊥) → Stood p
+      stood p m f =
+          ⊎_elim (λ (q : Among p (pointers_in (things_of z))). by p.at refl q)
+          (λ (q : Among p (taken_pointers z.code gz gz.threads)). as_it_is p (among_second p (pointers_in (things_of k)) (taken_pointers k.code gk gk.threads) (taken_back p q)) (nowhere (taken_nowhere z.code gz gz.threads p q)))
+          (among_split p (pointers_in (things_of z)) (taken_pointers z.code gz gz.threads) m)
+        where
+          nowhere : p.at ≡ None → IsStale (sight k) p.at → ⊥
+          nowhere e s = subst (λ l. IsStale (sight k) l) e s
+
+          at_place : (l : Location) → p.at ≡ Some l → Among p (pointers_in (things_of z)) → (l ≡ h) ⊎ (l ≡ h → ⊥) → Stood p
+          at_place l e q (inl s) = the_ended p (regains_word l (the_holder s) p q e)
+          at_place l e q (inr n) =
+              ⊎_elim
+              (λ (s : IsStale (sight k) (Some l)). ⊎_elim (λ (t : IsStale (sight z) (Some l)). absurd (f (subst (λ y. IsStale (sight z) y) (sym e) t))) (λ (g : Regains rz h l). the_ended p (regains_word l g p q e)) (on_stale l s))
+              (λ (s : IsStale (sight k) (Some l) → ⊥).
+              as_it_is p (among_first p (pointers_in (things_of k)) (taken_pointers k.code gk gk.threads) (stands_in p (things_of k) (stood_in p l q e n))) (λ x. s (subst (λ y. IsStale (sight k) y) e x))) (stale_or_not (Some l))
+
+          by : (l : Option Location) → p.at ≡ l → Among p (pointers_in (things_of z)) → Stood p
+          by None e q = as_it_is p (among_first p (pointers_in (things_of k)) (taken_pointers k.code gk gk.threads) (u.loose p e q)) (nowhere e)
+          by (Some l) e q = at_place l e q (same_place l h)
+
+      past_first : (a : Reference) → Among a rz → a.reference.word ≢ a.reference.first → (p : Pointer) → Among p (all_pointers (sight z)) → (IsStale (sight z) p.at → ⊥) → p.object ≡ a.reference.object → p.word ≢ a.reference.first
+      past_first a i n p m f e = by (same_place a.at h)
+        where
+          y : Other gk rk a (Was a)
+          y = back_reference a i
+
+          as_before : y.reference.reference ≡ a.reference → p.word ≢ a.reference.first
+          as_before s w =
+              let g = stood p m f in
+              past.first_past y.reference y.among (λ x. n (sym (ap (λ (q : MutRef). q.word) s) ∙ x ∙ ap (λ (q : MutRef). q.first) s)) g.pointer g.among g.fresh (g.object ∙ e ∙ sym y.object) (g.word ∙ w ∙ sym y.first)
+
+          now : (a.at ≡ h) → p.word ≢ a.reference.first
+          now s w =
+              let q = here a i s in
+              ⊎_elim f (λ (x : p.word ≡ b.word p.object). n (q.0 ∙ its ∙ ap b.word (sym q.1 ∙ sym e) ∙ sym x ∙ w)) (same p m)
+
+          by : (a.at ≡ h) ⊎ (a.at ≡ h → ⊥) → p.word ≢ a.reference.first
+          by (inr s) = as_before (y.elsewhere s)
+          by (inl s) = now s
+
+      pub past_stays : PastWords (sight z)
+      past_stays = record { lent_changed = past_lent; first_past = past_first }
+
     -- DIRTY REFERENCES
 
     module _ (past : PastWords (sight k)) (alone : DirtyAlone (sight k)) (q : Reference) (m : Among q rz) (dirty : q.reference.dirty ≡ true) (fresh : IsStale (sight z) (Some q.at) → ⊥) where
@@ -559,34 +668,9 @@ module _ (k z : Cluster) (at h : Location) (r : MutRef) (c : HasPlaces k) (d : H
       same_one : y.reference.reference ≡ q.reference
       same_one = y.elsewhere not_holder
 
-      -- an unchanged reference that was made from it, at the holder
-      at_the : (p : Reference) → (i : Among p rz) → changed p.reference ≡ false → p.at ≡ h → (x : Other gk rk p (Was p)) → changed x.reference.reference ≡ true → ⊥
-      at_the p i un e x ch = by (x.kept e).0.same
-        where
-          here : Pointer
-          here = record { at = Some p.at; word = p.reference.word; object = p.reference.object }
-
-          its_word_now : p.reference.word ≡ r.word
-          its_word_now = (regains_word p.at (the_holder e) here (told z p.at (value.Mut p.reference) here (borrow_stands z d p.at p.reference (of_borrows gz p (things_of z) i).among) (inl refl)) refl).0
-
-          was_pointer : record { at = Some h; word = x.reference.reference.word; object = x.reference.reference.object } ≡ pointer_to h r.first r.object
-          was_pointer = one_head (sym (ap (pointer_at h) (x.kept e).1) ∙ old_pointer)
-
-          now_first : r.word ≡ x.reference.reference.first
-          now_first = sym its_word_now ∙ unchanged p.reference un ∙ sym (x.kept e).0.first
-
-          by : ((r.word ≡ r.first) × (x.reference.reference ≡ p.reference)) ⊎ ((r.word ≢ r.first) × (p.reference.dirty ≡ false)) → ⊥
-          by (inl v) = let t : true ≡ false = sym ch ∙ ap changed v.1 ∙ un in absurd cc
-          by (inr v) =
-              ⊎_elim (λ (s : x.reference.reference.word ≡ x.reference.reference.first). v.0 (now_first ∙ sym s ∙ ap (λ (n : Pointer). n.word) was_pointer))
-              (λ (s : x.reference.reference.word ≢ x.reference.reference.first). past.first_past x.reference x.among s (pointer_to at r.word r.object) ended_pointer u.fresh (sym (ap (λ (n : Pointer). n.object) was_pointer)) now_first) (same_or_other x.reference.reference.word x.reference.reference.first)
-
-      -- and it wasn't stale
+      -- what was made from it is changed, so it wasn't stale
       lent : (p : Reference) → Among p rz → is_held_at q.at p.holder ≡ true → changed p.reference ≡ false → ⊥
-      lent p i held un =
-          let x = back_reference p i in
-          let ch : changed x.reference.reference ≡ true = past.lent_changed y.reference x.reference y.among x.among (ap (λ (n : MutRef). n.dirty) same_one ∙ dirty) (ap (λ l. is_held_at l x.reference.holder) y.at_same ∙ ap (is_held_at q.at) x.holder ∙ held) in
-          ⊎_elim (λ (e : p.at ≡ h). at_the p i un e x ch) (λ (n : p.at ≡ h → ⊥). (let t : true ≡ false = sym ch ∙ ap changed (x.elsewhere n) ∙ un in absurd cc)) (same_place p.at h)
+      lent p i held un = let t : true ≡ false = sym (past_lent past q p m i dirty held) ∙ un in absurd cc
 
       regained : Regains rz h q.at → ⊥
       regained (the_holder e) = not_holder e
@@ -644,4 +728,5 @@ ends_leave_words = record {
   words = λ k z at h r c d u f b. words_stay k z at h r c d u f b;
   holders = λ k z at h r c d u f. holders_stay k z at h r c d u f;
   dirty = λ k z at h r c d u f b past alone q m dirty fresh. still_alone k z at h r c d u f b past alone q m dirty fresh;
+  past = λ k z at h r c d u f b past. past_stays k z at h r c d u f b past;
 }

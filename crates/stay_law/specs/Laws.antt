@@ -10,6 +10,6 @@ use Rattle.event_law.specs.Laws.{Gives, FewEvents}
 use Rattle.word_law.specs.Unmoved.{LeavesWords}
 
 -- each event of that kind from a sound cluster, with its messages handed over, leaves each object the word that it had; references know the words at their holders,
--- and dirty references are alone
+-- dirty references are alone, and first words that were left are no words of today
 abbrev pub LeaveWords : Kind → Type 0
 LeaveWords kind = (k : Cluster) (e : Event) → kind_of k e ≡ Some kind → IsSound k → FewEvents k → Gives (λ (d : Cluster × EntryView). LeavesWords k d.0) (apply k e)

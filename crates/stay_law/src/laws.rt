@@ -3,8 +3,8 @@
 ghost use Rattle.event_law.specs.Kinds.{arrives, asks_dup, asks_join, asks_lock, dupped, evicts, fetch, fetched, finished, granted, joined, migrates, released, starts, unlocked};
 ghost use Rattle.stay_law.specs.Laws.{LeaveWords};
 
-/// Each object has the word that it had, references know the words at their holders and dirty references are alone, where an event of these kinds is done in a
-/// sound cluster and its messages are handed over: a copy goes, a thread leaves for another server and comes there, one starts, a copy is served and filled, a
+/// Each object has the word that it had, references know the words at their holders, dirty references are alone and first words that were left are no words of
+/// today, where an event of these kinds is done in a sound cluster and its messages are handed over: a copy goes, a thread leaves for another server and comes there, one starts, a copy is served and filled, a
 /// mutex is asked for, granted and given back, a share of it is asked for and comes, a share or a task is let go, a result is asked for and comes, and a home is told that a thread has ended.
 pub fn events_leave_words()
     ensures evictions { LeaveWords evicts }

@@ -8,6 +8,7 @@ pub mod Takings
 pub mod Outlines
 pub mod Words
 pub mod Beside
+pub mod Past
 pub mod Put
 pub mod Slots
 pub mod Tints

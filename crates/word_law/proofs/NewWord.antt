@@ -5,21 +5,21 @@ use Rattle.std.proofs.lemmas.Bool.Decides.{nat_tests}
 use Rattle.fr_base.specs.declared.name.ObjNo.{ObjNo}
 use Rattle.global_addr.specs.Words.{colour_of, server_of, address_of, next_word}
 use Rattle.heap_partition.specs.declared.value.Cell.{Cell}
-use Rattle.mut_borrow.specs.declared.mutable.MutRef.{MutRef}
 use Rattle.server_model.specs.Servers.{Cluster}
-use Rattle.heap_law.specs.Names.{Among, one, other}
-use Rattle.heap_law.specs.Things.{Location, Thing, borrows, lies, vacant, retired, things_of}
+use Rattle.heap_law.specs.Names.{Among, one}
+use Rattle.heap_law.specs.Things.{Thing, lies, vacant, retired, things_of}
 use Rattle.heap_law.specs.Balances.{AtMostOne}
 use Rattle.heap_law.specs.Weights.{states}
 use Rattle.heap_law.specs.Sight.{Pointer, word_of_object, colour_up_to, is_spot, is_issued_at, is_issued, sight, issued}
-use Rattle.heap_law.specs.Placing.{words}
-use Rattle.heap_law.specs.Coherent.{Holds, are_issued}
 use Rattle.heap_law.specs.Words.{HasWords, LeadsTo, Fresh}
-use Rattle.heap_law.proofs.Names.{and_left, and_right, same_number, right_none}
-use Rattle.heap_law.proofs.Words.{none_at, words_law}
-use Rattle.path_law.proofs.Shown.{none_else}
+use Rattle.heap_law.proofs.Names.{and_left, and_right, same_number}
+use Rattle.heap_law.proofs.Words.{words_law}
 use Rattle.path_law.proofs.InState.{only_one}
 use Rattle.word_law.specs.Reworded.{LiesThere}
+use Rattle.word_law.specs.WordsAfter.{NewWordsGoOn}
+use Rattle.word_law.proofs.Words.{words_go_on}
+use Rattle.word_law.proofs.Beside.{holders_go_on, dirty_goes_on}
+use Rattle.word_law.proofs.Past.{are_no_firsts, past_goes_on}
 use Rattle.word_law.proofs.Tints.{next_leads}
 
 none_issued : (colours w : ℕ) (ps : List Pointer) (b : List Thing) → ((x : Thing) → Among x b → is_issued_at colours ps w x ≡ false) → is_issued colours ps b w ≡ false
@@ -85,8 +85,10 @@ module _ (k : Cluster) (b : HasWords (sight k)) (states_differ : AtMostOne state
     pub is_new : issued (sight k) w ≡ false
     is_new = none_issued (sight k).options.colours w (sight k).pointers (things_of k) not_issued
 
-  -- a reference's first word was issued
-  pub first_issued : (l : Location) (q : MutRef) → Holds k are_issued → Among (borrows l q) (things_of k) → issued (sight k) q.first ≡ true
-  first_issued l q all h =
-      let both : other (issued (sight k) q.word) + other (issued (sight k) q.first) ≡ 0 = none_at (words (λ v. other (issued (sight k) v))) (borrows l q) (things_of k) all h in
-      none_else (issued (sight k) q.first) (right_none (other (issued (sight k) q.word)) (other (issued (sight k) q.first)) both)
+pub new_words_go_on : NewWordsGoOn
+new_words_go_on k z h o w r all new before = record {
+  words = words_go_on k z h o w r before;
+  holders = holders_go_on k z h o w r;
+  dirty = dirty_goes_on k z h o w r;
+  past = past_goes_on k z h o w r (are_no_firsts.unissued k o w all new);
+}

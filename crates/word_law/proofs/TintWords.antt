@@ -19,8 +19,8 @@ use Rattle.word_law.specs.WordsAfter.{Rewrites}
 use Rattle.word_law.specs.PutBack.{put_in, LeadsHome, TintKeepsWords}
 use Rattle.word_law.proofs.GoOn.{pointer_to}
 use Rattle.word_law.proofs.Standing.{pointer_at, told, slot_among}
-use Rattle.word_law.proofs.Words.{words_go_on}
-use Rattle.word_law.proofs.NewWord.{is_new, first_issued}
+use Rattle.word_law.proofs.NewWord.{is_new, new_words_go_on}
+use Rattle.word_law.proofs.Past.{first_issued}
 use Rattle.word_law.proofs.Tints.{slot_put, slot_stands, tint_rewords}
 
 -- a value that may get another word is its pointer
@@ -31,7 +31,7 @@ pointer_is w _ new p l e f = absurd cc
 
 pub tint_keeps_words : TintKeepsWords
 tint_keeps_words k n ts e h h2 i v p here at points put c d sole fresh issued_all firsts states_differ before r a there =
-    words_go_on kh (put_in k n ts e h2) l p.object (next_word p.word) rewrites before
+    new_words_go_on kh (put_in k n ts e h2) l p.object (next_word p.word) rewrites issued_all new before
   where
     kh : Cluster
     kh = put_in k n ts e h
@@ -54,13 +54,14 @@ tint_keeps_words k n ts e h h2 i v p here at points put c d sole fresh issued_al
     home : LeadsHome kh p
     home = record { server = r; address = a; lying = there; leads = λ m y z q f. subst (λ j. LeadsTo m y j) (ap before.word f ∙ sym its_word) (before.home m y z q) }
 
+    new : issued (sight kh) (next_word p.word) ≡ false
+    new = ap (λ v. issued (sight kh) (next_word v)) its_word ∙ is_new kh before states_differ r a p.object there
+
     new_word : (q : MutRef) → v ≡ value.Mut q → next_word p.word ≢ q.first
     new_word q f s =
         let among : Among (borrows l q) (things_of kh) = slot_among kh h.thread.number i (value.Mut q) (stands ∙ ap Some f) (borrows l q) (λ m. inl refl) in
-        let was : issued (sight kh) q.first ≡ true = first_issued kh before states_differ l q issued_all among in
-        let isnt : issued (sight kh) (next_word (before.word p.object)) ≡ false = is_new kh before states_differ r a p.object there in
-        let same : q.first ≡ next_word (before.word p.object) = sym s ∙ ap next_word its_word in
-        let z : true ≡ false = sym was ∙ ap (issued (sight kh)) same ∙ isnt in
+        let was : issued (sight kh) q.first ≡ true = first_issued kh issued_all l q among in
+        let z : true ≡ false = sym was ∙ ap (issued (sight kh)) (sym s) ∙ new in
         absurd cc
 
     rewrites : Rewrites kh (put_in k n ts e h2) l p.object (next_word p.word)

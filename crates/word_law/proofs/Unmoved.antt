@@ -13,7 +13,7 @@ use Rattle.heap_law.specs.Sight.{Pointer, pointers_in, taken_object, taken_point
 use Rattle.heap_law.specs.Placing.{is_first, other_first, standing_in, standing_pointers}
 use Rattle.heap_law.specs.Coherent.{Holds, first_at_holder}
 use Rattle.heap_law.specs.Words.{all_pointers, IsStale, Fresh, HasWords, LeadsTo}
-use Rattle.heap_law.specs.Dirty.{DirtyAlone}
+use Rattle.heap_law.specs.Dirty.{DirtyAlone, PastWords}
 use Rattle.heap_law.proofs.Bags.{among_split}
 use Rattle.heap_law.proofs.Words.{none_at, none_all}
 use Rattle.path_law.proofs.Origins.{among_first, among_second}
@@ -160,5 +160,11 @@ module _ (k z : Cluster) (c : HasPlaces k) (d : HasPlaces z) (u : Unmoved k z) w
         sole = λ p i h. ⊎_elim (λ (s : IsStale (sight k) p.at). inl (on_stale p.at s)) (λ (s : is_held_at q.at p.at ≡ true). inr s) (y.sole p (back_standing p i) h);
       }
 
+  pub past_stays : PastWords (sight k) → PastWords (sight z)
+  past_stays f = record {
+    lent_changed = λ q g i j d h. f.lent_changed q g (back_reference q i) (back_reference g j) d h;
+    first_past = λ q i n p m fresh e. f.first_past q (back_reference q i) n p (back_all p m) (λ s. fresh (on_stale p.at s)) e;
+  }
+
 pub unmoved_stays : UnmovedStays
-unmoved_stays k z c d u = record { words = λ b. words_stay k z c d u b; holders = holders_stay k z c d u; dirty = dirty_stays k z c d u }
+unmoved_stays k z c d u = record { words = λ b. words_stay k z c d u b; holders = holders_stay k z c d u; dirty = dirty_stays k z c d u; past = past_stays k z c d u }

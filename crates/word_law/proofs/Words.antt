@@ -163,7 +163,7 @@ module _ (k z : Cluster) (h : Location) (o : ObjNo) (w : ℕ) (all : Rewrites k 
   taken_after : (p : Pointer) → Among p (taken_pointers (sight k).code gk gk.threads) → Among p (taken_pointers (sight z).code gz gz.threads)
   taken_after p m = subst (λ ps. Among p ps) (sym (taken_all k z h o w r)) m
 
-  stood : (p : Pointer) → Among p (all_pointers (sight z)) → (p ≡ pointer_to h w o) ⊎ StoodElsewhere (sight k) h p
+  pub stood : (p : Pointer) → Among p (all_pointers (sight z)) → (p ≡ pointer_to h w o) ⊎ StoodElsewhere (sight k) h p
   stood p m =
       ⊎_elim (λ (q : Among p (pointers_in (things_of z))). by p.at refl q)
       (λ (q : Among p (taken_pointers (sight z).code gz gz.threads)).

@@ -24,7 +24,7 @@ use Rattle.heap_law.specs.Sight.{sight}
 use Rattle.heap_law.specs.Coherent.{Holds, are_issued, first_at_holder}
 use Rattle.word_law.specs.Reworded.{HasPlaces, LiesThere, Reworded}
 use Rattle.word_law.specs.Soles.{IsSole}
-use Rattle.word_law.specs.WordsAfter.{WordsAfter}
+use Rattle.word_law.specs.WordsAfter.{KeepsWords}
 
 -- the cluster with a hand's thread among those of its server, which has done so many events
 abbrev pub put_in : Cluster → ℕ → List ThreadState → ℕ → Hand → Cluster
@@ -68,7 +68,7 @@ TintRewords = (k : Cluster) (n : ℕ) (ts : List ThreadState) (e : ℕ) (h h2 : 
     → Reworded (put_in k n ts e h) (put_in k n ts e h2) (at_slot h.thread.number i) p.object (next_word p.word)
 
 -- so where that pointer is the one through which its object is written, and isn't stale, and the object lies, each object has a word afterwards: that of the
--- object is the next colour. What is asked beside it: each address has one state, words that stand anywhere were issued, and references know their holders' words
+-- object is the next colour; and what else is kept of words is kept. What is asked beside it: each address has one state, words that stand anywhere were issued, and references know their holders' words
 abbrev pub TintKeepsWords : Type 0
 TintKeepsWords = (k : Cluster) (n : ℕ) (ts : List ThreadState) (e : ℕ) (h h2 : Hand) (i : ℕ) (v : Value) (p : BoxPtr) → StandsHere k n ts h
     → slice_get h.thread.slots i ≡ Some v
@@ -82,7 +82,7 @@ TintKeepsWords = (k : Cluster) (n : ℕ) (ts : List ThreadState) (e : ℕ) (h h2
     → Holds (put_in k n ts e h) first_at_holder
     → AtMostOne states (things_of (put_in k n ts e h))
     → (before : HasWords (sight (put_in k n ts e h))) (r a : ℕ) → LiesThere (put_in k n ts e h) r a p.object
-    → WordsAfter (sight (put_in k n ts e h)) (sight (put_in k n ts e h2)) p.object (next_word p.word) before
+    → KeepsWords (put_in k n ts e h) (put_in k n ts e h2) p.object (next_word p.word) before
 
 -- A WORD IN A CELL: the box in a cell that lies here gets another word. `put_word` also marks the mutable reference in a slot that led straight to the cell, which
 -- is a mark as below

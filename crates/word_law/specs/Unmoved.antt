@@ -24,7 +24,7 @@ use Rattle.heap_law.specs.Follow.{Standing, value_in}
 use Rattle.heap_law.specs.Sight.{Pointer, pointers_in, Sight, sight}
 use Rattle.heap_law.specs.Placing.{standing_in}
 use Rattle.heap_law.specs.Words.{HasWords}
-use Rattle.heap_law.specs.Dirty.{DirtyAlone}
+use Rattle.heap_law.specs.Dirty.{DirtyAlone, PastWords}
 use Rattle.heap_law.specs.Coherent.{Holds, first_at_holder}
 use Rattle.word_law.specs.Reworded.{HasPlaces, LiesThere}
 
@@ -76,11 +76,12 @@ pub record WordsStay (s z : Sight) (before : HasWords s) : Type 0 where
   pub after : HasWords z
   pub same : (p : ObjNo) → after.word p ≡ before.word p
 
--- the words stay, references know the words at their holders as before, and dirty references are alone as before
+-- the words stay, references know the words at their holders as before, dirty references are alone as before, and what was before the words of today is as it was
 pub record LeavesWords (k z : Cluster) : Type 0 where
   pub words : (before : HasWords (sight k)) → WordsStay (sight k) (sight z) before
   pub holders : Holds k first_at_holder → Holds z first_at_holder
   pub dirty : DirtyAlone (sight k) → DirtyAlone (sight z)
+  pub past : PastWords (sight k) → PastWords (sight z)
 
 -- so it is where nothing changes that words see
 abbrev pub UnmovedStays : Type 0

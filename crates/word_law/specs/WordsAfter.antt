@@ -1,12 +1,14 @@
 -- THE WORDS OF OBJECTS GO ON where one of them changes (this project's rules).
-use Rattle.std.specs.Prelude.{◌≡◌, ℕ, Some}
+use Rattle.std.specs.Prelude.{false, ◌≡◌, ◌≢◌, ℕ, Some}
 use Rattle.fr_base.specs.declared.name.ObjNo.{ObjNo}
 use Rattle.server_model.specs.Servers.{Cluster}
-use Rattle.heap_law.specs.Things.{Location}
-use Rattle.heap_law.specs.Sight.{Sight, sight}
-use Rattle.heap_law.specs.Coherent.{Holds, first_at_holder}
-use Rattle.heap_law.specs.Dirty.{DirtyAlone}
-use Rattle.heap_law.specs.Words.{IsStale, HasWords}
+use Rattle.heap_law.specs.Names.{Among}
+use Rattle.heap_law.specs.Things.{Location, things_of}
+use Rattle.heap_law.specs.Stale.{Reference, references}
+use Rattle.heap_law.specs.Sight.{Pointer, Sight, sight, issued}
+use Rattle.heap_law.specs.Coherent.{Holds, are_issued, first_at_holder}
+use Rattle.heap_law.specs.Dirty.{DirtyAlone, PastWords}
+use Rattle.heap_law.specs.Words.{all_pointers, IsStale, HasWords}
 use Rattle.word_law.specs.Reworded.{HasPlaces, Reworded}
 use Rattle.word_law.specs.Soles.{IsSole}
 
@@ -37,6 +39,30 @@ HoldersGoOn = (k z : Cluster) (h : Location) (o : ObjNo) (w : ℕ) → Rewrites 
 -- and dirty references are alone
 abbrev pub DirtyGoOn : Type 0
 DirtyGoOn = (k z : Cluster) (h : Location) (o : ObjNo) (w : ℕ) → Rewrites k z h o w → DirtyAlone (sight k) → DirtyAlone (sight z)
+
+-- the word isn't the first one of a reference to the object that has another one
+abbrev pub IsNoFirst : Cluster → ObjNo → ℕ → Type 0
+IsNoFirst k o w = (r : Reference) → Among r (references (sight k).ground (things_of k)) → r.reference.object ≡ o → r.reference.word ≢ r.reference.first → w ≢ r.reference.first
+
+-- so it is with a word that wasn't issued, and with that of a pointer to the object that isn't stale
+pub record AreNoFirsts : Type 0 where
+  pub unissued : (k : Cluster) (o : ObjNo) (w : ℕ) → Holds k are_issued → issued (sight k) w ≡ false → IsNoFirst k o w
+  pub present : (k : Cluster) (p : Pointer) → PastWords (sight k) → Among p (all_pointers (sight k)) → (IsStale (sight k) p.at → ⊥) → IsNoFirst k p.object p.word
+
+-- then references that were made from dirty ones are changed, and first words that were left are no words of today
+abbrev pub PastGoesOn : Type 0
+PastGoesOn = (k z : Cluster) (h : Location) (o : ObjNo) (w : ℕ) → Rewrites k z h o w → IsNoFirst k o w → PastWords (sight k) → PastWords (sight z)
+
+-- all of it
+pub record KeepsWords (k z : Cluster) (o : ObjNo) (w : ℕ) (before : HasWords (sight k)) : Type 0 where
+  pub words : WordsAfter (sight k) (sight z) o w before
+  pub holders : Holds z first_at_holder
+  pub dirty : DirtyAlone (sight k) → DirtyAlone (sight z)
+  pub past : PastWords (sight k) → PastWords (sight z)
+
+-- a word that wasn't issued leaves it
+abbrev pub NewWordsGoOn : Type 0
+NewWordsGoOn = (k z : Cluster) (h : Location) (o : ObjNo) (w : ℕ) → Rewrites k z h o w → Holds k are_issued → issued (sight k) w ≡ false → (before : HasWords (sight k)) → KeepsWords k z o w before
 
 -- a pointer from which no reference was made, and that isn't stale, isn't stale afterwards
 abbrev pub FreshGoOn : Type 0

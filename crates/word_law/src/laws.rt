@@ -4,7 +4,7 @@ ghost use Rattle.word_law.specs.Example.{WordsApply};
 ghost use Rattle.word_law.specs.PutBack.{CellsReword, MarkRewords, SlotsReword, TintKeepsWords, TintRewords};
 ghost use Rattle.word_law.specs.Soles.{SolesStay, WrittenAreSole};
 ghost use Rattle.word_law.specs.Unmoved.{EvictionsUnmoved, FetchesUnmoved, UnmovedStays};
-ghost use Rattle.word_law.specs.WordsAfter.{DirtyGoOn, FreshGoOn, HoldersGoOn, WordsGoOn};
+ghost use Rattle.word_law.specs.WordsAfter.{AreNoFirsts, DirtyGoOn, FreshGoOn, HoldersGoOn, NewWordsGoOn, PastGoesOn, WordsGoOn};
 
 /// A pointer that a thread may write through, and that isn't stale, is the one through which its object is written: each other pointer to the object stands above
 /// it, and no reference was made from it. That sees no words, marks and pins, and no types, so it stays from one small step of an event to the next.
@@ -15,11 +15,15 @@ pub fn soles_stay()
 
 /// Where the pointer through which an object is written gets another word, and the object lies where that leads, each object has a word as before:
 /// whoever else points to the object stands above that pointer, and is stale. References know the words at their holders as before, and dirty references
-/// are alone; other pointers through which objects are written don't become stale. In one coherent cluster all that is asked is there.
+/// are alone; other pointers through which objects are written don't become stale. What was before the words of today goes on too, where the new word is no
+/// reference's first one, as none is that wasn't issued. In one coherent cluster all that is asked is there.
 pub fn words_go_on()
     ensures words { WordsGoOn }
     ensures holders { HoldersGoOn }
     ensures dirty { DirtyGoOn }
+    ensures past { PastGoesOn }
+    ensures no_firsts { AreNoFirsts }
+    ensures new_words { NewWordsGoOn }
     ensures fresh { FreshGoOn }
     ensures applies { WordsApply }
 {}
@@ -35,8 +39,8 @@ pub fn small_steps_reword()
     ensures marks { MarkRewords }
 {}
 
-/// Where nothing changes that words see, each object has the word that it had, references know the words at their holders, and dirty references are alone. No
-/// types are asked for. An eviction at its server is such an event, and so is the delivery of a `fetch`.
+/// Where nothing changes that words see, each object has the word that it had, references know the words at their holders, dirty references are alone, and first
+/// words that were left are no words of today. No types are asked for. An eviction at its server is such an event, and so is the delivery of a `fetch`.
 pub fn words_stay()
     ensures unmoved { UnmovedStays }
     ensures evictions { EvictionsUnmoved }

@@ -1,6 +1,8 @@
 use Rattle.word_law.proofs.laws.words_go_on.Goals as goal
 use Rattle.word_law.proofs.Words.{words_go_on, fresh_go_on}
 use Rattle.word_law.proofs.Beside.{holders_go_on, dirty_goes_on}
+use Rattle.word_law.proofs.Past.{past_goes_on, are_no_firsts}
+use Rattle.word_law.proofs.NewWord.{new_words_go_on}
 use Rattle.word_law.proofs.Example.{words_apply}
 
 pub returns-clause-words : goal.returns-clause-words
@@ -17,3 +19,12 @@ returns-clause-applies c = words_apply
 
 pub returns-clause-fresh : goal.returns-clause-fresh
 returns-clause-fresh c = fresh_go_on
+
+pub returns-clause-past : goal.returns-clause-past
+returns-clause-past c = past_goes_on
+
+pub returns-clause-no_firsts : goal.returns-clause-no_firsts
+returns-clause-no_firsts c = are_no_firsts
+
+pub returns-clause-new_words : goal.returns-clause-new_words
+returns-clause-new_words c = new_words_go_on
