@@ -7,4 +7,5 @@ pub mod Seen
 pub mod Deliveries
 pub mod Answers
 pub mod Finishes
+pub mod Steps
 pub mod StayKinds

@@ -9,14 +9,14 @@ use Rattle.thread_state.specs.View.{ThreadState}
 use Rattle.server_msgs.specs.declared.message.Message.{Message}
 use Rattle.server_model.specs.declared.event.What.TheVariants.{Deliver}
 use Rattle.server_model.specs.Servers.{Sent, Server, Cluster, server_at}
-use Rattle.server_model.specs.Work.{Work, Hand, Site, receive, thread_in, put_back, at_thread, beside_threads, then_some, add_waiting}
-use Rattle.server_model.specs.Events.{does, begin_at, left_by, deliver, deliver_message, received}
+use Rattle.server_model.specs.Work.{Work, Hand, Site, receive, thread_in, in_hand, put_back, at_thread, beside_threads, then_some, add_waiting}
+use Rattle.server_model.specs.Events.{does, begin_work, begin_at, left_by, deliver, deliver_message, received, Stepped, step, step_in, stepped}
 use Rattle.server_model.specs.Clusters.{with_server, accept, accept_at, accept_all, with_outbox, hand_over_newer}
 use Rattle.heap_law.specs.Things.{Thing, things_at, partition_things, copy_things, mutex_things, task_things, thread_things, message_things, waiting_things, leaving_things, server_things, servers_things}
 use Rattle.heap_law.proofs.Names.{same_number}
 use Rattle.path_law.proofs.Sole.{some_is}
 use Rattle.event_law.specs.Laws.{Gives, GoTo}
-use Rattle.event_law.proofs.Results.{over_gives}
+use Rattle.event_law.proofs.Results.{then_gives, over_gives}
 use Rattle.event_law.proofs.Bags.{counts_of, body_things, all_standing}
 use Rattle.stay_law.proofs.Alike.{Alike, itself, turned, chain, beside, exchanged, in_front, joined, inside}
 use Rattle.stay_law.proofs.Lists.{taken_alike, shifted, at_end}
@@ -57,6 +57,14 @@ pub record HandAlike (code : List Instr) (n : ℕ) (gone : List Thing) (h h2 : H
   pub thread : Alike code (gone ++ thread_things n false h.thread) (thread_things n false h2.thread)
   pub rest : Alike code (body_things n h.work.rest) (body_things n h2.work.rest)
 
+-- the thread stands where it stood
+pub put_alike : (code : List Instr) (gone : List Thing) (t : ℕ) (x : Site) (y : ThreadState) → thread_in x.threads t ≡ Some y → (h : Hand) → HandAlike code x.work.rest.number gone (record { work = x.work; thread = y }) h → SiteAlike code gone x (put_back x.threads h)
+put_alike code gone t x y e h a =
+    let n = x.work.rest.number in record {
+      number = a.number;
+      alike = chain (joined gone (all_standing n x.threads) (body_things n x.work.rest)) (beside (thread_changes n x.threads t y h.thread gone [] e a.named a.thread) a.rest);
+    }
+
 pub thread_alike_at : (code : List Instr) (gone : List Thing) (t : ℕ) (f : Hand → Option Hand) (x : Site)
     → ((y : ThreadState) → thread_in x.threads t ≡ Some y → Gives (HandAlike code x.work.rest.number gone (record { work = x.work; thread = y })) (f (record { work = x.work; thread = y })))
     → Gives (SiteAlike code gone x) (at_thread t f x)
@@ -65,15 +73,28 @@ thread_alike_at code gone t f x go = by (thread_in x.threads t) refl
     n : ℕ
     n = x.work.rest.number
 
-    put : (y : ThreadState) → thread_in x.threads t ≡ Some y → (h : Hand) → HandAlike code n gone (record { work = x.work; thread = y }) h → SiteAlike code gone x (put_back x.threads h)
-    put y e h a = record {
-      number = a.number;
-      alike = chain (joined gone (all_standing n x.threads) (body_things n x.work.rest)) (beside (thread_changes n x.threads t y h.thread gone [] e a.named a.thread) a.rest);
-    }
-
     by : (o : Option ThreadState) → thread_in x.threads t ≡ o → Gives (SiteAlike code gone x) (then_some (option_map (λ y. record { work = x.work; thread = y }) o) (λ h. option_map (put_back x.threads) (f h)))
     by None e = tt
-    by (Some y) e = over_gives (HandAlike code n gone (record { work = x.work; thread = y })) (SiteAlike code gone x) (f (record { work = x.work; thread = y })) (put_back x.threads) (go y e) (λ h a. put y e h a)
+    by (Some y) e = over_gives (HandAlike code n gone (record { work = x.work; thread = y })) (SiteAlike code gone x) (f (record { work = x.work; thread = y })) (put_back x.threads) (go y e) (λ h a. put_alike code gone t x y e h a)
+
+-- a step, where that is known of its thread's hand in entries of some kind
+pub steps : (code : List Instr) (servers t : ℕ) (s : Server) (Q : Option Fresh → Type 0)
+    → ((y : ThreadState) → thread_in s.threads t ≡ Some y → (i : Instr) → slice_get code y.pc ≡ Some i
+    → Gives (λ (d : Stepped). Q d.names → HandAlike code s.rest.number [] (record { work = begin_work s.rest; thread = y }) d.hand) (step servers i (record { work = begin_work s.rest; thread = y })))
+    → Gives (λ (r : Server × EntryView). Q r.1.done → ServerAlike code s r) (option_map (stepped s) (then_some (in_hand (begin_at s) t) (step_in code servers)))
+steps code servers t s Q go = by (thread_in s.threads t) refl
+  where
+    n : ℕ
+    n = s.rest.number
+
+    by : (o : Option ThreadState) → thread_in s.threads t ≡ o
+        → Gives (λ (r : Server × EntryView). Q r.1.done → ServerAlike code s r) (option_map (stepped s) (then_some (option_map (λ y. record { work = begin_work s.rest; thread = y }) o) (step_in code servers)))
+    by None e = tt
+    by (Some y) e =
+        let h : Hand = record { work = begin_work s.rest; thread = y } in
+        over_gives (λ (d : Stepped). Q d.names → HandAlike code n [] h d.hand) (λ (r : Server × EntryView). Q r.1.done → ServerAlike code s r) (step_in code servers h) (stepped s)
+        (then_gives (λ (d : Stepped). Q d.names → HandAlike code n [] h d.hand) (slice_get code y.pc) (λ i. step servers i h) (λ i j. go y e i j))
+        (λ d a q. begun_alike s s.events (Some d.hand.thread.number) d.names (put_back s.threads d.hand) (put_alike code [] t (begin_at s) y e d.hand (a q)))
 
 -- a delivery: the message and what it carries are beside the site
 pub deliveries : (k : Cluster) (s : Server) (i : ℕ) (m : Message) → slice_get s.rest.inbox i ≡ Some m → Gives (SiteAlike k.code (message_things s.rest.number m) (received i s)) (deliver_message k.code m (received i s))

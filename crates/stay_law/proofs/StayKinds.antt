@@ -1,5 +1,5 @@
 -- Each kind of event that is proved to leave the words.
-use Rattle.std.proofs.Common.{◌≡◌, ℕ, ◌+◌, [], ◌++◌, Option, Some, None, option_map, refl, subst, arith}
+use Rattle.std.proofs.Common.{◌≡◌, ℕ, ◌+◌, List, [], ◌++◌, Option, Some, None, option_map, refl, sym, ap, subst, ◌∙◌, arith}
 use Rattle.std.specs.Prelude.{⊤, slice_get, take, drop as drop_first, length}
 use Rattle.fr_base.specs.declared.instruction.Instr.{Instr}
 use Rattle.fr_base.specs.declared.instruction.Instr.TheVariants as instr
@@ -12,8 +12,8 @@ use Rattle.server_model.specs.declared.event.Event.{Event}
 use Rattle.server_model.specs.declared.event.What.{What}
 use Rattle.server_model.specs.declared.event.What.TheVariants.{Step, Deliver, Evict, Migrate}
 use Rattle.server_model.specs.Servers.{Server, Cluster, server_at}
-use Rattle.server_model.specs.Work.{Work, beside_threads, receive, then_some, thread_in}
-use Rattle.server_model.specs.Events.{enabled, does, begin_at, left_by, received, evict_copy}
+use Rattle.server_model.specs.Work.{Work, Hand, beside_threads, receive, then_some, thread_in}
+use Rattle.server_model.specs.Events.{enabled, does, begin_work, begin_at, left_by, received, evict_copy, Stepped, step}
 use Rattle.server_model.specs.Objects.{deliver_fetch, deliver_fetched}
 use Rattle.server_model.specs.Sharing.{deliver_lock, deliver_granted, deliver_unlock, deliver_dup, deliver_dupped, release_mutex}
 use Rattle.server_model.specs.Joining.{deliver_join, deliver_joined, release_task}
@@ -28,9 +28,9 @@ use Rattle.heap_law.specs.Coherent.{IsSound}
 use Rattle.word_law.specs.Reworded.{HasPlaces}
 use Rattle.word_law.specs.Unmoved.{LeavesWords}
 use Rattle.word_law.proofs.Unmoved.{unmoved_stays}
-use Rattle.event_law.specs.Kinds.{Kind, fetch, fetched, asks_lock, granted, unlocked, asks_dup, dupped, released, starts, asks_join, joined, finished, arrives, evicts, migrates, message_kind, instr_kind, kind_at}
-use Rattle.event_law.specs.Laws.{Gives, GoTo, SendsToServers}
-use Rattle.event_law.proofs.Results.{over_gives, test_gives, both_give}
+use Rattle.event_law.specs.Kinds.{Kind, fetch, fetched, asks_lock, granted, unlocked, asks_dup, dupped, released, starts, asks_join, joined, finished, arrives, evicts, migrates, step_print, step_arith, step_par_end, step_join, message_kind, instr_kind, kind_at}
+use Rattle.event_law.specs.Laws.{Gives, GoTo, SendsToServers, FewEvents}
+use Rattle.event_law.proofs.Results.{over_gives, test_gives, both_give, weaker}
 use Rattle.event_law.proofs.Trades.{Same, tot-append}
 use Rattle.event_law.proofs.Bags.{body_things}
 use Rattle.event_law.proofs.Events.{others_of, tot-server}
@@ -38,13 +38,14 @@ use Rattle.event_law.proofs.Finished.{PairsAreRight}
 use Rattle.event_law.proofs.FinishSteps.{notes_rise, unit_result}
 use Rattle.event_law.proofs.Applied.{go_with}
 use Rattle.event_law.proofs.Sending.{applied_part, each_event_sends}
-use Rattle.stay_law.specs.Laws.{LeaveWords}
+use Rattle.stay_law.specs.Laws.{LeaveWords, LeaveWordsUndone}
 use Rattle.stay_law.proofs.Alike.{Alike, chain}
 use Rattle.stay_law.proofs.Servers.{RestAlike}
-use Rattle.stay_law.proofs.Sites.{SiteAlike, ServerAlike, beside_alike, thread_alike_at, deliveries, begun_alike, servers_alike, handed_over}
+use Rattle.stay_law.proofs.Sites.{SiteAlike, ServerAlike, HandAlike, steps, beside_alike, thread_alike_at, deliveries, begun_alike, servers_alike, handed_over}
 use Rattle.stay_law.proofs.Deliveries.{fetches, locks, unlocks, dups, shares_go, joins, tasks_go}
 use Rattle.stay_law.proofs.Answers as answer
 use Rattle.stay_law.proofs.Finishes.{finishes}
+use Rattle.stay_law.proofs.Steps.{print_steps, arith_steps, pair_steps, join_steps}
 use Rattle.stay_law.proofs.Seen.{seen_alike}
 
 abbrev pub Stays : Kind → Type 0
@@ -63,6 +64,9 @@ Stays released = ⊤
 Stays asks_join = ⊤
 Stays joined = ⊤
 Stays finished = ⊤
+Stays step_print = ⊤
+Stays step_arith = ⊤
+Stays step_par_end = ⊤
 Stays kind = ⊥
 
 some_same : {a b : Kind} → Some a ≡ Some b → b ≡ a
@@ -71,27 +75,72 @@ some_same e = cc
 stays_as : (a b : Kind) → Some a ≡ Some b → Stays b → Stays a
 stays_as a b q p = subst Stays (some_same q) p
 
--- no step is one of these
-no_step : (i : Instr) → Stays (instr_kind i) → ⊥
-no_step (instr.Let o) p = p
-no_step (instr.Assign w o) p = p
-no_step (instr.Read w t) p = p
-no_step (instr.Borrow w) p = p
-no_step (instr.BorrowMut w) p = p
-no_step (instr.Box o) p = p
-no_step (instr.Arith f a b) p = p
-no_step (instr.Print o) p = p
-no_step instr.Discard p = p
-no_step instr.DropSlot p = p
-no_step (instr.Spawn cs pc) p = p
-no_step (instr.Join o) p = p
-no_step (instr.Mutex o) p = p
-no_step (instr.Dup w) p = p
-no_step (instr.Lock w) p = p
-no_step instr.Unlock p = p
-no_step (instr.Par cs pc ds other) p = p
-no_step instr.ParEnd p = p
-no_step (instr.End o) p = p
+-- the step of an instruction of these
+step_stays : (code : List Instr) (n servers : ℕ) (i : Instr) (h : Hand) → slice_get code h.thread.pc ≡ Some i → Stays (instr_kind i) → Gives (λ (d : Stepped). HandAlike code n [] h d.hand) (step servers i h)
+step_stays code n w (instr.Print o) h e p = print_steps code n w o h e
+step_stays code n w (instr.Arith f a b) h e p = arith_steps code n w f a b h e
+step_stays code n w instr.ParEnd h e p = pair_steps code n w h e
+step_stays code n w (instr.Let o) h e p = absurd p
+step_stays code n w (instr.Assign v o) h e p = absurd p
+step_stays code n w (instr.Read v t) h e p = absurd p
+step_stays code n w (instr.Borrow v) h e p = absurd p
+step_stays code n w (instr.BorrowMut v) h e p = absurd p
+step_stays code n w (instr.Box o) h e p = absurd p
+step_stays code n w instr.Discard h e p = absurd p
+step_stays code n w instr.DropSlot h e p = absurd p
+step_stays code n w (instr.Spawn cs pc) h e p = absurd p
+step_stays code n w (instr.Join o) h e p = absurd p
+step_stays code n w (instr.Mutex o) h e p = absurd p
+step_stays code n w (instr.Dup v) h e p = absurd p
+step_stays code n w (instr.Lock v) h e p = absurd p
+step_stays code n w instr.Unlock h e p = absurd p
+step_stays code n w (instr.Par cs pc ds other) h e p = absurd p
+step_stays code n w (instr.End o) h e p = absurd p
+
+-- only a join is of its kind
+abbrev AtJoin : Kind → Type 0
+AtJoin step_join = ⊤
+AtJoin kind = ⊥
+
+join_asks : (code : List Instr) (n servers : ℕ) (i : Instr) (h : Hand) → h.work.rest.number ≡ n → slice_get code h.thread.pc ≡ Some i → AtJoin (instr_kind i) → Gives (λ (d : Stepped). d.names ≡ None → HandAlike code n [] h d.hand) (step servers i h)
+join_asks code n w (instr.Join o) h number e p = join_steps code n w o h number e
+join_asks code n w (instr.Let o) h number e p = absurd p
+join_asks code n w (instr.Assign v o) h number e p = absurd p
+join_asks code n w (instr.Read v t) h number e p = absurd p
+join_asks code n w (instr.Borrow v) h number e p = absurd p
+join_asks code n w (instr.BorrowMut v) h number e p = absurd p
+join_asks code n w (instr.Box o) h number e p = absurd p
+join_asks code n w (instr.Arith f a b) h number e p = absurd p
+join_asks code n w (instr.Print o) h number e p = absurd p
+join_asks code n w instr.Discard h number e p = absurd p
+join_asks code n w instr.DropSlot h number e p = absurd p
+join_asks code n w (instr.Spawn cs pc) h number e p = absurd p
+join_asks code n w (instr.Mutex o) h number e p = absurd p
+join_asks code n w (instr.Dup v) h number e p = absurd p
+join_asks code n w (instr.Lock v) h number e p = absurd p
+join_asks code n w instr.Unlock h number e p = absurd p
+join_asks code n w (instr.Par cs pc ds other) h number e p = absurd p
+join_asks code n w instr.ParEnd h number e p = absurd p
+join_asks code n w (instr.End o) h number e p = absurd p
+
+-- no message is a step
+no_join : (m : Message) → AtJoin (message_kind m) → ⊥
+no_join (message.Fetch w o a t) p = p
+no_join (message.Fetched w c t) p = p
+no_join (message.Move w o a t) p = p
+no_join (message.Moved w c t) p = p
+no_join (message.Drop w o) p = p
+no_join (message.Lock m a t) p = p
+no_join (message.Granted m v t) p = p
+no_join (message.Unlock m v) p = p
+no_join (message.Dup m a t) p = p
+no_join (message.Dupped m t) p = p
+no_join (message.Release r) p = p
+no_join (message.Start y) p = p
+no_join (message.Migrate y) p = p
+no_join (message.Join u a t) p = p
+no_join (message.Joined u v t) p = p
+no_join (message.Finished u v) p = p
 
 -- AT ITS SERVER
 
@@ -134,51 +183,78 @@ module _ (k : Cluster) (sound : IsSound k) (number : ℕ) (s : Server) (here : s
       deliveries k s i (message.Joined u v t) q (thread_alike_at k.code (message_things n (message.Joined u v t)) t (deliver_joined u v) (received i s) (λ y e. answer.joined_to k.code n (record { work = (received i s).work; thread = y }) n u v t))
   message_stays i (message.Finished u v) q p = deliveries k s i (message.Finished u v) q (finishes k.code u v (received i s) (pairs_right i u v q))
 
+  -- the instruction at which a thread is
+  of_thread : (kind : Kind) (t : ℕ) (y : ThreadState) (i : Instr) → thread_in s.threads t ≡ Some y → slice_get k.code y.pc ≡ Some i → then_some (thread_in s.threads t) (λ x. option_map instr_kind (slice_get k.code x.pc)) ≡ Some kind → Some (instr_kind i) ≡ Some kind
+  of_thread kind t y i e f q = sym (ap (option_map instr_kind) f) ∙ sym (ap (λ o. then_some o (λ x. option_map instr_kind (slice_get k.code x.pc))) e) ∙ q
+
   module _ (kind : Kind) (p : Stays kind) where
     of_message : (i : ℕ) (o : Option Message) → slice_get s.rest.inbox i ≡ o → option_map message_kind o ≡ Some kind → Gives (ServerAlike k.code s) (does k.code k.options s (Deliver i))
     of_message i None h r = absurd cc
     of_message i (Some m) h r = message_stays i m h (stays_as (message_kind m) kind r p)
 
-    of_instr : {X : Type 0} (o : Option Instr) → option_map instr_kind o ≡ Some kind → X
-    of_instr None r = absurd cc
-    of_instr (Some i) r = absurd (no_step i (stays_as (instr_kind i) kind r p))
-
-    of_thread : {X : Type 0} (o : Option ThreadState) → then_some o (λ x. option_map instr_kind (slice_get k.code x.pc)) ≡ Some kind → X
-    of_thread None r = absurd cc
-    of_thread (Some x) r = of_instr (slice_get k.code x.pc) r
-
     pub server_stays : (w : What) → kind_at k w s ≡ Some kind → Gives (ServerAlike k.code s) (does k.code k.options s w)
-    server_stays (Step t) q = of_thread (thread_in s.threads t) q
+    server_stays (Step t) q =
+        weaker (λ (r : Server × EntryView). ⊤ → ServerAlike k.code s r) (ServerAlike k.code s) (does k.code k.options s (Step t))
+        (steps k.code k.options.servers t s (λ f. ⊤) (λ y e i f.
+        let h : Hand = record { work = begin_work s.rest; thread = y } in
+        weaker (λ (d : Stepped). HandAlike k.code n [] h d.hand) (λ (d : Stepped). ⊤ → HandAlike k.code n [] h d.hand) (step k.options.servers i h) (step_stays k.code n k.options.servers i h f (stays_as (instr_kind i) kind (of_thread kind t y i e f q) p)) (λ d a z. a)))
+        (λ r a. a tt)
     server_stays (Deliver i) q = of_message i (slice_get s.rest.inbox i) refl q
     server_stays (Evict w) q = over_gives (SiteAlike k.code [] (begin_at s)) (ServerAlike k.code s) (beside_threads (evict_copy w) (begin_at s)) (left_by s.events None None) (answer.evictions k.code w (begin_at s)) (λ x a. begun_alike s s.events None None x a)
     server_stays (Migrate t target) q =
         over_gives (SiteAlike k.code [] (begin_at s)) (ServerAlike k.code s) (migrate t target (begin_at s)) (left_by s.events (Some t) None) (answer.migrations k.code t target (begin_at s)) (λ x a. begun_alike s s.events (Some t) None x a)
 
+  joins_stay : (w : What) → kind_at k w s ≡ Some step_join → Gives (λ (r : Server × EntryView). r.1.done ≡ None → ServerAlike k.code s r) (does k.code k.options s w)
+  joins_stay (Step t) q =
+      steps k.code k.options.servers t s (λ f. f ≡ None)
+      (λ y e i f. join_asks k.code n k.options.servers i (record { work = begin_work s.rest; thread = y }) refl f
+      (subst AtJoin (some_same (of_thread step_join t y i e f q)) tt))
+  joins_stay (Deliver i) q = of_message (slice_get s.rest.inbox i) q
+    where
+      of_message : {X : Type 0} (o : Option Message) → option_map message_kind o ≡ Some step_join → X
+      of_message None r = absurd cc
+      of_message (Some m) r = absurd (no_join m (subst AtJoin (some_same r) tt))
+  joins_stay (Evict w) q = absurd cc
+  joins_stay (Migrate t target) q = absurd cc
+
 -- IN ITS CLUSTER
 
-module _ (k : Cluster) (e : Event) where
+module _ (k : Cluster) (e : Event) (Q : EntryView → Type 0) where
   abbrev Seen : Cluster × EntryView → Type 0
-  Seen d = (d.0.code ≡ k.code) × Alike k.code (things_of k) (things_of d.0)
+  Seen d = Q d.1 → (d.0.code ≡ k.code) × Alike k.code (things_of k) (things_of d.0)
 
-  handed : (s : Server) → server_at k.servers e.server ≡ Some s → (o : Option (Server × EntryView)) → Gives (ServerAlike k.code s) o → Gives (λ (r : Server × EntryView). GoTo (with_server k.servers e.server r.0) (drop_first (length s.rest.outbox) r.0.rest.outbox)) o
+  abbrev There : Server → Server × EntryView → Type 0
+  There s r = Q r.1 → ServerAlike k.code s r
+
+  handed : (s : Server) → server_at k.servers e.server ≡ Some s → (o : Option (Server × EntryView)) → Gives (There s) o → Gives (λ (r : Server × EntryView). GoTo (with_server k.servers e.server r.0) (drop_first (length s.rest.outbox) r.0.rest.outbox)) o
       → Gives Seen (option_map (λ r. (record k { servers = hand_over_newer e.server (length s.rest.outbox) r.0 k.servers }, r.1)) o)
   handed s h None a g = tt
-  handed s h (Some r) a g =
+  handed s h (Some r) a g = λ q.
       let older = length s.rest.outbox in
-      (refl, chain (servers_alike e.server k.servers s r.0 h a) (handed_over e.server older s r.0 k.servers h (go_with k.servers e.server r.0 (take older r.0.rest.outbox) (drop_first older r.0.rest.outbox) g)))
+      (refl, chain (servers_alike e.server k.servers s r.0 h (a q)) (handed_over e.server older s r.0 k.servers h (go_with k.servers e.server r.0 (take older r.0.rest.outbox) (drop_first older r.0.rest.outbox) g)))
 
-  at_server : (o : Option Server) → server_at k.servers e.server ≡ o → SendsToServers k e → ((s : Server) → server_at k.servers e.server ≡ Some s → Gives (ServerAlike k.code s) (done_at k e.what s))
+  at_server : (o : Option Server) → server_at k.servers e.server ≡ o → SendsToServers k e → ((s : Server) → server_at k.servers e.server ≡ Some s → Gives (There s) (done_at k e.what s))
       → Gives Seen (then_some o (λ s. option_map (λ d. (record k { servers = hand_over_newer e.server (length s.rest.outbox) d.0 k.servers }, d.1)) (done_at k e.what s)))
   at_server None h go f = tt
   at_server (Some s) h go f = handed s h (done_at k e.what s) (f s h) (go s h)
 
+  -- so an event leaves the words where it leaves what words see at its server
+  leaves_where : IsSound k → FewEvents k → ((s : Server) → server_at k.servers e.server ≡ Some s → Gives (There s) (does k.code k.options s e.what)) → Gives (λ (d : Cluster × EntryView). Q d.1 → LeavesWords k d.0) (apply k e)
+  leaves_where sound few f =
+      both_give Seen (λ (d : Cluster × EntryView). HasPlaces d.0) (λ (d : Cluster × EntryView). Q d.1 → LeavesWords k d.0) (apply k e)
+      (at_server (server_at k.servers e.server) refl (each_event_sends k e sound few) (λ s h. test_gives (There s) (enabled k.options s e.what) (does k.code k.options s e.what) (λ on. f s h)))
+      (applied_part HasPlaces (λ c g. record { numbers_differ = g.numbers_differ; home_of_each = g.home_of_each; owner_of_each = g.owner_of_each }) k e sound few)
+      (λ d a places q. unmoved_stays k d.0 here places (seen_alike k d.0 here places (a q).0 (a q).1))
+    where
+      here : HasPlaces k
+      here = record { numbers_differ = sound.names.numbers_differ; home_of_each = sound.one_home.home_of_each; owner_of_each = sound.one_owner.owner_of_each }
+
 pub kind_stays : (kind : Kind) → Stays kind → LeaveWords kind
 kind_stays kind p k e q sound few =
-    both_give (Seen k e) (λ (d : Cluster × EntryView). HasPlaces d.0) (λ (d : Cluster × EntryView). LeavesWords k d.0) (apply k e)
-    (at_server k e (server_at k.servers e.server) refl (each_event_sends k e sound few)
-    (λ s h. test_gives (ServerAlike k.code s) (enabled k.options s e.what) (does k.code k.options s e.what) (λ on. server_stays k sound e.server s h kind p e.what (subst (λ o. then_some o (kind_at k e.what) ≡ Some kind) h q))))
-    (applied_part HasPlaces (λ c g. record { numbers_differ = g.numbers_differ; home_of_each = g.home_of_each; owner_of_each = g.owner_of_each }) k e sound few)
-    (λ d a places. unmoved_stays k d.0 here places (seen_alike k d.0 here places a.0 a.1))
-  where
-    here : HasPlaces k
-    here = record { numbers_differ = sound.names.numbers_differ; home_of_each = sound.one_home.home_of_each; owner_of_each = sound.one_owner.owner_of_each }
+    weaker (λ (d : Cluster × EntryView). ⊤ → LeavesWords k d.0) (λ (d : Cluster × EntryView). LeavesWords k d.0) (apply k e)
+    (leaves_where k e (λ v. ⊤) sound few
+    (λ s h. weaker (ServerAlike k.code s) (λ r. ⊤ → ServerAlike k.code s r) (does k.code k.options s e.what) (server_stays k sound e.server s h kind p e.what (subst (λ o. then_some o (kind_at k e.what) ≡ Some kind) h q)) (λ r a z. a)))
+    (λ d a. a tt)
+
+pub joins_leave : LeaveWordsUndone step_join
+joins_leave k e q sound few = leaves_where k e (λ v. v.done ≡ None) sound few (λ s h. joins_stay k sound e.server s h e.what (subst (λ o. then_some o (kind_at k e.what) ≡ Some step_join) h q))

@@ -3,4 +3,4 @@
 
 mod laws;
 
-pub use laws::events_leave_words;
+pub use laws::{events_leave_words, steps_leave_words};
