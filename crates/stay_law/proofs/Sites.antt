@@ -198,7 +198,7 @@ outbox_out {code = code} n s =
     chain (beside (itself l) all) (chain (joined l (leaving xs) (leaving ys)) (exchanged (l ++ leaving xs) (leaving ys)))
 
 -- a server that is there, in a list where another state of it stands
-replaced : {code : List Instr} (n : ℕ) (ss : List Server) (s x y : Server) (h : List Thing) → server_at ss n ≡ Some s → Alike code (server_things x) (h ++ server_things y) → Alike code (servers_things (with_server ss n x)) (h ++ servers_things (with_server ss n y))
+pub replaced : {code : List Instr} (n : ℕ) (ss : List Server) (s x y : Server) (h : List Thing) → server_at ss n ≡ Some s → Alike code (server_things x) (h ++ server_things y) → Alike code (servers_things (with_server ss n x)) (h ++ servers_things (with_server ss n y))
 replaced n [] s x y h e a = absurd cc
 replaced {code = code} n (z ∷ ss) s x y h e a = by (z.rest.number == n) e (λ g. replaced n ss s x y h g a)
   where

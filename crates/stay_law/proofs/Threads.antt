@@ -161,7 +161,7 @@ pin_unseen {code = code} n r = by r.pinned
     by true = blank (uses n r.word) (λ p e h. h)
     by false = itself []
 
-value_alike : {code : List Instr} (n m : ℕ) (p : Spot) (l : Location) (v : Value) → Alike code (value_things n p l v) (value_things m p l (unpinned v))
+pub value_alike : {code : List Instr} (n m : ℕ) (p : Spot) (l : Location) (v : Value) → Alike code (value_things n p l v) (value_things m p l (unpinned v))
 value_alike n m p l (value.Shared r) = beside {a = shares l r ∷ []} {b = shares l (record r { pinned = false }) ∷ []} (shared_alike l r false) (pin_unseen n r)
 value_alike n m p l value.Gone = itself []
 value_alike n m p l (value.Own v) = itself (value_things n p l (value.Own v))

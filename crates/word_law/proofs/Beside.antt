@@ -25,7 +25,7 @@ use Rattle.word_law.specs.WordsAfter.{Rewrites, HoldersGoOn, DirtyGoOn}
 use Rattle.word_law.proofs.Standing.{tells, told, told_standing, stands_in, borrow_stands}
 use Rattle.word_law.proofs.Loose.{unplaced_standing}
 use Rattle.word_law.proofs.Grounds.{Opposite, OfBorrows, of_borrows, same_place, taken_all, before, still_stale}
-use Rattle.word_law.proofs.Words.{places, at_h, sole, above_stale}
+use Rattle.word_law.proofs.Words.{places, at_h, only, above_stale}
 
 -- two references that were made from the same word of an object
 is_first_same : (r q : MutRef) (v : Option Value) → r.first ≡ q.first → r.object ≡ q.object → is_first r v ≡ is_first q v
@@ -45,7 +45,7 @@ module _ (k z : Cluster) (h : Location) (o : ObjNo) (w : ℕ) (r : Rewrites k z 
 
   -- none was made from the pointer that got the word
   unmade : (q : Reference) → Among q (references gk (things_of k)) → is_held_at h q.holder ≡ true → ⊥
-  unmade q m e = r.sole.unmade q m e
+  unmade q m e = r.only.unmade q m e
 
   back : (q : Reference) → Among q (references gz (things_of z)) → Opposite k z h o w r.reworded gk (references gk (things_of k)) q
   back q m = (before k z h o w r.reworded (places k z h o w r) r.places q m).0
@@ -80,8 +80,8 @@ module _ (k z : Cluster) (h : Location) (o : ObjNo) (w : ℕ) (r : Rewrites k z 
   -- each pointer to the object but the one with the new word is stale
   not_beside : (p : Pointer) → Among p (standing_pointers (sight z)) → p.object ≡ o → IsStale (sight z) p.at ⊎ (p.at ≡ Some h)
   not_beside p i e =
-      ⊎_elim (λ (s : p.at ≡ Some h). inr s) (λ (s : (l : Location) × (p.at ≡ Some l) × Above gk l h). inl (subst (λ n. IsStale (sight z) n) (sym s.1) (above_stale k z h o w r s.0 s.2)))
-      (sole k z h o w r p
+      ⊎_elim (λ (s : p.at ≡ Some h). inr s) (λ (s : IsStale (sight z) p.at). inl s)
+      (only k z h o w r p
       (⊎_elim (λ (y : Among p (standing_in (things_of z))). among_first p (pointers_in (things_of z)) (taken_pointers (sight z).code gz gz.threads) (stands_in p (things_of z) y))
       (λ (y : Among p (taken_pointers (sight z).code gz gz.threads)). among_second p (pointers_in (things_of z)) (taken_pointers (sight z).code gz gz.threads) y)
       (among_split p (standing_in (things_of z)) (taken_pointers (sight z).code gz gz.threads) i)) e)
@@ -119,8 +119,8 @@ module _ (k z : Cluster) (h : Location) (o : ObjNo) (w : ℕ) (r : Rewrites k z 
     -- its object isn't the one whose word changes
     other_object : q.reference.object ≡ o → ⊥
     other_object e =
-        ⊎_elim other_place (λ (a : Above gk q.at h). f (above_stale k z h o w r q.at a))
-        (r.sole.above (record { at = Some q.at; word = q.reference.word; object = q.reference.object }) q.at
+        ⊎_elim other_place (λ (x : Above gk q.at h ⊎ IsStale (sight k) (Some q.at)). ⊎_elim (λ (a : Above gk q.at h). f (above_stale k z h o w r q.at a)) (λ (s : IsStale (sight k) (Some q.at)). f (still_stale k z h o w r.reworded (places k z h o w r) r.places q.at s)) x)
+        (r.only.others (record { at = Some q.at; word = q.reference.word; object = q.reference.object }) q.at
         (told k q.at (value.Mut q.reference) (record { at = Some q.at; word = q.reference.word; object = q.reference.object }) stood (inl refl)) e refl)
 
     -- a pointer that stands stood, where it isn't to that object

@@ -26,6 +26,7 @@ use Rattle.heap_law.specs.Sight.{sight}
 use Rattle.word_law.proofs.Alone.{written_are_sole}
 use Rattle.word_law.specs.Example.{tinted_cluster, main_hand, tinted_hand, WordsApply}
 use Rattle.word_law.specs.PutBack.{StandsHere, LeadsHome}
+use Rattle.word_law.proofs.Only.{are_only}
 use Rattle.word_law.proofs.Tints.{tint_rewords}
 
 sound_before : IsSound boxed_cluster
@@ -76,8 +77,8 @@ pub words_apply : WordsApply
 words_apply = record {
   rewrites = record {
     before = places_of boxed_cluster sound_before;
-    sole = written_are_sole boxed_cluster paths main_stands (place 0 1) (at_slot 0 0) (object 0) goes
-        (may_write_there boxed_cluster paths main_stands goes (instr.Assign (place 0 1) (operand.Const (pos 2))) (place 0 1) refl assigns) (record { stars = 0; last = refl; pointer = refl; leads = refl }) fresh;
+    only = are_only.soles boxed_cluster (at_slot 0 0) (object 0) (written_are_sole boxed_cluster paths main_stands (place 0 1) (at_slot 0 0) (object 0) goes
+        (may_write_there boxed_cluster paths main_stands goes (instr.Assign (place 0 1) (operand.Const (pos 2))) (place 0 1) refl assigns) (record { stars = 0; last = refl; pointer = refl; leads = refl }) fresh);
     fresh = fresh;
     firsts = sound_before.words.first_at_holder;
     places = places_of tinted_cluster sound_after;

@@ -30,7 +30,7 @@ pub record Lay (s : Sight) (r a : ℕ) (o : ObjNo) : Type 0 where
   pub among : Among (lies r a cell) s.things
   pub object : cell.object ≡ o
 
--- the pointer at h gets the word w of its object; whoever else points to that stands above h, and is stale
+-- the pointer at h gets the word w of its object; whoever else points to that is stale
 pub record Change (s z : Sight) (h : Location) (o : ObjNo) (w : ℕ) : Type 0 where
   pub here : Among (pointer_to h w o) (all_pointers z)
   pub stood : (p : Pointer) → Among p (all_pointers z) → (p ≡ pointer_to h w o) ⊎ StoodElsewhere s h p
@@ -39,8 +39,7 @@ pub record Change (s z : Sight) (h : Location) (o : ObjNo) (w : ℕ) : Type 0 wh
   pub newly : (l : Location) → IsStale z (Some l) → IsStale s (Some l) ⊎ Above s.ground l h
   pub leads : (r a : ℕ) (c : Cell) → Among (lies r a c) z.things → c.object ≡ o → LeadsTo r a w
   pub lay : (r a : ℕ) (c : Cell) → Among (lies r a c) z.things → (c.object ≡ o → ⊥) → Lay s r a c.object
-  pub sole : (p : Pointer) → Among p (all_pointers z) → p.object ≡ o → (p.at ≡ Some h) ⊎ ((l : Location) × (p.at ≡ Some l) × Above s.ground l h)
-  pub above_stale : (l : Location) → Above s.ground l h → IsStale z (Some l)
+  pub only : (p : Pointer) → Among p (all_pointers z) → p.object ≡ o → (p.at ≡ Some h) ⊎ IsStale z p.at
   pub above_object : (p : Pointer) (l : Location) → Among p (all_pointers s) → p.at ≡ Some l → Above s.ground l h → p.object ≡ o
   pub fresh : IsStale z (Some h) → ⊥
 
@@ -58,12 +57,9 @@ module _ (s z : Sight) (h : Location) (o : ObjNo) (w : ℕ) (c : Change s z h o 
   still None t = t
   still (Some l) t = c.stale l t
 
-  stale_at : (l : Location) (m : Option Location) → m ≡ Some l → IsStale z (Some l) → IsStale z m
-  stale_at l m e t = subst (λ n. IsStale z n) (sym e) t
-
   elsewhere : (p : Pointer) → Among p (all_pointers z) → StoodElsewhere s h p → (p.object ≡ o) ⊎ (p.object ≡ o → ⊥) → IsStale z p.at ⊎ (p.word ≡ word p.object)
   elsewhere p m y (inl e) =
-      ⊎_elim (λ (q : p.at ≡ Some h). absurd (y.at q)) (λ (q : (l : Location) × (p.at ≡ Some l) × Above s.ground l h). inl (stale_at q.0 p.at q.1 (c.above_stale q.0 q.2))) (c.sole p m e)
+      ⊎_elim (λ (q : p.at ≡ Some h). absurd (y.at q)) (λ (q : IsStale z p.at). inl q) (c.only p m e)
   elsewhere p m y (inr n) = ⊎_elim (λ (t : IsStale s p.at). inl (still p.at t)) (λ (e : p.word ≡ b.word p.object). inr (e ∙ sym (of_other p.object n))) (b.same p y.among)
 
   same : (p : Pointer) → Among p (all_pointers z) → IsStale z p.at ⊎ (p.word ≡ word p.object)

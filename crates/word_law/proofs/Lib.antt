@@ -7,6 +7,7 @@ pub mod Alone
 pub mod Takings
 pub mod Outlines
 pub mod Words
+pub mod Only
 pub mod Beside
 pub mod Past
 pub mod Put

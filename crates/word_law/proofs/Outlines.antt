@@ -40,7 +40,7 @@ use Rattle.word_law.proofs.Takings.{takens_are, taken_listed, taken_told}
 
 -- OUTLINES
 
-leads_outline : (t : ℕ) (v : Option Value) → leads t (outline v) ≡ leads t v
+pub leads_outline : (t : ℕ) (v : Option Value) → leads t (outline v) ≡ leads t v
 leads_outline t None = refl
 leads_outline t (Some value.Gone) = refl
 leads_outline t (Some (value.Own (owned.Box p))) = refl
@@ -71,13 +71,13 @@ outline_pointing (Some (value.Mut r)) = refl
 outline_pointing (Some (value.Held m)) = refl
 
 -- a mutable reference with that outline
-abbrev plain : MutRef → MutRef
+abbrev pub plain : MutRef → MutRef
 plain r = record r { word = 0; dirty = false }
 
 same_reference : (r q : MutRef) → Some (value.Mut (plain r)) ≡ Some (value.Mut (plain q)) → plain r ≡ plain q
 same_reference r q e = cc
 
-outlined_reference : (v : Option Value) (q : MutRef) → outline v ≡ outline (Some (value.Mut q)) → (r : MutRef) × (v ≡ Some (value.Mut r)) × (plain r ≡ plain q)
+pub outlined_reference : (v : Option Value) (q : MutRef) → outline v ≡ outline (Some (value.Mut q)) → (r : MutRef) × (v ≡ Some (value.Mut r)) × (plain r ≡ plain q)
 outlined_reference None q e = absurd cc
 outlined_reference (Some value.Gone) q e = absurd cc
 outlined_reference (Some (value.Own (owned.Box p))) q e = absurd cc
@@ -179,6 +179,24 @@ module _ (k z : Cluster) (c : HasPlaces k) (d : HasPlaces z) (s : SameOutlines k
   still_above l m (made_from r e f) = let y = onward m r e in made_from y.reference y.stands (made_there l m r y f)
   still_above l m (made_below {h = j} r e f a) = let y = onward m r e in made_below y.reference y.stands (made_there j m r y f) (still_above l j a)
 
+  -- whatever stands at no location
+  pub placed_stays : (o : ObjNo) → ((p : Pointer) → Among p (standing_pointers (sight k)) → p.object ≡ o → p.at ≡ None → ⊥) → (p : Pointer) → Among p (standing_pointers (sight z)) → p.object ≡ o → p.at ≡ None → ⊥
+  placed_stays o none p m e f =
+      ⊎_elim
+      (λ (q : Among p (standing_in (things_of z))).
+      let y = s.standing p f q in
+      none y.pointer (among_first y.pointer (standing_in (things_of k)) (taken_pointers k.code gk gk.threads) y.among) (y.object ∙ e) y.at)
+      (λ (q : Among p (taken_pointers z.code gz gz.threads)).
+      let t = taken_told gz p (takings z.code gz.threads) (subst (λ ps. Among p ps) (takens_are z.code gz gz.threads) q) in
+      let y = s.takes t.taking t.among in
+      let a = y.taking in
+      let place : place_at gz t.taking.thread t.taking.place ≡ place_at gk a.thread a.place =
+      places_lead gk gz lead t.taking.thread t.taking.place.slot t.taking.place.depth ∙ ap (λ n. place_at gk n t.taking.place) (sym y.thread) ∙ ap (place_at gk a.thread) (sym y.place) in
+      let b = taken_same_object t.taking.word (place_at gk a.thread a.place) a.word p (subst (λ l. Among p (taken_object t.taking.word l)) place t.pointer) in
+      let there : Among b.0 (taken_pointers k.code gk gk.threads) = subst (λ ps. Among b.0 ps) (sym (takens_are k.code gk gk.threads)) (taken_listed gk b.0 a (takings k.code gk.threads) y.among b.1) in
+      none b.0 (among_second b.0 (standing_in (things_of k)) (taken_pointers k.code gk gk.threads) there) (b.2 ∙ e) b.3)
+      (among_split p (standing_in (things_of z)) (taken_pointers z.code gz gz.threads) m)
+
   module _ (h : Location) (o : ObjNo) (u : IsSole k h o) where
     above : (p : Pointer) (l : Location) → Among p (pointers_in (things_of z)) → p.object ≡ o → p.at ≡ Some l → (l ≡ h) ⊎ Above gz l h
     above p l m e f =
@@ -187,21 +205,7 @@ module _ (k z : Cluster) (c : HasPlaces k) (d : HasPlaces z) (s : SameOutlines k
         ⊎_elim (λ (q : l ≡ h). inl q) (λ (a : Above gk l h). inr (still_above l h a)) (u.above y.pointer l (told k l y.value y.pointer y.is y.among) (y.object ∙ e) y.at)
 
     placed : (p : Pointer) → Among p (standing_pointers (sight z)) → p.object ≡ o → p.at ≡ None → ⊥
-    placed p m e f =
-        ⊎_elim
-        (λ (q : Among p (standing_in (things_of z))).
-        let y = s.standing p f q in
-        u.placed y.pointer (among_first y.pointer (standing_in (things_of k)) (taken_pointers k.code gk gk.threads) y.among) (y.object ∙ e) y.at)
-        (λ (q : Among p (taken_pointers z.code gz gz.threads)).
-        let t = taken_told gz p (takings z.code gz.threads) (subst (λ ps. Among p ps) (takens_are z.code gz gz.threads) q) in
-        let y = s.takes t.taking t.among in
-        let a = y.taking in
-        let place : place_at gz t.taking.thread t.taking.place ≡ place_at gk a.thread a.place =
-        places_lead gk gz lead t.taking.thread t.taking.place.slot t.taking.place.depth ∙ ap (λ n. place_at gk n t.taking.place) (sym y.thread) ∙ ap (place_at gk a.thread) (sym y.place) in
-        let b = taken_same_object t.taking.word (place_at gk a.thread a.place) a.word p (subst (λ l. Among p (taken_object t.taking.word l)) place t.pointer) in
-        let there : Among b.0 (taken_pointers k.code gk gk.threads) = subst (λ ps. Among b.0 ps) (sym (takens_are k.code gk gk.threads)) (taken_listed gk b.0 a (takings k.code gk.threads) y.among b.1) in
-        u.placed b.0 (among_second b.0 (standing_in (things_of k)) (taken_pointers k.code gk gk.threads) there) (b.2 ∙ e) b.3)
-        (among_split p (standing_in (things_of z)) (taken_pointers z.code gz gz.threads) m)
+    placed p m e f = placed_stays o u.placed p m e f
 
     unmade : (q : Reference) → Among q (references gz (things_of z)) → is_held_at h q.holder ≡ true → ⊥
     unmade q m e =
@@ -228,10 +232,10 @@ stands_or_flies z o r a d l (flies w e) p m (inl q) f = absurd (flown z o r a w 
 stands_or_flies z o r a d l (flies w e) p m (inr h) f = h
 stands_or_flies z o r a d l y p m h f = h
 
-pub lies_alone : (z : Cluster) (h : Location) (o : ObjNo) (r a : ℕ) → HasPlaces z → IsSole z h o → LiesThere z r a o → (p : Pointer) → Among p (all_pointers (sight z)) → p.object ≡ o → p.at ≡ None → ⊥
-lies_alone z h o r a d u l p m e f =
+pub lies_alone : (z : Cluster) (o : ObjNo) (r a : ℕ) → HasPlaces z → ((p : Pointer) → Among p (standing_pointers (sight z)) → p.object ≡ o → p.at ≡ None → ⊥) → LiesThere z r a o → (p : Pointer) → Among p (all_pointers (sight z)) → p.object ≡ o → p.at ≡ None → ⊥
+lies_alone z o r a d placed l p m e f =
     let taken = taken_pointers z.code (sight z).ground (sight z).ground.threads in
-    u.placed p
+    placed p
     (⊎_elim
     (λ (q : Among p (pointers_in (things_of z))).
     let y = of_thing p (things_of z) q in

@@ -17,7 +17,6 @@ use Rattle.heap_law.specs.Dirty.{PastWords}
 use Rattle.heap_law.proofs.Bags.{among_split}
 use Rattle.heap_law.proofs.Names.{right_none}
 use Rattle.heap_law.proofs.Words.{none_at}
-use Rattle.path_law.specs.Pointing.{Above}
 use Rattle.path_law.proofs.Shown.{none_else}
 use Rattle.path_law.proofs.Sole.{some_is}
 use Rattle.path_law.proofs.Contained.{reference_there}
@@ -25,7 +24,7 @@ use Rattle.word_law.specs.WordsAfter.{Rewrites, IsNoFirst, AreNoFirsts, PastGoes
 use Rattle.word_law.proofs.GoOn.{pointer_to, same_or_not, StoodElsewhere}
 use Rattle.word_law.proofs.Standing.{told, borrow_stands}
 use Rattle.word_law.proofs.Grounds.{Opposite, of_borrows, same_place, holders_same, before, still_stale}
-use Rattle.word_law.proofs.Words.{places, at_h, stood, sole, above_stale, taken_nowhere}
+use Rattle.word_law.proofs.Words.{places, at_h, stood, only, taken_nowhere}
 
 -- a reference's first word was issued
 pub first_issued : (k : Cluster) → Holds k are_issued → (l : Location) (q : MutRef) → Among (borrows l q) (things_of k) → issued (sight k) q.first ≡ true
@@ -60,7 +59,7 @@ module _ (k z : Cluster) (h : Location) (o : ObjNo) (w : ℕ) (r : Rewrites k z 
   unmade : (q : Reference) → Among q (references gz (things_of z)) → is_held_at h q.holder ≡ true → ⊥
   unmade q m e =
       let y : Opposite k z h o w r.reworded gk (references gk (things_of k)) q = (before k z h o w r.reworded (places k z h o w r) r.places q m).0 in
-      r.sole.unmade y.reference y.among (ap (is_held_at h) y.holder ∙ e)
+      r.only.unmade y.reference y.among (ap (is_held_at h) y.holder ∙ e)
 
   lent : (a q : Reference) → Among a (references gz (things_of z)) → Among q (references gz (things_of z)) → a.reference.dirty ≡ true → is_held_at a.at q.holder ≡ true → changed q.reference ≡ true
   lent a q i j d e = by (same_place a.at h) (same_place q.at h)
@@ -100,7 +99,7 @@ module _ (k z : Cluster) (h : Location) (o : ObjNo) (w : ℕ) (r : Rewrites k z 
       by : (a.reference.object ≡ o) ⊎ (a.reference.object ≡ o → ⊥) → p.word ≢ a.reference.first
       by (inl s) =
           ⊎_elim (λ (t : p.at ≡ Some h). at_it s t (same_place a.at h))
-          (λ (t : (l : Location) × (p.at ≡ Some l) × Above gk l h). absurd (f (subst (λ n. IsStale (sight z) n) (sym t.1) (above_stale k z h o w r t.0 t.2)))) (sole k z h o w r p m (e ∙ s))
+          (λ (t : IsStale (sight z) p.at). absurd (f t)) (only k z h o w r p m (e ∙ s))
       by (inr n) = elsewhere n (stood k z h o w r p m)
 
 pub past_goes_on : PastGoesOn

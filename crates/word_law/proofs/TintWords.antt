@@ -65,4 +65,4 @@ tint_keeps_words k n ts e h h2 i v p here at points put c d sole fresh issued_al
         absurd cc
 
     rewrites : Rewrites kh (put_in k n ts e h2) l p.object (next_word p.word)
-    rewrites = record { before = c; sole = sole; fresh = fresh; firsts = firsts; places = d; reworded = tint_rewords k n ts e h h2 i v p here at points put c d home new_word }
+    rewrites = record { before = c; only = sole; fresh = fresh; firsts = firsts; places = d; reworded = tint_rewords k n ts e h h2 i v p here at points put c d home new_word }

@@ -16,7 +16,7 @@ use Rattle.heap_law.specs.Things.{Location, in_cell, things_of}
 use Rattle.heap_law.specs.Follow.{Standing, Ground, value_in, value_behind, leads, locate}
 use Rattle.heap_law.specs.Stale.{references, holder_of, changed_above, stale_above}
 use Rattle.heap_law.specs.Sight.{Pointer, pointers_in, taken_object, taken_of, taken_pointers, sight}
-use Rattle.heap_law.specs.Placing.{is_first, other_first}
+use Rattle.heap_law.specs.Placing.{is_first, other_first, standing_pointers}
 use Rattle.heap_law.specs.Coherent.{Holds, first_at_holder}
 use Rattle.heap_law.specs.Words.{all_pointers, IsStale}
 use Rattle.heap_law.proofs.Bags.{among_split}
@@ -27,13 +27,14 @@ use Rattle.path_law.proofs.Sole.{some_is}
 use Rattle.path_law.proofs.Shown.{none_else}
 use Rattle.path_law.proofs.Origins.{among_first, among_second}
 use Rattle.path_law.proofs.Contained.{reference_there, held_there}
+use Rattle.path_law.proofs.Contained as contained
 use Rattle.word_law.specs.Reworded.{HasPlaces, Renewed, a_box, a_reference, Reworded}
 use Rattle.word_law.specs.Soles.{IsSole}
-use Rattle.word_law.specs.WordsAfter.{Rewrites, WordsGoOn, FreshGoOn}
+use Rattle.word_law.specs.WordsAfter.{Rewrites, WordsGoOn, FreshGoOn, ChangedRewords}
 use Rattle.word_law.proofs.GoOn.{pointer_to, StoodElsewhere, Change, go_on}
 use Rattle.word_law.proofs.Standing.{pointer_at, told, tells}
 use Rattle.word_law.proofs.Alone.{above_holds}
-use Rattle.word_law.proofs.Outlines.{sole_stays, reworded_outlines, lies_alone}
+use Rattle.word_law.proofs.Outlines.{placed_stays, reworded_outlines, lies_alone}
 use Rattle.word_law.proofs.Loose.{unplaced, remains}
 use Rattle.word_law.proofs.Grounds.{same_place, reference_now, holders_same, taken_all, now, still_stale, newly_stale}
 
@@ -135,7 +136,7 @@ module _ (k z : Cluster) (h : Location) (o : ObjNo) (w : ℕ) (all : Rewrites k 
   places = all.before
 
   points : leads n (Some r.old) ≡ Some (in_cell o)
-  points = sym (ap (leads n) r.stood) ∙ all.sole.to n
+  points = sym (ap (leads n) r.stood) ∙ all.only.to n
 
   pointer_now : pointer_at h r.new ≡ pointer_to h w o ∷ []
   pointer_now = renewed_pointer n w h r.old r.new o r.renewed points
@@ -209,27 +210,7 @@ module _ (k z : Cluster) (h : Location) (o : ObjNo) (w : ℕ) (all : Rewrites k 
   -- NO REFERENCE WAS MADE FROM IT
 
   not_above_itself : Above gk h h → ⊥
-  not_above_itself a = let y = above_holds k h h a in all.sole.unmade y.0 y.1 y.2
-
-  sole_after : IsSole z h o
-  sole_after = sole_stays k z places d (reworded_outlines k z h o w r) h o all.sole
-
-  pub sole : (p : Pointer) → Among p (all_pointers (sight z)) → p.object ≡ o → (p.at ≡ Some h) ⊎ ((l : Location) × (p.at ≡ Some l) × Above gk l h)
-  sole p m e = by p.at refl
-    where
-      above : (l : Location) → p.at ≡ Some l → (l ≡ h) ⊎ Above gk l h → (p.at ≡ Some h) ⊎ ((l : Location) × (p.at ≡ Some l) × Above gk l h)
-      above l f (inl s) = inl (f ∙ ap Some s)
-      above l f (inr a) = inr (l, f, a)
-
-      among : (l : Location) → p.at ≡ Some l → Among p (all_pointers (sight k)) → Among p (pointers_in (things_of k))
-      among l f q =
-          ⊎_elim (λ (y : Among p (pointers_in (things_of k))). y) (λ (y : Among p (taken_pointers (sight k).code gk gk.threads)). absurd (no_place p l (taken_nowhere (sight k).code gk gk.threads p y) f))
-          (among_split p (pointers_in (things_of k)) (taken_pointers (sight k).code gk gk.threads) q)
-
-      by : (a : Option Location) → p.at ≡ a → (p.at ≡ Some h) ⊎ ((l : Location) × (p.at ≡ Some l) × Above gk l h)
-      by None f = absurd (lies_alone z h o r.server r.address d sole_after r.lying p m e f)
-      by (Some l) f =
-          ⊎_elim (λ (q : p ≡ pointer_to h w o). inl (ap (λ (y : Pointer). y.at) q)) (λ (q : StoodElsewhere (sight k) h p). above l f (all.sole.above p l (among l f q.among) e f)) (stood p m)
+  not_above_itself a = let y = above_holds k h h a in all.only.unmade y.0 y.1 y.2
 
   -- WHAT STANDS ABOVE IT IS STALE
 
@@ -251,6 +232,27 @@ module _ (k z : Cluster) (h : Location) (o : ObjNo) (w : ℕ) (all : Rewrites k 
   pub above_stale : (l : Location) → Above gk l h → IsStale (sight z) (Some l)
   above_stale l (made_from q e held) = made_stale l q e held
   above_stale l (made_below {h = j} q e held rest) = up l j (made_stale j q e held) rest
+
+  placed_after : (p : Pointer) → Among p (standing_pointers (sight z)) → p.object ≡ o → p.at ≡ None → ⊥
+  placed_after = placed_stays k z places d (reworded_outlines k z h o w r) o all.only.placed
+
+  -- each other pointer to the object is stale
+  pub only : (p : Pointer) → Among p (all_pointers (sight z)) → p.object ≡ o → (p.at ≡ Some h) ⊎ IsStale (sight z) p.at
+  only p m e = by p.at refl
+    where
+      other : (l : Location) → p.at ≡ Some l → (l ≡ h) ⊎ (Above gk l h ⊎ IsStale (sight k) (Some l)) → (p.at ≡ Some h) ⊎ IsStale (sight z) p.at
+      other l f (inl s) = inl (f ∙ ap Some s)
+      other l f (inr (inl a)) = inr (subst (λ n. IsStale (sight z) n) (sym f) (above_stale l a))
+      other l f (inr (inr s)) = inr (subst (λ n. IsStale (sight z) n) (sym f) (still_stale k z h o w r places d l s))
+
+      among : (l : Location) → p.at ≡ Some l → Among p (all_pointers (sight k)) → Among p (pointers_in (things_of k))
+      among l f q =
+          ⊎_elim (λ (y : Among p (pointers_in (things_of k))). y) (λ (y : Among p (taken_pointers (sight k).code gk gk.threads)). absurd (no_place p l (taken_nowhere (sight k).code gk gk.threads p y) f))
+          (among_split p (pointers_in (things_of k)) (taken_pointers (sight k).code gk gk.threads) q)
+
+      by : (a : Option Location) → p.at ≡ a → (p.at ≡ Some h) ⊎ IsStale (sight z) p.at
+      by None f = absurd (lies_alone z o r.server r.address d placed_after r.lying p m e f)
+      by (Some l) f = ⊎_elim (λ (q : p ≡ pointer_to h w o). inl (ap (λ (y : Pointer). y.at) q)) (λ (q : StoodElsewhere (sight k) h p). other l f (all.only.others p l (among l f q.among) e f)) (stood p m)
 
   fresh_now : IsStale (sight z) (Some h) → ⊥
   fresh_now s = ⊎_elim all.fresh not_above_itself (newly_stale k z h o w r places d h s)
@@ -275,8 +277,7 @@ module _ (k z : Cluster) (h : Location) (o : ObjNo) (w : ℕ) (all : Rewrites k 
     newly = newly_stale k z h o w r places d;
     leads = r.leads;
     lay = λ i a y m f. let q = r.lay i a y m f in record { cell = q.cell; among = q.among; object = q.object };
-    sole = sole;
-    above_stale = above_stale;
+    only = only;
     above_object = above_object;
     fresh = fresh_now;
   }
@@ -290,3 +291,6 @@ words_go_on k z h o w r before = go_on (sight k) (sight z) h o w (change k z h o
 
 pub fresh_go_on : FreshGoOn
 fresh_go_on k z h o w r l p u f s = fresh_stays k z h o w r l p u f s
+
+pub changed_rewords : ChangedRewords
+changed_rewords k z h o w all r e ch l s = ⊎_elim (λ (q : IsStale (sight k) (Some l)). q) (λ (a : Above (sight k).ground l h). contained.above_stale.changed k l h r e ch a) (newly_stale k z h o w all.reworded all.before all.places l s)

@@ -23,7 +23,7 @@ use Rattle.heap_law.specs.Weights.{states}
 use Rattle.heap_law.specs.Sight.{sight}
 use Rattle.heap_law.specs.Coherent.{Holds, are_issued, first_at_holder}
 use Rattle.word_law.specs.Reworded.{HasPlaces, LiesThere, Reworded}
-use Rattle.word_law.specs.Soles.{IsSole}
+use Rattle.word_law.specs.Soles.{IsOnly}
 use Rattle.word_law.specs.WordsAfter.{KeepsWords}
 
 -- the cluster with a hand's thread among those of its server, which has done so many events
@@ -67,7 +67,7 @@ TintRewords = (k : Cluster) (n : ℕ) (ts : List ThreadState) (e : ℕ) (h h2 : 
     → ((r : MutRef) → v ≡ value.Mut r → next_word p.word ≢ r.first)
     → Reworded (put_in k n ts e h) (put_in k n ts e h2) (at_slot h.thread.number i) p.object (next_word p.word)
 
--- so where that pointer is the one through which its object is written, and isn't stale, and the object lies, each object has a word afterwards: that of the
+-- so where that pointer is the only one to its object, and isn't stale, and the object lies, each object has a word afterwards: that of the
 -- object is the next colour; and what else is kept of words is kept. What is asked beside it: each address has one state, words that stand anywhere were issued, and references know their holders' words
 abbrev pub TintKeepsWords : Type 0
 TintKeepsWords = (k : Cluster) (n : ℕ) (ts : List ThreadState) (e : ℕ) (h h2 : Hand) (i : ℕ) (v : Value) (p : BoxPtr) → StandsHere k n ts h
@@ -76,7 +76,7 @@ TintKeepsWords = (k : Cluster) (n : ℕ) (ts : List ThreadState) (e : ℕ) (h h2
     → put_word (in_slot i) (issue_tint p h.work) h ≡ Some h2
     → HasPlaces (put_in k n ts e h)
     → HasPlaces (put_in k n ts e h2)
-    → IsSole (put_in k n ts e h) (at_slot h.thread.number i) p.object
+    → IsOnly (put_in k n ts e h) (at_slot h.thread.number i) p.object
     → (IsStale (sight (put_in k n ts e h)) (Some (at_slot h.thread.number i)) → ⊥)
     → Holds (put_in k n ts e h) are_issued
     → Holds (put_in k n ts e h) first_at_holder

@@ -4,6 +4,7 @@ use Rattle.std.specs.Prelude.{false, ◌≡◌, ◌⊎◌, ℕ, Option, Some, No
 use Rattle.fr_base.specs.declared.name.ObjNo.{ObjNo}
 use Rattle.fr_base.specs.declared.place.Lval.{Lval}
 use Rattle.heap_partition.specs.declared.value.Owned.TheVariants as owned
+use Rattle.mut_borrow.specs.declared.mutable.MutRef.{MutRef}
 use Rattle.thread_state.specs.declared.value.Value.{Value}
 use Rattle.thread_state.specs.declared.value.Value.TheVariants as value
 use Rattle.server_model.specs.Servers.{Cluster}
@@ -14,6 +15,7 @@ use Rattle.heap_law.specs.Stale.{Reference, references, is_held_at}
 use Rattle.heap_law.specs.Sight.{Pointer, pointers_in, sight}
 use Rattle.heap_law.specs.Placing.{standing_in, standing_pointers}
 use Rattle.heap_law.specs.Words.{IsStale}
+use Rattle.heap_law.specs.Dirty.{DirtyAlone}
 use Rattle.path_law.specs.HeapStore.{GoesOn, HasPaths}
 use Rattle.path_law.specs.Pointing.{Above, MayWrite, LastHop}
 use Rattle.word_law.specs.Reworded.{HasPlaces, Reworded}
@@ -27,7 +29,19 @@ pub record IsSole (k : Cluster) (h : Location) (o : ObjNo) : Type 0 where
   pub placed : (p : Pointer) → Among p (standing_pointers (sight k)) → p.object ≡ o → p.at ≡ None → ⊥
   pub unmade : (r : Reference) → Among r (references (sight k).ground (things_of k)) → is_held_at h r.holder ≡ true → ⊥
 
--- so is the pointer that a place follows last which a thread may write, where it isn't stale
+-- each other pointer to the object that stands somewhere may also be stale, whatever it stands above
+pub record IsOnly (k : Cluster) (h : Location) (o : ObjNo) : Type 0 where
+  pub to : (t : ℕ) → leads t (value_in (sight k).ground h) ≡ Some (in_cell o)
+  pub others : (p : Pointer) (l : Location) → Among p (pointers_in (things_of k)) → p.object ≡ o → p.at ≡ Some l → (l ≡ h) ⊎ (Above (sight k).ground l h ⊎ IsStale (sight k) (Some l))
+  pub placed : (p : Pointer) → Among p (standing_pointers (sight k)) → p.object ≡ o → p.at ≡ None → ⊥
+  pub unmade : (r : Reference) → Among r (references (sight k).ground (things_of k)) → is_held_at h r.holder ≡ true → ⊥
+
+-- of whatever object a pointer through which it is written is such a one, and so is each dirty reference that isn't stale, since it is alone
+pub record AreOnly : Type 0 where
+  pub soles : (k : Cluster) (h : Location) (o : ObjNo) → IsSole k h o → IsOnly k h o
+  pub dirty : (k : Cluster) (h : Location) (r : MutRef) → HasPlaces k → DirtyAlone (sight k) → value_in (sight k).ground h ≡ Some (value.Mut r) → r.dirty ≡ true → (IsStale (sight k) (Some h) → ⊥) → IsOnly k h r.object
+
+-- the pointer that a place follows last which a thread may write, where it isn't stale, is one through which its object is written
 abbrev pub WrittenAreSole : Type 0
 WrittenAreSole = (k : Cluster) (c : HasPaths k) (x : Standing) (w : Lval) (h : Location) (o : ObjNo) → GoesOn k x → MayWrite k c.types x w → LastHop (sight k).ground x.thread.number w h o
     → (IsStale (sight k) (Some h) → ⊥) → IsSole k h o

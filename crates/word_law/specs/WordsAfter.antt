@@ -1,16 +1,20 @@
 -- THE WORDS OF OBJECTS GO ON where one of them changes (this project's rules).
-use Rattle.std.specs.Prelude.{false, ◌≡◌, ◌≢◌, ℕ, Some}
+use Rattle.std.specs.Prelude.{false, true, ◌≡◌, ◌≢◌, ℕ, Some}
 use Rattle.fr_base.specs.declared.name.ObjNo.{ObjNo}
+use Rattle.mut_borrow.specs.declared.mutable.MutRef.{MutRef}
+use Rattle.mut_borrow.specs.Refs.{changed}
+use Rattle.thread_state.specs.declared.value.Value.TheVariants as value
 use Rattle.server_model.specs.Servers.{Cluster}
 use Rattle.heap_law.specs.Names.{Among}
 use Rattle.heap_law.specs.Things.{Location, things_of}
+use Rattle.heap_law.specs.Follow.{value_in}
 use Rattle.heap_law.specs.Stale.{Reference, references}
 use Rattle.heap_law.specs.Sight.{Pointer, Sight, sight, issued}
 use Rattle.heap_law.specs.Coherent.{Holds, are_issued, first_at_holder}
 use Rattle.heap_law.specs.Dirty.{DirtyAlone, PastWords}
 use Rattle.heap_law.specs.Words.{all_pointers, IsStale, HasWords}
 use Rattle.word_law.specs.Reworded.{HasPlaces, Reworded}
-use Rattle.word_law.specs.Soles.{IsSole}
+use Rattle.word_law.specs.Soles.{IsSole, IsOnly}
 
 -- the words afterwards: that of the object is the new one, and each other one is what it was
 pub record WordsAfter (s z : Sight) (o : ObjNo) (w : ℕ) (before : HasWords s) : Type 0 where
@@ -18,10 +22,10 @@ pub record WordsAfter (s z : Sight) (o : ObjNo) (w : ℕ) (before : HasWords s) 
   pub new : after.word o ≡ w
   pub others : (p : ObjNo) → (p ≡ o → ⊥) → after.word p ≡ before.word p
 
--- the pointer at h is the one through which its object is written, it isn't stale, and it gets another word
+-- the pointer at h is the only one that stands, isn't stale and isn't above it, from it none was made, and it gets another word
 pub record Rewrites (k z : Cluster) (h : Location) (o : ObjNo) (w : ℕ) : Type 0 where
   pub before : HasPlaces k
-  pub sole : IsSole k h o
+  pub only : IsOnly k h o
   pub fresh : IsStale (sight k) (Some h) → ⊥
   -- each reference knows the word at its holder
   pub firsts : Holds k first_at_holder
@@ -67,3 +71,7 @@ NewWordsGoOn = (k z : Cluster) (h : Location) (o : ObjNo) (w : ℕ) → Rewrites
 -- a pointer from which no reference was made, and that isn't stale, isn't stale afterwards
 abbrev pub FreshGoOn : Type 0
 FreshGoOn = (k z : Cluster) (h : Location) (o : ObjNo) (w : ℕ) → Rewrites k z h o w → (l : Location) (p : ObjNo) → IsSole k l p → (IsStale (sight k) (Some l) → ⊥) → IsStale (sight z) (Some l) → ⊥
+
+-- where a changed reference gets the word, nothing becomes stale, as what stands above it was
+abbrev pub ChangedRewords : Type 0
+ChangedRewords = (k z : Cluster) (h : Location) (o : ObjNo) (w : ℕ) → Rewrites k z h o w → (r : MutRef) → value_in (sight k).ground h ≡ Some (value.Mut r) → changed r ≡ true → (l : Location) → IsStale (sight z) (Some l) → IsStale (sight k) (Some l)

@@ -2,19 +2,21 @@
 
 ghost use Rattle.word_law.specs.Example.{WordsApply};
 ghost use Rattle.word_law.specs.PutBack.{CellsReword, MarkRewords, SlotsReword, TintKeepsWords, TintRewords};
-ghost use Rattle.word_law.specs.Soles.{SolesStay, WrittenAreSole};
+ghost use Rattle.word_law.specs.Soles.{AreOnly, SolesStay, WrittenAreSole};
 ghost use Rattle.word_law.specs.Unmoved.{EvictionsUnmoved, FetchesUnmoved, UnmovedStays};
-ghost use Rattle.word_law.specs.WordsAfter.{AreNoFirsts, DirtyGoOn, FreshGoOn, HoldersGoOn, NewWordsGoOn, PastGoesOn, WordsGoOn};
+ghost use Rattle.word_law.specs.WordsAfter.{AreNoFirsts, ChangedRewords, DirtyGoOn, FreshGoOn, HoldersGoOn, NewWordsGoOn, PastGoesOn, WordsGoOn};
 
 /// A pointer that a thread may write through, and that isn't stale, is the one through which its object is written: each other pointer to the object stands above
-/// it, and no reference was made from it. That sees no words, marks and pins, and no types, so it stays from one small step of an event to the next.
+/// it, and no reference was made from it. That sees no words, marks and pins, and no types, so it stays from one small step of an event to the next. It is
+/// the only pointer to the object that isn't stale and isn't above it, and so is a dirty reference that isn't stale.
 pub fn soles_stay()
     ensures written { WrittenAreSole }
     ensures steps { SolesStay }
+    ensures only { AreOnly }
 {}
 
-/// Where the pointer through which an object is written gets another word, and the object lies where that leads, each object has a word as before:
-/// whoever else points to the object stands above that pointer, and is stale. References know the words at their holders as before, and dirty references
+/// Where such a pointer gets another word, and the object lies where that leads, each object has a word as before: whoever else points to the object was stale
+/// or stands above that pointer, and is stale. References know the words at their holders as before, and dirty references
 /// are alone; other pointers through which objects are written don't become stale. What was before the words of today goes on too, where the new word is no
 /// reference's first one, as none is that wasn't issued. In one coherent cluster all that is asked is there.
 pub fn words_go_on()
@@ -25,6 +27,7 @@ pub fn words_go_on()
     ensures no_firsts { AreNoFirsts }
     ensures new_words { NewWordsGoOn }
     ensures fresh { FreshGoOn }
+    ensures changed { ChangedRewords }
     ensures applies { WordsApply }
 {}
 

@@ -1,9 +1,13 @@
 use Rattle.word_law.proofs.laws.soles_stay.Goals as goal
 use Rattle.word_law.proofs.Alone.{written_are_sole}
 use Rattle.word_law.proofs.Outlines.{soles_stay}
+use Rattle.word_law.proofs.Only.{are_only}
 
 pub returns-clause-written : goal.returns-clause-written
 returns-clause-written c = written_are_sole
 
 pub returns-clause-steps : goal.returns-clause-steps
 returns-clause-steps c = soles_stay
+
+pub returns-clause-only : goal.returns-clause-only
+returns-clause-only c = are_only

@@ -1,5 +1,5 @@
 use Rattle.word_law.proofs.laws.words_go_on.Goals as goal
-use Rattle.word_law.proofs.Words.{words_go_on, fresh_go_on}
+use Rattle.word_law.proofs.Words.{words_go_on, fresh_go_on, changed_rewords}
 use Rattle.word_law.proofs.Beside.{holders_go_on, dirty_goes_on}
 use Rattle.word_law.proofs.Past.{past_goes_on, are_no_firsts}
 use Rattle.word_law.proofs.NewWord.{new_words_go_on}
@@ -28,3 +28,6 @@ returns-clause-no_firsts c = are_no_firsts
 
 pub returns-clause-new_words : goal.returns-clause-new_words
 returns-clause-new_words c = new_words_go_on
+
+pub returns-clause-changed : goal.returns-clause-changed
+returns-clause-changed c = changed_rewords
