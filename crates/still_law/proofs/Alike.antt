@@ -23,14 +23,14 @@ use Rattle.server_model.specs.Servers.{Cluster}
 use Rattle.heap_law.specs.Names.{tot, one, other, if_so, some, same_object, same_mutex}
 use Rattle.heap_law.specs.Things.{Location, at_slot, at_temp, in_cell, Spot, in_slot, in_temp, as_gift, as_content, as_result, in_hand, Thing, holds, lies, flies, stands, noted, things_of}
 use Rattle.heap_law.specs.Follow.{Standing, threads_in, thread_at, cells_in, cell_of, value_in, value_behind, leads, locate, value_at}
-use Rattle.heap_law.specs.Sight.{Sight, sight}
+use Rattle.heap_law.specs.Sight.{Sight, sight, with_things}
 use Rattle.heap_law.specs.Paths.{popped, task_in, joined_thread}
 use Rattle.heap_law.specs.Walking.{instr_of}
 use Rattle.heap_law.specs.Requests.{home_of, mutex_of, locked_mutex}
 use Rattle.heap_law.specs.Sharing.{got_phase, has_ended}
 use Rattle.heap_law.specs.Naming.{started_at, made_at}
 use Rattle.heap_law.specs.Weights.{is_thread}
-use Rattle.heap_law.specs.OneHeap.{Node, object_n, mutex_n, task_n, Owner, inside, outside, content_owner, result_owner, gift_owner, gift_owner_of, spot_owner, owner_of, names, owner_in, named_in, any_named, in_state_by, is_in_state, if_in, cell_value, or_else, first_shown, object_value, is_content, content_value, share_in, if_there, plain_value, pair_note, pair_over, is_branch, branch_result, is_result, result_of, ended_with, going_on, running_at, life_of, life_at, made_of, pair_of, is_given_thread, is_given_mutex, if_given, one_heap}
+use Rattle.heap_law.specs.OneHeap.{Node, object_n, mutex_n, task_n, Owner, inside, outside, content_owner, result_owner, gift_owner, gift_owner_of, spot_owner, owner_of, names, owner_in, named_in, any_named, in_state_by, is_in_state, if_in, cell_value, or_else, first_shown, object_value, is_content, content_value, share_in, if_there, plain_value, pair_note, pair_over, is_branch, branch_result, is_result, result_of, ended_with, going_on, running_at, life_of, life_at, made_of, pair_of, is_given_thread, is_given_mutex, if_given, one_heap, state_of}
 use Rattle.heap_law.proofs.Names.{if_not, same_number, same_mutexes}
 use Rattle.still_law.specs.Shows.{ShownThread, Sign, nothing, a_value, an_object, a_thread as a_shown_thread, a_branch, a_count, note_sign, sign_of, gift_spot_at, gift_spot_of, gift_spot, counted_at, is_named, held_branch, is_held, Counts, CountAlike, ShowAlike}
 use Rattle.still_law.proofs.Tests.{plains, same_part, threads as thread_test}
@@ -54,9 +54,12 @@ SeenAt seen (Some (in_cell o)) = seen o ≡ true
 SeenAt seen l = ⊤
 
 -- so is each one that the place of a lock passes
+abbrev pub LocksSeeIn : (ObjNo → Bool) → Sight → Type 0
+LocksSeeIn seen s =
+    (t : ℕ) (x : Standing) (w : Lval) → thread_at s.ground.threads t ≡ Some x → instr_of s x ≡ Some (instr.Lock w) → (n : ℕ) → n ≤ w.depth → SeenAt seen (locate s.ground x.thread.number w.slot n)
+
 abbrev pub LocksSee : (ObjNo → Bool) → Cluster → Type 0
-LocksSee seen k =
-    (t : ℕ) (x : Standing) (w : Lval) → thread_at (threads_in (things_of k)) t ≡ Some x → instr_of (sight k) x ≡ Some (instr.Lock w) → (n : ℕ) → n ≤ w.depth → SeenAt seen (locate (sight k).ground x.thread.number w.slot n)
+LocksSee seen k = LocksSeeIn seen (sight k)
 
 -- a weight of what counts and of objects that are seen
 abbrev pub Heeds : (ObjNo → Bool) → Sight → (Sign → ℕ) → Type 0
@@ -65,20 +68,14 @@ Heeds seen s w = Counts s w × ((o : ObjNo) (v : Plain) → seen o ≡ false →
 abbrev pub HeedAlike : (ObjNo → Bool) → Sight → List Thing → List Thing → Type 0
 HeedAlike seen s a b = (w : Sign → ℕ) → w nothing ≡ 0 → Heeds seen s w → tot (λ x. w (sign_of x)) a ≡ tot (λ x. w (sign_of x)) b
 
--- where what something names is seen
-module _ (k c : Cluster) (code : c.code ≡ k.code) (once : Once (sight k)) (seen : ObjNo → Bool) (covers : (o : ObjNo) → seen o ≡ false → is_named (sight k) (object_n o) ≡ false) (paths : LocksSee seen k)
-    (alike : HeedAlike seen (sight k) (things_of k) (things_of c)) where
-  abbrev a : List Thing
-  a = things_of k
-
-  abbrev b : List Thing
-  b = things_of c
-
+-- where what something names is seen, and no gift is without its thread; of things in whatever order
+module _ (k c : Cluster) (a b : List Thing) (code : c.code ≡ k.code) (once : Once (with_things k a)) (seen : ObjNo → Bool) (covers : (o : ObjNo) → seen o ≡ false → is_named (with_things k a) (object_n o) ≡ false) (paths : LocksSeeIn seen (with_things k a))
+    (alike : HeedAlike seen (with_things k a) a b) (given : tot (stray (with_things k a)) a ≡ 0) (given2 : ((t : ℕ) → tot (is_thread t) b ≤ 1) → tot (stray (with_things c b)) b ≡ 0) where
   abbrev s : Sight
-  s = sight k
+  s = with_things k a
 
   abbrev s2 : Sight
-  s2 = sight c
+  s2 = with_things c b
 
   -- a weight of each side that is one of what is shown
   carried : (w : Sign → ℕ) → w nothing ≡ 0 → Heeds seen s w → (f f2 : Thing → ℕ) → ((x : Thing) → f x ≡ w (sign_of x)) → ((x : Thing) → f2 x ≡ w (sign_of x)) → tot f a ≡ tot f2 b
@@ -310,7 +307,7 @@ module _ (k c : Cluster) (code : c.code ≡ k.code) (once : Once (sight k)) (see
   counts_as p = Some p
 
   real : (w : Sign → ℕ) → w nothing ≡ 0 → Heeds seen s w → (f f2 : Thing → ℕ) → ((x : Thing) → stray s x ≡ 0 → f x ≡ w (sign_of x)) → ((x : Thing) → stray s2 x ≡ 0 → f2 x ≡ w (sign_of x)) → tot f a ≡ tot f2 b
-  real w z n f f2 e e2 = tot_but (stray s) f (λ x. w (sign_of x)) e a (no_stray k once.threads) ∙ alike w z n ∙ sym (tot_but (stray s2) f2 (λ x. w (sign_of x)) e2 b (no_stray c numbers_differ))
+  real w z n f f2 e e2 = tot_but (stray s) f (λ x. w (sign_of x)) e a given ∙ alike w z n ∙ sym (tot_but (stray s2) f2 (λ x. w (sign_of x)) e2 b (given2 numbers_differ))
 
   first_real : (f f2 : Thing → Option Plain) (w : (Plain → ℕ) → Sign → ℕ) → ((g : Plain → ℕ) → w g nothing ≡ 0) → ((g : Plain → ℕ) → Heeds seen s (w g)) → ((g : Plain → ℕ) (x : Thing) → stray s x ≡ 0 → told g (f x) ≡ w g (sign_of x))
       → ((g : Plain → ℕ) (x : Thing) → stray s2 x ≡ 0 → told g (f2 x) ≡ w g (sign_of x)) → tot (λ x. told ones (f x)) a ≤ 1 → first_shown f a ≡ first_shown f2 b
@@ -378,10 +375,10 @@ module _ (k c : Cluster) (code : c.code ≡ k.code) (once : Once (sight k)) (see
       carried (share_weight m) refl
       (by_owner (λ v o. if_so (plain_owns (mutex_n m) v) (one (owner_in (is_in_state s) o))) (λ v. none_if (plain_owns (mutex_n m) v)) (λ n v e. unowned (plain_owns (mutex_n m) v) (is_in_state s n) (unnamed_out s (length a) n e)) (λ o. refl) (share_weight m) (λ p v. refl) (λ t d. refl) (λ y q. refl), λ o v e. unowned (plain_owns (mutex_n m) v) (is_in_state s (object_n o)) (unnamed_out s (length a) (object_n o) (covers o e))) (share_in s m) (share_in s2 m) (share_is s (λ p. refl) (λ n. refl) m) (share_is s2 back (λ n. sym (in_same n)) m)
 
-  mutexes_same : (m : MutexNo) → (one_heap k).mutex m ≡ (one_heap c).mutex m
+  mutexes_same : (m : MutexNo) → (state_of s).mutex m ≡ (state_of s2).mutex m
   mutexes_same m = by (is_named s (mutex_n m)) refl
     where
-      by : (q : Bool) → is_named s (mutex_n m) ≡ q → (one_heap k).mutex m ≡ (one_heap c).mutex m
+      by : (q : Bool) → is_named s (mutex_n m) ≡ q → (state_of s).mutex m ≡ (state_of s2).mutex m
       by true e =
           ap (λ q. if_there q (record { content = first_shown (content_value s m) a; shares = tot (share_in s m) a })) (in_same (mutex_n m))
           ∙ ap₂ (λ v n. if_there (is_in_state s2 (mutex_n m)) (record { content = v; shares = n })) (content_same m e) (shares_same m)
@@ -623,8 +620,8 @@ module _ (k c : Cluster) (code : c.code ≡ k.code) (once : Once (sight k)) (see
   mutex_given : (m : MutexNo) → is_given_mutex s m ≡ is_given_mutex s2 m
   mutex_given m = ap (λ n. not (m.count == 0) && some n) (carried (made_weight m.home m.count) refl (no_values s (made_weight m.home m.count) (λ p v. refl) (λ u d. refl) (λ y. refl), λ o v e. refl) (made_at m.home m.count) (made_at m.home m.count) (made_is m.home m.count) (made_is m.home m.count))
 
-  pub heeds_same_heap : SameState (one_heap c) (one_heap k)
-  heeds_same_heap = record {
+  pub heeds_same_state : SameState (state_of s2) (state_of s)
+  heeds_same_state = record {
     threads = λ t. sym (ap₂ if_given (given_same t) (life_same t));
     made = λ t. sym (by_found t made_of made_of refl (λ x y h e. ap (λ (z : ShownThread). if z.is_over then 0 else z.made) e));
     pairs = λ t. sym (by_found t pair_of pair_of refl (λ x y h e. ap (λ (z : ShownThread). z.pair) e));
@@ -633,17 +630,73 @@ module _ (k c : Cluster) (code : c.code ≡ k.code) (once : Once (sight k)) (see
     given = λ m. sym (mutex_given m);
   }
 
+  -- WHAT IS SHOWN ONCE
+
+  abbrev ended_weight : ℕ → Sign → ℕ
+  ended_weight t (a_shown_thread y q) = one (y.number == t && (not (y.number == 0) && y.is_over))
+  ended_weight t x = 0
+
+  ended_is : (t : ℕ) (x : Thing) → has_ended t x ≡ ended_weight t (sign_of x)
+  ended_is t (noted i x) = unnoted (ended_weight t) refl (λ u d. refl) x.thread x.state
+  ended_is t _ = refl
+
+  -- where all that is shown is the same
+  module _ (all : ShowAlike a b) where
+    sums : (w : Sign → ℕ) → w nothing ≡ 0 → (f f2 : Thing → ℕ) → ((x : Thing) → stray s x ≡ 0 → f x ≡ w (sign_of x)) → ((x : Thing) → stray s2 x ≡ 0 → f2 x ≡ w (sign_of x)) → tot f a ≡ tot f2 b
+    sums w z f f2 e e2 = tot_but (stray s) f (λ x. w (sign_of x)) e a given ∙ all w z ∙ sym (tot_but (stray s2) f2 (λ x. w (sign_of x)) e2 b (given2 numbers_differ))
+
+    pub once_there : Once s2
+    once_there = record {
+      cells = λ o. omega (arith, once.cells o, sums (object_weight o ones) refl (λ x. told ones (cell_value o x)) (λ x. told ones (cell_value o x)) (λ x z. object_is o ones x) (λ x z. object_is o ones x));
+      threads = numbers_differ;
+      contents = λ m. omega (
+        arith,
+        once.contents m,
+        sums (content_weight m ones) refl (λ x. told ones (content_value s m x)) (λ x. told ones (content_value s2 m x)) (content_is s (λ t. refl) m ones) (content_is s2 (λ t. sym (places_same t)) m ones),
+      );
+      ends = λ t. omega (
+        arith,
+        once.ends t,
+        sums (result_weight t ones) refl (λ x. told ones (shown_result s t x)) (λ x. told ones (shown_result s2 t x)) (result_is s (λ u. refl) t ones) (result_is s2 (λ u. sym (places_same u)) t ones),
+        sums (ended_weight t) refl (has_ended t) (has_ended t) (λ x z. ended_is t x) (λ x z. ended_is t x),
+      );
+    }
+
+-- of the things of two clusters
+module _ (k c : Cluster) (code : c.code ≡ k.code) (once : Once (sight k)) where
+  pub heeds_same_heap : (seen : ObjNo → Bool) → ((o : ObjNo) → seen o ≡ false → is_named (sight k) (object_n o) ≡ false) → LocksSee seen k → HeedAlike seen (sight k) (things_of k) (things_of c) → SameState (one_heap c) (one_heap k)
+  heeds_same_heap seen covers paths alike = heeds_same_state k c (things_of k) (things_of c) code once seen covers paths alike (no_stray k once.threads) (no_stray c)
+
+all_seen : (l : Option Location) → SeenAt (λ o. true) l
+all_seen None = tt
+all_seen (Some (at_slot t i)) = tt
+all_seen (Some (at_temp t i)) = tt
+all_seen (Some (in_cell o)) = refl
+
 -- where objects count that nothing names
 pub counts_same_heap : (k c : Cluster) → c.code ≡ k.code → Once (sight k) → CountAlike (sight k) (things_of k) (things_of c) → SameState (one_heap c) (one_heap k)
 counts_same_heap k c code once alike =
     heeds_same_heap k c code once (λ o. true) (λ o e. absurd (cc e)) (λ t x w h e n l. all_seen (locate (sight k).ground x.thread.number w.slot n)) (λ w z n. alike w z n.0)
-  where
-    all_seen : (l : Option Location) → SeenAt (λ o. true) l
-    all_seen None = tt
-    all_seen (Some (at_slot t i)) = tt
-    all_seen (Some (at_temp t i)) = tt
-    all_seen (Some (in_cell o)) = refl
 
 -- where all that is shown is the same, whatever counts is
 pub same_heap : (k c : Cluster) → c.code ≡ k.code → Once (sight k) → ShowAlike (things_of k) (things_of c) → SameState (one_heap c) (one_heap k)
 same_heap k c code once alike = counts_same_heap k c code once (λ w z n. alike w z)
+
+-- the same of things in whatever order, where no gift is without its thread
+module _ (k : Cluster) (a b : List Thing) (once : Once (with_things k a)) (alike : ShowAlike a b) (given : tot (stray (with_things k a)) a ≡ 0) (given2 : ((t : ℕ) → tot (is_thread t) b ≤ 1) → tot (stray (with_things k b)) b ≡ 0) where
+  abbrev all_locks : LocksSeeIn (λ o. true) (with_things k a)
+  all_locks = λ t x w h e n l. all_seen (locate (with_things k a).ground x.thread.number w.slot n)
+
+  pub same_state : SameState (state_of (with_things k b)) (state_of (with_things k a))
+  same_state = heeds_same_state k k a b refl once (λ o. true) (λ o e. absurd (cc e)) all_locks (λ w z n. alike w z) given given2
+
+  -- and what is shown once there is shown once here
+  pub same_once : Once (with_things k b)
+  same_once = once_there k k a b refl once (λ o. true) (λ o e. absurd (cc e)) all_locks (λ w z n. alike w z) given given2 alike
+
+  -- a spot has the same owner, and a gift counts as the same
+  pub same_spots : (p : Spot) → spot_owner (with_things k a) p ≡ spot_owner (with_things k b) p
+  same_spots p = spot_same k k a b refl once (λ o. true) (λ o e. absurd (cc e)) all_locks (λ w z n. alike w z) given given2 p
+
+  pub same_gifts : (t : ℕ) → gift_spot (with_things k a) t ≡ gift_spot (with_things k b) t
+  same_gifts t = places_same k k a b refl once (λ o. true) (λ o e. absurd (cc e)) all_locks (λ w z n. alike w z) given given2 t

@@ -14,7 +14,7 @@ use Rattle.server_model.specs.Servers.{Cluster}
 use Rattle.heap_law.specs.Names.{tot, one, other, if_so, some, same_mutex, Among}
 use Rattle.heap_law.specs.Things.{Spot, in_slot, in_temp, as_gift, as_content, as_result, in_hand, Thing, holds, sent, stands, noted, things_of}
 use Rattle.heap_law.specs.Follow.{Standing, threads_in, thread_at}
-use Rattle.heap_law.specs.Sight.{Sight, sight}
+use Rattle.heap_law.specs.Sight.{Sight, sight, with_things}
 use Rattle.heap_law.specs.Paths.{joined_thread}
 use Rattle.heap_law.specs.Walking.{instr_of}
 use Rattle.heap_law.specs.Requests.{locked_mutex, is_mutex, is_task}
@@ -40,20 +40,17 @@ abbrev pub stray : Sight → Thing → ℕ
 stray r (holds (as_gift t) v) = other (gifted (thread_at r.ground.threads t))
 stray r x = 0
 
--- there is none, where no two threads have one number
-pub no_stray : (c : Cluster) → ((t : ℕ) → tot (is_thread t) (things_of c) ≤ 1) → tot (stray (sight c)) (things_of c) ≡ 0
-no_stray c few =
-    let b = things_of c in
-    let places : tot (placed nought nought lost) b ≡ tot (telling nought nought lost) b = places_told nought nought lost c in
-    omega (arith, tot_same (stray (sight c)) (placed nought nought lost) as_placed b, places, told_none b (λ x h. found x b (few x.thread.number) h))
+abbrev pub nought : {A : Type 0} → A → ℕ
+nought x = 0
+
+-- there is none, where no two threads have one number, and as many gifts stand as threads have one
+pub no_stray_in : (c : Cluster) (b : List Thing) → ((gift : ℕ → ℕ) → tot (placed nought nought gift) b ≡ tot (telling nought nought gift) b) → ((t : ℕ) → tot (is_thread t) b ≤ 1) → tot (stray (with_things c b)) b ≡ 0
+no_stray_in c b places few = omega (arith, tot_same (stray (with_things c b)) (placed nought nought lost) as_placed b, places lost, told_none b (λ x h. found x b (few x.thread.number) h))
   where
-    nought : {A : Type 0} → A → ℕ
-    nought x = 0
-
     lost : ℕ → ℕ
-    lost t = other (gifted (thread_at (threads_in (things_of c)) t))
+    lost t = other (gifted (thread_at (threads_in b) t))
 
-    as_placed : (x : Thing) → stray (sight c) x ≡ placed nought nought lost x
+    as_placed : (x : Thing) → stray (with_things c b) x ≡ placed nought nought lost x
     as_placed (holds (as_gift t) v) = refl
     as_placed (holds (in_slot t i) v) = refl
     as_placed (holds (in_temp t i) v) = refl
@@ -86,16 +83,19 @@ no_stray c few =
     found_gift true o e = ap other e
     found_gift false o e = refl
 
-    told_none : (b : List Thing) → ((x : Standing) → Among x (threads_in b) → thread_at (threads_in (things_of c)) x.thread.number ≡ Some x) → tot (telling nought nought lost) b ≡ 0
+    told_none : (xs : List Thing) → ((x : Standing) → Among x (threads_in xs) → thread_at (threads_in b) x.thread.number ≡ Some x) → tot (telling nought nought lost) xs ≡ 0
     told_none [] h = refl
-    told_none (stands r p x ∷ b) h =
+    told_none (stands r p x ∷ xs) h =
         let y : Standing = record { server = r; packed = p; thread = x } in
-        let own : if_so (is_some x.gift) (lost x.number) ≡ 0 = found_gift (is_some x.gift) (thread_at (threads_in (things_of c)) x.number) (ap gifted (h y (inl refl))) in
-        omega (arith, own, told_none b (λ z q. h z (inr q)))
-    told_none (noted r x ∷ b) h = omega (arith, kept_none r x.thread x.state, told_none b h)
-    told_none (sent r m ∷ b) h = omega (arith, sent_none r m, told_none b h)
-    told_none (holds p v ∷ b) h = omega (arith, held_none p v, told_none b h)
-    told_none (_ ∷ b) h = omega (arith, told_none b h)
+        let own : if_so (is_some x.gift) (lost x.number) ≡ 0 = found_gift (is_some x.gift) (thread_at (threads_in b) x.number) (ap gifted (h y (inl refl))) in
+        omega (arith, own, told_none xs (λ z q. h z (inr q)))
+    told_none (noted r x ∷ xs) h = omega (arith, kept_none r x.thread x.state, told_none xs h)
+    told_none (sent r m ∷ xs) h = omega (arith, sent_none r m, told_none xs h)
+    told_none (holds p v ∷ xs) h = omega (arith, held_none p v, told_none xs h)
+    told_none (_ ∷ xs) h = omega (arith, told_none xs h)
+
+pub no_stray : (c : Cluster) → ((t : ℕ) → tot (is_thread t) (things_of c) ≤ 1) → tot (stray (sight c)) (things_of c) ≡ 0
+no_stray c few = no_stray_in c (things_of c) (λ gift. places_told nought nought gift c) few
 
 -- a gift counts as a content or a result, if as anything
 pub by_gift_spot : (s : Sight) (P : Option Spot → Type 0) → P None → ((m : MutexNo) → P (Some (as_content m))) → ((t : ℕ) → P (Some (as_result t))) → (t : ℕ) → P (gift_spot s t)

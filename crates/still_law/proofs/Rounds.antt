@@ -29,7 +29,7 @@ or_more false b true d f g e = refl
 or_more false b false d f g e = g e
 
 -- who is in at least
-abbrev Included : (Node → Bool) → (Node → Bool) → Type 0
+abbrev pub Included : (Node → Bool) → (Node → Bool) → Type 0
 Included f g = (n : Node) → f n ≡ true → g n ≡ true
 
 owner_more : (f g : Node → Bool) → Included f g → (o : Owner) → owner_in f o ≡ true → owner_in g o ≡ true
@@ -59,7 +59,7 @@ module _ (s : Sight) where
   abbrev In : ℕ → Node → Bool
   In i n = in_state_by i s n
 
-  any_more : (f g : Node → Bool) → Included f g → (n : Node) (b : List Thing) → any_named s f n b ≡ true → any_named s g n b ≡ true
+  pub any_more : (f g : Node → Bool) → Included f g → (n : Node) (b : List Thing) → any_named s f n b ≡ true → any_named s g n b ≡ true
   any_more f g up n [] e = absurd (cc e)
   any_more f g up n (x ∷ b) e =
       or_more (named_in (names n x) f (owner_of s x)) (any_named s f n b) (named_in (names n x) g (owner_of s x)) (any_named s g n b) (named_more f g up (names n x) (owner_of s x)) (any_more f g up n b) e

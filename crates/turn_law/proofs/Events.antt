@@ -57,13 +57,13 @@ use Rattle.turn_law.proofs.Within.{Within, with_turn, servers_within}
 abbrev nought : {A : Type 0} → A → ℕ
 nought x = 0
 
-abbrev gift_at : ℕ → ℕ → ℕ
+abbrev pub gift_at : ℕ → ℕ → ℕ
 gift_at t u = one (u == t)
 
-abbrev placed_at : ℕ → Thing → ℕ
+abbrev pub placed_at : ℕ → Thing → ℕ
 placed_at t = placed nought nought (gift_at t)
 
-abbrev told_at : ℕ → Thing → ℕ
+abbrev pub told_at : ℕ → Thing → ℕ
 told_at t = telling nought nought (gift_at t)
 
 so_at_most : (q : Bool) (n : ℕ) → if_so q n ≤ n
@@ -100,7 +100,7 @@ told_one t (holds p v) = by p
     by in_hand = omega arith
 told_one t _ = omega arith
 
-told_by : (t : ℕ) (xs : List Thing) → tot (told_at t) xs ≤ tot (is_thread t) xs
+pub told_by : (t : ℕ) (xs : List Thing) → tot (told_at t) xs ≤ tot (is_thread t) xs
 told_by t [] = omega arith
 told_by t (x ∷ xs) = omega (arith, told_one t x, told_by t xs)
 
@@ -117,12 +117,19 @@ of_both t (holds p v) = omega (arith, by p)
     by in_hand = omega arith
 of_both t _ = omega arith
 
-all_of : (t : ℕ) (xs : List Thing) → tot (of_thread t) xs ≤ tot (is_thread t) xs + tot (placed_at t) xs
+pub all_of : (t : ℕ) (xs : List Thing) → tot (of_thread t) xs ≤ tot (is_thread t) xs + tot (placed_at t) xs
 all_of t [] = omega arith
 all_of t (x ∷ xs) = omega (arith, of_both t x, all_of t xs)
 
-itself_counts : (t : ℕ) → one (t == t) ≡ 1
+pub itself_counts : (t : ℕ) → one (t == t) ≡ 1
 itself_counts t = eq_cases (λ b. one b ≡ 1) t t (λ _. refl) (λ ne. absurd (ne refl))
+
+-- a name that is counted, and not from 0, was given
+pub given_by_count : (q r b : Bool) → one (q && not r) ≡ 0 → other b ≡ 0 → r || (not q && b) ≡ true
+given_by_count q true b z w = refl
+given_by_count true false b z w = absurd (cc z)
+given_by_count false false true z w = refl
+given_by_count false false false z w = absurd (cc w)
 
 -- a thread without a gift stands once, and no gift is its
 module _ (k : Cluster) (sound : IsSound k) (A B : List Thing) (n : ℕ) (x : ThreadState) (bare : x.gift ≡ None) (things : things_of k ≡ A ++ (thread_things n false x ++ B)) where
@@ -155,12 +162,6 @@ module _ (k : Cluster) (sound : IsSound k) (A B : List Thing) (n : ℕ) (x : Thr
       let here : tot f (things_of k) ≡ tot f (A ++ (thread_things n false x ++ B)) = ap (tot f) things in
       omega (arith, z, here, tot-append f A (thread_things n false x ++ B), tot-append f (thread_things n false x) B)
 
-  given_by_count : (q r b : Bool) → one (q && not r) ≡ 0 → other b ≡ 0 → r || (not q && b) ≡ true
-  given_by_count q true b z w = refl
-  given_by_count true false b z w = absurd (cc z)
-  given_by_count false false true z w = refl
-  given_by_count false false false z w = absurd (cc w)
-
   given : is_given_thread (sight k) tx ≡ true
   given =
       let b : tot (threads (uncounted_thread (sight k))) (things_of k) + tot (named_mutexes (uncounted_mutex (sight k))) (things_of k) ≡ 0 = sound.names.names_counted in
@@ -170,6 +171,16 @@ module _ (k : Cluster) (sound : IsSound k) (A B : List Thing) (n : ℕ) (x : Thr
       given_by_count (count_of tx == 0) (tx == 0) (some (tot (started_at (home_of tx) (count_of tx)) (things_of k))) (omega (arith, first)) (omega (arith, named))
 
 -- THE CLUSTER AFTERWARDS
+
+pub then_same : (a b c : CodeState) → SameState a b → SameState c b → SameState a c
+then_same a b c p q = record {
+  threads = λ u. p.threads u ∙ sym (q.threads u);
+  made = λ u. p.made u ∙ sym (q.made u);
+  pairs = λ u. p.pairs u ∙ sym (q.pairs u);
+  objects = λ u. p.objects u ∙ sym (q.objects u);
+  mutexes = λ u. p.mutexes u ∙ sym (q.mutexes u);
+  given = λ u. p.given u ∙ sym (q.given u);
+}
 
 false_par : (i : Bool) → i ≡ false → (p : Bool) → other (same_truth i p) ≡ 0 → p ≡ false
 false_par false e false z = refl
@@ -186,11 +197,11 @@ not_over phase.Over e = absurd (cc e)
 not_over _ e = refl
 
 module _ (k : Cluster) (e : Event) (sound : IsSound k) (i : Instr) (s : Server) (here : server_at k.servers e.server ≡ Some s) (t : ℕ) (x : ThreadState) (at : thread_in s.threads t ≡ Some x) (number : x.number ≡ t) (on : can_step x.phase ≡ true)
-    (code : slice_get k.code x.pc ≡ Some i) (plain_one : is_par_end (Some i) ≡ false) (bare : x.gift ≡ None) where
+    (code : slice_get k.code x.pc ≡ Some i) (plain_one : is_par_end (Some i) ≡ false) where
   abbrev n : ℕ
   n = s.rest.number
 
-  calm : Calm x.phase
+  pub calm : Calm x.phase
   calm = record {
     alone =
         let wrong : par_end (sight k) (record { server = n; packed = false; thread = x }) ≡ 0 = none_here k sound e.server s here t x at (par_end (sight k)) sound.requests.par_ends in
@@ -199,7 +210,7 @@ module _ (k : Cluster) (e : Event) (sound : IsSound k) (i : Instr) (s : Server) 
     goes = not_over x.phase on;
   }
 
-  module _ (d : Stepped) (turn : TurnIn (one_heap k) k.code s.rest x d) (sends : GoTo (with_server k.servers e.server (stepped s d).0) (drop (length s.rest.outbox) (stepped s d).0.rest.outbox)) where
+  module _ (bare : x.gift ≡ None) (d : Stepped) (turn : TurnIn (one_heap k) k.code s.rest x d) (sends : GoTo (with_server k.servers e.server (stepped s d).0) (drop (length s.rest.outbox) (stepped s d).0.rest.outbox)) where
     abbrev y : ThreadState
     y = after x turn.pc turn.slots turn.temps
 
@@ -271,16 +282,6 @@ module _ (k : Cluster) (e : Event) (sound : IsSound k) (i : Instr) (s : Server) 
     heap_same : SameState (one_heap k3) (one_heap k2)
     heap_same = same_heap k2 k3 refl once alike
 
-    then_same : (a b c : CodeState) → SameState a b → SameState c b → SameState a c
-    then_same a b c p q = record {
-      threads = λ u. p.threads u ∙ sym (q.threads u);
-      made = λ u. p.made u ∙ sym (q.made u);
-      pairs = λ u. p.pairs u ∙ sym (q.pairs u);
-      objects = λ u. p.objects u ∙ sym (q.objects u);
-      mutexes = λ u. p.mutexes u ∙ sym (q.mutexes u);
-      given = λ u. p.given u ∙ sym (q.given u);
-    }
-
     -- the event is that step
     pub is_step : IsPlainStep k (k3, (stepped s d).1)
     is_step u names who done c same =
@@ -317,24 +318,32 @@ own_line k e i line s t x a =
     weaker (Turn k.code s.rest x) (λ (d : Stepped). (names : Fresh) → d.names ≡ Some names → TurnIn (one_heap k) k.code s.rest x d) (step k.options.servers i (record { work = begin_work s.rest; thread = x })) (line s.rest x a.code)
     (λ d turn names done. turn_in (one_heap k) k.code s.rest x d turn)
 
-module _ (k : Cluster) (e : Event) (i : Instr) (sound : IsSound k) (few : FewEvents k) (p : is_par_end (Some i) ≡ false) (bare : (g : Option Owned) → GiftFits i g → g ≡ None) (line : Line k e i) where
-  abbrev Sends : Server → Server × EntryView → Type 0
-  Sends s r = GoTo (with_server k.servers e.server r.0) (drop (length s.rest.outbox) r.0.rest.outbox)
+-- where its messages go to servers of the run
+abbrev pub Sends : Cluster → Event → Server → Server × EntryView → Type 0
+Sends k e s r = GoTo (with_server k.servers e.server r.0) (drop (length s.rest.outbox) r.0.rest.outbox)
+
+-- what an instruction's line leads to: the event is that plain step
+abbrev pub PlainLine : Cluster → Event → Instr → Type 0
+PlainLine k e i =
+    (s : Server) (t : ℕ) (x : ThreadState) → AtStep k e i s t x
+    → Gives (λ (d : Stepped). Sends k e s (stepped s d) → IsPlainStep k (record k { servers = hand_over_newer e.server (length s.rest.outbox) (stepped s d).0 k.servers }, (stepped s d).1)) (step k.options.servers i (record { work = begin_work s.rest; thread = x }))
+
+module _ (k : Cluster) (e : Event) (i : Instr) (sound : IsSound k) (few : FewEvents k) (line : PlainLine k e i) where
+  abbrev Goes : Server → Server × EntryView → Type 0
+  Goes s r = Sends k e s r
 
   abbrev Done : Server → Server × EntryView → Type 0
-  Done s r = Sends s r → IsPlainStep k (record k { servers = hand_over_newer e.server (length s.rest.outbox) r.0 k.servers }, r.1)
+  Done s r = Goes s r → IsPlainStep k (record k { servers = hand_over_newer e.server (length s.rest.outbox) r.0 k.servers }, r.1)
 
   of_thread_there : (s : Server) → server_at k.servers e.server ≡ Some s → (t : ℕ) → e.what ≡ Step t → enabled k.options s (Step t) ≡ true → (o : Option ThreadState) → thread_in s.threads t ≡ o → then_some o (λ x. slice_get k.code x.pc) ≡ Some i
       → Gives (Done s) (option_map (stepped s) (then_some (option_map (λ x. record { work = begin_work s.rest; thread = x }) o) (step_in k.code k.options.servers)))
   of_thread_there s h t what on None a j = tt
   of_thread_there s h t what on (Some x) a j =
-      let fit = gift_fits k sound e.server s h t x a i j in
       let able : can_step x.phase ≡ true = subst (λ o. has_phase can_step o ≡ true) a on in
       let number = numbered s.threads t x a in
       subst (λ o. Gives (Done s) (option_map (stepped s) (then_some o (λ z. step k.options.servers z (record { work = begin_work s.rest; thread = x }))))) (sym j)
-      (over_gives (λ (d : Stepped). (names : Fresh) → d.names ≡ Some names → TurnIn (one_heap k) k.code s.rest x d) (Done s) (step k.options.servers i (record { work = begin_work s.rest; thread = x })) (stepped s)
-      (line s t x (record { here = h; at = a; number = number; on = able; code = j; what = what }))
-      (λ d turn sends u names who done. is_step k e sound i s h t x a number able j p (bare x.gift fit.0) d (turn names done) sends u names who done))
+      (over_gives (λ (d : Stepped). Done s (stepped s d)) (Done s) (step k.options.servers i (record { work = begin_work s.rest; thread = x })) (stepped s)
+      (line s t x (record { here = h; at = a; number = number; on = able; code = j; what = what })) (λ d done. done))
 
   of_what : (s : Server) → server_at k.servers e.server ≡ Some s → (w : What) → e.what ≡ w → instr_at k w s ≡ Some i → Gives (Done s) (done_at k w s)
   of_what s h (Step t) what j = test_gives (Done s) (enabled k.options s (Step t)) (does k.code k.options s (Step t)) (λ on. of_thread_there s h t what on (thread_in s.threads t) refl j)
@@ -344,9 +353,18 @@ module _ (k : Cluster) (e : Event) (i : Instr) (sound : IsSound k) (few : FewEve
 
   of_server : (s : Server) → server_at k.servers e.server ≡ Some s → instr_at k e.what s ≡ Some i → Gives (IsPlainStep k) (option_map (λ d. (record k { servers = hand_over_newer e.server (length s.rest.outbox) d.0 k.servers }, d.1)) (done_at k e.what s))
   of_server s h j =
-      over_gives (λ r. Sends s r × Done s r) (IsPlainStep k) (done_at k e.what s) _
-      (both_give (Sends s) (Done s) (λ r. Sends s r × Done s r) (done_at k e.what s) (each_event_sends k e sound few s h) (of_what s h e.what refl j) (λ r a b. (a, b))) (λ r g. g.1 g.0)
+      over_gives (λ r. Goes s r × Done s r) (IsPlainStep k) (done_at k e.what s) _
+      (both_give (Goes s) (Done s) (λ r. Goes s r × Done s r) (done_at k e.what s) (each_event_sends k e sound few s h) (of_what s h e.what refl j) (λ r a b. (a, b))) (λ r g. g.1 g.0)
 
   -- where the line stands, each event that steps the instruction is that plain step
-  pub steps_are_plain : instr_of k e ≡ Some i → Gives (IsPlainStep k) (apply k e)
-  steps_are_plain q = then_gives (IsPlainStep k) (server_at k.servers e.server) _ (λ s h. of_server s h (subst (λ o. then_some o (instr_at k e.what) ≡ Some i) h q))
+  pub events_are_plain : instr_of k e ≡ Some i → Gives (IsPlainStep k) (apply k e)
+  events_are_plain q = then_gives (IsPlainStep k) (server_at k.servers e.server) _ (λ s h. of_server s h (subst (λ o. then_some o (instr_at k e.what) ≡ Some i) h q))
+
+-- the same where the thread has no gift and all but it stays
+pub steps_are_plain : (k : Cluster) (e : Event) (i : Instr) → IsSound k → FewEvents k → is_par_end (Some i) ≡ false → ((g : Option Owned) → GiftFits i g → g ≡ None) → Line k e i → instr_of k e ≡ Some i → Gives (IsPlainStep k) (apply k e)
+steps_are_plain k e i sound few p bare line =
+    events_are_plain k e i sound few (λ s t x a.
+    let fit = gift_fits k sound e.server s a.here t x a.at i a.code in
+    weaker (λ (d : Stepped). (names : Fresh) → d.names ≡ Some names → TurnIn (one_heap k) k.code s.rest x d)
+    (λ (d : Stepped). Sends k e s (stepped s d) → IsPlainStep k (record k { servers = hand_over_newer e.server (length s.rest.outbox) (stepped s d).0 k.servers }, (stepped s d).1)) (step k.options.servers i (record { work = begin_work s.rest; thread = x }))
+    (line s t x a) (λ d turn sends u names who done. is_step k e sound i s a.here t x a.at a.number a.on a.code p (bare x.gift fit.0) d (turn names done) sends u names who done))

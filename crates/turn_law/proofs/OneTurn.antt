@@ -53,7 +53,7 @@ abbrev pub going_of : Sight → ℕ → Going
 going_of s zero = as_main
 going_of s (suc t) = if was_let_go s (suc t) then as_loose else as_owing
 
-going_is : (s : Sight) (t : ℕ) (p : CodeRunning) → going_on s t p ≡ life_as (going_of s t) p
+pub going_is : (s : Sight) (t : ℕ) (p : CodeRunning) → going_on s t p ≡ life_as (going_of s t) p
 going_is s zero p = refl
 going_is s (suc t) p = by (was_let_go s (suc t))
   where

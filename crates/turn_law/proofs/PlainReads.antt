@@ -3,6 +3,7 @@ use Rattle.std.proofs.Common.{◌≡◌, ℕ, zero, suc, Bool, false, List, [], 
 use Rattle.fr_base.specs.declared.label.Label.{Label}
 use Rattle.fr_base.specs.declared.label.Label.TheVariants as label
 use Rattle.fr_base.specs.declared.label.Plain.{Plain}
+use Rattle.fr_base.specs.declared.name.MutexNo.{MutexNo}
 use Rattle.fr_base.specs.declared.name.ObjNo.{ObjNo}
 use Rattle.fr_base.specs.declared.place.Lval.{Lval}
 use Rattle.fr_plain.specs.declared.value.Value.TheVariants as plain_v
@@ -12,6 +13,7 @@ use Rattle.fr_plain.specs.State as state
 use Rattle.fr_plain.specs.PlainState.{SameState, plain_state}
 use Rattle.fr_plain.specs.MachineActs.{Did, do_read, do_borrow, read_did, borrow_did, reference}
 use Rattle.fr_plain.specs.MachineActs as acts
+use Rattle.fr_plain.specs.Machine.{mutex_value, mutex_behind}
 use Rattle.fr_sound.specs.Seen.{seen_cell}
 use Rattle.fr_code.specs.Steps.{Place}
 use Rattle.fr_code.specs.Machine.{CodeWhole}
@@ -162,3 +164,11 @@ module _ (k : Cluster) (co : IsCoherent k) (x : Standing) (g : GoesOn k x) where
     pub borrow_shown : (w : Lval) (is_mut : Bool) (l : Location) → locate ground t w.slot w.depth ≡ Some l
         → acts.act {B = Place} (do_borrow w is_mut) st ≡ Some (record { value = reference (plain_spot l); state = st; labels = passed_loads ground t w.slot w.depth })
     borrow_shown w is_mut l e = ap (λ o. then_reached o (borrow_did st)) (stars_shown w.slot w.depth l e)
+
+    -- the mutex to which a place leads
+    pub mutex_shown : (w : Lval) (l : Location) (m : MutexNo) → locate ground t w.slot w.depth ≡ Some l → value_in ground l ≡ Some (value.Own (owned.Mutex m)) → mutex_behind st w ≡ Some (m, passed_loads ground t w.slot w.depth ++ loads_of ground l)
+    mutex_shown w l m e f =
+        let h = shown_there w.slot w.depth l e in
+        ap (λ o. then_reached o (λ r. mutex_value r (state.value_at st r.spot))) (stars_shown w.slot w.depth l e)
+        ∙ ap (mutex_value (reached (plain_spot l) (passed_loads ground t w.slot w.depth))) (value_shown l h (value.Own (owned.Mutex m)) f)
+        ∙ ap (λ z. Some (m, passed_loads ground t w.slot w.depth ++ z)) (loads_shown l h (value.Own (owned.Mutex m)) f)

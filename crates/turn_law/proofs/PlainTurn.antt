@@ -31,17 +31,17 @@ thread_of t l slots = record { number = t; life = l; slots = slots }
 abbrev running_of : Place → List Value → CodeRunning
 running_of p slots = record { place = p; slots = slots }
 
-running_as : (g : Going) (p : CodeRunning) → running p.slots (life_as g p.place) ≡ life_as g p
+pub running_as : (g : Going) (p : CodeRunning) → running p.slots (life_as g p.place) ≡ life_as g p
 running_as as_main p = refl
 running_as as_owing p = refl
 running_as as_loose p = refl
 
-goes_as : (g : Going) (p : Place) → is_over (life_as g p) ≡ false
+pub goes_as : (g : Going) (p : Place) → is_over (life_as g p) ≡ false
 goes_as as_main p = refl
 goes_as as_owing p = refl
 goes_as as_loose p = refl
 
-settled_as : (code : List Instr) (g : Going) (p : Place) → settle_life (code_moves code) (life_as g p) ≡ life_as g p
+pub settled_as : (code : List Instr) (g : Going) (p : Place) → settle_life (code_moves code) (life_as g p) ≡ life_as g p
 settled_as code as_main p = refl
 settled_as code as_owing p = refl
 settled_as code as_loose p = refl
@@ -64,7 +64,7 @@ of_running (ended v) slots as_owing p t e = absurd (cc e)
 of_running (ended v) slots as_loose p t e = absurd (cc e)
 
 -- a thread that is shown so is that one
-found_as : (c : CodeWhole) (t : ℕ) (g : Going) (p : CodeRunning) → running_in (thread_at c.threads t) ≡ Some (life_as g p) → thread_at c.threads t ≡ Some (thread_as g t p)
+pub found_as : (c : CodeWhole) (t : ℕ) (g : Going) (p : CodeRunning) → running_in (thread_at c.threads t) ≡ Some (life_as g p) → thread_at c.threads t ≡ Some (thread_as g t p)
 found_as c t g p e = by (thread_at c.threads t) refl e
   where
     by : (o : Option CodeThread) → thread_at c.threads t ≡ o → running_in o ≡ Some (life_as g p) → o ≡ Some (thread_as g t p)

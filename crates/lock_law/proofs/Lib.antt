@@ -1,0 +1,14 @@
+pub mod Reach
+pub mod Beside
+pub mod OneThread
+pub mod OneMutex
+pub mod Change
+pub mod PlainMutex
+pub mod Changed
+pub mod MutexTurns
+pub mod Gifted
+pub mod Places
+pub mod SharedLines
+pub mod DupLines
+pub mod LockLines
+pub mod Clauses

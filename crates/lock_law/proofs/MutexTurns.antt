@@ -1,0 +1,165 @@
+-- A step at a mutex, from what it leaves of its server to the event: it is that plain step on the cluster's one heap.
+use Rattle.std.proofs.Common.{◌≡◌, ℕ, ◌+◌, false, List, [], ◌∷◌, ◌++◌, length, Option, Some, None, option_map, refl, sym, ap, ◌∙◌, subst, arith}
+use Rattle.std.specs.List.{AllByRecursion}
+use Rattle.fr_base.specs.declared.step.Fresh.{Fresh}
+use Rattle.fr_base.specs.declared.step.Fresh.TheVariants as fresh
+use Rattle.fr_base.specs.declared.instruction.Instr.{Instr}
+use Rattle.fr_plain.specs.PlainState.{SameState, plain_state}
+use Rattle.fr_code.specs.Machine.{CodeWhole}
+use Rattle.heap_partition.specs.declared.value.Owned.{Owned}
+use Rattle.read_cache.specs.Cache.{Copy}
+use Rattle.migration.specs.Packing.{unpin_all}
+use Rattle.thread_state.specs.View.{ThreadState}
+use Rattle.thread_state.specs.declared.phase.Phase.TheVariants as phase
+use Rattle.thread_state.specs.declared.value.Value.{Value}
+use Rattle.server_model.specs.declared.event.Event.{Event}
+use Rattle.server_model.specs.Servers.{Server, Cluster}
+use Rattle.server_model.specs.Work.{Hand, with_cache}
+use Rattle.server_model.specs.Commit.{goes_on, go_on}
+use Rattle.server_model.specs.Events.{Stepped, stepped, begin_work, committed, step}
+use Rattle.server_model.specs.Clusters.{hand_over_newer, apply}
+use Rattle.heap_law.specs.Names.{tot}
+use Rattle.heap_law.specs.Things.{Thing, gift_things}
+use Rattle.heap_law.specs.Sight.{Sight, with_things}
+use Rattle.heap_law.specs.Requests.{is_par_end}
+use Rattle.heap_law.specs.OneHeap.{one_heap, state_of}
+use Rattle.heap_law.specs.Coherent.{IsSound}
+use Rattle.event_law.specs.Laws.{Gives, FewEvents}
+use Rattle.event_law.proofs.Trades.{tot-append}
+use Rattle.event_law.proofs.Bags.{counts_of, rest_things}
+use Rattle.event_law.proofs.Results.{weaker}
+use Rattle.still_law.proofs.Alike.{Once}
+use Rattle.still_law.proofs.Counting.{stray}
+use Rattle.still_law.specs.Shows.{sign_of}
+use Rattle.still_law.proofs.Sites.{shown, Moves}
+use Rattle.still_law.proofs.Readied.{Readied, copies_ready}
+use Rattle.turn_law.specs.Turns.{StepsTo, IsPlainStep, instr_of}
+use Rattle.turn_law.proofs.OneTurn.{Calm}
+use Rattle.turn_law.proofs.Events.{AtStep, Sends, calm, events_are_plain, then_same}
+use Rattle.lock_law.proofs.Beside.{giftless, IsBeside, IsLoose, loose_beside, all_so, all_of}
+use Rattle.lock_law.proofs.OneThread.{past}
+use Rattle.lock_law.proofs.Changed as changed
+
+gift_loose : (t : ℕ) (c : Thing) → IsLoose c → (g : Option Owned) → AllByRecursion IsLoose (gift_things t g ++ c ∷ [])
+gift_loose t c h None = (h, tt)
+gift_loose t c h (Some v) = (tt, (h, tt))
+
+module _ (k : Cluster) (sound : IsSound k) (e : Event) (i : Instr) (single : is_par_end (Some i) ≡ false) (s : Server) (t : ℕ) (x : ThreadState) (at : AtStep k e i s t x) where
+  abbrev pub R : List Thing
+  R = changed.R k sound e s at.here t x at.at at.number
+
+  abbrev pub G : List Thing
+  G = changed.G k sound e s at.here t x at.at at.number
+
+  -- the things before, and afterwards with these in the place of its gift and the counts
+  abbrev pub before : Sight
+  before = with_things k (all_of s.rest.number x G R)
+
+  abbrev pub then_there : ℕ → List Value → List Value → List Thing → Sight
+  then_there pc slots temps G2 = with_things k (all_of s.rest.number (past x pc slots temps) G2 R)
+
+  pub quiet : Calm x.phase
+  quiet = calm k e sound i s at.here t x at.at at.number at.on at.code single
+
+  pub loose : AllByRecursion IsLoose G
+  loose = gift_loose x.number (counts_of s.rest.number s.events s.rest) tt x.gift
+
+  -- what the thread has afterwards, what comes in the place of its gift and the counts, and that the plain machine does the same
+  pub record MutexTurn (d : Stepped) : Type 0 where
+    pub pc : ℕ
+    pub slots : List Value
+    pub temps : List Value
+    pub names : Fresh
+    pub thread : d.hand.thread ≡ past x pc slots temps
+    pub named : d.names ≡ Some names
+    pub comes : List Thing
+    pub moves : Moves comes (counts_of s.rest.number 0 s.rest ∷ []) s.rest d.hand.work.rest
+    pub loose_too : AllByRecursion IsLoose comes
+    pub unstray : tot (stray (then_there pc slots temps comes)) comes ≡ 0
+    pub once : Once (then_there pc slots temps comes)
+    pub steps : (c : CodeWhole) → SameState (plain_state c) (one_heap k) → StepsTo k.code c x.number names (state_of (then_there pc slots temps comes)) d.hand.work.labels
+
+  abbrev Next : Stepped → Cluster
+  Next d = record k { servers = hand_over_newer e.server (length s.rest.outbox) (stepped s d).0 k.servers }
+
+  is_step : (d : Stepped) → MutexTurn d → Sends k e s (stepped s d) → IsPlainStep k (Next d, (stepped s d).1)
+  is_step d turn sends u names who done c same =
+      let own : x.number ≡ u = sym (ap (λ (v : ThreadState). v.number) turn.thread) ∙ (let r : d.hand.thread.number ≡ u = cc in r) in
+      let named : turn.names ≡ names = (let r : Some turn.names ≡ Some names = sym turn.named ∙ done in cc) in
+      let steps : StepsTo k.code c x.number turn.names (state_of (then_there turn.pc turn.slots turn.temps turn.comes)) d.hand.work.labels = turn.steps c same in
+      let after : SameState (one_heap (Next d)) (state_of (then_there turn.pc turn.slots turn.temps turn.comes)) =
+      changed.state_after k sound e s at.here t x at.at at.number d turn.pc turn.slots turn.temps turn.thread turn.comes turn.moves sends quiet (all_so IsLoose IsBeside loose_beside G loose) (all_so IsLoose IsBeside loose_beside turn.comes turn.loose_too) turn.unstray turn.once in
+      let at_end : StepsTo k.code c x.number turn.names (one_heap (Next d)) d.hand.work.labels = record {
+        after = steps.after;
+        steps = steps.steps;
+        same = then_same (plain_state steps.after.state) (state_of (then_there turn.pc turn.slots turn.temps turn.comes)) (one_heap (Next d)) steps.same after;
+        labelled = steps.labelled;
+      } in
+      subst (λ v. StepsTo k.code c v names (one_heap (Next d)) d.hand.work.labels) own (subst (λ f. StepsTo k.code c x.number f (one_heap (Next d)) d.hand.work.labels) named at_end)
+
+-- where each step of the instruction that is done is such a turn, each event that does it is that plain step
+pub mutex_steps : (k : Cluster) (sound : IsSound k) (e : Event) (i : Instr) (single : is_par_end (Some i) ≡ false) → FewEvents k
+    → ((s : Server) (t : ℕ) (x : ThreadState) (at : AtStep k e i s t x) → Gives (λ (d : Stepped). (names : Fresh) → d.names ≡ Some names → MutexTurn k sound e i single s t x at d) (step k.options.servers i (record { work = begin_work s.rest; thread = x })))
+    → instr_of k e ≡ Some i → Gives (IsPlainStep k) (apply k e)
+mutex_steps k sound e i single few line =
+    events_are_plain k e i sound few (λ s t x at.
+    weaker (λ (d : Stepped). (names : Fresh) → d.names ≡ Some names → MutexTurn k sound e i single s t x at d)
+    (λ (d : Stepped). Sends k e s (stepped s d) → IsPlainStep k (record k { servers = hand_over_newer e.server (length s.rest.outbox) (stepped s d).0 k.servers }, (stepped s d).1)) (step k.options.servers i (record { work = begin_work s.rest; thread = x }))
+    (line s t x at) (λ d turn sends u names who done. is_step k sound e i single s t x at d (turn names done) sends u names who done))
+
+-- THE TURN BEFORE IT IS SETTLED
+
+module _ (k : Cluster) (sound : IsSound k) (e : Event) (i : Instr) (single : is_par_end (Some i) ≡ false) (s : Server) (t : ℕ) (x : ThreadState) (at : AtStep k e i s t x) where
+  abbrev pub start : Hand
+  start = record { work = begin_work s.rest; thread = x }
+
+  abbrev pub counts_then : Thing
+  counts_then = counts_of s.rest.number 0 s.rest
+
+  -- from a hand that is ready these things come to the server, and the thread goes on to the next instruction without its gift
+  pub record Soon (comes : List Thing) (h : Hand) : Type 0 where
+    pub ready_hand : Hand
+    pub ready : Readied start ready_hand
+    pub moves : Moves comes [] ready_hand.work.rest h.work.rest
+    pub slots : List Value
+    pub temps : List Value
+    pub thread : h.thread ≡ giftless (record ready_hand.thread { slots = slots; temps = temps })
+    pub loose_too : AllByRecursion IsLoose comes
+    pub unstray : tot (stray (then_there k sound e i single s t x at (x.pc + 1) slots temps (counts_then ∷ comes))) comes ≡ 0
+    pub once : Once (then_there k sound e i single s t x at (x.pc + 1) slots temps (counts_then ∷ comes))
+    pub steps : (c : CodeWhole) → SameState (plain_state c) (one_heap k) → StepsTo k.code c x.number fresh.None (state_of (then_there k sound e i single s t x at (x.pc + 1) slots temps (counts_then ∷ comes))) h.work.labels
+
+  pub settles : (comes : List Thing) (o : Option Hand) → Gives (Soon comes) o → Gives (λ (d : Stepped). (names : Fresh) → d.names ≡ Some names → MutexTurn k sound e i single s t x at d) (committed (goes_on o))
+  settles comes None g = tt
+  settles comes (Some h) g = by (unpin_all h.thread.walk h.work.rest.cache)
+    where
+      by : (o : Option (List Copy)) → Gives (λ (d : Stepped). (names : Fresh) → d.names ≡ Some names → MutexTurn k sound e i single s t x at d) (option_map (λ h2. record { hand = h2; names = Some fresh.None })
+          (option_map (λ cs. record { work = with_cache cs h.work; thread = record (go_on h).thread { passed = 0; walk = []; moved_since_step = false } }) o))
+      by None = tt
+      by (Some cs) = λ names named. record {
+        pc = x.pc + 1;
+        slots = g.slots;
+        temps = g.temps;
+        names = fresh.None;
+        thread = ap (λ (y : ThreadState). record y { pc = y.pc + 1; phase = phase.Ready; passed = 0; walk = []; moved_since_step = false }) g.thread
+            ∙ ap (λ (y : ThreadState). record y { pc = y.pc + 1; phase = phase.Ready; passed = 0; walk = []; moved_since_step = false; slots = g.slots; temps = g.temps; gift = None }) g.ready.thread;
+        named = refl;
+        comes = counts_then ∷ comes;
+        moves = record {
+          number = g.moves.number ∙ g.ready.moves.number;
+          alike = λ w z.
+              let cache : Moves [] [] h.work.rest (record h.work.rest { cache = cs }) = (copies_ready h cs []).0.moves in
+              let n = s.rest.number in
+              let m2 : g.ready_hand.work.rest.number ≡ n = g.ready.moves.number in
+              let m3 : h.work.rest.number ≡ n = g.moves.number ∙ m2 in
+              let first = g.ready.moves.alike w z in
+              let second : shown w (comes ++ rest_things n 0 g.ready_hand.work.rest) ≡ shown w (rest_things n 0 h.work.rest) = subst (λ q. shown w (comes ++ rest_things q 0 g.ready_hand.work.rest) ≡ shown w (rest_things q 0 h.work.rest)) m2 (g.moves.alike w z) in
+              let third : shown w (rest_things n 0 h.work.rest) ≡ shown w (rest_things n 0 (record h.work.rest { cache = cs })) = subst (λ q. shown w (rest_things q 0 h.work.rest) ≡ shown w (rest_things q 0 (record h.work.rest { cache = cs }))) m3 (cache.alike w z) in
+              let f : Thing → ℕ = λ v. w (sign_of v) in
+              omega (arith, first, second, third, tot-append f comes (rest_things n 0 s.rest), tot-append f comes (rest_things n 0 g.ready_hand.work.rest));
+        };
+        loose_too = (tt, g.loose_too);
+        unstray = omega (arith, g.unstray);
+        once = g.once;
+        steps = g.steps;
+      }

@@ -1,0 +1,249 @@
+-- A thread's turn in which a value goes into a mutex, or comes out of it, or a share of the mutex is new: who is in the state, and what is as it was.
+use Rattle.std.proofs.Common.{◌≡◌, ◌≢◌, ℕ, zero, suc, ◌+◌, ◌≤◌, Bool, true, false, List, [], ◌∷◌, Option, Some, None, is_some, refl, sym, ap, ap₂, ◌∙◌, arith}
+use Rattle.std.specs.List.{AllByRecursion}
+use Rattle.fr_base.specs.declared.name.MutexNo.{MutexNo}
+use Rattle.fr_base.specs.declared.name.ObjNo.{ObjNo}
+use Rattle.heap_partition.specs.declared.value.Owned.{Owned}
+use Rattle.heap_partition.specs.declared.value.Owned.TheVariants as owned
+use Rattle.thread_state.specs.View.{ThreadState}
+use Rattle.thread_state.specs.declared.value.Value.{Value}
+use Rattle.server_model.specs.Servers.{Cluster}
+use Rattle.heap_law.specs.Names.{tot, one, some, same_mutex}
+use Rattle.heap_law.specs.Things.{Thing, lies, flies}
+use Rattle.fr_base.specs.declared.label.Plain.{Plain}
+use Rattle.fr_plain.specs.MachineThreads.{Shared}
+use Rattle.heap_law.specs.Naming.{started_at}
+use Rattle.heap_law.specs.Sight.{Sight}
+use Rattle.heap_law.specs.OneHeap.{Node, object_n, mutex_n, task_n, inside, owns, named_in, any_named, is_in_state, cell_value, or_else, first_shown, object_value, content_value, share_in, if_there, result_value, running_at, is_given_thread, state_of}
+use Rattle.still_law.proofs.Alike.{Once}
+use Rattle.still_law.proofs.Counting.{shown_result}
+use Rattle.still_law.proofs.Told.{told, ones}
+use Rattle.plain_types.proofs.Mutexes.{mutex_cases}
+use Rattle.heap_law.proofs.Names.{same_mutexes}
+use Rattle.turn_law.proofs.Parts.{owned_in}
+use Rattle.turn_law.proofs.OneTurn.{of_thread, Calm}
+use Rattle.lock_law.proofs.Reach.{or_cases, or_left, or_right, NoneUnder, with_extra, here, stays_in, comes_from}
+use Rattle.lock_law.proofs.Beside.{IsBeside, IsLoose, loose_beside, all_so, mine, any_mine, cells_of}
+use Rattle.lock_law.proofs.OneThread as one_thread
+use Rattle.lock_law.proofs.OneThread.{GoesOn, y, a, b, s, s2, LocksStay, locks_stay, same_owners}
+
+-- what a content names, in its mutex
+abbrev pub named_under : (Node → Bool) → Node → MutexNo → Option Owned → Bool
+named_under f q m None = false
+named_under f q m (Some v) = named_in (owns q v) f (inside (mutex_n m))
+
+-- whether it is named there
+abbrev pub owned_under : Node → Option Owned → ℕ
+owned_under q None = 0
+owned_under q (Some v) = one (owns q v)
+
+abbrev pub new_share : Bool → Node → MutexNo → ℕ
+new_share false q m = 0
+new_share true q m = one (owns q (owned.Mutex m))
+
+under_named : (f : Node → Bool) (q : Node) (m : MutexNo) (c : Option Owned) → named_under f q m c ≡ true → 1 ≤ owned_under q c
+under_named f q m None e = absurd (cc e)
+under_named f q m (Some v) e = by (owns q v) e
+  where
+    by : (b : Bool) → named_in b f (inside (mutex_n m)) ≡ true → 1 ≤ one b
+    by true d = omega arith
+    by false d = absurd (cc d)
+
+named_too : (f : Node → Bool) (q : Node) (m : MutexNo) (c : Option Owned) → (is_some c ≡ true → f (mutex_n m) ≡ true) → 1 ≤ owned_under q c → named_under f q m c ≡ true
+named_too f q m None e l = absurd (omega (arith, l))
+named_too f q m (Some v) e l = by (owns q v) l
+  where
+    by : (b : Bool) → 1 ≤ one b → named_in b f (inside (mutex_n m)) ≡ true
+    by true d = e refl
+    by false d = absurd (omega (arith, d))
+
+-- a mutex that is there
+abbrev pub shared_as : Option Plain → ℕ → Option Shared
+shared_as content shares = Some (record { content = content; shares = shares })
+
+some_there : (i : ℕ) → some i ≡ true → 1 ≤ i
+some_there zero e = absurd (cc e)
+some_there (suc i) e = omega arith
+
+there_some : (i : ℕ) → 1 ≤ i → some i ≡ true
+there_some zero l = absurd (omega (arith, l))
+there_some (suc i) l = refl
+
+one_of_two : (i j : ℕ) (C : Type 0) → (1 ≤ i → C) → (1 ≤ j → C) → 1 ≤ i + j → C
+one_of_two zero j C f g l = g (omega (arith, l))
+one_of_two (suc i) j C f g l = f (omega arith)
+
+module _ (k : Cluster) (R G G2 : List Thing) (n : ℕ) (x : ThreadState) (pc : ℕ) (slots temps : List Value) (calm : Calm x.phase) (loose : AllByRecursion IsLoose G) (loose2 : AllByRecursion IsLoose G2) (lone : tot (of_thread x.number) R ≡ 0) where
+  abbrev y1 : ThreadState
+  y1 = y k R G G2 n x pc slots temps
+
+  abbrev In : Node → Bool
+  In = is_in_state (s k R G G2 n x pc slots temps)
+
+  abbrev In2 : Node → Bool
+  In2 = is_in_state (s2 k R G G2 n x pc slots temps)
+
+  pub beside : AllByRecursion IsBeside G
+  beside = all_so IsLoose IsBeside loose_beside G loose
+
+  pub beside2 : AllByRecursion IsBeside G2
+  beside2 = all_so IsLoose IsBeside loose_beside G2 loose2
+
+  pub locks : LocksStay k R G G2 n x pc slots temps
+  locks = locks_stay k R G G2 n x pc slots temps calm beside beside2 lone (cells_of n x G R loose ∙ sym (cells_of n y1 G2 R loose2))
+
+  abbrev own : Node → ℕ
+  own q = owned_in q x.slots + owned_in q x.temps
+
+  abbrev own2 : Node → ℕ
+  own2 q = owned_in q slots + owned_in q temps
+
+  -- what the thread has is in the state, and so is what stands beside it
+  pub has : (q : Node) → 1 ≤ own q → In q ≡ true
+  has q l =
+      here k (mine n x G) R q
+      (any_mine n x G (s k R G G2 n x pc slots temps) In q ∙ or_right (any_named (s k R G G2 n x pc slots temps) In q G) (some (own q)) (there_some (own q) l))
+
+  pub has_beside : (q : Node) → any_named (s k R G G2 n x pc slots temps) In q G ≡ true → In q ≡ true
+  has_beside q e =
+      here k (mine n x G) R q
+      (any_mine n x G (s k R G G2 n x pc slots temps) In q ∙ or_left (any_named (s k R G G2 n x pc slots temps) In q G) (some (own q)) e)
+
+  pub has2 : (q : Node) → 1 ≤ own2 q → In2 q ≡ true
+  has2 q l =
+      here k (mine n y1 G2) R q
+      (any_mine n y1 G2 (s2 k R G G2 n x pc slots temps) In2 q ∙ or_right (any_named (s2 k R G G2 n x pc slots temps) In2 q G2) (some (own2 q)) (there_some (own2 q) l))
+
+  pub has_beside2 : (q : Node) → any_named (s2 k R G G2 n x pc slots temps) In2 q G2 ≡ true → In2 q ≡ true
+  has_beside2 q e =
+      here k (mine n y1 G2) R q
+      (any_mine n y1 G2 (s2 k R G G2 n x pc slots temps) In2 q ∙ or_left (any_named (s2 k R G G2 n x pc slots temps) In2 q G2) (some (own2 q)) e)
+
+  module _ (m : MutexNo) (under under2 : Option Owned) (fresh : Bool) (even : (q : Node) → own q + owned_under q under + new_share fresh q m ≡ own2 q + owned_under q under2)
+      (named : (f : Node → Bool) (q : Node) → any_named (s k R G G2 n x pc slots temps) f q G ≡ named_under f q m under) (named2 : (f : Node → Bool) (q : Node) → any_named (s2 k R G G2 n x pc slots temps) f q G2 ≡ named_under f q m under2)
+      (inside_it : is_some under ≡ true → In (mutex_n m) ≡ true) (inside_then : is_some under2 ≡ true → In2 (mutex_n m) ≡ true)
+      (extra : Node → Bool) (new_in : fresh ≡ true → with_extra In extra (mutex_n m) ≡ true) (extra_in : (q : Node) → extra q ≡ true → In2 q ≡ true) (none : NoneUnder (s k R G G2 n x pc slots temps) extra R) where
+    had_by_then : (q : Node) → 1 ≤ own2 q + owned_under q under2 → In2 q ≡ true
+    had_by_then q l =
+        one_of_two (own2 q) (owned_under q under2) (In2 q ≡ true) (has2 q) (λ d. has_beside2 q (named2 In2 q ∙ named_too In2 q m under2 inside_then d)) l
+
+    goes_in : (q : Node) → 1 ≤ own q + owned_under q under → In2 q ≡ true
+    goes_in q l = had_by_then q (omega (arith, l, even q))
+
+    stay : (q : Node) → In q ≡ true → In2 q ≡ true
+    stay =
+        stays_in k (mine n x G) (mine n y1 G2) R (same_owners k R G G2 n x pc slots temps calm beside beside2 lone locks)
+        (λ q e. or_cases (any_named (s k R G G2 n x pc slots temps) In2 q G) (some (own q)) (In2 q ≡ true)
+        (λ d. let l = under_named In2 q m under (sym (named In2 q) ∙ d) in goes_in q (omega (arith, l)))
+        (λ d. let l = some_there (own q) d in goes_in q (omega (arith, l)))
+        (sym (any_mine n x G (s k R G G2 n x pc slots temps) In2 q) ∙ e))
+
+    abbrev F : Node → Bool
+    F = with_extra In extra
+
+    is_new : (q : Node) → 1 ≤ new_share fresh q m → F q ≡ true
+    is_new q l = by fresh refl l
+      where
+        of : (q : Node) → 1 ≤ one (owns q (owned.Mutex m)) → F (mutex_n m) ≡ true → F q ≡ true
+        of (object_n o) l e = absurd (omega (arith, l))
+        of (task_n u) l e = absurd (omega (arith, l))
+        of (mutex_n w) l e = is_it (same_mutex m w) refl l
+          where
+            is_it : (c : Bool) → same_mutex m w ≡ c → 1 ≤ one c → F (mutex_n w) ≡ true
+            is_it true d l = ap (λ v. F (mutex_n v)) (sym (same_mutexes m w d)) ∙ e
+            is_it false d l = absurd (omega (arith, l))
+
+        by : (b : Bool) → fresh ≡ b → 1 ≤ new_share b q m → F q ≡ true
+        by true e d = of q d (new_in e)
+        by false e d = absurd (omega (arith, d))
+
+    came : (q : Node) → 1 ≤ own2 q + owned_under q under2 → F q ≡ true
+    came q l =
+        let in_it : 1 ≤ own q + owned_under q under → F q ≡ true = λ d. or_left (In q) (extra q) (one_of_two (own q) (owned_under q under) (In q ≡ true) (has q) (λ u. has_beside q (named In q ∙ named_too In q m under inside_it u)) d) in
+        one_of_two (own q + owned_under q under) (new_share fresh q m) (F q ≡ true) in_it (is_new q) (omega (arith, l, even q))
+
+    come : (q : Node) → In2 q ≡ true → F q ≡ true
+    come =
+        comes_from k (mine n x G) (mine n y1 G2) R (same_owners k R G G2 n x pc slots temps calm beside beside2 lone locks) extra none
+        (λ q e. or_cases (any_named (s2 k R G G2 n x pc slots temps) F q G2) (some (own2 q)) (F q ≡ true)
+        (λ d. let l = under_named F q m under2 (sym (named2 F q) ∙ d) in came q (omega (arith, l)))
+        (λ d. let l = some_there (own2 q) d in came q (omega (arith, l)))
+        (sym (any_mine n y1 G2 (s2 k R G G2 n x pc slots temps) F q) ∙ e))
+
+    -- who is in the state afterwards
+    pub in_then : (q : Node) → In2 q ≡ F q
+    in_then q = by (In2 q) refl (F q) refl
+      where
+        by : (c : Bool) → In2 q ≡ c → (d : Bool) → F q ≡ d → In2 q ≡ F q
+        by true e true f = e ∙ sym f
+        by false e false f = e ∙ sym f
+        by true e false f = absurd (cc (sym f ∙ come q e))
+        by false e true f = absurd (cc (sym e ∙ or_cases (In q) (extra q) (In2 q ≡ true) (stay q) (extra_in q) f))
+
+    -- WHAT IS AS IT WAS
+
+    abbrev s_now : Sight
+    s_now = s k R G G2 n x pc slots temps
+
+    abbrev s_then : Sight
+    s_then = s2 k R G G2 n x pc slots temps
+
+    loose_objects : (o : ObjNo) (xs : List Thing) → AllByRecursion IsLoose xs → first_shown (cell_value o) xs ≡ None
+    loose_objects o [] h = refl
+    loose_objects o (th ∷ xs) h = ap₂ or_else (by th h.0) (loose_objects o xs h.1)
+      where
+        by : (th : Thing) → IsLoose th → cell_value o th ≡ None
+        by (lies r i c) l = absurd l
+        by (flies w c) l = absurd l
+        by _ l = refl
+
+    loose_cells : (o : ObjNo) (xs : List Thing) → AllByRecursion IsLoose xs → tot (λ v. told ones (cell_value o v)) xs ≡ 0
+    loose_cells o [] h = refl
+    loose_cells o (th ∷ xs) h = omega (arith, by th h.0, loose_cells o xs h.1)
+      where
+        by : (th : Thing) → IsLoose th → told ones (cell_value o th) ≡ 0
+        by (lies r i c) l = absurd l
+        by (flies w c) l = absurd l
+        by _ l = refl
+
+    module _ (no_task : (u : ℕ) → extra (task_n u) ≡ false) (no_object : (o : ObjNo) → extra (object_n o) ≡ false) (no_other : (w : MutexNo) → w ≢ m → extra (mutex_n w) ≡ false)
+        (results : (r : ℕ) → first_shown (result_value s_now r) G ≡ first_shown (result_value s_then r) G2) (started : (h c : ℕ) → tot (started_at h c) G ≡ tot (started_at h c) G2)
+        (shares1 : (w : MutexNo) → tot (share_in s_now w) G ≡ owned_under (mutex_n w) under) (shares2 : (w : MutexNo) → tot (share_in s_then w) G2 ≡ owned_under (mutex_n w) under2)
+        (contents : (w : MutexNo) → w ≢ m → first_shown (content_value s_now w) G ≡ first_shown (content_value s_then w) G2) where
+      pub thread_goes : is_given_thread s_now x.number ≡ true → GoesOn x.number (running_at x) (running_at y1) (state_of s_now) (state_of s_then)
+      thread_goes named_it = one_thread.goes_on k R G G2 n x pc slots temps calm beside beside2 lone locks extra none in_then no_task results started named_it
+
+      pub objects_stay : (o : ObjNo) → object_value s_now o ≡ object_value s_then o
+      objects_stay o =
+          one_thread.object_same k R G G2 n x pc slots temps calm beside beside2 lone locks extra none in_then no_task results o (no_object o) (loose_objects o G loose ∙ sym (loose_objects o G2 loose2))
+
+      -- the shares of each mutex
+      pub shares_then : (w : MutexNo) → tot (share_in s_then w) (b k R G G2 n x pc slots temps) ≡ tot (share_in s_now w) (a k R G G2 n x pc slots temps) + new_share fresh (mutex_n w) m
+      shares_then w = omega (arith, one_thread.shares_go_on k R G G2 n x pc slots temps calm beside beside2 lone locks extra none in_then no_task results w, shares1 w, shares2 w, even (mutex_n w))
+
+      none_new : (w : MutexNo) → w ≢ m → new_share fresh (mutex_n w) m ≡ 0
+      none_new w ne = by fresh
+        where
+          by : (c : Bool) → new_share c (mutex_n w) m ≡ 0
+          by false = refl
+          by true = mutex_cases (λ q. one q ≡ 0) m w (λ e. absurd (ne (sym e))) (λ _. refl)
+
+      pub others_stay : (w : MutexNo) → w ≢ m → (state_of s_now).mutex w ≡ (state_of s_then).mutex w
+      others_stay w ne =
+          one_thread.mutex_same k R G G2 n x pc slots temps calm beside beside2 lone locks extra none in_then no_task results w (no_other w ne) (contents w ne) (omega (arith, shares1 w, shares2 w, even (mutex_n w), none_new w ne))
+
+      -- the mutex itself, where it is in the state
+      pub it_before : In (mutex_n m) ≡ true → (state_of s_now).mutex m ≡ Some (record { content = or_else (first_shown (content_value s_now m) G) (first_shown (content_value s_now m) R); shares = tot (share_in s_now m) (a k R G G2 n x pc slots temps) })
+      it_before e =
+          ap (λ q. if_there q (record { content = first_shown (content_value s_now m) (a k R G G2 n x pc slots temps); shares = tot (share_in s_now m) (a k R G G2 n x pc slots temps) })) e
+          ∙ ap (λ o. shared_as o (tot (share_in s_now m) (a k R G G2 n x pc slots temps))) (one_thread.content_before k R G G2 n x pc slots temps calm beside beside2 lone locks extra none in_then no_task results m)
+
+      pub it_then : In2 (mutex_n m) ≡ true
+          → (state_of s_then).mutex m ≡ Some (record { content = or_else (first_shown (content_value s_then m) G2) (first_shown (content_value s_now m) R); shares = tot (share_in s_now m) (a k R G G2 n x pc slots temps) + new_share fresh (mutex_n m) m })
+      it_then e =
+          ap (λ q. if_there q (record { content = first_shown (content_value s_then m) (b k R G G2 n x pc slots temps); shares = tot (share_in s_then m) (b k R G G2 n x pc slots temps) })) e
+          ∙ ap₂ shared_as (one_thread.content_afterwards k R G G2 n x pc slots temps calm beside beside2 lone locks extra none in_then no_task results m) (shares_then m)
+
+      pub once_then : Once s_now → ((w : MutexNo) → tot (λ v. told ones (content_value s_then w v)) G2 + tot (λ v. told ones (content_value s_now w v)) R ≤ 1) → ((r : ℕ) → tot (λ v. told ones (shown_result s_then r v)) G2 ≡ 0) → Once s_then
+      once_then once few ends =
+          one_thread.once_on k R G G2 n x pc slots temps calm beside beside2 lone locks extra none in_then no_task results once (λ o. omega (arith, loose_cells o G2 loose2)) few (λ r. omega (arith, ends r))

@@ -1,0 +1,391 @@
+-- One thread goes on, with other things beside it: where the places of locks lead as before, who owns the other things stays, and so do results, lives and names.
+use Rattle.std.proofs.Common.{◌≡◌, ◌≢◌, ℕ, zero, suc, ◌+◌, ◌==◌, ◌||◌, ◌≤◌, not, Bool, true, false, if◌then◌else◌, List, [], ◌∷◌, Option, Some, None, is_some, refl, sym, ap, ap₂, ◌∙◌, subst, arith}
+use Rattle.std.specs.Prelude.{◌%◌, ◌^◌, ◌&&◌}
+use Rattle.std.specs.List.{AllByRecursion}
+use Rattle.fr_typing.proofs.PlaceLemmas.{eq_cases}
+use Rattle.fr_base.specs.declared.name.MutexNo.{MutexNo}
+use Rattle.fr_base.specs.declared.name.ObjNo.{ObjNo}
+use Rattle.fr_base.specs.declared.label.Plain.TheVariants as plain
+use Rattle.fr_base.specs.declared.instruction.Instr.{Instr}
+use Rattle.fr_base.specs.declared.instruction.Instr.TheVariants as instr
+use Rattle.fr_code.specs.Machine.{CodeState, CodeRunning}
+use Rattle.heap_partition.specs.Plain.{plain_of}
+use Rattle.heap_partition.specs.declared.value.Owned.TheVariants as owned
+use Rattle.thread_state.specs.View.{ThreadState, is_over}
+use Rattle.thread_state.specs.declared.phase.Phase.{Phase}
+use Rattle.thread_state.specs.declared.phase.Phase.TheVariants as phase
+use Rattle.thread_state.specs.declared.value.Value.{Value}
+use Rattle.thread_state.specs.declared.value.Value.TheVariants as value
+use Rattle.server_model.specs.Servers.{Cluster}
+use Rattle.heap_law.specs.Names.{tot, one, other, some, if_so}
+use Rattle.heap_law.specs.Things.{in_slot, in_temp, as_gift, as_content, as_result, in_hand, Thing, holds, stands, noted}
+use Rattle.heap_law.specs.Follow.{Standing, threads_in, thread_at, cells_in, cell_of, value_of, slot_of, value_behind, leads, locate}
+use Rattle.heap_law.specs.Sight.{Sight, with_things}
+use Rattle.heap_law.specs.Walking.{instr_of}
+use Rattle.heap_law.specs.Requests.{home_of, mutex_of, locked_mutex, is_mutex}
+use Rattle.heap_law.specs.Sharing.{got_phase, has_ended}
+use Rattle.heap_law.specs.Naming.{started_at, made_at}
+use Rattle.heap_law.specs.Weights.{is_thread}
+use Rattle.heap_law.specs.OneHeap.{Node, object_n, mutex_n, task_n, Owner, a_thread, inside, outside, content_owner, gift_owner, gift_owner_of, owner_of, names, owner_in, is_in_state, if_in, cell_value, or_else, first_shown, object_value, is_gift_of, content_value, share_in, if_there, in_pair_of, is_branch, branch_result, is_joined_by, result_value, result_of, ended_with, running_at, life_of, life_at, made_of, two_in, pair_of, is_given_thread, is_given_mutex, if_given, state_of}
+use Rattle.still_law.proofs.Alike.{Once}
+use Rattle.still_law.proofs.Counting.{shown_result, gifted, stray}
+use Rattle.still_law.proofs.Told.{told, ones}
+use Rattle.path_law.proofs.Contained.{among_thread}
+use Rattle.turn_law.proofs.Parts.{Own, owned_in}
+use Rattle.turn_law.proofs.OneTurn.{Going, as_loose, as_owing, life_as, going_of, going_is, of_thread, Calm, after}
+use Rattle.lock_law.proofs.Reach.{SameOwners, NoneUnder, with_extra}
+use Rattle.lock_law.proofs.Beside.{giftless, IsBeside, me, all_of, first_of, tot_of, shares_of, itself, besides}
+
+differs : (t u : ℕ) → one (u == t) ≡ 0 → t ≢ u
+differs t u = eq_cases (λ b. one b ≡ 0 → t ≢ u) u t (λ e z. absurd (cc z)) (λ ne z e. ne (sym e))
+
+none_got : (t : ℕ) (p : Phase) → two_in p ≡ None → got_phase t p ≡ 0
+none_got t (phase.GotPar a b) e = absurd (cc e)
+none_got t _ e = refl
+
+-- the thread at that instruction, with these slots and temporary values, no step begun and no gift
+abbrev pub past : ThreadState → ℕ → List Value → List Value → ThreadState
+past x pc slots temps = giftless (after x pc slots temps)
+
+pub first_alike : {X : Type 0} (t : ℕ) (f g : Thing → Option X) → ((x : Thing) → of_thread t x ≡ 0 → f x ≡ g x) → (xs : List Thing) → tot (of_thread t) xs ≡ 0 → first_shown f xs ≡ first_shown g xs
+first_alike t f g e [] z = refl
+first_alike t f g e (x ∷ xs) z = ap₂ or_else (e x (omega (arith, z))) (first_alike t f g e xs (omega (arith, z)))
+
+pub tot_alike : (t : ℕ) (f g : Thing → ℕ) → ((x : Thing) → of_thread t x ≡ 0 → f x ≡ g x) → (xs : List Thing) → tot (of_thread t) xs ≡ 0 → tot f xs ≡ tot g xs
+tot_alike t f g e [] z = refl
+tot_alike t f g e (x ∷ xs) z = ap₂ (λ a b. a + b) (e x (omega (arith, z))) (tot_alike t f g e xs (omega (arith, z)))
+
+all_alike : (t : ℕ) (P : Thing → Type 0) → ((x : Thing) → of_thread t x ≡ 0 → P x) → (xs : List Thing) → tot (of_thread t) xs ≡ 0 → AllByRecursion P xs
+all_alike t P e [] z = tt
+all_alike t P e (x ∷ xs) z = (e x (omega (arith, z)), all_alike t P e xs (omega (arith, z)))
+
+-- one thread goes on from its place in the plain state, and the others are as they were
+pub record GoesOn (t : ℕ) (p q : CodeRunning) (a b : CodeState) : Type 0 where
+  pub way : Going
+  pub before : a.thread t ≡ Some (life_as way p)
+  pub afterwards : b.thread t ≡ Some (life_as way q)
+  pub others : (u : ℕ) → t ≢ u → a.thread u ≡ b.thread u
+  pub made : (u : ℕ) → a.made u ≡ b.made u
+  pub pairs : (u : ℕ) → a.pair u ≡ b.pair u
+
+-- the thread, what stands beside it before and afterwards, and the others
+module _ (k : Cluster) (R G G2 : List Thing) (n : ℕ) (x : ThreadState) (pc : ℕ) (slots temps : List Value) where
+  abbrev pub y : ThreadState
+  y = past x pc slots temps
+
+  abbrev pub a : List Thing
+  a = all_of n x G R
+
+  abbrev pub b : List Thing
+  b = all_of n y G2 R
+
+  abbrev pub s : Sight
+  s = with_things k a
+
+  abbrev pub s2 : Sight
+  s2 = with_things k b
+
+  -- the places of locks of other threads lead to the mutexes to which they led
+  abbrev pub LocksStay : Type 0
+  LocksStay = (z : Standing) → x.number ≢ z.thread.number → (i : Option Instr) → locked_mutex s z i ≡ locked_mutex s2 z i
+
+  module _ (calm : Calm x.phase) (beside : AllByRecursion IsBeside G) (beside2 : AllByRecursion IsBeside G2) (lone : tot (of_thread x.number) R ≡ 0) where
+    abbrev t : ℕ
+    t = x.number
+
+    pub other_seen : (u : ℕ) → t ≢ u → thread_at (threads_in a) u ≡ thread_at (threads_in b) u
+    other_seen u ne = besides n x G R beside u ne ∙ sym (besides n y G2 R beside2 u ne)
+
+    -- WHERE CELLS STAY, PLACES LEAD AS BEFORE
+
+    module _ (cells : cells_in a ≡ cells_in b) where
+      module _ (u : ℕ) (ne : t ≢ u) where
+        slot_same : (i : ℕ) → slot_of (thread_at (threads_in a) u) i ≡ slot_of (thread_at (threads_in b) u) i
+        slot_same i = ap (λ o. slot_of o i) (other_seen u ne)
+
+        cell_same : (o : ObjNo) → value_of (cell_of (cells_in a) o) ≡ value_of (cell_of (cells_in b) o)
+        cell_same o = ap (λ cs. value_of (cell_of cs o)) cells
+
+        lead_same : (v : Option Value) → value_behind s.ground (leads u v) ≡ value_behind s2.ground (leads u v)
+        lead_same None = refl
+        lead_same (Some value.Gone) = refl
+        lead_same (Some (value.Own (owned.Box p))) = cell_same p.object
+        lead_same (Some (value.Own owned.Nothing)) = refl
+        lead_same (Some (value.Own owned.Unit)) = refl
+        lead_same (Some (value.Own (owned.Int i))) = refl
+        lead_same (Some (value.Own (owned.Mutex m))) = refl
+        lead_same (Some (value.Own (owned.Task w))) = refl
+        lead_same (Some (value.SharedSlot i)) = slot_same i
+        lead_same (Some (value.MutSlot i)) = slot_same i
+        lead_same (Some (value.Shared r)) = cell_same r.object
+        lead_same (Some (value.Mut r)) = cell_same r.object
+        lead_same (Some (value.Held m)) = refl
+
+        behind_same : (slot d : ℕ) → value_behind s.ground (locate s.ground u slot d) ≡ value_behind s2.ground (locate s2.ground u slot d)
+        behind_same slot zero = slot_same slot
+        behind_same slot (suc d) = ap (λ w. value_behind s.ground (leads u w)) (behind_same slot d) ∙ lead_same (value_behind s2.ground (locate s2.ground u slot d))
+
+      pub locks_stay : LocksStay
+      locks_stay z ne (Some (instr.Lock w)) = ap mutex_of (behind_same z.thread.number ne w.slot w.depth)
+      locks_stay z ne _ = refl
+
+    -- a gift has its thread as before
+    pub stray_stays : tot (stray s) R ≡ tot (stray s2) R
+    stray_stays = tot_alike t (stray s) (stray s2) by R lone
+      where
+        by : (th : Thing) → of_thread t th ≡ 0 → stray s th ≡ stray s2 th
+        by (holds (as_gift u) v) z = ap (λ o. other (gifted o)) (other_seen u (differs t u z))
+        by (holds (in_slot u i) v) z = refl
+        by (holds (in_temp u i) v) z = refl
+        by (holds (as_content m) v) z = refl
+        by (holds (as_result u) v) z = refl
+        by (holds in_hand v) z = refl
+        by _ z = refl
+
+    module _ (locks : LocksStay) where
+      gift_owned : (z : Standing) → t ≢ z.thread.number → (i : Option Instr) → gift_owner s z i ≡ gift_owner s2 z i
+      gift_owned z ne (Some (instr.Lock w)) = ap content_owner (locks z ne (Some (instr.Lock w)))
+      gift_owned z ne _ = refl
+
+      -- what is the same of a thread that is found
+      by_seen : {X : Type 0} (f g : Option Standing → X) → f None ≡ g None → ((z : Standing) → t ≢ z.thread.number → f (Some z) ≡ g (Some z)) → (u : ℕ) → t ≢ u → f (thread_at (threads_in a) u) ≡ g (thread_at (threads_in b) u)
+      by_seen f g e h u ne = by (thread_at (threads_in a) u) refl ∙ ap g (other_seen u ne)
+        where
+          by : (o : Option Standing) → thread_at (threads_in a) u ≡ o → f o ≡ g o
+          by None q = e
+          by (Some z) q = h z (λ d. ne (d ∙ (among_thread (threads_in a) u z q).1))
+
+      pub owner_stays : (th : Thing) → of_thread t th ≡ 0 → owner_of s th ≡ owner_of s2 th
+      owner_stays (holds (as_gift u) v) z = by_seen (gift_owner_of s) (gift_owner_of s2) refl (λ w ne. gift_owned w ne (instr_of s w)) u (differs t u z)
+      owner_stays (holds (in_slot u i) v) z = refl
+      owner_stays (holds (in_temp u i) v) z = refl
+      owner_stays (holds (as_content m) v) z = refl
+      owner_stays (holds (as_result u) v) z = refl
+      owner_stays (holds in_hand v) z = refl
+      owner_stays _ z = refl
+
+      pub content_stays : (m : MutexNo) (th : Thing) → of_thread t th ≡ 0 → content_value s m th ≡ content_value s2 m th
+      content_stays m (holds (as_gift u) v) z =
+          ap (λ q. if_in q (Some (plain_of v)))
+          (by_seen (is_gift_of s m) (is_gift_of s2 m) refl (λ w ne. ap (λ o. some (if_so (is_some w.thread.gift) (one (is_mutex m o)))) (locks w ne (instr_of s w))) u (differs t u z))
+      content_stays m (holds (in_slot u i) v) z = refl
+      content_stays m (holds (in_temp u i) v) z = refl
+      content_stays m (holds (as_content w) v) z = refl
+      content_stays m (holds (as_result u) v) z = refl
+      content_stays m (holds in_hand v) z = refl
+      content_stays m _ z = refl
+
+      pub result_stays : (r : ℕ) (th : Thing) → of_thread t th ≡ 0 → result_value s r th ≡ result_value s2 r th
+      result_stays r (holds (as_gift u) v) z = ap (λ q. if_in q (Some (plain_of v))) (by_seen (is_joined_by s r) (is_joined_by s2 r) refl (λ w ne. refl) u (differs t u z))
+      result_stays r (holds (in_slot u i) v) z = refl
+      result_stays r (holds (in_temp u i) v) z = refl
+      result_stays r (holds (as_content w) v) z = refl
+      result_stays r (holds (as_result u) v) z = refl
+      result_stays r (holds in_hand v) z = refl
+      result_stays r _ z = refl
+
+      pub same_owners : SameOwners s s2 R
+      same_owners = all_alike t (λ th. owner_of s th ≡ owner_of s2 th) owner_stays R lone
+
+      -- what only the others show
+      first_same : {X : Type 0} (f g : Thing → Option X) → Own (λ v. f v ≡ None) → Own (λ v. g v ≡ None) → f (stands n false x) ≡ None → g (stands n false y) ≡ None → first_shown f G ≡ first_shown g G2
+          → ((th : Thing) → of_thread t th ≡ 0 → f th ≡ g th) → first_shown f a ≡ first_shown g b
+      first_same f g own own2 e e2 h all = first_of n x G R f own e ∙ ap₂ or_else h (first_alike t f g all R lone) ∙ sym (first_of n y G2 R g own2 e2)
+
+      pub tot_same : (f g : Thing → ℕ) → Own (λ v. f v ≡ 0) → Own (λ v. g v ≡ 0) → f (stands n false x) + tot f G ≡ g (stands n false y) + tot g G2 → ((th : Thing) → of_thread t th ≡ 0 → f th ≡ g th) → tot f a ≡ tot g b
+      tot_same f g own own2 e h = omega (arith, tot_of n x G R f own, tot_of n y G2 R g own2, e, tot_alike t f g h R lone)
+
+      pub mutex_given : ((h c : ℕ) → tot (made_at h c) G ≡ tot (made_at h c) G2) → (m : MutexNo) → is_given_mutex s m ≡ is_given_mutex s2 m
+      mutex_given made m =
+          let flat : Own (λ v. made_at m.home m.count v ≡ 0) = record { slots = λ w i v. refl; temps = λ w i v. refl; shared = λ l w. refl; lent = λ l w. refl; marks = λ l w. refl; used = λ w v. refl } in
+          ap (λ c. not (m.count == 0) && some c) (tot_same (made_at m.home m.count) (made_at m.home m.count) flat flat (omega (arith, made m.home m.count)) (λ th z. refl))
+
+      -- THE STATE, where these are in it as before, or are such as stand under none of the others
+
+      module _ (extra : Node → Bool) (none : NoneUnder s extra R) (in_then : (q : Node) → is_in_state s2 q ≡ with_extra (is_in_state s) extra q) (no_task : (u : ℕ) → extra (task_n u) ≡ false)
+          (results : (r : ℕ) → first_shown (result_value s r) G ≡ first_shown (result_value s2 r) G2) where
+        in_same : (q : Node) → extra q ≡ false → is_in_state s q ≡ is_in_state s2 q
+        in_same q e = by (is_in_state s q) refl ∙ sym (in_then q)
+          where
+            by : (c : Bool) → is_in_state s q ≡ c → is_in_state s q ≡ (is_in_state s q || extra q)
+            by true d = d ∙ sym (ap (λ c. c || extra q) d)
+            by false d = d ∙ sym (ap₂ (λ c w. c || w) d e)
+
+        owner_in_same : (o : Owner) → ((q : Node) → extra q ≡ true → o ≡ inside q → ⊥) → owner_in (is_in_state s) o ≡ owner_in (is_in_state s2) o
+        owner_in_same a_thread off = refl
+        owner_in_same outside off = refl
+        owner_in_same (inside q) off = by (extra q) refl
+          where
+            by : (c : Bool) → extra q ≡ c → is_in_state s q ≡ is_in_state s2 q
+            by true e = absurd (off q e refl)
+            by false e = in_same q e
+
+        -- OBJECTS AND MUTEXES
+
+        pub object_same : (o : ObjNo) → extra (object_n o) ≡ false → first_shown (cell_value o) G ≡ first_shown (cell_value o) G2 → object_value s o ≡ object_value s2 o
+        object_same o e h =
+            let flat : Own (λ v. cell_value o v ≡ None) = record { slots = λ u i v. refl; temps = λ u i v. refl; shared = λ l r. refl; lent = λ l r. refl; marks = λ l m. refl; used = λ u w. refl } in
+            ap₂ if_in (in_same (object_n o) e) (first_same (cell_value o) (cell_value o) flat flat refl refl h (λ th z. refl))
+
+        content_flat : (r : Sight) (m : MutexNo) → Own (λ v. content_value r m v ≡ None)
+        content_flat r m = record { slots = λ u i v. refl; temps = λ u i v. refl; shared = λ l w. refl; lent = λ l w. refl; marks = λ l w. refl; used = λ u w. refl }
+
+        -- the content that is shown before and afterwards
+        pub content_before : (m : MutexNo) → first_shown (content_value s m) a ≡ or_else (first_shown (content_value s m) G) (first_shown (content_value s m) R)
+        content_before m = first_of n x G R (content_value s m) (content_flat s m) refl
+
+        pub content_afterwards : (m : MutexNo) → first_shown (content_value s2 m) b ≡ or_else (first_shown (content_value s2 m) G2) (first_shown (content_value s m) R)
+        content_afterwards m =
+            first_of n y G2 R (content_value s2 m) (content_flat s2 m) refl ∙ ap (or_else (first_shown (content_value s2 m) G2)) (sym (first_alike t (content_value s m) (content_value s2 m) (content_stays m) R lone))
+
+        -- the shares of the others stay
+        shares_stay : (m : MutexNo) (xs : List Thing) → AllByRecursion (λ th. owner_of s th ≡ owner_of s2 th) xs → NoneUnder s extra xs → tot (share_in s m) xs ≡ tot (share_in s2 m) xs
+        shares_stay m [] h w = refl
+        shares_stay m (th ∷ xs) h w =
+            ap₂ (λ c d. if_so (names (mutex_n m) th) (one c) + d) (owner_in_same (owner_of s th) w.0 ∙ ap (owner_in (is_in_state s2)) h.0) (shares_stay m xs h.1 w.1)
+
+        pub shares_go_on : (m : MutexNo)
+            → tot (share_in s2 m) b + (tot (share_in s m) G + (owned_in (mutex_n m) x.slots + owned_in (mutex_n m) x.temps)) ≡ tot (share_in s m) a + (tot (share_in s2 m) G2 + (owned_in (mutex_n m) slots + owned_in (mutex_n m) temps))
+        shares_go_on m = omega (arith, shares_of n x G R s m, shares_of n y G2 R s2 m, shares_stay m R same_owners none)
+
+        pub mutex_same : (m : MutexNo) → extra (mutex_n m) ≡ false → first_shown (content_value s m) G ≡ first_shown (content_value s2 m) G2
+            → tot (share_in s m) G + (owned_in (mutex_n m) x.slots + owned_in (mutex_n m) x.temps) ≡ tot (share_in s2 m) G2 + (owned_in (mutex_n m) slots + owned_in (mutex_n m) temps) → (state_of s).mutex m ≡ (state_of s2).mutex m
+        mutex_same m e h even =
+            let shares : tot (share_in s m) a ≡ tot (share_in s2 m) b = omega (arith, shares_go_on m, even) in
+            let content : first_shown (content_value s m) a ≡ first_shown (content_value s2 m) b = content_before m ∙ ap (λ o. or_else o (first_shown (content_value s m) R)) h ∙ sym (content_afterwards m) in
+            ap (λ q. if_there q (record { content = first_shown (content_value s m) a; shares = tot (share_in s m) a })) (in_same (mutex_n m) e) ∙ ap₂ (λ v w. if_there (is_in_state s2 (mutex_n m)) (record { content = v; shares = w })) content shares
+
+        -- RESULTS
+
+        no_pairs : (r : ℕ) (xs : List Thing) → AllByRecursion IsBeside xs → tot (in_pair_of r) xs ≡ 0
+        no_pairs r [] h = refl
+        no_pairs r (th ∷ xs) h = omega (arith, by th h.0, no_pairs r xs h.1)
+          where
+            by : (th : Thing) → IsBeside th → in_pair_of r th ≡ 0
+            by (noted q z) i = absurd i
+            by _ i = refl
+
+        no_done : (r : ℕ) (xs : List Thing) → AllByRecursion IsBeside xs → first_shown (branch_result r) xs ≡ None
+        no_done r [] h = refl
+        no_done r (th ∷ xs) h = ap₂ or_else (by th h.0) (no_done r xs h.1)
+          where
+            by : (th : Thing) → IsBeside th → branch_result r th ≡ None
+            by (noted q z) i = absurd i
+            by (stands q p z) i = absurd i
+            by _ i = refl
+
+        branch_same : (r : ℕ) → is_branch s r ≡ is_branch s2 r
+        branch_same r =
+            let flat : Own (λ v. in_pair_of r v ≡ 0) = record { slots = λ u i v. refl; temps = λ u i v. refl; shared = λ l w. refl; lent = λ l w. refl; marks = λ l w. refl; used = λ u w. refl } in
+            ap some (tot_same (in_pair_of r) (in_pair_of r) flat flat (omega (arith, no_pairs r G beside, no_pairs r G2 beside2)) (λ th z. refl))
+
+        done_same : (r : ℕ) → first_shown (branch_result r) a ≡ first_shown (branch_result r) b
+        done_same r =
+            let flat : Own (λ v. branch_result r v ≡ None) = record { slots = λ u i v. refl; temps = λ u i v. refl; shared = λ l w. refl; lent = λ l w. refl; marks = λ l w. refl; used = λ u w. refl } in
+            first_same (branch_result r) (branch_result r) flat flat (ap (λ m. if_in (some m) (Some plain.Unit)) (none_got r x.phase calm.alone)) refl (no_done r G beside ∙ sym (no_done r G2 beside2)) (λ th z. refl)
+
+        kept_same : (r : ℕ) → first_shown (result_value s r) a ≡ first_shown (result_value s2 r) b
+        kept_same r =
+            let flat : (w : Sight) → Own (λ v. result_value w r v ≡ None) = λ w. record { slots = λ u i v. refl; temps = λ u i v. refl; shared = λ l m. refl; lent = λ l m. refl; marks = λ l m. refl; used = λ u m. refl } in
+            first_same (result_value s r) (result_value s2 r) (flat s) (flat s2) refl refl (results r) (result_stays r)
+
+        owed_same : (r : ℕ) → is_branch s r || is_in_state s (task_n r) ≡ is_branch s2 r || is_in_state s2 (task_n r)
+        owed_same r = ap₂ (λ p q. p || q) (branch_same r) (in_same (task_n r) (no_task r))
+
+        result_same : (r : ℕ) → result_of s r ≡ result_of s2 r
+        result_same r = ap₂ or_else (done_same r) (ap₂ if_in (owed_same r) (kept_same r))
+
+        -- LIVES
+
+        way_same : (r : ℕ) → going_of s r ≡ going_of s2 r
+        way_same zero = refl
+        way_same (suc r) = ap (λ q. if not q then as_loose else as_owing) (owed_same (suc r))
+
+        life_by : (z : Standing) (q : Bool) → life_of s z.thread q ≡ life_of s2 z.thread q
+        life_by z true = ap ended_with (result_same z.thread.number)
+        life_by z false =
+            going_is s z.thread.number (running_at z.thread) ∙ ap (λ w. life_as w (running_at z.thread)) (way_same z.thread.number) ∙ sym (going_is s2 z.thread.number (running_at z.thread))
+
+        life_same : (u : ℕ) → t ≢ u → life_at s u (thread_at (threads_in a) u) ≡ life_at s2 u (thread_at (threads_in b) u)
+        life_same u ne = by_seen (life_at s u) (life_at s2 u) (ap ended_with (result_same u)) (λ z d. life_by z (is_over z.thread.phase)) u ne
+
+        -- NAMES
+
+        module _ (started : (h c : ℕ) → tot (started_at h c) G ≡ tot (started_at h c) G2) where
+          given_same : (u : ℕ) → is_given_thread s u ≡ is_given_thread s2 u
+          given_same u =
+              let h = home_of u in
+              let c = u % 2 ^ 32 in
+              let flat : Own (λ v. started_at h c v ≡ 0) = record { slots = λ w i v. refl; temps = λ w i v. refl; shared = λ l w. refl; lent = λ l w. refl; marks = λ l w. refl; used = λ w v. refl } in
+              ap (λ m. u == 0 || (not (c == 0) && some m)) (tot_same (started_at h c) (started_at h c) flat flat (omega (arith, started h c)) (λ th z. refl))
+
+          -- what is the same of each thread, also of the one whose turn it is
+          for_all : {X : Type 0} (f g : Option Standing → X) → f (Some (me n x G)) ≡ g (Some (me n y G2)) → f None ≡ g None → ((z : Standing) → f (Some z) ≡ g (Some z)) → (u : ℕ) → f (thread_at (threads_in a) u) ≡ g (thread_at (threads_in b) u)
+          for_all f g e z h u =
+              eq_cases (λ q. (w : ℕ) → w ≡ u → f (thread_at (threads_in a) w) ≡ g (thread_at (threads_in b) w)) t u
+              (λ i w j. subst (λ (v : ℕ). f (thread_at (threads_in a) v) ≡ g (thread_at (threads_in b) v)) (i ∙ sym j) (ap f (itself n x G R beside) ∙ e ∙ sym (ap g (itself n y G2 R beside2))))
+              (λ ne w j. by_seen f g z (λ v d. h v) w (λ d. ne (d ∙ j))) u refl
+
+          pub goes_on : is_given_thread s t ≡ true → GoesOn t (running_at x) (running_at y) (state_of s) (state_of s2)
+          goes_on named = record {
+            way = going_of s t;
+            before = ap₂ if_given named (ap (life_at s t) (itself n x G R beside) ∙ ap (life_of s x) calm.goes ∙ going_is s t (running_at x));
+            afterwards =
+                ap₂ if_given (sym (given_same t) ∙ named) (ap (life_at s2 t) (itself n y G2 R beside2) ∙ going_is s2 t (running_at y) ∙ ap (λ w. life_as w (running_at y)) (sym (way_same t)));
+            others = λ u ne. ap₂ if_given (given_same u) (life_same u ne);
+            made = for_all made_of made_of (ap (λ q. if q then 0 else x.made) calm.goes) refl (λ z. refl);
+            pairs = for_all pair_of pair_of calm.alone refl (λ z. refl);
+          }
+
+        -- ONCE
+
+        -- the sights show things once together
+        pub once_on : Once s → ((o : ObjNo) → tot (λ v. told ones (cell_value o v)) G2 ≤ tot (λ v. told ones (cell_value o v)) G)
+            → ((m : MutexNo) → tot (λ v. told ones (content_value s2 m v)) G2 + tot (λ v. told ones (content_value s m v)) R ≤ 1)
+            → ((r : ℕ) → tot (λ v. told ones (shown_result s2 r v)) G2 ≤ tot (λ v. told ones (shown_result s r v)) G) → Once s2
+        once_on once cells contents ends = record {
+          cells = λ o.
+              let flat : Own (λ v. told ones (cell_value o v) ≡ 0) = record { slots = λ w i v. refl; temps = λ w i v. refl; shared = λ l w. refl; lent = λ l w. refl; marks = λ l w. refl; used = λ w v. refl } in
+              omega (arith, once.cells o, cells o, tot_of n x G R (λ v. told ones (cell_value o v)) flat, tot_of n y G2 R (λ v. told ones (cell_value o v)) flat);
+          threads = λ u.
+              let flat : Own (λ v. is_thread u v ≡ 0) = record { slots = λ w i v. refl; temps = λ w i v. refl; shared = λ l w. refl; lent = λ l w. refl; marks = λ l w. refl; used = λ w v. refl } in
+              omega (arith, once.threads u, tot_same (is_thread u) (is_thread u) flat flat (omega (arith, no_threads_in u G beside, no_threads_in u G2 beside2)) (λ th z. refl));
+          contents = λ m.
+              let flat : (r : Sight) → Own (λ v. told ones (content_value r m v) ≡ 0) = λ r. record { slots = λ w i v. refl; temps = λ w i v. refl; shared = λ l w. refl; lent = λ l w. refl; marks = λ l w. refl; used = λ w v. refl } in
+              omega (arith, contents m, tot_of n y G2 R (λ v. told ones (content_value s2 m v)) (flat s2), tot_alike t (λ v. told ones (content_value s m v)) (λ v. told ones (content_value s2 m v)) (λ th z. ap (told ones) (content_stays m th z)) R lone);
+          ends = λ r.
+              let flat : (w : Sight) → Own (λ v. told ones (shown_result w r v) ≡ 0) = λ w. record { slots = λ u i v. refl; temps = λ u i v. refl; shared = λ l m. refl; lent = λ l m. refl; marks = λ l m. refl; used = λ u m. refl } in
+              let over : Own (λ v. has_ended r v ≡ 0) = record { slots = λ w i v. refl; temps = λ w i v. refl; shared = λ l w. refl; lent = λ l w. refl; marks = λ l w. refl; used = λ w v. refl } in
+              let mine : told ones (shown_result s r (stands n false x)) ≡ 0 = ap (λ m. told ones (or_else (if_in (some m) (Some plain.Unit)) None)) (none_got r x.phase calm.alone) in
+              let still : has_ended r (stands n false x) ≡ has_ended r (stands n false y) = ap (λ o. one (x.number == r && (not (x.number == 0) && o))) calm.goes in
+              omega (
+                arith,
+                once.ends r,
+                ends r,
+                mine,
+                still,
+                tot_of n x G R (λ v. told ones (shown_result s r v)) (flat s),
+                tot_of n y G2 R (λ v. told ones (shown_result s2 r v)) (flat s2),
+                tot_alike t (λ v. told ones (shown_result s r v)) (λ v. told ones (shown_result s2 r v)) (λ th z. ap (λ o. told ones (or_else (branch_result r th) o)) (result_stays r th z)) R lone,
+                tot_of n x G R (has_ended r) over,
+                tot_of n y G2 R (has_ended r) over,
+                none_ended r G beside,
+                none_ended r G2 beside2,
+              );
+        }
+          where
+            no_threads_in : (u : ℕ) (xs : List Thing) → AllByRecursion IsBeside xs → tot (is_thread u) xs ≡ 0
+            no_threads_in u [] h = refl
+            no_threads_in u (th ∷ xs) h = omega (arith, by th h.0, no_threads_in u xs h.1)
+              where
+                by : (th : Thing) → IsBeside th → is_thread u th ≡ 0
+                by (stands q p z) i = absurd i
+                by _ i = refl
+
+            none_ended : (r : ℕ) (xs : List Thing) → AllByRecursion IsBeside xs → tot (has_ended r) xs ≡ 0
+            none_ended r [] h = refl
+            none_ended r (th ∷ xs) h = omega (arith, by th h.0, none_ended r xs h.1)
+              where
+                by : (th : Thing) → IsBeside th → has_ended r th ≡ 0
+                by (stands q p z) i = absurd i
+                by _ i = refl

@@ -1,0 +1,11 @@
+ghost use Rattle.lock_law.specs.Locks.{dups_mutex, locks_mutex};
+ghost use Rattle.turn_law.specs.Turns.{ArePlainSteps};
+ghost use Rattle.type_law.specs.ClusterTypes.{IsCoherent};
+
+/// From a coherent cluster, each step of a dup and of a lock is the plain step of its thread on the one heap, with the entry's labels, its messages handed over: the
+/// place is followed to its mutex; a dup has one value of it more, and a lock takes its content out, which was its content until then. A step that asks for an
+/// answer does no plain step.
+pub fn answer_steps()
+    ensures dups { ArePlainSteps IsCoherent dups_mutex }
+    ensures locks { ArePlainSteps IsCoherent locks_mutex }
+{}

@@ -1,0 +1,6 @@
+//! An event that does a plain step at a mutex does exactly that step on the one heap. There is no code here: a law is the contract of a function with an empty body.
+#![tactic(auto)]
+
+mod laws;
+
+pub use laws::answer_steps;
