@@ -1,0 +1,7 @@
+pub mod Small
+pub mod Plainly
+pub mod Goes
+pub mod Mail
+pub mod Threads
+pub mod Handed
+pub mod Sentences

@@ -1,0 +1,11 @@
+-- What each event of a sound cluster keeps, sentence by sentence.
+use Rattle.journal.specs.View.{EntryView}
+use Rattle.server_model.specs.declared.event.Event.{Event}
+use Rattle.server_model.specs.Servers.{Cluster}
+use Rattle.server_model.specs.Clusters.{apply}
+use Rattle.heap_law.specs.Coherent.{Sentence, Holds, IsSound}
+use Rattle.event_law.specs.Laws.{Gives, FewEvents}
+
+-- an event of whatever kind from a sound cluster in which few events were done, with its messages handed over, leaves no thing that breaks the sentence
+abbrev pub EachEventKeeps : Sentence → Type 0
+EachEventKeeps n = (k : Cluster) (e : Event) → IsSound k → FewEvents k → Gives (λ (d : Cluster × EntryView). Holds d.0 n) (apply k e)

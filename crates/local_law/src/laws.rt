@@ -1,0 +1,14 @@
+//! What each event keeps of a sound cluster, one clause for each sentence.
+
+ghost use Rattle.heap_law.specs.Coherent.{join_walks_nothing, parcels_ready, passed_in_a_walk, thread_homes, walk_empty};
+ghost use Rattle.local_law.specs.Laws.{EachEventKeeps};
+
+/// What a thread keeps by itself, whatever its values are: where it doesn't walk, and at a join, its walk is empty; it has passed hops in a walk alone; one that
+/// moves is ready; and its home is the server of its number.
+pub fn threads_keep()
+    ensures walk_empty { EachEventKeeps walk_empty }
+    ensures join_walks_nothing { EachEventKeeps join_walks_nothing }
+    ensures passed_in_a_walk { EachEventKeeps passed_in_a_walk }
+    ensures parcels_ready { EachEventKeeps parcels_ready }
+    ensures thread_homes { EachEventKeeps thread_homes }
+{}

@@ -1,0 +1,6 @@
+//! What each thing of a cluster keeps by itself, whatever event is done. There is no code here: a law is the contract of a function with an empty body.
+#![tactic(auto)]
+
+mod laws;
+
+pub use laws::threads_keep;
