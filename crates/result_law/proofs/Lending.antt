@@ -1,19 +1,12 @@
 -- Mutable borrows through stars have results: the last pointer is none that is shared, and the stars before it are read.
-use Rattle.std.proofs.Common.{◌≡◌, ◌≤◌, ◌<◌, ℕ, zero, suc, ◌-◌, ◌==◌, is_some, Bool, true, false, if◌then◌else◌, Option, Some, option_map, IsSome, refl, sym, ap, subst, ◌∙◌, arith}
+use Rattle.std.proofs.Common.{◌≡◌, ◌≤◌, ℕ, zero, suc, ◌==◌, Bool, true, false, if◌then◌else◌, Option, Some, option_map, IsSome, refl, sym, ap, subst, ◌∙◌, arith}
 use Rattle.std.specs.Prelude.{slice_get}
 use Rattle.fr_base.specs.declared.place.Lval.{Lval}
 use Rattle.fr_base.specs.declared.instruction.Instr.{Instr}
 use Rattle.fr_base.specs.declared.instruction.Instr.TheVariants as instr
-use Rattle.fr_typing.specs.Kinds.{own, shared, mutable, view, Piece, whole, gone, boxed}
-use Rattle.fr_typing.specs.Places.{Slot}
 use Rattle.fr_store.specs.Keys.{Key, slot_k}
-use Rattle.fr_store.specs.Store.{Location as StoreLocation, at_key, at_object, ref_v, Store, Place as StorePlace, add, below_key}
-use Rattle.fr_store.specs.Typed.{Exact, refers, KeyTypes, exact_under, Resolves, here, through, Typed}
-use Rattle.fr_store.specs.Below.{RefOf, ExactOf}
-use Rattle.fr_store.proofs.Below.{part_zero}
-use Rattle.fr_store.proofs.Chains.{add_plus, unique}
-use Rattle.fr_store.proofs.Sound.{sound, res_part}
-use Rattle.fr_store.proofs.ThreadKept.{res_low, ref_base}
+use Rattle.fr_store.specs.Store.{Store}
+use Rattle.fr_store.specs.Typed.{KeyTypes, Typed}
 use Rattle.fr_code.specs.CodeTypes.{Entry, Table, InstrTypes, i_borrow_mut}
 use Rattle.global_addr.specs.Words.{server_of}
 use Rattle.heap_partition.specs.declared.value.BoxPtr.{BoxPtr}
@@ -34,19 +27,13 @@ use Rattle.server_model.specs.Prepare.{Prepared, ready, requested, nothing, and_
 use Rattle.server_model.specs.Commit.{goes_on, mutable_from, borrow_mut_from}
 use Rattle.server_model.specs.Events.{committed, prepared}
 use Rattle.heap_law.specs.Things.{Location, at_slot}
-use Rattle.heap_law.specs.Follow.{Standing, Ground, value_in, value_of, slot_of, leads, locate}
+use Rattle.heap_law.specs.Follow.{Standing, Ground, value_in, value_of, leads, locate}
 use Rattle.heap_law.specs.Sight.{sight}
 use Rattle.event_law.specs.Kinds.{step_borrow_mut, instr_kind}
 use Rattle.event_law.specs.Laws.{HasResult}
-use Rattle.type_law.specs.Names.{NameTypes}
-use Rattle.type_law.specs.ClusterTypes.{has_form, slot_form}
-use Rattle.path_law.specs.HeapStore.{in_store, heap_store, GoesOn, HasPaths}
+use Rattle.path_law.specs.HeapStore.{heap_store, GoesOn, HasPaths}
 use Rattle.path_law.specs.Pointing.{MayWrite, lends}
-use Rattle.path_law.proofs.Alike.{leads_in_heap, ref_type, slot_shared, slot_shared_slot}
-use Rattle.path_law.proofs.Circles.{shorter}
-use Rattle.path_law.proofs.Forms.{not_mutable, slot_part, names as names_at}
 use Rattle.path_law.proofs.MayWrites.{may_write_there}
-use Rattle.path_law.proofs.Shown.{stands_there}
 use Rattle.path_law.proofs.Sole.{some_is}
 use Rattle.result_law.specs.Results.{lends_variable, Anyhow, StepsHaveResults}
 use Rattle.result_law.proofs.Variables.{quiet_steps}
@@ -56,81 +43,7 @@ use Rattle.result_law.proofs.Reading.{Alike, equal, both_shared, Reading}
 use Rattle.result_law.proofs.Starred.{bound, At, a_slot, a_cell, a_copy, seen, Fine}
 use Rattle.result_law.proofs.Readers.{IsFree, stars_fine, settles, to_entry}
 use Rattle.result_law.proofs.Borrowing.{loaded_there}
-
--- PLACES IN A TYPED STORE
-
-no_reference_under : (d : ℕ) (m : Bool) (u : StorePlace) (q : Exact) → exact_under (suc d) (refers m u) ≡ Some q → ⊥
-no_reference_under d m u q f = absurd cc
-
--- a star more over mutable references alone follows a mutable one
-star_mutable : (E : KeyTypes) (k : Key) (c d : ℕ) (b b2 : Key) (n n2 : ℕ) (p : Exact) (m : Bool) (u : StorePlace) → c ≡ suc d → Resolves E true k c b n p → Resolves E true k d b2 n2 (refers m u) → m ≡ true
-star_mutable E k c d b _ n _ p m u e r (here x) = by b n r
-  where
-    its_own : E k ≡ refers m u
-    its_own = ref_base d (E k) m u x
-
-    by : (a : Key) (j : ℕ) → Resolves E true k c a j p → m ≡ true
-    by _ _ (here y) = absurd (no_reference_under d m u p (ap (exact_under (suc d)) (sym its_own) ∙ ap (λ z. exact_under z (E k)) (sym e) ∙ y))
-    by _ _ (through m2 u2 e2 is on de r2) = let g : refers m2 u2 ≡ refers m u = sym is ∙ its_own in let same : m2 ≡ m = cc in sym same ∙ on refl
-star_mutable E k c d b b2 n n2 p m u e r (through m2 u2 f is on de r2) = by b n (λ h e2 a. star_mutable E u2.key h (add u2.depth f) b b2 n n2 p m u e2 a r2) r
-  where
-    by : (a : Key) (j : ℕ) → ((h : ℕ) → h ≡ suc (add u2.depth f) → Resolves E true u2.key h a j p → m ≡ true) → Resolves E true k c a j p → m ≡ true
-    by _ _ again (here y) = absurd (no_reference_under d m2 u2 p (ap (exact_under (suc d)) (sym is) ∙ ap (λ z. exact_under z (E k)) (sym e) ∙ y))
-    by a j again (through m3 u3 f3 is3 on3 de3 r3) =
-        let g : refers m3 u3 ≡ refers m2 u2 = sym is3 ∙ is in
-        let su : u3 ≡ u2 = cc in
-        let sum3 = add_plus u3.depth f3 in
-        let sum2 = add_plus u2.depth f in
-        let depths : u3.depth ≡ u2.depth = ap (λ (z : StorePlace). z.depth) su in
-        let one : add u3.depth f3 ≡ suc (add u2.depth f) = omega (arith, sum3, sum2, depths, e, de, de3) in
-        again (add u3.depth f3) one (subst (λ (z : StorePlace). Resolves E true z.key (add u3.depth f3) a j p) su r3)
-
--- two places at a key that come to the same have as many stars
-res_inj : (rank : Key → ℕ) (E : KeyTypes) (s : Store) → Typed rank E s → (o1 o2 : Bool) (k : Key) (d e : ℕ) (b : Key) (n : ℕ) (p q : Exact) → Resolves E o1 k d b n p → Resolves E o2 k e b n q → d ≡ e
-res_inj rank E s t o1 o2 k d e _ _ p q (here x) r = by k d refl r
-  where
-    by : (a : Key) (j : ℕ) → a ≡ k → Resolves E o2 k e a j q → j ≡ e
-    by _ _ same (here y) = refl
-    by a j same (through m u f is on de r2) =
-        let low = t.below k m u is in
-        let least = res_low rank E s t o2 u.key (add u.depth f) a j q r2 in
-        let ranks : rank a ≡ rank k = ap rank same in
-        absurd (omega (arith, low, least, ranks))
-res_inj rank E s t o1 o2 k d e b n p q (through m u f is on de r) r2 = by b n refl refl (λ h y. res_inj rank E s t o1 o2 u.key (add u.depth f) h b n p q r y) r2
-  where
-    low : rank u.key < rank k
-    low = t.below k m u is
-
-    least : rank b ≤ rank u.key
-    least = res_low rank E s t o1 u.key (add u.depth f) b n p r
-
-    by : (a : Key) (j : ℕ) → a ≡ b → j ≡ n → ((h : ℕ) → Resolves E o2 u.key h b n q → add u.depth f ≡ h) → Resolves E o2 k e a j q → d ≡ e
-    by _ _ key boxes again (here y) = let ranks : rank k ≡ rank b = ap rank key in absurd (omega (arith, low, least, ranks))
-    by a j key boxes again (through m2 u2 f2 is2 on2 de2 r3) =
-        let g : refers m2 u2 ≡ refers m u = sym is2 ∙ is in
-        let su : u2 ≡ u = cc in
-        let at_base : Resolves E o2 u2.key (add u2.depth f2) b n q = subst (λ z. Resolves E o2 u2.key (add u2.depth f2) z n q) key (subst (λ z. Resolves E o2 u2.key (add u2.depth f2) a z q) boxes r3) in
-        let same = again (add u2.depth f2) (subst (λ (z : StorePlace). Resolves E o2 z.key (add u2.depth f2) b n q) su at_base) in
-        let sum1 = add_plus u.depth f in
-        let sum2 = add_plus u2.depth f2 in
-        let depths : u2.depth ≡ u.depth = ap (λ (z : StorePlace). z.depth) su in
-        omega (arith, same, sum1, sum2, depths, de, de2)
-
--- a shared reference to a slot has no mutable type
-no_slot : (key : ℕ → Key) (E : KeyTypes) (n : NameTypes) (s : Slot) (j : ℕ) (u : StorePlace) → ExactOf key E s.part (refers true u) → slot_form n s (is_some s.name) (value.SharedSlot j) ≡ true → ⊥
-no_slot key E n s j u ex = by (is_some s.name)
-  where
-    named : (p : Piece) → RefOf key E p true u → has_form n p (value.SharedSlot j) ≡ true → ⊥
-    named (whole (own o)) x f = x
-    named (whole (shared us)) x f = let z = x.0 in absurd cc
-    named (whole (mutable us)) x f = absurd cc
-    named (whole (view o)) x f = absurd cc
-    named (gone q) x f = x
-    named (boxed q) x f = x
-
-    by : (b : Bool) → slot_form n s b (value.SharedSlot j) ≡ true → ⊥
-    by true f = named s.part ex f
-    by false f = absurd cc
+use Rattle.result_law.proofs.Mutables.{apart, not_shared, not_shared_slot}
 
 -- THE BORROW
 
@@ -180,17 +93,6 @@ module _ (k : Cluster) (n t : ℕ) (s : Server) (y : ThreadState) (w : Lval) (d 
   place : Place k c x true w
   place = record { free = λ j u is. may.free j true u is; base = may.base; boxes = may.boxes; type = may.type; resolves = may.resolves; unmarked = may.unmarked }
 
-  -- places of the variable with different counts of stars lead to different locations
-  apart : (e : ℕ) → e < d → (l : Location) → locate g tn w.slot e ≡ Some l → locate g tn w.slot d ≡ Some l → ⊥
-  apart e lt l first second =
-      let p = shorter E true K (w.depth - e) w.depth e place.base place.boxes place.type (omega (arith, lt, depth)) place.resolves in
-      let q = shorter E true K 1 w.depth d place.base place.boxes place.type (omega (arith, depth)) place.resolves in
-      let below_first = sym (sound rank E st typed_there true K e p.base p.boxes p.type p.res) ∙ (leads_in_heap k c x on w.slot e l first).0 in
-      let below_second = sym (sound rank E st typed_there true K d q.base q.boxes q.type q.res) ∙ (leads_in_heap k c x on w.slot d l second).0 in
-      let one = unique st typed_there.owner p.base q.base p.boxes q.boxes (in_store l) below_first below_second in
-      let same = res_inj rank E st typed_there true true K e d q.base q.boxes p.type q.type (subst (λ a. Resolves E true K e a q.boxes p.type) one.0 (subst (λ m. Resolves E true K e p.base m p.type) one.1 p.res)) q.res in
-      absurd (omega (arith, lt, same))
-
   -- what the thread has taken is the last pointer, and none before it
   before_it : IsFree k n t s y i z true w place d
   before_it e lt under l located m v stands leads_on u p stars taken code depth2 there =
@@ -198,7 +100,7 @@ module _ (k : Cluster) (n t : ℕ) (s : Server) (y : ThreadState) (w : Lval) (d 
       let same : w ≡ p = cc in
       let depths : w.depth ≡ p.depth = ap (λ (q : Lval). q.depth) same in
       let so_many : stars ≡ d = omega (arith, depth, depth2, depths) in
-      apart e under l located (subst (λ (q : Lval). locate g tn q.slot d ≡ Some l) (sym same) (subst (λ m2. locate g tn p.slot m2 ≡ Some l) so_many there))
+      apart k c x on w.slot w.depth place.base place.boxes place.type place.resolves e d under (omega (arith, depth)) l located (subst (λ (q : Lval). locate g tn q.slot d ≡ Some l) (sym same) (subst (λ m2. locate g tn p.slot m2 ≡ Some l) so_many there))
 
   fine : Fine k n t s y i z w.slot d (read_stars d (hand k n t s y i z) (in_slot w.slot))
   fine = stars_fine k n t s y i z true w place short d (omega (arith, depth)) before_it
@@ -206,34 +108,12 @@ module _ (k : Cluster) (n t : ℕ) (s : Server) (y : ThreadState) (w : Lval) (d 
   abbrev Done : Prepared → Type 0
   Done p = IsSome (prepared servers i p)
 
-  -- THE LAST POINTER IS NO SHARED ONE
+  -- the last pointer is no shared one
+  no_shared : (j : ℕ) (r : SharedRef) → locate g tn w.slot d ≡ Some (at_slot tn j) → value_in g (at_slot tn j) ≡ Some (value.Shared r) → ⊥
+  no_shared = not_shared k c x on w.slot w.depth place.base place.boxes place.type place.resolves d (omega (arith, depth))
 
-  exact_true : (j : ℕ) (target : StoreLocation) → locate g tn w.slot d ≡ Some (at_slot tn j) → st.at (slot_k tn j) ≡ ref_v target → (u : StorePlace) × (E (slot_k tn j) ≡ refers true u)
-  exact_true j target located is =
-      let q = shorter E true K 1 w.depth d place.base place.boxes place.type (omega (arith, depth)) place.resolves in
-      let there : below_key st q.base q.boxes ≡ Some (at_key (slot_k tn j)) = sym (sound rank E st typed_there true K d q.base q.boxes q.type q.res) ∙ (leads_in_heap k c x on w.slot d (at_slot tn j) located).0 in
-      let one = unique st typed_there.owner q.base (slot_k tn j) q.boxes 0 (at_key (slot_k tn j)) there refl in
-      let r = ref_type rank E st typed_there (slot_k tn j) target is in
-      let part : exact_under 0 (E (slot_k tn j)) ≡ Some q.type = subst (λ a. exact_under 0 (E a) ≡ Some q.type) one.0 (subst (λ m. exact_under m (E q.base) ≡ Some q.type) one.1 (res_part E true K d q.base q.boxes q.type q.res)) in
-      let type : q.type ≡ refers r.0 r.1 = some_is (sym part ∙ part_zero (E (slot_k tn j))) ∙ r.2 in
-      let is_mutable : r.0 ≡ true = star_mutable E K w.depth d place.base q.base place.boxes q.boxes place.type r.0 r.1 depth place.resolves (subst (λ p. Resolves E true K d q.base q.boxes p) type q.res) in
-      (r.1, r.2 ∙ ap (λ b. refers b r.1) is_mutable)
-
-  in_its_slot : (j : ℕ) (v : Value) → value_in g (at_slot tn j) ≡ Some v → slice_get y.slots j ≡ Some v
-  in_its_slot j v stands = sym (ap (λ o. slot_of o j) (stands_there k c x on)) ∙ stands
-
-  not_shared : (j : ℕ) (r : SharedRef) → locate g tn w.slot d ≡ Some (at_slot tn j) → value_in g (at_slot tn j) ≡ Some (value.Shared r) → ⊥
-  not_shared j r located stands =
-      let there = in_its_slot j (value.Shared r) stands in
-      let q = exact_true j (at_object r.object) located (slot_shared k c x on j r there) in
-      not_mutable k c x on j r q.0 there q.1
-
-  not_shared_slot : (j m : ℕ) → locate g tn w.slot d ≡ Some (at_slot tn j) → value_in g (at_slot tn j) ≡ Some (value.SharedSlot m) → ⊥
-  not_shared_slot j m located stands =
-      let there = in_its_slot j (value.SharedSlot m) stands in
-      let q = exact_true j (at_key (slot_k tn m)) located (slot_shared_slot k c x on j m there) in
-      let part = slot_part k c x on j (value.SharedSlot m) there in
-      no_slot (slot_k tn) E (names_at k c x on) part.slot m q.0 (subst (ExactOf (slot_k tn) E part.slot.part) q.1 part.exact) part.form
+  no_shared_slot : (j m : ℕ) → locate g tn w.slot d ≡ Some (at_slot tn j) → value_in g (at_slot tn j) ≡ Some (value.SharedSlot m) → ⊥
+  no_shared_slot = not_shared_slot k c x on w.slot w.depth place.base place.boxes place.type place.resolves d (omega (arith, depth))
 
   -- THE STEP
 
@@ -275,11 +155,11 @@ module _ (k : Cluster) (n t : ℕ) (s : Server) (y : ThreadState) (w : Lval) (d 
     owned_pointer (owned.Task b) m e at_hand = absurd cc
 
     slot_case : (j : ℕ) (u v : Value) (m : Location) → l ≡ at_slot tn j → value_in g l ≡ Some v → leads tn (Some v) ≡ Some m → Alike u v → value_at h sp ≡ Some u → Goal (Some u)
-    slot_case j _ _ m f stands e (both_shared b r words objects) at_hand = absurd (not_shared j r (subst (λ q. locate g tn w.slot d ≡ Some q) f located) (sym (ap (value_in g) f) ∙ stands))
+    slot_case j _ _ m f stands e (both_shared b r words objects) at_hand = absurd (no_shared j r (subst (λ q. locate g tn w.slot d ≡ Some q) f located) (sym (ap (value_in g) f) ∙ stands))
     slot_case j (value.Own v) _ m f stands e equal at_hand = owned_pointer v m e at_hand
-    slot_case j (value.SharedSlot b) _ m f stands e equal at_hand = absurd (not_shared_slot j b (subst (λ q. locate g tn w.slot d ≡ Some q) f located) (sym (ap (value_in g) f) ∙ stands))
+    slot_case j (value.SharedSlot b) _ m f stands e equal at_hand = absurd (no_shared_slot j b (subst (λ q. locate g tn w.slot d ≡ Some q) f located) (sym (ap (value_in g) f) ∙ stands))
     slot_case j (value.MutSlot b) _ m f stands e equal at_hand = lent_from (value.MutSlot b) _ at_hand refl
-    slot_case j (value.Shared b) _ m f stands e equal at_hand = absurd (not_shared j b (subst (λ q. locate g tn w.slot d ≡ Some q) f located) (sym (ap (value_in g) f) ∙ stands))
+    slot_case j (value.Shared b) _ m f stands e equal at_hand = absurd (no_shared j b (subst (λ q. locate g tn w.slot d ≡ Some q) f located) (sym (ap (value_in g) f) ∙ stands))
     slot_case j (value.Mut b) _ m f stands e equal at_hand = lends_on (value.Mut b) _ b.word (hop.AtCell b.word) (record { word = b.word; object = b.object }) at_hand refl refl refl (server_of b.word == h1.work.rest.number)
     slot_case j value.Gone _ m f stands e equal at_hand = absurd cc
     slot_case j (value.Held b) _ m f stands e equal at_hand = absurd cc

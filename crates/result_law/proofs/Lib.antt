@@ -16,4 +16,5 @@ pub mod Starred
 pub mod Found
 pub mod Readers
 pub mod Borrowing
+pub mod Mutables
 pub mod Lending
