@@ -1,0 +1,4 @@
+pub mod Along
+pub mod Hands
+pub mod Stars
+pub mod Asking

@@ -1,0 +1,31 @@
+-- A STEP THAT ENDS IN A REQUEST keeps the words (this project's rules).
+use Rattle.std.specs.Prelude.{◌≡◌, ℕ, Some, None, slice_get}
+use Rattle.fr_base.specs.declared.instruction.Instr.{Instr}
+use Rattle.fr_base.specs.declared.place.Lval.{Lval}
+use Rattle.journal.specs.View.{EntryView}
+use Rattle.thread_state.specs.View.{ThreadState}
+use Rattle.thread_state.specs.declared.phase.Phase.TheVariants as phase
+use Rattle.server_model.specs.declared.event.What.TheVariants.{Step}
+use Rattle.server_model.specs.Servers.{Server, Cluster, server_at}
+use Rattle.server_model.specs.Work.{thread_in}
+use Rattle.server_model.specs.Clusters.{apply}
+use Rattle.heap_law.specs.Sight.{sight}
+use Rattle.heap_law.specs.Words.{HasWords}
+use Rattle.heap_law.specs.Dirty.{DirtyAlone, PastWords}
+use Rattle.heap_law.specs.Coherent.{Holds, first_at_holder}
+use Rattle.type_law.specs.ClusterTypes.{IsCoherent}
+use Rattle.event_law.specs.Laws.{Gives, FewEvents}
+use Rattle.read_law.specs.Reading.{Reads}
+
+-- what is kept of words
+pub record WordsHold (k : Cluster) : Type 0 where
+  pub has_words : HasWords (sight k)
+  pub first_at_holder : Holds k first_at_holder
+  pub dirty_alone : DirtyAlone (sight k)
+  pub past_words : PastWords (sight k)
+
+-- the step of a thread that reads its place, or borrows from it, and hasn't taken an object: where it does no plain step, the words hold once its messages are
+-- handed over
+abbrev pub ReadsThatAsk : Type 0
+ReadsThatAsk = (k : Cluster) (number t : ℕ) (s : Server) (y : ThreadState) (i : Instr) (w : Lval) (m : ℕ) → IsCoherent k → FewEvents k → server_at k.servers number ≡ Some s → thread_in s.threads t ≡ Some y → slice_get k.code y.pc ≡ Some i → Reads i w m
+    → ((v : ℕ) → y.phase ≡ phase.Taken v → ⊥) → Gives (λ (d : Cluster × EntryView). d.1.done ≡ None → WordsHold d.0) (apply k (record { server = number; what = Step t }))
