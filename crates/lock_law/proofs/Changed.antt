@@ -83,7 +83,7 @@ module _ (k : Cluster) (sound : IsSound k) (e : Event) (s : Server) (here : serv
   alike : ShowAlike (things_of k) a
   alike w z = same_things (λ v. w (sign_of v))
 
-  unstray : tot (stray (sight k)) (things_of k) ≡ 0
+  pub unstray : tot (stray (sight k)) (things_of k) ≡ 0
   unstray = no_stray k sound.names.numbers_differ
 
   places : (gift : ℕ → ℕ) → tot (placed nought nought gift) a ≡ tot (telling nought nought gift) a

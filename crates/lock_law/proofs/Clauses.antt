@@ -3,13 +3,15 @@ use Rattle.std.proofs.Common.{◌≡◌, true, Some, refl}
 use Rattle.fr_base.specs.declared.instruction.Instr.{Instr}
 use Rattle.fr_base.specs.declared.instruction.Instr.TheVariants as instr
 use Rattle.server_model.specs.Clusters.{apply}
+use Rattle.heap_law.specs.Coherent.{IsSound}
 use Rattle.type_law.specs.ClusterTypes.{IsCoherent}
 use Rattle.event_law.specs.Laws.{Gives}
 use Rattle.turn_law.specs.Turns.{IsPlainStep, instr_of, ArePlainSteps}
-use Rattle.lock_law.specs.Locks.{dups_mutex, locks_mutex}
+use Rattle.lock_law.specs.Locks.{dups_mutex, locks_mutex, makes_mutex}
 use Rattle.lock_law.proofs.MutexTurns.{mutex_steps}
 use Rattle.lock_law.proofs.DupLines.{dup_line}
 use Rattle.lock_law.proofs.LockLines.{lock_line}
+use Rattle.lock_law.proofs.NewLines.{new_line}
 
 pub dups : ArePlainSteps IsCoherent dups_mutex
 dups k e i q it co few = by i q it
@@ -23,4 +25,11 @@ locks k e i q it co few = by i q it
   where
     by : (i : Instr) → instr_of k e ≡ Some i → locks_mutex i ≡ true → Gives (IsPlainStep k) (apply k e)
     by (instr.Lock w) q it = mutex_steps k co.sound e (instr.Lock w) refl few (λ s t x at. lock_line k co e w s t x at) q
+    by _ q it = absurd (cc it)
+
+pub news : ArePlainSteps IsSound makes_mutex
+news k e i q it sound few = by i q it
+  where
+    by : (i : Instr) → instr_of k e ≡ Some i → makes_mutex i ≡ true → Gives (IsPlainStep k) (apply k e)
+    by (instr.Mutex o) q it = mutex_steps k sound e (instr.Mutex o) refl few (λ s t x at. new_line k sound e o s t x at) q
     by _ q it = absurd (cc it)

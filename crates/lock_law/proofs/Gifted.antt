@@ -24,7 +24,7 @@ use Rattle.lock_law.proofs.Beside.{IsBeside, IsLoose, loose_beside, all_so, itse
 use Rattle.lock_law.proofs.MutexTurns.{G, R, before, loose}
 use Rattle.lock_law.proofs.Changed.{spots_before}
 
-or_false : (b : Bool) → b || false ≡ b
+pub or_false : (b : Bool) → b || false ≡ b
 or_false true = refl
 or_false false = refl
 

@@ -11,4 +11,6 @@ pub mod Places
 pub mod SharedLines
 pub mod DupLines
 pub mod LockLines
+pub mod NewMutex
+pub mod NewLines
 pub mod Clauses

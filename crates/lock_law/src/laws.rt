@@ -1,4 +1,5 @@
-ghost use Rattle.lock_law.specs.Locks.{dups_mutex, locks_mutex};
+ghost use Rattle.heap_law.specs.Coherent.{IsSound};
+ghost use Rattle.lock_law.specs.Locks.{dups_mutex, locks_mutex, makes_mutex};
 ghost use Rattle.turn_law.specs.Turns.{ArePlainSteps};
 ghost use Rattle.type_law.specs.ClusterTypes.{IsCoherent};
 
@@ -8,4 +9,10 @@ ghost use Rattle.type_law.specs.ClusterTypes.{IsCoherent};
 pub fn answer_steps()
     ensures dups { ArePlainSteps IsCoherent dups_mutex }
     ensures locks { ArePlainSteps IsCoherent locks_mutex }
+{}
+
+/// From a sound cluster, so is each step of a new mutex, with the mutex's name: the server's next mutex was named nowhere, and then it has the value as its content and
+/// one share.
+pub fn new_mutex_steps()
+    ensures { ArePlainSteps IsSound makes_mutex }
 {}
