@@ -52,7 +52,7 @@ use Rattle.result_law.proofs.Pointing.{Stands, its_partition, its_colour, leads_
 use Rattle.result_law.proofs.Borrowing.{puts_reference}
 use Rattle.write_law.proofs.Memory.{Leads, leads_on, looks, looked, Sane, renewal_issued}
 use Rattle.write_law.proofs.Route.{Route, Writing, begins, At, a_slot, a_cell, Fine, all_hops, rerouted, set_other}
-use Rattle.write_law.proofs.Routes.{sane_there, roomy, awake}
+use Rattle.write_law.proofs.StepRoutes.{sane_there, roomy, awake}
 use Rattle.write_law.proofs.Holders.{C, at, short_holder, route, object_away, slot_away, TakesWord, Last, last_slot, last_cell, last_there}
 
 pub set_there : (xs : List Value) (i : ℕ) (v u : Value) → slice_get xs i ≡ Some v → slice_get (slice_set xs i u) i ≡ Some u
@@ -338,9 +338,9 @@ module _ (k : Cluster) (n t : ℕ) (s : Server) (y : ThreadState) (i : Instr) (z
 
       route_again : Route (record s.rest { partition = q }) (record y { slots = h1.thread.slots; temps = h1.thread.temps }) Cells leads depth
       route_again =
-          rerouted s.rest y Cells leads depth (route k n t s y i z r is it) q h1.thread.slots h1.thread.temps
+          rerouted s.rest y Cells leads depth (route k n t s y i z r is it) (record s.rest { partition = q }) refl h1.thread.slots h1.thread.temps
           (λ m j lt located. cl.slots m (λ e. slot_away k n t s y i z r is it m j (its_slot sp m at_it e) (omega (arith, lt)) located))
-          (λ j v e le located l. cl.cells v e l (λ f. object_away k n t s y i z r is it j le (located ∙ ap (λ o. Some (in_object o)) f))) cl.sane
+          (λ j v e le located l. cl.cells v e l (λ f. object_away k n t s y i z r is it j le (located ∙ ap (λ o. Some (in_object o)) f))) (λ less. cl.sane)
           (let a = cl.long in let b = roomy k n t s y i z in let d = short_holder k n t s y i z r is it in omega (arith, a, b, d))
 
       abbrev OnWay : Hand → Type 0
@@ -400,10 +400,10 @@ module _ (k : Cluster) (n t : ℕ) (s : Server) (y : ThreadState) (i : Instr) (z
       walked : (w : ℕ) → finish_word cl.reference ≡ Some w → EndFine sp (write_stars depth 0 h1 (in_slot r.holder.slot))
       walked w word =
           by (write_stars depth 0 h1 (in_slot r.holder.slot))
-          (all_hops (record s.rest { partition = q }) (record y { slots = h1.thread.slots; temps = h1.thread.temps }) Cells leads depth route_again depth 0 (omega arith) h1 (in_slot r.holder.slot) (at_slot tn r.holder.slot) refl (a_slot r.holder.slot)
-          (begins (record s.rest { partition = q }) (record y { slots = h1.thread.slots; temps = h1.thread.temps }) Cells leads h1 cl.rest cl.thread cl.sane))
+          (all_hops (record s.rest { partition = q }) (record y { slots = h1.thread.slots; temps = h1.thread.temps }) Cells leads ⊤ depth route_again (λ j less le. tt) depth 0 (omega arith) h1 (in_slot r.holder.slot) (at_slot tn r.holder.slot) refl (a_slot r.holder.slot)
+          (begins (record s.rest { partition = q }) (record y { slots = h1.thread.slots; temps = h1.thread.temps }) Cells leads h1 cl.rest cl.thread))
         where
-          by : (p : Prepared) → Fine (record s.rest { partition = q }) (record y { slots = h1.thread.slots; temps = h1.thread.temps }) Cells leads depth p → EndFine sp p
+          by : (p : Prepared) → Fine (record s.rest { partition = q }) (record y { slots = h1.thread.slots; temps = h1.thread.temps }) Cells leads ⊤ depth p → EndFine sp p
           by (ready h end) f = arrived w word h end f.0 f.1 f.2 f.3
           by (requested h) f = tt
           by nothing f = f

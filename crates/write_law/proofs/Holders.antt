@@ -43,7 +43,7 @@ use Rattle.result_law.proofs.Known.{Steps, standing, paths, goes}
 use Rattle.result_law.proofs.Followed.{hop_from}
 use Rattle.result_law.proofs.Mutables.{apart, not_shared}
 use Rattle.write_law.proofs.Route.{Route}
-use Rattle.write_law.proofs.Routes.{its_route}
+use Rattle.write_law.proofs.StepRoutes.{its_route}
 
 -- who comes to a key that no type names began there
 not_reached : (E : KeyTypes) (only : Bool) (k : Key) (d : ℕ) (b : Key) (n : ℕ) (p : Exact) → Unnamed E b → Resolves E only k d b n p → k ≡ b

@@ -124,6 +124,17 @@ put_longer xs a c = by (a == length xs)
     by true = omega (arith, length-append xs (Some c ∷ []))
     by false = omega (arith, length-set xs a (Some c))
 
+-- AN OBJECT COMES
+
+-- words lead where they led
+pub made_leads : (p : PartitionState) (c : Cell) → Sane p → (v : ℕ) (d : Cell) → Leads p v d → Leads (made p c) v d
+made_leads p c s v d l =
+    let n = next_is p s (let e = l.colour in omega (arith, e)) in
+    record { server = l.server; there = put_elsewhere p.cells (next_place p).0 (address_of v) c d (n.vacant (address_of v) d l.there) l.there; colour = l.colour }
+
+pub made_longer : (p : PartitionState) (c : Cell) → length (made p c).cells ≤ length p.cells + 1
+made_longer p c = put_longer p.cells (next_place p).0 c
+
 -- AN OBJECT GETS ANOTHER ADDRESS
 
 fewer : (limit : ℕ) (xs : List (ℕ × ℕ)) → AllByRecursion (λ (x : ℕ × ℕ). x.1 < limit) xs → AllByRecursion (λ (x : ℕ × ℕ). x.1 < limit) (rest_of xs)

@@ -92,7 +92,7 @@ module _ (r : Rest) (y : ThreadState) (C : ObjNo → Option Cell) (at : ℕ → 
     pub hop : (i : ℕ) → i < d → (l m : Location) → at i ≡ Some l → at (suc i) ≡ Some m → Hop i l m
     -- places with different counts of stars lead apart
     pub apart : (i e : ℕ) → e < i → i ≤ d → (l : Location) → at e ≡ Some l → at i ≡ Some l → ⊥
-    pub sane : Sane P
+    pub sane : y.passed < d → Sane P
     pub room : length P.cells + d < 2 ^ 40
 
   -- THE HAND ON THE WAY
@@ -103,27 +103,32 @@ module _ (r : Rest) (y : ThreadState) (C : ObjNo → Option Cell) (at : ℕ → 
     pub thread : h.thread ≡ record y { slots = h.thread.slots; passed = h.thread.passed }
     pub server : h.work.rest.partition.server ≡ P.server
     pub limit : h.work.rest.partition.limit ≡ P.limit
-    pub sane : Sane h.work.rest.partition
+    pub sane : Sane P → Sane h.work.rest.partition
     pub long : length h.work.rest.partition.cells ≤ length P.cells + j
     pub size : length h.thread.slots ≡ length y.slots
     pub slots : (m : ℕ) → ((i : ℕ) → i < j → at i ≡ Some (at_slot tn m) → ⊥) → slice_get h.thread.slots m ≡ slice_get y.slots m
     pub cells : (v : ℕ) (d : Cell) → Leads P v d → ((i : ℕ) → i ≤ j → at i ≡ Some (in_object d.object) → ⊥) → Leads h.work.rest.partition v d
     pub passed : (m : ℕ) → j ≤ m → m < h.thread.passed → m < y.passed
+    pub still : (m : ℕ) → m < y.passed → m < h.thread.passed
+    -- over hops that were ready already nothing moves
+    pub unmoved : j ≤ y.passed → h.work.rest.partition ≡ P
 
-  pub begins : (h : Hand) → h.work.rest ≡ r → h.thread ≡ y → Sane P → Writing 0 h
-  begins h same_rest same_thread s =
+  pub begins : (h : Hand) → h.work.rest ≡ r → h.thread ≡ y → Writing 0 h
+  begins h same_rest same_thread =
       let p : h.work.rest.partition ≡ P = ap (λ (x : Rest). x.partition) same_rest in
       record {
         rest = same_rest ∙ ap (λ q. record r { partition = q }) (sym p);
         thread = same_thread ∙ sym (ap (λ (x : ThreadState). record y { slots = x.slots; passed = x.passed }) same_thread);
         server = ap (λ (q : PartitionState). q.server) p;
         limit = ap (λ (q : PartitionState). q.limit) p;
-        sane = subst Sane (sym p) s;
+        sane = λ a. subst Sane (sym p) a;
         long = (let e = ap (λ (q : PartitionState). length q.cells) p in omega (arith, e));
         size = ap (λ (x : ThreadState). length x.slots) same_thread;
         slots = λ m ahead. ap (λ (x : ThreadState). slice_get x.slots m) same_thread;
         cells = λ v d l ahead. subst (λ q. Leads q v d) (sym p) l;
         passed = λ m le lt. (let e = ap (λ (x : ThreadState). x.passed) same_thread in omega (arith, e, lt));
+        still = λ m lt. (let e = ap (λ (x : ThreadState). x.passed) same_thread in omega (arith, e, lt));
+        unmoved = λ le. p;
       }
 
   -- what one more hop may change
@@ -132,12 +137,14 @@ module _ (r : Rest) (y : ThreadState) (C : ObjNo → Option Cell) (at : ℕ → 
     thread : h2.thread ≡ record h.thread { slots = h2.thread.slots; passed = h2.thread.passed }
     server : h2.work.rest.partition.server ≡ h.work.rest.partition.server
     limit : h2.work.rest.partition.limit ≡ h.work.rest.partition.limit
-    sane : Sane h2.work.rest.partition
+    sane : Sane h.work.rest.partition → Sane h2.work.rest.partition
     long : length h2.work.rest.partition.cells ≤ length h.work.rest.partition.cells + 1
     size : length h2.thread.slots ≡ length h.thread.slots
     slots : (m : ℕ) → ((i : ℕ) → i < suc j → at i ≡ Some (at_slot tn m) → ⊥) → slice_get h2.thread.slots m ≡ slice_get h.thread.slots m
     cells : (v : ℕ) (d : Cell) → Leads h.work.rest.partition v d → ((i : ℕ) → i ≤ suc j → at i ≡ Some (in_object d.object) → ⊥) → Leads h2.work.rest.partition v d
     passed : (m : ℕ) → suc j ≤ m → m < h2.thread.passed → m < y.passed
+    still : (m : ℕ) → m < y.passed → m < h2.thread.passed
+    unmoved : suc j ≤ y.passed → h2.work.rest.partition ≡ h.work.rest.partition
 
   onward : (j : ℕ) (h h2 : Hand) → Writing j h → Step j h h2 → Writing (suc j) h2
   onward j h h2 w s = record {
@@ -145,28 +152,32 @@ module _ (r : Rest) (y : ThreadState) (C : ObjNo → Option Cell) (at : ℕ → 
     thread = s.thread ∙ ap (λ (x : ThreadState). record x { slots = h2.thread.slots; passed = h2.thread.passed }) w.thread;
     server = s.server ∙ w.server;
     limit = s.limit ∙ w.limit;
-    sane = s.sane;
+    sane = λ a. s.sane (w.sane a);
     long = (let a = s.long in let b = w.long in omega (arith, a, b));
     size = s.size ∙ w.size;
     slots = λ m ahead. s.slots m ahead ∙ w.slots m (λ i lt. ahead i (omega (arith, lt)));
     cells = λ v d l ahead. s.cells v d (w.cells v d l (λ i le. ahead i (omega (arith, le)))) ahead;
     passed = s.passed;
+    still = s.still;
+    unmoved = λ le. s.unmoved le ∙ w.unmoved (omega (arith, le));
   }
 
   -- what is noted and labelled makes no difference
-  quiet : (j : ℕ) (h : Hand) (acts : List Act) (labels : List Label) (n : ℕ) → Writing j h → ((m : ℕ) → suc j ≤ m → m < n → m < y.passed)
+  quiet : (j : ℕ) (h : Hand) (acts : List Act) (labels : List Label) (n : ℕ) → Writing j h → ((m : ℕ) → suc j ≤ m → m < n → m < y.passed) → ((m : ℕ) → m < y.passed → m < n)
       → Writing (suc j) (record { work = record h.work { acts = acts; labels = labels }; thread = record h.thread { passed = n } })
-  quiet j h acts labels n w passed = onward j h (record { work = record h.work { acts = acts; labels = labels }; thread = record h.thread { passed = n } }) w (record {
+  quiet j h acts labels n w passed still = onward j h (record { work = record h.work { acts = acts; labels = labels }; thread = record h.thread { passed = n } }) w (record {
     rest = refl;
     thread = refl;
     server = refl;
     limit = refl;
-    sane = w.sane;
+    sane = λ a. a;
     long = omega arith;
     size = refl;
     slots = λ m ahead. refl;
     cells = λ v d l ahead. l;
     passed = passed;
+    still = still;
+    unmoved = λ le. refl;
   })
 
   -- the reference that led straight to a cell stands in the slot of a hop behind
@@ -183,15 +194,15 @@ module _ (r : Rest) (y : ThreadState) (C : ObjNo → Option Cell) (at : ℕ → 
     a_slot : (m : ℕ) → At p j (in_slot m) (at_slot tn m)
     a_cell : (w : ℕ) (q : Option ℕ) (o : ObjNo) (d : Cell) → Leads p w d → C o ≡ Some d → d.object ≡ o → Behind j q → At p j (in_cell w q) (in_object o)
 
-  -- ready where the place leads with so many stars, or something was asked for
-  abbrev pub Fine : ℕ → Prepared → Type 0
-  Fine n (ready h sp) = (l : Location) × (at n ≡ Some l) × At h.work.rest.partition n sp l × Writing n h
-  Fine n (requested h) = ⊤
-  Fine n nothing = ⊥
+  -- ready where the place leads with so many stars, or something was asked for, which tells Q
+  abbrev pub Fine : Type 0 → ℕ → Prepared → Type 0
+  Fine Q n (ready h sp) = (l : Location) × (at n ≡ Some l) × At h.work.rest.partition n sp l × Writing n h
+  Fine Q n (requested h) = Q
+  Fine Q n nothing = ⊥
 
   -- ONE HOP
 
-  module _ (d : ℕ) (route : Route d) (j : ℕ) (lt : j < d) (l m : Location) (located : at j ≡ Some l) (next : at (suc j) ≡ Some m) (h : Hand) (w : Writing j h) where
+  module _ (Q : Type 0) (d : ℕ) (route : Route d) (asks : (i : ℕ) → i < d → y.passed ≤ i → Q) (j : ℕ) (lt : j < d) (l m : Location) (located : at j ≡ Some l) (next : at (suc j) ≡ Some m) (h : Hand) (w : Writing j h) where
     abbrev N : ℕ
     N = h.work.rest.number
 
@@ -210,29 +221,39 @@ module _ (r : Rest) (y : ThreadState) (C : ObjNo → Option Cell) (at : ℕ → 
     was_passed : (k : ℕ) → suc j ≤ k → k < h.thread.passed → k < y.passed
     was_passed k le less = w.passed k (omega (arith, le)) less
 
+    still_done : y.passed ≤ j → (k : ℕ) → k < y.passed → k < j + 1
+    still_done le k less = omega (arith, le, less)
+
     -- the test of what is passed, and the value that is followed
     module _ (sp : Spot) (v : Value) (stands : value_at h sp ≡ Some v) where
       abbrev h1 : Hand
       h1 = load_at sp h
 
-      star : ((b : Bool) → (b ≡ true → j < y.passed) → Fine (suc j) (if b then pass_by sp v (write_hop N v) h1 else write_by j sp v (write_hop N v) h1)) → Fine (suc j) (write_star j h sp)
+      star : ((b : Bool) → (b ≡ true → j < y.passed) → (b ≡ false → y.passed ≤ j) → Fine Q (suc j) (if b then pass_by sp v (write_hop N v) h1 else write_by j sp v (write_hop N v) h1)) → Fine Q (suc j) (write_star j h sp)
       star go =
-          subst (λ o. Fine (suc j) (write_value j sp o h1)) (sym stands)
-          (go (nat_lt j h.thread.passed) (λ e. w.passed j (omega arith) (grind (arith, nat_tests, e))))
+          subst (λ o. Fine Q (suc j) (write_value j sp o h1)) (sym stands)
+          (go (nat_lt j h.thread.passed) (λ e. w.passed j (omega arith) (grind (arith, nat_tests, e))) (λ e. not_yet (grind (arith, nat_tests, e))))
+        where
+          not_yet : h.thread.passed ≤ j → y.passed ≤ j
+          not_yet le = by (nat_lt j y.passed) refl
+            where
+              by : (b : Bool) → nat_lt j y.passed ≡ b → y.passed ≤ j
+              by true e = let less : j < h.thread.passed = w.still j (grind (arith, nat_tests, e)) in absurd (omega (arith, le, less))
+              by false e = grind (arith, nat_tests, e)
 
     -- a mutable reference to a slot
-    slot_star : (sp : Spot) (i : ℕ) → value_at h sp ≡ Some (value.MutSlot i) → m ≡ at_slot tn i → Fine (suc j) (write_star j h sp)
+    slot_star : (sp : Spot) (i : ℕ) → value_at h sp ≡ Some (value.MutSlot i) → m ≡ at_slot tn i → Fine Q (suc j) (write_star j h sp)
     slot_star sp i stands is = star sp (value.MutSlot i) stands by
       where
         spot : {p : PartitionState} → At p (suc j) (in_slot i) m
         spot {p} = subst (At p (suc j) (in_slot i)) (sym is) (a_slot i)
 
-        by : (b : Bool) → (b ≡ true → j < y.passed) → Fine (suc j) (if b then pass_by sp (value.MutSlot i) (write_hop N (value.MutSlot i)) (load_at sp h) else write_by j sp (value.MutSlot i) (write_hop N (value.MutSlot i)) (load_at sp h))
-        by true e = (m, next, spot, quiet j h h.work.acts (load_at sp h).work.labels h.thread.passed w was_passed)
-        by false e = (m, next, spot, quiet j h h.work.acts (load_at sp h).work.labels (j + 1) w done_so)
+        by : (b : Bool) → (b ≡ true → j < y.passed) → (b ≡ false → y.passed ≤ j) → Fine Q (suc j) (if b then pass_by sp (value.MutSlot i) (write_hop N (value.MutSlot i)) (load_at sp h) else write_by j sp (value.MutSlot i) (write_hop N (value.MutSlot i)) (load_at sp h))
+        by true e f = (m, next, spot, quiet j h h.work.acts (load_at sp h).work.labels h.thread.passed w was_passed w.still)
+        by false e f = (m, next, spot, quiet j h h.work.acts (load_at sp h).work.labels (j + 1) w done_so (still_done (f refl)))
 
     -- a mutable reference to an object
-    reference_star : (i : ℕ) (q : MutRef) → value_at h (in_slot i) ≡ Some (value.Mut q) → l ≡ at_slot tn i → m ≡ in_object q.object → LeadsBy j q.word q.object → Fine (suc j) (write_star j h (in_slot i))
+    reference_star : (i : ℕ) (q : MutRef) → value_at h (in_slot i) ≡ Some (value.Mut q) → l ≡ at_slot tn i → m ≡ in_object q.object → LeadsBy j q.word q.object → Fine Q (suc j) (write_star j h (in_slot i))
     reference_star i q stands from is b = star (in_slot i) (value.Mut q) stands by
       where
         h1 : Hand
@@ -241,21 +262,21 @@ module _ (r : Rest) (y : ThreadState) (C : ObjNo → Option Cell) (at : ℕ → 
         spot : server_of q.word ≡ N → At h.work.rest.partition (suc j) (in_cell q.word (Some i)) m
         spot here = subst (At h.work.rest.partition (suc j) (in_cell q.word (Some i))) (sym is) (a_cell q.word (Some i) q.object b.cell (ahead q.word q.object b is here) b.there b.object (j, omega arith, located ∙ ap Some from))
 
-        by : (c : Bool) → (c ≡ true → j < y.passed) → Fine (suc j) (if c then pass_by (in_slot i) (value.Mut q) (write_hop N (value.Mut q)) h1 else write_by j (in_slot i) (value.Mut q) (write_hop N (value.Mut q)) h1)
-        by true e =
+        by : (c : Bool) → (c ≡ true → j < y.passed) → (c ≡ false → y.passed ≤ j) → Fine Q (suc j) (if c then pass_by (in_slot i) (value.Mut q) (write_hop N (value.Mut q)) h1 else write_by j (in_slot i) (value.Mut q) (write_hop N (value.Mut q)) h1)
+        by true e f =
             let here : server_of q.word ≡ N = b.passed (e refl) ∙ sym number in
             let test : (server_of q.word == N) ≡ true = grind (arith, nat_tests, here) in
-            subst (λ t. Fine (suc j) (pass_by (in_slot i) (value.Mut q) (Some (if t then jump.AtCell q.word else jump.NeedMove q.word)) h1)) (sym test)
-            (m, next, spot here, quiet j h (local (value.Mut q) h1).work.acts h1.work.labels h.thread.passed w was_passed)
-        by false e = here_or_not (server_of q.word == N) refl
+            subst (λ t. Fine Q (suc j) (pass_by (in_slot i) (value.Mut q) (Some (if t then jump.AtCell q.word else jump.NeedMove q.word)) h1)) (sym test)
+            (m, next, spot here, quiet j h (local (value.Mut q) h1).work.acts h1.work.labels h.thread.passed w was_passed w.still)
+        by false e f = here_or_not (server_of q.word == N) refl
           where
-            here_or_not : (t : Bool) → (server_of q.word == N) ≡ t → Fine (suc j) (write_by j (in_slot i) (value.Mut q) (Some (if t then jump.AtCell q.word else jump.NeedMove q.word)) h1)
-            here_or_not true f = (m, next, spot (grind (arith, nat_tests, f)), quiet j h (local (value.Mut q) h1).work.acts h1.work.labels (j + 1) w done_so)
-            here_or_not false f = tt
+            here_or_not : (t : Bool) → (server_of q.word == N) ≡ t → Fine Q (suc j) (write_by j (in_slot i) (value.Mut q) (Some (if t then jump.AtCell q.word else jump.NeedMove q.word)) h1)
+            here_or_not true r2 = (m, next, spot (grind (arith, nat_tests, r2)), quiet j h (local (value.Mut q) h1).work.acts h1.work.labels (j + 1) w done_so (still_done (f refl)))
+            here_or_not false r2 = asks j lt (f refl)
 
     -- a box, at a spot where its new word can be put
     box_star : (sp : Spot) (p : BoxPtr) → value_at h sp ≡ Some (value.Own (owned.Box p)) → m ≡ in_object p.object → (b : LeadsBy j p.word p.object)
-        → ((n : NewWord) → Issues h.work b.cell n → Fine (suc j) (ready_at (in_cell n.word None) (put_word sp n (passing (j + 1) (load_at sp h))))) → Fine (suc j) (write_star j h sp)
+        → ((n : NewWord) → Issues h.work b.cell n → y.passed ≤ j → Fine Q (suc j) (ready_at (in_cell n.word None) (put_word sp n (passing (j + 1) (load_at sp h))))) → Fine Q (suc j) (write_star j h sp)
     box_star sp p stands is b puts = star sp (value.Own (owned.Box p)) stands by
       where
         h1 : Hand
@@ -267,35 +288,35 @@ module _ (r : Rest) (y : ThreadState) (C : ObjNo → Option Cell) (at : ℕ → 
         spot : server_of p.word ≡ N → At h.work.rest.partition (suc j) (in_cell p.word None) m
         spot here = subst (At h.work.rest.partition (suc j) (in_cell p.word None)) (sym is) (a_cell p.word None p.object b.cell (ahead p.word p.object b is here) b.there b.object tt)
 
-        by : (c : Bool) → (c ≡ true → j < y.passed) → Fine (suc j) (if c then pass_by sp (value.Own (owned.Box p)) (write_hop N (value.Own (owned.Box p))) h1 else write_by j sp (value.Own (owned.Box p)) (write_hop N (value.Own (owned.Box p))) h1)
-        by true e =
+        by : (c : Bool) → (c ≡ true → j < y.passed) → (c ≡ false → y.passed ≤ j) → Fine Q (suc j) (if c then pass_by sp (value.Own (owned.Box p)) (write_hop N (value.Own (owned.Box p))) h1 else write_by j sp (value.Own (owned.Box p)) (write_hop N (value.Own (owned.Box p))) h1)
+        by true e f =
             let here : server_of p.word ≡ N = b.passed (e refl) ∙ sym number in
             let test : (server_of p.word == N) ≡ true = grind (arith, nat_tests, here) in
-            subst (λ t. Fine (suc j) (pass_by sp (value.Own (owned.Box p)) (Some (if t then jump.NeedTint p.word else jump.NeedMove p.word)) h1)) (sym test)
-            (m, next, spot here, quiet j h h.work.acts h1.work.labels h.thread.passed w was_passed)
-        by false e = here_or_not (server_of p.word == N) refl
+            subst (λ t. Fine Q (suc j) (pass_by sp (value.Own (owned.Box p)) (Some (if t then jump.NeedTint p.word else jump.NeedMove p.word)) h1)) (sym test)
+            (m, next, spot here, quiet j h h.work.acts h1.work.labels h.thread.passed w was_passed w.still)
+        by false e f = here_or_not (server_of p.word == N) refl
           where
-            here_or_not : (t : Bool) → (server_of p.word == N) ≡ t → Fine (suc j) (write_by j sp (value.Own (owned.Box p)) (Some (if t then jump.NeedTint p.word else jump.NeedMove p.word)) h1)
-            here_or_not true f =
-                let n = colour_issued p (passing (j + 1) h1).work b.cell w.sane (ahead p.word p.object b is (grind (arith, nat_tests, f))) room in
-                subst (λ o. Fine (suc j) (box_ready sp o (passing (j + 1) h1))) (sym n.1) (puts n.0 (record { rest = n.2.rest; given = n.2.given }))
-            here_or_not false f = tt
+            here_or_not : (t : Bool) → (server_of p.word == N) ≡ t → Fine Q (suc j) (write_by j sp (value.Own (owned.Box p)) (Some (if t then jump.NeedTint p.word else jump.NeedMove p.word)) h1)
+            here_or_not true r2 =
+                let n = colour_issued p (passing (j + 1) h1).work b.cell (w.sane (route.sane (let le = f refl in omega (arith, lt, le)))) (ahead p.word p.object b is (grind (arith, nat_tests, r2))) room in
+                subst (λ o. Fine Q (suc j) (box_ready sp o (passing (j + 1) h1))) (sym n.1) (puts n.0 (record { rest = n.2.rest; given = n.2.given }) (f refl))
+            here_or_not false r2 = asks j lt (f refl)
 
     -- that stands in a slot
-    box_in_slot : (i : ℕ) (p : BoxPtr) → value_at h (in_slot i) ≡ Some (value.Own (owned.Box p)) → l ≡ at_slot tn i → m ≡ in_object p.object → LeadsBy j p.word p.object → Fine (suc j) (write_star j h (in_slot i))
+    box_in_slot : (i : ℕ) (p : BoxPtr) → value_at h (in_slot i) ≡ Some (value.Own (owned.Box p)) → l ≡ at_slot tn i → m ≡ in_object p.object → LeadsBy j p.word p.object → Fine Q (suc j) (write_star j h (in_slot i))
     box_in_slot i p stands from is b = box_star (in_slot i) p stands is b puts
       where
         within : i < length h.thread.slots
         within = slice_get_within h.thread.slots i (value.Own (owned.Box p)) stands
 
-        puts : (n : NewWord) → Issues h.work b.cell n → Fine (suc j) (ready_at (in_cell n.word None) (put_word (in_slot i) n (passing (j + 1) (load_at (in_slot i) h))))
-        puts n issues =
+        puts : (n : NewWord) → Issues h.work b.cell n → y.passed ≤ j → Fine Q (suc j) (ready_at (in_cell n.word None) (put_word (in_slot i) n (passing (j + 1) (load_at (in_slot i) h))))
+        puts n issues le =
             let new : Value = value.Own (owned.Box (record p { word = n.word })) in
             let h2 : Hand = with_slots (slice_set h.thread.slots i new) (record (passing (j + 1) (load_at (in_slot i) h)) { work = n.work }) in
             let test : nat_lt i (length h.thread.slots) ≡ true = grind (arith, nat_tests, within) in
             let puts_it : put_word (in_slot i) n (passing (j + 1) (load_at (in_slot i) h)) ≡ Some h2 =
             ap (λ o. then_some o (λ v. then_some (with_word n.word v) (λ x. put_at (in_slot i) x (record (passing (j + 1) (load_at (in_slot i) h)) { work = n.work })))) stands ∙ ap (λ t. if t then Some h2 else None) test in
-            subst (λ o. Fine (suc j) (ready_at (in_cell n.word None) o)) (sym puts_it) (
+            subst (λ o. Fine Q (suc j) (ready_at (in_cell n.word None) o)) (sym puts_it) (
               m,
               next,
               subst (At n.work.rest.partition (suc j) (in_cell n.word None)) (sym is) (a_cell n.word None p.object b.cell issues.given.new b.there b.object tt),
@@ -304,18 +325,20 @@ module _ (r : Rest) (y : ThreadState) (C : ObjNo → Option Cell) (at : ℕ → 
                 thread = refl;
                 server = issues.given.server;
                 limit = issues.given.limit;
-                sane = issues.given.sane;
+                sane = λ a. issues.given.sane;
                 long = issues.given.longer;
                 size = length_set h.thread.slots i new;
                 slots = λ k away. set_other h.thread.slots i k new (λ e. away j (omega arith) (located ∙ ap Some from ∙ ap (λ x. Some (at_slot tn x)) (sym e)));
                 cells = λ v c leads away. issues.given.others v c leads (λ e. away (suc j) (omega arith) (next ∙ ap Some is ∙ ap (λ x. Some (in_object x)) (sym b.object ∙ sym e)));
                 passed = done_so;
+                still = still_done le;
+                unmoved = λ more. absurd (omega (arith, le, more));
               }),
             )
 
     -- or in a cell here
     box_in_cell : (word : ℕ) (q : Option ℕ) (o : ObjNo) (c : Cell) (p : BoxPtr) → Leads h.work.rest.partition word c → c.object ≡ o → Behind j q → c.value ≡ owned.Box p → l ≡ in_object o → m ≡ in_object p.object → LeadsBy j p.word p.object
-        → Fine (suc j) (write_star j h (in_cell word q))
+        → Fine Q (suc j) (write_star j h (in_cell word q))
     box_in_cell word q o c p leads object behind boxed from is b = box_star (in_cell word q) p stands is b puts
       where
         stands : value_at h (in_cell word q) ≡ Some (value.Own (owned.Box p))
@@ -325,8 +348,8 @@ module _ (r : Rest) (y : ThreadState) (C : ObjNo → Option Cell) (at : ℕ → 
         other : (c.object ≡ b.cell.object → ⊥)
         other e = route.apart (suc j) j (omega arith) (omega (arith, lt)) m (located ∙ ap Some from ∙ ap (λ x. Some (in_object x)) (sym object ∙ e ∙ b.object) ∙ ap Some (sym is)) next
 
-        puts : (n : NewWord) → Issues h.work b.cell n → Fine (suc j) (ready_at (in_cell n.word None) (put_word (in_cell word q) n (passing (j + 1) (load_at (in_cell word q) h))))
-        puts n issues =
+        puts : (n : NewWord) → Issues h.work b.cell n → y.passed ≤ j → Fine Q (suc j) (ready_at (in_cell n.word None) (put_word (in_cell word q) n (passing (j + 1) (load_at (in_cell word q) h))))
+        puts n issues le =
             let p2 : PartitionState = n.work.rest.partition in
             let h0 : Hand = passing (j + 1) (load_at (in_cell word q) h) in
             let leads2 : Leads p2 word c = issues.given.others word c leads other in
@@ -338,7 +361,7 @@ module _ (r : Rest) (y : ThreadState) (C : ObjNo → Option Cell) (at : ℕ → 
             let puts_it : put_word (in_cell word q) n h0 ≡ Some h2 =
             ap (λ x. then_some x (λ v. then_some (with_word n.word v) (λ u. put_at (in_cell word q) u (record h0 { work = n.work })))) value_there ∙ ap (λ t. if t then Some (note_write q h3) else None) (leads_on p2 word c leads2) ∙ ap Some (noted q h3) in
             let led : Leads p3 n.word b.cell = stored_elsewhere p2 word n.word c b.cell new leads2 issues.given.new (λ e. other (sym e)) in
-            subst (λ x. Fine (suc j) (ready_at (in_cell n.word None) x)) (sym puts_it) (
+            subst (λ x. Fine Q (suc j) (ready_at (in_cell n.word None) x)) (sym puts_it) (
               m,
               next,
               subst (At p3 (suc j) (in_cell n.word None)) (sym is) (a_cell n.word None p.object b.cell led b.there b.object tt),
@@ -347,7 +370,7 @@ module _ (r : Rest) (y : ThreadState) (C : ObjNo → Option Cell) (at : ℕ → 
                 thread = refl;
                 server = issues.given.server;
                 limit = issues.given.limit;
-                sane = stored_sane p2 word c new leads2 issues.given.sane;
+                sane = λ a. stored_sane p2 word c new leads2 issues.given.sane;
                 long = (let a = issues.given.longer in let e = length_set p2.cells (Rattle.global_addr.specs.Words.address_of word) (Rattle.owner_box.specs.Partition.with_value new (Rattle.owner_box.specs.Partition.cell_of p2 word)) in omega (arith, a, e));
                 size = marks_size q h.thread.slots;
                 slots = λ k away. marks_other q h.thread.slots k (λ e. let r2 = behind_is j q k behind e in away r2.0 (let lt2 = r2.1 in omega (arith, lt2)) r2.2);
@@ -355,11 +378,13 @@ module _ (r : Rest) (y : ThreadState) (C : ObjNo → Option Cell) (at : ℕ → 
                     stored_elsewhere p2 word v c e new leads2 (issues.given.others v e lead (λ f. away (suc j) (omega arith) (next ∙ ap Some is ∙ ap (λ x. Some (in_object x)) (sym b.object ∙ sym f))))
                     (λ f. away j (omega arith) (located ∙ ap Some from ∙ ap (λ x. Some (in_object x)) (sym object ∙ sym f)));
                 passed = done_so;
+                still = still_done le;
+                unmoved = λ more. absurd (omega (arith, le, more));
               }),
             )
 
     -- whatever stands there
-    pub hop_star : (sp : Spot) → At h.work.rest.partition j sp l → Fine (suc j) (write_star j h sp)
+    pub hop_star : (sp : Spot) → At h.work.rest.partition j sp l → Fine Q (suc j) (write_star j h sp)
     hop_star sp spot = by l l m refl refl refl sp spot (route.hop j lt l m located next)
       where
         slot_value : (i : ℕ) (v : Value) → l ≡ at_slot tn i → slice_get y.slots i ≡ Some v → value_at h (in_slot i) ≡ Some v
@@ -377,7 +402,7 @@ module _ (r : Rest) (y : ThreadState) (C : ObjNo → Option Cell) (at : ℕ → 
         no_object : {a : ℕ} {o : ObjNo} → at_slot tn a ≡ in_object o → ⊥
         no_object e = absurd (cc e)
 
-        by : (a a2 b : Location) → l ≡ a → l ≡ a2 → m ≡ b → (sp : Spot) → At h.work.rest.partition j sp a → Hop j a2 b → Fine (suc j) (write_star j h sp)
+        by : (a a2 b : Location) → l ≡ a → l ≡ a2 → m ≡ b → (sp : Spot) → At h.work.rest.partition j sp a → Hop j a2 b → Fine Q (suc j) (write_star j h sp)
         by _ _ _ from from2 to _ (a_slot i) (by_slot i2 k e) = let same : i ≡ i2 = same_slot (sym from ∙ from2) in slot_star (in_slot i) k (slot_value i (value.MutSlot k) from (ap (slice_get y.slots) same ∙ e)) to
         by _ _ _ from from2 to _ (a_slot i) (by_reference i2 q e b) = let same : i ≡ i2 = same_slot (sym from ∙ from2) in reference_star i q (slot_value i (value.Mut q) from (ap (slice_get y.slots) same ∙ e)) from to b
         by _ _ _ from from2 to _ (a_slot i) (by_box i2 p e b) = let same : i ≡ i2 = same_slot (sym from ∙ from2) in box_in_slot i p (slot_value i (value.Own (owned.Box p)) from (ap (slice_get y.slots) same ∙ e)) from to b
@@ -391,30 +416,27 @@ module _ (r : Rest) (y : ThreadState) (C : ObjNo → Option Cell) (at : ℕ → 
 
   -- ALL HOPS
 
-  then_fine : (j n : ℕ) (go : Hand → Spot → Prepared) (p : Prepared) → Fine j p → ((h : Hand) (sp : Spot) (l : Location) → at j ≡ Some l → At h.work.rest.partition j sp l → Writing j h → Fine n (go h sp)) → Fine n (and_then go p)
-  then_fine j n go (ready h sp) f on = on h sp f.0 f.1 f.2 f.3
-  then_fine j n go (requested h) f on = tt
-  then_fine j n go nothing f on = absurd f
+  then_fine : (Q : Type 0) (j n : ℕ) (go : Hand → Spot → Prepared) (p : Prepared) → Fine Q j p → ((h : Hand) (sp : Spot) (l : Location) → at j ≡ Some l → At h.work.rest.partition j sp l → Writing j h → Fine Q n (go h sp)) → Fine Q n (and_then go p)
+  then_fine Q j n go (ready h sp) f on = on h sp f.0 f.1 f.2 f.3
+  then_fine Q j n go (requested h) f on = f
+  then_fine Q j n go nothing f on = absurd f
 
-  pub all_hops : (d : ℕ) → Route d → (more j : ℕ) → j + more ≡ d → (h : Hand) (sp : Spot) (l : Location) → at j ≡ Some l → At h.work.rest.partition j sp l → Writing j h → Fine d (write_stars more j h sp)
-  all_hops d route zero j e h sp l located spot w = let same : j ≡ d = omega (arith, e) in subst (λ n. Fine n (ready h sp)) same (l, located, spot, w)
-  all_hops d route (suc more) j e h sp l located spot w =
+  pub all_hops : (Q : Type 0) (d : ℕ) → Route d → ((i : ℕ) → i < d → y.passed ≤ i → Q) → (more j : ℕ) → j + more ≡ d → (h : Hand) (sp : Spot) (l : Location) → at j ≡ Some l → At h.work.rest.partition j sp l → Writing j h → Fine Q d (write_stars more j h sp)
+  all_hops Q d route asks zero j e h sp l located spot w = let same : j ≡ d = omega (arith, e) in subst (λ n. Fine Q n (ready h sp)) same (l, located, spot, w)
+  all_hops Q d route asks (suc more) j e h sp l located spot w =
       let lt : j < d = omega (arith, e) in
       let m = route.leads_there (suc j) (omega (arith, lt)) in
       let one : suc j ≡ j + 1 = omega arith in
-      then_fine (suc j) d (write_stars more (j + 1)) (write_star j h sp) (hop_star d route j lt l m.0 located m.1 h w sp spot)
-      (λ h2 sp2 l2 located2 spot2 w2. subst (λ n. Fine d (write_stars more n h2 sp2)) one (all_hops d route more (suc j) (omega (arith, e)) h2 sp2 l2 located2 spot2 w2))
+      then_fine Q (suc j) d (write_stars more (j + 1)) (write_star j h sp) (hop_star Q d route asks j lt l m.0 located m.1 h w sp spot)
+      (λ h2 sp2 l2 located2 spot2 w2. subst (λ n. Fine Q d (write_stars more n h2 sp2)) one (all_hops Q d route asks more (suc j) (omega (arith, e)) h2 sp2 l2 located2 spot2 w2))
 
 -- THE SAME PLACE FROM ANOTHER HAND
 
 -- with another partition, other slots and temporary values, where the slots on the way and the cells on it are the same
-module _ (r : Rest) (y : ThreadState) (C : ObjNo → Option Cell) (at : ℕ → Option Location) (d : ℕ) (route : Route r y C at d) (q : PartitionState) (vs ts : List Value)
+module _ (r : Rest) (y : ThreadState) (C : ObjNo → Option Cell) (at : ℕ → Option Location) (d : ℕ) (route : Route r y C at d) (r2 : Rest) (number : r2.number ≡ r.number) (vs ts : List Value)
     (slots_same : (m i : ℕ) → i < d → at i ≡ Some (at_slot y.number m) → slice_get vs m ≡ slice_get y.slots m)
-    (cells_same : (i v : ℕ) (c : Cell) → i ≤ d → at i ≡ Some (in_object c.object) → Leads r.partition v c → Leads q v c) (sane_there : Sane q) (roomy : length q.cells + d < 2 ^ 40) where
-  abbrev pub r2 : Rest
-  r2 = record r { partition = q }
-
-  abbrev pub y2 : ThreadState
+    (cells_same : (i v : ℕ) (c : Cell) → i ≤ d → at i ≡ Some (in_object c.object) → Leads r.partition v c → Leads r2.partition v c) (sane_there : y.passed < d → Sane r2.partition) (roomy : length r2.partition.cells + d < 2 ^ 40) where
+  abbrev y2 : ThreadState
   y2 = record y { slots = vs; temps = ts }
 
   leads_again : (i : ℕ) → i < d → (word : ℕ) (o : ObjNo) → at (suc i) ≡ Some (in_object o) → LeadsBy r y C at i word o → LeadsBy r2 y2 C at i word o
@@ -422,8 +444,8 @@ module _ (r : Rest) (y : ThreadState) (C : ObjNo → Option Cell) (at : ℕ → 
     cell = b.cell;
     object = b.object;
     there = b.there;
-    home = λ mine. cells_same (suc i) word b.cell (omega (arith, lt)) (next ∙ ap (λ x. Some (in_object x)) (sym b.object)) (b.home mine);
-    passed = b.passed;
+    home = λ mine. cells_same (suc i) word b.cell (omega (arith, lt)) (next ∙ ap (λ x. Some (in_object x)) (sym b.object)) (b.home (mine ∙ number));
+    passed = λ less. b.passed less ∙ sym number;
   }
 
   hop_again : (i : ℕ) → i < d → (l m : Location) → at i ≡ Some l → at (suc i) ≡ Some m → Hop r y C at i l m → Hop r2 y2 C at i l m

@@ -1,12 +1,11 @@
--- The place that an enabled step of a coherent cluster follows for writing is a route: each pointer on it is a box or a mutable one, and where its word is of the
+-- The place that a thread of a coherent cluster writes is a route: each pointer on it is a box or a mutable one, and where its word is of the
 -- server it leads to its object.
-use Rattle.std.proofs.Common.{◌≡◌, ◌≤◌, ◌<◌, ℕ, suc, ◌+◌, ◌-◌, ◌*◌, ◌^◌, nat_lt, true, List, [], ◌∷◌, length, Option, Some, None, refl, sym, ap, subst, ◌∙◌, arith}
+use Rattle.std.proofs.Common.{◌≡◌, ◌≤◌, ◌<◌, ℕ, suc, ◌+◌, ◌-◌, ◌*◌, ◌^◌, nat_lt, true, false, List, [], ◌∷◌, length, Option, Some, None, refl, sym, ap, subst, ◌∙◌, arith}
 use Rattle.std.specs.Prelude.{slice_get}
 use Rattle.std.specs.List.{AllByRecursion}
 use Rattle.std.proofs.lemmas.Bool.Decides.{nat_tests}
 use Rattle.fr_base.specs.declared.name.ObjNo.{ObjNo}
 use Rattle.fr_base.specs.declared.place.Lval.{Lval}
-use Rattle.fr_base.specs.declared.instruction.Instr.{Instr}
 use Rattle.fr_store.specs.Keys.{Key, slot_k}
 use Rattle.fr_store.specs.Typed.{Exact, KeyTypes, Resolves}
 use Rattle.global_addr.specs.Words.{server_of}
@@ -19,9 +18,7 @@ use Rattle.owner_box.specs.View.{PartitionState}
 use Rattle.thread_state.specs.View.{ThreadState}
 use Rattle.thread_state.specs.declared.value.Value.{Value}
 use Rattle.thread_state.specs.declared.value.Value.TheVariants as value
-use Rattle.thread_state.specs.declared.phase.Phase.TheVariants as phase
-use Rattle.server_model.specs.Servers.{Server, Cluster}
-use Rattle.server_model.specs.Events.{can_step}
+use Rattle.server_model.specs.Servers.{Server, Cluster, server_at}
 use Rattle.server_model.specs.Places.{pointer_of}
 use Rattle.heap_law.specs.Names.{tot, one, other, same_object}
 use Rattle.heap_law.specs.Things.{Location, at_slot, in_cell as in_object, lies, things_at, cell_things, free_things, things_of}
@@ -35,6 +32,8 @@ use Rattle.heap_law.specs.Walking.{path}
 use Rattle.heap_law.specs.Weights.{cells}
 use Rattle.heap_law.specs.Words.{IsStale}
 use Rattle.heap_law.specs.Coherent.{IsSound}
+use Rattle.event_law.specs.Laws.{FewEvents}
+use Rattle.type_law.specs.ClusterTypes.{IsCoherent}
 use Rattle.heap_law.proofs.Passing.{paths_law}
 use Rattle.heap_law.proofs.Sums.{tot-append, server_parts}
 use Rattle.heap_law.proofs.Words.{itself}
@@ -54,8 +53,6 @@ use Rattle.path_law.proofs.Sole.{some_is}
 use Rattle.word_law.proofs.Standing.{lying, cell_found}
 use Rattle.read_law.specs.Reading.{LiesUnder}
 use Rattle.end_law.proofs.Fresh.{writes_are_fresh}
-use Rattle.end_law.proofs.Lying.{written_lie_there}
-use Rattle.result_law.proofs.Known.{Steps, standing, able, paths, goes}
 use Rattle.result_law.proofs.Followed.{hop_from}
 use Rattle.result_law.proofs.Pointing.{Stands, slot_pointer, cell_pointer, its_partition, leads_home}
 use Rattle.result_law.proofs.Mutables.{apart, not_shared, not_shared_slot}
@@ -70,49 +67,42 @@ free_colours limit n i (x ∷ xs) z =
     let test : nat_lt x.1 limit ≡ true = other_none (nat_lt x.1 limit) (omega (arith, z)) in
     (grind (arith, nat_tests, test), free_colours limit n (i + 1) xs (omega (arith, z)))
 
-module _ (k : Cluster) (n t : ℕ) (s : Server) (y : ThreadState) (i : Instr) (z : Steps k n t s y i) where
-  abbrev x : Standing
-  x = standing k n t s y i z
-
+module _ (k : Cluster) (co : IsCoherent k) (few : FewEvents k) (n : ℕ) (s : Server) (here : server_at k.servers n ≡ Some s) where
   abbrev P : PartitionState
   P = s.rest.partition
 
-  pub sane_there : Sane P
-  sane_there =
-      let sound : IsSound k = z.coherent.sound in
-      let fits = its_partition k sound n s z.here in
+  pub sane_at : Sane P
+  sane_at =
+      let sound : IsSound k = co.sound in
+      let fits = its_partition k sound n s here in
       let limit : ℕ = k.options.colours in
       let all : tot (words (λ v. other (nat_lt (Rattle.global_addr.specs.Words.colour_of v) limit))) (things_of k) + tot (next_colours limit) (things_of k) ≡ 0 = sound.words.below_limit in
       let f = next_colours limit in
       let m = s.rest.number in
       let cells_there = things_at (cell_things m P.free) 0 P.cells in
       let free_there = things_at (free_things m) 0 P.free in
-      let none : tot f free_there ≡ 0 = omega (arith, all, (tot-server f k.servers n s s z.here).0, server_parts f s, tot-append f cells_there free_there) in
+      let none : tot f free_there ≡ 0 = omega (arith, all, (tot-server f k.servers n s s here).0, server_parts f s, tot-append f cells_there free_there) in
       record {
-        small = (server_known k sound z.few n s z.here).partition.small;
-        placed = subst (λ q. InPlace q P) (sym fits.0) (in_place s.rest.number s.events s.rest (others k sound n s z.here) (placed_here k sound n s z.here));
+        small = (server_known k sound few n s here).partition.small;
+        placed = subst (λ q. InPlace q P) (sym fits.0) (in_place s.rest.number s.events s.rest (others k sound n s here) (placed_here k sound n s here));
         colours = subst (λ q. AllByRecursion (λ (pair : ℕ × ℕ). pair.1 < q) P.free) (sym fits.1) (free_colours limit m 0 P.free none);
       }
 
-  pub roomy : length P.cells ≤ 2 ^ 36
-  roomy =
+  pub roomy_at : length P.cells ≤ 2 ^ 36
+  roomy_at =
       let f = large_counts (events_of (sight k)) in
-      let none : tot f (things_of k) ≡ 0 = z.coherent.sound.names.counts_bounded in
-      let mine : f (counts_of s.rest.number s.events s.rest) ≡ 0 = omega (arith, none, (tot-server f k.servers n s s z.here).0) in
+      let none : tot f (things_of k) ≡ 0 = co.sound.names.counts_bounded in
+      let mine : f (counts_of s.rest.number s.events s.rest) ≡ 0 = omega (arith, none, (tot-server f k.servers n s s here).0) in
       let next : length P.cells ≤ 16 * events_of (sight k) = at_most (length P.cells) (16 * events_of (sight k)) (omega (arith, mine)) in
-      omega (arith, next, z.few)
-
-  pub awake : (u : ℕ) → y.phase ≡ phase.WaitCell u → ⊥
-  awake u e = let no : can_step (phase.WaitCell u) ≡ true = ap can_step (sym e) ∙ able k n t s y i z in absurd (cc no)
+      omega (arith, next, few)
 
   -- THE ROUTE
 
-  module _ (w : Lval) (writes : written_place (path (sight k) x) ≡ Some w) (short : w.depth ≤ 8) (base : Key) (boxes : ℕ) (type : Exact) (resolves : Resolves (paths k n t s y i z).types.typing.exact true (slot_k y.number w.slot) w.depth base boxes type) (unmarked : IsUnmarked x w.slot) where
-    abbrev c : HasPaths k
-    c = paths k n t s y i z
-
-    abbrev on : GoesOn k x
-    on = goes k n t s y i z
+  module _ (c : HasPaths k) (y : ThreadState) (on : GoesOn k (record { server = s.rest.number; packed = false; thread = y })) (w : Lval) (writes : written_place (path (sight k) (record { server = s.rest.number; packed = false; thread = y })) ≡ Some w) (short : w.depth ≤ 8) (base : Key) (boxes : ℕ) (type : Exact)
+      (resolves : Resolves c.types.typing.exact true (slot_k y.number w.slot) w.depth base boxes type) (unmarked : IsUnmarked (record { server = s.rest.number; packed = false; thread = y }) w.slot) (d : ℕ) (most : d ≤ w.depth)
+      (under : (j : ℕ) → j < d → (l : Location) (v : Value) (p : BoxPtr) → locate (sight k).ground y.number w.slot j ≡ Some l → value_in (sight k).ground l ≡ Some v → pointer_of v ≡ Some p → LiesUnder k p) where
+    abbrev x : Standing
+    x = record { server = s.rest.number; packed = false; thread = y }
 
     abbrev g : Ground
     g = (sight k).ground
@@ -123,25 +113,28 @@ module _ (k : Cluster) (n t : ℕ) (s : Server) (y : ThreadState) (i : Instr) (z
     abbrev E : KeyTypes
     E = c.types.typing.exact
 
-    abbrev pub C : ObjNo → Option Cell
+    abbrev C : ObjNo → Option Cell
     C = cell_of g.cells
 
-    abbrev pub at : ℕ → Option Location
+    abbrev at : ℕ → Option Location
     at = locate g tn w.slot
 
-    leads_so : (d : ℕ) → d ≤ w.depth → (l : Location) × (at d ≡ Some l)
-    leads_so d le =
-        let q = shorter E true (slot_k tn w.slot) (w.depth - d) w.depth d base boxes type (omega (arith, le)) resolves in
-        lead_alike.in_cluster k c x (record { slot = w.slot; depth = d }) true q.base q.boxes q.type on unmarked q.res
+    leads_so : (e : ℕ) → e ≤ d → (l : Location) × (at e ≡ Some l)
+    leads_so e le =
+        let q = shorter E true (slot_k tn w.slot) (w.depth - e) w.depth e base boxes type (omega (arith, le, most)) resolves in
+        lead_alike.in_cluster k c x (record { slot = w.slot; depth = e }) true q.base q.boxes q.type on unmarked q.res
 
-    module _ (j : ℕ) (lt : j < w.depth) (l m : Location) (located : at j ≡ Some l) (next : at (suc j) ≡ Some m) where
+    module _ (j : ℕ) (less : j < d) (l m : Location) (located : at j ≡ Some l) (next : at (suc j) ≡ Some m) where
+      lt : j < w.depth
+      lt = omega (arith, less, most)
+
       fresh : IsStale (sight k) (Some l) → ⊥
       fresh = writes_are_fresh k c x w j l on writes lt located
 
       -- what is passed may be
       passed_value : (v : Value) → value_in g l ≡ Some v → j < y.passed → MayPass (sight k) s.rest.number l v
-      passed_value v stands less =
-          let p : IsPassed (sight k) x w j = z.coherent.sound.walks.have_passed x w j on.among writes less in
+      passed_value v stands before =
+          let p : IsPassed (sight k) x w j = co.sound.walks.have_passed x w j on.among writes before in
           let same_location : p.location ≡ l = some_is (sym (paths_law.locates g tn w.slot j p.location p.hop.path) ∙ located) in
           let same_value : p.value ≡ v = some_is (sym p.hop.stands ∙ ap (value_in g) same_location ∙ stands) in
           subst (MayPass (sight k) s.rest.number l) same_value (subst (λ a. MayPass (sight k) s.rest.number a p.value) same_location p.passes)
@@ -162,15 +155,15 @@ module _ (k : Cluster) (n t : ℕ) (s : Server) (y : ThreadState) (i : Instr) (z
       -- a pointer that stands there
       leads_by : (v : Value) (p : BoxPtr) → value_in g l ≡ Some v → pointer_of v ≡ Some p → Stands k (record { at = Some l; word = p.word; object = p.object }) → (j < y.passed → LiesAt (things_of k) s.rest.number p.object) → LeadsBy s.rest y C at j p.word p.object
       leads_by v p stands pointer stands_so passed =
-          let u : LiesUnder k p = written_lie_there k z.coherent x w j l v p on awake writes lt located stands pointer in
+          let u : LiesUnder k p = under j less l v p located stands pointer in
           let cell : Cell = u.there.cell in
           let q : Pointer = record { at = Some l; word = p.word; object = p.object } in
           record {
             cell = cell;
             object = u.there.object;
             there = ap (cell_of g.cells) (sym u.there.object) ∙ cell_found cell (lies u.server u.address cell) (things_of k) (c.home_of_each cell.object) (lying u.server u.address) u.there.among;
-            home = λ mine. looked P p.word cell (leads_home k z.coherent.sound n s z.here q stands_so fresh cell u.server u.address u.there.among u.there.object mine);
-            passed = λ less. u.leads.server ∙ one_server p u (passed less);
+            home = λ mine. looked P p.word cell (leads_home k co.sound n s here q stands_so fresh cell u.server u.address u.there.among u.there.object mine);
+            passed = λ before. u.leads.server ∙ one_server p u (passed before);
           }
 
       slot_value : (b : ℕ) (v : Value) → l ≡ at_slot tn b → value_in g l ≡ Some v → slice_get y.slots b ≡ Some v
@@ -193,13 +186,13 @@ module _ (k : Cluster) (n t : ℕ) (s : Server) (y : ThreadState) (i : Instr) (z
           subst (It (at_slot tn b)) (sym (to_object (value.Own (owned.Box p)) p.object leads_on refl))
           (by_box b p (slot_value b (value.Own (owned.Box p)) e stands)
           (leads_by (value.Own (owned.Box p)) p stands refl (slot_pointer k x b (value.Own (owned.Box p)) _ on.among (slot_value b (value.Own (owned.Box p)) e stands) (ap (λ a. Some (record { at = Some a; word = p.word; object = p.object })) (sym e)))
-          (λ less. box_passed p (passed_value (value.Own (owned.Box p)) stands less))))
+          (λ before. box_passed p (passed_value (value.Own (owned.Box p)) stands before))))
       slot_hop b (value.Mut q) e stands leads_on =
           let p : BoxPtr = record { word = q.word; object = q.object } in
           subst (It (at_slot tn b)) (sym (to_object (value.Mut q) q.object leads_on refl))
           (by_reference b q (slot_value b (value.Mut q) e stands)
           (leads_by (value.Mut q) p stands refl (slot_pointer k x b (value.Mut q) _ on.among (slot_value b (value.Mut q) e stands) (ap (λ a. Some (record { at = Some a; word = q.word; object = q.object })) (sym e)))
-          (λ less. reference_passed q (passed_value (value.Mut q) stands less))))
+          (λ before. reference_passed q (passed_value (value.Mut q) stands before))))
       slot_hop b (value.MutSlot a) e stands leads_on = subst (It (at_slot tn b)) (some_is leads_on) (by_slot b a (slot_value b (value.MutSlot a) e stands))
       slot_hop b (value.SharedSlot a) e stands leads_on = absurd (not_shared_slot k c x on w.slot w.depth base boxes type resolves j lt b a (located ∙ ap Some e) (ap (value_in g) (sym e) ∙ stands))
       slot_hop b (value.Shared q) e stands leads_on = absurd (not_shared k c x on w.slot w.depth base boxes type resolves j lt b q (located ∙ ap Some e) (ap (value_in g) (sym e) ∙ stands))
@@ -218,7 +211,7 @@ module _ (k : Cluster) (n t : ℕ) (s : Server) (y : ThreadState) (i : Instr) (z
           (by_cell o d p has is
           (leads_by (value.Own (owned.Box p)) p stands refl
           (subst (λ a. Stands k (record { at = Some a; word = p.word; object = p.object })) (sym e) (cell_pointer k o d _ has (ap (λ v. Rattle.result_law.proofs.Pointing.pointer_at (in_object o) (value.Own v)) is)))
-          (λ less. box_passed p (passed_value (value.Own (owned.Box p)) stands less))))
+          (λ before. box_passed p (passed_value (value.Own (owned.Box p)) stands before))))
       cell_hop o d e has owned.Nothing is leads_on = absurd (cc leads_on)
       cell_hop o d e has owned.Unit is leads_on = absurd (cc leads_on)
       cell_hop o d e has (owned.Int a) is leads_on = absurd (cc leads_on)
@@ -238,11 +231,11 @@ module _ (k : Cluster) (n t : ℕ) (s : Server) (y : ThreadState) (i : Instr) (z
           by _ e (a_slot b) v stands leads_on = subst (λ a. It a m) (sym e) (slot_hop b v e stands leads_on)
           by _ e (an_object o u h) v stands leads_on = subst (λ a. It a m) (sym e) (in_cell_there o (C o) v refl e (sym (ap (value_in g) e) ∙ stands) leads_on)
 
-    pub its_route : Route s.rest y C at w.depth
-    its_route = record {
+    pub road : Route s.rest y C at d
+    road = record {
       leads_there = leads_so;
       hop = its_hop;
-      apart = λ j e less le l first second. apart k c x on w.slot w.depth base boxes type resolves e j less le l first second;
-      sane = sane_there;
-      room = (let r = roomy in omega (arith, r, short));
+      apart = λ j e less le l first second. apart k c x on w.slot w.depth base boxes type resolves e j less (omega (arith, le, most)) l first second;
+      sane = λ less. sane_at;
+      room = (let r = roomy_at in omega (arith, r, short, most));
     }

@@ -43,7 +43,7 @@ use Rattle.result_law.proofs.Known.{Steps, hand, standing, paths, goes, types, n
 use Rattle.result_law.proofs.Found.{Stood, slot_stands, cell_stands}
 use Rattle.result_law.proofs.Readers.{to_entry}
 use Rattle.write_law.proofs.Follows.{WritesPlace}
-use Rattle.write_law.proofs.Routes.{C, at}
+use Rattle.write_law.proofs.StepRoutes.{C, at}
 use Rattle.write_law.proofs.Writes.{Light, owned_value, light_form, owned_part, kept_owned, under_temps, kept, end_is, replaces, moves_out, goes_so}
 
 -- EACH OF THEM

@@ -1,6 +1,7 @@
 -- Assignments and moves through stars have results: each hop is ready or its object is asked for, and what stands at the end takes a value.
 use Rattle.std.proofs.Common.{◌≡◌, ◌≤◌, ◌<◌, ℕ, suc, nat_lt, true, false, if◌then◌else◌, List, length, Option, Some, None, option_map, IsSome, refl, sym, ap, subst, ◌∙◌, arith}
 use Rattle.std.specs.Prelude.{slice_get, slice_set}
+use Rattle.std.specs.Bool.{⊤}
 use Rattle.std.proofs.lemmas.Option.{slice_get_within}
 use Rattle.std.proofs.lemmas.Bool.Decides.{nat_tests}
 use Rattle.fr_base.specs.declared.label.Label.{Label}
@@ -46,7 +47,7 @@ use Rattle.result_law.proofs.Found.{Stood, stands_so}
 use Rattle.result_law.proofs.Mutables.{end_whole}
 use Rattle.write_law.proofs.Memory.{leads_on, looks}
 use Rattle.write_law.proofs.Route.{Hop, by_slot, by_reference, by_box, by_cell, Route, Writing, begins, At, a_slot, a_cell, Fine, all_hops}
-use Rattle.write_law.proofs.Routes.{C, at, sane_there, its_route}
+use Rattle.write_law.proofs.StepRoutes.{C, at, its_route}
 
 -- WHAT STANDS AT THE END
 
@@ -208,8 +209,8 @@ module _ (k : Cluster) (n t : ℕ) (s : Server) (y : ThreadState) (i : Instr) (z
     abbrev OnWay : Hand → Type 0
     OnWay h = Writing s.rest y Cells leads w.depth h
 
-    fine : Fine s.rest y Cells leads w.depth (write_stars w.depth 0 h0 (in_slot w.slot))
-    fine = all_hops s.rest y Cells leads w.depth route w.depth 0 (omega arith) h0 (in_slot w.slot) (at_slot tn w.slot) refl (a_slot w.slot) (begins s.rest y Cells leads h0 refl refl (sane_there k n t s y i z))
+    fine : Fine s.rest y Cells leads ⊤ w.depth (write_stars w.depth 0 h0 (in_slot w.slot))
+    fine = all_hops s.rest y Cells leads ⊤ w.depth route (λ j less le. tt) w.depth 0 (omega arith) h0 (in_slot w.slot) (at_slot tn w.slot) refl (a_slot w.slot) (begins s.rest y Cells leads h0 refl refl)
 
     pub kept : (h : Hand) → OnWay h → IsKept h
     kept h a = record { walk = ap (λ (q : ThreadState). q.walk) a.thread; cache = ap (λ (q : Rest). q.cache) a.rest }
@@ -279,7 +280,7 @@ module _ (k : Cluster) (n t : ℕ) (s : Server) (y : ThreadState) (i : Instr) (z
     pub goes_so : ((h : Hand) (sp : Spot) (l : Location) → leads w.depth ≡ Some l → At s.rest y Cells leads h.work.rest.partition w.depth sp l → OnWay h → IsSome (committed (commit servers i sp h))) → IsSome (prepared servers i (write_stars w.depth 0 h0 (in_slot w.slot)))
     goes_so go = by (write_stars w.depth 0 h0 (in_slot w.slot)) fine
       where
-        by : (p : Prepared) → Fine s.rest y Cells leads w.depth p → IsSome (prepared servers i p)
+        by : (p : Prepared) → Fine s.rest y Cells leads ⊤ w.depth p → IsSome (prepared servers i p)
         by (ready h sp) f = go h sp f.0 f.1 f.2 f.3
         by (requested h) f = refl
         by nothing f = absurd f

@@ -2,6 +2,7 @@
 
 ghost use Rattle.event_law.specs.Kinds.{step_assign, step_discard, step_drop_slot, step_read};
 ghost use Rattle.result_law.specs.Results.{Anyhow, StepsHaveResults};
+ghost use Rattle.write_law.specs.Deliveries.{MovedHaveResults};
 
 /// In a coherent cluster, where fewer than 2^31 - 1 events were done, each enabled read of a place has a result, copied or moved out, and so has each enabled
 /// assignment, with however many stars. What lies ahead on a place that is written is as it was, whatever words the pointers get that are passed: no two counts of
@@ -16,4 +17,10 @@ pub fn steps_that_write()
 pub fn steps_that_end()
     ensures discards { StepsHaveResults step_discard Anyhow }
     ensures drops { StepsHaveResults step_drop_slot Anyhow }
+{}
+
+/// So has each delivery of an object that comes, whatever hops of a write its thread has passed: each of these leads to its object here, as its word does, so the
+/// pointer that the thread waits at is found behind them.
+pub fn moved_arrive()
+    ensures { MovedHaveResults }
 {}

@@ -4,4 +4,4 @@
 
 mod laws;
 
-pub use laws::{steps_that_end, steps_that_write};
+pub use laws::{moved_arrive, steps_that_end, steps_that_write};

@@ -1,0 +1,48 @@
+-- The place that an enabled step of a coherent cluster follows for writing is a route from its hand.
+use Rattle.std.proofs.Common.{◌≡◌, ◌≤◌, ℕ, ◌^◌, true, length, Option, Some, sym, ap, ◌∙◌, arith}
+use Rattle.fr_base.specs.declared.name.ObjNo.{ObjNo}
+use Rattle.fr_base.specs.declared.place.Lval.{Lval}
+use Rattle.fr_base.specs.declared.instruction.Instr.{Instr}
+use Rattle.fr_store.specs.Keys.{Key, slot_k}
+use Rattle.fr_store.specs.Typed.{Exact, Resolves}
+use Rattle.heap_partition.specs.declared.value.Cell.{Cell}
+use Rattle.thread_state.specs.View.{ThreadState}
+use Rattle.thread_state.specs.declared.phase.Phase.TheVariants as phase
+use Rattle.server_model.specs.Servers.{Server, Cluster}
+use Rattle.server_model.specs.Events.{can_step}
+use Rattle.heap_law.specs.Things.{Location}
+use Rattle.heap_law.specs.Follow.{Standing, cell_of, locate}
+use Rattle.heap_law.specs.Paths.{written_place}
+use Rattle.heap_law.specs.Sight.{sight}
+use Rattle.heap_law.specs.Walking.{path}
+use Rattle.path_law.specs.HeapStore.{IsUnmarked}
+use Rattle.end_law.proofs.Lying.{written_lie_there}
+use Rattle.result_law.proofs.Known.{Steps, standing, able, paths, goes}
+use Rattle.write_law.proofs.Memory.{Sane}
+use Rattle.write_law.proofs.Route.{Route}
+use Rattle.write_law.proofs.Routes.{sane_at, roomy_at, road}
+
+module _ (k : Cluster) (n t : ℕ) (s : Server) (y : ThreadState) (i : Instr) (z : Steps k n t s y i) where
+  abbrev x : Standing
+  x = standing k n t s y i z
+
+  pub sane_there : Sane s.rest.partition
+  sane_there = sane_at k z.coherent z.few n s z.here
+
+  pub roomy : length s.rest.partition.cells ≤ 2 ^ 36
+  roomy = roomy_at k z.coherent z.few n s z.here
+
+  pub awake : (u : ℕ) → y.phase ≡ phase.WaitCell u → ⊥
+  awake u e = let no : can_step (phase.WaitCell u) ≡ true = ap can_step (sym e) ∙ able k n t s y i z in absurd (cc no)
+
+  module _ (w : Lval) (writes : written_place (path (sight k) x) ≡ Some w) (short : w.depth ≤ 8) (base : Key) (boxes : ℕ) (type : Exact) (resolves : Resolves (paths k n t s y i z).types.typing.exact true (slot_k y.number w.slot) w.depth base boxes type) (unmarked : IsUnmarked x w.slot) where
+    abbrev pub C : ObjNo → Option Cell
+    C = cell_of (sight k).ground.cells
+
+    abbrev pub at : ℕ → Option Location
+    at = locate (sight k).ground y.number w.slot
+
+    pub its_route : Route s.rest y C at w.depth
+    its_route =
+        road k z.coherent z.few n s z.here (paths k n t s y i z) y (goes k n t s y i z) w writes short base boxes type resolves unmarked w.depth (omega arith)
+        (λ j lt l v p located stands pointer. written_lie_there k z.coherent x w j l v p (goes k n t s y i z) awake writes lt located stands pointer)
