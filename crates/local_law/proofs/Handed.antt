@@ -1,5 +1,5 @@
 -- A weight of threads that each thread of a server keeps at nothing is nothing over the cluster, once the messages are handed over.
-use Rattle.std.proofs.Common.{◌≡◌, ℕ, ◌+◌, true, false, List, [], ◌∷◌, Some, refl, sym, subst, arith}
+use Rattle.std.proofs.Common.{◌≡◌, ℕ, ◌+◌, true, false, List, [], ◌∷◌, Some, refl, sym, subst, append-nil, arith}
 use Rattle.std.specs.List.{AllByRecursion}
 use Rattle.fr_base.specs.declared.instruction.Instr.{Instr}
 use Rattle.thread_state.specs.View.{ThreadState}
@@ -29,13 +29,13 @@ use Rattle.local_law.proofs.Mail.{Mailed}
 use Rattle.local_law.proofs.Threads.{Parcel, Control, Held, doing}
 
 -- what each of a list has, by a sum over its things
-all_none : (f : Thing → ℕ) {X : Type 0} (g : ℕ → X → List Thing) (P : X → Type 0) → ((i : ℕ) (x : X) → tot f (g i x) ≡ 0 → P x) → (i : ℕ) (xs : List X) → tot f (things_at g i xs) ≡ 0 → AllByRecursion P xs
+pub all_none : (f : Thing → ℕ) {X : Type 0} (g : ℕ → X → List Thing) (P : X → Type 0) → ((i : ℕ) (x : X) → tot f (g i x) ≡ 0 → P x) → (i : ℕ) (xs : List X) → tot f (things_at g i xs) ≡ 0 → AllByRecursion P xs
 all_none f g P go i [] z = tt
 all_none f g P go i (x ∷ xs) z =
     let a = tot-append f (g i x) (things_at g (i + 1) xs) in
     (go i x (omega (arith, z, a)), all_none f g P go (i + 1) xs (omega (arith, z, a)))
 
-none_all : (f : Thing → ℕ) {X : Type 0} (g : ℕ → X → List Thing) (P : X → Type 0) → ((i : ℕ) (x : X) → P x → tot f (g i x) ≡ 0) → (i : ℕ) (xs : List X) → AllByRecursion P xs → tot f (things_at g i xs) ≡ 0
+pub none_all : (f : Thing → ℕ) {X : Type 0} (g : ℕ → X → List Thing) (P : X → Type 0) → ((i : ℕ) (x : X) → P x → tot f (g i x) ≡ 0) → (i : ℕ) (xs : List X) → AllByRecursion P xs → tot f (things_at g i xs) ≡ 0
 none_all f g P go i [] a = refl
 none_all f g P go i (x ∷ xs) a = omega (arith, go i x a.0, none_all f g P go (i + 1) xs a.1, tot-append f (g i x) (things_at g (i + 1) xs))
 
@@ -92,7 +92,7 @@ module _ (f : Standing → ℕ) where
   parcel_to n (message.Joined u v t) z = refl
   parcel_to n (message.Finished u v) z = refl
 
-  from_server : (s : Server) → tot w (server_things s) ≡ 0 → Held (Stood s.rest.number) InParcel s.rest.number s
+  from_server : (s : Server) → tot w (server_things s) ≡ 0 → Held (Stood s.rest.number) InParcel s.rest.number s.rest.outbox s
   from_server s z =
       let n = s.rest.number in
       let parts = seen_of w n (unseen n) unnoted s refl in record {
@@ -101,13 +101,15 @@ module _ (f : Standing → ℕ) where
           numbered = refl;
           waiting = all_none w (waiting_things n) (Parcel InParcel n) (λ i m y. parcel_from n m y) 0 s.rest.inbox (omega (arith, z, parts));
           leaving = all_none w leaving_things (λ (x : Sent). Parcel InParcel x.target x.message) (λ i x y. parcel_from x.target x.message y) 0 s.rest.outbox (omega (arith, z, parts));
+          more = [];
+          appended = sym (append-nil s.rest.outbox);
         };
       }
 
-  to_server : (n : ℕ) (s : Server) → Held (Stood n) InParcel n s → tot w (server_things s) ≡ 0
-  to_server n s held =
+  to_server : (n : ℕ) (old : List Sent) (s : Server) → Held (Stood n) InParcel n old s → tot w (server_things s) ≡ 0
+  to_server n old s held =
       let m = s.rest.number in
-      let mail : Mailed (Parcel InParcel) n s.rest = held.mail in
+      let mail : Mailed (Parcel InParcel) n old s.rest = held.mail in
       let threads : AllByRecursion (Stood m) s.threads = subst (λ i. AllByRecursion (Stood i) s.threads) (sym mail.numbered) held.standing in
       let waiting : AllByRecursion (Parcel InParcel m) s.rest.inbox = subst (λ i. AllByRecursion (Parcel InParcel i) s.rest.inbox) (sym mail.numbered) mail.waiting in
       omega (
@@ -135,10 +137,10 @@ module _ (f : List Instr → Standing → ℕ) (keeps : ThreadsKeep f) where
       let all : tot g (things_of k) ≡ 0 = omega (arith, sum_standing (f k.code) (things_of k), keeps.before k sound) in
       then_gives (λ (d : Cluster × EntryView). Weightless d.0) (server_at k.servers e.server) _ (λ s here.
       let before : tot g (server_things s) ≡ 0 = omega (arith, all, (tot-server g k.servers e.server s s here).0) in
-      over_gives (λ (r : Server × EntryView). Held (Stood (f k.code) s.rest.number) (InParcel (f k.code)) s.rest.number r.0) (λ (d : Cluster × EntryView). Weightless d.0) (done_at k e.what s) _
-      (test_gives (λ (r : Server × EntryView). Held (Stood (f k.code) s.rest.number) (InParcel (f k.code)) s.rest.number r.0) (enabled k.options s e.what) _ (λ on.
+      over_gives (λ (r : Server × EntryView). Held (Stood (f k.code) s.rest.number) (InParcel (f k.code)) s.rest.number s.rest.outbox r.0) (λ (d : Cluster × EntryView). Weightless d.0) (done_at k e.what s) _
+      (test_gives (λ (r : Server × EntryView). Held (Stood (f k.code) s.rest.number) (InParcel (f k.code)) s.rest.number s.rest.outbox r.0) (enabled k.options s e.what) _ (λ on.
       doing k.code k.options s (Stood (f k.code) s.rest.number) (InParcel (f k.code)) (keeps.control k e.server s sound few here) (from_server (f k.code) s before) e.what on))
-      (λ r held. omega (arith, all, (tot-server g k.servers e.server s r.0 here).0, (tot-server g k.servers e.server s r.0 here).1, to_server (f k.code) s.rest.number r.0 held)))
+      (λ r held. omega (arith, all, (tot-server g k.servers e.server s r.0 here).0, (tot-server g k.servers e.server s r.0 here).1, to_server (f k.code) s.rest.number s.rest.outbox r.0 held)))
 
   pub threads_keep : EachEventHandedOver (λ (c : Cluster). tot (f c.code) (threads_in (things_of c)) ≡ 0)
   threads_keep k e sound few =

@@ -5,3 +5,5 @@ pub mod Mail
 pub mod Threads
 pub mod Handed
 pub mod Sentences
+pub mod Messages
+pub mod Routes

@@ -1,5 +1,5 @@
 -- What each message of an event says by itself, whatever its server has.
-use Rattle.std.proofs.Common.{◌≡◌, ◌⊎◌, inl, inr, ℕ, zero, suc, ◌+◌, ◌-◌, ◌==◌, Bool, true, false, if◌then◌else◌, List, [], ◌∷◌, ◌++◌, Option, Some, None, refl, sym, ap, subst, ◌∙◌}
+use Rattle.std.proofs.Common.{◌≡◌, ◌⊎◌, inl, inr, ℕ, zero, suc, ◌+◌, ◌-◌, ◌==◌, Bool, true, false, if◌then◌else◌, List, [], ◌∷◌, ◌++◌, Option, Some, None, refl, sym, ap, subst, ◌∙◌, append_assoc}
 use Rattle.std.specs.Prelude.{slice_get, option_map}
 use Rattle.std.specs.List.{AllByRecursion}
 use Rattle.fr_base.specs.Lists.{is_in}
@@ -54,22 +54,36 @@ use Rattle.local_law.proofs.Small.{Of, Places, Small, Passes}
 use Rattle.local_law.proofs.Plainly.{Settles, Acts, EndsStep, steps}
 use Rattle.local_law.proofs.Goes.{puts_by, Any, AnyWord}
 
--- the messages that wait and that leave each are as they should be, at the server that they go to
-pub record Mail (M : ℕ → Message → Type 0) (n : ℕ) (number : ℕ) (inbox : List Message) (outbox : List Sent) : Type 0 where
+-- the messages that wait and that leave each are as they should be, at the server that they go to, and those that leave come behind older ones
+pub record Mail (M : ℕ → Message → Type 0) (n : ℕ) (old : List Sent) (number : ℕ) (inbox : List Message) (outbox : List Sent) : Type 0 where
   pub numbered : number ≡ n
   pub waiting : AllByRecursion (M n) inbox
   pub leaving : AllByRecursion (λ (x : Sent). M x.target x.message) outbox
+  pub more : List Sent
+  pub appended : outbox ≡ old ++ more
 
-abbrev pub Mailed : (ℕ → Message → Type 0) → ℕ → Rest → Type 0
-Mailed M n r = Mail M n r.number r.inbox r.outbox
+abbrev pub Mailed : (ℕ → Message → Type 0) → ℕ → List Sent → Rest → Type 0
+Mailed M n old r = Mail M n old r.number r.inbox r.outbox
 
 -- one message more
-pub mail_sent : (M : ℕ → Message → Type 0) (n : ℕ) (r : Rest) (t : ℕ) (m : Message) → M t m → Mailed M n r → Mailed M n (sent_from r t m)
-mail_sent M n r t m a g = by (t == r.number) refl
+pub mail_sent : (M : ℕ → Message → Type 0) (n : ℕ) (old : List Sent) (r : Rest) (t : ℕ) (m : Message) → M t m → Mailed M n old r → Mailed M n old (sent_from r t m)
+mail_sent M n old r t m a g = by (t == r.number) refl
   where
-    by : (b : Bool) → (t == r.number) ≡ b → Mailed M n (if b then record r { inbox = r.inbox ++ m ∷ [] } else record r { outbox = r.outbox ++ record { target = t; message = m } ∷ [] })
-    by true e = record { numbered = g.numbered; waiting = all_append (M n) r.inbox (m ∷ []) g.waiting (subst (λ x. M x m) (same_number t r.number e ∙ g.numbered) a, tt); leaving = g.leaving }
-    by false e = record { numbered = g.numbered; waiting = g.waiting; leaving = all_append (λ (x : Sent). M x.target x.message) r.outbox (record { target = t; message = m } ∷ []) g.leaving (a, tt) }
+    by : (b : Bool) → (t == r.number) ≡ b → Mailed M n old (if b then record r { inbox = r.inbox ++ m ∷ [] } else record r { outbox = r.outbox ++ record { target = t; message = m } ∷ [] })
+    by true e = record {
+      numbered = g.numbered;
+      waiting = all_append (M n) r.inbox (m ∷ []) g.waiting (subst (λ x. M x m) (same_number t r.number e ∙ g.numbered) a, tt);
+      leaving = g.leaving;
+      more = g.more;
+      appended = g.appended;
+    }
+    by false e = record {
+      numbered = g.numbered;
+      waiting = g.waiting;
+      leaving = all_append (λ (x : Sent). M x.target x.message) r.outbox (record { target = t; message = m } ∷ []) g.leaving (a, tt);
+      more = g.more ++ record { target = t; message = m } ∷ [];
+      appended = ap (λ l. l ++ record { target = t; message = m } ∷ []) g.appended ∙ append_assoc old g.more (record { target = t; message = m } ∷ []);
+    }
 
 -- what is said at server n in answer to messages, and where something is let go, is as it should be
 pub record Replies (M : ℕ → Message → Type 0) : Type 0 where
@@ -103,12 +117,12 @@ StartsAt i p = ⊥
 abbrev pub Begins : (ℕ → Message → Type 0) → ℕ → Rest → Instr → Type 0
 Begins M servers r0 i = (pc : ℕ) (vs : List Value) (r : Rest) → StartsAt i pc → r.number ≡ r0.number → (r.started ≡ r0.started) ⊎ (r.started ≡ r0.started + 1) → M (server_for servers r) (message.Start (new_thread (next_thread r) pc vs))
 
-module _ (M : ℕ → Message → Type 0) (n : ℕ) (k : Replies M) where
+module _ (M : ℕ → Message → Type 0) (n : ℕ) (old : List Sent) (k : Replies M) where
   abbrev pub Well : Rest → Type 0
-  Well = Mailed M n
+  Well = Mailed M n old
 
   says : (t : ℕ) (m : Message) (r : Rest) → M t m → Well r → Well (sent_from r t m)
-  says t m r a g = mail_sent M n r t m a g
+  says t m r a g = mail_sent M n old r t m a g
 
   pub gives_up : (v : Owned) (w : Work) → Well w.rest → Well (give_up v w).rest
   gives_up (owned.Box p) w g = says (server_of p.word) (message.Drop p.word p.object) w.rest (k.drop p.word p.object) g
@@ -140,7 +154,7 @@ module _ (M : ℕ → Message → Type 0) (n : ℕ) (k : Replies M) where
   -- OBJECTS
 
   abbrev told : Told
-  told p t g pc m i o ms ts c = Mail M n m i o
+  told p t g pc m i o ms ts c = Mail M n old m i o
 
   pointer_well : (s : Spot) (w : ℕ) (h : Hand) → WellHand h → Gives WellHand (set_pointer s w h)
   pointer_well s w h a = pointer_keeps told s w h a
@@ -279,7 +293,7 @@ module _ (M : ℕ → Message → Type 0) (n : ℕ) (k : Replies M) where
 
 -- the messages so far, and what names its thread and its server, with how many threads that has started
 pub record Talk (M : ℕ → Message → Type 0) (r0 : Rest) (y : ThreadState) (number : ℕ) (inbox : List Message) (outbox : List Sent) (started thread home : ℕ) : Type 0 where
-  pub mail : Mail M r0.number number inbox outbox
+  pub mail : Mail M r0.number r0.outbox number inbox outbox
   pub begun : started ≡ r0.started
   pub named : thread ≡ y.number
   pub at_home : home ≡ y.home
@@ -289,13 +303,13 @@ module _ (M : ℕ → Message → Type 0) (servers : ℕ) (i : Instr) (r0 : Rest
   F r t = Talk M r0 y r.number r.inbox r.outbox r.started t.number t.home
 
   abbrev E : Rest → ThreadState → Type 0
-  E r t = Mailed M r0.number r
+  E r t = Mailed M r0.number r0.outbox r
 
   number_here : (r : Rest) (t : ThreadState) → F r t → r.number ≡ r0.number
   number_here r t g = let mail = g.mail in mail.numbered
 
-  says_one : (t : ℕ) (m : Message) (h : Hand) → M t m → Of F h → Mailed M r0.number (sent_from h.work.rest t m)
-  says_one t m h a g = mail_sent M r0.number h.work.rest t m a g.mail
+  says_one : (t : ℕ) (m : Message) (h : Hand) → M t m → Of F h → Mailed M r0.number r0.outbox (sent_from h.work.rest t m)
+  says_one t m h a g = mail_sent M r0.number r0.outbox h.work.rest t m a g.mail
 
   started_same : (r : Rest) (t : ℕ) (m : Message) → (sent_from r t m).started ≡ r.started
   started_same r t m = by (t == r.number)
@@ -314,7 +328,7 @@ module _ (M : ℕ → Message → Type 0) (servers : ℕ) (i : Instr) (r0 : Rest
   }
 
   -- a request names its thread and its server
-  asks_for : (f : ℕ → ℕ → Message) (t : ℕ) (h : Hand) → M t (f r0.number y.number) → Of F h → Mailed M r0.number (sent_from h.work.rest t (f h.work.rest.number h.thread.number))
+  asks_for : (f : ℕ → ℕ → Message) (t : ℕ) (h : Hand) → M t (f r0.number y.number) → Of F h → Mailed M r0.number r0.outbox (sent_from h.work.rest t (f h.work.rest.number h.thread.number))
   asks_for f t h a g =
       let b : M t (f h.work.rest.number y.number) = subst (λ x. M t (f x y.number)) (sym (number_here h.work.rest h.thread g)) a in
       says_one t (f h.work.rest.number h.thread.number) h (subst (λ x. M t (f h.work.rest.number x)) (sym g.named) b) g
@@ -335,8 +349,8 @@ module _ (M : ℕ → Message → Type 0) (servers : ℕ) (i : Instr) (r0 : Rest
   passes m h g = g
 
   -- a thread starts
-  starts : (pc : ℕ) (vs : List Value) (w : Work) → StartsAt i pc → (w.rest.started ≡ r0.started) ⊎ (w.rest.started ≡ r0.started + 1) → Mailed M r0.number w.rest → Mailed M r0.number (start_thread servers pc vs w).rest
-  starts pc vs w at b g = mail_sent M r0.number (record w.rest { started = w.rest.started + 1 }) (server_for servers w.rest) (message.Start (new_thread (next_thread w.rest) pc vs)) (begins pc vs w.rest at g.numbered b) g
+  starts : (pc : ℕ) (vs : List Value) (w : Work) → StartsAt i pc → (w.rest.started ≡ r0.started) ⊎ (w.rest.started ≡ r0.started + 1) → Mailed M r0.number r0.outbox w.rest → Mailed M r0.number r0.outbox (start_thread servers pc vs w).rest
+  starts pc vs w at b g = mail_sent M r0.number r0.outbox (record w.rest { started = w.rest.started + 1 }) (server_for servers w.rest) (message.Start (new_thread (next_thread w.rest) pc vs)) (begins pc vs w.rest at g.numbered b) g
 
   began : (pc : ℕ) (vs : List Value) (w : Work) → (start_thread servers pc vs w).rest.started ≡ w.rest.started + 1
   began pc vs w = started_same (record w.rest { started = w.rest.started + 1 }) (server_for servers w.rest) (message.Start (new_thread (next_thread w.rest) pc vs))

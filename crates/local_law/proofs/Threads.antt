@@ -17,7 +17,7 @@ use Rattle.migration.specs.Packing.{unpin_all, used_words, packed, pack_thread}
 use Rattle.journal.specs.View.{EntryView}
 use Rattle.server_model.specs.declared.event.What.{What}
 use Rattle.server_model.specs.declared.event.What.TheVariants.{Step, Deliver, Evict, Migrate}
-use Rattle.server_model.specs.Servers.{Server}
+use Rattle.server_model.specs.Servers.{Sent, Server}
 use Rattle.server_model.specs.Work.{Work, Hand, Site, then_some, thread_in, set_thread, without_thread, with_thread, put_back, at_thread, beside_threads, with_tasks}
 use Rattle.server_model.specs.Objects.{deliver_fetch, deliver_fetched, deliver_move, deliver_moved, deliver_drop}
 use Rattle.server_model.specs.Sharing.{deliver_lock, deliver_granted, deliver_unlock, deliver_dup, deliver_dupped}
@@ -71,7 +71,7 @@ drop_all P zero xs a = a
 drop_all P (suc n) [] a = tt
 drop_all P (suc n) (x ∷ xs) a = drop_all P n xs a.1
 
-remove_all : {X : Type 0} (P : X → Type 0) (xs : List X) (i : ℕ) → AllByRecursion P xs → AllByRecursion P (remove xs i)
+pub remove_all : {X : Type 0} (P : X → Type 0) (xs : List X) (i : ℕ) → AllByRecursion P xs → AllByRecursion P (remove xs i)
 remove_all P xs i a = Rattle.event_law.proofs.Known.all_append P _ _ (Rattle.event_law.proofs.Known.all_take P i xs a) (drop_all P (suc i) xs a)
 
 -- a parcel is as it should be
@@ -88,9 +88,9 @@ pub record Control (code : List Instr) (s : Server) (P : ThreadState → Type 0)
   pub leaves : (t n : ℕ) (y : ThreadState) → thread_in s.threads t ≡ Some y → P y → is_ready y.phase ≡ true → Q n (packed (record y { moved_since_step = true }))
 
 -- the threads of a server and the parcels there
-pub record Held (P : ThreadState → Type 0) (Q : ℕ → ThreadState → Type 0) (n : ℕ) (s : Server) : Type 0 where
+pub record Held (P : ThreadState → Type 0) (Q : ℕ → ThreadState → Type 0) (n : ℕ) (old : List Sent) (s : Server) : Type 0 where
   pub standing : AllByRecursion P s.threads
-  pub mail : Mailed (Parcel Q) n s.rest
+  pub mail : Mailed (Parcel Q) n old s.rest
 
 replies : (Q : ℕ → ThreadState → Type 0) → Replies (Parcel Q)
 replies Q = record { fetched = λ s w c t. tt; moved = λ s w c t. tt; granted = λ s m v t. tt; dupped = λ s m t. tt; joined = λ s u v t. tt; drop = λ w o. tt; release = λ m. tt; let_go = λ u. tt }
@@ -98,18 +98,18 @@ replies Q = record { fetched = λ s w c t. tt; moved = λ s w c t. tt; granted =
 requests : (Q : ℕ → ThreadState → Type 0) (n : ℕ) (y : ThreadState) → Requests (Parcel Q) n y
 requests Q n y = record { replies = replies Q; fetch = λ p e. tt; move = λ p e. tt; lock = λ m. tt; dup = λ m. tt; unlock = λ m v. tt; join = λ u. tt; finished = λ v. tt }
 
-module _ (code : List Instr) (o : Options) (s : Server) (P : ThreadState → Type 0) (Q : ℕ → ThreadState → Type 0) (k : Control code s P Q) (held : Held P Q s.rest.number s) where
+module _ (code : List Instr) (o : Options) (s : Server) (P : ThreadState → Type 0) (Q : ℕ → ThreadState → Type 0) (k : Control code s P Q) (held : Held P Q s.rest.number s.rest.outbox s) where
   abbrev n : ℕ
   n = s.rest.number
 
   abbrev Then : Server × EntryView → Type 0
-  Then r = Held P Q n r.0
+  Then r = Held P Q n s.rest.outbox r.0
 
   abbrev Stood : Site → Type 0
   Stood x = AllByRecursion P x.threads
 
   abbrev Posted : Site → Type 0
-  Posted x = Mailed (Parcel Q) n x.work.rest
+  Posted x = Mailed (Parcel Q) n s.rest.outbox x.work.rest
 
   together : (t : Option ℕ) (x : Option Site) → Gives Stood x → Gives Posted x → Gives Then (option_map (left_by s.events t None) x)
   together t None a b = tt
@@ -127,8 +127,8 @@ module _ (code : List Instr) (o : Options) (s : Server) (P : ThreadState → Typ
           let h : Hand = record { work = begin_work s.rest; thread = y } in
           let p : P y = found_all P s.threads t y held.standing q in
           let begins : Begins (Parcel Q) o.servers s.rest i = λ pc vs r at d f. k.starts t _ y i _ pc vs q p e at in
-          over_gives (λ (d : Stepped). Goes code y d.hand.thread × Mailed (Parcel Q) n d.hand.work.rest) Then (step o.servers i h) (stepped s)
-          (both_give (λ (d : Stepped). Goes code y d.hand.thread) (λ (d : Stepped). Mailed (Parcel Q) n d.hand.work.rest) _ (step o.servers i h) (step_goes code o.servers i y e s.rest h refl)
+          over_gives (λ (d : Stepped). Goes code y d.hand.thread × Mailed (Parcel Q) n s.rest.outbox d.hand.work.rest) Then (step o.servers i h) (stepped s)
+          (both_give (λ (d : Stepped). Goes code y d.hand.thread) (λ (d : Stepped). Mailed (Parcel Q) n s.rest.outbox d.hand.work.rest) _ (step o.servers i h) (step_goes code o.servers i y e s.rest h refl)
           (step_says (Parcel Q) o.servers i s.rest y (requests Q n y) begins h (record { mail = held.mail; begun = refl; named = refl; at_home = refl })) (λ d a b. (a, b)))
           (λ d u. record { standing = set_all P s.threads d.hand.thread held.standing (k.goes t y d.hand.thread q p u.0); mail = u.1 })
 
@@ -183,7 +183,7 @@ module _ (code : List Instr) (o : Options) (s : Server) (P : ThreadState → Typ
   delivering : (i : ℕ) → Gives Then (does code o s (Deliver i))
   delivering i = by (slice_get s.rest.inbox i) refl
     where
-      mail : Mailed (Parcel Q) n s.rest
+      mail : Mailed (Parcel Q) n s.rest.outbox s.rest
       mail = held.mail
 
       by : (m : Option Message) → slice_get s.rest.inbox i ≡ m → Gives Then (option_map (left_by s.events None None) (then_some m (λ x. deliver_message code x (received i s))))
@@ -191,12 +191,12 @@ module _ (code : List Instr) (o : Options) (s : Server) (P : ThreadState → Typ
       by (Some m) q =
           let x = received i s in
           together None (deliver_message code m x) (delivers m x.work (all_at (Parcel Q n) s.rest.inbox i m mail.waiting q))
-          (message_says (Parcel Q) n (replies Q) code m x (record { numbered = refl; waiting = remove_all (Parcel Q n) s.rest.inbox i mail.waiting; leaving = mail.leaving }))
+          (message_says (Parcel Q) n s.rest.outbox (replies Q) code m x (record { numbered = refl; waiting = remove_all (Parcel Q n) s.rest.inbox i mail.waiting; leaving = mail.leaving; more = mail.more; appended = mail.appended }))
 
   -- EVICTIONS AND MIGRATIONS
 
   evicting : (w : ℕ) → Gives Then (does code o s (Evict w))
-  evicting w = together None (beside_threads (evict_copy w) (begin_at s)) (beside (evict_copy w) (begin_work s.rest)) (over_gives (λ (x : Work). Mailed (Parcel Q) n x.rest) Posted (evict_copy w (begin_work s.rest)) _ (test_gives (λ (x : Work). Mailed (Parcel Q) n x.rest) (can_evict s.rest.cache w) _ (λ q. held.mail)) (λ x b. b))
+  evicting w = together None (beside_threads (evict_copy w) (begin_at s)) (beside (evict_copy w) (begin_work s.rest)) (over_gives (λ (x : Work). Mailed (Parcel Q) n s.rest.outbox x.rest) Posted (evict_copy w (begin_work s.rest)) _ (test_gives (λ (x : Work). Mailed (Parcel Q) n s.rest.outbox x.rest) (can_evict s.rest.cache w) _ (λ q. held.mail)) (λ x b. b))
 
   leaving : (t target : ℕ) → has_phase is_ready (thread_in s.threads t) ≡ true → Gives Then (does code o s (Migrate t target))
   leaving t target on = by (thread_in s.threads t) refl on
@@ -211,7 +211,7 @@ module _ (code : List Instr) (o : Options) (s : Server) (P : ThreadState → Typ
           packs None = tt
           packs (Some cs) = record {
             standing = without_all P s.threads t held.standing;
-            mail = mail_sent (Parcel Q) n (record s.rest { cache = cs }) target (message.Migrate (packed (record y { moved_since_step = true }))) (k.leaves t target y q (found_all P s.threads t y held.standing q) z) held.mail;
+            mail = mail_sent (Parcel Q) n s.rest.outbox (record s.rest { cache = cs }) target (message.Migrate (packed (record y { moved_since_step = true }))) (k.leaves t target y q (found_all P s.threads t y held.standing q) z) held.mail;
           }
 
   pub doing : (w : What) → enabled o s w ≡ true → Gives Then (does code o s w)

@@ -1,6 +1,6 @@
 //! What each event keeps of a sound cluster, one clause for each sentence.
 
-ghost use Rattle.heap_law.specs.Coherent.{join_walks_nothing, parcels_ready, passed_in_a_walk, thread_homes, walk_empty};
+ghost use Rattle.heap_law.specs.Coherent.{asks_others, go_right, join_walks_nothing, options_in_range, parcels_ready, passed_in_a_walk, thread_homes, walk_empty};
 ghost use Rattle.local_law.specs.Laws.{EachEventKeeps};
 
 /// What a thread keeps by itself, whatever its values are: where it doesn't walk, and at a join, its walk is empty; it has passed hops in a walk alone; one that
@@ -11,4 +11,12 @@ pub fn threads_keep()
     ensures passed_in_a_walk { EachEventKeeps passed_in_a_walk }
     ensures parcels_ready { EachEventKeeps parcels_ready }
     ensures thread_homes { EachEventKeeps thread_homes }
+{}
+
+/// What each message keeps by itself: it goes to the server that it is for, which is of the run, and a request for an object goes to another server than that of its
+/// thread. The options stay.
+pub fn messages_keep()
+    ensures go_right { EachEventKeeps go_right }
+    ensures asks_others { EachEventKeeps asks_others }
+    ensures options_in_range { EachEventKeeps options_in_range }
 {}

@@ -1,0 +1,183 @@
+-- What each message keeps by itself: from its server to the cluster, with the messages handed over.
+use Rattle.std.proofs.Common.{◌≡◌, ℕ, true, false, List, [], Option, Some, None, refl, sym, subst, append-nil, arith}
+use Rattle.std.specs.Prelude.{slice_get, option_map}
+use Rattle.std.specs.List.{AllByRecursion}
+use Rattle.fr_base.specs.declared.instruction.Instr.{Instr}
+use Rattle.fr_base.specs.declared.settings.Options.{Options}
+use Rattle.read_cache.specs.Cache.{Copy, can_evict}
+use Rattle.thread_state.specs.View.{ThreadState}
+use Rattle.server_msgs.specs.declared.message.Message.{Message}
+use Rattle.server_msgs.specs.declared.message.Message.TheVariants as message
+use Rattle.migration.specs.Packing.{packed, pack_thread}
+use Rattle.journal.specs.View.{EntryView}
+use Rattle.server_model.specs.declared.event.Event.{Event}
+use Rattle.server_model.specs.declared.event.What.{What}
+use Rattle.server_model.specs.declared.event.What.TheVariants.{Step, Deliver, Evict, Migrate}
+use Rattle.server_model.specs.Servers.{Sent, Rest, Server, Cluster, server_at}
+use Rattle.server_model.specs.Work.{Work, Hand, Site, then_some, thread_in, beside_threads}
+use Rattle.server_model.specs.Moving.{migrate}
+use Rattle.server_model.specs.Events.{Stepped, enabled, begin_work, begin_at, left_by, received, deliver_message, evict_copy, step, step_in, stepped, does}
+use Rattle.server_model.specs.Clusters.{done_at, act_at}
+use Rattle.heap_law.specs.Names.{tot}
+use Rattle.heap_law.specs.Things.{Thing, sent, things_at, waiting_things, leaving_things, standing_things, message_things, server_things, things_of}
+use Rattle.heap_law.specs.Coherent.{IsSound}
+use Rattle.event_law.specs.Laws.{Gives, FewEvents, EachEventHandedOver}
+use Rattle.event_law.proofs.Results.{then_gives, over_gives, test_gives}
+use Rattle.event_law.proofs.Unseen.{Unseen, Unnoted, none_at, thread_alone, seen_of}
+use Rattle.event_law.proofs.Events.{tot-server}
+use Rattle.event_law.proofs.Applied.{handed_on}
+use Rattle.event_law.proofs.Sending.{each_event_sends}
+use Rattle.local_law.proofs.Mail.{Mailed, mail_sent, Replies, Requests, Begins, message_says, step_says}
+use Rattle.local_law.proofs.Threads.{remove_all}
+use Rattle.local_law.proofs.Handed.{all_none, none_all}
+
+-- what a fact on messages needs at a server: what its threads ask for and begin, what it replies, and whom it sends away
+pub record Letters (code : List Instr) (servers : ℕ) (s : Server) (M : ℕ → Message → Type 0) : Type 0 where
+  pub replies : Replies M
+  pub requests : (t : ℕ) (y : ThreadState) → thread_in s.threads t ≡ Some y → Requests M s.rest.number y
+  pub begins : (t : ℕ) (y : ThreadState) (i : Instr) → thread_in s.threads t ≡ Some y → slice_get code y.pc ≡ Some i → Begins M servers s.rest i
+  pub leaves : (t target : ℕ) (y : ThreadState) → thread_in s.threads t ≡ Some y → M target (message.Migrate (packed (record y { moved_since_step = true })))
+
+module _ (code : List Instr) (o : Options) (s : Server) (M : ℕ → Message → Type 0) (k : Letters code o.servers s M) (mail : Mailed M s.rest.number s.rest.outbox s.rest) where
+  abbrev Posted : Rest → Type 0
+  Posted r = Mailed M s.rest.number s.rest.outbox r
+
+  abbrev Then : Server × EntryView → Type 0
+  Then r = Posted r.0.rest
+
+  abbrev PostedSite : Site → Type 0
+  PostedSite x = Posted x.work.rest
+
+  stepping : (t : ℕ) → Gives Then (does code o s (Step t))
+  stepping t = by (thread_in s.threads t) refl
+    where
+      at : (y : ThreadState) → thread_in s.threads t ≡ Some y → (i : Option Instr) → slice_get code y.pc ≡ i
+          → Gives Then (option_map (stepped s) (then_some i (λ x. step o.servers x (record { work = begin_work s.rest; thread = y }))))
+      at y q None e = tt
+      at y q (Some i) e =
+          let h : Hand = record { work = begin_work s.rest; thread = y } in
+          over_gives (λ (d : Stepped). Posted d.hand.work.rest) Then (step o.servers i h) (stepped s)
+          (step_says M o.servers i s.rest y (k.requests t y q) (k.begins t y i q e) h (record { mail = mail; begun = refl; named = refl; at_home = refl })) (λ d u. u)
+
+      by : (x : Option ThreadState) → thread_in s.threads t ≡ x → Gives Then (option_map (stepped s) (then_some (option_map (λ y. record { work = begin_work s.rest; thread = y }) x) (step_in code o.servers)))
+      by None q = tt
+      by (Some y) q = at y q (slice_get code y.pc) refl
+
+  delivering : (i : ℕ) → Gives Then (does code o s (Deliver i))
+  delivering i = by (slice_get s.rest.inbox i)
+    where
+      by : (m : Option Message) → Gives Then (option_map (left_by s.events None None) (then_some m (λ x. deliver_message code x (received i s))))
+      by None = tt
+      by (Some m) =
+          over_gives PostedSite Then (deliver_message code m (received i s)) (left_by s.events None None)
+          (message_says M s.rest.number s.rest.outbox k.replies code m (received i s)
+          (record { numbered = refl; waiting = remove_all (M s.rest.number) s.rest.inbox i mail.waiting; leaving = mail.leaving; more = mail.more; appended = mail.appended })) (λ x u. u)
+
+  evicting : (w : ℕ) → Gives Then (does code o s (Evict w))
+  evicting w =
+      over_gives PostedSite Then (beside_threads (evict_copy w) (begin_at s)) (left_by s.events None None)
+      (over_gives (λ (x : Work). Posted x.rest) PostedSite (evict_copy w (begin_work s.rest)) _ (test_gives (λ (x : Work). Posted x.rest) (can_evict s.rest.cache w) _ (λ q. mail)) (λ x u. u)) (λ x u. u)
+
+  leaving : (t target : ℕ) → Gives Then (does code o s (Migrate t target))
+  leaving t target =
+      over_gives PostedSite Then (migrate t target (begin_at s)) (left_by s.events (Some t) None)
+      (then_gives PostedSite (thread_in s.threads t) _ (λ y q. by y q (Rattle.migration.specs.Packing.unpin_all (Rattle.migration.specs.Packing.used_words y) s.rest.cache))) (λ x u. u)
+    where
+      by : (y : ThreadState) → thread_in s.threads t ≡ Some y → (l : Option (List Copy))
+          → Gives PostedSite (option_map (λ p. record { work = Rattle.server_model.specs.Moving.depart target (begin_work s.rest) p; threads = Rattle.server_model.specs.Work.without_thread s.threads t }) (option_map (λ left. (packed (record y { moved_since_step = true }), left)) l))
+      by y q None = tt
+      by y q (Some cs) = mail_sent M s.rest.number s.rest.outbox (record s.rest { cache = cs }) target (message.Migrate (packed (record y { moved_since_step = true }))) (k.leaves t target y q) mail
+
+  pub posts : (w : What) → Gives Then (does code o s w)
+  posts (Step t) = stepping t
+  posts (Deliver i) = delivering i
+  posts (Evict w) = evicting w
+  posts (Migrate t target) = leaving t target
+
+-- WEIGHTS OF MESSAGES
+
+-- a weight of messages by where they go, as one of things
+abbrev pub on_sent : (ℕ → Message → ℕ) → Thing → ℕ
+on_sent g (sent r m) = g r m
+on_sent g x = 0
+
+module _ (g : ℕ → Message → ℕ) where
+  abbrev w : Thing → ℕ
+  w = on_sent g
+
+  -- it weighs nothing
+  abbrev pub Light : ℕ → Message → Type 0
+  Light r m = g r m ≡ 0
+
+  unseen : (n : ℕ) → Unseen w n
+  unseen n = record { held = λ p v. refl; shared = λ l r. refl; borrowed = λ l r. refl; locked = λ l m. refl; live = λ a c. refl; free = λ a m. refl; old = λ a. refl; copy = λ s c. refl; used = λ s x. refl }
+
+  unnoted : Unnoted w
+  unnoted = record { mutex = λ s m. refl; queue = λ m s t. refl; note = λ s t. refl }
+
+  message_alone : (n : ℕ) (m : Message) → tot w (message_things n m) ≡ g n m
+  message_alone n (message.Start t) = omega (arith, thread_alone w n (unseen n) n true t)
+  message_alone n (message.Migrate t) = omega (arith, thread_alone w n (unseen n) n true t)
+  message_alone n (message.Fetch v b r t) = omega arith
+  message_alone n (message.Fetched v c t) = omega arith
+  message_alone n (message.Move v b r t) = omega arith
+  message_alone n (message.Moved v c t) = omega arith
+  message_alone n (message.Drop v b) = omega arith
+  message_alone n (message.Lock m r t) = omega arith
+  message_alone n (message.Granted m v t) = omega arith
+  message_alone n (message.Unlock m v) = omega arith
+  message_alone n (message.Dup m r t) = omega arith
+  message_alone n (message.Dupped m t) = omega arith
+  message_alone n (message.Release x) = omega arith
+  message_alone n (message.Join u r t) = omega arith
+  message_alone n (message.Joined u v t) = omega arith
+  message_alone n (message.Finished u v) = omega arith
+
+  no_threads : (n : ℕ) (ts : List ThreadState) → tot w (things_at (standing_things n) 0 ts) ≡ 0
+  no_threads n ts = none_at w n (unseen n) (standing_things n) (λ i t. omega (arith, thread_alone w n (unseen n) n false t)) 0 ts
+
+  pub letters_from : (s : Server) → tot w (server_things s) ≡ 0 → Mailed Light s.rest.number s.rest.outbox s.rest
+  letters_from s z =
+      let n = s.rest.number in
+      let parts = seen_of w n (unseen n) unnoted s refl in record {
+        numbered = refl;
+        waiting = all_none w (waiting_things n) (Light n) (λ i m y. omega (arith, y, message_alone n m)) 0 s.rest.inbox (omega (arith, z, parts));
+        leaving = all_none w leaving_things (λ (x : Sent). Light x.target x.message) (λ i x y. omega (arith, y, message_alone x.target x.message)) 0 s.rest.outbox (omega (arith, z, parts));
+        more = [];
+        appended = sym (append-nil s.rest.outbox);
+      }
+
+  pub letters_to : (s : Server) → AllByRecursion (Light s.rest.number) s.rest.inbox → AllByRecursion (λ (x : Sent). Light x.target x.message) s.rest.outbox → tot w (server_things s) ≡ 0
+  letters_to s a b =
+      let n = s.rest.number in
+      omega (
+        arith,
+        seen_of w n (unseen n) unnoted s refl,
+        no_threads n s.threads,
+        none_all w (waiting_things n) (Light n) (λ i m y. omega (arith, y, message_alone n m)) 0 s.rest.inbox a,
+        none_all w leaving_things (λ (x : Sent). Light x.target x.message) (λ i x y. omega (arith, y, message_alone x.target x.message)) 0 s.rest.outbox b,
+      )
+
+-- a weight of messages, by the number of servers, that each message keeps at nothing
+pub record MessagesKeep (g : ℕ → ℕ → Message → ℕ) : Type 0 where
+  pub before : (k : Cluster) → IsSound k → tot (on_sent (g k.options.servers)) (things_of k) ≡ 0
+  pub letters : (k : Cluster) (number : ℕ) (s : Server) → IsSound k → FewEvents k → server_at k.servers number ≡ Some s → Letters k.code k.options.servers s (Light (g k.options.servers))
+
+module _ (g : ℕ → ℕ → Message → ℕ) (keeps : MessagesKeep g) where
+  abbrev Weightless : Cluster → Type 0
+  Weightless c = tot (on_sent (g c.options.servers)) (things_of c) ≡ 0
+
+  acted : (k : Cluster) (e : Event) → IsSound k → FewEvents k → Gives (λ (d : Cluster × EntryView). Weightless d.0) (act_at k e)
+  acted k e sound few =
+      let f = g k.options.servers in
+      then_gives (λ (d : Cluster × EntryView). Weightless d.0) (server_at k.servers e.server) _ (λ s here.
+      let all : tot (on_sent f) (things_of k) ≡ 0 = keeps.before k sound in
+      let before : tot (on_sent f) (server_things s) ≡ 0 = omega (arith, all, (tot-server (on_sent f) k.servers e.server s s here).0) in
+      over_gives (λ (r : Server × EntryView). Mailed (Light f) s.rest.number s.rest.outbox r.0.rest) (λ (d : Cluster × EntryView). Weightless d.0) (done_at k e.what s) _
+      (test_gives (λ (r : Server × EntryView). Mailed (Light f) s.rest.number s.rest.outbox r.0.rest) (enabled k.options s e.what) _ (λ on. posts k.code k.options s (Light f) (keeps.letters k e.server s sound few here) (letters_from f s before) e.what))
+      (λ r mail.
+      let after = letters_to f r.0 (subst (λ n. AllByRecursion (Light f n) r.0.rest.inbox) (sym mail.numbered) mail.waiting) mail.leaving in
+      omega (arith, all, (tot-server (on_sent f) k.servers e.server s r.0 here).0, (tot-server (on_sent f) k.servers e.server s r.0 here).1, after)))
+
+  pub messages_keep : EachEventHandedOver Weightless
+  messages_keep k e sound few = handed_on Weightless (λ c a b same z. omega (arith, z, same (on_sent (g c.options.servers)))) k e (each_event_sends k e sound few) (acted k e sound few)
