@@ -1,67 +1,54 @@
 -- The captured slots of an instruction are those of its form.
-use Rattle.std.proofs.Common.{Vec, Global, ◌≡◌, ℕ, ◌+◌, ◌<◌, ◌≤◌, Bool, List, [], ◌∷◌, ◌++◌, length, drop, get_or, refl, sym, ap, ◌∙◌}
-use Rattle.std.proofs.lemmas.List.{append_assoc, append-nil}
-use Rattle.fr_plain.specs.Run.{Capture, Run, spawn}
+use Rattle.std.proofs.Common.{◌≡◌, ℕ, zero, suc, ◌+◌, ◌<◌, ◌≤◌, Bool, List, [], ◌∷◌, ◌++◌, length, drop, get_or, refl, sym, ap, ap₂, ◌∙◌, arith, add-one, drop-cons, append_assoc, append-nil}
+use Rattle.fr_base.specs.declared.instruction.Instr.{Instr}
+use Rattle.fr_base.specs.declared.instruction.Instr.TheVariants as instr
+use Rattle.fr_base.specs.Rooms.{WithRoom}
+use Rattle.fr_plain.specs.Run.{Capture}
 use Rattle.fr_forms.specs.declared.forms.Captured.{Captured}
-use Rattle.fr_forms.specs.declared.forms.Form.{Form}
-use Rattle.fr_forms.specs.declared.forms.Form.TheVariants as form
-use Rattle.fr_forms.specs.FormTerms.{captures_of, captures_in, build}
-use Rattle.fr_code.specs.Steps.{captured}
-use Rattle.fr_compile.proofs.Bodies.{from_next, none_left}
+use Rattle.fr_forms.specs.FormTerms.{captures_of}
+use Rattle.table_law.specs.Bare.{full, bare}
+use Rattle.table_law.specs.CodeOf.{slots}
+use Rattle.table_law.proofs.Bare.{bare_join}
+use Rattle.fr_compile.specs.declared.waiting.Waiting.{Waiting}
 
-captured_append : (xs ys : List (ℕ × Bool)) → captured (xs ++ ys) ≡ captured xs ++ captured ys
-captured_append [] ys = refl
-captured_append (x ∷ xs) ys = ap (λ (cs : List Capture). record { slot = x.0; take = x.1 } ∷ cs) (captured_append xs ys)
+-- the slots as an instruction lists them
+abbrev pub listed : List Captured → List (ℕ × Bool)
+listed cs = (slots (captures_of cs)).items
+
+none_left : (cs : List Captured) (k : ℕ) → length cs ≤ k → drop k cs ≡ []
+none_left [] zero h = refl
+none_left [] (suc k) h = refl
+none_left (c ∷ cs) zero h = absurd (omega (arith, h))
+none_left (c ∷ cs) (suc k) h = none_left cs k (omega (arith, h))
+
+from_next : (cs : List Captured) (k : ℕ) (d : Captured) → k < length cs → drop k cs ≡ get_or cs k d ∷ drop (k + 1) cs
+from_next cs k d lt = rw (add-one, drop-cons cs k d) refl
 
 -- one slot more
-pub captured_next : (cs : List Captured) (xs ys : List (ℕ × Bool)) (k : ℕ) (d : Captured) → k < length cs → ys ≡ xs ++ ((get_or cs k d).slot, (get_or cs k d).take) ∷ [] → captured xs ++ captures_of (drop k cs) ≡ captures_of cs →
-    captured ys ++ captures_of (drop (k + 1) cs) ≡ captures_of cs
-captured_next cs xs ys k d lt e h =
+pub listed_next : (cs : List Captured) (xs ys : List (ℕ × Bool)) (k : ℕ) (d : Captured) → k < length cs → ys ≡ xs ++ ((get_or cs k d).slot, (get_or cs k d).take) ∷ [] → xs ++ listed (drop k cs) ≡ listed cs → ys ++ listed (drop (k + 1) cs) ≡ listed cs
+listed_next cs xs ys k d lt e h =
     let x = get_or cs k d in
-    let y : List (ℕ × Bool) = (x.slot, x.take) ∷ [] in
-    let rest = captures_of (drop (k + 1) cs) in
-    ap (λ zs. captured zs ++ rest) e ∙ ap (λ zs. zs ++ rest) (captured_append xs y) ∙ append_assoc (captured xs) (captured y) rest ∙ ap (λ zs. captured xs ++ captures_of zs) (sym (from_next cs k d lt)) ∙ h
+    let rest = listed (drop (k + 1) cs) in
+    ap (λ zs. zs ++ rest) e ∙ append_assoc xs ((x.slot, x.take) ∷ []) rest ∙ ap (λ zs. xs ++ listed zs) (sym (from_next cs k d lt)) ∙ h
 
 -- all slots
-pub captured_all : (cs : List Captured) (xs : List (ℕ × Bool)) (k : ℕ) → length cs ≤ k → captured xs ++ captures_of (drop k cs) ≡ captures_of cs → captured xs ≡ captures_of cs
-captured_all cs xs k le h = sym (append-nil (captured xs)) ∙ ap (λ zs. captured xs ++ captures_of zs) (sym (none_left cs k le)) ∙ h
+pub listed_all : (cs : List Captured) (xs : List (ℕ × Bool)) (k : ℕ) → length cs ≤ k → xs ++ listed (drop k cs) ≡ listed cs → xs ≡ listed cs
+listed_all cs xs k le h = sym (append-nil xs) ∙ ap (λ zs. xs ++ listed zs) (sym (none_left cs k le)) ∙ h
 
--- another form captures nothing
-pub no_captures : (m : Form) → ((cs : Vec Captured Global) (body drops : ℕ) → m ≡ form.Spawn cs body drops → ⊥) → captures_in m ≡ []
-no_captures (form.Spawn cs body drops) other = absurd (other cs body drops refl)
-no_captures (form.Number x) other = refl
-no_captures form.Unit other = refl
-no_captures (form.Read w take) other = refl
-no_captures (form.Borrow w is_mut) other = refl
-no_captures (form.Box x) other = refl
-no_captures (form.Let x) other = refl
-no_captures (form.Print x) other = refl
-no_captures (form.Join x) other = refl
-no_captures (form.Assign w x) other = refl
-no_captures (form.Arith f x y) other = refl
-no_captures (form.Block items lets) other = refl
-no_captures (form.Mutex x) other = refl
-no_captures (form.Dup w) other = refl
-no_captures (form.Lock w x drops) other = refl
-no_captures (form.Par ours theirs) other = refl
-no_captures form.Place other = refl
+-- INSTRUCTIONS WITH SUCH LISTS
 
--- a form whose term starts a thread is no other form
-pub no_other : (look : ℕ → Run) (m : Form) (cs : List Capture) (r : Run) → build look m ≡ spawn cs r → ((ds : Vec Captured Global) (body drops : ℕ) → m ≡ form.Spawn ds body drops → ⊥) → ⊥
-no_other look (form.Spawn ds body drops) cs r h other = other ds body drops refl
-no_other look (form.Number x) cs r h other = cc
-no_other look form.Unit cs r h other = cc
-no_other look (form.Read w take) cs r h other = cc
-no_other look (form.Borrow w is_mut) cs r h other = cc
-no_other look (form.Box x) cs r h other = cc
-no_other look (form.Let x) cs r h other = cc
-no_other look (form.Print x) cs r h other = cc
-no_other look (form.Join x) cs r h other = cc
-no_other look (form.Assign w x) cs r h other = cc
-no_other look (form.Arith f x y) cs r h other = cc
-no_other look (form.Block items lets) cs r h other = cc
-no_other look (form.Mutex x) cs r h other = cc
-no_other look (form.Dup w) cs r h other = cc
-no_other look (form.Lock w x drops) cs r h other = cc
-no_other look (form.Par ours theirs) cs r h other = cc
-no_other look form.Place cs r h other = cc
+full_is : (xs : WithRoom (ℕ × Bool)) (cs : List Capture) → xs.items ≡ (slots cs).items → full xs ≡ slots cs
+full_is xs cs e = ap (λ (items : List (ℕ × Bool)). full (record { items = items; spare = 0 })) e
+
+pub bare_spawn : (a f : List Instr) (xs : WithRoom (ℕ × Bool)) (cs : List Capture) → f ≡ a ++ instr.Spawn xs 0 ∷ [] → xs.items ≡ (slots cs).items → bare f ≡ bare a ++ instr.Spawn (slots cs) 0 ∷ []
+bare_spawn a f xs cs e h = ap bare e ∙ bare_join a (instr.Spawn xs 0 ∷ []) ∙ ap (λ (us : WithRoom (ℕ × Bool)). bare a ++ instr.Spawn us 0 ∷ []) (full_is xs cs h)
+
+pub bare_par : (a c f : List Instr) (xs ys : WithRoom (ℕ × Bool)) (cs ds : List Capture) → c ≡ a ++ instr.Par xs 0 ys 0 ∷ [] → f ≡ c ++ instr.ParEnd ∷ [] → xs.items ≡ (slots cs).items → ys.items ≡ (slots ds).items
+    → bare f ≡ bare a ++ instr.Par (slots cs) 0 (slots ds) 0 ∷ instr.ParEnd ∷ []
+bare_par a c f xs ys cs ds e g h k =
+    let both : f ≡ a ++ instr.Par xs 0 ys 0 ∷ instr.ParEnd ∷ [] = g ∙ ap (λ is. is ++ instr.ParEnd ∷ []) e ∙ append_assoc a (instr.Par xs 0 ys 0 ∷ []) (instr.ParEnd ∷ []) in
+    ap bare both ∙ bare_join a (instr.Par xs 0 ys 0 ∷ instr.ParEnd ∷ []) ∙ ap₂ (λ (us vs : WithRoom (ℕ × Bool)). bare a ++ instr.Par us 0 vs 0 ∷ instr.ParEnd ∷ []) (full_is xs cs h) (full_is ys ds k)
+
+-- two threads wait, one behind the other
+pub both_wait : (bs cs ds : List Waiting) (v w : Waiting) → cs ≡ bs ++ v ∷ [] → ds ≡ cs ++ w ∷ [] → ds ≡ bs ++ v ∷ w ∷ []
+both_wait bs cs ds v w e g = g ∙ ap (λ ws. ws ++ w ∷ []) e ∙ append_assoc bs (v ∷ []) (w ∷ [])

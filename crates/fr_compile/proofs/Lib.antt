@@ -1,11 +1,9 @@
-pub mod Sources
-pub mod CompiledLemmas
-pub mod Bodies
-pub mod Captured
-pub mod Owed
-pub mod Codes
-pub mod Laid
+pub mod Filled
 pub mod Queue
+pub mod Turns
+pub mod Rows
 pub mod Forms
+pub mod Captured
+pub mod Drops
 pub mod Few
 pub mod CheckedCode

@@ -1,3 +1,2 @@
-pub mod Compiled
-pub mod Bodies
+pub mod Filling
 pub mod Emitting

@@ -2,11 +2,12 @@
 
 ghost use Rattle.std.specs.Prelude.{◌≡◌, ◌+◌, length, IfOk};
 ghost use Rattle.fr_typing.specs.Kinds.{Kind};
-ghost use Rattle.fr_typing.specs.Threaded.{IsThreaded};
 ghost use Rattle.fr_syntax.specs.Meanings.{term_of};
 ghost use Rattle.fr_plain.specs.Resolve.{program};
 ghost use Rattle.fr_plain.specs.Run.{steps_left};
 ghost use Rattle.fr_code.specs.StandsFor.{IsCodeOf};
+ghost use Rattle.table_law.specs.Bare.{bare};
+ghost use Rattle.table_law.specs.CodeOf.{code_of};
 ghost use Rattle.table_law.specs.Layout.{IsLaidOut};
 ghost use Rattle.table_law.specs.Tables.{HasTable};
 
@@ -16,10 +17,11 @@ use fr_base::{Code, NoMemory};
 use fr_forms::forms_of;
 use std::alloc::Global;
 
-/// The code of a checked program: it stands for the program, so it does the program's steps, it has an instruction for each of these, and one more, and no others, and it has a table of types. The main thread's code comes first and ends with its `End`; behind it stands the code of each new thread, in the
-/// order in which the instructions that start them stand in the code. It takes time in the number of nodes and captured names, and stack in the depth of the program, which is at most 64.
+/// The code of a checked program, whatever its forms. But for the room that its lists of captured slots have for more it is the code that is defined for the
+/// program (`equal`). So it stands for the program and does the program's steps, it has an instruction for each of these, and one more, and no others, and it has a table of types. The main thread's code comes first and ends with its `End`; behind it stands the code of each new thread, in the
+/// order in which the instructions that start them stand in the code, of a pair that of the first one first. It takes time in the number of nodes and captured names, and stack in the depth of the program, which is at most 64.
 pub fn compile(alloc: Global, checked: &Checked) -> Result<Code, NoMemory>
-    requires threaded { IsThreaded (term_of checked.now.arena) }
+    ensures equal { IfOk result (λ code. bare code.items ≡ code_of (program (term_of checked.now.arena))) }
     ensures code { IfOk result (λ code. IsCodeOf code.items (program (term_of checked.now.arena))) }
     ensures table { IfOk result (λ code. (k : Kind) × HasTable code.items k) }
     ensures layout { IfOk result (λ code. IsLaidOut code.items) }

@@ -1,16 +1,18 @@
 -- Where the pieces of a term stand, the term's code stands.
-use Rattle.std.proofs.Common.{◌≡◌, ℕ, zero, suc, ◌+◌, List, [], ◌∷◌, ◌++◌, length, Some, refl, ap, subst, arith, length-append}
+use Rattle.std.proofs.Common.{◌≡◌, ℕ, zero, suc, ◌+◌, Bool, List, [], ◌∷◌, ◌++◌, length, Some, refl, ap, subst, arith, length-append}
 use Rattle.std.specs.Prelude.{⊤, slice_get}
 use Rattle.fr_base.specs.declared.instruction.Operand.{Operand}
 use Rattle.fr_base.specs.declared.instruction.Operand.TheVariants as operand
 use Rattle.fr_base.specs.declared.instruction.Instr.{Instr}
 use Rattle.fr_base.specs.declared.instruction.Instr.TheVariants as instr
+use Rattle.fr_base.specs.Rooms.{WithRoom}
 use Rattle.fr_plain.specs.Run.{Capture, Run, temp, unit_c, number, read, borrow, box_r, arith as arith_r, bind, print, assign, block, spawn, join_r, mutex_r, dup, lock, locked, par, par_end, Parts, last, more, Now, going, constant, temporary, now}
 use Rattle.fr_code.specs.Steps.{captured}
 use Rattle.fr_code.specs.StandsFor.{operand_of, IsSource, AreSource, Later, LaterParts, Discards, DropsAt, At, AtParts, IsCodeFrom}
-use Rattle.table_law.specs.CodeOf.{Piece, does, starts, starts_two, given_up, drops, pieces, pieces_in, thread, threads_of, started_by, size, slots, placed}
+use Rattle.table_law.specs.CodeOf.{Piece, does, starts, starts_two, given_up, drops, pieces, pieces_in, thread, threads_of, size, slots, placed}
 
-captured_slots : (cs : List Capture) → captured (slots cs).items ≡ cs
+-- the slots of captures are those captures
+pub captured_slots : (cs : List Capture) → captured (slots cs).items ≡ cs
 captured_slots [] = refl
 captured_slots (c ∷ cs) = ap (λ ds. c ∷ ds) (captured_slots cs)
 
@@ -63,10 +65,11 @@ module _ (code : List Instr) where
   Started p (r ∷ rs) = Stood p r × Started (p + size r) rs
 
   -- the instruction stands there, and the threads that it starts stand somewhere
-  abbrev Stands : ℕ → Piece → Type 0
+  abbrev pub Stands : ℕ → Piece → Type 0
   Stands p (does i) = slice_get code p ≡ Some i
-  Stands p (starts cs r) = (to : ℕ) × (slice_get code p ≡ Some (instr.Spawn (slots cs) to)) × IsCodeFrom code to r
-  Stands p (starts_two cs a ds b) = (to other : ℕ) × (slice_get code p ≡ Some (instr.Par (slots cs) to (slots ds) other)) × IsCodeFrom code to a × IsCodeFrom code other b
+  Stands p (starts cs r) = (xs : WithRoom (ℕ × Bool)) × (to : ℕ) × (slice_get code p ≡ Some (instr.Spawn xs to)) × (captured xs.items ≡ cs) × IsCodeFrom code to r
+  Stands p (starts_two cs a ds b) =
+      (xs ys : WithRoom (ℕ × Bool)) × (to other : ℕ) × (slice_get code p ≡ Some (instr.Par xs to ys other)) × (captured xs.items ≡ cs) × (captured ys.items ≡ ds) × IsCodeFrom code to a × IsCodeFrom code other b
 
   abbrev pub Fits : ℕ → List Piece → Type 0
   Fits p [] = ⊤
@@ -78,13 +81,6 @@ module _ (code : List Instr) where
       let k = fits_split ps qs (p + 1) h.1 in
       let e : p + 1 + length ps ≡ p + length (x ∷ ps) = omega arith in
       ((h.0, k.0), subst (λ n. Fits n qs) e k.1)
-
-  -- where threads stand from that place on, instructions that start them there
-  pub fits : (ps : List Piece) (p n : ℕ) → Has p (placed n ps) → Started n (started_by ps) → Fits p ps
-  fits [] p n h s = tt
-  fits (does i ∷ ps) p n h s = (h.0, fits ps (p + 1) n h.1 s)
-  fits (starts cs r ∷ ps) p n h s = ((n, h.0, s.0.from), fits ps (p + 1) (n + size r) h.1 s.1)
-  fits (starts_two cs a ds b ∷ ps) p n h s = ((n, n + size a, h.0, s.0.from, s.1.0.from), fits ps (p + 1) (n + size a + size b) h.1 s.1.1)
 
   discards : (o : Operand) (p : ℕ) → Fits p (given_up o) → Discards code o p (p + length (given_up o))
   discards operand.Pop p h = (h.0, omega arith)
@@ -127,7 +123,7 @@ module _ (code : List Instr) where
         let l = length-append (pieces_in is) (drops k) in
         let e : p + length (pieces_in is) + length (drops k) ≡ p + length (pieces_in is ++ drops k) = omega (arith, l) in
         (p + length (pieces_in is), stands_in is p s f.0, subst (DropsAt code (p + length (pieces_in is)) k) e (drops_at k (p + length (pieces_in is)) f.1))
-    stands (spawn cs r) p s h = let b = h.0.2 in (slots cs, h.0.0, b.to, h.0.1, captured_slots cs, omega arith, b.at, b.over, b.source)
+    stands (spawn cs r) p s h = let b = h.0.4 in (h.0.0, h.0.1, b.to, h.0.2, h.0.3, omega arith, b.at, b.over, b.source)
     stands (join_r r) p s h = let k = ending p (pieces r) (instr.Join (operand_of r)) h in (p + length (pieces r), stands r p s k.front, k.there, k.next)
     stands (mutex_r r) p s h = let k = ending p (pieces r) (instr.Mutex (operand_of r)) h in (p + length (pieces r), stands r p s k.front, k.there, k.next)
     stands (dup w) p s h = (h.0, omega arith)
@@ -137,9 +133,9 @@ module _ (code : List Instr) where
         (p + 1 + length (pieces r), h.0, stands r (p + 1) s k.front, (k.there, omega (arith, n)), s)
     stands (locked r) p s h = absurd s
     stands (par cs a ds b) p s h =
-        let u = h.0.3 in
-        let v = h.0.4 in
-        (h.0.0, u.to, h.0.1, v.to, record { ours = slots cs; theirs = slots ds; starts = h.0.2; captures = captured_slots cs; others = captured_slots ds; waits = h.1.0; next = omega arith }, u.at, u.over, u.source, v.at, v.over, v.source)
+        let u = h.0.7 in
+        let v = h.0.8 in
+        (h.0.2, u.to, h.0.3, v.to, record { ours = h.0.0; theirs = h.0.1; starts = h.0.4; captures = h.0.5; others = h.0.6; waits = h.1.0; next = omega arith }, u.at, u.over, u.source, v.at, v.over, v.source)
     stands par_end p s h = absurd s
 
     stands_in : (is : Parts) (p : ℕ) → AreSource is → Fits p (pieces_in is) → AtParts code p is (p + length (pieces_in is))

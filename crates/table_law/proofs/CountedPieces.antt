@@ -20,7 +20,7 @@ count (does i ∷ ps) = count ps + 1
 count (starts cs r ∷ ps) = steps_left r + 2 + count ps
 count (starts_two cs a ds b ∷ ps) = steps_left a + steps_left b + 3 + count ps
 
-count_join : (ps qs : List Piece) → count (ps ++ qs) ≡ count ps + count qs
+pub count_join : (ps qs : List Piece) → count (ps ++ qs) ≡ count ps + count qs
 count_join [] qs = omega arith
 count_join (does i ∷ ps) qs = let r = count_join ps qs in omega (arith, r)
 count_join (starts cs r ∷ ps) qs = let r = count_join ps qs in omega (arith, r)

@@ -1,5 +1,5 @@
 -- The tables of the examples: each code is laid out, and its program is typed.
-use Rattle.std.proofs.Common.{◌≡◌, List, [], refl, arith}
+use Rattle.std.proofs.Common.{◌≡◌, List, [], length, refl, arith}
 use Rattle.fr_base.specs.declared.instruction.Operand.TheVariants as operand
 use Rattle.fr_base.specs.declared.instruction.Instr.{Instr}
 use Rattle.fr_terms.specs.Terms.{Term, block_t, Items, none}
@@ -26,14 +26,24 @@ abbrev items_of : Term → Items
 items_of (block_t at items) = items
 items_of t = none
 
+started_long : length started_code ≡ 13
+started_long = refl
+
+counted_long : length counted_code ≡ 24
+counted_long = refl
+
+shared_long : length shared_code ≡ 31
+shared_long = refl
+
 started_laid : IsLaidOut started_code
-started_laid = record { behind = (record { last = 9; operand = operand.Unit; there = refl; next = refl }, tt); rises = (tt, tt) }
+started_laid = record { within = (omega (arith, started_long), tt); behind = (record { last = 9; operand = operand.Unit; there = refl; next = refl }, tt); rises = (tt, tt) }
 
 counted_laid : IsLaidOut counted_code
-counted_laid = record { behind = (record { last = 16; operand = operand.Unit; there = refl; next = refl }, tt); rises = (tt, tt) }
+counted_laid = record { within = (omega (arith, counted_long), tt); behind = (record { last = 16; operand = operand.Unit; there = refl; next = refl }, tt); rises = (tt, tt) }
 
 shared_laid : IsLaidOut shared_code
 shared_laid = record {
+  within = (omega (arith, shared_long), (omega (arith, shared_long), (omega (arith, shared_long), (omega (arith, shared_long), tt))));
   behind = (record { last = 14; operand = operand.Unit; there = refl; next = refl }, (record { last = 18; operand = operand.Unit; there = refl; next = refl }, (record { last = 22; operand = operand.Unit; there = refl; next = refl }, (record { last = 26; operand = operand.Unit; there = refl; next = refl }, tt))));
   rises = ((omega arith, (omega arith, (omega arith, tt))), ((omega arith, (omega arith, tt)), ((omega arith, tt), (tt, tt))));
 }

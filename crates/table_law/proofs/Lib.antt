@@ -11,5 +11,7 @@ pub mod Programs
 pub mod Examples
 pub mod Coded
 pub mod CountedPieces
+pub mod Bare
 pub mod Generations
+pub mod Queued
 pub mod SourceTerms

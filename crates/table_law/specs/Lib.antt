@@ -2,4 +2,5 @@ pub mod Layout
 pub mod Tables
 pub mod Examples
 pub mod CodeOf
+pub mod Bare
 pub mod ProgramCodes

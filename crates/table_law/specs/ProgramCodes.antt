@@ -1,5 +1,6 @@
 -- That each program has a code, of whatever forms it is.
-use Rattle.std.specs.Prelude.{◌≡◌, ℕ, ◌+◌, [], length}
+use Rattle.std.specs.Prelude.{◌≡◌, ℕ, ◌+◌, List, [], length}
+use Rattle.fr_base.specs.declared.instruction.Instr.{Instr}
 use Rattle.fr_terms.specs.Terms.{Term, block_t, Items}
 use Rattle.fr_terms.specs.Limits.{HasShortPlaces}
 use Rattle.fr_typing.specs.Kinds.{Kind}
@@ -14,13 +15,21 @@ use Rattle.fr_code.specs.StandsFor.{IsSource, IsCodeOf}
 use Rattle.fr_code.specs.Examples.{started_code, counted_code, shared_code}
 use Rattle.table_law.specs.Layout.{IsLaidOut}
 use Rattle.table_law.specs.CodeOf.{code_of}
+use Rattle.table_law.specs.Bare.{bare}
 use Rattle.table_law.specs.Tables.{HasTable}
 
--- the term's code stands for it, each thread's code behind the end of another's, and it has an instruction for each step of the term and one more
-pub record HasItsCode (r : Run) : Type 0 where
-  pub is : IsCodeOf (code_of r) r
-  pub laid : IsLaidOut (code_of r)
-  pub long : length (code_of r) ≡ steps_left r + 1
+-- the code stands for the term, each thread's code behind the end of another's, and it has an instruction for each step of the term and one more
+pub record IsItsCode (code : List Instr) (r : Run) : Type 0 where
+  pub is : IsCodeOf code r
+  pub laid : IsLaidOut code
+  pub long : length code ≡ steps_left r + 1
+
+abbrev pub HasItsCode : Run → Type 0
+HasItsCode r = IsItsCode (code_of r) r
+
+-- and so each code that is the term's but for the room of its lists
+abbrev pub RoomyCodesToo : Type 0
+RoomyCodesToo = (code : List Instr) (r : Run) → IsSource r → bare code ≡ code_of r → IsItsCode code r
 
 -- each term in which no step was made
 abbrev pub TermsHaveCodes : Type 0

@@ -1,7 +1,7 @@
 //! Laws of tables of compiled code.
 
 ghost use Rattle.table_law.specs.Examples.{ExamplesHaveTables};
-ghost use Rattle.table_law.specs.ProgramCodes.{CodesHaveTables, CodesOfExamples, ProgramsHaveCodes, TermsHaveCodes};
+ghost use Rattle.table_law.specs.ProgramCodes.{CodesHaveTables, CodesOfExamples, ProgramsHaveCodes, RoomyCodesToo, TermsHaveCodes};
 ghost use Rattle.table_law.specs.Tables.{ProgramsHaveTables};
 
 /// A code of a typed program, whatever its forms, in which the threads' codes stand one behind another, has a table: an entry at each
@@ -17,10 +17,12 @@ pub fn examples_have_tables()
 {}
 
 /// Each term in which no step was made has a code, of whatever forms it is (`terms`): it stands for the term, each thread's code in it begins behind the
-/// end of another's, and it has an instruction for each of the term's steps, and one more. So has each program (`programs`), and where typing gives
+/// end of another's, and it has an instruction for each of the term's steps, and one more. A code that differs from it only in the room of its lists does
+/// so too (`roomy`). So has each program (`programs`), and where typing gives
 /// the program a type and its places have at most eight stars, that code has a table (`tables`).
 pub fn programs_have_codes()
     ensures terms { TermsHaveCodes }
+    ensures roomy { RoomyCodesToo }
     ensures programs { ProgramsHaveCodes }
     ensures tables { CodesHaveTables }
 {}

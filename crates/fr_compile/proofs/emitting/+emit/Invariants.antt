@@ -10,4 +10,4 @@ decreases-emit_items l = 2 * l.bound
 
 -- whatever comes of the items that are left comes of the block
 abbrev pub invariant-emit_items-items : goal.invariant-emit_items-items
-invariant-emit_items-items l = Leads l.forms l.items l.initial.code.items l.initial.bodies.items (drop l.next l.items) l.code.items l.bodies.items l.value
+invariant-emit_items-items l = Leads l.forms l.items l.initial.code.items l.initial.queue.items (drop l.next l.items) l.code.items l.queue.items l.value

@@ -1,4 +1,4 @@
-use Rattle.fr_compile.proofs.Codes.{dropped_next}
+use Rattle.fr_compile.proofs.Drops.{dropped_next}
 use Rattle.fr_compile.proofs.emitting.drop_all.Goals as goal
 
 pub slots-preserved : goal.slots-preserved

@@ -1,42 +1,46 @@
-use Rattle.std.proofs.Common.{◌-◌, length, arith, sym, subst}
+use Rattle.std.proofs.Common.{◌<◌, length, refl, arith, sym, subst}
+use Rattle.fr_base.specs.declared.instruction.Instr.TheVariants as instr
 use Rattle.fr_forms.specs.FormTerms.{root_of}
-use Rattle.fr_compile.specs.declared.body.Body.{Body}
-use Rattle.fr_compile.specs.Bodies.{IsHole}
-use Rattle.fr_compile.specs.Emitting.{IsStarted}
-use Rattle.fr_compile.proofs.Sources.{term_source}
-use Rattle.fr_compile.proofs.Queue.{main_waits, next_hole, turn_next, less_left, all_started, all_counted, all_laid}
+use Rattle.fr_compile.specs.declared.waiting.Waiting.{Waiting}
+use Rattle.fr_compile.specs.Emitting.{IsPlaced}
+use Rattle.fr_compile.proofs.Rows.{unary_added}
+use Rattle.fr_compile.proofs.Turns.{inside_at, main_taken, code_few, start_there, next_taken, next_fewer, all_taken}
 use Rattle.fr_compile.proofs.threads.emit_threads.Goals as goal
 
-pub bodies-init : goal.bodies-init
-bodies-init c =
+pub queue-init : goal.queue-init
+queue-init c =
     let fs = c.args.forms.now in
-    main_waits fs c.args.code.now.items c.emit.new.code.items c.push.new.self.items c.new-bodies.result.items c.emit.new.bodies.items c.in_ok-value.value (root_of fs) c.requires.empty c.new-bodies.ensures.items c.in_ok-value.ensures c.in_ok-push.ensures.pushed (term_source fs (length fs - 1))
+    let a = c.args.code.now.items in
+    let f = c.push.new.self.items in
+    let bs = c.new-queue.result.items in
+    let cs = c.emit.new.queue.items in
+    main_taken fs a f bs cs (root_of fs) c.requires.empty c.new-queue.ensures.items (unary_added fs a c.emit.new.code.items f bs cs instr.End c.in_ok-value.value (root_of fs) c.in_ok-value.ensures c.in_ok-push.ensures.pushed (λ o. refl))
 
-pub emit_body-requires-clause-hole : goal.emit_body-requires-clause-hole
-emit_body-requires-clause-hole c =
+pub emit_body-requires-clause-inside : goal.emit_body-requires-clause-inside
+emit_body-requires-clause-inside c =
     let fs = c.args.forms.now in
-    subst (λ (b : Body). IsHole fs c.bodies.code.items b) (sym c.index-body.ensures) (next_hole fs c.bodies.code.items c.bodies.bodies.items c.bodies.next c.index-body.result.now (root_of fs) (omega (arith, c.len.ensures, c.bodies-test.true)) c.bodies.invariant)
+    subst (λ (w : Waiting). w.body < length fs) (sym c.index-waiting.ensures) (inside_at fs (length fs) c.queue.queue.items c.queue.next c.index-waiting.result.now (omega (arith, c.len.ensures, c.queue-test.true)) c.queue.invariant.1)
+
+pub emit_body-requires-clause-start : goal.emit_body-requires-clause-start
+emit_body-requires-clause-start c =
+    let fs = c.args.forms.now in
+    subst (λ (w : Waiting). w.start < length c.queue.code.items) (sym c.index-waiting.ensures)
+    (start_there fs c.queue.code.items c.queue.queue.items c.queue.next (root_of fs) c.index-waiting.result.now (omega (arith, c.len.ensures, c.queue-test.true)) c.queue.invariant)
 
 pub emit_body-requires-clause-few : goal.emit_body-requires-clause-few
-emit_body-requires-clause-few c = omega (arith, c.bodies.invariant.size, c.requires.few)
+emit_body-requires-clause-few c = let l = code_few c.args.forms.now c.queue.code.items c.queue.queue.items c.queue.next (root_of c.args.forms.now) c.queue.invariant in omega (arith, l, c.requires.few)
 
-pub bodies-smaller : goal.bodies-smaller
-bodies-smaller c =
+pub queue-smaller : goal.queue-smaller
+queue-smaller c =
     let fs = c.args.forms.now in
-    let s = subst (λ (b : Body). IsStarted fs c.bodies.code.items c.emit_body.new.code.items c.bodies.bodies.items c.emit_body.new.bodies.items b) c.index-body.ensures c.in_ok-emit_body.ensures in
-    less_left fs c.bodies.code.items c.emit_body.new.code.items c.bodies.bodies.items c.emit_body.new.bodies.items c.bodies.next c.index-body.result.now (omega (arith, c.len.ensures, c.bodies-test.true)) s
+    let p = subst (λ (w : Waiting). IsPlaced fs c.queue.code.items c.emit_body.new.code.items c.queue.queue.items c.emit_body.new.queue.items w) c.index-waiting.ensures c.in_ok-emit_body.ensures in
+    next_fewer fs c.queue.code.items c.queue.queue.items c.queue.next (root_of fs) c.index-waiting.result.now (omega (arith, c.len.ensures, c.queue-test.true)) c.queue.invariant c.emit_body.new.code.items c.emit_body.new.queue.items p
 
-pub bodies-preserved : goal.bodies-preserved
-bodies-preserved c =
+pub queue-preserved : goal.queue-preserved
+queue-preserved c =
     let fs = c.args.forms.now in
-    let s = subst (λ (b : Body). IsStarted fs c.bodies.code.items c.emit_body.new.code.items c.bodies.bodies.items c.emit_body.new.bodies.items b) c.index-body.ensures c.in_ok-emit_body.ensures in
-    turn_next fs c.bodies.code.items c.emit_body.new.code.items c.bodies.bodies.items c.emit_body.new.bodies.items c.bodies.next c.index-body.result.now (root_of fs) (omega (arith, c.len.ensures, c.bodies-test.true)) c.bodies.invariant s
+    let p = subst (λ (w : Waiting). IsPlaced fs c.queue.code.items c.emit_body.new.code.items c.queue.queue.items c.emit_body.new.queue.items w) c.index-waiting.ensures c.in_ok-emit_body.ensures in
+    next_taken fs c.queue.code.items c.queue.queue.items c.queue.next (root_of fs) c.index-waiting.result.now (omega (arith, c.len.ensures, c.queue-test.true)) c.queue.invariant c.emit_body.new.code.items c.emit_body.new.queue.items p
 
-pub returns-clause-code : goal.returns-clause-code
-returns-clause-code c = all_started c.args.forms.now c.bodies.code.items c.bodies.bodies.items c.bodies.next (root_of c.args.forms.now) (omega (arith, c.len.ensures, c.bodies-test.false)) c.bodies.invariant
-
-pub returns-clause-length : goal.returns-clause-length
-returns-clause-length c = all_counted c.args.forms.now c.bodies.code.items c.bodies.bodies.items c.bodies.next (root_of c.args.forms.now) (omega (arith, c.len.ensures, c.bodies-test.false)) c.bodies.invariant
-
-pub returns-clause-layout : goal.returns-clause-layout
-returns-clause-layout c = all_laid c.args.forms.now c.bodies.code.items c.bodies.bodies.items c.bodies.next (root_of c.args.forms.now) (omega (arith, c.len.ensures, c.bodies-test.false)) c.bodies.invariant
+pub returns : goal.returns
+returns c = all_taken c.args.forms.now c.queue.code.items c.queue.queue.items c.queue.next (root_of c.args.forms.now) (omega (arith, c.len.ensures, c.queue-test.false)) c.queue.invariant

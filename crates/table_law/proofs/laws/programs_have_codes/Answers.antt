@@ -1,9 +1,12 @@
 use Rattle.table_law.proofs.laws.programs_have_codes.Goals as goal
-use Rattle.table_law.proofs.Generations.{has_its_code}
+use Rattle.table_law.proofs.Generations.{has_its_code, roomy_codes}
 use Rattle.table_law.proofs.Programs.{programs_have_codes, codes_have_tables}
 
 pub returns-clause-terms : goal.returns-clause-terms
 returns-clause-terms c = has_its_code
+
+pub returns-clause-roomy : goal.returns-clause-roomy
+returns-clause-roomy c = roomy_codes
 
 pub returns-clause-programs : goal.returns-clause-programs
 returns-clause-programs c = programs_have_codes
