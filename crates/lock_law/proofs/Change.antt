@@ -85,5 +85,4 @@ module _ {k : Cluster} {R G G2 : List Thing} {n : ℕ} {x : ThreadState} {pc : �
   pub once_on : Once (s k R G G2 n x pc slots temps)
       → ((w : MutexNo) → tot (λ v. told ones (content_value (s2 k R G G2 n x pc slots temps) w v)) G2 + tot (λ v. told ones (content_value (s k R G G2 n x pc slots temps) w v)) R ≤ 1)
       → ((r : ℕ) → tot (λ v. told ones (shown_result (s2 k R G G2 n x pc slots temps) r v)) G2 ≡ 0) → Once (s2 k R G G2 n x pc slots temps)
-  once_on =
-      one_mutex.once_then k R G G2 n x pc slots temps c.calm c.loose c.loose_then c.lone m under under2 fresh c.even c.named c.named_then c.inside_it c.inside_then extra c.new_in c.extra_in c.none c.no_task c.no_object c.no_other c.results c.started c.shares c.shares_then c.contents
+  once_on = one_mutex.once_then k R G G2 n x pc slots temps c.calm c.loose c.loose_then c.lone

@@ -1,17 +1,21 @@
 -- Each kind of instruction whose line stands.
-use Rattle.std.proofs.Common.{◌≡◌, true, Some, refl}
+use Rattle.std.proofs.Common.{◌≡◌, true, Some, length, refl, subst}
 use Rattle.fr_base.specs.declared.instruction.Instr.{Instr}
 use Rattle.fr_base.specs.declared.instruction.Instr.TheVariants as instr
-use Rattle.server_model.specs.Clusters.{apply}
+use Rattle.server_model.specs.Events.{Stepped, stepped, begin_work, step}
+use Rattle.server_model.specs.Clusters.{hand_over_newer, apply}
 use Rattle.heap_law.specs.Coherent.{IsSound}
 use Rattle.type_law.specs.ClusterTypes.{IsCoherent}
 use Rattle.event_law.specs.Laws.{Gives}
 use Rattle.turn_law.specs.Turns.{IsPlainStep, instr_of, ArePlainSteps}
-use Rattle.lock_law.specs.Locks.{dups_mutex, locks_mutex, makes_mutex}
+use Rattle.lock_law.specs.Locks.{dups_mutex, locks_mutex, makes_mutex, marked, IsThere, UnlocksArePlain}
 use Rattle.lock_law.proofs.MutexTurns.{mutex_steps}
 use Rattle.lock_law.proofs.DupLines.{dup_line}
 use Rattle.lock_law.proofs.LockLines.{lock_line}
 use Rattle.lock_law.proofs.NewLines.{new_line}
+use Rattle.lock_law.proofs.UnlockLines.{unlock_line}
+use Rattle.turn_law.proofs.Clauses.{same_thread}
+use Rattle.turn_law.proofs.Events.{Sends, events_are}
 
 pub dups : ArePlainSteps IsCoherent dups_mutex
 dups k e i q it co few = by i q it
@@ -33,3 +37,9 @@ news k e i q it sound few = by i q it
     by : (i : Instr) → instr_of k e ≡ Some i → makes_mutex i ≡ true → Gives (IsPlainStep k) (apply k e)
     by (instr.Mutex o) q it = mutex_steps k sound e (instr.Mutex o) refl few (λ s t x at. new_line k sound e o s t x at) q
     by _ q it = absurd (cc it)
+
+pub unlocks : UnlocksArePlain
+unlocks k e y q th sound few =
+    events_are (λ d. IsThere d.0 (marked y) → IsPlainStep k d) k e instr.Unlock sound few (λ s t x at.
+    subst (λ z. Gives (λ (d : Stepped). Sends k e s (stepped s d) → IsThere (record k { servers = hand_over_newer e.server (length s.rest.outbox) (stepped s d).0 k.servers }) (marked z) → IsPlainStep k (record k { servers = hand_over_newer e.server (length s.rest.outbox) (stepped s d).0 k.servers }, (stepped s d).1)) (step k.options.servers instr.Unlock (record { work = begin_work s.rest; thread = x })))
+    (same_thread k e instr.Unlock s t x y at th) (unlock_line k sound e s t x at)) q

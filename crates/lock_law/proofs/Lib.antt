@@ -13,4 +13,5 @@ pub mod DupLines
 pub mod LockLines
 pub mod NewMutex
 pub mod NewLines
+pub mod UnlockLines
 pub mod Clauses

@@ -79,10 +79,10 @@ module _ (k : Cluster) (sound : IsSound k) (e : Event) (i : Instr) (single : is_
     pub once : Once (then_there pc slots temps comes)
     pub steps : (c : CodeWhole) → SameState (plain_state c) (one_heap k) → StepsTo k.code c x.number names (state_of (then_there pc slots temps comes)) d.hand.work.labels
 
-  abbrev Next : Stepped → Cluster
+  abbrev pub Next : Stepped → Cluster
   Next d = record k { servers = hand_over_newer e.server (length s.rest.outbox) (stepped s d).0 k.servers }
 
-  is_step : (d : Stepped) → MutexTurn d → Sends k e s (stepped s d) → IsPlainStep k (Next d, (stepped s d).1)
+  pub is_step : (d : Stepped) → MutexTurn d → Sends k e s (stepped s d) → IsPlainStep k (Next d, (stepped s d).1)
   is_step d turn sends u names who done c same =
       let own : x.number ≡ u = sym (ap (λ (v : ThreadState). v.number) turn.thread) ∙ (let r : d.hand.thread.number ≡ u = cc in r) in
       let named : turn.names ≡ names = (let r : Some turn.names ≡ Some names = sym turn.named ∙ done in cc) in

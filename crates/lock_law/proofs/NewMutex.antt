@@ -121,6 +121,79 @@ none_among f z [] e h = absurd h
 none_among f z (x ∷ xs) e (inl q) = subst (λ v. f v ≡ 0) q (omega (arith, e))
 none_among f z (x ∷ xs) e (inr h) = none_among f z xs (omega (arith, e)) h
 
+-- WHAT IS OWNED BY A MUTEX
+
+module _ (k : Cluster) (sound : IsSound k) (e : Event) (s : Server) (here : server_at k.servers e.server ≡ Some s) (t : ℕ) (x : ThreadState) (at : thread_in s.threads t ≡ Some x) (number : x.number ≡ t) where
+  abbrev n1 : ℕ
+  n1 = s.rest.number
+
+  abbrev R1 : List Thing
+  R1 = changed.R k sound e s here t x at number
+
+  abbrev G1 : List Thing
+  G1 = changed.G k sound e s here t x at number
+
+  abbrev a1 : List Thing
+  a1 = changed.a k sound e s here t x at number
+
+  -- what the others weigh, and what the thread has
+  pub rest_and_own : (f : Thing → ℕ) → tot f R1 + tot f (had_by n1 (giftless x)) ≤ tot f (things_of k)
+  rest_and_own f =
+      let whole : tot f a1 ≡ f (stands n1 false x) + tot f ((G1 ++ had_by n1 (giftless x)) ++ R1) = refl in
+      omega (arith, whole, same_things k sound e s here t x at number f, tot-append f (G1 ++ had_by n1 (giftless x)) R1, tot-append f G1 (had_by n1 (giftless x)))
+
+  pub rest_less : (f : Thing → ℕ) → tot f R1 ≤ tot f (things_of k)
+  rest_less f = omega (arith, rest_and_own f)
+
+  -- where no thread has its content as a gift and nothing among the others is its content
+  module _ (m : MutexNo) (free : tot (on_standing (gift_content (sight k) m)) (things_of k) ≡ 0) (rest : tot (contents (sight k) m) R1 ≡ 0) where
+    ungranted : (z : Standing) → Among z (threads_in (things_of k)) → gift_content (sight k) m z ≡ 0
+    ungranted z h = none_among (gift_content (sight k) m) z (threads_in (things_of k)) (omega (arith, free, sum_standing (gift_content (sight k) m) (things_of k))) h
+
+    -- no gift is its content
+    gift_off : (u : ℕ) → stray (sight k) (holds (as_gift u) owned.Unit) ≡ 0 → gift_owner_of (sight k) (thread_at (threads_in (things_of k)) u) ≡ inside (mutex_n m) → ⊥
+    gift_off u unstray e = by (thread_at (threads_in (things_of k)) u) refl unstray e
+      where
+        of_lock : (z : Standing) (o : Option MutexNo) → content_owner o ≡ inside (mutex_n m) → o ≡ Some m
+        of_lock z None e = absurd (cc e)
+        of_lock z (Some w) e = let same : w ≡ m = cc in ap (λ v. Some v) same
+
+        granted : (z : Standing) → is_some z.thread.gift ≡ true → locked_mutex (sight k) z (instr_of (sight k) z) ≡ Some m → gift_content (sight k) m z ≡ 1
+        granted z g l = ap₂ (λ b o. if_so b (one (is_mutex m o))) g l ∙ ap (λ b. if_so true (one b)) (itself_named m)
+
+        found : (z : Standing) → Among z (threads_in (things_of k)) → is_some z.thread.gift ≡ true → (i : Option Instr) → instr_of (sight k) z ≡ i → gift_owner (sight k) z i ≡ inside (mutex_n m) → ⊥
+        found z h g (Some (instr.Lock w)) q f =
+            let l : locked_mutex (sight k) z (instr_of (sight k) z) ≡ Some m = ap (locked_mutex (sight k) z) q ∙ of_lock z (locked_mutex (sight k) z (Some (instr.Lock w))) f in
+            absurd (omega (arith, ungranted z h, granted z g l))
+        found z h g (Some (instr.Join o)) q f = result_off _ f
+          where
+            result_off : (r : Option ℕ) → result_owner r ≡ inside (mutex_n m) → ⊥
+            result_off None d = cc d
+            result_off (Some v) d = cc d
+        found z h g _ q f = cc f
+
+        by : (o : Option Standing) → thread_at (threads_in (things_of k)) u ≡ o → other (gifted o) ≡ 0 → gift_owner_of (sight k) o ≡ inside (mutex_n m) → ⊥
+        by None q z f = cc f
+        by (Some z) q g f = found z (among_thread (threads_in (things_of k)) u z q).0 (numbered (is_some z.thread.gift) g) (instr_of (sight k) z) refl f
+
+    pub off_all : (extra : Node → Bool) → ((q : Node) → extra q ≡ true → q ≡ mutex_n m) → NoneUnder (with_things k a1) extra R1
+    off_all extra only = go R1 rest (omega (arith, unstray k sound e s here t x at number, rest_less (stray (sight k))))
+      where
+        off : (th : Thing) → contents (sight k) m th ≡ 0 → stray (sight k) th ≡ 0 → owner_of (with_things k a1) th ≡ inside (mutex_n m) → ⊥
+        off (holds (as_content w) v) c g i = let same : w ≡ m = cc in absurd (omega (arith, c, ap one (ap (λ u. same_mutex u m) same ∙ itself_named m)))
+        off (holds (as_gift u) v) c g i = gift_off u g (spots_before k sound e s here t x at number (as_gift u) ∙ i)
+        off (holds (as_result u) v) c g e = cc e
+        off (holds (in_slot u i) v) c g e = cc e
+        off (holds (in_temp u i) v) c g e = cc e
+        off (holds in_hand v) c g e = cc e
+        off (lies r i d) c g e = cc e
+        off (flies w d) c g e = cc e
+        off _ c g e = cc e
+
+        go : (xs : List Thing) → tot (contents (sight k) m) xs ≡ 0 → tot (stray (sight k)) xs ≡ 0 → NoneUnder (with_things k a1) extra xs
+        go [] c g = tt
+        go (th ∷ xs) c g = ((λ q z f. off th (omega (arith, c)) (omega (arith, g)) (f ∙ ap inside (only q z))), go xs (omega (arith, c)) (omega (arith, g)))
+
 module _ (k : Cluster) (sound : IsSound k) (e : Event) (s : Server) (here : server_at k.servers e.server ≡ Some s) (t : ℕ) (x : ThreadState) (at : thread_in s.threads t ≡ Some x) (number : x.number ≡ t) where
   abbrev pub m : MutexNo
   m = next_mutex s.rest.mutexes
@@ -148,12 +221,6 @@ module _ (k : Cluster) (sound : IsSound k) (e : Event) (s : Server) (here : serv
   counts_alone : (f : Thing → ℕ) → ((v : Owned) → f (holds (as_gift x.number) v) ≡ 0) → (g : Option Owned) → tot f (gift_things x.number g ++ counts_of n s.events s.rest ∷ []) ≡ f (counts_of n s.events s.rest)
   counts_alone f h None = omega arith
   counts_alone f h (Some v) = omega (arith, h v)
-
-  -- what the others weigh
-  rest_less : (f : Thing → ℕ) → tot f R ≤ tot f (things_of k)
-  rest_less f =
-      let whole : tot f a ≡ f (stands n false x) + tot f ((G ++ had_by n (giftless x)) ++ R) = refl in
-      omega (arith, whole, same_things k sound e s here t x at number f, tot-append f (G ++ had_by n (giftless x)) R)
 
   -- no server has counted it
   unmade_here : tot (made_at n m.count) (things_of k) ≡ 0
@@ -208,61 +275,11 @@ module _ (k : Cluster) (sound : IsSound k) (e : Event) (s : Server) (here : serv
   standing_less (stands r p y) = omega arith
   standing_less _ = omega arith
 
-  ungranted : (z : Standing) → Among z (threads_in (things_of k)) → gift_content (sight k) m z ≡ 0
-  ungranted z h =
-      let l = tot_le (on_standing (gift_content (sight k) m)) (contents (sight k) m) standing_less (things_of k) in
-      none_among (gift_content (sight k) m) z (threads_in (things_of k)) (omega (arith, l, no_contents, sum_standing (gift_content (sight k) m) (things_of k))) h
-
-  -- no gift is its content
-  gift_off : (u : ℕ) → stray (sight k) (holds (as_gift u) owned.Unit) ≡ 0 → gift_owner_of (sight k) (thread_at (threads_in (things_of k)) u) ≡ inside (mutex_n m) → ⊥
-  gift_off u unstray e = by (thread_at (threads_in (things_of k)) u) refl unstray e
-    where
-      of_lock : (z : Standing) (o : Option MutexNo) → content_owner o ≡ inside (mutex_n m) → o ≡ Some m
-      of_lock z None e = absurd (cc e)
-      of_lock z (Some w) e = let same : w ≡ m = cc in ap (λ v. Some v) same
-
-      granted : (z : Standing) → is_some z.thread.gift ≡ true → locked_mutex (sight k) z (instr_of (sight k) z) ≡ Some m → gift_content (sight k) m z ≡ 1
-      granted z g l = ap₂ (λ b o. if_so b (one (is_mutex m o))) g l ∙ ap (λ b. if_so true (one b)) (itself_named m)
-
-      found : (z : Standing) → Among z (threads_in (things_of k)) → is_some z.thread.gift ≡ true → (i : Option Instr) → instr_of (sight k) z ≡ i → gift_owner (sight k) z i ≡ inside (mutex_n m) → ⊥
-      found z h g (Some (instr.Lock w)) q f =
-          let l : locked_mutex (sight k) z (instr_of (sight k) z) ≡ Some m = ap (locked_mutex (sight k) z) q ∙ of_lock z (locked_mutex (sight k) z (Some (instr.Lock w))) f in
-          absurd (omega (arith, ungranted z h, granted z g l))
-      found z h g (Some (instr.Join o)) q f = result_off _ f
-        where
-          result_off : (r : Option ℕ) → result_owner r ≡ inside (mutex_n m) → ⊥
-          result_off None d = cc d
-          result_off (Some v) d = cc d
-      found z h g _ q f = cc f
-
-      by : (o : Option Standing) → thread_at (threads_in (things_of k)) u ≡ o → other (gifted o) ≡ 0 → gift_owner_of (sight k) o ≡ inside (mutex_n m) → ⊥
-      by None q z f = cc f
-      by (Some z) q g f = found z (among_thread (threads_in (things_of k)) u z q).0 (numbered (is_some z.thread.gift) g) (instr_of (sight k) z) refl f
-
   -- nothing among the others is owned by it
   pub none_under : (extra : Node → Bool) → ((q : Node) → extra q ≡ true → q ≡ mutex_n m) → NoneUnder s1 extra R
-  none_under extra only = go R rest_contents rest_strays
-    where
-      rest_contents : tot (contents (sight k) m) R ≡ 0
-      rest_contents = omega (arith, no_contents, rest_less (contents (sight k) m))
-
-      rest_strays : tot (stray (sight k)) R ≡ 0
-      rest_strays = omega (arith, unstray k sound e s here t x at number, rest_less (stray (sight k)))
-
-      off : (th : Thing) → contents (sight k) m th ≡ 0 → stray (sight k) th ≡ 0 → owner_of s1 th ≡ inside (mutex_n m) → ⊥
-      off (holds (as_content w) v) c g i = let same : w ≡ m = cc in absurd (omega (arith, c, ap one (ap (λ u. same_mutex u m) same ∙ itself_named m)))
-      off (holds (as_gift u) v) c g i = gift_off u g (spots_before k sound e s here t x at number (as_gift u) ∙ i)
-      off (holds (as_result u) v) c g e = cc e
-      off (holds (in_slot u i) v) c g e = cc e
-      off (holds (in_temp u i) v) c g e = cc e
-      off (holds in_hand v) c g e = cc e
-      off (lies r i d) c g e = cc e
-      off (flies w d) c g e = cc e
-      off _ c g e = cc e
-
-      go : (xs : List Thing) → tot (contents (sight k) m) xs ≡ 0 → tot (stray (sight k)) xs ≡ 0 → NoneUnder s1 extra xs
-      go [] c g = tt
-      go (th ∷ xs) c g = ((λ q z f. off th (omega (arith, c)) (omega (arith, g)) (f ∙ ap inside (only q z))), go xs (omega (arith, c)) (omega (arith, g)))
+  none_under extra only =
+      let l = tot_le (on_standing (gift_content (sight k) m)) (contents (sight k) m) standing_less (things_of k) in
+      off_all k sound e s here t x at number m (omega (arith, l, no_contents)) (omega (arith, no_contents, rest_less k sound e s here t x at number (contents (sight k) m))) extra only
 
 -- where nothing is owned by it, nothing shows its content
 module _ (r : Sight) (m : MutexNo) where

@@ -119,6 +119,22 @@ module _ (k : Cluster) (R G G2 : List Thing) (n : ℕ) (x : ThreadState) (pc : �
       here k (mine n y1 G2) R q
       (any_mine n y1 G2 (s2 k R G G2 n x pc slots temps) In2 q ∙ or_left (any_named (s2 k R G G2 n x pc slots temps) In2 q G2) (some (own2 q)) e)
 
+  loose_cells : (o : ObjNo) (xs : List Thing) → AllByRecursion IsLoose xs → tot (λ v. told ones (cell_value o v)) xs ≡ 0
+  loose_cells o [] h = refl
+  loose_cells o (th ∷ xs) h = omega (arith, by th h.0, loose_cells o xs h.1)
+    where
+      by : (th : Thing) → IsLoose th → told ones (cell_value o th) ≡ 0
+      by (lies r i c) l = absurd l
+      by (flies w c) l = absurd l
+      by _ l = refl
+
+  -- what is shown once stays so, whoever is in the state
+  pub once_then : Once (s k R G G2 n x pc slots temps)
+      → ((w : MutexNo) → tot (λ v. told ones (content_value (s2 k R G G2 n x pc slots temps) w v)) G2 + tot (λ v. told ones (content_value (s k R G G2 n x pc slots temps) w v)) R ≤ 1)
+      → ((r : ℕ) → tot (λ v. told ones (shown_result (s2 k R G G2 n x pc slots temps) r v)) G2 ≡ 0) → Once (s2 k R G G2 n x pc slots temps)
+  once_then once few ends =
+      one_thread.once_on k R G G2 n x pc slots temps calm beside beside2 lone locks once (λ o. omega (arith, loose_cells o G2 loose2)) few (λ r. omega (arith, ends r))
+
   module _ (m : MutexNo) (under under2 : Option Owned) (fresh : Bool) (even : (q : Node) → own q + owned_under q under + new_share fresh q m ≡ own2 q + owned_under q under2)
       (named : (f : Node → Bool) (q : Node) → any_named (s k R G G2 n x pc slots temps) f q G ≡ named_under f q m under) (named2 : (f : Node → Bool) (q : Node) → any_named (s2 k R G G2 n x pc slots temps) f q G2 ≡ named_under f q m under2)
       (inside_it : is_some under ≡ true → In (mutex_n m) ≡ true) (inside_then : is_some under2 ≡ true → In2 (mutex_n m) ≡ true)
@@ -197,15 +213,6 @@ module _ (k : Cluster) (R G G2 : List Thing) (n : ℕ) (x : ThreadState) (pc : �
         by (flies w c) l = absurd l
         by _ l = refl
 
-    loose_cells : (o : ObjNo) (xs : List Thing) → AllByRecursion IsLoose xs → tot (λ v. told ones (cell_value o v)) xs ≡ 0
-    loose_cells o [] h = refl
-    loose_cells o (th ∷ xs) h = omega (arith, by th h.0, loose_cells o xs h.1)
-      where
-        by : (th : Thing) → IsLoose th → told ones (cell_value o th) ≡ 0
-        by (lies r i c) l = absurd l
-        by (flies w c) l = absurd l
-        by _ l = refl
-
     module _ (no_task : (u : ℕ) → extra (task_n u) ≡ false) (no_object : (o : ObjNo) → extra (object_n o) ≡ false) (no_other : (w : MutexNo) → w ≢ m → extra (mutex_n w) ≡ false)
         (results : (r : ℕ) → first_shown (result_value s_now r) G ≡ first_shown (result_value s_then r) G2) (started : (h c : ℕ) → tot (started_at h c) G ≡ tot (started_at h c) G2)
         (shares1 : (w : MutexNo) → tot (share_in s_now w) G ≡ owned_under (mutex_n w) under) (shares2 : (w : MutexNo) → tot (share_in s_then w) G2 ≡ owned_under (mutex_n w) under2)
@@ -243,7 +250,3 @@ module _ (k : Cluster) (R G G2 : List Thing) (n : ℕ) (x : ThreadState) (pc : �
       it_then e =
           ap (λ q. if_there q (record { content = first_shown (content_value s_then m) (b k R G G2 n x pc slots temps); shares = tot (share_in s_then m) (b k R G G2 n x pc slots temps) })) e
           ∙ ap₂ shared_as (one_thread.content_afterwards k R G G2 n x pc slots temps calm beside beside2 lone locks extra none in_then no_task results m) (shares_then m)
-
-      pub once_then : Once s_now → ((w : MutexNo) → tot (λ v. told ones (content_value s_then w v)) G2 + tot (λ v. told ones (content_value s_now w v)) R ≤ 1) → ((r : ℕ) → tot (λ v. told ones (shown_result s_then r v)) G2 ≡ 0) → Once s_then
-      once_then once few ends =
-          one_thread.once_on k R G G2 n x pc slots temps calm beside beside2 lone locks extra none in_then no_task results once (λ o. omega (arith, loose_cells o G2 loose2)) few (λ r. omega (arith, ends r))

@@ -200,6 +200,59 @@ module _ (k : Cluster) (R G G2 : List Thing) (n : ℕ) (x : ThreadState) (pc : �
           let flat : Own (λ v. made_at m.home m.count v ≡ 0) = record { slots = λ w i v. refl; temps = λ w i v. refl; shared = λ l w. refl; lent = λ l w. refl; marks = λ l w. refl; used = λ w v. refl } in
           ap (λ c. not (m.count == 0) && some c) (tot_same (made_at m.home m.count) (made_at m.home m.count) flat flat (omega (arith, made m.home m.count)) (λ th z. refl))
 
+      -- ONCE
+
+      -- the sights show things once together
+      pub once_on : Once s → ((o : ObjNo) → tot (λ v. told ones (cell_value o v)) G2 ≤ tot (λ v. told ones (cell_value o v)) G)
+          → ((m : MutexNo) → tot (λ v. told ones (content_value s2 m v)) G2 + tot (λ v. told ones (content_value s m v)) R ≤ 1)
+          → ((r : ℕ) → tot (λ v. told ones (shown_result s2 r v)) G2 ≤ tot (λ v. told ones (shown_result s r v)) G) → Once s2
+      once_on once cells contents ends = record {
+        cells = λ o.
+            let flat : Own (λ v. told ones (cell_value o v) ≡ 0) = record { slots = λ w i v. refl; temps = λ w i v. refl; shared = λ l w. refl; lent = λ l w. refl; marks = λ l w. refl; used = λ w v. refl } in
+            omega (arith, once.cells o, cells o, tot_of n x G R (λ v. told ones (cell_value o v)) flat, tot_of n y G2 R (λ v. told ones (cell_value o v)) flat);
+        threads = λ u.
+            let flat : Own (λ v. is_thread u v ≡ 0) = record { slots = λ w i v. refl; temps = λ w i v. refl; shared = λ l w. refl; lent = λ l w. refl; marks = λ l w. refl; used = λ w v. refl } in
+            omega (arith, once.threads u, tot_same (is_thread u) (is_thread u) flat flat (omega (arith, no_threads_in u G beside, no_threads_in u G2 beside2)) (λ th z. refl));
+        contents = λ m.
+            let flat : (r : Sight) → Own (λ v. told ones (content_value r m v) ≡ 0) = λ r. record { slots = λ w i v. refl; temps = λ w i v. refl; shared = λ l w. refl; lent = λ l w. refl; marks = λ l w. refl; used = λ w v. refl } in
+            omega (arith, contents m, tot_of n y G2 R (λ v. told ones (content_value s2 m v)) (flat s2), tot_alike t (λ v. told ones (content_value s m v)) (λ v. told ones (content_value s2 m v)) (λ th z. ap (told ones) (content_stays m th z)) R lone);
+        ends = λ r.
+            let flat : (w : Sight) → Own (λ v. told ones (shown_result w r v) ≡ 0) = λ w. record { slots = λ u i v. refl; temps = λ u i v. refl; shared = λ l m. refl; lent = λ l m. refl; marks = λ l m. refl; used = λ u m. refl } in
+            let over : Own (λ v. has_ended r v ≡ 0) = record { slots = λ w i v. refl; temps = λ w i v. refl; shared = λ l w. refl; lent = λ l w. refl; marks = λ l w. refl; used = λ w v. refl } in
+            let mine : told ones (shown_result s r (stands n false x)) ≡ 0 = ap (λ m. told ones (or_else (if_in (some m) (Some plain.Unit)) None)) (none_got r x.phase calm.alone) in
+            let still : has_ended r (stands n false x) ≡ has_ended r (stands n false y) = ap (λ o. one (x.number == r && (not (x.number == 0) && o))) calm.goes in
+            omega (
+              arith,
+              once.ends r,
+              ends r,
+              mine,
+              still,
+              tot_of n x G R (λ v. told ones (shown_result s r v)) (flat s),
+              tot_of n y G2 R (λ v. told ones (shown_result s2 r v)) (flat s2),
+              tot_alike t (λ v. told ones (shown_result s r v)) (λ v. told ones (shown_result s2 r v)) (λ th z. ap (λ o. told ones (or_else (branch_result r th) o)) (result_stays r th z)) R lone,
+              tot_of n x G R (has_ended r) over,
+              tot_of n y G2 R (has_ended r) over,
+              none_ended r G beside,
+              none_ended r G2 beside2,
+            );
+      }
+        where
+          no_threads_in : (u : ℕ) (xs : List Thing) → AllByRecursion IsBeside xs → tot (is_thread u) xs ≡ 0
+          no_threads_in u [] h = refl
+          no_threads_in u (th ∷ xs) h = omega (arith, by th h.0, no_threads_in u xs h.1)
+            where
+              by : (th : Thing) → IsBeside th → is_thread u th ≡ 0
+              by (stands q p z) i = absurd i
+              by _ i = refl
+
+          none_ended : (r : ℕ) (xs : List Thing) → AllByRecursion IsBeside xs → tot (has_ended r) xs ≡ 0
+          none_ended r [] h = refl
+          none_ended r (th ∷ xs) h = omega (arith, by th h.0, none_ended r xs h.1)
+            where
+              by : (th : Thing) → IsBeside th → has_ended r th ≡ 0
+              by (stands q p z) i = absurd i
+              by _ i = refl
+
       -- THE STATE, where these are in it as before, or are such as stand under none of the others
 
       module _ (extra : Node → Bool) (none : NoneUnder s extra R) (in_then : (q : Node) → is_in_state s2 q ≡ with_extra (is_in_state s) extra q) (no_task : (u : ℕ) → extra (task_n u) ≡ false)
@@ -336,56 +389,3 @@ module _ (k : Cluster) (R G G2 : List Thing) (n : ℕ) (x : ThreadState) (pc : �
             made = for_all made_of made_of (ap (λ q. if q then 0 else x.made) calm.goes) refl (λ z. refl);
             pairs = for_all pair_of pair_of calm.alone refl (λ z. refl);
           }
-
-        -- ONCE
-
-        -- the sights show things once together
-        pub once_on : Once s → ((o : ObjNo) → tot (λ v. told ones (cell_value o v)) G2 ≤ tot (λ v. told ones (cell_value o v)) G)
-            → ((m : MutexNo) → tot (λ v. told ones (content_value s2 m v)) G2 + tot (λ v. told ones (content_value s m v)) R ≤ 1)
-            → ((r : ℕ) → tot (λ v. told ones (shown_result s2 r v)) G2 ≤ tot (λ v. told ones (shown_result s r v)) G) → Once s2
-        once_on once cells contents ends = record {
-          cells = λ o.
-              let flat : Own (λ v. told ones (cell_value o v) ≡ 0) = record { slots = λ w i v. refl; temps = λ w i v. refl; shared = λ l w. refl; lent = λ l w. refl; marks = λ l w. refl; used = λ w v. refl } in
-              omega (arith, once.cells o, cells o, tot_of n x G R (λ v. told ones (cell_value o v)) flat, tot_of n y G2 R (λ v. told ones (cell_value o v)) flat);
-          threads = λ u.
-              let flat : Own (λ v. is_thread u v ≡ 0) = record { slots = λ w i v. refl; temps = λ w i v. refl; shared = λ l w. refl; lent = λ l w. refl; marks = λ l w. refl; used = λ w v. refl } in
-              omega (arith, once.threads u, tot_same (is_thread u) (is_thread u) flat flat (omega (arith, no_threads_in u G beside, no_threads_in u G2 beside2)) (λ th z. refl));
-          contents = λ m.
-              let flat : (r : Sight) → Own (λ v. told ones (content_value r m v) ≡ 0) = λ r. record { slots = λ w i v. refl; temps = λ w i v. refl; shared = λ l w. refl; lent = λ l w. refl; marks = λ l w. refl; used = λ w v. refl } in
-              omega (arith, contents m, tot_of n y G2 R (λ v. told ones (content_value s2 m v)) (flat s2), tot_alike t (λ v. told ones (content_value s m v)) (λ v. told ones (content_value s2 m v)) (λ th z. ap (told ones) (content_stays m th z)) R lone);
-          ends = λ r.
-              let flat : (w : Sight) → Own (λ v. told ones (shown_result w r v) ≡ 0) = λ w. record { slots = λ u i v. refl; temps = λ u i v. refl; shared = λ l m. refl; lent = λ l m. refl; marks = λ l m. refl; used = λ u m. refl } in
-              let over : Own (λ v. has_ended r v ≡ 0) = record { slots = λ w i v. refl; temps = λ w i v. refl; shared = λ l w. refl; lent = λ l w. refl; marks = λ l w. refl; used = λ w v. refl } in
-              let mine : told ones (shown_result s r (stands n false x)) ≡ 0 = ap (λ m. told ones (or_else (if_in (some m) (Some plain.Unit)) None)) (none_got r x.phase calm.alone) in
-              let still : has_ended r (stands n false x) ≡ has_ended r (stands n false y) = ap (λ o. one (x.number == r && (not (x.number == 0) && o))) calm.goes in
-              omega (
-                arith,
-                once.ends r,
-                ends r,
-                mine,
-                still,
-                tot_of n x G R (λ v. told ones (shown_result s r v)) (flat s),
-                tot_of n y G2 R (λ v. told ones (shown_result s2 r v)) (flat s2),
-                tot_alike t (λ v. told ones (shown_result s r v)) (λ v. told ones (shown_result s2 r v)) (λ th z. ap (λ o. told ones (or_else (branch_result r th) o)) (result_stays r th z)) R lone,
-                tot_of n x G R (has_ended r) over,
-                tot_of n y G2 R (has_ended r) over,
-                none_ended r G beside,
-                none_ended r G2 beside2,
-              );
-        }
-          where
-            no_threads_in : (u : ℕ) (xs : List Thing) → AllByRecursion IsBeside xs → tot (is_thread u) xs ≡ 0
-            no_threads_in u [] h = refl
-            no_threads_in u (th ∷ xs) h = omega (arith, by th h.0, no_threads_in u xs h.1)
-              where
-                by : (th : Thing) → IsBeside th → is_thread u th ≡ 0
-                by (stands q p z) i = absurd i
-                by _ i = refl
-
-            none_ended : (r : ℕ) (xs : List Thing) → AllByRecursion IsBeside xs → tot (has_ended r) xs ≡ 0
-            none_ended r [] h = refl
-            none_ended r (th ∷ xs) h = omega (arith, by th h.0, none_ended r xs h.1)
-              where
-                by : (th : Thing) → IsBeside th → has_ended r th ≡ 0
-                by (stands q p z) i = absurd i
-                by _ i = refl

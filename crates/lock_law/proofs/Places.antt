@@ -64,7 +64,7 @@ cell_names s c _ m (lying r a) e i = ap (λ b. named_in b (is_in_state s) (insid
 cell_names s c _ m (flying w) e i = ap (λ b. named_in b (is_in_state s) (inside (object_n c.object))) (ap (owns (mutex_n m)) e ∙ itself_named m) ∙ i
 
 -- where the state is the same, so is who is in it
-there_too : (p q : Bool) (x y : Shared) → if_there p x ≡ if_there q y → q ≡ true → p ≡ true
+pub there_too : (p q : Bool) (x y : Shared) → if_there p x ≡ if_there q y → q ≡ true → p ≡ true
 there_too true q x y e f = refl
 there_too false true x y e f = absurd (cc e)
 there_too false false x y e f = f

@@ -1,7 +1,21 @@
 -- WHICH INSTRUCTIONS: those at mutexes. (A step that asks for an answer does no plain step)
-use Rattle.std.specs.Prelude.{Bool, true, false}
+use Rattle.std.specs.Prelude.{◌≡◌, Bool, true, false, Option, Some, None}
+use Rattle.std.specs.Bool.{⊤}
+use Rattle.fr_base.specs.Lists.{last_of}
+use Rattle.fr_base.specs.declared.name.MutexNo.{MutexNo}
 use Rattle.fr_base.specs.declared.instruction.Instr.{Instr}
 use Rattle.fr_base.specs.declared.instruction.Instr.TheVariants as instr
+use Rattle.thread_state.specs.View.{ThreadState}
+use Rattle.server_model.specs.declared.event.Event.{Event}
+use Rattle.server_model.specs.Servers.{Cluster}
+use Rattle.server_model.specs.Work.{front_of, then_some}
+use Rattle.server_model.specs.Commit.{held_of}
+use Rattle.server_model.specs.Clusters.{apply}
+use Rattle.heap_law.specs.Sight.{sight}
+use Rattle.heap_law.specs.OneHeap.{mutex_n, is_in_state}
+use Rattle.heap_law.specs.Coherent.{IsSound}
+use Rattle.event_law.specs.Laws.{Gives, FewEvents}
+use Rattle.turn_law.specs.Turns.{IsPlainStep, instr_of, thread_of}
 
 -- a new mutex of a value
 abbrev pub makes_mutex : Instr → Bool
@@ -16,3 +30,20 @@ dups_mutex i = false
 abbrev pub locks_mutex : Instr → Bool
 locks_mutex (instr.Lock w) = true
 locks_mutex i = false
+
+-- AN UNLOCK
+
+-- the mutex whose mark stands below the last slot
+abbrev pub marked : ThreadState → Option MutexNo
+marked y = then_some (last_of (front_of y.slots)) held_of
+
+-- some value of the mutex is in the state
+abbrev pub IsThere : Cluster → Option MutexNo → Type 0
+IsThere k None = ⊤
+IsThere k (Some m) = is_in_state (sight k) (mutex_n m) ≡ true
+
+-- from a sound cluster, each unlock of a mutex of which some value is in the state afterwards is a plain step, its messages handed over. (Else its content is
+-- dropped)
+abbrev pub UnlocksArePlain : Type 0
+UnlocksArePlain =
+    (k : Cluster) (e : Event) (y : ThreadState) → instr_of k e ≡ Some instr.Unlock → thread_of k e ≡ Some y → IsSound k → FewEvents k → Gives (λ d. IsThere d.0 (marked y) → IsPlainStep k d) (apply k e)

@@ -1,5 +1,5 @@
 ghost use Rattle.heap_law.specs.Coherent.{IsSound};
-ghost use Rattle.lock_law.specs.Locks.{dups_mutex, locks_mutex, makes_mutex};
+ghost use Rattle.lock_law.specs.Locks.{UnlocksArePlain, dups_mutex, locks_mutex, makes_mutex};
 ghost use Rattle.turn_law.specs.Turns.{ArePlainSteps};
 ghost use Rattle.type_law.specs.ClusterTypes.{IsCoherent};
 
@@ -15,4 +15,9 @@ pub fn answer_steps()
 /// one share.
 pub fn new_mutex_steps()
     ensures { ArePlainSteps IsSound makes_mutex }
+{}
+
+/// From a sound cluster, so is an unlock of a mutex of which some value is in the state afterwards: the value of the last slot is the content again, and both slots go.
+pub fn unlock_steps()
+    ensures { UnlocksArePlain }
 {}

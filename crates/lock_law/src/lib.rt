@@ -3,4 +3,4 @@
 
 mod laws;
 
-pub use laws::{answer_steps, new_mutex_steps};
+pub use laws::{answer_steps, new_mutex_steps, unlock_steps};

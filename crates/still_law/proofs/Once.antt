@@ -222,7 +222,7 @@ module _ (k : Cluster) (sound : IsSound k) where
         by false = omega arith
     as_weighed _ = omega arith
 
-    few_homes : tot (is_home_of m) a ≤ 1
+    pub few_homes : tot (is_home_of m) a ≤ 1
     few_homes = by (server_at k.servers m.home) refl
       where
         one_found : (n : ℕ) (o : Option Mutex) → Weight m n ones o ≤ 1

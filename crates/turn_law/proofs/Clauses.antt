@@ -107,7 +107,7 @@ lent k e i q it co few = by i q it
 -- WHAT LETS NOTHING GO
 
 -- the thread of the event is the one that steps
-same_thread : (k : Cluster) (e : Event) (i : Instr) (s : Server) (t : ℕ) (x y : ThreadState) → AtStep k e i s t x → thread_of k e ≡ Some y → x ≡ y
+pub same_thread : (k : Cluster) (e : Event) (i : Instr) (s : Server) (t : ℕ) (x y : ThreadState) → AtStep k e i s t x → thread_of k e ≡ Some y → x ≡ y
 same_thread k e i s t x y a q = some_is (sym found ∙ q)
   where
     some_is : Some x ≡ Some y → x ≡ y

@@ -322,18 +322,18 @@ own_line k e i line s t x a =
 abbrev pub Sends : Cluster → Event → Server → Server × EntryView → Type 0
 Sends k e s r = GoTo (with_server k.servers e.server r.0) (drop (length s.rest.outbox) r.0.rest.outbox)
 
--- what an instruction's line leads to: the event is that plain step
-abbrev pub PlainLine : Cluster → Event → Instr → Type 0
-PlainLine k e i =
+-- what an instruction's line leads to: that of the event
+abbrev pub LineOf : (Cluster × EntryView → Type 0) → Cluster → Event → Instr → Type 0
+LineOf P k e i =
     (s : Server) (t : ℕ) (x : ThreadState) → AtStep k e i s t x
-    → Gives (λ (d : Stepped). Sends k e s (stepped s d) → IsPlainStep k (record k { servers = hand_over_newer e.server (length s.rest.outbox) (stepped s d).0 k.servers }, (stepped s d).1)) (step k.options.servers i (record { work = begin_work s.rest; thread = x }))
+    → Gives (λ (d : Stepped). Sends k e s (stepped s d) → P (record k { servers = hand_over_newer e.server (length s.rest.outbox) (stepped s d).0 k.servers }, (stepped s d).1)) (step k.options.servers i (record { work = begin_work s.rest; thread = x }))
 
-module _ (k : Cluster) (e : Event) (i : Instr) (sound : IsSound k) (few : FewEvents k) (line : PlainLine k e i) where
+module _ (P : Cluster × EntryView → Type 0) (k : Cluster) (e : Event) (i : Instr) (sound : IsSound k) (few : FewEvents k) (line : LineOf P k e i) where
   abbrev Goes : Server → Server × EntryView → Type 0
   Goes s r = Sends k e s r
 
   abbrev Done : Server → Server × EntryView → Type 0
-  Done s r = Goes s r → IsPlainStep k (record k { servers = hand_over_newer e.server (length s.rest.outbox) r.0 k.servers }, r.1)
+  Done s r = Goes s r → P (record k { servers = hand_over_newer e.server (length s.rest.outbox) r.0 k.servers }, r.1)
 
   of_thread_there : (s : Server) → server_at k.servers e.server ≡ Some s → (t : ℕ) → e.what ≡ Step t → enabled k.options s (Step t) ≡ true → (o : Option ThreadState) → thread_in s.threads t ≡ o → then_some o (λ x. slice_get k.code x.pc) ≡ Some i
       → Gives (Done s) (option_map (stepped s) (then_some (option_map (λ x. record { work = begin_work s.rest; thread = x }) o) (step_in k.code k.options.servers)))
@@ -351,14 +351,21 @@ module _ (k : Cluster) (e : Event) (i : Instr) (sound : IsSound k) (few : FewEve
   of_what s h (Evict c) what j = absurd (cc j)
   of_what s h (Migrate t g) what j = absurd (cc j)
 
-  of_server : (s : Server) → server_at k.servers e.server ≡ Some s → instr_at k e.what s ≡ Some i → Gives (IsPlainStep k) (option_map (λ d. (record k { servers = hand_over_newer e.server (length s.rest.outbox) d.0 k.servers }, d.1)) (done_at k e.what s))
+  of_server : (s : Server) → server_at k.servers e.server ≡ Some s → instr_at k e.what s ≡ Some i → Gives (P) (option_map (λ d. (record k { servers = hand_over_newer e.server (length s.rest.outbox) d.0 k.servers }, d.1)) (done_at k e.what s))
   of_server s h j =
-      over_gives (λ r. Goes s r × Done s r) (IsPlainStep k) (done_at k e.what s) _
+      over_gives (λ r. Goes s r × Done s r) (P) (done_at k e.what s) _
       (both_give (Goes s) (Done s) (λ r. Goes s r × Done s r) (done_at k e.what s) (each_event_sends k e sound few s h) (of_what s h e.what refl j) (λ r a b. (a, b))) (λ r g. g.1 g.0)
 
-  -- where the line stands, each event that steps the instruction is that plain step
-  pub events_are_plain : instr_of k e ≡ Some i → Gives (IsPlainStep k) (apply k e)
-  events_are_plain q = then_gives (IsPlainStep k) (server_at k.servers e.server) _ (λ s h. of_server s h (subst (λ o. then_some o (instr_at k e.what) ≡ Some i) h q))
+  -- where the line stands, so is each event that steps the instruction
+  pub events_are : instr_of k e ≡ Some i → Gives (P) (apply k e)
+  events_are q = then_gives (P) (server_at k.servers e.server) _ (λ s h. of_server s h (subst (λ o. then_some o (instr_at k e.what) ≡ Some i) h q))
+
+-- the event is that plain step
+abbrev pub PlainLine : Cluster → Event → Instr → Type 0
+PlainLine k e i = LineOf (IsPlainStep k) k e i
+
+pub events_are_plain : (k : Cluster) (e : Event) (i : Instr) → IsSound k → FewEvents k → PlainLine k e i → instr_of k e ≡ Some i → Gives (IsPlainStep k) (apply k e)
+events_are_plain k e i sound few line = events_are (IsPlainStep k) k e i sound few line
 
 -- the same where the thread has no gift and all but it stays
 pub steps_are_plain : (k : Cluster) (e : Event) (i : Instr) → IsSound k → FewEvents k → is_par_end (Some i) ≡ false → ((g : Option Owned) → GiftFits i g → g ≡ None) → Line k e i → instr_of k e ≡ Some i → Gives (IsPlainStep k) (apply k e)
