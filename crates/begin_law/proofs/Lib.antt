@@ -1,0 +1,3 @@
+mod Captures
+mod NewNames
+mod Spawns
