@@ -7,3 +7,5 @@ pub mod Handed
 pub mod Sentences
 pub mod Messages
 pub mod Routes
+pub mod Rests
+pub mod Homes

@@ -1,6 +1,6 @@
 //! What each event keeps of a sound cluster, one clause for each sentence.
 
-ghost use Rattle.heap_law.specs.Coherent.{asks_others, go_right, join_walks_nothing, options_in_range, parcels_ready, passed_in_a_walk, thread_homes, walk_empty};
+ghost use Rattle.heap_law.specs.Coherent.{asks_others, at_their_home, go_right, join_walks_nothing, options_in_range, parcels_ready, passed_in_a_walk, thread_homes, walk_empty};
 ghost use Rattle.local_law.specs.Laws.{EachEventKeeps};
 
 /// What a thread keeps by itself, whatever its values are: where it doesn't walk, and at a join, its walk is empty; it has passed hops in a walk alone; one that
@@ -19,4 +19,9 @@ pub fn messages_keep()
     ensures go_right { EachEventKeeps go_right }
     ensures asks_others { EachEventKeeps asks_others }
     ensures options_in_range { EachEventKeeps options_in_range }
+{}
+
+/// What the rest of a server keeps: each of its mutexes has its number.
+pub fn servers_keep()
+    ensures at_their_home { EachEventKeeps at_their_home }
 {}
