@@ -6,8 +6,8 @@ use Rattle.mut_borrow.specs.Refs.{changed}
 use Rattle.thread_state.specs.declared.value.Value.TheVariants as value
 use Rattle.server_model.specs.Servers.{Cluster}
 use Rattle.server_model.specs.Places.{took}
-use Rattle.heap_law.specs.Things.{Location, lies, things_of}
-use Rattle.heap_law.specs.Follow.{value_in}
+use Rattle.heap_law.specs.Things.{Location, at_slot, lies, things_of}
+use Rattle.heap_law.specs.Follow.{value_in, leads}
 use Rattle.heap_law.specs.Stale.{Reference, references}
 use Rattle.heap_law.specs.Sight.{sight, issued}
 use Rattle.heap_law.specs.Coherent.{Holds, are_issued, IsSound}
@@ -15,26 +15,26 @@ use Rattle.heap_law.specs.Words.{IsStale}
 use Rattle.path_law.proofs.Sole.{some_is}
 use Rattle.path_law.proofs.Contained.{reference_there}
 use Rattle.word_law.specs.Reworded.{HasPlaces, LiesThere, Reworded}
-use Rattle.word_law.specs.Unmoved.{pointing, Unmoved, LeavesWords}
-use Rattle.word_law.specs.Soles.{outline, SameOutlines}
+use Rattle.word_law.specs.Unmoved.{seen_at, Untouched, LeavesWords}
 use Rattle.word_law.specs.WordsAfter.{Rewrites, IsNoFirst}
 use Rattle.word_law.proofs.Standing.{borrow_stands}
-use Rattle.word_law.proofs.Takings.{seen_reference}
+use Rattle.word_law.proofs.Takings.{leads_pointing, reference_at}
 use Rattle.word_law.proofs.Grounds.{of_borrows, same_place}
-use Rattle.word_law.proofs.Outlines.{outlined_reference, soles_stay}
+use Rattle.word_law.proofs.Outlines.{leads_outline, soles_stay}
 use Rattle.word_law.proofs.Words.{words_go_on, changed_rewords}
 use Rattle.word_law.proofs.Beside.{holders_go_on, dirty_goes_on}
 use Rattle.word_law.proofs.Past.{first_issued, past_goes_on}
 use Rattle.word_law.proofs.Only.{are_only}
-use Rattle.word_law.proofs.Unmoved.{stale_at, unmoved_stays}
+use Rattle.word_law.proofs.Unmoved.{stale_at, untouched_stays}
 use Rattle.stay_law.proofs.Alike.{Alike}
 use Rattle.stay_law.proofs.Seen.{seen_alike}
 use Rattle.prepare_law.specs.Requests.{WordsHold}
 
--- the words hold; places and holders are as they were, nothing more is stale, what is dirty was, and what lay lies
+-- the words hold; slots lead where they led, references were made from the same words, nothing more is stale, what is dirty was, and what lay lies
 pub record Along (k z : Cluster) : Type 0 where
   pub words : WordsHold z
-  pub outlines : SameOutlines k z
+  pub slots_lead : (u t i : ℕ) → leads u (value_in (sight z).ground (at_slot t i)) ≡ leads u (value_in (sight k).ground (at_slot t i))
+  pub made : (l : Location) (r : MutRef) → value_in (sight z).ground l ≡ Some (value.Mut r) → (q : MutRef) × (value_in (sight k).ground l ≡ Some (value.Mut q)) × (q.first ≡ r.first)
   pub fresher : (l : Location) → IsStale (sight z) (Some l) → IsStale (sight k) (Some l)
   pub dirty_was : (l : Location) (r : MutRef) → value_in (sight z).ground l ≡ Some (value.Mut r) → r.dirty ≡ true → value_in (sight k).ground l ≡ Some (value.Mut r)
   pub lies_on : (r a : ℕ) (o : ObjNo) → LiesThere k r a o → LiesThere z r a o
@@ -42,7 +42,8 @@ pub record Along (k z : Cluster) : Type 0 where
 pub along_itself : (k : Cluster) → IsSound k → Along k k
 along_itself k s = record {
   words = record { has_words = s.words.have_words; first_at_holder = s.words.first_at_holder; dirty_alone = s.words.dirty_alone; past_words = s.words.past_words };
-  outlines = record { stands = λ l. refl; takes = λ t m. record { taking = t; among = m; thread = refl; place = refl }; standing = λ p e m. record { pointer = p; among = m; at = e; object = refl } };
+  slots_lead = λ u t i. refl;
+  made = λ l r e. (r, e, refl);
   fresher = λ l x. x;
   dirty_was = λ l r e d. e;
   lies_on = λ r a o l. l;
@@ -52,27 +53,28 @@ along_itself k s = record {
 pub along_alike : (k x z : Cluster) → HasPlaces x → HasPlaces z → z.code ≡ x.code → Alike x.code (things_of x) (things_of z) → Along k x → Along k z
 along_alike k x z c d same a t = record {
   words = record { has_words = (stays.words t.words.has_words).after; first_at_holder = stays.holders t.words.first_at_holder; dirty_alone = stays.dirty t.words.dirty_alone; past_words = stays.past t.words.past_words };
-  outlines = soles_stay.chain k x z t.outlines (soles_stay.unmoved x z u);
+  slots_lead = λ v n i. sym (leads_pointing v (value_in (sight z).ground (at_slot n i))) ∙ ap (leads v) (u.stands (at_slot n i)) ∙ leads_pointing v (value_in (sight x).ground (at_slot n i)) ∙ t.slots_lead v n i;
+  made = λ l r e. t.made l r (reference_at l (value_in (sight x).ground l) r (sym (u.stands l) ∙ ap (seen_at l) e));
   fresher = λ l s. t.fresher l (stale_at z x d (λ m. sym (u.stands m)) u.takes (Some l) s);
-  dirty_was = λ l r e q. t.dirty_was l r (seen_reference (value_in (sight x).ground l) r (sym (u.stands l) ∙ ap pointing e)) q;
+  dirty_was = λ l r e q. t.dirty_was l r (reference_at l (value_in (sight x).ground l) r (sym (u.stands l) ∙ ap (seen_at l) e)) q;
   lies_on = λ r b o l. (let y = t.lies_on r b o l in let q = a.on (lies r b y.cell) y.among in record { cell = q.cell; among = q.among; object = q.object ∙ y.object });
 }
   where
-    u : Unmoved x z
+    u : Untouched x z
     u = seen_alike x z c d same a
 
     stays : LeavesWords x z
-    stays = unmoved_stays x z c d u
+    stays = untouched_stays x z c d u
 
 -- WHERE A DIRTY REFERENCE GETS A WORD THAT WASN'T ISSUED
 
-no_first : (k x : Cluster) (w : ℕ) (o : ObjNo) → Holds k are_issued → issued (sight k) w ≡ false → HasPlaces x → SameOutlines k x → IsNoFirst x o w
+no_first : (k x : Cluster) (w : ℕ) (o : ObjNo) → Holds k are_issued → issued (sight k) w ≡ false → HasPlaces x → Along k x → IsNoFirst x o w
 no_first k x w o all new d s q m e n f =
     let b = of_borrows (sight x).ground q (things_of x) m in
-    let y = outlined_reference (value_in (sight k).ground q.at) q.reference (sym (s.stands q.at) ∙ ap outline (borrow_stands x d q.at q.reference b.among)) in
+    let y = s.made q.at q.reference (borrow_stands x d q.at q.reference b.among) in
     let there = reference_there k q.at y.0 y.1 in
     let was : issued (sight k) y.0.first ≡ true = first_issued k all q.at y.0 (of_borrows (sight k).ground (record { at = q.at; holder = Rattle.heap_law.specs.Stale.holder_of (sight k).ground q.at y.0.holder; reference = y.0 }) (things_of k) there).among in
-    let t : true ≡ false = sym was ∙ ap (issued (sight k)) (ap (λ (a : MutRef). a.first) y.2 ∙ sym f) ∙ new in
+    let t : true ≡ false = sym was ∙ ap (issued (sight k)) (y.2 ∙ sym f) ∙ new in
     absurd cc
 
 dirty_changed : (r : MutRef) → r.dirty ≡ true → changed r ≡ true
@@ -85,9 +87,10 @@ along_cleaned k x z l r w all new c d t e dirty fresh reworded now still = recor
     has_words = (words_go_on x z l r.object w rewrites t.words.has_words).after;
     first_at_holder = holders_go_on x z l r.object w rewrites;
     dirty_alone = dirty_goes_on x z l r.object w rewrites t.words.dirty_alone;
-    past_words = past_goes_on x z l r.object w rewrites (no_first k x w r.object all new c t.outlines) t.words.past_words;
+    past_words = past_goes_on x z l r.object w rewrites (no_first k x w r.object all new c t) t.words.past_words;
   };
-  outlines = soles_stay.chain k x z t.outlines (soles_stay.reworded x z l r.object w reworded);
+  slots_lead = λ u n i. leads_on u (at_slot n i) ∙ t.slots_lead u n i;
+  made = made_on;
   fresher = λ m s. t.fresher m (changed_rewords x z l r.object w rewrites r e (dirty_changed r dirty) m s);
   dirty_was = was;
   lies_on = λ m a o y. still m a o (t.lies_on m a o y);
@@ -102,6 +105,19 @@ along_cleaned k x z l r w all new c d t e dirty fresh reworded now still = recor
       places = d;
       reworded = reworded;
     }
+
+    leads_on : (u : ℕ) (m : Location) → leads u (value_in (sight z).ground m) ≡ leads u (value_in (sight x).ground m)
+    leads_on u m = sym (leads_outline u (value_in (sight z).ground m)) ∙ ap (leads u) ((soles_stay.reworded x z l r.object w reworded).stands m) ∙ leads_outline u (value_in (sight x).ground m)
+
+    made_on : (m : Location) (q : MutRef) → value_in (sight z).ground m ≡ Some (value.Mut q) → (p : MutRef) × (value_in (sight k).ground m ≡ Some (value.Mut p)) × (p.first ≡ q.first)
+    made_on m q f =
+        ⊎_elim
+        (λ (s : m ≡ l).
+        let same : value.Mut (took r w) ≡ value.Mut q = some_is (sym now ∙ ap (value_in (sight z).ground) (sym s) ∙ f) in
+        let one : took r w ≡ q = cc in
+        let y = t.made m r (ap (value_in (sight x).ground) s ∙ e) in
+        (y.0, y.1, y.2 ∙ ap (λ (a : MutRef). a.first) one))
+        (λ (n : m ≡ l → ⊥). t.made m q (sym (reworded.elsewhere m n) ∙ f)) (same_place m l)
 
     was : (m : Location) (q : MutRef) → value_in (sight z).ground m ≡ Some (value.Mut q) → q.dirty ≡ true → value_in (sight k).ground m ≡ Some (value.Mut q)
     was m q f g =

@@ -39,7 +39,7 @@ use Rattle.type_law.specs.ClusterTypes.{IsCoherent}
 use Rattle.path_law.proofs.Sole.{some_is}
 use Rattle.word_law.specs.Reworded.{HasPlaces}
 use Rattle.word_law.specs.Unmoved.{taking_by}
-use Rattle.event_law.specs.Laws.{Gives, GoTo}
+use Rattle.event_law.specs.Laws.{Gives, GoTo, FewEvents}
 use Rattle.event_law.proofs.Results.{map_gives, over_gives, test_gives, both_give}
 use Rattle.event_law.proofs.Applied.{go_with}
 use Rattle.event_law.proofs.Sending.{applied_part, each_event_sends}
@@ -55,13 +55,13 @@ takes_none : (t : ℕ) (p : Phase) (j : Option Instr) → ((v : ℕ) → p ≡ p
 takes_none t (phase.Taken v) j f = absurd (f v refl)
 takes_none t _ j f = refl
 
-read_all : (v : Lval) (d : ℕ) (h : Hand) → prepare (Some (read_or_taken v d false)) h ≡ read_stars v.depth h (in_slot v.slot)
+pub read_all : (v : Lval) (d : ℕ) (h : Hand) → prepare (Some (read_or_taken v d false)) h ≡ read_stars v.depth h (in_slot v.slot)
 read_all v zero h = refl
 read_all v (suc d) h = refl
 
--- the words hold with the server put back, where no plain step is done
-abbrev There : Cluster → Server → Server × EntryView → Type 0
-There k s r = r.1.done ≡ None → Along k (record k { servers = with_server k.servers s.rest.number r.0 }) × HasPlaces (record k { servers = with_server k.servers s.rest.number r.0 })
+-- the words hold with the server put back, where the entry is such
+abbrev pub There : (EntryView → Type 0) → Cluster → Server → Server × EntryView → Type 0
+There Q k s r = Q r.1 → Along k (record k { servers = with_server k.servers s.rest.number r.0 }) × HasPlaces (record k { servers = with_server k.servers s.rest.number r.0 })
 
 module _ (k : Cluster) (coherent : IsCoherent k) (s : Server) (here : server_at k.servers s.rest.number ≡ Some s) (t : ℕ) (y : ThreadState) (at : thread_in s.threads t ≡ Some y)
     (on : enabled k.options s (Step t) ≡ true) (i : Instr) (code : slice_get k.code y.pc ≡ Some i) (w : Lval) (m : ℕ) (reads : Reads i w m) (free : (v : ℕ) → y.phase ≡ phase.Taken v → ⊥) where
@@ -195,11 +195,11 @@ module _ (k : Cluster) (coherent : IsCoherent k) (s : Server) (here : server_at 
 
   -- AT ITS SERVER
 
-  pub server_asks : Gives (There k s) (does k.code k.options s (Step t))
+  pub server_asks : Gives (There (λ v. v.done ≡ None) k s) (does k.code k.options s (Step t))
   server_asks =
-      subst (λ o. Gives (There k s) (option_map (stepped s) (then_some (option_map (λ v. record { work = begin_work s.rest; thread = v }) o) (step_in k.code k.options.servers)))) (sym at)
-      (subst (λ o. Gives (There k s) (option_map (stepped s) (then_some o (λ j. step k.options.servers j h0)))) (sym code)
-      (over_gives Undone (There k s) (step k.options.servers i h0) (stepped s) (step_by k.options.servers i w m reads followed) (λ d g e. ((g e).along, places k coherent s here t y at d.hand (g e).ok))))
+      subst (λ o. Gives (There (λ v. v.done ≡ None) k s) (option_map (stepped s) (then_some (option_map (λ v. record { work = begin_work s.rest; thread = v }) o) (step_in k.code k.options.servers)))) (sym at)
+      (subst (λ o. Gives (There (λ v. v.done ≡ None) k s) (option_map (stepped s) (then_some o (λ j. step k.options.servers j h0)))) (sym code)
+      (over_gives Undone (There (λ v. v.done ≡ None) k s) (step k.options.servers i h0) (stepped s) (step_by k.options.servers i w m reads followed) (λ d g e. ((g e).along, places k coherent s here t y at d.hand (g e).ok))))
 
 -- IN ITS CLUSTER
 
@@ -211,15 +211,14 @@ record Before (k c : Cluster) : Type 0 where
   same : c.code ≡ cluster.code
   alike : Alike cluster.code (things_of cluster) (things_of c)
 
-handed : (k : Cluster) (s : Server) → server_at k.servers s.rest.number ≡ Some s → (o : Option (Server × EntryView))
-    → Gives (There k s) o
+handed : (k : Cluster) (s : Server) (Q : EntryView → Type 0) → server_at k.servers s.rest.number ≡ Some s → (o : Option (Server × EntryView)) → Gives (There Q k s) o
     → Gives (λ (r : Server × EntryView). GoTo (with_server k.servers s.rest.number r.0) (drop_first (length s.rest.outbox) r.0.rest.outbox)) o
-    → Gives (λ (d : Cluster × EntryView). d.1.done ≡ None → Before k d.0) (option_map (λ r. (record k { servers = hand_over_newer s.rest.number (length s.rest.outbox) r.0 k.servers }, r.1)) o)
-handed k s here None a g = tt
-handed k s here (Some r) a g = λ none.
+    → Gives (λ (d : Cluster × EntryView). Q d.1 → Before k d.0) (option_map (λ r. (record k { servers = hand_over_newer s.rest.number (length s.rest.outbox) r.0 k.servers }, r.1)) o)
+handed k s Q here None a g = tt
+handed k s Q here (Some r) a g = λ q.
     let n = s.rest.number in
     let older = length s.rest.outbox in
-    let x = a none in record {
+    let x = a q in record {
       cluster = record k { servers = with_server k.servers n r.0 };
       along = x.0;
       places = x.1;
@@ -227,7 +226,17 @@ handed k s here (Some r) a g = λ none.
       alike = handed_over n older s r.0 k.servers here (go_with k.servers n r.0 (take older r.0.rest.outbox) (drop_first older r.0.rest.outbox) g);
     }
 
-found_number : (n : ℕ) (ss : List Server) (s : Server) → server_at ss n ≡ Some s → s.rest.number ≡ n
+-- so the words hold once messages are handed over
+pub kept_where : (k : Cluster) (s : Server) (t : ℕ) (Q : EntryView → Type 0) → IsCoherent k → FewEvents k → server_at k.servers s.rest.number ≡ Some s → (enabled k.options s (Step t) ≡ true → Gives (There Q k s) (does k.code k.options s (Step t)))
+    → Gives (λ (d : Cluster × EntryView). Q d.1 → WordsHold d.0) (apply k (record { server = s.rest.number; what = Step t }))
+kept_where k s t Q coherent few h go =
+    both_give (λ (d : Cluster × EntryView). Q d.1 → Before k d.0) (λ (d : Cluster × EntryView). HasPlaces d.0) (λ (d : Cluster × EntryView). Q d.1 → WordsHold d.0) (apply k (record { server = s.rest.number; what = Step t }))
+    (subst (λ o. Gives (λ (d : Cluster × EntryView). Q d.1 → Before k d.0) (then_some o (λ x. option_map (λ d. (record k { servers = hand_over_newer s.rest.number (length x.rest.outbox) d.0 k.servers }, d.1)) (done_at k (Step t) x)))) (sym h)
+    (handed k s Q h (done_at k (Step t) s) (test_gives (There Q k s) (enabled k.options s (Step t)) (does k.code k.options s (Step t)) go) (each_event_sends k (record { server = s.rest.number; what = Step t }) coherent.sound few s h)))
+    (applied_part HasPlaces (λ c g. record { numbers_differ = g.numbers_differ; home_of_each = g.home_of_each; owner_of_each = g.owner_of_each }) k (record { server = s.rest.number; what = Step t }) coherent.sound few)
+    (λ d a c q. (let b = a q in (along_alike k b.cluster d.0 b.places c b.same b.alike b.along).words))
+
+pub found_number : (n : ℕ) (ss : List Server) (s : Server) → server_at ss n ≡ Some s → s.rest.number ≡ n
 found_number n [] s e = absurd cc
 found_number n (z ∷ ss) s e = by (z.rest.number == n) refl e (λ g. found_number n ss s g)
   where
@@ -237,17 +246,5 @@ found_number n (z ∷ ss) s e = by (z.rest.number == n) refl e (λ g. found_numb
 
 pub reads_that_ask : ReadsThatAsk
 reads_that_ask k number t s y i w m coherent few here at code reads free =
-    subst (λ n. server_at k.servers n ≡ Some s → Gives Kept (apply k (record { server = n; what = Step t }))) (found_number number k.servers s here) (λ h. asked h) here
-  where
-    Kept : Cluster × EntryView → Type 0
-    Kept d = d.1.done ≡ None → WordsHold d.0
-
-    asked : server_at k.servers s.rest.number ≡ Some s → Gives Kept (apply k (record { server = s.rest.number; what = Step t }))
-    asked h =
-        both_give (λ (d : Cluster × EntryView). d.1.done ≡ None → Before k d.0) (λ (d : Cluster × EntryView). HasPlaces d.0) Kept (apply k (record { server = s.rest.number; what = Step t }))
-        (subst
-        (λ o. Gives (λ (d : Cluster × EntryView). d.1.done ≡ None → Before k d.0) (then_some o (λ x. option_map (λ d. (record k { servers = hand_over_newer s.rest.number (length x.rest.outbox) d.0 k.servers }, d.1)) (done_at k (Step t) x)))) (sym h)
-        (handed k s h (done_at k (Step t) s) (test_gives (There k s) (enabled k.options s (Step t)) (does k.code k.options s (Step t)) (λ on. server_asks k coherent s h t y at on i code w m reads free))
-        (each_event_sends k (record { server = s.rest.number; what = Step t }) coherent.sound few s h)))
-        (applied_part HasPlaces (λ c g. record { numbers_differ = g.numbers_differ; home_of_each = g.home_of_each; owner_of_each = g.owner_of_each }) k (record { server = s.rest.number; what = Step t }) coherent.sound few)
-        (λ d a c none. (let b = a none in (along_alike k b.cluster d.0 b.places c b.same b.alike b.along).words))
+    subst (λ n. server_at k.servers n ≡ Some s → Gives (λ (d : Cluster × EntryView). d.1.done ≡ None → WordsHold d.0) (apply k (record { server = n; what = Step t }))) (found_number number k.servers s here)
+    (λ h. kept_where k s t (λ v. v.done ≡ None) coherent few h (λ on. server_asks k coherent s h t y at on i code w m reads free)) here

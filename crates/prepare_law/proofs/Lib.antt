@@ -2,3 +2,4 @@ pub mod Along
 pub mod Hands
 pub mod Stars
 pub mod Asking
+pub mod Copying

@@ -35,7 +35,6 @@ use Rattle.heap_law.specs.Things.{Location, at_slot, servers_things}
 use Rattle.heap_law.specs.Follow.{Ground, value_in, value_behind, leads, locate}
 use Rattle.heap_law.specs.Sight.{sight}
 use Rattle.type_law.specs.ClusterTypes.{IsCoherent}
-use Rattle.word_law.proofs.Outlines.{leads_outline}
 use Rattle.word_law.proofs.Tints.{slot_stands}
 use Rattle.event_law.specs.Laws.{Gives}
 use Rattle.event_law.proofs.Results.{given_by}
@@ -230,9 +229,7 @@ module _ (k : Cluster) (coherent : IsCoherent k) (s : Server) (here : server_at 
       let now : value_in (sight (put k coherent s here t y at h)).ground l ≡ Some v =
       ap (λ c. value_in (sight (put k coherent s here t y at h)).ground (at_slot c j)) (sym named)
       ∙ slot_stands k s.rest.number s.threads (s.events + 1) h j v (stands k coherent s here t y at h g.state.ok) (places k coherent s here t y at h g.state.ok) e in
-      let same : leads y.number (value_in (sight k).ground l) ≡ leads y.number (value_in (sight (put k coherent s here t y at h)).ground l) =
-      sym (leads_outline y.number (value_in (sight k).ground l)) ∙ ap (leads y.number) (sym (g.state.along.outlines.stands l)) ∙ leads_outline y.number (value_in (sight (put k coherent s here t y at h)).ground l) in
-      ap (λ o. leads y.number (value_behind (sight k).ground o)) located ∙ same ∙ ap (leads y.number) now ∙ to_slot y.number h.work.rest.number h.work.rest.cache v j2 q
+      ap (λ o. leads y.number (value_behind (sight k).ground o)) located ∙ sym (g.state.along.slots_lead y.number y.number j) ∙ ap (leads y.number) now ∙ to_slot y.number h.work.rest.number h.work.rest.cache v j2 q
 
   in_memory : (d : ℕ) (sp : Spot) (o : Option Cell) (h : Hand) → W h → ReadsOk (suc d) (read_value sp (cell_value o) h)
   in_memory d sp None h g = tt

@@ -1,6 +1,7 @@
--- A STEP THAT ENDS IN A REQUEST keeps the words (this project's rules).
-use Rattle.std.specs.Prelude.{◌≡◌, ℕ, Some, None, slice_get}
+-- A STEP THAT READS keeps the words (this project's rules): where it ends in a request, and where it copies.
+use Rattle.std.specs.Prelude.{◌≡◌, ℕ, false, Some, None, slice_get}
 use Rattle.fr_base.specs.declared.instruction.Instr.{Instr}
+use Rattle.fr_base.specs.declared.instruction.Instr.TheVariants as instr
 use Rattle.fr_base.specs.declared.place.Lval.{Lval}
 use Rattle.journal.specs.View.{EntryView}
 use Rattle.thread_state.specs.View.{ThreadState}
@@ -29,3 +30,8 @@ pub record WordsHold (k : Cluster) : Type 0 where
 abbrev pub ReadsThatAsk : Type 0
 ReadsThatAsk = (k : Cluster) (number t : ℕ) (s : Server) (y : ThreadState) (i : Instr) (w : Lval) (m : ℕ) → IsCoherent k → FewEvents k → server_at k.servers number ≡ Some s → thread_in s.threads t ≡ Some y → slice_get k.code y.pc ≡ Some i → Reads i w m
     → ((v : ℕ) → y.phase ≡ phase.Taken v → ⊥) → Gives (λ (d : Cluster × EntryView). d.1.done ≡ None → WordsHold d.0) (apply k (record { server = number; what = Step t }))
+
+-- the step of a thread that copies a place and hasn't taken an object, whether it does its plain step or asks
+abbrev pub CopiesKeep : Type 0
+CopiesKeep = (k : Cluster) (number t : ℕ) (s : Server) (y : ThreadState) (w : Lval) → IsCoherent k → FewEvents k → server_at k.servers number ≡ Some s → thread_in s.threads t ≡ Some y → slice_get k.code y.pc ≡ Some (instr.Read w false)
+    → ((v : ℕ) → y.phase ≡ phase.Taken v → ⊥) → Gives (λ (d : Cluster × EntryView). WordsHold d.0) (apply k (record { server = number; what = Step t }))

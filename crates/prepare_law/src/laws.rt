@@ -1,10 +1,16 @@
 //! Laws of steps that end in a request.
 
-ghost use Rattle.prepare_law.specs.Requests.{ReadsThatAsk};
+ghost use Rattle.prepare_law.specs.Requests.{CopiesKeep, ReadsThatAsk};
 
 /// Where a thread reads its place, or borrows from it, and the step ends in a request, each object has a word, references know the words at their holders, dirty
 /// references are alone and first words that were left are no words of today: on the way copies are used and kept in use, and dirty references to objects
 /// elsewhere get the next colour, which no types are asked for, as such a reference is alone.
 pub fn requests_keep_words()
     ensures reads { ReadsThatAsk }
+{}
+
+/// Where a thread copies a place, it is so whether the step is done or asks for a copy: no place leads to the value on top, and of a shared reference there is
+/// one already that points to the same object.
+pub fn copies_keep_words()
+    ensures copies { CopiesKeep }
 {}

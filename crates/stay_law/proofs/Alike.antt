@@ -11,7 +11,7 @@ use Rattle.heap_law.specs.Sight.{Pointer, pointers_of}
 use Rattle.heap_law.specs.Placing.{standing_of, standing_in}
 use Rattle.heap_law.proofs.Bags.{among_split}
 use Rattle.path_law.proofs.Origins.{among_first, among_second}
-use Rattle.word_law.specs.Unmoved.{pointing, taking_by}
+use Rattle.word_law.specs.Unmoved.{pointing, owning, taking_by}
 use Rattle.word_law.proofs.Standing.{standing_among}
 use Rattle.word_law.proofs.Loose.{box_nowhere}
 
@@ -20,7 +20,7 @@ pub record ShowsAs (code : List Instr) (x y : ThreadState) : Type 0 where
   pub number : y.number ≡ x.number
   pub taking : taking_by y.number y.phase (slice_get code y.pc) ≡ taking_by x.number x.phase (slice_get code x.pc)
   pub slots : (i : ℕ) → pointing (slice_get y.slots i) ≡ pointing (slice_get x.slots i)
-  pub temps : (i : ℕ) → pointing (slice_get y.temps i) ≡ pointing (slice_get x.temps i)
+  pub temps : (i : ℕ) → owning (slice_get y.temps i) ≡ owning (slice_get x.temps i)
 
 -- such a thread is there
 pub record StandsIn (code : List Instr) (b : List Thing) (x : ThreadState) : Type 0 where

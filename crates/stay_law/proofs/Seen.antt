@@ -14,7 +14,7 @@ use Rattle.heap_law.specs.Sight.{Pointer, pointers_of, pointers_in, sight}
 use Rattle.type_law.proofs.Branches.{found}
 use Rattle.path_law.proofs.Contained.{among_thread}
 use Rattle.word_law.specs.Reworded.{HasPlaces, LiesThere}
-use Rattle.word_law.specs.Unmoved.{pointing, Taking, with_taking, taking_of, takings, Unmoved}
+use Rattle.word_law.specs.Unmoved.{pointing, owning, seen_at, Taking, with_taking, taking_of, takings, Untouched}
 use Rattle.word_law.proofs.Standing.{CellOf, lying, flying, cell_among, cell_found, of_thing, pointers_among, stands_in}
 use Rattle.word_law.proofs.Loose.{box_nowhere}
 use Rattle.stay_law.proofs.Alike.{ShowsAs, Seen, Within, Alike, standing_turn}
@@ -139,18 +139,18 @@ module _ (k z : Cluster) (c : HasPlaces k) (d : HasPlaces z) (same : z.code ≡ 
   abbrev tz : List Standing
   tz = threads_in (things_of z)
 
-  module _ (read : Option Standing → Option Value)
-      (shown : (x y : Standing) → ShowsAs k.code x.thread y.thread → pointing (read (Some y)) ≡ pointing (read (Some x))) where
-    at_thread : (t : ℕ) → pointing (read (thread_at tz t)) ≡ pointing (read (thread_at tk t))
+  module _ (look : Option Value → Option Value) (read : Option Standing → Option Value)
+      (shown : (x y : Standing) → ShowsAs k.code x.thread y.thread → look (read (Some y)) ≡ look (read (Some x))) where
+    at_thread : (t : ℕ) → look (read (thread_at tz t)) ≡ look (read (thread_at tk t))
     at_thread t = by (thread_at tk t) refl
       where
-        absent : (o : Option Standing) → thread_at tz t ≡ o → thread_at tk t ≡ None → pointing (read o) ≡ pointing (read None)
+        absent : (o : Option Standing) → thread_at tz t ≡ o → thread_at tk t ≡ None → look (read o) ≡ look (read None)
         absent None f e = refl
         absent (Some y) f e = let q = pair k.code z k c s.back t y f in absurd (none_some q.there (sym e ∙ q.at))
 
-        by : (o : Option Standing) → thread_at tk t ≡ o → pointing (read (thread_at tz t)) ≡ pointing (read o)
+        by : (o : Option Standing) → thread_at tk t ≡ o → look (read (thread_at tz t)) ≡ look (read o)
         by None e = absent (thread_at tz t) refl e
-        by (Some x) e = let q = pair k.code k z d s.on t x e in ap (λ o. pointing (read o)) q.at ∙ shown x q.there q.shows
+        by (Some x) e = let q = pair k.code k z d s.on t x e in ap (λ o. look (read o)) q.at ∙ shown x q.there q.shows
 
   in_cells : (o : ObjNo) → pointing (value_of (cell_of (cells_in (things_of z)) o)) ≡ pointing (value_of (cell_of (cells_in (things_of k)) o))
   in_cells o = by (cell_of (cells_in (things_of k)) o) refl
@@ -163,15 +163,15 @@ module _ (k z : Cluster) (c : HasPlaces k) (d : HasPlaces z) (same : z.code ≡ 
       by None e = absent (cell_of (cells_in (things_of z)) o) refl e
       by (Some x) e = let q = cell_pair k.code k z d s.on o x e in ap (λ m. pointing (value_of m)) q.1 ∙ q.2
 
-  stands_same : (l : Location) → pointing (value_in (sight z).ground l) ≡ pointing (value_in (sight k).ground l)
-  stands_same (at_slot t i) = at_thread (λ o. slot_of o i) (λ x y h. h.slots i) t
-  stands_same (at_temp t i) = at_thread (λ o. temp_of o i) (λ x y h. h.temps i) t
+  stands_same : (l : Location) → seen_at l (value_in (sight z).ground l) ≡ seen_at l (value_in (sight k).ground l)
+  stands_same (at_slot t i) = at_thread pointing (λ o. slot_of o i) (λ x y h. h.slots i) t
+  stands_same (at_temp t i) = at_thread owning (λ o. temp_of o i) (λ x y h. h.temps i) t
   stands_same (in_cell o) = in_cells o
 
   lay_there : (r a : ℕ) (e : Cell) → Among (lies r a e) (things_of z) → LiesThere k r a e.object
   lay_there r a e h = let q = s.back (lies r a e) h in record { cell = q.cell; among = q.among; object = q.object }
 
-  pub seen_alike : Unmoved k z
+  pub seen_alike : Untouched k z
   seen_alike = record {
     stands = stands_same;
     takes = λ t h. taken_on k.code z k c s.back t (subst (λ n. Among t (takings n tz)) same h);

@@ -6,6 +6,7 @@ use Rattle.fr_base.specs.declared.instruction.Instr.TheVariants as instr
 use Rattle.fr_base.specs.declared.release.Released.TheVariants as release
 use Rattle.journal.specs.View.{EntryView}
 use Rattle.thread_state.specs.View.{ThreadState}
+use Rattle.thread_state.specs.declared.phase.Phase.TheVariants as phase
 use Rattle.server_msgs.specs.declared.message.Message.{Message}
 use Rattle.server_msgs.specs.declared.message.Message.TheVariants as message
 use Rattle.server_model.specs.declared.event.Event.{Event}
@@ -25,9 +26,10 @@ use Rattle.heap_law.specs.Sight.{sight}
 use Rattle.heap_law.specs.Naming.{servers_wrong, pinned_parcel}
 use Rattle.heap_law.specs.Walking.{sum_threads}
 use Rattle.heap_law.specs.Coherent.{IsSound}
+use Rattle.path_law.proofs.Sole.{some_is}
 use Rattle.word_law.specs.Reworded.{HasPlaces}
 use Rattle.word_law.specs.Unmoved.{LeavesWords}
-use Rattle.word_law.proofs.Unmoved.{unmoved_stays}
+use Rattle.word_law.proofs.Unmoved.{untouched_stays}
 use Rattle.event_law.specs.Kinds.{Kind, fetch, fetched, asks_lock, granted, unlocked, asks_dup, dupped, released, starts, asks_join, joined, finished, arrives, evicts, migrates, step_print, step_arith, step_par_end, step_join, message_kind, instr_kind, kind_at}
 use Rattle.event_law.specs.Laws.{Gives, GoTo, SendsToServers, FewEvents}
 use Rattle.event_law.proofs.Results.{over_gives, test_gives, both_give, weaker}
@@ -38,14 +40,14 @@ use Rattle.event_law.proofs.Finished.{PairsAreRight}
 use Rattle.event_law.proofs.FinishSteps.{notes_rise, unit_result}
 use Rattle.event_law.proofs.Applied.{go_with}
 use Rattle.event_law.proofs.Sending.{applied_part, each_event_sends}
-use Rattle.stay_law.specs.Laws.{LeaveWords, LeaveWordsUndone}
+use Rattle.stay_law.specs.Laws.{LeaveWords, LeaveWordsUndone, BorrowsVariable, shared, mutable, VariableBorrowsLeaveWords}
 use Rattle.stay_law.proofs.Alike.{Alike, chain}
 use Rattle.stay_law.proofs.Servers.{RestAlike}
 use Rattle.stay_law.proofs.Sites.{SiteAlike, ServerAlike, HandAlike, steps, beside_alike, thread_alike_at, deliveries, begun_alike, servers_alike, handed_over}
 use Rattle.stay_law.proofs.Deliveries.{fetches, locks, unlocks, dups, shares_go, joins, tasks_go}
 use Rattle.stay_law.proofs.Answers as answer
 use Rattle.stay_law.proofs.Finishes.{finishes}
-use Rattle.stay_law.proofs.Steps.{print_steps, arith_steps, pair_steps, join_steps}
+use Rattle.stay_law.proofs.Steps.{print_steps, arith_steps, pair_steps, join_steps, borrow_steps, borrow_mut_steps}
 use Rattle.stay_law.proofs.Seen.{seen_alike}
 
 abbrev pub Stays : Kind → Type 0
@@ -244,7 +246,7 @@ module _ (k : Cluster) (e : Event) (Q : EntryView → Type 0) where
       both_give Seen (λ (d : Cluster × EntryView). HasPlaces d.0) (λ (d : Cluster × EntryView). Q d.1 → LeavesWords k d.0) (apply k e)
       (at_server (server_at k.servers e.server) refl (each_event_sends k e sound few) (λ s h. test_gives (There s) (enabled k.options s e.what) (does k.code k.options s e.what) (λ on. f s h)))
       (applied_part HasPlaces (λ c g. record { numbers_differ = g.numbers_differ; home_of_each = g.home_of_each; owner_of_each = g.owner_of_each }) k e sound few)
-      (λ d a places q. unmoved_stays k d.0 here places (seen_alike k d.0 here places (a q).0 (a q).1))
+      (λ d a places q. untouched_stays k d.0 here places (seen_alike k d.0 here places (a q).0 (a q).1))
     where
       here : HasPlaces k
       here = record { numbers_differ = sound.names.numbers_differ; home_of_each = sound.one_home.home_of_each; owner_of_each = sound.one_owner.owner_of_each }
@@ -258,3 +260,23 @@ kind_stays kind p k e q sound few =
 
 pub joins_leave : LeaveWordsUndone step_join
 joins_leave k e q sound few = leaves_where k e (λ v. v.done ≡ None) sound few (λ s h. joins_stay k sound e.server s h e.what (subst (λ o. then_some o (kind_at k e.what) ≡ Some step_join) h q))
+
+borrow_stays : (code : List Instr) (n servers : ℕ) (i : Instr) (h : Hand) → BorrowsVariable i → ((v : ℕ) → h.thread.phase ≡ phase.Taken v → ⊥) → Gives (λ (d : Stepped). HandAlike code n [] h d.hand) (step servers i h)
+borrow_stays code n servers _ h (shared {w = w} e) free = borrow_steps code n servers w h e free
+borrow_stays code n servers _ h (mutable {w = w} e) free = borrow_mut_steps code n servers w h e free
+
+pub borrows_leave : VariableBorrowsLeaveWords
+borrows_leave k number t s y i sound few here at code borrows free =
+    weaker (λ (d : Cluster × EntryView). ⊤ → LeavesWords k d.0) (λ (d : Cluster × EntryView). LeavesWords k d.0) (apply k (record { server = number; what = Step t }))
+    (leaves_where k (record { server = number; what = Step t }) (λ v. ⊤) sound few (λ r h. subst (λ x. Gives (λ (q : Server × EntryView). ⊤ → ServerAlike k.code x q) (does k.code k.options x (Step t))) (some_is (sym here ∙ h)) there))
+    (λ d a. a tt)
+  where
+    there : Gives (λ (q : Server × EntryView). ⊤ → ServerAlike k.code s q) (does k.code k.options s (Step t))
+    there =
+        steps k.code k.options.servers t s (λ f. ⊤)
+        (λ z e j f.
+        let h : Hand = record { work = begin_work s.rest; thread = z } in
+        let same : y ≡ z = some_is (sym at ∙ e) in
+        let its : i ≡ j = some_is (sym code ∙ ap (λ (x : ThreadState). slice_get k.code x.pc) same ∙ f) in
+        weaker (λ (d : Stepped). HandAlike k.code s.rest.number [] h d.hand) (λ (d : Stepped). ⊤ → HandAlike k.code s.rest.number [] h d.hand) (step k.options.servers j h)
+        (borrow_stays k.code s.rest.number k.options.servers j h (subst BorrowsVariable its borrows) (subst (λ (x : ThreadState). (v : ℕ) → x.phase ≡ phase.Taken v → ⊥) same free)) (λ d a q. a))

@@ -1,7 +1,8 @@
 -- Steps that pop and leave what leads nowhere, and a join that asks.
-use Rattle.std.proofs.Common.{◌≡◌, ℕ, ℤ, zero, suc, ◌+◌, false, List, [], ◌∷◌, ◌++◌, Option, Some, None, option_map, refl, sym, subst, ◌∙◌}
+use Rattle.std.proofs.Common.{◌≡◌, ℕ, ℤ, zero, suc, ◌+◌, true, false, List, [], ◌∷◌, ◌++◌, Option, Some, None, option_map, refl, sym, subst, ◌∙◌}
 use Rattle.std.specs.Prelude.{slice_get}
 use Rattle.fr_base.specs.declared.step.Fresh.TheVariants as fresh
+use Rattle.fr_base.specs.declared.place.Lval.{Lval}
 use Rattle.fr_base.specs.declared.place.Op.{Op}
 use Rattle.fr_base.specs.declared.instruction.Operand.{Operand}
 use Rattle.fr_base.specs.declared.instruction.Operand.TheVariants as operand
@@ -18,12 +19,14 @@ use Rattle.thread_state.specs.declared.phase.Phase.TheVariants as phase
 use Rattle.thread_state.specs.declared.value.Value.{Value}
 use Rattle.thread_state.specs.declared.value.Value.TheVariants as value
 use Rattle.server_msgs.specs.declared.message.Message.TheVariants as message
+use Rattle.server_model.specs.Places.{owns_nothing, in_slot}
+use Rattle.server_model.specs.Prepare.{read_pointer, lend_pointer}
 use Rattle.server_model.specs.Work.{Hand, Popped, last_of, front_of, with_temps, push_temp, int_of, task_of, taken_as, then_some, pop, pop_int}
 use Rattle.server_model.specs.Drop.{home_of}
-use Rattle.server_model.specs.Commit.{goes_on, go_on, waiting, ask_join, take_gift, join, arith, print, par_end, settle}
-use Rattle.server_model.specs.Events.{Stepped, done_step, wait_step, committed, step}
+use Rattle.server_model.specs.Commit.{goes_on, go_on, waiting, ask_join, take_gift, join, arith, print, par_end, borrow_from, borrow_mut_from, settle}
+use Rattle.server_model.specs.Events.{Stepped, done_step, wait_step, committed, prepared, step}
 use Rattle.heap_law.specs.Things.{Spot, Location, in_temp, at_temp, Thing, holds, sent, things_at, value_things, temp_things, message_things}
-use Rattle.word_law.specs.Unmoved.{pointing, taking_by}
+use Rattle.word_law.specs.Unmoved.{owning, taking_by}
 use Rattle.event_law.specs.Laws.{Gives}
 use Rattle.event_law.proofs.Results.{map_gives, over_gives, bind_gives}
 use Rattle.event_law.proofs.Values.{last_split}
@@ -35,20 +38,36 @@ use Rattle.stay_law.proofs.Sites.{HandAlike}
 
 -- VALUES THAT LEAD NOWHERE
 
--- words see nothing of the value, wherever it stands
+-- words see nothing of the value, among temporary values
 pub record IsUnseen (v : Value) : Type 0 where
-  pub points : pointing (Some v) ≡ None
+  pub points : owning (Some v) ≡ None
   pub things : {code : List Instr} (n : ℕ) (p : Spot) (l : Location) → Alike code (value_things n p l v) []
 
 pub int_unseen : (i : ℤ) → IsUnseen (value.Own (owned.Int i))
 int_unseen i = record { points = refl; things = λ n p l. blank (holds p (owned.Int i)) (λ q e h. h) }
+
+-- a reference to a slot
+pub shared_slot_unseen : (i : ℕ) → IsUnseen (value.SharedSlot i)
+shared_slot_unseen i = record { points = refl; things = λ n p l. itself [] }
+
+pub mut_slot_unseen : (i : ℕ) → IsUnseen (value.MutSlot i)
+mut_slot_unseen i = record { points = refl; things = λ n p l. itself [] }
+
+-- what owns nothing
+pub owned_unseen : (u : Owned) → owns_nothing u ≡ true → IsUnseen (value.Own u)
+owned_unseen owned.Nothing e = record { points = refl; things = λ n p l. blank (holds p owned.Nothing) (λ q x h. h) }
+owned_unseen owned.Unit e = record { points = refl; things = λ n p l. blank (holds p owned.Unit) (λ q x h. h) }
+owned_unseen (owned.Int i) e = int_unseen i
+owned_unseen (owned.Box b) e = absurd cc
+owned_unseen (owned.Mutex m) e = absurd cc
+owned_unseen (owned.Task t) e = absurd cc
 
 is_int : (v : Value) (i : ℤ) → int_of v ≡ Some i → IsUnseen v
 is_int (value.Own (owned.Int j)) i e = int_unseen j
 is_int _ i e = absurd cc
 
 -- at the end of a list
-last_points : (xs : List Value) (v : Value) → pointing (Some v) ≡ None → (i : ℕ) → pointing (slice_get (xs ++ v ∷ []) i) ≡ pointing (slice_get xs i)
+pub last_points : (xs : List Value) (v : Value) → owning (Some v) ≡ None → (i : ℕ) → owning (slice_get (xs ++ v ∷ []) i) ≡ owning (slice_get xs i)
 last_points [] v e zero = e
 last_points [] v e (suc i) = refl
 last_points (x ∷ xs) v e zero = refl
@@ -80,7 +99,7 @@ goes_chain code n h h2 h3 a b = record { alike = hand_chain code n h h2 h3 a.ali
 
 module _ (code : List Instr) (n : ℕ) where
   -- other temporary values
-  temps_change : (h : Hand) (vs : List Value) → ((i : ℕ) → pointing (slice_get vs i) ≡ pointing (slice_get h.thread.temps i)) → Alike code (temps_of n h.thread) (things_at (temp_things n h.thread.number) 0 vs)
+  temps_change : (h : Hand) (vs : List Value) → ((i : ℕ) → owning (slice_get vs i) ≡ owning (slice_get h.thread.temps i)) → Alike code (temps_of n h.thread) (things_at (temp_things n h.thread.number) 0 vs)
       → TakesNoneHere code h.thread → Goes code n h (with_temps vs h)
   temps_change h vs e a none = record {
     alike = record {
@@ -100,7 +119,7 @@ module _ (code : List Instr) (n : ℕ) where
   pops h v e u none =
       let vs : List Value = front_of h.thread.temps in
       let split : h.thread.temps ≡ vs ++ v ∷ [] = last_split h.thread.temps v e in
-      temps_change h vs (λ i. sym (last_points vs v u.points i) ∙ subst (λ ws. pointing (slice_get ws i) ≡ pointing (slice_get h.thread.temps i)) split refl)
+      temps_change h vs (λ i. sym (last_points vs v u.points i) ∙ subst (λ ws. owning (slice_get ws i) ≡ owning (slice_get h.thread.temps i)) split refl)
       (subst (λ ws. Alike code (things_at (temp_things n h.thread.number) 0 ws) (things_at (temp_things n h.thread.number) 0 vs)) (sym split)
       (last_unseen (temp_things n h.thread.number) 0 vs v (λ j. u.things n (in_temp h.thread.number j) (at_temp h.thread.number j)))) none
 
@@ -191,6 +210,11 @@ module _ (code : List Instr) (n : ℕ) where
       by None = tt
       by (Some h2) = map_gives (λ (d : Stepped). d.names ≡ None → HandAlike code n [] h d.hand) (settle (go_on h2)) (done_step fresh.None) (λ h3 e none_done. absurd (cc none_done))
 
+-- no object is taken where none was
+pub untaken_here : (t : ℕ) (p : Phase) (j : Option Instr) → ((v : ℕ) → p ≡ phase.Taken v → ⊥) → taking_by t p j ≡ None
+untaken_here t (phase.Taken v) j f = absurd (f v refl)
+untaken_here t _ j f = refl
+
 -- WHICH INSTRUCTIONS TAKE NOTHING
 
 pub print_takes : (t : ℕ) (p : Phase) (o : Operand) → taking_by t p (Some (instr.Print o)) ≡ None
@@ -225,3 +249,16 @@ pair_steps code n servers h i =
 pub join_steps : (code : List Instr) (n servers : ℕ) (o : Operand) (h : Hand) → h.work.rest.number ≡ n → slice_get code h.thread.pc ≡ Some (instr.Join o) → Gives (λ (d : Stepped). d.names ≡ None → HandAlike code n [] h d.hand) (step servers (instr.Join o) h)
 join_steps code n servers o h number i =
     joins_ask code n o h.thread.gift h number (subst (λ j. taking_by h.thread.number h.thread.phase j ≡ None) (sym i) (join_takes h.thread.number h.thread.phase o))
+
+-- a variable is borrowed
+pub borrow_steps : (code : List Instr) (n servers : ℕ) (w : Lval) (h : Hand) → w.depth ≡ 0 → ((v : ℕ) → h.thread.phase ≡ phase.Taken v → ⊥) → Gives (λ (d : Stepped). HandAlike code n [] h d.hand) (step servers (instr.Borrow w) h)
+borrow_steps code n servers w h e free =
+    subst (λ d. Gives (λ (x : Stepped). HandAlike code n [] h x.hand) (prepared servers (instr.Borrow w) (read_pointer w d h))) (sym e)
+    (subst (λ d. Gives (λ (x : Stepped). HandAlike code n [] h x.hand) (committed (goes_on (borrow_from w d (in_slot w.slot) h)))) (sym e)
+    (goes_over code n h (Some (push_temp (value.SharedSlot w.slot) h)) (pushes code n h (value.SharedSlot w.slot) (shared_slot_unseen w.slot) (untaken_here h.thread.number h.thread.phase (slice_get code h.thread.pc) free))))
+
+pub borrow_mut_steps : (code : List Instr) (n servers : ℕ) (w : Lval) (h : Hand) → w.depth ≡ 0 → ((v : ℕ) → h.thread.phase ≡ phase.Taken v → ⊥) → Gives (λ (d : Stepped). HandAlike code n [] h d.hand) (step servers (instr.BorrowMut w) h)
+borrow_mut_steps code n servers w h e free =
+    subst (λ d. Gives (λ (x : Stepped). HandAlike code n [] h x.hand) (prepared servers (instr.BorrowMut w) (lend_pointer w d h))) (sym e)
+    (subst (λ d. Gives (λ (x : Stepped). HandAlike code n [] h x.hand) (committed (goes_on (borrow_mut_from w d (in_slot w.slot) h)))) (sym e)
+    (goes_over code n h (Some (push_temp (value.MutSlot w.slot) h)) (pushes code n h (value.MutSlot w.slot) (mut_slot_unseen w.slot) (untaken_here h.thread.number h.thread.phase (slice_get code h.thread.pc) free))))

@@ -1,5 +1,5 @@
 -- What words see of a thread: where it stands, what it has taken, its slots and temporary values, and its gift.
-use Rattle.std.proofs.Common.{◌≡◌, inl, inr, ℕ, zero, suc, ◌+◌, Bool, true, false, if◌then◌else◌, List, [], ◌∷◌, ◌++◌, map, Option, Some, None, refl, sym, subst, ◌∙◌}
+use Rattle.std.proofs.Common.{◌≡◌, inl, inr, ℕ, zero, suc, ◌+◌, Bool, true, false, if◌then◌else◌, List, [], ◌∷◌, ◌++◌, map, Option, Some, None, refl, sym, ap, subst, ◌∙◌}
 use Rattle.std.specs.Prelude.{slice_get}
 use Rattle.fr_base.specs.declared.instruction.Instr.{Instr}
 use Rattle.fr_base.specs.declared.name.MutexNo.{MutexNo}
@@ -17,7 +17,8 @@ use Rattle.server_model.specs.Sharing.{waits_for_lock, waits_for_dup}
 use Rattle.server_model.specs.Joining.{waits_for_join}
 use Rattle.heap_law.specs.Names.{Among}
 use Rattle.heap_law.specs.Things.{Location, Spot, in_slot, in_temp, at_slot, at_temp, Thing, shares, uses, stands, things_at, pin_things, value_things, slot_things, temp_things, gift_things, walk_things, thread_things}
-use Rattle.word_law.specs.Unmoved.{pointing, taking_by}
+use Rattle.word_law.specs.Unmoved.{pointing, owning, taking_by}
+use Rattle.word_law.proofs.Takings.{owning_pointing}
 use Rattle.event_law.proofs.Bags.{all_standing, thread_number}
 use Rattle.stay_law.proofs.Alike.{ShowsAs, shows_itself, Alike, Seen, itself, turned, chain, beside, exchanged, joined, alone, swapped, blank, blanks}
 use Rattle.stay_law.proofs.Lists.{thread_taken, thread_set, thread_comes, taken_alike}
@@ -65,6 +66,15 @@ thread_alike n m p q x y h h2 s slots temps gift =
     let here = stands n p x ∷ [] ++ slots_of n x ++ temps_of n x in
     let there = stands m q y ∷ [] ++ slots_of m y ++ temps_of m y in
     chain (beside (itself h) (parts n p x)) (chain (joined h (held_if x.gift) here) (chain (beside gift same) (chain (turned (joined h2 (held_if y.gift) there)) (beside (itself h2) (turned (parts m q y))))))
+
+-- the same, where slots and temporary values are alike together
+pub values_alike : {code : List Instr} (n : ℕ) (x y : ThreadState) → ShowsAs code x y → Alike code (slots_of n x ++ temps_of n x) (slots_of n y ++ temps_of n y) → y.gift ≡ x.gift → Alike code (thread_things n false x) (thread_things n false y)
+values_alike {code = code} n x y s values gift =
+    let here = stands n false x ∷ [] in
+    let there = stands n false y ∷ [] in
+    let same : Alike code (here ++ slots_of n x ++ temps_of n x) (there ++ slots_of n y ++ temps_of n y) =
+    chain (turned (joined here (slots_of n x) (temps_of n x))) (chain (beside (stands_alike n n false false x y s) values) (joined there (slots_of n y) (temps_of n y))) in
+    chain (parts n false x) (chain (beside (subst (λ g. Alike code (held_if x.gift) (held_if g)) (sym gift) (itself (held_if x.gift))) same) (turned (parts n false y)))
 
 -- PHASES
 
@@ -192,11 +202,14 @@ all_point [] i = refl
 all_point (v ∷ vs) zero = unpinned_points v
 all_point (v ∷ vs) (suc i) = all_point vs i
 
+all_own : (vs : List Value) (i : ℕ) → owning (slice_get (map unpinned vs) i) ≡ owning (slice_get vs i)
+all_own vs i = sym (owning_pointing (slice_get (map unpinned vs) i)) ∙ ap owning (all_point vs i) ∙ owning_pointing (slice_get vs i)
+
 -- a thread that was packed, at another server
 pub packed_alike : {code : List Instr} (n m : ℕ) (p q b : Bool) (x : ThreadState) (ws : List ℕ) → Alike code (thread_things n p x) (thread_things m q (record x { walk = ws; slots = map unpinned x.slots; temps = map unpinned x.temps; moved_since_step = b }))
 packed_alike n m p q b x ws =
     thread_alike n m p q x (record x { walk = ws; slots = map unpinned x.slots; temps = map unpinned x.temps; moved_since_step = b }) [] []
-    (record { number = refl; taking = refl; slots = all_point x.slots; temps = all_point x.temps }) (slots_unpinned n m x.number 0 x.slots) (temps_unpinned n m x.number 0 x.temps) (itself (held_if x.gift))
+    (record { number = refl; taking = refl; slots = all_point x.slots; temps = all_own x.temps }) (slots_unpinned n m x.number 0 x.slots) (temps_unpinned n m x.number 0 x.temps) (itself (held_if x.gift))
 
 -- a thread that came, as it was in its parcel
 pub arrived_alike : {code : List Instr} (n : ℕ) (p q : Bool) (x : ThreadState) → Alike code (thread_things n p x) (thread_things n q x)

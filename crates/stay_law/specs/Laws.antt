@@ -1,8 +1,15 @@
 -- Laws of events: the words of objects stay.
-use Rattle.std.specs.Prelude.{◌≡◌, None, Some}
+use Rattle.std.specs.Prelude.{◌≡◌, ℕ, None, Some, slice_get}
+use Rattle.fr_base.specs.declared.place.Lval.{Lval}
+use Rattle.fr_base.specs.declared.instruction.Instr.{Instr}
+use Rattle.fr_base.specs.declared.instruction.Instr.TheVariants as instr
 use Rattle.journal.specs.View.{EntryView}
+use Rattle.thread_state.specs.View.{ThreadState}
+use Rattle.thread_state.specs.declared.phase.Phase.TheVariants as phase
 use Rattle.server_model.specs.declared.event.Event.{Event}
-use Rattle.server_model.specs.Servers.{Cluster}
+use Rattle.server_model.specs.declared.event.What.TheVariants.{Step}
+use Rattle.server_model.specs.Servers.{Server, Cluster, server_at}
+use Rattle.server_model.specs.Work.{thread_in}
 use Rattle.server_model.specs.Clusters.{apply}
 use Rattle.heap_law.specs.Coherent.{IsSound}
 use Rattle.event_law.specs.Kinds.{Kind, kind_of}
@@ -21,3 +28,13 @@ LeaveWords kind = (k : Cluster) (e : Event) → IsOfKind kind k e → IsSound k 
 -- the same where its entry has no `done`: it does no plain step
 abbrev pub LeaveWordsUndone : Kind → Type 0
 LeaveWordsUndone kind = (k : Cluster) (e : Event) → IsOfKind kind k e → IsSound k → FewEvents k → Gives (λ (d : Cluster × EntryView). d.1.done ≡ None → LeavesWords k d.0) (apply k e)
+
+-- the borrow of a variable
+pub data BorrowsVariable : Instr → Type 0 where
+  shared : {w : Lval} → w.depth ≡ 0 → BorrowsVariable (instr.Borrow w)
+  mutable : {w : Lval} → w.depth ≡ 0 → BorrowsVariable (instr.BorrowMut w)
+
+-- a step at such an instruction, of a thread that hasn't taken an object, leaves the words
+abbrev pub VariableBorrowsLeaveWords : Type 0
+VariableBorrowsLeaveWords = (k : Cluster) (number t : ℕ) (s : Server) (y : ThreadState) (i : Instr) → IsSound k → FewEvents k → server_at k.servers number ≡ Some s → thread_in s.threads t ≡ Some y → slice_get k.code y.pc ≡ Some i → BorrowsVariable i
+    → ((v : ℕ) → y.phase ≡ phase.Taken v → ⊥) → Gives (λ (d : Cluster × EntryView). LeavesWords k d.0) (apply k (record { server = number; what = Step t }))

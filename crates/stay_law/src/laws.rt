@@ -1,7 +1,7 @@
 //! Laws of events that leave words.
 
 ghost use Rattle.event_law.specs.Kinds.{arrives, asks_dup, asks_join, asks_lock, dupped, evicts, fetch, fetched, finished, granted, joined, migrates, released, starts, step_arith, step_join, step_par_end, step_print, unlocked};
-ghost use Rattle.stay_law.specs.Laws.{LeaveWords, LeaveWordsUndone};
+ghost use Rattle.stay_law.specs.Laws.{LeaveWords, LeaveWordsUndone, VariableBorrowsLeaveWords};
 
 /// Each object has the word that it had, references know the words at their holders, dirty references are alone and first words that were left are no words of
 /// today, where an event of these kinds is done in a sound cluster and its messages are handed over: a copy goes, a thread leaves for another server and comes there, one starts, a copy is served and filled, a
@@ -24,10 +24,12 @@ pub fn events_leave_words()
     ensures ends { LeaveWords finished }
 {}
 
-/// So it is where a thread prints, computes or goes on at the end of its pair, as what is popped leads nowhere, and where it asks for the result that it joins.
+/// So it is where a thread prints, computes or goes on at the end of its pair, as what is popped leads nowhere, where it asks for the result that it
+/// joins, and where it borrows a variable, since no place leads to the reference on top.
 pub fn steps_leave_words()
     ensures prints { LeaveWords step_print }
     ensures arithmetic { LeaveWords step_arith }
     ensures pairs { LeaveWords step_par_end }
     ensures joins { LeaveWordsUndone step_join }
+    ensures borrows { VariableBorrowsLeaveWords }
 {}

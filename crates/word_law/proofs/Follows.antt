@@ -1,15 +1,20 @@
 -- Where what stands at each location leads alike, places lead alike, and so threads have taken the same.
-use Rattle.std.proofs.Common.{◌≡◌, ℕ, zero, suc, List, [], ◌∷◌, ◌++◌, map, Option, Some, None, refl, sym, ap, ◌∙◌}
-use Rattle.std.specs.Prelude.{slice_get}
+use Rattle.std.proofs.Common.{◌≡◌, ℕ, zero, suc, List, [], ◌∷◌, ◌++◌, map, Option, Some, None, refl, sym, ap, subst, ◌∙◌}
+use Rattle.std.specs.Prelude.{⊤, slice_get}
+use Rattle.fr_base.specs.declared.name.ObjNo.{ObjNo}
 use Rattle.fr_base.specs.declared.instruction.Instr.{Instr}
 use Rattle.fr_base.specs.declared.instruction.Instr.TheVariants as instr
 use Rattle.fr_base.specs.declared.place.Lval.{Lval}
 use Rattle.thread_state.specs.declared.phase.Phase.{Phase}
+use Rattle.heap_partition.specs.declared.value.Owned.TheVariants as owned
 use Rattle.thread_state.specs.declared.phase.Phase.TheVariants as phase
+use Rattle.thread_state.specs.declared.value.Value.{Value}
+use Rattle.thread_state.specs.declared.value.Value.TheVariants as value
 use Rattle.heap_law.specs.Things.{Location, at_slot, at_temp, in_cell}
 use Rattle.heap_law.specs.Follow.{Standing, Ground, value_in, value_behind, leads, locate, place_at}
 use Rattle.heap_law.specs.Stale.{holder_of, one_star_less, lent_place, with_place, lent_places}
 use Rattle.heap_law.specs.Sight.{Pointer, taken_object, taken_of, taken_pointers}
+use Rattle.path_law.proofs.Sole.{some_is}
 use Rattle.word_law.specs.Reworded.{taken_word, Turn, turn_of}
 
 first_same : {A : Type 0} {a b : A} {us vs : List A} → a ∷ us ≡ b ∷ vs → a ≡ b
@@ -102,3 +107,47 @@ module _ (gk gz : Ground) (value_leads : (t : ℕ) (l : Location) → leads t (v
         ∙ ap (taken_turn gk) (first_same e)
         ∙ sym (taken_is gk y y.thread.phase (slice_get code y.thread.pc)) in
         ap (λ m. m ++ taken_pointers code gz xs) head ∙ ap (λ m. taken_of gk y.thread y.thread.phase (slice_get code y.thread.pc) ++ m) (takens_lead xs ys (rest_same e))
+
+-- WHERE NO PLACE LEADS TO A TEMPORARY VALUE
+
+abbrev IsPlace : Location → Type 0
+IsPlace (at_temp t i) = ⊥
+IsPlace l = ⊤
+
+leads_place : (t : ℕ) (v : Option Value) (l : Location) → leads t v ≡ Some l → IsPlace l
+leads_place t (Some (value.Own (owned.Box p))) l e = subst IsPlace (some_is e) tt
+leads_place t (Some (value.SharedSlot i)) l e = subst IsPlace (some_is e) tt
+leads_place t (Some (value.MutSlot i)) l e = subst IsPlace (some_is e) tt
+leads_place t (Some (value.Shared r)) l e = subst IsPlace (some_is e) tt
+leads_place t (Some (value.Mut r)) l e = subst IsPlace (some_is e) tt
+leads_place t None l e = absurd cc
+leads_place t (Some value.Gone) l e = absurd cc
+leads_place t (Some (value.Held m)) l e = absurd cc
+leads_place t (Some (value.Own owned.Nothing)) l e = absurd cc
+leads_place t (Some (value.Own owned.Unit)) l e = absurd cc
+leads_place t (Some (value.Own (owned.Int i))) l e = absurd cc
+leads_place t (Some (value.Own (owned.Mutex i))) l e = absurd cc
+leads_place t (Some (value.Own (owned.Task i))) l e = absurd cc
+
+module _ (gk gz : Ground) (in_slots : (t u i : ℕ) → leads t (value_in gz (at_slot u i)) ≡ leads t (value_in gk (at_slot u i))) (in_cells : (t : ℕ) (o : ObjNo) → leads t (value_in gz (in_cell o)) ≡ leads t (value_in gk (in_cell o))) where
+  at_place : (t : ℕ) (l : Location) → IsPlace l → leads t (value_in gz l) ≡ leads t (value_in gk l)
+  at_place t (at_slot u i) p = in_slots t u i
+  at_place t (in_cell o) p = in_cells t o
+  at_place t (at_temp u i) p = absurd p
+
+  located : (t slot n : ℕ) (l : Location) → locate gk t slot n ≡ Some l → IsPlace l
+  located t slot zero l e = subst IsPlace (some_is e) tt
+  located t slot (suc n) l e = leads_place t (value_behind gk (locate gk t slot n)) l e
+
+  pub seen_places_lead : (t slot n : ℕ) → locate gz t slot n ≡ locate gk t slot n
+  seen_places_lead t slot zero = refl
+  seen_places_lead t slot (suc n) = ap (λ m. leads t (value_behind gz m)) (seen_places_lead t slot n) ∙ by (locate gk t slot n) refl
+    where
+      by : (m : Option Location) → locate gk t slot n ≡ m → leads t (value_behind gz m) ≡ leads t (value_behind gk m)
+      by None e = refl
+      by (Some l) e = at_place t l (located t slot n l e)
+
+  pub seen_holders_lead : (l : Location) (v : Lval) → holder_of gz l v ≡ holder_of gk l v
+  seen_holders_lead (at_slot t i) v = seen_places_lead t v.slot v.depth
+  seen_holders_lead (at_temp t i) v = seen_places_lead t v.slot v.depth
+  seen_holders_lead (in_cell p) v = refl

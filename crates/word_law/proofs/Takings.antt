@@ -12,14 +12,14 @@ use Rattle.thread_state.specs.declared.phase.Phase.TheVariants as phase
 use Rattle.thread_state.specs.declared.value.Value.{Value}
 use Rattle.thread_state.specs.declared.value.Value.TheVariants as value
 use Rattle.heap_law.specs.Names.{Among}
-use Rattle.heap_law.specs.Things.{Location}
+use Rattle.heap_law.specs.Things.{Location, at_slot, at_temp, in_cell}
 use Rattle.heap_law.specs.Follow.{Ground, Standing, leads, place_at}
 use Rattle.heap_law.specs.Stale.{same_location, is_among, one_star_less, lent_place, lent_places, with_place}
 use Rattle.heap_law.specs.Sight.{Pointer, taken_object, taken_of, taken_pointers}
 use Rattle.heap_law.specs.Placing.{is_first}
 use Rattle.heap_law.proofs.Bags.{among_split}
 use Rattle.path_law.proofs.Origins.{among_first, among_second}
-use Rattle.word_law.specs.Unmoved.{pointing, Taking, taking_by, with_taking, taking_of, takings}
+use Rattle.word_law.specs.Unmoved.{pointing, owning, seen_at, Taking, taking_by, with_taking, taking_of, takings}
 use Rattle.word_law.proofs.Standing.{pointer_at}
 
 -- WHAT IS SEEN OF A VALUE
@@ -217,3 +217,101 @@ taken_told g p (t ∷ ts) h =
     ⊎_elim (λ (l : Among p (taken_by g t)). record { taking = t; among = inl refl; pointer = l })
     (λ (r : Among p (taken_all g ts)). let y = taken_told g p ts r in record { taking = y.taking; among = inr y.among; pointer = y.pointer })
     (among_split p (taken_by g t) (taken_all g ts) h)
+
+-- WHAT IS SEEN OF TEMPORARY VALUES
+
+pub owning_pointing : (v : Option Value) → owning (pointing v) ≡ owning v
+owning_pointing None = refl
+owning_pointing (Some value.Gone) = refl
+owning_pointing (Some (value.Own owned.Nothing)) = refl
+owning_pointing (Some (value.Own owned.Unit)) = refl
+owning_pointing (Some (value.Own (owned.Int n))) = refl
+owning_pointing (Some (value.Own (owned.Mutex n))) = refl
+owning_pointing (Some (value.Own (owned.Task n))) = refl
+owning_pointing (Some (value.SharedSlot n)) = refl
+owning_pointing (Some (value.MutSlot n)) = refl
+owning_pointing (Some (value.Shared n)) = refl
+owning_pointing (Some (value.Held n)) = refl
+owning_pointing (Some (value.Own (owned.Box p))) = refl
+owning_pointing (Some (value.Mut p)) = refl
+
+owning_first : (r : MutRef) (v : Option Value) → is_first r (owning v) ≡ is_first r v
+owning_first r None = refl
+owning_first r (Some value.Gone) = refl
+owning_first r (Some (value.Own owned.Nothing)) = refl
+owning_first r (Some (value.Own owned.Unit)) = refl
+owning_first r (Some (value.Own (owned.Int n))) = refl
+owning_first r (Some (value.Own (owned.Mutex n))) = refl
+owning_first r (Some (value.Own (owned.Task n))) = refl
+owning_first r (Some (value.SharedSlot n)) = refl
+owning_first r (Some (value.MutSlot n)) = refl
+owning_first r (Some (value.Shared n)) = refl
+owning_first r (Some (value.Held n)) = refl
+owning_first r (Some (value.Own (owned.Box p))) = refl
+owning_first r (Some (value.Mut p)) = refl
+
+owning_reference : (v : Option Value) (q : MutRef) → owning v ≡ Some (value.Mut q) → v ≡ Some (value.Mut q)
+owning_reference None q e = absurd cc
+owning_reference (Some value.Gone) q e = absurd cc
+owning_reference (Some (value.Own owned.Nothing)) q e = absurd cc
+owning_reference (Some (value.Own owned.Unit)) q e = absurd cc
+owning_reference (Some (value.Own (owned.Int n))) q e = absurd cc
+owning_reference (Some (value.Own (owned.Mutex n))) q e = absurd cc
+owning_reference (Some (value.Own (owned.Task n))) q e = absurd cc
+owning_reference (Some (value.SharedSlot n)) q e = absurd cc
+owning_reference (Some (value.MutSlot n)) q e = absurd cc
+owning_reference (Some (value.Shared n)) q e = absurd cc
+owning_reference (Some (value.Held n)) q e = absurd cc
+owning_reference (Some (value.Own (owned.Box p))) q e = absurd cc
+owning_reference (Some (value.Mut p)) q e = e
+
+owning_box : (v : Option Value) (q : BoxPtr) → owning v ≡ Some (value.Own (owned.Box q)) → v ≡ Some (value.Own (owned.Box q))
+owning_box None q e = absurd cc
+owning_box (Some value.Gone) q e = absurd cc
+owning_box (Some (value.Own owned.Nothing)) q e = absurd cc
+owning_box (Some (value.Own owned.Unit)) q e = absurd cc
+owning_box (Some (value.Own (owned.Int n))) q e = absurd cc
+owning_box (Some (value.Own (owned.Mutex n))) q e = absurd cc
+owning_box (Some (value.Own (owned.Task n))) q e = absurd cc
+owning_box (Some (value.SharedSlot n)) q e = absurd cc
+owning_box (Some (value.MutSlot n)) q e = absurd cc
+owning_box (Some (value.Shared n)) q e = absurd cc
+owning_box (Some (value.Held n)) q e = absurd cc
+owning_box (Some (value.Mut p)) q e = absurd cc
+owning_box (Some (value.Own (owned.Box p))) q e = e
+
+owning_pointer : (o : Option Value) (v : Value) (l : Location) (p : Pointer) → owning o ≡ owning (Some v) → Among p (pointer_at l v) → o ≡ Some v
+owning_pointer o (value.Own (owned.Box b)) l p e h = owning_box o b e
+owning_pointer o (value.Mut r) l p e h = owning_reference o r e
+owning_pointer o value.Gone l p e h = absurd h
+owning_pointer o (value.Own owned.Nothing) l p e h = absurd h
+owning_pointer o (value.Own owned.Unit) l p e h = absurd h
+owning_pointer o (value.Own (owned.Int n)) l p e h = absurd h
+owning_pointer o (value.Own (owned.Mutex n)) l p e h = absurd h
+owning_pointer o (value.Own (owned.Task n)) l p e h = absurd h
+owning_pointer o (value.SharedSlot n) l p e h = absurd h
+owning_pointer o (value.MutSlot n) l p e h = absurd h
+owning_pointer o (value.Shared n) l p e h = absurd h
+owning_pointer o (value.Held n) l p e h = absurd h
+
+-- at its location
+pub reference_at : (l : Location) (v : Option Value) (q : MutRef) → seen_at l v ≡ seen_at l (Some (value.Mut q)) → v ≡ Some (value.Mut q)
+reference_at (at_slot t i) v q e = seen_reference v q e
+reference_at (at_temp t i) v q e = owning_reference v q e
+reference_at (in_cell o) v q e = seen_reference v q e
+
+pub seen_pointer_at : (l : Location) (o : Option Value) (v : Value) (p : Pointer) → seen_at l o ≡ seen_at l (Some v) → Among p (pointer_at l v) → o ≡ Some v
+seen_pointer_at (at_slot t i) o v p e h = seen_pointer o v (at_slot t i) p e h
+seen_pointer_at (at_temp t i) o v p e h = owning_pointer o v (at_temp t i) p e h
+seen_pointer_at (in_cell m) o v p e h = seen_pointer o v (in_cell m) p e h
+
+pub first_at : (r : MutRef) (l : Location) (v : Option Value) → is_first r (seen_at l v) ≡ is_first r v
+first_at r (at_slot t i) v = first_pointing r v
+first_at r (at_temp t i) v = owning_first r v
+first_at r (in_cell o) v = first_pointing r v
+
+-- what is the same in full is seen the same
+pub seen_same : (l : Location) (v u : Option Value) → pointing v ≡ pointing u → seen_at l v ≡ seen_at l u
+seen_same (at_slot t i) v u e = e
+seen_same (at_temp t i) v u e = sym (owning_pointing v) ∙ ap owning e ∙ owning_pointing u
+seen_same (in_cell o) v u e = e

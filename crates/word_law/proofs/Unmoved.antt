@@ -1,12 +1,13 @@
 -- Where nothing changes that words see, the words stay.
 use Rattle.std.proofs.Common.{◌≡◌, ◌⊎◌, inl, inr, ⊎_elim, ℕ, zero, suc, true, [], Option, Some, None, refl, sym, ap, subst, ◌∙◌}
+use Rattle.fr_base.specs.declared.name.ObjNo.{ObjNo}
 use Rattle.fr_base.specs.declared.place.Lval.{Lval}
 use Rattle.heap_partition.specs.declared.value.Cell.{Cell}
 use Rattle.mut_borrow.specs.declared.mutable.MutRef.{MutRef}
 use Rattle.server_model.specs.Servers.{Cluster}
 use Rattle.thread_state.specs.declared.value.Value.TheVariants as value
 use Rattle.heap_law.specs.Names.{Among, other}
-use Rattle.heap_law.specs.Things.{Location, lies, things_of}
+use Rattle.heap_law.specs.Things.{Location, at_slot, in_cell, lies, things_of}
 use Rattle.heap_law.specs.Follow.{Ground, value_in, value_behind, leads}
 use Rattle.heap_law.specs.Stale.{is_among, Reference, references, holder_of, is_held_at, with_place, one_star_less, lent_places, changed_above, stale_above, taken_above}
 use Rattle.heap_law.specs.Sight.{Pointer, pointers_in, taken_object, taken_pointers, sight}
@@ -19,15 +20,15 @@ use Rattle.heap_law.proofs.Words.{none_at, none_all}
 use Rattle.path_law.proofs.Origins.{among_first, among_second}
 use Rattle.path_law.proofs.Contained.{reference_there}
 use Rattle.word_law.specs.Reworded.{HasPlaces}
-use Rattle.word_law.specs.Unmoved.{pointing, Taking, takings, Unmoved, WordsStay, UnmovedStays}
+use Rattle.word_law.specs.Unmoved.{seen_at, Taking, takings, Untouched, WordsStay, UnmovedStays, UntouchedStays}
 use Rattle.word_law.proofs.Standing.{tells, told_standing, stands_in, borrow_stands}
-use Rattle.word_law.proofs.Takings.{leads_pointing, first_pointing, seen_reference, seen_pointer, lent_by, taken_by, lents_are, takens_are, lent_listed, lent_told, taken_listed, taken_told}
-use Rattle.word_law.proofs.Follows.{holders_lead, places_lead}
+use Rattle.word_law.proofs.Takings.{leads_pointing, reference_at, seen_pointer_at, first_at, seen_same, lent_by, taken_by, lents_are, takens_are, lent_listed, lent_told, taken_listed, taken_told}
+use Rattle.word_law.proofs.Follows.{seen_holders_lead, seen_places_lead}
 use Rattle.word_law.proofs.Grounds.{of_borrows}
 
 -- FROM ONE CLUSTER TO THE OTHER
 
-module _ (a b : Cluster) (c : HasPlaces a) (st : (l : Location) → pointing (value_in (sight b).ground l) ≡ pointing (value_in (sight a).ground l))
+module _ (a b : Cluster) (c : HasPlaces a) (st : (l : Location) → seen_at l (value_in (sight b).ground l) ≡ seen_at l (value_in (sight a).ground l))
     (takes : (t : Taking) → Among t (takings a.code (sight a).ground.threads) → Among t (takings b.code (sight b).ground.threads)) where
   abbrev ga : Ground
   ga = (sight a).ground
@@ -37,15 +38,18 @@ module _ (a b : Cluster) (c : HasPlaces a) (st : (l : Location) → pointing (va
 
   -- WHERE PLACES LEAD
 
-  lead : (t : ℕ) (l : Location) → leads t (value_in gb l) ≡ leads t (value_in ga l)
-  lead t l = sym (leads_pointing t (value_in gb l)) ∙ ap (leads t) (st l) ∙ leads_pointing t (value_in ga l)
+  in_slots : (t u i : ℕ) → leads t (value_in gb (at_slot u i)) ≡ leads t (value_in ga (at_slot u i))
+  in_slots t u i = sym (leads_pointing t (value_in gb (at_slot u i))) ∙ ap (leads t) (st (at_slot u i)) ∙ leads_pointing t (value_in ga (at_slot u i))
+
+  in_cells : (t : ℕ) (o : ObjNo) → leads t (value_in gb (in_cell o)) ≡ leads t (value_in ga (in_cell o))
+  in_cells t o = sym (leads_pointing t (value_in gb (in_cell o))) ∙ ap (leads t) (st (in_cell o)) ∙ leads_pointing t (value_in ga (in_cell o))
 
   held : (l : Location) (v : Lval) → holder_of gb l v ≡ holder_of ga l v
-  held l v = holders_lead ga gb lead l v
+  held l v = seen_holders_lead ga gb in_slots in_cells l v
 
   less_same : (t slot d : ℕ) → one_star_less gb t slot d ≡ one_star_less ga t slot d
   less_same t slot zero = refl
-  less_same t slot (suc d) = places_lead ga gb lead t slot d
+  less_same t slot (suc d) = seen_places_lead ga gb in_slots in_cells t slot d
 
   lent : (l : Location) → is_among l (lent_places a.code ga ga.threads) ≡ true → is_among l (lent_places b.code gb gb.threads) ≡ true
   lent l e =
@@ -56,7 +60,7 @@ module _ (a b : Cluster) (c : HasPlaces a) (st : (l : Location) → pointing (va
   taken : (p : Pointer) → Among p (taken_pointers a.code ga ga.threads) → Among p (taken_pointers b.code gb gb.threads)
   taken p h =
       let y = taken_told ga p (takings a.code ga.threads) (subst (λ ps. Among p ps) (takens_are a.code ga ga.threads) h) in
-      let same : taken_by gb y.taking ≡ taken_by ga y.taking = ap (taken_object y.taking.word) (places_lead ga gb lead y.taking.thread y.taking.place.slot y.taking.place.depth) in
+      let same : taken_by gb y.taking ≡ taken_by ga y.taking = ap (taken_object y.taking.word) (seen_places_lead ga gb in_slots in_cells y.taking.thread y.taking.place.slot y.taking.place.depth) in
       subst (λ ps. Among p ps) (sym (takens_are b.code gb gb.threads)) (taken_listed gb p y.taking (takings b.code gb.threads) (takes y.taking y.among) (subst (λ ps. Among p ps) (sym same) y.pointer))
 
   -- REFERENCES, AND WHAT IS STALE
@@ -65,7 +69,7 @@ module _ (a b : Cluster) (c : HasPlaces a) (st : (l : Location) → pointing (va
   reference q m =
       let y = of_borrows ga q (things_of a) m in
       let stood : value_in ga q.at ≡ Some (value.Mut q.reference) = borrow_stands a c q.at q.reference y.among in
-      let there = reference_there b q.at q.reference (seen_reference (value_in gb q.at) q.reference (st q.at ∙ ap pointing stood)) in
+      let there = reference_there b q.at q.reference (reference_at q.at (value_in gb q.at) q.reference (st q.at ∙ ap (seen_at q.at) stood)) in
       let same : holder_of gb q.at q.reference.holder ≡ q.holder = held q.at q.reference.holder ∙ sym y.holder in
       subst (λ (h : Option Location). Among (record { at = q.at; holder = h; reference = q.reference }) (references gb (things_of b))) same there
 
@@ -81,7 +85,7 @@ module _ (a b : Cluster) (c : HasPlaces a) (st : (l : Location) → pointing (va
   -- POINTERS
 
   stood : (p : Pointer) (l : Location) → Among p (pointers_in (things_of a)) → p.at ≡ Some l → Among p (standing_in (things_of b))
-  stood p l m e = let t = tells a c p l m e in told_standing b l t.value p (seen_pointer (value_in gb l) t.value l p (st l ∙ ap pointing t.stands) t.pointer) t.pointer
+  stood p l m e = let t = tells a c p l m e in told_standing b l t.value p (seen_pointer_at l (value_in gb l) t.value p (st l ∙ ap (seen_at l) t.stands) t.pointer) t.pointer
 
   pub all : ((p : Pointer) → p.at ≡ None → Among p (pointers_in (things_of a)) → Among p (pointers_in (things_of b))) → (p : Pointer) → Among p (all_pointers (sight a)) → Among p (all_pointers (sight b))
   all loose p m =
@@ -105,7 +109,7 @@ module _ (a b : Cluster) (c : HasPlaces a) (st : (l : Location) → pointing (va
 
 -- ONWARDS AND BACK
 
-module _ (k z : Cluster) (c : HasPlaces k) (d : HasPlaces z) (u : Unmoved k z) where
+module _ (k z : Cluster) (c : HasPlaces k) (d : HasPlaces z) (u : Untouched k z) where
   abbrev gk : Ground
   gk = (sight k).ground
 
@@ -148,7 +152,7 @@ module _ (k z : Cluster) (c : HasPlaces k) (d : HasPlaces z) (u : Unmoved k z) w
 
   behind : (r : MutRef) (m : Option Location) → is_first r (value_behind gz m) ≡ is_first r (value_behind gk m)
   behind r None = refl
-  behind r (Some l) = sym (first_pointing r (value_in gz l)) ∙ ap (is_first r) (u.stands l) ∙ first_pointing r (value_in gk l)
+  behind r (Some l) = sym (first_at r l (value_in gz l)) ∙ ap (is_first r) (u.stands l) ∙ first_at r l (value_in gk l)
 
   pub holders_stay : Holds k first_at_holder → Holds z first_at_holder
   holders_stay f = none_all (other_first gz) (references gz (things_of z)) (λ q m. ap other (behind q.reference q.holder) ∙ none_at (other_first gk) q (references gk (things_of k)) f (back_reference q m))
@@ -166,5 +170,18 @@ module _ (k z : Cluster) (c : HasPlaces k) (d : HasPlaces z) (u : Unmoved k z) w
     first_past = λ q i n p m fresh e. f.first_past q (back_reference q i) n p (back_all p m) (λ s. fresh (on_stale p.at s)) e;
   }
 
+pub untouched_stays : UntouchedStays
+untouched_stays k z c d u = record { words = λ b. words_stay k z c d u b; holders = holders_stay k z c d u; dirty = dirty_stays k z c d u; past = past_stays k z c d u }
+
 pub unmoved_stays : UnmovedStays
-unmoved_stays k z c d u = record { words = λ b. words_stay k z c d u b; holders = holders_stay k z c d u; dirty = dirty_stays k z c d u; past = past_stays k z c d u }
+unmoved_stays k z c d u =
+    untouched_stays k z c d
+    (record {
+      stands = λ l. seen_same l (value_in (sight z).ground l) (value_in (sight k).ground l) (u.stands l);
+      takes = u.takes;
+      took = u.took;
+      loose = u.loose;
+      remain = u.remain;
+      standing = u.standing;
+      lay = u.lay;
+    })

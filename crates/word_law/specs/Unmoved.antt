@@ -19,7 +19,7 @@ use Rattle.server_msgs.specs.declared.message.Message.TheVariants.{Fetch}
 use Rattle.server_model.specs.Servers.{Server, Cluster, server_at}
 use Rattle.server_model.specs.Clusters.{act_at}
 use Rattle.heap_law.specs.Names.{Among}
-use Rattle.heap_law.specs.Things.{Location, lies, things_of}
+use Rattle.heap_law.specs.Things.{Location, at_slot, at_temp, in_cell, lies, things_of}
 use Rattle.heap_law.specs.Follow.{Standing, value_in}
 use Rattle.heap_law.specs.Sight.{Pointer, pointers_in, Sight, sight}
 use Rattle.heap_law.specs.Placing.{standing_in}
@@ -36,6 +36,17 @@ pointing (Some (value.MutSlot i)) = Some (value.MutSlot i)
 pointing (Some (value.Shared r)) = Some (value.Shared (record r { pinned = false }))
 pointing (Some (value.Mut r)) = Some (value.Mut r)
 pointing v = None
+
+-- of a temporary value boxes and mutable references to objects alone are seen, as no place leads to it
+abbrev pub owning : Option Value → Option Value
+owning (Some (value.Own (owned.Box p))) = Some (value.Own (owned.Box p))
+owning (Some (value.Mut r)) = Some (value.Mut r)
+owning v = None
+
+abbrev pub seen_at : Location → Option Value → Option Value
+seen_at (at_temp t i) v = owning v
+seen_at (at_slot t i) v = pointing v
+seen_at (in_cell o) v = pointing v
 
 -- a thread has taken the object for the mutable borrow of that place: under which word
 pub record Taking : Type 0 where
@@ -71,6 +82,16 @@ pub record Unmoved (k z : Cluster) : Type 0 where
   -- objects lie where they lay
   pub lay : (r a : ℕ) (c : Cell) → Among (lies r a c) (things_of z) → LiesThere k r a c.object
 
+-- the same, but for temporary values to which no place leads
+pub record Untouched (k z : Cluster) : Type 0 where
+  pub stands : (l : Location) → seen_at l (value_in (sight z).ground l) ≡ seen_at l (value_in (sight k).ground l)
+  pub takes : (t : Taking) → Among t (takings z.code (sight z).ground.threads) → Among t (takings k.code (sight k).ground.threads)
+  pub took : (t : Taking) → Among t (takings k.code (sight k).ground.threads) → Among t (takings z.code (sight z).ground.threads)
+  pub loose : (p : Pointer) → p.at ≡ None → Among p (pointers_in (things_of z)) → Among p (pointers_in (things_of k))
+  pub remain : (p : Pointer) → p.at ≡ None → Among p (pointers_in (things_of k)) → Among p (pointers_in (things_of z))
+  pub standing : (p : Pointer) → p.at ≡ None → Among p (standing_in (things_of z)) → Among p (standing_in (things_of k))
+  pub lay : (r a : ℕ) (c : Cell) → Among (lies r a c) (things_of z) → LiesThere k r a c.object
+
 -- each object has the word that it had
 pub record WordsStay (s z : Sight) (before : HasWords s) : Type 0 where
   pub after : HasWords z
@@ -86,6 +107,9 @@ pub record LeavesWords (k z : Cluster) : Type 0 where
 -- so it is where nothing changes that words see
 abbrev pub UnmovedStays : Type 0
 UnmovedStays = (k z : Cluster) → HasPlaces k → HasPlaces z → Unmoved k z → LeavesWords k z
+
+abbrev pub UntouchedStays : Type 0
+UntouchedStays = (k z : Cluster) → HasPlaces k → HasPlaces z → Untouched k z → LeavesWords k z
 
 -- EVENTS, done at their servers
 

@@ -3,7 +3,7 @@
 ghost use Rattle.word_law.specs.Example.{WordsApply};
 ghost use Rattle.word_law.specs.PutBack.{CellsReword, MarkRewords, SlotsReword, TintKeepsWords, TintRewords};
 ghost use Rattle.word_law.specs.Soles.{AreOnly, SolesStay, WrittenAreSole};
-ghost use Rattle.word_law.specs.Unmoved.{EvictionsUnmoved, FetchesUnmoved, UnmovedStays};
+ghost use Rattle.word_law.specs.Unmoved.{EvictionsUnmoved, FetchesUnmoved, UnmovedStays, UntouchedStays};
 ghost use Rattle.word_law.specs.WordsAfter.{AreNoFirsts, ChangedRewords, DirtyGoOn, FreshGoOn, HoldersGoOn, NewWordsGoOn, PastGoesOn, WordsGoOn};
 
 /// A pointer that a thread may write through, and that isn't stale, is the one through which its object is written: each other pointer to the object stands above
@@ -46,6 +46,7 @@ pub fn small_steps_reword()
 /// words that were left are no words of today. No types are asked for. An eviction at its server is such an event, and so is the delivery of a `fetch`.
 pub fn words_stay()
     ensures unmoved { UnmovedStays }
+    ensures untouched { UntouchedStays }
     ensures evictions { EvictionsUnmoved }
     ensures fetches { FetchesUnmoved }
 {}

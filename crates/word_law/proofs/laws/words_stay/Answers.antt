@@ -1,5 +1,5 @@
 use Rattle.word_law.proofs.laws.words_stay.Goals as goal
-use Rattle.word_law.proofs.Unmoved.{unmoved_stays}
+use Rattle.word_law.proofs.Unmoved.{unmoved_stays, untouched_stays}
 use Rattle.word_law.proofs.Fetches.{fetches_unmoved}
 use Rattle.word_law.proofs.Unseen.{evictions_unmoved}
 
@@ -11,3 +11,6 @@ returns-clause-evictions c = evictions_unmoved
 
 pub returns-clause-fetches : goal.returns-clause-fetches
 returns-clause-fetches c = fetches_unmoved
+
+pub returns-clause-untouched : goal.returns-clause-untouched
+returns-clause-untouched c = untouched_stays
