@@ -16,7 +16,7 @@ use Rattle.heap_law.specs.Things.{Thing, things_at, waiting_things, leaving_thin
 use Rattle.heap_law.specs.Follow.{Standing, threads_in}
 use Rattle.heap_law.specs.Coherent.{IsSound}
 use Rattle.heap_law.proofs.Sums.{tot-append}
-use Rattle.event_law.specs.Laws.{Gives, FewEvents, EachEventHandedOver}
+use Rattle.event_law.specs.Laws.{Gives, FewEvents}
 use Rattle.event_law.proofs.Results.{then_gives, over_gives, test_gives}
 use Rattle.event_law.proofs.KnownSound.{on_standing, sum_standing}
 use Rattle.event_law.proofs.Unseen.{Unseen, Unnoted, thread_alone, seen_of}
@@ -122,30 +122,30 @@ module _ (f : Standing → ℕ) where
 
 -- THE CLUSTER
 
--- a weight of threads, by the code, that each thread keeps at nothing
-pub record ThreadsKeep (f : List Instr → Standing → ℕ) : Type 0 where
-  pub before : (k : Cluster) → IsSound k → tot (f k.code) (threads_in (things_of k)) ≡ 0
-  pub control : (k : Cluster) (number : ℕ) (s : Server) → IsSound k → FewEvents k → server_at k.servers number ≡ Some s → Control k.code s (Stood (f k.code) s.rest.number) (InParcel (f k.code))
+-- a weight of threads, by the code, that each thread of such a cluster keeps at nothing
+pub record ThreadsKeep (Pre : Cluster → Type 0) (f : List Instr → Standing → ℕ) : Type 0 where
+  pub before : (k : Cluster) → Pre k → tot (f k.code) (threads_in (things_of k)) ≡ 0
+  pub control : (k : Cluster) (number : ℕ) (s : Server) → Pre k → FewEvents k → server_at k.servers number ≡ Some s → Control k.code s (Stood (f k.code) s.rest.number) (InParcel (f k.code))
 
-module _ (f : List Instr → Standing → ℕ) (keeps : ThreadsKeep f) where
+module _ (Pre : Cluster → Type 0) (is_sound : (k : Cluster) → Pre k → IsSound k) (f : List Instr → Standing → ℕ) (keeps : ThreadsKeep Pre f) where
   abbrev Weightless : Cluster → Type 0
   Weightless c = tot (on_standing (f c.code)) (things_of c) ≡ 0
 
-  acted : (k : Cluster) (e : Event) → IsSound k → FewEvents k → Gives (λ (d : Cluster × EntryView). Weightless d.0) (act_at k e)
-  acted k e sound few =
+  acted : (k : Cluster) (e : Event) → Pre k → FewEvents k → Gives (λ (d : Cluster × EntryView). Weightless d.0) (act_at k e)
+  acted k e pre few =
       let g = on_standing (f k.code) in
-      let all : tot g (things_of k) ≡ 0 = omega (arith, sum_standing (f k.code) (things_of k), keeps.before k sound) in
+      let all : tot g (things_of k) ≡ 0 = omega (arith, sum_standing (f k.code) (things_of k), keeps.before k pre) in
       then_gives (λ (d : Cluster × EntryView). Weightless d.0) (server_at k.servers e.server) _ (λ s here.
       let before : tot g (server_things s) ≡ 0 = omega (arith, all, (tot-server g k.servers e.server s s here).0) in
       over_gives (λ (r : Server × EntryView). Held (Stood (f k.code) s.rest.number) (InParcel (f k.code)) s.rest.number s.rest.outbox r.0) (λ (d : Cluster × EntryView). Weightless d.0) (done_at k e.what s) _
       (test_gives (λ (r : Server × EntryView). Held (Stood (f k.code) s.rest.number) (InParcel (f k.code)) s.rest.number s.rest.outbox r.0) (enabled k.options s e.what) _ (λ on.
-      doing k.code k.options s (Stood (f k.code) s.rest.number) (InParcel (f k.code)) (keeps.control k e.server s sound few here) (from_server (f k.code) s before) e.what on))
+      doing k.code k.options s (Stood (f k.code) s.rest.number) (InParcel (f k.code)) (keeps.control k e.server s pre few here) (from_server (f k.code) s before) e.what on))
       (λ r held. omega (arith, all, (tot-server g k.servers e.server s r.0 here).0, (tot-server g k.servers e.server s r.0 here).1, to_server (f k.code) s.rest.number s.rest.outbox r.0 held)))
 
-  pub threads_keep : EachEventHandedOver (λ (c : Cluster). tot (f c.code) (threads_in (things_of c)) ≡ 0)
-  threads_keep k e sound few =
+  pub threads_keep : (k : Cluster) (e : Event) → Pre k → FewEvents k → Gives (λ (d : Cluster × EntryView). tot (f d.0.code) (threads_in (things_of d.0)) ≡ 0) (apply k e)
+  threads_keep k e pre few =
       Rattle.event_law.proofs.Results.weaker (λ (d : Cluster × EntryView). Weightless d.0) (λ (d : Cluster × EntryView). tot (f d.0.code) (threads_in (things_of d.0)) ≡ 0) (apply k e)
-      (handed_on Weightless (λ c a b same g. omega (arith, g, same (on_standing (f c.code)))) k e (each_event_sends k e sound few) (acted k e sound few))
+      (handed_on Weightless (λ c a b same g. omega (arith, g, same (on_standing (f c.code)))) k e (each_event_sends k e (is_sound k pre) few) (acted k e pre few))
       (λ d g. omega (arith, g, sum_standing (f d.0.code) (things_of d.0)))
 
 -- WHAT IS KNOWN OF A THREAD

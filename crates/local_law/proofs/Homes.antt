@@ -1,23 +1,21 @@
 -- Mutexes stand at the server of their number.
-use Rattle.std.proofs.Common.{◌≡◌, ℕ, ◌+◌, ◌-◌, ◌==◌, ◌&&◌, nat_lt, ◌^◌, Bool, true, false, if◌then◌else◌, List, [], ◌∷◌, ◌++◌, length, Option, Some, None, refl, sym, ap, subst, ◌∙◌, arith}
+use Rattle.std.proofs.Common.{◌≡◌, ℕ, ◌+◌, ◌-◌, ◌==◌, ◌&&◌, nat_lt, ◌^◌, Bool, true, false, if◌then◌else◌, List, [], ◌∷◌, ◌++◌, Option, Some, None, refl, sym, ap, subst, ◌∙◌, arith}
 use Rattle.std.specs.List.{AllByRecursion}
 use Rattle.std.proofs.lemmas.Bool.{eq-eqb}
 use Rattle.std.proofs.lemmas.Bool.Decides.{nat_tests}
 use Rattle.fr_base.specs.declared.name.MutexNo.{MutexNo}
 use Rattle.fr_base.specs.Names.{same_mutex}
 use Rattle.heap_partition.specs.declared.value.Owned.{Owned}
-use Rattle.mutex_home.specs.Mutexes.{Mutex, Mutexes, mutex_in, with_mutex, without_mutex, put_mutex, end_mutex, make, asked_of, asked_in, ask, unclaimed, back_to, back_out, back_in, give_back, more_in, more, last_less, less_of, less_in, less}
-use Rattle.mutex_home.specs.declared.answers.Asked.{Asked}
+use Rattle.mutex_home.specs.Mutexes.{Mutex, Mutexes, mutex_in, with_mutex, without_mutex, put_mutex, end_mutex, asked_of, asked_in, ask, back_to, back_out, back_in, give_back, more_in, more, last_less, less_of, less_in, less}
 use Rattle.mutex_home.specs.declared.answers.Back.{Back}
 use Rattle.server_msgs.specs.declared.message.Message.{Message}
 use Rattle.journal.specs.View.{EntryView}
 use Rattle.server_model.specs.declared.event.Event.{Event}
 use Rattle.server_model.specs.Servers.{Rest, Server, Cluster, server_at}
-use Rattle.server_model.specs.Work.{sent_from}
 use Rattle.server_model.specs.Events.{enabled}
-use Rattle.server_model.specs.Clusters.{done_at, act_at, apply}
+use Rattle.server_model.specs.Clusters.{done_at, act_at}
 use Rattle.heap_law.specs.Names.{tot, other}
-use Rattle.heap_law.specs.Things.{Thing, things_at, content_things, queue_things, mutex_things, standing_things, waiting_things, leaving_things, message_things, task_things, result_things, server_things, things_of}
+use Rattle.heap_law.specs.Things.{things_at, content_things, queue_things, mutex_things, standing_things, waiting_things, leaving_things, message_things, task_things, server_things, things_of}
 use Rattle.heap_law.specs.Sight.{Sight, sight}
 use Rattle.heap_law.specs.Sharing.{elsewhere}
 use Rattle.heap_law.specs.Naming.{servers_wrong, pinned_parcel}
@@ -26,7 +24,7 @@ use Rattle.heap_law.specs.Coherent.{IsSound, at_their_home}
 use Rattle.heap_law.proofs.Names.{left_none}
 use Rattle.heap_law.proofs.Sums.{tot-append, server_parts}
 use Rattle.event_law.specs.Laws.{Gives, FewEvents}
-use Rattle.event_law.proofs.Results.{then_gives, over_gives, test_gives, weaker}
+use Rattle.event_law.proofs.Results.{then_gives, over_gives, test_gives}
 use Rattle.event_law.proofs.Known.{all_append}
 use Rattle.event_law.proofs.Unseen.{Unseen, none_at, thread_alone, content_none, result_none, partition_none, copies_none}
 use Rattle.event_law.proofs.Events.{tot-server}

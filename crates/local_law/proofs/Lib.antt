@@ -9,3 +9,4 @@ pub mod Messages
 pub mod Routes
 pub mod Rests
 pub mod Homes
+pub mod Pairs

@@ -1,7 +1,6 @@
 -- What the rest of a server keeps in each event, whatever is said and whatever its threads are.
-use Rattle.std.proofs.Common.{◌≡◌, ℕ, ℤ, zero, suc, ◌+◌, ◌-◌, ◌==◌, ◌&&◌, Bool, true, false, nat_lt, if◌then◌else◌, List, [], ◌∷◌, ◌++◌, length, Option, Some, None, refl, sym, subst}
-use Rattle.std.specs.Prelude.{slice_get, slice_set, option_map}
-use Rattle.std.specs.Bool.{⊤}
+use Rattle.std.proofs.Common.{◌≡◌, ℕ, zero, suc, ◌+◌, ◌-◌, ◌==◌, ◌&&◌, Bool, true, false, nat_lt, if◌then◌else◌, List, length, Option, Some, None, refl}
+use Rattle.std.specs.Prelude.{slice_get, option_map}
 use Rattle.fr_base.specs.Lists.{is_in}
 use Rattle.fr_base.specs.declared.name.MutexNo.{MutexNo}
 use Rattle.fr_base.specs.declared.name.ObjNo.{ObjNo}
@@ -14,7 +13,7 @@ use Rattle.heap_partition.specs.declared.value.Owned.{Owned}
 use Rattle.heap_partition.specs.declared.value.Owned.TheVariants as owned
 use Rattle.owner_box.specs.Partition.{stored, freed, made, renewed}
 use Rattle.read_cache.specs.Cache.{Copy, can_pin, pin, can_unpin, unpin, can_fill, fill, can_evict, evict}
-use Rattle.migration.specs.Packing.{unpin_all, used_words, packed, pack_thread}
+use Rattle.migration.specs.Packing.{unpin_all, used_words, packed}
 use Rattle.mutex_home.specs.Mutexes.{Mutexes, can_make, make, ask, give_back, more, less}
 use Rattle.mutex_home.specs.declared.answers.Asked.{Asked}
 use Rattle.mutex_home.specs.declared.answers.Asked.TheVariants as asked
@@ -24,7 +23,7 @@ use Rattle.join_home.specs.Tasks.{Task, can_begin, begin, can_begin_pair, begin_
 use Rattle.join_home.specs.Tasks as tasks
 use Rattle.join_home.specs.declared.answers.EndedAs.{EndedAs}
 use Rattle.join_home.specs.declared.answers.EndedAs.TheVariants as over
-use Rattle.thread_state.specs.View.{ThreadState, new_thread}
+use Rattle.thread_state.specs.View.{ThreadState}
 use Rattle.thread_state.specs.declared.phase.Phase.TheVariants as phase
 use Rattle.thread_state.specs.declared.value.Value.{Value}
 use Rattle.thread_state.specs.declared.value.Value.TheVariants as value
@@ -39,8 +38,8 @@ use Rattle.server_model.specs.Servers.{Rest, Server}
 use Rattle.server_model.specs.Work.{Work, Hand, Site, sent_from, receive, leads_here, working, with_phase, with_mutexes, with_tasks, with_partition, then_some, put_back, thread_in, without_thread, at_thread, beside_threads, look_object, used_once}
 use Rattle.server_model.specs.NewWords.{NewWord, can_grow, is_last, issue_placed}
 use Rattle.server_model.specs.Places.{Spot, in_slot, on_top, in_cell, in_copy, nowhere, note_write, value_at, put_at, with_word, set_pointer}
-use Rattle.server_model.specs.Start.{next_thread, server_for, start_thread, capture}
-use Rattle.server_model.specs.Drop.{home_of, give_up}
+use Rattle.server_model.specs.Start.{next_thread, start_thread, capture}
+use Rattle.server_model.specs.Drop.{give_up}
 use Rattle.server_model.specs.Moving.{migrate}
 use Rattle.server_model.specs.Commit.{go_on, next_object, push_box, make_box, mutex_made, begun, pair_begun, spawn_with, par_with, end_with}
 use Rattle.server_model.specs.Prepare.{Access, ReadTo, ReadPointer, WriteTo, LendTo, EndRef, passing, write_stars}
@@ -50,7 +49,7 @@ use Rattle.server_model.specs.Joining.{answer_join, deliver_join, waits_for_join
 use Rattle.server_model.specs.Events.{Stepped, begin_work, begin_at, left_by, received, release, deliver_message, evict_copy, step, step_in, stepped, does}
 use Rattle.event_law.specs.Laws.{Gives}
 use Rattle.event_law.proofs.Results.{then_gives, map_gives, over_gives, bind_gives, test_gives, stand_gives}
-use Rattle.local_law.proofs.Small.{Of, Places, Small, Passes}
+use Rattle.local_law.proofs.Small.{Of, Places, Small}
 use Rattle.local_law.proofs.Plainly.{Settles, Acts, EndsStep, steps}
 use Rattle.local_law.proofs.Goes.{Any, AnyWord}
 

@@ -42,7 +42,7 @@ same_of code y y2 (goes_pair a b was p pc g passed walk s) = s
 self_none : (n : ℕ) → other (n == n) ≡ 0
 self_none n = ap other (eq-eqb n n refl)
 
-homes_keep : ThreadsKeep (λ code. other_home)
+homes_keep : ThreadsKeep IsSound (λ code. other_home)
 homes_keep = record {
   before = λ k sound. sound.mutexes_and_tasks.thread_homes;
   control = λ k number s sound few here. record {
@@ -56,7 +56,7 @@ homes_keep = record {
 }
 
 pub homes_kept : EachEventKeeps thread_homes
-homes_kept = threads_keep (λ code. other_home) homes_keep
+homes_kept = threads_keep IsSound (λ k sound. sound) (λ code. other_home) homes_keep
 
 -- PARCELS
 
@@ -64,7 +64,7 @@ is_ready_too : (p : Phase) → is_ready p ≡ true → other (walking.is_ready p
 is_ready_too phase.Ready e = refl
 is_ready_too p e = absurd (cc e)
 
-parcels_keep : ThreadsKeep (λ code. busy_parcel)
+parcels_keep : ThreadsKeep IsSound (λ code. busy_parcel)
 parcels_keep = record {
   before = λ k sound. sound.walks.parcels_ready;
   control = λ k number s sound few here. record {
@@ -76,7 +76,7 @@ parcels_keep = record {
 }
 
 pub parcels_kept : EachEventKeeps parcels_ready
-parcels_kept = threads_keep (λ code. busy_parcel) parcels_keep
+parcels_kept = threads_keep IsSound (λ k sound. sound) (λ code. busy_parcel) parcels_keep
 
 -- JOINS
 
@@ -139,7 +139,7 @@ module _ (k : Cluster) (sound : IsSound k) (number : ℕ) (s : Server) (here : s
   join_goes y2 p (gets_gift was q pc passed walk same) = with_same k.code y y2 pc walk p
   join_goes y2 p (goes_pair a b was q pc g passed walk same) = with_same k.code y y2 pc walk p
 
-joins_keep : ThreadsKeep at_join
+joins_keep : ThreadsKeep IsSound at_join
 joins_keep = record {
   before = λ k sound. sound.walks.join_walks_nothing;
   control = λ k number s sound few here. record {
@@ -151,7 +151,7 @@ joins_keep = record {
 }
 
 pub joins_kept : EachEventKeeps join_walks_nothing
-joins_kept = threads_keep at_join joins_keep
+joins_kept = threads_keep IsSound (λ k sound. sound) at_join joins_keep
 
 -- WALKS
 
@@ -204,7 +204,7 @@ module _ (k : Cluster) (sound : IsSound k) (number : ℕ) (s : Server) (here : s
   walk_goes y2 p (goes_pair a b was q pc g passed walk same) =
       empty_by (phase.GotPar a b) y2.phase y2.walk q (subst (λ l. length l ≡ 0) (sym walk) (subst (λ r. Empty r y.walk) was p))
 
-walks_keep : ThreadsKeep (λ code. still_walks)
+walks_keep : ThreadsKeep IsSound (λ code. still_walks)
 walks_keep = record {
   before = λ k sound. sound.walks.walk_empty;
   control = λ k number s sound few here. record {
@@ -216,7 +216,7 @@ walks_keep = record {
 }
 
 pub walks_kept : EachEventKeeps walk_empty
-walks_kept = threads_keep (λ code. still_walks) walks_keep
+walks_kept = threads_keep IsSound (λ k sound. sound) (λ code. still_walks) walks_keep
 
 -- HOPS THAT ARE PASSED
 
@@ -264,7 +264,7 @@ module _ (k : Cluster) (sound : IsSound k) (number : ℕ) (s : Server) (here : s
   passed_goes y2 p (goes_pair a b was q pc g passed walk same) =
       early_by (phase.GotPar a b) y2.phase y2.passed q (subst (λ n. Early (phase.GotPar a b) n) (sym passed) (subst (λ r. Early r y.passed) was p))
 
-passed_keep : ThreadsKeep (λ code. early)
+passed_keep : ThreadsKeep IsSound (λ code. early)
 passed_keep = record {
   before = λ k sound. sound.walks.passed_in_a_walk;
   control = λ k number s sound few here. record {
@@ -276,4 +276,4 @@ passed_keep = record {
 }
 
 pub passed_kept : EachEventKeeps passed_in_a_walk
-passed_kept = threads_keep (λ code. early) passed_keep
+passed_kept = threads_keep IsSound (λ k sound. sound) (λ code. early) passed_keep

@@ -5,7 +5,12 @@ use Rattle.server_model.specs.Servers.{Cluster}
 use Rattle.server_model.specs.Clusters.{apply}
 use Rattle.heap_law.specs.Coherent.{Sentence, Holds, IsSound}
 use Rattle.event_law.specs.Laws.{Gives, FewEvents}
+use Rattle.type_law.specs.ClusterTypes.{IsCoherent}
 
 -- an event of whatever kind from a sound cluster in which few events were done, with its messages handed over, leaves no thing that breaks the sentence
 abbrev pub EachEventKeeps : Sentence → Type 0
 EachEventKeeps n = (k : Cluster) (e : Event) → IsSound k → FewEvents k → Gives (λ (d : Cluster × EntryView). Holds d.0 n) (apply k e)
+
+-- the same from a coherent cluster, types included
+abbrev pub EachCoherentEventKeeps : Sentence → Type 0
+EachCoherentEventKeeps n = (k : Cluster) (e : Event) → IsCoherent k → FewEvents k → Gives (λ (d : Cluster × EntryView). Holds d.0 n) (apply k e)

@@ -3,4 +3,4 @@
 
 mod laws;
 
-pub use laws::{messages_keep, servers_keep, threads_keep};
+pub use laws::{messages_keep, servers_keep, threads_keep, threads_keep_to_code};

@@ -1,0 +1,5 @@
+use Rattle.local_law.proofs.laws.threads_keep_to_code.Goals as goal
+use Rattle.local_law.proofs.Pairs.{pairs_kept}
+
+pub returns : goal.returns
+returns c = record { par_ends = pairs_kept }
