@@ -82,7 +82,7 @@ module _ (k : Cluster) (coherent : IsCoherent k) (s : Server) (here : server_at 
   Undone d = d.names ≡ None → S d.hand
 
   followed : Fine (read_stars m h0 (in_slot w.slot))
-  followed = stars_ok k coherent s here t y at on i code w m reads m 0 h0 (in_slot w.slot) (omega arith) (record { state = first_hand k coherent s here t y at; untaken = takes_none y.number y.phase (slice_get k.code y.pc) free }) (a_slot w.slot refl)
+  followed = stars_ok k coherent s here t y at on i code w m reads m 0 h0 (in_slot w.slot) (omega arith) (record { state = first_hand k coherent s here t y at; untaken = takes_none y.number y.phase (slice_get k.code y.pc) free; gift = refl }) (a_slot w.slot refl)
 
   waits_so : (h : Hand) → S h → S (wait_step h).hand
   waits_so h g = record { ok = record { number = g.ok.number; thread = g.ok.thread; bag = g.ok.bag }; along = g.along }

@@ -121,7 +121,7 @@ module _ (k : Cluster) (coherent : IsCoherent k) (s : Server) (here : server_at 
   Fine = ReadsOk k coherent s here t y at on (instr.Read w false) code w w.depth (copies refl) w.depth
 
   followed : Fine (read_stars w.depth h0 (in_slot w.slot))
-  followed = stars_ok k coherent s here t y at on (instr.Read w false) code w w.depth (copies refl) w.depth 0 h0 (in_slot w.slot) (omega arith) (record { state = first_hand k coherent s here t y at; untaken = untaken_here y.number y.phase (slice_get k.code y.pc) free }) (a_slot w.slot refl)
+  followed = stars_ok k coherent s here t y at on (instr.Read w false) code w w.depth (copies refl) w.depth 0 h0 (in_slot w.slot) (omega arith) (record { state = first_hand k coherent s here t y at; untaken = untaken_here y.number y.phase (slice_get k.code y.pc) free; gift = refl }) (a_slot w.slot refl)
 
   -- what is loaded is noted alone
   over_load : (sp : Spot) (h h2 : Hand) → Goes k.code n (load_at sp h) h2 → Goes k.code n h h2

@@ -189,22 +189,23 @@ module _ (k : Cluster) (coherent : IsCoherent k) (s : Server) (here : server_at 
   pub loaded : (sp : Spot) (h : Hand) → State h → State (load_at sp h)
   loaded sp h st = record { ok = record { number = st.ok.number; thread = st.ok.thread; bag = st.ok.bag }; along = st.along }
 
-  -- a state whose thread has taken nothing
+  -- a state whose thread has taken nothing, and has the gift that it had
   pub record Walks (h : Hand) : Type 0 where
     pub state : State h
     pub untaken : TakesNoneHere k.code h.thread
+    pub gift : h.thread.gift ≡ y.gift
 
   -- USES
 
   pub uses_copy : (v : ℕ) (h : Hand) → Walks h → Gives Walks (use_word v h)
   uses_copy v h w =
-      both_give Ok (λ (h2 : Hand). HandAlike k.code n [] h h2 × TakesNoneHere k.code h2.thread) Walks (use_word v h) (uses_word sums_kept n s.events t (all_standing n (without_thread s.threads t) ++ others) v h w.state.ok) (by (is_in v h.thread.walk))
-      (λ h2 g a. record { state = unseen h h2 w.state g a.0; untaken = a.1 })
+      both_give Ok (λ (h2 : Hand). HandAlike k.code n [] h h2 × TakesNoneHere k.code h2.thread × (h2.thread.gift ≡ y.gift)) Walks (use_word v h) (uses_word sums_kept n s.events t (all_standing n (without_thread s.threads t) ++ others) v h w.state.ok) (by (is_in v h.thread.walk))
+      (λ h2 g a. record { state = unseen h h2 w.state g a.0; untaken = a.1; gift = a.2 })
     where
-      by : (b : Bool) → Gives (λ (h2 : Hand). HandAlike k.code n [] h h2 × TakesNoneHere k.code h2.thread) (used_once v b h)
-      by true = (hand_itself k.code n h, w.untaken)
+      by : (b : Bool) → Gives (λ (h2 : Hand). HandAlike k.code n [] h h2 × TakesNoneHere k.code h2.thread × (h2.thread.gift ≡ y.gift)) (used_once v b h)
+      by true = (hand_itself k.code n h, w.untaken, w.gift)
       by false =
-          test_gives (λ (h2 : Hand). HandAlike k.code n [] h h2 × TakesNoneHere k.code h2.thread) (can_pin h.work.rest.cache v) _
+          test_gives (λ (h2 : Hand). HandAlike k.code n [] h h2 × TakesNoneHere k.code h2.thread × (h2.thread.gift ≡ y.gift)) (can_pin h.work.rest.cache v) _
           (λ on. (
             record {
               number = refl;
@@ -213,16 +214,17 @@ module _ (k : Cluster) (coherent : IsCoherent k) (s : Server) (here : server_at 
               rest = other_copies n h.work.rest (pin h.work.rest.cache v);
             },
             w.untaken,
+            w.gift,
           ))
 
   pub pins_copy : (j : ℕ) (r : SharedRef) (b : Bool) (h : Hand) → r.pinned ≡ b → slice_get h.thread.slots j ≡ Some (value.Shared r) → Walks h → Gives Walks (pinned_once (in_slot j) r b h)
   pins_copy j r true h q e w = w
   pins_copy j r false h q e w =
       test_gives Walks (can_pin h.work.rest.cache r.word) _
-      (λ on. both_give Ok (λ (h2 : Hand). HandAlike k.code n [] h h2 × TakesNoneHere k.code h2.thread) Walks (put_slot j new (working (with_cache (pin h.work.rest.cache r.word)) h))
+      (λ on. both_give Ok (λ (h2 : Hand). HandAlike k.code n [] h h2 × TakesNoneHere k.code h2.thread × (h2.thread.gift ≡ y.gift)) Walks (put_slot j new (working (with_cache (pin h.work.rest.cache r.word)) h))
       (puts_at sums_kept n s.events t (in_slot j) (value.Shared r) new (working (with_cache (pin h.work.rest.cache r.word)) h) e (one_goes (uses n r.word) (all_standing n (without_thread s.threads t) ++ others)) (pin_rule n r q)
       (hand_begins sums_kept n s.events t (all_standing n (without_thread s.threads t) ++ others) h r.word on w.state.ok))
-      (test_gives (λ (h2 : Hand). HandAlike k.code n [] h h2 × TakesNoneHere k.code h2.thread) (nat_lt j (length h.thread.slots)) _
+      (test_gives (λ (h2 : Hand). HandAlike k.code n [] h h2 × TakesNoneHere k.code h2.thread × (h2.thread.gift ≡ y.gift)) (nat_lt j (length h.thread.slots)) _
       (λ in_range. (
         record {
           number = refl;
@@ -232,8 +234,9 @@ module _ (k : Cluster) (coherent : IsCoherent k) (s : Server) (here : server_at 
           rest = other_copies n h.work.rest (pin h.work.rest.cache r.word);
         },
         w.untaken,
+        w.gift,
       )))
-      (λ h2 g a. record { state = unseen h h2 w.state g a.0; untaken = a.1 }))
+      (λ h2 g a. record { state = unseen h h2 w.state g a.0; untaken = a.1; gift = a.2 }))
     where
       new : Value
       new = value.Shared (record r { pinned = true })
@@ -275,6 +278,7 @@ module _ (k : Cluster) (coherent : IsCoherent k) (s : Server) (here : server_at 
     cleans_slot h h2 j d r walks g2 e dirty lt located worded = record {
       state = record { ok = g2; along = along_cleaned k (put h) (put h2) l r (next_word r.word) issued_all new (places h g) (places h2 g2) walks.state.along there dirty fresh reworded now still };
       untaken = subst (λ th. TakesNoneHere k.code th) (sym wrote.thread) walks.untaken;
+      gift = ap (λ (th : ThreadState). th.gift) wrote.thread ∙ walks.gift;
     }
       where
         g : Ok h

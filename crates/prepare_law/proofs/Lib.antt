@@ -3,3 +3,4 @@ pub mod Hands
 pub mod Stars
 pub mod Asking
 pub mod Copying
+pub mod Dupping

@@ -185,10 +185,10 @@ module _ (k : Cluster) (coherent : IsCoherent k) (s : Server) (here : server_at 
   -- ONE HOP
 
   walks_noted : (a : Act) (h : Hand) → W h → W (working (note a) h)
-  walks_noted a h g = record { state = noted k coherent s here t y at a h g.state; untaken = g.untaken }
+  walks_noted a h g = record { state = noted k coherent s here t y at a h g.state; untaken = g.untaken; gift = g.gift }
 
   pub walks_loaded : (sp : Spot) (h : Hand) → W h → W (load_at sp h)
-  walks_loaded sp h g = record { state = loaded k coherent s here t y at sp h g.state; untaken = g.untaken }
+  walks_loaded sp h g = record { state = loaded k coherent s here t y at sp h g.state; untaken = g.untaken; gift = g.gift }
 
   hops : (f : BoxPtr → Act) (o : Option BoxPtr) (h : Hand) → W h → W (hopped (λ p. note (f p)) o h)
   hops f None h g = g
