@@ -21,7 +21,7 @@ use Rattle.result_law.proofs.Operands.{owned_form, second_form, stands}
 
 -- A SLOT THAT IS SET, FROM BEHIND
 
-abbrev set_behind : {A : Type 0} → List A → ℕ → A → List A
+abbrev pub set_behind : {A : Type 0} → List A → ℕ → A → List A
 set_behind [] i v = []
 set_behind (x ∷ xs) i v = if i == length xs then v ∷ xs else x ∷ set_behind xs i v
 
@@ -38,7 +38,7 @@ set_suc (y ∷ ys) x v i =
     (λ e. eq_cases (λ b. v ∷ (ys ++ x ∷ []) ≡ (if b then v ∷ ys else y ∷ set_behind ys i v) ++ x ∷ []) i (length ys) (λ q. refl) (λ ne. absurd (ne (omega (arith, e, length_one_more ys x)))))
     (λ ne. eq_cases (λ b. y ∷ set_behind (ys ++ x ∷ []) (suc i) v ≡ (if b then v ∷ ys else y ∷ set_behind ys i v) ++ x ∷ []) i (length ys) (λ q. absurd (ne (omega (arith, q, length_one_more ys x)))) (λ n2. ap (λ zs. y ∷ zs) (set_suc ys x v i)))
 
-set_is : {A : Type 0} (xs : List A) (i : ℕ) (v : A) → reverse (slice_set xs i v) ≡ set_behind (reverse xs) i v
+pub set_is : {A : Type 0} (xs : List A) (i : ℕ) (v : A) → reverse (slice_set xs i v) ≡ set_behind (reverse xs) i v
 set_is [] i v = refl
 set_is (x ∷ xs) zero v = reverse_onto xs v [] ∙ sym (set_zero (reverse xs) x v) ∙ ap (λ l. set_behind l 0 v) (sym (reverse_onto xs x []))
 set_is (x ∷ xs) (suc i) v =
@@ -53,7 +53,7 @@ same_length n (s ∷ e) [] z = absurd (cc z)
 same_length n (s ∷ e) (v ∷ vs) z = ap suc (same_length n e vs (omega (arith, z)))
 
 -- what is moved out of a variable leaves it gone
-gone_fits : (n : NameTypes) (e : Env) (ws : List Value) (i : ℕ) (k : Kind) → is_variable e i ≡ true → slots_wrong n e ws ≡ 0 → slots_wrong n (put_at e (record { slot = i; depth = 0 }) (gone k)) (set_behind ws i value.Gone) ≡ 0
+pub gone_fits : (n : NameTypes) (e : Env) (ws : List Value) (i : ℕ) (k : Kind) → is_variable e i ≡ true → slots_wrong n e ws ≡ 0 → slots_wrong n (put_at e (record { slot = i; depth = 0 }) (gone k)) (set_behind ws i value.Gone) ≡ 0
 gone_fits n [] ws i k named z = absurd (cc named)
 gone_fits n (s ∷ e) [] i k named z = absurd (cc z)
 gone_fits n (s ∷ e) (w ∷ ws) i k named z =
@@ -69,7 +69,7 @@ has_name : (o : Option Text) (x : Text) → same_name o x ≡ true → is_some o
 has_name None x e = absurd (cc e)
 has_name (Some y) x e = refl
 
-slot_below : (e : Env) (x : Text) (i : ℕ) → slot_of e x ≡ Some i → i < length e
+pub slot_below : (e : Env) (x : Text) (i : ℕ) → slot_of e x ≡ Some i → i < length e
 slot_below [] x i q = absurd (cc q)
 slot_below (s ∷ e) x i q = by (same_name s.name x) q (λ q2. slot_below e x i q2)
   where
@@ -77,7 +77,7 @@ slot_below (s ∷ e) x i q = by (same_name s.name x) q (λ q2. slot_below e x i 
     by true q2 go = let same : length e ≡ i = some_is q2 in omega (arith, same)
     by false q2 go = omega (arith, go q2)
 
-named_variable : (e : Env) (x : Text) (i : ℕ) → slot_of e x ≡ Some i → is_variable e i ≡ true
+pub named_variable : (e : Env) (x : Text) (i : ℕ) → slot_of e x ≡ Some i → is_variable e i ≡ true
 named_variable [] x i q = absurd (cc q)
 named_variable (s ∷ e) x i q = by (same_name s.name x) refl q (λ q2. named_variable e x i q2)
   where
@@ -87,7 +87,7 @@ named_variable (s ∷ e) x i q = by (same_name s.name x) refl q (λ q2. named_va
 
 -- CAPTURES
 
-whole_is : {k l : Kind} → whole k ≡ whole l → k ≡ l
+pub whole_is : {k l : Kind} → whole k ≡ whole l → k ≡ l
 whole_is e = cc
 
 -- a spawn captures what is owned

@@ -1,3 +1,7 @@
-mod Captures
-mod NewNames
-mod Spawns
+pub mod Captures
+pub mod NewNames
+pub mod Spawns
+pub mod Views
+pub mod Branches
+pub mod Pairs
+mod Pars

@@ -35,7 +35,7 @@ sent_cache r target m = by (target == r.number)
     by true = refl
     by false = refl
 
-started_cache : (servers pc : ℕ) (vs : List Value) (w : Work) → (start_thread servers pc vs w).rest.cache ≡ w.rest.cache
+pub started_cache : (servers pc : ℕ) (vs : List Value) (w : Work) → (start_thread servers pc vs w).rest.cache ≡ w.rest.cache
 started_cache servers pc vs w = sent_cache (record w.rest { started = w.rest.started + 1 }) _ _
 
 module _ (servers : ℕ) (r : Rest) (y : ThreadState) (N : NameTypes) (table : Table) (uses : Usable y r.cache) (new : can_begin r.tasks (next_thread r) ≡ true) where
