@@ -1,6 +1,6 @@
 -- How a thread goes on in an event, whatever its values are.
-use Rattle.std.proofs.Common.{◌≡◌, ◌⊎◌, inl, inr, ℕ, ℤ, zero, suc, ◌+◌, ◌-◌, ◌==◌, Bool, true, false, nat_lt, if◌then◌else◌, List, [], ◌∷◌, ◌++◌, length, Option, Some, None, refl, sym, subst, ◌∙◌}
-use Rattle.std.specs.Prelude.{slice_get, slice_set}
+use Rattle.std.proofs.Common.{◌≡◌, ◌⊎◌, inl, inr, ℕ, zero, suc, ◌+◌, ◌-◌, ◌==◌, Bool, true, false, nat_lt, if◌then◌else◌, List, [], length, Option, Some, None, refl, sym, ap, subst, ◌∙◌}
+use Rattle.std.specs.Prelude.{slice_get, slice_set, option_map}
 use Rattle.std.specs.Bool.{⊤}
 use Rattle.fr_base.specs.Rooms.{WithRoom}
 use Rattle.fr_base.specs.declared.name.MutexNo.{MutexNo}
@@ -8,11 +8,15 @@ use Rattle.fr_base.specs.declared.place.Lval.{Lval}
 use Rattle.fr_base.specs.declared.instruction.Instr.{Instr}
 use Rattle.fr_base.specs.declared.instruction.Instr.TheVariants as instr
 use Rattle.fr_base.specs.declared.instruction.Operand.{Operand}
+use Rattle.fr_base.specs.declared.instruction.Operand.TheVariants as operand
+use Rattle.fr_base.specs.declared.step.Fresh.TheVariants as fresh
+use Rattle.migration.specs.Packing.{unpin_all}
+use Rattle.server_model.specs.Events.{Stepped, done_step, committed}
 use Rattle.heap_partition.specs.declared.value.Cell.{Cell}
 use Rattle.heap_partition.specs.declared.value.Owned.{Owned}
 use Rattle.heap_partition.specs.declared.value.Owned.TheVariants as owned
 use Rattle.owner_box.specs.Partition.{stored}
-use Rattle.read_cache.specs.Cache.{can_pin, can_fill}
+use Rattle.read_cache.specs.Cache.{Copy, can_pin, can_fill}
 use Rattle.mutex_home.specs.Mutexes.{can_make}
 use Rattle.join_home.specs.Tasks.{can_begin, can_begin_pair}
 use Rattle.thread_state.specs.View.{ThreadState}
@@ -22,12 +26,12 @@ use Rattle.thread_state.specs.declared.value.Value.{Value}
 use Rattle.thread_state.specs.declared.value.Value.TheVariants as value
 use Rattle.journal.specs.declared.act.Act.TheVariants as act
 use Rattle.server_model.specs.Servers.{Rest}
-use Rattle.server_model.specs.Work.{Hand, leads_here, working, with_partition, with_phase, used_once}
+use Rattle.server_model.specs.Work.{Hand, leads_here, working, with_partition, with_phase, used_once, Popped, pop, pop_owned, owned_of, last_of, front_of, then_some, with_cache}
 use Rattle.fr_base.specs.Lists.{is_in}
 use Rattle.server_model.specs.NewWords.{NewWord, can_grow, issue_placed}
 use Rattle.server_model.specs.Places.{Spot, in_slot, on_top, in_cell, in_copy, nowhere, note_write, value_at, put_at, with_word, set_pointer}
 use Rattle.server_model.specs.Start.{next_thread, capture}
-use Rattle.server_model.specs.Commit.{go_on, next_object, push_box, begun, pair_begun, spawn_with, end_with}
+use Rattle.server_model.specs.Commit.{go_on, next_object, push_box, begun, pair_begun, spawn_with, end_with, done_where}
 use Rattle.server_model.specs.Prepare.{Access, ReadTo, ReadPointer, WriteTo, LendTo, EndRef, access_of, passing, write_stars}
 use Rattle.server_model.specs.Objects.{waits_for_cell, filled, deliver_fetched, chased, waits_under, arrived_at, arrived_slot, passed_spot, arrived_write, arrived_lend, arrived_end, arrived, instr_access, deliver_moved}
 use Rattle.server_model.specs.Sharing.{given, waits_for_lock, deliver_granted, waits_for_dup, deliver_dupped}
@@ -77,13 +81,22 @@ HasCell phase.Got = ⊤
 HasCell (phase.Taken w) = ⊤
 HasCell p = ⊥
 
+-- the temporary values without an operand that was popped
+abbrev pub Without : Operand → List Value → List Value → Type 0
+Without operand.Pop ts us = us ≡ front_of ts
+Without o ts us = us ≡ ts
+
+-- at the end of a thread its slots stay, and its operand goes
+abbrev pub EndLeaves : List Instr → ThreadState → ThreadState → Type 0
+EndLeaves code y y2 = (o : Operand) → slice_get code y.pc ≡ Some (instr.End o) → (y2.slots ≡ y.slots) × Without o y.temps y2.temps
+
 -- a thread and what an event makes of it
 pub data Goes (code : List Instr) (y y2 : ThreadState) : Type 0 where
   -- its step is done, and it is ready at the next instruction; it waits there for a pair; it is over
   on : (i : Instr) → slice_get code y.pc ≡ Some i → Onward i → y2.pc ≡ y.pc + 1 → y2.phase ≡ phase.Ready → y2.passed ≡ 0 → y2.walk ≡ [] → Left y.gift y2.gift → Same y y2 → Goes code y y2
   waits_pair : (cs : WithRoom (ℕ × Bool)) (pc : ℕ) (ds : WithRoom (ℕ × Bool)) (other a b : ℕ) → slice_get code y.pc ≡ Some (instr.Par cs pc ds other) → y2.pc ≡ y.pc + 1 → y2.phase ≡ phase.WaitPar a b → y2.passed ≡ 0 → y2.walk ≡ []
       → Left y.gift y2.gift → Same y y2 → Goes code y y2
-  is_over : (o : Operand) → slice_get code y.pc ≡ Some (instr.End o) → y2.pc ≡ y.pc → y2.phase ≡ phase.Over → y2.passed ≡ 0 → y2.walk ≡ [] → Left y.gift y2.gift → Same y y2 → Goes code y y2
+  is_over : (o : Operand) → slice_get code y.pc ≡ Some (instr.End o) → y2.pc ≡ y.pc → y2.phase ≡ phase.Over → y2.passed ≡ 0 → y2.walk ≡ [] → y2.slots ≡ y.slots → Without o y.temps y2.temps → Left y.gift y2.gift → Same y y2 → Goes code y y2
   -- it asks for an object or a copy on its place; it asks a home
   asks_cell : (i : Instr) (w : ℕ) → slice_get code y.pc ≡ Some i → Follows (access_of i y) → y2.pc ≡ y.pc → y2.phase ≡ phase.WaitCell w → Left y.gift y2.gift → Same y y2 → Goes code y y2
   asks_home : (i : Instr) (p : Phase) → slice_get code y.pc ≡ Some i → AsksHome i p → y2.pc ≡ y.pc → y2.phase ≡ p → y2.gift ≡ None → y2.passed ≡ y.passed → (Joins i → y2.walk ≡ y.walk) → Same y y2 → Goes code y y2
@@ -141,7 +154,7 @@ module _ (code : List Instr) (n : ℕ) (i : Instr) (y : ThreadState) (there : sl
   F = Framed i y
 
   abbrev E : Rest → ThreadState → Type 0
-  E r t = Goes code y t
+  E r t = EndLeaves code y t → Goes code y t
 
   places : Places F Any AnyWord
   places = record {
@@ -155,8 +168,8 @@ module _ (code : List Instr) (n : ℕ) (i : Instr) (y : ThreadState) (there : sl
   same : (t : ThreadState) (r : Rest) → F r t → Same y t
   same t r g = record { number = g.named; home = g.at_home }
 
-  asked : (h : Hand) (w : ℕ) → Follows (access_of i y) → Of F h → Goes code y (record h.thread { phase = phase.WaitCell w })
-  asked h w f g = asks_cell i w there f g.placed refl g.given (record { number = g.named; home = g.at_home })
+  asked : (h : Hand) (w : ℕ) → Follows (access_of i y) → Of F h → E h.work.rest (record h.thread { phase = phase.WaitCell w })
+  asked h w f g = λ left. asks_cell i w there f g.placed refl g.given (record { number = g.named; home = g.at_home })
 
   -- no word is used at a join, and none is passed where a home is asked
   follows_no_join : (j : Instr) → Follows (access_of j y) → Joins j → ⊥
@@ -212,15 +225,15 @@ module _ (code : List Instr) (n : ℕ) (i : Instr) (y : ThreadState) (there : sl
     spawns = λ cs pc e h g.
         then_gives (λ h2. Settles E (go_on h2)) (capture false cs.items h.thread.slots) (spawn_with n pc (next_thread h.work.rest) h) (λ new q.
         over_gives (Of F) (λ h2. Settles E (go_on h2)) (begun h) _ (test_gives (Of F) (can_begin h.work.rest.tasks (next_thread h.work.rest)) _ (λ z. g))
-        (λ h2 u cs2 z. onward (subst Onward (sym e) tt) h2.thread u));
+        (λ h2 u cs2 z left. onward (subst Onward (sym e) tt) h2.thread u));
     unlocks = λ e m v h a b g. g;
     holds = λ w e m a. tt;
-    goes = λ o h g cs z. onward o h.thread g;
+    goes = λ o h g cs z left. onward o h.thread g;
     pairs = λ cs pc ds other e h g.
         let u = next_thread h.work.rest in
         then_gives (Settles E) (capture true cs.items h.thread.slots) _ (λ first p. then_gives (Settles E) (capture true ds.items first.1) _ (λ second q.
         over_gives (Of F) (Settles E) (pair_begun h u (u + 1)) _ (test_gives (Of F) (can_begin_pair h.work.rest.tasks h.thread.number u (u + 1)) _ (λ z. g))
-        (λ h2 b cs2 z. waits_pair cs pc ds other u (u + 1) (subst (λ j. slice_get code y.pc ≡ Some j) e there) (Rattle.std.proofs.Common.ap (λ m. m + 1) b.placed) refl refl refl b.given (record { number = b.named; home = b.at_home }))));
+        (λ h2 b cs2 z left. waits_pair cs pc ds other u (u + 1) (subst (λ j. slice_get code y.pc ≡ Some j) e there) (ap (λ m. m + 1) b.placed) refl refl refl b.given (record { number = b.named; home = b.at_home }))));
     ends = λ o e main v h a g. ended o e main v h g;
     asks_join = λ o e u h q a g. home (phase.WaitJoin u) h (subst (λ j. AsksHome j (phase.WaitJoin u)) (sym e) tt) q g;
     asks_dup = λ w e m h q a g. home (phase.WaitDup m) h (subst (λ j. AsksHome j (phase.WaitDup m)) (sym e) tt) q g;
@@ -228,11 +241,11 @@ module _ (code : List Instr) (n : ℕ) (i : Instr) (y : ThreadState) (there : sl
   }
     where
       onward : Onward i → (t : ThreadState) → Frame i y t.number t.home t.pc t.phase t.gift t.passed t.walk → {vs ts : List Value} {made : ℕ} → Goes code y (record t { slots = vs; temps = ts; made = made; pc = t.pc + 1; phase = phase.Ready; passed = 0; walk = []; moved_since_step = false })
-      onward o t g = on i there o (Rattle.std.proofs.Common.ap (λ m. m + 1) g.placed) refl refl refl g.given (record { number = g.named; home = g.at_home })
+      onward o t g = on i there o (ap (λ m. m + 1) g.placed) refl refl refl g.given (record { number = g.named; home = g.at_home })
 
       ended : (o : Operand) → i ≡ instr.End o → (main : Bool) (v : Owned) (h : Hand) → Of F h → Gives (λ h2. Settles E (with_phase phase.Over h2)) (end_with main v h)
-      ended o e true v h g = λ cs z. is_over o (subst (λ j. slice_get code y.pc ≡ Some j) e there) g.placed refl refl refl g.given (record { number = g.named; home = g.at_home })
-      ended o e false v h g = λ cs z. is_over o (subst (λ j. slice_get code y.pc ≡ Some j) e there) g.placed refl refl refl g.given (record { number = g.named; home = g.at_home })
+      ended o e true v h g = λ cs z left. let at = subst (λ j. slice_get code y.pc ≡ Some j) e there in is_over o at g.placed refl refl refl (left o at).0 (left o at).1 g.given (record { number = g.named; home = g.at_home })
+      ended o e false v h g = λ cs z left. let at = subst (λ j. slice_get code y.pc ≡ Some j) e there in is_over o at g.placed refl refl refl (left o at).0 (left o at).1 g.given (record { number = g.named; home = g.at_home })
 
       at_home : (j : Instr) (p : Phase) → AsksHome j p → Asks j
       at_home (instr.Join o) p a = tt
@@ -240,12 +253,66 @@ module _ (code : List Instr) (n : ℕ) (i : Instr) (y : ThreadState) (there : sl
       at_home (instr.Lock w) p a = tt
       at_home j p a = absurd a
 
-      home : (p : Phase) (h : Hand) → AsksHome i p → h.thread.gift ≡ None → Of F h → Goes code y (record h.thread { phase = p })
-      home p h a q g = asks_home i p there a g.placed refl q (g.passes (at_home i p a)) g.walks (record { number = g.named; home = g.at_home })
+      home : (p : Phase) (h : Hand) → AsksHome i p → h.thread.gift ≡ None → Of F h → E h.work.rest (record h.thread { phase = p })
+      home p h a q g = λ left. asks_home i p there a g.placed refl q (g.passes (at_home i p a)) g.walks (record { number = g.named; home = g.at_home })
 
   -- a step makes its thread go on so
-  pub step_goes : (r : Rest) (h : Hand) → h.thread ≡ y → Gives (EndsStep E) (Rattle.server_model.specs.Events.step n i h)
+  step_goes : (r : Rest) (h : Hand) → h.thread ≡ y → Gives (EndsStep E) (Rattle.server_model.specs.Events.step n i h)
   step_goes r h e = steps i h (λ f. small (subst (λ t. Follows (access_of i t)) e f)) (λ f. passes (subst (λ t. Writes (access_of i t)) e f)) acts (subst (λ t. Framed i y h.work.rest t) (sym e) (framed i y h.work.rest))
+
+-- THE END OF A THREAD
+
+module _ (o : Operand) (y : ThreadState) where
+  -- as it was, without its operand
+  abbrev Bared : Hand → Type 0
+  Bared h = (h.thread.slots ≡ y.slots) × Without o y.temps h.thread.temps
+
+  pops_bare : (x : Operand) (h : Hand) → x ≡ o → h.thread ≡ y → Gives (λ (p : Popped Value). Bared p.hand) (pop x h)
+  pops_bare (operand.Const m) h e q = (ap (λ (t : ThreadState). t.slots) q, subst (λ z. Without z y.temps h.thread.temps) e (ap (λ (t : ThreadState). t.temps) q))
+  pops_bare operand.Unit h e q = (ap (λ (t : ThreadState). t.slots) q, subst (λ z. Without z y.temps h.thread.temps) e (ap (λ (t : ThreadState). t.temps) q))
+  pops_bare operand.Pop h e q = map_gives (λ (p : Popped Value). Bared p.hand) (last_of h.thread.temps) _ (λ v z. (ap (λ (t : ThreadState). t.slots) q, subst (λ z. Without z y.temps (front_of h.thread.temps)) e (ap (λ (t : ThreadState). front_of t.temps) q)))
+
+  ends_bare : (main : Bool) (v : Owned) (h : Hand) → Bared h → Gives Bared (end_with main v h)
+  ends_bare true v h a = a
+  ends_bare false v h a = a
+
+  settles_bare : (h : Hand) (l : Option (List Copy)) → Bared h
+      → Gives (EndsStep (λ r t. (t.slots ≡ y.slots) × Without o y.temps t.temps)) (option_map (done_step fresh.None) (option_map (λ cs. record { work = with_cache cs h.work; thread = record h.thread { passed = 0; walk = []; moved_since_step = false } }) l))
+  settles_bare h None a = tt
+  settles_bare h (Some cs) a = a
+
+  over_bare : (x : Option Hand) → Gives Bared x → Gives (EndsStep (λ r t. (t.slots ≡ y.slots) × Without o y.temps t.temps)) (committed (done_where fresh.None (option_map (with_phase phase.Over) x)))
+  over_bare None a = tt
+  over_bare (Some h) a = settles_bare (with_phase phase.Over h) (unpin_all h.thread.walk h.work.rest.cache) a
+
+  end_bares : (n : ℕ) (h : Hand) → h.thread ≡ y → Gives (EndsStep (λ r t. (t.slots ≡ y.slots) × Without o y.temps t.temps)) (Rattle.server_model.specs.Events.step n (instr.End o) h)
+  end_bares n h q =
+      over_bare (then_some (pop_owned o h) (λ p. end_with (h.thread.number == 0) p.item p.hand))
+      (bind_gives (λ (p : Popped Owned). Bared p.hand) Bared (pop_owned o h) _
+      (bind_gives (λ (p : Popped Value). Bared p.hand) (λ (p : Popped Owned). Bared p.hand) (pop o h) _ (pops_bare o h refl q) (λ p u. map_gives (λ (r : Popped Owned). Bared r.hand) (owned_of p.item) _ (λ v z. u)))
+      (λ p u. ends_bare (h.thread.number == 0) p.item p.hand u))
+
+module _ (code : List Instr) (n : ℕ) (i : Instr) (y : ThreadState) (there : slice_get code y.pc ≡ Some i) where
+  -- a step at its end leaves its slots, and takes its operand
+  leaves_by : (j : Instr) → i ≡ j → (h : Hand) → h.thread ≡ y → Gives (EndsStep (λ r t. EndLeaves code y t)) (Rattle.server_model.specs.Events.step n j h)
+  leaves_by j e h q = by (Rattle.server_model.specs.Events.step n j h) (ending j e h q)
+    where
+      ending : (j : Instr) → i ≡ j → (h : Hand) → h.thread ≡ y → (o : Operand) → slice_get code y.pc ≡ Some (instr.End o) → Gives (EndsStep (λ r t. (t.slots ≡ y.slots) × Without o y.temps t.temps)) (Rattle.server_model.specs.Events.step n j h)
+      ending j e h q o at =
+          let same : j ≡ instr.End o = sym e ∙ some_same (sym there ∙ at) in
+          subst (λ x. Gives (EndsStep (λ r t. (t.slots ≡ y.slots) × Without o y.temps t.temps)) (Rattle.server_model.specs.Events.step n x h)) (sym same) (end_bares o y n h q)
+        where
+          some_same : {a b : Instr} → Some a ≡ Some b → a ≡ b
+          some_same e = cc
+
+      by : (d : Option Stepped) → ((o : Operand) → slice_get code y.pc ≡ Some (instr.End o) → Gives (EndsStep (λ r t. (t.slots ≡ y.slots) × Without o y.temps t.temps)) d) → Gives (EndsStep (λ r t. EndLeaves code y t)) d
+      by None f = tt
+      by (Some d) f = f
+
+  pub thread_goes : (r : Rest) (h : Hand) → h.thread ≡ y → Gives (EndsStep (λ r t. Goes code y t)) (Rattle.server_model.specs.Events.step n i h)
+  thread_goes r h e =
+      Rattle.event_law.proofs.Results.both_give (EndsStep (λ r t. EndLeaves code y t → Goes code y t)) (EndsStep (λ r t. EndLeaves code y t)) (EndsStep (λ r t. Goes code y t)) (Rattle.server_model.specs.Events.step n i h)
+      (step_goes code n i y there r h e) (leaves_by i refl h e) (λ d f x. f x)
 
 -- ANSWERS
 

@@ -10,3 +10,4 @@ pub mod Routes
 pub mod Rests
 pub mod Homes
 pub mod Pairs
+pub mod Bare

@@ -192,7 +192,7 @@ module _ (k : Cluster) (coherent : IsCoherent k) (number : ℕ) (s : Server) (he
   pair_goes y2 p (waits_pair cs c ds d a b at pc q passed walk g same) =
       let x = has_entry (instr.Par cs c ds d) at refl in
       agrees k.code y2 true (subst (λ m. is_par_end (slice_get k.code m) ≡ true) (sym pc) (next_par k.code types.table types.is_table y.pc x.entry (instr.Par cs c ds d) x.at at tt)) (ap is_par q)
-  pair_goes y2 p (ends_there o at pc q passed walk g same) = agrees k.code y2 false (subst (λ m. is_par_end (slice_get k.code m) ≡ false) (sym pc) (ap is_par_end at)) (ap is_par q)
+  pair_goes y2 p (ends_there o at pc q passed walk slots temps g same) = agrees k.code y2 false (subst (λ m. is_par_end (slice_get k.code m) ≡ false) (sym pc) (ap is_par_end at)) (ap is_par q)
   pair_goes y2 p (asks_cell i w at f pc q g same) = agrees k.code y2 false (subst (λ m. is_par_end (slice_get k.code m) ≡ false) (sym pc) (ap is_par_end at ∙ follows_none i y f)) (ap is_par q)
   pair_goes y2 p (asks_home i m at a pc q g passed walk same) =
       let none = asks_none i m a in

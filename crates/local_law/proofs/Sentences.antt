@@ -32,7 +32,7 @@ use Rattle.local_law.proofs.Handed.{ThreadsKeep, threads_keep, standing, known}
 same_of : (code : List Instr) (y y2 : ThreadState) → Goes code y y2 → Same y y2
 same_of code y y2 (on i at o pc p passed walk g s) = s
 same_of code y y2 (waits_pair cs pc ds other a b at q p passed walk g s) = s
-same_of code y y2 (is_over o at pc p passed walk g s) = s
+same_of code y y2 (is_over o at pc p passed walk slots temps g s) = s
 same_of code y y2 (asks_cell i w at f pc p g s) = s
 same_of code y y2 (asks_home i q at a pc p g passed walk s) = s
 same_of code y y2 (gets_cell w was p pc g s) = s
@@ -132,7 +132,7 @@ module _ (k : Cluster) (sound : IsSound k) (number : ℕ) (s : Server) (here : s
   join_goes : (y2 : ThreadState) → Still k.code y y2 y → Goes k.code y y2 → Still k.code y y2 y2
   join_goes y2 p (on i at o pc q passed walk g same) = emptied k.code y y2 walk
   join_goes y2 p (waits_pair cs pc ds other a b at m q passed walk g same) = emptied k.code y y2 walk
-  join_goes y2 p (is_over o at pc q passed walk g same) = emptied k.code y y2 walk
+  join_goes y2 p (is_over o at pc q passed walk slots temps g same) = emptied k.code y y2 walk
   join_goes y2 p (asks_cell i w at f pc q g same) = at_same k.code y y2 i at pc (not_join i y (length y2.walk) f)
   join_goes y2 p (asks_home i m at a pc q g passed walk same) = at_same k.code y y2 i at pc (asks_joined k.code y y2 i at walk p)
   join_goes y2 p (gets_cell w was q pc g same) = subst (λ n. if_so (is_join (slice_get k.code n)) (length y2.walk) ≡ 0) (sym pc) (waits_no_join w (length y2.walk) was)
@@ -196,7 +196,7 @@ module _ (k : Cluster) (sound : IsSound k) (number : ℕ) (s : Server) (here : s
   walk_goes : (y2 : ThreadState) → Empty y.phase y.walk → Goes k.code y y2 → Empty y2.phase y2.walk
   walk_goes y2 p (on i at o pc q passed walk g same) = empty_now y2.phase y2.walk walk
   walk_goes y2 p (waits_pair cs pc ds other a b at m q passed walk g same) = empty_now y2.phase y2.walk walk
-  walk_goes y2 p (is_over o at pc q passed walk g same) = empty_now y2.phase y2.walk walk
+  walk_goes y2 p (is_over o at pc q passed walk slots temps g same) = empty_now y2.phase y2.walk walk
   walk_goes y2 p (asks_cell i w at f pc q g same) = empty_by (phase.WaitCell w) y2.phase y2.walk q refl
   walk_goes y2 p (asks_home i m at a pc q g passed walk same) = empty_by m y2.phase y2.walk q (asks_empty i m y.walk y2.walk a walk (no_walk i at))
   walk_goes y2 p (gets_cell w was q pc g same) = has_cell y2.phase y2.walk q
@@ -256,7 +256,7 @@ module _ (k : Cluster) (sound : IsSound k) (number : ℕ) (s : Server) (here : s
   passed_goes : (y2 : ThreadState) → Early y.phase y.passed → Goes k.code y y2 → Early y2.phase y2.passed
   passed_goes y2 p (on i at o pc q passed walk g same) = none_passed y2.phase y2.passed passed
   passed_goes y2 p (waits_pair cs pc ds other a b at m q passed walk g same) = none_passed y2.phase y2.passed passed
-  passed_goes y2 p (is_over o at pc q passed walk g same) = none_passed y2.phase y2.passed passed
+  passed_goes y2 p (is_over o at pc q passed walk slots temps g same) = none_passed y2.phase y2.passed passed
   passed_goes y2 p (asks_cell i w at f pc q g same) = early_by (phase.WaitCell w) y2.phase y2.passed q refl
   passed_goes y2 p (asks_home i m at a pc q g passed walk same) = none_passed y2.phase y2.passed (passed ∙ asks_passed i m at a)
   passed_goes y2 p (gets_cell w was q pc g same) = cell_passed y2.phase y2.passed q

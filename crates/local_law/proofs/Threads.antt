@@ -28,7 +28,7 @@ use Rattle.heap_law.proofs.Names.{and_left}
 use Rattle.event_law.specs.Laws.{Gives}
 use Rattle.event_law.proofs.Results.{then_gives, map_gives, over_gives, test_gives, stand_gives, both_give}
 use Rattle.event_law.proofs.Known.{all_at}
-use Rattle.local_law.proofs.Goes.{Goes, GoesOn, step_goes, moved_goes, fetched_goes, granted_goes, dupped_goes, joined_goes, pair_goes}
+use Rattle.local_law.proofs.Goes.{Goes, GoesOn, thread_goes, moved_goes, fetched_goes, granted_goes, dupped_goes, joined_goes, pair_goes}
 use Rattle.local_law.proofs.Mail.{Mailed, mail_sent, Replies, Requests, StartsAt, Begins, message_says, step_says}
 
 -- THREADS OF A SERVER
@@ -128,7 +128,7 @@ module _ (code : List Instr) (o : Options) (s : Server) (P : ThreadState → Typ
           let p : P y = found_all P s.threads t y held.standing q in
           let begins : Begins (Parcel Q) o.servers s.rest i = λ pc vs r at d f. k.starts t _ y i _ pc vs q p e at in
           over_gives (λ (d : Stepped). Goes code y d.hand.thread × Mailed (Parcel Q) n s.rest.outbox d.hand.work.rest) Then (step o.servers i h) (stepped s)
-          (both_give (λ (d : Stepped). Goes code y d.hand.thread) (λ (d : Stepped). Mailed (Parcel Q) n s.rest.outbox d.hand.work.rest) _ (step o.servers i h) (step_goes code o.servers i y e s.rest h refl)
+          (both_give (λ (d : Stepped). Goes code y d.hand.thread) (λ (d : Stepped). Mailed (Parcel Q) n s.rest.outbox d.hand.work.rest) _ (step o.servers i h) (thread_goes code o.servers i y e s.rest h refl)
           (step_says (Parcel Q) o.servers i s.rest y (requests Q n y) begins h (record { mail = held.mail; begun = refl; named = refl; at_home = refl })) (λ d a b. (a, b)))
           (λ d u. record { standing = set_all P s.threads d.hand.thread held.standing (k.goes t y d.hand.thread q p u.0); mail = u.1 })
 

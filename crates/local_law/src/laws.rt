@@ -1,6 +1,6 @@
 //! What each event keeps of a sound cluster, one clause for each sentence.
 
-ghost use Rattle.heap_law.specs.Coherent.{asks_others, at_their_home, go_right, join_walks_nothing, options_in_range, par_ends, parcels_ready, passed_in_a_walk, thread_homes, walk_empty};
+ghost use Rattle.heap_law.specs.Coherent.{asks_others, at_their_home, go_right, join_walks_nothing, options_in_range, over_are_bare, par_ends, parcels_ready, passed_in_a_walk, thread_homes, walk_empty};
 ghost use Rattle.local_law.specs.Laws.{EachCoherentEventKeeps, EachEventKeeps};
 
 /// What a thread keeps by itself, whatever its values are: where it doesn't walk, and at a join, its walk is empty; it has passed hops in a walk alone; one that
@@ -26,7 +26,9 @@ pub fn servers_keep()
     ensures at_their_home { EachEventKeeps at_their_home }
 {}
 
-/// What a thread keeps by the table of its code, in a coherent cluster: it is at the end of a pair exactly where it waits for one or has got one.
+/// What a thread keeps by the table of its code, in a coherent cluster: it is at the end of a pair exactly where it waits for one or has got one, and once it is
+/// over it has nothing.
 pub fn threads_keep_to_code()
     ensures par_ends { EachCoherentEventKeeps par_ends }
+    ensures over_are_bare { EachCoherentEventKeeps over_are_bare }
 {}
