@@ -19,5 +19,6 @@ pub mod Cells
 pub mod TintWords
 pub mod Example
 pub mod Unmoved
+pub mod OneMore
 pub mod Unseen
 pub mod Fetches

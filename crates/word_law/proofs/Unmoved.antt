@@ -107,6 +107,27 @@ module _ (a b : Cluster) (c : HasPlaces a) (st : (l : Location) → seen_at l (v
       by None e y = loose p e y
       by (Some l) e y = stood p l (stands_in p (things_of a) y) e
 
+  -- the same, where some at no location may be others
+  pub all_or : (C : Pointer → Type 0) → ((p : Pointer) → p.at ≡ None → Among p (pointers_in (things_of a)) → C p ⊎ Among p (pointers_in (things_of b))) → (p : Pointer) → Among p (all_pointers (sight a)) → C p ⊎ Among p (all_pointers (sight b))
+  all_or C loose p m =
+      ⊎_elim (λ (y : Among p (pointers_in (things_of a))). ⊎_elim (λ (x : C p). inl x) (λ (x : Among p (pointers_in (things_of b))). inr (among_first p (pointers_in (things_of b)) (taken_pointers b.code gb gb.threads) x)) (by p.at refl y))
+      (λ (y : Among p (taken_pointers a.code ga ga.threads)). inr (among_second p (pointers_in (things_of b)) (taken_pointers b.code gb gb.threads) (taken p y)))
+      (among_split p (pointers_in (things_of a)) (taken_pointers a.code ga ga.threads) m)
+    where
+      by : (l : Option Location) → p.at ≡ l → Among p (pointers_in (things_of a)) → C p ⊎ Among p (pointers_in (things_of b))
+      by None e y = loose p e y
+      by (Some l) e y = inr (stands_in p (things_of b) (stood p l y e))
+
+  pub standing_or : (C : Pointer → Type 0) → ((p : Pointer) → p.at ≡ None → Among p (standing_in (things_of a)) → C p ⊎ Among p (standing_in (things_of b))) → (p : Pointer) → Among p (standing_pointers (sight a)) → C p ⊎ Among p (standing_pointers (sight b))
+  standing_or C loose p m =
+      ⊎_elim (λ (y : Among p (standing_in (things_of a))). ⊎_elim (λ (x : C p). inl x) (λ (x : Among p (standing_in (things_of b))). inr (among_first p (standing_in (things_of b)) (taken_pointers b.code gb gb.threads) x)) (by p.at refl y))
+      (λ (y : Among p (taken_pointers a.code ga ga.threads)). inr (among_second p (standing_in (things_of b)) (taken_pointers b.code gb gb.threads) (taken p y)))
+      (among_split p (standing_in (things_of a)) (taken_pointers a.code ga ga.threads) m)
+    where
+      by : (l : Option Location) → p.at ≡ l → Among p (standing_in (things_of a)) → C p ⊎ Among p (standing_in (things_of b))
+      by None e y = loose p e y
+      by (Some l) e y = inr (stood p l (stands_in p (things_of a) y) e)
+
 -- ONWARDS AND BACK
 
 module _ (k z : Cluster) (c : HasPlaces k) (d : HasPlaces z) (u : Untouched k z) where

@@ -1,5 +1,6 @@
 pub mod Reworded
 pub mod Unmoved
+pub mod OneMore
 pub mod Soles
 pub mod WordsAfter
 pub mod PutBack

@@ -1,6 +1,7 @@
 //! Laws of words.
 
 ghost use Rattle.word_law.specs.Example.{WordsApply};
+ghost use Rattle.word_law.specs.OneMore.{OneMoreStays};
 ghost use Rattle.word_law.specs.PutBack.{CellsReword, MarkRewords, SlotsReword, TintKeepsWords, TintRewords};
 ghost use Rattle.word_law.specs.Soles.{AreOnly, SolesStay, WrittenAreSole};
 ghost use Rattle.word_law.specs.Unmoved.{EvictionsUnmoved, FetchesUnmoved, UnmovedStays, UntouchedStays};
@@ -43,10 +44,12 @@ pub fn small_steps_reword()
 {}
 
 /// Where nothing changes that words see, each object has the word that it had, references know the words at their holders, dirty references are alone, and first
-/// words that were left are no words of today. No types are asked for. An eviction at its server is such an event, and so is the delivery of a `fetch`.
+/// words that were left are no words of today. No types are asked for. A pointer more at no location, with its object's word, leaves that
+/// too. An eviction at its server is an event that changes nothing, and so is the delivery of a `fetch`.
 pub fn words_stay()
     ensures unmoved { UnmovedStays }
     ensures untouched { UntouchedStays }
+    ensures one_more { OneMoreStays }
     ensures evictions { EvictionsUnmoved }
     ensures fetches { FetchesUnmoved }
 {}
