@@ -1,6 +1,6 @@
 -- How a thread goes on in an event, whatever its values are.
 use Rattle.std.proofs.Common.{◌≡◌, ◌⊎◌, inl, inr, ℕ, zero, suc, ◌+◌, ◌-◌, ◌==◌, Bool, true, false, nat_lt, if◌then◌else◌, List, [], length, Option, Some, None, refl, sym, ap, subst, ◌∙◌}
-use Rattle.std.specs.Prelude.{slice_get, slice_set, option_map}
+use Rattle.std.specs.Prelude.{slice_get, slice_set, option_map, ◌||◌}
 use Rattle.std.specs.Bool.{⊤}
 use Rattle.fr_base.specs.Rooms.{WithRoom}
 use Rattle.fr_base.specs.declared.name.MutexNo.{MutexNo}
@@ -11,7 +11,7 @@ use Rattle.fr_base.specs.declared.instruction.Operand.{Operand}
 use Rattle.fr_base.specs.declared.instruction.Operand.TheVariants as operand
 use Rattle.fr_base.specs.declared.step.Fresh.TheVariants as fresh
 use Rattle.migration.specs.Packing.{unpin_all}
-use Rattle.server_model.specs.Events.{Stepped, done_step, committed}
+use Rattle.server_model.specs.Events.{Stepped, done_step, committed, step}
 use Rattle.heap_partition.specs.declared.value.Cell.{Cell}
 use Rattle.heap_partition.specs.declared.value.Owned.{Owned}
 use Rattle.heap_partition.specs.declared.value.Owned.TheVariants as owned
@@ -37,7 +37,7 @@ use Rattle.server_model.specs.Objects.{waits_for_cell, filled, deliver_fetched, 
 use Rattle.server_model.specs.Sharing.{given, waits_for_lock, deliver_granted, waits_for_dup, deliver_dupped}
 use Rattle.server_model.specs.Joining.{waits_for_join, deliver_joined, got_par, pair_over}
 use Rattle.event_law.specs.Laws.{Gives}
-use Rattle.event_law.proofs.Results.{then_gives, map_gives, over_gives, bind_gives, test_gives}
+use Rattle.event_law.proofs.Results.{then_gives, map_gives, over_gives, bind_gives, test_gives, both_give, weaker}
 use Rattle.local_law.proofs.Small.{Of, Places, Small, Passes, Follows, Writes}
 use Rattle.local_law.proofs.Plainly.{Settles, Onward, Acts, EndsStep, steps}
 
@@ -257,7 +257,7 @@ module _ (code : List Instr) (n : ℕ) (i : Instr) (y : ThreadState) (there : sl
       home p h a q g = λ left. asks_home i p there a g.placed refl q (g.passes (at_home i p a)) g.walks (record { number = g.named; home = g.at_home })
 
   -- a step makes its thread go on so
-  step_goes : (r : Rest) (h : Hand) → h.thread ≡ y → Gives (EndsStep E) (Rattle.server_model.specs.Events.step n i h)
+  step_goes : (r : Rest) (h : Hand) → h.thread ≡ y → Gives (EndsStep E) (step n i h)
   step_goes r h e = steps i h (λ f. small (subst (λ t. Follows (access_of i t)) e f)) (λ f. passes (subst (λ t. Writes (access_of i t)) e f)) acts (subst (λ t. Framed i y h.work.rest t) (sym e) (framed i y h.work.rest))
 
 -- THE END OF A THREAD
@@ -285,7 +285,7 @@ module _ (o : Operand) (y : ThreadState) where
   over_bare None a = tt
   over_bare (Some h) a = settles_bare (with_phase phase.Over h) (unpin_all h.thread.walk h.work.rest.cache) a
 
-  end_bares : (n : ℕ) (h : Hand) → h.thread ≡ y → Gives (EndsStep (λ r t. (t.slots ≡ y.slots) × Without o y.temps t.temps)) (Rattle.server_model.specs.Events.step n (instr.End o) h)
+  end_bares : (n : ℕ) (h : Hand) → h.thread ≡ y → Gives (EndsStep (λ r t. (t.slots ≡ y.slots) × Without o y.temps t.temps)) (step n (instr.End o) h)
   end_bares n h q =
       over_bare (then_some (pop_owned o h) (λ p. end_with (h.thread.number == 0) p.item p.hand))
       (bind_gives (λ (p : Popped Owned). Bared p.hand) Bared (pop_owned o h) _
@@ -294,13 +294,13 @@ module _ (o : Operand) (y : ThreadState) where
 
 module _ (code : List Instr) (n : ℕ) (i : Instr) (y : ThreadState) (there : slice_get code y.pc ≡ Some i) where
   -- a step at its end leaves its slots, and takes its operand
-  leaves_by : (j : Instr) → i ≡ j → (h : Hand) → h.thread ≡ y → Gives (EndsStep (λ r t. EndLeaves code y t)) (Rattle.server_model.specs.Events.step n j h)
-  leaves_by j e h q = by (Rattle.server_model.specs.Events.step n j h) (ending j e h q)
+  leaves_by : (j : Instr) → i ≡ j → (h : Hand) → h.thread ≡ y → Gives (EndsStep (λ r t. EndLeaves code y t)) (step n j h)
+  leaves_by j e h q = by (step n j h) (ending j e h q)
     where
-      ending : (j : Instr) → i ≡ j → (h : Hand) → h.thread ≡ y → (o : Operand) → slice_get code y.pc ≡ Some (instr.End o) → Gives (EndsStep (λ r t. (t.slots ≡ y.slots) × Without o y.temps t.temps)) (Rattle.server_model.specs.Events.step n j h)
+      ending : (j : Instr) → i ≡ j → (h : Hand) → h.thread ≡ y → (o : Operand) → slice_get code y.pc ≡ Some (instr.End o) → Gives (EndsStep (λ r t. (t.slots ≡ y.slots) × Without o y.temps t.temps)) (step n j h)
       ending j e h q o at =
           let same : j ≡ instr.End o = sym e ∙ some_same (sym there ∙ at) in
-          subst (λ x. Gives (EndsStep (λ r t. (t.slots ≡ y.slots) × Without o y.temps t.temps)) (Rattle.server_model.specs.Events.step n x h)) (sym same) (end_bares o y n h q)
+          subst (λ x. Gives (EndsStep (λ r t. (t.slots ≡ y.slots) × Without o y.temps t.temps)) (step n x h)) (sym same) (end_bares o y n h q)
         where
           some_same : {a b : Instr} → Some a ≡ Some b → a ≡ b
           some_same e = cc
@@ -309,9 +309,9 @@ module _ (code : List Instr) (n : ℕ) (i : Instr) (y : ThreadState) (there : sl
       by None f = tt
       by (Some d) f = f
 
-  pub thread_goes : (r : Rest) (h : Hand) → h.thread ≡ y → Gives (EndsStep (λ r t. Goes code y t)) (Rattle.server_model.specs.Events.step n i h)
+  pub thread_goes : (r : Rest) (h : Hand) → h.thread ≡ y → Gives (EndsStep (λ r t. Goes code y t)) (step n i h)
   thread_goes r h e =
-      Rattle.event_law.proofs.Results.both_give (EndsStep (λ r t. EndLeaves code y t → Goes code y t)) (EndsStep (λ r t. EndLeaves code y t)) (EndsStep (λ r t. Goes code y t)) (Rattle.server_model.specs.Events.step n i h)
+      both_give (EndsStep (λ r t. EndLeaves code y t → Goes code y t)) (EndsStep (λ r t. EndLeaves code y t)) (EndsStep (λ r t. Goes code y t)) (step n i h)
       (step_goes code n i y there r h e) (leaves_by i refl h e) (λ d f x. f x)
 
 -- ANSWERS
@@ -417,7 +417,7 @@ module _ (code : List Instr) (y : ThreadState) where
       still = subst (λ (t : ThreadState). S h.work.rest t) (sym e) (record { named = refl; at_home = refl; placed = refl; given = refl })
 
       over_all : (v : ℕ) × (h.thread.phase ≡ phase.WaitCell v) → (o : Option Hand) → Gives HasIt o → Gives GoesOn o
-      over_all w o a = Rattle.event_law.proofs.Results.weaker HasIt GoesOn o a (λ h2 b. gotten w.0 (subst (λ (t : ThreadState). t.phase ≡ phase.WaitCell w.0) e w.1) h2 b)
+      over_all w o a = weaker HasIt GoesOn o a (λ h2 b. gotten w.0 (subst (λ (t : ThreadState). t.phase ≡ phase.WaitCell w.0) e w.1) h2 b)
 
   still_uses : (v : ℕ) (b : Bool) (h : Hand) → StillHand h → Gives StillHand (used_once v b h)
   still_uses v true h a = a
@@ -452,7 +452,7 @@ module _ (code : List Instr) (y : ThreadState) where
   joined_goes u v h e = test_gives GoesOn (waits_for_join h.thread.phase u) _ (λ z. gives_it v h.thread.gift h e (asking h e (waits_join h.thread.phase u z)))
 
   both_over : (u : ℕ) (p : Phase) → Gives (BothOver p) (got_par u p)
-  both_over u (phase.WaitPar a b) = test_gives (BothOver (phase.WaitPar a b)) (Rattle.std.specs.Prelude.◌||◌ (a == u) (b == u)) _ (λ w. record { first = a; second = b; was = refl; now = refl })
+  both_over u (phase.WaitPar a b) = test_gives (BothOver (phase.WaitPar a b)) ((a == u) || (b == u)) _ (λ w. record { first = a; second = b; was = refl; now = refl })
   both_over u p = tt
 
   -- a pair is over

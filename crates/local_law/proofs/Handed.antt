@@ -17,7 +17,7 @@ use Rattle.heap_law.specs.Follow.{Standing, threads_in}
 use Rattle.heap_law.specs.Coherent.{IsSound}
 use Rattle.heap_law.proofs.Sums.{tot-append}
 use Rattle.event_law.specs.Laws.{Gives, FewEvents}
-use Rattle.event_law.proofs.Results.{then_gives, over_gives, test_gives}
+use Rattle.event_law.proofs.Results.{then_gives, over_gives, test_gives, weaker}
 use Rattle.event_law.proofs.KnownSound.{on_standing, sum_standing}
 use Rattle.event_law.proofs.Unseen.{Unseen, Unnoted, thread_alone, seen_of}
 use Rattle.event_law.proofs.Events.{tot-server}
@@ -144,7 +144,7 @@ module _ (Pre : Cluster → Type 0) (is_sound : (k : Cluster) → Pre k → IsSo
 
   pub threads_keep : (k : Cluster) (e : Event) → Pre k → FewEvents k → Gives (λ (d : Cluster × EntryView). tot (f d.0.code) (threads_in (things_of d.0)) ≡ 0) (apply k e)
   threads_keep k e pre few =
-      Rattle.event_law.proofs.Results.weaker (λ (d : Cluster × EntryView). Weightless d.0) (λ (d : Cluster × EntryView). tot (f d.0.code) (threads_in (things_of d.0)) ≡ 0) (apply k e)
+      weaker (λ (d : Cluster × EntryView). Weightless d.0) (λ (d : Cluster × EntryView). tot (f d.0.code) (threads_in (things_of d.0)) ≡ 0) (apply k e)
       (handed_on Weightless (λ c a b same g. omega (arith, g, same (on_standing (f c.code)))) k e (each_event_sends k e (is_sound k pre) few) (acted k e pre few))
       (λ d g. omega (arith, g, sum_standing (f d.0.code) (things_of d.0)))
 

@@ -34,17 +34,17 @@ use Rattle.server_msgs.specs.declared.message.Message.{Message}
 use Rattle.server_msgs.specs.declared.message.Message.TheVariants as message
 use Rattle.journal.specs.declared.act.Act.TheVariants as act
 use Rattle.server_model.specs.Servers.{Sent, Rest}
-use Rattle.server_model.specs.Work.{Work, Hand, Site, sent_from, send, working, with_phase, with_mutexes, with_tasks, with_partition, then_some, put_back, thread_in, at_thread, beside_threads, look_object, used_once}
+use Rattle.server_model.specs.Work.{Work, Hand, Site, sent_from, send, working, with_phase, with_mutexes, with_tasks, with_partition, then_some, put_back, thread_in, at_thread, beside_threads, look_object, used_once, note}
 use Rattle.server_model.specs.NewWords.{NewWord, can_grow, issue_placed}
 use Rattle.server_model.specs.Places.{Spot, in_slot, value_at, set_pointer}
 use Rattle.server_model.specs.Start.{next_thread, server_for, start_thread, capture}
 use Rattle.server_model.specs.Drop.{home_of, give_up}
-use Rattle.server_model.specs.Commit.{go_on, next_object, push_box, make_box, mutex_made, begun, pair_begun, spawn_with, par_with, end_with}
+use Rattle.server_model.specs.Commit.{go_on, next_object, push_box, begun, pair_begun, spawn_with, end_with, label_dropped}
 use Rattle.server_model.specs.Prepare.{Access, ReadTo, ReadPointer, WriteTo, LendTo, EndRef, passing, write_stars}
 use Rattle.server_model.specs.Objects.{deliver_fetch, waits_for_cell, filled, deliver_fetched, deliver_move, chased, waits_under, arrived_at, arrived_slot, passed_spot, arrived_write, arrived_lend, arrived_end, arrived, instr_access, deliver_moved, deliver_drop}
 use Rattle.server_model.specs.Sharing.{given, answer_lock, deliver_lock, waits_for_lock, deliver_granted, answer_back, deliver_unlock, deliver_dup, waits_for_dup, deliver_dupped, give_up_left}
 use Rattle.server_model.specs.Joining.{answer_join, deliver_join, waits_for_join, deliver_joined, got_par, pair_over, end_answer, deliver_finished}
-use Rattle.server_model.specs.Events.{release, deliver_message}
+use Rattle.server_model.specs.Events.{release, deliver_message, step}
 use Rattle.heap_law.proofs.Names.{same_number}
 use Rattle.event_law.specs.Laws.{Gives}
 use Rattle.event_law.proofs.Results.{then_gives, map_gives, over_gives, bind_gives, test_gives, stand_gives}
@@ -166,7 +166,7 @@ module _ (M : ℕ → Message → Type 0) (n : ℕ) (old : List Sent) (k : Repli
   moves v b s t w a = map_gives WellWork (look_object w.rest.partition v b) _ (λ c q. says s (message.Moved v c t) (record w.rest { partition = freed w.rest.partition v }) (k.moved s v c t) a)
 
   drops : (v : ℕ) (b : ObjNo) (w : Work) → WellWork w → Gives WellWork (deliver_drop v b w)
-  drops v b w a = map_gives WellWork (look_object w.rest.partition v b) _ (λ c q. gives_up c.value (Rattle.server_model.specs.Work.note (act.Free b v) (with_partition (freed w.rest.partition v) w)) a)
+  drops v b w a = map_gives WellWork (look_object w.rest.partition v b) _ (λ c q. gives_up c.value (note (act.Free b v) (with_partition (freed w.rest.partition v) w)) a)
 
   uses_it : (v : ℕ) (b : Bool) (h : Hand) → WellHand h → Gives WellHand (used_once v b h)
   uses_it v true h a = a
@@ -367,7 +367,7 @@ module _ (M : ℕ → Message → Type 0) (servers : ℕ) (i : Instr) (r0 : Rest
   gives (owned.Int m) h g = g
 
   over_says : (main : Bool) (v : Owned) (h : Hand) → Of F h → Gives (λ h2. Settles E (with_phase phase.Over h2)) (end_with main v h)
-  over_says true v h g = λ cs z. let after = gives v (Rattle.server_model.specs.Commit.label_dropped (value.Own v) h) g in after.mail
+  over_says true v h g = λ cs z. let after = gives v (label_dropped (value.Own v) h) g in after.mail
   over_says false v h g = λ cs z.
       let b : M y.home (message.Finished h.thread.number v) = subst (λ x. M y.home (message.Finished x v)) (sym g.named) (k.finished v) in
       says_one h.thread.home (message.Finished h.thread.number v) h (subst (λ x. M x (message.Finished h.thread.number v)) (sym g.at_home) b) g
@@ -414,5 +414,5 @@ module _ (M : ℕ → Message → Type 0) (servers : ℕ) (i : Instr) (r0 : Rest
   }
 
   -- a step there says so
-  pub step_says : (h : Hand) → Of F h → Gives (EndsStep E) (Rattle.server_model.specs.Events.step servers i h)
+  pub step_says : (h : Hand) → Of F h → Gives (EndsStep E) (step servers i h)
   step_says h g = steps i h (λ f. small) (λ f. passes) acts g

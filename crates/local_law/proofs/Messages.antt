@@ -8,14 +8,14 @@ use Rattle.read_cache.specs.Cache.{Copy, can_evict}
 use Rattle.thread_state.specs.View.{ThreadState}
 use Rattle.server_msgs.specs.declared.message.Message.{Message}
 use Rattle.server_msgs.specs.declared.message.Message.TheVariants as message
-use Rattle.migration.specs.Packing.{packed, pack_thread}
+use Rattle.migration.specs.Packing.{packed, unpin_all, used_words}
 use Rattle.journal.specs.View.{EntryView}
 use Rattle.server_model.specs.declared.event.Event.{Event}
 use Rattle.server_model.specs.declared.event.What.{What}
 use Rattle.server_model.specs.declared.event.What.TheVariants.{Step, Deliver, Evict, Migrate}
 use Rattle.server_model.specs.Servers.{Sent, Rest, Server, Cluster, server_at}
-use Rattle.server_model.specs.Work.{Work, Hand, Site, then_some, thread_in, beside_threads}
-use Rattle.server_model.specs.Moving.{migrate}
+use Rattle.server_model.specs.Work.{Work, Hand, Site, then_some, thread_in, beside_threads, without_thread}
+use Rattle.server_model.specs.Moving.{migrate, depart}
 use Rattle.server_model.specs.Events.{Stepped, enabled, begin_work, begin_at, left_by, received, deliver_message, evict_copy, step, step_in, stepped, does}
 use Rattle.server_model.specs.Clusters.{done_at, act_at}
 use Rattle.heap_law.specs.Names.{tot}
@@ -81,10 +81,10 @@ module _ (code : List Instr) (o : Options) (s : Server) (M : ℕ → Message →
   leaving : (t target : ℕ) → Gives Then (does code o s (Migrate t target))
   leaving t target =
       over_gives PostedSite Then (migrate t target (begin_at s)) (left_by s.events (Some t) None)
-      (then_gives PostedSite (thread_in s.threads t) _ (λ y q. by y q (Rattle.migration.specs.Packing.unpin_all (Rattle.migration.specs.Packing.used_words y) s.rest.cache))) (λ x u. u)
+      (then_gives PostedSite (thread_in s.threads t) _ (λ y q. by y q (unpin_all (used_words y) s.rest.cache))) (λ x u. u)
     where
       by : (y : ThreadState) → thread_in s.threads t ≡ Some y → (l : Option (List Copy))
-          → Gives PostedSite (option_map (λ p. record { work = Rattle.server_model.specs.Moving.depart target (begin_work s.rest) p; threads = Rattle.server_model.specs.Work.without_thread s.threads t }) (option_map (λ left. (packed (record y { moved_since_step = true }), left)) l))
+          → Gives PostedSite (option_map (λ p. record { work = depart target (begin_work s.rest) p; threads = without_thread s.threads t }) (option_map (λ left. (packed (record y { moved_since_step = true }), left)) l))
       by y q None = tt
       by y q (Some cs) = mail_sent M s.rest.number s.rest.outbox (record s.rest { cache = cs }) target (message.Migrate (packed (record y { moved_since_step = true }))) (k.leaves t target y q) mail
 

@@ -1,6 +1,6 @@
 -- The plain step of each instruction, once for any fact that each small step keeps.
-use Rattle.std.proofs.Common.{◌≡◌, ℕ, ℤ, zero, suc, ◌+◌, ◌==◌, Bool, true, false, if◌then◌else◌, List, [], ◌∷◌, ◌++◌, Option, Some, None, refl}
-use Rattle.std.specs.Prelude.{slice_get, slice_set}
+use Rattle.std.proofs.Common.{◌≡◌, ℕ, ℤ, zero, suc, ◌+◌, ◌-◌, ◌==◌, Bool, true, false, if◌then◌else◌, List, [], ◌∷◌, ◌++◌, Option, Some, None, refl}
+use Rattle.std.specs.Prelude.{slice_get, length, option_map}
 use Rattle.std.specs.Bool.{⊤}
 use Rattle.fr_base.specs.Rooms.{WithRoom}
 use Rattle.fr_base.specs.declared.name.MutexNo.{MutexNo}
@@ -102,11 +102,11 @@ module _ {n : ℕ} {F E : Rest → ThreadState → Type 0} {V : Value → Type 0
   goes_ends on None g = tt
   goes_ends on (Some h) g = k.goes on h g
 
-  on_ends : Onward i → (names : Fresh) (o : Option Hand) → Gives Good o → Ends E (done_where names (Rattle.std.specs.Prelude.option_map go_on o))
+  on_ends : Onward i → (names : Fresh) (o : Option Hand) → Gives Good o → Ends E (done_where names (option_map go_on o))
   on_ends on names None g = tt
   on_ends on names (Some h) g = k.goes on h g
 
-  spawn_ends : (names : Fresh) (o : Option Hand) → Gives (λ h2. Settles E (go_on h2)) o → Ends E (done_where names (Rattle.std.specs.Prelude.option_map go_on o))
+  spawn_ends : (names : Fresh) (o : Option Hand) → Gives (λ h2. Settles E (go_on h2)) o → Ends E (done_where names (option_map go_on o))
   spawn_ends names None g = tt
   spawn_ends names (Some h) g = g
 
@@ -123,7 +123,7 @@ module _ {n : ℕ} {F E : Rest → ThreadState → Type 0} {V : Value → Type 0
   pops_temp h g = let kept = k.places in map_gives (Out V) (last_of h.thread.temps) _ (λ v q. (kept.spot on_top v h g q, k.off_temps h g))
 
   pops_slot : (h : Hand) → Good h → Gives (Out V) (pop_slot h)
-  pops_slot h g = let kept = k.places in map_gives (Out V) (last_of h.thread.slots) _ (λ v q. (kept.spot (in_slot (Rattle.std.specs.Prelude.◌-◌ (Rattle.std.specs.Prelude.length h.thread.slots) 1)) v h g q, k.off_slots h g))
+  pops_slot h g = let kept = k.places in map_gives (Out V) (last_of h.thread.slots) _ (λ v q. (kept.spot (in_slot (length h.thread.slots - 1)) v h g q, k.off_slots h g))
 
   pops : (o : Operand) (h : Hand) → Good h → Gives (Out V) (pop o h)
   pops (operand.Const m) h g = (k.number m, g)
@@ -314,7 +314,7 @@ module _ {n : ℕ} {F E : Rest → ThreadState → Type 0} {V : Value → Type 0
   ends_thread : (o : Operand) (h : Hand) → i ≡ instr.End o → Good h → Ends E (end_thread o h)
   ends_thread o h e g = done_ends _ _ (by (then_some (pop_owned o h) (λ p. end_with (h.thread.number == 0) p.item p.hand)) (bind_gives (Out IsOwned) (λ h2. Settles E (with_phase phase.Over h2)) (pop_owned o h) _ (pops_owned o h g) (λ p u. k.ends o e (h.thread.number == 0) p.item p.hand u.0 u.1)))
     where
-      by : (x : Option Hand) → Gives (λ h2. Settles E (with_phase phase.Over h2)) x → Gives (Settles E) (Rattle.std.specs.Prelude.option_map (with_phase phase.Over) x)
+      by : (x : Option Hand) → Gives (λ h2. Settles E (with_phase phase.Over h2)) x → Gives (Settles E) (option_map (with_phase phase.Over) x)
       by None a = tt
       by (Some h2) a = a
 
@@ -325,11 +325,11 @@ abbrev pub EndsStep : (Rest → ThreadState → Type 0) → Stepped → Type 0
 EndsStep E d = Of E d.hand
 
 module _ (E : Rest → ThreadState → Type 0) where
-  settled : (names : Fresh) (h : Hand) → Settles E h → Gives (EndsStep E) (Rattle.std.specs.Prelude.option_map (done_step names) (settle h))
+  settled : (names : Fresh) (h : Hand) → Settles E h → Gives (EndsStep E) (option_map (done_step names) (settle h))
   settled names h a = by (unpin_all h.thread.walk h.work.rest.cache) refl
     where
       by : (o : Option (List Copy)) → unpin_all h.thread.walk h.work.rest.cache ≡ o
-          → Gives (EndsStep E) (Rattle.std.specs.Prelude.option_map (done_step names) (Rattle.std.specs.Prelude.option_map (λ cs. record { work = with_cache cs h.work; thread = record h.thread { passed = 0; walk = []; moved_since_step = false } }) o))
+          → Gives (EndsStep E) (option_map (done_step names) (option_map (λ cs. record { work = with_cache cs h.work; thread = record h.thread { passed = 0; walk = []; moved_since_step = false } }) o))
       by None q = tt
       by (Some cs) q = a cs q
 

@@ -35,18 +35,18 @@ use Rattle.fr_base.specs.declared.settings.Options.{Options}
 use Rattle.server_model.specs.declared.event.What.{What}
 use Rattle.server_model.specs.declared.event.What.TheVariants.{Step, Deliver, Evict, Migrate}
 use Rattle.server_model.specs.Servers.{Rest, Server}
-use Rattle.server_model.specs.Work.{Work, Hand, Site, sent_from, receive, leads_here, working, with_phase, with_mutexes, with_tasks, with_partition, then_some, put_back, thread_in, without_thread, at_thread, beside_threads, look_object, used_once}
+use Rattle.server_model.specs.Work.{Work, Hand, Site, sent_from, receive, leads_here, working, with_phase, with_mutexes, with_tasks, with_partition, then_some, put_back, thread_in, without_thread, at_thread, beside_threads, look_object, used_once, note}
 use Rattle.server_model.specs.NewWords.{NewWord, can_grow, is_last, issue_placed}
 use Rattle.server_model.specs.Places.{Spot, in_slot, on_top, in_cell, in_copy, nowhere, note_write, value_at, put_at, with_word, set_pointer}
 use Rattle.server_model.specs.Start.{next_thread, start_thread, capture}
 use Rattle.server_model.specs.Drop.{give_up}
-use Rattle.server_model.specs.Moving.{migrate}
-use Rattle.server_model.specs.Commit.{go_on, next_object, push_box, make_box, mutex_made, begun, pair_begun, spawn_with, par_with, end_with}
+use Rattle.server_model.specs.Moving.{migrate, depart}
+use Rattle.server_model.specs.Commit.{go_on, next_object, push_box, begun, pair_begun, spawn_with, end_with, label_dropped}
 use Rattle.server_model.specs.Prepare.{Access, ReadTo, ReadPointer, WriteTo, LendTo, EndRef, passing, write_stars}
 use Rattle.server_model.specs.Objects.{deliver_fetch, waits_for_cell, filled, deliver_fetched, deliver_move, chased, waits_under, arrived_at, arrived_slot, passed_spot, arrived_write, arrived_lend, arrived_end, arrived, instr_access, deliver_moved, deliver_drop}
 use Rattle.server_model.specs.Sharing.{given, answer_lock, deliver_lock, waits_for_lock, deliver_granted, answer_back, deliver_unlock, deliver_dup, waits_for_dup, deliver_dupped, give_up_left}
 use Rattle.server_model.specs.Joining.{answer_join, deliver_join, waits_for_join, deliver_joined, got_par, pair_over, end_answer, deliver_finished}
-use Rattle.server_model.specs.Events.{Stepped, begin_work, begin_at, left_by, received, release, deliver_message, evict_copy, step, step_in, stepped, does}
+use Rattle.server_model.specs.Events.{begin_work, begin_at, left_by, received, release, deliver_message, evict_copy, step, step_in, stepped, does, deliver}
 use Rattle.event_law.specs.Laws.{Gives}
 use Rattle.event_law.proofs.Results.{then_gives, map_gives, over_gives, bind_gives, test_gives, stand_gives}
 use Rattle.local_law.proofs.Small.{Of, Places, Small}
@@ -145,7 +145,7 @@ module _ {R : Rest → Type 0} (k : Parts R) where
   starts servers pc vs w g = k.sent _ _ (record w.rest { started = w.rest.started + 1 }) (k.counted w.rest g)
 
   over_main : (main : Bool) (v : Owned) (h : Hand) → OfHand h → Gives (λ h2. Settles F (with_phase phase.Over h2)) (end_with main v h)
-  over_main true v h g = λ cs z. k.unpins_all h.thread.walk cs _ z (gives_up v (Rattle.server_model.specs.Commit.label_dropped (value.Own v) h).work g)
+  over_main true v h g = λ cs z. k.unpins_all h.thread.walk cs _ z (gives_up v (label_dropped (value.Own v) h).work g)
   over_main false v h g = λ cs z. k.unpins_all h.thread.walk cs _ z (k.sent _ _ h.work.rest g)
 
   acts : (n : ℕ) (i : Instr) → Acts n F F Any AnyWord i
@@ -205,7 +205,7 @@ module _ {R : Rest → Type 0} (k : Parts R) where
       by (Some y) = over_gives OfHand OfSite (f (record { work = x.work; thread = y })) (put_back x.threads) (go y) (λ h a. a)
 
   drops : (v : ℕ) (b : ObjNo) (w : Work) → OfWork w → Gives OfWork (deliver_drop v b w)
-  drops v b w a = map_gives OfWork (look_object w.rest.partition v b) _ (λ c q. gives_up c.value (Rattle.server_model.specs.Work.note (act.Free b v) (with_partition (freed w.rest.partition v) w)) (k.frees v b c w.rest q a))
+  drops v b w a = map_gives OfWork (look_object w.rest.partition v b) _ (λ c q. gives_up c.value (note (act.Free b v) (with_partition (freed w.rest.partition v) w)) (k.frees v b c w.rest q a))
 
   uses_it : (v : ℕ) (b : Bool) (h : Hand) → OfHand h → Gives OfHand (used_once v b h)
   uses_it v true h a = a
@@ -337,7 +337,7 @@ module _ {R : Rest → Type 0} (k : Parts R) where
           let h : Hand = record { work = begin_work s.rest; thread = y } in
           over_gives (EndsStep F) Then (step_in code o.servers h) (stepped s) (then_gives (EndsStep F) (slice_get code y.pc) (λ i. step o.servers i h) (λ i q. step_rests o.servers i h g)) (λ d u. u)
   rests code o s (Deliver i) g =
-      over_gives OfSite Then (Rattle.server_model.specs.Events.deliver code i s) (left_by s.events None None)
+      over_gives OfSite Then (deliver code i s) (left_by s.events None None)
       (then_gives OfSite (slice_get s.rest.inbox i) (λ m. deliver_message code m (received i s)) (λ m q. message_rests code m (received i s) (k.received i s.rest g))) (λ x u. u)
   rests code o s (Evict w) g =
       over_gives OfSite Then (beside_threads (evict_copy w) (begin_at s)) (left_by s.events None None)
@@ -347,6 +347,6 @@ module _ {R : Rest → Type 0} (k : Parts R) where
       (then_gives OfSite (thread_in s.threads t) _ (λ y q. by y (unpin_all (used_words y) s.rest.cache) refl)) (λ x u. u)
     where
       by : (y : ThreadState) (l : Option (List Copy)) → unpin_all (used_words y) s.rest.cache ≡ l
-          → Gives OfSite (option_map (λ p. record { work = Rattle.server_model.specs.Moving.depart target (begin_work s.rest) p; threads = without_thread s.threads t }) (option_map (λ left. (packed (record y { moved_since_step = true }), left)) l))
+          → Gives OfSite (option_map (λ p. record { work = depart target (begin_work s.rest) p; threads = without_thread s.threads t }) (option_map (λ left. (packed (record y { moved_since_step = true }), left)) l))
       by y None e = tt
       by y (Some cs) e = k.sent _ _ (record s.rest { cache = cs }) (k.unpins_all (used_words y) cs s.rest e g)

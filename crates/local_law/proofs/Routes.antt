@@ -1,6 +1,6 @@
 -- Messages go to the servers that they are for, requests to other ones, and the options stay.
 use Rattle.std.proofs.Common.{◌≡◌, ◌⊎◌, inl, inr, ℕ, ◌+◌, ◌*◌, ◌/◌, ◌%◌, ◌^◌, ◌<◌, ◌==◌, ◌&&◌, nat_lt, Bool, true, false, if◌then◌else◌, List, [], ◌∷◌, ◌++◌, length, drop, Some, IsSome, refl, sym, ap, subst, ◌∙◌, arith}
-use Rattle.std.specs.Prelude.{slice_get, option_map}
+use Rattle.std.specs.Prelude.{is_some}
 use Rattle.std.specs.List.{AllByRecursion}
 use Rattle.std.specs.Bool.{⊤}
 use Rattle.std.proofs.lemmas.Bool.{eq-eqb}
@@ -34,6 +34,7 @@ use Rattle.local_law.specs.Laws.{EachEventKeeps}
 use Rattle.local_law.proofs.Mail.{Mailed, Replies, Requests}
 use Rattle.local_law.proofs.Handed.{known}
 use Rattle.local_law.proofs.Messages.{Letters, posts, on_sent, Light, letters_from, letters_to, MessagesKeep, messages_keep}
+use Rattle.fr_base.specs.declared.instruction.Instr.{Instr}
 
 -- A LIGHTER WEIGHT
 
@@ -190,7 +191,7 @@ newer : (xs ys : List Sent) → drop (length xs) (xs ++ ys) ≡ ys
 newer [] ys = refl
 newer (x ∷ xs) ys = newer xs ys
 
-nothing_said : (code : List Rattle.fr_base.specs.declared.instruction.Instr.Instr) (servers : ℕ) (s : Server) → Letters code servers s (λ r m. ⊤)
+nothing_said : (code : List Instr) (servers : ℕ) (s : Server) → Letters code servers s (λ r m. ⊤)
 nothing_said code servers s = record {
   replies = anything;
   requests = λ t y there. record { replies = anything; fetch = λ p e. tt; move = λ p e. tt; lock = λ m. tt; dup = λ m. tt; unlock = λ m v. tt; join = λ u. tt; finished = λ v. tt };
@@ -253,7 +254,7 @@ within_acted k e sound few =
     (λ r u.
     let mail : Mailed (λ x m. ⊤) s.rest.number old r.0.rest = u.0 in
     let number : r.0.rest.number ≡ e.server = mail.numbered ∙ server_number k.servers e.server s here in
-    let own : r.0.rest.number < n = subst (λ x. x < n) (sym number) (there_below (sight k) 0 e.server k.servers run (ap Rattle.std.specs.Prelude.is_some here)) in
+    let own : r.0.rest.number < n = subst (λ x. x < n) (sym number) (there_below (sight k) 0 e.server k.servers run (ap is_some here)) in
     let go : GoTo (with_server k.servers e.server r.0) mail.more = subst (GoTo (with_server k.servers e.server r.0)) (ap (drop (length old)) mail.appended ∙ newer old mail.more) u.1 in
     let new = sent_light n mail.more (go_below (sight k) k.servers e.server r.0 run number mail.more go) in
     let out = subst (AllByRecursion (λ (x : Sent). Light (beyond n) x.target x.message)) (sym mail.appended) (all_append (λ (x : Sent). Light (beyond n) x.target x.message) old mail.more mine.leaving new) in

@@ -1,6 +1,6 @@
 -- What each thread keeps by itself: from its server to the cluster, with the messages handed over.
 use Rattle.std.proofs.Common.{◌≡◌, ℕ, zero, suc, ◌==◌, ◌&&◌, not, Bool, true, false, nat_lt, if◌then◌else◌, List, [], ◌∷◌, Option, Some, None, refl, subst}
-use Rattle.std.specs.Prelude.{slice_get, option_map, remove}
+use Rattle.std.specs.Prelude.{slice_get, option_map, remove, drop}
 use Rattle.std.specs.Bool.{⊤}
 use Rattle.std.specs.List.{AllByRecursion}
 use Rattle.fr_base.specs.declared.instruction.Instr.{Instr}
@@ -21,15 +21,16 @@ use Rattle.server_model.specs.Servers.{Sent, Server}
 use Rattle.server_model.specs.Work.{Work, Hand, Site, then_some, thread_in, set_thread, without_thread, with_thread, put_back, at_thread, beside_threads, with_tasks}
 use Rattle.server_model.specs.Objects.{deliver_fetch, deliver_fetched, deliver_move, deliver_moved, deliver_drop}
 use Rattle.server_model.specs.Sharing.{deliver_lock, deliver_granted, deliver_unlock, deliver_dup, deliver_dupped}
-use Rattle.server_model.specs.Joining.{deliver_join, deliver_joined, pair_over, end_answer, deliver_finished}
-use Rattle.server_model.specs.Moving.{migrate}
+use Rattle.server_model.specs.Joining.{deliver_join, deliver_joined, pair_over, end_answer, deliver_finished, arrive}
+use Rattle.server_model.specs.Moving.{depart}
 use Rattle.server_model.specs.Events.{Stepped, has_phase, is_ready, enabled, begin_work, begin_at, left_by, received, release, deliver_message, evict_copy, step, step_in, stepped, does}
 use Rattle.heap_law.proofs.Names.{and_left}
 use Rattle.event_law.specs.Laws.{Gives}
 use Rattle.event_law.proofs.Results.{then_gives, map_gives, over_gives, test_gives, stand_gives, both_give}
-use Rattle.event_law.proofs.Known.{all_at}
+use Rattle.event_law.proofs.Known.{all_at, all_append, all_take}
 use Rattle.local_law.proofs.Goes.{Goes, GoesOn, thread_goes, moved_goes, fetched_goes, granted_goes, dupped_goes, joined_goes, pair_goes}
 use Rattle.local_law.proofs.Mail.{Mailed, mail_sent, Replies, Requests, StartsAt, Begins, message_says, step_says}
+use Rattle.heap_partition.specs.declared.value.Owned.{Owned}
 
 -- THREADS OF A SERVER
 
@@ -66,13 +67,13 @@ module _ (P : ThreadState → Type 0) where
       by true g d = let same : x ≡ y = cc in subst P same a.0
       by false g d = g d
 
-drop_all : {X : Type 0} (P : X → Type 0) (n : ℕ) (xs : List X) → AllByRecursion P xs → AllByRecursion P (Rattle.std.specs.Prelude.drop n xs)
+drop_all : {X : Type 0} (P : X → Type 0) (n : ℕ) (xs : List X) → AllByRecursion P xs → AllByRecursion P (drop n xs)
 drop_all P zero xs a = a
 drop_all P (suc n) [] a = tt
 drop_all P (suc n) (x ∷ xs) a = drop_all P n xs a.1
 
 pub remove_all : {X : Type 0} (P : X → Type 0) (xs : List X) (i : ℕ) → AllByRecursion P xs → AllByRecursion P (remove xs i)
-remove_all P xs i a = Rattle.event_law.proofs.Known.all_append P _ _ (Rattle.event_law.proofs.Known.all_take P i xs a) (drop_all P (suc i) xs a)
+remove_all P xs i a = all_append P _ _ (all_take P i xs a) (drop_all P (suc i) xs a)
 
 -- a parcel is as it should be
 abbrev pub Parcel : (ℕ → ThreadState → Type 0) → ℕ → Message → Type 0
@@ -150,7 +151,7 @@ module _ (code : List Instr) (o : Options) (s : Server) (P : ThreadState → Typ
           over_gives (GoesOn code y) Stood (f (record { work = w; thread = y })) (put_back s.threads) (go y)
           (λ h a. set_all P s.threads h.thread held.standing (k.goes t y h.thread q (found_all P s.threads t y held.standing q) a))
 
-  ends : (u : ℕ) (v : Rattle.heap_partition.specs.declared.value.Owned.Owned) (w : Work) → Gives Stood (deliver_finished u v (record { work = w; threads = s.threads }))
+  ends : (u : ℕ) (v : Owned) (w : Work) → Gives Stood (deliver_finished u v (record { work = w; threads = s.threads }))
   ends u v w = then_gives Stood (ended w.rest.tasks u v) _ (λ p q. by p.0 p.1)
     where
       by : (ts : List Task) (e : EndedAs) → Gives Stood (end_answer u e (record { work = with_tasks ts w; threads = s.threads }))
@@ -159,7 +160,7 @@ module _ (code : List Instr) (o : Options) (s : Server) (P : ThreadState → Typ
       by ts (over.LetGo b) = held.standing
       by ts over.Kept = held.standing
 
-  arrives : (t : ThreadState) (w : Work) → Q n t → Gives Stood (Rattle.server_model.specs.Joining.arrive t (record { work = w; threads = s.threads }))
+  arrives : (t : ThreadState) (w : Work) → Q n t → Gives Stood (arrive t (record { work = w; threads = s.threads }))
   arrives t w q = stand_gives Stood (thread_in s.threads t.number) t (record { work = w; threads = s.threads }) (with_all P s.threads t held.standing (k.arrives t q))
 
   delivers : (m : Message) (w : Work) → Parcel Q n m → Gives Stood (deliver_message code m (record { work = w; threads = s.threads }))
@@ -202,12 +203,12 @@ module _ (code : List Instr) (o : Options) (s : Server) (P : ThreadState → Typ
   leaving t target on = by (thread_in s.threads t) refl on
     where
       by : (x : Option ThreadState) → thread_in s.threads t ≡ x → has_phase is_ready x ≡ true
-          → Gives Then (option_map (left_by s.events (Some t) None) (then_some x (λ y. option_map (λ p. record { work = Rattle.server_model.specs.Moving.depart target (begin_work s.rest) p; threads = without_thread s.threads t }) (pack_thread (record y { moved_since_step = true }) s.rest.cache))))
+          → Gives Then (option_map (left_by s.events (Some t) None) (then_some x (λ y. option_map (λ p. record { work = depart target (begin_work s.rest) p; threads = without_thread s.threads t }) (pack_thread (record y { moved_since_step = true }) s.rest.cache))))
       by None q z = tt
       by (Some y) q z = packs (unpin_all (used_words y) s.rest.cache)
         where
           packs : (l : Option (List Copy))
-              → Gives Then (option_map (left_by s.events (Some t) None) (option_map (λ p. record { work = Rattle.server_model.specs.Moving.depart target (begin_work s.rest) p; threads = without_thread s.threads t }) (option_map (λ left. (packed (record y { moved_since_step = true }), left)) l)))
+              → Gives Then (option_map (left_by s.events (Some t) None) (option_map (λ p. record { work = depart target (begin_work s.rest) p; threads = without_thread s.threads t }) (option_map (λ left. (packed (record y { moved_since_step = true }), left)) l)))
           packs None = tt
           packs (Some cs) = record {
             standing = without_all P s.threads t held.standing;
