@@ -32,7 +32,7 @@ use Rattle.still_law.proofs.Gifts.{placed, telling, places_told}
 use Rattle.still_law.proofs.Once.{shown_once}
 use Rattle.still_law.proofs.Sites.{Moves, ends}
 use Rattle.turn_law.proofs.Parts.{Own}
-use Rattle.turn_law.proofs.OneTurn.{of_thread, Calm}
+use Rattle.turn_law.proofs.OneTurn.{of_thread, Calm, after}
 use Rattle.turn_law.proofs.Events.{gift_at, placed_at, told_at, told_by, all_of as of_both, itself_counts, given_by_count}
 use Rattle.lock_law.proofs.Beside.{giftless, IsBeside, all_of, tot_of, thread_parted}
 use Rattle.lock_law.proofs.OneThread.{past, stray_stays}
@@ -227,7 +227,7 @@ module _ (k : Cluster) (sound : IsSound k) (e : Event) (s : Server) (here : serv
       unstray_then : tot (stray (with_things k b)) b ≡ 0
       unstray_then =
           let flat : (r : Sight) → Own (λ v. stray r v ≡ 0) = λ r. record { slots = λ u i v. refl; temps = λ u i v. refl; shared = λ l m. refl; lent = λ l m. refl; marks = λ l m. refl; used = λ u m. refl } in
-          let others : tot (stray (with_things k a)) R ≡ tot (stray (with_things k b)) R = stray_stays k R G G2 n x pc slots temps calm beside beside2 lone in
+          let others : tot (stray (with_things k a)) R ≡ tot (stray (with_things k b)) R = stray_stays k R G G2 n x (after x pc slots temps) beside beside2 lone in
           omega (arith, none_stray, tot_of n x G R (stray (with_things k a)) (flat (with_things k a)), others, tot_of n y G2 R (stray (with_things k b)) (flat (with_things k b)), giftless2)
 
       -- it stands for the one heap of the cluster afterwards

@@ -21,7 +21,7 @@ use Rattle.still_law.proofs.Told.{told, ones}
 use Rattle.plain_types.proofs.Mutexes.{mutex_cases}
 use Rattle.heap_law.proofs.Names.{same_mutexes}
 use Rattle.turn_law.proofs.Parts.{owned_in}
-use Rattle.turn_law.proofs.OneTurn.{of_thread, Calm}
+use Rattle.turn_law.proofs.OneTurn.{of_thread, Calm, after}
 use Rattle.lock_law.proofs.Reach.{or_cases, or_left, or_right, NoneUnder, with_extra, here, stays_in, comes_from}
 use Rattle.lock_law.proofs.Beside.{IsBeside, IsLoose, loose_beside, all_so, mine, any_mine, cells_of}
 use Rattle.lock_law.proofs.OneThread as one_thread
@@ -74,14 +74,20 @@ one_of_two zero j C f g l = g (omega (arith, l))
 one_of_two (suc i) j C f g l = f (omega arith)
 
 module _ (k : Cluster) (R G G2 : List Thing) (n : ℕ) (x : ThreadState) (pc : ℕ) (slots temps : List Value) (calm : Calm x.phase) (loose : AllByRecursion IsLoose G) (loose2 : AllByRecursion IsLoose G2) (lone : tot (of_thread x.number) R ≡ 0) where
+  abbrev z0 : ThreadState
+  z0 = after x pc slots temps
+
   abbrev y1 : ThreadState
-  y1 = y k R G G2 n x pc slots temps
+  y1 = y k R G G2 n x z0
 
   abbrev In : Node → Bool
-  In = is_in_state (s k R G G2 n x pc slots temps)
+  In = is_in_state (s k R G G2 n x z0)
 
   abbrev In2 : Node → Bool
-  In2 = is_in_state (s2 k R G G2 n x pc slots temps)
+  In2 = is_in_state (s2 k R G G2 n x z0)
+
+  abbrev calm0 : Calm z0.phase
+  calm0 = record { alone = refl; goes = refl }
 
   pub beside : AllByRecursion IsBeside G
   beside = all_so IsLoose IsBeside loose_beside G loose
@@ -89,8 +95,8 @@ module _ (k : Cluster) (R G G2 : List Thing) (n : ℕ) (x : ThreadState) (pc : �
   pub beside2 : AllByRecursion IsBeside G2
   beside2 = all_so IsLoose IsBeside loose_beside G2 loose2
 
-  pub locks : LocksStay k R G G2 n x pc slots temps
-  locks = locks_stay k R G G2 n x pc slots temps calm beside beside2 lone (cells_of n x G R loose ∙ sym (cells_of n y1 G2 R loose2))
+  pub locks : LocksStay k R G G2 n x z0
+  locks = locks_stay k R G G2 n x z0 beside beside2 lone (cells_of n x G R loose ∙ sym (cells_of n y1 G2 R loose2))
 
   abbrev own : Node → ℕ
   own q = owned_in q x.slots + owned_in q x.temps
@@ -102,22 +108,22 @@ module _ (k : Cluster) (R G G2 : List Thing) (n : ℕ) (x : ThreadState) (pc : �
   pub has : (q : Node) → 1 ≤ own q → In q ≡ true
   has q l =
       here k (mine n x G) R q
-      (any_mine n x G (s k R G G2 n x pc slots temps) In q ∙ or_right (any_named (s k R G G2 n x pc slots temps) In q G) (some (own q)) (there_some (own q) l))
+      (any_mine n x G (s k R G G2 n x z0) In q ∙ or_right (any_named (s k R G G2 n x z0) In q G) (some (own q)) (there_some (own q) l))
 
-  pub has_beside : (q : Node) → any_named (s k R G G2 n x pc slots temps) In q G ≡ true → In q ≡ true
+  pub has_beside : (q : Node) → any_named (s k R G G2 n x z0) In q G ≡ true → In q ≡ true
   has_beside q e =
       here k (mine n x G) R q
-      (any_mine n x G (s k R G G2 n x pc slots temps) In q ∙ or_left (any_named (s k R G G2 n x pc slots temps) In q G) (some (own q)) e)
+      (any_mine n x G (s k R G G2 n x z0) In q ∙ or_left (any_named (s k R G G2 n x z0) In q G) (some (own q)) e)
 
   pub has2 : (q : Node) → 1 ≤ own2 q → In2 q ≡ true
   has2 q l =
       here k (mine n y1 G2) R q
-      (any_mine n y1 G2 (s2 k R G G2 n x pc slots temps) In2 q ∙ or_right (any_named (s2 k R G G2 n x pc slots temps) In2 q G2) (some (own2 q)) (there_some (own2 q) l))
+      (any_mine n y1 G2 (s2 k R G G2 n x z0) In2 q ∙ or_right (any_named (s2 k R G G2 n x z0) In2 q G2) (some (own2 q)) (there_some (own2 q) l))
 
-  pub has_beside2 : (q : Node) → any_named (s2 k R G G2 n x pc slots temps) In2 q G2 ≡ true → In2 q ≡ true
+  pub has_beside2 : (q : Node) → any_named (s2 k R G G2 n x z0) In2 q G2 ≡ true → In2 q ≡ true
   has_beside2 q e =
       here k (mine n y1 G2) R q
-      (any_mine n y1 G2 (s2 k R G G2 n x pc slots temps) In2 q ∙ or_left (any_named (s2 k R G G2 n x pc slots temps) In2 q G2) (some (own2 q)) e)
+      (any_mine n y1 G2 (s2 k R G G2 n x z0) In2 q ∙ or_left (any_named (s2 k R G G2 n x z0) In2 q G2) (some (own2 q)) e)
 
   loose_cells : (o : ObjNo) (xs : List Thing) → AllByRecursion IsLoose xs → tot (λ v. told ones (cell_value o v)) xs ≡ 0
   loose_cells o [] h = refl
@@ -129,16 +135,16 @@ module _ (k : Cluster) (R G G2 : List Thing) (n : ℕ) (x : ThreadState) (pc : �
       by _ l = refl
 
   -- what is shown once stays so, whoever is in the state
-  pub once_then : Once (s k R G G2 n x pc slots temps)
-      → ((w : MutexNo) → tot (λ v. told ones (content_value (s2 k R G G2 n x pc slots temps) w v)) G2 + tot (λ v. told ones (content_value (s k R G G2 n x pc slots temps) w v)) R ≤ 1)
-      → ((r : ℕ) → tot (λ v. told ones (shown_result (s2 k R G G2 n x pc slots temps) r v)) G2 ≡ 0) → Once (s2 k R G G2 n x pc slots temps)
+  pub once_then : Once (s k R G G2 n x z0)
+      → ((w : MutexNo) → tot (λ v. told ones (content_value (s2 k R G G2 n x z0) w v)) G2 + tot (λ v. told ones (content_value (s k R G G2 n x z0) w v)) R ≤ 1)
+      → ((r : ℕ) → tot (λ v. told ones (shown_result (s2 k R G G2 n x z0) r v)) G2 ≡ 0) → Once (s2 k R G G2 n x z0)
   once_then once few ends =
-      one_thread.once_on k R G G2 n x pc slots temps calm beside beside2 lone locks once (λ o. omega (arith, loose_cells o G2 loose2)) few (λ r. omega (arith, ends r))
+      one_thread.once_on k R G G2 n x z0 beside beside2 lone locks calm calm0 once (λ o. omega (arith, loose_cells o G2 loose2)) few (λ r. omega (arith, ends r))
 
   module _ (m : MutexNo) (under under2 : Option Owned) (fresh : Bool) (even : (q : Node) → own q + owned_under q under + new_share fresh q m ≡ own2 q + owned_under q under2)
-      (named : (f : Node → Bool) (q : Node) → any_named (s k R G G2 n x pc slots temps) f q G ≡ named_under f q m under) (named2 : (f : Node → Bool) (q : Node) → any_named (s2 k R G G2 n x pc slots temps) f q G2 ≡ named_under f q m under2)
+      (named : (f : Node → Bool) (q : Node) → any_named (s k R G G2 n x z0) f q G ≡ named_under f q m under) (named2 : (f : Node → Bool) (q : Node) → any_named (s2 k R G G2 n x z0) f q G2 ≡ named_under f q m under2)
       (inside_it : is_some under ≡ true → In (mutex_n m) ≡ true) (inside_then : is_some under2 ≡ true → In2 (mutex_n m) ≡ true)
-      (extra : Node → Bool) (new_in : fresh ≡ true → with_extra In extra (mutex_n m) ≡ true) (extra_in : (q : Node) → extra q ≡ true → In2 q ≡ true) (none : NoneUnder (s k R G G2 n x pc slots temps) extra R) where
+      (extra : Node → Bool) (new_in : fresh ≡ true → with_extra In extra (mutex_n m) ≡ true) (extra_in : (q : Node) → extra q ≡ true → In2 q ≡ true) (none : NoneUnder (s k R G G2 n x z0) extra R) where
     had_by_then : (q : Node) → 1 ≤ own2 q + owned_under q under2 → In2 q ≡ true
     had_by_then q l =
         one_of_two (own2 q) (owned_under q under2) (In2 q ≡ true) (has2 q) (λ d. has_beside2 q (named2 In2 q ∙ named_too In2 q m under2 inside_then d)) l
@@ -148,11 +154,11 @@ module _ (k : Cluster) (R G G2 : List Thing) (n : ℕ) (x : ThreadState) (pc : �
 
     stay : (q : Node) → In q ≡ true → In2 q ≡ true
     stay =
-        stays_in k (mine n x G) (mine n y1 G2) R (same_owners k R G G2 n x pc slots temps calm beside beside2 lone locks)
-        (λ q e. or_cases (any_named (s k R G G2 n x pc slots temps) In2 q G) (some (own q)) (In2 q ≡ true)
+        stays_in k (mine n x G) (mine n y1 G2) R (same_owners k R G G2 n x z0 beside beside2 lone locks)
+        (λ q e. or_cases (any_named (s k R G G2 n x z0) In2 q G) (some (own q)) (In2 q ≡ true)
         (λ d. let l = under_named In2 q m under (sym (named In2 q) ∙ d) in goes_in q (omega (arith, l)))
         (λ d. let l = some_there (own q) d in goes_in q (omega (arith, l)))
-        (sym (any_mine n x G (s k R G G2 n x pc slots temps) In2 q) ∙ e))
+        (sym (any_mine n x G (s k R G G2 n x z0) In2 q) ∙ e))
 
     abbrev F : Node → Bool
     F = with_extra In extra
@@ -180,11 +186,11 @@ module _ (k : Cluster) (R G G2 : List Thing) (n : ℕ) (x : ThreadState) (pc : �
 
     come : (q : Node) → In2 q ≡ true → F q ≡ true
     come =
-        comes_from k (mine n x G) (mine n y1 G2) R (same_owners k R G G2 n x pc slots temps calm beside beside2 lone locks) extra none
-        (λ q e. or_cases (any_named (s2 k R G G2 n x pc slots temps) F q G2) (some (own2 q)) (F q ≡ true)
+        comes_from k (mine n x G) (mine n y1 G2) R (same_owners k R G G2 n x z0 beside beside2 lone locks) extra none
+        (λ q e. or_cases (any_named (s2 k R G G2 n x z0) F q G2) (some (own2 q)) (F q ≡ true)
         (λ d. let l = under_named F q m under2 (sym (named2 F q) ∙ d) in came q (omega (arith, l)))
         (λ d. let l = some_there (own2 q) d in came q (omega (arith, l)))
-        (sym (any_mine n y1 G2 (s2 k R G G2 n x pc slots temps) F q) ∙ e))
+        (sym (any_mine n y1 G2 (s2 k R G G2 n x z0) F q) ∙ e))
 
     -- who is in the state afterwards
     pub in_then : (q : Node) → In2 q ≡ F q
@@ -199,10 +205,10 @@ module _ (k : Cluster) (R G G2 : List Thing) (n : ℕ) (x : ThreadState) (pc : �
     -- WHAT IS AS IT WAS
 
     abbrev s_now : Sight
-    s_now = s k R G G2 n x pc slots temps
+    s_now = s k R G G2 n x z0
 
     abbrev s_then : Sight
-    s_then = s2 k R G G2 n x pc slots temps
+    s_then = s2 k R G G2 n x z0
 
     loose_objects : (o : ObjNo) (xs : List Thing) → AllByRecursion IsLoose xs → first_shown (cell_value o) xs ≡ None
     loose_objects o [] h = refl
@@ -218,15 +224,15 @@ module _ (k : Cluster) (R G G2 : List Thing) (n : ℕ) (x : ThreadState) (pc : �
         (shares1 : (w : MutexNo) → tot (share_in s_now w) G ≡ owned_under (mutex_n w) under) (shares2 : (w : MutexNo) → tot (share_in s_then w) G2 ≡ owned_under (mutex_n w) under2)
         (contents : (w : MutexNo) → w ≢ m → first_shown (content_value s_now w) G ≡ first_shown (content_value s_then w) G2) where
       pub thread_goes : is_given_thread s_now x.number ≡ true → GoesOn x.number (running_at x) (running_at y1) (state_of s_now) (state_of s_then)
-      thread_goes named_it = one_thread.goes_on k R G G2 n x pc slots temps calm beside beside2 lone locks extra none in_then no_task results started named_it
+      thread_goes named_it = one_thread.goes_on k R G G2 n x z0 beside beside2 lone locks extra none in_then no_task results calm calm0 started refl named_it
 
       pub objects_stay : (o : ObjNo) → object_value s_now o ≡ object_value s_then o
       objects_stay o =
-          one_thread.object_same k R G G2 n x pc slots temps calm beside beside2 lone locks extra none in_then no_task results o (no_object o) (loose_objects o G loose ∙ sym (loose_objects o G2 loose2))
+          one_thread.object_same k R G G2 n x z0 beside beside2 lone locks extra none in_then no_task results o (no_object o) (loose_objects o G loose ∙ sym (loose_objects o G2 loose2))
 
       -- the shares of each mutex
-      pub shares_then : (w : MutexNo) → tot (share_in s_then w) (b k R G G2 n x pc slots temps) ≡ tot (share_in s_now w) (a k R G G2 n x pc slots temps) + new_share fresh (mutex_n w) m
-      shares_then w = omega (arith, one_thread.shares_go_on k R G G2 n x pc slots temps calm beside beside2 lone locks extra none in_then no_task results w, shares1 w, shares2 w, even (mutex_n w))
+      pub shares_then : (w : MutexNo) → tot (share_in s_then w) (b k R G G2 n x z0) ≡ tot (share_in s_now w) (a k R G G2 n x z0) + new_share fresh (mutex_n w) m
+      shares_then w = omega (arith, one_thread.shares_go_on k R G G2 n x z0 beside beside2 lone locks extra none in_then no_task results w, shares1 w, shares2 w, even (mutex_n w))
 
       none_new : (w : MutexNo) → w ≢ m → new_share fresh (mutex_n w) m ≡ 0
       none_new w ne = by fresh
@@ -237,16 +243,16 @@ module _ (k : Cluster) (R G G2 : List Thing) (n : ℕ) (x : ThreadState) (pc : �
 
       pub others_stay : (w : MutexNo) → w ≢ m → (state_of s_now).mutex w ≡ (state_of s_then).mutex w
       others_stay w ne =
-          one_thread.mutex_same k R G G2 n x pc slots temps calm beside beside2 lone locks extra none in_then no_task results w (no_other w ne) (contents w ne) (omega (arith, shares1 w, shares2 w, even (mutex_n w), none_new w ne))
+          one_thread.mutex_same k R G G2 n x z0 beside beside2 lone locks extra none in_then no_task results w (no_other w ne) (contents w ne) (omega (arith, shares1 w, shares2 w, even (mutex_n w), none_new w ne))
 
       -- the mutex itself, where it is in the state
-      pub it_before : In (mutex_n m) ≡ true → (state_of s_now).mutex m ≡ Some (record { content = or_else (first_shown (content_value s_now m) G) (first_shown (content_value s_now m) R); shares = tot (share_in s_now m) (a k R G G2 n x pc slots temps) })
+      pub it_before : In (mutex_n m) ≡ true → (state_of s_now).mutex m ≡ Some (record { content = or_else (first_shown (content_value s_now m) G) (first_shown (content_value s_now m) R); shares = tot (share_in s_now m) (a k R G G2 n x z0) })
       it_before e =
-          ap (λ q. if_there q (record { content = first_shown (content_value s_now m) (a k R G G2 n x pc slots temps); shares = tot (share_in s_now m) (a k R G G2 n x pc slots temps) })) e
-          ∙ ap (λ o. shared_as o (tot (share_in s_now m) (a k R G G2 n x pc slots temps))) (one_thread.content_before k R G G2 n x pc slots temps calm beside beside2 lone locks extra none in_then no_task results m)
+          ap (λ q. if_there q (record { content = first_shown (content_value s_now m) (a k R G G2 n x z0); shares = tot (share_in s_now m) (a k R G G2 n x z0) })) e
+          ∙ ap (λ o. shared_as o (tot (share_in s_now m) (a k R G G2 n x z0))) (one_thread.content_before k R G G2 n x z0 beside beside2 lone locks extra none in_then no_task results m)
 
       pub it_then : In2 (mutex_n m) ≡ true
-          → (state_of s_then).mutex m ≡ Some (record { content = or_else (first_shown (content_value s_then m) G2) (first_shown (content_value s_now m) R); shares = tot (share_in s_now m) (a k R G G2 n x pc slots temps) + new_share fresh (mutex_n m) m })
+          → (state_of s_then).mutex m ≡ Some (record { content = or_else (first_shown (content_value s_then m) G2) (first_shown (content_value s_now m) R); shares = tot (share_in s_now m) (a k R G G2 n x z0) + new_share fresh (mutex_n m) m })
       it_then e =
-          ap (λ q. if_there q (record { content = first_shown (content_value s_then m) (b k R G G2 n x pc slots temps); shares = tot (share_in s_then m) (b k R G G2 n x pc slots temps) })) e
-          ∙ ap₂ shared_as (one_thread.content_afterwards k R G G2 n x pc slots temps calm beside beside2 lone locks extra none in_then no_task results m) (shares_then m)
+          ap (λ q. if_there q (record { content = first_shown (content_value s_then m) (b k R G G2 n x z0); shares = tot (share_in s_then m) (b k R G G2 n x z0) })) e
+          ∙ ap₂ shared_as (one_thread.content_afterwards k R G G2 n x z0 beside beside2 lone locks extra none in_then no_task results m) (shares_then m)

@@ -47,6 +47,10 @@ none_got t _ e = refl
 abbrev pub past : ThreadState → ℕ → List Value → List Value → ThreadState
 past x pc slots temps = giftless (after x pc slots temps)
 
+-- what became of thread x, without a gift
+abbrev pub next : ThreadState → ThreadState → ThreadState
+next x z = record z { number = x.number; gift = None }
+
 pub first_alike : {X : Type 0} (t : ℕ) (f g : Thing → Option X) → ((x : Thing) → of_thread t x ≡ 0 → f x ≡ g x) → (xs : List Thing) → tot (of_thread t) xs ≡ 0 → first_shown f xs ≡ first_shown g xs
 first_alike t f g e [] z = refl
 first_alike t f g e (x ∷ xs) z = ap₂ or_else (e x (omega (arith, z))) (first_alike t f g e xs (omega (arith, z)))
@@ -69,9 +73,9 @@ pub record GoesOn (t : ℕ) (p q : CodeRunning) (a b : CodeState) : Type 0 where
   pub pairs : (u : ℕ) → a.pair u ≡ b.pair u
 
 -- the thread, what stands beside it before and afterwards, and the others
-module _ (k : Cluster) (R G G2 : List Thing) (n : ℕ) (x : ThreadState) (pc : ℕ) (slots temps : List Value) where
+module _ (k : Cluster) (R G G2 : List Thing) (n : ℕ) (x became : ThreadState) where
   abbrev pub y : ThreadState
-  y = past x pc slots temps
+  y = next x became
 
   abbrev pub a : List Thing
   a = all_of n x G R
@@ -87,9 +91,9 @@ module _ (k : Cluster) (R G G2 : List Thing) (n : ℕ) (x : ThreadState) (pc : �
 
   -- the places of locks of other threads lead to the mutexes to which they led
   abbrev pub LocksStay : Type 0
-  LocksStay = (z : Standing) → x.number ≢ z.thread.number → (i : Option Instr) → locked_mutex s z i ≡ locked_mutex s2 z i
+  LocksStay = (u : ℕ) (w : Standing) → x.number ≢ w.thread.number → thread_at (threads_in a) u ≡ Some w → locked_mutex s w (instr_of s w) ≡ locked_mutex s2 w (instr_of s w)
 
-  module _ (calm : Calm x.phase) (beside : AllByRecursion IsBeside G) (beside2 : AllByRecursion IsBeside G2) (lone : tot (of_thread x.number) R ≡ 0) where
+  module _ (beside : AllByRecursion IsBeside G) (beside2 : AllByRecursion IsBeside G2) (lone : tot (of_thread x.number) R ≡ 0) where
     abbrev t : ℕ
     t = x.number
 
@@ -125,9 +129,12 @@ module _ (k : Cluster) (R G G2 : List Thing) (n : ℕ) (x : ThreadState) (pc : �
         behind_same slot zero = slot_same slot
         behind_same slot (suc d) = ap (λ w. value_behind s.ground (leads u w)) (behind_same slot d) ∙ lead_same (value_behind s2.ground (locate s2.ground u slot d))
 
+      lock_leads : (w : Standing) → t ≢ w.thread.number → (i : Option Instr) → locked_mutex s w i ≡ locked_mutex s2 w i
+      lock_leads w ne (Some (instr.Lock p)) = ap mutex_of (behind_same w.thread.number ne p.slot p.depth)
+      lock_leads w ne _ = refl
+
       pub locks_stay : LocksStay
-      locks_stay z ne (Some (instr.Lock w)) = ap mutex_of (behind_same z.thread.number ne w.slot w.depth)
-      locks_stay z ne _ = refl
+      locks_stay u w ne found = lock_leads w ne (instr_of s w)
 
     -- a gift has its thread as before
     pub stray_stays : tot (stray s) R ≡ tot (stray s2) R
@@ -143,20 +150,20 @@ module _ (k : Cluster) (R G G2 : List Thing) (n : ℕ) (x : ThreadState) (pc : �
         by _ z = refl
 
     module _ (locks : LocksStay) where
-      gift_owned : (z : Standing) → t ≢ z.thread.number → (i : Option Instr) → gift_owner s z i ≡ gift_owner s2 z i
-      gift_owned z ne (Some (instr.Lock w)) = ap content_owner (locks z ne (Some (instr.Lock w)))
-      gift_owned z ne _ = refl
+      gift_owned : (w : Standing) (i : Option Instr) → locked_mutex s w i ≡ locked_mutex s2 w i → gift_owner s w i ≡ gift_owner s2 w i
+      gift_owned w (Some (instr.Lock p)) e = ap content_owner e
+      gift_owned w _ e = refl
 
       -- what is the same of a thread that is found
-      by_seen : {X : Type 0} (f g : Option Standing → X) → f None ≡ g None → ((z : Standing) → t ≢ z.thread.number → f (Some z) ≡ g (Some z)) → (u : ℕ) → t ≢ u → f (thread_at (threads_in a) u) ≡ g (thread_at (threads_in b) u)
-      by_seen f g e h u ne = by (thread_at (threads_in a) u) refl ∙ ap g (other_seen u ne)
+      by_seen : {X : Type 0} (f g : Option Standing → X) → f None ≡ g None → (u : ℕ) → ((w : Standing) → t ≢ w.thread.number → thread_at (threads_in a) u ≡ Some w → f (Some w) ≡ g (Some w)) → t ≢ u → f (thread_at (threads_in a) u) ≡ g (thread_at (threads_in b) u)
+      by_seen f g e u h ne = by (thread_at (threads_in a) u) refl ∙ ap g (other_seen u ne)
         where
           by : (o : Option Standing) → thread_at (threads_in a) u ≡ o → f o ≡ g o
           by None q = e
-          by (Some z) q = h z (λ d. ne (d ∙ (among_thread (threads_in a) u z q).1))
+          by (Some w) q = h w (λ d. ne (d ∙ (among_thread (threads_in a) u w q).1)) q
 
       pub owner_stays : (th : Thing) → of_thread t th ≡ 0 → owner_of s th ≡ owner_of s2 th
-      owner_stays (holds (as_gift u) v) z = by_seen (gift_owner_of s) (gift_owner_of s2) refl (λ w ne. gift_owned w ne (instr_of s w)) u (differs t u z)
+      owner_stays (holds (as_gift u) v) e = by_seen (gift_owner_of s) (gift_owner_of s2) refl u (λ w ne q. gift_owned w (instr_of s w) (locks u w ne q)) (differs t u e)
       owner_stays (holds (in_slot u i) v) z = refl
       owner_stays (holds (in_temp u i) v) z = refl
       owner_stays (holds (as_content m) v) z = refl
@@ -165,9 +172,9 @@ module _ (k : Cluster) (R G G2 : List Thing) (n : ℕ) (x : ThreadState) (pc : �
       owner_stays _ z = refl
 
       pub content_stays : (m : MutexNo) (th : Thing) → of_thread t th ≡ 0 → content_value s m th ≡ content_value s2 m th
-      content_stays m (holds (as_gift u) v) z =
+      content_stays m (holds (as_gift u) v) e =
           ap (λ q. if_in q (Some (plain_of v)))
-          (by_seen (is_gift_of s m) (is_gift_of s2 m) refl (λ w ne. ap (λ o. some (if_so (is_some w.thread.gift) (one (is_mutex m o)))) (locks w ne (instr_of s w))) u (differs t u z))
+          (by_seen (is_gift_of s m) (is_gift_of s2 m) refl u (λ w ne q. ap (λ o. some (if_so (is_some w.thread.gift) (one (is_mutex m o)))) (locks u w ne q)) (differs t u e))
       content_stays m (holds (in_slot u i) v) z = refl
       content_stays m (holds (in_temp u i) v) z = refl
       content_stays m (holds (as_content w) v) z = refl
@@ -176,7 +183,7 @@ module _ (k : Cluster) (R G G2 : List Thing) (n : ℕ) (x : ThreadState) (pc : �
       content_stays m _ z = refl
 
       pub result_stays : (r : ℕ) (th : Thing) → of_thread t th ≡ 0 → result_value s r th ≡ result_value s2 r th
-      result_stays r (holds (as_gift u) v) z = ap (λ q. if_in q (Some (plain_of v))) (by_seen (is_joined_by s r) (is_joined_by s2 r) refl (λ w ne. refl) u (differs t u z))
+      result_stays r (holds (as_gift u) v) e = ap (λ q. if_in q (Some (plain_of v))) (by_seen (is_joined_by s r) (is_joined_by s2 r) refl u (λ w ne q. refl) (differs t u e))
       result_stays r (holds (in_slot u i) v) z = refl
       result_stays r (holds (in_temp u i) v) z = refl
       result_stays r (holds (as_content w) v) z = refl
@@ -203,10 +210,10 @@ module _ (k : Cluster) (R G G2 : List Thing) (n : ℕ) (x : ThreadState) (pc : �
       -- ONCE
 
       -- the sights show things once together
-      pub once_on : Once s → ((o : ObjNo) → tot (λ v. told ones (cell_value o v)) G2 ≤ tot (λ v. told ones (cell_value o v)) G)
+      pub once_on : Calm x.phase → Calm became.phase → Once s → ((o : ObjNo) → tot (λ v. told ones (cell_value o v)) G2 ≤ tot (λ v. told ones (cell_value o v)) G)
           → ((m : MutexNo) → tot (λ v. told ones (content_value s2 m v)) G2 + tot (λ v. told ones (content_value s m v)) R ≤ 1)
           → ((r : ℕ) → tot (λ v. told ones (shown_result s2 r v)) G2 ≤ tot (λ v. told ones (shown_result s r v)) G) → Once s2
-      once_on once cells contents ends = record {
+      once_on calm calm2 once cells contents ends = record {
         cells = λ o.
             let flat : Own (λ v. told ones (cell_value o v) ≡ 0) = record { slots = λ w i v. refl; temps = λ w i v. refl; shared = λ l w. refl; lent = λ l w. refl; marks = λ l w. refl; used = λ w v. refl } in
             omega (arith, once.cells o, cells o, tot_of n x G R (λ v. told ones (cell_value o v)) flat, tot_of n y G2 R (λ v. told ones (cell_value o v)) flat);
@@ -220,12 +227,14 @@ module _ (k : Cluster) (R G G2 : List Thing) (n : ℕ) (x : ThreadState) (pc : �
             let flat : (w : Sight) → Own (λ v. told ones (shown_result w r v) ≡ 0) = λ w. record { slots = λ u i v. refl; temps = λ u i v. refl; shared = λ l m. refl; lent = λ l m. refl; marks = λ l m. refl; used = λ u m. refl } in
             let over : Own (λ v. has_ended r v ≡ 0) = record { slots = λ w i v. refl; temps = λ w i v. refl; shared = λ l w. refl; lent = λ l w. refl; marks = λ l w. refl; used = λ w v. refl } in
             let mine : told ones (shown_result s r (stands n false x)) ≡ 0 = ap (λ m. told ones (or_else (if_in (some m) (Some plain.Unit)) None)) (none_got r x.phase calm.alone) in
-            let still : has_ended r (stands n false x) ≡ has_ended r (stands n false y) = ap (λ o. one (x.number == r && (not (x.number == 0) && o))) calm.goes in
+            let mine2 : told ones (shown_result s2 r (stands n false y)) ≡ 0 = ap (λ m. told ones (or_else (if_in (some m) (Some plain.Unit)) None)) (none_got r became.phase calm2.alone) in
+            let still : has_ended r (stands n false x) ≡ has_ended r (stands n false y) = ap (λ o. one (x.number == r && (not (x.number == 0) && o))) (calm.goes ∙ sym calm2.goes) in
             omega (
               arith,
               once.ends r,
               ends r,
               mine,
+              mine2,
               still,
               tot_of n x G R (λ v. told ones (shown_result s r v)) (flat s),
               tot_of n y G2 R (λ v. told ones (shown_result s2 r v)) (flat s2),
@@ -298,11 +307,11 @@ module _ (k : Cluster) (R G G2 : List Thing) (n : ℕ) (x : ThreadState) (pc : �
             ap₂ (λ c d. if_so (names (mutex_n m) th) (one c) + d) (owner_in_same (owner_of s th) w.0 ∙ ap (owner_in (is_in_state s2)) h.0) (shares_stay m xs h.1 w.1)
 
         pub shares_go_on : (m : MutexNo)
-            → tot (share_in s2 m) b + (tot (share_in s m) G + (owned_in (mutex_n m) x.slots + owned_in (mutex_n m) x.temps)) ≡ tot (share_in s m) a + (tot (share_in s2 m) G2 + (owned_in (mutex_n m) slots + owned_in (mutex_n m) temps))
+            → tot (share_in s2 m) b + (tot (share_in s m) G + (owned_in (mutex_n m) x.slots + owned_in (mutex_n m) x.temps)) ≡ tot (share_in s m) a + (tot (share_in s2 m) G2 + (owned_in (mutex_n m) became.slots + owned_in (mutex_n m) became.temps))
         shares_go_on m = omega (arith, shares_of n x G R s m, shares_of n y G2 R s2 m, shares_stay m R same_owners none)
 
         pub mutex_same : (m : MutexNo) → extra (mutex_n m) ≡ false → first_shown (content_value s m) G ≡ first_shown (content_value s2 m) G2
-            → tot (share_in s m) G + (owned_in (mutex_n m) x.slots + owned_in (mutex_n m) x.temps) ≡ tot (share_in s2 m) G2 + (owned_in (mutex_n m) slots + owned_in (mutex_n m) temps) → (state_of s).mutex m ≡ (state_of s2).mutex m
+            → tot (share_in s m) G + (owned_in (mutex_n m) x.slots + owned_in (mutex_n m) x.temps) ≡ tot (share_in s2 m) G2 + (owned_in (mutex_n m) became.slots + owned_in (mutex_n m) became.temps) → (state_of s).mutex m ≡ (state_of s2).mutex m
         mutex_same m e h even =
             let shares : tot (share_in s m) a ≡ tot (share_in s2 m) b = omega (arith, shares_go_on m, even) in
             let content : first_shown (content_value s m) a ≡ first_shown (content_value s2 m) b = content_before m ∙ ap (λ o. or_else o (first_shown (content_value s m) R)) h ∙ sym (content_afterwards m) in
@@ -332,11 +341,6 @@ module _ (k : Cluster) (R G G2 : List Thing) (n : ℕ) (x : ThreadState) (pc : �
             let flat : Own (λ v. in_pair_of r v ≡ 0) = record { slots = λ u i v. refl; temps = λ u i v. refl; shared = λ l w. refl; lent = λ l w. refl; marks = λ l w. refl; used = λ u w. refl } in
             ap some (tot_same (in_pair_of r) (in_pair_of r) flat flat (omega (arith, no_pairs r G beside, no_pairs r G2 beside2)) (λ th z. refl))
 
-        done_same : (r : ℕ) → first_shown (branch_result r) a ≡ first_shown (branch_result r) b
-        done_same r =
-            let flat : Own (λ v. branch_result r v ≡ None) = record { slots = λ u i v. refl; temps = λ u i v. refl; shared = λ l w. refl; lent = λ l w. refl; marks = λ l w. refl; used = λ u w. refl } in
-            first_same (branch_result r) (branch_result r) flat flat (ap (λ m. if_in (some m) (Some plain.Unit)) (none_got r x.phase calm.alone)) refl (no_done r G beside ∙ sym (no_done r G2 beside2)) (λ th z. refl)
-
         kept_same : (r : ℕ) → first_shown (result_value s r) a ≡ first_shown (result_value s2 r) b
         kept_same r =
             let flat : (w : Sight) → Own (λ v. result_value w r v ≡ None) = λ w. record { slots = λ u i v. refl; temps = λ u i v. refl; shared = λ l m. refl; lent = λ l m. refl; marks = λ l m. refl; used = λ u m. refl } in
@@ -345,47 +349,54 @@ module _ (k : Cluster) (R G G2 : List Thing) (n : ℕ) (x : ThreadState) (pc : �
         owed_same : (r : ℕ) → is_branch s r || is_in_state s (task_n r) ≡ is_branch s2 r || is_in_state s2 (task_n r)
         owed_same r = ap₂ (λ p q. p || q) (branch_same r) (in_same (task_n r) (no_task r))
 
-        result_same : (r : ℕ) → result_of s r ≡ result_of s2 r
-        result_same r = ap₂ or_else (done_same r) (ap₂ if_in (owed_same r) (kept_same r))
+        -- where the thread waits for no pair and isn't over, before and afterwards
+        module _ (calm : Calm x.phase) (calm2 : Calm became.phase) where
+          done_same : (r : ℕ) → first_shown (branch_result r) a ≡ first_shown (branch_result r) b
+          done_same r =
+              let flat : Own (λ v. branch_result r v ≡ None) = record { slots = λ u i v. refl; temps = λ u i v. refl; shared = λ l w. refl; lent = λ l w. refl; marks = λ l w. refl; used = λ u w. refl } in
+              first_same (branch_result r) (branch_result r) flat flat (ap (λ m. if_in (some m) (Some plain.Unit)) (none_got r x.phase calm.alone)) (ap (λ m. if_in (some m) (Some plain.Unit)) (none_got r became.phase calm2.alone)) (no_done r G beside ∙ sym (no_done r G2 beside2)) (λ th z. refl)
 
-        -- LIVES
+          result_same : (r : ℕ) → result_of s r ≡ result_of s2 r
+          result_same r = ap₂ or_else (done_same r) (ap₂ if_in (owed_same r) (kept_same r))
 
-        way_same : (r : ℕ) → going_of s r ≡ going_of s2 r
-        way_same zero = refl
-        way_same (suc r) = ap (λ q. if not q then as_loose else as_owing) (owed_same (suc r))
+          -- LIVES
 
-        life_by : (z : Standing) (q : Bool) → life_of s z.thread q ≡ life_of s2 z.thread q
-        life_by z true = ap ended_with (result_same z.thread.number)
-        life_by z false =
-            going_is s z.thread.number (running_at z.thread) ∙ ap (λ w. life_as w (running_at z.thread)) (way_same z.thread.number) ∙ sym (going_is s2 z.thread.number (running_at z.thread))
+          way_same : (r : ℕ) → going_of s r ≡ going_of s2 r
+          way_same zero = refl
+          way_same (suc r) = ap (λ q. if not q then as_loose else as_owing) (owed_same (suc r))
 
-        life_same : (u : ℕ) → t ≢ u → life_at s u (thread_at (threads_in a) u) ≡ life_at s2 u (thread_at (threads_in b) u)
-        life_same u ne = by_seen (life_at s u) (life_at s2 u) (ap ended_with (result_same u)) (λ z d. life_by z (is_over z.thread.phase)) u ne
+          life_by : (z : Standing) (q : Bool) → life_of s z.thread q ≡ life_of s2 z.thread q
+          life_by z true = ap ended_with (result_same z.thread.number)
+          life_by z false =
+              going_is s z.thread.number (running_at z.thread) ∙ ap (λ w. life_as w (running_at z.thread)) (way_same z.thread.number) ∙ sym (going_is s2 z.thread.number (running_at z.thread))
 
-        -- NAMES
+          life_same : (u : ℕ) → t ≢ u → life_at s u (thread_at (threads_in a) u) ≡ life_at s2 u (thread_at (threads_in b) u)
+          life_same u ne = by_seen (life_at s u) (life_at s2 u) (ap ended_with (result_same u)) u (λ w d q. life_by w (is_over w.thread.phase)) ne
 
-        module _ (started : (h c : ℕ) → tot (started_at h c) G ≡ tot (started_at h c) G2) where
-          given_same : (u : ℕ) → is_given_thread s u ≡ is_given_thread s2 u
-          given_same u =
-              let h = home_of u in
-              let c = u % 2 ^ 32 in
-              let flat : Own (λ v. started_at h c v ≡ 0) = record { slots = λ w i v. refl; temps = λ w i v. refl; shared = λ l w. refl; lent = λ l w. refl; marks = λ l w. refl; used = λ w v. refl } in
-              ap (λ m. u == 0 || (not (c == 0) && some m)) (tot_same (started_at h c) (started_at h c) flat flat (omega (arith, started h c)) (λ th z. refl))
+          -- NAMES
 
-          -- what is the same of each thread, also of the one whose turn it is
-          for_all : {X : Type 0} (f g : Option Standing → X) → f (Some (me n x G)) ≡ g (Some (me n y G2)) → f None ≡ g None → ((z : Standing) → f (Some z) ≡ g (Some z)) → (u : ℕ) → f (thread_at (threads_in a) u) ≡ g (thread_at (threads_in b) u)
-          for_all f g e z h u =
-              eq_cases (λ q. (w : ℕ) → w ≡ u → f (thread_at (threads_in a) w) ≡ g (thread_at (threads_in b) w)) t u
-              (λ i w j. subst (λ (v : ℕ). f (thread_at (threads_in a) v) ≡ g (thread_at (threads_in b) v)) (i ∙ sym j) (ap f (itself n x G R beside) ∙ e ∙ sym (ap g (itself n y G2 R beside2))))
-              (λ ne w j. by_seen f g z (λ v d. h v) w (λ d. ne (d ∙ j))) u refl
+          module _ (started : (h c : ℕ) → tot (started_at h c) G ≡ tot (started_at h c) G2) where
+            given_same : (u : ℕ) → is_given_thread s u ≡ is_given_thread s2 u
+            given_same u =
+                let h = home_of u in
+                let c = u % 2 ^ 32 in
+                let flat : Own (λ v. started_at h c v ≡ 0) = record { slots = λ w i v. refl; temps = λ w i v. refl; shared = λ l w. refl; lent = λ l w. refl; marks = λ l w. refl; used = λ w v. refl } in
+                ap (λ m. u == 0 || (not (c == 0) && some m)) (tot_same (started_at h c) (started_at h c) flat flat (omega (arith, started h c)) (λ th z. refl))
 
-          pub goes_on : is_given_thread s t ≡ true → GoesOn t (running_at x) (running_at y) (state_of s) (state_of s2)
-          goes_on named = record {
-            way = going_of s t;
-            before = ap₂ if_given named (ap (life_at s t) (itself n x G R beside) ∙ ap (life_of s x) calm.goes ∙ going_is s t (running_at x));
-            afterwards =
-                ap₂ if_given (sym (given_same t) ∙ named) (ap (life_at s2 t) (itself n y G2 R beside2) ∙ going_is s2 t (running_at y) ∙ ap (λ w. life_as w (running_at y)) (sym (way_same t)));
-            others = λ u ne. ap₂ if_given (given_same u) (life_same u ne);
-            made = for_all made_of made_of (ap (λ q. if q then 0 else x.made) calm.goes) refl (λ z. refl);
-            pairs = for_all pair_of pair_of calm.alone refl (λ z. refl);
-          }
+            -- what is the same of each thread, also of the one whose turn it is
+            for_all : {X : Type 0} (f g : Option Standing → X) → f (Some (me n x G)) ≡ g (Some (me n y G2)) → f None ≡ g None → ((z : Standing) → f (Some z) ≡ g (Some z)) → (u : ℕ) → f (thread_at (threads_in a) u) ≡ g (thread_at (threads_in b) u)
+            for_all f g e z h u =
+                eq_cases (λ q. (w : ℕ) → w ≡ u → f (thread_at (threads_in a) w) ≡ g (thread_at (threads_in b) w)) t u
+                (λ i w j. subst (λ (v : ℕ). f (thread_at (threads_in a) v) ≡ g (thread_at (threads_in b) v)) (i ∙ sym j) (ap f (itself n x G R beside) ∙ e ∙ sym (ap g (itself n y G2 R beside2))))
+                (λ ne w j. by_seen f g z w (λ v d q. h v) (λ d. ne (d ∙ j))) u refl
+
+            pub goes_on : x.made ≡ became.made → is_given_thread s t ≡ true → GoesOn t (running_at x) (running_at y) (state_of s) (state_of s2)
+            goes_on same_made named = record {
+              way = going_of s t;
+              before = ap₂ if_given named (ap (life_at s t) (itself n x G R beside) ∙ ap (life_of s x) calm.goes ∙ going_is s t (running_at x));
+              afterwards =
+                  ap₂ if_given (sym (given_same t) ∙ named) (ap (life_at s2 t) (itself n y G2 R beside2) ∙ ap (life_of s2 y) calm2.goes ∙ going_is s2 t (running_at y) ∙ ap (λ w. life_as w (running_at y)) (sym (way_same t)));
+              others = λ u ne. ap₂ if_given (given_same u) (life_same u ne);
+              made = for_all made_of made_of (ap (λ q. if q then 0 else x.made) calm.goes ∙ same_made ∙ sym (ap (λ q. if q then 0 else became.made) calm2.goes)) refl (λ z. refl);
+              pairs = for_all pair_of pair_of (calm.alone ∙ sym calm2.alone) refl (λ z. refl);
+            }

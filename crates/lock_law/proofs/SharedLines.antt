@@ -45,7 +45,7 @@ use Rattle.heap_law.proofs.Names.{same_mutexes}
 use Rattle.plain_types.proofs.Mutexes.{given_set}
 use Rattle.turn_law.specs.Turns.{StepsTo}
 use Rattle.turn_law.proofs.Parts.{Own}
-use Rattle.turn_law.proofs.OneTurn.{Going, of_thread, Calm}
+use Rattle.turn_law.proofs.OneTurn.{Going, of_thread, Calm, after}
 use Rattle.turn_law.proofs.PlainTurn.{thread_as, state_at}
 use Rattle.turn_law.proofs.Instructions.{shown_last}
 use Rattle.turn_law.proofs.ReadWalk.{Finds, At, Comes, reads as walk, seen_value, loads_of, passed_loads}
@@ -264,7 +264,7 @@ module _ (k : Cluster) (co : IsCoherent k) (e : Event) (i : Instr) (single : is_
         steps_with k.code c y.number (running_at y) (record { place = plug val; slots = more }) (state_of s1) (state_of s2) goes_to shown fresh.None (with_mutex c.mutexes m (Some new)) h2.work.labels
         (acts k.code (running_at y) act plug (ap (λ j. over_at j (shown_last y.temps)) a.code ∙ now) (ap (λ j. run_instr j y.pc (shown_last y.temps)) a.code ∙ move) goes_to.way c y.number fresh.None ∙ does c goes_to.way (behind c same) there)
         (objects_on change) (set_shows c.mutexes m (Some new) old (λ u. (state_of s2).mutex u) there new_is (λ u ne. shown.mutexes u ∙ mutexes_on change u ne))
-        (λ u. given_set c.mutexes m (Some new) u ∙ shown.given u ∙ mutex_given k R1 G1 G2 n y (y.pc + 1) slots temps change.calm (one_mutex.beside k R1 G1 G2 n y (y.pc + 1) slots temps change.calm change.loose change.loose_then change.lone) (one_mutex.beside2 k R1 G1 G2 n y (y.pc + 1) slots temps change.calm change.loose change.loose_then change.lone) change.lone (one_mutex.locks k R1 G1 G2 n y (y.pc + 1) slots temps change.calm change.loose change.loose_then change.lone) made1 u)
+        (λ u. given_set c.mutexes m (Some new) u ∙ shown.given u ∙ mutex_given k R1 G1 G2 n y (after y (y.pc + 1) slots temps) (one_mutex.beside k R1 G1 G2 n y (y.pc + 1) slots temps change.calm change.loose change.loose_then change.lone) (one_mutex.beside2 k R1 G1 G2 n y (y.pc + 1) slots temps change.calm change.loose change.loose_then change.lone) change.lone (one_mutex.locks k R1 G1 G2 n y (y.pc + 1) slots temps change.calm change.loose change.loose_then change.lone) made1 u)
 
     pub soon : Soon k co.sound e i single s t y a [] h2
     soon = record {

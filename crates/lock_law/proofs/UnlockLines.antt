@@ -260,7 +260,7 @@ module _ (k : Cluster) (sound : IsSound k) (e : Event) (s : Server) (t : ℕ) (x
           (acts k.code (running_at x) do_unlock plug (ap (λ j. over_at j (shown_last x.temps)) at.code) (ap (λ j. run_instr j x.pc (shown_last x.temps)) at.code) goes.way c x.number fresh.None
           ∙ unlock_does k.code c goes.way x.number (running_at x) plug m old (plain_of v) (shown_last rest) more there)
           (objects_on change) (set_shows c.mutexes m (Some new) old (λ w. (state_of s2).mutex w) there new_is (λ w ne. shown1.mutexes w ∙ mutexes_on change w ne))
-          (λ w. given_set c.mutexes m (Some new) w ∙ shown1.given w ∙ mutex_given k R1 G1 G2 n x (x.pc + 1) rest x.temps calm1 (one_mutex.beside k R1 G1 G2 n x (x.pc + 1) rest x.temps calm1 loose1 (tt, (tt, tt)) lone1) (one_mutex.beside2 k R1 G1 G2 n x (x.pc + 1) rest x.temps calm1 loose1 (tt, (tt, tt)) lone1) lone1 (one_mutex.locks k R1 G1 G2 n x (x.pc + 1) rest x.temps calm1 loose1 (tt, (tt, tt)) lone1) made1 w)
+          (λ w. given_set c.mutexes m (Some new) w ∙ shown1.given w ∙ mutex_given k R1 G1 G2 n x (after x (x.pc + 1) rest x.temps) (one_mutex.beside k R1 G1 G2 n x (x.pc + 1) rest x.temps calm1 loose1 (tt, (tt, tt)) lone1) (one_mutex.beside2 k R1 G1 G2 n x (x.pc + 1) rest x.temps calm1 loose1 (tt, (tt, tt)) lone1) lone1 (one_mutex.locks k R1 G1 G2 n x (x.pc + 1) rest x.temps calm1 loose1 (tt, (tt, tt)) lone1) made1 w)
 
     abbrev sent_hand : Hand
     sent_hand = send_content m v (with_slots rest start)
