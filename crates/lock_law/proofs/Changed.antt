@@ -32,7 +32,7 @@ use Rattle.still_law.proofs.Gifts.{placed, telling, places_told}
 use Rattle.still_law.proofs.Once.{shown_once}
 use Rattle.still_law.proofs.Sites.{Moves, ends}
 use Rattle.turn_law.proofs.Parts.{Own}
-use Rattle.turn_law.proofs.OneTurn.{of_thread, Calm, after}
+use Rattle.turn_law.proofs.OneTurn.{of_thread, after}
 use Rattle.turn_law.proofs.Events.{gift_at, placed_at, told_at, told_by, all_of as of_both, itself_counts, given_by_count}
 use Rattle.lock_law.proofs.Beside.{giftless, IsBeside, all_of, tot_of, thread_parted}
 use Rattle.lock_law.proofs.OneThread.{past, stray_stays}
@@ -158,7 +158,7 @@ module _ (k : Cluster) (sound : IsSound k) (e : Event) (s : Server) (here : serv
 
   -- ITS NAME WAS GIVEN
 
-  counted : (f : Thing → ℕ) → tot f (things_of k) ≡ 0 → f (stands n false x) ≡ 0
+  pub counted : (f : Thing → ℕ) → tot f (things_of k) ≡ 0 → f (stands n false x) ≡ 0
   counted f z = omega (arith, z, same_things f)
 
   given_here : is_given_thread (sight k) tx ≡ true
@@ -223,7 +223,7 @@ module _ (k : Cluster) (sound : IsSound k) (e : Event) (s : Server) (here : serv
           tot-append g ts os,
         )
 
-    module _ (calm : Calm x.phase) (beside : AllByRecursion IsBeside G) (beside2 : AllByRecursion IsBeside G2) (giftless2 : tot (stray (with_things k b)) G2 ≡ 0) where
+    module _ (beside : AllByRecursion IsBeside G) (beside2 : AllByRecursion IsBeside G2) (giftless2 : tot (stray (with_things k b)) G2 ≡ 0) where
       unstray_then : tot (stray (with_things k b)) b ≡ 0
       unstray_then =
           let flat : (r : Sight) → Own (λ v. stray r v ≡ 0) = λ r. record { slots = λ u i v. refl; temps = λ u i v. refl; shared = λ l m. refl; lent = λ l m. refl; marks = λ l m. refl; used = λ u m. refl } in

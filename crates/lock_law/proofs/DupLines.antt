@@ -77,8 +77,8 @@ module _ (k : Cluster) (co : IsCoherent k) (e : Event) (w : Lval) (s : Server) (
     abbrev G2 : List Thing
     G2 = shared_lines.G2 k co e i refl w s t y a h sp ready_h m am v gift slots temps
 
-    abbrev R1 : List Thing
-    R1 = shared_lines.R1 k co e i refl w s t y a h sp ready_h m am v gift slots temps
+    abbrev Others : List Thing
+    Others = shared_lines.Others k co e i refl w s t y a h sp ready_h m am v gift slots temps
 
     abbrev s1 : Sight
     s1 = shared_lines.s1 k co e i refl w s t y a h sp ready_h m am v gift slots temps
@@ -113,7 +113,7 @@ module _ (k : Cluster) (co : IsCoherent k) (e : Event) (w : Lval) (s : Server) (
     no_content : (u : MutexNo) → first_shown (content_value s1 u) G1 ≡ None
     no_content u = gift_contents k co.sound e i refl s t y a v gift refl u
 
-    change : Change k R1 G1 G2 s.rest.number y (y.pc + 1) slots temps m None None true (λ q. false)
+    change : Change k Others G1 G2 s.rest.number y (y.pc + 1) slots temps m None None true (λ q. false)
     change = record {
       calm = shared_lines.calm1 k co e i refl w s t y a h sp ready_h m am v gift slots temps;
       loose = shared_lines.loose1 k co e i refl w s t y a h sp ready_h m am v gift slots temps;
@@ -126,7 +126,7 @@ module _ (k : Cluster) (co : IsCoherent k) (e : Event) (w : Lval) (s : Server) (
       inside_then = λ z. absurd (cc z);
       new_in = λ z. or_left (is_in_state s1 (mutex_n m)) false in_it;
       extra_in = λ q z. absurd (cc z);
-      none = nothing_under s1 R1;
+      none = nothing_under s1 Others;
       no_task = λ u. refl;
       no_object = λ o. refl;
       no_other = λ u ne. refl;
@@ -138,7 +138,7 @@ module _ (k : Cluster) (co : IsCoherent k) (e : Event) (w : Lval) (s : Server) (
     }
 
     abbrev content : Option Plain
-    content = first_shown (content_value s1 m) R1
+    content = first_shown (content_value s1 m) Others
 
     abbrev shares : ℕ
     shares = tot (share_in s1 m) s1.things

@@ -75,8 +75,8 @@ module _ (k : Cluster) (co : IsCoherent k) (e : Event) (w : Lval) (s : Server) (
     abbrev G2 : List Thing
     G2 = shared_lines.G2 k co e i refl w s t y a h sp ready_h m am v gift slots temps
 
-    abbrev R1 : List Thing
-    R1 = shared_lines.R1 k co e i refl w s t y a h sp ready_h m am v gift slots temps
+    abbrev Others : List Thing
+    Others = shared_lines.Others k co e i refl w s t y a h sp ready_h m am v gift slots temps
 
     abbrev s1 : Sight
     s1 = shared_lines.s1 k co e i refl w s t y a h sp ready_h m am v gift slots temps
@@ -109,11 +109,11 @@ module _ (k : Cluster) (co : IsCoherent k) (e : Event) (w : Lval) (s : Server) (
     content_here : first_shown (content_value s1 m) G1 ≡ Some (plain_of v)
     content_here = content_in m ∙ ap (λ b. if_in (some (one b)) (Some (plain_of v))) (itself_named m)
 
-    none_left : first_shown (content_value s1 m) R1 ≡ None
+    none_left : first_shown (content_value s1 m) Others ≡ None
     none_left =
-        none_first (content_value s1 m) R1 (omega (arith, shared_lines.few k co e i refl w s t y a h sp ready_h m am v gift slots temps m, shown_counts (content_value s1 m) G1 (plain_of v) content_here))
+        none_first (content_value s1 m) Others (omega (arith, shared_lines.few k co e i refl w s t y a h sp ready_h m am v gift slots temps m, shown_counts (content_value s1 m) G1 (plain_of v) content_here))
 
-    change : Change k R1 G1 G2 s.rest.number y (y.pc + 1) slots temps m (Some v) None false (λ q. false)
+    change : Change k Others G1 G2 s.rest.number y (y.pc + 1) slots temps m (Some v) None false (λ q. false)
     change = record {
       calm = shared_lines.calm1 k co e i refl w s t y a h sp ready_h m am v gift slots temps;
       loose = shared_lines.loose1 k co e i refl w s t y a h sp ready_h m am v gift slots temps;
@@ -132,7 +132,7 @@ module _ (k : Cluster) (co : IsCoherent k) (e : Event) (w : Lval) (s : Server) (
       inside_then = λ z. absurd (cc z);
       new_in = λ z. absurd (cc z);
       extra_in = λ q z. absurd (cc z);
-      none = nothing_under s1 R1;
+      none = nothing_under s1 Others;
       no_task = λ u. refl;
       no_object = λ o. refl;
       no_other = λ u ne. refl;
@@ -147,7 +147,7 @@ module _ (k : Cluster) (co : IsCoherent k) (e : Event) (w : Lval) (s : Server) (
     shares = tot (share_in s1 m) s1.things
 
     old_is : (state_of s1).mutex m ≡ shared_as (Some (plain_of v)) shares
-    old_is = before_it change in_it ∙ ap (λ o. shared_as (or_else o (first_shown (content_value s1 m) R1)) shares) content_here
+    old_is = before_it change in_it ∙ ap (λ o. shared_as (or_else o (first_shown (content_value s1 m) Others)) shares) content_here
 
     same_shares : shares + 0 ≡ shares
     same_shares = omega arith

@@ -88,7 +88,7 @@ module _ (k : Cluster) (sound : IsSound k) (e : Event) (i : Instr) (single : is_
       let named : turn.names ≡ names = (let r : Some turn.names ≡ Some names = sym turn.named ∙ done in cc) in
       let steps : StepsTo k.code c x.number turn.names (state_of (then_there turn.pc turn.slots turn.temps turn.comes)) d.hand.work.labels = turn.steps c same in
       let after : SameState (one_heap (Next d)) (state_of (then_there turn.pc turn.slots turn.temps turn.comes)) =
-      changed.state_after k sound e s at.here t x at.at at.number d turn.pc turn.slots turn.temps turn.thread turn.comes turn.moves sends quiet (all_so IsLoose IsBeside loose_beside G loose) (all_so IsLoose IsBeside loose_beside turn.comes turn.loose_too) turn.unstray turn.once in
+      changed.state_after k sound e s at.here t x at.at at.number d turn.pc turn.slots turn.temps turn.thread turn.comes turn.moves sends (all_so IsLoose IsBeside loose_beside G loose) (all_so IsLoose IsBeside loose_beside turn.comes turn.loose_too) turn.unstray turn.once in
       let at_end : StepsTo k.code c x.number turn.names (one_heap (Next d)) d.hand.work.labels = record {
         after = steps.after;
         steps = steps.steps;

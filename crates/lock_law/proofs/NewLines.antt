@@ -129,8 +129,8 @@ module _ (k : Cluster) (sound : IsSound k) (e : Event) (o : Operand) (s : Server
   abbrev G1 : List Thing
   G1 = G k sound e i refl s t x at
 
-  abbrev R1 : List Thing
-  R1 = R k sound e i refl s t x at
+  abbrev Others : List Thing
+  Others = R k sound e i refl s t x at
 
   abbrev s1 : Sight
   s1 = before k sound e i refl s t x at
@@ -168,7 +168,7 @@ module _ (k : Cluster) (sound : IsSound k) (e : Event) (o : Operand) (s : Server
     abbrev s2 : Sight
     s2 = then_there k sound e i refl s t x at (x.pc + 1) x.slots temps G2
 
-    lone1 : tot (of_thread x.number) R1 ≡ 0
+    lone1 : tot (of_thread x.number) Others ≡ 0
     lone1 = lone k sound e s at.here t x at.at at.number
 
     abbrev loose1 : AllByRecursion IsLoose G1
@@ -181,7 +181,7 @@ module _ (k : Cluster) (sound : IsSound k) (e : Event) (o : Operand) (s : Server
     owned_then q = owned_push q rest (value.Own (owned.Mutex m))
 
     has_new : (q : Node) → 1 ≤ one (owns q (owned.Mutex m)) → is_in_state s2 q ≡ true
-    has_new q l = one_mutex.has2 k R1 G1 G2 n x (x.pc + 1) x.slots temps calm1 loose1 (tt, (tt, tt)) lone1 q (omega (arith, l, owned_then q))
+    has_new q l = one_mutex.has2 k Others G1 G2 n x (x.pc + 1) x.slots temps calm1 loose1 (tt, (tt, tt)) lone1 q (omega (arith, l, owned_then q))
 
     in_then : is_in_state s2 (mutex_n m) ≡ true
     in_then = has_new (mutex_n m) (omega (arith, ap one (itself_named m)))
@@ -190,7 +190,7 @@ module _ (k : Cluster) (sound : IsSound k) (e : Event) (o : Operand) (s : Server
     alone : {A : Type 0} (f : List Thing → A) → f G1 ≡ f (counts_here ∷ [])
     alone f = ap (λ g. f (gift_things x.number g ++ counts_here ∷ [])) bare
 
-    change : Change k R1 G1 G2 n x (x.pc + 1) x.slots temps m None (Some v) true extra
+    change : Change k Others G1 G2 n x (x.pc + 1) x.slots temps m None (Some v) true extra
     change = record {
       calm = calm1;
       loose = loose1;
@@ -214,11 +214,11 @@ module _ (k : Cluster) (sound : IsSound k) (e : Event) (o : Operand) (s : Server
       contents = λ w ne. alone (first_shown (content_value s1 w)) ∙ mutex_cases (λ c. None ≡ or_else (if_in c (Some (plain_of v))) None) m w (λ f. absurd (ne (sym f))) (λ _. refl);
     }
 
-    few : (w : MutexNo) → tot (λ a. told ones (content_value s2 w a)) G2 + tot (λ a. told ones (content_value s1 w a)) R1 ≤ 1
+    few : (w : MutexNo) → tot (λ a. told ones (content_value s2 w a)) G2 + tot (λ a. told ones (content_value s1 w a)) Others ≤ 1
     few w =
-        mutex_cases (λ c. (0 + (told ones (if_in c (Some (plain_of v))) + 0)) + tot (λ a. told ones (content_value s1 w a)) R1 ≤ 1) m w
-        (λ f. let none : tot (λ a. told ones (content_value s1 w a)) R1 ≡ 0 = subst (λ z. tot (λ a. told ones (content_value s1 z a)) R1 ≡ 0) f (none_told s1 m extra (itself_named m) R1 change.none) in omega (arith, none))
-        (λ _. omega (arith, (once_before k sound e s at.here t x at.at at.number).contents w, tot_of n x G1 R1 (λ a. told ones (content_value s1 w a)) (record { slots = λ p j a. refl; temps = λ p j a. refl; shared = λ l r. refl; lent = λ l r. refl; marks = λ l r. refl; used = λ p r. refl })))
+        mutex_cases (λ c. (0 + (told ones (if_in c (Some (plain_of v))) + 0)) + tot (λ a. told ones (content_value s1 w a)) Others ≤ 1) m w
+        (λ f. let none : tot (λ a. told ones (content_value s1 w a)) Others ≡ 0 = subst (λ z. tot (λ a. told ones (content_value s1 z a)) Others ≡ 0) f (none_told s1 m extra (itself_named m) Others change.none) in omega (arith, none))
+        (λ _. omega (arith, (once_before k sound e s at.here t x at.at at.number).contents w, tot_of n x G1 Others (λ a. told ones (content_value s1 w a)) (record { slots = λ p j a. refl; temps = λ p j a. refl; shared = λ l r. refl; lent = λ l r. refl; marks = λ l r. refl; used = λ p r. refl })))
 
     once_then : Once s2
     once_then = once_on change (once_before k sound e s at.here t x at.at at.number) few (λ r. refl)
@@ -228,7 +228,7 @@ module _ (k : Cluster) (sound : IsSound k) (e : Event) (o : Operand) (s : Server
 
     new_is : (state_of s2).mutex m ≡ shared_as (Some (plain_of v)) 1
     new_is =
-        after_it change in_then ∙ ap₂ shared_as (ap (λ c. or_else c (first_shown (content_value s1 m) R1)) content_is) (let one_share : one (same_mutex m m) ≡ 1 = ap one (itself_named m) in omega (arith, one_share, no_shares k sound e s at.here t x at.at at.number))
+        after_it change in_then ∙ ap₂ shared_as (ap (λ c. or_else c (first_shown (content_value s1 m) Others)) content_is) (let one_share : one (same_mutex m m) ≡ 1 = ap one (itself_named m) in omega (arith, one_share, no_shares k sound e s at.here t x at.at at.number))
 
     -- ITS NAME IS GIVEN
 
@@ -240,7 +240,7 @@ module _ (k : Cluster) (sound : IsSound k) (e : Event) (o : Operand) (s : Server
         let c = m.count in
         let itself : one ((n == n) && nat_le c c) ≡ 1 = ap₂ (λ p q. one (p && q)) (eq_cases (λ q. q ≡ true) n n (λ _. refl) (λ off. absurd (off refl))) (le_itself c) in
         let here : made_at m.home c counts_then ≡ 1 = ap (λ h. one ((n == h) && nat_le c c)) (home k sound e s at.here t x at.at at.number) ∙ itself in
-        let there : 1 ≤ tot (made_at m.home c) s2.things = (let all = tot_of n (past x (x.pc + 1) x.slots temps) G2 R1 (made_at m.home c) (flat m.home c) in omega (arith, all, here)) in
+        let there : 1 ≤ tot (made_at m.home c) s2.things = (let all = tot_of n (past x (x.pc + 1) x.slots temps) G2 Others (made_at m.home c) (flat m.home c) in omega (arith, all, here)) in
         ap₂ (λ p q. not p && q) (not_zero s.rest.mutexes.made) (some_there (tot (made_at m.home c) s2.things) there)
       where
         some_there : (j : ℕ) → 1 ≤ j → some j ≡ true
@@ -253,8 +253,8 @@ module _ (k : Cluster) (sound : IsSound k) (e : Event) (o : Operand) (s : Server
         let same : made_at w.home c counts_here ≡ made_at w.home c counts_then =
         eq_cases (λ q. one (q && nat_le c s.rest.mutexes.made) ≡ one (q && nat_le c (s.rest.mutexes.made + 1))) n w.home
         (λ f. ap one (le_next c s.rest.mutexes.made (λ g. ne (ap₂ named_as (sym f ∙ sym (home k sound e s at.here t x at.at at.number)) g)))) (λ _. refl) in
-        let all1 = tot_of n x G1 R1 (made_at w.home c) (flat w.home c) in
-        let all2 = tot_of n (past x (x.pc + 1) x.slots temps) G2 R1 (made_at w.home c) (flat w.home c) in
+        let all1 = tot_of n x G1 Others (made_at w.home c) (flat w.home c) in
+        let all2 = tot_of n (past x (x.pc + 1) x.slots temps) G2 Others (made_at w.home c) (flat w.home c) in
         let one_here : tot (made_at w.home c) G1 ≡ tot (made_at w.home c) (counts_here ∷ []) = alone (tot (made_at w.home c)) in
         let sums : tot (made_at w.home c) s1.things ≡ tot (made_at w.home c) s2.things = omega (arith, all1, all2, one_here, same) in
         ap (λ j. not (c == 0) && some j) sums

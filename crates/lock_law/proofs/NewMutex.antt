@@ -127,8 +127,8 @@ module _ (k : Cluster) (sound : IsSound k) (e : Event) (s : Server) (here : serv
   abbrev n1 : ℕ
   n1 = s.rest.number
 
-  abbrev R1 : List Thing
-  R1 = changed.R k sound e s here t x at number
+  abbrev Others : List Thing
+  Others = changed.R k sound e s here t x at number
 
   abbrev G1 : List Thing
   G1 = changed.G k sound e s here t x at number
@@ -137,16 +137,16 @@ module _ (k : Cluster) (sound : IsSound k) (e : Event) (s : Server) (here : serv
   a1 = changed.a k sound e s here t x at number
 
   -- what the others weigh, and what the thread has
-  pub rest_and_own : (f : Thing → ℕ) → tot f R1 + tot f (had_by n1 (giftless x)) ≤ tot f (things_of k)
+  pub rest_and_own : (f : Thing → ℕ) → tot f Others + tot f (had_by n1 (giftless x)) ≤ tot f (things_of k)
   rest_and_own f =
-      let whole : tot f a1 ≡ f (stands n1 false x) + tot f ((G1 ++ had_by n1 (giftless x)) ++ R1) = refl in
-      omega (arith, whole, same_things k sound e s here t x at number f, tot-append f (G1 ++ had_by n1 (giftless x)) R1, tot-append f G1 (had_by n1 (giftless x)))
+      let whole : tot f a1 ≡ f (stands n1 false x) + tot f ((G1 ++ had_by n1 (giftless x)) ++ Others) = refl in
+      omega (arith, whole, same_things k sound e s here t x at number f, tot-append f (G1 ++ had_by n1 (giftless x)) Others, tot-append f G1 (had_by n1 (giftless x)))
 
-  pub rest_less : (f : Thing → ℕ) → tot f R1 ≤ tot f (things_of k)
+  pub rest_less : (f : Thing → ℕ) → tot f Others ≤ tot f (things_of k)
   rest_less f = omega (arith, rest_and_own f)
 
   -- where no thread has its content as a gift and nothing among the others is its content
-  module _ (m : MutexNo) (free : tot (on_standing (gift_content (sight k) m)) (things_of k) ≡ 0) (rest : tot (contents (sight k) m) R1 ≡ 0) where
+  module _ (m : MutexNo) (free : tot (on_standing (gift_content (sight k) m)) (things_of k) ≡ 0) (rest : tot (contents (sight k) m) Others ≡ 0) where
     ungranted : (z : Standing) → Among z (threads_in (things_of k)) → gift_content (sight k) m z ≡ 0
     ungranted z h = none_among (gift_content (sight k) m) z (threads_in (things_of k)) (omega (arith, free, sum_standing (gift_content (sight k) m) (things_of k))) h
 
@@ -176,8 +176,8 @@ module _ (k : Cluster) (sound : IsSound k) (e : Event) (s : Server) (here : serv
         by None q z f = cc f
         by (Some z) q g f = found z (among_thread (threads_in (things_of k)) u z q).0 (numbered (is_some z.thread.gift) g) (instr_of (sight k) z) refl f
 
-    pub off_all : (extra : Node → Bool) → ((q : Node) → extra q ≡ true → q ≡ mutex_n m) → NoneUnder (with_things k a1) extra R1
-    off_all extra only = go R1 rest (omega (arith, unstray k sound e s here t x at number, rest_less (stray (sight k))))
+    pub off_all : (extra : Node → Bool) → ((q : Node) → extra q ≡ true → q ≡ mutex_n m) → NoneUnder (with_things k a1) extra Others
+    off_all extra only = go Others rest (omega (arith, unstray k sound e s here t x at number, rest_less (stray (sight k))))
       where
         off : (th : Thing) → contents (sight k) m th ≡ 0 → stray (sight k) th ≡ 0 → owner_of (with_things k a1) th ≡ inside (mutex_n m) → ⊥
         off (holds (as_content w) v) c g i = let same : w ≡ m = cc in absurd (omega (arith, c, ap one (ap (λ u. same_mutex u m) same ∙ itself_named m)))

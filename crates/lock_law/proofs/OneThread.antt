@@ -39,7 +39,7 @@ use Rattle.lock_law.proofs.Beside.{giftless, IsBeside, me, all_of, first_of, tot
 differs : (t u : ℕ) → one (u == t) ≡ 0 → t ≢ u
 differs t u = eq_cases (λ b. one b ≡ 0 → t ≢ u) u t (λ e z. absurd (cc z)) (λ ne z e. ne (sym e))
 
-none_got : (t : ℕ) (p : Phase) → two_in p ≡ None → got_phase t p ≡ 0
+pub none_got : (t : ℕ) (p : Phase) → two_in p ≡ None → got_phase t p ≡ 0
 none_got t (phase.GotPar a b) e = absurd (cc e)
 none_got t _ e = refl
 
@@ -195,7 +195,7 @@ module _ (k : Cluster) (R G G2 : List Thing) (n : ℕ) (x became : ThreadState) 
       same_owners = all_alike t (λ th. owner_of s th ≡ owner_of s2 th) owner_stays R lone
 
       -- what only the others show
-      first_same : {X : Type 0} (f g : Thing → Option X) → Own (λ v. f v ≡ None) → Own (λ v. g v ≡ None) → f (stands n false x) ≡ None → g (stands n false y) ≡ None → first_shown f G ≡ first_shown g G2
+      pub first_same : {X : Type 0} (f g : Thing → Option X) → Own (λ v. f v ≡ None) → Own (λ v. g v ≡ None) → f (stands n false x) ≡ None → g (stands n false y) ≡ None → first_shown f G ≡ first_shown g G2
           → ((th : Thing) → of_thread t th ≡ 0 → f th ≡ g th) → first_shown f a ≡ first_shown g b
       first_same f g own own2 e e2 h all = first_of n x G R f own e ∙ ap₂ or_else h (first_alike t f g all R lone) ∙ sym (first_of n y G2 R g own2 e2)
 
@@ -327,7 +327,7 @@ module _ (k : Cluster) (R G G2 : List Thing) (n : ℕ) (x became : ThreadState) 
             by (noted q z) i = absurd i
             by _ i = refl
 
-        no_done : (r : ℕ) (xs : List Thing) → AllByRecursion IsBeside xs → first_shown (branch_result r) xs ≡ None
+        pub no_done : (r : ℕ) (xs : List Thing) → AllByRecursion IsBeside xs → first_shown (branch_result r) xs ≡ None
         no_done r [] h = refl
         no_done r (th ∷ xs) h = ap₂ or_else (by th h.0) (no_done r xs h.1)
           where
@@ -336,17 +336,17 @@ module _ (k : Cluster) (R G G2 : List Thing) (n : ℕ) (x became : ThreadState) 
             by (stands q p z) i = absurd i
             by _ i = refl
 
-        branch_same : (r : ℕ) → is_branch s r ≡ is_branch s2 r
+        pub branch_same : (r : ℕ) → is_branch s r ≡ is_branch s2 r
         branch_same r =
             let flat : Own (λ v. in_pair_of r v ≡ 0) = record { slots = λ u i v. refl; temps = λ u i v. refl; shared = λ l w. refl; lent = λ l w. refl; marks = λ l w. refl; used = λ u w. refl } in
             ap some (tot_same (in_pair_of r) (in_pair_of r) flat flat (omega (arith, no_pairs r G beside, no_pairs r G2 beside2)) (λ th z. refl))
 
-        kept_same : (r : ℕ) → first_shown (result_value s r) a ≡ first_shown (result_value s2 r) b
+        pub kept_same : (r : ℕ) → first_shown (result_value s r) a ≡ first_shown (result_value s2 r) b
         kept_same r =
             let flat : (w : Sight) → Own (λ v. result_value w r v ≡ None) = λ w. record { slots = λ u i v. refl; temps = λ u i v. refl; shared = λ l m. refl; lent = λ l m. refl; marks = λ l m. refl; used = λ u m. refl } in
             first_same (result_value s r) (result_value s2 r) (flat s) (flat s2) refl refl (results r) (result_stays r)
 
-        owed_same : (r : ℕ) → is_branch s r || is_in_state s (task_n r) ≡ is_branch s2 r || is_in_state s2 (task_n r)
+        pub owed_same : (r : ℕ) → is_branch s r || is_in_state s (task_n r) ≡ is_branch s2 r || is_in_state s2 (task_n r)
         owed_same r = ap₂ (λ p q. p || q) (branch_same r) (in_same (task_n r) (no_task r))
 
         -- where the thread waits for no pair and isn't over, before and afterwards

@@ -183,8 +183,8 @@ module _ (k : Cluster) (co : IsCoherent k) (e : Event) (i : Instr) (single : is_
   abbrev pub G1 : List Thing
   G1 = G k co.sound e i single s t y a
 
-  abbrev pub R1 : List Thing
-  R1 = R k co.sound e i single s t y a
+  abbrev pub Others : List Thing
+  Others = R k co.sound e i single s t y a
 
   abbrev pub counts_then : Thing
   counts_then = counts_of n 0 s.rest
@@ -210,7 +210,7 @@ module _ (k : Cluster) (co : IsCoherent k) (e : Event) (i : Instr) (single : is_
   abbrev pub loose1 : AllByRecursion IsLoose G1
   loose1 = loose k co.sound e i single s t y a
 
-  pub lone1 : tot (of_thread y.number) R1 ≡ 0
+  pub lone1 : tot (of_thread y.number) Others ≡ 0
   lone1 = lone k co.sound e s a.here t y a.at a.number
 
   pub slots_plain : map plain_value h.thread.slots ≡ map plain_value y.slots
@@ -226,10 +226,10 @@ module _ (k : Cluster) (co : IsCoherent k) (e : Event) (i : Instr) (single : is_
   value_here = ap (λ l. value_mutex (value_behind g l)) am.located ∙ ap value_mutex am.stands
 
   -- how often contents are shown among the others
-  pub few : (u : MutexNo) → tot (λ x. told ones (content_value s1 u x)) G1 + tot (λ x. told ones (content_value s1 u x)) R1 ≤ 1
+  pub few : (u : MutexNo) → tot (λ x. told ones (content_value s1 u x)) G1 + tot (λ x. told ones (content_value s1 u x)) Others ≤ 1
   few u =
       let flat : Own (λ x. told ones (content_value s1 u x) ≡ 0) = record { slots = λ p j x. refl; temps = λ p j x. refl; shared = λ l r. refl; lent = λ l r. refl; marks = λ l r. refl; used = λ p r. refl } in
-      omega (arith, (once_before k co.sound e s a.here t y a.at a.number).contents u, tot_of n y G1 R1 (λ x. told ones (content_value s1 u x)) flat)
+      omega (arith, (once_before k co.sound e s a.here t y a.at a.number).contents u, tot_of n y G1 Others (λ x. told ones (content_value s1 u x)) flat)
 
   pub started1 : (f c : ℕ) → tot (started_at f c) G1 ≡ tot (started_at f c) G2
   started1 f c = started_here k co.sound e i single s t y a f c ∙ omega arith
@@ -246,7 +246,7 @@ module _ (k : Cluster) (co : IsCoherent k) (e : Event) (i : Instr) (single : is_
     behind = mutex_shown k co (standing k co e i s t y a) (goes k co e i s t y a) c same w am.location m am.located am.stands
 
   -- with a change of this mutex, and an act of the plain machine that does the same, the hand is such a turn
-  module _ (under : Option Owned) (more_shares : Bool) (change : Change k R1 G1 G2 n y (y.pc + 1) slots temps m under None more_shares (λ q. false)) (h2 : Hand) (rest : h2.work.rest ≡ h.work.rest) (thread : h2.thread ≡ giftless (record h.thread { slots = slots; temps = temps }))
+  module _ (under : Option Owned) (more_shares : Bool) (change : Change k Others G1 G2 n y (y.pc + 1) slots temps m under None more_shares (λ q. false)) (h2 : Hand) (rest : h2.work.rest ≡ h.work.rest) (thread : h2.thread ≡ giftless (record h.thread { slots = slots; temps = temps }))
       (old new : Shared) (old_is : (state_of s1).mutex m ≡ Some old) (new_is : (state_of s2).mutex m ≡ Some new) (act : CodeAct) (plug : PlainValue → Place) (val : PlainValue) (more : List PlainValue)
       (place : running_at (past y (y.pc + 1) slots temps) ≡ record { place = plug val; slots = more })
       (now : over_at (Some i) (shown_last y.temps) ≡ going) (move : run_instr (Some i) y.pc (shown_last y.temps) ≡ Some (record { act = act; plug = plug }))
@@ -264,7 +264,7 @@ module _ (k : Cluster) (co : IsCoherent k) (e : Event) (i : Instr) (single : is_
         steps_with k.code c y.number (running_at y) (record { place = plug val; slots = more }) (state_of s1) (state_of s2) goes_to shown fresh.None (with_mutex c.mutexes m (Some new)) h2.work.labels
         (acts k.code (running_at y) act plug (ap (λ j. over_at j (shown_last y.temps)) a.code ∙ now) (ap (λ j. run_instr j y.pc (shown_last y.temps)) a.code ∙ move) goes_to.way c y.number fresh.None ∙ does c goes_to.way (behind c same) there)
         (objects_on change) (set_shows c.mutexes m (Some new) old (λ u. (state_of s2).mutex u) there new_is (λ u ne. shown.mutexes u ∙ mutexes_on change u ne))
-        (λ u. given_set c.mutexes m (Some new) u ∙ shown.given u ∙ mutex_given k R1 G1 G2 n y (after y (y.pc + 1) slots temps) (one_mutex.beside k R1 G1 G2 n y (y.pc + 1) slots temps change.calm change.loose change.loose_then change.lone) (one_mutex.beside2 k R1 G1 G2 n y (y.pc + 1) slots temps change.calm change.loose change.loose_then change.lone) change.lone (one_mutex.locks k R1 G1 G2 n y (y.pc + 1) slots temps change.calm change.loose change.loose_then change.lone) made1 u)
+        (λ u. given_set c.mutexes m (Some new) u ∙ shown.given u ∙ mutex_given k Others G1 G2 n y (after y (y.pc + 1) slots temps) (one_mutex.beside k Others G1 G2 n y (y.pc + 1) slots temps change.calm change.loose change.loose_then change.lone) (one_mutex.beside2 k Others G1 G2 n y (y.pc + 1) slots temps change.calm change.loose change.loose_then change.lone) change.lone (one_mutex.locks k Others G1 G2 n y (y.pc + 1) slots temps change.calm change.loose change.loose_then change.lone) made1 u)
 
     pub soon : Soon k co.sound e i single s t y a [] h2
     soon = record {

@@ -122,8 +122,8 @@ module _ (k : Cluster) (sound : IsSound k) (e : Event) (s : Server) (t : ℕ) (x
   abbrev G1 : List Thing
   G1 = G k sound e i refl s t x at
 
-  abbrev R1 : List Thing
-  R1 = R k sound e i refl s t x at
+  abbrev Others : List Thing
+  Others = R k sound e i refl s t x at
 
   abbrev s1 : Sight
   s1 = before k sound e i refl s t x at
@@ -147,7 +147,7 @@ module _ (k : Cluster) (sound : IsSound k) (e : Event) (s : Server) (t : ℕ) (x
     abbrev s2 : Sight
     s2 = then_there k sound e i refl s t x at (x.pc + 1) rest x.temps G2
 
-    lone1 : tot (of_thread x.number) R1 ≡ 0
+    lone1 : tot (of_thread x.number) Others ≡ 0
     lone1 = lone k sound e s at.here t x at.at at.number
 
     abbrev loose1 : AllByRecursion IsLoose G1
@@ -174,7 +174,7 @@ module _ (k : Cluster) (sound : IsSound k) (e : Event) (s : Server) (t : ℕ) (x
     contents_few : tot (contents (sight k) m) (things_of k) ≤ 1
     contents_few = omega (arith, sound.mutexes_and_tasks.one_content m, few_homes k sound m)
 
-    none1 : NoneUnder s1 (λ q. owns q (owned.Mutex m)) R1
+    none1 : NoneUnder s1 (λ q. owns q (owned.Mutex m)) Others
     none1 =
         let marks = rest_and_own k sound e s at.here t x at.at at.number (mark_of m) in
         let all = rest_and_own k sound e s at.here t x at.at at.number (contents (sight k) m) in
@@ -187,19 +187,19 @@ module _ (k : Cluster) (sound : IsSound k) (e : Event) (s : Server) (t : ℕ) (x
         only (task_n u) f = absurd (cc f)
         only (mutex_n w) f = ap (λ z. mutex_n z) (sym (same_mutexes m w f))
 
-    few : (w : MutexNo) → tot (λ a. told ones (content_value s2 w a)) G2 + tot (λ a. told ones (content_value s1 w a)) R1 ≤ 1
+    few : (w : MutexNo) → tot (λ a. told ones (content_value s2 w a)) G2 + tot (λ a. told ones (content_value s1 w a)) Others ≤ 1
     few w =
-        mutex_cases (λ c. (0 + (told ones (if_in c (Some (plain_of v))) + 0)) + tot (λ a. told ones (content_value s1 w a)) R1 ≤ 1) m w
-        (λ f. let none : tot (λ a. told ones (content_value s1 w a)) R1 ≡ 0 = subst (λ z. tot (λ a. told ones (content_value s1 z a)) R1 ≡ 0) f (none_told s1 m (λ q. owns q (owned.Mutex m)) (itself_named m) R1 none1) in omega (arith, none))
-        (λ _. omega (arith, (once_before k sound e s at.here t x at.at at.number).contents w, tot_of n x G1 R1 (λ a. told ones (content_value s1 w a)) (record { slots = λ p j a. refl; temps = λ p j a. refl; shared = λ l r. refl; lent = λ l r. refl; marks = λ l r. refl; used = λ p r. refl })))
+        mutex_cases (λ c. (0 + (told ones (if_in c (Some (plain_of v))) + 0)) + tot (λ a. told ones (content_value s1 w a)) Others ≤ 1) m w
+        (λ f. let none : tot (λ a. told ones (content_value s1 w a)) Others ≡ 0 = subst (λ z. tot (λ a. told ones (content_value s1 z a)) Others ≡ 0) f (none_told s1 m (λ q. owns q (owned.Mutex m)) (itself_named m) Others none1) in omega (arith, none))
+        (λ _. omega (arith, (once_before k sound e s at.here t x at.at at.number).contents w, tot_of n x G1 Others (λ a. told ones (content_value s1 w a)) (record { slots = λ p j a. refl; temps = λ p j a. refl; shared = λ l r. refl; lent = λ l r. refl; marks = λ l r. refl; used = λ p r. refl })))
 
     once_then : Once s2
-    once_then = one_mutex.once_then k R1 G1 G2 n x (x.pc + 1) rest x.temps calm1 loose1 (tt, (tt, tt)) lone1 (once_before k sound e s at.here t x at.at at.number) few (λ r. refl)
+    once_then = one_mutex.once_then k Others G1 G2 n x (x.pc + 1) rest x.temps calm1 loose1 (tt, (tt, tt)) lone1 (once_before k sound e s at.here t x at.at at.number) few (λ r. refl)
 
     -- WHERE THE MUTEX IS IN THE STATE AFTERWARDS
 
     module _ (in_then : is_in_state s2 (mutex_n m) ≡ true) where
-      change : Change k R1 G1 G2 n x (x.pc + 1) rest x.temps m None (Some v) false (λ q. false)
+      change : Change k Others G1 G2 n x (x.pc + 1) rest x.temps m None (Some v) false (λ q. false)
       change = record {
         calm = calm1;
         loose = loose1;
@@ -212,7 +212,7 @@ module _ (k : Cluster) (sound : IsSound k) (e : Event) (s : Server) (t : ℕ) (x
         inside_then = λ z. in_then;
         new_in = λ z. absurd (cc z);
         extra_in = λ q z. absurd (cc z);
-        none = nothing_under s1 R1;
+        none = nothing_under s1 Others;
         no_task = λ w. refl;
         no_object = λ w. refl;
         no_other = λ w ne. refl;
@@ -227,7 +227,7 @@ module _ (k : Cluster) (sound : IsSound k) (e : Event) (s : Server) (t : ℕ) (x
       in_before = sym (or_false (is_in_state s1 (mutex_n m))) ∙ sym (in_afterwards change (mutex_n m)) ∙ in_then
 
       abbrev content : Option Plain
-      content = or_else (first_shown (content_value s1 m) G1) (first_shown (content_value s1 m) R1)
+      content = or_else (first_shown (content_value s1 m) G1) (first_shown (content_value s1 m) Others)
 
       abbrev shares : ℕ
       shares = tot (share_in s1 m) s1.things
@@ -239,7 +239,7 @@ module _ (k : Cluster) (sound : IsSound k) (e : Event) (s : Server) (t : ℕ) (x
       same_shares = omega arith
 
       new_is : (state_of s2).mutex m ≡ shared_as (Some (plain_of v)) shares
-      new_is = after_it change in_then ∙ ap₂ shared_as (ap (λ c. or_else c (first_shown (content_value s1 m) R1)) content_is) same_shares
+      new_is = after_it change in_then ∙ ap₂ shared_as (ap (λ c. or_else c (first_shown (content_value s1 m) Others)) content_is) same_shares
 
       made1 : (h c : ℕ) → tot (made_at h c) G1 ≡ tot (made_at h c) G2
       made1 h c = alone (tot (made_at h c)) ∙ omega arith
@@ -260,7 +260,7 @@ module _ (k : Cluster) (sound : IsSound k) (e : Event) (s : Server) (t : ℕ) (x
           (acts k.code (running_at x) do_unlock plug (ap (λ j. over_at j (shown_last x.temps)) at.code) (ap (λ j. run_instr j x.pc (shown_last x.temps)) at.code) goes.way c x.number fresh.None
           ∙ unlock_does k.code c goes.way x.number (running_at x) plug m old (plain_of v) (shown_last rest) more there)
           (objects_on change) (set_shows c.mutexes m (Some new) old (λ w. (state_of s2).mutex w) there new_is (λ w ne. shown1.mutexes w ∙ mutexes_on change w ne))
-          (λ w. given_set c.mutexes m (Some new) w ∙ shown1.given w ∙ mutex_given k R1 G1 G2 n x (after x (x.pc + 1) rest x.temps) (one_mutex.beside k R1 G1 G2 n x (x.pc + 1) rest x.temps calm1 loose1 (tt, (tt, tt)) lone1) (one_mutex.beside2 k R1 G1 G2 n x (x.pc + 1) rest x.temps calm1 loose1 (tt, (tt, tt)) lone1) lone1 (one_mutex.locks k R1 G1 G2 n x (x.pc + 1) rest x.temps calm1 loose1 (tt, (tt, tt)) lone1) made1 w)
+          (λ w. given_set c.mutexes m (Some new) w ∙ shown1.given w ∙ mutex_given k Others G1 G2 n x (after x (x.pc + 1) rest x.temps) (one_mutex.beside k Others G1 G2 n x (x.pc + 1) rest x.temps calm1 loose1 (tt, (tt, tt)) lone1) (one_mutex.beside2 k Others G1 G2 n x (x.pc + 1) rest x.temps calm1 loose1 (tt, (tt, tt)) lone1) lone1 (one_mutex.locks k Others G1 G2 n x (x.pc + 1) rest x.temps calm1 loose1 (tt, (tt, tt)) lone1) made1 w)
 
     abbrev sent_hand : Hand
     sent_hand = send_content m v (with_slots rest start)
@@ -304,7 +304,7 @@ module _ (k : Cluster) (sound : IsSound k) (e : Event) (s : Server) (t : ℕ) (x
       there : Sends k e s (stepped s d) → is_in_state (sight (Next k sound e i refl s t x at d)) (mutex_n m) ≡ true → is_in_state s2 (mutex_n m) ≡ true
       there goes in_it =
           let same : SameState (one_heap (Next k sound e i refl s t x at d)) (state_of s2) =
-          changed.state_after k sound e s at.here t x at.at at.number d (x.pc + 1) rest x.temps thread_is G2 moves_to goes calm1 (all_so IsLoose IsBeside loose_beside G1 loose1) (tt, (tt, tt)) refl once_then in
+          changed.state_after k sound e s at.here t x at.at at.number d (x.pc + 1) rest x.temps thread_is G2 moves_to goes (all_so IsLoose IsBeside loose_beside G1 loose1) (tt, (tt, tt)) refl once_then in
           there_too (is_in_state s2 (mutex_n m)) (is_in_state (sight (Next k sound e i refl s t x at d)) (mutex_n m)) _ _ (sym (same.mutexes m)) in_it
 
   abbrev Wanted : Stepped → Type 0

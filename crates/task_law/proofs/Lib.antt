@@ -1,0 +1,3 @@
+pub mod PairEnds
+pub mod PlainPairs
+pub mod PairLines
