@@ -11,3 +11,4 @@ pub mod Rests
 pub mod Homes
 pub mod Pairs
 pub mod Bare
+pub mod Queues

@@ -1,6 +1,6 @@
 //! What each event keeps of a sound cluster, one clause for each sentence.
 
-ghost use Rattle.heap_law.specs.Coherent.{asks_others, at_their_home, go_right, join_walks_nothing, options_in_range, over_are_bare, par_ends, parcels_ready, passed_in_a_walk, thread_homes, walk_empty};
+ghost use Rattle.heap_law.specs.Coherent.{asks_others, at_their_home, content_without_shares, go_right, join_walks_nothing, options_in_range, over_are_bare, par_ends, parcels_ready, passed_in_a_walk, queue_while_out, thread_homes, walk_empty};
 ghost use Rattle.local_law.specs.Laws.{EachCoherentEventKeeps, EachEventKeeps};
 
 /// What a thread keeps by itself, whatever its values are: where it doesn't walk, and at a join, its walk is empty; it has passed hops in a walk alone; one that
@@ -21,9 +21,11 @@ pub fn messages_keep()
     ensures options_in_range { EachEventKeeps options_in_range }
 {}
 
-/// What the rest of a server keeps: each of its mutexes has its number.
+/// What the rest of a server keeps: each of its mutexes has its number, nobody waits for a content that is in, and without a share the content is out.
 pub fn servers_keep()
     ensures at_their_home { EachEventKeeps at_their_home }
+    ensures queue_while_out { EachEventKeeps queue_while_out }
+    ensures content_without_shares { EachEventKeeps content_without_shares }
 {}
 
 /// What a thread keeps by the table of its code, in a coherent cluster: it is at the end of a pair exactly where it waits for one or has got one, and once it is
