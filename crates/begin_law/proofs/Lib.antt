@@ -4,4 +4,4 @@ pub mod Spawns
 pub mod Views
 pub mod Branches
 pub mod Pairs
-mod Pars
+pub mod Pars

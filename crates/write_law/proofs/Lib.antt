@@ -8,7 +8,7 @@ mod WriteSteps
 pub mod Holders
 pub mod Ends
 mod EndSteps
-mod Anyhow
+pub mod Anyhow
 pub mod Written
 pub mod Passed
-mod Moved
+pub mod Moved
