@@ -3,4 +3,4 @@
 
 mod laws;
 
-pub use laws::spawns_have_results;
+pub use laws::{pars_have_results, spawns_have_results};
