@@ -4,9 +4,8 @@ use Rattle.std.specs.List.{AllByRecursion}
 use Rattle.std.proofs.lemmas.Bool.{eq-eqb}
 use Rattle.std.proofs.lemmas.Bool.Decides.{nat_tests}
 use Rattle.fr_base.specs.declared.name.MutexNo.{MutexNo}
-use Rattle.fr_base.specs.Names.{same_mutex}
 use Rattle.heap_partition.specs.declared.value.Owned.{Owned}
-use Rattle.mutex_home.specs.Mutexes.{Mutex, Mutexes, mutex_in, with_mutex, without_mutex, put_mutex, end_mutex, asked_of, asked_in, ask, back_to, back_out, back_in, give_back, more_in, more, last_less, less_of, less_in, less}
+use Rattle.mutex_home.specs.Mutexes.{Mutex, Mutexes, mutex_in, put_mutex, end_mutex, asked_of, asked_in, ask, back_to, back_out, back_in, give_back, more_in, more, last_less, less_of, less_in, less}
 use Rattle.mutex_home.specs.declared.answers.Back.{Back}
 use Rattle.server_msgs.specs.declared.message.Message.{Message}
 use Rattle.journal.specs.View.{EntryView}
@@ -33,6 +32,7 @@ use Rattle.event_law.proofs.Sending.{each_event_sends}
 use Rattle.local_law.specs.Laws.{EachEventKeeps}
 use Rattle.local_law.proofs.Handed.{all_none, none_all}
 use Rattle.local_law.proofs.Rests.{Parts, rests}
+use Rattle.local_law.proofs.MutexLists.{found, put_all, ends_all, given}
 
 -- MUTEXES OF ONE HOME
 
@@ -45,42 +45,18 @@ module _ (n : ℕ) where
   abbrev Own : Mutex → Type 0
   Own x = x.number.home ≡ n
 
-  found : (xs : List Mutex) (m : MutexNo) → AllByRecursion Own xs → Gives Own (mutex_in xs m)
-  found [] m a = tt
-  found (x ∷ xs) m a = by (same_mutex x.number m) (found xs m a.1)
-    where
-      by : (b : Bool) → Gives Own (mutex_in xs m) → Gives Own (if b then Some x else mutex_in xs m)
-      by true g = a.0
-      by false g = g
-
-  put_all : (xs : List Mutex) (new : Mutex) → AllByRecursion Own xs → Own new → AllByRecursion Own (with_mutex xs new)
-  put_all [] new a p = tt
-  put_all (x ∷ xs) new a p = by (same_mutex x.number new.number) (put_all xs new a.1 p)
-    where
-      by : (b : Bool) → AllByRecursion Own (with_mutex xs new) → AllByRecursion Own (if b then new ∷ xs else x ∷ with_mutex xs new)
-      by true g = (p, a.1)
-      by false g = (a.0, g)
-
-  ends_all : (xs : List Mutex) (m : MutexNo) → AllByRecursion Own xs → AllByRecursion Own (without_mutex xs m)
-  ends_all [] m a = tt
-  ends_all (x ∷ xs) m a = by (same_mutex x.number m) (ends_all xs m a.1)
-    where
-      by : (b : Bool) → AllByRecursion Own (without_mutex xs m) → AllByRecursion Own (if b then xs else x ∷ without_mutex xs m)
-      by true g = a.1
-      by false g = (a.0, g)
-
   puts : (ms : Mutexes) (x : Mutex) → Own x → AtHome n ms → AtHome n (put_mutex ms x)
-  puts ms x p a = record { home = a.home; there = put_all ms.there x a.there p }
+  puts ms x p a = record { home = a.home; there = put_all Own ms.there x a.there p }
 
   ends : (ms : Mutexes) (m : MutexNo) → AtHome n ms → AtHome n (end_mutex ms m)
-  ends ms m a = record { home = a.home; there = ends_all ms.there m a.there }
+  ends ms m a = record { home = a.home; there = ends_all Own ms.there m a.there }
 
   -- what is left is there
   abbrev Left : {X : Type 0} → Mutexes × X → Type 0
   Left p = AtHome n p.0
 
   asks : (ms : Mutexes) (m : MutexNo) (s t : ℕ) → AtHome n ms → Gives Left (ask ms m s t)
-  asks ms m s t a = by (mutex_in ms.there m) (found ms.there m a.there)
+  asks ms m s t a = by (mutex_in ms.there m) (found Own ms.there m a.there)
     where
       of : (x : Mutex) (c : Option Owned) → Own x → Left (asked_of ms s t c x)
       of x None p = puts ms (record x { queue = x.queue ++ (s, t) ∷ [] }) p a
@@ -91,7 +67,7 @@ module _ (n : ℕ) where
       by (Some x) p = of x x.content p
 
   backs : (ms : Mutexes) (m : MutexNo) (v : Owned) → AtHome n ms → Gives Left (give_back ms m v)
-  backs ms m v a = by (mutex_in ms.there m) (found ms.there m a.there)
+  backs ms m v a = by (mutex_in ms.there m) (found Own ms.there m a.there)
     where
       alone : (x : Mutex) (b : Bool) → Own x → Left (if b then (end_mutex ms x.number, Rattle.mutex_home.specs.declared.answers.Back.TheVariants.Ended v) else (put_mutex ms (record x { content = Some v }), Rattle.mutex_home.specs.declared.answers.Back.TheVariants.Kept))
       alone x true p = ends ms x.number a
@@ -110,14 +86,14 @@ module _ (n : ℕ) where
       by (Some x) p = content x x.content p
 
   mores : (ms : Mutexes) (m : MutexNo) → AtHome n ms → Gives (AtHome n) (more ms m)
-  mores ms m a = by (mutex_in ms.there m) (found ms.there m a.there)
+  mores ms m a = by (mutex_in ms.there m) (found Own ms.there m a.there)
     where
       by : (o : Option Mutex) → Gives Own o → Gives (AtHome n) (more_in ms o)
       by None p = tt
       by (Some x) p = test_gives (AtHome n) (nat_lt 0 x.shares && nat_lt x.shares (2 ^ 64 - 1)) _ (λ z. puts ms (record x { shares = x.shares + 1 }) p a)
 
   lesses : (ms : Mutexes) (m : MutexNo) → AtHome n ms → Gives Left (less ms m)
-  lesses ms m a = by (mutex_in ms.there m) (found ms.there m a.there)
+  lesses ms m a = by (mutex_in ms.there m) (found Own ms.there m a.there)
     where
       last : (x : Mutex) (c : Option Owned) → Own x → Left (last_less ms x c)
       last x None p = puts ms (record x { shares = 0 }) p a
@@ -130,10 +106,6 @@ module _ (n : ℕ) where
       by : (o : Option Mutex) → Gives Own o → Gives Left (less_in ms o)
       by None p = tt
       by (Some x) p = test_gives Left (nat_lt 0 x.shares) (Some (less_of ms x)) (λ z. one x (x.shares == 1) p)
-
-  given : {X : Type 0} (P : X → Type 0) (o : Option X) (x : X) → Gives P o → o ≡ Some x → P x
-  given P None x g e = absurd (cc e)
-  given P (Some y) x g e = let same : y ≡ x = cc in subst P same g
 
 -- IN A CLUSTER
 
@@ -205,10 +177,10 @@ homes n = record {
   fills = λ w c r e a. a;
   evicts = λ w r e a. a;
   mutex = λ v r e a. let own : AtHome n r.mutexes = a.1 in (a.0, record { home = own.home; there = all_append (Own n) r.mutexes.there _ own.there (own.home, tt) });
-  asked = λ m s t r p e a. (a.0, given n (Left n) (ask r.mutexes m s t) p (asks n r.mutexes m s t a.1) e);
-  given = λ m v r p e a. (a.0, given n (Left n) (give_back r.mutexes m v) p (backs n r.mutexes m v a.1) e);
-  shared = λ m r ms e a. (a.0, given n (AtHome n) (more r.mutexes m) ms (mores n r.mutexes m a.1) e);
-  less_shared = λ m r p e a. (a.0, given n (Left n) (less r.mutexes m) p (lesses n r.mutexes m a.1) e);
+  asked = λ m s t r p e a. (a.0, given (Left n) (ask r.mutexes m s t) p (asks n r.mutexes m s t a.1) e);
+  given = λ m v r p e a. (a.0, given (Left n) (give_back r.mutexes m v) p (backs n r.mutexes m v a.1) e);
+  shared = λ m r ms e a. (a.0, given (AtHome n) (more r.mutexes m) ms (mores n r.mutexes m a.1) e);
+  less_shared = λ m r p e a. (a.0, given (Left n) (less r.mutexes m) p (lesses n r.mutexes m a.1) e);
   began = λ r e a. a;
   pair = λ parent r e a. a;
   counted = λ r a. a;

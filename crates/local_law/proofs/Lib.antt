@@ -8,6 +8,7 @@ pub mod Sentences
 pub mod Messages
 pub mod Routes
 pub mod Rests
+pub mod MutexLists
 pub mod Homes
 pub mod Pairs
 pub mod Bare

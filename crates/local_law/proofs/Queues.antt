@@ -1,11 +1,10 @@
 -- What each mutex keeps at its home: nobody waits for a content that is in, and without a share the content is out.
-use Rattle.std.proofs.Common.{◌≡◌, ℕ, ◌+◌, ◌-◌, ◌==◌, ◌&&◌, nat_lt, ◌^◌, Bool, true, false, if◌then◌else◌, List, [], ◌∷◌, ◌++◌, Option, Some, None, refl, ap, subst, ◌∙◌, arith}
+use Rattle.std.proofs.Common.{◌≡◌, ℕ, ◌+◌, ◌-◌, ◌==◌, ◌&&◌, nat_lt, ◌^◌, Bool, true, false, if◌then◌else◌, List, [], ◌∷◌, ◌++◌, Option, Some, None, refl, ap, ◌∙◌, arith}
 use Rattle.std.specs.List.{AllByRecursion}
 use Rattle.std.proofs.lemmas.Bool.Decides.{nat_tests}
 use Rattle.fr_base.specs.declared.name.MutexNo.{MutexNo}
-use Rattle.fr_base.specs.Names.{same_mutex}
 use Rattle.heap_partition.specs.declared.value.Owned.{Owned}
-use Rattle.mutex_home.specs.Mutexes.{Mutex, Mutexes, mutex_in, with_mutex, without_mutex, put_mutex, end_mutex, asked_of, asked_in, ask, back_to, back_out, back_in, give_back, more_in, more, last_less, less_of, less_in, less}
+use Rattle.mutex_home.specs.Mutexes.{Mutex, Mutexes, mutex_in, put_mutex, end_mutex, asked_of, asked_in, ask, back_to, back_out, back_in, give_back, more_in, more, last_less, less_of, less_in, less}
 use Rattle.mutex_home.specs.declared.answers.Back.{Back}
 use Rattle.server_msgs.specs.declared.message.Message.{Message}
 use Rattle.journal.specs.View.{EntryView}
@@ -25,6 +24,7 @@ use Rattle.event_law.proofs.Sending.{each_event_sends}
 use Rattle.local_law.specs.Laws.{EachEventKeeps}
 use Rattle.local_law.proofs.Handed.{all_none, none_all}
 use Rattle.local_law.proofs.Rests.{Parts, rests}
+use Rattle.local_law.proofs.MutexLists.{found, put_all, ends_all, given}
 use Rattle.heap_law.specs.Names.{tot, one, if_so}
 use Rattle.heap_law.specs.Things.{Thing, at_home}
 use Rattle.heap_law.specs.Sharing.{queued_inside, kept_for_none}
@@ -56,30 +56,6 @@ calm_shared m n e a = record { quiet = a.quiet; shared = ap (λ b. one (b && is_
 abbrev All : Mutexes → Type 0
 All ms = AllByRecursion Calm ms.there
 
-found : (xs : List Mutex) (m : MutexNo) → AllByRecursion Calm xs → Gives Calm (mutex_in xs m)
-found [] m a = tt
-found (x ∷ xs) m a = by (same_mutex x.number m) (found xs m a.1)
-  where
-    by : (b : Bool) → Gives Calm (mutex_in xs m) → Gives Calm (if b then Some x else mutex_in xs m)
-    by true g = a.0
-    by false g = g
-
-puts : (xs : List Mutex) (new : Mutex) → AllByRecursion Calm xs → Calm new → AllByRecursion Calm (with_mutex xs new)
-puts [] new a p = tt
-puts (x ∷ xs) new a p = by (same_mutex x.number new.number) (puts xs new a.1 p)
-  where
-    by : (b : Bool) → AllByRecursion Calm (with_mutex xs new) → AllByRecursion Calm (if b then new ∷ xs else x ∷ with_mutex xs new)
-    by true g = (p, a.1)
-    by false g = (a.0, g)
-
-ends : (xs : List Mutex) (m : MutexNo) → AllByRecursion Calm xs → AllByRecursion Calm (without_mutex xs m)
-ends [] m a = tt
-ends (x ∷ xs) m a = by (same_mutex x.number m) (ends xs m a.1)
-  where
-    by : (b : Bool) → AllByRecursion Calm (without_mutex xs m) → AllByRecursion Calm (if b then xs else x ∷ without_mutex xs m)
-    by true g = a.1
-    by false g = (a.0, g)
-
 abbrev Left : {X : Type 0} → Mutexes × X → Type 0
 Left p = All p.0
 
@@ -87,8 +63,8 @@ asks : (ms : Mutexes) (m : MutexNo) (s t : ℕ) → All ms → Gives Left (ask m
 asks ms m s t a = by (mutex_in ms.there m)
   where
     of : (x : Mutex) (c : Option Owned) → x.content ≡ c → Left (asked_of ms s t c x)
-    of x None e = puts ms.there (record x { queue = x.queue ++ (s, t) ∷ [] }) a (calm_out (record x { queue = x.queue ++ (s, t) ∷ [] }) e)
-    of x (Some v) e = puts ms.there (record x { content = None }) a (calm_out (record x { content = None }) refl)
+    of x None e = put_all Calm ms.there (record x { queue = x.queue ++ (s, t) ∷ [] }) a (calm_out (record x { queue = x.queue ++ (s, t) ∷ [] }) e)
+    of x (Some v) e = put_all Calm ms.there (record x { content = None }) a (calm_out (record x { content = None }) refl)
 
     by : (o : Option Mutex) → Gives Left (asked_in ms s t o)
     by None = tt
@@ -98,12 +74,12 @@ backs : (ms : Mutexes) (m : MutexNo) (v : Owned) → All ms → Gives Left (give
 backs ms m v a = by (mutex_in ms.there m)
   where
     alone : (x : Mutex) (b : Bool) → (x.shares == 0) ≡ b → x.queue ≡ [] → Left (if b then (end_mutex ms x.number, Rattle.mutex_home.specs.declared.answers.Back.TheVariants.Ended v) else (put_mutex ms (record x { content = Some v }), Rattle.mutex_home.specs.declared.answers.Back.TheVariants.Kept))
-    alone x true e q = ends ms.there x.number a
-    alone x false e q = puts ms.there (record x { content = Some v }) a (calm_in (record x { content = Some v }) (ap length q) e)
+    alone x true e q = ends_all Calm ms.there x.number a
+    alone x false e q = put_all Calm ms.there (record x { content = Some v }) a (calm_in (record x { content = Some v }) (ap length q) e)
 
     queue : (x : Mutex) (l : List (ℕ × ℕ)) → x.queue ≡ l → x.content ≡ None → Left (back_to ms v x l)
     queue x [] q e = alone x (x.shares == 0) refl q
-    queue x (first ∷ rest) q e = puts ms.there (record x { queue = rest }) a (calm_out (record x { queue = rest }) e)
+    queue x (first ∷ rest) q e = put_all Calm ms.there (record x { queue = rest }) a (calm_out (record x { queue = rest }) e)
 
     content : (x : Mutex) (c : Option Owned) → x.content ≡ c → Gives Left (back_out ms v x c)
     content x None e = queue x x.queue refl e
@@ -120,30 +96,26 @@ one_less : (n : ℕ) → nat_lt 0 n ≡ true → (n == 1) ≡ false → (n - 1 =
 one_less n l e = grind (arith, nat_tests, l, e)
 
 mores : (ms : Mutexes) (m : MutexNo) → All ms → Gives All (more ms m)
-mores ms m a = by (mutex_in ms.there m) (found ms.there m a)
+mores ms m a = by (mutex_in ms.there m) (found Calm ms.there m a)
   where
     by : (o : Option Mutex) → Gives Calm o → Gives All (more_in ms o)
     by None p = tt
-    by (Some x) p = test_gives All (nat_lt 0 x.shares && nat_lt x.shares (2 ^ 64 - 1)) _ (λ z. puts ms.there (record x { shares = x.shares + 1 }) a (calm_shared x (x.shares + 1) (one_more x.shares) p))
+    by (Some x) p = test_gives All (nat_lt 0 x.shares && nat_lt x.shares (2 ^ 64 - 1)) _ (λ z. put_all Calm ms.there (record x { shares = x.shares + 1 }) a (calm_shared x (x.shares + 1) (one_more x.shares) p))
 
 lesses : (ms : Mutexes) (m : MutexNo) → All ms → Gives Left (less ms m)
-lesses ms m a = by (mutex_in ms.there m) (found ms.there m a)
+lesses ms m a = by (mutex_in ms.there m) (found Calm ms.there m a)
   where
     last : (x : Mutex) (c : Option Owned) → x.content ≡ c → Left (last_less ms x c)
-    last x None e = puts ms.there (record x { shares = 0 }) a (calm_out (record x { shares = 0 }) e)
-    last x (Some v) e = ends ms.there x.number a
+    last x None e = put_all Calm ms.there (record x { shares = 0 }) a (calm_out (record x { shares = 0 }) e)
+    last x (Some v) e = ends_all Calm ms.there x.number a
 
     one_of : (x : Mutex) (b : Bool) → (x.shares == 1) ≡ b → nat_lt 0 x.shares ≡ true → Calm x → Left (if b then last_less ms x x.content else (put_mutex ms (record x { shares = x.shares - 1 }), None))
     one_of x true e l p = last x x.content refl
-    one_of x false e l p = puts ms.there (record x { shares = x.shares - 1 }) a (calm_shared x (x.shares - 1) (one_less x.shares l e) p)
+    one_of x false e l p = put_all Calm ms.there (record x { shares = x.shares - 1 }) a (calm_shared x (x.shares - 1) (one_less x.shares l e) p)
 
     by : (o : Option Mutex) → Gives Calm o → Gives Left (less_in ms o)
     by None p = tt
     by (Some x) p = test_gives Left (nat_lt 0 x.shares) (Some (less_of ms x)) (λ z. one_of x (x.shares == 1) refl z p)
-
-given : {X : Type 0} (P : X → Type 0) (o : Option X) (x : X) → Gives P o → o ≡ Some x → P x
-given P None x g e = absurd (cc e)
-given P (Some y) x g e = let same : y ≡ x = cc in subst P same g
 
 abbrev R : Rest → Type 0
 R r = All r.mutexes
