@@ -1,24 +1,16 @@
--- What was before the words of today is as it should be exactly where nothing is counted.
-use Rattle.std.proofs.Common.{◌≡◌, ℕ, ◌+◌, Bool, true, false, not, ◌&&◌, List, refl, sym, subst, ◌∙◌, arith}
+-- First words that were left are no words of today exactly where nothing is counted.
+use Rattle.std.proofs.Common.{◌≡◌, ℕ, Bool, true, false, not, List, refl, sym, subst, ◌∙◌, arith}
 use Rattle.std.specs.Prelude.{◌≢◌, ◌==◌}
-use Rattle.std.proofs.lemmas.Bool.Decides.{nat_tests}
 use Rattle.mut_borrow.specs.declared.mutable.MutRef.{MutRef}
-use Rattle.mut_borrow.specs.Refs.{changed}
 use Rattle.server_model.specs.Servers.{Cluster}
 use Rattle.heap_law.specs.Names.{tot, one, if_so, same_object, Among}
-use Rattle.heap_law.specs.Stale.{Reference, references, is_held_at}
+use Rattle.heap_law.specs.Stale.{Reference, references}
 use Rattle.heap_law.specs.Sight.{Pointer, sight}
-use Rattle.heap_law.specs.Placing.{unchanged_from, lends_unchanged, lent_wrong, has_first, first_again, first_again_wrong}
-use Rattle.heap_law.specs.Words.{all_pointers, IsStale}
+use Rattle.heap_law.specs.Placing.{has_first, first_again, first_again_wrong}
+use Rattle.heap_law.specs.Words.{all_pointers}
 use Rattle.heap_law.specs.Dirty.{PastWords, PastLaw}
-use Rattle.heap_law.proofs.Names.{both_none, one_not, if_not, same_number, and_left, and_right}
+use Rattle.heap_law.proofs.Names.{one_not, same_number}
 use Rattle.heap_law.proofs.Words.{none_at, none_all, told, not_told, named, itself, fresh_in, fresh_from, equal_numbers}
-
--- what weighs nothing isn't both
-not_both : (p q : Bool) → one (p && not q) ≡ 0 → p ≡ true → q ≡ true
-not_both true true z e = refl
-not_both true false z e = absurd (omega (arith, z))
-not_both false q z e = absurd (cc e)
 
 so_none : (p : Bool) (n : ℕ) → if_so p n ≡ 0 → p ≡ true → n ≡ 0
 so_none true n z e = z
@@ -48,35 +40,21 @@ none_has r p z e s = by (so_none (same_object p.object r.object) (one (p.word ==
     by : one (p.word == r.first) ≡ 0 → (p.word == r.first) ≡ true → ⊥
     by x y = let q : one true ≡ 0 = subst (λ b. one b ≡ 0) y x in absurd (omega (arith, q))
 
-from_counts : (k : Cluster) → lent_wrong (sight k) ≡ 0 → first_again_wrong (sight k) ≡ 0 → PastWords (sight k)
-from_counts k z y = record { lent_changed = lent_changed; first_past = first_past }
+from_count : (k : Cluster) → first_again_wrong (sight k) ≡ 0 → PastWords (sight k)
+from_count k y r m d p i f e =
+    none_has r.reference p
+    (none_at (has_first r.reference) p (sight k).pointers
+    (so_none (not (r.reference.word == r.reference.first)) (tot (has_first r.reference) (sight k).pointers) (none_at (first_again (sight k).pointers) r rs y m) (other_numbers r.reference.word r.reference.first d))
+    (fresh_in (sight k).stale p (all_pointers (sight k)) (not_told k p.at f) i)) e
   where
     rs : List Reference
     rs = references (sight k).ground (sight k).things
 
-    lent_changed : (r q : Reference) → Among r rs → Among q rs → r.reference.dirty ≡ true → is_held_at r.at q.holder ≡ true → changed q.reference ≡ true
-    lent_changed r q m n d h =
-        not_both (is_held_at r.at q.holder) (changed q.reference) (none_at (unchanged_from r.at) q rs (so_none r.reference.dirty (tot (unchanged_from r.at) rs) (none_at (lends_unchanged rs) r rs z m) d) n) h
-
-    first_past : (r : Reference) → Among r rs → r.reference.word ≢ r.reference.first → (p : Pointer) → Among p (all_pointers (sight k)) → (IsStale (sight k) p.at → ⊥) → p.object ≡ r.reference.object → p.word ≢ r.reference.first
-    first_past r m d p i f e =
-        none_has r.reference p
-        (none_at (has_first r.reference) p (sight k).pointers
-        (so_none (not (r.reference.word == r.reference.first)) (tot (has_first r.reference) (sight k).pointers) (none_at (first_again (sight k).pointers) r rs y m) (other_numbers r.reference.word r.reference.first d))
-        (fresh_in (sight k).stale p (all_pointers (sight k)) (not_told k p.at f) i)) e
-
-none_counted : (k : Cluster) → PastWords (sight k) → lent_wrong (sight k) + first_again_wrong (sight k) ≡ 0
-none_counted k past = both_none (lent_wrong (sight k)) (first_again_wrong (sight k)) (none_all (lends_unchanged rs) rs lent) (none_all (first_again (sight k).pointers) rs first)
+none_counted : (k : Cluster) → PastWords (sight k) → first_again_wrong (sight k) ≡ 0
+none_counted k past = none_all (first_again (sight k).pointers) rs first
   where
     rs : List Reference
     rs = references (sight k).ground (sight k).things
-
-    lent : (r : Reference) → Among r rs → lends_unchanged rs r ≡ 0
-    lent r m = if_true r.reference.dirty (tot (unchanged_from r.at) rs) (λ d. none_all (unchanged_from r.at) rs (λ q n. one_not (is_held_at r.at q.holder && not (changed q.reference)) (λ e. by (changed q.reference) (past.lent_changed r q m n d (and_left (is_held_at r.at q.holder) (not (changed q.reference)) e)) (and_right (is_held_at r.at q.holder) (not (changed q.reference)) e))))
-      where
-        by : (b : Bool) → b ≡ true → not b ≡ true → ⊥
-        by true e f = absurd (cc f)
-        by false e f = absurd (cc e)
 
     first : (r : Reference) → Among r rs → first_again (sight k).pointers r ≡ 0
     first r m = if_true (not (r.reference.word == r.reference.first)) (tot (has_first r.reference) (sight k).pointers) (λ e. none_all (has_first r.reference) (sight k).pointers (has e))
@@ -85,7 +63,7 @@ none_counted k past = both_none (lent_wrong (sight k)) (first_again_wrong (sight
         has e p i =
             let y = fresh_from (sight k).stale p (all_pointers (sight k)) i in
             if_true (same_object p.object r.reference.object) (one (p.word == r.reference.first)) (λ s. one_not (p.word == r.reference.first) (λ t.
-            past.first_past r m (differ r.reference.word r.reference.first e) p y.among (λ st. let q : true ≡ false = sym (told k p.at st) ∙ y.fresh in absurd (cc q)) (named p.object r.reference.object s) (same_number p.word r.reference.first t)))
+            past r m (differ r.reference.word r.reference.first e) p y.among (λ st. let q : true ≡ false = sym (told k p.at st) ∙ y.fresh in absurd (cc q)) (named p.object r.reference.object s) (same_number p.word r.reference.first t)))
 
 pub past_law : PastLaw
-past_law = record { from_counts = from_counts; none_counted = none_counted }
+past_law = record { from_count = from_count; none_counted = none_counted }

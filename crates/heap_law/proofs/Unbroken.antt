@@ -8,10 +8,10 @@ use Rattle.heap_law.specs.Sight.{sight}
 use Rattle.heap_law.specs.Weights.{cells, owners, objects, states, below, addresses, uses_of, users_of, kept_words, is_home_of, shares_of, shares_at_home, shared_mutexes, tasks_of, is_thread, numbers}
 use Rattle.heap_law.specs.Requests.{halves_to, halves_needed, answered_threads, pair_notes, pair_places, branches}
 use Rattle.heap_law.specs.Sharing.{contents, held_mutexes, going_notes, goes_on, started_threads, tasks, owed, owed_threads, results, has_ended, resulting}
-use Rattle.heap_law.specs.Coherent.{Sentence, home_of_each, owner_of_each, are_issued, below_limit, same_word, lead_home, one_state, first_at_holder, different_words, dirty_alone, dirty_lend_changed, firsts_are_past, copies_agree, served_are_clean, passed_lie_here, passed_not_copied, passed_not_stale, passed_in_a_walk, passed_within, walk_empty, join_walks_nothing, parcels_ready, place_followed, waits_in_turn, asks_others, users_counted, one_answer, carry_what_is_asked, go_right, return_right, askers_stand, objects_there, phases_stand, par_ends, pairs_noted, pairs_go_on, taken_stands, taken_is_new, gifts_got, gifts_fit, named_are_there, at_their_home, one_content, marks_in_slots, shares_counted, queue_while_out, content_without_shares, thread_homes, noted_go_on, noted_at_home, one_task_value, task_values_owed, one_result, pairs_unnamed, over_are_bare, none_owns_itself, parents_end, branches_give_unit, numbers_differ, objects_made, names_counted, counts_from_one, few_names, counts_bounded, parts_are_typed, options_in_range, holders_short, breaches_in, Holds, OneHome, OneOwner, Words, Copies, Walks, Users, Requests, MutexesAndTasks, Rooted, Names, Parts, IsSound, one_home_sentences, one_owner_sentences, words_sentences, copies_sentences, walks_sentences, users_sentences, requests_sentences, mutexes_and_tasks_sentences, rooted_sentences, names_sentences, parts_sentences, if_broken, broken_among, all_sentences}
+use Rattle.heap_law.specs.Coherent.{Sentence, home_of_each, owner_of_each, are_issued, below_limit, same_word, lead_home, one_state, first_at_holder, different_words, dirty_alone, firsts_are_past, copies_agree, served_are_clean, passed_lie_here, passed_not_copied, passed_not_stale, passed_in_a_walk, passed_within, walk_empty, join_walks_nothing, parcels_ready, place_followed, waits_in_turn, asks_others, users_counted, one_answer, carry_what_is_asked, go_right, return_right, askers_stand, objects_there, phases_stand, par_ends, pairs_noted, pairs_go_on, taken_stands, taken_is_new, gifts_got, gifts_fit, named_are_there, at_their_home, one_content, marks_in_slots, shares_counted, queue_while_out, content_without_shares, thread_homes, noted_go_on, noted_at_home, one_task_value, task_values_owed, one_result, pairs_unnamed, over_are_bare, none_owns_itself, parents_end, branches_give_unit, numbers_differ, objects_made, names_counted, counts_from_one, few_names, counts_bounded, parts_are_typed, options_in_range, holders_short, breaches_in, Holds, OneHome, OneOwner, Words, Copies, Walks, Users, Requests, MutexesAndTasks, Rooted, Names, Parts, IsSound, one_home_sentences, one_owner_sentences, words_sentences, copies_sentences, walks_sentences, users_sentences, requests_sentences, mutexes_and_tasks_sentences, rooted_sentences, names_sentences, parts_sentences, if_broken, broken_among, all_sentences}
 use Rattle.heap_law.specs.Rooted.{ownings, parents}
 use Rattle.heap_law.specs.Laws.{SoundLaw}
-use Rattle.heap_law.specs.Placing.{same_word_wrong, homeward_wrong, lent_wrong, first_again_wrong}
+use Rattle.heap_law.specs.Placing.{same_word_wrong, homeward_wrong}
 use Rattle.heap_law.proofs.Names.{left_none, right_none}
 use Rattle.heap_law.specs.Walking.{passed_wrong, passed_boxes_wrong, passed_stale_wrong}
 use Rattle.heap_law.proofs.Words.{words_law}
@@ -74,7 +74,7 @@ words_from k p = record {
   first_at_holder = p.1.1.1.1.1.0;
   different_words = p.1.1.1.1.1.1.0;
   dirty_alone = dirty_law.from_count k p.1.1.1.1.1.1.1.0;
-  past_words = past_law.from_counts k p.1.1.1.1.1.1.1.1.0 p.1.1.1.1.1.1.1.1.1.0;
+  past_words = past_law.from_count k p.1.1.1.1.1.1.1.1.0;
 }
 
 copies_from : (k : Cluster) → None_of k copies_sentences → Copies k
@@ -175,8 +175,7 @@ holds k s one_state = at_most_none states below addresses addresses_quiet (thing
 holds k s first_at_holder = s.words.first_at_holder
 holds k s different_words = s.words.different_words
 holds k s dirty_alone = dirty_law.none_counted k s.words.dirty_alone
-holds k s dirty_lend_changed = left_none (lent_wrong (sight k)) (first_again_wrong (sight k)) (past_law.none_counted k s.words.past_words)
-holds k s firsts_are_past = right_none (lent_wrong (sight k)) (first_again_wrong (sight k)) (past_law.none_counted k s.words.past_words)
+holds k s firsts_are_past = past_law.none_counted k s.words.past_words
 holds k s copies_agree = s.copies.copies_agree
 holds k s served_are_clean = s.copies.served_are_clean
 holds k s passed_lie_here =

@@ -13,7 +13,7 @@ use Rattle.mutex_home.specs.Mutexes.{Mutex}
 use Rattle.server_msgs.specs.declared.message.Message.{Message}
 use Rattle.server_msgs.specs.declared.message.Message.TheVariants.{Move, Dupped, Migrate}
 use Rattle.server_model.specs.Servers.{Server, Cluster}
-use Rattle.heap_law.specs.Coherent.{Sentence, broken, home_of_each, owner_of_each, are_issued, below_limit, same_word, lead_home, one_state, first_at_holder, dirty_alone, dirty_lend_changed, firsts_are_past, copies_agree, served_are_clean, passed_lie_here, passed_not_copied, passed_not_stale, passed_in_a_walk, passed_within, walk_empty, join_walks_nothing, parcels_ready, place_followed, waits_in_turn, asks_others, users_counted}
+use Rattle.heap_law.specs.Coherent.{Sentence, broken, home_of_each, owner_of_each, are_issued, below_limit, same_word, lead_home, one_state, first_at_holder, dirty_alone, firsts_are_past, copies_agree, served_are_clean, passed_lie_here, passed_not_copied, passed_not_stale, passed_in_a_walk, passed_within, walk_empty, join_walks_nothing, parcels_ready, place_followed, waits_in_turn, asks_others, users_counted}
 use Rattle.heap_law.specs.Clusters.{place, thread_no, object, int, cell, box, the_mutex, word_0, word_1, word_3, dirty_reference, shared_reference, main_slots, main_waiting, locker, joiner, worker, partition_0, copy_of, server_0, server_1, cluster, relent_server, relent}
 use Rattle.heap_law.specs.Busy.{old_0, old_1, at_2, at_3, at_4, parent, writer, lender, viewer, ended, gifted, dupper, joined, fetcher, dropped, mover, busy_partition, busy_0, busy_1, of_busy}
 
@@ -72,11 +72,11 @@ passed_writer pc n = record fetcher { pc = pc; phase = phase.Got; passed = n }
 abbrev pub reference : ℕ → ℕ → Bool → ℕ → MutRef
 reference w n dirty slot = record { word = w; first = w; object = object n; dirty = dirty; holder = place slot 0 }
 
--- slot 0's box is lent to slot 1, that reference to slot 2, and that one to slot 3, with words of these colours; the first may be dirty
-abbrev lent_in_turn : ℕ → Bool → ℕ → ℕ → Cluster
-lent_in_turn a dirty b c =
+-- slot 0's box is lent to slot 1, that reference to slot 2, and that one to slot 3, with words of these colours; the first is dirty
+abbrev lent_in_turn : ℕ → ℕ → ℕ → Cluster
+lent_in_turn a b c =
     let lent : ℕ → ℕ → Bool → ℕ → Value = λ first colour d slot. value.Mut (record (reference (word_of colour 0 0) 0 d slot) { first = word_of first 0 0 }) in
-    record relent { servers = record relent_server { threads = record (new_thread 0 2 (value.Own (box (word_of 0 0 0) 0) ∷ lent 0 a dirty 0 ∷ lent a b false 1 ∷ lent b c false 2 ∷ [])) { made = 1 } ∷ [] } ∷ [] }
+    record relent { servers = record relent_server { threads = record (new_thread 0 2 (value.Own (box (word_of 0 0 0) 0) ∷ lent 0 a true 0 ∷ lent a b false 1 ∷ lent b c false 2 ∷ [])) { made = 1 } ∷ [] } ∷ [] }
 
 -- THE MEMORY
 
@@ -110,11 +110,9 @@ pub record MemoryBreaks : Type 0 where
   -- a dirty reference beside a shared one to its object
   pub dirty_shared : Breaks dirty_alone (cluster (with_slot 3 (value.Shared (record { word = word_0; object = object 0; pinned = false }))) server_1)
   -- a clean reference made from a dirty one, with its word
-  pub dirty_below : broken (cluster (with_slot 3 (value.Mut (record { word = word_0; first = word_0; object = object 0; dirty = false; holder = place 2 0 }))) server_1) ≡ dirty_alone ∷ dirty_lend_changed ∷ []
-  -- the same, where a third one was made from that which has another word, so that the dirty one is stale
-  pub unchanged_below : Breaks dirty_lend_changed (lent_in_turn 0 true 0 1)
-  -- the third one has the first word of the second one again: where it ends, the second one has its first word, so the dirty one isn't stale any more
-  pub first_word_again : Breaks firsts_are_past (lent_in_turn 2 true 1 2)
+  pub dirty_below : Breaks dirty_alone (cluster (with_slot 3 (value.Mut (record { word = word_0; first = word_0; object = object 0; dirty = false; holder = place 2 0 }))) server_1)
+  -- a third reference has the first word of the second one again: where it ends, the second one has its first word, so the dirty one isn't stale any more
+  pub first_word_again : Breaks firsts_are_past (lent_in_turn 2 1 2)
   -- a reference made from the same box as a dirty one, with its word
   pub dirty_beside : Breaks dirty_alone (cluster (with_slot 3 (value.Mut (record { word = word_0; first = word_0; object = object 0; dirty = false; holder = place 0 0 }))) server_1)
   -- a copy with an old value under the object's word

@@ -8,7 +8,7 @@ use Rattle.heap_law.specs.Sight.{Sight, sight}
 use Rattle.heap_law.specs.Things.{things_of}
 use Rattle.heap_law.specs.Balances.{Agree, AtMost, AtMostOne}
 use Rattle.heap_law.specs.Weights.{cells, owners, states, below, uses_of, users_of, is_home_of, shares_of, shares_at_home, tasks_of, is_thread}
-use Rattle.heap_law.specs.Placing.{homes_wrong, owners_wrong, issued_wrong, colours_wrong, same_word_wrong, homeward_wrong, states_wrong, first_wrong, different_words_wrong, dirty_wrong, lent_wrong, first_again_wrong, copies_wrong, served_wrong}
+use Rattle.heap_law.specs.Placing.{homes_wrong, owners_wrong, issued_wrong, colours_wrong, same_word_wrong, homeward_wrong, states_wrong, first_wrong, different_words_wrong, dirty_wrong, first_again_wrong, copies_wrong, served_wrong}
 use Rattle.heap_law.specs.Walking.{passed_wrong, passed_boxes_wrong, passed_stale_wrong, passed_phase_wrong, passed_count_wrong, walk_phase_wrong, join_walk_wrong, parcels_wrong, followed_wrong, turn_wrong, own_requests_wrong, users_wrong}
 use Rattle.heap_law.specs.Requests.{halves_to, halves_needed, pair_notes, pair_places, answers_wrong, carried_wrong, routes_wrong, returns_wrong, askers_wrong, objects_wrong, phases_wrong, par_ends_wrong, pairs_wrong, waited_pairs_wrong, taken_wrong, taken_words_wrong, gift_phases_wrong, gifts_wrong}
 use Rattle.heap_law.specs.Sharing.{contents, going_notes, goes_on, owed, results, has_ended, named_wrong, mutex_homes_wrong, contents_wrong, marks_wrong, shares_wrong, queues_wrong, last_shares_wrong, thread_homes_wrong, noted_wrong, notes_wrong, tasks_wrong, owed_wrong, results_wrong, got_pairs_wrong}
@@ -35,7 +35,6 @@ pub data Sentence : Type 0 where
   first_at_holder : Sentence
   different_words : Sentence
   dirty_alone : Sentence
-  dirty_lend_changed : Sentence
   firsts_are_past : Sentence
   -- copies
   copies_agree : Sentence
@@ -113,7 +112,6 @@ breaches_in k s one_state = states_wrong s
 breaches_in k s first_at_holder = first_wrong s
 breaches_in k s different_words = different_words_wrong s
 breaches_in k s dirty_alone = dirty_wrong s
-breaches_in k s dirty_lend_changed = lent_wrong s
 breaches_in k s firsts_are_past = first_again_wrong s
 breaches_in k s copies_agree = copies_wrong s
 breaches_in k s served_are_clean = served_wrong s
@@ -204,8 +202,7 @@ pub record Words (k : Cluster) : Type 0 where
   pub different_words : Holds k different_words
   -- no mutable reference was made from a dirty one that isn't stale, and each other pointer to its object is stale; so no shared reference or view leads to it
   pub dirty_alone : DirtyAlone (sight k)
-  -- a mutable reference that was made from a dirty one is changed; and where a mutable reference has another word than its first one, no pointer to its
-  -- object that isn't stale has the first one
+  -- where a mutable reference has another word than its first one, no pointer to its object that isn't stale has the first one
   pub past_words : PastWords (sight k)
 
 -- COPIES
@@ -364,7 +361,7 @@ abbrev pub one_owner_sentences : List Sentence
 one_owner_sentences = owner_of_each ∷ []
 
 abbrev pub words_sentences : List Sentence
-words_sentences = are_issued ∷ below_limit ∷ same_word ∷ lead_home ∷ one_state ∷ first_at_holder ∷ different_words ∷ dirty_alone ∷ dirty_lend_changed ∷ firsts_are_past ∷ []
+words_sentences = are_issued ∷ below_limit ∷ same_word ∷ lead_home ∷ one_state ∷ first_at_holder ∷ different_words ∷ dirty_alone ∷ firsts_are_past ∷ []
 
 abbrev pub copies_sentences : List Sentence
 copies_sentences = copies_agree ∷ served_are_clean ∷ []

@@ -1,13 +1,12 @@
 -- DIRTY REFERENCES: a mutable reference through which its object was changed, while it isn't stale (this project's rules).
-use Rattle.std.specs.Prelude.{◌≡◌, ◌≢◌, ◌⊎◌, ◌+◌, true, Some}
+use Rattle.std.specs.Prelude.{◌≡◌, ◌≢◌, ◌⊎◌, true, Some}
 use Rattle.mut_borrow.specs.declared.shared.SharedRef.{SharedRef}
-use Rattle.mut_borrow.specs.Refs.{changed}
 use Rattle.server_model.specs.Servers.{Cluster}
 use Rattle.heap_law.specs.Names.{Among}
 use Rattle.heap_law.specs.Things.{Location, shares}
 use Rattle.heap_law.specs.Stale.{Reference, references, is_held_at}
 use Rattle.heap_law.specs.Sight.{Sight, Pointer, sight}
-use Rattle.heap_law.specs.Placing.{standing_pointers, dirty_wrong, lent_wrong, first_again_wrong}
+use Rattle.heap_law.specs.Placing.{standing_pointers, dirty_wrong, first_again_wrong}
 use Rattle.heap_law.specs.Words.{all_pointers, IsStale}
 
 -- no mutable reference was made from it, and each other pointer to its object is stale: a box or a reference, the word of a `drop`, that of an object
@@ -20,15 +19,15 @@ pub record IsAlone (s : Sight) (r : Reference) : Type 0 where
 abbrev pub DirtyAlone : Sight → Type 0
 DirtyAlone s = (r : Reference) → Among r (references s.ground s.things) → r.reference.dirty ≡ true → (IsStale s (Some r.at) → ⊥) → IsAlone s r
 
--- what was before the words of today: a reference that was made from a dirty one is changed, and where a reference has another word than its first one,
--- no pointer to its object has the first one, but for stale ones
-pub record PastWords (s : Sight) : Type 0 where
-  pub lent_changed : (r q : Reference) → Among r (references s.ground s.things) → Among q (references s.ground s.things) → r.reference.dirty ≡ true → is_held_at r.at q.holder ≡ true → changed q.reference ≡ true
-  pub first_past : (r : Reference) → Among r (references s.ground s.things) → r.reference.word ≢ r.reference.first → (p : Pointer) → Among p (all_pointers s) → (IsStale s p.at → ⊥) → p.object ≡ r.reference.object → p.word ≢ r.reference.first
+-- the first words of references are no words of today where they were left: where a reference has another word than its first one, no pointer to its
+-- object has the first one, but for stale ones
+abbrev pub PastWords : Sight → Type 0
+PastWords s =
+    (r : Reference) → Among r (references s.ground s.things) → r.reference.word ≢ r.reference.first → (p : Pointer) → Among p (all_pointers s) → (IsStale s p.at → ⊥) → p.object ≡ r.reference.object → p.word ≢ r.reference.first
 
 pub record PastLaw : Type 0 where
-  pub from_counts : (k : Cluster) → lent_wrong (sight k) ≡ 0 → first_again_wrong (sight k) ≡ 0 → PastWords (sight k)
-  pub none_counted : (k : Cluster) → PastWords (sight k) → lent_wrong (sight k) + first_again_wrong (sight k) ≡ 0
+  pub from_count : (k : Cluster) → first_again_wrong (sight k) ≡ 0 → PastWords (sight k)
+  pub none_counted : (k : Cluster) → PastWords (sight k) → first_again_wrong (sight k) ≡ 0
 
 pub record DirtyLaw : Type 0 where
   pub from_count : (k : Cluster) → dirty_wrong (sight k) ≡ 0 → DirtyAlone (sight k)

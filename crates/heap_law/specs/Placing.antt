@@ -7,7 +7,6 @@ use Rattle.heap_partition.specs.declared.value.Cell.{Cell}
 use Rattle.heap_partition.specs.declared.value.Owned.{Owned}
 use Rattle.heap_partition.specs.declared.value.Owned.TheVariants as owned
 use Rattle.mut_borrow.specs.declared.mutable.MutRef.{MutRef}
-use Rattle.mut_borrow.specs.Refs.{changed}
 use Rattle.thread_state.specs.declared.value.Value.{Value}
 use Rattle.thread_state.specs.declared.value.Value.TheVariants as value
 use Rattle.thread_state.specs.declared.phase.Phase.{Phase}
@@ -167,16 +166,6 @@ not_alone s rs r =
 
 abbrev pub dirty_wrong : Sight → ℕ
 dirty_wrong s = let rs = references s.ground s.things in tot (not_alone s rs) rs
-
--- a mutable reference that was made from a dirty one is changed: dirty too, or with another word than its first one
-abbrev pub unchanged_from : Location → Reference → ℕ
-unchanged_from l r = one (is_held_at l r.holder && not (changed r.reference))
-
-abbrev pub lends_unchanged : List Reference → Reference → ℕ
-lends_unchanged rs r = if_so r.reference.dirty (tot (unchanged_from r.at) rs)
-
-abbrev pub lent_wrong : Sight → ℕ
-lent_wrong s = let rs = references s.ground s.things in tot (lends_unchanged rs) rs
 
 -- where a mutable reference has another word than its first one, no pointer to its object has the first one again, but for stale ones
 abbrev pub has_first : MutRef → Pointer → ℕ

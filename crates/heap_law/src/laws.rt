@@ -93,7 +93,7 @@ pub fn rounds_tell_stale()
 {}
 
 /// The objects of a cluster have words exactly where nothing is counted that breaks it, and the first pointer that isn't stale tells an object's word.
-/// Dirty references that aren't stale are alone exactly where none is counted, and what was before today's words is past exactly where nothing is counted.
+/// Dirty references that aren't stale are alone exactly where none is counted, and first words that were left are no words of today exactly where nothing is counted.
 pub fn words_are_told()
     ensures words { WordsLaw }
     ensures dirty { DirtyLaw }

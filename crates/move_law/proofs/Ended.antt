@@ -236,8 +236,9 @@ module _ (k z : Cluster) (at h : Location) (r : MutRef) (c : HasPlaces k) (d : H
   abbrev Was : Reference → MutRef → Type 0
   Was q m0 = Kept r q.reference m0 × (u.old ≡ value.Mut m0)
 
-  abbrev Nothing : MutRef → Type 0
-  Nothing m = ⊤
+  -- it stands there as it was, where the reference that ends has its first word
+  abbrev Stays : Reference → MutRef → Type 0
+  Stays q m = r.word ≡ r.first → m ≡ q.reference
 
   not_gone : (q : Reference) → Among q rz → q.at ≡ at → ⊥
   not_gone q m e =
@@ -277,7 +278,7 @@ module _ (k z : Cluster) (at h : Location) (r : MutRef) (c : HasPlaces k) (d : H
           let b = of_borrows gz q (things_of z) m in
           there q.reference (seen_reference (value_in gk q.at) q.reference (sym (u.elsewhere q.at (not_gone q m) n) ∙ ap pointing (borrow_stands z d q.at q.reference b.among))) refl refl refl (λ f. refl) (λ f. absurd (n f))
 
-  on_reference : (q : Reference) → Among q rk → (q.at ≡ at → ⊥) → Other gz rz q Nothing
+  on_reference : (q : Reference) → Among q rk → (q.at ≡ at → ⊥) → Other gz rz q (Stays q)
   on_reference q m a = by (same_place q.at h)
     where
       b : OfBorrows gk q (things_of k)
@@ -286,8 +287,8 @@ module _ (k z : Cluster) (at h : Location) (r : MutRef) (c : HasPlaces k) (d : H
       stood : value_in gk q.at ≡ Some (value.Mut q.reference)
       stood = borrow_stands k c q.at q.reference b.among
 
-      there : (m1 : MutRef) → value_in gz q.at ≡ Some (value.Mut m1) → m1.holder ≡ q.reference.holder → m1.first ≡ q.reference.first → m1.object ≡ q.reference.object → ((q.at ≡ h → ⊥) → m1 ≡ q.reference) → Other gz rz q Nothing
-      there m1 e f i j g = record {
+      there : (m1 : MutRef) → value_in gz q.at ≡ Some (value.Mut m1) → m1.holder ≡ q.reference.holder → m1.first ≡ q.reference.first → m1.object ≡ q.reference.object → ((q.at ≡ h → ⊥) → m1 ≡ q.reference) → (q.at ≡ h → Stays q m1) → Other gz rz q (Stays q)
+      there m1 e f i j g w = record {
         reference = record { at = q.at; holder = holder_of gz q.at m1.holder; reference = m1 };
         among = reference_there z q.at m1 e;
         at_same = refl;
@@ -295,14 +296,17 @@ module _ (k z : Cluster) (at h : Location) (r : MutRef) (c : HasPlaces k) (d : H
         first = i;
         object = j;
         elsewhere = g;
-        kept = λ f. tt;
+        kept = w;
       }
 
-      by : (q.at ≡ h) ⊎ (q.at ≡ h → ⊥) → Other gz rz q Nothing
+      kept : (m1 : MutRef) → Kept r m1 q.reference → Stays q m1
+      kept m1 y w = ⊎_elim (λ (v : (r.word ≡ r.first) × (q.reference ≡ m1)). sym v.1) (λ (v : (r.word ≢ r.first) × (m1.dirty ≡ false)). absurd (v.0 w)) y.same
+
+      by : (q.at ≡ h) ⊎ (q.at ≡ h → ⊥) → Other gz rz q (Stays q)
       by (inl e) =
           let y = on_kept r u.old u.new q.reference u.back (some_is (sym u.before ∙ ap (value_in gk) (sym e) ∙ stood)) in
-          there y.0 (ap (value_in gz) e ∙ u.after ∙ ap Some y.1) (sym y.2.holder) (sym y.2.first) (sym y.2.object) (λ n. absurd (n e))
-      by (inr n) = there q.reference (seen_reference (value_in gz q.at) q.reference (u.elsewhere q.at a n ∙ ap pointing stood)) refl refl refl (λ f. refl)
+          there y.0 (ap (value_in gz) e ∙ u.after ∙ ap Some y.1) (sym y.2.holder) (sym y.2.first) (sym y.2.object) (λ n. absurd (n e)) (λ f. kept y.0 y.2)
+      by (inr n) = there q.reference (seen_reference (value_in gz q.at) q.reference (u.elsewhere q.at a n ∙ ap pointing stood)) refl refl refl (λ f. refl) (λ f. absurd (n f))
 
   -- the reference that ends is the one that stands there
   is_ended : (q : Reference) → Among q rk → q.at ≡ at → (q.reference ≡ r) × (q.holder ≡ Some h)
@@ -360,7 +364,7 @@ module _ (k z : Cluster) (at h : Location) (r : MutRef) (c : HasPlaces k) (d : H
   on_stale : (l : Location) → IsStale (sight k) (Some l) → IsStale (sight z) (Some l) ⊎ Regains rz h l
   on_stale l (changed_above q i held ch) = by (same_place q.at at)
     where
-      tested : (a : q.at ≡ at → ⊥) → (y : Other gz rz q Nothing) → (b : Bool) → changed y.reference.reference ≡ b → IsStale (sight z) (Some l) ⊎ Regains rz h l
+      tested : (a : q.at ≡ at → ⊥) → (y : Other gz rz q (Stays q)) → (b : Bool) → changed y.reference.reference ≡ b → IsStale (sight z) (Some l) ⊎ Regains rz h l
       tested a y true e = inl (changed_above y.reference y.among (ap (is_held_at l) y.holder ∙ held) e)
       tested a y false e =
           ⊎_elim (λ (s : q.at ≡ h). inr (joined_to y.reference y.among (ap (is_held_at l) y.holder ∙ held) e (the_holder (y.at_same ∙ s))))
@@ -371,7 +375,7 @@ module _ (k z : Cluster) (at h : Location) (r : MutRef) (c : HasPlaces k) (d : H
       by (inr a) = let y = on_reference q i a in tested a y (changed y.reference.reference) refl
   on_stale l (stale_above q i held s) = by (same_place q.at at) (λ f. on_stale q.at s)
     where
-      tested : (y : Other gz rz q Nothing) → Regains rz h q.at → (b : Bool) → changed y.reference.reference ≡ b → IsStale (sight z) (Some l) ⊎ Regains rz h l
+      tested : (y : Other gz rz q (Stays q)) → Regains rz h q.at → (b : Bool) → changed y.reference.reference ≡ b → IsStale (sight z) (Some l) ⊎ Regains rz h l
       tested y g true e = inl (changed_above y.reference y.among (ap (is_held_at l) y.holder ∙ held) e)
       tested y g false e = inr (joined_to y.reference y.among (ap (is_held_at l) y.holder ∙ held) e (subst (λ m. Regains rz h m) (sym y.at_same) g))
 
@@ -382,6 +386,24 @@ module _ (k z : Cluster) (at h : Location) (r : MutRef) (c : HasPlaces k) (d : H
           ⊎_elim (λ (t : IsStale (sight z) (Some q.at)). inl (stale_above y.reference y.among (ap (is_held_at l) y.holder ∙ held) (subst (λ m. IsStale (sight z) (Some m)) (sym y.at_same) t)))
           (λ (g : Regains rz h q.at). tested y g (changed y.reference.reference) refl) (go tt)
   on_stale l (taken_above m) = inl (taken_above (lent_on l m))
+
+  -- where the reference that ends has its first word, nothing becomes fresh
+  all_stale : r.word ≡ r.first → (l : Location) → IsStale (sight k) (Some l) → IsStale (sight z) (Some l)
+  all_stale w l (changed_above q i held ch) = by (same_place q.at at)
+    where
+      same_there : (a : q.at ≡ at → ⊥) → (y : Other gz rz q (Stays q)) → (q.at ≡ h) ⊎ (q.at ≡ h → ⊥) → y.reference.reference ≡ q.reference
+      same_there a y (inl e) = y.kept e w
+      same_there a y (inr n) = y.elsewhere n
+
+      by : (q.at ≡ at) ⊎ (q.at ≡ at → ⊥) → IsStale (sight z) (Some l)
+      by (inl e) = absurd (clean_unchanged r u.clean w (sym (ap changed (is_ended q i e).0) ∙ ch))
+      by (inr a) = let y = on_reference q i a in changed_above y.reference y.among (ap (is_held_at l) y.holder ∙ held) (ap changed (same_there a y (same_place q.at h)) ∙ ch)
+  all_stale w l (stale_above q i held s) = by (same_place q.at at) (λ f. all_stale w q.at s)
+    where
+      by : (q.at ≡ at) ⊎ (q.at ≡ at → ⊥) → (⊤ → IsStale (sight z) (Some q.at)) → IsStale (sight z) (Some l)
+      by (inl e) go = absurd (u.fresh (subst (λ m. IsStale (sight k) (Some m)) e s))
+      by (inr a) go = let y = on_reference q i a in stale_above y.reference y.among (ap (is_held_at l) y.holder ∙ held) (subst (λ m. IsStale (sight z) (Some m)) (sym y.at_same) (go tt))
+  all_stale w l (taken_above m) = taken_above (lent_on l m)
 
   -- the holder's pointer isn't stale
   holder_fresh : IsStale (sight z) (Some h) → ⊥
@@ -547,7 +569,7 @@ module _ (k z : Cluster) (at h : Location) (r : MutRef) (c : HasPlaces k) (d : H
       other_now : (q : Reference) → (i : Among q rz) → q.at ≡ h → (y : Other gk rk q (Was q)) → (u.old ≡ value.Mut y.reference.reference) → r.word ≢ r.first → q.reference.word ≢ q.reference.first
       other_now q i e y stood n s =
           ⊎_elim (λ (v : y.reference.reference.word ≡ y.reference.reference.first). n (now_first ∙ sym v ∙ ap (λ (x : Pointer). x.word) was_pointer))
-          (λ (v : y.reference.reference.word ≢ y.reference.reference.first). past.first_past y.reference y.among v (pointer_to at r.word r.object) ended_pointer u.fresh (sym (ap (λ (x : Pointer). x.object) was_pointer)) now_first)
+          (λ (v : y.reference.reference.word ≢ y.reference.reference.first). past y.reference y.among v (pointer_to at r.word r.object) ended_pointer u.fresh (sym (ap (λ (x : Pointer). x.object) was_pointer)) now_first)
           (same_or_other y.reference.reference.word y.reference.reference.first)
         where
           was_pointer : record { at = Some h; word = y.reference.reference.word; object = y.reference.reference.object } ≡ pointer_to h r.first r.object
@@ -556,28 +578,21 @@ module _ (k z : Cluster) (at h : Location) (r : MutRef) (c : HasPlaces k) (d : H
           now_first : r.word ≡ y.reference.reference.first
           now_first = sym (here q i e).0 ∙ s ∙ sym y.first
 
-      past_lent : (a q : Reference) → Among a rz → Among q rz → a.reference.dirty ≡ true → is_held_at a.at q.holder ≡ true → changed q.reference ≡ true
-      past_lent a q i j dirty held = by (same_place a.at h)
+      -- where it has another word, only the holder's pointer becomes fresh: a reference there has another word than its first one
+      only_holder : (l : Location) → r.word ≢ r.first → Regains rz h l → l ≡ h
+      only_holder l n (the_holder e) = e
+      only_holder l n (joined_to q i held un g) =
+          let e = only_holder q.at n g in
+          let y = back_reference q i in
+          absurd (other_now q i e y (y.kept e).1 n (unchanged q.reference un))
+
+      -- so what was stale is stale, but for the holder's pointer
+      stale_on : (l : Location) → IsStale (sight k) (Some l) → IsStale (sight z) (Some l) ⊎ (l ≡ h)
+      stale_on l s = by (same_or_other r.word r.first)
         where
-          x : Other gk rk a (Was a)
-          x = back_reference a i
-
-          y : Other gk rk q (Was q)
-          y = back_reference q j
-
-          held_before : is_held_at a.at y.reference.holder ≡ true
-          held_before = ap (is_held_at a.at) y.holder ∙ held
-
-          so : changed y.reference.reference ≡ true → (q.at ≡ h) ⊎ (q.at ≡ h → ⊥) → changed q.reference ≡ true
-          so ch (inr n) = sym (ap changed (y.elsewhere n)) ∙ ch
-          so ch (inl e) =
-              ⊎_elim (λ (v : (r.word ≡ r.first) × (y.reference.reference ≡ q.reference)). sym (ap changed v.1) ∙ ch)
-              (λ (v : (r.word ≢ r.first) × (q.reference.dirty ≡ false)). other_word q.reference (other_now q j e y (y.kept e).1 v.0)) (y.kept e).0.same
-
-          by : (a.at ≡ h) ⊎ (a.at ≡ h → ⊥) → changed q.reference ≡ true
-          by (inl e) = absurd (not_gone q j (sym y.at_same ∙ u.only y.reference y.among (subst (λ l. is_held_at l y.reference.holder ≡ true) e held_before)))
-          by (inr n) =
-              so (past.lent_changed x.reference y.reference x.among y.among (ap (λ (m : MutRef). m.dirty) (x.elsewhere n) ∙ dirty) (ap (λ l. is_held_at l y.reference.holder) x.at_same ∙ held_before)) (same_place q.at h)
+          by : (r.word ≡ r.first) ⊎ (r.word ≢ r.first) → IsStale (sight z) (Some l) ⊎ (l ≡ h)
+          by (inl w) = inl (all_stale w l s)
+          by (inr n) = ⊎_elim (λ (t : IsStale (sight z) (Some l)). inl t) (λ (g : Regains rz h l). inr (only_holder l n g)) (on_stale l s)
 
       -- before, a pointer to its object with its word wasn't stale
       record Stood (p : Pointer) : Type 0 where
@@ -621,8 +636,8 @@ module _ (k z : Cluster) (at h : Location) (r : MutRef) (c : HasPlaces k) (d : H
           by None e q = as_it_is p (among_first p (pointers_in (things_of k)) (taken_pointers k.code gk gk.threads) (u.loose p e q)) (nowhere e)
           by (Some l) e q = at_place l e q (same_place l h)
 
-      past_first : (a : Reference) → Among a rz → a.reference.word ≢ a.reference.first → (p : Pointer) → Among p (all_pointers (sight z)) → (IsStale (sight z) p.at → ⊥) → p.object ≡ a.reference.object → p.word ≢ a.reference.first
-      past_first a i n p m f e = by (same_place a.at h)
+      pub past_stays : PastWords (sight z)
+      past_stays a i n p m f e = by (same_place a.at h)
         where
           y : Other gk rk a (Was a)
           y = back_reference a i
@@ -630,7 +645,7 @@ module _ (k z : Cluster) (at h : Location) (r : MutRef) (c : HasPlaces k) (d : H
           as_before : y.reference.reference ≡ a.reference → p.word ≢ a.reference.first
           as_before s w =
               let g = stood p m f in
-              past.first_past y.reference y.among (λ x. n (sym (ap (λ (q : MutRef). q.word) s) ∙ x ∙ ap (λ (q : MutRef). q.first) s)) g.pointer g.among g.fresh (g.object ∙ e ∙ sym y.object) (g.word ∙ w ∙ sym y.first)
+              past y.reference y.among (λ x. n (sym (ap (λ (q : MutRef). q.word) s) ∙ x ∙ ap (λ (q : MutRef). q.first) s)) g.pointer g.among g.fresh (g.object ∙ e ∙ sym y.object) (g.word ∙ w ∙ sym y.first)
 
           now : (a.at ≡ h) → p.word ≢ a.reference.first
           now s w =
@@ -640,9 +655,6 @@ module _ (k z : Cluster) (at h : Location) (r : MutRef) (c : HasPlaces k) (d : H
           by : (a.at ≡ h) ⊎ (a.at ≡ h → ⊥) → p.word ≢ a.reference.first
           by (inr s) = as_before (y.elsewhere s)
           by (inl s) = now s
-
-      pub past_stays : PastWords (sight z)
-      past_stays = record { lent_changed = past_lent; first_past = past_first }
 
     -- DIRTY REFERENCES
 
@@ -668,16 +680,9 @@ module _ (k z : Cluster) (at h : Location) (r : MutRef) (c : HasPlaces k) (d : H
       same_one : y.reference.reference ≡ q.reference
       same_one = y.elsewhere not_holder
 
-      -- what was made from it is changed, so it wasn't stale
-      lent : (p : Reference) → Among p rz → is_held_at q.at p.holder ≡ true → changed p.reference ≡ false → ⊥
-      lent p i held un = let t : true ≡ false = sym (past_lent past q p m i dirty held) ∙ un in absurd cc
-
-      regained : Regains rz h q.at → ⊥
-      regained (the_holder e) = not_holder e
-      regained (joined_to p i held un g) = lent p i held un
-
+      -- so it wasn't stale
       was_fresh : IsStale (sight k) (Some q.at) → ⊥
-      was_fresh s = ⊎_elim fresh regained (on_stale q.at s)
+      was_fresh s = ⊎_elim fresh not_holder (stale_on past q.at s)
 
       was_alone : IsAlone (sight k) y.reference
       was_alone = alone y.reference y.among (ap (λ (n : MutRef). n.dirty) same_one ∙ dirty) (λ s. was_fresh (subst (λ l. IsStale (sight k) (Some l)) y.at_same s))

@@ -53,7 +53,7 @@ pub record Ended (k z : Cluster) (at h : Location) (r : MutRef) : Type 0 where
   pub lay : (m a : ℕ) (c : Cell) → Among (lies m a c) (things_of z) → LiesThere k m a c.object
 
 -- then each object keeps its word: what becomes fresh is the pointer at h, and what is joined to that by references that aren't changed, so has the same word;
--- references know the words at their holders; dirty references are alone; and what was before the words of today is as it was
+-- references know the words at their holders; dirty references are alone; and no first word that was left is a word of today
 pub record EndsLeaveWords : Type 0 where
   pub words : (k z : Cluster) (at h : Location) (r : MutRef) → HasPlaces k → HasPlaces z → Ended k z at h r → Holds k first_at_holder → (b : HasWords (sight k)) → WordsStay (sight k) (sight z) b
   pub holders : (k z : Cluster) (at h : Location) (r : MutRef) → HasPlaces k → HasPlaces z → Ended k z at h r → Holds k first_at_holder → Holds z first_at_holder

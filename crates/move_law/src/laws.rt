@@ -12,8 +12,8 @@ pub fn moves_reword()
 {}
 
 /// Where a clean mutable reference that isn't stale ends, and the pointer that it was made from gets its word, each object has the word that it had: what becomes
-/// fresh is that pointer, and what is joined to it by unchanged references. References know the words at their holders, dirty references are alone, what
-/// was made from dirty ones is changed, and no first word that was left is a word of today. An event of a cluster is such an end.
+/// fresh is that pointer, and what is joined to it by unchanged references. References know the words at their holders, dirty references are alone,
+/// and no first word that was left is a word of today. An event of a cluster is such an end.
 pub fn ends_leave_words()
     ensures words { EndsLeaveWords }
     ensures applies { EndsApply }

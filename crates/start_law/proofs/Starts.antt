@@ -17,7 +17,7 @@ use Rattle.fr_base.specs.declared.place.Lval.{Lval}
 use Rattle.thread_state.specs.declared.value.Value.{Value}
 use Rattle.global_addr.specs.Words.{colour_of}
 use Rattle.heap_law.specs.Paths.{written_place}
-use Rattle.heap_law.specs.Placing.{sum_over, words, next_colours, other_spot, other_first, shared_words, not_alone, lends_unchanged, first_again, standing_in, other_copy, unclean}
+use Rattle.heap_law.specs.Placing.{sum_over, words, next_colours, other_spot, other_first, shared_words, not_alone, first_again, standing_in, other_copy, unclean}
 use Rattle.heap_law.specs.Walking.{sum_threads, instr_of, path, over_place, away, copied_box, stale_hop, hop_count, too_far, is_join, walks_at_join, own_request}
 use Rattle.heap_law.specs.Ranks.{Step, steps_of, endless}
 use Rattle.heap_law.specs.Weights.{cells, owners, states, uses_of, users_of, is_home_of, shares_of, shares_at_home, tasks_of, is_thread}
@@ -25,7 +25,7 @@ use Rattle.heap_law.specs.Requests.{halves_to, halves_needed, carries, misrouted
 use Rattle.heap_law.specs.Sharing.{mutexes, there_at, elsewhere, contents, loose_mark, queued_inside, kept_for_none, going_notes, goes_on, noted_away, owed, results}
 use Rattle.heap_law.specs.Rooted.{ownings, ownings_of, parents, parents_of, other_result}
 use Rattle.heap_law.specs.OneHeap.{same_node}
-use Rattle.heap_law.specs.Coherent.{Sentence, are_issued, below_limit, same_word, lead_home, first_at_holder, different_words, dirty_alone, dirty_lend_changed, firsts_are_past, copies_agree, served_are_clean, passed_lie_here, passed_not_copied, passed_not_stale, passed_in_a_walk, passed_within, walk_empty, join_walks_nothing, parcels_ready, place_followed, waits_in_turn, asks_others, carry_what_is_asked, go_right, return_right, askers_stand, objects_there, phases_stand, par_ends, pairs_go_on, taken_stands, taken_is_new, gifts_got, gifts_fit, named_are_there, at_their_home, marks_in_slots, queue_while_out, content_without_shares, thread_homes, noted_at_home, pairs_unnamed, over_are_bare, branches_give_unit, objects_made, names_counted, counts_from_one, few_names, counts_bounded, parts_are_typed, holders_short, breaches_in, Holds, OneHome, OneOwner, Words, Copies, Walks, Users, Requests, MutexesAndTasks, Rooted, Names, Parts, IsSound}
+use Rattle.heap_law.specs.Coherent.{Sentence, are_issued, below_limit, same_word, lead_home, first_at_holder, different_words, dirty_alone, firsts_are_past, copies_agree, served_are_clean, passed_lie_here, passed_not_copied, passed_not_stale, passed_in_a_walk, passed_within, walk_empty, join_walks_nothing, parcels_ready, place_followed, waits_in_turn, asks_others, carry_what_is_asked, go_right, return_right, askers_stand, objects_there, phases_stand, par_ends, pairs_go_on, taken_stands, taken_is_new, gifts_got, gifts_fit, named_are_there, at_their_home, marks_in_slots, queue_while_out, content_without_shares, thread_homes, noted_at_home, pairs_unnamed, over_are_bare, branches_give_unit, objects_made, names_counted, counts_from_one, few_names, counts_bounded, parts_are_typed, holders_short, breaches_in, Holds, OneHome, OneOwner, Words, Copies, Walks, Users, Requests, MutexesAndTasks, Rooted, Names, Parts, IsSound}
 use Rattle.std.proofs.lemmas.Bool.{leb-true, eq-eqb}
 use Rattle.std.proofs.lemmas.Bool.Decides.{nat_tests}
 use Rattle.heap_law.proofs.Names.{and_left}
@@ -228,7 +228,7 @@ module _ (code : List Instr) (table : Table) (is : IsTable code table) (o : Opti
     first_at_holder = holds first_at_holder (ap (tot (other_first shown.ground)) none_borrowed);
     different_words = holds different_words (sum (shared_words shown) (λ s. refl) refl);
     dirty_alone = dirty_law.from_count start (holds dirty_alone (ap (λ rs. tot (not_alone shown rs) rs) none_borrowed));
-    past_words = past_law.from_counts start (holds dirty_lend_changed (ap (λ rs. tot (lends_unchanged rs) rs) none_borrowed)) (holds firsts_are_past (ap (tot (first_again shown.pointers)) none_borrowed));
+    past_words = past_law.from_count start (holds firsts_are_past (ap (tot (first_again shown.pointers)) none_borrowed));
   }
 
   copies : Copies start

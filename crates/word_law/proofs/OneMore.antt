@@ -82,15 +82,12 @@ module _ (k z : Cluster) (p : Pointer) (c : HasPlaces k) (d : HasPlaces z) (u : 
       }
 
   past_stays : PastWords (sight k) → PastWords (sight z)
-  past_stays f = record {
-    lent_changed = λ q g i j e h. f.lent_changed q g (back_reference q i) (back_reference g j) e h;
-    first_past = λ q i n x m fresh e. first q (back_reference q i) n x (back_all x m) fresh e;
-  }
+  past_stays f q i n x m fresh e = first q (back_reference q i) n x (back_all x m) fresh e
     where
       first : (q : Reference) → Among q (references gk (things_of k)) → q.reference.word ≢ q.reference.first → (x : Pointer) → (p ≡ x) ⊎ Among x (all_pointers (sight k)) → (IsStale (sight z) x.at → ⊥) → x.object ≡ q.reference.object → x.word ≢ q.reference.first
       first q i n x (inl s) fresh e g =
-          f.first_past q i n u.beside.pointer u.beside.among u.beside.fresh (u.beside.object ∙ ap (λ (a : Pointer). a.object) s ∙ e) (u.beside.word ∙ ap (λ (a : Pointer). a.word) s ∙ g)
-      first q i n x (inr m) fresh e g = f.first_past q i n x m (λ s. fresh (on_stale x.at s)) e g
+          f q i n u.beside.pointer u.beside.among u.beside.fresh (u.beside.object ∙ ap (λ (a : Pointer). a.object) s ∙ e) (u.beside.word ∙ ap (λ (a : Pointer). a.word) s ∙ g)
+      first q i n x (inr m) fresh e g = f q i n x m (λ s. fresh (on_stale x.at s)) e g
 
 pub one_more_stays : OneMoreStays
 one_more_stays k z p c d u = record { words = λ b. words_stay k z p c d u b; holders = holders_stay k z p c d u; dirty = dirty_stays k z p c d u; past = past_stays k z p c d u }

@@ -1,14 +1,13 @@
--- Where one pointer gets another word, references that were made from dirty ones are changed, and first words that were left are no words of today.
+-- Where one pointer gets another word, first words that were left are no words of today.
 use Rattle.std.proofs.Common.{◌≡◌, ◌≢◌, ◌⊎◌, inl, inr, ⊎_elim, ℕ, true, false, Option, Some, None, refl, sym, ap, subst, ◌∙◌}
 use Rattle.fr_base.specs.declared.name.ObjNo.{ObjNo}
 use Rattle.mut_borrow.specs.declared.mutable.MutRef.{MutRef}
-use Rattle.mut_borrow.specs.Refs.{changed}
 use Rattle.thread_state.specs.declared.value.Value.TheVariants as value
 use Rattle.server_model.specs.Servers.{Cluster}
 use Rattle.heap_law.specs.Names.{Among, other}
 use Rattle.heap_law.specs.Things.{Location, borrows, things_of}
 use Rattle.heap_law.specs.Follow.{Ground, value_in}
-use Rattle.heap_law.specs.Stale.{Reference, references, holder_of, is_held_at}
+use Rattle.heap_law.specs.Stale.{Reference, references, holder_of}
 use Rattle.heap_law.specs.Sight.{Pointer, pointers_in, taken_pointers, sight, issued}
 use Rattle.heap_law.specs.Placing.{words}
 use Rattle.heap_law.specs.Coherent.{Holds, are_issued}
@@ -18,12 +17,11 @@ use Rattle.heap_law.proofs.Bags.{among_split}
 use Rattle.heap_law.proofs.Names.{right_none}
 use Rattle.heap_law.proofs.Words.{none_at}
 use Rattle.path_law.proofs.Shown.{none_else}
-use Rattle.path_law.proofs.Sole.{some_is}
 use Rattle.path_law.proofs.Contained.{reference_there}
 use Rattle.word_law.specs.WordsAfter.{Rewrites, IsNoFirst, AreNoFirsts, PastGoesOn}
 use Rattle.word_law.proofs.GoOn.{pointer_to, same_or_not, StoodElsewhere}
 use Rattle.word_law.proofs.Standing.{told, borrow_stands}
-use Rattle.word_law.proofs.Grounds.{Opposite, of_borrows, same_place, holders_same, before, still_stale}
+use Rattle.word_law.proofs.Grounds.{of_borrows, same_place, holders_same, still_stale}
 use Rattle.word_law.proofs.Words.{places, at_h, stood, only, taken_nowhere}
 
 -- a reference's first word was issued
@@ -35,7 +33,7 @@ first_issued k all l q h =
 pub are_no_firsts : AreNoFirsts
 are_no_firsts = record {
   unissued = λ k o w all new r m e n s. (let t : true ≡ false = sym (first_issued k all r.at r.reference (of_borrows (sight k).ground r (things_of k) m).among) ∙ ap (issued (sight k)) (sym s) ∙ new in absurd cc);
-  present = λ k p past m fresh r i e n. past.first_past r i n p m fresh (sym e);
+  present = λ k p past m fresh r i e n. past r i n p m fresh (sym e);
 }
 
 module _ (k z : Cluster) (h : Location) (o : ObjNo) (w : ℕ) (r : Rewrites k z h o w) (new : IsNoFirst k o w) (past : PastWords (sight k)) where
@@ -55,19 +53,6 @@ module _ (k z : Cluster) (h : Location) (o : ObjNo) (w : ℕ) (r : Rewrites k z 
       let there = reference_there k q.at q.reference (sym (r.reworded.elsewhere q.at n) ∙ here q m) in
       let same : holder_of gk q.at q.reference.holder ≡ q.holder = sym (holders_same k z h o w r.reworded q.at q.reference.holder) ∙ sym b.holder in
       subst (λ (l : Option Location). Among (record { at = q.at; holder = l; reference = q.reference }) (references gk (things_of k))) same there
-
-  unmade : (q : Reference) → Among q (references gz (things_of z)) → is_held_at h q.holder ≡ true → ⊥
-  unmade q m e =
-      let y : Opposite k z h o w r.reworded gk (references gk (things_of k)) q = (before k z h o w r.reworded (places k z h o w r) r.places q m).0 in
-      r.only.unmade y.reference y.among (ap (is_held_at h) y.holder ∙ e)
-
-  lent : (a q : Reference) → Among a (references gz (things_of z)) → Among q (references gz (things_of z)) → a.reference.dirty ≡ true → is_held_at a.at q.holder ≡ true → changed q.reference ≡ true
-  lent a q i j d e = by (same_place a.at h) (same_place q.at h)
-    where
-      by : (a.at ≡ h) ⊎ (a.at ≡ h → ⊥) → (q.at ≡ h) ⊎ (q.at ≡ h → ⊥) → changed q.reference ≡ true
-      by (inl s) y = absurd (unmade q j (subst (λ l. is_held_at l q.holder ≡ true) s e))
-      by (inr n) (inl s) = r.reworded.changed q.reference (some_is (sym r.reworded.stands ∙ ap (value_in gz) (sym s) ∙ here q j))
-      by (inr n) (inr m) = past.lent_changed a q (was a i n) (was q j m) d e
 
   -- a pointer at h has the new word, and its object
   at_place : (p : Pointer) → Among p (all_pointers (sight z)) → p.at ≡ Some h → p ≡ pointer_to h w o
@@ -94,7 +79,7 @@ module _ (k z : Cluster) (h : Location) (o : ObjNo) (w : ℕ) (r : Rewrites k z 
 
       elsewhere : (a.reference.object ≡ o → ⊥) → (p ≡ pointer_to h w o) ⊎ StoodElsewhere (sight k) h p → p.word ≢ a.reference.first
       elsewhere n (inl s) = absurd (n (sym e ∙ ap (λ (g : Pointer). g.object) s))
-      elsewhere n (inr y) = past.first_past a (was a i (λ s. n (ap (λ (g : Pointer). g.object) (reference_at a i s)))) c p y.among (λ s. f (still p.at s)) e
+      elsewhere n (inr y) = past a (was a i (λ s. n (ap (λ (g : Pointer). g.object) (reference_at a i s)))) c p y.among (λ s. f (still p.at s)) e
 
       by : (a.reference.object ≡ o) ⊎ (a.reference.object ≡ o → ⊥) → p.word ≢ a.reference.first
       by (inl s) =
@@ -103,4 +88,4 @@ module _ (k z : Cluster) (h : Location) (o : ObjNo) (w : ℕ) (r : Rewrites k z 
       by (inr n) = elsewhere n (stood k z h o w r p m)
 
 pub past_goes_on : PastGoesOn
-past_goes_on k z h o w r new past = record { lent_changed = lent k z h o w r new past; first_past = first k z h o w r new past }
+past_goes_on k z h o w r new past = first k z h o w r new past

@@ -186,10 +186,7 @@ module _ (k z : Cluster) (c : HasPlaces k) (d : HasPlaces z) (u : Untouched k z)
       }
 
   pub past_stays : PastWords (sight k) → PastWords (sight z)
-  past_stays f = record {
-    lent_changed = λ q g i j d h. f.lent_changed q g (back_reference q i) (back_reference g j) d h;
-    first_past = λ q i n p m fresh e. f.first_past q (back_reference q i) n p (back_all p m) (λ s. fresh (on_stale p.at s)) e;
-  }
+  past_stays f q i n p m fresh e = f q (back_reference q i) n p (back_all p m) (λ s. fresh (on_stale p.at s)) e
 
 pub untouched_stays : UntouchedStays
 untouched_stays k z c d u = record { words = λ b. words_stay k z c d u b; holders = holders_stay k z c d u; dirty = dirty_stays k z c d u; past = past_stays k z c d u }

@@ -53,7 +53,7 @@ pub record AreNoFirsts : Type 0 where
   pub unissued : (k : Cluster) (o : ObjNo) (w : ℕ) → Holds k are_issued → issued (sight k) w ≡ false → IsNoFirst k o w
   pub present : (k : Cluster) (p : Pointer) → PastWords (sight k) → Among p (all_pointers (sight k)) → (IsStale (sight k) p.at → ⊥) → IsNoFirst k p.object p.word
 
--- then references that were made from dirty ones are changed, and first words that were left are no words of today
+-- then first words that were left are no words of today
 abbrev pub PastGoesOn : Type 0
 PastGoesOn = (k z : Cluster) (h : Location) (o : ObjNo) (w : ℕ) → Rewrites k z h o w → IsNoFirst k o w → PastWords (sight k) → PastWords (sight z)
 

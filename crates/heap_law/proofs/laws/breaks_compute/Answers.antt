@@ -2,7 +2,7 @@ use Rattle.std.proofs.Common.{refl}
 use Rattle.heap_law.proofs.laws.breaks_compute.Goals as goal
 
 pub returns-clause-memory : goal.returns-clause-memory
-returns-clause-memory c = record { two_homes = refl; two_owners = refl; no_owner = refl; no_object = refl; not_issued = refl; no_colour = refl; two_words = refl; elsewhere = refl; live_and_free = refl; free_beyond = refl; other_first = refl; dirty_shared = refl; dirty_below = refl; unchanged_below = refl; first_word_again = refl; dirty_beside = refl; old_copy = refl; unclean_fetch = refl }
+returns-clause-memory c = record { two_homes = refl; two_owners = refl; no_owner = refl; no_object = refl; not_issued = refl; no_colour = refl; two_words = refl; elsewhere = refl; live_and_free = refl; free_beyond = refl; other_first = refl; dirty_shared = refl; dirty_below = refl; first_word_again = refl; dirty_beside = refl; old_copy = refl; unclean_fetch = refl }
 
 pub returns-clause-walks : goal.returns-clause-walks
 returns-clause-walks c = record { passed_away = refl; passed_copied = refl; passed_stale = refl; passed_stale_box = refl; passed_ready = refl; passed_reading = refl; ready_walk = refl; join_walk = refl; busy_parcel = refl; not_followed = refl; followed_by_old_copy = refl; needless = refl; asks_here = refl; no_user = refl; evicted = refl }
