@@ -5,9 +5,10 @@ use Rattle.std.specs.List.{AllByRecursion}
 use Rattle.std.proofs.lemmas.List.{append_assoc}
 use Rattle.fr_typing.proofs.PlaceLemmas.{eq_cases}
 use Rattle.fr_base.specs.declared.name.MutexNo.{MutexNo}
+use Rattle.heap_partition.specs.declared.value.Owned.{Owned}
 use Rattle.thread_state.specs.View.{ThreadState}
 use Rattle.heap_law.specs.Names.{tot, one, some, if_so}
-use Rattle.heap_law.specs.Things.{Thing, stands, noted, lies, flies, things_at, walk_things, slot_things, temp_things, gift_things, thread_things}
+use Rattle.heap_law.specs.Things.{as_gift, Thing, holds, stands, noted, lies, flies, things_at, walk_things, slot_things, temp_things, gift_things, thread_things}
 use Rattle.heap_law.specs.Follow.{Standing, threads_in, thread_at, cells_in}
 use Rattle.heap_law.specs.Sight.{Sight}
 use Rattle.heap_law.specs.OneHeap.{Node, mutex_n, a_thread, owns, names, owner_of, named_in, any_named, or_else, first_shown, share_in}
@@ -60,6 +61,11 @@ named_thread false go = refl
 pub so_one : (q : Bool) → if_so q 1 ≡ one q
 so_one true = refl
 so_one false = refl
+
+-- what a gift doesn't weigh
+pub gift_uncounted : (f : Thing → ℕ) (t : ℕ) (c : Thing) → ((v : Owned) → f (holds (as_gift t) v) ≡ 0) → (g : Option Owned) → tot f (gift_things t g ++ c ∷ []) ≡ f c
+gift_uncounted f t c h None = omega arith
+gift_uncounted f t c h (Some v) = omega (arith, h v)
 
 -- a thread's things: itself, its gift, and what else it has
 module _ (n : ℕ) (z : ThreadState) where

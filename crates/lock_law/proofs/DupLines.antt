@@ -111,7 +111,7 @@ module _ (k : Cluster) (co : IsCoherent k) (e : Event) (w : Lval) (s : Server) (
     temps_plain = shared_lines.temps_plain k co e i refl w s t y a h sp ready_h m am v gift slots temps
 
     no_content : (u : MutexNo) → first_shown (content_value s1 u) G1 ≡ None
-    no_content u = gift_contents k co.sound e i refl s t y a v gift refl u
+    no_content u = gift_contents k co.sound e i refl s t y a v gift u
 
     change : Change k Others G1 G2 s.rest.number y (y.pc + 1) slots temps m None None true (λ q. false)
     change = record {

@@ -20,7 +20,7 @@ use Rattle.heap_law.specs.Coherent.{IsSound}
 use Rattle.event_law.proofs.Bags.{counts_of}
 use Rattle.event_law.proofs.ThreadThere.{thread_there}
 use Rattle.turn_law.proofs.Events.{AtStep}
-use Rattle.lock_law.proofs.Beside.{IsBeside, IsLoose, loose_beside, all_so, itself}
+use Rattle.lock_law.proofs.Beside.{IsBeside, IsLoose, loose_beside, all_so, gift_uncounted, itself}
 use Rattle.lock_law.proofs.MutexTurns.{G, R, before, loose}
 use Rattle.lock_law.proofs.Changed.{spots_before}
 
@@ -61,7 +61,7 @@ module _ (k : Cluster) (sound : IsSound k) (e : Event) (i : Instr) (single : is_
       sym (spots_before k sound e s at.here t x at.at at.number (as_gift x.number)) ∙ ap (gift_owner_of (sight k)) (thread_there k sound e.server s at.here x.number x (subst (λ u. thread_in s.threads u ≡ Some x) (sym at.number) at.at)) ∙ ap (gift_owner (sight k) it) at.code
 
   module _ (v : Owned) (gift : x.gift ≡ Some v) where
-    is_it : g1 ≡ with_gift v
+    pub is_it : g1 ≡ with_gift v
     is_it = ap (λ g. gift_things x.number g ++ counts_here ∷ []) gift
 
     pub gift_names : (f : Node → Bool) (q : Node) → any_named s1 f q g1 ≡ named_in (owns q v) f (spot_owner s1 (as_gift x.number))
@@ -70,27 +70,25 @@ module _ (k : Cluster) (sound : IsSound k) (e : Event) (i : Instr) (single : is_
     pub gift_shares : (w : MutexNo) → tot (share_in s1 w) g1 ≡ if_so (owns (mutex_n w) v) (one (owner_in (is_in_state s1) (spot_owner s1 (as_gift x.number))))
     gift_shares w = ap (tot (share_in s1 w)) is_it ∙ omega arith
 
-    module _ (alone : joined_thread (Some i) x ≡ None) where
-      pub gift_results : (r : ℕ) → first_shown (result_value s1 r) g1 ≡ None
-      gift_results r =
-          ap (first_shown (result_value s1 r)) is_it ∙ ap (λ o. or_else (if_in (is_joined_by s1 r o) (Some (plain_of v))) None) found
-          ∙ ap (λ j. or_else (if_in (some (if_so (is_some x.gift) (one (is_task r (joined_thread j x))))) (Some (plain_of v))) None) at.code
-          ∙ ap (λ j. or_else (if_in (some (if_so (is_some x.gift) (one (is_task r j)))) (Some (plain_of v))) None) alone ∙ ap (λ c. or_else (if_in (some c) (Some (plain_of v))) None) (none_if (is_some x.gift))
+    pub gift_result : (r : ℕ) → first_shown (result_value s1 r) g1 ≡ if_in (some (one (is_task r (joined_thread (Some i) x)))) (Some (plain_of v))
+    gift_result r =
+        ap (first_shown (result_value s1 r)) is_it ∙ none_else (if_in (is_joined_by s1 r (thread_at s1.ground.threads x.number)) (Some (plain_of v))) ∙ ap (λ o. if_in (is_joined_by s1 r o) (Some (plain_of v))) found
+        ∙ ap (λ j. if_in (some (if_so (is_some x.gift) (one (is_task r (joined_thread j x))))) (Some (plain_of v))) at.code
+        ∙ ap (λ g. if_in (some (if_so (is_some g) (one (is_task r (joined_thread (Some i) x))))) (Some (plain_of v))) gift
 
-      pub gift_contents : (w : MutexNo) → first_shown (content_value s1 w) g1 ≡ if_in (some (one (is_mutex w (locked_mutex s1 it (Some i))))) (Some (plain_of v))
-      gift_contents w =
-          ap (first_shown (content_value s1 w)) is_it ∙ none_else (if_in (is_gift_of s1 w (thread_at s1.ground.threads x.number)) (Some (plain_of v))) ∙ ap (λ o. if_in (is_gift_of s1 w o) (Some (plain_of v))) found
-          ∙ ap (λ j. if_in (some (if_so (is_some x.gift) (one (is_mutex w (locked_mutex s1 it j))))) (Some (plain_of v))) at.code
-          ∙ ap (λ g. if_in (some (if_so (is_some g) (one (is_mutex w (locked_mutex s1 it (Some i)))))) (Some (plain_of v))) gift
+    pub gift_results : joined_thread (Some i) x ≡ None → (r : ℕ) → first_shown (result_value s1 r) g1 ≡ None
+    gift_results alone r = gift_result r ∙ ap (λ j. if_in (some (one (is_task r j))) (Some (plain_of v))) alone
+
+    pub gift_contents : (w : MutexNo) → first_shown (content_value s1 w) g1 ≡ if_in (some (one (is_mutex w (locked_mutex s1 it (Some i))))) (Some (plain_of v))
+    gift_contents w =
+        ap (first_shown (content_value s1 w)) is_it ∙ none_else (if_in (is_gift_of s1 w (thread_at s1.ground.threads x.number)) (Some (plain_of v))) ∙ ap (λ o. if_in (is_gift_of s1 w o) (Some (plain_of v))) found
+        ∙ ap (λ j. if_in (some (if_so (is_some x.gift) (one (is_mutex w (locked_mutex s1 it j))))) (Some (plain_of v))) at.code
+        ∙ ap (λ g. if_in (some (if_so (is_some g) (one (is_mutex w (locked_mutex s1 it (Some i)))))) (Some (plain_of v))) gift
 
   -- THE COUNTS
 
-  gift_uncounted : (f : Thing → ℕ) → ((v : Owned) → f (holds (as_gift x.number) v) ≡ 0) → (g : Option Owned) → tot f (gift_things x.number g ++ counts_here ∷ []) ≡ f counts_here
-  gift_uncounted f h None = omega arith
-  gift_uncounted f h (Some v) = omega (arith, h v)
-
   pub started_here : (h c : ℕ) → tot (started_at h c) g1 ≡ started_at h c counts_here
-  started_here h c = gift_uncounted (started_at h c) (λ v. refl) x.gift
+  started_here h c = gift_uncounted (started_at h c) x.number counts_here (λ v. refl) x.gift
 
   pub made_here : (h c : ℕ) → tot (made_at h c) g1 ≡ made_at h c counts_here
-  made_here h c = gift_uncounted (made_at h c) (λ v. refl) x.gift
+  made_here h c = gift_uncounted (made_at h c) x.number counts_here (λ v. refl) x.gift

@@ -104,7 +104,7 @@ module _ (k : Cluster) (co : IsCoherent k) (e : Event) (w : Lval) (s : Server) (
     temps_plain = shared_lines.temps_plain k co e i refl w s t y a h sp ready_h m am v gift slots temps
 
     content_in : (u : MutexNo) → first_shown (content_value s1 u) G1 ≡ if_in (some (one (is_mutex u (Some m)))) (Some (plain_of v))
-    content_in u = gift_contents k co.sound e i refl s t y a v gift refl u ∙ ap (λ o. if_in (some (one (is_mutex u o))) (Some (plain_of v))) locked
+    content_in u = gift_contents k co.sound e i refl s t y a v gift u ∙ ap (λ o. if_in (some (one (is_mutex u o))) (Some (plain_of v))) locked
 
     content_here : first_shown (content_value s1 m) G1 ≡ Some (plain_of v)
     content_here = content_in m ∙ ap (λ b. if_in (some (one b)) (Some (plain_of v))) (itself_named m)

@@ -40,7 +40,8 @@ use Rattle.lock_law.proofs.Beside.{giftless, IsBeside, IsLoose, loose_beside, al
 use Rattle.lock_law.proofs.OneThread.{past}
 use Rattle.lock_law.proofs.Changed as changed
 
-gift_loose : (t : ℕ) (c : Thing) → IsLoose c → (g : Option Owned) → AllByRecursion IsLoose (gift_things t g ++ c ∷ [])
+-- a gift and another thing
+pub gift_loose : (t : ℕ) (c : Thing) → IsLoose c → (g : Option Owned) → AllByRecursion IsLoose (gift_things t g ++ c ∷ [])
 gift_loose t c h None = (h, tt)
 gift_loose t c h (Some v) = (tt, (h, tt))
 

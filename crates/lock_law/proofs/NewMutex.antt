@@ -15,7 +15,7 @@ use Rattle.server_model.specs.declared.event.Event.{Event}
 use Rattle.server_model.specs.Servers.{Server, Cluster, server_at}
 use Rattle.server_model.specs.Work.{thread_in}
 use Rattle.heap_law.specs.Names.{tot, one, other, some, if_so, same_mutex, Among}
-use Rattle.heap_law.specs.Things.{in_slot, in_temp, as_gift, as_content, as_result, in_hand, Thing, holds, lies, flies, stands, at_home, counts, gift_things, things_of}
+use Rattle.heap_law.specs.Things.{in_slot, in_temp, as_gift, as_content, as_result, in_hand, Thing, holds, lies, flies, stands, at_home, counts, things_of}
 use Rattle.heap_law.specs.Follow.{Standing, threads_in, thread_at}
 use Rattle.heap_law.specs.Sight.{Sight, sight, with_things}
 use Rattle.heap_law.specs.Walking.{instr_of, sum_threads}
@@ -39,7 +39,7 @@ use Rattle.turn_law.proofs.Events.{itself_counts}
 use Rattle.lock_law.proofs.Reach.{NoneUnder}
 use Rattle.lock_law.proofs.Changed as changed
 use Rattle.lock_law.proofs.Changed.{same_things, spots_before, unstray}
-use Rattle.lock_law.proofs.Beside.{giftless, tot_of}
+use Rattle.lock_law.proofs.Beside.{giftless, gift_uncounted, tot_of}
 use Rattle.lock_law.proofs.Places.{itself_named}
 
 -- NUMBERS
@@ -218,10 +218,6 @@ module _ (k : Cluster) (sound : IsSound k) (e : Event) (s : Server) (here : serv
       let parts : servers_wrong (sight k) 0 k.servers + sum_threads (sight k) pinned_parcel ≡ 0 = sound.parts.parts_are_typed in
       home_number (sight k) 0 e.server k.servers s (omega (arith, parts)) here
 
-  counts_alone : (f : Thing → ℕ) → ((v : Owned) → f (holds (as_gift x.number) v) ≡ 0) → (g : Option Owned) → tot f (gift_things x.number g ++ counts_of n s.events s.rest ∷ []) ≡ f (counts_of n s.events s.rest)
-  counts_alone f h None = omega arith
-  counts_alone f h (Some v) = omega (arith, h v)
-
   -- no server has counted it
   unmade_here : tot (made_at n m.count) (things_of k) ≡ 0
   unmade_here =
@@ -235,8 +231,8 @@ module _ (k : Cluster) (sound : IsSound k) (e : Event) (s : Server) (here : serv
         same_things k sound e s here t x at number (made_at n m.count),
         tot_of n x G R (is_server n) unseen,
         tot_of n x G R (made_at n m.count) flat,
-        counts_alone (is_server n) (λ v. refl) x.gift,
-        counts_alone (made_at n m.count) (λ v. refl) x.gift,
+        gift_uncounted (is_server n) x.number (counts_of n s.events s.rest) (λ v. refl) x.gift,
+        gift_uncounted (made_at n m.count) x.number (counts_of n s.events s.rest) (λ v. refl) x.gift,
         itself_counts n,
         too_many (n == n) m.count s.rest.mutexes.made (omega arith),
         tot_le (made_at n m.count) (is_server n) (counts_its_server n m.count) R,

@@ -20,12 +20,12 @@ use Rattle.still_law.proofs.Counting.{shown_result}
 use Rattle.still_law.proofs.Told.{told, ones}
 use Rattle.plain_types.proofs.Mutexes.{mutex_cases}
 use Rattle.heap_law.proofs.Names.{same_mutexes}
-use Rattle.turn_law.proofs.Parts.{owned_in}
+use Rattle.turn_law.proofs.Parts.{Own, owned_in}
 use Rattle.turn_law.proofs.OneTurn.{of_thread, Calm, after}
 use Rattle.lock_law.proofs.Reach.{or_cases, or_left, or_right, NoneUnder, with_extra, here, stays_in, comes_from}
-use Rattle.lock_law.proofs.Beside.{IsBeside, IsLoose, loose_beside, all_so, mine, any_mine, cells_of}
+use Rattle.lock_law.proofs.Beside.{IsBeside, IsLoose, loose_beside, all_so, mine, any_mine, tot_of, cells_of}
 use Rattle.lock_law.proofs.OneThread as one_thread
-use Rattle.lock_law.proofs.OneThread.{GoesOn, y, a, b, s, s2, LocksStay, locks_stay, same_owners}
+use Rattle.lock_law.proofs.OneThread.{GoesOn, y, a, b, s, s2, LocksStay, same_but, locks_stay, same_owners}
 
 -- what a content names, in its mutex
 abbrev pub named_under : (Node → Bool) → Node → MutexNo → Option Owned → Bool
@@ -139,7 +139,12 @@ module _ (k : Cluster) (R G G2 : List Thing) (n : ℕ) (x : ThreadState) (pc : �
       → ((w : MutexNo) → tot (λ v. told ones (content_value (s2 k R G G2 n x z0) w v)) G2 + tot (λ v. told ones (content_value (s k R G G2 n x z0) w v)) R ≤ 1)
       → ((r : ℕ) → tot (λ v. told ones (shown_result (s2 k R G G2 n x z0) r v)) G2 ≡ 0) → Once (s2 k R G G2 n x z0)
   once_then once few ends =
-      one_thread.once_on k R G G2 n x z0 beside beside2 lone locks calm calm0 once (λ o. omega (arith, loose_cells o G2 loose2)) few (λ r. omega (arith, ends r))
+      one_thread.once_on k R G G2 n x z0 beside beside2 lone locks calm calm0 once cells few (λ r. omega (arith, ends r))
+    where
+      cells : (o : ObjNo) → tot (λ v. told ones (cell_value o v)) G2 + tot (λ v. told ones (cell_value o v)) R ≤ 1
+      cells o =
+          let flat : Own (λ v. told ones (cell_value o v) ≡ 0) = record { slots = λ w i v. refl; temps = λ w i v. refl; shared = λ l w. refl; lent = λ l w. refl; marks = λ l w. refl; used = λ w v. refl } in
+          omega (arith, loose_cells o G2 loose2, once.cells o, tot_of n x G R (λ v. told ones (cell_value o v)) flat)
 
   module _ (m : MutexNo) (under under2 : Option Owned) (fresh : Bool) (even : (q : Node) → own q + owned_under q under + new_share fresh q m ≡ own2 q + owned_under q under2)
       (named : (f : Node → Bool) (q : Node) → any_named (s k R G G2 n x z0) f q G ≡ named_under f q m under) (named2 : (f : Node → Bool) (q : Node) → any_named (s2 k R G G2 n x z0) f q G2 ≡ named_under f q m under2)
@@ -202,6 +207,9 @@ module _ (k : Cluster) (R G G2 : List Thing) (n : ℕ) (x : ThreadState) (pc : �
         by true e false f = absurd (cc (sym f ∙ come q e))
         by false e true f = absurd (cc (sym e ∙ or_cases (In q) (extra q) (In2 q ≡ true) (stay q) (extra_in q) f))
 
+    in_same : (q : Node) → extra q ≡ false → In q ≡ In2 q
+    in_same = same_but In In2 extra in_then
+
     -- WHAT IS AS IT WAS
 
     abbrev s_now : Sight
@@ -224,15 +232,15 @@ module _ (k : Cluster) (R G G2 : List Thing) (n : ℕ) (x : ThreadState) (pc : �
         (shares1 : (w : MutexNo) → tot (share_in s_now w) G ≡ owned_under (mutex_n w) under) (shares2 : (w : MutexNo) → tot (share_in s_then w) G2 ≡ owned_under (mutex_n w) under2)
         (contents : (w : MutexNo) → w ≢ m → first_shown (content_value s_now w) G ≡ first_shown (content_value s_then w) G2) where
       pub thread_goes : is_given_thread s_now x.number ≡ true → GoesOn x.number (running_at x) (running_at y1) (state_of s_now) (state_of s_then)
-      thread_goes named_it = one_thread.goes_on k R G G2 n x z0 beside beside2 lone locks extra none in_then no_task results calm calm0 started refl named_it
+      thread_goes named_it = one_thread.goes_on k R G G2 n x z0 beside beside2 lone locks extra none in_same no_task results calm calm0 started refl named_it
 
       pub objects_stay : (o : ObjNo) → object_value s_now o ≡ object_value s_then o
       objects_stay o =
-          one_thread.object_same k R G G2 n x z0 beside beside2 lone locks extra none in_then no_task results o (no_object o) (loose_objects o G loose ∙ sym (loose_objects o G2 loose2))
+          one_thread.object_same k R G G2 n x z0 beside beside2 lone locks extra none in_same o (no_object o) (loose_objects o G loose ∙ sym (loose_objects o G2 loose2))
 
       -- the shares of each mutex
       pub shares_then : (w : MutexNo) → tot (share_in s_then w) (b k R G G2 n x z0) ≡ tot (share_in s_now w) (a k R G G2 n x z0) + new_share fresh (mutex_n w) m
-      shares_then w = omega (arith, one_thread.shares_go_on k R G G2 n x z0 beside beside2 lone locks extra none in_then no_task results w, shares1 w, shares2 w, even (mutex_n w))
+      shares_then w = omega (arith, one_thread.shares_go_on k R G G2 n x z0 beside beside2 lone locks extra none in_same w, shares1 w, shares2 w, even (mutex_n w))
 
       none_new : (w : MutexNo) → w ≢ m → new_share fresh (mutex_n w) m ≡ 0
       none_new w ne = by fresh
@@ -243,16 +251,16 @@ module _ (k : Cluster) (R G G2 : List Thing) (n : ℕ) (x : ThreadState) (pc : �
 
       pub others_stay : (w : MutexNo) → w ≢ m → (state_of s_now).mutex w ≡ (state_of s_then).mutex w
       others_stay w ne =
-          one_thread.mutex_same k R G G2 n x z0 beside beside2 lone locks extra none in_then no_task results w (no_other w ne) (contents w ne) (omega (arith, shares1 w, shares2 w, even (mutex_n w), none_new w ne))
+          one_thread.mutex_same k R G G2 n x z0 beside beside2 lone locks extra none in_same w (no_other w ne) (contents w ne) (omega (arith, shares1 w, shares2 w, even (mutex_n w), none_new w ne))
 
       -- the mutex itself, where it is in the state
       pub it_before : In (mutex_n m) ≡ true → (state_of s_now).mutex m ≡ Some (record { content = or_else (first_shown (content_value s_now m) G) (first_shown (content_value s_now m) R); shares = tot (share_in s_now m) (a k R G G2 n x z0) })
       it_before e =
           ap (λ q. if_there q (record { content = first_shown (content_value s_now m) (a k R G G2 n x z0); shares = tot (share_in s_now m) (a k R G G2 n x z0) })) e
-          ∙ ap (λ o. shared_as o (tot (share_in s_now m) (a k R G G2 n x z0))) (one_thread.content_before k R G G2 n x z0 beside beside2 lone locks extra none in_then no_task results m)
+          ∙ ap (λ o. shared_as o (tot (share_in s_now m) (a k R G G2 n x z0))) (one_thread.content_before k R G G2 n x z0 beside beside2 lone locks extra none in_same m)
 
       pub it_then : In2 (mutex_n m) ≡ true
           → (state_of s_then).mutex m ≡ Some (record { content = or_else (first_shown (content_value s_then m) G2) (first_shown (content_value s_now m) R); shares = tot (share_in s_now m) (a k R G G2 n x z0) + new_share fresh (mutex_n m) m })
       it_then e =
           ap (λ q. if_there q (record { content = first_shown (content_value s_then m) (b k R G G2 n x z0); shares = tot (share_in s_then m) (b k R G G2 n x z0) })) e
-          ∙ ap₂ shared_as (one_thread.content_afterwards k R G G2 n x z0 beside beside2 lone locks extra none in_then no_task results m) (shares_then m)
+          ∙ ap₂ shared_as (one_thread.content_afterwards k R G G2 n x z0 beside beside2 lone locks extra none in_same m) (shares_then m)

@@ -59,6 +59,14 @@ pub tot_alike : (t : ℕ) (f g : Thing → ℕ) → ((x : Thing) → of_thread t
 tot_alike t f g e [] z = refl
 tot_alike t f g e (x ∷ xs) z = ap₂ (λ a b. a + b) (e x (omega (arith, z))) (tot_alike t f g e xs (omega (arith, z)))
 
+-- where such nodes may have come, each other one is in the state as before
+pub same_but : (f g extra : Node → Bool) → ((q : Node) → g q ≡ with_extra f extra q) → (q : Node) → extra q ≡ false → f q ≡ g q
+same_but f g extra then_in q e = by (f q) refl ∙ sym (then_in q)
+  where
+    by : (c : Bool) → f q ≡ c → f q ≡ (f q || extra q)
+    by true d = d ∙ sym (ap (λ c. c || extra q) d)
+    by false d = d ∙ sym (ap₂ (λ c w. c || w) d e)
+
 all_alike : (t : ℕ) (P : Thing → Type 0) → ((x : Thing) → of_thread t x ≡ 0 → P x) → (xs : List Thing) → tot (of_thread t) xs ≡ 0 → AllByRecursion P xs
 all_alike t P e [] z = tt
 all_alike t P e (x ∷ xs) z = (e x (omega (arith, z)), all_alike t P e xs (omega (arith, z)))
@@ -210,13 +218,13 @@ module _ (k : Cluster) (R G G2 : List Thing) (n : ℕ) (x became : ThreadState) 
       -- ONCE
 
       -- the sights show things once together
-      pub once_on : Calm x.phase → Calm became.phase → Once s → ((o : ObjNo) → tot (λ v. told ones (cell_value o v)) G2 ≤ tot (λ v. told ones (cell_value o v)) G)
+      pub once_on : Calm x.phase → Calm became.phase → Once s → ((o : ObjNo) → tot (λ v. told ones (cell_value o v)) G2 + tot (λ v. told ones (cell_value o v)) R ≤ 1)
           → ((m : MutexNo) → tot (λ v. told ones (content_value s2 m v)) G2 + tot (λ v. told ones (content_value s m v)) R ≤ 1)
           → ((r : ℕ) → tot (λ v. told ones (shown_result s2 r v)) G2 ≤ tot (λ v. told ones (shown_result s r v)) G) → Once s2
       once_on calm calm2 once cells contents ends = record {
         cells = λ o.
             let flat : Own (λ v. told ones (cell_value o v) ≡ 0) = record { slots = λ w i v. refl; temps = λ w i v. refl; shared = λ l w. refl; lent = λ l w. refl; marks = λ l w. refl; used = λ w v. refl } in
-            omega (arith, once.cells o, cells o, tot_of n x G R (λ v. told ones (cell_value o v)) flat, tot_of n y G2 R (λ v. told ones (cell_value o v)) flat);
+            omega (arith, cells o, tot_of n y G2 R (λ v. told ones (cell_value o v)) flat);
         threads = λ u.
             let flat : Own (λ v. is_thread u v ≡ 0) = record { slots = λ w i v. refl; temps = λ w i v. refl; shared = λ l w. refl; lent = λ l w. refl; marks = λ l w. refl; used = λ w v. refl } in
             omega (arith, once.threads u, tot_same (is_thread u) (is_thread u) flat flat (omega (arith, no_threads_in u G beside, no_threads_in u G2 beside2)) (λ th z. refl));
@@ -262,17 +270,9 @@ module _ (k : Cluster) (R G G2 : List Thing) (n : ℕ) (x became : ThreadState) 
               by (stands q p z) i = absurd i
               by _ i = refl
 
-      -- THE STATE, where these are in it as before, or are such as stand under none of the others
+      -- THE STATE, where these are in it as before, but for such as stand under none of the others, which may come or go
 
-      module _ (extra : Node → Bool) (none : NoneUnder s extra R) (in_then : (q : Node) → is_in_state s2 q ≡ with_extra (is_in_state s) extra q) (no_task : (u : ℕ) → extra (task_n u) ≡ false)
-          (results : (r : ℕ) → first_shown (result_value s r) G ≡ first_shown (result_value s2 r) G2) where
-        in_same : (q : Node) → extra q ≡ false → is_in_state s q ≡ is_in_state s2 q
-        in_same q e = by (is_in_state s q) refl ∙ sym (in_then q)
-          where
-            by : (c : Bool) → is_in_state s q ≡ c → is_in_state s q ≡ (is_in_state s q || extra q)
-            by true d = d ∙ sym (ap (λ c. c || extra q) d)
-            by false d = d ∙ sym (ap₂ (λ c w. c || w) d e)
-
+      module _ (extra : Node → Bool) (none : NoneUnder s extra R) (in_same : (q : Node) → extra q ≡ false → is_in_state s q ≡ is_in_state s2 q) where
         owner_in_same : (o : Owner) → ((q : Node) → extra q ≡ true → o ≡ inside q → ⊥) → owner_in (is_in_state s) o ≡ owner_in (is_in_state s2) o
         owner_in_same a_thread off = refl
         owner_in_same outside off = refl
@@ -341,29 +341,29 @@ module _ (k : Cluster) (R G G2 : List Thing) (n : ℕ) (x became : ThreadState) 
             let flat : Own (λ v. in_pair_of r v ≡ 0) = record { slots = λ u i v. refl; temps = λ u i v. refl; shared = λ l w. refl; lent = λ l w. refl; marks = λ l w. refl; used = λ u w. refl } in
             ap some (tot_same (in_pair_of r) (in_pair_of r) flat flat (omega (arith, no_pairs r G beside, no_pairs r G2 beside2)) (λ th z. refl))
 
-        pub kept_same : (r : ℕ) → first_shown (result_value s r) a ≡ first_shown (result_value s2 r) b
-        kept_same r =
+        pub kept_same : (r : ℕ) → first_shown (result_value s r) G ≡ first_shown (result_value s2 r) G2 → first_shown (result_value s r) a ≡ first_shown (result_value s2 r) b
+        kept_same r h =
             let flat : (w : Sight) → Own (λ v. result_value w r v ≡ None) = λ w. record { slots = λ u i v. refl; temps = λ u i v. refl; shared = λ l m. refl; lent = λ l m. refl; marks = λ l m. refl; used = λ u m. refl } in
-            first_same (result_value s r) (result_value s2 r) (flat s) (flat s2) refl refl (results r) (result_stays r)
+            first_same (result_value s r) (result_value s2 r) (flat s) (flat s2) refl refl h (result_stays r)
 
-        pub owed_same : (r : ℕ) → is_branch s r || is_in_state s (task_n r) ≡ is_branch s2 r || is_in_state s2 (task_n r)
-        owed_same r = ap₂ (λ p q. p || q) (branch_same r) (in_same (task_n r) (no_task r))
+        pub owed_same : (r : ℕ) → extra (task_n r) ≡ false → is_branch s r || is_in_state s (task_n r) ≡ is_branch s2 r || is_in_state s2 (task_n r)
+        owed_same r e = ap₂ (λ p q. p || q) (branch_same r) (in_same (task_n r) e)
 
-        -- where the thread waits for no pair and isn't over, before and afterwards
-        module _ (calm : Calm x.phase) (calm2 : Calm became.phase) where
+        -- where the thread waits for no pair and isn't over, before and afterwards, and no task comes or goes
+        module _ (no_task : (u : ℕ) → extra (task_n u) ≡ false) (results : (r : ℕ) → first_shown (result_value s r) G ≡ first_shown (result_value s2 r) G2) (calm : Calm x.phase) (calm2 : Calm became.phase) where
           done_same : (r : ℕ) → first_shown (branch_result r) a ≡ first_shown (branch_result r) b
           done_same r =
               let flat : Own (λ v. branch_result r v ≡ None) = record { slots = λ u i v. refl; temps = λ u i v. refl; shared = λ l w. refl; lent = λ l w. refl; marks = λ l w. refl; used = λ u w. refl } in
               first_same (branch_result r) (branch_result r) flat flat (ap (λ m. if_in (some m) (Some plain.Unit)) (none_got r x.phase calm.alone)) (ap (λ m. if_in (some m) (Some plain.Unit)) (none_got r became.phase calm2.alone)) (no_done r G beside ∙ sym (no_done r G2 beside2)) (λ th z. refl)
 
           result_same : (r : ℕ) → result_of s r ≡ result_of s2 r
-          result_same r = ap₂ or_else (done_same r) (ap₂ if_in (owed_same r) (kept_same r))
+          result_same r = ap₂ or_else (done_same r) (ap₂ if_in (owed_same r (no_task r)) (kept_same r (results r)))
 
           -- LIVES
 
           way_same : (r : ℕ) → going_of s r ≡ going_of s2 r
           way_same zero = refl
-          way_same (suc r) = ap (λ q. if not q then as_loose else as_owing) (owed_same (suc r))
+          way_same (suc r) = ap (λ q. if not q then as_loose else as_owing) (owed_same (suc r) (no_task (suc r)))
 
           life_by : (z : Standing) (q : Bool) → life_of s z.thread q ≡ life_of s2 z.thread q
           life_by z true = ap ended_with (result_same z.thread.number)

@@ -35,7 +35,8 @@ use Rattle.lock_law.proofs.Beside.{itself}
 use Rattle.lock_law.proofs.OneThread.{past}
 use Rattle.lock_law.proofs.Changed as changed
 use Rattle.task_law.specs.Tasks.{ends_pair}
-use Rattle.task_law.proofs.PairEnds.{G, R, s1, s2, bare, beside, is_its, pair_taken, once_then}
+use Rattle.task_law.proofs.PairEnds.{G, R, s1, s2, bare, is_its, pair_taken, once_then}
+use Rattle.task_law.proofs.Taken.{beside}
 use Rattle.task_law.proofs.PlainPairs.{pair_is, by_pair, pair_steps}
 
 same_self : (n : ℕ) → one (n == n) ≡ 1
@@ -69,7 +70,7 @@ module _ (k : Cluster) (sound : IsSound k) (e : Event) (s : Server) (t : ℕ) (x
         let now = ap (λ j. over_at j (shown_last x.temps)) at.code in
         let move = ap (λ j. run_instr j x.pc (shown_last x.temps)) at.code in
         let turn = pair_taken k sound e s t x at p q got in
-        let in_pair : a.pair x.number ≡ Some (p, q) = ap pair_of (itself n x (G k sound e s t x at p q got) (R k sound e s t x at p q got) (beside k sound e s t x at p q got)) ∙ ap two_in got in
+        let in_pair : a.pair x.number ≡ Some (p, q) = ap pair_of (itself n x (G k sound e s t x at p q got) (R k sound e s t x at p q got) (beside k sound e instr.ParEnd s t x at (x.pc + 1) x.slots x.temps)) ∙ ap two_in got in
         by_pair p q (plain_pair c.pairs x.number) (pair_is k.code c x.number (is_its k sound e s t x at p q got) (running_at x) plug a b turn shown now move p q in_pair) (StepsTo k.code c x.number fresh.None b []) (λ P there f g.
         pair_steps k.code c x.number (is_its k sound e s t x at p q got) (running_at x) plug a b turn shown now move P there (ap (λ u. some (one (p == u) + one (q == u))) f ∙ first_its) (ap (λ u. some (one (p == u) + one (q == u))) g ∙ second_its) (λ u m. only P f g u m))
       where
@@ -102,7 +103,7 @@ module _ (k : Cluster) (sound : IsSound k) (e : Event) (s : Server) (t : ℕ) (x
             let cache = (copies_ready start cs []).0.moves in
             let moves : Moves (counts_of n 0 s.rest ∷ []) (counts_of n 0 s.rest ∷ []) s.rest d.hand.work.rest = record { number = refl; alike = λ w z. (let same_rest = cache.alike w z in omega (arith, same_rest)) } in
             let after_it : SameState (one_heap (Next d)) (state_of (s2 k sound e s t x at p q got)) =
-            changed.state_after k sound e s at.here t x at.at at.number d (x.pc + 1) x.slots x.temps thread (counts_of n 0 s.rest ∷ []) moves sends (beside k sound e s t x at p q got) (tt, tt) refl (once_then k sound e s t x at p q got) in
+            changed.state_after k sound e s at.here t x at.at at.number d (x.pc + 1) x.slots x.temps thread (counts_of n 0 s.rest ∷ []) moves sends (beside k sound e instr.ParEnd s t x at (x.pc + 1) x.slots x.temps) (tt, tt) refl (once_then k sound e s t x at p q got) in
             let own : x.number ≡ u = cc in
             let named : fresh.None ≡ names = (let r : Some fresh.None ≡ Some names = done in cc) in
             let went = steps c same in

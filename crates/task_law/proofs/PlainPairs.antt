@@ -9,16 +9,17 @@ use Rattle.fr_plain.specs.declared.value.Value.{Value}
 use Rattle.fr_plain.specs.declared.value.Value.TheVariants.{Own}
 use Rattle.fr_plain.specs.Heap.{made_by}
 use Rattle.fr_plain.specs.MachineActs.{do_par_end, unit}
-use Rattle.fr_plain.specs.MachineThreads.{over, owing, loose, alive, ended, going, Pair, thread_at, with_thread, with_life, is_over, pair_of, without_pair, result_in, result_of_life}
+use Rattle.fr_plain.specs.MachineThreads.{over, going, Pair, thread_at, with_thread, with_life, pair_of, without_pair, result_in, result_of_life}
 use Rattle.fr_plain.specs.Machine.{step_of, taken, pair_over, two_ended, two_joined}
-use Rattle.fr_plain.specs.PlainState.{SameState, running, running_in, is_over_in, two_of, plain_state}
+use Rattle.fr_plain.specs.PlainState.{SameState, running_in, is_over_in, two_of, plain_state}
 use Rattle.fr_plain.proofs.ByName.{put_in, put_at, put_off, found_number}
 use Rattle.fr_code.specs.Machine.{CodeLife, CodeThread, CodeWhole, CodeStepped, CodeRunning, CodeState}
 use Rattle.fr_code.specs.Steps.{Place, code_move, code_moves, over_at}
 use Rattle.turn_law.specs.Turns.{StepsTo}
-use Rattle.turn_law.proofs.PlainTurn.{thread_as, running_as, goes_as, settled_as, found_as}
+use Rattle.turn_law.proofs.PlainTurn.{thread_as, goes_as, settled_as}
 use Rattle.lock_law.proofs.PlainMutex.{acts, move_as}
-use Rattle.task_law.proofs.PairEnds.{PairTaken}
+use Rattle.task_law.proofs.Taken.{ResultsTaken}
+use Rattle.task_law.proofs.PlainTaken.{Ended, ended_there, found, thread_same, over_same}
 
 pair_off : (ps : List Pair) (t u : ℕ) → t ≢ u → pair_of (without_pair ps t) u ≡ pair_of ps u
 pair_off [] t u ne = refl
@@ -33,30 +34,10 @@ pair_gone (p ∷ ps) t =
     eq_cases (λ b. pair_of (if b then without_pair ps t else p ∷ without_pair ps t) t ≡ None) p.parent t (λ _. pair_gone ps t)
     (λ ne. eq_cases (λ b. (if b then Some p else pair_of (without_pair ps t) t) ≡ None) p.parent t (λ e. absurd (ne e)) (λ _. pair_gone ps t))
 
--- a thread that is shown as ended
-pub record Ended (o : Option CodeThread) : Type 0 where
-  pub thread : CodeThread
-  pub there : o ≡ Some thread
-  pub life : thread.life ≡ ended (Own plain.Unit)
-
-ended_life : (slots : List Value) (l : CodeLife) → running slots l ≡ ended (Own plain.Unit) → l ≡ ended (Own plain.Unit)
-ended_life slots (ended v) e = let same : v ≡ Own plain.Unit = cc in ap (λ w. ended w) same
-ended_life slots (alive p) e = absurd (cc e)
-ended_life slots over e = absurd (cc e)
-ended_life slots (owing p) e = absurd (cc e)
-ended_life slots (loose p) e = absurd (cc e)
-
-ended_as : (o : Option CodeThread) → running_in o ≡ Some (ended (Own plain.Unit)) → Ended o
-ended_as None e = absurd (cc e)
-ended_as (Some x) e = record { thread = x; there = refl; life = ended_life x.slots x.life (let same : running x.slots x.life ≡ ended (Own plain.Unit) = cc in same) }
-
-module _ (code : List Instr) (c : CodeWhole) (t : ℕ) (is_its : ℕ → Bool) (p : CodeRunning) (plug : Value → Place) (a b : CodeState) (turn : PairTaken t is_its p (record { place = plug unit; slots = p.slots }) a b) (same : SameState (plain_state c) a)
+module _ (code : List Instr) (c : CodeWhole) (t : ℕ) (is_its : ℕ → Bool) (p : CodeRunning) (plug : Value → Place) (a b : CodeState) (turn : ResultsTaken t is_its plain.Unit p (record { place = plug unit; slots = p.slots }) a b) (same : SameState (plain_state c) a)
     (now : over_at (slice_get code p.place.pc) p.place.temps ≡ going) (move : code_move code p.place.pc p.place.temps ≡ Some (record { act = do_par_end; plug = plug })) where
   abbrev q : CodeRunning
   q = record { place = plug unit; slots = p.slots }
-
-  found : thread_at c.threads t ≡ Some (thread_as turn.way t p)
-  found = found_as c t turn.way p (same.threads t ∙ turn.before)
 
   abbrev T : CodeThread
   T = thread_as turn.way t p
@@ -64,15 +45,18 @@ module _ (code : List Instr) (c : CodeWhole) (t : ℕ) (is_its : ℕ → Bool) (
   abbrev w : CodeThread
   w = thread_as turn.way t q
 
+  there_it : thread_at c.threads t ≡ Some T
+  there_it = found c t is_its plain.Unit p q a b turn same
+
   -- the pair
   module _ (P : Pair) (pair_there : pair_of c.pairs t ≡ Some P) (its_first : is_its P.first ≡ true) (its_second : is_its P.second ≡ true) (only : (u : ℕ) → is_its u ≡ true → (P.first ≡ u) ⊎ (P.second ≡ u)) where
-    ended_of : (u : ℕ) → is_its u ≡ true → Ended (thread_at c.threads u)
-    ended_of u m = ended_as (thread_at c.threads u) (same.threads u ∙ turn.ended_before u m)
+    abbrev ended_of : (u : ℕ) → is_its u ≡ true → Ended plain.Unit (thread_at c.threads u)
+    ended_of = ended_there c t is_its plain.Unit p q a b turn same
 
-    X1 : Ended (thread_at c.threads P.first)
+    X1 : Ended plain.Unit (thread_at c.threads P.first)
     X1 = ended_of P.first its_first
 
-    X2 : Ended (thread_at c.threads P.second)
+    X2 : Ended plain.Unit (thread_at c.threads P.second)
     X2 = ended_of P.second its_second
 
     abbrev over1 : CodeThread
@@ -127,49 +111,28 @@ module _ (code : List Instr) (c : CodeWhole) (t : ℕ) (is_its : ℕ → Bool) (
             (λ f. let g = inner_second u (sym number2 ∙ f) in (ap running_in g, ap is_over_in g))
             (λ ne. let g = put_off inner1 over2 u ne ∙ first_over u e in (ap running_in g, ap is_over_in g))
 
-    not_t : is_its t ≡ false
-    not_t = by (is_its t) refl
-      where
-        by : (m : Bool) → is_its t ≡ m → is_its t ≡ false
-        by true m = absurd (turn.differ t m refl)
-        by false m = m
+    abbrev lives : (u : ℕ) → running_in (thread_at threads u) ≡ b.thread u
+    lives = thread_same c t is_its plain.Unit p q a b turn same inner inner_off inner_its
 
-    put : thread_at threads t ≡ Some w
-    put = put_at inner w t refl ∙ ap (put_in w) (inner_off t not_t ∙ found)
+    abbrev ends : (u : ℕ) → is_over_in (thread_at threads u) ≡ is_over_in (thread_at c.threads u)
+    ends = over_same c t is_its plain.Unit p q a b turn same inner inner_off inner_its
 
-    thread_by : (u : ℕ) → t ≢ u → (m : Bool) → is_its u ≡ m → running_in (thread_at inner u) ≡ b.thread u
-    thread_by u ne true m = (inner_its u m).0 ∙ sym (turn.taken u m)
-    thread_by u ne false m = ap running_in (inner_off u m) ∙ same.threads u ∙ turn.others u ne m
-
-    thread_same : (u : ℕ) → running_in (thread_at threads u) ≡ b.thread u
-    thread_same u =
-        eq_cases (λ r. running_in (thread_at threads u) ≡ b.thread u) t u
-        (λ e. subst (λ v. running_in (thread_at threads v) ≡ b.thread v) e (ap running_in put ∙ ap Some (running_as turn.way q) ∙ sym turn.afterwards))
-        (λ ne. ap running_in (put_off inner w u ne) ∙ thread_by u ne (is_its u) refl)
-
-    over_by : (u : ℕ) → (m : Bool) → is_its u ≡ m → is_over_in (thread_at inner u) ≡ is_over_in (thread_at c.threads u)
-    over_by u true m = let x = ended_of u m in (inner_its u m).1 ∙ sym (ap is_over_in x.there ∙ ap is_over x.life)
-    over_by u false m = ap is_over_in (inner_off u m)
-
-    over_same : (u : ℕ) → is_over_in (thread_at threads u) ≡ is_over_in (thread_at c.threads u)
-    over_same u =
-        eq_cases (λ r. is_over_in (thread_at threads u) ≡ is_over_in (thread_at c.threads u)) t u
-        (λ e. subst (λ v. is_over_in (thread_at threads v) ≡ is_over_in (thread_at c.threads v)) e (ap is_over_in put ∙ goes_as turn.way q.place ∙ sym (ap is_over_in found ∙ goes_as turn.way p.place)))
-        (λ ne. ap is_over_in (put_off inner w u ne) ∙ over_by u (is_its u) refl)
+    itself_goes : is_over_in (thread_at c.threads t) ≡ false
+    itself_goes = ap is_over_in there_it ∙ goes_as turn.way p.place
 
     pair_same : (u : ℕ) → (if is_over_in (thread_at threads u) then None else two_of (pair_of (without_pair c.pairs t) u)) ≡ b.pair u
     pair_same u =
         eq_cases (λ r. (if is_over_in (thread_at threads u) then None else two_of (pair_of (without_pair c.pairs t) u)) ≡ b.pair u) t u
         (λ e. subst (λ v. (if is_over_in (thread_at threads v) then None else two_of (pair_of (without_pair c.pairs t) v)) ≡ b.pair v) e
-        (ap (λ r. if r then None else two_of (pair_of (without_pair c.pairs t) t)) (ap is_over_in put ∙ goes_as turn.way q.place) ∙ ap two_of (pair_gone c.pairs t) ∙ sym turn.alone))
-        (λ ne. ap₂ (λ r o. if r then None else two_of o) (over_same u) (pair_off c.pairs t u ne) ∙ same.pairs u ∙ turn.pairs u ne)
+        (ap (λ r. if r then None else two_of (pair_of (without_pair c.pairs t) t)) (ends t ∙ itself_goes) ∙ ap two_of (pair_gone c.pairs t) ∙ sym turn.alone))
+        (λ ne. ap₂ (λ r o. if r then None else two_of o) (ends u) (pair_off c.pairs t u ne) ∙ same.pairs u ∙ turn.pairs u ne)
 
     -- THE STEP
 
     abbrev went_on : List CodeThread → CodeLife → Option CodeStepped
     went_on ts l = Some (record { state = record c { threads = with_thread ts (record { number = t; life = l; slots = p.slots }); pairs = without_pair c.pairs t }; labels = [] })
 
-    result_is : (u : ℕ) (x : Ended (thread_at c.threads u)) → result_in (thread_at c.threads u) ≡ Some (Own plain.Unit)
+    result_is : (u : ℕ) (x : Ended plain.Unit (thread_at c.threads u)) → result_in (thread_at c.threads u) ≡ Some (Own plain.Unit)
     result_is u x = ap result_in x.there ∙ ap result_of_life x.life
 
     does : step_of (code_moves code) c fresh.None (Some T) ≡ went_on inner w.life
@@ -183,10 +146,10 @@ module _ (code : List Instr) (c : CodeWhole) (t : ℕ) (is_its : ℕ → Bool) (
     pub pair_steps : StepsTo code c t fresh.None b []
     pair_steps = record {
       after = record { state = record c { threads = threads; pairs = without_pair c.pairs t }; labels = [] };
-      steps = ap (step_of (code_moves code) c fresh.None) found ∙ does;
+      steps = ap (step_of (code_moves code) c fresh.None) there_it ∙ does;
       same = record {
-        threads = thread_same;
-        made = λ u. ap (λ r. if r then 0 else length (made_by c.heap u)) (over_same u) ∙ same.made u ∙ turn.made u;
+        threads = lives;
+        made = λ u. ap (λ r. if r then 0 else length (made_by c.heap u)) (ends u) ∙ same.made u ∙ turn.made u;
         pairs = pair_same;
         objects = λ o. same.objects o ∙ turn.objects o;
         mutexes = λ m. same.mutexes m ∙ turn.mutexes m;
@@ -198,7 +161,7 @@ module _ (code : List Instr) (c : CodeWhole) (t : ℕ) (is_its : ℕ → Bool) (
   -- the pair is there
   pub pair_is : (first second : ℕ) → a.pair t ≡ Some (first, second) → two_of (pair_of c.pairs t) ≡ Some (first, second)
   pair_is first second e =
-      sym (ap (λ r. if r then None else two_of (pair_of c.pairs t)) (ap is_over_in found ∙ goes_as turn.way p.place)) ∙ same.pairs t ∙ e
+      sym (ap (λ r. if r then None else two_of (pair_of c.pairs t)) (ap is_over_in there_it ∙ goes_as turn.way p.place)) ∙ same.pairs t ∙ e
 
 -- whichever pair shows as that one
 pub by_pair : (first second : ℕ) (o : Option Pair) → two_of o ≡ Some (first, second) → (C : Type 0) → ((P : Pair) → o ≡ Some P → P.first ≡ first → P.second ≡ second → C) → C

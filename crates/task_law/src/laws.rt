@@ -1,9 +1,14 @@
 ghost use Rattle.heap_law.specs.Coherent.{IsSound};
-ghost use Rattle.task_law.specs.Tasks.{ends_pair};
+ghost use Rattle.task_law.specs.Tasks.{ends_pair, joins_thread};
 ghost use Rattle.turn_law.specs.Turns.{ArePlainSteps};
 
 /// From a sound cluster, each step at the end of a pair is the plain step of its thread on the one heap, its messages handed over: the parent goes on, and the results of
 /// both threads are taken. A parent that waits for them doesn't step.
 pub fn pair_end_steps()
     ensures { ArePlainSteps IsSound ends_pair }
+{}
+
+/// The same of a join: once its answer came, the thread goes on with the result, and the thread that it joined is over. (Before, it asks for it, which is no plain step)
+pub fn join_steps()
+    ensures { ArePlainSteps IsSound joins_thread }
 {}
