@@ -12,4 +12,4 @@ pub use acts::{
     make_box, note, print, read,
 };
 pub use laws::mutex_acts_go;
-pub use mutexes::{dup, lock, lock_wait, mutex_behind, new_mutex, unlock};
+pub use mutexes::{can_dup, drop_share, dup, lock, lock_wait, mutex_behind, new_mutex, unlock};

@@ -1,6 +1,6 @@
 //! Acts on mutexes. Each is that of the plain machine, where there is room for what it makes.
 
-ghost use Rattle.std.specs.Prelude.{◌≡◌, ℕ, ◌<◌, ◌≤◌, ◌+◌, List, [], true, None, IsSome, vec_len, vec_capacity};
+ghost use Rattle.std.specs.Prelude.{◌≡◌, ℕ, suc, ◌<◌, ◌≤◌, ◌+◌, List, [], true, None, IsSome, vec_len, vec_capacity};
 ghost use Rattle.fr_base.specs.declared.step.Fresh.TheVariants as fresh;
 ghost use Rattle.fr_plain.specs.declared.value.Value.{Value};
 ghost use Rattle.fr_plain.specs.Heap.{Heap as PlainHeap};
@@ -9,11 +9,13 @@ ghost use Rattle.fr_plain.specs.Acts.{do_mutex, do_dup, do_lock, do_unlock, unit
 ghost use Rattle.fr_plain.specs.Machine as machine;
 ghost use Rattle.fr_plain.specs.Machine.{lock_waits};
 ghost use Rattle.fr_plain.specs.MachineThreads.{mutex_at};
+ghost use Rattle.fr_plain.specs.Threads.{release_by};
+ghost use Rattle.fr_base.specs.declared.label.Plain.TheVariants as plain;
 ghost use Rattle.fr_shared.specs.declared.heap.Released.TheVariants as released;
 ghost use Rattle.fr_acts.specs.SlotOrder.{newest_first};
 ghost use Rattle.fr_acts.specs.Acting.{state};
 ghost use Rattle.fr_acts.specs.Behind.{spot_in, spots_of, spot_after, mutex_of, named, IsFound, there_behind, content_behind, can_share_behind};
-ghost use Rattle.fr_acts.specs.MutexActs.{Rest, part, whole_in, Leads, IsLocked};
+ghost use Rattle.fr_acts.specs.MutexActs.{Rest, part, whole_in, last_of, Leads, IsLocked};
 
 use crate::acts::{find, note, note_load, value_there};
 use crate::spot::Where;
@@ -149,6 +151,22 @@ pub fn new_mutex(mutexes: &mut Mutexes, mutex: MutexNo, content: Value) -> Value
     Value::Own(Plain::Mutex(mutex))
 }
 
+/// Whether a share more can be counted of the mutex behind a place. Takes time in the place's stars.
+pub fn can_dup(
+    thread: ThreadNo,
+    slots: &[Value],
+    heap: &Heap,
+    mutexes: &Mutexes,
+    place: Lval,
+) -> bool
+    ensures { result ≡ can_share_behind mutexes.now.mutexes (machine.mutex_behind (state thread slots.now heap.now.heap) place) }
+{
+    match mutex_behind(thread, slots, heap, place) {
+        Some(mutex) => mutexes.can_share(mutex),
+        None => true,
+    }
+}
+
 /// Counts a share more of the mutex behind a place, and gives its value. Takes time in the place's stars.
 pub fn dup(
     thread: ThreadNo,
@@ -226,4 +244,16 @@ pub fn unlock(
     }
     mutexes.give_back(mutex, content);
     Released::Nothing
+}
+
+/// Takes a share of a mutex away; with the last one the mutex goes, and its content where that is in. Gives what goes last with
+/// the content. Takes time in the boxes that go.
+pub fn drop_share(heap: &mut Heap, mutexes: &mut Mutexes, mutex: MutexNo) -> Released
+    ensures goes { (x : Rest) (slots : List Value) (k : ℕ) → release_by (suc k) (whole_in x (part slots heap.old.heap mutexes.old.mutexes)) (plain.Mutex mutex) ≡ release_by k (whole_in x (part slots heap.new.heap mutexes.new.mutexes)) (last_of result) }
+    ensures spare { mutexes.new.spare ≡ mutexes.old.spare }
+{
+    match mutexes.drop_share(mutex) {
+        Some(content) => heap.drop_plain(content),
+        None => Released::Nothing,
+    }
 }

@@ -1,7 +1,6 @@
 -- Threads without what room they have, and the plain state.
 use Rattle.std.proofs.Common.{◌≡◌, ℕ, ℤ, zero, suc, ◌<◌, List, [], ◌∷◌, length, get_or, Result, Ok, Err, refl, sym, ap, ◌∙◌, subst, arith}
 use Rattle.std.specs.Prelude.{slice_set, OnErr}
-use Rattle.fr_plain.specs.Heap.{Heap}
 use Rattle.fr_plain.specs.Whole.{Thread as PlainThread, Whole}
 use Rattle.fr_forms.specs.declared.forms.Form.{Form}
 use Rattle.fr_meaning.specs.declared.thread.Thread.{Thread}
@@ -9,6 +8,7 @@ use Rattle.fr_meaning.specs.Entries.{entry_of, entries_of}
 use Rattle.fr_meaning.specs.declared.next.Next.{Next}
 use Rattle.fr_meaning.specs.Next.{IsNext}
 use Rattle.fr_meaning.specs.PoolView.{Entry, View, threads_in, whole_of}
+use Rattle.fr_meaning.specs.Beside.{Beside}
 use Rattle.fr_meaning.specs.Threads.{IsWell, thread_of, threads_of, whole, numbers_of, AreWell}
 use Rattle.fr_meaning.proofs.ThreadLists.{numbers_set, well_at, well_set}
 
@@ -18,11 +18,11 @@ threads_entries fs [] = refl
 threads_entries fs (x ∷ xs) = ap (λ (ts : List PlainThread). thread_of fs x ∷ ts) (threads_entries fs xs)
 
 -- the plain state
-pub entries_whole : (fs : List Form) (xs : List Thread) (heap : Heap) (output : List ℤ) → whole_of (record { forms = fs; threads = entries_of xs; heap = heap; output = output }) ≡ whole fs xs heap output
-entries_whole fs xs heap output = ap (λ ts. whole_with ts) (threads_entries fs xs)
+pub entries_whole : (fs : List Form) (xs : List Thread) (beside : Beside) (output : List ℤ) → whole_of (record { forms = fs; threads = entries_of xs; beside = beside; output = output }) ≡ whole fs xs beside output
+entries_whole fs xs beside output = ap (λ ts. whole_with ts) (threads_entries fs xs)
   where
     whole_with : List PlainThread → Whole
-    whole_with ts = record { threads = ts; heap = heap; mutexes = []; pairs = []; output = output }
+    whole_with ts = record { threads = ts; heap = beside.heap; mutexes = beside.mutexes; pairs = beside.pairs; output = output }
 
 -- another thread that is the same without its room
 pub entries_set : (xs : List Thread) (i : ℕ) (x y : Thread) → x ≡ get_or xs i x → entry_of y ≡ entry_of x → entries_of (slice_set xs i y) ≡ entries_of xs
@@ -38,21 +38,21 @@ entries_at (a ∷ xs) (b ∷ ys) zero x e lt is = let same : entry_of a ≡ entr
 entries_at (a ∷ xs) (b ∷ ys) (suc i) x e lt is = let rest : entries_of xs ≡ entries_of ys = cc in entries_at xs ys i x rest (omega arith) is
 
 -- what contracts of a pool see
-abbrev pub viewed : List Form → List Thread → Heap → List ℤ → View
-viewed fs xs heap output = record { forms = fs; threads = entries_of xs; heap = heap; output = output }
+abbrev pub viewed : List Form → List Thread → Beside → List ℤ → View
+viewed fs xs beside output = record { forms = fs; threads = entries_of xs; beside = beside; output = output }
 
-pub view_same : (fs : List Form) (xs ys : List Thread) (heap new : Heap) (output more : List ℤ) → entries_of ys ≡ entries_of xs → new ≡ heap → more ≡ output → viewed fs ys new more ≡ viewed fs xs heap output
-view_same fs xs ys heap new output more a b c = ap (λ es. with_entries es new more) a ∙ ap (λ h. with_entries (entries_of xs) h more) b ∙ ap (λ ns. with_entries (entries_of xs) heap ns) c
+pub view_same : (fs : List Form) (xs ys : List Thread) (beside new : Beside) (output more : List ℤ) → entries_of ys ≡ entries_of xs → new ≡ beside → more ≡ output → viewed fs ys new more ≡ viewed fs xs beside output
+view_same fs xs ys beside new output more a b c = ap (λ es. with_entries es new more) a ∙ ap (λ k. with_entries (entries_of xs) k more) b ∙ ap (λ ns. with_entries (entries_of xs) beside ns) c
   where
-    with_entries : List Entry → Heap → List ℤ → View
-    with_entries es h ns = record { forms = fs; threads = es; heap = h; output = ns }
+    with_entries : List Entry → Beside → List ℤ → View
+    with_entries es c ns = record { forms = fs; threads = es; beside = c; output = ns }
 
 -- threads that are the same without their room are the same plain threads
-pub same_whole : (fs : List Form) (xs ys : List Thread) (heap new : Heap) (output more : List ℤ) → viewed fs ys new more ≡ viewed fs xs heap output → whole fs ys new more ≡ whole fs xs heap output
-same_whole fs xs ys heap new output more e = sym (entries_whole fs ys new more) ∙ ap whole_of e ∙ entries_whole fs xs heap output
+pub same_whole : (fs : List Form) (xs ys : List Thread) (beside new : Beside) (output more : List ℤ) → viewed fs ys new more ≡ viewed fs xs beside output → whole fs ys new more ≡ whole fs xs beside output
+same_whole fs xs ys beside new output more e = sym (entries_whole fs ys new more) ∙ ap whole_of e ∙ entries_whole fs xs beside output
 
-pub same_entries : (fs : List Form) (xs ys : List Thread) (heap new : Heap) (output more : List ℤ) → viewed fs ys new more ≡ viewed fs xs heap output → entries_of ys ≡ entries_of xs
-same_entries fs xs ys heap new output more e = ap (λ (v : View). v.threads) e
+pub same_entries : (fs : List Form) (xs ys : List Thread) (beside new : Beside) (output more : List ℤ) → viewed fs ys new more ≡ viewed fs xs beside output → entries_of ys ≡ entries_of xs
+same_entries fs xs ys beside new output more e = ap (λ (v : View). v.threads) e
 
 -- a thread that only has more room
 pub reserved : (fs : List Form) (xs : List Thread) (i : ℕ) (x y : Thread) → i < length xs → x ≡ get_or xs i x → entry_of y ≡ entry_of x → (IsWell fs x → IsWell fs y) → AreWell fs xs → (numbers_of (slice_set xs i y) ≡ numbers_of xs) × AreWell fs (slice_set xs i y)
@@ -63,8 +63,8 @@ length_entries [] = refl
 length_entries (x ∷ xs) = ap suc (length_entries xs)
 
 -- and are as many
-pub same_length : (fs : List Form) (xs ys : List Thread) (heap new : Heap) (output more : List ℤ) → viewed fs ys new more ≡ viewed fs xs heap output → length ys ≡ length xs
-same_length fs xs ys heap new output more e = sym (length_entries ys) ∙ ap length (same_entries fs xs ys heap new output more e) ∙ length_entries xs
+pub same_length : (fs : List Form) (xs ys : List Thread) (beside new : Beside) (output more : List ℤ) → viewed fs ys new more ≡ viewed fs xs beside output → length ys ≡ length xs
+same_length fs xs ys beside new output more e = sym (length_entries ys) ∙ ap length (same_entries fs xs ys beside new output more e) ∙ length_entries xs
 
 -- what comes next of each is the same
 pub same_comes : (n : Next) (xs ys : List Thread) (i : ℕ) → entries_of ys ≡ entries_of xs → i < length ys → ((x : Thread) → x ≡ get_or xs i x → IsNext x.focus x.frames.items n) → (y : Thread) → y ≡ get_or ys i y → IsNext y.focus y.frames.items n

@@ -1,5 +1,5 @@
 -- The move of a thread, by what it does next.
-use Rattle.std.proofs.Common.{◌≡◌, ◌≢◌, ℕ, zero, suc, ◌<◌, List, [], ◌∷◌, ◌++◌, length, get_or, drop, Option, Some, refl, sym, ap, ◌∙◌, subst}
+use Rattle.std.proofs.Common.{◌≡◌, ℕ, zero, suc, ◌<◌, List, [], ◌∷◌, ◌++◌, length, get_or, drop, Option, Some, refl, sym, ap, ◌∙◌, subst}
 use Rattle.fr_plain.specs.declared.value.Value.{Value}
 use Rattle.fr_plain.specs.Acts.{Act, do_mutex, do_dup, do_lock, do_unlock, do_par, do_par_end, do_spawn, do_join, do_box, do_let, do_print, do_assign, do_arith, do_discard}
 use Rattle.fr_plain.specs.Run as run

@@ -1,25 +1,24 @@
 -- How a thread stands: what it waits for, why its step is refused, and which names it takes.
 use Rattle.std.proofs.Common.{◌≡◌, ℕ, ℤ, Bool, true, false, List, get_or, Option, Some, None, refl, sym, ap, ◌∙◌}
-use Rattle.std.specs.Prelude.{is_some, ◌||◌, option_map, if◌then◌else◌}
+use Rattle.std.specs.Prelude.{is_some, ◌||◌, ◌&&◌, option_map, if◌then◌else◌}
 use Rattle.fr_base.specs.declared.label.Plain.TheVariants as plain
 use Rattle.fr_base.specs.declared.step.Fresh.{Fresh}
 use Rattle.fr_base.specs.declared.step.Wait.{Wait}
 use Rattle.fr_base.specs.declared.step.Wait.TheVariants as wait
 use Rattle.fr_plain.specs.declared.value.Value.{Value}
 use Rattle.fr_plain.specs.declared.value.Value.TheVariants.{Own, ToSlot, ToObject, Held}
-use Rattle.fr_plain.specs.Heap.{Heap}
 use Rattle.fr_plain.specs.Run.{Run, life_move}
-use Rattle.fr_base.specs.declared.name.MutexNo.{MutexNo}
-use Rattle.fr_base.specs.declared.label.Label.{Label}
-use Rattle.fr_plain.specs.Machine.{lock_waits, mutex_behind}
-use Rattle.fr_plain.specs.Threads.{state_of, unless_some, join_waits, result_in as result_in_plain}
+use Rattle.fr_plain.specs.Machine.{unless_both, pair_waits}
+use Rattle.fr_plain.specs.MachineThreads.{pair_of}
+use Rattle.fr_shared.specs.declared.pairs.Two.{Two}
+use Rattle.fr_shared.specs.PairInside.{two_from}
+use Rattle.fr_plain.specs.Threads.{unless_some, join_waits, result_in as result_in_plain}
 use Rattle.fr_plain.specs.Whole.{Thread as PlainThread, Whole, result_at, is_over, waits_for, has_ended, Takes, no_name, a_thread, two_threads, a_mutex, takes_name, refused_names, refused_wait, refused_of}
 use Rattle.fr_meaning.specs.declared.error.StepError.{StepError}
 use Rattle.fr_meaning.specs.declared.error.StepError.TheVariants as error
 use Rattle.fr_forms.specs.declared.forms.Form.{Form}
 use Rattle.fr_meaning.specs.declared.need.Need.{Need}
 use Rattle.fr_meaning.specs.declared.next.Next.{Next}
-use Rattle.fr_meaning.specs.declared.next.Next.TheVariants as next_
 use Rattle.fr_meaning.specs.declared.thread.Stage.{Stage}
 use Rattle.fr_meaning.specs.declared.thread.Stage.TheVariants as stage
 use Rattle.fr_meaning.specs.declared.thread.Thread.{Thread}
@@ -27,7 +26,8 @@ use Rattle.fr_forms.specs.FormTerms.{AreInOrder}
 use Rattle.fr_meaning.specs.Next.{IsNext, next_waits, next_takes, task_named}
 use Rattle.fr_shared.specs.Places.{place_of}
 use Rattle.fr_meaning.specs.PoolView.{error_of, takes_for, refusal, kind_of, need_in, need_of}
-use Rattle.fr_meaning.specs.Threads.{run_in, IsWell, IsGoingOn, is_done, result_in, life_at, thread_of, whole, numbers_of}
+use Rattle.fr_meaning.specs.Beside.{Beside}
+use Rattle.fr_meaning.specs.Threads.{run_in, IsWell, IsGoingOn, is_done, result_in, life_at, thread_of, threads_of, whole, numbers_of}
 use Rattle.fr_meaning.proofs.NextMoves.{next_moves, moves_wait}
 use Rattle.fr_meaning.proofs.ThreadLists.{none_there, there_at}
 use Rattle.fr_meaning.proofs.WholeSteps.{kept_result}
@@ -66,40 +66,23 @@ task_waits s (ToSlot n) u h = absurd cc
 task_waits s (ToObject o) u h = absurd cc
 task_waits s (Held o) u h = absurd cc
 
--- a thread that isn't there
-pub waits_nowhere : (fs : List Form) (xs : List Thread) (heap : Heap) (output : List ℤ) (v : Value) (u : ℕ) → task_named v ≡ Some u → place_of (numbers_of xs) u ≡ None → join_waits (whole fs xs heap output) v ≡ Some (wait.Join u)
-waits_nowhere fs xs heap output v u h e = task_waits (whole fs xs heap output) v u h ∙ ap (λ o. unless_some (result_in_plain o) (wait.Join u)) (none_there fs xs u e)
-
 waits_by : (o : Option Value) (b : Bool) (w : Wait) → is_some o ≡ b → unless_some o w ≡ (if b then None else Some w)
 waits_by None true w h = absurd cc
 waits_by None false w h = refl
 waits_by (Some v) true w h = refl
 waits_by (Some v) false w h = absurd cc
 
--- a thread at its place, by whether its result is kept
-pub waits_there : (fs : List Form) (xs : List Thread) (heap : Heap) (output : List ℤ) (v : Value) (u k : ℕ) (z : Thread) (b : Bool) → task_named v ≡ Some u → place_of (numbers_of xs) u ≡ Some k → z ≡ get_or xs k z → is_some (result_in z.stage) ≡ b →
-    join_waits (whole fs xs heap output) v ≡ (if b then None else Some (wait.Join u))
-waits_there fs xs heap output v u k z b h e is r =
-    task_waits (whole fs xs heap output) v u h ∙ ap (λ o. unless_some (result_in_plain o) (wait.Join u)) (there_at fs xs u k z e is).0
-    ∙ ap (λ o. unless_some o (wait.Join u)) (kept_result z.stage (run_in fs z)) ∙ waits_by (result_in z.stage) b (wait.Join u) r
+-- by whether its result is kept
+pub join_by : (s : Whole) (v : Value) (u : ℕ) (b : Bool) → task_named v ≡ Some u → is_some (result_at s.threads u) ≡ b → join_waits s v ≡ (if b then None else Some (wait.Join u))
+join_by s v u b h e = task_waits s v u h ∙ waits_by (result_at s.threads u) b (wait.Join u) e
 
--- where no mutex was made no lock waits
-no_lock_waits : (fs : List Form) (xs : List Thread) (heap : Heap) (output : List ℤ) (o : Option (MutexNo × List Label)) → lock_waits (whole fs xs heap output) o ≡ None
-no_lock_waits fs xs heap output None = refl
-no_lock_waits fs xs heap output (Some p) = refl
+-- a thread that isn't there has no result
+pub result_nowhere : (fs : List Form) (xs : List Thread) (u : ℕ) → place_of (numbers_of xs) u ≡ None → is_some (result_at (threads_of fs xs) u) ≡ false
+result_nowhere fs xs u e = ap (λ o. is_some (result_in_plain o)) (none_there fs xs u e)
 
--- and nothing waits but joins
-pub waits_none : (fs : List Form) (xs : List Thread) (heap : Heap) (output : List ℤ) (x : PlainThread) (n : Next) → ((v : Value) → n ≡ next_.Join v → ⊥) → next_waits (whole fs xs heap output) x n ≡ None
-waits_none fs xs heap output x (next_.End d) h = refl
-waits_none fs xs heap output x (next_.Join v) h = absurd (h v refl)
-waits_none fs xs heap output x (next_.Start node) h = refl
-waits_none fs xs heap output x (next_.Mutex v) h = refl
-waits_none fs xs heap output x (next_.Dup w) h = refl
-waits_none fs xs heap output x (next_.Lock w node) h = no_lock_waits fs xs heap output (mutex_behind (state_of (whole fs xs heap output) x) w)
-waits_none fs xs heap output x (next_.Unlock d) h = refl
-waits_none fs xs heap output x (next_.Par node) h = refl
-waits_none fs xs heap output x next_.ParEnd h = refl
-waits_none fs xs heap output x next_.Own h = refl
+-- a thread at its place has the one that is kept
+pub result_there : (fs : List Form) (xs : List Thread) (u k : ℕ) (z : Thread) → place_of (numbers_of xs) u ≡ Some k → z ≡ get_or xs k z → is_some (result_at (threads_of fs xs) u) ≡ is_some (result_in z.stage)
+result_there fs xs u k z e is = ap (λ o. is_some (result_in_plain o)) (there_at fs xs u k z e is).0 ∙ ap (λ o. is_some o) (kept_result z.stage (run_in fs z))
 
 -- a value that is no task waits for nobody
 pub waits_nobody : (s : Whole) (v : Value) → None ≡ task_named v → join_waits s v ≡ None
@@ -113,25 +96,40 @@ waits_nobody s (ToSlot n) h = refl
 waits_nobody s (ToObject o) h = refl
 waits_nobody s (Held o) h = refl
 
+-- THE END OF A PAIR
+
+both_by : (a b : Option Value) (c : Bool) (w : Wait) → (is_some a && is_some b) ≡ c → unless_both a b w ≡ (if c then None else Some w)
+both_by None b true w h = absurd cc
+both_by None b false w h = refl
+both_by (Some x) None true w h = absurd cc
+both_by (Some x) None false w h = refl
+both_by (Some x) (Some y) true w h = refl
+both_by (Some x) (Some y) false w h = absurd cc
+
+-- by whether both have a result
+pub pair_by : (s : Whole) (t : ℕ) (x : Two) (c : Bool) → two_from t (Some x) ≡ pair_of s.pairs t → (is_some (result_at s.threads x.first) && is_some (result_at s.threads x.second)) ≡ c →
+    pair_waits s (pair_of s.pairs t) ≡ (if c then None else Some (wait.Par x.first x.second))
+pair_by s t x c h r = ap (pair_waits s) (sym h) ∙ both_by (result_at s.threads x.first) (result_at s.threads x.second) c (wait.Par x.first x.second) r
+
 -- REFUSALS
 
-pub refused_nowhere : (fs : List Form) (xs : List Thread) (heap : Heap) (output : List ℤ) (t : ℕ) (names : Fresh) → place_of (numbers_of xs) t ≡ None → refusal (whole fs xs heap output) t names ≡ Some error.NoThread
-refused_nowhere fs xs heap output t names h = ap (λ o. option_map error_of (refused_of (whole fs xs heap output) names o)) (none_there fs xs t h)
+pub refused_nowhere : (fs : List Form) (xs : List Thread) (beside : Beside) (output : List ℤ) (t : ℕ) (names : Fresh) → place_of (numbers_of xs) t ≡ None → refusal (whole fs xs beside output) t names ≡ Some error.NoThread
+refused_nowhere fs xs beside output t names h = ap (λ o. option_map error_of (refused_of (whole fs xs beside output) names o)) (none_there fs xs t h)
 
 -- by whether it has ended, what it waits for, and the names that it takes
 abbrev by_causes : Whole → Fresh → Bool → Option Wait → Takes → Option StepError
 by_causes s names over w takes = option_map error_of (if over then Some has_ended else refused_wait w (refused_names s takes names))
 
-pub refused_ended : (fs : List Form) (xs : List Thread) (heap : Heap) (output : List ℤ) (t : ℕ) (names : Fresh) (i : ℕ) (x : Thread) → place_of (numbers_of xs) t ≡ Some i → x ≡ get_or xs i x → is_done x.stage ≡ true → refusal (whole fs xs heap output) t names ≡ Some error.Ended
-refused_ended fs xs heap output t names i x h is e =
-    let s = whole fs xs heap output in
+pub refused_ended : (fs : List Form) (xs : List Thread) (beside : Beside) (output : List ℤ) (t : ℕ) (names : Fresh) (i : ℕ) (x : Thread) → place_of (numbers_of xs) t ≡ Some i → x ≡ get_or xs i x → is_done x.stage ≡ true → refusal (whole fs xs beside output) t names ≡ Some error.Ended
+refused_ended fs xs beside output t names i x h is e =
+    let s = whole fs xs beside output in
     ap (λ o. option_map error_of (refused_of s names o)) (there_at fs xs t i x h is).0
     ∙ ap (λ b. by_causes s names b (waits_for s (thread_of fs x)) (takes_name (life_move (thread_of fs x).life))) (life_done x.stage (run_in fs x) ∙ e)
 
-pub refused_there : (fs : List Form) (xs : List Thread) (heap : Heap) (output : List ℤ) (t : ℕ) (names : Fresh) (i : ℕ) (x : Thread) (n : Next) (w : Option Wait) → AreInOrder fs → IsWell fs x → place_of (numbers_of xs) t ≡ Some i → x ≡ get_or xs i x → is_done x.stage ≡ false → IsNext x.focus x.frames.items n →
-    next_waits (whole fs xs heap output) (thread_of fs x) n ≡ w → refusal (whole fs xs heap output) t names ≡ option_map error_of (refused_wait w (refused_names (whole fs xs heap output) (next_takes n) names))
-refused_there fs xs heap output t names i x n w a well h is e comes stays =
-    let s = whole fs xs heap output in
+pub refused_there : (fs : List Form) (xs : List Thread) (beside : Beside) (output : List ℤ) (t : ℕ) (names : Fresh) (i : ℕ) (x : Thread) (n : Next) (w : Option Wait) → AreInOrder fs → IsWell fs x → place_of (numbers_of xs) t ≡ Some i → x ≡ get_or xs i x → is_done x.stage ≡ false → IsNext x.focus x.frames.items n →
+    next_waits (whole fs xs beside output) (thread_of fs x) n ≡ w → refusal (whole fs xs beside output) t names ≡ option_map error_of (refused_wait w (refused_names (whole fs xs beside output) (next_takes n) names))
+refused_there fs xs beside output t names i x n w a well h is e comes stays =
+    let s = whole fs xs beside output in
     let st = stands fs s x n a well e comes in
     ap (λ o. option_map error_of (refused_of s names o)) (there_at fs xs t i x h is).0
     ∙ ap (λ b. by_causes s names b (waits_for s (thread_of fs x)) (takes_name (life_move (thread_of fs x).life))) (life_done x.stage (run_in fs x) ∙ e)
@@ -145,20 +143,20 @@ takes_kind a_thread = refl
 takes_kind two_threads = refl
 takes_kind a_mutex = refl
 
-pub need_nowhere : (fs : List Form) (xs : List Thread) (heap : Heap) (output : List ℤ) (t : ℕ) → place_of (numbers_of xs) t ≡ None → need_of (whole fs xs heap output) t ≡ None
-need_nowhere fs xs heap output t h = ap need_in (none_there fs xs t h)
+pub need_nowhere : (fs : List Form) (xs : List Thread) (beside : Beside) (output : List ℤ) (t : ℕ) → place_of (numbers_of xs) t ≡ None → need_of (whole fs xs beside output) t ≡ None
+need_nowhere fs xs beside output t h = ap need_in (none_there fs xs t h)
 
 abbrev by_need : Bool → Takes → Option Need
 by_need over takes = if over then None else Some (kind_of takes)
 
-pub need_ended : (fs : List Form) (xs : List Thread) (heap : Heap) (output : List ℤ) (t i : ℕ) (x : Thread) → place_of (numbers_of xs) t ≡ Some i → x ≡ get_or xs i x → is_done x.stage ≡ true → need_of (whole fs xs heap output) t ≡ None
-need_ended fs xs heap output t i x h is e = ap need_in (there_at fs xs t i x h is).0 ∙ ap (λ b. by_need b (takes_name (life_move (thread_of fs x).life))) (life_done x.stage (run_in fs x) ∙ e)
+pub need_ended : (fs : List Form) (xs : List Thread) (beside : Beside) (output : List ℤ) (t i : ℕ) (x : Thread) → place_of (numbers_of xs) t ≡ Some i → x ≡ get_or xs i x → is_done x.stage ≡ true → need_of (whole fs xs beside output) t ≡ None
+need_ended fs xs beside output t i x h is e = ap need_in (there_at fs xs t i x h is).0 ∙ ap (λ b. by_need b (takes_name (life_move (thread_of fs x).life))) (life_done x.stage (run_in fs x) ∙ e)
 
-pub need_there : (fs : List Form) (xs : List Thread) (heap : Heap) (output : List ℤ) (t i : ℕ) (x : Thread) (n : Next) (need : Need) → AreInOrder fs → IsWell fs x → place_of (numbers_of xs) t ≡ Some i → x ≡ get_or xs i x → is_done x.stage ≡ false → IsNext x.focus x.frames.items n →
-    need ≡ kind_of (next_takes n) → need_of (whole fs xs heap output) t ≡ Some need
-need_there fs xs heap output t i x n need a well h is e comes same =
+pub need_there : (fs : List Form) (xs : List Thread) (beside : Beside) (output : List ℤ) (t i : ℕ) (x : Thread) (n : Next) (need : Need) → AreInOrder fs → IsWell fs x → place_of (numbers_of xs) t ≡ Some i → x ≡ get_or xs i x → is_done x.stage ≡ false → IsNext x.focus x.frames.items n →
+    need ≡ kind_of (next_takes n) → need_of (whole fs xs beside output) t ≡ Some need
+need_there fs xs beside output t i x n need a well h is e comes same =
     ap need_in (there_at fs xs t i x h is).0 ∙ ap (λ b. by_need b (takes_name (life_move (thread_of fs x).life))) (life_done x.stage (run_in fs x) ∙ e)
-    ∙ ap (by_need false) (stands fs (whole fs xs heap output) x n a well e comes).1 ∙ ap Some (sym same)
+    ∙ ap (by_need false) (stands fs (whole fs xs beside output) x n a well e comes).1 ∙ ap Some (sym same)
 
 -- STANDING STILL
 

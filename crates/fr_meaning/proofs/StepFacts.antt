@@ -6,7 +6,6 @@ use Rattle.fr_base.specs.declared.step.Fresh.{Fresh}
 use Rattle.fr_base.specs.declared.step.Fresh.TheVariants as fresh
 use Rattle.fr_plain.specs.declared.value.Value.{Value}
 use Rattle.fr_plain.specs.declared.value.Value.TheVariants.{Own, ToSlot, ToObject, Held}
-use Rattle.fr_plain.specs.Heap.{Heap}
 use Rattle.fr_plain.specs.Acts.{Act, do_spawn, do_join, do_mutex, do_dup, do_lock, do_unlock, do_par, do_par_end, Did, act, drops_last}
 use Rattle.fr_plain.specs.Run.{Run, Move, next, move, Life, life_move}
 use Rattle.fr_plain.specs.Threads.{Passed, result_of_life, result_in as result_in_plain}
@@ -23,6 +22,7 @@ use Rattle.fr_forms.specs.FormTerms.{AreInOrder, captures_of, captures_at}
 use Rattle.fr_meaning.specs.Next.{IsNext, next_takes, task_named, HasThreadsMove, IsThreadsMove, IsThreadsAct}
 use Rattle.fr_shared.specs.Places.{place_of}
 use Rattle.fr_acts.specs.SlotOrder.{newest_first}
+use Rattle.fr_meaning.specs.Beside.{Beside}
 use Rattle.fr_meaning.specs.Threads.{run_in, IsWell, AreWell, IsGoingOn, IsEnded, result_in, life_at, thread_of, threads_of, whole, numbers_of}
 use Rattle.fr_acts.specs.Acting.{state, releases}
 use Rattle.fr_meaning.specs.Turning.{turned_by, turned, settled, term_step}
@@ -69,28 +69,28 @@ no_some None e h = let f : false ≡ true = h in cc
 no_some (Some x) e h = cc
 
 -- a thread without a place takes no step
-pub no_step : (fs : List Form) (xs : List Thread) (heap : Heap) (output : List ℤ) (t : ℕ) (names : Fresh) → place_of (numbers_of xs) t ≡ None → IsSome (step (whole fs xs heap output) t names) → ⊥
-no_step fs xs heap output t names h goes = no_some (step (whole fs xs heap output) t names) (ap (step_of (whole fs xs heap output) names) (none_there fs xs t h)) goes
+pub no_step : (fs : List Form) (xs : List Thread) (beside : Beside) (output : List ℤ) (t : ℕ) (names : Fresh) → place_of (numbers_of xs) t ≡ None → IsSome (step (whole fs xs beside output) t names) → ⊥
+no_step fs xs beside output t names h goes = no_some (step (whole fs xs beside output) t names) (ap (step_of (whole fs xs beside output) names) (none_there fs xs t h)) goes
 
 -- the thread at its place, whose next step can be done under these names
-pub record Steps (fs : List Form) (xs : List Thread) (heap : Heap) (output : List ℤ) (t : ℕ) (names : Fresh) (i : ℕ) (x : Thread) (n : Next) : Type 0 where
+pub record Steps (fs : List Form) (xs : List Thread) (beside : Beside) (output : List ℤ) (t : ℕ) (names : Fresh) (i : ℕ) (x : Thread) (n : Next) : Type 0 where
   pub order : AreInOrder fs
   pub well : IsWell fs x
   pub place : place_of (numbers_of xs) t ≡ Some i
   pub is : x ≡ get_or xs i x
   pub comes : IsNext x.focus x.frames.items n
-  pub goes : IsSome (step (whole fs xs heap output) t names)
+  pub goes : IsSome (step (whole fs xs beside output) t names)
 
-module _ {fs : List Form} {xs : List Thread} {heap : Heap} {output : List ℤ} {t : ℕ} {names : Fresh} {i : ℕ} {x : Thread} {n : Next} where
+module _ {fs : List Form} {xs : List Thread} {beside : Beside} {output : List ℤ} {t : ℕ} {names : Fresh} {i : ℕ} {x : Thread} {n : Next} where
   -- its move can be done
-  pub move_goes : Steps fs xs heap output t names i x n → IsSome (moved (whole fs xs heap output) (thread_of fs x) names (life_move (life_at x.stage (run_in fs x))))
-  move_goes h = subst (λ (o : Option Stepped). IsSome o) (ap (step_of (whole fs xs heap output) names) (there_at fs xs t i x h.place h.is).0) h.goes
+  pub move_goes : Steps fs xs beside output t names i x n → IsSome (moved (whole fs xs beside output) (thread_of fs x) names (life_move (life_at x.stage (run_in fs x))))
+  move_goes h = subst (λ (o : Option Stepped). IsSome o) (ap (step_of (whole fs xs beside output) names) (there_at fs xs t i x h.place h.is).0) h.goes
 
   -- so it is in progress
-  pub is_on : Steps fs xs heap output t names i x n → IsGoingOn x.stage
+  pub is_on : Steps fs xs beside output t names i x n → IsGoingOn x.stage
   is_on h = by x.stage (move_goes h)
     where
-      by : (g : Stage) → IsSome (moved (whole fs xs heap output) (thread_of fs x) names (life_move (life_at g (run_in fs x)))) → IsGoingOn g
+      by : (g : Stage) → IsSome (moved (whole fs xs beside output) (thread_of fs x) names (life_move (life_at g (run_in fs x)))) → IsGoingOn g
       by stage.Alive k = tt
       by stage.Owing k = tt
       by stage.Loose k = tt
@@ -98,13 +98,13 @@ module _ {fs : List Form} {xs : List Thread} {heap : Heap} {output : List ℤ} {
       by (stage.Ended v) k = no_some {A = Stepped} None refl k
 
   -- and its move is the one that comes next
-  pub is_move : Steps fs xs heap output t names i x n → Moves fs n (life_move (life_at x.stage (run_in fs x)))
+  pub is_move : Steps fs xs beside output t names i x n → Moves fs n (life_move (life_at x.stage (run_in fs x)))
   is_move h = next_moves fs x n h.order h.well (is_on h) h.comes
 
 -- from what is known of all threads
-pub steps_at : (fs : List Form) (xs : List Thread) (heap : Heap) (output : List ℤ) (t : ℕ) (names : Fresh) (i : ℕ) (n : Next) (ns : List ℕ) → AreInOrder fs → AreWell fs xs → ns ≡ numbers_of xs → place_of ns t ≡ Some i → i < length xs →
-    ((x : Thread) → x ≡ get_or xs i x → IsNext x.focus x.frames.items n) → IsSome (step (whole fs xs heap output) t names) → (x : Thread) → x ≡ get_or xs i x → Steps fs xs heap output t names i x n
-steps_at fs xs heap output t names i n ns a all same h lt comes goes x is = record { order = a; well = well_at fs xs i x lt is all; place = ap (λ ks. place_of ks t) (sym same) ∙ h; is = is; comes = comes x is; goes = goes }
+pub steps_at : (fs : List Form) (xs : List Thread) (beside : Beside) (output : List ℤ) (t : ℕ) (names : Fresh) (i : ℕ) (n : Next) (ns : List ℕ) → AreInOrder fs → AreWell fs xs → ns ≡ numbers_of xs → place_of ns t ≡ Some i → i < length xs →
+    ((x : Thread) → x ≡ get_or xs i x → IsNext x.focus x.frames.items n) → IsSome (step (whole fs xs beside output) t names) → (x : Thread) → x ≡ get_or xs i x → Steps fs xs beside output t names i x n
+steps_at fs xs beside output t names i n ns a all same h lt comes goes x is = record { order = a; well = well_at fs xs i x lt is all; place = ap (λ ks. place_of ks t) (sym same) ∙ h; is = is; comes = comes x is; goes = goes }
 
 -- NAMES
 
@@ -118,27 +118,27 @@ with_act : (s : Whole) (x : PlainThread) (names : Fresh) (o : Option (Move Life)
 with_act s x names o m a e same g = subst (λ (o : Option Stepped). IsSome o) (ap (moved s x names) e ∙ ap (done_act s x names m) same) g
 
 -- nor does a join
-pub takes_none : (fs : List Form) (xs : List Thread) (heap : Heap) (output : List ℤ) (t : ℕ) (names : Fresh) (i : ℕ) (x : Thread) (n : Next) → Steps fs xs heap output t names i x n → next_takes n ≡ no_name → names ≡ fresh.None
-takes_none fs xs heap output t names i x (next_.End d) h e = own_goes (whole fs xs heap output) (thread_of fs x) names (life_move (life_at x.stage (run_in fs x))) (is_move h) (move_goes h)
-takes_none fs xs heap output t names i x (next_.Join v) h e =
+pub takes_none : (fs : List Form) (xs : List Thread) (beside : Beside) (output : List ℤ) (t : ℕ) (names : Fresh) (i : ℕ) (x : Thread) (n : Next) → Steps fs xs beside output t names i x n → next_takes n ≡ no_name → names ≡ fresh.None
+takes_none fs xs beside output t names i x (next_.End d) h e = own_goes (whole fs xs beside output) (thread_of fs x) names (life_move (life_at x.stage (run_in fs x))) (is_move h) (move_goes h)
+takes_none fs xs beside output t names i x (next_.Join v) h e =
     let m = is_move h in
-    (nameless names (joined (whole fs xs heap output) (thread_of fs x) m.0 v) (with_act (whole fs xs heap output) (thread_of fs x) names (life_move (life_at x.stage (run_in fs x))) m.0 (do_join v) m.1 m.2 (move_goes h))).0
-takes_none fs xs heap output t names i x (next_.Start node) h e = absurd cc
-takes_none fs xs heap output t names i x (next_.Mutex v) h e = absurd cc
-takes_none fs xs heap output t names i x (next_.Par node) h e = absurd cc
-takes_none fs xs heap output t names i x (next_.Dup w) h e =
+    (nameless names (joined (whole fs xs beside output) (thread_of fs x) m.0 v) (with_act (whole fs xs beside output) (thread_of fs x) names (life_move (life_at x.stage (run_in fs x))) m.0 (do_join v) m.1 m.2 (move_goes h))).0
+takes_none fs xs beside output t names i x (next_.Start node) h e = absurd cc
+takes_none fs xs beside output t names i x (next_.Mutex v) h e = absurd cc
+takes_none fs xs beside output t names i x (next_.Par node) h e = absurd cc
+takes_none fs xs beside output t names i x (next_.Dup w) h e =
     let m = is_move h in
-    (nameless names _ (with_act (whole fs xs heap output) (thread_of fs x) names (life_move (life_at x.stage (run_in fs x))) m.0 (do_dup w) m.1 m.2 (move_goes h))).0
-takes_none fs xs heap output t names i x (next_.Lock w node) h e =
+    (nameless names _ (with_act (whole fs xs beside output) (thread_of fs x) names (life_move (life_at x.stage (run_in fs x))) m.0 (do_dup w) m.1 m.2 (move_goes h))).0
+takes_none fs xs beside output t names i x (next_.Lock w node) h e =
     let m = is_move h in
-    (nameless names _ (with_act (whole fs xs heap output) (thread_of fs x) names (life_move (life_at x.stage (run_in fs x))) m.0 (do_lock w) m.1 m.2 (move_goes h))).0
-takes_none fs xs heap output t names i x (next_.Unlock d) h e =
+    (nameless names _ (with_act (whole fs xs beside output) (thread_of fs x) names (life_move (life_at x.stage (run_in fs x))) m.0 (do_lock w) m.1 m.2 (move_goes h))).0
+takes_none fs xs beside output t names i x (next_.Unlock d) h e =
     let m = is_move h in
-    (nameless names _ (with_act (whole fs xs heap output) (thread_of fs x) names (life_move (life_at x.stage (run_in fs x))) m.0 do_unlock m.1 m.2 (move_goes h))).0
-takes_none fs xs heap output t names i x next_.ParEnd h e =
+    (nameless names _ (with_act (whole fs xs beside output) (thread_of fs x) names (life_move (life_at x.stage (run_in fs x))) m.0 do_unlock m.1 m.2 (move_goes h))).0
+takes_none fs xs beside output t names i x next_.ParEnd h e =
     let m = is_move h in
-    (nameless names _ (with_act (whole fs xs heap output) (thread_of fs x) names (life_move (life_at x.stage (run_in fs x))) m.0 do_par_end m.1 m.2 (move_goes h))).0
-takes_none fs xs heap output t names i x next_.Own h e = own_goes (whole fs xs heap output) (thread_of fs x) names (life_move (life_at x.stage (run_in fs x))) (is_move h) (move_goes h)
+    (nameless names _ (with_act (whole fs xs beside output) (thread_of fs x) names (life_move (life_at x.stage (run_in fs x))) m.0 do_par_end m.1 m.2 (move_goes h))).0
+takes_none fs xs beside output t names i x next_.Own h e = own_goes (whole fs xs beside output) (thread_of fs x) names (life_move (life_at x.stage (run_in fs x))) (is_move h) (move_goes h)
 
 -- AN ACT OF ITS OWN
 
@@ -152,11 +152,11 @@ alone_goes s x g (Some m) w h = by (act m.act (state_of s x)) (subst (λ (o : Op
     by (Some d) k = refl
 
 -- the step of the thread's term can be done
-pub own_steps : (fs : List Form) (xs : List Thread) (heap : Heap) (output : List ℤ) (t i : ℕ) (x : Thread) → Steps fs xs heap output t fresh.None i x next_.Own → IsSome (term_step (run_in fs x) (state x.number x.slots.items heap))
-own_steps fs xs heap output t i x h =
+pub own_steps : (fs : List Form) (xs : List Thread) (beside : Beside) (output : List ℤ) (t i : ℕ) (x : Thread) → Steps fs xs beside output t fresh.None i x next_.Own → IsSome (term_step (run_in fs x) (state x.number x.slots.items beside.heap))
+own_steps fs xs beside output t i x h =
     let e = life_moves x.stage (run_in fs x) (is_on h) (not_done fs x.frames.items x.focus h.order h.well.settled h.well.way h.comes.goes_on) in
-    alone_goes (whole fs xs heap output) (thread_of fs x) x.stage (move (run_in fs x)) (run_owns fs x.frames.items x.focus h.well.settled h.well.way h.comes)
-    (subst (λ (o : Option (Move Life)). IsSome (moved (whole fs xs heap output) (thread_of fs x) fresh.None o)) e (move_goes h))
+    alone_goes (whole fs xs beside output) (thread_of fs x) x.stage (move (run_in fs x)) (run_owns fs x.frames.items x.focus h.well.settled h.well.way h.comes)
+    (subst (λ (o : Option (Move Life)). IsSome (moved (whole fs xs beside output) (thread_of fs x) fresh.None o)) e (move_goes h))
 
 -- A JOIN
 
@@ -202,9 +202,9 @@ pub record JoinSteps (fs : List Form) (xs : List Thread) (v : Value) : Type 0 wh
   pub there : place_of (numbers_of xs) joined ≡ None → ⊥
   pub ended : (k : ℕ) (z : Thread) → place_of (numbers_of xs) joined ≡ Some k → z ≡ get_or xs k z → IsEnded z.stage
 
-pub join_steps : (fs : List Form) (xs : List Thread) (heap : Heap) (output : List ℤ) (t i : ℕ) (x : Thread) (v : Value) → Steps fs xs heap output t fresh.None i x (next_.Join v) → JoinSteps fs xs v
-join_steps fs xs heap output t i x v h =
-    let s = whole fs xs heap output in
+pub join_steps : (fs : List Form) (xs : List Thread) (beside : Beside) (output : List ℤ) (t i : ℕ) (x : Thread) (v : Value) → Steps fs xs beside output t fresh.None i x (next_.Join v) → JoinSteps fs xs v
+join_steps fs xs beside output t i x v h =
+    let s = whole fs xs beside output in
     let m = is_move h in
     let k = join_finds s (thread_of fs x) m.0 v (with_act s (thread_of fs x) fresh.None (life_move (life_at x.stage (run_in fs x))) m.0 (do_join v) m.1 m.2 (move_goes h)) in
     record {
@@ -227,13 +227,13 @@ pub record StartSteps (fs : List Form) (xs : List Thread) (names : Fresh) (x : T
   pub new : place_of (numbers_of xs) number ≡ None
   pub passes : IsSome (pass (captures_of (captures_at fs node)) (newest_first x.slots.items) [])
 
-pub start_steps : (fs : List Form) (xs : List Thread) (heap : Heap) (output : List ℤ) (t : ℕ) (names : Fresh) (i : ℕ) (x : Thread) (node : ℕ) → Steps fs xs heap output t names i x (next_.Start node) → StartSteps fs xs names x node
-start_steps fs xs heap output t names i x node h =
+pub start_steps : (fs : List Form) (xs : List Thread) (beside : Beside) (output : List ℤ) (t : ℕ) (names : Fresh) (i : ℕ) (x : Thread) (node : ℕ) → Steps fs xs beside output t names i x (next_.Start node) → StartSteps fs xs names x node
+start_steps fs xs beside output t names i x node h =
     let m = is_move h in
     by names m.0 m.1 (with_act s (thread_of fs x) names (life_move (life_at x.stage (run_in fs x))) m.0 (do_spawn (captures_of (captures_at fs node)) m.1) m.2 m.3 (move_goes h))
   where
     s : Whole
-    s = whole fs xs heap output
+    s = whole fs xs beside output
 
     passed : Option Passed
     passed = pass (captures_of (captures_at fs node)) (newest_first x.slots.items) []
@@ -292,9 +292,9 @@ other_next (next_.Par node) known a b c e = known
 other_next next_.ParEnd known a b c e = known
 
 -- nothing else comes next
-pub no_other : (fs : List Form) (xs : List Thread) (heap : Heap) (output : List ℤ) (t : ℕ) (names : Fresh) (i : ℕ) (x : Thread) (n : Next) → Steps fs xs heap output t names i x n → HasThreadsMove (thread_at (threads_of fs xs) t) →
+pub no_other : (fs : List Form) (xs : List Thread) (beside : Beside) (output : List ℤ) (t : ℕ) (names : Fresh) (i : ℕ) (x : Thread) (n : Next) → Steps fs xs beside output t names i x n → HasThreadsMove (thread_at (threads_of fs xs) t) →
     ((d : Done) → n ≡ next_.End d → ⊥) → ((v : Value) → n ≡ next_.Join v → ⊥) → ((node : ℕ) → n ≡ next_.Start node → ⊥) → (n ≡ next_.Own → ⊥) → ⊥
-no_other fs xs heap output t names i x n h known a b c e =
+no_other fs xs beside output t names i x n h known a b c e =
     other_next n (threads_next fs n (life_move (life_at x.stage (run_in fs x))) (is_move h) (subst HasThreadsMove (there_at fs xs t i x h.place h.is).0 known)) a b c e
 
 -- SOME THREAD AT A PLACE

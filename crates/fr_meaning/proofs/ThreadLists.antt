@@ -1,9 +1,13 @@
 -- Threads of the code at their places, and the plain threads that they stand for.
-use Rattle.std.proofs.Common.{◌≡◌, ◌≢◌, ℕ, ℤ, zero, suc, ◌<◌, List, [], ◌∷◌, ◌++◌, length, get_or, Option, Some, None, refl, sym, ap, ◌∙◌, subst, arith}
+use Rattle.std.proofs.Common.{◌≡◌, ◌≢◌, ℕ, ℤ, zero, suc, ◌+◌, ◌<◌, List, [], ◌∷◌, ◌++◌, length, get_or, Option, Some, None, refl, sym, ap, ◌∙◌, subst, arith}
 use Rattle.std.specs.Prelude.{◌==◌, option_map, slice_set, vec_capacity, if◌then◌else◌}
 use Rattle.fr_plain.specs.declared.value.Value.{Value}
-use Rattle.fr_plain.specs.Heap.{Heap}
-use Rattle.fr_plain.specs.Threads.{Thread as PlainThread, Whole, thread_at, with_thread, released, released_in, let_threads_go}
+use Rattle.fr_base.specs.declared.label.Plain.{Plain}
+use Rattle.fr_base.specs.declared.label.Plain.TheVariants as plain
+use Rattle.fr_plain.specs.Acts.{end_of}
+use Rattle.fr_plain.specs.State.{without}
+use Rattle.fr_plain.specs.MachineThreads.{Mutex, thread_released, thread_released_in, release_by, count_both}
+use Rattle.fr_plain.specs.Threads.{Thread as PlainThread, Whole, thread_at, with_thread}
 use Rattle.fr_forms.specs.declared.forms.Form.{Form}
 use Rattle.fr_meaning.specs.declared.thread.Stage.{Stage}
 use Rattle.fr_meaning.specs.declared.thread.Stage.TheVariants as stage
@@ -15,8 +19,11 @@ use Rattle.fr_forms.specs.Depths.{depth}
 use Rattle.fr_meaning.specs.FrameTerms.{wrapped, focus_run, AreInside, HasMadeWay}
 use Rattle.fr_acts.specs.SlotOrder.{newest_first}
 use Rattle.fr_shared.specs.Places.{place_of}
-use Rattle.fr_meaning.specs.Threads.{run_in, IsGoingOn, IsEnded, IsWell, life_at, thread_of, threads_of, whole, numbers_of, AreWell, after_release, released_heap, released_task}
+use Rattle.fr_acts.specs.MutexActs.{last_of}
+use Rattle.fr_meaning.specs.Beside.{Beside}
+use Rattle.fr_meaning.specs.Threads.{run_in, IsGoingOn, IsEnded, IsWell, life_at, thread_of, threads_of, whole, numbers_of, AreWell, after_release, released_heap, released_last}
 use Rattle.fr_forms.proofs.FormLemmas.{eq_cases}
+use Rattle.fr_acts.proofs.ReleaseLemmas.{last_same}
 use Rattle.fr_shared.proofs.PlaceLemmas.{later_place}
 
 -- as many numbers as threads
@@ -130,21 +137,23 @@ well_set fs (u ∷ xs) (suc i) y g w = (w.0, well_set fs xs i y g w.1)
 
 -- LETTING GO
 
--- no thread goes any more
-pub none_goes : (n : ℕ) (s : Whole) (o : Option ℕ) → o ≡ None → let_threads_go n s o ≡ s
-none_goes n s o h = subst (λ (u : Option ℕ). let_threads_go n s u ≡ s) (sym h) refl
+-- nothing goes any more
+pub none_goes : (s : Whole) (v : Plain) → release_by zero s v ≡ s
+none_goes s plain.Nothing = refl
+none_goes s plain.Unit = refl
+none_goes s (plain.Int n) = refl
+none_goes s (plain.Box o) = refl
+none_goes s (plain.Task t) = refl
+none_goes s (plain.Mutex n) = refl
 
-pub zero_goes : (n : ℕ) (s : Whole) (o : Option ℕ) → n ≡ 0 → let_threads_go n s o ≡ s
-zero_goes n s o h = subst (λ (k : ℕ). let_threads_go k s o ≡ s) (sym h) (by o)
-  where
-    by : (o : Option ℕ) → let_threads_go zero s o ≡ s
-    by None = refl
-    by (Some t) = refl
+-- as many as there are
+pub count_lengths : (ms : List Mutex) (ts : List PlainThread) → count_both ms ts ≡ length ts + length ms
+count_lengths [] ts = omega arith
+count_lengths (m ∷ ms) ts = omega (arith, count_lengths ms ts)
 
 -- a thread that isn't there
-pub unknown_goes : (n : ℕ) (s : Whole) (t : ℕ) → thread_at s.threads t ≡ None → let_threads_go n s (Some t) ≡ s
-unknown_goes zero s t h = refl
-unknown_goes (suc n) s t h = ap (released_in (let_threads_go n) s) h
+pub unknown_goes : (n : ℕ) (s : Whole) (t : ℕ) → thread_at s.threads t ≡ None → release_by (suc n) s (plain.Task t) ≡ s
+unknown_goes n s t h = ap (thread_released_in (release_by n) s) h
 
 -- a thread that stands there already
 with_same : (ts : List PlainThread) (x : PlainThread) → thread_at ts x.number ≡ Some x → with_thread ts x ≡ ts
@@ -155,27 +164,27 @@ with_same (y ∷ ts) x h =
     (λ other g. ap (λ (us : List PlainThread). y ∷ us) (with_same ts x g)) h
 
 -- the thread with another stage
-abbrev staged : List Form → Thread → Stage → PlainThread
+abbrev pub staged : List Form → Thread → Stage → PlainThread
 staged fs x s = record (thread_of fs x) { life = life_at s (run_in fs x) }
 
 -- letting a thread go, by its stage
-release_by : (n : ℕ) (fs : List Form) (s : Whole) (x : Thread) (g : Stage) → x.stage ≡ g → thread_at s.threads x.number ≡ Some (thread_of fs x) →
-    released (let_threads_go n) s (thread_of fs x) (life_at g (run_in fs x)) ≡ let_threads_go n (record s { threads = with_thread s.threads (staged fs x (after_release g)); heap = released_heap s.heap g }) (released_task s.heap g)
-release_by n fs s x stage.Owing e h = refl
-release_by n fs s x (stage.Ended v) e h = refl
-release_by n fs s x stage.Alive e h = sym (ap (λ ts. record s { threads = ts }) (ap (λ q. with_thread s.threads (staged fs x q)) (sym e) ∙ with_same s.threads (thread_of fs x) h))
-release_by n fs s x stage.Loose e h = sym (ap (λ ts. record s { threads = ts }) (ap (λ q. with_thread s.threads (staged fs x q)) (sym e) ∙ with_same s.threads (thread_of fs x) h))
-release_by n fs s x stage.Over e h = sym (ap (λ ts. record s { threads = ts }) (ap (λ q. with_thread s.threads (staged fs x q)) (sym e) ∙ with_same s.threads (thread_of fs x) h))
+goes_by : (n : ℕ) (fs : List Form) (s : Whole) (x : Thread) (g : Stage) → x.stage ≡ g → thread_at s.threads x.number ≡ Some (thread_of fs x) →
+    thread_released (release_by n) s (thread_of fs x) (life_at g (run_in fs x)) ≡ release_by n (record s { threads = with_thread s.threads (staged fs x (after_release g)); heap = released_heap s.heap g }) (last_of (released_last s.heap g))
+goes_by n fs s x stage.Owing e h = refl
+goes_by n fs s x (stage.Ended v) e h = sym (last_same n (record s { threads = with_thread s.threads (staged fs x stage.Over); heap = without s.heap v }) (end_of s.heap v))
+goes_by n fs s x stage.Alive e h = sym (ap (λ ts. record s { threads = ts }) (ap (λ q. with_thread s.threads (staged fs x q)) (sym e) ∙ with_same s.threads (thread_of fs x) h))
+goes_by n fs s x stage.Loose e h = sym (ap (λ ts. record s { threads = ts }) (ap (λ q. with_thread s.threads (staged fs x q)) (sym e) ∙ with_same s.threads (thread_of fs x) h))
+goes_by n fs s x stage.Over e h = sym (ap (λ ts. record s { threads = ts }) (ap (λ q. with_thread s.threads (staged fs x q)) (sym e) ∙ with_same s.threads (thread_of fs x) h))
 
 -- one thread more goes
-pub one_goes : (n : ℕ) (fs : List Form) (xs : List Thread) (heap : Heap) (output : List ℤ) (t i : ℕ) (x y : Thread) → place_of (numbers_of xs) t ≡ Some i → x ≡ get_or xs i x → y.number ≡ x.number → thread_of fs y ≡ record (thread_of fs x) { life = life_at (after_release x.stage) (run_in fs x) } →
-    let_threads_go (suc n) (whole fs xs heap output) (Some t) ≡ let_threads_go n (whole fs (slice_set xs i y) (released_heap heap x.stage) output) (released_task heap x.stage)
-one_goes n fs xs heap output t i x y h is m e =
+pub one_goes : (n : ℕ) (fs : List Form) (xs : List Thread) (beside : Beside) (output : List ℤ) (t i : ℕ) (x y : Thread) → place_of (numbers_of xs) t ≡ Some i → x ≡ get_or xs i x → y.number ≡ x.number → thread_of fs y ≡ record (thread_of fs x) { life = life_at (after_release x.stage) (run_in fs x) } →
+    release_by (suc n) (whole fs xs beside output) (plain.Task t) ≡ release_by n (whole fs (slice_set xs i y) (record beside { heap = released_heap beside.heap x.stage }) output) (last_of (released_last beside.heap x.stage))
+one_goes n fs xs beside output t i x y h is m e =
     let there = there_at fs xs t i x h is in
     let here = ap (thread_at (threads_of fs xs)) there.1 ∙ there.0 in
-    ap (released_in (let_threads_go n) (whole fs xs heap output)) there.0
-    ∙ release_by n fs (whole fs xs heap output) x x.stage refl here
-    ∙ ap (λ ts. let_threads_go n (record { threads = ts; heap = released_heap heap x.stage; mutexes = []; pairs = []; output = output }) (released_task heap x.stage)) (ap (with_thread (threads_of fs xs)) (sym e) ∙ set_at fs xs t i y h (m ∙ there.1))
+    ap (thread_released_in (release_by n) (whole fs xs beside output)) there.0
+    ∙ goes_by n fs (whole fs xs beside output) x x.stage refl here
+    ∙ ap (λ ts. release_by n (record { threads = ts; heap = released_heap beside.heap x.stage; mutexes = beside.mutexes; pairs = beside.pairs; output = output }) (last_of (released_last beside.heap x.stage))) (ap (with_thread (threads_of fs xs)) (sym e) ∙ set_at fs xs t i y h (m ∙ there.1))
 
 -- ONE MORE
 

@@ -1,5 +1,5 @@
 -- A running term as the terms around its innermost one, and when it waits for a step.
-use Rattle.std.specs.Prelude.{ℕ, zero, suc, ◌+◌, max, ⊤, List, [], ◌∷◌}
+use Rattle.std.specs.Prelude.{ℕ, zero, suc, ⊤, List, [], ◌∷◌}
 use Rattle.fr_base.specs.declared.place.Lval.{Lval}
 use Rattle.fr_base.specs.declared.place.Op.{Op}
 use Rattle.fr_plain.specs.Run.{Run, temp, unit_c, number, read, borrow, box_r, arith, bind, print, assign, block, spawn, join_r, mutex_r, dup, lock, locked, par, par_end, Parts, last, more, Now, going, constant, temporary, now}

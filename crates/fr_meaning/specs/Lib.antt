@@ -2,6 +2,7 @@ pub mod DoneTerms
 pub mod Contexts
 pub mod FrameTerms
 pub mod Turning
+pub mod Beside
 pub mod Threads
 pub mod Next
 pub mod PoolView

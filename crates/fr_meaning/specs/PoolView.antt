@@ -2,7 +2,6 @@
 use Rattle.std.specs.Prelude.{ℕ, ℤ, ◌+◌, List, [], ◌∷◌, Option, Some, None, option_map, if◌then◌else◌}
 use Rattle.fr_base.specs.declared.step.Fresh.{Fresh}
 use Rattle.fr_plain.specs.declared.value.Value.{Value}
-use Rattle.fr_plain.specs.Heap.{Heap}
 use Rattle.fr_plain.specs.Run.{Run, life_move, life_left}
 use Rattle.fr_plain.specs.Whole.{Thread as PlainThread, Whole, thread_at, is_over, Takes, no_name, a_thread, two_threads, a_mutex, takes_name, Refusal, no_thread, has_ended, waits, name_kind, name_used, refused}
 use Rattle.fr_forms.specs.declared.forms.Form.{Form}
@@ -13,6 +12,7 @@ use Rattle.fr_meaning.specs.declared.need.Need.{Need}
 use Rattle.fr_meaning.specs.declared.need.Need.TheVariants as need
 use Rattle.fr_meaning.specs.declared.error.StepError.{StepError}
 use Rattle.fr_meaning.specs.declared.error.StepError.TheVariants as error
+use Rattle.fr_meaning.specs.Beside.{Beside}
 use Rattle.fr_meaning.specs.FrameTerms.{wrapped, focus_run}
 use Rattle.fr_acts.specs.SlotOrder.{newest_first}
 use Rattle.fr_meaning.specs.Threads.{life_at}
@@ -28,7 +28,7 @@ pub record Entry : Type 0 where
 pub record View : Type 0 where
   pub forms : List Form
   pub threads : List Entry
-  pub heap : Heap
+  pub beside : Beside
   pub output : List ℤ
 
 -- the running term
@@ -45,7 +45,7 @@ threads_in fs (e ∷ es) = thread_in fs e ∷ threads_in fs es
 
 -- the plain state that a pool stands for
 abbrev pub whole_of : View → Whole
-whole_of v = record { threads = threads_in v.forms v.threads; heap = v.heap; mutexes = []; pairs = []; output = v.output }
+whole_of v = record { threads = threads_in v.forms v.threads; heap = v.beside.heap; mutexes = v.beside.mutexes; pairs = v.beside.pairs; output = v.output }
 
 -- how many steps these threads have still to do, with those of the threads that they start
 abbrev pub total_left : List PlainThread → ℕ

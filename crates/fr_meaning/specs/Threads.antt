@@ -3,7 +3,7 @@ use Rattle.std.specs.Prelude.{◌≡◌, ℕ, ℤ, ◌<◌, ◌≤◌, ⊤, Bool
 use Rattle.fr_base.specs.Rooms.{WithRoom}
 use Rattle.fr_base.specs.declared.label.Label.{Label}
 use Rattle.fr_plain.specs.declared.value.Value.{Value}
-use Rattle.fr_plain.specs.Acts.{Act, do_end, do_finish, do_leave, unit, task_in}
+use Rattle.fr_plain.specs.Acts.{Act, do_end, do_finish, do_leave, unit, end_of as link_of}
 use Rattle.fr_plain.specs.Heap.{Heap}
 use Rattle.fr_plain.specs.State.{without}
 use Rattle.fr_plain.specs.Run.{Run, Life, alive, over, owing, loose, ended}
@@ -13,6 +13,7 @@ use Rattle.fr_forms.specs.declared.forms.Form.{Form}
 use Rattle.fr_meaning.specs.declared.thread.Stage.{Stage}
 use Rattle.fr_meaning.specs.declared.thread.Stage.TheVariants as stage
 use Rattle.fr_meaning.specs.declared.thread.Thread.{Thread}
+use Rattle.fr_meaning.specs.Beside.{Beside}
 use Rattle.fr_meaning.specs.Contexts.{IsSettled}
 use Rattle.fr_forms.specs.Depths.{depth}
 use Rattle.fr_base.specs.declared.label.Plain.TheVariants.{Task}
@@ -25,6 +26,7 @@ use Rattle.fr_shared.specs.declared.heap.Released.{Released}
 use Rattle.fr_shared.specs.declared.heap.Released.TheVariants as released
 use Rattle.fr_meaning.specs.DoneTerms.{value_of}
 use Rattle.fr_shared.specs.HeapRoom.{HeapRoom}
+use Rattle.fr_shared.specs.Releases.{released_of}
 use Rattle.fr_meaning.specs.FrameTerms.{wrapped, focus_run, AreInside, HasMadeWay, end_of}
 use Rattle.fr_acts.specs.Acting.{state}
 use Rattle.fr_meaning.specs.Turning.{term_step, focus_labels, frame_labels}
@@ -98,8 +100,8 @@ threads_of fs [] = []
 threads_of fs (x ∷ xs) = thread_of fs x ∷ threads_of fs xs
 
 -- the plain state of all threads
-abbrev pub whole : List Form → List Thread → Heap → List ℤ → Whole
-whole fs xs heap output = record { threads = threads_of fs xs; heap = heap; mutexes = []; pairs = []; output = output }
+abbrev pub whole : List Form → List Thread → Beside → List ℤ → Whole
+whole fs xs beside output = record { threads = threads_of fs xs; heap = beside.heap; mutexes = beside.mutexes; pairs = beside.pairs; output = output }
 
 abbrev pub numbers_of : List Thread → List ℕ
 numbers_of [] = []
@@ -110,7 +112,7 @@ AreWell fs [] = ⊤
 AreWell fs (x ∷ xs) = IsWell fs x × AreWell fs xs
 
 -- a thread whose task is dropped: where it is in progress nobody will have its result, and a result that is kept is
--- dropped, with the task in it
+-- dropped, with what goes last with it
 abbrev pub after_release : Stage → Stage
 after_release stage.Owing = stage.Loose
 after_release (stage.Ended v) = stage.Over
@@ -120,14 +122,9 @@ abbrev pub released_heap : Heap → Stage → Heap
 released_heap h (stage.Ended v) = without h v
 released_heap h _ = h
 
-abbrev pub released_task : Heap → Stage → Option ℕ
-released_task h (stage.Ended v) = task_in h v
-released_task h _ = None
-
--- the thread that goes with a dropped value, where no mutex is
-abbrev pub task_from : Released → Option ℕ
-task_from (released.Task t) = Some t
-task_from _ = None
+abbrev pub released_last : Heap → Stage → Released
+released_last h (stage.Ended v) = released_of (link_of h v)
+released_last h _ = released.Nothing
 
 -- the thread's own step can be done, and there is room for what it makes
 pub record CanGo (fs : List Form) (x : Thread) (heap : HeapRoom) (labels : WithRoom Label) : Type 0 where

@@ -1,6 +1,7 @@
 //! The plain machine in code: a `Pool` of threads over one heap steps as the running terms do.
 #![tactic(auto)]
 
+mod common;
 mod control;
 mod error;
 mod frame;

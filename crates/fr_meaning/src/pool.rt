@@ -23,7 +23,8 @@ use fr_forms::{Form, forms_of};
 use std::alloc::Global;
 use std::marker::Model;
 
-/// A program and its plain state: the threads in the order in which they were started, the one heap and the output.
+/// A program and its plain state: the threads in the order in which they were started, the one heap, the mutexes, the pairs and the
+/// output.
 /// Contracts see the plain state, and not what room there is.
 #[derive(Drop)]
 pub struct Pool {

@@ -10,9 +10,11 @@ ghost use Rattle.fr_forms.specs.FormTerms.{AreInOrder, captures_at};
 ghost use Rattle.fr_meaning.specs.Next.{IsNext, HasThreadsMove};
 ghost use Rattle.fr_shared.specs.Places.{place_of};
 ghost use Rattle.fr_meaning.specs.Threads.{IsWell};
+ghost use Rattle.fr_meaning.specs.Beside.{beside_of};
 ghost use Rattle.fr_meaning.specs.Entries.{entry_of};
 ghost use Rattle.fr_meaning.specs.Running.{plain_of, view_of, Stands};
 
+use crate::common::Common;
 use crate::frame::Done;
 use crate::machine::labels_ahead;
 use crate::next::{Next, next_of, task_named_by};
@@ -21,36 +23,40 @@ use crate::threads::{Made, Runner, go_alone, go_end, go_join, go_start};
 use fr_base::{Fresh, Labels, NoMemory, ThreadNo};
 use fr_forms::Form;
 use fr_plain::Value;
-use fr_shared::{Heap, Places};
+use fr_shared::{Heap, Mutexes, Pairs, Places};
 use std::alloc::Global;
 
-/// The threads in the order in which they were started, the place of each, the one heap and the output.
+/// The threads in the order in which they were started, the place of each, what they have in common, and the output.
 #[derive(Drop)]
 pub struct Running {
     pub threads: Vec<Thread>,
     pub places: Places,
-    pub heap: Heap,
+    pub common: Common,
     pub output: Vec<i64>,
 }
 
-/// A thread alone over an empty heap.
+/// A thread alone over an empty heap, with no mutex and no pair.
 pub fn run_alone(alloc: Global, main: Thread) -> Result<Running, NoMemory>
     ensures threads { IfOk result (λ r. r.threads.items ≡ main ∷ []) }
     ensures places { IfOk result (λ r. r.places.numbers ≡ main.number ∷ []) }
-    ensures heap { IfOk result (λ r. r.heap.heap ≡ record { thread = 0; cells = [] } ∷ []) }
+    ensures common { IfOk result (λ r. beside_of r.common ≡ record { heap = record { thread = 0; cells = [] } ∷ []; mutexes = []; pairs = [] }) }
     ensures output { IfOk result (λ r. r.output.items ≡ []) }
 {
     let mut places = Places::new(alloc);
     places.reserve()?;
     places.add(main.number);
-    let heap = Heap::new(alloc)?;
+    let common = Common {
+        heap: Heap::new(alloc)?,
+        mutexes: Mutexes::new(alloc),
+        pairs: Pairs::new(alloc),
+    };
     let mut threads = Vec::new(alloc);
     threads.reserve(1)?;
     threads.push_reserved(main);
     Ok(Running {
         threads,
         places,
-        heap,
+        common,
         output: Vec::new(alloc),
     })
 }
@@ -72,11 +78,11 @@ fn reserve_act(running: &mut Running, turn: &Runner) -> Result<(), NoMemory>
     ensures places { running.new.places ≡ running.old.places }
     ensures stands { (fs : List Form) → Stands fs running.old → Stands fs running.new }
     ensures slots { OnOk result ((x : Thread) → x ≡ slice_index_or running.new.threads.items turn.now.at x → vec_len x.slots < vec_capacity x.slots) }
-    ensures ready { OnOk result (running.new.heap.ready ≡ Some turn.now.thread) }
+    ensures ready { OnOk result (running.new.common.heap.ready ≡ Some turn.now.thread) }
     ensures output { OnOk result (vec_len running.new.output < vec_capacity running.new.output) }
 {
     reserve_slot(&mut running.threads[turn.at])?;
-    running.heap.reserve(turn.thread)?;
+    running.common.heap.reserve(turn.thread)?;
     running.output.reserve(1)?;
     Ok(())
 }

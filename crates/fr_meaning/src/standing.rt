@@ -1,8 +1,9 @@
 //! How threads stand: what they wait for, why their steps are refused, and how a run ends.
 
-ghost use Rattle.std.specs.Prelude.{◌≡◌, ◌<◌, ◌||◌, [], ℕ, ℤ, List, length, slice_index_or, is_some, option_map};
-ghost use Rattle.fr_plain.specs.Heap.{Heap as PlainHeap};
-ghost use Rattle.fr_plain.specs.Whole.{Thread as PlainThread, Whole, is_given, is_over as life_is_over, waits_for, all_over as all_are_over, all_wait as all_are_waiting, ending_of, refused_names as names_refused};
+ghost use Rattle.std.specs.Prelude.{◌≡◌, ◌<◌, ◌||◌, ◌&&◌, ℕ, List, length, slice_index_or, is_some, option_map};
+ghost use Rattle.fr_plain.specs.Machine.{join_waits, pair_waits};
+ghost use Rattle.fr_plain.specs.MachineThreads.{pair_of};
+ghost use Rattle.fr_plain.specs.Whole.{Whole, result_at, is_given, is_over as life_is_over, waits_for, all_over as all_are_over, all_wait as all_are_waiting, ending_of, refused_names as names_refused};
 ghost use Rattle.fr_forms.specs.declared.forms.Form.{Form};
 ghost use Rattle.fr_meaning.specs.declared.thread.Thread.{Thread};
 ghost use Rattle.fr_forms.specs.FormTerms.{AreInOrder};
@@ -17,8 +18,10 @@ use crate::need::Need;
 use crate::next::{Next, need_of_next, next_of, task_named_by};
 use crate::running::Running;
 use crate::thread::{Stage, Thread};
+use fr_acts::lock_wait;
 use fr_base::{Ending3, Fresh, ThreadNo, Wait};
-use fr_shared::Places;
+use fr_plain::Value;
+use fr_shared::{Mutexes, Places, Two};
 
 // The thread has ended.
 fn is_over(stage: &Stage) -> bool
@@ -46,24 +49,78 @@ fn has_result(stage: &Stage) -> bool
     }
 }
 
-// What a thread with this next step waits for: a join for a result.
-fn wait_of(running: &Running, next: &Next) -> Option<Wait>
+// The thread has ended, and its result is kept.
+fn has_ended(running: &Running, thread: ThreadNo) -> bool
     requires numbers { running.now.places.numbers ≡ numbers_of running.now.threads.items }
-    ensures { (fs : List Form) (x : PlainThread) → result ≡ next_waits (plain_of fs running.now) x next.now }
+    ensures { (fs : List Form) → result ≡ is_some (result_at (threads_of fs running.now.threads.items) thread) }
 {
-    let Next::Join(value) = next else {
-        return None;
-    };
+    match running.places.at(thread) {
+        Some(place) => has_result(&running.threads[place].stage),
+        None => false,
+    }
+}
+
+// Both threads have ended, and their results are kept.
+fn have_ended(running: &Running, two: &Two) -> bool
+    requires numbers { running.now.places.numbers ≡ numbers_of running.now.threads.items }
+    ensures { (fs : List Form) → result ≡ (is_some (result_at (threads_of fs running.now.threads.items) two.now.first) && is_some (result_at (threads_of fs running.now.threads.items) two.now.second)) }
+{
+    has_ended(running, two.first) && has_ended(running, two.second)
+}
+
+// What a join of the thread whose task the value is waits for: its result.
+fn join_wait(running: &Running, value: &Value) -> Option<Wait>
+    requires numbers { running.now.places.numbers ≡ numbers_of running.now.threads.items }
+    ensures { (fs : List Form) → result ≡ join_waits (plain_of fs running.now) value.now }
+{
     let Some(joined) = task_named_by(value) else {
         return None;
     };
-    let Some(place) = running.places.at(joined) else {
-        return Some(Wait::Join(joined));
-    };
-    if has_result(&running.threads[place].stage) {
-        return None;
+    if has_ended(running, joined) {
+        None
+    } else {
+        Some(Wait::Join(joined))
     }
-    Some(Wait::Join(joined))
+}
+
+// What a parent of a pair waits for: the results of both.
+fn pair_wait(running: &Running, parent: ThreadNo) -> Option<Wait>
+    requires numbers { running.now.places.numbers ≡ numbers_of running.now.threads.items }
+    ensures { (fs : List Form) → result ≡ pair_waits (plain_of fs running.now) (pair_of running.now.common.pairs.pairs parent) }
+{
+    let Some(two) = running.common.pairs.of(parent) else {
+        return None;
+    };
+    if have_ended(running, &two) {
+        None
+    } else {
+        Some(Wait::Par(two.first, two.second))
+    }
+}
+
+// What a thread with this next step waits for.
+fn wait_of(running: &Running, thread: &Thread, next: &Next) -> Option<Wait>
+    requires numbers { running.now.places.numbers ≡ numbers_of running.now.threads.items }
+    ensures { (fs : List Form) → result ≡ next_waits (plain_of fs running.now) (thread_of fs thread.now) next.now }
+{
+    match next {
+        Next::Join(value) => join_wait(running, value),
+        Next::Lock(place, _) => lock_wait(
+            thread.number,
+            &thread.slots,
+            &running.common.heap,
+            &running.common.mutexes,
+            *place,
+        ),
+        Next::ParEnd => pair_wait(running, thread.number),
+        Next::End(_) => None,
+        Next::Start(_) => None,
+        Next::Mutex(_) => None,
+        Next::Dup(_) => None,
+        Next::Unlock(_) => None,
+        Next::Par(_) => None,
+        Next::Own => None,
+    }
 }
 
 // The name was given to a thread.
@@ -74,8 +131,13 @@ fn is_used(places: &Places, number: &ThreadNo) -> bool
 }
 
 // Why a step that takes names of this kind can't take these.
-fn refused_names(places: &Places, need: &Need, fresh: &Fresh) -> Option<StepError>
-    ensures { (s : Whole) → ((u : ℕ) → is_given s u ≡ is_some (place_of places.now.numbers u)) → s.mutexes ≡ [] → result ≡ option_map error_of (names_refused s (takes_for need.now) fresh.now) }
+fn refused_names(
+    places: &Places,
+    mutexes: &Mutexes,
+    need: &Need,
+    fresh: &Fresh,
+) -> Option<StepError>
+    ensures { (s : Whole) → ((u : ℕ) → is_given s u ≡ is_some (place_of places.now.numbers u)) → s.mutexes ≡ mutexes.now.mutexes → result ≡ option_map error_of (names_refused s (takes_for need.now) fresh.now) }
 {
     let used = match (need, fresh) {
         (Need::Nothing, Fresh::None) => false,
@@ -83,7 +145,7 @@ fn refused_names(places: &Places, need: &Need, fresh: &Fresh) -> Option<StepErro
         (Need::Threads, Fresh::Threads(first, second)) => {
             first == second || is_used(places, first) || is_used(places, second)
         }
-        (Need::Mutex, Fresh::Mutex(_)) => false,
+        (Need::Mutex, Fresh::Mutex(mutex)) => mutexes.is_given(*mutex),
         _ => return Some(StepError::NameKind),
     };
     if used {
@@ -106,10 +168,15 @@ pub fn refused_by(running: &Running, thread: ThreadNo, fresh: &Fresh) -> Option<
         return Some(StepError::Ended);
     }
     let next = next_of(&standing.focus, &standing.frames);
-    if let Some(wait) = wait_of(running, &next) {
+    if let Some(wait) = wait_of(running, standing, &next) {
         return Some(StepError::Waits(wait));
     }
-    refused_names(&running.places, &need_of_next(&next), fresh)
+    refused_names(
+        &running.places,
+        &running.common.mutexes,
+        &need_of_next(&next),
+        fresh,
+    )
 }
 
 /// The kind of names that the thread's next step takes.
@@ -147,7 +214,7 @@ fn stands_still(running: &Running, thread: &Thread) -> bool
     if is_over(&thread.stage) {
         return true;
     }
-    wait_of(running, &next_of(&thread.focus, &thread.frames)).is_some()
+    wait_of(running, thread, &next_of(&thread.focus, &thread.frames)).is_some()
 }
 
 // All threads have ended or wait.

@@ -1,43 +1,36 @@
 //! What threads do to each other.
 
-ghost use Rattle.std.specs.Prelude.{◌≡◌, ◌<◌, ◌≤◌, [], List, ℤ, length, Some, None, slice_index_or, vec_len, vec_capacity};
+ghost use Rattle.std.specs.Prelude.{◌≡◌, ◌<◌, ◌≤◌, suc, [], List, ℕ, ℤ, length, Some, None, slice_index_or, vec_len, vec_capacity};
 ghost use Rattle.fr_base.specs.declared.step.Fresh.TheVariants as fresh;
-ghost use Rattle.fr_plain.specs.Whole.{let_go, step};
+ghost use Rattle.fr_plain.specs.Threads.{release, release_by};
+ghost use Rattle.fr_plain.specs.Whole.{step};
+ghost use Rattle.fr_acts.specs.MutexActs.{last_of};
+ghost use Rattle.fr_meaning.specs.Beside.{beside_of};
 ghost use Rattle.fr_meaning.specs.declared.thread.Thread.{Thread};
 ghost use Rattle.fr_forms.specs.FormTerms.{AreInOrder, captures_at};
 ghost use Rattle.fr_meaning.specs.FrameTerms.{end_of};
 ghost use Rattle.fr_shared.specs.Places.{place_of};
 ghost use Rattle.fr_forms.specs.declared.forms.Form.{Form};
 ghost use Rattle.fr_meaning.specs.Running.{plain_of, Stands};
-ghost use Rattle.fr_meaning.specs.Threads.{AreWell, CanGo, IsEnded, IsGoingOn, Joins, Starts, after_release, released_heap, released_task, task_from, whole, numbers_of};
+ghost use Rattle.fr_meaning.specs.Threads.{AreWell, CanGo, IsEnded, IsGoingOn, Joins, Starts, after_release, released_heap, released_last, whole, numbers_of};
 
+use crate::common::Common;
 use crate::control::leave_top;
 use crate::frame::{Done, Frame};
 use crate::machine::step_alone;
 use crate::running::Running;
 use crate::thread::{Stage, Thread, end, pass_captures, resume, start, take_result};
-use fr_acts::{drop_value, note};
+use fr_acts::{drop_share, drop_value, note};
 use fr_base::{Label, Labels, Plain, ThreadNo};
 use fr_forms::Form;
 use fr_plain::Value;
 use fr_shared::{Heap, Places, Released};
 
-// The thread that goes with a dropped value, where no mutex is.
-fn task_in(released: Released) -> Option<ThreadNo>
-    ensures { result ≡ task_from released }
-{
-    match released {
-        Released::Task(thread) => Some(thread),
-        Released::Nothing => None,
-        Released::Share(_) => None,
-    }
-}
-
-// Lets a thread go whose task was dropped. Gives the thread whose task goes with its result.
-fn release(thread: &mut Thread, heap: &mut Heap) -> Option<ThreadNo>
+// Lets a thread go whose task was dropped. Gives what goes last with its result.
+fn release_thread(thread: &mut Thread, heap: &mut Heap) -> Released
     ensures stage { thread.new.stage ≡ after_release thread.old.stage }
     ensures heap { heap.new.heap ≡ released_heap heap.old.heap thread.old.stage }
-    ensures task { result ≡ released_task heap.old.heap thread.old.stage }
+    ensures last { result ≡ released_last heap.old.heap thread.old.stage }
     ensures number { thread.new.number ≡ thread.old.number }
     ensures frames { thread.new.frames ≡ thread.old.frames }
     ensures focus { thread.new.focus ≡ thread.old.focus }
@@ -46,40 +39,55 @@ fn release(thread: &mut Thread, heap: &mut Heap) -> Option<ThreadNo>
     match thread.stage {
         Stage::Owing => {
             thread.stage = Stage::Loose;
-            None
+            Released::Nothing
         }
         Stage::Ended(value) => {
             thread.stage = Stage::Over;
-            task_in(drop_value(heap, value))
+            drop_value(heap, value)
         }
-        Stage::Alive => None,
-        Stage::Loose => None,
-        Stage::Over => None,
+        Stage::Alive => Released::Nothing,
+        Stage::Loose => Released::Nothing,
+        Stage::Over => Released::Nothing,
     }
 }
 
-/// Lets the thread go whose task was dropped, and with a result that is dropped the thread whose task stands in it, and so
-/// on. Takes time in the threads that go.
-pub fn let_threads_go(
+// Lets one thing go: a thread whose task was dropped, or a share of a mutex. Gives what goes last with its result or content.
+fn release_one(
     threads: &mut Vec<Thread>,
     places: &Places,
-    heap: &mut Heap,
+    common: &mut Common,
     released: Released,
-)
+) -> Released
     requires { places.now.numbers ≡ numbers_of threads.old.items }
-    ensures whole { (fs : List Form) (output : List ℤ) → whole fs threads.new.items heap.new.heap output ≡ let_go (whole fs threads.old.items heap.old.heap output) (task_from released) }
+    ensures goes { (fs : List Form) (output : List ℤ) (k : ℕ) → release_by (suc k) (whole fs threads.old.items (beside_of common.old) output) (last_of released) ≡ release_by k (whole fs threads.new.items (beside_of common.new) output) (last_of result) }
     ensures numbers { numbers_of threads.new.items ≡ numbers_of threads.old.items }
     ensures well { (fs : List Form) → AreWell fs threads.old.items → AreWell fs threads.new.items }
 {
-    let mut task = task_in(released);
-    'each: for gone in 0..threads.len() {
-        let Some(number) = task else {
+    match released {
+        Released::Nothing => Released::Nothing,
+        Released::Share(mutex) => drop_share(&mut common.heap, &mut common.mutexes, mutex),
+        Released::Task(number) => match places.at(number) {
+            Some(place) => release_thread(&mut threads[place], &mut common.heap),
+            None => Released::Nothing,
+        },
+    }
+}
+
+/// Lets go what goes last with a dropped value: the thread of a task, or a share of a mutex; and with a result or a content that
+/// is dropped what goes last with that, and so on. Takes time in the threads and mutexes that go.
+pub fn let_go(threads: &mut Vec<Thread>, places: &Places, common: &mut Common, released: Released)
+    requires { places.now.numbers ≡ numbers_of threads.old.items }
+    ensures whole { (fs : List Form) (output : List ℤ) → whole fs threads.new.items (beside_of common.new) output ≡ release (whole fs threads.old.items (beside_of common.old) output) (last_of released) }
+    ensures numbers { numbers_of threads.new.items ≡ numbers_of threads.old.items }
+    ensures well { (fs : List Form) → AreWell fs threads.old.items → AreWell fs threads.new.items }
+{
+    let many = threads.len() + common.mutexes.len();
+    let mut last = released;
+    'each: for gone in 0..many {
+        if let Released::Nothing = last {
             return;
-        };
-        let Some(place) = places.at(number) else {
-            return;
-        };
-        task = release(&mut threads[place], heap);
+        }
+        last = release_one(threads, places, common, last);
     }
 }
 
@@ -104,7 +112,7 @@ pub fn go_alone(forms: &[Form], running: &mut Running, turn: &Runner, labels: &m
     requires stands { Stands forms.now running.old }
     requires place { place_of running.old.places.numbers turn.now.thread ≡ Some turn.now.at }
     requires inside { turn.now.at < length running.old.threads.items }
-    requires goes { (x : Thread) → x ≡ slice_index_or running.old.threads.items turn.now.at x → CanGo forms.now x running.old.heap labels.old }
+    requires goes { (x : Thread) → x ≡ slice_index_or running.old.threads.items turn.now.at x → CanGo forms.now x running.old.common.heap labels.old }
     requires output { vec_len running.old.output < vec_capacity running.old.output }
     requires labels { labels.old.items ≡ [] }
     ensures step { step (plain_of forms.now running.old) turn.now.thread fresh.None ≡ Some (record { state = plain_of forms.now running.new; labels = labels.new.items }) }
@@ -114,14 +122,14 @@ pub fn go_alone(forms: &[Form], running: &mut Running, turn: &Runner, labels: &m
     let released = step_alone(
         forms,
         &mut running.threads[turn.at],
-        &mut running.heap,
+        &mut running.common.heap,
         &mut running.output,
         labels,
     );
-    let_threads_go(
+    let_go(
         &mut running.threads,
         &running.places,
-        &mut running.heap,
+        &mut running.common,
         released,
     );
 }
@@ -140,14 +148,14 @@ pub fn go_end(forms: &[Form], running: &mut Running, turn: &Runner, labels: &mut
 {
     let released = end(
         &mut running.threads[turn.at],
-        &mut running.heap,
+        &mut running.common.heap,
         labels,
         done,
     );
-    let_threads_go(
+    let_go(
         &mut running.threads,
         &running.places,
-        &mut running.heap,
+        &mut running.common,
         released,
     );
 }

@@ -90,6 +90,11 @@ pub small_push : (es : List Entry) (e : Entry) → AreSmall es → e.number.coun
 small_push [] e h lt = (lt, tt)
 small_push (x ∷ es) e h lt = (h.0, small_push es e h.1 lt)
 
+-- as many mutexes as entries
+pub length_mutexes : (es : List Entry) → length (mutexes_of es) ≡ length es
+length_mutexes [] = refl
+length_mutexes (e ∷ es) = ap suc (length_mutexes es)
+
 pub length_keys : (es : List Entry) → length (keys_of es) ≡ length es
 length_keys [] = refl
 length_keys (x ∷ es) = ap suc (length_keys es)

@@ -1,6 +1,6 @@
 //! The mutexes of all threads.
 
-ghost use Rattle.std.specs.Prelude.{◌≡◌, ◌<◌, ◌≤◌, ◌^◌, ◌++◌, ◌∷◌, [], true, is_some, Some, None, OnOk};
+ghost use Rattle.std.specs.Prelude.{◌≡◌, ◌<◌, ◌≤◌, ◌^◌, ◌++◌, ◌∷◌, [], length, true, is_some, Some, None, OnOk};
 ghost use Rattle.fr_plain.specs.MachineThreads.{mutex_at, mutex_there, with_mutex};
 ghost use Rattle.fr_shared.specs.MutexInside.{there_of, key_of};
 ghost use Rattle.fr_shared.specs.Shares.{changed, content_at, one_more, emptied, filled, one_less, left_at, can_share};
@@ -76,6 +76,14 @@ impl Mutexes {
             self.spare = 1;
         }
         Ok(())
+    }
+
+    /// How many names were given.
+    pub fn len(&self) -> usize
+        ensures names { result ≡ length self.now.mutexes }
+        ensures small { result < 2 ^ 63 }
+    {
+        self.entries.len()
     }
 
     /// Whether the name was given.

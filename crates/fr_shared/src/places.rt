@@ -40,7 +40,16 @@ impl Places {
         ensures room { OnOk result (0 < self.new.spare) }
         ensures spare { self.old.spare ≤ self.new.spare }
     {
-        match self.numbers.reserve(1) {
+        self.reserve_for(1)
+    }
+
+    /// Makes room for so many threads more; a refusal changes no place.
+    pub fn reserve_for(&mut self, count: usize) -> Result<(), NoMemory>
+        ensures numbers { self.new.numbers ≡ self.old.numbers }
+        ensures room { OnOk result (count ≤ self.new.spare) }
+        ensures spare { self.old.spare ≤ self.new.spare }
+    {
+        match self.numbers.reserve(count) {
             Ok(()) => Ok(()),
             Err(_) => Err(NoMemory),
         }

@@ -1,4 +1,5 @@
-use Rattle.std.proofs.Common.{◌≤◌, arith, subst, string_bytes, length, take, rules}
+use Rattle.std.proofs.Common.{◌≤◌, arith, subst, string_bytes, length, take}
+use Rattle.std.proofs.lemmas.Result.{err_from_is_err_and}
 use Rattle.std.proofs.lemmas.List.Folds.{length-prefix_len}
 use Rattle.std.proofs.lemmas.List.Sums.{prefix_len-le-length}
 use Rattle.fr_syntax.specs.Meanings.{term_of}
@@ -31,8 +32,11 @@ returns-in_err-steps-clause-refused c =
     let t = term_of c.in_ok-checked.checked.arena in
     let typed : IsTyped Replay (source_in bytes) t = subst (λ n. IsTyped Replay (take n bytes) t) c.source_length-source.ensures.length c.in_ok-checked.ensures.typed in
     let stop : IsStoppedIn (start (program t)) c.in_ok-order.order.items c.in_err-steps.field-0.0 = subst (λ s. IsStoppedIn s c.in_ok-order.order.items c.in_err-steps.field-0.0) c.in_ok-pool.ensures.start c.in_err-steps.ensures.stopped in
-    let why = unfollowed_order bytes t c.in_ok-order.order.items c.in_err-steps.field-0.0 typed c.in_ok-order.ensures.ok stop in
-    search rules
+    let p = err_from_is_err_and c.from_residual-in_err-steps.result c.from_residual-in_err-steps.ensures.1 in
+    rw (p.1, p.2) (unfollowed_order bytes t c.in_ok-order.order.items c.in_err-steps.field-0.0 typed c.in_ok-order.ensures.ok stop)
+
+pub returns-in_err-text-clause-refused : goal.returns-in_err-text-clause-refused
+returns-in_err-text-clause-refused c = let p = err_from_is_err_and c.from_residual-in_err-text.result c.from_residual-in_err-text.ensures.1 in rw (p.1, p.2) tt
 
 pub returns-clause-replays : goal.returns-clause-replays
 returns-clause-replays c =

@@ -1,4 +1,5 @@
 use Rattle.std.proofs.Common.{string_bytes}
+use Rattle.std.proofs.lemmas.Result.{err_from_is_err_and}
 use Rattle.fr_syntax.specs.Meanings.{term_of}
 use Rattle.fr_meaning.specs.PoolView.{whole_of}
 use Rattle.drust_main.specs.declared.words.Command.TheVariants.{Run}
@@ -12,6 +13,12 @@ new-requires c = record { threaded = accepted_threads Run (term_of c.in_ok-check
 
 pub run_to_end-requires : goal.run_to_end-requires
 run_to_end-requires c = record { few = few_at_start Run c.args.bytes.now (term_of c.in_ok-checked.checked.arena) c.in_ok-pool.pool c.in_ok-checked.ensures.typed c.requires c.in_ok-pool.ensures.start; main = starts_main c.args.bytes.now (term_of c.in_ok-checked.checked.arena) (whole_of c.in_ok-pool.pool) c.in_ok-checked.ensures.typed c.in_ok-pool.ensures.start }
+
+pub returns-in_err-steps-clause-refused : goal.returns-in_err-steps-clause-refused
+returns-in_err-steps-clause-refused c = let p = err_from_is_err_and c.from_residual-in_err-steps.result c.from_residual-in_err-steps.ensures.1 in rw (p.1, p.2) tt
+
+pub returns-in_err-report_text-clause-refused : goal.returns-in_err-report_text-clause-refused
+returns-in_err-report_text-clause-refused c = let p = err_from_is_err_and c.from_residual-in_err-report_text.result c.from_residual-in_err-report_text.ensures.1 in rw (p.1, p.2) tt
 
 pub returns-clause-runs : goal.returns-clause-runs
 returns-clause-runs c =

@@ -1,4 +1,4 @@
-use Rattle.std.proofs.Common.{Some, sym, ap, ◌∙◌, arith}
+use Rattle.std.proofs.Common.{sym, ap, ◌∙◌, arith}
 use Rattle.fr_acts.specs.Acting.{state, spot_of}
 use Rattle.fr_acts.specs.Behind.{spots_of}
 use Rattle.fr_acts.proofs.MutexLemmas.{look_stops, after_all}

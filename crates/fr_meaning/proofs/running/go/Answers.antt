@@ -4,6 +4,7 @@ use Rattle.fr_base.specs.Rooms.{WithRoom}
 use Rattle.fr_base.specs.declared.label.Label.{Label}
 use Rattle.fr_base.specs.declared.step.Fresh.{Fresh}
 use Rattle.fr_plain.specs.Whole.{step}
+use Rattle.fr_meaning.specs.Beside.{beside_of}
 use Rattle.fr_meaning.specs.declared.next.Next.TheVariants as next
 use Rattle.fr_shared.specs.Places.{place_of}
 use Rattle.fr_meaning.specs.Threads.{numbers_of}
@@ -15,7 +16,7 @@ use Rattle.fr_meaning.proofs.running.go.Goals as goal
 pub unreachable-requires : goal.unreachable-requires
 unreachable-requires c =
     let r = c.args.running.now in
-    no_step c.args.forms.now r.threads.items r.heap.heap r.output.items c.args.thread c.args.fresh (ap (λ ns. place_of ns c.args.thread) (sym c.requires.stands.numbers) ∙ sym c.at.ensures.place ∙ c.in_default.is) c.requires.goes
+    no_step c.args.forms.now r.threads.items (beside_of r.common) r.output.items c.args.thread c.args.fresh (ap (λ ns. place_of ns c.args.thread) (sym c.requires.stands.numbers) ∙ sym c.at.ensures.place ∙ c.in_default.is) c.requires.goes
 
 pub index-requires : goal.index-requires
 index-requires c =
@@ -45,7 +46,7 @@ go_to_end-requires-clause-goes c =
     let inside = place_inside r.threads.items c.args.thread c.in-Some.at (ap (λ ns. place_of ns c.args.thread) (sym c.requires.stands.numbers) ∙ sym c.at.ensures.place ∙ c.in-Some.is) in
     let comes = comes_at r.threads.items c.in-Some.at c.index.result.now c.index-2.result.now c.deref.result.now c.next_of.result (next.End c.in-End.done) inside c.index.ensures c.index-2.ensures c.deref.ensures.value c.in-End.is c.next_of.ensures in
     let x = thread_here r.threads.items c.in-Some.at inside in
-    let same = takes_none c.args.forms.now r.threads.items r.heap.heap r.output.items c.args.thread c.args.fresh c.in-Some.at x.0 (next.End c.in-End.done) (steps_at c.args.forms.now r.threads.items r.heap.heap r.output.items c.args.thread c.args.fresh c.in-Some.at (next.End c.in-End.done) (numbers_of r.threads.items) c.requires.order c.requires.stands.well refl (ap (λ ns. place_of ns c.args.thread) (sym c.requires.stands.numbers) ∙ sym c.at.ensures.place ∙ c.in-Some.is) inside comes c.requires.goes x.0 x.1) refl in
+    let same = takes_none c.args.forms.now r.threads.items (beside_of r.common) r.output.items c.args.thread c.args.fresh c.in-Some.at x.0 (next.End c.in-End.done) (steps_at c.args.forms.now r.threads.items (beside_of r.common) r.output.items c.args.thread c.args.fresh c.in-Some.at (next.End c.in-End.done) (numbers_of r.threads.items) c.requires.order c.requires.stands.well refl (ap (λ ns. place_of ns c.args.thread) (sym c.requires.stands.numbers) ∙ sym c.at.ensures.place ∙ c.in-Some.is) inside comes c.requires.goes x.0 x.1) refl in
     subst (λ (n : Fresh). IsSome (step (plain_of c.args.forms.now r) c.args.thread n)) same c.requires.goes
 
 pub go_joining-requires-clause-inside : goal.go_joining-requires-clause-inside
@@ -64,7 +65,7 @@ go_joining-requires-clause-goes c =
     let inside = place_inside r.threads.items c.args.thread c.in-Some.at (ap (λ ns. place_of ns c.args.thread) (sym c.requires.stands.numbers) ∙ sym c.at.ensures.place ∙ c.in-Some.is) in
     let comes = comes_at r.threads.items c.in-Some.at c.index.result.now c.index-2.result.now c.deref.result.now c.next_of.result (next.Join c.in-Join.value) inside c.index.ensures c.index-2.ensures c.deref.ensures.value c.in-Join.is c.next_of.ensures in
     let x = thread_here r.threads.items c.in-Some.at inside in
-    let same = takes_none c.args.forms.now r.threads.items r.heap.heap r.output.items c.args.thread c.args.fresh c.in-Some.at x.0 (next.Join c.in-Join.value) (steps_at c.args.forms.now r.threads.items r.heap.heap r.output.items c.args.thread c.args.fresh c.in-Some.at (next.Join c.in-Join.value) (numbers_of r.threads.items) c.requires.order c.requires.stands.well refl (ap (λ ns. place_of ns c.args.thread) (sym c.requires.stands.numbers) ∙ sym c.at.ensures.place ∙ c.in-Some.is) inside comes c.requires.goes x.0 x.1) refl in
+    let same = takes_none c.args.forms.now r.threads.items (beside_of r.common) r.output.items c.args.thread c.args.fresh c.in-Some.at x.0 (next.Join c.in-Join.value) (steps_at c.args.forms.now r.threads.items (beside_of r.common) r.output.items c.args.thread c.args.fresh c.in-Some.at (next.Join c.in-Join.value) (numbers_of r.threads.items) c.requires.order c.requires.stands.well refl (ap (λ ns. place_of ns c.args.thread) (sym c.requires.stands.numbers) ∙ sym c.at.ensures.place ∙ c.in-Some.is) inside comes c.requires.goes x.0 x.1) refl in
     subst (λ (n : Fresh). IsSome (step (plain_of c.args.forms.now r) c.args.thread n)) same c.requires.goes
 
 pub go_starting-requires-clause-inside : goal.go_starting-requires-clause-inside
@@ -93,7 +94,7 @@ go_own-requires-clause-goes c =
     let inside = place_inside r.threads.items c.args.thread c.in-Some.at (ap (λ ns. place_of ns c.args.thread) (sym c.requires.stands.numbers) ∙ sym c.at.ensures.place ∙ c.in-Some.is) in
     let comes = comes_at r.threads.items c.in-Some.at c.index.result.now c.index-2.result.now c.deref.result.now c.next_of.result (next.Own) inside c.index.ensures c.index-2.ensures c.deref.ensures.value c.in-Own.is c.next_of.ensures in
     let x = thread_here r.threads.items c.in-Some.at inside in
-    let same = takes_none c.args.forms.now r.threads.items r.heap.heap r.output.items c.args.thread c.args.fresh c.in-Some.at x.0 (next.Own) (steps_at c.args.forms.now r.threads.items r.heap.heap r.output.items c.args.thread c.args.fresh c.in-Some.at (next.Own) (numbers_of r.threads.items) c.requires.order c.requires.stands.well refl (ap (λ ns. place_of ns c.args.thread) (sym c.requires.stands.numbers) ∙ sym c.at.ensures.place ∙ c.in-Some.is) inside comes c.requires.goes x.0 x.1) refl in
+    let same = takes_none c.args.forms.now r.threads.items (beside_of r.common) r.output.items c.args.thread c.args.fresh c.in-Some.at x.0 (next.Own) (steps_at c.args.forms.now r.threads.items (beside_of r.common) r.output.items c.args.thread c.args.fresh c.in-Some.at (next.Own) (numbers_of r.threads.items) c.requires.order c.requires.stands.well refl (ap (λ ns. place_of ns c.args.thread) (sym c.requires.stands.numbers) ∙ sym c.at.ensures.place ∙ c.in-Some.is) inside comes c.requires.goes x.0 x.1) refl in
     subst (λ (n : Fresh). IsSome (step (plain_of c.args.forms.now r) c.args.thread n)) same c.requires.goes
 
 pub returns-in-End-clause-step : goal.returns-in-End-clause-step
@@ -102,7 +103,7 @@ returns-in-End-clause-step c =
     let inside = place_inside r.threads.items c.args.thread c.in-Some.at (ap (λ ns. place_of ns c.args.thread) (sym c.requires.stands.numbers) ∙ sym c.at.ensures.place ∙ c.in-Some.is) in
     let comes = comes_at r.threads.items c.in-Some.at c.index.result.now c.index-2.result.now c.deref.result.now c.next_of.result (next.End c.in-End.done) inside c.index.ensures c.index-2.ensures c.deref.ensures.value c.in-End.is c.next_of.ensures in
     let x = thread_here r.threads.items c.in-Some.at inside in
-    let same = takes_none c.args.forms.now r.threads.items r.heap.heap r.output.items c.args.thread c.args.fresh c.in-Some.at x.0 (next.End c.in-End.done) (steps_at c.args.forms.now r.threads.items r.heap.heap r.output.items c.args.thread c.args.fresh c.in-Some.at (next.End c.in-End.done) (numbers_of r.threads.items) c.requires.order c.requires.stands.well refl (ap (λ ns. place_of ns c.args.thread) (sym c.requires.stands.numbers) ∙ sym c.at.ensures.place ∙ c.in-Some.is) inside comes c.requires.goes x.0 x.1) refl in
+    let same = takes_none c.args.forms.now r.threads.items (beside_of r.common) r.output.items c.args.thread c.args.fresh c.in-Some.at x.0 (next.End c.in-End.done) (steps_at c.args.forms.now r.threads.items (beside_of r.common) r.output.items c.args.thread c.args.fresh c.in-Some.at (next.End c.in-End.done) (numbers_of r.threads.items) c.requires.order c.requires.stands.well refl (ap (λ ns. place_of ns c.args.thread) (sym c.requires.stands.numbers) ∙ sym c.at.ensures.place ∙ c.in-Some.is) inside comes c.requires.goes x.0 x.1) refl in
     subst (λ (n : Fresh). IfOk c.go_to_end.result (λ (l : WithRoom Label). step (plain_of c.args.forms.now r) c.args.thread n ≡ Some (record { state = plain_of c.args.forms.now c.go_to_end.new.running; labels = l.items }))) (sym same) c.go_to_end.ensures.step
 
 pub returns-in-Join-clause-step : goal.returns-in-Join-clause-step
@@ -111,7 +112,7 @@ returns-in-Join-clause-step c =
     let inside = place_inside r.threads.items c.args.thread c.in-Some.at (ap (λ ns. place_of ns c.args.thread) (sym c.requires.stands.numbers) ∙ sym c.at.ensures.place ∙ c.in-Some.is) in
     let comes = comes_at r.threads.items c.in-Some.at c.index.result.now c.index-2.result.now c.deref.result.now c.next_of.result (next.Join c.in-Join.value) inside c.index.ensures c.index-2.ensures c.deref.ensures.value c.in-Join.is c.next_of.ensures in
     let x = thread_here r.threads.items c.in-Some.at inside in
-    let same = takes_none c.args.forms.now r.threads.items r.heap.heap r.output.items c.args.thread c.args.fresh c.in-Some.at x.0 (next.Join c.in-Join.value) (steps_at c.args.forms.now r.threads.items r.heap.heap r.output.items c.args.thread c.args.fresh c.in-Some.at (next.Join c.in-Join.value) (numbers_of r.threads.items) c.requires.order c.requires.stands.well refl (ap (λ ns. place_of ns c.args.thread) (sym c.requires.stands.numbers) ∙ sym c.at.ensures.place ∙ c.in-Some.is) inside comes c.requires.goes x.0 x.1) refl in
+    let same = takes_none c.args.forms.now r.threads.items (beside_of r.common) r.output.items c.args.thread c.args.fresh c.in-Some.at x.0 (next.Join c.in-Join.value) (steps_at c.args.forms.now r.threads.items (beside_of r.common) r.output.items c.args.thread c.args.fresh c.in-Some.at (next.Join c.in-Join.value) (numbers_of r.threads.items) c.requires.order c.requires.stands.well refl (ap (λ ns. place_of ns c.args.thread) (sym c.requires.stands.numbers) ∙ sym c.at.ensures.place ∙ c.in-Some.is) inside comes c.requires.goes x.0 x.1) refl in
     ap (step (plain_of c.args.forms.now r) c.args.thread) same ∙ c.go_joining.ensures.step ∙ ap (stepped_to (plain_of c.args.forms.now c.go_joining.new.running)) (sym c.new.ensures)
 
 pub returns-in-Own-clause-step : goal.returns-in-Own-clause-step
@@ -120,7 +121,7 @@ returns-in-Own-clause-step c =
     let inside = place_inside r.threads.items c.args.thread c.in-Some.at (ap (λ ns. place_of ns c.args.thread) (sym c.requires.stands.numbers) ∙ sym c.at.ensures.place ∙ c.in-Some.is) in
     let comes = comes_at r.threads.items c.in-Some.at c.index.result.now c.index-2.result.now c.deref.result.now c.next_of.result (next.Own) inside c.index.ensures c.index-2.ensures c.deref.ensures.value c.in-Own.is c.next_of.ensures in
     let x = thread_here r.threads.items c.in-Some.at inside in
-    let same = takes_none c.args.forms.now r.threads.items r.heap.heap r.output.items c.args.thread c.args.fresh c.in-Some.at x.0 (next.Own) (steps_at c.args.forms.now r.threads.items r.heap.heap r.output.items c.args.thread c.args.fresh c.in-Some.at (next.Own) (numbers_of r.threads.items) c.requires.order c.requires.stands.well refl (ap (λ ns. place_of ns c.args.thread) (sym c.requires.stands.numbers) ∙ sym c.at.ensures.place ∙ c.in-Some.is) inside comes c.requires.goes x.0 x.1) refl in
+    let same = takes_none c.args.forms.now r.threads.items (beside_of r.common) r.output.items c.args.thread c.args.fresh c.in-Some.at x.0 (next.Own) (steps_at c.args.forms.now r.threads.items (beside_of r.common) r.output.items c.args.thread c.args.fresh c.in-Some.at (next.Own) (numbers_of r.threads.items) c.requires.order c.requires.stands.well refl (ap (λ ns. place_of ns c.args.thread) (sym c.requires.stands.numbers) ∙ sym c.at.ensures.place ∙ c.in-Some.is) inside comes c.requires.goes x.0 x.1) refl in
     subst (λ (n : Fresh). IfOk c.go_own.result (λ (l : WithRoom Label). step (plain_of c.args.forms.now r) c.args.thread n ≡ Some (record { state = plain_of c.args.forms.now c.go_own.new.running; labels = l.items }))) (sym same) c.go_own.ensures.step
 
 pub unreachable-requires-in_default-next_of : goal.unreachable-requires-in_default-next_of
@@ -129,5 +130,5 @@ unreachable-requires-in_default-next_of c =
     let inside = place_inside r.threads.items c.args.thread c.in-Some.at (ap (λ ns. place_of ns c.args.thread) (sym c.requires.stands.numbers) ∙ sym c.at.ensures.place ∙ c.in-Some.is) in
     let comes = comes_at r.threads.items c.in-Some.at c.index.result.now c.index-2.result.now c.deref.result.now c.next_of.result c.next_of.result inside c.index.ensures c.index-2.ensures c.deref.ensures.value refl c.next_of.ensures in
     let x = thread_here r.threads.items c.in-Some.at inside in
-    no_other c.args.forms.now r.threads.items r.heap.heap r.output.items c.args.thread c.args.fresh c.in-Some.at x.0 c.next_of.result (steps_at c.args.forms.now r.threads.items r.heap.heap r.output.items c.args.thread c.args.fresh c.in-Some.at c.next_of.result (numbers_of r.threads.items) c.requires.order c.requires.stands.well refl (ap (λ ns. place_of ns c.args.thread) (sym c.requires.stands.numbers) ∙ sym c.at.ensures.place ∙ c.in-Some.is) inside comes c.requires.goes x.0 x.1) c.requires.known
+    no_other c.args.forms.now r.threads.items (beside_of r.common) r.output.items c.args.thread c.args.fresh c.in-Some.at x.0 c.next_of.result (steps_at c.args.forms.now r.threads.items (beside_of r.common) r.output.items c.args.thread c.args.fresh c.in-Some.at c.next_of.result (numbers_of r.threads.items) c.requires.order c.requires.stands.well refl (ap (λ ns. place_of ns c.args.thread) (sym c.requires.stands.numbers) ∙ sym c.at.ensures.place ∙ c.in-Some.is) inside comes c.requires.goes x.0 x.1) c.requires.known
     c.in_default-next_of.not-End c.in_default-next_of.not-Join c.in_default-next_of.not-Start c.in_default-next_of.not-Own

@@ -1,8 +1,10 @@
 use Rattle.std.proofs.Common.{sym, ap, ◌∙◌}
 use Rattle.std.specs.Prelude.{slice_set}
-use Rattle.fr_plain.specs.Whole.{let_go}
+use Rattle.fr_plain.specs.Threads.{release}
 use Rattle.fr_shared.specs.Places.{place_of}
-use Rattle.fr_meaning.specs.Threads.{whole, task_from}
+use Rattle.fr_acts.specs.MutexActs.{last_of}
+use Rattle.fr_meaning.specs.Beside.{beside_of}
+use Rattle.fr_meaning.specs.Threads.{whole}
 use Rattle.fr_meaning.proofs.StepLemmas.{not_done}
 use Rattle.fr_meaning.proofs.ThreadLists.{numbers_set, well_at, well_set}
 use Rattle.fr_meaning.proofs.WholeSteps.{whole_alone, stepped_to}
@@ -11,8 +13,8 @@ use Rattle.fr_meaning.proofs.threads.go_alone.Goals as goal
 pub step_alone-released-requires-clause-well : goal.step_alone-released-requires-clause-well
 step_alone-released-requires-clause-well c = well_at c.args.forms.now c.args.running.now.threads.items c.args.turn.now.at c.index_mut.result.now c.requires.inside c.index_mut.ensures.value c.requires.stands.well
 
-pub let_threads_go-requires : goal.let_threads_go-requires
-let_threads_go-requires c =
+pub let_go-requires : goal.let_go-requires
+let_go-requires c =
     c.requires.stands.numbers ∙ sym (numbers_set c.args.running.now.threads.items c.args.turn.now.at c.index_mut.result.now c.step_alone-released.new.thread c.index_mut.ensures.value c.step_alone-released.ensures.number)
 
 pub returns-clause-step : goal.returns-clause-step
@@ -26,13 +28,13 @@ returns-clause-step c =
     let well = well_at fs xs c.args.turn.now.at x c.requires.inside c.index_mut.ensures.value c.requires.stands.well in
     let place = ap (λ ns. place_of ns c.args.turn.now.thread) (sym c.requires.stands.numbers) ∙ c.requires.place in
     let go = not_done fs x.frames.items x.focus c.requires.order well.settled well.way can.at_step in
-    whole_alone fs xs c.args.running.now.heap.heap a.new.heap.heap c.args.running.now.output.items c.args.turn.now.thread c.args.turn.now.at x y a.new.labels.items a.result place c.index_mut.ensures.value can.on go a.ensures.step a.ensures.number a.ensures.stage
-    ∙ ap (λ ns. stepped_to (let_go (whole fs (slice_set xs c.args.turn.now.at y) a.new.heap.heap ns) (task_from a.result)) a.new.labels.items) (sym a.ensures.output)
-    ∙ ap (λ s. stepped_to s a.new.labels.items) (sym (c.let_threads_go.ensures.whole fs a.new.output.items))
+    whole_alone fs xs (beside_of c.args.running.now.common) a.new.heap.heap c.args.running.now.output.items c.args.turn.now.thread c.args.turn.now.at x y a.new.labels.items a.result place c.index_mut.ensures.value can.on go a.ensures.step a.ensures.number a.ensures.stage
+    ∙ ap (λ ns. stepped_to (release (whole fs (slice_set xs c.args.turn.now.at y) (record (beside_of c.args.running.now.common) { heap = a.new.heap.heap }) ns) (last_of a.result)) a.new.labels.items) (sym a.ensures.output)
+    ∙ ap (λ s. stepped_to s a.new.labels.items) (sym (c.let_go.ensures.whole fs a.new.output.items))
 
 pub returns-clause-stands : goal.returns-clause-stands
 returns-clause-stands c =
     record {
-      numbers = c.requires.stands.numbers ∙ sym (c.let_threads_go.ensures.numbers ∙ numbers_set c.args.running.now.threads.items c.args.turn.now.at c.index_mut.result.now c.step_alone-released.new.thread c.index_mut.ensures.value c.step_alone-released.ensures.number);
-      well = c.let_threads_go.ensures.well c.args.forms.now (well_set c.args.forms.now c.args.running.now.threads.items c.args.turn.now.at c.step_alone-released.new.thread c.step_alone-released.ensures.well c.requires.stands.well);
+      numbers = c.requires.stands.numbers ∙ sym (c.let_go.ensures.numbers ∙ numbers_set c.args.running.now.threads.items c.args.turn.now.at c.index_mut.result.now c.step_alone-released.new.thread c.index_mut.ensures.value c.step_alone-released.ensures.number);
+      well = c.let_go.ensures.well c.args.forms.now (well_set c.args.forms.now c.args.running.now.threads.items c.args.turn.now.at c.step_alone-released.new.thread c.step_alone-released.ensures.well c.requires.stands.well);
     }

@@ -1,11 +1,12 @@
 use Rattle.std.proofs.Common.{sym, ap, ◌∙◌}
 use Rattle.fr_shared.specs.Places.{place_of}
+use Rattle.fr_meaning.specs.Beside.{beside_of}
 use Rattle.fr_meaning.proofs.ThreadLists.{numbers_set, well_at, well_set, well_same}
 use Rattle.fr_meaning.proofs.WholeSteps.{whole_end, stepped_to}
 use Rattle.fr_meaning.proofs.threads.go_end.Goals as goal
 
-pub let_threads_go-requires : goal.let_threads_go-requires
-let_threads_go-requires c =
+pub let_go-requires : goal.let_go-requires
+let_go-requires c =
     c.requires.stands.numbers ∙ sym (numbers_set c.args.running.now.threads.items c.args.turn.now.at c.index_mut.result.now c.end-released.new.thread c.index_mut.ensures.value c.end-released.ensures.number)
 
 pub end-released-requires-clause-goes : goal.end-released-requires-clause-goes
@@ -20,8 +21,8 @@ returns-clause-step c =
     let a = c.end-released in
     let on = c.requires.on x c.index_mut.ensures.value in
     let place = ap (λ ns. place_of ns c.args.turn.now.thread) (sym c.requires.stands.numbers) ∙ c.requires.place in
-    whole_end fs xs c.args.running.now.heap.heap a.new.heap.heap output c.args.turn.now.thread c.args.turn.now.at x a.new.thread c.args.done a.new.labels.items a.result place c.index_mut.ensures.value on.0 on.1 a.ensures.act a.ensures.released a.ensures.number a.ensures.stage
-    ∙ ap (λ s. stepped_to s a.new.labels.items) (sym (c.let_threads_go.ensures.whole fs output))
+    whole_end fs xs (beside_of c.args.running.now.common) a.new.heap.heap output c.args.turn.now.thread c.args.turn.now.at x a.new.thread c.args.done a.new.labels.items a.result place c.index_mut.ensures.value on.0 on.1 a.ensures.act a.ensures.released a.ensures.number a.ensures.stage
+    ∙ ap (λ s. stepped_to s a.new.labels.items) (sym (c.let_go.ensures.whole fs output))
 
 pub returns-clause-stands : goal.returns-clause-stands
 returns-clause-stands c =
@@ -31,6 +32,6 @@ returns-clause-stands c =
     let y = c.end-released.new.thread in
     let well = well_at fs xs c.args.turn.now.at x c.requires.inside c.index_mut.ensures.value c.requires.stands.well in
     record {
-      numbers = c.requires.stands.numbers ∙ sym (c.let_threads_go.ensures.numbers ∙ numbers_set c.args.running.now.threads.items c.args.turn.now.at c.index_mut.result.now c.end-released.new.thread c.index_mut.ensures.value c.end-released.ensures.number);
-      well = c.let_threads_go.ensures.well fs (well_set fs xs c.args.turn.now.at y (well_same fs x y c.end-released.ensures.frames c.end-released.ensures.focus well) c.requires.stands.well);
+      numbers = c.requires.stands.numbers ∙ sym (c.let_go.ensures.numbers ∙ numbers_set c.args.running.now.threads.items c.args.turn.now.at c.index_mut.result.now c.end-released.new.thread c.index_mut.ensures.value c.end-released.ensures.number);
+      well = c.let_go.ensures.well fs (well_set fs xs c.args.turn.now.at y (well_same fs x y c.end-released.ensures.frames c.end-released.ensures.focus well) c.requires.stands.well);
     }

@@ -1,6 +1,7 @@
 use Rattle.std.proofs.Common.{length, sym, ap, ◌∙◌, subst, arith}
 use Rattle.std.specs.Prelude.{slice_set}
 use Rattle.fr_plain.specs.Run.{temp, join_r, settle}
+use Rattle.fr_meaning.specs.Beside.{beside_of}
 use Rattle.fr_meaning.specs.declared.frame.Frame.TheVariants as frame
 use Rattle.fr_meaning.specs.declared.frame.Focus.{Focus}
 use Rattle.fr_meaning.specs.declared.thread.Stage.TheVariants as stage
@@ -55,7 +56,7 @@ resume-requires-clause-capacity c =
 
 pub returns-clause-step : goal.returns-clause-step
 returns-clause-step c =
-    let heap = c.args.running.now.heap.heap in
+    let beside = beside_of c.args.running.now.common in
     let output = c.args.running.now.output.items in
     let fs = c.args.forms.now in
     let xs = c.args.running.now.threads.items in
@@ -71,7 +72,7 @@ returns-clause-step c =
     let other = ap (λ ns. place_of ns c.args.joined.now.thread) (sym c.requires.stands.numbers) ∙ c.requires.other_place in
     let over_w = thread_same fs z a.new.thread stage.Over a.ensures.number a.ensures.stage a.ensures.frames a.ensures.focus a.ensures.slots in
     let goes = c.resume.ensures.run ∙ ap (λ ks. settle (wrapped fs ks (temp a.result))) (c.leave_top.ensures.frames j.around frame.Join j.top) in
-    whole_join fs xs heap output c.args.turn.now.thread c.args.turn.now.at c.args.joined.now.thread c.args.joined.now.at x y z a.new.thread j.around j.done a.result place is j.on top j.task other c.index_mut.ensures.value (sym a.ensures.result) over_w a.ensures.number
+    whole_join fs xs beside output c.args.turn.now.thread c.args.turn.now.at c.args.joined.now.thread c.args.joined.now.at x y z a.new.thread j.around j.done a.result place is j.on top j.task other c.index_mut.ensures.value (sym a.ensures.result) over_w a.ensures.number
     goes c.resume.ensures.number c.resume.ensures.stage (ap (λ vs. vs.items) c.resume.ensures.slots)
 
 pub returns-clause-stands : goal.returns-clause-stands

@@ -8,6 +8,7 @@ use Rattle.fr_plain.specs.Threads.{Passed}
 use Rattle.fr_forms.specs.declared.forms.Form.TheVariants as form
 use Rattle.fr_forms.specs.Depths.{depth}
 use Rattle.fr_forms.specs.FormTerms.{captures_of, term_of, parts_of}
+use Rattle.fr_meaning.specs.Beside.{beside_of}
 use Rattle.fr_meaning.specs.FrameTerms.{wrapped, all_around}
 use Rattle.fr_acts.specs.SlotOrder.{newest_first}
 use Rattle.fr_shared.specs.Places.{place_of}
@@ -107,7 +108,7 @@ start-started-requires-clause-depth c =
 
 pub returns-clause-step : goal.returns-clause-step
 returns-clause-step c =
-    let heap = c.args.running.now.heap.heap in
+    let beside = beside_of c.args.running.now.common in
     let output = c.args.running.now.output.items in
     let fs = c.args.forms.now in
     let xs = c.args.running.now.threads.items in
@@ -127,10 +128,10 @@ returns-clause-step c =
     let passes = same_passed c.deref.result.now c.in-Spawn.captures.items x.slots.items c.args.made.slots.items p c.deref.ensures.value c.requires.slots c.pass_captures.ensures in
     let begins = c.start-started.ensures.run ∙ ap (λ is. settle (block c.in-Spawn.drops (parts_of (term_of fs) is))) items in
     let new = started_same fs n c.args.made.number (settle (block c.in-Spawn.drops (last (term_of fs c.in-Spawn.field-1)))) c.pass_captures.new.new.items c.start-started.ensures.number c.start-started.ensures.stage begins c.start-started.ensures.slots in
-    whole_start fs xs heap output c.args.turn.now.thread c.args.turn.now.at c.args.made.number x y n x.frames.items (captures_of c.in-Spawn.captures.items) (block c.in-Spawn.drops (last (term_of fs c.in-Spawn.field-1))) p place is s.on
+    whole_start fs xs beside output c.args.turn.now.thread c.args.turn.now.at c.args.made.number x y n x.frames.items (captures_of c.in-Spawn.captures.items) (block c.in-Spawn.drops (last (term_of fs c.in-Spawn.field-1))) p place is s.on
     (k.run ∙ ap (wrapped fs x.frames.items) term) none passes c.resume.ensures.run c.resume.ensures.number c.resume.ensures.stage (ap (λ vs. newest_first vs.items) c.resume.ensures.slots) new
-    ∙ ap (λ ts. stepped_to (whole fs ts heap output) (label.Start c.args.made.number ∷ [])) (sym c.push_reserved.ensures.items)
-    ∙ ap (stepped_to (whole fs c.push_reserved.new.self.items heap output)) (sym (c.note.ensures.label ∙ ap (λ ls. ls ++ label.Start c.args.made.number ∷ []) c.requires.labels))
+    ∙ ap (λ ts. stepped_to (whole fs ts beside output) (label.Start c.args.made.number ∷ [])) (sym c.push_reserved.ensures.items)
+    ∙ ap (stepped_to (whole fs c.push_reserved.new.self.items beside output)) (sym (c.note.ensures.label ∙ ap (λ ls. ls ++ label.Start c.args.made.number ∷ []) c.requires.labels))
 
 pub returns-clause-stands : goal.returns-clause-stands
 returns-clause-stands c =

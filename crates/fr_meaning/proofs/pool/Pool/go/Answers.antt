@@ -6,6 +6,7 @@ use Rattle.fr_base.specs.declared.label.Label.{Label}
 use Rattle.fr_plain.specs.Whole.{Whole, thread_at, step}
 use Rattle.fr_sound.specs.Together.{AreTyped}
 use Rattle.fr_forms.specs.declared.forms.Form.{Form}
+use Rattle.fr_meaning.specs.Beside.{beside_of}
 use Rattle.fr_meaning.specs.Next.{HasThreadsMove}
 use Rattle.fr_meaning.specs.PoolView.{whole_of, total_left, refusal}
 use Rattle.fr_meaning.specs.Running.{plain_of, view_of, Stands}
@@ -18,9 +19,9 @@ go-requires-clause-goes c =
     let p = c.self.inside in
     let fs = p.forms.items in
     let r = p.running in
-    let before = sym (ap whole_of c.self.view_is) ∙ entries_whole fs r.threads.items r.heap.heap r.output.items in
+    let before = sym (ap whole_of c.self.view_is) ∙ entries_whole fs r.threads.items (beside_of r.common) r.output.items in
     let free = subst (λ (w : Whole). refusal w c.args.thread c.args.fresh ≡ None) before c.requires in
-    let typed = subst AreTyped (entries_whole fs r.threads.items r.heap.heap r.output.items) c.self.invariant.typed in
+    let typed = subst AreTyped (entries_whole fs r.threads.items (beside_of r.common) r.output.items) c.self.invariant.typed in
     subst (λ (ms : List Form). IsSome (step (plain_of ms r) c.args.thread c.args.fresh)) (sym c.deref.ensures.value) (typed_goes (plain_of fs r) c.args.thread c.args.fresh typed free)
 
 pub go-requires-clause-known : goal.go-requires-clause-known
@@ -28,7 +29,7 @@ go-requires-clause-known c =
     let p = c.self.inside in
     let fs = p.forms.items in
     let r = p.running in
-    let typed = subst AreTyped (entries_whole fs r.threads.items r.heap.heap r.output.items) c.self.invariant.typed in
+    let typed = subst AreTyped (entries_whole fs r.threads.items (beside_of r.common) r.output.items) c.self.invariant.typed in
     subst (λ (ms : List Form). HasThreadsMove (thread_at (plain_of ms r).threads c.args.thread)) (sym c.deref.ensures.value) (typed_acts (plain_of fs r) c.args.thread typed)
 
 pub invariant_of-self : goal.invariant_of-self
@@ -36,14 +37,14 @@ invariant_of-self c =
     let p = c.self.inside in
     let fs = p.forms.items in
     let r = p.running in
-    let before = sym (ap whole_of c.self.view_is) ∙ entries_whole fs r.threads.items r.heap.heap r.output.items in
+    let before = sym (ap whole_of c.self.view_is) ∙ entries_whole fs r.threads.items (beside_of r.common) r.output.items in
     let free = subst (λ (w : Whole). refusal w c.args.thread c.args.fresh ≡ None) before c.requires in
-    let typed = subst AreTyped (entries_whole fs r.threads.items r.heap.heap r.output.items) c.self.invariant.typed in
+    let typed = subst AreTyped (entries_whole fs r.threads.items (beside_of r.common) r.output.items) c.self.invariant.typed in
     let n = c.go.new.running in
-    let after = entries_whole fs n.threads.items n.heap.heap n.output.items in
+    let after = entries_whole fs n.threads.items (beside_of n.common) n.output.items in
     let steps = subst (λ (ms : List Form). IfOk c.go.result (λ (l : WithRoom Label). step (plain_of ms r) c.args.thread c.args.fresh ≡ Some (record { state = plain_of ms n; labels = l.items }))) c.deref.ensures.value c.go.ensures.step in
     let err = subst (λ (ms : List Form). OnErr c.go.result (view_of ms n ≡ view_of ms r)) c.deref.ensures.value c.go.ensures.err in
-    let same = on_err_weaker c.go.result (same_whole fs r.threads.items n.threads.items r.heap.heap n.heap.heap r.output.items n.output.items) err in
+    let same = on_err_weaker c.go.result (same_whole fs r.threads.items n.threads.items (beside_of r.common) (beside_of n.common) r.output.items n.output.items) err in
     record {
       order = c.self.invariant.order;
       stands = subst (λ (ms : List Form). Stands ms n) c.deref.ensures.value c.go.ensures.stands;
@@ -55,9 +56,9 @@ returns-clause-stepped c =
     let p = c.self.inside in
     let fs = p.forms.items in
     let r = p.running in
-    let before = sym (ap whole_of c.self.view_is) ∙ entries_whole fs r.threads.items r.heap.heap r.output.items in
+    let before = sym (ap whole_of c.self.view_is) ∙ entries_whole fs r.threads.items (beside_of r.common) r.output.items in
     let n = c.go.new.running in
-    let after = entries_whole fs n.threads.items n.heap.heap n.output.items in
+    let after = entries_whole fs n.threads.items (beside_of n.common) n.output.items in
     let steps = subst (λ (ms : List Form). IfOk c.go.result (λ (l : WithRoom Label). step (plain_of ms r) c.args.thread c.args.fresh ≡ Some (record { state = plain_of ms n; labels = l.items }))) c.deref.ensures.value c.go.ensures.step in
     subst (λ (s : Whole). IfOk c.go.result (λ (l : WithRoom Label). step s c.args.thread c.args.fresh ≡ Some (record { state = whole_of (view_of fs n); labels = l.items }))) (sym before)
     (subst (λ (s : Whole). IfOk c.go.result (λ (l : WithRoom Label). step (plain_of fs r) c.args.thread c.args.fresh ≡ Some (record { state = s; labels = l.items }))) (sym after) steps)
@@ -67,9 +68,9 @@ returns-clause-left c =
     let p = c.self.inside in
     let fs = p.forms.items in
     let r = p.running in
-    let before = sym (ap whole_of c.self.view_is) ∙ entries_whole fs r.threads.items r.heap.heap r.output.items in
+    let before = sym (ap whole_of c.self.view_is) ∙ entries_whole fs r.threads.items (beside_of r.common) r.output.items in
     let n = c.go.new.running in
-    let after = entries_whole fs n.threads.items n.heap.heap n.output.items in
+    let after = entries_whole fs n.threads.items (beside_of n.common) n.output.items in
     let steps = subst (λ (ms : List Form). IfOk c.go.result (λ (l : WithRoom Label). step (plain_of ms r) c.args.thread c.args.fresh ≡ Some (record { state = plain_of ms n; labels = l.items }))) c.deref.ensures.value c.go.ensures.step in
     subst (λ (s : Whole). OnOk c.go.result (total_left (whole_of (view_of fs n)).threads + 1 ≡ total_left s.threads)) (sym before)
     (subst (λ (s : Whole). OnOk c.go.result (total_left s.threads + 1 ≡ total_left (plain_of fs r).threads)) (sym after) (left_of c.go.result (plain_of fs r) (plain_of fs n) c.args.thread c.args.fresh steps))

@@ -1,5 +1,6 @@
 use Rattle.std.proofs.Common.{sym, ap, ◌∙◌}
 use Rattle.fr_plain.specs.Whole.{Whole}
+use Rattle.fr_meaning.specs.Beside.{beside_of}
 use Rattle.fr_meaning.specs.PoolView.{whole_of, refusal}
 use Rattle.fr_meaning.proofs.EntryLemmas.{entries_whole}
 use Rattle.fr_meaning.proofs.pool.Pool.refused.Goals as goal
@@ -9,5 +10,5 @@ returns c =
     let p = c.self.inside in
     let fs = p.forms.items in
     let r = p.running in
-    let whole = sym (ap whole_of c.self.view_is) ∙ entries_whole fs r.threads.items r.heap.heap r.output.items in
+    let whole = sym (ap whole_of c.self.view_is) ∙ entries_whole fs r.threads.items (beside_of r.common) r.output.items in
     c.refused_by.ensures fs c.self.invariant.order c.self.invariant.stands ∙ ap (λ (w : Whole). refusal w c.args.thread c.args.fresh.now) (sym whole)
