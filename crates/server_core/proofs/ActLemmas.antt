@@ -13,13 +13,14 @@ use Rattle.server_model.specs.Work.{thread_in}
 use Rattle.server_model.specs.Events.{begin_at, entry_of, left_by, stepped}
 use Rattle.server_core.specs.Rooms.{HasPlaceFor, copies_of}
 use Rattle.server_core.specs.Servers.{ServerView}
-use Rattle.server_core.specs.Sites.{site, CanTake, HasItems, slots_in, passed_in}
-use Rattle.server_core.specs.Standing.{standing}
+use Rattle.server_parts.specs.Sites.{site, HasItems}
+use Rattle.server_deliveries.specs.Taking.{CanTake, slots_in, passed_in}
+use Rattle.server_deliveries.specs.Standing.{standing}
 use Rattle.server_core.specs.Steps.{ThreadLeft, step_there}
-use Rattle.server_core.specs.Threads.{states}
-use Rattle.server_core.specs.Works.{WorkView}
-use Rattle.server_core.proofs.DeliverLemmas.{made_of}
-use Rattle.server_core.proofs.EventLemmas.{begins_at}
+use Rattle.server_parts.specs.Threads.{states}
+use Rattle.server_parts.specs.Works.{WorkView}
+use Rattle.server_deliveries.proofs.DeliverLemmas.{made_of}
+use Rattle.server_deliveries.proofs.EventLemmas.{begins_at}
 
 slots_left : (o : Option ThreadState) → IfSome o ThreadLeft → slots_in o < 2 ^ 32
 slots_left None h = omega arith

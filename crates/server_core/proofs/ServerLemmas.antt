@@ -6,8 +6,9 @@ use Rattle.fr_base.specs.declared.settings.Options.{Options}
 use Rattle.server_msgs.specs.declared.message.Message.{Message}
 use Rattle.server_model.specs.Servers.{Server, empty_server, empty_servers, main_thread, with_main, server_at}
 use Rattle.server_model.specs.Clusters.{with_outbox}
-use Rattle.server_core.specs.Outboxes.{sending, taken_from}
-use Rattle.server_core.specs.Threads.{first_threads}
+use Rattle.server_parts.specs.Works.{sending}
+use Rattle.server_core.specs.Outboxes.{taken_from}
+use Rattle.server_parts.specs.Threads.{first_threads}
 
 -- the server of a number at the start
 abbrev started_at : Options → ℕ → Server

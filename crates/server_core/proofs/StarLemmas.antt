@@ -7,7 +7,7 @@ use Rattle.thread_state.specs.declared.value.Value.TheVariants as value
 use Rattle.server_model.specs.Places.{Spot, in_slot}
 use Rattle.server_model.specs.Prepare.{ending, read_or_taken}
 use Rattle.server_model.specs.Work.{last_of}
-use Rattle.server_core.specs.Stars.{ended_stars, own_value, stars}
+use Rattle.server_ready.specs.Stars.{ended_stars, own_value, stars}
 
 -- a mutable reference that ends where it stands
 pub ending_stars : (s : Spot) (t : ThreadState) → stars (ending s (own_value s t)) t ≡ ended_stars (own_value s t)

@@ -1,48 +1,28 @@
 -- How a step is made of what its place came to and of its plain step.
-use Rattle.std.proofs.Common.{◌≡◌, true≢false, ℕ, ◌≤◌, Bool, true, false, if◌then◌else◌, List, [], ◌∷◌, ◌++◌, length, Option, None, Some, IsSome, IfSome, option_map, refl, sym, ap, subst, ◌∙◌, arith}
-use Rattle.std.proofs.lemmas.List.{append_assoc}
+use Rattle.std.proofs.Common.{◌≡◌, true≢false, ℕ, true, List, Option, None, Some, IsSome, IfSome, option_map, refl, sym, ap, subst, ◌∙◌}
 use Rattle.std.specs.Prelude.{slice_get}
 use Rattle.fr_base.specs.declared.instruction.Instr.{Instr}
 use Rattle.fr_base.specs.declared.step.Fresh.{Fresh}
-use Rattle.journal.specs.declared.act.Act.{Act}
 use Rattle.rank_map.specs.Places.{Place}
 use Rattle.thread_state.specs.View.{ThreadState, ThreadView}
-use Rattle.server_model.specs.Work.{Hand, Site, is_hop, without_hops, then_some, thread_in, set_thread, put_back}
+use Rattle.server_model.specs.Work.{Hand, Site, then_some, thread_in, set_thread, put_back}
 use Rattle.server_model.specs.Prepare.{Access, Prepared, ready, requested, nothing, access_of, prepare}
 use Rattle.server_model.specs.Commit.{Committed, done, waits, refused}
 use Rattle.server_model.specs.Events.{Stepped, committed, prepared, step, step_in, left_by, stepped as left_stepped}
-use Rattle.server_core.specs.Committeds.{is_committed}
-use Rattle.server_core.specs.Hands.{hand}
-use Rattle.server_core.specs.Prepareds.{is_prepared, prepared as made_prepared}
+use Rattle.server_steps.specs.Committeds.{is_committed}
+use Rattle.server_parts.specs.Hands.{hand}
+use Rattle.server_ready.specs.Prepareds.{is_prepared, prepared as made_prepared}
 use Rattle.server_core.specs.Rooms.{HasRoomAt, HasRoomOf, HasStepRoom}
-use Rattle.server_core.specs.Sites.{site}
-use Rattle.server_core.specs.Spares.{SparesView}
-use Rattle.server_core.specs.Standing.{standing}
+use Rattle.server_parts.specs.Sites.{site}
+use Rattle.server_parts.specs.Spares.{SparesView}
+use Rattle.server_deliveries.specs.Standing.{standing}
 use Rattle.server_core.specs.Steps.{step_there, stepped}
-use Rattle.server_core.specs.Threads.{states}
-use Rattle.server_core.specs.Works.{WorkView}
-use Rattle.server_core.specs.declared.prepared.Prepared.{Prepared as Made}
-use Rattle.server_core.specs.declared.prepared.Prepared.TheVariants as made
+use Rattle.server_parts.specs.Threads.{states}
+use Rattle.server_parts.specs.Works.{WorkView}
+use Rattle.server_ready.specs.declared.prepared.Prepared.{Prepared as Made}
+use Rattle.server_ready.specs.declared.prepared.Prepared.TheVariants as made
 use Rattle.server_core.proofs.KeptLemmas.{PreparedOk, Ok, prepares}
 use Rattle.server_core.proofs.NumberLemmas.{steps}
-
--- ACTS WITHOUT HOPS
-
-pub fewer_acts : (xs : List Act) → length (without_hops xs) ≤ length xs
-fewer_acts [] = omega arith
-fewer_acts (a ∷ xs) = by (is_hop a) (fewer_acts xs)
-  where
-    by : (b : Bool) → length (without_hops xs) ≤ length xs → length (if b then without_hops xs else a ∷ without_hops xs) ≤ length (a ∷ xs)
-    by true h = omega (arith, h)
-    by false h = omega (arith, h)
-
--- one act more
-pub one_request : (xs : List Act) (a : Act) (rest : List Act) → (xs ++ without_hops (a ∷ [])) ++ without_hops rest ≡ xs ++ without_hops (a ∷ rest)
-one_request xs a rest = append_assoc xs (without_hops (a ∷ [])) (without_hops rest) ∙ ap (λ l. xs ++ l) (by (is_hop a))
-  where
-    by : (b : Bool) → (if b then [] else a ∷ []) ++ without_hops rest ≡ (if b then without_hops rest else a ∷ without_hops rest)
-    by true = refl
-    by false = refl
 
 -- STEPS
 

@@ -1,11 +1,7 @@
 -- The first message to another server leaves its outbox (this project's own).
-use Rattle.std.specs.Prelude.{ℕ, List, [], ◌∷◌, Option, Some, None}
-use Rattle.server_msgs.specs.declared.message.Message.{Message}
+use Rattle.std.specs.Prelude.{List, [], ◌∷◌, Option, Some, None}
 use Rattle.server_model.specs.Servers.{Server, Sent}
 use Rattle.server_model.specs.Clusters.{with_outbox}
-
-abbrev pub sending : ℕ × Message → Sent
-sending x = record { target = x.0; message = x.1 }
 
 abbrev pub taken_from : Server → List Sent → Option Sent × Server
 taken_from s [] = (None, s)

@@ -11,9 +11,9 @@ use Rattle.server_model.specs.declared.event.What.{What}
 use Rattle.server_model.specs.declared.event.What.TheVariants as what
 use Rattle.server_model.specs.Prepare.{access_of}
 use Rattle.server_core.specs.Servers.{ServerView}
-use Rattle.server_core.specs.Sites.{HasItems}
-use Rattle.server_core.specs.Spares.{SparesView, HasSlots}
-use Rattle.server_core.specs.Stars.{stars}
+use Rattle.server_parts.specs.Sites.{HasItems}
+use Rattle.server_parts.specs.Spares.{SparesView, HasSlots}
+use Rattle.server_ready.specs.Stars.{stars}
 
 -- how many stars the thread follows at most at that instruction
 abbrev pub stars_at : Instr → ThreadState → ℕ

@@ -5,7 +5,7 @@ use Rattle.fr_base.specs.declared.settings.Options.{Options}
 use Rattle.rank_map.specs.Places.{Place}
 use Rattle.thread_state.specs.View.{ThreadView}
 use Rattle.server_model.specs.Servers.{Server}
-use Rattle.server_core.specs.Spares.{SparesView}
+use Rattle.server_parts.specs.Spares.{SparesView}
 
 pub record ServerView : Type 0 where
   pub state : Server

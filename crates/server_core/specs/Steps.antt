@@ -6,8 +6,8 @@ use Rattle.thread_state.specs.View.{ThreadState, ThreadView}
 use Rattle.server_model.specs.Servers.{Server}
 use Rattle.server_model.specs.Work.{Site, thread_in, in_hand, then_some}
 use Rattle.server_model.specs.Events.{Stepped, step_in}
-use Rattle.server_core.specs.Hands.{hand}
-use Rattle.server_core.specs.Works.{WorkView}
+use Rattle.server_parts.specs.Hands.{hand}
+use Rattle.server_parts.specs.Works.{WorkView}
 
 -- the work with its thread, and the names that the plain step took where it was done
 abbrev pub stepped : Option Fresh → WorkView → ThreadView → Stepped

@@ -2,19 +2,17 @@
 
 ghost use Rattle.std.specs.Prelude.{◌≡◌, ◌≤◌, slice_get, IsOk, OnOk};
 ghost use Rattle.rank_map.specs.Places.{item_at};
-ghost use Rattle.server_core.specs.Growing.{HasWorkGrown, HaveSparesGrown, HaveThreadsGrown};
+ghost use Rattle.server_parts.specs.Growing.{HasWorkGrown, HaveSparesGrown, HaveThreadsGrown};
 ghost use Rattle.server_core.specs.Rooms.{HasRoomOf, HasPlaceFor, stars_at};
-ghost use Rattle.server_core.specs.Sites.{copies_in};
-ghost use Rattle.server_core.specs.Spares.{HasSlots};
-ghost use Rattle.server_core.specs.Stars.{ended_stars, stars};
+ghost use Rattle.server_parts.specs.Sites.{copies_in};
+ghost use Rattle.server_parts.specs.Spares.{HasSlots};
+ghost use Rattle.server_ready.specs.Stars.{ended_stars, stars};
 ghost use Rattle.server_model.specs.Prepare.{assigned};
 
-use crate::spares::Spares;
-use crate::threads::Threads;
-use crate::work::Work;
 use fr_base::{Code, Instr, Lval, NoMemory, ThreadNo};
 use heap_partition::{Cell, Owned};
 use server_msgs::Message;
+use server_parts::{Spares, Threads, Work};
 use thread_state::{Thread, Value};
 
 // How many stars a mutable reference that ends has.

@@ -5,25 +5,24 @@ ghost use Rattle.server_model.specs.Servers.{start_of, server_at};
 ghost use Rattle.server_model.specs.Clusters.{accept};
 ghost use Rattle.server_model.specs.Events.{does, enabled, is_ready};
 ghost use Rattle.std.specs.Arc.{arc_value};
-ghost use Rattle.server_core.specs.Outboxes.{sending, taken_out};
+ghost use Rattle.server_parts.specs.Works.{sending};
+ghost use Rattle.server_core.specs.Outboxes.{taken_out};
 ghost use Rattle.server_core.specs.Rooms.{HasRoom};
 ghost use Rattle.server_core.specs.Steps.{CountsLeft};
-ghost use Rattle.server_core.specs.Threads.{states, first_threads};
+ghost use Rattle.server_parts.specs.Threads.{states, first_threads};
 ghost use Rattle.server_model.specs.declared.event.What.{What};
 ghost use Rattle.server_model.specs.declared.event.What.TheVariants.{Step, Evict, Migrate};
 ghost use Rattle.server_model.specs.Questions.{due, runnable, active, movable, waits_among};
 
-use crate::beginning::{deliver, evict_at, migrate_at};
 use crate::rooms::{delivery_room, step_room};
-use crate::spares::Spares;
 use crate::stepping::step_at;
-use crate::threads::{Threads, can_step};
-use crate::work::Work;
 use fr_base::{Code, NoMemory, Options, ThreadNo, Wait};
 use global_addr::Word;
 use journal::Entry;
+use server_deliveries::{deliver, evict_at, migrate_at};
 use server_model::What;
 use server_msgs::Message;
+use server_parts::{Spares, Threads, Work, can_step};
 use std::alloc::Global;
 use std::marker::Model;
 use std::sync::Arc;
@@ -48,7 +47,7 @@ impl Model for Server {
     ghost use Rattle.std.specs.Arc.{arc_value};
     ghost use Rattle.std.specs.Prelude.{◌≡◌, ◌<◌, []};
     ghost use Rattle.server_core.specs.Servers.{ServerView};
-    ghost use Rattle.server_core.specs.Threads.{states};
+    ghost use Rattle.server_parts.specs.Threads.{states};
 
     ghost Value = { ServerView };
 
@@ -168,7 +167,7 @@ impl Server {
     /// a coherent cluster; `room` made room for it, and no count of the server is near its end. Refuses nothing and takes no memory. A step
     /// takes time in the stars of its place, an eviction, a migration and a delivery in the values of the thread that they move, and each
     /// finds its thread in some forty steps.
-    #[tactic(auto, using(crate::proofs::ActLemmas::begins_step, crate::proofs::ActLemmas::ends_step, crate::proofs::ActLemmas::leaves, crate::proofs::ActLemmas::can_take, crate::proofs::DeliverLemmas::made_of))]
+    #[tactic(auto, using(crate::proofs::ActLemmas::begins_step, crate::proofs::ActLemmas::ends_step, crate::proofs::ActLemmas::leaves, crate::proofs::ActLemmas::can_take, server_deliveries::proofs::DeliverLemmas::made_of))]
     pub fn act(&mut self, what: What) -> Entry
         requires enabled { enabled self.old.options self.old.state what ≡ true }
         requires result { IsSome (does self.old.code self.old.options self.old.state what) }

@@ -5,31 +5,25 @@ ghost use Rattle.rank_map.specs.Places.{item_at};
 ghost use Rattle.server_model.specs.Events.{committed as finished, prepared as followed, left_by, step, stepped as left_stepped};
 ghost use Rattle.server_model.specs.Prepare.{access_of};
 ghost use Rattle.server_model.specs.Work.{thread_in};
-ghost use Rattle.server_core.specs.Committeds.{committed};
-ghost use Rattle.server_core.specs.Hands.{hand};
-ghost use Rattle.server_core.specs.Prepareds.{prepared};
+ghost use Rattle.server_steps.specs.Committeds.{committed};
+ghost use Rattle.server_parts.specs.Hands.{hand};
+ghost use Rattle.server_ready.specs.Prepareds.{prepared};
 ghost use Rattle.server_core.specs.Rooms.{HasRoomOf};
-ghost use Rattle.server_core.specs.Sites.{site};
-ghost use Rattle.server_core.specs.Spares.{HasSlots};
-ghost use Rattle.server_core.specs.Standing.{standing};
-ghost use Rattle.server_core.specs.Stars.{stars};
+ghost use Rattle.server_parts.specs.Sites.{site};
+ghost use Rattle.server_parts.specs.Spares.{HasSlots};
+ghost use Rattle.server_deliveries.specs.Standing.{standing};
+ghost use Rattle.server_ready.specs.Stars.{stars};
 ghost use Rattle.server_core.specs.Steps.{ThreadLeft, step_there, stepped};
-ghost use Rattle.server_core.specs.Threads.{states};
+ghost use Rattle.server_parts.specs.Threads.{states};
 
-use crate::committed::Committed;
-use crate::committing::commit;
-use crate::needing::access_of;
-use crate::prepared::Prepared;
-use crate::preparing::prepare;
-use crate::settling::settle;
-use crate::spares::Spares;
-use crate::threads::Threads;
-use crate::work::Work;
 use fr_base::{Code, Fresh, Instr, ThreadNo};
+use server_parts::{Spares, Threads, Work, access_of};
+use server_ready::{Prepared, prepare};
+use server_steps::{Committed, commit, settle};
 use thread_state::Thread;
 
 // The step is done, and its walk ends; or the thread waits, and its hops and labels count later.
-#[tactic(auto, using(crate::proofs::DeliverLemmas::made_of))]
+#[tactic(auto, using(server_deliveries::proofs::DeliverLemmas::made_of))]
 fn finish(work: &mut Work, thread: &mut Thread, done: Committed) -> Option<Fresh>
     requires result { IsSome (finished (committed done (hand work.old thread.old))) }
     ensures state { finished (committed done (hand work.old thread.old)) ≡ Some (stepped result work.new thread.new) }

@@ -1,6 +1,6 @@
 use Rattle.std.proofs.Common.{◌≡◌, arith}
-use Rattle.server_core.specs.Accesses.{access_in}
-use Rattle.server_core.specs.Hands.{hand}
+use Rattle.server_parts.specs.Accesses.{access_in}
+use Rattle.server_parts.specs.Hands.{hand}
 use Rattle.server_core.proofs.StepLemmas.{stays}
 use Rattle.server_core.proofs.stepping.step.Goals as goal
 

@@ -1,9 +1,9 @@
 use Rattle.std.proofs.Common.{rules, ◌≡◌, true, None, Some, sym, subst, ◌∙◌, slice_get}
 use Rattle.rank_map.specs.Places.{has_place}
 use Rattle.server_model.specs.Work.{thread_in}
-use Rattle.server_core.specs.Hands.{hand}
+use Rattle.server_parts.specs.Hands.{hand}
 use Rattle.server_core.specs.Steps.{stepped}
-use Rattle.server_core.specs.Threads.{states}
+use Rattle.server_parts.specs.Threads.{states}
 use Rattle.server_core.proofs.StepLemmas.{step_named, stepped_there}
 use Rattle.server_core.proofs.stepping.step_at.Goals as goal
 

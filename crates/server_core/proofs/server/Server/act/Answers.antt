@@ -1,6 +1,6 @@
 use Rattle.std.proofs.Common.{rules, ◌≡◌, Some, sym, ap, ◌∙◌}
 use Rattle.server_model.specs.Events.{does}
-use Rattle.server_core.specs.Standing.{standing}
+use Rattle.server_deliveries.specs.Standing.{standing}
 use Rattle.server_core.proofs.ActLemmas.{ends_step, leaves}
 use Rattle.server_model.specs.declared.event.What.TheVariants as what
 use Rattle.server_core.proofs.server.Server.act.Goals as goal

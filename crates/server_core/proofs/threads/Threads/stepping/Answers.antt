@@ -1,8 +1,0 @@
-use Rattle.std.proofs.Common.{ap, length, ◌∙◌}
-use Rattle.server_model.specs.Questions.{runnable_in}
-use Rattle.server_core.specs.Threads.{states}
-use Rattle.server_core.proofs.StandLemmas.{runnable_many}
-use Rattle.server_core.proofs.threads.Threads.stepping.Goals as goal
-
-pub returns : goal.returns
-returns c = c.len.ensures ∙ runnable_many c.self.invariant ∙ ap (λ ps. length (runnable_in (states ps))) c.self.view_is

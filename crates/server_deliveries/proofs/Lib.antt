@@ -1,0 +1,3 @@
+pub mod DeliverLemmas
+pub mod EventLemmas
+mod PassLemmas

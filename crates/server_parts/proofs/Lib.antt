@@ -1,0 +1,6 @@
+pub mod PlaceLemmas
+mod RoomLemmas
+mod ThreadLemmas
+mod StandLemmas
+mod WaitLemmas
+mod HopLemmas

@@ -1,0 +1,30 @@
+use Rattle.std.proofs.Common.{◌≡◌, ◌<◌, ◌^◌, true, Some, None, sym, subst, ap, ◌∙◌, arith}
+use Rattle.rank_map.specs.Places.{has_place, with_place}
+use Rattle.rank_map.specs.Marks.{mark_if}
+use Rattle.server_model.specs.Work.{thread_in, with_thread}
+use Rattle.server_parts.specs.Threads.{states}
+use Rattle.server_parts.proofs.ThreadLemmas.{put_states}
+use Rattle.server_parts.proofs.StandLemmas.{all_changed, absent_item}
+use Rattle.server_parts.proofs.threads.Threads.insert.Goals as goal
+
+pub invariant_of-self : goal.invariant_of-self
+invariant_of-self c =
+    let k = c.number-number.result in
+    let below : k < 2 ^ 40 = omega (arith, c.number-number.ensures.number, c.number-number.ensures.few) in
+    let number : c.args.thread.state.number ≡ k = sym (c.number-number.ensures.number ∙ ap (λ v. v.state.number) c.thread.view_is) in
+    let here : has_place c.self.inside.all k ≡ true = subst (λ i. has_place c.self.inside.all i ≡ true) number (subst (λ ps. has_place ps c.args.thread.state.number ≡ true) (sym c.self.view_is) c.requires.room) in
+    all_changed k (Some c.args.thread) c.self.invariant here below number c.insert.ensures.places
+    (c.set_mark.ensures ∙ ap (λ b. with_place c.self.inside.runnable k (Some (mark_if b))) c.can_step.ensures)
+    (c.set_mark-2.ensures ∙ ap (λ b. with_place c.self.inside.waiting k (Some (mark_if b))) c.is_waiting.ensures)
+    (c.set_mark-3.ensures ∙ ap (λ b. with_place c.self.inside.movable k (Some (mark_if b))) c.is_movable.ensures)
+    (c.set_mark-4.ensures ∙ ap (λ b. with_place c.self.inside.active k (Some (mark_if b))) c.is_active.ensures)
+
+pub returns-clause-state : goal.returns-clause-state
+returns-clause-state c =
+    let k = c.number-number.result in
+    let number : c.args.thread.state.number ≡ k = sym (c.number-number.ensures.number ∙ ap (λ v. v.state.number) c.thread.view_is) in
+    let absent : thread_in (states c.self.inside.all) k ≡ None =
+    subst (λ i. thread_in (states c.self.inside.all) i ≡ None) number (subst (λ ps. thread_in (states ps) c.args.thread.state.number ≡ None) (sym c.self.view_is) c.requires.absent) in
+    ap states c.insert.ensures.places
+    ∙ put_states c.self.inside.all 0 (2 ^ 40) k c.args.thread c.self.invariant.rises c.self.invariant.numbered number (absent_item k c.self.invariant absent)
+    ∙ ap (λ ps. with_thread (states ps) c.args.thread.state) c.self.view_is

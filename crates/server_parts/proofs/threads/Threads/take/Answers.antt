@@ -1,0 +1,100 @@
+use Rattle.std.proofs.Common.{◌≡◌, ◌<◌, ◌^◌, true, None, IsSome, option_map, sym, subst, ap, ◌∙◌, arith}
+use Rattle.rank_map.specs.Places.{has_place, item_at}
+use Rattle.rank_map.proofs.MarkLemmas.{place_new}
+use Rattle.server_model.specs.Work.{thread_in, set_thread, without_thread}
+use Rattle.server_parts.specs.Threads.{states}
+use Rattle.server_parts.proofs.ThreadLemmas.{take_states}
+use Rattle.server_parts.proofs.StandLemmas.{all_changed, stands_at, there_item, found_thread, back_again, taken_absent, found_number}
+use Rattle.server_parts.proofs.threads.Threads.take.Goals as goal
+
+pub set_mark-requires : goal.set_mark-requires
+set_mark-requires c =
+    let k = c.number-number.result in
+    let stands : IsSome (thread_in (states c.self.inside.all) k) =
+    subst (λ i. IsSome (thread_in (states c.self.inside.all) i)) (sym c.number-number.ensures.number) (subst (λ ps. IsSome (thread_in (states ps) c.args.thread)) (sym c.self.view_is) c.requires.there) in
+    let here = stands_at k c.self.invariant stands in
+    record { place = c.self.invariant.runnable_set.places k here }
+
+pub set_mark-requires-2 : goal.set_mark-requires-2
+set_mark-requires-2 c =
+    let k = c.number-number.result in
+    let stands : IsSome (thread_in (states c.self.inside.all) k) =
+    subst (λ i. IsSome (thread_in (states c.self.inside.all) i)) (sym c.number-number.ensures.number) (subst (λ ps. IsSome (thread_in (states ps) c.args.thread)) (sym c.self.view_is) c.requires.there) in
+    let here = stands_at k c.self.invariant stands in
+    record { place = c.self.invariant.waiting_set.places k here }
+
+pub set_mark-requires-3 : goal.set_mark-requires-3
+set_mark-requires-3 c =
+    let k = c.number-number.result in
+    let stands : IsSome (thread_in (states c.self.inside.all) k) =
+    subst (λ i. IsSome (thread_in (states c.self.inside.all) i)) (sym c.number-number.ensures.number) (subst (λ ps. IsSome (thread_in (states ps) c.args.thread)) (sym c.self.view_is) c.requires.there) in
+    let here = stands_at k c.self.invariant stands in
+    record { place = c.self.invariant.movable_set.places k here }
+
+pub set_mark-requires-4 : goal.set_mark-requires-4
+set_mark-requires-4 c =
+    let k = c.number-number.result in
+    let stands : IsSome (thread_in (states c.self.inside.all) k) =
+    subst (λ i. IsSome (thread_in (states c.self.inside.all) i)) (sym c.number-number.ensures.number) (subst (λ ps. IsSome (thread_in (states ps) c.args.thread)) (sym c.self.view_is) c.requires.there) in
+    let here = stands_at k c.self.invariant stands in
+    record { place = c.self.invariant.active_set.places k here }
+
+pub take-requires : goal.take-requires
+take-requires c =
+    let k = c.number-number.result in
+    let stands : IsSome (thread_in (states c.self.inside.all) k) =
+    subst (λ i. IsSome (thread_in (states c.self.inside.all) i)) (sym c.number-number.ensures.number) (subst (λ ps. IsSome (thread_in (states ps) c.args.thread)) (sym c.self.view_is) c.requires.there) in
+    let here = stands_at k c.self.invariant stands in
+    record { place = here }
+
+pub unreachable-requires : goal.unreachable-requires
+unreachable-requires c =
+    let k = c.number-number.result in
+    let stands : IsSome (thread_in (states c.self.inside.all) k) =
+    subst (λ i. IsSome (thread_in (states c.self.inside.all) i)) (sym c.number-number.ensures.number) (subst (λ ps. IsSome (thread_in (states ps) c.args.thread)) (sym c.self.view_is) c.requires.there) in
+    there_item k c.self.invariant stands (sym c.take.ensures.item ∙ c.in-None.is)
+
+pub invariant_of-self : goal.invariant_of-self
+invariant_of-self c =
+    let k = c.number-number.result in
+    let stands : IsSome (thread_in (states c.self.inside.all) k) =
+    subst (λ i. IsSome (thread_in (states c.self.inside.all) i)) (sym c.number-number.ensures.number) (subst (λ ps. IsSome (thread_in (states ps) c.args.thread)) (sym c.self.view_is) c.requires.there) in
+    let here = stands_at k c.self.invariant stands in
+    let below : k < 2 ^ 40 = omega (arith, c.number-number.ensures.number, c.number-number.ensures.few) in
+    all_changed k None c.self.invariant here below tt c.take.ensures.places c.set_mark.ensures c.set_mark-2.ensures c.set_mark-3.ensures c.set_mark-4.ensures
+
+pub returns-clause-thread : goal.returns-clause-thread
+returns-clause-thread c =
+    ap (λ ps. thread_in (states ps) c.args.thread) (sym c.self.view_is) ∙ ap (thread_in (states c.self.inside.all)) (sym c.number-number.ensures.number)
+    ∙ found_thread c.number-number.result c.self.invariant ∙ ap (option_map (λ v. v.state)) (sym c.take.ensures.item ∙ c.in-Some.is)
+
+pub returns-clause-state : goal.returns-clause-state
+returns-clause-state c =
+    let k = c.number-number.result in
+    ap states c.take.ensures.places ∙ take_states c.self.inside.all 0 (2 ^ 40) k c.self.invariant.rises c.self.invariant.numbered
+    ∙ ap (without_thread (states c.self.inside.all)) c.number-number.ensures.number ∙ ap (λ ps. without_thread (states ps) c.args.thread) c.self.view_is
+
+pub returns-clause-back : goal.returns-clause-back
+returns-clause-back c =
+    let k = c.number-number.result in
+    let stands : IsSome (thread_in (states c.self.inside.all) k) =
+    subst (λ i. IsSome (thread_in (states c.self.inside.all) i)) (sym c.number-number.ensures.number) (subst (λ ps. IsSome (thread_in (states ps) c.args.thread)) (sym c.self.view_is) c.requires.there)
+    in
+    λ t is. back_again k c.self.invariant stands c.take.ensures.places t (is ∙ sym c.number-number.ensures.number) ∙ ap (λ ps. set_thread (states ps) t) c.self.view_is
+
+pub returns-clause-item : goal.returns-clause-item
+returns-clause-item c = ap (λ ps. item_at ps c.args.thread) (sym c.self.view_is) ∙ ap (item_at c.self.inside.all) (sym c.number-number.ensures.number) ∙ sym c.take.ensures.item ∙ c.in-Some.is
+
+pub returns-clause-room : goal.returns-clause-room
+returns-clause-room c =
+    let k = c.number-number.result in
+    subst (λ i. has_place c.take.new.self i ≡ true) c.number-number.ensures.number (ap (λ ps. has_place ps k) c.take.ensures.places ∙ place_new c.self.inside.all k None)
+
+pub returns-clause-absent : goal.returns-clause-absent
+returns-clause-absent c =
+    let k = c.number-number.result in
+    let below : k < 2 ^ 40 = omega (arith, c.number-number.ensures.number, c.number-number.ensures.few) in
+    subst (λ i. thread_in (states c.take.new.self) i ≡ None) c.number-number.ensures.number (taken_absent k c.self.invariant below c.take.ensures.places)
+
+pub returns-clause-number : goal.returns-clause-number
+returns-clause-number c = found_number _ _ _ (returns-clause-thread c)

@@ -1,0 +1,2 @@
+pub mod Prepareds
+pub mod Stars
