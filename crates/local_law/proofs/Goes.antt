@@ -39,7 +39,7 @@ use Rattle.server_model.specs.Joining.{waits_for_join, deliver_joined, got_par, 
 use Rattle.event_law.specs.Laws.{Gives}
 use Rattle.event_law.proofs.Results.{then_gives, map_gives, over_gives, bind_gives, test_gives, both_give, weaker}
 use Rattle.local_law.proofs.Small.{Of, Places, Small, Passes, Follows, Writes}
-use Rattle.local_law.proofs.Plainly.{Settles, Onward, Acts, EndsStep, steps}
+use Rattle.local_law.proofs.Plainly.{Settles, Onward, quiet_onward, moves_by, Acts, EndsStep, steps}
 
 -- it has the number and the home that it had
 pub record Same (y y2 : ThreadState) : Type 0 where
@@ -201,13 +201,14 @@ module _ (code : List Instr) (n : ℕ) (i : Instr) (y : ThreadState) (there : sl
   passes : Writes (access_of i y) → Passes F
   passes f m h g = record { named = g.named; at_home = g.at_home; placed = g.placed; still = g.still; given = g.given; passes = λ a. absurd (writes_no_ask i f a); walks = g.walks }
 
-  acts : Acts n F E Any AnyWord i
+  acts : Acts n F E Any Any AnyWord i
   acts = record {
     places = places;
     number = λ m. tt;
     unit_value = tt;
     nothing_value = tt;
     gone = tt;
+    owned_temp = λ v a. tt;
     shared_slot = λ j. tt;
     mutable_slot = λ j. tt;
     second = λ v u a e. tt;
@@ -220,15 +221,16 @@ module _ (code : List Instr) (n : ℕ) (i : Instr) (y : ThreadState) (there : sl
     gives = λ v h a g. g;
     unpins = λ w h e g. g;
     gift = λ v h e g. (tt, record { named = g.named; at_home = g.at_home; placed = g.placed; still = g.still; given = inr refl; passes = g.passes; walks = g.walks });
-    boxes = λ o e v h a g. map_gives (Of F) (issue_placed (act.Make (next_object h)) (record { object = next_object h; value = v }) h.work) (λ m. push_box v m h) (λ m q. g);
-    mutexes = λ o e v h a g. test_gives (Of F) (can_make h.work.rest.mutexes) _ (λ z. g);
+    boxes = λ o e v h a g.
+        map_gives (λ h2. Settles E (go_on h2)) (issue_placed (act.Make (next_object h)) (record { object = next_object h; value = v }) h.work) (λ m. push_box v m h) (λ m q cs z left. onward (subst Onward (sym e) tt) h.thread g);
+    mutexes = λ o e v h a g. test_gives (λ h2. Settles E (go_on h2)) (can_make h.work.rest.mutexes) _ (λ z cs z2 left. onward (subst Onward (sym e) tt) h.thread g);
     spawns = λ cs pc e h g.
         then_gives (λ h2. Settles E (go_on h2)) (capture false cs.items h.thread.slots) (spawn_with n pc (next_thread h.work.rest) h) (λ new q.
         over_gives (Of F) (λ h2. Settles E (go_on h2)) (begun h) _ (test_gives (Of F) (can_begin h.work.rest.tasks (next_thread h.work.rest)) _ (λ z. g))
         (λ h2 u cs2 z left. onward (subst Onward (sym e) tt) h2.thread u));
     unlocks = λ e m v h a b g. g;
     holds = λ w e m a. tt;
-    goes = λ o h g cs z left. onward o h.thread g;
+    goes = λ o h g cs z left. onward (quiet_onward i o) h.thread g;
     pairs = λ cs pc ds other e h g.
         let u = next_thread h.work.rest in
         then_gives (Settles E) (capture true cs.items h.thread.slots) _ (λ first p. then_gives (Settles E) (capture true ds.items first.1) _ (λ second q.
@@ -258,7 +260,7 @@ module _ (code : List Instr) (n : ℕ) (i : Instr) (y : ThreadState) (there : sl
 
   -- a step makes its thread go on so
   step_goes : (r : Rest) (h : Hand) → h.thread ≡ y → Gives (EndsStep E) (step n i h)
-  step_goes r h e = steps i h (λ f. small (subst (λ t. Follows (access_of i t)) e f)) (λ f. passes (subst (λ t. Writes (access_of i t)) e f)) acts (subst (λ t. Framed i y h.work.rest t) (sym e) (framed i y h.work.rest))
+  step_goes r h e = steps i h (λ f. small (subst (λ t. Follows (access_of i t)) e f)) (λ f. passes (subst (λ t. Writes (access_of i t)) e f)) acts (λ h2 s q u. moves_by i s h2 (λ v z. tt)) (subst (λ t. Framed i y h.work.rest t) (sym e) (framed i y h.work.rest))
 
 -- THE END OF A THREAD
 

@@ -51,7 +51,7 @@ use Rattle.event_law.proofs.Results.{then_gives, map_gives, over_gives, bind_giv
 use Rattle.event_law.proofs.Known.{all_append}
 use Rattle.event_law.proofs.KnownPlaces.{Told, pointer_keeps}
 use Rattle.local_law.proofs.Small.{Of, Places, Small, Passes}
-use Rattle.local_law.proofs.Plainly.{Settles, Acts, EndsStep, steps}
+use Rattle.local_law.proofs.Plainly.{Settles, moves_by, Acts, EndsStep, steps}
 use Rattle.local_law.proofs.Goes.{puts_by, Any, AnyWord}
 
 -- the messages that wait and that leave each are as they should be, at the server that they go to, and those that leave come behind older ones
@@ -372,13 +372,14 @@ module _ (M : ℕ → Message → Type 0) (servers : ℕ) (i : Instr) (r0 : Rest
       let b : M y.home (message.Finished h.thread.number v) = subst (λ x. M y.home (message.Finished x v)) (sym g.named) (k.finished v) in
       says_one h.thread.home (message.Finished h.thread.number v) h (subst (λ x. M x (message.Finished h.thread.number v)) (sym g.at_home) b) g
 
-  acts : Acts servers F E Any AnyWord i
+  acts : Acts servers F E Any Any AnyWord i
   acts = record {
     places = places;
     number = λ m. tt;
     unit_value = tt;
     nothing_value = tt;
     gone = tt;
+    owned_temp = λ v a. tt;
     shared_slot = λ j. tt;
     mutable_slot = λ j. tt;
     second = λ v u a e. tt;
@@ -391,8 +392,10 @@ module _ (M : ℕ → Message → Type 0) (servers : ℕ) (i : Instr) (r0 : Rest
     gives = λ v h a g. gives v h g;
     unpins = λ w h e g. g;
     gift = λ v h e g. (tt, g);
-    boxes = λ o e v h a g. over_gives (λ (m : NewWord). F m.work.rest h.thread) (Of F) (issue_placed (act.Make (next_object h)) (record { object = next_object h; value = v }) h.work) (λ m. push_box v m h) (test_gives (λ (m : NewWord). F m.work.rest h.thread) (can_grow h.work.rest.partition) _ (λ z. g)) (λ m w. w);
-    mutexes = λ o e v h a g. test_gives (Of F) (can_make h.work.rest.mutexes) _ (λ z. g);
+    boxes = λ o e v h a g.
+        over_gives (λ (m : NewWord). F m.work.rest h.thread) (λ h2. Settles E (go_on h2)) (issue_placed (act.Make (next_object h)) (record { object = next_object h; value = v }) h.work) (λ m. push_box v m h)
+        (test_gives (λ (m : NewWord). F m.work.rest h.thread) (can_grow h.work.rest.partition) _ (λ z. g)) (λ m w cs z. w.mail);
+    mutexes = λ o e v h a g. test_gives (λ h2. Settles E (go_on h2)) (can_make h.work.rest.mutexes) _ (λ z cs z2. g.mail);
     spawns = λ cs pc e h g.
         then_gives (λ h2. Settles E (go_on h2)) (capture false cs.items h.thread.slots) (spawn_with servers pc (next_thread h.work.rest) h) (λ new q.
         over_gives (Of F) (λ h2. Settles E (go_on h2)) (begun h) _ (test_gives (Of F) (can_begin h.work.rest.tasks (next_thread h.work.rest)) _ (λ z. g))
@@ -415,4 +418,4 @@ module _ (M : ℕ → Message → Type 0) (servers : ℕ) (i : Instr) (r0 : Rest
 
   -- a step there says so
   pub step_says : (h : Hand) → Of F h → Gives (EndsStep E) (step servers i h)
-  step_says h g = steps i h (λ f. small) (λ f. passes) acts g
+  step_says h g = steps i h (λ f. small) (λ f. passes) acts (λ h2 s q u. moves_by i s h2 (λ v z. tt)) g

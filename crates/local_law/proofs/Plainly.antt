@@ -29,7 +29,7 @@ use Rattle.server_model.specs.Work.{Hand, Popped, last_of, front_of, push_slot, 
 use Rattle.server_model.specs.Places.{Spot, in_slot, on_top, in_cell, in_copy, nowhere, cell_at, value_at, load_at, put_slot, second_of}
 use Rattle.server_model.specs.Drop.{give_up, unpin_ref, finished_at, drop_value}
 use Rattle.server_model.specs.Start.{next_thread, capture}
-use Rattle.server_model.specs.Commit.{Committed, done, waits, refused, done_where, go_on, goes_on, waiting, let_slot, label_dropped, replace_slot, store_labels, store_at, replace_at, assign, take_out, read_as, read, shared_from, borrow_from, mutable_from, borrow_mut_from, discard, drop_slot, make_box, box_up, arith as calculate, print, spawn_with, ask_join, take_gift, join, par_with, par_end, end_with, end_thread, mutex_made, mutex, mutex_at, ask_dup, dup, ask_lock, push_content, lock, held_of, send_content, unlock, commit, settle}
+use Rattle.server_model.specs.Commit.{Committed, done, waits, refused, done_where, go_on, goes_on, waiting, let_slot, label_dropped, replace_slot, store_labels, store_at, replace_at, assign, take_out, read, shared_from, borrow_from, mutable_from, borrow_mut_from, discard, drop_slot, make_box, box_up, arith as calculate, print, spawn_with, ask_join, take_gift, join, par_with, par_end, end_with, end_thread, mutex_made, mutex, mutex_at, ask_dup, dup, ask_lock, push_content, lock, held_of, send_content, unlock, commit, settle}
 use Rattle.server_model.specs.Prepare.{Prepared, ready, requested, nothing, access_of, prepare}
 use Rattle.server_model.specs.Events.{Stepped, done_step, committed, prepared, step}
 use Rattle.event_law.specs.Laws.{Gives}
@@ -46,36 +46,59 @@ Onward (instr.Par cs pc ds other) = ⊥
 Onward (instr.End o) = ⊥
 Onward i = ⊤
 
--- what the plain step of an instruction does with values, slots and messages keeps the fact, and at its end what is wanted then holds
-pub record Acts (n : ℕ) (F E : Rest → ThreadState → Type 0) (V : Value → Type 0) (W : ℕ → Type 0) (i : Instr) : Type 0 where
+-- the same, but for those that give a new name
+abbrev pub Quiet : Instr → Type 0
+Quiet (instr.Box o) = ⊥
+Quiet (instr.Mutex o) = ⊥
+Quiet (instr.Spawn cs pc) = ⊥
+Quiet i = Onward i
+
+pub quiet_onward : (i : Instr) → Quiet i → Onward i
+quiet_onward (instr.Box o) q = absurd q
+quiet_onward (instr.Mutex o) q = absurd q
+quiet_onward (instr.Spawn cs pc) q = absurd q
+quiet_onward i q = q
+
+-- where the instruction moves what stands at the spot, that may be a temporary value
+abbrev pub Moves : (Value → Type 0) → Instr → Spot → Hand → Type 0
+Moves T (instr.Read w true) s h = (v : Value) → value_at h s ≡ Some v → T v
+Moves T i s h = ⊤
+
+pub moves_by : {T : Value → Type 0} (i : Instr) (s : Spot) (h : Hand) → ((v : Value) → value_at h s ≡ Some v → T v) → Moves T i s h
+moves_by (instr.Read w true) s h m = m
+moves_by i s h m = tt
+
+-- what the plain step of an instruction does with values, slots and messages keeps the fact, and at its end what is wanted then holds; some values may be temporary ones
+pub record Acts (n : ℕ) (F E : Rest → ThreadState → Type 0) (V T : Value → Type 0) (W : ℕ → Type 0) (i : Instr) : Type 0 where
   pub places : Places F V W
   -- values
   pub number : (n : ℤ) → V (value.Own (owned.Int n))
   pub unit_value : V (value.Own owned.Unit)
   pub nothing_value : V (value.Own owned.Nothing)
   pub gone : V value.Gone
-  pub shared_slot : (j : ℕ) → V (value.SharedSlot j)
-  pub mutable_slot : (j : ℕ) → V (value.MutSlot j)
-  pub second : (v u : Value) → V v → second_of v ≡ Some u → V u
-  pub shared : (v u : Value) → V v → shared_from v ≡ Some u → V u
-  pub lent : (w : Lval) (d : ℕ) → i ≡ instr.BorrowMut w → w.depth ≡ suc d → (v u : Value) (h : Hand) → V v → Of F h → mutable_from h.thread.phase (record w { depth = d }) v ≡ Some u → V u
+  pub owned_temp : (v : Owned) → V (value.Own v) → T (value.Own v)
+  pub shared_slot : (j : ℕ) → T (value.SharedSlot j)
+  pub mutable_slot : (j : ℕ) → T (value.MutSlot j)
+  pub second : (v u : Value) → V v → second_of v ≡ Some u → T u
+  pub shared : (v u : Value) → V v → shared_from v ≡ Some u → T u
+  pub lent : (w : Lval) (d : ℕ) → i ≡ instr.BorrowMut w → w.depth ≡ suc d → (v u : Value) (h : Hand) → V v → Of F h → mutable_from h.thread.phase (record w { depth = d }) v ≡ Some u → T u
   -- slots and temporary values
   pub off_temps : (h : Hand) → Of F h → F h.work.rest (record h.thread { temps = front_of h.thread.temps })
   pub off_slots : (h : Hand) → Of F h → F h.work.rest (record h.thread { slots = front_of h.thread.slots })
-  pub on_temps : (v : Value) (h : Hand) → V v → Of F h → F h.work.rest (record h.thread { temps = h.thread.temps ++ v ∷ [] })
+  pub on_temps : (v : Value) (h : Hand) → T v → Of F h → F h.work.rest (record h.thread { temps = h.thread.temps ++ v ∷ [] })
   pub on_slots : (v : Value) (h : Hand) → V v → Of F h → F h.work.rest (record h.thread { slots = h.thread.slots ++ v ∷ [] })
   pub gives : (v : Owned) (h : Hand) → V (value.Own v) → Of F h → Of F (working (give_up v) h)
   pub unpins : (w : ℕ) (h : Hand) → can_unpin h.work.rest.cache w ≡ true → Of F h → F (record h.work.rest { cache = unpin h.work.rest.cache w }) h.thread
   pub gift : (v : Owned) (h : Hand) → h.thread.gift ≡ Some v → Of F h → V (value.Own v) × F h.work.rest (record h.thread { gift = None })
   -- what single instructions do
-  pub boxes : (o : Operand) → i ≡ instr.Box o → (v : Owned) (h : Hand) → V (value.Own v) → Of F h → Gives (Of F) (make_box v h)
-  pub mutexes : (o : Operand) → i ≡ instr.Mutex o → (v : Owned) (h : Hand) → V (value.Own v) → Of F h → Gives (Of F) (mutex_made v h)
+  pub boxes : (o : Operand) → i ≡ instr.Box o → (v : Owned) (h : Hand) → V (value.Own v) → Of F h → Gives (λ h2. Settles E (go_on h2)) (make_box v h)
+  pub mutexes : (o : Operand) → i ≡ instr.Mutex o → (v : Owned) (h : Hand) → V (value.Own v) → Of F h → Gives (λ h2. Settles E (go_on h2)) (mutex_made v h)
   pub spawns : (cs : WithRoom (ℕ × Bool)) (pc : ℕ) → i ≡ instr.Spawn cs pc → (h : Hand) → Of F h
       → Gives (λ h2. Settles E (go_on h2)) (then_some (capture false cs.items h.thread.slots) (spawn_with n pc (next_thread h.work.rest) h))
   pub unlocks : i ≡ instr.Unlock → (m : MutexNo) (v : Owned) (h : Hand) → V (value.Held m) → V (value.Own v) → Of F h → Of F (send_content m v h)
   pub holds : (w : Lval) → i ≡ instr.Lock w → (m : MutexNo) → V (value.Own (owned.Mutex m)) → V (value.Held m)
   -- ends
-  pub goes : Onward i → (h : Hand) → Of F h → Settles E (go_on h)
+  pub goes : Quiet i → (h : Hand) → Of F h → Settles E (go_on h)
   pub pairs : (cs : WithRoom (ℕ × Bool)) (pc : ℕ) (ds : WithRoom (ℕ × Bool)) (other : ℕ) → i ≡ instr.Par cs pc ds other → (h : Hand) → Of F h
       → Gives (Settles E) (then_some (capture true cs.items h.thread.slots) (λ first. then_some (capture true ds.items first.1) (par_with n pc other (next_thread h.work.rest) (next_thread h.work.rest + 1) h first.0)))
   pub ends : (o : Operand) → i ≡ instr.End o → (main : Bool) (v : Owned) (h : Hand) → V (value.Own v) → Of F h → Gives (λ h2. Settles E (with_phase phase.Over h2)) (end_with main v h)
@@ -90,7 +113,7 @@ Ends E (done names h) = Settles E h
 Ends E (waits h) = Of E h
 Ends E refused = ⊤
 
-module _ {n : ℕ} {F E : Rest → ThreadState → Type 0} {V : Value → Type 0} {W : ℕ → Type 0} {i : Instr} (k : Acts n F E V W i) where
+module _ {n : ℕ} {F E : Rest → ThreadState → Type 0} {V T : Value → Type 0} {W : ℕ → Type 0} {i : Instr} (k : Acts n F E V T W i) where
   abbrev Good : Hand → Type 0
   Good = Of F
 
@@ -98,17 +121,13 @@ module _ {n : ℕ} {F E : Rest → ThreadState → Type 0} {V : Value → Type 0
   done_ends names None g = tt
   done_ends names (Some h) g = g
 
-  goes_ends : Onward i → (o : Option Hand) → Gives Good o → Ends E (goes_on o)
+  goes_ends : Quiet i → (o : Option Hand) → Gives Good o → Ends E (goes_on o)
   goes_ends on None g = tt
   goes_ends on (Some h) g = k.goes on h g
 
-  on_ends : Onward i → (names : Fresh) (o : Option Hand) → Gives Good o → Ends E (done_where names (option_map go_on o))
-  on_ends on names None g = tt
-  on_ends on names (Some h) g = k.goes on h g
-
-  spawn_ends : (names : Fresh) (o : Option Hand) → Gives (λ h2. Settles E (go_on h2)) o → Ends E (done_where names (option_map go_on o))
-  spawn_ends names None g = tt
-  spawn_ends names (Some h) g = g
+  names_end : (names : Fresh) (o : Option Hand) → Gives (λ h2. Settles E (go_on h2)) o → Ends E (done_where names (option_map go_on o))
+  names_end names None g = tt
+  names_end names (Some h) g = g
 
   waits_end : (o : Option Hand) → Gives (Of E) o → Ends E (waiting o)
   waits_end None g = tt
@@ -234,12 +253,11 @@ module _ {n : ℕ} {F E : Rest → ThreadState → Type 0} {V : Value → Type 0
   takes_out (in_copy w) h g = tt
   takes_out nowhere h g = tt
 
-  reads_as : (take : Bool) (s : Spot) (v : Value) (h : Hand) → V v → Good h → Gives Good (read_as take s v h)
-  reads_as false s v h a g = map_gives Good (second_of v) _ (λ u q. k.on_temps u h (k.second v u a q) g)
-  reads_as true s v h a g = over_gives Good Good (take_out s h) (push_temp v) (takes_out s h g) (λ h2 u. k.on_temps v h2 a u)
+  copies : (s : Spot) (h : Hand) → Good h → Gives Good (read false s h)
+  copies s h g = let kept = k.places in then_gives Good (value_at h s) _ (λ v q. map_gives Good (second_of v) _ (λ u e. k.on_temps u (load_at s h) (k.second v u (kept.spot s v h g q) e) g))
 
-  reads : (take : Bool) (s : Spot) (h : Hand) → Good h → Gives Good (read take s h)
-  reads take s h g = let kept = k.places in then_gives Good (value_at h s) _ (λ v q. reads_as take s v (load_at s h) (kept.spot s v h g q) g)
+  moves : (s : Spot) (h : Hand) → ((v : Value) → value_at h s ≡ Some v → T v) → Good h → Gives Good (read true s h)
+  moves s h m g = then_gives Good (value_at h s) _ (λ v q. over_gives Good Good (take_out s (load_at s h)) (push_temp v) (takes_out s (load_at s h) g) (λ h2 u. k.on_temps v h2 (m v q) u))
 
   borrows : (w : Lval) (d : ℕ) (s : Spot) (h : Hand) → Good h → Gives Good (borrow_from w d s h)
   borrows w zero s h g = k.on_temps (value.SharedSlot w.slot) h (k.shared_slot w.slot) g
@@ -259,13 +277,14 @@ module _ {n : ℕ} {F E : Rest → ThreadState → Type 0} {V : Value → Type 0
 
   -- OBJECTS, NUMBERS AND MUTEXES
 
-  boxes_up : (o : Operand) (h : Hand) → i ≡ instr.Box o → Good h → Gives Good (box_up o h)
-  boxes_up o h e g = bind_gives (Out IsOwned) Good (pop_owned o h) _ (pops_owned o h g) (λ p u. k.boxes o e p.item p.hand u.0 u.1)
+  boxes_up : (o : Operand) (h : Hand) → i ≡ instr.Box o → Good h → Gives (λ h2. Settles E (go_on h2)) (box_up o h)
+  boxes_up o h e g = bind_gives (Out IsOwned) (λ h2. Settles E (go_on h2)) (pop_owned o h) _ (pops_owned o h g) (λ p u. k.boxes o e p.item p.hand u.0 u.1)
 
   calculates : (f : Op) (a b : Operand) (h : Hand) → Good h → Gives Good (calculate f a b h)
   calculates f a b h g =
       bind_gives (Out NoMatter) Good (pop_int b h) _ (pops_int b h g) (λ y u.
-      over_gives (Out NoMatter) Good (pop_int a y.hand) (λ x. push_temp (value.Own (owned.Int (result_of f x.item y.item))) x.hand) (pops_int a y.hand u.1) (λ x w. k.on_temps (value.Own (owned.Int (result_of f x.item y.item))) x.hand (k.number (result_of f x.item y.item)) w.1))
+      over_gives (Out NoMatter) Good (pop_int a y.hand) (λ x. push_temp (value.Own (owned.Int (result_of f x.item y.item))) x.hand) (pops_int a y.hand u.1) (λ x w.
+      k.on_temps (value.Own (owned.Int (result_of f x.item y.item))) x.hand (k.owned_temp (owned.Int (result_of f x.item y.item)) (k.number (result_of f x.item y.item))) w.1))
 
   prints : (o : Operand) (h : Hand) → Good h → Gives Good (print o h)
   prints o h g = over_gives (Out NoMatter) Good (pop_int o h) _ (pops_int o h g) (λ p u. u.1)
@@ -273,17 +292,17 @@ module _ {n : ℕ} {F E : Rest → ThreadState → Type 0} {V : Value → Type 0
   lets : (o : Operand) (h : Hand) → Good h → Gives Good (let_slot o h)
   lets o h g = over_gives (Out V) Good (pop o h) (λ p. push_slot p.item p.hand) (pops o h g) (λ p u. k.on_slots p.item p.hand u.0 u.1)
 
-  makes_mutex : Onward i → (o : Operand) (h : Hand) → i ≡ instr.Mutex o → Good h → Ends E (mutex o h)
-  makes_mutex on o h e g = on_ends on _ _ (bind_gives (Out IsOwned) Good (pop_owned o h) _ (pops_owned o h g) (λ p u. k.mutexes o e p.item p.hand u.0 u.1))
+  makes_mutex : (o : Operand) (h : Hand) → i ≡ instr.Mutex o → Good h → Ends E (mutex o h)
+  makes_mutex o h e g = names_end _ _ (bind_gives (Out IsOwned) (λ h2. Settles E (go_on h2)) (pop_owned o h) _ (pops_owned o h g) (λ p u. k.mutexes o e p.item p.hand u.0 u.1))
 
   mutex_there : (s : Spot) (h : Hand) → Good h → Gives IsMutex (mutex_at h s)
   mutex_there s h g = let kept = k.places in then_gives IsMutex (value_at h s) mutex_of (λ v q. mutex_kept v (kept.spot s v h g q))
 
-  dups : Onward i → (w : Lval) (s : Spot) (x : Option Owned) (h : Hand) → i ≡ instr.Dup w → h.thread.gift ≡ x → Good h → Ends E (dup s x h)
+  dups : Quiet i → (w : Lval) (s : Spot) (x : Option Owned) (h : Hand) → i ≡ instr.Dup w → h.thread.gift ≡ x → Good h → Ends E (dup s x h)
   dups on w s None h e q g = waits_end _ (over_gives IsMutex (Of E) (mutex_at h s) (ask_dup h) (mutex_there s h g) (λ m a. k.asks_dup w e m h q a g))
-  dups on w s (Some v) h e q g = let got = k.gift v h q g in goes_ends on _ (map_gives Good (mutex_at h s) _ (λ m c. k.on_temps (value.Own v) (load_at s (take_gift h)) got.0 got.1))
+  dups on w s (Some v) h e q g = let got = k.gift v h q g in goes_ends on _ (map_gives Good (mutex_at h s) _ (λ m c. k.on_temps (value.Own v) (load_at s (take_gift h)) (k.owned_temp v got.0) got.1))
 
-  locks : Onward i → (w : Lval) (s : Spot) (x : Option Owned) (h : Hand) → i ≡ instr.Lock w → h.thread.gift ≡ x → Good h → Ends E (lock s x h)
+  locks : Quiet i → (w : Lval) (s : Spot) (x : Option Owned) (h : Hand) → i ≡ instr.Lock w → h.thread.gift ≡ x → Good h → Ends E (lock s x h)
   locks on w s None h e q g = waits_end _ (over_gives IsMutex (Of E) (mutex_at h s) (ask_lock h) (mutex_there s h g) (λ m a. k.asks_lock w e m h q a g))
   locks on w s (Some v) h e q g =
       let got = k.gift v h q g in
@@ -298,14 +317,14 @@ module _ {n : ℕ} {F E : Rest → ThreadState → Type 0} {V : Value → Type 0
 
   -- THREADS
 
-  joins : Onward i → (o : Operand) (x : Option Owned) (h : Hand) → i ≡ instr.Join o → h.thread.gift ≡ x → Good h → Ends E (join o x h)
+  joins : Quiet i → (o : Operand) (x : Option Owned) (h : Hand) → i ≡ instr.Join o → h.thread.gift ≡ x → Good h → Ends E (join o x h)
   joins on o None h e q g =
       waits_end _ (over_gives IsTask (Of E) (then_some (pop o h) (λ p. task_of p.item)) (ask_join h)
       (bind_gives (Out V) IsTask (pop o h) _ (pops o h g) (λ p u. task_kept p.item u.0)) (λ u a. k.asks_join o e u h q a g))
   joins on o (Some v) h e q g =
       let got = k.gift v h q g in
       goes_ends on _ (over_gives (Out IsTask) Good (then_some (pop o (take_gift h)) (taken_as task_of)) (λ p. push_temp (value.Own v) p.hand)
-      (takes_as IsTask task_of task_kept (pop o (take_gift h)) (pops o (take_gift h) got.1)) (λ p u. k.on_temps (value.Own v) p.hand got.0 u.1))
+      (takes_as IsTask task_of task_kept (pop o (take_gift h)) (pops o (take_gift h) got.1)) (λ p u. k.on_temps (value.Own v) p.hand (k.owned_temp v got.0) u.1))
 
   pair_goes : (p : Phase) (h : Hand) → Good h → Gives Good (par_end p h)
   pair_goes (phase.GotPar a b) h g = g
@@ -338,35 +357,37 @@ module _ (E : Rest → ThreadState → Type 0) where
   committing (waits h) a = a
   committing refused a = tt
 
-module _ {n : ℕ} {F E : Rest → ThreadState → Type 0} {V : Value → Type 0} {W : ℕ → Type 0} where
+module _ {n : ℕ} {F E : Rest → ThreadState → Type 0} {V T : Value → Type 0} {W : ℕ → Type 0} where
   -- ALL INSTRUCTIONS
 
-  pub commits : (i : Instr) (s : Spot) (h : Hand) → Acts n F E V W i → Of F h → Ends E (commit n i s h)
-  commits (instr.Let o) s h k g = goes_ends k tt _ (lets k o h g)
-  commits (instr.Assign w o) s h k g = goes_ends k tt _ (assigns k w w.depth o s h g)
-  commits (instr.Read w take) s h k g = goes_ends k tt _ (reads k take s h g)
-  commits (instr.Borrow w) s h k g = goes_ends k tt _ (borrows k w w.depth s h g)
-  commits (instr.BorrowMut w) s h k g = goes_ends k tt _ (lends k w w.depth s h refl refl g)
-  commits (instr.Box o) s h k g = goes_ends k tt _ (boxes_up k o h refl g)
-  commits (instr.Arith f a b) s h k g = goes_ends k tt _ (calculates k f a b h g)
-  commits (instr.Print o) s h k g = goes_ends k tt _ (prints k o h g)
-  commits instr.Discard s h k g = goes_ends k tt _ (discards k s h g)
-  commits instr.DropSlot s h k g = goes_ends k tt _ (drops_slot k s h g)
-  commits (instr.Spawn cs pc) s h k g = spawn_ends k _ _ (k.spawns cs pc refl h g)
-  commits (instr.Join o) s h k g = joins k tt o h.thread.gift h refl refl g
-  commits (instr.Mutex o) s h k g = makes_mutex k tt o h refl g
-  commits (instr.Dup w) s h k g = dups k tt w s h.thread.gift h refl refl g
-  commits (instr.Lock w) s h k g = locks k tt w s h.thread.gift h refl refl g
-  commits instr.Unlock s h k g = goes_ends k tt _ (unlocks k h refl g)
-  commits (instr.Par cs pc ds other) s h k g = done_ends k _ _ (k.pairs cs pc ds other refl h g)
-  commits instr.ParEnd s h k g = goes_ends k tt _ (pair_goes k h.thread.phase h g)
-  commits (instr.End o) s h k g = ends_thread k o h refl g
+  pub commits : (i : Instr) (s : Spot) (h : Hand) → Acts n F E V T W i → Moves T i s h → Of F h → Ends E (commit n i s h)
+  commits (instr.Let o) s h k m g = goes_ends k tt _ (lets k o h g)
+  commits (instr.Assign w o) s h k m g = goes_ends k tt _ (assigns k w w.depth o s h g)
+  commits (instr.Read w false) s h k m g = goes_ends k tt _ (copies k s h g)
+  commits (instr.Read w true) s h k m g = goes_ends k tt _ (moves k s h m g)
+  commits (instr.Borrow w) s h k m g = goes_ends k tt _ (borrows k w w.depth s h g)
+  commits (instr.BorrowMut w) s h k m g = goes_ends k tt _ (lends k w w.depth s h refl refl g)
+  commits (instr.Box o) s h k m g = names_end k _ _ (boxes_up k o h refl g)
+  commits (instr.Arith f a b) s h k m g = goes_ends k tt _ (calculates k f a b h g)
+  commits (instr.Print o) s h k m g = goes_ends k tt _ (prints k o h g)
+  commits instr.Discard s h k m g = goes_ends k tt _ (discards k s h g)
+  commits instr.DropSlot s h k m g = goes_ends k tt _ (drops_slot k s h g)
+  commits (instr.Spawn cs pc) s h k m g = names_end k _ _ (k.spawns cs pc refl h g)
+  commits (instr.Join o) s h k m g = joins k tt o h.thread.gift h refl refl g
+  commits (instr.Mutex o) s h k m g = makes_mutex k o h refl g
+  commits (instr.Dup w) s h k m g = dups k tt w s h.thread.gift h refl refl g
+  commits (instr.Lock w) s h k m g = locks k tt w s h.thread.gift h refl refl g
+  commits instr.Unlock s h k m g = goes_ends k tt _ (unlocks k h refl g)
+  commits (instr.Par cs pc ds other) s h k m g = done_ends k _ _ (k.pairs cs pc ds other refl h g)
+  commits instr.ParEnd s h k m g = goes_ends k tt _ (pair_goes k h.thread.phase h g)
+  commits (instr.End o) s h k m g = ends_thread k o h refl g
 
   -- a thread goes on with its instruction: what is wanted at the end holds, whether the step is done or a request is sent
-  pub steps : (i : Instr) (h : Hand) → (Follows (access_of i h.thread) → Small F E V W) → (Writes (access_of i h.thread) → Passes F) → Acts n F E V W i → Of F h → Gives (EndsStep E) (step n i h)
-  steps i h small passes k g = by (prepare (access_of i h.thread) h) (prepare_makes (access_of i h.thread) h small passes g)
+  pub steps : (i : Instr) (h : Hand) → (Follows (access_of i h.thread) → Small F E V W) → (Writes (access_of i h.thread) → Passes F) → Acts n F E V T W i
+      → ((h2 : Hand) (s : Spot) → prepare (access_of i h.thread) h ≡ ready h2 s → Of F h2 → Moves T i s h2) → Of F h → Gives (EndsStep E) (step n i h)
+  steps i h small passes k m g = by (prepare (access_of i h.thread) h) refl (prepare_makes (access_of i h.thread) h small passes g)
     where
-      by : (p : Prepared) → Made F E p → Gives (EndsStep E) (prepared n i p)
-      by (ready h2 s) a = committing E (commit n i s h2) (commits i s h2 k a)
-      by (requested h2) a = a
-      by nothing a = tt
+      by : (p : Prepared) → prepare (access_of i h.thread) h ≡ p → Made F E p → Gives (EndsStep E) (prepared n i p)
+      by (ready h2 s) e a = committing E (commit n i s h2) (commits i s h2 k (m h2 s e a) a)
+      by (requested h2) e a = a
+      by nothing e a = tt

@@ -50,7 +50,7 @@ use Rattle.server_model.specs.Events.{begin_work, begin_at, left_by, received, r
 use Rattle.event_law.specs.Laws.{Gives}
 use Rattle.event_law.proofs.Results.{then_gives, map_gives, over_gives, bind_gives, test_gives, stand_gives}
 use Rattle.local_law.proofs.Small.{Of, Places, Small}
-use Rattle.local_law.proofs.Plainly.{Settles, Acts, EndsStep, steps}
+use Rattle.local_law.proofs.Plainly.{Settles, moves_by, Acts, EndsStep, steps}
 use Rattle.local_law.proofs.Goes.{Any, AnyWord}
 
 -- each change of a part of a server keeps the fact
@@ -148,13 +148,14 @@ module _ {R : Rest → Type 0} (k : Parts R) where
   over_main true v h g = λ cs z. k.unpins_all h.thread.walk cs _ z (gives_up v (label_dropped (value.Own v) h).work g)
   over_main false v h g = λ cs z. k.unpins_all h.thread.walk cs _ z (k.sent _ _ h.work.rest g)
 
-  acts : (n : ℕ) (i : Instr) → Acts n F F Any AnyWord i
+  acts : (n : ℕ) (i : Instr) → Acts n F F Any Any AnyWord i
   acts n i = record {
     places = places;
     number = λ m. tt;
     unit_value = tt;
     nothing_value = tt;
     gone = tt;
+    owned_temp = λ v a. tt;
     shared_slot = λ j. tt;
     mutable_slot = λ j. tt;
     second = λ v u a e. tt;
@@ -168,9 +169,9 @@ module _ {R : Rest → Type 0} (k : Parts R) where
     unpins = λ w h e g. k.unpins w h.work.rest e g;
     gift = λ v h e g. (tt, g);
     boxes = λ o e v h a g.
-        over_gives (λ (m : NewWord). R m.work.rest) (Of F) (issue_placed (act.Make (next_object h)) (record { object = next_object h; value = v }) h.work) (λ m. push_box v m h)
-        (test_gives (λ (m : NewWord). R m.work.rest) (can_grow h.work.rest.partition) _ (λ z. k.makes (record { object = next_object h; value = v }) h.work.rest z g)) (λ m w. w);
-    mutexes = λ o e v h a g. test_gives (Of F) (can_make h.work.rest.mutexes) _ (λ z. k.mutex v h.work.rest z g);
+        over_gives (λ (m : NewWord). R m.work.rest) (λ h2. Settles F (go_on h2)) (issue_placed (act.Make (next_object h)) (record { object = next_object h; value = v }) h.work) (λ m. push_box v m h)
+        (test_gives (λ (m : NewWord). R m.work.rest) (can_grow h.work.rest.partition) _ (λ z. k.makes (record { object = next_object h; value = v }) h.work.rest z g)) (λ m w cs z. k.unpins_all h.thread.walk cs m.work.rest z w);
+    mutexes = λ o e v h a g. test_gives (λ h2. Settles F (go_on h2)) (can_make h.work.rest.mutexes) _ (λ z cs z2. k.unpins_all h.thread.walk cs (record h.work.rest { mutexes = make h.work.rest.mutexes v }) z2 (k.mutex v h.work.rest z g));
     spawns = λ cs pc e h g.
         then_gives (λ h2. Settles F (go_on h2)) (capture false cs.items h.thread.slots) (spawn_with n pc (next_thread h.work.rest) h) (λ new q.
         over_gives (Of F) (λ h2. Settles F (go_on h2)) (begun h) _ (test_gives (Of F) (can_begin h.work.rest.tasks (next_thread h.work.rest)) _ (λ z. k.began h.work.rest z g))
@@ -190,7 +191,7 @@ module _ {R : Rest → Type 0} (k : Parts R) where
   }
 
   pub step_rests : (n : ℕ) (i : Instr) (h : Hand) → OfHand h → Gives (EndsStep F) (step n i h)
-  step_rests n i h g = steps i h (λ f. small) (λ f m h2 u. u) (acts n i) g
+  step_rests n i h g = steps i h (λ f. small) (λ f m h2 u. u) (acts n i) (λ h2 s q u. moves_by i s h2 (λ v z. tt)) g
 
   -- DELIVERIES
 
