@@ -159,7 +159,7 @@ module _ (code : List Instr) (n : ℕ) (i : Instr) (y : ThreadState) (there : sl
   places : Places F Any AnyWord
   places = record {
     spot = λ s v h g e. tt;
-    puts = λ s v h a g. puts_by F (λ vs r t u. u) (λ vs r t u. u) (λ h2 w x u. u) s v h g;
+    puts = λ s v h z a g. puts_by F (λ vs r t u. u) (λ vs r t u. u) (λ h2 w x u. u) s v h g;
     worded = λ w v new x a e. tt;
     word_of = λ r a. tt;
     points = λ v p a e. tt;
@@ -260,7 +260,7 @@ module _ (code : List Instr) (n : ℕ) (i : Instr) (y : ThreadState) (there : sl
 
   -- a step makes its thread go on so
   step_goes : (r : Rest) (h : Hand) → h.thread ≡ y → Gives (EndsStep E) (step n i h)
-  step_goes r h e = steps i h (λ f. small (subst (λ t. Follows (access_of i t)) e f)) (λ f. passes (subst (λ t. Writes (access_of i t)) e f)) acts (λ h2 s q u. moves_by i s h2 (λ v z. tt)) (subst (λ t. Framed i y h.work.rest t) (sym e) (framed i y h.work.rest))
+  step_goes r h e = steps i h (λ f. small (subst (λ t. Follows (access_of i t)) e f)) (λ f. passes (subst (λ t. Writes (access_of i t)) e f)) acts (λ h2 s q u. moves_by i s h2 (λ w c v z. tt)) (subst (λ t. Framed i y h.work.rest t) (sym e) (framed i y h.work.rest))
 
 -- THE END OF A THREAD
 

@@ -321,7 +321,7 @@ module _ (M : ℕ → Message → Type 0) (servers : ℕ) (i : Instr) (r0 : Rest
   places : Places F Any AnyWord
   places = record {
     spot = λ s v h g e. tt;
-    puts = λ s v h a g. puts_by F (λ vs r t u. u) (λ vs r t u. u) (λ h2 w x u. u) s v h g;
+    puts = λ s v h z a g. puts_by F (λ vs r t u. u) (λ vs r t u. u) (λ h2 w x u. u) s v h g;
     worded = λ w v new x a e. tt;
     word_of = λ r a. tt;
     points = λ v p a e. tt;
@@ -418,4 +418,4 @@ module _ (M : ℕ → Message → Type 0) (servers : ℕ) (i : Instr) (r0 : Rest
 
   -- a step there says so
   pub step_says : (h : Hand) → Of F h → Gives (EndsStep E) (step servers i h)
-  step_says h g = steps i h (λ f. small) (λ f. passes) acts (λ h2 s q u. moves_by i s h2 (λ v z. tt)) g
+  step_says h g = steps i h (λ f. small) (λ f. passes) acts (λ h2 s q u. moves_by i s h2 (λ w c v z. tt)) g

@@ -34,7 +34,7 @@ use Rattle.server_model.specs.Prepare.{Prepared, ready, requested, nothing, acce
 use Rattle.server_model.specs.Events.{Stepped, done_step, committed, prepared, step}
 use Rattle.event_law.specs.Laws.{Gives}
 use Rattle.event_law.proofs.Results.{then_gives, map_gives, over_gives, bind_gives, test_gives}
-use Rattle.local_law.proofs.Small.{Of, Places, Small, Passes, Follows, Writes, Made, pointer_put, prepare_makes}
+use Rattle.local_law.proofs.Small.{Of, owned_lies, Places, Small, Passes, Follows, Writes, Made, pointer_put, prepare_makes}
 
 -- the step is done at its end: nothing of its walk is kept
 abbrev pub Settles : (Rest → ThreadState → Type 0) → Hand → Type 0
@@ -64,8 +64,8 @@ abbrev pub Moves : (Value → Type 0) → Instr → Spot → Hand → Type 0
 Moves T (instr.Read w true) s h = (v : Value) → value_at h s ≡ Some v → T v
 Moves T i s h = ⊤
 
-pub moves_by : {T : Value → Type 0} (i : Instr) (s : Spot) (h : Hand) → ((v : Value) → value_at h s ≡ Some v → T v) → Moves T i s h
-moves_by (instr.Read w true) s h m = m
+pub moves_by : {T : Value → Type 0} (i : Instr) (s : Spot) (h : Hand) → ((w : Lval) → i ≡ instr.Read w true → (v : Value) → value_at h s ≡ Some v → T v) → Moves T i s h
+moves_by (instr.Read w true) s h m = m w refl
 moves_by i s h m = tt
 
 -- what the plain step of an instruction does with values, slots and messages keeps the fact, and at its end what is wanted then holds; some values may be temporary ones
@@ -232,10 +232,10 @@ module _ {n : ℕ} {F E : Rest → ThreadState → Type 0} {V T : Value → Type
   replaces_slot j holder v h a g =
       let kept = k.places in
       then_gives Good (slice_get h.thread.slots j) _ (λ old q.
-      bind_gives Good Good (put_slot j v (label_dropped old h)) (drop_value holder old) (kept.puts (in_slot j) v (label_dropped old h) a g) (λ h2 u. drops holder old h2 (slot_there j h old g q) u))
+      bind_gives Good Good (put_slot j v (label_dropped old h)) (drop_value holder old) (kept.puts (in_slot j) v (label_dropped old h) tt a g) (λ h2 u. drops holder old h2 (slot_there j h old g q) u))
 
   stores : (s : Spot) (v : Owned) (h : Hand) → IsOwned v → Good h → Gives Good (store_at s v h)
-  stores s v h a g = let kept = k.places in kept.puts s (value.Own v) (working (label_all (store_labels (cell_at h s) v)) h) a g
+  stores s v h a g = let kept = k.places in kept.puts s (value.Own v) (working (label_all (store_labels (cell_at h s) v)) h) (owned_lies s v) a g
 
   replaces_at : (s : Spot) (v : Owned) (h : Hand) → IsOwned v → Good h → Gives Good (replace_at s v h)
   replaces_at s v h a g =
@@ -247,8 +247,8 @@ module _ {n : ℕ} {F E : Rest → ThreadState → Type 0} {V T : Value → Type
   assigns w (suc d) o s h g = bind_gives (Out IsOwned) Good (pop_owned o h) _ (pops_owned o h g) (λ p u. replaces_at s p.item p.hand u.0 u.1)
 
   takes_out : (s : Spot) (h : Hand) → Good h → Gives Good (take_out s h)
-  takes_out (in_slot j) h g = let kept = k.places in kept.puts (in_slot j) value.Gone h k.gone g
-  takes_out on_top h g = let kept = k.places in kept.puts on_top (value.Own owned.Nothing) (working (label_all (store_labels (cell_at h on_top) owned.Nothing)) h) k.nothing_value g
+  takes_out (in_slot j) h g = let kept = k.places in kept.puts (in_slot j) value.Gone h tt k.gone g
+  takes_out on_top h g = let kept = k.places in kept.puts on_top (value.Own owned.Nothing) (working (label_all (store_labels (cell_at h on_top) owned.Nothing)) h) tt k.nothing_value g
   takes_out (in_cell w through) h g = stores (in_cell w through) owned.Nothing h k.nothing_value g
   takes_out (in_copy w) h g = tt
   takes_out nowhere h g = tt

@@ -127,7 +127,7 @@ module _ {R : Rest → Type 0} (k : Parts R) where
   F r t = R r
 
   places : Places F Any AnyWord
-  places = record { spot = λ s v h g e. tt; puts = λ s v h a g. puts s v h g; worded = λ w v new x a e. tt; word_of = λ r a. tt; points = λ v p a e. tt }
+  places = record { spot = λ s v h g e. tt; puts = λ s v h z a g. puts s v h g; worded = λ w v new x a e. tt; word_of = λ r a. tt; points = λ v p a e. tt }
 
   small : Small F F Any AnyWord
   small = record {
@@ -191,7 +191,7 @@ module _ {R : Rest → Type 0} (k : Parts R) where
   }
 
   pub step_rests : (n : ℕ) (i : Instr) (h : Hand) → OfHand h → Gives (EndsStep F) (step n i h)
-  step_rests n i h g = steps i h (λ f. small) (λ f m h2 u. u) (acts n i) (λ h2 s q u. moves_by i s h2 (λ v z. tt)) g
+  step_rests n i h g = steps i h (λ f. small) (λ f m h2 u. u) (acts n i) (λ h2 s q u. moves_by i s h2 (λ w c v z. tt)) g
 
   -- DELIVERIES
 

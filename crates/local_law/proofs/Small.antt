@@ -1,10 +1,11 @@
 -- Making an instruction's place ready, once for any fact that each small step keeps.
-use Rattle.std.proofs.Common.{◌≡◌, ℕ, zero, suc, ◌+◌, ◌==◌, ◌&&◌, Bool, true, false, nat_lt, if◌then◌else◌, List, [], ◌∷◌, ◌++◌, Option, Some, None, refl}
+use Rattle.std.proofs.Common.{◌≡◌, ℕ, zero, suc, ◌+◌, ◌==◌, ◌&&◌, Bool, true, false, nat_lt, if◌then◌else◌, List, [], ◌∷◌, ◌++◌, Option, Some, None, refl, subst}
 use Rattle.std.specs.Bool.{⊤}
 use Rattle.fr_base.specs.Lists.{is_in}
 use Rattle.fr_base.specs.declared.place.Lval.{Lval}
 use Rattle.global_addr.specs.Words.{colour_of, server_of, next_word}
 use Rattle.heap_partition.specs.declared.value.BoxPtr.{BoxPtr}
+use Rattle.heap_partition.specs.declared.value.Owned.{Owned}
 use Rattle.heap_partition.specs.declared.value.Owned.TheVariants as owned
 use Rattle.owner_box.specs.Partition.{new_word, freed, renewed}
 use Rattle.read_cache.specs.Cache.{Copy, can_pin, pin}
@@ -24,7 +25,7 @@ use Rattle.journal.specs.declared.act.Act.TheVariants as act
 use Rattle.server_model.specs.Servers.{Rest}
 use Rattle.server_model.specs.Work.{Hand, note, with_cache, working, leads_here, then_some, used_once}
 use Rattle.server_model.specs.NewWords.{NewWord, can_grow, is_last, issue_tint, issue_renewal, issue_colour}
-use Rattle.server_model.specs.Places.{Spot, in_slot, in_cell, in_copy, value_at, load_at, put_at, pointer_of, with_word, set_pointer, put_word}
+use Rattle.server_model.specs.Places.{Spot, in_slot, on_top, in_cell, in_copy, nowhere, value_at, load_at, put_at, pointer_of, took, with_word, set_pointer, put_word}
 use Rattle.server_model.specs.Prepare.{Access, ReadTo, ReadPointer, WriteTo, LendTo, EndRef, Prepared, ready, requested, nothing, and_then, ready_at, ask_copy, ask_object, request_by, box_of, clean_last, cleaned_by, clean_value, pinned_once, use_copy, hopped, local, hit_by, read_by, read_value, read_clean, tinted_first, read_star, read_stars, passing, box_ready, colour_box, write_by, pass_by, write_value, write_star, write_stars, read_pointer, is_taken, lend_by, lend_value, lend_pointer, follow_holder, follow_ended, unlabelled, end_ref, prepare}
 use Rattle.event_law.specs.Laws.{Gives}
 use Rattle.event_law.proofs.Results.{then_gives, test_gives, bind_gives}
@@ -33,10 +34,53 @@ use Rattle.event_law.proofs.Results.{then_gives, test_gives, bind_gives}
 abbrev pub Of : (Rest → ThreadState → Type 0) → Hand → Type 0
 Of F h = F h.work.rest h.thread
 
+some_same : {X : Type 0} {a b : X} → Some a ≡ Some b → a ≡ b
+some_same e = cc
+
+-- no mark is put on top of the temporary values
+abbrev pub Lies : Spot → Value → Type 0
+Lies on_top (value.Held m) = ⊥
+Lies s v = ⊤
+
+pub owned_lies : (s : Spot) (v : Owned) → Lies s (value.Own v)
+owned_lies (in_slot j) v = tt
+owned_lies on_top v = tt
+owned_lies (in_cell w through) v = tt
+owned_lies (in_copy w) v = tt
+owned_lies nowhere v = tt
+
+shared_lies : (s : Spot) (q : SharedRef) → Lies s (value.Shared q)
+shared_lies (in_slot j) q = tt
+shared_lies on_top q = tt
+shared_lies (in_cell w through) q = tt
+shared_lies (in_copy w) q = tt
+shared_lies nowhere q = tt
+
+mutable_lies : (s : Spot) (q : MutRef) → Lies s (value.Mut q)
+mutable_lies (in_slot j) q = tt
+mutable_lies on_top q = tt
+mutable_lies (in_cell w through) q = tt
+mutable_lies (in_copy w) q = tt
+mutable_lies nowhere q = tt
+
+worded_lies : (s : Spot) (w : ℕ) (v new : Value) → with_word w v ≡ Some new → Lies s new
+worded_lies s w (value.Own (owned.Box p)) new e = subst (Lies s) (some_same e) (owned_lies s (owned.Box (record p { word = w })))
+worded_lies s w (value.Mut r) new e = subst (Lies s) (some_same e) (mutable_lies s (took r w))
+worded_lies s w (value.Own owned.Nothing) new e = absurd (cc e)
+worded_lies s w (value.Own owned.Unit) new e = absurd (cc e)
+worded_lies s w (value.Own (owned.Int n)) new e = absurd (cc e)
+worded_lies s w (value.Own (owned.Mutex m)) new e = absurd (cc e)
+worded_lies s w (value.Own (owned.Task t)) new e = absurd (cc e)
+worded_lies s w value.Gone new e = absurd (cc e)
+worded_lies s w (value.SharedSlot j) new e = absurd (cc e)
+worded_lies s w (value.MutSlot j) new e = absurd (cc e)
+worded_lies s w (value.Shared q) new e = absurd (cc e)
+worded_lies s w (value.Held m) new e = absurd (cc e)
+
 -- what stands at a spot is of a kind, and values of that kind may be put anywhere; so may words of a kind into pointers
 pub record Places (F : Rest → ThreadState → Type 0) (V : Value → Type 0) (W : ℕ → Type 0) : Type 0 where
   pub spot : (s : Spot) (v : Value) (h : Hand) → Of F h → value_at h s ≡ Some v → V v
-  pub puts : (s : Spot) (v : Value) (h : Hand) → V v → Of F h → Gives (Of F) (put_at s v h)
+  pub puts : (s : Spot) (v : Value) (h : Hand) → Lies s v → V v → Of F h → Gives (Of F) (put_at s v h)
   pub worded : (w : ℕ) (v new : Value) → W w → V v → with_word w v ≡ Some new → V new
   pub word_of : (r : MutRef) → V (value.Mut r) → W r.word
   pub points : (v : Value) (p : BoxPtr) → V v → pointer_of v ≡ Some p → V (value.Own (owned.Box p))
@@ -58,9 +102,6 @@ abbrev pub Passes : (Rest → ThreadState → Type 0) → Type 0
 Passes F = (n : ℕ) (h : Hand) → Of F h → F h.work.rest (record h.thread { passed = n })
 
 -- POINTERS THAT LEAD ELSEWHERE
-
-some_same : {X : Type 0} {a b : X} → Some a ≡ Some b → a ≡ b
-some_same e = cc
 
 copy_elsewhere : (n w u : ℕ) (cs : List Copy) (b : Bool) → (server_of w == n) ≡ b → (if b then hop.Direct w else by_copy cs w) ≡ hop.NeedCopy u → (server_of w == n) ≡ false
 copy_elsewhere n w u cs true e h = absurd (cc h)
@@ -115,7 +156,7 @@ module _ {F : Rest → ThreadState → Type 0} {V : Value → Type 0} {W : ℕ �
 
   -- the pointer there gets a word
   pub pointer_put : (s : Spot) (w : ℕ) (h : Hand) → W w → Of F h → Gives (Of F) (set_pointer s w h)
-  pointer_put s w h x g = then_gives (Of F) (value_at h s) _ (λ v q. then_gives (Of F) (with_word w v) _ (λ new e. k.puts s new h (k.worded w v new x (k.spot s v h g q) e) g))
+  pointer_put s w h x g = then_gives (Of F) (value_at h s) _ (λ v q. then_gives (Of F) (with_word w v) _ (λ new e. k.puts s new h (worded_lies s w v new e) (k.worded w v new x (k.spot s v h g q) e) g))
 
 module _ {F E : Rest → ThreadState → Type 0} {V : Value → Type 0} {W : ℕ → Type 0} (k : Small F E V W) where
   abbrev Good : Hand → Type 0
@@ -199,7 +240,7 @@ module _ {F E : Rest → ThreadState → Type 0} {V : Value → Type 0} {W : ℕ
   pins_once s q true h a g = g
   pins_once s q false h a g =
       let kept = k.places in
-      test_gives Good (can_pin h.work.rest.cache q.word) _ (λ on. kept.puts s (value.Shared (record q { pinned = true })) (working (with_cache (pin h.work.rest.cache q.word)) h) (k.pinned q a) (k.pins q.word h on g))
+      test_gives Good (can_pin h.work.rest.cache q.word) _ (λ on. kept.puts s (value.Shared (record q { pinned = true })) (working (with_cache (pin h.work.rest.cache q.word)) h) (shared_lies s (record q { pinned = true })) (k.pinned q a) (k.pins q.word h on g))
 
   pub word_used : (w : ℕ) (b : Bool) (h : Hand) → Good h → Gives Good (used_once w b h)
   word_used w true h g = g

@@ -35,7 +35,7 @@ use Rattle.heap_partition.specs.declared.value.Owned.{Owned}
 -- THREADS OF A SERVER
 
 module _ (P : ThreadState → Type 0) where
-  set_all : (ts : List ThreadState) (new : ThreadState) → AllByRecursion P ts → P new → AllByRecursion P (set_thread ts new)
+  pub set_all : (ts : List ThreadState) (new : ThreadState) → AllByRecursion P ts → P new → AllByRecursion P (set_thread ts new)
   set_all [] new a p = tt
   set_all (x ∷ ts) new a p = by (x.number == new.number) (set_all ts new a.1 p)
     where
@@ -43,7 +43,7 @@ module _ (P : ThreadState → Type 0) where
       by true g = (p, a.1)
       by false g = (a.0, g)
 
-  without_all : (ts : List ThreadState) (t : ℕ) → AllByRecursion P ts → AllByRecursion P (without_thread ts t)
+  pub without_all : (ts : List ThreadState) (t : ℕ) → AllByRecursion P ts → AllByRecursion P (without_thread ts t)
   without_all [] t a = tt
   without_all (x ∷ ts) t a = by (x.number == t) (without_all ts t a.1)
     where
@@ -51,7 +51,7 @@ module _ (P : ThreadState → Type 0) where
       by true g = a.1
       by false g = (a.0, g)
 
-  with_all : (ts : List ThreadState) (new : ThreadState) → AllByRecursion P ts → P new → AllByRecursion P (with_thread ts new)
+  pub with_all : (ts : List ThreadState) (new : ThreadState) → AllByRecursion P ts → P new → AllByRecursion P (with_thread ts new)
   with_all [] new a p = (p, tt)
   with_all (x ∷ ts) new a p = by (nat_lt new.number x.number) (with_all ts new a.1 p)
     where
@@ -59,7 +59,7 @@ module _ (P : ThreadState → Type 0) where
       by true g = (p, a)
       by false g = (a.0, g)
 
-  found_all : (ts : List ThreadState) (t : ℕ) (y : ThreadState) → AllByRecursion P ts → thread_in ts t ≡ Some y → P y
+  pub found_all : (ts : List ThreadState) (t : ℕ) (y : ThreadState) → AllByRecursion P ts → thread_in ts t ≡ Some y → P y
   found_all [] t y a e = absurd (cc e)
   found_all (x ∷ ts) t y a e = by (x.number == t) (found_all ts t y a.1) e
     where

@@ -1,0 +1,120 @@
+-- An event keeps what its server names, where the new names of its instruction fit.
+use Rattle.std.proofs.Common.{◌≡◌, ℕ, Bool, true, false, if◌then◌else◌, List, Option, Some, None, refl}
+use Rattle.std.specs.Prelude.{slice_get, option_map}
+use Rattle.std.specs.List.{AllByRecursion}
+use Rattle.fr_base.specs.declared.instruction.Instr.{Instr}
+use Rattle.fr_base.specs.declared.settings.Options.{Options}
+use Rattle.read_cache.specs.Cache.{Copy, can_evict, evict, without_copy}
+use Rattle.migration.specs.Packing.{unpin_all, used_words, packed, pack_thread}
+use Rattle.thread_state.specs.View.{ThreadState}
+use Rattle.server_msgs.specs.declared.message.Message.{Message}
+use Rattle.server_msgs.specs.declared.message.Message.TheVariants as message
+use Rattle.journal.specs.View.{EntryView}
+use Rattle.server_model.specs.declared.event.What.{What}
+use Rattle.server_model.specs.declared.event.What.TheVariants.{Step, Deliver, Evict, Migrate}
+use Rattle.server_model.specs.Servers.{Server}
+use Rattle.server_model.specs.Work.{Work, Hand, receive, then_some, thread_in, without_thread, beside_threads}
+use Rattle.server_model.specs.Moving.{depart}
+use Rattle.server_model.specs.Events.{Stepped, begin_work, begin_at, left_by, received, deliver_message, evict_copy, step, step_in, stepped, does}
+use Rattle.event_law.specs.Laws.{Gives}
+use Rattle.event_law.proofs.Results.{over_gives, test_gives}
+use Rattle.event_law.proofs.Known.{all_at}
+use Rattle.local_law.proofs.Threads.{set_all, without_all, found_all, remove_all}
+use Rattle.value_law.proofs.Fit.{Weights, Closed, CopyFits, ThreadFits, MessageFits, without_fit, unpinned_fit, packed_fits, Base, RestFits}
+use Rattle.value_law.proofs.Middle.{says_fits, with_copies, taken_up}
+use Rattle.value_law.proofs.Steps.{after, NewNames, E, step_fits}
+use Rattle.value_law.proofs.Deliveries.{SiteFits, message_fits}
+use Rattle.value_law.proofs.Sums.{ServerFits}
+
+-- the instruction of which an event is a step
+abbrev pub instr_at : List Instr → List ThreadState → What → Option Instr
+instr_at code ts (Step t) = then_some (thread_in ts t) (λ y. slice_get code y.pc)
+instr_at code ts e = None
+
+-- what a server is afterwards
+abbrev pub final : Base → Option Instr → Base
+final b None = b
+final b (Some i) = after i b
+
+module _ (w : Weights) (b : Base) (closed : Closed w b.limit) (code : List Instr) (o : Options) (s : Server) (fits : ServerFits w b s) where
+  abbrev Then : Base → Server × EntryView → Type 0
+  Then j r = ServerFits w j r.0
+
+  stepping : (t : ℕ) → ((y : ThreadState) (i : Instr) → thread_in s.threads t ≡ Some y → slice_get code y.pc ≡ Some i → NewNames w b i y) → Gives (Then (final b (instr_at code s.threads (Step t)))) (does code o s (Step t))
+  stepping t news = by (thread_in s.threads t) refl
+    where
+      at : (y : ThreadState) → thread_in s.threads t ≡ Some y → (i : Option Instr) → slice_get code y.pc ≡ i
+          → Gives (Then (final b i)) (option_map (stepped s) (then_some i (λ x. step o.servers x (record { work = begin_work s.rest; thread = y }))))
+      at y q None e = tt
+      at y q (Some i) e =
+          let h : Hand = record { work = begin_work s.rest; thread = y } in
+          over_gives (λ (d : Stepped). E w b closed o.servers i y (news y i q e) d.hand.work.rest d.hand.thread) (Then (after i b)) (step o.servers i h) (stepped s)
+          (step_fits w b closed o.servers i y (news y i q e) h refl (taken_up w b closed y s.rest fits.0 (found_all (ThreadFits w) s.threads t y fits.1 q)))
+          (λ d g. (g.0, set_all (ThreadFits w) s.threads d.hand.thread fits.1 g.1))
+
+      by : (x : Option ThreadState) → thread_in s.threads t ≡ x → Gives (Then (final b (then_some x (λ y. slice_get code y.pc)))) (option_map (stepped s) (then_some (option_map (λ y. record { work = begin_work s.rest; thread = y }) x) (step_in code o.servers)))
+      by None q = tt
+      by (Some y) q = at y q (slice_get code y.pc) refl
+
+  delivering : (i : ℕ) → Gives (Then b) (does code o s (Deliver i))
+  delivering i = by (slice_get s.rest.inbox i) refl
+    where
+      rest : RestFits w b s.rest
+      rest = fits.0
+
+      by : (m : Option Message) → slice_get s.rest.inbox i ≡ m → Gives (Then b) (option_map (left_by s.events None None) (then_some m (λ x. deliver_message code x (received i s))))
+      by None q = tt
+      by (Some m) q =
+          let less : RestFits w b (receive s.rest i) = record {
+            numbered = rest.numbered;
+            begun = rest.begun;
+            made_so = rest.made_so;
+            homed = rest.homed;
+            partition = rest.partition;
+            copies = rest.copies;
+            mutexes = rest.mutexes;
+            tasks = rest.tasks;
+            waiting = remove_all (MessageFits w) s.rest.inbox i rest.waiting;
+            leaving = rest.leaving;
+          } in
+          over_gives (SiteFits w b closed) (Then b) (deliver_message code m (received i s)) (left_by s.events None None)
+          (message_fits w b closed code m (received i s) (all_at (MessageFits w) s.rest.inbox i m rest.waiting q) (less, fits.1)) (λ x a. a)
+
+  evicting : (v : ℕ) → Gives (Then b) (does code o s (Evict v))
+  evicting v =
+      over_gives (SiteFits w b closed) (Then b) (beside_threads (evict_copy v) (begin_at s)) (left_by s.events None None)
+      (over_gives (λ (x : Work). RestFits w b x.rest) (SiteFits w b closed) (evict_copy v (begin_work s.rest)) (λ x. record { work = x; threads = s.threads })
+      (test_gives (λ (x : Work). RestFits w b x.rest) (can_evict s.rest.cache v) _ (λ q. with_copies w b closed (evict s.rest.cache v) s.rest (gone (can_evict s.rest.cache v)) fits.0)) (λ x a. (a, fits.1))) (λ x a. a)
+    where
+      rest : RestFits w b s.rest
+      rest = fits.0
+
+      gone : (q : Bool) → AllByRecursion (CopyFits w) (if q then without_copy s.rest.cache v else s.rest.cache)
+      gone true = without_fit w s.rest.cache v rest.copies
+      gone false = rest.copies
+
+  leaving : (t target : ℕ) → Gives (Then b) (does code o s (Migrate t target))
+  leaving t target = by (thread_in s.threads t) refl
+    where
+      rest : RestFits w b s.rest
+      rest = fits.0
+
+      by : (x : Option ThreadState) → thread_in s.threads t ≡ x
+          → Gives (Then b) (option_map (left_by s.events (Some t) None) (then_some x (λ y. option_map (λ p. record { work = depart target (begin_work s.rest) p; threads = without_thread s.threads t }) (pack_thread (record y { moved_since_step = true }) s.rest.cache))))
+      by None q = tt
+      by (Some y) q = packs (unpin_all (used_words y) s.rest.cache) refl
+        where
+          packs : (l : Option (List Copy)) → unpin_all (used_words y) s.rest.cache ≡ l
+              → Gives (Then b) (option_map (left_by s.events (Some t) None) (option_map (λ p. record { work = depart target (begin_work s.rest) p; threads = without_thread s.threads t }) (option_map (λ left. (packed (record y { moved_since_step = true }), left)) l)))
+          packs None e = tt
+          packs (Some cs) e = (
+            says_fits w b closed target (message.Migrate (packed (record y { moved_since_step = true }))) (record s.rest { cache = cs }) (packed_fits w y (found_all (ThreadFits w) s.threads t y fits.1 q))
+                (with_copies w b closed cs s.rest (unpinned_fit w (used_words y) s.rest.cache cs e rest.copies) rest),
+            without_all (ThreadFits w) s.threads t fits.1,
+          )
+
+  pub doing : (e : What) → ((t : ℕ) (y : ThreadState) (i : Instr) → e ≡ Step t → thread_in s.threads t ≡ Some y → slice_get code y.pc ≡ Some i → NewNames w b i y) → Gives (Then (final b (instr_at code s.threads e))) (does code o s e)
+  doing (Step t) news = stepping t (λ y i. news t y i refl)
+  doing (Deliver i) news = delivering i
+  doing (Evict v) news = evicting v
+  doing (Migrate t target) news = leaving t target

@@ -1,0 +1,178 @@
+-- The sentences on names: colours below the limit, counts from 1 and no further than a server has come, and few names.
+use Rattle.std.proofs.Common.{◌≡◌, ℕ, zero, suc, ◌+◌, ◌*◌, ◌≤◌, ◌==◌, ◌&&◌, ◌||◌, nat_lt, nat_le, List, [], ◌∷◌, refl, sym, subst, arith}
+use Rattle.std.proofs.lemmas.Bool.Decides.{nat_tests}
+use Rattle.fr_base.specs.declared.name.MutexNo.{MutexNo}
+use Rattle.global_addr.specs.Words.{colour_of}
+use Rattle.thread_state.specs.declared.value.Value.{Value}
+use Rattle.thread_state.specs.declared.value.Value.TheVariants as value
+use Rattle.journal.specs.View.{EntryView}
+use Rattle.server_model.specs.declared.event.Event.{Event}
+use Rattle.server_model.specs.Servers.{Cluster, server_at}
+use Rattle.server_model.specs.Clusters.{apply}
+use Rattle.heap_law.specs.Names.{tot, other, some}
+use Rattle.heap_law.specs.Things.{Thing, at_slot, at_temp, in_cell, borrows, locks, vacant, stands, counts, things_of}
+use Rattle.heap_law.specs.Sight.{sight}
+use Rattle.heap_law.specs.Placing.{words, next_colours}
+use Rattle.heap_law.specs.Requests.{home_of}
+use Rattle.heap_law.specs.Naming.{threads, named_mutexes, count_of, started_at, made_at, uncounted_thread, uncounted_mutex, zeroth_thread, zeroth_mutex, events_of, many_names}
+use Rattle.heap_law.specs.Coherent.{Holds, IsSound, below_limit, names_counted, counts_from_one, few_names}
+use Rattle.heap_law.proofs.Names.{and_left, and_right}
+use Rattle.event_law.specs.Laws.{Gives, FewEvents}
+use Rattle.event_law.proofs.Results.{weaker}
+use Rattle.event_law.proofs.Boxes.{tot_le}
+use Rattle.event_law.proofs.Askers.{other_none}
+use Rattle.local_law.specs.Laws.{EachEventKeeps}
+use Rattle.value_law.proofs.Fit.{Weights, marks, Base}
+use Rattle.value_law.proofs.Sums.{holder_of, loose, stray}
+use Rattle.value_law.proofs.Split.{two_le, threads_split, mutexes_split}
+use Rattle.value_law.proofs.Named.{above_less, some_le, names, counted}
+use Rattle.value_law.proofs.Kept.{GoneOn, ends_as, gone_on}
+
+-- SUMS
+
+tot_both : (f g : Thing → ℕ) (b : List Thing) → tot (λ x. f x + g x) b ≡ tot f b + tot g b
+tot_both f g [] = refl
+tot_both f g (x ∷ b) = omega (arith, tot_both f g b)
+
+no_holder : (b : List Thing) → tot (holder_of (λ m. 0)) b ≡ 0
+no_holder [] = refl
+no_holder (x ∷ b) = omega (arith, none x, no_holder b)
+  where
+    none : (x : Thing) → holder_of (λ m. 0) x ≡ 0
+    none (borrows l r) = refl
+    none x = refl
+
+no_mark : (b : List Thing) → tot (loose 0) b ≡ 0
+no_mark [] = refl
+no_mark (x ∷ b) = omega (arith, none x, no_mark b)
+  where
+    none : (x : Thing) → loose 0 x ≡ 0
+    none (locks (at_temp t i) m) = refl
+    none (locks (at_slot t i) m) = refl
+    none (locks (in_cell o) m) = refl
+    none x = refl
+
+-- WHAT NO NAME BREAKS
+
+module _ (k : Cluster) (d : ℕ → ℕ) (n : ℕ) (j : Base) (c : Cluster) (g : GoneOn k d n j c) where
+  abbrev w : Weights
+  w = names k d n j
+
+  abbrev b : List Thing
+  b = things_of c
+
+  abbrev word_out : ℕ → ℕ
+  word_out v = other (nat_lt (colour_of v) k.options.colours)
+
+  coloured : (x : Thing) → words word_out x + next_colours k.options.colours x ≤ stray w x
+  coloured (vacant s a m) = omega arith
+  coloured x = omega arith
+
+  limit_kept : Holds c below_limit
+  limit_kept =
+      subst (λ o. tot (words (λ v. other (nat_lt (colour_of v) o.colours))) b + tot (next_colours o.colours) b ≡ 0) (sym g.same_options)
+      (omega (arith, two_le (words word_out) (next_colours k.options.colours) (stray w) coloured b, g.none))
+
+  -- twice a weight that is nothing
+  twice : tot (λ x. stray w x + stray w x) b ≡ 0
+  twice = omega (arith, tot_both (stray w) (stray w) b, g.none)
+
+  from_one : (x : Thing) → threads zeroth_thread x + named_mutexes zeroth_mutex x ≤ stray w x + stray w x
+  from_one x = omega (arith, threads_split zeroth_thread w.thread w.thread (λ t. omega arith) x, mutexes_split zeroth_mutex w.mutex w.mutex (λ m. omega arith) x)
+
+  from_one_kept : Holds c counts_from_one
+  from_one_kept = omega (arith, two_le (threads zeroth_thread) (named_mutexes zeroth_mutex) (λ x. stray w x + stray w x) from_one b, twice)
+
+  thread_there : (t : ℕ) → w.thread t ≡ 0 → 1 ≤ tot (started_at (home_of t) (count_of t)) b
+  thread_there t z = by (tot (started_at (home_of t) (count_of t)) (things_of k)) refl (omega (arith, z))
+    where
+      by : (m : ℕ) → tot (started_at (home_of t) (count_of t)) (things_of k) ≡ m → other (some m || (home_of t == j.number && nat_le (count_of t) j.started)) ≡ 0 → 1 ≤ tot (started_at (home_of t) (count_of t)) b
+      by (suc m) e q = omega (arith, e, g.started (home_of t) (count_of t))
+      by zero e q =
+          let is = other_none (home_of t == j.number && nat_le (count_of t) j.started) q in
+          let a = and_left (home_of t == j.number) (nat_le (count_of t) j.started) is in
+          let l = and_right (home_of t == j.number) (nat_le (count_of t) j.started) is in
+          let home : j.number ≡ home_of t = grind (arith, nat_tests, a) in
+          let low : count_of t ≤ j.started = grind (arith, nat_tests, l) in
+          subst (λ s. 1 ≤ tot (started_at s (count_of t)) b) home (g.reached (count_of t) low)
+
+  mutex_there : (m : MutexNo) → w.mutex m ≡ 0 → 1 ≤ tot (made_at m.home m.count) b
+  mutex_there m z = by (tot (made_at m.home m.count) (things_of k)) refl (omega (arith, z))
+    where
+      by : (p : ℕ) → tot (made_at m.home m.count) (things_of k) ≡ p → other (some p || (m.home == j.number && nat_le m.count j.made)) ≡ 0 → 1 ≤ tot (made_at m.home m.count) b
+      by (suc p) e q = omega (arith, e, g.made m.home m.count)
+      by zero e q =
+          let is = other_none (m.home == j.number && nat_le m.count j.made) q in
+          let a = and_left (m.home == j.number) (nat_le m.count j.made) is in
+          let l = and_right (m.home == j.number) (nat_le m.count j.made) is in
+          let home : j.number ≡ m.home = grind (arith, nat_tests, a) in
+          let low : m.count ≤ j.made = grind (arith, nat_tests, l) in
+          subst (λ s. 1 ≤ tot (made_at s m.count) b) home (g.reached_made m.count low)
+
+  thread_le : (t : ℕ) → uncounted_thread (sight c) t ≤ w.thread t + w.thread t
+  thread_le t = omega (arith, some_le (tot (started_at (home_of t) (count_of t)) b) (w.thread t) (thread_there t))
+
+  mutex_le : (m : MutexNo) → uncounted_mutex (sight c) m ≤ w.mutex m + w.mutex m
+  mutex_le m = omega (arith, some_le (tot (made_at m.home m.count) b) (w.mutex m) (mutex_there m))
+
+  counted_so : (x : Thing) → threads (uncounted_thread (sight c)) x + named_mutexes (uncounted_mutex (sight c)) x ≤ stray w x + stray w x
+  counted_so x = omega (arith, threads_split (uncounted_thread (sight c)) w.thread w.thread thread_le x, mutexes_split (uncounted_mutex (sight c)) w.mutex w.mutex mutex_le x)
+
+  counted_kept : Holds c names_counted
+  counted_kept = omega (arith, two_le (threads (uncounted_thread (sight c))) (named_mutexes (uncounted_mutex (sight c))) (λ x. stray w x + stray w x) counted_so b, twice)
+
+  abbrev soon : ℕ
+  soon = events_of (sight k) + 1
+
+  few_so : (x : Thing) → many_names (events_of (sight c)) x ≤ counted soon x + stray w x
+  few_so (counts r next old started made events) =
+      omega (arith, above_less started (2 * soon) (2 * events_of (sight c)) (omega (arith, g.more)), above_less made (2 * soon) (2 * events_of (sight c)) (omega (arith, g.more)))
+  few_so (stands s p t) = omega (arith, above_less t.made (2 * soon) (2 * events_of (sight c)) (omega (arith, g.more)))
+  few_so x = omega arith
+
+  few_kept : Holds c few_names
+  few_kept = omega (arith, tot_le (many_names (events_of (sight c))) (λ x. counted soon x + stray w x) few_so b, tot_both (counted soon) (stray w) b, g.few, g.none)
+
+  held_so : (x : Thing) → holder_of d x ≤ stray w x
+  held_so x = omega arith
+
+  pub holders_kept : tot (holder_of d) b ≡ 0
+  holders_kept = omega (arith, tot_le (holder_of d) (stray w) held_so b, g.none)
+
+  marked_so : (x : Thing) → loose n x ≤ stray w x
+  marked_so x = omega arith
+
+  pub marks_kept : tot (loose n) b ≡ 0
+  marks_kept = omega (arith, tot_le (loose n) (stray w) marked_so b, g.none)
+
+-- FROM A SOUND CLUSTER
+
+abbrev nothing : ℕ → ℕ
+nothing m = 0
+
+unmarked : (k : Cluster) (j : Base) (v : Value) → marks (names k nothing 0 j) v ≡ 0
+unmarked k j (value.Held m) = refl
+unmarked k j value.Gone = refl
+unmarked k j (value.Own v) = refl
+unmarked k j (value.SharedSlot i) = refl
+unmarked k j (value.MutSlot i) = refl
+unmarked k j (value.Shared r) = refl
+unmarked k j (value.Mut r) = refl
+
+kept_by : (P : Cluster → Type 0) → ((k : Cluster) (j : Base) (c : Cluster) → GoneOn k nothing 0 j c → P c) → (k : Cluster) (e : Event) → IsSound k → FewEvents k → Gives (λ (x : Cluster × EntryView). P x.0) (apply k e)
+kept_by P go k e sound few =
+    weaker (λ (x : Cluster × EntryView). GoneOn k nothing 0 (ends_as k e (server_at k.servers e.server)) x.0) (λ (x : Cluster × EntryView). P x.0) (apply k e)
+    (gone_on k e nothing 0 sound few (no_holder (things_of k)) (no_mark (things_of k)) (λ s here t y i q there at. record { lends = λ p m c z. refl; moves = λ j p c h h2 x v q2 z u. unmarked k j v }))
+    (λ x g. go k (ends_as k e (server_at k.servers e.server)) x.0 g)
+
+pub limits_kept : EachEventKeeps below_limit
+limits_kept = kept_by (λ c. Holds c below_limit) (λ k j c g. limit_kept k nothing 0 j c g)
+
+pub counts_kept : EachEventKeeps counts_from_one
+counts_kept = kept_by (λ c. Holds c counts_from_one) (λ k j c g. from_one_kept k nothing 0 j c g)
+
+pub names_kept : EachEventKeeps names_counted
+names_kept = kept_by (λ c. Holds c names_counted) (λ k j c g. counted_kept k nothing 0 j c g)
+
+pub fews_kept : EachEventKeeps few_names
+fews_kept = kept_by (λ c. Holds c few_names) (λ k j c g. few_kept k nothing 0 j c g)
