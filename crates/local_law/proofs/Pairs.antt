@@ -164,7 +164,7 @@ module _ (k : Cluster) (coherent : IsCoherent k) (number : ℕ) (s : Server) (he
   abbrev sound : IsSound k
   sound = coherent.sound
 
-  goes_still : (i : Instr) → slice_get k.code y.pc ≡ Some i → is_end (Some i) ≡ false → is_over y.phase ≡ false
+  pub goes_still : (i : Instr) → slice_get k.code y.pc ≡ Some i → is_end (Some i) ≡ false → is_over y.phase ≡ false
   goes_still i at e =
       by (is_over y.phase) refl (subst (λ o. if_so (is_over y.phase) (other (is_end o) + length y.slots + length y.temps + one (is_some y.gift)) ≡ 0) at (known k sound number s here n y there (dressed (sight k)) sound.rooted.over_are_bare))
     where

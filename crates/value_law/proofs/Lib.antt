@@ -9,3 +9,5 @@ pub mod Counts
 pub mod Named
 pub mod Kept
 pub mod Sentences
+pub mod Coded
+pub mod Coherent

@@ -1,13 +1,19 @@
-//! What each event keeps of a sound cluster, one clause for each sentence.
+//! What each event keeps of names, one clause for each sentence.
 
-ghost use Rattle.heap_law.specs.Coherent.{below_limit, counts_from_one, few_names, names_counted};
-ghost use Rattle.local_law.specs.Laws.{EachEventKeeps};
+ghost use Rattle.heap_law.specs.Coherent.{below_limit, counts_from_one, few_names, holders_short, marks_in_slots, names_counted};
+ghost use Rattle.local_law.specs.Laws.{EachCoherentEventKeeps, EachEventKeeps};
 
-/// What all that is named keeps, wherever it stands: each word has a colour below the limit, and so has what comes next at a free address; the count of each thread
-/// and of each mutex is at most what its home has come to, and none is 0 but that of main; and few names were given.
+/// What all that is named keeps in a sound cluster, wherever it stands: each word has a colour below the limit, and so has what comes next at a free address; the count of
+/// each thread and of each mutex is at most what its home has come to, and none is 0 but that of main; and few names were given.
 pub fn names_keep()
     ensures below_limit { EachEventKeeps below_limit }
     ensures names_counted { EachEventKeeps names_counted }
     ensures counts_from_one { EachEventKeeps counts_from_one }
     ensures few_names { EachEventKeeps few_names }
+{}
+
+/// What values keep by the table of the code, in a coherent cluster: the mark of a lock stands in a slot alone, and each holder of a mutable reference has at most eight stars.
+pub fn values_keep_to_code()
+    ensures marks_in_slots { EachCoherentEventKeeps marks_in_slots }
+    ensures holders_short { EachCoherentEventKeeps holders_short }
 {}
