@@ -20,7 +20,8 @@ use Rattle.lock_law.proofs.Reach.{NoneUnder, with_extra}
 use Rattle.lock_law.proofs.Beside.{IsLoose}
 use Rattle.lock_law.proofs.OneThread.{GoesOn, y, a, s, s2}
 use Rattle.lock_law.proofs.OneMutex as one_mutex
-use Rattle.lock_law.proofs.OneMutex.{named_under, owned_under, new_share}
+use Rattle.lock_law.proofs.OneMutex.{new_share}
+use Rattle.lock_law.proofs.OneNode.{named_under, owned_under}
 
 -- the thread x at server n goes on; in the place of G comes G2, beside the others. Of mutex m this content was beside the thread and that one is so
 -- afterwards, and it may have a new share; such nodes may be new in the state
@@ -30,8 +31,8 @@ pub record Change (k : Cluster) (R G G2 : List Thing) (n : ℕ) (x : ThreadState
   pub loose_then : AllByRecursion IsLoose G2
   pub lone : tot (of_thread x.number) R ≡ 0
   pub even : (q : Node) → owned_in q x.slots + owned_in q x.temps + owned_under q under + new_share fresh q m ≡ owned_in q slots + owned_in q temps + owned_under q under2
-  pub named : (f : Node → Bool) (q : Node) → any_named (s k R G G2 n x (after x pc slots temps)) f q G ≡ named_under f q m under
-  pub named_then : (f : Node → Bool) (q : Node) → any_named (s2 k R G G2 n x (after x pc slots temps)) f q G2 ≡ named_under f q m under2
+  pub named : (f : Node → Bool) (q : Node) → any_named (s k R G G2 n x (after x pc slots temps)) f q G ≡ named_under f q (mutex_n m) under
+  pub named_then : (f : Node → Bool) (q : Node) → any_named (s2 k R G G2 n x (after x pc slots temps)) f q G2 ≡ named_under f q (mutex_n m) under2
   pub inside_it : is_some under ≡ true → is_in_state (s k R G G2 n x (after x pc slots temps)) (mutex_n m) ≡ true
   pub inside_then : is_some under2 ≡ true → is_in_state (s2 k R G G2 n x (after x pc slots temps)) (mutex_n m) ≡ true
   pub new_in : fresh ≡ true → with_extra (is_in_state (s k R G G2 n x (after x pc slots temps))) extra (mutex_n m) ≡ true
@@ -58,6 +59,9 @@ module _ {k : Cluster} {R G G2 : List Thing} {n : ℕ} {x : ThreadState} {pc : �
       → GoesOn x.number (running_at x) (running_at (y k R G G2 n x (after x pc slots temps))) (state_of (s k R G G2 n x (after x pc slots temps))) (state_of (s2 k R G G2 n x (after x pc slots temps)))
   thread_on =
       one_mutex.thread_goes k R G G2 n x pc slots temps c.calm c.loose c.loose_then c.lone m under under2 fresh c.even c.named c.named_then c.inside_it c.inside_then extra c.new_in c.extra_in c.none c.no_task c.no_object c.no_other c.results c.started c.shares c.shares_then c.contents
+
+  pub made_on : (u : ℕ) → (state_of (s k R G G2 n x (after x pc slots temps))).made u ≡ (state_of (s2 k R G G2 n x (after x pc slots temps))).made u
+  made_on = one_mutex.made_stays k R G G2 n x pc slots temps c.calm c.loose c.loose_then c.lone
 
   -- objects and other mutexes are as they were
   pub objects_on : (o : ObjNo) → object_value (s k R G G2 n x (after x pc slots temps)) o ≡ object_value (s2 k R G G2 n x (after x pc slots temps)) o

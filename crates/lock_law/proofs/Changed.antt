@@ -1,11 +1,10 @@
 -- An event's thread in front of all other things of its cluster, with its gift and its server's counts beside it: before the event, and afterwards with what comes
 -- in their place.
-use Rattle.std.proofs.Common.{◌≡◌, ℕ, ◌+◌, ◌≤◌, ◌==◌, ◌&&◌, ◌||◌, not, Bool, true, false, List, [], ◌∷◌, ◌++◌, length, take, drop, Option, Some, None, is_some, refl, sym, ap, ap₂, ◌∙◌, arith}
+use Rattle.std.proofs.Common.{◌≡◌, ℕ, ◌+◌, ◌≤◌, ◌==◌, ◌&&◌, ◌||◌, not, Bool, true, false, List, [], ◌∷◌, ◌++◌, length, take, drop, Option, Some, None, is_some, option_map, refl, sym, ap, ap₂, ◌∙◌, arith}
 use Rattle.std.specs.List.{AllByRecursion}
 use Rattle.heap_partition.specs.declared.value.Owned.{Owned}
 use Rattle.fr_plain.specs.PlainState.{SameState}
 use Rattle.thread_state.specs.View.{ThreadState}
-use Rattle.thread_state.specs.declared.value.Value.{Value}
 use Rattle.server_model.specs.declared.event.Event.{Event}
 use Rattle.server_model.specs.Servers.{Server, Cluster, server_at}
 use Rattle.server_model.specs.Work.{thread_in, set_thread, without_thread, put_back}
@@ -13,6 +12,7 @@ use Rattle.server_model.specs.Events.{Stepped, stepped}
 use Rattle.server_model.specs.Clusters.{with_server, hand_over_newer}
 use Rattle.heap_law.specs.Names.{tot, one, some, if_so}
 use Rattle.heap_law.specs.Things.{Spot, as_gift, Thing, holds, stands, gift_things, servers_things, things_of}
+use Rattle.heap_law.specs.Follow.{threads_in, thread_at, locate}
 use Rattle.heap_law.specs.Sight.{Sight, sight, with_things}
 use Rattle.heap_law.specs.Requests.{home_of}
 use Rattle.heap_law.specs.Naming.{count_of, threads, started_at, uncounted_thread, zeroth_thread, named_mutexes, uncounted_mutex, zeroth_mutex}
@@ -26,16 +26,17 @@ use Rattle.event_law.proofs.Events.{others_of, tot-server}
 use Rattle.event_law.proofs.Applied.{go_with}
 use Rattle.event_law.proofs.Handing.{hand_over_newer_law}
 use Rattle.still_law.specs.Shows.{sign_of, ShowAlike, gift_spot}
-use Rattle.still_law.proofs.Alike.{Once, same_state, same_once, same_spots, same_gifts}
+use Rattle.still_law.proofs.Alike.{Once, same_state, same_once, same_spots, same_threads, same_places, same_gifts}
 use Rattle.still_law.proofs.Counting.{nought, stray, no_stray, no_stray_in}
 use Rattle.still_law.proofs.Gifts.{placed, telling, places_told}
 use Rattle.still_law.proofs.Once.{shown_once}
+use Rattle.still_law.proofs.PlainValues.{shown_of}
 use Rattle.still_law.proofs.Sites.{Moves, ends}
 use Rattle.turn_law.proofs.Parts.{Own}
-use Rattle.turn_law.proofs.OneTurn.{of_thread, after}
+use Rattle.turn_law.proofs.OneTurn.{of_thread}
 use Rattle.turn_law.proofs.Events.{gift_at, placed_at, told_at, told_by, all_of as of_both, itself_counts, given_by_count}
 use Rattle.lock_law.proofs.Beside.{giftless, IsBeside, all_of, tot_of, thread_parted}
-use Rattle.lock_law.proofs.OneThread.{past, stray_stays}
+use Rattle.lock_law.proofs.OneThread.{next, stray_stays}
 
 module _ (k : Cluster) (sound : IsSound k) (e : Event) (s : Server) (here : server_at k.servers e.server ≡ Some s) (t : ℕ) (x : ThreadState) (at : thread_in s.threads t ≡ Some x) (number : x.number ≡ t) where
   abbrev pub n : ℕ
@@ -104,6 +105,12 @@ module _ (k : Cluster) (sound : IsSound k) (e : Event) (s : Server) (here : serv
 
   pub spots_before : (p : Spot) → spot_owner (sight k) p ≡ spot_owner (with_things k a) p
   spots_before = same_spots k (things_of k) a (shown_once k sound) alike unstray unstray_in
+
+  pub threads_before : (u : ℕ) → option_map shown_of (thread_at (threads_in (things_of k)) u) ≡ option_map shown_of (thread_at (threads_in a) u)
+  threads_before = same_threads k (things_of k) a (shown_once k sound) alike unstray unstray_in
+
+  pub places_before : (u slot m : ℕ) → locate (sight k).ground u slot m ≡ locate (with_things k a).ground u slot m
+  places_before = same_places k (things_of k) a (shown_once k sound) alike unstray unstray_in
 
   pub gifts_before : (u : ℕ) → gift_spot (sight k) u ≡ gift_spot (with_things k a) u
   gifts_before = same_gifts k (things_of k) a (shown_once k sound) alike unstray unstray_in
@@ -174,10 +181,10 @@ module _ (k : Cluster) (sound : IsSound k) (e : Event) (s : Server) (here : serv
 
   -- AFTERWARDS
 
-  module _ (d : Stepped) (pc : ℕ) (slots temps : List Value) (thread : d.hand.thread ≡ past x pc slots temps) (G2 : List Thing) (moves : Moves G2 (counts_of n 0 s.rest ∷ []) s.rest d.hand.work.rest)
+  module _ (d : Stepped) (became : ThreadState) (thread : d.hand.thread ≡ next x became) (G2 : List Thing) (moves : Moves G2 (counts_of n 0 s.rest ∷ []) s.rest d.hand.work.rest)
       (sends : GoTo (with_server k.servers e.server (stepped s d).0) (drop (length s.rest.outbox) (stepped s d).0.rest.outbox)) where
     abbrev y : ThreadState
-    y = past x pc slots temps
+    y = next x became
 
     abbrev pub b : List Thing
     b = all_of n y G2 R
@@ -227,7 +234,7 @@ module _ (k : Cluster) (sound : IsSound k) (e : Event) (s : Server) (here : serv
       unstray_then : tot (stray (with_things k b)) b ≡ 0
       unstray_then =
           let flat : (r : Sight) → Own (λ v. stray r v ≡ 0) = λ r. record { slots = λ u i v. refl; temps = λ u i v. refl; shared = λ l m. refl; lent = λ l m. refl; marks = λ l m. refl; used = λ u m. refl } in
-          let others : tot (stray (with_things k a)) R ≡ tot (stray (with_things k b)) R = stray_stays k R G G2 n x (after x pc slots temps) beside beside2 lone in
+          let others : tot (stray (with_things k a)) R ≡ tot (stray (with_things k b)) R = stray_stays k R G G2 n x became beside beside2 lone in
           omega (arith, none_stray, tot_of n x G R (stray (with_things k a)) (flat (with_things k a)), others, tot_of n y G2 R (stray (with_things k b)) (flat (with_things k b)), giftless2)
 
       -- it stands for the one heap of the cluster afterwards

@@ -8,12 +8,13 @@ use Rattle.heap_law.specs.Coherent.{IsSound}
 use Rattle.type_law.specs.ClusterTypes.{IsCoherent}
 use Rattle.event_law.specs.Laws.{Gives}
 use Rattle.turn_law.specs.Turns.{IsPlainStep, instr_of, ArePlainSteps}
-use Rattle.lock_law.specs.Locks.{dups_mutex, locks_mutex, makes_mutex, marked, IsThere, UnlocksArePlain}
-use Rattle.lock_law.proofs.MutexTurns.{mutex_steps}
+use Rattle.lock_law.specs.Locks.{dups_mutex, locks_mutex, makes_box, makes_mutex, marked, IsThere, UnlocksArePlain}
+use Rattle.lock_law.proofs.ThreadTurns.{turn_steps}
 use Rattle.lock_law.proofs.DupLines.{dup_line}
 use Rattle.lock_law.proofs.LockLines.{lock_line}
 use Rattle.lock_law.proofs.NewLines.{new_line}
 use Rattle.lock_law.proofs.UnlockLines.{unlock_line}
+use Rattle.lock_law.proofs.BoxLines.{box_line}
 use Rattle.turn_law.proofs.Clauses.{same_thread}
 use Rattle.turn_law.proofs.Events.{Sends, events_are}
 
@@ -21,21 +22,28 @@ pub dups : ArePlainSteps IsCoherent dups_mutex
 dups k e i q it co few = by i q it
   where
     by : (i : Instr) → instr_of k e ≡ Some i → dups_mutex i ≡ true → Gives (IsPlainStep k) (apply k e)
-    by (instr.Dup w) q it = mutex_steps k co.sound e (instr.Dup w) refl few (λ s t x at. dup_line k co e w s t x at) q
+    by (instr.Dup w) q it = turn_steps k co.sound e (instr.Dup w) refl few (λ s t x at. dup_line k co e w s t x at) q
     by _ q it = absurd (cc it)
 
 pub locks : ArePlainSteps IsCoherent locks_mutex
 locks k e i q it co few = by i q it
   where
     by : (i : Instr) → instr_of k e ≡ Some i → locks_mutex i ≡ true → Gives (IsPlainStep k) (apply k e)
-    by (instr.Lock w) q it = mutex_steps k co.sound e (instr.Lock w) refl few (λ s t x at. lock_line k co e w s t x at) q
+    by (instr.Lock w) q it = turn_steps k co.sound e (instr.Lock w) refl few (λ s t x at. lock_line k co e w s t x at) q
     by _ q it = absurd (cc it)
 
 pub news : ArePlainSteps IsSound makes_mutex
 news k e i q it sound few = by i q it
   where
     by : (i : Instr) → instr_of k e ≡ Some i → makes_mutex i ≡ true → Gives (IsPlainStep k) (apply k e)
-    by (instr.Mutex o) q it = mutex_steps k sound e (instr.Mutex o) refl few (λ s t x at. new_line k sound e o s t x at) q
+    by (instr.Mutex o) q it = turn_steps k sound e (instr.Mutex o) refl few (λ s t x at. new_line k sound e o s t x at) q
+    by _ q it = absurd (cc it)
+
+pub boxes : ArePlainSteps IsCoherent makes_box
+boxes k e i q it co few = by i q it
+  where
+    by : (i : Instr) → instr_of k e ≡ Some i → makes_box i ≡ true → Gives (IsPlainStep k) (apply k e)
+    by (instr.Box o) q it = turn_steps k co.sound e (instr.Box o) refl few (λ s t x at. box_line k co e o s t x at) q
     by _ q it = absurd (cc it)
 
 pub unlocks : UnlocksArePlain

@@ -21,7 +21,7 @@ use Rattle.event_law.proofs.Bags.{counts_of}
 use Rattle.event_law.proofs.ThreadThere.{thread_there}
 use Rattle.turn_law.proofs.Events.{AtStep}
 use Rattle.lock_law.proofs.Beside.{IsBeside, IsLoose, loose_beside, all_so, gift_uncounted, itself}
-use Rattle.lock_law.proofs.MutexTurns.{G, R, before, loose}
+use Rattle.lock_law.proofs.ThreadTurns.{G, R, before, loose}
 use Rattle.lock_law.proofs.Changed.{spots_before}
 
 pub or_false : (b : Bool) → b || false ≡ b

@@ -1,11 +1,12 @@
 pub mod Reach
 pub mod Beside
 pub mod OneThread
+pub mod OneNode
 pub mod OneMutex
 pub mod Change
 pub mod PlainMutex
 pub mod Changed
-pub mod MutexTurns
+pub mod ThreadTurns
 pub mod Gifted
 pub mod Places
 pub mod SharedLines
@@ -14,4 +15,7 @@ pub mod LockLines
 pub mod NewMutex
 pub mod NewLines
 pub mod UnlockLines
+pub mod NewObject
+pub mod PlainBox
+pub mod BoxLines
 pub mod Clauses

@@ -42,7 +42,7 @@ use Rattle.turn_law.proofs.Events.{AtStep}
 use Rattle.lock_law.proofs.Reach.{or_left}
 use Rattle.lock_law.proofs.Gifted.{owner_there, found as found_there, gift_names, gift_shares, gift_results, gift_contents}
 use Rattle.lock_law.proofs.Beside.{so_one}
-use Rattle.lock_law.proofs.MutexTurns.{MutexTurn, Soon, settles}
+use Rattle.lock_law.proofs.ThreadTurns.{ThreadTurn, Soon, settles}
 use Rattle.lock_law.proofs.OneMutex.{shared_as}
 use Rattle.lock_law.proofs.Change.{Change, before_it, after_it, in_afterwards}
 use Rattle.lock_law.proofs.Places.{itself_named}
@@ -60,7 +60,7 @@ module _ (k : Cluster) (co : IsCoherent k) (e : Event) (w : Lval) (s : Server) (
   start = h0 k co e i s t y a
 
   abbrev Wanted : Stepped → Type 0
-  Wanted d = (names : Fresh) → d.names ≡ Some names → MutexTurn k co.sound e i refl s t y a d
+  Wanted d = (names : Fresh) → d.names ≡ Some names → ThreadTurn k co.sound e i refl s t y a d
 
   module _ (h : Hand) (sp : Spot) (ready_h : Readied start h) (m : MutexNo) (am : AtMutex k y w h sp m) (v : Owned) (gift : y.gift ≡ Some v) where
     abbrev slots : List Value

@@ -57,11 +57,11 @@ use Rattle.lock_law.proofs.Reach.{or_right}
 use Rattle.lock_law.proofs.Beside.{IsLoose, so_one, tot_of}
 use Rattle.lock_law.proofs.Changed.{lone, given, once_before, state_before}
 use Rattle.lock_law.proofs.Gifted.{or_false}
-use Rattle.lock_law.proofs.MutexTurns.{G, R, before, then_there, quiet, loose, MutexTurn}
+use Rattle.lock_law.proofs.ThreadTurns.{G, R, before, then_there, quiet, loose, ThreadTurn}
 use Rattle.lock_law.proofs.OneMutex as one_mutex
 use Rattle.lock_law.proofs.OneMutex.{shared_as}
 use Rattle.lock_law.proofs.OneThread.{GoesOn, past}
-use Rattle.lock_law.proofs.Change.{Change, thread_on, objects_on, mutexes_on, after_it, once_on}
+use Rattle.lock_law.proofs.Change.{Change, thread_on, made_on, objects_on, mutexes_on, after_it, once_on}
 use Rattle.lock_law.proofs.DupLines.{running_to}
 use Rattle.lock_law.proofs.NewMutex.{home, not_given, no_shares, none_under, none_told}
 use Rattle.lock_law.proofs.Places.{itself_named}
@@ -142,7 +142,7 @@ module _ (k : Cluster) (sound : IsSound k) (e : Event) (o : Operand) (s : Server
   counts_here = counts_of n s.events s.rest
 
   abbrev Wanted : Stepped → Type 0
-  Wanted d = (names : Fresh) → d.names ≡ Some names → MutexTurn k sound e i refl s t x at d
+  Wanted d = (names : Fresh) → d.names ≡ Some names → ThreadTurn k sound e i refl s t x at d
 
   abbrev extra : Node → Bool
   extra q = owns q (owned.Mutex m)
@@ -166,7 +166,7 @@ module _ (k : Cluster) (sound : IsSound k) (e : Event) (o : Operand) (s : Server
     G2 = counts_then ∷ holds (as_content m) v ∷ []
 
     abbrev s2 : Sight
-    s2 = then_there k sound e i refl s t x at (x.pc + 1) x.slots temps G2
+    s2 = then_there k sound e i refl s t x at (after x (x.pc + 1) x.slots temps) G2
 
     lone1 : tot (of_thread x.number) Others ≡ 0
     lone1 = lone k sound e s at.here t x at.at at.number
@@ -274,7 +274,7 @@ module _ (k : Cluster) (sound : IsSound k) (e : Event) (o : Operand) (s : Server
         steps_with k.code c x.number (running_at x) q (state_of s1) (state_of s2) goes shown1 (fresh.Mutex m) (c.mutexes ++ record { number = m; there = new } ∷ []) []
         (acts k.code (running_at x) (do_mutex (plain_v.Own (plain_of v))) plug (ap (λ j. over_at j (shown_last x.temps)) at.code)
         (ap (λ j. run_instr j x.pc (shown_last x.temps)) at.code ∙ u.taken (λ z us. loud (x.pc + 1) us (do_mutex z))) goes.way c x.number (fresh.Mutex m) ∙ makes k.code c goes.way x.number (running_at x) plug m (plain_of v) off)
-        (objects_on change) (more_shows c.mutexes m new (λ w. (state_of s2).mutex w) none new_is (λ w ne. shown1.mutexes w ∙ mutexes_on change w ne))
+        (made_on change) (objects_on change) (more_shows c.mutexes m new (λ w. (state_of s2).mutex w) none new_is (λ w ne. shown1.mutexes w ∙ mutexes_on change w ne))
         (more_given c.mutexes m new (λ w. is_given_mutex s2 w) none given_then (λ w ne. shown1.given w ∙ given_off w ne))
 
     abbrev made_hand : Hand
@@ -287,9 +287,7 @@ module _ (k : Cluster) (sound : IsSound k) (e : Event) (o : Operand) (s : Server
             (option_map (λ cs. record { work = with_cache cs made_hand.work; thread = record (go_on made_hand).thread { passed = 0; walk = []; moved_since_step = false } }) q))
         by None = tt
         by (Some cs) = λ names named. record {
-          pc = x.pc + 1;
-          slots = x.slots;
-          temps = temps;
+          became = after x (x.pc + 1) x.slots temps;
           names = fresh.Mutex m;
           thread = ap (λ g. (let z : ThreadState = record (after x (x.pc + 1) x.slots temps) { gift = g } in z)) bare;
           named = refl;
@@ -304,7 +302,7 @@ module _ (k : Cluster) (sound : IsSound k) (e : Event) (o : Operand) (s : Server
                 let cache = (copies_ready made_hand cs []).0.moves.alike w z in
                 omega (arith, z, trade.before f, trade.after f, cache);
           };
-          loose_too = (tt, (tt, tt));
+          beside = (tt, (tt, tt));
           unstray = refl;
           once = once_then;
           steps = steps;

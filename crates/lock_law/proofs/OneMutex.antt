@@ -1,5 +1,5 @@
--- A thread's turn in which a value goes into a mutex, or comes out of it, or a share of the mutex is new: who is in the state, and what is as it was.
-use Rattle.std.proofs.Common.{◌≡◌, ◌≢◌, ℕ, zero, suc, ◌+◌, ◌≤◌, Bool, true, false, List, [], ◌∷◌, Option, Some, None, is_some, refl, sym, ap, ap₂, ◌∙◌, arith}
+-- A thread's turn in which a value goes into a mutex, or comes out of it, or a share of the mutex is new: what is as it was.
+use Rattle.std.proofs.Common.{◌≡◌, ◌≢◌, ℕ, ◌+◌, ◌≤◌, Bool, true, false, List, [], ◌∷◌, Option, Some, None, is_some, refl, sym, ap, ap₂, ◌∙◌, arith}
 use Rattle.std.specs.List.{AllByRecursion}
 use Rattle.fr_base.specs.declared.name.MutexNo.{MutexNo}
 use Rattle.fr_base.specs.declared.name.ObjNo.{ObjNo}
@@ -8,13 +8,13 @@ use Rattle.heap_partition.specs.declared.value.Owned.TheVariants as owned
 use Rattle.thread_state.specs.View.{ThreadState}
 use Rattle.thread_state.specs.declared.value.Value.{Value}
 use Rattle.server_model.specs.Servers.{Cluster}
-use Rattle.heap_law.specs.Names.{tot, one, some, same_mutex}
+use Rattle.heap_law.specs.Names.{tot, one, same_mutex}
 use Rattle.heap_law.specs.Things.{Thing, lies, flies}
 use Rattle.fr_base.specs.declared.label.Plain.{Plain}
 use Rattle.fr_plain.specs.MachineThreads.{Shared}
 use Rattle.heap_law.specs.Naming.{started_at}
 use Rattle.heap_law.specs.Sight.{Sight}
-use Rattle.heap_law.specs.OneHeap.{Node, object_n, mutex_n, task_n, inside, owns, named_in, any_named, is_in_state, cell_value, or_else, first_shown, object_value, content_value, share_in, if_there, result_value, running_at, is_given_thread, state_of}
+use Rattle.heap_law.specs.OneHeap.{Node, object_n, mutex_n, task_n, owns, any_named, is_in_state, cell_value, or_else, first_shown, object_value, content_value, share_in, if_there, result_value, running_at, is_given_thread, state_of}
 use Rattle.still_law.proofs.Alike.{Once}
 use Rattle.still_law.proofs.Counting.{shown_result}
 use Rattle.still_law.proofs.Told.{told, ones}
@@ -22,56 +22,21 @@ use Rattle.plain_types.proofs.Mutexes.{mutex_cases}
 use Rattle.heap_law.proofs.Names.{same_mutexes}
 use Rattle.turn_law.proofs.Parts.{Own, owned_in}
 use Rattle.turn_law.proofs.OneTurn.{of_thread, Calm, after}
-use Rattle.lock_law.proofs.Reach.{or_cases, or_left, or_right, NoneUnder, with_extra, here, stays_in, comes_from}
-use Rattle.lock_law.proofs.Beside.{IsBeside, IsLoose, loose_beside, all_so, mine, any_mine, tot_of, cells_of}
+use Rattle.lock_law.proofs.Reach.{NoneUnder, with_extra}
+use Rattle.lock_law.proofs.Beside.{IsBeside, IsLoose, loose_beside, all_so, tot_of, cells_of}
+use Rattle.lock_law.proofs.OneNode as one_node
+use Rattle.lock_law.proofs.OneNode.{named_under, owned_under}
 use Rattle.lock_law.proofs.OneThread as one_thread
 use Rattle.lock_law.proofs.OneThread.{GoesOn, y, a, b, s, s2, LocksStay, same_but, locks_stay, same_owners}
 
--- what a content names, in its mutex
-abbrev pub named_under : (Node → Bool) → Node → MutexNo → Option Owned → Bool
-named_under f q m None = false
-named_under f q m (Some v) = named_in (owns q v) f (inside (mutex_n m))
-
--- whether it is named there
-abbrev pub owned_under : Node → Option Owned → ℕ
-owned_under q None = 0
-owned_under q (Some v) = one (owns q v)
-
+-- a new value of the mutex
 abbrev pub new_share : Bool → Node → MutexNo → ℕ
 new_share false q m = 0
 new_share true q m = one (owns q (owned.Mutex m))
 
-under_named : (f : Node → Bool) (q : Node) (m : MutexNo) (c : Option Owned) → named_under f q m c ≡ true → 1 ≤ owned_under q c
-under_named f q m None e = absurd (cc e)
-under_named f q m (Some v) e = by (owns q v) e
-  where
-    by : (b : Bool) → named_in b f (inside (mutex_n m)) ≡ true → 1 ≤ one b
-    by true d = omega arith
-    by false d = absurd (cc d)
-
-named_too : (f : Node → Bool) (q : Node) (m : MutexNo) (c : Option Owned) → (is_some c ≡ true → f (mutex_n m) ≡ true) → 1 ≤ owned_under q c → named_under f q m c ≡ true
-named_too f q m None e l = absurd (omega (arith, l))
-named_too f q m (Some v) e l = by (owns q v) l
-  where
-    by : (b : Bool) → 1 ≤ one b → named_in b f (inside (mutex_n m)) ≡ true
-    by true d = e refl
-    by false d = absurd (omega (arith, d))
-
 -- a mutex that is there
 abbrev pub shared_as : Option Plain → ℕ → Option Shared
 shared_as content shares = Some (record { content = content; shares = shares })
-
-some_there : (i : ℕ) → some i ≡ true → 1 ≤ i
-some_there zero e = absurd (cc e)
-some_there (suc i) e = omega arith
-
-there_some : (i : ℕ) → 1 ≤ i → some i ≡ true
-there_some zero l = absurd (omega (arith, l))
-there_some (suc i) l = refl
-
-one_of_two : (i j : ℕ) (C : Type 0) → (1 ≤ i → C) → (1 ≤ j → C) → 1 ≤ i + j → C
-one_of_two zero j C f g l = g (omega (arith, l))
-one_of_two (suc i) j C f g l = f (omega arith)
 
 module _ (k : Cluster) (R G G2 : List Thing) (n : ℕ) (x : ThreadState) (pc : ℕ) (slots temps : List Value) (calm : Calm x.phase) (loose : AllByRecursion IsLoose G) (loose2 : AllByRecursion IsLoose G2) (lone : tot (of_thread x.number) R ≡ 0) where
   abbrev z0 : ThreadState
@@ -104,26 +69,9 @@ module _ (k : Cluster) (R G G2 : List Thing) (n : ℕ) (x : ThreadState) (pc : �
   abbrev own2 : Node → ℕ
   own2 q = owned_in q slots + owned_in q temps
 
-  -- what the thread has is in the state, and so is what stands beside it
-  pub has : (q : Node) → 1 ≤ own q → In q ≡ true
-  has q l =
-      here k (mine n x G) R q
-      (any_mine n x G (s k R G G2 n x z0) In q ∙ or_right (any_named (s k R G G2 n x z0) In q G) (some (own q)) (there_some (own q) l))
-
-  pub has_beside : (q : Node) → any_named (s k R G G2 n x z0) In q G ≡ true → In q ≡ true
-  has_beside q e =
-      here k (mine n x G) R q
-      (any_mine n x G (s k R G G2 n x z0) In q ∙ or_left (any_named (s k R G G2 n x z0) In q G) (some (own q)) e)
-
+  -- what the thread has is in the state
   pub has2 : (q : Node) → 1 ≤ own2 q → In2 q ≡ true
-  has2 q l =
-      here k (mine n y1 G2) R q
-      (any_mine n y1 G2 (s2 k R G G2 n x z0) In2 q ∙ or_right (any_named (s2 k R G G2 n x z0) In2 q G2) (some (own2 q)) (there_some (own2 q) l))
-
-  pub has_beside2 : (q : Node) → any_named (s2 k R G G2 n x z0) In2 q G2 ≡ true → In2 q ≡ true
-  has_beside2 q e =
-      here k (mine n y1 G2) R q
-      (any_mine n y1 G2 (s2 k R G G2 n x z0) In2 q ∙ or_left (any_named (s2 k R G G2 n x z0) In2 q G2) (some (own2 q)) e)
+  has2 = one_node.has2 k R G G2 n x z0
 
   loose_cells : (o : ObjNo) (xs : List Thing) → AllByRecursion IsLoose xs → tot (λ v. told ones (cell_value o v)) xs ≡ 0
   loose_cells o [] h = refl
@@ -133,6 +81,10 @@ module _ (k : Cluster) (R G G2 : List Thing) (n : ℕ) (x : ThreadState) (pc : �
       by (lies r i c) l = absurd l
       by (flies w c) l = absurd l
       by _ l = refl
+
+  -- so is how many objects each thread has made
+  pub made_stays : (u : ℕ) → (state_of (s k R G G2 n x z0)).made u ≡ (state_of (s2 k R G G2 n x z0)).made u
+  made_stays = one_thread.made_same k R G G2 n x z0 beside beside2 lone locks calm.goes refl refl
 
   -- what is shown once stays so, whoever is in the state
   pub once_then : Once (s k R G G2 n x z0)
@@ -147,24 +99,9 @@ module _ (k : Cluster) (R G G2 : List Thing) (n : ℕ) (x : ThreadState) (pc : �
           omega (arith, loose_cells o G2 loose2, once.cells o, tot_of n x G R (λ v. told ones (cell_value o v)) flat)
 
   module _ (m : MutexNo) (under under2 : Option Owned) (fresh : Bool) (even : (q : Node) → own q + owned_under q under + new_share fresh q m ≡ own2 q + owned_under q under2)
-      (named : (f : Node → Bool) (q : Node) → any_named (s k R G G2 n x z0) f q G ≡ named_under f q m under) (named2 : (f : Node → Bool) (q : Node) → any_named (s2 k R G G2 n x z0) f q G2 ≡ named_under f q m under2)
+      (named : (f : Node → Bool) (q : Node) → any_named (s k R G G2 n x z0) f q G ≡ named_under f q (mutex_n m) under) (named2 : (f : Node → Bool) (q : Node) → any_named (s2 k R G G2 n x z0) f q G2 ≡ named_under f q (mutex_n m) under2)
       (inside_it : is_some under ≡ true → In (mutex_n m) ≡ true) (inside_then : is_some under2 ≡ true → In2 (mutex_n m) ≡ true)
       (extra : Node → Bool) (new_in : fresh ≡ true → with_extra In extra (mutex_n m) ≡ true) (extra_in : (q : Node) → extra q ≡ true → In2 q ≡ true) (none : NoneUnder (s k R G G2 n x z0) extra R) where
-    had_by_then : (q : Node) → 1 ≤ own2 q + owned_under q under2 → In2 q ≡ true
-    had_by_then q l =
-        one_of_two (own2 q) (owned_under q under2) (In2 q ≡ true) (has2 q) (λ d. has_beside2 q (named2 In2 q ∙ named_too In2 q m under2 inside_then d)) l
-
-    goes_in : (q : Node) → 1 ≤ own q + owned_under q under → In2 q ≡ true
-    goes_in q l = had_by_then q (omega (arith, l, even q))
-
-    stay : (q : Node) → In q ≡ true → In2 q ≡ true
-    stay =
-        stays_in k (mine n x G) (mine n y1 G2) R (same_owners k R G G2 n x z0 beside beside2 lone locks)
-        (λ q e. or_cases (any_named (s k R G G2 n x z0) In2 q G) (some (own q)) (In2 q ≡ true)
-        (λ d. let l = under_named In2 q m under (sym (named In2 q) ∙ d) in goes_in q (omega (arith, l)))
-        (λ d. let l = some_there (own q) d in goes_in q (omega (arith, l)))
-        (sym (any_mine n x G (s k R G G2 n x z0) In2 q) ∙ e))
-
     abbrev F : Node → Bool
     F = with_extra In extra
 
@@ -184,28 +121,9 @@ module _ (k : Cluster) (R G G2 : List Thing) (n : ℕ) (x : ThreadState) (pc : �
         by true e d = of q d (new_in e)
         by false e d = absurd (omega (arith, d))
 
-    came : (q : Node) → 1 ≤ own2 q + owned_under q under2 → F q ≡ true
-    came q l =
-        let in_it : 1 ≤ own q + owned_under q under → F q ≡ true = λ d. or_left (In q) (extra q) (one_of_two (own q) (owned_under q under) (In q ≡ true) (has q) (λ u. has_beside q (named In q ∙ named_too In q m under inside_it u)) d) in
-        one_of_two (own q + owned_under q under) (new_share fresh q m) (F q ≡ true) in_it (is_new q) (omega (arith, l, even q))
-
-    come : (q : Node) → In2 q ≡ true → F q ≡ true
-    come =
-        comes_from k (mine n x G) (mine n y1 G2) R (same_owners k R G G2 n x z0 beside beside2 lone locks) extra none
-        (λ q e. or_cases (any_named (s2 k R G G2 n x z0) F q G2) (some (own2 q)) (F q ≡ true)
-        (λ d. let l = under_named F q m under2 (sym (named2 F q) ∙ d) in came q (omega (arith, l)))
-        (λ d. let l = some_there (own2 q) d in came q (omega (arith, l)))
-        (sym (any_mine n y1 G2 (s2 k R G G2 n x z0) F q) ∙ e))
-
     -- who is in the state afterwards
     pub in_then : (q : Node) → In2 q ≡ F q
-    in_then q = by (In2 q) refl (F q) refl
-      where
-        by : (c : Bool) → In2 q ≡ c → (d : Bool) → F q ≡ d → In2 q ≡ F q
-        by true e true f = e ∙ sym f
-        by false e false f = e ∙ sym f
-        by true e false f = absurd (cc (sym f ∙ come q e))
-        by false e true f = absurd (cc (sym e ∙ or_cases (In q) (extra q) (In2 q ≡ true) (stay q) (extra_in q) f))
+    in_then = one_node.in_then k R G G2 n x z0 beside beside2 lone locks (mutex_n m) under under2 (λ q. new_share fresh q m) even named named2 inside_it inside_then extra is_new extra_in none
 
     in_same : (q : Node) → extra q ≡ false → In q ≡ In2 q
     in_same = same_but In In2 extra in_then
@@ -232,7 +150,7 @@ module _ (k : Cluster) (R G G2 : List Thing) (n : ℕ) (x : ThreadState) (pc : �
         (shares1 : (w : MutexNo) → tot (share_in s_now w) G ≡ owned_under (mutex_n w) under) (shares2 : (w : MutexNo) → tot (share_in s_then w) G2 ≡ owned_under (mutex_n w) under2)
         (contents : (w : MutexNo) → w ≢ m → first_shown (content_value s_now w) G ≡ first_shown (content_value s_then w) G2) where
       pub thread_goes : is_given_thread s_now x.number ≡ true → GoesOn x.number (running_at x) (running_at y1) (state_of s_now) (state_of s_then)
-      thread_goes named_it = one_thread.goes_on k R G G2 n x z0 beside beside2 lone locks extra none in_same no_task results calm calm0 started refl named_it
+      thread_goes named_it = one_thread.goes_on k R G G2 n x z0 beside beside2 lone locks extra none in_same no_task results calm calm0 started named_it
 
       pub objects_stay : (o : ObjNo) → object_value s_now o ≡ object_value s_then o
       objects_stay o =

@@ -27,7 +27,7 @@ use Rattle.heap_law.specs.Sharing.{got_phase, has_ended}
 use Rattle.heap_law.specs.Naming.{started_at, made_at}
 use Rattle.heap_law.specs.Weights.{is_thread}
 use Rattle.heap_law.specs.OneHeap.{Node, object_n, mutex_n, task_n, Owner, a_thread, inside, outside, content_owner, gift_owner, gift_owner_of, owner_of, names, owner_in, is_in_state, if_in, cell_value, or_else, first_shown, object_value, is_gift_of, content_value, share_in, if_there, in_pair_of, is_branch, branch_result, is_joined_by, result_value, result_of, ended_with, running_at, life_of, life_at, made_of, two_in, pair_of, is_given_thread, is_given_mutex, if_given, state_of}
-use Rattle.still_law.proofs.Alike.{Once}
+use Rattle.still_law.proofs.Alike.{Once, SeenAt, LocksSeeIn, all_seen}
 use Rattle.still_law.proofs.Counting.{shown_result, gifted, stray}
 use Rattle.still_law.proofs.Told.{told, ones}
 use Rattle.path_law.proofs.Contained.{among_thread}
@@ -71,13 +71,12 @@ all_alike : (t : ℕ) (P : Thing → Type 0) → ((x : Thing) → of_thread t x 
 all_alike t P e [] z = tt
 all_alike t P e (x ∷ xs) z = (e x (omega (arith, z)), all_alike t P e xs (omega (arith, z)))
 
--- one thread goes on from its place in the plain state, and the others are as they were
+-- one thread goes on from its place in the plain state, and the others are as they were. (How many objects it has made is told apart)
 pub record GoesOn (t : ℕ) (p q : CodeRunning) (a b : CodeState) : Type 0 where
   pub way : Going
   pub before : a.thread t ≡ Some (life_as way p)
   pub afterwards : b.thread t ≡ Some (life_as way q)
   pub others : (u : ℕ) → t ≢ u → a.thread u ≡ b.thread u
-  pub made : (u : ℕ) → a.made u ≡ b.made u
   pub pairs : (u : ℕ) → a.pair u ≡ b.pair u
 
 -- the thread, what stands beside it before and afterwards, and the others
@@ -108,41 +107,42 @@ module _ (k : Cluster) (R G G2 : List Thing) (n : ℕ) (x became : ThreadState) 
     pub other_seen : (u : ℕ) → t ≢ u → thread_at (threads_in a) u ≡ thread_at (threads_in b) u
     other_seen u ne = besides n x G R beside u ne ∙ sym (besides n y G2 R beside2 u ne)
 
-    -- WHERE CELLS STAY, PLACES LEAD AS BEFORE
+    -- WHERE THE CELLS THAT THE PLACES OF LOCKS PASS STAY, THESE LEAD AS BEFORE
 
-    module _ (cells : cells_in a ≡ cells_in b) where
+    module _ (seen : ObjNo → Bool) (cells : (o : ObjNo) → seen o ≡ true → value_of (cell_of (cells_in a) o) ≡ value_of (cell_of (cells_in b) o)) (paths : LocksSeeIn seen s) where
       module _ (u : ℕ) (ne : t ≢ u) where
         slot_same : (i : ℕ) → slot_of (thread_at (threads_in a) u) i ≡ slot_of (thread_at (threads_in b) u) i
         slot_same i = ap (λ o. slot_of o i) (other_seen u ne)
 
-        cell_same : (o : ObjNo) → value_of (cell_of (cells_in a) o) ≡ value_of (cell_of (cells_in b) o)
-        cell_same o = ap (λ cs. value_of (cell_of cs o)) cells
+        lead_same : (v : Option Value) → SeenAt seen (leads u v) → value_behind s.ground (leads u v) ≡ value_behind s2.ground (leads u v)
+        lead_same None p = refl
+        lead_same (Some value.Gone) p = refl
+        lead_same (Some (value.Own (owned.Box b))) p = cells b.object p
+        lead_same (Some (value.Own owned.Nothing)) p = refl
+        lead_same (Some (value.Own owned.Unit)) p = refl
+        lead_same (Some (value.Own (owned.Int i))) p = refl
+        lead_same (Some (value.Own (owned.Mutex m))) p = refl
+        lead_same (Some (value.Own (owned.Task w))) p = refl
+        lead_same (Some (value.SharedSlot i)) p = slot_same i
+        lead_same (Some (value.MutSlot i)) p = slot_same i
+        lead_same (Some (value.Shared r)) p = cells r.object p
+        lead_same (Some (value.Mut r)) p = cells r.object p
+        lead_same (Some (value.Held m)) p = refl
 
-        lead_same : (v : Option Value) → value_behind s.ground (leads u v) ≡ value_behind s2.ground (leads u v)
-        lead_same None = refl
-        lead_same (Some value.Gone) = refl
-        lead_same (Some (value.Own (owned.Box p))) = cell_same p.object
-        lead_same (Some (value.Own owned.Nothing)) = refl
-        lead_same (Some (value.Own owned.Unit)) = refl
-        lead_same (Some (value.Own (owned.Int i))) = refl
-        lead_same (Some (value.Own (owned.Mutex m))) = refl
-        lead_same (Some (value.Own (owned.Task w))) = refl
-        lead_same (Some (value.SharedSlot i)) = slot_same i
-        lead_same (Some (value.MutSlot i)) = slot_same i
-        lead_same (Some (value.Shared r)) = cell_same r.object
-        lead_same (Some (value.Mut r)) = cell_same r.object
-        lead_same (Some (value.Held m)) = refl
+        behind_same : (slot d : ℕ) → ((m : ℕ) → m ≤ d → SeenAt seen (locate s.ground u slot m)) → value_behind s.ground (locate s.ground u slot d) ≡ value_behind s2.ground (locate s2.ground u slot d)
+        behind_same slot zero p = slot_same slot
+        behind_same slot (suc d) p =
+            lead_same (value_behind s.ground (locate s.ground u slot d)) (p (suc d) (omega arith)) ∙ ap (λ w. value_behind s2.ground (leads u w)) (behind_same slot d (λ m l. p m (omega (arith, l))))
 
-        behind_same : (slot d : ℕ) → value_behind s.ground (locate s.ground u slot d) ≡ value_behind s2.ground (locate s2.ground u slot d)
-        behind_same slot zero = slot_same slot
-        behind_same slot (suc d) = ap (λ w. value_behind s.ground (leads u w)) (behind_same slot d) ∙ lead_same (value_behind s2.ground (locate s2.ground u slot d))
+      lock_leads : (u : ℕ) (w : Standing) → t ≢ w.thread.number → thread_at (threads_in a) u ≡ Some w → (i : Option Instr) → instr_of s w ≡ i → locked_mutex s w i ≡ locked_mutex s2 w i
+      lock_leads u w ne found (Some (instr.Lock p)) e = ap mutex_of (behind_same w.thread.number ne p.slot p.depth (paths u w p found e))
+      lock_leads u w ne found _ e = refl
 
-      lock_leads : (w : Standing) → t ≢ w.thread.number → (i : Option Instr) → locked_mutex s w i ≡ locked_mutex s2 w i
-      lock_leads w ne (Some (instr.Lock p)) = ap mutex_of (behind_same w.thread.number ne p.slot p.depth)
-      lock_leads w ne _ = refl
+      pub locks_lead : LocksStay
+      locks_lead u w ne found = lock_leads u w ne found (instr_of s w) refl
 
-      pub locks_stay : LocksStay
-      locks_stay u w ne found = lock_leads w ne (instr_of s w)
+    pub locks_stay : cells_in a ≡ cells_in b → LocksStay
+    locks_stay same = locks_lead (λ o. true) (λ o z. ap (λ cs. value_of (cell_of cs o)) same) (λ u w p found e m l. all_seen (locate s.ground w.thread.number p.slot m))
 
     -- a gift has its thread as before
     pub stray_stays : tot (stray s) R ≡ tot (stray s2) R
@@ -169,6 +169,27 @@ module _ (k : Cluster) (R G G2 : List Thing) (n : ℕ) (x became : ThreadState) 
           by : (o : Option Standing) → thread_at (threads_in a) u ≡ o → f o ≡ g o
           by None q = e
           by (Some w) q = h w (λ d. ne (d ∙ (among_thread (threads_in a) u w q).1)) q
+
+      -- what is the same of each thread, also of the one whose turn it is
+      for_all : {X : Type 0} (f g : Option Standing → X) → f (Some (me n x G)) ≡ g (Some (me n y G2)) → f None ≡ g None → ((z : Standing) → f (Some z) ≡ g (Some z)) → (u : ℕ) → f (thread_at (threads_in a) u) ≡ g (thread_at (threads_in b) u)
+      for_all f g e z h u =
+          eq_cases (λ q. (w : ℕ) → w ≡ u → f (thread_at (threads_in a) w) ≡ g (thread_at (threads_in b) w)) t u
+          (λ i w j. subst (λ (v : ℕ). f (thread_at (threads_in a) v) ≡ g (thread_at (threads_in b) v)) (i ∙ sym j) (ap f (itself n x G R beside) ∙ e ∙ sym (ap g (itself n y G2 R beside2))))
+          (λ ne w j. by_seen f g z w (λ v d q. h v) (λ d. ne (d ∙ j))) u refl
+
+      -- how many objects each thread has made
+      module _ (goes : is_over x.phase ≡ false) (goes2 : is_over became.phase ≡ false) where
+        pub made_same : x.made ≡ became.made → (u : ℕ) → (state_of s).made u ≡ (state_of s2).made u
+        made_same e = for_all made_of made_of (ap (λ q. if q then 0 else x.made) goes ∙ e ∙ sym (ap (λ q. if q then 0 else became.made) goes2)) refl (λ z. refl)
+
+        pub made_before : (state_of s).made t ≡ x.made
+        made_before = ap made_of (itself n x G R beside) ∙ ap (λ q. if q then 0 else x.made) goes
+
+        pub made_then : (state_of s2).made t ≡ became.made
+        made_then = ap made_of (itself n y G2 R beside2) ∙ ap (λ q. if q then 0 else became.made) goes2
+
+        pub made_others : (u : ℕ) → t ≢ u → (state_of s).made u ≡ (state_of s2).made u
+        made_others u ne = ap made_of (other_seen u ne)
 
       pub owner_stays : (th : Thing) → of_thread t th ≡ 0 → owner_of s th ≡ owner_of s2 th
       owner_stays (holds (as_gift u) v) e = by_seen (gift_owner_of s) (gift_owner_of s2) refl u (λ w ne q. gift_owned w (instr_of s w) (locks u w ne q)) (differs t u e)
@@ -383,20 +404,12 @@ module _ (k : Cluster) (R G G2 : List Thing) (n : ℕ) (x became : ThreadState) 
                 let flat : Own (λ v. started_at h c v ≡ 0) = record { slots = λ w i v. refl; temps = λ w i v. refl; shared = λ l w. refl; lent = λ l w. refl; marks = λ l w. refl; used = λ w v. refl } in
                 ap (λ m. u == 0 || (not (c == 0) && some m)) (tot_same (started_at h c) (started_at h c) flat flat (omega (arith, started h c)) (λ th z. refl))
 
-            -- what is the same of each thread, also of the one whose turn it is
-            for_all : {X : Type 0} (f g : Option Standing → X) → f (Some (me n x G)) ≡ g (Some (me n y G2)) → f None ≡ g None → ((z : Standing) → f (Some z) ≡ g (Some z)) → (u : ℕ) → f (thread_at (threads_in a) u) ≡ g (thread_at (threads_in b) u)
-            for_all f g e z h u =
-                eq_cases (λ q. (w : ℕ) → w ≡ u → f (thread_at (threads_in a) w) ≡ g (thread_at (threads_in b) w)) t u
-                (λ i w j. subst (λ (v : ℕ). f (thread_at (threads_in a) v) ≡ g (thread_at (threads_in b) v)) (i ∙ sym j) (ap f (itself n x G R beside) ∙ e ∙ sym (ap g (itself n y G2 R beside2))))
-                (λ ne w j. by_seen f g z w (λ v d q. h v) (λ d. ne (d ∙ j))) u refl
-
-            pub goes_on : x.made ≡ became.made → is_given_thread s t ≡ true → GoesOn t (running_at x) (running_at y) (state_of s) (state_of s2)
-            goes_on same_made named = record {
+            pub goes_on : is_given_thread s t ≡ true → GoesOn t (running_at x) (running_at y) (state_of s) (state_of s2)
+            goes_on named = record {
               way = going_of s t;
               before = ap₂ if_given named (ap (life_at s t) (itself n x G R beside) ∙ ap (life_of s x) calm.goes ∙ going_is s t (running_at x));
               afterwards =
                   ap₂ if_given (sym (given_same t) ∙ named) (ap (life_at s2 t) (itself n y G2 R beside2) ∙ ap (life_of s2 y) calm2.goes ∙ going_is s2 t (running_at y) ∙ ap (λ w. life_as w (running_at y)) (sym (way_same t)));
               others = λ u ne. ap₂ if_given (given_same u) (life_same u ne);
-              made = for_all made_of made_of (ap (λ q. if q then 0 else x.made) calm.goes ∙ same_made ∙ sym (ap (λ q. if q then 0 else became.made) calm2.goes)) refl (λ z. refl);
               pairs = for_all pair_of pair_of (calm.alone ∙ sym calm2.alone) refl (λ z. refl);
             }

@@ -33,7 +33,7 @@ use Rattle.turn_law.proofs.PlainReads.{shown_there}
 use Rattle.lock_law.proofs.Reach.{or_left, or_right, closes, here}
 use Rattle.lock_law.proofs.Beside.{mine, any_mine}
 use Rattle.lock_law.proofs.Changed.{state_before}
-use Rattle.lock_law.proofs.MutexTurns.{G, R, before}
+use Rattle.lock_law.proofs.ThreadTurns.{G, R, before}
 
 some_is : {A : Type 0} {a b : A} → Some a ≡ Some b → a ≡ b
 some_is e = cc

@@ -47,13 +47,13 @@ module _ (code : List Instr) (c : CodeWhole) (t : ℕ) (p q : CodeRunning) (a b 
   put : thread_at (with_thread c.threads w) t ≡ Some w
   put = put_at c.threads w t refl ∙ ap (put_in w) found
 
-  thread_same : (u : ℕ) → running_in (thread_at (with_thread c.threads w) u) ≡ b.thread u
+  pub thread_same : (u : ℕ) → running_in (thread_at (with_thread c.threads w) u) ≡ b.thread u
   thread_same u =
       eq_cases (λ r. running_in (thread_at (with_thread c.threads w) u) ≡ b.thread u) t u
       (λ e. subst (λ v. running_in (thread_at (with_thread c.threads w) v) ≡ b.thread v) e (ap running_in put ∙ ap Some (running_as turn.way q) ∙ sym turn.afterwards))
       (λ ne. ap running_in (put_off c.threads w u ne) ∙ same.threads u ∙ turn.others u ne)
 
-  over_same : (u : ℕ) → is_over_in (thread_at (with_thread c.threads w) u) ≡ is_over_in (thread_at c.threads u)
+  pub over_same : (u : ℕ) → is_over_in (thread_at (with_thread c.threads w) u) ≡ is_over_in (thread_at c.threads u)
   over_same u =
       eq_cases (λ r. is_over_in (thread_at (with_thread c.threads w) u) ≡ is_over_in (thread_at c.threads u)) t u
       (λ e. subst (λ v. is_over_in (thread_at (with_thread c.threads w) v) ≡ is_over_in (thread_at c.threads v)) e
@@ -62,13 +62,13 @@ module _ (code : List Instr) (c : CodeWhole) (t : ℕ) (p q : CodeRunning) (a b 
 
   -- a thread that goes on so, with mutexes that show what is shown afterwards, takes the one state to the other
   pub steps_with : (names : Fresh) (ms : List Mutex) (ls : List Label) → step_of (code_moves code) c names (Some (thread_as turn.way t p)) ≡ Some (goes_with c turn.way t q ms ls)
-      → ((o : ObjNo) → a.object o ≡ b.object o) → ((m : MutexNo) → mutex_there ms m ≡ b.mutex m) → ((m : MutexNo) → is_some (mutex_at ms m) ≡ b.is_given m) → StepsTo code c t names b ls
-  steps_with names ms ls does objects mutexes given = record {
+      → ((u : ℕ) → a.made u ≡ b.made u) → ((o : ObjNo) → a.object o ≡ b.object o) → ((m : MutexNo) → mutex_there ms m ≡ b.mutex m) → ((m : MutexNo) → is_some (mutex_at ms m) ≡ b.is_given m) → StepsTo code c t names b ls
+  steps_with names ms ls does made objects mutexes given = record {
     after = goes_with c turn.way t q ms ls;
     steps = ap (step_of (code_moves code) c names) found ∙ does;
     same = record {
       threads = thread_same;
-      made = λ u. ap (λ r. if r then 0 else length (made_by c.heap u)) (over_same u) ∙ same.made u ∙ turn.made u;
+      made = λ u. ap (λ r. if r then 0 else length (made_by c.heap u)) (over_same u) ∙ same.made u ∙ made u;
       pairs = λ u. ap (λ r. if r then None else two_of (pair_of c.pairs u)) (over_same u) ∙ same.pairs u ∙ turn.pairs u;
       objects = λ o. same.objects o ∙ objects o;
       mutexes = mutexes;

@@ -55,12 +55,12 @@ use Rattle.turn_law.proofs.Events.{AtStep, then_same}
 use Rattle.lock_law.proofs.Beside.{giftless, IsLoose, tot_of}
 use Rattle.lock_law.proofs.Changed.{lone, given, once_before, state_before}
 use Rattle.lock_law.proofs.Gifted.{started_here, made_here}
-use Rattle.lock_law.proofs.MutexTurns.{G, R, before, then_there, quiet, loose, Soon}
+use Rattle.lock_law.proofs.ThreadTurns.{G, R, before, then_there, quiet, loose, Soon}
 use Rattle.lock_law.proofs.OneMutex as one_mutex
 use Rattle.lock_law.proofs.OneThread.{GoesOn, past, mutex_given}
 use Rattle.lock_law.proofs.Places.{place_in}
 use Rattle.lock_law.proofs.PlainMutex.{goes_with, move_as, acts, steps_with, set_shows}
-use Rattle.lock_law.proofs.Change.{Change, thread_on, objects_on, mutexes_on, once_on}
+use Rattle.lock_law.proofs.Change.{Change, thread_on, made_on, objects_on, mutexes_on, once_on}
 
 -- THE HAND IS READY, AND THE MUTEX IS FOUND
 
@@ -196,7 +196,7 @@ module _ (k : Cluster) (co : IsCoherent k) (e : Event) (i : Instr) (single : is_
   s1 = before k co.sound e i single s t y a
 
   abbrev pub s2 : Sight
-  s2 = then_there k co.sound e i single s t y a (y.pc + 1) slots temps G2
+  s2 = then_there k co.sound e i single s t y a (after y (y.pc + 1) slots temps) G2
 
   abbrev pub it : Standing
   it = record { server = n; packed = false; thread = y }
@@ -263,7 +263,7 @@ module _ (k : Cluster) (co : IsCoherent k) (e : Event) (i : Instr) (single : is_
         let there : mutex_there c.mutexes m ≡ Some old = shown.mutexes m ∙ old_is in
         steps_with k.code c y.number (running_at y) (record { place = plug val; slots = more }) (state_of s1) (state_of s2) goes_to shown fresh.None (with_mutex c.mutexes m (Some new)) h2.work.labels
         (acts k.code (running_at y) act plug (ap (λ j. over_at j (shown_last y.temps)) a.code ∙ now) (ap (λ j. run_instr j y.pc (shown_last y.temps)) a.code ∙ move) goes_to.way c y.number fresh.None ∙ does c goes_to.way (behind c same) there)
-        (objects_on change) (set_shows c.mutexes m (Some new) old (λ u. (state_of s2).mutex u) there new_is (λ u ne. shown.mutexes u ∙ mutexes_on change u ne))
+        (made_on change) (objects_on change) (set_shows c.mutexes m (Some new) old (λ u. (state_of s2).mutex u) there new_is (λ u ne. shown.mutexes u ∙ mutexes_on change u ne))
         (λ u. given_set c.mutexes m (Some new) u ∙ shown.given u ∙ mutex_given k Others G1 G2 n y (after y (y.pc + 1) slots temps) (one_mutex.beside k Others G1 G2 n y (y.pc + 1) slots temps change.calm change.loose change.loose_then change.lone) (one_mutex.beside2 k Others G1 G2 n y (y.pc + 1) slots temps change.calm change.loose change.loose_then change.lone) change.lone (one_mutex.locks k Others G1 G2 n y (y.pc + 1) slots temps change.calm change.loose change.loose_then change.lone) made1 u)
 
     pub soon : Soon k co.sound e i single s t y a [] h2

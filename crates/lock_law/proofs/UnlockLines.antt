@@ -48,11 +48,11 @@ use Rattle.turn_law.proofs.Events.{AtStep, then_same}
 use Rattle.lock_law.proofs.Beside.{IsLoose, so_one, tot_of}
 use Rattle.lock_law.proofs.Changed.{lone, given, once_before, state_before}
 use Rattle.lock_law.proofs.Gifted.{or_false}
-use Rattle.lock_law.proofs.MutexTurns.{G, R, before, then_there, quiet, loose, MutexTurn, Next, is_step}
+use Rattle.lock_law.proofs.ThreadTurns.{G, R, before, then_there, quiet, loose, ThreadTurn, Next, is_step}
 use Rattle.lock_law.proofs.OneMutex as one_mutex
 use Rattle.lock_law.proofs.OneMutex.{shared_as}
 use Rattle.lock_law.proofs.OneThread.{GoesOn, past}
-use Rattle.lock_law.proofs.Change.{Change, thread_on, objects_on, mutexes_on, after_it}
+use Rattle.lock_law.proofs.Change.{Change, thread_on, made_on, objects_on, mutexes_on, after_it}
 use Rattle.lock_law.proofs.DupLines.{running_to}
 use Rattle.lock_law.specs.Locks.{marked, IsThere}
 use Rattle.lock_law.proofs.NewMutex.{rest_and_own, off_all, none_told}
@@ -145,7 +145,7 @@ module _ (k : Cluster) (sound : IsSound k) (e : Event) (s : Server) (t : ℕ) (x
     G2 = counts_then ∷ holds (as_content m) v ∷ []
 
     abbrev s2 : Sight
-    s2 = then_there k sound e i refl s t x at (x.pc + 1) rest x.temps G2
+    s2 = then_there k sound e i refl s t x at (after x (x.pc + 1) rest x.temps) G2
 
     lone1 : tot (of_thread x.number) Others ≡ 0
     lone1 = lone k sound e s at.here t x at.at at.number
@@ -259,7 +259,7 @@ module _ (k : Cluster) (sound : IsSound k) (e : Event) (s : Server) (t : ℕ) (x
           steps_with k.code c x.number (running_at x) q (state_of s1) (state_of s2) goes shown1 fresh.None (with_mutex c.mutexes m (Some new)) (label.Unlock m ∷ [])
           (acts k.code (running_at x) do_unlock plug (ap (λ j. over_at j (shown_last x.temps)) at.code) (ap (λ j. run_instr j x.pc (shown_last x.temps)) at.code) goes.way c x.number fresh.None
           ∙ unlock_does k.code c goes.way x.number (running_at x) plug m old (plain_of v) (shown_last rest) more there)
-          (objects_on change) (set_shows c.mutexes m (Some new) old (λ w. (state_of s2).mutex w) there new_is (λ w ne. shown1.mutexes w ∙ mutexes_on change w ne))
+          (made_on change) (objects_on change) (set_shows c.mutexes m (Some new) old (λ w. (state_of s2).mutex w) there new_is (λ w ne. shown1.mutexes w ∙ mutexes_on change w ne))
           (λ w. given_set c.mutexes m (Some new) w ∙ shown1.given w ∙ mutex_given k Others G1 G2 n x (after x (x.pc + 1) rest x.temps) (one_mutex.beside k Others G1 G2 n x (x.pc + 1) rest x.temps calm1 loose1 (tt, (tt, tt)) lone1) (one_mutex.beside2 k Others G1 G2 n x (x.pc + 1) rest x.temps calm1 loose1 (tt, (tt, tt)) lone1) lone1 (one_mutex.locks k Others G1 G2 n x (x.pc + 1) rest x.temps calm1 loose1 (tt, (tt, tt)) lone1) made1 w)
 
     abbrev sent_hand : Hand
@@ -284,17 +284,15 @@ module _ (k : Cluster) (sound : IsSound k) (e : Event) (s : Server) (t : ℕ) (x
                 omega (arith, goes.alike w z, at_n);
           }
 
-      turn : is_in_state s2 (mutex_n m) ≡ true → MutexTurn k sound e i refl s t x at d
+      turn : is_in_state s2 (mutex_n m) ≡ true → ThreadTurn k sound e i refl s t x at d
       turn in_then = record {
-        pc = x.pc + 1;
-        slots = rest;
-        temps = x.temps;
+        became = after x (x.pc + 1) rest x.temps;
         names = fresh.None;
         thread = thread_is;
         named = refl;
         comes = G2;
         moves = moves_to;
-        loose_too = (tt, (tt, tt));
+        beside = (tt, (tt, tt));
         unstray = refl;
         once = once_then;
         steps = steps in_then;
@@ -304,7 +302,7 @@ module _ (k : Cluster) (sound : IsSound k) (e : Event) (s : Server) (t : ℕ) (x
       there : Sends k e s (stepped s d) → is_in_state (sight (Next k sound e i refl s t x at d)) (mutex_n m) ≡ true → is_in_state s2 (mutex_n m) ≡ true
       there goes in_it =
           let same : SameState (one_heap (Next k sound e i refl s t x at d)) (state_of s2) =
-          changed.state_after k sound e s at.here t x at.at at.number d (x.pc + 1) rest x.temps thread_is G2 moves_to goes (all_so IsLoose IsBeside loose_beside G1 loose1) (tt, (tt, tt)) refl once_then in
+          changed.state_after k sound e s at.here t x at.at at.number d (after x (x.pc + 1) rest x.temps) thread_is G2 moves_to goes (all_so IsLoose IsBeside loose_beside G1 loose1) (tt, (tt, tt)) refl once_then in
           there_too (is_in_state s2 (mutex_n m)) (is_in_state (sight (Next k sound e i refl s t x at d)) (mutex_n m)) _ _ (sym (same.mutexes m)) in_it
 
   abbrev Wanted : Stepped → Type 0

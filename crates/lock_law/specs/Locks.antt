@@ -1,4 +1,4 @@
--- WHICH INSTRUCTIONS: those at mutexes. (A step that asks for an answer does no plain step)
+-- WHICH INSTRUCTIONS: those at mutexes, and those that make objects. (A step that asks for an answer does no plain step)
 use Rattle.std.specs.Prelude.{◌≡◌, Bool, true, false, Option, Some, None}
 use Rattle.std.specs.Bool.{⊤}
 use Rattle.fr_base.specs.Lists.{last_of}
@@ -16,6 +16,11 @@ use Rattle.heap_law.specs.OneHeap.{mutex_n, is_in_state}
 use Rattle.heap_law.specs.Coherent.{IsSound}
 use Rattle.event_law.specs.Laws.{Gives, FewEvents}
 use Rattle.turn_law.specs.Turns.{IsPlainStep, instr_of, thread_of}
+
+-- a box of a new object
+abbrev pub makes_box : Instr → Bool
+makes_box (instr.Box o) = true
+makes_box i = false
 
 -- a new mutex of a value
 abbrev pub makes_mutex : Instr → Bool

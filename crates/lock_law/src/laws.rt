@@ -1,5 +1,5 @@
 ghost use Rattle.heap_law.specs.Coherent.{IsSound};
-ghost use Rattle.lock_law.specs.Locks.{UnlocksArePlain, dups_mutex, locks_mutex, makes_mutex};
+ghost use Rattle.lock_law.specs.Locks.{UnlocksArePlain, dups_mutex, locks_mutex, makes_box, makes_mutex};
 ghost use Rattle.turn_law.specs.Turns.{ArePlainSteps};
 ghost use Rattle.type_law.specs.ClusterTypes.{IsCoherent};
 
@@ -20,4 +20,9 @@ pub fn new_mutex_steps()
 /// From a sound cluster, so is an unlock of a mutex of which some value is in the state afterwards: the value of the last slot is the content again, and both slots go.
 pub fn unlock_steps()
     ensures { UnlocksArePlain }
+{}
+
+/// From a coherent cluster, so is each step that makes an object: it is the thread's next one, its value is that of the box's operand, and no place of a lock passes it.
+pub fn box_steps()
+    ensures { ArePlainSteps IsCoherent makes_box }
 {}

@@ -667,7 +667,7 @@ module _ (k c : Cluster) (code : c.code ≡ k.code) (once : Once (sight k)) wher
   pub heeds_same_heap : (seen : ObjNo → Bool) → ((o : ObjNo) → seen o ≡ false → is_named (sight k) (object_n o) ≡ false) → LocksSee seen k → HeedAlike seen (sight k) (things_of k) (things_of c) → SameState (one_heap c) (one_heap k)
   heeds_same_heap seen covers paths alike = heeds_same_state k c (things_of k) (things_of c) code once seen covers paths alike (no_stray k once.threads) (no_stray c)
 
-all_seen : (l : Option Location) → SeenAt (λ o. true) l
+pub all_seen : (l : Option Location) → SeenAt (λ o. true) l
 all_seen None = tt
 all_seen (Some (at_slot t i)) = tt
 all_seen (Some (at_temp t i)) = tt
@@ -697,6 +697,14 @@ module _ (k : Cluster) (a b : List Thing) (once : Once (with_things k a)) (alike
   -- a spot has the same owner, and a gift counts as the same
   pub same_spots : (p : Spot) → spot_owner (with_things k a) p ≡ spot_owner (with_things k b) p
   same_spots p = spot_same k k a b refl once (λ o. true) (λ o e. absurd (cc e)) all_locks (λ w z n. alike w z) given given2 p
+
+  -- a thread shows the same, and a place leads alike
+  pub same_threads : (t : ℕ) → option_map shown_of (thread_at (threads_in a) t) ≡ option_map shown_of (thread_at (threads_in b) t)
+  same_threads t = thread_same k k a b refl once (λ o. true) (λ o e. absurd (cc e)) all_locks (λ w z n. alike w z) given given2 t
+
+  pub same_places : (t slot n : ℕ) → locate (with_things k a).ground t slot n ≡ locate (with_things k b).ground t slot n
+  same_places t slot n =
+      place_same k k a b refl once (λ o. true) (λ o e. absurd (cc e)) all_locks (λ w z n. alike w z) given given2 t slot n (λ m l. all_seen (locate (with_things k a).ground t slot m))
 
   pub same_gifts : (t : ℕ) → gift_spot (with_things k a) t ≡ gift_spot (with_things k b) t
   same_gifts t = places_same k k a b refl once (λ o. true) (λ o e. absurd (cc e)) all_locks (λ w z n. alike w z) given given2 t

@@ -37,7 +37,7 @@ use Rattle.turn_law.proofs.Events.{AtStep, then_same}
 use Rattle.lock_law.proofs.Beside.{itself}
 use Rattle.lock_law.proofs.DupLines.{running_to}
 use Rattle.lock_law.proofs.Changed as changed
-use Rattle.lock_law.proofs.MutexTurns.{MutexTurn, Soon, settles, mutex_steps}
+use Rattle.lock_law.proofs.ThreadTurns.{ThreadTurn, Soon, settles, turn_steps}
 use Rattle.task_law.specs.Tasks.{joins_thread}
 use Rattle.task_law.proofs.Taken.{ResultsTaken, R, G, beside}
 use Rattle.task_law.proofs.JoinTakes.{s1, s2, calm, result_taken, once_then}
@@ -99,7 +99,7 @@ module _ (k : Cluster) (sound : IsSound k) (e : Event) (o : Operand) (s : Server
   start = record { work = begin_work s.rest; thread = x }
 
   abbrev Wanted : Stepped → Type 0
-  Wanted d = (names : Fresh) → d.names ≡ Some names → MutexTurn k sound e i refl s t x at d
+  Wanted d = (names : Fresh) → d.names ≡ Some names → ThreadTurn k sound e i refl s t x at d
 
   module _ (v : Owned) (gift : x.gift ≡ Some v) where
     -- a task is popped, and it is the one that is joined
@@ -161,5 +161,5 @@ pub joins : ArePlainSteps IsSound joins_thread
 joins k e i q it sound few = by i q it
   where
     by : (i : Instr) → instr_of k e ≡ Some i → joins_thread i ≡ true → Gives (IsPlainStep k) (apply k e)
-    by (instr.Join o) q it = mutex_steps k sound e (instr.Join o) refl few (λ s t x at. join_line k sound e o s t x at) q
+    by (instr.Join o) q it = turn_steps k sound e (instr.Join o) refl few (λ s t x at. join_line k sound e o s t x at) q
     by _ q it = absurd (cc it)

@@ -36,10 +36,11 @@ use Rattle.turn_law.proofs.Instructions.{Pops, owned_push}
 use Rattle.turn_law.proofs.Events.{AtStep}
 use Rattle.lock_law.proofs.Reach.{SameOwners, NoneUnder, or_left, or_right, or_cases, with_extra, here, stays_in, comes_from}
 use Rattle.lock_law.proofs.Beside.{giftless, IsBeside, so_one, mine, any_mine, first_with, tot_of}
+use Rattle.lock_law.proofs.OneNode.{some_there, there_some, one_of_two, is_one}
 use Rattle.lock_law.proofs.OneThread as one_thread
 use Rattle.lock_law.proofs.OneThread.{past, none_got}
 use Rattle.lock_law.proofs.Changed as changed
-use Rattle.lock_law.proofs.MutexTurns.{quiet}
+use Rattle.lock_law.proofs.ThreadTurns.{quiet}
 use Rattle.lock_law.proofs.Gifted.{is_it, owner_there, gift_names, gift_shares, gift_result, gift_contents}
 use Rattle.lock_law.proofs.NewMutex.{rest_and_own}
 use Rattle.lock_law.proofs.SharedLines.{shown_counts}
@@ -47,22 +48,6 @@ use Rattle.task_law.proofs.Taken as taken
 use Rattle.task_law.proofs.Taken.{ResultsTaken, Takes, branch_flat, value_flat, results_taken}
 
 -- SMALL FACTS
-
-there_some : (i : ℕ) → 1 ≤ i → some i ≡ true
-there_some zero l = absurd (omega (arith, l))
-there_some (suc i) l = refl
-
-some_there : (i : ℕ) → some i ≡ true → 1 ≤ i
-some_there zero e = absurd (cc e)
-some_there (suc i) e = omega arith
-
-one_of_two : (i j : ℕ) (C : Type 0) → (1 ≤ i → C) → (1 ≤ j → C) → 1 ≤ i + j → C
-one_of_two zero j C f g l = g (omega (arith, l))
-one_of_two (suc i) j C f g l = f (omega arith)
-
-is_one : (b : Bool) → 1 ≤ one b → b ≡ true
-is_one true l = refl
-is_one false l = absurd (omega (arith, l))
 
 itself_named : (u : ℕ) → (u == u) ≡ true
 itself_named u = eq_cases (λ b. b ≡ true) u u (λ _. refl) (λ ne. absurd (ne refl))

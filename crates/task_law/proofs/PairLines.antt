@@ -103,7 +103,7 @@ module _ (k : Cluster) (sound : IsSound k) (e : Event) (s : Server) (t : ℕ) (x
             let cache = (copies_ready start cs []).0.moves in
             let moves : Moves (counts_of n 0 s.rest ∷ []) (counts_of n 0 s.rest ∷ []) s.rest d.hand.work.rest = record { number = refl; alike = λ w z. (let same_rest = cache.alike w z in omega (arith, same_rest)) } in
             let after_it : SameState (one_heap (Next d)) (state_of (s2 k sound e s t x at p q got)) =
-            changed.state_after k sound e s at.here t x at.at at.number d (x.pc + 1) x.slots x.temps thread (counts_of n 0 s.rest ∷ []) moves sends (beside k sound e instr.ParEnd s t x at (x.pc + 1) x.slots x.temps) (tt, tt) refl (once_then k sound e s t x at p q got) in
+            changed.state_after k sound e s at.here t x at.at at.number d (after x (x.pc + 1) x.slots x.temps) thread (counts_of n 0 s.rest ∷ []) moves sends (beside k sound e instr.ParEnd s t x at (x.pc + 1) x.slots x.temps) (tt, tt) refl (once_then k sound e s t x at p q got) in
             let own : x.number ≡ u = cc in
             let named : fresh.None ≡ names = (let r : Some fresh.None ≡ Some names = done in cc) in
             let went = steps c same in

@@ -23,7 +23,7 @@ use Rattle.heap_law.specs.Requests.{home_of}
 use Rattle.heap_law.specs.Sharing.{has_ended}
 use Rattle.heap_law.specs.Naming.{count_of, started_at, made_at, uncounted_thread, zeroth_thread}
 use Rattle.heap_law.specs.Weights.{is_thread}
-use Rattle.heap_law.specs.OneHeap.{Node, object_n, mutex_n, task_n, is_in_state, is_branch, if_in, or_else, first_shown, cell_value, share_in, content_value, branch_result, result_value, result_of, ended_with, running_at, life_of, life_at, made_of, pair_of, is_given_thread, if_given, state_of}
+use Rattle.heap_law.specs.OneHeap.{Node, object_n, mutex_n, task_n, is_in_state, is_branch, if_in, or_else, first_shown, cell_value, share_in, content_value, branch_result, result_value, result_of, ended_with, running_at, life_of, life_at, pair_of, is_given_thread, if_given, state_of}
 use Rattle.heap_law.specs.Coherent.{IsSound}
 use Rattle.event_law.proofs.Bags.{counts_of}
 use Rattle.still_law.proofs.Alike.{Once}
@@ -35,7 +35,7 @@ use Rattle.turn_law.proofs.OneTurn.{Going, as_loose, as_owing, life_as, going_of
 use Rattle.turn_law.proofs.Events.{AtStep, given_by_count}
 use Rattle.lock_law.proofs.Reach.{NoneUnder}
 use Rattle.lock_law.proofs.Beside.{IsBeside, IsLoose, loose_beside, all_so, gift_uncounted, all_of, first_with, tot_of, itself, cells_of}
-use Rattle.lock_law.proofs.MutexTurns.{gift_loose}
+use Rattle.lock_law.proofs.ThreadTurns.{gift_loose}
 use Rattle.lock_law.proofs.OneThread as one_thread
 use Rattle.lock_law.proofs.OneThread.{past, first_alike}
 use Rattle.lock_law.proofs.Changed as changed
@@ -257,12 +257,6 @@ module _ (k : Cluster) (sound : IsSound k) (e : Event) (i : Instr) (s : Server) 
 
       -- THE STATE
 
-      seen_by : {X : Type 0} (f : Option Standing → X) (u : ℕ) → f (Some (record { server = n; packed = false; thread = x })) ≡ f (Some (record { server = n; packed = false; thread = y })) → f (thread_at (threads_in s1.things) u) ≡ f (thread_at (threads_in s2.things) u)
-      seen_by f u h =
-          eq_cases (λ b. (w : ℕ) → w ≡ u → f (thread_at (threads_in s1.things) w) ≡ f (thread_at (threads_in s2.things) w)) x.number u
-          (λ i w j. subst (λ (v : ℕ). f (thread_at (threads_in s1.things) v) ≡ f (thread_at (threads_in s2.things) v)) (i ∙ sym j) (ap f (itself n x G R beside) ∙ h ∙ sym (ap f (itself n y G2 R (tt, tt)))))
-          (λ ne w j. ap f (seen_there w (λ d. ne (d ∙ j)))) u refl
-
       no_cells_in : (o : ObjNo) → first_shown (cell_value o) G ≡ None
       no_cells_in o = by x.gift
         where
@@ -282,7 +276,7 @@ module _ (k : Cluster) (sound : IsSound k) (e : Event) (i : Instr) (s : Server) 
             ended_before = λ u m. ap₂ if_given (c.its_given u m) (its_life u m ∙ ap ended_with (c.result u m));
             taken = λ u m. ap₂ if_given (sym (given_same u) ∙ c.its_given u m) (its_life_then u m ∙ ap ended_with (result_after u m));
             others = λ u ne off. ap₂ if_given (given_same u) (other_life u ne off);
-            made = λ u. seen_by made_of u (ap (λ c. if c then 0 else x.made) goes);
+            made = one_thread.made_same k R G G2 n x z beside (tt, tt) lone1 locks goes refl refl;
             alone = ap pair_of (itself n y G2 R (tt, tt));
             pairs = λ u ne. ap pair_of (seen_there u ne);
             objects = λ o. one_thread.object_same k R G G2 n x z beside (tt, tt) lone1 locks gone c.none c.same o (c.no_object o) (no_cells_in o);

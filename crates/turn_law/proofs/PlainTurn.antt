@@ -88,7 +88,8 @@ Does code p q ls = (g : Going) (c : CodeWhole) (t : ℕ) → step_of (code_moves
 abbrev pub DoesIn : CodeState → List Instr → ℕ → CodeRunning → CodeRunning → List Label → Type 0
 DoesIn a code t p q ls = (g : Going) (c : CodeWhole) → SameState (plain_state c) a → step_of (code_moves code) c fresh.None (Some (thread_as g t p)) ≡ Some (turned_to c g t q ls)
 
-none_released : (n : ℕ) (c : CodeWhole) → release_by n c plain.Nothing ≡ c
+-- nothing is let go
+pub none_released : (n : ℕ) (c : CodeWhole) → release_by n c plain.Nothing ≡ c
 none_released zero c = refl
 none_released (suc n) c = refl
 

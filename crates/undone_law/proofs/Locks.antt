@@ -25,6 +25,12 @@ use Rattle.still_law.proofs.Counting.{unnamed_out}
 use Rattle.still_law.proofs.Alike.{SeenAt, LocksSee}
 use Rattle.still_law.proofs.Drops.{named}
 
+seen_less : (f g : ObjNo → Bool) → ((o : ObjNo) → f o ≡ true → g o ≡ true) → (l : Option Location) → SeenAt f l → SeenAt g l
+seen_less f g h None p = tt
+seen_less f g h (Some (at_slot u i)) p = tt
+seen_less f g h (Some (at_temp u i)) p = tt
+seen_less f g h (Some (in_cell o)) p = h o p
+
 module _ (k : Cluster) (c : HasPaths k) where
   -- what is in the one heap is named
   in_heap : (o : ObjNo) (p : Option Plain) → object_value (sight k) o ≡ p → is_some p ≡ true → named k o ≡ true
@@ -50,15 +56,16 @@ module _ (k : Cluster) (c : HasPaths k) where
           let ends : other (is_end (instr_of (sight k) x)) ≡ 1 = ap (λ i. other (is_end i)) at in
           absurd (omega (arith, all, ends))
 
-  pub locks_see : LocksSee (named k) k
-  locks_see t x w there at n within = by (locate (sight k).ground x.thread.number w.slot n) refl
+  -- what its place passes is in the one heap
+  pub locks_pass : LocksSee (λ o. is_some (object_value (sight k) o)) k
+  locks_pass t x w there at n within = by (locate (sight k).ground x.thread.number w.slot n) refl
     where
       goes : GoesOn k x
       goes =
           let among = (among_thread (threads_in (things_of k)) t x there).0 in
           record { among = among; going = goes_on x w at (none_of (dressed (sight k)) x (sight k).ground.threads c.over_are_bare among) }
 
-      by : (l : Option Location) → locate (sight k).ground x.thread.number w.slot n ≡ l → SeenAt (named k) l
+      by : (l : Option Location) → locate (sight k).ground x.thread.number w.slot n ≡ l → SeenAt (λ o. is_some (object_value (sight k) o)) l
       by None e = tt
       by (Some (at_slot u i)) e = tt
       by (Some (at_temp u i)) e = tt
@@ -67,6 +74,10 @@ module _ (k : Cluster) (c : HasPaths k) where
           let value = heap_of_shown k c x goes o shown.1 in
           seen (object_value (sight k) o) refl value.1
         where
-          seen : (p : Option Plain) → object_value (sight k) o ≡ p → {v : Val} → seen_cell c.types.typing.gives p ≡ Some v → named k o ≡ true
+          seen : (p : Option Plain) → object_value (sight k) o ≡ p → {v : Val} → seen_cell c.types.typing.gives p ≡ Some v → is_some (object_value (sight k) o) ≡ true
           seen None q r = absurd (cc r)
-          seen (Some v) q r = in_heap o (Some v) q refl
+          seen (Some v) q r = ap is_some q
+
+  pub locks_see : LocksSee (named k) k
+  locks_see t x w there at n within =
+      seen_less (λ o. is_some (object_value (sight k) o)) (named k) (λ o h. in_heap o (object_value (sight k) o) refl h) (locate (sight k).ground x.thread.number w.slot n) (locks_pass t x w there at n within)

@@ -1,4 +1,4 @@
--- A step at a mutex, from what it leaves of its server to the event: it is that plain step on the cluster's one heap.
+-- A step of one thread, from what it leaves of its server to the event: it is that plain step on the cluster's one heap.
 use Rattle.std.proofs.Common.{◌≡◌, ℕ, ◌+◌, false, List, [], ◌∷◌, ◌++◌, length, Option, Some, None, option_map, refl, sym, ap, ◌∙◌, subst, arith}
 use Rattle.std.specs.List.{AllByRecursion}
 use Rattle.fr_base.specs.declared.step.Fresh.{Fresh}
@@ -34,10 +34,10 @@ use Rattle.still_law.specs.Shows.{sign_of}
 use Rattle.still_law.proofs.Sites.{shown, Moves}
 use Rattle.still_law.proofs.Readied.{Readied, copies_ready}
 use Rattle.turn_law.specs.Turns.{StepsTo, IsPlainStep, instr_of}
-use Rattle.turn_law.proofs.OneTurn.{Calm}
+use Rattle.turn_law.proofs.OneTurn.{Calm, after}
 use Rattle.turn_law.proofs.Events.{AtStep, Sends, calm, events_are_plain, then_same}
 use Rattle.lock_law.proofs.Beside.{giftless, IsBeside, IsLoose, loose_beside, all_so, all_of}
-use Rattle.lock_law.proofs.OneThread.{past}
+use Rattle.lock_law.proofs.OneThread.{next}
 use Rattle.lock_law.proofs.Changed as changed
 
 -- a gift and another thing
@@ -56,8 +56,8 @@ module _ (k : Cluster) (sound : IsSound k) (e : Event) (i : Instr) (single : is_
   abbrev pub before : Sight
   before = with_things k (all_of s.rest.number x G R)
 
-  abbrev pub then_there : ℕ → List Value → List Value → List Thing → Sight
-  then_there pc slots temps G2 = with_things k (all_of s.rest.number (past x pc slots temps) G2 R)
+  abbrev pub then_there : ThreadState → List Thing → Sight
+  then_there became G2 = with_things k (all_of s.rest.number (next x became) G2 R)
 
   pub quiet : Calm x.phase
   quiet = calm k e sound i s at.here t x at.at at.number at.on at.code single
@@ -65,46 +65,44 @@ module _ (k : Cluster) (sound : IsSound k) (e : Event) (i : Instr) (single : is_
   pub loose : AllByRecursion IsLoose G
   loose = gift_loose x.number (counts_of s.rest.number s.events s.rest) tt x.gift
 
-  -- what the thread has afterwards, what comes in the place of its gift and the counts, and that the plain machine does the same
-  pub record MutexTurn (d : Stepped) : Type 0 where
-    pub pc : ℕ
-    pub slots : List Value
-    pub temps : List Value
+  -- what the thread became, what comes in the place of its gift and the counts, and that the plain machine does the same
+  pub record ThreadTurn (d : Stepped) : Type 0 where
+    pub became : ThreadState
     pub names : Fresh
-    pub thread : d.hand.thread ≡ past x pc slots temps
+    pub thread : d.hand.thread ≡ next x became
     pub named : d.names ≡ Some names
     pub comes : List Thing
     pub moves : Moves comes (counts_of s.rest.number 0 s.rest ∷ []) s.rest d.hand.work.rest
-    pub loose_too : AllByRecursion IsLoose comes
-    pub unstray : tot (stray (then_there pc slots temps comes)) comes ≡ 0
-    pub once : Once (then_there pc slots temps comes)
-    pub steps : (c : CodeWhole) → SameState (plain_state c) (one_heap k) → StepsTo k.code c x.number names (state_of (then_there pc slots temps comes)) d.hand.work.labels
+    pub beside : AllByRecursion IsBeside comes
+    pub unstray : tot (stray (then_there became comes)) comes ≡ 0
+    pub once : Once (then_there became comes)
+    pub steps : (c : CodeWhole) → SameState (plain_state c) (one_heap k) → StepsTo k.code c x.number names (state_of (then_there became comes)) d.hand.work.labels
 
   abbrev pub Next : Stepped → Cluster
   Next d = record k { servers = hand_over_newer e.server (length s.rest.outbox) (stepped s d).0 k.servers }
 
-  pub is_step : (d : Stepped) → MutexTurn d → Sends k e s (stepped s d) → IsPlainStep k (Next d, (stepped s d).1)
+  pub is_step : (d : Stepped) → ThreadTurn d → Sends k e s (stepped s d) → IsPlainStep k (Next d, (stepped s d).1)
   is_step d turn sends u names who done c same =
       let own : x.number ≡ u = sym (ap (λ (v : ThreadState). v.number) turn.thread) ∙ (let r : d.hand.thread.number ≡ u = cc in r) in
       let named : turn.names ≡ names = (let r : Some turn.names ≡ Some names = sym turn.named ∙ done in cc) in
-      let steps : StepsTo k.code c x.number turn.names (state_of (then_there turn.pc turn.slots turn.temps turn.comes)) d.hand.work.labels = turn.steps c same in
-      let after : SameState (one_heap (Next d)) (state_of (then_there turn.pc turn.slots turn.temps turn.comes)) =
-      changed.state_after k sound e s at.here t x at.at at.number d turn.pc turn.slots turn.temps turn.thread turn.comes turn.moves sends (all_so IsLoose IsBeside loose_beside G loose) (all_so IsLoose IsBeside loose_beside turn.comes turn.loose_too) turn.unstray turn.once in
+      let steps : StepsTo k.code c x.number turn.names (state_of (then_there turn.became turn.comes)) d.hand.work.labels = turn.steps c same in
+      let after : SameState (one_heap (Next d)) (state_of (then_there turn.became turn.comes)) =
+      changed.state_after k sound e s at.here t x at.at at.number d turn.became turn.thread turn.comes turn.moves sends (all_so IsLoose IsBeside loose_beside G loose) turn.beside turn.unstray turn.once in
       let at_end : StepsTo k.code c x.number turn.names (one_heap (Next d)) d.hand.work.labels = record {
         after = steps.after;
         steps = steps.steps;
-        same = then_same (plain_state steps.after.state) (state_of (then_there turn.pc turn.slots turn.temps turn.comes)) (one_heap (Next d)) steps.same after;
+        same = then_same (plain_state steps.after.state) (state_of (then_there turn.became turn.comes)) (one_heap (Next d)) steps.same after;
         labelled = steps.labelled;
       } in
       subst (λ v. StepsTo k.code c v names (one_heap (Next d)) d.hand.work.labels) own (subst (λ f. StepsTo k.code c x.number f (one_heap (Next d)) d.hand.work.labels) named at_end)
 
 -- where each step of the instruction that is done is such a turn, each event that does it is that plain step
-pub mutex_steps : (k : Cluster) (sound : IsSound k) (e : Event) (i : Instr) (single : is_par_end (Some i) ≡ false) → FewEvents k
-    → ((s : Server) (t : ℕ) (x : ThreadState) (at : AtStep k e i s t x) → Gives (λ (d : Stepped). (names : Fresh) → d.names ≡ Some names → MutexTurn k sound e i single s t x at d) (step k.options.servers i (record { work = begin_work s.rest; thread = x })))
+pub turn_steps : (k : Cluster) (sound : IsSound k) (e : Event) (i : Instr) (single : is_par_end (Some i) ≡ false) → FewEvents k
+    → ((s : Server) (t : ℕ) (x : ThreadState) (at : AtStep k e i s t x) → Gives (λ (d : Stepped). (names : Fresh) → d.names ≡ Some names → ThreadTurn k sound e i single s t x at d) (step k.options.servers i (record { work = begin_work s.rest; thread = x })))
     → instr_of k e ≡ Some i → Gives (IsPlainStep k) (apply k e)
-mutex_steps k sound e i single few line =
+turn_steps k sound e i single few line =
     events_are_plain k e i sound few (λ s t x at.
-    weaker (λ (d : Stepped). (names : Fresh) → d.names ≡ Some names → MutexTurn k sound e i single s t x at d)
+    weaker (λ (d : Stepped). (names : Fresh) → d.names ≡ Some names → ThreadTurn k sound e i single s t x at d)
     (λ (d : Stepped). Sends k e s (stepped s d) → IsPlainStep k (record k { servers = hand_over_newer e.server (length s.rest.outbox) (stepped s d).0 k.servers }, (stepped s d).1)) (step k.options.servers i (record { work = begin_work s.rest; thread = x }))
     (line s t x at) (λ d turn sends u names who done. is_step k sound e i single s t x at d (turn names done) sends u names who done))
 
@@ -126,21 +124,19 @@ module _ (k : Cluster) (sound : IsSound k) (e : Event) (i : Instr) (single : is_
     pub temps : List Value
     pub thread : h.thread ≡ giftless (record ready_hand.thread { slots = slots; temps = temps })
     pub loose_too : AllByRecursion IsLoose comes
-    pub unstray : tot (stray (then_there k sound e i single s t x at (x.pc + 1) slots temps (counts_then ∷ comes))) comes ≡ 0
-    pub once : Once (then_there k sound e i single s t x at (x.pc + 1) slots temps (counts_then ∷ comes))
-    pub steps : (c : CodeWhole) → SameState (plain_state c) (one_heap k) → StepsTo k.code c x.number fresh.None (state_of (then_there k sound e i single s t x at (x.pc + 1) slots temps (counts_then ∷ comes))) h.work.labels
+    pub unstray : tot (stray (then_there k sound e i single s t x at (after x (x.pc + 1) slots temps) (counts_then ∷ comes))) comes ≡ 0
+    pub once : Once (then_there k sound e i single s t x at (after x (x.pc + 1) slots temps) (counts_then ∷ comes))
+    pub steps : (c : CodeWhole) → SameState (plain_state c) (one_heap k) → StepsTo k.code c x.number fresh.None (state_of (then_there k sound e i single s t x at (after x (x.pc + 1) slots temps) (counts_then ∷ comes))) h.work.labels
 
-  pub settles : (comes : List Thing) (o : Option Hand) → Gives (Soon comes) o → Gives (λ (d : Stepped). (names : Fresh) → d.names ≡ Some names → MutexTurn k sound e i single s t x at d) (committed (goes_on o))
+  pub settles : (comes : List Thing) (o : Option Hand) → Gives (Soon comes) o → Gives (λ (d : Stepped). (names : Fresh) → d.names ≡ Some names → ThreadTurn k sound e i single s t x at d) (committed (goes_on o))
   settles comes None g = tt
   settles comes (Some h) g = by (unpin_all h.thread.walk h.work.rest.cache)
     where
-      by : (o : Option (List Copy)) → Gives (λ (d : Stepped). (names : Fresh) → d.names ≡ Some names → MutexTurn k sound e i single s t x at d) (option_map (λ h2. record { hand = h2; names = Some fresh.None })
+      by : (o : Option (List Copy)) → Gives (λ (d : Stepped). (names : Fresh) → d.names ≡ Some names → ThreadTurn k sound e i single s t x at d) (option_map (λ h2. record { hand = h2; names = Some fresh.None })
           (option_map (λ cs. record { work = with_cache cs h.work; thread = record (go_on h).thread { passed = 0; walk = []; moved_since_step = false } }) o))
       by None = tt
       by (Some cs) = λ names named. record {
-        pc = x.pc + 1;
-        slots = g.slots;
-        temps = g.temps;
+        became = after x (x.pc + 1) g.slots g.temps;
         names = fresh.None;
         thread = ap (λ (y : ThreadState). record y { pc = y.pc + 1; phase = phase.Ready; passed = 0; walk = []; moved_since_step = false }) g.thread
             ∙ ap (λ (y : ThreadState). record y { pc = y.pc + 1; phase = phase.Ready; passed = 0; walk = []; moved_since_step = false; slots = g.slots; temps = g.temps; gift = None }) g.ready.thread;
@@ -159,7 +155,7 @@ module _ (k : Cluster) (sound : IsSound k) (e : Event) (i : Instr) (single : is_
               let f : Thing → ℕ = λ v. w (sign_of v) in
               omega (arith, first, second, third, tot-append f comes (rest_things n 0 s.rest), tot-append f comes (rest_things n 0 g.ready_hand.work.rest));
         };
-        loose_too = (tt, g.loose_too);
+        beside = (tt, all_so IsLoose IsBeside loose_beside comes g.loose_too);
         unstray = omega (arith, g.unstray);
         once = g.once;
         steps = g.steps;
