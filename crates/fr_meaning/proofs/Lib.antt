@@ -15,3 +15,6 @@ pub mod StandLemmas
 pub mod PoolLemmas
 pub mod ExampleLemmas
 pub mod StartLemmas
+pub mod LockSteps
+pub mod BodyLemmas
+pub mod ParentLemmas

@@ -35,7 +35,7 @@ use Rattle.fr_meaning.proofs.WholeSteps.{life_moves, end_moves, own_end, join_mo
 -- AN ACT OF ITS OWN
 
 -- a done term has its value
-done_value : {A : Type 0} (d : Done) (f : Value → A) (a : A) → on_value (now (over d)) f a ≡ f (value_of d)
+pub done_value : {A : Type 0} (d : Done) (f : Value → A) (a : A) → on_value (now (over d)) f a ≡ f (value_of d)
 done_value done.Unit f a = refl
 done_value (done.Number n) f a = refl
 done_value (done.Temp v) f a = refl
@@ -121,7 +121,7 @@ run_owns fs gs focus.ParEnd h w o = absurd (o.no_par_end refl)
 -- MOVES
 
 -- the move of a life, from that of the innermost term
-frame_moves : (fs : List Form) (gs : List Frame) (g : Stage) (r : Run) (m : Move Run) → IsGoingOn g → now r ≡ going → move r ≡ Some m → life_move (life_at g (wrapped fs gs r)) ≡ Some (record { act = m.act; plug = λ v. life_at g (wrapped fs gs (m.plug v)) })
+pub frame_moves : (fs : List Form) (gs : List Frame) (g : Stage) (r : Run) (m : Move Run) → IsGoingOn g → now r ≡ going → move r ≡ Some m → life_move (life_at g (wrapped fs gs r)) ≡ Some (record { act = m.act; plug = λ v. life_at g (wrapped fs gs (m.plug v)) })
 frame_moves fs gs g r m on go e =
     life_moves g (wrapped fs gs r) on (now_wrap (all_around fs gs) r go) ∙ ap (next (life_at g)) (move_wrap (all_around fs gs) r go ∙ ap (next (wrap (all_around fs gs))) e)
 

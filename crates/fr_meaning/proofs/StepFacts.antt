@@ -64,7 +64,7 @@ none_of (Some k) h = absurd cc
 
 -- THE THREAD
 
-no_some : {A : Type 0} (o : Option A) → o ≡ None → IsSome o → ⊥
+pub no_some : {A : Type 0} (o : Option A) → o ≡ None → IsSome o → ⊥
 no_some None e h = let f : false ≡ true = h in cc
 no_some (Some x) e h = cc
 
@@ -114,7 +114,7 @@ own_goes s x names None h g = absurd (no_some {A = Stepped} None refl g)
 own_goes s x names (Some m) h g = (nameless names (alone_stepped s x m m.act) (subst (λ (o : Option Stepped). IsSome o) (own_named s x names m m.act h) g)).0
 
 -- what a move does whose act is known
-with_act : (s : Whole) (x : PlainThread) (names : Fresh) (o : Option (Move Life)) (m : Move Life) (a : Act) → o ≡ Some m → m.act ≡ a → IsSome (moved s x names o) → IsSome (done_act s x names m a)
+pub with_act : (s : Whole) (x : PlainThread) (names : Fresh) (o : Option (Move Life)) (m : Move Life) (a : Act) → o ≡ Some m → m.act ≡ a → IsSome (moved s x names o) → IsSome (done_act s x names m a)
 with_act s x names o m a e same g = subst (λ (o : Option Stepped). IsSome o) (ap (moved s x names) e ∙ ap (done_act s x names m) same) g
 
 -- nor does a join

@@ -1,5 +1,5 @@
 -- A thread of the code, and what it stands for.
-use Rattle.std.specs.Prelude.{◌≡◌, ℕ, ℤ, ◌<◌, ◌≤◌, ⊤, Bool, true, false, List, [], ◌∷◌, ◌++◌, length, Option, Some, None, IsSome, vec_len, vec_capacity}
+use Rattle.std.specs.Prelude.{◌≡◌, ◌≢◌, ℕ, ℤ, ◌<◌, ◌≤◌, ⊤, Bool, true, false, List, [], ◌∷◌, ◌++◌, length, Option, Some, None, IsSome, vec_len, vec_capacity}
 use Rattle.fr_base.specs.Rooms.{WithRoom}
 use Rattle.fr_base.specs.declared.label.Label.{Label}
 use Rattle.fr_plain.specs.declared.value.Value.{Value}
@@ -130,6 +130,7 @@ released_last h _ = released.Nothing
 pub record CanGo (fs : List Form) (x : Thread) (heap : HeapRoom) (labels : WithRoom Label) : Type 0 where
   pub on : IsGoingOn x.stage
   pub at_step : end_of x.focus x.frames.items ≡ None
+  pub no_pair : x.focus ≢ focus.ParEnd
   pub goes : IsSome (term_step (run_in fs x) (state x.number x.slots.items heap.heap))
   pub slots : vec_len x.slots < vec_capacity x.slots
   pub ready : heap.ready ≡ Some x.number

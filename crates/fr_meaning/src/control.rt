@@ -88,8 +88,8 @@ fn is_temporary(done: &Done) -> bool
     }
 }
 
-// The last item is done, and so is the block, unless it has still slots to drop.
-fn end_items(
+/// The last item is done, and so is the block, unless it has still slots to drop.
+pub fn end_items(
     forms: &[Form],
     frames: &mut Vec<Frame>,
     left: u32,

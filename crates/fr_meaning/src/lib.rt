@@ -1,10 +1,12 @@
 //! The plain machine in code: a `Pool` of threads over one heap steps as the running terms do.
 #![tactic(auto)]
 
+mod bodies;
 mod common;
 mod control;
 mod error;
 mod frame;
+mod locks;
 mod machine;
 mod need;
 mod next;

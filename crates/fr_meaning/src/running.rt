@@ -16,6 +16,7 @@ ghost use Rattle.fr_meaning.specs.Running.{plain_of, view_of, Stands};
 
 use crate::common::Common;
 use crate::frame::Done;
+use crate::locks::{go_dup, go_lock, go_making, go_unlock};
 use crate::machine::labels_ahead;
 use crate::next::{Next, next_of, task_named_by};
 use crate::thread::Thread;
@@ -236,6 +237,10 @@ pub fn go(
         }
         Next::Start(node) => go_starting(alloc, forms, running, &turn, node, fresh),
         Next::Own => go_own(alloc, forms, running, &turn),
+        Next::Mutex(value) => go_making(alloc, forms, running, &turn, value, fresh),
+        Next::Dup(place) => go_dup(alloc, forms, running, &turn, place),
+        Next::Lock(place, node) => go_lock(alloc, forms, running, &turn, place, node),
+        Next::Unlock(done) => go_unlock(alloc, forms, running, &turn, done),
         _ => unreachable!(),
     }
 }

@@ -2,13 +2,13 @@
 
 ghost use Rattle.std.specs.Prelude.{◌≡◌, ◌<◌, ◌≤◌, ◌+◌, [], length, vec_len, vec_capacity, Some, None, IsSome};
 ghost use Rattle.fr_plain.specs.Acts.{act};
-ghost use Rattle.fr_plain.specs.Run.{settle, block, last, temp};
+ghost use Rattle.fr_plain.specs.Run.{settle, block, last};
 ghost use Rattle.fr_plain.specs.State.{slot_at};
 ghost use Rattle.fr_plain.specs.Threads.{pass, left_after};
 ghost use Rattle.fr_meaning.specs.declared.thread.Stage.TheVariants as stage_;
 ghost use Rattle.fr_forms.specs.Depths.{depth};
 ghost use Rattle.fr_forms.specs.FormTerms.{AreInOrder, captures_of, term_of, items_at, parts_of, root_of};
-ghost use Rattle.fr_meaning.specs.DoneTerms.{value_of};
+ghost use Rattle.fr_meaning.specs.DoneTerms.{over, value_of};
 ghost use Rattle.fr_meaning.specs.FrameTerms.{AreInside, wrapped};
 ghost use Rattle.fr_acts.specs.SlotOrder.{newest_first};
 ghost use Rattle.fr_meaning.specs.Threads.{IsWell, IsGoingOn, IsEnded, run_in, end_act, end_value, after_end, result_in};
@@ -188,17 +188,17 @@ pub fn main_thread(forms: &[Form], frames: Vec<Frame>, slots: Vec<Value>) -> Thr
     }
 }
 
-/// A thread goes on with the value of a join, or of the start of another thread.
-pub fn resume(forms: &[Form], thread: &mut Thread, value: Value)
+/// A thread goes on where its innermost term is done.
+pub fn resume(forms: &[Form], thread: &mut Thread, done: Done)
     requires order { AreInOrder forms.now }
     requires inside { AreInside (length forms.now) thread.old.frames.items }
-    requires room { depth (wrapped forms.now thread.old.frames.items (temp value)) ≤ 128 }
+    requires room { depth (wrapped forms.now thread.old.frames.items (over done)) ≤ 128 }
     requires capacity { 128 ≤ vec_capacity thread.old.frames }
-    ensures run { run_in forms.now thread.new ≡ settle (wrapped forms.now thread.old.frames.items (temp value)) }
+    ensures run { run_in forms.now thread.new ≡ settle (wrapped forms.now thread.old.frames.items (over done)) }
     ensures well { IsWell forms.now thread.new }
     ensures number { thread.new.number ≡ thread.old.number }
     ensures stage { thread.new.stage ≡ thread.old.stage }
     ensures slots { thread.new.slots ≡ thread.old.slots }
 {
-    thread.focus = leave(forms, &mut thread.frames, Done::Temp(value));
+    thread.focus = leave(forms, &mut thread.frames, done);
 }

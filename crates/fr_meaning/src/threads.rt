@@ -2,6 +2,7 @@
 
 ghost use Rattle.std.specs.Prelude.{◌≡◌, ◌<◌, ◌≤◌, suc, [], List, ℕ, ℤ, length, Some, None, slice_index_or, vec_len, vec_capacity};
 ghost use Rattle.fr_base.specs.declared.step.Fresh.TheVariants as fresh;
+ghost use Rattle.fr_plain.specs.MachineThreads.{Pair};
 ghost use Rattle.fr_plain.specs.Threads.{release, release_by};
 ghost use Rattle.fr_plain.specs.Whole.{step};
 ghost use Rattle.fr_acts.specs.MutexActs.{last_of};
@@ -11,7 +12,7 @@ ghost use Rattle.fr_forms.specs.FormTerms.{AreInOrder, captures_at};
 ghost use Rattle.fr_meaning.specs.FrameTerms.{end_of};
 ghost use Rattle.fr_shared.specs.Places.{place_of};
 ghost use Rattle.fr_forms.specs.declared.forms.Form.{Form};
-ghost use Rattle.fr_meaning.specs.Running.{plain_of, Stands};
+ghost use Rattle.fr_meaning.specs.Running.{plain_of, AreParents, Stands};
 ghost use Rattle.fr_meaning.specs.Threads.{AreWell, CanGo, IsEnded, IsGoingOn, Joins, Starts, after_release, released_heap, released_last, whole, numbers_of};
 
 use crate::common::Common;
@@ -62,6 +63,8 @@ fn release_one(
     ensures goes { (fs : List Form) (output : List ℤ) (k : ℕ) → release_by (suc k) (whole fs threads.old.items (beside_of common.old) output) (last_of released) ≡ release_by k (whole fs threads.new.items (beside_of common.new) output) (last_of result) }
     ensures numbers { numbers_of threads.new.items ≡ numbers_of threads.old.items }
     ensures well { (fs : List Form) → AreWell fs threads.old.items → AreWell fs threads.new.items }
+    ensures pairs { common.new.pairs ≡ common.old.pairs }
+    ensures parents { (ps : List Pair) → AreParents ps threads.old.items → AreParents ps threads.new.items }
 {
     match released {
         Released::Nothing => Released::Nothing,
@@ -80,6 +83,8 @@ pub fn let_go(threads: &mut Vec<Thread>, places: &Places, common: &mut Common, r
     ensures whole { (fs : List Form) (output : List ℤ) → whole fs threads.new.items (beside_of common.new) output ≡ release (whole fs threads.old.items (beside_of common.old) output) (last_of released) }
     ensures numbers { numbers_of threads.new.items ≡ numbers_of threads.old.items }
     ensures well { (fs : List Form) → AreWell fs threads.old.items → AreWell fs threads.new.items }
+    ensures pairs { common.new.pairs ≡ common.old.pairs }
+    ensures parents { (ps : List Pair) → AreParents ps threads.old.items → AreParents ps threads.new.items }
 {
     let many = threads.len() + common.mutexes.len();
     let mut last = released;
@@ -177,7 +182,7 @@ pub fn go_join(forms: &[Form], running: &mut Running, turn: &Runner, joined: &Ru
     let value = take_result(&mut running.threads[joined.at]);
     let joining = &mut running.threads[turn.at];
     leave_top(&mut joining.frames);
-    resume(forms, joining, value);
+    resume(forms, joining, Done::Temp(value));
 }
 
 /// The start of a thread under a new number, with what was made for it.
@@ -217,7 +222,7 @@ pub fn go_start(
         unreachable!()
     };
     pass_captures(captures, &mut starting.slots, &mut slots);
-    resume(forms, starting, Value::Own(Plain::Task(number)));
+    resume(forms, starting, Done::Temp(Value::Own(Plain::Task(number))));
     let started = start(forms, node, *drops, number, frames, slots);
     running.threads.push_reserved(started);
     running.places.add(number);

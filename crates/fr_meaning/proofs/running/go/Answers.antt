@@ -124,6 +124,100 @@ returns-in-Own-clause-step c =
     let same = takes_none c.args.forms.now r.threads.items (beside_of r.common) r.output.items c.args.thread c.args.fresh c.in-Some.at x.0 (next.Own) (steps_at c.args.forms.now r.threads.items (beside_of r.common) r.output.items c.args.thread c.args.fresh c.in-Some.at (next.Own) (numbers_of r.threads.items) c.requires.order c.requires.stands.well refl (ap (λ ns. place_of ns c.args.thread) (sym c.requires.stands.numbers) ∙ sym c.at.ensures.place ∙ c.in-Some.is) inside comes c.requires.goes x.0 x.1) refl in
     subst (λ (n : Fresh). IfOk c.go_own.result (λ (l : WithRoom Label). step (plain_of c.args.forms.now r) c.args.thread n ≡ Some (record { state = plain_of c.args.forms.now c.go_own.new.running; labels = l.items }))) (sym same) c.go_own.ensures.step
 
+pub go_dup-requires-clause-inside : goal.go_dup-requires-clause-inside
+go_dup-requires-clause-inside c = place_inside c.args.running.now.threads.items c.args.thread c.in-Some.at (ap (λ ns. place_of ns c.args.thread) (sym c.requires.stands.numbers) ∙ sym c.at.ensures.place ∙ c.in-Some.is)
+
+pub go_dup-requires-clause-next : goal.go_dup-requires-clause-next
+go_dup-requires-clause-next c =
+    let r = c.args.running.now in
+    let inside = place_inside r.threads.items c.args.thread c.in-Some.at (ap (λ ns. place_of ns c.args.thread) (sym c.requires.stands.numbers) ∙ sym c.at.ensures.place ∙ c.in-Some.is) in
+    let comes = comes_at r.threads.items c.in-Some.at c.index.result.now c.index-2.result.now c.deref.result.now c.next_of.result (next.Dup c.in-Dup.place) inside c.index.ensures c.index-2.ensures c.deref.ensures.value c.in-Dup.is c.next_of.ensures in
+    comes
+
+pub go_dup-requires-clause-goes : goal.go_dup-requires-clause-goes
+go_dup-requires-clause-goes c =
+    let r = c.args.running.now in
+    let inside = place_inside r.threads.items c.args.thread c.in-Some.at (ap (λ ns. place_of ns c.args.thread) (sym c.requires.stands.numbers) ∙ sym c.at.ensures.place ∙ c.in-Some.is) in
+    let comes = comes_at r.threads.items c.in-Some.at c.index.result.now c.index-2.result.now c.deref.result.now c.next_of.result (next.Dup c.in-Dup.place) inside c.index.ensures c.index-2.ensures c.deref.ensures.value c.in-Dup.is c.next_of.ensures in
+    let x = thread_here r.threads.items c.in-Some.at inside in
+    let same = takes_none c.args.forms.now r.threads.items (beside_of r.common) r.output.items c.args.thread c.args.fresh c.in-Some.at x.0 (next.Dup c.in-Dup.place) (steps_at c.args.forms.now r.threads.items (beside_of r.common) r.output.items c.args.thread c.args.fresh c.in-Some.at (next.Dup c.in-Dup.place) (numbers_of r.threads.items) c.requires.order c.requires.stands.well refl (ap (λ ns. place_of ns c.args.thread) (sym c.requires.stands.numbers) ∙ sym c.at.ensures.place ∙ c.in-Some.is) inside comes c.requires.goes x.0 x.1) refl in
+    subst (λ (n : Fresh). IsSome (step (plain_of c.args.forms.now r) c.args.thread n)) same c.requires.goes
+
+pub go_unlock-requires-clause-inside : goal.go_unlock-requires-clause-inside
+go_unlock-requires-clause-inside c = place_inside c.args.running.now.threads.items c.args.thread c.in-Some.at (ap (λ ns. place_of ns c.args.thread) (sym c.requires.stands.numbers) ∙ sym c.at.ensures.place ∙ c.in-Some.is)
+
+pub go_unlock-requires-clause-next : goal.go_unlock-requires-clause-next
+go_unlock-requires-clause-next c =
+    let r = c.args.running.now in
+    let inside = place_inside r.threads.items c.args.thread c.in-Some.at (ap (λ ns. place_of ns c.args.thread) (sym c.requires.stands.numbers) ∙ sym c.at.ensures.place ∙ c.in-Some.is) in
+    let comes = comes_at r.threads.items c.in-Some.at c.index.result.now c.index-2.result.now c.deref.result.now c.next_of.result (next.Unlock c.in-Unlock.done) inside c.index.ensures c.index-2.ensures c.deref.ensures.value c.in-Unlock.is c.next_of.ensures in
+    comes
+
+pub go_unlock-requires-clause-goes : goal.go_unlock-requires-clause-goes
+go_unlock-requires-clause-goes c =
+    let r = c.args.running.now in
+    let inside = place_inside r.threads.items c.args.thread c.in-Some.at (ap (λ ns. place_of ns c.args.thread) (sym c.requires.stands.numbers) ∙ sym c.at.ensures.place ∙ c.in-Some.is) in
+    let comes = comes_at r.threads.items c.in-Some.at c.index.result.now c.index-2.result.now c.deref.result.now c.next_of.result (next.Unlock c.in-Unlock.done) inside c.index.ensures c.index-2.ensures c.deref.ensures.value c.in-Unlock.is c.next_of.ensures in
+    let x = thread_here r.threads.items c.in-Some.at inside in
+    let same = takes_none c.args.forms.now r.threads.items (beside_of r.common) r.output.items c.args.thread c.args.fresh c.in-Some.at x.0 (next.Unlock c.in-Unlock.done) (steps_at c.args.forms.now r.threads.items (beside_of r.common) r.output.items c.args.thread c.args.fresh c.in-Some.at (next.Unlock c.in-Unlock.done) (numbers_of r.threads.items) c.requires.order c.requires.stands.well refl (ap (λ ns. place_of ns c.args.thread) (sym c.requires.stands.numbers) ∙ sym c.at.ensures.place ∙ c.in-Some.is) inside comes c.requires.goes x.0 x.1) refl in
+    subst (λ (n : Fresh). IsSome (step (plain_of c.args.forms.now r) c.args.thread n)) same c.requires.goes
+
+pub go_making-requires-clause-inside : goal.go_making-requires-clause-inside
+go_making-requires-clause-inside c = place_inside c.args.running.now.threads.items c.args.thread c.in-Some.at (ap (λ ns. place_of ns c.args.thread) (sym c.requires.stands.numbers) ∙ sym c.at.ensures.place ∙ c.in-Some.is)
+
+pub go_making-requires-clause-next : goal.go_making-requires-clause-next
+go_making-requires-clause-next c =
+    let r = c.args.running.now in
+    let inside = place_inside r.threads.items c.args.thread c.in-Some.at (ap (λ ns. place_of ns c.args.thread) (sym c.requires.stands.numbers) ∙ sym c.at.ensures.place ∙ c.in-Some.is) in
+    let comes = comes_at r.threads.items c.in-Some.at c.index.result.now c.index-2.result.now c.deref.result.now c.next_of.result (next.Mutex c.in-Mutex.value) inside c.index.ensures c.index-2.ensures c.deref.ensures.value c.in-Mutex.is c.next_of.ensures in
+    comes
+
+pub returns-in-Dup-clause-step : goal.returns-in-Dup-clause-step
+returns-in-Dup-clause-step c =
+    let r = c.args.running.now in
+    let inside = place_inside r.threads.items c.args.thread c.in-Some.at (ap (λ ns. place_of ns c.args.thread) (sym c.requires.stands.numbers) ∙ sym c.at.ensures.place ∙ c.in-Some.is) in
+    let comes = comes_at r.threads.items c.in-Some.at c.index.result.now c.index-2.result.now c.deref.result.now c.next_of.result (next.Dup c.in-Dup.place) inside c.index.ensures c.index-2.ensures c.deref.ensures.value c.in-Dup.is c.next_of.ensures in
+    let x = thread_here r.threads.items c.in-Some.at inside in
+    let same = takes_none c.args.forms.now r.threads.items (beside_of r.common) r.output.items c.args.thread c.args.fresh c.in-Some.at x.0 (next.Dup c.in-Dup.place) (steps_at c.args.forms.now r.threads.items (beside_of r.common) r.output.items c.args.thread c.args.fresh c.in-Some.at (next.Dup c.in-Dup.place) (numbers_of r.threads.items) c.requires.order c.requires.stands.well refl (ap (λ ns. place_of ns c.args.thread) (sym c.requires.stands.numbers) ∙ sym c.at.ensures.place ∙ c.in-Some.is) inside comes c.requires.goes x.0 x.1) refl in
+    subst (λ (n : Fresh). IfOk c.go_dup.result (λ (l : WithRoom Label). step (plain_of c.args.forms.now r) c.args.thread n ≡ Some (record { state = plain_of c.args.forms.now c.go_dup.new.running; labels = l.items }))) (sym same) c.go_dup.ensures.step
+
+pub returns-in-Unlock-clause-step : goal.returns-in-Unlock-clause-step
+returns-in-Unlock-clause-step c =
+    let r = c.args.running.now in
+    let inside = place_inside r.threads.items c.args.thread c.in-Some.at (ap (λ ns. place_of ns c.args.thread) (sym c.requires.stands.numbers) ∙ sym c.at.ensures.place ∙ c.in-Some.is) in
+    let comes = comes_at r.threads.items c.in-Some.at c.index.result.now c.index-2.result.now c.deref.result.now c.next_of.result (next.Unlock c.in-Unlock.done) inside c.index.ensures c.index-2.ensures c.deref.ensures.value c.in-Unlock.is c.next_of.ensures in
+    let x = thread_here r.threads.items c.in-Some.at inside in
+    let same = takes_none c.args.forms.now r.threads.items (beside_of r.common) r.output.items c.args.thread c.args.fresh c.in-Some.at x.0 (next.Unlock c.in-Unlock.done) (steps_at c.args.forms.now r.threads.items (beside_of r.common) r.output.items c.args.thread c.args.fresh c.in-Some.at (next.Unlock c.in-Unlock.done) (numbers_of r.threads.items) c.requires.order c.requires.stands.well refl (ap (λ ns. place_of ns c.args.thread) (sym c.requires.stands.numbers) ∙ sym c.at.ensures.place ∙ c.in-Some.is) inside comes c.requires.goes x.0 x.1) refl in
+    subst (λ (n : Fresh). IfOk c.go_unlock.result (λ (l : WithRoom Label). step (plain_of c.args.forms.now r) c.args.thread n ≡ Some (record { state = plain_of c.args.forms.now c.go_unlock.new.running; labels = l.items }))) (sym same) c.go_unlock.ensures.step
+
+pub go_lock-requires-clause-inside : goal.go_lock-requires-clause-inside
+go_lock-requires-clause-inside c = place_inside c.args.running.now.threads.items c.args.thread c.in-Some.at (ap (λ ns. place_of ns c.args.thread) (sym c.requires.stands.numbers) ∙ sym c.at.ensures.place ∙ c.in-Some.is)
+
+pub go_lock-requires-clause-next : goal.go_lock-requires-clause-next
+go_lock-requires-clause-next c =
+    let r = c.args.running.now in
+    let inside = place_inside r.threads.items c.args.thread c.in-Some.at (ap (λ ns. place_of ns c.args.thread) (sym c.requires.stands.numbers) ∙ sym c.at.ensures.place ∙ c.in-Some.is) in
+    let comes = comes_at r.threads.items c.in-Some.at c.index.result.now c.index-2.result.now c.deref.result.now c.next_of.result (next.Lock c.in-Lock.place c.in-Lock.node) inside c.index.ensures c.index-2.ensures c.deref.ensures.value c.in-Lock.is c.next_of.ensures in
+    comes
+
+pub go_lock-requires-clause-goes : goal.go_lock-requires-clause-goes
+go_lock-requires-clause-goes c =
+    let r = c.args.running.now in
+    let inside = place_inside r.threads.items c.args.thread c.in-Some.at (ap (λ ns. place_of ns c.args.thread) (sym c.requires.stands.numbers) ∙ sym c.at.ensures.place ∙ c.in-Some.is) in
+    let comes = comes_at r.threads.items c.in-Some.at c.index.result.now c.index-2.result.now c.deref.result.now c.next_of.result (next.Lock c.in-Lock.place c.in-Lock.node) inside c.index.ensures c.index-2.ensures c.deref.ensures.value c.in-Lock.is c.next_of.ensures in
+    let x = thread_here r.threads.items c.in-Some.at inside in
+    let same = takes_none c.args.forms.now r.threads.items (beside_of r.common) r.output.items c.args.thread c.args.fresh c.in-Some.at x.0 (next.Lock c.in-Lock.place c.in-Lock.node) (steps_at c.args.forms.now r.threads.items (beside_of r.common) r.output.items c.args.thread c.args.fresh c.in-Some.at (next.Lock c.in-Lock.place c.in-Lock.node) (numbers_of r.threads.items) c.requires.order c.requires.stands.well refl (ap (λ ns. place_of ns c.args.thread) (sym c.requires.stands.numbers) ∙ sym c.at.ensures.place ∙ c.in-Some.is) inside comes c.requires.goes x.0 x.1) refl in
+    subst (λ (n : Fresh). IsSome (step (plain_of c.args.forms.now r) c.args.thread n)) same c.requires.goes
+
+pub returns-in-Lock-clause-step : goal.returns-in-Lock-clause-step
+returns-in-Lock-clause-step c =
+    let r = c.args.running.now in
+    let inside = place_inside r.threads.items c.args.thread c.in-Some.at (ap (λ ns. place_of ns c.args.thread) (sym c.requires.stands.numbers) ∙ sym c.at.ensures.place ∙ c.in-Some.is) in
+    let comes = comes_at r.threads.items c.in-Some.at c.index.result.now c.index-2.result.now c.deref.result.now c.next_of.result (next.Lock c.in-Lock.place c.in-Lock.node) inside c.index.ensures c.index-2.ensures c.deref.ensures.value c.in-Lock.is c.next_of.ensures in
+    let x = thread_here r.threads.items c.in-Some.at inside in
+    let same = takes_none c.args.forms.now r.threads.items (beside_of r.common) r.output.items c.args.thread c.args.fresh c.in-Some.at x.0 (next.Lock c.in-Lock.place c.in-Lock.node) (steps_at c.args.forms.now r.threads.items (beside_of r.common) r.output.items c.args.thread c.args.fresh c.in-Some.at (next.Lock c.in-Lock.place c.in-Lock.node) (numbers_of r.threads.items) c.requires.order c.requires.stands.well refl (ap (λ ns. place_of ns c.args.thread) (sym c.requires.stands.numbers) ∙ sym c.at.ensures.place ∙ c.in-Some.is) inside comes c.requires.goes x.0 x.1) refl in
+    subst (λ (n : Fresh). IfOk c.go_lock.result (λ (l : WithRoom Label). step (plain_of c.args.forms.now r) c.args.thread n ≡ Some (record { state = plain_of c.args.forms.now c.go_lock.new.running; labels = l.items }))) (sym same) c.go_lock.ensures.step
+
 pub unreachable-requires-in_default-next_of : goal.unreachable-requires-in_default-next_of
 unreachable-requires-in_default-next_of c =
     let r = c.args.running.now in

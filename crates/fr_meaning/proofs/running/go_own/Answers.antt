@@ -66,6 +66,7 @@ go_alone-requires-clause-goes c = λ x is. (
     record {
       on = is_on s;
       at_step = (comes x is).goes_on;
+      no_pair = (comes x is).no_par_end;
       goes = own_steps fs n.threads.items (beside_of n.common) n.output.items c.args.turn.now.thread c.args.turn.now.at x s;
       slots = c.in_ok-reserve_act.ensures.slots x is;
       ready = c.in_ok-reserve_act.ensures.ready ∙ ap Some (sym (there_at fs n.threads.items c.args.turn.now.thread c.args.turn.now.at x s.place is).1);

@@ -1,5 +1,7 @@
 use Rattle.std.proofs.Common.{refl, sym, ap, ◌∙◌}
 use Rattle.std.specs.Prelude.{slice_set}
+use Rattle.fr_meaning.specs.PoolView.{Entry}
+use Rattle.fr_meaning.proofs.ParentLemmas.{parents_same}
 use Rattle.fr_meaning.proofs.EntryLemmas.{entries_set, view_same, reserved}
 use Rattle.fr_meaning.specs.Beside.{Beside, beside_of}
 use Rattle.fr_plain.specs.Heap.{Heap}
@@ -19,7 +21,7 @@ pub returns-in_err-reserve_slot-clause-stands : goal.returns-in_err-reserve_slot
 returns-in_err-reserve_slot-clause-stands c = λ fs s. (
     let r = c.args.running.now in
     let k = reserved fs r.threads.items c.args.turn.now.at c.index_mut.result.now c.reserve_slot.new.thread c.requires.inside c.index_mut.ensures.value c.reserve_slot.ensures.entry (c.reserve_slot.ensures.well fs) s.well in
-    record { numbers = s.numbers ∙ sym k.0; well = k.1 })
+    record { numbers = s.numbers ∙ sym k.0; well = k.1; parents = parents_same r.common.pairs.pairs r.threads.items c.args.turn.now.at c.index_mut.result.now c.reserve_slot.new.thread c.index_mut.ensures.value (ap (λ (q : Entry). q.number) c.reserve_slot.ensures.entry) (ap (λ (q : Entry). q.focus) c.reserve_slot.ensures.entry) s.parents })
 
 pub returns-in_err-reserve-clause-view : goal.returns-in_err-reserve-clause-view
 returns-in_err-reserve-clause-view c = λ fs. (
@@ -31,7 +33,7 @@ pub returns-in_err-reserve-clause-stands : goal.returns-in_err-reserve-clause-st
 returns-in_err-reserve-clause-stands c = λ fs s. (
     let r = c.args.running.now in
     let k = reserved fs r.threads.items c.args.turn.now.at c.index_mut.result.now c.reserve_slot.new.thread c.requires.inside c.index_mut.ensures.value c.reserve_slot.ensures.entry (c.reserve_slot.ensures.well fs) s.well in
-    record { numbers = s.numbers ∙ sym k.0; well = k.1 })
+    record { numbers = s.numbers ∙ sym k.0; well = k.1; parents = parents_same r.common.pairs.pairs r.threads.items c.args.turn.now.at c.index_mut.result.now c.reserve_slot.new.thread c.index_mut.ensures.value (ap (λ (q : Entry). q.number) c.reserve_slot.ensures.entry) (ap (λ (q : Entry). q.focus) c.reserve_slot.ensures.entry) s.parents })
 
 pub returns-in_err-reserve-2-clause-view : goal.returns-in_err-reserve-2-clause-view
 returns-in_err-reserve-2-clause-view c = λ fs. (
@@ -43,7 +45,7 @@ pub returns-in_err-reserve-2-clause-stands : goal.returns-in_err-reserve-2-claus
 returns-in_err-reserve-2-clause-stands c = λ fs s. (
     let r = c.args.running.now in
     let k = reserved fs r.threads.items c.args.turn.now.at c.index_mut.result.now c.reserve_slot.new.thread c.requires.inside c.index_mut.ensures.value c.reserve_slot.ensures.entry (c.reserve_slot.ensures.well fs) s.well in
-    record { numbers = s.numbers ∙ sym k.0; well = k.1 })
+    record { numbers = s.numbers ∙ sym k.0; well = k.1; parents = parents_same r.common.pairs.pairs r.threads.items c.args.turn.now.at c.index_mut.result.now c.reserve_slot.new.thread c.index_mut.ensures.value (ap (λ (q : Entry). q.number) c.reserve_slot.ensures.entry) (ap (λ (q : Entry). q.focus) c.reserve_slot.ensures.entry) s.parents })
 
 pub returns-clause-view : goal.returns-clause-view
 returns-clause-view c = λ fs. (
@@ -55,4 +57,4 @@ pub returns-clause-stands : goal.returns-clause-stands
 returns-clause-stands c = λ fs s. (
     let r = c.args.running.now in
     let k = reserved fs r.threads.items c.args.turn.now.at c.index_mut.result.now c.reserve_slot.new.thread c.requires.inside c.index_mut.ensures.value c.reserve_slot.ensures.entry (c.reserve_slot.ensures.well fs) s.well in
-    record { numbers = s.numbers ∙ sym k.0; well = k.1 })
+    record { numbers = s.numbers ∙ sym k.0; well = k.1; parents = parents_same r.common.pairs.pairs r.threads.items c.args.turn.now.at c.index_mut.result.now c.reserve_slot.new.thread c.index_mut.ensures.value (ap (λ (q : Entry). q.number) c.reserve_slot.ensures.entry) (ap (λ (q : Entry). q.focus) c.reserve_slot.ensures.entry) s.parents })

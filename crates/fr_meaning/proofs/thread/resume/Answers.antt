@@ -1,5 +1,5 @@
 use Rattle.std.proofs.Common.{arith}
-use Rattle.fr_plain.specs.Run.{temp}
+use Rattle.fr_meaning.specs.DoneTerms.{over}
 use Rattle.fr_meaning.specs.FrameTerms.{wrapped, focus_run}
 use Rattle.fr_meaning.proofs.ThreadLemmas.{settle_kept}
 use Rattle.fr_meaning.proofs.thread.resume.Goals as goal
@@ -7,7 +7,7 @@ use Rattle.fr_meaning.proofs.thread.resume.Goals as goal
 pub returns-clause-well : goal.returns-clause-well
 returns-clause-well c =
     let fs = c.args.forms.now in
-    let p = wrapped fs c.args.thread.now.frames.items (temp c.args.value) in
+    let p = wrapped fs c.args.thread.now.frames.items (over c.args.done) in
     let l = c.leave-thread in
     let kept = settle_kept p (wrapped fs l.new.frames.items (focus_run fs l.result)) p l.ensures.settles (omega arith) in
     record {

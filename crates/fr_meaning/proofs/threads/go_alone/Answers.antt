@@ -6,6 +6,7 @@ use Rattle.fr_acts.specs.MutexActs.{last_of}
 use Rattle.fr_meaning.specs.Beside.{beside_of}
 use Rattle.fr_meaning.specs.Threads.{whole}
 use Rattle.fr_meaning.proofs.StepLemmas.{not_done}
+use Rattle.fr_meaning.proofs.ParentLemmas.{still_parents, parents_step}
 use Rattle.fr_meaning.proofs.ThreadLists.{numbers_set, well_at, well_set}
 use Rattle.fr_meaning.proofs.WholeSteps.{whole_alone, stepped_to}
 use Rattle.fr_meaning.proofs.threads.go_alone.Goals as goal
@@ -37,4 +38,7 @@ returns-clause-stands c =
     record {
       numbers = c.requires.stands.numbers ∙ sym (c.let_go.ensures.numbers ∙ numbers_set c.args.running.now.threads.items c.args.turn.now.at c.index_mut.result.now c.step_alone-released.new.thread c.index_mut.ensures.value c.step_alone-released.ensures.number);
       well = c.let_go.ensures.well c.args.forms.now (well_set c.args.forms.now c.args.running.now.threads.items c.args.turn.now.at c.step_alone-released.new.thread c.step_alone-released.ensures.well c.requires.stands.well);
+      parents = still_parents c.let_go.new.threads.items c.let_go.ensures.pairs (c.let_go.ensures.parents c.args.running.now.common.pairs.pairs
+          (parents_step c.args.running.now.common.pairs.pairs c.args.running.now.threads.items c.args.turn.now.thread c.args.turn.now.at c.index_mut.result.now c.step_alone-released.new.thread
+          (ap (λ ns. place_of ns c.args.turn.now.thread) (sym c.requires.stands.numbers) ∙ c.requires.place) c.index_mut.ensures.value c.step_alone-released.ensures.number (c.requires.goes c.index_mut.result.now c.index_mut.ensures.value).no_pair c.requires.stands.parents));
     }

@@ -1,6 +1,7 @@
 use Rattle.std.proofs.Common.{sym, ap, ◌∙◌}
 use Rattle.fr_shared.specs.Places.{place_of}
 use Rattle.fr_meaning.specs.Beside.{beside_of}
+use Rattle.fr_meaning.proofs.ParentLemmas.{still_parents, parents_step, end_waits_not}
 use Rattle.fr_meaning.proofs.ThreadLists.{numbers_set, well_at, well_set, well_same}
 use Rattle.fr_meaning.proofs.WholeSteps.{whole_end, stepped_to}
 use Rattle.fr_meaning.proofs.threads.go_end.Goals as goal
@@ -34,4 +35,7 @@ returns-clause-stands c =
     record {
       numbers = c.requires.stands.numbers ∙ sym (c.let_go.ensures.numbers ∙ numbers_set c.args.running.now.threads.items c.args.turn.now.at c.index_mut.result.now c.end-released.new.thread c.index_mut.ensures.value c.end-released.ensures.number);
       well = c.let_go.ensures.well fs (well_set fs xs c.args.turn.now.at y (well_same fs x y c.end-released.ensures.frames c.end-released.ensures.focus well) c.requires.stands.well);
+      parents = still_parents c.let_go.new.threads.items c.let_go.ensures.pairs (c.let_go.ensures.parents c.args.running.now.common.pairs.pairs
+          (parents_step c.args.running.now.common.pairs.pairs c.args.running.now.threads.items c.args.turn.now.thread c.args.turn.now.at c.index_mut.result.now c.end-released.new.thread
+          (ap (λ ns. place_of ns c.args.turn.now.thread) (sym c.requires.stands.numbers) ∙ c.requires.place) c.index_mut.ensures.value c.end-released.ensures.number (end_waits_not c.index_mut.result.now.focus c.index_mut.result.now.frames.items c.args.done (c.requires.on c.index_mut.result.now c.index_mut.ensures.value).1) c.requires.stands.parents));
     }

@@ -11,6 +11,7 @@ use Rattle.fr_meaning.specs.FrameTerms.{wrapped, all_around, focus_run, AreInsid
 use Rattle.fr_shared.specs.Places.{place_of}
 use Rattle.fr_meaning.proofs.ContextLemmas.{depth_wrap}
 use Rattle.fr_meaning.proofs.FrameLemmas.{wrap_push, inside_front}
+use Rattle.fr_meaning.proofs.ParentLemmas.{parents_same, parents_step, over_waits_not}
 use Rattle.fr_meaning.proofs.ThreadLists.{numbers_set, well_at, well_set, well_same, thread_same, places_differ, other_at}
 use Rattle.fr_meaning.proofs.WholeSteps.{whole_join}
 use Rattle.fr_meaning.proofs.threads.go_join.Goals as goal
@@ -83,8 +84,14 @@ returns-clause-stands c =
     let z = c.index_mut.result.now in
     let a = c.take_result-value in
     let well = well_at fs xs c.args.joined.now.at z c.requires.other_inside c.index_mut.ensures.value c.requires.stands.well in
+    let ne = places_differ xs c.args.turn.now.at c.args.joined.now.at z (λ q is. (c.requires.joins q is).on) c.index_mut.ensures.value (c.requires.ended z c.index_mut.ensures.value) in
+    let j = c.requires.joins c.index_mut-joining.result.now (other_at xs c.args.turn.now.at c.args.joined.now.at w c.index_mut-joining.result.now ne c.index_mut-joining.ensures.value) in
     record {
       numbers = c.requires.stands.numbers ∙ sym (numbers_set (slice_set xs c.args.joined.now.at w) c.args.turn.now.at c.index_mut-joining.result.now c.resume.new.thread c.index_mut-joining.ensures.value c.resume.ensures.number
           ∙ numbers_set xs c.args.joined.now.at c.index_mut.result.now w c.index_mut.ensures.value c.take_result-value.ensures.number);
       well = well_set fs (slice_set xs c.args.joined.now.at a.new.thread) c.args.turn.now.at c.resume.new.thread c.resume.ensures.well (well_set fs xs c.args.joined.now.at a.new.thread (well_same fs z a.new.thread a.ensures.frames a.ensures.focus well) c.requires.stands.well);
+      parents = parents_step c.args.running.now.common.pairs.pairs (slice_set xs c.args.joined.now.at w) c.args.turn.now.thread c.args.turn.now.at c.index_mut-joining.result.now c.resume.new.thread
+          (ap (λ ns. place_of ns c.args.turn.now.thread) (numbers_set xs c.args.joined.now.at z w c.index_mut.ensures.value a.ensures.number ∙ sym c.requires.stands.numbers) ∙ c.requires.place)
+          c.index_mut-joining.ensures.value c.resume.ensures.number (over_waits_not c.index_mut-joining.result.now.focus j.done j.at_end)
+          (parents_same c.args.running.now.common.pairs.pairs xs c.args.joined.now.at z w c.index_mut.ensures.value a.ensures.number a.ensures.focus c.requires.stands.parents);
     }

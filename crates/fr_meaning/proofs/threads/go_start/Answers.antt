@@ -1,4 +1,4 @@
-use Rattle.std.proofs.Common.{◌++◌, ◌∷◌, [], length, sym, ap, ◌∙◌, subst, arith}
+use Rattle.std.proofs.Common.{◌≡◌, ◌++◌, ◌∷◌, [], length, sym, ap, ◌∙◌, subst, arith}
 use Rattle.std.specs.Prelude.{slice_set}
 use Rattle.fr_base.specs.declared.label.Label.TheVariants as label
 use Rattle.fr_base.specs.declared.label.Plain.TheVariants.{Task}
@@ -15,6 +15,9 @@ use Rattle.fr_shared.specs.Places.{place_of}
 use Rattle.fr_meaning.specs.Threads.{whole, AreWell, numbers_of}
 use Rattle.fr_forms.proofs.FormLemmas.{form_term, items_here}
 use Rattle.fr_meaning.proofs.ContextLemmas.{depth_wrap}
+use Rattle.fr_meaning.specs.Running.{AreParents}
+use Rattle.fr_meaning.specs.declared.frame.Focus.TheVariants as focus
+use Rattle.fr_meaning.proofs.ParentLemmas.{parents_push, parents_step}
 use Rattle.fr_meaning.proofs.ThreadLists.{numbers_set, numbers_push, well_set, well_push}
 use Rattle.fr_meaning.proofs.WholeSteps.{whole_start, stepped_to}
 use Rattle.fr_meaning.proofs.StartLemmas.{start_facts, captures_here, same_passes, same_passed, started_same, not_other}
@@ -148,4 +151,7 @@ returns-clause-stands c =
           ∙ ap (λ u. numbers_of (slice_set xs c.args.turn.now.at y) ++ u ∷ []) (sym c.start-started.ensures.number)
           ∙ sym (numbers_push (slice_set xs c.args.turn.now.at y) n) ∙ ap numbers_of (sym c.push_reserved.ensures.items);
       well = subst (AreWell fs) (sym c.push_reserved.ensures.items) (well_push fs (slice_set xs c.args.turn.now.at y) c.start-started.result (well_set fs xs c.args.turn.now.at y c.resume.ensures.well c.requires.stands.well) c.start-started.ensures.well);
+      parents = subst (AreParents c.args.running.now.common.pairs.pairs) (sym c.push_reserved.ensures.items) (parents_push c.args.running.now.common.pairs.pairs (slice_set xs c.args.turn.now.at y) n
+          (parents_step c.args.running.now.common.pairs.pairs xs c.args.turn.now.thread c.args.turn.now.at x y (ap (λ ns. place_of ns c.args.turn.now.thread) (sym c.requires.stands.numbers) ∙ c.requires.place) is c.resume.ensures.number
+          (λ e. (let f : focus.Spawn c.args.node ≡ focus.ParEnd = sym s.at_start ∙ e in cc)) c.requires.stands.parents));
     }

@@ -15,6 +15,8 @@ each-init c =
       goes = λ fs output. (let many : (c.len.result + c.len-2.result) - 0 ≡ count_both b.mutexes (threads_of fs xs) = omega (arith, count_lengths b.mutexes (threads_of fs xs), length_threads fs xs, c.len.ensures, c.args.threads.now.ok, c.len-2.ensures.names) in ap (λ k. release_by k (whole fs xs b output) (last_of c.args.released)) many);
       numbers = refl;
       well = λ fs w. w;
+      pairs = refl;
+      parents = λ ps h. h;
     }
 
 pub each-preserved : goal.each-preserved
@@ -27,4 +29,6 @@ each-preserved c =
           sym (o.ensures.goes fs output k) ∙ ap (λ n. release_by n (whole fs c.each.threads.items (beside_of c.each.common) output) (last_of c.each.last)) more ∙ c.each.invariant.goes fs output);
       numbers = o.ensures.numbers ∙ c.each.invariant.numbers;
       well = λ fs w. o.ensures.well fs (c.each.invariant.well fs w);
+      pairs = o.ensures.pairs ∙ c.each.invariant.pairs;
+      parents = λ ps h. o.ensures.parents ps (c.each.invariant.parents ps h);
     }

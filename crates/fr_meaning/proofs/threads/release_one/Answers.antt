@@ -6,6 +6,7 @@ use Rattle.fr_shared.specs.Places.{place_of}
 use Rattle.fr_acts.specs.MutexActs.{Rest, last_of}
 use Rattle.fr_meaning.specs.Beside.{beside_of}
 use Rattle.fr_meaning.specs.Threads.{threads_of, whole, after_release, released_last}
+use Rattle.fr_meaning.proofs.ParentLemmas.{parents_same}
 use Rattle.fr_meaning.proofs.StepFacts.{place_inside}
 use Rattle.fr_meaning.proofs.ThreadLists.{numbers_set, none_there, well_at, well_set, well_same, thread_same, unknown_goes, one_goes}
 use Rattle.fr_meaning.proofs.threads.release_one.Goals as goal
@@ -54,3 +55,6 @@ returns-in-None-clause-goes c = λ fs output k. (
     let s = whole fs xs (beside_of c.args.common.now) output in
     let none = ap (λ ns. place_of ns c.in-Task.number) (sym c.requires) ∙ sym c.at.ensures.place ∙ c.in-None.is in
     ap (λ u. release_by (suc k) s (last_of u)) c.in-Task.is ∙ unknown_goes k s c.in-Task.number (none_there fs xs c.in-Task.number none))
+
+pub returns-in-Some-clause-parents : goal.returns-in-Some-clause-parents
+returns-in-Some-clause-parents c = λ ps h. parents_same ps c.args.threads.now.items c.in-Some.place c.index_mut.result.now c.release_thread.new.thread c.index_mut.ensures.value c.release_thread.ensures.number c.release_thread.ensures.focus h
