@@ -4,3 +4,4 @@ mod ThreadLemmas
 mod StandLemmas
 mod WaitLemmas
 mod HopLemmas
+mod SeenLemmas

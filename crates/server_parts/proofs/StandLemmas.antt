@@ -15,6 +15,7 @@ use Rattle.server_model.specs.Work.{thread_in, set_thread, with_thread}
 use Rattle.server_model.specs.Questions.{runnable_in, active_in, movable_in}
 use Rattle.server_parts.specs.Threads.{states, HasKey, AreNumbered, steps, waits, moves, acts, AreThreads}
 use Rattle.server_parts.proofs.RoomLemmas.{new_place}
+use Rattle.server_parts.proofs.SeenLemmas.{marks_at}
 use Rattle.server_parts.proofs.ThreadLemmas.{take_states, put_again, thread_at, numbered_with, runnable_keys, active_count, movable_key}
 
 none_marked : (f : ThreadView → Bool) → IsMarked f [] []
@@ -122,15 +123,6 @@ active_many {all} t = ap length t.active_set.same ∙ active_count all
 -- a number of some rank is below the bound
 pub rank_below : {f : ThreadView → Bool} {all : List (Place ThreadView)} {set : List (Place (Unit {0}))} (i k : ℕ) → IsMarked f all set → option_map (λ e. e.key) (slice_get (entries set) i) ≡ Some k → k < 2 ^ 40
 rank_below {set = set} i k m h = nth_below set (2 ^ 40) i k m.rises h
-
--- the marks at places are those of the items
-marks_at : (f : ThreadView → Bool) (ps : List (Place ThreadView)) (k : ℕ) → place_at (marked f ps) k ≡ option_map (mark_of f) (place_at ps k)
-marks_at f [] k = refl
-marks_at f (p ∷ ps) k = by (p.key == k) (marks_at f ps k)
-  where
-    by : (b : Bool) → place_at (marked f ps) k ≡ option_map (mark_of f) (place_at ps k) → (if b then Some (mark_of f p.item) else place_at (marked f ps) k) ≡ option_map (mark_of f) (if b then Some p.item else place_at ps k)
-    by true ih = refl
-    by false ih = ih
 
 -- a thread of some rank in a set stands there, in a phase that the set's test tells
 member_stands : {f : ThreadView → Bool} {all : List (Place ThreadView)} {set : List (Place (Unit {0}))} (g : Phase → Bool) (i k : ℕ) → ((v : ThreadView) → f v ≡ true → g v.state.phase ≡ true) → Rises 0 (2 ^ 40) all → AreNumbered all → IsMarked f all set

@@ -6,3 +6,4 @@ pub mod Threads
 pub mod Spares
 pub mod Growing
 pub mod Accesses
+pub mod Seen

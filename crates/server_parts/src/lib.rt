@@ -3,6 +3,7 @@
 #![tactic(auto)]
 
 mod access;
+mod marks;
 mod needing;
 mod places;
 mod spares;

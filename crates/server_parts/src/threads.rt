@@ -3,7 +3,6 @@
 ghost use Rattle.std.specs.Prelude.{◌≡◌, ◌-◌, ◌<◌, ◌≤◌, ◌^◌, true, false, [], None, Some, length, vec_len, slice_get, option_map, IfSome, IsTrue, IsOk, IsSome, OnOk, OnErr};
 ghost use Rattle.std.specs.Vec.{vec_capacity};
 ghost use Rattle.rank_map.specs.Places.{has_place, item_at, with_place, with_free};
-ghost use Rattle.rank_map.specs.Marks.{mark_if};
 ghost use Rattle.server_model.specs.Events.{can_step, has_phase, is_ready};
 ghost use Rattle.server_model.specs.Work.{thread_in, set_thread, with_thread, without_thread};
 ghost use Rattle.thread_state.specs.View.{ThreadState};
@@ -12,6 +11,7 @@ ghost use Rattle.server_parts.specs.Growing.{HaveThreadsGrown};
 ghost use Rattle.server_parts.specs.Sites.{HasItems};
 ghost use Rattle.server_parts.specs.Threads.{states, steps, waits, moves, acts};
 
+use crate::marks::Marks;
 use fr_base::{NoMemory, ThreadNo, Wait};
 use rank_map::RankMap;
 use std::alloc::Global;
@@ -27,10 +27,10 @@ use thread_state::{Phase, Thread};
 pub struct Threads {
     all: RankMap<Thread>,
     // those that can step, that wait at a lock, a join or a pair, that may be moved, and that aren't over
-    runnable: RankMap<()>,
-    waiting: RankMap<()>,
-    movable: RankMap<()>,
-    active: RankMap<()>,
+    runnable: Marks,
+    waiting: Marks,
+    movable: Marks,
+    active: Marks,
 }
 
 impl Model for Threads {
@@ -44,18 +44,6 @@ impl Model for Threads {
     ghost view = { λ t. t.all };
 
     ghost invariant = { λ t. AreThreads t.all t.runnable t.waiting t.movable t.active };
-}
-
-// Marks a number or not.
-fn set_mark(set: &mut RankMap<()>, number: u64, on: bool)
-    requires place { has_place set.old number ≡ true }
-    ensures { set.new ≡ with_place set.old number (Some (mark_if on)) }
-{
-    if on {
-        set.insert(number, ());
-    } else {
-        set.take(number);
-    }
 }
 
 /// Whether the thread doesn't wait.
@@ -126,10 +114,10 @@ impl Threads {
     {
         Threads {
             all: RankMap::new(alloc),
-            runnable: RankMap::new(alloc),
-            waiting: RankMap::new(alloc),
-            movable: RankMap::new(alloc),
-            active: RankMap::new(alloc),
+            runnable: Marks::new(alloc),
+            waiting: Marks::new(alloc),
+            movable: Marks::new(alloc),
+            active: Marks::new(alloc),
         }
     }
 
@@ -169,10 +157,10 @@ impl Threads {
         ensures places { self.new ≡ with_place self.old thread.state.number (Some (Some thread)) }
     {
         let number = thread.number.number();
-        set_mark(&mut self.runnable, number, can_step(&thread));
-        set_mark(&mut self.waiting, number, is_waiting(&thread));
-        set_mark(&mut self.movable, number, is_movable(&thread));
-        set_mark(&mut self.active, number, is_active(&thread));
+        self.runnable.change(number, false, can_step(&thread));
+        self.waiting.change(number, false, is_waiting(&thread));
+        self.movable.change(number, false, is_movable(&thread));
+        self.active.change(number, false, is_active(&thread));
         self.all.insert(number, thread);
     }
 
@@ -190,14 +178,14 @@ impl Threads {
         ensures back { (t : ThreadState) → t.number ≡ thread → with_thread (states self.new) t ≡ set_thread (states self.old) t }
     {
         let number = thread.number();
-        set_mark(&mut self.runnable, number, false);
-        set_mark(&mut self.waiting, number, false);
-        set_mark(&mut self.movable, number, false);
-        set_mark(&mut self.active, number, false);
-        match self.all.take(number) {
-            Some(taken) => taken,
-            None => unreachable!(),
-        }
+        let Some(taken) = self.all.take(number) else {
+            unreachable!();
+        };
+        self.runnable.change(number, can_step(&taken), false);
+        self.waiting.change(number, is_waiting(&taken), false);
+        self.movable.change(number, is_movable(&taken), false);
+        self.active.change(number, is_active(&taken), false);
+        taken
     }
 
     /// Makes room for `n` more items in each list of the thread of that number, where it stands there; a refusal leaves what is there.

@@ -4,6 +4,7 @@ use Rattle.rank_map.specs.Marks.{mark_if}
 use Rattle.server_model.specs.Work.{thread_in, with_thread}
 use Rattle.server_parts.specs.Threads.{states}
 use Rattle.server_parts.proofs.ThreadLemmas.{put_states}
+use Rattle.server_parts.proofs.SeenLemmas.{wasnt_marked}
 use Rattle.server_parts.proofs.StandLemmas.{all_changed, absent_item}
 use Rattle.server_parts.proofs.threads.Threads.insert.Goals as goal
 
@@ -14,10 +15,10 @@ invariant_of-self c =
     let number : c.args.thread.state.number ≡ k = sym (c.number-number.ensures.number ∙ ap (λ v. v.state.number) c.thread.view_is) in
     let here : has_place c.self.inside.all k ≡ true = subst (λ i. has_place c.self.inside.all i ≡ true) number (subst (λ ps. has_place ps c.args.thread.state.number ≡ true) (sym c.self.view_is) c.requires.room) in
     all_changed k (Some c.args.thread) c.self.invariant here below number c.insert.ensures.places
-    (c.set_mark.ensures ∙ ap (λ b. with_place c.self.inside.runnable k (Some (mark_if b))) c.can_step.ensures)
-    (c.set_mark-2.ensures ∙ ap (λ b. with_place c.self.inside.waiting k (Some (mark_if b))) c.is_waiting.ensures)
-    (c.set_mark-3.ensures ∙ ap (λ b. with_place c.self.inside.movable k (Some (mark_if b))) c.is_movable.ensures)
-    (c.set_mark-4.ensures ∙ ap (λ b. with_place c.self.inside.active k (Some (mark_if b))) c.is_active.ensures)
+    (c.change.ensures ∙ ap (λ b. with_place c.self.inside.runnable k (Some (mark_if b))) c.can_step.ensures)
+    (c.change-2.ensures ∙ ap (λ b. with_place c.self.inside.waiting k (Some (mark_if b))) c.is_waiting.ensures)
+    (c.change-3.ensures ∙ ap (λ b. with_place c.self.inside.movable k (Some (mark_if b))) c.is_movable.ensures)
+    (c.change-4.ensures ∙ ap (λ b. with_place c.self.inside.active k (Some (mark_if b))) c.is_active.ensures)
 
 pub returns-clause-state : goal.returns-clause-state
 returns-clause-state c =
@@ -28,3 +29,39 @@ returns-clause-state c =
     ap states c.insert.ensures.places
     ∙ put_states c.self.inside.all 0 (2 ^ 40) k c.args.thread c.self.invariant.rises c.self.invariant.numbered number (absent_item k c.self.invariant absent)
     ∙ ap (λ ps. with_thread (states ps) c.args.thread.state) c.self.view_is
+
+pub change-requires : goal.change-requires
+change-requires c =
+    let k = c.number-number.result in
+    let number : c.args.thread.state.number ≡ k = sym (c.number-number.ensures.number ∙ ap (λ v. v.state.number) c.thread.view_is) in
+    let here : has_place c.self.inside.all k ≡ true = subst (λ i. has_place c.self.inside.all i ≡ true) number (subst (λ ps. has_place ps c.args.thread.state.number ≡ true) (sym c.self.view_is) c.requires.room) in
+    let absent : thread_in (states c.self.inside.all) k ≡ None =
+    subst (λ i. thread_in (states c.self.inside.all) i ≡ None) number (subst (λ ps. thread_in (states ps) c.args.thread.state.number ≡ None) (sym c.self.view_is) c.requires.absent) in
+    record { place = c.self.invariant.runnable_set.places k here; was = wasnt_marked k c.self.invariant.rises c.self.invariant.runnable_set (absent_item k c.self.invariant absent) }
+
+pub change-requires-2 : goal.change-requires-2
+change-requires-2 c =
+    let k = c.number-number.result in
+    let number : c.args.thread.state.number ≡ k = sym (c.number-number.ensures.number ∙ ap (λ v. v.state.number) c.thread.view_is) in
+    let here : has_place c.self.inside.all k ≡ true = subst (λ i. has_place c.self.inside.all i ≡ true) number (subst (λ ps. has_place ps c.args.thread.state.number ≡ true) (sym c.self.view_is) c.requires.room) in
+    let absent : thread_in (states c.self.inside.all) k ≡ None =
+    subst (λ i. thread_in (states c.self.inside.all) i ≡ None) number (subst (λ ps. thread_in (states ps) c.args.thread.state.number ≡ None) (sym c.self.view_is) c.requires.absent) in
+    record { place = c.self.invariant.waiting_set.places k here; was = wasnt_marked k c.self.invariant.rises c.self.invariant.waiting_set (absent_item k c.self.invariant absent) }
+
+pub change-requires-3 : goal.change-requires-3
+change-requires-3 c =
+    let k = c.number-number.result in
+    let number : c.args.thread.state.number ≡ k = sym (c.number-number.ensures.number ∙ ap (λ v. v.state.number) c.thread.view_is) in
+    let here : has_place c.self.inside.all k ≡ true = subst (λ i. has_place c.self.inside.all i ≡ true) number (subst (λ ps. has_place ps c.args.thread.state.number ≡ true) (sym c.self.view_is) c.requires.room) in
+    let absent : thread_in (states c.self.inside.all) k ≡ None =
+    subst (λ i. thread_in (states c.self.inside.all) i ≡ None) number (subst (λ ps. thread_in (states ps) c.args.thread.state.number ≡ None) (sym c.self.view_is) c.requires.absent) in
+    record { place = c.self.invariant.movable_set.places k here; was = wasnt_marked k c.self.invariant.rises c.self.invariant.movable_set (absent_item k c.self.invariant absent) }
+
+pub change-requires-4 : goal.change-requires-4
+change-requires-4 c =
+    let k = c.number-number.result in
+    let number : c.args.thread.state.number ≡ k = sym (c.number-number.ensures.number ∙ ap (λ v. v.state.number) c.thread.view_is) in
+    let here : has_place c.self.inside.all k ≡ true = subst (λ i. has_place c.self.inside.all i ≡ true) number (subst (λ ps. has_place ps c.args.thread.state.number ≡ true) (sym c.self.view_is) c.requires.room) in
+    let absent : thread_in (states c.self.inside.all) k ≡ None =
+    subst (λ i. thread_in (states c.self.inside.all) i ≡ None) number (subst (λ ps. thread_in (states ps) c.args.thread.state.number ≡ None) (sym c.self.view_is) c.requires.absent) in
+    record { place = c.self.invariant.active_set.places k here; was = wasnt_marked k c.self.invariant.rises c.self.invariant.active_set (absent_item k c.self.invariant absent) }

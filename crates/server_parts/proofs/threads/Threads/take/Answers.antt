@@ -3,41 +3,50 @@ use Rattle.rank_map.specs.Places.{has_place, item_at}
 use Rattle.rank_map.proofs.MarkLemmas.{place_new}
 use Rattle.server_model.specs.Work.{thread_in, set_thread, without_thread}
 use Rattle.server_parts.specs.Threads.{states}
+use Rattle.server_parts.proofs.SeenLemmas.{was_marked}
 use Rattle.server_parts.proofs.ThreadLemmas.{take_states}
 use Rattle.server_parts.proofs.StandLemmas.{all_changed, stands_at, there_item, found_thread, back_again, taken_absent, found_number}
 use Rattle.server_parts.proofs.threads.Threads.take.Goals as goal
 
-pub set_mark-requires : goal.set_mark-requires
-set_mark-requires c =
+pub change-requires : goal.change-requires
+change-requires c =
     let k = c.number-number.result in
     let stands : IsSome (thread_in (states c.self.inside.all) k) =
     subst (λ i. IsSome (thread_in (states c.self.inside.all) i)) (sym c.number-number.ensures.number) (subst (λ ps. IsSome (thread_in (states ps) c.args.thread)) (sym c.self.view_is) c.requires.there) in
-    let here = stands_at k c.self.invariant stands in
-    record { place = c.self.invariant.runnable_set.places k here }
+    record {
+      place = c.self.invariant.runnable_set.places k (stands_at k c.self.invariant stands);
+      was = was_marked k c.in-Some.taken c.can_step.result c.self.invariant.rises c.self.invariant.runnable_set (sym c.take.ensures.item ∙ c.in-Some.is) c.can_step.ensures;
+    }
 
-pub set_mark-requires-2 : goal.set_mark-requires-2
-set_mark-requires-2 c =
+pub change-requires-2 : goal.change-requires-2
+change-requires-2 c =
     let k = c.number-number.result in
     let stands : IsSome (thread_in (states c.self.inside.all) k) =
     subst (λ i. IsSome (thread_in (states c.self.inside.all) i)) (sym c.number-number.ensures.number) (subst (λ ps. IsSome (thread_in (states ps) c.args.thread)) (sym c.self.view_is) c.requires.there) in
-    let here = stands_at k c.self.invariant stands in
-    record { place = c.self.invariant.waiting_set.places k here }
+    record {
+      place = c.self.invariant.waiting_set.places k (stands_at k c.self.invariant stands);
+      was = was_marked k c.in-Some.taken c.is_waiting.result c.self.invariant.rises c.self.invariant.waiting_set (sym c.take.ensures.item ∙ c.in-Some.is) c.is_waiting.ensures;
+    }
 
-pub set_mark-requires-3 : goal.set_mark-requires-3
-set_mark-requires-3 c =
+pub change-requires-3 : goal.change-requires-3
+change-requires-3 c =
     let k = c.number-number.result in
     let stands : IsSome (thread_in (states c.self.inside.all) k) =
     subst (λ i. IsSome (thread_in (states c.self.inside.all) i)) (sym c.number-number.ensures.number) (subst (λ ps. IsSome (thread_in (states ps) c.args.thread)) (sym c.self.view_is) c.requires.there) in
-    let here = stands_at k c.self.invariant stands in
-    record { place = c.self.invariant.movable_set.places k here }
+    record {
+      place = c.self.invariant.movable_set.places k (stands_at k c.self.invariant stands);
+      was = was_marked k c.in-Some.taken c.is_movable.result c.self.invariant.rises c.self.invariant.movable_set (sym c.take.ensures.item ∙ c.in-Some.is) c.is_movable.ensures;
+    }
 
-pub set_mark-requires-4 : goal.set_mark-requires-4
-set_mark-requires-4 c =
+pub change-requires-4 : goal.change-requires-4
+change-requires-4 c =
     let k = c.number-number.result in
     let stands : IsSome (thread_in (states c.self.inside.all) k) =
     subst (λ i. IsSome (thread_in (states c.self.inside.all) i)) (sym c.number-number.ensures.number) (subst (λ ps. IsSome (thread_in (states ps) c.args.thread)) (sym c.self.view_is) c.requires.there) in
-    let here = stands_at k c.self.invariant stands in
-    record { place = c.self.invariant.active_set.places k here }
+    record {
+      place = c.self.invariant.active_set.places k (stands_at k c.self.invariant stands);
+      was = was_marked k c.in-Some.taken c.is_active.result c.self.invariant.rises c.self.invariant.active_set (sym c.take.ensures.item ∙ c.in-Some.is) c.is_active.ensures;
+    }
 
 pub take-requires : goal.take-requires
 take-requires c =
@@ -52,7 +61,7 @@ unreachable-requires c =
     let k = c.number-number.result in
     let stands : IsSome (thread_in (states c.self.inside.all) k) =
     subst (λ i. IsSome (thread_in (states c.self.inside.all) i)) (sym c.number-number.ensures.number) (subst (λ ps. IsSome (thread_in (states ps) c.args.thread)) (sym c.self.view_is) c.requires.there) in
-    there_item k c.self.invariant stands (sym c.take.ensures.item ∙ c.in-None.is)
+    there_item k c.self.invariant stands (sym c.take.ensures.item ∙ c.in_default.is)
 
 pub invariant_of-self : goal.invariant_of-self
 invariant_of-self c =
@@ -61,7 +70,7 @@ invariant_of-self c =
     subst (λ i. IsSome (thread_in (states c.self.inside.all) i)) (sym c.number-number.ensures.number) (subst (λ ps. IsSome (thread_in (states ps) c.args.thread)) (sym c.self.view_is) c.requires.there) in
     let here = stands_at k c.self.invariant stands in
     let below : k < 2 ^ 40 = omega (arith, c.number-number.ensures.number, c.number-number.ensures.few) in
-    all_changed k None c.self.invariant here below tt c.take.ensures.places c.set_mark.ensures c.set_mark-2.ensures c.set_mark-3.ensures c.set_mark-4.ensures
+    all_changed k None c.self.invariant here below tt c.take.ensures.places c.change.ensures c.change-2.ensures c.change-3.ensures c.change-4.ensures
 
 pub returns-clause-thread : goal.returns-clause-thread
 returns-clause-thread c =
