@@ -1,9 +1,7 @@
-//! Tests of `borrow_check`: small trees and programs that are checked. They stand in a crate of their own, since tests within a crate prove its
+//! Tests of `borrow_check`: programs that are checked. They stand in a crate of their own, since tests within a crate prove its
 //! functions once more.
 #![tactic(auto)]
 
-#[cfg(test)]
-mod checks;
 #[cfg(test)]
 mod programs;
 #[cfg(test)]

@@ -1,4 +1,5 @@
-//! Programs with threads, mutexes and blocks beside each other. The checker is asked itself.
+//! Programs that are checked: those with a type, the first fault of the others, and what is noted of the nodes of some. The checker is asked
+//! itself. Places, reasons and nodes were worked out by hand.
 
 use crate::sharing_cases::{BESIDE, BESIDE_FAULTS, LOCK_FAULTS, LOCKED};
 use crate::thread_cases::{FAULTS, TYPED};
@@ -8,8 +9,51 @@ use fr_parse::parse;
 use fr_syntax::tokens;
 use fr_typing::Reason;
 use std::alloc::Global;
-use std::process::Abort;
 use std::test::Fail;
+
+// Programs of one thread, with the place and the reason of their first fault: operands are numbers, a lent box stays, a mutable
+// reference blocks reads, no reference leaves its block.
+const ALONE: [(&str, u32, Reason); 4] = [
+    ("{ print (1 - ()) }", 13, Reason::WrongType),
+    (
+        "{ let mut x = box 1; let mut r = &x; x }",
+        37,
+        Reason::WriteBlocked,
+    ),
+    (
+        "{ let mut x = 1; let mut r = &mut x; x }",
+        37,
+        Reason::ReadBlocked,
+    ),
+    ("{ { let mut y = 2; &y } }", 19, Reason::Outlives),
+];
+
+// Places of an environment.
+const FIRST: Option<Lval> = Some(Lval { slot: 0, depth: 0 });
+
+const FIRST_LEADS: Option<Lval> = Some(Lval { slot: 0, depth: 1 });
+
+const SECOND: Option<Lval> = Some(Lval { slot: 1, depth: 0 });
+
+const SECOND_LEADS: Option<Lval> = Some(Lval { slot: 1, depth: 1 });
+
+const THIRD: Option<Lval> = Some(Lval { slot: 2, depth: 0 });
+
+// Programs with the number of their nodes, the places of some of them, and whether some of them take what they read or capture: a box
+// is taken, a mutable reference is written through, a captured name has its variable, and a content stands above its mutex.
+#[rattlefmt::skip]
+const NODES: [(&str, u64, &[(u32, Option<Lval>)], &[(u32, bool)]); 4] = [
+    ("{ let mut x = box 1; x }", 6, &[(3, FIRST), (4, None)], &[(3, false), (4, true)]),
+    ("{ let mut x = 1; let mut r = &mut x; *r = 2 }", 9, &[(2, FIRST), (5, SECOND_LEADS)], &[(3, false)]),
+    (
+        "{ let mut x = box 1; let mut y = 2; spawn (y, x) { x } }",
+        12, &[(5, SECOND), (6, FIRST), (7, SECOND), (10, None)], &[(5, false), (6, true), (8, true)],
+    ),
+    (
+        "{ let mut m = mutex 1; let mut x = box 1; par (m) { lock m as c { print c } } (x) { print *x } }",
+        21, &[(6, FIRST), (7, FIRST), (8, THIRD), (12, None), (14, SECOND), (15, FIRST_LEADS)], &[(6, true), (9, false), (14, true)],
+    ),
+];
 
 // The checker's answer to a source. Where it is too long, the answer is one that no test expects.
 fn answer(alloc: Global, input: &[u8]) -> Result<Result<Checked, CheckError>, Fail> {
@@ -21,93 +65,51 @@ fn answer(alloc: Global, input: &[u8]) -> Result<Result<Checked, CheckError>, Fa
     Ok(check(alloc, tree))
 }
 
-// The program has a type.
-fn has_type<R: Abort>(rt: &R, alloc: Global, input: &str) -> Result<(), Fail> {
-    assert_eq!(rt; answer(alloc, input.as_bytes())?.err(), None, "{input}");
-    Ok(())
-}
-
-// The program's first fault is this one.
-fn has_fault<R: Abort>(
-    rt: &R,
-    alloc: Global,
-    input: &str,
-    place: u32,
-    reason: Reason,
-) -> Result<(), Fail> {
-    assert_eq!(rt;
-        answer(alloc, input.as_bytes())?.err(),
-        Some(CheckError::Fault { place, reason }),
-        "{input}"
-    );
-    Ok(())
-}
-
 #[test]
-fn programs_with_threads(rt: HostRuntime) -> Result<(), Fail> {
-    for input in TYPED {
-        has_type(&rt, rt.alloc(), input)?;
+fn programs(rt: HostRuntime) -> Result<(), Fail> {
+    for inputs in [TYPED.as_slice(), LOCKED.as_slice(), BESIDE.as_slice()] {
+        for input in inputs {
+            assert_eq!(rt;
+                answer(rt.alloc(), input.as_bytes())?.err(),
+                None,
+                "{input}"
+            );
+        }
     }
-    for (input, place, reason) in FAULTS {
-        has_fault(&rt, rt.alloc(), input, place, reason)?;
-    }
-    Ok(())
-}
-
-#[test]
-fn programs_with_mutexes(rt: HostRuntime) -> Result<(), Fail> {
-    for input in LOCKED {
-        has_type(&rt, rt.alloc(), input)?;
-    }
-    for (input, place, reason) in LOCK_FAULTS {
-        has_fault(&rt, rt.alloc(), input, place, reason)?;
+    for rows in [
+        ALONE.as_slice(),
+        FAULTS.as_slice(),
+        LOCK_FAULTS.as_slice(),
+        BESIDE_FAULTS.as_slice(),
+    ] {
+        for (input, place, reason) in rows {
+            let want = CheckError::Fault {
+                place: *place,
+                reason: *reason,
+            };
+            assert_eq!(rt;
+                answer(rt.alloc(), input.as_bytes())?.err(),
+                Some(want),
+                "{input}"
+            );
+        }
     }
     Ok(())
 }
 
 #[test]
-fn programs_with_blocks_beside_each_other(rt: HostRuntime) -> Result<(), Fail> {
-    for input in BESIDE {
-        has_type(&rt, rt.alloc(), input)?;
+fn nodes(rt: HostRuntime) -> Result<(), Fail> {
+    for (input, count, places, takes) in NODES {
+        let checked = answer(rt.alloc(), input.as_bytes())??;
+        assert_eq!(rt; checked.tree().len(), count);
+        for (node, place) in places {
+            assert!(rt; u64::from(*node) < checked.tree().len());
+            assert_eq!(rt; checked.lval(*node), *place, "{node} of {input}");
+        }
+        for (node, want) in takes {
+            assert!(rt; u64::from(*node) < checked.tree().len());
+            assert_eq!(rt; checked.takes(*node), *want, "{node} of {input}");
+        }
     }
-    for (input, place, reason) in BESIDE_FAULTS {
-        has_fault(&rt, rt.alloc(), input, place, reason)?;
-    }
-    Ok(())
-}
-
-#[test]
-fn a_captured_name_has_its_variable(rt: HostRuntime) -> Result<(), Fail> {
-    let checked = answer(
-        rt.alloc(),
-        b"{ let mut x = box 1; let mut y = 2; spawn (y, x) { x } }",
-    )??;
-    assert_eq!(rt; checked.tree().len(), 12);
-    assert_eq!(rt; checked.lval(5), Some(Lval { slot: 1, depth: 0 }));
-    assert_eq!(rt; checked.lval(6), Some(Lval { slot: 0, depth: 0 }));
-    assert!(rt; !checked.takes(5));
-    assert!(rt; checked.takes(6));
-    assert_eq!(rt; checked.lval(7), Some(Lval { slot: 1, depth: 0 }));
-    assert!(rt; checked.takes(8));
-    assert_eq!(rt; checked.lval(10), None);
-    Ok(())
-}
-
-#[test]
-fn a_content_stands_above_its_mutex(rt: HostRuntime) -> Result<(), Fail> {
-    let checked = answer(
-        rt.alloc(),
-        b"{ let mut m = mutex 1; let mut x = box 1; par (m) { lock m as c { print c } } (x) { print *x } }",
-    )??;
-    assert_eq!(rt; checked.tree().len(), 21);
-    assert_eq!(rt; checked.lval(6), Some(Lval { slot: 0, depth: 0 }));
-    assert!(rt; checked.takes(6));
-    assert_eq!(rt; checked.lval(7), Some(Lval { slot: 0, depth: 0 }));
-    assert_eq!(rt; checked.lval(8), Some(Lval { slot: 2, depth: 0 }));
-    assert!(rt; !checked.takes(9));
-    assert_eq!(rt; checked.lval(12), None);
-    assert_eq!(rt; checked.lval(14), Some(Lval { slot: 1, depth: 0 }));
-    assert!(rt; checked.takes(14));
-    assert_eq!(rt; checked.lval(15), Some(Lval { slot: 0, depth: 1 }));
     Ok(())
 }
