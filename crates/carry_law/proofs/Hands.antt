@@ -1,0 +1,277 @@
+-- A step that moves one value of its thread, or none that words see, leaves the words.
+use Rattle.std.proofs.Common.{◌≡◌, ◌⊎◌, inl, inr, ℕ, ◌+◌, false, List, [], ◌∷◌, ◌++◌, Option, Some, None, IsSome, option_map, refl, sym, ap, subst, ◌∙◌, arith}
+use Rattle.std.specs.Prelude.{slice_get, take, drop as drop_first, length}
+use Rattle.fr_base.specs.declared.instruction.Instr.{Instr}
+use Rattle.fr_base.specs.declared.instruction.Instr.TheVariants as instr
+use Rattle.fr_base.specs.declared.name.ObjNo.{ObjNo}
+use Rattle.fr_base.specs.declared.place.Lval.{Lval}
+use Rattle.journal.specs.View.{EntryView}
+use Rattle.thread_state.specs.View.{ThreadState}
+use Rattle.thread_state.specs.declared.phase.Phase.{Phase}
+use Rattle.thread_state.specs.declared.phase.Phase.TheVariants as phase
+use Rattle.server_model.specs.declared.event.What.TheVariants.{Step}
+use Rattle.server_model.specs.Servers.{Server, Cluster, server_at}
+use Rattle.server_model.specs.Work.{Hand, thread_in, set_thread, without_thread, put_back, then_some}
+use Rattle.server_model.specs.Clusters.{with_server, hand_over_newer, done_at, apply}
+use Rattle.server_model.specs.Events.{enabled, begin_work, begin_at, Stepped, step, step_in, stepped, does}
+use Rattle.heap_law.specs.Names.{Among, tot, other}
+use Rattle.heap_law.specs.Things.{Location, at_slot, in_cell, Thing, thread_things, server_things, servers_things, things_of}
+use Rattle.heap_law.specs.Follow.{Standing, value_in, leads, place_at}
+use Rattle.heap_law.specs.Sight.{sight}
+use Rattle.heap_law.specs.Requests.{lies_here, taken_there, taken_phase, lent_place as taken_place}
+use Rattle.heap_law.specs.Weights.{owners}
+use Rattle.heap_law.specs.Coherent.{IsSound}
+use Rattle.heap_law.proofs.Words.{none_at}
+use Rattle.path_law.proofs.Sole.{some_is}
+use Rattle.word_law.specs.Reworded.{HasPlaces}
+use Rattle.word_law.specs.Unmoved.{pointing, Taking, taking_by, with_taking, taking_of, takings, Untouched, LeavesWords}
+use Rattle.word_law.specs.PutBack.{put_in, StandsHere}
+use Rattle.word_law.proofs.Put.{Split, put_split}
+use Rattle.word_law.proofs.Takings.{leads_pointing}
+use Rattle.word_law.proofs.Follows.{seen_places_lead}
+use Rattle.word_law.proofs.Unmoved.{untouched_stays}
+use Rattle.event_law.specs.Laws.{Gives, GoTo, FewEvents}
+use Rattle.event_law.specs.Sums.{Sums}
+use Rattle.event_law.proofs.Results.{over_gives, test_gives, both_give}
+use Rattle.event_law.proofs.RulesKeep.{sums_kept}
+use Rattle.event_law.proofs.Trades.{tot-append}
+use Rattle.event_law.proofs.Sound.{sound_has_sums}
+use Rattle.event_law.proofs.Bags.{HandOk, all_standing, body_things, thread_number}
+use Rattle.event_law.proofs.Chains.{takes, puts_back}
+use Rattle.event_law.proofs.Events.{others_of, tot-server, begins_site, ends_site}
+use Rattle.event_law.proofs.Applied.{go_with}
+use Rattle.event_law.proofs.Sending.{applied_part, each_event_sends}
+use Rattle.stay_law.proofs.Alike.{Alike, itself, turned, chain, beside, exchanged, joined}
+use Rattle.stay_law.proofs.Lists.{thread_set, taken_alike}
+use Rattle.stay_law.proofs.Sites.{HandAlike, put_alike, begun_alike, ends_alike, servers_alike, replaced, handed_over}
+use Rattle.stay_law.proofs.Steps.{hand_itself}
+use Rattle.stay_law.proofs.Seen.{seen_alike}
+use Rattle.carry_law.proofs.Carrying.{carried_stays}
+use Rattle.carry_law.proofs.Replaced.{tail_of, places_on}
+use Rattle.carry_law.proofs.Passing.{Here, slot, Passes, is_carried, is_quiet}
+
+-- ONE AFTER ANOTHER
+
+pub leaves_chain : {a b c : Cluster} → LeavesWords a b → LeavesWords b c → LeavesWords a c
+leaves_chain p q = record {
+  words = λ h. (let x = p.words h in let y = q.words x.after in record { after = y.after; same = λ o. y.same o ∙ x.same o });
+  holders = λ h. q.holders (p.holders h);
+  dirty = λ h. q.dirty (p.dirty h);
+  past = λ h. q.past (p.past h);
+}
+
+-- HANDS
+
+-- words see the same of the thread and of its server, taken together
+pub record Together (code : List Instr) (n : ℕ) (h h2 : Hand) : Type 0 where
+  pub number : h2.work.rest.number ≡ h.work.rest.number
+  pub named : h2.thread.number ≡ h.thread.number
+  pub alike : Alike code (thread_things n false h.thread ++ body_things n h.work.rest) (thread_things n false h2.thread ++ body_things n h2.work.rest)
+
+pub each_together : {code : List Instr} {n : ℕ} {h h2 : Hand} → HandAlike code n [] h h2 → Together code n h h2
+each_together a = record { number = a.number; named = a.named; alike = beside a.thread a.rest }
+
+pub together_chain : {code : List Instr} {n : ℕ} {h h2 h3 : Hand} → Together code n h h2 → Together code n h2 h3 → Together code n h h3
+together_chain a b = record { number = b.number ∙ a.number; named = b.named ∙ a.named; alike = chain a.alike b.alike }
+
+-- one value of the thread moves at most; before that the thread changes where words don't see it
+pub data Moved (code : List Instr) (n : ℕ) (h h2 : Hand) : Type 0 where
+  seen : Together code n h h2 → Moved code n h h2
+  passed : {from to : Here} (x y : ThreadState) → x.number ≡ h.thread.number → Alike code (thread_things n false h.thread) (thread_things n false x) → ((o : ObjNo) → tot (owners o) (tail_of n x) ≡ tot (owners o) (tail_of n h.thread)) → Passes code n x y from to
+      → ((i : ℕ) → (slot i ≡ from) ⊎ (slot i ≡ to) → pointing (slice_get x.slots i) ≡ None) → Together code n (record h { thread = y }) h2 → Moved code n h h2
+
+pub moved_on : {code : List Instr} {n : ℕ} {h h2 h3 : Hand} → Moved code n h h2 → Together code n h2 h3 → Moved code n h h3
+moved_on (seen a) b = seen (together_chain a b)
+moved_on (passed x y e a o p w t) b = passed x y e a o p w (together_chain t b)
+
+-- WHAT THREADS HAVE TAKEN STANDS AT A PLACE
+
+record Taker (code : List Instr) (xs : List Standing) (t : Taking) : Type 0 where
+  taker : Standing
+  among : Among taker xs
+  taking : taking_of code taker ≡ Some t
+
+taker_of : (code : List Instr) (xs : List Standing) (t : Taking) → Among t (takings code xs) → Taker code xs t
+taker_of code [] t h = absurd h
+taker_of code (x ∷ xs) t h = by (taking_of code x) refl h (λ g. taker_of code xs t g)
+  where
+    later : Taker code xs t → Taker code (x ∷ xs) t
+    later y = record { taker = y.taker; among = inr y.among; taking = y.taking }
+
+    by : (o : Option Taking) → taking_of code x ≡ o → Among t (with_taking o (takings code xs)) → (Among t (takings code xs) → Taker code xs t) → Taker code (x ∷ xs) t
+    by None e g go = later (go g)
+    by (Some u) e (inl q) go = record { taker = x; among = inl refl; taking = e ∙ ap Some q }
+    by (Some u) e (inr g) go = later (go g)
+
+module _ (k : Cluster) (x : Standing) (t : Taking) where
+  placed : (w : ℕ) (p : Lval) → other (lies_here (sight k) x.server w (place_at (sight k).ground x.thread.number p)) ≡ 0 → (l : Location) × (place_at (sight k).ground x.thread.number p ≡ Some l)
+  placed w p z = by (place_at (sight k).ground x.thread.number p) refl z
+    where
+      by : (o : Option Location) → place_at (sight k).ground x.thread.number p ≡ o → other (lies_here (sight k) x.server w o) ≡ 0 → (l : Location) × (place_at (sight k).ground x.thread.number p ≡ Some l)
+      by None e f = absurd cc
+      by (Some l) e f = (l, e)
+
+  taker_placed : (p : Phase) (i : Option Instr) → slice_get k.code x.thread.pc ≡ i → taking_by x.thread.number p i ≡ Some t → taken_phase (sight k) x p ≡ 0 → (l : Location) × (place_at (sight k).ground t.thread t.place ≡ Some l)
+  taker_placed (phase.Taken w) (Some (instr.BorrowMut q)) code e z =
+      let there : other (lies_here (sight k) x.server w (place_at (sight k).ground x.thread.number q)) ≡ 0 = subst (λ j. taken_there (sight k) x w (taken_place j) ≡ 0) code z in
+      let is : record { thread = x.thread.number; place = q; word = w } ≡ t = some_is e in
+      let l = placed w q there in
+      (l.0, ap (λ (a : Taking). place_at (sight k).ground a.thread a.place) (sym is) ∙ l.1)
+  taker_placed _ _ code e z = absurd cc
+
+rooted : (k : Cluster) → IsSound k → (t : Taking) → Among t (takings k.code (sight k).ground.threads) → (l : Location) × (place_at (sight k).ground t.thread t.place ≡ Some l)
+rooted k sound t h =
+    let q = taker_of k.code (sight k).ground.threads t h in
+    taker_placed k q.taker t q.taker.thread.phase (slice_get k.code q.taker.thread.pc) refl q.taking (none_at (λ (x : Standing). taken_phase (sight k) x x.thread.phase) q.taker (sight k).ground.threads sound.requests.taken_stands q.among)
+
+-- it stays so where nothing changes that words see
+rooted_on : (k z : Cluster) → z.code ≡ k.code → Untouched k z → ((t : Taking) → Among t (takings k.code (sight k).ground.threads) → (l : Location) × (place_at (sight k).ground t.thread t.place ≡ Some l))
+    → (t : Taking) → Among t (takings z.code (sight z).ground.threads) → (l : Location) × (place_at (sight z).ground t.thread t.place ≡ Some l)
+rooted_on k z code u go t h =
+    let q = go t (u.takes t h) in
+    (q.0, seen_places_lead (sight k).ground (sight z).ground in_slots in_cells t.thread t.place.slot t.place.depth ∙ q.1)
+  where
+    in_slots : (t v i : ℕ) → leads t (value_in (sight z).ground (at_slot v i)) ≡ leads t (value_in (sight k).ground (at_slot v i))
+    in_slots t v i = sym (leads_pointing t (value_in (sight z).ground (at_slot v i))) ∙ ap (leads t) (u.stands (at_slot v i)) ∙ leads_pointing t (value_in (sight k).ground (at_slot v i))
+
+    in_cells : (t : ℕ) (o : ObjNo) → leads t (value_in (sight z).ground (in_cell o)) ≡ leads t (value_in (sight k).ground (in_cell o))
+    in_cells t o = sym (leads_pointing t (value_in (sight z).ground (in_cell o))) ∙ ap (leads t) (u.stands (in_cell o)) ∙ leads_pointing t (value_in (sight k).ground (in_cell o))
+
+module _ (k : Cluster) (sound : IsSound k) (s : Server) (here : server_at k.servers s.rest.number ≡ Some s) (t : ℕ) (y : ThreadState) (at : thread_in s.threads t ≡ Some y) where
+  abbrev n : ℕ
+  n = s.rest.number
+
+  abbrev others : List Thing
+  others = servers_things (others_of k.servers n)
+
+  abbrev pub Ok : Hand → Type 0
+  Ok = HandOk Sums n s.events t (all_standing n (without_thread s.threads t) ++ others)
+
+  abbrev with_hand : Hand → Server
+  with_hand h = record { rest = h.work.rest; threads = set_thread s.threads h.thread; events = s.events + 1 }
+
+  abbrev pub put : Hand → Cluster
+  put h = put_in k n s.threads (s.events + 1) h
+
+  pub places : (h : Hand) → Ok h → HasPlaces (put h)
+  places h g =
+      let site = puts_back sums_kept n s.events others t s.threads y at h g in
+      let left : Sums (server_things (with_hand h) ++ others) = ends_site sums_kept n s.events others None None (put_back s.threads h) site in
+      let sums : Sums (things_of (put h)) = sums_kept.same (server_things (with_hand h) ++ others) (things_of (put h)) (λ f. omega (arith, (tot-server f k.servers n s (with_hand h) here).1, tot-append f (server_things (with_hand h)) others)) left in
+      record { numbers_differ = sums.numbers_differ; home_of_each = sums.home_of_each; owner_of_each = sums.owner_of_each }
+
+  stands_here : (h : Hand) → h.work.rest.number ≡ n → h.thread.number ≡ t → StandsHere k n s.threads h
+  stands_here h e f = record {
+    server = subst (λ o. IsSome o) (sym here) refl;
+    number = e;
+    thread = subst (λ m. IsSome (thread_in s.threads m)) (sym f) (subst (λ o. IsSome o) (sym at) refl);
+  }
+
+  abbrev pub h0 : Hand
+  h0 = record { work = begin_work s.rest; thread = y }
+
+  its_number : y.number ≡ t
+  its_number = thread_number s.threads t y at
+
+  pub first_ok : Ok h0
+  first_ok =
+      let sums : Sums (server_things s ++ others) = sums_kept.same (things_of k) (server_things s ++ others) (λ f. omega (arith, (tot-server f k.servers n s s here).0, tot-append f (server_things s) others)) (sound_has_sums k sound) in
+      takes sums_kept n s.events others t (begin_at s) y at (begins_site sums_kept others s sums)
+
+  pub before : HasPlaces k
+  before = record { numbers_differ = sound.names.numbers_differ; home_of_each = sound.one_home.home_of_each; owner_of_each = sound.one_owner.owner_of_each }
+
+  first_alike : Alike k.code (things_of k) (things_of (put h0))
+  first_alike = servers_alike n k.servers s (with_hand h0) here (begun_alike s s.events None None (put_back s.threads h0) (put_alike k.code [] t (begin_at s) y at h0 (hand_itself k.code n h0)))
+
+  -- the third of three becomes the second
+  aside : (a w b : List Thing) → Alike k.code (a ++ w ++ b) (a ++ b ++ w)
+  aside a w b = chain (turned (joined a w b)) (chain (beside (itself a) (exchanged w b)) (joined a b w))
+
+  site_of : (h : Hand) → h.thread.number ≡ t → Alike k.code (all_standing n (set_thread s.threads h.thread) ++ body_things n h.work.rest) (thread_things n false h.thread ++ body_things n h.work.rest ++ all_standing n (without_thread s.threads t))
+  site_of h f =
+      let w = all_standing n (without_thread s.threads t) in
+      chain (beside (taken_alike (thread_things n false) 0 0 (thread_set s.threads t y h.thread at f)) (itself (body_things n h.work.rest))) (aside (thread_things n false h.thread) w (body_things n h.work.rest))
+
+  pub puts_alike : (h h2 : Hand) → h.work.rest.number ≡ n → h.thread.number ≡ t → Together k.code n h h2 → Alike k.code (things_of (put h)) (things_of (put h2))
+  puts_alike h h2 e f a =
+      replaced n k.servers s (with_hand h) (with_hand h2) [] here
+      (chain (turned (ends_alike n s.events None None (put_back s.threads h) e))
+      (chain (site_of h f) (chain (beside a.alike (itself (all_standing n (without_thread s.threads t)))) (chain (turned (site_of h2 (a.named ∙ f))) (ends_alike n s.events None None (put_back s.threads h2) (a.number ∙ e))))))
+
+  -- so the words stay
+  pub moved_leaves : (h : Hand) → Ok h → Moved k.code n h0 h → LeavesWords k (put h)
+  moved_leaves h g (seen a) = untouched_stays k (put h) before (places h g) (seen_alike k (put h) before (places h g) refl (chain first_alike (puts_alike h0 h refl its_number a)))
+  moved_leaves h g (passed x z e a owns p blind b) = leaves_chain first (leaves_chain second third)
+    where
+      ha : Hand
+      ha = record h0 { thread = x }
+
+      hb : Hand
+      hb = record h0 { thread = z }
+
+      place_a : HasPlaces (put ha)
+      place_a = places_on (put h0) (put ha) n y x e (put_split k n s.threads (s.events + 1) h0 ha (stands_here h0 refl its_number) refl e) owns (places h0 first_ok)
+
+      alike_a : Alike k.code (things_of k) (things_of (put ha))
+      alike_a = chain first_alike (puts_alike h0 ha refl its_number (record { number = refl; named = e; alike = beside a (itself (body_things n s.rest)) }))
+
+      seen_a : Untouched k (put ha)
+      seen_a = seen_alike k (put ha) before place_a refl alike_a
+
+      first : LeavesWords k (put ha)
+      first = untouched_stays k (put ha) before place_a seen_a
+
+      split : Split (things_of (put ha)) (things_of (put hb)) (thread_things n false x) (thread_things n false z)
+      split = put_split k n s.threads (s.events + 1) ha hb (stands_here ha refl (e ∙ its_number)) refl p.number
+
+      place_b : HasPlaces (put hb)
+      place_b = places_on (put ha) (put hb) n x z p.number split p.owns place_a
+
+      second : LeavesWords (put ha) (put hb)
+      second =
+          carried_stays (put ha) (put hb) _ _ place_a place_b (first.holders sound.words.first_at_holder)
+          (is_carried (put ha) (put hb) n x z _ _ p split refl place_a place_b
+          (is_quiet (put ha) (put hb) n x z _ _ p split refl place_a place_b blind (first.holders sound.words.first_at_holder) (rooted_on k (put ha) refl seen_a (rooted k sound))))
+
+      third : LeavesWords (put hb) (put h)
+      third = untouched_stays (put hb) (put h) place_b (places h g) (seen_alike (put hb) (put h) place_b (places h g) refl (puts_alike hb h refl (p.number ∙ e ∙ its_number) b))
+
+-- IN ITS CLUSTER
+
+-- the words stay with the server put back
+abbrev pub There : Cluster → Server → Server × EntryView → Type 0
+There k s r = LeavesWords k (record k { servers = with_server k.servers s.rest.number r.0 }) × HasPlaces (record k { servers = with_server k.servers s.rest.number r.0 })
+
+handed : (k : Cluster) (s : Server) → server_at k.servers s.rest.number ≡ Some s → (o : Option (Server × EntryView)) → Gives (There k s) o
+    → Gives (λ (r : Server × EntryView). GoTo (with_server k.servers s.rest.number r.0) (drop_first (length s.rest.outbox) r.0.rest.outbox)) o
+    → Gives (λ (d : Cluster × EntryView). HasPlaces d.0 → LeavesWords k d.0) (option_map (λ r. (record k { servers = hand_over_newer s.rest.number (length s.rest.outbox) r.0 k.servers }, r.1)) o)
+handed k s here None a g = tt
+handed k s here (Some r) a g = λ q.
+    let n = s.rest.number in
+    let older = length s.rest.outbox in
+    let mid : Cluster = record k { servers = with_server k.servers n r.0 } in
+    let end : Cluster = record k { servers = hand_over_newer n older r.0 k.servers } in
+    let alike : Alike k.code (things_of mid) (things_of end) = handed_over n older s r.0 k.servers here (go_with k.servers n r.0 (take older r.0.rest.outbox) (drop_first older r.0.rest.outbox) g) in
+    leaves_chain a.0 (untouched_stays mid end a.1 q (seen_alike mid end a.1 q refl alike))
+
+-- so they stay once messages are handed over
+pub left_where : (k : Cluster) (s : Server) (t : ℕ) → IsSound k → FewEvents k → server_at k.servers s.rest.number ≡ Some s → Gives (There k s) (does k.code k.options s (Step t)) → Gives (λ (d : Cluster × EntryView). LeavesWords k d.0) (apply k (record { server = s.rest.number; what = Step t }))
+left_where k s t sound few h go =
+    both_give (λ (d : Cluster × EntryView). HasPlaces d.0 → LeavesWords k d.0) (λ (d : Cluster × EntryView). HasPlaces d.0) (λ (d : Cluster × EntryView). LeavesWords k d.0) (apply k (record { server = s.rest.number; what = Step t }))
+    (subst (λ o. Gives (λ (d : Cluster × EntryView). HasPlaces d.0 → LeavesWords k d.0) (then_some o (λ x. option_map (λ d. (record k { servers = hand_over_newer s.rest.number (length x.rest.outbox) d.0 k.servers }, d.1)) (done_at k (Step t) x)))) (sym h)
+    (handed k s h (done_at k (Step t) s) (test_gives (There k s) (enabled k.options s (Step t)) (does k.code k.options s (Step t)) (λ on. go)) (each_event_sends k (record { server = s.rest.number; what = Step t }) sound few s h)))
+    (applied_part HasPlaces (λ c g. record { numbers_differ = g.numbers_differ; home_of_each = g.home_of_each; owner_of_each = g.owner_of_each }) k (record { server = s.rest.number; what = Step t }) sound few)
+    (λ d a c. a c)
+
+-- a step of its thread
+pub step_there : (k : Cluster) (sound : IsSound k) (s : Server) (here : server_at k.servers s.rest.number ≡ Some s) (t : ℕ) (y : ThreadState) (at : thread_in s.threads t ≡ Some y) (i : Instr) → slice_get k.code y.pc ≡ Some i
+    → Gives (λ (d : Stepped). Ok k sound s here t y at d.hand) (step k.options.servers i (h0 k sound s here t y at))
+    → Gives (λ (d : Stepped). Moved k.code s.rest.number (h0 k sound s here t y at) d.hand) (step k.options.servers i (h0 k sound s here t y at))
+    → Gives (There k s) (does k.code k.options s (Step t))
+step_there k sound s here t y at i code ok moved =
+    subst (λ o. Gives (There k s) (option_map (stepped s) (then_some (option_map (λ v. record { work = begin_work s.rest; thread = v }) o) (step_in k.code k.options.servers)))) (sym at)
+    (subst (λ o. Gives (There k s) (option_map (stepped s) (then_some o (λ j. step k.options.servers j (h0 k sound s here t y at))))) (sym code)
+    (over_gives (λ (d : Stepped). Ok k sound s here t y at d.hand × Moved k.code s.rest.number (h0 k sound s here t y at) d.hand) (There k s) (step k.options.servers i (h0 k sound s here t y at)) (stepped s)
+    (both_give (λ (d : Stepped). Ok k sound s here t y at d.hand) (λ (d : Stepped). Moved k.code s.rest.number (h0 k sound s here t y at) d.hand) (λ (d : Stepped). Ok k sound s here t y at d.hand × Moved k.code s.rest.number (h0 k sound s here t y at) d.hand) (step k.options.servers i (h0 k sound s here t y at)) ok moved (λ d a b. (a, b)))
+    (λ d g. (moved_leaves k sound s here t y at d.hand g.0 g.1, places k sound s here t y at d.hand g.0))))

@@ -1,0 +1,40 @@
+-- STEPS THAT CARRY A VALUE leave the words (this project's rules): a temporary value becomes a variable, the content of a new mutex, a thread's result, or is dropped, and
+-- a result that came becomes a temporary value.
+use Rattle.std.specs.Prelude.{◌≡◌, ⊤, ℕ, Some, slice_get}
+use Rattle.fr_base.specs.declared.instruction.Operand.{Operand}
+use Rattle.fr_base.specs.declared.instruction.Instr.{Instr}
+use Rattle.fr_base.specs.declared.instruction.Instr.TheVariants as instr
+use Rattle.journal.specs.View.{EntryView}
+use Rattle.thread_state.specs.View.{ThreadState}
+use Rattle.thread_state.specs.declared.value.Value.{Value}
+use Rattle.thread_state.specs.declared.value.Value.TheVariants as value
+use Rattle.server_model.specs.declared.event.What.TheVariants.{Step}
+use Rattle.server_model.specs.Servers.{Server, Cluster, server_at}
+use Rattle.server_model.specs.Work.{thread_in, last_of}
+use Rattle.server_model.specs.Clusters.{apply}
+use Rattle.heap_law.specs.Coherent.{IsSound}
+use Rattle.event_law.specs.Laws.{Gives, FewEvents}
+use Rattle.word_law.specs.Unmoved.{LeavesWords}
+
+-- an instruction that carries one value of its thread at most, to or from where no place of a thread leads
+pub data CarriesOne : Instr → Type 0 where
+  a_let : (o : Operand) → CarriesOne (instr.Let o)
+  a_mutex : (o : Operand) → CarriesOne (instr.Mutex o)
+  a_join : (o : Operand) → CarriesOne (instr.Join o)
+  an_end : (o : Operand) → CarriesOne (instr.End o)
+
+-- from a sound cluster, with its messages handed over, its step leaves each object the word that it had, whether it is done or asks
+abbrev pub StepsCarry : Type 0
+StepsCarry = (k : Cluster) (number t : ℕ) (s : Server) (y : ThreadState) (i : Instr) → IsSound k → FewEvents k → server_at k.servers number ≡ Some s → thread_in s.threads t ≡ Some y → slice_get k.code y.pc ≡ Some i → CarriesOne i
+    → Gives (λ (d : Cluster × EntryView). LeavesWords k d.0) (apply k (record { server = number; what = Step t }))
+
+-- a value that is no reference to an object
+abbrev pub IsNoReference : Value → Type 0
+IsNoReference (value.Shared r) = ⊥
+IsNoReference (value.Mut r) = ⊥
+IsNoReference v = ⊤
+
+-- and so does a discard where no reference to an object is on top
+abbrev pub DiscardsCarry : Type 0
+DiscardsCarry = (k : Cluster) (number t : ℕ) (s : Server) (y : ThreadState) (v : Value) → IsSound k → FewEvents k → server_at k.servers number ≡ Some s → thread_in s.threads t ≡ Some y → slice_get k.code y.pc ≡ Some instr.Discard
+    → last_of y.temps ≡ Some v → IsNoReference v → Gives (λ (d : Cluster × EntryView). LeavesWords k d.0) (apply k (record { server = number; what = Step t }))

@@ -1,0 +1,17 @@
+//! Laws of words where a value goes from one place to another.
+
+ghost use Rattle.carry_law.specs.Carried.{CarriedStays};
+ghost use Rattle.carry_law.specs.Steps.{DiscardsCarry, StepsCarry};
+
+/// Where a value goes from one place to another, from whose pointer no mutable reference was made, each object has the word that it had, references know the words
+/// at their holders, dirty references are alone and first words that were left are no words of today.
+pub fn values_are_carried()
+    ensures stays { CarriedStays }
+{}
+
+/// So it is from a sound cluster where a step declares a variable, makes a mutex, joins or ends a thread, and where it discards a value that is no reference to
+/// an object: what moves is a temporary value or a thread's gift, to which no place leads, and no place led to where it comes.
+pub fn steps_carry_values()
+    ensures steps { StepsCarry }
+    ensures discards { DiscardsCarry }
+{}
