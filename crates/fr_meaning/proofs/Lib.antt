@@ -18,3 +18,5 @@ pub mod StartLemmas
 pub mod LockSteps
 pub mod BodyLemmas
 pub mod ParentLemmas
+pub mod PairSteps
+pub mod TwinFacts

@@ -51,13 +51,6 @@ focus_push (x ∷ xs) n t f h =
 
 -- PARENTS
 
--- where no pair is
-pub no_parents : (xs : List Thread) → AreParents [] xs
-no_parents xs = λ t h. absurd (none h)
-  where
-    none : IsSome (pair_of [] 0) → ⊥
-    none h = let f : false ≡ true = h in cc
-
 -- a thread keeps its focus
 pub parents_same : (ps : List Pair) (xs : List Thread) (i : ℕ) (x y : Thread) → x ≡ get_or xs i x → y.number ≡ x.number → y.focus ≡ x.focus → AreParents ps xs → AreParents ps (slice_set xs i y)
 parents_same ps xs i x y is n f h = λ t p. focus_set xs i x y t is n f ∙ h t p

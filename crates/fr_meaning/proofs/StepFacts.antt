@@ -1,17 +1,16 @@
 -- What is known of a thread whose step can be done.
 use Rattle.std.proofs.Common.{◌≡◌, ℕ, ℤ, zero, suc, ◌<◌, Bool, true, false, List, [], ◌∷◌, length, get_or, Option, Some, None, refl, sym, ap, ◌∙◌, subst, arith}
-use Rattle.std.specs.Prelude.{⊤, IsSome, is_some, option_map, if◌then◌else◌}
+use Rattle.std.specs.Prelude.{IsSome, is_some, option_map, if◌then◌else◌}
 use Rattle.fr_base.specs.declared.label.Plain.TheVariants as plain
 use Rattle.fr_base.specs.declared.step.Fresh.{Fresh}
 use Rattle.fr_base.specs.declared.step.Fresh.TheVariants as fresh
 use Rattle.fr_plain.specs.declared.value.Value.{Value}
 use Rattle.fr_plain.specs.declared.value.Value.TheVariants.{Own, ToSlot, ToObject, Held}
-use Rattle.fr_plain.specs.Acts.{Act, do_spawn, do_join, do_mutex, do_dup, do_lock, do_unlock, do_par, do_par_end, Did, act, drops_last}
+use Rattle.fr_plain.specs.Acts.{Act, do_spawn, do_join, do_dup, do_lock, do_unlock, do_par_end, Did, act, drops_last}
 use Rattle.fr_plain.specs.Run.{Run, Move, next, move, Life, life_move}
 use Rattle.fr_plain.specs.Threads.{Passed, result_of_life, result_in as result_in_plain}
 use Rattle.fr_plain.specs.Whole.{no_name, Thread as PlainThread, Whole, Stepped, thread_at, is_given, pass, stepped, then_released, alone_stepped, started_with, joined, joined_with, done_act, moved, step_of, step, state_of}
 use Rattle.fr_forms.specs.declared.forms.Form.{Form}
-use Rattle.fr_meaning.specs.declared.frame.Done.{Done}
 use Rattle.fr_meaning.specs.declared.frame.Frame.{Frame}
 use Rattle.fr_meaning.specs.declared.next.Next.{Next}
 use Rattle.fr_meaning.specs.declared.next.Next.TheVariants as next_
@@ -19,7 +18,7 @@ use Rattle.fr_meaning.specs.declared.thread.Stage.{Stage}
 use Rattle.fr_meaning.specs.declared.thread.Stage.TheVariants as stage
 use Rattle.fr_meaning.specs.declared.thread.Thread.{Thread}
 use Rattle.fr_forms.specs.FormTerms.{AreInOrder, captures_of, captures_at}
-use Rattle.fr_meaning.specs.Next.{IsNext, next_takes, task_named, HasThreadsMove, IsThreadsMove, IsThreadsAct}
+use Rattle.fr_meaning.specs.Next.{IsNext, next_takes, task_named}
 use Rattle.fr_shared.specs.Places.{place_of}
 use Rattle.fr_acts.specs.SlotOrder.{newest_first}
 use Rattle.fr_meaning.specs.Beside.{Beside}
@@ -31,7 +30,7 @@ use Rattle.fr_forms.proofs.FormLemmas.{eq_cases}
 use Rattle.fr_meaning.proofs.OwnActs.{Owns, own_named, own_done, nameless}
 use Rattle.fr_meaning.proofs.StepLemmas.{not_done}
 use Rattle.fr_meaning.proofs.ThreadLists.{none_there, there_at, well_at}
-use Rattle.fr_meaning.proofs.NextMoves.{Moves, MovesBy, next_moves, run_owns}
+use Rattle.fr_meaning.proofs.NextMoves.{Moves, next_moves, run_owns}
 use Rattle.fr_meaning.proofs.WholeSteps.{life_moves, kept_result, moved_to}
 
 -- PLACES
@@ -188,7 +187,7 @@ join_finds s x m (ToSlot n) h = absurd (no_some {A = Stepped} None refl h)
 join_finds s x m (ToObject o) h = absurd (no_some {A = Stepped} None refl h)
 join_finds s x m (Held o) h = absurd (no_some {A = Stepped} None refl h)
 
-kept_ended : (g : Stage) (v : Value) → result_in g ≡ Some v → IsEnded g
+pub kept_ended : (g : Stage) (v : Value) → result_in g ≡ Some v → IsEnded g
 kept_ended stage.Alive v h = absurd cc
 kept_ended stage.Owing v h = absurd cc
 kept_ended stage.Loose v h = absurd cc
@@ -253,49 +252,6 @@ start_steps fs xs beside output t names i x node h =
     by (fresh.Thread u) m r k = by_new m r u (is_given s u) passed refl refl k
     by (fresh.Threads u w) m r k = absurd (no_some {A = Stepped} None refl k)
     by (fresh.Mutex q) m r k = absurd (no_some {A = Stepped} None refl k)
-
--- UNTIL ALL ACTS RUN
-
--- such an act comes next
-abbrev IsThreadsNext : Next → Type 0
-IsThreadsNext (next_.End d) = ⊤
-IsThreadsNext (next_.Join v) = ⊤
-IsThreadsNext (next_.Start node) = ⊤
-IsThreadsNext next_.Own = ⊤
-IsThreadsNext _ = ⊥
-
-by_act : (o : Option (Move Life)) (a : Act) → MovesBy a o → IsThreadsMove o → IsThreadsAct a
-by_act o a m known = subst IsThreadsAct m.2 (subst IsThreadsMove m.1 known)
-
-threads_next : (fs : List Form) (n : Next) (o : Option (Move Life)) → Moves fs n o → IsThreadsMove o → IsThreadsNext n
-threads_next fs (next_.End d) o m known = tt
-threads_next fs (next_.Join v) o m known = tt
-threads_next fs (next_.Start node) o m known = tt
-threads_next fs next_.Own o m known = tt
-threads_next fs (next_.Mutex v) o m known = by_act o (do_mutex v) m known
-threads_next fs (next_.Dup w) o m known = by_act o (do_dup w) m known
-threads_next fs (next_.Lock w node) o m known = by_act o (do_lock w) m known
-threads_next fs (next_.Unlock d) o m known = by_act o do_unlock m known
-threads_next fs (next_.Par node) o m known = by_act o (do_par m.0 m.1 m.2 m.3) m.4 known
-threads_next fs next_.ParEnd o m known = by_act o do_par_end m known
-
-other_next : (n : Next) → IsThreadsNext n → ((d : Done) → n ≡ next_.End d → ⊥) → ((v : Value) → n ≡ next_.Join v → ⊥) → ((node : ℕ) → n ≡ next_.Start node → ⊥) → (n ≡ next_.Own → ⊥) → ⊥
-other_next (next_.End d) known a b c e = a d refl
-other_next (next_.Join v) known a b c e = b v refl
-other_next (next_.Start node) known a b c e = c node refl
-other_next next_.Own known a b c e = e refl
-other_next (next_.Mutex v) known a b c e = known
-other_next (next_.Dup w) known a b c e = known
-other_next (next_.Lock w node) known a b c e = known
-other_next (next_.Unlock d) known a b c e = known
-other_next (next_.Par node) known a b c e = known
-other_next next_.ParEnd known a b c e = known
-
--- nothing else comes next
-pub no_other : (fs : List Form) (xs : List Thread) (beside : Beside) (output : List ℤ) (t : ℕ) (names : Fresh) (i : ℕ) (x : Thread) (n : Next) → Steps fs xs beside output t names i x n → HasThreadsMove (thread_at (threads_of fs xs) t) →
-    ((d : Done) → n ≡ next_.End d → ⊥) → ((v : Value) → n ≡ next_.Join v → ⊥) → ((node : ℕ) → n ≡ next_.Start node → ⊥) → (n ≡ next_.Own → ⊥) → ⊥
-no_other fs xs beside output t names i x n h known a b c e =
-    other_next n (threads_next fs n (life_move (life_at x.stage (run_in fs x))) (is_move h) (subst HasThreadsMove (there_at fs xs t i x h.place h.is).0 known)) a b c e
 
 -- SOME THREAD AT A PLACE
 

@@ -8,4 +8,5 @@ pub mod Next
 pub mod PoolView
 pub mod Entries
 pub mod Running
+pub mod Twins
 pub mod PoolInside

@@ -1,13 +1,11 @@
 -- What a thread does next: it ends, it joins another one, it starts one or two, it does something at a mutex, or it does an
 -- act of its own.
-use Rattle.std.specs.Prelude.{◌≡◌, ◌≢◌, ℕ, ⊤, List, [], ◌∷◌, ◌++◌, Option, Some, None}
+use Rattle.std.specs.Prelude.{◌≡◌, ◌≢◌, ℕ, List, [], ◌∷◌, ◌++◌, Option, Some, None}
 use Rattle.fr_base.specs.declared.label.Plain.TheVariants.{Task}
 use Rattle.fr_base.specs.declared.place.Lval.{Lval}
 use Rattle.fr_base.specs.declared.step.Wait.{Wait}
 use Rattle.fr_plain.specs.declared.value.Value.{Value}
 use Rattle.fr_plain.specs.declared.value.Value.TheVariants.{Own}
-use Rattle.fr_plain.specs.Acts.{Act, do_mutex, do_dup, do_lock, do_unlock, do_par, do_par_end}
-use Rattle.fr_plain.specs.Run.{Move, Life, life_move}
 use Rattle.fr_plain.specs.Threads.{Whole, Thread, state_of}
 use Rattle.fr_plain.specs.MachineThreads.{pair_of}
 use Rattle.fr_plain.specs.Machine.{mutex_behind, join_waits, lock_waits, pair_waits}
@@ -76,23 +74,3 @@ next_takes _ = no_name
 abbrev pub task_named : Value → Option ℕ
 task_named (Own (Task t)) = Some t
 task_named _ = None
-
--- UNTIL ALL ACTS RUN
-
--- an act of the forms of one thread and of starting and joining threads
-abbrev pub IsThreadsAct : Act → Type 0
-IsThreadsAct (do_mutex v) = ⊥
-IsThreadsAct (do_dup w) = ⊥
-IsThreadsAct (do_lock w) = ⊥
-IsThreadsAct do_unlock = ⊥
-IsThreadsAct (do_par cs r ds q) = ⊥
-IsThreadsAct do_par_end = ⊥
-IsThreadsAct _ = ⊤
-
-abbrev pub IsThreadsMove : Option (Move Life) → Type 0
-IsThreadsMove None = ⊤
-IsThreadsMove (Some m) = IsThreadsAct m.act
-
-abbrev pub HasThreadsMove : Option Thread → Type 0
-HasThreadsMove None = ⊤
-HasThreadsMove (Some x) = IsThreadsMove (life_move x.life)

@@ -6,15 +6,16 @@ ghost use Rattle.fr_plain.specs.Run.{Run, settle, block, last, lock, locked};
 ghost use Rattle.fr_plain.specs.Resolve.{dropping};
 ghost use Rattle.fr_forms.specs.declared.forms.Form.TheVariants as form_;
 ghost use Rattle.fr_forms.specs.Depths.{depth};
-ghost use Rattle.fr_forms.specs.FormTerms.{AreInOrder, IsLock, term_of, items_at};
+ghost use Rattle.fr_forms.specs.FormTerms.{AreInOrder, IsLock, body_run, term_of, items_at};
+ghost use Rattle.fr_meaning.specs.declared.thread.Stage.TheVariants as stage_;
 ghost use Rattle.fr_meaning.specs.FrameTerms.{Enters, wrapped, AreInside};
 ghost use Rattle.fr_meaning.specs.Threads.{IsWell, run_in};
 
 use crate::control::{end_items, enter, focus_in, leave_top};
 use crate::frame::{Done, Entered, Frame};
-use crate::thread::Thread;
-use fr_base::Plain;
-use fr_forms::Form;
+use crate::thread::{Stage, Thread};
+use fr_base::{Plain, ThreadNo};
+use fr_forms::{Body, Form};
 use fr_plain::Value;
 
 /// Goes into a term as the last item of a block with slots to drop, whose form has no items.
@@ -101,4 +102,37 @@ pub fn enter_locked(forms: &[Form], thread: &mut Thread, node: usize)
         *drops,
         &mut thread.frames,
     ));
+}
+
+/// A new thread of a pair at the start of its body, with its captured values as slots.
+pub fn start_body(
+    forms: &[Form],
+    node: usize,
+    body: &Body,
+    number: ThreadNo,
+    frames: Vec<Frame>,
+    slots: Vec<Value>,
+) -> Thread
+    requires order { AreInOrder forms.now }
+    requires inside { node < length forms.now }
+    requires none { items_at forms.now node ≡ [] }
+    requires part { body.now.term < length forms.now }
+    requires empty { frames.items ≡ [] }
+    requires room { 128 ≤ vec_capacity frames }
+    requires depth { depth (body_run (term_of forms.now) body.now) ≤ 128 }
+    ensures run { run_in forms.now result ≡ settle (body_run (term_of forms.now) body.now) }
+    ensures well { IsWell forms.now result }
+    ensures number { result.number ≡ number }
+    ensures stage { result.stage ≡ stage_.Owing }
+    ensures slots { result.slots.items ≡ slots.items }
+{
+    let mut frames = frames;
+    let focus = focus_in(enter_last(forms, node, body.term as usize, body.drops, &mut frames));
+    Thread {
+        number,
+        stage: Stage::Owing,
+        frames,
+        focus,
+        slots,
+    }
 }

@@ -15,6 +15,7 @@ mod running;
 mod standing;
 mod thread;
 mod threads;
+mod twins;
 
 pub use error::StepError;
 pub use need::Need;

@@ -2,12 +2,12 @@
 
 ghost use Rattle.std.specs.Prelude.{◌≡◌, ◌<◌, ◌∷◌, [], List, length, slice_index_or, vec_len, vec_capacity, Some, None, IsSome, IfOk, OnOk, OnErr};
 ghost use Rattle.fr_base.specs.declared.step.Fresh.TheVariants as fresh_;
-ghost use Rattle.fr_plain.specs.Whole.{step, thread_at};
+ghost use Rattle.fr_plain.specs.Whole.{step};
 ghost use Rattle.fr_forms.specs.declared.forms.Form.{Form};
 ghost use Rattle.fr_meaning.specs.declared.thread.Thread.{Thread};
 ghost use Rattle.fr_meaning.specs.declared.next.Next.TheVariants as next_;
 ghost use Rattle.fr_forms.specs.FormTerms.{AreInOrder, captures_at};
-ghost use Rattle.fr_meaning.specs.Next.{IsNext, HasThreadsMove};
+ghost use Rattle.fr_meaning.specs.Next.{IsNext};
 ghost use Rattle.fr_shared.specs.Places.{place_of};
 ghost use Rattle.fr_meaning.specs.Threads.{IsWell};
 ghost use Rattle.fr_meaning.specs.Beside.{beside_of};
@@ -21,6 +21,7 @@ use crate::machine::labels_ahead;
 use crate::next::{Next, next_of, task_named_by};
 use crate::thread::Thread;
 use crate::threads::{Made, Runner, go_alone, go_end, go_join, go_start};
+use crate::twins::{go_par, go_par_end};
 use fr_base::{Fresh, Labels, NoMemory, ThreadNo};
 use fr_forms::Form;
 use fr_plain::Value;
@@ -208,8 +209,7 @@ fn go_starting(
     Ok(labels)
 }
 
-/// One step of a thread under these new names, whose act is none at a mutex and of no pair. Where memory is refused nothing is
-/// changed but what room there is.
+/// One step of a thread under these new names. Where memory is refused nothing is changed but what room there is.
 pub fn go(
     alloc: Global,
     forms: &[Form],
@@ -220,7 +220,6 @@ pub fn go(
     requires order { AreInOrder forms.now }
     requires stands { Stands forms.now running.old }
     requires goes { IsSome (step (plain_of forms.now running.old) thread fresh) }
-    requires known { HasThreadsMove (thread_at (plain_of forms.now running.old).threads thread) }
     ensures step { IfOk result (λ l. step (plain_of forms.now running.old) thread fresh ≡ Some (record { state = plain_of forms.now running.new; labels = l.items })) }
     ensures stands { Stands forms.now running.new }
     ensures err { OnErr result (view_of forms.now running.new ≡ view_of forms.now running.old) }
@@ -241,6 +240,10 @@ pub fn go(
         Next::Dup(place) => go_dup(alloc, forms, running, &turn, place),
         Next::Lock(place, node) => go_lock(alloc, forms, running, &turn, place, node),
         Next::Unlock(done) => go_unlock(alloc, forms, running, &turn, done),
-        _ => unreachable!(),
+        Next::Par(node) => go_par(alloc, forms, running, &turn, node, fresh),
+        Next::ParEnd => {
+            go_par_end(forms, running, &turn);
+            Ok(Labels::new(alloc))
+        }
     }
 }

@@ -9,7 +9,7 @@ use Rattle.fr_meaning.specs.declared.next.Next.TheVariants as next
 use Rattle.fr_shared.specs.Places.{place_of}
 use Rattle.fr_meaning.specs.Threads.{numbers_of}
 use Rattle.fr_meaning.specs.Running.{plain_of}
-use Rattle.fr_meaning.proofs.StepFacts.{steps_at, no_step, no_other, takes_none, place_inside, thread_here, comes_at}
+use Rattle.fr_meaning.proofs.StepFacts.{steps_at, no_step, takes_none, place_inside, thread_here, comes_at}
 use Rattle.fr_meaning.proofs.WholeSteps.{stepped_to}
 use Rattle.fr_meaning.proofs.running.go.Goals as goal
 
@@ -218,11 +218,40 @@ returns-in-Lock-clause-step c =
     let same = takes_none c.args.forms.now r.threads.items (beside_of r.common) r.output.items c.args.thread c.args.fresh c.in-Some.at x.0 (next.Lock c.in-Lock.place c.in-Lock.node) (steps_at c.args.forms.now r.threads.items (beside_of r.common) r.output.items c.args.thread c.args.fresh c.in-Some.at (next.Lock c.in-Lock.place c.in-Lock.node) (numbers_of r.threads.items) c.requires.order c.requires.stands.well refl (ap (λ ns. place_of ns c.args.thread) (sym c.requires.stands.numbers) ∙ sym c.at.ensures.place ∙ c.in-Some.is) inside comes c.requires.goes x.0 x.1) refl in
     subst (λ (n : Fresh). IfOk c.go_lock.result (λ (l : WithRoom Label). step (plain_of c.args.forms.now r) c.args.thread n ≡ Some (record { state = plain_of c.args.forms.now c.go_lock.new.running; labels = l.items }))) (sym same) c.go_lock.ensures.step
 
-pub unreachable-requires-in_default-next_of : goal.unreachable-requires-in_default-next_of
-unreachable-requires-in_default-next_of c =
+pub go_par-requires-clause-inside : goal.go_par-requires-clause-inside
+go_par-requires-clause-inside c = place_inside c.args.running.now.threads.items c.args.thread c.in-Some.at (ap (λ ns. place_of ns c.args.thread) (sym c.requires.stands.numbers) ∙ sym c.at.ensures.place ∙ c.in-Some.is)
+
+pub go_par-requires-clause-next : goal.go_par-requires-clause-next
+go_par-requires-clause-next c =
     let r = c.args.running.now in
     let inside = place_inside r.threads.items c.args.thread c.in-Some.at (ap (λ ns. place_of ns c.args.thread) (sym c.requires.stands.numbers) ∙ sym c.at.ensures.place ∙ c.in-Some.is) in
-    let comes = comes_at r.threads.items c.in-Some.at c.index.result.now c.index-2.result.now c.deref.result.now c.next_of.result c.next_of.result inside c.index.ensures c.index-2.ensures c.deref.ensures.value refl c.next_of.ensures in
+    let comes = comes_at r.threads.items c.in-Some.at c.index.result.now c.index-2.result.now c.deref.result.now c.next_of.result (next.Par c.in-Par.node) inside c.index.ensures c.index-2.ensures c.deref.ensures.value c.in-Par.is c.next_of.ensures in
+    comes
+
+pub go_par_end-requires-clause-inside : goal.go_par_end-requires-clause-inside
+go_par_end-requires-clause-inside c = place_inside c.args.running.now.threads.items c.args.thread c.in-Some.at (ap (λ ns. place_of ns c.args.thread) (sym c.requires.stands.numbers) ∙ sym c.at.ensures.place ∙ c.in-Some.is)
+
+pub go_par_end-requires-clause-next : goal.go_par_end-requires-clause-next
+go_par_end-requires-clause-next c =
+    let r = c.args.running.now in
+    let inside = place_inside r.threads.items c.args.thread c.in-Some.at (ap (λ ns. place_of ns c.args.thread) (sym c.requires.stands.numbers) ∙ sym c.at.ensures.place ∙ c.in-Some.is) in
+    let comes = comes_at r.threads.items c.in-Some.at c.index.result.now c.index-2.result.now c.deref.result.now c.next_of.result (next.ParEnd) inside c.index.ensures c.index-2.ensures c.deref.ensures.value c.in-ParEnd.is c.next_of.ensures in
+    comes
+
+pub go_par_end-requires-clause-goes : goal.go_par_end-requires-clause-goes
+go_par_end-requires-clause-goes c =
+    let r = c.args.running.now in
+    let inside = place_inside r.threads.items c.args.thread c.in-Some.at (ap (λ ns. place_of ns c.args.thread) (sym c.requires.stands.numbers) ∙ sym c.at.ensures.place ∙ c.in-Some.is) in
+    let comes = comes_at r.threads.items c.in-Some.at c.index.result.now c.index-2.result.now c.deref.result.now c.next_of.result (next.ParEnd) inside c.index.ensures c.index-2.ensures c.deref.ensures.value c.in-ParEnd.is c.next_of.ensures in
     let x = thread_here r.threads.items c.in-Some.at inside in
-    no_other c.args.forms.now r.threads.items (beside_of r.common) r.output.items c.args.thread c.args.fresh c.in-Some.at x.0 c.next_of.result (steps_at c.args.forms.now r.threads.items (beside_of r.common) r.output.items c.args.thread c.args.fresh c.in-Some.at c.next_of.result (numbers_of r.threads.items) c.requires.order c.requires.stands.well refl (ap (λ ns. place_of ns c.args.thread) (sym c.requires.stands.numbers) ∙ sym c.at.ensures.place ∙ c.in-Some.is) inside comes c.requires.goes x.0 x.1) c.requires.known
-    c.in_default-next_of.not-End c.in_default-next_of.not-Join c.in_default-next_of.not-Start c.in_default-next_of.not-Own
+    let same = takes_none c.args.forms.now r.threads.items (beside_of r.common) r.output.items c.args.thread c.args.fresh c.in-Some.at x.0 (next.ParEnd) (steps_at c.args.forms.now r.threads.items (beside_of r.common) r.output.items c.args.thread c.args.fresh c.in-Some.at (next.ParEnd) (numbers_of r.threads.items) c.requires.order c.requires.stands.well refl (ap (λ ns. place_of ns c.args.thread) (sym c.requires.stands.numbers) ∙ sym c.at.ensures.place ∙ c.in-Some.is) inside comes c.requires.goes x.0 x.1) refl in
+    subst (λ (n : Fresh). IsSome (step (plain_of c.args.forms.now r) c.args.thread n)) same c.requires.goes
+
+pub returns-in-ParEnd-clause-step : goal.returns-in-ParEnd-clause-step
+returns-in-ParEnd-clause-step c =
+    let r = c.args.running.now in
+    let inside = place_inside r.threads.items c.args.thread c.in-Some.at (ap (λ ns. place_of ns c.args.thread) (sym c.requires.stands.numbers) ∙ sym c.at.ensures.place ∙ c.in-Some.is) in
+    let comes = comes_at r.threads.items c.in-Some.at c.index.result.now c.index-2.result.now c.deref.result.now c.next_of.result (next.ParEnd) inside c.index.ensures c.index-2.ensures c.deref.ensures.value c.in-ParEnd.is c.next_of.ensures in
+    let x = thread_here r.threads.items c.in-Some.at inside in
+    let same = takes_none c.args.forms.now r.threads.items (beside_of r.common) r.output.items c.args.thread c.args.fresh c.in-Some.at x.0 (next.ParEnd) (steps_at c.args.forms.now r.threads.items (beside_of r.common) r.output.items c.args.thread c.args.fresh c.in-Some.at (next.ParEnd) (numbers_of r.threads.items) c.requires.order c.requires.stands.well refl (ap (λ ns. place_of ns c.args.thread) (sym c.requires.stands.numbers) ∙ sym c.at.ensures.place ∙ c.in-Some.is) inside comes c.requires.goes x.0 x.1) refl in
+    ap (step (plain_of c.args.forms.now r) c.args.thread) same ∙ c.go_par_end.ensures.step ∙ ap (stepped_to (plain_of c.args.forms.now c.go_par_end.new.running)) (sym c.new-in-ParEnd.ensures)

@@ -3,15 +3,14 @@ use Rattle.std.proofs.lemmas.Result.{on_err_weaker}
 use Rattle.std.specs.Prelude.{IsSome, IfOk, OnOk, OnErr}
 use Rattle.fr_base.specs.Rooms.{WithRoom}
 use Rattle.fr_base.specs.declared.label.Label.{Label}
-use Rattle.fr_plain.specs.Whole.{Whole, thread_at, step}
+use Rattle.fr_plain.specs.Whole.{Whole, step}
 use Rattle.fr_sound.specs.Together.{AreTyped}
 use Rattle.fr_forms.specs.declared.forms.Form.{Form}
 use Rattle.fr_meaning.specs.Beside.{beside_of}
-use Rattle.fr_meaning.specs.Next.{HasThreadsMove}
 use Rattle.fr_meaning.specs.PoolView.{whole_of, total_left, refusal}
 use Rattle.fr_meaning.specs.Running.{plain_of, view_of, Stands}
 use Rattle.fr_meaning.proofs.EntryLemmas.{entries_whole, same_whole}
-use Rattle.fr_meaning.proofs.PoolLemmas.{typed_goes, typed_acts, typed_either, left_of}
+use Rattle.fr_meaning.proofs.PoolLemmas.{typed_goes, typed_either, left_of}
 use Rattle.fr_meaning.proofs.pool.Pool.go.Goals as goal
 
 pub go-requires-clause-goes : goal.go-requires-clause-goes
@@ -23,14 +22,6 @@ go-requires-clause-goes c =
     let free = subst (λ (w : Whole). refusal w c.args.thread c.args.fresh ≡ None) before c.requires in
     let typed = subst AreTyped (entries_whole fs r.threads.items (beside_of r.common) r.output.items) c.self.invariant.typed in
     subst (λ (ms : List Form). IsSome (step (plain_of ms r) c.args.thread c.args.fresh)) (sym c.deref.ensures.value) (typed_goes (plain_of fs r) c.args.thread c.args.fresh typed free)
-
-pub go-requires-clause-known : goal.go-requires-clause-known
-go-requires-clause-known c =
-    let p = c.self.inside in
-    let fs = p.forms.items in
-    let r = p.running in
-    let typed = subst AreTyped (entries_whole fs r.threads.items (beside_of r.common) r.output.items) c.self.invariant.typed in
-    subst (λ (ms : List Form). HasThreadsMove (thread_at (plain_of ms r).threads c.args.thread)) (sym c.deref.ensures.value) (typed_acts (plain_of fs r) c.args.thread typed)
 
 pub invariant_of-self : goal.invariant_of-self
 invariant_of-self c =
