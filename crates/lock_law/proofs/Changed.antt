@@ -17,7 +17,7 @@ use Rattle.heap_law.specs.Sight.{Sight, sight, with_things}
 use Rattle.heap_law.specs.Requests.{home_of}
 use Rattle.heap_law.specs.Naming.{count_of, threads, started_at, uncounted_thread, zeroth_thread, named_mutexes, uncounted_mutex, zeroth_mutex}
 use Rattle.heap_law.specs.Weights.{is_thread}
-use Rattle.heap_law.specs.OneHeap.{is_given_thread, one_heap, state_of, spot_owner}
+use Rattle.heap_law.specs.OneHeap.{Node, is_in_state, is_given_thread, one_heap, state_of, spot_owner}
 use Rattle.heap_law.specs.Coherent.{IsSound}
 use Rattle.event_law.specs.Laws.{GoTo}
 use Rattle.event_law.proofs.Trades.{Same, tot-append}
@@ -26,7 +26,7 @@ use Rattle.event_law.proofs.Events.{others_of, tot-server}
 use Rattle.event_law.proofs.Applied.{go_with}
 use Rattle.event_law.proofs.Handing.{hand_over_newer_law}
 use Rattle.still_law.specs.Shows.{sign_of, ShowAlike, gift_spot}
-use Rattle.still_law.proofs.Alike.{Once, same_state, same_once, same_spots, same_threads, same_places, same_gifts}
+use Rattle.still_law.proofs.Alike.{Once, same_state, same_once, same_spots, same_threads, same_places, same_nodes, same_gifts}
 use Rattle.still_law.proofs.Counting.{nought, stray, no_stray, no_stray_in}
 use Rattle.still_law.proofs.Gifts.{placed, telling, places_told}
 use Rattle.still_law.proofs.Once.{shown_once}
@@ -240,3 +240,7 @@ module _ (k : Cluster) (sound : IsSound k) (e : Event) (s : Server) (here : serv
       -- it stands for the one heap of the cluster afterwards
       pub state_after : Once (with_things k b) → SameState (one_heap k3) (state_of (with_things k b))
       state_after once = same_state k b (things_of k3) once alike_then unstray_then (no_stray k3)
+
+      -- who is in the state there is in that of the cluster
+      pub nodes_after : Once (with_things k b) → (q : Node) → is_in_state (with_things k b) q ≡ is_in_state (sight k3) q
+      nodes_after once = same_nodes k b (things_of k3) once alike_then unstray_then (no_stray k3)

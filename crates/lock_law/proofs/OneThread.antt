@@ -231,6 +231,14 @@ module _ (k : Cluster) (R G G2 : List Thing) (n : ℕ) (x became : ThreadState) 
       pub tot_same : (f g : Thing → ℕ) → Own (λ v. f v ≡ 0) → Own (λ v. g v ≡ 0) → f (stands n false x) + tot f G ≡ g (stands n false y) + tot g G2 → ((th : Thing) → of_thread t th ≡ 0 → f th ≡ g th) → tot f a ≡ tot g b
       tot_same f g own own2 e h = omega (arith, tot_of n x G R f own, tot_of n y G2 R g own2, e, tot_alike t f g h R lone)
 
+      -- whose names were given
+      pub given_same : ((h c : ℕ) → tot (started_at h c) G ≡ tot (started_at h c) G2) → (u : ℕ) → is_given_thread s u ≡ is_given_thread s2 u
+      given_same started u =
+          let h = home_of u in
+          let c = u % 2 ^ 32 in
+          let flat : Own (λ v. started_at h c v ≡ 0) = record { slots = λ w i v. refl; temps = λ w i v. refl; shared = λ l w. refl; lent = λ l w. refl; marks = λ l w. refl; used = λ w v. refl } in
+          ap (λ m. u == 0 || (not (c == 0) && some m)) (tot_same (started_at h c) (started_at h c) flat flat (omega (arith, started h c)) (λ th z. refl))
+
       pub mutex_given : ((h c : ℕ) → tot (made_at h c) G ≡ tot (made_at h c) G2) → (m : MutexNo) → is_given_mutex s m ≡ is_given_mutex s2 m
       mutex_given made m =
           let flat : Own (λ v. made_at m.home m.count v ≡ 0) = record { slots = λ w i v. refl; temps = λ w i v. refl; shared = λ l w. refl; lent = λ l w. refl; marks = λ l w. refl; used = λ w v. refl } in
@@ -370,46 +378,55 @@ module _ (k : Cluster) (R G G2 : List Thing) (n : ℕ) (x became : ThreadState) 
         pub owed_same : (r : ℕ) → extra (task_n r) ≡ false → is_branch s r || is_in_state s (task_n r) ≡ is_branch s2 r || is_in_state s2 (task_n r)
         owed_same r e = ap₂ (λ p q. p || q) (branch_same r) (in_same (task_n r) e)
 
+        -- a thread whose result is shown as before goes on as before
+        module _ (r : ℕ) (no_task : extra (task_n r) ≡ false) (silent : branch_result r (stands n false x) ≡ None) (silent2 : branch_result r (stands n false y) ≡ None) (shown : first_shown (result_value s r) G ≡ first_shown (result_value s2 r) G2) where
+          result_goes_on : result_of s r ≡ result_of s2 r
+          result_goes_on =
+              let flat : Own (λ v. branch_result r v ≡ None) = record { slots = λ u i v. refl; temps = λ u i v. refl; shared = λ l w. refl; lent = λ l w. refl; marks = λ l w. refl; used = λ u w. refl } in
+              ap₂ or_else (first_same (branch_result r) (branch_result r) flat flat silent silent2 (no_done r G beside ∙ sym (no_done r G2 beside2)) (λ th z. refl)) (ap₂ if_in (owed_same r no_task) (kept_same r shown))
+
+          pub way_goes_on : going_of s r ≡ going_of s2 r
+          way_goes_on = by r (owed_same r no_task)
+            where
+              by : (m : ℕ) → is_branch s m || is_in_state s (task_n m) ≡ is_branch s2 m || is_in_state s2 (task_n m) → going_of s m ≡ going_of s2 m
+              by zero e = refl
+              by (suc m) e = ap (λ q. if not q then as_loose else as_owing) e
+
+          life_by : (z : ThreadState) → z.number ≡ r → (q : Bool) → life_of s z q ≡ life_of s2 z q
+          life_by z e true = ap (λ m. ended_with (result_of s m)) e ∙ ap ended_with result_goes_on ∙ sym (ap (λ m. ended_with (result_of s2 m)) e)
+          life_by z e false =
+              going_is s z.number (running_at z) ∙ ap (λ m. life_as (going_of s m) (running_at z)) e ∙ ap (λ w. life_as w (running_at z)) way_goes_on ∙ sym (ap (λ m. life_as (going_of s2 m) (running_at z)) e) ∙ sym (going_is s2 z.number (running_at z))
+
+          pub life_goes_on : t ≢ r → life_at s r (thread_at (threads_in a) r) ≡ life_at s2 r (thread_at (threads_in b) r)
+          life_goes_on ne = by (thread_at (threads_in a) r) refl ∙ ap (life_at s2 r) (other_seen r ne)
+            where
+              by : (o : Option Standing) → thread_at (threads_in a) r ≡ o → life_at s r o ≡ life_at s2 r o
+              by None f = ap ended_with result_goes_on
+              by (Some w) f = life_by w.thread (among_thread (threads_in a) r w f).1 (is_over w.thread.phase)
+
         -- where the thread waits for no pair and isn't over, before and afterwards, and no task comes or goes
         module _ (no_task : (u : ℕ) → extra (task_n u) ≡ false) (results : (r : ℕ) → first_shown (result_value s r) G ≡ first_shown (result_value s2 r) G2) (calm : Calm x.phase) (calm2 : Calm became.phase) where
-          done_same : (r : ℕ) → first_shown (branch_result r) a ≡ first_shown (branch_result r) b
-          done_same r =
-              let flat : Own (λ v. branch_result r v ≡ None) = record { slots = λ u i v. refl; temps = λ u i v. refl; shared = λ l w. refl; lent = λ l w. refl; marks = λ l w. refl; used = λ u w. refl } in
-              first_same (branch_result r) (branch_result r) flat flat (ap (λ m. if_in (some m) (Some plain.Unit)) (none_got r x.phase calm.alone)) (ap (λ m. if_in (some m) (Some plain.Unit)) (none_got r became.phase calm2.alone)) (no_done r G beside ∙ sym (no_done r G2 beside2)) (λ th z. refl)
+          silent : (r : ℕ) → branch_result r (stands n false x) ≡ None
+          silent r = ap (λ m. if_in (some m) (Some plain.Unit)) (none_got r x.phase calm.alone)
 
-          result_same : (r : ℕ) → result_of s r ≡ result_of s2 r
-          result_same r = ap₂ or_else (done_same r) (ap₂ if_in (owed_same r (no_task r)) (kept_same r (results r)))
-
-          -- LIVES
+          silent2 : (r : ℕ) → branch_result r (stands n false y) ≡ None
+          silent2 r = ap (λ m. if_in (some m) (Some plain.Unit)) (none_got r became.phase calm2.alone)
 
           way_same : (r : ℕ) → going_of s r ≡ going_of s2 r
-          way_same zero = refl
-          way_same (suc r) = ap (λ q. if not q then as_loose else as_owing) (owed_same (suc r) (no_task (suc r)))
-
-          life_by : (z : Standing) (q : Bool) → life_of s z.thread q ≡ life_of s2 z.thread q
-          life_by z true = ap ended_with (result_same z.thread.number)
-          life_by z false =
-              going_is s z.thread.number (running_at z.thread) ∙ ap (λ w. life_as w (running_at z.thread)) (way_same z.thread.number) ∙ sym (going_is s2 z.thread.number (running_at z.thread))
+          way_same r = way_goes_on r (no_task r) (silent r) (silent2 r) (results r)
 
           life_same : (u : ℕ) → t ≢ u → life_at s u (thread_at (threads_in a) u) ≡ life_at s2 u (thread_at (threads_in b) u)
-          life_same u ne = by_seen (life_at s u) (life_at s2 u) (ap ended_with (result_same u)) u (λ w d q. life_by w (is_over w.thread.phase)) ne
+          life_same u = life_goes_on u (no_task u) (silent u) (silent2 u) (results u)
 
           -- NAMES
 
           module _ (started : (h c : ℕ) → tot (started_at h c) G ≡ tot (started_at h c) G2) where
-            given_same : (u : ℕ) → is_given_thread s u ≡ is_given_thread s2 u
-            given_same u =
-                let h = home_of u in
-                let c = u % 2 ^ 32 in
-                let flat : Own (λ v. started_at h c v ≡ 0) = record { slots = λ w i v. refl; temps = λ w i v. refl; shared = λ l w. refl; lent = λ l w. refl; marks = λ l w. refl; used = λ w v. refl } in
-                ap (λ m. u == 0 || (not (c == 0) && some m)) (tot_same (started_at h c) (started_at h c) flat flat (omega (arith, started h c)) (λ th z. refl))
-
             pub goes_on : is_given_thread s t ≡ true → GoesOn t (running_at x) (running_at y) (state_of s) (state_of s2)
             goes_on named = record {
               way = going_of s t;
               before = ap₂ if_given named (ap (life_at s t) (itself n x G R beside) ∙ ap (life_of s x) calm.goes ∙ going_is s t (running_at x));
               afterwards =
-                  ap₂ if_given (sym (given_same t) ∙ named) (ap (life_at s2 t) (itself n y G2 R beside2) ∙ ap (life_of s2 y) calm2.goes ∙ going_is s2 t (running_at y) ∙ ap (λ w. life_as w (running_at y)) (sym (way_same t)));
-              others = λ u ne. ap₂ if_given (given_same u) (life_same u ne);
+                  ap₂ if_given (sym (given_same started t) ∙ named) (ap (life_at s2 t) (itself n y G2 R beside2) ∙ ap (life_of s2 y) calm2.goes ∙ going_is s2 t (running_at y) ∙ ap (λ w. life_as w (running_at y)) (sym (way_same t)));
+              others = λ u ne. ap₂ if_given (given_same started u) (life_same u ne);
               pairs = for_all pair_of pair_of (calm.alone ∙ sym calm2.alone) refl (λ z. refl);
             }

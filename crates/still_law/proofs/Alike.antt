@@ -698,13 +698,16 @@ module _ (k : Cluster) (a b : List Thing) (once : Once (with_things k a)) (alike
   pub same_spots : (p : Spot) → spot_owner (with_things k a) p ≡ spot_owner (with_things k b) p
   same_spots p = spot_same k k a b refl once (λ o. true) (λ o e. absurd (cc e)) all_locks (λ w z n. alike w z) given given2 p
 
-  -- a thread shows the same, and a place leads alike
+  -- a thread shows the same, a place leads alike, and what is in the state is in it
   pub same_threads : (t : ℕ) → option_map shown_of (thread_at (threads_in a) t) ≡ option_map shown_of (thread_at (threads_in b) t)
   same_threads t = thread_same k k a b refl once (λ o. true) (λ o e. absurd (cc e)) all_locks (λ w z n. alike w z) given given2 t
 
   pub same_places : (t slot n : ℕ) → locate (with_things k a).ground t slot n ≡ locate (with_things k b).ground t slot n
   same_places t slot n =
       place_same k k a b refl once (λ o. true) (λ o e. absurd (cc e)) all_locks (λ w z n. alike w z) given given2 t slot n (λ m l. all_seen (locate (with_things k a).ground t slot m))
+
+  pub same_nodes : (n : Node) → is_in_state (with_things k a) n ≡ is_in_state (with_things k b) n
+  same_nodes n = in_same k k a b refl once (λ o. true) (λ o e. absurd (cc e)) all_locks (λ w z n. alike w z) given given2 n
 
   pub same_gifts : (t : ℕ) → gift_spot (with_things k a) t ≡ gift_spot (with_things k b) t
   same_gifts t = places_same k k a b refl once (λ o. true) (λ o e. absurd (cc e)) all_locks (λ w z n. alike w z) given given2 t

@@ -6,3 +6,6 @@ pub mod PairLines
 pub mod JoinTakes
 pub mod PlainJoin
 pub mod JoinLines
+pub mod ThreadEnds
+pub mod PlainEnd
+pub mod EndLines

@@ -1,6 +1,6 @@
 -- A thread goes on, and results that show at that thread alone are taken: their threads are over then, and all else is as it was.
-use Rattle.std.proofs.Common.{◌≡◌, ◌≢◌, ℕ, zero, suc, ◌+◌, ◌≤◌, ◌==◌, ◌||◌, not, Bool, true, false, if◌then◌else◌, List, [], ◌∷◌, ◌++◌, Option, Some, None, refl, sym, ap, ap₂, ◌∙◌, subst, arith}
-use Rattle.std.specs.Prelude.{◌%◌, ◌^◌, ◌&&◌}
+use Rattle.std.proofs.Common.{◌≡◌, ◌≢◌, ℕ, ◌+◌, ◌≤◌, ◌==◌, ◌||◌, not, Bool, true, false, if◌then◌else◌, List, [], ◌∷◌, ◌++◌, Option, Some, None, refl, sym, ap, ap₂, ◌∙◌, subst, arith}
+use Rattle.std.specs.Prelude.{◌&&◌}
 use Rattle.std.specs.List.{AllByRecursion}
 use Rattle.fr_typing.proofs.PlaceLemmas.{eq_cases}
 use Rattle.fr_base.specs.declared.name.MutexNo.{MutexNo}
@@ -31,7 +31,7 @@ use Rattle.still_law.proofs.Counting.{shown_result}
 use Rattle.still_law.proofs.Told.{told, ones, at_most}
 use Rattle.path_law.proofs.Contained.{among_thread}
 use Rattle.turn_law.proofs.Parts.{Own, owned_in}
-use Rattle.turn_law.proofs.OneTurn.{Going, as_loose, as_owing, life_as, going_of, going_is, of_thread, after}
+use Rattle.turn_law.proofs.OneTurn.{Going, life_as, going_of, going_is, of_thread, after}
 use Rattle.turn_law.proofs.Events.{AtStep, given_by_count}
 use Rattle.lock_law.proofs.Reach.{NoneUnder}
 use Rattle.lock_law.proofs.Beside.{IsBeside, IsLoose, loose_beside, all_so, gift_uncounted, all_of, first_with, tot_of, itself, cells_of}
@@ -56,7 +56,8 @@ pub record ResultsTaken (t : ℕ) (is_its : ℕ → Bool) (v : Plain) (p q : Cod
   pub mutexes : (m : MutexNo) → a.mutex m ≡ b.mutex m
   pub given : (m : MutexNo) → a.is_given m ≡ b.is_given m
 
-none_shown_there : (s : Sight) (r : ℕ) (xs : List Thing) → tot (λ v. told ones (shown_result s r v)) xs ≡ 0 → (first_shown (branch_result r) xs ≡ None) × (first_shown (result_value s r) xs ≡ None)
+-- where none is shown, nothing shows one
+pub none_shown_there : (s : Sight) (r : ℕ) (xs : List Thing) → tot (λ v. told ones (shown_result s r v)) xs ≡ 0 → (first_shown (branch_result r) xs ≡ None) × (first_shown (result_value s r) xs ≡ None)
 none_shown_there s r [] z = (refl, refl)
 none_shown_there s r (th ∷ xs) z =
     let go = none_shown_there s r xs (omega (arith, z)) in
@@ -91,7 +92,7 @@ over_found t (stands s p x ∷ xs) few l w e =
     by false q l = absurd (omega (arith, l))
 over_found t (_ ∷ xs) few l w e = over_found t xs (omega (arith, few)) (omega (arith, l)) w e
 
-none_if : (b : Bool) → if_in b None ≡ None
+pub none_if : (b : Bool) → if_in b None ≡ None
 none_if true = refl
 none_if false = refl
 
@@ -198,20 +199,10 @@ module _ (k : Cluster) (sound : IsSound k) (e : Event) (i : Instr) (s : Server) 
       pub shares : (m : MutexNo) → tot (share_in s1 m) G + (owned_in (mutex_n m) x.slots + owned_in (mutex_n m) x.temps) ≡ owned_in (mutex_n m) slots + owned_in (mutex_n m) temps
 
     module _ {v : Plain} {gone : Node → Bool} (c : Takes v gone) where
-      owed_same : (r : ℕ) → is_its r ≡ false → owed s1 r ≡ owed s2 r
-      owed_same r off = one_thread.owed_same k R G G2 n x z beside (tt, tt) lone1 locks gone c.none c.same r (c.no_other r off)
-
-      result_same : (r : ℕ) → is_its r ≡ false → result_of s1 r ≡ result_of s2 r
-      result_same r off =
-          ap₂ or_else
-          (one_thread.first_same k R G G2 n x z beside (tt, tt) lone1 locks (branch_result r) (branch_result r) (branch_flat r) (branch_flat r) (c.silent r off) refl (one_thread.no_done k R G G2 n x z beside (tt, tt) lone1 locks gone c.none c.same r G beside) (λ th w. refl))
-          (ap₂ if_in (owed_same r off) (one_thread.kept_same k R G G2 n x z beside (tt, tt) lone1 locks gone c.none c.same r (c.results r off)))
-
       -- LIVES
 
       way_same : (r : ℕ) → is_its r ≡ false → going_of s1 r ≡ going_of s2 r
-      way_same zero off = refl
-      way_same (suc r) off = ap (λ c. if not c then as_loose else as_owing) (owed_same (suc r) off)
+      way_same r off = one_thread.way_goes_on k R G G2 n x z beside (tt, tt) lone1 locks gone c.none c.same r (c.no_other r off) (c.silent r off) refl (c.results r off)
 
       itself_off : is_its x.number ≡ false
       itself_off = by (is_its x.number) refl
@@ -221,15 +212,7 @@ module _ (k : Cluster) (sound : IsSound k) (e : Event) (i : Instr) (s : Server) 
           by false m = m
 
       other_life : (u : ℕ) → x.number ≢ u → is_its u ≡ false → life_at s1 u (thread_at (threads_in s1.things) u) ≡ life_at s2 u (thread_at (threads_in s2.things) u)
-      other_life u ne off = by (thread_at (threads_in s1.things) u) refl ∙ ap (life_at s2 u) (seen_there u ne)
-        where
-          of : (w : Standing) → is_its w.thread.number ≡ false → (b : Bool) → life_of s1 w.thread b ≡ life_of s2 w.thread b
-          of w f true = ap ended_with (result_same w.thread.number f)
-          of w f false = going_is s1 w.thread.number (running_at w.thread) ∙ ap (λ g. life_as g (running_at w.thread)) (way_same w.thread.number f) ∙ sym (going_is s2 w.thread.number (running_at w.thread))
-
-          by : (o : Option Standing) → thread_at (threads_in s1.things) u ≡ o → life_at s1 u o ≡ life_at s2 u o
-          by None f = ap ended_with (result_same u off)
-          by (Some w) f = of w (ap is_its (among_thread (threads_in s1.things) u w f).1 ∙ off) (is_over w.thread.phase)
+      other_life u ne off = one_thread.life_goes_on k R G G2 n x z beside (tt, tt) lone1 locks gone c.none c.same u (c.no_other u off) (c.silent u off) refl (c.results u off) ne
 
       its_life : (u : ℕ) → is_its u ≡ true → life_at s1 u (thread_at (threads_in s1.things) u) ≡ ended_with (result_of s1 u)
       its_life u mine_too = by (thread_at (threads_in s1.things) u) refl
@@ -248,12 +231,7 @@ module _ (k : Cluster) (sound : IsSound k) (e : Event) (i : Instr) (s : Server) 
       -- NAMES
 
       given_same : (u : ℕ) → is_given_thread s1 u ≡ is_given_thread s2 u
-      given_same u =
-          let h = home_of u in
-          let c = u % 2 ^ 32 in
-          let flat : Own (λ v. started_at h c v ≡ 0) = record { slots = λ w j v. refl; temps = λ w j v. refl; shared = λ l w. refl; lent = λ l w. refl; marks = λ l w. refl; used = λ w v. refl } in
-          let counts : tot (started_at h c) G ≡ started_at h c counts_here = gift_uncounted (started_at h c) x.number counts_here (λ v. refl) x.gift in
-          ap (λ m. u == 0 || (not (c == 0) && some m)) (one_thread.tot_same k R G G2 n x z beside (tt, tt) lone1 locks (started_at h c) (started_at h c) flat flat (omega (arith, counts)) (λ th w. refl))
+      given_same = one_thread.given_same k R G G2 n x z beside (tt, tt) lone1 locks (λ h c. gift_uncounted (started_at h c) x.number counts_here (λ v. refl) x.gift ∙ omega arith)
 
       -- THE STATE
 

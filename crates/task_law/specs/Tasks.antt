@@ -1,7 +1,22 @@
--- WHICH INSTRUCTIONS: those of threads that wait for others. (A join that asks for its answer does no plain step)
-use Rattle.std.specs.Prelude.{Bool, true, false}
+-- WHICH INSTRUCTIONS: those of threads that end, or that wait for others. (A join that asks for its answer does no plain step)
+use Rattle.std.specs.Prelude.{◌≡◌, ◌⊎◌, ◌==◌, Bool, true, false, Option, Some}
+use Rattle.fr_base.specs.Lists.{last_of}
+use Rattle.fr_base.specs.declared.instruction.Operand.{Operand}
+use Rattle.fr_base.specs.declared.instruction.Operand.TheVariants as operand
 use Rattle.fr_base.specs.declared.instruction.Instr.{Instr}
 use Rattle.fr_base.specs.declared.instruction.Instr.TheVariants as instr
+use Rattle.heap_partition.specs.declared.value.Owned.TheVariants as owned
+use Rattle.thread_state.specs.View.{ThreadState}
+use Rattle.thread_state.specs.declared.value.Value.{Value}
+use Rattle.thread_state.specs.declared.value.Value.TheVariants as value
+use Rattle.server_model.specs.declared.event.Event.{Event}
+use Rattle.server_model.specs.Servers.{Cluster}
+use Rattle.server_model.specs.Clusters.{apply}
+use Rattle.heap_law.specs.Sight.{sight}
+use Rattle.heap_law.specs.OneHeap.{task_n, is_in_state}
+use Rattle.heap_law.specs.Coherent.{IsSound}
+use Rattle.event_law.specs.Laws.{Gives, FewEvents}
+use Rattle.turn_law.specs.Turns.{IsPlainStep, none_goes, instr_of, thread_of}
 
 -- the end of a pair
 abbrev pub ends_pair : Instr → Bool
@@ -12,3 +27,20 @@ ends_pair i = false
 abbrev pub joins_thread : Instr → Bool
 joins_thread (instr.Join o) = true
 joins_thread i = false
+
+-- THE END OF A THREAD
+
+-- what it ends with
+abbrev pub ends_with : Operand → ThreadState → Option Value
+ends_with operand.Pop y = last_of y.temps
+ends_with operand.Unit y = Some (value.Own owned.Unit)
+ends_with (operand.Const n) y = Some (value.Own (owned.Int n))
+
+-- that lets nothing go, or the thread isn't main and a task value of it is in the state, so that somebody will have it
+abbrev pub IsKept : Cluster → Operand → ThreadState → Type 0
+IsKept k o y = (none_goes (ends_with o y) ≡ true) ⊎ (((y.number == 0) ≡ false) × (is_in_state (sight k) (task_n y.number) ≡ true))
+
+-- from a sound cluster, each end of a thread is a plain step, its messages handed over, where what it ends with is such afterwards. (Else that is dropped)
+abbrev pub EndsArePlain : Type 0
+EndsArePlain =
+    (k : Cluster) (e : Event) (o : Operand) (y : ThreadState) → instr_of k e ≡ Some (instr.End o) → thread_of k e ≡ Some y → IsSound k → FewEvents k → Gives (λ d. IsKept d.0 o y → IsPlainStep k d) (apply k e)

@@ -1,5 +1,5 @@
 ghost use Rattle.heap_law.specs.Coherent.{IsSound};
-ghost use Rattle.task_law.specs.Tasks.{ends_pair, joins_thread};
+ghost use Rattle.task_law.specs.Tasks.{EndsArePlain, ends_pair, joins_thread};
 ghost use Rattle.turn_law.specs.Turns.{ArePlainSteps};
 
 /// From a sound cluster, each step at the end of a pair is the plain step of its thread on the one heap, its messages handed over: the parent goes on, and the results of
@@ -11,4 +11,10 @@ pub fn pair_end_steps()
 /// The same of a join: once its answer came, the thread goes on with the result, and the thread that it joined is over. (Before, it asks for it, which is no plain step)
 pub fn join_steps()
     ensures { ArePlainSteps IsSound joins_thread }
+{}
+
+/// The same of the end of a thread, where what it ends with lets nothing go, or the thread isn't main and a task value of it is in the state afterwards: then it is kept. (Else
+/// it is dropped)
+pub fn end_steps()
+    ensures { EndsArePlain }
 {}

@@ -61,13 +61,13 @@ use Rattle.turn_law.proofs.Events.{AtStep}
 -- ON THE PLAIN MACHINE
 
 -- a value whose drop takes no object along and lets nothing go
-abbrev keeps_all : PlainValue → Bool
+abbrev pub keeps_all : PlainValue → Bool
 keeps_all (plain_v.Own (plain.Box o)) = false
 keeps_all (plain_v.Own (plain.Mutex m)) = false
 keeps_all (plain_v.Own (plain.Task t)) = false
 keeps_all v = true
 
-lets_shown : (v : Value) → lets_none_go v ≡ keeps_all (plain_value v)
+pub lets_shown : (v : Value) → lets_none_go v ≡ keeps_all (plain_value v)
 lets_shown (value.Own owned.Nothing) = refl
 lets_shown (value.Own owned.Unit) = refl
 lets_shown (value.Own (owned.Int n)) = refl
@@ -112,13 +112,13 @@ none_released n c (plain.Mutex m) e = absurd (cc e)
 none_released n c (plain.Task t) e = absurd (cc e)
 
 -- the heap stays, no label is given, and nothing goes last
-heap_stays : (h : Heap) (v : PlainValue) → keeps_all v ≡ true → without h v ≡ h
+pub heap_stays : (h : Heap) (v : PlainValue) → keeps_all v ≡ true → without h v ≡ h
 heap_stays h (plain_v.Own v) e = links_stay (live h) h v e
 heap_stays h (plain_v.ToSlot i) e = refl
 heap_stays h (plain_v.ToObject o) e = refl
 heap_stays h (plain_v.Held m) e = refl
 
-no_drops : (v : PlainValue) → keeps_all v ≡ true → drops v ≡ []
+pub no_drops : (v : PlainValue) → keeps_all v ≡ true → drops v ≡ []
 no_drops (plain_v.Own plain.Nothing) e = refl
 no_drops (plain_v.Own plain.Unit) e = refl
 no_drops (plain_v.Own (plain.Int i)) e = refl
@@ -129,7 +129,7 @@ no_drops (plain_v.ToSlot i) e = refl
 no_drops (plain_v.ToObject o) e = refl
 no_drops (plain_v.Held m) e = refl
 
-none_last : (n : ℕ) (c : CodeWhole) (h : Heap) (v : PlainValue) → keeps_all v ≡ true → release_by n c (end_of h v) ≡ c
+pub none_last : (n : ℕ) (c : CodeWhole) (h : Heap) (v : PlainValue) → keeps_all v ≡ true → release_by n c (end_of h v) ≡ c
 none_last n c h (plain_v.Own v) e = ap (release_by n c) (last_stays (live h) h v e) ∙ none_released n c v e
 none_last n c h (plain_v.ToSlot i) e = none_released n c plain.Nothing refl
 none_last n c h (plain_v.ToObject o) e = none_released n c plain.Nothing refl
@@ -137,7 +137,7 @@ none_last n c h (plain_v.Held m) e = none_released n c plain.Nothing refl
 
 -- AT THE SERVER
 
-lets_unowned : (q : Node) (v : Value) → lets_none_go v ≡ true → value_owns q v ≡ false
+pub lets_unowned : (q : Node) (v : Value) → lets_none_go v ≡ true → value_owns q v ≡ false
 lets_unowned q (value.Own owned.Nothing) e = nothing_owns q
 lets_unowned q (value.Own owned.Unit) e = unit_owns q
 lets_unowned q (value.Own (owned.Int n)) e = int_owns q n
