@@ -10,10 +10,9 @@ use Rattle.fr_plain.specs.Whole.{Whole, Stepped, Refusal, refused, step, start}
 use Rattle.fr_terms.specs.Terms as terms
 use Rattle.fr_terms.specs.Terms.{block_t, let_t, assign_t, read_t, borrow_t, borrow_mut_t, number_t, unit_t, box_t, print_t, arith_t, join_t, mutex_t, dup_t, lock_t, spawn_t, par_t, Items, IsBlock}
 use Rattle.fr_typing.specs.Laws.{IsTyped}
-use Rattle.fr_typing.specs.Threaded.{IsThreaded}
-use Rattle.fr_sound.specs.Together.{AreTyped, StepsOn}
-use Rattle.fr_sound.proofs.Starting.{starts_together_lem}
-use Rattle.fr_sound.proofs.Together.{never_stuck_together_lem}
+use Rattle.fr_terms.specs.Limits.{HasShortPlaces}
+use Rattle.step_types.specs.TypedTerms.{AreTypedTerms, TermsStepOn}
+use Rattle.step_types.proofs.Programs.{programs_start_typed, typed_terms_step_on}
 use Rattle.fr_forms.specs.declared.forms.Form.{Form}
 use Rattle.fr_forms.specs.FormTerms.{root_of}
 use Rattle.fr_meaning.specs.PoolView.{error_of, refusal, total_left}
@@ -24,21 +23,21 @@ free_of None h = refl
 free_of (Some r) h = cc
 
 -- a thread that isn't refused steps, to a typed state
-typed_step : (s : Whole) (t : ℕ) (names : Fresh) → AreTyped s → refusal s t names ≡ None → StepsOn s t names
-typed_step s t names y h = never_stuck_together_lem s y t names (free_of (refused s t names) h)
+typed_step : (s : Whole) (t : ℕ) (names : Fresh) → AreTypedTerms s → refusal s t names ≡ None → TermsStepOn s t names
+typed_step s t names y h = typed_terms_step_on s y t names (free_of (refused s t names) h)
 
 -- so its step can be done
-pub typed_goes : (s : Whole) (t : ℕ) (names : Fresh) → AreTyped s → refusal s t names ≡ None → IsSome (step s t names)
+pub typed_goes : (s : Whole) (t : ℕ) (names : Fresh) → AreTypedTerms s → refusal s t names ≡ None → IsSome (step s t names)
 typed_goes s t names y h = subst (λ (o : Option Stepped). IsSome o) (sym (typed_step s t names y h).is) refl
 
 some_same : (a b : Stepped) → Some a ≡ Some b → a ≡ b
 some_same a b h = cc
 
 -- and the state that it leads to is typed
-typed_kept : (s new : Whole) (t : ℕ) (names : Fresh) (labels : List Label) → AreTyped s → refusal s t names ≡ None → step s t names ≡ Some (record { state = new; labels = labels }) → AreTyped new
+typed_kept : (s new : Whole) (t : ℕ) (names : Fresh) (labels : List Label) → AreTypedTerms s → refusal s t names ≡ None → step s t names ≡ Some (record { state = new; labels = labels }) → AreTypedTerms new
 typed_kept s new t names labels y h e =
     let z = typed_step s t names y h in
-    subst (λ (x : Stepped). AreTyped x.state) (some_same z.next (record { state = new; labels = labels }) (sym z.is ∙ e)) z.typed
+    subst (λ (x : Stepped). AreTypedTerms x.state) (some_same z.next (record { state = new; labels = labels }) (sym z.is ∙ e)) z.typed
 
 -- THE START
 
@@ -63,18 +62,18 @@ of_block P (spawn_t at cs t) b h = absurd b
 of_block P (par_t at cs t ds u) b h = absurd b
 
 -- a checked program starts typed
-pub root_starts : (fs : List Form) (t : terms.Term) → IsBlock t → IsThreaded t → IsTyped [] t → root_of fs ≡ program t → AreTyped (start (root_of fs))
+pub root_starts : (fs : List Form) (t : terms.Term) → IsBlock t → HasShortPlaces t → IsTyped [] t → root_of fs ≡ program t → AreTypedTerms (start (root_of fs))
 root_starts fs t b ok h e =
-    subst (λ (r : Run). AreTyped (start r)) (sym e)
-    (of_block (λ x. IsThreaded x → IsTyped [] x → AreTyped (start (program x))) t b (λ at ts ok h. starts_together_lem at ts h.kind h.after ok h.types) ok h)
+    subst (λ (r : Run). AreTypedTerms (start r)) (sym e)
+    (of_block (λ x. HasShortPlaces x → IsTyped [] x → AreTypedTerms (start (program x))) t b (λ at ts ok h. programs_start_typed at ts h.kind h.after ok h.types) ok h)
 
 -- AFTER A STEP
 
 module _ {E : Type 0} where
   -- where nothing is changed it is typed still
-  pub typed_either : (r : Result (WithRoom Label) E) (s new : Whole) (t : ℕ) (names : Fresh) → AreTyped s → refusal s t names ≡ None → IfOk r (λ (l : WithRoom Label). step s t names ≡ Some (record { state = new; labels = l.items })) → OnErr r (new ≡ s) → AreTyped new
+  pub typed_either : (r : Result (WithRoom Label) E) (s new : Whole) (t : ℕ) (names : Fresh) → AreTypedTerms s → refusal s t names ≡ None → IfOk r (λ (l : WithRoom Label). step s t names ≡ Some (record { state = new; labels = l.items })) → OnErr r (new ≡ s) → AreTypedTerms new
   typed_either (Ok l) s new t names y h e k = typed_kept s new t names l.items y h e
-  typed_either (Err x) s new t names y h e k = subst AreTyped (sym k) y
+  typed_either (Err x) s new t names y h e k = subst AreTypedTerms (sym k) y
 
   -- a step is one of those that are left
   pub left_of : (r : Result (WithRoom Label) E) (s new : Whole) (t : ℕ) (names : Fresh) → IfOk r (λ (l : WithRoom Label). step s t names ≡ Some (record { state = new; labels = l.items })) → OnOk r (total_left new.threads + 1 ≡ total_left s.threads)

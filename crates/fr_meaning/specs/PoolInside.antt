@@ -3,7 +3,7 @@ use Rattle.fr_meaning.specs.declared.pool.Pool.TheInside.{Inside}
 use Rattle.fr_forms.specs.FormTerms.{AreInOrder}
 use Rattle.fr_meaning.specs.Running.{view_of, Stands}
 use Rattle.fr_meaning.specs.PoolView.{View, whole_of}
-use Rattle.fr_sound.specs.Together.{AreTyped}
+use Rattle.step_types.specs.TypedTerms.{AreTypedTerms}
 
 abbrev pub pool_view : Inside → View
 pool_view p = view_of p.forms.items p.running
@@ -12,4 +12,4 @@ pool_view p = view_of p.forms.items p.running
 pub record IsPool (p : Inside) : Type 0 where
   pub order : AreInOrder p.forms.items
   pub stands : Stands p.forms.items p.running
-  pub typed : AreTyped (whole_of (pool_view p))
+  pub typed : AreTypedTerms (whole_of (pool_view p))

@@ -1,11 +1,10 @@
 //! The plain machine: threads over one heap.
 
 ghost use Rattle.std.specs.Prelude.{◌≡◌, ◌<◌, ◌≤◌, ◌+◌, [], length, Option, Some, None, IfOk, IfErr, OnOk, OnErr};
-ghost use Rattle.fr_typing.specs.Threaded.{IsThreaded};
 ghost use Rattle.fr_syntax.specs.Meanings.{term_of};
 ghost use Rattle.fr_plain.specs.Whole.{start, step, ending_of};
 ghost use Rattle.fr_plain.specs.Resolve.{program};
-ghost use Rattle.fr_sound.specs.Together.{AreTyped};
+ghost use Rattle.step_types.specs.TypedTerms.{AreTypedTerms};
 ghost use Rattle.fr_meaning.specs.declared.error.StepError.{StepError};
 ghost use Rattle.fr_meaning.specs.declared.error.StepError.TheVariants as step_error;
 ghost use Rattle.fr_forms.specs.Depths.{depth};
@@ -46,12 +45,10 @@ impl Model for Pool {
 }
 
 impl Pool {
-    /// The main thread at the start of a checked program's term, alone over an empty heap; the program has no mutexes and
-    /// no views. Takes time in the program's nodes.
+    /// The main thread at the start of a checked program's term, alone over an empty heap. Takes time in the program's nodes.
     pub fn new(alloc: Global, checked: &Checked) -> Result<Pool, NoMemory>
-        requires threaded { IsThreaded (term_of checked.now.arena) }
         ensures start { IfOk result (λ p. whole_of p ≡ start (program (term_of checked.now.arena))) }
-        ensures typed { IfOk result (λ p. AreTyped (whole_of p)) }
+        ensures typed { IfOk result (λ p. AreTypedTerms (whole_of p)) }
     {
         let forms = forms_of(alloc, checked)?;
         Pool::from_forms(alloc, forms)
@@ -62,9 +59,9 @@ impl Pool {
         requires order { AreInOrder forms.items }
         requires root { 0 < length forms.items }
         requires depth { depth (root_of forms.items) ≤ 128 }
-        requires typed { AreTyped (start (root_of forms.items)) }
+        requires typed { AreTypedTerms (start (root_of forms.items)) }
         ensures start { IfOk result (λ p. whole_of p ≡ start (root_of forms.items)) }
-        ensures typed { IfOk result (λ p. AreTyped (whole_of p)) }
+        ensures typed { IfOk result (λ p. AreTypedTerms (whole_of p)) }
     {
         let mut frames = Vec::new(alloc);
         frames.reserve(128)?;
@@ -78,7 +75,8 @@ impl Pool {
     }
 
     /// One step of a thread under these new names, with its labels. The refusals, in this order, each with the pool
-    /// unchanged: `NoThread` (no such thread was started), `Ended`, `Waits` (it joins a thread that goes on), `NameKind`
+    /// unchanged: `NoThread` (no such thread was started), `Ended`, `Waits` (it joins a thread that goes on, locks a mutex whose content is out, or waits for
+    /// the end of a pair), `NameKind`
     /// (the names aren't of the kind that the step takes), `NameUsed` (the name was given before), and `NoMemory`. Takes no
     /// time in the number of threads, but for those that go because their tasks are dropped.
     pub fn step(&mut self, thread: ThreadNo, fresh: Fresh) -> Result<Labels, StepError>

@@ -5,7 +5,7 @@ ghost use Rattle.fr_plain.specs.Examples.{left_first, again_lent};
 ghost use Rattle.fr_plain.specs.ThreadRuns.{joined};
 ghost use Rattle.fr_plain.specs.Whole.{start};
 ghost use Rattle.fr_plain.specs.Resolve.{program};
-ghost use Rattle.fr_sound.specs.Together.{AreTyped};
+ghost use Rattle.step_types.specs.TypedTerms.{AreTypedTerms};
 ghost use Rattle.fr_forms.specs.Depths.{depth};
 ghost use Rattle.fr_forms.specs.FormTerms.{AreInOrder, root_of};
 
@@ -89,7 +89,7 @@ fn printed<R: Abort>(rt: &R, alloc: Global, forms: Vec<Form>, steps: u32) -> i64
     requires order { AreInOrder forms.items }
     requires root { 0 < length forms.items }
     requires depth { depth (root_of forms.items) ≤ 128 }
-    requires typed { AreTyped (start (root_of forms.items)) }
+    requires typed { AreTypedTerms (start (root_of forms.items)) }
 {
     let mut pool = Pool::from_forms(alloc, forms).expect(rt, "memory");
     for _ in 0..steps {

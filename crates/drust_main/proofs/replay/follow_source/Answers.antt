@@ -15,9 +15,6 @@ use Rattle.drust_main.proofs.Refusals.{unfollowed_order}
 use Rattle.drust_main.proofs.Following.{replays_to}
 use Rattle.drust_main.proofs.replay.follow_source.Goals as goal
 
-pub new-requires : goal.new-requires
-new-requires c = record { threaded = c.in_ok-checked.ensures.typed.accepted }
-
 pub follow-requires : goal.follow-requires
 follow-requires c =
     let bytes = c.args.bytes.now in

@@ -4,12 +4,8 @@ use Rattle.fr_syntax.specs.Meanings.{term_of}
 use Rattle.fr_meaning.specs.PoolView.{whole_of}
 use Rattle.drust_main.specs.declared.words.Command.TheVariants.{Run}
 use Rattle.drust_main.proofs.Stepping.{few_at_start, runs_to}
-use Rattle.drust_main.proofs.FormLemmas.{accepted_threads}
 use Rattle.drust_main.proofs.OneThread.{starts_main}
 use Rattle.drust_main.proofs.run.run_source.Goals as goal
-
-pub new-requires : goal.new-requires
-new-requires c = record { threaded = accepted_threads Run (term_of c.in_ok-checked.checked.arena) c.in_ok-checked.ensures.typed.accepted }
 
 pub run_to_end-requires : goal.run_to_end-requires
 run_to_end-requires c = record { few = few_at_start Run c.args.bytes.now (term_of c.in_ok-checked.checked.arena) c.in_ok-pool.pool c.in_ok-checked.ensures.typed c.requires c.in_ok-pool.ensures.start; main = starts_main c.args.bytes.now (term_of c.in_ok-checked.checked.arena) (whole_of c.in_ok-pool.pool) c.in_ok-checked.ensures.typed c.in_ok-pool.ensures.start }

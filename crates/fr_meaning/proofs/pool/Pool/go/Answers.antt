@@ -4,7 +4,7 @@ use Rattle.std.specs.Prelude.{IsSome, IfOk, OnOk, OnErr}
 use Rattle.fr_base.specs.Rooms.{WithRoom}
 use Rattle.fr_base.specs.declared.label.Label.{Label}
 use Rattle.fr_plain.specs.Whole.{Whole, step}
-use Rattle.fr_sound.specs.Together.{AreTyped}
+use Rattle.step_types.specs.TypedTerms.{AreTypedTerms}
 use Rattle.fr_forms.specs.declared.forms.Form.{Form}
 use Rattle.fr_meaning.specs.Beside.{beside_of}
 use Rattle.fr_meaning.specs.PoolView.{whole_of, total_left, refusal}
@@ -20,7 +20,7 @@ go-requires-clause-goes c =
     let r = p.running in
     let before = sym (ap whole_of c.self.view_is) ∙ entries_whole fs r.threads.items (beside_of r.common) r.output.items in
     let free = subst (λ (w : Whole). refusal w c.args.thread c.args.fresh ≡ None) before c.requires in
-    let typed = subst AreTyped (entries_whole fs r.threads.items (beside_of r.common) r.output.items) c.self.invariant.typed in
+    let typed = subst AreTypedTerms (entries_whole fs r.threads.items (beside_of r.common) r.output.items) c.self.invariant.typed in
     subst (λ (ms : List Form). IsSome (step (plain_of ms r) c.args.thread c.args.fresh)) (sym c.deref.ensures.value) (typed_goes (plain_of fs r) c.args.thread c.args.fresh typed free)
 
 pub invariant_of-self : goal.invariant_of-self
@@ -30,7 +30,7 @@ invariant_of-self c =
     let r = p.running in
     let before = sym (ap whole_of c.self.view_is) ∙ entries_whole fs r.threads.items (beside_of r.common) r.output.items in
     let free = subst (λ (w : Whole). refusal w c.args.thread c.args.fresh ≡ None) before c.requires in
-    let typed = subst AreTyped (entries_whole fs r.threads.items (beside_of r.common) r.output.items) c.self.invariant.typed in
+    let typed = subst AreTypedTerms (entries_whole fs r.threads.items (beside_of r.common) r.output.items) c.self.invariant.typed in
     let n = c.go.new.running in
     let after = entries_whole fs n.threads.items (beside_of n.common) n.output.items in
     let steps = subst (λ (ms : List Form). IfOk c.go.result (λ (l : WithRoom Label). step (plain_of ms r) c.args.thread c.args.fresh ≡ Some (record { state = plain_of ms n; labels = l.items }))) c.deref.ensures.value c.go.ensures.step in
@@ -39,7 +39,7 @@ invariant_of-self c =
     record {
       order = c.self.invariant.order;
       stands = subst (λ (ms : List Form). Stands ms n) c.deref.ensures.value c.go.ensures.stands;
-      typed = subst AreTyped (sym after) (typed_either c.go.result (plain_of fs r) (plain_of fs n) c.args.thread c.args.fresh typed free steps same);
+      typed = subst AreTypedTerms (sym after) (typed_either c.go.result (plain_of fs r) (plain_of fs n) c.args.thread c.args.fresh typed free steps same);
     }
 
 pub returns-clause-stepped : goal.returns-clause-stepped
