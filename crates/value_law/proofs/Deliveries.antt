@@ -49,7 +49,7 @@ use Rattle.event_law.proofs.Known.{all_append}
 use Rattle.local_law.proofs.Small.{Of, pointer_put}
 use Rattle.local_law.proofs.MutexLists.{found, put_all, ends_all}
 use Rattle.local_law.proofs.Threads.{set_all, with_all, found_all}
-use Rattle.value_law.proofs.Fit.{Weights, Closed, owned_weight, OwnedFits, WordFits, body_weight, CellFits, ThreadFits, MessageFits, MutexFit, StateFits, TaskFits, made_fits, freed_fits, issued_fits, filled_fit, Base, RestFits}
+use Rattle.value_law.proofs.Fit.{Weights, Closed, owned_weight, OwnedFits, WordFits, body_weight, CellFits, ThreadFits, MessageFits, AskerFits, MutexFit, StateFits, TaskFits, made_fits, freed_fits, issued_fits, filled_fit, Base, RestFits}
 use Rattle.value_law.proofs.Middle.{F, places, object_fits, says_fits, with_copies, with_cells, gives_up, phased, walked, gifted, used, pinned_word, taken_up}
 
 module _ (w : Weights) where
@@ -74,11 +74,11 @@ module _ (w : Weights) where
     abbrev pub AskedFits : Mutexes × Asked → Type 0
     AskedFits p = HomeFit b p.0 × Granted p.1
 
-    pub asks : (ms : Mutexes) (m : MutexNo) (s t : ℕ) → w.thread t ≡ 0 → HomeFit b ms → Gives AskedFits (ask ms m s t)
+    pub asks : (ms : Mutexes) (m : MutexNo) (s t : ℕ) → w.thread t + w.asker s t ≡ 0 → HomeFit b ms → Gives AskedFits (ask ms m s t)
     asks ms m s t z a = by (mutex_in ms.there m) (found (MutexFit w) ms.there m a.there)
       where
         of : (x : Mutex) (c : Option Owned) → Gives (OwnedFits w) c → MutexFit w x → AskedFits (asked_of ms s t c x)
-        of x None k p = (puts ms (record x { queue = x.queue ++ (s, t) ∷ [] }) (record { named = p.named; inside = p.inside; waiting = all_append (λ (q : ℕ × ℕ). w.thread q.1 ≡ 0) x.queue ((s, t) ∷ []) p.waiting (z, tt) }) a, tt)
+        of x None k p = (puts ms (record x { queue = x.queue ++ (s, t) ∷ [] }) (record { named = p.named; inside = p.inside; waiting = all_append (AskerFits w) x.queue ((s, t) ∷ []) p.waiting (z, tt) }) a, tt)
         of x (Some v) k p = (puts ms (record x { content = None }) (record { named = p.named; inside = tt; waiting = p.waiting }) a, k)
 
         by : (o : Option Mutex) → Gives (MutexFit w) o → Gives AskedFits (asked_in ms s t o)
@@ -86,7 +86,7 @@ module _ (w : Weights) where
         by (Some x) p = of x x.content p.inside p
 
     abbrev Goes : Back → Type 0
-    Goes (back.Next s t v) = (w.thread t ≡ 0) × OwnedFits w v
+    Goes (back.Next s t v) = (w.thread t + w.asker s t ≡ 0) × OwnedFits w v
     Goes (back.Ended v) = OwnedFits w v
     Goes back.Kept = ⊤
 
@@ -100,7 +100,7 @@ module _ (w : Weights) where
         alone x true p = (goes ms x.number a, k)
         alone x false p = (puts ms (record x { content = Some v }) (record { named = p.named; inside = k; waiting = p.waiting }) a, tt)
 
-        queue : (x : Mutex) (l : List (ℕ × ℕ)) → AllByRecursion (λ (q : ℕ × ℕ). w.thread q.1 ≡ 0) l → MutexFit w x → BackFits (back_to ms v x l)
+        queue : (x : Mutex) (l : List (ℕ × ℕ)) → AllByRecursion (AskerFits w) l → MutexFit w x → BackFits (back_to ms v x l)
         queue x [] q p = alone x (x.shares == 0) p
         queue x (first ∷ rest) q p = (puts ms (record x { queue = rest }) (record { named = p.named; inside = p.inside; waiting = q.1 }) a, (q.0, k))
 
@@ -169,12 +169,12 @@ module _ (w : Weights) where
   abbrev JoinedFits : List Task × Option Owned → Type 0
   JoinedFits p = All p.0 × Gives (OwnedFits w) p.1
 
-  joined_by : (xs : List Task) (t s u : ℕ) → w.thread t ≡ 0 → w.thread u ≡ 0 → All xs → (o : Option TaskState) → Gives (StateFits w) o → Gives JoinedFits (asked_from xs t s u o)
+  joined_by : (xs : List Task) (t s u : ℕ) → w.thread t ≡ 0 → w.thread u + w.asker s u ≡ 0 → All xs → (o : Option TaskState) → Gives (StateFits w) o → Gives JoinedFits (asked_from xs t s u o)
   joined_by xs t s u z y a (Some going) k = (turned xs t (tasks.asked s u) z y a, tt)
   joined_by xs t s u z y a (Some (kept v)) k = (gone xs t a, k)
   joined_by xs t s u z y a _ k = tt
 
-  pub joined : (xs : List Task) (t s u : ℕ) → w.thread t ≡ 0 → w.thread u ≡ 0 → All xs → Gives JoinedFits (tasks.ask xs t s u)
+  pub joined : (xs : List Task) (t s u : ℕ) → w.thread t ≡ 0 → w.thread u + w.asker s u ≡ 0 → All xs → Gives JoinedFits (tasks.ask xs t s u)
   joined xs t s u z y a = joined_by xs t s u z y a (state_of xs t) (noted xs t a)
 
   lets_by : (xs : List Task) (t : ℕ) → w.thread t ≡ 0 → All xs → (o : Option TaskState) → Gives (StateFits w) o → Gives JoinedFits (let_go_from xs t o)
@@ -186,7 +186,7 @@ module _ (w : Weights) where
   lets_go xs t z a = lets_by xs t z a (state_of xs t) (noted xs t a)
 
   abbrev Tells : EndedAs → Type 0
-  Tells (over.Answer s t v) = (w.thread t ≡ 0) × OwnedFits w v
+  Tells (over.Answer s t v) = (w.thread t + w.asker s t ≡ 0) × OwnedFits w v
   Tells (over.LetGo v) = OwnedFits w v
   Tells e = ⊤
 
@@ -232,7 +232,7 @@ module _ (w : Weights) (b : Base) (closed : Closed w b.limit) where
   abbrev pub SiteFits : Site → Type 0
   SiteFits x = RestFits w b x.work.rest × AllByRecursion (ThreadFits w) x.threads
 
-  says : (t : ℕ) (m : Message) (r : Rest) → MessageFits w m → RestFits w b r → RestFits w b (sent_from r t m)
+  says : (t : ℕ) (m : Message) (r : Rest) → MessageFits w t m → RestFits w b r → RestFits w b (sent_from r t m)
   says = says_fits w b closed
 
   mutexes_put : (ms : Mutexes) (r : Rest) → HomeFit w b ms → RestFits w b r → RestFits w b (record r { mutexes = ms })
@@ -256,7 +256,7 @@ module _ (w : Weights) (b : Base) (closed : Closed w b.limit) where
 
   -- OBJECTS
 
-  fetches : (v : ℕ) (o : ObjNo) (s t : ℕ) (x : Work) → w.word v + w.thread t ≡ 0 → OfWork x → Gives OfWork (deliver_fetch v o s t x)
+  fetches : (v : ℕ) (o : ObjNo) (s t : ℕ) (x : Work) → w.word v + w.thread t + w.asker s t ≡ 0 → OfWork x → Gives OfWork (deliver_fetch v o s t x)
   fetches v o s t x k a =
       let part = a.partition in
       map_gives OfWork (look_object x.rest.partition v o) _ (λ c q.
@@ -266,7 +266,7 @@ module _ (w : Weights) (b : Base) (closed : Closed w b.limit) where
   freed_rest : (v : ℕ) (x : Rest) → RestFits w b x → RestFits w b (record x { partition = freed x.partition v })
   freed_rest v x a = with_cells w b closed (freed x.partition v) x (freed_fits w b.limit closed x.partition v a.partition) a
 
-  moves : (v : ℕ) (o : ObjNo) (s t : ℕ) (x : Work) → w.word v + w.thread t ≡ 0 → OfWork x → Gives OfWork (deliver_move v o s t x)
+  moves : (v : ℕ) (o : ObjNo) (s t : ℕ) (x : Work) → w.word v + w.thread t + w.asker s t ≡ 0 → OfWork x → Gives OfWork (deliver_move v o s t x)
   moves v o s t x k a =
       let part = a.partition in
       map_gives OfWork (look_object x.rest.partition v o) _ (λ c q.
@@ -364,7 +364,7 @@ module _ (w : Weights) (b : Base) (closed : Closed w b.limit) where
   left_over None x k a = a
   left_over (Some v) x k a = gives_up w b closed v x k a
 
-  locks : (m : MutexNo) (s t : ℕ) (x : Work) → w.mutex m + w.thread t ≡ 0 → OfWork x → Gives OfWork (deliver_lock m s t x)
+  locks : (m : MutexNo) (s t : ℕ) (x : Work) → w.mutex m + w.thread t + w.asker s t ≡ 0 → OfWork x → Gives OfWork (deliver_lock m s t x)
   locks m s t x k a = over_gives (AskedFits w b) OfWork (ask x.rest.mutexes m s t) _ (asks w b x.rest.mutexes m s t (omega (arith, k)) (home x.rest a)) (λ p q. by p.0 p.1 q.0 q.1)
     where
       by : (ms : Mutexes) (g : Asked) → HomeFit w b ms → Granted w b g → OfWork (answer_lock m s t g (with_mutexes ms x))
@@ -382,10 +382,10 @@ module _ (w : Weights) (b : Base) (closed : Closed w b.limit) where
       by ms (back.Ended u) h g = gives_up w b closed u (with_mutexes ms x) g (mutexes_put ms x.rest h a)
       by ms back.Kept h g = mutexes_put ms x.rest h a
 
-  dups : (m : MutexNo) (s t : ℕ) (x : Work) → w.mutex m + w.thread t ≡ 0 → OfWork x → Gives OfWork (deliver_dup m s t x)
+  dups : (m : MutexNo) (s t : ℕ) (x : Work) → w.mutex m + w.thread t + w.asker s t ≡ 0 → OfWork x → Gives OfWork (deliver_dup m s t x)
   dups m s t x k a = over_gives (HomeFit w b) OfWork (more x.rest.mutexes m) _ (mores w b x.rest.mutexes m (home x.rest a)) (λ ms h. says s (message.Dupped m t) (record x.rest { mutexes = ms }) (omega (arith, k)) (mutexes_put ms x.rest h a))
 
-  joins : (u s t : ℕ) (x : Work) → w.thread u + w.thread t ≡ 0 → OfWork x → Gives OfWork (deliver_join u s t x)
+  joins : (u s t : ℕ) (x : Work) → w.thread u + w.thread t + w.asker s t ≡ 0 → OfWork x → Gives OfWork (deliver_join u s t x)
   joins u s t x k a = over_gives (JoinedFits w) OfWork (tasks.ask x.rest.tasks u s t) _ (joined w x.rest.tasks u s t (omega (arith, k)) (omega (arith, k)) a.tasks) (λ p q. by p.0 p.1 q.0 q.1)
     where
       by : (ts : List Task) (o : Option Owned) → AllByRecursion (TaskFits w) ts → Gives (OwnedFits w) o → OfWork (answer_join u s t o (with_tasks ts x))
@@ -416,7 +416,7 @@ module _ (w : Weights) (b : Base) (closed : Closed w b.limit) where
 
   -- ALL MESSAGES
 
-  pub message_fits : (code : List Instr) (m : Message) (x : Site) → MessageFits w m → SiteFits x → Gives SiteFits (deliver_message code m x)
+  pub message_fits : (code : List Instr) (m : Message) (x : Site) → MessageFits w b.number m → SiteFits x → Gives SiteFits (deliver_message code m x)
   message_fits code (message.Fetch v o s t) x k a = beside (deliver_fetch v o s t) x a (fetches v o s t x.work (omega (arith, k)) a.0)
   message_fits code (message.Fetched v c t) x k a = at t (deliver_fetched v c) x a (λ y f. fills y v c (record { work = x.work; thread = y }) (omega (arith, k)) (taken_up w b closed y x.work.rest a.0 f))
   message_fits code (message.Move v o s t) x k a = beside (deliver_move v o s t) x a (moves v o s t x.work (omega (arith, k)) a.0)

@@ -74,11 +74,11 @@ module _ (w : Weights) (b : Base) (closed : Closed w b.limit) (code : List Instr
             copies = rest.copies;
             mutexes = rest.mutexes;
             tasks = rest.tasks;
-            waiting = remove_all (MessageFits w) s.rest.inbox i rest.waiting;
+            waiting = remove_all (MessageFits w b.number) s.rest.inbox i rest.waiting;
             leaving = rest.leaving;
           } in
           over_gives (SiteFits w b closed) (Then b) (deliver_message code m (received i s)) (left_by s.events None None)
-          (message_fits w b closed code m (received i s) (all_at (MessageFits w) s.rest.inbox i m rest.waiting q) (less, fits.1)) (λ x a. a)
+          (message_fits w b closed code m (received i s) (all_at (MessageFits w b.number) s.rest.inbox i m rest.waiting q) (less, fits.1)) (λ x a. a)
 
   evicting : (v : ℕ) → Gives (Then b) (does code o s (Evict v))
   evicting v =

@@ -32,7 +32,7 @@ use Rattle.event_law.proofs.Objects.{length_set}
 use Rattle.event_law.proofs.Known.{all_or, all_set, all_append}
 
 -- how much each name weighs: a word, a thread, a mutex, the object of a cell, the stars of a holder, the next colour of a free address, how many objects
--- a thread has made, and the mark of a lock among temporary values
+-- a thread has made, the mark of a lock among temporary values, and a thread that asks with its server
 pub record Weights : Type 0 where
   pub word : ℕ → ℕ
   pub thread : ℕ → ℕ
@@ -42,6 +42,21 @@ pub record Weights : Type 0 where
   pub colour : ℕ → ℕ
   pub made : ℕ → ℕ
   pub mark : ℕ
+  pub asker : ℕ → ℕ → ℕ
+
+-- who asks, with its server: by a request, and by an answer that goes to that server
+abbrev pub message_asker : (ℕ → ℕ → ℕ) → ℕ → Message → ℕ
+message_asker f n (message.Fetch v o s t) = f s t
+message_asker f n (message.Move v o s t) = f s t
+message_asker f n (message.Lock m s t) = f s t
+message_asker f n (message.Dup m s t) = f s t
+message_asker f n (message.Join u s t) = f s t
+message_asker f n (message.Fetched v c t) = f n t
+message_asker f n (message.Moved v c t) = f n t
+message_asker f n (message.Granted m v t) = f n t
+message_asker f n (message.Dupped m t) = f n t
+message_asker f n (message.Joined u v t) = f n t
+message_asker f n m = 0
 
 -- words that a partition issues fit, and so do next colours, under a limit of colours
 pub record Closed (w : Weights) (limit : ℕ) : Type 0 where
@@ -119,19 +134,23 @@ module _ (w : Weights) where
 
   -- MESSAGES
 
-  -- what it names, and what it carries
-  abbrev pub MessageFits : Message → Type 0
-  MessageFits (message.Start t) = ThreadFits t
-  MessageFits (message.Migrate t) = ThreadFits t
-  MessageFits (message.Moved v c t) = w.thread t + w.word v + (w.object c.object + body_weight c) ≡ 0
-  MessageFits (message.Granted m v t) = w.thread t + w.mutex m + owned_weight v ≡ 0
-  MessageFits (message.Unlock m v) = w.mutex m + owned_weight v ≡ 0
-  MessageFits (message.Joined u v t) = w.thread u + w.thread t + owned_weight v ≡ 0
-  MessageFits (message.Finished u v) = w.thread u + owned_weight v ≡ 0
-  MessageFits m = message_word w.word m + message_thread w.thread m + fetched_mutex w.mutex m ≡ 0
+  -- what it names and what it carries, to that server
+  abbrev pub MessageFits : ℕ → Message → Type 0
+  MessageFits n (message.Start t) = ThreadFits t
+  MessageFits n (message.Migrate t) = ThreadFits t
+  MessageFits n (message.Moved v c t) = w.thread t + w.word v + (w.object c.object + body_weight c) + w.asker n t ≡ 0
+  MessageFits n (message.Granted m v t) = w.thread t + w.mutex m + owned_weight v + w.asker n t ≡ 0
+  MessageFits n (message.Unlock m v) = w.mutex m + owned_weight v ≡ 0
+  MessageFits n (message.Joined u v t) = w.thread u + w.thread t + owned_weight v + w.asker n t ≡ 0
+  MessageFits n (message.Finished u v) = w.thread u + owned_weight v ≡ 0
+  MessageFits n m = message_word w.word m + message_thread w.thread m + fetched_mutex w.mutex m + message_asker w.asker n m ≡ 0
 
   abbrev pub SentFits : Sent → Type 0
-  SentFits x = MessageFits x.message
+  SentFits x = MessageFits x.target x.message
+
+  -- who waits for an answer
+  abbrev pub AskerFits : ℕ × ℕ → Type 0
+  AskerFits x = w.thread x.1 + w.asker x.0 x.1 ≡ 0
 
   -- PARTS OF A SERVER
 
@@ -147,10 +166,10 @@ module _ (w : Weights) where
   pub record MutexFit (m : Mutex) : Type 0 where
     pub named : w.mutex m.number ≡ 0
     pub inside : Gives OwnedFits m.content
-    pub waiting : AllByRecursion (λ (x : ℕ × ℕ). w.thread x.1 ≡ 0) m.queue
+    pub waiting : AllByRecursion AskerFits m.queue
 
   abbrev pub StateFits : TaskState → Type 0
-  StateFits (asked s t) = w.thread t ≡ 0
+  StateFits (asked s t) = w.thread t + w.asker s t ≡ 0
   StateFits (in_pair t over) = w.thread t ≡ 0
   StateFits (kept v) = OwnedFits v
   StateFits x = ⊤
@@ -342,7 +361,7 @@ pub record RestFit (w : Weights) (b : Base) (number : ℕ) (p : PartitionState) 
   pub copies : AllByRecursion (CopyFits w) cs
   pub mutexes : AllByRecursion (MutexFit w) ms.there
   pub tasks : AllByRecursion (TaskFits w) ts
-  pub waiting : AllByRecursion (MessageFits w) inbox
+  pub waiting : AllByRecursion (MessageFits w b.number) inbox
   pub leaving : AllByRecursion (SentFits w) outbox
 
 abbrev pub RestFits : Weights → Base → Rest → Type 0

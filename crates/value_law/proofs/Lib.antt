@@ -11,3 +11,5 @@ pub mod Kept
 pub mod Sentences
 pub mod Coded
 pub mod Coherent
+pub mod Stays
+pub mod Askers

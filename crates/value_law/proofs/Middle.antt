@@ -1,5 +1,5 @@
 -- A server and the thread in the hand of an event, in the middle of it: what stands where fits, and so does what is put.
-use Rattle.std.proofs.Common.{◌≡◌, ℕ, ◌+◌, ◌-◌, ◌^◌, ◌==◌, Bool, true, false, nat_lt, if◌then◌else◌, List, [], ◌∷◌, ◌++◌, length, Option, Some, None, refl, subst, arith}
+use Rattle.std.proofs.Common.{◌≡◌, ℕ, ◌+◌, ◌-◌, ◌^◌, ◌==◌, Bool, true, false, nat_lt, if◌then◌else◌, List, [], ◌∷◌, ◌++◌, length, Option, Some, None, refl, subst, ◌∙◌, arith}
 use Rattle.std.specs.Prelude.{slice_get, slice_set}
 use Rattle.std.specs.List.{AllByRecursion}
 use Rattle.fr_base.specs.declared.name.ObjNo.{ObjNo}
@@ -29,7 +29,7 @@ use Rattle.server_model.specs.Drop.{give_up}
 use Rattle.heap_law.specs.Placing.{phase_word}
 use Rattle.heap_law.specs.Naming.{phase_thread}
 use Rattle.heap_law.specs.Sharing.{phase_mutex}
-use Rattle.heap_law.proofs.Names.{and_left}
+use Rattle.heap_law.proofs.Names.{and_left, same_number}
 use Rattle.event_law.specs.Laws.{Gives}
 use Rattle.event_law.proofs.Results.{then_gives, test_gives}
 use Rattle.event_law.proofs.Cells.{looked}
@@ -189,12 +189,12 @@ module _ (w : Weights) where
 
 module _ (w : Weights) (b : Base) (closed : Closed w b.limit) where
   -- one message more
-  pub says_fits : (t : ℕ) (m : Message) (r : Rest) → MessageFits w m → RestFits w b r → RestFits w b (sent_from r t m)
-  says_fits t m r a g = by (t == r.number)
+  pub says_fits : (t : ℕ) (m : Message) (r : Rest) → MessageFits w t m → RestFits w b r → RestFits w b (sent_from r t m)
+  says_fits t m r a g = by (t == r.number) refl
     where
-      by : (q : Bool) → RestFits w b (if q then record r { inbox = r.inbox ++ m ∷ [] } else record r { outbox = r.outbox ++ record { target = t; message = m } ∷ [] })
-      by true = record { numbered = g.numbered; begun = g.begun; made_so = g.made_so; homed = g.homed; partition = g.partition; copies = g.copies; mutexes = g.mutexes; tasks = g.tasks; waiting = all_append (MessageFits w) r.inbox (m ∷ []) g.waiting (a, tt); leaving = g.leaving }
-      by false = record { numbered = g.numbered; begun = g.begun; made_so = g.made_so; homed = g.homed; partition = g.partition; copies = g.copies; mutexes = g.mutexes; tasks = g.tasks; waiting = g.waiting; leaving = all_append (SentFits w) r.outbox (record { target = t; message = m } ∷ []) g.leaving (a, tt) }
+      by : (q : Bool) → (t == r.number) ≡ q → RestFits w b (if q then record r { inbox = r.inbox ++ m ∷ [] } else record r { outbox = r.outbox ++ record { target = t; message = m } ∷ [] })
+      by true e = record { numbered = g.numbered; begun = g.begun; made_so = g.made_so; homed = g.homed; partition = g.partition; copies = g.copies; mutexes = g.mutexes; tasks = g.tasks; waiting = all_append (MessageFits w b.number) r.inbox (m ∷ []) g.waiting (subst (λ x. MessageFits w x m) (same_number t r.number e ∙ g.numbered) a, tt); leaving = g.leaving }
+      by false e = record { numbered = g.numbered; begun = g.begun; made_so = g.made_so; homed = g.homed; partition = g.partition; copies = g.copies; mutexes = g.mutexes; tasks = g.tasks; waiting = g.waiting; leaving = all_append (SentFits w) r.outbox (record { target = t; message = m } ∷ []) g.leaving (a, tt) }
 
   pub with_copies : (cs : List Copy) (r : Rest) → AllByRecursion (CopyFits w) cs → RestFits w b r → RestFits w b (record r { cache = cs })
   with_copies cs r a g = record { numbered = g.numbered; begun = g.begun; made_so = g.made_so; homed = g.homed; partition = g.partition; copies = a; mutexes = g.mutexes; tasks = g.tasks; waiting = g.waiting; leaving = g.leaving }

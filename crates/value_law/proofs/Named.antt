@@ -105,9 +105,9 @@ uncounted b j t = other (some (tot (started_at (home_of t) (count_of t)) b) || (
 abbrev pub unmade : List Thing → Base → MutexNo → ℕ
 unmade b j m = other (some (tot (made_at m.home m.count) b) || (m.home == j.number && nat_le m.count j.made))
 
--- with a weight of holders and of marks among temporary values
-abbrev pub names : Cluster → (ℕ → ℕ) → ℕ → Base → Weights
-names k d n j = record {
+-- with a weight of holders, of marks among temporary values and of who asks
+abbrev pub names : Cluster → (ℕ → ℕ) → ℕ → (ℕ → ℕ → ℕ) → Base → Weights
+names k d n ask j = record {
   word = λ v. other (nat_lt (colour_of v) k.options.colours);
   thread = λ t. zeroth_thread t + uncounted (things_of k) j t;
   mutex = λ m. zeroth_mutex m + unmade (things_of k) j m;
@@ -116,6 +116,7 @@ names k d n j = record {
   colour = λ c. other (nat_lt c k.options.colours);
   made = above (2 * (events_of (sight k) + 1));
   mark = n;
+  asker = ask;
 }
 
 -- of a server's counts, those of names

@@ -23,7 +23,7 @@ use Rattle.event_law.proofs.Boxes.{tot_le}
 use Rattle.event_law.proofs.Askers.{other_none}
 use Rattle.local_law.specs.Laws.{EachEventKeeps}
 use Rattle.value_law.proofs.Fit.{Weights, marks, Base}
-use Rattle.value_law.proofs.Sums.{holder_of, loose, stray}
+use Rattle.value_law.proofs.Sums.{holder_of, loose, asked_of, no_asker, stray}
 use Rattle.value_law.proofs.Split.{two_le, threads_split, mutexes_split}
 use Rattle.value_law.proofs.Named.{above_less, some_le, names, counted}
 use Rattle.value_law.proofs.Kept.{GoneOn, ends_as, gone_on}
@@ -34,7 +34,7 @@ tot_both : (f g : Thing → ℕ) (b : List Thing) → tot (λ x. f x + g x) b �
 tot_both f g [] = refl
 tot_both f g (x ∷ b) = omega (arith, tot_both f g b)
 
-no_holder : (b : List Thing) → tot (holder_of (λ m. 0)) b ≡ 0
+pub no_holder : (b : List Thing) → tot (holder_of (λ m. 0)) b ≡ 0
 no_holder [] = refl
 no_holder (x ∷ b) = omega (arith, none x, no_holder b)
   where
@@ -42,7 +42,7 @@ no_holder (x ∷ b) = omega (arith, none x, no_holder b)
     none (borrows l r) = refl
     none x = refl
 
-no_mark : (b : List Thing) → tot (loose 0) b ≡ 0
+pub no_mark : (b : List Thing) → tot (loose 0) b ≡ 0
 no_mark [] = refl
 no_mark (x ∷ b) = omega (arith, none x, no_mark b)
   where
@@ -54,9 +54,9 @@ no_mark (x ∷ b) = omega (arith, none x, no_mark b)
 
 -- WHAT NO NAME BREAKS
 
-module _ (k : Cluster) (d : ℕ → ℕ) (n : ℕ) (j : Base) (c : Cluster) (g : GoneOn k d n j c) where
+module _ (k : Cluster) (d : ℕ → ℕ) (n : ℕ) (ask : ℕ → ℕ → ℕ) (j : Base) (c : Cluster) (g : GoneOn k d n ask j c) where
   abbrev w : Weights
-  w = names k d n j
+  w = names k d n ask j
 
   abbrev b : List Thing
   b = things_of c
@@ -145,34 +145,47 @@ module _ (k : Cluster) (d : ℕ → ℕ) (n : ℕ) (j : Base) (c : Cluster) (g :
   pub marks_kept : tot (loose n) b ≡ 0
   marks_kept = omega (arith, tot_le (loose n) (stray w) marked_so b, g.none)
 
+  asked_so : (x : Thing) → asked_of ask x ≤ stray w x
+  asked_so x = omega arith
+
+  pub askers_kept : tot (asked_of ask) b ≡ 0
+  askers_kept = omega (arith, tot_le (asked_of ask) (stray w) asked_so b, g.none)
+
 -- FROM A SOUND CLUSTER
 
-abbrev nothing : ℕ → ℕ
+abbrev pub nothing : ℕ → ℕ
 nothing m = 0
 
-unmarked : (k : Cluster) (j : Base) (v : Value) → marks (names k nothing 0 j) v ≡ 0
-unmarked k j (value.Held m) = refl
-unmarked k j value.Gone = refl
-unmarked k j (value.Own v) = refl
-unmarked k j (value.SharedSlot i) = refl
-unmarked k j (value.MutSlot i) = refl
-unmarked k j (value.Shared r) = refl
-unmarked k j (value.Mut r) = refl
+abbrev pub nobody : ℕ → ℕ → ℕ
+nobody r t = 0
 
-kept_by : (P : Cluster → Type 0) → ((k : Cluster) (j : Base) (c : Cluster) → GoneOn k nothing 0 j c → P c) → (k : Cluster) (e : Event) → IsSound k → FewEvents k → Gives (λ (x : Cluster × EntryView). P x.0) (apply k e)
+pub no_askers : (b : List Thing) → tot (asked_of nobody) b ≡ 0
+no_askers [] = refl
+no_askers (x ∷ b) = omega (arith, no_asker x, no_askers b)
+
+pub unmarked : (k : Cluster) (ask : ℕ → ℕ → ℕ) (j : Base) (v : Value) → marks (names k nothing 0 ask j) v ≡ 0
+unmarked k ask j (value.Held m) = refl
+unmarked k ask j value.Gone = refl
+unmarked k ask j (value.Own v) = refl
+unmarked k ask j (value.SharedSlot i) = refl
+unmarked k ask j (value.MutSlot i) = refl
+unmarked k ask j (value.Shared r) = refl
+unmarked k ask j (value.Mut r) = refl
+
+kept_by : (P : Cluster → Type 0) → ((k : Cluster) (j : Base) (c : Cluster) → GoneOn k nothing 0 nobody j c → P c) → (k : Cluster) (e : Event) → IsSound k → FewEvents k → Gives (λ (x : Cluster × EntryView). P x.0) (apply k e)
 kept_by P go k e sound few =
-    weaker (λ (x : Cluster × EntryView). GoneOn k nothing 0 (ends_as k e (server_at k.servers e.server)) x.0) (λ (x : Cluster × EntryView). P x.0) (apply k e)
-    (gone_on k e nothing 0 sound few (no_holder (things_of k)) (no_mark (things_of k)) (λ s here t y i q there at. record { lends = λ p m c z. refl; moves = λ j p c h h2 x v q2 z u. unmarked k j v }))
+    weaker (λ (x : Cluster × EntryView). GoneOn k nothing 0 nobody (ends_as k e (server_at k.servers e.server)) x.0) (λ (x : Cluster × EntryView). P x.0) (apply k e)
+    (gone_on k e nothing 0 nobody sound few (no_holder (things_of k)) (no_mark (things_of k)) (no_askers (things_of k)) (λ s here t y i q there at. record { stands = refl; lends = λ p m c z. refl; moves = λ j p c h h2 x v q2 z u. unmarked k nobody j v }))
     (λ x g. go k (ends_as k e (server_at k.servers e.server)) x.0 g)
 
 pub limits_kept : EachEventKeeps below_limit
-limits_kept = kept_by (λ c. Holds c below_limit) (λ k j c g. limit_kept k nothing 0 j c g)
+limits_kept = kept_by (λ c. Holds c below_limit) (λ k j c g. limit_kept k nothing 0 nobody j c g)
 
 pub counts_kept : EachEventKeeps counts_from_one
-counts_kept = kept_by (λ c. Holds c counts_from_one) (λ k j c g. from_one_kept k nothing 0 j c g)
+counts_kept = kept_by (λ c. Holds c counts_from_one) (λ k j c g. from_one_kept k nothing 0 nobody j c g)
 
 pub names_kept : EachEventKeeps names_counted
-names_kept = kept_by (λ c. Holds c names_counted) (λ k j c g. counted_kept k nothing 0 j c g)
+names_kept = kept_by (λ c. Holds c names_counted) (λ k j c g. counted_kept k nothing 0 nobody j c g)
 
 pub fews_kept : EachEventKeeps few_names
-fews_kept = kept_by (λ c. Holds c few_names) (λ k j c g. few_kept k nothing 0 j c g)
+fews_kept = kept_by (λ c. Holds c few_names) (λ k j c g. few_kept k nothing 0 nobody j c g)

@@ -61,6 +61,7 @@ after i b = record { number = b.number; started = b.started + starts i; made = b
 -- the new names of an instruction fit
 pub record NewNames (w : Weights) (b : Base) (i : Instr) (y : ThreadState) : Type 0 where
   pub begins : w.made 0 ≡ 0
+  pub stands : w.asker b.number y.number ≡ 0
   pub spawned : (cs : WithRoom (ℕ × Bool)) (pc : ℕ) → i ≡ instr.Spawn cs pc → w.thread (b.number * 2 ^ 32 + (b.started + 1)) ≡ 0
   pub paired : (cs : WithRoom (ℕ × Bool)) (pc : ℕ) (ds : WithRoom (ℕ × Bool)) (other : ℕ) → i ≡ instr.Par cs pc ds other → (w.thread (b.number * 2 ^ 32 + (b.started + 1)) ≡ 0) × (w.thread (b.number * 2 ^ 32 + (b.started + 1 + 1)) ≡ 0)
   pub mutex : (o : Operand) → i ≡ instr.Mutex o → w.mutex (record { home = b.home; count = b.made + 1 }) ≡ 0
@@ -103,17 +104,21 @@ module _ (w : Weights) (b : Base) (closed : Closed w b.limit) (n : ℕ) (i : Ins
   at_phase p t a g = record { named = g.named; made_so = g.made_so; waits = a; given = g.given; walks = g.walks; slots_fit = g.slots_fit; temps_fit = g.temps_fit }
 
   -- a message, and the phase that waits for its answer
-  asks_for : (t : ℕ) (m : Message) (p : Phase) (h : Hand) → None_new i → MessageFits w m → phase_word w.word p + phase_thread w.thread p + phase_mutex w.mutex p ≡ 0 → Of G h → E (sent_from h.work.rest t m) (record h.thread { phase = p })
+  asks_for : (t : ℕ) (m : Message) (p : Phase) (h : Hand) → None_new i → MessageFits w t m → phase_word w.word p + phase_thread w.thread p + phase_mutex w.mutex p ≡ 0 → Of G h → E (sent_from h.work.rest t m) (record h.thread { phase = p })
   asks_for t m p h z a q g = let mine = g.1 in (counts_as i (sent_from h.work.rest t m) z.0 z.1 (says_fits w b closed t m h.work.rest a g.0), at_phase p h.thread q mine.fit)
 
   named : (h : Hand) → Of G h → w.thread h.thread.number ≡ 0
   named h g = let mine = g.1 in let fit = mine.fit in fit.named
 
+  -- it asks from where it stands
+  stood : (h : Hand) → Of G h → w.asker h.work.rest.number h.thread.number ≡ 0
+  stood h g = let mine = g.1 in let rest = g.0 in subst (λ n. w.asker n h.thread.number ≡ 0) (sym rest.numbered) (subst (λ n. w.asker b.number n ≡ 0) (sym mine.same) new.stands)
+
   asks_one : (p : BoxPtr) (h : Hand) → None_new i → Fits w (value.Own (owned.Box p)) → Of G h → Of E (ask_copy p h)
-  asks_one p h z a g = asks_for (server_of p.word) (message.Fetch p.word p.object h.work.rest.number h.thread.number) (phase.WaitCell p.word) h z (omega (arith, a, named h g)) (omega (arith, a)) g
+  asks_one p h z a g = asks_for (server_of p.word) (message.Fetch p.word p.object h.work.rest.number h.thread.number) (phase.WaitCell p.word) h z (omega (arith, a, named h g, stood h g)) (omega (arith, a)) g
 
   asks_all : (p : BoxPtr) (h : Hand) → None_new i → Fits w (value.Own (owned.Box p)) → Of G h → Of E (ask_object p h)
-  asks_all p h z a g = asks_for (server_of p.word) (message.Move p.word p.object h.work.rest.number h.thread.number) (phase.WaitCell p.word) h z (omega (arith, a, named h g)) (omega (arith, a)) g
+  asks_all p h z a g = asks_for (server_of p.word) (message.Move p.word p.object h.work.rest.number h.thread.number) (phase.WaitCell p.word) h z (omega (arith, a, named h g, stood h g)) (omega (arith, a)) g
 
   small : Follows (access_of i y) → Small G E (Fits w) (WordFits w)
   small f = record {
@@ -211,7 +216,7 @@ module _ (w : Weights) (b : Base) (closed : Closed w b.limit) (n : ℕ) (i : Ins
         copies = g.copies;
         mutexes = g.mutexes;
         tasks = g.tasks;
-        waiting = g.waiting;
+        waiting = subst (λ m. AllByRecursion (MessageFits w m) x.rest.inbox) (sym en) g.waiting;
         leaving = g.leaving;
       } in
       let young : ThreadFits w (new_thread (next_thread x.rest) pc vs) = record { named = fresh; made_so = new.begins; waits = refl; given = tt; walks = tt; slots_fit = a; temps_fit = tt } in
@@ -333,9 +338,9 @@ module _ (w : Weights) (b : Base) (closed : Closed w b.limit) (n : ℕ) (i : Ins
     goes = λ q h g. goes h (quiet_none i q) g;
     pairs = pairs;
     ends = ends;
-    asks_join = λ o e u h q a g. asks_for (home_of u) (message.Join u h.work.rest.number h.thread.number) (phase.WaitJoin u) h (ap starts e, ap makes e) (omega (arith, a, named h g)) (omega (arith, a)) g;
-    asks_dup = λ p e m h q a g. asks_for m.home (message.Dup m h.work.rest.number h.thread.number) (phase.WaitDup m) h (ap starts e, ap makes e) (omega (arith, a, named h g)) (omega (arith, a)) g;
-    asks_lock = λ p e m h q a g. asks_for m.home (message.Lock m h.work.rest.number h.thread.number) (phase.WaitLock m) h (ap starts e, ap makes e) (omega (arith, a, named h g)) (omega (arith, a)) g;
+    asks_join = λ o e u h q a g. asks_for (home_of u) (message.Join u h.work.rest.number h.thread.number) (phase.WaitJoin u) h (ap starts e, ap makes e) (omega (arith, a, named h g, stood h g)) (omega (arith, a)) g;
+    asks_dup = λ p e m h q a g. asks_for m.home (message.Dup m h.work.rest.number h.thread.number) (phase.WaitDup m) h (ap starts e, ap makes e) (omega (arith, a, named h g, stood h g)) (omega (arith, a)) g;
+    asks_lock = λ p e m h q a g. asks_for m.home (message.Lock m h.work.rest.number h.thread.number) (phase.WaitLock m) h (ap starts e, ap makes e) (omega (arith, a, named h g, stood h g)) (omega (arith, a)) g;
   }
 
   -- a step of the thread

@@ -1,5 +1,5 @@
 -- All that a server names fits exactly where its things weigh nothing.
-use Rattle.std.proofs.Common.{◌≡◌, ℕ, ◌+◌, ◌^◌, ◌<◌, Bool, true, false, if◌then◌else◌, List, [], ◌∷◌, ◌++◌, Option, Some, None, refl, arith}
+use Rattle.std.proofs.Common.{◌≡◌, ℕ, ◌+◌, ◌^◌, ◌<◌, Bool, true, false, if◌then◌else◌, List, [], ◌∷◌, ◌++◌, Option, Some, None, refl, sym, subst, arith}
 use Rattle.std.specs.List.{AllByRecursion}
 use Rattle.fr_base.specs.declared.name.MutexNo.{MutexNo}
 use Rattle.fr_base.specs.declared.name.ObjNo.{ObjNo}
@@ -15,15 +15,19 @@ use Rattle.server_msgs.specs.declared.message.Message.{Message}
 use Rattle.server_msgs.specs.declared.message.Message.TheVariants as message
 use Rattle.server_model.specs.Servers.{Server}
 use Rattle.heap_law.specs.Names.{tot}
-use Rattle.heap_law.specs.Things.{at_temp, Thing, borrows, locks, lies, flies, vacant, uses, retired, stands, things_at, is_free, pin_things, slot_things, temp_things, gift_things, walk_things, thread_things, standing_things, message_things, waiting_things, leaving_things, cell_things, free_things, copy_things, content_things, queue_things, mutex_things, task_things, server_things}
+use Rattle.heap_law.specs.Things.{sent, queued, noted, at_temp, Thing, borrows, locks, lies, flies, vacant, uses, retired, stands, things_at, is_free, pin_things, slot_things, temp_things, gift_things, walk_things, thread_things, standing_things, message_things, waiting_things, leaving_things, cell_things, free_things, copy_things, content_things, queue_things, mutex_things, task_things, server_things}
 use Rattle.heap_law.specs.Placing.{words}
 use Rattle.heap_law.specs.Naming.{threads, named_mutexes}
 use Rattle.heap_law.proofs.Sums.{tot-append, server_parts}
 use Rattle.event_law.specs.Laws.{Gives}
 use Rattle.local_law.proofs.Handed.{all_none, none_all}
-use Rattle.value_law.proofs.Fit.{Weights, OwnedFits, Fits, TempFits, WordFits, CellFits, CopyFits, ThreadFits, MessageFits, SentFits, FreeFits, MutexFit, StateFits, TaskFits, Base, RestFits}
+use Rattle.value_law.proofs.Fit.{Weights, message_asker, OwnedFits, Fits, TempFits, WordFits, CellFits, CopyFits, ThreadFits, MessageFits, SentFits, FreeFits, AskerFits, MutexFit, StateFits, TaskFits, Base, RestFits}
 
 -- THE WEIGHT OF A THING
+
+abbrev pub noted_asker : (ℕ → ℕ → ℕ) → TaskState → ℕ
+noted_asker f (asked s t) = f s t
+noted_asker f x = 0
 
 abbrev pub cell_object : (ObjNo → ℕ) → Thing → ℕ
 cell_object f (lies s a c) = f c.object
@@ -46,8 +50,27 @@ abbrev pub loose : ℕ → Thing → ℕ
 loose n (locks (at_temp t i) m) = n
 loose n x = 0
 
+abbrev pub asked_of : (ℕ → ℕ → ℕ) → Thing → ℕ
+asked_of f (sent n m) = message_asker f n m
+asked_of f (queued m s t) = f s t
+asked_of f (noted s x) = noted_asker f x.state
+asked_of f x = 0
+
+noted_by_none : (s : TaskState) → noted_asker (λ r t. 0) s ≡ 0
+noted_by_none (asked s t) = refl
+noted_by_none s = refl
+
+asked_by_none : (n : ℕ) (m : Message) → message_asker (λ r t. 0) n m ≡ 0
+asked_by_none n (message.Fetch v o s t) = refl
+asked_by_none n m = refl
+
+pub no_asker : (x : Thing) → asked_of (λ r t. 0) x ≡ 0
+no_asker (sent n m) = asked_by_none n m
+no_asker (noted s x) = noted_by_none x.state
+no_asker x = refl
+
 abbrev pub stray : Weights → Thing → ℕ
-stray w x = words w.word x + threads w.thread x + named_mutexes w.mutex x + cell_object w.object x + holder_of w.holder x + next_of w.colour x + made_of w.made x + loose w.mark x
+stray w x = words w.word x + threads w.thread x + named_mutexes w.mutex x + cell_object w.object x + holder_of w.holder x + next_of w.colour x + made_of w.made x + loose w.mark x + asked_of w.asker x
 
 -- what a server is before an event
 abbrev pub base_of : Server → Base
@@ -147,7 +170,7 @@ module _ (w : Weights) where
 
   -- MESSAGES
 
-  message_from : (n : ℕ) (m : Message) → tot f (message_things n m) ≡ 0 → MessageFits w m
+  message_from : (n : ℕ) (m : Message) → tot f (message_things n m) ≡ 0 → MessageFits w n m
   message_from n (message.Start t) z = thread_from n true t (omega (arith, z))
   message_from n (message.Migrate t) z = thread_from n true t (omega (arith, z))
   message_from n (message.Fetch v o s t) z = omega (arith, z)
@@ -165,7 +188,7 @@ module _ (w : Weights) where
   message_from n (message.Joined u v t) z = omega (arith, z)
   message_from n (message.Finished u v) z = omega (arith, z)
 
-  message_to : (n : ℕ) (m : Message) → MessageFits w m → tot f (message_things n m) ≡ 0
+  message_to : (n : ℕ) (m : Message) → MessageFits w n m → tot f (message_things n m) ≡ 0
   message_to n (message.Start t) z = omega (arith, thread_to n true t z)
   message_to n (message.Migrate t) z = omega (arith, thread_to n true t z)
   message_to n (message.Fetch v o s t) z = omega (arith, z)
@@ -210,7 +233,7 @@ module _ (w : Weights) where
       let a = tot-append f (content_things m.number m.content) (things_at (queue_things m.number) 0 m.queue) in record {
         named = omega (arith, z, a);
         inside = content_from m.number m.content (omega (arith, z, a));
-        waiting = all_none f (queue_things m.number) (λ (x : ℕ × ℕ). w.thread x.1 ≡ 0) (λ j x y. omega (arith, y)) 0 m.queue (omega (arith, z, a));
+        waiting = all_none f (queue_things m.number) (AskerFits w) (λ j x y. omega (arith, y)) 0 m.queue (omega (arith, z, a));
       }
 
   mutex_to : (n i : ℕ) (m : Mutex) → MutexFit w m → tot f (mutex_things n i m) ≡ 0
@@ -221,7 +244,7 @@ module _ (w : Weights) where
         named,
         tot-append f (content_things m.number m.content) (things_at (queue_things m.number) 0 m.queue),
         content_to m.number m.content g.inside,
-        none_all f (queue_things m.number) (λ (x : ℕ × ℕ). w.thread x.1 ≡ 0) (λ j x y. omega (arith, y, named)) 0 m.queue g.waiting,
+        none_all f (queue_things m.number) (AskerFits w) (λ j x y. omega (arith, y, named)) 0 m.queue g.waiting,
       )
 
   state_from : (n t : ℕ) (s : TaskState) → tot f (task_things n 0 (record { thread = t; state = s })) ≡ 0 → StateFits w s
@@ -277,7 +300,7 @@ module _ (w : Weights) where
           copies = all_none f (copy_things n) (CopyFits w) (λ i x y. omega (arith, y)) 0 s.rest.cache (omega (arith, z, a));
           mutexes = all_none f (mutex_things n) (MutexFit w) (mutex_from n) 0 s.rest.mutexes.there (omega (arith, z, a));
           tasks = all_none f (task_things n) (TaskFits w) (task_from n) 0 s.rest.tasks (omega (arith, z, a));
-          waiting = all_none f (waiting_things n) (MessageFits w) (λ i x y. message_from n x y) 0 s.rest.inbox (omega (arith, z, a));
+          waiting = all_none f (waiting_things n) (MessageFits w n) (λ i x y. message_from n x y) 0 s.rest.inbox (omega (arith, z, a));
           leaving = all_none f leaving_things (SentFits w) (λ i x y. message_from x.target x.message y) 0 s.rest.outbox (omega (arith, z, a));
         },
         all_none f (standing_things n) (ThreadFits w) (λ i x y. thread_from n false x y) 0 s.threads (omega (arith, z, a)),
@@ -298,7 +321,7 @@ module _ (w : Weights) where
         none_all f (copy_things n) (CopyFits w) (λ i x y. omega (arith, y)) 0 s.rest.cache rest.copies,
         none_all f (mutex_things n) (MutexFit w) (mutex_to n) 0 s.rest.mutexes.there rest.mutexes,
         none_all f (task_things n) (TaskFits w) (task_to n) 0 s.rest.tasks rest.tasks,
-        none_all f (waiting_things n) (MessageFits w) (λ i x y. message_to n x y) 0 s.rest.inbox rest.waiting,
+        none_all f (waiting_things n) (MessageFits w b.number) (λ i x y. message_to n x (subst (λ m. MessageFits w m x) (sym rest.numbered) y)) 0 s.rest.inbox rest.waiting,
         none_all f leaving_things (SentFits w) (λ i x y. message_to x.target x.message y) 0 s.rest.outbox rest.leaving,
         none_all f (standing_things n) (ThreadFits w) (λ i x y. thread_to n false x y) 0 s.threads g.1,
       )

@@ -1,6 +1,6 @@
 //! What each event keeps of names, one clause for each sentence.
 
-ghost use Rattle.heap_law.specs.Coherent.{below_limit, counts_from_one, few_names, holders_short, marks_in_slots, names_counted};
+ghost use Rattle.heap_law.specs.Coherent.{askers_stand, below_limit, counts_from_one, few_names, holders_short, marks_in_slots, names_counted, return_right};
 ghost use Rattle.local_law.specs.Laws.{EachCoherentEventKeeps, EachEventKeeps};
 
 /// What all that is named keeps in a sound cluster, wherever it stands: each word has a colour below the limit, and so has what comes next at a free address; the count of
@@ -10,6 +10,12 @@ pub fn names_keep()
     ensures names_counted { EachEventKeeps names_counted }
     ensures counts_from_one { EachEventKeeps counts_from_one }
     ensures few_names { EachEventKeeps few_names }
+{}
+
+/// What is told of who asks, in a sound cluster: a request, a place in a queue and a noted asker name the server where their thread stands, and an answer goes there.
+pub fn askers_keep()
+    ensures askers_stand { EachEventKeeps askers_stand }
+    ensures return_right { EachEventKeeps return_right }
 {}
 
 /// What values keep by the table of the code, in a coherent cluster: the mark of a lock stands in a slot alone, and each holder of a mutable reference has at most eight stars.
