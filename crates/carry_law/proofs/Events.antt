@@ -33,7 +33,7 @@ use Rattle.event_law.proofs.GiftsTaken.{gift_fits}
 use Rattle.stay_law.proofs.Steps.{TakesNoneHere}
 use Rattle.prepare_law.proofs.Asking.{found_number}
 use Rattle.carry_law.specs.Steps.{CarriesOne, a_let, a_mutex, a_join, an_end, StepsCarry, IsNoReference, DiscardsCarry}
-use Rattle.carry_law.proofs.Hands.{Ok, Moved, h0, first_ok, left_where, step_there}
+use Rattle.carry_law.proofs.Hands.{Ok, Moved, h0, first_ok, moved_leaves, left_where, step_there}
 use Rattle.carry_law.proofs.Steps.{goes_over, lets, mutexes, ends, discards, joins}
 
 -- WHICH INSTRUCTIONS TAKE NOTHING
@@ -101,9 +101,9 @@ module _ (k : Cluster) (sound : IsSound k) (s : Server) (here : server_at k.serv
 pub steps_carry : StepsCarry
 steps_carry k number t s y i sound few here at code c =
     subst (λ n. server_at k.servers n ≡ Some s → Gives (λ (d : Cluster × EntryView). LeavesWords k d.0) (apply k (record { server = n; what = Step t }))) (found_number number k.servers s here)
-    (λ h. left_where k s t sound few h (step_there k sound s h t y at i code (ok_steps k sound s h t y at i (proved k sound s h t y at i c)) (steps_by k sound s h t y at i code c))) here
+    (λ h. left_where k s t sound few h (λ on. step_there k sound s h t y at i code (Moved k.code s.rest.number (h0 k sound s h t y at)) (moved_leaves k sound s h t y at) (ok_steps k sound s h t y at i (proved k sound s h t y at i c)) (steps_by k sound s h t y at i code c))) here
 
 pub discards_carry : DiscardsCarry
 discards_carry k number t s y v sound few here at code e a =
     subst (λ n. server_at k.servers n ≡ Some s → Gives (λ (d : Cluster × EntryView). LeavesWords k d.0) (apply k (record { server = n; what = Step t }))) (found_number number k.servers s here)
-    (λ h. left_where k s t sound few h (step_there k sound s h t y at instr.Discard code (ok_steps k sound s h t y at instr.Discard tt) (discards_by k sound s h t y at code v e a))) here
+    (λ h. left_where k s t sound few h (λ on. step_there k sound s h t y at instr.Discard code (Moved k.code s.rest.number (h0 k sound s h t y at)) (moved_leaves k sound s h t y at) (ok_steps k sound s h t y at instr.Discard tt) (discards_by k sound s h t y at code v e a))) here

@@ -1,5 +1,5 @@
 -- A step that moves one value of its thread, or none that words see, leaves the words.
-use Rattle.std.proofs.Common.{◌≡◌, ◌⊎◌, inl, inr, ℕ, ◌+◌, false, List, [], ◌∷◌, ◌++◌, Option, Some, None, IsSome, option_map, refl, sym, ap, subst, ◌∙◌, arith}
+use Rattle.std.proofs.Common.{◌≡◌, ◌⊎◌, ℕ, true, ◌+◌, false, List, [], ◌++◌, Option, Some, None, IsSome, option_map, refl, sym, ap, subst, ◌∙◌, arith}
 use Rattle.std.specs.Prelude.{slice_get, take, drop as drop_first, length}
 use Rattle.fr_base.specs.declared.instruction.Instr.{Instr}
 use Rattle.fr_base.specs.declared.instruction.Instr.TheVariants as instr
@@ -9,6 +9,8 @@ use Rattle.journal.specs.View.{EntryView}
 use Rattle.thread_state.specs.View.{ThreadState}
 use Rattle.thread_state.specs.declared.phase.Phase.{Phase}
 use Rattle.thread_state.specs.declared.phase.Phase.TheVariants as phase
+use Rattle.thread_state.specs.declared.value.Value.TheVariants as value
+use Rattle.heap_partition.specs.declared.value.Owned.{Owned}
 use Rattle.server_model.specs.declared.event.What.TheVariants.{Step}
 use Rattle.server_model.specs.Servers.{Server, Cluster, server_at}
 use Rattle.server_model.specs.Work.{Hand, thread_in, set_thread, without_thread, put_back, then_some}
@@ -24,7 +26,7 @@ use Rattle.heap_law.specs.Coherent.{IsSound}
 use Rattle.heap_law.proofs.Words.{none_at}
 use Rattle.path_law.proofs.Sole.{some_is}
 use Rattle.word_law.specs.Reworded.{HasPlaces}
-use Rattle.word_law.specs.Unmoved.{pointing, Taking, taking_by, with_taking, taking_of, takings, Untouched, LeavesWords}
+use Rattle.word_law.specs.Unmoved.{pointing, Taking, taking_by, takings, Untouched, LeavesWords}
 use Rattle.word_law.specs.PutBack.{put_in, StandsHere}
 use Rattle.word_law.proofs.Put.{Split, put_split}
 use Rattle.word_law.proofs.Takings.{leads_pointing}
@@ -48,6 +50,8 @@ use Rattle.stay_law.proofs.Steps.{hand_itself}
 use Rattle.stay_law.proofs.Seen.{seen_alike}
 use Rattle.carry_law.proofs.Carrying.{carried_stays}
 use Rattle.carry_law.proofs.Replaced.{tail_of, places_on}
+use Rattle.carry_law.proofs.Taken.{taker_of}
+use Rattle.carry_law.proofs.Owned.{OwnsAlone, owned_quiet, owns_on}
 use Rattle.carry_law.proofs.Passing.{Here, slot, Passes, is_carried, is_quiet}
 
 -- ONE AFTER ANOTHER
@@ -84,24 +88,18 @@ pub moved_on : {code : List Instr} {n : ℕ} {h h2 h3 : Hand} → Moved code n h
 moved_on (seen a) b = seen (together_chain a b)
 moved_on (passed x y e a o p w t) b = passed x y e a o p w (together_chain t b)
 
+-- what a slot owns goes to the thread's gift or its temporary values
+pub record Given (code : List Instr) (n : ℕ) (h h2 : Hand) : Type 0 where
+  pub index : ℕ
+  pub content : Owned
+  pub to : Here
+  pub after : ThreadState
+  pub stood : slice_get h.thread.slots index ≡ Some (value.Own content)
+  pub away : (j : ℕ) → slot j ≡ to → ⊥
+  pub passes : Passes code n h.thread after (slot index) to
+  pub together : Together code n (record h { thread = after }) h2
+
 -- WHAT THREADS HAVE TAKEN STANDS AT A PLACE
-
-record Taker (code : List Instr) (xs : List Standing) (t : Taking) : Type 0 where
-  taker : Standing
-  among : Among taker xs
-  taking : taking_of code taker ≡ Some t
-
-taker_of : (code : List Instr) (xs : List Standing) (t : Taking) → Among t (takings code xs) → Taker code xs t
-taker_of code [] t h = absurd h
-taker_of code (x ∷ xs) t h = by (taking_of code x) refl h (λ g. taker_of code xs t g)
-  where
-    later : Taker code xs t → Taker code (x ∷ xs) t
-    later y = record { taker = y.taker; among = inr y.among; taking = y.taking }
-
-    by : (o : Option Taking) → taking_of code x ≡ o → Among t (with_taking o (takings code xs)) → (Among t (takings code xs) → Taker code xs t) → Taker code (x ∷ xs) t
-    by None e g go = later (go g)
-    by (Some u) e (inl q) go = record { taker = x; among = inl refl; taking = e ∙ ap Some q }
-    by (Some u) e (inr g) go = later (go g)
 
 module _ (k : Cluster) (x : Standing) (t : Taking) where
   placed : (w : ℕ) (p : Lval) → other (lies_here (sight k) x.server w (place_at (sight k).ground x.thread.number p)) ≡ 0 → (l : Location) × (place_at (sight k).ground x.thread.number p ≡ Some l)
@@ -237,6 +235,38 @@ module _ (k : Cluster) (sound : IsSound k) (s : Server) (here : server_at k.serv
       third : LeavesWords (put hb) (put h)
       third = untouched_stays (put hb) (put h) place_b (places h g) (seen_alike (put hb) (put h) place_b (places h g) refl (puts_alike hb h refl (p.number ∙ e ∙ its_number) b))
 
+  -- and so they do where what goes was owned alone
+  pub given_leaves : (h : Hand) → Ok h → (q : Given k.code n h0 h) → OwnsAlone k (at_slot y.number q.index) → LeavesWords k (put h)
+  given_leaves h g q alone = leaves_chain first (leaves_chain second third)
+    where
+      hb : Hand
+      hb = record h0 { thread = q.after }
+
+      place_a : HasPlaces (put h0)
+      place_a = places h0 first_ok
+
+      seen_a : Untouched k (put h0)
+      seen_a = seen_alike k (put h0) before place_a refl first_alike
+
+      first : LeavesWords k (put h0)
+      first = untouched_stays k (put h0) before place_a seen_a
+
+      split : Split (things_of (put h0)) (things_of (put hb)) (thread_things n false y) (thread_things n false q.after)
+      split = put_split k n s.threads (s.events + 1) h0 hb (stands_here h0 refl its_number) refl q.passes.number
+
+      place_b : HasPlaces (put hb)
+      place_b = places_on (put h0) (put hb) n y q.after q.passes.number split q.passes.owns place_a
+
+      second : LeavesWords (put h0) (put hb)
+      second =
+          carried_stays (put h0) (put hb) _ _ place_a place_b (first.holders sound.words.first_at_holder)
+          (is_carried (put h0) (put hb) n y q.after (slot q.index) q.to q.passes split refl place_a place_b
+          (owned_quiet (put h0) (put hb) n y q.after q.index q.to q.passes split refl place_a place_b q.content q.stood q.away (owns_on k (put h0) seen_a y.number q.index alone) (first.holders sound.words.first_at_holder)
+          (rooted_on k (put h0) refl seen_a (rooted k sound))))
+
+      third : LeavesWords (put hb) (put h)
+      third = untouched_stays (put hb) (put h) place_b (places h g) (seen_alike (put hb) (put h) place_b (places h g) refl (puts_alike hb h refl (q.passes.number ∙ its_number) q.together))
+
 -- IN ITS CLUSTER
 
 -- the words stay with the server put back
@@ -256,22 +286,23 @@ handed k s here (Some r) a g = λ q.
     leaves_chain a.0 (untouched_stays mid end a.1 q (seen_alike mid end a.1 q refl alike))
 
 -- so they stay once messages are handed over
-pub left_where : (k : Cluster) (s : Server) (t : ℕ) → IsSound k → FewEvents k → server_at k.servers s.rest.number ≡ Some s → Gives (There k s) (does k.code k.options s (Step t)) → Gives (λ (d : Cluster × EntryView). LeavesWords k d.0) (apply k (record { server = s.rest.number; what = Step t }))
+pub left_where : (k : Cluster) (s : Server) (t : ℕ) → IsSound k → FewEvents k → server_at k.servers s.rest.number ≡ Some s → (enabled k.options s (Step t) ≡ true → Gives (There k s) (does k.code k.options s (Step t))) → Gives (λ (d : Cluster × EntryView). LeavesWords k d.0) (apply k (record { server = s.rest.number; what = Step t }))
 left_where k s t sound few h go =
     both_give (λ (d : Cluster × EntryView). HasPlaces d.0 → LeavesWords k d.0) (λ (d : Cluster × EntryView). HasPlaces d.0) (λ (d : Cluster × EntryView). LeavesWords k d.0) (apply k (record { server = s.rest.number; what = Step t }))
     (subst (λ o. Gives (λ (d : Cluster × EntryView). HasPlaces d.0 → LeavesWords k d.0) (then_some o (λ x. option_map (λ d. (record k { servers = hand_over_newer s.rest.number (length x.rest.outbox) d.0 k.servers }, d.1)) (done_at k (Step t) x)))) (sym h)
-    (handed k s h (done_at k (Step t) s) (test_gives (There k s) (enabled k.options s (Step t)) (does k.code k.options s (Step t)) (λ on. go)) (each_event_sends k (record { server = s.rest.number; what = Step t }) sound few s h)))
+    (handed k s h (done_at k (Step t) s) (test_gives (There k s) (enabled k.options s (Step t)) (does k.code k.options s (Step t)) go) (each_event_sends k (record { server = s.rest.number; what = Step t }) sound few s h)))
     (applied_part HasPlaces (λ c g. record { numbers_differ = g.numbers_differ; home_of_each = g.home_of_each; owner_of_each = g.owner_of_each }) k (record { server = s.rest.number; what = Step t }) sound few)
     (λ d a c. a c)
 
--- a step of its thread
+-- a step of its thread, of which something is shown that leaves them
 pub step_there : (k : Cluster) (sound : IsSound k) (s : Server) (here : server_at k.servers s.rest.number ≡ Some s) (t : ℕ) (y : ThreadState) (at : thread_in s.threads t ≡ Some y) (i : Instr) → slice_get k.code y.pc ≡ Some i
+    → (P : Hand → Type 0) → ((h : Hand) → Ok k sound s here t y at h → P h → LeavesWords k (put k sound s here t y at h))
     → Gives (λ (d : Stepped). Ok k sound s here t y at d.hand) (step k.options.servers i (h0 k sound s here t y at))
-    → Gives (λ (d : Stepped). Moved k.code s.rest.number (h0 k sound s here t y at) d.hand) (step k.options.servers i (h0 k sound s here t y at))
+    → Gives (λ (d : Stepped). P d.hand) (step k.options.servers i (h0 k sound s here t y at))
     → Gives (There k s) (does k.code k.options s (Step t))
-step_there k sound s here t y at i code ok moved =
+step_there k sound s here t y at i code P leaves ok moved =
     subst (λ o. Gives (There k s) (option_map (stepped s) (then_some (option_map (λ v. record { work = begin_work s.rest; thread = v }) o) (step_in k.code k.options.servers)))) (sym at)
     (subst (λ o. Gives (There k s) (option_map (stepped s) (then_some o (λ j. step k.options.servers j (h0 k sound s here t y at))))) (sym code)
-    (over_gives (λ (d : Stepped). Ok k sound s here t y at d.hand × Moved k.code s.rest.number (h0 k sound s here t y at) d.hand) (There k s) (step k.options.servers i (h0 k sound s here t y at)) (stepped s)
-    (both_give (λ (d : Stepped). Ok k sound s here t y at d.hand) (λ (d : Stepped). Moved k.code s.rest.number (h0 k sound s here t y at) d.hand) (λ (d : Stepped). Ok k sound s here t y at d.hand × Moved k.code s.rest.number (h0 k sound s here t y at) d.hand) (step k.options.servers i (h0 k sound s here t y at)) ok moved (λ d a b. (a, b)))
-    (λ d g. (moved_leaves k sound s here t y at d.hand g.0 g.1, places k sound s here t y at d.hand g.0))))
+    (over_gives (λ (d : Stepped). Ok k sound s here t y at d.hand × P d.hand) (There k s) (step k.options.servers i (h0 k sound s here t y at)) (stepped s)
+    (both_give (λ (d : Stepped). Ok k sound s here t y at d.hand) (λ (d : Stepped). P d.hand) (λ (d : Stepped). Ok k sound s here t y at d.hand × P d.hand) (step k.options.servers i (h0 k sound s here t y at)) ok moved (λ d a b. (a, b)))
+    (λ d g. (leaves d.hand g.0 g.1, places k sound s here t y at d.hand g.0))))

@@ -2,6 +2,9 @@ pub mod Carrying
 pub mod Replaced
 pub mod Passing
 pub mod Places
+pub mod Taken
+pub mod Owned
 pub mod Hands
 pub mod Steps
 pub mod Events
+pub mod Gives

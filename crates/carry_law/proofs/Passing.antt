@@ -89,6 +89,26 @@ pointer_held u p h = among_first p (pointer_in None u) [] h
 no_owned_reference : (u : Owned) (r : MutRef) → Some (value.Own u) ≡ Some (value.Mut r) → ⊥
 no_owned_reference u r e = absurd cc
 
+-- no place leads to a temporary value
+leads_no_temp : (t u i : ℕ) (v : Option Value) → leads t v ≡ Some (at_temp u i) → ⊥
+leads_no_temp t u i None e = absurd cc
+leads_no_temp t u i (Some value.Gone) e = absurd cc
+leads_no_temp t u i (Some (value.Own (owned.Box q))) e = absurd cc
+leads_no_temp t u i (Some (value.Own owned.Nothing)) e = absurd cc
+leads_no_temp t u i (Some (value.Own owned.Unit)) e = absurd cc
+leads_no_temp t u i (Some (value.Own (owned.Int m))) e = absurd cc
+leads_no_temp t u i (Some (value.Own (owned.Mutex m))) e = absurd cc
+leads_no_temp t u i (Some (value.Own (owned.Task m))) e = absurd cc
+leads_no_temp t u i (Some (value.SharedSlot m)) e = absurd cc
+leads_no_temp t u i (Some (value.MutSlot m)) e = absurd cc
+leads_no_temp t u i (Some (value.Shared m)) e = absurd cc
+leads_no_temp t u i (Some (value.Mut m)) e = absurd cc
+leads_no_temp t u i (Some (value.Held m)) e = absurd cc
+
+pub no_temp : (h : Ground) (t k m u i : ℕ) → locate h t k m ≡ Some (at_temp u i) → ⊥
+no_temp h t k zero u i e = absurd cc
+no_temp h t k (suc m) u i e = leads_no_temp t u i (value_behind h (locate h t k m)) e
+
 -- where holders are, and what threads have taken from: as it was, and not where the value was or comes to
 pub record Quiet (a b : Cluster) (f g : Option Location) : Type 0 where
   pub holders : (l m : Location) (r : MutRef) → value_in (sight a).ground l ≡ Some (value.Mut r) → holder_of (sight a).ground l r.holder ≡ Some m → holder_of (sight b).ground l r.holder ≡ Some m
@@ -112,7 +132,7 @@ module _ (a b : Cluster) (n : ℕ) (x y : ThreadState) (from to : Here) (p : Pas
 
   -- WHAT STANDS WHERE
 
-  here_a : (h : Here) (l : Location) → located x.number h ≡ Some l → value_in ga l ≡ here x h
+  pub here_a : (h : Here) (l : Location) → located x.number h ≡ Some l → value_in ga l ≡ here x h
   here_a (slot i) l e = ap (value_in ga) (some_is (sym e)) ∙ ap (λ o. slot_of o i) (at_a a b n x y p.number s c d)
   here_a (temp i) l e = ap (value_in ga) (some_is (sym e)) ∙ ap (λ o. temp_of o i) (at_a a b n x y p.number s c d)
   here_a nowhere l e = absurd cc
@@ -122,7 +142,7 @@ module _ (a b : Cluster) (n : ℕ) (x y : ThreadState) (from to : Here) (p : Pas
   here_b (temp i) l e = ap (value_in gb) (some_is (sym e)) ∙ ap (λ o. temp_of o i) (at_b a b n x y p.number s c d)
   here_b nowhere l e = absurd cc
 
-  elsewhere : (l : Location) → (Some l ≡ f → ⊥) → (Some l ≡ g → ⊥) → seen_at l (value_in gb l) ≡ seen_at l (value_in ga l)
+  pub elsewhere : (l : Location) → (Some l ≡ f → ⊥) → (Some l ≡ g → ⊥) → seen_at l (value_in gb l) ≡ seen_at l (value_in ga l)
   elsewhere (at_slot m i) h k =
       ⊎_elim (λ (e : value_in gb (at_slot m i) ≡ value_in ga (at_slot m i)). ap pointing e)
       (λ (e : (x.number ≡ m) × (value_in ga (at_slot m i) ≡ slice_get x.slots i) × (value_in gb (at_slot m i) ≡ slice_get y.slots i)).
@@ -300,24 +320,30 @@ module _ (a b : Cluster) (n : ℕ) (x y : ThreadState) (from to : Here) (p : Pas
 
   -- WHERE NO PLACE LEADS ON
 
-  leads_no_temp : (t u i : ℕ) (v : Option Value) → leads t v ≡ Some (at_temp u i) → ⊥
-  leads_no_temp t u i None e = absurd cc
-  leads_no_temp t u i (Some value.Gone) e = absurd cc
-  leads_no_temp t u i (Some (value.Own (owned.Box q))) e = absurd cc
-  leads_no_temp t u i (Some (value.Own owned.Nothing)) e = absurd cc
-  leads_no_temp t u i (Some (value.Own owned.Unit)) e = absurd cc
-  leads_no_temp t u i (Some (value.Own (owned.Int m))) e = absurd cc
-  leads_no_temp t u i (Some (value.Own (owned.Mutex m))) e = absurd cc
-  leads_no_temp t u i (Some (value.Own (owned.Task m))) e = absurd cc
-  leads_no_temp t u i (Some (value.SharedSlot m)) e = absurd cc
-  leads_no_temp t u i (Some (value.MutSlot m)) e = absurd cc
-  leads_no_temp t u i (Some (value.Shared m)) e = absurd cc
-  leads_no_temp t u i (Some (value.Mut m)) e = absurd cc
-  leads_no_temp t u i (Some (value.Held m)) e = absurd cc
+  pub leads_points : (t : ℕ) (v : Option Value) (l : Location) → leads t v ≡ Some l → pointing v ≡ None → ⊥
+  leads_points t v l e h = let z : None ≡ Some l = sym (ap (leads t) h) ∙ leads_pointing t v ∙ e in absurd cc
 
-  no_temp : (h : Ground) (t k m u i : ℕ) → locate h t k m ≡ Some (at_temp u i) → ⊥
-  no_temp h t k zero u i e = absurd cc
-  no_temp h t k (suc m) u i e = leads_no_temp t u i (value_behind h (locate h t k m)) e
+  first_points : (r : MutRef) (v : Option Value) → is_first r v ≡ true → pointing v ≡ None → ⊥
+  first_points r v e h = let z : false ≡ true = sym (ap (is_first r) h) ∙ first_pointing r v ∙ e in absurd cc
+
+  pub seen_leads : (t : ℕ) (l : Location) → ((u i : ℕ) → l ≡ at_temp u i → ⊥) → seen_at l (value_in gb l) ≡ seen_at l (value_in ga l) → leads t (value_in gb l) ≡ leads t (value_in ga l)
+  seen_leads t (at_slot m i) w e = sym (leads_pointing t (value_in gb (at_slot m i))) ∙ ap (leads t) e ∙ leads_pointing t (value_in ga (at_slot m i))
+  seen_leads t (at_temp m i) w e = absurd (w m i refl)
+  seen_leads t (in_cell o) w e = sym (leads_pointing t (value_in gb (in_cell o))) ∙ ap (leads t) e ∙ leads_pointing t (value_in ga (in_cell o))
+
+  pub holder_no_temp : (l m : Location) (w : Lval) → holder_of ga l w ≡ Some m → (u i : ℕ) → m ≡ at_temp u i → ⊥
+  holder_no_temp (at_slot t j) m w e u i q = no_temp ga t w.slot w.depth u i (e ∙ ap Some q)
+  holder_no_temp (at_temp t j) m w e u i q = no_temp ga t w.slot w.depth u i (e ∙ ap Some q)
+  holder_no_temp (in_cell o) m w e u i q = absurd cc
+
+  is_so : (v : Bool) → other v ≡ 0 → v ≡ true
+  is_so true e = refl
+  is_so false e = absurd cc
+
+  pub first_there : Holds a first_at_holder → (l m : Location) (r : MutRef) → value_in ga l ≡ Some (value.Mut r) → holder_of ga l r.holder ≡ Some m → is_first r (value_in ga m) ≡ true
+  first_there all l m r e w =
+      let q : Reference = record { at = l; holder = holder_of ga l r.holder; reference = r } in
+      is_so (is_first r (value_in ga m)) (subst (λ o. other (is_first r (value_behind ga o)) ≡ 0) w (none_at (other_first ga) q (references ga (things_of a)) all (reference_there a l r e)))
 
   -- in its slots nothing led on
   abbrev pub Blind : Type 0
@@ -347,17 +373,6 @@ module _ (a b : Cluster) (n : ℕ) (x y : ThreadState) (from to : Here) (p : Pas
     clear (at_temp m i) w h = absurd (w m i refl)
     clear (in_cell o) w h = (no_cell from o, no_cell to o)
 
-    leads_points : (t : ℕ) (v : Option Value) (l : Location) → leads t v ≡ Some l → pointing v ≡ None → ⊥
-    leads_points t v l e h = let z : None ≡ Some l = sym (ap (leads t) h) ∙ leads_pointing t v ∙ e in absurd cc
-
-    first_points : (r : MutRef) (v : Option Value) → is_first r v ≡ true → pointing v ≡ None → ⊥
-    first_points r v e h = let z : false ≡ true = sym (ap (is_first r) h) ∙ first_pointing r v ∙ e in absurd cc
-
-    seen_leads : (t : ℕ) (l : Location) → ((u i : ℕ) → l ≡ at_temp u i → ⊥) → seen_at l (value_in gb l) ≡ seen_at l (value_in ga l) → leads t (value_in gb l) ≡ leads t (value_in ga l)
-    seen_leads t (at_slot m i) w e = sym (leads_pointing t (value_in gb (at_slot m i))) ∙ ap (leads t) e ∙ leads_pointing t (value_in ga (at_slot m i))
-    seen_leads t (at_temp m i) w e = absurd (w m i refl)
-    seen_leads t (in_cell o) w e = sym (leads_pointing t (value_in gb (in_cell o))) ∙ ap (leads t) e ∙ leads_pointing t (value_in ga (in_cell o))
-
     -- a place that leads somewhere leads there afterwards
     lead_on : (t k m : ℕ) (l : Location) → locate ga t k m ≡ Some l → locate gb t k m ≡ Some l
     lead_on t k zero l e = e
@@ -373,20 +388,6 @@ module _ (a b : Cluster) (n : ℕ) (x y : ThreadState) (from to : Here) (p : Pas
     held_on (at_slot t i) m w e = lead_on t w.slot w.depth m e
     held_on (at_temp t i) m w e = lead_on t w.slot w.depth m e
     held_on (in_cell o) m w e = e
-
-    holder_no_temp : (l m : Location) (w : Lval) → holder_of ga l w ≡ Some m → (u i : ℕ) → m ≡ at_temp u i → ⊥
-    holder_no_temp (at_slot t j) m w e u i q = no_temp ga t w.slot w.depth u i (e ∙ ap Some q)
-    holder_no_temp (at_temp t j) m w e u i q = no_temp ga t w.slot w.depth u i (e ∙ ap Some q)
-    holder_no_temp (in_cell o) m w e u i q = absurd cc
-
-    is_so : (v : Bool) → other v ≡ 0 → v ≡ true
-    is_so true e = refl
-    is_so false e = absurd cc
-
-    first_there : Holds a first_at_holder → (l m : Location) (r : MutRef) → value_in ga l ≡ Some (value.Mut r) → holder_of ga l r.holder ≡ Some m → is_first r (value_in ga m) ≡ true
-    first_there all l m r e w =
-        let q : Reference = record { at = l; holder = holder_of ga l r.holder; reference = r } in
-        is_so (is_first r (value_in ga m)) (subst (λ o. other (is_first r (value_behind ga o)) ≡ 0) w (none_at (other_first ga) q (references ga (things_of a)) all (reference_there a l r e)))
 
     -- what was taken is at a place
     abbrev pub Rooted : Type 0

@@ -1,6 +1,6 @@
 -- How a value of a thread goes: from the end of its temporary values to its slots or its gift, and from its gift to either.
 use Rattle.std.proofs.Common.{◌≡◌, inl, inr, ℕ, zero, suc, ◌+◌, List, [], ◌∷◌, ◌++◌, Some, None, refl, sym, ap, subst, ◌∙◌, arith}
-use Rattle.std.specs.Prelude.{slice_get, length}
+use Rattle.std.specs.Prelude.{slice_get, slice_set, length}
 use Rattle.fr_base.specs.declared.instruction.Instr.{Instr}
 use Rattle.fr_base.specs.declared.name.ObjNo.{ObjNo}
 use Rattle.heap_partition.specs.declared.value.Owned.{Owned}
@@ -16,6 +16,7 @@ use Rattle.heap_law.specs.Weights.{owners}
 use Rattle.heap_law.proofs.Sums.{tot-append}
 use Rattle.word_law.specs.Unmoved.{pointing, owning, taking_by}
 use Rattle.word_law.proofs.Loose.{box_nowhere}
+use Rattle.word_law.proofs.Slots.{set_same, set_other}
 use Rattle.stay_law.proofs.Alike.{Alike, Seen, itself, turned, chain, beside, exchanged, joined, alone, blank}
 use Rattle.stay_law.proofs.Servers.{held, gift_held}
 use Rattle.carry_law.proofs.Passing.{slot, temp, nowhere, Passes, between, leaves, comes}
@@ -46,6 +47,26 @@ end_sum w f i (x ∷ xs) v =
     let q = end_sum w f (i + 1) xs v in
     let a = tot-append w (f i x) (things_at f (i + 1) (xs ++ v ∷ [])) in
     let b = tot-append w (f i x) (things_at f (i + 1) xs) in
+    (q.0, omega (arith, q.1, a, b))
+
+-- another value in the list
+set_things : {code : List Instr} (f : ℕ → Value → List Thing) (i j : ℕ) (xs : List Value) (old new : Value) → slice_get xs j ≡ Some old → ((m : ℕ) → Alike code (f m old) (f m new)) → Alike code (things_at f i xs) (things_at f i (slice_set xs j new))
+set_things f i j [] old new e a = absurd cc
+set_things {code = code} f i zero (x ∷ xs) old new e a = let s : x ≡ old = cc in beside (subst (λ v. Alike code (f i v) (f i new)) (sym s) (a i)) (itself (things_at f (i + 1) xs))
+set_things f i (suc j) (x ∷ xs) old new e a = beside (itself (f i x)) (set_things f (i + 1) j xs old new e a)
+
+set_sum : (w : Thing → ℕ) (f : ℕ → Value → List Thing) (i j : ℕ) (xs : List Value) (old new : Value) → slice_get xs j ≡ Some old → (m : ℕ) × (tot w (things_at f i xs) + tot w (f m new) ≡ tot w (things_at f i (slice_set xs j new)) + tot w (f m old))
+set_sum w f i j [] old new e = absurd cc
+set_sum w f i zero (x ∷ xs) old new e =
+    let s : x ≡ old = cc in
+    let a = tot-append w (f i x) (things_at f (i + 1) xs) in
+    let b = tot-append w (f i new) (things_at f (i + 1) xs) in
+    let c = ap (λ v. tot w (f i v)) s in
+    (i, omega (arith, a, b, c))
+set_sum w f i (suc j) (x ∷ xs) old new e =
+    let q = set_sum w f (i + 1) j xs old new e in
+    let a = tot-append w (f i x) (things_at f (i + 1) xs) in
+    let b = tot-append w (f i x) (things_at f (i + 1) (slice_set xs j new)) in
     (q.0, omega (arith, q.1, a, b))
 
 -- A VALUE AT ANOTHER PLACE
@@ -276,3 +297,33 @@ module _ (code : List Instr) (n : ℕ) (x : ThreadState) (none : taking_by x.num
           let a = sum_of w [] W S (temps_with (x.temps ++ value.Own u ∷ [])) in
           let b = sum_of w G W S T in
           omega (arith, p.1, g, a, b)
+
+  -- WHAT A VARIABLE OWNS BECOMES A TEMPORARY VALUE
+
+  pub slot_to_temp : (i : ℕ) (u : Owned) → slice_get x.slots i ≡ Some (value.Own u) → Passes code n x (record x { slots = slice_set x.slots i value.Gone; temps = x.temps ++ value.Own u ∷ [] }) (slot i) (temp (length x.temps))
+  slot_to_temp i u e = record {
+    number = refl;
+    untaken = none;
+    untaken_after = none;
+    slots = λ j h k. ap pointing (set_other x.slots i j value.Gone (λ q. h (ap slot q)));
+    temps = λ j h k. ap owning (end_other x.temps (value.Own u) j (λ q. k (ap temp q)));
+    left = ap owning (set_same x.slots i (value.Own u) value.Gone e);
+    free = ap owning (end_none x.temps);
+    beside = between (λ q. absurd cc) (λ q. absurd cc) (ap owning (end_is x.temps (value.Own u)) ∙ sym (ap owning e)) tails;
+    owns = sums;
+  }
+    where
+      tails : Alike code (G ++ W ++ S ++ T) (G ++ W ++ slots_with (slice_set x.slots i value.Gone) ++ temps_with (x.temps ++ value.Own u ∷ []))
+      tails =
+          let p = end_things {code = code} (temp_things n x.number) 0 x.temps (value.Own u) in
+          beside (beside (itself (G ++ W)) (set_things (slot_things n x.number) 0 i x.slots (value.Own u) value.Gone e (λ m. placed_blank (in_slot x.number m) (at_slot x.number m) u refl)))
+          (turned (chain p.1 (chain (beside (itself T) (placed_blank (in_temp x.number p.0) (at_temp x.number p.0) u refl)) (alone T))))
+
+      sums : (o : ObjNo) → tot (owners o) (G ++ W ++ slots_with (slice_set x.slots i value.Gone) ++ temps_with (x.temps ++ value.Own u ∷ [])) ≡ tot (owners o) (G ++ W ++ S ++ T)
+      sums o =
+          let w = owners o in
+          let p = end_sum w (temp_things n x.number) 0 x.temps (value.Own u) in
+          let q = set_sum w (slot_things n x.number) 0 i x.slots (value.Own u) value.Gone e in
+          let a = sum_of w G W (slots_with (slice_set x.slots i value.Gone)) (temps_with (x.temps ++ value.Own u ∷ [])) in
+          let b = sum_of w G W S T in
+          omega (arith, p.1, q.1, a, b)

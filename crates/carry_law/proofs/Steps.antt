@@ -85,7 +85,7 @@ mutex_unseen m = record { points = refl; things = λ n p l. blank (holds p (owne
 module _ (code : List Instr) (n : ℕ) where
   -- GOING ON
 
-  goes_next : (h : Hand) → TakesNoneHere code h.thread → Together code n h (go_on h)
+  pub goes_next : (h : Hand) → TakesNoneHere code h.thread → Together code n h (go_on h)
   goes_next h none = each_together (record {
     number = refl;
     named = refl;
@@ -107,7 +107,7 @@ module _ (code : List Instr) (n : ℕ) where
   goes_over h names (Some h2) g = settled h (go_on h2) names (moved_on g.moved (goes_next h2 g.untaken))
 
   -- in a new slot stands what leads nowhere
-  slot_pushed : (h : Hand) (v : Value) → pointing (Some v) ≡ None → IsUnseen v → HandAlike code n [] h (push_slot v h)
+  pub slot_pushed : (h : Hand) (v : Value) → pointing (Some v) ≡ None → IsUnseen v → HandAlike code n [] h (push_slot v h)
   slot_pushed h v e u = record {
     number = refl;
     named = refl;
@@ -120,7 +120,7 @@ module _ (code : List Instr) (n : ℕ) where
       q = end_things (slot_things n h.thread.number) 0 h.thread.slots v
 
   -- what a thread gives comes to the rest
-  given_to_rest : (x z : ThreadState) (u : Owned) (r r2 : Rest) → x.gift ≡ None → Alike code (thread_things n false x) (thread_things n false z) → Alike code (held u ++ body_things n r) (body_things n r2)
+  pub given_to_rest : (x z : ThreadState) (u : Owned) (r r2 : Rest) → x.gift ≡ None → Alike code (thread_things n false x) (thread_things n false z) → Alike code (held u ++ body_things n r) (body_things n r2)
       → Alike code (thread_things n false (record x { gift = Some u }) ++ body_things n r) (thread_things n false z ++ body_things n r2)
   given_to_rest x z u r r2 free a b =
       let away : Alike code (thread_things n false (record x { gift = Some u })) (held u ++ thread_things n false x) =

@@ -1,9 +1,11 @@
 -- STEPS THAT CARRY A VALUE leave the words (this project's rules): a temporary value becomes a variable, the content of a new mutex, a thread's result, or is dropped, and
 -- a result that came becomes a temporary value.
-use Rattle.std.specs.Prelude.{◌≡◌, ⊤, ℕ, Some, slice_get}
+use Rattle.std.specs.Prelude.{◌≡◌, ⊤, ℕ, true, Some, slice_get}
+use Rattle.fr_base.specs.declared.place.Lval.{Lval}
 use Rattle.fr_base.specs.declared.instruction.Operand.{Operand}
 use Rattle.fr_base.specs.declared.instruction.Instr.{Instr}
 use Rattle.fr_base.specs.declared.instruction.Instr.TheVariants as instr
+use Rattle.heap_partition.specs.declared.value.Owned.{Owned}
 use Rattle.journal.specs.View.{EntryView}
 use Rattle.thread_state.specs.View.{ThreadState}
 use Rattle.thread_state.specs.declared.value.Value.{Value}
@@ -13,6 +15,7 @@ use Rattle.server_model.specs.Servers.{Server, Cluster, server_at}
 use Rattle.server_model.specs.Work.{thread_in, last_of}
 use Rattle.server_model.specs.Clusters.{apply}
 use Rattle.heap_law.specs.Coherent.{IsSound}
+use Rattle.type_law.specs.ClusterTypes.{IsCoherent}
 use Rattle.event_law.specs.Laws.{Gives, FewEvents}
 use Rattle.word_law.specs.Unmoved.{LeavesWords}
 
@@ -38,3 +41,14 @@ IsNoReference v = ⊤
 abbrev pub DiscardsCarry : Type 0
 DiscardsCarry = (k : Cluster) (number t : ℕ) (s : Server) (y : ThreadState) (v : Value) → IsSound k → FewEvents k → server_at k.servers number ≡ Some s → thread_in s.threads t ≡ Some y → slice_get k.code y.pc ≡ Some instr.Discard
     → last_of y.temps ≡ Some v → IsNoReference v → Gives (λ (d : Cluster × EntryView). LeavesWords k d.0) (apply k (record { server = number; what = Step t }))
+
+-- an instruction that takes what a slot owns: the newest slot goes with its value, a lock's content is put back, and a variable's value is moved out
+pub data GivesOwned (y : ThreadState) : Instr → Type 0 where
+  drops : (u : Owned) → last_of y.slots ≡ Some (value.Own u) → GivesOwned y instr.DropSlot
+  puts_back : GivesOwned y instr.Unlock
+  moves : (w : Lval) (u : Owned) → w.depth ≡ 0 → slice_get y.slots w.slot ≡ Some (value.Own u) → GivesOwned y (instr.Read w true)
+
+-- from a coherent cluster its step does so too, as to each object that the slot owns its box is the only pointer
+abbrev pub OwnedGoes : Type 0
+OwnedGoes = (k : Cluster) (number t : ℕ) (s : Server) (y : ThreadState) (i : Instr) → IsCoherent k → FewEvents k → server_at k.servers number ≡ Some s → thread_in s.threads t ≡ Some y → slice_get k.code y.pc ≡ Some i → GivesOwned y i
+    → Gives (λ (d : Cluster × EntryView). LeavesWords k d.0) (apply k (record { server = number; what = Step t }))

@@ -1,7 +1,7 @@
 //! Laws of words where a value goes from one place to another.
 
 ghost use Rattle.carry_law.specs.Carried.{CarriedStays};
-ghost use Rattle.carry_law.specs.Steps.{DiscardsCarry, StepsCarry};
+ghost use Rattle.carry_law.specs.Steps.{DiscardsCarry, OwnedGoes, StepsCarry};
 
 /// Where a value goes from one place to another, from whose pointer no mutable reference was made, each object has the word that it had, references know the words
 /// at their holders, dirty references are alone and first words that were left are no words of today.
@@ -14,4 +14,10 @@ pub fn values_are_carried()
 pub fn steps_carry_values()
     ensures steps { StepsCarry }
     ensures discards { DiscardsCarry }
+{}
+
+/// From a coherent cluster so does a step that drops the newest variable with what it owns, puts a lock's content back, or moves an owned value out of a
+/// variable: to each object that goes its box is the only pointer, by types, so no place at which a reference was made passes the slot.
+pub fn owned_values_go()
+    ensures goes { OwnedGoes }
 {}

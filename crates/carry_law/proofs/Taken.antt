@@ -1,0 +1,32 @@
+-- Which thread has taken what was taken.
+use Rattle.std.proofs.Common.{◌≡◌, inl, inr, ℕ, List, [], ◌∷◌, Option, Some, None, refl, sym, ap, ◌∙◌}
+use Rattle.fr_base.specs.declared.instruction.Instr.{Instr}
+use Rattle.fr_base.specs.declared.instruction.Instr.TheVariants as instr
+use Rattle.thread_state.specs.declared.phase.Phase.{Phase}
+use Rattle.thread_state.specs.declared.phase.Phase.TheVariants as phase
+use Rattle.heap_law.specs.Names.{Among}
+use Rattle.heap_law.specs.Follow.{Standing}
+use Rattle.path_law.proofs.Sole.{some_is}
+use Rattle.word_law.specs.Unmoved.{Taking, taking_by, with_taking, taking_of, takings}
+
+pub record Taker (code : List Instr) (xs : List Standing) (t : Taking) : Type 0 where
+  pub taker : Standing
+  pub among : Among taker xs
+  pub taking : taking_of code taker ≡ Some t
+
+pub taker_of : (code : List Instr) (xs : List Standing) (t : Taking) → Among t (takings code xs) → Taker code xs t
+taker_of code [] t h = absurd h
+taker_of code (x ∷ xs) t h = by (taking_of code x) refl h (λ g. taker_of code xs t g)
+  where
+    later : Taker code xs t → Taker code (x ∷ xs) t
+    later y = record { taker = y.taker; among = inr y.among; taking = y.taking }
+
+    by : (o : Option Taking) → taking_of code x ≡ o → Among t (with_taking o (takings code xs)) → (Among t (takings code xs) → Taker code xs t) → Taker code (x ∷ xs) t
+    by None e g go = later (go g)
+    by (Some u) e (inl q) go = record { taker = x; among = inl refl; taking = e ∙ ap Some q }
+    by (Some u) e (inr g) go = later (go g)
+
+-- it is of that thread
+pub taking_thread : (t : ℕ) (p : Phase) (i : Option Instr) (a : Taking) → taking_by t p i ≡ Some a → a.thread ≡ t
+taking_thread t (phase.Taken w) (Some (instr.BorrowMut q)) a e = ap (λ (b : Taking). b.thread) (some_is (sym e))
+taking_thread t _ _ a e = absurd cc
