@@ -18,4 +18,7 @@ pub mod UnlockLines
 pub mod NewObject
 pub mod PlainBox
 pub mod BoxLines
+pub mod ShareGoes
+pub mod PlainShare
+pub mod ShareLines
 pub mod Clauses

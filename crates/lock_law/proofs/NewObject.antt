@@ -270,8 +270,8 @@ module _ (k : Cluster) (co : IsCoherent k) (e : Event) (o : Operand) (s : Server
 
     same_in : (q : Node) → extra q ≡ false → In q ≡ In2 q
     same_in =
-        one_node.in_same k Others G1 G2 n x became beside1 (tt, (tt, tt)) lone1 locks (object_n O) None (Some v) (λ q. one (extra q)) (λ q. omega (arith, pops.owned q, owned_then q)) (λ f q. alone (any_named s1 f q)) (λ f q. or_false (named_in (owns q v) f (inside (object_n O))))
-        (λ z. absurd (cc z)) (λ z. it_is_in) extra (λ q l. or_right (In q) (extra q) (is_one (extra q) l)) (λ q f. has_new q (omega (arith, ap one f))) none
+        one_node.in_same k Others G1 G2 n x became beside1 (tt, (tt, tt)) lone1 locks (object_n O) None (Some v) (λ q. one (extra q)) (λ q. 0) (λ q. omega (arith, pops.owned q, owned_then q)) (λ f q. alone (any_named s1 f q)) (λ f q. or_false (named_in (owns q v) f (inside (object_n O))))
+        (λ z. absurd (cc z)) (λ z. it_is_in) extra (λ q l. or_right (In q) (extra q) (is_one (extra q) l)) (λ q l. absurd (omega (arith, l))) (λ q f. has_new q (omega (arith, ap one f))) none
 
     -- THE STATE
 

@@ -123,7 +123,7 @@ module _ (k : Cluster) (R G G2 : List Thing) (n : ℕ) (x : ThreadState) (pc : �
 
     -- who is in the state afterwards
     pub in_then : (q : Node) → In2 q ≡ F q
-    in_then = one_node.in_then k R G G2 n x z0 beside beside2 lone locks (mutex_n m) under under2 (λ q. new_share fresh q m) even named named2 inside_it inside_then extra is_new extra_in none
+    in_then = one_node.in_then k R G G2 n x z0 beside beside2 lone locks (mutex_n m) under under2 (λ q. new_share fresh q m) (λ q. 0) (λ q. (let l = even q in omega (arith, l))) named named2 inside_it inside_then extra is_new (λ q l. absurd (omega (arith, l))) extra_in none
 
     in_same : (q : Node) → extra q ≡ false → In q ≡ In2 q
     in_same = same_but In In2 extra in_then

@@ -1,4 +1,4 @@
--- A thread's turn in which a value goes to a node, or comes from it, or the thread has something new: who is in the state.
+-- A thread's turn in which a value goes to a node, or comes from it, or the thread has something new or loses it: who is in the state.
 use Rattle.std.proofs.Common.{◌≡◌, ℕ, zero, suc, ◌+◌, ◌≤◌, Bool, true, false, List, Option, Some, None, is_some, refl, sym, ◌∙◌, arith}
 use Rattle.std.specs.List.{AllByRecursion}
 use Rattle.heap_partition.specs.declared.value.Owned.{Owned}
@@ -92,18 +92,19 @@ module _ (k : Cluster) (R G G2 : List Thing) (n : ℕ) (x became : ThreadState) 
       here k (mine n y1 G2) R q
       (any_mine n y1 G2 (s2 k R G G2 n x became) In2 q ∙ or_left (any_named (s2 k R G G2 n x became) In2 q G2) (some (own2 q)) e)
 
-  -- of the node this value was beside the thread and that one is so afterwards; what is new to the thread was in the state, or is such a node
-  module _ (beside : AllByRecursion IsBeside G) (beside2 : AllByRecursion IsBeside G2) (lone : tot (of_thread x.number) R ≡ 0) (locks : LocksStay k R G G2 n x became) (node : Node) (under under2 : Option Owned) (new : Node → ℕ)
-      (even : (q : Node) → own q + owned_under q under + new q ≡ own2 q + owned_under q under2)
+  -- of the node this value was beside the thread and that one is so afterwards; what is new to the thread was in the state, or is such a node, and what is lost to it
+  -- is in the state afterwards
+  module _ (beside : AllByRecursion IsBeside G) (beside2 : AllByRecursion IsBeside G2) (lone : tot (of_thread x.number) R ≡ 0) (locks : LocksStay k R G G2 n x became) (node : Node) (under under2 : Option Owned) (new lost : Node → ℕ)
+      (even : (q : Node) → own q + owned_under q under + new q ≡ own2 q + owned_under q under2 + lost q)
       (named : (f : Node → Bool) (q : Node) → any_named (s k R G G2 n x became) f q G ≡ named_under f q node under) (named2 : (f : Node → Bool) (q : Node) → any_named (s2 k R G G2 n x became) f q G2 ≡ named_under f q node under2)
       (inside_it : is_some under ≡ true → In node ≡ true) (inside_then : is_some under2 ≡ true → In2 node ≡ true)
-      (extra : Node → Bool) (is_new : (q : Node) → 1 ≤ new q → with_extra In extra q ≡ true) (extra_in : (q : Node) → extra q ≡ true → In2 q ≡ true) (none : NoneUnder (s k R G G2 n x became) extra R) where
+      (extra : Node → Bool) (is_new : (q : Node) → 1 ≤ new q → with_extra In extra q ≡ true) (is_lost : (q : Node) → 1 ≤ lost q → In2 q ≡ true) (extra_in : (q : Node) → extra q ≡ true → In2 q ≡ true) (none : NoneUnder (s k R G G2 n x became) extra R) where
     had_by_then : (q : Node) → 1 ≤ own2 q + owned_under q under2 → In2 q ≡ true
     had_by_then q l =
         one_of_two (own2 q) (owned_under q under2) (In2 q ≡ true) (has2 q) (λ d. has_beside2 q (named2 In2 q ∙ named_too In2 q node under2 inside_then d)) l
 
     goes_in : (q : Node) → 1 ≤ own q + owned_under q under → In2 q ≡ true
-    goes_in q l = had_by_then q (omega (arith, l, even q))
+    goes_in q l = one_of_two (own2 q + owned_under q under2) (lost q) (In2 q ≡ true) (had_by_then q) (is_lost q) (omega (arith, l, even q))
 
     stay : (q : Node) → In q ≡ true → In2 q ≡ true
     stay =

@@ -8,7 +8,7 @@ use Rattle.fr_base.specs.declared.instruction.Instr.TheVariants as instr
 use Rattle.thread_state.specs.View.{ThreadState}
 use Rattle.server_model.specs.declared.event.Event.{Event}
 use Rattle.server_model.specs.Servers.{Cluster}
-use Rattle.server_model.specs.Work.{front_of, then_some}
+use Rattle.server_model.specs.Work.{front_of, mutex_of, then_some}
 use Rattle.server_model.specs.Commit.{held_of}
 use Rattle.server_model.specs.Clusters.{apply}
 use Rattle.heap_law.specs.Sight.{sight}
@@ -52,3 +52,17 @@ IsThere k (Some m) = is_in_state (sight k) (mutex_n m) ≡ true
 abbrev pub UnlocksArePlain : Type 0
 UnlocksArePlain =
     (k : Cluster) (e : Event) (y : ThreadState) → instr_of k e ≡ Some instr.Unlock → thread_of k e ≡ Some y → IsSound k → FewEvents k → Gives (λ d. IsThere d.0 (marked y) → IsPlainStep k d) (apply k e)
+
+-- A VALUE OF A MUTEX THAT IS DROPPED
+
+-- the mutex of the temporary value that is discarded, or of the last slot's value
+abbrev pub dropped_share : Instr → ThreadState → Option MutexNo
+dropped_share instr.Discard y = then_some (last_of y.temps) mutex_of
+dropped_share instr.DropSlot y = then_some (last_of y.slots) mutex_of
+dropped_share i y = None
+
+-- from a sound cluster, each step that drops a value of a mutex is a plain step, its messages handed over, where another value of it is in the state afterwards. (Else its
+-- content is dropped)
+abbrev pub SharesGo : Type 0
+SharesGo =
+    (k : Cluster) (e : Event) (i : Instr) (y : ThreadState) (m : MutexNo) → instr_of k e ≡ Some i → thread_of k e ≡ Some y → dropped_share i y ≡ Some m → IsSound k → FewEvents k → Gives (λ d. is_in_state (sight d.0) (mutex_n m) ≡ true → IsPlainStep k d) (apply k e)

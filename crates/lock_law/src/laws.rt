@@ -1,5 +1,5 @@
 ghost use Rattle.heap_law.specs.Coherent.{IsSound};
-ghost use Rattle.lock_law.specs.Locks.{UnlocksArePlain, dups_mutex, locks_mutex, makes_box, makes_mutex};
+ghost use Rattle.lock_law.specs.Locks.{SharesGo, UnlocksArePlain, dups_mutex, locks_mutex, makes_box, makes_mutex};
 ghost use Rattle.turn_law.specs.Turns.{ArePlainSteps};
 ghost use Rattle.type_law.specs.ClusterTypes.{IsCoherent};
 
@@ -25,4 +25,10 @@ pub fn unlock_steps()
 /// From a coherent cluster, so is each step that makes an object: it is the thread's next one, its value is that of the box's operand, and no place of a lock passes it.
 pub fn box_steps()
     ensures { ArePlainSteps IsCoherent makes_box }
+{}
+
+/// From a sound cluster, so is a discard and the drop of a slot whose value is one of a mutex, where another value of it is in the state afterwards: the mutex has one share
+/// less.
+pub fn share_steps()
+    ensures { SharesGo }
 {}

@@ -4,4 +4,4 @@
 
 mod laws;
 
-pub use laws::{answer_steps, box_steps, new_mutex_steps, unlock_steps};
+pub use laws::{answer_steps, box_steps, new_mutex_steps, share_steps, unlock_steps};

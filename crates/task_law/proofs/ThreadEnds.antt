@@ -239,8 +239,8 @@ module _ (k : Cluster) (sound : IsSound k) (e : Event) (o : Operand) (s : Server
   module _ {under : Option Owned} (c : Leaves under) where
     same_in : (q : Node) → false ≡ false → is_in_state s1 q ≡ is_in_state s2 q
     same_in =
-        one_node.in_same k Others G1 G2 n x became beside1 beside2 lone1 locks (task_n x.number) None under (λ q. 0) (λ q. (let l = c.even q in omega (arith, l))) (λ f q. alone (any_named s1 f q)) c.named (λ z. absurd (cc z)) c.inside_then (λ q. false)
-        (λ q l. absurd (omega (arith, l))) (λ q z. absurd (cc z)) (nothing_under s1 Others)
+        one_node.in_same k Others G1 G2 n x became beside1 beside2 lone1 locks (task_n x.number) None under (λ q. 0) (λ q. 0) (λ q. (let l = c.even q in omega (arith, l))) (λ f q. alone (any_named s1 f q)) c.named (λ z. absurd (cc z)) c.inside_then (λ q. false)
+        (λ q l. absurd (omega (arith, l))) (λ q l. absurd (omega (arith, l))) (λ q z. absurd (cc z)) (nothing_under s1 Others)
 
     abbrev owed : Sight → ℕ → Bool
     owed w r = is_branch w r || is_in_state w (task_n r)

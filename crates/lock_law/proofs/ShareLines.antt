@@ -1,0 +1,260 @@
+-- A step that drops a value of a mutex, at the server and on the plain machine, where another value of it is in the state.
+use Rattle.std.proofs.Common.{◌≡◌, ℕ, zero, suc, ◌+◌, ◌≤◌, true, false, List, [], ◌∷◌, length, Option, Some, None, option_map, refl, sym, ap, subst, ◌∙◌, arith}
+use Rattle.std.specs.Prelude.{◌-◌}
+use Rattle.fr_base.specs.Lists.{last_of}
+use Rattle.fr_base.specs.declared.name.MutexNo.{MutexNo}
+use Rattle.fr_base.specs.declared.release.Released.TheVariants as released
+use Rattle.fr_base.specs.declared.label.Plain.{Plain}
+use Rattle.fr_base.specs.declared.label.Plain.TheVariants as plain
+use Rattle.fr_base.specs.declared.step.Fresh.TheVariants as fresh
+use Rattle.fr_base.specs.declared.instruction.Instr.{Instr}
+use Rattle.fr_base.specs.declared.instruction.Instr.TheVariants as instr
+use Rattle.fr_plain.specs.declared.value.Value.{Value as PlainValue}
+use Rattle.fr_plain.specs.declared.value.Value.TheVariants as plain_v
+use Rattle.fr_plain.specs.State.{without}
+use Rattle.fr_plain.specs.MachineActs.{act as act_of, drops_last, do_discard, do_drop, end_of, unit}
+use Rattle.fr_plain.specs.MachineThreads.{Shared, going, mutex_there, with_mutex}
+use Rattle.fr_plain.specs.Machine.{done_act, alone_stepped}
+use Rattle.fr_plain.specs.PlainState.{SameState, plain_state}
+use Rattle.fr_code.specs.Machine.{CodeWhole, CodeRunning}
+use Rattle.fr_code.specs.Steps.{Place, CodeAct, code_moves, over_at, run_instr}
+use Rattle.heap_partition.specs.declared.value.Owned.TheVariants as owned
+use Rattle.read_cache.specs.Cache.{Copy}
+use Rattle.migration.specs.Packing.{unpin_all}
+use Rattle.thread_state.specs.View.{ThreadState}
+use Rattle.thread_state.specs.declared.value.Value.{Value}
+use Rattle.thread_state.specs.declared.value.Value.TheVariants as value
+use Rattle.journal.specs.declared.act.Act.TheVariants as act
+use Rattle.server_msgs.specs.declared.message.Message.TheVariants as message
+use Rattle.server_model.specs.declared.event.Event.{Event}
+use Rattle.server_model.specs.Servers.{Server, Cluster}
+use Rattle.server_model.specs.Work.{Hand, Popped, send, note, label_all, front_of, with_slots, with_temps, with_cache, mutex_of, then_some}
+use Rattle.server_model.specs.Places.{nowhere, in_slot, on_top}
+use Rattle.server_model.specs.Prepare.{prepare, ending}
+use Rattle.server_model.specs.Drop.{drop_value}
+use Rattle.server_model.specs.Commit.{goes_on, go_on, label_dropped}
+use Rattle.server_model.specs.Events.{Stepped, stepped, begin_work, committed, prepared, step}
+use Rattle.server_model.specs.Clusters.{apply}
+use Rattle.heap_law.specs.Names.{one}
+use Rattle.heap_law.specs.Things.{Thing}
+use Rattle.heap_law.specs.Sight.{Sight, sight}
+use Rattle.heap_law.specs.Requests.{is_par_end}
+use Rattle.heap_law.specs.OneHeap.{Node, mutex_n, owns, is_in_state, running_at, one_heap, state_of}
+use Rattle.heap_law.specs.Coherent.{IsSound}
+use Rattle.event_law.specs.Laws.{Gives}
+use Rattle.event_law.proofs.Bags.{counts_of, rest_things}
+use Rattle.event_law.proofs.GiftsTaken.{gift_fits}
+use Rattle.event_law.proofs.Values.{last_split}
+use Rattle.plain_types.proofs.Mutexes.{given_set}
+use Rattle.still_law.proofs.Readied.{copies_ready}
+use Rattle.still_law.proofs.Sites.{shown, Moves, sends}
+use Rattle.turn_law.specs.Turns.{StepsTo, IsPlainStep, instr_of}
+use Rattle.turn_law.proofs.Parts.{owned_in}
+use Rattle.turn_law.proofs.OneTurn.{Going, after}
+use Rattle.turn_law.proofs.PlainTurn.{thread_as, state_at}
+use Rattle.turn_law.proofs.Instructions.{shown_last, shown_push, owned_push}
+use Rattle.turn_law.proofs.Clauses.{same_thread}
+use Rattle.turn_law.proofs.Events.{AtStep, Sends, events_are, then_same}
+use Rattle.lock_law.specs.Locks.{dropped_share, SharesGo}
+use Rattle.lock_law.proofs.Changed as changed
+use Rattle.lock_law.proofs.DupLines.{running_to}
+use Rattle.lock_law.proofs.OneThread.{GoesOn, next}
+use Rattle.lock_law.proofs.PlainMutex.{found, move_as, steps_with, set_shows}
+use Rattle.lock_law.proofs.PlainShare.{share_goes}
+use Rattle.lock_law.proofs.ShareGoes as share_gone
+use Rattle.lock_law.proofs.ThreadTurns.{ThreadTurn, Next, is_step}
+
+-- one less than a number from one on
+one_less : (i : ℕ) → 1 ≤ i → (j : ℕ) × (i ≡ suc j)
+one_less zero l = absurd (omega (arith, l))
+one_less (suc j) l = (j, refl)
+
+module _ (k : Cluster) (sound : IsSound k) (e : Event) (i : Instr) (single : is_par_end (Some i) ≡ false) (s : Server) (t : ℕ) (x : ThreadState) (at : AtStep k e i s t x) (bare : x.gift ≡ None) (m : MutexNo) (slots temps : List Value)
+    (even : (q : Node) → owned_in q x.slots + owned_in q x.temps ≡ owned_in q slots + owned_in q temps + one (owns q (owned.Mutex m))) where
+  abbrev start : Hand
+  start = record { work = begin_work s.rest; thread = x }
+
+  abbrev n : ℕ
+  n = s.rest.number
+
+  abbrev s2 : Sight
+  s2 = share_gone.s2 k sound e i single s t x at bare m slots temps even
+
+  abbrev counts_then : Thing
+  counts_then = counts_of n 0 s.rest
+
+  -- the value goes from the thread, and its home is told
+  abbrev pub gone_hand : Hand
+  gone_hand = record { work = send m.home (message.Release (released.Mutex m)) (note (act.LetGo (released.Mutex m)) (label_all [] (begin_work s.rest))); thread = record x { slots = slots; temps = temps } }
+
+  abbrev pub Wanted : Stepped → Type 0
+  Wanted d = Sends k e s (stepped s d) → is_in_state (sight (Next k sound e i single s t x at d)) (mutex_n m) ≡ true → IsPlainStep k (Next k sound e i single s t x at d, (stepped s d).1)
+
+  -- an act that drops it on the plain machine
+  module _ (a : CodeAct) (plug : PlainValue → Place) (now : over_at (Some i) (shown_last x.temps) ≡ going) (move : run_instr (Some i) x.pc (shown_last x.temps) ≡ Some (record { act = a; plug = plug }))
+      (place : running_to (x.pc + 1) (shown_last temps) (shown_last slots) ≡ record { place = plug unit; slots = shown_last slots })
+      (lone : (c : CodeWhole) (g : Going) → done_act (code_moves k.code) c (thread_as g x.number (running_at x)) fresh.None (move_as g a plug) a ≡ alone_stepped (code_moves k.code) c (thread_as g x.number (running_at x)) (move_as g a plug) a)
+      (did : (c : CodeWhole) → act_of a (state_at c x.number (shown_last x.slots)) ≡ Some (record { value = unit; state = record { thread = x.number; slots = shown_last slots; heap = without c.heap (plain_v.Own (plain.Mutex m)) }; labels = [] }))
+      (last : (c : CodeWhole) → drops_last a (state_at c x.number (shown_last x.slots)) ≡ end_of c.heap (plain_v.Own (plain.Mutex m))) where
+    module _ (in_then : is_in_state s2 (mutex_n m) ≡ true) where
+      abbrev content : Option Plain
+      content = share_gone.content k sound e i single s t x at bare m slots temps even in_then
+
+      abbrev left : ℕ
+      left = share_gone.left k sound e i single s t x at bare m slots temps even in_then
+
+      steps : (c : CodeWhole) → SameState (plain_state c) (one_heap k) → StepsTo k.code c x.number fresh.None (state_of s2) []
+      steps c same =
+          let A = state_of (share_gone.s1 k sound e i single s t x at bare m slots temps even) in
+          let q : CodeRunning = record { place = plug unit; slots = shown_last slots } in
+          let shown_too : SameState (plain_state c) A = then_same (plain_state c) (one_heap k) A same (changed.state_before k sound e s at.here t x at.at at.number) in
+          let goes : GoesOn x.number (running_at x) q A (state_of s2) = subst (λ z. GoesOn x.number (running_at x) z A (state_of s2)) place (share_gone.thread_on k sound e i single s t x at bare m slots temps even in_then) in
+          let less = one_less left (share_gone.some_left k sound e i single s t x at bare m slots temps even in_then) in
+          let old : Shared = record { content = content; shares = left + 1 } in
+          let new : Shared = record { content = content; shares = suc less.0 } in
+          let there : mutex_there c.mutexes m ≡ Some old = shown_too.mutexes m ∙ share_gone.it_before k sound e i single s t x at bare m slots temps even in_then in
+          let new_is : (state_of s2).mutex m ≡ Some new = share_gone.it_then k sound e i single s t x at bare m slots temps even in_then ∙ ap (λ z. Some (record { content = content; shares = z })) less.1 in
+          steps_with k.code c x.number (running_at x) q A (state_of s2) goes shown_too fresh.None (with_mutex c.mutexes m (Some new)) []
+          (share_goes k.code c goes.way x.number (running_at x) a plug (shown_last slots) m old less.0 (ap (λ j. over_at j (shown_last x.temps)) at.code ∙ now) (ap (λ j. run_instr j x.pc (shown_last x.temps)) at.code ∙ move) (thread_as goes.way x.number (running_at x))
+          (found k.code c x.number (running_at x) q A (state_of s2) goes shown_too) there (omega (arith, less.1)) (lone c goes.way) (did c) (last c))
+          (share_gone.made_on k sound e i single s t x at bare m slots temps even in_then) (share_gone.objects_on k sound e i single s t x at bare m slots temps even in_then)
+          (set_shows c.mutexes m (Some new) old (λ w. (state_of s2).mutex w) there new_is (λ w ne. shown_too.mutexes w ∙ share_gone.others_on k sound e i single s t x at bare m slots temps even in_then w ne))
+          (λ w. given_set c.mutexes m (Some new) w ∙ shown_too.given w ∙ share_gone.names_on k sound e i single s t x at bare m slots temps even in_then w)
+
+    module _ (cs : List Copy) where
+      abbrev d : Stepped
+      d = record { hand = record { work = with_cache cs gone_hand.work; thread = record (go_on gone_hand).thread { passed = 0; walk = []; moved_since_step = false } }; names = Some fresh.None }
+
+      abbrev became : ThreadState
+      became = after x (x.pc + 1) slots temps
+
+      thread_is : d.hand.thread ≡ next x became
+      thread_is = ap (λ g. (let z : ThreadState = record became { gift = g } in z)) bare
+
+      moves_to : Moves (counts_then ∷ []) (counts_then ∷ []) s.rest d.hand.work.rest
+      moves_to =
+          let goes : Moves [] [] s.rest gone_hand.work.rest = sends [] [] s.rest (note (act.LetGo (released.Mutex m)) (label_all [] (begin_work s.rest))) m.home (message.Release (released.Mutex m)) (record { number = refl; alike = λ w z. refl }) (λ w z. omega (arith, z)) in
+          record {
+            number = goes.number;
+            alike = λ w z.
+                let cache : shown w (rest_things gone_hand.work.rest.number 0 gone_hand.work.rest) ≡ shown w (rest_things gone_hand.work.rest.number 0 d.hand.work.rest) = (copies_ready gone_hand cs []).0.moves.alike w z in
+                let at_n : shown w (rest_things n 0 gone_hand.work.rest) ≡ shown w (rest_things n 0 d.hand.work.rest) = subst (λ q. shown w (rest_things q 0 gone_hand.work.rest) ≡ shown w (rest_things q 0 d.hand.work.rest)) goes.number cache in
+                omega (arith, goes.alike w z, at_n);
+          }
+
+      there : Sends k e s (stepped s d) → is_in_state (sight (Next k sound e i single s t x at d)) (mutex_n m) ≡ true → is_in_state s2 (mutex_n m) ≡ true
+      there goes in_it =
+          changed.nodes_after k sound e s at.here t x at.at at.number d became thread_is (counts_then ∷ []) moves_to goes (share_gone.beside1 k sound e i single s t x at bare m slots temps even) (tt, tt) refl (share_gone.once_then k sound e i single s t x at bare m slots temps even) (mutex_n m) ∙ in_it
+
+      turn : is_in_state s2 (mutex_n m) ≡ true → ThreadTurn k sound e i single s t x at d
+      turn in_then = record {
+        became = became;
+        names = fresh.None;
+        thread = thread_is;
+        named = refl;
+        comes = counts_then ∷ [];
+        moves = moves_to;
+        beside = (tt, tt);
+        unstray = refl;
+        once = share_gone.once_then k sound e i single s t x at bare m slots temps even;
+        steps = steps in_then;
+      }
+
+    pub settled : Gives Wanted (committed (goes_on (Some gone_hand)))
+    settled = by (unpin_all x.walk gone_hand.work.rest.cache)
+      where
+        by : (q : Option (List Copy)) → Gives Wanted (option_map (λ h2. record { hand = h2; names = Some fresh.None })
+            (option_map (λ cs. record { work = with_cache cs gone_hand.work; thread = record (go_on gone_hand).thread { passed = 0; walk = []; moved_since_step = false } }) q))
+        by None = tt
+        by (Some cs) = λ goes in_it. is_step k sound e i single s t x at (d cs) (turn cs (there cs goes in_it)) goes
+
+-- THE INSTRUCTIONS
+
+abbrev dropping : CodeAct
+dropping = do_drop
+
+abbrev share : MutexNo → Value
+share m = value.Own (owned.Mutex m)
+
+last_shown : (vs : List Value) (m : MutexNo) → last_of vs ≡ Some (share m) → shown_last vs ≡ plain_v.Own (plain.Mutex m) ∷ shown_last (front_of vs)
+last_shown vs m e = ap shown_last (last_split vs (share m) e) ∙ shown_push (front_of vs) (share m)
+
+last_owned : (q : Node) (vs : List Value) (m : MutexNo) → last_of vs ≡ Some (share m) → owned_in q vs ≡ owned_in q (front_of vs) + one (owns q (owned.Mutex m))
+last_owned q vs m e = ap (owned_in q) (last_split vs (share m) e) ∙ owned_push q (front_of vs) (share m)
+
+module _ (k : Cluster) (sound : IsSound k) (e : Event) (s : Server) (t : ℕ) (x : ThreadState) (m : MutexNo) where
+  module _ (at : AtStep k e instr.Discard s t x) (q : last_of x.temps ≡ Some (share m)) where
+    abbrev start1 : Hand
+    start1 = record { work = begin_work s.rest; thread = x }
+
+    abbrev front1 : List Value
+    front1 = front_of x.temps
+
+    pub bare1 : x.gift ≡ None
+    bare1 = (gift_fits k sound e.server s at.here t x at.at instr.Discard at.code).0
+
+    pub even1 : (v : Node) → owned_in v x.slots + owned_in v x.temps ≡ owned_in v x.slots + owned_in v front1 + one (owns v (owned.Mutex m))
+    even1 v = omega (arith, last_owned v x.temps m q)
+
+    abbrev Wanted1 : Stepped → Type 0
+    Wanted1 = Wanted k sound e instr.Discard refl s t x at bare1 m x.slots front1 even1
+
+    discarded : Gives Wanted1 (committed (goes_on (Some (gone_hand k sound e instr.Discard refl s t x at bare1 m x.slots front1 even1))))
+    discarded =
+        settled k sound e instr.Discard refl s t x at bare1 m x.slots front1 even1 (do_discard (plain_v.Own (plain.Mutex m))) (λ z. record { pc = x.pc + 1; temps = shown_last front1 }) refl (ap (λ l. run_instr (Some instr.Discard) x.pc l) (last_shown x.temps m q)) refl (λ c g. refl) (λ c. refl) (λ c. refl)
+
+    pub discard_line : Gives Wanted1 (step k.options.servers instr.Discard start1)
+    discard_line =
+        subst (λ l. Gives Wanted1 (prepared k.options.servers instr.Discard (prepare (ending on_top l) start1))) (sym q)
+        (subst (λ l. Gives Wanted1 (committed (goes_on (then_some {X = Popped Value} (option_map (λ v. record { item = v; hand = with_temps front1 start1 }) l) (λ z. drop_value nowhere z.item (label_dropped z.item z.hand)))))) (sym q) discarded)
+
+  module _ (at : AtStep k e instr.DropSlot s t x) (q : last_of x.slots ≡ Some (share m)) where
+    abbrev start2 : Hand
+    start2 = record { work = begin_work s.rest; thread = x }
+
+    abbrev front2 : List Value
+    front2 = front_of x.slots
+
+    pub bare2 : x.gift ≡ None
+    bare2 = (gift_fits k sound e.server s at.here t x at.at instr.DropSlot at.code).0
+
+    pub even2 : (v : Node) → owned_in v x.slots + owned_in v x.temps ≡ owned_in v front2 + owned_in v x.temps + one (owns v (owned.Mutex m))
+    even2 v = omega (arith, last_owned v x.slots m q)
+
+    abbrev Wanted2 : Stepped → Type 0
+    Wanted2 = Wanted k sound e instr.DropSlot refl s t x at bare2 m front2 x.temps even2
+
+    dropped : Gives Wanted2 (committed (goes_on (Some (gone_hand k sound e instr.DropSlot refl s t x at bare2 m front2 x.temps even2))))
+    dropped =
+        settled k sound e instr.DropSlot refl s t x at bare2 m front2 x.temps even2 do_drop (λ z. record { pc = x.pc + 1; temps = shown_last x.temps }) refl refl refl (λ c g. refl) (λ c. ap (λ l. act_of dropping (state_at c x.number l)) (last_shown x.slots m q)) (λ c. ap (λ l. drops_last dropping (state_at c x.number l)) (last_shown x.slots m q))
+
+    pub drop_line : Gives Wanted2 (step k.options.servers instr.DropSlot start2)
+    drop_line =
+        subst (λ l. Gives Wanted2 (prepared k.options.servers instr.DropSlot (prepare (ending (in_slot (length x.slots - 1)) l) start2))) (sym q)
+        (subst (λ l. Gives Wanted2 (committed (goes_on (then_some {X = Popped Value} (option_map (λ v. record { item = v; hand = with_slots front2 start2 }) l) (λ z. drop_value nowhere z.item (label_dropped z.item z.hand)))))) (sym q) dropped)
+
+-- which value it is
+share_is : (o : Option Value) (m : MutexNo) → then_some o mutex_of ≡ Some m → o ≡ Some (share m)
+share_is None m e = absurd (cc e)
+share_is (Some (value.Own (owned.Mutex w))) m e = let same : w ≡ m = cc in ap (λ z. Some (share z)) same
+share_is (Some (value.Own owned.Nothing)) m e = absurd (cc e)
+share_is (Some (value.Own owned.Unit)) m e = absurd (cc e)
+share_is (Some (value.Own (owned.Int n))) m e = absurd (cc e)
+share_is (Some (value.Own (owned.Box p))) m e = absurd (cc e)
+share_is (Some (value.Own (owned.Task u))) m e = absurd (cc e)
+share_is (Some value.Gone) m e = absurd (cc e)
+share_is (Some (value.SharedSlot j)) m e = absurd (cc e)
+share_is (Some (value.MutSlot j)) m e = absurd (cc e)
+share_is (Some (value.Shared r)) m e = absurd (cc e)
+share_is (Some (value.Mut r)) m e = absurd (cc e)
+share_is (Some (value.Held w)) m e = absurd (cc e)
+
+pub shares_go : SharesGo
+shares_go k e i y m q th it sound few = by i q it
+  where
+    by : (i : Instr) → instr_of k e ≡ Some i → dropped_share i y ≡ Some m → Gives (λ d. is_in_state (sight d.0) (mutex_n m) ≡ true → IsPlainStep k d) (apply k e)
+    by instr.Discard q it =
+        events_are (λ d. is_in_state (sight d.0) (mutex_n m) ≡ true → IsPlainStep k d) k e instr.Discard sound few (λ s t x at. discard_line k sound e s t x m at (share_is (last_of x.temps) m (ap (λ (z : ThreadState). then_some (last_of z.temps) mutex_of) (same_thread k e instr.Discard s t x y at th) ∙ it))) q
+    by instr.DropSlot q it =
+        events_are (λ d. is_in_state (sight d.0) (mutex_n m) ≡ true → IsPlainStep k d) k e instr.DropSlot sound few (λ s t x at. drop_line k sound e s t x m at (share_is (last_of x.slots) m (ap (λ (z : ThreadState). then_some (last_of z.slots) mutex_of) (same_thread k e instr.DropSlot s t x y at th) ∙ it))) q
+    by _ q it = absurd (cc it)
