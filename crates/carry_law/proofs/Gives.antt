@@ -68,7 +68,7 @@ length_end : {A : Type 0} (xs : List A) (v : A) → length (xs ++ v ∷ []) ≡ 
 length_end [] v = refl
 length_end (x ∷ xs) v = ap suc (length_end xs v)
 
-held_unseen : (m : MutexNo) → IsUnseen (value.Held m)
+pub held_unseen : (m : MutexNo) → IsUnseen (value.Held m)
 held_unseen m = record { points = refl; things = λ j p l. blank (locks l m) (λ q f i. i) }
 
 is_owned : (v : Value) (u : Owned) → owned_of v ≡ Some u → v ≡ value.Own u

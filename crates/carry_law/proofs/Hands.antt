@@ -22,7 +22,7 @@ use Rattle.heap_law.specs.Follow.{Standing, value_in, leads, place_at}
 use Rattle.heap_law.specs.Sight.{sight}
 use Rattle.heap_law.specs.Requests.{lies_here, taken_there, taken_phase, lent_place as taken_place}
 use Rattle.heap_law.specs.Weights.{owners}
-use Rattle.heap_law.specs.Coherent.{IsSound}
+use Rattle.heap_law.specs.Coherent.{Holds, first_at_holder, IsSound}
 use Rattle.heap_law.proofs.Words.{none_at}
 use Rattle.path_law.proofs.Sole.{some_is}
 use Rattle.word_law.specs.Reworded.{HasPlaces}
@@ -117,14 +117,17 @@ module _ (k : Cluster) (x : Standing) (t : Taking) where
       (l.0, ap (λ (a : Taking). place_at (sight k).ground a.thread a.place) (sym is) ∙ l.1)
   taker_placed _ _ code e z = absurd cc
 
-rooted : (k : Cluster) → IsSound k → (t : Taking) → Among t (takings k.code (sight k).ground.threads) → (l : Location) × (place_at (sight k).ground t.thread t.place ≡ Some l)
+-- of all that was taken
+abbrev pub RootedIn : Cluster → Type 0
+RootedIn k = (t : Taking) → Among t (takings k.code (sight k).ground.threads) → (l : Location) × (place_at (sight k).ground t.thread t.place ≡ Some l)
+
+pub rooted : (k : Cluster) → IsSound k → RootedIn k
 rooted k sound t h =
     let q = taker_of k.code (sight k).ground.threads t h in
     taker_placed k q.taker t q.taker.thread.phase (slice_get k.code q.taker.thread.pc) refl q.taking (none_at (λ (x : Standing). taken_phase (sight k) x x.thread.phase) q.taker (sight k).ground.threads sound.requests.taken_stands q.among)
 
 -- it stays so where nothing changes that words see
-rooted_on : (k z : Cluster) → z.code ≡ k.code → Untouched k z → ((t : Taking) → Among t (takings k.code (sight k).ground.threads) → (l : Location) × (place_at (sight k).ground t.thread t.place ≡ Some l))
-    → (t : Taking) → Among t (takings z.code (sight z).ground.threads) → (l : Location) × (place_at (sight z).ground t.thread t.place ≡ Some l)
+rooted_on : (k z : Cluster) → z.code ≡ k.code → Untouched k z → RootedIn k → RootedIn z
 rooted_on k z code u go t h =
     let q = go t (u.takes t h) in
     (q.0, seen_places_lead (sight k).ground (sight z).ground in_slots in_cells t.thread t.place.slot t.place.depth ∙ q.1)
@@ -197,72 +200,74 @@ module _ (k : Cluster) (sound : IsSound k) (s : Server) (here : server_at k.serv
       (chain (turned (ends_alike n s.events None None (put_back s.threads h) e))
       (chain (site_of h f) (chain (beside a.alike (itself (all_standing n (without_thread s.threads t)))) (chain (turned (site_of h2 (a.named ∙ f))) (ends_alike n s.events None None (put_back s.threads h2) (a.number ∙ e))))))
 
-  -- so the words stay
-  pub moved_leaves : (h : Hand) → Ok h → Moved k.code n h0 h → LeavesWords k (put h)
-  moved_leaves h g (seen a) = untouched_stays k (put h) before (places h g) (seen_alike k (put h) before (places h g) refl (chain first_alike (puts_alike h0 h refl its_number a)))
-  moved_leaves h g (passed x z e a owns p blind b) = leaves_chain first (leaves_chain second third)
+  -- so the words stay from one hand to the other
+  pub moved_from : (h1 h : Hand) → h1.work.rest.number ≡ n → h1.thread.number ≡ t → HasPlaces (put h1) → HasPlaces (put h) → RootedIn (put h1) → Holds (put h1) first_at_holder → Moved k.code n h1 h → LeavesWords (put h1) (put h)
+  moved_from h1 h e1 f1 place_1 place_h root firsts (seen a) = untouched_stays (put h1) (put h) place_1 place_h (seen_alike (put h1) (put h) place_1 place_h refl (puts_alike h1 h e1 f1 a))
+  moved_from h1 h e1 f1 place_1 place_h root firsts (passed x z e a owns p blind b) = leaves_chain first (leaves_chain second third)
     where
       ha : Hand
-      ha = record h0 { thread = x }
+      ha = record h1 { thread = x }
 
       hb : Hand
-      hb = record h0 { thread = z }
+      hb = record h1 { thread = z }
 
       place_a : HasPlaces (put ha)
-      place_a = places_on (put h0) (put ha) n y x e (put_split k n s.threads (s.events + 1) h0 ha (stands_here h0 refl its_number) refl e) owns (places h0 first_ok)
+      place_a = places_on (put h1) (put ha) n h1.thread x e (put_split k n s.threads (s.events + 1) h1 ha (stands_here h1 e1 f1) refl e) owns place_1
 
-      alike_a : Alike k.code (things_of k) (things_of (put ha))
-      alike_a = chain first_alike (puts_alike h0 ha refl its_number (record { number = refl; named = e; alike = beside a (itself (body_things n s.rest)) }))
+      seen_a : Untouched (put h1) (put ha)
+      seen_a = seen_alike (put h1) (put ha) place_1 place_a refl (puts_alike h1 ha e1 f1 (record { number = refl; named = e; alike = beside a (itself (body_things n h1.work.rest)) }))
 
-      seen_a : Untouched k (put ha)
-      seen_a = seen_alike k (put ha) before place_a refl alike_a
-
-      first : LeavesWords k (put ha)
-      first = untouched_stays k (put ha) before place_a seen_a
+      first : LeavesWords (put h1) (put ha)
+      first = untouched_stays (put h1) (put ha) place_1 place_a seen_a
 
       split : Split (things_of (put ha)) (things_of (put hb)) (thread_things n false x) (thread_things n false z)
-      split = put_split k n s.threads (s.events + 1) ha hb (stands_here ha refl (e ∙ its_number)) refl p.number
+      split = put_split k n s.threads (s.events + 1) ha hb (stands_here ha e1 (e ∙ f1)) refl p.number
 
       place_b : HasPlaces (put hb)
       place_b = places_on (put ha) (put hb) n x z p.number split p.owns place_a
 
       second : LeavesWords (put ha) (put hb)
       second =
-          carried_stays (put ha) (put hb) _ _ place_a place_b (first.holders sound.words.first_at_holder)
-          (is_carried (put ha) (put hb) n x z _ _ p split refl place_a place_b
-          (is_quiet (put ha) (put hb) n x z _ _ p split refl place_a place_b blind (first.holders sound.words.first_at_holder) (rooted_on k (put ha) refl seen_a (rooted k sound))))
+          carried_stays (put ha) (put hb) _ _ place_a place_b (first.holders firsts)
+          (is_carried (put ha) (put hb) n x z _ _ p split refl place_a place_b (is_quiet (put ha) (put hb) n x z _ _ p split refl place_a place_b blind (first.holders firsts) (rooted_on (put h1) (put ha) refl seen_a root)))
 
       third : LeavesWords (put hb) (put h)
-      third = untouched_stays (put hb) (put h) place_b (places h g) (seen_alike (put hb) (put h) place_b (places h g) refl (puts_alike hb h refl (p.number ∙ e ∙ its_number) b))
+      third = untouched_stays (put hb) (put h) place_b place_h (seen_alike (put hb) (put h) place_b place_h refl (puts_alike hb h e1 (p.number ∙ e ∙ f1) b))
+
+  first_seen : Untouched k (put h0)
+  first_seen = seen_alike k (put h0) before (places h0 first_ok) refl first_alike
+
+  first_leaves : LeavesWords k (put h0)
+  first_leaves = untouched_stays k (put h0) before (places h0 first_ok) first_seen
+
+  first_rooted : RootedIn (put h0)
+  first_rooted = rooted_on k (put h0) refl first_seen (rooted k sound)
+
+  -- and so from the event's start
+  pub moved_leaves : (h : Hand) → Ok h → Moved k.code n h0 h → LeavesWords k (put h)
+  moved_leaves h g m = leaves_chain first_leaves (moved_from h0 h refl its_number (places h0 first_ok) (places h g) first_rooted (first_leaves.holders sound.words.first_at_holder) m)
 
   -- and so they do where what goes was owned alone
   pub given_leaves : (h : Hand) → Ok h → (q : Given k.code n h0 h) → OwnsAlone k (at_slot y.number q.index) → LeavesWords k (put h)
-  given_leaves h g q alone = leaves_chain first (leaves_chain second third)
+  given_leaves h g q alone = leaves_chain first_leaves (leaves_chain second third)
     where
       hb : Hand
       hb = record h0 { thread = q.after }
 
-      place_a : HasPlaces (put h0)
-      place_a = places h0 first_ok
-
-      seen_a : Untouched k (put h0)
-      seen_a = seen_alike k (put h0) before place_a refl first_alike
-
-      first : LeavesWords k (put h0)
-      first = untouched_stays k (put h0) before place_a seen_a
-
       split : Split (things_of (put h0)) (things_of (put hb)) (thread_things n false y) (thread_things n false q.after)
       split = put_split k n s.threads (s.events + 1) h0 hb (stands_here h0 refl its_number) refl q.passes.number
+
+      place_a : HasPlaces (put h0)
+      place_a = places h0 first_ok
 
       place_b : HasPlaces (put hb)
       place_b = places_on (put h0) (put hb) n y q.after q.passes.number split q.passes.owns place_a
 
       second : LeavesWords (put h0) (put hb)
       second =
-          carried_stays (put h0) (put hb) _ _ place_a place_b (first.holders sound.words.first_at_holder)
+          carried_stays (put h0) (put hb) _ _ place_a place_b (first_leaves.holders sound.words.first_at_holder)
           (is_carried (put h0) (put hb) n y q.after (slot q.index) q.to q.passes split refl place_a place_b
-          (owned_quiet (put h0) (put hb) n y q.after q.index q.to q.passes split refl place_a place_b q.content q.stood q.away (owns_on k (put h0) seen_a y.number q.index alone) (first.holders sound.words.first_at_holder)
-          (rooted_on k (put h0) refl seen_a (rooted k sound))))
+          (owned_quiet (put h0) (put hb) n y q.after q.index q.to q.passes split refl place_a place_b q.content q.stood q.away (owns_on k (put h0) first_seen y.number q.index alone) (first_leaves.holders sound.words.first_at_holder) first_rooted))
 
       third : LeavesWords (put hb) (put h)
       third = untouched_stays (put hb) (put h) place_b (places h g) (seen_alike (put hb) (put h) place_b (places h g) refl (puts_alike hb h refl (q.passes.number ∙ its_number) q.together))

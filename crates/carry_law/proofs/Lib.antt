@@ -8,3 +8,4 @@ pub mod Hands
 pub mod Steps
 pub mod Events
 pub mod Gives
+pub mod Locks

@@ -1,7 +1,7 @@
 //! Laws of words where a value goes from one place to another.
 
 ghost use Rattle.carry_law.specs.Carried.{CarriedStays};
-ghost use Rattle.carry_law.specs.Steps.{DiscardsCarry, OwnedGoes, StepsCarry};
+ghost use Rattle.carry_law.specs.Steps.{DiscardsCarry, LocksKeep, OwnedGoes, StepsCarry};
 
 /// Where a value goes from one place to another, from whose pointer no mutable reference was made, each object has the word that it had, references know the words
 /// at their holders, dirty references are alone and first words that were left are no words of today.
@@ -20,4 +20,10 @@ pub fn steps_carry_values()
 /// variable: to each object that goes its box is the only pointer, by types, so no place at which a reference was made passes the slot.
 pub fn owned_values_go()
     ensures goes { OwnedGoes }
+{}
+
+/// Each object has a word, references know the words at their holders, dirty references are alone and first words that were left are no words of today, where a
+/// thread stands at a lock in a coherent cluster, whether it asks for the content of its mutex or the content that came becomes a variable.
+pub fn locks_keep_words()
+    ensures locks { LocksKeep }
 {}

@@ -6,7 +6,8 @@ use Rattle.mut_borrow.specs.Refs.{changed}
 use Rattle.thread_state.specs.declared.value.Value.TheVariants as value
 use Rattle.server_model.specs.Servers.{Cluster}
 use Rattle.server_model.specs.Places.{took}
-use Rattle.heap_law.specs.Things.{Location, at_slot, lies, things_of}
+use Rattle.heap_law.specs.Names.{Among}
+use Rattle.heap_law.specs.Things.{Location, at_slot, in_cell, lies, things_of}
 use Rattle.heap_law.specs.Follow.{value_in, leads}
 use Rattle.heap_law.specs.Stale.{Reference, references}
 use Rattle.heap_law.specs.Sight.{sight, issued}
@@ -15,7 +16,8 @@ use Rattle.heap_law.specs.Words.{IsStale}
 use Rattle.path_law.proofs.Sole.{some_is}
 use Rattle.path_law.proofs.Contained.{reference_there}
 use Rattle.word_law.specs.Reworded.{HasPlaces, LiesThere, Reworded}
-use Rattle.word_law.specs.Unmoved.{seen_at, Untouched, LeavesWords}
+use Rattle.word_law.specs.Unmoved.{seen_at, Taking, takings, Untouched, LeavesWords}
+use Rattle.word_law.specs.Soles.{TookIt}
 use Rattle.word_law.specs.WordsAfter.{Rewrites, IsNoFirst}
 use Rattle.word_law.proofs.Standing.{borrow_stands}
 use Rattle.word_law.proofs.Takings.{leads_pointing, reference_at}
@@ -30,10 +32,12 @@ use Rattle.stay_law.proofs.Alike.{Alike}
 use Rattle.stay_law.proofs.Seen.{seen_alike}
 use Rattle.prepare_law.specs.Requests.{WordsHold}
 
--- the words hold; slots lead where they led, references were made from the same words, nothing more is stale, what is dirty was, and what lay lies
+-- the words hold; slots and cells lead where they led, threads have taken from the same places, references were made from the same words, nothing more is stale, what is dirty was, and what lay lies
 pub record Along (k z : Cluster) : Type 0 where
   pub words : WordsHold z
   pub slots_lead : (u t i : ℕ) → leads u (value_in (sight z).ground (at_slot t i)) ≡ leads u (value_in (sight k).ground (at_slot t i))
+  pub cells_lead : (u : ℕ) (o : ObjNo) → leads u (value_in (sight z).ground (in_cell o)) ≡ leads u (value_in (sight k).ground (in_cell o))
+  pub takes : (t : Taking) → Among t (takings z.code (sight z).ground.threads) → TookIt k t
   pub made : (l : Location) (r : MutRef) → value_in (sight z).ground l ≡ Some (value.Mut r) → (q : MutRef) × (value_in (sight k).ground l ≡ Some (value.Mut q)) × (q.first ≡ r.first)
   pub fresher : (l : Location) → IsStale (sight z) (Some l) → IsStale (sight k) (Some l)
   pub dirty_was : (l : Location) (r : MutRef) → value_in (sight z).ground l ≡ Some (value.Mut r) → r.dirty ≡ true → value_in (sight k).ground l ≡ Some (value.Mut r)
@@ -43,6 +47,8 @@ pub along_itself : (k : Cluster) → IsSound k → Along k k
 along_itself k s = record {
   words = record { has_words = s.words.have_words; first_at_holder = s.words.first_at_holder; dirty_alone = s.words.dirty_alone; past_words = s.words.past_words };
   slots_lead = λ u t i. refl;
+  cells_lead = λ u o. refl;
+  takes = λ t h. record { taking = t; among = h; thread = refl; place = refl };
   made = λ l r e. (r, e, refl);
   fresher = λ l x. x;
   dirty_was = λ l r e d. e;
@@ -54,6 +60,8 @@ pub along_alike : (k x z : Cluster) → HasPlaces x → HasPlaces z → z.code �
 along_alike k x z c d same a t = record {
   words = record { has_words = (stays.words t.words.has_words).after; first_at_holder = stays.holders t.words.first_at_holder; dirty_alone = stays.dirty t.words.dirty_alone; past_words = stays.past t.words.past_words };
   slots_lead = λ v n i. sym (leads_pointing v (value_in (sight z).ground (at_slot n i))) ∙ ap (leads v) (u.stands (at_slot n i)) ∙ leads_pointing v (value_in (sight x).ground (at_slot n i)) ∙ t.slots_lead v n i;
+  cells_lead = λ v o. sym (leads_pointing v (value_in (sight z).ground (in_cell o))) ∙ ap (leads v) (u.stands (in_cell o)) ∙ leads_pointing v (value_in (sight x).ground (in_cell o)) ∙ t.cells_lead v o;
+  takes = λ v h. t.takes v (u.takes v h);
   made = λ l r e. t.made l r (reference_at l (value_in (sight x).ground l) r (sym (u.stands l) ∙ ap (seen_at l) e));
   fresher = λ l s. t.fresher l (stale_at z x d (λ m. sym (u.stands m)) u.takes (Some l) s);
   dirty_was = λ l r e q. t.dirty_was l r (reference_at l (value_in (sight x).ground l) r (sym (u.stands l) ∙ ap (seen_at l) e)) q;
@@ -90,6 +98,8 @@ along_cleaned k x z l r w all new c d t e dirty fresh reworded now still = recor
     past_words = past_goes_on x z l r.object w rewrites (no_first k x w r.object all new c t) t.words.past_words;
   };
   slots_lead = λ u n i. leads_on u (at_slot n i) ∙ t.slots_lead u n i;
+  cells_lead = λ u o. leads_on u (in_cell o) ∙ t.cells_lead u o;
+  takes = λ v h. (let y = (soles_stay.reworded x z l r.object w reworded).takes v h in let q = t.takes y.taking y.among in record { taking = q.taking; among = q.among; thread = q.thread ∙ y.thread; place = q.place ∙ y.place });
   made = made_on;
   fresher = λ m s. t.fresher m (changed_rewords x z l r.object w rewrites r e (dirty_changed r dirty) m s);
   dirty_was = was;

@@ -1,5 +1,5 @@
 -- A thread that stands at no mutable borrow has taken no object.
-use Rattle.std.proofs.Common.{◌≡◌, ℕ, false, Option, Some, None, subst, slice_get}
+use Rattle.std.proofs.Common.{◌≡◌, ℕ, false, Some, None, subst, slice_get}
 use Rattle.fr_base.specs.declared.instruction.Instr.{Instr}
 use Rattle.thread_state.specs.View.{ThreadState}
 use Rattle.thread_state.specs.declared.phase.Phase.TheVariants as phase
