@@ -42,7 +42,7 @@ use Rattle.value_law.proofs.Fit.{message_asker}
 use Rattle.value_law.proofs.Sums.{noted_asker, asked_of}
 use Rattle.value_law.proofs.Split.{two_le}
 use Rattle.value_law.proofs.Kept.{Coded, GoneOn, ends_as, number_stays, gone_on}
-use Rattle.value_law.proofs.Sentences.{nothing, unmarked, no_holder, no_mark, askers_kept}
+use Rattle.value_law.proofs.Sentences.{asking, asking_before, plain_step, askers_kept}
 use Rattle.value_law.proofs.Stays.{Stands, Leaves, stays}
 
 -- WHERE A THREAD STANDS
@@ -218,7 +218,7 @@ module _ (k : Cluster) (e : Event) where
 
 -- AFTER THE EVENT
 
-all_give : {X I : Type 0} (P : I → Type 0) (Q : I → X → Type 0) (o : Option X) → ((i : I) → P i → Gives (Q i) o) → Gives (λ x. (i : I) → P i → Q i x) o
+pub all_give : {X I : Type 0} (P : I → Type 0) (Q : I → X → Type 0) (o : Option X) → ((i : I) → P i → Gives (Q i) o) → Gives (λ x. (i : I) → P i → Q i x) o
 all_give P Q None f = tt
 all_give P Q (Some x) f = f
 
@@ -388,8 +388,8 @@ abbrev Asked : Cluster → Type 0
 Asked c = tot (lost (sight c)) (things_of c) + tot (other_asker (sight c)) (things_of c) ≡ 0
 
 module _ (k : Cluster) (e : Event) (sound : IsSound k) (few : FewEvents k) where
-  known_step : (s : Server) → server_at k.servers e.server ≡ Some s → (t : ℕ) (y : ThreadState) (i : Instr) → e.what ≡ Step t → thread_in s.threads t ≡ Some y → slice_get k.code y.pc ≡ Some i → Coded k nothing 0 (ask k e) s.rest.number i y
-  known_step s here t y i q there at = record { stands = steps_ask k e sound few s here t y q there; lends = λ p m c z. refl; moves = λ j p c h h2 x v q2 z u. unmarked k (ask k e) j v }
+  known_step : (s : Server) → server_at k.servers e.server ≡ Some s → (t : ℕ) (y : ThreadState) (i : Instr) → e.what ≡ Step t → thread_in s.threads t ≡ Some y → slice_get k.code y.pc ≡ Some i → enabled k.options s e.what ≡ true → Coded k (asking (ask k e)) s i y
+  known_step s here t y i q there at on = plain_step k (ask k e) s i y (steps_ask k e sound few s here t y q there)
 
   -- who may ask stands there
   abbrev AskersStand : Cluster → Type 0
@@ -405,7 +405,7 @@ module _ (k : Cluster) (e : Event) (sound : IsSound k) (few : FewEvents k) where
       by true on =
           over_gives (λ (r : Server × EntryView). (r.0.rest.number ≡ s.rest.number) × ((t : ℕ) → ((Leaves t e.what → ⊥) × Stands t s.threads) → Stands t r.0.threads)) (λ (x : Cluster × EntryView). AskersStand x.0) (does k.code k.options s e.what) _
           (both_give (λ (r : Server × EntryView). r.0.rest.number ≡ s.rest.number) (λ (r : Server × EntryView). (t : ℕ) → ((Leaves t e.what → ⊥) × Stands t s.threads) → Stands t r.0.threads) _ (does k.code k.options s e.what)
-          (number_stays k e nothing 0 (ask k e) sound few (no_holder (things_of k)) (no_mark (things_of k)) (askers_before k e sound few) known_step s q)
+          (number_stays k e (asking (ask k e)) sound few (asking_before k (ask k e) (askers_before k e sound few)) known_step s q on)
           (all_give (λ t. (Leaves t e.what → ⊥) × Stands t s.threads) (λ t (r : Server × EntryView). Stands t r.0.threads) (does k.code k.options s e.what) (λ t p. stays t k.code k.options s e.what p.0 p.1)) (λ r n g. (n, g)))
           (λ r g. stands_after k e sound few s q on r.0 g.0 g.1)
 
@@ -415,11 +415,11 @@ module _ (k : Cluster) (e : Event) (sound : IsSound k) (few : FewEvents k) where
   asked_on : Gives (λ (x : Cluster × EntryView). Asked x.0) (apply k e)
   asked_on =
       let j = ends_as k e (server_at k.servers e.server) in
-      both_give (λ (x : Cluster × EntryView). GoneOn k nothing 0 (ask k e) j x.0) (λ (x : Cluster × EntryView). AskersStand x.0 × ((t : ℕ) → tot (is_thread t) (things_of x.0) ≤ 1)) (λ (x : Cluster × EntryView). Asked x.0) (apply k e)
-      (gone_on k e nothing 0 (ask k e) sound few (no_holder (things_of k)) (no_mark (things_of k)) (askers_before k e sound few) known_step)
+      both_give (λ (x : Cluster × EntryView). GoneOn k (asking (ask k e)) j x.0) (λ (x : Cluster × EntryView). AskersStand x.0 × ((t : ℕ) → tot (is_thread t) (things_of x.0) ≤ 1)) (λ (x : Cluster × EntryView). Asked x.0) (apply k e)
+      (gone_on k e (asking (ask k e)) sound few (asking_before k (ask k e) (askers_before k e sound few)) known_step)
       (both_give (λ (x : Cluster × EntryView). AskersStand x.0) (λ (x : Cluster × EntryView). (t : ℕ) → tot (is_thread t) (things_of x.0) ≤ 1) _ (apply k e) standing_on
       (handed_part (λ c. (t : ℕ) → tot (is_thread t) (things_of c) ≤ 1) (λ c sums. sums.numbers_differ) k e sound few (each_event_sends k e sound few)) (λ x p q. (p, q)))
-      (λ x g p. both_none k e x.0 p.1 p.0 (askers_kept k nothing 0 (ask k e) j x.0 g))
+      (λ x g p. both_none k e x.0 p.1 p.0 (askers_kept k (asking (ask k e)) j x.0 g))
 
 pub returns_kept : EachEventKeeps return_right
 returns_kept k e sound few = weaker (λ (x : Cluster × EntryView). Asked x.0) (λ (x : Cluster × EntryView). Holds x.0 return_right) (apply k e) (asked_on k e sound few) (λ x g. omega (arith, g))

@@ -37,7 +37,7 @@ use Rattle.local_law.proofs.Pairs.{goes_still}
 use Rattle.value_law.proofs.Fit.{marks, Base}
 use Rattle.value_law.proofs.Named.{names}
 use Rattle.value_law.proofs.Kept.{Coded}
-use Rattle.value_law.proofs.Sentences.{nobody}
+use Rattle.value_law.proofs.Sentences.{holding}
 
 -- INSTRUCTIONS
 
@@ -293,7 +293,7 @@ module _ (k : Cluster) (coherent : IsCoherent k) (number : ℕ) (s : Server) (he
       (place, formed typed_names (x.entry).env (reverse y.slots) p.slot v (omega (arith, fits)) (behind_is y.slots p.slot ∙ q) place.named)
 
   -- no mark stands there
-  unmarked_form : (j : Base) (p : Piece) (v : Value) → has_form typed_names p v ≡ true → marks (names k stars_most 1 nobody j) v ≡ 0
+  unmarked_form : (j : Base) (p : Piece) (v : Value) → has_form typed_names p v ≡ true → marks (names k (holding stars_most 1) j) v ≡ 0
   unmarked_form j p (value.Held m) e = absurd (no_mark typed_names p m e)
   unmarked_form j p value.Gone e = refl
   unmarked_form j p (value.Own v) e = refl
@@ -302,7 +302,7 @@ module _ (k : Cluster) (coherent : IsCoherent k) (number : ℕ) (s : Server) (he
   unmarked_form j p (value.Shared r) e = refl
   unmarked_form j p (value.Mut r) e = refl
 
-  unmarked_owned : (j : Base) (v : Value) → NoReference v → marks (names k stars_most 1 nobody j) v ≡ 0
+  unmarked_owned : (j : Base) (v : Value) → NoReference v → marks (names k (holding stars_most 1) j) v ≡ 0
   unmarked_owned j (value.Own v) a = refl
   unmarked_owned j value.Gone a = refl
   unmarked_owned j (value.SharedSlot i) a = absurd a
@@ -329,7 +329,7 @@ module _ (k : Cluster) (coherent : IsCoherent k) (number : ℕ) (s : Server) (he
       owned_form typed_names form.part v (ap by_reference (sym form.typed) ∙ own_first (x.entry).env p.slot d off) form.form
 
   moved_unmarked : (i : Instr) → slice_get k.code y.pc ≡ Some i → (p : Lval) → i ≡ instr.Read p true → (j : Base) (h h2 : Hand) (sp : Spot) (v : Value) → h.thread ≡ y → (d : ℕ) → p.depth ≡ d → prepare (Some (read_or_taken p d true)) h ≡ ready h2 sp → value_at h2 sp ≡ Some v
-      → marks (names k stars_most 1 nobody j) v ≡ 0
+      → marks (names k (holding stars_most 1) j) v ≡ 0
   moved_unmarked i at p e j h h2 sp v same zero z r q =
       let done : ready h (in_slot p.slot) ≡ ready h2 sp = ap (λ n. read_stars n h (in_slot p.slot)) (sym z) ∙ r in
       let there_too : slice_get h.thread.slots p.slot ≡ Some v = subst (λ x. value_at x (in_slot p.slot) ≡ Some v) (sym (ready_hand done)) (subst (λ x. value_at h2 x ≡ Some v) (sym (ready_spot done)) q) in
@@ -345,9 +345,12 @@ module _ (k : Cluster) (coherent : IsCoherent k) (number : ℕ) (s : Server) (he
       let cell : IsCell sp = subst Celled done (stars_from d 0 h (in_slot p.slot) first) in
       unmarked_owned j v (cell_owned sp h2 v cell q)
 
-  pub coded : (i : Instr) → slice_get k.code y.pc ≡ Some i → Coded k stars_most 1 nobody s.rest.number i y
+  pub coded : (i : Instr) → slice_get k.code y.pc ≡ Some i → Coded k (holding stars_most 1) s i y
   coded i at = record {
     stands = refl;
+    lives = λ e. refl;
+    boxed = λ o e. (refl, refl);
+    young = λ c l m. refl;
     lends = λ p m e z. let few = few_stars i at p e in let low : nat_le m 8 ≡ true = grind (arith, nat_tests, few, z) in ap other low;
     moves = λ j p e h h2 sp v same r q. moved_unmarked i at p e j h h2 sp v same p.depth refl (subst (λ x. prepare (access_of x h.thread) h ≡ ready h2 sp) e r) q;
   }

@@ -16,7 +16,7 @@ use Rattle.local_law.specs.Laws.{EachCoherentEventKeeps}
 use Rattle.value_law.proofs.Fit.{Base}
 use Rattle.value_law.proofs.Sums.{holder_of, loose}
 use Rattle.value_law.proofs.Kept.{GoneOn, ends_as, gone_on}
-use Rattle.value_law.proofs.Sentences.{nobody, no_askers, holders_kept, marks_kept}
+use Rattle.value_law.proofs.Sentences.{holding, no_askers, no_objects, no_going, holders_kept, marks_kept}
 use Rattle.value_law.proofs.Coded.{stars_most, coded}
 
 long_is : (b : List Thing) → tot long_holder b ≡ tot (holder_of stars_most) b
@@ -37,17 +37,17 @@ loose_is (x ∷ b) = omega (arith, one x, loose_is b)
     one (locks (in_cell o) m) = refl
     one x = refl
 
-kept_by : (P : Cluster → Type 0) → ((k : Cluster) (j : Base) (c : Cluster) → GoneOn k stars_most 1 nobody j c → P c) → (k : Cluster) (e : Event) → IsCoherent k → FewEvents k → Gives (λ (x : Cluster × EntryView). P x.0) (apply k e)
+kept_by : (P : Cluster → Type 0) → ((k : Cluster) (j : Base) (c : Cluster) → GoneOn k (holding stars_most 1) j c → P c) → (k : Cluster) (e : Event) → IsCoherent k → FewEvents k → Gives (λ (x : Cluster × EntryView). P x.0) (apply k e)
 kept_by P go k e coherent few =
     let sound : IsSound k = coherent.sound in
     let holders : tot long_holder (things_of k) ≡ 0 = sound.parts.holders_short in
     let marks : tot loose_mark (things_of k) ≡ 0 = sound.mutexes_and_tasks.marks_in_slots in
-    weaker (λ (x : Cluster × EntryView). GoneOn k stars_most 1 nobody (ends_as k e (server_at k.servers e.server)) x.0) (λ (x : Cluster × EntryView). P x.0) (apply k e)
-    (gone_on k e stars_most 1 nobody sound few (omega (arith, holders, long_is (things_of k))) (omega (arith, marks, loose_is (things_of k))) (no_askers (things_of k)) (λ s here t y i q there at. coded k coherent e.server s here t y there i at))
+    weaker (λ (x : Cluster × EntryView). GoneOn k (holding stars_most 1) (ends_as k e (server_at k.servers e.server)) x.0) (λ (x : Cluster × EntryView). P x.0) (apply k e)
+    (gone_on k e (holding stars_most 1) sound few (record { holders = omega (arith, holders, long_is (things_of k)); marks_none = omega (arith, marks, loose_is (things_of k)); askers = no_askers (things_of k); objects = no_objects (things_of k); lives = no_going (things_of k) }) (λ s here t y i q there at on. coded k coherent e.server s here t y there i at))
     (λ x g. go k (ends_as k e (server_at k.servers e.server)) x.0 g)
 
 pub holders_stay : EachCoherentEventKeeps holders_short
-holders_stay = kept_by (λ c. Holds c holders_short) (λ k j c g. omega (arith, holders_kept k stars_most 1 nobody j c g, long_is (things_of c)))
+holders_stay = kept_by (λ c. Holds c holders_short) (λ k j c g. omega (arith, holders_kept k (holding stars_most 1) j c g, long_is (things_of c)))
 
 pub marks_stay : EachCoherentEventKeeps marks_in_slots
-marks_stay = kept_by (λ c. Holds c marks_in_slots) (λ k j c g. omega (arith, marks_kept k stars_most 1 nobody j c g, loose_is (things_of c)))
+marks_stay = kept_by (λ c. Holds c marks_in_slots) (λ k j c g. omega (arith, marks_kept k (holding stars_most 1) j c g, loose_is (things_of c)))

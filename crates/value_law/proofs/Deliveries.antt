@@ -1,5 +1,5 @@
 -- The delivery of a message keeps what its server and its threads name.
-use Rattle.std.proofs.Common.{◌≡◌, ℕ, zero, suc, ◌+◌, ◌-◌, ◌^◌, ◌==◌, ◌&&◌, ◌||◌, Bool, true, false, nat_lt, if◌then◌else◌, List, [], ◌∷◌, ◌++◌, Option, Some, None, refl, arith}
+use Rattle.std.proofs.Common.{◌≡◌, ℕ, zero, suc, ◌+◌, ◌-◌, ◌^◌, ◌==◌, ◌&&◌, ◌||◌, not, Bool, true, false, nat_lt, if◌then◌else◌, List, [], ◌∷◌, ◌++◌, Option, Some, None, refl, subst, sym, arith}
 use Rattle.std.specs.Prelude.{slice_get, option_map}
 use Rattle.std.specs.List.{AllByRecursion}
 use Rattle.std.specs.Bool.{⊤}
@@ -23,7 +23,7 @@ use Rattle.join_home.specs.Tasks.{Task, TaskState, going, let_go, kept, in_pair,
 use Rattle.join_home.specs.Tasks as tasks
 use Rattle.join_home.specs.declared.answers.EndedAs.{EndedAs}
 use Rattle.join_home.specs.declared.answers.EndedAs.TheVariants as over
-use Rattle.thread_state.specs.View.{ThreadState}
+use Rattle.thread_state.specs.View.{ThreadState, is_over}
 use Rattle.thread_state.specs.declared.phase.Phase.{Phase}
 use Rattle.thread_state.specs.declared.phase.Phase.TheVariants as phase
 use Rattle.thread_state.specs.declared.value.Value.{Value}
@@ -36,15 +36,17 @@ use Rattle.server_model.specs.Work.{Work, Hand, Site, note, sent_from, working, 
 use Rattle.server_model.specs.NewWords.{NewWord, can_grow, issue_placed}
 use Rattle.server_model.specs.Places.{Spot, in_slot, value_at, set_pointer}
 use Rattle.server_model.specs.Prepare.{Access, ReadTo, ReadPointer, WriteTo, LendTo, EndRef, passing, write_stars}
-use Rattle.server_model.specs.Objects.{deliver_fetch, waits_for_cell, filled, deliver_fetched, deliver_move, chased, waits_under, arrived_at, arrived_slot, passed_spot, arrived_write, arrived_lend, arrived_end, arrived, instr_access, deliver_moved, deliver_drop}
+use Rattle.server_model.specs.Objects.{deliver_fetch, waits_for_cell, filled, deliver_fetched, deliver_move, chased, waits_under, arrived_at, arrived_slot, passed_spot, arrived_write, arrived_lend, arrived_end, arrived, instr_access, came, deliver_moved, deliver_drop}
 use Rattle.server_model.specs.Sharing.{given, answer_lock, deliver_lock, waits_for_lock, deliver_granted, answer_back, deliver_unlock, deliver_dup, waits_for_dup, deliver_dupped, give_up_left}
 use Rattle.server_model.specs.Joining.{answer_join, deliver_join, waits_for_join, deliver_joined, got_par, pair_over, end_answer, deliver_finished}
 use Rattle.server_model.specs.Events.{release, deliver_message}
+use Rattle.heap_law.specs.Names.{if_so}
 use Rattle.heap_law.specs.Placing.{phase_word}
 use Rattle.heap_law.specs.Naming.{phase_thread}
 use Rattle.heap_law.specs.Sharing.{phase_mutex}
+use Rattle.heap_law.proofs.Names.{if_none}
 use Rattle.event_law.specs.Laws.{Gives}
-use Rattle.event_law.proofs.Results.{then_gives, map_gives, over_gives, bind_gives, test_gives, stand_gives}
+use Rattle.event_law.proofs.Results.{then_gives, map_gives, over_gives, bind_gives, test_gives, stand_gives, given_by}
 use Rattle.event_law.proofs.Known.{all_append}
 use Rattle.local_law.proofs.Small.{Of, pointer_put}
 use Rattle.local_law.proofs.MutexLists.{found, put_all, ends_all}
@@ -280,24 +282,28 @@ module _ (w : Weights) (b : Base) (closed : Closed w b.limit) where
       let cell = object_fits w x.rest.partition v o c q part.cells_fit in
       gives_up w b closed c.value (note (act.Free o v) (with_partition (freed x.rest.partition v) x)) (omega (arith, cell)) (freed_rest v x.rest a))
 
-  module _ (y : ThreadState) where
+  module _ (y : ThreadState) (live : w.going y.number y.made ≡ 0) where
     abbrev Mid : Hand → Type 0
     Mid = Of (F w b closed y)
 
     went : (h : Hand) → Mid h → Went h
-    went h g = let mine = g.1 in (g.0, mine.fit)
+    went h g =
+        let mine = g.1 in (
+          g.0,
+          (mine.fit, if_none (not (is_over h.thread.phase)) (w.going h.thread.number h.thread.made) (subst (λ m. w.going h.thread.number m ≡ 0) (sym mine.as_many) (subst (λ m. w.going m y.made ≡ 0) (sym mine.same) live))),
+        )
 
     uses_it : (v : ℕ) (q : Bool) (h : Hand) → Mid h → Gives Mid (used_once v q h)
     uses_it v true h a = a
     uses_it v false h a = test_gives Mid (can_pin h.work.rest.cache v) _ (λ e. walked w b closed y v (working (with_cache (pin h.work.rest.cache v)) h) (pinned_word w b closed y v h e a) (used w b closed y v (users h.work.rest.cache v + 1) h a))
 
-    fills : (v : ℕ) (c : Cell) (h : Hand) → w.word v + body_weight w c ≡ 0 → Mid h → Gives Went (deliver_fetched v c h)
+    fills : (v : ℕ) (c : Cell) (h : Hand) → w.word v + body_weight w c ≡ 0 → Mid h → Gives Went (option_map (λ h2. with_phase phase.Got (working (note (act.Fill c.object v)) h2)) (filled v c h))
     fills v c h k a =
         let rest = a.0 in
-        test_gives Went (waits_for_cell h.thread.phase v) _ (λ z. over_gives Mid Went (filled v c h) _
+        over_gives Mid Went (filled v c h) _
         (test_gives Mid (can_fill h.work.rest.cache v c) _ (λ p.
         uses_it v (is_in v h.thread.walk) (working (with_cache (fill h.work.rest.cache v c)) h) (with_copies w b closed (fill h.work.rest.cache v c) h.work.rest (filled_fit w h.work.rest.cache v c k rest.copies) rest, a.1)))
-        (λ h2 g. went (with_phase phase.Got h2) (phased w b closed y phase.Got h2 refl g)))
+        (λ h2 g. went (with_phase phase.Got h2) (phased w b closed y phase.Got h2 refl g))
 
     comes_at : (new : ℕ) (s : Spot) (h : Hand) → WordFits w new → Mid h → Gives Went (arrived_at s new h)
     comes_at new s h k a = over_gives Mid Went (set_pointer s new h) _ (pointer_put (places w b closed y) s new h k a) (λ h2 g. went (with_phase phase.Got h2) (phased w b closed y phase.Got h2 refl g))
@@ -336,15 +342,15 @@ module _ (w : Weights) (b : Base) (closed : Closed w b.limit) where
     comes_for (Some (LendTo p)) old new h k a = comes_lend p.slot p.depth old new h k a
     comes_for (Some (EndRef s)) old new h k a = comes_end s (value_at h s) old new h k a
 
-    comes : (code : List Instr) (old : ℕ) (c : Cell) (h : Hand) → CellFits w c → Mid h → Gives Went (deliver_moved code old c h)
+    comes : (code : List Instr) (old : ℕ) (c : Cell) (h : Hand) → CellFits w c → Mid h → Gives Went (came code old c h)
     comes code old c h k a =
         let rest = a.0 in
-        test_gives Went (waits_for_cell h.thread.phase old) _ (λ z. bind_gives (λ (m : NewWord). WordFits w m.word × RestFits w b m.work.rest) Went (issue_placed (act.Take c.object old) c h.work) _
+        bind_gives (λ (m : NewWord). WordFits w m.word × RestFits w b m.work.rest) Went (issue_placed (act.Take c.object old) c h.work) _
         (test_gives (λ (m : NewWord). WordFits w m.word × RestFits w b m.work.rest) (can_grow h.work.rest.partition) _ (λ p. (
           issued_fits w b.limit closed h.work.rest.partition p rest.partition,
           with_cells w b closed (made h.work.rest.partition c) h.work.rest (made_fits w b.limit closed h.work.rest.partition c k rest.partition) rest,
         )))
-        (λ m g. comes_for (instr_access h (slice_get code h.thread.pc)) old m.word (record h { work = m.work }) g.0 (g.1, a.1)))
+        (λ m g. comes_for (instr_access h (slice_get code h.thread.pc)) old m.word (record h { work = m.work }) g.0 (g.1, a.1))
 
     gives_it : (v : Owned) (g : Option Owned) (h : Hand) → OwnedFits w v → Mid h → Gives Went (given v g h)
     gives_it v None h k a =
@@ -352,11 +358,39 @@ module _ (w : Weights) (b : Base) (closed : Closed w b.limit) where
         went (with_phase phase.Got h2) (phased w b closed y phase.Got h2 refl (gifted w b closed y (Some v) h k a))
     gives_it v (Some u) h k a = tt
 
-    goes_on : (u : ℕ) (h : Hand) → Mid h → Gives Went (pair_over u h)
-    goes_on u h a =
-        let mine = a.1 in
-        let fit = mine.fit in
-        over_gives (λ (q : Phase). phase_word w.word q + phase_thread w.thread q + phase_mutex w.mutex q ≡ 0) Went (got_par u h.thread.phase) (λ q. with_phase q h) (got_fits w u h.thread.phase fit.waits) (λ q z. went (with_phase q h) (phased w b closed y q h z a))
+    goes_to : (q : Phase) (h : Hand) → phase_word w.word q + phase_thread w.thread q + phase_mutex w.mutex q ≡ 0 → Mid h → Went (with_phase q h)
+    goes_to q h z a = went (with_phase q h) (phased w b closed y q h z a)
+
+  -- a thread that goes on
+  live_of : (y : ThreadState) → ThreadFits w y → is_over y.phase ≡ false → w.going y.number y.made ≡ 0
+  live_of y f e = subst (λ q. if_so (not q) (w.going y.number y.made) ≡ 0) e f.1
+
+  cell_awake : (p : Phase) (v : ℕ) → waits_for_cell p v ≡ true → is_over p ≡ false
+  cell_awake phase.Over v e = absurd (cc e)
+  cell_awake p v e = refl
+
+  lock_awake : (p : Phase) (m : MutexNo) → waits_for_lock p m ≡ true → is_over p ≡ false
+  lock_awake phase.Over m e = absurd (cc e)
+  lock_awake p m e = refl
+
+  dup_awake : (p : Phase) (m : MutexNo) → waits_for_dup p m ≡ true → is_over p ≡ false
+  dup_awake phase.Over m e = absurd (cc e)
+  dup_awake p m e = refl
+
+  join_awake : (p : Phase) (u : ℕ) → waits_for_join p u ≡ true → is_over p ≡ false
+  join_awake phase.Over u e = absurd (cc e)
+  join_awake p u e = refl
+
+  got_awake : (u : ℕ) (p q : Phase) → got_par u p ≡ Some q → is_over p ≡ false
+  got_awake u phase.Over q e = absurd (cc e)
+  got_awake u p q e = refl
+
+  goes_on : (y : ThreadState) → ThreadFits w y → (u : ℕ) (x : Work) → OfWork x → Gives Went (pair_over u (record { work = x; thread = y }))
+  goes_on y f u x a =
+      let fit = f.0 in
+      map_gives Went (got_par u y.phase) _ (λ q e.
+      goes_to y (live_of y f (got_awake u y.phase q e)) q (record { work = x; thread = y }) (given_by (λ (p : Phase). phase_word w.word p + phase_thread w.thread p + phase_mutex w.mutex p ≡ 0) (got_par u y.phase) q (got_fits w u y.phase fit.waits) e)
+      (taken_up w b closed y x.rest a f))
 
   -- MUTEXES AND TASKS
 
@@ -409,8 +443,7 @@ module _ (w : Weights) (b : Base) (closed : Closed w b.limit) where
           let second = g.1 in
           (says s (message.Joined u o t) (record x.work.rest { tasks = ts }) (omega (arith, k, first, second)) (tasks_put ts x.work.rest h a.0), a.1)
       by ts (over.Both parent) h g =
-          at parent (pair_over u) (record x { work = with_tasks ts x.work }) (tasks_put ts x.work.rest h a.0, a.1) (λ y t.
-          goes_on y u (record { work = with_tasks ts x.work; thread = y }) (taken_up w b closed y (record x.work.rest { tasks = ts }) (tasks_put ts x.work.rest h a.0) t))
+          at parent (pair_over u) (record x { work = with_tasks ts x.work }) (tasks_put ts x.work.rest h a.0, a.1) (λ y t. goes_on y t u (with_tasks ts x.work) (tasks_put ts x.work.rest h a.0))
       by ts (over.LetGo o) h g = (gives_up w b closed o (with_tasks ts x.work) g (tasks_put ts x.work.rest h a.0), a.1)
       by ts over.Kept h g = (tasks_put ts x.work.rest h a.0, a.1)
 
@@ -418,19 +451,19 @@ module _ (w : Weights) (b : Base) (closed : Closed w b.limit) where
 
   pub message_fits : (code : List Instr) (m : Message) (x : Site) → MessageFits w b.number m → SiteFits x → Gives SiteFits (deliver_message code m x)
   message_fits code (message.Fetch v o s t) x k a = beside (deliver_fetch v o s t) x a (fetches v o s t x.work (omega (arith, k)) a.0)
-  message_fits code (message.Fetched v c t) x k a = at t (deliver_fetched v c) x a (λ y f. fills y v c (record { work = x.work; thread = y }) (omega (arith, k)) (taken_up w b closed y x.work.rest a.0 f))
+  message_fits code (message.Fetched v c t) x k a = at t (deliver_fetched v c) x a (λ y f. test_gives Went (waits_for_cell y.phase v) _ (λ z. fills y (live_of y f (cell_awake y.phase v z)) v c (record { work = x.work; thread = y }) (omega (arith, k)) (taken_up w b closed y x.work.rest a.0 f)))
   message_fits code (message.Move v o s t) x k a = beside (deliver_move v o s t) x a (moves v o s t x.work (omega (arith, k)) a.0)
-  message_fits code (message.Moved v c t) x k a = at t (deliver_moved code v c) x a (λ y f. comes y code v c (record { work = x.work; thread = y }) (omega (arith, k)) (taken_up w b closed y x.work.rest a.0 f))
+  message_fits code (message.Moved v c t) x k a = at t (deliver_moved code v c) x a (λ y f. test_gives Went (waits_for_cell y.phase v) _ (λ z. comes y (live_of y f (cell_awake y.phase v z)) code v c (record { work = x.work; thread = y }) (omega (arith, k)) (taken_up w b closed y x.work.rest a.0 f)))
   message_fits code (message.Drop v o) x k a = beside (deliver_drop v o) x a (drops v o x.work a.0)
   message_fits code (message.Lock m s t) x k a = beside (deliver_lock m s t) x a (locks m s t x.work (omega (arith, k)) a.0)
-  message_fits code (message.Granted m v t) x k a = at t (deliver_granted m v) x a (λ y f. test_gives Went (waits_for_lock y.phase m) _ (λ z. gives_it y v y.gift (record { work = x.work; thread = y }) (omega (arith, k)) (taken_up w b closed y x.work.rest a.0 f)))
+  message_fits code (message.Granted m v t) x k a = at t (deliver_granted m v) x a (λ y f. test_gives Went (waits_for_lock y.phase m) _ (λ z. gives_it y (live_of y f (lock_awake y.phase m z)) v y.gift (record { work = x.work; thread = y }) (omega (arith, k)) (taken_up w b closed y x.work.rest a.0 f)))
   message_fits code (message.Unlock m v) x k a = beside (deliver_unlock m v) x a (unlocks m v x.work k a.0)
   message_fits code (message.Dup m s t) x k a = beside (deliver_dup m s t) x a (dups m s t x.work (omega (arith, k)) a.0)
-  message_fits code (message.Dupped m t) x k a = at t (deliver_dupped m) x a (λ y f. test_gives Went (waits_for_dup y.phase m) _ (λ z. gives_it y (owned.Mutex m) y.gift (record { work = x.work; thread = y }) (omega (arith, k)) (taken_up w b closed y x.work.rest a.0 f)))
+  message_fits code (message.Dupped m t) x k a = at t (deliver_dupped m) x a (λ y f. test_gives Went (waits_for_dup y.phase m) _ (λ z. gives_it y (live_of y f (dup_awake y.phase m z)) (owned.Mutex m) y.gift (record { work = x.work; thread = y }) (omega (arith, k)) (taken_up w b closed y x.work.rest a.0 f)))
   message_fits code (message.Release (released.Mutex m)) x k a = beside (release (released.Mutex m)) x a (releases_mutex m x.work a.0)
   message_fits code (message.Release (released.Task u)) x k a = beside (release (released.Task u)) x a (releases_task u x.work (omega (arith, k)) a.0)
   message_fits code (message.Start t) x k a = stand_gives SiteFits (thread_in x.threads t.number) t x (a.0, with_all (ThreadFits w) x.threads t a.1 k)
   message_fits code (message.Join u s t) x k a = beside (deliver_join u s t) x a (joins u s t x.work (omega (arith, k)) a.0)
-  message_fits code (message.Joined u v t) x k a = at t (deliver_joined u v) x a (λ y f. test_gives Went (waits_for_join y.phase u) _ (λ z. gives_it y v y.gift (record { work = x.work; thread = y }) (omega (arith, k)) (taken_up w b closed y x.work.rest a.0 f)))
+  message_fits code (message.Joined u v t) x k a = at t (deliver_joined u v) x a (λ y f. test_gives Went (waits_for_join y.phase u) _ (λ z. gives_it y (live_of y f (join_awake y.phase u z)) v y.gift (record { work = x.work; thread = y }) (omega (arith, k)) (taken_up w b closed y x.work.rest a.0 f)))
   message_fits code (message.Finished u v) x k a = finishes u v x k a
   message_fits code (message.Migrate t) x k a = stand_gives SiteFits (thread_in x.threads t.number) t x (a.0, with_all (ThreadFits w) x.threads t a.1 k)

@@ -1,5 +1,5 @@
 -- An event keeps what its server names, where the new names of its instruction fit.
-use Rattle.std.proofs.Common.{◌≡◌, ℕ, Bool, true, false, if◌then◌else◌, List, Option, Some, None, refl}
+use Rattle.std.proofs.Common.{◌≡◌, sym, subst, ◌+◌, ℕ, Bool, true, false, if◌then◌else◌, List, Option, Some, None, refl}
 use Rattle.std.specs.Prelude.{slice_get, option_map}
 use Rattle.std.specs.List.{AllByRecursion}
 use Rattle.fr_base.specs.declared.instruction.Instr.{Instr}
@@ -13,7 +13,7 @@ use Rattle.journal.specs.View.{EntryView}
 use Rattle.server_model.specs.declared.event.What.{What}
 use Rattle.server_model.specs.declared.event.What.TheVariants.{Step, Deliver, Evict, Migrate}
 use Rattle.server_model.specs.Servers.{Server}
-use Rattle.server_model.specs.Work.{Work, Hand, receive, then_some, thread_in, without_thread, beside_threads}
+use Rattle.server_model.specs.Work.{set_thread, Work, Hand, receive, then_some, thread_in, without_thread, beside_threads}
 use Rattle.server_model.specs.Moving.{depart}
 use Rattle.server_model.specs.Events.{Stepped, begin_work, begin_at, left_by, received, deliver_message, evict_copy, step, step_in, stepped, does}
 use Rattle.event_law.specs.Laws.{Gives}
@@ -22,7 +22,7 @@ use Rattle.event_law.proofs.Known.{all_at}
 use Rattle.local_law.proofs.Threads.{set_all, without_all, found_all, remove_all}
 use Rattle.value_law.proofs.Fit.{Weights, Closed, CopyFits, ThreadFits, MessageFits, without_fit, unpinned_fit, packed_fits, Base, RestFits}
 use Rattle.value_law.proofs.Middle.{says_fits, with_copies, taken_up}
-use Rattle.value_law.proofs.Steps.{after, NewNames, E, step_fits}
+use Rattle.value_law.proofs.Steps.{creates, after, NewNames, E, step_fits}
 use Rattle.value_law.proofs.Deliveries.{SiteFits, message_fits}
 use Rattle.value_law.proofs.Sums.{ServerFits}
 
@@ -50,11 +50,26 @@ module _ (w : Weights) (b : Base) (closed : Closed w b.limit) (code : List Instr
           let h : Hand = record { work = begin_work s.rest; thread = y } in
           over_gives (λ (d : Stepped). E w b closed o.servers i y (news y i q e) d.hand.work.rest d.hand.thread) (Then (after i b)) (step o.servers i h) (stepped s)
           (step_fits w b closed o.servers i y (news y i q e) h refl (taken_up w b closed y s.rest fits.0 (found_all (ThreadFits w) s.threads t y fits.1 q)))
-          (λ d g. (g.0, set_all (ThreadFits w) s.threads d.hand.thread fits.1 g.1))
+          (λ d g. let ended = g.2 in (g.0, set_all (ThreadFits w) s.threads d.hand.thread fits.1 (g.1, ended.live)))
 
       by : (x : Option ThreadState) → thread_in s.threads t ≡ x → Gives (Then (final b (then_some x (λ y. slice_get code y.pc)))) (option_map (stepped s) (then_some (option_map (λ y. record { work = begin_work s.rest; thread = y }) x) (step_in code o.servers)))
       by None q = tt
       by (Some y) q = at y q (slice_get code y.pc) refl
+
+  -- the thread that stepped, with as many objects more as its instruction makes
+  abbrev pub Made : ThreadState → Instr → Server × EntryView → Type 0
+  Made y i r = (z : ThreadState) × (r.0.threads ≡ set_thread s.threads z) × (z.number ≡ y.number) × (z.made ≡ y.made + creates i)
+
+  pub made_so : (t : ℕ) (y : ThreadState) (i : Instr) → thread_in s.threads t ≡ Some y → slice_get code y.pc ≡ Some i → NewNames w b i y → Gives (Made y i) (does code o s (Step t))
+  made_so t y i q e new =
+      subst (λ x. Gives (Made y i) (option_map (stepped s) (then_some (option_map (λ z. record { work = begin_work s.rest; thread = z }) x) (step_in code o.servers)))) (sym q)
+      (subst (λ x. Gives (Made y i) (option_map (stepped s) (then_some x (λ j. step o.servers j h)))) (sym e)
+      (over_gives (λ (d : Stepped). E w b closed o.servers i y new d.hand.work.rest d.hand.thread) (Made y i) (step o.servers i h) (stepped s)
+      (step_fits w b closed o.servers i y new h refl (taken_up w b closed y s.rest fits.0 (found_all (ThreadFits w) s.threads t y fits.1 q)))
+      (λ d g. let ended = g.2 in (d.hand.thread, refl, ended.same, ended.as_many))))
+    where
+      h : Hand
+      h = record { work = begin_work s.rest; thread = y }
 
   delivering : (i : ℕ) → Gives (Then b) (does code o s (Deliver i))
   delivering i = by (slice_get s.rest.inbox i) refl

@@ -1,5 +1,5 @@
 -- What a server and a thread name: words, threads, mutexes, objects, holders, next colours. A name fits where its weight is nothing.
-use Rattle.std.proofs.Common.{◌≡◌, ℕ, ◌+◌, ◌-◌, ◌^◌, ◌<◌, ◌==◌, Bool, true, false, nat_lt, if◌then◌else◌, List, [], ◌∷◌, ◌++◌, length, Option, Some, None, refl, ap, subst, ◌∙◌, arith}
+use Rattle.std.proofs.Common.{◌≡◌, ℕ, ◌+◌, ◌-◌, ◌^◌, ◌<◌, ◌==◌, not, Bool, true, false, nat_lt, if◌then◌else◌, List, [], ◌∷◌, ◌++◌, length, Option, Some, None, refl, ap, subst, ◌∙◌, arith}
 use Rattle.std.specs.Prelude.{slice_get, slice_set, slice_index_or, map}
 use Rattle.std.specs.List.{AllByRecursion}
 use Rattle.std.specs.Bool.{⊤}
@@ -16,7 +16,7 @@ use Rattle.read_cache.specs.Cache.{Copy, copy_of, is_cached, users, can_unpin, w
 use Rattle.migration.specs.Packing.{unpin_all, unpinned}
 use Rattle.mutex_home.specs.Mutexes.{Mutex, Mutexes}
 use Rattle.join_home.specs.Tasks.{Task, TaskState, kept, asked, in_pair}
-use Rattle.thread_state.specs.View.{ThreadState}
+use Rattle.thread_state.specs.View.{ThreadState, is_over}
 use Rattle.thread_state.specs.declared.phase.Phase.{Phase}
 use Rattle.thread_state.specs.declared.value.Value.{Value}
 use Rattle.thread_state.specs.declared.value.Value.TheVariants as value
@@ -24,6 +24,7 @@ use Rattle.server_msgs.specs.declared.message.Message.{Message}
 use Rattle.server_msgs.specs.declared.message.Message.TheVariants as message
 use Rattle.server_model.specs.Servers.{Sent, Rest}
 use Rattle.server_model.specs.NewWords.{can_grow}
+use Rattle.heap_law.specs.Names.{if_so}
 use Rattle.heap_law.specs.Placing.{owned_word, message_word, phase_word}
 use Rattle.heap_law.specs.Naming.{owned_thread, message_thread, phase_thread, fetched_mutex}
 use Rattle.heap_law.specs.Sharing.{owned_mutex, phase_mutex}
@@ -32,7 +33,8 @@ use Rattle.event_law.proofs.Objects.{length_set}
 use Rattle.event_law.proofs.Known.{all_or, all_set, all_append}
 
 -- how much each name weighs: a word, a thread, a mutex, the object of a cell, the stars of a holder, the next colour of a free address, how many objects
--- a thread has made, the mark of a lock among temporary values, and a thread that asks with its server
+-- a thread has made, the mark of a lock among temporary values, a thread that asks with its server, and a thread
+-- that goes on with how many objects it has made
 pub record Weights : Type 0 where
   pub word : ℕ → ℕ
   pub thread : ℕ → ℕ
@@ -43,6 +45,7 @@ pub record Weights : Type 0 where
   pub made : ℕ → ℕ
   pub mark : ℕ
   pub asker : ℕ → ℕ → ℕ
+  pub going : ℕ → ℕ → ℕ
 
 -- who asks, with its server: by a request, and by an answer that goes to that server
 abbrev pub message_asker : (ℕ → ℕ → ℕ) → ℕ → Message → ℕ
@@ -129,8 +132,15 @@ module _ (w : Weights) where
     pub slots_fit : AllByRecursion Fits slots
     pub temps_fit : AllByRecursion TempFits temps
 
+  abbrev pub ThreadBody : ThreadState → Type 0
+  ThreadBody t = ThreadFit t.number t.made t.phase t.gift t.walk t.slots t.temps
+
+  -- it is over, or has made as many as fits
+  abbrev pub Live : ℕ → ℕ → Phase → Type 0
+  Live number made p = if_so (not (is_over p)) (w.going number made) ≡ 0
+
   abbrev pub ThreadFits : ThreadState → Type 0
-  ThreadFits t = ThreadFit t.number t.made t.phase t.gift t.walk t.slots t.temps
+  ThreadFits t = ThreadBody t × Live t.number t.made t.phase
 
   -- MESSAGES
 
@@ -331,16 +341,20 @@ module _ (w : Weights) where
   temps_unpinned (v ∷ vs) a = (omega (arith, unpinned_value v, unpinned_mark v, a.0), temps_unpinned vs a.1)
 
   -- a thread that leaves
-  pub packed_fits : (t : ThreadState) → ThreadFits t → ThreadFit t.number t.made t.phase t.gift [] (map unpinned t.slots) (map unpinned t.temps)
-  packed_fits t g = record {
-    named = g.named;
-    made_so = g.made_so;
-    waits = g.waits;
-    given = g.given;
-    walks = tt;
-    slots_fit = slots_unpinned t.slots g.slots_fit;
-    temps_fit = temps_unpinned t.temps g.temps_fit;
-  }
+  pub packed_fits : (t : ThreadState) → ThreadFits t → ThreadFit t.number t.made t.phase t.gift [] (map unpinned t.slots) (map unpinned t.temps) × Live t.number t.made t.phase
+  packed_fits t g =
+      let fit = g.0 in (
+        record {
+          named = fit.named;
+          made_so = fit.made_so;
+          waits = fit.waits;
+          given = fit.given;
+          walks = tt;
+          slots_fit = slots_unpinned t.slots fit.slots_fit;
+          temps_fit = temps_unpinned t.temps fit.temps_fit;
+        },
+        g.1,
+      )
 
 -- A SERVER
 

@@ -7,6 +7,7 @@ use Rattle.fr_base.specs.declared.name.MutexNo.{MutexNo}
 use Rattle.fr_base.specs.declared.place.Lval.{Lval}
 use Rattle.fr_base.specs.declared.instruction.Instr.{Instr}
 use Rattle.fr_base.specs.declared.instruction.Instr.TheVariants as instr
+use Rattle.fr_base.specs.declared.instruction.Operand.{Operand}
 use Rattle.global_addr.specs.Words.{colour_of}
 use Rattle.thread_state.specs.View.{ThreadState}
 use Rattle.thread_state.specs.declared.value.Value.{Value}
@@ -14,7 +15,7 @@ use Rattle.journal.specs.View.{EntryView}
 use Rattle.server_model.specs.declared.event.Event.{Event}
 use Rattle.server_model.specs.declared.event.What.TheVariants.{Step}
 use Rattle.server_model.specs.Servers.{Server, Cluster, server_at}
-use Rattle.server_model.specs.Work.{Hand, thread_in, then_some}
+use Rattle.server_model.specs.Work.{set_thread, Hand, thread_in, then_some}
 use Rattle.server_model.specs.Places.{Spot, value_at}
 use Rattle.server_model.specs.Prepare.{ready, access_of, prepare}
 use Rattle.server_model.specs.Events.{enabled, does}
@@ -40,20 +41,31 @@ use Rattle.event_law.proofs.Applied.{handed_on}
 use Rattle.event_law.proofs.Sending.{each_event_sends}
 use Rattle.local_law.proofs.Handed.{known}
 use Rattle.value_law.proofs.Fit.{Closed, marks, Base}
-use Rattle.value_law.proofs.Steps.{starts, makes, after, NewNames}
-use Rattle.value_law.proofs.Sums.{holder_of, loose, asked_of, stray, base_of, ServerFits, server_from, server_to}
-use Rattle.value_law.proofs.Does.{instr_at, final, doing}
+use Rattle.value_law.proofs.Steps.{starts, makes, creates, after, NewNames}
+use Rattle.value_law.proofs.Sums.{holder_of, loose, asked_of, cell_object, going_of, stray, base_of, ServerFits, server_from, server_to}
+use Rattle.value_law.proofs.Does.{instr_at, final, made_so, doing}
 use Rattle.value_law.proofs.Split.{threads_split, mutexes_split}
 use Rattle.value_law.proofs.Counts.{Plain, counts_at, counts_alone}
-use Rattle.value_law.proofs.Named.{below_limit, above_less, other_or, or_second, home_is, count_is, colour_is, next_colour, placed, more_events, uncounted, unmade, names, counted, counted_plain, started_plain, made_plain, events_plain, counted_less, counted_later}
+use Rattle.value_law.proofs.Named.{Also, below_limit, above_less, other_or, or_second, home_is, count_is, colour_is, next_colour, placed, more_events, uncounted, unmade, names, counted, counted_plain, started_plain, made_plain, events_plain, counted_less, counted_later}
 
 -- what is known of a step: its thread may ask from there, and by the table of the code, where a reference is lent its place has few stars, and no mark is moved
-pub record Coded (k : Cluster) (d : ℕ → ℕ) (n : ℕ) (ask : ℕ → ℕ → ℕ) (number : ℕ) (i : Instr) (y : ThreadState) : Type 0 where
-  pub stands : ask number y.number ≡ 0
-  pub lends : (p : Lval) (m : ℕ) → i ≡ instr.BorrowMut p → p.depth ≡ suc m → d m ≡ 0
-  pub moves : (j : Base) (p : Lval) → i ≡ instr.Read p true → (h h2 : Hand) (s : Spot) (v : Value) → h.thread ≡ y → prepare (access_of i h.thread) h ≡ ready h2 s → value_at h2 s ≡ Some v → marks (names k d n ask j) v ≡ 0
+pub record Coded (k : Cluster) (also : Also) (s : Server) (i : Instr) (y : ThreadState) : Type 0 where
+  pub stands : also.asker s.rest.number y.number ≡ 0
+  pub lives : creates i ≡ 0 → also.going y.number y.made ≡ 0
+  pub boxed : (o : Operand) → i ≡ instr.Box o → (also.object (record { thread = y.number; count = y.made }) ≡ 0) × (also.going y.number (y.made + 1) ≡ 0)
+  pub young : (c : ℕ) → s.rest.started < c → c ≤ s.rest.started + 2 → also.going (s.rest.number * 2 ^ 32 + c) 0 ≡ 0
+  pub lends : (p : Lval) (m : ℕ) → i ≡ instr.BorrowMut p → p.depth ≡ suc m → also.holder m ≡ 0
+  pub moves : (j : Base) (p : Lval) → i ≡ instr.Read p true → (h h2 : Hand) (s : Spot) (v : Value) → h.thread ≡ y → prepare (access_of i h.thread) h ≡ ready h2 s → value_at h2 s ≡ Some v → marks (names k also j) v ≡ 0
 
-module _ (k : Cluster) (d : ℕ → ℕ) (n : ℕ) (ask : ℕ → ℕ → ℕ) (sound : IsSound k) where
+-- these weigh nothing before
+pub record Before (k : Cluster) (also : Also) : Type 0 where
+  pub holders : tot (holder_of also.holder) (things_of k) ≡ 0
+  pub marks_none : tot (loose also.mark) (things_of k) ≡ 0
+  pub askers : tot (asked_of also.asker) (things_of k) ≡ 0
+  pub objects : tot (cell_object also.object) (things_of k) ≡ 0
+  pub lives : tot (going_of also.going) (things_of k) ≡ 0
+
+module _ (k : Cluster) (also : Also) (sound : IsSound k) where
   abbrev b : List Thing
   b = things_of k
 
@@ -75,9 +87,9 @@ module _ (k : Cluster) (d : ℕ → ℕ) (n : ℕ) (ask : ℕ → ℕ → ℕ) (
   abbrev sentences : Thing → ℕ
   sentences x =
       words word_out x + next_colours k.options.colours x + threads zeroth_thread x + threads (uncounted_thread (sight k)) x + named_mutexes zeroth_mutex x + named_mutexes (uncounted_mutex (sight k)) x + many_names done_so_far x
-      + holder_of d x + loose n x + asked_of ask x
+      + holder_of also.holder x + loose also.mark x + asked_of also.asker x + cell_object also.object x + going_of also.going x
 
-  starts_le : (j : Base) (x : Thing) → stray (names k d n ask j) x ≤ sentences x
+  starts_le : (j : Base) (x : Thing) → stray (names k also j) x ≤ sentences x
   starts_le j (stands s p t) =
       omega (
         arith,
@@ -89,19 +101,19 @@ module _ (k : Cluster) (d : ℕ → ℕ) (n : ℕ) (ask : ℕ → ℕ → ℕ) (
 
   all_sentences : (xs : List Thing) → tot sentences xs
       ≡ tot (words word_out) xs + tot (next_colours k.options.colours) xs + tot (threads zeroth_thread) xs + tot (threads (uncounted_thread (sight k))) xs + tot (named_mutexes zeroth_mutex) xs + tot (named_mutexes (uncounted_mutex (sight k))) xs
-      + tot (many_names done_so_far) xs + tot (holder_of d) xs + tot (loose n) xs + tot (asked_of ask) xs
+      + tot (many_names done_so_far) xs + tot (holder_of also.holder) xs + tot (loose also.mark) xs + tot (asked_of also.asker) xs + tot (cell_object also.object) xs + tot (going_of also.going) xs
   all_sentences [] = refl
   all_sentences (x ∷ xs) = omega (arith, all_sentences xs)
 
   few_made : tot (many_names done_so_far) b ≡ 0
   few_made = sound.names.few_names
 
-  none_before : (j : Base) → tot (holder_of d) b ≡ 0 → tot (loose n) b ≡ 0 → tot (asked_of ask) b ≡ 0 → tot (stray (names k d n ask j)) b ≡ 0
-  none_before j holders marks_none askers =
+  none_before : (j : Base) → Before k also → tot (stray (names k also j)) b ≡ 0
+  none_before j before =
       let colours : tot (words word_out) b + tot (next_colours k.options.colours) b ≡ 0 = sound.words.below_limit in
       let zeroth : tot (threads zeroth_thread) b + tot (named_mutexes zeroth_mutex) b ≡ 0 = sound.names.counts_from_one in
       let named : tot (threads (uncounted_thread (sight k))) b + tot (named_mutexes (uncounted_mutex (sight k))) b ≡ 0 = sound.names.names_counted in
-      omega (arith, tot_le (stray (names k d n ask j)) sentences (starts_le j) b, all_sentences b, colours, zeroth, named, few_made, holders, marks_none, askers)
+      omega (arith, tot_le (stray (names k also j)) sentences (starts_le j) b, all_sentences b, colours, zeroth, named, few_made, before.holders, before.marks_none, before.askers, before.objects, before.lives)
 
   -- WORDS
 
@@ -115,7 +127,7 @@ module _ (k : Cluster) (d : ℕ → ℕ) (n : ℕ) (ask : ℕ → ℕ → ℕ) (
   is_first : nat_lt 0 k.options.colours ≡ true
   is_first = grind (arith, nat_tests, some_colour)
 
-  closed : (j : Base) (limit : ℕ) → limit ≡ k.options.colours → Closed (names k d n ask j) limit
+  closed : (j : Base) (limit : ℕ) → limit ≡ k.options.colours → Closed (names k also j) limit
   closed j limit e = record {
     issued = λ c s a l m z. subst (λ x. other (nat_lt x k.options.colours) ≡ 0) (sym (colour_is c s a l m)) z;
     first = ap other is_first;
@@ -170,17 +182,22 @@ module _ (k : Cluster) (d : ℕ → ℕ) (n : ℕ) (ask : ℕ → ℕ → ℕ) (
     left : s.rest.started + 2 < 2 ^ 32
     left = names_left k sound.names.few_names few number s here
 
-    news : (t : ℕ) (y : ThreadState) (i : Instr) → thread_in s.threads t ≡ Some y → Coded k d n ask s.rest.number i y → NewNames (names k d n ask (after i (base_of s))) (base_of s) i y
+    news : (t : ℕ) (y : ThreadState) (i : Instr) → thread_in s.threads t ≡ Some y → Coded k also s i y → NewNames (names k also (after i (base_of s))) (base_of s) i y
     news t y i there coded =
         let j = after i (base_of s) in record {
           stands = coded.stands;
+          lives = coded.lives;
           begins = below_limit 0 (2 * (done_so_far + 1)) (omega arith);
-          spawned = λ cs pc e. let more : starts i ≡ 1 = ap starts e in new_thread_fits j (s.rest.started + 1) (omega arith) (omega (arith, left)) (omega (arith, more));
+          spawned = λ cs pc e.
+              let more : starts i ≡ 1 = ap starts e in
+              record { named = new_thread_fits j (s.rest.started + 1) (omega arith) (omega (arith, left)) (omega (arith, more)); goes = coded.young (s.rest.started + 1) (omega arith) (omega arith) };
           paired = λ cs pc ds other e.
-              let more : starts i ≡ 2 = ap starts e in
-              (new_thread_fits j (s.rest.started + 1) (omega arith) (omega (arith, left)) (omega (arith, more)), new_thread_fits j (s.rest.started + 1 + 1) (omega arith) (omega (arith, left)) (omega (arith, more)));
+              let more : starts i ≡ 2 = ap starts e in (
+                record { named = new_thread_fits j (s.rest.started + 1) (omega arith) (omega (arith, left)) (omega (arith, more)); goes = coded.young (s.rest.started + 1) (omega arith) (omega arith) },
+                record { named = new_thread_fits j (s.rest.started + 1 + 1) (omega arith) (omega (arith, left)) (omega (arith, more)); goes = coded.young (s.rest.started + 1 + 1) (omega arith) (omega arith) },
+              );
           mutex = λ o e. let more : makes i ≡ 1 = ap makes e in new_mutex_fits j s.rest.mutexes.home s.rest.mutexes.made place.1 (omega (arith, more));
-          boxed = λ o e. (refl, below_limit (y.made + 1) (2 * (done_so_far + 1)) (omega (arith, few_objects number s here t y there)));
+          boxed = λ o e. let fresh = coded.boxed o e in (fresh.0, below_limit (y.made + 1) (2 * (done_so_far + 1)) (omega (arith, few_objects number s here t y there)), fresh.1);
           lends = coded.lends;
           moves = λ p e h h2 x v q z u. coded.moves j p e h h2 x v q z u;
         }
@@ -207,8 +224,8 @@ abbrev pub ends_as : Cluster → Event → Option Server → Base
 ends_as k e o = final (base_in o) (instr_in k e o)
 
 -- no name is left that doesn't fit, and the counts have gone on
-pub record GoneOn (k : Cluster) (d : ℕ → ℕ) (n : ℕ) (ask : ℕ → ℕ → ℕ) (j : Base) (c : Cluster) : Type 0 where
-  pub none : tot (stray (names k d n ask j)) (things_of c) ≡ 0
+pub record GoneOn (k : Cluster) (also : Also) (j : Base) (c : Cluster) : Type 0 where
+  pub none : tot (stray (names k also j)) (things_of c) ≡ 0
   pub started : (s m : ℕ) → tot (started_at s m) (things_of k) ≤ tot (started_at s m) (things_of c)
   pub made : (s m : ℕ) → tot (made_at s m) (things_of k) ≤ tot (made_at s m) (things_of c)
   pub reached : (m : ℕ) → m ≤ j.started → 1 ≤ tot (started_at j.number m) (things_of c)
@@ -253,8 +270,8 @@ grown : (b : Base) (o : Option Instr) → Grown b (final b o)
 grown b None = record { started = omega arith; few_started = omega arith; made = omega arith; few_made = omega arith; number = refl; limit = refl }
 grown b (Some i) = record { started = omega arith; few_started = omega (arith, starts_few i); made = omega arith; few_made = omega (arith, makes_few i); number = refl; limit = refl }
 
-module _ (k : Cluster) (e : Event) (d : ℕ → ℕ) (n : ℕ) (ask : ℕ → ℕ → ℕ) (sound : IsSound k) (few : FewEvents k) (holders : tot (holder_of d) (things_of k) ≡ 0) (marks_none : tot (loose n) (things_of k) ≡ 0) (askers : tot (asked_of ask) (things_of k) ≡ 0)
-    (coded : (s : Server) → server_at k.servers e.server ≡ Some s → (t : ℕ) (y : ThreadState) (i : Instr) → e.what ≡ Step t → thread_in s.threads t ≡ Some y → slice_get k.code y.pc ≡ Some i → Coded k d n ask s.rest.number i y) where
+module _ (k : Cluster) (e : Event) (also : Also) (sound : IsSound k) (few : FewEvents k) (before : Before k also)
+    (coded : (s : Server) → server_at k.servers e.server ≡ Some s → (t : ℕ) (y : ThreadState) (i : Instr) → e.what ≡ Step t → thread_in s.threads t ≡ Some y → slice_get k.code y.pc ≡ Some i → enabled k.options s e.what ≡ true → Coded k also s i y) where
   abbrev now : ℕ
   now = events_of (sight k)
 
@@ -263,29 +280,37 @@ module _ (k : Cluster) (e : Event) (d : ℕ → ℕ) (n : ℕ) (ask : ℕ → �
     j = final (base_of s) (instr_at k.code s.threads e.what)
 
     abbrev Good : Server × EntryView → Type 0
-    Good r = ServerFits (names k d n ask j) j r.0 × (r.0.events ≡ s.events + 1)
+    Good r = ServerFits (names k also j) j r.0 × (r.0.events ≡ s.events + 1)
 
-    fits : ServerFits (names k d n ask j) (base_of s) s
+    fits : ServerFits (names k also j) (base_of s) s
     fits =
         let known = server_known k sound few e.server s here in
         let part = known.partition in
-        server_from (names k d n ask j) s part.addresses part.small (omega (arith, none_before k d n ask sound j holders marks_none askers, (tot-server (stray (names k d n ask j)) k.servers e.server s s here).0))
+        server_from (names k also j) s part.addresses part.small (omega (arith, none_before k also sound j before, (tot-server (stray (names k also j)) k.servers e.server s s here).0))
 
-    new_names : (t : ℕ) (y : ThreadState) (i : Instr) → e.what ≡ Step t → thread_in s.threads t ≡ Some y → slice_get k.code y.pc ≡ Some i → NewNames (names k d n ask j) (base_of s) i y
-    new_names t y i q there at =
+    new_names : enabled k.options s e.what ≡ true → (t : ℕ) (y : ThreadState) (i : Instr) → e.what ≡ Step t → thread_in s.threads t ≡ Some y → slice_get k.code y.pc ≡ Some i → NewNames (names k also j) (base_of s) i y
+    new_names on t y i q there at =
         let instr : instr_at k.code s.threads e.what ≡ Some i = ap (instr_at k.code s.threads) q ∙ ap (λ o. then_some o (λ (x : ThreadState). slice_get k.code x.pc)) there ∙ at in
-        subst (λ o. NewNames (names k d n ask (final (base_of s) o)) (base_of s) i y) (sym instr) (news k d n ask sound few e.server s here t y i there (coded s here t y i q there at))
+        subst (λ o. NewNames (names k also (final (base_of s) o)) (base_of s) i y) (sym instr) (news k also sound few e.server s here t y i there (coded s here t y i q there at on))
 
-    does_well : Gives Good (does k.code k.options s e.what)
-    does_well =
-        both_give (λ (r : Server × EntryView). ServerFits (names k d n ask j) j r.0) (λ (r : Server × EntryView). r.0.events ≡ s.events + 1) Good (does k.code k.options s e.what)
-        (doing (names k d n ask j) (base_of s) (closed k d n ask sound j s.rest.partition.limit (place k d n ask sound few e.server s here).0) k.code k.options s fits e.what new_names)
+    well_closed : Closed (names k also j) s.rest.partition.limit
+    well_closed = closed k also sound j s.rest.partition.limit (place k also sound few e.server s here).0
+
+    -- the thread that stepped
+    pub stepped_so : enabled k.options s e.what ≡ true → (t : ℕ) (y : ThreadState) (i : Instr) → e.what ≡ Step t → thread_in s.threads t ≡ Some y → slice_get k.code y.pc ≡ Some i
+        → Gives (λ (r : Server × EntryView). (z : ThreadState) × (r.0.threads ≡ set_thread s.threads z) × (z.number ≡ y.number) × (z.made ≡ y.made + creates i)) (does k.code k.options s (Step t))
+    stepped_so on t y i q there at = made_so (names k also j) (base_of s) well_closed k.code k.options s fits t y i there at (new_names on t y i q there at)
+
+    does_well : enabled k.options s e.what ≡ true → Gives Good (does k.code k.options s e.what)
+    does_well on =
+        both_give (λ (r : Server × EntryView). ServerFits (names k also j) j r.0) (λ (r : Server × EntryView). r.0.events ≡ s.events + 1) Good (does k.code k.options s e.what)
+        (doing (names k also j) (base_of s) well_closed k.code k.options s fits e.what (new_names on))
         (more_events k.code k.options s e.what) (λ r a c. (a, c))
 
     -- the server has the number that it had
-    pub number_stays : Gives (λ (r : Server × EntryView). r.0.rest.number ≡ s.rest.number) (does k.code k.options s e.what)
-    number_stays =
-        weaker Good (λ (r : Server × EntryView). r.0.rest.number ≡ s.rest.number) (does k.code k.options s e.what) does_well (λ r g.
+    pub number_stays : enabled k.options s e.what ≡ true → Gives (λ (r : Server × EntryView). r.0.rest.number ≡ s.rest.number) (does k.code k.options s e.what)
+    number_stays on =
+        weaker Good (λ (r : Server × EntryView). r.0.rest.number ≡ s.rest.number) (does k.code k.options s e.what) (does_well on) (λ r g.
         let fit = g.0 in
         let rest = fit.0 in
         let more = grown (base_of s) (instr_at k.code s.threads e.what) in
@@ -297,15 +322,15 @@ module _ (k : Cluster) (e : Event) (d : ℕ → ℕ) (n : ℕ) (ask : ℕ → �
         let both = tot-server f k.servers e.server s new here in
         (omega (arith, both.0, counts_alone f plain s), omega (arith, both.1, counts_alone f plain new))
 
-    leaves : (r : Server × EntryView) → Good r → GoneOn k d n ask j (record k { servers = with_server k.servers e.server r.0 })
+    leaves : (r : Server × EntryView) → Good r → GoneOn k also j (record k { servers = with_server k.servers e.server r.0 })
     leaves r g =
         let fit = g.0 in
         let rest = fit.0 in
         let more = grown (base_of s) (instr_at k.code s.threads e.what) in
         let number : r.0.rest.number ≡ s.rest.number = rest.numbered ∙ more.number in
-        let counts = few_counted k d n ask sound few e.server s here in
-        let w = names k d n ask j in record {
-          none = omega (arith, none_before k d n ask sound j holders marks_none askers, (tot-server (stray w) k.servers e.server s r.0 here).0, (tot-server (stray w) k.servers e.server s r.0 here).1, server_to w j r.0 fit);
+        let counts = few_counted k also sound few e.server s here in
+        let w = names k also j in record {
+          none = omega (arith, none_before k also sound j before, (tot-server (stray w) k.servers e.server s r.0 here).0, (tot-server (stray w) k.servers e.server s r.0 here).1, server_to w j r.0 fit);
           started = λ a m.
               let both = counts_go (started_at a m) (started_plain a m) r.0 in
               let as_before : one (r.0.rest.number == a && nat_le m r.0.rest.started) ≡ one (s.rest.number == a && nat_le m j.started) = ap (λ c. one (c == a && nat_le m r.0.rest.started)) number ∙ ap (λ c. one (s.rest.number == a && nat_le m c)) rest.begun in
@@ -327,24 +352,24 @@ module _ (k : Cluster) (e : Event) (d : ℕ → ℕ) (n : ℕ) (ask : ℕ → �
               let others = tot_le (counted (now + 1)) (many_names now) (counted_later now) (things_of k) in
               let started : above (2 * (now + 1)) r.0.rest.started ≡ 0 = below_limit r.0.rest.started (2 * (now + 1)) (omega (arith, rest.begun, more.few_started, counts.0)) in
               let made : above (2 * (now + 1)) r.0.rest.mutexes.made ≡ 0 = below_limit r.0.rest.mutexes.made (2 * (now + 1)) (omega (arith, rest.made_so, more.few_made, counts.1)) in
-              omega (arith, both.0, both.1, others, few_made k d n ask sound, started, made);
+              omega (arith, both.0, both.1, others, few_made k also sound, started, made);
           more = let both = counts_go event_count events_plain r.0 in omega (arith, both.0, both.1, g.1);
           same_options = refl;
         }
 
   acted : (o : Option Server) → server_at k.servers e.server ≡ o
-      → Gives (λ (x : Cluster × EntryView). GoneOn k d n ask (ends_as k e o) x.0) (then_some o (λ s. option_map (λ x. (record k { servers = with_server k.servers e.server x.0 }, x.1)) (done_at k e.what s)))
+      → Gives (λ (x : Cluster × EntryView). GoneOn k also (ends_as k e o) x.0) (then_some o (λ s. option_map (λ x. (record k { servers = with_server k.servers e.server x.0 }, x.1)) (done_at k e.what s)))
   acted None q = tt
   acted (Some s) q =
-      over_gives (Good s q) (λ (x : Cluster × EntryView). GoneOn k d n ask (ends_as k e (Some s)) x.0) (done_at k e.what s) _
-      (test_gives (Good s q) (enabled k.options s e.what) _ (λ on. does_well s q)) (λ r g. leaves s q r g)
+      over_gives (Good s q) (λ (x : Cluster × EntryView). GoneOn k also (ends_as k e (Some s)) x.0) (done_at k e.what s) _
+      (test_gives (Good s q) (enabled k.options s e.what) _ (λ on. does_well s q on)) (λ r g. leaves s q r g)
 
   -- with its messages handed over
-  pub gone_on : Gives (λ (x : Cluster × EntryView). GoneOn k d n ask (ends_as k e (server_at k.servers e.server)) x.0) (apply k e)
+  pub gone_on : Gives (λ (x : Cluster × EntryView). GoneOn k also (ends_as k e (server_at k.servers e.server)) x.0) (apply k e)
   gone_on =
       let j = ends_as k e (server_at k.servers e.server) in
-      handed_on (GoneOn k d n ask j) (λ c a b same g. record {
-        none = omega (arith, same (stray (names k d n ask j)), g.none);
+      handed_on (GoneOn k also j) (λ c a b same g. record {
+        none = omega (arith, same (stray (names k also j)), g.none);
         started = λ s m. omega (arith, same (started_at s m), g.started s m);
         made = λ s m. omega (arith, same (made_at s m), g.made s m);
         reached = λ m l. omega (arith, same (started_at j.number m), g.reached m l);

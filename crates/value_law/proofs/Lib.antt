@@ -13,3 +13,4 @@ pub mod Coded
 pub mod Coherent
 pub mod Stays
 pub mod Askers
+pub mod Objects

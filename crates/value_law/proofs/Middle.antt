@@ -335,4 +335,4 @@ module _ (w : Weights) (b : Base) (closed : Closed w b.limit) where
 
     -- a thread begins to be in the hand
     pub taken_up : (r : Rest) → RestFits w b r → ThreadFits w y → F r y
-    taken_up r a t = (a, record { fit = t; same = refl; as_many = refl })
+    taken_up r a t = (a, record { fit = t.0; same = refl; as_many = refl })

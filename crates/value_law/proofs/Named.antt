@@ -3,6 +3,7 @@ use Rattle.std.proofs.Common.{◌≡◌, ℕ, zero, suc, ◌+◌, ◌*◌, ◌^�
 use Rattle.std.proofs.lemmas.Bool.Decides.{nat_tests}
 use Rattle.fr_typing.proofs.PlaceLemmas.{eq_cases}
 use Rattle.fr_base.specs.declared.name.MutexNo.{MutexNo}
+use Rattle.fr_base.specs.declared.name.ObjNo.{ObjNo}
 use Rattle.fr_base.specs.declared.instruction.Instr.{Instr}
 use Rattle.fr_base.specs.declared.settings.Options.{Options}
 use Rattle.global_addr.specs.Words.{word_of, colour_of, next_word}
@@ -105,18 +106,26 @@ uncounted b j t = other (some (tot (started_at (home_of t) (count_of t)) b) || (
 abbrev pub unmade : List Thing → Base → MutexNo → ℕ
 unmade b j m = other (some (tot (made_at m.home m.count) b) || (m.home == j.number && nat_le m.count j.made))
 
--- with a weight of holders, of marks among temporary values and of who asks
-abbrev pub names : Cluster → (ℕ → ℕ) → ℕ → (ℕ → ℕ → ℕ) → Base → Weights
-names k d n ask j = record {
+-- weights of holders, of marks among temporary values, of who asks, of objects of cells, and of threads that go on
+pub record Also : Type 0 where
+  pub holder : ℕ → ℕ
+  pub mark : ℕ
+  pub asker : ℕ → ℕ → ℕ
+  pub object : ObjNo → ℕ
+  pub going : ℕ → ℕ → ℕ
+
+abbrev pub names : Cluster → Also → Base → Weights
+names k also j = record {
   word = λ v. other (nat_lt (colour_of v) k.options.colours);
   thread = λ t. zeroth_thread t + uncounted (things_of k) j t;
   mutex = λ m. zeroth_mutex m + unmade (things_of k) j m;
-  object = λ o. 0;
-  holder = d;
+  object = also.object;
+  holder = also.holder;
   colour = λ c. other (nat_lt c k.options.colours);
   made = above (2 * (events_of (sight k) + 1));
-  mark = n;
-  asker = ask;
+  mark = also.mark;
+  asker = also.asker;
+  going = also.going;
 }
 
 -- of a server's counts, those of names

@@ -1,32 +1,35 @@
 -- The sentences on names: colours below the limit, counts from 1 and no further than a server has come, and few names.
-use Rattle.std.proofs.Common.{◌≡◌, ℕ, zero, suc, ◌+◌, ◌*◌, ◌≤◌, ◌==◌, ◌&&◌, ◌||◌, nat_lt, nat_le, List, [], ◌∷◌, refl, sym, subst, arith}
+use Rattle.std.proofs.Common.{◌≡◌, ℕ, zero, suc, ◌+◌, ◌*◌, ◌≤◌, ◌==◌, ◌&&◌, ◌||◌, not, nat_lt, nat_le, List, [], ◌∷◌, refl, sym, subst, arith}
 use Rattle.std.proofs.lemmas.Bool.Decides.{nat_tests}
 use Rattle.fr_base.specs.declared.name.MutexNo.{MutexNo}
+use Rattle.fr_base.specs.declared.name.ObjNo.{ObjNo}
+use Rattle.fr_base.specs.declared.instruction.Instr.{Instr}
+use Rattle.thread_state.specs.View.{ThreadState, is_over}
 use Rattle.global_addr.specs.Words.{colour_of}
 use Rattle.thread_state.specs.declared.value.Value.{Value}
 use Rattle.thread_state.specs.declared.value.Value.TheVariants as value
 use Rattle.journal.specs.View.{EntryView}
 use Rattle.server_model.specs.declared.event.Event.{Event}
-use Rattle.server_model.specs.Servers.{Cluster, server_at}
+use Rattle.server_model.specs.Servers.{Server, Cluster, server_at}
 use Rattle.server_model.specs.Clusters.{apply}
 use Rattle.heap_law.specs.Names.{tot, other, some}
-use Rattle.heap_law.specs.Things.{Thing, at_slot, at_temp, in_cell, borrows, locks, vacant, stands, counts, things_of}
+use Rattle.heap_law.specs.Things.{Thing, at_slot, at_temp, in_cell, borrows, locks, lies, vacant, stands, counts, things_of}
 use Rattle.heap_law.specs.Sight.{sight}
 use Rattle.heap_law.specs.Placing.{words, next_colours}
 use Rattle.heap_law.specs.Requests.{home_of}
 use Rattle.heap_law.specs.Naming.{threads, named_mutexes, count_of, started_at, made_at, uncounted_thread, uncounted_mutex, zeroth_thread, zeroth_mutex, events_of, many_names}
 use Rattle.heap_law.specs.Coherent.{Holds, IsSound, below_limit, names_counted, counts_from_one, few_names}
-use Rattle.heap_law.proofs.Names.{and_left, and_right}
+use Rattle.heap_law.proofs.Names.{and_left, and_right, if_none}
 use Rattle.event_law.specs.Laws.{Gives, FewEvents}
 use Rattle.event_law.proofs.Results.{weaker}
 use Rattle.event_law.proofs.Boxes.{tot_le}
 use Rattle.event_law.proofs.Askers.{other_none}
 use Rattle.local_law.specs.Laws.{EachEventKeeps}
 use Rattle.value_law.proofs.Fit.{Weights, marks, Base}
-use Rattle.value_law.proofs.Sums.{holder_of, loose, asked_of, no_asker, stray}
+use Rattle.value_law.proofs.Sums.{holder_of, loose, asked_of, no_asker, cell_object, going_of, stray}
 use Rattle.value_law.proofs.Split.{two_le, threads_split, mutexes_split}
-use Rattle.value_law.proofs.Named.{above_less, some_le, names, counted}
-use Rattle.value_law.proofs.Kept.{GoneOn, ends_as, gone_on}
+use Rattle.value_law.proofs.Named.{Also, above_less, some_le, names, counted}
+use Rattle.value_law.proofs.Kept.{Coded, Before, GoneOn, ends_as, gone_on}
 
 -- SUMS
 
@@ -54,9 +57,9 @@ no_mark (x ∷ b) = omega (arith, none x, no_mark b)
 
 -- WHAT NO NAME BREAKS
 
-module _ (k : Cluster) (d : ℕ → ℕ) (n : ℕ) (ask : ℕ → ℕ → ℕ) (j : Base) (c : Cluster) (g : GoneOn k d n ask j c) where
+module _ (k : Cluster) (also : Also) (j : Base) (c : Cluster) (g : GoneOn k also j c) where
   abbrev w : Weights
-  w = names k d n ask j
+  w = names k also j
 
   abbrev b : List Thing
   b = things_of c
@@ -133,23 +136,23 @@ module _ (k : Cluster) (d : ℕ → ℕ) (n : ℕ) (ask : ℕ → ℕ → ℕ) (
   few_kept : Holds c few_names
   few_kept = omega (arith, tot_le (many_names (events_of (sight c))) (λ x. counted soon x + stray w x) few_so b, tot_both (counted soon) (stray w) b, g.few, g.none)
 
-  held_so : (x : Thing) → holder_of d x ≤ stray w x
+  held_so : (x : Thing) → holder_of also.holder x ≤ stray w x
   held_so x = omega arith
 
-  pub holders_kept : tot (holder_of d) b ≡ 0
-  holders_kept = omega (arith, tot_le (holder_of d) (stray w) held_so b, g.none)
+  pub holders_kept : tot (holder_of also.holder) b ≡ 0
+  holders_kept = omega (arith, tot_le (holder_of also.holder) (stray w) held_so b, g.none)
 
-  marked_so : (x : Thing) → loose n x ≤ stray w x
+  marked_so : (x : Thing) → loose also.mark x ≤ stray w x
   marked_so x = omega arith
 
-  pub marks_kept : tot (loose n) b ≡ 0
-  marks_kept = omega (arith, tot_le (loose n) (stray w) marked_so b, g.none)
+  pub marks_kept : tot (loose also.mark) b ≡ 0
+  marks_kept = omega (arith, tot_le (loose also.mark) (stray w) marked_so b, g.none)
 
-  asked_so : (x : Thing) → asked_of ask x ≤ stray w x
+  asked_so : (x : Thing) → asked_of also.asker x ≤ stray w x
   asked_so x = omega arith
 
-  pub askers_kept : tot (asked_of ask) b ≡ 0
-  askers_kept = omega (arith, tot_le (asked_of ask) (stray w) asked_so b, g.none)
+  pub askers_kept : tot (asked_of also.asker) b ≡ 0
+  askers_kept = omega (arith, tot_le (asked_of also.asker) (stray w) asked_so b, g.none)
 
 -- FROM A SOUND CLUSTER
 
@@ -159,11 +162,43 @@ nothing m = 0
 abbrev pub nobody : ℕ → ℕ → ℕ
 nobody r t = 0
 
+abbrev pub no_object : ObjNo → ℕ
+no_object o = 0
+
+pub no_objects : (b : List Thing) → tot (cell_object no_object) b ≡ 0
+no_objects [] = refl
+no_objects (x ∷ b) = omega (arith, none x, no_objects b)
+  where
+    none : (x : Thing) → cell_object no_object x ≡ 0
+    none (lies s a c) = refl
+    none x = refl
+
+pub no_going : (b : List Thing) → tot (going_of nobody) b ≡ 0
+no_going [] = refl
+no_going (x ∷ b) = omega (arith, none x, no_going b)
+  where
+    none : (x : Thing) → going_of nobody x ≡ 0
+    none (stands s p t) = if_none (not (is_over t.phase)) 0 refl
+    none x = refl
+
+-- weights of askers alone, of holders and marks alone, and none at all
+abbrev pub asking : (ℕ → ℕ → ℕ) → Also
+asking ask = record { holder = nothing; mark = 0; asker = ask; object = no_object; going = nobody }
+
+abbrev pub holding : (ℕ → ℕ) → ℕ → Also
+holding d n = record { holder = d; mark = n; asker = nobody; object = no_object; going = nobody }
+
+abbrev pub none_else : Also
+none_else = asking nobody
+
+pub asking_before : (k : Cluster) (ask : ℕ → ℕ → ℕ) → tot (asked_of ask) (things_of k) ≡ 0 → Before k (asking ask)
+asking_before k ask z = record { holders = no_holder (things_of k); marks_none = no_mark (things_of k); askers = z; objects = no_objects (things_of k); lives = no_going (things_of k) }
+
 pub no_askers : (b : List Thing) → tot (asked_of nobody) b ≡ 0
 no_askers [] = refl
 no_askers (x ∷ b) = omega (arith, no_asker x, no_askers b)
 
-pub unmarked : (k : Cluster) (ask : ℕ → ℕ → ℕ) (j : Base) (v : Value) → marks (names k nothing 0 ask j) v ≡ 0
+pub unmarked : (k : Cluster) (ask : ℕ → ℕ → ℕ) (j : Base) (v : Value) → marks (names k (asking ask) j) v ≡ 0
 unmarked k ask j (value.Held m) = refl
 unmarked k ask j value.Gone = refl
 unmarked k ask j (value.Own v) = refl
@@ -172,20 +207,23 @@ unmarked k ask j (value.MutSlot i) = refl
 unmarked k ask j (value.Shared r) = refl
 unmarked k ask j (value.Mut r) = refl
 
-kept_by : (P : Cluster → Type 0) → ((k : Cluster) (j : Base) (c : Cluster) → GoneOn k nothing 0 nobody j c → P c) → (k : Cluster) (e : Event) → IsSound k → FewEvents k → Gives (λ (x : Cluster × EntryView). P x.0) (apply k e)
+pub plain_step : (k : Cluster) (ask : ℕ → ℕ → ℕ) (s : Server) (i : Instr) (y : ThreadState) → ask s.rest.number y.number ≡ 0 → Coded k (asking ask) s i y
+plain_step k ask s i y z = record { stands = z; lives = λ e. refl; boxed = λ o e. (refl, refl); young = λ c l m. refl; lends = λ p m c z. refl; moves = λ j p c h h2 x v q z u. unmarked k ask j v }
+
+kept_by : (P : Cluster → Type 0) → ((k : Cluster) (j : Base) (c : Cluster) → GoneOn k none_else j c → P c) → (k : Cluster) (e : Event) → IsSound k → FewEvents k → Gives (λ (x : Cluster × EntryView). P x.0) (apply k e)
 kept_by P go k e sound few =
-    weaker (λ (x : Cluster × EntryView). GoneOn k nothing 0 nobody (ends_as k e (server_at k.servers e.server)) x.0) (λ (x : Cluster × EntryView). P x.0) (apply k e)
-    (gone_on k e nothing 0 nobody sound few (no_holder (things_of k)) (no_mark (things_of k)) (no_askers (things_of k)) (λ s here t y i q there at. record { stands = refl; lends = λ p m c z. refl; moves = λ j p c h h2 x v q2 z u. unmarked k nobody j v }))
+    weaker (λ (x : Cluster × EntryView). GoneOn k none_else (ends_as k e (server_at k.servers e.server)) x.0) (λ (x : Cluster × EntryView). P x.0) (apply k e)
+    (gone_on k e none_else sound few (asking_before k nobody (no_askers (things_of k))) (λ s here t y i q there at on. plain_step k nobody s i y refl))
     (λ x g. go k (ends_as k e (server_at k.servers e.server)) x.0 g)
 
 pub limits_kept : EachEventKeeps below_limit
-limits_kept = kept_by (λ c. Holds c below_limit) (λ k j c g. limit_kept k nothing 0 nobody j c g)
+limits_kept = kept_by (λ c. Holds c below_limit) (λ k j c g. limit_kept k none_else j c g)
 
 pub counts_kept : EachEventKeeps counts_from_one
-counts_kept = kept_by (λ c. Holds c counts_from_one) (λ k j c g. from_one_kept k nothing 0 nobody j c g)
+counts_kept = kept_by (λ c. Holds c counts_from_one) (λ k j c g. from_one_kept k none_else j c g)
 
 pub names_kept : EachEventKeeps names_counted
-names_kept = kept_by (λ c. Holds c names_counted) (λ k j c g. counted_kept k nothing 0 nobody j c g)
+names_kept = kept_by (λ c. Holds c names_counted) (λ k j c g. counted_kept k none_else j c g)
 
 pub fews_kept : EachEventKeeps few_names
-fews_kept = kept_by (λ c. Holds c few_names) (λ k j c g. few_kept k nothing 0 nobody j c g)
+fews_kept = kept_by (λ c. Holds c few_names) (λ k j c g. few_kept k none_else j c g)

@@ -1,5 +1,5 @@
 -- A step keeps what its server and its thread name, where the new names that its instruction gives fit.
-use Rattle.std.proofs.Common.{◌≡◌, ℕ, suc, ◌+◌, ◌-◌, ◌*◌, ◌^◌, ◌&&◌, nat_lt, Bool, true, false, List, [], ◌∷◌, ◌++◌, Some, None, refl, sym, ap, subst, ◌∙◌, arith}
+use Rattle.std.proofs.Common.{◌≡◌, ℕ, suc, ◌+◌, ◌-◌, ◌*◌, ◌^◌, ◌&&◌, nat_lt, not, Bool, true, false, List, [], ◌∷◌, ◌++◌, Some, None, refl, sym, ap, subst, ◌∙◌, arith}
 use Rattle.std.specs.List.{AllByRecursion}
 use Rattle.fr_base.specs.Rooms.{WithRoom}
 use Rattle.fr_base.specs.declared.place.Lval.{Lval}
@@ -15,7 +15,7 @@ use Rattle.read_cache.specs.Cache.{Copy, users, pin}
 use Rattle.mutex_home.specs.Mutexes.{can_make, make, next_mutex}
 use Rattle.join_home.specs.Tasks.{Task, going, in_pair, can_begin, begin, can_begin_pair, begin_pair}
 use Rattle.migration.specs.Packing.{unpin_all}
-use Rattle.thread_state.specs.View.{ThreadState, new_thread}
+use Rattle.thread_state.specs.View.{ThreadState, new_thread, is_over}
 use Rattle.thread_state.specs.declared.phase.Phase.{Phase}
 use Rattle.thread_state.specs.declared.phase.Phase.TheVariants as phase
 use Rattle.thread_state.specs.declared.value.Value.{Value}
@@ -35,13 +35,13 @@ use Rattle.server_model.specs.Events.{step}
 use Rattle.heap_law.specs.Placing.{phase_word}
 use Rattle.heap_law.specs.Naming.{phase_thread}
 use Rattle.heap_law.specs.Sharing.{phase_mutex}
-use Rattle.heap_law.proofs.Names.{and_right}
+use Rattle.heap_law.proofs.Names.{if_none, and_right}
 use Rattle.event_law.specs.Laws.{Gives}
 use Rattle.event_law.proofs.Results.{over_gives, bind_gives, test_gives}
 use Rattle.event_law.proofs.Known.{all_append, all_take}
 use Rattle.local_law.proofs.Small.{Of, Small, Follows}
 use Rattle.local_law.proofs.Plainly.{Settles, Quiet, moves_by, Acts, EndsStep, steps}
-use Rattle.value_law.proofs.Fit.{Weights, Closed, marks, OwnedFits, Fits, TempFits, WordFits, MutexFit, TaskFits, owned_temp, ThreadFit, ThreadFits, MessageFits, PartitionFit, made_fits, renewed_fits, issued_fits, renewal_fits, unpinned_fit, Base, RestFits}
+use Rattle.value_law.proofs.Fit.{Weights, Closed, marks, OwnedFits, Fits, TempFits, WordFits, MutexFit, TaskFits, owned_temp, ThreadFit, ThreadBody, Live, MessageFits, PartitionFit, made_fits, renewed_fits, issued_fits, renewal_fits, unpinned_fit, Base, RestFits}
 use Rattle.value_law.proofs.Middle.{BothFit, second_fits, shared_fits, lent_fits, capture_fits, says_fits, with_cells, gives_up, F, places, slots_put, temps_put, walked, gifted, used, pinned_word, spot_fits}
 
 -- how many threads and mutexes an instruction starts and makes
@@ -54,24 +54,41 @@ abbrev pub makes : Instr → ℕ
 makes (instr.Mutex o) = 1
 makes i = 0
 
+-- how many objects it makes
+abbrev pub creates : Instr → ℕ
+creates (instr.Box o) = 1
+creates i = 0
+
 -- what a server is once such an instruction is done
 abbrev pub after : Instr → Base → Base
 after i b = record { number = b.number; started = b.started + starts i; made = b.made + makes i; home = b.home; limit = b.limit }
+
+-- a new thread fits
+pub record Young (w : Weights) (u : ℕ) : Type 0 where
+  pub named : w.thread u ≡ 0
+  pub goes : w.going u 0 ≡ 0
+
+-- a thread at the end of a step: it has made so many objects
+pub record Ended (w : Weights) (i : Instr) (y : ThreadState) (number made : ℕ) (p : Phase) : Type 0 where
+  pub live : Live w number made p
+  pub same : number ≡ y.number
+  pub as_many : made ≡ y.made + creates i
 
 -- the new names of an instruction fit
 pub record NewNames (w : Weights) (b : Base) (i : Instr) (y : ThreadState) : Type 0 where
   pub begins : w.made 0 ≡ 0
   pub stands : w.asker b.number y.number ≡ 0
-  pub spawned : (cs : WithRoom (ℕ × Bool)) (pc : ℕ) → i ≡ instr.Spawn cs pc → w.thread (b.number * 2 ^ 32 + (b.started + 1)) ≡ 0
-  pub paired : (cs : WithRoom (ℕ × Bool)) (pc : ℕ) (ds : WithRoom (ℕ × Bool)) (other : ℕ) → i ≡ instr.Par cs pc ds other → (w.thread (b.number * 2 ^ 32 + (b.started + 1)) ≡ 0) × (w.thread (b.number * 2 ^ 32 + (b.started + 1 + 1)) ≡ 0)
+  pub lives : creates i ≡ 0 → w.going y.number y.made ≡ 0
+  pub spawned : (cs : WithRoom (ℕ × Bool)) (pc : ℕ) → i ≡ instr.Spawn cs pc → Young w (b.number * 2 ^ 32 + (b.started + 1))
+  pub paired : (cs : WithRoom (ℕ × Bool)) (pc : ℕ) (ds : WithRoom (ℕ × Bool)) (other : ℕ) → i ≡ instr.Par cs pc ds other → Young w (b.number * 2 ^ 32 + (b.started + 1)) × Young w (b.number * 2 ^ 32 + (b.started + 1 + 1))
   pub mutex : (o : Operand) → i ≡ instr.Mutex o → w.mutex (record { home = b.home; count = b.made + 1 }) ≡ 0
-  pub boxed : (o : Operand) → i ≡ instr.Box o → (w.object (record { thread = y.number; count = y.made }) ≡ 0) × (w.made (y.made + 1) ≡ 0)
+  pub boxed : (o : Operand) → i ≡ instr.Box o → (w.object (record { thread = y.number; count = y.made }) ≡ 0) × (w.made (y.made + 1) ≡ 0) × (w.going y.number (y.made + 1) ≡ 0)
   pub lends : (p : Lval) (d : ℕ) → i ≡ instr.BorrowMut p → p.depth ≡ suc d → w.holder d ≡ 0
   pub moves : (p : Lval) → i ≡ instr.Read p true → (h h2 : Hand) (s : Spot) (v : Value) → h.thread ≡ y → prepare (access_of i h.thread) h ≡ ready h2 s → value_at h2 s ≡ Some v → marks w v ≡ 0
 
 module _ (w : Weights) (b : Base) (closed : Closed w b.limit) (n : ℕ) (i : Instr) (y : ThreadState) (new : NewNames w b i y) where
   abbrev pub E : Rest → ThreadState → Type 0
-  E r t = RestFits w (after i b) r × ThreadFits w t
+  E r t = RestFits w (after i b) r × ThreadBody w t × Ended w i y t.number t.made t.phase
 
   abbrev G : Rest → ThreadState → Type 0
   G = F w b closed y
@@ -81,31 +98,39 @@ module _ (w : Weights) (b : Base) (closed : Closed w b.limit) (n : ℕ) (i : Ins
   counts_as j r s m g = record { numbered = g.numbered; begun = omega (arith, g.begun, s); made_so = omega (arith, g.made_so, m); homed = g.homed; partition = g.partition; copies = g.copies; mutexes = g.mutexes; tasks = g.tasks; waiting = g.waiting; leaving = g.leaving }
 
   abbrev None_new : Instr → Type 0
-  None_new j = (starts j ≡ 0) × (makes j ≡ 0)
+  None_new j = (starts j ≡ 0) × (makes j ≡ 0) × (creates j ≡ 0)
 
   follows_none : (j : Instr) (t : ThreadState) → Follows (access_of j t) → None_new j
   follows_none (instr.Spawn cs pc) t f = absurd f
   follows_none (instr.Par cs pc ds other) t f = absurd f
   follows_none (instr.Mutex o) t f = absurd f
-  follows_none j t f = (refl, refl)
+  follows_none (instr.Box o) t f = absurd f
+  follows_none j t f = (refl, refl, refl)
 
   quiet_none : (j : Instr) → Quiet j → None_new j
   quiet_none (instr.Spawn cs pc) q = absurd q
   quiet_none (instr.Par cs pc ds other) q = absurd q
   quiet_none (instr.Mutex o) q = absurd q
-  quiet_none j q = (refl, refl)
+  quiet_none (instr.Box o) q = absurd q
+  quiet_none j q = (refl, refl, refl)
 
-  done : (r : Rest) (t : ThreadState) → None_new i → G r t → E r t
-  done r t z g = let mine = g.1 in (counts_as i r z.0 z.1 g.0, mine.fit)
+  -- no object more is made
+  tells : (h : Hand) → Of G h → creates i ≡ 0 → (p : Phase) → Ended w i y h.thread.number h.thread.made p
+  tells h g z p =
+      let mine = g.1 in record {
+        live = if_none (not (is_over p)) (w.going h.thread.number h.thread.made) (subst (λ m. w.going h.thread.number m ≡ 0) (sym mine.as_many) (subst (λ m. w.going m y.made ≡ 0) (sym mine.same) (new.lives z)));
+        same = mine.same;
+        as_many = omega (arith, mine.as_many, z);
+      }
 
   -- REQUESTS
 
-  at_phase : (p : Phase) (t : ThreadState) → phase_word w.word p + phase_thread w.thread p + phase_mutex w.mutex p ≡ 0 → ThreadFits w t → ThreadFit w t.number t.made p t.gift t.walk t.slots t.temps
+  at_phase : (p : Phase) (t : ThreadState) → phase_word w.word p + phase_thread w.thread p + phase_mutex w.mutex p ≡ 0 → ThreadBody w t → ThreadFit w t.number t.made p t.gift t.walk t.slots t.temps
   at_phase p t a g = record { named = g.named; made_so = g.made_so; waits = a; given = g.given; walks = g.walks; slots_fit = g.slots_fit; temps_fit = g.temps_fit }
 
   -- a message, and the phase that waits for its answer
   asks_for : (t : ℕ) (m : Message) (p : Phase) (h : Hand) → None_new i → MessageFits w t m → phase_word w.word p + phase_thread w.thread p + phase_mutex w.mutex p ≡ 0 → Of G h → E (sent_from h.work.rest t m) (record h.thread { phase = p })
-  asks_for t m p h z a q g = let mine = g.1 in (counts_as i (sent_from h.work.rest t m) z.0 z.1 (says_fits w b closed t m h.work.rest a g.0), at_phase p h.thread q mine.fit)
+  asks_for t m p h z a q g = let mine = g.1 in (counts_as i (sent_from h.work.rest t m) z.0 z.1 (says_fits w b closed t m h.work.rest a g.0), at_phase p h.thread q mine.fit, tells h g z.2 p)
 
   named : (h : Hand) → Of G h → w.thread h.thread.number ≡ 0
   named h g = let mine = g.1 in let fit = mine.fit in fit.named
@@ -138,18 +163,19 @@ module _ (w : Weights) (b : Base) (closed : Closed w b.limit) (n : ℕ) (i : Ins
 
   -- THE END OF A STEP
 
-  settled : (j : Base) (h : Hand) → RestFits w j h.work.rest → ThreadFits w h.thread → (cs : List Copy) → unpin_all h.thread.walk h.work.rest.cache ≡ Some cs
-      → RestFits w j (record h.work.rest { cache = cs }) × ThreadFit w h.thread.number h.thread.made h.thread.phase h.thread.gift [] h.thread.slots h.thread.temps
-  settled j h a t cs z = (
+  settled : (j : Base) (h : Hand) → RestFits w j h.work.rest → ThreadBody w h.thread → Ended w i y h.thread.number h.thread.made h.thread.phase → (cs : List Copy) → unpin_all h.thread.walk h.work.rest.cache ≡ Some cs
+      → RestFits w j (record h.work.rest { cache = cs }) × ThreadFit w h.thread.number h.thread.made h.thread.phase h.thread.gift [] h.thread.slots h.thread.temps × Ended w i y h.thread.number h.thread.made h.thread.phase
+  settled j h a t l cs z = (
     record { numbered = a.numbered; begun = a.begun; made_so = a.made_so; homed = a.homed; partition = a.partition; copies = unpinned_fit w h.thread.walk h.work.rest.cache cs z a.copies; mutexes = a.mutexes; tasks = a.tasks; waiting = a.waiting; leaving = a.leaving },
     record { named = t.named; made_so = t.made_so; waits = t.waits; given = t.given; walks = tt; slots_fit = t.slots_fit; temps_fit = t.temps_fit },
+    l,
   )
 
-  pushed : (v : Value) (t : ThreadState) → TempFits w v → ThreadFits w t → ThreadFit w t.number t.made t.phase t.gift t.walk t.slots (t.temps ++ v ∷ [])
+  pushed : (v : Value) (t : ThreadState) → TempFits w v → ThreadBody w t → ThreadFit w t.number t.made t.phase t.gift t.walk t.slots (t.temps ++ v ∷ [])
   pushed v t a g = record { named = g.named; made_so = g.made_so; waits = g.waits; given = g.given; walks = g.walks; slots_fit = g.slots_fit; temps_fit = all_append (TempFits w) t.temps (v ∷ []) g.temps_fit (a, tt) }
 
   goes : (h : Hand) → None_new i → Of G h → Settles E (go_on h)
-  goes h z g cs q = let mine = g.1 in settled (after i b) (go_on h) (counts_as i h.work.rest z.0 z.1 g.0) (at_phase phase.Ready h.thread refl mine.fit) cs q
+  goes h z g cs q = let mine = g.1 in settled (after i b) (go_on h) (counts_as i h.work.rest z.0 z.1 g.0) (at_phase phase.Ready h.thread refl mine.fit) (tells h g z.2 phase.Ready) cs q
 
   -- NEW OBJECTS AND MUTEXES
 
@@ -170,12 +196,17 @@ module _ (w : Weights) (b : Base) (closed : Closed w b.limit) (n : ℕ) (i : Ins
       (λ m k cs q.
       let word = k.0 in
       let box : TempFits w (value.Own (owned.Box (record { word = m.word; object = next_object h }))) = omega (arith, word, named) in
-      let counted : ThreadFits w (record h.thread { made = h.thread.made + 1 }) = record { named = fit.named; made_so = more; waits = fit.waits; given = fit.given; walks = fit.walks; slots_fit = fit.slots_fit; temps_fit = fit.temps_fit } in
+      let again : Ended w i y h.thread.number (h.thread.made + 1) phase.Ready = record {
+        live = subst (λ c. w.going h.thread.number (c + 1) ≡ 0) (sym mine.as_many) (subst (λ c. w.going c (y.made + 1) ≡ 0) (sym mine.same) fresh.2);
+        same = mine.same;
+        as_many = omega (arith, mine.as_many, one e);
+      } in
+      let counted : ThreadBody w (record h.thread { made = h.thread.made + 1 }) = record { named = fit.named; made_so = more; waits = fit.waits; given = fit.given; walks = fit.walks; slots_fit = fit.slots_fit; temps_fit = fit.temps_fit } in
       let top = pushed _ (record h.thread { made = h.thread.made + 1 }) box counted in
-      settled (after i b) (go_on (push_box v m h)) (counts_as i m.work.rest (none e).0 (none e).1 k.1) (at_phase phase.Ready (push_box v m h).thread refl top) cs q)
+      settled (after i b) (go_on (push_box v m h)) (counts_as i m.work.rest (ap starts e) (ap makes e) k.1) (at_phase phase.Ready (push_box v m h).thread refl top) again cs q)
     where
-      none : i ≡ instr.Box o → None_new i
-      none e = subst None_new (sym e) (refl, refl)
+      one : i ≡ instr.Box o → creates i ≡ 1
+      one e = ap creates e
 
   makes_mutex : (o : Operand) → i ≡ instr.Mutex o → (v : Owned) (h : Hand) → OwnedFits w v → Of G h → Gives (λ h2. Settles E (go_on h2)) (mutex_made v h)
   makes_mutex o e v h a g =
@@ -199,12 +230,12 @@ module _ (w : Weights) (b : Base) (closed : Closed w b.limit) (n : ℕ) (i : Ins
         leaving = rest.leaving;
       } in
       let h2 : Hand = record { work = record h.work { rest = record h.work.rest { mutexes = make ms v } }; thread = record h.thread { temps = h.thread.temps ++ value.Own (owned.Mutex (next_mutex ms)) ∷ [] } } in
-      settled (after i b) (go_on h2) there (at_phase phase.Ready h2.thread refl (pushed _ h.thread (owned_temp w (owned.Mutex (next_mutex ms)) (omega (arith, fresh))) mine.fit)) cs q)
+      settled (after i b) (go_on h2) there (at_phase phase.Ready h2.thread refl (pushed _ h.thread (owned_temp w (owned.Mutex (next_mutex ms)) (omega (arith, fresh))) mine.fit)) (tells h g (ap creates e) phase.Ready) cs q)
 
   -- NEW THREADS
 
   -- one thread more is started
-  starts_one : (j j2 : Base) (pc : ℕ) (vs : List Value) (x : Work) → j2.number ≡ j.number → j2.started ≡ j.started + 1 → j2.made ≡ j.made → j2.home ≡ j.home → j2.limit ≡ j.limit → w.thread (next_thread x.rest) ≡ 0
+  starts_one : (j j2 : Base) (pc : ℕ) (vs : List Value) (x : Work) → j2.number ≡ j.number → j2.started ≡ j.started + 1 → j2.made ≡ j.made → j2.home ≡ j.home → j2.limit ≡ j.limit → Young w (next_thread x.rest)
       → AllByRecursion (Fits w) vs → Closed w j2.limit → RestFits w j x.rest → RestFits w j2 (start_thread n pc vs x).rest
   starts_one j j2 pc vs x en es em eh el fresh a c g =
       let begun : RestFits w j2 (record x.rest { started = x.rest.started + 1 }) = record {
@@ -219,8 +250,8 @@ module _ (w : Weights) (b : Base) (closed : Closed w b.limit) (n : ℕ) (i : Ins
         waiting = subst (λ m. AllByRecursion (MessageFits w m) x.rest.inbox) (sym en) g.waiting;
         leaving = g.leaving;
       } in
-      let young : ThreadFits w (new_thread (next_thread x.rest) pc vs) = record { named = fresh; made_so = new.begins; waits = refl; given = tt; walks = tt; slots_fit = a; temps_fit = tt } in
-      says_fits w j2 c (server_for n x.rest) (message.Start (new_thread (next_thread x.rest) pc vs)) (record x.rest { started = x.rest.started + 1 }) young begun
+      let young : ThreadBody w (new_thread (next_thread x.rest) pc vs) = record { named = fresh.named; made_so = new.begins; waits = refl; given = tt; walks = tt; slots_fit = a; temps_fit = tt } in
+      says_fits w j2 c (server_for n x.rest) (message.Start (new_thread (next_thread x.rest) pc vs)) (record x.rest { started = x.rest.started + 1 }) (young, fresh.goes) begun
 
   noted : (ts : List Task) (r : Rest) → AllByRecursion (TaskFits w) ts → RestFits w b r → RestFits w b (record r { tasks = ts })
   noted ts r a g = record { numbered = g.numbered; begun = g.begun; made_so = g.made_so; homed = g.homed; partition = g.partition; copies = g.copies; mutexes = g.mutexes; tasks = a; waiting = g.waiting; leaving = g.leaving }
@@ -229,11 +260,11 @@ module _ (w : Weights) (b : Base) (closed : Closed w b.limit) (n : ℕ) (i : Ins
   next_is : (r : Rest) (m : ℕ) → r.number ≡ b.number → r.started ≡ b.started + m → next_thread r ≡ b.number * 2 ^ 32 + (b.started + m + 1)
   next_is r m e s = ap (λ a. a * 2 ^ 32 + (r.started + 1)) e ∙ ap (λ c. b.number * 2 ^ 32 + (c + 1)) s
 
-  first_fits : (r : Rest) → r.number ≡ b.number → r.started ≡ b.started → w.thread (b.number * 2 ^ 32 + (b.started + 1)) ≡ 0 → w.thread (next_thread r) ≡ 0
-  first_fits r e s z = subst (λ m. w.thread m ≡ 0) (sym (ap (λ a. a * 2 ^ 32 + (r.started + 1)) e ∙ ap (λ c. b.number * 2 ^ 32 + (c + 1)) s)) z
+  first_fits : (r : Rest) → r.number ≡ b.number → r.started ≡ b.started → Young w (b.number * 2 ^ 32 + (b.started + 1)) → Young w (next_thread r)
+  first_fits r e s z = subst (Young w) (sym (ap (λ a. a * 2 ^ 32 + (r.started + 1)) e ∙ ap (λ c. b.number * 2 ^ 32 + (c + 1)) s)) z
 
-  second_fits_too : (r : Rest) → r.number ≡ b.number → r.started ≡ b.started + 1 → w.thread (b.number * 2 ^ 32 + (b.started + 1 + 1)) ≡ 0 → w.thread (next_thread r) ≡ 0
-  second_fits_too r e s z = subst (λ m. w.thread m ≡ 0) (sym (ap (λ a. a * 2 ^ 32 + (r.started + 1)) e ∙ ap (λ c. b.number * 2 ^ 32 + (c + 1)) s)) z
+  second_fits_too : (r : Rest) → r.number ≡ b.number → r.started ≡ b.started + 1 → Young w (b.number * 2 ^ 32 + (b.started + 1 + 1)) → Young w (next_thread r)
+  second_fits_too r e s z = subst (Young w) (sym (ap (λ a. a * 2 ^ 32 + (r.started + 1)) e ∙ ap (λ c. b.number * 2 ^ 32 + (c + 1)) s)) z
 
   spawns : (cs : WithRoom (ℕ × Bool)) (pc : ℕ) → i ≡ instr.Spawn cs pc → (h : Hand) → Of G h → Gives (λ h2. Settles E (go_on h2)) (then_some (capture false cs.items h.thread.slots) (spawn_with n pc (next_thread h.work.rest) h))
   spawns cs pc e h g =
@@ -241,7 +272,8 @@ module _ (w : Weights) (b : Base) (closed : Closed w b.limit) (n : ℕ) (i : Ins
       let fit = mine.fit in
       let rest = g.0 in
       let u = next_thread h.work.rest in
-      let fresh : w.thread u ≡ 0 = first_fits h.work.rest rest.numbered rest.begun (new.spawned cs pc e) in
+      let young = first_fits h.work.rest rest.numbered rest.begun (new.spawned cs pc e) in
+      let fresh : w.thread u ≡ 0 = young.named in
       bind_gives (BothFit w) (λ h2. Settles E (go_on h2)) (capture false cs.items h.thread.slots) (spawn_with n pc u h) (capture_fits w false cs.items h.thread.slots fit.slots_fit) (λ two c.
       over_gives (λ h2. RestFits w b h2.work.rest × (h2.thread ≡ h.thread)) (λ h2. Settles E (go_on h2)) (begun h) _
       (test_gives (λ h2. RestFits w b h2.work.rest × (h2.thread ≡ h.thread)) (can_begin h.work.rest.tasks u) _ (λ z. (
@@ -253,11 +285,11 @@ module _ (w : Weights) (b : Base) (closed : Closed w b.limit) (n : ℕ) (i : Ins
       let one : starts i ≡ 1 = ap starts e in
       let none : makes i ≡ 0 = ap makes e in
       let begun_one = starts_one b (after i b) pc two.0 h2.work refl (omega (arith, one)) (omega (arith, none)) refl refl (first_fits h2.work.rest there.numbered there.begun (new.spawned cs pc e)) c.0 closed there in
-      let before : ThreadFits w h2.thread = subst (ThreadFits w) (sym k.1) fit in
-      let left : ThreadFits w (record h2.thread { slots = two.1 }) = record { named = before.named; made_so = before.made_so; waits = before.waits; given = before.given; walks = before.walks; slots_fit = c.1; temps_fit = before.temps_fit } in
+      let before : ThreadBody w h2.thread = subst (ThreadBody w) (sym k.1) fit in
+      let left : ThreadBody w (record h2.thread { slots = two.1 }) = record { named = before.named; made_so = before.made_so; waits = before.waits; given = before.given; walks = before.walks; slots_fit = c.1; temps_fit = before.temps_fit } in
       let task : TempFits w (value.Own (owned.Task u)) = omega (arith, fresh) in
       let h3 : Hand = record { work = start_thread n pc two.0 h2.work; thread = record h2.thread { slots = two.1; temps = h2.thread.temps ++ value.Own (owned.Task u) ∷ [] } } in
-      settled (after i b) (go_on h3) begun_one (at_phase phase.Ready h3.thread refl (pushed _ (record h2.thread { slots = two.1 }) task left)) cs2 q))
+      settled (after i b) (go_on h3) begun_one (at_phase phase.Ready h3.thread refl (pushed _ (record h2.thread { slots = two.1 }) task left)) (subst (λ (t : ThreadState). Ended w i y t.number t.made phase.Ready) (sym k.1) (tells h g (ap creates e) phase.Ready)) cs2 q))
 
   pairs : (cs : WithRoom (ℕ × Bool)) (pc : ℕ) (ds : WithRoom (ℕ × Bool)) (other : ℕ) → i ≡ instr.Par cs pc ds other → (h : Hand) → Of G h
       → Gives (Settles E) (then_some (capture true cs.items h.thread.slots) (λ first. then_some (capture true ds.items first.1) (par_with n pc other (next_thread h.work.rest) (next_thread h.work.rest + 1) h first.0)))
@@ -267,9 +299,11 @@ module _ (w : Weights) (b : Base) (closed : Closed w b.limit) (n : ℕ) (i : Ins
       let rest = g.0 in
       let u = next_thread h.work.rest in
       let both = new.paired cs pc ds other e in
-      let fresh : w.thread u ≡ 0 = first_fits h.work.rest rest.numbered rest.begun both.0 in
+      let young = first_fits h.work.rest rest.numbered rest.begun both.0 in
+      let fresh : w.thread u ≡ 0 = young.named in
       let named : u + 1 ≡ b.number * 2 ^ 32 + (b.started + 1 + 1) = omega (arith, next_is h.work.rest 0 rest.numbered (omega (arith, rest.begun))) in
-      let fresher : w.thread (u + 1) ≡ 0 = subst (λ m. w.thread m ≡ 0) (sym named) both.1 in
+      let younger = subst (Young w) (sym named) both.1 in
+      let fresher : w.thread (u + 1) ≡ 0 = younger.named in
       let parent = fit.named in
       bind_gives (BothFit w) (Settles E) (capture true cs.items h.thread.slots) _ (capture_fits w true cs.items h.thread.slots fit.slots_fit) (λ one c.
       bind_gives (BothFit w) (Settles E) (capture true ds.items one.1) _ (capture_fits w true ds.items one.1 c.1) (λ two d.
@@ -288,10 +322,10 @@ module _ (w : Weights) (b : Base) (closed : Closed w b.limit) (n : ℕ) (i : Ins
       let first_begun = starts_one b middle pc one.0 h2.work refl refl refl refl refl (first_fits h2.work.rest there.numbered there.begun both.0) c.0 closed there in
       let x = start_thread n pc one.0 h2.work in
       let second_begun = starts_one middle (after i b) other two.0 x refl (omega (arith, two_more)) (omega (arith, none)) refl refl (second_fits_too x.rest first_begun.numbered first_begun.begun both.1) d.0 closed first_begun in
-      let before : ThreadFits w h2.thread = subst (ThreadFits w) (sym k.1) fit in
-      let left : ThreadFits w (record h2.thread { slots = two.1 }) = record { named = before.named; made_so = before.made_so; waits = before.waits; given = before.given; walks = before.walks; slots_fit = d.1; temps_fit = before.temps_fit } in
+      let before : ThreadBody w h2.thread = subst (ThreadBody w) (sym k.1) fit in
+      let left : ThreadBody w (record h2.thread { slots = two.1 }) = record { named = before.named; made_so = before.made_so; waits = before.waits; given = before.given; walks = before.walks; slots_fit = d.1; temps_fit = before.temps_fit } in
       let h3 : Hand = record { work = start_thread n other two.0 x; thread = record h2.thread { slots = two.1; pc = h2.thread.pc + 1; phase = phase.WaitPar u (u + 1) } } in
-      settled (after i b) h3 second_begun (at_phase (phase.WaitPar u (u + 1)) (record h2.thread { slots = two.1 }) (omega (arith, fresh, fresher)) left) cs2 q)))
+      settled (after i b) h3 second_begun (at_phase (phase.WaitPar u (u + 1)) (record h2.thread { slots = two.1 }) (omega (arith, fresh, fresher)) left) (subst (λ (t : ThreadState). Ended w i y t.number t.made (phase.WaitPar u (u + 1))) (sym k.1) (tells h g (ap creates e) (phase.WaitPar u (u + 1)))) cs2 q)))
 
   -- ENDS
 
@@ -299,14 +333,14 @@ module _ (w : Weights) (b : Base) (closed : Closed w b.limit) (n : ℕ) (i : Ins
   ends o e true v h a g = λ cs q.
       let mine = g.1 in
       let h2 : Hand = record { work = give_up v (label_dropped (value.Own v) h).work; thread = record h.thread { phase = phase.Over } } in
-      settled (after i b) h2 (counts_as i h2.work.rest (ap starts e) (ap makes e) (gives_up w b closed v (label_dropped (value.Own v) h).work a g.0)) (at_phase phase.Over h.thread refl mine.fit) cs q
+      settled (after i b) h2 (counts_as i h2.work.rest (ap starts e) (ap makes e) (gives_up w b closed v (label_dropped (value.Own v) h).work a g.0)) (at_phase phase.Over h.thread refl mine.fit) (tells h g (ap creates e) phase.Over) cs q
   ends o e false v h a g = λ cs q.
       let mine = g.1 in
       let fit = mine.fit in
       let named = fit.named in
       let r2 = sent_from h.work.rest h.thread.home (message.Finished h.thread.number v) in
       let h2 : Hand = record { work = record h.work { rest = r2 }; thread = record h.thread { phase = phase.Over } } in
-      settled (after i b) h2 (counts_as i r2 (ap starts e) (ap makes e) (says_fits w b closed h.thread.home (message.Finished h.thread.number v) h.work.rest (omega (arith, named, a)) g.0)) (at_phase phase.Over h.thread refl mine.fit) cs q
+      settled (after i b) h2 (counts_as i r2 (ap starts e) (ap makes e) (says_fits w b closed h.thread.home (message.Finished h.thread.number v) h.work.rest (omega (arith, named, a)) g.0)) (at_phase phase.Over h.thread refl mine.fit) (tells h g (ap creates e) phase.Over) cs q
 
   -- ALL OF A STEP
 
@@ -338,9 +372,9 @@ module _ (w : Weights) (b : Base) (closed : Closed w b.limit) (n : ℕ) (i : Ins
     goes = λ q h g. goes h (quiet_none i q) g;
     pairs = pairs;
     ends = ends;
-    asks_join = λ o e u h q a g. asks_for (home_of u) (message.Join u h.work.rest.number h.thread.number) (phase.WaitJoin u) h (ap starts e, ap makes e) (omega (arith, a, named h g, stood h g)) (omega (arith, a)) g;
-    asks_dup = λ p e m h q a g. asks_for m.home (message.Dup m h.work.rest.number h.thread.number) (phase.WaitDup m) h (ap starts e, ap makes e) (omega (arith, a, named h g, stood h g)) (omega (arith, a)) g;
-    asks_lock = λ p e m h q a g. asks_for m.home (message.Lock m h.work.rest.number h.thread.number) (phase.WaitLock m) h (ap starts e, ap makes e) (omega (arith, a, named h g, stood h g)) (omega (arith, a)) g;
+    asks_join = λ o e u h q a g. asks_for (home_of u) (message.Join u h.work.rest.number h.thread.number) (phase.WaitJoin u) h (ap starts e, ap makes e, ap creates e) (omega (arith, a, named h g, stood h g)) (omega (arith, a)) g;
+    asks_dup = λ p e m h q a g. asks_for m.home (message.Dup m h.work.rest.number h.thread.number) (phase.WaitDup m) h (ap starts e, ap makes e, ap creates e) (omega (arith, a, named h g, stood h g)) (omega (arith, a)) g;
+    asks_lock = λ p e m h q a g. asks_for m.home (message.Lock m h.work.rest.number h.thread.number) (phase.WaitLock m) h (ap starts e, ap makes e, ap creates e) (omega (arith, a, named h g, stood h g)) (omega (arith, a)) g;
   }
 
   -- a step of the thread

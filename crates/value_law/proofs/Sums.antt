@@ -1,5 +1,5 @@
 -- All that a server names fits exactly where its things weigh nothing.
-use Rattle.std.proofs.Common.{◌≡◌, ℕ, ◌+◌, ◌^◌, ◌<◌, Bool, true, false, if◌then◌else◌, List, [], ◌∷◌, ◌++◌, Option, Some, None, refl, sym, subst, arith}
+use Rattle.std.proofs.Common.{◌≡◌, ℕ, ◌+◌, ◌^◌, ◌<◌, not, Bool, true, false, if◌then◌else◌, List, [], ◌∷◌, ◌++◌, Option, Some, None, refl, sym, subst, arith}
 use Rattle.std.specs.List.{AllByRecursion}
 use Rattle.fr_base.specs.declared.name.MutexNo.{MutexNo}
 use Rattle.fr_base.specs.declared.name.ObjNo.{ObjNo}
@@ -8,13 +8,13 @@ use Rattle.heap_partition.specs.declared.value.Owned.{Owned}
 use Rattle.mut_borrow.specs.declared.shared.SharedRef.{SharedRef}
 use Rattle.mutex_home.specs.Mutexes.{Mutex}
 use Rattle.join_home.specs.Tasks.{Task, TaskState, going, let_go, kept, asked, in_pair}
-use Rattle.thread_state.specs.View.{ThreadState}
+use Rattle.thread_state.specs.View.{ThreadState, is_over}
 use Rattle.thread_state.specs.declared.value.Value.{Value}
 use Rattle.thread_state.specs.declared.value.Value.TheVariants as value
 use Rattle.server_msgs.specs.declared.message.Message.{Message}
 use Rattle.server_msgs.specs.declared.message.Message.TheVariants as message
 use Rattle.server_model.specs.Servers.{Server}
-use Rattle.heap_law.specs.Names.{tot}
+use Rattle.heap_law.specs.Names.{tot, if_so}
 use Rattle.heap_law.specs.Things.{sent, queued, noted, at_temp, Thing, borrows, locks, lies, flies, vacant, uses, retired, stands, things_at, is_free, pin_things, slot_things, temp_things, gift_things, walk_things, thread_things, standing_things, message_things, waiting_things, leaving_things, cell_things, free_things, copy_things, content_things, queue_things, mutex_things, task_things, server_things}
 use Rattle.heap_law.specs.Placing.{words}
 use Rattle.heap_law.specs.Naming.{threads, named_mutexes}
@@ -46,6 +46,10 @@ abbrev pub made_of : (ℕ → ℕ) → Thing → ℕ
 made_of f (stands s p t) = f t.made
 made_of f x = 0
 
+abbrev pub going_of : (ℕ → ℕ → ℕ) → Thing → ℕ
+going_of f (stands s p t) = if_so (not (is_over t.phase)) (f t.number t.made)
+going_of f x = 0
+
 abbrev pub loose : ℕ → Thing → ℕ
 loose n (locks (at_temp t i) m) = n
 loose n x = 0
@@ -70,7 +74,7 @@ no_asker (noted s x) = noted_by_none x.state
 no_asker x = refl
 
 abbrev pub stray : Weights → Thing → ℕ
-stray w x = words w.word x + threads w.thread x + named_mutexes w.mutex x + cell_object w.object x + holder_of w.holder x + next_of w.colour x + made_of w.made x + loose w.mark x + asked_of w.asker x
+stray w x = words w.word x + threads w.thread x + named_mutexes w.mutex x + cell_object w.object x + holder_of w.holder x + next_of w.colour x + made_of w.made x + loose w.mark x + asked_of w.asker x + going_of w.going x
 
 -- what a server is before an event
 abbrev pub base_of : Server → Base
@@ -144,28 +148,33 @@ module _ (w : Weights) where
 
   thread_from : (n : ℕ) (p : Bool) (t : ThreadState) → tot f (thread_things n p t) ≡ 0 → ThreadFits w t
   thread_from n p t z =
-      let a = thread_parts n p t in record {
-        named = omega (arith, z, a);
-        made_so = omega (arith, z, a);
-        waits = omega (arith, z, a);
-        given = gift_from t.number t.gift (omega (arith, z, a));
-        walks = all_none f (walk_things n) (WordFits w) (λ i x y. omega (arith, y)) 0 t.walk (omega (arith, z, a));
-        slots_fit = all_none f (slot_things n t.number) (Fits w) (λ i x y. slot_from n t.number i x y) 0 t.slots (omega (arith, z, a));
-        temps_fit = all_none f (temp_things n t.number) (TempFits w) (λ i x y. temp_from n t.number i x y) 0 t.temps (omega (arith, z, a));
-      }
+      let a = thread_parts n p t in (
+        record {
+          named = omega (arith, z, a);
+          made_so = omega (arith, z, a);
+          waits = omega (arith, z, a);
+          given = gift_from t.number t.gift (omega (arith, z, a));
+          walks = all_none f (walk_things n) (WordFits w) (λ i x y. omega (arith, y)) 0 t.walk (omega (arith, z, a));
+          slots_fit = all_none f (slot_things n t.number) (Fits w) (λ i x y. slot_from n t.number i x y) 0 t.slots (omega (arith, z, a));
+          temps_fit = all_none f (temp_things n t.number) (TempFits w) (λ i x y. temp_from n t.number i x y) 0 t.temps (omega (arith, z, a));
+        },
+        omega (arith, z, a),
+      )
 
   thread_to : (n : ℕ) (p : Bool) (t : ThreadState) → ThreadFits w t → tot f (thread_things n p t) ≡ 0
   thread_to n p t g =
+      let fit = g.0 in
       omega (
         arith,
         thread_parts n p t,
-        g.named,
-        g.made_so,
-        g.waits,
-        gift_to t.number t.gift g.given,
-        none_all f (walk_things n) (WordFits w) (λ i x y. omega (arith, y)) 0 t.walk g.walks,
-        none_all f (slot_things n t.number) (Fits w) (λ i x y. slot_to n t.number i x y) 0 t.slots g.slots_fit,
-        none_all f (temp_things n t.number) (TempFits w) (λ i x y. temp_to n t.number i x y) 0 t.temps g.temps_fit,
+        fit.named,
+        fit.made_so,
+        fit.waits,
+        g.1,
+        gift_to t.number t.gift fit.given,
+        none_all f (walk_things n) (WordFits w) (λ i x y. omega (arith, y)) 0 t.walk fit.walks,
+        none_all f (slot_things n t.number) (Fits w) (λ i x y. slot_to n t.number i x y) 0 t.slots fit.slots_fit,
+        none_all f (temp_things n t.number) (TempFits w) (λ i x y. temp_to n t.number i x y) 0 t.temps fit.temps_fit,
       )
 
   -- MESSAGES

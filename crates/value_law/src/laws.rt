@@ -1,15 +1,17 @@
 //! What each event keeps of names, one clause for each sentence.
 
-ghost use Rattle.heap_law.specs.Coherent.{askers_stand, below_limit, counts_from_one, few_names, holders_short, marks_in_slots, names_counted, return_right};
+ghost use Rattle.heap_law.specs.Coherent.{askers_stand, below_limit, counts_from_one, few_names, holders_short, marks_in_slots, names_counted, objects_made, return_right};
 ghost use Rattle.local_law.specs.Laws.{EachCoherentEventKeeps, EachEventKeeps};
 
 /// What all that is named keeps in a sound cluster, wherever it stands: each word has a colour below the limit, and so has what comes next at a free address; the count of
-/// each thread and of each mutex is at most what its home has come to, and none is 0 but that of main; and few names were given.
+/// each thread and of each mutex is at most what its home has come to, and none is 0 but that of main; few names were given; and the number of an object is below what its
+/// thread has made, where that goes on.
 pub fn names_keep()
     ensures below_limit { EachEventKeeps below_limit }
     ensures names_counted { EachEventKeeps names_counted }
     ensures counts_from_one { EachEventKeeps counts_from_one }
     ensures few_names { EachEventKeeps few_names }
+    ensures objects_made { EachEventKeeps objects_made }
 {}
 
 /// What is told of who asks, in a sound cluster: a request, a place in a queue and a noted asker name the server where their thread stands, and an answer goes there.
