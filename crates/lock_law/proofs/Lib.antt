@@ -1,6 +1,8 @@
 pub mod Reach
 pub mod Beside
+pub mod TwoSights
 pub mod OneThread
+pub mod NotGiven
 pub mod OneNode
 pub mod OneMutex
 pub mod Change

@@ -1,43 +1,37 @@
 -- One thread goes on, with other things beside it: where the places of locks lead as before, who owns the other things stays, and so do results, lives and names.
-use Rattle.std.proofs.Common.{◌≡◌, ◌≢◌, ℕ, zero, suc, ◌+◌, ◌==◌, ◌||◌, ◌≤◌, not, Bool, true, false, if◌then◌else◌, List, [], ◌∷◌, Option, Some, None, is_some, refl, sym, ap, ap₂, ◌∙◌, subst, arith}
+use Rattle.std.proofs.Common.{◌≡◌, ◌≢◌, ℕ, zero, suc, ◌+◌, ◌==◌, ◌||◌, ◌≤◌, not, Bool, true, false, if◌then◌else◌, List, [], ◌∷◌, Option, Some, None, refl, sym, ap, ap₂, ◌∙◌, subst, arith}
 use Rattle.std.specs.Prelude.{◌%◌, ◌^◌, ◌&&◌}
 use Rattle.std.specs.List.{AllByRecursion}
 use Rattle.fr_typing.proofs.PlaceLemmas.{eq_cases}
 use Rattle.fr_base.specs.declared.name.MutexNo.{MutexNo}
 use Rattle.fr_base.specs.declared.name.ObjNo.{ObjNo}
 use Rattle.fr_base.specs.declared.label.Plain.TheVariants as plain
-use Rattle.fr_base.specs.declared.instruction.Instr.{Instr}
-use Rattle.fr_base.specs.declared.instruction.Instr.TheVariants as instr
 use Rattle.fr_code.specs.Machine.{CodeState, CodeRunning}
-use Rattle.heap_partition.specs.Plain.{plain_of}
-use Rattle.heap_partition.specs.declared.value.Owned.TheVariants as owned
 use Rattle.thread_state.specs.View.{ThreadState, is_over}
 use Rattle.thread_state.specs.declared.phase.Phase.{Phase}
 use Rattle.thread_state.specs.declared.phase.Phase.TheVariants as phase
 use Rattle.thread_state.specs.declared.value.Value.{Value}
-use Rattle.thread_state.specs.declared.value.Value.TheVariants as value
 use Rattle.server_model.specs.Servers.{Cluster}
-use Rattle.heap_law.specs.Names.{tot, one, other, some, if_so}
-use Rattle.heap_law.specs.Things.{in_slot, in_temp, as_gift, as_content, as_result, in_hand, Thing, holds, stands, noted}
-use Rattle.heap_law.specs.Follow.{Standing, threads_in, thread_at, cells_in, cell_of, value_of, slot_of, value_behind, leads, locate}
+use Rattle.heap_law.specs.Names.{tot, one, some, if_so}
+use Rattle.heap_law.specs.Things.{Thing, stands, noted}
+use Rattle.heap_law.specs.Follow.{Standing, threads_in, thread_at, cells_in, cell_of, value_of}
 use Rattle.heap_law.specs.Sight.{Sight, with_things}
 use Rattle.heap_law.specs.Walking.{instr_of}
-use Rattle.heap_law.specs.Requests.{home_of, mutex_of, locked_mutex, is_mutex}
+use Rattle.heap_law.specs.Requests.{home_of, locked_mutex}
 use Rattle.heap_law.specs.Sharing.{got_phase, has_ended}
 use Rattle.heap_law.specs.Naming.{started_at, made_at}
 use Rattle.heap_law.specs.Weights.{is_thread}
-use Rattle.heap_law.specs.OneHeap.{Node, object_n, mutex_n, task_n, Owner, a_thread, inside, outside, content_owner, gift_owner, gift_owner_of, owner_of, names, owner_in, is_in_state, if_in, cell_value, or_else, first_shown, object_value, is_gift_of, content_value, share_in, if_there, in_pair_of, is_branch, branch_result, is_joined_by, result_value, result_of, ended_with, running_at, life_of, life_at, made_of, two_in, pair_of, is_given_thread, is_given_mutex, if_given, state_of}
-use Rattle.still_law.proofs.Alike.{Once, SeenAt, LocksSeeIn, all_seen}
-use Rattle.still_law.proofs.Counting.{shown_result, gifted, stray}
+use Rattle.heap_law.specs.OneHeap.{Node, object_n, mutex_n, task_n, Owner, a_thread, inside, outside, owner_of, names, owner_in, is_in_state, if_in, cell_value, or_else, first_shown, object_value, content_value, share_in, if_there, in_pair_of, is_branch, branch_result, result_value, result_of, ended_with, running_at, life_of, life_at, made_of, two_in, pair_of, is_given_thread, is_given_mutex, if_given, state_of}
+use Rattle.still_law.proofs.Alike.{Once, LocksSeeIn}
+use Rattle.still_law.proofs.Counting.{shown_result, stray}
 use Rattle.still_law.proofs.Told.{told, ones}
 use Rattle.path_law.proofs.Contained.{among_thread}
 use Rattle.turn_law.proofs.Parts.{Own, owned_in}
 use Rattle.turn_law.proofs.OneTurn.{Going, as_loose, as_owing, life_as, going_of, going_is, of_thread, Calm, after}
 use Rattle.lock_law.proofs.Reach.{SameOwners, NoneUnder, with_extra}
+pub use Rattle.lock_law.proofs.TwoSights.{first_alike, tot_alike}
+use Rattle.lock_law.proofs.TwoSights as two
 use Rattle.lock_law.proofs.Beside.{giftless, IsBeside, me, all_of, first_of, tot_of, shares_of, itself, besides}
-
-differs : (t u : ℕ) → one (u == t) ≡ 0 → t ≢ u
-differs t u = eq_cases (λ b. one b ≡ 0 → t ≢ u) u t (λ e z. absurd (cc z)) (λ ne z e. ne (sym e))
 
 pub none_got : (t : ℕ) (p : Phase) → two_in p ≡ None → got_phase t p ≡ 0
 none_got t (phase.GotPar a b) e = absurd (cc e)
@@ -51,14 +45,6 @@ past x pc slots temps = giftless (after x pc slots temps)
 abbrev pub next : ThreadState → ThreadState → ThreadState
 next x z = record z { number = x.number; gift = None }
 
-pub first_alike : {X : Type 0} (t : ℕ) (f g : Thing → Option X) → ((x : Thing) → of_thread t x ≡ 0 → f x ≡ g x) → (xs : List Thing) → tot (of_thread t) xs ≡ 0 → first_shown f xs ≡ first_shown g xs
-first_alike t f g e [] z = refl
-first_alike t f g e (x ∷ xs) z = ap₂ or_else (e x (omega (arith, z))) (first_alike t f g e xs (omega (arith, z)))
-
-pub tot_alike : (t : ℕ) (f g : Thing → ℕ) → ((x : Thing) → of_thread t x ≡ 0 → f x ≡ g x) → (xs : List Thing) → tot (of_thread t) xs ≡ 0 → tot f xs ≡ tot g xs
-tot_alike t f g e [] z = refl
-tot_alike t f g e (x ∷ xs) z = ap₂ (λ a b. a + b) (e x (omega (arith, z))) (tot_alike t f g e xs (omega (arith, z)))
-
 -- where such nodes may have come, each other one is in the state as before
 pub same_but : (f g extra : Node → Bool) → ((q : Node) → g q ≡ with_extra f extra q) → (q : Node) → extra q ≡ false → f q ≡ g q
 same_but f g extra then_in q e = by (f q) refl ∙ sym (then_in q)
@@ -66,10 +52,6 @@ same_but f g extra then_in q e = by (f q) refl ∙ sym (then_in q)
     by : (c : Bool) → f q ≡ c → f q ≡ (f q || extra q)
     by true d = d ∙ sym (ap (λ c. c || extra q) d)
     by false d = d ∙ sym (ap₂ (λ c w. c || w) d e)
-
-all_alike : (t : ℕ) (P : Thing → Type 0) → ((x : Thing) → of_thread t x ≡ 0 → P x) → (xs : List Thing) → tot (of_thread t) xs ≡ 0 → AllByRecursion P xs
-all_alike t P e [] z = tt
-all_alike t P e (x ∷ xs) z = (e x (omega (arith, z)), all_alike t P e xs (omega (arith, z)))
 
 -- one thread goes on from its place in the plain state, and the others are as they were. (How many objects it has made is told apart)
 pub record GoesOn (t : ℕ) (p q : CodeRunning) (a b : CodeState) : Type 0 where
@@ -107,68 +89,20 @@ module _ (k : Cluster) (R G G2 : List Thing) (n : ℕ) (x became : ThreadState) 
     pub other_seen : (u : ℕ) → t ≢ u → thread_at (threads_in a) u ≡ thread_at (threads_in b) u
     other_seen u ne = besides n x G R beside u ne ∙ sym (besides n y G2 R beside2 u ne)
 
-    -- WHERE THE CELLS THAT THE PLACES OF LOCKS PASS STAY, THESE LEAD AS BEFORE
-
-    module _ (seen : ObjNo → Bool) (cells : (o : ObjNo) → seen o ≡ true → value_of (cell_of (cells_in a) o) ≡ value_of (cell_of (cells_in b) o)) (paths : LocksSeeIn seen s) where
-      module _ (u : ℕ) (ne : t ≢ u) where
-        slot_same : (i : ℕ) → slot_of (thread_at (threads_in a) u) i ≡ slot_of (thread_at (threads_in b) u) i
-        slot_same i = ap (λ o. slot_of o i) (other_seen u ne)
-
-        lead_same : (v : Option Value) → SeenAt seen (leads u v) → value_behind s.ground (leads u v) ≡ value_behind s2.ground (leads u v)
-        lead_same None p = refl
-        lead_same (Some value.Gone) p = refl
-        lead_same (Some (value.Own (owned.Box b))) p = cells b.object p
-        lead_same (Some (value.Own owned.Nothing)) p = refl
-        lead_same (Some (value.Own owned.Unit)) p = refl
-        lead_same (Some (value.Own (owned.Int i))) p = refl
-        lead_same (Some (value.Own (owned.Mutex m))) p = refl
-        lead_same (Some (value.Own (owned.Task w))) p = refl
-        lead_same (Some (value.SharedSlot i)) p = slot_same i
-        lead_same (Some (value.MutSlot i)) p = slot_same i
-        lead_same (Some (value.Shared r)) p = cells r.object p
-        lead_same (Some (value.Mut r)) p = cells r.object p
-        lead_same (Some (value.Held m)) p = refl
-
-        behind_same : (slot d : ℕ) → ((m : ℕ) → m ≤ d → SeenAt seen (locate s.ground u slot m)) → value_behind s.ground (locate s.ground u slot d) ≡ value_behind s2.ground (locate s2.ground u slot d)
-        behind_same slot zero p = slot_same slot
-        behind_same slot (suc d) p =
-            lead_same (value_behind s.ground (locate s.ground u slot d)) (p (suc d) (omega arith)) ∙ ap (λ w. value_behind s2.ground (leads u w)) (behind_same slot d (λ m l. p m (omega (arith, l))))
-
-      lock_leads : (u : ℕ) (w : Standing) → t ≢ w.thread.number → thread_at (threads_in a) u ≡ Some w → (i : Option Instr) → instr_of s w ≡ i → locked_mutex s w i ≡ locked_mutex s2 w i
-      lock_leads u w ne found (Some (instr.Lock p)) e = ap mutex_of (behind_same w.thread.number ne p.slot p.depth (paths u w p found e))
-      lock_leads u w ne found _ e = refl
-
-      pub locks_lead : LocksStay
-      locks_lead u w ne found = lock_leads u w ne found (instr_of s w) refl
+    -- where the cells that the places of locks pass stay, these lead as before
+    pub locks_lead : (seen : ObjNo → Bool) → ((o : ObjNo) → seen o ≡ true → value_of (cell_of (cells_in a) o) ≡ value_of (cell_of (cells_in b) o)) → LocksSeeIn seen s → LocksStay
+    locks_lead = two.locks_lead k a b t other_seen
 
     pub locks_stay : cells_in a ≡ cells_in b → LocksStay
-    locks_stay same = locks_lead (λ o. true) (λ o z. ap (λ cs. value_of (cell_of cs o)) same) (λ u w p found e m l. all_seen (locate s.ground w.thread.number p.slot m))
+    locks_stay = two.locks_stay k a b t other_seen
 
     -- a gift has its thread as before
     pub stray_stays : tot (stray s) R ≡ tot (stray s2) R
-    stray_stays = tot_alike t (stray s) (stray s2) by R lone
-      where
-        by : (th : Thing) → of_thread t th ≡ 0 → stray s th ≡ stray s2 th
-        by (holds (as_gift u) v) z = ap (λ o. other (gifted o)) (other_seen u (differs t u z))
-        by (holds (in_slot u i) v) z = refl
-        by (holds (in_temp u i) v) z = refl
-        by (holds (as_content m) v) z = refl
-        by (holds (as_result u) v) z = refl
-        by (holds in_hand v) z = refl
-        by _ z = refl
+    stray_stays = tot_alike t (stray s) (stray s2) (two.stray_alike k a b t other_seen) R lone
 
     module _ (locks : LocksStay) where
-      gift_owned : (w : Standing) (i : Option Instr) → locked_mutex s w i ≡ locked_mutex s2 w i → gift_owner s w i ≡ gift_owner s2 w i
-      gift_owned w (Some (instr.Lock p)) e = ap content_owner e
-      gift_owned w _ e = refl
-
-      -- what is the same of a thread that is found
       by_seen : {X : Type 0} (f g : Option Standing → X) → f None ≡ g None → (u : ℕ) → ((w : Standing) → t ≢ w.thread.number → thread_at (threads_in a) u ≡ Some w → f (Some w) ≡ g (Some w)) → t ≢ u → f (thread_at (threads_in a) u) ≡ g (thread_at (threads_in b) u)
-      by_seen f g e u h ne = by (thread_at (threads_in a) u) refl ∙ ap g (other_seen u ne)
-        where
-          by : (o : Option Standing) → thread_at (threads_in a) u ≡ o → f o ≡ g o
-          by None q = e
-          by (Some w) q = h w (λ d. ne (d ∙ (among_thread (threads_in a) u w q).1)) q
+      by_seen = two.by_seen k a b t other_seen
 
       -- what is the same of each thread, also of the one whose turn it is
       for_all : {X : Type 0} (f g : Option Standing → X) → f (Some (me n x G)) ≡ g (Some (me n y G2)) → f None ≡ g None → ((z : Standing) → f (Some z) ≡ g (Some z)) → (u : ℕ) → f (thread_at (threads_in a) u) ≡ g (thread_at (threads_in b) u)
@@ -191,37 +125,14 @@ module _ (k : Cluster) (R G G2 : List Thing) (n : ℕ) (x became : ThreadState) 
         pub made_others : (u : ℕ) → t ≢ u → (state_of s).made u ≡ (state_of s2).made u
         made_others u ne = ap made_of (other_seen u ne)
 
-      pub owner_stays : (th : Thing) → of_thread t th ≡ 0 → owner_of s th ≡ owner_of s2 th
-      owner_stays (holds (as_gift u) v) e = by_seen (gift_owner_of s) (gift_owner_of s2) refl u (λ w ne q. gift_owned w (instr_of s w) (locks u w ne q)) (differs t u e)
-      owner_stays (holds (in_slot u i) v) z = refl
-      owner_stays (holds (in_temp u i) v) z = refl
-      owner_stays (holds (as_content m) v) z = refl
-      owner_stays (holds (as_result u) v) z = refl
-      owner_stays (holds in_hand v) z = refl
-      owner_stays _ z = refl
-
       pub content_stays : (m : MutexNo) (th : Thing) → of_thread t th ≡ 0 → content_value s m th ≡ content_value s2 m th
-      content_stays m (holds (as_gift u) v) e =
-          ap (λ q. if_in q (Some (plain_of v)))
-          (by_seen (is_gift_of s m) (is_gift_of s2 m) refl u (λ w ne q. ap (λ o. some (if_so (is_some w.thread.gift) (one (is_mutex m o)))) (locks u w ne q)) (differs t u e))
-      content_stays m (holds (in_slot u i) v) z = refl
-      content_stays m (holds (in_temp u i) v) z = refl
-      content_stays m (holds (as_content w) v) z = refl
-      content_stays m (holds (as_result u) v) z = refl
-      content_stays m (holds in_hand v) z = refl
-      content_stays m _ z = refl
+      content_stays = two.content_stays k a b t other_seen locks
 
       pub result_stays : (r : ℕ) (th : Thing) → of_thread t th ≡ 0 → result_value s r th ≡ result_value s2 r th
-      result_stays r (holds (as_gift u) v) e = ap (λ q. if_in q (Some (plain_of v))) (by_seen (is_joined_by s r) (is_joined_by s2 r) refl u (λ w ne q. refl) (differs t u e))
-      result_stays r (holds (in_slot u i) v) z = refl
-      result_stays r (holds (in_temp u i) v) z = refl
-      result_stays r (holds (as_content w) v) z = refl
-      result_stays r (holds (as_result u) v) z = refl
-      result_stays r (holds in_hand v) z = refl
-      result_stays r _ z = refl
+      result_stays = two.result_stays k a b t other_seen locks
 
       pub same_owners : SameOwners s s2 R
-      same_owners = all_alike t (λ th. owner_of s th ≡ owner_of s2 th) owner_stays R lone
+      same_owners = two.same_owners k a b t other_seen locks R lone
 
       -- what only the others show
       pub first_same : {X : Type 0} (f g : Thing → Option X) → Own (λ v. f v ≡ None) → Own (λ v. g v ≡ None) → f (stands n false x) ≡ None → g (stands n false y) ≡ None → first_shown f G ≡ first_shown g G2

@@ -69,7 +69,8 @@ of_thread t (stands s p x) = one (x.number == t)
 of_thread t (holds (as_gift u) v) = one (u == t)
 of_thread t x = 0
 
-none_at : (t : ℕ) (xs : List Thing) → tot (of_thread t) xs ≡ 0 → thread_at (threads_in xs) t ≡ None
+-- no thread of it is found
+pub none_at : (t : ℕ) (xs : List Thing) → tot (of_thread t) xs ≡ 0 → thread_at (threads_in xs) t ≡ None
 none_at t [] z = refl
 none_at t (stands s p x ∷ xs) z =
     eq_cases (λ b. one b + tot (of_thread t) xs ≡ 0 → (if b then Some (record { server = s; packed = p; thread = x }) else thread_at (threads_in xs) t) ≡ None) x.number t (λ _ l. absurd (omega (arith, l))) (λ _ l. none_at t xs (omega (arith, l))) z
