@@ -40,43 +40,30 @@ fn bodies_are_put_into_code(rt: HostRuntime) -> Result<(), Fail> {
 }
 
 #[test]
-fn captures_are_kept_in_order(rt: HostRuntime) -> Result<(), Fail> {
+fn lists_and_numbers(rt: HostRuntime) -> Result<(), Fail> {
     let mut captures = Captures::new(rt.alloc());
     captures.reserve(1)?;
     captures.push((3, true))?;
     captures.push((1, false))?;
-    assert_eq!(rt; captures.len(), 2);
-    assert_eq!(rt; captures.at(0), Some(&(3, true)));
-    assert_eq!(rt; captures.at(1), Some(&(1, false)));
-    assert_eq!(rt; captures.at(2), None);
-    Ok(())
-}
-
-#[test]
-fn waits_are_kept_in_order(rt: HostRuntime) -> Result<(), Fail> {
+    assert_eq!(rt; captures.as_slice(), [(3, true), (1, false)].as_slice());
+    assert_eq!(rt;
+        (captures.len(), captures.at(1), captures.at(2)),
+        (2, Some(&(1, false)), None)
+    );
+    let thread = ThreadNo::new(3, 5);
     let mut waits = Waits::new(rt.alloc());
     waits.reserve(1)?;
-    let thread = ThreadNo::new(0, 1);
     waits.push((ThreadNo::new(0, 0), Wait::Join(thread)))?;
     waits.push((thread, Wait::Par(thread, thread)))?;
-    assert_eq!(rt; waits.len(), 2);
-    assert_eq!(rt; waits.at(1), Some(&(thread, Wait::Par(thread, thread))));
-    assert_eq!(rt; waits.at(2), None);
-    Ok(())
-}
-
-#[test]
-fn kinds_have_numbers(rt: HostRuntime) -> Result<(), Fail> {
-    assert_eq!(rt; Kind::Fetch.number(), 0);
-    assert_eq!(rt; Kind::Release.number(), 10);
-    assert_eq!(rt; Kind::Migrate.number(), 15);
-    Ok(())
-}
-
-#[test]
-fn threads_are_numbers(rt: HostRuntime) -> Result<(), Fail> {
-    let thread = ThreadNo::new(3, 5);
+    let last = (thread, Wait::Par(thread, thread));
+    assert_eq!(rt;
+        (waits.len(), waits.at(1), waits.at(2)),
+        (2, Some(&last), None)
+    );
     assert_eq!(rt; thread.number(), 12_884_901_893);
     assert_eq!(rt; ThreadNo::from_number(12_884_901_893), thread);
+    for (kind, number) in [(Kind::Fetch, 0), (Kind::Release, 10), (Kind::Migrate, 15)] {
+        assert_eq!(rt; kind.number(), number);
+    }
     Ok(())
 }

@@ -28,22 +28,52 @@ fn take(map: &mut RankMap<u64>, key: u64, whole: bool) -> Result<Option<u64>, No
     }
 }
 
+const LAST: u64 = 1_099_511_627_775;
+
+// What is done at a key.
+#[derive(Clone, Copy)]
+enum Do {
+    Put(u64),
+    Take(bool),
+}
+
+// What is done at which key, the item that comes out, and the keys of the items that are there then, by their ranks.
+const STEPS: [(Do, u64, Option<u64>, &[u64]); 7] = [
+    (Do::Put(50), 5, None, &[5]),
+    (Do::Put(30), 3, None, &[3, 5]),
+    (Do::Put(90), LAST, None, &[3, 5, LAST]),
+    (Do::Put(31), 3, Some(30), &[3, 5, LAST]),
+    (Do::Take(false), 5, Some(50), &[3, LAST]),
+    (Do::Take(true), 3, Some(31), &[LAST]),
+    (Do::Put(51), 5, None, &[5, LAST]),
+];
+
 #[test]
 fn finds_by_key_and_by_rank(rt: HostRuntime) -> Result<(), Fail> {
-    let last = 1_099_511_627_775;
     let mut map = RankMap::new(rt.alloc());
-    assert_eq!(rt; put(&mut map, 5, 50)?, None);
-    assert_eq!(rt; put(&mut map, 3, 30)?, None);
-    assert_eq!(rt; put(&mut map, last, 90)?, None);
-    assert_eq!(rt; put(&mut map, 3, 31)?, Some(30));
-    assert_eq!(rt; (map.nth(0), map.nth(1)), (Some(3), Some(5)));
-    assert_eq!(rt; (map.nth(2), map.nth(3)), (Some(last), None));
-    assert_eq!(rt; take(&mut map, 5, false)?, Some(50));
-    assert!(rt; map.get(5).is_none() && map.get(3) == Some(&31));
-    assert_eq!(rt; take(&mut map, 3, true)?, Some(31));
-    assert_eq!(rt; (map.len(), map.nth(0)), (1, Some(last)));
-    assert_eq!(rt; put(&mut map, 5, 51)?, None);
-    assert_eq!(rt; map.nth(0), Some(5));
+    for (step, key, want, ranks) in STEPS {
+        assert!(rt; key <= LAST);
+        let out = match step {
+            Do::Put(item) => put(&mut map, key, item)?,
+            Do::Take(whole) => take(&mut map, key, whole)?,
+        };
+        assert_eq!(rt; out, want);
+        for rank in 0..ranks.len() {
+            assert_eq!(rt; map.nth(rank), Some(ranks[rank]));
+            assert!(rt; map.get(ranks[rank]).is_some());
+        }
+        assert_eq!(rt; map.nth(ranks.len()), None);
+        assert_eq!(rt; map.len(), ranks.len());
+        let kept = match step {
+            Do::Put(item) => Some(item),
+            Do::Take(_) => None,
+        };
+        let there = match map.get(key) {
+            Some(item) => Some(*item),
+            None => None,
+        };
+        assert_eq!(rt; there, kept);
+    }
     Ok(())
 }
 
