@@ -1,11 +1,10 @@
 -- The text of a program bounds its steps: a token pays for each, and each token has a byte.
 use Rattle.std.proofs.Common.{◌≡◌, ℕ, zero, suc, ◌+◌, ◌<◌, ◌≤◌, ◌^◌, Bool, true, false, List, [], ◌∷◌, length, take, drop, refl, sym, ap, ap₂, ◌∙◌, inl, inr, arith, length-append}
 use Rattle.std.proofs.lemmas.List.{take-append-drop}
-use Rattle.fr_terms.specs.Terms.{Text, Term, block_t, let_t, assign_t, read_t, borrow_t, borrow_mut_t, arith_t, number_t, unit_t, box_t, print_t, join_t, spawn_t, Captured, Items, none, item}
-use Rattle.fr_typing.specs.Threaded.{IsThreaded, AreThreaded}
+use Rattle.fr_terms.specs.Terms.{Text, Term, block_t, let_t, assign_t, read_t, borrow_t, borrow_mut_t, arith_t, number_t, unit_t, box_t, print_t, join_t, mutex_t, dup_t, lock_t, spawn_t, par_t, Captured, Items, none, item}
 use Rattle.fr_typing.specs.Places.{Env}
 use Rattle.fr_syntax.specs.declared.kind.TokenKind.{TokenKind}
-use Rattle.fr_syntax.specs.declared.kind.TokenKind.TheVariants.{Name, End, LetWord, MutWord, BoxWord, PrintWord, SpawnWord, JoinWord, OpenBrace, CloseBrace, OpenParen, CloseParen, Semicolon, Comma, Equals, Amp, Star}
+use Rattle.fr_syntax.specs.declared.kind.TokenKind.TheVariants.{Name, End, LetWord, MutWord, BoxWord, PrintWord, SpawnWord, JoinWord, MutexWord, DupWord, LockWord, AsWord, ParWord, OpenBrace, CloseBrace, OpenParen, CloseParen, Semicolon, Comma, Equals, Amp, Star}
 use Rattle.fr_syntax.specs.declared.token.Token.{Token}
 use Rattle.fr_syntax.specs.Text.{blanks, text_len}
 use Rattle.fr_syntax.specs.Tokens.{unblanked, first_text, after_text, names_after, Leads, end_at, AreTokens}
@@ -15,8 +14,8 @@ use Rattle.fr_parse.proofs.Complete.{takes_some}
 use Rattle.fr_plain.specs.Run.{Run, temp, unit_c, number, read, borrow, box_r, arith as arith_r, bind, print, assign, block, spawn, join_r, mutex_r, dup, lock, locked, par, par_end, Parts, last, more, Now, going, constant, temporary, now, settle_more, settle_right, close_last, close, settle, settle_parts, alive, one_if_temporary, leaves, leaves_last, steps_left, steps_in, life_left}
 use Rattle.fr_typing.specs.Finding.{env_after}
 use Rattle.fr_typing.specs.Typing.{typing}
-use Rattle.fr_typing.specs.Captures.{by_spawn, env_of_all}
-use Rattle.fr_plain.specs.Resolve.{lets_in, lets, before, resolve, resolve_items, program}
+use Rattle.fr_typing.specs.Captures.{by_spawn, by_par, env_of_all, env_left_by_all}
+use Rattle.fr_plain.specs.Resolve.{lets_in, lets, dropping, env_locked, before, resolve, resolve_items, program}
 
 -- TOKENS PAY FOR STEPS
 
@@ -51,50 +50,77 @@ one_at_most false = omega arith
 unit_is_free : (first : Term) (items : Items) (place : ℕ) (e : Env) → first ≡ unit_t place → items ≡ none → steps_in (resolve_items (item first items) e) + lets (item first items) ≡ 0
 unit_is_free first items place e unit over = ap₂ (λ t ts. steps_in (resolve_items (item t ts) e) + lets (item t ts)) unit over
 
+-- a lock's body drops what it declares
+dropping_steps : (k : ℕ) (r : Run) → steps_left (dropping k r) ≡ steps_left r + k
+dropping_steps zero r = omega arith
+dropping_steps (suc k) r = omega arith
+
 mutual
   -- a term has a token for each of its steps, and for each variable that it declares in the block around it
-  term_pays : (names : List Text) (b : Bool) (t : Term) (ts rest : List Token) (e : Env) → Spells names b t ts rest → IsThreaded t → steps_left (resolve t e) + lets_in t + length rest ≤ length ts
-  term_pays names b (let_t at name value) ts rest e (x, y, z, w, is, begins, mut, named, eq, h) ok =
-      omega (arith, has_one LetWord ts x begins.0, has_one MutWord x y mut, has_one (Name named.0) y z named.2, has_one Equals z w eq, term_pays names false value w rest e h ok)
-  term_pays names b (block_t at items) ts rest e (x, begins, h) ok = omega (arith, has_one OpenBrace ts x begins.0, items_pay names items x rest e h ok)
-  term_pays names b (read_t at from) ts rest e h ok = omega (arith, path_has_one names from.stars from.name ts rest h.1.1)
-  term_pays names b (assign_t at to value) ts rest e (x, y, same, place, eq, h) ok =
-      omega (arith, path_has_one names to.stars to.name ts x place.1, has_one Equals x y eq, term_pays names false value y rest e h ok)
-  term_pays names b (box_t at value) ts rest e (x, begins, h) ok = omega (arith, has_one BoxWord ts x begins.0, term_pays names false value x rest e h ok)
-  term_pays names b (print_t at value) ts rest e (x, begins, h) ok = omega (arith, has_one PrintWord ts x begins.0, term_pays names false value x rest e h ok)
-  term_pays names b (join_t at task) ts rest e (x, begins, h) ok = omega (arith, has_one JoinWord ts x begins.0, term_pays names false task x rest e h ok)
+  term_pays : (names : List Text) (b : Bool) (t : Term) (ts rest : List Token) (e : Env) → Spells names b t ts rest → steps_left (resolve t e) + lets_in t + length rest ≤ length ts
+  term_pays names b (let_t at name value) ts rest e (x, y, z, w, is, begins, mut, named, eq, h) =
+      omega (arith, has_one LetWord ts x begins.0, has_one MutWord x y mut, has_one (Name named.0) y z named.2, has_one Equals z w eq, term_pays names false value w rest e h)
+  term_pays names b (block_t at items) ts rest e (x, begins, h) = omega (arith, has_one OpenBrace ts x begins.0, items_pay names items x rest e h)
+  term_pays names b (read_t at from) ts rest e h = omega (arith, path_has_one names from.stars from.name ts rest h.1.1)
+  term_pays names b (assign_t at to value) ts rest e (x, y, same, place, eq, h) =
+      omega (arith, path_has_one names to.stars to.name ts x place.1, has_one Equals x y eq, term_pays names false value y rest e h)
+  term_pays names b (box_t at value) ts rest e (x, begins, h) = omega (arith, has_one BoxWord ts x begins.0, term_pays names false value x rest e h)
+  term_pays names b (print_t at value) ts rest e (x, begins, h) = omega (arith, has_one PrintWord ts x begins.0, term_pays names false value x rest e h)
+  term_pays names b (join_t at task) ts rest e (x, begins, h) = omega (arith, has_one JoinWord ts x begins.0, term_pays names false task x rest e h)
   -- a new thread's steps, the drops of its captures, its end and its start
-  term_pays names b (spawn_t at captures body) ts rest e (x, y, begins, list, is_block, h) ok =
-      omega (arith, has_one SpawnWord ts x begins.0, captures_pay names captures x y list, term_pays names false body y rest (env_of_all by_spawn e captures) h ok)
-  term_pays names b (borrow_t at of) ts rest e (x, begins, place) ok = omega (arith, has_one Amp ts x begins.0, path_has_one names of.stars of.name x rest place.1)
-  term_pays names b (borrow_mut_t at of) ts rest e (x, y, begins, mut, place) ok =
+  term_pays names b (spawn_t at captures body) ts rest e (x, y, begins, list, is_block, h) =
+      omega (arith, has_one SpawnWord ts x begins.0, captures_pay names captures x y list, term_pays names false body y rest (env_of_all by_spawn e captures) h)
+  term_pays names b (borrow_t at of) ts rest e (x, begins, place) = omega (arith, has_one Amp ts x begins.0, path_has_one names of.stars of.name x rest place.1)
+  term_pays names b (borrow_mut_t at of) ts rest e (x, y, begins, mut, place) =
       omega (arith, has_one Amp ts x begins.0, has_one MutWord x y mut, path_has_one names of.stars of.name y rest place.1)
-  term_pays names b (arith_t at op left right) ts rest e (x, y, z, w, begins, h, mark, g, close) ok =
+  term_pays names b (arith_t at op left right) ts rest e (x, y, z, w, begins, h, mark, g, close) =
       omega (
         arith,
         has_one OpenParen ts x begins.0,
-        term_pays names false left x y e h ok.0,
+        term_pays names false left x y e h,
         has_one (mark_of_op op) y z mark,
-        term_pays names false right z w (env_after (typing left e)) g ok.1,
+        term_pays names false right z w (env_after (typing left e)) g,
         has_one CloseParen w rest close,
       )
-  term_pays names b (number_t at value) ts rest e h ok = omega (arith, takes_some names b (number_t at value) ts rest h)
-  term_pays names b (unit_t at) ts rest e (x, begins, h) ok = omega (arith, has_one OpenParen ts x begins.0, has_one CloseParen x rest h)
-  term_pays names b t ts rest e h ok = absurd ok
+  term_pays names b (number_t at value) ts rest e h = omega (arith, takes_some names b (number_t at value) ts rest h)
+  term_pays names b (unit_t at) ts rest e (x, begins, h) = omega (arith, has_one OpenParen ts x begins.0, has_one CloseParen x rest h)
+  term_pays names b (mutex_t at value) ts rest e (x, begins, h) = omega (arith, has_one MutexWord ts x begins.0, term_pays names false value x rest e h)
+  term_pays names b (dup_t at of) ts rest e (x, begins, place) = omega (arith, has_one DupWord ts x begins.0, path_has_one names of.stars of.name x rest place.1)
+  -- a lock, its body's steps, the drops of what the body declares, and the unlock
+  term_pays names b (lock_t at of name body) ts rest e (x, y, z, w, begins, place, mark, named, is_block, h) =
+      omega (
+        arith,
+        has_one LockWord ts x begins.0,
+        path_has_one names of.stars of.name x y place.1,
+        has_one AsWord y z mark,
+        has_one (Name named.0) z w named.2,
+        dropping_steps (lets_in body) (resolve body (env_locked e of name)),
+        term_pays names false body w rest (env_locked e of name) h,
+      )
+  -- the steps of both threads, the drops of their captures, their ends, and the start and the end of the pair
+  term_pays names b (par_t at captures body others other) ts rest e (x, y, z, w, begins, list, is_block, h, rest_list, is_other, g) =
+      omega (
+        arith,
+        has_one ParWord ts x begins.0,
+        captures_pay names captures x y list,
+        term_pays names false body y z (env_of_all by_par e captures) h,
+        captures_pay names others z w rest_list,
+        term_pays names false other w rest (env_of_all by_par (env_left_by_all by_par e captures) others) g,
+      )
 
   -- the items of a block have a token for each of their steps, and for each variable that the block drops
-  items_pay : (names : List Text) (items : Items) (ts rest : List Token) (e : Env) → SpellsItems names items ts rest → AreThreaded items → steps_in (resolve_items items e) + lets items + length rest ≤ length ts
-  items_pay names none ts rest e h ok = omega (arith, has_one CloseBrace ts rest h)
-  items_pay names (item first items) ts rest e (x, h, next) ok =
-      omega (arith, term_pays names true first ts x e h ok.0, more_pay names items (resolve first e) x rest (env_after (typing first e)) next ok.1)
+  items_pay : (names : List Text) (items : Items) (ts rest : List Token) (e : Env) → SpellsItems names items ts rest → steps_in (resolve_items items e) + lets items + length rest ≤ length ts
+  items_pay names none ts rest e h = omega (arith, has_one CloseBrace ts rest h)
+  items_pay names (item first items) ts rest e (x, h, next) =
+      omega (arith, term_pays names true first ts x e h, more_pay names items (resolve first e) x rest (env_after (typing first e)) next)
 
   -- and so do those behind an item, where a semicolon pays for the value that the item leaves
-  more_pay : (names : List Text) (items : Items) (r : Run) (ts rest : List Token) (e : Env) → SpellsMore names items ts rest → AreThreaded items →
+  more_pay : (names : List Text) (items : Items) (r : Run) (ts rest : List Token) (e : Env) → SpellsMore names items ts rest →
       steps_in (before items r (resolve_items items e)) + lets items + length rest ≤ steps_left r + length ts
-  more_pay names none r ts rest e h ok = omega (arith, has_one CloseBrace ts rest h)
-  more_pay names (item first items) r ts rest e (x, mark, inl (y, h, next)) ok =
-      omega (arith, one_at_most (leaves r), has_one Semicolon ts x mark, term_pays names true first x y e h ok.0, more_pay names items (resolve first e) y rest (env_after (typing first e)) next ok.1)
-  more_pay names (item first items) r ts rest e (x, mark, inr (place, unit, over, close)) ok =
+  more_pay names none r ts rest e h = omega (arith, has_one CloseBrace ts rest h)
+  more_pay names (item first items) r ts rest e (x, mark, inl (y, h, next)) =
+      omega (arith, one_at_most (leaves r), has_one Semicolon ts x mark, term_pays names true first x y e h, more_pay names items (resolve first e) y rest (env_after (typing first e)) next)
+  more_pay names (item first items) r ts rest e (x, mark, inr (place, unit, over, close)) =
       omega (arith, one_at_most (leaves r), has_one Semicolon ts x mark, has_one CloseBrace x rest close.0, unit_is_free first items place e unit over)
 
 -- SETTLING ADDS NO STEP
@@ -178,17 +204,17 @@ tokens_few bytes ts names h =
     omega (arith, ap length h.all, length-append h.front (end_at (length bytes) ∷ []), bytes_pay [] 0 bytes h.front names h.place h.rest h.leads)
 
 -- a program has no more steps than its text has bytes, and one more to end
-pub steps_within : (bytes : List ℕ) (t : Term) → IsSource bytes t → IsThreaded t → life_left (alive (settle (program t))) ≤ length bytes + 1
-steps_within bytes t h ok =
+pub steps_within : (bytes : List ℕ) (t : Term) → IsSource bytes t → life_left (alive (settle (program t))) ≤ length bytes + 1
+steps_within bytes t h =
     let spelled = h.program.grammar.1 in
     omega (
       arith,
       (settle_fits (program t)).0,
-      term_pays h.names false t h.ts spelled.0 [] spelled.1 ok,
+      term_pays h.names false t h.ts spelled.0 [] spelled.1,
       has_one End spelled.0 [] spelled.2,
       tokens_few bytes h.ts h.names h.tokens,
     )
 
 -- so that a counter of 64 bits holds them
-pub few_steps : (bytes : List ℕ) (t : Term) → IsSource bytes t → IsThreaded t → length bytes ≤ 1048576 → life_left (alive (settle (program t))) < 2 ^ 64
-few_steps bytes t h ok size = omega (arith, steps_within bytes t h ok, size)
+pub few_steps : (bytes : List ℕ) (t : Term) → IsSource bytes t → length bytes ≤ 1048576 → life_left (alive (settle (program t))) < 2 ^ 64
+few_steps bytes t h size = omega (arith, steps_within bytes t h, size)

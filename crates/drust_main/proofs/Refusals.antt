@@ -14,12 +14,12 @@ use Rattle.drust_main.specs.declared.refused.Refused.{Refused}
 use Rattle.drust_main.specs.declared.refused.Refused.TheVariants.{Tokens, Grammar, Form, Fault, Order, NoMemory}
 use Rattle.drust_main.specs.declared.words.Command.{Command}
 use Rattle.drust_main.specs.declared.words.Command.TheVariants.{Run, Replay}
-use Rattle.drust_main.specs.Forms.{later_form}
+use Rattle.drust_main.specs.Forms.{first_later}
 use Rattle.fr_plain.specs.Whole.{start}
 use Rattle.fr_plain.specs.Resolve.{program}
 use Rattle.journal.specs.declared.order.OrderLine.{OrderLine}
 use Rattle.drust_main.specs.Replay.{source_in, source_length, HasLines, bad_step, IsBadBehind}
-use Rattle.drust_main.specs.Refusals.{IsUnparsed, HasLaterForm, IsFaulty, HasCause, HasReplayCause, status_of, text_of}
+use Rattle.drust_main.specs.Refusals.{IsUnparsed, HasFormCause, IsFaulty, HasCause, HasReplayCause, status_of, text_of}
 use Rattle.drust_main.specs.Headline.{IsAccepted, IsTyped, Replies, refused, Replayed, unfollowed}
 use Rattle.drust_main.specs.Runs.{IsRefusedBy, IsUnfollowedBy, IsUnordered, IsStoppedIn}
 use Rattle.drust_main.proofs.FormLemmas.{none_later}
@@ -84,16 +84,24 @@ one_unparsed bytes e f h g =
     let both : Some e ≡ Some f = sym h.first ∙ ap refusal same ∙ g.first in
     cc
 
+-- a form is refused in the source of a program
+form_source : (c : Command) (bytes : List ℕ) (p : ℕ) → HasFormCause c bytes p → (t : Term) × IsSource bytes t × (first_later c t ≡ Some p)
+form_source Run bytes p h = (h.term, h.source, h.first)
+form_source Replay bytes p h = absurd h
+
 -- a program has one first form that is not accepted
-one_form : (c : Command) (bytes : List ℕ) (p q : ℕ) → HasLaterForm c bytes p → HasLaterForm c bytes q → p ≡ q
+one_form : (c : Command) (bytes : List ℕ) (p q : ℕ) → HasFormCause c bytes p → HasFormCause c bytes q → p ≡ q
 one_form c bytes p q h g =
-    let both : Some p ≡ Some q = sym h.first ∙ ap (later_form c) (source_once bytes h.term g.term h.source g.source) ∙ g.first in
+    let x = form_source c bytes p h in
+    let y = form_source c bytes q g in
+    let both : Some p ≡ Some q = sym x.2 ∙ ap (first_later c) (source_once bytes x.0 y.0 x.1 y.1) ∙ y.2 in
     cc
 
 -- the source of a program of accepted forms has none
-pub accepted_has_none : (c : Command) (bytes : List ℕ) (t : Term) (p : ℕ) → IsSource bytes t → IsAccepted c t → HasLaterForm c bytes p → ⊥
+pub accepted_has_none : (c : Command) (bytes : List ℕ) (t : Term) (p : ℕ) → IsSource bytes t → IsAccepted c t → HasFormCause c bytes p → ⊥
 accepted_has_none c bytes t p s ok h =
-    let bad : None ≡ Some p = sym (none_later c t ok) ∙ ap (later_form c) (source_once bytes t h.term s h.source) ∙ h.first in
+    let x = form_source c bytes p h in
+    let bad : None ≡ Some p = sym (none_later c t ok) ∙ ap (first_later c) (source_once bytes t x.0 s x.1) ∙ x.2 in
     cc
 
 -- a source with a fault
@@ -120,14 +128,14 @@ source_is_read c bytes t NoMemory s h fault form = h
 pub one_cause : (c : Command) (bytes : List ℕ) (a b : Refused) → HasCause c bytes a → HasCause c bytes b → a ≡ b
 one_cause c bytes (Tokens e) (Tokens f) h g = ap Tokens (one_refusal bytes e f h g)
 one_cause c bytes (Tokens e) (Grammar f) h g = absurd (never_both bytes g.ts g.names e g.tokens h)
-one_cause c bytes (Tokens e) (Form q) h g = absurd (refused_no_source bytes e g.term h g.source)
+one_cause c bytes (Tokens e) (Form q) h g = let x = form_source c bytes q g in absurd (refused_no_source bytes e x.0 h x.1)
 one_cause c bytes (Tokens e) (Fault q s) h g = absurd (refused_no_source bytes e g.term h g.source)
 one_cause c bytes (Grammar e) (Tokens f) h g = absurd (never_both bytes h.ts h.names f h.tokens g)
 one_cause c bytes (Grammar e) (Grammar f) h g = ap Grammar (one_unparsed bytes e f h g)
-one_cause c bytes (Grammar e) (Form q) h g = absurd (parsed bytes g.term e g.source h)
+one_cause c bytes (Grammar e) (Form q) h g = let x = form_source c bytes q g in absurd (parsed bytes x.0 e x.1 h)
 one_cause c bytes (Grammar e) (Fault q s) h g = absurd (parsed bytes g.term e g.source h)
-one_cause c bytes (Form p) (Tokens f) h g = absurd (refused_no_source bytes f h.term g h.source)
-one_cause c bytes (Form p) (Grammar f) h g = absurd (parsed bytes h.term f h.source g)
+one_cause c bytes (Form p) (Tokens f) h g = let x = form_source c bytes p h in absurd (refused_no_source bytes f x.0 g x.1)
+one_cause c bytes (Form p) (Grammar f) h g = let x = form_source c bytes p h in absurd (parsed bytes x.0 f x.1 g)
 one_cause c bytes (Form p) (Form q) h g = ap Form (one_form c bytes p q h g)
 one_cause c bytes (Form p) (Fault q s) h g = absurd (accepted_has_none c bytes g.term p g.source g.accepted h)
 one_cause c bytes (Fault p r) (Tokens f) h g = absurd (refused_no_source bytes f h.term g h.source)

@@ -13,7 +13,6 @@ use Rattle.drust_main.specs.Report.{report}
 use Rattle.drust_main.specs.declared.words.Command.{Command}
 use Rattle.drust_main.specs.declared.words.Command.TheVariants.{Run as RunAlone}
 use Rattle.drust_main.specs.Headline.{IsTyped, Runs}
-use Rattle.drust_main.proofs.FormLemmas.{accepted_threads}
 use Rattle.drust_main.specs.Runs.{Goes}
 use Rattle.drust_main.proofs.FewSteps.{few_steps}
 
@@ -58,7 +57,7 @@ left_at_start v r h = omega (arith, ap (λ (w : Whole). total_left w.threads) h)
 
 -- a pool at the start of a source's program has fewer steps left than a counter can hold
 pub few_at_start : (c : Command) (bytes : List ℕ) (t : Term) (v : View) → IsTyped c bytes t → length bytes ≤ 1048576 → whole_of v ≡ start (program t) → steps_left_of v < 2 ^ 64
-few_at_start c bytes t v typed size h = subst (λ (n : ℕ). n < 2 ^ 64) (sym (left_at_start v (program t) h)) (few_steps bytes t typed.source (accepted_threads c t typed.accepted) size)
+few_at_start c bytes t v typed size h = subst (λ (n : ℕ). n < 2 ^ 64) (sym (left_at_start v (program t) h)) (few_steps bytes t typed.source size)
 
 -- steps to the end of a typed program, and their report
 pub runs_to : (bytes : List ℕ) (t : Term) (from to : Whole) (steps : ℕ) (output : List ℤ) (text : List ℕ) → IsTyped RunAlone bytes t → from ≡ start (program t) → Goes from steps to → ending_of to ≡ ending.Finished → output ≡ to.output → text ≡ report steps output → Runs bytes text

@@ -41,7 +41,7 @@ Told None P = ⊤
 Told (Some bytes) P = P bytes
 
 -- what an input is answered that is to be run: the report of its run, or why it has none (a byte, a name or a number that is no
--- token; a token without an entry in the table of the language, or beyond its limits; a form that is not accepted yet; a fault of
+-- token; a token without an entry in the table of the language, or beyond its limits; a form that is not run yet; a fault of
 -- types)
 pub data Replies (bytes : List ℕ) : (status : ℕ) → (text : List ℕ) → Type 0 where
   run_finished : {text : List ℕ} → Runs bytes text → Replies bytes 0 text

@@ -13,7 +13,7 @@ use Rattle.fr_parse.specs.declared.fault.ParseError.TheVariants as parse
 use Rattle.fr_parse.specs.Table.{refusal}
 use Rattle.fr_parse.specs.Source.{IsSource}
 use Rattle.drust_main.specs.declared.words.Command.{Command}
-use Rattle.drust_main.specs.declared.words.Command.TheVariants.{Replay}
+use Rattle.drust_main.specs.declared.words.Command.TheVariants.{Run, Replay}
 use Rattle.drust_main.specs.Typed.{IsAccepted}
 use Rattle.drust_main.specs.Forms.{later_form}
 use Rattle.drust_main.specs.Replay.{source_in, HasBadOrder}
@@ -27,13 +27,18 @@ pub record IsUnparsed (bytes : List ℕ) (error : ParseError) : Type 0 where
   pub tokens : AreTokens bytes ts names
   pub first : refusal ts ≡ Some error
 
--- the bytes are the source of a program, and its first term of a form that the command does not accept yet begins there
-pub record HasLaterForm (command : Command) (bytes : List ℕ) (place : ℕ) : Type 0 where
+-- the bytes are the source of a program, and its first term of a form that is not of one thread begins there
+pub record HasLaterForm (bytes : List ℕ) (place : ℕ) : Type 0 where
   pub term : Term
   pub source : IsSource bytes term
-  pub first : later_form command term ≡ Some place
+  pub first : later_form term ≡ Some place
 
--- the bytes are the source of a program of accepted forms, of which this is the first fault of types
+-- the cause of a refusal of a form: `replay` refuses none
+abbrev pub HasFormCause : Command → List ℕ → ℕ → Type 0
+HasFormCause Run bytes place = HasLaterForm bytes place
+HasFormCause Replay bytes place = ⊥
+
+-- the bytes are the source of a program that the command accepts, of which this is the first fault of types
 pub record IsFaulty (command : Command) (bytes : List ℕ) (place : ℕ) (why : Reason) : Type 0 where
   pub term : Term
   pub source : IsSource bytes term
@@ -44,7 +49,7 @@ pub record IsFaulty (command : Command) (bytes : List ℕ) (place : ℕ) (why : 
 abbrev pub HasCause : Command → List ℕ → Refused → Type 0
 HasCause c bytes (Tokens error) = IsRefused bytes error
 HasCause c bytes (Grammar error) = IsUnparsed bytes error
-HasCause c bytes (Form place) = HasLaterForm c bytes place
+HasCause c bytes (Form place) = HasFormCause c bytes place
 HasCause c bytes (Fault place why) = IsFaulty c bytes place why
 HasCause c bytes (Order place) = ⊥
 HasCause c bytes NoMemory = ⊥

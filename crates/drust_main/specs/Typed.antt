@@ -1,8 +1,7 @@
 -- The sources that have a run: those of typed programs of accepted forms.
-use Rattle.std.specs.Prelude.{ℕ, List, []}
+use Rattle.std.specs.Prelude.{ℕ, List, [], ⊤}
 use Rattle.fr_terms.specs.Terms.{Term}
 use Rattle.fr_typing.specs.Sequential.{IsSequential}
-use Rattle.fr_typing.specs.Threaded.{IsThreaded}
 use Rattle.fr_typing.specs.Kinds.{Kind}
 use Rattle.fr_typing.specs.Places.{Env}
 use Rattle.fr_typing.specs.Typing.{Types}
@@ -10,10 +9,10 @@ use Rattle.fr_parse.specs.Source.{IsSource}
 use Rattle.drust_main.specs.declared.words.Command.{Command}
 use Rattle.drust_main.specs.declared.words.Command.TheVariants.{Run, Replay}
 
--- the forms that a command accepts so far: `run` those of one thread, `replay` starting and joining threads too
+-- the programs that a command accepts: `run` those of one thread's forms so far, `replay` all
 abbrev pub IsAccepted : Command → Term → Type 0
 IsAccepted Run t = IsSequential t
-IsAccepted Replay t = IsThreaded t
+IsAccepted Replay t = ⊤
 
 -- the bytes are the source of this program of forms that the command accepts, and typing types it
 pub record IsTyped (command : Command) (bytes : List ℕ) (t : Term) : Type 0 where

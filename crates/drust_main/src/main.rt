@@ -12,6 +12,8 @@ mod replay;
 mod report;
 mod run;
 #[cfg(test)]
+mod shared_cases;
+#[cfg(test)]
 mod tests;
 mod top;
 mod words;

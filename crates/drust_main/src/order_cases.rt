@@ -103,7 +103,7 @@ pub const ORDERS: [(&str, u8, &str); 41] = [
     ("%\n0.0 1\n", 3, "refused syntax at 0\n"),
     ("{ $ }%\n0.0 0\n", 3, "refused byte at 2\n"),
     ("{ print x }%", 4, "refused type at 8: unknown name\n"),
-    ("{ mutex x }%\n0.0 1\n", 11, "refused form at 2\n"),
+    ("{ mutex x }%\n0.0 1\n", 4, "refused type at 8: unknown name\n"),
 ];
 
 /// Sources that start and join threads, each with an order, and the status and the text of its replay.
@@ -188,11 +188,11 @@ pub const REFUSED_THREAD_ORDERS: [(&str, &str, u8, &str); 29] = [
     (AGAIN, "0.0 thread 0.1\n0.0 1\n0.0 thread 0.2\n0.0 2\n0.0 1\n", 10, "refused order at 108\n"),
     (LET_GO, "0.0 thread 0.1\n0.0 3\n0.0 1\n", 10, "refused order at 56\n"),
     (LET_GO, "0.0 thread 0.1\n0.0 3\n0.1 2\n0.1 1\n", 10, "refused order at 62\n"),
+    ("{ let mut m = mutex 1 }", "0.0 1\n", 10, "refused order at 25\n"),
+    ("{ let mut h = spawn () { par () { } () { } } }", "0.0 1\n", 10, "refused order at 48\n"),
     // sources that are refused
     ("{ let mut h = spawn () { 1 }; join h; join h }", "0.0 1\n", 4, "refused type at 43: not defined\n"),
     ("{ let mut x = box 1; let mut h = spawn (x) { 1 }; print *x }", "0.0 1\n", 4, "refused type at 56: not defined\n"),
-    ("{ let mut m = mutex 1 }", "0.0 1\n", 11, "refused form at 14\n"),
-    ("{ let mut h = spawn () { par () { } () { } } }", "0.0 1\n", 11, "refused form at 25\n"),
-    ("{ join spawn () { dup x } }", "0.0 1\n", 11, "refused form at 18\n"),
+    ("{ join spawn () { dup x } }", "0.0 1\n", 4, "refused type at 22: unknown name\n"),
     ("{ join x }", "0.0 1\n", 4, "refused type at 7: unknown name\n"),
 ];

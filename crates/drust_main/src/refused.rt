@@ -18,7 +18,7 @@ pub enum Refused {
     Tokens(TokenError),
     /// The tokens are no program: one without an entry in the grammar, or beyond the limits.
     Grammar(ParseError),
-    /// The program has a form that isn't accepted yet: its first term of one begins there.
+    /// The program has a form that isn't run yet: its first term of one begins there. A replay takes all forms.
     Form { place: u32 },
     /// The program has a fault of types: its first check that fails.
     Fault { place: u32, reason: Reason },

@@ -7,6 +7,7 @@ use crate::program_cases::{
     TYPED,
 };
 use crate::report::add_count;
+use crate::shared_cases::{MUTEX_ORDERS, PAIR_ORDERS, REFUSED_SHARED_ORDERS, SHARED_ORDERS};
 use crate::top::drust;
 use drust_io::{MemorySink, MemorySource, NoGate};
 use std::alloc::Global;
@@ -200,6 +201,38 @@ fn orders_of_tasks(rt: HostRuntime) -> Result<(), Fail> {
 #[test]
 fn refused_orders_of_threads(rt: HostRuntime) -> Result<(), Fail> {
     for (source, order, status, text) in REFUSED_THREAD_ORDERS {
+        replays(&rt, rt.alloc(), source, order, status, text)?;
+    }
+    Ok(())
+}
+
+#[test]
+fn orders_of_mutexes(rt: HostRuntime) -> Result<(), Fail> {
+    for (source, order, status, text) in MUTEX_ORDERS {
+        replays(&rt, rt.alloc(), source, order, status, text)?;
+    }
+    Ok(())
+}
+
+#[test]
+fn orders_of_shared_mutexes(rt: HostRuntime) -> Result<(), Fail> {
+    for (source, order, status, text) in SHARED_ORDERS {
+        replays(&rt, rt.alloc(), source, order, status, text)?;
+    }
+    Ok(())
+}
+
+#[test]
+fn orders_of_pairs(rt: HostRuntime) -> Result<(), Fail> {
+    for (source, order, status, text) in PAIR_ORDERS {
+        replays(&rt, rt.alloc(), source, order, status, text)?;
+    }
+    Ok(())
+}
+
+#[test]
+fn refused_orders_of_mutexes_and_pairs(rt: HostRuntime) -> Result<(), Fail> {
+    for (source, order, status, text) in REFUSED_SHARED_ORDERS {
         replays(&rt, rt.alloc(), source, order, status, text)?;
     }
     Ok(())

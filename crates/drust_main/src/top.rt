@@ -74,7 +74,7 @@ fn answer<K: Sink>(alloc: Global, command: Command, bytes: &[u8], sink: &mut K) 
 /// its text is written; 3, the input is no source, with the place of the first byte, name, number or token that is refused; 4,
 /// its program has a fault of types; 5, the words are refused; 6, the source failed; 7, the sink failed; 8, there was no memory;
 /// 9, the input is too long; 10, the order is refused, with the place of the first line that isn't in the format or whose steps
-/// aren't all plain steps; 11, the program has a form that isn't accepted yet, with the place of the first. `Answers` has the
+/// aren't all plain steps; 11, in a run: the program has a form that isn't run yet, with the place of the first. `Answers` has the
 /// causes of 0 to 5 and 9 to 11, each with its text: where the source tells what it has left, an input that a cause fits gets the
 /// status of that cause, or 6, 7 or 8; at 6 and 8 nothing is written, at 7 the first bytes of the text that would
 /// have been.

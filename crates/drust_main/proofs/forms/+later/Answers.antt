@@ -1,7 +1,6 @@
-use Rattle.std.proofs.Common.{◌+◌, [], ◌∷◌, drop, sym, ap, ◌∙◌, subst, arith}
+use Rattle.std.proofs.Common.{◌+◌, drop, sym, ap, ◌∙◌, arith}
 use Rattle.std.specs.Option.{option_or}
-use Rattle.fr_syntax.specs.Meanings.{meanings, items_at, term_s, capture_s, need, all_need, needs, AreBelow}
-use Rattle.borrow_check.proofs.CheckLemmas.{needs_append}
+use Rattle.fr_syntax.specs.Meanings.{meanings, items_at}
 use Rattle.drust_main.specs.Forms.{later_among}
 use Rattle.drust_main.proofs.FormLemmas.{next_below, next_later}
 use Rattle.drust_main.proofs.forms.+later.Goals as goal
@@ -15,8 +14,8 @@ pub later_among-returns-in-Some-later_at : goal.later_among-returns-in-Some-late
 later_among-returns-in-Some-later_at t c =
     let ms = meanings c.args.tree.now in
     let ids = c.args.items.now.items in
-    ap (λ o. option_or o (later_among c.args.command (items_at ms (drop (c.items.next + 1) ids)))) c.in-Some-later_at.ensures
-    ∙ sym (next_later c.args.command ms ids c.items.next c.in-Some.item.now c.in-Some.ensures) ∙ c.items.invariant.first
+    ap (λ o. option_or o (later_among (items_at ms (drop (c.items.next + 1) ids)))) c.in-Some-later_at.ensures
+    ∙ sym (next_later ms ids c.items.next c.in-Some.item.now c.in-Some.ensures) ∙ c.items.invariant.first
 
 pub later_among-items-preserved : goal.later_among-items-preserved
 later_among-items-preserved t c =
@@ -26,13 +25,6 @@ later_among-items-preserved t c =
     record {
       parts = next.2;
       first =
-          ap (λ o. option_or o (later_among c.args.command (items_at ms (drop (c.items.next + 1) ids)))) (sym c.in_default-later_at.is ∙ c.later_at.ensures)
-          ∙ sym (next_later c.args.command ms ids c.items.next c.in-Some.item.now c.in-Some.ensures) ∙ c.items.invariant.first;
+          ap (λ o. option_or o (later_among (items_at ms (drop (c.items.next + 1) ids)))) (sym c.in_default-later_at.is ∙ c.later_at.ensures)
+          ∙ sym (next_later ms ids c.items.next c.in-Some.item.now c.in-Some.ensures) ∙ c.items.invariant.first;
     }
-
-pub later_at-later_at-requires-in-Spawn : goal.later_at-later_at-requires-in-Spawn
-later_at-later_at-requires-in-Spawn t c =
-    let ms = meanings c.args.tree.now in
-    let below : AreBelow ms c.args.at (needs c.in-Some.node.now.term) = c.in-Some.ensures.parts in
-    let parts = needs_append ms c.args.at (all_need capture_s c.in-Spawn.field-0.items) (need term_s c.in-Spawn.body ∷ []) (subst (AreBelow ms c.args.at) (ap needs c.in-Spawn.is) below) in
-    (omega (arith, c.decreases, parts.1.0), (omega (arith, parts.1.0, c.requires.here), parts.1.1))

@@ -12,5 +12,5 @@ decreases-later_at l = 2 * l.at + 1
 abbrev pub invariant-later_among-items : goal.invariant-later_among-items
 invariant-later_among-items l = record {
   parts : AreBelow (meanings l.tree) l.bound (all_need term_s (drop l.next l.items.items));
-  first : later_among l.command (items_at (meanings l.tree) (drop l.next l.items.items)) ≡ later_among l.command (items_at (meanings l.tree) l.items.items);
+  first : later_among (items_at (meanings l.tree) (drop l.next l.items.items)) ≡ later_among (items_at (meanings l.tree) l.items.items);
 }
