@@ -9,3 +9,5 @@ pub mod Steps
 pub mod Events
 pub mod Gives
 pub mod Locks
+pub mod Far
+pub mod Leaving

@@ -1,6 +1,7 @@
 //! Laws of words where a value goes from one place to another.
 
 ghost use Rattle.carry_law.specs.Carried.{CarriedStays};
+ghost use Rattle.carry_law.specs.Leaving.{MovesLeave};
 ghost use Rattle.carry_law.specs.Steps.{DiscardsCarry, LocksKeep, OwnedGoes, StepsCarry};
 
 /// Where a value goes from one place to another, from whose pointer no mutable reference was made, each object has the word that it had, references know the words
@@ -26,4 +27,10 @@ pub fn owned_values_go()
 /// thread stands at a lock in a coherent cluster, whether it asks for the content of its mutex or the content that came becomes a variable.
 pub fn locks_keep_words()
     ensures locks { LocksKeep }
+{}
+
+/// The delivery of a `move` leaves the words, from a sound cluster: the object is under way under the word that the message named, which is its own, and words see
+/// the same of all else.
+pub fn moves_leave_words()
+    ensures moves { MovesLeave }
 {}

@@ -3,4 +3,6 @@
 
 mod laws;
 
-pub use laws::{locks_keep_words, owned_values_go, steps_carry_values, values_are_carried};
+pub use laws::{
+    locks_keep_words, moves_leave_words, owned_values_go, steps_carry_values, values_are_carried,
+};
