@@ -87,7 +87,7 @@ module _ (k : Cluster) (sound : IsSound k) (e : Event) (s : Server) (here : serv
   pub unstray : tot (stray (sight k)) (things_of k) ≡ 0
   unstray = no_stray k sound.names.numbers_differ
 
-  places : (gift : ℕ → ℕ) → tot (placed nought nought gift) a ≡ tot (telling nought nought gift) a
+  pub places : (gift : ℕ → ℕ) → tot (placed nought nought gift) a ≡ tot (telling nought nought gift) a
   places gift = omega (arith, places_told nought nought gift k, same_things (placed nought nought gift), same_things (telling nought nought gift))
 
   unstray_in : ((u : ℕ) → tot (is_thread u) a ≤ 1) → tot (stray (with_things k a)) a ≡ 0

@@ -84,14 +84,14 @@ pub popped_owned : (o : Operand) (h : Hand) → Gives (PopsTo o h value.Own) (po
 popped_owned o h = bind_gives (PopsTo o h itself) (PopsTo o h value.Own) (pop o h) (taken_as owned_of) (popped o h) (owned_taken o h)
 
 -- how far the counts of a server reach
-le_itself : (c : ℕ) → nat_le c c ≡ true
+pub le_itself : (c : ℕ) → nat_le c c ≡ true
 le_itself c = by (nat_le c c) refl
   where
     by : (q : Bool) → nat_le c c ≡ q → nat_le c c ≡ true
     by true e = e
     by false e = absurd (grind (arith, nat_tests, e))
 
-le_next : (c j : ℕ) → (c ≡ j + 1 → ⊥) → nat_le c j ≡ nat_le c (j + 1)
+pub le_next : (c j : ℕ) → (c ≡ j + 1 → ⊥) → nat_le c j ≡ nat_le c (j + 1)
 le_next c j ne = by (nat_le c j) refl (nat_le c (j + 1)) refl
   where
     by : (p : Bool) → nat_le c j ≡ p → (q : Bool) → nat_le c (j + 1) ≡ q → nat_le c j ≡ nat_le c (j + 1)

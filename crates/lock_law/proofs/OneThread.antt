@@ -5,6 +5,7 @@ use Rattle.std.specs.List.{AllByRecursion}
 use Rattle.fr_typing.proofs.PlaceLemmas.{eq_cases}
 use Rattle.fr_base.specs.declared.name.MutexNo.{MutexNo}
 use Rattle.fr_base.specs.declared.name.ObjNo.{ObjNo}
+use Rattle.fr_base.specs.declared.label.Plain.{Plain}
 use Rattle.fr_base.specs.declared.label.Plain.TheVariants as plain
 use Rattle.fr_code.specs.Machine.{CodeState, CodeRunning}
 use Rattle.thread_state.specs.View.{ThreadState, is_over}
@@ -21,7 +22,7 @@ use Rattle.heap_law.specs.Requests.{home_of, locked_mutex}
 use Rattle.heap_law.specs.Sharing.{got_phase, has_ended}
 use Rattle.heap_law.specs.Naming.{started_at, made_at}
 use Rattle.heap_law.specs.Weights.{is_thread}
-use Rattle.heap_law.specs.OneHeap.{Node, object_n, mutex_n, task_n, Owner, a_thread, inside, outside, owner_of, names, owner_in, is_in_state, if_in, cell_value, or_else, first_shown, object_value, content_value, share_in, if_there, in_pair_of, is_branch, branch_result, result_value, result_of, ended_with, running_at, life_of, life_at, made_of, two_in, pair_of, is_given_thread, is_given_mutex, if_given, state_of}
+use Rattle.heap_law.specs.OneHeap.{pair_over, Node, object_n, mutex_n, task_n, Owner, a_thread, inside, outside, owner_of, names, owner_in, is_in_state, if_in, cell_value, or_else, first_shown, object_value, content_value, share_in, if_there, in_pair_of, is_branch, branch_result, result_value, result_of, ended_with, running_at, life_of, life_at, made_of, two_in, pair_of, is_given_thread, is_given_mutex, if_given, state_of}
 use Rattle.still_law.proofs.Alike.{Once, LocksSeeIn}
 use Rattle.still_law.proofs.Counting.{shown_result, stray}
 use Rattle.still_law.proofs.Told.{told, ones}
@@ -44,6 +45,14 @@ past x pc slots temps = giftless (after x pc slots temps)
 -- what became of thread x, without a gift
 abbrev pub next : ThreadState → ThreadState → ThreadState
 next x z = record z { number = x.number; gift = None }
+
+none_so : (b : Bool) → if_so b 0 ≡ 0
+none_so true = refl
+none_so false = refl
+
+none_of : (b : Bool) (o : Option Plain) → o ≡ None → (if b then o else None) ≡ None
+none_of true o e = e
+none_of false o e = refl
 
 -- where such nodes may have come, each other one is in the state as before
 pub same_but : (f g extra : Node → Bool) → ((q : Node) → g q ≡ with_extra f extra q) → (q : Node) → extra q ≡ false → f q ≡ g q
@@ -264,7 +273,7 @@ module _ (k : Cluster) (R G G2 : List Thing) (n : ℕ) (x became : ThreadState) 
         no_pairs r (th ∷ xs) h = omega (arith, by th h.0, no_pairs r xs h.1)
           where
             by : (th : Thing) → IsBeside th → in_pair_of r th ≡ 0
-            by (noted q z) i = absurd i
+            by (noted q z) i = ap (if_so (z.thread == r)) i.0 ∙ none_so (z.thread == r)
             by _ i = refl
 
         pub no_done : (r : ℕ) (xs : List Thing) → AllByRecursion IsBeside xs → first_shown (branch_result r) xs ≡ None
@@ -272,7 +281,7 @@ module _ (k : Cluster) (R G G2 : List Thing) (n : ℕ) (x became : ThreadState) 
         no_done r (th ∷ xs) h = ap₂ or_else (by th h.0) (no_done r xs h.1)
           where
             by : (th : Thing) → IsBeside th → branch_result r th ≡ None
-            by (noted q z) i = absurd i
+            by (noted q z) i = none_of (z.thread == r) (pair_over z.state) i.1
             by (stands q p z) i = absurd i
             by _ i = refl
 

@@ -106,7 +106,7 @@ module _ (r : Sight) (u : ℕ) where
   owns_none (flies w d) c g e = cc e
   owns_none _ c g e = cc e
 
-  none_owned : (extra : Node → Bool) → ((q : Node) → extra q ≡ true → q ≡ task_n u) → (xs : List Thing) → tot (λ v. told ones (shown_result r u v)) xs ≡ 0 → tot (stray r) xs ≡ 0 → NoneUnder r extra xs
+  pub none_owned : (extra : Node → Bool) → ((q : Node) → extra q ≡ true → q ≡ task_n u) → (xs : List Thing) → tot (λ v. told ones (shown_result r u v)) xs ≡ 0 → tot (stray r) xs ≡ 0 → NoneUnder r extra xs
   none_owned extra only [] c g = tt
   none_owned extra only (th ∷ xs) c g =
       ((λ q d e. owns_none th (omega (arith, c)) (omega (arith, g)) (e ∙ ap inside (only q d))), none_owned extra only xs (omega (arith, c)) (omega (arith, g)))

@@ -6,6 +6,10 @@ pub mod PairLines
 pub mod JoinTakes
 pub mod PlainJoin
 pub mod JoinLines
+pub mod Captured
+pub mod PlainSpawn
+pub mod Spawned
+pub mod SpawnLines
 pub mod ThreadEnds
 pub mod PlainEnd
 pub mod EndLines

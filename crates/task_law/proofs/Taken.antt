@@ -69,7 +69,7 @@ none_shown_there s r (th ∷ xs) z =
     by None (Some v) e = absurd (cc e)
     by (Some u) p e = absurd (cc e)
 
-ended_there : (t : ℕ) (x : Thing) → has_ended t x ≤ is_thread t x
+pub ended_there : (t : ℕ) (x : Thing) → has_ended t x ≤ is_thread t x
 ended_there t (stands r p x) = at_most_one (x.number == t) (not (x.number == 0) && is_over x.phase)
   where
     at_most_one : (p q : Bool) → one (p && q) ≤ one p

@@ -1,4 +1,4 @@
--- WHICH INSTRUCTIONS: those of threads that end, or that wait for others. (A join that asks for its answer does no plain step)
+-- WHICH INSTRUCTIONS: those of threads that start others, that end, or that wait for others. (A join that asks for its answer does no plain step)
 use Rattle.std.specs.Prelude.{◌≡◌, ◌⊎◌, ◌==◌, Bool, true, false, Option, Some}
 use Rattle.fr_base.specs.Lists.{last_of}
 use Rattle.fr_base.specs.declared.instruction.Operand.{Operand}
@@ -27,6 +27,11 @@ ends_pair i = false
 abbrev pub joins_thread : Instr → Bool
 joins_thread (instr.Join o) = true
 joins_thread i = false
+
+-- a new thread, whose task the thread has
+abbrev pub starts_thread : Instr → Bool
+starts_thread (instr.Spawn cs body) = true
+starts_thread i = false
 
 -- THE END OF A THREAD
 

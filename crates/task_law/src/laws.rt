@@ -1,5 +1,5 @@
 ghost use Rattle.heap_law.specs.Coherent.{IsSound};
-ghost use Rattle.task_law.specs.Tasks.{EndsArePlain, ends_pair, joins_thread};
+ghost use Rattle.task_law.specs.Tasks.{EndsArePlain, ends_pair, joins_thread, starts_thread};
 ghost use Rattle.turn_law.specs.Turns.{ArePlainSteps};
 
 /// From a sound cluster, each step at the end of a pair is the plain step of its thread on the one heap, its messages handed over: the parent goes on, and the results of
@@ -17,4 +17,10 @@ pub fn join_steps()
 /// it is dropped)
 pub fn end_steps()
     ensures { EndsArePlain }
+{}
+
+/// The same of a start of a thread, from a sound cluster, under the name that the server takes: the new thread's name wasn't given; it has what it captured, and its parent
+/// has its task.
+pub fn spawn_steps()
+    ensures { ArePlainSteps IsSound starts_thread }
 {}

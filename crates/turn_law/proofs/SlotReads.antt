@@ -56,7 +56,7 @@ set_shown (x ∷ xs) (suc i) w =
     ap (λ l. with_slot l (suc i) (plain_value w)) (shown_cons x xs) ∙ with_more (shown_last xs) (plain_value x) i (plain_value w) ∙ ap (λ l. l ++ plain_value x ∷ []) (set_shown xs i w) ∙ sym (shown_cons x (slice_set xs i w))
 
 -- what was in the slot goes out of it
-taken_owned : (q : Node) (xs : List Value) (i : ℕ) (v : Value) → slice_get xs i ≡ Some v → owned_in q xs ≡ owned_in q (slice_set xs i value.Gone) + one (value_owns q v)
+pub taken_owned : (q : Node) (xs : List Value) (i : ℕ) (v : Value) → slice_get xs i ≡ Some v → owned_in q xs ≡ owned_in q (slice_set xs i value.Gone) + one (value_owns q v)
 taken_owned q [] i v e = absurd (cc e)
 taken_owned q (x ∷ xs) zero v e = let same : x ≡ v = cc in omega (arith, ap (λ w. one (value_owns q w)) same)
 taken_owned q (x ∷ xs) (suc i) v e = omega (arith, taken_owned q xs i v e)
