@@ -48,11 +48,12 @@ use Rattle.stay_law.proofs.Lists.{thread_set, taken_alike}
 use Rattle.stay_law.proofs.Sites.{HandAlike, put_alike, begun_alike, ends_alike, servers_alike, replaced, handed_over}
 use Rattle.stay_law.proofs.Steps.{hand_itself}
 use Rattle.stay_law.proofs.Seen.{seen_alike}
+use Rattle.carry_law.specs.Carried.{Carried}
 use Rattle.carry_law.proofs.Carrying.{carried_stays}
 use Rattle.carry_law.proofs.Replaced.{tail_of, places_on}
 use Rattle.carry_law.proofs.Taken.{taker_of}
 use Rattle.carry_law.proofs.Owned.{OwnsAlone, owned_quiet, owns_on}
-use Rattle.carry_law.proofs.Passing.{Here, slot, Passes, is_carried, is_quiet}
+use Rattle.carry_law.proofs.Passing.{Here, slot, nowhere, Passes, is_carried, is_quiet}
 
 -- ONE AFTER ANOTHER
 
@@ -98,6 +99,15 @@ pub record Given (code : List Instr) (n : ℕ) (h h2 : Hand) : Type 0 where
   pub away : (j : ℕ) → slot j ≡ to → ⊥
   pub passes : Passes code n h.thread after (slot index) to
   pub together : Together code n (record h { thread = after }) h2
+
+-- what a slot owns is given away, and then one value of the thread moves at most
+pub record Assigned (code : List Instr) (n : ℕ) (h h2 : Hand) : Type 0 where
+  pub index : ℕ
+  pub content : Owned
+  pub after : ThreadState
+  pub stood : slice_get h.thread.slots index ≡ Some (value.Own content)
+  pub passes : Passes code n h.thread after (slot index) nowhere
+  pub next : Moved code n (record h { thread = after }) h2
 
 -- WHAT THREADS HAVE TAKEN STANDS AT A PLACE
 
@@ -271,6 +281,33 @@ module _ (k : Cluster) (sound : IsSound k) (s : Server) (here : server_at k.serv
 
       third : LeavesWords (put hb) (put h)
       third = untouched_stays (put hb) (put h) place_b (places h g) (seen_alike (put hb) (put h) place_b (places h g) refl (puts_alike hb h refl (q.passes.number ∙ its_number) q.together))
+
+  -- so they do where another value comes then
+  pub assigned_leaves : (h : Hand) → Ok h → (q : Assigned k.code n h0 h) → OwnsAlone k (at_slot y.number q.index) → LeavesWords k (put h)
+  assigned_leaves h g q alone = leaves_chain first_leaves (leaves_chain second (moved_from hb h refl (q.passes.number ∙ its_number) place_b (places h g) rooted_b (second.holders (first_leaves.holders sound.words.first_at_holder)) q.next))
+    where
+      hb : Hand
+      hb = record h0 { thread = q.after }
+
+      split : Split (things_of (put h0)) (things_of (put hb)) (thread_things n false y) (thread_things n false q.after)
+      split = put_split k n s.threads (s.events + 1) h0 hb (stands_here h0 refl its_number) refl q.passes.number
+
+      place_a : HasPlaces (put h0)
+      place_a = places h0 first_ok
+
+      place_b : HasPlaces (put hb)
+      place_b = places_on (put h0) (put hb) n y q.after q.passes.number split q.passes.owns place_a
+
+      carried : Carried (put h0) (put hb) (Some (at_slot y.number q.index)) None
+      carried =
+          is_carried (put h0) (put hb) n y q.after (slot q.index) nowhere q.passes split refl place_a place_b
+          (owned_quiet (put h0) (put hb) n y q.after q.index nowhere q.passes split refl place_a place_b q.content q.stood (λ j w. absurd cc) (owns_on k (put h0) first_seen y.number q.index alone) (first_leaves.holders sound.words.first_at_holder) first_rooted)
+
+      second : LeavesWords (put h0) (put hb)
+      second = carried_stays (put h0) (put hb) _ _ place_a place_b (first_leaves.holders sound.words.first_at_holder) carried
+
+      rooted_b : RootedIn (put hb)
+      rooted_b v w = let a = carried.takes v w in let r = first_rooted v a in (r.0, (carried.taken v a).0 ∙ r.1)
 
 -- IN ITS CLUSTER
 

@@ -11,3 +11,5 @@ pub mod Gives
 pub mod Locks
 pub mod Far
 pub mod Leaving
+pub mod Assigning
+pub mod Assigns

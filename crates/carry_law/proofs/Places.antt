@@ -17,7 +17,7 @@ use Rattle.heap_law.proofs.Sums.{tot-append}
 use Rattle.word_law.specs.Unmoved.{pointing, owning, taking_by}
 use Rattle.word_law.proofs.Loose.{box_nowhere}
 use Rattle.word_law.proofs.Slots.{set_same, set_other}
-use Rattle.stay_law.proofs.Alike.{Alike, Seen, itself, turned, chain, beside, exchanged, joined, alone, blank}
+use Rattle.stay_law.proofs.Alike.{Alike, Seen, itself, turned, chain, beside, exchanged, in_front, joined, alone, blank}
 use Rattle.stay_law.proofs.Servers.{held, gift_held}
 use Rattle.carry_law.proofs.Passing.{slot, temp, nowhere, Passes, between, leaves, comes}
 
@@ -50,7 +50,7 @@ end_sum w f i (x ∷ xs) v =
     (q.0, omega (arith, q.1, a, b))
 
 -- another value in the list
-set_things : {code : List Instr} (f : ℕ → Value → List Thing) (i j : ℕ) (xs : List Value) (old new : Value) → slice_get xs j ≡ Some old → ((m : ℕ) → Alike code (f m old) (f m new)) → Alike code (things_at f i xs) (things_at f i (slice_set xs j new))
+pub set_things : {code : List Instr} (f : ℕ → Value → List Thing) (i j : ℕ) (xs : List Value) (old new : Value) → slice_get xs j ≡ Some old → ((m : ℕ) → Alike code (f m old) (f m new)) → Alike code (things_at f i xs) (things_at f i (slice_set xs j new))
 set_things f i j [] old new e a = absurd cc
 set_things {code = code} f i zero (x ∷ xs) old new e a = let s : x ≡ old = cc in beside (subst (λ v. Alike code (f i v) (f i new)) (sym s) (a i)) (itself (things_at f (i + 1) xs))
 set_things f i (suc j) (x ∷ xs) old new e a = beside (itself (f i x)) (set_things f (i + 1) j xs old new e a)
@@ -68,6 +68,28 @@ set_sum w f i (suc j) (x ∷ xs) old new e =
     let a = tot-append w (f i x) (things_at f (i + 1) xs) in
     let b = tot-append w (f i x) (things_at f (i + 1) (slice_set xs j new)) in
     (q.0, omega (arith, q.1, a, b))
+
+-- another value where nothing is
+set_adds : {code : List Instr} (n t i j : ℕ) (xs : List Value) (v : Value) → slice_get xs j ≡ Some value.Gone → (m : ℕ) × Alike code (things_at (slot_things n t) i (slice_set xs j v)) (slot_things n t m v ++ things_at (slot_things n t) i xs)
+set_adds n t i j [] v e = absurd cc
+set_adds {code = code} n t i zero (x ∷ xs) v e =
+    let s : x ≡ value.Gone = cc in
+    (i, subst (λ y. Alike code (slot_things n t i v ++ things_at (slot_things n t) (i + 1) xs) (slot_things n t i v ++ (slot_things n t i y ++ things_at (slot_things n t) (i + 1) xs))) (sym s) (itself (slot_things n t i v ++ things_at (slot_things n t) (i + 1) xs)))
+set_adds n t i (suc j) (x ∷ xs) v e =
+    let q = set_adds n t (i + 1) j xs v e in
+    (q.0, chain (beside (itself (slot_things n t i x)) q.1) (in_front (slot_things n t i x) (slot_things n t q.0 v) (things_at (slot_things n t) (i + 1) xs)))
+
+pub set_twice : {A : Type 0} (xs : List A) (i : ℕ) (a b : A) → slice_set (slice_set xs i a) i b ≡ slice_set xs i b
+set_twice [] i a b = refl
+set_twice (x ∷ xs) zero a b = refl
+set_twice (x ∷ xs) (suc i) a b = ap (λ l. x ∷ l) (set_twice xs i a b)
+
+pub set_seen : (xs : List Value) (i : ℕ) (a b : Value) → pointing (Some b) ≡ pointing (Some a) → (j : ℕ) → pointing (slice_get (slice_set xs i b) j) ≡ pointing (slice_get (slice_set xs i a) j)
+set_seen [] i a b e j = refl
+set_seen (x ∷ xs) zero a b e zero = e
+set_seen (x ∷ xs) zero a b e (suc j) = refl
+set_seen (x ∷ xs) (suc i) a b e zero = refl
+set_seen (x ∷ xs) (suc i) a b e (suc j) = set_seen xs i a b e j
 
 -- A VALUE AT ANOTHER PLACE
 
@@ -327,3 +349,67 @@ module _ (code : List Instr) (n : ℕ) (x : ThreadState) (none : taking_by x.num
           let a = sum_of w G W (slots_with (slice_set x.slots i value.Gone)) (temps_with (x.temps ++ value.Own u ∷ [])) in
           let b = sum_of w G W S T in
           omega (arith, p.1, q.1, a, b)
+
+  -- WHAT A VARIABLE OWNS IS GIVEN AWAY, and a temporary value comes where nothing is
+
+  pub slot_emptied : (i : ℕ) (u : Owned) → slice_get x.slots i ≡ Some (value.Own u) → x.gift ≡ None → Passes code n x (record x { slots = slice_set x.slots i value.Gone; gift = Some u }) (slot i) nowhere
+  slot_emptied i u e free = record {
+    number = refl;
+    untaken = none;
+    untaken_after = none;
+    slots = λ j h k. ap pointing (set_other x.slots i j value.Gone (λ q. h (ap slot q)));
+    temps = λ j h k. refl;
+    left = ap owning (set_same x.slots i (value.Own u) value.Gone e);
+    free = refl;
+    beside = leaves u e tails;
+    owns = sums;
+  }
+    where
+      tails : Alike code (held u ++ (G ++ W ++ S ++ T)) (gift_things x.number (Some u) ++ W ++ slots_with (slice_set x.slots i value.Gone) ++ T)
+      tails =
+          subst (λ g. Alike code (held u ++ (gift_things x.number g ++ W ++ S ++ T)) (gift_things x.number (Some u) ++ W ++ slots_with (slice_set x.slots i value.Gone) ++ T)) (sym free)
+          (beside {a = held u} {b = holds (as_gift x.number) u ∷ []} (turned (gift_held x.number u))
+          (beside (beside (itself W) (set_things (slot_things n x.number) 0 i x.slots (value.Own u) value.Gone e (λ m. placed_blank (in_slot x.number m) (at_slot x.number m) u refl))) (itself T)))
+
+      sums : (o : ObjNo) → tot (owners o) (gift_things x.number (Some u) ++ W ++ slots_with (slice_set x.slots i value.Gone) ++ T) ≡ tot (owners o) (G ++ W ++ S ++ T)
+      sums o =
+          let w = owners o in
+          let q = set_sum w (slot_things n x.number) 0 i x.slots (value.Own u) value.Gone e in
+          let g : tot w G ≡ 0 = ap (λ g. tot w (gift_things x.number g)) free in
+          let a = sum_of w (gift_things x.number (Some u)) W (slots_with (slice_set x.slots i value.Gone)) T in
+          let b = sum_of w G W S T in
+          omega (arith, q.1, g, a, b)
+
+  pub slot_filled : (ts : List Value) (v : Value) (i : ℕ) → x.temps ≡ ts ++ v ∷ [] → slice_get x.slots i ≡ Some value.Gone → Passes code n x (record x { temps = ts; slots = slice_set x.slots i v }) (temp (length ts)) (slot i)
+  slot_filled ts v i e gone = record {
+    number = refl;
+    untaken = none;
+    untaken_after = none;
+    slots = λ j h k. ap pointing (set_other x.slots i j v (λ q. k (ap slot q)));
+    temps = λ j h k. ap owning (sym (end_other ts v j (λ q. h (ap temp q))) ∙ sym (ap (λ vs. slice_get vs j) e));
+    left = ap owning (end_none ts);
+    free = ap owning gone;
+    beside = between (λ q. absurd cc) (λ q. absurd cc) (ap owning (set_same x.slots i value.Gone v gone) ∙ sym (ap owning (ap (λ vs. slice_get vs (length ts)) e ∙ end_is ts v))) tails;
+    owns = sums;
+  }
+    where
+      tails : Alike code (G ++ W ++ S ++ T) (G ++ W ++ slots_with (slice_set x.slots i v) ++ temps_with ts)
+      tails =
+          let p = end_things {code = code} (temp_things n x.number) 0 ts v in
+          let q = set_adds {code = code} n x.number 0 i x.slots v gone in
+          let a = temp_things n x.number p.0 v in
+          let b = slot_things n x.number q.0 v in
+          chain (beside (itself (G ++ W ++ S)) (chain (subst (λ vs. Alike code (temps_with vs) (temps_with ts ++ a)) (sym e) p.1) (exchanged (temps_with ts) a)))
+          (chain (joined (G ++ W ++ S) a (temps_with ts))
+          (beside (chain (turned (joined (G ++ W) S a)) (beside (itself (G ++ W)) (chain (exchanged S a) (chain (beside (value_moves n x.number x.number p.0 q.0 v) (itself S)) (turned q.1))))) (itself (temps_with ts))))
+
+      sums : (o : ObjNo) → tot (owners o) (G ++ W ++ slots_with (slice_set x.slots i v) ++ temps_with ts) ≡ tot (owners o) (G ++ W ++ S ++ T)
+      sums o =
+          let w = owners o in
+          let p = end_sum w (temp_things n x.number) 0 ts v in
+          let q = set_sum w (slot_things n x.number) 0 i x.slots value.Gone v gone in
+          let r = value_owns o n (in_temp x.number p.0) (in_slot x.number q.0) (at_temp x.number p.0) (at_slot x.number q.0) v in
+          let t = ap (λ vs. tot w (temps_with vs)) e in
+          let a = sum_of w G W (slots_with (slice_set x.slots i v)) (temps_with ts) in
+          let b = sum_of w G W S T in
+          omega (arith, p.1, q.1, r, t, a, b)

@@ -58,3 +58,13 @@ OwnedGoes = (k : Cluster) (number t : ℕ) (s : Server) (y : ThreadState) (i : I
 abbrev pub LocksKeep : Type 0
 LocksKeep = (k : Cluster) (number t : ℕ) (s : Server) (y : ThreadState) (w : Lval) → IsCoherent k → FewEvents k → server_at k.servers number ≡ Some s → thread_in s.threads t ≡ Some y → slice_get k.code y.pc ≡ Some (instr.Lock w)
     → Gives (λ (d : Cluster × EntryView). WordsHold d.0) (apply k (record { server = number; what = Step t }))
+
+-- a value that owns, or none any more
+pub data IsOwnedOrGone : Value → Type 0 where
+  owns : (u : Owned) → IsOwnedOrGone (value.Own u)
+  gone : IsOwnedOrGone value.Gone
+
+-- an assignment to a variable that has such a value leaves the words, whatever is assigned
+abbrev pub AssignsOver : Type 0
+AssignsOver = (k : Cluster) (number t : ℕ) (s : Server) (y : ThreadState) (w : Lval) (o : Operand) (v : Value) → IsCoherent k → FewEvents k → server_at k.servers number ≡ Some s → thread_in s.threads t ≡ Some y → slice_get k.code y.pc ≡ Some (instr.Assign w o)
+    → w.depth ≡ 0 → slice_get y.slots w.slot ≡ Some v → IsOwnedOrGone v → Gives (λ (d : Cluster × EntryView). LeavesWords k d.0) (apply k (record { server = number; what = Step t }))

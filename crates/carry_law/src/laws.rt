@@ -2,7 +2,7 @@
 
 ghost use Rattle.carry_law.specs.Carried.{CarriedStays};
 ghost use Rattle.carry_law.specs.Leaving.{MovesLeave};
-ghost use Rattle.carry_law.specs.Steps.{DiscardsCarry, LocksKeep, OwnedGoes, StepsCarry};
+ghost use Rattle.carry_law.specs.Steps.{AssignsOver, DiscardsCarry, LocksKeep, OwnedGoes, StepsCarry};
 
 /// Where a value goes from one place to another, from whose pointer no mutable reference was made, each object has the word that it had, references know the words
 /// at their holders, dirty references are alone and first words that were left are no words of today.
@@ -18,9 +18,11 @@ pub fn steps_carry_values()
 {}
 
 /// From a coherent cluster so does a step that drops the newest variable with what it owns, puts a lock's content back, or moves an owned value out of a
-/// variable: to each object that goes its box is the only pointer, by types, so no place at which a reference was made passes the slot.
+/// variable (`goes`): to each object that goes its box is the only pointer, by types, so no place at which a reference was made passes the slot. And so does an
+/// assignment to a variable that owns its value or has none (`assigns`), whatever is assigned.
 pub fn owned_values_go()
     ensures goes { OwnedGoes }
+    ensures assigns { AssignsOver }
 {}
 
 /// Each object has a word, references know the words at their holders, dirty references are alone and first words that were left are no words of today, where a

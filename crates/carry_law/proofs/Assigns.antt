@@ -1,0 +1,91 @@
+-- An assignment to a variable in its cluster.
+use Rattle.std.proofs.Common.{◌≡◌, ℕ, true, Some, None, refl, sym, ap, subst, ◌++◌}
+use Rattle.std.specs.Prelude.{slice_get}
+use Rattle.fr_base.specs.declared.place.Lval.{Lval}
+use Rattle.fr_base.specs.declared.step.Fresh.TheVariants as fresh
+use Rattle.fr_base.specs.declared.instruction.Operand.{Operand}
+use Rattle.fr_base.specs.declared.instruction.Instr.TheVariants as instr
+use Rattle.heap_partition.specs.declared.value.Owned.{Owned}
+use Rattle.journal.specs.View.{EntryView}
+use Rattle.thread_state.specs.View.{ThreadState}
+use Rattle.thread_state.specs.declared.phase.Phase.{Phase}
+use Rattle.thread_state.specs.declared.phase.Phase.TheVariants as phase
+use Rattle.thread_state.specs.declared.value.Value.{Value}
+use Rattle.thread_state.specs.declared.value.Value.TheVariants as value
+use Rattle.server_model.specs.declared.event.What.TheVariants.{Step}
+use Rattle.server_model.specs.Servers.{Server, Cluster, server_at}
+use Rattle.server_model.specs.Work.{Hand, thread_in, without_thread, then_some, pop}
+use Rattle.server_model.specs.Clusters.{apply}
+use Rattle.server_model.specs.Places.{nowhere as no_spot, in_slot as spot_slot}
+use Rattle.server_model.specs.Prepare.{ending, assigned, prepare}
+use Rattle.server_model.specs.Commit.{goes_on, assign, replace_slot}
+use Rattle.server_model.specs.Events.{enabled, Stepped, committed, prepared, step, does}
+use Rattle.heap_law.specs.Things.{at_slot, servers_things}
+use Rattle.type_law.specs.ClusterTypes.{IsCoherent}
+use Rattle.path_law.specs.Pointing.{assigns}
+use Rattle.word_law.specs.Unmoved.{taking_by, LeavesWords}
+use Rattle.end_law.specs.Dropped.{written}
+use Rattle.event_law.specs.Laws.{Gives}
+use Rattle.event_law.proofs.RulesKeep.{sums_kept, sums_spend}
+use Rattle.event_law.proofs.Bags.{all_standing}
+use Rattle.event_law.proofs.Events.{others_of}
+use Rattle.event_law.proofs.Steps.{step_keeps}
+use Rattle.event_law.proofs.GiftsTaken.{gift_fits}
+use Rattle.stay_law.proofs.Steps.{TakesNoneHere}
+use Rattle.prepare_law.proofs.Asking.{found_number}
+use Rattle.carry_law.specs.Steps.{IsOwnedOrGone, owns, gone, AssignsOver}
+use Rattle.carry_law.proofs.Owned.{OwnsAlone}
+use Rattle.carry_law.proofs.Hands.{There, Ok, Moved, h0, first_ok, moved_leaves, assigned_leaves, left_where, step_there}
+use Rattle.carry_law.proofs.Steps.{goes_over}
+use Rattle.carry_law.proofs.Gives.{given_alone}
+use Rattle.carry_law.proofs.Assigning.{Put, puts, puts_over, fills}
+
+assign_takes : (t : ℕ) (p : Phase) (w : Lval) (o : Operand) → taking_by t p (Some (instr.Assign w o)) ≡ None
+assign_takes t (phase.Taken v) w o = refl
+assign_takes t _ w o = refl
+
+module _ (k : Cluster) (coherent : IsCoherent k) (s : Server) (here : server_at k.servers s.rest.number ≡ Some s) (t : ℕ) (y : ThreadState) (at : thread_in s.threads t ≡ Some y) (on : enabled k.options s (Step t) ≡ true) (w : Lval) (o : Operand)
+    (code : slice_get k.code y.pc ≡ Some (instr.Assign w o)) (flat : w.depth ≡ 0) where
+  abbrev n : ℕ
+  n = s.rest.number
+
+  abbrev h : Hand
+  h = h0 k coherent.sound s here t y at
+
+  none : TakesNoneHere k.code y
+  none = subst (λ j. taking_by y.number y.phase j ≡ None) (sym code) (assign_takes y.number y.phase w o)
+
+  free : y.gift ≡ None
+  free = (gift_fits k coherent.sound n s here t y at (instr.Assign w o) code).0
+
+  ok_steps : Gives (λ (d : Stepped). Ok k coherent.sound s here t y at d.hand) (step k.options.servers (instr.Assign w o) h)
+  ok_steps = step_keeps sums_kept n s.events t (all_standing n (without_thread s.threads t) ++ servers_things (others_of k.servers n)) k.options.servers (instr.Assign w o) h tt (λ z. sums_spend) (first_ok k coherent.sound s here t y at)
+
+  -- the step, where the variable has no reference
+  flat_step : (P : Hand → Type 0) (v : Value) → slice_get y.slots w.slot ≡ Some v → ending (spot_slot w.slot) (Some v) ≡ None
+      → Gives (λ (d : Stepped). P d.hand) (committed (goes_on (then_some (pop o h) (λ u. replace_slot w.slot no_spot u.item u.hand)))) → Gives (λ (d : Stepped). P d.hand) (step k.options.servers (instr.Assign w o) h)
+  flat_step P v e calm g =
+      subst (λ d. Gives (λ (x : Stepped). P x.hand) (prepared k.options.servers (instr.Assign w o) (prepare (assigned w d y) h))) (sym flat)
+      (subst (λ a. Gives (λ (x : Stepped). P x.hand) (prepared k.options.servers (instr.Assign w o) (prepare a h))) (sym (ap (ending (spot_slot w.slot)) e))
+      (subst (λ a. Gives (λ (x : Stepped). P x.hand) (prepared k.options.servers (instr.Assign w o) (prepare a h))) (sym calm)
+      (subst (λ d. Gives (λ (x : Stepped). P x.hand) (committed (goes_on (assign w d o no_spot h)))) (sym flat) g)))
+
+  over_owned : (u : Owned) → slice_get y.slots w.slot ≡ Some (value.Own u) → Gives (There k s) (does k.code k.options s (Step t))
+  over_owned u e =
+      step_there k coherent.sound s here t y at (instr.Assign w o) code (Put k.code n h none refl free w.slot)
+      (λ h2 ok q. assigned_leaves k coherent.sound s here t y at h2 ok q.assigned (subst (λ j. OwnsAlone k (at_slot y.number j)) (sym q.place) (given_alone k coherent s here t y at on (instr.Assign w o) code w flat (written assigns)))) ok_steps
+      (flat_step (Put k.code n h none refl free w.slot) (value.Own u) e refl (puts_over k.code n h none refl free w.slot (then_some (pop o h) (λ v. replace_slot w.slot no_spot v.item v.hand)) (puts k.code n h none refl free w.slot u e o)))
+
+  over_gone : slice_get y.slots w.slot ≡ Some value.Gone → Gives (There k s) (does k.code k.options s (Step t))
+  over_gone e =
+      step_there k coherent.sound s here t y at (instr.Assign w o) code (Moved k.code n h) (moved_leaves k coherent.sound s here t y at) ok_steps
+      (flat_step (Moved k.code n h) value.Gone e refl (goes_over k.code n h fresh.None (then_some (pop o h) (λ v. replace_slot w.slot no_spot v.item v.hand)) (fills k.code n h none refl free w.slot e o)))
+
+  over : (v : Value) → IsOwnedOrGone v → slice_get y.slots w.slot ≡ Some v → Gives (There k s) (does k.code k.options s (Step t))
+  over _ (owns u) e = over_owned u e
+  over _ gone e = over_gone e
+
+pub assigns_over : AssignsOver
+assigns_over k number t s y w o v coherent few here at code flat e is =
+    subst (λ n. server_at k.servers n ≡ Some s → Gives (λ (d : Cluster × EntryView). LeavesWords k d.0) (apply k (record { server = n; what = Step t }))) (found_number number k.servers s here)
+    (λ h. left_where k s t coherent.sound few h (λ on. over k coherent s h t y at on w o code flat v is e)) here
