@@ -57,12 +57,12 @@ use Rattle.stay_law.proofs.Sites.{HandAlike}
 use Rattle.stay_law.proofs.Steps.{IsUnseen, TakesNoneHere, settles}
 use Rattle.prepare_law.proofs.Hands.{calm_goes}
 use Rattle.prepare_law.proofs.Asking.{found_number}
-use Rattle.carry_law.specs.Steps.{GivesOwned, drops, puts_back, moves, OwnedGoes}
+use Rattle.carry_law.specs.Steps.{GivesOwned, drops, drops_none, puts_back, moves, OwnedGoes}
 use Rattle.carry_law.proofs.Passing.{temp, nowhere}
 use Rattle.carry_law.proofs.Places.{end_is, slot_to_gift, slot_to_temp}
 use Rattle.carry_law.proofs.Owned.{OwnsAlone}
-use Rattle.carry_law.proofs.Hands.{There, each_together, together_chain, Given, Ok, h0, first_ok, given_leaves, left_where, step_there}
-use Rattle.carry_law.proofs.Steps.{goes_next, slot_pushed, given_to_rest}
+use Rattle.carry_law.proofs.Hands.{There, each_together, together_chain, Moved, seen, moved_leaves, Given, Ok, h0, first_ok, given_leaves, left_where, step_there}
+use Rattle.carry_law.proofs.Steps.{Does, goes_next, goes_over, slot_pushed, given_to_rest}
 
 length_end : {A : Type 0} (xs : List A) (v : A) → length (xs ++ v ∷ []) ≡ suc (length xs)
 length_end [] v = refl
@@ -230,6 +230,19 @@ module _ (code : List Instr) (n : ℕ) (h : Hand) (none : TakesNoneHere code h.t
         untaken = none;
       }
 
+  -- THE NEWEST SLOT HAS NO VALUE
+
+  empty_goes : (ss : List Value) → x.slots ≡ ss ++ value.Gone ∷ [] → Alike code (thread_things n false (record x { slots = x.slots })) (thread_things n false (record x { slots = ss }))
+  empty_goes ss e =
+      subst (λ vs. Alike code (thread_things n false (record x { slots = vs })) (thread_things n false (record x { slots = ss }))) (sym e)
+      (turned (slot_pushed code n (record h { thread = record x { slots = ss } }) value.Gone refl (record { points = refl; things = λ j p l. itself [] })).thread)
+
+  pub empty_drops : last_of x.slots ≡ Some value.Gone → Gives (Does code n h) (drop_slot no_spot h)
+  empty_drops e =
+      let ss : List Value = front_of x.slots in
+      subst (λ o. Gives (Does code n h) (then_some {X = Popped Value} (option_map (λ w. record { item = w; hand = with_slots ss h }) o) (λ t. drop_value no_spot t.item (label_dropped t.item t.hand)))) (sym e)
+      (record { moved = seen (record { number = refl; named = refl; alike = beside (empty_goes ss (last_split x.slots value.Gone e)) (itself (body_things n h.work.rest)) }); untaken = none })
+
 -- ALONE BY TYPES
 
 module _ (k : Cluster) (coherent : IsCoherent k) (s : Server) (here : server_at k.servers s.rest.number ≡ Some s) (t : ℕ) (y : ThreadState) (at : thread_in s.threads t ≡ Some y) (on : enabled k.options s (Step t) ≡ true) (i : Instr) (code : slice_get k.code y.pc ≡ Some i) where
@@ -291,6 +304,13 @@ module _ (k : Cluster) (coherent : IsCoherent k) (s : Server) (here : server_at 
       (subst (λ o. Gives (λ (d : Stepped). Yielded k.code sn hand none (Newest k.code sn hand none) d.hand) (prepared k.options.servers instr.DropSlot (prepare (ending (spot_slot (length y.slots - 1)) o) hand))) (sym e)
       (yields_over k.code sn hand none (Newest k.code sn hand none) (drop_slot no_spot hand) (slot_drops k.code sn hand none refl (gift_fits k coherent.sound sn s here t y at instr.DropSlot code).0 u e)))
 
+  empty_there : last_of y.slots ≡ Some value.Gone → slice_get k.code y.pc ≡ Some instr.DropSlot → Gives (There k s) (does k.code k.options s (Step t))
+  empty_there e code =
+      let none = untaken instr.DropSlot code (drop_takes y.number y.phase) in
+      step_there k coherent.sound s here t y at instr.DropSlot code (Moved k.code sn hand) (moved_leaves k coherent.sound s here t y at) (ok_steps instr.DropSlot tt)
+      (subst (λ o. Gives (λ (d : Stepped). Moved k.code sn hand d.hand) (prepared k.options.servers instr.DropSlot (prepare (ending (spot_slot (length y.slots - 1)) o) hand))) (sym e)
+      (goes_over k.code sn hand fresh.None (drop_slot no_spot hand) (empty_drops k.code sn hand none e)))
+
   unlocks_there : slice_get k.code y.pc ≡ Some instr.Unlock → Gives (There k s) (does k.code k.options s (Step t))
   unlocks_there code =
       let none = untaken instr.Unlock code (unlock_takes y.number y.phase) in
@@ -308,6 +328,7 @@ module _ (k : Cluster) (coherent : IsCoherent k) (s : Server) (here : server_at 
 
   all_there : (i : Instr) → GivesOwned y i → slice_get k.code y.pc ≡ Some i → Gives (There k s) (does k.code k.options s (Step t))
   all_there _ (drops u e) code = drops_there u e code
+  all_there _ (drops_none e) code = empty_there e code
   all_there _ puts_back code = unlocks_there code
   all_there _ (moves w u flat e) code = moves_there w u flat e code
 

@@ -43,9 +43,10 @@ abbrev pub DiscardsCarry : Type 0
 DiscardsCarry = (k : Cluster) (number t : ℕ) (s : Server) (y : ThreadState) (v : Value) → IsSound k → FewEvents k → server_at k.servers number ≡ Some s → thread_in s.threads t ≡ Some y → slice_get k.code y.pc ≡ Some instr.Discard
     → last_of y.temps ≡ Some v → IsNoReference v → Gives (λ (d : Cluster × EntryView). LeavesWords k d.0) (apply k (record { server = number; what = Step t }))
 
--- an instruction that takes what a slot owns: the newest slot goes with its value, a lock's content is put back, and a variable's value is moved out
+-- an instruction that takes what a slot owns: the newest slot goes with its value, or without one, a lock's content is put back, and a variable's value is moved out
 pub data GivesOwned (y : ThreadState) : Instr → Type 0 where
   drops : (u : Owned) → last_of y.slots ≡ Some (value.Own u) → GivesOwned y instr.DropSlot
+  drops_none : last_of y.slots ≡ Some value.Gone → GivesOwned y instr.DropSlot
   puts_back : GivesOwned y instr.Unlock
   moves : (w : Lval) (u : Owned) → w.depth ≡ 0 → slice_get y.slots w.slot ≡ Some (value.Own u) → GivesOwned y (instr.Read w true)
 
