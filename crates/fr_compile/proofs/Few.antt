@@ -94,7 +94,7 @@ used_long us [] (m ∷ ms) h = absurd h
 used_long us (n ∷ ns) [] h = absurd h
 
 -- of a checked program
-pub program_few : (p : Program) → IsChecked p → steps_left (program (term_of p.arena)) + 1 < 2 ^ 32
+pub program_few : (p : Program) → IsChecked p → steps_left (program (term_of p.arena)) + 1 ≤ 2 ^ 30
 program_few p c =
     let a = p.arena in
     let ns = (meaning_at (meanings a) (root_of a)).nodes in

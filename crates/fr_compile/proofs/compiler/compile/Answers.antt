@@ -1,4 +1,4 @@
-use Rattle.std.proofs.Common.{◌+◌, ◌<◌, ◌^◌, List, [], sym, ap, ◌∙◌, subst}
+use Rattle.std.proofs.Common.{◌+◌, ◌<◌, ◌^◌, List, [], sym, ap, ◌∙◌, subst, arith}
 use Rattle.fr_plain.specs.Resolve.{program}
 use Rattle.fr_plain.specs.Run.{Run, steps_left}
 use Rattle.fr_syntax.specs.Meanings.{term_of}
@@ -14,7 +14,8 @@ use Rattle.fr_compile.proofs.compiler.compile.Goals as goal
 pub emit_threads-requires-clause-few : goal.emit_threads-requires-clause-few
 emit_threads-requires-clause-few c =
     let root = ap (λ (fs : List Form). root_of fs) c.deref.ensures.value ∙ c.in_ok-forms.ensures.root in
-    subst (λ (r : Run). steps_left r + 1 < 2 ^ 32) (sym root) (program_few c.args.checked.now c.tree.ensures.checked)
+    let few = program_few c.args.checked.now c.tree.ensures.checked in
+    subst (λ (r : Run). steps_left r + 1 < 2 ^ 32) (sym root) (omega (arith, few))
 
 pub returns-clause-equal : goal.returns-clause-equal
 returns-clause-equal c =
@@ -34,6 +35,9 @@ pub returns-clause-length : goal.returns-clause-length
 returns-clause-length c =
     let t = term_of c.args.checked.now.arena in
     (its_code c.emit_threads.new.code.items (program t) (resolve_source t []) (returns-clause-equal c)).long
+
+pub returns-clause-short : goal.returns-clause-short
+returns-clause-short c = let few = program_few c.args.checked.now c.tree.ensures.checked in omega (arith, few, returns-clause-length c)
 
 pub returns-clause-table : goal.returns-clause-table
 returns-clause-table c =
