@@ -11,7 +11,7 @@ use Rattle.heap_law.specs.Names.{tot, one, some, if_so}
 use Rattle.heap_law.specs.Things.{as_gift, Thing, holds, stands, noted, lies, flies, things_at, walk_things, slot_things, temp_things, gift_things, thread_things}
 use Rattle.heap_law.specs.Follow.{Standing, threads_in, thread_at, cells_in}
 use Rattle.heap_law.specs.Sight.{Sight}
-use Rattle.heap_law.specs.OneHeap.{Node, mutex_n, a_thread, owns, names, owner_of, named_in, any_named, pair_note, pair_over, or_else, first_shown, share_in}
+use Rattle.heap_law.specs.OneHeap.{Node, mutex_n, a_thread, owns, names, owner_of, named_in, any_named, pair_over, or_else, first_shown, share_in}
 use Rattle.event_law.proofs.Bags.{had_by}
 use Rattle.event_law.proofs.Trades.{tot-append}
 use Rattle.turn_law.proofs.Parts.{shown_both, any_both, Own, own_all, none_shown, none_counted, same_counted, no_threads, no_cells, any_told, owned_in, own_named}
@@ -20,10 +20,10 @@ use Rattle.turn_law.proofs.Parts.{shown_both, any_both, Own, own_all, none_shown
 abbrev pub giftless : ThreadState → ThreadState
 giftless z = record z { gift = None }
 
--- no thread, nor a note of one in a pair
+-- no thread, nor a note of one that has ended
 abbrev pub IsBeside : Thing → Type 0
 IsBeside (stands s p z) = ⊥
-IsBeside (noted s z) = (pair_note z.state ≡ 0) × (pair_over z.state ≡ None)
+IsBeside (noted s z) = pair_over z.state ≡ None
 IsBeside x = ⊤
 
 -- nor a cell

@@ -29,7 +29,7 @@ use Rattle.heap_law.specs.Walking.{instr_of}
 use Rattle.heap_law.specs.Requests.{locked_mutex}
 use Rattle.heap_law.specs.Weights.{cells}
 use Rattle.heap_law.specs.Naming.{started_at, made_at}
-use Rattle.heap_law.specs.OneHeap.{Node, object_n, mutex_n, task_n, inside, content_owner, result_owner, gift_owner, gift_owner_of, owner_of, owns, named_in, any_named, is_in_state, if_in, cell_value, or_else, first_shown, object_value, content_value, share_in, result_value, is_given_mutex, running_at, state_of}
+use Rattle.heap_law.specs.OneHeap.{Node, object_n, mutex_n, task_n, inside, content_owner, result_owner, gift_owner, gift_owner_of, owner_of, owns, named_in, any_named, is_in_state, if_in, cell_value, or_else, first_shown, object_value, content_value, share_in, in_pair_of, result_value, is_given_mutex, running_at, state_of}
 use Rattle.type_law.specs.ClusterTypes.{IsCoherent}
 use Rattle.event_law.proofs.Bags.{counts_of}
 use Rattle.event_law.proofs.Boxes.{goes_as, all_new}
@@ -277,7 +277,7 @@ module _ (k : Cluster) (co : IsCoherent k) (e : Event) (o : Operand) (s : Server
 
     pub thread_on : GoesOn x.number (running_at x) (running_at y) (state_of s1) (state_of s2)
     thread_on =
-        one_thread.goes_on k Others G1 G2 n x became beside1 (tt, (tt, tt)) lone1 locks extra none same_in (λ u. refl) (λ r. alone (first_shown (result_value s1 r))) calm calm2 (λ h c. alone (tot (started_at h c)) ∙ omega arith)
+        one_thread.goes_on k Others G1 G2 n x became beside1 (tt, (tt, tt)) lone1 locks extra none same_in (λ r. alone (tot (in_pair_of r))) (λ u. refl) (λ r. alone (first_shown (result_value s1 r))) calm calm2 (λ h c. alone (tot (started_at h c)) ∙ omega arith)
         (changed.given k co.sound e s at.here t x at.at at.number)
 
     pub made_before : (state_of s1).made x.number ≡ x.made
@@ -309,7 +309,7 @@ module _ (k : Cluster) (co : IsCoherent k) (e : Event) (o : Operand) (s : Server
     names_on = one_thread.mutex_given k Others G1 G2 n x became beside1 (tt, (tt, tt)) lone1 locks (λ h c. alone (tot (made_at h c)) ∙ omega arith)
 
     pub once_then : Once s2
-    once_then = one_thread.once_on k Others G1 G2 n x became beside1 (tt, (tt, tt)) lone1 locks calm calm2 once1 few contents (λ r. omega arith)
+    once_then = one_thread.once_on k Others G1 G2 n x became beside1 (tt, (tt, tt)) lone1 locks calm (λ r. refl) refl once1 few contents (λ r. omega arith)
       where
         few : (q : ObjNo) → tot (λ a. told ones (cell_value q a)) G2 + tot (λ a. told ones (cell_value q a)) Others ≤ 1
         few q =

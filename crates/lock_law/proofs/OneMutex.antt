@@ -9,12 +9,12 @@ use Rattle.thread_state.specs.View.{ThreadState}
 use Rattle.thread_state.specs.declared.value.Value.{Value}
 use Rattle.server_model.specs.Servers.{Cluster}
 use Rattle.heap_law.specs.Names.{tot, one, same_mutex}
-use Rattle.heap_law.specs.Things.{Thing, lies, flies}
+use Rattle.heap_law.specs.Things.{Thing, noted, lies, flies}
 use Rattle.fr_base.specs.declared.label.Plain.{Plain}
 use Rattle.fr_plain.specs.MachineThreads.{Shared}
 use Rattle.heap_law.specs.Naming.{started_at}
 use Rattle.heap_law.specs.Sight.{Sight}
-use Rattle.heap_law.specs.OneHeap.{Node, object_n, mutex_n, task_n, owns, any_named, is_in_state, cell_value, or_else, first_shown, object_value, content_value, share_in, if_there, result_value, running_at, is_given_thread, state_of}
+use Rattle.heap_law.specs.OneHeap.{Node, object_n, mutex_n, task_n, owns, any_named, is_in_state, cell_value, or_else, first_shown, object_value, content_value, share_in, if_there, in_pair_of, result_value, running_at, is_given_thread, state_of}
 use Rattle.still_law.proofs.Alike.{Once}
 use Rattle.still_law.proofs.Counting.{shown_result}
 use Rattle.still_law.proofs.Told.{told, ones}
@@ -91,7 +91,7 @@ module _ (k : Cluster) (R G G2 : List Thing) (n : ℕ) (x : ThreadState) (pc : �
       → ((w : MutexNo) → tot (λ v. told ones (content_value (s2 k R G G2 n x z0) w v)) G2 + tot (λ v. told ones (content_value (s k R G G2 n x z0) w v)) R ≤ 1)
       → ((r : ℕ) → tot (λ v. told ones (shown_result (s2 k R G G2 n x z0) r v)) G2 ≡ 0) → Once (s2 k R G G2 n x z0)
   once_then once few ends =
-      one_thread.once_on k R G G2 n x z0 beside beside2 lone locks calm calm0 once cells few (λ r. omega (arith, ends r))
+      one_thread.once_on k R G G2 n x z0 beside beside2 lone locks calm (λ r. refl) refl once cells few (λ r. omega (arith, ends r))
     where
       cells : (o : ObjNo) → tot (λ v. told ones (cell_value o v)) G2 + tot (λ v. told ones (cell_value o v)) R ≤ 1
       cells o =
@@ -136,6 +136,14 @@ module _ (k : Cluster) (R G G2 : List Thing) (n : ℕ) (x : ThreadState) (pc : �
     abbrev s_then : Sight
     s_then = s2 k R G G2 n x z0
 
+    loose_apart : (r : ℕ) (xs : List Thing) → AllByRecursion IsLoose xs → tot (in_pair_of r) xs ≡ 0
+    loose_apart r [] h = refl
+    loose_apart r (th ∷ xs) h = omega (arith, by th h.0, loose_apart r xs h.1)
+      where
+        by : (th : Thing) → IsLoose th → in_pair_of r th ≡ 0
+        by (noted q z) l = absurd l
+        by _ l = refl
+
     loose_objects : (o : ObjNo) (xs : List Thing) → AllByRecursion IsLoose xs → first_shown (cell_value o) xs ≡ None
     loose_objects o [] h = refl
     loose_objects o (th ∷ xs) h = ap₂ or_else (by th h.0) (loose_objects o xs h.1)
@@ -149,8 +157,11 @@ module _ (k : Cluster) (R G G2 : List Thing) (n : ℕ) (x : ThreadState) (pc : �
         (results : (r : ℕ) → first_shown (result_value s_now r) G ≡ first_shown (result_value s_then r) G2) (started : (h c : ℕ) → tot (started_at h c) G ≡ tot (started_at h c) G2)
         (shares1 : (w : MutexNo) → tot (share_in s_now w) G ≡ owned_under (mutex_n w) under) (shares2 : (w : MutexNo) → tot (share_in s_then w) G2 ≡ owned_under (mutex_n w) under2)
         (contents : (w : MutexNo) → w ≢ m → first_shown (content_value s_now w) G ≡ first_shown (content_value s_then w) G2) where
+      apart : (r : ℕ) → tot (in_pair_of r) G ≡ tot (in_pair_of r) G2
+      apart r = omega (arith, loose_apart r G loose, loose_apart r G2 loose2)
+
       pub thread_goes : is_given_thread s_now x.number ≡ true → GoesOn x.number (running_at x) (running_at y1) (state_of s_now) (state_of s_then)
-      thread_goes named_it = one_thread.goes_on k R G G2 n x z0 beside beside2 lone locks extra none in_same no_task results calm calm0 started named_it
+      thread_goes named_it = one_thread.goes_on k R G G2 n x z0 beside beside2 lone locks extra none in_same apart no_task results calm calm0 started named_it
 
       pub objects_stay : (o : ObjNo) → object_value s_now o ≡ object_value s_then o
       objects_stay o =

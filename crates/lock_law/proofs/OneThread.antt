@@ -46,10 +46,6 @@ past x pc slots temps = giftless (after x pc slots temps)
 abbrev pub next : ThreadState → ThreadState → ThreadState
 next x z = record z { number = x.number; gift = None }
 
-none_so : (b : Bool) → if_so b 0 ≡ 0
-none_so true = refl
-none_so false = refl
-
 none_of : (b : Bool) (o : Option Plain) → o ≡ None → (if b then o else None) ≡ None
 none_of true o e = e
 none_of false o e = refl
@@ -167,10 +163,10 @@ module _ (k : Cluster) (R G G2 : List Thing) (n : ℕ) (x became : ThreadState) 
       -- ONCE
 
       -- the sights show things once together
-      pub once_on : Calm x.phase → Calm became.phase → Once s → ((o : ObjNo) → tot (λ v. told ones (cell_value o v)) G2 + tot (λ v. told ones (cell_value o v)) R ≤ 1)
+      pub once_on : Calm x.phase → ((r : ℕ) → got_phase r became.phase ≡ 0) → is_over became.phase ≡ false → Once s → ((o : ObjNo) → tot (λ v. told ones (cell_value o v)) G2 + tot (λ v. told ones (cell_value o v)) R ≤ 1)
           → ((m : MutexNo) → tot (λ v. told ones (content_value s2 m v)) G2 + tot (λ v. told ones (content_value s m v)) R ≤ 1)
           → ((r : ℕ) → tot (λ v. told ones (shown_result s2 r v)) G2 ≤ tot (λ v. told ones (shown_result s r v)) G) → Once s2
-      once_on calm calm2 once cells contents ends = record {
+      once_on calm ungot goes2 once cells contents ends = record {
         cells = λ o.
             let flat : Own (λ v. told ones (cell_value o v) ≡ 0) = record { slots = λ w i v. refl; temps = λ w i v. refl; shared = λ l w. refl; lent = λ l w. refl; marks = λ l w. refl; used = λ w v. refl } in
             omega (arith, cells o, tot_of n y G2 R (λ v. told ones (cell_value o v)) flat);
@@ -184,8 +180,8 @@ module _ (k : Cluster) (R G G2 : List Thing) (n : ℕ) (x became : ThreadState) 
             let flat : (w : Sight) → Own (λ v. told ones (shown_result w r v) ≡ 0) = λ w. record { slots = λ u i v. refl; temps = λ u i v. refl; shared = λ l m. refl; lent = λ l m. refl; marks = λ l m. refl; used = λ u m. refl } in
             let over : Own (λ v. has_ended r v ≡ 0) = record { slots = λ w i v. refl; temps = λ w i v. refl; shared = λ l w. refl; lent = λ l w. refl; marks = λ l w. refl; used = λ w v. refl } in
             let mine : told ones (shown_result s r (stands n false x)) ≡ 0 = ap (λ m. told ones (or_else (if_in (some m) (Some plain.Unit)) None)) (none_got r x.phase calm.alone) in
-            let mine2 : told ones (shown_result s2 r (stands n false y)) ≡ 0 = ap (λ m. told ones (or_else (if_in (some m) (Some plain.Unit)) None)) (none_got r became.phase calm2.alone) in
-            let still : has_ended r (stands n false x) ≡ has_ended r (stands n false y) = ap (λ o. one (x.number == r && (not (x.number == 0) && o))) (calm.goes ∙ sym calm2.goes) in
+            let mine2 : told ones (shown_result s2 r (stands n false y)) ≡ 0 = ap (λ m. told ones (or_else (if_in (some m) (Some plain.Unit)) None)) (ungot r) in
+            let still : has_ended r (stands n false x) ≡ has_ended r (stands n false y) = ap (λ o. one (x.number == r && (not (x.number == 0) && o))) (calm.goes ∙ sym goes2) in
             omega (
               arith,
               once.ends r,
@@ -268,45 +264,37 @@ module _ (k : Cluster) (R G G2 : List Thing) (n : ℕ) (x became : ThreadState) 
 
         -- RESULTS
 
-        no_pairs : (r : ℕ) (xs : List Thing) → AllByRecursion IsBeside xs → tot (in_pair_of r) xs ≡ 0
-        no_pairs r [] h = refl
-        no_pairs r (th ∷ xs) h = omega (arith, by th h.0, no_pairs r xs h.1)
-          where
-            by : (th : Thing) → IsBeside th → in_pair_of r th ≡ 0
-            by (noted q z) i = ap (if_so (z.thread == r)) i.0 ∙ none_so (z.thread == r)
-            by _ i = refl
-
         pub no_done : (r : ℕ) (xs : List Thing) → AllByRecursion IsBeside xs → first_shown (branch_result r) xs ≡ None
         no_done r [] h = refl
         no_done r (th ∷ xs) h = ap₂ or_else (by th h.0) (no_done r xs h.1)
           where
             by : (th : Thing) → IsBeside th → branch_result r th ≡ None
-            by (noted q z) i = none_of (z.thread == r) (pair_over z.state) i.1
+            by (noted q z) i = none_of (z.thread == r) (pair_over z.state) i
             by (stands q p z) i = absurd i
             by _ i = refl
 
-        pub branch_same : (r : ℕ) → is_branch s r ≡ is_branch s2 r
-        branch_same r =
+        pub branch_same : (r : ℕ) → tot (in_pair_of r) G ≡ tot (in_pair_of r) G2 → is_branch s r ≡ is_branch s2 r
+        branch_same r apart =
             let flat : Own (λ v. in_pair_of r v ≡ 0) = record { slots = λ u i v. refl; temps = λ u i v. refl; shared = λ l w. refl; lent = λ l w. refl; marks = λ l w. refl; used = λ u w. refl } in
-            ap some (tot_same (in_pair_of r) (in_pair_of r) flat flat (omega (arith, no_pairs r G beside, no_pairs r G2 beside2)) (λ th z. refl))
+            ap some (tot_same (in_pair_of r) (in_pair_of r) flat flat (omega (arith, apart)) (λ th z. refl))
 
         pub kept_same : (r : ℕ) → first_shown (result_value s r) G ≡ first_shown (result_value s2 r) G2 → first_shown (result_value s r) a ≡ first_shown (result_value s2 r) b
         kept_same r h =
             let flat : (w : Sight) → Own (λ v. result_value w r v ≡ None) = λ w. record { slots = λ u i v. refl; temps = λ u i v. refl; shared = λ l m. refl; lent = λ l m. refl; marks = λ l m. refl; used = λ u m. refl } in
             first_same (result_value s r) (result_value s2 r) (flat s) (flat s2) refl refl h (result_stays r)
 
-        pub owed_same : (r : ℕ) → extra (task_n r) ≡ false → is_branch s r || is_in_state s (task_n r) ≡ is_branch s2 r || is_in_state s2 (task_n r)
-        owed_same r e = ap₂ (λ p q. p || q) (branch_same r) (in_same (task_n r) e)
+        pub owed_same : (r : ℕ) → tot (in_pair_of r) G ≡ tot (in_pair_of r) G2 → extra (task_n r) ≡ false → is_branch s r || is_in_state s (task_n r) ≡ is_branch s2 r || is_in_state s2 (task_n r)
+        owed_same r apart e = ap₂ (λ p q. p || q) (branch_same r apart) (in_same (task_n r) e)
 
         -- a thread whose result is shown as before goes on as before
-        module _ (r : ℕ) (no_task : extra (task_n r) ≡ false) (silent : branch_result r (stands n false x) ≡ None) (silent2 : branch_result r (stands n false y) ≡ None) (shown : first_shown (result_value s r) G ≡ first_shown (result_value s2 r) G2) where
+        module _ (r : ℕ) (apart : tot (in_pair_of r) G ≡ tot (in_pair_of r) G2) (no_task : extra (task_n r) ≡ false) (silent : branch_result r (stands n false x) ≡ None) (silent2 : branch_result r (stands n false y) ≡ None) (shown : first_shown (result_value s r) G ≡ first_shown (result_value s2 r) G2) where
           result_goes_on : result_of s r ≡ result_of s2 r
           result_goes_on =
               let flat : Own (λ v. branch_result r v ≡ None) = record { slots = λ u i v. refl; temps = λ u i v. refl; shared = λ l w. refl; lent = λ l w. refl; marks = λ l w. refl; used = λ u w. refl } in
-              ap₂ or_else (first_same (branch_result r) (branch_result r) flat flat silent silent2 (no_done r G beside ∙ sym (no_done r G2 beside2)) (λ th z. refl)) (ap₂ if_in (owed_same r no_task) (kept_same r shown))
+              ap₂ or_else (first_same (branch_result r) (branch_result r) flat flat silent silent2 (no_done r G beside ∙ sym (no_done r G2 beside2)) (λ th z. refl)) (ap₂ if_in (owed_same r apart no_task) (kept_same r shown))
 
           pub way_goes_on : going_of s r ≡ going_of s2 r
-          way_goes_on = by r (owed_same r no_task)
+          way_goes_on = by r (owed_same r apart no_task)
             where
               by : (m : ℕ) → is_branch s m || is_in_state s (task_n m) ≡ is_branch s2 m || is_in_state s2 (task_n m) → going_of s m ≡ going_of s2 m
               by zero e = refl
@@ -325,7 +313,7 @@ module _ (k : Cluster) (R G G2 : List Thing) (n : ℕ) (x became : ThreadState) 
               by (Some w) f = life_by w.thread (among_thread (threads_in a) r w f).1 (is_over w.thread.phase)
 
         -- where the thread waits for no pair and isn't over, before and afterwards, and no task comes or goes
-        module _ (no_task : (u : ℕ) → extra (task_n u) ≡ false) (results : (r : ℕ) → first_shown (result_value s r) G ≡ first_shown (result_value s2 r) G2) (calm : Calm x.phase) (calm2 : Calm became.phase) where
+        module _ (apart : (r : ℕ) → tot (in_pair_of r) G ≡ tot (in_pair_of r) G2) (no_task : (u : ℕ) → extra (task_n u) ≡ false) (results : (r : ℕ) → first_shown (result_value s r) G ≡ first_shown (result_value s2 r) G2) (calm : Calm x.phase) (calm2 : Calm became.phase) where
           silent : (r : ℕ) → branch_result r (stands n false x) ≡ None
           silent r = ap (λ m. if_in (some m) (Some plain.Unit)) (none_got r x.phase calm.alone)
 
@@ -333,10 +321,10 @@ module _ (k : Cluster) (R G G2 : List Thing) (n : ℕ) (x became : ThreadState) 
           silent2 r = ap (λ m. if_in (some m) (Some plain.Unit)) (none_got r became.phase calm2.alone)
 
           way_same : (r : ℕ) → going_of s r ≡ going_of s2 r
-          way_same r = way_goes_on r (no_task r) (silent r) (silent2 r) (results r)
+          way_same r = way_goes_on r (apart r) (no_task r) (silent r) (silent2 r) (results r)
 
           life_same : (u : ℕ) → t ≢ u → life_at s u (thread_at (threads_in a) u) ≡ life_at s2 u (thread_at (threads_in b) u)
-          life_same u = life_goes_on u (no_task u) (silent u) (silent2 u) (results u)
+          life_same u = life_goes_on u (apart u) (no_task u) (silent u) (silent2 u) (results u)
 
           -- NAMES
 

@@ -15,7 +15,7 @@ use Rattle.heap_law.specs.Things.{Thing, gift_things}
 use Rattle.heap_law.specs.Sight.{Sight}
 use Rattle.heap_law.specs.Requests.{is_par_end}
 use Rattle.heap_law.specs.Naming.{started_at, made_at}
-use Rattle.heap_law.specs.OneHeap.{Node, task_n, mutex_n, object_n, owns, owner_in, owner_of, names, named_in, any_named, is_in_state, cell_value, or_else, first_shown, object_value, content_value, share_in, if_there, result_value, running_at, is_given_mutex, state_of}
+use Rattle.heap_law.specs.OneHeap.{Node, task_n, mutex_n, object_n, owns, owner_in, owner_of, names, named_in, any_named, is_in_state, cell_value, or_else, first_shown, object_value, content_value, share_in, if_there, in_pair_of, result_value, running_at, is_given_mutex, state_of}
 use Rattle.heap_law.specs.Coherent.{IsSound}
 use Rattle.heap_law.proofs.Names.{same_mutexes}
 use Rattle.event_law.proofs.Bags.{counts_of}
@@ -106,7 +106,7 @@ module _ (k : Cluster) (sound : IsSound k) (e : Event) (i : Instr) (single : is_
   once1 = changed.once_before k sound e s at.here t x at.at at.number
 
   pub once_then : Once s2
-  once_then = one_thread.once_on k Others G1 G2 n x became beside1 (tt, tt) lone1 locks calm calm2 once1 few contents (λ r. omega arith)
+  once_then = one_thread.once_on k Others G1 G2 n x became beside1 (tt, tt) lone1 locks calm (λ r. refl) refl once1 few contents (λ r. omega arith)
     where
       few : (q : ObjNo) → tot (λ a. told ones (cell_value q a)) G2 + tot (λ a. told ones (cell_value q a)) Others ≤ 1
       few q =
@@ -133,7 +133,7 @@ module _ (k : Cluster) (sound : IsSound k) (e : Event) (i : Instr) (single : is_
 
     pub thread_on : GoesOn x.number (running_at x) (running_at y) (state_of s1) (state_of s2)
     thread_on =
-        one_thread.goes_on k Others G1 G2 n x became beside1 (tt, tt) lone1 locks (λ q. false) (nothing_under s1 Others) same_in (λ u. refl) (λ r. alone (first_shown (result_value s1 r))) calm calm2 (λ h c. alone (tot (started_at h c)) ∙ omega arith)
+        one_thread.goes_on k Others G1 G2 n x became beside1 (tt, tt) lone1 locks (λ q. false) (nothing_under s1 Others) same_in (λ r. alone (tot (in_pair_of r))) (λ u. refl) (λ r. alone (first_shown (result_value s1 r))) calm calm2 (λ h c. alone (tot (started_at h c)) ∙ omega arith)
         (changed.given k sound e s at.here t x at.at at.number)
 
     pub made_on : (u : ℕ) → (state_of s1).made u ≡ (state_of s2).made u

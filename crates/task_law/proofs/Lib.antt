@@ -6,10 +6,14 @@ pub mod PairLines
 pub mod JoinTakes
 pub mod PlainJoin
 pub mod JoinLines
+pub mod NewName
 pub mod Captured
 pub mod PlainSpawn
 pub mod Spawned
 pub mod SpawnLines
+pub mod PlainPar
+pub mod Paired
+pub mod ParLines
 pub mod ThreadEnds
 pub mod PlainEnd
 pub mod EndLines

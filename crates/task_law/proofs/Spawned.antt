@@ -3,7 +3,6 @@ use Rattle.std.proofs.Common.{◌≡◌, ◌≢◌, ℕ, zero, suc, ◌+◌, ◌
 use Rattle.std.specs.Prelude.{◌^◌, ◌&&◌}
 use Rattle.std.specs.List.{AllByRecursion}
 use Rattle.std.proofs.lemmas.Bool.{eqb-true}
-use Rattle.std.proofs.lemmas.Bool.Decides.{nat_tests}
 use Rattle.fr_typing.proofs.PlaceLemmas.{eq_cases}
 use Rattle.fr_base.specs.declared.name.MutexNo.{MutexNo}
 use Rattle.fr_base.specs.declared.name.ObjNo.{ObjNo}
@@ -20,20 +19,17 @@ use Rattle.thread_state.specs.declared.value.Value.TheVariants as value
 use Rattle.server_model.specs.declared.event.Event.{Event}
 use Rattle.server_model.specs.Servers.{Server, Cluster}
 use Rattle.server_model.specs.Start.{next_thread}
-use Rattle.heap_law.specs.Names.{tot, one, some}
-use Rattle.heap_law.specs.Things.{Thing, stands, noted, counts, gift_things, things_of}
+use Rattle.heap_law.specs.Names.{tot, one, some, if_so}
+use Rattle.heap_law.specs.Things.{Thing, stands, noted, gift_things}
 use Rattle.heap_law.specs.Follow.{threads_in, thread_at, cells_in}
 use Rattle.heap_law.specs.Sight.{Sight, with_things}
 use Rattle.heap_law.specs.Requests.{home_of, is_par_end}
 use Rattle.heap_law.specs.Sharing.{has_ended}
 use Rattle.heap_law.specs.Naming.{count_of, started_at, made_at}
 use Rattle.heap_law.specs.Weights.{is_thread}
-use Rattle.heap_law.specs.OneHeap.{Node, object_n, mutex_n, task_n, owns, any_named, is_in_state, is_branch, if_in, or_else, first_shown, cell_value, share_in, content_value, branch_result, result_value, running_at, life_of, life_at, pair_of, is_given_thread, if_given, one_heap, state_of}
+use Rattle.heap_law.specs.OneHeap.{Node, object_n, mutex_n, task_n, owns, any_named, is_in_state, is_branch, if_in, or_else, first_shown, cell_value, share_in, content_value, in_pair_of, branch_result, result_value, running_at, life_of, life_at, pair_of, is_given_thread, if_given, one_heap, state_of}
 use Rattle.heap_law.specs.Coherent.{IsSound}
-use Rattle.event_law.specs.Sums.{is_server}
 use Rattle.event_law.proofs.Bags.{counts_of, had_by}
-use Rattle.event_law.proofs.NewThreads.{new_names}
-use Rattle.event_law.proofs.Sound.{sound_has_sums}
 use Rattle.event_law.proofs.Trades.{Same, tot-append}
 use Rattle.still_law.specs.Shows.{ShowAlike, sign_of}
 use Rattle.still_law.proofs.Alike.{Once, same_state, same_once}
@@ -43,7 +39,7 @@ use Rattle.still_law.proofs.Told.{told, ones, at_most}
 use Rattle.turn_law.proofs.Parts.{Own, own_all, none_shown, none_counted, owned_in}
 use Rattle.turn_law.proofs.OneTurn.{as_loose, as_owing, life_as, going_of, going_is, of_thread, Calm, after}
 use Rattle.turn_law.proofs.Instructions.{owned_push}
-use Rattle.turn_law.proofs.Events.{AtStep, told_by, all_of as of_both, itself_counts}
+use Rattle.turn_law.proofs.Events.{AtStep}
 use Rattle.lock_law.proofs.Reach.{SameOwners, NoneUnder, or_left, or_right, or_cases, with_extra, here, stays_in, comes_from}
 use Rattle.lock_law.proofs.Beside.{IsBeside, IsLoose, loose_beside, all_so, gift_uncounted, mine, any_mine, all_of, tot_of, shares_of, itself, besides, cells_of}
 use Rattle.lock_law.proofs.OneNode.{some_there, there_some, one_of_two, is_one}
@@ -55,50 +51,21 @@ use Rattle.lock_law.proofs.NewLines.{le_itself, le_next}
 use Rattle.lock_law.proofs.ThreadTurns.{G, R, quiet, loose}
 use Rattle.task_law.proofs.JoinTakes.{none_owned}
 use Rattle.task_law.proofs.Taken.{ended_there}
+use Rattle.task_law.proofs.NewName.{home_is, count_is, from_one, and_false, unknown, no_thread, lone_all, not_it}
 use Rattle.task_law.proofs.PlainSpawn.{Starts}
 
 -- NUMBERS
 
-one_first : (a b : Bool) → one (a && b) ≤ one a
-one_first true true = omega arith
-one_first true false = omega arith
-one_first false b = omega arith
-
-starts_there : (n c : ℕ) (x : Thing) → started_at n c x ≤ is_server n x
-starts_there n c (counts r nx old started made events) = one_first (r == n) (nat_le c started)
-starts_there n c _ = omega arith
-
-too_many : (a : Bool) (c m : ℕ) → m < c → one (a && nat_le c m) ≡ 0
-too_many false c m l = refl
-too_many true c m l = by (nat_le c m) refl
-  where
-    by : (b : Bool) → nat_le c m ≡ b → one b ≡ 0
-    by true e = absurd (grind (arith, nat_tests, e, l))
-    by false e = refl
-
-home_is : (n c : ℕ) → c < 2 ^ 32 → home_of (n * 2 ^ 32 + c) ≡ n
-home_is n c l = omega (arith, l)
-
-count_is : (n c : ℕ) → c < 2 ^ 32 → count_of (n * 2 ^ 32 + c) ≡ c
-count_is n c l = omega (arith, l)
-
-name_is : (r n c : ℕ) → home_of r ≡ n → count_of r ≡ c → r ≡ n * 2 ^ 32 + c
+pub name_is : (r n c : ℕ) → home_of r ≡ n → count_of r ≡ c → r ≡ n * 2 ^ 32 + c
 name_is r n c h m = omega (arith, h, m)
 
-not_zero : (i c : ℕ) → (i + (c + 1) == 0) ≡ false
-not_zero i c = eq_cases (λ b. b ≡ false) (i + (c + 1)) 0 (λ e. absurd (omega (arith, e))) (λ _. refl)
-
-count_not_zero : (c : ℕ) → (c + 1 == 0) ≡ false
+pub count_not_zero : (c : ℕ) → (c + 1 == 0) ≡ false
 count_not_zero c = eq_cases (λ b. b ≡ false) (c + 1) 0 (λ e. absurd (omega (arith, e))) (λ _. refl)
 
-and_false : (b : Bool) → b && false ≡ false
-and_false true = refl
-and_false false = refl
-
-same_number : (t : ℕ) → (t == t) ≡ true
+pub same_number : (t : ℕ) → (t == t) ≡ true
 same_number t = eq_cases (λ b. b ≡ true) t t (λ _. refl) (λ ne. absurd (ne refl))
 
-ends_less : (t : ℕ) (x : Thing) → has_ended t x ≤ is_thread t x
+pub ends_less : (t : ℕ) (x : Thing) → has_ended t x ≤ is_thread t x
 ends_less t x = ended_there t x
 
 module _ (k : Cluster) (sound : IsSound k) (e : Event) (i : Instr) (single : is_par_end (Some i) ≡ false) (s : Server) (t : ℕ) (x : ThreadState) (at : AtStep k e i s t x) (bare : x.gift ≡ None) (few : s.rest.started + 2 < 2 ^ 32) (target body : ℕ) (left vs : List Value)
@@ -193,55 +160,24 @@ module _ (k : Cluster) (sound : IsSound k) (e : Event) (i : Instr) (single : is_
   loose_new = own_all IsLoose (record { slots = λ a b v. tt; temps = λ a b v. tt; shared = λ a b. tt; lent = λ a b. tt; marks = λ a b. tt; used = λ a b. tt }) target z refl
 
   pub beside2 : AllByRecursion IsBeside G2
-  beside2 = (tt, ((refl, refl), all_so IsLoose IsBeside loose_beside H loose_new))
+  beside2 = (tt, (refl, all_so IsLoose IsBeside loose_beside H loose_new))
 
   -- THE NAME IS NEW
+
+  above : s.rest.started < c1
+  above = omega arith
 
   few_here : c1 < 2 ^ 32
   few_here = omega (arith, few)
 
-  started_none : tot (started_at n c1) (things_of k) ≡ 0
-  started_none =
-      let flat : Own (λ v. started_at n c1 v ≡ 0) = record { slots = λ a j v. refl; temps = λ a j v. refl; shared = λ l r. refl; lent = λ l r. refl; marks = λ l r. refl; used = λ a w. refl } in
-      let unseen : Own (λ v. is_server n v ≡ 0) = record { slots = λ a j v. refl; temps = λ a j v. refl; shared = λ l r. refl; lent = λ l r. refl; marks = λ l r. refl; used = λ a w. refl } in
-      let once : tot (is_server n) (things_of k) ≤ 1 = (sound_has_sums k sound).servers_differ n in
-      let over : started_at n c1 counts_here ≡ 0 = too_many (n == n) c1 s.rest.started (omega arith) in
-      omega (
-        arith,
-        once,
-        changed.same_things k sound e s at.here t x at.at at.number (is_server n),
-        changed.same_things k sound e s at.here t x at.at at.number (started_at n c1),
-        tot_of n x G1 Others (is_server n) unseen,
-        tot_of n x G1 Others (started_at n c1) flat,
-        gift_uncounted (is_server n) x.number counts_here (λ v. refl) x.gift,
-        gift_uncounted (started_at n c1) x.number counts_here (λ v. refl) x.gift,
-        itself_counts n,
-        over,
-        at_most (started_at n c1) (is_server n) (starts_there n c1) Others,
-      )
-
-  u_home : home_of u ≡ n
-  u_home = home_is n c1 few_here
-
-  u_count : count_of u ≡ c1
-  u_count = count_is n c1 few_here
-
   unknown0 : is_given_thread s0 u ≡ false
-  unknown0 =
-      let none : tot (started_at (home_of u) (count_of u)) L ≡ 0 = sym (changed.same_things k sound e s at.here t x at.at at.number (started_at (home_of u) (count_of u))) ∙ subst (λ h. tot (started_at h (count_of u)) (things_of k) ≡ 0) (sym u_home) (subst (λ c. tot (started_at n c) (things_of k) ≡ 0) (sym u_count) started_none) in
-      ap₂ (λ a b. a || (not (count_of u == 0) && some b)) (not_zero (n * 2 ^ 32) s.rest.started) none ∙ and_false (not (count_of u == 0))
+  unknown0 = unknown k sound e i single s t x at s.rest.started above few_here
 
-  no_thread : tot (is_thread u) (things_of k) ≡ 0
-  no_thread = (new_names k e.server s at.here (sound_has_sums k sound) sound.names.names_counted).threads c1 (omega arith) few_here
-
-  -- nothing is of that number
-  lone_all : tot (of_thread u) L ≡ 0
-  lone_all =
-      let none : tot (is_thread u) L ≡ 0 = sym (changed.same_things k sound e s at.here t x at.at at.number (is_thread u)) ∙ no_thread in
-      omega (arith, none, of_both u L, told_by u L, changed.places k sound e s at.here t x at.at at.number (λ w. one (w == u)))
+  lone_u : tot (of_thread u) L ≡ 0
+  lone_u = lone_all k sound e i single s t x at s.rest.started above few_here
 
   differ : x.number ≢ u
-  differ f = absurd (cc (sym unknown0 ∙ ap (is_given_thread s0) (sym f) ∙ changed.given k sound e s at.here t x at.at at.number))
+  differ = not_it k sound e i single s t x at s.rest.started above few_here
 
   -- WITH THE NEW THREAD AMONG THEM THE STATE IS THE SAME
 
@@ -249,10 +185,10 @@ module _ (k : Cluster) (sound : IsSound k) (e : Event) (i : Instr) (single : is_
   once0 = changed.once_before k sound e s at.here t x at.at at.number
 
   onceE : Once (with_things k (E ∷ L))
-  onceE = not_given.once_with k L target true z lone_all calm_new refl once0
+  onceE = not_given.once_with k L target true z lone_u calm_new refl once0
 
   strayE : tot (stray (with_things k (E ∷ L))) (E ∷ L) ≡ 0
-  strayE = not_given.stray_with k L target true z lone_all (changed.none_stray k sound e s at.here t x at.at at.number)
+  strayE = not_given.stray_with k L target true z lone_u (changed.none_stray k sound e s at.here t x at.at at.number)
 
   moved : Same (E ∷ L) front
   moved f = let a = tot-append f (mine n x G1) Others in let b = tot-append f (mine n x G1) R2 in omega (arith, a, b)
@@ -266,7 +202,7 @@ module _ (k : Cluster) (sound : IsSound k) (e : Event) (i : Instr) (single : is_
 
   pub state_before : SameState (state_of s1) (one_heap k)
   state_before =
-      let one_way : SameState (state_of s0) (state_of (with_things k (E ∷ L))) = not_given.same_without k L target true z lone_all calm_new refl unknown0 in
+      let one_way : SameState (state_of s0) (state_of (with_things k (E ∷ L))) = not_given.same_without k L target true z lone_u calm_new refl unknown0 in
       let other_way : SameState (state_of s1) (state_of (with_things k (E ∷ L))) = same_state k (E ∷ L) front onceE alike1 strayE stray_in in
       let first : SameState (state_of s0) (one_heap k) = changed.state_before k sound e s at.here t x at.at at.number in
       then_back (state_of s1) (state_of (with_things k (E ∷ L))) (state_of s0) (one_heap k) other_way one_way first
@@ -353,7 +289,7 @@ module _ (k : Cluster) (sound : IsSound k) (e : Event) (i : Instr) (single : is_
   shown_none : tot (λ a. told ones (shown_result s1 u a)) R2 ≡ 0
   shown_none =
       let flat : Own (λ a. told ones (shown_result s1 u a) ≡ 0) = record { slots = λ a j v. refl; temps = λ a j v. refl; shared = λ l w. refl; lent = λ l w. refl; marks = λ l w. refl; used = λ a w. refl } in
-      let none : tot (is_thread u) L ≡ 0 = sym (changed.same_things k sound e s at.here t x at.at at.number (is_thread u)) ∙ no_thread in
+      let none : tot (is_thread u) L ≡ 0 = sym (changed.same_things k sound e s at.here t x at.at at.number (is_thread u)) ∙ no_thread k sound e i single s t x at s.rest.started above few_here in
       let new_one : has_ended u E ≡ 0 = ap one (ap (λ b. (u == u) && b) (and_false (not (u == 0))) ∙ and_false (u == u)) in
       omega (arith, once1.ends u, tot_of n x G1 R2 (λ a. told ones (shown_result s1 u a)) flat, moved (has_ended u), at_most (has_ended u) (is_thread u) (ends_less u) L, none, new_one)
 
@@ -411,14 +347,25 @@ module _ (k : Cluster) (sound : IsSound k) (e : Event) (i : Instr) (single : is_
   silent : (r : ℕ) → branch_result r (stands n false x) ≡ None
   silent r = ap (λ m. if_in (some m) (Some plain.Unit)) (none_got r x.phase calm.alone)
 
+  apart : (r : ℕ) → tot (in_pair_of r) G1 ≡ tot (in_pair_of r) G2
+  apart r =
+      let new = zero_in (in_pair_of r) (record { slots = λ a j v. refl; temps = λ a j v. refl; shared = λ l w. refl; lent = λ l w. refl; marks = λ l w. refl; used = λ a w. refl }) in
+      let old : tot (in_pair_of r) G1 ≡ 0 = alone (tot (in_pair_of r)) in
+      let note_none : in_pair_of r note ≡ 0 = by (u == r) in
+      omega (arith, new, old, note_none)
+    where
+      by : (b : Bool) → if_so b 0 ≡ 0
+      by true = refl
+      by false = refl
+
   off_task : (r : ℕ) → u ≢ r → extra (task_n r) ≡ false
   off_task r ne = eq_cases (λ b. b ≡ false) u r (λ f. absurd (ne f)) (λ _. refl)
 
   other_life : (r : ℕ) → x.number ≢ r → u ≢ r → life_at s1 r (thread_at (threads_in front) r) ≡ life_at s2 r (thread_at (threads_in after_all) r)
-  other_life r ne nu = one_thread.life_goes_on k R2 G1 G2 n x became beside1 beside2 lone2 locks extra none1 same_in r (off_task r nu) (silent r) refl (results_none r) ne
+  other_life r ne nu = one_thread.life_goes_on k R2 G1 G2 n x became beside1 beside2 lone2 locks extra none1 same_in r (apart r) (off_task r nu) (silent r) refl (results_none r) ne
 
   way_same : going_of s1 x.number ≡ going_of s2 x.number
-  way_same = one_thread.way_goes_on k R2 G1 G2 n x became beside1 beside2 lone2 locks extra none1 same_in x.number (off_task x.number (λ f. differ (sym f))) (silent x.number) refl (results_none x.number)
+  way_same = one_thread.way_goes_on k R2 G1 G2 n x became beside1 beside2 lone2 locks extra none1 same_in x.number (apart x.number) (off_task x.number (λ f. differ (sym f))) (silent x.number) refl (results_none x.number)
 
   -- NAMES
 
@@ -442,9 +389,9 @@ module _ (k : Cluster) (sound : IsSound k) (e : Event) (i : Instr) (single : is_
   known2 : is_given_thread s2 u ≡ true
   known2 =
       let at_n : one ((n == n) && nat_le c1 c1) ≡ 1 = ap₂ (λ a b. one (a && b)) (same_number n) (le_itself c1) in
-      let mine2 : started_at (home_of u) (count_of u) counts_then ≡ 1 = ap₂ (λ h c. started_at h c counts_then) u_home u_count ∙ at_n in
+      let mine2 : started_at (home_of u) (count_of u) counts_then ≡ 1 = ap₂ (λ h c. started_at h c counts_then) (home_is n c1 few_here) (count_is n c1 few_here) ∙ at_n in
       let all : 1 ≤ tot (started_at (home_of u) (count_of u)) after_all = (let sums = tot_of n y G2 R2 (started_at (home_of u) (count_of u)) (flat_starts (home_of u) (count_of u)) in omega (arith, sums, mine2)) in
-      ap₂ (λ a b. a || (not b && some (tot (started_at (home_of u) (count_of u)) after_all))) (not_zero (n * 2 ^ 32) s.rest.started) (ap (λ c. c == 0) u_count ∙ count_not_zero s.rest.started) ∙ there_some (tot (started_at (home_of u) (count_of u)) after_all) all
+      ap₂ (λ a b. a || (not b && some (tot (started_at (home_of u) (count_of u)) after_all))) (from_one n s.rest.started) (ap (λ c. c == 0) (count_is n c1 few_here) ∙ count_not_zero s.rest.started) ∙ there_some (tot (started_at (home_of u) (count_of u)) after_all) all
 
   given_x : is_given_thread s1 x.number ≡ true
   given_x = sym (given1 x.number) ∙ changed.given k sound e s at.here t x at.at at.number
@@ -455,7 +402,7 @@ module _ (k : Cluster) (sound : IsSound k) (e : Event) (i : Instr) (single : is_
   new_there = besides n y G2 R2 beside2 u differ ∙ eq_cases (λ b. (if b then Some (record { server = target; packed = true; thread = z }) else thread_at (threads_in Others) u) ≡ Some (record { server = target; packed = true; thread = z })) u u (λ _. refl) (λ ne. absurd (ne refl))
 
   goes_owing : going_of s2 u ≡ as_owing
-  goes_owing = by u (λ f. absurd (cc (sym (not_zero (n * 2 ^ 32) s.rest.started) ∙ ap (λ a. a == 0) f))) (or_right (is_branch s2 u) (In2 (task_n u)) task_in)
+  goes_owing = by u (λ f. absurd (cc (sym (from_one n s.rest.started) ∙ ap (λ a. a == 0) f))) (or_right (is_branch s2 u) (In2 (task_n u)) task_in)
     where
       by : (m : ℕ) → m ≢ 0 → is_branch s2 m || In2 (task_n m) ≡ true → going_of s2 m ≡ as_owing
       by zero f g = absurd (f refl)
@@ -486,7 +433,7 @@ module _ (k : Cluster) (sound : IsSound k) (e : Event) (i : Instr) (single : is_
 
   -- what is shown once stays so
   pub once_then : Once s2
-  once_then = one_thread.once_on k R2 G1 G2 n x became beside1 beside2 lone2 locks calm calm2 once1 few_cells few_contents few_ends
+  once_then = one_thread.once_on k R2 G1 G2 n x became beside1 beside2 lone2 locks calm (λ r. refl) refl once1 few_cells few_contents few_ends
     where
       few_cells : (o : ObjNo) → tot (λ v. told ones (cell_value o v)) G2 + tot (λ v. told ones (cell_value o v)) R2 ≤ 1
       few_cells o =

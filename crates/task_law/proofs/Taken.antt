@@ -23,7 +23,7 @@ use Rattle.heap_law.specs.Requests.{home_of}
 use Rattle.heap_law.specs.Sharing.{has_ended}
 use Rattle.heap_law.specs.Naming.{count_of, started_at, made_at, uncounted_thread, zeroth_thread}
 use Rattle.heap_law.specs.Weights.{is_thread}
-use Rattle.heap_law.specs.OneHeap.{Node, object_n, mutex_n, task_n, is_in_state, is_branch, if_in, or_else, first_shown, cell_value, share_in, content_value, branch_result, result_value, result_of, ended_with, running_at, life_of, life_at, pair_of, is_given_thread, if_given, state_of}
+use Rattle.heap_law.specs.OneHeap.{Node, object_n, mutex_n, task_n, is_in_state, is_branch, if_in, or_else, first_shown, cell_value, share_in, content_value, in_pair_of, branch_result, result_value, result_of, ended_with, running_at, life_of, life_at, pair_of, is_given_thread, if_given, state_of}
 use Rattle.heap_law.specs.Coherent.{IsSound}
 use Rattle.event_law.proofs.Bags.{counts_of}
 use Rattle.still_law.proofs.Alike.{Once}
@@ -199,10 +199,13 @@ module _ (k : Cluster) (sound : IsSound k) (e : Event) (i : Instr) (s : Server) 
       pub shares : (m : MutexNo) → tot (share_in s1 m) G + (owned_in (mutex_n m) x.slots + owned_in (mutex_n m) x.temps) ≡ owned_in (mutex_n m) slots + owned_in (mutex_n m) temps
 
     module _ {v : Plain} {gone : Node → Bool} (c : Takes v gone) where
+      apart : (r : ℕ) → tot (in_pair_of r) G ≡ tot (in_pair_of r) G2
+      apart r = gift_uncounted (in_pair_of r) x.number counts_here (λ v. refl) x.gift
+
       -- LIVES
 
       way_same : (r : ℕ) → is_its r ≡ false → going_of s1 r ≡ going_of s2 r
-      way_same r off = one_thread.way_goes_on k R G G2 n x z beside (tt, tt) lone1 locks gone c.none c.same r (c.no_other r off) (c.silent r off) refl (c.results r off)
+      way_same r off = one_thread.way_goes_on k R G G2 n x z beside (tt, tt) lone1 locks gone c.none c.same r (apart r) (c.no_other r off) (c.silent r off) refl (c.results r off)
 
       itself_off : is_its x.number ≡ false
       itself_off = by (is_its x.number) refl
@@ -212,7 +215,7 @@ module _ (k : Cluster) (sound : IsSound k) (e : Event) (i : Instr) (s : Server) 
           by false m = m
 
       other_life : (u : ℕ) → x.number ≢ u → is_its u ≡ false → life_at s1 u (thread_at (threads_in s1.things) u) ≡ life_at s2 u (thread_at (threads_in s2.things) u)
-      other_life u ne off = one_thread.life_goes_on k R G G2 n x z beside (tt, tt) lone1 locks gone c.none c.same u (c.no_other u off) (c.silent u off) refl (c.results u off) ne
+      other_life u ne off = one_thread.life_goes_on k R G G2 n x z beside (tt, tt) lone1 locks gone c.none c.same u (apart u) (c.no_other u off) (c.silent u off) refl (c.results u off) ne
 
       its_life : (u : ℕ) → is_its u ≡ true → life_at s1 u (thread_at (threads_in s1.things) u) ≡ ended_with (result_of s1 u)
       its_life u mine_too = by (thread_at (threads_in s1.things) u) refl

@@ -26,7 +26,7 @@ use Rattle.heap_law.specs.Sight.{Sight}
 use Rattle.heap_law.specs.Sharing.{has_ended}
 use Rattle.heap_law.specs.Naming.{started_at, made_at}
 use Rattle.heap_law.specs.Weights.{is_thread}
-use Rattle.heap_law.specs.OneHeap.{Node, task_n, mutex_n, any_named, is_in_state, is_branch, if_in, or_else, first_shown, cell_value, share_in, content_value, branch_result, result_value, result_of, ended_with, running_at, life_of, life_at, made_of, pair_of, is_given_thread, if_given, state_of}
+use Rattle.heap_law.specs.OneHeap.{Node, task_n, mutex_n, any_named, is_in_state, is_branch, if_in, or_else, first_shown, cell_value, share_in, content_value, in_pair_of, branch_result, result_value, result_of, ended_with, running_at, life_of, life_at, made_of, pair_of, is_given_thread, if_given, state_of}
 use Rattle.heap_law.specs.Coherent.{IsSound}
 use Rattle.event_law.proofs.Bags.{counts_of}
 use Rattle.event_law.proofs.GiftsTaken.{gift_fits}
@@ -245,8 +245,11 @@ module _ (k : Cluster) (sound : IsSound k) (e : Event) (o : Operand) (s : Server
     abbrev owed : Sight → ℕ → Bool
     owed w r = is_branch w r || is_in_state w (task_n r)
 
+    apart : (r : ℕ) → tot (in_pair_of r) G1 ≡ tot (in_pair_of r) G2
+    apart r = alone (tot (in_pair_of r)) ∙ sym (out_count x.number n 0 s2 counts_then (in_pair_of r) (λ a. refl) sent)
+
     owed_same : (r : ℕ) → owed s1 r ≡ owed s2 r
-    owed_same r = one_thread.owed_same k Others G1 G2 n x became beside1 beside2 lone1 locks (λ q. false) (nothing_under s1 Others) same_in r refl
+    owed_same r = one_thread.owed_same k Others G1 G2 n x became beside1 beside2 lone1 locks (λ q. false) (nothing_under s1 Others) same_in r (apart r) refl
 
     result_then : result_of s2 x.number ≡ if_in (owed s2 x.number) (option_map plain_of sent)
     result_then =
@@ -267,7 +270,7 @@ module _ (k : Cluster) (sound : IsSound k) (e : Event) (o : Operand) (s : Server
 
     other_life : (r : ℕ) → x.number ≢ r → life_at s1 r (thread_at (threads_in s1.things) r) ≡ life_at s2 r (thread_at (threads_in s2.things) r)
     other_life r ne =
-        one_thread.life_goes_on k Others G1 G2 n x became beside1 beside2 lone1 locks (λ q. false) (nothing_under s1 Others) same_in r refl (ap (λ m. if_in (some m) (Some plain.Unit)) (none_got r x.phase calm.alone)) refl (shown_same r ne) ne
+        one_thread.life_goes_on k Others G1 G2 n x became beside1 beside2 lone1 locks (λ q. false) (nothing_under s1 Others) same_in r (apart r) refl (ap (λ m. if_in (some m) (Some plain.Unit)) (none_got r x.phase calm.alone)) refl (shown_same r ne) ne
 
     given_same : (u : ℕ) → is_given_thread s1 u ≡ is_given_thread s2 u
     given_same = one_thread.given_same k Others G1 G2 n x became beside1 beside2 lone1 locks (λ h d. alone (tot (started_at h d)) ∙ omega (arith, out_count x.number n 0 s2 counts_then (started_at h d) (λ a. refl) sent))

@@ -33,6 +33,11 @@ abbrev pub starts_thread : Instr → Bool
 starts_thread (instr.Spawn cs body) = true
 starts_thread i = false
 
+-- a pair of threads, for which the thread waits
+abbrev pub starts_pair : Instr → Bool
+starts_pair (instr.Par cs body ds other) = true
+starts_pair i = false
+
 -- THE END OF A THREAD
 
 -- what it ends with

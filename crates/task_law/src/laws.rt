@@ -1,5 +1,5 @@
 ghost use Rattle.heap_law.specs.Coherent.{IsSound};
-ghost use Rattle.task_law.specs.Tasks.{EndsArePlain, ends_pair, joins_thread, starts_thread};
+ghost use Rattle.task_law.specs.Tasks.{EndsArePlain, ends_pair, joins_thread, starts_pair, starts_thread};
 ghost use Rattle.turn_law.specs.Turns.{ArePlainSteps};
 
 /// From a sound cluster, each step at the end of a pair is the plain step of its thread on the one heap, its messages handed over: the parent goes on, and the results of
@@ -23,4 +23,9 @@ pub fn end_steps()
 /// has its task.
 pub fn spawn_steps()
     ensures { ArePlainSteps IsSound starts_thread }
+{}
+
+/// The same of a start of a pair, under the two next names: both have what they captured, the second one from what the first one leaves, and their parent waits for them.
+pub fn par_steps()
+    ensures { ArePlainSteps IsSound starts_pair }
 {}

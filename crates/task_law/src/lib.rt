@@ -3,4 +3,4 @@
 
 mod laws;
 
-pub use laws::{end_steps, join_steps, pair_end_steps, spawn_steps};
+pub use laws::{end_steps, join_steps, pair_end_steps, par_steps, spawn_steps};
