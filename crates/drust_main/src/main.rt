@@ -1,25 +1,8 @@
 //! The program `drust`: the words of its command line, one source, and the text that it writes.
 #![tactic(auto)]
 
-mod forms;
-mod laws;
-#[cfg(test)]
-mod order_cases;
-#[cfg(test)]
-mod program_cases;
-mod refused;
-mod replay;
-mod report;
-mod run;
-#[cfg(test)]
-mod shared_cases;
-#[cfg(test)]
-mod tests;
-mod top;
-mod words;
-
-use crate::top::drust;
 use drust_io::{NoGate, StdSink, StdSource};
+use drust_top::drust;
 use std::process::ExitCode;
 
 // The words after the program's name; none where one of them isn't text, or there is no memory for them.

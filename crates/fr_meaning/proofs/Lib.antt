@@ -13,7 +13,6 @@ pub mod StepFacts
 pub mod EntryLemmas
 pub mod StandLemmas
 pub mod PoolLemmas
-pub mod ExampleLemmas
 pub mod StartLemmas
 pub mod LockSteps
 pub mod BodyLemmas

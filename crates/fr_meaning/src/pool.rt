@@ -135,6 +135,3 @@ impl Pool {
         ending_in(&self.running)
     }
 }
-
-#[cfg(test)]
-mod tests;

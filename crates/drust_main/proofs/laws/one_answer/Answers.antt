@@ -1,5 +1,0 @@
-use Rattle.drust_main.proofs.OneAnswer.{one, runs, follows}
-use Rattle.drust_main.proofs.laws.one_answer.Goals as goal
-
-pub returns : goal.returns
-returns c = record { once = one; typed = runs; followed = follows }

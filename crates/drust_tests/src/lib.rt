@@ -1,0 +1,14 @@
+//! Tests of the whole way from bytes to text, and of the plain machine on sources. They stand in a crate of their own, since tests
+//! within a crate prove its functions once more.
+#![tactic(auto)]
+
+#[cfg(test)]
+mod answers;
+#[cfg(test)]
+mod machine;
+#[cfg(test)]
+mod order_cases;
+#[cfg(test)]
+mod program_cases;
+#[cfg(test)]
+mod shared_cases;

@@ -1,0 +1,106 @@
+-- Why a source has no run, and what is written then (this project's format). A place is a byte of the input, from 0.
+use Rattle.std.specs.Prelude.{◌≡◌, ℕ, List, [], ◌++◌, Some, codes, decimal}
+use Rattle.fr_terms.specs.Terms.{Text, Term}
+use Rattle.fr_typing.specs.declared.reason.Reason.{Reason}
+use Rattle.fr_typing.specs.declared.reason.Reason.TheVariants.{UnknownName, NameInScope, NotDefined, NoTarget, ReadBlocked, WriteBlocked, MovedThrough, NotWritable, WrongType, Outlives, NotOwned, NotFull}
+use Rattle.fr_typing.specs.Typing.{Faults}
+use Rattle.fr_syntax.specs.declared.token.Token.{Token}
+use Rattle.fr_syntax.specs.declared.token.TokenError.{TokenError}
+use Rattle.fr_syntax.specs.declared.token.TokenError.TheVariants as token
+use Rattle.fr_syntax.specs.Tokens.{AreTokens, IsRefused}
+use Rattle.fr_parse.specs.declared.fault.ParseError.{ParseError}
+use Rattle.fr_parse.specs.declared.fault.ParseError.TheVariants as parse
+use Rattle.fr_parse.specs.Table.{refusal}
+use Rattle.fr_parse.specs.Source.{IsSource}
+use Rattle.drust_top.specs.declared.words.Command.{Command}
+use Rattle.drust_top.specs.declared.words.Command.TheVariants.{Run, Replay}
+use Rattle.drust_top.specs.Typed.{IsAccepted}
+use Rattle.drust_top.specs.Forms.{later_form}
+use Rattle.drust_top.specs.Replay.{source_in, HasBadOrder}
+use Rattle.drust_top.specs.declared.refused.Refused.{Refused}
+use Rattle.drust_top.specs.declared.refused.Refused.TheVariants.{Tokens, Grammar, Form, Fault, Order, NoMemory}
+
+-- the bytes have tokens, and of these the table of the language has this first refusal
+pub record IsUnparsed (bytes : List ℕ) (error : ParseError) : Type 0 where
+  pub names : List Text
+  pub ts : List Token
+  pub tokens : AreTokens bytes ts names
+  pub first : refusal ts ≡ Some error
+
+-- the bytes are the source of a program, and its first term of a form that is not of one thread begins there
+pub record HasLaterForm (bytes : List ℕ) (place : ℕ) : Type 0 where
+  pub term : Term
+  pub source : IsSource bytes term
+  pub first : later_form term ≡ Some place
+
+-- the cause of a refusal of a form: `replay` refuses none
+abbrev pub HasFormCause : Command → List ℕ → ℕ → Type 0
+HasFormCause Run bytes place = HasLaterForm bytes place
+HasFormCause Replay bytes place = ⊥
+
+-- the bytes are the source of a program that the command accepts, of which this is the first fault of types
+pub record IsFaulty (command : Command) (bytes : List ℕ) (place : ℕ) (why : Reason) : Type 0 where
+  pub term : Term
+  pub source : IsSource bytes term
+  pub accepted : IsAccepted command term
+  pub faults : Faults [] term place why
+
+-- the cause of a refusal of a source by a command
+abbrev pub HasCause : Command → List ℕ → Refused → Type 0
+HasCause c bytes (Tokens error) = IsRefused bytes error
+HasCause c bytes (Grammar error) = IsUnparsed bytes error
+HasCause c bytes (Form place) = HasFormCause c bytes place
+HasCause c bytes (Fault place why) = IsFaulty c bytes place why
+HasCause c bytes (Order place) = ⊥
+HasCause c bytes NoMemory = ⊥
+
+-- the cause of a refusal of a source with an order behind it: of the order, or of the source in front of it
+abbrev pub HasReplayCause : List ℕ → Refused → Type 0
+HasReplayCause bytes (Order place) = HasBadOrder bytes place
+HasReplayCause bytes why = HasCause Replay (source_in bytes) why
+
+abbrev pub status_of : Refused → ℕ
+status_of (Tokens error) = 3
+status_of (Grammar error) = 3
+status_of (Form place) = 11
+status_of (Fault place why) = 4
+status_of (Order place) = 10
+status_of NoMemory = 8
+
+-- what is refused, and where
+abbrev pub at_place : List ℕ → ℕ → List ℕ
+at_place what place = codes "refused " ++ what ++ codes " at " ++ decimal place ++ codes "\n"
+
+abbrev pub token_text : TokenError → List ℕ
+token_text (token.BadByte place) = at_place (codes "byte") place
+token_text (token.NameTooLong place) = at_place (codes "name") place
+token_text (token.NumberTooLarge place) = at_place (codes "number") place
+token_text token.NoMemory = []
+
+abbrev pub grammar_text : ParseError → List ℕ
+grammar_text (parse.Syntax place) = at_place (codes "syntax") place
+grammar_text (parse.TooDeep place) = at_place (codes "depth") place
+grammar_text parse.NoMemory = []
+
+abbrev pub reason_text : Reason → List ℕ
+reason_text UnknownName = codes "unknown name"
+reason_text NameInScope = codes "name in scope"
+reason_text NotDefined = codes "not defined"
+reason_text NoTarget = codes "no target"
+reason_text ReadBlocked = codes "read blocked"
+reason_text WriteBlocked = codes "write blocked"
+reason_text MovedThrough = codes "moved through a reference"
+reason_text NotWritable = codes "not writable"
+reason_text WrongType = codes "wrong type"
+reason_text Outlives = codes "outlives"
+reason_text NotOwned = codes "not owned"
+reason_text NotFull = codes "not full"
+
+-- the line that is written
+abbrev pub text_of : Refused → List ℕ
+text_of (Tokens error) = token_text error
+text_of (Grammar error) = grammar_text error
+text_of (Form place) = at_place (codes "form") place
+text_of (Order place) = at_place (codes "order") place
+text_of (Fault place why) = codes "refused type at " ++ decimal place ++ codes ": " ++ reason_text why ++ codes "\n"
+text_of NoMemory = []
