@@ -67,12 +67,12 @@ no_reference : (o : Option Value) (r : MutRef) → owning o ≡ None → o ≡ S
 no_reference o r e f = let z : Some (value.Mut r) ≡ None = ap owning (sym f) ∙ e in absurd cc
 
 -- a reference whose holder's word is its first one has a holder
-held_somewhere : (g : Ground) (r : MutRef) (o : Option Location) → other (is_first r (value_behind g o)) ≡ 0 → (m : Location) × (o ≡ Some m)
+pub held_somewhere : (g : Ground) (r : MutRef) (o : Option Location) → other (is_first r (value_behind g o)) ≡ 0 → (m : Location) × (o ≡ Some m)
 held_somewhere g r None e = absurd cc
 held_somewhere g r (Some m) e = (m, refl)
 
 -- one place that is lent
-lent_there : (l : Location) (o : Option Location) → is_among l (with_place o []) ≡ true → o ≡ Some l
+pub lent_there : (l : Location) (o : Option Location) → is_among l (with_place o []) ≡ true → o ≡ Some l
 lent_there l None e = absurd cc
 lent_there l (Some m) e = by (same_location m l) refl e
   where

@@ -13,3 +13,4 @@ pub mod Far
 pub mod Leaving
 pub mod Assigning
 pub mod Assigns
+pub mod Making

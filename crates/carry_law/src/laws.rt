@@ -2,6 +2,7 @@
 
 ghost use Rattle.carry_law.specs.Carried.{CarriedStays};
 ghost use Rattle.carry_law.specs.Leaving.{MovesLeave};
+ghost use Rattle.carry_law.specs.Made.{MadeKeeps};
 ghost use Rattle.carry_law.specs.Steps.{AssignsOver, DiscardsCarry, LocksKeep, OwnedGoes, StepsCarry};
 
 /// Where a value goes from one place to another, from whose pointer no mutable reference was made, each object has the word that it had, references know the words
@@ -35,4 +36,10 @@ pub fn locks_keep_words()
 /// the same of all else.
 pub fn moves_leave_words()
     ensures moves { MovesLeave }
+{}
+
+/// Where an object is made to which nothing pointed, and one pointer to it is there, it has that pointer's word, which leads to it, each other object has the word
+/// that it had, and what else is kept of words is kept: what the new cell has stood in no place before.
+pub fn made_objects_have_words()
+    ensures keeps { MadeKeeps }
 {}

@@ -4,5 +4,6 @@
 mod laws;
 
 pub use laws::{
-    locks_keep_words, moves_leave_words, owned_values_go, steps_carry_values, values_are_carried,
+    locks_keep_words, made_objects_have_words, moves_leave_words, owned_values_go,
+    steps_carry_values, values_are_carried,
 };
