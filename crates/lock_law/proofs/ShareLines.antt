@@ -1,6 +1,6 @@
 -- A step that drops a value of a mutex, at the server and on the plain machine, where another value of it is in the state.
 use Rattle.std.proofs.Common.{◌≡◌, ℕ, zero, suc, ◌+◌, ◌≤◌, true, false, List, [], ◌∷◌, length, Option, Some, None, option_map, refl, sym, ap, subst, ◌∙◌, arith}
-use Rattle.std.specs.Prelude.{◌-◌}
+use Rattle.std.specs.Prelude.{◌-◌, slice_get, slice_set, nat_lt, Bool, if◌then◌else◌}
 use Rattle.fr_base.specs.Lists.{last_of}
 use Rattle.fr_base.specs.declared.name.MutexNo.{MutexNo}
 use Rattle.fr_base.specs.declared.release.Released.TheVariants as released
@@ -11,13 +11,16 @@ use Rattle.fr_base.specs.declared.instruction.Instr.{Instr}
 use Rattle.fr_base.specs.declared.instruction.Instr.TheVariants as instr
 use Rattle.fr_plain.specs.declared.value.Value.{Value as PlainValue}
 use Rattle.fr_plain.specs.declared.value.Value.TheVariants as plain_v
-use Rattle.fr_plain.specs.State.{without}
-use Rattle.fr_plain.specs.MachineActs.{act as act_of, drops_last, do_discard, do_drop, end_of, unit}
+use Rattle.fr_base.specs.declared.place.Lval.{Lval}
+use Rattle.fr_base.specs.declared.instruction.Operand.{Operand}
+use Rattle.fr_plain.specs.State.{without, slot_at, with_slot}
+use Rattle.fr_plain.specs.State.{in_slot as state_slot}
+use Rattle.fr_plain.specs.MachineActs.{Did, assign_did, end_of_some, do_assign, act as act_of, drops_last, do_discard, do_drop, end_of, unit}
 use Rattle.fr_plain.specs.MachineThreads.{Shared, going, mutex_there, with_mutex}
 use Rattle.fr_plain.specs.Machine.{done_act, alone_stepped}
 use Rattle.fr_plain.specs.PlainState.{SameState, plain_state}
 use Rattle.fr_code.specs.Machine.{CodeWhole, CodeRunning}
-use Rattle.fr_code.specs.Steps.{Place, CodeAct, code_moves, over_at, run_instr}
+use Rattle.fr_code.specs.Steps.{Place, CodeAct, code_moves, over_at, run_instr, quiet}
 use Rattle.heap_partition.specs.declared.value.Owned.TheVariants as owned
 use Rattle.read_cache.specs.Cache.{Copy}
 use Rattle.migration.specs.Packing.{unpin_all}
@@ -28,18 +31,18 @@ use Rattle.journal.specs.declared.act.Act.TheVariants as act
 use Rattle.server_msgs.specs.declared.message.Message.TheVariants as message
 use Rattle.server_model.specs.declared.event.Event.{Event}
 use Rattle.server_model.specs.Servers.{Server, Cluster}
-use Rattle.server_model.specs.Work.{Hand, Popped, send, note, label_all, front_of, with_slots, with_temps, with_cache, mutex_of, then_some}
-use Rattle.server_model.specs.Places.{nowhere, in_slot, on_top}
+use Rattle.server_model.specs.Work.{Hand, Popped, pop, send, note, label_all, front_of, with_slots, with_temps, with_cache, mutex_of, then_some}
+use Rattle.server_model.specs.Places.{put_slot, nowhere, in_slot, on_top}
 use Rattle.server_model.specs.Prepare.{prepare, ending}
 use Rattle.server_model.specs.Drop.{drop_value}
-use Rattle.server_model.specs.Commit.{goes_on, go_on, label_dropped}
+use Rattle.server_model.specs.Commit.{goes_on, go_on, label_dropped, replace_slot}
 use Rattle.server_model.specs.Events.{Stepped, stepped, begin_work, committed, prepared, step}
 use Rattle.server_model.specs.Clusters.{apply}
 use Rattle.heap_law.specs.Names.{one}
 use Rattle.heap_law.specs.Things.{Thing}
 use Rattle.heap_law.specs.Sight.{Sight, sight}
 use Rattle.heap_law.specs.Requests.{is_par_end}
-use Rattle.heap_law.specs.OneHeap.{Node, mutex_n, owns, is_in_state, running_at, one_heap, state_of}
+use Rattle.heap_law.specs.OneHeap.{Node, plain_value, mutex_n, owns, is_in_state, running_at, one_heap, state_of}
 use Rattle.heap_law.specs.Coherent.{IsSound}
 use Rattle.event_law.specs.Laws.{Gives}
 use Rattle.event_law.proofs.Bags.{counts_of, rest_things}
@@ -52,10 +55,13 @@ use Rattle.turn_law.specs.Turns.{StepsTo, IsPlainStep, instr_of}
 use Rattle.turn_law.proofs.Parts.{owned_in}
 use Rattle.turn_law.proofs.OneTurn.{Going, after}
 use Rattle.turn_law.proofs.PlainTurn.{thread_as, state_at}
-use Rattle.turn_law.proofs.Instructions.{shown_last, shown_push, owned_push}
+use Rattle.turn_law.proofs.Instructions.{shown_last, shown_push, owned_push, Pops, PopsTo, itself as same_value, popped}
 use Rattle.turn_law.proofs.Clauses.{same_thread}
 use Rattle.turn_law.proofs.Events.{AtStep, Sends, events_are, then_same}
-use Rattle.lock_law.specs.Locks.{dropped_share, SharesGo}
+use Rattle.path_law.proofs.Shown.{shown_value}
+use Rattle.turn_law.proofs.SlotReads.{set_shown}
+use Rattle.turn_law.proofs.DropLines.{set_owned}
+use Rattle.lock_law.specs.Locks.{variable_share, dropped_share, SharesGo}
 use Rattle.lock_law.proofs.Changed as changed
 use Rattle.lock_law.proofs.DupLines.{running_to}
 use Rattle.lock_law.proofs.OneThread.{GoesOn, next}
@@ -233,6 +239,62 @@ module _ (k : Cluster) (sound : IsSound k) (e : Event) (s : Server) (t : ℕ) (x
         subst (λ l. Gives Wanted2 (prepared k.options.servers instr.DropSlot (prepare (ending (in_slot (length x.slots - 1)) l) start2))) (sym q)
         (subst (λ l. Gives Wanted2 (committed (goes_on (then_some {X = Popped Value} (option_map (λ v. record { item = v; hand = with_slots front2 start2 }) l) (λ z. drop_value nowhere z.item (label_dropped z.item z.hand)))))) (sym q) dropped)
 
+-- a variable
+abbrev variable : ℕ → Lval
+variable j = record { slot = j; depth = 0 }
+
+module _ (k : Cluster) (sound : IsSound k) (e : Event) (s : Server) (t : ℕ) (x : ThreadState) (m : MutexNo) (j : ℕ) (o : Operand) (at : AtStep k e (instr.Assign (variable j) o) s t x) (q : slice_get x.slots j ≡ Some (share m)) where
+  abbrev i3 : Instr
+  i3 = instr.Assign (variable j) o
+
+  abbrev start3 : Hand
+  start3 = record { work = begin_work s.rest; thread = x }
+
+  pub bare3 : x.gift ≡ None
+  bare3 = (gift_fits k sound e.server s at.here t x at.at i3 at.code).0
+
+  abbrev slots3 : Value → List Value
+  slots3 v = slice_set x.slots j v
+
+  pub even3 : (v : Value) (rest : List Value) → Pops o x.temps v rest → (w : Node) → owned_in w x.slots + owned_in w x.temps ≡ owned_in w (slots3 v) + owned_in w rest + one (owns w (owned.Mutex m))
+  even3 v rest u w = omega (arith, u.owned w, set_owned w x.slots j (share m) v q)
+
+  abbrev Wanted3 : Stepped → Type 0
+  Wanted3 d = Sends k e s (stepped s d) → is_in_state (sight (Next k sound e i3 refl s t x at d)) (mutex_n m) ≡ true → IsPlainStep k (Next k sound e i3 refl s t x at d, (stepped s d).1)
+
+  module _ (v : Value) (rest : List Value) (u : Pops o x.temps v rest) where
+    seen : (c : CodeWhole) → slot_at (shown_last x.slots) j ≡ Some (plain_v.Own (plain.Mutex m))
+    seen c = shown_value x.slots j ∙ ap (option_map plain_value) q
+
+    assigning : CodeAct
+    assigning = do_assign (variable j) (plain_value v)
+
+    set : (c : CodeWhole) → Option Did
+    set c = Some (record { value = unit; state = record { thread = x.number; slots = with_slot (shown_last x.slots) j (plain_value v); heap = without c.heap (plain_v.Own (plain.Mutex m)) }; labels = [] })
+
+    assigned3 : Gives Wanted3 (committed (goes_on (Some (gone_hand k sound e i3 refl s t x at bare3 m (slots3 v) rest (even3 v rest u)))))
+    assigned3 =
+        settled k sound e i3 refl s t x at bare3 m (slots3 v) rest (even3 v rest u) (do_assign (variable j) (plain_value v)) (λ z. record { pc = x.pc + 1; temps = shown_last rest }) refl (u.taken (λ w ts. quiet (x.pc + 1) ts (do_assign (variable j) w))) refl (λ c g. refl)
+        (λ c. ap (assign_did (state_at c x.number (shown_last x.slots)) (plain_value v) (record { spot = state_slot j; passed = [] })) (seen c) ∙ ap (λ l. Some (record { value = unit; state = record { thread = x.number; slots = l; heap = without c.heap (plain_v.Own (plain.Mutex m)) }; labels = [] })) (set_shown x.slots j v))
+        (λ c. ap (end_of_some c.heap) (seen c))
+
+    put_line : Gives Wanted3 (committed (goes_on (then_some (put_slot j v (label_dropped (share m) (with_temps rest start3))) (drop_value nowhere (share m)))))
+    put_line = by (nat_lt j (length x.slots))
+      where
+        by : (b : Bool) → Gives Wanted3 (committed (goes_on (then_some (if b then Some (with_slots (slots3 v) (label_dropped (share m) (with_temps rest start3))) else None) (drop_value nowhere (share m)))))
+        by true = assigned3
+        by false = tt
+
+    with_value3 : Gives Wanted3 (committed (goes_on (replace_slot j nowhere v (with_temps rest start3))))
+    with_value3 = subst (λ l. Gives Wanted3 (committed (goes_on (then_some l (λ old. then_some (put_slot j v (label_dropped old (with_temps rest start3))) (drop_value nowhere old)))))) (sym q) put_line
+
+  pub assign_line : Gives Wanted3 (step k.options.servers i3 start3)
+  assign_line = subst (λ l. Gives Wanted3 (prepared k.options.servers i3 (prepare (ending (in_slot j) l) start3))) (sym q) (by (pop o start3) (popped o start3))
+    where
+      by : (z : Option (Popped Value)) → Gives (PopsTo o start3 same_value) z → Gives Wanted3 (committed (goes_on (then_some z (λ p. replace_slot j nowhere p.item p.hand))))
+      by None g = tt
+      by (Some p) g = subst (λ h. Gives Wanted3 (committed (goes_on (replace_slot j nowhere p.item h)))) (sym g.hand) (with_value3 p.item g.rest g.pops)
+
 -- which value it is
 share_is : (o : Option Value) (m : MutexNo) → then_some o mutex_of ≡ Some m → o ≡ Some (share m)
 share_is None m e = absurd (cc e)
@@ -252,9 +314,19 @@ share_is (Some (value.Held w)) m e = absurd (cc e)
 pub shares_go : SharesGo
 shares_go k e i y m q th it sound few = by i q it
   where
+    of_slot : (j d : ℕ) (o : Operand) → instr_of k e ≡ Some (instr.Assign (record { slot = j; depth = d }) o) → variable_share d (slice_get y.slots j) ≡ Some m → Gives (λ d. is_in_state (sight d.0) (mutex_n m) ≡ true → IsPlainStep k d) (apply k e)
+    of_slot j (suc d) o q it = absurd (cc it)
+    of_slot j zero o q it =
+        events_are (λ d. is_in_state (sight d.0) (mutex_n m) ≡ true → IsPlainStep k d) k e (instr.Assign (variable j) o) sound few (λ s t x at.
+        assign_line k sound e s t x m j o at (share_is (slice_get x.slots j) m (ap (λ (z : ThreadState). then_some (slice_get z.slots j) mutex_of) (same_thread k e (instr.Assign (variable j) o) s t x y at th) ∙ it))) q
+
+    of_variable : (w : Lval) (o : Operand) → instr_of k e ≡ Some (instr.Assign w o) → variable_share w.depth (slice_get y.slots w.slot) ≡ Some m → Gives (λ d. is_in_state (sight d.0) (mutex_n m) ≡ true → IsPlainStep k d) (apply k e)
+    of_variable w o q it = of_slot w.slot w.depth o q it
+
     by : (i : Instr) → instr_of k e ≡ Some i → dropped_share i y ≡ Some m → Gives (λ d. is_in_state (sight d.0) (mutex_n m) ≡ true → IsPlainStep k d) (apply k e)
     by instr.Discard q it =
         events_are (λ d. is_in_state (sight d.0) (mutex_n m) ≡ true → IsPlainStep k d) k e instr.Discard sound few (λ s t x at. discard_line k sound e s t x m at (share_is (last_of x.temps) m (ap (λ (z : ThreadState). then_some (last_of z.temps) mutex_of) (same_thread k e instr.Discard s t x y at th) ∙ it))) q
     by instr.DropSlot q it =
         events_are (λ d. is_in_state (sight d.0) (mutex_n m) ≡ true → IsPlainStep k d) k e instr.DropSlot sound few (λ s t x at. drop_line k sound e s t x m at (share_is (last_of x.slots) m (ap (λ (z : ThreadState). then_some (last_of z.slots) mutex_of) (same_thread k e instr.DropSlot s t x y at th) ∙ it))) q
+    by (instr.Assign w o) q it = of_variable w o q it
     by _ q it = absurd (cc it)

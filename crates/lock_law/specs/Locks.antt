@@ -1,11 +1,12 @@
 -- WHICH INSTRUCTIONS: those at mutexes, and those that make objects. (A step that asks for an answer does no plain step)
-use Rattle.std.specs.Prelude.{◌≡◌, Bool, true, false, Option, Some, None}
+use Rattle.std.specs.Prelude.{ℕ, zero, suc, slice_get, ◌≡◌, Bool, true, false, Option, Some, None}
 use Rattle.std.specs.Bool.{⊤}
 use Rattle.fr_base.specs.Lists.{last_of}
 use Rattle.fr_base.specs.declared.name.MutexNo.{MutexNo}
 use Rattle.fr_base.specs.declared.instruction.Instr.{Instr}
 use Rattle.fr_base.specs.declared.instruction.Instr.TheVariants as instr
 use Rattle.thread_state.specs.View.{ThreadState}
+use Rattle.thread_state.specs.declared.value.Value.{Value}
 use Rattle.server_model.specs.declared.event.Event.{Event}
 use Rattle.server_model.specs.Servers.{Cluster}
 use Rattle.server_model.specs.Work.{front_of, mutex_of, then_some}
@@ -55,10 +56,15 @@ UnlocksArePlain =
 
 -- A VALUE OF A MUTEX THAT IS DROPPED
 
--- the mutex of the temporary value that is discarded, or of the last slot's value
+abbrev pub variable_share : ℕ → Option Value → Option MutexNo
+variable_share zero v = then_some v mutex_of
+variable_share (suc d) v = None
+
+-- the mutex of the temporary value that is discarded, of the last slot's value, or of what stands in the variable that is assigned
 abbrev pub dropped_share : Instr → ThreadState → Option MutexNo
 dropped_share instr.Discard y = then_some (last_of y.temps) mutex_of
 dropped_share instr.DropSlot y = then_some (last_of y.slots) mutex_of
+dropped_share (instr.Assign w o) y = variable_share w.depth (slice_get y.slots w.slot)
 dropped_share i y = None
 
 -- from a sound cluster, each step that drops a value of a mutex is a plain step, its messages handed over, where another value of it is in the state afterwards. (Else its

@@ -27,8 +27,8 @@ pub fn box_steps()
     ensures { ArePlainSteps IsCoherent makes_box }
 {}
 
-/// From a sound cluster, so is a discard and the drop of a slot whose value is one of a mutex, where another value of it is in the state afterwards: the mutex has one share
-/// less.
+/// From a sound cluster, so is a discard, the drop of a slot and an assignment to a variable whose old value is one of a mutex, where another value of it is in the state
+/// afterwards: the mutex has one share less.
 pub fn share_steps()
     ensures { SharesGo }
 {}

@@ -266,7 +266,7 @@ last_shown vs v e = ap shown_last (last_split vs v e) ∙ shown_push (front_of v
 last_owned : (q : Node) (vs : List Value) (v : Value) → last_of vs ≡ Some v → owned_in q vs ≡ owned_in q (front_of vs) + one (value_owns q v)
 last_owned q vs v e = ap (owned_in q) (last_split vs v e) ∙ owned_push q (front_of vs) v
 
-set_owned : (q : Node) (xs : List Value) (i : ℕ) (old new : Value) → slice_get xs i ≡ Some old → owned_in q (slice_set xs i new) + one (value_owns q old) ≡ owned_in q xs + one (value_owns q new)
+pub set_owned : (q : Node) (xs : List Value) (i : ℕ) (old new : Value) → slice_get xs i ≡ Some old → owned_in q (slice_set xs i new) + one (value_owns q old) ≡ owned_in q xs + one (value_owns q new)
 set_owned q [] i old new e = absurd (cc e)
 set_owned q (x ∷ xs) zero old new e = let same : x ≡ old = some_is e in omega (arith, ap (λ w. one (value_owns q w)) same)
 set_owned q (x ∷ xs) (suc i) old new e = omega (arith, set_owned q xs i old new e)
