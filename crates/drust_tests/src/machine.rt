@@ -1,13 +1,17 @@
-//! The plain machine, step by step, on a program whose steps and labels were worked out by hand.
+//! The plain machine, step by step, on programs whose steps, waits and labels were worked out by hand.
 
 use drust_top::{Command, checked_source};
-use fr_base::{Ending3, Fresh, ThreadNo, Wait};
+use fr_base::{Ending3, Fresh, MutexNo, ThreadNo, Wait};
 use fr_meaning::{Need, Pool, StepError};
 use std::alloc::Global;
 use std::process::Abort;
 use std::test::Fail;
 
 const JOINED: &[u8] = b"{ let mut h = spawn () { 3 }; print join h }";
+
+// A thread of the pair waits for the mutex that its parent holds, which waits for the pair.
+const HELD: &[u8] =
+    b"{ let mut m = mutex 8; let mut n = dup m; lock m as x { par (n) { lock n as y { print y } } () { print 7 } } }";
 
 // Steps: of the thread with that count, whom it starts (0 for none), and how many labels it has. Main comes to its join.
 const STARTED: [(u32, u32, u64); 3] = [(0, 1, 1), (0, 0, 0), (0, 0, 0)];
@@ -63,5 +67,35 @@ fn plain_steps(rt: HostRuntime) -> Result<(), Fail> {
     assert_eq!(rt; pool.ending(), Ending3::Finished);
     assert_eq!(rt; pool.needs(main), None);
     assert_eq!(rt; pool.output(), [3].as_slice());
+    Ok(())
+}
+
+#[test]
+fn a_deadlock(rt: HostRuntime) -> Result<(), Fail> {
+    let mut pool = pool_of(&rt, rt.alloc(), HELD)?;
+    let mutex = MutexNo { home: 0, count: 1 };
+    let main = ThreadNo::new(0, 0);
+    let (first, second) = (ThreadNo::new(0, 1), ThreadNo::new(0, 2));
+    for (thread, need, fresh) in [
+        (main, Need::Mutex, Fresh::Mutex(mutex)),
+        (main, Need::Nothing, Fresh::None),
+        (main, Need::Nothing, Fresh::None),
+        (main, Need::Nothing, Fresh::None),
+        (main, Need::Nothing, Fresh::None),
+        (main, Need::Threads, Fresh::Threads(first, second)),
+        (second, Need::Nothing, Fresh::None),
+        (second, Need::Nothing, Fresh::None),
+    ] {
+        assert_eq!(rt; pool.ending(), Ending3::Going);
+        assert_eq!(rt; pool.needs(thread), Some(need));
+        assert!(rt; pool.step(thread, fresh).is_ok());
+    }
+    let for_pair = StepError::Waits(Wait::Par(first, second));
+    refuses(&rt, &mut pool, 0, Fresh::None, for_pair);
+    let for_mutex = StepError::Waits(Wait::Lock(mutex));
+    refuses(&rt, &mut pool, 1, Fresh::None, for_mutex);
+    refuses(&rt, &mut pool, 2, Fresh::None, StepError::Ended);
+    assert_eq!(rt; pool.ending(), Ending3::Deadlocked);
+    assert_eq!(rt; pool.output(), [7].as_slice());
     Ok(())
 }

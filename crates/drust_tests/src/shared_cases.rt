@@ -74,6 +74,12 @@ pub const PAIR_INSIDE: &str = "{ let mut m = mutex 8; let mut n = dup m; lock m 
 pub const PAIRS: &str = "{ par () { par () { print 1 } () { print 2 } } () { print 3 } }";
 
 #[rattlefmt::skip]
+pub const SEEN_TWICE: &str = "{ let mut x = box 1; { let mut r = &*x; par (r) { print *r } (r) { print *r } }; *x = 2; { let mut s = &*x; par (s) { print *s } (s) { print *s } } }";
+
+#[rattlefmt::skip]
+pub const SEEN_BOTH: &str = "{ let mut x = box 1; let mut y = box 2; let mut a = &*x; let mut b = &*y; par (a, b) { print *a; print *b; print (*a + *b) } () { } }";
+
+#[rattlefmt::skip]
 pub const PAIR_JOINS: &str = "{ let mut h = spawn () { 5 }; par (h) { print join h } () { print 1 } }";
 
 /// Sources of one thread with mutexes, each with an order, and the status and the text of its replay.
@@ -126,7 +132,11 @@ pub const SHARED_ORDERS: [(&str, &str, u8, &str); 28] = [
 
 /// Sources with pairs of threads, in the same way.
 #[rattlefmt::skip]
-pub const PAIR_ORDERS: [(&str, &str, u8, &str); 32] = [
+pub const PAIR_ORDERS: [(&str, &str, u8, &str); 36] = [
+    (SEEN_TWICE, "0.0 4\n0.0 threads 0.1 0.2\n0.2 4\n0.1 4\n0.0 5\n0.0 threads 0.3 0.4\n0.3 4\n0.4 4\n0.0 4\n", 0, "ended finished\nprints 4\n1\n1\n2\n2\nsteps 31\n"),
+    (SEEN_TWICE, "0.0 4\n0.0 threads 0.1 0.2\n0.2 2\n0.1 4\n0.2 2\n0.0 5\n0.0 threads 0.3 0.4\n0.3 4\n0.4 4\n0.0 4\n", 0, "ended finished\nprints 4\n1\n1\n2\n2\nsteps 31\n"),
+    (SEEN_BOTH, "0.0 8\n0.0 threads 0.1 0.2\n0.2 1\n0.1 11\n0.0 6\n", 0, "ended finished\nprints 3\n1\n2\n3\nsteps 27\n"),
+    (SEEN_BOTH, "0.0 8\n0.0 threads 0.1 0.2\n0.1 7\n0.2 1\n0.1 4\n0.0 6\n", 0, "ended finished\nprints 3\n1\n2\n3\nsteps 27\n"),
     (SIDE_BY_SIDE, "0.0 threads 0.1 0.2\n0.1 2\n0.2 2\n0.0 2\n", 0, "ended finished\nprints 2\n1\n2\nsteps 7\n"),
     (SIDE_BY_SIDE, "0.0 threads 0.1 0.2\n0.2 2\n0.1 2\n0.0 2\n", 0, "ended finished\nprints 2\n2\n1\nsteps 7\n"),
     (BOTH_WAYS, "0.0 3\n0.0 threads 0.1 0.2\n0.2 4\n0.1 5\n0.0 6\n", 0, "ended finished\nprints 3\n2\n5\n1\nsteps 19\n"),
