@@ -86,8 +86,8 @@ module _ (k : Cluster) (sound : IsSound k) (e : Event) (i : Instr) (single : is_
   Others = R k sound e i single s t x at
 
   -- the others, with the new threads among them
-  abbrev pub R2 : List Thing
-  R2 = E2 ∷ E1 ∷ Others
+  abbrev pub Rest2 : List Thing
+  Rest2 = E2 ∷ E1 ∷ Others
 
   abbrev counts_here : Thing
   counts_here = counts_of n s.events s.rest
@@ -101,14 +101,14 @@ module _ (k : Cluster) (sound : IsSound k) (e : Event) (i : Instr) (single : is_
   abbrev pub note2 : Thing
   note2 = noted n (record { thread = u2; state = in_pair x.number false })
 
-  abbrev pub H1 : List Thing
-  H1 = had_by target z1
+  abbrev pub Had1 : List Thing
+  Had1 = had_by target z1
 
-  abbrev pub H2 : List Thing
-  H2 = had_by target2 z2
+  abbrev pub Had2 : List Thing
+  Had2 = had_by target2 z2
 
   abbrev pub G2 : List Thing
-  G2 = counts_then ∷ note1 ∷ note2 ∷ (H1 ++ H2)
+  G2 = counts_then ∷ note1 ∷ note2 ∷ (Had1 ++ Had2)
 
   abbrev pub became : ThreadState
   became = record (after x (x.pc + 1) left x.temps) { phase = phase.WaitPar u1 u2 }
@@ -129,13 +129,13 @@ module _ (k : Cluster) (sound : IsSound k) (e : Event) (i : Instr) (single : is_
   L2 = E2 ∷ E1 ∷ L
 
   abbrev front : List Thing
-  front = all_of n x G1 R2
+  front = all_of n x G1 Rest2
 
   abbrev pub s1 : Sight
   s1 = with_things k front
 
   abbrev pub after_all : List Thing
-  after_all = all_of n y G2 R2
+  after_all = all_of n y G2 Rest2
 
   abbrev pub s2 : Sight
   s2 = with_things k after_all
@@ -162,11 +162,11 @@ module _ (k : Cluster) (sound : IsSound k) (e : Event) (i : Instr) (single : is_
   both_all P [] ys a b = b
   both_all P (th ∷ xs) ys a b = (a.0, both_all P xs ys a.1 b)
 
-  loose_new : AllByRecursion IsLoose (H1 ++ H2)
-  loose_new = both_all IsLoose H1 H2 (own_all IsLoose own_loose target z1 refl) (own_all IsLoose own_loose target2 z2 refl)
+  loose_new : AllByRecursion IsLoose (Had1 ++ Had2)
+  loose_new = both_all IsLoose Had1 Had2 (own_all IsLoose own_loose target z1 refl) (own_all IsLoose own_loose target2 z2 refl)
 
   pub beside2 : AllByRecursion IsBeside G2
-  beside2 = (tt, (refl, (refl, all_so IsLoose IsBeside loose_beside (H1 ++ H2) loose_new)))
+  beside2 = (tt, (refl, (refl, all_so IsLoose IsBeside loose_beside (Had1 ++ Had2) loose_new)))
 
   -- THE NAMES ARE NEW
 
@@ -212,7 +212,7 @@ module _ (k : Cluster) (sound : IsSound k) (e : Event) (i : Instr) (single : is_
   strayE = not_given.stray_with k L1 target2 true z2 lone_two (not_given.stray_with k L target true z1 lone_one (changed.none_stray k sound e s at.here t x at.at at.number))
 
   moved : Same L2 front
-  moved f = let a = tot-append f (mine n x G1) Others in let b = tot-append f (mine n x G1) R2 in omega (arith, a, b)
+  moved f = let a = tot-append f (mine n x G1) Others in let b = tot-append f (mine n x G1) Rest2 in omega (arith, a, b)
 
   alike1 : ShowAlike L2 front
   alike1 w zero_w = moved (λ v. w (sign_of v))
@@ -257,17 +257,17 @@ module _ (k : Cluster) (sound : IsSound k) (e : Event) (i : Instr) (single : is_
   off_number : (v : ℕ) → x.number ≢ v → one (v == x.number) ≡ 0
   off_number v ne = eq_cases (λ b. one b ≡ 0) v x.number (λ f. absurd (ne (sym f))) (λ _. refl)
 
-  lone2 : tot (of_thread x.number) R2 ≡ 0
+  lone2 : tot (of_thread x.number) Rest2 ≡ 0
   lone2 = omega (arith, off_number u1 differ1, off_number u2 differ2, changed.lone k sound e s at.here t x at.at at.number)
 
-  new_cells : cells_in after_all ≡ cells_in R2
-  new_cells = cells_of n y (counts_then ∷ (H1 ++ H2)) R2 (tt, loose_new)
+  new_cells : cells_in after_all ≡ cells_in Rest2
+  new_cells = cells_of n y (counts_then ∷ (Had1 ++ Had2)) Rest2 (tt, loose_new)
 
-  locks : one_thread.LocksStay k R2 G1 G2 n x became
-  locks = one_thread.locks_stay k R2 G1 G2 n x became beside1 beside2 lone2 (cells_of n x G1 R2 loose1 ∙ sym new_cells)
+  locks : one_thread.LocksStay k Rest2 G1 G2 n x became
+  locks = one_thread.locks_stay k Rest2 G1 G2 n x became beside1 beside2 lone2 (cells_of n x G1 Rest2 loose1 ∙ sym new_cells)
 
-  same1 : SameOwners s1 s2 R2
-  same1 = one_thread.same_owners k R2 G1 G2 n x became beside1 beside2 lone2 locks
+  same1 : SameOwners s1 s2 Rest2
+  same1 = one_thread.same_owners k Rest2 G1 G2 n x became beside1 beside2 lone2 locks
 
   -- WHO IS IN THE STATE
 
@@ -295,20 +295,20 @@ module _ (k : Cluster) (sound : IsSound k) (e : Event) (i : Instr) (single : is_
 
   -- what the new threads have
   new_has : (r : Sight) (f : Node → Bool) (q : Node) → any_named r f q G2 ≡ some (given_away q)
-  new_has r f q = any_both r f q H1 H2 ∙ ap₂ (λ a b. a || b) (any_mine target z1 [] r f q) (any_mine target2 z2 [] r f q) ∙ some_both (owned_in q vs + 0) (owned_in q us + 0)
+  new_has r f q = any_both r f q Had1 Had2 ∙ ap₂ (λ a b. a || b) (any_mine target z1 [] r f q) (any_mine target2 z2 [] r f q) ∙ some_both (owned_in q vs + 0) (owned_in q us + 0)
 
   has : (q : Node) → 1 ≤ own q → In q ≡ true
-  has q l = here k (mine n x G1) R2 q (any_mine n x G1 s1 In q ∙ or_right (any_named s1 In q G1) (some (own q)) (there_some (own q) l))
+  has q l = here k (mine n x G1) Rest2 q (any_mine n x G1 s1 In q ∙ or_right (any_named s1 In q G1) (some (own q)) (there_some (own q) l))
 
   has2 : (q : Node) → 1 ≤ own2 q + given_away q → In2 q ≡ true
   has2 q l =
-      here k (mine n y G2) R2 q
+      here k (mine n y G2) Rest2 q
       (any_mine n y G2 s2 In2 q ∙ one_of_two (own2 q) (given_away q) (any_named s2 In2 q G2 || some (own2 q) ≡ true) (λ m. or_right (any_named s2 In2 q G2) (some (own2 q)) (there_some (own2 q) m))
       (λ m. or_left (any_named s2 In2 q G2) (some (own2 q)) (new_has s2 In2 q ∙ there_some (given_away q) m)) l)
 
   stay : (q : Node) → In q ≡ true → In2 q ≡ true
   stay =
-      stays_in k (mine n x G1) (mine n y G2) R2 same1
+      stays_in k (mine n x G1) (mine n y G2) Rest2 same1
       (λ q f. or_cases (any_named s1 In2 q G1) (some (own q)) (In2 q ≡ true) (λ d. absurd (cc (sym d ∙ alone (any_named s1 In2 q)))) (λ d. has2 q (omega (arith, some_there (own q) d, all_even q))) (sym (any_mine n x G1 s1 In2 q) ∙ f))
 
   abbrev none_extra : Node → Bool
@@ -316,7 +316,7 @@ module _ (k : Cluster) (sound : IsSound k) (e : Event) (i : Instr) (single : is_
 
   come : (q : Node) → In2 q ≡ true → with_extra In none_extra q ≡ true
   come =
-      comes_from k (mine n x G1) (mine n y G2) R2 same1 none_extra (nothing_under s1 R2)
+      comes_from k (mine n x G1) (mine n y G2) Rest2 same1 none_extra (nothing_under s1 Rest2)
       (λ q f. or_cases (any_named s2 (with_extra In none_extra) q G2) (some (own2 q)) (with_extra In none_extra q ≡ true) (λ d. or_left (In q) false (has q (omega (arith, some_there (given_away q) (sym (new_has s2 (with_extra In none_extra) q) ∙ d), all_even q))))
       (λ d. or_left (In q) false (has q (omega (arith, some_there (own2 q) d, all_even q)))) (sym (any_mine n y G2 s2 (with_extra In none_extra) q) ∙ f))
 
@@ -331,11 +331,11 @@ module _ (k : Cluster) (sound : IsSound k) (e : Event) (i : Instr) (single : is_
 
   -- WHAT THE NEW THINGS SHOW
 
-  none_in : {A : Type 0} (f : Thing → Option A) → Own (λ a. f a ≡ None) → first_shown f (H1 ++ H2) ≡ None
-  none_in f flat = shown_both f H1 H2 ∙ ap₂ or_else (none_shown f H1 (own_all (λ a. f a ≡ None) flat target z1 refl)) (none_shown f H2 (own_all (λ a. f a ≡ None) flat target2 z2 refl))
+  none_in : {A : Type 0} (f : Thing → Option A) → Own (λ a. f a ≡ None) → first_shown f (Had1 ++ Had2) ≡ None
+  none_in f flat = shown_both f Had1 Had2 ∙ ap₂ or_else (none_shown f Had1 (own_all (λ a. f a ≡ None) flat target z1 refl)) (none_shown f Had2 (own_all (λ a. f a ≡ None) flat target2 z2 refl))
 
-  zero_in : (f : Thing → ℕ) → Own (λ a. f a ≡ 0) → tot f (H1 ++ H2) ≡ 0
-  zero_in f flat = omega (arith, tot-append f H1 H2, none_counted f H1 (own_all (λ a. f a ≡ 0) flat target z1 refl), none_counted f H2 (own_all (λ a. f a ≡ 0) flat target2 z2 refl))
+  zero_in : (f : Thing → ℕ) → Own (λ a. f a ≡ 0) → tot f (Had1 ++ Had2) ≡ 0
+  zero_in f flat = omega (arith, tot-append f Had1 Had2, none_counted f Had1 (own_all (λ a. f a ≡ 0) flat target z1 refl), none_counted f Had2 (own_all (λ a. f a ≡ 0) flat target2 z2 refl))
 
   results_none : (r : ℕ) → first_shown (result_value s1 r) G1 ≡ first_shown (result_value s2 r) G2
   results_none r = alone (first_shown (result_value s1 r)) ∙ sym (none_in (result_value s2 r) (record { slots = λ a j v. refl; temps = λ a j v. refl; shared = λ l w. refl; lent = λ l w. refl; marks = λ l w. refl; used = λ a w. refl }))
@@ -350,7 +350,7 @@ module _ (k : Cluster) (sound : IsSound k) (e : Event) (i : Instr) (single : is_
   new_shares m =
       let a1 = shares_of target z1 [] [] s2 m in
       let a2 = shares_of target2 z2 [] [] s2 m in
-      omega (arith, a1, a2, tot-append (share_in s2 m) (stands target false z1 ∷ H1) [], tot-append (share_in s2 m) (stands target2 false z2 ∷ H2) [], tot-append (share_in s2 m) H1 H2)
+      omega (arith, a1, a2, tot-append (share_in s2 m) (stands target false z1 ∷ Had1) [], tot-append (share_in s2 m) (stands target2 false z2 ∷ Had2) [], tot-append (share_in s2 m) Had1 Had2)
 
   -- LIVES
 
@@ -367,10 +367,10 @@ module _ (k : Cluster) (sound : IsSound k) (e : Event) (i : Instr) (single : is_
   apart r na nb = let old : tot (in_pair_of r) G1 ≡ 0 = alone (tot (in_pair_of r)) in omega (arith, old, zero_in (in_pair_of r) (pairs_flat r), so_none u1 r na, so_none u2 r nb)
 
   other_life : (r : ℕ) → x.number ≢ r → u1 ≢ r → u2 ≢ r → life_at s1 r (thread_at (threads_in front) r) ≡ life_at s2 r (thread_at (threads_in after_all) r)
-  other_life r ne na nb = one_thread.life_goes_on k R2 G1 G2 n x became beside1 beside2 lone2 locks none_extra (nothing_under s1 R2) same_in r (apart r na nb) refl (silent r) refl (results_none r) ne
+  other_life r ne na nb = one_thread.life_goes_on k Rest2 G1 G2 n x became beside1 beside2 lone2 locks none_extra (nothing_under s1 Rest2) same_in r (apart r na nb) refl (silent r) refl (results_none r) ne
 
   way_same : going_of s1 x.number ≡ going_of s2 x.number
-  way_same = one_thread.way_goes_on k R2 G1 G2 n x became beside1 beside2 lone2 locks none_extra (nothing_under s1 R2) same_in x.number (apart x.number (λ f. differ1 (sym f)) (λ f. differ2 (sym f))) refl (silent x.number) refl (results_none x.number)
+  way_same = one_thread.way_goes_on k Rest2 G1 G2 n x became beside1 beside2 lone2 locks none_extra (nothing_under s1 Rest2) same_in x.number (apart x.number (λ f. differ1 (sym f)) (λ f. differ2 (sym f))) refl (silent x.number) refl (results_none x.number)
 
   -- NAMES
 
@@ -389,7 +389,7 @@ module _ (k : Cluster) (sound : IsSound k) (e : Event) (i : Instr) (single : is_
       let new = zero_in (started_at h c) (flat_starts h c) in
       let mine1 : tot (started_at h c) G1 ≡ started_at h c counts_here = gift_uncounted (started_at h c) x.number counts_here (λ v. refl) x.gift in
       let mine2 : tot (started_at h c) G2 ≡ started_at h c counts_then = omega (arith, new) in
-      ap (λ m. r == 0 || (not (c == 0) && some m)) (one_thread.tot_same k R2 G1 G2 n x became beside1 beside2 lone2 locks (started_at h c) (started_at h c) (flat_starts h c) (flat_starts h c) (omega (arith, mine1, mine2, counts_same r na nb)) (λ th w. refl))
+      ap (λ m. r == 0 || (not (c == 0) && some m)) (one_thread.tot_same k Rest2 G1 G2 n x became beside1 beside2 lone2 locks (started_at h c) (started_at h c) (flat_starts h c) (flat_starts h c) (omega (arith, mine1, mine2, counts_same r na nb)) (λ th w. refl))
 
   -- a name up to which the server counts
   known : (j : ℕ) → j + 1 < 2 ^ 32 → nat_le (j + 1) (j2 + 1) ≡ true → is_given_thread s2 (n * 2 ^ 32 + (j + 1)) ≡ true
@@ -397,7 +397,7 @@ module _ (k : Cluster) (sound : IsSound k) (e : Event) (i : Instr) (single : is_
       let v = n * 2 ^ 32 + (j + 1) in
       let at_n : one ((n == n) && nat_le (j + 1) (j2 + 1)) ≡ 1 = ap₂ (λ a b. one (a && b)) (same_number n) up in
       let mine2 : started_at (home_of v) (count_of v) counts_then ≡ 1 = ap₂ (λ h c. started_at h c counts_then) (home_is n (j + 1) l) (count_is n (j + 1) l) ∙ at_n in
-      let all : 1 ≤ tot (started_at (home_of v) (count_of v)) after_all = (let sums = tot_of n y G2 R2 (started_at (home_of v) (count_of v)) (flat_starts (home_of v) (count_of v)) in omega (arith, sums, mine2)) in
+      let all : 1 ≤ tot (started_at (home_of v) (count_of v)) after_all = (let sums = tot_of n y G2 Rest2 (started_at (home_of v) (count_of v)) (flat_starts (home_of v) (count_of v)) in omega (arith, sums, mine2)) in
       ap₂ (λ a b. a || (not b && some (tot (started_at (home_of v) (count_of v)) after_all))) (from_one n j) (ap (λ c. c == 0) (count_is n (j + 1) l) ∙ count_not_zero j) ∙ there_some (tot (started_at (home_of v) (count_of v)) after_all) all
 
   known1 : is_given_thread s2 u1 ≡ true
@@ -412,21 +412,21 @@ module _ (k : Cluster) (sound : IsSound k) (e : Event) (i : Instr) (single : is_
   -- THE NEW THREADS
 
   there2 : thread_at (threads_in after_all) u2 ≡ Some (record { server = target2; packed = true; thread = z2 })
-  there2 = besides n y G2 R2 beside2 u2 differ2 ∙ ap (λ b. if b then Some (record { server = target2; packed = true; thread = z2 }) else thread_at (threads_in (E1 ∷ Others)) u2) (same_number u2)
+  there2 = besides n y G2 Rest2 beside2 u2 differ2 ∙ ap (λ b. if b then Some (record { server = target2; packed = true; thread = z2 }) else thread_at (threads_in (E1 ∷ Others)) u2) (same_number u2)
 
   later : (u2 == u1) ≡ false
   later = eq_cases (λ b. b ≡ false) u2 u1 (λ f. absurd (two_differ (sym f))) (λ _. refl)
 
   there1 : thread_at (threads_in after_all) u1 ≡ Some (record { server = target; packed = true; thread = z1 })
   there1 =
-      besides n y G2 R2 beside2 u1 differ1 ∙ ap (λ b. if b then Some (record { server = target2; packed = true; thread = z2 }) else thread_at (threads_in (E1 ∷ Others)) u1) later
+      besides n y G2 Rest2 beside2 u1 differ1 ∙ ap (λ b. if b then Some (record { server = target2; packed = true; thread = z2 }) else thread_at (threads_in (E1 ∷ Others)) u1) later
       ∙ ap (λ b. if b then Some (record { server = target; packed = true; thread = z1 }) else thread_at (threads_in Others) u1) (same_number u1)
 
   branch1 : is_branch s2 u1 ≡ true
-  branch1 = there_some (tot (in_pair_of u1) after_all) (let all = tot_of n y G2 R2 (in_pair_of u1) (pairs_flat u1) in let mine2 : if_so (u1 == u1) 1 ≡ 1 = ap (λ b. if_so b 1) (same_number u1) in omega (arith, all, mine2))
+  branch1 = there_some (tot (in_pair_of u1) after_all) (let all = tot_of n y G2 Rest2 (in_pair_of u1) (pairs_flat u1) in let mine2 : if_so (u1 == u1) 1 ≡ 1 = ap (λ b. if_so b 1) (same_number u1) in omega (arith, all, mine2))
 
   branch2 : is_branch s2 u2 ≡ true
-  branch2 = there_some (tot (in_pair_of u2) after_all) (let all = tot_of n y G2 R2 (in_pair_of u2) (pairs_flat u2) in let mine2 : if_so (u2 == u2) 1 ≡ 1 = ap (λ b. if_so b 1) (same_number u2) in omega (arith, all, mine2))
+  branch2 = there_some (tot (in_pair_of u2) after_all) (let all = tot_of n y G2 Rest2 (in_pair_of u2) (pairs_flat u2) in let mine2 : if_so (u2 == u2) 1 ≡ 1 = ap (λ b. if_so b 1) (same_number u2) in omega (arith, all, mine2))
 
   goes_owing : (v : ℕ) → v ≢ 0 → is_branch s2 v ≡ true → going_of s2 v ≡ as_owing
   goes_owing zero f g = absurd (f refl)
@@ -440,9 +440,9 @@ module _ (k : Cluster) (sound : IsSound k) (e : Event) (i : Instr) (single : is_
   pub starts : PairStarts x.number u1 u2 (running_at x) (running_at y) (running_at z1) (running_at z2) (state_of s1) (state_of s2)
   starts = record {
     way = going_of s1 x.number;
-    before = ap₂ if_given given_x (ap (life_at s1 x.number) (itself n x G1 R2 beside1) ∙ ap (life_of s1 x) calm.goes ∙ going_is s1 x.number (running_at x));
+    before = ap₂ if_given given_x (ap (life_at s1 x.number) (itself n x G1 Rest2 beside1) ∙ ap (life_of s1 x) calm.goes ∙ going_is s1 x.number (running_at x));
     afterwards =
-        ap₂ if_given (sym (given_same x.number (λ f. differ1 (sym f)) (λ f. differ2 (sym f))) ∙ given_x) (ap (life_at s2 x.number) (itself n y G2 R2 beside2) ∙ going_is s2 x.number (running_at y) ∙ ap (λ w. life_as w (running_at y)) (sym way_same));
+        ap₂ if_given (sym (given_same x.number (λ f. differ1 (sym f)) (λ f. differ2 (sym f))) ∙ given_x) (ap (life_at s2 x.number) (itself n y G2 Rest2 beside2) ∙ going_is s2 x.number (running_at y) ∙ ap (λ w. life_as w (running_at y)) (sym way_same));
     first_differs = differ1;
     second_differs = differ2;
     two_differ = two_differ;
@@ -451,29 +451,29 @@ module _ (k : Cluster) (sound : IsSound k) (e : Event) (i : Instr) (single : is_
     first_started = ap₂ if_given known1 (ap (life_at s2 u1) there1 ∙ going_is s2 u1 (running_at z1) ∙ ap (λ w. life_as w (running_at z1)) (goes_owing u1 (not_main u1 (from_one n j1)) branch1));
     second_started = ap₂ if_given known2 (ap (life_at s2 u2) there2 ∙ going_is s2 u2 (running_at z2) ∙ ap (λ w. life_as w (running_at z2)) (goes_owing u2 (not_main u2 (from_one n j2)) branch2));
     others = λ r ne na nb. ap₂ if_given (given_same r na nb) (other_life r ne na nb);
-    made = one_thread.made_same k R2 G1 G2 n x became beside1 beside2 lone2 locks calm.goes refl refl;
-    waits = ap pair_of (itself n y G2 R2 beside2);
-    pairs = λ r ne. ap pair_of (one_thread.other_seen k R2 G1 G2 n x became beside1 beside2 lone2 r ne);
-    objects = λ o. one_thread.object_same k R2 G1 G2 n x became beside1 beside2 lone2 locks none_extra (nothing_under s1 R2) same_in o refl (cells_none o);
+    made = one_thread.made_same k Rest2 G1 G2 n x became beside1 beside2 lone2 locks calm.goes refl refl;
+    waits = ap pair_of (itself n y G2 Rest2 beside2);
+    pairs = λ r ne. ap pair_of (one_thread.other_seen k Rest2 G1 G2 n x became beside1 beside2 lone2 r ne);
+    objects = λ o. one_thread.object_same k Rest2 G1 G2 n x became beside1 beside2 lone2 locks none_extra (nothing_under s1 Rest2) same_in o refl (cells_none o);
     mutexes = λ m.
         let here_none : tot (share_in s1 m) G1 ≡ 0 = alone (tot (share_in s1 m)) in
-        one_thread.mutex_same k R2 G1 G2 n x became beside1 beside2 lone2 locks none_extra (nothing_under s1 R2) same_in m refl (contents_none m) (omega (arith, here_none, new_shares m, all_even (mutex_n m)));
-    given = one_thread.mutex_given k R2 G1 G2 n x became beside1 beside2 lone2 locks (λ h c. (let new = zero_in (made_at h c) (record { slots = λ a j v. refl; temps = λ a j v. refl; shared = λ l w. refl; lent = λ l w. refl; marks = λ l w. refl; used = λ a v. refl }) in let old : tot (made_at h c) G1 ≡ tot (made_at h c) (counts_here ∷ []) = alone (tot (made_at h c)) in omega (arith, new, old)));
+        one_thread.mutex_same k Rest2 G1 G2 n x became beside1 beside2 lone2 locks none_extra (nothing_under s1 Rest2) same_in m refl (contents_none m) (omega (arith, here_none, new_shares m, all_even (mutex_n m)));
+    given = one_thread.mutex_given k Rest2 G1 G2 n x became beside1 beside2 lone2 locks (λ h c. (let new = zero_in (made_at h c) (record { slots = λ a j v. refl; temps = λ a j v. refl; shared = λ l w. refl; lent = λ l w. refl; marks = λ l w. refl; used = λ a v. refl }) in let old : tot (made_at h c) G1 ≡ tot (made_at h c) (counts_here ∷ []) = alone (tot (made_at h c)) in omega (arith, new, old)));
   }
 
   -- what is shown once stays so
   pub once_then : Once s2
-  once_then = one_thread.once_on k R2 G1 G2 n x became beside1 beside2 lone2 locks calm (λ r. refl) refl once1 few_cells few_contents few_ends
+  once_then = one_thread.once_on k Rest2 G1 G2 n x became beside1 beside2 lone2 locks calm (λ r. refl) refl once1 few_cells few_contents few_ends
     where
-      few_cells : (o : ObjNo) → tot (λ v. told ones (cell_value o v)) G2 + tot (λ v. told ones (cell_value o v)) R2 ≤ 1
+      few_cells : (o : ObjNo) → tot (λ v. told ones (cell_value o v)) G2 + tot (λ v. told ones (cell_value o v)) Rest2 ≤ 1
       few_cells o =
           let flat : Own (λ v. told ones (cell_value o v) ≡ 0) = record { slots = λ a j v. refl; temps = λ a j v. refl; shared = λ l w. refl; lent = λ l w. refl; marks = λ l w. refl; used = λ a w. refl } in
-          omega (arith, once1.cells o, zero_in (λ v. told ones (cell_value o v)) flat, tot_of n x G1 R2 (λ v. told ones (cell_value o v)) flat)
+          omega (arith, once1.cells o, zero_in (λ v. told ones (cell_value o v)) flat, tot_of n x G1 Rest2 (λ v. told ones (cell_value o v)) flat)
 
-      few_contents : (m : MutexNo) → tot (λ v. told ones (content_value s2 m v)) G2 + tot (λ v. told ones (content_value s1 m v)) R2 ≤ 1
+      few_contents : (m : MutexNo) → tot (λ v. told ones (content_value s2 m v)) G2 + tot (λ v. told ones (content_value s1 m v)) Rest2 ≤ 1
       few_contents m =
           let flat : (r : Sight) → Own (λ v. told ones (content_value r m v) ≡ 0) = λ r. record { slots = λ a j v. refl; temps = λ a j v. refl; shared = λ l w. refl; lent = λ l w. refl; marks = λ l w. refl; used = λ a w. refl } in
-          omega (arith, once1.contents m, zero_in (λ v. told ones (content_value s2 m v)) (flat s2), tot_of n x G1 R2 (λ v. told ones (content_value s1 m v)) (flat s1))
+          omega (arith, once1.contents m, zero_in (λ v. told ones (content_value s2 m v)) (flat s2), tot_of n x G1 Rest2 (λ v. told ones (content_value s1 m v)) (flat s1))
 
       by : (b : Bool) → told {A = Plain} ones (or_else (if b then None else None) None) ≡ 0
       by true = refl
@@ -490,4 +490,4 @@ module _ (k : Cluster) (sound : IsSound k) (e : Event) (i : Instr) (single : is_
   pub unstray_then : tot (stray s2) after_all ≡ 0
   unstray_then =
       let flat : (r : Sight) → Own (λ a. stray r a ≡ 0) = λ r. record { slots = λ a j v. refl; temps = λ a j v. refl; shared = λ l w. refl; lent = λ l w. refl; marks = λ l w. refl; used = λ a w. refl } in
-      omega (arith, none_stray1, tot_of n x G1 R2 (stray s1) (flat s1), one_thread.stray_stays k R2 G1 G2 n x became beside1 beside2 lone2, tot_of n y G2 R2 (stray s2) (flat s2), zero_in (stray s2) (flat s2))
+      omega (arith, none_stray1, tot_of n x G1 Rest2 (stray s1) (flat s1), one_thread.stray_stays k Rest2 G1 G2 n x became beside1 beside2 lone2, tot_of n y G2 Rest2 (stray s2) (flat s2), zero_in (stray s2) (flat s2))

@@ -180,11 +180,11 @@ module _ (k : Cluster) (sound : IsSound k) (few : FewEvents k) (e : Event) (cs :
     abbrev y : ThreadState
     y = paired.y k sound e i refl s t x at bare left_names target target2 body body2 left vs us even
 
-    abbrev H1 : List Thing
-    H1 = had_by target (new_thread u1 body vs)
+    abbrev Had1 : List Thing
+    Had1 = had_by target (new_thread u1 body vs)
 
-    abbrev H2 : List Thing
-    H2 = had_by target2 (new_thread u2 body2 us)
+    abbrev Had2 : List Thing
+    Had2 = had_by target2 (new_thread u2 body2 us)
 
     module _ (copies : List Copy) where
       abbrev d : Stepped
@@ -195,8 +195,8 @@ module _ (k : Cluster) (sound : IsSound k) (few : FewEvents k) (e : Event) (cs :
 
       moves_to : Moves (E2 ∷ E1 ∷ G2) (counts_of n 0 s.rest ∷ []) s.rest d.hand.work.rest
       moves_to =
-          let goes1 : Moves (E1 ∷ H1) [] counted.rest sent1.rest = sends (E1 ∷ H1) (E1 ∷ H1) counted.rest counted target m1 (record { number = refl; alike = λ w z. refl }) (λ w z. omega (arith, z)) in
-          let goes2 : Moves (E2 ∷ H2) [] counted2.rest made_hand.work.rest =
+          let goes1 : Moves (E1 ∷ Had1) [] counted.rest sent1.rest = sends (E1 ∷ Had1) (E1 ∷ Had1) counted.rest counted target m1 (record { number = refl; alike = λ w z. refl }) (λ w z. omega (arith, z)) in
+          let goes2 : Moves (E2 ∷ Had2) [] counted2.rest made_hand.work.rest =
           subst (λ v. Moves (stands target2 true (new_thread v body2 us) ∷ had_by target2 (new_thread v body2 us)) [] counted2.rest made_hand.work.rest) same2
           (sends (stands target2 true (new_thread v2 body2 us) ∷ had_by target2 (new_thread v2 body2 us)) (stands target2 true (new_thread v2 body2 us) ∷ had_by target2 (new_thread v2 body2 us)) counted2.rest counted2 target2 (message.Start (new_thread v2 body2 us)) (record { number = refl; alike = λ w z. refl }) (λ w z. omega (arith, z))) in
           record {
@@ -206,8 +206,8 @@ module _ (k : Cluster) (sound : IsSound k) (few : FewEvents k) (e : Event) (cs :
                 let all_number : made_hand.work.rest.number ≡ n = goes2.number ∙ goes1.number in
                 let cache : shown w (rest_things made_hand.work.rest.number 0 made_hand.work.rest) ≡ shown w (rest_things made_hand.work.rest.number 0 d.hand.work.rest) = (copies_ready made_hand copies []).0.moves.alike w z in
                 let at_n : shown w (rest_things n 0 made_hand.work.rest) ≡ shown w (rest_things n 0 d.hand.work.rest) = subst (λ q. shown w (rest_things q 0 made_hand.work.rest) ≡ shown w (rest_things q 0 d.hand.work.rest)) all_number cache in
-                let second : shown w ((E2 ∷ H2) ++ rest_things n 0 counted2.rest) ≡ shown w (rest_things n 0 made_hand.work.rest) = subst (λ q. shown w ((E2 ∷ H2) ++ rest_things q 0 counted2.rest) ≡ shown w (rest_things q 0 made_hand.work.rest)) goes1.number (goes2.alike w z) in
-                let first : shown w ((E1 ∷ H1) ++ rest_things n 0 counted.rest) ≡ shown w (rest_things n 0 sent1.rest) = goes1.alike w z in
+                let second : shown w ((E2 ∷ Had2) ++ rest_things n 0 counted2.rest) ≡ shown w (rest_things n 0 made_hand.work.rest) = subst (λ q. shown w ((E2 ∷ Had2) ++ rest_things q 0 counted2.rest) ≡ shown w (rest_things q 0 made_hand.work.rest)) goes1.number (goes2.alike w z) in
+                let first : shown w ((E1 ∷ Had1) ++ rest_things n 0 counted.rest) ≡ shown w (rest_things n 0 sent1.rest) = goes1.alike w z in
                 let tasks1 = of_tasks n 0 s.rest (noted s.rest.tasks u1 (in_pair x.number false)) (trade_push (task_things n) s.rest.tasks 0 (record { thread = u1; state = in_pair x.number false })) in
                 let mid : Rest = record s.rest { tasks = noted s.rest.tasks u1 (in_pair x.number false) } in
                 let tasks2 = of_tasks n 0 mid (noted mid.tasks u2 (in_pair x.number false)) (trade_push (task_things n) mid.tasks 0 (record { thread = u2; state = in_pair x.number false })) in
@@ -232,10 +232,10 @@ module _ (k : Cluster) (sound : IsSound k) (few : FewEvents k) (e : Event) (cs :
                   counted_it,
                   same_counts,
                   more_counts,
-                  tot-append f H1 H2,
-                  tot-append f (H1 ++ H2) (rest_things n 0 s.rest),
-                  tot-append f H1 (rest_things n 0 counted.rest),
-                  tot-append f H2 (rest_things n 0 counted2.rest),
+                  tot-append f Had1 Had2,
+                  tot-append f (Had1 ++ Had2) (rest_things n 0 s.rest),
+                  tot-append f Had1 (rest_things n 0 counted.rest),
+                  tot-append f Had2 (rest_things n 0 counted2.rest),
                 );
           }
 

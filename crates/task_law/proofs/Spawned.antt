@@ -93,8 +93,8 @@ module _ (k : Cluster) (sound : IsSound k) (e : Event) (i : Instr) (single : is_
   Others = R k sound e i single s t x at
 
   -- the others, with the new thread among them
-  abbrev pub R2 : List Thing
-  R2 = E ∷ Others
+  abbrev pub Rest2 : List Thing
+  Rest2 = E ∷ Others
 
   abbrev counts_here : Thing
   counts_here = counts_of n s.events s.rest
@@ -127,13 +127,13 @@ module _ (k : Cluster) (sound : IsSound k) (e : Event) (i : Instr) (single : is_
   s0 = with_things k L
 
   abbrev front : List Thing
-  front = all_of n x G1 R2
+  front = all_of n x G1 Rest2
 
   abbrev pub s1 : Sight
   s1 = with_things k front
 
   abbrev pub after_all : List Thing
-  after_all = all_of n y G2 R2
+  after_all = all_of n y G2 Rest2
 
   abbrev pub s2 : Sight
   s2 = with_things k after_all
@@ -191,7 +191,7 @@ module _ (k : Cluster) (sound : IsSound k) (e : Event) (i : Instr) (single : is_
   strayE = not_given.stray_with k L target true z lone_u (changed.none_stray k sound e s at.here t x at.at at.number)
 
   moved : Same (E ∷ L) front
-  moved f = let a = tot-append f (mine n x G1) Others in let b = tot-append f (mine n x G1) R2 in omega (arith, a, b)
+  moved f = let a = tot-append f (mine n x G1) Others in let b = tot-append f (mine n x G1) Rest2 in omega (arith, a, b)
 
   alike1 : ShowAlike (E ∷ L) front
   alike1 w zero_w = moved (λ v. w (sign_of v))
@@ -228,17 +228,17 @@ module _ (k : Cluster) (sound : IsSound k) (e : Event) (i : Instr) (single : is_
 
   -- THE TURN
 
-  lone2 : tot (of_thread x.number) R2 ≡ 0
+  lone2 : tot (of_thread x.number) Rest2 ≡ 0
   lone2 = let off : one (u == x.number) ≡ 0 = eq_cases (λ b. one b ≡ 0) u x.number (λ f. absurd (differ (sym f))) (λ _. refl) in omega (arith, off, changed.lone k sound e s at.here t x at.at at.number)
 
-  new_cells : cells_in after_all ≡ cells_in R2
-  new_cells = cells_of n y (counts_then ∷ H) R2 (tt, loose_new)
+  new_cells : cells_in after_all ≡ cells_in Rest2
+  new_cells = cells_of n y (counts_then ∷ H) Rest2 (tt, loose_new)
 
-  pub locks : one_thread.LocksStay k R2 G1 G2 n x became
-  locks = one_thread.locks_stay k R2 G1 G2 n x became beside1 beside2 lone2 (cells_of n x G1 R2 loose1 ∙ sym new_cells)
+  pub locks : one_thread.LocksStay k Rest2 G1 G2 n x became
+  locks = one_thread.locks_stay k Rest2 G1 G2 n x became beside1 beside2 lone2 (cells_of n x G1 Rest2 loose1 ∙ sym new_cells)
 
-  same1 : SameOwners s1 s2 R2
-  same1 = one_thread.same_owners k R2 G1 G2 n x became beside1 beside2 lone2 locks
+  same1 : SameOwners s1 s2 Rest2
+  same1 = one_thread.same_owners k Rest2 G1 G2 n x became beside1 beside2 lone2 locks
 
   -- WHO IS IN THE STATE
 
@@ -270,11 +270,11 @@ module _ (k : Cluster) (sound : IsSound k) (e : Event) (i : Instr) (single : is_
   new_has r f q = any_mine target z [] r f q
 
   has : (q : Node) → 1 ≤ own q → In q ≡ true
-  has q l = here k (mine n x G1) R2 q (any_mine n x G1 s1 In q ∙ or_right (any_named s1 In q G1) (some (own q)) (there_some (own q) l))
+  has q l = here k (mine n x G1) Rest2 q (any_mine n x G1 s1 In q ∙ or_right (any_named s1 In q G1) (some (own q)) (there_some (own q) l))
 
   has2 : (q : Node) → 1 ≤ own2 q + owned_in q vs → In2 q ≡ true
   has2 q l =
-      here k (mine n y G2) R2 q
+      here k (mine n y G2) Rest2 q
       (any_mine n y G2 s2 In2 q ∙ one_of_two (own2 q) (owned_in q vs) (any_named s2 In2 q G2 || some (own2 q) ≡ true) (λ m. or_right (any_named s2 In2 q G2) (some (own2 q)) (there_some (own2 q) m))
       (λ m. or_left (any_named s2 In2 q G2) (some (own2 q)) (new_has s2 In2 q ∙ there_some (owned_in q vs + 0) (omega (arith, m)))) l)
 
@@ -283,23 +283,23 @@ module _ (k : Cluster) (sound : IsSound k) (e : Event) (i : Instr) (single : is_
 
   stay : (q : Node) → In q ≡ true → In2 q ≡ true
   stay =
-      stays_in k (mine n x G1) (mine n y G2) R2 same1
+      stays_in k (mine n x G1) (mine n y G2) Rest2 same1
       (λ q f. or_cases (any_named s1 In2 q G1) (some (own q)) (In2 q ≡ true) (λ d. absurd (cc (sym d ∙ alone (any_named s1 In2 q)))) (λ d. has2 q (omega (arith, some_there (own q) d, all_even q))) (sym (any_mine n x G1 s1 In2 q) ∙ f))
 
-  shown_none : tot (λ a. told ones (shown_result s1 u a)) R2 ≡ 0
+  shown_none : tot (λ a. told ones (shown_result s1 u a)) Rest2 ≡ 0
   shown_none =
       let flat : Own (λ a. told ones (shown_result s1 u a) ≡ 0) = record { slots = λ a j v. refl; temps = λ a j v. refl; shared = λ l w. refl; lent = λ l w. refl; marks = λ l w. refl; used = λ a w. refl } in
       let none : tot (is_thread u) L ≡ 0 = sym (changed.same_things k sound e s at.here t x at.at at.number (is_thread u)) ∙ no_thread k sound e i single s t x at s.rest.started above few_here in
       let new_one : has_ended u E ≡ 0 = ap one (ap (λ b. (u == u) && b) (and_false (not (u == 0))) ∙ and_false (u == u)) in
-      omega (arith, once1.ends u, tot_of n x G1 R2 (λ a. told ones (shown_result s1 u a)) flat, moved (has_ended u), at_most (has_ended u) (is_thread u) (ends_less u) L, none, new_one)
+      omega (arith, once1.ends u, tot_of n x G1 Rest2 (λ a. told ones (shown_result s1 u a)) flat, moved (has_ended u), at_most (has_ended u) (is_thread u) (ends_less u) L, none, new_one)
 
-  stray_none : tot (stray s1) R2 ≡ 0
+  stray_none : tot (stray s1) Rest2 ≡ 0
   stray_none =
       let flat : Own (λ a. stray s1 a ≡ 0) = record { slots = λ a j v. refl; temps = λ a j v. refl; shared = λ l w. refl; lent = λ l w. refl; marks = λ l w. refl; used = λ a w. refl } in
-      omega (arith, none_stray1, tot_of n x G1 R2 (stray s1) flat)
+      omega (arith, none_stray1, tot_of n x G1 Rest2 (stray s1) flat)
 
-  none1 : NoneUnder s1 extra R2
-  none1 = none_owned s1 u extra only R2 shown_none stray_none
+  none1 : NoneUnder s1 extra Rest2
+  none1 = none_owned s1 u extra only Rest2 shown_none stray_none
 
   abbrev F : Node → Bool
   F = with_extra In extra
@@ -310,7 +310,7 @@ module _ (k : Cluster) (sound : IsSound k) (e : Event) (i : Instr) (single : is_
 
   come : (q : Node) → In2 q ≡ true → F q ≡ true
   come =
-      comes_from k (mine n x G1) (mine n y G2) R2 same1 extra none1
+      comes_from k (mine n x G1) (mine n y G2) Rest2 same1 extra none1
       (λ q f. or_cases (any_named s2 F q G2) (some (own2 q)) (F q ≡ true) (λ d. came q (omega (arith, some_there (owned_in q vs + 0) (sym (new_has s2 F q) ∙ d)))) (λ d. came q (omega (arith, some_there (own2 q) d))) (sym (any_mine n y G2 s2 F q) ∙ f))
 
   same_in : (q : Node) → extra q ≡ false → In q ≡ In2 q
@@ -362,10 +362,10 @@ module _ (k : Cluster) (sound : IsSound k) (e : Event) (i : Instr) (single : is_
   off_task r ne = eq_cases (λ b. b ≡ false) u r (λ f. absurd (ne f)) (λ _. refl)
 
   other_life : (r : ℕ) → x.number ≢ r → u ≢ r → life_at s1 r (thread_at (threads_in front) r) ≡ life_at s2 r (thread_at (threads_in after_all) r)
-  other_life r ne nu = one_thread.life_goes_on k R2 G1 G2 n x became beside1 beside2 lone2 locks extra none1 same_in r (apart r) (off_task r nu) (silent r) refl (results_none r) ne
+  other_life r ne nu = one_thread.life_goes_on k Rest2 G1 G2 n x became beside1 beside2 lone2 locks extra none1 same_in r (apart r) (off_task r nu) (silent r) refl (results_none r) ne
 
   way_same : going_of s1 x.number ≡ going_of s2 x.number
-  way_same = one_thread.way_goes_on k R2 G1 G2 n x became beside1 beside2 lone2 locks extra none1 same_in x.number (apart x.number) (off_task x.number (λ f. differ (sym f))) (silent x.number) refl (results_none x.number)
+  way_same = one_thread.way_goes_on k Rest2 G1 G2 n x became beside1 beside2 lone2 locks extra none1 same_in x.number (apart x.number) (off_task x.number (λ f. differ (sym f))) (silent x.number) refl (results_none x.number)
 
   -- NAMES
 
@@ -384,13 +384,13 @@ module _ (k : Cluster) (sound : IsSound k) (e : Event) (i : Instr) (single : is_
       let new = zero_in (started_at h c) (flat_starts h c) in
       let mine1 : tot (started_at h c) G1 ≡ started_at h c counts_here = gift_uncounted (started_at h c) x.number counts_here (λ v. refl) x.gift in
       let mine2 : tot (started_at h c) G2 ≡ started_at h c counts_then = omega (arith, new) in
-      ap (λ m. r == 0 || (not (c == 0) && some m)) (one_thread.tot_same k R2 G1 G2 n x became beside1 beside2 lone2 locks (started_at h c) (started_at h c) (flat_starts h c) (flat_starts h c) (omega (arith, mine1, mine2, counts_same r ne)) (λ th w. refl))
+      ap (λ m. r == 0 || (not (c == 0) && some m)) (one_thread.tot_same k Rest2 G1 G2 n x became beside1 beside2 lone2 locks (started_at h c) (started_at h c) (flat_starts h c) (flat_starts h c) (omega (arith, mine1, mine2, counts_same r ne)) (λ th w. refl))
 
   known2 : is_given_thread s2 u ≡ true
   known2 =
       let at_n : one ((n == n) && nat_le c1 c1) ≡ 1 = ap₂ (λ a b. one (a && b)) (same_number n) (le_itself c1) in
       let mine2 : started_at (home_of u) (count_of u) counts_then ≡ 1 = ap₂ (λ h c. started_at h c counts_then) (home_is n c1 few_here) (count_is n c1 few_here) ∙ at_n in
-      let all : 1 ≤ tot (started_at (home_of u) (count_of u)) after_all = (let sums = tot_of n y G2 R2 (started_at (home_of u) (count_of u)) (flat_starts (home_of u) (count_of u)) in omega (arith, sums, mine2)) in
+      let all : 1 ≤ tot (started_at (home_of u) (count_of u)) after_all = (let sums = tot_of n y G2 Rest2 (started_at (home_of u) (count_of u)) (flat_starts (home_of u) (count_of u)) in omega (arith, sums, mine2)) in
       ap₂ (λ a b. a || (not b && some (tot (started_at (home_of u) (count_of u)) after_all))) (from_one n s.rest.started) (ap (λ c. c == 0) (count_is n c1 few_here) ∙ count_not_zero s.rest.started) ∙ there_some (tot (started_at (home_of u) (count_of u)) after_all) all
 
   given_x : is_given_thread s1 x.number ≡ true
@@ -399,7 +399,7 @@ module _ (k : Cluster) (sound : IsSound k) (e : Event) (i : Instr) (single : is_
   -- THE NEW THREAD
 
   new_there : thread_at (threads_in after_all) u ≡ Some (record { server = target; packed = true; thread = z })
-  new_there = besides n y G2 R2 beside2 u differ ∙ eq_cases (λ b. (if b then Some (record { server = target; packed = true; thread = z }) else thread_at (threads_in Others) u) ≡ Some (record { server = target; packed = true; thread = z })) u u (λ _. refl) (λ ne. absurd (ne refl))
+  new_there = besides n y G2 Rest2 beside2 u differ ∙ eq_cases (λ b. (if b then Some (record { server = target; packed = true; thread = z }) else thread_at (threads_in Others) u) ≡ Some (record { server = target; packed = true; thread = z })) u u (λ _. refl) (λ ne. absurd (ne refl))
 
   goes_owing : going_of s2 u ≡ as_owing
   goes_owing = by u (λ f. absurd (cc (sym (from_one n s.rest.started) ∙ ap (λ a. a == 0) f))) (or_right (is_branch s2 u) (In2 (task_n u)) task_in)
@@ -413,37 +413,37 @@ module _ (k : Cluster) (sound : IsSound k) (e : Event) (i : Instr) (single : is_
   pub starts : Starts x.number u (running_at x) (running_at y) (running_at z) (state_of s1) (state_of s2)
   starts = record {
     way = going_of s1 x.number;
-    before = ap₂ if_given given_x (ap (life_at s1 x.number) (itself n x G1 R2 beside1) ∙ ap (life_of s1 x) calm.goes ∙ going_is s1 x.number (running_at x));
-    afterwards = ap₂ if_given (sym (given_same x.number (λ f. differ (sym f))) ∙ given_x) (ap (life_at s2 x.number) (itself n y G2 R2 beside2) ∙ going_is s2 x.number (running_at y) ∙ ap (λ w. life_as w (running_at y)) (sym way_same));
+    before = ap₂ if_given given_x (ap (life_at s1 x.number) (itself n x G1 Rest2 beside1) ∙ ap (life_of s1 x) calm.goes ∙ going_is s1 x.number (running_at x));
+    afterwards = ap₂ if_given (sym (given_same x.number (λ f. differ (sym f))) ∙ given_x) (ap (life_at s2 x.number) (itself n y G2 Rest2 beside2) ∙ going_is s2 x.number (running_at y) ∙ ap (λ w. life_as w (running_at y)) (sym way_same));
     differ = differ;
     unknown = ap (λ b. if_given b (life_at s1 u (thread_at (threads_in front) u))) (sym (given1 u) ∙ unknown0);
     started = ap₂ if_given known2 (ap (life_at s2 u) new_there ∙ going_is s2 u (running_at z) ∙ ap (λ w. life_as w (running_at z)) goes_owing);
     others = λ r ne nu. ap₂ if_given (given_same r nu) (other_life r ne nu);
-    made = one_thread.made_same k R2 G1 G2 n x became beside1 beside2 lone2 locks calm.goes refl refl;
+    made = one_thread.made_same k Rest2 G1 G2 n x became beside1 beside2 lone2 locks calm.goes refl refl;
     pairs = λ r.
         eq_cases (λ b. (w : ℕ) → w ≡ r → (state_of s1).pair w ≡ (state_of s2).pair w) x.number r
-        (λ f w g. subst (λ (v : ℕ). (state_of s1).pair v ≡ (state_of s2).pair v) (f ∙ sym g) (ap pair_of (itself n x G1 R2 beside1) ∙ calm.alone ∙ sym (ap pair_of (itself n y G2 R2 beside2))))
-        (λ ne w g. ap pair_of (one_thread.other_seen k R2 G1 G2 n x became beside1 beside2 lone2 w (λ d. ne (d ∙ g)))) r refl;
-    objects = λ o. one_thread.object_same k R2 G1 G2 n x became beside1 beside2 lone2 locks extra none1 same_in o refl (cells_none o);
+        (λ f w g. subst (λ (v : ℕ). (state_of s1).pair v ≡ (state_of s2).pair v) (f ∙ sym g) (ap pair_of (itself n x G1 Rest2 beside1) ∙ calm.alone ∙ sym (ap pair_of (itself n y G2 Rest2 beside2))))
+        (λ ne w g. ap pair_of (one_thread.other_seen k Rest2 G1 G2 n x became beside1 beside2 lone2 w (λ d. ne (d ∙ g)))) r refl;
+    objects = λ o. one_thread.object_same k Rest2 G1 G2 n x became beside1 beside2 lone2 locks extra none1 same_in o refl (cells_none o);
     mutexes = λ m.
         let here_none : tot (share_in s1 m) G1 ≡ 0 = alone (tot (share_in s1 m)) in
-        one_thread.mutex_same k R2 G1 G2 n x became beside1 beside2 lone2 locks extra none1 same_in m refl (contents_none m) (omega (arith, here_none, new_shares m, all_even (mutex_n m)));
-    given = one_thread.mutex_given k R2 G1 G2 n x became beside1 beside2 lone2 locks (λ h c. (let new = zero_in (made_at h c) (record { slots = λ a j v. refl; temps = λ a j v. refl; shared = λ l w. refl; lent = λ l w. refl; marks = λ l w. refl; used = λ a v. refl }) in let old : tot (made_at h c) G1 ≡ tot (made_at h c) (counts_here ∷ []) = alone (tot (made_at h c)) in omega (arith, new, old)));
+        one_thread.mutex_same k Rest2 G1 G2 n x became beside1 beside2 lone2 locks extra none1 same_in m refl (contents_none m) (omega (arith, here_none, new_shares m, all_even (mutex_n m)));
+    given = one_thread.mutex_given k Rest2 G1 G2 n x became beside1 beside2 lone2 locks (λ h c. (let new = zero_in (made_at h c) (record { slots = λ a j v. refl; temps = λ a j v. refl; shared = λ l w. refl; lent = λ l w. refl; marks = λ l w. refl; used = λ a v. refl }) in let old : tot (made_at h c) G1 ≡ tot (made_at h c) (counts_here ∷ []) = alone (tot (made_at h c)) in omega (arith, new, old)));
   }
 
   -- what is shown once stays so
   pub once_then : Once s2
-  once_then = one_thread.once_on k R2 G1 G2 n x became beside1 beside2 lone2 locks calm (λ r. refl) refl once1 few_cells few_contents few_ends
+  once_then = one_thread.once_on k Rest2 G1 G2 n x became beside1 beside2 lone2 locks calm (λ r. refl) refl once1 few_cells few_contents few_ends
     where
-      few_cells : (o : ObjNo) → tot (λ v. told ones (cell_value o v)) G2 + tot (λ v. told ones (cell_value o v)) R2 ≤ 1
+      few_cells : (o : ObjNo) → tot (λ v. told ones (cell_value o v)) G2 + tot (λ v. told ones (cell_value o v)) Rest2 ≤ 1
       few_cells o =
           let flat : Own (λ v. told ones (cell_value o v) ≡ 0) = record { slots = λ a j v. refl; temps = λ a j v. refl; shared = λ l w. refl; lent = λ l w. refl; marks = λ l w. refl; used = λ a w. refl } in
-          omega (arith, once1.cells o, zero_in (λ v. told ones (cell_value o v)) flat, tot_of n x G1 R2 (λ v. told ones (cell_value o v)) flat)
+          omega (arith, once1.cells o, zero_in (λ v. told ones (cell_value o v)) flat, tot_of n x G1 Rest2 (λ v. told ones (cell_value o v)) flat)
 
-      few_contents : (m : MutexNo) → tot (λ v. told ones (content_value s2 m v)) G2 + tot (λ v. told ones (content_value s1 m v)) R2 ≤ 1
+      few_contents : (m : MutexNo) → tot (λ v. told ones (content_value s2 m v)) G2 + tot (λ v. told ones (content_value s1 m v)) Rest2 ≤ 1
       few_contents m =
           let flat : (r : Sight) → Own (λ v. told ones (content_value r m v) ≡ 0) = λ r. record { slots = λ a j v. refl; temps = λ a j v. refl; shared = λ l w. refl; lent = λ l w. refl; marks = λ l w. refl; used = λ a w. refl } in
-          omega (arith, once1.contents m, zero_in (λ v. told ones (content_value s2 m v)) (flat s2), tot_of n x G1 R2 (λ v. told ones (content_value s1 m v)) (flat s1))
+          omega (arith, once1.contents m, zero_in (λ v. told ones (content_value s2 m v)) (flat s2), tot_of n x G1 Rest2 (λ v. told ones (content_value s1 m v)) (flat s1))
 
       few_ends : (r : ℕ) → tot (λ v. told ones (shown_result s2 r v)) G2 ≤ tot (λ v. told ones (shown_result s1 r v)) G1
       few_ends r =
@@ -459,4 +459,4 @@ module _ (k : Cluster) (sound : IsSound k) (e : Event) (i : Instr) (single : is_
   pub unstray_then : tot (stray s2) after_all ≡ 0
   unstray_then =
       let flat : Own (λ a. stray s2 a ≡ 0) = record { slots = λ a j v. refl; temps = λ a j v. refl; shared = λ l w. refl; lent = λ l w. refl; marks = λ l w. refl; used = λ a w. refl } in
-      omega (arith, stray_none, one_thread.stray_stays k R2 G1 G2 n x became beside1 beside2 lone2, tot_of n y G2 R2 (stray s2) flat, zero_in (stray s2) flat)
+      omega (arith, stray_none, one_thread.stray_stays k Rest2 G1 G2 n x became beside1 beside2 lone2, tot_of n y G2 Rest2 (stray s2) flat, zero_in (stray s2) flat)
