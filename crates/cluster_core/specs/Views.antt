@@ -9,6 +9,7 @@ use Rattle.table_law.specs.CodeOf.{code_of}
 use Rattle.borrow_check.specs.Programs.{Program}
 use Rattle.server_model.specs.Servers.{Server, Cluster}
 use Rattle.server_core.specs.Servers.{ServerView}
+pub use Rattle.limit_law.specs.Counts.{events_in}
 
 pub record ClusterView : Type 0 where
   pub state : Cluster
@@ -20,11 +21,6 @@ pub record ClusterView : Type 0 where
 abbrev pub states : List ServerView → List Server
 states [] = []
 states (v ∷ vs) = v.state ∷ states vs
-
--- how many events these servers have done
-abbrev pub events_in : List Server → ℕ
-events_in [] = 0
-events_in (s ∷ ss) = s.events + events_in ss
 
 -- the code that servers keep, by the first
 abbrev pub code_in : List ServerView → List Instr
