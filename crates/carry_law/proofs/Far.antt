@@ -22,7 +22,7 @@ use Rattle.word_law.specs.Unmoved.{pointing, owning, seen_at, Taking, with_takin
 use Rattle.word_law.specs.OneMore.{Beside, OneMore}
 use Rattle.word_law.proofs.Standing.{CellOf, lying, flying, cell_among, cell_found, of_thing, pointers_among, stands_in}
 use Rattle.word_law.proofs.Loose.{box_nowhere}
-use Rattle.stay_law.proofs.Alike.{ShowsAs, shows_turn, StandsIn, LiesIn, FliesIn, Seen, Within, Alike, standing_turn}
+use Rattle.stay_law.proofs.Alike.{ShowsAs, shows_turn, StandsIn, Seen, Within, Alike, standing_turn}
 use Rattle.carry_law.proofs.Taken.{taker_of}
 
 -- THREADS AMONG THINGS
@@ -62,7 +62,7 @@ taking_listed code x t (y ∷ xs) (inr h) e = by (taking_of code y) (taking_list
 loose_by : (code : List Instr) (b : List Thing) (p : Pointer) (y : Thing) → Seen code b y → p.at ≡ None → Among p (pointers_of y) → Among p (pointers_in b)
 loose_by code b p (stands s q t) h e m = absurd m
 loose_by code b p (lies r s c) h e m = absurd (box_nowhere (in_cell c.object) c.value p m e)
-loose_by code b p (flies v c) h e (inl m) = pointers_among p (flies v h.cell) b h.among (inl (ap (λ o. record { at = None; word = v; object = o }) h.object ∙ m))
+loose_by code b p (flies v c) h e (inl m) = pointers_among p (flies v c) b h (inl m)
 loose_by code b p (flies v c) h e (inr m) = absurd (box_nowhere (in_cell c.object) c.value p m e)
 loose_by code b p y h e m = stands_in p b (h p e m)
 
@@ -86,14 +86,11 @@ Far code b (lies r a c) = CellIn b c
 Far code b (flies w c) = CellIn b c
 Far code b x = ⊤
 
-lies_in : {b : List Thing} {r a : ℕ} {c : Cell} → LiesIn b r a c → CellIn b c
-lies_in {r = r} {a = a} q = record { cell = q.cell; thing = lies r a q.cell; is = lying r a; among = q.among; object = q.object; value = q.value }
+lies_in : {b : List Thing} (r a : ℕ) (c : Cell) → Among (lies r a c) b → CellIn b c
+lies_in r a c q = record { cell = c; thing = lies r a c; is = lying r a; among = q; object = refl; value = refl }
 
-flies_in : {b : List Thing} {w : ℕ} {c : Cell} → FliesIn b w c → CellIn b c
-flies_in {w = w} q = record { cell = q.cell; thing = flies w q.cell; is = flying w; among = q.among; object = q.object; value = q.value }
-
-cell_turn : {b : List Thing} {c d : Cell} → CellIn b d → d.object ≡ c.object → pointing (Some (value.Own d.value)) ≡ pointing (Some (value.Own c.value)) → CellIn b c
-cell_turn q e f = record { cell = q.cell; thing = q.thing; is = q.is; among = q.among; object = q.object ∙ e; value = q.value ∙ f }
+flies_in : {b : List Thing} (w : ℕ) (c : Cell) → Among (flies w c) b → CellIn b c
+flies_in w c q = record { cell = c; thing = flies w c; is = flying w; among = q; object = refl; value = refl }
 
 -- between lists that are the same but for one cell's thing
 module _ (code : List Instr) (a b r : List Thing) (x y : Thing) (e : Cell) (ix : CellOf e x) (iy : CellOf e y) (p : Within code a (x ∷ r)) (q : Within code (y ∷ r) b) where
@@ -102,8 +99,8 @@ module _ (code : List Instr) (a b r : List Thing) (x y : Thing) (e : Cell) (ix :
   no_stand d _ s k t (flying w) f = absurd cc
 
   moved_cell : (d : Cell) (z : Thing) → CellOf d z → Seen code b z → CellIn b d
-  moved_cell d _ (lying m g) s = lies_in s
-  moved_cell d _ (flying w) s = flies_in s
+  moved_cell d _ (lying m g) s = lies_in m g d s
+  moved_cell d _ (flying w) s = flies_in w d s
 
   one_cell : (c d : Cell) (z w : Thing) → CellOf c z → CellOf d w → z ≡ w → c ≡ d
   one_cell c d _ _ (lying m g) (lying n h) f = cc
@@ -126,8 +123,8 @@ module _ (code : List Instr) (a b r : List Thing) (x y : Thing) (e : Cell) (ix :
 
   far_by : (z : Thing) → Seen code (x ∷ r) z → Far code b z
   far_by (stands s k t) h = thread_far t h
-  far_by (lies m g c) h = cell_turn (cell_far h.cell (lies m g h.cell) (lying m g) h.among) h.object h.value
-  far_by (flies w c) h = cell_turn (cell_far h.cell (flies w h.cell) (flying w) h.among) h.object h.value
+  far_by (lies m g c) h = cell_far c (lies m g c) (lying m g) h
+  far_by (flies w c) h = cell_far c (flies w c) (flying w) h
   far_by _ h = tt
 
   pub far_on : (z : Thing) → Among z a → Far code b z
@@ -242,11 +239,11 @@ module _ (k z : Cluster) (c : HasPlaces k) (d : HasPlaces z) (same : z.code ≡ 
       standing_turn k.code (lies m a e ∷ rest) (things_of k) x p.back f (standing_turn k.code (things_of z) (flies w e ∷ rest) x q.on f h)
 
   lay : (r g : ℕ) (i : Cell) → Among (lies r g i) (things_of z) → LiesThere k r g i.object
-  lay r g i h = let y = q.on (lies r g i) h in by y y.among
+  lay r g i h = by (q.on (lies r g i) h)
     where
-      by : (y : LiesIn (flies w e ∷ rest) r g i) → Among (lies r g y.cell) (flies w e ∷ rest) → LiesThere k r g i.object
-      by y (inl f) = absurd cc
-      by y (inr f) = let v = p.back (lies r g y.cell) (inr f) in record { cell = v.cell; among = v.among; object = v.object ∙ y.object }
+      by : Among (lies r g i) (flies w e ∷ rest) → LiesThere k r g i.object
+      by (inl f) = absurd cc
+      by (inr f) = record { cell = i; among = p.back (lies r g i) (inr f); object = refl }
 
   pub leaves_old : Beside k old → OneMore k z old
   leaves_old beside = record {

@@ -179,7 +179,7 @@ module _ (k : Cluster) (e : Event) (w : ℕ) (o : ObjNo) (a t : ℕ) (sound : Is
       let there = before.back (lies s.rest.number g.address g.cell) (inl refl) in
       let here_k : HasPlaces k = record { numbers_differ = sound.names.numbers_differ; home_of_each = sound.one_home.home_of_each; owner_of_each = sound.one_owner.owner_of_each } in
       let old : Pointer = record { at = None; word = w; object = g.cell.object } in
-      let beside : Beside k old = subst (λ p. Beside k (record { at = None; word = w; object = p })) (sym g.object) (beside_old g.address there.cell there.among (there.object ∙ g.object)) in
+      let beside : Beside k old = subst (λ p. Beside k (record { at = None; word = w; object = p })) (sym g.object) (beside_old g.address g.cell there g.object) in
       one_more_stays k end old here_k places (leaves_old k end here_k places refl rest s.rest.number g.address w g.cell before after beside)
 
   done : e.what ≡ Deliver i → Gives (Leaves k.code w o s) (done_at k e.what s)

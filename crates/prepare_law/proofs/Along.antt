@@ -65,7 +65,7 @@ along_alike k x z c d same a t = record {
   made = λ l r e. t.made l r (reference_at l (value_in (sight x).ground l) r (sym (u.stands l) ∙ ap (seen_at l) e));
   fresher = λ l s. t.fresher l (stale_at z x d (λ m. sym (u.stands m)) u.takes (Some l) s);
   dirty_was = λ l r e q. t.dirty_was l r (reference_at l (value_in (sight x).ground l) r (sym (u.stands l) ∙ ap (seen_at l) e)) q;
-  lies_on = λ r b o l. (let y = t.lies_on r b o l in let q = a.on (lies r b y.cell) y.among in record { cell = q.cell; among = q.among; object = q.object ∙ y.object });
+  lies_on = λ r b o l. (let y = t.lies_on r b o l in record { cell = y.cell; among = a.on (lies r b y.cell) y.among; object = y.object });
 }
   where
     u : Untouched x z

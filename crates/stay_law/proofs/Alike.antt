@@ -30,24 +30,11 @@ pub record StandsIn (code : List Instr) (b : List Thing) (x : ThreadState) : Typ
   pub among : Among (stands server packed thread) b
   pub shows : ShowsAs code x thread
 
--- the object is there, with the same pointer in it: at that address, or under way under that word
-pub record LiesIn (b : List Thing) (r a : ℕ) (c : Cell) : Type 0 where
-  pub cell : Cell
-  pub among : Among (lies r a cell) b
-  pub object : cell.object ≡ c.object
-  pub value : pointing (Some (value.Own cell.value)) ≡ pointing (Some (value.Own c.value))
-
-pub record FliesIn (b : List Thing) (w : ℕ) (c : Cell) : Type 0 where
-  pub cell : Cell
-  pub among : Among (flies w cell) b
-  pub object : cell.object ≡ c.object
-  pub value : pointing (Some (value.Own cell.value)) ≡ pointing (Some (value.Own c.value))
-
--- what words see of a thing is there
+-- what words see of a thing is there; a cell as it is, at that address, or under way under that word
 abbrev pub Seen : List Instr → List Thing → Thing → Type 0
 Seen code b (stands s p t) = StandsIn code b t
-Seen code b (lies r a c) = LiesIn b r a c
-Seen code b (flies w c) = FliesIn b w c
+Seen code b (lies r a c) = Among (lies r a c) b
+Seen code b (flies w c) = Among (flies w c) b
 Seen code b x = (p : Pointer) → p.at ≡ None → Among p (pointers_of x) → Among p (standing_in b)
 
 abbrev pub Within : List Instr → List Thing → List Thing → Type 0
@@ -73,8 +60,8 @@ shows_turn code x y z p q = record {
 
 pub seen_itself : (code : List Instr) (b : List Thing) (y : Thing) → Among y b → Seen code b y
 seen_itself code b (stands s p t) h = record { server = s; packed = p; thread = t; among = h; shows = shows_itself code t }
-seen_itself code b (lies r a c) h = record { cell = c; among = h; object = refl; value = refl }
-seen_itself code b (flies w c) h = record { cell = c; among = h; object = refl; value = refl }
+seen_itself code b (lies r a c) h = h
+seen_itself code b (flies w c) h = h
 seen_itself code b y h = λ p e q. standing_among p y b h q
 
 -- a pointer that stands nowhere
@@ -94,8 +81,8 @@ pub seen_turn : (code : List Instr) (b c : List Thing) (y : Thing) → Seen code
 seen_turn code b c (stands s p t) q w =
     let r = w (stands q.server q.packed q.thread) q.among in
     record { server = r.server; packed = r.packed; thread = r.thread; among = r.among; shows = shows_turn code t q.thread r.thread q.shows r.shows }
-seen_turn code b c (lies s a d) q w = let r = w (lies s a q.cell) q.among in record { cell = r.cell; among = r.among; object = r.object ∙ q.object; value = r.value ∙ q.value }
-seen_turn code b c (flies v d) q w = let r = w (flies v q.cell) q.among in record { cell = r.cell; among = r.among; object = r.object ∙ q.object; value = r.value ∙ q.value }
+seen_turn code b c (lies s a d) q w = w (lies s a d) q
+seen_turn code b c (flies v d) q w = w (flies v d) q
 seen_turn code b c y q w = λ p e m. standing_turn code b c p w e (q p e m)
 
 -- INCLUSIONS

@@ -96,13 +96,9 @@ module _ (code : List Instr) (a b : Cluster) (d : HasPlaces b) (w : Within code 
 
   cell_there : (c : Cell) (y : Thing) → CellOf c y → Among y (things_of a) → CellPair c
   cell_there c _ (lying r s) h =
-      let q = w (lies r s c) h in
-      let at = cell_found q.cell (lies r s q.cell) (things_of b) (d.home_of_each q.cell.object) (lying r s) q.among in
-      record { there = q.cell; at = sym (ap (cell_of (cells_in (things_of b))) q.object) ∙ at; value = q.value }
+      record { there = c; at = cell_found c (lies r s c) (things_of b) (d.home_of_each c.object) (lying r s) (w (lies r s c) h); value = refl }
   cell_there c _ (flying v) h =
-      let q = w (flies v c) h in
-      let at = cell_found q.cell (flies v q.cell) (things_of b) (d.home_of_each q.cell.object) (flying v) q.among in
-      record { there = q.cell; at = sym (ap (cell_of (cells_in (things_of b))) q.object) ∙ at; value = q.value }
+      record { there = c; at = cell_found c (flies v c) (things_of b) (d.home_of_each c.object) (flying v) (w (flies v c) h); value = refl }
 
   pub cell_pair : (o : ObjNo) (c : Cell) → cell_of (cells_in (things_of a)) o ≡ Some c → (there : Cell) × (cell_of (cells_in (things_of b)) o ≡ Some there) × (pointing (Some (value.Own there.value)) ≡ pointing (Some (value.Own c.value)))
   cell_pair o c e =
@@ -114,7 +110,7 @@ module _ (code : List Instr) (a b : Cluster) (d : HasPlaces b) (w : Within code 
   loose_by : (p : Pointer) (y : Thing) → Seen code (things_of b) y → p.at ≡ None → Among p (pointers_of y) → Among p (pointers_in (things_of b))
   loose_by p (stands s q t) h e m = absurd m
   loose_by p (lies r s c) h e m = absurd (box_nowhere (in_cell c.object) c.value p m e)
-  loose_by p (flies v c) h e (inl m) = pointers_among p (flies v h.cell) (things_of b) h.among (inl (ap (λ o. record { at = None; word = v; object = o }) h.object ∙ m))
+  loose_by p (flies v c) h e (inl m) = pointers_among p (flies v c) (things_of b) h (inl m)
   loose_by p (flies v c) h e (inr m) = absurd (box_nowhere (in_cell c.object) c.value p m e)
   loose_by p y h e m = stands_in p (things_of b) (h p e m)
 
@@ -169,7 +165,7 @@ module _ (k z : Cluster) (c : HasPlaces k) (d : HasPlaces z) (same : z.code ≡ 
   stands_same (in_cell o) = in_cells o
 
   lay_there : (r a : ℕ) (e : Cell) → Among (lies r a e) (things_of z) → LiesThere k r a e.object
-  lay_there r a e h = let q = s.back (lies r a e) h in record { cell = q.cell; among = q.among; object = q.object }
+  lay_there r a e h = record { cell = e; among = s.back (lies r a e) h; object = refl }
 
   pub seen_alike : Untouched k z
   seen_alike = record {

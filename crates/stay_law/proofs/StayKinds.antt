@@ -40,7 +40,7 @@ use Rattle.event_law.proofs.Finished.{PairsAreRight}
 use Rattle.event_law.proofs.FinishSteps.{notes_rise, unit_result}
 use Rattle.event_law.proofs.Applied.{go_with}
 use Rattle.event_law.proofs.Sending.{applied_part, each_event_sends}
-use Rattle.stay_law.specs.Laws.{LeaveWords, LeaveWordsUndone, BorrowsVariable, shared, mutable, VariableBorrowsLeaveWords}
+use Rattle.stay_law.specs.Laws.{IsOfKind, LeaveWords, LeaveWordsUndone, BorrowsVariable, shared, mutable, VariableBorrowsLeaveWords}
 use Rattle.stay_law.proofs.Alike.{Alike, chain}
 use Rattle.stay_law.proofs.Servers.{RestAlike}
 use Rattle.stay_law.proofs.Sites.{SiteAlike, ServerAlike, HandAlike, steps, beside_alike, thread_alike_at, deliveries, begun_alike, servers_alike, handed_over}
@@ -222,10 +222,10 @@ module _ (k : Cluster) (sound : IsSound k) (number : ℕ) (s : Server) (here : s
 -- IN ITS CLUSTER
 
 module _ (k : Cluster) (e : Event) (Q : EntryView → Type 0) where
-  abbrev Seen : Cluster × EntryView → Type 0
+  abbrev pub Seen : Cluster × EntryView → Type 0
   Seen d = Q d.1 → (d.0.code ≡ k.code) × Alike k.code (things_of k) (things_of d.0)
 
-  abbrev There : Server → Server × EntryView → Type 0
+  abbrev pub There : Server → Server × EntryView → Type 0
   There s r = Q r.1 → ServerAlike k.code s r
 
   handed : (s : Server) → server_at k.servers e.server ≡ Some s → (o : Option (Server × EntryView)) → Gives (There s) o → Gives (λ (r : Server × EntryView). GoTo (with_server k.servers e.server r.0) (drop_first (length s.rest.outbox) r.0.rest.outbox)) o
@@ -240,26 +240,37 @@ module _ (k : Cluster) (e : Event) (Q : EntryView → Type 0) where
   at_server None h go f = tt
   at_server (Some s) h go f = handed s h (done_at k e.what s) (f s h) (go s h)
 
-  -- so an event leaves the words where it leaves what words see at its server
-  leaves_where : IsSound k → FewEvents k → ((s : Server) → server_at k.servers e.server ≡ Some s → Gives (There s) (does k.code k.options s e.what)) → Gives (λ (d : Cluster × EntryView). Q d.1 → LeavesWords k d.0) (apply k e)
-  leaves_where sound few f =
-      both_give Seen (λ (d : Cluster × EntryView). HasPlaces d.0) (λ (d : Cluster × EntryView). Q d.1 → LeavesWords k d.0) (apply k e)
-      (at_server (server_at k.servers e.server) refl (each_event_sends k e sound few) (λ s h. test_gives (There s) (enabled k.options s e.what) (does k.code k.options s e.what) (λ on. f s h)))
+  -- an event leaves what words see where it leaves that at its server
+  pub seen_where : IsSound k → FewEvents k → ((s : Server) → server_at k.servers e.server ≡ Some s → Gives (There s) (does k.code k.options s e.what)) → Gives Seen (apply k e)
+  seen_where sound few f =
+      at_server (server_at k.servers e.server) refl (each_event_sends k e sound few) (λ s h. test_gives (There s) (enabled k.options s e.what) (does k.code k.options s e.what) (λ on. f s h))
+
+  -- so it leaves the words there
+  pub leaves_where : IsSound k → FewEvents k → Gives Seen (apply k e) → Gives (λ (d : Cluster × EntryView). Q d.1 → LeavesWords k d.0) (apply k e)
+  leaves_where sound few seen =
+      both_give Seen (λ (d : Cluster × EntryView). HasPlaces d.0) (λ (d : Cluster × EntryView). Q d.1 → LeavesWords k d.0) (apply k e) seen
       (applied_part HasPlaces (λ c g. record { numbers_differ = g.numbers_differ; home_of_each = g.home_of_each; owner_of_each = g.owner_of_each }) k e sound few)
       (λ d a places q. untouched_stays k d.0 here places (seen_alike k d.0 here places (a q).0 (a q).1))
     where
       here : HasPlaces k
       here = record { numbers_differ = sound.names.numbers_differ; home_of_each = sound.one_home.home_of_each; owner_of_each = sound.one_owner.owner_of_each }
 
+-- what words see is the same after an event of these kinds
+pub kind_seen : (kind : Kind) → Stays kind → (k : Cluster) (e : Event) → IsOfKind kind k e → IsSound k → FewEvents k → Gives (Seen k e (λ v. ⊤)) (apply k e)
+kind_seen kind p k e q sound few =
+    seen_where k e (λ v. ⊤) sound few
+    (λ s h. weaker (ServerAlike k.code s) (λ r. ⊤ → ServerAlike k.code s r) (does k.code k.options s e.what) (server_stays k sound e.server s h kind p e.what (subst (λ o. then_some o (kind_at k e.what) ≡ Some kind) h q)) (λ r a z. a))
+
 pub kind_stays : (kind : Kind) → Stays kind → LeaveWords kind
 kind_stays kind p k e q sound few =
-    weaker (λ (d : Cluster × EntryView). ⊤ → LeavesWords k d.0) (λ (d : Cluster × EntryView). LeavesWords k d.0) (apply k e)
-    (leaves_where k e (λ v. ⊤) sound few
-    (λ s h. weaker (ServerAlike k.code s) (λ r. ⊤ → ServerAlike k.code s r) (does k.code k.options s e.what) (server_stays k sound e.server s h kind p e.what (subst (λ o. then_some o (kind_at k e.what) ≡ Some kind) h q)) (λ r a z. a)))
-    (λ d a. a tt)
+    weaker (λ (d : Cluster × EntryView). ⊤ → LeavesWords k d.0) (λ (d : Cluster × EntryView). LeavesWords k d.0) (apply k e) (leaves_where k e (λ v. ⊤) sound few (kind_seen kind p k e q sound few)) (λ d a. a tt)
+
+-- and after a join that asks
+pub joins_seen : (k : Cluster) (e : Event) → IsOfKind step_join k e → IsSound k → FewEvents k → Gives (Seen k e (λ v. v.done ≡ None)) (apply k e)
+joins_seen k e q sound few = seen_where k e (λ v. v.done ≡ None) sound few (λ s h. joins_stay k sound e.server s h e.what (subst (λ o. then_some o (kind_at k e.what) ≡ Some step_join) h q))
 
 pub joins_leave : LeaveWordsUndone step_join
-joins_leave k e q sound few = leaves_where k e (λ v. v.done ≡ None) sound few (λ s h. joins_stay k sound e.server s h e.what (subst (λ o. then_some o (kind_at k e.what) ≡ Some step_join) h q))
+joins_leave k e q sound few = leaves_where k e (λ v. v.done ≡ None) sound few (joins_seen k e q sound few)
 
 borrow_stays : (code : List Instr) (n servers : ℕ) (i : Instr) (h : Hand) → BorrowsVariable i → ((v : ℕ) → h.thread.phase ≡ phase.Taken v → ⊥) → Gives (λ (d : Stepped). HandAlike code n [] h d.hand) (step servers i h)
 borrow_stays code n servers _ h (shared {w = w} e) free = borrow_steps code n servers w h e free
@@ -268,7 +279,7 @@ borrow_stays code n servers _ h (mutable {w = w} e) free = borrow_mut_steps code
 pub borrows_leave : VariableBorrowsLeaveWords
 borrows_leave k number t s y i sound few here at code borrows free =
     weaker (λ (d : Cluster × EntryView). ⊤ → LeavesWords k d.0) (λ (d : Cluster × EntryView). LeavesWords k d.0) (apply k (record { server = number; what = Step t }))
-    (leaves_where k (record { server = number; what = Step t }) (λ v. ⊤) sound few (λ r h. subst (λ x. Gives (λ (q : Server × EntryView). ⊤ → ServerAlike k.code x q) (does k.code k.options x (Step t))) (some_is (sym here ∙ h)) there))
+    (leaves_where k (record { server = number; what = Step t }) (λ v. ⊤) sound few (seen_where k (record { server = number; what = Step t }) (λ v. ⊤) sound few (λ r h. subst (λ x. Gives (λ (q : Server × EntryView). ⊤ → ServerAlike k.code x q) (does k.code k.options x (Step t))) (some_is (sym here ∙ h)) there)))
     (λ d a. a tt)
   where
     there : Gives (λ (q : Server × EntryView). ⊤ → ServerAlike k.code s q) (does k.code k.options s (Step t))

@@ -352,5 +352,6 @@ module _ (k : Cluster) (coherent : IsCoherent k) (number : ℕ) (s : Server) (he
     boxed = λ o e. (refl, refl);
     young = λ c l m. refl;
     lends = λ p m e z. let few = few_stars i at p e in let low : nat_le m 8 ≡ true = grind (arith, nat_tests, few, z) in ap other low;
+    asks = λ f p. refl;
     moves = λ j p e h h2 sp v same r q. moved_unmarked i at p e j h h2 sp v same p.depth refl (subst (λ x. prepare (access_of x h.thread) h ≡ ready h2 sp) e r) q;
   }

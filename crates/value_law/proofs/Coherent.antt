@@ -16,7 +16,7 @@ use Rattle.local_law.specs.Laws.{EachCoherentEventKeeps}
 use Rattle.value_law.proofs.Fit.{Base}
 use Rattle.value_law.proofs.Sums.{holder_of, loose}
 use Rattle.value_law.proofs.Kept.{GoneOn, ends_as, gone_on}
-use Rattle.value_law.proofs.Sentences.{holding, no_askers, no_objects, no_going, holders_kept, marks_kept}
+use Rattle.value_law.proofs.Sentences.{holding, no_askers, no_objects, no_going, no_copies, holders_kept, marks_kept}
 use Rattle.value_law.proofs.Coded.{stars_most, coded}
 
 long_is : (b : List Thing) → tot long_holder b ≡ tot (holder_of stars_most) b
@@ -43,7 +43,7 @@ kept_by P go k e coherent few =
     let holders : tot long_holder (things_of k) ≡ 0 = sound.parts.holders_short in
     let marks : tot loose_mark (things_of k) ≡ 0 = sound.mutexes_and_tasks.marks_in_slots in
     weaker (λ (x : Cluster × EntryView). GoneOn k (holding stars_most 1) (ends_as k e (server_at k.servers e.server)) x.0) (λ (x : Cluster × EntryView). P x.0) (apply k e)
-    (gone_on k e (holding stars_most 1) sound few (record { holders = omega (arith, holders, long_is (things_of k)); marks_none = omega (arith, marks, loose_is (things_of k)); askers = no_askers (things_of k); objects = no_objects (things_of k); lives = no_going (things_of k) }) (λ s here t y i q there at on. coded k coherent e.server s here t y there i at))
+    (gone_on k e (holding stars_most 1) sound few (record { holders = omega (arith, holders, long_is (things_of k)); marks_none = omega (arith, marks, loose_is (things_of k)); askers = no_askers (things_of k); objects = no_objects (things_of k); lives = no_going (things_of k); copies = no_copies (things_of k); served = λ n s h i v o r t c q z. refl }) (λ s here t y i q there at on. coded k coherent e.server s here t y there i at))
     (λ x g. go k (ends_as k e (server_at k.servers e.server)) x.0 g)
 
 pub holders_stay : EachCoherentEventKeeps holders_short

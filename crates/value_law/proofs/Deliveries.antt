@@ -258,12 +258,12 @@ module _ (w : Weights) (b : Base) (closed : Closed w b.limit) where
 
   -- OBJECTS
 
-  fetches : (v : ℕ) (o : ObjNo) (s t : ℕ) (x : Work) → w.word v + w.thread t + w.asker s t ≡ 0 → OfWork x → Gives OfWork (deliver_fetch v o s t x)
-  fetches v o s t x k a =
+  fetches : (v : ℕ) (o : ObjNo) (s t : ℕ) (x : Work) → w.word v + w.thread t + w.asker s t + w.wanted v ≡ 0 → ((c : Cell) → look_object x.rest.partition v o ≡ Some c → w.copy v c ≡ 0) → OfWork x → Gives OfWork (deliver_fetch v o s t x)
+  fetches v o s t x k served a =
       let part = a.partition in
       map_gives OfWork (look_object x.rest.partition v o) _ (λ c q.
       let cell = object_fits w x.rest.partition v o c q part.cells_fit in
-      says s (message.Fetched v c t) x.rest (omega (arith, k, cell)) a)
+      says s (message.Fetched v c t) x.rest (omega (arith, k, cell, served c q)) a)
 
   freed_rest : (v : ℕ) (x : Rest) → RestFits w b x → RestFits w b (record x { partition = freed x.partition v })
   freed_rest v x a = with_cells w b closed (freed x.partition v) x (freed_fits w b.limit closed x.partition v a.partition) a
@@ -297,7 +297,7 @@ module _ (w : Weights) (b : Base) (closed : Closed w b.limit) where
     uses_it v true h a = a
     uses_it v false h a = test_gives Mid (can_pin h.work.rest.cache v) _ (λ e. walked w b closed y v (working (with_cache (pin h.work.rest.cache v)) h) (pinned_word w b closed y v h e a) (used w b closed y v (users h.work.rest.cache v + 1) h a))
 
-    fills : (v : ℕ) (c : Cell) (h : Hand) → w.word v + body_weight w c ≡ 0 → Mid h → Gives Went (option_map (λ h2. with_phase phase.Got (working (note (act.Fill c.object v)) h2)) (filled v c h))
+    fills : (v : ℕ) (c : Cell) (h : Hand) → w.word v + body_weight w c + w.copy v c ≡ 0 → Mid h → Gives Went (option_map (λ h2. with_phase phase.Got (working (note (act.Fill c.object v)) h2)) (filled v c h))
     fills v c h k a =
         let rest = a.0 in
         over_gives Mid Went (filled v c h) _
@@ -449,21 +449,25 @@ module _ (w : Weights) (b : Base) (closed : Closed w b.limit) where
 
   -- ALL MESSAGES
 
-  pub message_fits : (code : List Instr) (m : Message) (x : Site) → MessageFits w b.number m → SiteFits x → Gives SiteFits (deliver_message code m x)
-  message_fits code (message.Fetch v o s t) x k a = beside (deliver_fetch v o s t) x a (fetches v o s t x.work (omega (arith, k)) a.0)
-  message_fits code (message.Fetched v c t) x k a = at t (deliver_fetched v c) x a (λ y f. test_gives Went (waits_for_cell y.phase v) _ (λ z. fills y (live_of y f (cell_awake y.phase v z)) v c (record { work = x.work; thread = y }) (omega (arith, k)) (taken_up w b closed y x.work.rest a.0 f)))
-  message_fits code (message.Move v o s t) x k a = beside (deliver_move v o s t) x a (moves v o s t x.work (omega (arith, k)) a.0)
-  message_fits code (message.Moved v c t) x k a = at t (deliver_moved code v c) x a (λ y f. test_gives Went (waits_for_cell y.phase v) _ (λ z. comes y (live_of y f (cell_awake y.phase v z)) code v c (record { work = x.work; thread = y }) (omega (arith, k)) (taken_up w b closed y x.work.rest a.0 f)))
-  message_fits code (message.Drop v o) x k a = beside (deliver_drop v o) x a (drops v o x.work a.0)
-  message_fits code (message.Lock m s t) x k a = beside (deliver_lock m s t) x a (locks m s t x.work (omega (arith, k)) a.0)
-  message_fits code (message.Granted m v t) x k a = at t (deliver_granted m v) x a (λ y f. test_gives Went (waits_for_lock y.phase m) _ (λ z. gives_it y (live_of y f (lock_awake y.phase m z)) v y.gift (record { work = x.work; thread = y }) (omega (arith, k)) (taken_up w b closed y x.work.rest a.0 f)))
-  message_fits code (message.Unlock m v) x k a = beside (deliver_unlock m v) x a (unlocks m v x.work k a.0)
-  message_fits code (message.Dup m s t) x k a = beside (deliver_dup m s t) x a (dups m s t x.work (omega (arith, k)) a.0)
-  message_fits code (message.Dupped m t) x k a = at t (deliver_dupped m) x a (λ y f. test_gives Went (waits_for_dup y.phase m) _ (λ z. gives_it y (live_of y f (dup_awake y.phase m z)) (owned.Mutex m) y.gift (record { work = x.work; thread = y }) (omega (arith, k)) (taken_up w b closed y x.work.rest a.0 f)))
-  message_fits code (message.Release (released.Mutex m)) x k a = beside (release (released.Mutex m)) x a (releases_mutex m x.work a.0)
-  message_fits code (message.Release (released.Task u)) x k a = beside (release (released.Task u)) x a (releases_task u x.work (omega (arith, k)) a.0)
-  message_fits code (message.Start t) x k a = stand_gives SiteFits (thread_in x.threads t.number) t x (a.0, with_all (ThreadFits w) x.threads t a.1 k)
-  message_fits code (message.Join u s t) x k a = beside (deliver_join u s t) x a (joins u s t x.work (omega (arith, k)) a.0)
-  message_fits code (message.Joined u v t) x k a = at t (deliver_joined u v) x a (λ y f. test_gives Went (waits_for_join y.phase u) _ (λ z. gives_it y (live_of y f (join_awake y.phase u z)) v y.gift (record { work = x.work; thread = y }) (omega (arith, k)) (taken_up w b closed y x.work.rest a.0 f)))
-  message_fits code (message.Finished u v) x k a = finishes u v x k a
-  message_fits code (message.Migrate t) x k a = stand_gives SiteFits (thread_in x.threads t.number) t x (a.0, with_all (ThreadFits w) x.threads t a.1 k)
+  -- where a copy is served, it fits
+  abbrev pub Served : Message → Site → Type 0
+  Served m x = (v : ℕ) (o : ObjNo) (s t : ℕ) (c : Cell) → m ≡ message.Fetch v o s t → look_object x.work.rest.partition v o ≡ Some c → w.copy v c ≡ 0
+
+  pub message_fits : (code : List Instr) (m : Message) (x : Site) → MessageFits w b.number m → Served m x → SiteFits x → Gives SiteFits (deliver_message code m x)
+  message_fits code (message.Fetch v o s t) x k served a = beside (deliver_fetch v o s t) x a (fetches v o s t x.work (omega (arith, k)) (λ c q. served v o s t c refl q) a.0)
+  message_fits code (message.Fetched v c t) x k served a = at t (deliver_fetched v c) x a (λ y f. test_gives Went (waits_for_cell y.phase v) _ (λ z. fills y (live_of y f (cell_awake y.phase v z)) v c (record { work = x.work; thread = y }) (omega (arith, k)) (taken_up w b closed y x.work.rest a.0 f)))
+  message_fits code (message.Move v o s t) x k served a = beside (deliver_move v o s t) x a (moves v o s t x.work (omega (arith, k)) a.0)
+  message_fits code (message.Moved v c t) x k served a = at t (deliver_moved code v c) x a (λ y f. test_gives Went (waits_for_cell y.phase v) _ (λ z. comes y (live_of y f (cell_awake y.phase v z)) code v c (record { work = x.work; thread = y }) (omega (arith, k)) (taken_up w b closed y x.work.rest a.0 f)))
+  message_fits code (message.Drop v o) x k served a = beside (deliver_drop v o) x a (drops v o x.work a.0)
+  message_fits code (message.Lock m s t) x k served a = beside (deliver_lock m s t) x a (locks m s t x.work (omega (arith, k)) a.0)
+  message_fits code (message.Granted m v t) x k served a = at t (deliver_granted m v) x a (λ y f. test_gives Went (waits_for_lock y.phase m) _ (λ z. gives_it y (live_of y f (lock_awake y.phase m z)) v y.gift (record { work = x.work; thread = y }) (omega (arith, k)) (taken_up w b closed y x.work.rest a.0 f)))
+  message_fits code (message.Unlock m v) x k served a = beside (deliver_unlock m v) x a (unlocks m v x.work k a.0)
+  message_fits code (message.Dup m s t) x k served a = beside (deliver_dup m s t) x a (dups m s t x.work (omega (arith, k)) a.0)
+  message_fits code (message.Dupped m t) x k served a = at t (deliver_dupped m) x a (λ y f. test_gives Went (waits_for_dup y.phase m) _ (λ z. gives_it y (live_of y f (dup_awake y.phase m z)) (owned.Mutex m) y.gift (record { work = x.work; thread = y }) (omega (arith, k)) (taken_up w b closed y x.work.rest a.0 f)))
+  message_fits code (message.Release (released.Mutex m)) x k served a = beside (release (released.Mutex m)) x a (releases_mutex m x.work a.0)
+  message_fits code (message.Release (released.Task u)) x k served a = beside (release (released.Task u)) x a (releases_task u x.work (omega (arith, k)) a.0)
+  message_fits code (message.Start t) x k served a = stand_gives SiteFits (thread_in x.threads t.number) t x (a.0, with_all (ThreadFits w) x.threads t a.1 k)
+  message_fits code (message.Join u s t) x k served a = beside (deliver_join u s t) x a (joins u s t x.work (omega (arith, k)) a.0)
+  message_fits code (message.Joined u v t) x k served a = at t (deliver_joined u v) x a (λ y f. test_gives Went (waits_for_join y.phase u) _ (λ z. gives_it y (live_of y f (join_awake y.phase u z)) v y.gift (record { work = x.work; thread = y }) (omega (arith, k)) (taken_up w b closed y x.work.rest a.0 f)))
+  message_fits code (message.Finished u v) x k served a = finishes u v x k a
+  message_fits code (message.Migrate t) x k served a = stand_gives SiteFits (thread_in x.threads t.number) t x (a.0, with_all (ThreadFits w) x.threads t a.1 k)

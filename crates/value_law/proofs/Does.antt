@@ -23,7 +23,7 @@ use Rattle.local_law.proofs.Threads.{set_all, without_all, found_all, remove_all
 use Rattle.value_law.proofs.Fit.{Weights, Closed, CopyFits, ThreadFits, MessageFits, without_fit, unpinned_fit, packed_fits, Base, RestFits}
 use Rattle.value_law.proofs.Middle.{says_fits, with_copies, taken_up}
 use Rattle.value_law.proofs.Steps.{creates, after, NewNames, E, step_fits}
-use Rattle.value_law.proofs.Deliveries.{SiteFits, message_fits}
+use Rattle.value_law.proofs.Deliveries.{SiteFits, Served, message_fits}
 use Rattle.value_law.proofs.Sums.{ServerFits}
 
 -- the instruction of which an event is a step
@@ -71,8 +71,8 @@ module _ (w : Weights) (b : Base) (closed : Closed w b.limit) (code : List Instr
       h : Hand
       h = record { work = begin_work s.rest; thread = y }
 
-  delivering : (i : ℕ) → Gives (Then b) (does code o s (Deliver i))
-  delivering i = by (slice_get s.rest.inbox i) refl
+  delivering : (i : ℕ) → ((m : Message) → slice_get s.rest.inbox i ≡ Some m → Served w b closed m (received i s)) → Gives (Then b) (does code o s (Deliver i))
+  delivering i served = by (slice_get s.rest.inbox i) refl
     where
       rest : RestFits w b s.rest
       rest = fits.0
@@ -93,7 +93,7 @@ module _ (w : Weights) (b : Base) (closed : Closed w b.limit) (code : List Instr
             leaving = rest.leaving;
           } in
           over_gives (SiteFits w b closed) (Then b) (deliver_message code m (received i s)) (left_by s.events None None)
-          (message_fits w b closed code m (received i s) (all_at (MessageFits w b.number) s.rest.inbox i m rest.waiting q) (less, fits.1)) (λ x a. a)
+          (message_fits w b closed code m (received i s) (all_at (MessageFits w b.number) s.rest.inbox i m rest.waiting q) (served m q) (less, fits.1)) (λ x a. a)
 
   evicting : (v : ℕ) → Gives (Then b) (does code o s (Evict v))
   evicting v =
@@ -128,8 +128,12 @@ module _ (w : Weights) (b : Base) (closed : Closed w b.limit) (code : List Instr
             without_all (ThreadFits w) s.threads t fits.1,
           )
 
-  pub doing : (e : What) → ((t : ℕ) (y : ThreadState) (i : Instr) → e ≡ Step t → thread_in s.threads t ≡ Some y → slice_get code y.pc ≡ Some i → NewNames w b i y) → Gives (Then (final b (instr_at code s.threads e))) (does code o s e)
-  doing (Step t) news = stepping t (λ y i. news t y i refl)
-  doing (Deliver i) news = delivering i
-  doing (Evict v) news = evicting v
-  doing (Migrate t target) news = leaving t target
+  -- copies that a delivery serves fit
+  abbrev pub Serves : What → Type 0
+  Serves e = (i : ℕ) (m : Message) → e ≡ Deliver i → slice_get s.rest.inbox i ≡ Some m → Served w b closed m (received i s)
+
+  pub doing : (e : What) → Serves e → ((t : ℕ) (y : ThreadState) (i : Instr) → e ≡ Step t → thread_in s.threads t ≡ Some y → slice_get code y.pc ≡ Some i → NewNames w b i y) → Gives (Then (final b (instr_at code s.threads e))) (does code o s e)
+  doing (Step t) served news = stepping t (λ y i. news t y i refl)
+  doing (Deliver i) served news = delivering i (λ m q. served i m refl q)
+  doing (Evict v) served news = evicting v
+  doing (Migrate t target) served news = leaving t target

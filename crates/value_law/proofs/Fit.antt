@@ -33,8 +33,8 @@ use Rattle.event_law.proofs.Objects.{length_set}
 use Rattle.event_law.proofs.Known.{all_or, all_set, all_append}
 
 -- how much each name weighs: a word, a thread, a mutex, the object of a cell, the stars of a holder, the next colour of a free address, how many objects
--- a thread has made, the mark of a lock among temporary values, a thread that asks with its server, and a thread
--- that goes on with how many objects it has made
+-- a thread has made, the mark of a lock among temporary values, a thread that asks with its server, a thread
+-- that goes on with how many objects it has made, a copy of a cell with its word, and a word of which a copy was asked for
 pub record Weights : Type 0 where
   pub word : ℕ → ℕ
   pub thread : ℕ → ℕ
@@ -46,6 +46,8 @@ pub record Weights : Type 0 where
   pub mark : ℕ
   pub asker : ℕ → ℕ → ℕ
   pub going : ℕ → ℕ → ℕ
+  pub copy : ℕ → Cell → ℕ
+  pub wanted : ℕ → ℕ
 
 -- who asks, with its server: by a request, and by an answer that goes to that server
 abbrev pub message_asker : (ℕ → ℕ → ℕ) → ℕ → Message → ℕ
@@ -112,7 +114,7 @@ module _ (w : Weights) where
   CellFits c = w.object c.object + body_weight c ≡ 0
 
   abbrev pub CopyFits : Copy → Type 0
-  CopyFits c = w.word c.word + body_weight c.cell ≡ 0
+  CopyFits c = w.word c.word + body_weight c.cell + w.copy c.word c.cell ≡ 0
 
   -- an owned value is a temporary one that fits, and what is on top of the temporary values fits
   pub owned_temp : (v : Owned) → OwnedFits v → TempFits (value.Own v)
@@ -149,6 +151,8 @@ module _ (w : Weights) where
   MessageFits n (message.Start t) = ThreadFits t
   MessageFits n (message.Migrate t) = ThreadFits t
   MessageFits n (message.Moved v c t) = w.thread t + w.word v + (w.object c.object + body_weight c) + w.asker n t ≡ 0
+  MessageFits n (message.Fetch v o s t) = w.thread o.thread + w.thread t + w.word v + w.asker s t + w.wanted v ≡ 0
+  MessageFits n (message.Fetched v c t) = w.thread t + w.word v + body_weight c + w.asker n t + (w.copy v c + w.wanted v) ≡ 0
   MessageFits n (message.Granted m v t) = w.thread t + w.mutex m + owned_weight v + w.asker n t ≡ 0
   MessageFits n (message.Unlock m v) = w.mutex m + owned_weight v ≡ 0
   MessageFits n (message.Joined u v t) = w.thread u + w.thread t + owned_weight v + w.asker n t ≡ 0
@@ -296,7 +300,7 @@ module _ (w : Weights) where
       by true go d = go d
       by false go d = absurd (cc d)
 
-  pub filled_fit : (cs : List Copy) (v : ℕ) (c : Cell) → w.word v + body_weight c ≡ 0 → AllByRecursion CopyFits cs → AllByRecursion CopyFits (fill cs v c)
+  pub filled_fit : (cs : List Copy) (v : ℕ) (c : Cell) → w.word v + body_weight c + w.copy v c ≡ 0 → AllByRecursion CopyFits cs → AllByRecursion CopyFits (fill cs v c)
   filled_fit [] v c k a = (k, tt)
   filled_fit (x ∷ cs) v c k a = by (x.word == v) (filled_fit cs v c k a.1)
     where

@@ -4,18 +4,22 @@ use Rattle.std.specs.Prelude.{slice_get, option_map}
 use Rattle.std.proofs.lemmas.Bool.{eq-eqb}
 use Rattle.std.proofs.lemmas.Bool.Decides.{nat_tests}
 use Rattle.fr_base.specs.declared.name.MutexNo.{MutexNo}
+use Rattle.fr_base.specs.declared.name.ObjNo.{ObjNo}
 use Rattle.fr_base.specs.declared.place.Lval.{Lval}
 use Rattle.fr_base.specs.declared.instruction.Instr.{Instr}
 use Rattle.fr_base.specs.declared.instruction.Instr.TheVariants as instr
 use Rattle.fr_base.specs.declared.instruction.Operand.{Operand}
 use Rattle.global_addr.specs.Words.{colour_of}
+use Rattle.heap_partition.specs.declared.value.BoxPtr.{BoxPtr}
+use Rattle.heap_partition.specs.declared.value.Cell.{Cell}
 use Rattle.thread_state.specs.View.{ThreadState}
 use Rattle.thread_state.specs.declared.value.Value.{Value}
 use Rattle.journal.specs.View.{EntryView}
+use Rattle.server_msgs.specs.declared.message.Message.TheVariants.{Fetch}
 use Rattle.server_model.specs.declared.event.Event.{Event}
 use Rattle.server_model.specs.declared.event.What.TheVariants.{Step}
 use Rattle.server_model.specs.Servers.{Server, Cluster, server_at}
-use Rattle.server_model.specs.Work.{set_thread, Hand, thread_in, then_some}
+use Rattle.server_model.specs.Work.{set_thread, Hand, thread_in, then_some, look_object}
 use Rattle.server_model.specs.Places.{Spot, value_at}
 use Rattle.server_model.specs.Prepare.{ready, access_of, prepare}
 use Rattle.server_model.specs.Events.{enabled, does}
@@ -39,22 +43,24 @@ use Rattle.event_law.proofs.KnownSound.{on_standing, sum_standing, server_known}
 use Rattle.event_law.proofs.Events.{others_of, tot-server}
 use Rattle.event_law.proofs.Applied.{handed_on}
 use Rattle.event_law.proofs.Sending.{each_event_sends}
+use Rattle.local_law.proofs.Small.{Follows}
 use Rattle.local_law.proofs.Handed.{known}
 use Rattle.value_law.proofs.Fit.{Closed, marks, Base}
 use Rattle.value_law.proofs.Steps.{starts, makes, creates, after, NewNames}
-use Rattle.value_law.proofs.Sums.{holder_of, loose, asked_of, cell_object, going_of, stray, base_of, ServerFits, server_from, server_to}
+use Rattle.value_law.proofs.Sums.{holder_of, loose, asked_of, cell_object, going_of, copy_of, stray, base_of, ServerFits, server_from, server_to}
 use Rattle.value_law.proofs.Does.{instr_at, final, made_so, doing}
 use Rattle.value_law.proofs.Split.{threads_split, mutexes_split}
 use Rattle.value_law.proofs.Counts.{Plain, counts_at, counts_alone}
 use Rattle.value_law.proofs.Named.{Also, below_limit, above_less, other_or, or_second, home_is, count_is, colour_is, next_colour, placed, more_events, uncounted, unmade, names, counted, counted_plain, started_plain, made_plain, events_plain, counted_less, counted_later}
 
--- what is known of a step: its thread may ask from there, and by the table of the code, where a reference is lent its place has few stars, and no mark is moved
+-- what is known of a step: its thread may ask from there, for copies too, and by the table of the code, where a reference is lent its place has few stars, and no mark is moved
 pub record Coded (k : Cluster) (also : Also) (s : Server) (i : Instr) (y : ThreadState) : Type 0 where
   pub stands : also.asker s.rest.number y.number ≡ 0
   pub lives : creates i ≡ 0 → also.going y.number y.made ≡ 0
   pub boxed : (o : Operand) → i ≡ instr.Box o → (also.object (record { thread = y.number; count = y.made }) ≡ 0) × (also.going y.number (y.made + 1) ≡ 0)
   pub young : (c : ℕ) → s.rest.started < c → c ≤ s.rest.started + 2 → also.going (s.rest.number * 2 ^ 32 + c) 0 ≡ 0
   pub lends : (p : Lval) (m : ℕ) → i ≡ instr.BorrowMut p → p.depth ≡ suc m → also.holder m ≡ 0
+  pub asks : Follows (access_of i y) → (p : BoxPtr) → also.wanted p.word ≡ 0
   pub moves : (j : Base) (p : Lval) → i ≡ instr.Read p true → (h h2 : Hand) (s : Spot) (v : Value) → h.thread ≡ y → prepare (access_of i h.thread) h ≡ ready h2 s → value_at h2 s ≡ Some v → marks (names k also j) v ≡ 0
 
 -- these weigh nothing before
@@ -64,6 +70,9 @@ pub record Before (k : Cluster) (also : Also) : Type 0 where
   pub askers : tot (asked_of also.asker) (things_of k) ≡ 0
   pub objects : tot (cell_object also.object) (things_of k) ≡ 0
   pub lives : tot (going_of also.going) (things_of k) ≡ 0
+  pub copies : tot (copy_of also.copy also.wanted) (things_of k) ≡ 0
+  -- nor does what a server may serve
+  pub served : (number : ℕ) (s : Server) → server_at k.servers number ≡ Some s → (i v : ℕ) (o : ObjNo) (r t : ℕ) (c : Cell) → slice_get s.rest.inbox i ≡ Some (Fetch v o r t) → look_object s.rest.partition v o ≡ Some c → also.copy v c ≡ 0
 
 module _ (k : Cluster) (also : Also) (sound : IsSound k) where
   abbrev b : List Thing
@@ -87,7 +96,7 @@ module _ (k : Cluster) (also : Also) (sound : IsSound k) where
   abbrev sentences : Thing → ℕ
   sentences x =
       words word_out x + next_colours k.options.colours x + threads zeroth_thread x + threads (uncounted_thread (sight k)) x + named_mutexes zeroth_mutex x + named_mutexes (uncounted_mutex (sight k)) x + many_names done_so_far x
-      + holder_of also.holder x + loose also.mark x + asked_of also.asker x + cell_object also.object x + going_of also.going x
+      + holder_of also.holder x + loose also.mark x + asked_of also.asker x + cell_object also.object x + going_of also.going x + copy_of also.copy also.wanted x
 
   starts_le : (j : Base) (x : Thing) → stray (names k also j) x ≤ sentences x
   starts_le j (stands s p t) =
@@ -101,7 +110,7 @@ module _ (k : Cluster) (also : Also) (sound : IsSound k) where
 
   all_sentences : (xs : List Thing) → tot sentences xs
       ≡ tot (words word_out) xs + tot (next_colours k.options.colours) xs + tot (threads zeroth_thread) xs + tot (threads (uncounted_thread (sight k))) xs + tot (named_mutexes zeroth_mutex) xs + tot (named_mutexes (uncounted_mutex (sight k))) xs
-      + tot (many_names done_so_far) xs + tot (holder_of also.holder) xs + tot (loose also.mark) xs + tot (asked_of also.asker) xs + tot (cell_object also.object) xs + tot (going_of also.going) xs
+      + tot (many_names done_so_far) xs + tot (holder_of also.holder) xs + tot (loose also.mark) xs + tot (asked_of also.asker) xs + tot (cell_object also.object) xs + tot (going_of also.going) xs + tot (copy_of also.copy also.wanted) xs
   all_sentences [] = refl
   all_sentences (x ∷ xs) = omega (arith, all_sentences xs)
 
@@ -113,7 +122,7 @@ module _ (k : Cluster) (also : Also) (sound : IsSound k) where
       let colours : tot (words word_out) b + tot (next_colours k.options.colours) b ≡ 0 = sound.words.below_limit in
       let zeroth : tot (threads zeroth_thread) b + tot (named_mutexes zeroth_mutex) b ≡ 0 = sound.names.counts_from_one in
       let named : tot (threads (uncounted_thread (sight k))) b + tot (named_mutexes (uncounted_mutex (sight k))) b ≡ 0 = sound.names.names_counted in
-      omega (arith, tot_le (stray (names k also j)) sentences (starts_le j) b, all_sentences b, colours, zeroth, named, few_made, before.holders, before.marks_none, before.askers, before.objects, before.lives)
+      omega (arith, tot_le (stray (names k also j)) sentences (starts_le j) b, all_sentences b, colours, zeroth, named, few_made, before.holders, before.marks_none, before.askers, before.objects, before.lives, before.copies)
 
   -- WORDS
 
@@ -197,6 +206,7 @@ module _ (k : Cluster) (also : Also) (sound : IsSound k) where
                 record { named = new_thread_fits j (s.rest.started + 1 + 1) (omega arith) (omega (arith, left)) (omega (arith, more)); goes = coded.young (s.rest.started + 1 + 1) (omega arith) (omega arith) },
               );
           mutex = λ o e. let more : makes i ≡ 1 = ap makes e in new_mutex_fits j s.rest.mutexes.home s.rest.mutexes.made place.1 (omega (arith, more));
+          asks = λ f p z. coded.asks f p;
           boxed = λ o e. let fresh = coded.boxed o e in (fresh.0, below_limit (y.made + 1) (2 * (done_so_far + 1)) (omega (arith, few_objects number s here t y there)), fresh.1);
           lends = coded.lends;
           moves = λ p e h h2 x v q z u. coded.moves j p e h h2 x v q z u;
@@ -304,7 +314,7 @@ module _ (k : Cluster) (e : Event) (also : Also) (sound : IsSound k) (few : FewE
     does_well : enabled k.options s e.what ≡ true → Gives Good (does k.code k.options s e.what)
     does_well on =
         both_give (λ (r : Server × EntryView). ServerFits (names k also j) j r.0) (λ (r : Server × EntryView). r.0.events ≡ s.events + 1) Good (does k.code k.options s e.what)
-        (doing (names k also j) (base_of s) well_closed k.code k.options s fits e.what (new_names on))
+        (doing (names k also j) (base_of s) well_closed k.code k.options s fits e.what (λ i m q f v o r t c g z. before.served e.server s here i v o r t c (f ∙ ap (λ x. Some x) g) z) (new_names on))
         (more_events k.code k.options s e.what) (λ r a c. (a, c))
 
     -- the server has the number that it had

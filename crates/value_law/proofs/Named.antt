@@ -6,6 +6,7 @@ use Rattle.fr_base.specs.declared.name.MutexNo.{MutexNo}
 use Rattle.fr_base.specs.declared.name.ObjNo.{ObjNo}
 use Rattle.fr_base.specs.declared.instruction.Instr.{Instr}
 use Rattle.fr_base.specs.declared.settings.Options.{Options}
+use Rattle.heap_partition.specs.declared.value.Cell.{Cell}
 use Rattle.global_addr.specs.Words.{word_of, colour_of, next_word}
 use Rattle.journal.specs.View.{EntryView}
 use Rattle.server_model.specs.declared.event.What.{What}
@@ -106,13 +107,15 @@ uncounted b j t = other (some (tot (started_at (home_of t) (count_of t)) b) || (
 abbrev pub unmade : List Thing → Base → MutexNo → ℕ
 unmade b j m = other (some (tot (made_at m.home m.count) b) || (m.home == j.number && nat_le m.count j.made))
 
--- weights of holders, of marks among temporary values, of who asks, of objects of cells, and of threads that go on
+-- weights of holders, of marks among temporary values, of who asks, of objects of cells, of threads that go on, of copies and of words of which one was asked for
 pub record Also : Type 0 where
   pub holder : ℕ → ℕ
   pub mark : ℕ
   pub asker : ℕ → ℕ → ℕ
   pub object : ObjNo → ℕ
   pub going : ℕ → ℕ → ℕ
+  pub copy : ℕ → Cell → ℕ
+  pub wanted : ℕ → ℕ
 
 abbrev pub names : Cluster → Also → Base → Weights
 names k also j = record {
@@ -126,6 +129,8 @@ names k also j = record {
   mark = also.mark;
   asker = also.asker;
   going = also.going;
+  copy = also.copy;
+  wanted = also.wanted;
 }
 
 -- of a server's counts, those of names

@@ -52,7 +52,7 @@ use Rattle.value_law.proofs.Named.{Also, names, home_is, count_is, started_plain
 use Rattle.value_law.proofs.Counts.{Plain, counts_alone}
 use Rattle.value_law.proofs.Kept.{GoneOn, ends_as, stepped_so, gone_on}
 use Rattle.value_law.proofs.Askers.{all_give}
-use Rattle.value_law.proofs.Sentences.{none_else, asking_before, plain_step, nothing, nobody, no_object, no_objects, no_going, no_holder, no_mark, no_askers}
+use Rattle.value_law.proofs.Sentences.{none_else, asking_before, plain_step, nothing, nobody, no_object, no_objects, no_going, no_copies, no_holder, no_mark, no_askers}
 
 -- OBJECTS AND THEIR THREADS
 
@@ -129,10 +129,10 @@ found_made o (_ ∷ b) z = found_made o b (omega (arith, z))
 -- WEIGHTS
 
 abbrev going_alone : (ℕ → ℕ → ℕ) → Also
-going_alone go = record { holder = nothing; mark = 0; asker = nobody; object = no_object; going = go }
+going_alone go = record { holder = nothing; mark = 0; asker = nobody; object = no_object; going = go; copy = λ v c. 0; wanted = nothing }
 
 abbrev object_alone : (ObjNo → ℕ) → Also
-object_alone f = record { holder = nothing; mark = 0; asker = nobody; object = f; going = nobody }
+object_alone f = record { holder = nothing; mark = 0; asker = nobody; object = f; going = nobody; copy = λ v c. 0; wanted = nothing }
 
 unmarked_by : (k : Cluster) (also : Also) (j : Base) (v : Value) → also.mark ≡ 0 → marks (names k also j) v ≡ 0
 unmarked_by k also j (value.Held m) z = z
@@ -250,7 +250,7 @@ module _ (k : Cluster) (e : Event) (sound : IsSound k) (few : FewEvents k) where
   old_stay o l =
       weaker (λ (x : Cluster × EntryView). GoneOn k (going_alone (behind o)) (ends_as k e (server_at k.servers e.server)) x.0) (λ (x : Cluster × EntryView). tot (going_of (behind o)) (things_of x.0) ≡ 0) (apply k e)
       (gone_on k e (going_alone (behind o)) sound few
-      (record { holders = no_holder b; marks_none = no_mark b; askers = no_askers b; objects = no_objects b; lives = going_before o l })
+      (record { holders = no_holder b; marks_none = no_mark b; askers = no_askers b; objects = no_objects b; lives = going_before o l; copies = no_copies b; served = λ n s h i v o2 r t c q z. refl })
       (λ s here t y i q there at on.
       let ahead = steps_ahead s here o l t y q there on in record {
         stands = refl;
@@ -258,6 +258,7 @@ module _ (k : Cluster) (e : Event) (sound : IsSound k) (few : FewEvents k) where
         boxed = λ p z. (refl, behind_less y.number y.made o ahead);
         young = λ c low high. young_behind s here o l c low high;
         lends = λ p m c z. refl;
+        asks = λ f p. refl;
         moves = λ j p c h h2 x v q2 z u. unmarked_by k (going_alone (behind o)) j v refl;
       }))
       (λ x g. let none = g.none in omega (arith, none, tot_le (going_of (behind o)) (stray (names k (going_alone (behind o)) (ends_as k e (server_at k.servers e.server)))) (λ y. goes_so o y) (things_of x.0)))
@@ -405,13 +406,14 @@ module _ (k : Cluster) (e : Event) (sound : IsSound k) (few : FewEvents k) where
       let also = object_alone (unknown k e) in
       weaker (λ (x : Cluster × EntryView). GoneOn k also (ends_as k e (server_at k.servers e.server)) x.0) (λ (x : Cluster × EntryView). tot (cell_object (unknown k e)) (things_of x.0) ≡ 0) (apply k e)
       (gone_on k e also sound few
-      (record { holders = no_holder (things_of k); marks_none = no_mark (things_of k); askers = no_askers (things_of k); objects = known_before (things_of k) (λ f. omega arith); lives = no_going (things_of k) })
+      (record { holders = no_holder (things_of k); marks_none = no_mark (things_of k); askers = no_askers (things_of k); objects = known_before (things_of k) (λ f. omega arith); lives = no_going (things_of k); copies = no_copies (things_of k); served = λ n s h i v o r t c q z. refl })
       (λ s here t y i q there at on. record {
         stands = refl;
         lives = λ z. refl;
         boxed = λ p z. (made_now s here t y p q there (at ∙ ap (λ j. Some j) z), refl);
         young = λ c low high. refl;
         lends = λ p m c z. refl;
+        asks = λ f p. refl;
         moves = λ j p c h h2 x v q2 z u. unmarked_by k also j v refl;
       }))
       (λ x g. let none = g.none in omega (arith, none, tot_le (cell_object (unknown k e)) (stray (names k also (ends_as k e (server_at k.servers e.server)))) (λ y. object_so y) (things_of x.0)))

@@ -26,7 +26,7 @@ use Rattle.event_law.proofs.Boxes.{tot_le}
 use Rattle.event_law.proofs.Askers.{other_none}
 use Rattle.local_law.specs.Laws.{EachEventKeeps}
 use Rattle.value_law.proofs.Fit.{Weights, marks, Base}
-use Rattle.value_law.proofs.Sums.{holder_of, loose, asked_of, no_asker, cell_object, going_of, stray}
+use Rattle.value_law.proofs.Sums.{holder_of, loose, asked_of, no_asker, cell_object, going_of, copy_of, no_copy, stray}
 use Rattle.value_law.proofs.Split.{two_le, threads_split, mutexes_split}
 use Rattle.value_law.proofs.Named.{Also, above_less, some_le, names, counted}
 use Rattle.value_law.proofs.Kept.{Coded, Before, GoneOn, ends_as, gone_on}
@@ -181,18 +181,22 @@ no_going (x ∷ b) = omega (arith, none x, no_going b)
     none (stands s p t) = if_none (not (is_over t.phase)) 0 refl
     none x = refl
 
+pub no_copies : (b : List Thing) → tot (copy_of (λ v c. 0) (λ v. 0)) b ≡ 0
+no_copies [] = refl
+no_copies (x ∷ b) = omega (arith, no_copy x, no_copies b)
+
 -- weights of askers alone, of holders and marks alone, and none at all
 abbrev pub asking : (ℕ → ℕ → ℕ) → Also
-asking ask = record { holder = nothing; mark = 0; asker = ask; object = no_object; going = nobody }
+asking ask = record { holder = nothing; mark = 0; asker = ask; object = no_object; going = nobody; copy = λ v c. 0; wanted = nothing }
 
 abbrev pub holding : (ℕ → ℕ) → ℕ → Also
-holding d n = record { holder = d; mark = n; asker = nobody; object = no_object; going = nobody }
+holding d n = record { holder = d; mark = n; asker = nobody; object = no_object; going = nobody; copy = λ v c. 0; wanted = nothing }
 
 abbrev pub none_else : Also
 none_else = asking nobody
 
 pub asking_before : (k : Cluster) (ask : ℕ → ℕ → ℕ) → tot (asked_of ask) (things_of k) ≡ 0 → Before k (asking ask)
-asking_before k ask z = record { holders = no_holder (things_of k); marks_none = no_mark (things_of k); askers = z; objects = no_objects (things_of k); lives = no_going (things_of k) }
+asking_before k ask z = record { holders = no_holder (things_of k); marks_none = no_mark (things_of k); askers = z; objects = no_objects (things_of k); lives = no_going (things_of k); copies = no_copies (things_of k); served = λ n s h i v o r t c q z. refl }
 
 pub no_askers : (b : List Thing) → tot (asked_of nobody) b ≡ 0
 no_askers [] = refl
@@ -208,7 +212,7 @@ unmarked k ask j (value.Shared r) = refl
 unmarked k ask j (value.Mut r) = refl
 
 pub plain_step : (k : Cluster) (ask : ℕ → ℕ → ℕ) (s : Server) (i : Instr) (y : ThreadState) → ask s.rest.number y.number ≡ 0 → Coded k (asking ask) s i y
-plain_step k ask s i y z = record { stands = z; lives = λ e. refl; boxed = λ o e. (refl, refl); young = λ c l m. refl; lends = λ p m c z. refl; moves = λ j p c h h2 x v q z u. unmarked k ask j v }
+plain_step k ask s i y z = record { stands = z; lives = λ e. refl; boxed = λ o e. (refl, refl); young = λ c l m. refl; lends = λ p m c z. refl; asks = λ f p. refl; moves = λ j p c h h2 x v q z u. unmarked k ask j v }
 
 kept_by : (P : Cluster → Type 0) → ((k : Cluster) (j : Base) (c : Cluster) → GoneOn k none_else j c → P c) → (k : Cluster) (e : Event) → IsSound k → FewEvents k → Gives (λ (x : Cluster × EntryView). P x.0) (apply k e)
 kept_by P go k e sound few =

@@ -84,6 +84,7 @@ pub record NewNames (w : Weights) (b : Base) (i : Instr) (y : ThreadState) : Typ
   pub mutex : (o : Operand) → i ≡ instr.Mutex o → w.mutex (record { home = b.home; count = b.made + 1 }) ≡ 0
   pub boxed : (o : Operand) → i ≡ instr.Box o → (w.object (record { thread = y.number; count = y.made }) ≡ 0) × (w.made (y.made + 1) ≡ 0) × (w.going y.number (y.made + 1) ≡ 0)
   pub lends : (p : Lval) (d : ℕ) → i ≡ instr.BorrowMut p → p.depth ≡ suc d → w.holder d ≡ 0
+  pub asks : Follows (access_of i y) → (p : BoxPtr) → OwnedFits w (owned.Box p) → w.wanted p.word ≡ 0
   pub moves : (p : Lval) → i ≡ instr.Read p true → (h h2 : Hand) (s : Spot) (v : Value) → h.thread ≡ y → prepare (access_of i h.thread) h ≡ ready h2 s → value_at h2 s ≡ Some v → marks w v ≡ 0
 
 module _ (w : Weights) (b : Base) (closed : Closed w b.limit) (n : ℕ) (i : Instr) (y : ThreadState) (new : NewNames w b i y) where
@@ -139,8 +140,8 @@ module _ (w : Weights) (b : Base) (closed : Closed w b.limit) (n : ℕ) (i : Ins
   stood : (h : Hand) → Of G h → w.asker h.work.rest.number h.thread.number ≡ 0
   stood h g = let mine = g.1 in let rest = g.0 in subst (λ n. w.asker n h.thread.number ≡ 0) (sym rest.numbered) (subst (λ n. w.asker b.number n ≡ 0) (sym mine.same) new.stands)
 
-  asks_one : (p : BoxPtr) (h : Hand) → None_new i → Fits w (value.Own (owned.Box p)) → Of G h → Of E (ask_copy p h)
-  asks_one p h z a g = asks_for (server_of p.word) (message.Fetch p.word p.object h.work.rest.number h.thread.number) (phase.WaitCell p.word) h z (omega (arith, a, named h g, stood h g)) (omega (arith, a)) g
+  asks_one : (p : BoxPtr) (h : Hand) → None_new i → Fits w (value.Own (owned.Box p)) → w.wanted p.word ≡ 0 → Of G h → Of E (ask_copy p h)
+  asks_one p h z a o g = asks_for (server_of p.word) (message.Fetch p.word p.object h.work.rest.number h.thread.number) (phase.WaitCell p.word) h z (omega (arith, a, named h g, stood h g, o)) (omega (arith, a)) g
 
   asks_all : (p : BoxPtr) (h : Hand) → None_new i → Fits w (value.Own (owned.Box p)) → Of G h → Of E (ask_object p h)
   asks_all p h z a g = asks_for (server_of p.word) (message.Move p.word p.object h.work.rest.number h.thread.number) (phase.WaitCell p.word) h z (omega (arith, a, named h g, stood h g)) (omega (arith, a)) g
@@ -157,7 +158,7 @@ module _ (w : Weights) (b : Base) (closed : Closed w b.limit) (n : ℕ) (i : Ins
     pinned = λ r a. a;
     pins = λ u h e g. used w b closed y u (users h.work.rest.cache u + 1) h g;
     uses = λ u h e g. walked w b closed y u (working (with_cache (pin h.work.rest.cache u)) h) (pinned_word w b closed y u h e g) (used w b closed y u (users h.work.rest.cache u + 1) h g);
-    asks_copy = λ p h a e g. asks_one p h (follows_none i y f) a g;
+    asks_copy = λ p h a e g. asks_one p h (follows_none i y f) a (new.asks f p a) g;
     asks_object = λ p h a e g. asks_all p h (follows_none i y f) a g;
   }
 

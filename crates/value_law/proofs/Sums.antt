@@ -15,7 +15,7 @@ use Rattle.server_msgs.specs.declared.message.Message.{Message}
 use Rattle.server_msgs.specs.declared.message.Message.TheVariants as message
 use Rattle.server_model.specs.Servers.{Server}
 use Rattle.heap_law.specs.Names.{tot, if_so}
-use Rattle.heap_law.specs.Things.{sent, queued, noted, at_temp, Thing, borrows, locks, lies, flies, vacant, uses, retired, stands, things_at, is_free, pin_things, slot_things, temp_things, gift_things, walk_things, thread_things, standing_things, message_things, waiting_things, leaving_things, cell_things, free_things, copy_things, content_things, queue_things, mutex_things, task_things, server_things}
+use Rattle.heap_law.specs.Things.{sent, queued, noted, at_temp, Thing, borrows, locks, lies, flies, vacant, copied, uses, retired, stands, things_at, is_free, pin_things, slot_things, temp_things, gift_things, walk_things, thread_things, standing_things, message_things, waiting_things, leaving_things, cell_things, free_things, copy_things, content_things, queue_things, mutex_things, task_things, server_things}
 use Rattle.heap_law.specs.Placing.{words}
 use Rattle.heap_law.specs.Naming.{threads, named_mutexes}
 use Rattle.heap_law.proofs.Sums.{tot-append, server_parts}
@@ -73,8 +73,27 @@ no_asker (sent n m) = asked_by_none n m
 no_asker (noted s x) = noted_by_none x.state
 no_asker x = refl
 
+-- copies, in caches and in messages, and the words of which one was asked for
+abbrev pub sent_copy : (ℕ → Cell → ℕ) → (ℕ → ℕ) → Message → ℕ
+sent_copy f g (message.Fetch v o s t) = g v
+sent_copy f g (message.Fetched v c t) = f v c + g v
+sent_copy f g m = 0
+
+abbrev pub copy_of : (ℕ → Cell → ℕ) → (ℕ → ℕ) → Thing → ℕ
+copy_of f g (copied r c) = f c.word c.cell
+copy_of f g (sent n m) = sent_copy f g m
+copy_of f g x = 0
+
+sent_copy_none : (m : Message) → sent_copy (λ v c. 0) (λ v. 0) m ≡ 0
+sent_copy_none (message.Fetched v c t) = refl
+sent_copy_none m = refl
+
+pub no_copy : (x : Thing) → copy_of (λ v c. 0) (λ v. 0) x ≡ 0
+no_copy (sent n m) = sent_copy_none m
+no_copy x = refl
+
 abbrev pub stray : Weights → Thing → ℕ
-stray w x = words w.word x + threads w.thread x + named_mutexes w.mutex x + cell_object w.object x + holder_of w.holder x + next_of w.colour x + made_of w.made x + loose w.mark x + asked_of w.asker x + going_of w.going x
+stray w x = words w.word x + threads w.thread x + named_mutexes w.mutex x + cell_object w.object x + holder_of w.holder x + next_of w.colour x + made_of w.made x + loose w.mark x + asked_of w.asker x + going_of w.going x + copy_of w.copy w.wanted x
 
 -- what a server is before an event
 abbrev pub base_of : Server → Base
