@@ -1,0 +1,5 @@
+mod Stars
+mod Few
+mod Raised
+mod Short
+mod Bounded
