@@ -27,7 +27,7 @@ use Rattle.carry_law.proofs.Taken.{taker_of}
 
 -- THREADS AMONG THINGS
 
-thread_thing : (x : Standing) (b : List Thing) → Among x (threads_in b) → Among (stands x.server x.packed x.thread) b
+pub thread_thing : (x : Standing) (b : List Thing) → Among x (threads_in b) → Among (stands x.server x.packed x.thread) b
 thread_thing x [] h = absurd h
 thread_thing x (stands s p t ∷ b) (inl e) = inl (ap (λ (y : Standing). stands y.server y.packed y.thread) e)
 thread_thing x (stands s p t ∷ b) (inr h) = inr (thread_thing x b h)
@@ -39,14 +39,14 @@ standing s p t = record { server = s; packed = p; thread = t }
 same_standing : (s r : ℕ) (p q : Bool) (t u : ThreadState) → stands s p t ≡ stands r q u → standing s p t ≡ standing r q u
 same_standing s r p q t u e = cc
 
-thing_thread : (s : ℕ) (p : Bool) (t : ThreadState) (b : List Thing) → Among (stands s p t) b → Among (record { server = s; packed = p; thread = t }) (threads_in b)
+pub thing_thread : (s : ℕ) (p : Bool) (t : ThreadState) (b : List Thing) → Among (stands s p t) b → Among (record { server = s; packed = p; thread = t }) (threads_in b)
 thing_thread s p t [] h = absurd h
 thing_thread s p t (stands r q u ∷ b) (inl e) = inl (same_standing r s q p u t e)
 thing_thread s p t (stands r q u ∷ b) (inr h) = inr (thing_thread s p t b h)
 thing_thread s p t (_ ∷ b) (inl e) = absurd cc
 thing_thread s p t (_ ∷ b) (inr h) = thing_thread s p t b h
 
-taking_listed : (code : List Instr) (x : Standing) (t : Taking) (xs : List Standing) → Among x xs → taking_of code x ≡ Some t → Among t (takings code xs)
+pub taking_listed : (code : List Instr) (x : Standing) (t : Taking) (xs : List Standing) → Among x xs → taking_of code x ≡ Some t → Among t (takings code xs)
 taking_listed code x t [] h e = absurd h
 taking_listed code x t (y ∷ xs) (inl q) e =
     let here : taking_of code y ≡ Some t = ap (taking_of code) q ∙ e in
@@ -59,14 +59,14 @@ taking_listed code x t (y ∷ xs) (inr h) e = by (taking_of code y) (taking_list
 
 -- POINTERS AT NO LOCATION, of lists in which words see the same
 
-loose_by : (code : List Instr) (b : List Thing) (p : Pointer) (y : Thing) → Seen code b y → p.at ≡ None → Among p (pointers_of y) → Among p (pointers_in b)
+pub loose_by : (code : List Instr) (b : List Thing) (p : Pointer) (y : Thing) → Seen code b y → p.at ≡ None → Among p (pointers_of y) → Among p (pointers_in b)
 loose_by code b p (stands s q t) h e m = absurd m
 loose_by code b p (lies r s c) h e m = absurd (box_nowhere (in_cell c.object) c.value p m e)
 loose_by code b p (flies v c) h e (inl m) = pointers_among p (flies v c) b h (inl m)
 loose_by code b p (flies v c) h e (inr m) = absurd (box_nowhere (in_cell c.object) c.value p m e)
 loose_by code b p y h e m = stands_in p b (h p e m)
 
-loose_within : (code : List Instr) (a b : List Thing) → Within code a b → (p : Pointer) → p.at ≡ None → Among p (pointers_in a) → Among p (pointers_in b)
+pub loose_within : (code : List Instr) (a b : List Thing) → Within code a b → (p : Pointer) → p.at ≡ None → Among p (pointers_in a) → Among p (pointers_in b)
 loose_within code a b w p e m = let q = of_thing p a m in loose_by code b p q.thing (w q.thing q.among) e q.pointer
 
 -- A CELL, WHEREVER IT IS
@@ -86,10 +86,10 @@ Far code b (lies r a c) = CellIn b c
 Far code b (flies w c) = CellIn b c
 Far code b x = ⊤
 
-lies_in : {b : List Thing} (r a : ℕ) (c : Cell) → Among (lies r a c) b → CellIn b c
+pub lies_in : {b : List Thing} (r a : ℕ) (c : Cell) → Among (lies r a c) b → CellIn b c
 lies_in r a c q = record { cell = c; thing = lies r a c; is = lying r a; among = q; object = refl; value = refl }
 
-flies_in : {b : List Thing} (w : ℕ) (c : Cell) → Among (flies w c) b → CellIn b c
+pub flies_in : {b : List Thing} (w : ℕ) (c : Cell) → Among (flies w c) b → CellIn b c
 flies_in w c q = record { cell = c; thing = flies w c; is = flying w; among = q; object = refl; value = refl }
 
 -- between lists that are the same but for one cell's thing
@@ -167,7 +167,7 @@ module _ (code : List Instr) (a b : Cluster) (d : HasPlaces b) (w : (y : Thing) 
       let r = w (stands q.taker.server q.taker.packed q.taker.thread) (thread_thing q.taker (things_of a) q.among) in
       taking_listed code (record { server = r.server; packed = r.packed; thread = r.thread }) t (threads_in (things_of b)) (thing_thread r.server r.packed r.thread (things_of b) r.among) (r.shows.taking ∙ q.taking)
 
-none_some : {A : Type 0} (x : A) → None ≡ Some x → ⊥
+pub none_some : {A : Type 0} (x : A) → None ≡ Some x → ⊥
 none_some x e = absurd cc
 
 module _ (k z : Cluster) (c : HasPlaces k) (d : HasPlaces z) (same : z.code ≡ k.code) (rest : List Thing) (m a w : ℕ) (e : Cell) (p : Alike k.code (things_of k) (lies m a e ∷ rest)) (q : Alike k.code (things_of z) (flies w e ∷ rest)) where

@@ -137,7 +137,7 @@ rooted k sound t h =
     taker_placed k q.taker t q.taker.thread.phase (slice_get k.code q.taker.thread.pc) refl q.taking (none_at (λ (x : Standing). taken_phase (sight k) x x.thread.phase) q.taker (sight k).ground.threads sound.requests.taken_stands q.among)
 
 -- it stays so where nothing changes that words see
-rooted_on : (k z : Cluster) → z.code ≡ k.code → Untouched k z → RootedIn k → RootedIn z
+pub rooted_on : (k z : Cluster) → z.code ≡ k.code → Untouched k z → RootedIn k → RootedIn z
 rooted_on k z code u go t h =
     let q = go t (u.takes t h) in
     (q.0, seen_places_lead (sight k).ground (sight z).ground in_slots in_cells t.thread t.place.slot t.place.depth ∙ q.1)
@@ -152,13 +152,13 @@ module _ (k : Cluster) (sound : IsSound k) (s : Server) (here : server_at k.serv
   abbrev n : ℕ
   n = s.rest.number
 
-  abbrev others : List Thing
+  abbrev pub others : List Thing
   others = servers_things (others_of k.servers n)
 
   abbrev pub Ok : Hand → Type 0
   Ok = HandOk Sums n s.events t (all_standing n (without_thread s.threads t) ++ others)
 
-  abbrev with_hand : Hand → Server
+  abbrev pub with_hand : Hand → Server
   with_hand h = record { rest = h.work.rest; threads = set_thread s.threads h.thread; events = s.events + 1 }
 
   abbrev pub put : Hand → Cluster
@@ -171,7 +171,7 @@ module _ (k : Cluster) (sound : IsSound k) (s : Server) (here : server_at k.serv
       let sums : Sums (things_of (put h)) = sums_kept.same (server_things (with_hand h) ++ others) (things_of (put h)) (λ f. omega (arith, (tot-server f k.servers n s (with_hand h) here).1, tot-append f (server_things (with_hand h)) others)) left in
       record { numbers_differ = sums.numbers_differ; home_of_each = sums.home_of_each; owner_of_each = sums.owner_of_each }
 
-  stands_here : (h : Hand) → h.work.rest.number ≡ n → h.thread.number ≡ t → StandsHere k n s.threads h
+  pub stands_here : (h : Hand) → h.work.rest.number ≡ n → h.thread.number ≡ t → StandsHere k n s.threads h
   stands_here h e f = record {
     server = subst (λ o. IsSome o) (sym here) refl;
     number = e;
@@ -181,7 +181,7 @@ module _ (k : Cluster) (sound : IsSound k) (s : Server) (here : server_at k.serv
   abbrev pub h0 : Hand
   h0 = record { work = begin_work s.rest; thread = y }
 
-  its_number : y.number ≡ t
+  pub its_number : y.number ≡ t
   its_number = thread_number s.threads t y at
 
   pub first_ok : Ok h0
@@ -199,7 +199,7 @@ module _ (k : Cluster) (sound : IsSound k) (s : Server) (here : server_at k.serv
   aside : (a w b : List Thing) → Alike k.code (a ++ w ++ b) (a ++ b ++ w)
   aside a w b = chain (turned (joined a w b)) (chain (beside (itself a) (exchanged w b)) (joined a b w))
 
-  site_of : (h : Hand) → h.thread.number ≡ t → Alike k.code (all_standing n (set_thread s.threads h.thread) ++ body_things n h.work.rest) (thread_things n false h.thread ++ body_things n h.work.rest ++ all_standing n (without_thread s.threads t))
+  pub site_of : (h : Hand) → h.thread.number ≡ t → Alike k.code (all_standing n (set_thread s.threads h.thread) ++ body_things n h.work.rest) (thread_things n false h.thread ++ body_things n h.work.rest ++ all_standing n (without_thread s.threads t))
   site_of h f =
       let w = all_standing n (without_thread s.threads t) in
       chain (beside (taken_alike (thread_things n false) 0 0 (thread_set s.threads t y h.thread at f)) (itself (body_things n h.work.rest))) (aside (thread_things n false h.thread) w (body_things n h.work.rest))
@@ -244,13 +244,13 @@ module _ (k : Cluster) (sound : IsSound k) (s : Server) (here : server_at k.serv
       third : LeavesWords (put hb) (put h)
       third = untouched_stays (put hb) (put h) place_b place_h (seen_alike (put hb) (put h) place_b place_h refl (puts_alike hb h e1 (p.number ∙ e ∙ f1) b))
 
-  first_seen : Untouched k (put h0)
+  pub first_seen : Untouched k (put h0)
   first_seen = seen_alike k (put h0) before (places h0 first_ok) refl first_alike
 
-  first_leaves : LeavesWords k (put h0)
+  pub first_leaves : LeavesWords k (put h0)
   first_leaves = untouched_stays k (put h0) before (places h0 first_ok) first_seen
 
-  first_rooted : RootedIn (put h0)
+  pub first_rooted : RootedIn (put h0)
   first_rooted = rooted_on k (put h0) refl first_seen (rooted k sound)
 
   -- and so from the event's start

@@ -43,7 +43,7 @@ use Rattle.carry_law.proofs.Far.{leaves_old}
 
 -- THE PARTITION
 
-none_blank : {code : List Instr} (s : ℕ) (free : List (ℕ × ℕ)) (a : ℕ) → Alike code (cell_things s free a None) []
+pub none_blank : {code : List Instr} (s : ℕ) (free : List (ℕ × ℕ)) (a : ℕ) → Alike code (cell_things s free a None) []
 none_blank {code = code} s free a = by (is_free a free)
   where
     by : (b : Bool) → Alike code (if b then [] else retired s a ∷ []) []
@@ -51,11 +51,11 @@ none_blank {code = code} s free a = by (is_free a free)
     by false = blank (retired s a) (λ p e h. h)
 
 -- what is free of other addresses isn't seen
-one_cell : {code : List Instr} (s : ℕ) (f g : List (ℕ × ℕ)) (a : ℕ) (c : Option Cell) → Alike code (cell_things s f a c) (cell_things s g a c)
+pub one_cell : {code : List Instr} (s : ℕ) (f g : List (ℕ × ℕ)) (a : ℕ) (c : Option Cell) → Alike code (cell_things s f a c) (cell_things s g a c)
 one_cell s f g a None = chain (none_blank s f a) (turned (none_blank s g a))
 one_cell s f g a (Some c) = itself (lies s a c ∷ [])
 
-all_cells : {code : List Instr} (s : ℕ) (f g : List (ℕ × ℕ)) (i : ℕ) (xs : List (Option Cell)) → Alike code (things_at (cell_things s f) i xs) (things_at (cell_things s g) i xs)
+pub all_cells : {code : List Instr} (s : ℕ) (f g : List (ℕ × ℕ)) (i : ℕ) (xs : List (Option Cell)) → Alike code (things_at (cell_things s f) i xs) (things_at (cell_things s g) i xs)
 all_cells s f g i [] = itself []
 all_cells s f g i (x ∷ xs) = beside (one_cell s f g i x) (all_cells s f g (i + 1) xs)
 
@@ -72,7 +72,7 @@ cell_leaves s f g i (suc j) (x ∷ xs) c e =
     let q = cell_leaves s f g (i + 1) j xs c e in
     (q.0, chain (beside (one_cell s f g i x) q.1) (in_front (cell_things s g i x) (lies s q.0 c ∷ []) (things_at (cell_things s g) (i + 1) (slice_set xs j None))))
 
-free_blank : {code : List Instr} (s i : ℕ) (xs : List (ℕ × ℕ)) → Alike code (things_at (free_things s) i xs) []
+pub free_blank : {code : List Instr} (s i : ℕ) (xs : List (ℕ × ℕ)) → Alike code (things_at (free_things s) i xs) []
 free_blank s i [] = itself []
 free_blank s i (x ∷ xs) = blanks (blank (vacant s x.0 x.1) (λ p e h. h)) (free_blank s (i + 1) xs)
 

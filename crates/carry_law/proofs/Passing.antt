@@ -71,7 +71,7 @@ pub record Passes (code : List Instr) (n : ℕ) (x y : ThreadState) (from to : H
 
 -- A LOOSE POINTER
 
-move_in : (m n : Option Location) (u : Owned) (p : Pointer) → Among p (pointer_in m u) → Among (record p { at = n }) (pointer_in n u)
+pub move_in : (m n : Option Location) (u : Owned) (p : Pointer) → Among p (pointer_in m u) → Among (record p { at = n }) (pointer_in n u)
 move_in m n (owned.Box b) p (inl e) = inl (ap (λ (q : Pointer). record q { at = n }) e)
 move_in m n (owned.Box b) p (inr h) = absurd h
 move_in m n owned.Nothing p h = absurd h

@@ -260,6 +260,87 @@ module _ (k : Cluster) (coherent : IsCoherent k) (s : Server) (here : server_at 
         rest = chain (turned (goes_unseen gone)) (sends n h.work.rest w.state.ok.number target m);
       })
 
+  -- CLEANING
+
+  -- a dirty reference in a slot, which isn't stale and whose object lies, gets the next colour
+  pub cleans_at : (h h2 : Hand) (j : ℕ) (r : MutRef) → Walks h → Ok h2 → slice_get h.thread.slots j ≡ Some (value.Mut r) → r.dirty ≡ true → (IsStale (sight k) (Some (at_slot h.thread.number j)) → ⊥) → LiesUnder k (box_of r)
+      → put_word (in_slot j) (issue_tint (box_of r) h.work) h ≡ Some h2 → Walks h2
+  cleans_at h h2 j r walks g2 e dirty fresh under worded = record {
+    state = record { ok = g2; along = along_cleaned k (put h) (put h2) l r (next_word r.word) issued_all new (places h g) (places h2 g2) walks.state.along there dirty fresh reworded now still };
+    untaken = subst (λ th. TakesNoneHere k.code th) (sym wrote.thread) walks.untaken;
+    gift = ap (λ (th : ThreadState). th.gift) wrote.thread ∙ walks.gift;
+  }
+    where
+      g : Ok h
+      g = walks.state.ok
+
+      l : Location
+      l = at_slot h.thread.number j
+
+      there : value_in (sight (put h)).ground l ≡ Some (value.Mut r)
+      there = slot_stands k n s.threads (s.events + 1) h j (value.Mut r) (stands h g) (places h g) e
+
+      was : value_in (sight k).ground l ≡ Some (value.Mut r)
+      was = walks.state.along.dirty_was l r there dirty
+
+      pointer : Pointer
+      pointer = record { at = Some l; word = r.word; object = r.object }
+
+      word_in : (c : Cluster) (b : HasWords (sight c)) → value_in (sight c).ground l ≡ Some (value.Mut r) → (IsStale (sight c) (Some l) → ⊥) → r.word ≡ b.word r.object
+      word_in c b f z =
+          ⊎_elim (λ (q : IsStale (sight c) (Some l)). absurd (z q)) (λ (q : r.word ≡ b.word r.object). q)
+          (b.same pointer (among_first pointer (pointers_in (things_of c)) (taken_pointers (sight c).code (sight c).ground (sight c).ground.threads) (told c l (value.Mut r) pointer f (inl refl))))
+
+      issued_all : Rattle.heap_law.specs.Coherent.Holds k Rattle.heap_law.specs.Coherent.are_issued
+      issued_all = coherent.sound.words.are_issued
+
+      words_k : HasWords (sight k)
+      words_k = coherent.sound.words.have_words
+
+      words_h : HasWords (sight (put h))
+      words_h = walks.state.along.words.has_words
+
+      new : issued (sight k) (next_word r.word) ≡ false
+      new = ap (λ v. issued (sight k) (next_word v)) (word_in k words_k was fresh) ∙ is_new k words_k (one_state k coherent.sound) under.server under.address r.object under.there
+
+      lies_now : LiesThere (put h) under.server under.address r.object
+      lies_now = walks.state.along.lies_on under.server under.address r.object under.there
+
+      its_word : r.word ≡ words_h.word r.object
+      its_word = word_in (put h) words_h there (λ z. fresh (walks.state.along.fresher l z))
+
+      home : LeadsHome (put h) (box_of r)
+      home = record { server = under.server; address = under.address; lying = lies_now; leads = λ a b c q f. subst (λ v. LeadsTo a b v) (ap words_h.word f ∙ sym its_word) (words_h.home a b c q) }
+
+      not_first : (q : MutRef) → value.Mut r ≡ value.Mut q → next_word r.word ≡ q.first → ⊥
+      not_first q f z =
+          let same : r ≡ q = cc in
+          let known : issued (sight k) r.first ≡ true = first_issued k issued_all l r (of_borrows (sight k).ground (record { at = l; holder = Rattle.heap_law.specs.Stale.holder_of (sight k).ground l r.holder; reference = r }) (things_of k) (reference_there k l r was)).among in
+          let no : true ≡ false = sym known ∙ ap (issued (sight k)) (ap (λ (a : MutRef). a.first) same ∙ sym z) ∙ new in
+          absurd cc
+
+      wrote : SlotPut h h2 j (next_word r.word) (value.Mut r)
+      wrote = slot_put h h2 j (value.Mut r) (box_of r) e worded
+
+      reworded : Reworded (put h) (put h2) l r.object (next_word r.word)
+      reworded = tint_rewords k n s.threads (s.events + 1) h h2 j (value.Mut r) (box_of r) (stands h g) e refl worded (places h g) (places h2 g2) home not_first
+
+      same_number : h2.thread.number ≡ h.thread.number
+      same_number = ap (λ (th : ThreadState). th.number) wrote.thread
+
+      slot_now : slice_get h2.thread.slots j ≡ Some (value.Mut (took r (next_word r.word)))
+      slot_now = ap (λ (th : ThreadState). slice_get th.slots j) wrote.thread ∙ set_same h.thread.slots j (value.Mut r) wrote.new e ∙ sym wrote.worded
+
+      now : value_in (sight (put h2)).ground l ≡ Some (value.Mut (took r (next_word r.word)))
+      now = ap (λ q. value_in (sight (put h2)).ground (at_slot q j)) (sym same_number) ∙ slot_stands k n s.threads (s.events + 1) h2 j (value.Mut (took r (next_word r.word))) (stands h2 g2) (places h2 g2) slot_now
+
+      split : Split (things_of (put h)) (things_of (put h2)) (thread_things n false h.thread) (thread_things n false h2.thread)
+      split = put_split k n s.threads (s.events + 1) h h2 (stands h g) wrote.rest same_number
+
+      still : (a b : ℕ) (o : ObjNo) → LiesThere (put h) a b o → LiesThere (put h2) a b o
+      still a b o q =
+          record { cell = q.cell; among = split_lies (things_of (put h)) (things_of (put h2)) (thread_things n false h.thread) (thread_things n false h2.thread) split (thread_cells n h.thread) a b q.cell q.among; object = q.object }
+
   -- THE THREAD READS
 
   module _ (on : enabled k.options s (Step t) ≡ true) (i : Instr) (code : slice_get k.code y.pc ≡ Some i) (w : Lval) (m : ℕ) (reads : Reads i w m) where
@@ -275,90 +356,22 @@ module _ (k : Cluster) (coherent : IsCoherent k) (s : Server) (here : server_at 
     -- a dirty reference in a slot that its place passes gets the next colour
     pub cleans_slot : (h h2 : Hand) (j d : ℕ) (r : MutRef) → Walks h → Ok h2 → slice_get h.thread.slots j ≡ Some (value.Mut r) → r.dirty ≡ true → d < m → locate (sight k).ground y.number w.slot d ≡ Some (at_slot y.number j)
         → put_word (in_slot j) (issue_tint (box_of r) h.work) h ≡ Some h2 → Walks h2
-    cleans_slot h h2 j d r walks g2 e dirty lt located worded = record {
-      state = record { ok = g2; along = along_cleaned k (put h) (put h2) l r (next_word r.word) issued_all new (places h g) (places h2 g2) walks.state.along there dirty fresh reworded now still };
-      untaken = subst (λ th. TakesNoneHere k.code th) (sym wrote.thread) walks.untaken;
-      gift = ap (λ (th : ThreadState). th.gift) wrote.thread ∙ walks.gift;
-    }
+    cleans_slot h h2 j d r walks g2 e dirty lt located worded = cleans_at h h2 j r walks g2 e dirty fresh under worded
       where
-        g : Ok h
-        g = walks.state.ok
-
         l : Location
         l = at_slot h.thread.number j
 
-        named : h.thread.number ≡ y.number
-        named = g.thread ∙ sym (thread_number s.threads t y at)
+        g : Ok h
+        g = walks.state.ok
 
         at_l : locate (sight k).ground y.number w.slot d ≡ Some l
-        at_l = located ∙ ap (λ q. Some (at_slot q j)) (sym named)
-
-        there : value_in (sight (put h)).ground l ≡ Some (value.Mut r)
-        there = slot_stands k n s.threads (s.events + 1) h j (value.Mut r) (stands h g) (places h g) e
+        at_l = located ∙ ap (λ q. Some (at_slot q j)) (sym (g.thread ∙ sym (thread_number s.threads t y at)))
 
         was : value_in (sight k).ground l ≡ Some (value.Mut r)
-        was = walks.state.along.dirty_was l r there dirty
+        was = walks.state.along.dirty_was l r (slot_stands k n s.threads (s.events + 1) h j (value.Mut r) (stands h g) (places h g) e) dirty
 
         fresh : IsStale (sight k) (Some l) → ⊥
         fresh = read_are_fresh k (coherent_has_paths k coherent) x i w m d l going code reads lt at_l
 
         under : LiesUnder k (box_of r)
         under = read_lie_there k coherent x i w m d l (value.Mut r) (box_of r) going code reads lt (λ u. calm_waits y.phase u calm) at_l was refl
-
-        pointer : Pointer
-        pointer = record { at = Some l; word = r.word; object = r.object }
-
-        word_in : (c : Cluster) (b : HasWords (sight c)) → value_in (sight c).ground l ≡ Some (value.Mut r) → (IsStale (sight c) (Some l) → ⊥) → r.word ≡ b.word r.object
-        word_in c b f z =
-            ⊎_elim (λ (q : IsStale (sight c) (Some l)). absurd (z q)) (λ (q : r.word ≡ b.word r.object). q)
-            (b.same pointer (among_first pointer (pointers_in (things_of c)) (taken_pointers (sight c).code (sight c).ground (sight c).ground.threads) (told c l (value.Mut r) pointer f (inl refl))))
-
-        issued_all : Rattle.heap_law.specs.Coherent.Holds k Rattle.heap_law.specs.Coherent.are_issued
-        issued_all = coherent.sound.words.are_issued
-
-        words_k : HasWords (sight k)
-        words_k = coherent.sound.words.have_words
-
-        words_h : HasWords (sight (put h))
-        words_h = walks.state.along.words.has_words
-
-        new : issued (sight k) (next_word r.word) ≡ false
-        new = ap (λ v. issued (sight k) (next_word v)) (word_in k words_k was fresh) ∙ is_new k words_k (one_state k coherent.sound) under.server under.address r.object under.there
-
-        lies_now : LiesThere (put h) under.server under.address r.object
-        lies_now = walks.state.along.lies_on under.server under.address r.object under.there
-
-        its_word : r.word ≡ words_h.word r.object
-        its_word = word_in (put h) words_h there (λ z. fresh (walks.state.along.fresher l z))
-
-        home : LeadsHome (put h) (box_of r)
-        home = record { server = under.server; address = under.address; lying = lies_now; leads = λ a b c q f. subst (λ v. LeadsTo a b v) (ap words_h.word f ∙ sym its_word) (words_h.home a b c q) }
-
-        not_first : (q : MutRef) → value.Mut r ≡ value.Mut q → next_word r.word ≡ q.first → ⊥
-        not_first q f z =
-            let same : r ≡ q = cc in
-            let known : issued (sight k) r.first ≡ true = first_issued k issued_all l r (of_borrows (sight k).ground (record { at = l; holder = Rattle.heap_law.specs.Stale.holder_of (sight k).ground l r.holder; reference = r }) (things_of k) (reference_there k l r was)).among in
-            let no : true ≡ false = sym known ∙ ap (issued (sight k)) (ap (λ (a : MutRef). a.first) same ∙ sym z) ∙ new in
-            absurd cc
-
-        wrote : SlotPut h h2 j (next_word r.word) (value.Mut r)
-        wrote = slot_put h h2 j (value.Mut r) (box_of r) e worded
-
-        reworded : Reworded (put h) (put h2) l r.object (next_word r.word)
-        reworded = tint_rewords k n s.threads (s.events + 1) h h2 j (value.Mut r) (box_of r) (stands h g) e refl worded (places h g) (places h2 g2) home not_first
-
-        same_number : h2.thread.number ≡ h.thread.number
-        same_number = ap (λ (th : ThreadState). th.number) wrote.thread
-
-        slot_now : slice_get h2.thread.slots j ≡ Some (value.Mut (took r (next_word r.word)))
-        slot_now = ap (λ (th : ThreadState). slice_get th.slots j) wrote.thread ∙ set_same h.thread.slots j (value.Mut r) wrote.new e ∙ sym wrote.worded
-
-        now : value_in (sight (put h2)).ground l ≡ Some (value.Mut (took r (next_word r.word)))
-        now = ap (λ q. value_in (sight (put h2)).ground (at_slot q j)) (sym same_number) ∙ slot_stands k n s.threads (s.events + 1) h2 j (value.Mut (took r (next_word r.word))) (stands h2 g2) (places h2 g2) slot_now
-
-        split : Split (things_of (put h)) (things_of (put h2)) (thread_things n false h.thread) (thread_things n false h2.thread)
-        split = put_split k n s.threads (s.events + 1) h h2 (stands h g) wrote.rest same_number
-
-        still : (a b : ℕ) (o : ObjNo) → LiesThere (put h) a b o → LiesThere (put h2) a b o
-        still a b o q =
-            record { cell = q.cell; among = split_lies (things_of (put h)) (things_of (put h2)) (thread_things n false h.thread) (thread_things n false h2.thread) split (thread_cells n h.thread) a b q.cell q.among; object = q.object }
