@@ -3,3 +3,6 @@ mod Few
 mod Raised
 mod Short
 mod Bounded
+mod Turns
+mod Passed
+mod Hops

@@ -3,4 +3,4 @@
 
 mod laws;
 
-pub use laws::counts_keep;
+pub use laws::{counts_keep, walks_keep};

@@ -92,7 +92,7 @@ module _ (f : Standing → ℕ) where
   parcel_to n (message.Joined u v t) z = refl
   parcel_to n (message.Finished u v) z = refl
 
-  from_server : (s : Server) → tot w (server_things s) ≡ 0 → Held (Stood s.rest.number) InParcel s.rest.number s.rest.outbox s
+  pub from_server : (s : Server) → tot w (server_things s) ≡ 0 → Held (Stood s.rest.number) InParcel s.rest.number s.rest.outbox s
   from_server s z =
       let n = s.rest.number in
       let parts = seen_of w n (unseen n) unnoted s refl in record {
@@ -106,7 +106,7 @@ module _ (f : Standing → ℕ) where
         };
       }
 
-  to_server : (n : ℕ) (old : List Sent) (s : Server) → Held (Stood n) InParcel n old s → tot w (server_things s) ≡ 0
+  pub to_server : (n : ℕ) (old : List Sent) (s : Server) → Held (Stood n) InParcel n old s → tot w (server_things s) ≡ 0
   to_server n old s held =
       let m = s.rest.number in
       let mail : Mailed (Parcel InParcel) n old s.rest = held.mail in
