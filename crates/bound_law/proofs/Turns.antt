@@ -62,8 +62,8 @@ pub record Turns (code : List Instr) (o : Options) (s : Server) (P : ThreadState
 replies : (Q : ℕ → ThreadState → Type 0) → Replies (Parcel Q)
 replies Q = record { fetched = λ s w c t. tt; moved = λ s w c t. tt; granted = λ s m v t. tt; dupped = λ s m t. tt; joined = λ s u v t. tt; drop = λ w o. tt; release = λ m. tt; let_go = λ u. tt }
 
-requests : (Q : ℕ → ThreadState → Type 0) (n : ℕ) (y : ThreadState) → Requests (Parcel Q) n y
-requests Q n y = record { replies = replies Q; fetch = λ p e. tt; move = λ p e. tt; lock = λ m. tt; dup = λ m. tt; unlock = λ m v. tt; join = λ u. tt; finished = λ v. tt }
+requests : (Q : ℕ → ThreadState → Type 0) (n : ℕ) (y : ThreadState) (i : Instr) → Requests (Parcel Q) n y i
+requests Q n y i = record { replies = replies Q; fetch = λ p e. tt; move = λ p e. tt; lock = λ m. tt; dup = λ m. tt; unlock = λ m v. tt; join = λ u. tt; finished = λ o e v. tt }
 
 -- who waits for a home isn't in a walk
 lock_waits : (p : Phase) (m : MutexNo) → waits_for_lock p m ≡ true → in_walk p ≡ false
@@ -116,7 +116,7 @@ module _ (code : List Instr) (o : Options) (s : Server) (P : ThreadState → Typ
           let begins : Begins (Parcel Q) o.servers s.rest i = λ pc vs r at d f. k.starts t _ y i _ pc vs q p e at in
           over_gives (λ (d : Stepped). P d.hand.thread × Mailed (Parcel Q) n s.rest.outbox d.hand.work.rest) Then (step o.servers i h) (stepped s)
           (both_give (λ (d : Stepped). P d.hand.thread) (λ (d : Stepped). Mailed (Parcel Q) n s.rest.outbox d.hand.work.rest) _ (step o.servers i h) (k.steps t y i q p e h refl)
-          (step_says (Parcel Q) o.servers i s.rest y (requests Q n y) begins h (record { mail = held.mail; begun = refl; named = refl; at_home = refl })) (λ d a b. (a, b)))
+          (step_says (Parcel Q) o.servers i s.rest y (requests Q n y i) begins h (record { mail = held.mail; begun = refl; named = refl; at_home = refl })) (λ d a b. (a, b)))
           (λ d u. record { standing = set_all P s.threads d.hand.thread held.standing u.0; mail = u.1 })
 
       by : (x : Option ThreadState) → thread_in s.threads t ≡ x → Gives Then (option_map (stepped s) (then_some (option_map (λ y. record { work = begin_work s.rest; thread = y }) x) (step_in code o.servers)))

@@ -105,6 +105,13 @@ pub data Goes (code : List Instr) (y y2 : ThreadState) : Type 0 where
   gets_gift : IsAsking y.phase → y2.phase ≡ phase.Got → y2.pc ≡ y.pc → y2.passed ≡ y.passed → y2.walk ≡ y.walk → Same y y2 → Goes code y y2
   goes_pair : (a b : ℕ) → y.phase ≡ phase.WaitPar a b → y2.phase ≡ phase.GotPar a b → y2.pc ≡ y.pc → y2.gift ≡ y.gift → y2.passed ≡ y.passed → y2.walk ≡ y.walk → Same y y2 → Goes code y y2
 
+-- it gets what it waited for
+abbrev pub IsGotten : {code : List Instr} {y y2 : ThreadState} → Goes code y y2 → Type 0
+IsGotten (gets_cell w was p pc g s) = ⊤
+IsGotten (gets_gift was p pc passed walk s) = ⊤
+IsGotten (goes_pair a b was p pc g passed walk s) = ⊤
+IsGotten g = ⊥
+
 -- WHAT STAYS IN THE MIDDLE OF A STEP
 
 pub record Frame (i : Instr) (y : ThreadState) (number home pc : ℕ) (p : Phase) (gift : Option Owned) (passed : ℕ) (walk : List ℕ) : Type 0 where
@@ -353,9 +360,12 @@ module _ (code : List Instr) (y : ThreadState) where
   abbrev S : Rest → ThreadState → Type 0
   S r t = Still y t.number t.home t.pc t.gift
 
-  -- it goes on so
+  -- it goes on as one that gets what it waited for
+  abbrev Gets : ThreadState → Type 0
+  Gets t = (g : Goes code y t) × IsGotten g
+
   abbrev pub GoesOn : Hand → Type 0
-  GoesOn h = Goes code y h.thread
+  GoesOn h = Gets h.thread
 
   abbrev StillHand : Hand → Type 0
   StillHand h = S h.work.rest h.thread
@@ -405,7 +415,7 @@ module _ (code : List Instr) (y : ThreadState) where
   comes_for (Some (EndRef s)) old new h a = comes_end s (value_at h s) old new h a
 
   gotten : (w : ℕ) → y.phase ≡ phase.WaitCell w → (h : Hand) → HasIt h → GoesOn h
-  gotten w e h g = let a = g.0 in gets_cell w e g.1 a.placed a.given (record { number = a.named; home = a.at_home })
+  gotten w e h g = let a = g.0 in (gets_cell w e g.1 a.placed a.given (record { number = a.named; home = a.at_home }), tt)
 
   -- an object comes
   pub moved_goes : (old : ℕ) (c : Cell) (h : Hand) → h.thread ≡ y → Gives GoesOn (deliver_moved code old c h)
@@ -431,14 +441,16 @@ module _ (code : List Instr) (y : ThreadState) where
       test_gives GoesOn (waits_for_cell h.thread.phase v) _ (λ z.
       let w = waits_cell h.thread.phase v z in
       over_gives StillHand GoesOn (filled v c h) _ (test_gives StillHand (can_fill h.work.rest.cache v c) _ (λ p. still_uses v (is_in v h.thread.walk) _ still))
-      (λ h2 b. gets_cell w.0 (subst (λ (t : ThreadState). t.phase ≡ phase.WaitCell w.0) e w.1) tt b.placed b.given (record { number = b.named; home = b.at_home })))
+      (λ h2 b.
+      let waits : y.phase ≡ phase.WaitCell w.0 = subst (λ (t : ThreadState). t.phase ≡ phase.WaitCell w.0) e w.1 in
+      (gets_cell w.0 waits tt b.placed b.given (record { number = b.named; home = b.at_home }), tt)))
     where
       still : S h.work.rest h.thread
       still = subst (λ (t : ThreadState). S h.work.rest t) (sym e) (record { named = refl; at_home = refl; placed = refl; given = refl })
 
   gives_it : (v : Owned) (g : Option Owned) (h : Hand) → h.thread ≡ y → IsAsking y.phase → Gives GoesOn (given v g h)
   gives_it v (Some u) h e a = tt
-  gives_it v None h e a = subst (λ (t : ThreadState). Goes code y (record t { gift = Some v; phase = phase.Got })) (sym e) (gets_gift a refl refl refl refl (record { number = refl; home = refl }))
+  gives_it v None h e a = subst (λ (t : ThreadState). Gets (record t { gift = Some v; phase = phase.Got })) (sym e) (gets_gift a refl refl refl refl (record { number = refl; home = refl }), tt)
 
   asking : (h : Hand) → h.thread ≡ y → IsAsking h.thread.phase → IsAsking y.phase
   asking h e a = subst (λ (t : ThreadState). IsAsking t.phase) e a
@@ -462,4 +474,4 @@ module _ (code : List Instr) (y : ThreadState) where
   pair_goes u h e =
       over_gives (BothOver h.thread.phase) GoesOn (got_par u h.thread.phase) (λ q. with_phase q h) (both_over u h.thread.phase) (λ q w.
       let was : y.phase ≡ phase.WaitPar w.first w.second = subst (λ (t : ThreadState). t.phase ≡ phase.WaitPar w.first w.second) e w.was in
-      subst (λ (t : ThreadState). Goes code y (record t { phase = q })) (sym e) (goes_pair w.first w.second was w.now refl refl refl refl (record { number = refl; home = refl })))
+      subst (λ (t : ThreadState). Gets (record t { phase = q })) (sym e) (goes_pair w.first w.second was w.now refl refl refl refl (record { number = refl; home = refl }), tt))

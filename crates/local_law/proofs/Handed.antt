@@ -17,7 +17,7 @@ use Rattle.heap_law.specs.Follow.{Standing, threads_in}
 use Rattle.heap_law.specs.Coherent.{IsSound}
 use Rattle.heap_law.proofs.Sums.{tot-append}
 use Rattle.event_law.specs.Laws.{Gives, FewEvents}
-use Rattle.event_law.proofs.Results.{then_gives, over_gives, test_gives, weaker}
+use Rattle.event_law.proofs.Results.{then_gives, map_gives, over_gives, test_gives, both_give, weaker}
 use Rattle.event_law.proofs.KnownSound.{on_standing, sum_standing}
 use Rattle.event_law.proofs.Unseen.{Unseen, Unnoted, thread_alone, seen_of}
 use Rattle.event_law.proofs.Events.{tot-server}
@@ -26,7 +26,7 @@ use Rattle.event_law.proofs.Sending.{each_event_sends}
 use Rattle.event_law.proofs.StandsHere.{found_none}
 use Rattle.event_law.proofs.ThreadThere.{thread_there}
 use Rattle.local_law.proofs.Mail.{Mailed}
-use Rattle.local_law.proofs.Threads.{Parcel, Control, Held, doing}
+use Rattle.local_law.proofs.Threads.{Parcel, Ways, Control, ways, Held, doing}
 
 -- what each of a list has, by a sum over its things
 pub all_none : (f : Thing → ℕ) {X : Type 0} (g : ℕ → X → List Thing) (P : X → Type 0) → ((i : ℕ) (x : X) → tot f (g i x) ≡ 0 → P x) → (i : ℕ) (xs : List X) → tot f (things_at g i xs) ≡ 0 → AllByRecursion P xs
@@ -122,31 +122,44 @@ module _ (f : Standing → ℕ) where
 
 -- THE CLUSTER
 
--- a weight of threads, by the code, that each thread of such a cluster keeps at nothing
+-- a weight of threads that an event keeps at nothing at its server is nothing over the cluster, once its messages are handed over
+module _ (f : Standing → ℕ) (k : Cluster) (e : Event) (sound : IsSound k) (few : FewEvents k) (none : tot f (threads_in (things_of k)) ≡ 0)
+    (go : (s : Server) → server_at k.servers e.server ≡ Some s → Ways k.code k.options.servers s e.what (Stood f s.rest.number) (InParcel f)) where
+  abbrev Weightless : Cluster → Type 0
+  Weightless c = tot (on_standing f) (things_of c) ≡ 0
+
+  acted : Gives (λ (d : Cluster × EntryView). Weightless d.0) (act_at k e)
+  acted =
+      let g = on_standing f in
+      let all : tot g (things_of k) ≡ 0 = omega (arith, sum_standing f (things_of k), none) in
+      then_gives (λ (d : Cluster × EntryView). Weightless d.0) (server_at k.servers e.server) _ (λ s here.
+      let before : tot g (server_things s) ≡ 0 = omega (arith, all, (tot-server g k.servers e.server s s here).0) in
+      over_gives (λ (r : Server × EntryView). Held (Stood f s.rest.number) (InParcel f) s.rest.number s.rest.outbox r.0) (λ (d : Cluster × EntryView). Weightless d.0) (done_at k e.what s) _
+      (test_gives (λ (r : Server × EntryView). Held (Stood f s.rest.number) (InParcel f) s.rest.number s.rest.outbox r.0) (enabled k.options s e.what) _ (λ on.
+      doing k.code k.options s e.what (Stood f s.rest.number) (InParcel f) (go s here) (from_server f s before) on))
+      (λ r held. omega (arith, all, (tot-server g k.servers e.server s r.0 here).0, (tot-server g k.servers e.server s r.0 here).1, to_server f s.rest.number s.rest.outbox r.0 held)))
+
+  pub threads_go : Gives (λ (d : Cluster × EntryView). tot f (threads_in (things_of d.0)) ≡ 0) (apply k e)
+  threads_go =
+      weaker (λ (d : Cluster × EntryView). Weightless d.0) (λ (d : Cluster × EntryView). tot f (threads_in (things_of d.0)) ≡ 0) (apply k e)
+      (handed_on Weightless (λ c a b same g. omega (arith, g, same (on_standing f))) k e (each_event_sends k e sound few) acted) (λ d g. omega (arith, g, sum_standing f (things_of d.0)))
+
+-- a weight of threads, by the code, that each thread of such a cluster keeps at nothing by how it goes on
 pub record ThreadsKeep (Pre : Cluster → Type 0) (f : List Instr → Standing → ℕ) : Type 0 where
   pub before : (k : Cluster) → Pre k → tot (f k.code) (threads_in (things_of k)) ≡ 0
   pub control : (k : Cluster) (number : ℕ) (s : Server) → Pre k → FewEvents k → server_at k.servers number ≡ Some s → Control k.code s (Stood (f k.code) s.rest.number) (InParcel (f k.code))
 
-module _ (Pre : Cluster → Type 0) (is_sound : (k : Cluster) → Pre k → IsSound k) (f : List Instr → Standing → ℕ) (keeps : ThreadsKeep Pre f) where
-  abbrev Weightless : Cluster → Type 0
-  Weightless c = tot (on_standing (f c.code)) (things_of c) ≡ 0
+-- an event leaves the code
+same_code : (k : Cluster) (e : Event) → Gives (λ (d : Cluster × EntryView). d.0.code ≡ k.code) (apply k e)
+same_code k e =
+    then_gives (λ (d : Cluster × EntryView). d.0.code ≡ k.code) (server_at k.servers e.server) _ (λ s here. map_gives (λ (d : Cluster × EntryView). d.0.code ≡ k.code) (done_at k e.what s) _ (λ r q. refl))
 
-  acted : (k : Cluster) (e : Event) → Pre k → FewEvents k → Gives (λ (d : Cluster × EntryView). Weightless d.0) (act_at k e)
-  acted k e pre few =
-      let g = on_standing (f k.code) in
-      let all : tot g (things_of k) ≡ 0 = omega (arith, sum_standing (f k.code) (things_of k), keeps.before k pre) in
-      then_gives (λ (d : Cluster × EntryView). Weightless d.0) (server_at k.servers e.server) _ (λ s here.
-      let before : tot g (server_things s) ≡ 0 = omega (arith, all, (tot-server g k.servers e.server s s here).0) in
-      over_gives (λ (r : Server × EntryView). Held (Stood (f k.code) s.rest.number) (InParcel (f k.code)) s.rest.number s.rest.outbox r.0) (λ (d : Cluster × EntryView). Weightless d.0) (done_at k e.what s) _
-      (test_gives (λ (r : Server × EntryView). Held (Stood (f k.code) s.rest.number) (InParcel (f k.code)) s.rest.number s.rest.outbox r.0) (enabled k.options s e.what) _ (λ on.
-      doing k.code k.options s (Stood (f k.code) s.rest.number) (InParcel (f k.code)) (keeps.control k e.server s pre few here) (from_server (f k.code) s before) e.what on))
-      (λ r held. omega (arith, all, (tot-server g k.servers e.server s r.0 here).0, (tot-server g k.servers e.server s r.0 here).1, to_server (f k.code) s.rest.number s.rest.outbox r.0 held)))
-
-  pub threads_keep : (k : Cluster) (e : Event) → Pre k → FewEvents k → Gives (λ (d : Cluster × EntryView). tot (f d.0.code) (threads_in (things_of d.0)) ≡ 0) (apply k e)
-  threads_keep k e pre few =
-      weaker (λ (d : Cluster × EntryView). Weightless d.0) (λ (d : Cluster × EntryView). tot (f d.0.code) (threads_in (things_of d.0)) ≡ 0) (apply k e)
-      (handed_on Weightless (λ c a b same g. omega (arith, g, same (on_standing (f c.code)))) k e (each_event_sends k e (is_sound k pre) few) (acted k e pre few))
-      (λ d g. omega (arith, g, sum_standing (f d.0.code) (things_of d.0)))
+pub threads_keep : (Pre : Cluster → Type 0) → ((k : Cluster) → Pre k → IsSound k) → (f : List Instr → Standing → ℕ) → ThreadsKeep Pre f → (k : Cluster) (e : Event) → Pre k → FewEvents k
+    → Gives (λ (d : Cluster × EntryView). tot (f d.0.code) (threads_in (things_of d.0)) ≡ 0) (apply k e)
+threads_keep Pre is_sound f keeps k e pre few =
+    both_give (λ (d : Cluster × EntryView). d.0.code ≡ k.code) (λ (d : Cluster × EntryView). tot (f k.code) (threads_in (things_of d.0)) ≡ 0) (λ (d : Cluster × EntryView). tot (f d.0.code) (threads_in (things_of d.0)) ≡ 0) (apply k e) (same_code k e)
+    (threads_go (f k.code) k e (is_sound k pre) few (keeps.before k pre) (λ s here. ways k.options.servers e.what (keeps.control k e.server s pre few here)))
+    (λ d c z. subst (λ (code : List Instr). tot (f code) (threads_in (things_of d.0)) ≡ 0) (sym c) z)
 
 -- WHAT IS KNOWN OF A THREAD
 

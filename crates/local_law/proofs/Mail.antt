@@ -8,6 +8,7 @@ use Rattle.fr_base.specs.declared.name.ObjNo.{ObjNo}
 use Rattle.fr_base.specs.declared.place.Lval.{Lval}
 use Rattle.fr_base.specs.declared.instruction.Instr.{Instr}
 use Rattle.fr_base.specs.declared.instruction.Instr.TheVariants as instr
+use Rattle.fr_base.specs.declared.instruction.Operand.{Operand}
 use Rattle.fr_base.specs.declared.release.Released.{Released}
 use Rattle.fr_base.specs.declared.release.Released.TheVariants as released
 use Rattle.global_addr.specs.Words.{server_of}
@@ -96,8 +97,8 @@ pub record Replies (M : ℕ → Message → Type 0) : Type 0 where
   pub release : (m : MutexNo) → M m.home (message.Release (released.Mutex m))
   pub let_go : (u : ℕ) → M (home_of u) (message.Release (released.Task u))
 
--- so is what a thread says in a step there, that has a home
-pub record Requests (M : ℕ → Message → Type 0) (n : ℕ) (y : ThreadState) : Type 0 where
+-- so is what a thread says in a step of that instruction there, that has a home
+pub record Requests (M : ℕ → Message → Type 0) (n : ℕ) (y : ThreadState) (i : Instr) : Type 0 where
   pub replies : Replies M
   pub fetch : (p : BoxPtr) → (server_of p.word == n) ≡ false → M (server_of p.word) (message.Fetch p.word p.object n y.number)
   pub move : (p : BoxPtr) → (server_of p.word == n) ≡ false → M (server_of p.word) (message.Move p.word p.object n y.number)
@@ -105,7 +106,7 @@ pub record Requests (M : ℕ → Message → Type 0) (n : ℕ) (y : ThreadState)
   pub dup : (m : MutexNo) → M m.home (message.Dup m n y.number)
   pub unlock : (m : MutexNo) (v : Owned) → M m.home (message.Unlock m v)
   pub join : (u : ℕ) → M (home_of u) (message.Join u n y.number)
-  pub finished : (v : Owned) → M y.home (message.Finished y.number v)
+  pub finished : (o : Operand) → i ≡ instr.End o → (v : Owned) → M y.home (message.Finished y.number v)
 
 -- the code at which an instruction starts a thread
 abbrev pub StartsAt : Instr → ℕ → Type 0
@@ -298,7 +299,7 @@ pub record Talk (M : ℕ → Message → Type 0) (r0 : Rest) (y : ThreadState) (
   pub named : thread ≡ y.number
   pub at_home : home ≡ y.home
 
-module _ (M : ℕ → Message → Type 0) (servers : ℕ) (i : Instr) (r0 : Rest) (y : ThreadState) (k : Requests M r0.number y) (begins : Begins M servers r0 i) where
+module _ (M : ℕ → Message → Type 0) (servers : ℕ) (i : Instr) (r0 : Rest) (y : ThreadState) (k : Requests M r0.number y i) (begins : Begins M servers r0 i) where
   abbrev F : Rest → ThreadState → Type 0
   F r t = Talk M r0 y r.number r.inbox r.outbox r.started t.number t.home
 
@@ -366,10 +367,10 @@ module _ (M : ℕ → Message → Type 0) (servers : ℕ) (i : Instr) (r0 : Rest
   gives owned.Unit h g = g
   gives (owned.Int m) h g = g
 
-  over_says : (main : Bool) (v : Owned) (h : Hand) → Of F h → Gives (λ h2. Settles E (with_phase phase.Over h2)) (end_with main v h)
-  over_says true v h g = λ cs z. let after = gives v (label_dropped (value.Own v) h) g in after.mail
-  over_says false v h g = λ cs z.
-      let b : M y.home (message.Finished h.thread.number v) = subst (λ x. M y.home (message.Finished x v)) (sym g.named) (k.finished v) in
+  over_says : (o : Operand) → i ≡ instr.End o → (main : Bool) (v : Owned) (h : Hand) → Of F h → Gives (λ h2. Settles E (with_phase phase.Over h2)) (end_with main v h)
+  over_says o e true v h g = λ cs z. let after = gives v (label_dropped (value.Own v) h) g in after.mail
+  over_says o e false v h g = λ cs z.
+      let b : M y.home (message.Finished h.thread.number v) = subst (λ x. M y.home (message.Finished x v)) (sym g.named) (k.finished o e v) in
       says_one h.thread.home (message.Finished h.thread.number v) h (subst (λ x. M x (message.Finished h.thread.number v)) (sym g.at_home) b) g
 
   acts : Acts servers F E Any Any AnyWord i
@@ -410,7 +411,7 @@ module _ (M : ℕ → Message → Type 0) (servers : ℕ) (i : Instr) (r0 : Rest
         (λ h2 b cs2 z.
         let one = starts pc first.0 h2.work (subst (λ j. StartsAt j pc) (sym e) (inl refl)) (inl b.begun) b.mail in
         starts other second.0 (start_thread servers pc first.0 h2.work) (subst (λ j. StartsAt j other) (sym e) (inr refl)) (inr (began pc first.0 h2.work ∙ ap (λ x. x + 1) b.begun)) one)));
-    ends = λ o e main v h a g. over_says main v h g;
+    ends = λ o e main v h a g. over_says o e main v h g;
     asks_join = λ o e u h q a g. asks_for (λ s t. message.Join u s t) (home_of u) h (k.join u) g;
     asks_dup = λ w e m h q a g. asks_for (λ s t. message.Dup m s t) m.home h (k.dup m) g;
     asks_lock = λ w e m h q a g. asks_for (λ s t. message.Lock m s t) m.home h (k.lock m) g;

@@ -16,13 +16,13 @@ use Rattle.server_model.specs.declared.event.What.TheVariants.{Step, Deliver, Ev
 use Rattle.server_model.specs.Servers.{Sent, Rest, Server, Cluster, server_at}
 use Rattle.server_model.specs.Work.{Work, Hand, Site, then_some, thread_in, beside_threads, without_thread}
 use Rattle.server_model.specs.Moving.{migrate, depart}
-use Rattle.server_model.specs.Events.{Stepped, enabled, begin_work, begin_at, left_by, received, deliver_message, evict_copy, step, step_in, stepped, does}
-use Rattle.server_model.specs.Clusters.{done_at, act_at}
+use Rattle.server_model.specs.Events.{Stepped, has_phase, can_step, enabled, begin_work, begin_at, left_by, received, deliver_message, evict_copy, step, step_in, stepped, does}
+use Rattle.server_model.specs.Clusters.{done_at, act_at, apply}
 use Rattle.heap_law.specs.Names.{tot}
 use Rattle.heap_law.specs.Things.{Thing, sent, things_at, waiting_things, leaving_things, standing_things, message_things, server_things, things_of}
 use Rattle.heap_law.specs.Coherent.{IsSound}
 use Rattle.event_law.specs.Laws.{Gives, FewEvents, EachEventHandedOver}
-use Rattle.event_law.proofs.Results.{then_gives, over_gives, test_gives}
+use Rattle.event_law.proofs.Results.{then_gives, map_gives, over_gives, test_gives, both_give}
 use Rattle.event_law.proofs.Unseen.{Unseen, Unnoted, none_at, thread_alone, seen_of}
 use Rattle.event_law.proofs.Events.{tot-server}
 use Rattle.event_law.proofs.Applied.{handed_on}
@@ -31,14 +31,28 @@ use Rattle.local_law.proofs.Mail.{Mailed, mail_sent, Replies, Requests, Begins, 
 use Rattle.local_law.proofs.Threads.{remove_all}
 use Rattle.local_law.proofs.Handed.{all_none, none_all}
 
--- what a fact on messages needs at a server: what its threads ask for and begin, what it replies, and whom it sends away
+-- what a fact on messages needs at a server: what its threads say in a step, what it replies, and whom it sends away
+pub record Speech (code : List Instr) (servers : ℕ) (s : Server) (M : ℕ → Message → Type 0) : Type 0 where
+  pub replies : Replies M
+  pub steps : (t : ℕ) (y : ThreadState) (i : Instr) → has_phase can_step (thread_in s.threads t) ≡ true → thread_in s.threads t ≡ Some y → slice_get code y.pc ≡ Some i → Mailed M s.rest.number s.rest.outbox s.rest
+      → Gives (λ (d : Stepped). Mailed M s.rest.number s.rest.outbox d.hand.work.rest) (step servers i (record { work = begin_work s.rest; thread = y }))
+  pub leaves : (t target : ℕ) (y : ThreadState) → thread_in s.threads t ≡ Some y → M target (message.Migrate (packed (record y { moved_since_step = true })))
+
+-- the same where it is told by what its threads ask for and begin
 pub record Letters (code : List Instr) (servers : ℕ) (s : Server) (M : ℕ → Message → Type 0) : Type 0 where
   pub replies : Replies M
-  pub requests : (t : ℕ) (y : ThreadState) → thread_in s.threads t ≡ Some y → Requests M s.rest.number y
+  pub requests : (t : ℕ) (y : ThreadState) (i : Instr) → thread_in s.threads t ≡ Some y → slice_get code y.pc ≡ Some i → Requests M s.rest.number y i
   pub begins : (t : ℕ) (y : ThreadState) (i : Instr) → thread_in s.threads t ≡ Some y → slice_get code y.pc ≡ Some i → Begins M servers s.rest i
   pub leaves : (t target : ℕ) (y : ThreadState) → thread_in s.threads t ≡ Some y → M target (message.Migrate (packed (record y { moved_since_step = true })))
 
-module _ (code : List Instr) (o : Options) (s : Server) (M : ℕ → Message → Type 0) (k : Letters code o.servers s M) (mail : Mailed M s.rest.number s.rest.outbox s.rest) where
+pub speech : {code : List Instr} {servers : ℕ} {s : Server} {M : ℕ → Message → Type 0} → Letters code servers s M → Speech code servers s M
+speech {code} {servers} {s} {M} k = record {
+  replies = k.replies;
+  steps = λ t y i on q e mail. step_says M servers i s.rest y (k.requests t y i q e) (k.begins t y i q e) (record { work = begin_work s.rest; thread = y }) (record { mail = mail; begun = refl; named = refl; at_home = refl });
+  leaves = k.leaves;
+}
+
+module _ (code : List Instr) (o : Options) (s : Server) (M : ℕ → Message → Type 0) (k : Speech code o.servers s M) (mail : Mailed M s.rest.number s.rest.outbox s.rest) where
   abbrev Posted : Rest → Type 0
   Posted r = Mailed M s.rest.number s.rest.outbox r
 
@@ -48,16 +62,15 @@ module _ (code : List Instr) (o : Options) (s : Server) (M : ℕ → Message →
   abbrev PostedSite : Site → Type 0
   PostedSite x = Posted x.work.rest
 
-  stepping : (t : ℕ) → Gives Then (does code o s (Step t))
-  stepping t = by (thread_in s.threads t) refl
+  stepping : (t : ℕ) → has_phase can_step (thread_in s.threads t) ≡ true → Gives Then (does code o s (Step t))
+  stepping t on = by (thread_in s.threads t) refl
     where
       at : (y : ThreadState) → thread_in s.threads t ≡ Some y → (i : Option Instr) → slice_get code y.pc ≡ i
           → Gives Then (option_map (stepped s) (then_some i (λ x. step o.servers x (record { work = begin_work s.rest; thread = y }))))
       at y q None e = tt
       at y q (Some i) e =
           let h : Hand = record { work = begin_work s.rest; thread = y } in
-          over_gives (λ (d : Stepped). Posted d.hand.work.rest) Then (step o.servers i h) (stepped s)
-          (step_says M o.servers i s.rest y (k.requests t y q) (k.begins t y i q e) h (record { mail = mail; begun = refl; named = refl; at_home = refl })) (λ d u. u)
+          over_gives (λ (d : Stepped). Posted d.hand.work.rest) Then (step o.servers i h) (stepped s) (k.steps t y i on q e mail) (λ d u. u)
 
       by : (x : Option ThreadState) → thread_in s.threads t ≡ x → Gives Then (option_map (stepped s) (then_some (option_map (λ y. record { work = begin_work s.rest; thread = y }) x) (step_in code o.servers)))
       by None q = tt
@@ -88,11 +101,15 @@ module _ (code : List Instr) (o : Options) (s : Server) (M : ℕ → Message →
       by y q None = tt
       by y q (Some cs) = mail_sent M s.rest.number s.rest.outbox (record s.rest { cache = cs }) target (message.Migrate (packed (record y { moved_since_step = true }))) (k.leaves t target y q) mail
 
-  pub posts : (w : What) → Gives Then (does code o s w)
-  posts (Step t) = stepping t
-  posts (Deliver i) = delivering i
-  posts (Evict w) = evicting w
-  posts (Migrate t target) = leaving t target
+  pub posts_so : (w : What) → enabled o s w ≡ true → Gives Then (does code o s w)
+  posts_so (Step t) on = stepping t on
+  posts_so (Deliver i) on = delivering i
+  posts_so (Evict w) on = evicting w
+  posts_so (Migrate t target) on = leaving t target
+
+pub posts : (code : List Instr) (o : Options) (s : Server) (M : ℕ → Message → Type 0) → Letters code o.servers s M → Mailed M s.rest.number s.rest.outbox s.rest
+    → (w : What) → enabled o s w ≡ true → Gives (λ (r : Server × EntryView). Mailed M s.rest.number s.rest.outbox r.0.rest) (does code o s w)
+posts code o s M k mail w on = posts_so code o s M (speech k) mail w on
 
 -- WEIGHTS OF MESSAGES
 
@@ -158,26 +175,37 @@ module _ (g : ℕ → Message → ℕ) where
         none_all w leaving_things (λ (x : Sent). Light x.target x.message) (λ i x y. omega (arith, y, message_alone x.target x.message)) 0 s.rest.outbox b,
       )
 
+-- a weight of messages that an event keeps at nothing at its server is nothing over the cluster, once its messages are handed over
+module _ (g : ℕ → Message → ℕ) (k : Cluster) (e : Event) (sound : IsSound k) (few : FewEvents k) (none : tot (on_sent g) (things_of k) ≡ 0)
+    (says : (s : Server) → server_at k.servers e.server ≡ Some s → Speech k.code k.options.servers s (Light g)) where
+  abbrev Weightless : Cluster → Type 0
+  Weightless c = tot (on_sent g) (things_of c) ≡ 0
+
+  acted : Gives (λ (d : Cluster × EntryView). Weightless d.0) (act_at k e)
+  acted =
+      then_gives (λ (d : Cluster × EntryView). Weightless d.0) (server_at k.servers e.server) _ (λ s here.
+      let before : tot (on_sent g) (server_things s) ≡ 0 = omega (arith, none, (tot-server (on_sent g) k.servers e.server s s here).0) in
+      over_gives (λ (r : Server × EntryView). Mailed (Light g) s.rest.number s.rest.outbox r.0.rest) (λ (d : Cluster × EntryView). Weightless d.0) (done_at k e.what s) _
+      (test_gives (λ (r : Server × EntryView). Mailed (Light g) s.rest.number s.rest.outbox r.0.rest) (enabled k.options s e.what) _ (λ on. posts_so k.code k.options s (Light g) (says s here) (letters_from g s before) e.what on))
+      (λ r mail.
+      let after = letters_to g r.0 (subst (λ n. AllByRecursion (Light g n) r.0.rest.inbox) (sym mail.numbered) mail.waiting) mail.leaving in
+      omega (arith, none, (tot-server (on_sent g) k.servers e.server s r.0 here).0, (tot-server (on_sent g) k.servers e.server s r.0 here).1, after)))
+
+  pub messages_go : Gives (λ (d : Cluster × EntryView). Weightless d.0) (apply k e)
+  messages_go = handed_on Weightless (λ c a b same z. omega (arith, z, same (on_sent g))) k e (each_event_sends k e sound few) acted
+
 -- a weight of messages, by the number of servers, that each message keeps at nothing
 pub record MessagesKeep (g : ℕ → ℕ → Message → ℕ) : Type 0 where
   pub before : (k : Cluster) → IsSound k → tot (on_sent (g k.options.servers)) (things_of k) ≡ 0
   pub letters : (k : Cluster) (number : ℕ) (s : Server) → IsSound k → FewEvents k → server_at k.servers number ≡ Some s → Letters k.code k.options.servers s (Light (g k.options.servers))
 
-module _ (g : ℕ → ℕ → Message → ℕ) (keeps : MessagesKeep g) where
-  abbrev Weightless : Cluster → Type 0
-  Weightless c = tot (on_sent (g c.options.servers)) (things_of c) ≡ 0
+-- an event leaves the number of servers
+same_servers : (k : Cluster) (e : Event) → Gives (λ (d : Cluster × EntryView). d.0.options.servers ≡ k.options.servers) (apply k e)
+same_servers k e =
+    then_gives (λ (d : Cluster × EntryView). d.0.options.servers ≡ k.options.servers) (server_at k.servers e.server) _ (λ s here. map_gives (λ (d : Cluster × EntryView). d.0.options.servers ≡ k.options.servers) (done_at k e.what s) _ (λ r q. refl))
 
-  acted : (k : Cluster) (e : Event) → IsSound k → FewEvents k → Gives (λ (d : Cluster × EntryView). Weightless d.0) (act_at k e)
-  acted k e sound few =
-      let f = g k.options.servers in
-      then_gives (λ (d : Cluster × EntryView). Weightless d.0) (server_at k.servers e.server) _ (λ s here.
-      let all : tot (on_sent f) (things_of k) ≡ 0 = keeps.before k sound in
-      let before : tot (on_sent f) (server_things s) ≡ 0 = omega (arith, all, (tot-server (on_sent f) k.servers e.server s s here).0) in
-      over_gives (λ (r : Server × EntryView). Mailed (Light f) s.rest.number s.rest.outbox r.0.rest) (λ (d : Cluster × EntryView). Weightless d.0) (done_at k e.what s) _
-      (test_gives (λ (r : Server × EntryView). Mailed (Light f) s.rest.number s.rest.outbox r.0.rest) (enabled k.options s e.what) _ (λ on. posts k.code k.options s (Light f) (keeps.letters k e.server s sound few here) (letters_from f s before) e.what))
-      (λ r mail.
-      let after = letters_to f r.0 (subst (λ n. AllByRecursion (Light f n) r.0.rest.inbox) (sym mail.numbered) mail.waiting) mail.leaving in
-      omega (arith, all, (tot-server (on_sent f) k.servers e.server s r.0 here).0, (tot-server (on_sent f) k.servers e.server s r.0 here).1, after)))
-
-  pub messages_keep : EachEventHandedOver Weightless
-  messages_keep k e sound few = handed_on Weightless (λ c a b same z. omega (arith, z, same (on_sent (g c.options.servers)))) k e (each_event_sends k e sound few) (acted k e sound few)
+pub messages_keep : (g : ℕ → ℕ → Message → ℕ) → MessagesKeep g → EachEventHandedOver (λ c. tot (on_sent (g c.options.servers)) (things_of c) ≡ 0)
+messages_keep g keeps k e sound few =
+    both_give (λ (d : Cluster × EntryView). d.0.options.servers ≡ k.options.servers) (λ (d : Cluster × EntryView). tot (on_sent (g k.options.servers)) (things_of d.0) ≡ 0) (λ (d : Cluster × EntryView). tot (on_sent (g d.0.options.servers)) (things_of d.0) ≡ 0) (apply k e)
+    (same_servers k e) (messages_go (g k.options.servers) k e sound few (keeps.before k sound) (λ s here. speech (keeps.letters k e.server s sound few here)))
+    (λ d n z. subst (λ m. tot (on_sent (g m)) (things_of d.0) ≡ 0) (sym n) z)

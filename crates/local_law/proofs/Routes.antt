@@ -63,7 +63,7 @@ asking = record {
   before = λ k sound. lighter (on_sent (itself 0)) own_request own_seen (things_of k) sound.walks.asks_others;
   letters = λ k number s sound few here. record {
     replies = plain_answers;
-    requests = λ t y there. record { replies = plain_answers; fetch = λ p e. ap one e; move = λ p e. ap one e; lock = λ m. refl; dup = λ m. refl; unlock = λ m v. refl; join = λ u. refl; finished = λ v. refl };
+    requests = λ t y i there e. record { replies = plain_answers; fetch = λ p e. ap one e; move = λ p e. ap one e; lock = λ m. refl; dup = λ m. refl; unlock = λ m v. refl; join = λ u. refl; finished = λ o e v. refl };
     begins = λ t y i there e pc vs r at d c. refl;
     leaves = λ t target y there. refl;
   };
@@ -110,8 +110,8 @@ starts_right servers r l =
     let e : (next_thread r / 2 ^ 32 + next_thread r % 2 ^ 32) % servers ≡ server_for servers r = started_at r.number servers (r.started + 1) (next_thread r) l refl in
     subst (λ x. other (x == server_for servers r) ≡ 0) (sym e) (own_goal (server_for servers r))
 
-right_requests : (servers : ℕ) (n : ℕ) (y : ThreadState) → y.home ≡ home_of y.number → Requests (Light (off_goal servers)) n y
-right_requests servers n y home = record {
+right_requests : (servers : ℕ) (n : ℕ) (y : ThreadState) (i : Instr) → y.home ≡ home_of y.number → Requests (Light (off_goal servers)) n y i
+right_requests servers n y i home = record {
   replies = right_answers servers;
   fetch = λ p e. own_goal _;
   move = λ p e. own_goal _;
@@ -119,7 +119,7 @@ right_requests servers n y home = record {
   dup = λ m. own_goal m.home;
   unlock = λ m v. own_goal m.home;
   join = λ u. own_goal (home_of u);
-  finished = λ v. subst (λ x. other (home_of y.number == x) ≡ 0) (sym home) (own_goal (home_of y.number));
+  finished = λ o e v. subst (λ x. other (home_of y.number == x) ≡ 0) (sym home) (own_goal (home_of y.number));
 }
 
 both_there : (a b : Bool) → other (a && b) ≡ 0 → (other a ≡ 0) × (other b ≡ 0)
@@ -148,7 +148,7 @@ goals = record {
   before = λ k sound. lighter (on_sent (off_goal k.options.servers)) (misrouted (sight k)) (goal_seen (sight k)) (things_of k) sound.requests.go_right;
   letters = λ k number s sound few here. record {
     replies = right_answers k.options.servers;
-    requests = λ t y there. right_requests k.options.servers s.rest.number y (same_home y.home (home_of y.number) (known k sound number s here t y there other_home sound.mutexes_and_tasks.thread_homes));
+    requests = λ t y i there e. right_requests k.options.servers s.rest.number y i (same_home y.home (home_of y.number) (known k sound number s here t y there other_home sound.mutexes_and_tasks.thread_homes));
     begins = λ t y i there e pc vs r at d c. starts_right k.options.servers r (few_started r s.rest (names_left k sound.names.few_names few number s here) c);
     leaves = λ t target y there. refl;
   };
@@ -194,7 +194,7 @@ newer (x ∷ xs) ys = newer xs ys
 nothing_said : (code : List Instr) (servers : ℕ) (s : Server) → Letters code servers s (λ r m. ⊤)
 nothing_said code servers s = record {
   replies = anything;
-  requests = λ t y there. record { replies = anything; fetch = λ p e. tt; move = λ p e. tt; lock = λ m. tt; dup = λ m. tt; unlock = λ m v. tt; join = λ u. tt; finished = λ v. tt };
+  requests = λ t y i there e. record { replies = anything; fetch = λ p e. tt; move = λ p e. tt; lock = λ m. tt; dup = λ m. tt; unlock = λ m v. tt; join = λ u. tt; finished = λ o e v. tt };
   begins = λ t y i there e pc vs r at d c. tt;
   leaves = λ t target y there. tt;
 }
@@ -249,7 +249,7 @@ within_acted k e sound few =
     over_gives
     (λ (r : Server × EntryView). Mailed (λ x m. ⊤) s.rest.number old r.0.rest × GoTo (with_server k.servers e.server r.0) (drop (length old) r.0.rest.outbox)) (λ (d : Cluster × EntryView). Within d.0) (done_at k e.what s) _
     (both_give (λ (r : Server × EntryView). Mailed (λ x m. ⊤) s.rest.number old r.0.rest) (λ (r : Server × EntryView). GoTo (with_server k.servers e.server r.0) (drop (length old) r.0.rest.outbox)) _ (done_at k e.what s)
-    (test_gives (λ (r : Server × EntryView). Mailed (λ x m. ⊤) s.rest.number old r.0.rest) (enabled k.options s e.what) _ (λ on. posts k.code k.options s (λ x m. ⊤) (nothing_said k.code n s) start e.what))
+    (test_gives (λ (r : Server × EntryView). Mailed (λ x m. ⊤) s.rest.number old r.0.rest) (enabled k.options s e.what) _ (λ on. posts k.code k.options s (λ x m. ⊤) (nothing_said k.code n s) start e.what on))
     (each_event_sends k e sound few s here) (λ r a b. (a, b)))
     (λ r u.
     let mail : Mailed (λ x m. ⊤) s.rest.number old r.0.rest = u.0 in

@@ -23,12 +23,12 @@ use Rattle.server_model.specs.Objects.{deliver_fetch, deliver_fetched, deliver_m
 use Rattle.server_model.specs.Sharing.{deliver_lock, deliver_granted, deliver_unlock, deliver_dup, deliver_dupped}
 use Rattle.server_model.specs.Joining.{deliver_join, deliver_joined, pair_over, end_answer, deliver_finished, arrive}
 use Rattle.server_model.specs.Moving.{depart}
-use Rattle.server_model.specs.Events.{Stepped, has_phase, is_ready, enabled, begin_work, begin_at, left_by, received, release, deliver_message, evict_copy, step, step_in, stepped, does}
+use Rattle.server_model.specs.Events.{Stepped, has_phase, can_step, is_ready, enabled, begin_work, begin_at, left_by, received, release, deliver_message, evict_copy, step, step_in, stepped, does}
 use Rattle.heap_law.proofs.Names.{and_left}
 use Rattle.event_law.specs.Laws.{Gives}
-use Rattle.event_law.proofs.Results.{then_gives, map_gives, over_gives, test_gives, stand_gives, both_give}
+use Rattle.event_law.proofs.Results.{then_gives, map_gives, over_gives, test_gives, stand_gives, both_give, weaker}
 use Rattle.event_law.proofs.Known.{all_at, all_append, all_take}
-use Rattle.local_law.proofs.Goes.{Goes, GoesOn, thread_goes, moved_goes, fetched_goes, granted_goes, dupped_goes, joined_goes, pair_goes}
+use Rattle.local_law.proofs.Goes.{Goes, IsGotten, GoesOn, thread_goes, moved_goes, fetched_goes, granted_goes, dupped_goes, joined_goes, pair_goes}
 use Rattle.local_law.proofs.Mail.{Mailed, mail_sent, Replies, Requests, StartsAt, Begins, message_says, step_says}
 use Rattle.heap_partition.specs.declared.value.Owned.{Owned}
 
@@ -81,12 +81,32 @@ Parcel Q n (message.Start t) = Q n t
 Parcel Q n (message.Migrate t) = Q n t
 Parcel Q n m = ⊤
 
--- what a fact on the threads of a server, and on parcels, needs: threads go on in events, arrive, start and leave
+-- what a fact on the threads of a server, and on parcels, needs in an event: what its step makes of its thread, what threads do that get what they waited for, and that they arrive, start and leave
+pub record Ways (code : List Instr) (servers : ℕ) (s : Server) (what : What) (P : ThreadState → Type 0) (Q : ℕ → ThreadState → Type 0) : Type 0 where
+  pub steps : (t : ℕ) (y : ThreadState) (i : Instr) → what ≡ Step t → has_phase can_step (thread_in s.threads t) ≡ true → thread_in s.threads t ≡ Some y → P y → slice_get code y.pc ≡ Some i
+      → Gives (λ (d : Stepped). P d.hand.thread) (step servers i (record { work = begin_work s.rest; thread = y }))
+  pub goes : (t : ℕ) (y y2 : ThreadState) → thread_in s.threads t ≡ Some y → P y → (g : Goes code y y2) → IsGotten g → P y2
+  pub arrives : (t : ThreadState) → Q s.rest.number t → P t
+  pub starts : (t n : ℕ) (y : ThreadState) (i : Instr) (u pc : ℕ) (vs : List Value) → thread_in s.threads t ≡ Some y → P y → slice_get code y.pc ≡ Some i → StartsAt i pc → Q n (new_thread u pc vs)
+  pub leaves : (t n : ℕ) (y : ThreadState) → thread_in s.threads t ≡ Some y → P y → is_ready y.phase ≡ true → Q n (packed (record y { moved_since_step = true }))
+
+-- the same where a step is known by how its thread goes on
 pub record Control (code : List Instr) (s : Server) (P : ThreadState → Type 0) (Q : ℕ → ThreadState → Type 0) : Type 0 where
   pub goes : (t : ℕ) (y y2 : ThreadState) → thread_in s.threads t ≡ Some y → P y → Goes code y y2 → P y2
   pub arrives : (t : ThreadState) → Q s.rest.number t → P t
   pub starts : (t n : ℕ) (y : ThreadState) (i : Instr) (u pc : ℕ) (vs : List Value) → thread_in s.threads t ≡ Some y → P y → slice_get code y.pc ≡ Some i → StartsAt i pc → Q n (new_thread u pc vs)
   pub leaves : (t n : ℕ) (y : ThreadState) → thread_in s.threads t ≡ Some y → P y → is_ready y.phase ≡ true → Q n (packed (record y { moved_since_step = true }))
+
+pub ways : {code : List Instr} {s : Server} {P : ThreadState → Type 0} {Q : ℕ → ThreadState → Type 0} (servers : ℕ) (what : What) → Control code s P Q → Ways code servers s what P Q
+ways {code} {s} {P} servers what k = record {
+  steps = λ t y i is on q p e.
+      let h : Hand = record { work = begin_work s.rest; thread = y } in
+      weaker (λ (d : Stepped). Goes code y d.hand.thread) (λ (d : Stepped). P d.hand.thread) (step servers i h) (thread_goes code servers i y e s.rest h refl) (λ d g. k.goes t y d.hand.thread q p g);
+  goes = λ t y y2 q p g gets. k.goes t y y2 q p g;
+  arrives = k.arrives;
+  starts = k.starts;
+  leaves = k.leaves;
+}
 
 -- the threads of a server and the parcels there
 pub record Held (P : ThreadState → Type 0) (Q : ℕ → ThreadState → Type 0) (n : ℕ) (old : List Sent) (s : Server) : Type 0 where
@@ -96,10 +116,10 @@ pub record Held (P : ThreadState → Type 0) (Q : ℕ → ThreadState → Type 0
 replies : (Q : ℕ → ThreadState → Type 0) → Replies (Parcel Q)
 replies Q = record { fetched = λ s w c t. tt; moved = λ s w c t. tt; granted = λ s m v t. tt; dupped = λ s m t. tt; joined = λ s u v t. tt; drop = λ w o. tt; release = λ m. tt; let_go = λ u. tt }
 
-requests : (Q : ℕ → ThreadState → Type 0) (n : ℕ) (y : ThreadState) → Requests (Parcel Q) n y
-requests Q n y = record { replies = replies Q; fetch = λ p e. tt; move = λ p e. tt; lock = λ m. tt; dup = λ m. tt; unlock = λ m v. tt; join = λ u. tt; finished = λ v. tt }
+requests : (Q : ℕ → ThreadState → Type 0) (n : ℕ) (y : ThreadState) (i : Instr) → Requests (Parcel Q) n y i
+requests Q n y i = record { replies = replies Q; fetch = λ p e. tt; move = λ p e. tt; lock = λ m. tt; dup = λ m. tt; unlock = λ m v. tt; join = λ u. tt; finished = λ o e v. tt }
 
-module _ (code : List Instr) (o : Options) (s : Server) (P : ThreadState → Type 0) (Q : ℕ → ThreadState → Type 0) (k : Control code s P Q) (held : Held P Q s.rest.number s.rest.outbox s) where
+module _ (code : List Instr) (o : Options) (s : Server) (what : What) (P : ThreadState → Type 0) (Q : ℕ → ThreadState → Type 0) (k : Ways code o.servers s what P Q) (held : Held P Q s.rest.number s.rest.outbox s) where
   abbrev n : ℕ
   n = s.rest.number
 
@@ -118,8 +138,8 @@ module _ (code : List Instr) (o : Options) (s : Server) (P : ThreadState → Typ
 
   -- STEPS
 
-  stepping : (t : ℕ) → Gives Then (does code o s (Step t))
-  stepping t = by (thread_in s.threads t) refl
+  stepping : (t : ℕ) → what ≡ Step t → has_phase can_step (thread_in s.threads t) ≡ true → Gives Then (does code o s (Step t))
+  stepping t is on = by (thread_in s.threads t) refl
     where
       at : (y : ThreadState) → thread_in s.threads t ≡ Some y → (i : Option Instr) → slice_get code y.pc ≡ i
           → Gives Then (option_map (stepped s) (then_some i (λ x. step o.servers x (record { work = begin_work s.rest; thread = y }))))
@@ -128,10 +148,10 @@ module _ (code : List Instr) (o : Options) (s : Server) (P : ThreadState → Typ
           let h : Hand = record { work = begin_work s.rest; thread = y } in
           let p : P y = found_all P s.threads t y held.standing q in
           let begins : Begins (Parcel Q) o.servers s.rest i = λ pc vs r at d f. k.starts t _ y i _ pc vs q p e at in
-          over_gives (λ (d : Stepped). Goes code y d.hand.thread × Mailed (Parcel Q) n s.rest.outbox d.hand.work.rest) Then (step o.servers i h) (stepped s)
-          (both_give (λ (d : Stepped). Goes code y d.hand.thread) (λ (d : Stepped). Mailed (Parcel Q) n s.rest.outbox d.hand.work.rest) _ (step o.servers i h) (thread_goes code o.servers i y e s.rest h refl)
-          (step_says (Parcel Q) o.servers i s.rest y (requests Q n y) begins h (record { mail = held.mail; begun = refl; named = refl; at_home = refl })) (λ d a b. (a, b)))
-          (λ d u. record { standing = set_all P s.threads d.hand.thread held.standing (k.goes t y d.hand.thread q p u.0); mail = u.1 })
+          over_gives (λ (d : Stepped). P d.hand.thread × Mailed (Parcel Q) n s.rest.outbox d.hand.work.rest) Then (step o.servers i h) (stepped s)
+          (both_give (λ (d : Stepped). P d.hand.thread) (λ (d : Stepped). Mailed (Parcel Q) n s.rest.outbox d.hand.work.rest) _ (step o.servers i h) (k.steps t y i is on q p e)
+          (step_says (Parcel Q) o.servers i s.rest y (requests Q n y i) begins h (record { mail = held.mail; begun = refl; named = refl; at_home = refl })) (λ d a b. (a, b)))
+          (λ d u. record { standing = set_all P s.threads d.hand.thread held.standing u.0; mail = u.1 })
 
       by : (x : Option ThreadState) → thread_in s.threads t ≡ x → Gives Then (option_map (stepped s) (then_some (option_map (λ y. record { work = begin_work s.rest; thread = y }) x) (step_in code o.servers)))
       by None q = tt
@@ -149,7 +169,7 @@ module _ (code : List Instr) (o : Options) (s : Server) (P : ThreadState → Typ
       by None q = tt
       by (Some y) q =
           over_gives (GoesOn code y) Stood (f (record { work = w; thread = y })) (put_back s.threads) (go y)
-          (λ h a. set_all P s.threads h.thread held.standing (k.goes t y h.thread q (found_all P s.threads t y held.standing q) a))
+          (λ h a. set_all P s.threads h.thread held.standing (k.goes t y h.thread q (found_all P s.threads t y held.standing q) a.0 a.1))
 
   ends : (u : ℕ) (v : Owned) (w : Work) → Gives Stood (deliver_finished u v (record { work = w; threads = s.threads }))
   ends u v w = then_gives Stood (ended w.rest.tasks u v) _ (λ p q. by p.0 p.1)
@@ -215,8 +235,11 @@ module _ (code : List Instr) (o : Options) (s : Server) (P : ThreadState → Typ
             mail = mail_sent (Parcel Q) n s.rest.outbox (record s.rest { cache = cs }) target (message.Migrate (packed (record y { moved_since_step = true }))) (k.leaves t target y q (found_all P s.threads t y held.standing q) z) held.mail;
           }
 
-  pub doing : (w : What) → enabled o s w ≡ true → Gives Then (does code o s w)
-  doing (Step t) on = stepping t
-  doing (Deliver i) on = delivering i
-  doing (Evict w) on = evicting w
-  doing (Migrate t target) on = leaving t target (and_left (has_phase is_ready (thread_in s.threads t)) (nat_lt target o.servers && not (target == s.rest.number)) on)
+  pub doing : enabled o s what ≡ true → Gives Then (does code o s what)
+  doing on = by what refl on
+    where
+      by : (w : What) → what ≡ w → enabled o s w ≡ true → Gives Then (does code o s w)
+      by (Step t) is steps = stepping t is steps
+      by (Deliver i) is delivers_it = delivering i
+      by (Evict v) is evicts = evicting v
+      by (Migrate t target) is leaves = leaving t target (and_left (has_phase is_ready (thread_in s.threads t)) (nat_lt target o.servers && not (target == s.rest.number)) leaves)

@@ -1,0 +1,283 @@
+-- A thread of a pair ends with unit, in each message that tells its end, after each event of a coherent cluster.
+use Rattle.std.proofs.Common.{◌≡◌, inl, inr, ℕ, zero, suc, ◌+◌, ◌*◌, ◌^◌, ◌≤◌, ◌<◌, ◌==◌, ◌&&◌, nat_le, Bool, true, false, List, [], ◌∷◌, Option, Some, None, option_map, refl, sym, ap, subst, ◌∙◌, arith}
+use Rattle.std.specs.Prelude.{slice_get}
+use Rattle.std.proofs.lemmas.Bool.{eqb-true, eq-eqb}
+use Rattle.std.proofs.lemmas.Bool.Decides.{nat_tests}
+use Rattle.fr_typing.proofs.PlaceLemmas.{eq_cases}
+use Rattle.fr_base.specs.Rooms.{WithRoom}
+use Rattle.fr_base.specs.declared.step.Fresh.{Fresh}
+use Rattle.fr_base.specs.declared.instruction.Instr.{Instr}
+use Rattle.fr_base.specs.declared.instruction.Instr.TheVariants as instr
+use Rattle.join_home.specs.Tasks.{Task, TaskState, in_pair}
+use Rattle.migration.specs.Packing.{unpin_all}
+use Rattle.read_cache.specs.Cache.{Copy}
+use Rattle.thread_state.specs.View.{ThreadState}
+use Rattle.thread_state.specs.declared.phase.Phase.{Phase}
+use Rattle.thread_state.specs.declared.phase.Phase.TheVariants as phase
+use Rattle.journal.specs.View.{EntryView}
+use Rattle.server_model.specs.declared.event.Event.{Event}
+use Rattle.server_model.specs.declared.event.What.{What}
+use Rattle.server_model.specs.Servers.{Server, Cluster, server_at}
+use Rattle.server_model.specs.Work.{Hand, with_cache}
+use Rattle.server_model.specs.Start.{next_thread, capture}
+use Rattle.server_model.specs.Commit.{done_where, pair_begun}
+use Rattle.server_model.specs.Events.{Stepped, begin_work, done_step, committed, step}
+use Rattle.server_model.specs.Clusters.{apply}
+use Rattle.heap_law.specs.Names.{tot, one, other, if_so, some, Among}
+use Rattle.heap_law.specs.Things.{Thing, noted, stands, things_of}
+use Rattle.heap_law.specs.Follow.{Standing, threads_in}
+use Rattle.heap_law.specs.Sight.{Sight, sight}
+use Rattle.heap_law.specs.OneHeap.{pair_note, in_pair_of, is_branch}
+use Rattle.heap_law.specs.Naming.{count_of, started_at}
+use Rattle.heap_law.specs.Requests.{home_of, Branch, half_noted, pair_notes, pair_places, branch_places}
+use Rattle.heap_law.specs.Coherent.{IsSound}
+use Rattle.event_law.specs.Laws.{Gives, FewEvents, PairsNoted, NumbersDiffer}
+use Rattle.event_law.proofs.Results.{then_gives, over_gives, test_gives, weaker}
+use Rattle.event_law.proofs.Each.{names_left}
+use Rattle.event_law.proofs.Elsewhere.{here_alone}
+use Rattle.event_law.proofs.StandsHere.{found_none}
+use Rattle.local_law.proofs.Goes.{Goes, IsGotten, on, waits_pair, is_over, asks_cell, asks_home, gets_cell, gets_gift, goes_pair, AsksHome, HasCell, thread_goes}
+use Rattle.local_law.proofs.Threads.{Ways}
+use Rattle.local_law.proofs.Handed.{Stood, InParcel, threads_go}
+use Rattle.value_law.proofs.Named.{home_is, count_is, started_plain}
+use Rattle.value_law.proofs.Counts.{counts_alone}
+use Rattle.ask_law.proofs.PairsOver.{waits_for, total_le, all_nothing}
+
+-- PHASES OF A STEP
+
+-- after a par its thread waits for the next two threads of its server
+par_pairs : (servers : ℕ) (cs : WithRoom (ℕ × Bool)) (pc : ℕ) (ds : WithRoom (ℕ × Bool)) (to : ℕ) (h : Hand)
+    → Gives (λ (d : Stepped). d.hand.thread.phase ≡ phase.WaitPar (next_thread h.work.rest) (next_thread h.work.rest + 1)) (step servers (instr.Par cs pc ds to) h)
+par_pairs servers cs pc ds to h =
+    settles _ _
+    (then_gives At (capture true cs.items h.thread.slots) _ (λ first p. then_gives At (capture true ds.items first.1) _ (λ second q.
+    over_gives (λ (h2 : Hand). Unit {0}) At (pair_begun h u (u + 1)) _ (test_gives (λ (h2 : Hand). Unit {0}) (Rattle.join_home.specs.Tasks.can_begin_pair h.work.rest.tasks h.thread.number u (u + 1)) _ (λ z. tt)) (λ h2 z. refl))))
+  where
+    u : ℕ
+    u = next_thread h.work.rest
+
+    At : Hand → Type 0
+    At h2 = h2.thread.phase ≡ phase.WaitPar (next_thread h.work.rest) (next_thread h.work.rest + 1)
+
+    settles : (names : Fresh) (o : Option Hand) → Gives At o → Gives (λ (d : Stepped). d.hand.thread.phase ≡ phase.WaitPar (next_thread h.work.rest) (next_thread h.work.rest + 1)) (committed (done_where names o))
+    settles names None g = tt
+    settles names (Some h2) g = by (unpin_all h2.thread.walk h2.work.rest.cache)
+      where
+        by : (l : Option (List Copy)) → Gives (λ (d : Stepped). d.hand.thread.phase ≡ phase.WaitPar (next_thread h.work.rest) (next_thread h.work.rest + 1)) (option_map (done_step names) (option_map (λ es. record { work = with_cache es h2.work; thread = record h2.thread { passed = 0; walk = []; moved_since_step = false } }) l))
+        by None = tt
+        by (Some es) = g
+
+-- THREADS THAT ARE BRANCHES
+
+-- a thread that a server of the cluster has started, and that is in no pair there
+abbrev pub is_counted : Sight → ℕ → Bool
+is_counted s t = some (tot (started_at (home_of t) (count_of t)) s.things)
+
+abbrev pub unpaired : Sight → ℕ → ℕ
+unpaired s t = if_so (is_counted s t) (other (is_branch s t))
+
+-- how many of those that a phase waits for are such
+abbrev pub waits_unpaired : Sight → Phase → ℕ
+waits_unpaired s (phase.WaitPar a b) = unpaired s a + unpaired s b
+waits_unpaired s p = 0
+
+some_true : (m : ℕ) → 1 ≤ m → some m ≡ true
+some_true zero l = absurd (omega (arith, l))
+some_true (suc m) l = refl
+
+pub is_some_number : (m : ℕ) → some m ≡ true → 1 ≤ m
+is_some_number zero e = absurd (cc e)
+is_some_number (suc m) e = omega arith
+
+if_nothing : (b : Bool) (n : ℕ) → n ≡ 0 → if_so b n ≡ 0
+if_nothing true n e = e
+if_nothing false n e = refl
+
+-- a note of a pair tells a branch
+noted_branch : (r p t : ℕ) (x : Thing) → pair_notes (record { server = r; parent = p; thread = t }) x ≤ in_pair_of t x
+noted_branch r p t (noted q x) = by (q == r) (x.thread == t) x.state
+  where
+    at_most : (c : Bool) → one c ≤ 1
+    at_most true = omega arith
+    at_most false = omega arith
+
+    by : (a b : Bool) (z : TaskState) → one ((a && b) && half_noted z p) ≤ if_so b (pair_note z)
+    by true true (in_pair parent o) = at_most (parent == p)
+    by true true z = omega arith
+    by true false z = omega arith
+    by false b z = omega arith
+noted_branch r p t _ = omega arith
+
+-- a branch has a note
+pub record HasNote (b : List Thing) (t : ℕ) : Type 0 where
+  pub server : ℕ
+  pub note : Task
+  pub parent : ℕ
+  pub over : Bool
+  pub among : Among (noted server note) b
+  pub named : note.thread ≡ t
+  pub paired : note.state ≡ in_pair parent over
+
+pub found_note : (t : ℕ) (b : List Thing) → 1 ≤ tot (in_pair_of t) b → HasNote b t
+found_note t [] l = absurd (omega (arith, l))
+found_note t (noted r x ∷ b) l = by (found_note t b) (x.thread == t) refl x.state refl l
+  where
+    later : HasNote b t → HasNote (noted r x ∷ b) t
+    later g = record { server = g.server; note = g.note; parent = g.parent; over = g.over; among = inr g.among; named = g.named; paired = g.paired }
+
+    by : (1 ≤ tot (in_pair_of t) b → HasNote b t) → (c : Bool) → (x.thread == t) ≡ c → (z : TaskState) → x.state ≡ z → 1 ≤ if_so c (pair_note z) + tot (in_pair_of t) b → HasNote (noted r x ∷ b) t
+    by go true e (in_pair p o) f m = record { server = r; note = x; parent = p; over = o; among = inl refl; named = eqb-true x.thread t e; paired = f }
+    by go true e z f m = later (go (omega (arith, m)))
+    by go false e z f m = later (go (omega (arith, m)))
+found_note t (_ ∷ b) l = let g = found_note t b (omega (arith, l)) in record { server = g.server; note = g.note; parent = g.parent; over = g.over; among = inr g.among; named = g.named; paired = g.paired }
+
+module _ (k0 : Cluster) where
+  abbrev weight : Standing → ℕ
+  weight x = waits_unpaired (sight k0) x.thread.phase
+
+  -- who is waited for is a branch
+  branch_waited : (k : Cluster) → IsSound k → (s : ℕ) (p : Bool) (x : ThreadState) → ((g : Thing → ℕ) → g (stands s p x) ≤ tot g (things_of k)) → (q : Phase) → x.phase ≡ q → waits_unpaired (sight k) q ≡ 0
+  branch_waited k sound s p x has (phase.WaitPar a b) e = omega (arith, paired a (omega (arith, ap one (eq-eqb a a refl))), paired b (omega (arith, ap one (eq-eqb b b refl))))
+    where
+      paired : (t : ℕ) → 1 ≤ one (a == t) + one (b == t) → unpaired (sight k) t ≡ 0
+      paired t l =
+          let places = pair_places (record { server = s; parent = x.number; thread = t }) in
+          let is : places (stands s p x) ≡ one (a == t) + one (b == t) =
+          ap (λ z. if_so (s == s && x.number == x.number) (branch_places t z)) e ∙ ap (λ c. if_so (c && x.number == x.number) (one (a == t) + one (b == t))) (eq-eqb s s refl) ∙ ap (λ c. if_so c (one (a == t) + one (b == t))) (eq-eqb x.number x.number refl) in
+          let some_note : 1 ≤ tot (in_pair_of t) (things_of k) = omega (arith, l, is, has places, sound.requests.pairs_noted (record { server = s; parent = x.number; thread = t }), total_le _ _ (noted_branch s x.number t) (things_of k)) in
+          if_nothing (is_counted (sight k) t) (other (is_branch (sight k) t)) (ap other (some_true (tot (in_pair_of t) (things_of k)) some_note))
+  branch_waited k sound s p x has q e = refl
+
+  unpaired_before : IsSound k0 → tot weight (threads_in (things_of k0)) ≡ 0
+  unpaired_before sound = all_nothing weight (things_of k0) (things_of k0) (λ g. omega arith) (λ s p x has. branch_waited k0 sound s p x has x.phase refl)
+
+  -- the next threads of a server aren't started
+  module _ (sound : IsSound k0) (few : FewEvents k0) (number : ℕ) (s : Server) (here : server_at k0.servers number ≡ Some s) where
+    not_counted : (c : ℕ) → s.rest.started < c → c < 2 ^ 32 → is_counted (sight k0) (s.rest.number * 2 ^ 32 + c) ≡ false
+    not_counted c l m =
+        let n = s.rest.number in
+        let w = started_at n c in
+        let plain : (x : Thing) → Rattle.value_law.proofs.Counts.Plain x → w x ≡ 0 = started_plain n c in
+        let alone = here_alone k0 sound number s here w (λ x q. omega (arith, counts_alone w plain x, ap (λ b. one (b && nat_le c x.rest.started)) q)) in
+        let late : nat_le c s.rest.started ≡ false = grind (arith, nat_tests, l) in
+        let none : one (n == n && nat_le c s.rest.started) ≡ 0 = ap (λ b. one (n == n && b)) late ∙ nothing (n == n) in
+        let z : tot w (things_of k0) ≡ 0 = omega (arith, alone, counts_alone w plain s, none) in
+        let at_home : tot (started_at (home_of (n * 2 ^ 32 + c)) (count_of (n * 2 ^ 32 + c))) (things_of k0) ≡ 0 = subst (λ i. tot (started_at i (count_of (n * 2 ^ 32 + c))) (things_of k0) ≡ 0) (sym (home_is n c m)) (subst (λ i. tot (started_at n i) (things_of k0) ≡ 0) (sym (count_is n c m)) z) in
+        ap some at_home
+      where
+        nothing : (b : Bool) → one (b && false) ≡ 0
+        nothing true = refl
+        nothing false = refl
+
+    new_unpaired : (u : ℕ) → is_counted (sight k0) u ≡ false → unpaired (sight k0) u ≡ 0
+    new_unpaired u e = ap (λ b. if_so b (other (is_branch (sight k0) u))) e
+
+    pair_new : waits_unpaired (sight k0) (phase.WaitPar (next_thread s.rest) (next_thread s.rest + 1)) ≡ 0
+    pair_new =
+        let left = names_left k0 sound.names.few_names few number s here in
+        let second : is_counted (sight k0) (s.rest.number * 2 ^ 32 + (s.rest.started + 2)) ≡ false = not_counted (s.rest.started + 2) (omega arith) (omega (arith, left)) in
+        let named : s.rest.number * 2 ^ 32 + (s.rest.started + 2) ≡ next_thread s.rest + 1 = omega arith in
+        omega (
+          arith,
+          new_unpaired (next_thread s.rest) (not_counted (s.rest.started + 1) (omega arith) (omega (arith, left))),
+          new_unpaired (next_thread s.rest + 1) (subst (λ u. is_counted (sight k0) u ≡ false) named second),
+        )
+
+    abbrev P : ThreadState → Type 0
+    P = Stood weight s.rest.number
+
+    ready_none : (p q : Phase) → p ≡ q → waits_unpaired (sight k0) q ≡ 0 → waits_unpaired (sight k0) p ≡ 0
+    ready_none p q e z = ap (waits_unpaired (sight k0)) e ∙ z
+
+    asks_none : (i : Instr) (p : Phase) → AsksHome i p → waits_unpaired (sight k0) p ≡ 0
+    asks_none (instr.Join o) (phase.WaitJoin u) a = refl
+    asks_none (instr.Dup w) (phase.WaitDup m) a = refl
+    asks_none (instr.Lock w) (phase.WaitLock m) a = refl
+    asks_none i p a = absurd a
+
+    cell_none : (p : Phase) → HasCell p → waits_unpaired (sight k0) p ≡ 0
+    cell_none phase.Got h = refl
+    cell_none (phase.Taken w) h = refl
+    cell_none p h = absurd h
+
+    -- an instruction other than a par has no pair
+    abbrev is_par : Instr → Bool
+    is_par (instr.Par cs pc ds to) = true
+    is_par i = false
+
+    some_same : {a b : Instr} → Some a ≡ Some b → a ≡ b
+    some_same e = cc
+
+    other_goes : (y y2 : ThreadState) (i : Instr) → slice_get k0.code y.pc ≡ Some i → is_par i ≡ false → Goes k0.code y y2 → waits_unpaired (sight k0) y2.phase ≡ 0
+    other_goes y y2 i code f (on j at o pc q passed walk g same) = ready_none y2.phase phase.Ready q refl
+    other_goes y y2 i code f (waits_pair cs pc ds to a b at m q passed walk g same) = let no : false ≡ true = sym f ∙ ap is_par (some_same (sym code ∙ at)) in absurd (cc no)
+    other_goes y y2 i code f (is_over o at pc q passed walk slots temps g same) = ready_none y2.phase phase.Over q refl
+    other_goes y y2 i code f (asks_cell j w at g pc q h same) = ready_none y2.phase (phase.WaitCell w) q refl
+    other_goes y y2 i code f (asks_home j m at a pc q g passed walk same) = ready_none y2.phase m q (asks_none j m a)
+    other_goes y y2 i code f (gets_cell w was q pc g same) = cell_none y2.phase q
+    other_goes y y2 i code f (gets_gift was q pc passed walk same) = ready_none y2.phase phase.Got q refl
+    other_goes y y2 i code f (goes_pair a b was q pc g passed walk same) = ready_none y2.phase (phase.GotPar a b) q refl
+
+    got_goes : (y y2 : ThreadState) (g : Goes k0.code y y2) → IsGotten g → waits_unpaired (sight k0) y2.phase ≡ 0
+    got_goes y y2 (gets_cell w was q pc g same) got = cell_none y2.phase q
+    got_goes y y2 (gets_gift was q pc passed walk same) got = ready_none y2.phase phase.Got q refl
+    got_goes y y2 (goes_pair a b was q pc g passed walk same) got = ready_none y2.phase (phase.GotPar a b) q refl
+    got_goes y y2 g got = absurd got
+
+    abbrev Then : Stepped → Type 0
+    Then d = waits_unpaired (sight k0) d.hand.thread.phase ≡ 0
+
+    steps : (y : ThreadState) (i : Instr) → slice_get k0.code y.pc ≡ Some i → Gives Then (step k0.options.servers i (record { work = begin_work s.rest; thread = y }))
+    steps y (instr.Par cs pc ds to) e =
+        weaker (λ (d : Stepped). d.hand.thread.phase ≡ phase.WaitPar (next_thread s.rest) (next_thread s.rest + 1)) Then _ (par_pairs k0.options.servers cs pc ds to (record { work = begin_work s.rest; thread = y }))
+        (λ d g. ready_none d.hand.thread.phase (phase.WaitPar (next_thread s.rest) (next_thread s.rest + 1)) g pair_new)
+    steps y i e =
+        weaker (λ (d : Stepped). Goes k0.code y d.hand.thread) Then _ (thread_goes k0.code k0.options.servers i y e s.rest (record { work = begin_work s.rest; thread = y }) refl) (λ d g. other_goes y d.hand.thread i e refl g)
+
+    pub pair_ways : (what : What) → Ways k0.code k0.options.servers s what P (InParcel weight)
+    pair_ways what = record {
+      steps = λ t y i is on_it there p code. steps y i code;
+      goes = λ t y y2 there p g got. got_goes y y2 g got;
+      arrives = λ t q. q;
+      starts = λ t n y i u pc vs there p at d. refl;
+      leaves = λ t n y there p r. p;
+    }
+
+  -- no thread waits for one that was started and is no branch
+  pub unpaired_after : (e : Event) → IsSound k0 → FewEvents k0 → Gives (λ (d : Cluster × EntryView). tot (λ (x : Standing). waits_unpaired (sight k0) x.thread.phase) (threads_in (things_of d.0)) ≡ 0) (apply k0 e)
+  unpaired_after e sound few = threads_go weight k0 e sound few (unpaired_before sound) (λ s here. pair_ways sound few e.server s here e.what)
+
+-- BRANCHES AFTERWARDS
+
+pair_of_note : (t r p : ℕ) (x : Task) (o : Bool) → x.thread ≡ t → x.state ≡ in_pair p o → pair_notes (record { server = r; parent = p; thread = t }) (noted r x) ≡ 1
+pair_of_note t r p x o e f =
+    ap (λ z. one ((r == r && x.thread == t) && half_noted z p)) f ∙ ap (λ b. one ((b && x.thread == t) && p == p)) (eq-eqb r r refl) ∙ ap (λ b. one ((true && b) && p == p)) (eq-eqb x.thread t e) ∙ ap (λ b. one ((true && true) && b)) (eq-eqb p p refl)
+
+has_among : (f : Thing → ℕ) (x : Thing) (b : List Thing) → Among x b → f x ≤ tot f b
+has_among f x [] a = absurd a
+has_among f x (y ∷ b) (inl e) = let same = ap f e in omega (arith, same)
+has_among f x (y ∷ b) (inr a) = omega (arith, has_among f x b a)
+
+-- a thread that was started before and is a branch afterwards was one before
+pub branch_before : (k0 c : Cluster) → tot (λ (x : Standing). waits_unpaired (sight k0) x.thread.phase) (threads_in (things_of c)) ≡ 0 → PairsNoted c → NumbersDiffer c → (t : ℕ) → is_counted (sight k0) t ≡ true → is_branch (sight c) t ≡ true → is_branch (sight k0) t ≡ true
+branch_before k0 c none pairs differ t counted branch =
+    let b = things_of c in
+    let it = found_note t b (is_some_number (tot (in_pair_of t) b) branch) in
+    let place : Branch = record { server = it.server; parent = it.parent; thread = t } in
+    let notes : 1 ≤ tot (pair_notes place) b = omega (arith, pair_of_note t it.server it.parent it.note it.over it.named it.paired, has_among (pair_notes place) (noted it.server it.note) b it.among) in
+    let waits = waits_for it.server it.parent t b (differ it.parent) (omega (arith, notes, pairs place)) in
+    let weighs : waits_unpaired (sight k0) waits.parent.thread.phase ≡ 0 = found_none (λ x. waits_unpaired (sight k0) x.thread.phase) it.parent (threads_in b) waits.parent none waits.found in
+    by waits.parent.thread.phase weighs waits.among
+  where
+    paired : (u : ℕ) → u ≡ t → unpaired (sight k0) u ≡ 0 → is_branch (sight k0) t ≡ true
+    paired u e z = truly (is_branch (sight k0) t) (sym (ap (λ b. if_so b (other (is_branch (sight k0) t))) counted) ∙ subst (λ v. unpaired (sight k0) v ≡ 0) e z)
+      where
+        truly : (b : Bool) → other b ≡ 0 → b ≡ true
+        truly true y = refl
+        truly false y = absurd (cc y)
+
+    by : (q : Phase) → waits_unpaired (sight k0) q ≡ 0 → 1 ≤ branch_places t q → is_branch (sight k0) t ≡ true
+    by (phase.WaitPar f g) z l =
+        eq_cases (λ d. 1 ≤ one d + one (g == t) → is_branch (sight k0) t ≡ true) f t (λ e m. paired f e (omega (arith, z)))
+        (λ ne m. eq_cases (λ d. 1 ≤ 0 + one d → is_branch (sight k0) t ≡ true) g t (λ e n. paired g e (omega (arith, z))) (λ other n. absurd (omega (arith, n))) m) l
+    by q z l = absurd (omega (arith, l))
