@@ -5,3 +5,9 @@ mod StartLemmas
 mod EndingLemmas
 mod HandingLemmas
 mod CountingLemmas
+mod ReadyLemmas
+mod OutboxLemmas
+mod ActingLemmas
+mod AppliedLemmas
+mod DefinedLemmas
+mod MergeLemmas

@@ -47,7 +47,7 @@ grown_states [] (w ∷ ws) g = absurd g
 grown_states (v ∷ vs) [] g = absurd g
 grown_states (v ∷ vs) (w ∷ ws) g = let k = g.0 in ap (λ s. s ∷ states ws) k.state ∙ ap (λ l. v.state ∷ l) (grown_states vs ws g.1)
 
-grown_long : (vs ws : List ServerView) → HaveGrown vs ws → length ws ≡ length vs
+pub grown_long : (vs ws : List ServerView) → HaveGrown vs ws → length ws ≡ length vs
 grown_long [] [] g = refl
 grown_long [] (w ∷ ws) g = absurd g
 grown_long (v ∷ vs) [] g = absurd g

@@ -17,3 +17,9 @@ AreEmpty (suc n) (s ∷ ss) = (s.rest.outbox ≡ []) × AreEmpty n ss
 abbrev pub NoneSent : List Server → Type 0
 NoneSent [] = ⊤
 NoneSent (s ∷ ss) = (s.rest.outbox ≡ []) × NoneSent ss
+
+-- no message stands in the outbox of another server than the one at that place
+abbrev pub AreEmptyBut : ℕ → List Server → Type 0
+AreEmptyBut n [] = ⊤
+AreEmptyBut zero (s ∷ ss) = NoneSent ss
+AreEmptyBut (suc n) (s ∷ ss) = (s.rest.outbox ≡ []) × AreEmptyBut n ss

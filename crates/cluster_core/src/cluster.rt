@@ -1,6 +1,6 @@
 //! All servers of a run.
 
-ghost use Rattle.std.specs.Prelude.{◌≡◌, ◌↔◌, ◌<◌, ◌≤◌, true, false, length, map, option_map, slice_get, Some, IsSome, IfOk, IfErr, IfSome, OnOk, OnErr};
+ghost use Rattle.std.specs.Prelude.{◌≡◌, ◌↔◌, ◌<◌, ◌≤◌, true, false, length, map, option_map, slice_get, Some, IsSome, Err, IfOk, IfErr, IfSome, OnOk, OnErr};
 ghost use Rattle.std.specs.Arc.{arc_value};
 ghost use Rattle.fr_syntax.specs.Meanings.{term_of};
 ghost use Rattle.fr_plain.specs.Resolve.{program};
@@ -9,18 +9,27 @@ ghost use Rattle.table_law.specs.CodeOf.{code_of};
 ghost use Rattle.table_law.specs.Tables.{HasTable};
 ghost use Rattle.fr_typing.specs.Kinds.{Kind};
 ghost use Rattle.server_model.specs.Servers.{start_of, server_at};
-ghost use Rattle.server_model.specs.Clusters.{hand_over};
-ghost use Rattle.drive_model.specs.Ending.{ending};
+ghost use Rattle.server_model.specs.Clusters.{apply, hand_over};
+ghost use Rattle.drive_model.specs.Ending.{ending, waits};
 ghost use Rattle.cluster_core.specs.Views.{ClusterView, AreServersOf, cluster_of, states, events_in};
 ghost use Rattle.cluster_core.specs.Handing.{NoneSent};
+ghost use Rattle.cluster_core.specs.Enabled.{is_enabled};
+ghost use Rattle.cluster_core.specs.declared.refused.Refused.TheVariants as refused_by;
+ghost use Rattle.type_law.specs.ClusterTypes.{IsCoherent};
+ghost use Rattle.event_law.specs.Laws.{HasResult};
 
+use crate::apply::{apply_at, can_do};
+use crate::refused::Refused;
 use crate::row::{events_of, make_room, start_row};
 use crate::sending::{count_sent, send_all};
 use crate::standing::ending_of;
+use crate::waiting::waits_of;
 use borrow_check::Checked;
-use fr_base::{Ending3, NoMemory, Options};
+use fr_base::{Ending3, NoMemory, Options, Waits};
 use fr_compile::compile;
+use journal::Entry;
 use server_core::Server;
+use server_model::Event;
 use server_msgs::Message;
 use std::alloc::Global;
 use std::marker::Model;
@@ -32,18 +41,21 @@ pub struct Cluster {
     checked: Arc<Checked>,
     // each at the place of its number
     servers: Vec<Server>,
+    // true only where each has room for two messages
+    ready: bool,
 }
 
 impl Model for Cluster {
-    ghost use Rattle.std.specs.Prelude.{◌≤◌};
+    ghost use Rattle.std.specs.Prelude.{◌≡◌, ◌≤◌, true};
     ghost use Rattle.std.specs.Arc.{arc_value};
+    ghost use Rattle.cluster_core.specs.Rooms.{HaveRoom};
     ghost use Rattle.cluster_core.specs.Views.{ClusterView, AreServersOf, cluster_of, states, events_in};
 
     ghost Value = { ClusterView };
 
     ghost view = { λ c. record { state = cluster_of c.servers.items; program = arc_value c.checked } };
 
-    ghost invariant = { λ c. AreServersOf (arc_value c.checked) c.servers.items × (events_in (states c.servers.items) ≤ 1000000000) };
+    ghost invariant = { λ c. AreServersOf (arc_value c.checked) c.servers.items × (events_in (states c.servers.items) ≤ 1000000000) × (c.ready ≡ true → HaveRoom 2 c.servers.items) };
 }
 
 impl Cluster {
@@ -68,6 +80,7 @@ impl Cluster {
         Ok(Cluster {
             checked: checked.clone()?,
             servers,
+            ready: false,
         })
     }
 
@@ -103,8 +116,38 @@ impl Cluster {
     {
         let all = count_sent(&self.servers)?;
         make_room(&mut self.servers, all)?;
+        self.ready = false;
         send_all(&mut self.servers);
         Ok(())
+    }
+
+    /// Does an event at its server, and its messages wait last at the servers that they go to. The cluster is coherent, fewer than 1,000,000,000 events
+    /// were done, the event has a result where it is enabled, which follows from both (`enabled_law`), and no message stands in an outbox, as `new`,
+    /// `apply` and `hand_over` leave it. `NotEnabled` comes exactly where the server isn't of the
+    /// run or the event isn't enabled there, else `NoMemory` where memory is wanting; both leave all unchanged. Servers to which the event sends nothing
+    /// cost no time, but once after `new`, after `from_servers` and `hand_over`, and after memory was wanting for the room that each keeps.
+    pub fn apply(&mut self, event: Event) -> Result<Entry, Refused>
+        requires coherent { IsCoherent self.old.state }
+        requires few { events_in self.old.state.servers < 1000000000 }
+        requires sent { NoneSent self.old.state.servers }
+        requires result { is_enabled self.old.state event ≡ true → HasResult self.old.state event.server event.what }
+        ensures applied { IfOk result (λ e. apply self.old.state event ≡ Some (self.new.state, e)) }
+        ensures not_enabled { is_enabled self.old.state event ≡ false → result ≡ Err refused_by.NotEnabled }
+        ensures memory { is_enabled self.old.state event ≡ true → IfErr result (λ e. e ≡ refused_by.NoMemory) }
+        ensures refused { OnErr result (self.new.state ≡ self.old.state) }
+        ensures sent { NoneSent self.new.state.servers }
+        ensures program { self.new.program ≡ self.old.program }
+    {
+        if !can_do(&self.servers, event.server, &event.what) {
+            return Err(Refused::NotEnabled);
+        }
+        match apply_at(&mut self.servers, self.ready, &event) {
+            Ok((entry, ready)) => {
+                self.ready = ready;
+                Ok(entry)
+            }
+            Err(_) => Err(Refused::NoMemory),
+        }
     }
 
     /// The checked program, and the servers by rising number, from 0. No memory.
@@ -125,7 +168,11 @@ impl Cluster {
         ensures state { result.state ≡ cluster_of servers.items }
         ensures program { result.program ≡ arc_value checked }
     {
-        Cluster { checked, servers }
+        Cluster {
+            checked,
+            servers,
+            ready: false,
+        }
     }
 
     /// The server of that number; `None` exactly where it isn't of the run. No memory.
@@ -154,6 +201,14 @@ impl Cluster {
         ensures { result ≡ ending self.now.state }
     {
         ending_of(&self.servers)
+    }
+
+    /// The threads that wait at a lock, a join or a pair, by rising number, each with what it waits for. It takes time in the number of servers times that of
+    /// the threads that wait.
+    pub fn waits(&self, alloc: Global) -> Result<Waits, NoMemory>
+        ensures { IfOk result (λ ws. ws.items ≡ waits self.now.state) }
+    {
+        waits_of(alloc, &self.servers)
     }
 
     /// How many messages wait at that server. The server is of the run. No memory.

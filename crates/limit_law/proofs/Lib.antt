@@ -1,7 +1,7 @@
 mod Sent
 mod Steps
 mod Deliveries
-mod Events
+pub mod Events
 mod Lengths
 mod Numbers
-mod Counts
+pub mod Counts

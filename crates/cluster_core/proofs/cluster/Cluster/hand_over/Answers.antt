@@ -8,6 +8,7 @@ use Rattle.cluster_core.proofs.RowLemmas.{then_same}
 use Rattle.cluster_core.proofs.RoomLemmas.{grown_states, grown_run}
 use Rattle.cluster_core.proofs.RunLemmas.{goes_on, cluster_with, on_err}
 use Rattle.cluster_core.proofs.CountingLemmas.{room_for_all}
+use Rattle.cluster_core.proofs.ReadyLemmas.{room_grown}
 use Rattle.cluster_core.proofs.cluster.Cluster.hand_over.Goals as goal
 
 pub invariant_of-self : goal.invariant_of-self
@@ -15,7 +16,7 @@ invariant_of-self c =
     let vs = c.self.inside.servers.items in
     let ws = c.make_room.new.servers.items in
     let grown = c.make_room.ensures.grown in
-    (goes_on (arc_value c.self.inside.checked) vs ws (grown_run vs ws grown) c.self.invariant.0, omega (arith, c.self.invariant.1, ap events_in (grown_states vs ws grown)))
+    (goes_on (arc_value c.self.inside.checked) vs ws (grown_run vs ws grown) c.self.invariant.0, omega (arith, c.self.invariant.1, ap events_in (grown_states vs ws grown)), λ e. room_grown 2 vs ws grown (c.self.invariant.2 e))
 
 pub returns-in_err-make_room-clause-refused : goal.returns-in_err-make_room-clause-refused
 returns-in_err-make_room-clause-refused c =
@@ -44,7 +45,7 @@ invariant_of-self-2 c =
     let vs = c.self.inside.servers.items in
     let ws = c.make_room.new.servers.items in
     let grown = c.make_room.ensures.grown in
-    (goes_on p ws c.send_all.new.servers.items c.send_all.ensures.run (goes_on p vs ws (grown_run vs ws grown) c.self.invariant.0), omega (arith, c.self.invariant.1, ap events_in (grown_states vs ws grown), c.send_all.ensures.events))
+    (goes_on p ws c.send_all.new.servers.items c.send_all.ensures.run (goes_on p vs ws (grown_run vs ws grown) c.self.invariant.0), omega (arith, c.self.invariant.1, ap events_in (grown_states vs ws grown), c.send_all.ensures.events), λ e. absurd (cc e))
 
 pub returns-clause-handed : goal.returns-clause-handed
 returns-clause-handed c =

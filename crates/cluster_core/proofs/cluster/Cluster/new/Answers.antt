@@ -16,7 +16,7 @@ invariant_of-result c =
     let short : length c.in_ok-code.code.value.items ≤ 2 ^ 30 = search rules in
     let all =
     starts (arc_value c.in_ok-clone.field-0) c.in_ok-code.code.value.items c.args.options.now c.in_ok-servers.servers.items c.in_ok-servers.ensures.states c.in_ok-servers.ensures.kept c.requires.servers.0 c.requires.servers.1 code short in
-    (all.run, all.few)
+    (all.run, all.few, λ e. absurd (cc e))
 
 pub returns-clause-table : goal.returns-clause-table
 returns-clause-table c =
