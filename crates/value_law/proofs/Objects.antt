@@ -52,7 +52,7 @@ use Rattle.value_law.proofs.Named.{Also, names, home_is, count_is, started_plain
 use Rattle.value_law.proofs.Counts.{Plain, counts_alone}
 use Rattle.value_law.proofs.Kept.{GoneOn, ends_as, stepped_so, gone_on}
 use Rattle.value_law.proofs.Askers.{all_give}
-use Rattle.value_law.proofs.Sentences.{none_else, asking_before, plain_step, nothing, nobody, no_object, no_objects, no_going, no_copies, no_holder, no_mark, no_askers}
+use Rattle.value_law.proofs.Sentences.{none_else, asking_before, plain_step, nothing, nobody, no_object, no_objects, no_going, no_copies, no_holder, no_mark, no_askers, unmarked_by}
 
 -- OBJECTS AND THEIR THREADS
 
@@ -133,15 +133,6 @@ going_alone go = record { holder = nothing; mark = 0; asker = nobody; object = n
 
 abbrev object_alone : (ObjNo → ℕ) → Also
 object_alone f = record { holder = nothing; mark = 0; asker = nobody; object = f; going = nobody; copy = λ v c. 0; wanted = nothing }
-
-unmarked_by : (k : Cluster) (also : Also) (j : Base) (v : Value) → also.mark ≡ 0 → marks (names k also j) v ≡ 0
-unmarked_by k also j (value.Held m) z = z
-unmarked_by k also j value.Gone z = refl
-unmarked_by k also j (value.Own v) z = refl
-unmarked_by k also j (value.SharedSlot i) z = refl
-unmarked_by k also j (value.MutSlot i) z = refl
-unmarked_by k also j (value.Shared r) z = refl
-unmarked_by k also j (value.Mut r) z = refl
 
 awake : (p : Phase) → can_step p ≡ true → is_over p ≡ false
 awake phase.Over e = absurd (cc e)

@@ -202,17 +202,18 @@ pub no_askers : (b : List Thing) → tot (asked_of nobody) b ≡ 0
 no_askers [] = refl
 no_askers (x ∷ b) = omega (arith, no_asker x, no_askers b)
 
-pub unmarked : (k : Cluster) (ask : ℕ → ℕ → ℕ) (j : Base) (v : Value) → marks (names k (asking ask) j) v ≡ 0
-unmarked k ask j (value.Held m) = refl
-unmarked k ask j value.Gone = refl
-unmarked k ask j (value.Own v) = refl
-unmarked k ask j (value.SharedSlot i) = refl
-unmarked k ask j (value.MutSlot i) = refl
-unmarked k ask j (value.Shared r) = refl
-unmarked k ask j (value.Mut r) = refl
+-- no value is a mark that weighs something
+pub unmarked_by : (k : Cluster) (also : Also) (j : Base) (v : Value) → also.mark ≡ 0 → marks (names k also j) v ≡ 0
+unmarked_by k also j (value.Held m) z = z
+unmarked_by k also j value.Gone z = refl
+unmarked_by k also j (value.Own v) z = refl
+unmarked_by k also j (value.SharedSlot i) z = refl
+unmarked_by k also j (value.MutSlot i) z = refl
+unmarked_by k also j (value.Shared r) z = refl
+unmarked_by k also j (value.Mut r) z = refl
 
 pub plain_step : (k : Cluster) (ask : ℕ → ℕ → ℕ) (s : Server) (i : Instr) (y : ThreadState) → ask s.rest.number y.number ≡ 0 → Coded k (asking ask) s i y
-plain_step k ask s i y z = record { stands = z; lives = λ e. refl; boxed = λ o e. (refl, refl); young = λ c l m. refl; lends = λ p m c z. refl; asks = λ f p. refl; moves = λ j p c h h2 x v q z u. unmarked k ask j v }
+plain_step k ask s i y z = record { stands = z; lives = λ e. refl; boxed = λ o e. (refl, refl); young = λ c l m. refl; lends = λ p m c z. refl; asks = λ f p. refl; moves = λ j p c h h2 x v q z u. unmarked_by k (asking ask) j v refl }
 
 kept_by : (P : Cluster → Type 0) → ((k : Cluster) (j : Base) (c : Cluster) → GoneOn k none_else j c → P c) → (k : Cluster) (e : Event) → IsSound k → FewEvents k → Gives (λ (x : Cluster × EntryView). P x.0) (apply k e)
 kept_by P go k e sound few =

@@ -1,0 +1,36 @@
+//! Laws of copies.
+
+ghost use Rattle.event_law.specs.Kinds.{arrives, asks_dup, asks_join, asks_lock, dupped, evicts, fetch, fetched, finished, granted, joined, migrates, released, starts, step_arith, step_par_end, step_print, unlocked};
+ghost use Rattle.copy_law.specs.Copies.{CopiesComeFromCopies, KeepCopies};
+
+/// Whatever an event of a sound cluster does, each copy that is there once its messages are handed over, cached or on its way, was there before under the same word, or is the
+/// cell of the object that a request asked for. So where the live objects have the cells and the words that they had, and no other ones are changed through references, copies
+/// are those cells.
+pub fn copies_come_from_copies()
+    ensures comes { CopiesComeFromCopies }
+{}
+
+/// After an event of these kinds each copy is the present cell of the object whose word it has, and each copy that is asked for is one of a live object that isn't changed through a
+/// reference: a copy goes, a thread leaves for another server and comes there, one starts, a copy is served and filled, a mutex is asked for, granted and given back, a share of
+/// it is asked for and comes, a share or a task is let go, a result is asked for and comes, a home is told that a thread has ended, and a thread prints, computes or goes on
+/// at the end of its pair.
+pub fn copies_stay()
+    ensures evictions { KeepCopies evicts }
+    ensures migrations { KeepCopies migrates }
+    ensures starts { KeepCopies starts }
+    ensures parcels { KeepCopies arrives }
+    ensures fetches { KeepCopies fetch }
+    ensures copies { KeepCopies fetched }
+    ensures locks { KeepCopies asks_lock }
+    ensures grants { KeepCopies granted }
+    ensures unlocks { KeepCopies unlocked }
+    ensures dups { KeepCopies asks_dup }
+    ensures shares { KeepCopies dupped }
+    ensures releases { KeepCopies released }
+    ensures joins { KeepCopies asks_join }
+    ensures results { KeepCopies joined }
+    ensures ends { KeepCopies finished }
+    ensures prints { KeepCopies step_print }
+    ensures arithmetic { KeepCopies step_arith }
+    ensures pairs { KeepCopies step_par_end }
+{}

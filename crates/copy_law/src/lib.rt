@@ -1,0 +1,6 @@
+//! Copies of cells, and what each event leaves of them. There is no code here: a law is the contract of a function with an empty body.
+#![tactic(auto)]
+
+mod laws;
+
+pub use laws::{copies_come_from_copies, copies_stay};
