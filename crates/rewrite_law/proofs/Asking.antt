@@ -1,0 +1,142 @@
+-- A step that writes through stars and ends in a request.
+use Rattle.std.proofs.Common.{◌≡◌, ℕ, true, Option, Some, None, option_map, refl, sym, subst, arith}
+use Rattle.std.specs.Prelude.{slice_get, take, drop as drop_first, length}
+use Rattle.fr_base.specs.declared.place.Lval.{Lval}
+use Rattle.fr_base.specs.declared.step.Fresh.TheVariants as fresh
+use Rattle.fr_base.specs.declared.instruction.Instr.{Instr}
+use Rattle.fr_base.specs.declared.instruction.Instr.TheVariants as instr
+use Rattle.journal.specs.View.{EntryView}
+use Rattle.thread_state.specs.View.{ThreadState}
+use Rattle.server_model.specs.declared.event.What.TheVariants.{Step}
+use Rattle.server_model.specs.Servers.{Server, Cluster, server_at}
+use Rattle.server_model.specs.Work.{Hand, thread_in, then_some}
+use Rattle.server_model.specs.Clusters.{with_server, hand_over_newer, done_at, apply}
+use Rattle.server_model.specs.Places.{Spot, in_slot}
+use Rattle.server_model.specs.Prepare.{Prepared, ready, requested, nothing, assigned, read_or_taken, prepare, write_stars}
+use Rattle.server_model.specs.Commit.{goes_on, go_on, read, assign, commit, settle}
+use Rattle.server_model.specs.Events.{enabled, begin_work, Stepped, done_step, wait_step, committed, prepared, step, step_in, stepped, does}
+use Rattle.heap_law.specs.Things.{at_slot, things_of}
+use Rattle.type_law.specs.ClusterTypes.{IsCoherent}
+use Rattle.word_law.specs.Reworded.{HasPlaces}
+use Rattle.word_law.specs.Unmoved.{taking_by}
+use Rattle.event_law.specs.Laws.{Gives, GoTo, FewEvents}
+use Rattle.event_law.proofs.Results.{map_gives, over_gives, test_gives, both_give}
+use Rattle.event_law.proofs.Applied.{go_with}
+use Rattle.event_law.proofs.Sending.{applied_part, each_event_sends}
+use Rattle.result_law.proofs.Known.{Steps}
+use Rattle.stay_law.proofs.Alike.{Alike}
+use Rattle.stay_law.proofs.Sites.{handed_over}
+use Rattle.stay_law.proofs.Steps.{TakesNoneHere}
+use Rattle.write_law.proofs.Route.{a_slot, begins}
+use Rattle.prepare_law.specs.Requests.{WordsHold}
+use Rattle.prepare_law.proofs.Hands.{places}
+use Rattle.prepare_law.proofs.Asking.{found_number}
+use Rattle.rewrite_law.specs.Writing.{WritesThrough, assigns, moves, WritesThatAsk}
+use Rattle.rewrite_law.proofs.Onward.{holds_alike}
+use Rattle.rewrite_law.proofs.Later.{later_itself}
+use Rattle.rewrite_law.proofs.Passing.{Asked, first_state}
+use Rattle.rewrite_law.proofs.Hops.{Mine}
+use Rattle.rewrite_law.proofs.Walks.{all_mine}
+use Rattle.rewrite_law.proofs.Ways.{takes_none, cell_there, place, route, written_there, words_there}
+
+-- the words hold with the server put back, where the entry is such
+abbrev pub There : (EntryView → Type 0) → Cluster → Server → Server × EntryView → Type 0
+There Q k s r = Q r.1 → WordsHold (record k { servers = with_server k.servers s.rest.number r.0 }) × HasPlaces (record k { servers = with_server k.servers s.rest.number r.0 })
+
+module _ (k : Cluster) (coherent : IsCoherent k) (few : FewEvents k) (s : Server) (here : server_at k.servers s.rest.number ≡ Some s) (t : ℕ) (y : ThreadState) (at : thread_in s.threads t ≡ Some y)
+    (on : enabled k.options s (Step t) ≡ true) (i : Instr) (code : slice_get k.code y.pc ≡ Some i) (w : Lval) (d : ℕ) (through : WritesThrough i w d) where
+  abbrev h0 : Hand
+  h0 = record { work = begin_work s.rest; thread = y }
+
+  abbrev A : Hand → Type 0
+  A = Asked k coherent s here t y at
+
+  abbrev Fine : Prepared → Type 0
+  Fine = Mine k coherent s here t y at
+
+  abbrev pub steps : Steps k s.rest.number t s y i
+  steps = record { coherent = coherent; few = few; here = here; on = on; at = at; code = code }
+
+  untaken : TakesNoneHere k.code y
+  untaken = subst (λ j. taking_by y.number y.phase j ≡ None) (sym code) (takes_none y.number y.phase i w d through)
+
+  -- its place is followed
+  pub followed : Fine (write_stars w.depth 0 h0 (in_slot w.slot))
+  followed =
+      let n = s.rest.number in
+      let way = route k n t s y i steps w d through in
+      all_mine k coherent s here t y at s.rest y (cell_there k n t s y i steps w d through) (place k n t s y i steps w d through) w.depth way (written_there k n t s y i steps w d through) (words_there k n t s y i steps w d through) w.depth 0 (omega arith) h0 (in_slot w.slot)
+      (at_slot y.number w.slot) refl (a_slot w.slot) (begins s.rest y (cell_there k n t s y i steps w d through) (place k n t s y i steps w d through) h0 refl refl)
+      (record { state = first_state k coherent s here t y at untaken; later = later_itself s.rest.partition; through = tt })
+
+  -- where no plain step is done
+  abbrev Undone : Stepped → Type 0
+  Undone x = x.names ≡ None → A x.hand
+
+  waits_so : (h : Hand) → A h → A (wait_step h).hand
+  waits_so h g = record { ok = record { number = g.ok.number; thread = g.ok.thread; bag = g.ok.bag }; words = g.words }
+
+  done_so : (o : Option Hand) → Gives Undone (committed (goes_on o))
+  done_so None = tt
+  done_so (Some h2) = map_gives Undone (settle (go_on h2)) (done_step fresh.None) (λ h3 e none. absurd (cc none))
+
+  prepared_so : (servers : ℕ) (j : Instr) (x : Prepared) → Fine x → ((h : Hand) (sp : Spot) → Gives Undone (committed (commit servers j sp h))) → Gives Undone (prepared servers j x)
+  prepared_so servers j (ready h sp) g f = f h sp
+  prepared_so servers j (requested h) g f = λ e. waits_so h g
+  prepared_so servers j nothing g f = tt
+
+  step_by : (servers : ℕ) (j : Instr) → WritesThrough j w d → Gives Undone (step servers j h0)
+  step_by servers _ (assigns o e) =
+      subst (λ m. Gives Undone (prepared servers (instr.Assign w o) (prepare (assigned w m y) h0))) (sym e)
+      (prepared_so servers (instr.Assign w o) (write_stars w.depth 0 h0 (in_slot w.slot)) followed (λ h sp. done_so (assign w w.depth o sp h)))
+  step_by servers _ (moves e) =
+      subst (λ m. Gives Undone (prepared servers (instr.Read w true) (prepare (Some (read_or_taken w m true)) h0))) (sym e)
+      (prepared_so servers (instr.Read w true) (write_stars w.depth 0 h0 (in_slot w.slot)) followed (λ h sp. done_so (read true sp h)))
+
+  -- AT ITS SERVER
+
+  pub server_asks : Gives (There (λ v. v.done ≡ None) k s) (does k.code k.options s (Step t))
+  server_asks =
+      subst (λ o. Gives (There (λ v. v.done ≡ None) k s) (option_map (stepped s) (then_some (option_map (λ v. record { work = begin_work s.rest; thread = v }) o) (step_in k.code k.options.servers)))) (sym at)
+      (subst (λ o. Gives (There (λ v. v.done ≡ None) k s) (option_map (stepped s) (then_some o (λ j. step k.options.servers j h0)))) (sym code)
+      (over_gives Undone (There (λ v. v.done ≡ None) k s) (step k.options.servers i h0) (stepped s) (step_by k.options.servers i through) (λ x g e. ((g e).words, places k coherent s here t y at x.hand (g e).ok))))
+
+-- IN ITS CLUSTER
+
+-- what is shown of a cluster before messages are handed over
+record Before (c : Cluster) : Type 0 where
+  cluster : Cluster
+  words : WordsHold cluster
+  places : HasPlaces cluster
+  same : c.code ≡ cluster.code
+  alike : Alike cluster.code (things_of cluster) (things_of c)
+
+handed : (k : Cluster) (s : Server) (Q : EntryView → Type 0) → server_at k.servers s.rest.number ≡ Some s → (o : Option (Server × EntryView)) → Gives (There Q k s) o
+    → Gives (λ (r : Server × EntryView). GoTo (with_server k.servers s.rest.number r.0) (drop_first (length s.rest.outbox) r.0.rest.outbox)) o
+    → Gives (λ (d : Cluster × EntryView). Q d.1 → Before d.0) (option_map (λ r. (record k { servers = hand_over_newer s.rest.number (length s.rest.outbox) r.0 k.servers }, r.1)) o)
+handed k s Q here None a g = tt
+handed k s Q here (Some r) a g = λ q.
+    let n = s.rest.number in
+    let older = length s.rest.outbox in
+    let x = a q in record {
+      cluster = record k { servers = with_server k.servers n r.0 };
+      words = x.0;
+      places = x.1;
+      same = refl;
+      alike = handed_over n older s r.0 k.servers here (go_with k.servers n r.0 (take older r.0.rest.outbox) (drop_first older r.0.rest.outbox) g);
+    }
+
+-- so the words hold once messages are handed over
+pub kept_where : (k : Cluster) (s : Server) (t : ℕ) (Q : EntryView → Type 0) → IsCoherent k → FewEvents k → server_at k.servers s.rest.number ≡ Some s → (enabled k.options s (Step t) ≡ true → Gives (There Q k s) (does k.code k.options s (Step t)))
+    → Gives (λ (d : Cluster × EntryView). Q d.1 → WordsHold d.0) (apply k (record { server = s.rest.number; what = Step t }))
+kept_where k s t Q coherent few h go =
+    both_give (λ (d : Cluster × EntryView). Q d.1 → Before d.0) (λ (d : Cluster × EntryView). HasPlaces d.0) (λ (d : Cluster × EntryView). Q d.1 → WordsHold d.0) (apply k (record { server = s.rest.number; what = Step t }))
+    (subst (λ o. Gives (λ (d : Cluster × EntryView). Q d.1 → Before d.0) (then_some o (λ x. option_map (λ d. (record k { servers = hand_over_newer s.rest.number (length x.rest.outbox) d.0 k.servers }, d.1)) (done_at k (Step t) x)))) (sym h)
+    (handed k s Q h (done_at k (Step t) s) (test_gives (There Q k s) (enabled k.options s (Step t)) (does k.code k.options s (Step t)) go) (each_event_sends k (record { server = s.rest.number; what = Step t }) coherent.sound few s h)))
+    (applied_part HasPlaces (λ c g. record { numbers_differ = g.numbers_differ; home_of_each = g.home_of_each; owner_of_each = g.owner_of_each }) k (record { server = s.rest.number; what = Step t }) coherent.sound few)
+    (λ d a c q. (let b = a q in holds_alike b.cluster d.0 b.places c b.same b.alike b.words))
+
+pub writes_that_ask : WritesThatAsk
+writes_that_ask k number t s y i w d coherent few here at code through =
+    subst (λ n. server_at k.servers n ≡ Some s → Gives (λ (x : Cluster × EntryView). x.1.done ≡ None → WordsHold x.0) (apply k (record { server = n; what = Step t }))) (found_number number k.servers s here)
+    (λ h. kept_where k s t (λ v. v.done ≡ None) coherent few h (λ on. server_asks k coherent few s h t y at on i code w d through)) here
