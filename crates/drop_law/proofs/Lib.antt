@@ -1,0 +1,15 @@
+pub mod SameGround
+pub mod Under
+pub mod InHand
+pub mod HandState
+pub mod PlainLeft
+pub mod Carrying
+pub mod BoxOpens
+pub mod ShareFalls
+pub mod TaskFalls
+pub mod Dropped
+pub mod Soundly
+pub mod ThreadLoses
+pub mod PlainDrop
+pub mod DropLines
+pub mod Clauses

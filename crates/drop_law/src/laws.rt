@@ -1,0 +1,12 @@
+ghost use Rattle.drop_law.specs.Drops.{assigns_variable, discards, drops_slot};
+ghost use Rattle.heap_law.specs.Coherent.{IsSound};
+ghost use Rattle.turn_law.specs.Turns.{ArePlainSteps};
+
+/// From a sound cluster, each discard, each end of a variable and each assignment to one is the plain step of its thread on the one heap, its messages handed over, whatever
+/// is dropped: the objects of a chain of boxes go, then the last share of a mutex with its content, or a task with the result of its thread, which is let go where
+/// it goes on.
+pub fn drop_steps()
+    ensures discards { ArePlainSteps IsSound discards }
+    ensures drops { ArePlainSteps IsSound drops_slot }
+    ensures assigns { ArePlainSteps IsSound assigns_variable }
+{}
