@@ -11,8 +11,8 @@ use Rattle.server_model.specs.Events.{enabled, does}
 use Rattle.server_model.specs.Clusters.{accept_all, with_server, with_outbox, hand_over_newer, done_at, apply}
 use Rattle.type_law.specs.ClusterTypes.{IsCoherent}
 use Rattle.limit_law.specs.Counts.{IsServerSmall}
-use Rattle.limit_law.proofs.Counts.{counts_are_small}
-use Rattle.event_law.specs.Laws.{HasResult}
+use Rattle.limit_law.proofs.Counts.{counts_are_small, few_are_few}
+use Rattle.enabled_law.proofs.Each.{each_event}
 use Rattle.server_core.specs.Servers.{ServerView}
 use Rattle.server_core.specs.Steps.{ThreadLeft, CountsLeft}
 use Rattle.cluster_core.specs.Views.{states, events_in, code_in, options_in, cluster_of, AreServersOf}
@@ -116,8 +116,8 @@ counts_left k s small few short = record {
         }
 
 -- in a coherent cluster where few events were done an enabled event can be done in code
-pub able : (p : Program) (vs : List ServerView) (n : ℕ) (w : What) → AreServersOf p vs → IsCoherent (cluster_of vs) → events_in (states vs) < 1000000000 → HasResult (cluster_of vs) n w → can_do w (slice_get vs n) ≡ true → IfSome (slice_get vs n) (CanAct w)
-able p vs n w are coherent few has on = by (slice_get vs n) refl on
+pub able : (p : Program) (vs : List ServerView) (n : ℕ) (w : What) → AreServersOf p vs → IsCoherent (cluster_of vs) → events_in (states vs) < 1000000000 → can_do w (slice_get vs n) ≡ true → IfSome (slice_get vs n) (CanAct w)
+able p vs n w are coherent few on = by (slice_get vs n) refl on
   where
     by : (o : Option ServerView) → slice_get vs n ≡ o → can_do w o ≡ true → IfSome o (CanAct w)
     by None e q = tt
@@ -126,6 +126,7 @@ able p vs n w are coherent few has on = by (slice_get vs n) refl on
         let here : server_at k.servers n ≡ Some v.state = server_there p vs n v are e in
         let kept = keeps_at vs n v (code_in vs) (options_in vs) are.alike e in
         let on_there : enabled k.options v.state w ≡ true = ap (λ o. enabled o v.state w) (sym kept.1) ∙ q in
+        let has : IsSome (apply k (record { server = n; what = w })) = each_event k n w v.state coherent (few_are_few k few) here on_there in
         let result : IsSome (does k.code k.options v.state w) = mapped_some (end_of k n v.state) (does k.code k.options v.state w) (subst IsSome (apply_at k n w v.state here on_there) has) in
         let same : does k.code k.options v.state w ≡ does v.code v.options v.state w = ap (λ c. does c k.options v.state w) (sym kept.0) ∙ ap (λ o. does v.code o v.state w) (sym kept.1) in record {
           on = q;

@@ -16,7 +16,6 @@ ghost use Rattle.cluster_core.specs.Handing.{NoneSent};
 ghost use Rattle.cluster_core.specs.Enabled.{is_enabled};
 ghost use Rattle.cluster_core.specs.declared.refused.Refused.TheVariants as refused_by;
 ghost use Rattle.type_law.specs.ClusterTypes.{IsCoherent};
-ghost use Rattle.event_law.specs.Laws.{HasResult};
 
 use crate::apply::{apply_at, can_do};
 use crate::refused::Refused;
@@ -122,15 +121,13 @@ impl Cluster {
     }
 
     /// Does an event at its server, and its messages wait last at the servers that they go to. The cluster is coherent, fewer than 1,000,000,000 events
-    /// were done, the event has a result where it is enabled, which follows from both (`enabled_law`), and no message stands in an outbox, as `new`,
-    /// `apply` and `hand_over` leave it. `NotEnabled` comes exactly where the server isn't of the
+    /// were done, and no message stands in an outbox, as `new`, `apply` and `hand_over` leave it. `NotEnabled` comes exactly where the server isn't of the
     /// run or the event isn't enabled there, else `NoMemory` where memory is wanting; both leave all unchanged. Servers to which the event sends nothing
     /// cost no time, but once after `new`, after `from_servers` and `hand_over`, and after memory was wanting for the room that each keeps.
     pub fn apply(&mut self, event: Event) -> Result<Entry, Refused>
         requires coherent { IsCoherent self.old.state }
         requires few { events_in self.old.state.servers < 1000000000 }
         requires sent { NoneSent self.old.state.servers }
-        requires result { is_enabled self.old.state event ≡ true → HasResult self.old.state event.server event.what }
         ensures applied { IfOk result (λ e. apply self.old.state event ≡ Some (self.new.state, e)) }
         ensures not_enabled { is_enabled self.old.state event ≡ false → result ≡ Err refused_by.NotEnabled }
         ensures memory { is_enabled self.old.state event ≡ true → IfErr result (λ e. e ≡ refused_by.NoMemory) }

@@ -1,1 +1,1 @@
-mod Each
+pub mod Each

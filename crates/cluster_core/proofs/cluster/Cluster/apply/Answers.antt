@@ -1,6 +1,5 @@
 use Rattle.std.proofs.Common.{◌≡◌, ◌<◌, true, false, slice_get, sym, ap, subst, ◌∙◌, arith}
 use Rattle.std.specs.Arc.{arc_value}
-use Rattle.event_law.specs.Laws.{HasResult}
 use Rattle.type_law.specs.ClusterTypes.{IsCoherent}
 use Rattle.server_model.specs.Clusters.{apply}
 use Rattle.cluster_core.specs.Views.{ClusterView, AreServersOf, cluster_of, states, events_in}
@@ -36,12 +35,9 @@ apply_at-requires-clause-able c =
     let are : AreServersOf (arc_value c.self.inside.checked) vs = c.self.invariant.0 in
     let state : cluster_of vs ≡ c.args.self.now.state = ap (λ (v : ClusterView). v.state) c.self.view_is in
     let test : c.can_do.result ≡ can_do c.args.event.what (slice_get vs c.args.event.server) = c.can_do.ensures ∙ ap (λ l. can_do c.args.event.what (slice_get l c.args.event.server)) c.deref.ensures.value in
-    let same : c.can_do.result ≡ is_enabled c.args.self.now.state c.args.event =
-    test ∙ enabled_same (arc_value c.self.inside.checked) vs c.args.event.server c.args.event.what are ∙ ap (λ k. is_enabled k c.args.event) state in
     let on = c.if-not-can_do.false in
     let few : events_in (states vs) < 1000000000 = subst (λ k. events_in k.servers < 1000000000) (sym state) c.requires.few in
-    let has : HasResult (cluster_of vs) c.args.event.server c.args.event.what = subst (λ k. HasResult k c.args.event.server c.args.event.what) (sym state) (c.requires.result (sym same ∙ on)) in
-    able (arc_value c.self.inside.checked) vs c.args.event.server c.args.event.what are (subst IsCoherent (sym state) c.requires.coherent) few has (sym test ∙ on)
+    able (arc_value c.self.inside.checked) vs c.args.event.server c.args.event.what are (subst IsCoherent (sym state) c.requires.coherent) few (sym test ∙ on)
 
 pub invariant_of-self : goal.invariant_of-self
 invariant_of-self c =
