@@ -1,0 +1,36 @@
+-- STEPS IN WHICH A REFERENCE GOES (this project's rules): it is moved out of a variable, goes with its slot or from the hand, or is assigned over.
+use Rattle.std.specs.Prelude.{◌≡◌, ℕ, true, Some, slice_get}
+use Rattle.fr_base.specs.declared.place.Lval.{Lval}
+use Rattle.fr_base.specs.declared.instruction.Operand.{Operand}
+use Rattle.fr_base.specs.declared.instruction.Instr.{Instr}
+use Rattle.fr_base.specs.declared.instruction.Instr.TheVariants as instr
+use Rattle.journal.specs.View.{EntryView}
+use Rattle.mut_borrow.specs.declared.shared.SharedRef.{SharedRef}
+use Rattle.thread_state.specs.View.{ThreadState}
+use Rattle.thread_state.specs.declared.value.Value.{Value}
+use Rattle.thread_state.specs.declared.value.Value.TheVariants as value
+use Rattle.server_model.specs.declared.event.What.TheVariants.{Step}
+use Rattle.server_model.specs.Servers.{Server, Cluster, server_at}
+use Rattle.server_model.specs.Work.{thread_in, last_of}
+use Rattle.server_model.specs.Clusters.{apply}
+use Rattle.type_law.specs.ClusterTypes.{IsCoherent}
+use Rattle.event_law.specs.Laws.{Gives, FewEvents}
+use Rattle.word_law.specs.Unmoved.{LeavesWords}
+
+-- a reference to a slot, or a shared one to an object: it has no part in which words objects have but that it is there
+pub data IsLight : Value → Type 0 where
+  to_slot : (i : ℕ) → IsLight (value.SharedSlot i)
+  to_slot_mutably : (i : ℕ) → IsLight (value.MutSlot i)
+  shared_to : (r : SharedRef) → IsLight (value.Shared r)
+
+-- an instruction with which one goes, or that moves whatever stands in a variable
+pub data GivesReference (y : ThreadState) : Instr → Type 0 where
+  moves : (w : Lval) (v : Value) → w.depth ≡ 0 → slice_get y.slots w.slot ≡ Some v → GivesReference y (instr.Read w true)
+  drops : (v : Value) → last_of y.slots ≡ Some v → IsLight v → GivesReference y instr.DropSlot
+  discards : (v : Value) → last_of y.temps ≡ Some v → IsLight v → GivesReference y instr.Discard
+  assigns : (w : Lval) (o : Operand) (v : Value) → w.depth ≡ 0 → slice_get y.slots w.slot ≡ Some v → IsLight v → GivesReference y (instr.Assign w o)
+
+-- from a coherent cluster, with its messages handed over, its step leaves each object the word that it had, and what else is kept of words
+abbrev pub ReferencesGo : Type 0
+ReferencesGo = (k : Cluster) (number t : ℕ) (s : Server) (y : ThreadState) (i : Instr) → IsCoherent k → FewEvents k → server_at k.servers number ≡ Some s → thread_in s.threads t ≡ Some y → slice_get k.code y.pc ≡ Some i → GivesReference y i
+    → Gives (λ (d : Cluster × EntryView). LeavesWords k d.0) (apply k (record { server = number; what = Step t }))
