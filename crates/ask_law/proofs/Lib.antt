@@ -4,3 +4,8 @@ pub mod Unasked
 pub mod GiftsGot
 pub mod Branches
 pub mod BranchUnits
+pub mod Asking
+pub mod AskSteps
+pub mod AskDeliveries
+pub mod AskServers
+pub mod Carried

@@ -1,6 +1,6 @@
 //! What each event keeps of threads that wait, one clause for each sentence.
 
-ghost use Rattle.heap_law.specs.Coherent.{branches_give_unit, gifts_got, pairs_go_on};
+ghost use Rattle.heap_law.specs.Coherent.{branches_give_unit, carry_what_is_asked, gifts_got, pairs_go_on};
 ghost use Rattle.local_law.specs.Laws.{EachCoherentEventKeeps, EachEventKeeps};
 
 /// What is told of pairs: the two threads that one waits for differ, and not both are noted as over, in a sound cluster; and the message that tells the end of a
@@ -13,4 +13,9 @@ pub fn pairs_keep()
 /// What is told of gifts, in a coherent cluster: one stands in phase `Got` alone, as its thread asks for nothing before it takes it.
 pub fn gifts_keep()
     ensures { EachCoherentEventKeeps gifts_got }
+{}
+
+/// What is told of answers, in a sound cluster: what will answer a thread carries, or is kept for, what its phase names.
+pub fn answers_keep()
+    ensures { EachEventKeeps carry_what_is_asked }
 {}
