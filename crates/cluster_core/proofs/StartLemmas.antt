@@ -10,7 +10,7 @@ use Rattle.fr_plain.specs.Resolve.{program}
 use Rattle.table_law.specs.Bare.{bare}
 use Rattle.table_law.specs.CodeOf.{code_of}
 use Rattle.borrow_check.specs.Programs.{Program}
-use Rattle.cluster_core.specs.Views.{states, events_in, code_in, options_in, AreNumbered, AllKeep, AreServersOf}
+use Rattle.cluster_core.specs.Views.{states, events_in, code_in, options_in, cluster_of, AreNumbered, AllKeep, AreServersOf}
 use Rattle.cluster_core.specs.Handing.{NoneSent}
 use Rattle.cluster_core.proofs.RowLemmas.{stands, states_long}
 
@@ -96,12 +96,13 @@ first_code code o [] l a = absurd (omega (arith, l))
 first_code code o (v ∷ vs) l a = a.0
 
 -- the servers of the start are those of a run
-pub record Starts (p : Program) (code : List Instr) (vs : List ServerView) : Type 0 where
+pub record Starts (p : Program) (code : List Instr) (o : Options) (vs : List ServerView) : Type 0 where
   pub run : AreServersOf p vs
   pub few : events_in (states vs) ≤ 1000000000
   pub code_is : code_in vs ≡ code
+  pub start : cluster_of vs ≡ start_of code o
 
-pub starts : (p : Program) (code : List Instr) (o : Options) (vs : List ServerView) → states vs ≡ (start_of code o).servers → AllKeep code o vs → 1 ≤ o.servers → o.servers ≤ 64 → bare code ≡ code_of (program (term_of p.arena)) → length code ≤ 2 ^ 30 → Starts p code vs
+pub starts : (p : Program) (code : List Instr) (o : Options) (vs : List ServerView) → states vs ≡ (start_of code o).servers → AllKeep code o vs → 1 ≤ o.servers → o.servers ≤ 64 → bare code ≡ code_of (program (term_of p.arena)) → length code ≤ 2 ^ 30 → Starts p code o vs
 starts p code o vs e kept some few is short =
     let long : length vs ≡ o.servers = sym (states_long vs) ∙ ap length e ∙ start_long code o in
     let first = first_code code o vs (omega (arith, long, some)) kept in record {
@@ -116,4 +117,5 @@ starts p code o vs e kept some few is short =
       };
       few = omega (arith, ap events_in e, start_done code o);
       code_is = first.0;
+      start = ap (λ c. record { code = c; options = options_in vs; servers = states vs }) first.0 ∙ ap (λ q. record { code = code; options = q; servers = states vs }) first.1 ∙ ap (λ l. record { code = code; options = o; servers = l }) e;
     }

@@ -15,6 +15,7 @@ ghost use Rattle.cluster_core.specs.Views.{ClusterView, AreServersOf, cluster_of
 ghost use Rattle.cluster_core.specs.Handing.{NoneSent};
 ghost use Rattle.cluster_core.specs.Enabled.{is_enabled};
 ghost use Rattle.cluster_core.specs.declared.refused.Refused.TheVariants as refused_by;
+ghost use Rattle.heap_law.specs.Naming.{options_out};
 ghost use Rattle.type_law.specs.ClusterTypes.{IsCoherent};
 
 use crate::apply::{apply_at, can_do};
@@ -30,6 +31,7 @@ use journal::Entry;
 use server_core::Server;
 use server_model::Event;
 use server_msgs::Message;
+use start_law::starts_are_coherent;
 use std::alloc::Global;
 use std::marker::Model;
 use std::sync::Arc;
@@ -59,8 +61,8 @@ impl Model for Cluster {
 
 impl Cluster {
     /// The start of a run: main stands at its first instruction on server 0, and nothing else is anywhere. The cluster's code is that of the program,
-    /// but for the room of its lists, and has a table, so that the start is coherent. There are 1 to 64 servers, and the limit of colours is from 1 to
-    /// 65,536.
+    /// but for the room of its lists, and has a table, so that the start is coherent where all options are in their ranges. There are 1 to 64 servers, and
+    /// the limit of colours is from 1 to 65,536.
     pub fn new(
         alloc: Global,
         checked: &Arc<Checked>,
@@ -71,9 +73,11 @@ impl Cluster {
         ensures code { IfOk result (λ k. bare k.state.code ≡ code_of (program (term_of (arc_value checked.now).arena))) }
         ensures start { IfOk result (λ k. k.state ≡ start_of k.state.code options.now) }
         ensures table { IfOk result (λ k. (t : Kind) × HasTable k.state.code t) }
+        ensures coherent { options_out options.now ≡ 0 → IfOk result (λ k. IsCoherent k.state) }
         ensures sent { IfOk result (λ k. NoneSent k.state.servers) }
         ensures program { IfOk result (λ k. k.program ≡ arc_value checked.now) }
     {
+        starts_are_coherent();
         let code = Arc::new(alloc, compile(alloc, checked)?)?;
         let servers = start_row(alloc, &code, options)?;
         Ok(Cluster {
