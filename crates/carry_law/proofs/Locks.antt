@@ -64,11 +64,11 @@ use Rattle.carry_law.proofs.Gives.{held_unseen}
 
 -- WORDS THAT HOLD
 
-holds_on : {a b : Cluster} → LeavesWords a b → WordsHold a → WordsHold b
+pub holds_on : {a b : Cluster} → LeavesWords a b → WordsHold a → WordsHold b
 holds_on p w = record { has_words = (p.words w.has_words).after; first_at_holder = p.holders w.first_at_holder; dirty_alone = p.dirty w.dirty_alone; past_words = p.past w.past_words }
 
 -- with the server put back
-abbrev Kept : Cluster → Server → Server × EntryView → Type 0
+abbrev pub Kept : Cluster → Server → Server × EntryView → Type 0
 Kept k s r = WordsHold (record k { servers = with_server k.servers s.rest.number r.0 }) × HasPlaces (record k { servers = with_server k.servers s.rest.number r.0 })
 
 handed : (k : Cluster) (s : Server) → server_at k.servers s.rest.number ≡ Some s → (o : Option (Server × EntryView)) → Gives (Kept k s) o
@@ -83,7 +83,7 @@ handed k s here (Some r) a g = λ q.
     let alike : Alike k.code (things_of mid) (things_of end) = handed_over n older s r.0 k.servers here (go_with k.servers n r.0 (take older r.0.rest.outbox) (drop_first older r.0.rest.outbox) g) in
     holds_on (untouched_stays mid end a.1 q (seen_alike mid end a.1 q refl alike)) a.0
 
-kept_where : (k : Cluster) (s : Server) (t : ℕ) → IsCoherent k → FewEvents k → server_at k.servers s.rest.number ≡ Some s → (enabled k.options s (Step t) ≡ true → Gives (Kept k s) (does k.code k.options s (Step t)))
+pub kept_where : (k : Cluster) (s : Server) (t : ℕ) → IsCoherent k → FewEvents k → server_at k.servers s.rest.number ≡ Some s → (enabled k.options s (Step t) ≡ true → Gives (Kept k s) (does k.code k.options s (Step t)))
     → Gives (λ (d : Cluster × EntryView). WordsHold d.0) (apply k (record { server = s.rest.number; what = Step t }))
 kept_where k s t coherent few h go =
     both_give (λ (d : Cluster × EntryView). HasPlaces d.0 → WordsHold d.0) (λ (d : Cluster × EntryView). HasPlaces d.0) (λ (d : Cluster × EntryView). WordsHold d.0) (apply k (record { server = s.rest.number; what = Step t }))

@@ -1,10 +1,7 @@
 -- A hand that makes an object: what its value was becomes the thread's gift, then a cell lies with it and its box is the gift, and then the box is on top.
-use Rattle.std.proofs.Common.{◌≡◌, ◌⊎◌, inl, inr, ℕ, ◌+◌, ◌^◌, ◌<◌, ◌≤◌, ◌==◌, ◌&&◌, not, true, false, if◌then◌else◌, List, [], ◌∷◌, ◌++◌, Some, None, refl, sym, ap, ap₂, subst, ◌∙◌, arith}
+use Rattle.std.proofs.Common.{◌≡◌, ◌⊎◌, inl, inr, ℕ, ◌+◌, ◌≤◌, ◌&&◌, not, true, false, List, [], ◌∷◌, ◌++◌, Some, None, refl, sym, ap, ap₂, subst, ◌∙◌, arith}
 use Rattle.std.specs.Prelude.{slice_get, length}
-use Rattle.std.specs.List.{AllByRecursion}
 use Rattle.std.proofs.lemmas.Bool.{eq-eqb}
-use Rattle.std.proofs.lemmas.Bool.Decides.{nat_tests}
-use Rattle.fr_typing.proofs.PlaceLemmas.{eq_cases}
 use Rattle.fr_base.specs.declared.name.ObjNo.{ObjNo}
 use Rattle.heap_partition.specs.declared.value.BoxPtr.{BoxPtr}
 use Rattle.heap_partition.specs.declared.value.Cell.{Cell}
@@ -22,29 +19,22 @@ use Rattle.server_model.specs.Work.{Hand, last_of, front_of, thread_in, without_
 use Rattle.server_model.specs.NewWords.{NewWord, can_grow, issue_placed}
 use Rattle.server_model.specs.Commit.{push_box, make_box}
 use Rattle.heap_law.specs.Names.{Among, tot, one}
-use Rattle.heap_law.specs.Things.{at_temp, in_hand, Thing, holds, lies, flies, stands, things_at, standing_things, thread_things, servers_things, things_of}
+use Rattle.heap_law.specs.Things.{at_temp, in_hand, Thing, holds, lies, flies, stands, things_at, standing_things, thread_things, things_of}
 use Rattle.heap_law.specs.Follow.{Standing, threads_in, cells_in}
-use Rattle.heap_law.specs.Sight.{Sight, issued, sight}
-use Rattle.heap_law.specs.Walking.{sum_threads}
-use Rattle.heap_law.specs.Naming.{servers_wrong, pinned_parcel}
+use Rattle.heap_law.specs.Sight.{issued, sight}
 use Rattle.heap_law.specs.Weights.{cells}
-use Rattle.heap_law.specs.Words.{HasWords, LeadsTo}
+use Rattle.heap_law.specs.Words.{HasWords}
 use Rattle.heap_law.specs.Coherent.{Holds, first_at_holder, IsSound}
 use Rattle.type_law.specs.ClusterTypes.{IsCoherent}
 use Rattle.path_law.proofs.Contained.{among_thread}
 use Rattle.event_law.specs.Laws.{Gives, FewEvents}
-use Rattle.event_law.specs.Sums.{Sums}
 use Rattle.event_law.proofs.Trades.{tot-append}
 use Rattle.event_law.proofs.Results.{over_gives, test_gives}
-use Rattle.event_law.proofs.RulesKeep.{sums_kept}
 use Rattle.event_law.proofs.Values.{last_split}
-use Rattle.event_law.proofs.Askers.{other_none}
 use Rattle.event_law.proofs.Bags.{all_standing, body_things, rest_things, server_same}
-use Rattle.event_law.proofs.Objects.{free_place}
 use Rattle.event_law.proofs.Boxes.{goes_as, all_new}
-use Rattle.event_law.proofs.Events.{others_of, tot-server}
+use Rattle.event_law.proofs.Events.{tot-server}
 use Rattle.event_law.proofs.Sound.{sound_has_sums}
-use Rattle.event_law.proofs.KnownSound.{server_known}
 use Rattle.event_law.proofs.ThreadThere.{thread_there}
 use Rattle.word_law.specs.Reworded.{HasPlaces}
 use Rattle.word_law.specs.Unmoved.{pointing, LeavesWords}
@@ -66,9 +56,9 @@ use Rattle.carry_law.proofs.Places.{temp_to_gift, gift_to_temp}
 use Rattle.carry_law.proofs.Hands.{RootedIn, leaves_chain, put, with_hand, places, stands_here, h0, its_number, first_ok, before, site_of, first_seen, first_leaves, first_rooted}
 use Rattle.carry_law.proofs.Far.{thread_thing}
 use Rattle.made_law.proofs.Unnamed.{NonePoints, no_value, none_points, none_untouched, none_carried}
-use Rattle.made_law.proofs.Partition.{body_comes, word_leads}
+use Rattle.made_law.proofs.Partition.{body_comes}
 use Rattle.made_law.proofs.NewCell.{is_made}
-use Rattle.made_law.proofs.NewIssue.{not_issued}
+use Rattle.made_law.proofs.Servers.{vacant_there, NextWord, next_word_is}
 
 -- ONE AFTER ANOTHER
 
@@ -101,16 +91,6 @@ weighs_among f x (y ∷ b) (inr h) = let l = weighs_among f x b h in omega (arit
 
 goes_on_as : (n : ℕ) (y : ThreadState) → is_over y.phase ≡ false → goes_as y.number y.made (stands n false y) ≡ 1
 goes_on_as n y e = ap₂ (λ p q. one (p && q)) (eq-eqb y.number y.number refl) (ap₂ (λ p q. p && not q) (eq-eqb y.made y.made refl) e)
-
--- a server's partition has its number
-own_partition : (q : Sight) (m n : ℕ) (ss : List Server) (s : Server) → servers_wrong q m ss ≡ 0 → server_at ss n ≡ Some s → s.rest.partition.server ≡ s.rest.number
-own_partition q m n [] s z h = absurd (cc h)
-own_partition q m n (x ∷ ss) s z h =
-    let numbered : x.rest.number ≡ m = grind (arith, nat_tests, other_none (x.rest.number == m) (omega (arith, z))) in
-    let placed : x.rest.partition.server ≡ m = grind (arith, nat_tests, other_none (x.rest.partition.server == m) (omega (arith, z))) in
-    eq_cases (λ b. (if b then Some x else server_at ss n) ≡ Some s → s.rest.partition.server ≡ s.rest.number) x.rest.number n
-    (λ e d. let same : x ≡ s = cc in subst (λ (y : Server). y.rest.partition.server ≡ y.rest.number) same (placed ∙ sym numbered))
-    (λ ne d. own_partition q (m + 1) n ss s (omega (arith, z)) d) h
 
 module _ (k : Cluster) (coherent : IsCoherent k) (few : FewEvents k) (s : Server) (here : server_at k.servers s.rest.number ≡ Some s) (t : ℕ) (y : ThreadState) (at : thread_in s.threads t ≡ Some y) (going : is_over y.phase ≡ false)
     (none : TakesNoneHere k.code y) (free : y.gift ≡ None) (start : HasWords (sight k)) where
@@ -258,21 +238,6 @@ module _ (k : Cluster) (coherent : IsCoherent k) (few : FewEvents k) (s : Server
 
   -- THE OBJECT IS MADE
 
-  -- a free address has no cell
-  vacant_there : (pair : ℕ × ℕ) (rest : List (ℕ × ℕ)) → s.rest.partition.free ≡ pair ∷ rest → slice_get s.rest.partition.cells pair.0 ≡ Some None
-  vacant_there =
-      let w = all_standing n s.threads ++ servers_things (others_of k.servers n) in
-      let sums : Sums (rest_things n s.events s.rest ++ w) = sums_kept.same (things_of k) (rest_things n s.events s.rest ++ w)
-      (λ f. omega (
-        arith,
-        (tot-server f k.servers n s s here).0,
-        server_same s f,
-        tot-append f (all_standing n s.threads) (rest_things n s.events s.rest),
-        tot-append f (rest_things n s.events s.rest) w,
-        tot-append f (all_standing n s.threads) (servers_things (others_of k.servers n)),
-      )) (sound_has_sums k sound) in
-      free_place n s.events s.rest w (sums_kept.placed _ sums)
-
   -- a box of it is on top
   pub record Boxed (h : Hand) : Type 0 where
     pub word : ℕ
@@ -330,29 +295,12 @@ module _ (k : Cluster) (coherent : IsCoherent k) (few : FewEvents k) (s : Server
         let threads : Alike k.code (thread_things n false gifted) (h ++ th) =
         thread_alike n n false false gifted (record y { temps = ts }) [] h (record { number = refl; taking = refl; slots = λ i. refl; temps = λ i. refl }) (itself (slots_of n gifted)) (itself (temps_of n gifted))
         (subst (λ g. Alike k.code h (h ++ held_if g)) (sym free) (itself h)) in
-        let bodies : Alike k.code (body_things n hb.work.rest) (l ++ b) = body_comes n s.rest cell vacant_there in
+        let bodies : Alike k.code (body_things n hb.work.rest) (l ++ b) = body_comes n s.rest cell (vacant_there k sound s here) in
         beside_put hb (popped ts) (h ++ l) refl number_is refl number_is
         (chain (beside threads bodies) (chain (turned (joined h th (l ++ b))) (chain (beside (itself h) (in_front th l b)) (joined h l (th ++ b)))))
 
-    -- the word is new, and leads to the object
-    record IsNew : Type 0 where
-      leads : LeadsTo n address word
-      fresh : issued (sight k) word ≡ false
-
-    is_new : IsNew
-    is_new =
-        let known = server_known k sound few n s here in
-        let part = known.partition in
-        let parts : servers_wrong (sight k) 0 k.servers + sum_threads (sight k) pinned_parcel ≡ 0 = sound.parts.parts_are_typed in
-        let own = own_partition (sight k) 0 n k.servers s (omega (arith, parts)) here in
-        let short : length p.cells < 2 ^ 40 = grind (arith, nat_tests, grows) in
-        let below : address < 2 ^ 40 = at_most p.free short part.addresses in
-        let all = word_leads (picked p.free (length p.cells)).1 p.server address part.small below in
-        record { leads = record { server = all.0 ∙ own; address = all.1 }; fresh = not_issued k sound s here word (all.0 ∙ own) all.1 all.2 }
-      where
-        at_most : (xs : List (ℕ × ℕ)) → length p.cells < 2 ^ 40 → AllByRecursion (λ (x : ℕ × ℕ). x.0 < 2 ^ 40) xs → (picked xs (length p.cells)).0 < 2 ^ 40
-        at_most [] l a = l
-        at_most (x ∷ xs) l a = a.0
+    abbrev is_new : NextWord k s
+    is_new = next_word_is k sound s here few grows
 
     -- the box becomes the value on top
     passes : Passes k.code n gifted ungifted nowhere (temp (length ts))

@@ -1,28 +1,28 @@
 -- The word of the next object wasn't issued: its address is free at that colour, or beyond all that were used.
-use Rattle.std.proofs.Common.{◌≡◌, inl, inr, ℕ, ◌≤◌, ◌==◌, ◌&&◌, ◌||◌, nat_lt, Bool, true, false, if◌then◌else◌, List, [], ◌∷◌, Some, refl, sym, ap, ap₂, subst, ◌∙◌, arith}
+use Rattle.std.proofs.Common.{◌≡◌, inl, inr, ℕ, ◌≤◌, ◌==◌, ◌&&◌, ◌||◌, nat_lt, Bool, true, false, List, [], ◌∷◌, Some, refl, sym, ap, ap₂, subst, ◌∙◌, arith}
 use Rattle.std.specs.Prelude.{length}
 use Rattle.std.proofs.lemmas.Bool.{eq-eqb}
 use Rattle.std.proofs.lemmas.Bool.Decides.{nat_tests}
-use Rattle.fr_typing.proofs.PlaceLemmas.{eq_cases}
 use Rattle.global_addr.specs.Words.{colour_of, server_of, address_of}
 use Rattle.colour_retire.specs.Colours.{picked}
 use Rattle.owner_box.specs.View.{PartitionState}
 use Rattle.server_model.specs.Servers.{Server, Cluster, server_at}
 use Rattle.heap_law.specs.Names.{Among, tot, one}
-use Rattle.heap_law.specs.Things.{Thing, lies, vacant, retired, counts, server_things, servers_things, things_of, things_at, cell_things, free_things}
+use Rattle.heap_law.specs.Things.{Thing, lies, vacant, retired, counts, servers_things, things_of, things_at, cell_things, free_things}
 use Rattle.heap_law.specs.Weights.{states, below}
 use Rattle.heap_law.specs.Sight.{Pointer, is_spot, colour_up_to, word_of_object, is_issued_at, is_issued, issued, sight}
 use Rattle.heap_law.specs.Coherent.{IsSound}
 use Rattle.heap_law.proofs.Names.{same_number, and_left, and_right}
 use Rattle.heap_law.proofs.Words.{none_at}
 use Rattle.path_law.proofs.InState.{only_one}
-use Rattle.path_law.proofs.Origins.{among_first, among_second}
+use Rattle.path_law.proofs.Origins.{among_second}
 use Rattle.event_law.specs.Sums.{Sums, is_server}
 use Rattle.event_law.proofs.Boxes.{tot_le}
 use Rattle.event_law.proofs.Events.{others_of, tot-server}
 use Rattle.event_law.proofs.Sound.{sound_has_sums}
 use Rattle.read_law.proofs.Lookups.{one_state}
 use Rattle.value_law.proofs.Counts.{Plain, counts_at, counts_alone}
+use Rattle.made_law.proofs.Listed.{of_server, of_partition}
 
 none_issued : (colours w : ℕ) (ps : List Pointer) (b : List Thing) → ((x : Thing) → Among x b → is_issued_at colours ps w x ≡ false) → is_issued colours ps b w ≡ false
 none_issued colours w ps [] f = refl
@@ -30,12 +30,6 @@ none_issued colours w ps (x ∷ b) f = ap (λ q. q || is_issued colours ps b w) 
 
 same_spot : (r a s d : ℕ) → s ≡ r → d ≡ a → one (s == r && d == a) ≡ 1
 same_spot r a s d e f = ap₂ (λ p q. one (p && q)) (eq-eqb s r e) (eq-eqb d a f)
-
-of_server : (y : Thing) (n : ℕ) (ss : List Server) (s : Server) → server_at ss n ≡ Some s → Among y (server_things s) → Among y (servers_things ss)
-of_server y n [] s e h = absurd (cc e)
-of_server y n (x ∷ ss) s e h =
-    eq_cases (λ b. (if b then Some x else server_at ss n) ≡ Some s → Among y (servers_things (x ∷ ss))) x.rest.number n
-    (λ same d. let is : x ≡ s = cc in among_first y (server_things x) (servers_things ss) (subst (λ z. Among y (server_things z)) (sym is) h)) (λ ne d. among_second y (server_things x) (servers_things ss) (of_server y n ss s d h)) e
 
 below_plain : (at : ℕ × ℕ) (x : Thing) → Plain x → below at x ≡ 0
 below_plain at (counts r next old started made events) p = absurd p
@@ -96,7 +90,7 @@ module _ (k : Cluster) (sound : IsSound k) (s : Server) (here : server_at k.serv
   free_among pair rest e =
       let y = vacant n pair.0 pair.1 in
       let free : Among y (things_at (free_things n) 0 p.free) = subst (λ l. Among y (things_at (free_things n) 0 l)) (sym e) (inl refl) in
-      of_server y n k.servers s here (inr (among_first y _ _ (among_first y _ _ (among_first y _ _ (among_first y _ _ (among_first y _ _ (among_first y _ _ (among_second y (things_at (cell_things n p.free) 0 p.cells) (things_at (free_things n) 0 p.free) free))))))))
+      of_server y n k.servers s here (of_partition y s (among_second y (things_at (cell_things n p.free) 0 p.cells) (things_at (free_things n) 0 p.free) free))
 
   module _ (w : ℕ) (server : server_of w ≡ n) where
     abbrev colours : ℕ

@@ -1,6 +1,8 @@
 -- What holds of words in the middle of an event, beside the cluster from which it began.
-use Rattle.std.proofs.Common.{◌≡◌, ⊎_elim, ℕ, not, ◌||◌, ◌==◌, true, false, Some, refl, sym, ap, ◌∙◌}
+use Rattle.std.proofs.Common.{◌≡◌, inl, ⊎_elim, ℕ, not, ◌||◌, ◌==◌, true, false, Some, refl, sym, ap, ◌∙◌}
 use Rattle.fr_base.specs.declared.name.ObjNo.{ObjNo}
+use Rattle.heap_partition.specs.declared.value.BoxPtr.{BoxPtr}
+use Rattle.heap_partition.specs.declared.value.Owned.TheVariants as owned
 use Rattle.mut_borrow.specs.declared.mutable.MutRef.{MutRef}
 use Rattle.mut_borrow.specs.Refs.{changed}
 use Rattle.thread_state.specs.declared.value.Value.TheVariants as value
@@ -20,7 +22,7 @@ use Rattle.word_law.specs.Unmoved.{seen_at, Taking, takings, Untouched, LeavesWo
 use Rattle.word_law.specs.Soles.{TookIt}
 use Rattle.word_law.specs.WordsAfter.{Rewrites, IsNoFirst}
 use Rattle.word_law.proofs.Standing.{borrow_stands}
-use Rattle.word_law.proofs.Takings.{leads_pointing, reference_at}
+use Rattle.word_law.proofs.Takings.{leads_pointing, reference_at, seen_pointer_at}
 use Rattle.word_law.proofs.Grounds.{of_borrows, same_place}
 use Rattle.word_law.proofs.Outlines.{leads_outline, soles_stay}
 use Rattle.word_law.proofs.Words.{words_go_on, changed_rewords}
@@ -32,11 +34,12 @@ use Rattle.stay_law.proofs.Alike.{Alike}
 use Rattle.stay_law.proofs.Seen.{seen_alike}
 use Rattle.prepare_law.specs.Requests.{WordsHold}
 
--- the words hold; slots and cells lead where they led, threads have taken from the same places, references were made from the same words, nothing more is stale, what is dirty was, and what lay lies
+-- the words hold; slots and cells lead where they led, boxes stand where they stood, threads have taken from the same places, references were made from the same words, nothing more is stale, what is dirty was, and what lay lies
 pub record Along (k z : Cluster) : Type 0 where
   pub words : WordsHold z
   pub slots_lead : (u t i : ℕ) → leads u (value_in (sight z).ground (at_slot t i)) ≡ leads u (value_in (sight k).ground (at_slot t i))
   pub cells_lead : (u : ℕ) (o : ObjNo) → leads u (value_in (sight z).ground (in_cell o)) ≡ leads u (value_in (sight k).ground (in_cell o))
+  pub boxes : (l : Location) (p : BoxPtr) → value_in (sight k).ground l ≡ Some (value.Own (owned.Box p)) → value_in (sight z).ground l ≡ Some (value.Own (owned.Box p))
   pub takes : (t : Taking) → Among t (takings z.code (sight z).ground.threads) → TookIt k t
   pub made : (l : Location) (r : MutRef) → value_in (sight z).ground l ≡ Some (value.Mut r) → (q : MutRef) × (value_in (sight k).ground l ≡ Some (value.Mut q)) × (q.first ≡ r.first)
   pub fresher : (l : Location) → IsStale (sight z) (Some l) → IsStale (sight k) (Some l)
@@ -48,6 +51,7 @@ along_itself k s = record {
   words = record { has_words = s.words.have_words; first_at_holder = s.words.first_at_holder; dirty_alone = s.words.dirty_alone; past_words = s.words.past_words };
   slots_lead = λ u t i. refl;
   cells_lead = λ u o. refl;
+  boxes = λ l p e. e;
   takes = λ t h. record { taking = t; among = h; thread = refl; place = refl };
   made = λ l r e. (r, e, refl);
   fresher = λ l x. x;
@@ -61,6 +65,7 @@ along_alike k x z c d same a t = record {
   words = record { has_words = (stays.words t.words.has_words).after; first_at_holder = stays.holders t.words.first_at_holder; dirty_alone = stays.dirty t.words.dirty_alone; past_words = stays.past t.words.past_words };
   slots_lead = λ v n i. sym (leads_pointing v (value_in (sight z).ground (at_slot n i))) ∙ ap (leads v) (u.stands (at_slot n i)) ∙ leads_pointing v (value_in (sight x).ground (at_slot n i)) ∙ t.slots_lead v n i;
   cells_lead = λ v o. sym (leads_pointing v (value_in (sight z).ground (in_cell o))) ∙ ap (leads v) (u.stands (in_cell o)) ∙ leads_pointing v (value_in (sight x).ground (in_cell o)) ∙ t.cells_lead v o;
+  boxes = λ l p e. seen_pointer_at l (value_in (sight z).ground l) (value.Own (owned.Box p)) (record { at = Some l; word = p.word; object = p.object }) (u.stands l ∙ ap (seen_at l) (t.boxes l p e)) (inl refl);
   takes = λ v h. t.takes v (u.takes v h);
   made = λ l r e. t.made l r (reference_at l (value_in (sight x).ground l) r (sym (u.stands l) ∙ ap (seen_at l) e));
   fresher = λ l s. t.fresher l (stale_at z x d (λ m. sym (u.stands m)) u.takes (Some l) s);
@@ -76,7 +81,7 @@ along_alike k x z c d same a t = record {
 
 -- WHERE A DIRTY REFERENCE GETS A WORD THAT WASN'T ISSUED
 
-no_first : (k x : Cluster) (w : ℕ) (o : ObjNo) → Holds k are_issued → issued (sight k) w ≡ false → HasPlaces x → Along k x → IsNoFirst x o w
+pub no_first : (k x : Cluster) (w : ℕ) (o : ObjNo) → Holds k are_issued → issued (sight k) w ≡ false → HasPlaces x → Along k x → IsNoFirst x o w
 no_first k x w o all new d s q m e n f =
     let b = of_borrows (sight x).ground q (things_of x) m in
     let y = s.made q.at q.reference (borrow_stands x d q.at q.reference b.among) in
@@ -85,7 +90,7 @@ no_first k x w o all new d s q m e n f =
     let t : true ≡ false = sym was ∙ ap (issued (sight k)) (y.2 ∙ sym f) ∙ new in
     absurd cc
 
-dirty_changed : (r : MutRef) → r.dirty ≡ true → changed r ≡ true
+pub dirty_changed : (r : MutRef) → r.dirty ≡ true → changed r ≡ true
 dirty_changed r d = ap (λ b. b || not (r.word == r.first)) d
 
 pub along_cleaned : (k x z : Cluster) (l : Location) (r : MutRef) (w : ℕ) → Holds k are_issued → issued (sight k) w ≡ false → HasPlaces x → HasPlaces z → Along k x → value_in (sight x).ground l ≡ Some (value.Mut r) → r.dirty ≡ true
@@ -99,6 +104,7 @@ along_cleaned k x z l r w all new c d t e dirty fresh reworded now still = recor
   };
   slots_lead = λ u n i. leads_on u (at_slot n i) ∙ t.slots_lead u n i;
   cells_lead = λ u o. leads_on u (in_cell o) ∙ t.cells_lead u o;
+  boxes = boxes_on;
   takes = λ v h. (let y = (soles_stay.reworded x z l r.object w reworded).takes v h in let q = t.takes y.taking y.among in record { taking = q.taking; among = q.among; thread = q.thread ∙ y.thread; place = q.place ∙ y.place });
   made = made_on;
   fresher = λ m s. t.fresher m (changed_rewords x z l r.object w rewrites r e (dirty_changed r dirty) m s);
@@ -115,6 +121,15 @@ along_cleaned k x z l r w all new c d t e dirty fresh reworded now still = recor
       places = d;
       reworded = reworded;
     }
+
+    boxes_on : (m : Location) (p : BoxPtr) → value_in (sight k).ground m ≡ Some (value.Own (owned.Box p)) → value_in (sight z).ground m ≡ Some (value.Own (owned.Box p))
+    boxes_on m p f =
+        let g : value_in (sight x).ground m ≡ Some (value.Own (owned.Box p)) = t.boxes m p f in
+        ⊎_elim
+        (λ (s : m ≡ l).
+        let no : Some (value.Own (owned.Box p)) ≡ Some (value.Mut r) = sym g ∙ ap (value_in (sight x).ground) s ∙ e in
+        absurd cc)
+        (λ (n : m ≡ l → ⊥). reworded.elsewhere m n ∙ g) (same_place m l)
 
     leads_on : (u : ℕ) (m : Location) → leads u (value_in (sight z).ground m) ≡ leads u (value_in (sight x).ground m)
     leads_on u m = sym (leads_outline u (value_in (sight z).ground m)) ∙ ap (leads u) ((soles_stay.reworded x z l r.object w reworded).stands m) ∙ leads_outline u (value_in (sight x).ground m)

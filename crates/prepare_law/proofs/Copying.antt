@@ -54,7 +54,7 @@ slot_listed n t i (x ∷ xs) zero r e =
 slot_listed n t i (x ∷ xs) (suc j) r e = let q = slot_listed n t (i + 1) xs j r e in (q.0, among_second (shares q.0 r) (slot_things n t i x) (things_at (slot_things n t) (i + 1) xs) q.1)
 
 -- the things of a value at the end
-end_things : {code : List Instr} (f : ℕ → Value → List Thing) (i : ℕ) (xs : List Value) (v : Value) → (j : ℕ) × Alike code (things_at f i (xs ++ v ∷ [])) (things_at f i xs ++ f j v)
+pub end_things : {code : List Instr} (f : ℕ → Value → List Thing) (i : ℕ) (xs : List Value) (v : Value) → (j : ℕ) × Alike code (things_at f i (xs ++ v ∷ [])) (things_at f i xs ++ f j v)
 end_things f i [] v = (i, alone (f i v))
 end_things f i (x ∷ xs) v = let q = end_things f (i + 1) xs v in (q.0, chain (beside (itself (f i x)) q.1) (joined (f i x) (things_at f (i + 1) xs) (f q.0 v)))
 

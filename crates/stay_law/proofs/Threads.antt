@@ -27,7 +27,7 @@ use Rattle.stay_law.proofs.Servers.{held_if, gift_held}
 shows_turned : (code : List Instr) (x y : ThreadState) → ShowsAs code x y → ShowsAs code y x
 shows_turned code x y q = record { number = sym q.number; taking = sym q.taking; slots = λ i. sym (q.slots i); temps = λ i. sym (q.temps i) }
 
-stands_alike : {code : List Instr} (n m : ℕ) (p q : Bool) (x y : ThreadState) → ShowsAs code x y → Alike code (stands n p x ∷ []) (stands m q y ∷ [])
+pub stands_alike : {code : List Instr} (n m : ℕ) (p q : Bool) (x y : ThreadState) → ShowsAs code x y → Alike code (stands n p x ∷ []) (stands m q y ∷ [])
 stands_alike {code = code} n m p q x y s = record { on = over n m p q x y s; back = over m n q p y x (shows_turned code x y s) }
   where
     over : (n m : ℕ) (p q : Bool) (x y : ThreadState) → ShowsAs code x y → (z : Thing) → Among z (stands n p x ∷ []) → Seen code (stands m q y ∷ []) z

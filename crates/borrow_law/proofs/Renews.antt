@@ -1,0 +1,314 @@
+-- A dirty reference in a slot gets a new word at a new address: the words hold, and it isn't stale.
+use Rattle.std.proofs.Common.{◌≡◌, ◌≢◌, ℕ, zero, suc, ◌+◌, ◌<◌, ◌≤◌, ◌==◌, ◌&&◌, nat_lt, Bool, true, false, if◌then◌else◌, List, [], ◌∷◌, ◌++◌, Option, Some, None, is_some, refl, sym, ap, ap₂, subst, ◌∙◌, arith}
+use Rattle.std.specs.Prelude.{slice_get, slice_set, slice_index_or, length}
+use Rattle.std.proofs.lemmas.Bool.{eq-eqb}
+use Rattle.std.proofs.lemmas.Bool.Decides.{nat_tests}
+use Rattle.global_addr.specs.Words.{word_of, colour_of, server_of, address_of}
+use Rattle.heap_partition.specs.declared.value.Cell.{Cell}
+use Rattle.colour_retire.specs.Colours.{picked}
+use Rattle.owner_box.specs.View.{PartitionState}
+use Rattle.owner_box.specs.Partition.{cell_of as cell_under, next_place, freed, made, renewed, made_again, new_word}
+use Rattle.mut_borrow.specs.declared.mutable.MutRef.{MutRef}
+use Rattle.journal.specs.declared.act.Act.TheVariants as act
+use Rattle.thread_state.specs.View.{ThreadState}
+use Rattle.thread_state.specs.declared.value.Value.TheVariants as value
+use Rattle.server_model.specs.Servers.{Rest, Server, Cluster, server_at}
+use Rattle.server_model.specs.Work.{Hand, look, leads_here, note, with_partition, thread_in, set_thread, without_thread}
+use Rattle.server_model.specs.NewWords.{NewWord, can_grow, is_last, issue_renewal}
+use Rattle.server_model.specs.Places.{in_slot, took, put_word}
+use Rattle.server_model.specs.Prepare.{box_of}
+use Rattle.heap_law.specs.Names.{Among, one}
+use Rattle.heap_law.specs.Things.{Location, at_slot, lies, partition_things, servers_things, things_of}
+use Rattle.heap_law.specs.Follow.{value_in}
+use Rattle.heap_law.specs.Stale.{holder_of}
+use Rattle.heap_law.specs.Sight.{issued, sight}
+use Rattle.heap_law.specs.Weights.{cells, states}
+use Rattle.heap_law.specs.Words.{IsStale, LeadsTo}
+use Rattle.heap_law.specs.Coherent.{Holds, are_issued, IsSound}
+use Rattle.heap_law.proofs.Names.{same_number, and_left, and_right}
+use Rattle.heap_law.proofs.Words.{itself}
+use Rattle.type_law.specs.ClusterTypes.{IsCoherent}
+use Rattle.path_law.proofs.InState.{only_one}
+use Rattle.path_law.proofs.Contained.{reference_there}
+use Rattle.event_law.specs.Laws.{FewEvents}
+use Rattle.event_law.proofs.Results.{given_by}
+use Rattle.event_law.proofs.RulesKeep.{sums_kept}
+use Rattle.event_law.proofs.Bags.{all_standing}
+use Rattle.event_law.proofs.Events.{others_of}
+use Rattle.event_law.proofs.Objects.{length_set}
+use Rattle.event_law.proofs.NewWords.{hand_renews}
+use Rattle.read_law.specs.Reading.{LiesUnder}
+use Rattle.read_law.proofs.Lookups.{one_state}
+use Rattle.word_law.specs.Reworded.{HasPlaces, Reworded}
+use Rattle.word_law.specs.PutBack.{LeadsHome}
+use Rattle.word_law.specs.WordsAfter.{Rewrites}
+use Rattle.word_law.proofs.Only.{are_only}
+use Rattle.word_law.proofs.Past.{first_issued, past_goes_on}
+use Rattle.word_law.proofs.Words.{words_go_on, changed_rewords}
+use Rattle.word_law.proofs.Beside.{holders_go_on, dirty_goes_on}
+use Rattle.word_law.proofs.Tints.{SlotPut, word_put, slot_stands}
+use Rattle.word_law.proofs.Slots.{set_same}
+use Rattle.word_law.proofs.Grounds.{of_borrows}
+use Rattle.move_law.specs.Relaid.{NextIsVacant, Renewal}
+use Rattle.move_law.proofs.Relaid.{at_lies, put_here, renewals_reword}
+use Rattle.prepare_law.specs.Requests.{WordsHold}
+use Rattle.prepare_law.proofs.Along.{no_first, dirty_changed}
+use Rattle.prepare_law.proofs.Hands.{Ok, put, places, stands, Walks}
+use Rattle.made_law.proofs.Listed.{of_server, of_placed, of_partition}
+use Rattle.made_law.proofs.Servers.{vacant_there, NextWord, next_word_is}
+
+-- LISTS
+
+index_end : (xs : List (Option Cell)) → slice_index_or xs (length xs) None ≡ None
+index_end [] = refl
+index_end (x ∷ xs) = index_end xs
+
+index_none : (xs : List (Option Cell)) (i : ℕ) → slice_get xs i ≡ Some None → (i < length xs) × (slice_index_or xs i None ≡ None)
+index_none [] i e = absurd cc
+index_none (x ∷ xs) zero e = let is : x ≡ None = cc in (omega arith, is)
+index_none (x ∷ xs) (suc i) e = let q = index_none xs i e in (omega (arith, q.0), q.1)
+
+set_none : (xs : List (Option Cell)) (i j : ℕ) → slice_index_or xs i None ≡ None → slice_index_or (slice_set xs j None) i None ≡ None
+set_none [] i j e = refl
+set_none (x ∷ xs) zero zero e = refl
+set_none (x ∷ xs) zero (suc j) e = e
+set_none (x ∷ xs) (suc i) zero e = e
+set_none (x ∷ xs) (suc i) (suc j) e = set_none xs i j e
+
+issued_so : (b : Bool) (x w : NewWord) → (if b then Some x else None) ≡ Some w → (b ≡ true) × (x ≡ w)
+issued_so true x w e = (refl, cc)
+issued_so false x w e = absurd cc
+
+has_cell : (o : Option Cell) → is_some o ≡ true → (c : Cell) × (o ≡ Some c)
+has_cell None e = absurd (cc e)
+has_cell (Some c) e = (c, refl)
+
+same_cell_there : (r a s d : ℕ) (c e : Cell) → lies r a c ≡ lies s d e → (r ≡ s) × (a ≡ d) × (c ≡ e)
+same_cell_there r a s d c e f = (cc, cc, cc)
+
+not_less : (a b : ℕ) → (a == b) ≡ true → nat_lt a b ≡ false
+not_less a b e = by (nat_lt a b) refl
+  where
+    by : (c : Bool) → nat_lt a b ≡ c → c ≡ false
+    by true q = absurd (grind (arith, nat_tests, e, q))
+    by false q = refl
+
+spot_weighs : (r a : ℕ) (c : Cell) (s d : ℕ) → r ≡ s → a ≡ d → 1 ≤ states (s, d) (lies r a c)
+spot_weighs r a c s d e f = let w : one (r == s && a == d) ≡ 1 = ap₂ (λ p q. one (p && q)) (eq-eqb r s e) (eq-eqb a d f) in omega (arith, w)
+
+module _ (k : Cluster) (coherent : IsCoherent k) (few : FewEvents k) (s : Server) (here : server_at k.servers s.rest.number ≡ Some s) (t : ℕ) (y : ThreadState) (at : thread_in s.threads t ≡ Some y) where
+  abbrev n : ℕ
+  n = s.rest.number
+
+  abbrev sound : IsSound k
+  sound = coherent.sound
+
+  abbrev p : PartitionState
+  p = s.rest.partition
+
+  abbrev Put : Hand → Cluster
+  Put = put k coherent s here t y at
+
+  -- the reference has the word, and the words hold
+  pub record Renewed (h2 : Hand) (l : Location) (r : MutRef) (w : ℕ) : Type 0 where
+    pub words : WordsHold (Put h2)
+    pub fresh : IsStale (sight (Put h2)) (Some l) → ⊥
+    pub now : value_in (sight (Put h2)).ground l ≡ Some (value.Mut (took r w))
+
+  module _ (h h2 : Hand) (j : ℕ) (r : MutRef) (nw : NewWord) (walks : Walks k coherent s here t y at h) (g2 : Ok k coherent s here t y at h2) (part : h.work.rest.partition ≡ p) (e : slice_get h.thread.slots j ≡ Some (value.Mut r)) (dirty : r.dirty ≡ true)
+      (fresh : IsStale (sight k) (Some (at_slot h.thread.number j)) → ⊥) (under : LiesUnder k (box_of r)) (mine : (server_of r.word == h.work.rest.number) ≡ true) (issues : issue_renewal (box_of r) h.work ≡ Some nw) (puts : put_word (in_slot j) nw h ≡ Some h2) where
+    g : Ok k coherent s here t y at h
+    g = walks.state.ok
+
+    abbrev l : Location
+    l = at_slot h.thread.number j
+
+    abbrev q : PartitionState
+    q = h.work.rest.partition
+
+    tested : ((leads_here q r.word && (is_last q r.word && can_grow q)) ≡ true) × (record { word = new_word (freed q r.word); work = note (act.Renew r.object r.word (new_word (freed q r.word))) (with_partition (renewed q r.word) h.work) } ≡ nw)
+    tested = issued_so (leads_here q r.word && (is_last q r.word && can_grow q)) _ nw issues
+
+    last : (colour_of r.word + 1 == q.limit) ≡ true
+    last = and_left (is_last q r.word) (can_grow q) (and_right (leads_here q r.word) (is_last q r.word && can_grow q) tested.0)
+
+    grows : can_grow q ≡ true
+    grows = and_right (is_last q r.word) (can_grow q) (and_right (leads_here q r.word) (is_last q r.word && can_grow q) tested.0)
+
+    leads : leads_here q r.word ≡ true
+    leads = and_left (leads_here q r.word) (is_last q r.word && can_grow q) tested.0
+
+    -- its cell
+    found : (c : Cell) × (cell_under q r.word ≡ Some c)
+    found = has_cell (cell_under q r.word) (and_right (server_of r.word == q.server) (is_some (cell_under q r.word)) (and_left ((server_of r.word == q.server) && is_some (cell_under q r.word)) (nat_lt (colour_of r.word) q.limit) leads))
+
+    abbrev c : Cell
+    c = found.0
+
+    looked : look q r.word ≡ Some c
+    looked = ap (λ b. if b then cell_under q r.word else None) leads ∙ found.1
+
+    its_server : server_of r.word ≡ n
+    its_server = same_number (server_of r.word) h.work.rest.number mine ∙ g.number
+
+    object : c.object ≡ r.object
+    object =
+        let there : cell_under p r.word ≡ Some c = subst (λ x. cell_under x r.word ≡ Some c) part found.1 in
+        let mine_there = of_server (lies n (address_of r.word) c) n k.servers s here (of_partition (lies n (address_of r.word) c) s (at_lies n p (address_of r.word) c there)) in
+        let it = under.there in
+        let same = only_one (states (n, address_of r.word)) (lies n (address_of r.word) c) (lies under.server under.address it.cell) (things_of k) (one_state k sound (n, address_of r.word)) mine_there it.among (spot_weighs n (address_of r.word) c n (address_of r.word) refl refl)
+        (spot_weighs under.server under.address it.cell n (address_of r.word) (sym under.leads.server ∙ its_server) (sym under.leads.address)) in
+        ap (λ (x : Cell). x.object) (same_cell_there n (address_of r.word) under.server under.address c it.cell same).2 ∙ it.object
+
+    -- the next place is the one of before
+    same_free : (freed q r.word).free ≡ q.free
+    same_free = ap (λ b. if b then (address_of r.word, colour_of r.word + 1) ∷ q.free else q.free) (not_less (colour_of r.word + 1) q.limit last)
+
+    same_next : next_place (freed q r.word) ≡ picked p.free (length p.cells)
+    same_next = ap₂ picked same_free (length_set q.cells (address_of r.word) None) ∙ ap (λ (x : PartitionState). picked x.free (length x.cells)) part
+
+    -- it is vacant
+    next_in : (fl : List (ℕ × ℕ)) → p.free ≡ fl → ((picked fl (length p.cells)).0 ≤ length p.cells) × (slice_index_or p.cells (picked fl (length p.cells)).0 None ≡ None)
+    next_in [] f = (omega arith, index_end p.cells)
+    next_in (pair ∷ rest) f = let x = index_none p.cells pair.0 (vacant_there k sound s here pair rest f) in (omega (arith, x.0), x.1)
+
+    next_there : ((picked p.free (length p.cells)).0 ≤ length p.cells) × (slice_index_or p.cells (picked p.free (length p.cells)).0 None ≡ None)
+    next_there = next_in p.free refl
+
+    address_is : (next_place (freed q r.word)).0 ≡ (picked p.free (length p.cells)).0
+    address_is = ap (λ (x : ℕ × ℕ). x.0) same_next
+
+    room : NextIsVacant (freed q r.word)
+    room = record {
+      within =
+          let a = next_there.0 in
+          let b = length_set q.cells (address_of r.word) None in
+          let d : length q.cells ≡ length p.cells = ap (λ (x : PartitionState). length x.cells) part in
+          omega (arith, a, b, d, address_is);
+      vacant = set_none q.cells (next_place (freed q r.word)).0 (address_of r.word) (ap₂ (λ (x : PartitionState) i. slice_index_or x.cells i None) part address_is ∙ next_there.1);
+    }
+
+    -- the new word is that of the next object
+    word_is : nw.word ≡ new_word p
+    word_is =
+        ap (λ (x : NewWord). x.word) (sym tested.1) ∙ ap (λ (x : ℕ × ℕ). word_of x.1 q.server x.0) same_next ∙ ap (λ (x : PartitionState). word_of (picked p.free (length p.cells)).1 x.server (picked p.free (length p.cells)).0) part
+
+    next_word : NextWord k s
+    next_word = next_word_is k sound s here few (ap can_grow (sym part) ∙ grows)
+
+    new : issued (sight k) nw.word ≡ false
+    new = ap (issued (sight k)) word_is ∙ next_word.fresh
+
+    -- the hand with the object at its new address
+    abbrev hm : Hand
+    hm = record h { work = nw.work }
+
+    rest_is : nw.work.rest ≡ record h.work.rest { partition = renewed q r.word }
+    rest_is = ap (λ (x : NewWord). x.work.rest) (sym tested.1)
+
+    gm : Ok k coherent s here t y at hm
+    gm = given_by (λ (m : NewWord). Ok k coherent s here t y at (record h { work = m.work })) (issue_renewal (box_of r) h.work) nw (hand_renews sums_kept n s.events t (all_standing n (without_thread s.threads t) ++ servers_things (others_of k.servers n)) (box_of r) h g) issues
+
+    place_h : HasPlaces (Put h)
+    place_h = places k coherent s here t y at h g
+
+    place_m : HasPlaces (Put hm)
+    place_m = places k coherent s here t y at hm gm
+
+    place_2 : HasPlaces (Put h2)
+    place_2 = places k coherent s here t y at h2 g2
+
+    abbrev a2 : ℕ
+    a2 = (next_place (freed q r.word)).0
+
+    lies_new : Among (lies n a2 c) (things_of (Put hm))
+    lies_new =
+        let p2 : PartitionState = renewed q r.word in
+        let made_again_is : renewed q r.word ≡ made (freed q r.word) c = ap (made_again (freed q r.word)) found.1 in
+        let cell_there : slice_index_or (made (freed q r.word) c).cells a2 None ≡ Some c = put_here (freed q r.word).cells a2 c room.within in
+        let listed : Among (lies n a2 c) (partition_things n (made (freed q r.word) c)) = at_lies n (made (freed q r.word) c) a2 c cell_there in
+        let x : Server = record { rest = nw.work.rest; threads = set_thread s.threads h.thread; events = s.events + 1 } in
+        let number : x.rest.number ≡ n = ap (λ (z : Rest). z.number) rest_is ∙ g.number in
+        let partition : x.rest.partition ≡ made (freed q r.word) c = ap (λ (z : Rest). z.partition) rest_is ∙ made_again_is in
+        of_placed (lies n a2 c) n k.servers s x here (of_partition (lies n a2 c) x (subst (λ (z : PartitionState). Among (lies n a2 c) (partition_things x.rest.number z)) (sym partition) (subst (λ i. Among (lies n a2 c) (partition_things i (made (freed q r.word) c))) (sym number) listed)))
+
+    leads_new : LeadsTo n a2 nw.word
+    leads_new = subst (λ i. LeadsTo n i nw.word) (sym address_is) (subst (λ v. LeadsTo n (picked p.free (length p.cells)).0 v) (sym word_is) next_word.leads)
+
+    home : LeadsHome (Put hm) (record { word = nw.word; object = r.object })
+    home = record {
+      server = n;
+      address = a2;
+      lying = record { cell = c; among = lies_new; object = object };
+      leads = λ m a d i o.
+          (let mine_one = ap one (itself c.object r.object object) in
+          let its_one = ap one (itself d.object r.object o) in
+          let same = only_one (cells r.object) (lies n a2 c) (lies m a d) (things_of (Put hm)) (place_m.home_of_each r.object) lies_new i (omega (arith, mine_one)) (omega (arith, its_one)) in
+          let z = same_cell_there n a2 m a c d same in
+          record { server = leads_new.server ∙ z.0; address = leads_new.address ∙ z.1 });
+    }
+
+    renewal : Renewal k n s.threads (s.events + 1) h (box_of r) nw
+    renewal = record {
+      stands = stands k coherent s here t y at h g;
+      cell = c;
+      here = looked;
+      object = object;
+      room = room;
+      issued = issues;
+      before = place_h;
+      moved = place_m;
+      home = home;
+    }
+
+    -- IT STANDS THERE
+
+    there : value_in (sight (Put h)).ground l ≡ Some (value.Mut r)
+    there = slot_stands k n s.threads (s.events + 1) h j (value.Mut r) (stands k coherent s here t y at h g) place_h e
+
+    was : value_in (sight k).ground l ≡ Some (value.Mut r)
+    was = walks.state.along.dirty_was l r there dirty
+
+    issued_all : Holds k are_issued
+    issued_all = sound.words.are_issued
+
+    not_first : (x : MutRef) → value.Mut r ≡ value.Mut x → nw.word ≢ x.first
+    not_first x f z =
+        let same : r ≡ x = cc in
+        let known : issued (sight k) r.first ≡ true = first_issued k issued_all l r (of_borrows (sight k).ground (record { at = l; holder = holder_of (sight k).ground l r.holder; reference = r }) (things_of k) (reference_there k l r was)).among in
+        let no : true ≡ false = sym known ∙ ap (issued (sight k)) (ap (λ (a : MutRef). a.first) same ∙ sym z) ∙ new in
+        absurd (cc no)
+
+    reworded : Reworded (Put h) (Put h2) l r.object nw.word
+    reworded = renewals_reword.slot k n s.threads (s.events + 1) h h2 (box_of r) nw j (value.Mut r) renewal e refl puts place_2 not_first
+
+    rewrites : Rewrites (Put h) (Put h2) l r.object nw.word
+    rewrites = record {
+      before = place_h;
+      only = are_only.dirty (Put h) l r place_h walks.state.along.words.dirty_alone there dirty (λ x. fresh (walks.state.along.fresher l x));
+      fresh = λ x. fresh (walks.state.along.fresher l x);
+      firsts = walks.state.along.words.first_at_holder;
+      places = place_2;
+      reworded = reworded;
+    }
+
+    wrote : SlotPut hm h2 j nw.word (value.Mut r)
+    wrote = word_put hm h2 j nw.word (value.Mut r) e puts
+
+    same_named : h2.thread.number ≡ h.thread.number
+    same_named = ap (λ (th : ThreadState). th.number) wrote.thread
+
+    slot_now : slice_get h2.thread.slots j ≡ Some (value.Mut (took r nw.word))
+    slot_now = ap (λ (th : ThreadState). slice_get th.slots j) wrote.thread ∙ set_same h.thread.slots j (value.Mut r) wrote.new e ∙ sym wrote.worded
+
+    pub renewed_so : Renewed h2 l r nw.word
+    renewed_so = record {
+      words = record {
+        has_words = (words_go_on (Put h) (Put h2) l r.object nw.word rewrites walks.state.along.words.has_words).after;
+        first_at_holder = holders_go_on (Put h) (Put h2) l r.object nw.word rewrites;
+        dirty_alone = dirty_goes_on (Put h) (Put h2) l r.object nw.word rewrites walks.state.along.words.dirty_alone;
+        past_words = past_goes_on (Put h) (Put h2) l r.object nw.word rewrites (no_first k (Put h) nw.word r.object issued_all new place_h walks.state.along) walks.state.along.words.past_words;
+      };
+      fresh = λ x. fresh (walks.state.along.fresher l (changed_rewords (Put h) (Put h2) l r.object nw.word rewrites r there (dirty_changed r dirty) l x));
+      now = ap (λ i. value_in (sight (Put h2)).ground (at_slot i j)) (sym same_named) ∙ slot_stands k n s.threads (s.events + 1) h2 j (value.Mut (took r nw.word)) (stands k coherent s here t y at h2 g2) place_2 slot_now;
+    }
