@@ -59,9 +59,11 @@ grown_at (v ∷ vs) [] n g h e = absurd h
 grown_at (v ∷ vs) (x ∷ gs) zero g h e = let same : x ≡ g = cc in (v, refl, subst (Grows 0 true v) same h.0)
 grown_at (v ∷ vs) (x ∷ gs) (suc n) g h e = grown_at vs gs n g h.1 e
 
+-- what is done depends on the state, the code and the options alone
 does_same : (v g : ServerView) (w : What) → g.state ≡ v.state → g.code ≡ v.code → g.options ≡ v.options → does g.code g.options g.state w ≡ does v.code v.options v.state w
 does_same v g w s c o = ap (λ x. does x g.options g.state w) c ∙ ap (λ x. does v.code x g.state w) o ∙ ap (λ x. does v.code v.options x w) s
 
+-- so does what doing it asks
 pub still_able : (v g : ServerView) (w : What) → g.state ≡ v.state → g.code ≡ v.code → g.options ≡ v.options → CanAct w v → CanAct w g
 still_able v g w s c o a = record {
   on = ap (λ x. enabled x g.state w) o ∙ ap (λ x. enabled v.options x w) s ∙ a.on;
@@ -76,6 +78,7 @@ able_grown vs gs n g w h e a =
     let q = k.2 in
     still_able k.0 g w q.state q.code q.options (subst (λ o. IfSome o (CanAct w)) k.1 a)
 
+-- and that it was done
 pub acts_same : (v g u : ServerView) (w : What) (e : EntryView) → g.state ≡ v.state → g.code ≡ v.code → g.options ≡ v.options → Acts w e g u → Acts w e v u
 acts_same v g u w e s c o a = record { done = sym (does_same v g w s c o) ∙ a.done; code = a.code ∙ c; options = a.options ∙ o }
 
@@ -124,6 +127,7 @@ pub if_ok : {T E : Type 0} (P Q : T → Type 0) (r : Result T E) → ((x : T) �
 if_ok P Q (Ok x) f p = f x p
 if_ok P Q (Err e) f p = p
 
+-- and of a refusal
 pub if_err : {T E : Type 0} (P Q : Type 0) (r : Result T E) → (P → Q) → OnErr r P → OnErr r Q
 if_err P Q (Ok x) f p = p
 if_err P Q (Err e) f p = f p

@@ -33,6 +33,7 @@ pub record Leaves (n : ℕ) (made : Bool) (vs zs : List ServerView) : Type 0 whe
   pub fewer : length (outboxes (states zs)) < length (outboxes (states vs))
   pub ready : HaveRoomBut n 2 vs → made ≡ true → HaveRoomBut n 2 zs
 
+-- it goes so
 pub leaves : (n : ℕ) (vs : List ServerView) (w : ServerView) (t : ℕ) (m : Message) (made : Bool) (ws zs : List ServerView) → AreEmptyBut n (states vs) → Next n vs (slice_set vs n w) (record { target = t; message = m })
     → Changes (Accepts m) t (slice_set vs n w) ws → Changes (Grows 2 made) t ws zs → Leaves n made vs zs
 leaves n vs w t m made ws zs others k g h =

@@ -43,10 +43,12 @@ is_there (v ∷ vs) (suc n) w e = let l = is_there vs n w e in omega (arith, l)
 
 -- THE DEFINITION'S EVENT
 
+-- none of the first
 take_none : (xs : List Sent) → take 0 xs ≡ []
 take_none [] = refl
 take_none (x ∷ xs) = refl
 
+-- all but none
 drop_none : (xs : List Sent) → drop 0 xs ≡ xs
 drop_none [] = refl
 drop_none (x ∷ xs) = refl
@@ -62,10 +64,12 @@ newer_all n older new ss e =
 abbrev end_of : Cluster → ℕ → Server → Server × EntryView → Cluster × EntryView
 end_of k n s d = (record k { servers = hand_over_newer n (length s.rest.outbox) d.0 k.servers }, d.1)
 
+-- what is done where a test holds
 if_on : {X : Type 0} (b : Bool) (x y : X) → b ≡ true → (if b then x else y) ≡ x
 if_on true x y e = refl
 if_on false x y e = absurd (cc e)
 
+-- the definition's event at a server that is there and can do it
 apply_at : (k : Cluster) (n : ℕ) (w : What) (s : Server) → server_at k.servers n ≡ Some s → enabled k.options s w ≡ true → apply k (record { server = n; what = w }) ≡ option_map (end_of k n s) (does k.code k.options s w)
 apply_at k n w s here on =
     ap (λ o. then_some o (λ s. option_map (λ d. (record k { servers = hand_over_newer n (length s.rest.outbox) d.0 k.servers }, d.1)) (done_at k w s))) here
@@ -93,6 +97,7 @@ applied_is p vs ws n w e are none on a =
 
 -- WHAT COHERENCE GIVES
 
+-- a map gives something where something is there
 mapped_some : {X Y : Type 0} (f : X → Y) (o : Option X) → IsSome (option_map f o) → IsSome o
 mapped_some f None h = h
 mapped_some f (Some x) h = refl

@@ -18,10 +18,12 @@ abbrev pub IsSorted : List (ℕ × Wait) → Type 0
 IsSorted [] = Unit {0}
 IsSorted (x ∷ xs) = AllFrom x.0 xs × IsSorted xs
 
+-- an earlier number will do
 from_less : (m n : ℕ) (xs : List (ℕ × Wait)) → m ≤ n → AllFrom n xs → AllFrom m xs
 from_less m n [] l a = tt
 from_less m n (x ∷ xs) l a = (omega (arith, l, a.0), from_less m n xs l a.1)
 
+-- one more that comes no earlier
 added_from : (n t : ℕ) (w : Wait) (xs : List (ℕ × Wait)) → n ≤ t → AllFrom n xs → AllFrom n (add_wait t (Some w) xs)
 added_from n t w [] l a = (l, tt)
 added_from n t w (x ∷ xs) l a = by (nat_lt t x.0) (added_from n t w xs l a.1)
@@ -30,6 +32,7 @@ added_from n t w (x ∷ xs) l a = by (nat_lt t x.0) (added_from n t w xs l a.1)
     by true h = (l, a)
     by false h = (a.0, h)
 
+-- one more is added in its place
 added_sorted : (t : ℕ) (w : Wait) (xs : List (ℕ × Wait)) → IsSorted xs → IsSorted (add_wait t (Some w) xs)
 added_sorted t w [] s = (tt, tt)
 added_sorted t w (x ∷ xs) s = by (nat_lt t x.0) refl (added_sorted t w xs s.1)
@@ -52,9 +55,11 @@ abbrev pub add_each : List (ℕ × Wait) → List (ℕ × Wait) → List (ℕ ×
 add_each [] ys = ys
 add_each (x ∷ xs) ys = add_each xs (add_wait x.0 (Some x.1) ys)
 
+-- a number isn't before one that is no later
 not_before : (t n : ℕ) → n ≤ t → nat_lt t n ≡ false
 not_before t n l = grind (arith, nat_tests, l)
 
+-- it is before a later one
 is_before : (t n : ℕ) → t < n → nat_lt t n ≡ true
 is_before t n l = grind (arith, nat_tests, l)
 
@@ -122,24 +127,28 @@ stays_first z [] ys a = refl
 stays_first z (x ∷ xs) ys a =
     ap (λ b. add_each xs (if b then (x.0, x.1) ∷ z ∷ ys else z ∷ add_wait x.0 (Some x.1) ys)) (not_before x.0 z.0 a.0) ∙ stays_first z xs (add_wait x.0 (Some x.1) ys) a.1
 
+-- what is left stands by rising number
 sorted_drop : (i : ℕ) (xs : List (ℕ × Wait)) → IsSorted xs → IsSorted (drop i xs)
 sorted_drop zero [] s = s
 sorted_drop zero (x ∷ xs) s = s
 sorted_drop (suc i) [] s = s
 sorted_drop (suc i) (x ∷ xs) s = sorted_drop i xs s.1
 
+-- what is left begins with what stands there
 drop_at : (i : ℕ) (xs : List (ℕ × Wait)) (x : ℕ × Wait) → slice_get xs i ≡ Some x → drop i xs ≡ x ∷ drop (suc i) xs
 drop_at i [] x e = absurd (cc e)
 drop_at zero (y ∷ []) x e = let same : y ≡ x = cc in ap (λ z. z ∷ []) same
 drop_at zero (y ∷ z ∷ xs) x e = let same : y ≡ x = cc in ap (λ q. q ∷ z ∷ xs) same
 drop_at (suc i) (y ∷ xs) x e = drop_at i xs x e
 
+-- past the end nothing is left
 drop_past : (i : ℕ) (xs : List (ℕ × Wait)) → slice_get xs i ≡ None → drop i xs ≡ []
 drop_past zero [] e = refl
 drop_past (suc i) [] e = refl
 drop_past zero (y ∷ xs) e = absurd (cc e)
 drop_past (suc i) (y ∷ xs) e = drop_past i xs e
 
+-- what stands there is within the list
 inside : (i : ℕ) (xs : List (ℕ × Wait)) (x : ℕ × Wait) → slice_get xs i ≡ Some x → i < length xs
 inside i [] x e = absurd (cc e)
 inside zero (y ∷ xs) x e = omega arith

@@ -19,6 +19,7 @@ others_set n [] new a = tt
 others_set zero (s ∷ ss) new a = a
 others_set (suc n) (s ∷ ss) new a = (a.0, others_set n ss new a.1)
 
+-- so does the first state, where no message stood in an outbox
 pub none_but_set : (n : ℕ) (ss : List Server) (new : Server) → NoneSent ss → AreEmptyBut n (slice_set ss n new)
 none_but_set n [] new a = tt
 none_but_set zero (s ∷ ss) new a = a.1
@@ -50,19 +51,23 @@ none_at n [] s a e = absurd (cc e)
 none_at zero (y ∷ ss) s a e = let same : s ≡ y = cc in ap (λ (z : Server). z.rest.outbox) same ∙ a.0
 none_at (suc n) (y ∷ ss) s a e = none_at n ss s a.1 e
 
+-- none stands in the outbox of any of them
 pub all_empty : (ss : List Server) → NoneSent ss → AreEmpty (length ss) ss
 all_empty [] a = tt
 all_empty (s ∷ ss) a = (a.0, all_empty ss a.1)
 
+-- nothing is to be emptied
 emptied_none : (ss : List Server) → NoneSent ss → emptied ss ≡ ss
 emptied_none [] a = refl
 emptied_none (s ∷ ss) a = ap (λ l. with_outbox l s ∷ emptied ss) (sym a.0) ∙ ap (λ l. s ∷ l) (emptied_none ss a.1)
 
+-- one outbox alone is to be emptied
 emptied_one : (n : ℕ) (ss : List Server) (new : Server) → NoneSent ss → emptied (slice_set ss n new) ≡ slice_set ss n (with_outbox [] new)
 emptied_one n [] new a = refl
 emptied_one zero (s ∷ ss) new a = ap (λ l. with_outbox [] new ∷ l) (emptied_none ss a.1)
 emptied_one (suc n) (s ∷ ss) new a = ap (λ l. with_outbox l s ∷ emptied (slice_set ss n new)) (sym a.0) ∙ ap (λ l. s ∷ l) (emptied_one n ss new a.1)
 
+-- there are no messages
 outboxes_none : (ss : List Server) → NoneSent ss → outboxes ss ≡ []
 outboxes_none [] a = refl
 outboxes_none (s ∷ ss) a = ap (λ l. l ++ outboxes ss) a.0 ∙ outboxes_none ss a.1

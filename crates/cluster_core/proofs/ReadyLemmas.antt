@@ -28,6 +28,7 @@ room_set_there n r [] w h = tt
 room_set_there zero r (v ∷ vs) w h = h.1
 room_set_there (suc n) r (v ∷ vs) w h = (h.0, room_set_there n r vs w h.1)
 
+-- also where that server lacked it before
 pub room_set_again : (n r : ℕ) (vs : List ServerView) (w : ServerView) → HaveRoomBut n r vs → HaveRoomBut n r (slice_set vs n w)
 room_set_again n r [] w h = tt
 room_set_again zero r (v ∷ vs) w h = h
@@ -67,6 +68,7 @@ only_accepts m r t made (u ∷ us) [] g = absurd g
 only_accepts m r zero made (u ∷ us) (z ∷ zs) g = let a = g.0 in (a.accepts, g.1)
 only_accepts m r (suc t) made (u ∷ us) (z ∷ zs) g = (g.0, only_accepts m r t made us zs g.1)
 
+-- with room there again, all have it
 refilled_all : (m : Message) (r t : ℕ) (made : Bool) (us zs : List ServerView) → Changes (Refilled m r made) t us zs → HaveRoom r us → made ≡ true → HaveRoom r zs
 refilled_all m r t made [] zs g h e = subst (HaveRoom r) (sym g) tt
 refilled_all m r t made (u ∷ us) [] g h e = absurd g
