@@ -2,7 +2,8 @@
 # How long replays over many threads take: a source that starts some 250, 500 and 1,000 threads of 1,000 steps each, with an order
 # behind it in which each of them steps to its end, the last one started first. Beside each stands the time up to the end of the
 # checker (the same source with a fault in its last term), so that the difference is the replay; and the memory of both. Then the
-# same number of steps under orders of more and more lines. Needs the built program (./build).
+# same number of steps under orders of more and more lines. At last threads that start one after another, each when the one before has
+# ended, with the bytes of memory that a thread more takes beyond what the checker had. Needs the built program (./build).
 #   bench/threads.sh
 . "$(dirname "$0")/program.sh" drust_main ./build
 exec python3 - "$program" <<'PY'
@@ -54,4 +55,25 @@ for threads in (250, 500, 1000):
     before = row(threads, 1, before)
 for lines in (1, 10, 100):
     row(250, lines, None)
+
+# so many threads that end at once
+def ended(threads):
+    source = "{" + "spawn(){};" * threads
+    order = "".join(f"0.0 thread 0.{n}\n0.{n} 1\n0.0 1\n" for n in range(1, threads + 1)) + "0.0 2\n"
+    _, status, out, peak = replayed(source + "print 1}%\n" + order)
+    if status != 0 or int(out.split()[-1]) != 3 * threads + 2:
+        sys.exit(f"status {status}: {out}")
+    _, status, _, front_peak = replayed(source + "print y}%\n" + order)
+    if status != 4:
+        sys.exit(f"status {status} of the refused source")
+    return peak, front_peak
+
+print(f"{'ended':>7} {'MB':>6} {'checked':>7} {'bytes/thread':>12}")
+last = None
+for threads in (5_500, 11_000, 22_000):
+    peak, front = ended(threads)
+    more = peak - front - last[0] + last[1] if last else 0
+    each = f"{more / (threads - last[2]):12.0f}" if more > 0 else f"{'-':>12}"
+    print(f"{threads:7} {peak >> 20:6} {front >> 20:7} {each}")
+    last = (peak, front, threads)
 PY

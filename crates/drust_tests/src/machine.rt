@@ -13,6 +13,9 @@ const JOINED: &[u8] = b"{ let mut h = spawn () { 3 }; print join h }";
 const HELD: &[u8] =
     b"{ let mut m = mutex 8; let mut n = dup m; lock m as x { par (n) { lock n as y { print y } } () { print 7 } } }";
 
+// A thread waits for the mutex that it holds.
+const LOCKED_TWICE: &[u8] = b"{ let mut m = mutex 1; lock m as a { lock m as b { print b } } }";
+
 // Steps: of the thread with that count, whom it starts (0 for none), and how many labels it has. Main comes to its join.
 const STARTED: [(u32, u32, u64); 3] = [(0, 1, 1), (0, 0, 0), (0, 0, 0)];
 
@@ -71,10 +74,19 @@ fn plain_steps(rt: HostRuntime) -> Result<(), Fail> {
 }
 
 #[test]
-fn a_deadlock(rt: HostRuntime) -> Result<(), Fail> {
-    let mut pool = pool_of(&rt, rt.alloc(), HELD)?;
+fn deadlocks(rt: HostRuntime) -> Result<(), Fail> {
     let mutex = MutexNo { home: 0, count: 1 };
     let main = ThreadNo::new(0, 0);
+    let mut pool = pool_of(&rt, rt.alloc(), LOCKED_TWICE)?;
+    for fresh in [Fresh::Mutex(mutex), Fresh::None, Fresh::None] {
+        assert_eq!(rt; pool.ending(), Ending3::Going);
+        assert!(rt; pool.step(main, fresh).is_ok());
+    }
+    let for_itself = StepError::Waits(Wait::Lock(mutex));
+    refuses(&rt, &mut pool, 0, Fresh::None, for_itself);
+    assert_eq!(rt; pool.ending(), Ending3::Deadlocked);
+    assert!(rt; pool.output().is_empty());
+    let mut pool = pool_of(&rt, rt.alloc(), HELD)?;
     let (first, second) = (ThreadNo::new(0, 1), ThreadNo::new(0, 2));
     for (thread, need, fresh) in [
         (main, Need::Mutex, Fresh::Mutex(mutex)),
@@ -92,8 +104,8 @@ fn a_deadlock(rt: HostRuntime) -> Result<(), Fail> {
     }
     let for_pair = StepError::Waits(Wait::Par(first, second));
     refuses(&rt, &mut pool, 0, Fresh::None, for_pair);
-    let for_mutex = StepError::Waits(Wait::Lock(mutex));
-    refuses(&rt, &mut pool, 1, Fresh::None, for_mutex);
+    let for_main = StepError::Waits(Wait::Lock(mutex));
+    refuses(&rt, &mut pool, 1, Fresh::None, for_main);
     refuses(&rt, &mut pool, 2, Fresh::None, StepError::Ended);
     assert_eq!(rt; pool.ending(), Ending3::Deadlocked);
     assert_eq!(rt; pool.output(), [7].as_slice());

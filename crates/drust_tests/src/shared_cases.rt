@@ -99,7 +99,7 @@ pub const MUTEX_ORDERS: [(&str, &str, u8, &str); 10] = [
 
 /// Sources whose threads share mutexes, in the same way.
 #[rattlefmt::skip]
-pub const SHARED_ORDERS: [(&str, &str, u8, &str); 28] = [
+pub const SHARED_ORDERS: [(&str, &str, u8, &str); 29] = [
     (SHARED, "0.0 mutex 0.1\n0.0 3\n0.0 thread 0.1\n0.0 7\n0.1 7\n0.0 10\n", 0, "ended finished\nprints 1\n1\nsteps 29\n"),
     (SHARED, "0.0 mutex 0.1\n0.0 3\n0.0 thread 0.1\n0.1 7\n0.0 17\n", 0, "ended finished\nprints 1\n10\nsteps 29\n"),
     (SHARED, "0.0 mutex 0.1\n0.0 3\n0.0 thread 0.1\n0.1 1\n0.0 1\n0.1 6\n0.0 16\n", 0, "ended finished\nprints 1\n10\nsteps 29\n"),
@@ -109,6 +109,8 @@ pub const SHARED_ORDERS: [(&str, &str, u8, &str); 28] = [
     (LAST, "0.0 1\n0.0 mutex 0.1\n0.0 3\n0.0 thread 0.1\n0.0 1\n0.1 6\n0.0 5\n", 0, "ended finished\nprints 2\n7\n1\nsteps 18\n"),
     (LAST, "0.0 1\n0.0 mutex 0.1\n0.0 3\n0.0 thread 0.1\n0.0 6\n0.1 6\n", 0, "ended finished\nprints 2\n1\n7\nsteps 18\n"),
     (LAST, "0.0 1\n0.0 mutex 0.1\n0.0 3\n0.0 thread 0.1\n0.0 2\n0.1 6\n0.0 4\n", 0, "ended finished\nprints 2\n1\n7\nsteps 18\n"),
+    // main's share goes while the thread holds the mutex, whose last share goes after the unlock
+    (LAST, "0.0 1\n0.0 mutex 0.1\n0.0 3\n0.0 thread 0.1\n0.1 2\n0.0 6\n0.1 4\n", 0, "ended finished\nprints 2\n1\n7\nsteps 18\n"),
     (CROSSED, "0.0 mutex 0.1\n0.0 1\n0.0 mutex 0.2\n0.0 5\n0.0 thread 0.1\n0.0 8\n0.1 11\n0.0 7\n", 0, "ended finished\nprints 2\n2\n3\nsteps 35\n"),
     (CROSSED, "0.0 mutex 0.1\n0.0 1\n0.0 mutex 0.2\n0.0 5\n0.0 thread 0.1\n0.1 11\n0.0 15\n", 0, "ended finished\nprints 2\n3\n2\nsteps 35\n"),
     (CROSSED, "0.0 mutex 0.1\n0.0 1\n0.0 mutex 0.2\n0.0 5\n0.0 thread 0.1\n0.0 1\n0.1 10\n0.0 6\n0.1 1\n0.0 8\n", 0, "ended finished\nprints 2\n3\n2\nsteps 35\n"),

@@ -34,6 +34,7 @@ use Rattle.fr_meaning.specs.Contexts.{fill}
 use Rattle.fr_meaning.specs.DoneTerms.{over, value_of}
 use Rattle.fr_meaning.specs.FrameTerms.{around, all_around, wrapped, focus_run, AreInside}
 use Rattle.fr_meaning.specs.Next.{TopNext}
+use Rattle.fr_meaning.specs.declared.frame.TheConstants.{FRAMES}
 use Rattle.fr_meaning.specs.Threads.{run_in, IsWell, IsGoingOn, life_at, thread_of, threads_of, whole, numbers_of}
 use Rattle.fr_meaning.proofs.ContextLemmas.{depth_wrap}
 use Rattle.fr_meaning.proofs.FrameLemmas.{wrap_push, inside_front, depth_over}
@@ -79,7 +80,7 @@ pub top_run : (fs : List Form) (x : Thread) (g : Frame) (d : Done) → (h : TopN
 top_run fs x g d h = ap (λ f. wrapped fs x.frames.items (focus_run fs f)) h.at_end ∙ ap (λ gs. wrapped fs gs (over d)) h.top ∙ wrap_push fs h.around g (over d)
 
 -- without that frame it goes on as deep at most
-pub top_room : (fs : List Form) (x : Thread) (gs : List Frame) (g : Frame) (d e : Done) → IsWell fs x → (h : TopNext g x.focus x.frames.items d) → gs ≡ h.around → depth (wrapped fs gs (over e)) ≤ 128
+pub top_room : (fs : List Form) (x : Thread) (gs : List Frame) (g : Frame) (d e : Done) → IsWell fs x → (h : TopNext g x.focus x.frames.items d) → gs ≡ h.around → depth (wrapped fs gs (over e)) ≤ FRAMES
 top_room fs x gs g d e well h same =
     let less = depth_wrap (all_around fs h.around) (over e) (fill (around fs g) (over d)) (omega (arith, depth_over e)) in
     omega (arith, ap (λ ks. depth (wrapped fs ks (over e))) same, less, ap depth (top_run fs x g d h), well.depth)
@@ -89,7 +90,7 @@ pub top_inside : (fs : List Form) (x : Thread) (gs : List Frame) (g : Frame) (d 
 top_inside fs x gs g d well h same = subst (AreInside (length fs)) (sym same) (inside_front (length fs) h.around g (subst (AreInside (length fs)) h.top well.frames)).0
 
 -- a thread goes on from its focus as deep at most
-pub focus_room : (fs : List Form) (x : Thread) (v : Value) → IsWell fs x → depth (wrapped fs x.frames.items (temp v)) ≤ 128
+pub focus_room : (fs : List Form) (x : Thread) (v : Value) → IsWell fs x → depth (wrapped fs x.frames.items (temp v)) ≤ FRAMES
 focus_room fs x v well =
     let less = depth_wrap (all_around fs x.frames.items) (temp v) (focus_run fs x.focus) (omega arith) in
     omega (arith, less, well.depth)

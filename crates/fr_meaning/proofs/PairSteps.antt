@@ -22,7 +22,7 @@ use Rattle.fr_meaning.specs.declared.thread.Stage.{Stage}
 use Rattle.fr_meaning.specs.declared.thread.Thread.{Thread}
 use Rattle.fr_meaning.specs.Beside.{Beside}
 use Rattle.fr_meaning.specs.FrameTerms.{wrapped}
-use Rattle.fr_meaning.specs.Threads.{run_in, IsGoingOn, result_in, life_at, thread_of, threads_of, whole, numbers_of}
+use Rattle.fr_meaning.specs.Threads.{run_in, IsGoingOn, is_done, result_in, life_at, thread_of, threads_of, whole, numbers_of}
 use Rattle.fr_meaning.proofs.EntryLemmas.{at_same}
 use Rattle.fr_meaning.proofs.NextMoves.{frame_moves}
 use Rattle.fr_meaning.proofs.StepFacts.{no_some}
@@ -117,16 +117,17 @@ numbers_same (x ∷ xs) t k w e at =
 pub record LikeBefore (y x : Thread) : Type 0 where
   pub number : y.number ≡ x.number
   pub slots : y.slots ≡ x.slots
+  pub over : is_done x.stage ≡ true → is_done y.stage ≡ true
 
-pub like_before : (xs : List Thread) (i k : ℕ) (x w z y : Thread) → x ≡ get_or xs i x → w.number ≡ x.number → w.slots ≡ x.slots → y ≡ get_or (slice_set xs i w) k y → z ≡ get_or xs k z → k < length xs → LikeBefore y z
-like_before [] i k x w z y is n v at was lt = absurd (omega arith)
-like_before (u ∷ xs) zero zero x w z y is n v at was lt =
-    record { number = ap (λ (q : Thread). q.number) at ∙ n ∙ ap (λ (q : Thread). q.number) (is ∙ sym was); slots = ap (λ (q : Thread). q.slots) at ∙ v ∙ ap (λ (q : Thread). q.slots) (is ∙ sym was) }
-like_before (u ∷ xs) zero (suc k) x w z y is n v at was lt =
+pub like_before : (xs : List Thread) (i k : ℕ) (x w z y : Thread) → x ≡ get_or xs i x → w.number ≡ x.number → w.slots ≡ x.slots → is_done w.stage ≡ true → y ≡ get_or (slice_set xs i w) k y → z ≡ get_or xs k z → k < length xs → LikeBefore y z
+like_before [] i k x w z y is n v g at was lt = absurd (omega arith)
+like_before (u ∷ xs) zero zero x w z y is n v g at was lt =
+    record { number = ap (λ (q : Thread). q.number) at ∙ n ∙ ap (λ (q : Thread). q.number) (is ∙ sym was); slots = ap (λ (q : Thread). q.slots) at ∙ v ∙ ap (λ (q : Thread). q.slots) (is ∙ sym was); over = λ _. ap (λ (q : Thread). is_done q.stage) at ∙ g }
+like_before (u ∷ xs) zero (suc k) x w z y is n v g at was lt =
     let same = at_same xs k y z (omega arith) at was in
-    record { number = ap (λ (q : Thread). q.number) same; slots = ap (λ (q : Thread). q.slots) same }
-like_before (u ∷ xs) (suc i) zero x w z y is n v at was lt = record { number = ap (λ (q : Thread). q.number) (at ∙ sym was); slots = ap (λ (q : Thread). q.slots) (at ∙ sym was) }
-like_before (u ∷ xs) (suc i) (suc k) x w z y is n v at was lt = like_before xs i k x w z y is n v at was (omega arith)
+    record { number = ap (λ (q : Thread). q.number) same; slots = ap (λ (q : Thread). q.slots) same; over = λ e. ap (λ (q : Thread). is_done q.stage) same ∙ e }
+like_before (u ∷ xs) (suc i) zero x w z y is n v g at was lt = record { number = ap (λ (q : Thread). q.number) (at ∙ sym was); slots = ap (λ (q : Thread). q.slots) (at ∙ sym was); over = λ e. ap (λ (q : Thread). is_done q.stage) (at ∙ sym was) ∙ e }
+like_before (u ∷ xs) (suc i) (suc k) x w z y is n v g at was lt = like_before xs i k x w z y is n v g at was (omega arith)
 
 pub whole_par_end : (fs : List Form) (xs : List Thread) (beside : Beside) (output : List ℤ) (t i j k : ℕ) (p : Pair) (x y a c z w : Thread) (gs : List Frame) (one two : Value) →
     place_of (numbers_of xs) t ≡ Some i → x ≡ get_or xs i x → IsGoingOn x.stage → run_in fs x ≡ wrapped fs gs par_end → pair_of beside.pairs t ≡ Some p →

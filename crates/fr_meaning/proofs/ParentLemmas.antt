@@ -112,5 +112,17 @@ parents_less ps xs t i x y at is n h = λ u p. (
 pub end_waits_not : (f : Focus) (gs : List Frame) (d : Done) → end_of f gs ≡ Some d → f ≢ focus.ParEnd
 end_waits_not f gs d h = λ e. (let k : None ≡ Some d = ap (λ g. end_of g gs) (sym e) ∙ h in cc)
 
+-- and has no frame left
+pub end_bare : (f : Focus) (gs : List Frame) (d : Done) → end_of f gs ≡ Some d → gs ≡ []
+end_bare (focus.Over e) [] d h = refl
+end_bare (focus.Over e) (g ∷ gs) d h = cc
+end_bare (focus.Read w take) gs d h = cc
+end_bare (focus.Borrow w is_mut) gs d h = cc
+end_bare (focus.Spawn node) gs d h = cc
+end_bare (focus.Dup w) gs d h = cc
+end_bare (focus.Lock w node) gs d h = cc
+end_bare (focus.Par node) gs d h = cc
+end_bare focus.ParEnd gs d h = cc
+
 pub over_waits_not : (f : Focus) (d : Done) → f ≡ focus.Over d → f ≢ focus.ParEnd
 over_waits_not f d h = λ e. (let k : focus.Over d ≡ focus.ParEnd = sym h ∙ e in cc)

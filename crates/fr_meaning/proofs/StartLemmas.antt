@@ -15,6 +15,7 @@ use Rattle.fr_forms.specs.Depths.{depth}
 use Rattle.fr_forms.specs.FormTerms.{captures_of, captures_in, captures_at, term_of, IsSpawn}
 use Rattle.fr_meaning.specs.FrameTerms.{wrapped, focus_run, HasMadeWay}
 use Rattle.fr_acts.specs.SlotOrder.{newest_first}
+use Rattle.fr_meaning.specs.declared.frame.TheConstants.{FRAMES}
 use Rattle.fr_meaning.specs.Threads.{run_in, IsWell, life_at, thread_of, AreWell, Starts}
 use Rattle.fr_forms.proofs.FormLemmas.{get_or-any}
 use Rattle.fr_meaning.proofs.FrameLemmas.{length_depth}
@@ -26,7 +27,7 @@ pub record StartFacts (fs : List Form) (x : Thread) (node : ℕ) : Type 0 where
   pub inside : node < length fs
   pub spawn : IsSpawn (get_or fs node form.Unit)
   pub run : run_in fs x ≡ wrapped fs x.frames.items (term_of fs node)
-  pub depth : depth (term_of fs node) ≤ 128
+  pub depth : depth (term_of fs node) ≤ FRAMES
 
 pub start_facts : (fs : List Form) (xs : List Thread) (i : ℕ) (x : Thread) (node : ℕ) → i < length xs → x ≡ get_or xs i x → AreWell fs xs → Starts fs x node → StartFacts fs x node
 start_facts fs xs i x node lt is all s =

@@ -1,6 +1,6 @@
 -- Threads of the code at their places, and the plain threads that they stand for.
 use Rattle.std.proofs.Common.{◌≡◌, ◌≢◌, ℕ, ℤ, zero, suc, ◌+◌, ◌<◌, List, [], ◌∷◌, ◌++◌, length, get_or, Option, Some, None, refl, sym, ap, ◌∙◌, subst, arith}
-use Rattle.std.specs.Prelude.{◌==◌, option_map, slice_set, vec_capacity, if◌then◌else◌}
+use Rattle.std.specs.Prelude.{◌==◌, ◌≤◌, true, option_map, slice_set, vec_capacity, if◌then◌else◌}
 use Rattle.fr_plain.specs.declared.value.Value.{Value}
 use Rattle.fr_base.specs.declared.label.Plain.{Plain}
 use Rattle.fr_base.specs.declared.label.Plain.TheVariants as plain
@@ -12,6 +12,7 @@ use Rattle.fr_forms.specs.declared.forms.Form.{Form}
 use Rattle.fr_meaning.specs.declared.thread.Stage.{Stage}
 use Rattle.fr_meaning.specs.declared.thread.Stage.TheVariants as stage
 use Rattle.fr_meaning.specs.declared.thread.Thread.{Thread}
+use Rattle.fr_meaning.specs.declared.frame.TheConstants.{FRAMES}
 use Rattle.fr_meaning.specs.declared.frame.Frame.{Frame}
 use Rattle.fr_meaning.specs.declared.frame.Focus.{Focus}
 use Rattle.fr_meaning.specs.Contexts.{IsSettled}
@@ -21,7 +22,7 @@ use Rattle.fr_acts.specs.SlotOrder.{newest_first}
 use Rattle.fr_shared.specs.Places.{place_of}
 use Rattle.fr_acts.specs.MutexActs.{last_of}
 use Rattle.fr_meaning.specs.Beside.{Beside}
-use Rattle.fr_meaning.specs.Threads.{run_in, IsGoingOn, IsEnded, IsWell, life_at, thread_of, threads_of, whole, numbers_of, AreWell, after_release, released_heap, released_last}
+use Rattle.fr_meaning.specs.Threads.{run_in, HasRoom, IsGoingOn, IsEnded, is_done, after_end, IsWell, life_at, thread_of, threads_of, whole, numbers_of, AreWell, after_release, released_heap, released_last}
 use Rattle.fr_forms.proofs.FormLemmas.{eq_cases}
 use Rattle.fr_acts.proofs.ReleaseLemmas.{last_same}
 use Rattle.fr_shared.proofs.PlaceLemmas.{later_place}
@@ -50,18 +51,64 @@ thread_same fs x y s a b c d e =
     ap (λ n. by_parts fs n y.stage y.frames.items y.focus y.slots.items) a ∙ ap (λ g. by_parts fs x.number g y.frames.items y.focus y.slots.items) b
     ∙ ap (λ gs. by_parts fs x.number s gs.items y.focus y.slots.items) c ∙ ap (λ f. by_parts fs x.number s x.frames.items f y.slots.items) d ∙ ap (λ vs. by_parts fs x.number s x.frames.items x.focus vs.items) e
 
+-- ROOM
+
+-- what room a thread in progress has, and what it needs
+pub room_on : (g : Stage) (n : ℕ) → IsGoingOn g → HasRoom g n → FRAMES ≤ n
+room_on stage.Alive n on h = h
+room_on stage.Owing n on h = h
+room_on stage.Loose n on h = h
+room_on stage.Over n on h = absurd on
+room_on (stage.Ended v) n on h = absurd on
+
+pub on_room : (g : Stage) (n : ℕ) → IsGoingOn g → FRAMES ≤ n → HasRoom g n
+on_room stage.Alive n on h = h
+on_room stage.Owing n on h = h
+on_room stage.Loose n on h = h
+on_room stage.Over n on h = absurd on
+on_room (stage.Ended v) n on h = absurd on
+
+-- a thread that has ended has none
+pub over_room : (g : Stage) (n : ℕ) → is_done g ≡ true → HasRoom g n → n ≡ 0
+over_room stage.Alive n is h = absurd cc
+over_room stage.Owing n is h = absurd cc
+over_room stage.Loose n is h = absurd cc
+over_room stage.Over n is h = h
+over_room (stage.Ended v) n is h = h
+
+-- nor does one that ends
+pub end_room : (g : Stage) (v : Value) (n : ℕ) → n ≡ 0 → HasRoom (after_end g v) n
+end_room stage.Alive v n h = h
+end_room stage.Owing v n h = h
+end_room stage.Loose v n h = h
+end_room stage.Over v n h = h
+end_room (stage.Ended u) v n h = h
+
+-- and a thread whose task is dropped keeps what it has
+pub release_room : (g : Stage) (n : ℕ) → HasRoom g n → HasRoom (after_release g) n
+release_room stage.Alive n h = h
+release_room stage.Owing n h = h
+release_room stage.Loose n h = h
+release_room stage.Over n h = h
+release_room (stage.Ended v) n h = h
+
 -- is as well as it was
-pub well_same : (fs : List Form) (x y : Thread) → y.frames ≡ x.frames → y.focus ≡ x.focus → IsWell fs x → IsWell fs y
-well_same fs x y c d w =
-    let gs = ap (λ vs. vs.items) c in
+pub well_same : (fs : List Form) (x y : Thread) → y.frames.items ≡ x.frames.items → y.focus ≡ x.focus → HasRoom y.stage (vec_capacity y.frames) → IsWell fs x → IsWell fs y
+well_same fs x y gs d room w =
     let run : run_in fs y ≡ run_in fs x = ap (λ ks. wrapped fs ks (focus_run fs y.focus)) gs ∙ ap (λ f. wrapped fs x.frames.items (focus_run fs f)) d in
     record {
       frames = subst (AreInside (length fs)) (sym gs) w.frames;
       way = subst (λ (ks : List Frame). HasMadeWay fs ks y.focus) (sym gs) (subst (λ (f : Focus). HasMadeWay fs x.frames.items f) (sym d) w.way);
       settled = subst IsSettled (sym run) w.settled;
       depth = omega (arith, ap depth run, w.depth);
-      room = omega (arith, ap (λ vs. vec_capacity vs) c, w.room);
+      room = room;
     }
+
+-- and where it has ended, and nobody will have its result
+pub well_over : (fs : List Form) (x y : Thread) → y.frames ≡ x.frames → y.focus ≡ x.focus → y.stage ≡ stage.Over → is_done x.stage ≡ true → IsWell fs x → IsWell fs y
+well_over fs x y c d g is w =
+    let none = ap (λ vs. vec_capacity vs) c ∙ over_room x.stage (vec_capacity x.frames) is w.room in
+    well_same fs x y (ap (λ vs. vs.items) c) d (subst (λ (s : Stage). HasRoom s (vec_capacity y.frames)) (sym g) none) w
 
 -- a thread without a place isn't there
 pub none_there : (fs : List Form) (xs : List Thread) (t : ℕ) → place_of (numbers_of xs) t ≡ None → thread_at (threads_of fs xs) t ≡ None
@@ -111,6 +158,14 @@ stages_differ stage.Owing on e = e
 stages_differ stage.Loose on e = e
 stages_differ stage.Over on e = e
 stages_differ (stage.Ended v) on e = on
+
+-- its result is kept, so it has ended
+pub ended_done : (g : Stage) → IsEnded g → is_done g ≡ true
+ended_done stage.Alive e = absurd e
+ended_done stage.Owing e = absurd e
+ended_done stage.Loose e = absurd e
+ended_done stage.Over e = refl
+ended_done (stage.Ended v) e = refl
 
 -- so that it stands elsewhere
 pub places_differ : (xs : List Thread) (i k : ℕ) (z : Thread) → ((x : Thread) → x ≡ get_or xs i x → IsGoingOn x.stage) → z ≡ get_or xs k z → IsEnded z.stage → i ≢ k

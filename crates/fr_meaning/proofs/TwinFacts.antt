@@ -23,6 +23,7 @@ use Rattle.fr_shared.proofs.PlaceLemmas.{no_more}
 use Rattle.fr_acts.specs.SlotOrder.{newest_first}
 use Rattle.fr_meaning.specs.declared.frame.Focus.{Focus}
 use Rattle.fr_meaning.specs.declared.frame.Focus.TheVariants as focus
+use Rattle.fr_meaning.specs.declared.frame.TheConstants.{FRAMES}
 use Rattle.fr_meaning.specs.declared.frame.Frame.{Frame}
 use Rattle.fr_meaning.specs.declared.next.Next.TheVariants as next_
 use Rattle.fr_meaning.specs.declared.thread.Stage.{Stage}
@@ -31,7 +32,7 @@ use Rattle.fr_meaning.specs.declared.thread.Thread.{Thread}
 use Rattle.fr_meaning.specs.Beside.{Beside}
 use Rattle.fr_meaning.specs.Contexts.{IsSettled}
 use Rattle.fr_meaning.specs.FrameTerms.{all_around, wrapped, focus_run, AreInside, HasMadeWay}
-use Rattle.fr_meaning.specs.Threads.{run_in, IsWell, AreWell, result_in, life_at, thread_of, threads_of, whole, numbers_of}
+use Rattle.fr_meaning.specs.Threads.{run_in, HasRoom, IsWell, AreWell, result_in, life_at, thread_of, threads_of, whole, numbers_of}
 use Rattle.fr_meaning.specs.Twins.{ours_in, theirs_in, ours_at, theirs_at}
 use Rattle.fr_meaning.proofs.ContextLemmas.{settle_wrap, depth_wrap}
 use Rattle.fr_meaning.proofs.FrameLemmas.{length_depth}
@@ -53,7 +54,7 @@ theirs_here ns i e m lt is h = ap theirs_in (get_or-any ns i form.Unit e lt ∙ 
 pub record PairFacts (fs : List Form) (x : Thread) (node : ℕ) : Type 0 where
   pub well : IsWell fs x
   pub run : run_in fs x ≡ wrapped fs x.frames.items (term_of fs node)
-  pub depth : depth (term_of fs node) ≤ 128
+  pub depth : depth (term_of fs node) ≤ FRAMES
 
 pub pair_facts : (fs : List Form) (xs : List Thread) (i : ℕ) (x : Thread) (node : ℕ) → i < length xs → x ≡ get_or xs i x → AreWell fs xs → x.focus ≡ focus.Par node → PairFacts fs x node
 pair_facts fs xs i x node lt is all f =
@@ -153,8 +154,8 @@ none_push (n ∷ ns) a b h ne =
     (λ same g. cc) (λ other g. ap (option_map (λ i. suc i)) (none_push ns a b (no_more (place_of ns b) g) ne)) h
 
 -- the parent waits for the end of its pair
-pub waits_well : (fs : List Form) (x y : Thread) (node : ℕ) → PairFacts fs x node → y.frames ≡ x.frames → y.focus ≡ focus.ParEnd → IsWell fs y × (run_in fs y ≡ settle (wrapped fs x.frames.items run.par_end))
-waits_well fs x y node k gs f =
+pub waits_well : (fs : List Form) (x y : Thread) (node : ℕ) → PairFacts fs x node → y.frames ≡ x.frames → y.focus ≡ focus.ParEnd → y.stage ≡ x.stage → IsWell fs y × (run_in fs y ≡ settle (wrapped fs x.frames.items run.par_end))
+waits_well fs x y node k gs f g =
     let items = ap (λ (vs : Vec Frame Global). vs.items) gs in
     let is = ap (λ (ks : List Frame). wrapped fs ks (focus_run fs y.focus)) items ∙ ap (λ (g : Focus). wrapped fs x.frames.items (focus_run fs g)) f in
     let settles = settle_wrap (all_around fs x.frames.items) run.par_end refl in
@@ -164,7 +165,7 @@ waits_well fs x y node k gs f =
         way = subst (λ (g : Focus). HasMadeWay fs y.frames.items g) (sym f) tt;
         settled = subst IsSettled (settles ∙ sym is) (settle_settled (wrapped fs x.frames.items run.par_end));
         depth = omega (arith, ap depth is, low, ap depth k.run, k.well.depth);
-        room = omega (arith, ap (λ (vs : Vec Frame Global). vec_capacity vs) gs, k.well.room);
+        room = subst (λ (s : Stage). HasRoom s (vec_capacity y.frames)) (sym g) (subst (HasRoom x.stage) (sym (ap (λ (vs : Vec Frame Global). vec_capacity vs) gs)) k.well.room);
       },
       is ∙ sym settles,
     )

@@ -18,6 +18,7 @@ use Rattle.fr_meaning.specs.Contexts.{IsSettled}
 use Rattle.fr_forms.specs.Depths.{depth}
 use Rattle.fr_base.specs.declared.label.Plain.TheVariants.{Task}
 use Rattle.fr_plain.specs.declared.value.Value.TheVariants.{Own}
+use Rattle.fr_meaning.specs.declared.frame.TheConstants.{FRAMES}
 use Rattle.fr_meaning.specs.declared.frame.Done.{Done}
 use Rattle.fr_meaning.specs.declared.frame.Frame.{Frame}
 use Rattle.fr_meaning.specs.declared.frame.Frame.TheVariants as frame
@@ -36,14 +37,22 @@ use Rattle.fr_acts.specs.SlotOrder.{newest_first}
 abbrev pub run_in : List Form → Thread → Run
 run_in fs x = wrapped fs x.frames.items (focus_run fs x.focus)
 
--- the frames name forms, no left operand that is done is waited for, all that needs no step has vanished, and no step
--- needs more frames
+-- a thread that goes on has room for all frames that it comes to, and one that has ended has no room for frames
+abbrev pub HasRoom : Stage → ℕ → Type 0
+HasRoom stage.Alive room = FRAMES ≤ room
+HasRoom stage.Owing room = FRAMES ≤ room
+HasRoom stage.Loose room = FRAMES ≤ room
+HasRoom stage.Over room = room ≡ 0
+HasRoom (stage.Ended v) room = room ≡ 0
+
+-- the frames name forms, no left operand that is done is waited for, all that needs no step has vanished, no step
+-- needs more frames, and there is room for them as long as the thread goes on
 pub record IsWell (fs : List Form) (x : Thread) : Type 0 where
   pub frames : AreInside (length fs) x.frames.items
   pub way : HasMadeWay fs x.frames.items x.focus
   pub settled : IsSettled (run_in fs x)
-  pub depth : depth (run_in fs x) ≤ 128
-  pub room : 128 ≤ vec_capacity x.frames
+  pub depth : depth (run_in fs x) ≤ FRAMES
+  pub room : HasRoom x.stage (vec_capacity x.frames)
 
 -- the thread is in progress
 abbrev pub IsGoingOn : Stage → Type 0

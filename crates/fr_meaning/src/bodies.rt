@@ -9,10 +9,10 @@ ghost use Rattle.fr_forms.specs.Depths.{depth};
 ghost use Rattle.fr_forms.specs.FormTerms.{AreInOrder, IsLock, body_run, term_of, items_at};
 ghost use Rattle.fr_meaning.specs.declared.thread.Stage.TheVariants as stage_;
 ghost use Rattle.fr_meaning.specs.FrameTerms.{Enters, wrapped, AreInside};
-ghost use Rattle.fr_meaning.specs.Threads.{IsWell, run_in};
+ghost use Rattle.fr_meaning.specs.Threads.{IsGoingOn, IsWell, run_in};
 
 use crate::control::{end_items, enter, focus_in, leave_top};
-use crate::frame::{Done, Entered, Frame};
+use crate::frame::{Done, Entered, FRAMES, Frame};
 use crate::thread::{Stage, Thread};
 use fr_base::{Plain, ThreadNo};
 use fr_forms::{Body, Form};
@@ -82,8 +82,9 @@ pub fn enter_locked(forms: &[Form], thread: &mut Thread, node: usize)
     requires inside { node < length forms.now }
     requires lock { (w : Lval) × IsLock w (slice_index_or forms.now node form_.Unit) }
     requires frames { AreInside (length forms.now) thread.old.frames.items }
-    requires room { depth (wrapped forms.now thread.old.frames.items (term_of forms.now node)) ≤ 128 }
-    requires capacity { 128 ≤ vec_capacity thread.old.frames }
+    requires room { depth (wrapped forms.now thread.old.frames.items (term_of forms.now node)) ≤ FRAMES }
+    requires on { IsGoingOn thread.old.stage }
+    requires capacity { FRAMES ≤ vec_capacity thread.old.frames }
     ensures run { (w : Lval) (r : Run) → term_of forms.now node ≡ lock w r → run_in forms.now thread.new ≡ settle (wrapped forms.now thread.old.frames.items (locked r)) }
     ensures well { IsWell forms.now thread.new }
     ensures number { thread.new.number ≡ thread.old.number }
@@ -118,8 +119,8 @@ pub fn start_body(
     requires none { items_at forms.now node ≡ [] }
     requires part { body.now.term < length forms.now }
     requires empty { frames.items ≡ [] }
-    requires room { 128 ≤ vec_capacity frames }
-    requires depth { depth (body_run (term_of forms.now) body.now) ≤ 128 }
+    requires room { FRAMES ≤ vec_capacity frames }
+    requires depth { depth (body_run (term_of forms.now) body.now) ≤ FRAMES }
     ensures run { run_in forms.now result ≡ settle (body_run (term_of forms.now) body.now) }
     ensures well { IsWell forms.now result }
     ensures number { result.number ≡ number }

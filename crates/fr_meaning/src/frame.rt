@@ -3,6 +3,10 @@
 use fr_base::{Lval, Op};
 use fr_plain::Value;
 
+/// How many frames a thread that goes on has room for: no term that it comes to is deeper. A source is at most 64 terms deep, and a term
+/// at most twice as deep as its source, since a lock's body that declares variables outside of its blocks stands in a block of its own.
+pub const FRAMES: usize = 128;
+
 /// A term that is done: a constant, or the value that a step left.
 #[derive(Clone, Copy)]
 pub enum Done {

@@ -10,7 +10,7 @@ ghost use Rattle.fr_forms.specs.FormTerms.{AreInOrder, term_of, parts_of, items_
 ghost use Rattle.fr_meaning.specs.DoneTerms.{over, value_of};
 ghost use Rattle.fr_meaning.specs.FrameTerms.{wrapped, around, around_items, focus_run, AreInside, IsInside, HasLastPart, IsPastLeft, HasMadeWay, end_of};
 ghost use Rattle.fr_acts.specs.Acting.{state};
-ghost use Rattle.fr_meaning.specs.Threads.{IsWell, run_in};
+ghost use Rattle.fr_meaning.specs.Threads.{IsGoingOn, IsWell, run_in};
 ghost use Rattle.fr_meaning.specs.Turning.{turned, turns_to, term_step, frame_labels, focus_labels};
 
 use crate::control::{enter_items, has_item, leave};
@@ -230,6 +230,7 @@ pub fn step_alone(
 ) -> Released
     requires order { AreInOrder forms.now }
     requires well { IsWell forms.now thread.old }
+    requires goes_on { IsGoingOn thread.old.stage }
     requires on { end_of thread.old.focus thread.old.frames.items ≡ None }
     requires goes { IsSome (term_step (run_in forms.now thread.old) (state thread.old.number thread.old.slots.items heap.old.heap)) }
     requires slots { vec_len thread.old.slots < vec_capacity thread.old.slots }

@@ -12,6 +12,7 @@ ghost use Rattle.fr_forms.specs.FormTerms.{AreInOrder, root_of};
 ghost use Rattle.fr_meaning.specs.PoolView.{whole_of, steps_left_of, refusal, need_of};
 
 use crate::error::StepError;
+use crate::frame::FRAMES;
 use crate::need::Need;
 use crate::running::{Running, go, run_alone};
 use crate::standing::{ending_in, need_in, refused_by};
@@ -24,7 +25,9 @@ use std::marker::Model;
 
 /// A program and its plain state: the threads in the order in which they were started, the one heap, the mutexes, the pairs and the
 /// output.
-/// Contracts see the plain state, and not what room there is.
+/// Contracts see the plain state, and not what room there is. Peak memory per thread: one that goes on has room for 128 frames, 6 KB, and
+/// for its slots; one that has ended keeps neither, but its entry in the lists, with its result where somebody has its task: some 250 bytes
+/// (measured, with the room that these lists have for more). Each object that was made keeps its cell of the heap, and each mutex its entry.
 #[derive(Drop)]
 pub struct Pool {
     alloc: Global,
@@ -58,13 +61,13 @@ impl Pool {
     fn from_forms(alloc: Global, forms: Vec<Form>) -> Result<Pool, NoMemory>
         requires order { AreInOrder forms.items }
         requires root { 0 < length forms.items }
-        requires depth { depth (root_of forms.items) ≤ 128 }
+        requires depth { depth (root_of forms.items) ≤ FRAMES }
         requires typed { AreTypedTerms (start (root_of forms.items)) }
         ensures start { IfOk result (λ p. whole_of p ≡ start (root_of forms.items)) }
         ensures typed { IfOk result (λ p. AreTypedTerms (whole_of p)) }
     {
         let mut frames = Vec::new(alloc);
-        frames.reserve(128)?;
+        frames.reserve(FRAMES)?;
         let main = main_thread(&forms, frames, Vec::new(alloc));
         let running = run_alone(alloc, main)?;
         Ok(Pool {
@@ -77,7 +80,8 @@ impl Pool {
     /// One step of a thread under these new names, with its labels. The refusals, in this order, each with the pool
     /// unchanged: `NoThread` (no such thread was started), `Ended`, `Waits` (it joins a thread that goes on, locks a mutex whose content is out, or waits for
     /// the end of a pair), `NameKind`
-    /// (the names aren't of the kind that the step takes), `NameUsed` (the name was given before), and `NoMemory`. Takes no
+    /// (the names aren't of the kind that the step takes), `NameUsed` (the name was given before), and `NoMemory`: the allocator has none,
+    /// or the step is a `dup` of a mutex that has 2^64 - 1 shares, as no more can be counted. Takes no
     /// time in the number of threads, but for those that go because their tasks are dropped.
     pub fn step(&mut self, thread: ThreadNo, fresh: Fresh) -> Result<Labels, StepError>
         ensures stepped { IfOk result (λ l. step (whole_of self.old) thread fresh ≡ Some (record { state = whole_of self.new; labels = l.items })) }

@@ -15,7 +15,7 @@ ghost use Rattle.fr_meaning.specs.Entries.{entry_of};
 ghost use Rattle.fr_meaning.specs.Running.{plain_of, view_of, Stands};
 
 use crate::common::Common;
-use crate::frame::Done;
+use crate::frame::{Done, FRAMES};
 use crate::locks::{go_dup, go_lock, go_making, go_unlock};
 use crate::machine::labels_ahead;
 use crate::next::{Next, next_of, task_named_by};
@@ -195,7 +195,7 @@ fn go_starting(
     let mut labels = Labels::new(alloc);
     labels.reserve(1)?;
     let mut frames = Vec::new(alloc);
-    frames.reserve(128)?;
+    frames.reserve(FRAMES)?;
     let mut slots = Vec::new(alloc);
     slots.reserve(captured(forms, node))?;
     running.threads.reserve(1)?;

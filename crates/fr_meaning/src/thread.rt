@@ -15,7 +15,7 @@ ghost use Rattle.fr_meaning.specs.Threads.{IsWell, IsGoingOn, IsEnded, run_in, e
 ghost use Rattle.fr_acts.specs.Acting.{state, did, releases};
 
 use crate::control::{enter, enter_items, focus_in, leave};
-use crate::frame::{Done, Focus, Frame};
+use crate::frame::{Done, FRAMES, Focus, Frame};
 use crate::machine::value_in;
 use fr_acts::{drop_result, finish, keep_result};
 use fr_base::{Labels, Plain, ThreadNo};
@@ -48,8 +48,8 @@ pub struct Thread {
     pub slots: Vec<Value>,
 }
 
-/// The end of a thread whose term is done. Gives what goes last with a value that is dropped.
-pub fn end(thread: &mut Thread, heap: &mut Heap, labels: &mut Labels, done: Done) -> Released
+// The last act of a thread whose term is done. Gives what goes last with a value that is dropped.
+fn last_act(thread: &mut Thread, heap: &mut Heap, labels: &mut Labels, done: Done) -> Released
     requires goes { IsGoingOn thread.old.stage }
     requires labels { labels.old.items ≡ [] }
     requires room { 2 ≤ labels.old.spare }
@@ -79,6 +79,29 @@ pub fn end(thread: &mut Thread, heap: &mut Heap, labels: &mut Labels, done: Done
         Stage::Over => unreachable!(),
         Stage::Ended(_) => unreachable!(),
     }
+}
+
+/// The end of a thread whose term is done: its last act, after which it keeps no room. Gives what goes last with a value that is
+/// dropped.
+pub fn end(thread: &mut Thread, heap: &mut Heap, labels: &mut Labels, done: Done) -> Released
+    requires goes { IsGoingOn thread.old.stage }
+    requires none { thread.old.frames.items ≡ [] }
+    requires labels { labels.old.items ≡ [] }
+    requires room { 2 ≤ labels.old.spare }
+    ensures act { act (end_act thread.old.stage (value_of done)) (state thread.old.number thread.old.slots.items heap.old.heap) ≡ did (end_value thread.old.stage (value_of done)) thread.old.number thread.new.slots.items heap.new.heap labels.new.items }
+    ensures released { result ≡ releases (end_act thread.old.stage (value_of done)) (state thread.old.number thread.old.slots.items heap.old.heap) }
+    ensures stage { thread.new.stage ≡ after_end thread.old.stage (value_of done) }
+    ensures number { thread.new.number ≡ thread.old.number }
+    ensures frames { thread.new.frames.items ≡ thread.old.frames.items }
+    ensures frame_room { vec_capacity thread.new.frames ≡ 0 }
+    ensures focus { thread.new.focus ≡ thread.old.focus }
+    ensures slots { thread.new.slots.items ≡ thread.old.slots.items }
+    ensures slot_room { thread.old.slots.items ≡ [] → vec_capacity thread.new.slots ≡ 0 }
+{
+    let released = last_act(thread, heap, labels, done);
+    thread.frames.shrink_to_fit();
+    thread.slots.shrink_to_fit();
+    released
 }
 
 /// The result of a thread that has ended, which nobody will have again.
@@ -144,8 +167,8 @@ pub fn start(
     requires order { AreInOrder forms.now }
     requires inside { node < length forms.now }
     requires none { frames.items ≡ [] }
-    requires room { 128 ≤ vec_capacity frames }
-    requires depth { depth (block drops (parts_of (term_of forms.now) (items_at forms.now node))) ≤ 128 }
+    requires room { FRAMES ≤ vec_capacity frames }
+    requires depth { depth (block drops (parts_of (term_of forms.now) (items_at forms.now node))) ≤ FRAMES }
     ensures run { run_in forms.now result ≡ settle (block drops (parts_of (term_of forms.now) (items_at forms.now node))) }
     ensures well { IsWell forms.now result }
     ensures number { result.number ≡ number }
@@ -168,8 +191,8 @@ pub fn main_thread(forms: &[Form], frames: Vec<Frame>, slots: Vec<Value>) -> Thr
     requires order { AreInOrder forms.now }
     requires root { 0 < length forms.now }
     requires none { frames.items ≡ [] }
-    requires room { 128 ≤ vec_capacity frames }
-    requires depth { depth (root_of forms.now) ≤ 128 }
+    requires room { FRAMES ≤ vec_capacity frames }
+    requires depth { depth (root_of forms.now) ≤ FRAMES }
     ensures run { run_in forms.now result ≡ settle (root_of forms.now) }
     ensures well { IsWell forms.now result }
     ensures number { result.number ≡ 0 }
@@ -192,8 +215,9 @@ pub fn main_thread(forms: &[Form], frames: Vec<Frame>, slots: Vec<Value>) -> Thr
 pub fn resume(forms: &[Form], thread: &mut Thread, done: Done)
     requires order { AreInOrder forms.now }
     requires inside { AreInside (length forms.now) thread.old.frames.items }
-    requires room { depth (wrapped forms.now thread.old.frames.items (over done)) ≤ 128 }
-    requires capacity { 128 ≤ vec_capacity thread.old.frames }
+    requires room { depth (wrapped forms.now thread.old.frames.items (over done)) ≤ FRAMES }
+    requires on { IsGoingOn thread.old.stage }
+    requires capacity { FRAMES ≤ vec_capacity thread.old.frames }
     ensures run { run_in forms.now thread.new ≡ settle (wrapped forms.now thread.old.frames.items (over done)) }
     ensures well { IsWell forms.now thread.new }
     ensures number { thread.new.number ≡ thread.old.number }

@@ -17,7 +17,7 @@ ghost use Rattle.fr_meaning.specs.Threads.{AreWell, CanGo, IsEnded, IsGoingOn, J
 
 use crate::common::Common;
 use crate::control::leave_top;
-use crate::frame::{Done, Frame};
+use crate::frame::{Done, FRAMES, Frame};
 use crate::machine::step_alone;
 use crate::running::Running;
 use crate::thread::{Stage, Thread, end, pass_captures, resume, start, take_result};
@@ -202,7 +202,7 @@ pub fn go_start(
     requires starts { (x : Thread) → x ≡ slice_index_or running.old.threads.items turn.now.at x → Starts forms.now x node }
     requires new { place_of running.old.places.numbers made.number ≡ None }
     requires frames { made.frames.items ≡ [] }
-    requires frame_room { 128 ≤ vec_capacity made.frames }
+    requires frame_room { FRAMES ≤ vec_capacity made.frames }
     requires slots { made.slots.items ≡ [] }
     requires slot_room { length (captures_at forms.now node) ≤ vec_capacity made.slots }
     requires thread_room { vec_len running.old.threads < vec_capacity running.old.threads }

@@ -13,7 +13,7 @@ ghost use Rattle.fr_meaning.specs.Running.{plain_of, view_of, Stands};
 ghost use Rattle.fr_meaning.specs.Twins.{StartsPair, ours_at, theirs_at};
 
 use crate::bodies::start_body;
-use crate::frame::{Done, Focus};
+use crate::frame::{Done, FRAMES, Focus};
 use crate::running::Running;
 use crate::thread::{Stage, pass_captures, resume};
 use crate::threads::{Made, Runner};
@@ -46,12 +46,12 @@ fn captured_by(forms: &[Form], node: usize) -> (usize, usize)
 fn make(alloc: Global, number: ThreadNo, captures: usize) -> Result<Made, NoMemory>
     ensures number { IfOk result (λ m. m.number ≡ number) }
     ensures frames { IfOk result (λ m. m.frames.items ≡ []) }
-    ensures frame_room { IfOk result (λ m. 128 ≤ vec_capacity m.frames) }
+    ensures frame_room { IfOk result (λ m. FRAMES ≤ vec_capacity m.frames) }
     ensures slots { IfOk result (λ m. m.slots.items ≡ []) }
     ensures slot_room { IfOk result (λ m. captures ≤ vec_capacity m.slots) }
 {
     let mut frames = Vec::new(alloc);
-    frames.reserve(128)?;
+    frames.reserve(FRAMES)?;
     let mut slots = Vec::new(alloc);
     slots.reserve(captures)?;
     Ok(Made {
@@ -81,11 +81,11 @@ fn start_pair(
     requires new_theirs { place_of running.old.places.numbers twins.theirs.number ≡ None }
     requires apart { twins.ours.number ≢ twins.theirs.number }
     requires our_frames { twins.ours.frames.items ≡ [] }
-    requires our_frame_room { 128 ≤ vec_capacity twins.ours.frames }
+    requires our_frame_room { FRAMES ≤ vec_capacity twins.ours.frames }
     requires our_slots { twins.ours.slots.items ≡ [] }
     requires our_slot_room { length (ours_at forms.now node) ≤ vec_capacity twins.ours.slots }
     requires their_frames { twins.theirs.frames.items ≡ [] }
-    requires their_frame_room { 128 ≤ vec_capacity twins.theirs.frames }
+    requires their_frame_room { FRAMES ≤ vec_capacity twins.theirs.frames }
     requires their_slots { twins.theirs.slots.items ≡ [] }
     requires their_slot_room { length (theirs_at forms.now node) ≤ vec_capacity twins.theirs.slots }
     requires thread_room { vec_len running.old.threads + 2 ≤ vec_capacity running.old.threads }

@@ -1,4 +1,4 @@
-use Rattle.std.proofs.Common.{◌<◌, length, refl, sym, ap, ◌∙◌, subst, arith}
+use Rattle.std.proofs.Common.{◌<◌, length, refl, sym, ap, ◌∙◌, subst, arith, vec_capacity}
 use Rattle.fr_plain.specs.Resolve.{dropping}
 use Rattle.fr_plain.specs.Run.{locked, settle}
 use Rattle.fr_forms.specs.Depths.{depth}
@@ -6,19 +6,21 @@ use Rattle.fr_forms.specs.FormTerms.{term_of}
 use Rattle.fr_forms.specs.declared.forms.Form.TheVariants as form
 use Rattle.fr_forms.proofs.FormLemmas.{form_term, form_below}
 use Rattle.fr_meaning.specs.declared.frame.Focus.{Focus}
+use Rattle.fr_meaning.specs.declared.frame.TheConstants.{FRAMES}
 use Rattle.fr_meaning.specs.declared.frame.Frame.TheVariants as frame
 use Rattle.fr_meaning.specs.FrameTerms.{wrapped, all_around, focus_run, AreInside, HasMadeWay}
 use Rattle.fr_meaning.proofs.BodyLemmas.{lock_entered, same_lock}
 use Rattle.fr_meaning.proofs.ContextLemmas.{depth_wrap}
 use Rattle.fr_meaning.proofs.FrameLemmas.{inside_push, has_place, room_in}
 use Rattle.fr_meaning.proofs.ThreadLemmas.{settle_kept}
+use Rattle.fr_meaning.proofs.ThreadLists.{on_room}
 use Rattle.fr_meaning.proofs.bodies.enter_locked.Goals as goal
 
 pub push_reserved-requires : goal.push_reserved-requires
 push_reserved-requires c =
     let fs = c.args.forms.now in
     let term = form_term fs c.args.node c.index-forms-node.result (form.Lock c.in-Lock.field-0 c.in-Lock.body c.in-Lock.drops) c.requires.order c.requires.inside c.index-forms-node.is c.in-Lock.is in
-    let p = has_place fs c.args.thread.now.frames.items (term_of fs c.args.node) 128 (omega (arith, ap depth term)) c.requires.room in
+    let p = has_place fs c.args.thread.now.frames.items (term_of fs c.args.node) FRAMES (omega (arith, ap depth term)) c.requires.room in
     omega (arith, p, c.requires.capacity, c.args.thread.now.frames.ok)
 
 pub enter_dropping-requires-clause-part : goal.enter_dropping-requires-clause-part
@@ -36,7 +38,7 @@ enter_dropping-requires-clause-room c =
     let fs = c.args.forms.now in
     let term = form_term fs c.args.node c.index-forms-node.result (form.Lock c.in-Lock.field-0 c.in-Lock.body c.in-Lock.drops) c.requires.order c.requires.inside c.index-forms-node.is c.in-Lock.is in
     let r = dropping c.in-Lock.drops (term_of fs c.in-Lock.body) in
-    let room = room_in fs c.args.thread.now.frames.items c.push_reserved.new.self.items frame.Locked (term_of fs c.args.node) r 128 128 c.push_reserved.ensures.items (omega (arith, ap depth term)) c.requires.room refl in
+    let room = room_in fs c.args.thread.now.frames.items c.push_reserved.new.self.items frame.Locked (term_of fs c.args.node) r FRAMES FRAMES c.push_reserved.ensures.items (omega (arith, ap depth term)) c.requires.room refl in
     omega (arith, room, c.push_reserved.ensures.capacity, c.requires.capacity)
 
 pub returns-clause-run : goal.returns-clause-run
@@ -66,5 +68,5 @@ returns-clause-well c =
       way = subst (λ (f : Focus). HasMadeWay fs x.new.frames.items f) (sym c.focus_in-thread.ensures) l.1;
       settled = kept.0;
       depth = omega (arith, kept.1, low, c.requires.room);
-      room = omega (arith, x.ensures.capacity, c.push_reserved.ensures.capacity, c.requires.capacity);
+      room = on_room c.args.thread.now.stage (vec_capacity x.new.frames) c.requires.on (omega (arith, x.ensures.capacity, c.push_reserved.ensures.capacity, c.requires.capacity));
     }

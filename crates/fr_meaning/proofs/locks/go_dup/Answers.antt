@@ -1,4 +1,4 @@
-use Rattle.std.proofs.Common.{◌≡◌, List, refl, sym, ap, ◌∙◌, subst}
+use Rattle.std.proofs.Common.{◌≡◌, List, refl, sym, ap, ◌∙◌, subst, vec_capacity}
 use Rattle.fr_base.specs.declared.step.Fresh.TheVariants as fresh
 use Rattle.fr_plain.specs.Acts.{do_dup}
 use Rattle.fr_plain.specs.Run.{Move, Run, temp, dup as dup_r}
@@ -14,7 +14,7 @@ use Rattle.fr_meaning.specs.FrameTerms.{wrapped, focus_run}
 use Rattle.fr_meaning.proofs.LockSteps.{whole_leads, dup_steps, focus_room}
 use Rattle.fr_meaning.proofs.ParentLemmas.{parents_step}
 use Rattle.fr_meaning.proofs.StepFacts.{steps_at, is_on}
-use Rattle.fr_meaning.proofs.ThreadLists.{numbers_set, well_at, well_set}
+use Rattle.fr_meaning.proofs.ThreadLists.{numbers_set, room_on, well_at, well_set}
 use Rattle.fr_meaning.proofs.locks.go_dup.Goals as goal
 
 pub dup-copied-requires-clause-goes : goal.dup-copied-requires-clause-goes
@@ -39,10 +39,14 @@ resume-requires-clause-room c =
     let is = c.index_mut-thread.ensures.value in
     focus_room fs x c.dup-copied.result (well_at fs xs c.args.turn.now.at x c.requires.inside is c.requires.stands.well)
 
+pub resume-requires-clause-on : goal.resume-requires-clause-on
+resume-requires-clause-on c = is_on (steps_at c.args.forms.now c.args.running.now.threads.items (beside_of c.args.running.now.common) c.args.running.now.output.items c.args.turn.now.thread fresh.None c.args.turn.now.at (next.Dup c.args.place) c.args.running.now.places.numbers c.requires.order c.requires.stands.well c.requires.stands.numbers c.requires.place c.requires.inside c.requires.next c.requires.goes c.index_mut-thread.result.now c.index_mut-thread.ensures.value)
+
 pub resume-requires-clause-capacity : goal.resume-requires-clause-capacity
 resume-requires-clause-capacity c =
-    let xs = c.args.running.now.threads.items in
-    (well_at c.args.forms.now xs c.args.turn.now.at c.index_mut-thread.result.now c.requires.inside c.index_mut-thread.ensures.value c.requires.stands.well).room
+    let x = c.index_mut-thread.result.now in
+    let s = steps_at c.args.forms.now c.args.running.now.threads.items (beside_of c.args.running.now.common) c.args.running.now.output.items c.args.turn.now.thread fresh.None c.args.turn.now.at (next.Dup c.args.place) c.args.running.now.places.numbers c.requires.order c.requires.stands.well c.requires.stands.numbers c.requires.place c.requires.inside c.requires.next c.requires.goes c.index_mut-thread.result.now c.index_mut-thread.ensures.value in
+    room_on x.stage (vec_capacity x.frames) (is_on s) s.well.room
 
 pub returns-clause-step : goal.returns-clause-step
 returns-clause-step c =

@@ -1,4 +1,4 @@
-use Rattle.std.proofs.Common.{◌≡◌, List, refl, sym, ap, ◌∙◌, subst, arith}
+use Rattle.std.proofs.Common.{◌≡◌, List, refl, sym, ap, ◌∙◌, subst, arith, vec_capacity}
 use Rattle.std.specs.Prelude.{IsSome, slice_set}
 use Rattle.fr_base.specs.declared.step.Fresh.TheVariants as fresh
 use Rattle.fr_plain.specs.Acts.{do_lock, unit}
@@ -19,11 +19,12 @@ use Rattle.fr_meaning.specs.declared.frame.Frame.{Frame}
 use Rattle.fr_meaning.specs.Beside.{beside_of}
 use Rattle.fr_meaning.specs.FrameTerms.{wrapped, focus_run, HasMadeWay}
 use Rattle.fr_meaning.specs.PoolView.{Entry}
+use Rattle.fr_meaning.specs.Threads.{IsGoingOn}
 use Rattle.fr_meaning.proofs.EntryLemmas.{entries_set, view_same, reserved, on_err}
 use Rattle.fr_meaning.proofs.LockSteps.{whole_leads, lock_steps}
 use Rattle.fr_meaning.proofs.ParentLemmas.{parents_same, parents_step}
 use Rattle.fr_meaning.proofs.StepFacts.{steps_at, is_on}
-use Rattle.fr_meaning.proofs.ThreadLists.{numbers_set, well_at, well_set}
+use Rattle.fr_meaning.proofs.ThreadLists.{numbers_set, room_on, well_at, well_set}
 use Rattle.fr_meaning.proofs.locks.go_lock.Goals as goal
 
 pub returns-in_err-reserve_lock-clause-stands : goal.returns-in_err-reserve_lock-clause-stands
@@ -89,13 +90,15 @@ enter_locked-requires-clause-room c =
     let e : z.focus ≡ focus.Lock c.args.place c.args.node = ap (λ (q : Entry). q.focus) c.reserve_lock.ensures.entry ∙ c.requires.next x is in
     omega (arith, ap (λ (f : Focus). depth (wrapped fs z.frames.items (focus_run fs f))) e, well.depth)
 
+pub enter_locked-requires-clause-on : goal.enter_locked-requires-clause-on
+enter_locked-requires-clause-on c = subst IsGoingOn (sym (ap (λ (q : Entry). q.stage) c.reserve_lock.ensures.entry)) (is_on (steps_at c.args.forms.now c.args.running.now.threads.items (beside_of c.args.running.now.common) c.args.running.now.output.items c.args.turn.now.thread fresh.None c.args.turn.now.at (next.Lock c.args.place c.args.node) c.args.running.now.places.numbers c.requires.order c.requires.stands.well c.requires.stands.numbers c.requires.place c.requires.inside c.requires.next c.requires.goes c.index_mut-locking.result.now c.index_mut-locking.ensures.value))
+
 pub enter_locked-requires-clause-capacity : goal.enter_locked-requires-clause-capacity
 enter_locked-requires-clause-capacity c =
-    let fs = c.args.forms.now in
-    let xs = c.args.running.now.threads.items in
-    let x = c.index_mut-locking.result.now in
-    let is = c.index_mut-locking.ensures.value in
-    (c.reserve_lock.ensures.well fs (well_at fs xs c.args.turn.now.at x c.requires.inside is c.requires.stands.well)).room
+    let z = c.reserve_lock.new.thread in
+    let s = steps_at c.args.forms.now c.args.running.now.threads.items (beside_of c.args.running.now.common) c.args.running.now.output.items c.args.turn.now.thread fresh.None c.args.turn.now.at (next.Lock c.args.place c.args.node) c.args.running.now.places.numbers c.requires.order c.requires.stands.well c.requires.stands.numbers c.requires.place c.requires.inside c.requires.next c.requires.goes c.index_mut-locking.result.now c.index_mut-locking.ensures.value in
+    let on = subst IsGoingOn (sym (ap (λ (q : Entry). q.stage) c.reserve_lock.ensures.entry)) (is_on s) in
+    room_on z.stage (vec_capacity z.frames) on (c.reserve_lock.ensures.well c.args.forms.now s.well).room
 
 pub returns-clause-step : goal.returns-clause-step
 returns-clause-step c =

@@ -1,4 +1,4 @@
-use Rattle.std.proofs.Common.{◌≡◌, List, [], refl, sym, ap, ◌∙◌, arith}
+use Rattle.std.proofs.Common.{◌≡◌, List, [], refl, sym, ap, ◌∙◌, arith, vec_capacity}
 use Rattle.std.specs.Prelude.{slice_set}
 use Rattle.fr_base.specs.declared.step.Fresh.TheVariants as fresh
 use Rattle.fr_plain.specs.MachineThreads.{Mutex, mutex_at}
@@ -16,7 +16,7 @@ use Rattle.fr_meaning.specs.Threads.{whole}
 use Rattle.fr_meaning.proofs.LockSteps.{whole_leads, make_steps, make_move, top_run, top_room, top_inside, leads_as}
 use Rattle.fr_meaning.proofs.ParentLemmas.{parents_step, over_waits_not}
 use Rattle.fr_meaning.proofs.StepFacts.{steps_at, is_on, thread_here}
-use Rattle.fr_meaning.proofs.ThreadLists.{numbers_set, well_at, well_set}
+use Rattle.fr_meaning.proofs.ThreadLists.{numbers_set, room_on, well_at, well_set}
 use Rattle.fr_meaning.proofs.WholeSteps.{stepped_to}
 use Rattle.fr_meaning.proofs.locks.go_making.Goals as goal
 
@@ -69,14 +69,14 @@ resume-requires-clause-room c =
     let well = well_at fs xs c.args.turn.now.at x c.requires.inside is c.requires.stands.well in
     top_room fs x c.leave_top.new.frames.items frame.Mutex n.done (done.Temp c.new_mutex-made.result) well n.next (c.leave_top.ensures.frames n.next.around frame.Mutex n.next.top)
 
+pub resume-requires-clause-on : goal.resume-requires-clause-on
+resume-requires-clause-on c = is_on (steps_at c.args.forms.now c.args.running.now.threads.items (beside_of c.args.running.now.common) c.args.running.now.output.items c.args.turn.now.thread c.args.fresh c.args.turn.now.at (next.Mutex c.args.value) c.args.running.now.places.numbers c.requires.order c.requires.stands.well c.requires.stands.numbers c.requires.place c.requires.inside c.requires.next c.requires.goes c.index_mut-making.result.now c.index_mut-making.ensures.value)
+
 pub resume-requires-clause-capacity : goal.resume-requires-clause-capacity
 resume-requires-clause-capacity c =
-    let fs = c.args.forms.now in
-    let xs = c.args.running.now.threads.items in
     let x = c.index_mut-making.result.now in
-    let is = c.index_mut-making.ensures.value in
-    let well = well_at fs xs c.args.turn.now.at x c.requires.inside is c.requires.stands.well in
-    omega (arith, c.leave_top.ensures.capacity, well.room)
+    let s = steps_at c.args.forms.now c.args.running.now.threads.items (beside_of c.args.running.now.common) c.args.running.now.output.items c.args.turn.now.thread c.args.fresh c.args.turn.now.at (next.Mutex c.args.value) c.args.running.now.places.numbers c.requires.order c.requires.stands.well c.requires.stands.numbers c.requires.place c.requires.inside c.requires.next c.requires.goes c.index_mut-making.result.now c.index_mut-making.ensures.value in
+    omega (arith, c.leave_top.ensures.capacity, room_on x.stage (vec_capacity x.frames) (is_on s) s.well.room)
 
 pub returns-clause-step : goal.returns-clause-step
 returns-clause-step c =

@@ -1,4 +1,4 @@
-use Rattle.std.proofs.Common.{List, refl, sym, ap, ◌∙◌, subst, arith}
+use Rattle.std.proofs.Common.{List, refl, sym, ap, ◌∙◌, subst, arith, vec_capacity}
 use Rattle.fr_base.specs.declared.step.Fresh.TheVariants as fresh
 use Rattle.fr_plain.specs.Acts.{do_unlock, unit}
 use Rattle.fr_plain.specs.Run.{Move, Run, locked, settle}
@@ -13,7 +13,7 @@ use Rattle.fr_meaning.specs.FrameTerms.{wrapped}
 use Rattle.fr_meaning.proofs.LockSteps.{whole_leads, unlock_steps, unlock_move, top_run, top_room, top_inside}
 use Rattle.fr_meaning.proofs.ParentLemmas.{still_parents, parents_step, over_waits_not}
 use Rattle.fr_meaning.proofs.StepFacts.{steps_at, is_on}
-use Rattle.fr_meaning.proofs.ThreadLists.{numbers_set, well_at, well_set}
+use Rattle.fr_meaning.proofs.ThreadLists.{numbers_set, room_on, well_at, well_set}
 use Rattle.fr_meaning.proofs.WholeSteps.{stepped_to}
 use Rattle.fr_meaning.proofs.locks.go_unlock.Goals as goal
 
@@ -46,12 +46,14 @@ resume-requires-clause-room c =
     let well = well_at fs xs c.args.turn.now.at x c.requires.inside is c.requires.stands.well in
     top_room fs x c.leave_top.new.frames.items frame.Locked c.args.done c.args.done well n (c.leave_top.ensures.frames n.around frame.Locked n.top)
 
+pub resume-requires-clause-on : goal.resume-requires-clause-on
+resume-requires-clause-on c = is_on (steps_at c.args.forms.now c.args.running.now.threads.items (beside_of c.args.running.now.common) c.args.running.now.output.items c.args.turn.now.thread fresh.None c.args.turn.now.at (next.Unlock c.args.done) c.args.running.now.places.numbers c.requires.order c.requires.stands.well c.requires.stands.numbers c.requires.place c.requires.inside c.requires.next c.requires.goes c.index_mut-unlocking.result.now c.index_mut-unlocking.ensures.value)
+
 pub resume-requires-clause-capacity : goal.resume-requires-clause-capacity
 resume-requires-clause-capacity c =
-    let fs = c.args.forms.now in
-    let xs = c.args.running.now.threads.items in
-    let well = well_at fs xs c.args.turn.now.at c.index_mut-unlocking.result.now c.requires.inside c.index_mut-unlocking.ensures.value c.requires.stands.well in
-    omega (arith, c.leave_top.ensures.capacity, well.room)
+    let x = c.index_mut-unlocking.result.now in
+    let s = steps_at c.args.forms.now c.args.running.now.threads.items (beside_of c.args.running.now.common) c.args.running.now.output.items c.args.turn.now.thread fresh.None c.args.turn.now.at (next.Unlock c.args.done) c.args.running.now.places.numbers c.requires.order c.requires.stands.well c.requires.stands.numbers c.requires.place c.requires.inside c.requires.next c.requires.goes c.index_mut-unlocking.result.now c.index_mut-unlocking.ensures.value in
+    omega (arith, c.leave_top.ensures.capacity, room_on x.stage (vec_capacity x.frames) (is_on s) s.well.room)
 
 pub let_go-requires : goal.let_go-requires
 let_go-requires c = c.requires.stands.numbers ∙ sym (numbers_set c.args.running.now.threads.items c.args.turn.now.at c.index_mut-unlocking.result.now c.resume.new.thread c.index_mut-unlocking.ensures.value c.resume.ensures.number)

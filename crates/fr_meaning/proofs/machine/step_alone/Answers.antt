@@ -15,9 +15,11 @@ use Rattle.fr_acts.proofs.ActLemmas.{no_print}
 use Rattle.fr_meaning.proofs.ContextLemmas.{settled_wrap}
 use Rattle.fr_meaning.proofs.FrameLemmas.{inside_front, wrap_push, room_less, top_past}
 use Rattle.fr_meaning.proofs.StepLemmas.{step_in, goes_in_frames, read_goes, read_turns, borrow_goes, borrow_turns, settled_waits, not_alone, spawn_alone, lock_alone, par_alone}
-use Rattle.fr_meaning.specs.Threads.{run_in}
+use Rattle.fr_meaning.specs.declared.thread.Stage.{Stage}
+use Rattle.fr_meaning.specs.Threads.{run_in, HasRoom}
 use Rattle.fr_shared.specs.declared.heap.Released.TheVariants as released
 use Rattle.fr_meaning.proofs.ThreadLemmas.{term_kept}
+use Rattle.fr_meaning.proofs.ThreadLists.{on_room, room_on}
 use Rattle.fr_meaning.proofs.machine.step_alone.Goals as goal
 
 pub read-value-requires-clause-goes : goal.read-value-requires-clause-goes
@@ -31,7 +33,7 @@ pub leave-thread-requires-clause-room : goal.leave-thread-requires-clause-room
 leave-thread-requires-clause-room c =
     let fs = c.args.forms.now in
     let x = c.args.thread.now in
-    let all : depth (run_in fs x) ≤ vec_capacity x.frames = omega (arith, c.requires.well.depth, c.requires.well.room) in
+    let all : depth (run_in fs x) ≤ vec_capacity x.frames = omega (arith, c.requires.well.depth, room_on x.stage (vec_capacity x.frames) c.requires.goes_on c.requires.well.room) in
     let room = subst (λ (f : Focus). depth (wrapped fs x.frames.items (focus_run fs f)) ≤ vec_capacity x.frames) c.in-Read.is all in
     room_less fs c.args.thread.now.frames.items c.args.thread.now.frames.items (read c.in-Read.place c.in-Read.take) (over (done.Temp c.read-value.result)) (vec_capacity c.args.thread.now.frames) (vec_capacity c.args.thread.now.frames) refl (omega arith) room refl
 
@@ -53,7 +55,7 @@ returns-in-Read c =
         way = c.leave-thread.ensures.way;
         settled = kept.0;
         depth = omega (arith, kept.1, c.requires.well.depth);
-        room = omega (arith, c.leave-thread.ensures.capacity, c.requires.well.room);
+        room = on_room x.stage (vec_capacity c.leave-thread.new.frames) c.requires.goes_on (omega (arith, c.leave-thread.ensures.capacity, room_on x.stage (vec_capacity x.frames) c.requires.goes_on c.requires.well.room));
       };
       number = refl;
       stage = refl;
@@ -71,7 +73,7 @@ pub leave-thread-requires-in-Borrow-clause-room : goal.leave-thread-requires-in-
 leave-thread-requires-in-Borrow-clause-room c =
     let fs = c.args.forms.now in
     let x = c.args.thread.now in
-    let all : depth (run_in fs x) ≤ vec_capacity x.frames = omega (arith, c.requires.well.depth, c.requires.well.room) in
+    let all : depth (run_in fs x) ≤ vec_capacity x.frames = omega (arith, c.requires.well.depth, room_on x.stage (vec_capacity x.frames) c.requires.goes_on c.requires.well.room) in
     let room = subst (λ (f : Focus). depth (wrapped fs x.frames.items (focus_run fs f)) ≤ vec_capacity x.frames) c.in-Borrow.is all in
     room_less fs c.args.thread.now.frames.items c.args.thread.now.frames.items (borrow c.in-Borrow.place c.in-Borrow.field-1) (over (done.Temp c.borrow-value.result)) (vec_capacity c.args.thread.now.frames) (vec_capacity c.args.thread.now.frames) refl (omega arith) room refl
 
@@ -96,7 +98,7 @@ returns-in-Borrow c =
         way = c.leave-thread-in-Borrow.ensures.way;
         settled = kept.0;
         depth = omega (arith, kept.1, c.requires.well.depth);
-        room = omega (arith, c.leave-thread-in-Borrow.ensures.capacity, c.requires.well.room);
+        room = on_room x.stage (vec_capacity c.leave-thread-in-Borrow.new.frames) c.requires.goes_on (omega (arith, c.leave-thread-in-Borrow.ensures.capacity, room_on x.stage (vec_capacity x.frames) c.requires.goes_on c.requires.well.room));
       };
       number = refl;
       stage = refl;
@@ -129,7 +131,8 @@ step_frame-requires-clause-room c =
     let gs = c.pop.new.self.items in
     let e = ap (λ (f : Focus). wrapped fs c.args.thread.now.frames.items (focus_run fs f)) c.in-Over.is ∙ ap (λ ks. wrapped fs ks (over c.in-Over.done)) c.in-Some.ensures.items ∙ wrap_push fs gs c.in-Some.frame (over c.in-Over.done) in
     let d = ap depth e in
-    omega (arith, d, c.requires.well.depth, c.requires.well.room, c.in-Some.ensures.capacity)
+    let room = room_on c.args.thread.now.stage (vec_capacity c.args.thread.now.frames) c.requires.goes_on c.requires.well.room in
+    omega (arith, d, c.requires.well.depth, room, c.in-Some.ensures.capacity)
 
 pub step_frame-requires-clause-goes : goal.step_frame-requires-clause-goes
 step_frame-requires-clause-goes c =
@@ -158,7 +161,7 @@ returns-in-Some c =
         way = a.ensures.way;
         settled = kept.0;
         depth = omega (arith, kept.1, c.requires.well.depth);
-        room = omega (arith, a.ensures.capacity, c.in-Some.ensures.capacity, c.requires.well.room);
+        room = subst (λ (g : Stage). HasRoom g (vec_capacity a.new.thread.frames)) (sym a.ensures.stage) (on_room x.stage (vec_capacity a.new.thread.frames) c.requires.goes_on (omega (arith, a.ensures.capacity, c.in-Some.ensures.capacity, room_on x.stage (vec_capacity x.frames) c.requires.goes_on c.requires.well.room)));
       };
       number = a.ensures.number;
       stage = a.ensures.stage;

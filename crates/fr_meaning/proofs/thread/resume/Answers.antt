@@ -1,7 +1,8 @@
-use Rattle.std.proofs.Common.{arith}
+use Rattle.std.proofs.Common.{arith, vec_capacity}
 use Rattle.fr_meaning.specs.DoneTerms.{over}
 use Rattle.fr_meaning.specs.FrameTerms.{wrapped, focus_run}
 use Rattle.fr_meaning.proofs.ThreadLemmas.{settle_kept}
+use Rattle.fr_meaning.proofs.ThreadLists.{on_room}
 use Rattle.fr_meaning.proofs.thread.resume.Goals as goal
 
 pub returns-clause-well : goal.returns-clause-well
@@ -15,5 +16,5 @@ returns-clause-well c =
       way = l.ensures.way;
       settled = kept.0;
       depth = omega (arith, kept.1, c.requires.room);
-      room = omega (arith, l.ensures.capacity, c.requires.capacity);
+      room = on_room c.args.thread.now.stage (vec_capacity l.new.frames) c.requires.on (omega (arith, l.ensures.capacity, c.requires.capacity));
     }

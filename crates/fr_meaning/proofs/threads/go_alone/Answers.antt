@@ -14,6 +14,9 @@ use Rattle.fr_meaning.proofs.threads.go_alone.Goals as goal
 pub step_alone-released-requires-clause-well : goal.step_alone-released-requires-clause-well
 step_alone-released-requires-clause-well c = well_at c.args.forms.now c.args.running.now.threads.items c.args.turn.now.at c.index_mut.result.now c.requires.inside c.index_mut.ensures.value c.requires.stands.well
 
+pub step_alone-released-requires-clause-goes_on : goal.step_alone-released-requires-clause-goes_on
+step_alone-released-requires-clause-goes_on c = (c.requires.goes c.index_mut.result.now c.index_mut.ensures.value).on
+
 pub let_go-requires : goal.let_go-requires
 let_go-requires c =
     c.requires.stands.numbers ∙ sym (numbers_set c.args.running.now.threads.items c.args.turn.now.at c.index_mut.result.now c.step_alone-released.new.thread c.index_mut.ensures.value c.step_alone-released.ensures.number)

@@ -1,8 +1,11 @@
-use Rattle.std.proofs.Common.{sym, ap, ◌∙◌}
+use Rattle.std.proofs.Common.{sym, ap, ◌∙◌, subst, vec_capacity}
 use Rattle.fr_shared.specs.Places.{place_of}
+use Rattle.fr_meaning.specs.declared.thread.Stage.{Stage}
 use Rattle.fr_meaning.specs.Beside.{beside_of}
-use Rattle.fr_meaning.proofs.ParentLemmas.{still_parents, parents_step, end_waits_not}
-use Rattle.fr_meaning.proofs.ThreadLists.{numbers_set, well_at, well_set, well_same}
+use Rattle.fr_meaning.specs.DoneTerms.{value_of}
+use Rattle.fr_meaning.specs.Threads.{HasRoom}
+use Rattle.fr_meaning.proofs.ParentLemmas.{still_parents, parents_step, end_waits_not, end_bare}
+use Rattle.fr_meaning.proofs.ThreadLists.{numbers_set, end_room, well_at, well_set, well_same}
 use Rattle.fr_meaning.proofs.WholeSteps.{whole_end, stepped_to}
 use Rattle.fr_meaning.proofs.threads.go_end.Goals as goal
 
@@ -12,6 +15,9 @@ let_go-requires c =
 
 pub end-released-requires-clause-goes : goal.end-released-requires-clause-goes
 end-released-requires-clause-goes c = (c.requires.on c.index_mut.result.now c.index_mut.ensures.value).0
+
+pub end-released-requires-clause-none : goal.end-released-requires-clause-none
+end-released-requires-clause-none c = end_bare c.index_mut.result.now.focus c.index_mut.result.now.frames.items c.args.done (c.requires.on c.index_mut.result.now c.index_mut.ensures.value).1
 
 pub returns-clause-step : goal.returns-clause-step
 returns-clause-step c =
@@ -32,9 +38,10 @@ returns-clause-stands c =
     let x = c.index_mut.result.now in
     let y = c.end-released.new.thread in
     let well = well_at fs xs c.args.turn.now.at x c.requires.inside c.index_mut.ensures.value c.requires.stands.well in
+    let room = subst (λ (g : Stage). HasRoom g (vec_capacity y.frames)) (sym c.end-released.ensures.stage) (end_room x.stage (value_of c.args.done) (vec_capacity y.frames) c.end-released.ensures.frame_room) in
     record {
       numbers = c.requires.stands.numbers ∙ sym (c.let_go.ensures.numbers ∙ numbers_set c.args.running.now.threads.items c.args.turn.now.at c.index_mut.result.now c.end-released.new.thread c.index_mut.ensures.value c.end-released.ensures.number);
-      well = c.let_go.ensures.well fs (well_set fs xs c.args.turn.now.at y (well_same fs x y c.end-released.ensures.frames c.end-released.ensures.focus well) c.requires.stands.well);
+      well = c.let_go.ensures.well fs (well_set fs xs c.args.turn.now.at y (well_same fs x y c.end-released.ensures.frames c.end-released.ensures.focus room well) c.requires.stands.well);
       parents = still_parents c.let_go.new.threads.items c.let_go.ensures.pairs (c.let_go.ensures.parents c.args.running.now.common.pairs.pairs
           (parents_step c.args.running.now.common.pairs.pairs c.args.running.now.threads.items c.args.turn.now.thread c.args.turn.now.at c.index_mut.result.now c.end-released.new.thread
           (ap (λ ns. place_of ns c.args.turn.now.thread) (sym c.requires.stands.numbers) ∙ c.requires.place) c.index_mut.ensures.value c.end-released.ensures.number (end_waits_not c.index_mut.result.now.focus c.index_mut.result.now.frames.items c.args.done (c.requires.on c.index_mut.result.now c.index_mut.ensures.value).1) c.requires.stands.parents));

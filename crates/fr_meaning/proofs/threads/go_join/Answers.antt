@@ -1,4 +1,4 @@
-use Rattle.std.proofs.Common.{length, sym, ap, ◌∙◌, subst, arith}
+use Rattle.std.proofs.Common.{length, sym, ap, ◌∙◌, subst, arith, vec_capacity}
 use Rattle.std.specs.Prelude.{slice_set}
 use Rattle.fr_plain.specs.Run.{temp, join_r, settle}
 use Rattle.fr_meaning.specs.Beside.{beside_of}
@@ -12,7 +12,7 @@ use Rattle.fr_shared.specs.Places.{place_of}
 use Rattle.fr_meaning.proofs.ContextLemmas.{depth_wrap}
 use Rattle.fr_meaning.proofs.FrameLemmas.{wrap_push, inside_front}
 use Rattle.fr_meaning.proofs.ParentLemmas.{parents_same, parents_step, over_waits_not}
-use Rattle.fr_meaning.proofs.ThreadLists.{numbers_set, well_at, well_set, well_same, thread_same, places_differ, other_at}
+use Rattle.fr_meaning.proofs.ThreadLists.{numbers_set, ended_done, room_on, well_at, well_set, well_over, thread_same, places_differ, other_at}
 use Rattle.fr_meaning.proofs.WholeSteps.{whole_join}
 use Rattle.fr_meaning.proofs.threads.go_join.Goals as goal
 
@@ -53,7 +53,15 @@ resume-requires-clause-capacity c =
     let ne = places_differ xs c.args.turn.now.at c.args.joined.now.at z (λ q is. (c.requires.joins q is).on) c.index_mut.ensures.value (c.requires.ended z c.index_mut.ensures.value) in
     let is = other_at xs c.args.turn.now.at c.args.joined.now.at c.take_result-value.new.thread x ne c.index_mut-joining.ensures.value in
     let well = well_at fs xs c.args.turn.now.at x c.requires.inside is c.requires.stands.well in
-    omega (arith, c.leave_top.ensures.capacity, well.room)
+    omega (arith, c.leave_top.ensures.capacity, room_on x.stage (vec_capacity x.frames) (c.requires.joins x is).on well.room)
+
+pub resume-requires-clause-on : goal.resume-requires-clause-on
+resume-requires-clause-on c =
+    let xs = c.args.running.now.threads.items in
+    let z = c.index_mut.result.now in
+    let x = c.index_mut-joining.result.now in
+    let ne = places_differ xs c.args.turn.now.at c.args.joined.now.at z (λ q is. (c.requires.joins q is).on) c.index_mut.ensures.value (c.requires.ended z c.index_mut.ensures.value) in
+    (c.requires.joins x (other_at xs c.args.turn.now.at c.args.joined.now.at c.take_result-value.new.thread x ne c.index_mut-joining.ensures.value)).on
 
 pub returns-clause-step : goal.returns-clause-step
 returns-clause-step c =
@@ -89,7 +97,7 @@ returns-clause-stands c =
     record {
       numbers = c.requires.stands.numbers ∙ sym (numbers_set (slice_set xs c.args.joined.now.at w) c.args.turn.now.at c.index_mut-joining.result.now c.resume.new.thread c.index_mut-joining.ensures.value c.resume.ensures.number
           ∙ numbers_set xs c.args.joined.now.at c.index_mut.result.now w c.index_mut.ensures.value c.take_result-value.ensures.number);
-      well = well_set fs (slice_set xs c.args.joined.now.at a.new.thread) c.args.turn.now.at c.resume.new.thread c.resume.ensures.well (well_set fs xs c.args.joined.now.at a.new.thread (well_same fs z a.new.thread a.ensures.frames a.ensures.focus well) c.requires.stands.well);
+      well = well_set fs (slice_set xs c.args.joined.now.at a.new.thread) c.args.turn.now.at c.resume.new.thread c.resume.ensures.well (well_set fs xs c.args.joined.now.at a.new.thread (well_over fs z a.new.thread a.ensures.frames a.ensures.focus a.ensures.stage (ended_done z.stage (c.requires.ended z c.index_mut.ensures.value)) well) c.requires.stands.well);
       parents = parents_step c.args.running.now.common.pairs.pairs (slice_set xs c.args.joined.now.at w) c.args.turn.now.thread c.args.turn.now.at c.index_mut-joining.result.now c.resume.new.thread
           (ap (λ ns. place_of ns c.args.turn.now.thread) (numbers_set xs c.args.joined.now.at z w c.index_mut.ensures.value a.ensures.number ∙ sym c.requires.stands.numbers) ∙ c.requires.place)
           c.index_mut-joining.ensures.value c.resume.ensures.number (over_waits_not c.index_mut-joining.result.now.focus j.done j.at_end)

@@ -1,4 +1,4 @@
-use Rattle.std.proofs.Common.{◌≡◌, ◌++◌, ◌∷◌, [], length, sym, ap, ◌∙◌, subst, arith}
+use Rattle.std.proofs.Common.{◌≡◌, ◌++◌, ◌∷◌, [], length, sym, ap, ◌∙◌, subst, arith, vec_capacity}
 use Rattle.std.specs.Prelude.{slice_set}
 use Rattle.fr_base.specs.declared.label.Label.TheVariants as label
 use Rattle.fr_base.specs.declared.label.Plain.TheVariants.{Task}
@@ -18,7 +18,7 @@ use Rattle.fr_meaning.proofs.ContextLemmas.{depth_wrap}
 use Rattle.fr_meaning.specs.Running.{AreParents}
 use Rattle.fr_meaning.specs.declared.frame.Focus.TheVariants as focus
 use Rattle.fr_meaning.proofs.ParentLemmas.{parents_push, parents_step}
-use Rattle.fr_meaning.proofs.ThreadLists.{numbers_set, numbers_push, well_set, well_push}
+use Rattle.fr_meaning.proofs.ThreadLists.{numbers_set, numbers_push, room_on, well_set, well_push}
 use Rattle.fr_meaning.proofs.WholeSteps.{whole_start, stepped_to}
 use Rattle.fr_meaning.proofs.StartLemmas.{start_facts, captures_here, same_passes, same_passed, started_same, not_other}
 use Rattle.fr_meaning.proofs.threads.go_start.Goals as goal
@@ -92,7 +92,10 @@ resume-requires-clause-capacity c =
     let is = c.index_mut-starting.ensures.value in
     let s = c.requires.starts x is in
     let k = start_facts fs xs c.args.turn.now.at x c.args.node c.requires.inside is c.requires.stands.well s in
-    k.well.room
+    room_on x.stage (vec_capacity x.frames) s.on k.well.room
+
+pub resume-requires-clause-on : goal.resume-requires-clause-on
+resume-requires-clause-on c = (c.requires.starts c.index_mut-starting.result.now c.index_mut-starting.ensures.value).on
 
 pub start-started-requires-clause-depth : goal.start-started-requires-clause-depth
 start-started-requires-clause-depth c =

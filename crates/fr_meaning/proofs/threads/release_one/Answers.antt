@@ -1,14 +1,15 @@
-use Rattle.std.proofs.Common.{suc, [], sym, ap, ◌∙◌, arith}
+use Rattle.std.proofs.Common.{suc, [], sym, ap, ◌∙◌, subst, arith, vec_capacity}
 use Rattle.std.specs.Prelude.{slice_set}
 use Rattle.fr_plain.specs.Run.{over}
 use Rattle.fr_plain.specs.Threads.{release_by}
 use Rattle.fr_shared.specs.Places.{place_of}
 use Rattle.fr_acts.specs.MutexActs.{Rest, last_of}
 use Rattle.fr_meaning.specs.Beside.{beside_of}
-use Rattle.fr_meaning.specs.Threads.{threads_of, whole, after_release, released_last}
+use Rattle.fr_meaning.specs.declared.thread.Stage.{Stage}
+use Rattle.fr_meaning.specs.Threads.{HasRoom, threads_of, whole, after_release, released_last}
 use Rattle.fr_meaning.proofs.ParentLemmas.{parents_same}
 use Rattle.fr_meaning.proofs.StepFacts.{place_inside}
-use Rattle.fr_meaning.proofs.ThreadLists.{numbers_set, none_there, well_at, well_set, well_same, thread_same, unknown_goes, one_goes}
+use Rattle.fr_meaning.proofs.ThreadLists.{numbers_set, none_there, release_room, well_at, well_set, well_same, thread_same, unknown_goes, one_goes}
 use Rattle.fr_meaning.proofs.threads.release_one.Goals as goal
 
 pub index_mut-requires : goal.index_mut-requires
@@ -47,7 +48,10 @@ returns-in-Some-clause-well c = λ fs w. (
     let x = c.index_mut.result.now in
     let y = c.release_thread.new.thread in
     let inside = place_inside xs c.in-Task.number c.in-Some.place (ap (λ ns. place_of ns c.in-Task.number) (sym c.requires) ∙ sym c.at.ensures.place ∙ c.in-Some.is) in
-    well_set fs xs c.in-Some.place y (well_same fs x y c.release_thread.ensures.frames c.release_thread.ensures.focus (well_at fs xs c.in-Some.place x inside c.index_mut.ensures.value w)) w)
+    let r = c.release_thread.ensures in
+    let well = well_at fs xs c.in-Some.place x inside c.index_mut.ensures.value w in
+    let room = subst (λ (g : Stage). HasRoom g (vec_capacity y.frames)) (sym r.stage) (release_room x.stage (vec_capacity y.frames) (subst (HasRoom x.stage) (sym (ap (λ vs. vec_capacity vs) r.frames)) well.room)) in
+    well_set fs xs c.in-Some.place y (well_same fs x y (ap (λ vs. vs.items) r.frames) r.focus room well) w)
 
 pub returns-in-None-clause-goes : goal.returns-in-None-clause-goes
 returns-in-None-clause-goes c = λ fs output k. (

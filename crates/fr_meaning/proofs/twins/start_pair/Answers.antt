@@ -100,7 +100,7 @@ returns-clause-step c =
     let y : Thread = record x { focus = focus.ParEnd; slots = c.pass_captures-2.new.slots } in
     let n = c.start_body-one in
     let o = c.start_body-other in
-    let waits = waits_well fs x y c.args.node k refl refl in
+    let waits = waits_well fs x y c.args.node k refl refl refl in
     let items = c.push_reserved-2.ensures.items ∙ ap (λ (ts : List Thread). ts ++ o.result ∷ []) c.push_reserved.ensures.items in
     let place = ap (λ ns. place_of ns t) (sym c.requires.stands.numbers) ∙ c.requires.place in
     let our = c.in-Par.our_body in
@@ -139,7 +139,7 @@ returns-clause-stands c =
     let y : Thread = record x { focus = focus.ParEnd; slots = c.pass_captures-2.new.slots } in
     let n = c.start_body-one in
     let o = c.start_body-other in
-    let waits = waits_well fs x y c.args.node k refl refl in
+    let waits = waits_well fs x y c.args.node k refl refl refl in
     let items = c.push_reserved-2.ensures.items ∙ ap (λ (ts : List Thread). ts ++ o.result ∷ []) c.push_reserved.ensures.items in
     let place = ap (λ ns. place_of ns t) (sym c.requires.stands.numbers) ∙ c.requires.place in
     let zs = slice_set xs i y in
