@@ -23,9 +23,9 @@ use Rattle.server_model.specs.Events.{enabled, Stepped, committed, prepared, ste
 use Rattle.heap_law.specs.Things.{at_slot, servers_things}
 use Rattle.type_law.specs.ClusterTypes.{IsCoherent}
 use Rattle.path_law.specs.Pointing.{assigns}
-use Rattle.word_law.specs.Unmoved.{taking_by, LeavesWords}
+use Rattle.word_law.specs.Unmoved.{taking_by}
 use Rattle.end_law.specs.Dropped.{written}
-use Rattle.event_law.specs.Laws.{Gives}
+use Rattle.event_law.specs.Laws.{Gives, FewEvents}
 use Rattle.event_law.proofs.RulesKeep.{sums_kept, sums_spend}
 use Rattle.event_law.proofs.Bags.{all_standing}
 use Rattle.event_law.proofs.Events.{others_of}
@@ -35,7 +35,7 @@ use Rattle.stay_law.proofs.Steps.{TakesNoneHere}
 use Rattle.prepare_law.proofs.Asking.{found_number}
 use Rattle.carry_law.specs.Steps.{IsOwnedOrGone, owns, gone, AssignsOver}
 use Rattle.carry_law.proofs.Owned.{OwnsAlone}
-use Rattle.carry_law.proofs.Hands.{There, Ok, Moved, h0, first_ok, moved_leaves, assigned_leaves, left_where, step_there}
+use Rattle.carry_law.proofs.Hands.{GoesOver, words_go, ThereBy, Ok, Moved, h0, first_ok, moved_goes, assigned_goes, left_by, step_by}
 use Rattle.carry_law.proofs.Steps.{goes_over}
 use Rattle.carry_law.proofs.Gives.{given_alone}
 use Rattle.carry_law.proofs.Assigning.{Put, puts, puts_over, fills}
@@ -45,7 +45,7 @@ assign_takes t (phase.Taken v) w o = refl
 assign_takes t _ w o = refl
 
 module _ (k : Cluster) (coherent : IsCoherent k) (s : Server) (here : server_at k.servers s.rest.number ≡ Some s) (t : ℕ) (y : ThreadState) (at : thread_in s.threads t ≡ Some y) (on : enabled k.options s (Step t) ≡ true) (w : Lval) (o : Operand)
-    (code : slice_get k.code y.pc ≡ Some (instr.Assign w o)) (flat : w.depth ≡ 0) where
+    (code : slice_get k.code y.pc ≡ Some (instr.Assign w o)) (flat : w.depth ≡ 0) {R : Cluster → Cluster → Type 0} (go : GoesOver R) where
   abbrev n : ℕ
   n = s.rest.number
 
@@ -70,22 +70,28 @@ module _ (k : Cluster) (coherent : IsCoherent k) (s : Server) (here : server_at 
       (subst (λ a. Gives (λ (x : Stepped). P x.hand) (prepared k.options.servers (instr.Assign w o) (prepare a h))) (sym calm)
       (subst (λ d. Gives (λ (x : Stepped). P x.hand) (committed (goes_on (assign w d o no_spot h)))) (sym flat) g)))
 
-  over_owned : (u : Owned) → slice_get y.slots w.slot ≡ Some (value.Own u) → Gives (There k s) (does k.code k.options s (Step t))
+  over_owned : (u : Owned) → slice_get y.slots w.slot ≡ Some (value.Own u) → Gives (ThereBy R k s) (does k.code k.options s (Step t))
   over_owned u e =
-      step_there k coherent.sound s here t y at (instr.Assign w o) code (Put k.code n h none refl free w.slot)
-      (λ h2 ok q. assigned_leaves k coherent.sound s here t y at h2 ok q.assigned (subst (λ j. OwnsAlone k (at_slot y.number j)) (sym q.place) (given_alone k coherent s here t y at on (instr.Assign w o) code w flat (written assigns)))) ok_steps
+      step_by R k coherent.sound s here t y at (instr.Assign w o) code (Put k.code n h none refl free w.slot)
+      (λ h2 ok q. assigned_goes k coherent.sound s here t y at go h2 ok q.assigned (subst (λ j. OwnsAlone k (at_slot y.number j)) (sym q.place) (given_alone k coherent s here t y at on (instr.Assign w o) code w flat (written assigns)))) ok_steps
       (flat_step (Put k.code n h none refl free w.slot) (value.Own u) e refl (puts_over k.code n h none refl free w.slot (then_some (pop o h) (λ v. replace_slot w.slot no_spot v.item v.hand)) (puts k.code n h none refl free w.slot u e o)))
 
-  over_gone : slice_get y.slots w.slot ≡ Some value.Gone → Gives (There k s) (does k.code k.options s (Step t))
+  over_gone : slice_get y.slots w.slot ≡ Some value.Gone → Gives (ThereBy R k s) (does k.code k.options s (Step t))
   over_gone e =
-      step_there k coherent.sound s here t y at (instr.Assign w o) code (Moved k.code n h) (moved_leaves k coherent.sound s here t y at) ok_steps
+      step_by R k coherent.sound s here t y at (instr.Assign w o) code (Moved k.code n h) (moved_goes k coherent.sound s here t y at go) ok_steps
       (flat_step (Moved k.code n h) value.Gone e refl (goes_over k.code n h fresh.None (then_some (pop o h) (λ v. replace_slot w.slot no_spot v.item v.hand)) (fills k.code n h none refl free w.slot e o)))
 
-  over : (v : Value) → IsOwnedOrGone v → slice_get y.slots w.slot ≡ Some v → Gives (There k s) (does k.code k.options s (Step t))
+  over : (v : Value) → IsOwnedOrGone v → slice_get y.slots w.slot ≡ Some v → Gives (ThereBy R k s) (does k.code k.options s (Step t))
   over _ (owns u) e = over_owned u e
   over _ gone e = over_gone e
 
+-- what goes on does so there
+pub assigns_go : {R : Cluster → Cluster → Type 0} → GoesOver R → (k : Cluster) (number t : ℕ) (s : Server) (y : ThreadState) (w : Lval) (o : Operand) (v : Value) → IsCoherent k → FewEvents k → server_at k.servers number ≡ Some s → thread_in s.threads t ≡ Some y → slice_get k.code y.pc ≡ Some (instr.Assign w o)
+    → w.depth ≡ 0 → slice_get y.slots w.slot ≡ Some v → IsOwnedOrGone v → Gives (λ (d : Cluster × EntryView). R k d.0) (apply k (record { server = number; what = Step t }))
+assigns_go {R = R} go k number t s y w o v coherent few here at code flat e is =
+    subst (λ n. server_at k.servers n ≡ Some s → Gives (λ (d : Cluster × EntryView). R k d.0) (apply k (record { server = n; what = Step t }))) (found_number number k.servers s here)
+    (λ h. left_by go k s t coherent.sound few h (λ on. over k coherent s h t y at on w o code flat go v is e)) here
+
+-- so the words stay
 pub assigns_over : AssignsOver
-assigns_over k number t s y w o v coherent few here at code flat e is =
-    subst (λ n. server_at k.servers n ≡ Some s → Gives (λ (d : Cluster × EntryView). LeavesWords k d.0) (apply k (record { server = n; what = Step t }))) (found_number number k.servers s here)
-    (λ h. left_where k s t coherent.sound few h (λ on. over k coherent s h t y at on w o code flat v is e)) here
+assigns_over = assigns_go words_go

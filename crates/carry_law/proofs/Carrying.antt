@@ -224,6 +224,24 @@ module _ (k z : Cluster) (f g : Option Location) (c : HasPlaces k) (d : HasPlace
       (⊎_elim (λ (a : (y.reference.at ≡ q.at) × (Some q.at ≡ g → ⊥)). subst (λ m. IsStale (sight k) (Some m)) (sym a.0) (stale_back q.at s)) (λ (a : (Some q.at ≡ g) × (Some y.reference.at ≡ f)). absurd (calm_after q.at a.0 s)) y.at)
   stale_back l (taken_above m) = taken_above (lent_back l m)
 
+  -- a reference that is fresh was
+  fresh_was : (q : Reference) (y : Twin gk k g f q) → (IsStale (sight z) (Some q.at) → ⊥) → IsStale (sight k) (Some y.reference.at) → ⊥
+  fresh_was q y n s =
+      ⊎_elim (λ (a : (y.reference.at ≡ q.at) × (Some q.at ≡ g → ⊥)). n (stale_on q.at (subst (λ m. IsStale (sight k) (Some m)) a.0 s))) (λ (a : (Some q.at ≡ g) × (Some y.reference.at ≡ f)). calm_before y.reference.at a.1 s) y.at
+
+  -- a reference that isn't stale goes on as one that isn't, and comes from such a one
+  pub fresh_on : (q : Reference) → Among q (references gk (things_of k)) → (IsStale (sight k) (Some q.at) → ⊥) → (y : Reference) × Among y (references gz (things_of z)) × (y.reference ≡ q.reference) × (IsStale (sight z) (Some y.at) → ⊥)
+  fresh_on q i n =
+      let y = twin_on q i in (
+        y.reference,
+        y.among,
+        y.same,
+        λ s. ⊎_elim (λ (a : (y.reference.at ≡ q.at) × (Some q.at ≡ f → ⊥)). n (stale_back q.at (subst (λ m. IsStale (sight z) (Some m)) a.0 s))) (λ (a : (Some q.at ≡ f) × (Some y.reference.at ≡ g)). calm_after y.reference.at a.1 s) y.at,
+      )
+
+  pub fresh_back : (q : Reference) → Among q (references gz (things_of z)) → (IsStale (sight z) (Some q.at) → ⊥) → (y : Reference) × Among y (references gk (things_of k)) × (y.reference ≡ q.reference) × (IsStale (sight k) (Some y.at) → ⊥)
+  fresh_back q i n = let y = twin_back q i in (y.reference, y.among, y.same, fresh_was q y n)
+
   -- POINTERS
 
   -- the same pointer among others, at the same place or where it went
@@ -418,11 +436,6 @@ module _ (k z : Cluster) (f g : Option Location) (c : HasPlaces k) (d : HasPlace
       let y = twin_back q m in
       ap (λ r. other (is_first r (value_behind gz q.holder))) (sym y.same) ∙ ap (λ o. other (is_first y.reference.reference (value_behind gz o))) (sym y.holder)
       ∙ ap other (behind y.reference y.among) ∙ none_at (other_first gk) y.reference (references gk (things_of k)) firsts y.among)
-
-  -- a reference that is fresh was
-  fresh_was : (q : Reference) (y : Twin gk k g f q) → (IsStale (sight z) (Some q.at) → ⊥) → IsStale (sight k) (Some y.reference.at) → ⊥
-  fresh_was q y n s =
-      ⊎_elim (λ (a : (y.reference.at ≡ q.at) × (Some q.at ≡ g → ⊥)). n (stale_on q.at (subst (λ m. IsStale (sight k) (Some m)) a.0 s))) (λ (a : (Some q.at ≡ g) × (Some y.reference.at ≡ f)). calm_before y.reference.at a.1 s) y.at
 
   not_left : (q : Reference) → Among q (references gz (things_of z)) → Some q.at ≡ f → ⊥
   not_left q i e = no_reference (value_in gz q.at) q.reference (u.left q.at (sym e)) (borrow_stands z d q.at q.reference (of_borrows gz q (things_of z) i).among)

@@ -21,9 +21,9 @@ use Rattle.server_model.specs.Commit.{let_slot, mutex_made, discard}
 use Rattle.server_model.specs.Events.{Stepped, step, prepared}
 use Rattle.heap_law.specs.Things.{servers_things}
 use Rattle.heap_law.specs.Coherent.{IsSound}
-use Rattle.word_law.specs.Unmoved.{taking_by, LeavesWords}
+use Rattle.word_law.specs.Unmoved.{taking_by}
 use Rattle.event_law.specs.Kinds.{instr_kind}
-use Rattle.event_law.specs.Laws.{Gives}
+use Rattle.event_law.specs.Laws.{Gives, FewEvents}
 use Rattle.event_law.proofs.Proved.{IsProvedKind}
 use Rattle.event_law.proofs.RulesKeep.{sums_kept, sums_spend}
 use Rattle.event_law.proofs.Bags.{all_standing}
@@ -33,7 +33,7 @@ use Rattle.event_law.proofs.GiftsTaken.{gift_fits}
 use Rattle.stay_law.proofs.Steps.{TakesNoneHere}
 use Rattle.prepare_law.proofs.Asking.{found_number}
 use Rattle.carry_law.specs.Steps.{CarriesOne, a_let, a_mutex, a_join, an_end, StepsCarry, IsNoReference, DiscardsCarry}
-use Rattle.carry_law.proofs.Hands.{Ok, Moved, h0, first_ok, moved_leaves, left_where, step_there}
+use Rattle.carry_law.proofs.Hands.{GoesOver, words_go, Ok, Moved, h0, first_ok, moved_goes, left_by, step_by}
 use Rattle.carry_law.proofs.Steps.{goes_over, lets, mutexes, ends, discards, joins}
 
 -- WHICH INSTRUCTIONS TAKE NOTHING
@@ -98,12 +98,22 @@ module _ (k : Cluster) (sound : IsSound k) (s : Server) (here : server_at k.serv
       by (value.Shared r) b = absurd b
       by (value.Mut r) b = absurd b
 
+-- what goes on does so there
+pub steps_go : {R : Cluster → Cluster → Type 0} → GoesOver R → (k : Cluster) (number t : ℕ) (s : Server) (y : ThreadState) (i : Instr) → IsSound k → FewEvents k → server_at k.servers number ≡ Some s → thread_in s.threads t ≡ Some y → slice_get k.code y.pc ≡ Some i → CarriesOne i
+    → Gives (λ (d : Cluster × EntryView). R k d.0) (apply k (record { server = number; what = Step t }))
+steps_go {R = R} go k number t s y i sound few here at code c =
+    subst (λ n. server_at k.servers n ≡ Some s → Gives (λ (d : Cluster × EntryView). R k d.0) (apply k (record { server = n; what = Step t }))) (found_number number k.servers s here)
+    (λ h. left_by go k s t sound few h (λ on. step_by R k sound s h t y at i code (Moved k.code s.rest.number (h0 k sound s h t y at)) (moved_goes k sound s h t y at go) (ok_steps k sound s h t y at i (proved k sound s h t y at i c)) (steps_by k sound s h t y at i code c))) here
+
+pub discards_go : {R : Cluster → Cluster → Type 0} → GoesOver R → (k : Cluster) (number t : ℕ) (s : Server) (y : ThreadState) (v : Value) → IsSound k → FewEvents k → server_at k.servers number ≡ Some s → thread_in s.threads t ≡ Some y → slice_get k.code y.pc ≡ Some instr.Discard → last_of y.temps ≡ Some v → IsNoReference v
+    → Gives (λ (d : Cluster × EntryView). R k d.0) (apply k (record { server = number; what = Step t }))
+discards_go {R = R} go k number t s y v sound few here at code e a =
+    subst (λ n. server_at k.servers n ≡ Some s → Gives (λ (d : Cluster × EntryView). R k d.0) (apply k (record { server = n; what = Step t }))) (found_number number k.servers s here)
+    (λ h. left_by go k s t sound few h (λ on. step_by R k sound s h t y at instr.Discard code (Moved k.code s.rest.number (h0 k sound s h t y at)) (moved_goes k sound s h t y at go) (ok_steps k sound s h t y at instr.Discard tt) (discards_by k sound s h t y at code v e a))) here
+
+-- so the words stay
 pub steps_carry : StepsCarry
-steps_carry k number t s y i sound few here at code c =
-    subst (λ n. server_at k.servers n ≡ Some s → Gives (λ (d : Cluster × EntryView). LeavesWords k d.0) (apply k (record { server = n; what = Step t }))) (found_number number k.servers s here)
-    (λ h. left_where k s t sound few h (λ on. step_there k sound s h t y at i code (Moved k.code s.rest.number (h0 k sound s h t y at)) (moved_leaves k sound s h t y at) (ok_steps k sound s h t y at i (proved k sound s h t y at i c)) (steps_by k sound s h t y at i code c))) here
+steps_carry = steps_go words_go
 
 pub discards_carry : DiscardsCarry
-discards_carry k number t s y v sound few here at code e a =
-    subst (λ n. server_at k.servers n ≡ Some s → Gives (λ (d : Cluster × EntryView). LeavesWords k d.0) (apply k (record { server = n; what = Step t }))) (found_number number k.servers s here)
-    (λ h. left_where k s t sound few h (λ on. step_there k sound s h t y at instr.Discard code (Moved k.code s.rest.number (h0 k sound s h t y at)) (moved_leaves k sound s h t y at) (ok_steps k sound s h t y at instr.Discard tt) (discards_by k sound s h t y at code v e a))) here
+discards_carry = discards_go words_go

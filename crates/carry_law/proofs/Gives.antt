@@ -35,13 +35,13 @@ use Rattle.path_law.specs.Pointing.{moves as moves_out}
 use Rattle.path_law.proofs.Sole.{some_is}
 use Rattle.path_law.proofs.Alike.{coherent_has_paths}
 use Rattle.path_law.proofs.Contained.{among_thread}
-use Rattle.word_law.specs.Unmoved.{taking_by, LeavesWords}
+use Rattle.word_law.specs.Unmoved.{taking_by}
 use Rattle.word_law.proofs.Standing.{told}
 use Rattle.end_law.specs.Dropped.{GivesUp, written, dropped as slot_dropped, put_back, MayGiveUp, a_place}
 use Rattle.end_law.proofs.Owned.{owned_are_alone}
 use Rattle.end_law.proofs.Given.{given_up_may_be}
 use Rattle.event_law.specs.Kinds.{instr_kind}
-use Rattle.event_law.specs.Laws.{Gives}
+use Rattle.event_law.specs.Laws.{Gives, FewEvents}
 use Rattle.event_law.proofs.Proved.{IsProvedKind}
 use Rattle.event_law.proofs.Results.{over_gives}
 use Rattle.event_law.proofs.Values.{last_split}
@@ -61,7 +61,7 @@ use Rattle.carry_law.specs.Steps.{GivesOwned, drops, drops_none, puts_back, move
 use Rattle.carry_law.proofs.Passing.{temp, nowhere}
 use Rattle.carry_law.proofs.Places.{end_is, slot_to_gift, slot_to_temp}
 use Rattle.carry_law.proofs.Owned.{OwnsAlone}
-use Rattle.carry_law.proofs.Hands.{There, each_together, together_chain, Moved, seen, moved_leaves, Given, Ok, h0, first_ok, given_leaves, left_where, step_there}
+use Rattle.carry_law.proofs.Hands.{GoesOver, words_go, ThereBy, each_together, together_chain, Moved, seen, moved_goes, Given, Ok, h0, first_ok, given_goes, left_by, step_by}
 use Rattle.carry_law.proofs.Steps.{Does, goes_next, goes_over, slot_pushed, given_to_rest}
 
 length_end : {A : Type 0} (xs : List A) (v : A) → length (xs ++ v ∷ []) ≡ suc (length xs)
@@ -278,7 +278,7 @@ read_takes : (t : ℕ) (p : Phase) (w : Lval) (b : Bool) → taking_by t p (Some
 read_takes t (phase.Taken v) w b = refl
 read_takes t _ w b = refl
 
-module _ (k : Cluster) (coherent : IsCoherent k) (s : Server) (here : server_at k.servers s.rest.number ≡ Some s) (t : ℕ) (y : ThreadState) (at : thread_in s.threads t ≡ Some y) (on : enabled k.options s (Step t) ≡ true) where
+module _ (k : Cluster) (coherent : IsCoherent k) (s : Server) (here : server_at k.servers s.rest.number ≡ Some s) (t : ℕ) (y : ThreadState) (at : thread_in s.threads t ≡ Some y) (on : enabled k.options s (Step t) ≡ true) {R : Cluster → Cluster → Type 0} (go : GoesOver R) where
   abbrev sn : ℕ
   sn = s.rest.number
 
@@ -293,31 +293,31 @@ module _ (k : Cluster) (coherent : IsCoherent k) (s : Server) (here : server_at 
 
   -- where the slot that gives is owned alone
   gives_there : (i : Instr) (code : slice_get k.code y.pc ≡ Some i) (none : TakesNoneHere k.code y) (P : ℕ → Type 0) → ((j : ℕ) → P j → OwnsAlone k (at_slot y.number j)) → IsProvedKind (instr_kind i)
-      → Gives (λ (d : Stepped). Yielded k.code sn hand none P d.hand) (step k.options.servers i hand) → Gives (There k s) (does k.code k.options s (Step t))
+      → Gives (λ (d : Stepped). Yielded k.code sn hand none P d.hand) (step k.options.servers i hand) → Gives (ThereBy R k s) (does k.code k.options s (Step t))
   gives_there i code none P alone p g =
-      step_there k coherent.sound s here t y at i code (Yielded k.code sn hand none P) (λ h ok q. given_leaves k coherent.sound s here t y at h ok q.given (alone q.given.index q.place)) (ok_steps i p) g
+      step_by R k coherent.sound s here t y at i code (Yielded k.code sn hand none P) (λ h ok q. given_goes k coherent.sound s here t y at go h ok q.given (alone q.given.index q.place)) (ok_steps i p) g
 
-  drops_there : (u : Owned) → last_of y.slots ≡ Some (value.Own u) → slice_get k.code y.pc ≡ Some instr.DropSlot → Gives (There k s) (does k.code k.options s (Step t))
+  drops_there : (u : Owned) → last_of y.slots ≡ Some (value.Own u) → slice_get k.code y.pc ≡ Some instr.DropSlot → Gives (ThereBy R k s) (does k.code k.options s (Step t))
   drops_there u e code =
       let none = untaken instr.DropSlot code (drop_takes y.number y.phase) in
       gives_there instr.DropSlot code none (Newest k.code sn hand none) (λ j q. given_alone k coherent s here t y at on instr.DropSlot code (record { slot = j; depth = 0 }) refl (slot_dropped j q)) tt
       (subst (λ o. Gives (λ (d : Stepped). Yielded k.code sn hand none (Newest k.code sn hand none) d.hand) (prepared k.options.servers instr.DropSlot (prepare (ending (spot_slot (length y.slots - 1)) o) hand))) (sym e)
       (yields_over k.code sn hand none (Newest k.code sn hand none) (drop_slot no_spot hand) (slot_drops k.code sn hand none refl (gift_fits k coherent.sound sn s here t y at instr.DropSlot code).0 u e)))
 
-  empty_there : last_of y.slots ≡ Some value.Gone → slice_get k.code y.pc ≡ Some instr.DropSlot → Gives (There k s) (does k.code k.options s (Step t))
+  empty_there : last_of y.slots ≡ Some value.Gone → slice_get k.code y.pc ≡ Some instr.DropSlot → Gives (ThereBy R k s) (does k.code k.options s (Step t))
   empty_there e code =
       let none = untaken instr.DropSlot code (drop_takes y.number y.phase) in
-      step_there k coherent.sound s here t y at instr.DropSlot code (Moved k.code sn hand) (moved_leaves k coherent.sound s here t y at) (ok_steps instr.DropSlot tt)
+      step_by R k coherent.sound s here t y at instr.DropSlot code (Moved k.code sn hand) (moved_goes k coherent.sound s here t y at go) (ok_steps instr.DropSlot tt)
       (subst (λ o. Gives (λ (d : Stepped). Moved k.code sn hand d.hand) (prepared k.options.servers instr.DropSlot (prepare (ending (spot_slot (length y.slots - 1)) o) hand))) (sym e)
       (goes_over k.code sn hand fresh.None (drop_slot no_spot hand) (empty_drops k.code sn hand none e)))
 
-  unlocks_there : slice_get k.code y.pc ≡ Some instr.Unlock → Gives (There k s) (does k.code k.options s (Step t))
+  unlocks_there : slice_get k.code y.pc ≡ Some instr.Unlock → Gives (ThereBy R k s) (does k.code k.options s (Step t))
   unlocks_there code =
       let none = untaken instr.Unlock code (unlock_takes y.number y.phase) in
       gives_there instr.Unlock code none (Newest k.code sn hand none) (λ j q. given_alone k coherent s here t y at on instr.Unlock code (record { slot = j; depth = 0 }) refl (put_back j q)) tt
       (yields_over k.code sn hand none (Newest k.code sn hand none) (unlock hand) (unlocks k.code sn hand none refl (gift_fits k coherent.sound sn s here t y at instr.Unlock code).0))
 
-  moves_there : (w : Lval) (u : Owned) → w.depth ≡ 0 → slice_get y.slots w.slot ≡ Some (value.Own u) → slice_get k.code y.pc ≡ Some (instr.Read w true) → Gives (There k s) (does k.code k.options s (Step t))
+  moves_there : (w : Lval) (u : Owned) → w.depth ≡ 0 → slice_get y.slots w.slot ≡ Some (value.Own u) → slice_get k.code y.pc ≡ Some (instr.Read w true) → Gives (ThereBy R k s) (does k.code k.options s (Step t))
   moves_there w u flat e code =
       let none = untaken (instr.Read w true) code (read_takes y.number y.phase w true) in
       let P : ℕ → Type 0 = λ j. j ≡ w.slot in
@@ -326,13 +326,19 @@ module _ (k : Cluster) (coherent : IsCoherent k) (s : Server) (here : server_at 
       (subst (λ d. Gives (λ (d : Stepped). Yielded k.code sn hand none P d.hand) (prepared k.options.servers (instr.Read w true) (read_stars d hand (spot_slot w.slot)))) (sym flat)
       (yields_over k.code sn hand none P (read true (spot_slot w.slot) hand) (moved_out k.code sn hand none w.slot u e))))
 
-  all_there : (i : Instr) → GivesOwned y i → slice_get k.code y.pc ≡ Some i → Gives (There k s) (does k.code k.options s (Step t))
+  all_there : (i : Instr) → GivesOwned y i → slice_get k.code y.pc ≡ Some i → Gives (ThereBy R k s) (does k.code k.options s (Step t))
   all_there _ (drops u e) code = drops_there u e code
   all_there _ (drops_none e) code = empty_there e code
   all_there _ puts_back code = unlocks_there code
   all_there _ (moves w u flat e) code = moves_there w u flat e code
 
+-- what goes on does so there
+pub owned_go : {R : Cluster → Cluster → Type 0} → GoesOver R → (k : Cluster) (number t : ℕ) (s : Server) (y : ThreadState) (i : Instr) → IsCoherent k → FewEvents k → server_at k.servers number ≡ Some s → thread_in s.threads t ≡ Some y → slice_get k.code y.pc ≡ Some i → GivesOwned y i
+    → Gives (λ (d : Cluster × EntryView). R k d.0) (apply k (record { server = number; what = Step t }))
+owned_go {R = R} go k number t s y i coherent few here at code g =
+    subst (λ n. server_at k.servers n ≡ Some s → Gives (λ (d : Cluster × EntryView). R k d.0) (apply k (record { server = n; what = Step t }))) (found_number number k.servers s here)
+    (λ h. left_by go k s t coherent.sound few h (λ on. all_there k coherent s h t y at on go i g code)) here
+
+-- so the words stay
 pub owned_goes : OwnedGoes
-owned_goes k number t s y i coherent few here at code g =
-    subst (λ n. server_at k.servers n ≡ Some s → Gives (λ (d : Cluster × EntryView). LeavesWords k d.0) (apply k (record { server = n; what = Step t }))) (found_number number k.servers s here)
-    (λ h. left_where k s t coherent.sound few h (λ on. all_there k coherent s h t y at on i g code)) here
+owned_goes = owned_go words_go

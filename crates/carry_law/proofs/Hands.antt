@@ -18,7 +18,7 @@ use Rattle.server_model.specs.Clusters.{with_server, hand_over_newer, done_at, a
 use Rattle.server_model.specs.Events.{enabled, begin_work, begin_at, Stepped, step, step_in, stepped, does}
 use Rattle.heap_law.specs.Names.{Among, tot, other}
 use Rattle.heap_law.specs.Things.{Location, at_slot, in_cell, Thing, thread_things, server_things, servers_things, things_of}
-use Rattle.heap_law.specs.Follow.{Standing, value_in, leads, place_at}
+use Rattle.heap_law.specs.Follow.{Standing, cells_in, value_in, leads, place_at}
 use Rattle.heap_law.specs.Sight.{sight}
 use Rattle.heap_law.specs.Requests.{lies_here, taken_there, taken_phase, lent_place as taken_place}
 use Rattle.heap_law.specs.Weights.{owners}
@@ -50,10 +50,10 @@ use Rattle.stay_law.proofs.Steps.{hand_itself}
 use Rattle.stay_law.proofs.Seen.{seen_alike}
 use Rattle.carry_law.specs.Carried.{Carried}
 use Rattle.carry_law.proofs.Carrying.{carried_stays}
-use Rattle.carry_law.proofs.Replaced.{tail_of, places_on}
+use Rattle.carry_law.proofs.Replaced.{tail_of, cells_same, places_on}
 use Rattle.carry_law.proofs.Taken.{taker_of}
 use Rattle.carry_law.proofs.Owned.{OwnsAlone, owned_quiet, owns_on}
-use Rattle.carry_law.proofs.Passing.{Here, slot, nowhere, Passes, is_carried, is_quiet}
+use Rattle.carry_law.proofs.Passing.{Here, slot, nowhere, located, Passes, is_carried, is_quiet}
 
 -- ONE AFTER ANOTHER
 
@@ -64,6 +64,16 @@ leaves_chain p q = record {
   dirty = λ h. q.dirty (p.dirty h);
   past = λ h. q.past (p.past h);
 }
+
+-- a relation of clusters that goes on from one to the next, where words see the same of both, and where one value goes from one place to another
+pub record GoesOver (R : Cluster → Cluster → Type 0) : Type 0 where
+  pub chain : (a b c : Cluster) → R a b → R b c → R a c
+  pub seen : (a b : Cluster) → HasPlaces a → HasPlaces b → b.code ≡ a.code → Alike a.code (things_of a) (things_of b) → R a b
+  pub carried : (a b : Cluster) (f g : Option Location) → HasPlaces a → HasPlaces b → Holds a first_at_holder → cells_in (things_of b) ≡ cells_in (things_of a) → Carried a b f g → R a b
+
+-- words do
+pub words_go : GoesOver LeavesWords
+words_go = record { chain = λ a b c p q. leaves_chain p q; seen = λ a b c d e s. untouched_stays a b c d (seen_alike a b c d e s); carried = λ a b f g c d firsts cells u. carried_stays a b f g c d firsts u }
 
 -- HANDS
 
@@ -210,141 +220,172 @@ module _ (k : Cluster) (sound : IsSound k) (s : Server) (here : server_at k.serv
       (chain (turned (ends_alike n s.events None None (put_back s.threads h) e))
       (chain (site_of h f) (chain (beside a.alike (itself (all_standing n (without_thread s.threads t)))) (chain (turned (site_of h2 (a.named ∙ f))) (ends_alike n s.events None None (put_back s.threads h2) (a.number ∙ e))))))
 
-  -- so the words stay from one hand to the other
-  pub moved_from : (h1 h : Hand) → h1.work.rest.number ≡ n → h1.thread.number ≡ t → HasPlaces (put h1) → HasPlaces (put h) → RootedIn (put h1) → Holds (put h1) first_at_holder → Moved k.code n h1 h → LeavesWords (put h1) (put h)
-  moved_from h1 h e1 f1 place_1 place_h root firsts (seen a) = untouched_stays (put h1) (put h) place_1 place_h (seen_alike (put h1) (put h) place_1 place_h refl (puts_alike h1 h e1 f1 a))
-  moved_from h1 h e1 f1 place_1 place_h root firsts (passed x z e a owns p blind b) = leaves_chain first (leaves_chain second third)
-    where
-      ha : Hand
-      ha = record h1 { thread = x }
-
-      hb : Hand
-      hb = record h1 { thread = z }
-
-      place_a : HasPlaces (put ha)
-      place_a = places_on (put h1) (put ha) n h1.thread x e (put_split k n s.threads (s.events + 1) h1 ha (stands_here h1 e1 f1) refl e) owns place_1
-
-      seen_a : Untouched (put h1) (put ha)
-      seen_a = seen_alike (put h1) (put ha) place_1 place_a refl (puts_alike h1 ha e1 f1 (record { number = refl; named = e; alike = beside a (itself (body_things n h1.work.rest)) }))
-
-      first : LeavesWords (put h1) (put ha)
-      first = untouched_stays (put h1) (put ha) place_1 place_a seen_a
-
-      split : Split (things_of (put ha)) (things_of (put hb)) (thread_things n false x) (thread_things n false z)
-      split = put_split k n s.threads (s.events + 1) ha hb (stands_here ha e1 (e ∙ f1)) refl p.number
-
-      place_b : HasPlaces (put hb)
-      place_b = places_on (put ha) (put hb) n x z p.number split p.owns place_a
-
-      second : LeavesWords (put ha) (put hb)
-      second =
-          carried_stays (put ha) (put hb) _ _ place_a place_b (first.holders firsts)
-          (is_carried (put ha) (put hb) n x z _ _ p split refl place_a place_b (is_quiet (put ha) (put hb) n x z _ _ p split refl place_a place_b blind (first.holders firsts) (rooted_on (put h1) (put ha) refl seen_a root)))
-
-      third : LeavesWords (put hb) (put h)
-      third = untouched_stays (put hb) (put h) place_b place_h (seen_alike (put hb) (put h) place_b place_h refl (puts_alike hb h e1 (p.number ∙ e ∙ f1) b))
-
   pub first_seen : Untouched k (put h0)
   first_seen = seen_alike k (put h0) before (places h0 first_ok) refl first_alike
 
   pub first_leaves : LeavesWords k (put h0)
   first_leaves = untouched_stays k (put h0) before (places h0 first_ok) first_seen
 
+  first_holders : Holds (put h0) first_at_holder
+  first_holders = first_leaves.holders sound.words.first_at_holder
+
   pub first_rooted : RootedIn (put h0)
   first_rooted = rooted_on k (put h0) refl first_seen (rooted k sound)
 
-  -- and so from the event's start
+  module _ {R : Cluster → Cluster → Type 0} (go : GoesOver R) where
+    -- so what goes on does so from one hand to the other
+    pub moved_over : (h1 h : Hand) → h1.work.rest.number ≡ n → h1.thread.number ≡ t → HasPlaces (put h1) → HasPlaces (put h) → RootedIn (put h1) → Holds (put h1) first_at_holder → Moved k.code n h1 h → R (put h1) (put h)
+    moved_over h1 h e1 f1 place_1 place_h root firsts (seen a) = go.seen (put h1) (put h) place_1 place_h refl (puts_alike h1 h e1 f1 a)
+    moved_over h1 h e1 f1 place_1 place_h root firsts (passed x z e a owns p blind b) = go.chain (put h1) (put ha) (put h) first (go.chain (put ha) (put hb) (put h) second third)
+      where
+        ha : Hand
+        ha = record h1 { thread = x }
+
+        hb : Hand
+        hb = record h1 { thread = z }
+
+        place_a : HasPlaces (put ha)
+        place_a = places_on (put h1) (put ha) n h1.thread x e (put_split k n s.threads (s.events + 1) h1 ha (stands_here h1 e1 f1) refl e) owns place_1
+
+        alike_a : Alike k.code (things_of (put h1)) (things_of (put ha))
+        alike_a = puts_alike h1 ha e1 f1 (record { number = refl; named = e; alike = beside a (itself (body_things n h1.work.rest)) })
+
+        seen_a : Untouched (put h1) (put ha)
+        seen_a = seen_alike (put h1) (put ha) place_1 place_a refl alike_a
+
+        holders : Holds (put ha) first_at_holder
+        holders = (untouched_stays (put h1) (put ha) place_1 place_a seen_a).holders firsts
+
+        first : R (put h1) (put ha)
+        first = go.seen (put h1) (put ha) place_1 place_a refl alike_a
+
+        split : Split (things_of (put ha)) (things_of (put hb)) (thread_things n false x) (thread_things n false z)
+        split = put_split k n s.threads (s.events + 1) ha hb (stands_here ha e1 (e ∙ f1)) refl p.number
+
+        place_b : HasPlaces (put hb)
+        place_b = places_on (put ha) (put hb) n x z p.number split p.owns place_a
+
+        second : R (put ha) (put hb)
+        second =
+            go.carried (put ha) (put hb) _ _ place_a place_b holders (cells_same (put ha) (put hb) n x z p.number split place_a place_b)
+            (is_carried (put ha) (put hb) n x z _ _ p split refl place_a place_b (is_quiet (put ha) (put hb) n x z _ _ p split refl place_a place_b blind holders (rooted_on (put h1) (put ha) refl seen_a root)))
+
+        third : R (put hb) (put h)
+        third = go.seen (put hb) (put h) place_b place_h refl (puts_alike hb h e1 (p.number ∙ e ∙ f1) b)
+
+    first_goes : R k (put h0)
+    first_goes = go.seen k (put h0) before (places h0 first_ok) refl first_alike
+
+    -- and so from the event's start
+    pub moved_goes : (h : Hand) → Ok h → Moved k.code n h0 h → R k (put h)
+    moved_goes h g m = go.chain k (put h0) (put h) first_goes (moved_over h0 h refl its_number (places h0 first_ok) (places h g) first_rooted first_holders m)
+
+    -- where what a slot owns goes, which was owned alone
+    module _ (index : ℕ) (content : Owned) (to : Here) (after : ThreadState) (stood : slice_get y.slots index ≡ Some (value.Own content)) (away : (j : ℕ) → slot j ≡ to → ⊥) (p : Passes k.code n y after (slot index) to) (alone : OwnsAlone k (at_slot y.number index)) where
+      abbrev hb : Hand
+      hb = record h0 { thread = after }
+
+      split : Split (things_of (put h0)) (things_of (put hb)) (thread_things n false y) (thread_things n false after)
+      split = put_split k n s.threads (s.events + 1) h0 hb (stands_here h0 refl its_number) refl p.number
+
+      place_b : HasPlaces (put hb)
+      place_b = places_on (put h0) (put hb) n y after p.number split p.owns (places h0 first_ok)
+
+      carried_out : Carried (put h0) (put hb) (located y.number (slot index)) (located y.number to)
+      carried_out =
+          is_carried (put h0) (put hb) n y after (slot index) to p split refl (places h0 first_ok) place_b
+          (owned_quiet (put h0) (put hb) n y after index to p split refl (places h0 first_ok) place_b content stood away (owns_on k (put h0) first_seen y.number index alone) first_holders first_rooted)
+
+      goes_out : R (put h0) (put hb)
+      goes_out = go.carried (put h0) (put hb) _ _ (places h0 first_ok) place_b first_holders (cells_same (put h0) (put hb) n y after p.number split (places h0 first_ok) place_b) carried_out
+
+      holders_out : Holds (put hb) first_at_holder
+      holders_out = (carried_stays (put h0) (put hb) _ _ (places h0 first_ok) place_b first_holders carried_out).holders first_holders
+
+      rooted_out : RootedIn (put hb)
+      rooted_out v w = let a = carried_out.takes v w in let r = first_rooted v a in (r.0, (carried_out.taken v a).0 ∙ r.1)
+
+    -- what goes on does so there
+    pub given_goes : (h : Hand) → Ok h → (q : Given k.code n h0 h) → OwnsAlone k (at_slot y.number q.index) → R k (put h)
+    given_goes h g q alone =
+        let b = record h0 { thread = q.after } in
+        go.chain k (put h0) (put h) first_goes
+        (go.chain (put h0) (put b) (put h) (goes_out q.index q.content q.to q.after q.stood q.away q.passes alone)
+        (go.seen (put b) (put h) (place_b q.index q.content q.to q.after q.stood q.away q.passes alone) (places h g) refl (puts_alike b h refl (q.passes.number ∙ its_number) q.together)))
+
+    -- and so it does where another value comes then
+    pub assigned_goes : (h : Hand) → Ok h → (q : Assigned k.code n h0 h) → OwnsAlone k (at_slot y.number q.index) → R k (put h)
+    assigned_goes h g q alone =
+        let b = record h0 { thread = q.after } in
+        let away : (j : ℕ) → slot j ≡ nowhere → ⊥ = λ j w. absurd cc in
+        go.chain k (put h0) (put h) first_goes
+        (go.chain (put h0) (put b) (put h) (goes_out q.index q.content nowhere q.after q.stood away q.passes alone)
+        (moved_over b h refl (q.passes.number ∙ its_number) (place_b q.index q.content nowhere q.after q.stood away q.passes alone) (places h g) (rooted_out q.index q.content nowhere q.after q.stood away q.passes alone) (holders_out q.index q.content nowhere q.after q.stood away q.passes alone) q.next))
+
+  -- so the words stay
+  pub moved_from : (h1 h : Hand) → h1.work.rest.number ≡ n → h1.thread.number ≡ t → HasPlaces (put h1) → HasPlaces (put h) → RootedIn (put h1) → Holds (put h1) first_at_holder → Moved k.code n h1 h → LeavesWords (put h1) (put h)
+  moved_from = moved_over words_go
+
   pub moved_leaves : (h : Hand) → Ok h → Moved k.code n h0 h → LeavesWords k (put h)
-  moved_leaves h g m = leaves_chain first_leaves (moved_from h0 h refl its_number (places h0 first_ok) (places h g) first_rooted (first_leaves.holders sound.words.first_at_holder) m)
+  moved_leaves = moved_goes words_go
 
-  -- and so they do where what goes was owned alone
   pub given_leaves : (h : Hand) → Ok h → (q : Given k.code n h0 h) → OwnsAlone k (at_slot y.number q.index) → LeavesWords k (put h)
-  given_leaves h g q alone = leaves_chain first_leaves (leaves_chain second third)
-    where
-      hb : Hand
-      hb = record h0 { thread = q.after }
+  given_leaves = given_goes words_go
 
-      split : Split (things_of (put h0)) (things_of (put hb)) (thread_things n false y) (thread_things n false q.after)
-      split = put_split k n s.threads (s.events + 1) h0 hb (stands_here h0 refl its_number) refl q.passes.number
-
-      place_a : HasPlaces (put h0)
-      place_a = places h0 first_ok
-
-      place_b : HasPlaces (put hb)
-      place_b = places_on (put h0) (put hb) n y q.after q.passes.number split q.passes.owns place_a
-
-      second : LeavesWords (put h0) (put hb)
-      second =
-          carried_stays (put h0) (put hb) _ _ place_a place_b (first_leaves.holders sound.words.first_at_holder)
-          (is_carried (put h0) (put hb) n y q.after (slot q.index) q.to q.passes split refl place_a place_b
-          (owned_quiet (put h0) (put hb) n y q.after q.index q.to q.passes split refl place_a place_b q.content q.stood q.away (owns_on k (put h0) first_seen y.number q.index alone) (first_leaves.holders sound.words.first_at_holder) first_rooted))
-
-      third : LeavesWords (put hb) (put h)
-      third = untouched_stays (put hb) (put h) place_b (places h g) (seen_alike (put hb) (put h) place_b (places h g) refl (puts_alike hb h refl (q.passes.number ∙ its_number) q.together))
-
-  -- so they do where another value comes then
   pub assigned_leaves : (h : Hand) → Ok h → (q : Assigned k.code n h0 h) → OwnsAlone k (at_slot y.number q.index) → LeavesWords k (put h)
-  assigned_leaves h g q alone = leaves_chain first_leaves (leaves_chain second (moved_from hb h refl (q.passes.number ∙ its_number) place_b (places h g) rooted_b (second.holders (first_leaves.holders sound.words.first_at_holder)) q.next))
-    where
-      hb : Hand
-      hb = record h0 { thread = q.after }
-
-      split : Split (things_of (put h0)) (things_of (put hb)) (thread_things n false y) (thread_things n false q.after)
-      split = put_split k n s.threads (s.events + 1) h0 hb (stands_here h0 refl its_number) refl q.passes.number
-
-      place_a : HasPlaces (put h0)
-      place_a = places h0 first_ok
-
-      place_b : HasPlaces (put hb)
-      place_b = places_on (put h0) (put hb) n y q.after q.passes.number split q.passes.owns place_a
-
-      carried : Carried (put h0) (put hb) (Some (at_slot y.number q.index)) None
-      carried =
-          is_carried (put h0) (put hb) n y q.after (slot q.index) nowhere q.passes split refl place_a place_b
-          (owned_quiet (put h0) (put hb) n y q.after q.index nowhere q.passes split refl place_a place_b q.content q.stood (λ j w. absurd cc) (owns_on k (put h0) first_seen y.number q.index alone) (first_leaves.holders sound.words.first_at_holder) first_rooted)
-
-      second : LeavesWords (put h0) (put hb)
-      second = carried_stays (put h0) (put hb) _ _ place_a place_b (first_leaves.holders sound.words.first_at_holder) carried
-
-      rooted_b : RootedIn (put hb)
-      rooted_b v w = let a = carried.takes v w in let r = first_rooted v a in (r.0, (carried.taken v a).0 ∙ r.1)
+  assigned_leaves = assigned_goes words_go
 
 -- IN ITS CLUSTER
 
--- the words stay with the server put back
+-- what goes on holds with the server put back
+abbrev pub ThereBy : (Cluster → Cluster → Type 0) → Cluster → Server → Server × EntryView → Type 0
+ThereBy R k s r = R k (record k { servers = with_server k.servers s.rest.number r.0 }) × HasPlaces (record k { servers = with_server k.servers s.rest.number r.0 })
+
 abbrev pub There : Cluster → Server → Server × EntryView → Type 0
-There k s r = LeavesWords k (record k { servers = with_server k.servers s.rest.number r.0 }) × HasPlaces (record k { servers = with_server k.servers s.rest.number r.0 })
+There k s r = ThereBy LeavesWords k s r
 
-handed : (k : Cluster) (s : Server) → server_at k.servers s.rest.number ≡ Some s → (o : Option (Server × EntryView)) → Gives (There k s) o
-    → Gives (λ (r : Server × EntryView). GoTo (with_server k.servers s.rest.number r.0) (drop_first (length s.rest.outbox) r.0.rest.outbox)) o
-    → Gives (λ (d : Cluster × EntryView). HasPlaces d.0 → LeavesWords k d.0) (option_map (λ r. (record k { servers = hand_over_newer s.rest.number (length s.rest.outbox) r.0 k.servers }, r.1)) o)
-handed k s here None a g = tt
-handed k s here (Some r) a g = λ q.
-    let n = s.rest.number in
-    let older = length s.rest.outbox in
-    let mid : Cluster = record k { servers = with_server k.servers n r.0 } in
-    let end : Cluster = record k { servers = hand_over_newer n older r.0 k.servers } in
-    let alike : Alike k.code (things_of mid) (things_of end) = handed_over n older s r.0 k.servers here (go_with k.servers n r.0 (take older r.0.rest.outbox) (drop_first older r.0.rest.outbox) g) in
-    leaves_chain a.0 (untouched_stays mid end a.1 q (seen_alike mid end a.1 q refl alike))
+module _ {R : Cluster → Cluster → Type 0} (go : GoesOver R) where
+  handed : (k : Cluster) (s : Server) → server_at k.servers s.rest.number ≡ Some s → (o : Option (Server × EntryView)) → Gives (ThereBy R k s) o
+      → Gives (λ (r : Server × EntryView). GoTo (with_server k.servers s.rest.number r.0) (drop_first (length s.rest.outbox) r.0.rest.outbox)) o
+      → Gives (λ (d : Cluster × EntryView). HasPlaces d.0 → R k d.0) (option_map (λ r. (record k { servers = hand_over_newer s.rest.number (length s.rest.outbox) r.0 k.servers }, r.1)) o)
+  handed k s here None a g = tt
+  handed k s here (Some r) a g = λ q.
+      let n = s.rest.number in
+      let older = length s.rest.outbox in
+      let mid : Cluster = record k { servers = with_server k.servers n r.0 } in
+      let end : Cluster = record k { servers = hand_over_newer n older r.0 k.servers } in
+      let alike : Alike k.code (things_of mid) (things_of end) = handed_over n older s r.0 k.servers here (go_with k.servers n r.0 (take older r.0.rest.outbox) (drop_first older r.0.rest.outbox) g) in
+      go.chain k mid end a.0 (go.seen mid end a.1 q refl alike)
 
--- so they stay once messages are handed over
+  -- and once messages are handed over
+  pub left_by : (k : Cluster) (s : Server) (t : ℕ) → IsSound k → FewEvents k → server_at k.servers s.rest.number ≡ Some s → (enabled k.options s (Step t) ≡ true → Gives (ThereBy R k s) (does k.code k.options s (Step t))) → Gives (λ (d : Cluster × EntryView). R k d.0) (apply k (record { server = s.rest.number; what = Step t }))
+  left_by k s t sound few h f =
+      both_give (λ (d : Cluster × EntryView). HasPlaces d.0 → R k d.0) (λ (d : Cluster × EntryView). HasPlaces d.0) (λ (d : Cluster × EntryView). R k d.0) (apply k (record { server = s.rest.number; what = Step t }))
+      (subst (λ o. Gives (λ (d : Cluster × EntryView). HasPlaces d.0 → R k d.0) (then_some o (λ x. option_map (λ d. (record k { servers = hand_over_newer s.rest.number (length x.rest.outbox) d.0 k.servers }, d.1)) (done_at k (Step t) x)))) (sym h)
+      (handed k s h (done_at k (Step t) s) (test_gives (ThereBy R k s) (enabled k.options s (Step t)) (does k.code k.options s (Step t)) f) (each_event_sends k (record { server = s.rest.number; what = Step t }) sound few s h)))
+      (applied_part HasPlaces (λ c g. record { numbers_differ = g.numbers_differ; home_of_each = g.home_of_each; owner_of_each = g.owner_of_each }) k (record { server = s.rest.number; what = Step t }) sound few)
+      (λ d a c. a c)
+
+-- a step of its thread, of which something is shown from which it goes on
+pub step_by : (R : Cluster → Cluster → Type 0) (k : Cluster) (sound : IsSound k) (s : Server) (here : server_at k.servers s.rest.number ≡ Some s) (t : ℕ) (y : ThreadState) (at : thread_in s.threads t ≡ Some y) (i : Instr) → slice_get k.code y.pc ≡ Some i
+    → (P : Hand → Type 0) → ((h : Hand) → Ok k sound s here t y at h → P h → R k (put k sound s here t y at h))
+    → Gives (λ (d : Stepped). Ok k sound s here t y at d.hand) (step k.options.servers i (h0 k sound s here t y at))
+    → Gives (λ (d : Stepped). P d.hand) (step k.options.servers i (h0 k sound s here t y at))
+    → Gives (ThereBy R k s) (does k.code k.options s (Step t))
+step_by R k sound s here t y at i code P leaves ok moved =
+    subst (λ o. Gives (ThereBy R k s) (option_map (stepped s) (then_some (option_map (λ v. record { work = begin_work s.rest; thread = v }) o) (step_in k.code k.options.servers)))) (sym at)
+    (subst (λ o. Gives (ThereBy R k s) (option_map (stepped s) (then_some o (λ j. step k.options.servers j (h0 k sound s here t y at))))) (sym code)
+    (over_gives (λ (d : Stepped). Ok k sound s here t y at d.hand × P d.hand) (ThereBy R k s) (step k.options.servers i (h0 k sound s here t y at)) (stepped s)
+    (both_give (λ (d : Stepped). Ok k sound s here t y at d.hand) (λ (d : Stepped). P d.hand) (λ (d : Stepped). Ok k sound s here t y at d.hand × P d.hand) (step k.options.servers i (h0 k sound s here t y at)) ok moved (λ d a b. (a, b)))
+    (λ d g. (leaves d.hand g.0 g.1, places k sound s here t y at d.hand g.0))))
+
+-- so the words stay
 pub left_where : (k : Cluster) (s : Server) (t : ℕ) → IsSound k → FewEvents k → server_at k.servers s.rest.number ≡ Some s → (enabled k.options s (Step t) ≡ true → Gives (There k s) (does k.code k.options s (Step t))) → Gives (λ (d : Cluster × EntryView). LeavesWords k d.0) (apply k (record { server = s.rest.number; what = Step t }))
-left_where k s t sound few h go =
-    both_give (λ (d : Cluster × EntryView). HasPlaces d.0 → LeavesWords k d.0) (λ (d : Cluster × EntryView). HasPlaces d.0) (λ (d : Cluster × EntryView). LeavesWords k d.0) (apply k (record { server = s.rest.number; what = Step t }))
-    (subst (λ o. Gives (λ (d : Cluster × EntryView). HasPlaces d.0 → LeavesWords k d.0) (then_some o (λ x. option_map (λ d. (record k { servers = hand_over_newer s.rest.number (length x.rest.outbox) d.0 k.servers }, d.1)) (done_at k (Step t) x)))) (sym h)
-    (handed k s h (done_at k (Step t) s) (test_gives (There k s) (enabled k.options s (Step t)) (does k.code k.options s (Step t)) go) (each_event_sends k (record { server = s.rest.number; what = Step t }) sound few s h)))
-    (applied_part HasPlaces (λ c g. record { numbers_differ = g.numbers_differ; home_of_each = g.home_of_each; owner_of_each = g.owner_of_each }) k (record { server = s.rest.number; what = Step t }) sound few)
-    (λ d a c. a c)
+left_where = left_by words_go
 
--- a step of its thread, of which something is shown that leaves them
 pub step_there : (k : Cluster) (sound : IsSound k) (s : Server) (here : server_at k.servers s.rest.number ≡ Some s) (t : ℕ) (y : ThreadState) (at : thread_in s.threads t ≡ Some y) (i : Instr) → slice_get k.code y.pc ≡ Some i
     → (P : Hand → Type 0) → ((h : Hand) → Ok k sound s here t y at h → P h → LeavesWords k (put k sound s here t y at h))
     → Gives (λ (d : Stepped). Ok k sound s here t y at d.hand) (step k.options.servers i (h0 k sound s here t y at))
     → Gives (λ (d : Stepped). P d.hand) (step k.options.servers i (h0 k sound s here t y at))
     → Gives (There k s) (does k.code k.options s (Step t))
-step_there k sound s here t y at i code P leaves ok moved =
-    subst (λ o. Gives (There k s) (option_map (stepped s) (then_some (option_map (λ v. record { work = begin_work s.rest; thread = v }) o) (step_in k.code k.options.servers)))) (sym at)
-    (subst (λ o. Gives (There k s) (option_map (stepped s) (then_some o (λ j. step k.options.servers j (h0 k sound s here t y at))))) (sym code)
-    (over_gives (λ (d : Stepped). Ok k sound s here t y at d.hand × P d.hand) (There k s) (step k.options.servers i (h0 k sound s here t y at)) (stepped s)
-    (both_give (λ (d : Stepped). Ok k sound s here t y at d.hand) (λ (d : Stepped). P d.hand) (λ (d : Stepped). Ok k sound s here t y at d.hand × P d.hand) (step k.options.servers i (h0 k sound s here t y at)) ok moved (λ d a b. (a, b)))
-    (λ d g. (leaves d.hand g.0 g.1, places k sound s here t y at d.hand g.0))))
+step_there = step_by LeavesWords

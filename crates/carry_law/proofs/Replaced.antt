@@ -108,7 +108,7 @@ module _ (a b : Cluster) (n : ℕ) (x y : ThreadState) (named : y.number ≡ x.n
       nil_right [] = refl
       nil_right (z ∷ k) = ap (λ q. z ∷ q) (nil_right k)
 
-  cells_same : cells_in (things_of b) ≡ cells_in (things_of a)
+  pub cells_same : cells_in (things_of b) ≡ cells_in (things_of a)
   cells_same = ap cells_in s.after ∙ cells_parts s.left (thread_things n false y) s.right (thread_cells n y) ∙ sym (cells_parts s.left (thread_things n false x) s.right (thread_cells n x)) ∙ sym (ap cells_in s.before)
 
   pub at_a : thread_at (sight a).ground.threads x.number ≡ Some sx

@@ -2,13 +2,14 @@
 use Rattle.std.proofs.Common.{◌≡◌, inl, inr, ℕ, ◌≤◌, ◌&&◌, ◌||◌, not, Bool, true, false, if◌then◌else◌, List, [], ◌∷◌, Option, Some, None, refl, sym, ap, subst, ◌∙◌, arith}
 use Rattle.std.proofs.lemmas.Bool.{eqb-true, eq-eqb}
 use Rattle.fr_base.specs.declared.name.ObjNo.{ObjNo}
+use Rattle.fr_base.specs.declared.instruction.Instr.{Instr}
 use Rattle.heap_partition.specs.declared.value.Cell.{Cell}
 use Rattle.mut_borrow.specs.declared.mutable.MutRef.{MutRef}
 use Rattle.server_model.specs.Servers.{Cluster}
 use Rattle.heap_law.specs.Names.{tot, one, same_object, Among}
 use Rattle.heap_law.specs.Things.{Location, Thing, borrows, lies, flies, things_of}
 use Rattle.heap_law.specs.Follow.{cells_in, value_in}
-use Rattle.heap_law.specs.Stale.{Reference, is_among, holder_of}
+use Rattle.heap_law.specs.Stale.{Reference, references, is_among, holder_of}
 use Rattle.heap_law.specs.Sight.{Pointer, pointers_in, taken_pointers, word_of_object, is_word, cell_of_word, dirty_objects, if_dirty, is_object_among, sight, word}
 use Rattle.heap_law.specs.Words.{IsStale, Fresh, HasWords}
 use Rattle.heap_law.specs.Weights.{cells}
@@ -20,10 +21,14 @@ use Rattle.path_law.proofs.Origins.{among_first}
 use Rattle.path_law.proofs.InState.{only_one}
 use Rattle.path_law.proofs.Contained.{reference_there}
 use Rattle.word_law.specs.Reworded.{HasPlaces}
-use Rattle.word_law.specs.Unmoved.{seen_at, Taking, takings, WordsStay, Untouched}
+use Rattle.word_law.specs.Unmoved.{seen_at, Taking, takings, WordsStay, LeavesWords}
 use Rattle.word_law.proofs.Standing.{CellOf, lying, flying, borrow_stands, pointers_among}
 use Rattle.word_law.proofs.Grounds.{of_borrows}
 use Rattle.word_law.proofs.Unmoved.{reference, stale_at}
+use Rattle.stay_law.proofs.Alike.{Within}
+use Rattle.stay_law.proofs.Seen.{seen_alike}
+use Rattle.carry_law.proofs.Carrying.{fresh_on, fresh_back}
+use Rattle.carry_law.proofs.Hands.{GoesOver, words_go}
 use Rattle.copy_law.specs.Copies.{CellsStay}
 
 -- THE CELL OF A WORD
@@ -140,16 +145,30 @@ listed_dirty o places l r (borrows m q ∷ b) (inr h) e d f = by (q.dirty && not
     by false z = z
 listed_dirty o places l r (_ ∷ b) (inr h) e d f = listed_dirty o places l r b h e d f
 
--- references and what is stale go on from one cluster to the other
-pub record ReferencesGo (a b : Cluster) : Type 0 where
-  pub stays : (l : Location) (r : MutRef) → Among (borrows l r) (things_of a) → Among (borrows l r) (things_of b)
-  pub back : (l : Location) → IsStale (sight b) (Some l) → IsStale (sight a) (Some l)
+-- each dirty reference that isn't stale has one in the other cluster to the same object
+pub record Found (z : Cluster) (r : MutRef) : Type 0 where
+  pub reference : Reference
+  pub among : Among reference (references (sight z).ground (things_of z))
+  pub same : reference.reference ≡ r
+  pub fresh : IsStale (sight z) (Some reference.at) → ⊥
 
-dirty_goes : (a b : Cluster) → ReferencesGo a b → (o : ObjNo) → is_object_among o (sight a).dirty ≡ true → is_object_among o (sight b).dirty ≡ true
-dirty_goes a b g o e =
+abbrev pub ChangedGo : Cluster → Cluster → Type 0
+ChangedGo k z = (q : Reference) → Among q (references (sight k).ground (things_of k)) → (IsStale (sight k) (Some q.at) → ⊥) → Found z q.reference
+
+pub changed_chain : (a b c : Cluster) → ChangedGo a b → ChangedGo b c → ChangedGo a c
+changed_chain a b c f g q m n =
+    let x = f q m n in
+    let y = g x.reference x.among x.fresh in
+    record { reference = y.reference; among = y.among; same = y.same ∙ x.same; fresh = y.fresh }
+
+dirty_goes : (a b : Cluster) → HasPlaces a → ChangedGo a b → (o : ObjNo) → is_object_among o (sight a).dirty ≡ true → is_object_among o (sight b).dirty ≡ true
+dirty_goes a b c g o e =
     let q = dirty_one o (sight a).stale (things_of a) e in
-    let fresh : IsStale (sight b) (Some q.at) → ⊥ = λ s. let no : false ≡ true = sym q.fresh ∙ told_stale a (Some q.at) (g.back q.at s) in cc no in
-    listed_dirty o (sight b).stale q.at q.reference (things_of b) (g.stays q.at q.reference q.among) q.object q.dirty (not_told b (Some q.at) fresh)
+    let fresh : IsStale (sight a) (Some q.at) → ⊥ = λ s. let no : false ≡ true = sym q.fresh ∙ told_stale a (Some q.at) s in cc no in
+    let there = reference_there a q.at q.reference (borrow_stands a c q.at q.reference q.among) in
+    let y = g (record { at = q.at; holder = holder_of (sight a).ground q.at q.reference.holder; reference = q.reference }) there fresh in
+    listed_dirty o (sight b).stale y.reference.at y.reference.reference (things_of b) (of_borrows (sight b).ground y.reference (things_of b) y.among).among (ap (λ (r : MutRef). r.object) y.same ∙ q.object) (ap (λ (r : MutRef). r.dirty) y.same ∙ q.dirty)
+    (not_told b (Some y.reference.at) y.fresh)
 
 same_truth : (p q : Bool) → (p ≡ true → q ≡ true) → (q ≡ true → p ≡ true) → q ≡ p
 same_truth true true f g = refl
@@ -157,20 +176,16 @@ same_truth false false f g = refl
 same_truth true false f g = absurd (cc (f refl))
 same_truth false true f g = absurd (cc (g refl))
 
-pub dirty_same : (k z : Cluster) → ReferencesGo k z → ReferencesGo z k → (o : ObjNo) → is_object_among o (sight z).dirty ≡ is_object_among o (sight k).dirty
-dirty_same k z on back o = same_truth (is_object_among o (sight k).dirty) (is_object_among o (sight z).dirty) (dirty_goes k z on o) (dirty_goes z k back o)
+-- so the same objects are changed through references
+dirty_same : (k z : Cluster) → HasPlaces k → HasPlaces z → ChangedGo k z → ChangedGo z k → (o : ObjNo) → is_object_among o (sight z).dirty ≡ is_object_among o (sight k).dirty
+dirty_same k z c d on back o = same_truth (is_object_among o (sight k).dirty) (is_object_among o (sight z).dirty) (dirty_goes k z c on o) (dirty_goes z k d back o)
 
 -- where at each location stands the same, and threads have taken the same
 module _ (a b : Cluster) (c : HasPlaces a) (d : HasPlaces b) (st : (l : Location) → seen_at l (value_in (sight b).ground l) ≡ seen_at l (value_in (sight a).ground l))
     (took : (t : Taking) → Among t (takings a.code (sight a).ground.threads) → Among t (takings b.code (sight b).ground.threads))
     (takes : (t : Taking) → Among t (takings b.code (sight b).ground.threads) → Among t (takings a.code (sight a).ground.threads)) where
-  references_go : ReferencesGo a b
-  references_go = record {
-    stays = λ l r h.
-        let q : Reference = record { at = l; holder = holder_of (sight a).ground l r.holder; reference = r } in
-        (of_borrows (sight b).ground q (things_of b) (reference a b c st took q (reference_there a l r (borrow_stands a c l r h)))).among;
-    back = λ l s. stale_at b a d (λ m. sym (st m)) takes (Some l) s;
-  }
+  changed_go : ChangedGo a b
+  changed_go q m n = record { reference = q; among = reference a b c st took q m; same = refl; fresh = λ s. n (stale_at b a d (λ l. sym (st l)) takes (Some q.at) s) }
 
 -- WORDS
 
@@ -236,34 +251,71 @@ module _ (k : Cluster) (sound : IsSound k) where
 
 -- CELLS STAY
 
--- the same cells, words and changed references
-pub record SameClean (k z : Cluster) (sound : IsSound k) : Type 0 where
-  pub words : WordsStay (sight k) (sight z) sound.words.have_words
+-- the same cells, and the same objects are changed
+pub record KeepsClean (k z : Cluster) : Type 0 where
   pub on : (c : Cell) → Among c (cells_in (things_of k)) → Among c (cells_in (things_of z))
   pub back : (c : Cell) → Among c (cells_in (things_of z)) → Among c (cells_in (things_of k))
-  pub dirty : (o : ObjNo) → is_object_among o (sight z).dirty ≡ is_object_among o (sight k).dirty
+  pub changed_on : ChangedGo k z
+  pub changed_back : ChangedGo z k
 
-pub cells_stay : (k z : Cluster) (sound : IsSound k) → SameClean k z sound → CellsStay k z
-cells_stay k z sound s w = ap (if_clean (sight z)) found ∙ clean (cell_of_word (sight k).pointers (sight k).ground.cells w)
+-- with the words too, each word has the same clean cell
+pub cells_stay : (k z : Cluster) (sound : IsSound k) → HasPlaces k → HasPlaces z → LeavesWords k z → KeepsClean k z → CellsStay k z
+cells_stay k z sound c d leaves s w = ap (if_clean (sight z)) found ∙ clean (cell_of_word (sight k).pointers (sight k).ground.cells w)
   where
-    same_word : (c : Cell) → Among c (cells_in (things_of k)) → word (sight z) c.object ≡ word (sight k) c.object
-    same_word c m = told z s.words.after c (s.on c m) ∙ ap (λ v. Some v) (s.words.same c.object) ∙ sym (told k sound.words.have_words c m)
+    words : WordsStay (sight k) (sight z) sound.words.have_words
+    words = leaves.words sound.words.have_words
+
+    same_word : (x : Cell) → Among x (cells_in (things_of k)) → word (sight z) x.object ≡ word (sight k) x.object
+    same_word x m = told z words.after x (s.on x m) ∙ ap (λ v. Some v) (words.same x.object) ∙ sym (told k sound.words.have_words x m)
 
     found : cell_of_word (sight z).pointers (sight z).ground.cells w ≡ cell_of_word (sight k).pointers (sight k).ground.cells w
     found =
         found_same (sight k).pointers (sight z).pointers (sight k).ground.cells (sight z).ground.cells w
-        (record { on = s.on; back = s.back; words = λ c m. ap (λ v. is_word v w) (same_word c m); one = λ c d m n e f. one_of_word k sound w c d m n e f })
+        (record { on = s.on; back = s.back; words = λ x m. ap (λ v. is_word v w) (same_word x m); one = λ x y m n e f. one_of_word k sound w x y m n e f })
 
     clean : (x : Option Cell) → if_clean (sight z) x ≡ if_clean (sight k) x
     clean None = refl
-    clean (Some c) = ap (λ b. unless_dirty b c) (s.dirty c.object)
+    clean (Some x) = ap (λ b. unless_dirty b x) (dirty_same k z c d s.changed_on s.changed_back x.object)
 
--- where words see the same of both clusters, and the cells are the same
-pub same_clean : (k z : Cluster) (sound : IsSound k) → HasPlaces k → HasPlaces z → Untouched k z → WordsStay (sight k) (sight z) sound.words.have_words
-    → ((c : Cell) → Among c (cells_in (things_of k)) → Among c (cells_in (things_of z))) → ((c : Cell) → Among c (cells_in (things_of z)) → Among c (cells_in (things_of k))) → SameClean k z sound
-same_clean k z sound c d u words on back = record {
-  words = words;
-  on = on;
-  back = back;
-  dirty = dirty_same k z (references_go k z c d u.stands u.took u.takes) (references_go z k d c (λ l. sym (u.stands l)) u.takes u.took);
+-- cells of one list are those of another in which words see the same
+pub cells_on : (code : List Instr) (a b : List Thing) → Within code a b → (c : Cell) → Among c (cells_in a) → Among c (cells_in b)
+cells_on code a b w c h = let q = cell_thing a c h in by q.0 q.2 q.1
+  where
+    by : (y : Thing) → CellOf c y → Among y a → Among c (cells_in b)
+    by _ (lying r g) m = thing_cell b c (lies r g c) (lying r g) (w (lies r g c) m)
+    by _ (flying v) m = thing_cell b c (flies v c) (flying v) (w (flies v c) m)
+
+-- it goes on from one cluster to the next, where words see the same of both, and where one value goes from one place to another
+pub clean_goes : GoesOver KeepsClean
+clean_goes = record {
+  chain = λ a b c p q. record {
+    on = λ x m. q.on x (p.on x m);
+    back = λ x m. p.back x (q.back x m);
+    changed_on = changed_chain a b c p.changed_on q.changed_on;
+    changed_back = changed_chain c b a q.changed_back p.changed_back;
+  };
+  seen = λ a b c d code s.
+      let u = seen_alike a b c d code s in record {
+        on = cells_on a.code (things_of a) (things_of b) s.on;
+        back = cells_on a.code (things_of b) (things_of a) s.back;
+        changed_on = changed_go a b c d u.stands u.took u.takes;
+        changed_back = changed_go b a d c (λ l. sym (u.stands l)) u.takes u.took;
+      };
+  carried = λ a b f g c d firsts cells u. record {
+    on = λ x m. subst (λ l. Among x l) (sym cells) m;
+    back = λ x m. subst (λ l. Among x l) cells m;
+    changed_on = λ q m n. let y = fresh_on a b f g c d firsts u q m n in record { reference = y.0; among = y.1; same = y.2; fresh = y.3 };
+    changed_back = λ q m n. let y = fresh_back a b f g c d firsts u q m n in record { reference = y.0; among = y.1; same = y.2; fresh = y.3 };
+  };
+}
+
+-- words and cells together
+abbrev pub Leaves : Cluster → Cluster → Type 0
+Leaves k z = LeavesWords k z × KeepsClean k z
+
+pub all_goes : GoesOver Leaves
+all_goes = record {
+  chain = λ a b c p q. (words_go.chain a b c p.0 q.0, clean_goes.chain a b c p.1 q.1);
+  seen = λ a b c d e s. (words_go.seen a b c d e s, clean_goes.seen a b c d e s);
+  carried = λ a b f g c d firsts cells u. (words_go.carried a b f g c d firsts cells u, clean_goes.carried a b f g c d firsts cells u);
 }

@@ -1,18 +1,22 @@
 -- Each kind of event that is proved to leave copies right.
-use Rattle.std.proofs.Common.{◌≡◌, ℕ, List, [], ◌∷◌, Some, is_some, refl, sym, ap, subst, ◌∙◌, arith}
-use Rattle.std.specs.Prelude.{⊤, slice_get, option_map}
+use Rattle.std.proofs.Common.{◌≡◌, ℕ, zero, suc, ◌-◌, ◌+◌, List, [], ◌∷◌, Some, is_some, refl, sym, ap, subst, ◌∙◌, arith}
+use Rattle.std.specs.Prelude.{⊤, length, slice_get, option_map}
+use Rattle.fr_base.specs.declared.place.Lval.{Lval}
 use Rattle.fr_base.specs.declared.instruction.Instr.{Instr}
 use Rattle.fr_base.specs.declared.instruction.Instr.TheVariants as instr
 use Rattle.heap_partition.specs.declared.value.Cell.{Cell}
 use Rattle.journal.specs.View.{EntryView}
 use Rattle.thread_state.specs.View.{ThreadState}
+use Rattle.thread_state.specs.declared.value.Value.{Value}
+use Rattle.thread_state.specs.declared.value.Value.TheVariants as value
 use Rattle.server_msgs.specs.declared.message.Message.{Message}
 use Rattle.server_msgs.specs.declared.message.Message.TheVariants as message
 use Rattle.server_model.specs.declared.event.Event.{Event}
 use Rattle.server_model.specs.declared.event.What.TheVariants.{Step}
 use Rattle.server_model.specs.Servers.{Server, Cluster, server_at}
 use Rattle.server_model.specs.Work.{thread_in, then_some}
-use Rattle.server_model.specs.Prepare.{access_of}
+use Rattle.server_model.specs.Places.{Spot, in_slot as spot_slot, on_top}
+use Rattle.server_model.specs.Prepare.{ending, assigned, access_of}
 use Rattle.server_model.specs.Clusters.{apply}
 use Rattle.heap_law.specs.Names.{tot, other, Among}
 use Rattle.heap_law.specs.Things.{Thing, lies, flies, copied, sent, things_of}
@@ -33,9 +37,13 @@ use Rattle.stay_law.proofs.Alike.{Alike, Within}
 use Rattle.stay_law.proofs.Seen.{seen_alike}
 use Rattle.stay_law.proofs.StayKinds.{Stays, Seen, kind_seen}
 use Rattle.local_law.proofs.Small.{Follows}
+use Rattle.carry_law.specs.Steps.{CarriesOne, a_let, a_mutex, a_join, an_end, IsNoReference, GivesOwned, drops as owned_drops, drops_none as none_drops, puts_back as owned_back, IsOwnedOrGone, owns, gone}
+use Rattle.carry_law.proofs.Events.{steps_go, discards_go}
+use Rattle.carry_law.proofs.Gives.{owned_go}
+use Rattle.carry_law.proofs.Assigns.{assigns_go}
 use Rattle.value_law.proofs.Sums.{sent_copy, copy_of}
-use Rattle.copy_law.specs.Copies.{CellsStay, CopiesComeFromCopies, CopiesAreRight, KeepCopies}
-use Rattle.copy_law.proofs.Clean.{cell_thing, thing_cell, cells_stay, same_clean}
+use Rattle.copy_law.specs.Copies.{CellsStay, CopiesComeFromCopies, CopiesAreRight, KeepCopies, StepsKeepCopies, DiscardsKeepCopies, LetsGo, drops, drops_none, puts_back, DropsKeepCopies, AssignsKeepCopies}
+use Rattle.copy_law.proofs.Clean.{Leaves, cells_stay, all_goes}
 use Rattle.copy_law.proofs.Comes.{AskedWeighNothing, copies_come}
 use Rattle.copy_law.proofs.Served.{served_right}
 
@@ -130,6 +138,25 @@ come_from_requests k e sound few asked =
     clean : tot (unclean (sight k)) (things_of k) ≡ 0
     clean = sound.copies.served_are_clean
 
+-- IN A CLUSTER
+
+places_before : (k : Cluster) → IsSound k → HasPlaces k
+places_before k sound = record { numbers_differ = sound.names.numbers_differ; home_of_each = sound.one_home.home_of_each; owner_of_each = sound.one_owner.owner_of_each }
+
+places_after : (k : Cluster) (e : Event) → IsSound k → FewEvents k → Gives (λ (d : Cluster × EntryView). HasPlaces d.0) (apply k e)
+places_after k e sound few = applied_part HasPlaces (λ c g. record { numbers_differ = g.numbers_differ; home_of_each = g.home_of_each; owner_of_each = g.owner_of_each }) k e sound few
+
+-- where clean cells stay both do
+abbrev BothStay : Cluster → Cluster × EntryView → Type 0
+BothStay k d = (CellsStay k d.0 → Holds d.0 copies_agree) × (CellsStay k d.0 → Holds d.0 served_are_clean)
+
+-- where clean cells stay, and no copy is asked for, copies are right
+kept_so : (k : Cluster) (e : Event) → IsSound k → FewEvents k → Gives (λ (d : Cluster × EntryView). CellsStay k d.0) (apply k e) → AskedWeighNothing k e (has_none k) → Gives (λ (d : Cluster × EntryView). CopiesAreRight d.0) (apply k e)
+kept_so k e sound few cells asked =
+    both_give (λ (d : Cluster × EntryView). CellsStay k d.0) (BothStay k) (λ (d : Cluster × EntryView). CopiesAreRight d.0) (apply k e) cells
+    (both_give (λ (d : Cluster × EntryView). CellsStay k d.0 → Holds d.0 copies_agree) (λ (d : Cluster × EntryView). CellsStay k d.0 → Holds d.0 served_are_clean) (BothStay k) (apply k e) (come_from_copies k e sound few) (come_from_requests k e sound few asked) (λ d a b. (a, b)))
+    (λ d stay both. record { agree = both.0 stay; clean = both.1 stay })
+
 -- KINDS
 
 -- an instruction of these follows no place
@@ -154,14 +181,6 @@ follows_none instr.Unlock y p f = p
 follows_none (instr.Par cs pc ds other) y p f = p
 follows_none (instr.End o) y p f = p
 
--- cells of one list are those of another in which words see the same
-cells_on : (code : List Instr) (a b : List Thing) → Within code a b → (c : Cell) → Among c (cells_in a) → Among c (cells_in b)
-cells_on code a b w c h = let q = cell_thing a c h in by q.0 q.2 q.1
-  where
-    by : (y : Thing) → CellOf c y → Among y a → Among c (cells_in b)
-    by _ (lying r g) m = thing_cell b c (lies r g c) (lying r g) (w (lies r g c) m)
-    by _ (flying v) m = thing_cell b c (flies v c) (flying v) (w (flies v c) m)
-
 module _ (kind : Kind) (p : Stays kind) (k : Cluster) (e : Event) (of_kind : IsOfKind kind k e) (sound : IsSound k) (few : FewEvents k) where
   -- the instruction of a step is of the kind
   step_kind : (s : Server) → server_at k.servers e.server ≡ Some s → (t : ℕ) (y : ThreadState) (i : Instr) → e.what ≡ Step t → thread_in s.threads t ≡ Some y → slice_get k.code y.pc ≡ Some i → Stays (instr_kind i)
@@ -174,29 +193,86 @@ module _ (kind : Kind) (p : Stays kind) (k : Cluster) (e : Event) (of_kind : IsO
   asks_none : AskedWeighNothing k e (has_none k)
   asks_none s here t y i q there at f b = absurd (follows_none i y (step_kind s here t y i q there at) f)
 
-  here_it : HasPlaces k
-  here_it = record { numbers_differ = sound.names.numbers_differ; home_of_each = sound.one_home.home_of_each; owner_of_each = sound.one_owner.owner_of_each }
-
-  stays : (z : Cluster) → HasPlaces z → z.code ≡ k.code → Alike k.code (things_of k) (things_of z) → CellsStay k z
-  stays z places code a =
-      let u = seen_alike k z here_it places code a in
-      let words = (untouched_stays k z here_it places u).words sound.words.have_words in
-      cells_stay k z sound (same_clean k z sound here_it places u words (cells_on k.code (things_of k) (things_of z) a.on) (cells_on k.code (things_of z) (things_of k) a.back))
-
-  abbrev Both : Cluster × EntryView → Type 0
-  Both d = (CellsStay k d.0 → Holds d.0 copies_agree) × (CellsStay k d.0 → Holds d.0 served_are_clean)
-
   cells_after : Gives (λ (d : Cluster × EntryView). CellsStay k d.0) (apply k e)
   cells_after =
-      both_give (Seen k e (λ v. ⊤)) (λ (d : Cluster × EntryView). HasPlaces d.0) (λ (d : Cluster × EntryView). CellsStay k d.0) (apply k e) (kind_seen kind p k e of_kind sound few)
-      (applied_part HasPlaces (λ c g. record { numbers_differ = g.numbers_differ; home_of_each = g.home_of_each; owner_of_each = g.owner_of_each }) k e sound few)
-      (λ d seen places. let same = seen tt in stays d.0 places same.0 same.1)
-
-  pub kept : Gives (λ (d : Cluster × EntryView). CopiesAreRight d.0) (apply k e)
-  kept =
-      both_give (λ (d : Cluster × EntryView). CellsStay k d.0) Both (λ (d : Cluster × EntryView). CopiesAreRight d.0) (apply k e) cells_after
-      (both_give (λ (d : Cluster × EntryView). CellsStay k d.0 → Holds d.0 copies_agree) (λ (d : Cluster × EntryView). CellsStay k d.0 → Holds d.0 served_are_clean) Both (apply k e) (come_from_copies k e sound few) (come_from_requests k e sound few asks_none) (λ d a b. (a, b)))
-      (λ d stay both. record { agree = both.0 stay; clean = both.1 stay })
+      both_give (Seen k e (λ v. ⊤)) (λ (d : Cluster × EntryView). HasPlaces d.0) (λ (d : Cluster × EntryView). CellsStay k d.0) (apply k e) (kind_seen kind p k e of_kind sound few) (places_after k e sound few)
+      (λ d seen places. let same = seen tt in stays d.0 places (all_goes.seen k d.0 (places_before k sound) places same.0 same.1))
+    where
+      stays : (z : Cluster) → HasPlaces z → Leaves k z → CellsStay k z
+      stays z places a = cells_stay k z sound (places_before k sound) places a.0 a.1
 
 pub keep_copies : (kind : Kind) → Stays kind → KeepCopies kind
-keep_copies kind p k e q sound few = kept kind p k e q sound few
+keep_copies kind p k e q sound few = kept_so k e sound few (cells_after kind p k e q sound few) (asks_none kind p k e q sound few)
+
+-- STEPS OF OTHER INSTRUCTIONS
+
+module _ (k : Cluster) (number t : ℕ) (s : Server) (y : ThreadState) (i : Instr) (sound : IsSound k) (few : FewEvents k) (here : server_at k.servers number ≡ Some s) (at : thread_in s.threads t ≡ Some y) (code : slice_get k.code y.pc ≡ Some i) where
+  abbrev event : Event
+  event = record { server = number; what = Step t }
+
+  -- the step's instruction follows nothing
+  no_requests : (Follows (access_of i y) → ⊥) → AskedWeighNothing k event (has_none k)
+  no_requests none s2 here2 t2 y2 i2 q there at2 f b =
+      let server : s ≡ s2 = some_is (sym here ∙ here2) in
+      let thread : t ≡ t2 = some_step q in
+      let its : thread_in s.threads t ≡ Some y2 = ap (λ (x : Server). thread_in x.threads t) server ∙ ap (thread_in s2.threads) thread ∙ there in
+      let same : y ≡ y2 = some_is (sym at ∙ its) in
+      let instr : i ≡ i2 = some_is (sym code ∙ ap (λ (x : ThreadState). slice_get k.code x.pc) same ∙ at2) in
+      absurd (none (subst (λ (x : ThreadState). Follows (access_of i x)) (sym same) (subst (λ j. Follows (access_of j y2)) (sym instr) f)))
+    where
+      some_step : {a b : ℕ} → Step a ≡ Step b → a ≡ b
+      some_step e = cc
+
+  -- a step that leaves words and cells leaves copies right
+  pub steps_kept : (Follows (access_of i y) → ⊥) → Gives (λ (d : Cluster × EntryView). Leaves k d.0) (apply k event) → Gives (λ (d : Cluster × EntryView). CopiesAreRight d.0) (apply k event)
+  steps_kept none go =
+      kept_so k event sound few
+      (both_give (λ (d : Cluster × EntryView). Leaves k d.0) (λ (d : Cluster × EntryView). HasPlaces d.0) (λ (d : Cluster × EntryView). CellsStay k d.0) (apply k event) go (places_after k event sound few)
+      (λ d a places. cells_stay k d.0 sound (places_before k sound) places a.0 a.1)) (no_requests none)
+
+carries_follows : (i : Instr) (y : ThreadState) → CarriesOne i → Follows (access_of i y) → ⊥
+carries_follows _ y (a_let o) f = f
+carries_follows _ y (a_mutex o) f = f
+carries_follows _ y (a_join o) f = f
+carries_follows _ y (an_end o) f = f
+
+pub carried_copies : StepsKeepCopies
+carried_copies k number t s y i sound few here at code c = steps_kept k number t s y i sound few here at code (carries_follows i y c) (steps_go all_goes k number t s y i sound few here at code c)
+
+-- what is no reference to an object needs no place when it goes
+no_ending : (sp : Spot) (v : Value) → IsNoReference v → Follows (ending sp (Some v)) → ⊥
+no_ending sp (value.Own u) p f = f
+no_ending sp (value.SharedSlot i) p f = f
+no_ending sp (value.MutSlot i) p f = f
+no_ending sp value.Gone p f = f
+no_ending sp (value.Held m) p f = f
+no_ending sp (value.Shared r) p f = p
+no_ending sp (value.Mut r) p f = p
+
+pub discarded_copies : DiscardsKeepCopies
+discarded_copies k number t s y v sound few here at code e a =
+    steps_kept k number t s y instr.Discard sound few here at code (λ f. no_ending on_top v a (subst (λ o. Follows (ending on_top o)) e f)) (discards_go all_goes k number t s y v sound few here at code e a)
+
+-- an instruction that lets go of what a slot owns follows no place
+lets_follows : (i : Instr) (y : ThreadState) → LetsGo y i → Follows (access_of i y) → ⊥
+lets_follows _ y (drops u e) f = no_ending (spot_slot (length y.slots - 1)) (value.Own u) tt (subst (λ o. Follows (ending (spot_slot (length y.slots - 1)) o)) e f)
+lets_follows _ y (drops_none e) f = no_ending (spot_slot (length y.slots - 1)) value.Gone tt (subst (λ o. Follows (ending (spot_slot (length y.slots - 1)) o)) e f)
+lets_follows _ y puts_back f = f
+
+gives_it : (y : ThreadState) (i : Instr) → LetsGo y i → GivesOwned y i
+gives_it y _ (drops u e) = owned_drops u e
+gives_it y _ (drops_none e) = none_drops e
+gives_it y _ puts_back = owned_back
+
+pub dropped_copies : DropsKeepCopies
+dropped_copies k number t s y i coherent few here at code g = steps_kept k number t s y i coherent.sound few here at code (lets_follows i y g) (owned_go all_goes k number t s y i coherent few here at code (gives_it y i g))
+
+-- nor does an assignment over no reference
+over_follows : (w : Lval) (y : ThreadState) (v : Value) → slice_get y.slots w.slot ≡ Some v → IsOwnedOrGone v → (d : ℕ) → d ≡ 0 → Follows (assigned w d y) → ⊥
+over_follows w y v e o (suc d) z f = absurd (omega (arith, z))
+over_follows w y v e (owns u) zero z f = no_ending (spot_slot w.slot) (value.Own u) tt (subst (λ x. Follows (ending (spot_slot w.slot) x)) e f)
+over_follows w y v e gone zero z f = no_ending (spot_slot w.slot) value.Gone tt (subst (λ x. Follows (ending (spot_slot w.slot) x)) e f)
+
+pub assigned_copies : AssignsKeepCopies
+assigned_copies k number t s y w o v coherent few here at code flat e is =
+    steps_kept k number t s y (instr.Assign w o) coherent.sound few here at code (over_follows w y v e is w.depth flat) (assigns_go all_goes k number t s y w o v coherent few here at code flat e is)

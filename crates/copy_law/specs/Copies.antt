@@ -1,15 +1,27 @@
 -- COPIES (DRust's read caches; this project's rules): where they come from, and that they stay what they are.
-use Rattle.std.specs.Prelude.{◌≡◌, ℕ}
+use Rattle.std.specs.Prelude.{◌≡◌, ℕ, Some, slice_get}
+use Rattle.fr_base.specs.declared.place.Lval.{Lval}
+use Rattle.fr_base.specs.declared.instruction.Operand.{Operand}
+use Rattle.fr_base.specs.declared.instruction.Instr.{Instr}
+use Rattle.fr_base.specs.declared.instruction.Instr.TheVariants as instr
+use Rattle.heap_partition.specs.declared.value.Owned.{Owned}
+use Rattle.thread_state.specs.View.{ThreadState}
+use Rattle.thread_state.specs.declared.value.Value.{Value}
+use Rattle.thread_state.specs.declared.value.Value.TheVariants as value
 use Rattle.journal.specs.View.{EntryView}
 use Rattle.server_model.specs.declared.event.Event.{Event}
-use Rattle.server_model.specs.Servers.{Cluster}
+use Rattle.server_model.specs.declared.event.What.TheVariants.{Step}
+use Rattle.server_model.specs.Servers.{Server, Cluster, server_at}
+use Rattle.server_model.specs.Work.{thread_in, last_of}
 use Rattle.server_model.specs.Clusters.{apply}
 use Rattle.heap_law.specs.Sight.{sight}
 use Rattle.heap_law.specs.Placing.{clean_cell}
 use Rattle.heap_law.specs.Coherent.{Holds, IsSound, copies_agree, served_are_clean}
+use Rattle.type_law.specs.ClusterTypes.{IsCoherent}
 use Rattle.event_law.specs.Kinds.{Kind}
 use Rattle.event_law.specs.Laws.{Gives, FewEvents}
 use Rattle.stay_law.specs.Laws.{IsOfKind}
+use Rattle.carry_law.specs.Steps.{CarriesOne, IsNoReference, IsOwnedOrGone}
 
 -- the live object that has a word, which isn't changed through a reference, is the same one with the same cell, whatever the word
 abbrev pub CellsStay : Cluster → Cluster → Type 0
@@ -27,3 +39,30 @@ pub record CopiesAreRight (k : Cluster) : Type 0 where
 -- each event of that kind from a sound cluster, with its messages handed over, leaves copies that are right
 abbrev pub KeepCopies : Kind → Type 0
 KeepCopies kind = (k : Cluster) (e : Event) → IsOfKind kind k e → IsSound k → FewEvents k → Gives (λ (d : Cluster × EntryView). CopiesAreRight d.0) (apply k e)
+
+-- STEPS THAT CARRY A VALUE, of the instruction at which the thread stands
+
+-- so do a new variable, a new mutex, a join and the end of a thread
+abbrev pub StepsKeepCopies : Type 0
+StepsKeepCopies = (k : Cluster) (number t : ℕ) (s : Server) (y : ThreadState) (i : Instr) → IsSound k → FewEvents k → server_at k.servers number ≡ Some s → thread_in s.threads t ≡ Some y → slice_get k.code y.pc ≡ Some i → CarriesOne i
+    → Gives (λ (d : Cluster × EntryView). CopiesAreRight d.0) (apply k (record { server = number; what = Step t }))
+
+-- and a discard of what is no reference to an object
+abbrev pub DiscardsKeepCopies : Type 0
+DiscardsKeepCopies = (k : Cluster) (number t : ℕ) (s : Server) (y : ThreadState) (v : Value) → IsSound k → FewEvents k → server_at k.servers number ≡ Some s → thread_in s.threads t ≡ Some y → slice_get k.code y.pc ≡ Some instr.Discard → last_of y.temps ≡ Some v → IsNoReference v
+    → Gives (λ (d : Cluster × EntryView). CopiesAreRight d.0) (apply k (record { server = number; what = Step t }))
+
+-- and, from a coherent cluster, the drop of the newest slot with what it owns or without a value, and an unlock
+pub data LetsGo (y : ThreadState) : Instr → Type 0 where
+  drops : (u : Owned) → last_of y.slots ≡ Some (value.Own u) → LetsGo y instr.DropSlot
+  drops_none : last_of y.slots ≡ Some value.Gone → LetsGo y instr.DropSlot
+  puts_back : LetsGo y instr.Unlock
+
+abbrev pub DropsKeepCopies : Type 0
+DropsKeepCopies = (k : Cluster) (number t : ℕ) (s : Server) (y : ThreadState) (i : Instr) → IsCoherent k → FewEvents k → server_at k.servers number ≡ Some s → thread_in s.threads t ≡ Some y → slice_get k.code y.pc ≡ Some i → LetsGo y i
+    → Gives (λ (d : Cluster × EntryView). CopiesAreRight d.0) (apply k (record { server = number; what = Step t }))
+
+-- and an assignment to a variable that owns its value, or has none any more
+abbrev pub AssignsKeepCopies : Type 0
+AssignsKeepCopies = (k : Cluster) (number t : ℕ) (s : Server) (y : ThreadState) (w : Lval) (o : Operand) (v : Value) → IsCoherent k → FewEvents k → server_at k.servers number ≡ Some s → thread_in s.threads t ≡ Some y → slice_get k.code y.pc ≡ Some (instr.Assign w o)
+    → w.depth ≡ 0 → slice_get y.slots w.slot ≡ Some v → IsOwnedOrGone v → Gives (λ (d : Cluster × EntryView). CopiesAreRight d.0) (apply k (record { server = number; what = Step t }))

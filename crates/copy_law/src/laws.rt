@@ -1,7 +1,7 @@
 //! Laws of copies.
 
 ghost use Rattle.event_law.specs.Kinds.{arrives, asks_dup, asks_join, asks_lock, dupped, evicts, fetch, fetched, finished, granted, joined, migrates, released, starts, step_arith, step_par_end, step_print, unlocked};
-ghost use Rattle.copy_law.specs.Copies.{CopiesComeFromCopies, KeepCopies};
+ghost use Rattle.copy_law.specs.Copies.{AssignsKeepCopies, CopiesComeFromCopies, DiscardsKeepCopies, DropsKeepCopies, KeepCopies, StepsKeepCopies};
 
 /// Whatever an event of a sound cluster does, each copy that is there once its messages are handed over, cached or on its way, was there before under the same word, or is the
 /// cell of the object that a request asked for. So where the live objects have the cells and the words that they had, and no other ones are changed through references, copies
@@ -33,4 +33,14 @@ pub fn copies_stay()
     ensures prints { KeepCopies step_print }
     ensures arithmetic { KeepCopies step_arith }
     ensures pairs { KeepCopies step_par_end }
+{}
+
+/// So it is after a step that declares a variable, makes a mutex, joins or ends a thread (`carried`), and one that discards what is no reference to an object, from a sound
+/// cluster; and from a coherent one after one that drops the newest variable with what it owns, or without a value, and an unlock (`drops`), and after an assignment to a variable
+/// that owns its value or has none (`assigns`): what moves stands outside of cells, and changed references are those that were there.
+pub fn carried_values_leave_copies()
+    ensures carried { StepsKeepCopies }
+    ensures discards { DiscardsKeepCopies }
+    ensures drops { DropsKeepCopies }
+    ensures assigns { AssignsKeepCopies }
 {}

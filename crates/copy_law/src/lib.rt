@@ -3,4 +3,4 @@
 
 mod laws;
 
-pub use laws::{copies_come_from_copies, copies_stay};
+pub use laws::{carried_values_leave_copies, copies_come_from_copies, copies_stay};
