@@ -215,12 +215,12 @@ module _ (k0 : Cluster) where
     other_goes y y2 i code f (asks_cell j w at g pc q h same) = ready_none y2.phase (phase.WaitCell w) q refl
     other_goes y y2 i code f (asks_home j m at a pc q g passed walk same) = ready_none y2.phase m q (asks_none j m a)
     other_goes y y2 i code f (gets_cell w was q pc g same) = cell_none y2.phase q
-    other_goes y y2 i code f (gets_gift was q pc passed walk same) = ready_none y2.phase phase.Got q refl
+    other_goes y y2 i code f (gets_gift was q pc passed walk temps same) = ready_none y2.phase phase.Got q refl
     other_goes y y2 i code f (goes_pair a b was q pc g passed walk same) = ready_none y2.phase (phase.GotPar a b) q refl
 
     got_goes : (y y2 : ThreadState) (g : Goes k0.code y y2) → IsGotten g → waits_unpaired (sight k0) y2.phase ≡ 0
     got_goes y y2 (gets_cell w was q pc g same) got = cell_none y2.phase q
-    got_goes y y2 (gets_gift was q pc passed walk same) got = ready_none y2.phase phase.Got q refl
+    got_goes y y2 (gets_gift was q pc passed walk temps same) got = ready_none y2.phase phase.Got q refl
     got_goes y y2 (goes_pair a b was q pc g passed walk same) got = ready_none y2.phase (phase.GotPar a b) q refl
     got_goes y y2 g got = absurd got
 

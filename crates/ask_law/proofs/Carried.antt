@@ -292,7 +292,7 @@ same_number code y y2 (is_over o at pc p passed walk slots temps g s) = s.number
 same_number code y y2 (asks_cell i w at f pc p g s) = s.number
 same_number code y y2 (asks_home i q at a pc p g passed walk s) = s.number
 same_number code y y2 (gets_cell w was p pc g s) = s.number
-same_number code y y2 (gets_gift was p pc passed walk s) = s.number
+same_number code y y2 (gets_gift was p pc passed walk temps s) = s.number
 same_number code y y2 (goes_pair a b was p pc g passed walk s) = s.number
 
 module _ (k : Cluster) (sound : IsSound k) (n : ℕ) (s : Server) (here : server_at k.servers n ≡ Some s) where
@@ -439,7 +439,7 @@ module _ (k : Cluster) (e : Event) (sound : IsSound k) (few : FewEvents k) where
 
   got_agrees : (y y2 : ThreadState) (o : Option Phase) (g : Goes k.code y y2) → IsGotten g → other (agree y2.phase o) ≡ 0
   got_agrees y y2 o (gets_cell w was q pc g same) got = cell_agrees y2.phase o q
-  got_agrees y y2 o (gets_gift was q pc passed walk same) got = ap (λ p. other (agree p o)) q
+  got_agrees y y2 o (gets_gift was q pc passed walk temps same) got = ap (λ p. other (agree p o)) q
   got_agrees y y2 o (goes_pair a b was q pc g passed walk same) got = ap (λ p. other (agree p o)) q
   got_agrees y y2 o g got = absurd got
 

@@ -63,7 +63,7 @@ got_early g p e = ap (λ q. one (is_some g && not (is_got q))) e ∙ by (is_some
     by true = refl
     by false = refl
 
-left_none : (g h : Option Owned) → g ≡ None → Left g h → h ≡ None
+pub left_none : (g h : Option Owned) → g ≡ None → Left g h → h ≡ None
 left_none g h e (inl q) = q ∙ e
 left_none g h e (inr q) = q
 
@@ -75,11 +75,11 @@ bare_goes code y y2 e (is_over o at pc q passed walk slots temps g same) = none_
 bare_goes code y y2 e (asks_cell i w at f pc q g same) = none_early y2.gift y2.phase (left_none y.gift y2.gift e g)
 bare_goes code y y2 e (asks_home i m at a pc q g passed walk same) = none_early y2.gift y2.phase g
 bare_goes code y y2 e (gets_cell w was q pc g same) = none_early y2.gift y2.phase (g ∙ e)
-bare_goes code y y2 e (gets_gift was q pc passed walk same) = got_early y2.gift y2.phase q
+bare_goes code y y2 e (gets_gift was q pc passed walk temps same) = got_early y2.gift y2.phase q
 bare_goes code y y2 e (goes_pair a b was q pc g passed walk same) = none_early y2.gift y2.phase (g ∙ e)
 
 -- where it has a gift it has got something
-bare_of : (g : Option Owned) (p : Phase) → Early g p → is_got p ≡ false → g ≡ None
+pub bare_of : (g : Option Owned) (p : Phase) → Early g p → is_got p ≡ false → g ≡ None
 bare_of None p z e = refl
 bare_of (Some v) p z e = by (is_got p) e z
   where
@@ -89,14 +89,14 @@ bare_of (Some v) p z e = by (is_got p) e z
 
 gotten_bare : (code : List Instr) (y y2 : ThreadState) → Early y.gift y.phase → (g : Goes code y y2) → IsGotten g → Early y2.gift y2.phase
 gotten_bare code y y2 p (gets_cell w was q pc g same) got = bare_goes code y y2 (bare_of y.gift y.phase p (ap is_got was)) (gets_cell w was q pc g same)
-gotten_bare code y y2 p (gets_gift was q pc passed walk same) got = got_early y2.gift y2.phase q
+gotten_bare code y y2 p (gets_gift was q pc passed walk temps same) got = got_early y2.gift y2.phase q
 gotten_bare code y y2 p (goes_pair a b was q pc g passed walk same) got = bare_goes code y y2 (bare_of y.gift y.phase p (ap is_got was)) (goes_pair a b was q pc g passed walk same)
 gotten_bare code y y2 p g got = absurd got
 
 -- A GIFT IS TAKEN
 
-abbrev Bare : Stepped → Type 0
-Bare d = d.hand.thread.gift ≡ None
+abbrev pub Bare : Stepped → Type 0
+Bare d = (d.hand.thread.gift ≡ None) × (d.hand.thread.phase ≡ phase.Ready)
 
 abbrev BareHand : Hand → Type 0
 BareHand h = h.thread.gift ≡ None
@@ -107,7 +107,7 @@ settles_bare (Some h) g = by (unpin_all h.thread.walk h.work.rest.cache)
   where
     by : (l : Option (List Copy)) → Gives Bare (option_map (done_step fresh.None) (option_map (λ cs. record { work = with_cache cs h.work; thread = record (go_on h).thread { passed = 0; walk = []; moved_since_step = false } }) l))
     by None = tt
-    by (Some cs) = g
+    by (Some cs) = (g, refl)
 
 lock_takes : (sp : Spot) (v : Owned) (h : Hand) → Gives Bare (committed (lock sp (Some v) h))
 lock_takes sp v h = settles_bare (option_map (push_content v (load_at sp (take_gift h))) (mutex_at h sp)) (map_gives BareHand (mutex_at h sp) (push_content v (load_at sp (take_gift h))) (λ m q. refl))
@@ -197,7 +197,7 @@ module _ (k : Cluster) (n t : ℕ) (s : Server) (y : ThreadState) where
       subst (λ g. Gives Bare (committed (join o g (record { work = begin_work s.rest; thread = y })))) (sym given) (join_takes o v (record { work = begin_work s.rest; thread = y }))
 
   -- a thread with a gift steps where it takes it
-  steps_bare : (i : Instr) (v : Owned) → Steps k n t s y i → y.gift ≡ Some v → GiftFits i (Some v) → Gives Bare (step k.options.servers i (record { work = begin_work s.rest; thread = y }))
+  pub steps_bare : (i : Instr) (v : Owned) → Steps k n t s y i → y.gift ≡ Some v → GiftFits i (Some v) → Gives Bare (step k.options.servers i (record { work = begin_work s.rest; thread = y }))
   steps_bare (instr.Lock w) v z given f = at_lock w v z given
   steps_bare (instr.Dup w) v z given f = at_dup w v z given
   steps_bare (instr.Join o) v z given f = at_join o v k.options.servers given
@@ -221,7 +221,7 @@ module _ (k : Cluster) (e : Event) (coherent : IsCoherent k) (few : FewEvents k)
       by (Some v) q =
           let fits : GiftFits i y.gift = (gift_fits k sound e.server s here t y there i code).0 in
           let z : Steps k e.server t s y i = record { coherent = coherent; few = few; here = here; on = on_it; at = there; code = code } in
-          weaker Bare (λ (d : Stepped). Early d.hand.thread.gift d.hand.thread.phase) (step k.options.servers i (h0 y)) (steps_bare k e.server t s y i v z q (subst (GiftFits i) q fits)) (λ d g. none_early d.hand.thread.gift d.hand.thread.phase g)
+          weaker Bare (λ (d : Stepped). Early d.hand.thread.gift d.hand.thread.phase) (step k.options.servers i (h0 y)) (steps_bare k e.server t s y i v z q (subst (GiftFits i) q fits)) (λ d g. none_early d.hand.thread.gift d.hand.thread.phase g.0)
 
   gift_ways : Ways k.code k.options.servers s e.what (Stood early_gift s.rest.number) (InParcel early_gift)
   gift_ways = record {

@@ -9,3 +9,4 @@ pub mod AskSteps
 pub mod AskDeliveries
 pub mod AskServers
 pub mod Carried
+pub mod AtInstructions

@@ -1,5 +1,6 @@
 //! What each event keeps of threads that wait, one clause for each sentence.
 
+ghost use Rattle.ask_law.specs.Standing.{EachEventLeavesThemSo};
 ghost use Rattle.heap_law.specs.Coherent.{branches_give_unit, carry_what_is_asked, gifts_got, pairs_go_on};
 ghost use Rattle.local_law.specs.Laws.{EachCoherentEventKeeps, EachEventKeeps};
 
@@ -18,4 +19,10 @@ pub fn gifts_keep()
 /// What is told of answers, in a sound cluster: what will answer a thread carries, or is kept for, what its phase names.
 pub fn answers_keep()
     ensures { EachEventKeeps carry_what_is_asked }
+{}
+
+/// Where threads stand that wait for what a home gives or have got it, in a coherent cluster: at the lock, the dup or the join that asked for it, of which the operand is
+/// the thread that it asked for.
+pub fn standing_keeps()
+    ensures { EachEventLeavesThemSo }
 {}

@@ -102,13 +102,13 @@ pub data Goes (code : List Instr) (y y2 : ThreadState) : Type 0 where
   asks_home : (i : Instr) (p : Phase) → slice_get code y.pc ≡ Some i → AsksHome i p → y2.pc ≡ y.pc → y2.phase ≡ p → y2.gift ≡ None → y2.passed ≡ y.passed → (Joins i → y2.walk ≡ y.walk) → Same y y2 → Goes code y y2
   -- it gets an object or a copy; it gets what a home gives; both of its pair are over
   gets_cell : (w : ℕ) → y.phase ≡ phase.WaitCell w → HasCell y2.phase → y2.pc ≡ y.pc → y2.gift ≡ y.gift → Same y y2 → Goes code y y2
-  gets_gift : IsAsking y.phase → y2.phase ≡ phase.Got → y2.pc ≡ y.pc → y2.passed ≡ y.passed → y2.walk ≡ y.walk → Same y y2 → Goes code y y2
+  gets_gift : IsAsking y.phase → y2.phase ≡ phase.Got → y2.pc ≡ y.pc → y2.passed ≡ y.passed → y2.walk ≡ y.walk → y2.temps ≡ y.temps → Same y y2 → Goes code y y2
   goes_pair : (a b : ℕ) → y.phase ≡ phase.WaitPar a b → y2.phase ≡ phase.GotPar a b → y2.pc ≡ y.pc → y2.gift ≡ y.gift → y2.passed ≡ y.passed → y2.walk ≡ y.walk → Same y y2 → Goes code y y2
 
 -- it gets what it waited for
 abbrev pub IsGotten : {code : List Instr} {y y2 : ThreadState} → Goes code y y2 → Type 0
 IsGotten (gets_cell w was p pc g s) = ⊤
-IsGotten (gets_gift was p pc passed walk s) = ⊤
+IsGotten (gets_gift was p pc passed walk temps s) = ⊤
 IsGotten (goes_pair a b was p pc g passed walk s) = ⊤
 IsGotten g = ⊥
 
@@ -450,7 +450,7 @@ module _ (code : List Instr) (y : ThreadState) where
 
   gives_it : (v : Owned) (g : Option Owned) (h : Hand) → h.thread ≡ y → IsAsking y.phase → Gives GoesOn (given v g h)
   gives_it v (Some u) h e a = tt
-  gives_it v None h e a = subst (λ (t : ThreadState). Gets (record t { gift = Some v; phase = phase.Got })) (sym e) (gets_gift a refl refl refl refl (record { number = refl; home = refl }), tt)
+  gives_it v None h e a = subst (λ (t : ThreadState). Gets (record t { gift = Some v; phase = phase.Got })) (sym e) (gets_gift a refl refl refl refl refl (record { number = refl; home = refl }), tt)
 
   asking : (h : Hand) → h.thread ≡ y → IsAsking h.thread.phase → IsAsking y.phase
   asking h e a = subst (λ (t : ThreadState). IsAsking t.phase) e a
