@@ -73,7 +73,7 @@ hops_keep = record {
         weaker (λ (d : Hand). Within k.code d.thread) (λ (d : Hand). Stood (beyond k.code) s.rest.number d.thread) (deliver_fetched v c h) (fetched_within k.code y (is_within k.code y p) v c h e) (λ d l. not_beyond k.code d.thread l);
     answered = λ t y g r there p e. let z = record y { gift = g; phase = r } in not_beyond k.code z (none_within k.code z (nothing_passed k sound number s here t y there e));
     arrives = λ t q. q;
-    starts = λ t n y i u pc vs there p at e. not_beyond k.code (new_thread u pc vs) (none_within k.code (new_thread u pc vs) refl);
+    starts = λ t n y i u pc vs there p at e c. not_beyond k.code (new_thread u pc vs) (none_within k.code (new_thread u pc vs) refl);
     leaves = λ t n y there p r. let z = packed (record y { moved_since_step = true }) in not_beyond k.code z (none_within k.code z (nothing_passed k sound number s here t y there (ready_still y.phase r)));
   };
 }

@@ -3,6 +3,6 @@ mod Few
 mod Raised
 mod Short
 mod Bounded
-mod Turns
+pub mod Turns
 mod Passed
 mod Hops

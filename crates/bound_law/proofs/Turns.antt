@@ -44,7 +44,7 @@ use Rattle.event_law.proofs.KnownSound.{on_standing, sum_standing}
 use Rattle.event_law.proofs.Events.{tot-server}
 use Rattle.event_law.proofs.Applied.{handed_on}
 use Rattle.event_law.proofs.Sending.{each_event_sends}
-use Rattle.local_law.proofs.Mail.{Mailed, mail_sent, Replies, Requests, StartsAt, Begins, message_says, step_says}
+use Rattle.local_law.proofs.Mail.{Mailed, mail_sent, Replies, Requests, StartsAt, AreCaptured, BeginsBy, message_says, step_tells}
 use Rattle.local_law.proofs.Threads.{set_all, without_all, with_all, found_all, remove_all, Parcel, Held}
 use Rattle.local_law.proofs.Handed.{Stood, InParcel, from_server, to_server}
 
@@ -56,7 +56,7 @@ pub record Turns (code : List Instr) (o : Options) (s : Server) (P : ThreadState
   pub copied : (t : ℕ) (y : ThreadState) → thread_in s.threads t ≡ Some y → P y → (v : ℕ) (c : Cell) (h : Hand) → h.thread ≡ y → Gives (λ (h2 : Hand). P h2.thread) (deliver_fetched v c h)
   pub answered : (t : ℕ) (y : ThreadState) (g : Option Owned) (p : Phase) → thread_in s.threads t ≡ Some y → P y → in_walk y.phase ≡ false → P (record y { gift = g; phase = p })
   pub arrives : (t : ThreadState) → Q s.rest.number t → P t
-  pub starts : (t n : ℕ) (y : ThreadState) (i : Instr) (u pc : ℕ) (vs : List Value) → thread_in s.threads t ≡ Some y → P y → slice_get code y.pc ≡ Some i → StartsAt i pc → Q n (new_thread u pc vs)
+  pub starts : (t n : ℕ) (y : ThreadState) (i : Instr) (u pc : ℕ) (vs : List Value) → thread_in s.threads t ≡ Some y → P y → slice_get code y.pc ≡ Some i → StartsAt i pc → AreCaptured vs → Q n (new_thread u pc vs)
   pub leaves : (t n : ℕ) (y : ThreadState) → thread_in s.threads t ≡ Some y → P y → is_ready y.phase ≡ true → Q n (packed (record y { moved_since_step = true }))
 
 replies : (Q : ℕ → ThreadState → Type 0) → Replies (Parcel Q)
@@ -113,10 +113,10 @@ module _ (code : List Instr) (o : Options) (s : Server) (P : ThreadState → Typ
       at y q (Some i) e =
           let h : Hand = record { work = begin_work s.rest; thread = y } in
           let p : P y = found_all P s.threads t y held.standing q in
-          let begins : Begins (Parcel Q) o.servers s.rest i = λ pc vs r at d f. k.starts t _ y i _ pc vs q p e at in
+          let begins : BeginsBy (Parcel Q) o.servers s.rest i = λ pc vs r at c d f. k.starts t _ y i _ pc vs q p e at c in
           over_gives (λ (d : Stepped). P d.hand.thread × Mailed (Parcel Q) n s.rest.outbox d.hand.work.rest) Then (step o.servers i h) (stepped s)
           (both_give (λ (d : Stepped). P d.hand.thread) (λ (d : Stepped). Mailed (Parcel Q) n s.rest.outbox d.hand.work.rest) _ (step o.servers i h) (k.steps t y i q p e h refl)
-          (step_says (Parcel Q) o.servers i s.rest y (requests Q n y i) begins h (record { mail = held.mail; begun = refl; named = refl; at_home = refl })) (λ d a b. (a, b)))
+          (step_tells (Parcel Q) o.servers i s.rest y (requests Q n y i) begins h (record { mail = held.mail; begun = refl; named = refl; at_home = refl })) (λ d a b. (a, b)))
           (λ d u. record { standing = set_all P s.threads d.hand.thread held.standing u.0; mail = u.1 })
 
       by : (x : Option ThreadState) → thread_in s.threads t ≡ x → Gives Then (option_map (stepped s) (then_some (option_map (λ y. record { work = begin_work s.rest; thread = y }) x) (step_in code o.servers)))

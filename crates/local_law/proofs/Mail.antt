@@ -118,6 +118,15 @@ StartsAt i p = ⊥
 abbrev pub Begins : (ℕ → Message → Type 0) → ℕ → Rest → Instr → Type 0
 Begins M servers r0 i = (pc : ℕ) (vs : List Value) (r : Rest) → StartsAt i pc → r.number ≡ r0.number → (r.started ≡ r0.started) ⊎ (r.started ≡ r0.started + 1) → M (server_for servers r) (message.Start (new_thread (next_thread r) pc vs))
 
+-- values that a thread captured from some slots
+abbrev pub AreCaptured : List Value → Type 0
+AreCaptured vs = (branch : Bool) × (cs : List (ℕ × Bool)) × (slots : List Value) × (left : List Value) × (capture branch cs slots ≡ Some (vs, left))
+
+-- the same, where the slots of what starts were captured
+abbrev pub BeginsBy : (ℕ → Message → Type 0) → ℕ → Rest → Instr → Type 0
+BeginsBy M servers r0 i =
+    (pc : ℕ) (vs : List Value) (r : Rest) → StartsAt i pc → AreCaptured vs → r.number ≡ r0.number → (r.started ≡ r0.started) ⊎ (r.started ≡ r0.started + 1) → M (server_for servers r) (message.Start (new_thread (next_thread r) pc vs))
+
 module _ (M : ℕ → Message → Type 0) (n : ℕ) (old : List Sent) (k : Replies M) where
   abbrev pub Well : Rest → Type 0
   Well = Mailed M n old
@@ -299,7 +308,7 @@ pub record Talk (M : ℕ → Message → Type 0) (r0 : Rest) (y : ThreadState) (
   pub named : thread ≡ y.number
   pub at_home : home ≡ y.home
 
-module _ (M : ℕ → Message → Type 0) (servers : ℕ) (i : Instr) (r0 : Rest) (y : ThreadState) (k : Requests M r0.number y i) (begins : Begins M servers r0 i) where
+module _ (M : ℕ → Message → Type 0) (servers : ℕ) (i : Instr) (r0 : Rest) (y : ThreadState) (k : Requests M r0.number y i) (begins : BeginsBy M servers r0 i) where
   abbrev F : Rest → ThreadState → Type 0
   F r t = Talk M r0 y r.number r.inbox r.outbox r.started t.number t.home
 
@@ -350,8 +359,8 @@ module _ (M : ℕ → Message → Type 0) (servers : ℕ) (i : Instr) (r0 : Rest
   passes m h g = g
 
   -- a thread starts
-  starts : (pc : ℕ) (vs : List Value) (w : Work) → StartsAt i pc → (w.rest.started ≡ r0.started) ⊎ (w.rest.started ≡ r0.started + 1) → Mailed M r0.number r0.outbox w.rest → Mailed M r0.number r0.outbox (start_thread servers pc vs w).rest
-  starts pc vs w at b g = mail_sent M r0.number r0.outbox (record w.rest { started = w.rest.started + 1 }) (server_for servers w.rest) (message.Start (new_thread (next_thread w.rest) pc vs)) (begins pc vs w.rest at g.numbered b) g
+  starts : (pc : ℕ) (vs : List Value) (w : Work) → StartsAt i pc → AreCaptured vs → (w.rest.started ≡ r0.started) ⊎ (w.rest.started ≡ r0.started + 1) → Mailed M r0.number r0.outbox w.rest → Mailed M r0.number r0.outbox (start_thread servers pc vs w).rest
+  starts pc vs w at c b g = mail_sent M r0.number r0.outbox (record w.rest { started = w.rest.started + 1 }) (server_for servers w.rest) (message.Start (new_thread (next_thread w.rest) pc vs)) (begins pc vs w.rest at c g.numbered b) g
 
   began : (pc : ℕ) (vs : List Value) (w : Work) → (start_thread servers pc vs w).rest.started ≡ w.rest.started + 1
   began pc vs w = started_same (record w.rest { started = w.rest.started + 1 }) (server_for servers w.rest) (message.Start (new_thread (next_thread w.rest) pc vs))
@@ -400,7 +409,7 @@ module _ (M : ℕ → Message → Type 0) (servers : ℕ) (i : Instr) (r0 : Rest
     spawns = λ cs pc e h g.
         then_gives (λ h2. Settles E (go_on h2)) (capture false cs.items h.thread.slots) (spawn_with servers pc (next_thread h.work.rest) h) (λ new q.
         over_gives (Of F) (λ h2. Settles E (go_on h2)) (begun h) _ (test_gives (Of F) (can_begin h.work.rest.tasks (next_thread h.work.rest)) _ (λ z. g))
-        (λ h2 u cs2 z. starts pc new.0 h2.work (subst (λ j. StartsAt j pc) (sym e) refl) (inl u.begun) u.mail));
+        (λ h2 u cs2 z. starts pc new.0 h2.work (subst (λ j. StartsAt j pc) (sym e) refl) (false, cs.items, h.thread.slots, new.1, q) (inl u.begun) u.mail));
     unlocks = λ e m v h a b g. says_on m.home (message.Unlock m v) h (k.unlock m v) g;
     holds = λ w e m a. tt;
     goes = λ o h g cs z. g.mail;
@@ -409,8 +418,8 @@ module _ (M : ℕ → Message → Type 0) (servers : ℕ) (i : Instr) (r0 : Rest
         then_gives (Settles E) (capture true cs.items h.thread.slots) _ (λ first p. then_gives (Settles E) (capture true ds.items first.1) _ (λ second q.
         over_gives (Of F) (Settles E) (pair_begun h u (u + 1)) _ (test_gives (Of F) (can_begin_pair h.work.rest.tasks h.thread.number u (u + 1)) _ (λ z. g))
         (λ h2 b cs2 z.
-        let one = starts pc first.0 h2.work (subst (λ j. StartsAt j pc) (sym e) (inl refl)) (inl b.begun) b.mail in
-        starts other second.0 (start_thread servers pc first.0 h2.work) (subst (λ j. StartsAt j other) (sym e) (inr refl)) (inr (began pc first.0 h2.work ∙ ap (λ x. x + 1) b.begun)) one)));
+        let one = starts pc first.0 h2.work (subst (λ j. StartsAt j pc) (sym e) (inl refl)) (true, cs.items, h.thread.slots, first.1, p) (inl b.begun) b.mail in
+        starts other second.0 (start_thread servers pc first.0 h2.work) (subst (λ j. StartsAt j other) (sym e) (inr refl)) (true, ds.items, first.1, second.1, q) (inr (began pc first.0 h2.work ∙ ap (λ x. x + 1) b.begun)) one)));
     ends = λ o e main v h a g. over_says o e main v h g;
     asks_join = λ o e u h q a g. asks_for (λ s t. message.Join u s t) (home_of u) h (k.join u) g;
     asks_dup = λ w e m h q a g. asks_for (λ s t. message.Dup m s t) m.home h (k.dup m) g;
@@ -418,5 +427,10 @@ module _ (M : ℕ → Message → Type 0) (servers : ℕ) (i : Instr) (r0 : Rest
   }
 
   -- a step there says so
-  pub step_says : (h : Hand) → Of F h → Gives (EndsStep E) (step servers i h)
-  step_says h g = steps i h (λ f. small) (λ f. passes) acts (λ h2 s q u. moves_by i s h2 (λ w c v z. tt)) g
+  pub step_tells : (h : Hand) → Of F h → Gives (EndsStep E) (step servers i h)
+  step_tells h g = steps i h (λ f. small) (λ f. passes) acts (λ h2 s q u. moves_by i s h2 (λ w c v z. tt)) g
+
+-- the same, whatever was captured
+module _ (M : ℕ → Message → Type 0) (servers : ℕ) (i : Instr) (r0 : Rest) (y : ThreadState) (k : Requests M r0.number y i) (begins : Begins M servers r0 i) where
+  pub step_says : (h : Hand) → Talk M r0 y h.work.rest.number h.work.rest.inbox h.work.rest.outbox h.work.rest.started h.thread.number h.thread.home → Gives (EndsStep (λ r t. Mailed M r0.number r0.outbox r)) (step servers i h)
+  step_says h g = step_tells M servers i r0 y k (λ pc vs r at c d f. begins pc vs r at d f) h g

@@ -83,20 +83,77 @@ pub record Parts (R : Rest → Type 0) : Type 0 where
   pub let_go : (u : ℕ) (r : Rest) (p : List Task × Option Owned) → let_go_of r.tasks u ≡ Some p → R r → R (record r { tasks = p.0 })
   pub over : (u : ℕ) (v : Owned) (r : Rest) (p : List Task × EndedAs) → ended r.tasks u v ≡ Some p → R r → R (record r { tasks = p.0 })
 
-module _ {R : Rest → Type 0} (k : Parts R) where
+-- the same of a fact that tells how many threads are noted here that aren't counted yet: each change of another part finds none, and keeps it so
+pub record Changes (R : ℕ → Rest → Type 0) : Type 0 where
+  -- messages
+  pub sent : (c t : ℕ) (m : Message) (r : Rest) → R c r → R c (sent_from r t m)
+  pub received : (i : ℕ) (r : Rest) → R 0 r → R 0 (receive r i)
+  -- the partition
+  pub stores : (w : ℕ) (v : Owned) (r : Rest) → leads_here r.partition w ≡ true → R 0 r → R 0 (record r { partition = stored r.partition w v })
+  pub frees : (w : ℕ) (o : ObjNo) (c : Cell) (r : Rest) → look_object r.partition w o ≡ Some c → R 0 r → R 0 (record r { partition = freed r.partition w })
+  pub makes : (c : Cell) (r : Rest) → can_grow r.partition ≡ true → R 0 r → R 0 (record r { partition = made r.partition c })
+  pub renews : (w : ℕ) (r : Rest) → (leads_here r.partition w && (is_last r.partition w && can_grow r.partition)) ≡ true → R 0 r → R 0 (record r { partition = renewed r.partition w })
+  -- the cache
+  pub pins : (w : ℕ) (r : Rest) → can_pin r.cache w ≡ true → R 0 r → R 0 (record r { cache = pin r.cache w })
+  pub unpins : (w : ℕ) (r : Rest) → can_unpin r.cache w ≡ true → R 0 r → R 0 (record r { cache = unpin r.cache w })
+  pub unpins_all : (ws : List ℕ) (cs : List Copy) (r : Rest) → unpin_all ws r.cache ≡ Some cs → R 0 r → R 0 (record r { cache = cs })
+  pub fills : (w : ℕ) (c : Cell) (r : Rest) → can_fill r.cache w c ≡ true → R 0 r → R 0 (record r { cache = fill r.cache w c })
+  pub evicts : (w : ℕ) (r : Rest) → can_evict r.cache w ≡ true → R 0 r → R 0 (record r { cache = evict r.cache w })
+  -- the mutexes
+  pub mutex : (v : Owned) (r : Rest) → can_make r.mutexes ≡ true → R 0 r → R 0 (record r { mutexes = make r.mutexes v })
+  pub asked : (m : MutexNo) (s t : ℕ) (r : Rest) (p : Mutexes × Asked) → ask r.mutexes m s t ≡ Some p → R 0 r → R 0 (record r { mutexes = p.0 })
+  pub given : (m : MutexNo) (v : Owned) (r : Rest) (p : Mutexes × Back) → give_back r.mutexes m v ≡ Some p → R 0 r → R 0 (record r { mutexes = p.0 })
+  pub shared : (m : MutexNo) (r : Rest) (ms : Mutexes) → more r.mutexes m ≡ Some ms → R 0 r → R 0 (record r { mutexes = ms })
+  pub less_shared : (m : MutexNo) (r : Rest) (p : Mutexes × Option Owned) → less r.mutexes m ≡ Some p → R 0 r → R 0 (record r { mutexes = p.0 })
+  -- the threads that it started
+  pub began : (r : Rest) → can_begin r.tasks (next_thread r) ≡ true → R 0 r → R 1 (record r { tasks = begin r.tasks (next_thread r) })
+  pub pair : (parent : ℕ) (r : Rest) → can_begin_pair r.tasks parent (next_thread r) (next_thread r + 1) ≡ true → R 0 r → R 2 (record r { tasks = begin_pair r.tasks parent (next_thread r) (next_thread r + 1) })
+  pub counted : (c : ℕ) (r : Rest) → R (suc c) r → R c (record r { started = r.started + 1 })
+  pub joined : (u s by : ℕ) (r : Rest) (p : List Task × Option Owned) → tasks.ask r.tasks u s by ≡ Some p → R 0 r → R 0 (record r { tasks = p.0 })
+  pub let_go : (u : ℕ) (r : Rest) (p : List Task × Option Owned) → let_go_of r.tasks u ≡ Some p → R 0 r → R 0 (record r { tasks = p.0 })
+  pub over : (u : ℕ) (v : Owned) (r : Rest) (p : List Task × EndedAs) → ended r.tasks u v ≡ Some p → R 0 r → R 0 (record r { tasks = p.0 })
+
+-- a fact that tells nothing of it
+pub changes : {R : Rest → Type 0} → Parts R → Changes (λ c. R)
+changes k = record {
+  sent = λ c t m r g. k.sent t m r g;
+  received = k.received;
+  stores = k.stores;
+  frees = k.frees;
+  makes = k.makes;
+  renews = k.renews;
+  pins = k.pins;
+  unpins = k.unpins;
+  unpins_all = k.unpins_all;
+  fills = k.fills;
+  evicts = k.evicts;
+  mutex = k.mutex;
+  asked = k.asked;
+  given = k.given;
+  shared = k.shared;
+  less_shared = k.less_shared;
+  began = k.began;
+  pair = k.pair;
+  counted = λ c r g. k.counted r g;
+  joined = k.joined;
+  let_go = k.let_go;
+  over = k.over;
+}
+
+module _ {R : ℕ → Rest → Type 0} (k : Changes R) where
   abbrev OfWork : Work → Type 0
-  OfWork w = R w.rest
+  OfWork w = R 0 w.rest
 
   abbrev OfHand : Hand → Type 0
-  OfHand h = R h.work.rest
+  OfHand h = R 0 h.work.rest
 
   abbrev pub OfSite : Site → Type 0
-  OfSite x = R x.work.rest
+  OfSite x = R 0 x.work.rest
 
   gives_up : (v : Owned) (w : Work) → OfWork w → OfWork (give_up v w)
-  gives_up (owned.Box p) w g = k.sent _ _ w.rest g
-  gives_up (owned.Mutex m) w g = k.sent _ _ w.rest g
-  gives_up (owned.Task t) w g = k.sent _ _ w.rest g
+  gives_up (owned.Box p) w g = k.sent 0 _ _ w.rest g
+  gives_up (owned.Mutex m) w g = k.sent 0 _ _ w.rest g
+  gives_up (owned.Task t) w g = k.sent 0 _ _ w.rest g
   gives_up owned.Nothing w g = g
   gives_up owned.Unit w g = g
   gives_up (owned.Int m) w g = g
@@ -106,7 +163,7 @@ module _ {R : Rest → Type 0} (k : Parts R) where
   puts on_top v h a = a
   puts (in_cell w through) (value.Own v) h a = test_gives OfHand (leads_here h.work.rest.partition w) _ (λ z. noted through (k.stores w v h.work.rest z a))
     where
-      noted : (o : Option ℕ) → R (record h.work.rest { partition = stored h.work.rest.partition w v }) → OfHand (note_write o (working (with_partition (stored h.work.rest.partition w v)) h))
+      noted : (o : Option ℕ) → R 0 (record h.work.rest { partition = stored h.work.rest.partition w v }) → OfHand (note_write o (working (with_partition (stored h.work.rest.partition w v)) h))
       noted None b = b
       noted (Some j) b = b
   puts (in_cell w through) value.Gone h a = tt
@@ -124,7 +181,7 @@ module _ {R : Rest → Type 0} (k : Parts R) where
   -- STEPS
 
   abbrev F : Rest → ThreadState → Type 0
-  F r t = R r
+  F r t = R 0 r
 
   places : Places F Any AnyWord
   places = record { spot = λ s v h g e. tt; puts = λ s v h z a g. puts s v h g; worded = λ w v new x a e. tt; word_of = λ r a. tt; points = λ v p a e. tt }
@@ -137,16 +194,17 @@ module _ {R : Rest → Type 0} (k : Parts R) where
     pinned = λ r a. tt;
     pins = λ w h e g. k.pins w h.work.rest e g;
     uses = λ w h e g. k.pins w h.work.rest e g;
-    asks_copy = λ p h a e g. k.sent _ _ h.work.rest g;
-    asks_object = λ p h a e g. k.sent _ _ h.work.rest g;
+    asks_copy = λ p h a e g. k.sent 0 _ _ h.work.rest g;
+    asks_object = λ p h a e g. k.sent 0 _ _ h.work.rest g;
   }
 
-  starts : (servers pc : ℕ) (vs : List Value) (w : Work) → OfWork w → OfWork (start_thread servers pc vs w)
-  starts servers pc vs w g = k.sent _ _ (record w.rest { started = w.rest.started + 1 }) (k.counted w.rest g)
+  -- one of those that are noted starts, and is counted
+  starts : (c servers pc : ℕ) (vs : List Value) (w : Work) → R (suc c) w.rest → R c (start_thread servers pc vs w).rest
+  starts c servers pc vs w g = k.sent c _ _ (record w.rest { started = w.rest.started + 1 }) (k.counted c w.rest g)
 
   over_main : (main : Bool) (v : Owned) (h : Hand) → OfHand h → Gives (λ h2. Settles F (with_phase phase.Over h2)) (end_with main v h)
   over_main true v h g = λ cs z. k.unpins_all h.thread.walk cs _ z (gives_up v (label_dropped (value.Own v) h).work g)
-  over_main false v h g = λ cs z. k.unpins_all h.thread.walk cs _ z (k.sent _ _ h.work.rest g)
+  over_main false v h g = λ cs z. k.unpins_all h.thread.walk cs _ z (k.sent 0 _ _ h.work.rest g)
 
   acts : (n : ℕ) (i : Instr) → Acts n F F Any Any AnyWord i
   acts n i = record {
@@ -169,25 +227,25 @@ module _ {R : Rest → Type 0} (k : Parts R) where
     unpins = λ w h e g. k.unpins w h.work.rest e g;
     gift = λ v h e g. (tt, g);
     boxes = λ o e v h a g.
-        over_gives (λ (m : NewWord). R m.work.rest) (λ h2. Settles F (go_on h2)) (issue_placed (act.Make (next_object h)) (record { object = next_object h; value = v }) h.work) (λ m. push_box v m h)
-        (test_gives (λ (m : NewWord). R m.work.rest) (can_grow h.work.rest.partition) _ (λ z. k.makes (record { object = next_object h; value = v }) h.work.rest z g)) (λ m w cs z. k.unpins_all h.thread.walk cs m.work.rest z w);
+        over_gives (λ (m : NewWord). R 0 m.work.rest) (λ h2. Settles F (go_on h2)) (issue_placed (act.Make (next_object h)) (record { object = next_object h; value = v }) h.work) (λ m. push_box v m h)
+        (test_gives (λ (m : NewWord). R 0 m.work.rest) (can_grow h.work.rest.partition) _ (λ z. k.makes (record { object = next_object h; value = v }) h.work.rest z g)) (λ m w cs z. k.unpins_all h.thread.walk cs m.work.rest z w);
     mutexes = λ o e v h a g. test_gives (λ h2. Settles F (go_on h2)) (can_make h.work.rest.mutexes) _ (λ z cs z2. k.unpins_all h.thread.walk cs (record h.work.rest { mutexes = make h.work.rest.mutexes v }) z2 (k.mutex v h.work.rest z g));
     spawns = λ cs pc e h g.
         then_gives (λ h2. Settles F (go_on h2)) (capture false cs.items h.thread.slots) (spawn_with n pc (next_thread h.work.rest) h) (λ new q.
-        over_gives (Of F) (λ h2. Settles F (go_on h2)) (begun h) _ (test_gives (Of F) (can_begin h.work.rest.tasks (next_thread h.work.rest)) _ (λ z. k.began h.work.rest z g))
-        (λ h2 u cs2 z. k.unpins_all h2.thread.walk cs2 _ z (starts n pc new.0 h2.work u)));
-    unlocks = λ e m v h a b g. k.sent _ _ h.work.rest g;
+        over_gives (λ (h2 : Hand). R 1 h2.work.rest) (λ h2. Settles F (go_on h2)) (begun h) _ (test_gives (λ (h2 : Hand). R 1 h2.work.rest) (can_begin h.work.rest.tasks (next_thread h.work.rest)) _ (λ z. k.began h.work.rest z g))
+        (λ h2 u cs2 z. k.unpins_all h2.thread.walk cs2 _ z (starts 0 n pc new.0 h2.work u)));
+    unlocks = λ e m v h a b g. k.sent 0 _ _ h.work.rest g;
     holds = λ w e m a. tt;
     goes = λ o h g cs z. k.unpins_all h.thread.walk cs h.work.rest z g;
     pairs = λ cs pc ds other e h g.
         let u = next_thread h.work.rest in
         then_gives (Settles F) (capture true cs.items h.thread.slots) _ (λ first p. then_gives (Settles F) (capture true ds.items first.1) _ (λ second q.
-        over_gives (Of F) (Settles F) (pair_begun h u (u + 1)) _ (test_gives (Of F) (can_begin_pair h.work.rest.tasks h.thread.number u (u + 1)) _ (λ z. k.pair h.thread.number h.work.rest z g))
-        (λ h2 b cs2 z. k.unpins_all h2.thread.walk cs2 _ z (starts n other second.0 (start_thread n pc first.0 h2.work) (starts n pc first.0 h2.work b)))));
+        over_gives (λ (h2 : Hand). R 2 h2.work.rest) (Settles F) (pair_begun h u (u + 1)) _ (test_gives (λ (h2 : Hand). R 2 h2.work.rest) (can_begin_pair h.work.rest.tasks h.thread.number u (u + 1)) _ (λ z. k.pair h.thread.number h.work.rest z g))
+        (λ h2 b cs2 z. k.unpins_all h2.thread.walk cs2 _ z (starts 0 n other second.0 (start_thread n pc first.0 h2.work) (starts 1 n pc first.0 h2.work b)))));
     ends = λ o e main v h a g. over_main main v h g;
-    asks_join = λ o e u h q a g. k.sent _ _ h.work.rest g;
-    asks_dup = λ w e m h q a g. k.sent _ _ h.work.rest g;
-    asks_lock = λ w e m h q a g. k.sent _ _ h.work.rest g;
+    asks_join = λ o e u h q a g. k.sent 0 _ _ h.work.rest g;
+    asks_dup = λ w e m h q a g. k.sent 0 _ _ h.work.rest g;
+    asks_lock = λ w e m h q a g. k.sent 0 _ _ h.work.rest g;
   }
 
   pub step_rests : (n : ℕ) (i : Instr) (h : Hand) → OfHand h → Gives (EndsStep F) (step n i h)
@@ -267,27 +325,27 @@ module _ {R : Rest → Type 0} (k : Parts R) where
   locks : (m : MutexNo) (s t : ℕ) (w : Work) → OfWork w → Gives OfWork (deliver_lock m s t w)
   locks m s t w a = map_gives OfWork (ask w.rest.mutexes m s t) _ (λ p q. by p.0 p.1 (k.asked m s t w.rest p q a))
     where
-      by : (ms : Mutexes) (x : Asked) → R (record w.rest { mutexes = ms }) → OfWork (answer_lock m s t x (with_mutexes ms w))
+      by : (ms : Mutexes) (x : Asked) → R 0 (record w.rest { mutexes = ms }) → OfWork (answer_lock m s t x (with_mutexes ms w))
       by ms asked.Queued b = b
-      by ms (asked.Granted v) b = k.sent _ _ (record w.rest { mutexes = ms }) b
+      by ms (asked.Granted v) b = k.sent 0 _ _ (record w.rest { mutexes = ms }) b
 
   unlocks : (m : MutexNo) (v : Owned) (w : Work) → OfWork w → Gives OfWork (deliver_unlock m v w)
   unlocks m v w a = map_gives OfWork (give_back w.rest.mutexes m v) _ (λ p q. by p.0 p.1 (k.given m v w.rest p q a))
     where
-      by : (ms : Mutexes) (x : Back) → R (record w.rest { mutexes = ms }) → OfWork (answer_back m x (with_mutexes ms w))
-      by ms (back.Next s t u) b = k.sent _ _ (record w.rest { mutexes = ms }) b
+      by : (ms : Mutexes) (x : Back) → R 0 (record w.rest { mutexes = ms }) → OfWork (answer_back m x (with_mutexes ms w))
+      by ms (back.Next s t u) b = k.sent 0 _ _ (record w.rest { mutexes = ms }) b
       by ms (back.Ended u) b = gives_up u (with_mutexes ms w) b
       by ms back.Kept b = b
 
   dups : (m : MutexNo) (s t : ℕ) (w : Work) → OfWork w → Gives OfWork (deliver_dup m s t w)
-  dups m s t w a = map_gives OfWork (more w.rest.mutexes m) _ (λ ms q. k.sent _ _ (record w.rest { mutexes = ms }) (k.shared m w.rest ms q a))
+  dups m s t w a = map_gives OfWork (more w.rest.mutexes m) _ (λ ms q. k.sent 0 _ _ (record w.rest { mutexes = ms }) (k.shared m w.rest ms q a))
 
   joins : (u s by_thread : ℕ) (w : Work) → OfWork w → Gives OfWork (deliver_join u s by_thread w)
   joins u s by_thread w a = map_gives OfWork (tasks.ask w.rest.tasks u s by_thread) _ (λ p q. of p.0 p.1 (k.joined u s by_thread w.rest p q a))
     where
-      of : (ts : List Task) (x : Option Owned) → R (record w.rest { tasks = ts }) → OfWork (answer_join u s by_thread x (with_tasks ts w))
+      of : (ts : List Task) (x : Option Owned) → R 0 (record w.rest { tasks = ts }) → OfWork (answer_join u s by_thread x (with_tasks ts w))
       of ts None b = b
-      of ts (Some v) b = k.sent _ _ (record w.rest { tasks = ts }) b
+      of ts (Some v) b = k.sent 0 _ _ (record w.rest { tasks = ts }) b
 
   releases : (x : Released) (w : Work) → OfWork w → Gives OfWork (release x w)
   releases (released.Mutex m) w a = map_gives OfWork (less w.rest.mutexes m) _ (λ p q. left_over p.1 (with_mutexes p.0 w) (k.less_shared m w.rest p q a))
@@ -299,17 +357,17 @@ module _ {R : Rest → Type 0} (k : Parts R) where
   finishes : (u : ℕ) (v : Owned) (x : Site) → OfSite x → Gives OfSite (deliver_finished u v x)
   finishes u v x a = then_gives OfSite (ended x.work.rest.tasks u v) _ (λ p q. by p.0 p.1 (k.over u v x.work.rest p q a))
     where
-      by : (ts : List Task) (e : EndedAs) → R (record x.work.rest { tasks = ts }) → Gives OfSite (end_answer u e (record x { work = with_tasks ts x.work }))
-      by ts (over.Answer s t b) c = k.sent _ _ (record x.work.rest { tasks = ts }) c
+      by : (ts : List Task) (e : EndedAs) → R 0 (record x.work.rest { tasks = ts }) → Gives OfSite (end_answer u e (record x { work = with_tasks ts x.work }))
+      by ts (over.Answer s t b) c = k.sent 0 _ _ (record x.work.rest { tasks = ts }) c
       by ts (over.Both parent) c = at parent (pair_over u) (record x { work = with_tasks ts x.work }) (λ y. goes_on u (record { work = with_tasks ts x.work; thread = y }) c)
       by ts (over.LetGo b) c = gives_up b (with_tasks ts x.work) c
       by ts over.Kept c = c
 
   pub message_rests : (code : List Instr) (m : Message) (x : Site) → OfSite x → Gives OfSite (deliver_message code m x)
-  message_rests code (message.Fetch w o s t) x a = beside (deliver_fetch w o s t) x (map_gives OfWork (look_object x.work.rest.partition w o) _ (λ c q. k.sent _ _ x.work.rest a))
+  message_rests code (message.Fetch w o s t) x a = beside (deliver_fetch w o s t) x (map_gives OfWork (look_object x.work.rest.partition w o) _ (λ c q. k.sent 0 _ _ x.work.rest a))
   message_rests code (message.Fetched w c t) x a = at t (deliver_fetched w c) x (λ y. fills_it w c (record { work = x.work; thread = y }) a)
   message_rests code (message.Move w o s t) x a =
-      beside (deliver_move w o s t) x (map_gives OfWork (look_object x.work.rest.partition w o) _ (λ c q. k.sent _ _ (record x.work.rest { partition = freed x.work.rest.partition w }) (k.frees w o c x.work.rest q a)))
+      beside (deliver_move w o s t) x (map_gives OfWork (look_object x.work.rest.partition w o) _ (λ c q. k.sent 0 _ _ (record x.work.rest { partition = freed x.work.rest.partition w }) (k.frees w o c x.work.rest q a)))
   message_rests code (message.Moved w c t) x a = at t (deliver_moved code w c) x (λ y. comes code w c (record { work = x.work; thread = y }) a)
   message_rests code (message.Drop w o) x a = beside (deliver_drop w o) x (drops w o x.work a)
   message_rests code (message.Lock m s t) x a = beside (deliver_lock m s t) x (locks m s t x.work a)
@@ -327,27 +385,31 @@ module _ {R : Rest → Type 0} (k : Parts R) where
   -- ALL EVENTS
 
   abbrev Then : Server × EntryView → Type 0
-  Then r = R r.0.rest
+  Then r = R 0 r.0.rest
 
-  pub rests : (code : List Instr) (o : Options) (s : Server) (w : What) → R s.rest → Gives Then (does code o s w)
-  rests code o s (Step t) g = by (thread_in s.threads t)
+  pub rests_change : (code : List Instr) (o : Options) (s : Server) (w : What) → R 0 s.rest → Gives Then (does code o s w)
+  rests_change code o s (Step t) g = by (thread_in s.threads t)
     where
       by : (x : Option ThreadState) → Gives Then (option_map (stepped s) (then_some (option_map (λ y. record { work = begin_work s.rest; thread = y }) x) (step_in code o.servers)))
       by None = tt
       by (Some y) =
           let h : Hand = record { work = begin_work s.rest; thread = y } in
           over_gives (EndsStep F) Then (step_in code o.servers h) (stepped s) (then_gives (EndsStep F) (slice_get code y.pc) (λ i. step o.servers i h) (λ i q. step_rests o.servers i h g)) (λ d u. u)
-  rests code o s (Deliver i) g =
+  rests_change code o s (Deliver i) g =
       over_gives OfSite Then (deliver code i s) (left_by s.events None None)
       (then_gives OfSite (slice_get s.rest.inbox i) (λ m. deliver_message code m (received i s)) (λ m q. message_rests code m (received i s) (k.received i s.rest g))) (λ x u. u)
-  rests code o s (Evict w) g =
+  rests_change code o s (Evict w) g =
       over_gives OfSite Then (beside_threads (evict_copy w) (begin_at s)) (left_by s.events None None)
       (over_gives OfWork OfSite (evict_copy w (begin_work s.rest)) _ (test_gives OfWork (can_evict s.rest.cache w) _ (λ q. k.evicts w s.rest q g)) (λ x u. u)) (λ x u. u)
-  rests code o s (Migrate t target) g =
+  rests_change code o s (Migrate t target) g =
       over_gives OfSite Then (migrate t target (begin_at s)) (left_by s.events (Some t) None)
       (then_gives OfSite (thread_in s.threads t) _ (λ y q. by y (unpin_all (used_words y) s.rest.cache) refl)) (λ x u. u)
     where
       by : (y : ThreadState) (l : Option (List Copy)) → unpin_all (used_words y) s.rest.cache ≡ l
           → Gives OfSite (option_map (λ p. record { work = depart target (begin_work s.rest) p; threads = without_thread s.threads t }) (option_map (λ left. (packed (record y { moved_since_step = true }), left)) l))
       by y None e = tt
-      by y (Some cs) e = k.sent _ _ (record s.rest { cache = cs }) (k.unpins_all (used_words y) cs s.rest e g)
+      by y (Some cs) e = k.sent 0 _ _ (record s.rest { cache = cs }) (k.unpins_all (used_words y) cs s.rest e g)
+
+-- the same of a fact that tells nothing of threads that are noted and not counted
+pub rests : {R : Rest → Type 0} → Parts R → (code : List Instr) (o : Options) (s : Server) (w : What) → R s.rest → Gives (λ (r : Server × EntryView). R r.0.rest) (does code o s w)
+rests k code o s w g = rests_change (changes k) code o s w g

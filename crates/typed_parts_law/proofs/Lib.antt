@@ -1,0 +1,11 @@
+mod Rising
+mod Places
+mod Cached
+mod Lists
+mod Typed
+mod Standing
+mod Seen
+mod Servers
+mod Start
+mod Pins
+mod Kept
