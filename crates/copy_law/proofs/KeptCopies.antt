@@ -1,5 +1,5 @@
 -- Each kind of event that is proved to leave copies right.
-use Rattle.std.proofs.Common.{◌≡◌, ℕ, zero, suc, ◌-◌, ◌+◌, List, [], ◌∷◌, Some, is_some, refl, sym, ap, subst, ◌∙◌, arith}
+use Rattle.std.proofs.Common.{◌⊎◌, inl, ⊎_elim, ◌≤◌, false, None, ◌≡◌, ℕ, zero, suc, ◌-◌, ◌+◌, List, [], ◌∷◌, Some, is_some, refl, sym, ap, subst, ◌∙◌, arith}
 use Rattle.std.specs.Prelude.{⊤, length, slice_get, option_map}
 use Rattle.fr_base.specs.declared.place.Lval.{Lval}
 use Rattle.fr_base.specs.declared.instruction.Instr.{Instr}
@@ -21,8 +21,8 @@ use Rattle.server_model.specs.Clusters.{apply}
 use Rattle.heap_law.specs.Names.{tot, other, Among}
 use Rattle.heap_law.specs.Things.{Thing, lies, flies, copied, sent, things_of}
 use Rattle.heap_law.specs.Follow.{cells_in}
-use Rattle.heap_law.specs.Sight.{sight}
-use Rattle.heap_law.specs.Placing.{clean_cell, other_cell, other_copy, fetched_copy, unclean, unclean_request}
+use Rattle.heap_law.specs.Sight.{sight, issued}
+use Rattle.heap_law.specs.Placing.{words, clean_cell, other_cell, other_copy, fetched_copy, unclean, unclean_request}
 use Rattle.heap_law.specs.Coherent.{IsSound, Holds, copies_agree, served_are_clean}
 use Rattle.path_law.proofs.Sole.{some_is}
 use Rattle.word_law.specs.Reworded.{HasPlaces}
@@ -32,6 +32,8 @@ use Rattle.event_law.specs.Kinds.{Kind, instr_kind, kind_of, kind_at}
 use Rattle.event_law.specs.Laws.{Gives, FewEvents}
 use Rattle.event_law.proofs.Results.{both_give, weaker}
 use Rattle.event_law.proofs.Sending.{applied_part}
+use Rattle.event_law.proofs.MutexResults.{has}
+use Rattle.heap_law.proofs.Words.{none_at, none_all}
 use Rattle.stay_law.specs.Laws.{IsOfKind}
 use Rattle.stay_law.proofs.Alike.{Alike, Within}
 use Rattle.stay_law.proofs.Seen.{seen_alike}
@@ -42,9 +44,9 @@ use Rattle.carry_law.proofs.Events.{steps_go, discards_go}
 use Rattle.carry_law.proofs.Gives.{owned_go}
 use Rattle.carry_law.proofs.Assigns.{assigns_go}
 use Rattle.value_law.proofs.Sums.{sent_copy, copy_of}
-use Rattle.copy_law.specs.Copies.{CellsStay, CopiesComeFromCopies, CopiesAreRight, KeepCopies, StepsKeepCopies, DiscardsKeepCopies, LetsGo, drops, drops_none, puts_back, DropsKeepCopies, AssignsKeepCopies}
+use Rattle.copy_law.specs.Copies.{CellsStay, CellsGoOn, CopiesComeFromCopies, CopiesAreRight, KeepCopies, StepsKeepCopies, DiscardsKeepCopies, LetsGo, drops, drops_none, puts_back, DropsKeepCopies, AssignsKeepCopies}
 use Rattle.copy_law.proofs.Clean.{Leaves, cells_stay, all_goes}
-use Rattle.copy_law.proofs.Comes.{AskedWeighNothing, copies_come}
+use Rattle.copy_law.proofs.Comes.{ServedWeighNothing, AskedWeighNothing, copies_come}
 use Rattle.copy_law.proofs.Served.{served_right}
 
 -- WEIGHTS
@@ -59,19 +61,24 @@ has_none k v = other (is_some (clean_cell (sight k) v))
 abbrev no_word : ℕ → ℕ
 no_word v = 0
 
-sent_weighs : (k : Cluster) (n : ℕ) (m : Message) → other_copy (sight k) (sent n m) ≡ sent_copy (differs k) no_word m
-sent_weighs k n (message.Fetched v c t) = omega arith
-sent_weighs k n (message.Fetch v o s t) = refl
-sent_weighs k n m = refl
+-- and that the word wasn't issued
+abbrev is_off : Cluster → ℕ → Cell → ℕ
+is_off k v c = differs k v c + other (issued (sight k) v)
 
-copy_weighs : (k : Cluster) (x : Thing) → other_copy (sight k) x ≡ copy_of (differs k) no_word x
-copy_weighs k (sent n m) = sent_weighs k n m
-copy_weighs k (copied r c) = refl
-copy_weighs k x = refl
+-- before the event no copy is off
+sent_off : (k : Cluster) (n : ℕ) (m : Message) → sent_copy (is_off k) no_word m ≤ other_copy (sight k) (sent n m) + words (λ v. other (issued (sight k) v)) (sent n m)
+sent_off k n (message.Fetched v c t) = omega arith
+sent_off k n (message.Fetch v o s t) = omega arith
+sent_off k n m = omega arith
 
-all_weigh : (k : Cluster) (b : List Thing) → tot (other_copy (sight k)) b ≡ tot (copy_of (differs k) no_word) b
-all_weigh k [] = refl
-all_weigh k (x ∷ b) = omega (arith, copy_weighs k x, all_weigh k b)
+copy_off : (k : Cluster) (x : Thing) → copy_of (is_off k) no_word x ≤ other_copy (sight k) x + words (λ v. other (issued (sight k) v)) x
+copy_off k (sent n m) = sent_off k n m
+copy_off k (copied r c) = omega arith
+copy_off k x = omega arith
+
+all_off : (k : Cluster) (b : List Thing) → tot (copy_of (is_off k) no_word) b ≤ tot (other_copy (sight k)) b + tot (words (λ v. other (issued (sight k) v))) b
+all_off k [] = omega arith
+all_off k (x ∷ b) = omega (arith, copy_off k x, all_off k b)
 
 sent_asks : (k : Cluster) (n : ℕ) (m : Message) → unclean (sight k) (sent n m) ≡ sent_copy (λ v c. 0) (has_none k) m
 sent_asks k n (message.Fetched v c t) = omega arith
@@ -86,20 +93,21 @@ all_ask : (k : Cluster) (b : List Thing) → tot (unclean (sight k)) b ≡ tot (
 all_ask k [] = refl
 all_ask k (x ∷ b) = omega (arith, thing_asks k x, all_ask k b)
 
--- the same where the clean cells are the same
-other_weighs : (k z : Cluster) → CellsStay k z → (x : Thing) → other_copy (sight z) x ≡ copy_of (differs k) no_word x
-other_weighs k z s (copied r c) = ap (other_cell c.cell) (s c.word)
-other_weighs k z s (sent n m) = by m
+-- and afterwards none that wasn't differs, where cells go on
+differs_not : (k z : Cluster) → CellsGoOn k z → (v : ℕ) (c : Cell) → is_off k v c ≡ 0 → other_cell c (clean_cell (sight z) v) ≡ 0
+differs_not k z go v c e =
+    ⊎_elim (λ (same : clean_cell (sight z) v ≡ clean_cell (sight k) v). ap (other_cell c) same ∙ first e)
+    (λ (o : (clean_cell (sight z) v ≡ None) ⊎ (issued (sight k) v ≡ false)). ⊎_elim (λ (none : clean_cell (sight z) v ≡ None). ap (other_cell c) none) (λ (new : issued (sight k) v ≡ false). absurd (omega (arith, e, ap other new))) o) (go v)
   where
-    by : (m : Message) → fetched_copy (sight z) m ≡ sent_copy (differs k) no_word m
-    by (message.Fetched v c t) = let same = ap (other_cell c) (s v) in omega (arith, same)
-    by (message.Fetch v o r t) = refl
-    by m = refl
-other_weighs k z s x = refl
+    first : is_off k v c ≡ 0 → differs k v c ≡ 0
+    first z0 = omega (arith, z0)
 
-weigh_after : (k z : Cluster) → CellsStay k z → (b : List Thing) → tot (other_copy (sight z)) b ≡ tot (copy_of (differs k) no_word) b
-weigh_after k z s [] = refl
-weigh_after k z s (x ∷ b) = omega (arith, other_weighs k z s x, weigh_after k z s b)
+thing_right : (k z : Cluster) → CellsGoOn k z → (x : Thing) → copy_of (is_off k) no_word x ≡ 0 → other_copy (sight z) x ≡ 0
+thing_right k z go (copied r c) e = differs_not k z go c.word c.cell e
+thing_right k z go (sent n (message.Fetched v c t)) e = differs_not k z go v c (omega (arith, e))
+thing_right k z go (sent n (message.Fetch v o s t)) e = refl
+thing_right k z go (sent n m) e = refl
+thing_right k z go x e = refl
 
 other_asks : (k z : Cluster) → CellsStay k z → (x : Thing) → unclean (sight z) x ≡ copy_of (λ v c. 0) (has_none k) x
 other_asks k z s (sent n m) = by m
@@ -121,12 +129,21 @@ ask_after k z s (x ∷ b) = omega (arith, other_asks k z s x, ask_after k z s b)
 
 pub come_from_copies : CopiesComeFromCopies
 come_from_copies k e sound few =
-    weaker (λ (d : Cluster × EntryView). tot (copy_of (differs k) no_word) (things_of d.0) ≡ 0) (λ (d : Cluster × EntryView). CellsStay k d.0 → Holds d.0 copies_agree) (apply k e)
-    (copies_come k e (differs k) no_word sound few (omega (arith, all_weigh k (things_of k), agree)) (served_right k sound) (λ s here t y i q there at f p. refl))
-    (λ d none stay. omega (arith, none, weigh_after k d.0 stay (things_of d.0)))
+    weaker (λ (d : Cluster × EntryView). tot (copy_of (is_off k) no_word) (things_of d.0) ≡ 0) (λ (d : Cluster × EntryView). CellsGoOn k d.0 → Holds d.0 copies_agree) (apply k e)
+    (copies_come k e (is_off k) no_word sound few (omega (arith, all_off k (things_of k), agree, issued_all)) served (λ s here t y i q there at f p. refl))
+    (λ d none go. none_all (other_copy (sight d.0)) (things_of d.0) (λ x m. thing_right k d.0 go x (none_at (copy_of (is_off k) no_word) x (things_of d.0) none m)))
   where
     agree : tot (other_copy (sight k)) (things_of k) ≡ 0
     agree = sound.copies.copies_agree
+
+    issued_all : tot (words (λ v. other (issued (sight k) v))) (things_of k) ≡ 0
+    issued_all = sound.words.are_issued
+
+    served : ServedWeighNothing k (is_off k)
+    served n s here i v o r t c q f =
+        let right = served_right k sound n s here i v o r t c q f in
+        let asked = has k sound n s here i (message.Fetch v o r t) q (words (λ u. other (issued (sight k) u))) in
+        omega (arith, right, asked, issued_all)
 
 -- where it asks for no copy, those that are asked for stay clean too
 come_from_requests : (k : Cluster) (e : Event) → IsSound k → FewEvents k → AskedWeighNothing k e (has_none k) → Gives (λ (d : Cluster × EntryView). CellsStay k d.0 → Holds d.0 served_are_clean) (apply k e)
@@ -148,14 +165,14 @@ places_after k e sound few = applied_part HasPlaces (λ c g. record { numbers_di
 
 -- where clean cells stay both do
 abbrev BothStay : Cluster → Cluster × EntryView → Type 0
-BothStay k d = (CellsStay k d.0 → Holds d.0 copies_agree) × (CellsStay k d.0 → Holds d.0 served_are_clean)
+BothStay k d = (CellsGoOn k d.0 → Holds d.0 copies_agree) × (CellsStay k d.0 → Holds d.0 served_are_clean)
 
 -- where clean cells stay, and no copy is asked for, copies are right
 kept_so : (k : Cluster) (e : Event) → IsSound k → FewEvents k → Gives (λ (d : Cluster × EntryView). CellsStay k d.0) (apply k e) → AskedWeighNothing k e (has_none k) → Gives (λ (d : Cluster × EntryView). CopiesAreRight d.0) (apply k e)
 kept_so k e sound few cells asked =
     both_give (λ (d : Cluster × EntryView). CellsStay k d.0) (BothStay k) (λ (d : Cluster × EntryView). CopiesAreRight d.0) (apply k e) cells
-    (both_give (λ (d : Cluster × EntryView). CellsStay k d.0 → Holds d.0 copies_agree) (λ (d : Cluster × EntryView). CellsStay k d.0 → Holds d.0 served_are_clean) (BothStay k) (apply k e) (come_from_copies k e sound few) (come_from_requests k e sound few asked) (λ d a b. (a, b)))
-    (λ d stay both. record { agree = both.0 stay; clean = both.1 stay })
+    (both_give (λ (d : Cluster × EntryView). CellsGoOn k d.0 → Holds d.0 copies_agree) (λ (d : Cluster × EntryView). CellsStay k d.0 → Holds d.0 served_are_clean) (BothStay k) (apply k e) (come_from_copies k e sound few) (come_from_requests k e sound few asked) (λ d a b. (a, b)))
+    (λ d stay both. record { agree = both.0 (λ w. inl (stay w)); clean = both.1 stay })
 
 -- KINDS
 

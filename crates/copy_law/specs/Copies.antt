@@ -1,5 +1,5 @@
 -- COPIES (DRust's read caches; this project's rules): where they come from, and that they stay what they are.
-use Rattle.std.specs.Prelude.{◌≡◌, ℕ, Some, slice_get}
+use Rattle.std.specs.Prelude.{◌≡◌, ◌⊎◌, ℕ, false, Some, None, slice_get}
 use Rattle.fr_base.specs.declared.place.Lval.{Lval}
 use Rattle.fr_base.specs.declared.instruction.Operand.{Operand}
 use Rattle.fr_base.specs.declared.instruction.Instr.{Instr}
@@ -14,7 +14,7 @@ use Rattle.server_model.specs.declared.event.What.TheVariants.{Step}
 use Rattle.server_model.specs.Servers.{Server, Cluster, server_at}
 use Rattle.server_model.specs.Work.{thread_in, last_of}
 use Rattle.server_model.specs.Clusters.{apply}
-use Rattle.heap_law.specs.Sight.{sight}
+use Rattle.heap_law.specs.Sight.{sight, issued}
 use Rattle.heap_law.specs.Placing.{clean_cell}
 use Rattle.heap_law.specs.Coherent.{Holds, IsSound, copies_agree, served_are_clean}
 use Rattle.type_law.specs.ClusterTypes.{IsCoherent}
@@ -27,9 +27,13 @@ use Rattle.carry_law.specs.Steps.{CarriesOne, IsNoReference, IsOwnedOrGone}
 abbrev pub CellsStay : Cluster → Cluster → Type 0
 CellsStay k z = (w : ℕ) → clean_cell (sight z) w ≡ clean_cell (sight k) w
 
--- an event of whatever kind that leaves those cells, from a sound cluster, with its messages handed over, leaves copies that are these cells
+-- or there is none any more, as the object has another word, is changed through a reference or is gone, or the word is a new one
+abbrev pub CellsGoOn : Cluster → Cluster → Type 0
+CellsGoOn k z = (w : ℕ) → (clean_cell (sight z) w ≡ clean_cell (sight k) w) ⊎ ((clean_cell (sight z) w ≡ None) ⊎ (issued (sight k) w ≡ false))
+
+-- an event of whatever kind that has cells go on so, from a sound cluster, with its messages handed over, leaves copies that are present cells
 abbrev pub CopiesComeFromCopies : Type 0
-CopiesComeFromCopies = (k : Cluster) (e : Event) → IsSound k → FewEvents k → Gives (λ (d : Cluster × EntryView). CellsStay k d.0 → Holds d.0 copies_agree) (apply k e)
+CopiesComeFromCopies = (k : Cluster) (e : Event) → IsSound k → FewEvents k → Gives (λ (d : Cluster × EntryView). CellsGoOn k d.0 → Holds d.0 copies_agree) (apply k e)
 
 -- copies are present cells, and copies are asked for of live objects
 pub record CopiesAreRight (k : Cluster) : Type 0 where

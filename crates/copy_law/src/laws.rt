@@ -4,8 +4,8 @@ ghost use Rattle.event_law.specs.Kinds.{arrives, asks_dup, asks_join, asks_lock,
 ghost use Rattle.copy_law.specs.Copies.{AssignsKeepCopies, CopiesComeFromCopies, DiscardsKeepCopies, DropsKeepCopies, KeepCopies, StepsKeepCopies};
 
 /// Whatever an event of a sound cluster does, each copy that is there once its messages are handed over, cached or on its way, was there before under the same word, or is the
-/// cell of the object that a request asked for. So where the live objects have the cells and the words that they had, and no other ones are changed through references, copies
-/// are those cells.
+/// cell of the object that a request asked for. So where the cell of each word is what it was, or there is none any more (the object has another word, is changed through a
+/// reference, or is gone), or the word is a new one, copies are present cells.
 pub fn copies_come_from_copies()
     ensures comes { CopiesComeFromCopies }
 {}
