@@ -1,0 +1,10 @@
+pub mod Swapped
+pub mod Unvisited
+pub mod EndTypes
+pub mod Emptying
+pub mod Marking
+pub mod Storing
+pub mod Putting
+pub mod Filling
+pub mod Light
+pub mod Steps

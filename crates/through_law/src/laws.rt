@@ -1,0 +1,10 @@
+//! Laws of writes through stars that are done.
+
+ghost use Rattle.through_law.specs.Stored.{AssignmentsKeep};
+
+/// Where a thread assigns through stars, each object has a word afterwards, references know the words at their holders, dirty references are alone and first words
+/// that were left are no words of today, whether the step is done or asks for an object. What stood at the place becomes the thread's gift and is dropped, then the
+/// value becomes the gift, and comes to the place, at which nothing is.
+pub fn assignments_keep_words()
+    ensures assigns { AssignmentsKeep }
+{}
