@@ -97,7 +97,7 @@ module _ (k : Cluster) (sound : IsSound k) (s : Server) (here : server_at k.serv
   abbrev n : ℕ
   n = s.rest.number
 
-  abbrev cluster : Hand → Cluster
+  abbrev pub cluster : Hand → Cluster
   cluster h = put k sound s here t y at h
 
   abbrev start : Hand
@@ -116,10 +116,10 @@ module _ (k : Cluster) (sound : IsSound k) (s : Server) (here : server_at k.serv
       servers_alike n k.servers s (record { rest = s.rest; threads = (put_back s.threads start).threads; events = s.events + 1 }) here
       (begun_alike s s.events None None (put_back s.threads start) (put_alike k.code [] t (begin_at s) y at start (hand_itself k.code n start)))
 
-  first_places : HasPlaces (cluster start)
+  pub first_places : HasPlaces (cluster start)
   first_places = places k sound s here t y at start (first_ok k sound s here t y at)
 
-  first_seen : Untouched k (cluster start)
+  pub first_seen : Untouched k (cluster start)
   first_seen = seen_alike k (cluster start) (before k sound s here t y at) first_places refl first_alike
 
   pub on_start : OnWay start
@@ -147,10 +147,10 @@ module _ (k : Cluster) (sound : IsSound k) (s : Server) (here : server_at k.serv
     thread = subst (λ m. IsSome (thread_in s.threads m)) (sym w.named) (subst (λ o. IsSome o) (sym at) refl);
   }
 
-  abbrev with_thread : Hand → ThreadState → Hand
+  abbrev pub with_thread : Hand → ThreadState → Hand
   with_thread h x = record h { thread = x }
 
-  split : (h : Hand) (x : ThreadState) → OnWay h → x.number ≡ h.thread.number → Split (things_of (cluster h)) (things_of (cluster (with_thread h x))) (thread_things n false h.thread) (thread_things n false x)
+  pub split : (h : Hand) (x : ThreadState) → OnWay h → x.number ≡ h.thread.number → Split (things_of (cluster h)) (things_of (cluster (with_thread h x))) (thread_things n false h.thread) (thread_things n false x)
   split h x w e = put_split k n s.threads (s.events + 1) h (with_thread h x) (stands_here h w) refl e
 
   -- A SLOT GIVES ITS VALUE

@@ -43,12 +43,12 @@ light_weighs_none o n t j _ (shared_to r) = let z = by r.pinned in omega (arith,
     by false = refl
 
 -- what a slot has beside what is left
-record Out (code : List Instr) (n t i j : ℕ) (xs : List Value) (v : Value) : Type 0 where
-  number : ℕ
-  alike : Alike code (things_at (slot_things n t) i xs) (slot_things n t number v ++ things_at (slot_things n t) i (slice_set xs j value.Gone))
-  sum : (w : Thing → ℕ) → tot w (things_at (slot_things n t) i xs) ≡ tot w (slot_things n t number v) + tot w (things_at (slot_things n t) i (slice_set xs j value.Gone))
+pub record Out (code : List Instr) (n t i j : ℕ) (xs : List Value) (v : Value) : Type 0 where
+  pub number : ℕ
+  pub alike : Alike code (things_at (slot_things n t) i xs) (slot_things n t number v ++ things_at (slot_things n t) i (slice_set xs j value.Gone))
+  pub sum : (w : Thing → ℕ) → tot w (things_at (slot_things n t) i xs) ≡ tot w (slot_things n t number v) + tot w (things_at (slot_things n t) i (slice_set xs j value.Gone))
 
-out : (code : List Instr) (n t i j : ℕ) (xs : List Value) (v : Value) → slice_get xs j ≡ Some v → Out code n t i j xs v
+pub out : (code : List Instr) (n t i j : ℕ) (xs : List Value) (v : Value) → slice_get xs j ≡ Some v → Out code n t i j xs v
 out code n t i j [] v e = absurd cc
 out code n t i zero (x ∷ xs) v e =
     let s : x ≡ v = cc in

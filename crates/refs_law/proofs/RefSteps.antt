@@ -77,7 +77,7 @@ module _ (code : List Instr) (n : ℕ) where
     as_is : (h1 : Hand) → TakesNoneHere code h1.thread → Does code n h1 h1
     as_is h1 untaken = record { moved = seen (record { number = refl; named = refl; alike = itself (thread_things n false h1.thread ++ body_things n h1.work.rest) }); untaken = untaken }
 
-    relabelled : (h1 : Hand) (v : Value) → TakesNoneHere code h1.thread → Does code n h1 (label_dropped v h1)
+    pub relabelled : (h1 : Hand) (v : Value) → TakesNoneHere code h1.thread → Does code n h1 (label_dropped v h1)
     relabelled h1 v untaken = record { moved = seen (record { number = refl; named = refl; alike = itself (thread_things n false h1.thread ++ body_things n h1.work.rest) }); untaken = untaken }
 
     -- THE NEWEST SLOT GOES
@@ -118,11 +118,11 @@ module _ (code : List Instr) (n : ℕ) where
         gone_now : slice_get (slice_set x.slots i value.Gone) i ≡ Some value.Gone
         gone_now = set_same x.slots i old value.Gone stood
 
-        abbrev filled : Value → Hand → Hand
+        abbrev pub filled : Value → Hand → Hand
         filled v hp = with_slots (slice_set hp.thread.slots i v) (label_dropped old hp)
 
         -- a value that words don't see comes
-        plain_comes : (v : Value) → pointing (Some v) ≡ None → IsUnseen v → Does code n emptied (filled v h)
+        pub plain_comes : (v : Value) → pointing (Some v) ≡ None → IsUnseen v → Does code n emptied (filled v h)
         plain_comes v points unseen = record { moved = seen (record { number = refl; named = refl; alike = beside threads (itself (body_things n h.work.rest)) }); untaken = none }
           where
             slots : Alike code (things_at (slot_things n x.number) 0 (slice_set x.slots i value.Gone)) (things_at (slot_things n x.number) 0 (slice_set x.slots i v))
@@ -136,7 +136,7 @@ module _ (code : List Instr) (n : ℕ) where
                 slots (itself (temps_of n x)) (itself (held_if x.gift))
 
         -- the temporary value on top comes
-        top_comes : (v : Value) → last_of x.temps ≡ Some v → Does code n emptied (filled v (with_temps (front_of x.temps) h))
+        pub top_comes : (v : Value) → last_of x.temps ≡ Some v → Does code n emptied (filled v (with_temps (front_of x.temps) h))
         top_comes v e =
             let ts : List Value = front_of x.temps in
             let y : ThreadState = emptied.thread in

@@ -1,0 +1,4 @@
+pub mod EndTypes
+pub mod EndSteps
+pub mod EndPlaces
+pub mod EndEvents
