@@ -1,7 +1,7 @@
--- The pointer from which a shared borrow is made: it isn't stale, and its object lies where its word leads.
+-- The pointer from which a borrow is made: it isn't stale, and its object lies where its word leads.
 use Rattle.std.proofs.Common.{◌≡◌, ℕ, suc, Some, sym, ap, subst, ◌∙◌, arith}
 use Rattle.fr_base.specs.declared.place.Lval.{Lval}
-use Rattle.fr_base.specs.declared.instruction.Instr.TheVariants as instr
+use Rattle.fr_base.specs.declared.instruction.Instr.{Instr}
 use Rattle.heap_partition.specs.declared.value.BoxPtr.{BoxPtr}
 use Rattle.thread_state.specs.declared.phase.Phase.TheVariants as phase
 use Rattle.thread_state.specs.declared.value.Value.{Value}
@@ -16,29 +16,26 @@ use Rattle.type_law.specs.ClusterTypes.{IsCoherent}
 use Rattle.path_law.specs.HeapStore.{GoesOn, HasPaths}
 use Rattle.path_law.proofs.Alike.{coherent_has_paths}
 use Rattle.path_law.proofs.FreshPaths.{HasTaken}
-use Rattle.read_law.specs.Reading.{shares as shares_it, LiesUnder}
+use Rattle.read_law.specs.Reading.{Reads, LiesUnder}
 use Rattle.read_law.proofs.FreshReads.{reading_of, fresh_if}
 use Rattle.read_law.proofs.Flights.{answers_told}
 use Rattle.read_law.proofs.Homes.{pointer_leads, fresh_word}
 use Rattle.end_law.proofs.Lying.{lies_read}
 
-module _ (k : Cluster) (coherent : IsCoherent k) (x : Standing) (g : GoesOn k x) (w : Lval) (m : ℕ) (deep : w.depth ≡ suc m) (at : instr_of (sight k) x ≡ Some (instr.Borrow w)) (awake : (u : ℕ) → x.thread.phase ≡ phase.WaitCell u → ⊥) where
+module _ (k : Cluster) (coherent : IsCoherent k) (x : Standing) (g : GoesOn k x) (i : Instr) (w : Lval) (m : ℕ) (reads : Reads i w m) (deep : w.depth ≡ suc m) (at : instr_of (sight k) x ≡ Some i)
+    (none : (l : Location) → HasTaken k (coherent_has_paths k coherent) x l → ⊥) where
   abbrev c : HasPaths k
   c = coherent_has_paths k coherent
 
-  -- the thread lends nothing
-  lends_none : (l : Location) → HasTaken k c x l → ⊥
-  lends_none l h = let z : Some (instr.Borrow w) ≡ Some (instr.BorrowMut h.place) = sym at ∙ h.at in absurd (cc z)
-
   pub fresh_last : (l : Location) → locate (sight k).ground x.thread.number w.slot m ≡ Some l → IsStale (sight k) (Some l) → ⊥
-  fresh_last l there = fresh_if k c x l (reading_of k c x (instr.Borrow w) w m m l g at (shares_it deep) 1 (omega (arith, deep)) there) (λ z h s. lends_none l (subst (λ (q : Standing). HasTaken k c q l) s h))
+  fresh_last l there = fresh_if k c x l (reading_of k c x i w m m l g at reads 1 (omega (arith, deep)) there) (λ z h s. none l (subst (λ (q : Standing). HasTaken k c q l) s h))
 
   -- one star more
   next : (l : Location) (v : Value) (b : BoxPtr) → locate (sight k).ground x.thread.number w.slot m ≡ Some l → value_in (sight k).ground l ≡ Some v → pointer_of v ≡ Some b → locate (sight k).ground x.thread.number w.slot (suc m) ≡ Some (in_cell b.object)
   next l v b there stands points = ap (λ o. leads x.thread.number (value_behind (sight k).ground o)) there ∙ ap (leads x.thread.number) stands ∙ pointer_leads x.thread.number v b points
 
-  pub under_last : (l : Location) (v : Value) (b : BoxPtr) → locate (sight k).ground x.thread.number w.slot m ≡ Some l → value_in (sight k).ground l ≡ Some v → pointer_of v ≡ Some b → LiesUnder k b
-  under_last l v b there stands points =
+  pub under_last : ((u : ℕ) → x.thread.phase ≡ phase.WaitCell u → ⊥) → (l : Location) (v : Value) (b : BoxPtr) → locate (sight k).ground x.thread.number w.slot m ≡ Some l → value_in (sight k).ground l ≡ Some v → pointer_of v ≡ Some b → LiesUnder k b
+  under_last awake l v b there stands points =
       lies_read k c coherent.sound.words.have_words (answers_told k coherent.sound) x g (λ u o a s. awake u (ap (λ (z : Standing). z.thread.phase) (sym s) ∙ a.waits)) b
-      (reading_of k c x (instr.Borrow w) w m (suc m) (in_cell b.object) g at (shares_it deep) 0 (omega (arith, deep)) (next l v b there stands points))
+      (reading_of k c x i w m (suc m) (in_cell b.object) g at reads 0 (omega (arith, deep)) (next l v b there stands points))
       (fresh_word k coherent.sound.words.have_words l v b stands points (fresh_last l there))

@@ -2,4 +2,8 @@ pub mod OneShare
 pub mod Lasts
 pub mod Renews
 pub mod Pushed
+pub mod Sources
 pub mod Shares
+pub mod LentOne
+pub mod OnTop
+pub mod Lends

@@ -1,5 +1,5 @@
 -- A shared borrow, done or not, keeps the words: its pointer is cleaned first, and the new reference has its word.
-use Rattle.std.proofs.Common.{◌≡◌, ℕ, zero, suc, ◌+◌, ◌==◌, Bool, true, false, if◌then◌else◌, List, [], ◌++◌, Option, Some, None, option_map, refl, sym, ap, subst, ◌∙◌, arith}
+use Rattle.std.proofs.Common.{◌≡◌, ⊎_elim, ℕ, zero, suc, ◌+◌, ◌==◌, Bool, true, false, if◌then◌else◌, List, [], ◌++◌, Option, Some, None, option_map, refl, sym, ap, subst, ◌∙◌}
 use Rattle.std.specs.Prelude.{⊤, slice_get, nat_lt}
 use Rattle.fr_base.specs.declared.place.Lval.{Lval}
 use Rattle.fr_base.specs.declared.instruction.Instr.{Instr}
@@ -8,7 +8,6 @@ use Rattle.global_addr.specs.Words.{colour_of, server_of, next_word}
 use Rattle.heap_partition.specs.declared.value.Cell.{Cell}
 use Rattle.heap_partition.specs.declared.value.Owned.{Owned}
 use Rattle.heap_partition.specs.declared.value.Owned.TheVariants as owned
-use Rattle.migration.specs.Packing.{unpinned}
 use Rattle.mut_borrow.specs.Refs.{cleaned_answer}
 use Rattle.mut_borrow.specs.declared.mutable.MutRef.{MutRef}
 use Rattle.mut_borrow.specs.declared.mutable.Cleaned.TheVariants as cleaned
@@ -18,79 +17,61 @@ use Rattle.thread_state.specs.View.{ThreadState}
 use Rattle.thread_state.specs.declared.phase.Phase.TheVariants as phase
 use Rattle.thread_state.specs.declared.value.Value.{Value}
 use Rattle.thread_state.specs.declared.value.Value.TheVariants as value
-use Rattle.server_model.specs.declared.event.Event.{Event}
 use Rattle.server_model.specs.declared.event.What.TheVariants.{Step}
 use Rattle.server_model.specs.Servers.{Server, Cluster, server_at}
 use Rattle.server_model.specs.Work.{Hand, push_temp, thread_in, without_thread, then_some}
 use Rattle.server_model.specs.Clusters.{apply}
 use Rattle.server_model.specs.NewWords.{NewWord, issue_tint, issue_renewal}
-use Rattle.server_model.specs.Places.{Spot, in_slot, in_cell, in_copy, cell_at, value_at, value_in as cell_value, load_at, took, put_word}
+use Rattle.server_model.specs.Places.{Spot, in_slot, in_cell, in_copy, cell_at, value_at, value_in as cell_value, pointer_of, load_at, took, put_word}
 use Rattle.server_model.specs.Prepare.{Prepared, ready, requested, nothing, and_then, ready_at, ask_object, box_of, cleaned_by, clean_value, read_stars, read_pointer}
 use Rattle.server_model.specs.Commit.{goes_on, shared_from, borrow, borrow_from, commit}
-use Rattle.server_model.specs.Events.{can_step, has_phase, enabled, begin_work, Stepped, committed, prepared, step, step_in, stepped, does}
+use Rattle.server_model.specs.Events.{enabled, begin_work, Stepped, committed, prepared, step, step_in, stepped, does}
 use Rattle.heap_law.specs.Things.{Location, at_slot, Thing, servers_things}
-use Rattle.heap_law.specs.Follow.{Ground, Standing, value_in, locate}
+use Rattle.heap_law.specs.Follow.{Ground, value_in, locate}
 use Rattle.heap_law.specs.Sight.{sight}
 use Rattle.heap_law.specs.Words.{IsStale}
 use Rattle.type_law.specs.ClusterTypes.{IsCoherent}
-use Rattle.path_law.specs.HeapStore.{GoesOn}
-use Rattle.path_law.proofs.Contained.{among_thread}
 use Rattle.path_law.proofs.Sole.{some_is}
 use Rattle.word_law.specs.Reworded.{HasPlaces}
 use Rattle.word_law.specs.Unmoved.{LeavesWords}
 use Rattle.word_law.specs.OneMore.{IsClean, Beside}
 use Rattle.word_law.proofs.OneMore.{one_more_stays}
 use Rattle.word_law.proofs.Slots.{set_same}
-use Rattle.word_law.proofs.Tints.{slot_put, word_put, slot_stands}
+use Rattle.word_law.proofs.Tints.{slot_put, word_put}
 use Rattle.word_law.proofs.Unmoved.{untouched_stays}
 use Rattle.event_law.specs.Laws.{Gives, FewEvents}
 use Rattle.event_law.proofs.Results.{given_by, weaker, over_gives, both_give}
 use Rattle.event_law.proofs.RulesKeep.{sums_kept}
-use Rattle.event_law.proofs.Bags.{all_standing, thread_number}
+use Rattle.event_law.proofs.Bags.{all_standing}
 use Rattle.event_law.proofs.Events.{others_of}
 use Rattle.event_law.proofs.NewWords.{hand_renews, puts_word}
 use Rattle.event_law.proofs.AllSteps.{commits}
 use Rattle.event_law.proofs.Steps.{SteppedOk, committed_keeps}
-use Rattle.event_law.proofs.ThreadThere.{thread_there}
 use Rattle.read_law.specs.Reading.{Reads, LiesUnder, shares as shares_it}
 use Rattle.stay_law.proofs.Alike.{turned, chain}
 use Rattle.stay_law.proofs.Seen.{seen_alike}
 use Rattle.stay_law.proofs.Sites.{HandAlike}
-use Rattle.stay_law.proofs.Steps.{TakesNoneHere, shared_slot_unseen, hand_itself, pushes, goes_over, untaken_here}
+use Rattle.stay_law.proofs.Steps.{TakesNoneHere, shared_slot_unseen, hand_itself, pushes, goes_over}
 use Rattle.stay_law.proofs.StayKinds.{borrows_leave}
 use Rattle.stay_law.specs.Laws.{shared}
-use Rattle.turn_law.proofs.Events.{AtStep}
-use Rattle.turn_law.proofs.ReadWalk.{Finds, At, Comes, reads as walk, seen_value}
-use Rattle.turn_law.proofs.StarLines.{finds}
 use Rattle.prepare_law.specs.Requests.{WordsHold}
 use Rattle.prepare_law.proofs.Untaken.{not_taken}
-use Rattle.prepare_law.proofs.Hands.{Ok, State, Walks, put, places, stands, first_hand, calm_goes, calm_waits, cleans_at}
-use Rattle.prepare_law.proofs.Stars.{ReadsOk, Spotted, a_slot, a_cell, a_copy, asks_object, walks_loaded, stars_ok}
+use Rattle.prepare_law.proofs.Hands.{Ok, State, Walks, put, places, cleans_at}
+use Rattle.prepare_law.proofs.Stars.{Spotted, a_slot, a_cell, a_copy, asks_object, walks_loaded}
 use Rattle.prepare_law.proofs.Asking.{found_number}
 use Rattle.carry_law.proofs.Locks.{holds_on, Kept, kept_where}
 use Rattle.borrow_law.specs.Borrows.{SharedBorrowsKeep}
 use Rattle.borrow_law.proofs.OneShare.{shared_pointer, share_more}
-use Rattle.borrow_law.proofs.Lasts.{fresh_last, under_last}
+use Rattle.borrow_law.proofs.Sources as sources
+use Rattle.borrow_law.proofs.Sources.{no_value}
 use Rattle.borrow_law.proofs.Renews.{renewed_so}
 use Rattle.borrow_law.proofs.Pushed.{May, to_slot, to_object, may, coming, shared_on_top, hands_alike}
-
-own_unpinned : (u : Value) (o : Owned) → unpinned u ≡ value.Own o → u ≡ value.Own o
-own_unpinned (value.Own p) o e = e
-own_unpinned value.Gone o e = absurd cc
-own_unpinned (value.SharedSlot i) o e = absurd cc
-own_unpinned (value.MutSlot i) o e = absurd cc
-own_unpinned (value.Shared r) o e = absurd cc
-own_unpinned (value.Mut r) o e = absurd cc
-own_unpinned (value.Held m) o e = absurd cc
 
 own_no_mut : (o : Owned) (p : MutRef) → value.Own o ≡ value.Mut p → ⊥
 own_no_mut o p e = absurd cc
 
 none_shared : (v u : Value) → shared_from v ≡ None → shared_from v ≡ Some u → ⊥
 none_shared v u e f = let z : None ≡ Some u = sym e ∙ f in absurd cc
-
-no_value : {A : Type 0} (a : A) → None ≡ Some a → ⊥
-no_value a e = absurd cc
 
 module _ (k : Cluster) (coherent : IsCoherent k) (few : FewEvents k) (s : Server) (here : server_at k.servers s.rest.number ≡ Some s) (t : ℕ) (y : ThreadState) (at : thread_in s.threads t ≡ Some y)
     (on : enabled k.options s (Step t) ≡ true) (w : Lval) (m : ℕ) (deep : w.depth ≡ suc m) (code : slice_get k.code y.pc ≡ Some (instr.Borrow w)) (free : (v : ℕ) → y.phase ≡ phase.Taken v → ⊥) where
@@ -124,44 +105,23 @@ module _ (k : Cluster) (coherent : IsCoherent k) (few : FewEvents k) (s : Server
   abbrev b : List Thing
   b = all_standing n (without_thread s.threads t) ++ servers_things (others_of k.servers n)
 
-  abbrev x : Standing
-  x = record { server = n; packed = false; thread = y }
+  abbrev Source : Hand → Value → Type 0
+  Source = sources.Source k coherent s here t y at on i code w m reads deep free
 
-  abbrev e0 : Event
-  e0 = record { server = n; what = Step t }
+  abbrev IsNone : Value → Type 0
+  IsNone = sources.IsNone k coherent s here t y at on i code w m reads deep free
+
+  abbrev Came : Prepared → Type 0
+  Came = sources.Came k coherent s here t y at on i code w m reads deep free
+
+  abbrev Followed : Prepared → Type 0
+  Followed = sources.Followed k coherent s here t y at on i code w m reads deep free
+
+  abbrev AtSpot : Hand → Spot → Type 0
+  AtSpot = sources.AtSpot k coherent s here t y at on i code w m reads deep free
 
   placed : (h : Hand) → IsOk h → HasPlaces (Put h)
   placed h q = places k coherent s here t y at h q
-
-  calm : can_step y.phase ≡ true
-  calm = subst (λ o. has_phase can_step o ≡ true) at on
-
-  awake : (u : ℕ) → y.phase ≡ phase.WaitCell u → ⊥
-  awake u = calm_waits y.phase u calm
-
-  named : y.number ≡ t
-  named = thread_number s.threads t y at
-
-  going : GoesOn k x
-  going = record { among = (among_thread g.threads t x (thread_there k coherent.sound n s here t y at)).0; going = calm_goes y.phase calm }
-
-  stepping : AtStep k e0 i s t y
-  stepping = record { here = here; at = at; number = named; on = calm; code = code; what = refl }
-
-  found : Finds g y s.rest w m
-  found = finds k coherent e0 i s t y stepping w m reads
-
-  abbrev Came : Prepared → Type 0
-  Came = Comes g y s.rest w m found m
-
-  abbrev Followed : Prepared → Type 0
-  Followed = ReadsOk k coherent s here t y at on i code w m reads m
-
-  came : Came (read_stars m h0 (in_slot w.slot))
-  came = walk g y s.rest w m found m (omega arith)
-
-  followed : Followed (read_stars m h0 (in_slot w.slot))
-  followed = stars_ok k coherent s here t y at on i code w m reads m 0 h0 (in_slot w.slot) (omega arith) (record { state = first_hand k coherent s here t y at; untaken = untaken_here y.number y.phase (slice_get k.code y.pc) free; gift = refl }) (a_slot w.slot refl)
 
   -- a hand in which a shared reference may be made from what stands at the spot
   record Lends (h : Hand) (sp : Spot) : Type 0 where
@@ -183,16 +143,16 @@ module _ (k : Cluster) (coherent : IsCoherent k) (few : FewEvents k) (s : Server
   lends_by h sp c f = record { ok = c.state.ok; words = c.state.along.words; untaken = c.untaken; may = f }
 
   fresh_there : (l : Location) → locate g y.number w.slot m ≡ Some l → IsStale (sight k) (Some l) → ⊥
-  fresh_there l there = fresh_last k coherent x going w m deep code awake l there
+  fresh_there l there = sources.fresh_there k coherent s here t y at on i code w m reads deep free l there
 
   -- IN A SLOT
 
   module _ (j : ℕ) (located : locate g y.number w.slot m ≡ Some (at_slot y.number j)) where
     at_hand : (h : Hand) → IsOk h → locate g y.number w.slot m ≡ Some (at_slot h.thread.number j)
-    at_hand h q = located ∙ ap (λ u. Some (at_slot u j)) (named ∙ sym q.thread)
+    at_hand h q = sources.at_hand k coherent s here t y at on i code w m reads deep free j located h q
 
     it_stands : (h : Hand) (q : IsOk h) (v : Value) → slice_get h.thread.slots j ≡ Some v → value_in (sight (Put h)).ground (at_slot h.thread.number j) ≡ Some v
-    it_stands h q v e = slot_stands k n s.threads (s.events + 1) h j v (stands k coherent s here t y at h q) (placed h q) e
+    it_stands h q v e = sources.it_stands k coherent s here t y at on i code w m reads deep free j located h q v e
 
     -- what isn't dirty
     plain : (h : Hand) (v : Value) → W h → slice_get h.thread.slots j ≡ Some v → ((p : MutRef) → v ≡ value.Mut p → p.dirty ≡ true → ⊥) → Lends h (in_slot j)
@@ -215,7 +175,7 @@ module _ (k : Cluster) (coherent : IsCoherent k) (few : FewEvents k) (s : Server
       fresh = fresh_there l (at_hand h q)
 
       under : r.dirty ≡ true → LiesUnder k (box_of r)
-      under dirty = under_last k coherent x going w m deep code awake l (value.Mut r) (box_of r) (at_hand h q) (c.state.along.dirty_was l r (it_stands h q (value.Mut r) e) dirty) refl
+      under dirty = sources.under_there k coherent s here t y at on i code w m reads deep free l (value.Mut r) (box_of r) (at_hand h q) (c.state.along.dirty_was l r (it_stands h q (value.Mut r) e) dirty) refl
 
       not_dirty : r.dirty ≡ false → (p : MutRef) → value.Mut r ≡ value.Mut p → p.dirty ≡ true → ⊥
       not_dirty f p a d = let z : r ≡ p = cc in let no : false ≡ true = sym f ∙ ap (λ (u : MutRef). u.dirty) z ∙ d in absurd cc
@@ -282,30 +242,26 @@ module _ (k : Cluster) (coherent : IsCoherent k) (few : FewEvents k) (s : Server
 
   -- IN MEMORY
 
-  box_may : (h : Hand) → W h → (l : Location) → locate g y.number w.slot m ≡ Some l → (o : Owned) → value_in g l ≡ Some (value.Own o) → (u : Value) → shared_from (value.Own o) ≡ Some u → May (Put h) u
-  box_may h c l there (owned.Box p) e u made =
-      may (Put h) (placed h c.state.ok) c.state.along.words l (λ a. fresh_there l there (c.state.along.fresher l a)) (value.Own (owned.Box p)) u (c.state.along.boxes l p e) (λ z a d. own_no_mut (owned.Box p) z a) made
-  box_may h c l there owned.Nothing e u made = absurd (none_shared (value.Own owned.Nothing) u refl made)
-  box_may h c l there owned.Unit e u made = absurd (none_shared (value.Own owned.Unit) u refl made)
-  box_may h c l there (owned.Int z) e u made = absurd (none_shared (value.Own (owned.Int z)) u refl made)
-  box_may h c l there (owned.Mutex z) e u made = absurd (none_shared (value.Own (owned.Mutex z)) u refl made)
-  box_may h c l there (owned.Task z) e u made = absurd (none_shared (value.Own (owned.Task z)) u refl made)
-
-  cell_may : (h : Hand) (sp : Spot) (o : Owned) → W h → At g y s.rest w m found m h sp → value_at h sp ≡ Some (value.Own o) → (u : Value) → shared_from (value.Own o) ≡ Some u → May (Put h) u
-  cell_may h sp o c a e u made =
-      let it = seen_value (value_in g a.location) (value.Own o) (sym (ap (option_map unpinned) e) ∙ a.seen) in
-      box_may h c a.location a.located o (it.1 ∙ ap (λ z. Some z) (own_unpinned it.0 o (sym it.2))) u made
+  none_may : (o : Owned) (u : Value) → pointer_of (value.Own o) ≡ None → shared_from (value.Own o) ≡ Some u → ⊥
+  none_may (owned.Box p) u f made = absurd cc
+  none_may owned.Nothing u f made = none_shared (value.Own owned.Nothing) u refl made
+  none_may owned.Unit u f made = none_shared (value.Own owned.Unit) u refl made
+  none_may (owned.Int z) u f made = none_shared (value.Own (owned.Int z)) u refl made
+  none_may (owned.Mutex z) u f made = none_shared (value.Own (owned.Mutex z)) u refl made
+  none_may (owned.Task z) u f made = none_shared (value.Own (owned.Task z)) u refl made
 
   -- at a spot that shows a cell
-  memory_lends : (h : Hand) (sp : Spot) → W h → ((v : Value) → value_at h sp ≡ Some v → At g y s.rest w m found m h sp) → (o : Option Cell) → value_at h sp ≡ cell_value o → value_at (load_at sp h) sp ≡ cell_value o → Fine (clean_value sp (cell_value o) (load_at sp h))
-  memory_lends h sp c a None e f = lends_by (load_at sp h) sp (walks_loaded k coherent s here t y at on i code w m reads sp h c) (λ v u z made. absurd (no_value v (sym f ∙ z)))
-  memory_lends h sp c a (Some d) e f =
+  memory_lends : (h : Hand) (sp : Spot) → W h → Spotted g y.number w.slot m sp → ((v : Value) → value_at h sp ≡ Some v → AtSpot h sp) → (o : Option Cell) → value_at h sp ≡ cell_value o → value_at (load_at sp h) sp ≡ cell_value o → Fine (clean_value sp (cell_value o) (load_at sp h))
+  memory_lends h sp c p a None e f = lends_by (load_at sp h) sp (walks_loaded k coherent s here t y at on i code w m reads sp h c) (λ v u z made. absurd (no_value v (sym f ∙ z)))
+  memory_lends h sp c p a (Some d) e f =
       lends_by (load_at sp h) sp (walks_loaded k coherent s here t y at on i code w m reads sp h c)
       (λ v u z made.
       let same : value.Own d.value ≡ v = some_is (sym f ∙ z) in
-      cell_may h sp d.value c (a (value.Own d.value) e) e u (ap shared_from same ∙ made))
+      let made_of : shared_from (value.Own d.value) ≡ Some u = ap shared_from same ∙ made in
+      ⊎_elim (λ (q : Source h (value.Own d.value)). may (Put h) (placed h c.state.ok) c.state.along.words q.location q.fresh (value.Own d.value) u q.stands (λ r b x. own_no_mut d.value r b) made_of)
+      (λ (q : IsNone (value.Own d.value)). absurd (none_may d.value u q.2 made_of)) (sources.sourced k coherent s here t y at on i code w m reads deep free h sp c p a (value.Own d.value) e))
 
-  lent : (h : Hand) (sp : Spot) → W h → Spotted g y.number w.slot m sp → ((v : Value) → value_at h sp ≡ Some v → At g y s.rest w m found m h sp) → Fine (clean_value sp (value_at h sp) (load_at sp h))
+  lent : (h : Hand) (sp : Spot) → W h → Spotted g y.number w.slot m sp → ((v : Value) → value_at h sp ≡ Some v → AtSpot h sp) → Fine (clean_value sp (value_at h sp) (load_at sp h))
   lent h _ c (a_slot j located) a = by (slice_get h.thread.slots j) refl
     where
       by : (o : Option Value) → slice_get h.thread.slots j ≡ o → Fine (clean_value (in_slot j) o (load_at (in_slot j) h))
@@ -314,8 +270,8 @@ module _ (k : Cluster) (coherent : IsCoherent k) (few : FewEvents k) (s : Server
           slot_lends_none : slice_get h.thread.slots j ≡ None → Lends (load_at (in_slot j) h) (in_slot j)
           slot_lends_none f = lends_by (load_at (in_slot j) h) (in_slot j) (walks_loaded k coherent s here t y at on i code w m reads (in_slot j) h c) (λ v u z made. absurd (no_value v (sym f ∙ z)))
       by (Some v) e = slot_lends j located (load_at (in_slot j) h) (Some v) (walks_loaded k coherent s here t y at on i code w m reads (in_slot j) h c) (let q = a v e in q.like.partition) e
-  lent h _ c (a_cell v through) a = memory_lends h (in_cell v through) c a (cell_at h (in_cell v through)) refl refl
-  lent h _ c (a_copy v) a = memory_lends h (in_copy v) c a (cell_at h (in_copy v)) refl refl
+  lent h _ c (a_cell v through) a = memory_lends h (in_cell v through) c (a_cell v through) a (cell_at h (in_cell v through)) refl refl
+  lent h _ c (a_copy v) a = memory_lends h (in_copy v) c (a_copy v) a (cell_at h (in_copy v)) refl refl
 
   all_lent : (p : Prepared) → Followed p → Came p → Fine (and_then (λ h2 sp. clean_value sp (value_at h2 sp) (load_at sp h2)) p)
   all_lent (ready h sp) f a = lent h sp f.0 f.1 a
@@ -379,7 +335,7 @@ module _ (k : Cluster) (coherent : IsCoherent k) (few : FewEvents k) (s : Server
   prepared_share servers nothing q = tt
 
   stepped_share : (servers : ℕ) → Gives Left (step servers i h0)
-  stepped_share servers = subst (λ d. Gives Left (prepared servers i (read_pointer w d h0))) (sym deep) (prepared_share servers (read_pointer w (suc m) h0) (all_lent (read_stars m h0 (in_slot w.slot)) followed came))
+  stepped_share servers = subst (λ d. Gives Left (prepared servers i (read_pointer w d h0))) (sym deep) (prepared_share servers (read_pointer w (suc m) h0) (all_lent (read_stars m h0 (in_slot w.slot)) (sources.followed k coherent s here t y at on i code w m reads deep free) (sources.came k coherent s here t y at on i code w m reads deep free)))
 
   pub server_shares : Gives (Kept k s) (does k.code k.options s (Step t))
   server_shares =

@@ -1,10 +1,16 @@
 //! Laws of words at borrows.
 
-ghost use Rattle.borrow_law.specs.Borrows.{SharedBorrowsKeep};
+ghost use Rattle.borrow_law.specs.Borrows.{MutableBorrowsKeep, SharedBorrowsKeep};
 
 /// From a coherent cluster a shared borrow keeps the words, of a variable or through stars, done or not: each object has a word, references know the words at their
 /// holders, dirty references are alone and first words that were left are no words of today. Through stars the new reference is one pointer more to its object, with
 /// that object's word, as the pointer it is made from isn't stale; and where that is a dirty reference it gets a new word first, at the last colour with a new address.
 pub fn shared_borrows_keep_words()
     ensures keep { SharedBorrowsKeep }
+{}
+
+/// So does a mutable borrow of a thread that hasn't taken an object for it: done, where the object lies at its server, or not. The new reference has its pointer's
+/// word and, from a mutable reference, its mark: where that is dirty the new one is, and the one it was made from is stale from then on.
+pub fn mutable_borrows_keep_words()
+    ensures keep { MutableBorrowsKeep }
 {}

@@ -1,0 +1,142 @@
+-- A mutable reference on top of the thread in hand: one more, and nothing else that words see.
+use Rattle.std.proofs.Common.{◌≡◌, ⊎_elim, inl, inr, ℕ, ◌+◌, true, false, [], ◌∷◌, ◌++◌, Some, None, refl, sym, ap, subst, ◌∙◌}
+use Rattle.std.specs.Prelude.{slice_get, length}
+use Rattle.mut_borrow.specs.declared.mutable.MutRef.{MutRef}
+use Rattle.thread_state.specs.View.{ThreadState}
+use Rattle.thread_state.specs.declared.value.Value.{Value}
+use Rattle.thread_state.specs.declared.value.Value.TheVariants as value
+use Rattle.server_model.specs.Servers.{Server, Cluster, server_at}
+use Rattle.server_model.specs.Work.{Hand, push_temp, thread_in}
+use Rattle.server_model.specs.Commit.{go_on}
+use Rattle.heap_law.specs.Names.{Among}
+use Rattle.heap_law.specs.Things.{Location, at_slot, at_temp, in_cell, borrows, gift_things, walk_things, slot_things, temp_things, things_at, thread_things, things_of}
+use Rattle.heap_law.specs.Follow.{temp_of, value_in, locate}
+use Rattle.heap_law.specs.Sight.{Pointer, pointers_in, sight}
+use Rattle.heap_law.specs.Placing.{is_first, standing_in}
+use Rattle.heap_law.specs.Words.{IsStale}
+use Rattle.type_law.specs.ClusterTypes.{IsCoherent}
+use Rattle.word_law.specs.Reworded.{HasPlaces}
+use Rattle.word_law.specs.Unmoved.{pointing, owning, seen_at, takings}
+use Rattle.word_law.proofs.Put.{Split, put_split}
+use Rattle.word_law.proofs.Standing.{pointer_at, stands_in}
+use Rattle.stay_law.proofs.Alike.{Alike, itself, chain, beside, joined, standing_turn}
+use Rattle.stay_law.proofs.Steps.{TakesNoneHere}
+use Rattle.prepare_law.proofs.Hands.{Ok, put, places, stands}
+use Rattle.carry_law.proofs.Places.{end_is, end_none, end_other, end_things}
+use Rattle.carry_law.proofs.Replaced.{standing_split, standing_first, tail_of, at_a, at_b, in_slots, in_temps, in_cells, takings_same, lies_back, pointer_back, standing_back, of_thread}
+use Rattle.borrow_law.proofs.LentOne.{LentOne}
+
+-- it stands at its location
+nowhere : (l : Location) (r : MutRef) (p : Pointer) → Among p (standing_in (borrows l r ∷ [])) → p.at ≡ None → ⊥
+nowhere l r p (inl g) e = let z : Some l ≡ None = ap (λ (x : Pointer). x.at) g ∙ e in absurd cc
+nowhere l r p (inr g) e = absurd g
+
+module _ (k : Cluster) (coherent : IsCoherent k) (s : Server) (here : server_at k.servers s.rest.number ≡ Some s) (t : ℕ) (y : ThreadState) (at : thread_in s.threads t ≡ Some y) (h : Hand) (r : MutRef)
+    (q : Ok k coherent s here t y at h) (after : Ok k coherent s here t y at (go_on (push_temp (value.Mut r) h))) (none : TakesNoneHere k.code h.thread) where
+  abbrev n : ℕ
+  n = s.rest.number
+
+  abbrev top : Hand
+  top = go_on (push_temp (value.Mut r) h)
+
+  abbrev a : Cluster
+  a = put k coherent s here t y at h
+
+  abbrev b : Cluster
+  b = put k coherent s here t y at top
+
+  abbrev x : ThreadState
+  x = h.thread
+
+  abbrev z : ThreadState
+  z = top.thread
+
+  c : HasPlaces a
+  c = places k coherent s here t y at h q
+
+  d : HasPlaces b
+  d = places k coherent s here t y at top after
+
+  split : Split (things_of a) (things_of b) (thread_things n false x) (thread_things n false z)
+  split = put_split k n s.threads (s.events + 1) h top (stands k coherent s here t y at h q) refl refl
+
+  back : Split (things_of b) (things_of a) (thread_things n false z) (thread_things n false x)
+  back = record { left = split.left; right = split.right; before = split.after; after = split.before }
+
+  abbrev j : ℕ
+  j = length x.temps
+
+  -- WHAT STANDS WHERE
+
+  elsewhere : (l : Location) → (l ≡ at_temp x.number j → ⊥) → seen_at l (value_in (sight b).ground l) ≡ seen_at l (value_in (sight a).ground l)
+  elsewhere (at_slot m i) other =
+      ⊎_elim (λ (e : value_in (sight b).ground (at_slot m i) ≡ value_in (sight a).ground (at_slot m i)). ap pointing e)
+      (λ (e : (x.number ≡ m) × (value_in (sight a).ground (at_slot m i) ≡ slice_get x.slots i) × (value_in (sight b).ground (at_slot m i) ≡ slice_get z.slots i)). ap pointing (e.2 ∙ sym e.1)) (in_slots a b n x z refl split c d m i)
+  elsewhere (at_temp m i) other =
+      ⊎_elim (λ (e : value_in (sight b).ground (at_temp m i) ≡ value_in (sight a).ground (at_temp m i)). ap owning e)
+      (λ (e : (x.number ≡ m) × (value_in (sight a).ground (at_temp m i) ≡ slice_get x.temps i) × (value_in (sight b).ground (at_temp m i) ≡ slice_get z.temps i)).
+      ap owning (e.2 ∙ end_other x.temps (value.Mut r) i (λ w. other (ap (λ u. at_temp u i) (sym e.0) ∙ ap (at_temp x.number) w)) ∙ sym e.1)) (in_temps a b n x z refl split c d m i)
+  elsewhere (in_cell o) other = ap pointing (in_cells a b n x z refl split c d o)
+
+  now : value_in (sight b).ground (at_temp x.number j) ≡ Some (value.Mut r)
+  now = ap (λ o. temp_of o j) (at_b a b n x z refl split c d) ∙ end_is x.temps (value.Mut r)
+
+  empty : (v : Value) → value_in (sight a).ground (at_temp x.number j) ≡ Some v → ⊥
+  empty v e = let w : None ≡ Some v = sym (ap (λ o. temp_of o j) (at_a a b n x z refl split c d) ∙ end_none x.temps) ∙ e in absurd cc
+
+  same_takings : takings k.code (sight b).ground.threads ≡ takings k.code (sight a).ground.threads
+  same_takings = takings_same a b n x z refl split c d k.code none refl
+
+  -- POINTERS AT NO LOCATION
+
+  things : (i : ℕ) × Alike k.code (things_at (temp_things n x.number) 0 (x.temps ++ value.Mut r ∷ [])) (things_at (temp_things n x.number) 0 x.temps ++ temp_things n x.number i (value.Mut r))
+  things = end_things (temp_things n x.number) 0 x.temps (value.Mut r)
+
+  tails : Alike k.code (tail_of n z) (tail_of n x ++ borrows (at_temp x.number things.0) r ∷ [])
+  tails =
+      let head = gift_things x.number x.gift ++ things_at (walk_things n) 0 x.walk ++ things_at (slot_things n x.number) 0 x.slots in
+      chain (beside (itself head) things.1) (joined head (things_at (temp_things n x.number) 0 x.temps) (borrows (at_temp x.number things.0) r ∷ []))
+
+  of_tail : (p : Pointer) → p.at ≡ None → Among p (standing_in (tail_of n z)) → Among p (standing_in (tail_of n x))
+  of_tail p e w =
+      ⊎_elim (λ (l : Among p (standing_in (tail_of n x))). l) (λ (g : Among p (standing_in (borrows (at_temp x.number things.0) r ∷ []))). absurd (nowhere (at_temp x.number things.0) r p g e))
+      (standing_split p (tail_of n x) (borrows (at_temp x.number things.0) r ∷ []) (standing_turn k.code (tail_of n z) (tail_of n x ++ borrows (at_temp x.number things.0) r ∷ []) p tails.on e w))
+
+  to_tail : (p : Pointer) → p.at ≡ None → Among p (standing_in (tail_of n x)) → Among p (standing_in (tail_of n z))
+  to_tail p e w =
+      standing_turn k.code (tail_of n x ++ borrows (at_temp x.number things.0) r ∷ []) (tail_of n z) p tails.back e (standing_first p (tail_of n x) (borrows (at_temp x.number things.0) r ∷ []) w)
+
+  loose : (p : Pointer) → p.at ≡ None → Among p (pointers_in (things_of b)) → Among p (pointers_in (things_of a))
+  loose p e i =
+      ⊎_elim (λ (w : Among p (pointers_in (things_of a))). w) (λ (w : Among p (standing_in (tail_of n z))). stands_in p (things_of a) (of_thread a b n x z refl split c d p (of_tail p e w))) (pointer_back a b n x z refl split c d p i)
+
+  remain : (p : Pointer) → p.at ≡ None → Among p (pointers_in (things_of a)) → Among p (pointers_in (things_of b))
+  remain p e i =
+      ⊎_elim (λ (w : Among p (pointers_in (things_of b))). w) (λ (w : Among p (standing_in (tail_of n x))). stands_in p (things_of b) (of_thread b a n z x refl back d c p (to_tail p e w))) (pointer_back b a n z x refl back d c p i)
+
+  standing : (p : Pointer) → p.at ≡ None → Among p (standing_in (things_of b)) → Among p (standing_in (things_of a))
+  standing p e i = ⊎_elim (λ (w : Among p (standing_in (things_of a))). w) (λ (w : Among p (standing_in (tail_of n z))). of_thread a b n x z refl split c d p (of_tail p e w)) (standing_back a b n x z refl split c d p i)
+
+  -- made from the pointer at that location
+  pub lent_on_top : (l : Location) (v : Value) → locate (sight a).ground x.number r.holder.slot r.holder.depth ≡ Some l → value_in (sight a).ground l ≡ Some v → Among (record { at = Some l; word = r.first; object = r.object }) (pointer_at l v) → is_first r (Some v) ≡ true
+      → (IsStale (sight a) (Some l) → ⊥) → r.word ≡ r.first → ((m : MutRef) → v ≡ value.Mut m → m.dirty ≡ r.dirty) → (r.dirty ≡ true → (m : MutRef) × (v ≡ value.Mut m)) → LentOne a b x.number j l r
+  lent_on_top l v held there pointer first fresh unchanged mark marked = record {
+    stands = elsewhere;
+    now = now;
+    empty = empty;
+    held = held;
+    takes = λ m i. subst (λ ts. Among m ts) same_takings i;
+    took = λ m i. subst (λ ts. Among m ts) (sym same_takings) i;
+    loose = loose;
+    remain = remain;
+    standing = standing;
+    lay = λ u v e i. record { cell = e; among = lies_back a b n x z refl split c d u v e i; object = refl };
+    from = v;
+    there = there;
+    pointer = pointer;
+    first = first;
+    fresh = fresh;
+    unchanged = unchanged;
+    mark = mark;
+    marked = marked;
+  }

@@ -1,0 +1,174 @@
+-- A thread that borrows from a pointer, shared or mutable, and hasn't taken an object: what it reads on the way, and that the pointer stands where its place leads and isn't stale.
+use Rattle.std.proofs.Common.{◌≡◌, ◌⊎◌, inl, inr, ℕ, suc, ◌+◌, true, false, Option, Some, None, option_map, refl, sym, ap, subst, ◌∙◌, arith}
+use Rattle.std.specs.Prelude.{slice_get}
+use Rattle.fr_base.specs.declared.place.Lval.{Lval}
+use Rattle.fr_base.specs.declared.instruction.Instr.{Instr}
+use Rattle.heap_partition.specs.declared.value.BoxPtr.{BoxPtr}
+use Rattle.heap_partition.specs.declared.value.Cell.{Cell}
+use Rattle.heap_partition.specs.declared.value.Owned.{Owned}
+use Rattle.heap_partition.specs.declared.value.Owned.TheVariants as owned
+use Rattle.migration.specs.Packing.{unpinned}
+use Rattle.thread_state.specs.View.{ThreadState}
+use Rattle.thread_state.specs.declared.phase.Phase.TheVariants as phase
+use Rattle.thread_state.specs.declared.value.Value.{Value}
+use Rattle.thread_state.specs.declared.value.Value.TheVariants as value
+use Rattle.server_model.specs.declared.event.Event.{Event}
+use Rattle.server_model.specs.declared.event.What.TheVariants.{Step}
+use Rattle.server_model.specs.Servers.{Server, Cluster, server_at}
+use Rattle.server_model.specs.Work.{Hand, thread_in}
+use Rattle.server_model.specs.Places.{Spot, in_slot, in_cell, in_copy, cell_at, value_at, value_in as cell_value, pointer_of}
+use Rattle.server_model.specs.Prepare.{Prepared, read_stars}
+use Rattle.server_model.specs.Events.{can_step, has_phase, enabled, begin_work}
+use Rattle.heap_law.specs.Things.{Location, at_slot}
+use Rattle.heap_law.specs.Follow.{Ground, Standing, value_in, locate}
+use Rattle.heap_law.specs.Sight.{sight}
+use Rattle.heap_law.specs.Words.{IsStale}
+use Rattle.type_law.specs.ClusterTypes.{IsCoherent}
+use Rattle.path_law.specs.HeapStore.{GoesOn}
+use Rattle.path_law.proofs.Alike.{coherent_has_paths}
+use Rattle.path_law.proofs.Contained.{among_thread}
+use Rattle.path_law.proofs.FreshPaths.{HasTaken}
+use Rattle.path_law.proofs.Sole.{some_is}
+use Rattle.word_law.specs.Reworded.{HasPlaces}
+use Rattle.word_law.proofs.Tints.{slot_stands}
+use Rattle.event_law.proofs.Bags.{thread_number}
+use Rattle.event_law.proofs.ThreadThere.{thread_there}
+use Rattle.read_law.specs.Reading.{Reads, LiesUnder}
+use Rattle.stay_law.proofs.Steps.{untaken_here}
+use Rattle.turn_law.proofs.Events.{AtStep}
+use Rattle.turn_law.proofs.ReadWalk.{Finds, At, Comes, reads as walk, seen_value}
+use Rattle.turn_law.proofs.StarLines.{finds}
+use Rattle.prepare_law.proofs.Hands.{Ok, Walks, put, places, stands, first_hand, calm_goes, calm_waits}
+use Rattle.prepare_law.proofs.Stars.{ReadsOk, Spotted, a_slot, a_cell, a_copy, stars_ok}
+use Rattle.borrow_law.proofs.Lasts.{fresh_last, under_last}
+
+own_unpinned : (u : Value) (o : Owned) → unpinned u ≡ value.Own o → u ≡ value.Own o
+own_unpinned (value.Own p) o e = e
+own_unpinned value.Gone o e = absurd cc
+own_unpinned (value.SharedSlot i) o e = absurd cc
+own_unpinned (value.MutSlot i) o e = absurd cc
+own_unpinned (value.Shared r) o e = absurd cc
+own_unpinned (value.Mut r) o e = absurd cc
+own_unpinned (value.Held m) o e = absurd cc
+
+pub no_value : {A : Type 0} (a : A) → None ≡ Some a → ⊥
+no_value a e = absurd cc
+
+module _ (k : Cluster) (coherent : IsCoherent k) (s : Server) (here : server_at k.servers s.rest.number ≡ Some s) (t : ℕ) (y : ThreadState) (at : thread_in s.threads t ≡ Some y)
+    (on : enabled k.options s (Step t) ≡ true) (i : Instr) (code : slice_get k.code y.pc ≡ Some i) (w : Lval) (m : ℕ) (reads : Reads i w m) (deep : w.depth ≡ suc m) (free : (v : ℕ) → y.phase ≡ phase.Taken v → ⊥) where
+  abbrev n : ℕ
+  n = s.rest.number
+
+  abbrev g : Ground
+  g = (sight k).ground
+
+  abbrev W : Hand → Type 0
+  W = Walks k coherent s here t y at
+
+  abbrev IsOk : Hand → Type 0
+  IsOk = Ok k coherent s here t y at
+
+  abbrev Put : Hand → Cluster
+  Put = put k coherent s here t y at
+
+  abbrev pub h0 : Hand
+  h0 = record { work = begin_work s.rest; thread = y }
+
+  abbrev x : Standing
+  x = record { server = n; packed = false; thread = y }
+
+  abbrev e0 : Event
+  e0 = record { server = n; what = Step t }
+
+  pub placed : (h : Hand) → IsOk h → HasPlaces (Put h)
+  placed h q = places k coherent s here t y at h q
+
+  calm : can_step y.phase ≡ true
+  calm = subst (λ o. has_phase can_step o ≡ true) at on
+
+  pub awake : (u : ℕ) → y.phase ≡ phase.WaitCell u → ⊥
+  awake u = calm_waits y.phase u calm
+
+  named : y.number ≡ t
+  named = thread_number s.threads t y at
+
+  pub going : GoesOn k x
+  going = record { among = (among_thread g.threads t x (thread_there k coherent.sound n s here t y at)).0; going = calm_goes y.phase calm }
+
+  pub stepping : AtStep k e0 i s t y
+  stepping = record { here = here; at = at; number = named; on = calm; code = code; what = refl }
+
+  pub found : Finds g y s.rest w m
+  found = finds k coherent e0 i s t y stepping w m reads
+
+  -- so many stars lead the hand to the spot
+  abbrev pub AtSpot : Hand → Spot → Type 0
+  AtSpot h sp = At g y s.rest w m found m h sp
+
+  abbrev pub Came : Prepared → Type 0
+  Came = Comes g y s.rest w m found m
+
+  abbrev pub Followed : Prepared → Type 0
+  Followed = ReadsOk k coherent s here t y at on i code w m reads m
+
+  abbrev pub AllStars : Prepared
+  AllStars = read_stars m h0 (in_slot w.slot)
+
+  pub came : Came AllStars
+  came = walk g y s.rest w m found m (omega arith)
+
+  pub followed : Followed AllStars
+  followed = stars_ok k coherent s here t y at on i code w m reads m 0 h0 (in_slot w.slot) (omega arith) (record { state = first_hand k coherent s here t y at; untaken = untaken_here y.number y.phase (slice_get k.code y.pc) free; gift = refl }) (a_slot w.slot refl)
+
+  none_taken : (l : Location) → HasTaken k (coherent_has_paths k coherent) x l → ⊥
+  none_taken l q = free q.word q.taken
+
+  pub fresh_there : (l : Location) → locate g y.number w.slot m ≡ Some l → IsStale (sight k) (Some l) → ⊥
+  fresh_there l there = fresh_last k coherent x going i w m reads deep code none_taken l there
+
+  pub under_there : (l : Location) (v : Value) (b : BoxPtr) → locate g y.number w.slot m ≡ Some l → value_in g l ≡ Some v → pointer_of v ≡ Some b → LiesUnder k b
+  under_there l v b there stood points = under_last k coherent x going i w m reads deep code none_taken awake l v b there stood points
+
+  -- what stands in the slot to which they lead
+  module _ (j : ℕ) (located : locate g y.number w.slot m ≡ Some (at_slot y.number j)) where
+    pub at_hand : (h : Hand) → IsOk h → locate g y.number w.slot m ≡ Some (at_slot h.thread.number j)
+    at_hand h q = located ∙ ap (λ u. Some (at_slot u j)) (named ∙ sym q.thread)
+
+    pub it_stands : (h : Hand) (q : IsOk h) (v : Value) → slice_get h.thread.slots j ≡ Some v → value_in (sight (Put h)).ground (at_slot h.thread.number j) ≡ Some v
+    it_stands h q v e = slot_stands k n s.threads (s.events + 1) h j v (stands k coherent s here t y at h q) (placed h q) e
+
+  -- THE POINTER
+
+  -- where it stands in the middle of the event
+  pub record Source (h : Hand) (v : Value) : Type 0 where
+    pub location : Location
+    pub located : locate g y.number w.slot m ≡ Some location
+    pub stands : value_in (sight (Put h)).ground location ≡ Some v
+    pub fresh : IsStale (sight (Put h)) (Some location) → ⊥
+
+  abbrev pub IsNone : Value → Type 0
+  IsNone v = (o : Owned) × (v ≡ value.Own o) × (pointer_of v ≡ None)
+
+  in_memory : (h : Hand) → W h → (l : Location) → locate g y.number w.slot m ≡ Some l → (o : Owned) → value_in g l ≡ Some (value.Own o) → Source h (value.Own o) ⊎ IsNone (value.Own o)
+  in_memory h c l there (owned.Box p) e = inl (record { location = l; located = there; stands = c.state.along.boxes l p e; fresh = λ a. fresh_there l there (c.state.along.fresher l a) })
+  in_memory h c l there owned.Nothing e = inr (owned.Nothing, refl, refl)
+  in_memory h c l there owned.Unit e = inr (owned.Unit, refl, refl)
+  in_memory h c l there (owned.Int z) e = inr (owned.Int z, refl, refl)
+  in_memory h c l there (owned.Mutex z) e = inr (owned.Mutex z, refl, refl)
+  in_memory h c l there (owned.Task z) e = inr (owned.Task z, refl, refl)
+
+  in_cells : (h : Hand) (sp : Spot) (v : Value) → W h → ((u : Value) → value_at h sp ≡ Some u → AtSpot h sp) → value_at h sp ≡ Some v → (o : Option Cell) → value_at h sp ≡ cell_value o → Source h v ⊎ IsNone v
+  in_cells h sp v c a e None f = absurd (no_value v (sym f ∙ e))
+  in_cells h sp v c a e (Some d) f =
+      let q = a v e in
+      let it = seen_value (value_in g q.location) (value.Own d.value) (sym (ap (option_map unpinned) f) ∙ q.seen) in
+      subst (λ u. Source h u ⊎ IsNone u) (some_is (sym f ∙ e)) (in_memory h c q.location q.located d.value (it.1 ∙ ap (λ u. Some u) (own_unpinned it.0 d.value (sym it.2))))
+
+  -- at the spot stands the pointer, or what points nowhere
+  pub sourced : (h : Hand) (sp : Spot) → W h → Spotted g y.number w.slot m sp → ((u : Value) → value_at h sp ≡ Some u → AtSpot h sp) → (v : Value) → value_at h sp ≡ Some v → Source h v ⊎ IsNone v
+  sourced h _ c (a_slot j located) a v e =
+      let q = c.state.ok in
+      let l = at_hand j located h q in
+      inl (record { location = at_slot h.thread.number j; located = l; stands = it_stands j located h q v e; fresh = λ f. fresh_there (at_slot h.thread.number j) l (c.state.along.fresher (at_slot h.thread.number j) f) })
+  sourced h _ c (a_cell u through) a v e = in_cells h (in_cell u through) v c a e (cell_at h (in_cell u through)) refl
+  sourced h _ c (a_copy u) a v e = in_cells h (in_copy u) v c a e (cell_at h (in_copy u)) refl
