@@ -223,7 +223,7 @@ module _ (k : Cluster) (coherent : IsCoherent k) (few : FewEvents k) where
   said_after e = messages_go (says S) k e sound few said_before (speech e.server)
 
   -- what is said is right for the branches that there are afterwards
-  units_after : (c : Cluster) → tot (λ (x : Standing). waits_unpaired S x.thread.phase) (threads_in (things_of c)) ≡ 0 → PairsNoted c → NumbersDiffer c → Said c → Holds c branches_give_unit
+  units_after : (c : Cluster) → tot (λ (x : Standing). waits_unpaired S x.thread.number x.thread.phase) (threads_in (things_of c)) ≡ 0 → PairsNoted c → NumbersDiffer c → Said c → Holds c branches_give_unit
   units_after c none pairs differ said = all (things_of c) said
     where
       right : (t : ℕ) (v : Owned) → uncounted_thread S t + if_so (is_branch S t) (other (is_unit v)) ≡ 0 → if_so (is_branch (sight c) t) (other (is_unit v)) ≡ 0
@@ -259,7 +259,7 @@ units_kept k e coherent few =
     (λ d w u. let noted = u.1 in units_after k coherent few d.0 w noted.0 noted.1 u.0)
   where
     Waiting : Cluster → Type 0
-    Waiting c = tot (λ (x : Standing). waits_unpaired (sight k) x.thread.phase) (threads_in (things_of c)) ≡ 0
+    Waiting c = tot (λ (x : Standing). waits_unpaired (sight k) x.thread.number x.thread.phase) (threads_in (things_of c)) ≡ 0
 
     Noted : Cluster → Type 0
     Noted c = PairsNoted c × NumbersDiffer c

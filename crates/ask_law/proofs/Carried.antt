@@ -40,7 +40,7 @@ use Rattle.event_law.proofs.Applied.{handed_on, handed_part}
 use Rattle.event_law.proofs.Sending.{each_event_sends}
 use Rattle.event_law.proofs.TurnEvents.{asking_applied}
 use Rattle.local_law.specs.Laws.{EachEventKeeps}
-use Rattle.local_law.proofs.Goes.{Goes, IsGotten, on, waits_pair, is_over, asks_cell, asks_home, gets_cell, gets_gift, goes_pair, HasCell, thread_goes}
+use Rattle.local_law.proofs.Goes.{Goes, IsGotten, gets_cell, gets_gift, goes_pair, HasCell, thread_goes}
 use Rattle.local_law.proofs.Threads.{Ways, remove_all}
 use Rattle.local_law.proofs.Handed.{Stood, InParcel, threads_go}
 use Rattle.ask_law.proofs.Asking.{Phases, passes, unfit, message_unfit, note_unfit, thing_unfit, MessageFits, RestFits, sent_fits, turned, thing_still}
@@ -48,6 +48,7 @@ use Rattle.ask_law.proofs.AskSteps.{step_asks}
 use Rattle.ask_law.proofs.AskDeliveries.{SiteFits, message_asks}
 use Rattle.ask_law.proofs.AskServers.{rest_from, rest_to}
 use Rattle.ask_law.proofs.PairsOver.{total_le, all_nothing}
+use Rattle.ask_law.proofs.Branches.{same_number, found_number}
 
 -- WHAT IS KNOWN OF PHASES
 
@@ -285,16 +286,6 @@ result_is : (o : Option Stepped) → Gives (λ (d : Stepped). d.hand.thread.phas
 result_is None = tt
 result_is (Some d) = refl
 
-same_number : (code : List Instr) (y y2 : ThreadState) → Goes code y y2 → y2.number ≡ y.number
-same_number code y y2 (on i at o pc p passed walk g s) = s.number
-same_number code y y2 (waits_pair cs pc ds other a b at q p passed walk g s) = s.number
-same_number code y y2 (is_over o at pc p passed walk slots temps g s) = s.number
-same_number code y y2 (asks_cell i w at f pc p g s) = s.number
-same_number code y y2 (asks_home i q at a pc p g passed walk s) = s.number
-same_number code y y2 (gets_cell w was p pc g s) = s.number
-same_number code y y2 (gets_gift was p pc passed walk temps s) = s.number
-same_number code y y2 (goes_pair a b was p pc g passed walk s) = s.number
-
 module _ (k : Cluster) (sound : IsSound k) (n : ℕ) (s : Server) (here : server_at k.servers n ≡ Some s) where
   -- the thread that steps has its phase, in which it can
   has_phase_there : (t : ℕ) (y : ThreadState) → thread_in s.threads t ≡ Some y → phases k y.number ≡ Some y.phase
@@ -478,12 +469,6 @@ module _ (k : Cluster) (e : Event) (sound : IsSound k) (few : FewEvents k) where
   off_after = threads_go off k e sound few off_before ways
 
 -- AFTERWARDS
-
-found_number : (t : ℕ) (xs : List Standing) (x : Standing) → thread_at xs t ≡ Some x → x.thread.number ≡ t
-found_number t [] x e = absurd (cc e)
-found_number t (y ∷ xs) x e =
-    eq_cases (λ b. (if b then Some y else thread_at xs t) ≡ Some x → x.thread.number ≡ t) y.thread.number t
-    (λ q d. let same : y ≡ x = cc in subst (λ (w : Standing). w.thread.number ≡ t) same q) (λ ne d. found_number t xs x d) e
 
 truly : (b : Bool) → other b ≡ 0 → b ≡ true
 truly true z = refl

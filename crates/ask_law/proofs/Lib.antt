@@ -3,6 +3,7 @@ pub mod PairsOver
 pub mod Unasked
 pub mod GiftsGot
 pub mod Branches
+pub mod Parents
 pub mod BranchUnits
 pub mod Asking
 pub mod AskSteps
