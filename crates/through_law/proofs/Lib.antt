@@ -7,4 +7,8 @@ pub mod Storing
 pub mod Putting
 pub mod Filling
 pub mod Light
-pub mod Steps
+pub mod Doing
+pub mod Assignments
+pub mod OwnEnds
+pub mod TakenOut
+pub mod Moves

@@ -1,5 +1,5 @@
 -- A WRITE THROUGH STARS THAT IS DONE keeps the words (this project's rules).
-use Rattle.std.specs.Prelude.{◌≡◌, ℕ, suc, Some, slice_get}
+use Rattle.std.specs.Prelude.{◌≡◌, ℕ, suc, true, Some, slice_get}
 use Rattle.fr_base.specs.declared.instruction.Operand.{Operand}
 use Rattle.fr_base.specs.declared.instruction.Instr.TheVariants as instr
 use Rattle.fr_base.specs.declared.place.Lval.{Lval}
@@ -16,4 +16,9 @@ use Rattle.prepare_law.specs.Requests.{WordsHold}
 -- the step of a thread that assigns through stars, whether it does its plain step or asks
 abbrev pub AssignmentsKeep : Type 0
 AssignmentsKeep = (k : Cluster) (number t : ℕ) (s : Server) (y : ThreadState) (w : Lval) (d : ℕ) (o : Operand) → IsCoherent k → FewEvents k → server_at k.servers number ≡ Some s → thread_in s.threads t ≡ Some y → slice_get k.code y.pc ≡ Some (instr.Assign w o) → w.depth ≡ suc d
+    → Gives (λ (x : Cluster × EntryView). WordsHold x.0) (apply k (record { server = number; what = Step t }))
+
+-- that of a thread that moves out through stars
+abbrev pub MovesKeep : Type 0
+MovesKeep = (k : Cluster) (number t : ℕ) (s : Server) (y : ThreadState) (w : Lval) (d : ℕ) → IsCoherent k → FewEvents k → server_at k.servers number ≡ Some s → thread_in s.threads t ≡ Some y → slice_get k.code y.pc ≡ Some (instr.Read w true) → w.depth ≡ suc d
     → Gives (λ (x : Cluster × EntryView). WordsHold x.0) (apply k (record { server = number; what = Step t }))
