@@ -52,7 +52,7 @@ use Rattle.still_law.proofs.Readied.{copies_ready}
 use Rattle.still_law.proofs.Sites.{shown, Moves, sends}
 use Rattle.turn_law.specs.Turns.{StepsTo, IsPlainStep}
 use Rattle.turn_law.proofs.Parts.{owned_in}
-use Rattle.turn_law.proofs.OneTurn.{Going, after}
+use Rattle.turn_law.proofs.OneTurn.{Calm, Going, after}
 use Rattle.turn_law.proofs.PlainTurn.{thread_as, state_at}
 use Rattle.turn_law.proofs.Instructions.{shown_last, shown_push, owned_push, Pops, PopsTo, itself as same_value, popped}
 use Rattle.turn_law.proofs.Events.{AtStep, Sends, then_same}
@@ -78,22 +78,25 @@ module _ (k : Cluster) (sound : IsSound k) (e : Event) (i : Instr) (single : is_
   n = s.rest.number
 
   abbrev s1 : Sight
-  s1 = loses.s1 k sound e i single s t x at bare v slots temps even
+  s1 = loses.s1 k sound e i single s t x at bare v (after x (x.pc + 1) slots temps) even
 
   abbrev s2 : Sight
-  s2 = loses.s2 k sound e i single s t x at bare v slots temps even
+  s2 = loses.s2 k sound e i single s t x at bare v (after x (x.pc + 1) slots temps) even
 
   abbrev sv : Sight
-  sv = loses.with_it k sound e i single s t x at bare v slots temps even (Some v)
+  sv = loses.with_it k sound e i single s t x at bare v (after x (x.pc + 1) slots temps) even (Some v)
 
   abbrev B : List Thing
-  B = loses.B k sound e i single s t x at bare v slots temps even
+  B = loses.B k sound e i single s t x at bare v (after x (x.pc + 1) slots temps) even
 
   abbrev y : ThreadState
-  y = loses.y k sound e i single s t x at bare v slots temps even
+  y = loses.y k sound e i single s t x at bare v (after x (x.pc + 1) slots temps) even
 
   abbrev counts_then : Thing
   counts_then = counts_of n 0 s.rest
+
+  goes2 : Calm (after x (x.pc + 1) slots temps).phase
+  goes2 = record { alone = refl; goes = refl }
 
   -- the value goes from the thread, and whoever has what it leads to is told
   abbrev pub gone_work : Work
@@ -118,19 +121,19 @@ module _ (k : Cluster) (sound : IsSound k) (e : Event) (i : Instr) (single : is_
         let ls = drop_labels (value.Own v) in
         let q : CodeRunning = record { place = plug unit; slots = shown_last slots } in
         let shown_too : SameState (plain_state c) A = then_same (plain_state c) (one_heap k) A same (changed.state_before k sound e s at.here t x at.at at.number) in
-        let goes : GoesOn x.number (running_at x) q A (state_of sv) = subst (λ z. GoesOn x.number (running_at x) z A (state_of sv)) place (loses.thread_on k sound e i single s t x at bare v slots temps even) in
+        let goes : GoesOn x.number (running_at x) q A (state_of sv) = subst (λ z. GoesOn x.number (running_at x) z A (state_of sv)) place (loses.thread_on k sound e i single s t x at bare v (after x (x.pc + 1) slots temps) even goes2 refl) in
         let it = found k.code c x.number (running_at x) q A (state_of sv) goes shown_too in
         let carried : Carries k n y B (goes_first c goes.way x.number q ls) v = record {
-          same = first_shows k.code c x.number (running_at x) q A (state_of sv) goes shown_too (loses.made_on k sound e i single s t x at bare v slots temps even) (loses.objects_on k sound e i single s t x at bare v slots temps even) (loses.mutexes_on k sound e i single s t x at bare v slots temps even)
-              (loses.names_on k sound e i single s t x at bare v slots temps even) ls;
-          alone = loses.alone_then k sound e i single s t x at bare v slots temps even;
-          known = loses.known_then k sound e i single s t x at bare v slots temps even;
+          same = first_shows k.code c x.number (running_at x) q A (state_of sv) goes shown_too (loses.made_on k sound e i single s t x at bare v (after x (x.pc + 1) slots temps) even goes2 refl) (loses.objects_on k sound e i single s t x at bare v (after x (x.pc + 1) slots temps) even) (loses.mutexes_on k sound e i single s t x at bare v (after x (x.pc + 1) slots temps) even)
+              (loses.names_on k sound e i single s t x at bare v (after x (x.pc + 1) slots temps) even) ls;
+          alone = loses.alone_then k sound e i single s t x at bare v (after x (x.pc + 1) slots temps) even;
+          known = loses.known_then k sound e i single s t x at bare v (after x (x.pc + 1) slots temps) even (λ r. refl) (loses.once_then k sound e i single s t x at bare v (after x (x.pc + 1) slots temps) even goes2 refl);
         } in
         record {
           after = record { state = _; labels = ls };
           steps = ap (step_of (code_moves k.code) c fresh.None) it
               ∙ drops_then k.code c goes.way x.number (running_at x) a plug (shown_last slots) ls (plain_of v) (ap (λ j. over_at j (shown_last x.temps)) at.code ∙ now) (ap (λ j. run_instr j x.pc (shown_last x.temps)) at.code ∙ move) (lone c goes.way) (did c) (last c);
-          same = drop_shows k n y B (loses.others_known k sound e i single s t x at bare v slots temps even) (goes_first c goes.way x.number q ls) v carried;
+          same = drop_shows k n y B (loses.others_known k sound e i single s t x at bare v (after x (x.pc + 1) slots temps) even (λ r. refl) (loses.once_then k sound e i single s t x at bare v (after x (x.pc + 1) slots temps) even goes2 refl)) (goes_first c goes.way x.number q ls) v carried;
           labelled = refl;
         }
 
@@ -190,7 +193,7 @@ module _ (k : Cluster) (sound : IsSound k) (e : Event) (i : Instr) (single : is_
         moves = moves_to;
         beside = (tt, tt);
         unstray = refl;
-        once = loses.once_then k sound e i single s t x at bare v slots temps even;
+        once = loses.once_then k sound e i single s t x at bare v (after x (x.pc + 1) slots temps) even goes2 refl;
         steps = λ c same. subst (λ ls. StepsTo k.code c x.number fresh.None (state_of s2) ls) (sym labelled) (steps c same);
       }
 
@@ -205,7 +208,7 @@ module _ (k : Cluster) (sound : IsSound k) (e : Event) (i : Instr) (single : is_
 -- THE INSTRUCTIONS
 
 -- what a drop of the value is labelled with
-labels_shown : (v : Owned) → drops (plain_v.Own (plain_of v)) ≡ drop_labels (value.Own v)
+pub labels_shown : (v : Owned) → drops (plain_v.Own (plain_of v)) ≡ drop_labels (value.Own v)
 labels_shown (owned.Box p) = refl
 labels_shown (owned.Mutex m) = refl
 labels_shown (owned.Task u) = refl

@@ -158,6 +158,10 @@ module _ (k : Cluster) (n : ℕ) (y : ThreadState) (B : List Thing) where
   both_ways false true f g = g refl
   both_ways false false f g = refl
 
+  -- what is in the state without it is in it with it
+  pub more_in : (c : Option Owned) (q : Node) → In None q ≡ true → In c q ≡ true
+  more_in c = least_with None (In c) (λ q l. absurd (omega (arith, l))) (rest_in c)
+
   -- where what the value owns is in the state without it, nothing changes
   module _ (v : Owned) (already : (q : Node) → owns q v ≡ true → In None q ≡ true) where
     pub stays_in : (q : Node) → In (Some v) q ≡ In None q

@@ -13,3 +13,8 @@ pub mod ThreadLoses
 pub mod PlainDrop
 pub mod DropLines
 pub mod Clauses
+pub mod Outside
+pub mod UnlockGone
+pub mod EndLoses
+pub mod PlainEnds
+pub mod EndGone

@@ -304,5 +304,8 @@ module _ (u : ℕ) where
       none false b e = refl
   standing_counts w off (_ ∷ xs) e = omega (arith, standing_counts w off xs e)
 
+pub none_shown_of : (s : Sight) → Once s → (u : ℕ) (w : Standing) → thread_at (threads_in s.things) u ≡ Some w → is_over w.thread.phase ≡ false → (first_shown (branch_result u) s.things ≡ None) × (first_shown (result_value s u) s.things ≡ None)
+none_shown_of s once u w e off = none_first (branch_result u) (result_value s u) s.things (omega (arith, once.ends u, once.threads u, standing_counts u w off s.things e))
+
 pub silent_of : (s : Sight) → Once s → (u : ℕ) (w : Standing) → thread_at (threads_in s.things) u ≡ Some w → is_over w.thread.phase ≡ false → first_shown (result_value s u) s.things ≡ None
-silent_of s once u w e off = (none_first (branch_result u) (result_value s u) s.things (omega (arith, once.ends u, once.threads u, standing_counts u w off s.things e))).1
+silent_of s once u w e off = (none_shown_of s once u w e off).1

@@ -6,13 +6,13 @@ use Rattle.fr_base.specs.declared.name.ObjNo.{ObjNo}
 use Rattle.fr_base.specs.declared.instruction.Instr.{Instr}
 use Rattle.heap_partition.specs.declared.value.Owned.{Owned}
 use Rattle.thread_state.specs.View.{ThreadState}
-use Rattle.thread_state.specs.declared.value.Value.{Value}
 use Rattle.server_model.specs.declared.event.Event.{Event}
 use Rattle.server_model.specs.Servers.{Server, Cluster}
 use Rattle.heap_law.specs.Names.{tot, one, some, if_so}
 use Rattle.heap_law.specs.Things.{in_hand, Thing, holds, stands, gift_things, things_of}
 use Rattle.heap_law.specs.Sight.{Sight, sight}
 use Rattle.heap_law.specs.Requests.{home_of, is_par_end}
+use Rattle.heap_law.specs.Sharing.{got_phase}
 use Rattle.heap_law.specs.Naming.{count_of, started_at, made_at}
 use Rattle.heap_law.specs.OneHeap.{Node, task_n, mutex_n, a_thread, owner_of, owns, names, named_in, any_named, is_in_state, cell_value, first_shown, object_value, content_value, share_in, in_pair_of, result_value, running_at, is_given_thread, is_given_mutex, state_of}
 use Rattle.heap_law.specs.Coherent.{IsSound}
@@ -23,13 +23,13 @@ use Rattle.still_law.proofs.Alike.{Once}
 use Rattle.still_law.proofs.Counting.{stray}
 use Rattle.still_law.proofs.Told.{told, ones}
 use Rattle.turn_law.proofs.Parts.{Own, owned_in, own_named}
-use Rattle.turn_law.proofs.OneTurn.{of_thread, Calm, after}
+use Rattle.turn_law.proofs.OneTurn.{of_thread, Calm}
 use Rattle.turn_law.proofs.Events.{AtStep}
 use Rattle.lock_law.proofs.Reach.{SameOwners, or_left, or_right, or_cases, here, stays_in, comes_from}
 use Rattle.lock_law.proofs.Beside.{giftless, IsBeside, IsLoose, loose_beside, all_so, so_one, mine, any_mine, all_of, tot_of, cells_of}
 use Rattle.lock_law.proofs.OneNode.{some_there, there_some, one_of_two, is_one}
 use Rattle.lock_law.proofs.OneThread as one_thread
-use Rattle.lock_law.proofs.OneThread.{GoesOn, next}
+use Rattle.lock_law.proofs.OneThread.{GoesOn, next, none_got}
 use Rattle.lock_law.proofs.Changed as changed
 use Rattle.lock_law.proofs.NewMutex.{rest_less}
 use Rattle.lock_law.proofs.SharedLines.{nothing_under}
@@ -39,12 +39,12 @@ use Rattle.drop_law.proofs.Under.{owned_by, under_names, once_under, none_so}
 use Rattle.drop_law.proofs.Carrying.{is_sole, Others, KnownTask}
 use Rattle.drop_law.proofs.Soundly.{names_it, sole_owner, no_branch, given_owned, rank, unfallen_at, all_fall, falls_under, silent_of}
 
-module _ (k : Cluster) (sound : IsSound k) (e : Event) (i : Instr) (single : is_par_end (Some i) ≡ false) (s : Server) (t : ℕ) (x : ThreadState) (at : AtStep k e i s t x) (bare : x.gift ≡ None) (v : Owned) (slots temps : List Value)
-    (even : (q : Node) → owned_in q x.slots + owned_in q x.temps ≡ owned_in q slots + owned_in q temps + one (owns q v)) where
+module _ (k : Cluster) (sound : IsSound k) (e : Event) (i : Instr) (single : is_par_end (Some i) ≡ false) (s : Server) (t : ℕ) (x : ThreadState) (at : AtStep k e i s t x) (bare : x.gift ≡ None) (v : Owned) (became : ThreadState)
+    (even : (q : Node) → owned_in q x.slots + owned_in q x.temps ≡ owned_in q became.slots + owned_in q became.temps + one (owns q v)) where
   abbrev pub n : ℕ
   n = s.rest.number
 
-  abbrev G1 : List Thing
+  abbrev pub G1 : List Thing
   G1 = G k sound e i single s t x at
 
   abbrev pub Rest : List Thing
@@ -53,14 +53,11 @@ module _ (k : Cluster) (sound : IsSound k) (e : Event) (i : Instr) (single : is_
   abbrev pub G2 : List Thing
   G2 = counts_of n 0 s.rest ∷ []
 
-  abbrev Gv : List Thing
+  abbrev pub Gv : List Thing
   Gv = holds in_hand v ∷ G2
 
   abbrev pub s1 : Sight
   s1 = before k sound e i single s t x at
-
-  abbrev pub became : ThreadState
-  became = after x (x.pc + 1) slots temps
 
   abbrev pub y : ThreadState
   y = next x became
@@ -78,13 +75,10 @@ module _ (k : Cluster) (sound : IsSound k) (e : Event) (i : Instr) (single : is_
   abbrev pub s2 : Sight
   s2 = then_there k sound e i single s t x at became G2
 
-  calm : Calm x.phase
+  pub calm : Calm x.phase
   calm = quiet k sound e i single s t x at
 
-  calm2 : Calm became.phase
-  calm2 = record { alone = refl; goes = refl }
-
-  alone : {A : Type 0} (f : List Thing → A) → f G1 ≡ f (counts_of n s.events s.rest ∷ [])
+  pub alone : {A : Type 0} (f : List Thing → A) → f G1 ≡ f (counts_of n s.events s.rest ∷ [])
   alone f = ap (λ g. f (gift_things x.number g ++ counts_of n s.events s.rest ∷ [])) bare
 
   loose1 : AllByRecursion IsLoose G1
@@ -93,13 +87,13 @@ module _ (k : Cluster) (sound : IsSound k) (e : Event) (i : Instr) (single : is_
   pub beside1 : AllByRecursion IsBeside G1
   beside1 = all_so IsLoose IsBeside loose_beside G1 loose1
 
-  beside_v : AllByRecursion IsBeside Gv
+  pub beside_v : AllByRecursion IsBeside Gv
   beside_v = (tt, (tt, tt))
 
-  lone1 : tot (of_thread x.number) Rest ≡ 0
+  pub lone1 : tot (of_thread x.number) Rest ≡ 0
   lone1 = changed.lone k sound e s at.here t x at.at at.number
 
-  locks_v : one_thread.LocksStay k Rest G1 Gv n x became
+  pub locks_v : one_thread.LocksStay k Rest G1 Gv n x became
   locks_v = one_thread.locks_stay k Rest G1 Gv n x became beside1 beside_v lone1 (cells_of n x G1 Rest loose1 ∙ sym (cells_of n y Gv Rest (tt, (tt, tt))))
 
   locks2 : one_thread.LocksStay k Rest G1 G2 n x became
@@ -109,7 +103,7 @@ module _ (k : Cluster) (sound : IsSound k) (e : Event) (i : Instr) (single : is_
   own q = owned_in q x.slots + owned_in q x.temps
 
   abbrev own2 : Node → ℕ
-  own2 q = owned_in q slots + owned_in q temps
+  own2 q = owned_in q became.slots + owned_in q became.temps
 
   -- WHO IS IN THE STATE
 
@@ -145,7 +139,7 @@ module _ (k : Cluster) (sound : IsSound k) (e : Event) (i : Instr) (single : is_
       comes_from k (mine n x G1) (mine n y Gv) Rest owners_v (λ q. false) (nothing_under s1 Rest)
       (λ q f. or_left (In1 q) false (here k (mine n x G1) Rest q (named1 In1 q ∙ there_some (own q) (or_cases (owns q v) (some (own2 q)) (1 ≤ own q) (λ d. omega (arith, even q, ap one d)) (λ d. omega (arith, even q, some_there (own2 q) d)) (sym (named_v (λ w. In1 w || false) q) ∙ f)))))
 
-  same_in : (q : Node) → false ≡ false → In1 q ≡ Inv q
+  pub same_in : (q : Node) → false ≡ false → In1 q ≡ Inv q
   same_in q z = by (In1 q) refl (Inv q) refl
     where
       by : (b : Bool) → In1 q ≡ b → (c : Bool) → Inv q ≡ c → In1 q ≡ Inv q
@@ -155,14 +149,6 @@ module _ (k : Cluster) (sound : IsSound k) (e : Event) (i : Instr) (single : is_
       by false f true g = absurd (or_cases (In1 q) false ⊥ (λ d. cc (sym d ∙ f)) (λ d. cc d) (come q g))
 
   -- THE STATE
-
-  pub thread_on : GoesOn x.number (running_at x) (running_at y) (state_of s1) (state_of sv)
-  thread_on =
-      one_thread.goes_on k Rest G1 Gv n x became beside1 beside_v lone1 locks_v (λ q. false) (nothing_under s1 Rest) same_in (λ r. alone (tot (in_pair_of r))) (λ u. refl) (λ r. alone (first_shown (result_value s1 r))) calm calm2 (λ h c. alone (tot (started_at h c)) ∙ omega arith)
-      (changed.given k sound e s at.here t x at.at at.number)
-
-  pub made_on : (u : ℕ) → (state_of s1).made u ≡ (state_of sv).made u
-  made_on = one_thread.made_same k Rest G1 Gv n x became beside1 beside_v lone1 locks_v calm.goes refl refl
 
   pub objects_on : (q : ObjNo) → object_value s1 q ≡ object_value sv q
   objects_on q = one_thread.object_same k Rest G1 Gv n x became beside1 beside_v lone1 locks_v (λ w. false) (nothing_under s1 Rest) same_in q refl (alone (first_shown (cell_value q)))
@@ -180,18 +166,29 @@ module _ (k : Cluster) (sound : IsSound k) (e : Event) (i : Instr) (single : is_
   once1 : Once s1
   once1 = changed.once_before k sound e s at.here t x at.at at.number
 
-  pub once_then : Once s2
-  once_then = one_thread.once_on k Rest G1 G2 n x became beside1 (tt, tt) lone1 locks2 calm (λ r. refl) refl once1 few contents (λ r. omega arith)
-    where
-      few : (q : ObjNo) → tot (λ a. told ones (cell_value q a)) G2 + tot (λ a. told ones (cell_value q a)) Rest ≤ 1
-      few q =
-          let flat : Own (λ a. told ones (cell_value q a) ≡ 0) = record { slots = λ u j a. refl; temps = λ u j a. refl; shared = λ l r. refl; lent = λ l r. refl; marks = λ l w. refl; used = λ u w. refl } in
-          omega (arith, once1.cells q, tot_of n x G1 Rest (λ a. told ones (cell_value q a)) flat)
+  -- WHERE IT GOES ON
 
-      contents : (w : MutexNo) → tot (λ a. told ones (content_value s2 w a)) G2 + tot (λ a. told ones (content_value s1 w a)) Rest ≤ 1
-      contents w =
-          let flat : Own (λ a. told ones (content_value s1 w a) ≡ 0) = record { slots = λ u j a. refl; temps = λ u j a. refl; shared = λ l r. refl; lent = λ l r. refl; marks = λ l c. refl; used = λ u c. refl } in
-          omega (arith, once1.contents w, tot_of n x G1 Rest (λ a. told ones (content_value s1 w a)) flat)
+  module _ (calm2 : Calm became.phase) (same_made : x.made ≡ became.made) where
+    pub thread_on : GoesOn x.number (running_at x) (running_at y) (state_of s1) (state_of sv)
+    thread_on =
+        one_thread.goes_on k Rest G1 Gv n x became beside1 beside_v lone1 locks_v (λ q. false) (nothing_under s1 Rest) same_in (λ r. alone (tot (in_pair_of r))) (λ u. refl) (λ r. alone (first_shown (result_value s1 r))) calm calm2 (λ h c. alone (tot (started_at h c)) ∙ omega arith)
+        (changed.given k sound e s at.here t x at.at at.number)
+
+    pub made_on : (u : ℕ) → (state_of s1).made u ≡ (state_of sv).made u
+    made_on = one_thread.made_same k Rest G1 Gv n x became beside1 beside_v lone1 locks_v calm.goes calm2.goes same_made
+
+    pub once_then : Once s2
+    once_then = one_thread.once_on k Rest G1 G2 n x became beside1 (tt, tt) lone1 locks2 calm (λ r. none_got r became.phase calm2.alone) calm2.goes once1 few contents (λ r. omega arith)
+      where
+        few : (q : ObjNo) → tot (λ a. told ones (cell_value q a)) G2 + tot (λ a. told ones (cell_value q a)) Rest ≤ 1
+        few q =
+            let flat : Own (λ a. told ones (cell_value q a) ≡ 0) = record { slots = λ u j a. refl; temps = λ u j a. refl; shared = λ l r. refl; lent = λ l r. refl; marks = λ l w. refl; used = λ u w. refl } in
+            omega (arith, once1.cells q, tot_of n x G1 Rest (λ a. told ones (cell_value q a)) flat)
+
+        contents : (w : MutexNo) → tot (λ a. told ones (content_value s2 w a)) G2 + tot (λ a. told ones (content_value s1 w a)) Rest ≤ 1
+        contents w =
+            let flat : Own (λ a. told ones (content_value s1 w a) ≡ 0) = record { slots = λ u j a. refl; temps = λ u j a. refl; shared = λ l r. refl; lent = λ l r. refl; marks = λ l c. refl; used = λ u c. refl } in
+            omega (arith, once1.contents w, tot_of n x G1 Rest (λ a. told ones (content_value s1 w a)) flat)
 
   unstray1 : tot (stray s1) Rest ≡ 0
   unstray1 =
@@ -228,55 +225,6 @@ module _ (k : Cluster) (sound : IsSound k) (e : Event) (i : Instr) (single : is_
   pub names_left : (q : Node) → tot (names_it q) B + one (owns q v) ≡ tot (names_it q) (things_of k)
   names_left q = omega (arith, names_before q, names_then q, even q)
 
-  abbrev Known : ℕ → Type 0
-  Known u = KnownTask k n y B u
-
-  known_named : (u : ℕ) → 1 ≤ tot (names_it (task_n u)) (things_of k) → Known u
-  known_named u l = record {
-    given = sym (given_then u) ∙ given_owned k sound u l;
-    unheld =
-        let f = held_branch u in
-        let flat : Own (λ a. f a ≡ 0) = record { slots = λ w j a. refl; temps = λ w j a. refl; shared = λ b r. refl; lent = λ b r. refl; marks = λ b w. refl; used = λ w b. refl } in
-        let none = no_branch k sound u l in
-        omega (arith, none, changed.same_things k sound e s at.here t x at.at at.number f, tot_of n x G1 Rest f flat, tot_of n y G2 Rest f flat);
-  }
-    where
-      given_then : (u : ℕ) → is_given_thread (sight k) u ≡ is_given_thread s2 u
-      given_then u = ap (λ m. u == 0 || (not (count_of u == 0) && some m)) (changed.same_things k sound e s at.here t x at.at at.number (started_at (home_of u) (count_of u))) ∙ one_thread.given_same k Rest G1 G2 n x became beside1 (tt, tt) lone1 locks2 (λ h c. alone (tot (started_at h c)) ∙ omega arith) u
-
-  -- what stands under a node stood there
-  under_before : (p q : Node) → tot (under_names s2 p q) B ≡ tot (under_names (sight k) p q) Rest
-  under_before p q =
-      let f = under_names s2 p q in
-      let flat : Own (λ a. f a ≡ 0) = record { slots = λ w j a. none_so (owns q a); temps = λ w j a. none_so (owns q a); shared = λ b r. refl; lent = λ b r. refl; marks = λ b w. refl; used = λ w b. refl } in
-      let whole : tot f s2.things ≡ f (stands n false y) + tot f B = refl in
-      omega (arith, whole, tot_of n y G2 Rest f flat, same Rest owners2)
-    where
-      owners2 : SameOwners s1 s2 Rest
-      owners2 = one_thread.same_owners k Rest G1 G2 n x became beside1 (tt, tt) lone1 locks2
-
-      stood : (th : Thing) → owner_of (sight k) th ≡ owner_of s1 th
-      stood (holds r a) = changed.spots_before k sound e s at.here t x at.at at.number r
-      stood _ = refl
-
-      same : (xs : List Thing) → SameOwners s1 s2 xs → tot (under_names s2 p q) xs ≡ tot (under_names (sight k) p q) xs
-      same [] h = refl
-      same (th ∷ xs) h = ap₂ (λ o r. if_so (names q th) (one (owned_by p o)) + r) (sym h.0 ∙ sym (stood th)) (same xs h.1)
-
-  no_more : {i j : ℕ} → i ≡ 0 → j ≤ i → j ≡ 0
-  no_more z l = omega (arith, z, l)
-
-  pub others_known : Others k n y B
-  others_known = record {
-    once = λ q. let few = once_under s2 once_then unstray_all q in omega (arith, few);
-    unstray = omega (arith, unstray_all);
-    sole = λ q it. omega (arith, names_left q, sole_owner k sound q it);
-    known = λ u l. known_named u (omega (arith, l, names_left (task_n u)));
-    silent = silent_of s2 once_then;
-    rank = rank k sound;
-    falls = λ p q l. falls_under k sound p q Rest (no_more (all_fall k sound) (rest_less k sound e s at.here t x at.at at.number (unfallen_at k sound))) (omega (arith, l, under_before p q));
-  }
-
   -- WHAT IS IN HAND
 
   none_names : (f : Node → Bool) (q : Node) (xs : List Thing) → tot (names_it q) xs ≡ 0 → any_named s2 f q xs ≡ false
@@ -291,5 +239,57 @@ module _ (k : Cluster) (sound : IsSound k) (e : Event) (i : Instr) (single : is_
   pub alone_then : (q : Node) → is_sole q ≡ true → owns q v ≡ true → held.any_in k n y B (Some v) q ≡ false
   alone_then q it mine = none_names (held.In k n y B (Some v)) q B (omega (arith, names_left q, sole_owner k sound q it, ap one mine))
 
-  pub known_then : (u : ℕ) → owns (task_n u) v ≡ true → Known u
-  known_then u mine = known_named u (omega (arith, names_left (task_n u), ap one mine))
+  -- THE OTHERS
+
+  module _ (ungot : (r : ℕ) → got_phase r became.phase ≡ 0) (once2 : Once s2) where
+    abbrev Known : ℕ → Type 0
+    Known u = KnownTask k n y B u
+
+    known_named : (u : ℕ) → 1 ≤ tot (names_it (task_n u)) (things_of k) → Known u
+    known_named u l = record {
+      given = sym (given_then u) ∙ given_owned k sound u l;
+      unheld =
+          let f = held_branch u in
+          let flat : Own (λ a. f a ≡ 0) = record { slots = λ w j a. refl; temps = λ w j a. refl; shared = λ b r. refl; lent = λ b r. refl; marks = λ b w. refl; used = λ w b. refl } in
+          let none = no_branch k sound u l in
+          omega (arith, none, changed.same_things k sound e s at.here t x at.at at.number f, tot_of n x G1 Rest f flat, tot_of n y G2 Rest f flat, ap (λ i. one (some i)) (ungot u));
+    }
+      where
+        given_then : (u : ℕ) → is_given_thread (sight k) u ≡ is_given_thread s2 u
+        given_then u = ap (λ m. u == 0 || (not (count_of u == 0) && some m)) (changed.same_things k sound e s at.here t x at.at at.number (started_at (home_of u) (count_of u))) ∙ one_thread.given_same k Rest G1 G2 n x became beside1 (tt, tt) lone1 locks2 (λ h c. alone (tot (started_at h c)) ∙ omega arith) u
+
+    -- what stands under a node stood there
+    under_before : (p q : Node) → tot (under_names s2 p q) B ≡ tot (under_names (sight k) p q) Rest
+    under_before p q =
+        let f = under_names s2 p q in
+        let flat : Own (λ a. f a ≡ 0) = record { slots = λ w j a. none_so (owns q a); temps = λ w j a. none_so (owns q a); shared = λ b r. refl; lent = λ b r. refl; marks = λ b w. refl; used = λ w b. refl } in
+        let whole : tot f s2.things ≡ f (stands n false y) + tot f B = refl in
+        omega (arith, whole, tot_of n y G2 Rest f flat, same Rest owners2)
+      where
+        owners2 : SameOwners s1 s2 Rest
+        owners2 = one_thread.same_owners k Rest G1 G2 n x became beside1 (tt, tt) lone1 locks2
+
+        stood : (th : Thing) → owner_of (sight k) th ≡ owner_of s1 th
+        stood (holds r a) = changed.spots_before k sound e s at.here t x at.at at.number r
+        stood _ = refl
+
+        same : (xs : List Thing) → SameOwners s1 s2 xs → tot (under_names s2 p q) xs ≡ tot (under_names (sight k) p q) xs
+        same [] h = refl
+        same (th ∷ xs) h = ap₂ (λ o r. if_so (names q th) (one (owned_by p o)) + r) (sym h.0 ∙ sym (stood th)) (same xs h.1)
+
+    no_more : {i j : ℕ} → i ≡ 0 → j ≤ i → j ≡ 0
+    no_more z l = omega (arith, z, l)
+
+    pub others_known : Others k n y B
+    others_known = record {
+      once = λ q. let few = once_under s2 once2 unstray_all q in omega (arith, few);
+      unstray = omega (arith, unstray_all);
+      sole = λ q it. omega (arith, names_left q, sole_owner k sound q it);
+      known = λ u l. known_named u (omega (arith, l, names_left (task_n u)));
+      silent = silent_of s2 once2;
+      rank = rank k sound;
+      falls = λ p q l. falls_under k sound p q Rest (no_more (all_fall k sound) (rest_less k sound e s at.here t x at.at at.number (unfallen_at k sound))) (omega (arith, l, under_before p q));
+    }
+
+    pub known_then : (u : ℕ) → owns (task_n u) v ≡ true → Known u
+    known_then u mine = known_named u (omega (arith, names_left (task_n u), ap one mine))

@@ -1,7 +1,20 @@
 -- WHICH INSTRUCTIONS: those that drop a value.
-use Rattle.std.specs.Prelude.{◌==◌, Bool, true, false}
+use Rattle.std.specs.Prelude.{◌≡◌, ◌⊎◌, ◌==◌, ◌||◌, Bool, true, false, Option, Some, None}
+use Rattle.std.specs.Bool.{⊤}
+use Rattle.fr_base.specs.declared.name.MutexNo.{MutexNo}
+use Rattle.fr_base.specs.declared.instruction.Operand.{Operand}
 use Rattle.fr_base.specs.declared.instruction.Instr.{Instr}
 use Rattle.fr_base.specs.declared.instruction.Instr.TheVariants as instr
+use Rattle.thread_state.specs.View.{ThreadState}
+use Rattle.server_model.specs.declared.event.Event.{Event}
+use Rattle.server_model.specs.Servers.{Cluster}
+use Rattle.server_model.specs.Clusters.{apply}
+use Rattle.heap_law.specs.Sight.{sight}
+use Rattle.heap_law.specs.OneHeap.{mutex_n, task_n, is_in_state, is_branch}
+use Rattle.heap_law.specs.Coherent.{IsSound}
+use Rattle.event_law.specs.Laws.{Gives, FewEvents}
+use Rattle.turn_law.specs.Turns.{IsPlainStep, instr_of, thread_of}
+use Rattle.lock_law.specs.Locks.{marked}
 
 -- the temporary value on top
 abbrev pub discards : Instr → Bool
@@ -17,3 +30,24 @@ drops_slot i = false
 abbrev pub assigns_variable : Instr → Bool
 assigns_variable (instr.Assign w o) = w.depth == 0
 assigns_variable i = false
+
+-- AN UNLOCK
+
+-- no value of the mutex is in the state
+abbrev pub IsGone : Cluster → Option MutexNo → Type 0
+IsGone k None = ⊤
+IsGone k (Some m) = is_in_state (sight k) (mutex_n m) ≡ false
+
+-- from a sound cluster, each unlock of a mutex of which no value is in the state is a plain step, its messages handed over: the content is dropped
+abbrev pub UnlocksOfGone : Type 0
+UnlocksOfGone = (k : Cluster) (e : Event) (y : ThreadState) → instr_of k e ≡ Some instr.Unlock → thread_of k e ≡ Some y → IsGone k (marked y) → IsSound k → FewEvents k → Gives (IsPlainStep k) (apply k e)
+
+-- THE END OF A THREAD
+
+-- main, or a thread that was let go: no branch of a pair, and no task value of it is in the state
+abbrev pub IsFree : Cluster → ThreadState → Type 0
+IsFree k y = (y.number ≡ 0) ⊎ (is_branch (sight k) y.number || is_in_state (sight k) (task_n y.number) ≡ false)
+
+-- from a sound cluster, each end of such a thread is a plain step, its messages handed over: its result is dropped
+abbrev pub EndsOfFree : Type 0
+EndsOfFree = (k : Cluster) (e : Event) (o : Operand) (y : ThreadState) → instr_of k e ≡ Some (instr.End o) → thread_of k e ≡ Some y → IsFree k y → IsSound k → FewEvents k → Gives (IsPlainStep k) (apply k e)

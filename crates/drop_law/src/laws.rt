@@ -1,4 +1,4 @@
-ghost use Rattle.drop_law.specs.Drops.{assigns_variable, discards, drops_slot};
+ghost use Rattle.drop_law.specs.Drops.{EndsOfFree, UnlocksOfGone, assigns_variable, discards, drops_slot};
 ghost use Rattle.heap_law.specs.Coherent.{IsSound};
 ghost use Rattle.turn_law.specs.Turns.{ArePlainSteps};
 
@@ -9,4 +9,14 @@ pub fn drop_steps()
     ensures discards { ArePlainSteps IsSound discards }
     ensures drops { ArePlainSteps IsSound drops_slot }
     ensures assigns { ArePlainSteps IsSound assigns_variable }
+{}
+
+/// From a sound cluster, so is each unlock of a mutex of which no value is in the state: its content is dropped.
+pub fn unlock_steps()
+    ensures { UnlocksOfGone }
+{}
+
+/// From a sound cluster, so is each end of main, and of a thread that was let go: its result is dropped.
+pub fn end_steps()
+    ensures { EndsOfFree }
 {}

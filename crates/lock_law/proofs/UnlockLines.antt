@@ -193,7 +193,7 @@ module _ (k : Cluster) (sound : IsSound k) (e : Event) (s : Server) (t : ℕ) (x
         (λ f. let none : tot (λ a. told ones (content_value s1 w a)) Others ≡ 0 = subst (λ z. tot (λ a. told ones (content_value s1 z a)) Others ≡ 0) f (none_told s1 m (λ q. owns q (owned.Mutex m)) (itself_named m) Others none1) in omega (arith, none))
         (λ _. omega (arith, (once_before k sound e s at.here t x at.at at.number).contents w, tot_of n x G1 Others (λ a. told ones (content_value s1 w a)) (record { slots = λ p j a. refl; temps = λ p j a. refl; shared = λ l r. refl; lent = λ l r. refl; marks = λ l r. refl; used = λ p r. refl })))
 
-    once_then : Once s2
+    pub once_then : Once s2
     once_then = one_mutex.once_then k Others G1 G2 n x (x.pc + 1) rest x.temps calm1 loose1 (tt, (tt, tt)) lone1 (once_before k sound e s at.here t x at.at at.number) few (λ r. refl)
 
     -- WHERE THE MUTEX IS IN THE STATE AFTERWARDS

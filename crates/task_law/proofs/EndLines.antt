@@ -62,7 +62,7 @@ use Rattle.task_law.proofs.PlainEnd.{end_steps}
 
 -- WHAT IT ENDS WITH
 
-owned_ends : (o : Operand) (h : Hand) → Gives (λ (p : Popped Owned). ends_with o h.thread ≡ Some (value.Own p.item)) (pop_owned o h)
+pub owned_ends : (o : Operand) (h : Hand) → Gives (λ (p : Popped Owned). ends_with o h.thread ≡ Some (value.Own p.item)) (pop_owned o h)
 owned_ends (operand.Const n) h = refl
 owned_ends operand.Unit h = refl
 owned_ends operand.Pop h = by (last_of h.thread.temps)
@@ -88,7 +88,7 @@ told_by w u us vs e =
     cc
 
 -- so it is on the plain machine
-value_there : (o : Operand) (y : ThreadState) (v : Owned) → ends_with o y ≡ Some (value.Own v) → (rest : List Value) → Pops o y.temps (value.Own v) rest → (f : PlainValue → Option (Move Place CodeLife)) (z : Option (Move Place CodeLife))
+pub value_there : (o : Operand) (y : ThreadState) (v : Owned) → ends_with o y ≡ Some (value.Own v) → (rest : List Value) → Pops o y.temps (value.Own v) rest → (f : PlainValue → Option (Move Place CodeLife)) (z : Option (Move Place CodeLife))
     → on_value (over_at (Some (instr.End o)) (shown_last y.temps)) f z ≡ f (plain_v.Own (plain_of v))
 value_there (operand.Const n) y v e rest u f z = let same : owned.Int n ≡ v = cc in ap (λ w. f (plain_v.Own (plain_of w))) same
 value_there operand.Unit y v e rest u f z = let same : owned.Unit ≡ v = cc in ap (λ w. f (plain_v.Own (plain_of w))) same
