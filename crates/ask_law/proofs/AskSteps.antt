@@ -41,7 +41,7 @@ own_fits a n p f e = ap (λ b. other (passes f (if b then Some p else a n))) (eq
 same_cell_word : (w : ℕ) → is_cell w (phase.WaitCell w) ≡ true
 same_cell_word w = eq-eqb w w refl
 
-same_mutex_itself : (m : MutexNo) → same_mutex m m ≡ true
+pub same_mutex_itself : (m : MutexNo) → same_mutex m m ≡ true
 same_mutex_itself m = ap (λ b. Rattle.std.specs.Prelude.◌&&◌ b (m.count == m.count)) (eq-eqb m.home m.home refl) ∙ eq-eqb m.count m.count refl
 
 -- the thread y, of which another phase was known that doesn't wait

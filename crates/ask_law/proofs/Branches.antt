@@ -52,7 +52,7 @@ same_number code y y2 (is_over o at pc p passed walk slots temps g s) = s.number
 same_number code y y2 (asks_cell i w at f pc p g s) = s.number
 same_number code y y2 (asks_home i q at a pc p g passed walk s) = s.number
 same_number code y y2 (gets_cell w was p pc g s) = s.number
-same_number code y y2 (gets_gift was p pc passed walk temps s) = s.number
+same_number code y y2 (gets_gift was p pc passed walk temps shares s) = s.number
 same_number code y y2 (goes_pair a b was p pc g passed walk s) = s.number
 
 -- PHASES OF A STEP
@@ -266,12 +266,12 @@ module _ (k0 : Cluster) where
     other_goes y y2 i code f (asks_cell j w at g pc q h same) = in_phase y2 (phase.WaitCell w) q refl
     other_goes y y2 i code f (asks_home j m at a pc q g passed walk same) = in_phase y2 m q (asks_none y2.number j m a)
     other_goes y y2 i code f (gets_cell w was q pc g same) = cell_none y2.number y2.phase q
-    other_goes y y2 i code f (gets_gift was q pc passed walk temps same) = in_phase y2 phase.Got q refl
+    other_goes y y2 i code f (gets_gift was q pc passed walk temps shares same) = in_phase y2 phase.Got q refl
     other_goes y y2 i code f (goes_pair a b was q pc g passed walk same) = in_phase y2 (phase.GotPar a b) q refl
 
     got_goes : (y y2 : ThreadState) (g : Goes k0.code y y2) → IsGotten g → Fine y2
     got_goes y y2 (gets_cell w was q pc g same) got = cell_none y2.number y2.phase q
-    got_goes y y2 (gets_gift was q pc passed walk temps same) got = in_phase y2 phase.Got q refl
+    got_goes y y2 (gets_gift was q pc passed walk temps shares same) got = in_phase y2 phase.Got q refl
     got_goes y y2 (goes_pair a b was q pc g passed walk same) got = in_phase y2 (phase.GotPar a b) q refl
     got_goes y y2 g got = absurd got
 

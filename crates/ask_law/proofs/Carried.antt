@@ -430,7 +430,7 @@ module _ (k : Cluster) (e : Event) (sound : IsSound k) (few : FewEvents k) where
 
   got_agrees : (y y2 : ThreadState) (o : Option Phase) (g : Goes k.code y y2) → IsGotten g → other (agree y2.phase o) ≡ 0
   got_agrees y y2 o (gets_cell w was q pc g same) got = cell_agrees y2.phase o q
-  got_agrees y y2 o (gets_gift was q pc passed walk temps same) got = ap (λ p. other (agree p o)) q
+  got_agrees y y2 o (gets_gift was q pc passed walk temps shares same) got = ap (λ p. other (agree p o)) q
   got_agrees y y2 o (goes_pair a b was q pc g passed walk same) got = ap (λ p. other (agree p o)) q
   got_agrees y y2 o g got = absurd got
 

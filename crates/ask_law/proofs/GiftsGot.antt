@@ -75,7 +75,7 @@ bare_goes code y y2 e (is_over o at pc q passed walk slots temps g same) = none_
 bare_goes code y y2 e (asks_cell i w at f pc q g same) = none_early y2.gift y2.phase (left_none y.gift y2.gift e g)
 bare_goes code y y2 e (asks_home i m at a pc q g passed walk same) = none_early y2.gift y2.phase g
 bare_goes code y y2 e (gets_cell w was q pc g same) = none_early y2.gift y2.phase (g ∙ e)
-bare_goes code y y2 e (gets_gift was q pc passed walk temps same) = got_early y2.gift y2.phase q
+bare_goes code y y2 e (gets_gift was q pc passed walk temps shares same) = got_early y2.gift y2.phase q
 bare_goes code y y2 e (goes_pair a b was q pc g passed walk same) = none_early y2.gift y2.phase (g ∙ e)
 
 -- where it has a gift it has got something
@@ -89,7 +89,7 @@ bare_of (Some v) p z e = by (is_got p) e z
 
 gotten_bare : (code : List Instr) (y y2 : ThreadState) → Early y.gift y.phase → (g : Goes code y y2) → IsGotten g → Early y2.gift y2.phase
 gotten_bare code y y2 p (gets_cell w was q pc g same) got = bare_goes code y y2 (bare_of y.gift y.phase p (ap is_got was)) (gets_cell w was q pc g same)
-gotten_bare code y y2 p (gets_gift was q pc passed walk temps same) got = got_early y2.gift y2.phase q
+gotten_bare code y y2 p (gets_gift was q pc passed walk temps shares same) got = got_early y2.gift y2.phase q
 gotten_bare code y y2 p (goes_pair a b was q pc g passed walk same) got = bare_goes code y y2 (bare_of y.gift y.phase p (ap is_got was)) (goes_pair a b was q pc g passed walk same)
 gotten_bare code y y2 p g got = absurd got
 
@@ -128,10 +128,10 @@ join_takes o v h =
 
 -- A STEP
 
-readable_dup : (table : Table) (e e2 : Entry) (w : Lval) → InstrTypes table e (instr.Dup w) e2 → (o : Rattle.fr_typing.specs.Kinds.Owned) × IsReadable e w (own (mutex o))
+pub readable_dup : (table : Table) (e e2 : Entry) (w : Lval) → InstrTypes table e (instr.Dup w) e2 → (o : Rattle.fr_typing.specs.Kinds.Owned) × IsReadable e w (own (mutex o))
 readable_dup table _ _ w (i_dup {x = o} waits has free) = (o, record { awake = refl; has = has; free = free; waits_there = waits })
 
-readable_lock : (table : Table) (e e2 : Entry) (w : Lval) → InstrTypes table e (instr.Lock w) e2 → (o : Rattle.fr_typing.specs.Kinds.Owned) × IsReadable e w (own (mutex o))
+pub readable_lock : (table : Table) (e e2 : Entry) (w : Lval) → InstrTypes table e (instr.Lock w) e2 → (o : Rattle.fr_typing.specs.Kinds.Owned) × IsReadable e w (own (mutex o))
 readable_lock table _ _ w (i_lock {x = o} name waits has free new) = (o, record { awake = refl; has = has; free = free; waits_there = waits })
 
 module _ (k : Cluster) (n t : ℕ) (s : Server) (y : ThreadState) (i : Instr) (z : Steps k n t s y i) (v : Owned) (given : y.gift ≡ Some v) where

@@ -10,4 +10,5 @@ pub mod AskSteps
 pub mod AskDeliveries
 pub mod AskServers
 pub mod Carried
+pub mod AskedThere
 pub mod AtInstructions

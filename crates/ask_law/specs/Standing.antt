@@ -1,5 +1,6 @@
--- Where a thread that waits for what a home gives stands, and one that has got it: what can be told without the values at places.
-use Rattle.std.specs.Prelude.{◌≡◌, ℕ, ◌+◌, Bool, true, false, List, Option, Some, None, is_some, slice_get}
+-- Where a thread that waits for what a home gives stands, and one that has got it, by where places led before the event.
+use Rattle.std.specs.Prelude.{◌≡◌, ℕ, ◌+◌, is_some, Option, Some, None, slice_get}
+use Rattle.fr_base.specs.declared.name.MutexNo.{MutexNo}
 use Rattle.fr_base.specs.declared.instruction.Instr.{Instr}
 use Rattle.fr_base.specs.declared.instruction.Instr.TheVariants as instr
 use Rattle.heap_partition.specs.declared.value.Owned.{Owned}
@@ -12,45 +13,49 @@ use Rattle.server_model.specs.Servers.{Cluster}
 use Rattle.server_model.specs.Clusters.{apply}
 use Rattle.heap_law.specs.Names.{tot, other}
 use Rattle.heap_law.specs.Things.{things_of}
-use Rattle.heap_law.specs.Follow.{Standing, threads_in}
+use Rattle.heap_law.specs.Follow.{Standing, Ground, threads_in, value_at}
+use Rattle.heap_law.specs.Sight.{sight}
 use Rattle.heap_law.specs.Paths.{joined_thread}
-use Rattle.heap_law.specs.Requests.{is_task}
+use Rattle.heap_law.specs.Requests.{mutex_of, is_mutex, is_task, is_value_of}
 use Rattle.event_law.specs.Laws.{Gives, FewEvents}
 use Rattle.type_law.specs.ClusterTypes.{IsCoherent}
 
-abbrev pub is_lock : Option Instr → Bool
-is_lock (Some (instr.Lock w)) = true
-is_lock i = false
+-- the mutex at the place of a lock, or of a dup, of a thread with that number
+abbrev pub locked : Ground → ℕ → Option Instr → Option MutexNo
+locked g n (Some (instr.Lock w)) = mutex_of (value_at g n w)
+locked g n i = None
 
-abbrev pub is_dup : Option Instr → Bool
-is_dup (Some (instr.Dup w)) = true
-is_dup i = false
+abbrev pub dupped : Ground → ℕ → Option Instr → Option MutexNo
+dupped g n (Some (instr.Dup w)) = mutex_of (value_at g n w)
+dupped g n i = None
 
--- `WaitLock` stands at a `Lock`, `WaitDup` at a `Dup`, and `WaitJoin(t)` at a `Join` whose operand is t
-abbrev pub phase_off : Option Instr → ThreadState → Phase → ℕ
-phase_off i t (phase.WaitLock m) = other (is_lock i)
-phase_off i t (phase.WaitDup m) = other (is_dup i)
-phase_off i t (phase.WaitJoin u) = other (is_task u (joined_thread i t))
-phase_off i t p = 0
+-- `WaitLock(m)` stands at a `Lock` whose place holds m, `WaitDup(m)` at a `Dup` whose place holds m, and `WaitJoin(t)` at a `Join` whose operand is t
+abbrev pub phase_off : Ground → Option Instr → ThreadState → Phase → ℕ
+phase_off g i t (phase.WaitLock m) = other (is_mutex m (locked g t.number i))
+phase_off g i t (phase.WaitDup m) = other (is_mutex m (dupped g t.number i))
+phase_off g i t (phase.WaitJoin u) = other (is_task u (joined_thread i t))
+phase_off g i t p = 0
 
--- a gift stands at a `Lock`, a `Dup` or a `Join` alone, and there is a task as operand at the `Join`
-abbrev pub gift_at : Option Instr → ThreadState → ℕ
-gift_at (Some (instr.Lock w)) t = 0
-gift_at (Some (instr.Dup w)) t = 0
-gift_at (Some (instr.Join o)) t = other (is_some (joined_thread (Some (instr.Join o)) t))
-gift_at i t = 1
+-- a gift stands at a `Lock`, a `Dup` or a `Join` alone: there is a mutex at the place of the lock, the gift is a share of the one at that of the dup, and a task is the
+-- operand of the join
+abbrev pub gift_at : Ground → Option Instr → ThreadState → Owned → ℕ
+gift_at g (Some (instr.Lock w)) t v = other (is_some (locked g t.number (Some (instr.Lock w))))
+gift_at g (Some (instr.Dup w)) t v = other (is_value_of v (dupped g t.number (Some (instr.Dup w))))
+gift_at g (Some (instr.Join o)) t v = other (is_some (joined_thread (Some (instr.Join o)) t))
+gift_at g i t v = 1
 
-abbrev pub gift_off : Option Instr → ThreadState → Option Owned → ℕ
-gift_off i t None = 0
-gift_off i t (Some v) = gift_at i t
+abbrev pub gift_off : Ground → Option Instr → ThreadState → Option Owned → ℕ
+gift_off g i t None = 0
+gift_off g i t (Some v) = gift_at g i t v
 
-abbrev pub off : List Instr → Standing → ℕ
-off code x = phase_off (slice_get code x.thread.pc) x.thread x.thread.phase + gift_off (slice_get code x.thread.pc) x.thread x.thread.gift
+-- with the code and the places of a cluster
+abbrev pub off : Cluster → Standing → ℕ
+off k x = phase_off (sight k).ground (slice_get k.code x.thread.pc) x.thread x.thread.phase + gift_off (sight k).ground (slice_get k.code x.thread.pc) x.thread x.thread.gift
 
--- each thread of a cluster stands so
-abbrev pub StandAtInstructions : Cluster → Type 0
-StandAtInstructions k = tot (off k.code) (threads_in (things_of k)) ≡ 0
+-- each thread of the second cluster stands so, by the code and the places of the first
+abbrev pub StandBy : Cluster → Cluster → Type 0
+StandBy k c = tot (off k) (threads_in (things_of c)) ≡ 0
 
--- an event of whatever kind from a coherent cluster in which few events were done, with its messages handed over, leaves them so
-abbrev pub EachEventLeavesThemSo : Type 0
-EachEventLeavesThemSo = (k : Cluster) (e : Event) → IsCoherent k → FewEvents k → Gives (λ (d : Cluster × EntryView). StandAtInstructions d.0) (apply k e)
+-- after an event of whatever kind from a coherent cluster in which few events were done, with its messages handed over, threads stand so by where places led before it
+abbrev pub EachEventAsksForWhatIsThere : Type 0
+EachEventAsksForWhatIsThere = (k : Cluster) (e : Event) → IsCoherent k → FewEvents k → Gives (λ (d : Cluster × EntryView). StandBy k d.0) (apply k e)

@@ -1,6 +1,6 @@
 //! What each event keeps of threads that wait, one clause for each sentence.
 
-ghost use Rattle.ask_law.specs.Standing.{EachEventLeavesThemSo};
+ghost use Rattle.ask_law.specs.Standing.{EachEventAsksForWhatIsThere};
 ghost use Rattle.heap_law.specs.Coherent.{branches_give_unit, carry_what_is_asked, gifts_got, pairs_go_on, parents_end};
 ghost use Rattle.local_law.specs.Laws.{EachCoherentEventKeeps, EachEventKeeps};
 
@@ -22,8 +22,8 @@ pub fn answers_keep()
     ensures { EachEventKeeps carry_what_is_asked }
 {}
 
-/// Where threads stand that wait for what a home gives or have got it, in a coherent cluster: at the lock, the dup or the join that asked for it, of which the operand is
-/// the thread that it asked for.
+/// Where threads stand that wait for what a home gives or have it, in a coherent cluster: at the lock, the dup or the join that asked for it. The mutex of a lock or a dup is
+/// the one to which its place led before the event, and the thread that is joined is the operand.
 pub fn standing_keeps()
-    ensures { EachEventLeavesThemSo }
+    ensures { EachEventAsksForWhatIsThere }
 {}

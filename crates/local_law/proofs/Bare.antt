@@ -181,7 +181,7 @@ module _ (k : Cluster) (coherent : IsCoherent k) (number : ℕ) (s : Server) (he
   bare_goes y2 (asks_cell i w at f pc q g same) = not_over k.code y2 (ap is_over q)
   bare_goes y2 (asks_home i m at a pc q g passed walk same) = not_over k.code y2 (ap is_over q ∙ asks_not_over i m a)
   bare_goes y2 (gets_cell w was q pc g same) = not_over k.code y2 (has_not_over y2.phase q)
-  bare_goes y2 (gets_gift was q pc passed walk temps same) = not_over k.code y2 (ap is_over q)
+  bare_goes y2 (gets_gift was q pc passed walk temps shares same) = not_over k.code y2 (ap is_over q)
   bare_goes y2 (goes_pair a b was q pc g passed walk same) = not_over k.code y2 (ap is_over q)
 
 bare_keep : ThreadsKeep IsCoherent dressed_at

@@ -15,6 +15,7 @@ use Rattle.server_model.specs.Events.{Stepped, done_step, committed, step}
 use Rattle.heap_partition.specs.declared.value.Cell.{Cell}
 use Rattle.heap_partition.specs.declared.value.Owned.{Owned}
 use Rattle.heap_partition.specs.declared.value.Owned.TheVariants as owned
+use Rattle.heap_law.proofs.Names.{same_mutexes}
 use Rattle.owner_box.specs.Partition.{stored}
 use Rattle.read_cache.specs.Cache.{Copy, can_pin, can_fill}
 use Rattle.mutex_home.specs.Mutexes.{can_make}
@@ -90,6 +91,11 @@ Without o ts us = us ≡ ts
 abbrev pub EndLeaves : List Instr → ThreadState → ThreadState → Type 0
 EndLeaves code y y2 = (o : Operand) → slice_get code y.pc ≡ Some (instr.End o) → (y2.slots ≡ y.slots) × Without o y.temps y2.temps
 
+-- what comes where a dup waits is a share of its mutex
+abbrev pub Shares : Phase → Option Owned → Type 0
+Shares (phase.WaitDup m) g = g ≡ Some (owned.Mutex m)
+Shares p g = ⊤
+
 -- a thread and what an event makes of it
 pub data Goes (code : List Instr) (y y2 : ThreadState) : Type 0 where
   -- its step is done, and it is ready at the next instruction; it waits there for a pair; it is over
@@ -102,13 +108,13 @@ pub data Goes (code : List Instr) (y y2 : ThreadState) : Type 0 where
   asks_home : (i : Instr) (p : Phase) → slice_get code y.pc ≡ Some i → AsksHome i p → y2.pc ≡ y.pc → y2.phase ≡ p → y2.gift ≡ None → y2.passed ≡ y.passed → (Joins i → y2.walk ≡ y.walk) → Same y y2 → Goes code y y2
   -- it gets an object or a copy; it gets what a home gives; both of its pair are over
   gets_cell : (w : ℕ) → y.phase ≡ phase.WaitCell w → HasCell y2.phase → y2.pc ≡ y.pc → y2.gift ≡ y.gift → Same y y2 → Goes code y y2
-  gets_gift : IsAsking y.phase → y2.phase ≡ phase.Got → y2.pc ≡ y.pc → y2.passed ≡ y.passed → y2.walk ≡ y.walk → y2.temps ≡ y.temps → Same y y2 → Goes code y y2
+  gets_gift : IsAsking y.phase → y2.phase ≡ phase.Got → y2.pc ≡ y.pc → y2.passed ≡ y.passed → y2.walk ≡ y.walk → y2.temps ≡ y.temps → Shares y.phase y2.gift → Same y y2 → Goes code y y2
   goes_pair : (a b : ℕ) → y.phase ≡ phase.WaitPar a b → y2.phase ≡ phase.GotPar a b → y2.pc ≡ y.pc → y2.gift ≡ y.gift → y2.passed ≡ y.passed → y2.walk ≡ y.walk → Same y y2 → Goes code y y2
 
 -- it gets what it waited for
 abbrev pub IsGotten : {code : List Instr} {y y2 : ThreadState} → Goes code y y2 → Type 0
 IsGotten (gets_cell w was p pc g s) = ⊤
-IsGotten (gets_gift was p pc passed walk temps s) = ⊤
+IsGotten (gets_gift was p pc passed walk temps shares s) = ⊤
 IsGotten (goes_pair a b was p pc g passed walk s) = ⊤
 IsGotten g = ⊥
 
@@ -338,6 +344,18 @@ waits_dup : (p : Phase) (m : MutexNo) → waits_for_dup p m ≡ true → IsAskin
 waits_dup (phase.WaitDup n) m e = tt
 waits_dup p m e = absurd (cc e)
 
+no_share_locked : (v : Owned) (p : Phase) (m : MutexNo) → waits_for_lock p m ≡ true → Shares p (Some v)
+no_share_locked v (phase.WaitLock n) m e = tt
+no_share_locked v p m e = absurd (cc e)
+
+no_share_joined : (v : Owned) (p : Phase) (u : ℕ) → waits_for_join p u ≡ true → Shares p (Some v)
+no_share_joined v (phase.WaitJoin x) u e = tt
+no_share_joined v p u e = absurd (cc e)
+
+its_share : (p : Phase) (m : MutexNo) → waits_for_dup p m ≡ true → Shares p (Some (owned.Mutex m))
+its_share (phase.WaitDup n) m e = ap (λ a. Some (owned.Mutex a)) (sym (same_mutexes n m e))
+its_share p m e = absurd (cc e)
+
 waits_join : (p : Phase) (u : ℕ) → waits_for_join p u ≡ true → IsAsking p
 waits_join (phase.WaitJoin x) u e = tt
 waits_join p u e = absurd (cc e)
@@ -448,22 +466,25 @@ module _ (code : List Instr) (y : ThreadState) where
       still : S h.work.rest h.thread
       still = subst (λ (t : ThreadState). S h.work.rest t) (sym e) (record { named = refl; at_home = refl; placed = refl; given = refl })
 
-  gives_it : (v : Owned) (g : Option Owned) (h : Hand) → h.thread ≡ y → IsAsking y.phase → Gives GoesOn (given v g h)
-  gives_it v (Some u) h e a = tt
-  gives_it v None h e a = subst (λ (t : ThreadState). Gets (record t { gift = Some v; phase = phase.Got })) (sym e) (gets_gift a refl refl refl refl refl (record { number = refl; home = refl }), tt)
+  gives_it : (v : Owned) (g : Option Owned) (h : Hand) → h.thread ≡ y → IsAsking y.phase → Shares y.phase (Some v) → Gives GoesOn (given v g h)
+  gives_it v (Some u) h e a f = tt
+  gives_it v None h e a f = subst (λ (t : ThreadState). Gets (record t { gift = Some v; phase = phase.Got })) (sym e) (gets_gift a refl refl refl refl refl f (record { number = refl; home = refl }), tt)
 
   asking : (h : Hand) → h.thread ≡ y → IsAsking h.thread.phase → IsAsking y.phase
   asking h e a = subst (λ (t : ThreadState). IsAsking t.phase) e a
 
+  sharing : (v : Owned) (h : Hand) → h.thread ≡ y → Shares h.thread.phase (Some v) → Shares y.phase (Some v)
+  sharing v h e a = subst (λ (t : ThreadState). Shares t.phase (Some v)) e a
+
   -- a content, a share, a result comes
   pub granted_goes : (m : MutexNo) (v : Owned) (h : Hand) → h.thread ≡ y → Gives GoesOn (deliver_granted m v h)
-  granted_goes m v h e = test_gives GoesOn (waits_for_lock h.thread.phase m) _ (λ z. gives_it v h.thread.gift h e (asking h e (waits_lock h.thread.phase m z)))
+  granted_goes m v h e = test_gives GoesOn (waits_for_lock h.thread.phase m) _ (λ z. gives_it v h.thread.gift h e (asking h e (waits_lock h.thread.phase m z)) (sharing v h e (no_share_locked v h.thread.phase m z)))
 
   pub dupped_goes : (m : MutexNo) (h : Hand) → h.thread ≡ y → Gives GoesOn (deliver_dupped m h)
-  dupped_goes m h e = test_gives GoesOn (waits_for_dup h.thread.phase m) _ (λ z. gives_it (owned.Mutex m) h.thread.gift h e (asking h e (waits_dup h.thread.phase m z)))
+  dupped_goes m h e = test_gives GoesOn (waits_for_dup h.thread.phase m) _ (λ z. gives_it (owned.Mutex m) h.thread.gift h e (asking h e (waits_dup h.thread.phase m z)) (sharing (owned.Mutex m) h e (its_share h.thread.phase m z)))
 
   pub joined_goes : (u : ℕ) (v : Owned) (h : Hand) → h.thread ≡ y → Gives GoesOn (deliver_joined u v h)
-  joined_goes u v h e = test_gives GoesOn (waits_for_join h.thread.phase u) _ (λ z. gives_it v h.thread.gift h e (asking h e (waits_join h.thread.phase u z)))
+  joined_goes u v h e = test_gives GoesOn (waits_for_join h.thread.phase u) _ (λ z. gives_it v h.thread.gift h e (asking h e (waits_join h.thread.phase u z)) (sharing v h e (no_share_joined v h.thread.phase u z)))
 
   both_over : (u : ℕ) (p : Phase) → Gives (BothOver p) (got_par u p)
   both_over u (phase.WaitPar a b) = test_gives (BothOver (phase.WaitPar a b)) ((a == u) || (b == u)) _ (λ w. record { first = a; second = b; was = refl; now = refl })

@@ -150,7 +150,7 @@ pub record ThreadsKeep (Pre : Cluster → Type 0) (f : List Instr → Standing �
   pub control : (k : Cluster) (number : ℕ) (s : Server) → Pre k → FewEvents k → server_at k.servers number ≡ Some s → Control k.code s (Stood (f k.code) s.rest.number) (InParcel (f k.code))
 
 -- an event leaves the code
-pub same_code : (k : Cluster) (e : Event) → Gives (λ (d : Cluster × EntryView). d.0.code ≡ k.code) (apply k e)
+same_code : (k : Cluster) (e : Event) → Gives (λ (d : Cluster × EntryView). d.0.code ≡ k.code) (apply k e)
 same_code k e =
     then_gives (λ (d : Cluster × EntryView). d.0.code ≡ k.code) (server_at k.servers e.server) _ (λ s here. map_gives (λ (d : Cluster × EntryView). d.0.code ≡ k.code) (done_at k e.what s) _ (λ r q. refl))
 

@@ -198,7 +198,7 @@ module _ (k : Cluster) (coherent : IsCoherent k) (number : ℕ) (s : Server) (he
       let none = asks_none i m a in
       agrees k.code y2 false (subst (λ c. is_par_end (slice_get k.code c) ≡ false) (sym pc) (ap is_par_end at ∙ none.0)) (ap is_par q ∙ none.1)
   pair_goes y2 p (gets_cell w was q pc g same) = agrees_as k.code y y2 pc (has_none y2.phase q ∙ sym (ap is_par was)) p
-  pair_goes y2 p (gets_gift was q pc passed walk temps same) = agrees_as k.code y y2 pc (ap is_par q ∙ sym (asking_none y.phase was)) p
+  pair_goes y2 p (gets_gift was q pc passed walk temps shares same) = agrees_as k.code y y2 pc (ap is_par q ∙ sym (asking_none y.phase was)) p
   pair_goes y2 p (goes_pair a b was q pc g passed walk same) = agrees_as k.code y y2 pc (ap is_par q ∙ sym (ap is_par was)) p
 
   -- a thread that it starts

@@ -49,7 +49,7 @@ use Rattle.server_model.specs.Joining.{answer_join, deliver_join, waits_for_join
 use Rattle.server_model.specs.Events.{begin_work, begin_at, left_by, received, release, deliver_message, evict_copy, step, step_in, stepped, does, deliver}
 use Rattle.event_law.specs.Laws.{Gives}
 use Rattle.event_law.proofs.Results.{then_gives, map_gives, over_gives, bind_gives, test_gives, stand_gives}
-use Rattle.local_law.proofs.Small.{Of, Places, Small}
+use Rattle.local_law.proofs.Small.{Places, Small}
 use Rattle.local_law.proofs.Plainly.{Settles, moves_by, Acts, EndsStep, steps}
 use Rattle.local_law.proofs.Goes.{Any, AnyWord}
 

@@ -36,7 +36,7 @@ same_of code y y2 (is_over o at pc p passed walk slots temps g s) = s
 same_of code y y2 (asks_cell i w at f pc p g s) = s
 same_of code y y2 (asks_home i q at a pc p g passed walk s) = s
 same_of code y y2 (gets_cell w was p pc g s) = s
-same_of code y y2 (gets_gift was p pc passed walk temps s) = s
+same_of code y y2 (gets_gift was p pc passed walk temps shares s) = s
 same_of code y y2 (goes_pair a b was p pc g passed walk s) = s
 
 self_none : (n : ℕ) → other (n == n) ≡ 0
@@ -136,7 +136,7 @@ module _ (k : Cluster) (sound : IsSound k) (number : ℕ) (s : Server) (here : s
   join_goes y2 p (asks_cell i w at f pc q g same) = at_same k.code y y2 i at pc (not_join i y (length y2.walk) f)
   join_goes y2 p (asks_home i m at a pc q g passed walk same) = at_same k.code y y2 i at pc (asks_joined k.code y y2 i at walk p)
   join_goes y2 p (gets_cell w was q pc g same) = subst (λ n. if_so (is_join (slice_get k.code n)) (length y2.walk) ≡ 0) (sym pc) (waits_no_join w (length y2.walk) was)
-  join_goes y2 p (gets_gift was q pc passed walk temps same) = with_same k.code y y2 pc walk p
+  join_goes y2 p (gets_gift was q pc passed walk temps shares same) = with_same k.code y y2 pc walk p
   join_goes y2 p (goes_pair a b was q pc g passed walk same) = with_same k.code y y2 pc walk p
 
 joins_keep : ThreadsKeep IsSound at_join
@@ -200,7 +200,7 @@ module _ (k : Cluster) (sound : IsSound k) (number : ℕ) (s : Server) (here : s
   walk_goes y2 p (asks_cell i w at f pc q g same) = empty_by (phase.WaitCell w) y2.phase y2.walk q refl
   walk_goes y2 p (asks_home i m at a pc q g passed walk same) = empty_by m y2.phase y2.walk q (asks_empty i m y.walk y2.walk a walk (no_walk i at))
   walk_goes y2 p (gets_cell w was q pc g same) = has_cell y2.phase y2.walk q
-  walk_goes y2 p (gets_gift was q pc passed walk temps same) = empty_by phase.Got y2.phase y2.walk q refl
+  walk_goes y2 p (gets_gift was q pc passed walk temps shares same) = empty_by phase.Got y2.phase y2.walk q refl
   walk_goes y2 p (goes_pair a b was q pc g passed walk same) =
       empty_by (phase.GotPar a b) y2.phase y2.walk q (subst (λ l. length l ≡ 0) (sym walk) (subst (λ r. Empty r y.walk) was p))
 
@@ -260,7 +260,7 @@ module _ (k : Cluster) (sound : IsSound k) (number : ℕ) (s : Server) (here : s
   passed_goes y2 p (asks_cell i w at f pc q g same) = early_by (phase.WaitCell w) y2.phase y2.passed q refl
   passed_goes y2 p (asks_home i m at a pc q g passed walk same) = none_passed y2.phase y2.passed (passed ∙ asks_passed i m at a)
   passed_goes y2 p (gets_cell w was q pc g same) = cell_passed y2.phase y2.passed q
-  passed_goes y2 p (gets_gift was q pc passed walk temps same) = early_by phase.Got y2.phase y2.passed q refl
+  passed_goes y2 p (gets_gift was q pc passed walk temps shares same) = early_by phase.Got y2.phase y2.passed q refl
   passed_goes y2 p (goes_pair a b was q pc g passed walk same) =
       early_by (phase.GotPar a b) y2.phase y2.passed q (subst (λ n. Early (phase.GotPar a b) n) (sym passed) (subst (λ r. Early r y.passed) was p))
 

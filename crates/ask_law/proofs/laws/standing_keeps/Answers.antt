@@ -1,5 +1,5 @@
 use Rattle.ask_law.proofs.laws.standing_keeps.Goals as goal
-use Rattle.ask_law.proofs.AtInstructions.{threads_stand_so}
+use Rattle.ask_law.proofs.AtInstructions.{asked_there}
 
 pub returns : goal.returns
-returns c = threads_stand_so
+returns c = asked_there
