@@ -1,8 +1,10 @@
 #!/usr/bin/env bash
-# How long replays of programs with mutexes and pairs of threads take: a source that locks and unlocks one mutex again and again, one that makes
-# and drops shares of it, and one that starts pair after pair, each as large as a source with its order may be, and a half and a quarter of that.
-# Beside each stands the time up to the end of the checker (the same source with a fault in its last term), so that the difference is the replay,
-# what it takes a step, and the memory of both. The seconds are processor seconds. Needs the built program (./build).
+# How long replays of programs with mutexes and pairs of threads take: a source that locks and unlocks one mutex again and again, one that
+# makes and drops shares of it, and one that starts pair after pair, each as large as a source with its order may be, and a half and a quarter
+# of that. More don't fit into the megabyte that a source and its order may have: it holds some 144,000 steps of locks and unlocks, 320,000 of
+# shares, and 56,000 of pairs and their threads. Beside each stands the time up to the end of the checker (the same source with a fault in its
+# last term), so that the difference is the replay, what it takes a step, and the memory of both. The seconds are processor seconds. Needs the
+# built program (./build).
 #   bench/shared.sh
 . "$(dirname "$0")/program.sh" drust_main ./build
 exec python3 - "$program" <<'PY'
