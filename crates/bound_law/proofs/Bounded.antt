@@ -43,10 +43,12 @@ abbrev Large : ℕ → List Thing → ℕ
 Large n b = tot (large_counts n) b
 
 module _ (n : ℕ) where
+  -- what weighs nothing one by one weighs nothing together
   all_small : {X : Type 0} (g : ℕ → X → List Thing) → ((i : ℕ) (x : X) → Large n (g i x) ≡ 0) → (i : ℕ) (xs : List X) → Large n (things_at g i xs) ≡ 0
   all_small g z i [] = refl
   all_small g z i (x ∷ xs) = omega (arith, z i x, all_small g z (i + 1) xs, tot-append (large_counts n) (g i x) (things_at g (i + 1) xs))
 
+  -- nothing but counts, copies and mutexes is counted: a pin, a value, a gift, a thread, a message, a cell, a result, a content
   pin_small : (s : ℕ) (q : SharedRef) → Large n (pin_things s q) ≡ 0
   pin_small s q = by q.pinned
     where
@@ -145,6 +147,7 @@ module _ (n : ℕ) where
         shares_few = all_none (large_counts n) (mutex_things s.rest.number) (FewShares (16 * n)) (λ i m y. at_most m.shares (16 * n) (omega (arith, y, mutex_large s.rest.number i m))) 0 s.rest.mutexes.there (omega (arith, all, z));
       }
 
+  -- and the other way round
   few_to : (s : Server) → Few (16 * n) (16 * n) (16 * n) s.rest → Large n (server_things s) ≡ 0
   few_to s g =
       omega (
@@ -172,6 +175,7 @@ events b = tot event_count b
 abbrev AllFew : Cluster → Type 0
 AllFew c = Large (events (things_of c)) (things_of c) ≡ 0
 
+-- at its server the event leaves no count large
 acted : (k : Cluster) (e : Event) → IsCoherent k → FewEvents k → Gives (λ (d : Cluster × EntryView). AllFew d.0) (act_at k e)
 acted k e coherent few =
     let sound : IsSound k = coherent.sound in
@@ -197,6 +201,7 @@ acted k e coherent few =
     sixteen : (m : ℕ) → 16 * m + 16 ≡ 16 * (m + 1)
     sixteen m = omega arith
 
+-- with its messages handed over
 pub bounds_kept : EachCoherentEventKeeps counts_bounded
 bounds_kept k e coherent few =
     handed_on AllFew (λ c a b same z. subst (λ m. Large m (servers_things b) ≡ 0) (same event_count) (omega (arith, z, same (large_counts (events (servers_things a)))))) k e (each_event_sends k e coherent.sound few) (acted k e coherent few)

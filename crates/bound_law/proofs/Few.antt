@@ -60,9 +60,11 @@ put_few cells a c = by (a == length cells)
     by true = omega (arith, length-append cells (Some c ∷ []))
     by false = omega (arith, length_set cells a (Some c))
 
+-- one object more takes one address at most
 made_few : (p : PartitionState) (c : Cell) → length ((made p c).cells) ≤ suc (length p.cells)
 made_few p c = put_few p.cells (next_place p).0 c
 
+-- an address that is freed is one retired more at most
 freed_few : (p : PartitionState) (w : ℕ) → (freed p w).retired ≤ suc p.retired
 freed_few p w = by (nat_lt (colour_of w + 1) p.limit)
   where
@@ -96,6 +98,7 @@ users_least n (c ∷ cs) w a = by (c.word == w) (users_least n cs w a.1)
     by true l = a.0
     by false l = l
 
+-- a copy that gets so many users, where these are few
 set_users : (n : ℕ) (cs : List Copy) (w m : ℕ) → m ≤ n → AllByRecursion (FewUsers n) cs → AllByRecursion (FewUsers n) (with_users cs w m)
 set_users n [] w m l a = tt
 set_users n (c ∷ cs) w m l a = by (c.word == w) (set_users n cs w m l a.1)
@@ -104,15 +107,19 @@ set_users n (c ∷ cs) w m l a = by (c.word == w) (set_users n cs w m l a.1)
     by true g = (l, a.1)
     by false g = (a.0, g)
 
+-- so many are at most one more
 more_users : (n : ℕ) (cs : List Copy) → AllByRecursion (FewUsers n) cs → AllByRecursion (FewUsers (suc n)) cs
 more_users n cs a = all_map (FewUsers n) (FewUsers (suc n)) (λ c l. omega (arith, l)) cs a
 
+-- a use more raises one copy by one
 pinned_few : (n : ℕ) (cs : List Copy) (w : ℕ) → AllByRecursion (FewUsers n) cs → AllByRecursion (FewUsers (suc n)) (pin cs w)
 pinned_few n cs w a = let l = users_least n cs w a in set_users (suc n) cs w (users cs w + 1) (omega (arith, l)) (more_users n cs a)
 
+-- a use less raises none
 unpinned_few : (n : ℕ) (cs : List Copy) (w : ℕ) → AllByRecursion (FewUsers n) cs → AllByRecursion (FewUsers n) (unpin cs w)
 unpinned_few n cs w a = let l = users_least n cs w a in set_users n cs w (users cs w - 1) (omega (arith, l)) a
 
+-- nor do several
 all_unpinned_few : (n : ℕ) (ws : List ℕ) (cs ds : List Copy) → unpin_all ws cs ≡ Some ds → AllByRecursion (FewUsers n) cs → AllByRecursion (FewUsers n) ds
 all_unpinned_few n [] cs ds e a = let same : cs ≡ ds = cc in subst (AllByRecursion (FewUsers n)) same a
 all_unpinned_few n (v ∷ ws) cs ds e a = by (can_unpin cs v) (λ d. all_unpinned_few n ws (unpin cs v) ds d (unpinned_few n cs v a)) e
@@ -121,6 +128,7 @@ all_unpinned_few n (v ∷ ws) cs ds e a = by (can_unpin cs v) (λ d. all_unpinne
     by true go d = go d
     by false go d = absurd (cc d)
 
+-- a new copy has no user
 filled_few : (n : ℕ) (cs : List Copy) (w : ℕ) (c : Cell) → AllByRecursion (FewUsers n) cs → AllByRecursion (FewUsers n) (fill cs w c)
 filled_few n [] w c a = (omega arith, tt)
 filled_few n (x ∷ cs) w c a = by (x.word == w) (filled_few n cs w c a.1)
@@ -129,6 +137,7 @@ filled_few n (x ∷ cs) w c a = by (x.word == w) (filled_few n cs w c a.1)
     by true g = a
     by false g = (a.0, g)
 
+-- a copy less
 without_few : (n : ℕ) (cs : List Copy) (w : ℕ) → AllByRecursion (FewUsers n) cs → AllByRecursion (FewUsers n) (without_copy cs w)
 without_few n [] w a = tt
 without_few n (x ∷ cs) w a = by (x.word == w) (without_few n cs w a.1)
@@ -137,6 +146,7 @@ without_few n (x ∷ cs) w a = by (x.word == w) (without_few n cs w a.1)
     by true g = a.1
     by false g = (a.0, g)
 
+-- an eviction takes one out, or none
 evicted_few : (n : ℕ) (cs : List Copy) (w : ℕ) → AllByRecursion (FewUsers n) cs → AllByRecursion (FewUsers n) (evict cs w)
 evicted_few n cs w a = by (can_evict cs w)
   where
@@ -153,6 +163,7 @@ module _ (n : ℕ) where
   abbrev Left : {X : Type 0} → Mutexes × X → Type 0
   Left p = AllFew p.0
 
+  -- a lock, an unlock and a share less leave no more shares
   asks : (ms : Mutexes) (m : MutexNo) (s t : ℕ) → AllFew ms → Gives Left (ask ms m s t)
   asks ms m s t a = by (mutex_in ms.there m) (found (FewShares n) ms.there m a)
     where
@@ -198,9 +209,11 @@ module _ (n : ℕ) where
       by None l = tt
       by (Some x) l = test_gives Left (nat_lt 0 x.shares) (Some (less_of ms x)) (λ z. one x (x.shares == 1) l)
 
+-- so many are at most one more
 more_shares : (n : ℕ) (ms : List Mutex) → AllByRecursion (FewShares n) ms → AllByRecursion (FewShares (suc n)) ms
 more_shares n ms a = all_map (FewShares n) (FewShares (suc n)) (λ c l. omega (arith, l)) ms a
 
+-- a share more is one more of one mutex
 mores : (n : ℕ) (ms : Mutexes) (m : MutexNo) → AllFew n ms → Gives (AllFew (suc n)) (more ms m)
 mores n ms m a = by (mutex_in ms.there m) (found (FewShares n) ms.there m a)
   where
@@ -212,6 +225,7 @@ mores n ms m a = by (mutex_in ms.there m) (found (FewShares n) ms.there m a)
 -- CHANGES OF A SERVER
 
 module _ (a u m : ℕ) where
+  -- a message changes no count
   pub sends : (r : Rest) (t : ℕ) (x : Message) → Few a u m r → Few a u m (sent_from r t x)
   sends r t x g = by (t == r.number)
     where

@@ -26,9 +26,11 @@ use Rattle.value_law.proofs.Named.{below_limit}
 use Rattle.bound_law.proofs.Passed.{hops_of, Within, none_within, step_within, moved_within, fetched_within}
 use Rattle.bound_law.proofs.Turns.{ThreadsTurn, threads_turn}
 
+-- one where a thread has passed more than its place has
 abbrev beyond : List Instr → Standing → ℕ
 beyond code x = other (nat_le x.thread.passed (hops_of (slice_get code x.thread.pc) x.thread))
 
+-- that is nothing just where it is within its place
 is_within : (code : List Instr) (y : ThreadState) → other (nat_le y.passed (hops_of (slice_get code y.pc) y)) ≡ 0 → Within code y
 is_within code y z = at_most y.passed (hops_of (slice_get code y.pc) y) z
 
@@ -43,6 +45,7 @@ none_passed p n z e = by (n == 0) refl (subst (λ b. one (not b && not (n == 0))
     by true q z = grind (arith, nat_tests, q)
     by false q z = absurd (cc z)
 
+-- who is ready is in no walk
 ready_still : (p : Phase) → is_ready p ≡ true → in_walk p ≡ false
 ready_still phase.Ready e = refl
 ready_still p e = absurd (cc e)
@@ -51,6 +54,7 @@ module _ (k : Cluster) (sound : IsSound k) (number : ℕ) (s : Server) (here : s
   abbrev me : Standing
   me = standing k sound number s here t y there
 
+  -- outside of a walk this thread has passed nothing
   nothing_passed : in_walk y.phase ≡ false → y.passed ≡ 0
   nothing_passed e = none_passed y.phase y.passed (known k sound number s here t y there early sound.walks.passed_in_a_walk) e
 
@@ -60,6 +64,7 @@ module _ (k : Cluster) (sound : IsSound k) (number : ℕ) (s : Server) (here : s
       let turn : out_of_turn (sight k) me y.phase ≡ 0 = known k sound number s here t y there (λ x. out_of_turn (sight k) x x.thread.phase) (turn_law.none_counted (sight k) sound.walks.wait_in_turn) in
       subst (λ r. out_of_turn (sight k) me r ≡ 0) e turn
 
+-- each event leaves each thread within its place
 hops_keep : ThreadsTurn IsSound beyond
 hops_keep = record {
   before = λ k sound. sound.walks.passed_within;

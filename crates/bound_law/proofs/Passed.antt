@@ -43,6 +43,7 @@ use Rattle.bound_law.proofs.Stars.{depth_there, depths, same_there, same_last, S
 abbrev pub hops_of : Option Instr → ThreadState → ℕ
 hops_of i y = hop_count (written_place (path_of i y))
 
+-- the end of a reference has the hops of its holder
 ending_hops : (o : Option Value) → hop_count (written_place (paths.ending o)) ≡ depth_there o
 ending_hops None = refl
 ending_hops (Some (value.Mut r)) = refl
@@ -91,6 +92,7 @@ ending_written s (Some (value.MutSlot j)) h e w = absurd w
 ending_written s (Some (value.Shared q)) h e w = absurd w
 ending_written s (Some (value.Held m)) h e w = absurd w
 
+-- each access that writes has as many stars as its write has hops
 written_stars : (i : Instr) (h : Hand) → Writes (access_of i h.thread) → stars (access_of i h.thread) h ≡ hops_of (Some i) h.thread
 written_stars (instr.Assign p o) h w = by p.depth refl w
   where
@@ -129,6 +131,7 @@ written_stars (instr.End o) h w = absurd w
 abbrev pub Within : List Instr → ThreadState → Type 0
 Within code t = t.passed ≤ hops_of (slice_get code t.pc) t
 
+-- who has passed nothing is within its place
 pub none_within : (code : List Instr) (t : ThreadState) → t.passed ≡ 0 → Within code t
 none_within code t e = omega (arith, e)
 
@@ -137,6 +140,7 @@ module _ (code : List Instr) (i : Instr) (y : ThreadState) (at : slice_get code 
   abbrev Still : ThreadState → Type 0
   Still t = Shape y t.pc t.slots t.temps × (t.passed ≤ hops_of (Some i) y)
 
+  -- such a thread is within its place
   within : (t : ThreadState) → Still t → Within code t
   within t g =
       let shape = g.0 in
@@ -144,6 +148,7 @@ module _ (code : List Instr) (i : Instr) (y : ThreadState) (at : slice_get code 
       let hops : hops_of (slice_get code t.pc) t ≡ hops_of (Some i) y = ap (λ o. hops_of o t) same ∙ same_hops i y t shape.slots_so shape.temps_so in
       omega (arith, hops, g.1)
 
+  -- the thread itself is one
   start : Within code y → Still y
   start p = let same : hops_of (slice_get code y.pc) y ≡ hops_of (Some i) y = ap (λ o. hops_of o y) at in (record { pc_so = refl; slots_so = refl; temps_so = refl }, omega (arith, same, p))
 
@@ -155,6 +160,7 @@ module _ (code : List Instr) (i : Instr) (y : ThreadState) (at : slice_get code 
   Ended (waits h) = Still h.thread
   Ended refused = ⊤
 
+  -- no plain step but a request waits
   done_ends : (names : Fresh) (o : Option Hand) → Ended (done_where names o)
   done_ends names None = tt
   done_ends names (Some h) = tt
@@ -163,6 +169,7 @@ module _ (code : List Instr) (i : Instr) (y : ThreadState) (at : slice_get code 
   goes_ends None = tt
   goes_ends (Some h) = tt
 
+  -- a request leaves slots, values and hops
   waits_end : {X : Type 0} (o : Option X) (f : X → Hand) → ((x : X) → Still (f x).thread) → Ended (waiting (option_map f o))
   waits_end None f g = tt
   waits_end (Some x) f g = g x
@@ -179,6 +186,7 @@ module _ (code : List Instr) (i : Instr) (y : ThreadState) (at : slice_get code 
   locks s None h g = waits_end (mutex_at h s) (ask_lock h) (λ x. g)
   locks s (Some v) h g = goes_ends _
 
+  -- all instructions
   commits : (n : ℕ) (j : Instr) (s : Spot) (h : Hand) → Still h.thread → Ended (commit n j s h)
   commits n (instr.Join o) s h g = joins o h.thread.gift h g
   commits n (instr.Dup w) s h g = dups s h.thread.gift h g
@@ -203,6 +211,7 @@ module _ (code : List Instr) (i : Instr) (y : ThreadState) (at : slice_get code 
   abbrev StepWithin : Stepped → Type 0
   StepWithin d = Within code d.hand.thread
 
+  -- a step that is done has passed nothing any more
   settled : (names : Fresh) (h : Hand) → Gives StepWithin (option_map (done_step names) (settle h))
   settled names h = by (unpin_all h.thread.walk h.work.rest.cache)
     where
@@ -210,6 +219,7 @@ module _ (code : List Instr) (i : Instr) (y : ThreadState) (at : slice_get code 
       by None = tt
       by (Some cs) = omega arith
 
+  -- what became of the plain step is within its place
   committing : (c : Committed) → Ended c → Gives StepWithin (committed c)
   committing (done names h) g = settled names h
   committing (waits h) g = within h.thread g
@@ -220,6 +230,7 @@ module _ (code : List Instr) (i : Instr) (y : ThreadState) (at : slice_get code 
   abbrev X : ℕ → Rest → ℕ → Type 0
   X c r n = n ≤ hops_of (Some i) y
 
+  -- making the place ready passes at most as many hops as there are
   walk : (h : Hand) → h.thread ≡ y → Steps (stars (access_of i y) h) (Writes (access_of i y)) X
   walk h e = record {
     more = λ c r n g. g;
@@ -232,6 +243,7 @@ module _ (code : List Instr) (i : Instr) (y : ThreadState) (at : slice_get code 
         omega (arith, l, same);
   }
 
+  -- a whole step
   pub step_within : (n : ℕ) (h : Hand) → h.thread ≡ y → Within code y → Gives StepWithin (step n i h)
   step_within n h e p =
       subst (λ z. Gives StepWithin (prepared n i (prepare (access_of i z) h))) (sym e)
@@ -244,15 +256,18 @@ module _ (code : List Instr) (i : Instr) (y : ThreadState) (at : slice_get code 
 
   -- AN OBJECT COMES
 
+  -- where no hop is passed
   quiet : Steps 0 ⊥ X
   quiet = record { more = λ c r n g. g; stores = λ w v c r n g. g; renews = λ w c r n g. g; pins = λ w c r n g. g; sends = λ t m c r n g. g; passes = λ on m c r n l g. absurd on }
 
   abbrev StillHand : Hand → Type 0
   StillHand h = Still h.thread
 
+  -- a pointer that gets a word keeps its holder
   comes_at : (s : Spot) (new : ℕ) (h : Hand) → StillHand h → Gives StillHand (arrived_at s new h)
   comes_at s new h g = over_gives StillHand StillHand (set_pointer s new h) (with_phase phase.Got) (sets quiet y 0 s new h g) (λ h2 u. u)
 
+  -- the same in a slot
   comes_slot : (old new j : ℕ) (h : Hand) → StillHand h → Gives StillHand (arrived_slot old new j h)
   comes_slot old new j h g = test_gives StillHand (waits_under old (slice_get h.thread.slots j)) _ (λ z. comes_at (in_slot j) new h g)
 
@@ -260,6 +275,7 @@ module _ (code : List Instr) (i : Instr) (y : ThreadState) (at : slice_get code 
   comes_write : (w : Lval) (new : ℕ) (h : Hand) → h.thread.passed + 1 ≤ hops_of (Some i) y → StillHand h → Gives StillHand (arrived_write w new h)
   comes_write w new h l g = then_gives StillHand (passed_spot (write_stars h.thread.passed 0 h (in_slot w.slot))) _ (λ s q. comes_at s new (passing (h.thread.passed + 1) h) (g.0, l))
 
+  -- for a mutable borrow nothing is passed
   comes_lend : (slot d old new : ℕ) (h : Hand) → StillHand h → Gives StillHand (arrived_lend slot d old new h)
   comes_lend slot zero old new h g = tt
   comes_lend slot (suc zero) old new h g = g
@@ -378,6 +394,7 @@ record Waited (p : Phase) (old : ℕ) : Type 0 where
   was : p ≡ phase.WaitCell word
   same : word ≡ old
 
+-- a thread that waits for that word
 waits_cell : (p : Phase) (old : ℕ) → waits_for_cell p old ≡ true → Waited p old
 waits_cell (phase.WaitCell v) old e = record { word = v; was = refl; same = grind (arith, nat_tests, e) }
 waits_cell p old e = absurd (cc e)
@@ -410,9 +427,11 @@ module _ (code : List Instr) (y : ThreadState) (p : Within code y) where
   abbrev Like : ThreadState → Type 0
   Like t = (t.pc ≡ y.pc) × (t.slots ≡ y.slots) × (t.temps ≡ y.temps) × (t.passed ≡ y.passed)
 
+  -- a thread is like itself
   like_self : (t : ThreadState) → t ≡ y → Like t
   like_self t e = (ap (λ (z : ThreadState). z.pc) e, ap (λ (z : ThreadState). z.slots) e, ap (λ (z : ThreadState). z.temps) e, ap (λ (z : ThreadState). z.passed) e)
 
+  -- a use of a copy changes nothing of it
   uses_like : (v : ℕ) (b : Bool) (h : Hand) → Like h.thread → Gives (λ (h2 : Hand). Like h2.thread) (used_once v b h)
   uses_like v true h g = g
   uses_like v false h g = test_gives (λ (h2 : Hand). Like h2.thread) (can_pin h.work.rest.cache v) _ (λ z. g)

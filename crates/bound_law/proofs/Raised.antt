@@ -64,15 +64,18 @@ module _ (a u m : ℕ) where
   abbrev pub F : Rest → ThreadState → Type 0
   F r t = Few a u m r
 
+  -- a value that is put raises no count
   puts : (s : Spot) (v : Value) (h : Hand) → Of F h → Gives (Of F) (Rattle.server_model.specs.Places.put_at s v h)
   puts s v h g = puts_by F (λ vs r t x. x) (λ vs r t x. x) (λ h2 w x g2. stores a u m h2.work.rest.partition w x g2) s v h g
 
+  -- nor does a pointer that gets a word
   pub pointer : (s : Spot) (w : ℕ) (h : Hand) → Of F h → Gives (Of F) (set_pointer s w h)
   pointer s w h g = then_gives (Of F) (value_at h s) _ (λ v q. then_gives (Of F) (with_word w v) _ (λ new e. puts s new h g))
 
   places : Places F Any AnyWord
   places = record { spot = λ s v h g e. tt; puts = λ s v h z b g. puts s v h g; worded = λ w v new x b e. tt; word_of = λ r b. tt; points = λ v p b e. tt }
 
+  -- nor what is let go
   pub gives_up : (v : Owned) (w : Work) → Few a u m w.rest → Few a u m (give_up v w).rest
   gives_up (owned.Box p) w g = sends a u m w.rest _ _ g
   gives_up (owned.Mutex n) w g = sends a u m w.rest _ _ g
@@ -87,19 +90,24 @@ module _ (a u m : ℕ) where
   abbrev E : Rest → ThreadState → Type 0
   E r t = Few (suc a) u (suc m) r
 
+  -- few are at most one address and one share more
   ends_as : {next old : ℕ} {cs : List Copy} {ms : List Mutex} → Counted a u m next old cs ms → Counted (suc a) u (suc m) next old cs ms
   ends_as g = fewer a u m (suc a) u (suc m) (omega arith) (omega arith) (omega arith) g
 
+  -- a step that ends gives its uses back
   settles : (h : Hand) → Few a u m h.work.rest → Settles E h
   settles h g = λ cs e. ends_as (unpins_all a u m h.work.rest.cache h.thread.walk cs e g)
 
+  -- a thread that starts
   starts : (servers pc : ℕ) (vs : List Value) (w : Work) → Few a u m w.rest → Few a u m (start_thread servers pc vs w).rest
   starts servers pc vs w g = sends a u m (record w.rest { started = w.rest.started + 1 }) _ _ g
 
+  -- a thread that ends
   over_main : (main : Bool) (v : Owned) (h : Hand) → Few a u m h.work.rest → Gives (λ h2. Settles E (with_phase phase.Over h2)) (end_with main v h)
   over_main true v h g = λ cs z. ends_as (unpins_all a u m _ h.thread.walk cs z (gives_up v (label_dropped (value.Own v) h).work g))
   over_main false v h g = λ cs z. ends_as (unpins_all a u m _ h.thread.walk cs z (sends a u m h.work.rest _ _ g))
 
+  -- the small steps of every instruction
   acts : (n : ℕ) (i : Instr) → Acts n F E Any Any AnyWord i
   acts n i = record {
     places = places;
@@ -146,6 +154,7 @@ module _ (a u m : ℕ) where
     asks_lock = λ w e x h q b g. ends_as (sends a u m h.work.rest _ _ g);
   }
 
+  -- at the end of the step
   settled : (names : Fresh) (h : Hand) → Settles E h → Gives (EndsStep E) (option_map (done_step names) (settle h))
   settled names h f = by (unpin_all h.thread.walk h.work.rest.cache) refl
     where
@@ -159,6 +168,7 @@ module _ (a u m : ℕ) where
   committing (waits h) f = f
   committing refused f = tt
 
+  -- a plain step takes one address and one share at most
   pub commits_few : (n : ℕ) (i : Instr) (s : Spot) (h : Hand) → Few a u m h.work.rest → Gives (EndsStep E) (committed (commit n i s h))
   commits_few n i s h g = committing (commit n i s h) (commits i s h (acts n i) (moves_by i s h (λ w c v z. tt)) g)
 
@@ -169,6 +179,7 @@ module _ (a u m : ℕ) where
   abbrev X : ℕ → Rest → ℕ → Type 0
   X c r n = Few (a + c) (u + c) m r
 
+  -- a star takes one address and one use at most
   star_steps : Steps 8 ⊤ X
   star_steps = record {
     more = λ c r n g. fewer (a + c) (u + c) m (a + suc c) (u + suc c) m (omega arith) (omega arith) (omega arith) g;
@@ -182,6 +193,7 @@ module _ (a u m : ℕ) where
   abbrev pub StepFew : Stepped → Type 0
   StepFew d = Few (a + 16) (u + 16) (m + 16) d.hand.work.rest
 
+  -- a whole step takes at most sixteen of each
   pub step_few : (n : ℕ) (i : Instr) (h : Hand) → stars (access_of i h.thread) h ≤ 8 → Few a u m h.work.rest → Gives StepFew (step n i h)
   step_few n i h l g = by (prepare (access_of i h.thread) h) (prepare_made star_steps h.thread (access_of i h.thread) h (λ w. tt) l (record { pc_so = refl; slots_so = refl; temps_so = refl }, fewer a u m (a + 0) (u + 0) m (omega arith) (omega arith) (omega arith) g))
     where
@@ -219,6 +231,7 @@ module _ (a u m : ℕ) where
   abbrev pub OfSite : Site → Type 0
   OfSite x = New x.work.rest
 
+  -- few are at most one more of each
   up : {next old : ℕ} {cs : List Copy} {ms : List Mutex} → Counted a u m next old cs ms → Counted (suc a) (suc u) (suc m) next old cs ms
   up g = fewer a u m (suc a) (suc u) (suc m) (omega arith) (omega arith) (omega arith) g
 
@@ -231,15 +244,18 @@ module _ (a u m : ℕ) where
   more_shares : {next old : ℕ} {cs : List Copy} {ms : List Mutex} → Counted a u (suc m) next old cs ms → Counted (suc a) (suc u) (suc m) next old cs ms
   more_shares g = fewer a u (suc m) (suc a) (suc u) (suc m) (omega arith) (omega arith) (omega arith) g
 
+  -- a message changes no count
   sent : (t : ℕ) (x : Message) (r : Rest) → New r → New (sent_from r t x)
   sent t x r g = sends (suc a) (suc u) (suc m) r t x g
 
   gives : (v : Owned) (w : Work) → OfWork w → OfWork (give_up v w)
   gives v w g = gives_up (suc a) (suc u) (suc m) v w g
 
+  -- what changes no thread
   beside : (f : Work → Option Work) (x : Site) → Gives OfWork (f x.work) → Gives OfSite (beside_threads f x)
   beside f x g = over_gives OfWork OfSite (f x.work) (λ w. record x { work = w }) g (λ w b. b)
 
+  -- what changes one thread
   at : (t : ℕ) (f : Hand → Option Hand) (x : Site) → ((y : ThreadState) → Gives OfHand (f (record { work = x.work; thread = y }))) → Gives OfSite (at_thread t f x)
   at t f x go = by (thread_in x.threads t)
     where
@@ -249,18 +265,22 @@ module _ (a u m : ℕ) where
 
   -- OBJECTS
 
+  -- a block is freed
   drops : (v : ℕ) (b : ObjNo) (w : Work) → Old w.rest → Gives OfWork (deliver_drop v b w)
   drops v b w g = map_gives OfWork (look_object w.rest.partition v b) _ (λ c q. gives c.value (note (act.Free b v) (with_partition (freed w.rest.partition v) w)) (more_places (frees a u m w.rest.partition v g)))
 
+  -- a copy is used once more at most
   uses_it : (v : ℕ) (b : Bool) (h : Hand) → Old h.work.rest → Gives OfHand (used_once v b h)
   uses_it v true h g = up g
   uses_it v false h g = test_gives OfHand (can_pin h.work.rest.cache v) _ (λ z. more_users (pins a u m h.work.rest.cache v g))
 
+  -- a copy comes, and is used
   fills_it : (v : ℕ) (c : Cell) (h : Hand) → Old h.work.rest → Gives OfHand (deliver_fetched v c h)
   fills_it v c h g =
       test_gives OfHand (waits_for_cell h.thread.phase v) _ (λ z. over_gives OfHand OfHand (filled v c h) _
       (test_gives OfHand (can_fill h.work.rest.cache v c) _ (λ p. uses_it v (is_in v h.thread.walk) _ (fills a u m h.work.rest.cache v c g))) (λ h2 b. b))
 
+  -- a pointer gets the word of what came
   points : (s : Spot) (new : ℕ) (h : Hand) → OfHand h → Gives OfHand (set_pointer s new h)
   points s new h g = pointer (suc a) (suc u) (suc m) s new h g
 
@@ -298,6 +318,7 @@ module _ (a u m : ℕ) where
   comes_for (Some (LendTo w)) old new h g = comes_lend w.slot w.depth old new h g
   comes_for (Some (EndRef s)) old new h g = comes_end s (value_at h s) old new h g
 
+  -- an object comes to one address
   comes : (code : List Instr) (old : ℕ) (c : Cell) (h : Hand) → Old h.work.rest → Gives OfHand (deliver_moved code old c h)
   comes code old c h g =
       test_gives OfHand (waits_for_cell h.thread.phase old) _ (λ z. bind_gives (λ (x : NewWord). New x.work.rest) OfHand (issue_placed (act.Take c.object old) c h.work) _
@@ -306,14 +327,17 @@ module _ (a u m : ℕ) where
 
   -- MUTEXES
 
+  -- a gift
   gives_it : (v : Owned) (o : Option Owned) (h : Hand) → OfHand h → Gives OfHand (given v o h)
   gives_it v None h g = g
   gives_it v (Some x) h g = tt
 
+  -- what is left over is let go
   left_over : (o : Option Owned) (w : Work) → OfWork w → OfWork (give_up_left o w)
   left_over None w g = g
   left_over (Some v) w g = gives v w g
 
+  -- each message about a mutex: the content that goes, comes back, and a share more
   locks : (n : MutexNo) (s t : ℕ) (w : Work) → Old w.rest → Gives OfWork (deliver_lock n s t w)
   locks n s t w g = map_gives OfWork (ask w.rest.mutexes n s t) _ (λ p q. by p.0 p.1 (up (few.asked a u m w.rest.mutexes n s t p q g)))
     where
@@ -334,6 +358,7 @@ module _ (a u m : ℕ) where
 
   -- THREADS
 
+  -- each message about a thread
   joins : (x s by_thread : ℕ) (w : Work) → Old w.rest → Gives OfWork (deliver_join x s by_thread w)
   joins x s by_thread w g = map_gives OfWork (tasks.ask w.rest.tasks x s by_thread) _ (λ p q. of p.0 p.1)
     where
@@ -359,6 +384,7 @@ module _ (a u m : ℕ) where
 
   -- ALL MESSAGES
 
+  -- a delivery takes at most one of each
   pub message_few : (code : List Instr) (x : Message) (s : Site) → Old s.work.rest → Gives OfSite (deliver_message code x s)
   message_few code (message.Fetch w o r t) s g = beside (deliver_fetch w o r t) s (map_gives OfWork (look_object s.work.rest.partition w o) _ (λ c q. sent _ _ s.work.rest (up g)))
   message_few code (message.Fetched w c t) s g = at t (deliver_fetched w c) s (λ y. fills_it w c (record { work = s.work; thread = y }) g)
@@ -386,9 +412,11 @@ module _ (a u m : ℕ) (code : List Instr) (o : Options) (s : Server)
   abbrev pub Raised : Server × EntryView → Type 0
   Raised r = Few (a + 16) (u + 16) (m + 16) r.0.rest
 
+  -- one of each is less than sixteen
   raised : (r : Rest) → New a u m r → Few (a + 16) (u + 16) (m + 16) r
   raised r z = fewer (suc a) (suc u) (suc m) (a + 16) (u + 16) (m + 16) (omega arith) (omega arith) (omega arith) z
 
+  -- an event takes at most sixteen of each
   pub raises : (w : What) → Gives Raised (does code o s w)
   raises (Step t) = by (thread_in s.threads t) refl
     where

@@ -32,6 +32,7 @@ use Rattle.bound_law.proofs.Stars.{holder_depth, depth_there, stars}
 abbrev pub ShortHolder : Value → Type 0
 ShortHolder v = holder_depth v ≤ 8
 
+-- what stands at a place of such values has a short holder
 short_there : (vs : List Value) (i : ℕ) → AllByRecursion ShortHolder vs → depth_there (slice_get vs i) ≤ 8
 short_there vs i a = by (slice_get vs i) refl
   where
@@ -45,6 +46,7 @@ module _ (y : ThreadState) (w : Work) (slots : AllByRecursion ShortHolder y.slot
   abbrev h : Hand
   h = record { work = w; thread = y }
 
+  -- the end of a reference follows its holder
   ending_short : (s : Spot) (o : Option Value) → depth_there (value_at h s) ≤ 8 → stars (ending s o) h ≤ 8
   ending_short s (Some (value.Mut r)) l = l
   ending_short s _ l = omega arith
@@ -84,6 +86,7 @@ module _ (y : ThreadState) (w : Work) (slots : AllByRecursion ShortHolder y.slot
   access_short instr.ParEnd t = omega arith
   access_short (instr.End o) t = omega arith
 
+  -- of an instruction that leads on in the code, or ends its thread
   leads_short : {table : Table} {pc : ℕ} {x : Entry} (i : Instr) (ss : Successors) → Leads table pc x i ss → stars (access_of i y) h ≤ 8
   leads_short i ss (to_next t) = access_short i t
   leads_short i ss (ends_thread t) = omega arith
@@ -100,6 +103,7 @@ module _ (k : Cluster) (coherent : IsCoherent k) (number : ℕ) (s : Server) (he
   abbrev n : ℕ
   n = s.rest.number
 
+  -- a slot and a temporary value that weigh nothing have short holders
   slot_short : (i : ℕ) (v : Value) → tot long_holder (slot_things n y.number i v) ≡ 0 → ShortHolder v
   slot_short i (value.Mut r) z = at_most r.holder.depth 8 (omega (arith, z))
   slot_short i _ z = omega arith

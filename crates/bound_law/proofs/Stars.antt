@@ -41,6 +41,7 @@ abbrev pub holder_depth : Value → ℕ
 holder_depth (value.Mut r) = r.holder.depth
 holder_depth v = 0
 
+-- of what stands there, if anything does
 abbrev pub depth_there : Option Value → ℕ
 depth_there None = 0
 depth_there (Some v) = holder_depth v
@@ -49,6 +50,7 @@ depth_there (Some v) = holder_depth v
 abbrev pub depths : List Value → List ℕ
 depths vs = map holder_depth vs
 
+-- lists with the same holders have the same one at each place, and are as long
 pub same_there : (xs ys : List Value) → depths xs ≡ depths ys → (i : ℕ) → depth_there (slice_get xs i) ≡ depth_there (slice_get ys i)
 same_there [] [] e i = refl
 same_there [] (y ∷ ys) e i = absurd (cc e)
@@ -69,27 +71,32 @@ same_last xs ys e = same_there xs ys e (length xs - 1) ∙ ap (λ n. depth_there
 some_same : {X : Type 0} {a b : X} → Some a ≡ Some b → a ≡ b
 some_same e = cc
 
+-- a value with the same holder in place of another one
 set_depths : (vs : List Value) (i : ℕ) (v new : Value) → slice_get vs i ≡ Some v → holder_depth new ≡ holder_depth v → depths (slice_set vs i new) ≡ depths vs
 set_depths [] i v new e h = refl
 set_depths (x ∷ vs) zero v new e h = let same : x ≡ v = some_same e in ap (λ n. n ∷ depths vs) (h ∙ ap holder_depth (sym same))
 set_depths (x ∷ vs) (suc i) v new e h = ap (λ l. holder_depth x ∷ l) (set_depths vs i v new e h)
 
+-- the last item of a list is set
 set_at : (vs : List Value) (n : ℕ) (v : Value) → length vs ≡ n + 1 → slice_set vs n v ≡ take n vs ++ v ∷ []
 set_at [] n v h = absurd (omega (arith, h))
 set_at (x ∷ []) zero v h = refl
 set_at (x ∷ y ∷ vs) zero v h = absurd (omega (arith, h))
 set_at (x ∷ vs) (suc n) v h = ap (λ l. x ∷ l) (set_at vs n v (omega (arith, h)))
 
+-- what is there is below the length
 there_below : (vs : List Value) (n : ℕ) (v : Value) → slice_get vs n ≡ Some v → n < length vs
 there_below [] n v e = absurd (cc e)
 there_below (x ∷ vs) zero v e = omega arith
 there_below (x ∷ vs) (suc n) v e = omega (arith, there_below vs n v e)
 
+-- the same for the last one
 top_depths : (vs : List Value) (v new : Value) → last_of vs ≡ Some v → holder_depth new ≡ holder_depth v → depths (front_of vs ++ new ∷ []) ≡ depths vs
 top_depths vs v new e h =
     let l = there_below vs (length vs - 1) v e in
     subst (λ z. depths z ≡ depths vs) (set_at vs (length vs - 1) new (omega (arith, l))) (set_depths vs (length vs - 1) v new e h)
 
+-- another word leaves the holder
 word_depth : (w : ℕ) (v new : Value) → with_word w v ≡ Some new → holder_depth new ≡ holder_depth v
 word_depth w (value.Own (owned.Box p)) new e = ap holder_depth (sym (some_same e))
 word_depth w (value.Mut r) new e = ap holder_depth (sym (some_same e))
@@ -104,6 +111,7 @@ word_depth w (value.MutSlot j) new e = absurd (cc e)
 word_depth w (value.Shared q) new e = absurd (cc e)
 word_depth w (value.Held m) new e = absurd (cc e)
 
+-- so does the mark of a write
 written_depth : (v : Value) → holder_depth (written v) ≡ holder_depth v
 written_depth (value.Mut r) = refl
 written_depth value.Gone = refl
@@ -113,6 +121,7 @@ written_depth (value.MutSlot j) = refl
 written_depth (value.Shared q) = refl
 written_depth (value.Held m) = refl
 
+-- and a write that is noted on a slot
 noted_depths : (vs : List Value) (i : ℕ) → depths (note_slot vs i (slice_get vs i)) ≡ depths vs
 noted_depths vs i = by (slice_get vs i) refl
   where
@@ -130,6 +139,7 @@ abbrev pub after : ℕ → ℕ → ℕ
 after zero c = c
 after (suc d) c = after d (suc c)
 
+-- these are so many
 pub after_is : (d c : ℕ) → after d c ≡ d + c
 after_is zero c = omega arith
 after_is (suc d) c = omega (arith, after_is d (suc c))
@@ -162,9 +172,11 @@ module _ {most : ℕ} {W : Type 0} {X : ℕ → Rest → ℕ → Type 0} (k : St
   abbrev pub Good : ℕ → Hand → Type 0
   Good c h = Shape y h.thread.pc h.thread.slots h.thread.temps × X c h.work.rest h.thread.passed
 
+  -- a count more may be
   up : (c : ℕ) (h : Hand) → Good c h → Good (suc c) h
   up c h g = (g.0, k.more c h.work.rest h.thread.passed g.1)
 
+  -- as many more as there are stars left
   raised : (d c : ℕ) (h : Hand) → Good c h → Good (after d c) h
   raised zero c h g = g
   raised (suc d) c h g = raised d (suc c) h (up c h g)
@@ -181,16 +193,19 @@ module _ {most : ℕ} {W : Type 0} {X : ℕ → Rest → ℕ → Type 0} (k : St
   MadeAt s c (requested h) = Good c h
   MadeAt s c nothing = ⊤
 
+  -- what follows goes on from there
   then_made : (d c : ℕ) (x : Prepared) (go : Hand → Spot → Prepared) → Made c x → ((h : Hand) (s : Spot) → Good c h → Made (after d c) (go h s)) → Made (after d c) (and_then go x)
   then_made d c (ready h s) go g w = w h s g
   then_made d c (requested h) go g w = raised d c h g
   then_made d c nothing go g w = tt
 
+  -- the same where it follows at that spot
   then_there : (d c : ℕ) (s : Spot) (x : Prepared) (go : Hand → Spot → Prepared) → MadeAt s c x → ((h : Hand) → Good c h → Made (after d c) (go h s)) → Made (after d c) (and_then go x)
   then_there d c s (ready h s2) go g w = subst (λ z. Made (after d c) (go h z)) (sym g.0) (w h g.1)
   then_there d c s (requested h) go g w = raised d c h g
   then_there d c s nothing go g w = tt
 
+  -- ready, where something is there
   ready_made : (c : ℕ) (s : Spot) (o : Option Hand) → Gives (Good c) o → Made c (ready_at s o)
   ready_made c s None g = tt
   ready_made c s (Some h) g = g
@@ -199,6 +214,7 @@ module _ {most : ℕ} {W : Type 0} {X : ℕ → Rest → ℕ → Type 0} (k : St
   ready_there c s None g = tt
   ready_there c s (Some h) g = (refl, g)
 
+  -- the spot plays no part
   made_of : (c : ℕ) (s : Spot) (x : Prepared) → MadeAt s c x → Made c x
   made_of c s (ready h s2) g = g.1
   made_of c s (requested h) g = g
@@ -211,6 +227,7 @@ module _ {most : ℕ} {W : Type 0} {X : ℕ → Rest → ℕ → Type 0} (k : St
 
   -- POINTERS
 
+  -- a value with the holder of what stands there is put
   puts : (c : ℕ) (s : Spot) (v new : Value) (h : Hand) → value_at h s ≡ Some v → holder_depth new ≡ holder_depth v → Good c h → Gives (Good c) (put_at s new h)
   puts c (in_slot j) v new h e d g = test_gives (Good c) (nat_lt j (length h.thread.slots)) _ (λ z. let a = g.0 in (record { pc_so = a.pc_so; slots_so = set_depths h.thread.slots j v new e d ∙ a.slots_so; temps_so = a.temps_so }, g.1))
   puts c on_top v new h e d g = let a = g.0 in (record { pc_so = a.pc_so; slots_so = a.slots_so; temps_so = top_depths h.thread.temps v new e d ∙ a.temps_so }, g.1)
@@ -228,6 +245,7 @@ module _ {most : ℕ} {W : Type 0} {X : ℕ → Rest → ℕ → Type 0} (k : St
   puts c (in_copy w) v new h e d g = tt
   puts c nowhere v new h e d g = tt
 
+  -- a pointer gets a word
   pub sets : (c : ℕ) (s : Spot) (w : ℕ) (h : Hand) → Good c h → Gives (Good c) (set_pointer s w h)
   sets c s w h g = then_gives (Good c) (value_at h s) _ (λ v q. then_gives (Good c) (with_word w v) _ (λ new e. puts c s v new h q (word_depth w v new e) g))
 
@@ -236,9 +254,11 @@ module _ {most : ℕ} {W : Type 0} {X : ℕ → Rest → ℕ → Type 0} (k : St
   abbrev NewGood : ℕ → Hand → NewWord → Type 0
   NewGood c h n = Good c (record h { work = n.work })
 
+  -- a renewal is one count
   renewals : (c : ℕ) (p : BoxPtr) (h : Hand) → Good c h → Gives (NewGood (suc c) h) (issue_renewal p h.work)
   renewals c p h g = test_gives (NewGood (suc c) h) (leads_here h.work.rest.partition p.word && (is_last h.work.rest.partition p.word && can_grow h.work.rest.partition)) _ (λ on. let g2 : Good (suc c) (record h { work = record h.work { rest = record h.work.rest { partition = renewed h.work.rest.partition p.word } } }) = (g.0, k.renews p.word c h.work.rest h.thread.passed g.1) in g2)
 
+  -- a new word is one at most
   colours : (c : ℕ) (p : BoxPtr) (h : Hand) → Good c h → Gives (NewGood (suc c) h) (issue_colour p h.work)
   colours c p h g = by (nat_lt _ h.work.rest.partition.limit)
     where
@@ -246,11 +266,13 @@ module _ {most : ℕ} {W : Type 0} {X : ℕ → Rest → ℕ → Type 0} (k : St
       by true = up c h g
       by false = renewals c p h g
 
+  -- a pointer gets the new word
   words : (c : ℕ) (s : Spot) (n : NewWord) (h : Hand) → NewGood c h n → Gives (Good c) (put_word s n h)
   words c s n h g = sets c s n.word (record h { work = n.work }) g
 
   -- REQUESTS
 
+  -- a request changes no count
   asks_copy : (c : ℕ) (h : Hand) (o : Option BoxPtr) → Good c h → Made c (request_by ask_copy h o)
   asks_copy c h None g = tt
   asks_copy c h (Some p) g = (g.0, k.sends _ _ c h.work.rest h.thread.passed g.1)
@@ -264,9 +286,11 @@ module _ {most : ℕ} {W : Type 0} {X : ℕ → Rest → ℕ → Type 0} (k : St
 
   -- CLEANING
 
+  -- a reference is tinted, which is no count
   tinted : (c : ℕ) (s : Spot) (q : MutRef) (h : Hand) → Good c h → MadeAt s c (ready_at s (put_word s (issue_tint (box_of q) h.work) h))
   tinted c s q h g = ready_there c s (put_word s (issue_tint (box_of q) h.work) h) (words c s (issue_tint (box_of q) h.work) h g)
 
+  -- one at its last colour is renewed, or asked for
   last_cleans : (c : ℕ) (s : Spot) (q : MutRef) (h : Hand) → Good c h → MadeAt s (suc c) (clean_last s q h)
   last_cleans c s q h g = by (server_of q.word == h.work.rest.number)
     where
@@ -276,6 +300,7 @@ module _ {most : ℕ} {W : Type 0} {X : ℕ → Rest → ℕ → Type 0} (k : St
           (bind_gives (NewGood (suc c) h) (Good (suc c)) (issue_renewal (box_of q) h.work) (λ n. put_word s n h) (renewals c (box_of q) h g) (λ n u. words (suc c) s n h u))
       by false = up_there c s (requested (ask_object (box_of q) h)) (asked_there c s (box_of q) h g)
 
+  -- cleaning is one count at most
   cleans_by : (c : ℕ) (a : Cleaned) (s : Spot) (q : MutRef) (h : Hand) → Good c h → MadeAt s (suc c) (cleaned_by a s q h)
   cleans_by c cleaned.Same s q h g = (refl, up c h g)
   cleans_by c (cleaned.Tinted w) s q h g = up_there c s (ready_at s (put_word s (issue_tint (box_of q) h.work) h)) (tinted c s q h g)
@@ -296,6 +321,7 @@ module _ {most : ℕ} {W : Type 0} {X : ℕ → Rest → ℕ → Type 0} (k : St
   cleans_away_by c cleaned.MustRenew s q h e g =
       subst (λ b. Made c (if b then ready_at s (then_some (issue_renewal (box_of q) h.work) (λ n. put_word s n h)) else requested (ask_object (box_of q) h))) (sym e) (made_of c s (requested (ask_object (box_of q) h)) (asked_there c s (box_of q) h g))
 
+  -- and none where the object is elsewhere
   cleans_away : (c : ℕ) (s : Spot) (q : MutRef) (h : Hand) → (server_of q.word == h.work.rest.number) ≡ false → Good c h → Made c (clean_value s (Some (value.Mut q)) h)
   cleans_away c s q h e g = by (nat_lt _ h.work.rest.partition.limit)
     where
@@ -303,11 +329,13 @@ module _ {most : ℕ} {W : Type 0} {X : ℕ → Rest → ℕ → Type 0} (k : St
       by true = cleans_away_by c (cleaned_answer h.work.rest.partition.limit q) s q h e g
       by false = tt
 
+  -- a clean pointer is read without a tint
   copy_no_tint : (n w u : ℕ) (cs : List Copy) (b d : Bool) → (if b then hop.Direct w else (if d then hop.Hit w else hop.NeedCopy w)) ≡ hop.NeedTint u → ⊥
   copy_no_tint n w u cs true d e = cc e
   copy_no_tint n w u cs false true e = cc e
   copy_no_tint n w u cs false false e = cc e
 
+  -- where a read tints first, the object is elsewhere
   away : (n u : ℕ) (cs : List Copy) (q : MutRef) → read_hop n cs (value.Mut q) ≡ Some (hop.NeedTint u) → (server_of q.word == n) ≡ false
   away n u cs q e = by q.dirty (some_same e)
     where
@@ -319,6 +347,7 @@ module _ {most : ℕ} {W : Type 0} {X : ℕ → Rest → ℕ → Type 0} (k : St
       by true h = here (server_of q.word == n) refl h
       by false h = absurd (copy_no_tint n q.word u cs (server_of q.word == n) (Rattle.read_cache.specs.Cache.is_cached cs q.word) h)
 
+  -- so a tint before a read is no count
   tint_first : (c : ℕ) (s : Spot) (v : Value) (u : ℕ) (h : Hand) → read_hop h.work.rest.number h.work.rest.cache v ≡ Some (hop.NeedTint u) → Good c h → Made c (clean_value s (Some v) h)
   tint_first c s (value.Mut q) u h e g = cleans_away c s q h (away h.work.rest.number u h.work.rest.cache q e) g
   tint_first c s _ u h e g = g
@@ -334,6 +363,7 @@ module _ {most : ℕ} {W : Type 0} {X : ℕ → Rest → ℕ → Type 0} (k : St
   same_at (in_copy w) f (Some p) h = refl
   same_at nowhere f (Some p) h = refl
 
+  -- a hop that is noted
   hops : (c : ℕ) (f : BoxPtr → Act) (o : Option BoxPtr) (h : Hand) → Good c h → Good c (hopped (λ p. note (f p)) o h)
   hops c f None h g = g
   hops c f (Some p) h g = g
@@ -341,6 +371,7 @@ module _ {most : ℕ} {W : Type 0} {X : ℕ → Rest → ℕ → Type 0} (k : St
   local_good : (c : ℕ) (v : Value) (h : Hand) → Good c h → Good c (local v h)
   local_good c v h g = hops c (λ p. act.Local p.object p.word) (pointer_of v) h g
 
+  -- a use more of a copy leaves a reference where it stands
   with_pin : (s : Spot) (w : ℕ) (q : SharedRef) (h : Hand) → value_at h s ≡ Some (value.Shared q) → value_at (working (with_cache (pin h.work.rest.cache w)) h) s ≡ Some (value.Shared q)
   with_pin (in_slot j) w q h e = e
   with_pin on_top w q h e = e
@@ -352,20 +383,24 @@ module _ {most : ℕ} {W : Type 0} {X : ℕ → Rest → ℕ → Type 0} (k : St
       by (Some x) d = cc d
   with_pin nowhere w q h e = absurd (cc e)
 
+  -- a reference pins once
   pins_once : (c : ℕ) (s : Spot) (q : SharedRef) (b : Bool) (h : Hand) → value_at h s ≡ Some (value.Shared q) → Good c h → Gives (Good (suc c)) (pinned_once s q b h)
   pins_once c s q true h e g = up c h g
   pins_once c s q false h e g =
       test_gives (Good (suc c)) (can_pin h.work.rest.cache q.word) _ (λ on.
       puts (suc c) s (value.Shared q) (value.Shared (record q { pinned = true })) (working (with_cache (pin h.work.rest.cache q.word)) h) (with_pin s q.word q h e) refl (g.0, k.pins q.word c h.work.rest h.thread.passed g.1))
 
+  -- a word is used once
   pub uses : (c w : ℕ) (b : Bool) (h : Hand) → Good c h → Gives (Good (suc c)) (used_once w b h)
   uses c w true h g = up c h g
   uses c w false h g = test_gives (Good (suc c)) (can_pin h.work.rest.cache w) _ (λ on. (g.0, k.pins w c h.work.rest h.thread.passed g.1))
 
+  -- a copy is pinned or used
   copy_used : (c : ℕ) (s : Spot) (v : Value) (w : ℕ) (h : Hand) → value_at h s ≡ Some v → Good c h → Gives (Good (suc c)) (use_copy s v w h)
   copy_used c s (value.Shared q) w h e g = pins_once c s q q.pinned h e g
   copy_used c s _ w h e g = uses c w (is_in w h.thread.walk) h g
 
+  -- a star of a read is one count at most
   reads_by : (c : ℕ) (s : Spot) (v : Value) (o : Option Hop) (h : Hand) → value_at h s ≡ Some v → Good c h → Made (suc c) (read_by s v o h)
   reads_by c s v (Some (hop.Slot i)) h e g = up c h g
   reads_by c s v (Some (hop.Direct w)) h e g = local_good (suc c) v h (up c h g)
@@ -396,11 +431,13 @@ module _ {most : ℕ} {W : Type 0} {X : ℕ → Rest → ℕ → Type 0} (k : St
 
   -- BORROWS
 
+  -- a shared borrow cleans the pointer at the end
   reads_pointer : (w : Lval) (d c : ℕ) (h : Hand) → Good c h → Made (after 1 (after d c)) (read_pointer w d h)
   reads_pointer w zero c h g = up c h g
   reads_pointer w (suc d) c h g =
       then_made 1 (after d (suc c)) (read_stars d h (in_slot w.slot)) _ (reads_stars d (suc c) h (in_slot w.slot) (up c h g)) (λ h2 s u. made_of _ s (clean_value s (value_at h2 s) (load_at s h2)) (cleans (after d (suc c)) s (value_at h2 s) (load_at s h2) u))
 
+  -- the pointer of a mutable borrow
   lends_by : (c : ℕ) (s : Spot) (v : Value) (o : Option Hop) (h : Hand) → Good c h → Made c (lend_by s v o h)
   lends_by c s v None h g = tt
   lends_by c s v (Some (hop.NeedMove w)) h g = by (is_taken h.thread.phase)
@@ -483,15 +520,18 @@ module _ {most : ℕ} {W : Type 0} {X : ℕ → Rest → ℕ → Type 0} (k : St
 
 -- made ready or asked for, with at most one count more than there are stars
 module _ {most : ℕ} {W : Type 0} {X : ℕ → Rest → ℕ → Type 0} (k : Steps most W X) (y : ThreadState) where
+  -- a count more may be
   up_made : (c : ℕ) (p : Prepared) → Made k y c p → Made k y (suc c) p
   up_made c (ready h s) g = up k y c h g
   up_made c (requested h) g = up k y c h g
   up_made c nothing g = tt
 
+  -- the order of counts plays no part
   swap : (d c : ℕ) → after d (suc c) ≡ suc (after d c)
   swap zero c = refl
   swap (suc d) c = swap d (suc c)
 
+  -- all accesses
   pub prepare_made : (a : Option Access) (h : Hand) → (Writes a → W) → stars a h ≤ most → Good k y 0 h → Made k y (suc (after (stars a h) 0)) (prepare a h)
   prepare_made None h w l g = up k y 0 h g
   prepare_made (Some (ReadTo p)) h w l g = up_made _ (read_stars p.depth h (in_slot p.slot)) (reads_stars k y p.depth 0 h (in_slot p.slot) g)

@@ -55,13 +55,16 @@ pub record Turns (code : List Instr) (o : Options) (s : Server) (P : ThreadState
   pub comes : (t : ℕ) (y : ThreadState) → thread_in s.threads t ≡ Some y → P y → (v : ℕ) (c : Cell) (h : Hand) → h.thread ≡ y → Gives (λ (h2 : Hand). P h2.thread) (deliver_moved code v c h)
   pub copied : (t : ℕ) (y : ThreadState) → thread_in s.threads t ≡ Some y → P y → (v : ℕ) (c : Cell) (h : Hand) → h.thread ≡ y → Gives (λ (h2 : Hand). P h2.thread) (deliver_fetched v c h)
   pub answered : (t : ℕ) (y : ThreadState) (g : Option Owned) (p : Phase) → thread_in s.threads t ≡ Some y → P y → in_walk y.phase ≡ false → P (record y { gift = g; phase = p })
+  -- a thread arrives
   pub arrives : (t : ThreadState) → Q s.rest.number t → P t
   pub starts : (t n : ℕ) (y : ThreadState) (i : Instr) (u pc : ℕ) (vs : List Value) → thread_in s.threads t ≡ Some y → P y → slice_get code y.pc ≡ Some i → StartsAt i pc → AreCaptured vs → Q n (new_thread u pc vs)
   pub leaves : (t n : ℕ) (y : ThreadState) → thread_in s.threads t ≡ Some y → P y → is_ready y.phase ≡ true → Q n (packed (record y { moved_since_step = true }))
 
+-- answers are no parcels
 replies : (Q : ℕ → ThreadState → Type 0) → Replies (Parcel Q)
 replies Q = record { fetched = λ s w c t. tt; moved = λ s w c t. tt; granted = λ s m v t. tt; dupped = λ s m t. tt; joined = λ s u v t. tt; drop = λ w o. tt; release = λ m. tt; let_go = λ u. tt }
 
+-- nor are requests
 requests : (Q : ℕ → ThreadState → Type 0) (n : ℕ) (y : ThreadState) (i : Instr) → Requests (Parcel Q) n y i
 requests Q n y i = record { replies = replies Q; fetch = λ p e. tt; move = λ p e. tt; lock = λ m. tt; dup = λ m. tt; unlock = λ m v. tt; join = λ u. tt; finished = λ o e v. tt }
 
@@ -78,6 +81,7 @@ join_waits : (p : Phase) (u : ℕ) → waits_for_join p u ≡ true → in_walk p
 join_waits (phase.WaitJoin x) u e = refl
 join_waits p u e = absurd (cc e)
 
+-- nor who waits for a pair
 pair_waits : (u : ℕ) (p : Phase) → Gives (λ (q : Phase). in_walk p ≡ false) (got_par u p)
 pair_waits u (phase.WaitPar a b) = test_gives (λ (q : Phase). in_walk (phase.WaitPar a b) ≡ false) ((a == u) || (b == u)) _ (λ w. refl)
 pair_waits u p = tt
@@ -98,12 +102,14 @@ module _ (code : List Instr) (o : Options) (s : Server) (P : ThreadState → Typ
   abbrev Good : Hand → Type 0
   Good h = P h.thread
 
+  -- threads and messages
   together : (t : Option ℕ) (x : Option Site) → Gives Standing_all x → Gives Posted x → Gives Then (option_map (left_by s.events t None) x)
   together t None a b = tt
   together t (Some x) a b = record { standing = a; mail = b }
 
   -- STEPS
 
+  -- a thread steps
   stepping : (t : ℕ) → Gives Then (does code o s (Step t))
   stepping t = by (thread_in s.threads t) refl
     where
@@ -125,9 +131,11 @@ module _ (code : List Instr) (o : Options) (s : Server) (P : ThreadState → Typ
 
   -- DELIVERIES
 
+  -- what changes no thread
   beside : (f : Work → Option Work) (w : Work) → Gives Standing_all (beside_threads f (record { work = w; threads = s.threads }))
   beside f w = map_gives Standing_all (f w) _ (λ v q. held.standing)
 
+  -- what changes one thread
   at : (t : ℕ) (f : Hand → Option Hand) (w : Work) → ((y : ThreadState) → thread_in s.threads t ≡ Some y → P y → Gives Good (f (record { work = w; thread = y }))) → Gives Standing_all (at_thread t f (record { work = w; threads = s.threads }))
   at t f w go = by (thread_in s.threads t) refl
     where
@@ -135,13 +143,16 @@ module _ (code : List Instr) (o : Options) (s : Server) (P : ThreadState → Typ
       by None q = tt
       by (Some y) q = over_gives Good Standing_all (f (record { work = w; thread = y })) (put_back s.threads) (go y q (found_all P s.threads t y held.standing q)) (λ h a. set_all P s.threads h.thread held.standing a)
 
+  -- a gift comes
   gift : (t : ℕ) (y : ThreadState) (v : Owned) (g : Option Owned) (w : Work) → thread_in s.threads t ≡ Some y → P y → in_walk y.phase ≡ false → Gives Good (given v g (record { work = w; thread = y }))
   gift t y v None w q p e = k.answered t y (Some v) phase.Got q p e
   gift t y v (Some u) w q p e = tt
 
+  -- a pair is over
   goes_on : (t u : ℕ) (y : ThreadState) (w : Work) → thread_in s.threads t ≡ Some y → P y → Gives Good (pair_over u (record { work = w; thread = y }))
   goes_on t u y w q p = over_gives (λ (r : Phase). in_walk y.phase ≡ false) Good (got_par u y.phase) _ (pair_waits u y.phase) (λ r e. k.answered t y y.gift r q p e)
 
+  -- a thread has ended
   ends : (u : ℕ) (v : Owned) (w : Work) → Gives Standing_all (deliver_finished u v (record { work = w; threads = s.threads }))
   ends u v w = then_gives Standing_all (ended w.rest.tasks u v) _ (λ p q. by p.0 p.1)
     where
@@ -154,6 +165,7 @@ module _ (code : List Instr) (o : Options) (s : Server) (P : ThreadState → Typ
   arrives : (t : ThreadState) (w : Work) → Q n t → Gives Standing_all (arrive t (record { work = w; threads = s.threads }))
   arrives t w q = stand_gives Standing_all (thread_in s.threads t.number) t (record { work = w; threads = s.threads }) (with_all P s.threads t held.standing (k.arrives t q))
 
+  -- all messages
   delivers : (m : Message) (w : Work) → Parcel Q n m → Gives Standing_all (deliver_message code m (record { work = w; threads = s.threads }))
   delivers (message.Fetch v b r t) w q = beside (deliver_fetch v b r t) w
   delivers (message.Fetched v c t) w q = at t (deliver_fetched v c) w (λ y e p. k.copied t y e p v c (record { work = w; thread = y }) refl)
@@ -206,6 +218,7 @@ module _ (code : List Instr) (o : Options) (s : Server) (P : ThreadState → Typ
             mail = mail_sent (Parcel Q) n s.rest.outbox (record s.rest { cache = cs }) target (message.Migrate (packed (record y { moved_since_step = true }))) (k.leaves t target y q (found_all P s.threads t y held.standing q) z) held.mail;
           }
 
+  -- all events
   pub turning : (w : What) → enabled o s w ≡ true → Gives Then (does code o s w)
   turning (Step t) on = stepping t
   turning (Deliver i) on = delivering i
@@ -223,6 +236,7 @@ module _ (Pre : Cluster → Type 0) (is_sound : (k : Cluster) → Pre k → IsSo
   abbrev Weightless : Cluster → Type 0
   Weightless c = tot (on_standing (f c.code)) (things_of c) ≡ 0
 
+  -- the event at its server
   acted : (k : Cluster) (e : Event) → Pre k → FewEvents k → Gives (λ (d : Cluster × EntryView). Weightless d.0) (act_at k e)
   acted k e pre few =
       let g = on_standing (f k.code) in
@@ -234,6 +248,7 @@ module _ (Pre : Cluster → Type 0) (is_sound : (k : Cluster) → Pre k → IsSo
       turning k.code k.options s (Stood (f k.code) s.rest.number) (InParcel (f k.code)) (keeps.turns k e.server s pre few here) (from_server (f k.code) s before) e.what on))
       (λ r held. omega (arith, all, (tot-server g k.servers e.server s r.0 here).0, (tot-server g k.servers e.server s r.0 here).1, to_server (f k.code) s.rest.number s.rest.outbox r.0 held)))
 
+  -- with its messages handed over
   pub threads_turn : (k : Cluster) (e : Event) → Pre k → FewEvents k → Gives (λ (d : Cluster × EntryView). tot (f d.0.code) (threads_in (things_of d.0)) ≡ 0) (apply k e)
   threads_turn k e pre few =
       weaker (λ (d : Cluster × EntryView). Weightless d.0) (λ (d : Cluster × EntryView). tot (f d.0.code) (threads_in (things_of d.0)) ≡ 0) (apply k e)

@@ -15,6 +15,7 @@ Once cs = (v : ℕ) → tot (same_word v) cs ≤ 1
 
 -- WORDS STAY
 
+-- other users leave the words
 same_words : (cs : List Copy) (w n v : ℕ) → tot (same_word v) (with_users cs w n) ≡ tot (same_word v) cs
 same_words [] w n v = refl
 same_words (c ∷ cs) w n v = by (c.word == w) (same_words cs w n v)
@@ -23,6 +24,7 @@ same_words (c ∷ cs) w n v = by (c.word == w) (same_words cs w n v)
     by true e = refl
     by false e = omega (arith, e)
 
+-- each word stays once where users change
 pub once_users : (cs : List Copy) (w n : ℕ) → Once cs → Once (with_users cs w n)
 once_users cs w n a v = omega (arith, same_words cs w n v, a v)
 
@@ -36,6 +38,7 @@ once_unpinned (v ∷ ws) cs ds e a = by (can_unpin cs v) (λ d. once_unpinned ws
 
 -- A WORD MORE
 
+-- a new copy adds no other word
 other_fill : (cs : List Copy) (w v : ℕ) (c : Cell) → (w == v) ≡ false → tot (same_word v) (fill cs w c) ≡ tot (same_word v) cs
 other_fill [] w v c e = omega (arith, ap one e)
 other_fill (x ∷ cs) w v c e = by (x.word == w) (other_fill cs w v c e)
@@ -48,6 +51,7 @@ one_most : (b : Bool) → one b ≤ 1
 one_most true = omega arith
 one_most false = omega arith
 
+-- and its own only where that is missing
 fill_once : (cs : List Copy) (w v : ℕ) (c : Cell) → tot (same_word v) cs ≤ 1 → tot (same_word v) (fill cs w c) ≤ 1
 fill_once [] w v c a = omega (arith, one_most (w == v))
 fill_once (x ∷ cs) w v c a = by (λ z. fill_once cs w v c z) (x.word == w) refl
@@ -68,6 +72,7 @@ once_filled cs w c a v = fill_once cs w v c (a v)
 
 -- A COPY LESS
 
+-- a copy less adds no word
 without_less : (cs : List Copy) (w v : ℕ) → tot (same_word v) (without_copy cs w) ≤ tot (same_word v) cs
 without_less [] w v = omega arith
 without_less (c ∷ cs) w v = by (c.word == w) (without_less cs w v)

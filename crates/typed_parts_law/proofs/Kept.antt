@@ -33,10 +33,12 @@ use Rattle.typed_parts_law.proofs.Servers.{ServerTyped, AllTyped, all_to, with_t
 use Rattle.typed_parts_law.proofs.Start.{differ, servers_typed, server_number, typed_here, starts_typed}
 use Rattle.typed_parts_law.proofs.Pins.{pins_kept}
 
+-- free addresses that have colours
 none_coloured : (xs : List (ℕ × ℕ)) → AllByRecursion Coloured xs → tot free_colours xs ≡ 0
 none_coloured [] a = refl
 none_coloured (x ∷ xs) a = omega (arith, ap one a.0, none_coloured xs a.1)
 
+-- of another server
 other_number : (m n : ℕ) → (m ≡ n → ⊥) → one (n == m) ≡ 0
 other_number m n ne = eq_cases (λ b. one b ≡ 0) n m (λ e. absurd (ne (sym e))) (λ q. refl)
 
@@ -125,6 +127,7 @@ module _ (k : Cluster) (e : Event) (sound : IsSound k) (few : FewEvents k) where
         (both_give Left (λ (r : Server × EntryView). GoTo (with_server k.servers e.server r.0) (drop (length s.rest.outbox) r.0.rest.outbox)) _ (done_at k e.what s) left (each_event_sends k e sound few s here) (λ r a b. (a, b)))
         (λ r u. fine r u.0 u.1)
 
+  -- the event, with its messages handed over
   servers_kept : Gives Fine (apply k e)
   servers_kept = by (server_at k.servers e.server) refl
     where
@@ -132,6 +135,7 @@ module _ (k : Cluster) (e : Event) (sound : IsSound k) (few : FewEvents k) where
       by None q = tt
       by (Some s) q = done s q
 
+-- servers and parcels together
 pub parts_kept : EachEventKeeps parts_are_typed
 parts_kept k e sound few =
     both_give (λ (d : Cluster × EntryView). servers_wrong (sight d.0) 0 d.0.servers ≡ 0) (λ (d : Cluster × EntryView). tot pinned_parcel (threads_in (things_of d.0)) ≡ 0) (λ (d : Cluster × EntryView). Holds d.0 parts_are_typed) (apply k e)

@@ -23,6 +23,7 @@ some_gone e = cc e
 abbrev pub count_of : Mutex → ℕ
 count_of m = m.number.count
 
+-- another state of a mutex leaves the numbers
 pub counts_stay : (xs : List Mutex) (new : Mutex) → numbers_of count_of (with_mutex xs new) ≡ numbers_of count_of xs
 counts_stay [] new = refl
 counts_stay (x ∷ xs) new = by (same_mutex x.number new.number) refl (counts_stay xs new)
@@ -39,6 +40,7 @@ counts_stay (x ∷ xs) new = by (same_mutex x.number new.number) refl (counts_st
     by true e h = ap (λ n. n ∷ numbers_of count_of xs) (same e)
     by false e h = ap (λ l. x.number.count ∷ l) h
 
+-- a mutex less
 pub mutex_less : (xs : List Mutex) (m : MutexNo) → Less (without_mutex xs m) xs
 mutex_less [] m = less_none
 mutex_less (x ∷ xs) m = by (same_mutex x.number m) (mutex_less xs m)
@@ -52,6 +54,7 @@ module _ (K : Mutexes → Type 0) (puts : (ms : Mutexes) (x : Mutex) → K ms �
   abbrev pub LeftBy : {X : Type 0} → Mutexes × X → Type 0
   LeftBy p = K p.0
 
+  -- a lock, an unlock, a share more and a share less
   pub asks : (ms : Mutexes) (m : MutexNo) (s t : ℕ) → K ms → Gives LeftBy (ask ms m s t)
   asks ms m s t a = by (mutex_in ms.there m)
     where
@@ -109,6 +112,7 @@ module _ (K : Mutexes → Type 0) (puts : (ms : Mutexes) (x : Mutex) → K ms �
 abbrev pub name_of : Task → ℕ
 name_of t = t.thread
 
+-- another state of a task leaves the numbers
 pub tasks_stay : (xs : List Task) (t : ℕ) (s : TaskState) → numbers_of name_of (with_state xs t s) ≡ numbers_of name_of xs
 tasks_stay [] t s = refl
 tasks_stay (x ∷ xs) t s = by (x.thread == t) refl (tasks_stay xs t s)
@@ -117,6 +121,7 @@ tasks_stay (x ∷ xs) t s = by (x.thread == t) refl (tasks_stay xs t s)
     by true e h = let same : t ≡ x.thread = grind (arith, nat_tests, e) in ap (λ n. n ∷ numbers_of name_of xs) same
     by false e h = ap (λ l. x.thread ∷ l) h
 
+-- a task less
 pub task_less : (xs : List Task) (t : ℕ) → Less (without_task xs t) xs
 task_less [] t = less_none
 task_less (x ∷ xs) t = by (x.thread == t) (task_less xs t)
@@ -130,6 +135,7 @@ module _ (K : List Task → Type 0) (states : (xs : List Task) (t : ℕ) (s : Ta
   abbrev LeftOf : {X : Type 0} → List Task × X → Type 0
   LeftOf p = K p.0
 
+  -- a join, a task let go, and a thread that is over
   pub joins : (xs : List Task) (t s by_thread : ℕ) → K xs → Gives LeftOf (tasks.ask xs t s by_thread)
   joins xs t s by_thread a = by (state_of xs t)
     where
@@ -173,6 +179,7 @@ module _ (K : List Task → Type 0) (states : (xs : List Task) (t : ℕ) (s : Ta
 abbrev pub number_of : ThreadState → ℕ
 number_of t = t.number
 
+-- another state of a thread leaves the numbers
 pub threads_stay : (ts : List ThreadState) (new : ThreadState) → numbers_of number_of (set_thread ts new) ≡ numbers_of number_of ts
 threads_stay [] new = refl
 threads_stay (x ∷ ts) new = by (x.number == new.number) refl (threads_stay ts new)
@@ -181,6 +188,7 @@ threads_stay (x ∷ ts) new = by (x.number == new.number) refl (threads_stay ts 
     by true e h = let same : new.number ≡ x.number = grind (arith, nat_tests, e) in ap (λ n. n ∷ numbers_of number_of ts) same
     by false e h = ap (λ l. x.number ∷ l) h
 
+-- a thread less
 pub thread_less : (ts : List ThreadState) (t : ℕ) → Less (without_thread ts t) ts
 thread_less [] t = less_none
 thread_less (x ∷ ts) t = by (x.number == t) (thread_less ts t)
@@ -212,6 +220,7 @@ comes_from n (x ∷ ts) new e l z = by (λ a b c. comes_from x.number ts new a b
             by_test true h = grind (arith, nat_tests, h)
             by_test false h = absurd (ne (grind (arith, nat_tests, h, q)))
 
+-- the same before the first one
 pub comes_rise : (ts : List ThreadState) (new : ThreadState) → thread_in ts new.number ≡ None → Rises number_of ts → Rises number_of (with_thread ts new)
 comes_rise [] new e z = refl
 comes_rise (x ∷ ts) new e z = by (nat_lt new.number x.number) refl

@@ -35,10 +35,12 @@ Free v = one (is_pinned v) ≡ 0
 some_same : {X : Type 0} {a b : X} → Some a ≡ Some b → a ≡ b
 some_same e = cc
 
+-- an owned value pins nothing
 owned_free : (v : Owned) (b : Bool) (u : Value) → (Rattle.std.specs.Prelude.if◌then◌else◌ b (Some (value.Own v)) None) ≡ Some u → Free u
 owned_free v true u e = subst Free (some_same e) refl
 owned_free v false u e = absurd (cc e)
 
+-- nor does a second value
 second_free : (v u : Value) → second_of v ≡ Some u → Free u
 second_free (value.Own v) u e = owned_free v (owns_nothing v) u e
 second_free (value.SharedSlot i) u e = subst Free (some_same e) refl
@@ -48,6 +50,7 @@ second_free (value.MutSlot i) u e = absurd (cc e)
 second_free (value.Mut r) u e = absurd (cc e)
 second_free (value.Held m) u e = absurd (cc e)
 
+-- nor what is captured
 captured_free : (branch moves : Bool) (v u : Value) → captured branch moves v ≡ Some u → Free u
 captured_free branch true (value.Own v) u e = subst Free (some_same e) refl
 captured_free branch false (value.Own v) u e = second_free (value.Own v) u e
@@ -79,12 +82,14 @@ captured_free false false (value.Held m) u e = absurd (cc e)
 abbrev NoPins : List Value × List Value → Type 0
 NoPins p = pins p.0 ≡ 0
 
+-- so captures pin nothing, one by one
 captures_free : (branch : Bool) (new : List Value) (cs : List (ℕ × Bool)) (slots : List Value) → pins new ≡ 0 → Gives NoPins (capture_from branch new cs slots)
 captures_free branch new [] slots z = z
 captures_free branch new (c ∷ cs) slots z =
     then_gives NoPins (slice_get slots c.0) _ (λ v q. then_gives NoPins (captured branch c.1 v) _ (λ u e.
     captures_free branch (new ++ u ∷ []) cs (left_after c.1 slots c.0) (omega (arith, z, tot-append (λ (x : Value). one (is_pinned x)) new (u ∷ []), captured_free branch c.1 v u e))))
 
+-- all captured values
 pub are_captured_free : (vs : List Value) → AreCaptured vs → pins vs ≡ 0
 are_captured_free vs c = by (capture_from c.0 [] c.1 c.2) (captures_free c.0 [] c.1 c.2 refl) c.4
   where
@@ -94,6 +99,7 @@ are_captured_free vs c = by (capture_from c.0 [] c.1 c.2) (captures_free c.0 [] 
 
 -- WHAT IS PACKED
 
+-- what is unpinned pins nothing
 unpinned_free : (v : Value) → Free (unpinned v)
 unpinned_free (value.Shared r) = refl
 unpinned_free value.Gone = refl
@@ -103,16 +109,19 @@ unpinned_free (value.MutSlot i) = refl
 unpinned_free (value.Mut r) = refl
 unpinned_free (value.Held m) = refl
 
+-- nor all values of a packed thread
 packed_free : (vs : List Value) → pins (map unpinned vs) ≡ 0
 packed_free [] = refl
 packed_free (v ∷ vs) = omega (arith, unpinned_free v, packed_free vs)
 
 -- IN A CLUSTER
 
+-- what holds of everything holds of a result
 all_give : {X : Type 0} (P : X → Type 0) (o : Option X) → ((x : X) → P x) → Gives P o
 all_give P None f = tt
 all_give P (Some x) f = f x
 
+-- each event leaves parcels without pins
 pins_keep : ThreadsTurn IsSound (λ code. pinned_parcel)
 pins_keep = record {
   before = λ k sound.

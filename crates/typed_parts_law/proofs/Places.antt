@@ -65,9 +65,11 @@ left_retired n limit w r = by (nat_lt (colour_of w + 1) limit)
     by false = omega (arith, self_one n)
 
 module _ (n : ℕ) (p : PartitionState) (g : Exact n p) where
+  -- each address has at most one state
   few : (a : ℕ) → tot (states (n, a)) (partition_things n p) ≤ 1
   few a = omega (arith, g.placed a, one_most (nat_lt a (length p.cells)))
 
+  -- an object leaves
   pub exact_freed : (w : ℕ) (c : Cell) → look p w ≡ Some c → Exact n (freed p w)
   exact_freed w c e =
       let here = looked p w c e in
@@ -96,6 +98,7 @@ module _ (n : ℕ) (p : PartitionState) (g : Exact n p) where
       got (Some c ∷ cs) zero l none = absurd (none c refl)
       got (x ∷ cs) (suc a) l none = got cs a (omega (arith, l)) none
 
+  -- so the free address that is next is empty
   next_empty : (pair : ℕ × ℕ) (rest : List (ℕ × ℕ)) → p.free ≡ pair ∷ rest → slice_get p.cells pair.0 ≡ Some None
   next_empty pair rest q =
       let a = pair.0 in
@@ -112,6 +115,7 @@ module _ (n : ℕ) (p : PartitionState) (g : Exact n p) where
       below true e l = grind (arith, nat_tests, e)
       below false e l = absurd (omega (arith, l))
 
+  -- a cell that is put leaves no address out
   put_long : (cells : List (Option Cell)) (a : ℕ) (c : Cell) → length cells ≤ length (put_cell cells a c)
   put_long cells a c = by (a == length cells)
     where
@@ -119,11 +123,13 @@ module _ (n : ℕ) (p : PartitionState) (g : Exact n p) where
       by true = omega (arith, length-append cells (Some c ∷ []))
       by false = omega (arith, length_set cells a (Some c))
 
+  -- at the end there is one more
   put_next : (cells : List (Option Cell)) (c : Cell) → length (put_cell cells (length cells) c) ≡ length cells + 1
   put_next cells c =
       eq_cases (λ b. length (if b then cells ++ Some c ∷ [] else slice_set cells (length cells) (Some c)) ≡ length cells + 1) (length cells) (length cells)
       (λ e. omega (arith, length-append cells (Some c ∷ []))) (λ ne. absurd (ne refl))
 
+  -- what is below stays below more
   less_one : (a m k : ℕ) → m ≤ k → one (nat_lt a m) ≤ one (nat_lt a k)
   less_one a m k l = by (nat_lt a m) refl
     where
@@ -149,6 +155,7 @@ module _ (n : ℕ) (p : PartitionState) (g : Exact n p) where
       nothing true = refl
       nothing false = refl
 
+  -- an object comes
   pub exact_made : (c : Cell) → Exact n (made p c)
   exact_made c = by p.free refl (cell_makes n p c p.free next_empty) g.coloured
     where
@@ -213,6 +220,7 @@ leads_look p w e = by (cell_of p w) refl
         none true h = cc h
         none false h = cc h
 
+-- where an object is looked for there is a cell
 object_look : (p : PartitionState) (w : ℕ) (o : ObjNo) (c : Cell) → look_object p w o ≡ Some c → (d : Cell) × (look p w ≡ Some d)
 object_look p w o c e = by (look p w) e
   where
@@ -221,6 +229,7 @@ object_look p w o c e = by (look p w) e
     by (Some d) h = (d, refl)
 
 module _ (n limit : ℕ) (p : PartitionState) (g : IsPart n limit p) where
+  -- the calls of a partition: a value stored, an object freed, made and renewed
   pub part_stores : (w : ℕ) (v : Owned) → leads_here p w ≡ true → IsPart n limit (stored p w v)
   part_stores w v e = let c = leads_look p w e in record { own = g.own; limited = g.limited; exact = exact_stored n p g.exact w v c.0 c.1 }
 

@@ -5,6 +5,7 @@ use Rattle.std.proofs.lemmas.Bool.Decides.{nat_tests}
 use Rattle.heap_law.specs.Names.{other}
 use Rattle.heap_law.specs.Naming.{rising_from, rising, numbers_of}
 
+-- one number below another, as the sentence counts it
 pub is_less : (m n : ℕ) → other (nat_lt m n) ≡ 0 → m < n
 is_less m n z = by (nat_lt m n) refl z
   where
@@ -25,6 +26,7 @@ pub data Less {A : Type 0} : List A → List A → Type 0 where
   less_keep : {x : A} {ys xs : List A} → Less ys xs → Less (x ∷ ys) (x ∷ xs)
   less_skip : {x : A} {ys xs : List A} → Less ys xs → Less ys (x ∷ xs)
 
+-- a list without none
 pub less_self : {A : Type 0} (xs : List A) → Less xs xs
 less_self [] = less_none
 less_self (x ∷ xs) = less_keep (less_self xs)
@@ -40,12 +42,14 @@ module _ {A : Type 0} (f : A → ℕ) where
   abbrev pub Low : ℕ → List A → Type 0
   Low k xs = AllByRecursion (λ x. f x ≤ k) xs
 
+  -- from a smaller number on
   pub lower : (a n : ℕ) (xs : List A) → a ≤ n → RiseFrom n xs → RiseFrom a xs
   lower a n [] l z = refl
   lower a n (x ∷ xs) l z =
       let first : n < f x = is_less n (f x) (omega (arith, z)) in
       omega (arith, z, less_is a (f x) (omega (arith, l, first)))
 
+  -- from some number on is rising
   pub rest_rises : (n : ℕ) (xs : List A) → RiseFrom n xs → Rises xs
   rest_rises n [] z = refl
   rest_rises n (x ∷ xs) z = omega (arith, z)
@@ -58,16 +62,19 @@ module _ {A : Type 0} (f : A → ℕ) where
       let first : n < f x = is_less n (f x) (omega (arith, z)) in
       fewer_from n l (lower n (f x) xs (omega (arith, first)) (omega (arith, z)))
 
+  -- the same from the first one on
   pub fewer_rise : {ys xs : List A} → Less ys xs → Rises xs → Rises ys
   fewer_rise less_none z = refl
   fewer_rise (less_keep {x} {ys} {xs} l) z = fewer_from (f x) l z
   fewer_rise (less_skip {x} {ys} {xs} l) z = fewer_rise l (rest_rises (f x) xs z)
 
+  -- and none is higher
   pub fewer_low : {ys xs : List A} (k : ℕ) → Less ys xs → Low k xs → Low k ys
   fewer_low k less_none a = tt
   fewer_low k (less_keep l) a = (a.0, fewer_low k l a.1)
   fewer_low k (less_skip l) a = fewer_low k l a.1
 
+  -- at most more
   pub low_more : (k m : ℕ) (xs : List A) → k ≤ m → Low k xs → Low m xs
   low_more k m [] l a = tt
   low_more k m (x ∷ xs) l a = (omega (arith, l, a.0), low_more k m xs l a.1)
@@ -77,10 +84,12 @@ module _ {A : Type 0} (f : A → ℕ) where
   last_from n k [] x z a l m = omega (arith, less_is n (f x) l)
   last_from n k (y ∷ xs) x z a l m = omega (arith, z, last_from (f y) k xs x (omega (arith, z)) a.1 (omega (arith, a.0, m)) m)
 
+  -- the same from the first one on
   pub last_rises : (k : ℕ) (xs : List A) (x : A) → Rises xs → Low k xs → k < f x → Rises (xs ++ x ∷ [])
   last_rises k [] x z a m = refl
   last_rises k (y ∷ xs) x z a m = last_from (f y) k xs x z a.1 (omega (arith, a.0, m)) m
 
+  -- and all are at most so much
   pub last_low : (k m : ℕ) (xs : List A) (x : A) → k ≤ m → f x ≤ m → Low k xs → Low m (xs ++ x ∷ [])
   last_low k m [] x l h a = (h, tt)
   last_low k m (y ∷ xs) x l h a = (omega (arith, l, a.0), last_low k m xs x l h a.1)
@@ -89,6 +98,7 @@ module _ {A : Type 0} (f : A → ℕ) where
   pub same_rise : (xs ys : List A) → numbers_of f ys ≡ numbers_of f xs → Rises xs → Rises ys
   same_rise xs ys e z = ap rising e ∙ z
 
+  -- and are at most so much
   pub same_low : (k : ℕ) (xs ys : List A) → numbers_of f ys ≡ numbers_of f xs → Low k xs → Low k ys
   same_low k [] [] e a = tt
   same_low k [] (y ∷ ys) e a = absurd (cc e)

@@ -17,6 +17,7 @@ use Rattle.event_law.proofs.Unseen.{Unseen, none_at, thread_alone, content_none,
 use Rattle.event_law.proofs.Events.{others_of, tot-server}
 use Rattle.value_law.proofs.Counts.{Plain, counts_alone}
 
+-- the next number is another one
 later_none : (m : ℕ) → one (m + 1 == m) ≡ 0
 later_none m = eq_cases (λ b. one b ≡ 0) (m + 1) m (λ e. absurd (omega (arith, e))) (λ ne. refl)
 
@@ -34,6 +35,7 @@ module _ (m : ℕ) where
   u : Unseen f j
   u = unseen m j (later_none m)
 
+  -- messages, mutexes, tasks and threads have nothing retired
   message_none : (n : ℕ) (x : Message) → tot f (message_things n x) ≡ 0
   message_none n (message.Start t) = omega (arith, thread_alone f j u n true t)
   message_none n (message.Migrate t) = omega (arith, thread_alone f j u n true t)
@@ -65,6 +67,7 @@ module _ (m : ℕ) where
   server_plain (counts r next old started made events) p = absurd p
   server_plain x p = refl
 
+  -- of other servers nothing
   pub retired_others : (ss : List Server) → tot (is_server m) (servers_things ss) ≡ 0 → tot f (servers_things ss) ≡ 0
   retired_others [] z = refl
   retired_others (s ∷ ss) z =
@@ -75,6 +78,7 @@ module _ (m : ℕ) where
 self_one : (n : ℕ) → one (n == n) ≡ 1
 self_one n = ap one (eq-eqb n n refl)
 
+-- an address below the next one of a server is of that server
 below_server : (s a : ℕ) (x : Thing) → below (s, a) x ≤ is_server s x
 below_server s a (counts r next n t m e) = by (r == s) (nat_lt a next)
   where

@@ -17,6 +17,7 @@ use Rattle.heap_law.specs.Naming.{free_colours, is_retired, cached_twice, server
 use Rattle.typed_parts_law.proofs.Rising.{Rises}
 use Rattle.typed_parts_law.proofs.Lists.{count_of, name_of, number_of}
 
+-- numbers that are the same, as the sentence counts it
 pub same_number : (a b : ℕ) → other (a == b) ≡ 0 → a ≡ b
 same_number a b z = by (a == b) refl z
   where
@@ -43,6 +44,7 @@ pub record IsTyped (colours retired n number : ℕ) (p : PartitionState) (cs : L
 abbrev pub ServerTyped : ℕ → ℕ → ℕ → Server → Type 0
 ServerTyped colours retired n x = IsTyped colours retired n x.rest.number x.rest.partition x.rest.cache x.rest.mutexes x.rest.tasks x.threads
 
+-- the sentence of one server, and back
 typed_from : (s : Sight) (n : ℕ) (x : Server) → server_wrong s n x ≡ 0 → ServerTyped s.options.colours (sum_over s (is_retired n)) n x
 typed_from s n x z = record {
   numbered = same_number x.rest.number n (omega (arith, z));
@@ -72,6 +74,7 @@ abbrev pub AllTyped : ℕ → (ℕ → ℕ) → ℕ → ℕ → List Server → 
 AllTyped colours retired all n [] = n ≡ all
 AllTyped colours retired all n (x ∷ xs) = ServerTyped colours (retired n) n x × AllTyped colours retired all (n + 1) xs
 
+-- of all servers, and back
 pub all_from : (s : Sight) (n : ℕ) (ss : List Server) → servers_wrong s n ss ≡ 0 → AllTyped s.options.colours (λ m. sum_over s (is_retired m)) s.options.servers n ss
 all_from s n [] z = same_number n s.options.servers z
 all_from s n (x ∷ xs) z = (typed_from s n x (omega (arith, z)), all_from s (n + 1) xs (omega (arith, z)))
@@ -118,6 +121,7 @@ module _ (colours : ℕ) (retired : ℕ → ℕ) (all : ℕ) where
 
 -- messages that wait change nothing of it
 module _ (colours : ℕ) (retired : ℕ → ℕ) (all : ℕ) where
+  -- a message more waits
   accept_typed : (i : ℕ) (ss : List Server) (x : Sent) → AllTyped colours retired all i ss → AllTyped colours retired all i (accept_at ss x)
   accept_typed i [] x g = g
   accept_typed i (s ∷ ss) x g = by (s.rest.number == x.target) (accept_typed (i + 1) ss x g.1)
@@ -126,6 +130,7 @@ module _ (colours : ℕ) (retired : ℕ → ℕ) (all : ℕ) where
       by true h = (g.0, g.1)
       by false h = (g.0, h)
 
+  -- all messages
   pub accepted_typed : (i : ℕ) (ss : List Server) (xs : List Sent) → AllTyped colours retired all i ss → AllTyped colours retired all i (accept_all ss xs)
   accepted_typed i ss [] g = g
   accepted_typed i ss (x ∷ xs) g = accepted_typed i (accept_at ss x) xs (accept_typed i ss x g)

@@ -28,17 +28,21 @@ use Rattle.typed_parts_law.proofs.Lists.{number_of, threads_stay, thread_less, c
 abbrev Stood : Site → Type 0
 Stood x = Rises number_of x.threads
 
+-- another state of a thread
 set_rise : (ts : List ThreadState) (new : ThreadState) → Rises number_of ts → Rises number_of (set_thread ts new)
 set_rise ts new g = same_rise number_of ts (set_thread ts new) (threads_stay ts new) g
 
 -- DELIVERIES
 
+-- what changes no thread
 beside : (f : Work → Option Work) (x : Site) → Stood x → Gives Stood (beside_threads f x)
 beside f x g = map_gives Stood (f x.work) _ (λ w q. g)
 
+-- what changes one thread
 at : (u : ℕ) (f : Hand → Option Hand) (x : Site) → Stood x → Gives Stood (at_thread u f x)
 at u f x g = then_gives Stood (option_map (λ y. record { work = x.work; thread = y }) (thread_in x.threads u)) _ (λ h q. map_gives Stood (f h) _ (λ h2 r. set_rise x.threads h2.thread g))
 
+-- a thread comes in its place, where none has its number
 arrives : (p : ThreadState) (x : Site) → Stood x → Gives Stood (arrive p x)
 arrives p x g = by (thread_in x.threads p.number) refl
   where
@@ -46,6 +50,7 @@ arrives p x g = by (thread_in x.threads p.number) refl
     by None e = comes_rise x.threads p e g
     by (Some y) e = tt
 
+-- a thread has ended
 finishes : (u : ℕ) (v : Owned) (x : Site) → Stood x → Gives Stood (deliver_finished u v x)
 finishes u v x g = then_gives Stood (ended x.work.rest.tasks u v) _ (λ p q. by p.0 p.1)
   where
@@ -55,6 +60,7 @@ finishes u v x g = then_gives Stood (ended x.work.rest.tasks u v) _ (λ p q. by 
     by ts (over.LetGo b) = g
     by ts over.Kept = g
 
+-- all messages
 delivers : (code : List Instr) (m : Message) (x : Site) → Stood x → Gives Stood (deliver_message code m x)
 delivers code (message.Fetch v o s u) x g = beside (deliver_fetch v o s u) x g
 delivers code (message.Fetched v c u) x g = at u (deliver_fetched v c) x g
@@ -78,6 +84,7 @@ delivers code (message.Migrate p) x g = arrives p x g
 abbrev pub Then : Server × EntryView → Type 0
 Then r = Rises number_of r.0.threads
 
+-- threads still stand by rising number
 pub rise_on : (code : List Instr) (o : Options) (s : Server) (e : What) → Rises number_of s.threads → Gives Then (does code o s e)
 rise_on code o s (Step u) g = map_gives Then _ (stepped s) (λ d q. set_rise s.threads d.hand.thread g)
 rise_on code o s (Deliver i) g = over_gives Stood Then _ (left_by s.events None None) (then_gives Stood (slice_get s.rest.inbox i) (λ m. deliver_message code m (received i s)) (λ m q. delivers code m (received i s) g)) (λ x h. h)

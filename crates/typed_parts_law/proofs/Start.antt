@@ -44,15 +44,18 @@ both_weigh : (f g : Thing → ℕ) (b : List Thing) → tot (λ x. f x + g x) b 
 both_weigh f g [] = refl
 both_weigh f g (x ∷ b) = omega (arith, both_weigh f g b)
 
+-- some weight is at least one
 counted_once : (n : ℕ) → other (some n) ≡ 0 → 1 ≤ n
 counted_once zero z = absurd (cc z)
 counted_once (suc n) z = omega arith
 
+-- both is at most the first
 second_less : (a b : Bool) → one (a && b) ≤ one a
 second_less true true = omega arith
 second_less true false = omega arith
 second_less false b = omega arith
 
+-- what a server has started or made is counted by its own counts alone
 starts_its_server : (n c : ℕ) (x : Thing) → started_at n c x ≤ is_server n x
 starts_its_server n c (counts r next old started made events) = second_less (r == n) (nat_le c started)
 starts_its_server n c x = omega arith
@@ -61,6 +64,7 @@ makes_its_server : (n c : ℕ) (x : Thing) → made_at n c x ≤ is_server n x
 makes_its_server n c (counts r next old started made events) = second_less (r == n) (nat_le c made)
 makes_its_server n c x = omega arith
 
+-- a count that is reached is at most that
 reached : (a : Bool) (c m : ℕ) → 1 ≤ one (a && nat_le c m) → c ≤ m
 reached a c m l = by a (nat_le c m) refl l
   where
@@ -80,11 +84,13 @@ module _ (k : Cluster) (sound : IsSound k) (number : ℕ) (s : Server) (here : s
   pub differ : tot (is_server n) b ≤ 1
   differ = let sums = sound_has_sums k sound in sums.servers_differ n
 
+  -- all servers, as the sentence has it
   pub servers_typed : AllTyped k.options.colours (λ m. tot (is_retired m) b) k.options.servers 0 k.servers
   servers_typed =
       let parts : servers_wrong (sight k) 0 k.servers + sum_threads (sight k) pinned_parcel ≡ 0 = sound.parts.parts_are_typed in
       all_from (sight k) 0 k.servers (omega (arith, parts))
 
+  -- the server has that number
   pub server_number : n ≡ number
   server_number = let g = found_typed k.options.colours (λ m. tot (is_retired m) b) k.options.servers 0 number k.servers s servers_typed here in g.numbered
 
@@ -107,6 +113,7 @@ module _ (k : Cluster) (sound : IsSound k) (number : ℕ) (s : Server) (here : s
       reached (n == n) c s.rest.mutexes.made
       (omega (arith, l, (tot-server (made_at n c) k.servers number s s here).0, counts_alone (made_at n c) (made_plain n c) s, tot_le (made_at n c) (is_server n) (makes_its_server n c) others, alone k.servers number s here differ))
 
+  -- each name is counted
   named : tot (threads (uncounted_thread (sight k))) b + tot (named_mutexes (uncounted_mutex (sight k))) b ≡ 0
   named = sound.names.names_counted
 
@@ -114,6 +121,7 @@ module _ (k : Cluster) (sound : IsSound k) (number : ℕ) (s : Server) (here : s
   abbrev mutex_weight : Thing → ℕ
   mutex_weight x = named_mutexes (uncounted_mutex (sight k)) x + elsewhere x
 
+  -- a mutex of the server was made there, so its count is reached
   mutex_low : (i : ℕ) (m : Mutex) → tot mutex_weight (mutex_things n i m) ≡ 0 → m.number.count ≤ s.rest.mutexes.made
   mutex_low i m z =
       let uncounted : uncounted_mutex (sight k) m.number ≡ 0 = omega (arith, z) in
@@ -132,6 +140,7 @@ module _ (k : Cluster) (sound : IsSound k) (number : ℕ) (s : Server) (here : s
   abbrev task_weight : Thing → ℕ
   task_weight x = threads (uncounted_thread (sight k)) x + noted_away x
 
+  -- a thread that is noted was started there, so its count is reached
   task_low : (i : ℕ) (t : Task) → tot task_weight (task_things n i t) ≡ 0 → t.thread ≤ n * 2 ^ 32 + (s.rest.started + 0)
   task_low i t z =
       let uncounted : uncounted_thread (sight k) t.thread ≡ 0 = omega (arith, z) in

@@ -37,6 +37,7 @@ record Homed (n : ℕ) (ms : Mutexes) : Type 0 where
   low : Low count_of ms.made ms.there
 
 module _ (n : ℕ) where
+  -- another state of a mutex, a mutex less, and a new one
   homed_puts : (ms : Mutexes) (x : Mutex) → Homed n ms → Homed n (put_mutex ms x)
   homed_puts ms x a = record { home = a.home; rise = same_rise count_of ms.there (with_mutex ms.there x) (counts_stay ms.there x) a.rise; low = same_low count_of ms.made ms.there (with_mutex ms.there x) (counts_stay ms.there x) a.low }
 
@@ -58,6 +59,7 @@ record Noted (k : ℕ) (ts : List Task) : Type 0 where
   low : Low name_of k ts
 
 module _ (k : ℕ) where
+  -- another state of a task, and a task less
   noted_states : (ts : List Task) (t : ℕ) (s : TaskState) → Noted k ts → Noted k (with_state ts t s)
   noted_states ts t s a = record { rise = same_rise name_of ts (with_state ts t s) (tasks_stay ts t s) a.rise; low = same_low name_of k ts (with_state ts t s) (tasks_stay ts t s) a.low }
 
@@ -78,10 +80,12 @@ module _ (n colours : ℕ) where
   abbrev pub Typed : ℕ → Rest → Type 0
   Typed c r = TypedParts n colours c r.number r.partition r.cache r.mutexes r.tasks r.started
 
+  -- a message changes no part
   sent_on : (b : Bool) (c t : ℕ) (m : Message) (r : Rest) → Typed c r → Typed c (if b then record r { inbox = r.inbox ++ m ∷ [] } else record r { outbox = r.outbox ++ record { target = t; message = m } ∷ [] })
   sent_on true c t m r g = g
   sent_on false c t m r g = g
 
+  -- another partition, other copies, mutexes and tasks that are of their types
   with_part : (r : Rest) (q : PartitionState) → IsPart n colours q → Typed 0 r → Typed 0 (record r { partition = q })
   with_part r q p g = record { numbered = g.numbered; part = p; cached = g.cached; homed = g.homed; mutexes_rise = g.mutexes_rise; mutexes_low = g.mutexes_low; tasks_rise = g.tasks_rise; tasks_low = g.tasks_low }
 
@@ -107,6 +111,7 @@ module _ (n colours : ℕ) where
   next_is : (r : Rest) → Typed 0 r → next_thread r ≡ n * 2 ^ 32 + (r.started + 1)
   next_is r g = ap (λ m. m * 2 ^ 32 + (r.started + 1)) g.numbered
 
+  -- each change leaves each part of its type
   pub typed : Changes Typed
   typed = record {
     sent = λ c t m r g. sent_on (t == r.number) c t m r g;
