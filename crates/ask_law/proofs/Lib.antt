@@ -12,3 +12,5 @@ pub mod AskServers
 pub mod Carried
 pub mod AskedThere
 pub mod AtInstructions
+pub mod SameHeap
+pub mod Undone

@@ -73,7 +73,7 @@ module _ (rank : ℕ → ℕ) where
   falls_note p t (_ ∷ b) h l = falls_note p t b h (omega (arith, l))
 
 -- who stands is among the threads that are named
-named_none : (w : ℕ → ℕ) (p : ℕ) (b : List Thing) → tot (threads w) b ≡ 0 → 1 ≤ tot (is_thread p) b → w p ≡ 0
+pub named_none : (w : ℕ → ℕ) (p : ℕ) (b : List Thing) → tot (threads w) b ≡ 0 → 1 ≤ tot (is_thread p) b → w p ≡ 0
 named_none w p [] z l = absurd (omega (arith, l))
 named_none w p (stands r q x ∷ b) z l =
     eq_cases (λ d. 1 ≤ one d + tot (is_thread p) b → w p ≡ 0) x.number p (λ e m. subst (λ n. w n ≡ 0) e (omega (arith, z))) (λ ne m. named_none w p b (omega (arith, z)) (omega (arith, m))) l

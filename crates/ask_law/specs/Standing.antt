@@ -16,6 +16,7 @@ use Rattle.heap_law.specs.Things.{things_of}
 use Rattle.heap_law.specs.Follow.{Standing, Ground, threads_in, value_at}
 use Rattle.heap_law.specs.Sight.{sight}
 use Rattle.heap_law.specs.Paths.{joined_thread}
+use Rattle.heap_law.specs.Coherent.{Sentence, Holds}
 use Rattle.heap_law.specs.Requests.{mutex_of, is_mutex, is_task, is_value_of}
 use Rattle.event_law.specs.Laws.{Gives, FewEvents}
 use Rattle.type_law.specs.ClusterTypes.{IsCoherent}
@@ -59,3 +60,7 @@ StandBy k c = tot (off k) (threads_in (things_of c)) ≡ 0
 -- after an event of whatever kind from a coherent cluster in which few events were done, with its messages handed over, threads stand so by where places led before it
 abbrev pub EachEventAsksForWhatIsThere : Type 0
 EachEventAsksForWhatIsThere = (k : Cluster) (e : Event) → IsCoherent k → FewEvents k → Gives (λ (d : Cluster × EntryView). StandBy k d.0) (apply k e)
+
+-- an event that has no `done` keeps the sentence, from a coherent cluster in which few events were done, with its messages handed over
+abbrev pub EachUndoneEventKeeps : Sentence → Type 0
+EachUndoneEventKeeps sentence = (k : Cluster) (e : Event) → IsCoherent k → FewEvents k → Gives (λ (d : Cluster × EntryView). d.1.done ≡ None → Holds d.0 sentence) (apply k e)

@@ -1,7 +1,7 @@
 //! What each event keeps of threads that wait, one clause for each sentence.
 
-ghost use Rattle.ask_law.specs.Standing.{EachEventAsksForWhatIsThere};
-ghost use Rattle.heap_law.specs.Coherent.{branches_give_unit, carry_what_is_asked, gifts_got, pairs_go_on, parents_end};
+ghost use Rattle.ask_law.specs.Standing.{EachEventAsksForWhatIsThere, EachUndoneEventKeeps};
+ghost use Rattle.heap_law.specs.Coherent.{branches_give_unit, carry_what_is_asked, gifts_fit, gifts_got, pairs_go_on, parents_end, phases_stand};
 ghost use Rattle.local_law.specs.Laws.{EachCoherentEventKeeps, EachEventKeeps};
 
 /// What is told of pairs: the two threads that one waits for differ, and not both are noted as over, and going up from branches to their parents comes to an end, in a
@@ -26,4 +26,11 @@ pub fn answers_keep()
 /// the one to which its place led before the event, and the thread that is joined is the operand.
 pub fn standing_keeps()
     ensures { EachEventAsksForWhatIsThere }
+{}
+
+/// So threads that wait for a home, or have what it gave, stand right after each event that does no plain step: the one heap is the same, and so is the mutex at each of
+/// these places.
+pub fn undone_keeps()
+    ensures phases_stand { EachUndoneEventKeeps phases_stand }
+    ensures gifts_fit { EachUndoneEventKeeps gifts_fit }
 {}

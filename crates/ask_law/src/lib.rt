@@ -3,4 +3,4 @@
 
 mod laws;
 
-pub use laws::{answers_keep, gifts_keep, pairs_keep, standing_keeps};
+pub use laws::{answers_keep, gifts_keep, pairs_keep, standing_keeps, undone_keeps};
