@@ -56,7 +56,7 @@ use Rattle.still_law.proofs.Readied.{Readied}
 use Rattle.stay_law.proofs.Alike.{turned}
 use Rattle.stay_law.proofs.Seen.{seen_alike}
 use Rattle.stay_law.proofs.Sites.{HandAlike}
-use Rattle.stay_law.proofs.Steps.{mut_slot_unseen, pushes, settles, goes_over}
+use Rattle.stay_law.proofs.Steps.{TakesNoneHere, mut_slot_unseen, pushes, settles, goes_over}
 use Rattle.stay_law.proofs.StayKinds.{borrows_leave}
 use Rattle.stay_law.specs.Laws.{mutable}
 use Rattle.turn_law.proofs.ReadWalk.{value_loaded}
@@ -70,26 +70,26 @@ use Rattle.borrow_law.specs.Borrows.{MutableBorrowsKeep}
 use Rattle.borrow_law.proofs.Pushed.{hands_alike}
 use Rattle.borrow_law.proofs.Sources as sources
 use Rattle.borrow_law.proofs.LentOne.{LentOne, lent_one_stays}
-use Rattle.borrow_law.proofs.OnTop.{lent_on_top}
+use Rattle.borrow_law.proofs.OnTop.{same_takings, lent_on_top}
 
 -- of a phase in which no object is taken the reference has its pointer's word
 word_as_it_is : (p : Phase) (r : MutRef) → ((v : ℕ) → p ≡ phase.Taken v → ⊥) → lent_word p r ≡ r
 word_as_it_is (phase.Taken v) r none = absurd (none v refl)
 word_as_it_is _ r none = refl
 
-none_lent : (v u : Value) (p : Phase) (w : Lval) → mutable_from p w v ≡ None → mutable_from p w v ≡ Some u → ⊥
+pub none_lent : (v u : Value) (p : Phase) (w : Lval) → mutable_from p w v ≡ None → mutable_from p w v ≡ Some u → ⊥
 none_lent v u p w e f = let z : None ≡ Some u = sym e ∙ f in absurd cc
 
-points_somewhere : (b : BoxPtr) → Some b ≡ None → ⊥
+pub points_somewhere : (b : BoxPtr) → Some b ≡ None → ⊥
 points_somewhere b e = absurd cc
 
-own_no_mut : (o : Owned) (p : MutRef) → value.Own o ≡ value.Mut p → ⊥
+pub own_no_mut : (o : Owned) (p : MutRef) → value.Own o ≡ value.Mut p → ⊥
 own_no_mut o p e = absurd cc
 
 same_mark : (r q : MutRef) → value.Mut r ≡ value.Mut q → q.dirty ≡ r.dirty
 same_mark r q e = let z : r ≡ q = cc in ap (λ (x : MutRef). x.dirty) (sym z)
 
-its_first : (w : ℕ) (o : ObjNo) → (w == w && same_object o o) ≡ true
+pub its_first : (w : ℕ) (o : ObjNo) → (w == w && same_object o o) ≡ true
 its_first w o = ap₂ (λ p q. p && q) (eq-eqb w w refl) (itself o o refl)
 
 module _ (k : Cluster) (coherent : IsCoherent k) (s : Server) (here : server_at k.servers s.rest.number ≡ Some s) (t : ℕ) (y : ThreadState) (at : thread_in s.threads t ≡ Some y)
@@ -131,19 +131,22 @@ module _ (k : Cluster) (coherent : IsCoherent k) (s : Server) (here : server_at 
   holder = record w { depth = m }
 
   abbrev Came : Prepared → Type 0
-  Came = sources.Came k coherent s here t y at on i code w m reads deep free
+  Came = sources.Came k coherent s here t y at on i code w m reads deep
 
   abbrev Followed : Prepared → Type 0
-  Followed = sources.Followed k coherent s here t y at on i code w m reads deep free
+  Followed = sources.Followed k coherent s here t y at on i code w m reads deep
 
   abbrev AtSpot : Hand → Spot → Type 0
-  AtSpot = sources.AtSpot k coherent s here t y at on i code w m reads deep free
+  AtSpot = sources.AtSpot k coherent s here t y at on i code w m reads deep
 
   abbrev Source : Hand → Value → Type 0
-  Source = sources.Source k coherent s here t y at on i code w m reads deep free
+  Source = sources.Source k coherent s here t y at on i code w m reads deep
 
   abbrev IsNone : Value → Type 0
-  IsNone = sources.IsNone k coherent s here t y at on i code w m reads deep free
+  IsNone = sources.IsNone k coherent s here t y at on i code w m reads deep
+
+  none : TakesNoneHere k.code y
+  none = sources.none k coherent s here t y at on i code w m reads deep free
 
   placed : (h : Hand) → IsOk h → HasPlaces (Put h)
   placed h q = places k coherent s here t y at h q
@@ -171,15 +174,15 @@ module _ (k : Cluster) (coherent : IsCoherent k) (s : Server) (here : server_at 
 
       -- what is loaded is noted alone
       of_loaded : (v : Value) → Source h v ⊎ IsNone v → Source (load_at sp h) v ⊎ IsNone v
-      of_loaded v (inl q) = inl (record { location = q.location; located = q.located; stands = q.stands; fresh = q.fresh })
+      of_loaded v (inl q) = inl (record { location = q.location; located = q.located; stands = q.stands })
       of_loaded v (inr q) = inr q
 
       there : Lends (load_at sp h) sp
-      there = record { walks = walks; source = λ v e. of_loaded v (sources.sourced k coherent s here t y at on i code w m reads deep free h sp c p a v (sym (value_loaded sp h) ∙ e)) }
+      there = record { walks = walks; source = λ v e. of_loaded v (sources.sourced k coherent s here t y at on i code w m reads deep h sp c p a v (sym (value_loaded sp h) ∙ e)) }
 
       asks : (o : Option BoxPtr) → Fine (request_by ask_object (load_at sp h) o)
       asks None = tt
-      asks (Some q) = asks_object k coherent s here t y at on i code w m reads q (load_at sp h) walks
+      asks (Some q) = asks_object k coherent s here t y at on i code w m reads q (load_at sp h) none walks
 
       by_hop : (v : Value) (o : Option Hop) → Fine (lend_by sp v o (load_at sp h))
       by_hop v None = tt
@@ -197,7 +200,7 @@ module _ (k : Cluster) (coherent : IsCoherent k) (s : Server) (here : server_at 
 
   all_lent : (p : Prepared) → Followed p → Came p → Fine (and_then (λ h2 sp. lend_value sp (value_at h2 sp) (load_at sp h2)) p)
   all_lent (ready h sp) f a = lent h sp f.0 f.1 a
-  all_lent (requested h) f a = f
+  all_lent (requested h) f a = f none
   all_lent nothing f a = tt
 
   -- THE BORROW
@@ -231,12 +234,19 @@ module _ (k : Cluster) (coherent : IsCoherent k) (s : Server) (here : server_at 
         let h3 : Hand = go_on (push_temp (value.Mut r) h) in
         let at_holder : locate (sight (Put h)).ground h.thread.number r.holder.slot r.holder.depth ≡ Some src.location = ap (λ (p : Lval). locate (sight (Put h)).ground h.thread.number p.slot p.depth) held ∙ located_now src.location src.located in
         let one : LentOne (Put h) (Put h3) h.thread.number (length h.thread.temps) src.location r =
-        lent_on_top k coherent s here t y at h r ok after q.walks.untaken src.location v at_holder src.stands pointer first src.fresh unchanged mark marked in
+        lent_on_top k coherent s here t y at h r ok after src.location v at_holder src.stands pointer first (λ x e. subst (λ ts. Among x ts) (same_takings k coherent s here t y at h r ok after (q.walks.untaken none)) e)
+        (inl (record {
+          took = λ x e. subst (λ ts. Among x ts) (sym (same_takings k coherent s here t y at h r ok after (q.walks.untaken none))) e;
+          fresh = sources.fresh_source k coherent s here t y at on i code w m reads deep free h v q.walks src;
+          unchanged = unchanged;
+          mark = mark;
+          marked = marked;
+        })) in
         over_gives (HandAlike k.code n [] h3) Ends (settle h3) (done_step fresh.None) (settles k.code n h3)
         (λ h4 a. record {
           middle = h3;
           ok = after;
-          words = holds_on (lent_one_stays (Put h) (Put h3) h.thread.number (length h.thread.temps) src.location r (placed h ok) (placed h3 after) one) q.walks.state.along.words;
+          words = holds_on (lent_one_stays (Put h) (Put h3) h.thread.number (length h.thread.temps) src.location r (placed h ok) (placed h3 after) one q.walks.state.along.words.has_words) q.walks.state.along.words;
           alike = a;
         })
 
@@ -249,7 +259,7 @@ module _ (k : Cluster) (coherent : IsCoherent k) (s : Server) (here : server_at 
 
     to_slot : (j : ℕ) → Gives Ends (committed (goes_on (Some (push_temp (value.MutSlot j) h))))
     to_slot j =
-        weaker (λ (d : Stepped). HandAlike k.code n [] h d.hand) Ends (committed (goes_on (Some (push_temp (value.MutSlot j) h)))) (goes_over k.code n h (Some (push_temp (value.MutSlot j) h)) (pushes k.code n h (value.MutSlot j) (mut_slot_unseen j) q.walks.untaken))
+        weaker (λ (d : Stepped). HandAlike k.code n [] h d.hand) Ends (committed (goes_on (Some (push_temp (value.MutSlot j) h)))) (goes_over k.code n h (Some (push_temp (value.MutSlot j) h)) (pushes k.code n h (value.MutSlot j) (mut_slot_unseen j) (q.walks.untaken none)))
         (λ d a. record { middle = h; ok = ok; words = q.walks.state.along.words; alike = a })
 
     pushed : (v u : Value) → Source h v ⊎ IsNone v → mutable_from h.thread.phase holder v ≡ Some u → IsOk (go_on (push_temp u h)) → Gives Ends (committed (goes_on (Some (push_temp u h))))
@@ -308,8 +318,8 @@ module _ (k : Cluster) (coherent : IsCoherent k) (s : Server) (here : server_at 
   stepped_lend : (servers : ℕ) → Gives Left (step servers i h0)
   stepped_lend servers =
       subst (λ d. Shown h0 (lend_pointer w d h0) → Gives Left (prepared servers i (lend_pointer w d h0))) (sym deep)
-      (prepared_lend servers (lend_pointer w (suc m) h0) (all_lent (read_stars m h0 (in_slot w.slot)) (sources.followed k coherent s here t y at on i code w m reads deep free) (sources.came k coherent s here t y at on i code w m reads deep free)))
-      (shows k coherent e0 i s t y (sources.stepping k coherent s here t y at on i code w m reads deep free) (Some (LendTo w)))
+      (prepared_lend servers (lend_pointer w (suc m) h0) (all_lent (read_stars m h0 (in_slot w.slot)) (sources.followed k coherent s here t y at on i code w m reads deep) (sources.came k coherent s here t y at on i code w m reads deep)))
+      (shows k coherent e0 i s t y (sources.stepping k coherent s here t y at on i code w m reads deep) (Some (LendTo w)))
 
   pub server_lends : Gives (Kept k s) (does k.code k.options s (Step t))
   server_lends =

@@ -1,6 +1,7 @@
 -- A mutable reference on top of the thread in hand: one more, and nothing else that words see.
-use Rattle.std.proofs.Common.{◌≡◌, ⊎_elim, inl, inr, ℕ, ◌+◌, true, false, [], ◌∷◌, ◌++◌, Some, None, refl, sym, ap, subst, ◌∙◌}
+use Rattle.std.proofs.Common.{◌≡◌, ◌⊎◌, ⊎_elim, inl, inr, ℕ, ◌+◌, true, false, List, [], ◌∷◌, ◌++◌, Option, Some, None, refl, sym, ap, subst, ◌∙◌}
 use Rattle.std.specs.Prelude.{slice_get, length}
+use Rattle.fr_base.specs.declared.instruction.Instr.{Instr}
 use Rattle.mut_borrow.specs.declared.mutable.MutRef.{MutRef}
 use Rattle.thread_state.specs.View.{ThreadState}
 use Rattle.thread_state.specs.declared.value.Value.{Value}
@@ -10,21 +11,50 @@ use Rattle.server_model.specs.Work.{Hand, push_temp, thread_in}
 use Rattle.server_model.specs.Commit.{go_on}
 use Rattle.heap_law.specs.Names.{Among}
 use Rattle.heap_law.specs.Things.{Location, at_slot, at_temp, in_cell, borrows, gift_things, walk_things, slot_things, temp_things, things_at, thread_things, things_of}
-use Rattle.heap_law.specs.Follow.{temp_of, value_in, locate}
+use Rattle.heap_law.specs.Follow.{Standing, threads_in, temp_of, value_in, locate}
 use Rattle.heap_law.specs.Sight.{Pointer, pointers_in, sight}
 use Rattle.heap_law.specs.Placing.{is_first, standing_in}
-use Rattle.heap_law.specs.Words.{IsStale}
 use Rattle.type_law.specs.ClusterTypes.{IsCoherent}
 use Rattle.word_law.specs.Reworded.{HasPlaces}
-use Rattle.word_law.specs.Unmoved.{pointing, owning, seen_at, takings}
+use Rattle.word_law.specs.Unmoved.{pointing, owning, seen_at, Taking, with_taking, taking_of, takings}
 use Rattle.word_law.proofs.Put.{Split, put_split}
 use Rattle.word_law.proofs.Standing.{pointer_at, stands_in}
 use Rattle.stay_law.proofs.Alike.{Alike, itself, chain, beside, joined, standing_turn}
 use Rattle.stay_law.proofs.Steps.{TakesNoneHere}
 use Rattle.prepare_law.proofs.Hands.{Ok, put, places, stands}
+use Rattle.path_law.proofs.Contained.{among_thread}
+use Rattle.carry_law.proofs.Far.{taking_listed}
 use Rattle.carry_law.proofs.Places.{end_is, end_none, end_other, end_things}
-use Rattle.carry_law.proofs.Replaced.{standing_split, standing_first, tail_of, at_a, at_b, in_slots, in_temps, in_cells, takings_same, lies_back, pointer_back, standing_back, of_thread}
-use Rattle.borrow_law.proofs.LentOne.{LentOne}
+use Rattle.carry_law.proofs.Replaced.{standing_split, standing_first, tail_of, takings_skip, threads_a, threads_b, at_a, at_b, in_slots, in_temps, in_cells, takings_same, lies_back, pointer_back, standing_back, of_thread}
+use Rattle.borrow_law.proofs.LentOne.{MadeHere, MadeOfTaken, LentOne}
+
+-- TAKINGS OF LISTS
+
+takings_in : (code : List Instr) (l r : List Standing) (x : Standing) (v : Taking) → taking_of code x ≡ Some v → (y : Taking) → Among y (takings code (l ++ (x ∷ r))) → (v ≡ y) ⊎ Among y (takings code (l ++ r))
+takings_in code [] r x v is y h = by (subst (λ o. Among y (with_taking o (takings code r))) is h)
+  where
+    by : Among y (v ∷ takings code r) → (v ≡ y) ⊎ Among y (takings code r)
+    by (inl e) = inl e
+    by (inr i) = inr i
+takings_in code (u ∷ l) r x v is y h = by (taking_of code u) h (takings_in code l r x v is y)
+  where
+    by : (o : Option Taking) → Among y (with_taking o (takings code (l ++ (x ∷ r)))) → (Among y (takings code (l ++ (x ∷ r))) → (v ≡ y) ⊎ Among y (takings code (l ++ r))) → (v ≡ y) ⊎ Among y (with_taking o (takings code (l ++ r)))
+    by None i go = go i
+    by (Some q) (inl e) go = inr (inl e)
+    by (Some q) (inr i) go = ⊎_elim (λ (e : v ≡ y). inl e) (λ (e : Among y (takings code (l ++ r))). inr (inr e)) (go i)
+
+takings_more : (code : List Instr) (l r : List Standing) (x : Standing) (y : Taking) → Among y (takings code (l ++ r)) → Among y (takings code (l ++ (x ∷ r)))
+takings_more code [] r x y h = by (taking_of code x)
+  where
+    by : (o : Option Taking) → Among y (with_taking o (takings code r))
+    by None = h
+    by (Some q) = inr h
+takings_more code (u ∷ l) r x y h = by (taking_of code u) h (takings_more code l r x y)
+  where
+    by : (o : Option Taking) → Among y (with_taking o (takings code (l ++ r))) → (Among y (takings code (l ++ r)) → Among y (takings code (l ++ (x ∷ r)))) → Among y (with_taking o (takings code (l ++ (x ∷ r))))
+    by None i go = go i
+    by (Some q) (inl e) go = inl e
+    by (Some q) (inr i) go = inr (go i)
 
 -- it stands at its location
 nowhere : (l : Location) (r : MutRef) (p : Pointer) → Among p (standing_in (borrows l r ∷ [])) → p.at ≡ None → ⊥
@@ -32,7 +62,7 @@ nowhere l r p (inl g) e = let z : Some l ≡ None = ap (λ (x : Pointer). x.at) 
 nowhere l r p (inr g) e = absurd g
 
 module _ (k : Cluster) (coherent : IsCoherent k) (s : Server) (here : server_at k.servers s.rest.number ≡ Some s) (t : ℕ) (y : ThreadState) (at : thread_in s.threads t ≡ Some y) (h : Hand) (r : MutRef)
-    (q : Ok k coherent s here t y at h) (after : Ok k coherent s here t y at (go_on (push_temp (value.Mut r) h))) (none : TakesNoneHere k.code h.thread) where
+    (q : Ok k coherent s here t y at h) (after : Ok k coherent s here t y at (go_on (push_temp (value.Mut r) h))) where
   abbrev n : ℕ
   n = s.rest.number
 
@@ -84,8 +114,32 @@ module _ (k : Cluster) (coherent : IsCoherent k) (s : Server) (here : server_at 
   empty : (v : Value) → value_in (sight a).ground (at_temp x.number j) ≡ Some v → ⊥
   empty v e = let w : None ≡ Some v = sym (ap (λ o. temp_of o j) (at_a a b n x z refl split c d) ∙ end_none x.temps) ∙ e in absurd cc
 
-  same_takings : takings k.code (sight b).ground.threads ≡ takings k.code (sight a).ground.threads
-  same_takings = takings_same a b n x z refl split c d k.code none refl
+  -- what threads have taken, where this one hasn't
+  pub same_takings : TakesNoneHere k.code h.thread → takings k.code (sight b).ground.threads ≡ takings k.code (sight a).ground.threads
+  same_takings none = takings_same a b n x z refl split c d k.code none refl
+
+  -- and where it has
+  abbrev sx : Standing
+  sx = record { server = n; packed = false; thread = x }
+
+  abbrev sz : Standing
+  sz = record { server = n; packed = false; thread = z }
+
+  takings_b : takings k.code (sight b).ground.threads ≡ takings k.code (threads_in split.left ++ threads_in split.right)
+  takings_b = ap (takings k.code) (threads_b a b n x z refl split c d) ∙ takings_skip k.code (threads_in split.left) (threads_in split.right) sz refl
+
+  pub takings_were : (y : Taking) → Among y (takings k.code (sight b).ground.threads) → Among y (takings k.code (sight a).ground.threads)
+  takings_were y i =
+      subst (λ ts. Among y (takings k.code ts)) (sym (threads_a a b n x z refl split c d))
+      (takings_more k.code (threads_in split.left) (threads_in split.right) sx y (subst (λ ts. Among y ts) takings_b i))
+
+  pub takings_but : (v : Taking) → taking_of k.code sx ≡ Some v → (y : Taking) → Among y (takings k.code (sight a).ground.threads) → (v ≡ y) ⊎ Among y (takings k.code (sight b).ground.threads)
+  takings_but v is y i =
+      ⊎_elim (λ (e : v ≡ y). inl e) (λ (e : Among y (takings k.code (threads_in split.left ++ threads_in split.right))). inr (subst (λ ts. Among y ts) (sym takings_b) e))
+      (takings_in k.code (threads_in split.left) (threads_in split.right) sx v is y (subst (λ ts. Among y (takings k.code ts)) (threads_a a b n x z refl split c d) i))
+
+  pub taking_there : (v : Taking) → taking_of k.code sx ≡ Some v → Among v (takings k.code (sight a).ground.threads)
+  taking_there v is = taking_listed k.code sx v (sight a).ground.threads (among_thread (sight a).ground.threads x.number sx (at_a a b n x z refl split c d)).0 is
 
   -- POINTERS AT NO LOCATION
 
@@ -119,14 +173,13 @@ module _ (k : Cluster) (coherent : IsCoherent k) (s : Server) (here : server_at 
 
   -- made from the pointer at that location
   pub lent_on_top : (l : Location) (v : Value) → locate (sight a).ground x.number r.holder.slot r.holder.depth ≡ Some l → value_in (sight a).ground l ≡ Some v → Among (record { at = Some l; word = r.first; object = r.object }) (pointer_at l v) → is_first r (Some v) ≡ true
-      → (IsStale (sight a) (Some l) → ⊥) → r.word ≡ r.first → ((m : MutRef) → v ≡ value.Mut m → m.dirty ≡ r.dirty) → (r.dirty ≡ true → (m : MutRef) × (v ≡ value.Mut m)) → LentOne a b x.number j l r
-  lent_on_top l v held there pointer first fresh unchanged mark marked = record {
+      → ((m : Taking) → Among m (takings k.code (sight b).ground.threads) → Among m (takings k.code (sight a).ground.threads)) → MadeHere a b l r v ⊎ MadeOfTaken a b l r → LentOne a b x.number j l r
+  lent_on_top l v held there pointer first takes made = record {
     stands = elsewhere;
     now = now;
     empty = empty;
     held = held;
-    takes = λ m i. subst (λ ts. Among m ts) same_takings i;
-    took = λ m i. subst (λ ts. Among m ts) (sym same_takings) i;
+    takes = takes;
     loose = loose;
     remain = remain;
     standing = standing;
@@ -135,8 +188,5 @@ module _ (k : Cluster) (coherent : IsCoherent k) (s : Server) (here : server_at 
     there = there;
     pointer = pointer;
     first = first;
-    fresh = fresh;
-    unchanged = unchanged;
-    mark = mark;
-    marked = marked;
+    made = made;
   }

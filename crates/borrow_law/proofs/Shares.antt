@@ -106,19 +106,22 @@ module _ (k : Cluster) (coherent : IsCoherent k) (few : FewEvents k) (s : Server
   b = all_standing n (without_thread s.threads t) ++ servers_things (others_of k.servers n)
 
   abbrev Source : Hand → Value → Type 0
-  Source = sources.Source k coherent s here t y at on i code w m reads deep free
+  Source = sources.Source k coherent s here t y at on i code w m reads deep
 
   abbrev IsNone : Value → Type 0
-  IsNone = sources.IsNone k coherent s here t y at on i code w m reads deep free
+  IsNone = sources.IsNone k coherent s here t y at on i code w m reads deep
 
   abbrev Came : Prepared → Type 0
-  Came = sources.Came k coherent s here t y at on i code w m reads deep free
+  Came = sources.Came k coherent s here t y at on i code w m reads deep
 
   abbrev Followed : Prepared → Type 0
-  Followed = sources.Followed k coherent s here t y at on i code w m reads deep free
+  Followed = sources.Followed k coherent s here t y at on i code w m reads deep
 
   abbrev AtSpot : Hand → Spot → Type 0
-  AtSpot = sources.AtSpot k coherent s here t y at on i code w m reads deep free
+  AtSpot = sources.AtSpot k coherent s here t y at on i code w m reads deep
+
+  none : TakesNoneHere k.code y
+  none = sources.none k coherent s here t y at on i code w m reads deep free
 
   placed : (h : Hand) → IsOk h → HasPlaces (Put h)
   placed h q = places k coherent s here t y at h q
@@ -140,7 +143,7 @@ module _ (k : Cluster) (coherent : IsCoherent k) (few : FewEvents k) (s : Server
   fine_if false p q f h = h
 
   lends_by : (h : Hand) (sp : Spot) → W h → ((v u : Value) → value_at h sp ≡ Some v → shared_from v ≡ Some u → May (Put h) u) → Lends h sp
-  lends_by h sp c f = record { ok = c.state.ok; words = c.state.along.words; untaken = c.untaken; may = f }
+  lends_by h sp c f = record { ok = c.state.ok; words = c.state.along.words; untaken = c.untaken none; may = f }
 
   fresh_there : (l : Location) → locate g y.number w.slot m ≡ Some l → IsStale (sight k) (Some l) → ⊥
   fresh_there l there = sources.fresh_there k coherent s here t y at on i code w m reads deep free l there
@@ -149,10 +152,10 @@ module _ (k : Cluster) (coherent : IsCoherent k) (few : FewEvents k) (s : Server
 
   module _ (j : ℕ) (located : locate g y.number w.slot m ≡ Some (at_slot y.number j)) where
     at_hand : (h : Hand) → IsOk h → locate g y.number w.slot m ≡ Some (at_slot h.thread.number j)
-    at_hand h q = sources.at_hand k coherent s here t y at on i code w m reads deep free j located h q
+    at_hand h q = sources.at_hand k coherent s here t y at on i code w m reads deep j located h q
 
     it_stands : (h : Hand) (q : IsOk h) (v : Value) → slice_get h.thread.slots j ≡ Some v → value_in (sight (Put h)).ground (at_slot h.thread.number j) ≡ Some v
-    it_stands h q v e = sources.it_stands k coherent s here t y at on i code w m reads deep free j located h q v e
+    it_stands h q v e = sources.it_stands k coherent s here t y at on i code w m reads deep j located h q v e
 
     -- what isn't dirty
     plain : (h : Hand) (v : Value) → W h → slice_get h.thread.slots j ≡ Some v → ((p : MutRef) → v ≡ value.Mut p → p.dirty ≡ true → ⊥) → Lends h (in_slot j)
@@ -204,7 +207,7 @@ module _ (k : Cluster) (coherent : IsCoherent k) (few : FewEvents k) (s : Server
           record {
             ok = q2;
             words = it.words;
-            untaken = subst (λ th. TakesNoneHere k.code th) (sym wrote.thread) c.untaken;
+            untaken = subst (λ th. TakesNoneHere k.code th) (sym wrote.thread) (c.untaken none);
             may = λ v u f made.
                 (let same : value.Mut (took r nw.word) ≡ v = some_is (sym now ∙ f) in
                 may (Put h2) (placed h2 q2) it.words l it.fresh (value.Mut (took r nw.word)) u it.now (is_clean nw.word) (ap shared_from same ∙ made));
@@ -217,7 +220,7 @@ module _ (k : Cluster) (coherent : IsCoherent k) (few : FewEvents k) (s : Server
       last : r.dirty ≡ true → (c2 : Bool) → (server_of r.word == h.work.rest.number) ≡ c2
           → Fine (if c2 then ready_at (in_slot j) (then_some (issue_renewal (box_of r) h.work) (λ nw. put_word (in_slot j) nw h)) else requested (ask_object (box_of r) h))
       last dirty true f = renewals dirty f (issue_renewal (box_of r) h.work) refl
-      last dirty false f = asks_object k coherent s here t y at on i code w m reads (box_of r) h c
+      last dirty false f = asks_object k coherent s here t y at on i code w m reads (box_of r) h none c
 
       by_colour : r.dirty ≡ true → (c2 : Bool) → Fine (cleaned_by (if c2 then cleaned.Tinted (next_word r.word) else cleaned.MustRenew) (in_slot j) r h)
       by_colour dirty true = tinted dirty (put_word (in_slot j) (issue_tint (box_of r) h.work) h) refl
@@ -258,8 +261,8 @@ module _ (k : Cluster) (coherent : IsCoherent k) (few : FewEvents k) (s : Server
       (λ v u z made.
       let same : value.Own d.value ≡ v = some_is (sym f ∙ z) in
       let made_of : shared_from (value.Own d.value) ≡ Some u = ap shared_from same ∙ made in
-      ⊎_elim (λ (q : Source h (value.Own d.value)). may (Put h) (placed h c.state.ok) c.state.along.words q.location q.fresh (value.Own d.value) u q.stands (λ r b x. own_no_mut d.value r b) made_of)
-      (λ (q : IsNone (value.Own d.value)). absurd (none_may d.value u q.2 made_of)) (sources.sourced k coherent s here t y at on i code w m reads deep free h sp c p a (value.Own d.value) e))
+      ⊎_elim (λ (q : Source h (value.Own d.value)). may (Put h) (placed h c.state.ok) c.state.along.words q.location (sources.fresh_source k coherent s here t y at on i code w m reads deep free h (value.Own d.value) c q) (value.Own d.value) u q.stands (λ r b x. own_no_mut d.value r b) made_of)
+      (λ (q : IsNone (value.Own d.value)). absurd (none_may d.value u q.2 made_of)) (sources.sourced k coherent s here t y at on i code w m reads deep h sp c p a (value.Own d.value) e))
 
   lent : (h : Hand) (sp : Spot) → W h → Spotted g y.number w.slot m sp → ((v : Value) → value_at h sp ≡ Some v → AtSpot h sp) → Fine (clean_value sp (value_at h sp) (load_at sp h))
   lent h _ c (a_slot j located) a = by (slice_get h.thread.slots j) refl
@@ -275,7 +278,7 @@ module _ (k : Cluster) (coherent : IsCoherent k) (few : FewEvents k) (s : Server
 
   all_lent : (p : Prepared) → Followed p → Came p → Fine (and_then (λ h2 sp. clean_value sp (value_at h2 sp) (load_at sp h2)) p)
   all_lent (ready h sp) f a = lent h sp f.0 f.1 a
-  all_lent (requested h) f a = f
+  all_lent (requested h) f a = f none
   all_lent nothing f a = tt
 
   -- THE BORROW
@@ -289,12 +292,12 @@ module _ (k : Cluster) (coherent : IsCoherent k) (few : FewEvents k) (s : Server
   Ends h d = Over h d.hand
 
   pushed : (h : Hand) → TakesNoneHere k.code h.thread → (u : Value) → May (Put h) u → Gives (Ends h) (committed (goes_on (Some (push_temp u h))))
-  pushed h none _ (to_slot j) =
-      weaker (λ (d : Stepped). HandAlike k.code n [] h d.hand) (Ends h) (committed (goes_on (Some (push_temp (value.SharedSlot j) h)))) (goes_over k.code n h (Some (push_temp (value.SharedSlot j) h)) (pushes k.code n h (value.SharedSlot j) (shared_slot_unseen j) none)) (λ d a. unseen a)
-  pushed h none _ (to_object r beside clean) =
+  pushed h unheld _ (to_slot j) =
+      weaker (λ (d : Stepped). HandAlike k.code n [] h d.hand) (Ends h) (committed (goes_on (Some (push_temp (value.SharedSlot j) h)))) (goes_over k.code n h (Some (push_temp (value.SharedSlot j) h)) (pushes k.code n h (value.SharedSlot j) (shared_slot_unseen j) unheld)) (λ d a. unseen a)
+  pushed h unheld _ (to_object r beside clean) =
       let h2 : Hand = push_temp (value.Shared r) h in
       let p = shared_on_top k.code n r h in
-      weaker (λ (d : Stepped). HandAlike k.code n [] h2 d.hand) (Ends h) (committed (goes_on (Some h2))) (goes_over k.code n h2 (Some h2) (record { alike = hand_itself k.code n h2; untaken = none }))
+      weaker (λ (d : Stepped). HandAlike k.code n [] h2 d.hand) (Ends h) (committed (goes_on (Some h2))) (goes_over k.code n h2 (Some h2) (record { alike = hand_itself k.code n h2; untaken = unheld }))
       (λ d a. one_more p.location r beside clean (record {
         number = a.number ∙ p.alike.number;
         named = a.named ∙ p.alike.named;
@@ -335,7 +338,7 @@ module _ (k : Cluster) (coherent : IsCoherent k) (few : FewEvents k) (s : Server
   prepared_share servers nothing q = tt
 
   stepped_share : (servers : ℕ) → Gives Left (step servers i h0)
-  stepped_share servers = subst (λ d. Gives Left (prepared servers i (read_pointer w d h0))) (sym deep) (prepared_share servers (read_pointer w (suc m) h0) (all_lent (read_stars m h0 (in_slot w.slot)) (sources.followed k coherent s here t y at on i code w m reads deep free) (sources.came k coherent s here t y at on i code w m reads deep free)))
+  stepped_share servers = subst (λ d. Gives Left (prepared servers i (read_pointer w d h0))) (sym deep) (prepared_share servers (read_pointer w (suc m) h0) (all_lent (read_stars m h0 (in_slot w.slot)) (sources.followed k coherent s here t y at on i code w m reads deep) (sources.came k coherent s here t y at on i code w m reads deep)))
 
   pub server_shares : Gives (Kept k s) (does k.code k.options s (Step t))
   server_shares =

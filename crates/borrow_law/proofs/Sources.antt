@@ -1,4 +1,4 @@
--- A thread that borrows from a pointer, shared or mutable, and hasn't taken an object: what it reads on the way, and that the pointer stands where its place leads and isn't stale.
+-- A thread that borrows from a pointer, shared or mutable: what it reads on the way, and that the pointer stands where its place leads; where it hasn't taken the object, it isn't stale.
 use Rattle.std.proofs.Common.{◌≡◌, ◌⊎◌, inl, inr, ℕ, suc, ◌+◌, true, false, Option, Some, None, option_map, refl, sym, ap, subst, ◌∙◌, arith}
 use Rattle.std.specs.Prelude.{slice_get}
 use Rattle.fr_base.specs.declared.place.Lval.{Lval}
@@ -34,7 +34,7 @@ use Rattle.word_law.proofs.Tints.{slot_stands}
 use Rattle.event_law.proofs.Bags.{thread_number}
 use Rattle.event_law.proofs.ThreadThere.{thread_there}
 use Rattle.read_law.specs.Reading.{Reads, LiesUnder}
-use Rattle.stay_law.proofs.Steps.{untaken_here}
+use Rattle.stay_law.proofs.Steps.{TakesNoneHere, untaken_here}
 use Rattle.turn_law.proofs.Events.{AtStep}
 use Rattle.turn_law.proofs.ReadWalk.{Finds, At, Comes, reads as walk, seen_value}
 use Rattle.turn_law.proofs.StarLines.{finds}
@@ -55,7 +55,7 @@ pub no_value : {A : Type 0} (a : A) → None ≡ Some a → ⊥
 no_value a e = absurd cc
 
 module _ (k : Cluster) (coherent : IsCoherent k) (s : Server) (here : server_at k.servers s.rest.number ≡ Some s) (t : ℕ) (y : ThreadState) (at : thread_in s.threads t ≡ Some y)
-    (on : enabled k.options s (Step t) ≡ true) (i : Instr) (code : slice_get k.code y.pc ≡ Some i) (w : Lval) (m : ℕ) (reads : Reads i w m) (deep : w.depth ≡ suc m) (free : (v : ℕ) → y.phase ≡ phase.Taken v → ⊥) where
+    (on : enabled k.options s (Step t) ≡ true) (i : Instr) (code : slice_get k.code y.pc ≡ Some i) (w : Lval) (m : ℕ) (reads : Reads i w m) (deep : w.depth ≡ suc m) where
   abbrev n : ℕ
   n = s.rest.number
 
@@ -118,16 +118,7 @@ module _ (k : Cluster) (coherent : IsCoherent k) (s : Server) (here : server_at 
   came = walk g y s.rest w m found m (omega arith)
 
   pub followed : Followed AllStars
-  followed = stars_ok k coherent s here t y at on i code w m reads m 0 h0 (in_slot w.slot) (omega arith) (record { state = first_hand k coherent s here t y at; untaken = untaken_here y.number y.phase (slice_get k.code y.pc) free; gift = refl }) (a_slot w.slot refl)
-
-  none_taken : (l : Location) → HasTaken k (coherent_has_paths k coherent) x l → ⊥
-  none_taken l q = free q.word q.taken
-
-  pub fresh_there : (l : Location) → locate g y.number w.slot m ≡ Some l → IsStale (sight k) (Some l) → ⊥
-  fresh_there l there = fresh_last k coherent x going i w m reads deep code none_taken l there
-
-  pub under_there : (l : Location) (v : Value) (b : BoxPtr) → locate g y.number w.slot m ≡ Some l → value_in g l ≡ Some v → pointer_of v ≡ Some b → LiesUnder k b
-  under_there l v b there stood points = under_last k coherent x going i w m reads deep code none_taken awake l v b there stood points
+  followed = stars_ok k coherent s here t y at on i code w m reads m 0 h0 (in_slot w.slot) (omega arith) (record { state = first_hand k coherent s here t y at; untaken = λ e. e; gift = refl }) (a_slot w.slot refl)
 
   -- what stands in the slot to which they lead
   module _ (j : ℕ) (located : locate g y.number w.slot m ≡ Some (at_slot y.number j)) where
@@ -144,13 +135,12 @@ module _ (k : Cluster) (coherent : IsCoherent k) (s : Server) (here : server_at 
     pub location : Location
     pub located : locate g y.number w.slot m ≡ Some location
     pub stands : value_in (sight (Put h)).ground location ≡ Some v
-    pub fresh : IsStale (sight (Put h)) (Some location) → ⊥
 
   abbrev pub IsNone : Value → Type 0
   IsNone v = (o : Owned) × (v ≡ value.Own o) × (pointer_of v ≡ None)
 
   in_memory : (h : Hand) → W h → (l : Location) → locate g y.number w.slot m ≡ Some l → (o : Owned) → value_in g l ≡ Some (value.Own o) → Source h (value.Own o) ⊎ IsNone (value.Own o)
-  in_memory h c l there (owned.Box p) e = inl (record { location = l; located = there; stands = c.state.along.boxes l p e; fresh = λ a. fresh_there l there (c.state.along.fresher l a) })
+  in_memory h c l there (owned.Box p) e = inl (record { location = l; located = there; stands = c.state.along.boxes l p e })
   in_memory h c l there owned.Nothing e = inr (owned.Nothing, refl, refl)
   in_memory h c l there owned.Unit e = inr (owned.Unit, refl, refl)
   in_memory h c l there (owned.Int z) e = inr (owned.Int z, refl, refl)
@@ -169,6 +159,24 @@ module _ (k : Cluster) (coherent : IsCoherent k) (s : Server) (here : server_at 
   sourced h _ c (a_slot j located) a v e =
       let q = c.state.ok in
       let l = at_hand j located h q in
-      inl (record { location = at_slot h.thread.number j; located = l; stands = it_stands j located h q v e; fresh = λ f. fresh_there (at_slot h.thread.number j) l (c.state.along.fresher (at_slot h.thread.number j) f) })
+      inl (record { location = at_slot h.thread.number j; located = l; stands = it_stands j located h q v e })
   sourced h _ c (a_cell u through) a v e = in_cells h (in_cell u through) v c a e (cell_at h (in_cell u through)) refl
   sourced h _ c (a_copy u) a v e = in_cells h (in_copy u) v c a e (cell_at h (in_copy u)) refl
+
+  -- WHERE NOTHING WAS TAKEN
+
+  module _ (free : (v : ℕ) → y.phase ≡ phase.Taken v → ⊥) where
+    pub none : TakesNoneHere k.code y
+    none = untaken_here y.number y.phase (slice_get k.code y.pc) free
+
+    none_taken : (l : Location) → HasTaken k (coherent_has_paths k coherent) x l → ⊥
+    none_taken l q = free q.word q.taken
+
+    pub fresh_there : (l : Location) → locate g y.number w.slot m ≡ Some l → IsStale (sight k) (Some l) → ⊥
+    fresh_there l there = fresh_last k coherent x going i w m reads deep code none_taken l there
+
+    pub fresh_source : (h : Hand) (v : Value) → W h → (q : Source h v) → IsStale (sight (Put h)) (Some q.location) → ⊥
+    fresh_source h v c q a = fresh_there q.location q.located (c.state.along.fresher q.location a)
+
+    pub under_there : (l : Location) (v : Value) (b : BoxPtr) → locate g y.number w.slot m ≡ Some l → value_in g l ≡ Some v → pointer_of v ≡ Some b → LiesUnder k b
+    under_there l v b there stood points = under_last k coherent x going i w m reads deep code none_taken awake l v b there stood points

@@ -1,5 +1,5 @@
 -- BORROWS keep the words (this project's rules), whether they are done or ask.
-use Rattle.std.specs.Prelude.{◌≡◌, ℕ, Some, slice_get}
+use Rattle.std.specs.Prelude.{◌≡◌, ℕ, Some, IsSome, slice_get}
 use Rattle.fr_base.specs.declared.place.Lval.{Lval}
 use Rattle.fr_base.specs.declared.instruction.Instr.TheVariants as instr
 use Rattle.journal.specs.View.{EntryView}
@@ -22,3 +22,8 @@ SharedBorrowsKeep = (k : Cluster) (number t : ℕ) (s : Server) (y : ThreadState
 abbrev pub MutableBorrowsKeep : Type 0
 MutableBorrowsKeep = (k : Cluster) (number t : ℕ) (s : Server) (y : ThreadState) (w : Lval) → IsCoherent k → FewEvents k → server_at k.servers number ≡ Some s → thread_in s.threads t ≡ Some y → slice_get k.code y.pc ≡ Some (instr.BorrowMut w)
     → ((v : ℕ) → y.phase ≡ phase.Taken v → ⊥) → Gives (λ (d : Cluster × EntryView). WordsHold d.0) (apply k (record { server = number; what = Step t }))
+
+-- and one whose object was taken, where it is done
+abbrev pub TakenBorrowsKeep : Type 0
+TakenBorrowsKeep = (k : Cluster) (number t : ℕ) (s : Server) (y : ThreadState) (w : Lval) (v : ℕ) → IsCoherent k → FewEvents k → server_at k.servers number ≡ Some s → thread_in s.threads t ≡ Some y → slice_get k.code y.pc ≡ Some (instr.BorrowMut w)
+    → y.phase ≡ phase.Taken v → Gives (λ (d : Cluster × EntryView). IsSome d.1.done → WordsHold d.0) (apply k (record { server = number; what = Step t }))

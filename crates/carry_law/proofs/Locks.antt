@@ -159,12 +159,15 @@ module _ (k : Cluster) (coherent : IsCoherent k) (s : Server) (here : server_at 
   left_by_state : (h : Hand) → S h → WordsHold (put k coherent s here t y at h) × HasPlaces (put k coherent s here t y at h)
   left_by_state h g = (g.along.words, places k coherent s here t y at h g.ok)
 
+  none : TakesNoneHere k.code y
+  none = untaken_here y.number y.phase (slice_get k.code y.pc) free
+
   followed : Fine (read_stars w.depth h0 (in_slot w.slot))
-  followed = stars_ok k coherent s here t y at on (instr.Lock w) code w w.depth (locks refl) w.depth 0 h0 (in_slot w.slot) (omega arith) (record { state = first_hand k coherent s here t y at; untaken = untaken_here y.number y.phase (slice_get k.code y.pc) free; gift = refl }) (a_slot w.slot refl)
+  followed = stars_ok k coherent s here t y at on (instr.Lock w) code w w.depth (locks refl) w.depth 0 h0 (in_slot w.slot) (omega arith) (record { state = first_hand k coherent s here t y at; untaken = λ e. e; gift = refl }) (a_slot w.slot refl)
 
   asks : (o : Option MutexNo) (h : Hand) → W h → Gives Left (committed (waiting (option_map (ask_lock h) o)))
   asks None h g = tt
-  asks (Some c) h g = left_by_state _ (requests k coherent s here t y at (act.AskLock c) c.home (message.Lock c h.work.rest.number h.thread.number) (phase.WaitLock c) h refl refl (λ p e z. z) (λ a j. refl) g)
+  asks (Some c) h g = left_by_state _ (requests k coherent s here t y at (act.AskLock c) c.home (message.Lock c h.work.rest.number h.thread.number) (phase.WaitLock c) h refl refl (λ p e z. z) (λ a j. refl) none g)
 
   takes : (sp : Spot) (h : Hand) (v : Owned) → W h → h.thread.gift ≡ Some v → Gives Left (committed (lock sp (Some v) h))
   takes sp h v g e =
@@ -172,7 +175,7 @@ module _ (k : Cluster) (coherent : IsCoherent k) (s : Server) (here : server_at 
       let o = option_map (push_content v (load_at sp (take_gift h))) (mutex_at h sp) in
       both_give (SteppedOk sums_kept n s.events t b) (λ (d : Stepped). Moved k.code n h d.hand) Left (committed (lock sp (Some v) h))
       (committed_keeps sums_kept n s.events t b (lock sp (Some v) h) (subst (λ q. CommittedOk (Ok k coherent s here t y at) (lock sp q h)) e (commits sums_kept n s.events t b 0 (instr.Lock w) sp h tt (λ z. absurd z) g.state.ok)))
-      (goes_over k.code n h fresh.None o (map_gives (Does k.code n h) (mutex_at h sp) (push_content v (load_at sp (take_gift h))) (λ c q. content_taken k.code n h g.untaken c v e sp)))
+      (goes_over k.code n h fresh.None o (map_gives (Does k.code n h) (mutex_at h sp) (push_content v (load_at sp (take_gift h))) (λ c q. content_taken k.code n h (g.untaken none) c v e sp)))
       (λ d ok moved.
       let before = places k coherent s here t y at h g.state.ok in
       let after = places k coherent s here t y at d.hand ok in (
@@ -186,7 +189,7 @@ module _ (k : Cluster) (coherent : IsCoherent k) (s : Server) (here : server_at 
 
   prepared_lock : (servers : ℕ) (x : Prepared) → Fine x → Gives Left (prepared servers (instr.Lock w) x)
   prepared_lock servers (ready h sp) g = by_gift h.thread.gift sp h g.0 refl
-  prepared_lock servers (requested h) g = left_by_state h g
+  prepared_lock servers (requested h) g = left_by_state h (g none)
   prepared_lock servers nothing g = tt
 
   pub server_locks : Gives (Kept k s) (does k.code k.options s (Step t))

@@ -79,7 +79,7 @@ to_standing p (x ∷ b) e h =
 abbrev pub tail_of : ℕ → ThreadState → List Thing
 tail_of n x = gift_things x.number x.gift ++ things_at (walk_things n) 0 x.walk ++ things_at (slot_things n x.number) 0 x.slots ++ things_at (temp_things n x.number) 0 x.temps
 
-takings_skip : (code : List Instr) (l r : List Standing) (x : Standing) → taking_of code x ≡ None → takings code (l ++ (x ∷ r)) ≡ takings code (l ++ r)
+pub takings_skip : (code : List Instr) (l r : List Standing) (x : Standing) → taking_of code x ≡ None → takings code (l ++ (x ∷ r)) ≡ takings code (l ++ r)
 takings_skip code [] r x e = ap (λ o. with_taking o (takings code r)) e
 takings_skip code (z ∷ l) r x e = ap (with_taking (taking_of code z)) (takings_skip code l r x e)
 
@@ -95,10 +95,10 @@ module _ (a b : Cluster) (n : ℕ) (x y : ThreadState) (named : y.number ≡ x.n
   parts : (l m r : List Thing) (z : Standing) → threads_in m ≡ z ∷ [] → threads_in (l ++ m ++ r) ≡ threads_in l ++ (z ∷ threads_in r)
   parts l m r z e = threads_joined (l ++ m) r ∙ ap (λ q. q ++ threads_in r) (threads_joined l m) ∙ ap (λ q. threads_in l ++ q ++ threads_in r) e ∙ append_assoc (threads_in l) (z ∷ []) (threads_in r)
 
-  threads_a : threads_in (things_of a) ≡ threads_in s.left ++ (sx ∷ threads_in s.right)
+  pub threads_a : threads_in (things_of a) ≡ threads_in s.left ++ (sx ∷ threads_in s.right)
   threads_a = ap threads_in s.before ∙ parts s.left (thread_things n false x) s.right sx (ap (λ q. sx ∷ q) (rest_none n x))
 
-  threads_b : threads_in (things_of b) ≡ threads_in s.left ++ (sy ∷ threads_in s.right)
+  pub threads_b : threads_in (things_of b) ≡ threads_in s.left ++ (sy ∷ threads_in s.right)
   threads_b = ap threads_in s.after ∙ parts s.left (thread_things n false y) s.right sy (ap (λ q. sy ∷ q) (rest_none n y))
 
   cells_parts : (l m r : List Thing) → cells_in m ≡ [] → cells_in (l ++ m ++ r) ≡ cells_in l ++ cells_in r

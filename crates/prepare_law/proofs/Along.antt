@@ -1,5 +1,5 @@
 -- What holds of words in the middle of an event, beside the cluster from which it began.
-use Rattle.std.proofs.Common.{◌≡◌, inl, ⊎_elim, ℕ, not, ◌||◌, ◌==◌, true, false, Some, refl, sym, ap, ◌∙◌}
+use Rattle.std.proofs.Common.{◌≡◌, ◌⊎◌, inl, inr, ⊎_elim, ℕ, not, ◌||◌, ◌==◌, true, false, Some, refl, sym, ap, ◌∙◌}
 use Rattle.fr_base.specs.declared.name.ObjNo.{ObjNo}
 use Rattle.heap_partition.specs.declared.value.BoxPtr.{BoxPtr}
 use Rattle.heap_partition.specs.declared.value.Owned.TheVariants as owned
@@ -34,14 +34,16 @@ use Rattle.stay_law.proofs.Alike.{Alike}
 use Rattle.stay_law.proofs.Seen.{seen_alike}
 use Rattle.prepare_law.specs.Requests.{WordsHold}
 
--- the words hold; slots and cells lead where they led, boxes stand where they stood, threads have taken from the same places, references were made from the same words, nothing more is stale, what is dirty was, and what lay lies
+-- the words hold; slots and cells lead where they led, boxes stand where they stood, threads have taken from the same places, references were made from the same words and have their own or one that wasn't issued, nothing more is stale, what is dirty was, and what lay lies
 pub record Along (k z : Cluster) : Type 0 where
   pub words : WordsHold z
   pub slots_lead : (u t i : ℕ) → leads u (value_in (sight z).ground (at_slot t i)) ≡ leads u (value_in (sight k).ground (at_slot t i))
   pub cells_lead : (u : ℕ) (o : ObjNo) → leads u (value_in (sight z).ground (in_cell o)) ≡ leads u (value_in (sight k).ground (in_cell o))
   pub boxes : (l : Location) (p : BoxPtr) → value_in (sight k).ground l ≡ Some (value.Own (owned.Box p)) → value_in (sight z).ground l ≡ Some (value.Own (owned.Box p))
+  pub boxes_were : (l : Location) (p : BoxPtr) → value_in (sight z).ground l ≡ Some (value.Own (owned.Box p)) → value_in (sight k).ground l ≡ Some (value.Own (owned.Box p))
   pub takes : (t : Taking) → Among t (takings z.code (sight z).ground.threads) → TookIt k t
   pub made : (l : Location) (r : MutRef) → value_in (sight z).ground l ≡ Some (value.Mut r) → (q : MutRef) × (value_in (sight k).ground l ≡ Some (value.Mut q)) × (q.first ≡ r.first)
+  pub word_was : (l : Location) (r : MutRef) → value_in (sight z).ground l ≡ Some (value.Mut r) → (q : MutRef) × (value_in (sight k).ground l ≡ Some (value.Mut q)) × ((r.word ≡ q.word) ⊎ (issued (sight k) r.word ≡ false))
   pub fresher : (l : Location) → IsStale (sight z) (Some l) → IsStale (sight k) (Some l)
   pub dirty_was : (l : Location) (r : MutRef) → value_in (sight z).ground l ≡ Some (value.Mut r) → r.dirty ≡ true → value_in (sight k).ground l ≡ Some (value.Mut r)
   pub lies_on : (r a : ℕ) (o : ObjNo) → LiesThere k r a o → LiesThere z r a o
@@ -52,8 +54,10 @@ along_itself k s = record {
   slots_lead = λ u t i. refl;
   cells_lead = λ u o. refl;
   boxes = λ l p e. e;
+  boxes_were = λ l p e. e;
   takes = λ t h. record { taking = t; among = h; thread = refl; place = refl };
   made = λ l r e. (r, e, refl);
+  word_was = λ l r e. (r, e, inl refl);
   fresher = λ l x. x;
   dirty_was = λ l r e d. e;
   lies_on = λ r a o l. l;
@@ -66,8 +70,10 @@ along_alike k x z c d same a t = record {
   slots_lead = λ v n i. sym (leads_pointing v (value_in (sight z).ground (at_slot n i))) ∙ ap (leads v) (u.stands (at_slot n i)) ∙ leads_pointing v (value_in (sight x).ground (at_slot n i)) ∙ t.slots_lead v n i;
   cells_lead = λ v o. sym (leads_pointing v (value_in (sight z).ground (in_cell o))) ∙ ap (leads v) (u.stands (in_cell o)) ∙ leads_pointing v (value_in (sight x).ground (in_cell o)) ∙ t.cells_lead v o;
   boxes = λ l p e. seen_pointer_at l (value_in (sight z).ground l) (value.Own (owned.Box p)) (record { at = Some l; word = p.word; object = p.object }) (u.stands l ∙ ap (seen_at l) (t.boxes l p e)) (inl refl);
+  boxes_were = λ l p e. t.boxes_were l p (seen_pointer_at l (value_in (sight x).ground l) (value.Own (owned.Box p)) (record { at = Some l; word = p.word; object = p.object }) (sym (u.stands l) ∙ ap (seen_at l) e) (inl refl));
   takes = λ v h. t.takes v (u.takes v h);
   made = λ l r e. t.made l r (reference_at l (value_in (sight x).ground l) r (sym (u.stands l) ∙ ap (seen_at l) e));
+  word_was = λ l r e. t.word_was l r (reference_at l (value_in (sight x).ground l) r (sym (u.stands l) ∙ ap (seen_at l) e));
   fresher = λ l s. t.fresher l (stale_at z x d (λ m. sym (u.stands m)) u.takes (Some l) s);
   dirty_was = λ l r e q. t.dirty_was l r (reference_at l (value_in (sight x).ground l) r (sym (u.stands l) ∙ ap (seen_at l) e)) q;
   lies_on = λ r b o l. (let y = t.lies_on r b o l in record { cell = y.cell; among = a.on (lies r b y.cell) y.among; object = y.object });
@@ -105,8 +111,10 @@ along_cleaned k x z l r w all new c d t e dirty fresh reworded now still = recor
   slots_lead = λ u n i. leads_on u (at_slot n i) ∙ t.slots_lead u n i;
   cells_lead = λ u o. leads_on u (in_cell o) ∙ t.cells_lead u o;
   boxes = boxes_on;
+  boxes_were = boxes_back;
   takes = λ v h. (let y = (soles_stay.reworded x z l r.object w reworded).takes v h in let q = t.takes y.taking y.among in record { taking = q.taking; among = q.among; thread = q.thread ∙ y.thread; place = q.place ∙ y.place });
   made = made_on;
+  word_was = word_on;
   fresher = λ m s. t.fresher m (changed_rewords x z l r.object w rewrites r e (dirty_changed r dirty) m s);
   dirty_was = was;
   lies_on = λ m a o y. still m a o (t.lies_on m a o y);
@@ -131,6 +139,14 @@ along_cleaned k x z l r w all new c d t e dirty fresh reworded now still = recor
         absurd cc)
         (λ (n : m ≡ l → ⊥). reworded.elsewhere m n ∙ g) (same_place m l)
 
+    boxes_back : (m : Location) (p : BoxPtr) → value_in (sight z).ground m ≡ Some (value.Own (owned.Box p)) → value_in (sight k).ground m ≡ Some (value.Own (owned.Box p))
+    boxes_back m p f =
+        ⊎_elim
+        (λ (s : m ≡ l).
+        let no : Some (value.Own (owned.Box p)) ≡ Some (value.Mut (took r w)) = sym f ∙ ap (value_in (sight z).ground) s ∙ now in
+        absurd cc)
+        (λ (n : m ≡ l → ⊥). t.boxes_were m p (sym (reworded.elsewhere m n) ∙ f)) (same_place m l)
+
     leads_on : (u : ℕ) (m : Location) → leads u (value_in (sight z).ground m) ≡ leads u (value_in (sight x).ground m)
     leads_on u m = sym (leads_outline u (value_in (sight z).ground m)) ∙ ap (leads u) ((soles_stay.reworded x z l r.object w reworded).stands m) ∙ leads_outline u (value_in (sight x).ground m)
 
@@ -143,6 +159,16 @@ along_cleaned k x z l r w all new c d t e dirty fresh reworded now still = recor
         let y = t.made m r (ap (value_in (sight x).ground) s ∙ e) in
         (y.0, y.1, y.2 ∙ ap (λ (a : MutRef). a.first) one))
         (λ (n : m ≡ l → ⊥). t.made m q (sym (reworded.elsewhere m n) ∙ f)) (same_place m l)
+
+    word_on : (m : Location) (q : MutRef) → value_in (sight z).ground m ≡ Some (value.Mut q) → (p : MutRef) × (value_in (sight k).ground m ≡ Some (value.Mut p)) × ((q.word ≡ p.word) ⊎ (issued (sight k) q.word ≡ false))
+    word_on m q f =
+        ⊎_elim
+        (λ (s : m ≡ l).
+        let same : value.Mut (took r w) ≡ value.Mut q = some_is (sym now ∙ ap (value_in (sight z).ground) (sym s) ∙ f) in
+        let one : took r w ≡ q = cc in
+        let y = t.made m r (ap (value_in (sight x).ground) s ∙ e) in
+        (y.0, y.1, inr (ap (issued (sight k)) (sym (ap (λ (a : MutRef). a.word) one)) ∙ new)))
+        (λ (n : m ≡ l → ⊥). t.word_was m q (sym (reworded.elsewhere m n) ∙ f)) (same_place m l)
 
     was : (m : Location) (q : MutRef) → value_in (sight z).ground m ≡ Some (value.Mut q) → q.dirty ≡ true → value_in (sight k).ground m ≡ Some (value.Mut q)
     was m q f g =

@@ -46,6 +46,7 @@ use Rattle.event_law.proofs.Sending.{applied_part, each_event_sends}
 use Rattle.read_law.specs.Reading.{Reads, copies, shares, lends, dups, locks}
 use Rattle.stay_law.proofs.Alike.{Alike}
 use Rattle.stay_law.proofs.Sites.{handed_over}
+use Rattle.stay_law.proofs.Steps.{TakesNoneHere}
 use Rattle.prepare_law.specs.Requests.{WordsHold, ReadsThatAsk}
 use Rattle.prepare_law.proofs.Along.{Along, along_alike}
 use Rattle.prepare_law.proofs.Hands.{places, State, Walks, first_hand, requests}
@@ -77,12 +78,15 @@ module _ (k : Cluster) (coherent : IsCoherent k) (s : Server) (here : server_at 
   abbrev Fine : Prepared → Type 0
   Fine = ReadsOk k coherent s here t y at on i code w m reads m
 
+  none : TakesNoneHere k.code y
+  none = takes_none y.number y.phase (slice_get k.code y.pc) free
+
   -- where no plain step is done
   abbrev Undone : Stepped → Type 0
   Undone d = d.names ≡ None → S d.hand
 
   followed : Fine (read_stars m h0 (in_slot w.slot))
-  followed = stars_ok k coherent s here t y at on i code w m reads m 0 h0 (in_slot w.slot) (omega arith) (record { state = first_hand k coherent s here t y at; untaken = takes_none y.number y.phase (slice_get k.code y.pc) free; gift = refl }) (a_slot w.slot refl)
+  followed = stars_ok k coherent s here t y at on i code w m reads m 0 h0 (in_slot w.slot) (omega arith) (record { state = first_hand k coherent s here t y at; untaken = λ e. e; gift = refl }) (a_slot w.slot refl)
 
   waits_so : (h : Hand) → S h → S (wait_step h).hand
   waits_so h g = record { ok = record { number = g.ok.number; thread = g.ok.thread; bag = g.ok.bag }; along = g.along }
@@ -97,12 +101,12 @@ module _ (k : Cluster) (coherent : IsCoherent k) (s : Server) (here : server_at 
 
   dup_so : (g : Option Owned) (sp : Spot) (h : Hand) → W h → Gives Undone (committed (dup sp g h))
   dup_so None sp h walks =
-      asks_mutex (mutex_at h sp) (ask_dup h) (λ c. requests k coherent s here t y at (act.AskDup c) c.home (message.Dup c h.work.rest.number h.thread.number) (phase.WaitDup c) h refl refl (λ q e z. z) (λ a j. refl) walks)
+      asks_mutex (mutex_at h sp) (ask_dup h) (λ c. requests k coherent s here t y at (act.AskDup c) c.home (message.Dup c h.work.rest.number h.thread.number) (phase.WaitDup c) h refl refl (λ q e z. z) (λ a j. refl) none walks)
   dup_so (Some v) sp h walks = done_so (option_map (λ c. push_temp (value.Own v) (load_at sp (take_gift h))) (mutex_at h sp))
 
   lock_so : (g : Option Owned) (sp : Spot) (h : Hand) → W h → Gives Undone (committed (lock sp g h))
   lock_so None sp h walks =
-      asks_mutex (mutex_at h sp) (ask_lock h) (λ c. requests k coherent s here t y at (act.AskLock c) c.home (message.Lock c h.work.rest.number h.thread.number) (phase.WaitLock c) h refl refl (λ q e z. z) (λ a j. refl) walks)
+      asks_mutex (mutex_at h sp) (ask_lock h) (λ c. requests k coherent s here t y at (act.AskLock c) c.home (message.Lock c h.work.rest.number h.thread.number) (phase.WaitLock c) h refl refl (λ q e z. z) (λ a j. refl) none walks)
   lock_so (Some v) sp h walks = done_so (option_map (push_content v (load_at sp (take_gift h))) (mutex_at h sp))
 
   -- what is asked for leaves the words
@@ -120,7 +124,7 @@ module _ (k : Cluster) (coherent : IsCoherent k) (s : Server) (here : server_at 
   asks_ready sp (Some h) = tt
 
   object_asked : (p : BoxPtr) (h : Hand) → W h → S (ask_object p h)
-  object_asked p h g = asks_object k coherent s here t y at on i code w m reads p h g
+  object_asked p h g = asks_object k coherent s here t y at on i code w m reads p h none g
 
   cleans_by : (a : Cleaned) (sp : Spot) (r : MutRef) (h : Hand) → W h → Asks (cleaned_by a sp r h)
   cleans_by cleaned.Same sp r h g = tt
@@ -153,12 +157,12 @@ module _ (k : Cluster) (coherent : IsCoherent k) (s : Server) (here : server_at 
 
   asks_then : (x : Prepared) (go : Hand → Spot → Prepared) → Fine x → ((h : Hand) (sp : Spot) → W h → Asks (go h sp)) → Asks (and_then go x)
   asks_then (ready h sp) go g f = f h sp g.0
-  asks_then (requested h) go g f = g
+  asks_then (requested h) go g f = g none
   asks_then nothing go g f = tt
 
   asks_alone : (x : Prepared) → Fine x → Asks x
   asks_alone (ready h sp) g = tt
-  asks_alone (requested h) g = g
+  asks_alone (requested h) g = g none
   asks_alone nothing g = tt
 
   loaded : (sp : Spot) (h : Hand) → W h → W (load_at sp h)
@@ -172,7 +176,7 @@ module _ (k : Cluster) (coherent : IsCoherent k) (s : Server) (here : server_at 
 
   prepared_waits : (servers : ℕ) (j : Instr) (x : Prepared) → Fine x → ((h : Hand) (sp : Spot) → W h → Gives Undone (committed (commit servers j sp h))) → Gives Undone (prepared servers j x)
   prepared_waits servers j (ready h sp) g f = f h sp g.0
-  prepared_waits servers j (requested h) g f = λ e. waits_so h g
+  prepared_waits servers j (requested h) g f = λ e. waits_so h (g none)
   prepared_waits servers j nothing g f = tt
 
   step_by : (servers : ℕ) (j : Instr) (v : Lval) (c : ℕ) → Reads j v c → Fine (read_stars c h0 (in_slot v.slot)) → Gives Undone (step servers j h0)

@@ -121,15 +121,18 @@ module _ (k : Cluster) (coherent : IsCoherent k) (s : Server) (here : server_at 
   abbrev Fine : Prepared → Type 0
   Fine = ReadsOk k coherent s here t y at on (instr.Read w false) code w w.depth (copies refl) w.depth
 
+  none : TakesNoneHere k.code y
+  none = untaken_here y.number y.phase (slice_get k.code y.pc) free
+
   followed : Fine (read_stars w.depth h0 (in_slot w.slot))
-  followed = stars_ok k coherent s here t y at on (instr.Read w false) code w w.depth (copies refl) w.depth 0 h0 (in_slot w.slot) (omega arith) (record { state = first_hand k coherent s here t y at; untaken = untaken_here y.number y.phase (slice_get k.code y.pc) free; gift = refl }) (a_slot w.slot refl)
+  followed = stars_ok k coherent s here t y at on (instr.Read w false) code w w.depth (copies refl) w.depth 0 h0 (in_slot w.slot) (omega arith) (record { state = first_hand k coherent s here t y at; untaken = λ e. e; gift = refl }) (a_slot w.slot refl)
 
   -- what is loaded is noted alone
   over_load : (sp : Spot) (h h2 : Hand) → Goes k.code n (load_at sp h) h2 → Goes k.code n h h2
   over_load sp h h2 g = record { alike = record { number = g.alike.number; named = g.alike.named; thread = g.alike.thread; rest = g.alike.rest }; untaken = g.untaken }
 
   plain_copy : (sp : Spot) (h : Hand) (u v : Value) → IsUnseen v → v ≡ u → W h → Goes k.code n h (push_temp u (load_at sp h))
-  plain_copy sp h u v x e g = subst (λ q. Goes k.code n h (push_temp q (load_at sp h))) e (over_load sp h (push_temp v (load_at sp h)) (pushes k.code n (load_at sp h) v x g.untaken))
+  plain_copy sp h u v x e g = subst (λ q. Goes k.code n h (push_temp q (load_at sp h))) e (over_load sp h (push_temp v (load_at sp h)) (pushes k.code n (load_at sp h) v x (g.untaken none)))
 
   pushed : (sp : Spot) (h : Hand) (v u : Value) → value_at h sp ≡ Some v → second_of v ≡ Some u → W h → At sp → Goes k.code n h (push_temp u (load_at sp h))
   pushed sp h (value.Own o) u e q g a = by (owns_nothing o) refl q
@@ -140,7 +143,7 @@ module _ (k : Cluster) (coherent : IsCoherent k) (s : Server) (here : server_at 
   pushed sp h (value.SharedSlot i) u e q g a = plain_copy sp h u (value.SharedSlot i) (shared_slot_unseen i) (let z : value.SharedSlot i ≡ u = cc in z) g
   pushed _ h (value.Shared r) u e q g (a_slot j located) =
       let z : value.Shared (record r { pinned = false }) ≡ u = cc in
-      subst (λ x. Goes k.code n h (push_temp x (load_at (in_slot j) h))) z (over_load (in_slot j) h (push_temp (value.Shared (record r { pinned = false })) (load_at (in_slot j) h)) (shared_pushed k.code n j r (load_at (in_slot j) h) e g.untaken))
+      subst (λ x. Goes k.code n h (push_temp x (load_at (in_slot j) h))) z (over_load (in_slot j) h (push_temp (value.Shared (record r { pinned = false })) (load_at (in_slot j) h)) (shared_pushed k.code n j r (load_at (in_slot j) h) e (g.untaken none)))
   pushed _ h (value.Shared r) u e q g (a_cell v through) = absurd (no_shared_cell (cell_at h (in_cell v through)) r e)
   pushed _ h (value.Shared r) u e q g (a_copy v) = absurd (no_shared_cell (cell_at h (in_copy v)) r e)
   pushed sp h (value.MutSlot i) u e q g a = absurd cc
@@ -159,7 +162,7 @@ module _ (k : Cluster) (coherent : IsCoherent k) (s : Server) (here : server_at 
 
   prepared_copy : (servers : ℕ) (x : Prepared) → Fine x → Gives (λ (d : Stepped). S d.hand) (prepared servers (instr.Read w false) x)
   prepared_copy servers (ready h sp) g = copied sp h g.0 g.1
-  prepared_copy servers (requested h) g = record { ok = record { number = g.ok.number; thread = g.ok.thread; bag = g.ok.bag }; along = g.along }
+  prepared_copy servers (requested h) g = let q = g none in record { ok = record { number = q.ok.number; thread = q.ok.thread; bag = q.ok.bag }; along = q.along }
   prepared_copy servers nothing g = tt
 
   stepped_copy : (servers : ℕ) → Gives (λ (d : Stepped). S d.hand) (step servers (instr.Read w false) h0)

@@ -95,8 +95,11 @@ module _ (k : Cluster) (coherent : IsCoherent k) (s : Server) (here : server_at 
   abbrev Left : Stepped → Type 0
   Left d = S d.hand
 
+  none : TakesNoneHere k.code y
+  none = untaken_here y.number y.phase (slice_get k.code y.pc) free
+
   followed : Fine (read_stars w.depth h0 (in_slot w.slot))
-  followed = stars_ok k coherent s here t y at on (instr.Dup w) code w w.depth (dups refl) w.depth 0 h0 (in_slot w.slot) (omega arith) (record { state = first_hand k coherent s here t y at; untaken = untaken_here y.number y.phase (slice_get k.code y.pc) free; gift = refl }) (a_slot w.slot refl)
+  followed = stars_ok k coherent s here t y at on (instr.Dup w) code w w.depth (dups refl) w.depth 0 h0 (in_slot w.slot) (omega arith) (record { state = first_hand k coherent s here t y at; untaken = λ e. e; gift = refl }) (a_slot w.slot refl)
 
   -- a gift there is the mutex
   gift_is : (v : Owned) → y.gift ≡ Some v → (m : MutexNo) × (v ≡ owned.Mutex m)
@@ -110,7 +113,7 @@ module _ (k : Cluster) (coherent : IsCoherent k) (s : Server) (here : server_at 
   asks : (o : Option MutexNo) (h : Hand) → W h → Gives Left (committed (waiting (option_map (ask_dup h) o)))
   asks None h g = tt
   asks (Some c) h g =
-      let q = requests k coherent s here t y at (act.AskDup c) c.home (message.Dup c h.work.rest.number h.thread.number) (phase.WaitDup c) h refl refl (λ p e z. z) (λ a j. refl) g in
+      let q = requests k coherent s here t y at (act.AskDup c) c.home (message.Dup c h.work.rest.number h.thread.number) (phase.WaitDup c) h refl refl (λ p e z. z) (λ a j. refl) none g in
       record { ok = record { number = q.ok.number; thread = q.ok.thread; bag = q.ok.bag }; along = q.along }
 
   takes : (sp : Spot) (h : Hand) (m : MutexNo) → W h → h.thread.gift ≡ Some (owned.Mutex m) → Gives Left (committed (dup sp (Some (owned.Mutex m)) h))
@@ -119,7 +122,7 @@ module _ (k : Cluster) (coherent : IsCoherent k) (s : Server) (here : server_at 
       let o = option_map (λ c. push_temp (value.Own (owned.Mutex m)) (load_at sp (take_gift h))) (mutex_at h sp) in
       both_give (SteppedOk sums_kept n s.events t b) (λ (d : Stepped). HandAlike k.code n [] h d.hand) Left (committed (dup sp (Some (owned.Mutex m)) h))
       (committed_keeps sums_kept n s.events t b (dup sp (Some (owned.Mutex m)) h) (subst (λ q. CommittedOk (Ok k coherent s here t y at) (dup sp q h)) e (commits sums_kept n s.events t b 0 (instr.Dup w) sp h tt (λ z. absurd z) g.state.ok)))
-      (goes_over k.code n h o (map_gives (Goes k.code n h) (mutex_at h sp) (λ c. push_temp (value.Own (owned.Mutex m)) (load_at sp (take_gift h))) (λ c q. gift_pushed k.code n m sp h e g.untaken)))
+      (goes_over k.code n h o (map_gives (Goes k.code n h) (mutex_at h sp) (λ c. push_temp (value.Own (owned.Mutex m)) (load_at sp (take_gift h))) (λ c q. gift_pushed k.code n m sp h e (g.untaken none))))
       (λ d x c. unseen k coherent s here t y at h d.hand g.state x c)
 
   by_gift : (o : Option Owned) (sp : Spot) (h : Hand) → W h → h.thread.gift ≡ o → Gives Left (committed (dup sp o h))
@@ -130,7 +133,7 @@ module _ (k : Cluster) (coherent : IsCoherent k) (s : Server) (here : server_at 
 
   prepared_dup : (servers : ℕ) (x : Prepared) → Fine x → Gives Left (prepared servers (instr.Dup w) x)
   prepared_dup servers (ready h sp) g = by_gift h.thread.gift sp h g.0 refl
-  prepared_dup servers (requested h) g = record { ok = record { number = g.ok.number; thread = g.ok.thread; bag = g.ok.bag }; along = g.along }
+  prepared_dup servers (requested h) g = let q = g none in record { ok = record { number = q.ok.number; thread = q.ok.thread; bag = q.ok.bag }; along = q.along }
   prepared_dup servers nothing g = tt
 
   pub server_dups : Gives (There (λ v. ⊤) k s) (does k.code k.options s (Step t))

@@ -189,23 +189,27 @@ module _ (k : Cluster) (coherent : IsCoherent k) (s : Server) (here : server_at 
   pub loaded : (sp : Spot) (h : Hand) → State h → State (load_at sp h)
   loaded sp h st = record { ok = record { number = st.ok.number; thread = st.ok.thread; bag = st.ok.bag }; along = st.along }
 
-  -- a state whose thread has taken nothing, and has the gift that it had
+  -- the thread has taken nothing, where it hadn't at the start
+  abbrev pub Untaken : Hand → Type 0
+  Untaken h = TakesNoneHere k.code y → TakesNoneHere k.code h.thread
+
+  -- a state whose thread has taken nothing if it hadn't, and has the gift that it had
   pub record Walks (h : Hand) : Type 0 where
     pub state : State h
-    pub untaken : TakesNoneHere k.code h.thread
+    pub untaken : Untaken h
     pub gift : h.thread.gift ≡ y.gift
 
   -- USES
 
   pub uses_copy : (v : ℕ) (h : Hand) → Walks h → Gives Walks (use_word v h)
   uses_copy v h w =
-      both_give Ok (λ (h2 : Hand). HandAlike k.code n [] h h2 × TakesNoneHere k.code h2.thread × (h2.thread.gift ≡ y.gift)) Walks (use_word v h) (uses_word sums_kept n s.events t (all_standing n (without_thread s.threads t) ++ others) v h w.state.ok) (by (is_in v h.thread.walk))
+      both_give Ok (λ (h2 : Hand). HandAlike k.code n [] h h2 × Untaken h2 × (h2.thread.gift ≡ y.gift)) Walks (use_word v h) (uses_word sums_kept n s.events t (all_standing n (without_thread s.threads t) ++ others) v h w.state.ok) (by (is_in v h.thread.walk))
       (λ h2 g a. record { state = unseen h h2 w.state g a.0; untaken = a.1; gift = a.2 })
     where
-      by : (b : Bool) → Gives (λ (h2 : Hand). HandAlike k.code n [] h h2 × TakesNoneHere k.code h2.thread × (h2.thread.gift ≡ y.gift)) (used_once v b h)
+      by : (b : Bool) → Gives (λ (h2 : Hand). HandAlike k.code n [] h h2 × Untaken h2 × (h2.thread.gift ≡ y.gift)) (used_once v b h)
       by true = (hand_itself k.code n h, w.untaken, w.gift)
       by false =
-          test_gives (λ (h2 : Hand). HandAlike k.code n [] h h2 × TakesNoneHere k.code h2.thread × (h2.thread.gift ≡ y.gift)) (can_pin h.work.rest.cache v) _
+          test_gives (λ (h2 : Hand). HandAlike k.code n [] h h2 × Untaken h2 × (h2.thread.gift ≡ y.gift)) (can_pin h.work.rest.cache v) _
           (λ on. (
             record {
               number = refl;
@@ -221,10 +225,10 @@ module _ (k : Cluster) (coherent : IsCoherent k) (s : Server) (here : server_at 
   pins_copy j r true h q e w = w
   pins_copy j r false h q e w =
       test_gives Walks (can_pin h.work.rest.cache r.word) _
-      (λ on. both_give Ok (λ (h2 : Hand). HandAlike k.code n [] h h2 × TakesNoneHere k.code h2.thread × (h2.thread.gift ≡ y.gift)) Walks (put_slot j new (working (with_cache (pin h.work.rest.cache r.word)) h))
+      (λ on. both_give Ok (λ (h2 : Hand). HandAlike k.code n [] h h2 × Untaken h2 × (h2.thread.gift ≡ y.gift)) Walks (put_slot j new (working (with_cache (pin h.work.rest.cache r.word)) h))
       (puts_at sums_kept n s.events t (in_slot j) (value.Shared r) new (working (with_cache (pin h.work.rest.cache r.word)) h) e (one_goes (uses n r.word) (all_standing n (without_thread s.threads t) ++ others)) (pin_rule n r q)
       (hand_begins sums_kept n s.events t (all_standing n (without_thread s.threads t) ++ others) h r.word on w.state.ok))
-      (test_gives (λ (h2 : Hand). HandAlike k.code n [] h h2 × TakesNoneHere k.code h2.thread × (h2.thread.gift ≡ y.gift)) (nat_lt j (length h.thread.slots)) _
+      (test_gives (λ (h2 : Hand). HandAlike k.code n [] h h2 × Untaken h2 × (h2.thread.gift ≡ y.gift)) (nat_lt j (length h.thread.slots)) _
       (λ in_range. (
         record {
           number = refl;
@@ -243,9 +247,9 @@ module _ (k : Cluster) (coherent : IsCoherent k) (s : Server) (here : server_at 
 
   -- REQUESTS
 
-  pub requests : (a : Act) (target : ℕ) (m : Message) (p : Phase) (h : Hand) → message_things target m ≡ sent target m ∷ [] → is_plain m ≡ true → ((q : Pointer) → q.at ≡ None → Among q (pointers_of (sent target m)) → ⊥) → TakesNone p → Walks h
+  pub requests : (a : Act) (target : ℕ) (m : Message) (p : Phase) (h : Hand) → message_things target m ≡ sent target m ∷ [] → is_plain m ≡ true → ((q : Pointer) → q.at ≡ None → Among q (pointers_of (sent target m)) → ⊥) → TakesNone p → TakesNoneHere k.code y → Walks h
       → State (with_phase p (working (send target m) (working (note a) h)))
-  requests a target m p h alone plain quiet none w =
+  requests a target m p h alone plain quiet none free w =
       let b = all_standing n (without_thread s.threads t) ++ others in
       let h1 = working (note a) h in
       let g1 : Ok h1 = record { number = w.state.ok.number; thread = w.state.ok.thread; bag = w.state.ok.bag } in
@@ -255,7 +259,7 @@ module _ (k : Cluster) (coherent : IsCoherent k) (s : Server) (here : server_at 
       unseen h h2 w.state g2 (record {
         number = sent_number h.work.rest target m;
         named = refl;
-        thread = thread_alike n n false false h.thread (record h.thread { phase = p }) [] [] (record { number = refl; taking = none h.thread.number (slice_get k.code h.thread.pc) ∙ sym w.untaken; slots = λ i. refl; temps = λ i. refl })
+        thread = thread_alike n n false false h.thread (record h.thread { phase = p }) [] [] (record { number = refl; taking = none h.thread.number (slice_get k.code h.thread.pc) ∙ sym (w.untaken free); slots = λ i. refl; temps = λ i. refl })
             (itself (slots_of n h.thread)) (itself (temps_of n h.thread)) (itself (held_if h.thread.gift));
         rest = chain (turned (goes_unseen gone)) (sends n h.work.rest w.state.ok.number target m);
       })
@@ -267,7 +271,7 @@ module _ (k : Cluster) (coherent : IsCoherent k) (s : Server) (here : server_at 
       → put_word (in_slot j) (issue_tint (box_of r) h.work) h ≡ Some h2 → Walks h2
   cleans_at h h2 j r walks g2 e dirty fresh under worded = record {
     state = record { ok = g2; along = along_cleaned k (put h) (put h2) l r (next_word r.word) issued_all new (places h g) (places h2 g2) walks.state.along there dirty fresh reworded now still };
-    untaken = subst (λ th. TakesNoneHere k.code th) (sym wrote.thread) walks.untaken;
+    untaken = λ e. subst (λ th. TakesNoneHere k.code th) (sym wrote.thread) (walks.untaken e);
     gift = ap (λ (th : ThreadState). th.gift) wrote.thread ∙ walks.gift;
   }
     where

@@ -43,6 +43,7 @@ use Rattle.event_law.proofs.Bags.{all_standing, thread_number}
 use Rattle.event_law.proofs.Events.{others_of}
 use Rattle.event_law.proofs.NewWords.{puts_word}
 use Rattle.read_law.specs.Reading.{Reads}
+use Rattle.stay_law.proofs.Steps.{TakesNoneHere}
 use Rattle.prepare_law.proofs.Hands.{Ok, put, places, stands, State, Walks, noted, loaded, uses_copy, pins_copy, requests, cleans_slot}
 
 -- WHICH HOPS ARE TO SLOTS, AND WHICH WANT A TINT
@@ -154,7 +155,7 @@ module _ (k : Cluster) (coherent : IsCoherent k) (s : Server) (here : server_at 
 
   abbrev pub ReadsOk : ℕ → Prepared → Type 0
   ReadsOk d (ready h sp) = W h × At d sp
-  ReadsOk d (requested h) = S h
+  ReadsOk d (requested h) = TakesNoneHere k.code y → S h
   ReadsOk d nothing = ⊤
 
   then_ok : (d e : ℕ) (x : Prepared) (go : Hand → Spot → Prepared) → ReadsOk d x → ((h : Hand) (sp : Spot) → W h → At d sp → ReadsOk e (go h sp)) → ReadsOk e (and_then go x)
@@ -172,15 +173,15 @@ module _ (k : Cluster) (coherent : IsCoherent k) (s : Server) (here : server_at 
 
   -- REQUESTS
 
-  pub asks_copy : (p : BoxPtr) (h : Hand) → W h → S (ask_copy p h)
-  asks_copy p h g = requests k coherent s here t y at (act.Ask p.object p.word) (server_of p.word) (message.Fetch p.word p.object h.work.rest.number h.thread.number) (phase.WaitCell p.word) h refl refl (λ q e z. z) (λ c j. refl) g
+  pub asks_copy : (p : BoxPtr) (h : Hand) → TakesNoneHere k.code y → W h → S (ask_copy p h)
+  asks_copy p h free g = requests k coherent s here t y at (act.Ask p.object p.word) (server_of p.word) (message.Fetch p.word p.object h.work.rest.number h.thread.number) (phase.WaitCell p.word) h refl refl (λ q e z. z) (λ c j. refl) free g
 
-  pub asks_object : (p : BoxPtr) (h : Hand) → W h → S (ask_object p h)
-  asks_object p h g = requests k coherent s here t y at (act.Pull p.object p.word) (server_of p.word) (message.Move p.word p.object h.work.rest.number h.thread.number) (phase.WaitCell p.word) h refl refl (λ q e z. z) (λ c j. refl) g
+  pub asks_object : (p : BoxPtr) (h : Hand) → TakesNoneHere k.code y → W h → S (ask_object p h)
+  asks_object p h free g = requests k coherent s here t y at (act.Pull p.object p.word) (server_of p.word) (message.Move p.word p.object h.work.rest.number h.thread.number) (phase.WaitCell p.word) h refl refl (λ q e z. z) (λ c j. refl) free g
 
   asked_ok : (d : ℕ) (h : Hand) (o : Option BoxPtr) → W h → ReadsOk d (request_by ask_copy h o)
   asked_ok d h None g = tt
-  asked_ok d h (Some p) g = asks_copy p h g
+  asked_ok d h (Some p) g = λ free. asks_copy p h free g
 
   -- ONE HOP
 
@@ -265,7 +266,7 @@ module _ (k : Cluster) (coherent : IsCoherent k) (s : Server) (here : server_at 
   cleaned_ok d j r cleaned.Same h g lt dirty away e located = (g, a_slot j located)
   cleaned_ok d j r (cleaned.Tinted v) h g lt dirty away e located = tinted d j r h g lt dirty e located
   cleaned_ok d j r cleaned.MustRenew h g lt dirty away e located =
-      subst (λ b. ReadsOk d (if b then ready_at (in_slot j) (then_some (issue_renewal (box_of r) h.work) (λ c. put_word (in_slot j) c h)) else requested (ask_object (box_of r) h))) (sym away) (asks_object (box_of r) h g)
+      subst (λ b. ReadsOk d (if b then ready_at (in_slot j) (then_some (issue_renewal (box_of r) h.work) (λ c. put_word (in_slot j) c h)) else requested (ask_object (box_of r) h))) (sym away) (λ free. asks_object (box_of r) h free g)
 
   slot_clean : (d j : ℕ) (v : Value) (o : Option Hop) (h : Hand) → read_hop h.work.rest.number h.work.rest.cache v ≡ o → W h → d < m → slice_get h.thread.slots j ≡ Some v → locate (sight k).ground y.number w.slot d ≡ Some (at_slot y.number j)
       → ReadsOk d (read_clean (in_slot j) v o h)

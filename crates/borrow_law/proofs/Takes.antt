@@ -1,0 +1,399 @@
+-- A mutable borrow whose object was taken: done, it keeps the words, as the reference has the word under which the object was taken.
+use Rattle.std.proofs.Common.{◌≡◌, ◌≢◌, ◌⊎◌, inl, inr, ⊎_elim, ℕ, zero, suc, ◌+◌, ◌==◌, Bool, true, false, if◌then◌else◌, List, [], ◌∷◌, ◌++◌, Option, Some, None, IsSome, option_map, refl, sym, ap, ap₂, subst, ◌∙◌, arith}
+use Rattle.std.specs.Prelude.{⊤, slice_get, length}
+use Rattle.std.proofs.lemmas.Bool.{eq-eqb}
+use Rattle.fr_base.specs.declared.place.Lval.{Lval}
+use Rattle.fr_base.specs.declared.step.Fresh.TheVariants as fresh
+use Rattle.fr_base.specs.declared.instruction.Instr.{Instr}
+use Rattle.fr_base.specs.declared.instruction.Instr.TheVariants as instr
+use Rattle.heap_partition.specs.declared.value.BoxPtr.{BoxPtr}
+use Rattle.heap_partition.specs.declared.value.Owned.{Owned}
+use Rattle.heap_partition.specs.declared.value.Owned.TheVariants as owned
+use Rattle.mut_borrow.specs.declared.mutable.MutRef.{MutRef}
+use Rattle.place_walk.specs.declared.hop.Hop.{Hop}
+use Rattle.place_walk.specs.declared.hop.Hop.TheVariants as hop
+use Rattle.place_walk.specs.Hops.{write_hop}
+use Rattle.journal.specs.View.{EntryView}
+use Rattle.thread_state.specs.View.{ThreadState}
+use Rattle.thread_state.specs.declared.phase.Phase.{Phase}
+use Rattle.thread_state.specs.declared.phase.Phase.TheVariants as phase
+use Rattle.thread_state.specs.declared.value.Value.{Value}
+use Rattle.thread_state.specs.declared.value.Value.TheVariants as value
+use Rattle.server_model.specs.declared.event.Event.{Event}
+use Rattle.server_model.specs.declared.event.What.TheVariants.{Step}
+use Rattle.server_model.specs.Servers.{Server, Cluster, server_at}
+use Rattle.server_model.specs.Work.{Hand, push_temp, thread_in, without_thread, then_some}
+use Rattle.server_model.specs.Clusters.{apply}
+use Rattle.server_model.specs.Places.{Spot, in_slot, took, value_at, load_at, pointer_of}
+use Rattle.server_model.specs.Prepare.{Prepared, ready, requested, nothing, LendTo, and_then, ask_object, request_by, read_stars, is_taken, lend_by, lend_value, lend_pointer, prepare}
+use Rattle.server_model.specs.Commit.{go_on, goes_on, lent_word, mutable_from, borrow_mut, borrow_mut_from, commit, settle}
+use Rattle.server_model.specs.Events.{enabled, begin_work, Stepped, done_step, committed, prepared, step, step_in, stepped, does}
+use Rattle.heap_law.specs.Names.{Among, same_object, one, other}
+use Rattle.heap_law.specs.Things.{Location, at_slot, in_cell, Thing, stands, servers_things, things_of}
+use Rattle.heap_law.specs.Follow.{Ground, Standing, value_in, value_behind, leads, locate, place_at}
+use Rattle.heap_law.specs.Placing.{is_first, phase_word, words}
+use Rattle.heap_law.specs.Requests.{has_word, last_hop, taken_again, old_word, lies_here, taken_there, taken_phase, lent_place}
+use Rattle.heap_law.specs.Sight.{Pointer, taken_object, issued, sight}
+use Rattle.heap_law.specs.Stale.{one_star_less}
+use Rattle.heap_law.specs.Walking.{instr_of}
+use Rattle.heap_law.proofs.Words.{itself, none_at}
+use Rattle.type_law.specs.ClusterTypes.{IsCoherent}
+use Rattle.path_law.proofs.Sole.{some_is}
+use Rattle.word_law.specs.Reworded.{HasPlaces}
+use Rattle.word_law.specs.Unmoved.{Taking, taking_by, taking_of}
+use Rattle.word_law.proofs.Follows.{seen_places_lead}
+use Rattle.word_law.proofs.Standing.{pointer_at}
+use Rattle.word_law.proofs.Unmoved.{untouched_stays}
+use Rattle.event_law.specs.Laws.{Gives, FewEvents}
+use Rattle.event_law.proofs.Results.{map_gives, over_gives, both_give}
+use Rattle.event_law.proofs.RulesKeep.{sums_kept}
+use Rattle.event_law.proofs.Bags.{all_standing}
+use Rattle.event_law.proofs.Events.{others_of}
+use Rattle.event_law.proofs.GiftsTaken.{none_here}
+use Rattle.event_law.proofs.AllSteps.{commits}
+use Rattle.event_law.proofs.Commits.{CommittedOk}
+use Rattle.event_law.proofs.Steps.{SteppedOk, committed_keeps}
+use Rattle.read_law.specs.Reading.{Reads, lends}
+use Rattle.still_law.proofs.Prepares.{Fine as Shown}
+use Rattle.still_law.proofs.Readied.{Readied}
+use Rattle.stay_law.proofs.Alike.{turned}
+use Rattle.stay_law.proofs.Seen.{seen_alike}
+use Rattle.stay_law.proofs.Sites.{HandAlike}
+use Rattle.stay_law.proofs.Steps.{settles}
+use Rattle.turn_law.proofs.ReadWalk.{value_loaded}
+use Rattle.turn_law.proofs.StarLines.{shows}
+use Rattle.prepare_law.specs.Requests.{WordsHold}
+use Rattle.prepare_law.proofs.Hands.{Ok, State, Walks, put, places}
+use Rattle.prepare_law.proofs.Stars.{Spotted, walks_loaded}
+use Rattle.prepare_law.proofs.Asking.{found_number}
+use Rattle.carry_law.proofs.Far.{thread_thing}
+use Rattle.carry_law.proofs.Locks.{holds_on, Kept}
+use Rattle.borrow_law.specs.Borrows.{TakenBorrowsKeep}
+use Rattle.borrow_law.proofs.Handed.{kept_if}
+use Rattle.borrow_law.proofs.Pushed.{hands_alike}
+use Rattle.borrow_law.proofs.Sources as sources
+use Rattle.borrow_law.proofs.LentOne.{LentOne, lent_one_stays}
+use Rattle.borrow_law.proofs.OnTop.{takings_were, takings_but, taking_there, lent_on_top}
+use Rattle.borrow_law.proofs.Lends.{none_lent, points_somewhere, own_no_mut, its_first}
+
+counted_none : (b : Bool) → one b ≡ 0 → b ≡ false
+counted_none true e = absurd cc
+counted_none false e = refl
+
+counted_all : (b : Bool) → other b ≡ 0 → b ≡ true
+counted_all true e = refl
+counted_all false e = absurd cc
+
+-- another word
+other_word : (a v : ℕ) → (a == v) ≡ false → v ≡ a → ⊥
+other_word a v e s = let t : true ≡ false = sym (eq-eqb a v (sym s)) ∙ e in absurd cc
+
+lies_in_cell : (k : Cluster) (r v : ℕ) (l : Option Location) (t i : ℕ) → lies_here (sight k) r v l ≡ true → l ≡ Some (at_slot t i) → ⊥
+lies_in_cell k r v l t i e f = let no : false ≡ true = sym (ap (lies_here (sight k) r v) f) ∙ e in absurd cc
+
+module _ (k : Cluster) (coherent : IsCoherent k) (s : Server) (here : server_at k.servers s.rest.number ≡ Some s) (t : ℕ) (y : ThreadState) (at : thread_in s.threads t ≡ Some y)
+    (on : enabled k.options s (Step t) ≡ true) (w : Lval) (m : ℕ) (deep : w.depth ≡ suc m) (code : slice_get k.code y.pc ≡ Some (instr.BorrowMut w)) (v : ℕ) (has : y.phase ≡ phase.Taken v) where
+  abbrev n : ℕ
+  n = s.rest.number
+
+  abbrev i : Instr
+  i = instr.BorrowMut w
+
+  abbrev reads : Reads i w m
+  reads = lends deep
+
+  abbrev g : Ground
+  g = (sight k).ground
+
+  abbrev W : Hand → Type 0
+  W = Walks k coherent s here t y at
+
+  abbrev IsOk : Hand → Type 0
+  IsOk = Ok k coherent s here t y at
+
+  abbrev Put : Hand → Cluster
+  Put = put k coherent s here t y at
+
+  abbrev h0 : Hand
+  h0 = record { work = begin_work s.rest; thread = y }
+
+  abbrev x : Standing
+  x = record { server = n; packed = false; thread = y }
+
+  abbrev b : List Thing
+  b = all_standing n (without_thread s.threads t) ++ servers_things (others_of k.servers n)
+
+  abbrev e0 : Event
+  e0 = record { server = n; what = Step t }
+
+  abbrev holder : Lval
+  holder = record w { depth = m }
+
+  abbrev Came : Prepared → Type 0
+  Came = sources.Came k coherent s here t y at on i code w m reads deep
+
+  abbrev Followed : Prepared → Type 0
+  Followed = sources.Followed k coherent s here t y at on i code w m reads deep
+
+  abbrev AtSpot : Hand → Spot → Type 0
+  AtSpot = sources.AtSpot k coherent s here t y at on i code w m reads deep
+
+  abbrev Source : Hand → Value → Type 0
+  Source = sources.Source k coherent s here t y at on i code w m reads deep
+
+  abbrev IsNone : Value → Type 0
+  IsNone = sources.IsNone k coherent s here t y at on i code w m reads deep
+
+  placed : (h : Hand) → IsOk h → HasPlaces (Put h)
+  placed h q = places k coherent s here t y at h q
+
+  -- WHAT THE CLUSTER SAYS OF IT
+
+  -- the pointer that the place follows last has another word
+  new_word : has_word v (value_behind g (locate g y.number w.slot m)) ≡ false
+  new_word =
+      let all : old_word (sight k) x y.phase ≡ 0 = none_here k coherent.sound n s here t y at (λ z. old_word (sight k) z z.thread.phase) coherent.sound.requests.taken_is_new in
+      let there : taken_again (sight k) x v (lent_place (slice_get k.code y.pc)) ≡ 0 = subst (λ p. old_word (sight k) x p ≡ 0) has all in
+      let its : taken_again (sight k) x v (Some w) ≡ 0 = subst (λ j. taken_again (sight k) x v (lent_place j) ≡ 0) code there in
+      counted_none (has_word v (value_behind g (locate g y.number w.slot m))) (subst (λ d. one (last_hop (sight k) x v w d) ≡ 0) deep its)
+
+  -- the place leads to an object
+  in_a_cell : lies_here (sight k) n v (locate g y.number w.slot (suc m)) ≡ true
+  in_a_cell =
+      let all : taken_phase (sight k) x y.phase ≡ 0 = none_here k coherent.sound n s here t y at (λ z. taken_phase (sight k) z z.thread.phase) coherent.sound.requests.taken_stands in
+      let there : taken_there (sight k) x v (lent_place (slice_get k.code y.pc)) ≡ 0 = subst (λ p. taken_phase (sight k) x p ≡ 0) has all in
+      let its : taken_there (sight k) x v (Some w) ≡ 0 = subst (λ j. taken_there (sight k) x v (lent_place j) ≡ 0) code there in
+      ap (λ d. lies_here (sight k) n v (locate g y.number w.slot d)) (sym deep) ∙ counted_all (lies_here (sight k) n v (place_at g y.number w)) its
+
+  -- the word was issued
+  is_issued : issued (sight k) v ≡ true
+  is_issued =
+      let f : ℕ → ℕ = λ u. other (issued (sight k) u) in
+      let going = sources.going k coherent s here t y at on i code w m reads deep in
+      let mine = none_at (words (λ u. other (issued (sight k) u))) (stands n false y) (things_of k) coherent.sound.words.are_issued (thread_thing x (things_of k) going.among) in
+      counted_all (issued (sight k) v) (subst (λ p. phase_word (λ u. other (issued (sight k) u)) p ≡ 0) has mine)
+
+  -- THE POINTER IS READY
+
+  record Lends (h : Hand) (sp : Spot) : Type 0 where
+    walks : W h
+    source : (u : Value) → value_at h sp ≡ Some u → Source h u ⊎ IsNone u
+
+  abbrev Fine : Prepared → Type 0
+  Fine (ready h sp) = Lends h sp
+  Fine (requested h) = ⊤
+  Fine nothing = ⊤
+
+  fine_if : (c : Bool) (p q : Prepared) → Fine p → Fine q → Fine (if c then p else q)
+  fine_if true p q f h = f
+  fine_if false p q f h = h
+
+  lent : (h : Hand) (sp : Spot) → W h → Spotted g y.number w.slot m sp → ((u : Value) → value_at h sp ≡ Some u → AtSpot h sp) → Fine (lend_value sp (value_at h sp) (load_at sp h))
+  lent h sp c p a = by (value_at h sp)
+    where
+      of_loaded : (u : Value) → Source h u ⊎ IsNone u → Source (load_at sp h) u ⊎ IsNone u
+      of_loaded u (inl q) = inl (record { location = q.location; located = q.located; stands = q.stands })
+      of_loaded u (inr q) = inr q
+
+      there : Lends (load_at sp h) sp
+      there = record {
+        walks = walks_loaded k coherent s here t y at on i code w m reads sp h c;
+        source = λ u e. of_loaded u (sources.sourced k coherent s here t y at on i code w m reads deep h sp c p a u (sym (value_loaded sp h) ∙ e));
+      }
+
+      asks : (o : Option BoxPtr) → Fine (request_by ask_object (load_at sp h) o)
+      asks None = tt
+      asks (Some q) = tt
+
+      by_hop : (u : Value) (o : Option Hop) → Fine (lend_by sp u o (load_at sp h))
+      by_hop u None = tt
+      by_hop u (Some (hop.NeedMove z)) = fine_if (is_taken h.thread.phase) (ready (load_at sp h) sp) (request_by ask_object (load_at sp h) (pointer_of u)) there (asks (pointer_of u))
+      by_hop u (Some (hop.Slot z)) = there
+      by_hop u (Some (hop.Direct z)) = there
+      by_hop u (Some (hop.Hit z)) = there
+      by_hop u (Some (hop.NeedCopy z)) = there
+      by_hop u (Some (hop.NeedTint z)) = there
+      by_hop u (Some (hop.AtCell z)) = there
+
+      by : (o : Option Value) → Fine (lend_value sp o (load_at sp h))
+      by None = tt
+      by (Some u) = by_hop u (write_hop h.work.rest.number u)
+
+  all_lent : (p : Prepared) → Followed p → Came p → Fine (and_then (λ h2 sp. lend_value sp (value_at h2 sp) (load_at sp h2)) p)
+  all_lent (ready h sp) f a = lent h sp f.0 f.1 a
+  all_lent (requested h) f a = tt
+  all_lent nothing f a = tt
+
+  -- THE BORROW
+
+  -- words hold in a hand of which words see the same
+  record Ended (h2 : Hand) : Type 0 where
+    middle : Hand
+    ok : IsOk middle
+    words : WordsHold (Put middle)
+    alike : HandAlike k.code n [] middle h2
+
+  abbrev Ends : Stepped → Type 0
+  Ends d = Ended d.hand
+
+  module _ (h : Hand) (sp : Spot) (q : Lends h sp) (shown : Readied h0 h) where
+    ok : IsOk h
+    ok = q.walks.state.ok
+
+    taken_now : h.thread.phase ≡ phase.Taken v
+    taken_now = ap (λ (z : ThreadState). z.phase) shown.thread ∙ has
+
+    code_now : slice_get k.code h.thread.pc ≡ Some (instr.BorrowMut w)
+    code_now = ap (λ (z : ThreadState). slice_get k.code z.pc) shown.thread ∙ code
+
+    located_now : (l : Location) → locate g y.number w.slot m ≡ Some l → locate (sight (Put h)).ground h.thread.number w.slot m ≡ Some l
+    located_now l e =
+        ap (λ u. locate (sight (Put h)).ground u w.slot m) (ap (λ (z : ThreadState). z.number) shown.thread)
+        ∙ seen_places_lead (sight k).ground (sight (Put h)).ground q.walks.state.along.slots_lead q.walks.state.along.cells_lead y.number w.slot m ∙ e
+
+    -- the pointer there has another word than the object was taken under
+    box_word : (p : BoxPtr) (src : Source h (value.Own (owned.Box p))) → v ≢ p.word
+    box_word p src = other_word p.word v (sym (ap (λ o. has_word v (value_behind g o)) src.located ∙ ap (has_word v) (q.walks.state.along.boxes_were src.location p src.stands)) ∙ new_word)
+
+    mut_word : (r : MutRef) (src : Source h (value.Mut r)) → v ≢ r.word
+    mut_word r src e =
+        let z = q.walks.state.along.word_was src.location r src.stands in
+        let old : (z.0.word == v) ≡ false = sym (ap (λ o. has_word v (value_behind g o)) src.located ∙ ap (has_word v) z.1) ∙ new_word in
+        ⊎_elim (λ (f : r.word ≡ z.0.word). other_word z.0.word v old (e ∙ f)) (λ (f : issued (sight k) r.word ≡ false). let no : true ≡ false = sym is_issued ∙ ap (issued (sight k)) e ∙ f in absurd cc) z.2
+
+    abbrev taking : Taking
+    taking = record { thread = h.thread.number; place = w; word = v }
+
+    taking_is : taking_of k.code (record { server = n; packed = false; thread = h.thread }) ≡ Some taking
+    taking_is = ap₂ (λ p j. taking_by h.thread.number p j) taken_now code_now
+
+    -- the reference is on top, with the word under which its object was taken
+    referred : (r : MutRef) → r.holder ≡ holder → r.dirty ≡ false → r.word ≡ v → (u : Value) → (src : Source h u) → Among (record { at = Some src.location; word = r.first; object = r.object }) (pointer_at src.location u) → is_first r (Some u) ≡ true → v ≢ r.first
+        → leads h.thread.number (Some u) ≡ Some (in_cell r.object) → IsOk (go_on (push_temp (value.Mut r) h)) → Gives Ends (committed (goes_on (Some (push_temp (value.Mut r) h))))
+    referred r held clean its u src pointer first new leading after =
+        let h3 : Hand = go_on (push_temp (value.Mut r) h) in
+        let g2 : Ground = (sight (Put h)).ground in
+        let place : locate g2 h.thread.number w.slot m ≡ Some src.location = located_now src.location src.located in
+        let at_holder : locate (sight (Put h)).ground h.thread.number r.holder.slot r.holder.depth ≡ Some src.location = ap (λ (p : Lval). locate (sight (Put h)).ground h.thread.number p.slot p.depth) held ∙ place in
+        let to_object : locate g2 h.thread.number w.slot (suc m) ≡ Some (in_cell r.object) = ap (λ o. leads h.thread.number (value_behind g2 o)) place ∙ ap (leads h.thread.number) src.stands ∙ leading in
+        let one_more : LentOne (Put h) (Put h3) h.thread.number (length h.thread.temps) src.location r =
+        lent_on_top k coherent s here t y at h r ok after src.location u at_holder src.stands pointer first (takings_were k coherent s here t y at h r ok after)
+        (inr (record {
+          taking = taking;
+          listed = taking_there k coherent s here t y at h r ok after taking taking_is;
+          lent = ap (one_star_less g2 h.thread.number w.slot) deep ∙ place;
+          its = ap (λ d. taken_object v (locate g2 h.thread.number w.slot d)) deep ∙ ap (taken_object v) to_object ∙ ap (λ c. record { at = None; word = c; object = r.object } ∷ []) (sym its);
+          took = takings_but k coherent s here t y at h r ok after taking taking_is;
+          renewed = λ e. new (sym its ∙ e);
+          clean = clean;
+        })) in
+        over_gives (HandAlike k.code n [] h3) Ends (settle h3) (done_step fresh.None) (settles k.code n h3)
+        (λ h4 a. record {
+          middle = h3;
+          ok = after;
+          words = holds_on (lent_one_stays (Put h) (Put h3) h.thread.number (length h.thread.temps) src.location r (placed h ok) (placed h3 after) one_more q.walks.state.along.words.has_words) q.walks.state.along.words;
+          alike = a;
+        })
+
+    referred_so : (r : MutRef) → r.holder ≡ holder → (u z : Value) → Some (value.Mut (lent_word h.thread.phase r)) ≡ Some z → (src : Source h u) → Among (record { at = Some src.location; word = r.first; object = r.object }) (pointer_at src.location u) → is_first r (Some u) ≡ true → v ≢ r.first
+        → leads h.thread.number (Some u) ≡ Some (in_cell r.object) → IsOk (go_on (push_temp z h)) → Gives Ends (committed (goes_on (Some (push_temp z h))))
+    referred_so r held u z made src pointer first new leading =
+        let same : value.Mut (took r v) ≡ z = ap (λ p. value.Mut (lent_word p r)) (sym taken_now) ∙ some_is made in
+        subst (λ c. IsOk (go_on (push_temp c h)) → Gives Ends (committed (goes_on (Some (push_temp c h))))) same (referred (took r v) held refl refl u src pointer first new leading)
+
+    -- a reference to a slot wasn't taken
+    no_slot : (j : ℕ) → Source h (value.MutSlot j) → ⊥
+    no_slot j src =
+        let place : locate (sight (Put h)).ground h.thread.number w.slot m ≡ Some src.location = located_now src.location src.located in
+        let number : h.thread.number ≡ y.number = ap (λ (z : ThreadState). z.number) shown.thread in
+        let to_slot : locate (sight (Put h)).ground y.number w.slot (suc m) ≡ Some (at_slot y.number j) =
+        ap (λ o. leads y.number (value_behind (sight (Put h)).ground o)) (ap (λ c. locate (sight (Put h)).ground c w.slot m) (sym number) ∙ place) ∙ ap (leads y.number) src.stands in
+        lies_in_cell k n v (locate g y.number w.slot (suc m)) y.number j in_a_cell
+        (sym (seen_places_lead (sight k).ground (sight (Put h)).ground q.walks.state.along.slots_lead q.walks.state.along.cells_lead y.number w.slot (suc m)) ∙ to_slot)
+
+    pushed : (u z : Value) → Source h u ⊎ IsNone u → mutable_from h.thread.phase holder u ≡ Some z → IsOk (go_on (push_temp z h)) → Gives Ends (committed (goes_on (Some (push_temp z h))))
+    pushed (value.MutSlot j) z (inl src) made after = absurd (no_slot j src)
+    pushed (value.MutSlot j) z (inr src) made after = absurd (slot_no_own j src.0 src.1)
+      where
+        slot_no_own : (c : ℕ) (o : Owned) → value.MutSlot c ≡ value.Own o → ⊥
+        slot_no_own c o e = absurd cc
+    pushed (value.Own (owned.Box p)) z (inl src) made after =
+        referred_so (record { word = p.word; first = p.word; object = p.object; dirty = false; holder = holder }) refl (value.Own (owned.Box p)) z made src (inl refl) (its_first p.word p.object) (box_word p src) refl after
+    pushed (value.Own (owned.Box p)) z (inr src) made after = absurd (points_somewhere p src.2)
+    pushed (value.Mut r) z (inl src) made after =
+        referred_so (record { word = r.word; first = r.word; object = r.object; dirty = r.dirty; holder = holder }) refl (value.Mut r) z made src (inl refl) (its_first r.word r.object) (mut_word r src) refl after
+    pushed (value.Mut r) z (inr src) made after = absurd (own_no_mut src.0 r (sym src.1))
+    pushed value.Gone z src made after = absurd (none_lent value.Gone z h.thread.phase holder refl made)
+    pushed (value.SharedSlot j) z src made after = absurd (none_lent (value.SharedSlot j) z h.thread.phase holder refl made)
+    pushed (value.Shared r) z src made after = absurd (none_lent (value.Shared r) z h.thread.phase holder refl made)
+    pushed (value.Held c) z src made after = absurd (none_lent (value.Held c) z h.thread.phase holder refl made)
+    pushed (value.Own owned.Nothing) z src made after = absurd (none_lent (value.Own owned.Nothing) z h.thread.phase holder refl made)
+    pushed (value.Own owned.Unit) z src made after = absurd (none_lent (value.Own owned.Unit) z h.thread.phase holder refl made)
+    pushed (value.Own (owned.Int c)) z src made after = absurd (none_lent (value.Own (owned.Int c)) z h.thread.phase holder refl made)
+    pushed (value.Own (owned.Mutex c)) z src made after = absurd (none_lent (value.Own (owned.Mutex c)) z h.thread.phase holder refl made)
+    pushed (value.Own (owned.Task c)) z src made after = absurd (none_lent (value.Own (owned.Task c)) z h.thread.phase holder refl made)
+
+    made_from : (u : Value) → value_at h sp ≡ Some u → (o : Option Value) → mutable_from h.thread.phase holder u ≡ o → CommittedOk IsOk (goes_on (option_map (λ z. push_temp z h) o)) → Gives Ends (committed (goes_on (option_map (λ z. push_temp z h) o)))
+    made_from u e None f after = tt
+    made_from u e (Some z) f after = pushed u z (q.source u e) f after
+
+    by_value : (o : Option Value) → value_at h sp ≡ o → CommittedOk IsOk (goes_on (then_some o (λ u. option_map (λ z. push_temp z h) (mutable_from h.thread.phase holder u))))
+        → Gives Ends (committed (goes_on (then_some o (λ u. option_map (λ z. push_temp z h) (mutable_from h.thread.phase holder u)))))
+    by_value None e after = tt
+    by_value (Some u) e after = made_from u e (mutable_from h.thread.phase holder u) refl after
+
+    all_ok : CommittedOk IsOk (goes_on (borrow_mut w sp h))
+    all_ok = commits sums_kept n s.events t b 0 i sp h tt (λ z. absurd z) ok
+
+    ended : Gives Ends (committed (goes_on (borrow_mut w sp h)))
+    ended =
+        subst (λ d. CommittedOk IsOk (goes_on (borrow_mut_from w d sp h)) → Gives Ends (committed (goes_on (borrow_mut_from w d sp h)))) (sym deep) (by_value (value_at h sp) refl) all_ok
+
+    left : Gives (λ (d : Stepped). IsSome d.names → WordsHold (Put d.hand) × HasPlaces (Put d.hand)) (committed (commit 0 i sp h))
+    left =
+        both_give (SteppedOk sums_kept n s.events t b) Ends (λ (d : Stepped). IsSome d.names → WordsHold (Put d.hand) × HasPlaces (Put d.hand)) (committed (goes_on (borrow_mut w sp h)))
+        (committed_keeps sums_kept n s.events t b (goes_on (borrow_mut w sp h)) all_ok) ended
+        (λ d after z names. (
+          holds_on
+              (untouched_stays (Put z.middle) (Put d.hand) (placed z.middle z.ok) (placed d.hand after)
+              (seen_alike (Put z.middle) (Put d.hand) (placed z.middle z.ok) (placed d.hand after) refl (turned (hands_alike k coherent s here t y at [] z.middle d.hand z.ok after z.alike)))) z.words,
+          placed d.hand after,
+        ))
+
+  abbrev Left : Stepped → Type 0
+  Left d = IsSome d.names → WordsHold (Put d.hand) × HasPlaces (Put d.hand)
+
+  prepared_lend : (servers : ℕ) (p : Prepared) → Fine p → Shown h0 p → Gives Left (prepared servers i p)
+  prepared_lend servers (ready h sp) q shown = left h sp q shown.0
+  prepared_lend servers (requested h) q shown = λ names. absurd (cc names)
+  prepared_lend servers nothing q shown = tt
+
+  stepped_lend : (servers : ℕ) → Gives Left (step servers i h0)
+  stepped_lend servers =
+      subst (λ d. Shown h0 (lend_pointer w d h0) → Gives Left (prepared servers i (lend_pointer w d h0))) (sym deep)
+      (prepared_lend servers (lend_pointer w (suc m) h0) (all_lent (read_stars m h0 (in_slot w.slot)) (sources.followed k coherent s here t y at on i code w m reads deep) (sources.came k coherent s here t y at on i code w m reads deep)))
+      (shows k coherent e0 i s t y (sources.stepping k coherent s here t y at on i code w m reads deep) (Some (LendTo w)))
+
+  pub server_takes : Gives (λ (r : Server × EntryView). IsSome r.1.done → Kept k s r) (does k.code k.options s (Step t))
+  server_takes =
+      subst (λ o. Gives (λ (r : Server × EntryView). IsSome r.1.done → Kept k s r) (option_map (stepped s) (then_some (option_map (λ z. record { work = begin_work s.rest; thread = z }) o) (step_in k.code k.options.servers)))) (sym at)
+      (subst (λ o. Gives (λ (r : Server × EntryView). IsSome r.1.done → Kept k s r) (option_map (stepped s) (then_some o (λ j. step k.options.servers j h0)))) (sym code)
+      (over_gives Left (λ (r : Server × EntryView). IsSome r.1.done → Kept k s r) (step k.options.servers i h0) (stepped s) (stepped_lend k.options.servers) (λ d q. q)))
+
+pub taken_borrows_keep : TakenBorrowsKeep
+taken_borrows_keep k number t s y w v coherent few here at code has = by w.depth refl
+  where
+    -- a variable isn't taken
+    no_variable : w.depth ≡ zero → ⊥
+    no_variable flat =
+        let x : Standing = record { server = s.rest.number; packed = false; thread = y } in
+        let all : taken_phase (sight k) x y.phase ≡ 0 = none_here k coherent.sound number s here t y at (λ z. taken_phase (sight k) z z.thread.phase) coherent.sound.requests.taken_stands in
+        let there : taken_there (sight k) x v (lent_place (slice_get k.code y.pc)) ≡ 0 = subst (λ p. taken_phase (sight k) x p ≡ 0) has all in
+        let its : taken_there (sight k) x v (Some w) ≡ 0 = subst (λ j. taken_there (sight k) x v (lent_place j) ≡ 0) code there in
+        lies_in_cell k s.rest.number v (place_at (sight k).ground y.number w) y.number w.slot (counted_all (lies_here (sight k) s.rest.number v (place_at (sight k).ground y.number w)) its) (ap (locate (sight k).ground y.number w.slot) flat)
+
+    by : (d : ℕ) → w.depth ≡ d → Gives (λ (d : Cluster × EntryView). IsSome d.1.done → WordsHold d.0) (apply k (record { server = number; what = Step t }))
+    by zero deep = absurd (no_variable deep)
+    by (suc m) deep =
+        subst (λ c. server_at k.servers c ≡ Some s → Gives (λ (d : Cluster × EntryView). IsSome d.1.done → WordsHold d.0) (apply k (record { server = c; what = Step t }))) (found_number number k.servers s here)
+        (λ h. kept_if k s t (λ e. IsSome e.done) coherent few h (λ on. server_takes k coherent s h t y at on w m deep code v has)) here
