@@ -33,7 +33,7 @@ use Rattle.drop_law.specs.Drops.{discards as is_discard, drops_slot, assigns_var
 use Rattle.drop_law.proofs.DropLines.{discard_line, drop_line, variable, assign_line}
 
 -- an event at an instruction is one of a thread
-stepping : (k : Cluster) (e : Event) (i : Instr) → instr_of k e ≡ Some i → (y : ThreadState) × (thread_of k e ≡ Some y)
+pub stepping : (k : Cluster) (e : Event) (i : Instr) → instr_of k e ≡ Some i → (y : ThreadState) × (thread_of k e ≡ Some y)
 stepping k e i q = of_server (server_at k.servers e.server) q
   where
     of_thread : (o : Option ThreadState) → then_some o (λ x. slice_get k.code x.pc) ≡ Some i → (y : ThreadState) × (o ≡ Some y)

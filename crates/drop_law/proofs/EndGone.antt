@@ -75,10 +75,10 @@ use Rattle.drop_law.proofs.Outside as outside
 abbrev begun : Server → Owned → Work
 begun s u = label_all (drop_labels (value.Own u)) (begin_work s.rest)
 
-not_zero : (j : ℕ) → (j == 0) ≡ false → j ≢ 0
+pub not_zero : (j : ℕ) → (j == 0) ≡ false → j ≢ 0
 not_zero j e d = not_both (j == 0) (ap (λ i. i == 0) d) e
 
-is_zero : (j : ℕ) → (j == 0) ≡ true → j ≡ 0
+pub is_zero : (j : ℕ) → (j == 0) ≡ true → j ≡ 0
 is_zero j = eq_cases (λ b. b ≡ true → j ≡ 0) j 0 (λ d _. d) (λ _ f. absurd (cc f))
 
 module _ (k : Cluster) (sound : IsSound k) (e : Event) (o : Operand) (s : Server) (t : ℕ) (x : ThreadState) (at : AtStep k e (instr.End o) s t x) where
@@ -98,28 +98,28 @@ module _ (k : Cluster) (sound : IsSound k) (e : Event) (o : Operand) (s : Server
   Wanted d = Sends k e s (stepped s d) → IsPlainStep k (Next k sound e i refl s t x at d, (stepped s d).1)
 
   module _ (v : Owned) (rest : List Value) (u : Pops o x.temps (value.Own v) rest) (said : ends_with o x ≡ Some (value.Own v)) where
-    even : (q : Node) → owned_in q x.slots + owned_in q x.temps ≡ owned_in q x.slots + owned_in q rest + one (owns q v)
+    pub even : (q : Node) → owned_in q x.slots + owned_in q x.temps ≡ owned_in q x.slots + owned_in q rest + one (owns q v)
     even q = omega (arith, u.owned q)
 
-    abbrev became : ThreadState
+    abbrev pub became : ThreadState
     became = ends.became k sound e o s t x at v rest even
 
-    bare : x.gift ≡ None
+    pub bare : x.gift ≡ None
     bare = ends.bare k sound e o s t x at v rest even
 
-    abbrev s1 : Sight
+    abbrev pub s1 : Sight
     s1 = loses.s1 k sound e i refl s t x at bare v became even
 
-    abbrev sv : Sight
+    abbrev pub sv : Sight
     sv = loses.with_it k sound e i refl s t x at bare v became even (Some v)
 
-    abbrev s2 : Sight
+    abbrev pub s2 : Sight
     s2 = loses.s2 k sound e i refl s t x at bare v became even
 
-    abbrev B : List Thing
+    abbrev pub B : List Thing
     B = loses.B k sound e i refl s t x at bare v became even
 
-    abbrev y : ThreadState
+    abbrev pub y : ThreadState
     y = loses.y k sound e i refl s t x at bare v became even
 
     abbrev owed : Sight → Bool
@@ -218,7 +218,7 @@ module _ (k : Cluster) (sound : IsSound k) (e : Event) (o : Operand) (s : Server
 
     -- A THREAD THAT WAS LET GO
 
-    module _ (other : (x.number == 0) ≡ false) (let_go : owed s1 ≡ false) where
+    module _ (other : (x.number == 0) ≡ false) where
       way_loose : (m : ℕ) → m ≢ 0 → is_branch s1 m || is_in_state s1 (task_n m) ≡ false → going_of s1 m ≡ as_loose
       way_loose zero f g = absurd (f refl)
       way_loose (suc m) f g = ap (λ c. if not c then as_loose else as_owing) g
@@ -227,47 +227,25 @@ module _ (k : Cluster) (sound : IsSound k) (e : Event) (o : Operand) (s : Server
       neither true q f = absurd (cc f)
       neither false q f = (refl, f)
 
-      abbrev it : Node
+      abbrev pub it : Node
       it = task_n x.number
 
-      out : is_in_state s2 it ≡ false
-      out = by (is_in_state s2 it) refl
-        where
-          by : (b : Bool) → is_in_state s2 it ≡ b → b ≡ false
-          by false f = refl
-          by true f =
-              absurd (not_both (is_in_state sv it) (held.more_in k n y B (Some v) it f) (sym (loses.same_in k sound e i refl s t x at bare v became even it refl) ∙ (neither (is_branch s1 x.number) (is_in_state s1 it) let_go).1))
-
-      owed_then : owed s2 ≡ false
-      owed_then = ap₂ (λ p q. p || q) (sym (ends.branch_same k sound e o s t x at v rest even x.number) ∙ (neither (is_branch s1 x.number) (is_in_state s1 it) let_go).0) out
-
-      abbrev C : List Thing
+      abbrev pub C : List Thing
       C = had_by n (giftless y) ++ loses.Rest k sound e i refl s t x at bare v became even
 
-      abbrev s3 : Sight
+      abbrev pub s3 : Sight
       s3 = then_there k sound e i refl s t x at became (counts_then ∷ holds (as_result x.number) v ∷ [])
 
-      off_result : (r : ℕ) → is_branch s2 r || is_in_state s2 (task_n r) ≡ true → if_in (x.number == r) (Some (plain_of v)) ≡ None
-      off_result r there =
-          eq_cases (λ b. if_in b (Some (plain_of v)) ≡ None) x.number r (λ f. absurd (not_both (is_branch s2 r || is_in_state s2 (task_n r)) there (sym (ap (λ z. is_branch s2 z || is_in_state s2 (task_n z)) f) ∙ owed_then))) (λ _. refl)
-
-      same_things : outside.beside k n y s.rest C (as_result x.number) it v ≡ s3.things
-      same_things = refl
-
-      -- the result in its message shows nothing
-      beside_it : SameState (state_of s2) (state_of s3)
-      beside_it = subst (λ l. SameState (state_of s2) (state_of (with_things k l))) same_things (outside.same_beside k n y s.rest C (as_result x.number) it v refl out (λ w z. refl) off_result)
-
-      abbrev sent_hand : Hand
+      abbrev pub sent_hand : Hand
       sent_hand = with_phase phase.Over (working (λ w. send x.home (message.Finished x.number v) (label_all (label.End x.number ∷ []) (note (act.Finish x.number) w))) (with_temps rest start))
 
-      abbrev G2 : List Thing
+      abbrev pub G2 : List Thing
       G2 = counts_then ∷ holds (as_result x.number) v ∷ []
 
-      abbrev d : List Copy → Stepped
+      abbrev pub d : List Copy → Stepped
       d cs = record { hand = record { work = with_cache cs sent_hand.work; thread = record sent_hand.thread { passed = 0; walk = []; moved_since_step = false } }; names = Some fresh.None }
 
-      moves_to : (cs : List Copy) → Moves G2 (counts_then ∷ []) s.rest (d cs).hand.work.rest
+      pub moves_to : (cs : List Copy) → Moves G2 (counts_then ∷ []) s.rest (d cs).hand.work.rest
       moves_to cs =
           let goes : Moves (holds (as_result x.number) v ∷ []) [] s.rest sent_hand.work.rest =
           sends (holds (as_result x.number) v ∷ []) (holds (as_result x.number) v ∷ []) s.rest (label_all (label.End x.number ∷ []) (note (act.Finish x.number) start.work)) x.home (message.Finished x.number v) (record { number = refl; alike = λ w z. refl }) (λ w z. omega (arith, z)) in
@@ -279,29 +257,52 @@ module _ (k : Cluster) (sound : IsSound k) (e : Event) (o : Operand) (s : Server
                 omega (arith, goes.alike w z, at_n);
           }
 
-      steps_on : (c : CodeWhole) → SameState (plain_state c) (one_heap k) → StepsTo k.code c x.number fresh.None (state_of s3) (label.End x.number ∷ [])
-      steps_on c same =
-          let to = steps (inr let_go) c same in
-          record {
-            after = to.after;
-            steps = to.steps;
-            same = joined (plain_state to.after.state) (state_of s2) (state_of s3) to.same beside_it;
-            labelled = to.labelled ∙ ap (λ g. end_labels g x.number (plain_of v)) (ends.way_is k sound e o s t x at v rest even (inr let_go) ∙ way_loose x.number (not_zero x.number other) let_go);
-          }
+      module _ (let_go : owed s1 ≡ false) where
+        out : is_in_state s2 it ≡ false
+        out = by (is_in_state s2 it) refl
+          where
+            by : (b : Bool) → is_in_state s2 it ≡ b → b ≡ false
+            by false f = refl
+            by true f =
+                absurd (not_both (is_in_state sv it) (held.more_in k n y B (Some v) it f) (sym (loses.same_in k sound e i refl s t x at bare v became even it refl) ∙ (neither (is_branch s1 x.number) (is_in_state s1 it) let_go).1))
 
-      turn : (cs : List Copy) → ThreadTurn k sound e i refl s t x at (d cs)
-      turn cs = record {
-        became = became;
-        names = fresh.None;
-        thread = ap (λ g. (let z : ThreadState = record became { gift = g } in z)) bare;
-        named = refl;
-        comes = G2;
-        moves = moves_to cs;
-        beside = (tt, (tt, tt));
-        unstray = refl;
-        once = thread_ends.once_then k sound e o s t x at v rest (Some v) (λ z. absurd (not_zero x.number other z));
-        steps = steps_on;
-      }
+        owed_then : owed s2 ≡ false
+        owed_then = ap₂ (λ p q. p || q) (sym (ends.branch_same k sound e o s t x at v rest even x.number) ∙ (neither (is_branch s1 x.number) (is_in_state s1 it) let_go).0) out
+
+        off_result : (r : ℕ) → is_branch s2 r || is_in_state s2 (task_n r) ≡ true → if_in (x.number == r) (Some (plain_of v)) ≡ None
+        off_result r there =
+            eq_cases (λ b. if_in b (Some (plain_of v)) ≡ None) x.number r (λ f. absurd (not_both (is_branch s2 r || is_in_state s2 (task_n r)) there (sym (ap (λ z. is_branch s2 z || is_in_state s2 (task_n z)) f) ∙ owed_then))) (λ _. refl)
+
+        same_things : outside.beside k n y s.rest C (as_result x.number) it v ≡ s3.things
+        same_things = refl
+
+        -- the result in its message shows nothing
+        beside_it : SameState (state_of s2) (state_of s3)
+        beside_it = subst (λ l. SameState (state_of s2) (state_of (with_things k l))) same_things (outside.same_beside k n y s.rest C (as_result x.number) it v refl out (λ w z. refl) off_result)
+
+        steps_on : (c : CodeWhole) → SameState (plain_state c) (one_heap k) → StepsTo k.code c x.number fresh.None (state_of s3) (label.End x.number ∷ [])
+        steps_on c same =
+            let to = steps (inr let_go) c same in
+            record {
+              after = to.after;
+              steps = to.steps;
+              same = joined (plain_state to.after.state) (state_of s2) (state_of s3) to.same beside_it;
+              labelled = to.labelled ∙ ap (λ g. end_labels g x.number (plain_of v)) (ends.way_is k sound e o s t x at v rest even (inr let_go) ∙ way_loose x.number (not_zero x.number other) let_go);
+            }
+
+        turn : (cs : List Copy) → ThreadTurn k sound e i refl s t x at (d cs)
+        turn cs = record {
+          became = became;
+          names = fresh.None;
+          thread = ap (λ g. (let z : ThreadState = record became { gift = g } in z)) bare;
+          named = refl;
+          comes = G2;
+          moves = moves_to cs;
+          beside = (tt, (tt, tt));
+          unstray = refl;
+          once = thread_ends.once_then k sound e o s t x at v rest (Some v) (λ z. absurd (not_zero x.number other z));
+          steps = steps_on;
+        }
 
     -- BOTH
 
@@ -313,15 +314,15 @@ module _ (k : Cluster) (sound : IsSound k) (e : Event) (o : Operand) (s : Server
         by None = tt
         by (Some cs) = λ goes. is_step k sound e i refl s t x at (main_d q cs) (main_turn q cs) goes
     by_main (inl zero_it) false q = absurd (not_zero x.number q zero_it)
-    by_main (inr let_go) false q = by (unpin_all x.walk (sent_hand q let_go).work.rest.cache)
+    by_main (inr let_go) false q = by (unpin_all x.walk (sent_hand q).work.rest.cache)
       where
         by : (z : Option (List Copy)) → Gives Wanted (option_map (λ h2. record { hand = h2; names = Some fresh.None })
-            (option_map (λ cs. record { work = with_cache cs (sent_hand q let_go).work; thread = record (sent_hand q let_go).thread { passed = 0; walk = []; moved_since_step = false } }) z))
+            (option_map (λ cs. record { work = with_cache cs (sent_hand q).work; thread = record (sent_hand q).thread { passed = 0; walk = []; moved_since_step = false } }) z))
         by None = tt
-        by (Some cs) = λ goes. is_step k sound e i refl s t x at (d q let_go cs) (turn q let_go cs) goes
+        by (Some cs) = λ goes. is_step k sound e i refl s t x at (d q cs) (turn q let_go cs) goes
 
   -- who is in the state is so of the things with the thread in front
-  nodes_before : (q : Node) → is_in_state (sight k) q ≡ is_in_state (with_things k (changed.a k sound e s at.here t x at.at at.number)) q
+  pub nodes_before : (q : Node) → is_in_state (sight k) q ≡ is_in_state (with_things k (changed.a k sound e s at.here t x at.at at.number)) q
   nodes_before =
       same_nodes k (things_of k) (changed.a k sound e s at.here t x at.at at.number) (shown_once k sound) (λ w z. changed.same_things k sound e s at.here t x at.at at.number (λ a. w (sign_of a))) (changed.unstray k sound e s at.here t x at.at at.number)
       (no_stray_in k (changed.a k sound e s at.here t x at.at at.number) (changed.places k sound e s at.here t x at.at at.number))

@@ -18,3 +18,9 @@ pub mod UnlockGone
 pub mod EndLoses
 pub mod PlainEnds
 pub mod EndGone
+pub mod GiftValues
+pub mod Levels
+pub mod Reaches
+pub mod TypedStep
+pub mod UnlockWhole
+pub mod EndWhole

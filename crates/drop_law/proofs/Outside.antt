@@ -40,6 +40,10 @@ module _ (k : Cluster) (n : ℕ) (y : ThreadState) (r : Rest) (C : List Thing) (
   abbrev In2 : Node → Bool
   In2 = is_in_state s2
 
+  -- what is in the state without it is in it
+  pub more : (q : Node) → In q ≡ true → In2 q ≡ true
+  more = least s In2 (λ q d. closes s2 q (or_right (named_in (owns q v) In2 (spot_owner s2 p)) (any_named s2 In2 q C) (sym (grounds.any_same s s2 refl refl In2 q C) ∙ d)))
+
   -- where it stands under a node that isn't in the state of the others, as that of each mutex and thread for which it shows something
   module _ (its : spot_owner s2 p ≡ inside z) (off : In z ≡ false) (contents_off : (w : MutexNo) → In (mutex_n w) ≡ true → content_value s2 w (holds p v) ≡ None)
       (results_off : (u : ℕ) → is_branch s u || In (task_n u) ≡ true → result_value s2 u (holds p v) ≡ None) where
@@ -49,9 +53,6 @@ module _ (k : Cluster) (n : ℕ) (y : ThreadState) (r : Rest) (C : List Thing) (
         by : (b : Bool) → named_in b In (inside z) ≡ true → ⊥
         by true d = cc (sym d ∙ off)
         by false d = cc d
-
-    more : (q : Node) → In q ≡ true → In2 q ≡ true
-    more = least s In2 (λ q d. closes s2 q (or_right (named_in (owns q v) In2 (spot_owner s2 p)) (any_named s2 In2 q C) (sym (grounds.any_same s s2 refl refl In2 q C) ∙ d)))
 
     less : (q : Node) → In2 q ≡ true → In q ≡ true
     less =

@@ -259,7 +259,7 @@ module _ (k : Cluster) (sound : IsSound k) (e : Event) (i : Instr) (single : is_
         given_then u = ap (λ m. u == 0 || (not (count_of u == 0) && some m)) (changed.same_things k sound e s at.here t x at.at at.number (started_at (home_of u) (count_of u))) ∙ one_thread.given_same k Rest G1 G2 n x became beside1 (tt, tt) lone1 locks2 (λ h c. alone (tot (started_at h c)) ∙ omega arith) u
 
     -- what stands under a node stood there
-    under_before : (p q : Node) → tot (under_names s2 p q) B ≡ tot (under_names (sight k) p q) Rest
+    pub under_before : (p q : Node) → tot (under_names s2 p q) B ≡ tot (under_names (sight k) p q) Rest
     under_before p q =
         let f = under_names s2 p q in
         let flat : Own (λ a. f a ≡ 0) = record { slots = λ w j a. none_so (owns q a); temps = λ w j a. none_so (owns q a); shared = λ b r. refl; lent = λ b r. refl; marks = λ b w. refl; used = λ w b. refl } in

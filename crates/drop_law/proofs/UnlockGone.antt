@@ -93,110 +93,57 @@ module _ (k : Cluster) (sound : IsSound k) (e : Event) (s : Server) (t : ℕ) (x
   abbrev n : ℕ
   n = s.rest.number
 
-  bare : x.gift ≡ None
+  pub bare : x.gift ≡ None
   bare = (gift_fits k sound e.server s at.here t x at.at i at.code).0
 
   abbrev counts_then : Thing
   counts_then = counts_of n 0 s.rest
 
-  module _ (m : MutexNo) (v : Owned) (rest : List Value) (split : x.slots ≡ (rest ++ value.Held m ∷ []) ++ value.Own v ∷ []) (gone : is_in_state (sight k) (mutex_n m) ≡ false) where
-    even : (q : Node) → owned_in q x.slots + owned_in q x.temps ≡ owned_in q rest + owned_in q x.temps + one (owns q v)
+  module _ (m : MutexNo) (v : Owned) (rest : List Value) (split : x.slots ≡ (rest ++ value.Held m ∷ []) ++ value.Own v ∷ []) where
+    pub even : (q : Node) → owned_in q x.slots + owned_in q x.temps ≡ owned_in q rest + owned_in q x.temps + one (owns q v)
     even q = omega (arith, ap (owned_in q) split, owned_push q (rest ++ value.Held m ∷ []) (value.Own v), owned_push q rest (value.Held m))
 
-    goes2 : Calm (after x (x.pc + 1) rest x.temps).phase
+    pub goes2 : Calm (after x (x.pc + 1) rest x.temps).phase
     goes2 = record { alone = refl; goes = refl }
 
-    abbrev s1 : Sight
+    abbrev pub s1 : Sight
     s1 = loses.s1 k sound e i refl s t x at bare v (after x (x.pc + 1) rest x.temps) even
 
-    abbrev sv : Sight
+    abbrev pub sv : Sight
     sv = loses.with_it k sound e i refl s t x at bare v (after x (x.pc + 1) rest x.temps) even (Some v)
 
-    abbrev s2 : Sight
+    abbrev pub s2 : Sight
     s2 = loses.s2 k sound e i refl s t x at bare v (after x (x.pc + 1) rest x.temps) even
 
-    abbrev B : List Thing
+    abbrev pub B : List Thing
     B = loses.B k sound e i refl s t x at bare v (after x (x.pc + 1) rest x.temps) even
 
-    abbrev y : ThreadState
+    abbrev pub y : ThreadState
     y = loses.y k sound e i refl s t x at bare v (after x (x.pc + 1) rest x.temps) even
 
-    abbrev Rest : List Thing
+    abbrev pub Rest : List Thing
     Rest = loses.Rest k sound e i refl s t x at bare v (after x (x.pc + 1) rest x.temps) even
 
-    abbrev C : List Thing
+    abbrev pub C : List Thing
     C = had_by n (giftless y) ++ Rest
 
     -- what stands there afterwards, with the content in its message
-    abbrev s3 : Sight
+    abbrev pub s3 : Sight
     s3 = then_there k sound e i refl s t x at (after x (x.pc + 1) rest x.temps) (counts_then ∷ holds (as_content m) v ∷ [])
-
-    -- THE MUTEX ISN'T THERE
-
-    gone_before : (state_of s1).mutex m ≡ None
-    gone_before = (changed.state_before k sound e s at.here t x at.at at.number).mutexes m ∙ if_gone (is_in_state (sight k) (mutex_n m)) _ gone
-
-    gone_v : is_in_state sv (mutex_n m) ≡ false
-    gone_v = not_there (is_in_state sv (mutex_n m)) _ (sym (loses.mutexes_on k sound e i refl s t x at bare v (after x (x.pc + 1) rest x.temps) even m) ∙ gone_before)
-
-    gone_then : is_in_state s2 (mutex_n m) ≡ false
-    gone_then = by (is_in_state s2 (mutex_n m)) refl
-      where
-        by : (b : Bool) → is_in_state s2 (mutex_n m) ≡ b → b ≡ false
-        by false f = refl
-        by true f = absurd (not_both (is_in_state sv (mutex_n m)) (held.more_in k n y B (Some v) (mutex_n m) f) gone_v)
-
-    off_content : (w : MutexNo) → is_in_state s2 (mutex_n w) ≡ true → if_in (same_mutex m w) (Some (plain_of v)) ≡ None
-    off_content w there = mutex_cases (λ b. if_in b (Some (plain_of v)) ≡ None) m w (λ f. absurd (not_both (is_in_state s2 (mutex_n w)) there (sym (ap (λ z. is_in_state s2 (mutex_n z)) f) ∙ gone_then))) (λ _. refl)
-
-    more : shown_last x.slots ≡ plain_v.Own (plain_of v) ∷ plain_v.Held m ∷ shown_last rest
-    more = ap shown_last split ∙ shown_push (rest ++ value.Held m ∷ []) (value.Own v) ∙ ap (λ l. plain_v.Own (plain_of v) ∷ l) (shown_push rest (value.Held m))
-
-    abbrev plug : PlainValue → Place
-    plug z = record { pc = x.pc + 1; temps = shown_last x.temps }
-
-    abbrev q : CodeRunning
-    q = running_to (x.pc + 1) (shown_last x.temps) (shown_last rest)
-
-    same_things : outside.beside k n y s.rest C (as_content m) (mutex_n m) v ≡ s3.things
-    same_things = refl
-
-    -- the content in its message shows nothing
-    beside_it : SameState (state_of s2) (state_of s3)
-    beside_it = subst (λ l. SameState (state_of s2) (state_of (with_things k l))) same_things (outside.same_beside k n y s.rest C (as_content m) (mutex_n m) v refl gone_then off_content (λ u z. refl))
-
-    -- ON THE PLAIN MACHINE
-
-    steps : (c : CodeWhole) → SameState (plain_state c) (one_heap k) → StepsTo k.code c x.number fresh.None (state_of s3) (label.Unlock m ∷ [])
-    steps c same =
-        let A = state_of s1 in
-        let shown_too : SameState (plain_state c) A = then_same (plain_state c) (one_heap k) A same (changed.state_before k sound e s at.here t x at.at at.number) in
-        let goes : GoesOn x.number (running_at x) q A (state_of sv) = loses.thread_on k sound e i refl s t x at bare v (after x (x.pc + 1) rest x.temps) even goes2 refl in
-        let first = unlocks_shows k.code c x.number (running_at x) q A (state_of sv) goes shown_too (loses.made_on k sound e i refl s t x at bare v (after x (x.pc + 1) rest x.temps) even goes2 refl) (loses.objects_on k sound e i refl s t x at bare v (after x (x.pc + 1) rest x.temps) even) (loses.mutexes_on k sound e i refl s t x at bare v (after x (x.pc + 1) rest x.temps) even) (loses.names_on k sound e i refl s t x at bare v (after x (x.pc + 1) rest x.temps) even) in
-        let w = unlocks_first c goes.way x.number q in
-        let carried : Carries k n y B w v = record { same = first; alone = loses.alone_then k sound e i refl s t x at bare v (after x (x.pc + 1) rest x.temps) even; known = loses.known_then k sound e i refl s t x at bare v (after x (x.pc + 1) rest x.temps) even (λ r. refl) (loses.once_then k sound e i refl s t x at bare v (after x (x.pc + 1) rest x.temps) even goes2 refl) } in
-        let shown2 : SameState (plain_state (dropped w (plain_of v))) (state_of s2) = drop_shows k n y B (loses.others_known k sound e i refl s t x at bare v (after x (x.pc + 1) rest x.temps) even (λ r. refl) (loses.once_then k sound e i refl s t x at bare v (after x (x.pc + 1) rest x.temps) even goes2 refl)) w v carried in
-        record {
-          after = record { state = dropped w (plain_of v); labels = label.Unlock m ∷ [] };
-          steps = ap (step_of (code_moves k.code) c fresh.None) (found k.code c x.number (running_at x) q A (state_of sv) goes shown_too)
-              ∙ unlocks_then k.code c goes.way x.number (running_at x) plug m (plain_of v) (shown_last rest) more (ap (λ j. over_at j (shown_last x.temps)) at.code) (ap (λ j. run_instr j x.pc (shown_last x.temps)) at.code) (shown_too.mutexes m ∙ gone_before);
-          same = joined (plain_state (dropped w (plain_of v))) (state_of s2) (state_of s3) shown2 beside_it;
-          labelled = refl;
-        }
 
     -- AT THE SERVER
 
-    abbrev sent_hand : Hand
+    abbrev pub sent_hand : Hand
     sent_hand = send_content m v (with_slots rest start)
 
-    abbrev G2 : List Thing
+    abbrev pub G2 : List Thing
     G2 = counts_then ∷ holds (as_content m) v ∷ []
 
     module _ (cs : List Copy) where
-      abbrev d : Stepped
+      abbrev pub d : Stepped
       d = record { hand = record { work = with_cache cs sent_hand.work; thread = record (go_on sent_hand).thread { passed = 0; walk = []; moved_since_step = false } }; names = Some fresh.None }
 
-      moves_to : Moves G2 (counts_then ∷ []) s.rest d.hand.work.rest
+      pub moves_to : Moves G2 (counts_then ∷ []) s.rest d.hand.work.rest
       moves_to =
           let goes : Moves (holds (as_content m) v ∷ []) [] s.rest sent_hand.work.rest =
           sends (holds (as_content m) v ∷ []) (holds (as_content m) v ∷ []) s.rest (label_all (label.Unlock m ∷ []) (note (act.GiveBack m) start.work)) m.home (message.Unlock m v) (record { number = refl; alike = λ w z. refl }) (λ w z. omega (arith, z)) in
@@ -208,14 +155,68 @@ module _ (k : Cluster) (sound : IsSound k) (e : Event) (s : Server) (t : ℕ) (x
                 omega (arith, goes.alike w z, at_n);
           }
 
-      turn : ThreadTurn k sound e i refl s t x at d
-      turn = record {
+    -- WHERE THE MUTEX ISN'T THERE
+
+    module _ (gone : is_in_state (sight k) (mutex_n m) ≡ false) where
+      gone_before : (state_of s1).mutex m ≡ None
+      gone_before = (changed.state_before k sound e s at.here t x at.at at.number).mutexes m ∙ if_gone (is_in_state (sight k) (mutex_n m)) _ gone
+
+      gone_v : is_in_state sv (mutex_n m) ≡ false
+      gone_v = not_there (is_in_state sv (mutex_n m)) _ (sym (loses.mutexes_on k sound e i refl s t x at bare v (after x (x.pc + 1) rest x.temps) even m) ∙ gone_before)
+
+      gone_then : is_in_state s2 (mutex_n m) ≡ false
+      gone_then = by (is_in_state s2 (mutex_n m)) refl
+        where
+          by : (b : Bool) → is_in_state s2 (mutex_n m) ≡ b → b ≡ false
+          by false f = refl
+          by true f = absurd (not_both (is_in_state sv (mutex_n m)) (held.more_in k n y B (Some v) (mutex_n m) f) gone_v)
+
+      off_content : (w : MutexNo) → is_in_state s2 (mutex_n w) ≡ true → if_in (same_mutex m w) (Some (plain_of v)) ≡ None
+      off_content w there = mutex_cases (λ b. if_in b (Some (plain_of v)) ≡ None) m w (λ f. absurd (not_both (is_in_state s2 (mutex_n w)) there (sym (ap (λ z. is_in_state s2 (mutex_n z)) f) ∙ gone_then))) (λ _. refl)
+
+      more : shown_last x.slots ≡ plain_v.Own (plain_of v) ∷ plain_v.Held m ∷ shown_last rest
+      more = ap shown_last split ∙ shown_push (rest ++ value.Held m ∷ []) (value.Own v) ∙ ap (λ l. plain_v.Own (plain_of v) ∷ l) (shown_push rest (value.Held m))
+
+      abbrev plug : PlainValue → Place
+      plug z = record { pc = x.pc + 1; temps = shown_last x.temps }
+
+      abbrev q : CodeRunning
+      q = running_to (x.pc + 1) (shown_last x.temps) (shown_last rest)
+
+      same_things : outside.beside k n y s.rest C (as_content m) (mutex_n m) v ≡ s3.things
+      same_things = refl
+
+      -- the content in its message shows nothing
+      beside_it : SameState (state_of s2) (state_of s3)
+      beside_it = subst (λ l. SameState (state_of s2) (state_of (with_things k l))) same_things (outside.same_beside k n y s.rest C (as_content m) (mutex_n m) v refl gone_then off_content (λ u z. refl))
+
+      -- ON THE PLAIN MACHINE
+
+      steps : (c : CodeWhole) → SameState (plain_state c) (one_heap k) → StepsTo k.code c x.number fresh.None (state_of s3) (label.Unlock m ∷ [])
+      steps c same =
+          let A = state_of s1 in
+          let shown_too : SameState (plain_state c) A = then_same (plain_state c) (one_heap k) A same (changed.state_before k sound e s at.here t x at.at at.number) in
+          let goes : GoesOn x.number (running_at x) q A (state_of sv) = loses.thread_on k sound e i refl s t x at bare v (after x (x.pc + 1) rest x.temps) even goes2 refl in
+          let first = unlocks_shows k.code c x.number (running_at x) q A (state_of sv) goes shown_too (loses.made_on k sound e i refl s t x at bare v (after x (x.pc + 1) rest x.temps) even goes2 refl) (loses.objects_on k sound e i refl s t x at bare v (after x (x.pc + 1) rest x.temps) even) (loses.mutexes_on k sound e i refl s t x at bare v (after x (x.pc + 1) rest x.temps) even) (loses.names_on k sound e i refl s t x at bare v (after x (x.pc + 1) rest x.temps) even) in
+          let w = unlocks_first c goes.way x.number q in
+          let carried : Carries k n y B w v = record { same = first; alone = loses.alone_then k sound e i refl s t x at bare v (after x (x.pc + 1) rest x.temps) even; known = loses.known_then k sound e i refl s t x at bare v (after x (x.pc + 1) rest x.temps) even (λ r. refl) (loses.once_then k sound e i refl s t x at bare v (after x (x.pc + 1) rest x.temps) even goes2 refl) } in
+          let shown2 : SameState (plain_state (dropped w (plain_of v))) (state_of s2) = drop_shows k n y B (loses.others_known k sound e i refl s t x at bare v (after x (x.pc + 1) rest x.temps) even (λ r. refl) (loses.once_then k sound e i refl s t x at bare v (after x (x.pc + 1) rest x.temps) even goes2 refl)) w v carried in
+          record {
+            after = record { state = dropped w (plain_of v); labels = label.Unlock m ∷ [] };
+            steps = ap (step_of (code_moves k.code) c fresh.None) (found k.code c x.number (running_at x) q A (state_of sv) goes shown_too)
+                ∙ unlocks_then k.code c goes.way x.number (running_at x) plug m (plain_of v) (shown_last rest) more (ap (λ j. over_at j (shown_last x.temps)) at.code) (ap (λ j. run_instr j x.pc (shown_last x.temps)) at.code) (shown_too.mutexes m ∙ gone_before);
+            same = joined (plain_state (dropped w (plain_of v))) (state_of s2) (state_of s3) shown2 beside_it;
+            labelled = refl;
+          }
+
+      turn : (cs : List Copy) → ThreadTurn k sound e i refl s t x at (d cs)
+      turn cs = record {
         became = after x (x.pc + 1) rest x.temps;
         names = fresh.None;
         thread = ap (λ g. (let z : ThreadState = record (after x (x.pc + 1) rest x.temps) { gift = g } in z)) bare;
         named = refl;
         comes = G2;
-        moves = moves_to;
+        moves = moves_to cs;
         beside = (tt, (tt, tt));
         unstray = refl;
         once = unlock_lines.once_then k sound e s t x at m v rest split;
@@ -225,39 +226,44 @@ module _ (k : Cluster) (sound : IsSound k) (e : Event) (s : Server) (t : ℕ) (x
   abbrev Wanted : Stepped → Type 0
   Wanted d = Sends k e s (stepped s d) → IsPlainStep k (Next k sound e i refl s t x at d, (stepped s d).1)
 
-  settled : (m : MutexNo) (v : Owned) (rest : List Value) → x.slots ≡ (rest ++ value.Held m ∷ []) ++ value.Own v ∷ [] → is_in_state (sight k) (mutex_n m) ≡ false → Gives Wanted (committed (goes_on (Some (send_content m v (with_slots rest start)))))
-  settled m v rest split gone = by (unpin_all x.walk (sent_hand m v rest split gone).work.rest.cache)
-    where
-      by : (q : Option (List Copy)) → Gives Wanted (option_map (λ h2. record { hand = h2; names = Some fresh.None })
-          (option_map (λ cs. record { work = with_cache cs (sent_hand m v rest split gone).work; thread = record (go_on (sent_hand m v rest split gone)).thread { passed = 0; walk = []; moved_since_step = false } }) q))
-      by None = tt
-      by (Some cs) = λ goes. is_step k sound e i refl s t x at (d m v rest split gone cs) (turn m v rest split gone cs) goes
+  -- what is so of each step that is done
+  module _ (W : Stepped → Type 0) (so : (m : MutexNo) (v : Owned) (rest : List Value) (split : x.slots ≡ (rest ++ value.Held m ∷ []) ++ value.Own v ∷ []) → marked x ≡ Some m → (cs : List Copy) → W (d m v rest split cs)) where
+    settled : (m : MutexNo) (v : Owned) (rest : List Value) → x.slots ≡ (rest ++ value.Held m ∷ []) ++ value.Own v ∷ [] → marked x ≡ Some m → Gives W (committed (goes_on (Some (send_content m v (with_slots rest start)))))
+    settled m v rest split mark = by (unpin_all x.walk (sent_hand m v rest split).work.rest.cache)
+      where
+        by : (q : Option (List Copy)) → Gives W (option_map (λ h2. record { hand = h2; names = Some fresh.None })
+            (option_map (λ cs. record { work = with_cache cs (sent_hand m v rest split).work; thread = record (go_on (sent_hand m v rest split)).thread { passed = 0; walk = []; moved_since_step = false } }) q))
+        by None = tt
+        by (Some cs) = so m v rest split mark cs
+
+    pub each_done : Gives W (step k.options.servers i start)
+    each_done = by (last_of x.slots) refl
+      where
+        under : (v : Owned) → x.slots ≡ front_of x.slots ++ value.Own v ∷ [] → (q : Option Value) → last_of (front_of x.slots) ≡ q
+            → Gives W (committed (goes_on (option_map (λ m. send_content m.item v m.hand) (then_some {X = Popped Value} (option_map (λ w. record { item = w; hand = with_slots (front_of (front_of x.slots)) start }) q) (taken_as held_of)))))
+        under v split None p = tt
+        under v split (Some (value.Held m)) p =
+            settled m v (front_of (front_of x.slots)) (split ∙ ap (λ l. l ++ value.Own v ∷ []) (last_split (front_of x.slots) (value.Held m) p)) (ap (λ q. then_some q held_of) p)
+        under v split (Some (value.Own w)) p = tt
+        under v split (Some value.Gone) p = tt
+        under v split (Some (value.SharedSlot j)) p = tt
+        under v split (Some (value.MutSlot j)) p = tt
+        under v split (Some (value.Shared r)) p = tt
+        under v split (Some (value.Mut r)) p = tt
+
+        by : (q : Option Value) → last_of x.slots ≡ q
+            → Gives W (committed (goes_on (then_some (then_some {X = Popped Value} (option_map (λ w. record { item = w; hand = with_slots (front_of x.slots) start }) q) (taken_as owned_of)) (λ v. option_map (λ m. send_content m.item v.item m.hand) (then_some (pop_slot v.hand) (taken_as held_of))))))
+        by None p = tt
+        by (Some (value.Own v)) p = under v (last_split x.slots (value.Own v) p) (last_of (front_of x.slots)) refl
+        by (Some (value.Held m)) p = tt
+        by (Some value.Gone) p = tt
+        by (Some (value.SharedSlot j)) p = tt
+        by (Some (value.MutSlot j)) p = tt
+        by (Some (value.Shared r)) p = tt
+        by (Some (value.Mut r)) p = tt
 
   pub unlock_line : IsGone k (marked x) → Gives Wanted (step k.options.servers i start)
-  unlock_line gone = by (last_of x.slots) refl
-    where
-      under : (v : Owned) → x.slots ≡ front_of x.slots ++ value.Own v ∷ [] → (q : Option Value) → last_of (front_of x.slots) ≡ q
-          → Gives Wanted (committed (goes_on (option_map (λ m. send_content m.item v m.hand) (then_some {X = Popped Value} (option_map (λ w. record { item = w; hand = with_slots (front_of (front_of x.slots)) start }) q) (taken_as held_of)))))
-      under v split None p = tt
-      under v split (Some (value.Held m)) p =
-          settled m v (front_of (front_of x.slots)) (split ∙ ap (λ l. l ++ value.Own v ∷ []) (last_split (front_of x.slots) (value.Held m) p)) (subst (IsGone k) (ap (λ q. then_some q held_of) p) gone)
-      under v split (Some (value.Own w)) p = tt
-      under v split (Some value.Gone) p = tt
-      under v split (Some (value.SharedSlot j)) p = tt
-      under v split (Some (value.MutSlot j)) p = tt
-      under v split (Some (value.Shared r)) p = tt
-      under v split (Some (value.Mut r)) p = tt
-
-      by : (q : Option Value) → last_of x.slots ≡ q
-          → Gives Wanted (committed (goes_on (then_some (then_some {X = Popped Value} (option_map (λ w. record { item = w; hand = with_slots (front_of x.slots) start }) q) (taken_as owned_of)) (λ v. option_map (λ m. send_content m.item v.item m.hand) (then_some (pop_slot v.hand) (taken_as held_of))))))
-      by None p = tt
-      by (Some (value.Own v)) p = under v (last_split x.slots (value.Own v) p) (last_of (front_of x.slots)) refl
-      by (Some (value.Held m)) p = tt
-      by (Some value.Gone) p = tt
-      by (Some (value.SharedSlot j)) p = tt
-      by (Some (value.MutSlot j)) p = tt
-      by (Some (value.Shared r)) p = tt
-      by (Some (value.Mut r)) p = tt
+  unlock_line gone = each_done Wanted (λ m v rest split mark cs goes. is_step k sound e i refl s t x at (d m v rest split cs) (turn m v rest split (subst (IsGone k) mark gone) cs) goes)
 
 pub unlocks_of_gone : UnlocksOfGone
 unlocks_of_gone k e y q th gone sound few =

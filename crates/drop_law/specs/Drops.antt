@@ -33,6 +33,10 @@ assigns_variable i = false
 
 -- AN UNLOCK
 
+abbrev pub unlocks_mutex : Instr → Bool
+unlocks_mutex instr.Unlock = true
+unlocks_mutex i = false
+
 -- no value of the mutex is in the state
 abbrev pub IsGone : Cluster → Option MutexNo → Type 0
 IsGone k None = ⊤
@@ -43,6 +47,10 @@ abbrev pub UnlocksOfGone : Type 0
 UnlocksOfGone = (k : Cluster) (e : Event) (y : ThreadState) → instr_of k e ≡ Some instr.Unlock → thread_of k e ≡ Some y → IsGone k (marked y) → IsSound k → FewEvents k → Gives (IsPlainStep k) (apply k e)
 
 -- THE END OF A THREAD
+
+abbrev pub ends_thread : Instr → Bool
+ends_thread (instr.End o) = true
+ends_thread i = false
 
 -- main, or a thread that was let go: no branch of a pair, and no task value of it is in the state
 abbrev pub IsFree : Cluster → ThreadState → Type 0

@@ -1,6 +1,7 @@
-ghost use Rattle.drop_law.specs.Drops.{EndsOfFree, UnlocksOfGone, assigns_variable, discards, drops_slot};
+ghost use Rattle.drop_law.specs.Drops.{EndsOfFree, UnlocksOfGone, assigns_variable, discards, drops_slot, ends_thread, unlocks_mutex};
 ghost use Rattle.heap_law.specs.Coherent.{IsSound};
 ghost use Rattle.turn_law.specs.Turns.{ArePlainSteps};
+ghost use Rattle.type_law.specs.ClusterTypes.{IsCoherent};
 
 /// From a sound cluster, each discard, each end of a variable and each assignment to one is the plain step of its thread on the one heap, its messages handed over, whatever
 /// is dropped: the objects of a chain of boxes go, then the last share of a mutex with its content, or a task with the result of its thread, which is let go where
@@ -19,4 +20,11 @@ pub fn unlock_steps()
 /// From a sound cluster, so is each end of main, and of a thread that was let go: its result is dropped.
 pub fn end_steps()
     ensures { EndsOfFree }
+{}
+
+/// From a coherent cluster, so is each unlock, and each end of a thread: a content doesn't own its own mutex, and a result not its own task, so that what is in the state
+/// before is in it afterwards, where the content is given back and the result is kept.
+pub fn whole_steps()
+    ensures unlocks { ArePlainSteps IsCoherent unlocks_mutex }
+    ensures ends { ArePlainSteps IsCoherent ends_thread }
 {}

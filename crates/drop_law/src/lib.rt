@@ -3,4 +3,4 @@
 
 mod laws;
 
-pub use laws::{drop_steps, end_steps, unlock_steps};
+pub use laws::{drop_steps, end_steps, unlock_steps, whole_steps};
