@@ -55,15 +55,19 @@ module _ (a : Phases) where
   abbrev pub SiteFits : Site → Type 0
   SiteFits x = RestFits a x.work.rest
 
+  -- a message that fits is sent
   says : (t : ℕ) (m : Message) (w : Work) → MessageFits a m → WorkFits w → RestFits a (Rattle.server_model.specs.Work.sent_from w.rest t m)
   says t m w z g = sent_fits a t m w.rest z g
 
+  -- other queues that fit
   with_queues : (ms : Mutexes) (w : Work) → AllQueues a ms → WorkFits w → WorkFits (with_mutexes ms w)
   with_queues ms w q g = record { queues = q; notes = g.notes; waiting = g.waiting; leaving = g.leaving }
 
+  -- other notes that fit
   with_notes : (ts : List Task) (w : Work) → AllNotes a ts → WorkFits w → WorkFits (with_tasks ts w)
   with_notes ts w n g = record { queues = g.queues; notes = n; waiting = g.waiting; leaving = g.leaving }
 
+  -- what is given up asks for nothing
   gives_up : (v : Owned) (w : Work) → WorkFits w → WorkFits (give_up v w)
   gives_up (owned.Box p) w g = says (server_of p.word) (message.Drop p.word p.object) w refl g
   gives_up (owned.Mutex m) w g = says m.home (message.Release (released.Mutex m)) w refl g
@@ -72,13 +76,16 @@ module _ (a : Phases) where
   gives_up owned.Unit w g = g
   gives_up (owned.Int m) w g = g
 
+  -- nor does what is left over
   left_over : (o : Option Owned) (w : Work) → WorkFits w → WorkFits (give_up_left o w)
   left_over None w g = g
   left_over (Some v) w g = gives_up v w g
 
+  -- a delivery that touches no thread
   beside : (f : Work → Option Work) (x : Site) → Gives WorkFits (f x.work) → Gives SiteFits (beside_threads f x)
   beside f x g = over_gives WorkFits SiteFits (f x.work) (λ w. record x { work = w }) g (λ w u. u)
 
+  -- a delivery to a thread
   at : (t : ℕ) (f : Hand → Option Hand) (x : Site) → ((y : ThreadState) → Gives HandFits (f (record { work = x.work; thread = y }))) → Gives SiteFits (at_thread t f x)
   at t f x go = by (thread_in x.threads t)
     where
@@ -91,27 +98,34 @@ module _ (a : Phases) where
   abbrev told : Told
   told p t g pc m i o ms ts c = Fits a ms.there ts i o
 
+  -- another word in a pointer makes no difference
   pointer_fits : (s : Spot) (w : ℕ) (h : Hand) → HandFits h → Gives HandFits (set_pointer s w h)
   pointer_fits s w h g = pointer_keeps told s w h g
 
+  -- nor does a use of a copy
   uses_it : (v : ℕ) (b : Bool) (h : Hand) → HandFits h → Gives HandFits (used_once v b h)
   uses_it v true h g = g
   uses_it v false h g = test_gives HandFits (can_pin h.work.rest.cache v) _ (λ z. g)
 
+  -- a copy comes
   fills : (v : ℕ) (c : Cell) (h : Hand) → HandFits h → Gives HandFits (deliver_fetched v c h)
   fills v c h g =
       test_gives HandFits (waits_for_cell h.thread.phase v) _ (λ z. over_gives HandFits HandFits (filled v c h) _
       (test_gives HandFits (can_fill h.work.rest.cache v c) _ (λ p. uses_it v (is_in v h.thread.walk) _ g)) (λ h2 u. u))
 
+  -- the object comes for the pointer at a spot
   comes_at : (new : ℕ) (s : Spot) (h : Hand) → HandFits h → Gives HandFits (arrived_at s new h)
   comes_at new s h g = over_gives HandFits HandFits (set_pointer s new h) _ (pointer_fits s new h g) (λ h2 u. u)
 
+  -- for the one in a slot
   comes_slot : (old new i : ℕ) (h : Hand) → HandFits h → Gives HandFits (arrived_slot old new i h)
   comes_slot old new i h g = test_gives HandFits (waits_under old (slice_get h.thread.slots i)) _ (λ z. comes_at new (in_slot i) h g)
 
+  -- for a hop of a write
   comes_write : (w : Lval) (new : ℕ) (h : Hand) → HandFits h → Gives HandFits (arrived_write w new h)
   comes_write w new h g = then_gives HandFits (passed_spot (write_stars h.thread.passed 0 h (in_slot w.slot))) _ (λ s q. comes_at new s (passing (h.thread.passed + 1) h) g)
 
+  -- for a mutable borrow
   comes_lend : (slot d old new : ℕ) (h : Hand) → HandFits h → Gives HandFits (arrived_lend slot d old new h)
   comes_lend slot zero old new h g = tt
   comes_lend slot (suc zero) old new h g = g
@@ -121,6 +135,7 @@ module _ (a : Phases) where
       by true = comes_at new (in_slot (chased d h.thread.slots slot)) h g
       by false = g
 
+  -- for the end of a reference
   comes_end : (s : Spot) (v : Option Value) (old new : ℕ) (h : Hand) → HandFits h → Gives HandFits (arrived_end s v old new h)
   comes_end s (Some (value.Mut q)) old new h g = by (q.word == old)
     where
@@ -129,6 +144,7 @@ module _ (a : Phases) where
       by false = comes_write q.holder new h g
   comes_end s _ old new h g = tt
 
+  -- for whatever the instruction follows
   comes_for : (x : Option Access) (old new : ℕ) (h : Hand) → HandFits h → Gives HandFits (arrived x old new h)
   comes_for None old new h g = tt
   comes_for (Some (ReadTo w)) old new h g = comes_slot old new (chased (w.depth - 1) h.thread.slots w.slot) h g
@@ -137,17 +153,20 @@ module _ (a : Phases) where
   comes_for (Some (LendTo w)) old new h g = comes_lend w.slot w.depth old new h g
   comes_for (Some (EndRef s)) old new h g = comes_end s (value_at h s) old new h g
 
+  -- an object comes
   comes : (code : List Instr) (old : ℕ) (c : Cell) (h : Hand) → HandFits h → Gives HandFits (deliver_moved code old c h)
   comes code old c h g =
       test_gives HandFits (waits_for_cell h.thread.phase old) _ (λ z. bind_gives (λ (m : NewWord). WorkFits m.work) HandFits (issue_placed (act.Take c.object old) c h.work) _
       (test_gives (λ (m : NewWord). WorkFits m.work) (can_grow h.work.rest.partition) _ (λ p. g)) (λ m u. comes_for (instr_access h (slice_get code h.thread.pc)) old m.word (record h { work = m.work }) u))
 
+  -- a gift comes
   gives_it : (v : Owned) (o : Option Owned) (h : Hand) → HandFits h → Gives HandFits (given v o h)
   gives_it v None h g = g
   gives_it v (Some u) h g = tt
 
   -- MUTEXES
 
+  -- a lock is asked for: it is granted, or its asker waits in the queue
   locks : (m : MutexNo) (s t : ℕ) (w : Work) → unfit a t (is_lock m) ≡ 0 → WorkFits w → Gives WorkFits (deliver_lock m s t w)
   locks m s t w z g = map_gives WorkFits (ask w.rest.mutexes m s t) _ (λ p q. by p.0 p.1 (lists.given (λ (r : Mutexes × Asked). AllQueues a r.0) (ask w.rest.mutexes m s t) p (lock_asks a w.rest.mutexes m s t z g.queues) q))
     where
@@ -155,6 +174,7 @@ module _ (a : Phases) where
       by ms answer.Queued q = with_queues ms w q g
       by ms (answer.Granted v) q = says s (message.Granted m v t) (with_mutexes ms w) z (with_queues ms w q g)
 
+  -- a content comes back: it goes on to the first in the queue
   unlocks : (m : MutexNo) (v : Owned) (w : Work) → WorkFits w → Gives WorkFits (deliver_unlock m v w)
   unlocks m v w g =
       map_gives WorkFits (give_back w.rest.mutexes m v) _ (λ p q.
@@ -165,12 +185,14 @@ module _ (a : Phases) where
       by ms (back.Ended u) q z = gives_up u (with_mutexes ms w) (with_queues ms w q g)
       by ms back.Kept q z = with_queues ms w q g
 
+  -- a share is asked for, and answered
   dups : (m : MutexNo) (s t : ℕ) (w : Work) → unfit a t (Rattle.heap_law.specs.Requests.is_dup m) ≡ 0 → WorkFits w → Gives WorkFits (deliver_dup m s t w)
   dups m s t w z g =
       map_gives WorkFits (more w.rest.mutexes m) _ (λ ms q. says s (message.Dupped m t) (with_mutexes ms w) z (with_queues ms w (lists.given (AllQueues a) (more w.rest.mutexes m) ms (share_more a w.rest.mutexes m g.queues) q) g))
 
   -- THREADS
 
+  -- a result is asked for: it is answered, or the asker is noted
   joins : (u s asker : ℕ) (w : Work) → unfit a asker (is_join u) ≡ 0 → WorkFits w → Gives WorkFits (deliver_join u s asker w)
   joins u s asker w z g =
       map_gives WorkFits (tasks.ask w.rest.tasks u s asker) _ (λ p q. of p.0 p.1 (lists.given (λ (r : List Task × Option Owned). AllNotes a r.0) (tasks.ask w.rest.tasks u s asker) p (join_asks a w.rest.tasks u s asker z g.notes) q))
@@ -179,12 +201,14 @@ module _ (a : Phases) where
       of ts None n = with_notes ts w n g
       of ts (Some v) n = says s (message.Joined u v asker) (with_tasks ts w) z (with_notes ts w n g)
 
+  -- a value of a mutex or a task is let go
   releases : (x : Released) (w : Work) → WorkFits w → Gives WorkFits (release x w)
   releases (released.Mutex m) w g =
       map_gives WorkFits (less w.rest.mutexes m) _ (λ p q. left_over p.1 (with_mutexes p.0 w) (with_queues p.0 w (lists.given (λ (r : Mutexes × Option Owned). AllQueues a r.0) (less w.rest.mutexes m) p (share_less a w.rest.mutexes m g.queues) q) g))
   releases (released.Task u) w g =
       map_gives WorkFits (let_go_of w.rest.tasks u) _ (λ p q. left_over p.1 (with_tasks p.0 w) (with_notes p.0 w (lists.given (λ (r : List Task × Option Owned). AllNotes a r.0) (let_go_of w.rest.tasks u) p (task_let_go a w.rest.tasks u g.notes) q) g))
 
+  -- a thread has ended: its result goes to who is noted as its asker, or waits
   finishes : (u : ℕ) (v : Owned) (x : Site) → SiteFits x → Gives SiteFits (deliver_finished u v x)
   finishes u v x g =
       then_gives SiteFits (ended x.work.rest.tasks u v) _ (λ p q.
@@ -198,6 +222,7 @@ module _ (a : Phases) where
 
   -- ALL MESSAGES
 
+  -- whatever is delivered
   pub message_asks : (code : List Instr) (m : Message) (x : Site) → MessageFits a m → SiteFits x → Gives SiteFits (deliver_message code m x)
   message_asks code (message.Fetch w o s t) x z g = beside (deliver_fetch w o s t) x (map_gives WorkFits (look_object x.work.rest.partition w o) _ (λ c q. says s (message.Fetched w c t) x.work z g))
   message_asks code (message.Fetched w c t) x z g = at t (deliver_fetched w c) x (λ y. fills w c (record { work = x.work; thread = y }) g)

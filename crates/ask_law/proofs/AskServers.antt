@@ -16,9 +16,11 @@ module _ (a : Phases) where
   abbrev w : Thing → ℕ
   w = thing_unfit a
 
+  -- slots, temporary values, gifts and copies ask for nothing
   unseen : (n : ℕ) → Unseen w n
   unseen n = record { held = λ p v. refl; shared = λ l q. refl; borrowed = λ l q. refl; locked = λ l x. refl; live = λ b c. refl; free = λ b x. refl; old = λ b. refl; copy = λ s c. refl; used = λ s x. refl }
 
+  -- of a message the weight is its own
   message_alone : (n : ℕ) (m : Message) → tot w (message_things n m) ≡ message_unfit a m
   message_alone n (message.Start t) = omega (arith, thread_alone w n (unseen n) n true t)
   message_alone n (message.Migrate t) = omega (arith, thread_alone w n (unseen n) n true t)
@@ -37,21 +39,27 @@ module _ (a : Phases) where
   message_alone n (message.Joined u v t) = omega arith
   message_alone n (message.Finished u v) = omega arith
 
+  -- of a mutex it is that of its queue
   mutex_alone : (n i : ℕ) (m : Mutex) → tot w (mutex_things n i m) ≡ tot w (things_at (queue_things m.number) 0 m.queue)
   mutex_alone n i m = omega (arith, content_none w n (unseen n) m, tot-append w (content_things m.number m.content) (things_at (queue_things m.number) 0 m.queue))
 
+  -- where it is nothing the queue fits
   mutex_from : (n i : ℕ) (m : Mutex) → tot w (mutex_things n i m) ≡ 0 → QueueFits a m
   mutex_from n i m z = all_none w (queue_things m.number) (AskerFits a m.number) (λ j q y. omega (arith, y)) 0 m.queue (omega (arith, z, mutex_alone n i m))
 
+  -- and the other way
   mutex_to : (n i : ℕ) (m : Mutex) → QueueFits a m → tot w (mutex_things n i m) ≡ 0
   mutex_to n i m g = omega (arith, mutex_alone n i m, none_all w (queue_things m.number) (AskerFits a m.number) (λ j q y. omega (arith, y)) 0 m.queue g)
 
+  -- of a note it is its own
   task_alone : (n i : ℕ) (x : Task) → tot w (task_things n i x) ≡ Rattle.ask_law.proofs.Asking.note_unfit a x.thread x.state
   task_alone n i x = omega (arith, result_none w n (unseen n) x.thread x.state)
 
+  -- threads have none
   threads_none : (s : Server) → tot w (things_at (standing_things s.rest.number) 0 s.threads) ≡ 0
   threads_none s = let n = s.rest.number in none_at w n (unseen n) (standing_things n) (λ i x. omega (arith, thread_alone w n (unseen n) n false x)) 0 s.threads
 
+  -- where a server weighs nothing all fits in it
   pub rest_from : (s : Server) → tot w (server_things s) ≡ 0 → RestFits a s.rest
   rest_from s z =
       let n = s.rest.number in
@@ -62,6 +70,7 @@ module _ (a : Phases) where
         leaving = all_none w leaving_things (λ (x : Sent). MessageFits a x.message) (λ i x y. omega (arith, y, message_alone x.target x.message)) 0 s.rest.outbox (omega (arith, z, parts));
       }
 
+  -- and the other way
   pub rest_to : (s : Server) → RestFits a s.rest → tot w (server_things s) ≡ 0
   rest_to s g =
       let n = s.rest.number in

@@ -38,9 +38,11 @@ use Rattle.ask_law.proofs.Asking.{Phases, passes, unfit, MessageFits, QueueFits,
 own_fits : (a : Phases) (n : ℕ) (p : Phase) (f : Phase → Bool) → f p ≡ true → unfit (turned a n p) n f ≡ 0
 own_fits a n p f e = ap (λ b. other (passes f (if b then Some p else a n))) (eq-eqb n n refl) ∙ ap other e
 
+-- who waits for the word waits for it
 same_cell_word : (w : ℕ) → is_cell w (phase.WaitCell w) ≡ true
 same_cell_word w = eq-eqb w w refl
 
+-- a mutex is the same as itself
 pub same_mutex_itself : (m : MutexNo) → same_mutex m m ≡ true
 same_mutex_itself m = ap (λ b. Rattle.std.specs.Prelude.◌&&◌ b (m.count == m.count)) (eq-eqb m.home m.home refl) ∙ eq-eqb m.count m.count refl
 
@@ -52,9 +54,11 @@ module _ (a : Phases) (y : ThreadState) (now : Phase) (has : a y.number ≡ Some
   abbrev pub E : Rest → ThreadState → Type 0
   E r t = Fits (turned a y.number t.phase) r.mutexes.there r.tasks r.inbox r.outbox
 
+  -- what fits still fits where the thread that steps gets a phase
   still : (p : Phase) {there : List Mutex} {ts : List Task} {inbox : List Message} {outbox : List Sent} → Fits a there ts inbox outbox → Fits (turned a y.number p) there ts inbox outbox
   still p {there} {ts} {inbox} {outbox} g = rest_still a y.number now has calm p there ts inbox outbox g
 
+  -- values make no difference
   places : Places F Any AnyWord
   places = record {
     spot = λ s v h g e. tt;
@@ -73,6 +77,7 @@ module _ (a : Phases) (y : ThreadState) (now : Phase) (has : a y.number ≡ Some
       by : {A B : Type 0} → A ≡ B → A → B
       by e x = subst (λ (t : Type 0). t) e x
 
+  -- the small steps of a place: a request fits the phase that its thread gets
   small : Small F E Any AnyWord
   small = record {
     places = places;
@@ -85,6 +90,7 @@ module _ (a : Phases) (y : ThreadState) (now : Phase) (has : a y.number ≡ Some
     asks_object = λ p h u e g. asks (phase.WaitCell p.word) (server_of p.word) (λ n. message.Move p.word p.object h.work.rest.number n) (is_cell p.word) (λ n. refl) (same_cell_word p.word) h g;
   }
 
+  -- passing a hop makes no difference
   passed : Passes F
   passed m h g = g
 
@@ -92,6 +98,7 @@ module _ (a : Phases) (y : ThreadState) (now : Phase) (has : a y.number ≡ Some
   says : (t : ℕ) (m : Message) (r : Rest) → MessageFits a m → RestFits a r → RestFits a (sent_from r t m)
   says t m r z g = sent_fits a t m r z g
 
+  -- what is given up asks for nothing
   gives_up : (v : Owned) (w : Work) → RestFits a w.rest → RestFits a (give_up v w).rest
   gives_up (owned.Box p) w g = says (server_of p.word) (message.Drop p.word p.object) w.rest refl g
   gives_up (owned.Mutex m) w g = says m.home (message.Release (released.Mutex m)) w.rest refl g
@@ -100,13 +107,16 @@ module _ (a : Phases) (y : ThreadState) (now : Phase) (has : a y.number ≡ Some
   gives_up owned.Unit w g = g
   gives_up (owned.Int m) w g = g
 
+  -- nor does a new thread
   starts : (pc : ℕ) (vs : List Value) (w : Work) → RestFits a w.rest → RestFits a (start_thread servers pc vs w).rest
   starts pc vs w g = says (server_for servers w.rest) (message.Start (new_thread (next_thread w.rest) pc vs)) (record w.rest { started = w.rest.started + 1 }) refl (record { queues = g.queues; notes = g.notes; waiting = g.waiting; leaving = g.leaving })
 
+  -- nor does the end of a thread
   ended : (main : Bool) (v : Owned) (h : Hand) → Of F h → Gives (λ h2. Settles E (with_phase phase.Over h2)) (end_with main v h)
   ended true v h g = λ cs z. still phase.Over (gives_up v (Rattle.server_model.specs.Commit.label_dropped (Rattle.thread_state.specs.declared.value.Value.TheVariants.Own v) h).work g.0)
   ended false v h g = λ cs z. still phase.Over (says h.thread.home (message.Finished h.thread.number v) h.work.rest refl g.0)
 
+  -- the plain steps: what a lock, a dup or a join asks for fits the phase
   acts : Acts servers F E Any Any AnyWord i
   acts = record {
     places = places;

@@ -43,10 +43,12 @@ IsCell p = ⊥
 abbrev Calls : Rest → ThreadState → Type 0
 Calls r t = IsCell t.phase
 
+-- of other hands nothing is told
 anything : (o : Option Hand) → Gives (Of (λ (r : Rest) (t : ThreadState). ⊤)) o
 anything None = tt
 anything (Some h) = tt
 
+-- what a small step asks for is a copy or an object
 calls : Small (λ (r : Rest) (t : ThreadState). ⊤) Calls (λ (v : Value). ⊤) (λ (w : ℕ). ⊤)
 calls = record {
   places = record { spot = λ s v h g e. tt; puts = λ s v h z a g. anything (Rattle.server_model.specs.Places.put_at s v h); worded = λ w v new x a e. tt; word_of = λ r a. tt; points = λ v p a e. tt };
@@ -127,6 +129,7 @@ module _ (k : Cluster) (n t : ℕ) (s : Server) (y : ThreadState) (i : Instr) (z
 
 -- WHAT IS ASKED
 
+-- a lock asks for the mutex at its spot
 locks : (sp : Spot) (h : Hand) (P : Stepped → Type 0) → h.thread.gift ≡ None → ((m : MutexNo) → mutex_at h sp ≡ Some m → P (wait_step (ask_lock h m))) → Gives P (committed (lock sp h.thread.gift h))
 locks sp h P e f = subst (λ g. Gives P (committed (lock sp g h))) (sym e) (by (mutex_at h sp) f)
   where
@@ -134,6 +137,7 @@ locks sp h P e f = subst (λ g. Gives P (committed (lock sp g h))) (sym e) (by (
     by None g = tt
     by (Some m) g = g m refl
 
+-- so does a dup
 dups : (sp : Spot) (h : Hand) (P : Stepped → Type 0) → h.thread.gift ≡ None → ((m : MutexNo) → mutex_at h sp ≡ Some m → P (wait_step (ask_dup h m))) → Gives P (committed (dup sp h.thread.gift h))
 dups sp h P e f = subst (λ g. Gives P (committed (dup sp g h))) (sym e) (by (mutex_at h sp) f)
   where
@@ -141,19 +145,24 @@ dups sp h P e f = subst (λ g. Gives P (committed (dup sp g h))) (sym e) (by (mu
     by None g = tt
     by (Some m) g = g m refl
 
+-- who waits for a cell waits for no lock
 cell_locks : (p : Phase) (m : MutexNo) → IsCell p → p ≡ phase.WaitLock m → ⊥
 cell_locks p m c e = subst IsCell e c
 
+-- nor for a share
 cell_dups : (p : Phase) (m : MutexNo) → IsCell p → p ≡ phase.WaitDup m → ⊥
 cell_dups p m c e = subst IsCell e c
 
+-- the mutex of a phase
 same_locked : {m n : MutexNo} → phase.WaitLock m ≡ phase.WaitLock n → m ≡ n
 same_locked e = cc
 
+-- and of the other one
 same_dupped : {m n : MutexNo} → phase.WaitDup m ≡ phase.WaitDup n → m ≡ n
 same_dupped e = cc
 
 module _ (k : Cluster) (n t : ℕ) (s : Server) (y : ThreadState) where
+  -- the step of a lock without a gift
   pub lock_asks : (w : Lval) → Steps k n t s y (instr.Lock w) → y.gift ≡ None → Gives (AsksLock (sight k).ground y.number w) (step k.options.servers (instr.Lock w) (record { work = begin_work s.rest; thread = y }))
   lock_asks w z bare =
       let i = instr.Lock w in
@@ -163,6 +172,7 @@ module _ (k : Cluster) (n t : ℕ) (s : Server) (y : ThreadState) where
       asks_by k n t s y i z bare w q.0 q.1 (λ p e. cc) k.options.servers (AsksLock (sight k).ground y.number w) (λ h c m e. absurd (cell_locks h.thread.phase m c e))
       (λ h sp e found. locks sp h (AsksLock (sight k).ground y.number w) e (λ m there j f. found j (there ∙ ap Some (same_locked f))))
 
+  -- the step of a dup without a gift
   pub dup_asks : (w : Lval) → Steps k n t s y (instr.Dup w) → y.gift ≡ None → Gives (AsksDup (sight k).ground y.number w) (step k.options.servers (instr.Dup w) (record { work = begin_work s.rest; thread = y }))
   dup_asks w z bare =
       let i = instr.Dup w in

@@ -112,6 +112,7 @@ module _ (a : Phases) where
       by true e rest = (g.0, same_mutexes x.number m e)
       by false e rest = rest
 
+  -- a lock that is asked for
   pub lock_asks : (ms : Mutexes) (m : MutexNo) (s t : ℕ) → unfit a t (is_lock m) ≡ 0 → AllQueues ms → Gives (λ (p : Mutexes × Asked). AllQueues p.0) (ask ms m s t)
   lock_asks ms m s t z g = by (mutex_in ms.there m) (found_queue ms.there m g)
     where
@@ -128,6 +129,7 @@ module _ (a : Phases) where
   NextFits m (back.Next s t v) = unfit a t (is_lock m) ≡ 0
   NextFits m b = ⊤
 
+  -- a content that comes back: the next asker fits
   pub content_back : (ms : Mutexes) (m : MutexNo) (v : Owned) → AllQueues ms → Gives (λ (p : Mutexes × Back). AllQueues p.0 × NextFits m p.1) (give_back ms m v)
   content_back ms m v g = by (mutex_in ms.there m) (found_queue ms.there m g)
     where
@@ -150,6 +152,7 @@ module _ (a : Phases) where
       by None q = tt
       by (Some x) q = content x x.content q.0 q.1
 
+  -- a share more
   pub share_more : (ms : Mutexes) (m : MutexNo) → AllQueues ms → Gives AllQueues (more ms m)
   share_more ms m g = by (mutex_in ms.there m) (found_queue ms.there m g)
     where
@@ -157,6 +160,7 @@ module _ (a : Phases) where
       by None q = tt
       by (Some x) q = test_gives AllQueues (nat_lt 0 x.shares && nat_lt x.shares (2 ^ 64 - 1)) _ (λ z. put_all (QueueFits a) ms.there (record x { shares = x.shares + 1 }) g q.0)
 
+  -- a share less
   pub share_less : (ms : Mutexes) (m : MutexNo) → AllQueues ms → Gives (λ (p : Mutexes × Option Owned). AllQueues p.0) (less ms m)
   share_less ms m g = by (mutex_in ms.there m) (found_queue ms.there m g)
     where
@@ -180,6 +184,7 @@ module _ (a : Phases) where
   abbrev pub AllNotes : List Task → Type 0
   AllNotes ts = AllByRecursion (NoteFits a) ts
 
+  -- a note goes
   pub note_gone : (xs : List Task) (t : ℕ) → AllNotes xs → AllNotes (without_task xs t)
   note_gone [] t g = tt
   note_gone (x ∷ xs) t g = by (x.thread == t) (note_gone xs t g.1)
@@ -188,6 +193,7 @@ module _ (a : Phases) where
       by true rest = g.1
       by false rest = (g.0, rest)
 
+  -- a note gets another state that fits
   pub note_turned : (xs : List Task) (t : ℕ) (z : TaskState) → note_unfit a t z ≡ 0 → AllNotes xs → AllNotes (with_state xs t z)
   note_turned [] t z fit g = tt
   note_turned (x ∷ xs) t z fit g = by (x.thread == t) (note_turned xs t z fit g.1)
@@ -209,6 +215,7 @@ module _ (a : Phases) where
       by true e rest = subst (λ u. note_unfit a u x.state ≡ 0) (Rattle.heap_law.proofs.Names.same_number x.thread t e) g.0
       by false e rest = rest
 
+  -- a result that is asked for
   pub join_asks : (xs : List Task) (t s asker : ℕ) → unfit a asker (is_join t) ≡ 0 → AllNotes xs → Gives (λ (p : List Task × Option Owned). AllNotes p.0) (tasks.ask xs t s asker)
   join_asks xs t s asker z g = by (state_of xs t)
     where
@@ -220,6 +227,7 @@ module _ (a : Phases) where
       by (Some (asked b c)) = tt
       by (Some (in_pair b c)) = tt
 
+  -- a task that is let go
   pub task_let_go : (xs : List Task) (t : ℕ) → AllNotes xs → Gives (λ (p : List Task × Option Owned). AllNotes p.0) (let_go_of xs t)
   task_let_go xs t g = by (state_of xs t)
     where
@@ -236,6 +244,7 @@ module _ (a : Phases) where
   ResultFits u (over.Answer s t v) = unfit a t (is_join u) ≡ 0
   ResultFits u e = ⊤
 
+  -- the end of a thread: who is answered fits
   pub thread_ends : (xs : List Task) (t : ℕ) (v : Owned) → AllNotes xs → Gives (λ (p : List Task × EndedAs). AllNotes p.0 × ResultFits t p.1) (ended xs t v)
   thread_ends xs t v g = by (state_of xs t) (state_fits xs t g)
     where
@@ -264,22 +273,27 @@ turned a n p t = if t == n then Some p else a t
 abbrev pub Waiting : (Phase → Bool) → Type 0
 Waiting f = (q : Phase) → f q ≡ true → can_step q ≡ false
 
+-- a thread that waits for a cell can't step
 pub cell_waits : (w : ℕ) → Waiting (is_cell w)
 cell_waits w (phase.WaitCell v) e = refl
 cell_waits w q e = absurd (cc e)
 
+-- nor can one that waits for a lock
 pub lock_waits : (m : MutexNo) → Waiting (is_lock m)
 lock_waits m (phase.WaitLock n) e = refl
 lock_waits m q e = absurd (cc e)
 
+-- nor for a share
 pub dup_waits : (m : MutexNo) → Waiting (is_dup m)
 dup_waits m (phase.WaitDup n) e = refl
 dup_waits m q e = absurd (cc e)
 
+-- nor for a result
 pub join_waits : (u : ℕ) → Waiting (is_join u)
 join_waits u (phase.WaitJoin t) e = refl
 join_waits u q e = absurd (cc e)
 
+-- what isn't wrong is so
 truly : (b : Bool) → other b ≡ 0 → b ≡ true
 truly true z = refl
 truly false z = absurd (cc z)
@@ -293,6 +307,7 @@ module _ (a : Phases) (n : ℕ) (now : Phase) (has : a n ≡ Some now) (steps : 
       let passed : passes f (Some now) ≡ true = subst (λ o. passes f o ≡ true) (ap a e ∙ has) (truly (passes f (a t)) z) in
       absurd (cc (sym steps ∙ waits now passed))) (λ ne. z)
 
+  -- a message still fits where a thread that could step gets a phase
   pub message_still : (m : Message) → message_unfit a m ≡ 0 → message_unfit (turned a n p) m ≡ 0
   message_still (message.Fetch w o r t) z = still_fits (is_cell w) (cell_waits w) t z
   message_still (message.Fetched w c t) z = still_fits (is_cell w) (cell_waits w) t z
@@ -311,20 +326,24 @@ module _ (a : Phases) (n : ℕ) (now : Phase) (has : a n ≡ Some now) (steps : 
   message_still (message.Finished u v) z = refl
   message_still (message.Migrate t) z = refl
 
+  -- so does a note
   note_still : (u : ℕ) (z : TaskState) → note_unfit a u z ≡ 0 → note_unfit (turned a n p) u z ≡ 0
   note_still u (asked r t) z = still_fits (is_join u) (join_waits u) t z
   note_still u _ z = refl
 
+  -- so does whatever stands
   pub thing_still : (x : Thing) → thing_unfit a x ≡ 0 → thing_unfit (turned a n p) x ≡ 0
   thing_still (sent r m) z = message_still m z
   thing_still (queued m r t) z = still_fits (is_lock m) (lock_waits m) t z
   thing_still (noted r x) z = note_still x.thread x.state z
   thing_still x z = refl
 
+  -- all of a list
   all_still : {X : Type 0} (P Q : X → Type 0) → ((x : X) → P x → Q x) → (xs : List X) → AllByRecursion P xs → AllByRecursion Q xs
   all_still P Q f [] g = tt
   all_still P Q f (x ∷ xs) g = (f x g.0, all_still P Q f xs g.1)
 
+  -- all of a server
   pub rest_still : (there : List Mutex) (ts : List Task) (inbox : List Message) (outbox : List Sent) → Fits a there ts inbox outbox → Fits (turned a n p) there ts inbox outbox
   rest_still there ts inbox outbox g = record {
     queues = all_still (QueueFits a) (QueueFits (turned a n p)) (λ x q. all_still (AskerFits a x.number) (AskerFits (turned a n p) x.number) (λ t z. still_fits (is_lock x.number) (lock_waits x.number) t.1 z) x.queue q) there g.queues;

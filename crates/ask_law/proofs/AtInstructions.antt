@@ -45,6 +45,7 @@ use Rattle.ask_law.proofs.AskedThere.{AsksLock, AsksDup, lock_asks, dup_asks}
 
 -- BEFORE THE EVENT
 
+-- a phase that stands right
 phase_right : (k : Cluster) (x : Standing) (p : Phase) → stands_wrong (sight k) x p ≡ 0 → phase_off (sight k).ground (slice_get k.code x.thread.pc) x.thread p ≡ 0
 phase_right k x (phase.WaitLock m) z = by (slice_get k.code x.thread.pc) z
   where
@@ -59,6 +60,7 @@ phase_right k x (phase.WaitDup m) z = by (slice_get k.code x.thread.pc) z
 phase_right k x (phase.WaitJoin u) z = z
 phase_right k x p z = refl
 
+-- a gift that fits
 gift_right : (k : Cluster) (x : Standing) (g : Option Owned) → gift_there (sight k) x g ≡ 0 → gift_off (sight k).ground (slice_get k.code x.thread.pc) x.thread g ≡ 0
 gift_right k x None z = refl
 gift_right k x (Some v) z = by (slice_get k.code x.thread.pc) z
@@ -69,10 +71,12 @@ gift_right k x (Some v) z = by (slice_get k.code x.thread.pc) z
     by (Some (instr.Join o)) y = y
     by j y = absurd (cc y)
 
+-- of each thread, by two things that are right of it
 two_none : (f g h : Standing → ℕ) → ((x : Standing) → f x ≡ 0 → g x ≡ 0 → h x ≡ 0) → (xs : List Standing) → tot f xs ≡ 0 → tot g xs ≡ 0 → tot h xs ≡ 0
 two_none f g h go [] a b = refl
 two_none f g h go (x ∷ xs) a b = omega (arith, go x (omega (arith, a)) (omega (arith, b)), two_none f g h go xs (omega (arith, a)) (omega (arith, b)))
 
+-- in a sound cluster all stand so
 off_before : (k : Cluster) → IsSound k → StandBy k k
 off_before k sound =
     two_none (λ x. stands_wrong (sight k) x x.thread.phase) (λ x. gift_there (sight k) x x.thread.gift) (off k)
@@ -86,17 +90,20 @@ module _ (G : Ground) (code : List Instr) where
   abbrev Off : ThreadState → ℕ
   Off t = phase_off G (slice_get code t.pc) t t.phase + gift_off G (slice_get code t.pc) t t.gift
 
+  -- a thread in that phase, without a gift
   off_by : (t : ThreadState) (p : Phase) → t.phase ≡ p → t.gift ≡ None → phase_off G (slice_get code t.pc) t p ≡ 0 → Off t ≡ 0
   off_by t p e g z =
       let phase_is : phase_off G (slice_get code t.pc) t t.phase ≡ phase_off G (slice_get code t.pc) t p = ap (phase_off G (slice_get code t.pc) t) e in
       let gift_is : gift_off G (slice_get code t.pc) t t.gift ≡ 0 = ap (gift_off G (slice_get code t.pc) t) g in
       omega (arith, phase_is, gift_is, z)
 
+  -- who has got a cell waits for no home
   cell_off : (i : Option Instr) (t : ThreadState) (p : Phase) → HasCell p → phase_off G i t p ≡ 0
   cell_off i t phase.Got h = refl
   cell_off i t (phase.Taken w) h = refl
   cell_off i t p h = absurd h
 
+  -- instructions that are the same where both are there
   some_same : {a b : Instr} → Some a ≡ Some b → a ≡ b
   some_same e = cc
 
@@ -104,6 +111,7 @@ module _ (G : Ground) (code : List Instr) where
   abbrev Told : Instr → ThreadState → Type 0
   Told i y2 = (m : Phase) → y2.phase ≡ m → AsksHome i m → phase_off G (Some i) y2 m ≡ 0
 
+  -- who waits for a home can't step
   asking_stops : (p : Phase) → IsAsking p → can_step p ≡ false
   asking_stops (phase.WaitLock m) a = refl
   asking_stops (phase.WaitDup m) a = refl
@@ -122,10 +130,12 @@ module _ (G : Ground) (code : List Instr) where
   step_off y y2 i at f e calm (gets_gift was q pc passed walk temps shares same) = absurd (cc (sym calm ∙ asking_stops y.phase was))
   step_off y y2 i at f e calm (goes_pair a b was q pc g passed walk same) = off_by y2 (phase.GotPar a b) q (g ∙ e) refl
 
+  -- where that mutex is there some mutex is
   is_there : (m : MutexNo) (o : Option MutexNo) → other (is_mutex m o) ≡ 0 → other (is_some o) ≡ 0
   is_there m None q = absurd (cc q)
   is_there m (Some n) q = refl
 
+  -- a value of the mutex is its share
   is_share : (m : MutexNo) (o : Option MutexNo) → other (is_mutex m o) ≡ 0 → other (is_value_of (owned.Mutex m) o) ≡ 0
   is_share m None q = absurd (cc q)
   is_share m (Some n) q = q
@@ -158,6 +168,7 @@ module _ (G : Ground) (code : List Instr) where
       by j q = absurd (cc q)
   given_off i y y2 p (Some v) a e n f z = absurd a
 
+  -- a thread that gets something
   gotten_off : (y y2 : ThreadState) → (is_got y.phase ≡ false → y.gift ≡ None) → Off y ≡ 0 → (g : Goes code y y2) → IsGotten g → Off y2 ≡ 0
   gotten_off y y2 bare z (gets_cell w was q pc g same) got = off_by y2 y2.phase refl (g ∙ bare (ap is_got was)) (cell_off (slice_get code y2.pc) y2 y2.phase q)
   gotten_off y y2 bare z (gets_gift was q pc passed walk temps shares same) got =
@@ -209,12 +220,14 @@ module _ (k : Cluster) (e : Event) (coherent : IsCoherent k) (few : FewEvents k)
   abbrev h0 : ThreadState → Hand
   h0 y = record { work = begin_work s.rest; thread = y }
 
+  -- who hasn't got anything has no gift
   bare_there : (t : ℕ) (y : ThreadState) → thread_in s.threads t ≡ Some y → is_got y.phase ≡ false → y.gift ≡ None
   bare_there t y there f = bare_of y.gift y.phase (known k sound e.server s here t y there early_gift sound.requests.gifts_got) f
 
   abbrev Right : Stepped → Type 0
   Right d = Off (sight k).ground k.code d.hand.thread ≡ 0
 
+  -- a thread after its step
   step_right : (t : ℕ) (y : ThreadState) (i : Instr) → has_phase can_step (thread_in s.threads t) ≡ true → thread_in s.threads t ≡ Some y → slice_get k.code y.pc ≡ Some i → Gives Right (step k.options.servers i (h0 y))
   step_right t y i steps there code = by y.gift refl
     where
@@ -256,6 +269,7 @@ module _ (k : Cluster) (e : Event) (coherent : IsCoherent k) (few : FewEvents k)
           let z : Steps k e.server t s y i = record { coherent = coherent; few = few; here = here; on = steps; at = there; code = code } in
           weaker Bare Right (step k.options.servers i (h0 y)) (steps_bare k e.server t s y i v z q (subst (GiftFits i) q fits)) (λ d g. off_by (sight k).ground k.code d.hand.thread phase.Ready g.1 g.0 refl)
 
+  -- whatever a thread does
   right_ways : Ways k.code k.options.servers s e.what (Stood (off k) s.rest.number) (InParcel (off k))
   right_ways = record {
     steps = λ t y i is steps there p code. step_right t y i steps there code;
@@ -272,5 +286,6 @@ module _ (k : Cluster) (e : Event) (coherent : IsCoherent k) (few : FewEvents k)
           ready_is phase.Ready f = refl
           ready_is p f = absurd (cc f)
 
+-- after whatever event
 pub asked_there : EachEventAsksForWhatIsThere
 asked_there k e coherent few = threads_go (off k) k e coherent.sound few (off_before k coherent.sound) (right_ways k e coherent few)

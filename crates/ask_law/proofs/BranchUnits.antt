@@ -61,14 +61,17 @@ abbrev says : Sight → ℕ → Message → ℕ
 says s r (message.Finished t v) = uncounted_thread s t + if_so (is_branch s t) (other (is_unit v))
 says s r m = 0
 
+-- what is wrong of a message is a result or a name
 seen_before : (s : Sight) (x : Thing) → on_sent (says s) x ≤ other_result s x + threads (uncounted_thread s) x
 seen_before s (sent r (message.Finished t v)) = omega arith
 seen_before s (sent r m) = omega arith
 seen_before s _ = omega arith
 
+-- no answer tells the end of a thread
 answers : (s : Sight) → Replies (Light (says s))
 answers s = record { fetched = λ r w c t. refl; moved = λ r w c t. refl; granted = λ r m v t. refl; dupped = λ r m t. refl; joined = λ r u v t. refl; drop = λ w o. refl; release = λ m. refl; let_go = λ u. refl }
 
+-- an owned value of type unit is unit
 unit_form : (n : NameTypes) (v : Owned) → has_form n (whole (own unit)) (value.Own v) ≡ true → is_unit v ≡ true
 unit_form n owned.Unit e = refl
 unit_form n owned.Nothing e = absurd (cc e)
@@ -77,6 +80,7 @@ unit_form n (owned.Box p) e = absurd (cc e)
 unit_form n (owned.Mutex m) e = absurd (cc e)
 unit_form n (owned.Task t) e = absurd (cc e)
 
+-- an instruction that ends its thread is an end
 end_of : (i : Instr) → is_end (Some i) ≡ true → (o : Operand) × (i ≡ instr.End o)
 end_of (instr.End o) e = (o, refl)
 end_of i e = absurd (cc e)
@@ -99,10 +103,12 @@ module _ (M : ℕ → Message → Type 0) (replies : Replies M) (s : Server) (y 
   abbrev Well : Hand → Type 0
   Well h = Mailed M s.rest.number s.rest.outbox h.work.rest
 
+  -- the message of the end
   says_end : (main : Bool) → Gives Well (end_with main v (with_temps ts h0))
   says_end true = gives_up M s.rest.number s.rest.outbox replies v (label_dropped (value.Own v) (with_temps ts h0)).work mail
   says_end false = mail_sent M s.rest.number s.rest.outbox s.rest y.home (message.Finished y.number v) said mail
 
+  -- the same once the walk has gone
   settles : (o : Option Hand) → Gives Well o → Gives (λ (d : Stepped). Well d.hand) (committed (done_where fresh.None (option_map (with_phase phase.Over) o)))
   settles None g = tt
   settles (Some h) g = by (unpin_all h.thread.walk h.work.rest.cache)
@@ -111,6 +117,7 @@ module _ (M : ℕ → Message → Type 0) (replies : Replies M) (s : Server) (y 
       by None = tt
       by (Some cs) = g
 
+  -- the step at an end
   end_says : (servers : ℕ) (o : Operand) → pop_owned o h0 ≡ Some (record { item = v; hand = with_temps ts h0 }) → Gives (λ (d : Stepped). Well d.hand) (step servers (instr.End o) h0)
   end_says servers o e =
       subst (λ p. Gives (λ (d : Stepped). Well d.hand) (committed (done_where fresh.None (option_map (with_phase phase.Over) (then_some p (λ (t : Popped Owned). end_with (y.number == 0) t.item t.hand)))))) (sym e)
@@ -125,9 +132,11 @@ module _ (k : Cluster) (coherent : IsCoherent k) (few : FewEvents k) where
   abbrev S : Sight
   S = sight k
 
+  -- all that is named is counted
   named_before : tot (threads (uncounted_thread S)) (things_of k) ≡ 0
   named_before = left_none (tot (threads (uncounted_thread S)) (things_of k)) (tot (named_mutexes (uncounted_mutex S)) (things_of k)) sound.names.names_counted
 
+  -- what is said before the event is right
   said_before : tot (on_sent (says S)) (things_of k) ≡ 0
   said_before =
       let units : tot (other_result S) (things_of k) ≡ 0 = sound.rooted.branches_give_unit in
@@ -219,6 +228,7 @@ module _ (k : Cluster) (coherent : IsCoherent k) (few : FewEvents k) where
   abbrev Said : Cluster → Type 0
   Said c = tot (on_sent (says S)) (things_of c) ≡ 0
 
+  -- what is said after it is right by what was known before
   said_after : (e : Event) → Gives (λ (d : Cluster × EntryView). Said d.0) (apply k e)
   said_after e = messages_go (says S) k e sound few said_before (speech e.server)
 
@@ -249,6 +259,7 @@ module _ (k : Cluster) (coherent : IsCoherent k) (few : FewEvents k) where
       all (sent r m ∷ b) z = omega (arith, all b (omega (arith, z)))
       all (_ ∷ b) z = omega (arith, all b (omega (arith, z)))
 
+-- after whatever event
 pub units_kept : EachCoherentEventKeeps branches_give_unit
 units_kept k e coherent few =
     both_give (λ (d : Cluster × EntryView). Waiting d.0) (λ (d : Cluster × EntryView). Said k coherent few d.0 × Noted d.0) (λ (d : Cluster × EntryView). Holds d.0 branches_give_unit) (apply k e)

@@ -103,14 +103,17 @@ abbrev pub waits_unpaired : Sight → ℕ → Phase → ℕ
 waits_unpaired s p (phase.WaitPar a b) = missing s p + (unpaired s p a + unpaired s p b)
 waits_unpaired s p q = 0
 
+-- what is more than nothing is some
 some_true : (m : ℕ) → 1 ≤ m → some m ≡ true
 some_true zero l = absurd (omega (arith, l))
 some_true (suc m) l = refl
 
+-- and some is more than nothing
 pub is_some_number : (m : ℕ) → some m ≡ true → 1 ≤ m
 is_some_number zero e = absurd (cc e)
 is_some_number (suc m) e = omega arith
 
+-- nothing, whether it counts or not
 if_nothing : (b : Bool) (n : ℕ) → n ≡ 0 → if_so b n ≡ 0
 if_nothing true n e = e
 if_nothing false n e = refl
@@ -151,6 +154,7 @@ pub record HasNote (b : List Thing) (t : ℕ) : Type 0 where
   pub named : note.thread ≡ t
   pub paired : note.state ≡ in_pair parent over
 
+-- a branch that is counted has a note
 pub found_note : (t : ℕ) (b : List Thing) → 1 ≤ tot (in_pair_of t) b → HasNote b t
 found_note t [] l = absurd (omega (arith, l))
 found_note t (noted r x ∷ b) l = by (found_note t b) (x.thread == t) refl x.state refl l
@@ -187,6 +191,7 @@ module _ (k0 : Cluster) where
           if_nothing (is_counted (sight k) t) (other (some (tot (pair_of x.number t) (things_of k)))) (ap other (some_true (tot (pair_of x.number t) (things_of k)) some_note))
   branch_waited k sound s p x has q e = refl
 
+  -- in a sound cluster no thread waits for one that isn't noted
   unpaired_before : IsSound k0 → tot weight (threads_in (things_of k0)) ≡ 0
   unpaired_before sound = all_nothing weight (things_of k0) (things_of k0) (λ g. omega arith) (λ s p x has. branch_waited k0 sound s p x has x.phase refl)
 
@@ -306,10 +311,12 @@ found_number t (y ∷ xs) x e =
     eq_cases (λ b. (if b then Some y else thread_at xs t) ≡ Some x → x.thread.number ≡ t) y.thread.number t
     (λ q d. let same : y ≡ x = cc in subst (λ (w : Standing). w.thread.number ≡ t) same q) (λ ne d. found_number t xs x d) e
 
+-- a note in a pair counts there
 pair_of_note : (t r p : ℕ) (x : Task) (o : Bool) → x.thread ≡ t → x.state ≡ in_pair p o → pair_notes (record { server = r; parent = p; thread = t }) (noted r x) ≡ 1
 pair_of_note t r p x o e f =
     ap (λ z. one ((r == r && x.thread == t) && half_noted z p)) f ∙ ap (λ b. one ((b && x.thread == t) && p == p)) (eq-eqb r r refl) ∙ ap (λ b. one ((true && b) && p == p)) (eq-eqb x.thread t e) ∙ ap (λ b. one ((true && true) && b)) (eq-eqb p p refl)
 
+-- a thing of a list weighs no more than the list
 has_among : (f : Thing → ℕ) (x : Thing) (b : List Thing) → Among x b → f x ≤ tot f b
 has_among f x [] a = absurd a
 has_among f x (y ∷ b) (inl e) = let same = ap f e in omega (arith, same)

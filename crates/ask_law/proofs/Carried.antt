@@ -44,7 +44,7 @@ use Rattle.local_law.proofs.Goes.{Goes, IsGotten, gets_cell, gets_gift, goes_pai
 use Rattle.local_law.proofs.Threads.{Ways, remove_all}
 use Rattle.local_law.proofs.Handed.{Stood, InParcel, threads_go}
 use Rattle.ask_law.proofs.Asking.{Phases, passes, unfit, message_unfit, note_unfit, thing_unfit, MessageFits, RestFits, sent_fits, turned, thing_still}
-use Rattle.ask_law.proofs.AskSteps.{step_asks}
+use Rattle.ask_law.proofs.AskSteps.{same_mutex_itself, step_asks}
 use Rattle.ask_law.proofs.AskDeliveries.{SiteFits, message_asks}
 use Rattle.ask_law.proofs.AskServers.{rest_from, rest_to}
 use Rattle.ask_law.proofs.PairsOver.{total_le, all_nothing}
@@ -73,13 +73,11 @@ agree (phase.WaitJoin u) o = passes (is_join u) o
 agree (phase.WaitPar a b) o = passes waits_pair_there o
 agree p o = true
 
-mutex_itself : (m : MutexNo) → Rattle.heap_law.specs.Names.same_mutex m m ≡ true
-mutex_itself m = ap (λ b. b && m.count == m.count) (eq-eqb m.home m.home refl) ∙ eq-eqb m.count m.count refl
-
+-- a phase agrees with itself
 self_agrees : (p : Phase) → agree p (Some p) ≡ true
 self_agrees (phase.WaitCell w) = eq-eqb w w refl
-self_agrees (phase.WaitLock m) = mutex_itself m
-self_agrees (phase.WaitDup m) = mutex_itself m
+self_agrees (phase.WaitLock m) = same_mutex_itself m
+self_agrees (phase.WaitDup m) = same_mutex_itself m
 self_agrees (phase.WaitJoin u) = eq-eqb u u refl
 self_agrees (phase.WaitPar a b) = refl
 self_agrees phase.Ready = refl
@@ -106,6 +104,7 @@ calm_agrees p now o e h = refl
 abbrev Tells : (Phase → Bool) → Type 0
 Tells f = (p q : Phase) → f p ≡ true → waits q ≡ true → agree q (Some p) ≡ true → f q ≡ true
 
+-- the test for a cell is the same for phases that agree
 cell_tells : (w : ℕ) → Tells (is_cell w)
 cell_tells w (phase.WaitCell v) (phase.WaitCell u) e c h =
     let a = Rattle.heap_law.proofs.Names.same_number v w e in
@@ -118,11 +117,12 @@ cell_tells w (phase.WaitCell v) (phase.WaitPar a b) e c h = absurd (cc h)
 cell_tells w (phase.WaitCell v) q e c h = absurd (cc c)
 cell_tells w p q e c h = absurd (cc e)
 
+-- so is that for a lock
 lock_tells : (m : MutexNo) → Tells (is_lock m)
 lock_tells m (phase.WaitLock n) (phase.WaitLock o) e c h =
     let a = Rattle.heap_law.proofs.Names.same_mutexes m n e in
     let b = Rattle.heap_law.proofs.Names.same_mutexes o n h in
-    subst (λ x. Rattle.heap_law.specs.Names.same_mutex m x ≡ true) (a ∙ sym b) (mutex_itself m)
+    subst (λ x. Rattle.heap_law.specs.Names.same_mutex m x ≡ true) (a ∙ sym b) (same_mutex_itself m)
 lock_tells m (phase.WaitLock n) (phase.WaitCell w) e c h = absurd (cc h)
 lock_tells m (phase.WaitLock n) (phase.WaitDup o) e c h = absurd (cc h)
 lock_tells m (phase.WaitLock n) (phase.WaitJoin u) e c h = absurd (cc h)
@@ -130,11 +130,12 @@ lock_tells m (phase.WaitLock n) (phase.WaitPar a b) e c h = absurd (cc h)
 lock_tells m (phase.WaitLock n) q e c h = absurd (cc c)
 lock_tells m p q e c h = absurd (cc e)
 
+-- that for a share
 dup_tells : (m : MutexNo) → Tells (is_dup m)
 dup_tells m (phase.WaitDup n) (phase.WaitDup o) e c h =
     let a = Rattle.heap_law.proofs.Names.same_mutexes m n e in
     let b = Rattle.heap_law.proofs.Names.same_mutexes o n h in
-    subst (λ x. Rattle.heap_law.specs.Names.same_mutex m x ≡ true) (a ∙ sym b) (mutex_itself m)
+    subst (λ x. Rattle.heap_law.specs.Names.same_mutex m x ≡ true) (a ∙ sym b) (same_mutex_itself m)
 dup_tells m (phase.WaitDup n) (phase.WaitCell w) e c h = absurd (cc h)
 dup_tells m (phase.WaitDup n) (phase.WaitLock o) e c h = absurd (cc h)
 dup_tells m (phase.WaitDup n) (phase.WaitJoin u) e c h = absurd (cc h)
@@ -142,6 +143,7 @@ dup_tells m (phase.WaitDup n) (phase.WaitPar a b) e c h = absurd (cc h)
 dup_tells m (phase.WaitDup n) q e c h = absurd (cc c)
 dup_tells m p q e c h = absurd (cc e)
 
+-- that for a result
 join_tells : (t : ℕ) → Tells (is_join t)
 join_tells t (phase.WaitJoin u) (phase.WaitJoin v) e c h =
     let a = Rattle.heap_law.proofs.Names.same_number t u e in
@@ -162,11 +164,13 @@ as_phase f t (stands r p x) = one (x.number == t && f x.phase)
 as_phase f t x = 0
 
 module _ (f : Phase → Bool) (t : ℕ) where
+  -- both are no more than the first
   one_of : (b c : Bool) → one (b && c) ≤ one b
   one_of true true = omega arith
   one_of true false = omega arith
   one_of false c = omega arith
 
+  -- a thread in a phase is a thread
   is_one : (x : Thing) → as_phase f t x ≤ is_thread t x
   is_one (stands r p x) = one_of (x.number == t) (f x.phase)
   is_one _ = omega arith
@@ -183,6 +187,7 @@ module _ (f : Phase → Bool) (t : ℕ) where
       at_first false h = absurd (omega (arith, h))
   found_phase (_ ∷ b) few l = found_phase b (omega (arith, few)) (omega (arith, l))
 
+-- the test of a thread that is found
 same_test : (f : Phase → Bool) (o : Option Standing) → passes f (phase_in o) ≡ in_phase f o
 same_test f None = refl
 same_test f (Some x) = refl
@@ -193,9 +198,11 @@ module _ (k : Cluster) where
   abbrev K : List Thing
   K = things_of k
 
+  -- before the event the test of a thread is that of the cluster
   test_before : (t : ℕ) (f : Phase → Bool) → unfit (phases k) t f ≡ phase_fits (sight k) t f
   test_before t f = ap other (same_test f (thread_at (threads_in K) t))
 
+  -- so a message fits as it carries what was asked
   message_before : (m : Message) → message_unfit (phases k) m ≡ message_carries (sight k) m
   message_before (message.Fetch w o r t) = test_before t (is_cell w)
   message_before (message.Fetched w c t) = test_before t (is_cell w)
@@ -214,16 +221,19 @@ module _ (k : Cluster) where
   message_before (message.Finished u v) = refl
   message_before (message.Migrate t) = refl
 
+  -- so does a note
   note_before : (u : ℕ) (z : TaskState) → note_unfit (phases k) u z ≡ note_carries (sight k) u z
   note_before u (asked r t) = test_before t (is_join u)
   note_before u _ = refl
 
+  -- and whatever stands
   thing_before : (x : Thing) → thing_unfit (phases k) x ≡ carries (sight k) x
   thing_before (sent r m) = message_before m
   thing_before (queued m r t) = test_before t (is_lock m)
   thing_before (noted r x) = note_before x.thread x.state
   thing_before _ = refl
 
+  -- in a sound cluster all fits
   fit_before : IsSound k → tot (thing_unfit (phases k)) K ≡ 0
   fit_before sound = let carried : tot (carries (sight k)) K ≡ 0 = sound.requests.carry_what_is_asked in omega (arith, carried, total_le (thing_unfit (phases k)) (carries (sight k)) (λ x. omega (arith, thing_before x)) K)
 
@@ -238,8 +248,8 @@ module _ (k : Cluster) where
 
       by : (q : Phase) → x.phase ≡ q → agree q (phases k x.number) ≡ true
       by (phase.WaitCell w) e = stands_so (is_cell w) (ap (is_cell w) e ∙ eq-eqb w w refl)
-      by (phase.WaitLock m) e = stands_so (is_lock m) (ap (is_lock m) e ∙ mutex_itself m)
-      by (phase.WaitDup m) e = stands_so (is_dup m) (ap (is_dup m) e ∙ mutex_itself m)
+      by (phase.WaitLock m) e = stands_so (is_lock m) (ap (is_lock m) e ∙ same_mutex_itself m)
+      by (phase.WaitDup m) e = stands_so (is_dup m) (ap (is_dup m) e ∙ same_mutex_itself m)
       by (phase.WaitJoin u) e = stands_so (is_join u) (ap (is_join u) e ∙ eq-eqb u u refl)
       by (phase.WaitPar a b) e = stands_so waits_pair_there (ap waits_pair_there e)
       by phase.Ready e = refl
@@ -278,10 +288,12 @@ known_at k e (Some s) = known_if (enabled k.options s e) k s e
 abbrev known_after : Cluster → Event → Phases
 known_after k e = known_at k e.what (server_at k.servers e.server)
 
+-- what is told of the phase of a step is told of the phase that is known
 has_result : (P : Phase → Hand → Type 0) (o : Option Stepped) → Gives (λ (d : Stepped). P d.hand.thread.phase d.hand) o → Gives (λ (d : Stepped). P (result_phase o) d.hand) o
 has_result P None g = tt
 has_result P (Some d) g = g
 
+-- the phase that is known of a step is that of its thread
 result_is : (o : Option Stepped) → Gives (λ (d : Stepped). d.hand.thread.phase ≡ result_phase o) o
 result_is None = tt
 result_is (Some d) = refl
@@ -291,6 +303,7 @@ module _ (k : Cluster) (sound : IsSound k) (n : ℕ) (s : Server) (here : server
   has_phase_there : (t : ℕ) (y : ThreadState) → thread_in s.threads t ≡ Some y → phases k y.number ≡ Some y.phase
   has_phase_there t y there = ap phase_in (subst (λ u. thread_at (threads_in (things_of k)) u ≡ Some (record { server = s.rest.number; packed = false; thread = y })) (sym (thread_number s.threads t y there)) (thread_there k sound n s here t y there))
 
+  -- who steps could step
   steps_there : (t : ℕ) (y : ThreadState) → thread_in s.threads t ≡ Some y → has_phase can_step (thread_in s.threads t) ≡ true → can_step y.phase ≡ true
   steps_there t y there steps = subst (λ o. has_phase can_step o ≡ true) there steps
 
@@ -310,16 +323,20 @@ module _ (k : Cluster) (sound : IsSound k) (n : ℕ) (s : Server) (here : server
   known_still (Evict w) on_it P turn stay = stay
   known_still (Migrate t target) on_it P turn stay = stay
 
+  -- what fits by the phases before fits by those that are known
   thing_known : (e : What) → enabled k.options s e ≡ true → (x : Thing) → thing_unfit (phases k) x ≡ 0 → thing_unfit (known_by k s e) x ≡ 0
   thing_known e on_it x z = known_still e on_it (λ a. thing_unfit a x ≡ 0) (λ y p has calm. thing_still (phases k) y.number y.phase has calm p x z) z
 
+  -- the same of a list
   all_known : (e : What) → enabled k.options s e ≡ true → (b : List Thing) → tot (thing_unfit (phases k)) b ≡ 0 → tot (thing_unfit (known_by k s e)) b ≡ 0
   all_known e on_it [] z = refl
   all_known e on_it (x ∷ b) z = omega (arith, thing_known e on_it x (omega (arith, z)), all_known e on_it b (omega (arith, z)))
 
+  -- a phase that agrees still does where a thread that could step has another one
   agree_turned : (q : Phase) (u : ℕ) (a : Phases) (m : ℕ) (now p : Phase) → a m ≡ Some now → can_step now ≡ true → agree q (a u) ≡ true → agree q (turned a m p u) ≡ true
   agree_turned q u a m now p has calm z = eq_cases (λ b. agree q (if b then Some p else a u) ≡ true) u m (λ e. calm_agrees q now (Some p) calm (subst (λ o. agree q o ≡ true) (ap a e ∙ has) z)) (λ ne. z)
 
+  -- the same of what is known of an event
   agree_known : (e : What) → enabled k.options s e ≡ true → (q : Phase) (u : ℕ) → agree q (phases k u) ≡ true → agree q (known_by k s e u) ≡ true
   agree_known e on_it q u z = known_still e on_it (λ a. agree q (a u) ≡ true) (λ y p has calm. agree_turned q u (phases k) y.number y.phase p has calm z) z
 
@@ -328,6 +345,7 @@ module _ (k : Cluster) (sound : IsSound k) (n : ℕ) (s : Server) (here : server
   abbrev Then : Phases → Server × EntryView → Type 0
   Then a r = RestFits a r.0.rest
 
+  -- a step
   stepping : RestFits (phases k) s.rest → (t : ℕ) → has_phase can_step (thread_in s.threads t) ≡ true → Gives (Then (known_by k s (Step t))) (does k.code k.options s (Step t))
   stepping fits t steps = by (thread_in s.threads t) refl
     where
@@ -344,6 +362,7 @@ module _ (k : Cluster) (sound : IsSound k) (n : ℕ) (s : Server) (here : server
       by None q = tt
       by (Some y) q = at y q (slice_get k.code y.pc) refl
 
+  -- a delivery
   delivering : RestFits (phases k) s.rest → (i : ℕ) → Gives (Then (phases k)) (does k.code k.options s (Deliver i))
   delivering fits i = by (slice_get s.rest.inbox i) refl
     where
@@ -354,11 +373,13 @@ module _ (k : Cluster) (sound : IsSound k) (n : ℕ) (s : Server) (here : server
           (message_asks (phases k) k.code m (received i s) (all_at (MessageFits (phases k)) s.rest.inbox i m fits.waiting q)
           (record { queues = fits.queues; notes = fits.notes; waiting = remove_all (MessageFits (phases k)) s.rest.inbox i fits.waiting; leaving = fits.leaving })) (λ x u. u)
 
+  -- an eviction
   evicting : RestFits (phases k) s.rest → (w : ℕ) → Gives (Then (phases k)) (does k.code k.options s (Evict w))
   evicting fits w =
       over_gives (SiteFits (phases k)) (Then (phases k)) (beside_threads (evict_copy w) (begin_at s)) (left_by s.events None None)
       (over_gives (λ (x : Work). RestFits (phases k) x.rest) (SiteFits (phases k)) (evict_copy w (begin_work s.rest)) _ (test_gives (λ (x : Work). RestFits (phases k) x.rest) (can_evict s.rest.cache w) _ (λ q. record { queues = fits.queues; notes = fits.notes; waiting = fits.waiting; leaving = fits.leaving })) (λ x u. u)) (λ x u. u)
 
+  -- a migration
   leaving : RestFits (phases k) s.rest → (t target : ℕ) → Gives (Then (phases k)) (does k.code k.options s (Migrate t target))
   leaving fits t target =
       over_gives (SiteFits (phases k)) (Then (phases k)) (migrate t target (begin_at s)) (left_by s.events (Some t) None)
@@ -369,6 +390,7 @@ module _ (k : Cluster) (sound : IsSound k) (n : ℕ) (s : Server) (here : server
       by y None = tt
       by y (Some cs) = sent_fits (phases k) target (message.Migrate (packed (record y { moved_since_step = true }))) (record s.rest { cache = cs }) refl (record { queues = fits.queues; notes = fits.notes; waiting = fits.waiting; leaving = fits.leaving })
 
+  -- whatever a server does
   asks_on : RestFits (phases k) s.rest → (e : What) → enabled k.options s e ≡ true → Gives (Then (known_by k s e)) (does k.code k.options s e)
   asks_on fits (Step t) on_it = stepping fits t on_it
   asks_on fits (Deliver i) on_it = delivering fits i
@@ -384,6 +406,7 @@ module _ (k : Cluster) (e : Event) (sound : IsSound k) (few : FewEvents k) where
   abbrev AllFit : Cluster → Type 0
   AllFit c = tot (thing_unfit known) (things_of c) ≡ 0
 
+  -- all fits in the cluster whose messages aren't handed over
   fit_acted : Gives (λ (d : Cluster × EntryView). AllFit d.0) (act_at k e)
   fit_acted =
       then_gives (λ (d : Cluster × EntryView). AllFit d.0) (server_at k.servers e.server) _ (λ s here.
@@ -401,6 +424,7 @@ module _ (k : Cluster) (e : Event) (sound : IsSound k) (few : FewEvents k) where
       subst (λ p. tot (thing_unfit p) (servers_things (Rattle.server_model.specs.Clusters.with_server k.servers e.server r.0)) ≡ 0) (sym is)
       (omega (arith, rest, rest_to a r.0 g.0, (tot-server (thing_unfit a) k.servers e.server s r.0 here).1))))
 
+  -- and once they are
   fit_after : Gives (λ (d : Cluster × EntryView). AllFit d.0) (apply k e)
   fit_after = handed_on AllFit (λ c a b same z. omega (arith, z, same (thing_unfit known))) k e (each_event_sends k e sound few) fit_acted
 
@@ -409,6 +433,7 @@ module _ (k : Cluster) (e : Event) (sound : IsSound k) (few : FewEvents k) where
   abbrev off : Standing → ℕ
   off x = other (agree x.thread.phase (known x.thread.number))
 
+  -- a phase before agrees with what is known
   agree_after : (q : Phase) (u : ℕ) → agree q (phases k u) ≡ true → agree q (known u) ≡ true
   agree_after q u z = by (server_at k.servers e.server) refl
     where
@@ -420,14 +445,17 @@ module _ (k : Cluster) (e : Event) (sound : IsSound k) (few : FewEvents k) where
           at true on_it = agree_known k sound e.server s here e.what on_it q u z
           at false on_it = z
 
+  -- phases agree with those before
   off_before : tot off (threads_in (things_of k)) ≡ 0
   off_before = all_nothing off (things_of k) (things_of k) (λ g. omega arith) (λ s p x has. ap other (agree_after x.phase x.number (phase_before k sound s p x has x.phase refl)))
 
+  -- who has got a cell waits for nothing
   cell_agrees : (p : Phase) (o : Option Phase) → HasCell p → other (agree p o) ≡ 0
   cell_agrees phase.Got o h = refl
   cell_agrees (phase.Taken w) o h = refl
   cell_agrees p o h = absurd h
 
+  -- nor does who has got something
   got_agrees : (y y2 : ThreadState) (o : Option Phase) (g : Goes k.code y y2) → IsGotten g → other (agree y2.phase o) ≡ 0
   got_agrees y y2 o (gets_cell w was q pc g same) got = cell_agrees y2.phase o q
   got_agrees y y2 o (gets_gift was q pc passed walk temps shares same) got = ap (λ p. other (agree p o)) q
@@ -465,15 +493,18 @@ module _ (k : Cluster) (e : Event) (sound : IsSound k) (few : FewEvents k) where
       leaves = λ t n y there p r. p;
     }
 
+  -- afterwards each thread agrees with what is known
   off_after : Gives (λ (d : Cluster × EntryView). tot off (threads_in (things_of d.0)) ≡ 0) (apply k e)
   off_after = threads_go off k e sound few off_before ways
 
 -- AFTERWARDS
 
+-- what isn't wrong is so
 truly : (b : Bool) → other b ≡ 0 → b ≡ true
 truly true z = refl
 truly false z = absurd (cc z)
 
+-- what a thread needs in answers it needs as one that waits
 needs_as : (t : ℕ) (x : Thing) → halves_needed t x ≤ 2 * as_phase waits t x
 needs_as t (stands s p x) = by (x.number == t && waits x.phase)
   where
@@ -482,6 +513,7 @@ needs_as t (stands s p x) = by (x.number == t && waits x.phase)
     by false = omega arith
 needs_as t _ = omega arith
 
+-- the same of a list
 all_needs : (t : ℕ) (b : List Thing) → tot (halves_needed t) b ≤ 2 * tot (as_phase waits t) b
 all_needs t [] = omega arith
 all_needs t (x ∷ b) = omega (arith, needs_as t x, all_needs t b)
@@ -490,6 +522,7 @@ module _ (a : Phases) (c : Cluster) (fits : tot (thing_unfit a) (things_of c) �
   abbrev C : List Thing
   C = things_of c
 
+  -- a thread that an answer goes to waits for it
   test_after : (f : Phase → Bool) → Tells f → (t : ℕ) → 2 ≤ tot (halves_to t) C → unfit a t f ≡ 0 → phase_fits (sight c) t f ≡ 0
   test_after f tells t l z = by (thread_at (threads_in C) t) refl waiting
     where
@@ -511,6 +544,7 @@ module _ (a : Phases) (c : Cluster) (fits : tot (thing_unfit a) (things_of c) �
   whole : (t : ℕ) → if_so (t == t) 2 ≡ 2
   whole t = ap (λ b. if_so b 2) (eq-eqb t t refl)
 
+  -- so a message carries what was asked
   message_after : (r : ℕ) (m : Message) → ((g : Thing → ℕ) → g (sent r m) ≤ tot g C) → message_unfit a m ≡ 0 → message_carries (sight c) m ≡ 0
   message_after r (message.Fetch w o s t) has z = test_after (is_cell w) (cell_tells w) t (omega (arith, whole t, has (halves_to t))) z
   message_after r (message.Fetched w d t) has z = test_after (is_cell w) (cell_tells w) t (omega (arith, whole t, has (halves_to t))) z
@@ -529,23 +563,28 @@ module _ (a : Phases) (c : Cluster) (fits : tot (thing_unfit a) (things_of c) �
   message_after r (message.Finished u v) has z = refl
   message_after r (message.Migrate t) has z = refl
 
+  -- so does a note
   note_after : (u : ℕ) (q : TaskState) → ((t : ℕ) → Rattle.heap_law.specs.Requests.halves t (Rattle.heap_law.specs.Requests.noted_answer q) ≤ tot (halves_to t) C) → note_unfit a u q ≡ 0 → note_carries (sight c) u q ≡ 0
   note_after u (asked r t) has z = test_after (is_join u) (join_tells u) t (omega (arith, whole t, has t)) z
   note_after u _ has z = refl
 
+  -- and whatever stands
   thing_after : (x : Thing) → ((g : Thing → ℕ) → g x ≤ tot g C) → thing_unfit a x ≡ 0 → carries (sight c) x ≡ 0
   thing_after (sent r m) has z = message_after r m has z
   thing_after (queued m r t) has z = test_after (is_lock m) (lock_tells m) t (omega (arith, whole t, has (halves_to t))) z
   thing_after (noted r x) has z = note_after x.thread x.state (λ t. has (halves_to t)) z
   thing_after x has z = refl
 
+  -- and all of a list
   all_after : (b : List Thing) → ((g : Thing → ℕ) → tot g b ≤ tot g C) → tot (thing_unfit a) b ≡ 0 → tot (carries (sight c)) b ≡ 0
   all_after [] among z = refl
   all_after (x ∷ b) among z = omega (arith, thing_after x (λ g. omega (arith, among g)) (omega (arith, z)), all_after b (λ g. omega (arith, among g)) (omega (arith, z)))
 
+  -- in the cluster afterwards
   carried : Holds c carry_what_is_asked
   carried = all_after C (λ g. omega arith) fits
 
+-- after whatever event
 pub carried_kept : EachEventKeeps carry_what_is_asked
 carried_kept k e sound few =
     both_give (λ (d : Cluster × EntryView). AllFit k e sound few d.0 × Agreed d.0) (λ (d : Cluster × EntryView). OneAnswer d.0 × NumbersDiffer d.0) (λ (d : Cluster × EntryView). Holds d.0 carry_what_is_asked) (apply k e)

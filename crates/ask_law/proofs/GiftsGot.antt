@@ -53,9 +53,11 @@ use Rattle.ask_law.proofs.Unasked.{Unasked, AllAtHand, stars_near}
 abbrev Early : Option Owned → Phase → Type 0
 Early g p = one (is_some g && not (is_got p)) ≡ 0
 
+-- without a gift none is early
 none_early : (g : Option Owned) (p : Phase) → g ≡ None → Early g p
 none_early g p e = ap (λ o. one (is_some o && not (is_got p))) e
 
+-- in phase `Got` none is
 got_early : (g : Option Owned) (p : Phase) → p ≡ phase.Got → Early g p
 got_early g p e = ap (λ q. one (is_some g && not (is_got q))) e ∙ by (is_some g)
   where
@@ -63,6 +65,7 @@ got_early g p e = ap (λ q. one (is_some g && not (is_got q))) e ∙ by (is_some
     by true = refl
     by false = refl
 
+-- who had no gift has none
 pub left_none : (g h : Option Owned) → g ≡ None → Left g h → h ≡ None
 left_none g h e (inl q) = q ∙ e
 left_none g h e (inr q) = q
@@ -87,6 +90,7 @@ bare_of (Some v) p z e = by (is_got p) e z
     by true q y = absurd (cc q)
     by false q y = absurd (cc y)
 
+-- a thread that gets something
 gotten_bare : (code : List Instr) (y y2 : ThreadState) → Early y.gift y.phase → (g : Goes code y y2) → IsGotten g → Early y2.gift y2.phase
 gotten_bare code y y2 p (gets_cell w was q pc g same) got = bare_goes code y y2 (bare_of y.gift y.phase p (ap is_got was)) (gets_cell w was q pc g same)
 gotten_bare code y y2 p (gets_gift was q pc passed walk temps shares same) got = got_early y2.gift y2.phase q
@@ -101,6 +105,7 @@ Bare d = (d.hand.thread.gift ≡ None) × (d.hand.thread.phase ≡ phase.Ready)
 abbrev BareHand : Hand → Type 0
 BareHand h = h.thread.gift ≡ None
 
+-- the same once the walk has gone
 settles_bare : (o : Option Hand) → Gives BareHand o → Gives Bare (committed (goes_on o))
 settles_bare None g = tt
 settles_bare (Some h) g = by (unpin_all h.thread.walk h.work.rest.cache)
@@ -109,12 +114,15 @@ settles_bare (Some h) g = by (unpin_all h.thread.walk h.work.rest.cache)
     by None = tt
     by (Some cs) = (g, refl)
 
+-- a lock takes its gift
 lock_takes : (sp : Spot) (v : Owned) (h : Hand) → Gives Bare (committed (lock sp (Some v) h))
 lock_takes sp v h = settles_bare (option_map (push_content v (load_at sp (take_gift h))) (mutex_at h sp)) (map_gives BareHand (mutex_at h sp) (push_content v (load_at sp (take_gift h))) (λ m q. refl))
 
+-- so does a dup
 dup_takes : (sp : Spot) (v : Owned) (h : Hand) → Gives Bare (committed (dup sp (Some v) h))
 dup_takes sp v h = settles_bare _ (map_gives BareHand (mutex_at h sp) _ (λ m q. refl))
 
+-- so does a join
 join_takes : (o : Operand) (v : Owned) (h : Hand) → Gives Bare (committed (join o (Some v) h))
 join_takes o v h =
     settles_bare _
@@ -128,9 +136,11 @@ join_takes o v h =
 
 -- A STEP
 
+-- the place of a dup is read
 pub readable_dup : (table : Table) (e e2 : Entry) (w : Lval) → InstrTypes table e (instr.Dup w) e2 → (o : Rattle.fr_typing.specs.Kinds.Owned) × IsReadable e w (own (mutex o))
 readable_dup table _ _ w (i_dup {x = o} waits has free) = (o, record { awake = refl; has = has; free = free; waits_there = waits })
 
+-- so is that of a lock
 pub readable_lock : (table : Table) (e e2 : Entry) (w : Lval) → InstrTypes table e (instr.Lock w) e2 → (o : Rattle.fr_typing.specs.Kinds.Owned) × IsReadable e w (own (mutex o))
 readable_lock table _ _ w (i_lock {x = o} name waits has free new) = (o, record { awake = refl; has = has; free = free; waits_there = waits })
 
@@ -174,6 +184,7 @@ module _ (k : Cluster) (n t : ℕ) (s : Server) (y : ThreadState) (i : Instr) (z
 -- ALL STEPS
 
 module _ (k : Cluster) (n t : ℕ) (s : Server) (y : ThreadState) where
+  -- the step of a lock with a gift
   at_lock : (w : Lval) (v : Owned) → Steps k n t s y (instr.Lock w) → y.gift ≡ Some v → Gives Bare (step k.options.servers (instr.Lock w) (record { work = begin_work s.rest; thread = y }))
   at_lock w v z given =
       let i = instr.Lock w in
@@ -183,6 +194,7 @@ module _ (k : Cluster) (n t : ℕ) (s : Server) (y : ThreadState) where
       let has : has_followed (sight k) (standing k n t s y i z) phase.Got ≡ true = ap (λ o. Rattle.heap_law.specs.Walking.has_gift_there y.gift o) z.code ∙ ap (λ g. Rattle.heap_law.specs.Walking.has_gift_there g (Some i)) given in
       takes_it k n t s y i z v given w has (ap (λ o. path_of o y) z.code) q.0 q.1 (λ p e. cc) k.options.servers (λ sp h e. subst (λ g. Gives Bare (committed (lock sp g h))) (sym e) (lock_takes sp v h))
 
+  -- that of a dup
   at_dup : (w : Lval) (v : Owned) → Steps k n t s y (instr.Dup w) → y.gift ≡ Some v → Gives Bare (step k.options.servers (instr.Dup w) (record { work = begin_work s.rest; thread = y }))
   at_dup w v z given =
       let i = instr.Dup w in
@@ -192,6 +204,7 @@ module _ (k : Cluster) (n t : ℕ) (s : Server) (y : ThreadState) where
       let has : has_followed (sight k) (standing k n t s y i z) phase.Got ≡ true = ap (λ o. Rattle.heap_law.specs.Walking.has_gift_there y.gift o) z.code ∙ ap (λ g. Rattle.heap_law.specs.Walking.has_gift_there g (Some i)) given in
       takes_it k n t s y i z v given w has (ap (λ o. path_of o y) z.code) q.0 q.1 (λ p e. cc) k.options.servers (λ sp h e. subst (λ g. Gives Bare (committed (dup sp g h))) (sym e) (dup_takes sp v h))
 
+  -- that of a join
   at_join : (o : Operand) (v : Owned) (servers : ℕ) → y.gift ≡ Some v → Gives Bare (step servers (instr.Join o) (record { work = begin_work s.rest; thread = y }))
   at_join o v servers given =
       subst (λ g. Gives Bare (committed (join o g (record { work = begin_work s.rest; thread = y })))) (sym given) (join_takes o v (record { work = begin_work s.rest; thread = y }))
@@ -210,6 +223,7 @@ module _ (k : Cluster) (e : Event) (coherent : IsCoherent k) (few : FewEvents k)
   abbrev h0 : ThreadState → Hand
   h0 y = record { work = begin_work s.rest; thread = y }
 
+  -- a step, with a gift or without
   step_keeps : (t : ℕ) (y : ThreadState) (i : Instr) → has_phase can_step (thread_in s.threads t) ≡ true → thread_in s.threads t ≡ Some y → slice_get k.code y.pc ≡ Some i
       → Gives (λ (d : Stepped). Early d.hand.thread.gift d.hand.thread.phase) (step k.options.servers i (h0 y))
   step_keeps t y i on_it there code = by y.gift refl
@@ -223,6 +237,7 @@ module _ (k : Cluster) (e : Event) (coherent : IsCoherent k) (few : FewEvents k)
           let z : Steps k e.server t s y i = record { coherent = coherent; few = few; here = here; on = on_it; at = there; code = code } in
           weaker Bare (λ (d : Stepped). Early d.hand.thread.gift d.hand.thread.phase) (step k.options.servers i (h0 y)) (steps_bare k e.server t s y i v z q (subst (GiftFits i) q fits)) (λ d g. none_early d.hand.thread.gift d.hand.thread.phase g.0)
 
+  -- whatever a thread does
   gift_ways : Ways k.code k.options.servers s e.what (Stood early_gift s.rest.number) (InParcel early_gift)
   gift_ways = record {
     steps = λ t y i is on_it there p code. step_keeps t y i on_it there code;
@@ -232,5 +247,6 @@ module _ (k : Cluster) (e : Event) (coherent : IsCoherent k) (few : FewEvents k)
     leaves = λ t n y there p r. p;
   }
 
+-- after whatever event
 pub gifts_got_kept : EachCoherentEventKeeps gifts_got
 gifts_got_kept k e coherent few = let sound : IsSound k = coherent.sound in threads_go early_gift k e coherent.sound few sound.requests.gifts_got (gift_ways k e coherent few)

@@ -48,6 +48,7 @@ names t x = one (x.thread == t)
 abbrev pub is_over_for : ℕ → ℕ → Task → ℕ
 is_over_for p t x = one (x.thread == t && over_of p x.state)
 
+-- both are none where the second isn't
 one_not_both : (a b : Bool) → b ≡ false → one (a && b) ≡ 0
 one_not_both true b e = ap one e
 one_not_both false b e = refl
@@ -78,9 +79,11 @@ pub record Orderly (xs : List Task) : Type 0 where
   -- of two threads, not both are noted as over in one pair
   pub one_over : (p t u : ℕ) → (t ≡ u → ⊥) → 1 ≤ over_notes (is_over_for p t) xs → 1 ≤ over_notes (is_over_for p u) xs → ⊥
 
+-- fewer notes are in order too
 fewer : (xs ys : List Task) → ((t : ℕ) → over_notes (names t) ys ≤ over_notes (names t) xs) → ((p t : ℕ) → over_notes (is_over_for p t) ys ≤ over_notes (is_over_for p t) xs) → Orderly xs → Orderly ys
 fewer xs ys a b g = record { once = λ t. omega (arith, a t, g.once t); one_over = λ p t u ne l m. g.one_over p t u ne (omega (arith, l, b p t)) (omega (arith, m, b p u)) }
 
+-- a note goes
 goes : (xs : List Task) (t : ℕ) → Orderly xs → Orderly (without_task xs t)
 goes xs t g = fewer xs (without_task xs t) (λ u. notes_less (names u) xs t) (λ p u. notes_less (is_over_for p u) xs t) g
 
@@ -88,12 +91,15 @@ goes xs t g = fewer xs (without_task xs t) (λ u. notes_less (names u) xs t) (λ
 abbrev Runs : TaskState → Type 0
 Runs z = (p : ℕ) → over_of p z ≡ false
 
+-- a note that isn't over any more makes no more of these
 turned_less : (xs : List Task) (t : ℕ) (z : TaskState) (p u : ℕ) → over_of p z ≡ false → over_notes (is_over_for p u) (with_state xs t z) ≤ over_notes (is_over_for p u) xs
 turned_less xs t z p u e = notes_turn (is_over_for p u) xs t z (λ s. omega (arith, one_not_both (t == u) (over_of p z) e))
 
+-- a note runs on in another state
 turns : (xs : List Task) (t : ℕ) (z : TaskState) → Runs z → Orderly xs → Orderly (with_state xs t z)
 turns xs t z run g = fewer xs (with_state xs t z) (λ u. notes_turn (names u) xs t z (λ s. omega arith)) (λ p u. turned_less xs t z p u (run p)) g
 
+-- a note comes of a thread that had none
 comes : (xs : List Task) (t : ℕ) (z : TaskState) → Runs z → over_notes (names t) xs ≡ 0 → Orderly xs → Orderly (noted xs t z)
 comes xs t z run new g = record {
   once = λ u. eq_cases (λ b. over_notes (names u) (noted xs t z) ≡ over_notes (names u) xs + one b → over_notes (names u) (noted xs t z) ≤ 1) t u
@@ -103,22 +109,28 @@ comes xs t z run new g = record {
 
 -- WHAT BECOMES OF NOTES
 
+-- what is denied isn't so
 not_so : (b : Bool) → not b ≡ true → b ≡ false
 not_so true e = absurd (cc e)
 not_so false e = refl
 
+-- who goes on is over in no pair
 runs_on : Runs going
 runs_on p = refl
 
+-- nor is who was let go
 runs_off : Runs let_go
 runs_off p = refl
 
+-- nor whose result is kept
 runs_kept : (v : Owned) → Runs (kept v)
 runs_kept v p = refl
 
+-- nor whose result is asked for
 runs_asked : (s t : ℕ) → Runs (asked s t)
 runs_asked s t p = refl
 
+-- nor a branch that goes on
 runs_paired : (parent : ℕ) → Runs (in_pair parent false)
 runs_paired parent p = by (p == parent)
   where
@@ -126,9 +138,11 @@ runs_paired parent p = by (p == parent)
     by true = refl
     by false = refl
 
+-- a thread begins
 pub begins : (xs : List Task) (t : ℕ) → can_begin xs t ≡ true → Orderly xs → Orderly (begin xs t)
 begins xs t e g = comes xs t going runs_on (none_named xs t (not_so (is_noted xs t) e)) g
 
+-- a pair begins
 pub pair_begins : (xs : List Task) (parent a b : ℕ) → can_begin_pair xs parent a b ≡ true → Orderly xs → Orderly (begin_pair xs parent a b)
 pair_begins xs parent a b e g =
     let both = and_left (can_begin xs a && can_begin xs b) (not (a == b) && not (has_pair xs parent)) e in
@@ -143,6 +157,7 @@ pair_begins xs parent a b e g =
 abbrev Left : {X : Type 0} → List Task × X → Type 0
 Left p = Orderly p.0
 
+-- a result is asked for
 pub asks : (xs : List Task) (t s by : ℕ) → Orderly xs → Gives Left (ask xs t s by)
 asks xs t s asker g = by (state_of xs t)
   where
@@ -154,6 +169,7 @@ asks xs t s asker g = by (state_of xs t)
     by (Some (asked a b)) = tt
     by (Some (in_pair a b)) = tt
 
+-- a task is let go
 pub lets_go : (xs : List Task) (t : ℕ) → Orderly xs → Gives Left (let_go_of xs t)
 lets_go xs t g = by (state_of xs t)
   where
@@ -190,6 +206,7 @@ first_over xs t parent none g = record {
         (λ q r. let none : over_notes (is_over_for p v) (with_state xs t z) ≡ 0 = unturned p v e (λ w. ne (sym q ∙ w)) in omega (arith, none, m))
         (λ q r. let none : over_notes (is_over_for p u) (with_state xs t z) ≡ 0 = unturned p u e q in omega (arith, none, l)) refl
 
+-- a thread ends
 pub ends : (xs : List Task) (t : ℕ) (v : Owned) → Orderly xs → Gives Left (ended xs t v)
 ends xs t v g = by (state_of xs t)
   where
@@ -208,17 +225,20 @@ ends xs t v g = by (state_of xs t)
 
 -- notes by rising number are of each thread once
 module _ (t : ℕ) where
+  -- where numbers rise none is below the first
   none_later : (m : ℕ) (xs : List Task) → t ≤ m → rising_from m (numbers_of (λ x. x.thread) xs) ≡ 0 → over_notes (names t) xs ≡ 0
   none_later m [] l z = refl
   none_later m (x ∷ xs) l z =
       let up = below m x.thread (omega (arith, z)) in
       eq_cases (λ b. one b + over_notes (names t) xs ≡ 0) x.thread t (λ e. absurd (omega (arith, e, up, l))) (λ ne. omega (arith, none_later x.thread xs (omega (arith, l, up)) (omega (arith, z))))
 
+  -- so each stands there once
   later_once : (m : ℕ) (xs : List Task) → rising_from m (numbers_of (λ x. x.thread) xs) ≡ 0 → over_notes (names t) xs ≤ 1
   later_once m [] z = omega arith
   later_once m (x ∷ xs) z =
       eq_cases (λ b. one b + over_notes (names t) xs ≤ 1) x.thread t (λ e. omega (arith, none_later x.thread xs (omega (arith, e)) (omega (arith, z)))) (λ ne. omega (arith, later_once x.thread xs (omega (arith, z))))
 
+  -- a number that rises stands there once
   pub rising_once : (xs : List Task) → rising (numbers_of (λ x. x.thread) xs) ≡ 0 → over_notes (names t) xs ≤ 1
   rising_once [] z = omega arith
   rising_once (x ∷ xs) z =

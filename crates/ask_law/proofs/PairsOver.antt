@@ -90,26 +90,32 @@ module _ (f : Task → ℕ) (r : ℕ) where
   abbrev w : Thing → ℕ
   w = at_server f r
 
+  -- slots, temporary values, gifts and copies note no thread
   unseen : (n : ℕ) → Unseen w n
   unseen n = record { held = λ p v. refl; shared = λ l q. refl; borrowed = λ l q. refl; locked = λ l x. refl; live = λ a c. refl; free = λ a x. refl; old = λ a. refl; copy = λ s c. refl; used = λ s x. refl }
 
+  -- messages note none
   message_none : (n : ℕ) (m : Message) → tot w (message_things n m) ≡ 0
   message_none n (message.Start t) = omega (arith, thread_alone w n (unseen n) n true t)
   message_none n (message.Migrate t) = omega (arith, thread_alone w n (unseen n) n true t)
   message_none n _ = refl
 
+  -- nor do mutexes
   mutex_none : (n i : ℕ) (m : Mutex) → tot w (mutex_things n i m) ≡ 0
   mutex_none n i m =
       omega (arith, content_none w n (unseen n) m, none_at w n (unseen n) (queue_things m.number) (λ j x. refl) 0 m.queue, tot-append w (content_things m.number m.content) (things_at (queue_things m.number) 0 m.queue))
 
+  -- a sum counts where both count
   if_more : (b : Bool) (m p : ℕ) → if_so b (m + p) ≡ if_so b m + if_so b p
   if_more true m p = refl
   if_more false m p = refl
 
+  -- nothing, whether it counts or not
   if_zero : (b : Bool) → if_so b 0 ≡ 0
   if_zero true = refl
   if_zero false = refl
 
+  -- the notes of a server, where it is that one
   tasks_seen : (n i : ℕ) (xs : List Task) → tot w (things_at (task_things n) i xs) ≡ if_so (n == r) (over_notes f xs)
   tasks_seen n i [] = sym (if_zero (n == r))
   tasks_seen n i (x ∷ xs) =
@@ -131,9 +137,11 @@ module _ (f : Task → ℕ) (r : ℕ) where
         none_at w n (unseen n) leaving_things (λ i x. message_none x.target x.message) 0 s.rest.outbox,
       )
 
+  -- another server notes none of that one
   pub elsewhere : (s : Server) → (s.rest.number == r) ≡ false → tot w (server_things s) ≡ 0
   elsewhere s e = let none : if_so (s.rest.number == r) (over_notes f s.rest.tasks) ≡ 0 = ap (λ b. if_so b (over_notes f s.rest.tasks)) e in omega (arith, notes_alone s, none)
 
+  -- this server notes what its list does
   pub here : (s : Server) → (s.rest.number == r) ≡ true → tot w (server_things s) ≡ over_notes f s.rest.tasks
   here s e = let all : if_so (s.rest.number == r) (over_notes f s.rest.tasks) ≡ over_notes f s.rest.tasks = ap (λ b. if_so b (over_notes f s.rest.tasks)) e in omega (arith, notes_alone s, all)
 
@@ -146,6 +154,7 @@ module _ (f : Task → ℕ) (r : ℕ) where
       by true q go d = absurd (cc d)
       by false q go d = omega (arith, tot-append w (server_things s) (servers_things ss), elsewhere s q, go d)
 
+-- a server that is found has the number
 server_number : (ss : List Server) (n : ℕ) (s : Server) → server_at ss n ≡ Some s → s.rest.number ≡ n
 server_number [] n s h = absurd (cc h)
 server_number (x ∷ ss) n s h =
@@ -232,10 +241,12 @@ both_noted r p t (noted q x) = by (q == r) (x.thread == t) x.state
     by false b z = omega arith
 both_noted r p t _ = omega arith
 
+-- what weighs no more weighs no more in all
 pub total_le : (f g : Thing → ℕ) → ((x : Thing) → f x ≤ g x) → (b : List Thing) → tot f b ≤ tot g b
 total_le f g l [] = omega arith
 total_le f g l (x ∷ b) = omega (arith, l x, total_le f g l b)
 
+-- the same of two together
 total_two : (f g h i : Thing → ℕ) → ((x : Thing) → f x + g x ≤ h x + i x) → (b : List Thing) → tot f b + tot g b ≤ tot h b + tot i b
 total_two f g h i l [] = omega arith
 total_two f g h i l (x ∷ b) = omega (arith, l x, total_two f g h i l b)
@@ -253,6 +264,7 @@ module _ (r p t : ℕ) where
   abbrev c : Branch
   c = record { server = r; parent = p; thread = t }
 
+  -- where no thread has the number none waits in a pair
   places_none : (b : List Thing) → tot (is_thread p) b ≡ 0 → tot (pair_places c) b ≡ 0
   places_none [] z = refl
   places_none (stands s q x ∷ b) z = omega (arith, if_not_one (s == r) (x.number == p) (branch_places t x.phase) (omega (arith, z)), places_none b (omega (arith, z)))
@@ -263,6 +275,7 @@ module _ (r p t : ℕ) where
       if_not_one false false m y = refl
   places_none (_ ∷ b) z = omega (arith, places_none b (omega (arith, z)))
 
+  -- a place in a pair is that of a thread that waits for it
   pub waits_for : (b : List Thing) → tot (is_thread p) b ≤ 1 → 1 ≤ tot (pair_places c) b → Waits b r p t
   waits_for [] few l = absurd (omega (arith, l))
   waits_for (stands s q x ∷ b) few l = by (waits_for b) (x.number == p) refl (s == r) refl
@@ -296,13 +309,16 @@ module _ (r p t : ℕ) where
           at_none false m = refl
   waits_for (_ ∷ b) few l = let later = waits_for b (omega (arith, few)) (omega (arith, l)) in record { parent = later.parent; found = later.found; here = later.here; among = later.among }
 
+-- threads that are the same where both are there
 some_same : {a b : Standing} → Some a ≡ Some b → a ≡ b
 some_same e = cc
 
+-- what is more than nothing is some
 some_true : (m : ℕ) → 1 ≤ m → some m ≡ true
 some_true zero l = absurd (omega (arith, l))
 some_true (suc m) l = refl
 
+-- numbers that are the same
 is_named : (a b : ℕ) → 1 ≤ one (a == b) → a ≡ b
 is_named a b l = eq_cases (λ c. 1 ≤ one c → a ≡ b) a b (λ e k. e) (λ ne k. absurd (omega (arith, k))) l
 
@@ -312,9 +328,11 @@ module _ (k : Cluster) (sound : IsSound k) where
   abbrev things : List Thing
   things = things_of k
 
+  -- the servers' lists rise
   run : servers_wrong (sight k) 0 k.servers ≡ 0
   run = left_none (servers_wrong (sight k) 0 k.servers) (sum_threads (sight k) pinned_parcel) sound.parts.parts_are_typed
 
+  -- a server notes each thread once
   once_before : (r t : ℕ) → tot (at_server (names t) r) things ≤ 1
   once_before r t = by (server_at k.servers r) refl
     where
@@ -358,6 +376,7 @@ module _ (k : Cluster) (sound : IsSound k) where
           eq_cases (λ c. 1 ≤ one c + one (b == u) → ⊥) a u (λ h l. gives u t (λ q. ne (sym q)) (sym h) (sym e) over_u over_t) (λ m l. ne (sym e ∙ is_named b u (omega (arith, l)))) second
   not_both x _ r t u at none ne first second over_t over_u = absurd (omega (arith, first))
 
+  -- not two of a pair are noted as over
   apart_before : (r p t u : ℕ) → (t ≡ u → ⊥) → 1 ≤ tot (at_server (is_over_for p t) r) things → 1 ≤ tot (at_server (is_over_for p u) r) things → ⊥
   apart_before r p t u ne l m =
       let few = sound.names.numbers_differ p in
@@ -369,6 +388,7 @@ module _ (k : Cluster) (sound : IsSound k) where
       let none = found_none (λ x. both_over (sight k) x x.thread.phase) p (threads_in things) first.parent sound.requests.pairs_go_on first.found in
       not_both first.parent first.parent.thread.phase r t u first.here none ne first.among among (omega (arith, l, total_le _ _ (over_seen r p t) things)) (omega (arith, m, total_le _ _ (over_seen r p u) things))
 
+  -- both, in a sound cluster
   tidy_before : Tidy things
   tidy_before = record { once = once_before; one_over = apart_before }
 
@@ -381,6 +401,7 @@ module _ (k : Cluster) (sound : IsSound k) (number : ℕ) (s : Server) (at : ser
   abbrev n : ℕ
   n = s.rest.number
 
+  -- so the notes of its server are in order
   orderly_before : Orderly s.rest.tasks
   orderly_before = record {
     once = λ t. omega (arith, once_before k sound n t, few (names t), here (names t) n s (eq-eqb n n refl));
@@ -436,6 +457,7 @@ module _ (k : Cluster) (sound : IsSound k) (number : ℕ) (s : Server) (at : ser
                 let w = at_server f r in
                 omega (arith, l, elsewhere f r s e, elsewhere f r new (ap (λ i. i == r) numbered ∙ e), (tot-server w k.servers number s new at).0, (tot-server w k.servers number s new at).1)
 
+-- they stay so at the server of the event
 tidy_acted : (k : Cluster) (e : Event) → IsSound k → FewEvents k → Gives (λ (d : Cluster × EntryView). TidyCluster d.0) (act_at k e)
 tidy_acted k e sound few =
     then_gives (λ (d : Cluster × EntryView). TidyCluster d.0) (server_at k.servers e.server) _ (λ s at.
@@ -444,6 +466,7 @@ tidy_acted k e sound few =
     (test_gives (λ (r : Server × EntryView). Numbered n r.0.rest) (enabled k.options s e.what) _ (λ on. rests (orders n) k.code k.options s e.what (refl, orderly_before k sound e.server s at)))
     (λ r u. tidy_after k sound e.server s at r.0 u.0 u.1))
 
+-- and once its messages are handed over
 pub tidy_kept : (k : Cluster) (e : Event) → IsSound k → FewEvents k → Gives (λ (d : Cluster × EntryView). TidyCluster d.0) (apply k e)
 tidy_kept k e sound few = handed_on TidyCluster moved k e (each_event_sends k e sound few) (tidy_acted k e sound few)
   where
@@ -465,9 +488,11 @@ module _ (c : Cluster) (tidy : Tidy (things_of c)) (noted_in : PairsNoted c) whe
   abbrev b : List Thing
   b = things_of c
 
+  -- a number is the same as itself
   self : (m : ℕ) → (m == m) ≡ true
   self m = eq-eqb m m refl
 
+  -- a thread that waits for a pair
   pair_goes_on : (s : ℕ) (p : Bool) (x : ThreadState) → ((g : Thing → ℕ) → g (stands s p x) ≤ tot g b) → (q : Phase) → x.phase ≡ q → both_over (sight c) (record { server = s; packed = p; thread = x }) q ≡ 0
   pair_goes_on s p x has (phase.WaitPar f g) e = at_pair (f == g) refl (some (tot (over_at s f) b)) refl (some (tot (over_at s g) b)) refl
     where
@@ -500,9 +525,11 @@ module _ (c : Cluster) (tidy : Tidy (things_of c)) (noted_in : PairsNoted c) whe
       at_pair false q false r i z = ap (λ a. other (not a && not (some (tot (over_at s f) b) && some (tot (over_at s g) b)))) q ∙ ap (λ a. other (true && not (a && some (tot (over_at s g) b)))) r
   pair_goes_on s p x has q e = refl
 
+  -- each thread
   pairs_hold : Holds c pairs_go_on
   pairs_hold = all_nothing (λ x. both_over (sight c) x x.thread.phase) b b (λ g. omega arith) (λ s p x has. pair_goes_on s p x has x.phase refl)
 
+-- after whatever event
 pub pairs_go_on_kept : EachEventKeeps pairs_go_on
 pairs_go_on_kept k e sound few =
     both_give (λ (d : Cluster × EntryView). TidyCluster d.0) (λ (d : Cluster × EntryView). PairsNoted d.0) (λ (d : Cluster × EntryView). Holds d.0 pairs_go_on) (apply k e) (tidy_kept k e sound few) (asking_applied PairsNoted (λ c g. g.pairs_noted) k e sound few)

@@ -44,14 +44,17 @@ module _ (rank : ℕ → ℕ) where
       eq_cases (λ d. 1 ≤ one d + tot (is_thread p) b → rank p ≤ rank x.number + tot standing_rank b) x.number p (λ e m. let same = ap rank e in omega (arith, same)) (λ ne m. omega (arith, rank_less p b (omega (arith, m)))) l
   rank_less p (_ ∷ b) l = omega (arith, rank_less p b (omega (arith, l)))
 
+  -- a rank that falls on steps falls on the first of them
   falls_first : (es fs : List (Step ℕ)) → Falls rank (es ++ fs) → Falls rank es
   falls_first [] fs h = tt
   falls_first (e ∷ es) fs h = (h.0, falls_first es fs h.1)
 
+  -- and on the others
   falls_rest : (es fs : List (Step ℕ)) → Falls rank (es ++ fs) → Falls rank fs
   falls_rest [] fs h = h
   falls_rest (e ∷ es) fs h = falls_rest es fs h.1
 
+  -- and the other way
   falls_both : (es fs : List (Step ℕ)) → Falls rank es → Falls rank fs → Falls rank (es ++ fs)
   falls_both [] fs g h = h
   falls_both (e ∷ es) fs g h = (g.0, falls_both es fs g.1 h)
@@ -79,6 +82,7 @@ named_none w p (stands r q x ∷ b) z l =
     eq_cases (λ d. 1 ≤ one d + tot (is_thread p) b → w p ≡ 0) x.number p (λ e m. subst (λ n. w n ≡ 0) e (omega (arith, z))) (λ ne m. named_none w p b (omega (arith, z)) (omega (arith, m))) l
 named_none w p (_ ∷ b) z l = named_none w p b (omega (arith, z)) (omega (arith, l))
 
+-- what isn't wrong is so
 truly : (b : Bool) → other b ≡ 0 → b ≡ true
 truly true y = refl
 truly false y = absurd (cc y)
@@ -107,14 +111,17 @@ module _ (k c : Cluster) (sound : IsSound k) (none : Waiting k c) (pairs : Pairs
   abbrev rank_then : ℕ → ℕ
   rank_then t = ranked (is_counted (sight k) t) (rank t)
 
+  -- the parent of a pair stood before
   stood : (p t : ℕ) → ParentOf k c p t → 1 ≤ tot (is_thread p) (things_of k)
   stood p t it = is_some_number (tot (is_thread p) (things_of k)) (truly (some (tot (is_thread p) (things_of k))) it.stood)
 
+  -- so it keeps its rank
   parent_rank : (p t : ℕ) → ParentOf k c p t → rank_then p ≡ rank p
   parent_rank p t it =
       let named = left_none (tot (threads (uncounted_thread (sight k))) (things_of k)) (tot (named_mutexes (uncounted_mutex (sight k))) (things_of k)) sound.names.names_counted in
       ap (λ b. ranked b (rank p)) (truly (is_counted (sight k) p) (named_none (uncounted_thread (sight k)) p (things_of k) named (stood p t it)))
 
+  -- the rank falls from a branch to its parent
   step_falls : (p t : ℕ) → ParentOf k c p t → rank_then p < rank_then t
   step_falls p t it = by (is_counted (sight k) t) refl
     where
@@ -122,6 +129,7 @@ module _ (k c : Cluster) (sound : IsSound k) (none : Waiting k c) (pairs : Pairs
       by true e = let low = parent_rank p t it in omega (arith, low, falls_note rank p t (things_of k) sound.rooted.parents_end.falls (noted_before k c p t it e))
       by false e = let low = parent_rank p t it in omega (arith, low, rank_less rank p (things_of k) (stood p t it))
 
+  -- from each that is noted
   all_fall : (b : List Thing) → ((x : Thing) → Among x b → Among x (things_of c)) → Falls rank_then (parents b)
   all_fall [] i = tt
   all_fall (noted r x ∷ b) i = falls_both rank_then (parents_of (noted r x)) (parents b) (here x.state refl) (all_fall b (λ y m. i y (inr m)))
@@ -131,9 +139,11 @@ module _ (k c : Cluster) (sound : IsSound k) (none : Waiting k c) (pairs : Pairs
       here z e = tt
   all_fall (_ ∷ b) i = all_fall b (λ y m. i y (inr m))
 
+  -- so going up ends
   ends_then : Holds c parents_end
   ends_then = numbers_none (parents (things_of c)) (record { rank = rank_then; falls = all_fall (things_of c) (λ x h. h) })
 
+-- after whatever event
 pub parents_kept : EachEventKeeps parents_end
 parents_kept k e sound few =
     both_give (λ (d : Cluster × EntryView). Waiting k d.0) (λ (d : Cluster × EntryView). Noted d.0) (λ (d : Cluster × EntryView). Holds d.0 parents_end) (apply k e) (unpaired_after k e sound few)

@@ -25,6 +25,7 @@ use Rattle.still_law.proofs.PlainValues.{plain_leads, plain_mutex, leads_plain, 
 
 -- THREADS
 
+-- a thread that goes on is shown at its place
 going_place : (s : Sight) (t : ℕ) (p : CodeRunning) → place_of (going_on s t p) ≡ Some p
 going_place s zero p = refl
 going_place s (suc t) p = by (was_let_go s (suc t))
@@ -45,6 +46,7 @@ pub record Runs (s : Sight) (n : ℕ) (r : CodeRunning) : Type 0 where
   pub going : is_over standing.thread.phase ≡ false
   pub alike : running_at standing.thread ≡ r
 
+-- who is shown there is found
 pub runs : (s : Sight) (n : ℕ) (r : CodeRunning) → place_in ((state_of s).thread n) ≡ Some r → Runs s n r
 runs s n r e = by (is_given_thread s n) (thread_at s.ground.threads n) refl e
   where
@@ -78,6 +80,7 @@ module _ (k : Cluster) (p : HasPaths k) (c : Cluster) (x y : Standing) (g : Goes
   abbrev G2 : Ground
   G2 = (sight c).ground
 
+  -- its slots show the same
   slots_at : (i : ℕ) → option_map plain_value (slice_get x.thread.slots i) ≡ option_map plain_value (slice_get y.thread.slots i)
   slots_at i = sym (shown_value x.thread.slots i) ∙ ap (λ (r : CodeRunning). slot_at r.slots i) alike ∙ shown_value y.thread.slots i
 
@@ -93,16 +96,19 @@ module _ (k : Cluster) (p : HasPaths k) (c : Cluster) (x y : Standing) (g : Goes
           let d2 = object_shown (sight c) o a (same.objects o a q) in
           ap (λ z. option_map plain_value (value_of z)) d.1 ∙ ap (λ z. Some (Own z)) (d.2 ∙ sym d2.2) ∙ ap (λ z. option_map plain_value (value_of z)) (sym d2.1)
 
+  -- so does what stands behind a place
   behind_kept : (slot d : ℕ) (o : Option Location) → locate G n slot d ≡ o → option_map plain_value (value_behind G o) ≡ option_map plain_value (value_behind G2 o)
   behind_kept slot d None e = refl
   behind_kept slot d (Some l) e = value_kept l (leads_in_heap k p x g slot d l e).1
 
+  -- a place leads where it led
   pub place_kept : (slot d : ℕ) → locate G n slot d ≡ locate G2 n slot d
   place_kept slot zero = refl
   place_kept slot (suc d) =
       let at : Option Location = locate G n slot d in
       leads_plain n (value_behind G at) ∙ ap (plain_leads n) (behind_kept slot d at refl) ∙ sym (leads_plain n (value_behind G2 at)) ∙ ap (λ o. leads n (value_behind G2 o)) (place_kept slot d)
 
+  -- and the same mutex stands there
   pub mutex_kept : (w : Lval) → mutex_of (value_at G n w) ≡ mutex_of (value_at G2 n w)
   mutex_kept w =
       let at : Option Location = locate G n w.slot w.depth in

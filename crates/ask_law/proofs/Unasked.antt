@@ -39,6 +39,7 @@ Unasked (ready h s) = ⊤
 Unasked (requested h) = ⊥
 Unasked nothing = ⊤
 
+-- one hop and then the others
 then_unasked : (go : Hand → Spot → Prepared) (p : Prepared) → Unasked p → ((h : Hand) (s : Spot) → p ≡ ready h s → Unasked (go h s)) → Unasked (and_then go p)
 then_unasked go (ready h s) u f = f h s refl
 then_unasked go (requested h) u f = u
@@ -52,10 +53,12 @@ Near (Some (hop.NeedCopy w)) = ⊥
 Near (Some (hop.NeedTint w)) = ⊥
 Near o = ⊤
 
+-- what is ready asks for nothing
 ready_unasked : (s : Spot) (o : Option Hand) → Unasked (ready_at s o)
 ready_unasked s None = tt
 ready_unasked s (Some h) = tt
 
+-- reading a hop that needs no message
 reads_near : (s : Spot) (u : Value) (o : Option Hop) (h : Hand) → Near o → Unasked (read_by s u o h)
 reads_near s u None h n = tt
 reads_near s u (Some (hop.Slot j)) h n = tt
@@ -66,6 +69,7 @@ reads_near s u (Some (hop.NeedTint w)) h n = absurd n
 reads_near s u (Some (hop.NeedMove w)) h n = tt
 reads_near s u (Some (hop.AtCell w)) h n = tt
 
+-- nor is it tinted
 nothing_cleaned : (s : Spot) (u : Value) (o : Option Hop) (h : Hand) → Near o → read_clean s u o h ≡ ready h s
 nothing_cleaned s u None h n = refl
 nothing_cleaned s u (Some (hop.Slot j)) h n = refl
@@ -76,6 +80,7 @@ nothing_cleaned s u (Some (hop.NeedTint w)) h n = absurd n
 nothing_cleaned s u (Some (hop.NeedMove w)) h n = refl
 nothing_cleaned s u (Some (hop.AtCell w)) h n = refl
 
+-- noting a read changes no value
 value_loaded : (h : Hand) (s : Spot) → value_at (load_at s h) s ≡ value_at h s
 value_loaded h (in_slot j) = refl
 value_loaded h on_top = refl
@@ -83,6 +88,7 @@ value_loaded h (in_cell w q) = refl
 value_loaded h (in_copy w) = refl
 value_loaded h nowhere = refl
 
+-- a star over such a value
 star_near : (h : Hand) (s : Spot) (u : Value) → value_at h s ≡ Some u → Near (read_hop h.work.rest.number h.work.rest.cache u) → Unasked (read_star h s)
 star_near h s u e n =
     subst (λ o. Unasked (and_then (λ h2 s2. read_value s2 (value_at h2 s2) h2) (tinted_first s o (load_at s h)))) (sym e)
@@ -92,6 +98,7 @@ star_near h s u e n =
 -- WHAT IS AT HAND
 
 module _ (number : ℕ) (cs : List Copy) (kept : List ℕ) (cached : (w : ℕ) → is_in w kept ≡ true → is_cached cs w ≡ true) where
+  -- a clean pointer at hand needs no message
   clean_near : (w : ℕ) → other (is_at_hand kept number true w) ≡ 0 → Near (Some (clean_hop number cs w))
   clean_near w z = by (server_of w == number) z
     where
@@ -103,6 +110,7 @@ module _ (number : ℕ) (cs : List Copy) (kept : List ℕ) (cached : (w : ℕ) �
       by true y = tt
       by false y = by_copies (is_cached cs w) (cached w (other_none (is_in w kept) y))
 
+  -- nor does a dirty one
   dirty_near : (w : ℕ) → other (is_at_hand kept number false w) ≡ 0 → Near (Some (dirty_hop number w))
   dirty_near w z = by (server_of w == number) z
     where
@@ -110,6 +118,7 @@ module _ (number : ℕ) (cs : List Copy) (kept : List ℕ) (cached : (w : ℕ) �
       by true y = tt
       by false y = absurd (cc y)
 
+  -- nor does a mutable reference at hand
   lent_near : (q : MutRef) → loose_hop number kept (Some (value.Mut q)) ≡ 0 → Near (read_hop number cs (value.Mut q))
   lent_near q z = by q.dirty z
     where
@@ -117,6 +126,7 @@ module _ (number : ℕ) (cs : List Copy) (kept : List ℕ) (cached : (w : ℕ) �
       by true y = dirty_near q.word y
       by false y = clean_near q.word y
 
+  -- nor does any value at hand
   pub at_hand_near : (u v : Value) → Alike u v → loose_hop number kept (Some v) ≡ 0 → Near (read_hop number cs u)
   at_hand_near _ _ (both_shared q r e f) z = clean_near q.word (subst (λ w. other (is_at_hand kept number true w) ≡ 0) (sym e) z)
   at_hand_near (value.Own (owned.Box p)) _ equal z = clean_near p.word z
@@ -141,6 +151,7 @@ in_times w (v ∷ ws) e = by (in_times w ws) (v == w) e
     by go true h = omega arith
     by go false h = omega (arith, go h)
 
+-- a word in use is cached
 used_cached : (cs : List Copy) (w : ℕ) → 1 ≤ users cs w → is_cached cs w ≡ true
 used_cached cs w l = by (copy_of cs w) l
   where
@@ -163,6 +174,7 @@ module _ (k : Cluster) (n t : ℕ) (s : Server) (y : ThreadState) (i : Instr) (z
   abbrev Reads : ℕ → Hand → Type 0
   Reads d h = Reading y s.rest (bound k n t s y i z) d h
 
+  -- what the thread keeps is cached
   kept_cached : (d : ℕ) (h : Hand) → Reads d h → (w : ℕ) → is_in w (used_words y) ≡ true → is_cached h.work.rest.cache w ≡ true
   kept_cached d h a w e =
       let there : is_cached s.rest.cache w ≡ true = used_cached s.rest.cache w (omega (arith, in_times w (used_words y) e, usable k n t s y i z w)) in

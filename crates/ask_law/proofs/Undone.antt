@@ -44,6 +44,7 @@ use Rattle.ask_law.proofs.SameHeap.{Runs, running_place, runs, SeesSame, mutex_k
 
 -- AFTERWARDS
 
+-- a thread that stands is counted as one
 stands_in : (y : Standing) (b : List Thing) → Among y (threads_in b) → 1 ≤ tot (is_thread y.thread.number) b
 stands_in y [] h = absurd h
 stands_in y (stands s p t ∷ b) (inl e) =
@@ -80,6 +81,7 @@ record Kept (k c : Cluster) (n : ℕ) : Type 0 where
   at_dup : (i : Option Instr) → dupped (sight k).ground n i ≡ dupped (sight c).ground n i
 
 module _ (k c : Cluster) (p : HasPaths k) (a : After k c) (sees : (n : ℕ) → SeesSame k c n) where
+  -- of a thread that goes on
   kept : (y : Standing) → Among y (threads_in (things_of c)) → is_over y.thread.phase ≡ false → Kept k c y.thread.number
   kept y among going = record { at_lock = by_lock; at_dup = by_dup }
     where
@@ -110,10 +112,12 @@ module _ (k c : Cluster) (p : HasPaths k) (a : After k c) (sees : (n : ℕ) → 
       by_dup (Some (instr.Dup w)) = mutex_same w
       by_dup i = refl
 
+  -- the mutex of a lock by the cluster is that by its places
   locked_is : (y : Standing) (i : Option Instr) → locked_mutex (sight c) y i ≡ locked (sight c).ground y.thread.number i
   locked_is y (Some (instr.Lock w)) = refl
   locked_is y i = refl
 
+  -- and so is that of a dup
   dupped_is : (y : Standing) (i : Option Instr) → dupped_mutex (sight c) y i ≡ dupped (sight c).ground y.thread.number i
   dupped_is y (Some (instr.Dup w)) = refl
   dupped_is y i = refl
@@ -139,6 +143,7 @@ module _ (k c : Cluster) (p : HasPaths k) (a : After k c) (sees : (n : ℕ) → 
       by phase.Got f = refl
       by q f = absurd (cc f)
 
+  -- so does a gift that fitted
   gift_then : (y : Standing) → Among y (threads_in (things_of c)) → early_gift y ≡ 0 → (g : Option Owned) → y.thread.gift ≡ g → gift_off (sight k).ground (slice_get k.code y.thread.pc) y.thread g ≡ 0 → gift_there (sight c) y g ≡ 0
   gift_then y among early None e z = refl
   gift_then y among early (Some v) e z =
@@ -156,16 +161,19 @@ module _ (k c : Cluster) (p : HasPaths k) (a : After k c) (sees : (n : ℕ) → 
   each f g h [] go x y = refl
   each f g h (z ∷ xs) go x y = omega (arith, go z (inl refl) (omega (arith, x)) (omega (arith, y)), each f g h xs (λ w m. go w (inr m)) (omega (arith, x)) (omega (arith, y)))
 
+  -- so all phases stand
   phases_then : Holds c phases_stand
   phases_then =
       each (off k) early_gift (λ y. stands_wrong (sight c) y y.thread.phase) (threads_in (things_of c)) (λ y among z early. phase_then y among y.thread.phase refl (omega (arith, z))) a.stand a.got
 
+  -- and all gifts fit
   gifts_then : Holds c gifts_fit
   gifts_then =
       each (off k) early_gift (λ y. gift_there (sight c) y y.thread.gift) (threads_in (things_of c)) (λ y among z early. gift_then y among early y.thread.gift refl (omega (arith, z))) a.stand a.got
 
 -- THE EVENT
 
+-- an event leaves the code
 same_code : (k : Cluster) (e : Event) → Gives (λ (d : Cluster × EntryView). d.0.code ≡ k.code) (apply k e)
 same_code k e =
     then_gives (λ (d : Cluster × EntryView). d.0.code ≡ k.code) (server_at k.servers e.server) _ (λ s here. map_gives (λ (d : Cluster × EntryView). d.0.code ≡ k.code) (done_at k e.what s) _ (λ r q. refl))
@@ -174,6 +182,7 @@ module _ (k : Cluster) (e : Event) (coherent : IsCoherent k) (few : FewEvents k)
   abbrev D : Type 0
   D = Cluster × EntryView
 
+  -- what holds in each case holds together
   with_it : (P Q : D → Type 0) → Gives P (apply k e) → Gives Q (apply k e) → Gives (λ d. P d × Q d) (apply k e)
   with_it P Q p q = both_give P Q (λ d. P d × Q d) (apply k e) p q (λ d a b. (a, b))
 
@@ -189,6 +198,7 @@ module _ (k : Cluster) (e : Event) (coherent : IsCoherent k) (few : FewEvents k)
   abbrev Is : Sentence → D → Type 0
   Is s d = Holds d.0 s
 
+  -- after whatever event
   known_after : Gives (λ (d : D). After k d.0) (apply k e)
   known_after =
       weaker (λ d. (Coded d × Stands d) × ((Differ d × Is names_counted d) × (Is counts_from_one d × Is gifts_got d))) (λ (d : D). After k d.0) (apply k e)
@@ -202,11 +212,14 @@ module _ (k : Cluster) (e : Event) (coherent : IsCoherent k) (few : FewEvents k)
   sees_same : (c : Cluster) → SameState (one_heap c) (one_heap k) → (n : ℕ) → SeesSame k c n
   sees_same c same n = record { place = ap (λ l. place_in l) (same.threads n); objects = λ o v f. same.objects o ∙ f }
 
+  -- after an event that does no plain step
   undone : (s : Sentence) → ((c : Cluster) → After k c → SameState (one_heap c) (one_heap k) → Holds c s) → Gives (λ (d : D). d.1.done ≡ None → Holds d.0 s) (apply k e)
   undone s go = both_give (λ (d : D). After k d.0) (λ (d : D). d.1.done ≡ None → SameState (one_heap d.0) (one_heap k)) (λ (d : D). d.1.done ≡ None → Holds d.0 s) (apply k e) known_after (each_undone k e coherent few) (λ d a same none. go d.0 a (same none))
 
+-- the phases
 pub phases_undone : EachUndoneEventKeeps phases_stand
 phases_undone k e coherent few = undone k e coherent few phases_stand (λ c a same. phases_then k c (coherent_has_paths k coherent) a (sees_same k e coherent few c same))
 
+-- the gifts
 pub gifts_undone : EachUndoneEventKeeps gifts_fit
 gifts_undone k e coherent few = undone k e coherent few gifts_fit (λ c a same. gifts_then k c (coherent_has_paths k coherent) a (sees_same k e coherent few c same))
