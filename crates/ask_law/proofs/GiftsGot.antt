@@ -154,7 +154,7 @@ module _ (k : Cluster) (n t : ℕ) (s : Server) (y : ThreadState) (i : Instr) (z
       by p e = absurd (cc (sym (ap (λ g. one (is_some g && true)) given) ∙ e))
 
   module _ (w : Lval) (followed : has_followed (sight k) (standing k n t s y i z) phase.Got ≡ true) (reads : Rattle.heap_law.specs.Paths.path_of (slice_get k.code y.pc) y ≡ Rattle.heap_law.specs.Paths.reads w) where
-    at_hand : AllAtHand k n t s y i z w
+    at_hand : AllAtHand k n t s y i z w w.depth
     at_hand d l u lt located stands =
         let me = standing k n t s y i z in
         let on_it = goes k n t s y i z in
@@ -170,7 +170,7 @@ module _ (k : Cluster) (n t : ℕ) (s : Server) (y : ThreadState) (i : Instr) (z
 
       unasked : Unasked (read_stars w.depth (hand k n t s y i z) (in_slot w.slot))
       unasked =
-          stars_near k n t s y i z false w its_place.0 may.has.short (never_taken k n t s y i z lends_none false w its_place.0) at_hand w.depth 0 (omega arith) (hand k n t s y i z) (in_slot w.slot) (at_slot y.number w.slot) refl (a_slot w.slot) (begins k n t s y i z)
+          stars_near k n t s y i z false w its_place.0 may.has.short w.depth (omega arith) (never_taken k n t s y i z lends_none false w its_place.0) at_hand w.depth 0 (omega arith) (hand k n t s y i z) (in_slot w.slot) (at_slot y.number w.slot) refl (a_slot w.slot) (begins k n t s y i z)
 
       -- the step goes on with the gift
       pub takes_it : (servers : ℕ) → ((sp : Spot) (h : Hand) → h.thread.gift ≡ Some v → Gives Bare (committed (commit servers i sp h))) → Gives Bare (prepared servers i (read_stars w.depth (hand k n t s y i z) (in_slot w.slot)))

@@ -180,14 +180,14 @@ module _ (k : Cluster) (n t : ℕ) (s : Server) (y : ThreadState) (i : Instr) (z
       let there : is_cached s.rest.cache w ≡ true = used_cached s.rest.cache w (omega (arith, in_times w (used_words y) e, usable k n t s y i z w)) in
       cached_hit h.work.rest.cache w ∙ ap is_some (a.hits w) ∙ sym (cached_hit s.rest.cache w) ∙ there
 
-  -- each pointer that the place follows is at hand
-  abbrev pub AllAtHand : Lval → Type 0
-  AllAtHand w = (d : ℕ) (l : Location) (v : Value) → d < w.depth → locate g tn w.slot d ≡ Some l → value_in g l ≡ Some v → loose_hop s.rest.number (used_words y) (Some v) ≡ 0
+  -- each pointer that so many stars of the place follow is at hand
+  abbrev pub AllAtHand : Lval → ℕ → Type 0
+  AllAtHand w most = (d : ℕ) (l : Location) (v : Value) → d < most → locate g tn w.slot d ≡ Some l → value_in g l ≡ Some v → loose_hop s.rest.number (used_words y) (Some v) ≡ 0
 
-  module _ (only : Bool) (w : Lval) (place : Place k (paths k n t s y i z) x only w) (short : w.depth ≤ 8) (free : IsFree k n t s y i z only w place w.depth) (near : AllAtHand w) where
-    one_star : (d : ℕ) → d < w.depth → (h : Hand) (sp : Spot) (l : Location) → locate g tn w.slot d ≡ Some l → At k n t s y i z sp l → Reads d h → Unasked (read_star h sp)
+  module _ (only : Bool) (w : Lval) (place : Place k (paths k n t s y i z) x only w) (short : w.depth ≤ 8) (most : ℕ) (le : most ≤ w.depth) (free : IsFree k n t s y i z only w place most) (near : AllAtHand w most) where
+    one_star : (d : ℕ) → d < most → (h : Hand) (sp : Spot) (l : Location) → locate g tn w.slot d ≡ Some l → At k n t s y i z sp l → Reads d h → Unasked (read_star h sp)
     one_star d lt h sp l located spot a =
-        let after = at k z.coherent.sound (paths k n t s y i z) n s z.here x (goes k n t s y i z) (able k n t s y i z) only w place (d + 1) (omega (arith, lt)) in
+        let after = at k z.coherent.sound (paths k n t s y i z) n s z.here x (goes k n t s y i z) (able k n t s y i z) only w place (d + 1) (omega (arith, lt, le)) in
         let one : d + 1 ≡ suc d = omega arith in
         let e = hop_from g tn w.slot d l after.0 located (subst (λ q. locate g tn w.slot q ≡ Some after.0) one after.1) in
         let u = seen k n t s y i z d h sp l e.0 a spot e.1 in
@@ -200,9 +200,10 @@ module _ (k : Cluster) (n t : ℕ) (s : Server) (y : ThreadState) (i : Instr) (z
     next_stars d e (requested h) f u go = u
     next_stars d e nothing f u go = tt
 
-    pub stars_near : (e d : ℕ) → d + e ≡ w.depth → (h : Hand) (sp : Spot) (l : Location) → locate g tn w.slot d ≡ Some l → At k n t s y i z sp l → Reads d h → Unasked (read_stars e h sp)
+    pub stars_near : (e d : ℕ) → d + e ≡ most → (h : Hand) (sp : Spot) (l : Location) → locate g tn w.slot d ≡ Some l → At k n t s y i z sp l → Reads d h → Unasked (read_stars e h sp)
     stars_near zero d q h sp l located spot a = tt
     stars_near (suc e) d q h sp l located spot a =
-        let lt : d < w.depth = omega (arith, q) in
-        next_stars (d + 1) e (read_star h sp) (star k n t s y i z only w place d lt short l located (free d lt lt l located) h sp spot a) (one_star d lt h sp l located spot a)
+        let lt : d < most = omega (arith, q) in
+        let under : d < w.depth = omega (arith, lt, le) in
+        next_stars (d + 1) e (read_star h sp) (star k n t s y i z only w place d under short l located (free d under lt l located) h sp spot a) (one_star d lt h sp l located spot a)
         (λ h2 sp2 l2 located2 spot2 a2. stars_near e (d + 1) (omega (arith, q)) h2 sp2 l2 located2 spot2 a2)

@@ -42,7 +42,7 @@ use Rattle.word_law.specs.Unmoved.{LeavesWords}
 use Rattle.word_law.proofs.Follows.{seen_places_lead}
 use Rattle.word_law.proofs.Standing.{pointer_at}
 use Rattle.word_law.proofs.Unmoved.{untouched_stays}
-use Rattle.event_law.specs.Laws.{Gives}
+use Rattle.event_law.specs.Laws.{Gives, FewEvents}
 use Rattle.event_law.proofs.Results.{weaker, over_gives, both_give}
 use Rattle.event_law.proofs.RulesKeep.{sums_kept}
 use Rattle.event_law.proofs.Bags.{all_standing}
@@ -66,7 +66,6 @@ use Rattle.prepare_law.proofs.Hands.{Ok, State, Walks, put, places}
 use Rattle.prepare_law.proofs.Stars.{Spotted, asks_object, walks_loaded}
 use Rattle.prepare_law.proofs.Asking.{found_number}
 use Rattle.carry_law.proofs.Locks.{holds_on, Kept, kept_where}
-use Rattle.borrow_law.specs.Borrows.{MutableBorrowsKeep}
 use Rattle.borrow_law.proofs.Pushed.{hands_alike}
 use Rattle.borrow_law.proofs.Sources as sources
 use Rattle.borrow_law.proofs.LentOne.{LentOne, lent_one_stays}
@@ -331,8 +330,9 @@ module _ (k : Cluster) (coherent : IsCoherent k) (s : Server) (here : server_at 
 abbrev Holds : Cluster × EntryView → Type 0
 Holds d = WordsHold d.0
 
-pub mutable_borrows_keep : MutableBorrowsKeep
-mutable_borrows_keep k number t s y w coherent few here at code free = by w.depth refl
+pub untaken_borrows_keep : (k : Cluster) (number t : ℕ) (s : Server) (y : ThreadState) (w : Lval) → IsCoherent k → FewEvents k → server_at k.servers number ≡ Some s → thread_in s.threads t ≡ Some y → slice_get k.code y.pc ≡ Some (instr.BorrowMut w) → ((v : ℕ) → y.phase ≡ phase.Taken v → ⊥)
+    → Gives Holds (apply k (record { server = number; what = Step t }))
+untaken_borrows_keep k number t s y w coherent few here at code free = by w.depth refl
   where
     held : WordsHold k
     held = record { has_words = coherent.sound.words.have_words; first_at_holder = coherent.sound.words.first_at_holder; dirty_alone = coherent.sound.words.dirty_alone; past_words = coherent.sound.words.past_words }

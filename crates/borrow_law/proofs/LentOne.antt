@@ -1,6 +1,6 @@
 -- Of two clusters words see the same, but that the second one has a mutable reference more, on top, made from a pointer that isn't stale, with its word and mark, or with the word
 -- of the object that was taken for it: the words stay.
-use Rattle.std.proofs.Common.{◌≡◌, ◌≢◌, ◌⊎◌, inl, inr, ⊎_elim, ℕ, zero, suc, not, ◌||◌, ◌==◌, Bool, true, false, List, [], ◌∷◌, Option, Some, None, refl, sym, ap, subst, ◌∙◌}
+use Rattle.std.proofs.Common.{◌≡◌, ◌≢◌, ◌⊎◌, inl, inr, ⊎_elim, ℕ, zero, suc, not, ◌||◌, ◌==◌, Bool, true, false, [], ◌∷◌, Option, Some, None, refl, sym, ap, subst, ◌∙◌}
 use Rattle.fr_base.specs.declared.name.ObjNo.{ObjNo}
 use Rattle.fr_base.specs.declared.place.Lval.{Lval}
 use Rattle.heap_partition.specs.declared.value.Cell.{Cell}

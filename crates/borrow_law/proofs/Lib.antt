@@ -7,5 +7,5 @@ pub mod Shares
 pub mod LentOne
 pub mod OnTop
 pub mod Lends
-pub mod Handed
+pub mod AtHand
 pub mod Takes

@@ -1,5 +1,5 @@
--- A mutable borrow whose object was taken: done, it keeps the words, as the reference has the word under which the object was taken.
-use Rattle.std.proofs.Common.{◌≡◌, ◌≢◌, ◌⊎◌, inl, inr, ⊎_elim, ℕ, zero, suc, ◌+◌, ◌==◌, Bool, true, false, if◌then◌else◌, List, [], ◌∷◌, ◌++◌, Option, Some, None, IsSome, option_map, refl, sym, ap, ap₂, subst, ◌∙◌, arith}
+-- A mutable borrow whose object was taken keeps the words, as the reference has the word under which the object was taken, and nothing is asked for.
+use Rattle.std.proofs.Common.{◌≡◌, ◌≢◌, ◌⊎◌, inl, inr, ⊎_elim, ℕ, zero, suc, ◌==◌, Bool, true, false, if◌then◌else◌, List, [], ◌∷◌, ◌++◌, Option, Some, None, option_map, refl, sym, ap, ap₂, subst, ◌∙◌}
 use Rattle.std.specs.Prelude.{⊤, slice_get, length}
 use Rattle.std.proofs.lemmas.Bool.{eq-eqb}
 use Rattle.fr_base.specs.declared.place.Lval.{Lval}
@@ -25,18 +25,17 @@ use Rattle.server_model.specs.Servers.{Server, Cluster, server_at}
 use Rattle.server_model.specs.Work.{Hand, push_temp, thread_in, without_thread, then_some}
 use Rattle.server_model.specs.Clusters.{apply}
 use Rattle.server_model.specs.Places.{Spot, in_slot, took, value_at, load_at, pointer_of}
-use Rattle.server_model.specs.Prepare.{Prepared, ready, requested, nothing, LendTo, and_then, ask_object, request_by, read_stars, is_taken, lend_by, lend_value, lend_pointer, prepare}
+use Rattle.server_model.specs.Prepare.{Prepared, ready, requested, nothing, ReadTo, LendTo, and_then, ask_object, request_by, read_stars, is_taken, lend_by, lend_value, lend_pointer}
 use Rattle.server_model.specs.Commit.{go_on, goes_on, lent_word, mutable_from, borrow_mut, borrow_mut_from, commit, settle}
 use Rattle.server_model.specs.Events.{enabled, begin_work, Stepped, done_step, committed, prepared, step, step_in, stepped, does}
-use Rattle.heap_law.specs.Names.{Among, same_object, one, other}
+use Rattle.heap_law.specs.Names.{Among, one, other}
 use Rattle.heap_law.specs.Things.{Location, at_slot, in_cell, Thing, stands, servers_things, things_of}
-use Rattle.heap_law.specs.Follow.{Ground, Standing, value_in, value_behind, leads, locate, place_at}
+use Rattle.heap_law.specs.Follow.{Ground, Standing, value_behind, leads, locate, place_at}
 use Rattle.heap_law.specs.Placing.{is_first, phase_word, words}
 use Rattle.heap_law.specs.Requests.{has_word, last_hop, taken_again, old_word, lies_here, taken_there, taken_phase, lent_place}
-use Rattle.heap_law.specs.Sight.{Pointer, taken_object, issued, sight}
+use Rattle.heap_law.specs.Sight.{taken_object, issued, sight}
 use Rattle.heap_law.specs.Stale.{one_star_less}
-use Rattle.heap_law.specs.Walking.{instr_of}
-use Rattle.heap_law.proofs.Words.{itself, none_at}
+use Rattle.heap_law.proofs.Words.{none_at}
 use Rattle.type_law.specs.ClusterTypes.{IsCoherent}
 use Rattle.path_law.proofs.Sole.{some_is}
 use Rattle.word_law.specs.Reworded.{HasPlaces}
@@ -45,7 +44,7 @@ use Rattle.word_law.proofs.Follows.{seen_places_lead}
 use Rattle.word_law.proofs.Standing.{pointer_at}
 use Rattle.word_law.proofs.Unmoved.{untouched_stays}
 use Rattle.event_law.specs.Laws.{Gives, FewEvents}
-use Rattle.event_law.proofs.Results.{map_gives, over_gives, both_give}
+use Rattle.event_law.proofs.Results.{over_gives, both_give}
 use Rattle.event_law.proofs.RulesKeep.{sums_kept}
 use Rattle.event_law.proofs.Bags.{all_standing}
 use Rattle.event_law.proofs.Events.{others_of}
@@ -63,18 +62,19 @@ use Rattle.stay_law.proofs.Steps.{settles}
 use Rattle.turn_law.proofs.ReadWalk.{value_loaded}
 use Rattle.turn_law.proofs.StarLines.{shows}
 use Rattle.prepare_law.specs.Requests.{WordsHold}
-use Rattle.prepare_law.proofs.Hands.{Ok, State, Walks, put, places}
+use Rattle.prepare_law.proofs.Hands.{Ok, Walks, put, places}
 use Rattle.prepare_law.proofs.Stars.{Spotted, walks_loaded}
 use Rattle.prepare_law.proofs.Asking.{found_number}
 use Rattle.carry_law.proofs.Far.{thread_thing}
-use Rattle.carry_law.proofs.Locks.{holds_on, Kept}
-use Rattle.borrow_law.specs.Borrows.{TakenBorrowsKeep}
-use Rattle.borrow_law.proofs.Handed.{kept_if}
+use Rattle.carry_law.proofs.Locks.{holds_on, Kept, kept_where}
+use Rattle.ask_law.proofs.Unasked.{Unasked}
+use Rattle.borrow_law.specs.Borrows.{MutableBorrowsKeep}
+use Rattle.borrow_law.proofs.AtHand.{unasked}
 use Rattle.borrow_law.proofs.Pushed.{hands_alike}
 use Rattle.borrow_law.proofs.Sources as sources
 use Rattle.borrow_law.proofs.LentOne.{LentOne, lent_one_stays}
 use Rattle.borrow_law.proofs.OnTop.{takings_were, takings_but, taking_there, lent_on_top}
-use Rattle.borrow_law.proofs.Lends.{none_lent, points_somewhere, own_no_mut, its_first}
+use Rattle.borrow_law.proofs.Lends.{none_lent, points_somewhere, own_no_mut, its_first, untaken_borrows_keep}
 
 counted_none : (b : Bool) → one b ≡ 0 → b ≡ false
 counted_none true e = absurd cc
@@ -91,7 +91,7 @@ other_word a v e s = let t : true ≡ false = sym (eq-eqb a v (sym s)) ∙ e in 
 lies_in_cell : (k : Cluster) (r v : ℕ) (l : Option Location) (t i : ℕ) → lies_here (sight k) r v l ≡ true → l ≡ Some (at_slot t i) → ⊥
 lies_in_cell k r v l t i e f = let no : false ≡ true = sym (ap (lies_here (sight k) r v) f) ∙ e in absurd cc
 
-module _ (k : Cluster) (coherent : IsCoherent k) (s : Server) (here : server_at k.servers s.rest.number ≡ Some s) (t : ℕ) (y : ThreadState) (at : thread_in s.threads t ≡ Some y)
+module _ (k : Cluster) (coherent : IsCoherent k) (few : FewEvents k) (s : Server) (here : server_at k.servers s.rest.number ≡ Some s) (t : ℕ) (y : ThreadState) (at : thread_in s.threads t ≡ Some y)
     (on : enabled k.options s (Step t) ≡ true) (w : Lval) (m : ℕ) (deep : w.depth ≡ suc m) (code : slice_get k.code y.pc ≡ Some (instr.BorrowMut w)) (v : ℕ) (has : y.phase ≡ phase.Taken v) where
   abbrev n : ℕ
   n = s.rest.number
@@ -181,15 +181,11 @@ module _ (k : Cluster) (coherent : IsCoherent k) (s : Server) (here : server_at 
 
   abbrev Fine : Prepared → Type 0
   Fine (ready h sp) = Lends h sp
-  Fine (requested h) = ⊤
+  Fine (requested h) = ⊥
   Fine nothing = ⊤
 
-  fine_if : (c : Bool) (p q : Prepared) → Fine p → Fine q → Fine (if c then p else q)
-  fine_if true p q f h = f
-  fine_if false p q f h = h
-
-  lent : (h : Hand) (sp : Spot) → W h → Spotted g y.number w.slot m sp → ((u : Value) → value_at h sp ≡ Some u → AtSpot h sp) → Fine (lend_value sp (value_at h sp) (load_at sp h))
-  lent h sp c p a = by (value_at h sp)
+  lent : (h : Hand) (sp : Spot) → h.thread.phase ≡ phase.Taken v → W h → Spotted g y.number w.slot m sp → ((u : Value) → value_at h sp ≡ Some u → AtSpot h sp) → Fine (lend_value sp (value_at h sp) (load_at sp h))
+  lent h sp still c p a = by (value_at h sp)
     where
       of_loaded : (u : Value) → Source h u ⊎ IsNone u → Source (load_at sp h) u ⊎ IsNone u
       of_loaded u (inl q) = inl (record { location = q.location; located = q.located; stands = q.stands })
@@ -201,13 +197,9 @@ module _ (k : Cluster) (coherent : IsCoherent k) (s : Server) (here : server_at 
         source = λ u e. of_loaded u (sources.sourced k coherent s here t y at on i code w m reads deep h sp c p a u (sym (value_loaded sp h) ∙ e));
       }
 
-      asks : (o : Option BoxPtr) → Fine (request_by ask_object (load_at sp h) o)
-      asks None = tt
-      asks (Some q) = tt
-
       by_hop : (u : Value) (o : Option Hop) → Fine (lend_by sp u o (load_at sp h))
       by_hop u None = tt
-      by_hop u (Some (hop.NeedMove z)) = fine_if (is_taken h.thread.phase) (ready (load_at sp h) sp) (request_by ask_object (load_at sp h) (pointer_of u)) there (asks (pointer_of u))
+      by_hop u (Some (hop.NeedMove z)) = subst (λ c. Fine (if c then ready (load_at sp h) sp else request_by ask_object (load_at sp h) (pointer_of u))) (sym (ap is_taken still)) there
       by_hop u (Some (hop.Slot z)) = there
       by_hop u (Some (hop.Direct z)) = there
       by_hop u (Some (hop.Hit z)) = there
@@ -219,10 +211,10 @@ module _ (k : Cluster) (coherent : IsCoherent k) (s : Server) (here : server_at 
       by None = tt
       by (Some u) = by_hop u (write_hop h.work.rest.number u)
 
-  all_lent : (p : Prepared) → Followed p → Came p → Fine (and_then (λ h2 sp. lend_value sp (value_at h2 sp) (load_at sp h2)) p)
-  all_lent (ready h sp) f a = lent h sp f.0 f.1 a
-  all_lent (requested h) f a = tt
-  all_lent nothing f a = tt
+  all_lent : (p : Prepared) → Followed p → Came p → Unasked p → Shown h0 p → Fine (and_then (λ h2 sp. lend_value sp (value_at h2 sp) (load_at sp h2)) p)
+  all_lent (ready h sp) f a u q = lent h sp (ap (λ (z : ThreadState). z.phase) q.0.thread ∙ has) f.0 f.1 a
+  all_lent (requested h) f a u q = u
+  all_lent nothing f a u q = tt
 
   -- THE BORROW
 
@@ -349,11 +341,11 @@ module _ (k : Cluster) (coherent : IsCoherent k) (s : Server) (here : server_at 
     ended =
         subst (λ d. CommittedOk IsOk (goes_on (borrow_mut_from w d sp h)) → Gives Ends (committed (goes_on (borrow_mut_from w d sp h)))) (sym deep) (by_value (value_at h sp) refl) all_ok
 
-    left : Gives (λ (d : Stepped). IsSome d.names → WordsHold (Put d.hand) × HasPlaces (Put d.hand)) (committed (commit 0 i sp h))
+    left : Gives (λ (d : Stepped). WordsHold (Put d.hand) × HasPlaces (Put d.hand)) (committed (commit 0 i sp h))
     left =
-        both_give (SteppedOk sums_kept n s.events t b) Ends (λ (d : Stepped). IsSome d.names → WordsHold (Put d.hand) × HasPlaces (Put d.hand)) (committed (goes_on (borrow_mut w sp h)))
+        both_give (SteppedOk sums_kept n s.events t b) Ends (λ (d : Stepped). WordsHold (Put d.hand) × HasPlaces (Put d.hand)) (committed (goes_on (borrow_mut w sp h)))
         (committed_keeps sums_kept n s.events t b (goes_on (borrow_mut w sp h)) all_ok) ended
-        (λ d after z names. (
+        (λ d after z. (
           holds_on
               (untouched_stays (Put z.middle) (Put d.hand) (placed z.middle z.ok) (placed d.hand after)
               (seen_alike (Put z.middle) (Put d.hand) (placed z.middle z.ok) (placed d.hand after) refl (turned (hands_alike k coherent s here t y at [] z.middle d.hand z.ok after z.alike)))) z.words,
@@ -361,26 +353,33 @@ module _ (k : Cluster) (coherent : IsCoherent k) (s : Server) (here : server_at 
         ))
 
   abbrev Left : Stepped → Type 0
-  Left d = IsSome d.names → WordsHold (Put d.hand) × HasPlaces (Put d.hand)
+  Left d = WordsHold (Put d.hand) × HasPlaces (Put d.hand)
 
   prepared_lend : (servers : ℕ) (p : Prepared) → Fine p → Shown h0 p → Gives Left (prepared servers i p)
   prepared_lend servers (ready h sp) q shown = left h sp q shown.0
-  prepared_lend servers (requested h) q shown = λ names. absurd (cc names)
+  prepared_lend servers (requested h) q shown = absurd q
   prepared_lend servers nothing q shown = tt
 
   stepped_lend : (servers : ℕ) → Gives Left (step servers i h0)
   stepped_lend servers =
       subst (λ d. Shown h0 (lend_pointer w d h0) → Gives Left (prepared servers i (lend_pointer w d h0))) (sym deep)
-      (prepared_lend servers (lend_pointer w (suc m) h0) (all_lent (read_stars m h0 (in_slot w.slot)) (sources.followed k coherent s here t y at on i code w m reads deep) (sources.came k coherent s here t y at on i code w m reads deep)))
+      (prepared_lend servers (lend_pointer w (suc m) h0)
+      (all_lent (read_stars m h0 (in_slot w.slot)) (sources.followed k coherent s here t y at on i code w m reads deep) (sources.came k coherent s here t y at on i code w m reads deep) (unasked k coherent few s here t y at on w m deep code v has)
+      (shows k coherent e0 i s t y (sources.stepping k coherent s here t y at on i code w m reads deep) (Some (ReadTo holder)))))
       (shows k coherent e0 i s t y (sources.stepping k coherent s here t y at on i code w m reads deep) (Some (LendTo w)))
 
-  pub server_takes : Gives (λ (r : Server × EntryView). IsSome r.1.done → Kept k s r) (does k.code k.options s (Step t))
+  pub server_takes : Gives (Kept k s) (does k.code k.options s (Step t))
   server_takes =
-      subst (λ o. Gives (λ (r : Server × EntryView). IsSome r.1.done → Kept k s r) (option_map (stepped s) (then_some (option_map (λ z. record { work = begin_work s.rest; thread = z }) o) (step_in k.code k.options.servers)))) (sym at)
-      (subst (λ o. Gives (λ (r : Server × EntryView). IsSome r.1.done → Kept k s r) (option_map (stepped s) (then_some o (λ j. step k.options.servers j h0)))) (sym code)
-      (over_gives Left (λ (r : Server × EntryView). IsSome r.1.done → Kept k s r) (step k.options.servers i h0) (stepped s) (stepped_lend k.options.servers) (λ d q. q)))
+      subst (λ o. Gives (Kept k s) (option_map (stepped s) (then_some (option_map (λ z. record { work = begin_work s.rest; thread = z }) o) (step_in k.code k.options.servers)))) (sym at)
+      (subst (λ o. Gives (Kept k s) (option_map (stepped s) (then_some o (λ j. step k.options.servers j h0)))) (sym code)
+      (over_gives Left (Kept k s) (step k.options.servers i h0) (stepped s) (stepped_lend k.options.servers) (λ d q. q)))
 
-pub taken_borrows_keep : TakenBorrowsKeep
+-- of a cluster with the event's entry
+abbrev Holds : Cluster × EntryView → Type 0
+Holds d = WordsHold d.0
+
+taken_borrows_keep : (k : Cluster) (number t : ℕ) (s : Server) (y : ThreadState) (w : Lval) (v : ℕ) → IsCoherent k → FewEvents k → server_at k.servers number ≡ Some s → thread_in s.threads t ≡ Some y → slice_get k.code y.pc ≡ Some (instr.BorrowMut w) → y.phase ≡ phase.Taken v
+    → Gives Holds (apply k (record { server = number; what = Step t }))
 taken_borrows_keep k number t s y w v coherent few here at code has = by w.depth refl
   where
     -- a variable isn't taken
@@ -392,8 +391,23 @@ taken_borrows_keep k number t s y w v coherent few here at code has = by w.depth
         let its : taken_there (sight k) x v (Some w) ≡ 0 = subst (λ j. taken_there (sight k) x v (lent_place j) ≡ 0) code there in
         lies_in_cell k s.rest.number v (place_at (sight k).ground y.number w) y.number w.slot (counted_all (lies_here (sight k) s.rest.number v (place_at (sight k).ground y.number w)) its) (ap (locate (sight k).ground y.number w.slot) flat)
 
-    by : (d : ℕ) → w.depth ≡ d → Gives (λ (d : Cluster × EntryView). IsSome d.1.done → WordsHold d.0) (apply k (record { server = number; what = Step t }))
+    by : (d : ℕ) → w.depth ≡ d → Gives Holds (apply k (record { server = number; what = Step t }))
     by zero deep = absurd (no_variable deep)
     by (suc m) deep =
-        subst (λ c. server_at k.servers c ≡ Some s → Gives (λ (d : Cluster × EntryView). IsSome d.1.done → WordsHold d.0) (apply k (record { server = c; what = Step t }))) (found_number number k.servers s here)
-        (λ h. kept_if k s t (λ e. IsSome e.done) coherent few h (λ on. server_takes k coherent s h t y at on w m deep code v has)) here
+        subst (λ c. server_at k.servers c ≡ Some s → Gives Holds (apply k (record { server = c; what = Step t }))) (found_number number k.servers s here)
+        (λ h. kept_where k s t coherent few h (λ on. server_takes k coherent few s h t y at on w m deep code v has)) here
+
+pub mutable_borrows_keep : MutableBorrowsKeep
+mutable_borrows_keep k number t s y w coherent few here at code = by y.phase refl
+  where
+    by : (p : Phase) → y.phase ≡ p → Gives Holds (apply k (record { server = number; what = Step t }))
+    by (phase.Taken v) e = taken_borrows_keep k number t s y w v coherent few here at code e
+    by phase.Ready e = untaken_borrows_keep k number t s y w coherent few here at code (λ v f. let no : phase.Ready ≡ phase.Taken v = sym e ∙ f in absurd cc)
+    by phase.Got e = untaken_borrows_keep k number t s y w coherent few here at code (λ v f. let no : phase.Got ≡ phase.Taken v = sym e ∙ f in absurd cc)
+    by (phase.WaitCell u) e = untaken_borrows_keep k number t s y w coherent few here at code (λ v f. let no : phase.WaitCell u ≡ phase.Taken v = sym e ∙ f in absurd cc)
+    by (phase.WaitLock c) e = untaken_borrows_keep k number t s y w coherent few here at code (λ v f. let no : phase.WaitLock c ≡ phase.Taken v = sym e ∙ f in absurd cc)
+    by (phase.WaitDup c) e = untaken_borrows_keep k number t s y w coherent few here at code (λ v f. let no : phase.WaitDup c ≡ phase.Taken v = sym e ∙ f in absurd cc)
+    by (phase.WaitJoin u) e = untaken_borrows_keep k number t s y w coherent few here at code (λ v f. let no : phase.WaitJoin u ≡ phase.Taken v = sym e ∙ f in absurd cc)
+    by (phase.WaitPar a b) e = untaken_borrows_keep k number t s y w coherent few here at code (λ v f. let no : phase.WaitPar a b ≡ phase.Taken v = sym e ∙ f in absurd cc)
+    by (phase.GotPar a b) e = untaken_borrows_keep k number t s y w coherent few here at code (λ v f. let no : phase.GotPar a b ≡ phase.Taken v = sym e ∙ f in absurd cc)
+    by phase.Over e = untaken_borrows_keep k number t s y w coherent few here at code (λ v f. let no : phase.Over ≡ phase.Taken v = sym e ∙ f in absurd cc)

@@ -1,10 +1,9 @@
 -- BORROWS keep the words (this project's rules), whether they are done or ask.
-use Rattle.std.specs.Prelude.{◌≡◌, ℕ, Some, IsSome, slice_get}
+use Rattle.std.specs.Prelude.{◌≡◌, ℕ, Some, slice_get}
 use Rattle.fr_base.specs.declared.place.Lval.{Lval}
 use Rattle.fr_base.specs.declared.instruction.Instr.TheVariants as instr
 use Rattle.journal.specs.View.{EntryView}
 use Rattle.thread_state.specs.View.{ThreadState}
-use Rattle.thread_state.specs.declared.phase.Phase.TheVariants as phase
 use Rattle.server_model.specs.declared.event.What.TheVariants.{Step}
 use Rattle.server_model.specs.Servers.{Server, Cluster, server_at}
 use Rattle.server_model.specs.Work.{thread_in}
@@ -18,12 +17,7 @@ abbrev pub SharedBorrowsKeep : Type 0
 SharedBorrowsKeep = (k : Cluster) (number t : ℕ) (s : Server) (y : ThreadState) (w : Lval) → IsCoherent k → FewEvents k → server_at k.servers number ≡ Some s → thread_in s.threads t ≡ Some y → slice_get k.code y.pc ≡ Some (instr.Borrow w)
     → Gives (λ (d : Cluster × EntryView). WordsHold d.0) (apply k (record { server = number; what = Step t }))
 
--- a mutable one, of a thread that hasn't taken an object for it
+-- of a thread at a mutable one, whether it has taken the object or not
 abbrev pub MutableBorrowsKeep : Type 0
 MutableBorrowsKeep = (k : Cluster) (number t : ℕ) (s : Server) (y : ThreadState) (w : Lval) → IsCoherent k → FewEvents k → server_at k.servers number ≡ Some s → thread_in s.threads t ≡ Some y → slice_get k.code y.pc ≡ Some (instr.BorrowMut w)
-    → ((v : ℕ) → y.phase ≡ phase.Taken v → ⊥) → Gives (λ (d : Cluster × EntryView). WordsHold d.0) (apply k (record { server = number; what = Step t }))
-
--- and one whose object was taken, where it is done
-abbrev pub TakenBorrowsKeep : Type 0
-TakenBorrowsKeep = (k : Cluster) (number t : ℕ) (s : Server) (y : ThreadState) (w : Lval) (v : ℕ) → IsCoherent k → FewEvents k → server_at k.servers number ≡ Some s → thread_in s.threads t ≡ Some y → slice_get k.code y.pc ≡ Some (instr.BorrowMut w)
-    → y.phase ≡ phase.Taken v → Gives (λ (d : Cluster × EntryView). IsSome d.1.done → WordsHold d.0) (apply k (record { server = number; what = Step t }))
+    → Gives (λ (d : Cluster × EntryView). WordsHold d.0) (apply k (record { server = number; what = Step t }))

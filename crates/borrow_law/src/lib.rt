@@ -3,4 +3,4 @@
 
 mod laws;
 
-pub use laws::{mutable_borrows_keep_words, shared_borrows_keep_words, taken_borrows_keep_words};
+pub use laws::{mutable_borrows_keep_words, shared_borrows_keep_words};
