@@ -35,6 +35,7 @@ use Rattle.result_law.proofs.Readers.{IsFree, begins, to_entry}
 use Rattle.result_law.proofs.Mutables.{apart}
 use Rattle.ask_law.proofs.Unasked.{Unasked, stars_near}
 
+-- a place that may be lent is short
 lendable : (table : Table) (e e2 : Entry) (w : Lval) → InstrTypes table e (instr.BorrowMut w) e2 → w.depth ≤ 8
 lendable table _ _ w (i_borrow_mut waits has unlent) = has.short
 
@@ -58,15 +59,18 @@ module _ (k : Cluster) (coherent : IsCoherent k) (few : FewEvents k) (s : Server
   abbrev going : GoesOn k x
   going = goes k n t s y i z
 
+  -- so it is here
   short : w.depth ≤ 8
   short =
       let at_it = typed k n t s y i z in
       let to = to_entry (types k n t s y i z).table y.pc (entry k n t s y i z) i at_it.0 at_it.1 (λ o e. cc) in
       lendable (types k n t s y i z).table (entry k n t s y i z) to.0 w to.1
 
+  -- the thread may write there
   may : MayWrite k c.types x w
   may = may_write_there k c x going i w code lends
 
+  -- the place is one that is followed
   place : Place k c x true w
   place = record { free = λ j u is. may.free j true u is; base = may.base; boxes = may.boxes; type = may.type; resolves = may.resolves; unmarked = may.unmarked }
 
@@ -79,9 +83,11 @@ module _ (k : Cluster) (coherent : IsCoherent k) (few : FewEvents k) (s : Server
       let so_many : stars ≡ d = omega (arith, depth, depth2, depths) in
       apart k c x going w.slot w.depth place.base place.boxes place.type place.resolves e d under (omega (arith, depth)) l located (subst (λ (q : Lval). locate (sight k).ground y.number q.slot d ≡ Some l) (sym same) (subst (λ j. locate (sight k).ground y.number p.slot j ≡ Some l) so_many there))
 
+  -- each pointer that it passes is at hand
   near : (e : ℕ) (l : Location) (u : Value) → e < d → locate (sight k).ground y.number w.slot e ≡ Some l → value_in (sight k).ground l ≡ Some u → loose_hop n (used_words y) (Some u) ≡ 0
   near e l u lt there stands =
       coherent.sound.walks.have_followed x (record { slot = w.slot; depth = w.depth - 1 }) e l u going.among (ap (has_followed (sight k) x) has) (ap (λ j. followed_place (path_of j y)) code) (omega (arith, depth, lt)) (record { path = paths_law.located (sight k).ground y.number w.slot e l there; stands = stands })
 
+  -- so nothing is asked for
   pub unasked : Unasked (read_stars d (record { work = begin_work s.rest; thread = y }) (in_slot w.slot))
   unasked = stars_near k n t s y i z true w place short d (omega (arith, depth)) before_it near d 0 (omega arith) (hand k n t s y i z) (in_slot w.slot) (at_slot y.number w.slot) refl (a_slot w.slot) (begins k n t s y i z)

@@ -27,6 +27,7 @@ module _ (k : Cluster) (coherent : IsCoherent k) (x : Standing) (g : GoesOn k x)
   abbrev c : HasPaths k
   c = coherent_has_paths k coherent
 
+  -- it isn't stale, as the thread reads above it
   pub fresh_last : (l : Location) → locate (sight k).ground x.thread.number w.slot m ≡ Some l → IsStale (sight k) (Some l) → ⊥
   fresh_last l there = fresh_if k c x l (reading_of k c x i w m m l g at reads 1 (omega (arith, deep)) there) (λ z h s. none l (subst (λ (q : Standing). HasTaken k c q l) s h))
 
@@ -34,6 +35,7 @@ module _ (k : Cluster) (coherent : IsCoherent k) (x : Standing) (g : GoesOn k x)
   next : (l : Location) (v : Value) (b : BoxPtr) → locate (sight k).ground x.thread.number w.slot m ≡ Some l → value_in (sight k).ground l ≡ Some v → pointer_of v ≡ Some b → locate (sight k).ground x.thread.number w.slot (suc m) ≡ Some (in_cell b.object)
   next l v b there stands points = ap (λ o. leads x.thread.number (value_behind (sight k).ground o)) there ∙ ap (leads x.thread.number) stands ∙ pointer_leads x.thread.number v b points
 
+  -- so its object lies where its word leads
   pub under_last : ((u : ℕ) → x.thread.phase ≡ phase.WaitCell u → ⊥) → (l : Location) (v : Value) (b : BoxPtr) → locate (sight k).ground x.thread.number w.slot m ≡ Some l → value_in (sight k).ground l ≡ Some v → pointer_of v ≡ Some b → LiesUnder k b
   under_last awake l v b there stands points =
       lies_read k c coherent.sound.words.have_words (answers_told k coherent.sound) x g (λ u o a s. awake u (ap (λ (z : Standing). z.thread.phase) (sym s) ∙ a.waits)) b

@@ -76,18 +76,23 @@ word_as_it_is : (p : Phase) (r : MutRef) → ((v : ℕ) → p ≡ phase.Taken v 
 word_as_it_is (phase.Taken v) r none = absurd (none v refl)
 word_as_it_is _ r none = refl
 
+-- from what is no pointer nothing is made
 pub none_lent : (v u : Value) (p : Phase) (w : Lval) → mutable_from p w v ≡ None → mutable_from p w v ≡ Some u → ⊥
 none_lent v u p w e f = let z : None ≡ Some u = sym e ∙ f in absurd cc
 
+-- a box points somewhere
 pub points_somewhere : (b : BoxPtr) → Some b ≡ None → ⊥
 points_somewhere b e = absurd cc
 
+-- what owns is no reference
 pub own_no_mut : (o : Owned) (p : MutRef) → value.Own o ≡ value.Mut p → ⊥
 own_no_mut o p e = absurd cc
 
+-- the reference has its mark
 same_mark : (r q : MutRef) → value.Mut r ≡ value.Mut q → q.dirty ≡ r.dirty
 same_mark r q e = let z : r ≡ q = cc in ap (λ (x : MutRef). x.dirty) (sym z)
 
+-- a word and an object are themselves
 pub its_first : (w : ℕ) (o : ObjNo) → (w == w && same_object o o) ≡ true
 its_first w o = ap₂ (λ p q. p && q) (eq-eqb w w refl) (itself o o refl)
 
@@ -147,6 +152,7 @@ module _ (k : Cluster) (coherent : IsCoherent k) (s : Server) (here : server_at 
   none : TakesNoneHere k.code y
   none = sources.none k coherent s here t y at on i code w m reads deep free
 
+  -- the hand's cluster has places
   placed : (h : Hand) → IsOk h → HasPlaces (Put h)
   placed h q = places k coherent s here t y at h q
 
@@ -165,6 +171,7 @@ module _ (k : Cluster) (coherent : IsCoherent k) (s : Server) (here : server_at 
   fine_if true p q f h = f
   fine_if false p q f h = h
 
+  -- the last pointer is ready, or its object is asked for
   lent : (h : Hand) (sp : Spot) → W h → Spotted g y.number w.slot m sp → ((v : Value) → value_at h sp ≡ Some v → AtSpot h sp) → Fine (lend_value sp (value_at h sp) (load_at sp h))
   lent h sp c p a = by (value_at h sp)
     where
@@ -197,6 +204,7 @@ module _ (k : Cluster) (coherent : IsCoherent k) (s : Server) (here : server_at 
       by None = tt
       by (Some v) = by_hop v (write_hop h.work.rest.number v)
 
+  -- so is the place
   all_lent : (p : Prepared) → Followed p → Came p → Fine (and_then (λ h2 sp. lend_value sp (value_at h2 sp) (load_at sp h2)) p)
   all_lent (ready h sp) f a = lent h sp f.0 f.1 a
   all_lent (requested h) f a = f none
@@ -215,12 +223,15 @@ module _ (k : Cluster) (coherent : IsCoherent k) (s : Server) (here : server_at 
   Ends d = Ended d.hand
 
   module _ (h : Hand) (sp : Spot) (q : Lends h sp) (shown : Readied h0 h) where
+    -- the sums of the hand
     ok : IsOk h
     ok = q.walks.state.ok
 
+    -- nothing is taken still
     free_now : (v : ℕ) → h.thread.phase ≡ phase.Taken v → ⊥
     free_now v f = free v (sym (ap (λ (x : ThreadState). x.phase) shown.thread) ∙ f)
 
+    -- where the place leads it led
     located_now : (l : Location) → locate g y.number w.slot m ≡ Some l → locate (sight (Put h)).ground h.thread.number w.slot m ≡ Some l
     located_now l e =
         ap (λ u. locate (sight (Put h)).ground u w.slot m) (ap (λ (x : ThreadState). x.number) shown.thread)
@@ -256,11 +267,13 @@ module _ (k : Cluster) (coherent : IsCoherent k) (s : Server) (here : server_at 
         let same : value.Mut r ≡ u = ap (λ x. value.Mut x) (sym (word_as_it_is h.thread.phase r free_now)) ∙ some_is made in
         subst (λ x. IsOk (go_on (push_temp x h)) → Gives Ends (committed (goes_on (Some (push_temp x h))))) same (referred r held v src pointer first unchanged mark marked)
 
+    -- a reference to a slot, which words don't see
     to_slot : (j : ℕ) → Gives Ends (committed (goes_on (Some (push_temp (value.MutSlot j) h))))
     to_slot j =
         weaker (λ (d : Stepped). HandAlike k.code n [] h d.hand) Ends (committed (goes_on (Some (push_temp (value.MutSlot j) h)))) (goes_over k.code n h (Some (push_temp (value.MutSlot j) h)) (pushes k.code n h (value.MutSlot j) (mut_slot_unseen j) (q.walks.untaken none)))
         (λ d a. record { middle = h; ok = ok; words = q.walks.state.along.words; alike = a })
 
+    -- from each value
     pushed : (v u : Value) → Source h v ⊎ IsNone v → mutable_from h.thread.phase holder v ≡ Some u → IsOk (go_on (push_temp u h)) → Gives Ends (committed (goes_on (Some (push_temp u h))))
     pushed (value.MutSlot j) u src made after = let same : value.MutSlot j ≡ u = cc in subst (λ x. Gives Ends (committed (goes_on (Some (push_temp x h))))) same (to_slot j)
     pushed (value.Own (owned.Box p)) u (inl src) made after =
@@ -279,22 +292,27 @@ module _ (k : Cluster) (coherent : IsCoherent k) (s : Server) (here : server_at 
     pushed (value.Own (owned.Mutex z)) u src made after = absurd (none_lent (value.Own (owned.Mutex z)) u h.thread.phase holder refl made)
     pushed (value.Own (owned.Task z)) u src made after = absurd (none_lent (value.Own (owned.Task z)) u h.thread.phase holder refl made)
 
+    -- where one is made
     made_from : (v : Value) → value_at h sp ≡ Some v → (o : Option Value) → mutable_from h.thread.phase holder v ≡ o → CommittedOk IsOk (goes_on (option_map (λ u. push_temp u h) o)) → Gives Ends (committed (goes_on (option_map (λ u. push_temp u h) o)))
     made_from v e None f after = tt
     made_from v e (Some u) f after = pushed v u (q.source v e) f after
 
+    -- where one stands
     by_value : (o : Option Value) → value_at h sp ≡ o → CommittedOk IsOk (goes_on (then_some o (λ v. option_map (λ u. push_temp u h) (mutable_from h.thread.phase holder v))))
         → Gives Ends (committed (goes_on (then_some o (λ v. option_map (λ u. push_temp u h) (mutable_from h.thread.phase holder v)))))
     by_value None e after = tt
     by_value (Some v) e after = made_from v e (mutable_from h.thread.phase holder v) refl after
 
+    -- the sums afterwards
     all_ok : CommittedOk IsOk (goes_on (borrow_mut w sp h))
     all_ok = commits sums_kept n s.events t b 0 i sp h tt (λ z. absurd z) ok
 
+    -- the borrow ends so
     ended : Gives Ends (committed (goes_on (borrow_mut w sp h)))
     ended =
         subst (λ d. CommittedOk IsOk (goes_on (borrow_mut_from w d sp h)) → Gives Ends (committed (goes_on (borrow_mut_from w d sp h)))) (sym deep) (by_value (value_at h sp) refl) all_ok
 
+    -- with its thread put back
     left : Gives (λ (d : Stepped). WordsHold (Put d.hand) × HasPlaces (Put d.hand)) (committed (commit 0 i sp h))
     left =
         both_give (SteppedOk sums_kept n s.events t b) Ends (λ (d : Stepped). WordsHold (Put d.hand) × HasPlaces (Put d.hand)) (committed (goes_on (borrow_mut w sp h)))
@@ -309,17 +327,20 @@ module _ (k : Cluster) (coherent : IsCoherent k) (s : Server) (here : server_at 
   abbrev Left : Stepped → Type 0
   Left d = WordsHold (Put d.hand) × HasPlaces (Put d.hand)
 
+  -- the step of what is ready or asked for
   prepared_lend : (servers : ℕ) (p : Prepared) → Fine p → Shown h0 p → Gives Left (prepared servers i p)
   prepared_lend servers (ready h sp) q shown = left h sp q shown.0
   prepared_lend servers (requested h) q shown = (q.along.words, placed h q.ok)
   prepared_lend servers nothing q shown = tt
 
+  -- the step
   stepped_lend : (servers : ℕ) → Gives Left (step servers i h0)
   stepped_lend servers =
       subst (λ d. Shown h0 (lend_pointer w d h0) → Gives Left (prepared servers i (lend_pointer w d h0))) (sym deep)
       (prepared_lend servers (lend_pointer w (suc m) h0) (all_lent (read_stars m h0 (in_slot w.slot)) (sources.followed k coherent s here t y at on i code w m reads deep) (sources.came k coherent s here t y at on i code w m reads deep)))
       (shows k coherent e0 i s t y (sources.stepping k coherent s here t y at on i code w m reads deep) (Some (LendTo w)))
 
+  -- at its server
   pub server_lends : Gives (Kept k s) (does k.code k.options s (Step t))
   server_lends =
       subst (λ o. Gives (Kept k s) (option_map (stepped s) (then_some (option_map (λ v. record { work = begin_work s.rest; thread = v }) o) (step_in k.code k.options.servers)))) (sym at)
@@ -330,6 +351,7 @@ module _ (k : Cluster) (coherent : IsCoherent k) (s : Server) (here : server_at 
 abbrev Holds : Cluster × EntryView → Type 0
 Holds d = WordsHold d.0
 
+-- in its cluster
 pub untaken_borrows_keep : (k : Cluster) (number t : ℕ) (s : Server) (y : ThreadState) (w : Lval) → IsCoherent k → FewEvents k → server_at k.servers number ≡ Some s → thread_in s.threads t ≡ Some y → slice_get k.code y.pc ≡ Some (instr.BorrowMut w) → ((v : ℕ) → y.phase ≡ phase.Taken v → ⊥)
     → Gives Holds (apply k (record { server = number; what = Step t }))
 untaken_borrows_keep k number t s y w coherent few here at code free = by w.depth refl

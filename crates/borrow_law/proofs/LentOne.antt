@@ -115,6 +115,7 @@ no_lent g u slot (suc n) t j e = by (locate g u slot n) refl e
     by None f q = absurd cc
     by (Some l) f q = none_in (same_location l (at_temp t j)) (other_place l (λ s. no_temp g u slot n t j (f ∙ ap Some s))) q
 
+-- what is changed without another word is dirty
 clean_or_dirty : (r : MutRef) → changed r ≡ true → r.word ≡ r.first → r.dirty ≡ true
 clean_or_dirty r e f = by r.dirty (r.word == r.first) refl (Rattle.std.proofs.lemmas.Bool.eq-eqb r.word r.first f) e
   where
@@ -123,6 +124,7 @@ clean_or_dirty r e f = by r.dirty (r.word == r.first) refl (Rattle.std.proofs.le
     by false true p q s = absurd cc
     by false false p q s = absurd cc
 
+-- a dirty reference is changed
 dirty_changes : (r : MutRef) → r.dirty ≡ true → changed r ≡ true
 dirty_changes r e = ap (λ b. b || not (r.word == r.first)) e
 
@@ -135,9 +137,11 @@ word_changes r n = by r.dirty (r.word == r.first) refl
     by false false e = refl
     by false true e = absurd (n (same_number r.word r.first e))
 
+-- nothing was made from a pointer at no location
 no_held : (l : Location) → is_held_at l None ≡ true → ⊥
 no_held l e = cc e
 
+-- one place is the only one of a list of it
 only_here : (l h : Location) → is_among l (h ∷ []) ≡ true → l ≡ h
 only_here l h e = by (same_location h l) refl e
   where
@@ -145,12 +149,15 @@ only_here l h e = by (same_location h l) refl e
     by true f g = sym (same_is h l f)
     by false f g = absurd cc
 
+-- and it is among it
 here_is : (h : Location) → is_among h (h ∷ []) ≡ true
 here_is h = ap (λ b. b || false) (location_itself h)
 
+-- a reference is the one that stands there
 mut_is : (r q : MutRef) → value.Mut r ≡ value.Mut q → r ≡ q
 mut_is r q e = cc
 
+-- what is nothing is no value
 no_some : {A : Type 0} (a : A) (o : Option A) → o ≡ None → o ≡ Some a → ⊥
 no_some a o e f = let q : None ≡ Some a = sym e ∙ f in absurd cc
 
@@ -164,16 +171,19 @@ module _ (a b : Cluster) (in_slots : (t u i : ℕ) → leads t (value_in (sight 
   abbrev gb : Ground
   gb = (sight b).ground
 
+  -- a place with one star less leads alike
   less_same : (t slot d : ℕ) → one_star_less gb t slot d ≡ one_star_less ga t slot d
   less_same t slot zero = refl
   less_same t slot (suc d) = seen_places_lead ga gb in_slots in_cells t slot d
 
+  -- from where one was taken, it still is
   lent : (l : Location) → is_among l (lent_places a.code ga ga.threads) ≡ true → is_among l (lent_places b.code gb gb.threads) ≡ true
   lent l e =
       let y = lent_told ga l (takings a.code ga.threads) (sym (ap (is_among l) (lents_are a.code ga ga.threads)) ∙ e) in
       let same : lent_by gb y.taking ≡ lent_by ga y.taking = less_same y.taking.thread y.taking.place.slot y.taking.place.depth in
       ap (is_among l) (lents_are b.code gb gb.threads) ∙ lent_listed gb l y.taking (takings b.code gb.threads) (takes y.taking y.among) (ap (λ m. is_among l (with_place m [])) same ∙ y.at)
 
+  -- what was taken is
   taken : (p : Pointer) → Among p (taken_pointers a.code ga ga.threads) → Among p (taken_pointers b.code gb gb.threads)
   taken p h =
       let y = taken_told ga p (takings a.code ga.threads) (subst (λ ps. Among p ps) (takens_are a.code ga ga.threads) h) in
@@ -189,10 +199,12 @@ module _ (a b : Cluster) (in_slots : (t u i : ℕ) → leads t (value_in (sight 
   abbrev gt : Ground
   gt = (sight b).ground
 
+  -- a place with one star less leads alike
   less_still : (t slot d : ℕ) → one_star_less gt t slot d ≡ one_star_less gs t slot d
   less_still t slot zero = refl
   less_still t slot (suc d) = seen_places_lead gs gt in_slots in_cells t slot d
 
+  -- from where one was taken it still is, or it is that pointer
   lent_or : (l h : Location) → lent_by gs y ≡ Some h → is_among l (lent_places a.code gs gs.threads) ≡ true → (l ≡ h) ⊎ (is_among l (lent_places b.code gt gt.threads) ≡ true)
   lent_or l h at e =
       let x = lent_told gs l (takings a.code gs.threads) (sym (ap (is_among l) (lents_are a.code gs gs.threads)) ∙ e) in
@@ -201,6 +213,7 @@ module _ (a b : Cluster) (in_slots : (t u i : ℕ) → leads t (value_in (sight 
       (λ (i : Among x.taking (takings b.code gt.threads)). inr (ap (is_among l) (lents_are b.code gt gt.threads) ∙ lent_listed gt l x.taking (takings b.code gt.threads) i (ap (λ q. is_among l (with_place q [])) same ∙ x.at)))
       (took x.taking x.among)
 
+  -- what was taken is, or it is that object
   taken_or : (p q : Pointer) → taken_by gs y ≡ q ∷ [] → Among p (taken_pointers a.code gs gs.threads) → (q ≡ p) ⊎ Among p (taken_pointers b.code gt gt.threads)
   taken_or p q is i =
       let x = taken_told gs p (takings a.code gs.threads) (subst (λ ps. Among p ps) (takens_are a.code gs gs.threads) i) in
@@ -231,15 +244,19 @@ module _ (k z : Cluster) (t j : ℕ) (h : Location) (r : MutRef) (c : HasPlaces 
   abbrev old : Pointer
   old = record { at = Some h; word = r.first; object = r.object }
 
+  -- slots lead alike
   in_slots : (s v i : ℕ) → leads s (value_in gz (at_slot v i)) ≡ leads s (value_in gk (at_slot v i))
   in_slots s v i = sym (leads_pointing s (value_in gz (at_slot v i))) ∙ ap (leads s) (u.stands (at_slot v i) (λ e. cc e)) ∙ leads_pointing s (value_in gk (at_slot v i))
 
+  -- cells lead alike
   in_cells : (s : ℕ) (o : ObjNo) → leads s (value_in gz (in_cell o)) ≡ leads s (value_in gk (in_cell o))
   in_cells s o = sym (leads_pointing s (value_in gz (in_cell o))) ∙ ap (leads s) (u.stands (in_cell o) (λ e. cc e)) ∙ leads_pointing s (value_in gk (in_cell o))
 
+  -- references have the holders that they had
   holders : (l : Location) (v : Lval) → holder_of gz l v ≡ holder_of gk l v
   holders l v = seen_holders_lead gk gz in_slots in_cells l v
 
+  -- from where one was taken now, it was before
   lent_back : (l : Location) → is_among l (lent_places z.code gz gz.threads) ≡ true → is_among l (lent_places k.code gk gk.threads) ≡ true
   lent_back l e = lent z k (λ s v i. sym (in_slots s v i)) (λ s o. sym (in_cells s o)) u.takes l e
 
@@ -247,11 +264,13 @@ module _ (k z : Cluster) (t j : ℕ) (h : Location) (r : MutRef) (c : HasPlaces 
   not_here : (l : Location) (v : Value) → value_in gk l ≡ Some v → l ≡ m → ⊥
   not_here l v e s = u.empty v (sym (ap (value_in gk) s) ∙ e)
 
+  -- the holder is another location
   not_holder : h ≡ m → ⊥
   not_holder s = not_here h u.from u.there s
 
   -- REFERENCES
 
+  -- each reference that was there is
   on_reference : (q : Reference) → Among q (references gk (things_of k)) → Among q (references gz (things_of z))
   on_reference q i =
       let y = of_borrows gk q (things_of k) i in
@@ -259,6 +278,7 @@ module _ (k z : Cluster) (t j : ℕ) (h : Location) (r : MutRef) (c : HasPlaces 
       let there = reference_there z q.at q.reference (reference_at q.at (value_in gz q.at) q.reference (u.stands q.at (not_here q.at (value.Mut q.reference) stood) ∙ ap (seen_at q.at) stood)) in
       subst (λ (o : Option Location). Among (record { at = q.at; holder = o; reference = q.reference }) (references gz (things_of z))) (holders q.at q.reference.holder ∙ sym y.holder) there
 
+  -- the new one is, with that holder
   new_reference : Among (record { at = m; holder = Some h; reference = r }) (references gz (things_of z))
   new_reference = subst (λ (o : Option Location). Among (record { at = m; holder = o; reference = r }) (references gz (things_of z))) (holders m r.holder ∙ u.held) (reference_there z m r u.now)
 
@@ -267,6 +287,7 @@ module _ (k z : Cluster) (t j : ℕ) (h : Location) (r : MutRef) (c : HasPlaces 
     holder : q.holder ≡ Some h
     reference : q.reference ≡ r
 
+  -- each reference is the new one or was there
   back_reference : (q : Reference) → Among q (references gz (things_of z)) → IsNew q ⊎ Among q (references gk (things_of k))
   back_reference q i = by (same_place q.at m)
     where
@@ -300,6 +321,7 @@ module _ (k z : Cluster) (t j : ℕ) (h : Location) (r : MutRef) (c : HasPlaces 
   stale_if : changed r ≡ true → IsStale (sight z) (Some h)
   stale_if e = changed_above (record { at = m; holder = Some h; reference = r }) new_reference (location_itself h) e
 
+  -- from where an object was taken, the pointer is stale
   lent_on : (l : Location) → is_among l (lent_places k.code gk gk.threads) ≡ true → IsStale (sight z) (Some l)
   lent_on l e =
       ⊎_elim (λ (a : MadeHere k z h r u.from). taken_above (lent k z in_slots in_cells a.took l e))
@@ -307,11 +329,13 @@ module _ (k z : Cluster) (t j : ℕ) (h : Location) (r : MutRef) (c : HasPlaces 
       ⊎_elim (λ (s : l ≡ h). subst (λ q. IsStale (sight z) (Some q)) (sym s) (stale_if (word_changes r v.renewed))) (λ (i : is_among l (lent_places z.code gz gz.threads) ≡ true). taken_above i)
       (lent_or k z in_slots in_cells v.taking v.took l h v.lent e)) u.made
 
+  -- what was stale is
   on_stale : (l : Location) → IsStale (sight k) (Some l) → IsStale (sight z) (Some l)
   on_stale l (changed_above q i e s) = changed_above q (on_reference q i) e s
   on_stale l (stale_above q i e s) = stale_above q (on_reference q i) e (on_stale q.at s)
   on_stale l (taken_above e) = lent_on l e
 
+  -- also at no location
   on_at : (l : Option Location) → IsStale (sight k) l → IsStale (sight z) l
   on_at None s = s
   on_at (Some l) s = on_stale l s
@@ -324,6 +348,7 @@ module _ (k z : Cluster) (t j : ℕ) (h : Location) (r : MutRef) (c : HasPlaces 
       let y = lent_told gz m (takings z.code gz.threads) (sym (ap (is_among m) (lents_are z.code gz gz.threads)) ∙ ap (λ n. is_among n (lent_places z.code gz gz.threads)) (sym s) ∙ e) in
       no_lent gz y.taking.thread y.taking.place.slot y.taking.place.depth t j y.at
 
+  -- the new reference was made from the holder alone
   its_holder : (l : Location) (q : Reference) → IsNew q → is_held_at l q.holder ≡ true → l ≡ h
   its_holder l q n e = some_is (sym (held_at l q.holder e) ∙ n.holder)
 
@@ -347,6 +372,7 @@ module _ (k z : Cluster) (t j : ℕ) (h : Location) (r : MutRef) (c : HasPlaces 
   new_above l s e =
       ⊎_elim (λ (a : MadeHere k z h r u.from). inr (s, clean_or_dirty r e a.unchanged)) (λ (v : MadeOfTaken k z h r). inl (subst (λ q. IsStale (sight k) (Some q)) (sym s) (taken_above (was_lent v)))) u.made
 
+  -- what is stale was, or it is the holder of a dirty reference
   back_stale : (l : Location) → IsStale (sight z) (Some l) → IsStale (sight k) (Some l) ⊎ ((l ≡ h) × (r.dirty ≡ true))
   back_stale l (changed_above q i e s) =
       ⊎_elim (λ (n : IsNew q). new_above l (its_holder l q n e) (ap changed (sym n.reference) ∙ s)) (λ (o : Among q (references gk (things_of k))). inl (changed_above q o e s)) (back_reference q i)
@@ -359,6 +385,7 @@ module _ (k z : Cluster) (t j : ℕ) (h : Location) (r : MutRef) (c : HasPlaces 
 
   -- POINTERS
 
+  -- a pointer that stood at a location does
   stood : (p : Pointer) (l : Location) → Among p (pointers_in (things_of k)) → p.at ≡ Some l → Among p (standing_in (things_of z))
   stood p l i e =
       let y = tells k c p l i e in
@@ -368,10 +395,12 @@ module _ (k z : Cluster) (t j : ℕ) (h : Location) (r : MutRef) (c : HasPlaces 
   abbrev its : Pointer
   its = record { at = None; word = r.word; object = r.object }
 
+  -- what was taken is, or it is what the reference was made of
   taken_on : (p : Pointer) → Among p (taken_pointers k.code gk gk.threads) → (its ≡ p) ⊎ Among p (taken_pointers z.code gz gz.threads)
   taken_on p i =
       ⊎_elim (λ (a : MadeHere k z h r u.from). inr (taken k z in_slots in_cells a.took p i)) (λ (v : MadeOfTaken k z h r). taken_or k z in_slots in_cells v.taking v.took p its v.its i) u.made
 
+  -- each pointer is there still, or it is the word under which the object was taken
   on_all : (p : Pointer) → Among p (all_pointers (sight k)) → (its ≡ p) ⊎ Among p (all_pointers (sight z))
   on_all p i =
       ⊎_elim (λ (y : Among p (pointers_in (things_of k))). inr (among_first p (pointers_in (things_of z)) (taken_pointers z.code gz gz.threads) (by p.at refl y)))
@@ -382,24 +411,31 @@ module _ (k z : Cluster) (t j : ℕ) (h : Location) (r : MutRef) (c : HasPlaces 
       by None e y = u.remain p e y
       by (Some l) e y = stands_in p (things_of z) (stood p l y e)
 
+  -- that word is one of a taken object
   its_taken : MadeOfTaken k z h r → Among its (taken_pointers k.code gk gk.threads)
   its_taken v = subst (λ ps. Among its ps) (sym (takens_are k.code gk gk.threads)) (taken_listed gk its v.taking (takings k.code gk.threads) v.listed (subst (λ ps. Among its ps) (sym v.its) (inl refl)))
 
+  -- so it is a pointer
   its_all : MadeOfTaken k z h r → Among its (all_pointers (sight k))
   its_all v = among_second its (pointers_in (things_of k)) (taken_pointers k.code gk gk.threads) (its_taken v)
 
+  -- that counts beside dirty references
   its_standing : MadeOfTaken k z h r → Among its (standing_pointers (sight k))
   its_standing v = among_second its (standing_in (things_of k)) (taken_pointers k.code gk gk.threads) (its_taken v)
 
+  -- the reference is a pointer
   new_all : Among new (all_pointers (sight z))
   new_all = among_first new (pointers_in (things_of z)) (taken_pointers z.code gz gz.threads) (stands_in new (things_of z) (told_standing z m (value.Mut r) new u.now (inl refl)))
 
+  -- and so is the one it was made from
   old_stands : Among old (standing_in (things_of k))
   old_stands = told_standing k h u.from old u.there u.pointer
 
+  -- among all
   old_all : Among old (all_pointers (sight k))
   old_all = among_first old (pointers_in (things_of k)) (taken_pointers k.code gk gk.threads) (stands_in old (things_of k) old_stands)
 
+  -- which counts beside dirty references
   old_standing : Among old (standing_pointers (sight k))
   old_standing = among_first old (standing_in (things_of k)) (taken_pointers k.code gk gk.threads) old_stands
 
@@ -417,6 +453,7 @@ module _ (k z : Cluster) (t j : ℕ) (h : Location) (r : MutRef) (c : HasPlaces 
           inl (one_pointer m (value.Mut r) new p (inl refl) here)
       by (inr n) = inr (told_standing k l y.value p (seen_pointer_at l (value_in gk l) y.value p (sym (u.stands l n) ∙ ap (seen_at l) y.stands) y.pointer) y.pointer)
 
+  -- each pointer is the new one or was there
   back_all : (p : Pointer) → Among p (all_pointers (sight z)) → (new ≡ p) ⊎ Among p (all_pointers (sight k))
   back_all p i =
       ⊎_elim (λ (y : Among p (pointers_in (things_of z))). by p.at refl y)
@@ -428,6 +465,7 @@ module _ (k z : Cluster) (t j : ℕ) (h : Location) (r : MutRef) (c : HasPlaces 
       by (Some l) e y =
           ⊎_elim (λ (x : new ≡ p). inl x) (λ (x : Among p (standing_in (things_of k))). inr (among_first p (pointers_in (things_of k)) (taken_pointers k.code gk gk.threads) (stands_in p (things_of k) x))) (back_there p l y e)
 
+  -- so is each that counts beside dirty references
   back_standing : (p : Pointer) → Among p (standing_pointers (sight z)) → (new ≡ p) ⊎ Among p (standing_pointers (sight k))
   back_standing p i =
       ⊎_elim (λ (y : Among p (standing_in (things_of z))). by p.at refl y)
@@ -442,12 +480,14 @@ module _ (k z : Cluster) (t j : ℕ) (h : Location) (r : MutRef) (c : HasPlaces 
   -- WORDS
 
   module _ (b : HasWords (sight k)) where
+    -- the reference has the word of its object
     its_word : r.word ≡ b.word r.object
     its_word =
         ⊎_elim
         (λ (a : MadeHere k z h r u.from). a.unchanged ∙ ⊎_elim (λ (s : IsStale (sight k) (Some h)). absurd (a.fresh s)) (λ (e : r.first ≡ b.word r.object). e) (b.same old old_all))
         (λ (v : MadeOfTaken k z h r). ⊎_elim (λ (s : IsStale (sight k) None). let no : ⊥ = s in absurd no) (λ (e : r.word ≡ b.word r.object). e) (b.same its (its_all v))) u.made
 
+    -- each pointer has the word of its object, or is stale
     same : (p : Pointer) → Among p (all_pointers (sight z)) → IsStale (sight z) p.at ⊎ (p.word ≡ b.word p.object)
     same p i =
         ⊎_elim (λ (e : new ≡ p). inr (subst (λ (x : Pointer). x.word ≡ b.word x.object) e its_word))
@@ -494,20 +534,25 @@ module _ (k z : Cluster) (t j : ℕ) (h : Location) (r : MutRef) (c : HasPlaces 
         by i None e = record { pointer = f.pointer; among = i; object = f.object; fresh = λ x. (let y : IsStale (sight z) None = subst (λ q. IsStale (sight z) q) e x in y) }
         by i (Some l) e = here i l e (same_place l h)
 
+    -- each object that lies has a pointer that isn't stale
     live : (s a : ℕ) (e : Cell) → Among (lies s a e) (things_of z) → Fresh (sight z) e.object
     live s a e i = let y = u.lay s a e i in still_fresh e.object (subst (λ q. Fresh (sight k) q) y.object (b.live s a y.cell y.among))
 
+    -- and its word leads there
     home : (s a : ℕ) (e : Cell) → Among (lies s a e) (things_of z) → LeadsTo s a (b.word e.object)
     home s a e i = let y = u.lay s a e i in subst (λ q. LeadsTo s a (b.word q)) y.object (b.home s a y.cell y.among)
 
+    -- each object has the word that it had
     words_stay : WordsStay (sight k) (sight z) b
     words_stay = record { after = record { word = b.word; same = same; live = live; home = home }; same = λ q. refl }
 
   -- REFERENCES KNOW THE WORDS AT THEIR HOLDERS
 
+  -- at another location stands the same word
   behind : (x : MutRef) (l : Location) → (l ≡ m → ⊥) → is_first x (value_in gz l) ≡ is_first x (value_in gk l)
   behind x l n = sym (first_at x l (value_in gz l)) ∙ ap (is_first x) (u.stands l n) ∙ first_at x l (value_in gk l)
 
+  -- references know the words at their holders
   holders_stay : Holds k first_at_holder → Holds z first_at_holder
   holders_stay f = none_all (other_first gz) (references gz (things_of z)) each
     where
@@ -534,6 +579,7 @@ module _ (k z : Cluster) (t j : ℕ) (h : Location) (r : MutRef) (c : HasPlaces 
       changes =
           ⊎_elim (λ (a : MadeHere k z h r u.from). dirty_changes r (sym (a.mark q.reference (is_from q i s)) ∙ e)) (λ (v : MadeOfTaken k z h r). word_changes r v.renewed) u.made
 
+  -- dirty references are alone
   dirty_stays : DirtyAlone (sight k) → DirtyAlone (sight z)
   dirty_stays f q i e n = ⊎_elim the_new was (back_reference q i)
     where
@@ -583,6 +629,7 @@ module _ (k z : Cluster) (t j : ℕ) (h : Location) (r : MutRef) (c : HasPlaces 
 
   -- FIRST WORDS THAT WERE LEFT
 
+  -- no first word that was left is a word of today
   past_stays : HasWords (sight k) → PastWords (sight k) → PastWords (sight z)
   past_stays b f q i n p y fresh o g = ⊎_elim the_new was (back_reference q i)
     where
@@ -600,5 +647,6 @@ module _ (k z : Cluster) (t j : ℕ) (h : Location) (r : MutRef) (c : HasPlaces 
           (λ (v : MadeOfTaken k z h r). f q x n its (its_all v) (λ w. w) (ap (λ (w : Pointer). w.object) s ∙ o) (ap (λ (w : Pointer). w.word) s ∙ g)) u.made)
           (λ (s : Among p (all_pointers (sight k))). f q x n p s (λ v. fresh (on_at p.at v)) o g) (back_all p y)
 
+  -- all that is kept of words
   pub lent_one_stays : HasWords (sight k) → LeavesWords k z
   lent_one_stays b = record { words = λ w. words_stay w; holders = holders_stay; dirty = dirty_stays; past = past_stays b }

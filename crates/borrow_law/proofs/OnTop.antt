@@ -30,6 +30,7 @@ use Rattle.borrow_law.proofs.LentOne.{MadeHere, MadeOfTaken, LentOne}
 
 -- TAKINGS OF LISTS
 
+-- what was taken is what that thread has or another one
 takings_in : (code : List Instr) (l r : List Standing) (x : Standing) (v : Taking) → taking_of code x ≡ Some v → (y : Taking) → Among y (takings code (l ++ (x ∷ r))) → (v ≡ y) ⊎ Among y (takings code (l ++ r))
 takings_in code [] r x v is y h = by (subst (λ o. Among y (with_taking o (takings code r))) is h)
   where
@@ -43,6 +44,7 @@ takings_in code (u ∷ l) r x v is y h = by (taking_of code u) h (takings_in cod
     by (Some q) (inl e) go = inr (inl e)
     by (Some q) (inr i) go = ⊎_elim (λ (e : v ≡ y). inl e) (λ (e : Among y (takings code (l ++ r))). inr (inr e)) (go i)
 
+-- what others have is taken with it too
 takings_more : (code : List Instr) (l r : List Standing) (x : Standing) (y : Taking) → Among y (takings code (l ++ r)) → Among y (takings code (l ++ (x ∷ r)))
 takings_more code [] r x y h = by (taking_of code x)
   where
@@ -81,15 +83,19 @@ module _ (k : Cluster) (coherent : IsCoherent k) (s : Server) (here : server_at 
   abbrev z : ThreadState
   z = top.thread
 
+  -- the first cluster has places
   c : HasPlaces a
   c = places k coherent s here t y at h q
 
+  -- and so has the second one
   d : HasPlaces b
   d = places k coherent s here t y at top after
 
+  -- the two differ in that thread alone
   split : Split (things_of a) (things_of b) (thread_things n false x) (thread_things n false z)
   split = put_split k n s.threads (s.events + 1) h top (stands k coherent s here t y at h q) refl refl
 
+  -- the other way round
   back : Split (things_of b) (things_of a) (thread_things n false z) (thread_things n false x)
   back = record { left = split.left; right = split.right; before = split.after; after = split.before }
 
@@ -98,6 +104,7 @@ module _ (k : Cluster) (coherent : IsCoherent k) (s : Server) (here : server_at 
 
   -- WHAT STANDS WHERE
 
+  -- at each other location words see the same
   elsewhere : (l : Location) → (l ≡ at_temp x.number j → ⊥) → seen_at l (value_in (sight b).ground l) ≡ seen_at l (value_in (sight a).ground l)
   elsewhere (at_slot m i) other =
       ⊎_elim (λ (e : value_in (sight b).ground (at_slot m i) ≡ value_in (sight a).ground (at_slot m i)). ap pointing e)
@@ -108,9 +115,11 @@ module _ (k : Cluster) (coherent : IsCoherent k) (s : Server) (here : server_at 
       ap owning (e.2 ∙ end_other x.temps (value.Mut r) i (λ w. other (ap (λ u. at_temp u i) (sym e.0) ∙ ap (at_temp x.number) w)) ∙ sym e.1)) (in_temps a b n x z refl split c d m i)
   elsewhere (in_cell o) other = ap pointing (in_cells a b n x z refl split c d o)
 
+  -- there the reference stands
   now : value_in (sight b).ground (at_temp x.number j) ≡ Some (value.Mut r)
   now = ap (λ o. temp_of o j) (at_b a b n x z refl split c d) ∙ end_is x.temps (value.Mut r)
 
+  -- and nothing stood there
   empty : (v : Value) → value_in (sight a).ground (at_temp x.number j) ≡ Some v → ⊥
   empty v e = let w : None ≡ Some v = sym (ap (λ o. temp_of o j) (at_a a b n x z refl split c d) ∙ end_none x.temps) ∙ e in absurd cc
 
@@ -125,49 +134,60 @@ module _ (k : Cluster) (coherent : IsCoherent k) (s : Server) (here : server_at 
   abbrev sz : Standing
   sz = record { server = n; packed = false; thread = z }
 
+  -- of what threads have taken nothing is this one's afterwards
   takings_b : takings k.code (sight b).ground.threads ≡ takings k.code (threads_in split.left ++ threads_in split.right)
   takings_b = ap (takings k.code) (threads_b a b n x z refl split c d) ∙ takings_skip k.code (threads_in split.left) (threads_in split.right) sz refl
 
+  -- what is taken was
   pub takings_were : (y : Taking) → Among y (takings k.code (sight b).ground.threads) → Among y (takings k.code (sight a).ground.threads)
   takings_were y i =
       subst (λ ts. Among y (takings k.code ts)) (sym (threads_a a b n x z refl split c d))
       (takings_more k.code (threads_in split.left) (threads_in split.right) sx y (subst (λ ts. Among y ts) takings_b i))
 
+  -- what was taken is, but for what this thread had taken
   pub takings_but : (v : Taking) → taking_of k.code sx ≡ Some v → (y : Taking) → Among y (takings k.code (sight a).ground.threads) → (v ≡ y) ⊎ Among y (takings k.code (sight b).ground.threads)
   takings_but v is y i =
       ⊎_elim (λ (e : v ≡ y). inl e) (λ (e : Among y (takings k.code (threads_in split.left ++ threads_in split.right))). inr (subst (λ ts. Among y ts) (sym takings_b) e))
       (takings_in k.code (threads_in split.left) (threads_in split.right) sx v is y (subst (λ ts. Among y (takings k.code ts)) (threads_a a b n x z refl split c d) i))
 
+  -- which it had
   pub taking_there : (v : Taking) → taking_of k.code sx ≡ Some v → Among v (takings k.code (sight a).ground.threads)
   taking_there v is = taking_listed k.code sx v (sight a).ground.threads (among_thread (sight a).ground.threads x.number sx (at_a a b n x z refl split c d)).0 is
 
   -- POINTERS AT NO LOCATION
 
+  -- the temporary values have the reference more
   things : (i : ℕ) × Alike k.code (things_at (temp_things n x.number) 0 (x.temps ++ value.Mut r ∷ [])) (things_at (temp_things n x.number) 0 x.temps ++ temp_things n x.number i (value.Mut r))
   things = end_things (temp_things n x.number) 0 x.temps (value.Mut r)
 
+  -- and so have all things of the thread
   tails : Alike k.code (tail_of n z) (tail_of n x ++ borrows (at_temp x.number things.0) r ∷ [])
   tails =
       let head = gift_things x.number x.gift ++ things_at (walk_things n) 0 x.walk ++ things_at (slot_things n x.number) 0 x.slots in
       chain (beside (itself head) things.1) (joined head (things_at (temp_things n x.number) 0 x.temps) (borrows (at_temp x.number things.0) r ∷ []))
 
+  -- pointers at no location are those that were there
   of_tail : (p : Pointer) → p.at ≡ None → Among p (standing_in (tail_of n z)) → Among p (standing_in (tail_of n x))
   of_tail p e w =
       ⊎_elim (λ (l : Among p (standing_in (tail_of n x))). l) (λ (g : Among p (standing_in (borrows (at_temp x.number things.0) r ∷ []))). absurd (nowhere (at_temp x.number things.0) r p g e))
       (standing_split p (tail_of n x) (borrows (at_temp x.number things.0) r ∷ []) (standing_turn k.code (tail_of n z) (tail_of n x ++ borrows (at_temp x.number things.0) r ∷ []) p tails.on e w))
 
+  -- and the other way round
   to_tail : (p : Pointer) → p.at ≡ None → Among p (standing_in (tail_of n x)) → Among p (standing_in (tail_of n z))
   to_tail p e w =
       standing_turn k.code (tail_of n x ++ borrows (at_temp x.number things.0) r ∷ []) (tail_of n z) p tails.back e (standing_first p (tail_of n x) (borrows (at_temp x.number things.0) r ∷ []) w)
 
+  -- the same among all things
   loose : (p : Pointer) → p.at ≡ None → Among p (pointers_in (things_of b)) → Among p (pointers_in (things_of a))
   loose p e i =
       ⊎_elim (λ (w : Among p (pointers_in (things_of a))). w) (λ (w : Among p (standing_in (tail_of n z))). stands_in p (things_of a) (of_thread a b n x z refl split c d p (of_tail p e w))) (pointer_back a b n x z refl split c d p i)
 
+  -- and the other way round
   remain : (p : Pointer) → p.at ≡ None → Among p (pointers_in (things_of a)) → Among p (pointers_in (things_of b))
   remain p e i =
       ⊎_elim (λ (w : Among p (pointers_in (things_of b))). w) (λ (w : Among p (standing_in (tail_of n x))). stands_in p (things_of b) (of_thread b a n z x refl back d c p (to_tail p e w))) (pointer_back b a n z x refl back d c p i)
 
+  -- the same of those that count beside dirty references
   standing : (p : Pointer) → p.at ≡ None → Among p (standing_in (things_of b)) → Among p (standing_in (things_of a))
   standing p e i = ⊎_elim (λ (w : Among p (standing_in (things_of a))). w) (λ (w : Among p (standing_in (tail_of n z))). of_thread a b n x z refl split c d p (of_tail p e w)) (standing_back a b n x z refl split c d p i)
 

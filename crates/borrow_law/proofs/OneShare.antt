@@ -33,9 +33,11 @@ abbrev pub shared_pointer : SharedRef → Pointer
 shared_pointer r = record { at = None; word = r.word; object = r.object }
 
 module _ (k z : Cluster) (c : HasPlaces k) (d : HasPlaces z) (same : z.code ≡ k.code) (l : Location) (r : SharedRef) (p : Alike k.code (things_of z) (shares l r ∷ things_of k)) where
+  -- threads are there
   thread_on : (s : ℕ) (b : Bool) (t : ThreadState) → Among (stands s b t) (things_of k) → StandsIn k.code (things_of z) t
   thread_on s b t h = p.back (stands s b t) (inr h)
 
+  -- and were
   thread_back : (s : ℕ) (b : Bool) (t : ThreadState) → Among (stands s b t) (things_of z) → StandsIn k.code (things_of k) t
   thread_back s b t h = let x = p.on (stands s b t) h in by x x.among
     where
@@ -43,10 +45,12 @@ module _ (k z : Cluster) (c : HasPlaces k) (d : HasPlaces z) (same : z.code ≡ 
       by x (inl f) = absurd cc
       by x (inr f) = record { server = x.server; packed = x.packed; thread = x.thread; among = f; shows = x.shows }
 
+  -- cells are there
   cell_on : (g : Cell) (y : Thing) → CellOf g y → Among y (things_of k) → CellIn (things_of z) g
   cell_on g _ (lying m a) h = lies_in m a g (p.back (lies m a g) (inr h))
   cell_on g _ (flying v) h = flies_in v g (p.back (flies v g) (inr h))
 
+  -- where one lies it lay
   lies_back : (m a : ℕ) (g : Cell) → Among (lies m a g) (things_of z) → Among (lies m a g) (things_of k)
   lies_back m a g h = by (p.on (lies m a g) h)
     where
@@ -54,6 +58,7 @@ module _ (k z : Cluster) (c : HasPlaces k) (d : HasPlaces z) (same : z.code ≡ 
       by (inl f) = absurd cc
       by (inr f) = f
 
+  -- one under way was
   flies_back : (v : ℕ) (g : Cell) → Among (flies v g) (things_of z) → Among (flies v g) (things_of k)
   flies_back v g h = by (p.on (flies v g) h)
     where
@@ -61,18 +66,22 @@ module _ (k z : Cluster) (c : HasPlaces k) (d : HasPlaces z) (same : z.code ≡ 
       by (inl f) = absurd cc
       by (inr f) = f
 
+  -- so cells were there
   cell_back : (g : Cell) (y : Thing) → CellOf g y → Among y (things_of z) → ⊤ → CellIn (things_of k) g
   cell_back g _ (lying m a) h u = lies_in m a g (lies_back m a g h)
   cell_back g _ (flying v) h u = flies_in v g (flies_back v g h)
 
+  -- wherever they are
   nothing_away : (x : Location) → CellAway (λ n. ⊤) x
   nothing_away (at_slot t i) = tt
   nothing_away (at_temp t i) = tt
   nothing_away (in_cell n) = tt
 
+  -- a pointer at no location is the new one or was there
   loose : (q : Pointer) → q.at ≡ None → Among q (pointers_in (things_of z)) → (shared_pointer r ≡ q) ⊎ Among q (pointers_in (things_of k))
   loose q e h = loose_within k.code (things_of z) (shares l r ∷ things_of k) p.on q e h
 
+  -- so is one that counts beside dirty references
   standing : IsClean k r.object → (q : Pointer) → q.at ≡ None → Among q (standing_in (things_of z)) → IsClean k q.object ⊎ Among q (standing_in (things_of k))
   standing clean q e h = by (standing_turn k.code (things_of z) (shares l r ∷ things_of k) q p.on e h)
     where
@@ -96,6 +105,7 @@ module _ (k z : Cluster) (c : HasPlaces k) (d : HasPlaces z) (same : z.code ≡ 
 
 -- WHAT A POINTER THAT ISN'T STALE TELLS
 
+-- nothing was made from a pointer at no location
 no_held : (l : Location) → is_held_at l None ≡ true → ⊥
 no_held l e = cc e
 

@@ -40,10 +40,12 @@ pub data May (z : Cluster) : Value → Type 0 where
   to_slot : (i : ℕ) → May z (value.SharedSlot i)
   to_object : (r : SharedRef) → Beside z (shared_pointer r) → IsClean z r.object → May z (value.Shared r)
 
+-- from what is no pointer nothing is made
 no_own : (v : Value) → shared_from v ≡ None → (u : Value) → shared_from v ≡ Some u → ⊥
 no_own v f u e = let q : None ≡ Some u = sym f ∙ e in absurd cc
 
 module _ (z : Cluster) (c : HasPlaces z) (words : WordsHold z) (l : Location) (fresh : IsStale (sight z) (Some l) → ⊥) where
+  -- what stands is a pointer
   counts : (p : Pointer) → Among p (standing_in (things_of z)) → Among p (all_pointers (sight z))
   counts p h = among_first p (pointers_in (things_of z)) (taken_pointers (sight z).code (sight z).ground (sight z).ground.threads) (stands_in p (things_of z) h)
 
@@ -62,6 +64,7 @@ module _ (z : Cluster) (c : HasPlaces z) (words : WordsHold z) (l : Location) (f
       to_object r (record { pointer = shared_pointer q; among = counts (shared_pointer q) m; fresh = λ x. x; object = o; word = w })
       (clean_shared z r.object (shared_pointer q) words.dirty_alone (among_first (shared_pointer q) (standing_in (things_of z)) (taken_pointers (sight z).code (sight z).ground (sight z).ground.threads) m) refl o)
 
+  -- from each value
   pub may : (v u : Value) → value_in (sight z).ground l ≡ Some v → ((p : MutRef) → v ≡ value.Mut p → p.dirty ≡ true → ⊥) → shared_from v ≡ Some u → May z u
   may (value.SharedSlot i) u e clean f = let s : value.SharedSlot i ≡ u = cc in subst (λ x. May z x) s (to_slot i)
   may (value.MutSlot i) u e clean f = let s : value.SharedSlot i ≡ u = cc in subst (λ x. May z x) s (to_slot i)
@@ -93,6 +96,7 @@ pub record Topped (code : List Instr) (n : ℕ) (r : SharedRef) (h h2 : Hand) : 
   pub location : Location
   pub alike : HandAlike code n (coming location r) h h2
 
+-- the hand with the reference has one thing more
 pub shared_on_top : (code : List Instr) (n : ℕ) (r : SharedRef) (h : Hand) → Topped code n r h (push_temp (value.Shared r) h)
 shared_on_top code n r h = record {
   location = at_temp x.number q.0;

@@ -63,11 +63,13 @@ index_end : (xs : List (Option Cell)) → slice_index_or xs (length xs) None ≡
 index_end [] = refl
 index_end (x ∷ xs) = index_end xs
 
+-- what is none is in the list
 index_none : (xs : List (Option Cell)) (i : ℕ) → slice_get xs i ≡ Some None → (i < length xs) × (slice_index_or xs i None ≡ None)
 index_none [] i e = absurd cc
 index_none (x ∷ xs) zero e = let is : x ≡ None = cc in (omega arith, is)
 index_none (x ∷ xs) (suc i) e = let q = index_none xs i e in (omega (arith, q.0), q.1)
 
+-- and stays none where another is set
 set_none : (xs : List (Option Cell)) (i j : ℕ) → slice_index_or xs i None ≡ None → slice_index_or (slice_set xs j None) i None ≡ None
 set_none [] i j e = refl
 set_none (x ∷ xs) zero zero e = refl
@@ -75,17 +77,21 @@ set_none (x ∷ xs) zero (suc j) e = e
 set_none (x ∷ xs) (suc i) zero e = e
 set_none (x ∷ xs) (suc i) (suc j) e = set_none xs i j e
 
+-- what a test gives was tested
 issued_so : (b : Bool) (x w : NewWord) → (if b then Some x else None) ≡ Some w → (b ≡ true) × (x ≡ w)
 issued_so true x w e = (refl, cc)
 issued_so false x w e = absurd cc
 
+-- what is some is one
 has_cell : (o : Option Cell) → is_some o ≡ true → (c : Cell) × (o ≡ Some c)
 has_cell None e = absurd (cc e)
 has_cell (Some c) e = (c, refl)
 
+-- one cell at one address
 same_cell_there : (r a s d : ℕ) (c e : Cell) → lies r a c ≡ lies s d e → (r ≡ s) × (a ≡ d) × (c ≡ e)
 same_cell_there r a s d c e f = (cc, cc, cc)
 
+-- what is equal isn't less
 not_less : (a b : ℕ) → (a == b) ≡ true → nat_lt a b ≡ false
 not_less a b e = by (nat_lt a b) refl
   where
@@ -93,6 +99,7 @@ not_less a b e = by (nat_lt a b) refl
     by true q = absurd (grind (arith, nat_tests, e, q))
     by false q = refl
 
+-- a cell weighs at its address
 spot_weighs : (r a : ℕ) (c : Cell) (s d : ℕ) → r ≡ s → a ≡ d → 1 ≤ states (s, d) (lies r a c)
 spot_weighs r a c s d e f = let w : one (r == s && a == d) ≡ 1 = ap₂ (λ p q. one (p && q)) (eq-eqb r s e) (eq-eqb a d f) in omega (arith, w)
 
@@ -100,6 +107,7 @@ module _ (k : Cluster) (coherent : IsCoherent k) (few : FewEvents k) (s : Server
   abbrev n : ℕ
   n = s.rest.number
 
+  -- the cluster is sound
   abbrev sound : IsSound k
   sound = coherent.sound
 
@@ -117,6 +125,7 @@ module _ (k : Cluster) (coherent : IsCoherent k) (few : FewEvents k) (s : Server
 
   module _ (h h2 : Hand) (j : ℕ) (r : MutRef) (nw : NewWord) (walks : Walks k coherent s here t y at h) (g2 : Ok k coherent s here t y at h2) (part : h.work.rest.partition ≡ p) (e : slice_get h.thread.slots j ≡ Some (value.Mut r)) (dirty : r.dirty ≡ true)
       (fresh : IsStale (sight k) (Some (at_slot h.thread.number j)) → ⊥) (under : LiesUnder k (box_of r)) (mine : (server_of r.word == h.work.rest.number) ≡ true) (issues : issue_renewal (box_of r) h.work ≡ Some nw) (puts : put_word (in_slot j) nw h ≡ Some h2) where
+    -- the sums of the hand
     g : Ok k coherent s here t y at h
     g = walks.state.ok
 
@@ -126,15 +135,19 @@ module _ (k : Cluster) (coherent : IsCoherent k) (few : FewEvents k) (s : Server
     abbrev q : PartitionState
     q = h.work.rest.partition
 
+    -- the renewal was tested
     tested : ((leads_here q r.word && (is_last q r.word && can_grow q)) ≡ true) × (record { word = new_word (freed q r.word); work = note (act.Renew r.object r.word (new_word (freed q r.word))) (with_partition (renewed q r.word) h.work) } ≡ nw)
     tested = issued_so (leads_here q r.word && (is_last q r.word && can_grow q)) _ nw issues
 
+    -- the word has the last colour
     last : (colour_of r.word + 1 == q.limit) ≡ true
     last = and_left (is_last q r.word) (can_grow q) (and_right (leads_here q r.word) (is_last q r.word && can_grow q) tested.0)
 
+    -- an address is left
     grows : can_grow q ≡ true
     grows = and_right (is_last q r.word) (can_grow q) (and_right (leads_here q r.word) (is_last q r.word && can_grow q) tested.0)
 
+    -- the word leads here
     leads : leads_here q r.word ≡ true
     leads = and_left (leads_here q r.word) (is_last q r.word && can_grow q) tested.0
 
@@ -145,12 +158,15 @@ module _ (k : Cluster) (coherent : IsCoherent k) (few : FewEvents k) (s : Server
     abbrev c : Cell
     c = found.0
 
+    -- its cell is found
     looked : look q r.word ≡ Some c
     looked = ap (λ b. if b then cell_under q r.word else None) leads ∙ found.1
 
+    -- at this server
     its_server : server_of r.word ≡ n
     its_server = same_number (server_of r.word) h.work.rest.number mine ∙ g.number
 
+    -- it is the object's
     object : c.object ≡ r.object
     object =
         let there : cell_under p r.word ≡ Some c = subst (λ x. cell_under x r.word ≡ Some c) part found.1 in
@@ -175,9 +191,11 @@ module _ (k : Cluster) (coherent : IsCoherent k) (few : FewEvents k) (s : Server
     next_there : ((picked p.free (length p.cells)).0 ≤ length p.cells) × (slice_index_or p.cells (picked p.free (length p.cells)).0 None ≡ None)
     next_there = next_in p.free refl
 
+    -- that is the new address
     address_is : (next_place (freed q r.word)).0 ≡ (picked p.free (length p.cells)).0
     address_is = ap (λ (x : ℕ × ℕ). x.0) same_next
 
+    -- so there is room
     room : NextIsVacant (freed q r.word)
     room = record {
       within =
@@ -193,9 +211,11 @@ module _ (k : Cluster) (coherent : IsCoherent k) (few : FewEvents k) (s : Server
     word_is =
         ap (λ (x : NewWord). x.word) (sym tested.1) ∙ ap (λ (x : ℕ × ℕ). word_of x.1 q.server x.0) same_next ∙ ap (λ (x : PartitionState). word_of (picked p.free (length p.cells)).1 x.server (picked p.free (length p.cells)).0) part
 
+    -- of which is told
     next_word : NextWord k s
     next_word = next_word_is k sound s here few (ap can_grow (sym part) ∙ grows)
 
+    -- that it wasn't issued
     new : issued (sight k) nw.word ≡ false
     new = ap (issued (sight k)) word_is ∙ next_word.fresh
 
@@ -203,24 +223,30 @@ module _ (k : Cluster) (coherent : IsCoherent k) (few : FewEvents k) (s : Server
     abbrev hm : Hand
     hm = record h { work = nw.work }
 
+    -- what the server has then
     rest_is : nw.work.rest ≡ record h.work.rest { partition = renewed q r.word }
     rest_is = ap (λ (x : NewWord). x.work.rest) (sym tested.1)
 
+    -- the sums of that hand
     gm : Ok k coherent s here t y at hm
     gm = given_by (λ (m : NewWord). Ok k coherent s here t y at (record h { work = m.work })) (issue_renewal (box_of r) h.work) nw (hand_renews sums_kept n s.events t (all_standing n (without_thread s.threads t) ++ servers_things (others_of k.servers n)) (box_of r) h g) issues
 
+    -- the hand's cluster has places
     place_h : HasPlaces (Put h)
     place_h = places k coherent s here t y at h g
 
+    -- with the object moved too
     place_m : HasPlaces (Put hm)
     place_m = places k coherent s here t y at hm gm
 
+    -- and with the word put
     place_2 : HasPlaces (Put h2)
     place_2 = places k coherent s here t y at h2 g2
 
     abbrev a2 : ℕ
     a2 = (next_place (freed q r.word)).0
 
+    -- the object lies there
     lies_new : Among (lies n a2 c) (things_of (Put hm))
     lies_new =
         let p2 : PartitionState = renewed q r.word in
@@ -232,9 +258,11 @@ module _ (k : Cluster) (coherent : IsCoherent k) (few : FewEvents k) (s : Server
         let partition : x.rest.partition ≡ made (freed q r.word) c = ap (λ (z : Rest). z.partition) rest_is ∙ made_again_is in
         of_placed (lies n a2 c) n k.servers s x here (of_partition (lies n a2 c) x (subst (λ (z : PartitionState). Among (lies n a2 c) (partition_things x.rest.number z)) (sym partition) (subst (λ i. Among (lies n a2 c) (partition_things i (made (freed q r.word) c))) (sym number) listed)))
 
+    -- the word leads there
     leads_new : LeadsTo n a2 nw.word
     leads_new = subst (λ i. LeadsTo n i nw.word) (sym address_is) (subst (λ v. LeadsTo n (picked p.free (length p.cells)).0 v) (sym word_is) next_word.leads)
 
+    -- so it leads home
     home : LeadsHome (Put hm) (record { word = nw.word; object = r.object })
     home = record {
       server = n;
@@ -248,6 +276,7 @@ module _ (k : Cluster) (coherent : IsCoherent k) (few : FewEvents k) (s : Server
           record { server = leads_new.server ∙ z.0; address = leads_new.address ∙ z.1 });
     }
 
+    -- all of a renewal
     renewal : Renewal k n s.threads (s.events + 1) h (box_of r) nw
     renewal = record {
       stands = stands k coherent s here t y at h g;
@@ -263,15 +292,19 @@ module _ (k : Cluster) (coherent : IsCoherent k) (few : FewEvents k) (s : Server
 
     -- IT STANDS THERE
 
+    -- the reference stands in the hand's cluster
     there : value_in (sight (Put h)).ground l ≡ Some (value.Mut r)
     there = slot_stands k n s.threads (s.events + 1) h j (value.Mut r) (stands k coherent s here t y at h g) place_h e
 
+    -- as it stood at the start
     was : value_in (sight k).ground l ≡ Some (value.Mut r)
     was = walks.state.along.dirty_was l r there dirty
 
+    -- all words were issued
     issued_all : Holds k are_issued
     issued_all = sound.words.are_issued
 
+    -- the word is no first word of the reference
     not_first : (x : MutRef) → value.Mut r ≡ value.Mut x → nw.word ≢ x.first
     not_first x f z =
         let same : r ≡ x = cc in
@@ -279,9 +312,11 @@ module _ (k : Cluster) (coherent : IsCoherent k) (few : FewEvents k) (s : Server
         let no : true ≡ false = sym known ∙ ap (issued (sight k)) (ap (λ (a : MutRef). a.first) same ∙ sym z) ∙ new in
         absurd (cc no)
 
+    -- one pointer gets another word
     reworded : Reworded (Put h) (Put h2) l r.object nw.word
     reworded = renewals_reword.slot k n s.threads (s.events + 1) h h2 (box_of r) nw j (value.Mut r) renewal e refl puts place_2 not_first
 
+    -- which is alone
     rewrites : Rewrites (Put h) (Put h2) l r.object nw.word
     rewrites = record {
       before = place_h;
@@ -292,12 +327,15 @@ module _ (k : Cluster) (coherent : IsCoherent k) (few : FewEvents k) (s : Server
       reworded = reworded;
     }
 
+    -- in that slot
     wrote : SlotPut hm h2 j nw.word (value.Mut r)
     wrote = word_put hm h2 j nw.word (value.Mut r) e puts
 
+    -- the thread has its number
     same_named : h2.thread.number ≡ h.thread.number
     same_named = ap (λ (th : ThreadState). th.number) wrote.thread
 
+    -- there it stands with its word
     slot_now : slice_get h2.thread.slots j ≡ Some (value.Mut (took r nw.word))
     slot_now = ap (λ (th : ThreadState). slice_get th.slots j) wrote.thread ∙ set_same h.thread.slots j (value.Mut r) wrote.new e ∙ sym wrote.worded
 

@@ -67,9 +67,11 @@ use Rattle.borrow_law.proofs.Sources.{no_value}
 use Rattle.borrow_law.proofs.Renews.{renewed_so}
 use Rattle.borrow_law.proofs.Pushed.{May, to_slot, to_object, may, coming, shared_on_top, hands_alike}
 
+-- what owns is no reference
 own_no_mut : (o : Owned) (p : MutRef) → value.Own o ≡ value.Mut p → ⊥
 own_no_mut o p e = absurd cc
 
+-- from what is no pointer nothing is made
 none_shared : (v u : Value) → shared_from v ≡ None → shared_from v ≡ Some u → ⊥
 none_shared v u e f = let z : None ≡ Some u = sym e ∙ f in absurd cc
 
@@ -120,9 +122,11 @@ module _ (k : Cluster) (coherent : IsCoherent k) (few : FewEvents k) (s : Server
   abbrev AtSpot : Hand → Spot → Type 0
   AtSpot = sources.AtSpot k coherent s here t y at on i code w m reads deep
 
+  -- nothing is taken
   none : TakesNoneHere k.code y
   none = sources.none k coherent s here t y at on i code w m reads deep free
 
+  -- the hand's cluster has places
   placed : (h : Hand) → IsOk h → HasPlaces (Put h)
   placed h q = places k coherent s here t y at h q
 
@@ -138,22 +142,27 @@ module _ (k : Cluster) (coherent : IsCoherent k) (few : FewEvents k) (s : Server
   Fine (requested h) = S h
   Fine nothing = ⊤
 
+  -- one way or the other
   fine_if : (c : Bool) (p q : Prepared) → Fine p → Fine q → Fine (if c then p else q)
   fine_if true p q f h = f
   fine_if false p q f h = h
 
+  -- of a hand in which the words hold
   lends_by : (h : Hand) (sp : Spot) → W h → ((v u : Value) → value_at h sp ≡ Some v → shared_from v ≡ Some u → May (Put h) u) → Lends h sp
   lends_by h sp c f = record { ok = c.state.ok; words = c.state.along.words; untaken = c.untaken none; may = f }
 
+  -- the pointer isn't stale at the start
   fresh_there : (l : Location) → locate g y.number w.slot m ≡ Some l → IsStale (sight k) (Some l) → ⊥
   fresh_there l there = sources.fresh_there k coherent s here t y at on i code w m reads deep free l there
 
   -- IN A SLOT
 
   module _ (j : ℕ) (located : locate g y.number w.slot m ≡ Some (at_slot y.number j)) where
+    -- the slot is where the place leads
     at_hand : (h : Hand) → IsOk h → locate g y.number w.slot m ≡ Some (at_slot h.thread.number j)
     at_hand h q = sources.at_hand k coherent s here t y at on i code w m reads deep j located h q
 
+    -- its value stands there
     it_stands : (h : Hand) (q : IsOk h) (v : Value) → slice_get h.thread.slots j ≡ Some v → value_in (sight (Put h)).ground (at_slot h.thread.number j) ≡ Some v
     it_stands h q v e = sources.it_stands k coherent s here t y at on i code w m reads deep j located h q v e
 
@@ -171,18 +180,23 @@ module _ (k : Cluster) (coherent : IsCoherent k) (few : FewEvents k) (s : Server
       abbrev l : Location
       l = at_slot h.thread.number j
 
+      -- the sums of the hand
       q : IsOk h
       q = c.state.ok
 
+      -- the reference isn't stale
       fresh : IsStale (sight k) (Some l) → ⊥
       fresh = fresh_there l (at_hand h q)
 
+      -- its object lies, where it is dirty
       under : r.dirty ≡ true → LiesUnder k (box_of r)
       under dirty = sources.under_there k coherent s here t y at on i code w m reads deep free l (value.Mut r) (box_of r) (at_hand h q) (c.state.along.dirty_was l r (it_stands h q (value.Mut r) e) dirty) refl
 
+      -- one that isn't dirty
       not_dirty : r.dirty ≡ false → (p : MutRef) → value.Mut r ≡ value.Mut p → p.dirty ≡ true → ⊥
       not_dirty f p a d = let z : r ≡ p = cc in let no : false ≡ true = sym f ∙ ap (λ (u : MutRef). u.dirty) z ∙ d in absurd cc
 
+      -- one that got a word isn't dirty
       is_clean : (v : ℕ) (p : MutRef) → value.Mut (took r v) ≡ value.Mut p → p.dirty ≡ true → ⊥
       is_clean v p a d = let z : took r v ≡ p = cc in let no : false ≡ true = ap (λ (u : MutRef). u.dirty) z ∙ d in absurd cc
 
@@ -213,26 +227,32 @@ module _ (k : Cluster) (coherent : IsCoherent k) (few : FewEvents k) (s : Server
                 may (Put h2) (placed h2 q2) it.words l it.fresh (value.Mut (took r nw.word)) u it.now (is_clean nw.word) (ap shared_from same ∙ made));
           }
 
+      -- where an address is there
       renewals : r.dirty ≡ true → (server_of r.word == h.work.rest.number) ≡ true → (o : Option NewWord) → issue_renewal (box_of r) h.work ≡ o → Fine (ready_at (in_slot j) (then_some o (λ nw. put_word (in_slot j) nw h)))
       renewals dirty mine None f = tt
       renewals dirty mine (Some nw) f = renews dirty mine nw f (put_word (in_slot j) nw h) refl
 
+      -- at the last colour
       last : r.dirty ≡ true → (c2 : Bool) → (server_of r.word == h.work.rest.number) ≡ c2
           → Fine (if c2 then ready_at (in_slot j) (then_some (issue_renewal (box_of r) h.work) (λ nw. put_word (in_slot j) nw h)) else requested (ask_object (box_of r) h))
       last dirty true f = renewals dirty f (issue_renewal (box_of r) h.work) refl
       last dirty false f = asks_object k coherent s here t y at on i code w m reads (box_of r) h none c
 
+      -- by its colour
       by_colour : r.dirty ≡ true → (c2 : Bool) → Fine (cleaned_by (if c2 then cleaned.Tinted (next_word r.word) else cleaned.MustRenew) (in_slot j) r h)
       by_colour dirty true = tinted dirty (put_word (in_slot j) (issue_tint (box_of r) h.work) h) refl
       by_colour dirty false = last dirty (server_of r.word == h.work.rest.number) refl
 
+      -- by its mark
       by_mark : (d : Bool) → r.dirty ≡ d → Fine (cleaned_by (if d then (if nat_lt (colour_of r.word + 1) h.work.rest.partition.limit then cleaned.Tinted (next_word r.word) else cleaned.MustRenew) else cleaned.Same) (in_slot j) r h)
       by_mark true f = by_colour f (nat_lt (colour_of r.word + 1) h.work.rest.partition.limit)
       by_mark false f = plain h (value.Mut r) c e (not_dirty f)
 
+      -- the reference is cleaned
       cleans : Fine (clean_value (in_slot j) (Some (value.Mut r)) h)
       cleans = fine_if (nat_lt (colour_of r.word) h.work.rest.partition.limit) (cleaned_by (cleaned_answer h.work.rest.partition.limit r) (in_slot j) r h) nothing (by_mark r.dirty refl) tt
 
+    -- whatever stands in the slot
     slot_lends : (h : Hand) (o : Option Value) → W h → h.work.rest.partition ≡ s.rest.partition → slice_get h.thread.slots j ≡ o → Fine (clean_value (in_slot j) o h)
     slot_lends h None c part e = lends_by h (in_slot j) c (λ v u f made. absurd (no_value v (sym e ∙ f)))
     slot_lends h (Some (value.Mut r)) c part e = cleans h r c e part
@@ -245,6 +265,7 @@ module _ (k : Cluster) (coherent : IsCoherent k) (few : FewEvents k) (s : Server
 
   -- IN MEMORY
 
+  -- from what is no pointer nothing is made
   none_may : (o : Owned) (u : Value) → pointer_of (value.Own o) ≡ None → shared_from (value.Own o) ≡ Some u → ⊥
   none_may (owned.Box p) u f made = absurd cc
   none_may owned.Nothing u f made = none_shared (value.Own owned.Nothing) u refl made
@@ -264,6 +285,7 @@ module _ (k : Cluster) (coherent : IsCoherent k) (few : FewEvents k) (s : Server
       ⊎_elim (λ (q : Source h (value.Own d.value)). may (Put h) (placed h c.state.ok) c.state.along.words q.location (sources.fresh_source k coherent s here t y at on i code w m reads deep free h (value.Own d.value) c q) (value.Own d.value) u q.stands (λ r b x. own_no_mut d.value r b) made_of)
       (λ (q : IsNone (value.Own d.value)). absurd (none_may d.value u q.2 made_of)) (sources.sourced k coherent s here t y at on i code w m reads deep h sp c p a (value.Own d.value) e))
 
+  -- the pointer is ready
   lent : (h : Hand) (sp : Spot) → W h → Spotted g y.number w.slot m sp → ((v : Value) → value_at h sp ≡ Some v → AtSpot h sp) → Fine (clean_value sp (value_at h sp) (load_at sp h))
   lent h _ c (a_slot j located) a = by (slice_get h.thread.slots j) refl
     where
@@ -276,6 +298,7 @@ module _ (k : Cluster) (coherent : IsCoherent k) (few : FewEvents k) (s : Server
   lent h _ c (a_cell v through) a = memory_lends h (in_cell v through) c (a_cell v through) a (cell_at h (in_cell v through)) refl refl
   lent h _ c (a_copy v) a = memory_lends h (in_copy v) c (a_copy v) a (cell_at h (in_copy v)) refl refl
 
+  -- so is the place
   all_lent : (p : Prepared) → Followed p → Came p → Fine (and_then (λ h2 sp. clean_value sp (value_at h2 sp) (load_at sp h2)) p)
   all_lent (ready h sp) f a = lent h sp f.0 f.1 a
   all_lent (requested h) f a = f none
@@ -291,6 +314,7 @@ module _ (k : Cluster) (coherent : IsCoherent k) (few : FewEvents k) (s : Server
   abbrev Ends : Hand → Stepped → Type 0
   Ends h d = Over h d.hand
 
+  -- the new reference is on top
   pushed : (h : Hand) → TakesNoneHere k.code h.thread → (u : Value) → May (Put h) u → Gives (Ends h) (committed (goes_on (Some (push_temp u h))))
   pushed h unheld _ (to_slot j) =
       weaker (λ (d : Stepped). HandAlike k.code n [] h d.hand) (Ends h) (committed (goes_on (Some (push_temp (value.SharedSlot j) h)))) (goes_over k.code n h (Some (push_temp (value.SharedSlot j) h)) (pushes k.code n h (value.SharedSlot j) (shared_slot_unseen j) unheld)) (λ d a. unseen a)
@@ -305,6 +329,7 @@ module _ (k : Cluster) (coherent : IsCoherent k) (few : FewEvents k) (s : Server
         rest = chain p.alike.rest a.rest;
       }))
 
+  -- where one is made
   borrowed : (h : Hand) (sp : Spot) → Lends h sp → Gives (Ends h) (committed (goes_on (borrow_from w (suc m) sp h)))
   borrowed h sp q = by (value_at h sp) refl
     where
@@ -319,12 +344,14 @@ module _ (k : Cluster) (coherent : IsCoherent k) (few : FewEvents k) (s : Server
   abbrev Left : Stepped → Type 0
   Left d = WordsHold (Put d.hand) × HasPlaces (Put d.hand)
 
+  -- so the words hold
   words_on : (h h2 : Hand) → IsOk h → IsOk h2 → Over h h2 → WordsHold (Put h) → WordsHold (Put h2)
   words_on h h2 q q2 (unseen a) words =
       holds_on (untouched_stays (Put h) (Put h2) (placed h q) (placed h2 q2) (seen_alike (Put h) (Put h2) (placed h q) (placed h2 q2) refl (turned (hands_alike k coherent s here t y at [] h h2 q q2 a)))) words
   words_on h h2 q q2 (one_more l r beside clean a) words =
       holds_on (one_more_stays (Put h) (Put h2) (shared_pointer r) (placed h q) (placed h2 q2) (share_more (Put h) (Put h2) (placed h q) (placed h2 q2) refl l (record r { pinned = false }) (hands_alike k coherent s here t y at (coming l r) h h2 q q2 a) beside clean)) words
 
+  -- with its thread put back
   left : (h : Hand) (sp : Spot) → Lends h sp → Gives Left (committed (commit 0 i sp h))
   left h sp q =
       both_give (SteppedOk sums_kept n s.events t b) (Ends h) Left (committed (goes_on (borrow w sp h)))
@@ -332,14 +359,17 @@ module _ (k : Cluster) (coherent : IsCoherent k) (few : FewEvents k) (s : Server
       (subst (λ d. Gives (Ends h) (committed (goes_on (borrow_from w d sp h)))) (sym deep) (borrowed h sp q))
       (λ d ok over. (words_on h d.hand q.ok ok over q.words, placed d.hand ok))
 
+  -- the step of what is ready or asked for
   prepared_share : (servers : ℕ) (p : Prepared) → Fine p → Gives Left (prepared servers i p)
   prepared_share servers (ready h sp) q = left h sp q
   prepared_share servers (requested h) q = (q.along.words, placed h q.ok)
   prepared_share servers nothing q = tt
 
+  -- the step
   stepped_share : (servers : ℕ) → Gives Left (step servers i h0)
   stepped_share servers = subst (λ d. Gives Left (prepared servers i (read_pointer w d h0))) (sym deep) (prepared_share servers (read_pointer w (suc m) h0) (all_lent (read_stars m h0 (in_slot w.slot)) (sources.followed k coherent s here t y at on i code w m reads deep) (sources.came k coherent s here t y at on i code w m reads deep)))
 
+  -- at its server
   pub server_shares : Gives (Kept k s) (does k.code k.options s (Step t))
   server_shares =
       subst (λ o. Gives (Kept k s) (option_map (stepped s) (then_some (option_map (λ v. record { work = begin_work s.rest; thread = v }) o) (step_in k.code k.options.servers)))) (sym at)
@@ -350,6 +380,7 @@ module _ (k : Cluster) (coherent : IsCoherent k) (few : FewEvents k) (s : Server
 abbrev Holds : Cluster × EntryView → Type 0
 Holds d = WordsHold d.0
 
+-- in its cluster
 pub shared_borrows_keep : SharedBorrowsKeep
 shared_borrows_keep k number t s y w coherent few here at code = by w.depth refl
   where

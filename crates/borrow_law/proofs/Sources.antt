@@ -42,6 +42,7 @@ use Rattle.prepare_law.proofs.Hands.{Ok, Walks, put, places, stands, first_hand,
 use Rattle.prepare_law.proofs.Stars.{ReadsOk, Spotted, a_slot, a_cell, a_copy, stars_ok}
 use Rattle.borrow_law.proofs.Lasts.{fresh_last, under_last}
 
+-- what owns has no pins
 own_unpinned : (u : Value) (o : Owned) → unpinned u ≡ value.Own o → u ≡ value.Own o
 own_unpinned (value.Own p) o e = e
 own_unpinned value.Gone o e = absurd cc
@@ -51,6 +52,7 @@ own_unpinned (value.Shared r) o e = absurd cc
 own_unpinned (value.Mut r) o e = absurd cc
 own_unpinned (value.Held m) o e = absurd cc
 
+-- nothing is no value
 pub no_value : {A : Type 0} (a : A) → None ≡ Some a → ⊥
 no_value a e = absurd cc
 
@@ -80,24 +82,31 @@ module _ (k : Cluster) (coherent : IsCoherent k) (s : Server) (here : server_at 
   abbrev e0 : Event
   e0 = record { server = n; what = Step t }
 
+  -- the hand's cluster has places
   pub placed : (h : Hand) → IsOk h → HasPlaces (Put h)
   placed h q = places k coherent s here t y at h q
 
+  -- the thread may step
   calm : can_step y.phase ≡ true
   calm = subst (λ o. has_phase can_step o ≡ true) at on
 
+  -- and waits for no cell
   pub awake : (u : ℕ) → y.phase ≡ phase.WaitCell u → ⊥
   awake u = calm_waits y.phase u calm
 
+  -- it has its number
   named : y.number ≡ t
   named = thread_number s.threads t y at
 
+  -- it goes on
   pub going : GoesOn k x
   going = record { among = (among_thread g.threads t x (thread_there k coherent.sound n s here t y at)).0; going = calm_goes y.phase calm }
 
+  -- it stands at that instruction
   pub stepping : AtStep k e0 i s t y
   stepping = record { here = here; at = at; number = named; on = calm; code = code; what = refl }
 
+  -- what it finds on the way
   pub found : Finds g y s.rest w m
   found = finds k coherent e0 i s t y stepping w m reads
 
@@ -114,17 +123,21 @@ module _ (k : Cluster) (coherent : IsCoherent k) (s : Server) (here : server_at 
   abbrev pub AllStars : Prepared
   AllStars = read_stars m h0 (in_slot w.slot)
 
+  -- the spot shows what stands where the place leads
   pub came : Came AllStars
   came = walk g y s.rest w m found m (omega arith)
 
+  -- and the words hold there
   pub followed : Followed AllStars
   followed = stars_ok k coherent s here t y at on i code w m reads m 0 h0 (in_slot w.slot) (omega arith) (record { state = first_hand k coherent s here t y at; untaken = λ e. e; gift = refl }) (a_slot w.slot refl)
 
   -- what stands in the slot to which they lead
   module _ (j : ℕ) (located : locate g y.number w.slot m ≡ Some (at_slot y.number j)) where
+    -- the slot is where the place leads
     pub at_hand : (h : Hand) → IsOk h → locate g y.number w.slot m ≡ Some (at_slot h.thread.number j)
     at_hand h q = located ∙ ap (λ u. Some (at_slot u j)) (named ∙ sym q.thread)
 
+    -- its value stands there
     pub it_stands : (h : Hand) (q : IsOk h) (v : Value) → slice_get h.thread.slots j ≡ Some v → value_in (sight (Put h)).ground (at_slot h.thread.number j) ≡ Some v
     it_stands h q v e = slot_stands k n s.threads (s.events + 1) h j v (stands k coherent s here t y at h q) (placed h q) e
 
@@ -139,6 +152,7 @@ module _ (k : Cluster) (coherent : IsCoherent k) (s : Server) (here : server_at 
   abbrev pub IsNone : Value → Type 0
   IsNone v = (o : Owned) × (v ≡ value.Own o) × (pointer_of v ≡ None)
 
+  -- a box in a cell or slot of the cluster stands in the middle of the event too
   in_memory : (h : Hand) → W h → (l : Location) → locate g y.number w.slot m ≡ Some l → (o : Owned) → value_in g l ≡ Some (value.Own o) → Source h (value.Own o) ⊎ IsNone (value.Own o)
   in_memory h c l there (owned.Box p) e = inl (record { location = l; located = there; stands = c.state.along.boxes l p e })
   in_memory h c l there owned.Nothing e = inr (owned.Nothing, refl, refl)
@@ -147,6 +161,7 @@ module _ (k : Cluster) (coherent : IsCoherent k) (s : Server) (here : server_at 
   in_memory h c l there (owned.Mutex z) e = inr (owned.Mutex z, refl, refl)
   in_memory h c l there (owned.Task z) e = inr (owned.Task z, refl, refl)
 
+  -- so it is where the spot shows a cell
   in_cells : (h : Hand) (sp : Spot) (v : Value) → W h → ((u : Value) → value_at h sp ≡ Some u → AtSpot h sp) → value_at h sp ≡ Some v → (o : Option Cell) → value_at h sp ≡ cell_value o → Source h v ⊎ IsNone v
   in_cells h sp v c a e None f = absurd (no_value v (sym f ∙ e))
   in_cells h sp v c a e (Some d) f =
@@ -166,17 +181,22 @@ module _ (k : Cluster) (coherent : IsCoherent k) (s : Server) (here : server_at 
   -- WHERE NOTHING WAS TAKEN
 
   module _ (free : (v : ℕ) → y.phase ≡ phase.Taken v → ⊥) where
+    -- nothing is taken
     pub none : TakesNoneHere k.code y
     none = untaken_here y.number y.phase (slice_get k.code y.pc) free
 
+    -- nor was it from that location
     none_taken : (l : Location) → HasTaken k (coherent_has_paths k coherent) x l → ⊥
     none_taken l q = free q.word q.taken
 
+    -- so the pointer isn't stale at the start
     pub fresh_there : (l : Location) → locate g y.number w.slot m ≡ Some l → IsStale (sight k) (Some l) → ⊥
     fresh_there l there = fresh_last k coherent x going i w m reads deep code none_taken l there
 
+    -- nor in the middle of the event
     pub fresh_source : (h : Hand) (v : Value) → W h → (q : Source h v) → IsStale (sight (Put h)) (Some q.location) → ⊥
     fresh_source h v c q a = fresh_there q.location q.located (c.state.along.fresher q.location a)
 
+    -- and its object lies
     pub under_there : (l : Location) (v : Value) (b : BoxPtr) → locate g y.number w.slot m ≡ Some l → value_in g l ≡ Some v → pointer_of v ≡ Some b → LiesUnder k b
     under_there l v b there stood points = under_last k coherent x going i w m reads deep code none_taken awake l v b there stood points

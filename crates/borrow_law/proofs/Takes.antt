@@ -76,10 +76,12 @@ use Rattle.borrow_law.proofs.LentOne.{LentOne, lent_one_stays}
 use Rattle.borrow_law.proofs.OnTop.{takings_were, takings_but, taking_there, lent_on_top}
 use Rattle.borrow_law.proofs.Lends.{none_lent, points_somewhere, own_no_mut, its_first, untaken_borrows_keep}
 
+-- what counts nothing isn't so
 counted_none : (b : Bool) → one b ≡ 0 → b ≡ false
 counted_none true e = absurd cc
 counted_none false e = refl
 
+-- what breaks nothing is so
 counted_all : (b : Bool) → other b ≡ 0 → b ≡ true
 counted_all true e = refl
 counted_all false e = absurd cc
@@ -88,6 +90,7 @@ counted_all false e = absurd cc
 other_word : (a v : ℕ) → (a == v) ≡ false → v ≡ a → ⊥
 other_word a v e s = let t : true ≡ false = sym (eq-eqb a v (sym s)) ∙ e in absurd cc
 
+-- what is taken is in a cell
 lies_in_cell : (k : Cluster) (r v : ℕ) (l : Option Location) (t i : ℕ) → lies_here (sight k) r v l ≡ true → l ≡ Some (at_slot t i) → ⊥
 lies_in_cell k r v l t i e f = let no : false ≡ true = sym (ap (lies_here (sight k) r v) f) ∙ e in absurd cc
 
@@ -144,6 +147,7 @@ module _ (k : Cluster) (coherent : IsCoherent k) (few : FewEvents k) (s : Server
   abbrev IsNone : Value → Type 0
   IsNone = sources.IsNone k coherent s here t y at on i code w m reads deep
 
+  -- the hand's cluster has places
   placed : (h : Hand) → IsOk h → HasPlaces (Put h)
   placed h q = places k coherent s here t y at h q
 
@@ -184,6 +188,7 @@ module _ (k : Cluster) (coherent : IsCoherent k) (few : FewEvents k) (s : Server
   Fine (requested h) = ⊥
   Fine nothing = ⊤
 
+  -- the last pointer is ready
   lent : (h : Hand) (sp : Spot) → h.thread.phase ≡ phase.Taken v → W h → Spotted g y.number w.slot m sp → ((u : Value) → value_at h sp ≡ Some u → AtSpot h sp) → Fine (lend_value sp (value_at h sp) (load_at sp h))
   lent h sp still c p a = by (value_at h sp)
     where
@@ -211,6 +216,7 @@ module _ (k : Cluster) (coherent : IsCoherent k) (few : FewEvents k) (s : Server
       by None = tt
       by (Some u) = by_hop u (write_hop h.work.rest.number u)
 
+  -- so is the place
   all_lent : (p : Prepared) → Followed p → Came p → Unasked p → Shown h0 p → Fine (and_then (λ h2 sp. lend_value sp (value_at h2 sp) (load_at sp h2)) p)
   all_lent (ready h sp) f a u q = lent h sp (ap (λ (z : ThreadState). z.phase) q.0.thread ∙ has) f.0 f.1 a
   all_lent (requested h) f a u q = u
@@ -229,15 +235,19 @@ module _ (k : Cluster) (coherent : IsCoherent k) (few : FewEvents k) (s : Server
   Ends d = Ended d.hand
 
   module _ (h : Hand) (sp : Spot) (q : Lends h sp) (shown : Readied h0 h) where
+    -- the sums of the hand
     ok : IsOk h
     ok = q.walks.state.ok
 
+    -- the thread has taken the object still
     taken_now : h.thread.phase ≡ phase.Taken v
     taken_now = ap (λ (z : ThreadState). z.phase) shown.thread ∙ has
 
+    -- at that instruction
     code_now : slice_get k.code h.thread.pc ≡ Some (instr.BorrowMut w)
     code_now = ap (λ (z : ThreadState). slice_get k.code z.pc) shown.thread ∙ code
 
+    -- where the place leads it led
     located_now : (l : Location) → locate g y.number w.slot m ≡ Some l → locate (sight (Put h)).ground h.thread.number w.slot m ≡ Some l
     located_now l e =
         ap (λ u. locate (sight (Put h)).ground u w.slot m) (ap (λ (z : ThreadState). z.number) shown.thread)
@@ -247,6 +257,7 @@ module _ (k : Cluster) (coherent : IsCoherent k) (few : FewEvents k) (s : Server
     box_word : (p : BoxPtr) (src : Source h (value.Own (owned.Box p))) → v ≢ p.word
     box_word p src = other_word p.word v (sym (ap (λ o. has_word v (value_behind g o)) src.located ∙ ap (has_word v) (q.walks.state.along.boxes_were src.location p src.stands)) ∙ new_word)
 
+    -- also where that is a reference
     mut_word : (r : MutRef) (src : Source h (value.Mut r)) → v ≢ r.word
     mut_word r src e =
         let z = q.walks.state.along.word_was src.location r src.stands in
@@ -256,6 +267,7 @@ module _ (k : Cluster) (coherent : IsCoherent k) (few : FewEvents k) (s : Server
     abbrev taking : Taking
     taking = record { thread = h.thread.number; place = w; word = v }
 
+    -- that is what it has taken
     taking_is : taking_of k.code (record { server = n; packed = false; thread = h.thread }) ≡ Some taking
     taking_is = ap₂ (λ p j. taking_by h.thread.number p j) taken_now code_now
 
@@ -287,6 +299,7 @@ module _ (k : Cluster) (coherent : IsCoherent k) (few : FewEvents k) (s : Server
           alike = a;
         })
 
+    -- the same as it is made
     referred_so : (r : MutRef) → r.holder ≡ holder → (u z : Value) → Some (value.Mut (lent_word h.thread.phase r)) ≡ Some z → (src : Source h u) → Among (record { at = Some src.location; word = r.first; object = r.object }) (pointer_at src.location u) → is_first r (Some u) ≡ true → v ≢ r.first
         → leads h.thread.number (Some u) ≡ Some (in_cell r.object) → IsOk (go_on (push_temp z h)) → Gives Ends (committed (goes_on (Some (push_temp z h))))
     referred_so r held u z made src pointer first new leading =
@@ -303,6 +316,7 @@ module _ (k : Cluster) (coherent : IsCoherent k) (few : FewEvents k) (s : Server
         lies_in_cell k n v (locate g y.number w.slot (suc m)) y.number j in_a_cell
         (sym (seen_places_lead (sight k).ground (sight (Put h)).ground q.walks.state.along.slots_lead q.walks.state.along.cells_lead y.number w.slot (suc m)) ∙ to_slot)
 
+    -- from each value
     pushed : (u z : Value) → Source h u ⊎ IsNone u → mutable_from h.thread.phase holder u ≡ Some z → IsOk (go_on (push_temp z h)) → Gives Ends (committed (goes_on (Some (push_temp z h))))
     pushed (value.MutSlot j) z (inl src) made after = absurd (no_slot j src)
     pushed (value.MutSlot j) z (inr src) made after = absurd (slot_no_own j src.0 src.1)
@@ -325,22 +339,27 @@ module _ (k : Cluster) (coherent : IsCoherent k) (few : FewEvents k) (s : Server
     pushed (value.Own (owned.Mutex c)) z src made after = absurd (none_lent (value.Own (owned.Mutex c)) z h.thread.phase holder refl made)
     pushed (value.Own (owned.Task c)) z src made after = absurd (none_lent (value.Own (owned.Task c)) z h.thread.phase holder refl made)
 
+    -- where one is made
     made_from : (u : Value) → value_at h sp ≡ Some u → (o : Option Value) → mutable_from h.thread.phase holder u ≡ o → CommittedOk IsOk (goes_on (option_map (λ z. push_temp z h) o)) → Gives Ends (committed (goes_on (option_map (λ z. push_temp z h) o)))
     made_from u e None f after = tt
     made_from u e (Some z) f after = pushed u z (q.source u e) f after
 
+    -- where one stands
     by_value : (o : Option Value) → value_at h sp ≡ o → CommittedOk IsOk (goes_on (then_some o (λ u. option_map (λ z. push_temp z h) (mutable_from h.thread.phase holder u))))
         → Gives Ends (committed (goes_on (then_some o (λ u. option_map (λ z. push_temp z h) (mutable_from h.thread.phase holder u)))))
     by_value None e after = tt
     by_value (Some u) e after = made_from u e (mutable_from h.thread.phase holder u) refl after
 
+    -- the sums afterwards
     all_ok : CommittedOk IsOk (goes_on (borrow_mut w sp h))
     all_ok = commits sums_kept n s.events t b 0 i sp h tt (λ z. absurd z) ok
 
+    -- the borrow ends so
     ended : Gives Ends (committed (goes_on (borrow_mut w sp h)))
     ended =
         subst (λ d. CommittedOk IsOk (goes_on (borrow_mut_from w d sp h)) → Gives Ends (committed (goes_on (borrow_mut_from w d sp h)))) (sym deep) (by_value (value_at h sp) refl) all_ok
 
+    -- with its thread put back
     left : Gives (λ (d : Stepped). WordsHold (Put d.hand) × HasPlaces (Put d.hand)) (committed (commit 0 i sp h))
     left =
         both_give (SteppedOk sums_kept n s.events t b) Ends (λ (d : Stepped). WordsHold (Put d.hand) × HasPlaces (Put d.hand)) (committed (goes_on (borrow_mut w sp h)))
@@ -355,11 +374,13 @@ module _ (k : Cluster) (coherent : IsCoherent k) (few : FewEvents k) (s : Server
   abbrev Left : Stepped → Type 0
   Left d = WordsHold (Put d.hand) × HasPlaces (Put d.hand)
 
+  -- the step of what is ready
   prepared_lend : (servers : ℕ) (p : Prepared) → Fine p → Shown h0 p → Gives Left (prepared servers i p)
   prepared_lend servers (ready h sp) q shown = left h sp q shown.0
   prepared_lend servers (requested h) q shown = absurd q
   prepared_lend servers nothing q shown = tt
 
+  -- the step
   stepped_lend : (servers : ℕ) → Gives Left (step servers i h0)
   stepped_lend servers =
       subst (λ d. Shown h0 (lend_pointer w d h0) → Gives Left (prepared servers i (lend_pointer w d h0))) (sym deep)
@@ -368,6 +389,7 @@ module _ (k : Cluster) (coherent : IsCoherent k) (few : FewEvents k) (s : Server
       (shows k coherent e0 i s t y (sources.stepping k coherent s here t y at on i code w m reads deep) (Some (ReadTo holder)))))
       (shows k coherent e0 i s t y (sources.stepping k coherent s here t y at on i code w m reads deep) (Some (LendTo w)))
 
+  -- at its server
   pub server_takes : Gives (Kept k s) (does k.code k.options s (Step t))
   server_takes =
       subst (λ o. Gives (Kept k s) (option_map (stepped s) (then_some (option_map (λ z. record { work = begin_work s.rest; thread = z }) o) (step_in k.code k.options.servers)))) (sym at)
@@ -378,6 +400,7 @@ module _ (k : Cluster) (coherent : IsCoherent k) (few : FewEvents k) (s : Server
 abbrev Holds : Cluster × EntryView → Type 0
 Holds d = WordsHold d.0
 
+-- in its cluster
 taken_borrows_keep : (k : Cluster) (number t : ℕ) (s : Server) (y : ThreadState) (w : Lval) (v : ℕ) → IsCoherent k → FewEvents k → server_at k.servers number ≡ Some s → thread_in s.threads t ≡ Some y → slice_get k.code y.pc ≡ Some (instr.BorrowMut w) → y.phase ≡ phase.Taken v
     → Gives Holds (apply k (record { server = number; what = Step t }))
 taken_borrows_keep k number t s y w v coherent few here at code has = by w.depth refl
@@ -397,6 +420,7 @@ taken_borrows_keep k number t s y w v coherent few here at code has = by w.depth
         subst (λ c. server_at k.servers c ≡ Some s → Gives Holds (apply k (record { server = c; what = Step t }))) (found_number number k.servers s here)
         (λ h. kept_where k s t coherent few h (λ on. server_takes k coherent few s h t y at on w m deep code v has)) here
 
+-- in each phase
 pub mutable_borrows_keep : MutableBorrowsKeep
 mutable_borrows_keep k number t s y w coherent few here at code = by y.phase refl
   where
