@@ -3,4 +3,4 @@
 
 mod laws;
 
-pub use laws::arrivals_reword;
+pub use laws::{arrivals_are_awaited, arrivals_reword};

@@ -7,6 +7,7 @@ use Rattle.fr_base.specs.declared.instruction.Instr.{Instr}
 use Rattle.fr_base.specs.declared.instruction.Instr.TheVariants as instr
 use Rattle.journal.specs.View.{EntryView}
 use Rattle.thread_state.specs.View.{ThreadState}
+use Rattle.server_model.specs.declared.event.What.{What}
 use Rattle.server_model.specs.declared.event.What.TheVariants.{Step}
 use Rattle.server_model.specs.Servers.{Server, Cluster, server_at}
 use Rattle.server_model.specs.Work.{Hand, thread_in, then_some}
@@ -127,14 +128,18 @@ handed k s Q here (Some r) a g = λ q.
     }
 
 -- so the words hold once messages are handed over
+pub kept_at : (k : Cluster) (s : Server) (a : What) (Q : EntryView → Type 0) → IsCoherent k → FewEvents k → server_at k.servers s.rest.number ≡ Some s → (enabled k.options s a ≡ true → Gives (There Q k s) (does k.code k.options s a))
+    → Gives (λ (d : Cluster × EntryView). Q d.1 → WordsHold d.0) (apply k (record { server = s.rest.number; what = a }))
+kept_at k s a Q coherent few h go =
+    both_give (λ (d : Cluster × EntryView). Q d.1 → Before d.0) (λ (d : Cluster × EntryView). HasPlaces d.0) (λ (d : Cluster × EntryView). Q d.1 → WordsHold d.0) (apply k (record { server = s.rest.number; what = a }))
+    (subst (λ o. Gives (λ (d : Cluster × EntryView). Q d.1 → Before d.0) (then_some o (λ x. option_map (λ d. (record k { servers = hand_over_newer s.rest.number (length x.rest.outbox) d.0 k.servers }, d.1)) (done_at k a x)))) (sym h)
+    (handed k s Q h (done_at k a s) (test_gives (There Q k s) (enabled k.options s a) (does k.code k.options s a) go) (each_event_sends k (record { server = s.rest.number; what = a }) coherent.sound few s h)))
+    (applied_part HasPlaces (λ c g. record { numbers_differ = g.numbers_differ; home_of_each = g.home_of_each; owner_of_each = g.owner_of_each }) k (record { server = s.rest.number; what = a }) coherent.sound few)
+    (λ d b c q. (let m = b q in holds_alike m.cluster d.0 m.places c m.same m.alike m.words))
+
 pub kept_where : (k : Cluster) (s : Server) (t : ℕ) (Q : EntryView → Type 0) → IsCoherent k → FewEvents k → server_at k.servers s.rest.number ≡ Some s → (enabled k.options s (Step t) ≡ true → Gives (There Q k s) (does k.code k.options s (Step t)))
     → Gives (λ (d : Cluster × EntryView). Q d.1 → WordsHold d.0) (apply k (record { server = s.rest.number; what = Step t }))
-kept_where k s t Q coherent few h go =
-    both_give (λ (d : Cluster × EntryView). Q d.1 → Before d.0) (λ (d : Cluster × EntryView). HasPlaces d.0) (λ (d : Cluster × EntryView). Q d.1 → WordsHold d.0) (apply k (record { server = s.rest.number; what = Step t }))
-    (subst (λ o. Gives (λ (d : Cluster × EntryView). Q d.1 → Before d.0) (then_some o (λ x. option_map (λ d. (record k { servers = hand_over_newer s.rest.number (length x.rest.outbox) d.0 k.servers }, d.1)) (done_at k (Step t) x)))) (sym h)
-    (handed k s Q h (done_at k (Step t) s) (test_gives (There Q k s) (enabled k.options s (Step t)) (does k.code k.options s (Step t)) go) (each_event_sends k (record { server = s.rest.number; what = Step t }) coherent.sound few s h)))
-    (applied_part HasPlaces (λ c g. record { numbers_differ = g.numbers_differ; home_of_each = g.home_of_each; owner_of_each = g.owner_of_each }) k (record { server = s.rest.number; what = Step t }) coherent.sound few)
-    (λ d a c q. (let b = a q in holds_alike b.cluster d.0 b.places c b.same b.alike b.words))
+kept_where k s t Q coherent few h go = kept_at k s (Step t) Q coherent few h go
 
 pub writes_that_ask : WritesThatAsk
 writes_that_ask k number t s y i w d coherent few here at code through =

@@ -9,7 +9,7 @@ use Rattle.heap_partition.specs.declared.value.Cell.{Cell}
 use Rattle.heap_partition.specs.declared.value.Owned.TheVariants as owned
 use Rattle.mut_borrow.specs.declared.mutable.MutRef.{MutRef}
 use Rattle.owner_box.specs.View.{PartitionState}
-use Rattle.owner_box.specs.Partition.{freed, renewed, next_place, new_word}
+use Rattle.owner_box.specs.Partition.{cell_of as cell_under, freed, renewed, next_place, new_word}
 use Rattle.journal.specs.declared.act.Act.TheVariants as act
 use Rattle.thread_state.specs.View.{ThreadState}
 use Rattle.thread_state.specs.declared.value.Value.{Value}
@@ -136,24 +136,28 @@ module _ (k : Cluster) (coherent : IsCoherent k) (s : Server) (here : server_at 
 
   -- A CELL OF THE SERVER
 
-  -- a cell to which a word leads lies here
-  pub lies_here : (h : Hand) → O h → (w : ℕ) (c : Cell) → Leads h.work.rest.partition w c → Among (lies n (address_of w) c) (things_of (P h))
-  lies_here h g w c l =
+  -- a cell at a word's address lies here
+  pub lies_under : (h : Hand) → O h → (w : ℕ) (c : Cell) → cell_under h.work.rest.partition w ≡ Some c → Among (lies n (address_of w) c) (things_of (P h))
+  lies_under h g w c there =
       subst (λ m. Among (lies m (address_of w) c) (things_of (P h))) g.number
       (there_among n k.servers (record { rest = h.work.rest; threads = set_thread s.threads h.thread; events = e }) (lies h.work.rest.number (address_of w) c) (stand h g).server
-      (partition_among (record { rest = h.work.rest; threads = set_thread s.threads h.thread; events = e }) (lies h.work.rest.number (address_of w) c) (at_lies h.work.rest.number h.work.rest.partition (address_of w) c l.there)))
+      (partition_among (record { rest = h.work.rest; threads = set_thread s.threads h.thread; events = e }) (lies h.work.rest.number (address_of w) c) (at_lies h.work.rest.number h.work.rest.partition (address_of w) c there)))
+
+  -- so does one to which a word leads
+  pub lies_here : (h : Hand) → O h → (w : ℕ) (c : Cell) → Leads h.work.rest.partition w c → Among (lies n (address_of w) c) (things_of (P h))
+  lies_here h g w c l = lies_under h g w c l.there
 
   pub cell_stands : (h : Hand) → O h → (w : ℕ) (c : Cell) → Leads h.work.rest.partition w c → value_in (sight (P h)).ground (in_object c.object) ≡ Some (value.Own c.value)
   cell_stands h g w c l = ap value_of (cell_found c (lies n (address_of w) c) (things_of (P h)) ((spread h g).home_of_each c.object) (lying n (address_of w)) (lies_here h g w c l))
 
   -- the object lies there alone
-  home_here : (h : Hand) → O h → (w : ℕ) (c : Cell) (o : ObjNo) → c.object ≡ o → Leads h.work.rest.partition w c → server_of w ≡ n → LeadsHome (P h) (record { word = w; object = o })
-  home_here h g w c o object l server = record {
+  pub home_under : (h : Hand) → O h → (w : ℕ) (c : Cell) (o : ObjNo) → c.object ≡ o → cell_under h.work.rest.partition w ≡ Some c → server_of w ≡ n → LeadsHome (P h) (record { word = w; object = o })
+  home_under h g w c o object l server = record {
     server = n;
     address = address_of w;
-    lying = record { cell = c; among = lies_here h g w c l; object = object };
+    lying = record { cell = c; among = lies_under h g w c l; object = object };
     leads = λ r a d q f.
-        let same : lies n (address_of w) c ≡ lies r a d = only_one (cells o) (lies n (address_of w) c) (lies r a d) (things_of (P h)) ((spread h g).home_of_each o) (lies_here h g w c l) q (its c object) (its d f) in
+        let same : lies n (address_of w) c ≡ lies r a d = only_one (cells o) (lies n (address_of w) c) (lies r a d) (things_of (P h)) ((spread h g).home_of_each o) (lies_under h g w c l) q (its c object) (its d f) in
         record { server = server ∙ same_server same; address = same_address same };
   }
     where
@@ -165,6 +169,9 @@ module _ (k : Cluster) (coherent : IsCoherent k) (s : Server) (here : server_at 
 
       same_address : {q b r a : ℕ} {c d : Cell} → lies q b c ≡ lies r a d → b ≡ a
       same_address f = cc
+
+  home_here : (h : Hand) → O h → (w : ℕ) (c : Cell) (o : ObjNo) → c.object ≡ o → Leads h.work.rest.partition w c → server_of w ≡ n → LeadsHome (P h) (record { word = w; object = o })
+  home_here h g w c o object l server = home_under h g w c o object l.there server
 
   -- A NEW WORD
 

@@ -238,6 +238,24 @@ module _ (k : Cluster) (sound : IsSound k) (number : ℕ) (s : Server) (here : s
             by true f = let m = spot_is w n pair.0 q d server address f in let no : vacant n pair.0 pair.1 ≡ retired q d = its (retired q d) h (same_spot n pair.0 q d m.0 m.1) in absurd (cc no)
         none _ h = refl
 
+  -- so the word of the next object wasn't issued
+  pub next_unissued : (q : PartitionState) → Later p q → q.server < 2 ^ 8 → (next_place q).0 < 2 ^ 40 → issued (sight k) (new_word q) ≡ false
+  next_unissued q l small within = by q.free refl
+    where
+      parts : (colour_of (new_word q) ≡ (next_place q).1) × (server_of (new_word q) ≡ q.server) × (address_of (new_word q) ≡ (next_place q).0)
+      parts = packed (next_place q).1 q.server (next_place q).0 small within
+
+      server : server_of (new_word q) ≡ n
+      server = parts.1 ∙ l.server ∙ (its_partition k sound number s here).0
+
+      by : (fl : List (ℕ × ℕ)) → q.free ≡ fl → issued (sight k) (new_word q) ≡ false
+      by [] e =
+          let place : (next_place q).0 ≡ length q.cells = ap (λ f. (picked f (length q.cells)).0) e in
+          beyond (new_word q) server (let m = l.longer in omega (arith, m, parts.2, place))
+      by (pair ∷ rest) e =
+          let place : next_place q ≡ pair = ap (λ f. picked f (length q.cells)) e in
+          at_free (new_word q) server l.taken pair (first_dropped l.taken p.free pair rest (sym l.free ∙ e)) (parts.2 ∙ ap (λ (x : ℕ × ℕ). x.0) place) (parts.0 ∙ ap (λ (x : ℕ × ℕ). x.1) place)
+
   -- so the word of an object that gets another address later in the event wasn't issued
   pub renewal_unissued : (q : PartitionState) (w : ℕ) → Later p q → colour_of w + 1 ≡ q.limit → q.server < 2 ^ 8 → (next_place (freed q w)).0 < 2 ^ 40 → issued (sight k) (new_word (freed q w)) ≡ false
   renewal_unissued q w l last small within = by q.free refl
@@ -281,7 +299,26 @@ set_vacant (x ∷ xs) zero (suc a) e = vacant_there xs a e
 set_vacant (x ∷ xs) (suc i) zero e = some_is e
 set_vacant (x ∷ xs) (suc i) (suc a) e = set_vacant xs i a e
 
--- it is vacant where an object left its address at the last colour
+vacant_at : (xs : List (Option Cell)) (a : ℕ) → slice_get xs a ≡ Some None → slice_index_or xs a None ≡ None
+vacant_at [] a e = refl
+vacant_at (x ∷ xs) zero e = some_is e
+vacant_at (x ∷ xs) (suc a) e = vacant_at xs a e
+
+-- it is vacant
+pub place_vacant : (q : PartitionState) → Sane q → NextIsVacant q
+place_vacant q sane = by q.free refl
+  where
+    by : (fl : List (ℕ × ℕ)) → q.free ≡ fl → NextIsVacant q
+    by [] e =
+        let place : (next_place q).0 ≡ length q.cells = ap (λ f. (picked f (length q.cells)).0) e in
+        record { within = omega (arith, place); vacant = ap (λ i. slice_index_or q.cells i None) place ∙ beyond_none q.cells (length q.cells) (omega arith) }
+    by (pair ∷ rest) e =
+        let place : (next_place q).0 ≡ pair.0 = ap (λ f. (picked f (length q.cells)).0) e in
+        let free : slice_get q.cells pair.0 ≡ Some None = next_empty q.server q sane.placed pair rest e in
+        let less = slice_get_within q.cells pair.0 None free in
+        record { within = omega (arith, place, less); vacant = ap (λ i. slice_index_or q.cells i None) place ∙ vacant_at q.cells pair.0 free }
+
+-- so it is where an object left its address at the last colour
 pub next_vacant : (q : PartitionState) (w : ℕ) → Sane q → colour_of w + 1 ≡ q.limit → NextIsVacant (freed q w)
 next_vacant q w sane last = by q.free refl
   where

@@ -128,8 +128,9 @@ no_first k x w o all new d s q m e n f =
     let t : true ≡ false = sym was ∙ ap (issued (sight k)) (first ∙ sym f) ∙ new in
     absurd cc
 
-pub onward_reworded : (k x z : Cluster) (l : Location) (o : ObjNo) (w : ℕ) → HasPlaces k → HasPlaces x → HasPlaces z → Onward k x → IsWritten k l o → IsNoFirst x o w → Reworded x z l o w → Onward k z
-onward_reworded k x z l o w b c d t h new r = record {
+-- wherever the object is
+pub onward_so : (k x z : Cluster) (l : Location) (o : ObjNo) (w : ℕ) → HasPlaces k → HasPlaces x → HasPlaces z → Onward k x → IsSole k l o → (IsStale (sight k) (Some l) → ⊥) → IsNoFirst x o w → Reworded x z l o w → Onward k z
+onward_so k x z l o w b c d t sole fresh new r = record {
   words = record {
     has_words = (words_go_on x z l o w rewrites t.words.has_words).after;
     first_at_holder = holders_go_on x z l o w rewrites;
@@ -144,9 +145,12 @@ onward_reworded k x z l o w b c d t h new r = record {
     rewrites : Rewrites x z l o w
     rewrites = record {
       before = c;
-      only = are_only.soles x l o (soles_stay.soles k x l o b c t.outlines h.sole);
-      fresh = t.fresh l o h.sole h.fresh;
+      only = are_only.soles x l o (soles_stay.soles k x l o b c t.outlines sole);
+      fresh = t.fresh l o sole fresh;
       firsts = t.words.first_at_holder;
       places = d;
       reworded = r;
     }
+
+pub onward_reworded : (k x z : Cluster) (l : Location) (o : ObjNo) (w : ℕ) → HasPlaces k → HasPlaces x → HasPlaces z → Onward k x → IsWritten k l o → IsNoFirst x o w → Reworded x z l o w → Onward k z
+onward_reworded k x z l o w b c d t h new r = onward_so k x z l o w b c d t h.sole h.fresh new r

@@ -1,0 +1,26 @@
+-- WHAT COMES IS AWAITED (this project's rule): the object that a message brings to a thread is that of the pointer that the thread waits at in turn.
+use Rattle.std.specs.Prelude.{◌≡◌, ℕ, false, Some, slice_get}
+use Rattle.heap_partition.specs.declared.value.Cell.{Cell}
+use Rattle.thread_state.specs.View.{ThreadState}
+use Rattle.thread_state.specs.declared.phase.Phase.TheVariants as phase
+use Rattle.server_msgs.specs.declared.message.Message.TheVariants.{Moved}
+use Rattle.server_model.specs.Servers.{Server, Cluster, server_at}
+use Rattle.server_model.specs.Work.{thread_in}
+use Rattle.heap_law.specs.Follow.{Standing}
+use Rattle.heap_law.specs.Sight.{sight}
+use Rattle.heap_law.specs.Paths.{Awaited}
+use Rattle.heap_law.specs.Turn.{InTurn}
+use Rattle.heap_law.specs.Walking.{path}
+use Rattle.heap_law.specs.Coherent.{IsSound}
+
+-- what the thread waits for in turn is that object, under that word
+pub record Awaits (k : Cluster) (x : Standing) (old : ℕ) (c : Cell) : Type 0 where
+  pub awaited : Awaited
+  pub turn : InTurn (sight k) x old awaited (path (sight k) x)
+  pub word : awaited.word ≡ old
+  pub object : awaited.object ≡ c.object
+
+-- of a message at the server of its thread, which waits under that word
+abbrev pub ArrivalsAwaited : Type 0
+ArrivalsAwaited = (k : Cluster) (number i old t : ℕ) (s : Server) (c : Cell) (y : ThreadState) → IsSound k → server_at k.servers number ≡ Some s → slice_get s.rest.inbox i ≡ Some (Moved old c t) → thread_in s.threads t ≡ Some y → y.phase ≡ phase.WaitCell old
+    → Awaits k (record { server = s.rest.number; packed = false; thread = y }) old c
