@@ -1,4 +1,4 @@
--- A thread goes on without an owned value that it had, which is in hand then: the plain state is as it was but for the thread, and what is known of the others.
+-- A thread goes on, or ends, without an owned value that it had, which is in hand then: the plain state is as it was but for the thread, and what is known of the others.
 use Rattle.std.proofs.Common.{◌≡◌, ℕ, ◌+◌, ◌≤◌, ◌==◌, ◌&&◌, ◌||◌, not, Bool, true, false, List, [], ◌∷◌, ◌++◌, Option, Some, None, refl, sym, ap, ap₂, ◌∙◌, arith}
 use Rattle.std.specs.List.{AllByRecursion}
 use Rattle.fr_base.specs.declared.name.MutexNo.{MutexNo}
