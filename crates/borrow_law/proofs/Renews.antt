@@ -118,19 +118,19 @@ module _ (k : Cluster) (coherent : IsCoherent k) (few : FewEvents k) (s : Server
   Put = put k coherent s here t y at
 
   -- the reference has the word, and the words hold
-  pub record Renewed (h2 : Hand) (l : Location) (r : MutRef) (w : ℕ) : Type 0 where
+  pub record Renewed (h h2 : Hand) (l : Location) (r : MutRef) (w : ℕ) : Type 0 where
     pub words : WordsHold (Put h2)
     pub fresh : IsStale (sight (Put h2)) (Some l) → ⊥
     pub now : value_in (sight (Put h2)).ground l ≡ Some (value.Mut (took r w))
+    pub reworded : Reworded (Put h) (Put h2) l r.object w
 
-  module _ (h h2 : Hand) (j : ℕ) (r : MutRef) (nw : NewWord) (walks : Walks k coherent s here t y at h) (g2 : Ok k coherent s here t y at h2) (part : h.work.rest.partition ≡ p) (e : slice_get h.thread.slots j ≡ Some (value.Mut r)) (dirty : r.dirty ≡ true)
-      (fresh : IsStale (sight k) (Some (at_slot h.thread.number j)) → ⊥) (under : LiesUnder k (box_of r)) (mine : (server_of r.word == h.work.rest.number) ≡ true) (issues : issue_renewal (box_of r) h.work ≡ Some nw) (puts : put_word (in_slot j) nw h ≡ Some h2) where
+  -- whatever the place where it stands
+  module _ (h h2 : Hand) (l : Location) (r : MutRef) (nw : NewWord) (walks : Walks k coherent s here t y at h) (g2 : Ok k coherent s here t y at h2) (part : h.work.rest.partition ≡ p) (there : value_in (sight (Put h)).ground l ≡ Some (value.Mut r)) (dirty : r.dirty ≡ true)
+      (fresh : IsStale (sight k) (Some l) → ⊥) (under : LiesUnder k (box_of r)) (mine : (server_of r.word == h.work.rest.number) ≡ true) (issues : issue_renewal (box_of r) h.work ≡ Some nw)
+      (rewords : Renewal k n s.threads (s.events + 1) h (box_of r) nw → HasPlaces (Put h2) → nw.word ≢ r.first → Reworded (Put h) (Put h2) l r.object nw.word) (now : value_in (sight (Put h2)).ground l ≡ Some (value.Mut (took r nw.word))) where
     -- the sums of the hand
     g : Ok k coherent s here t y at h
     g = walks.state.ok
-
-    abbrev l : Location
-    l = at_slot h.thread.number j
 
     abbrev q : PartitionState
     q = h.work.rest.partition
@@ -292,10 +292,6 @@ module _ (k : Cluster) (coherent : IsCoherent k) (few : FewEvents k) (s : Server
 
     -- IT STANDS THERE
 
-    -- the reference stands in the hand's cluster
-    there : value_in (sight (Put h)).ground l ≡ Some (value.Mut r)
-    there = slot_stands k n s.threads (s.events + 1) h j (value.Mut r) (stands k coherent s here t y at h g) place_h e
-
     -- as it stood at the start
     was : value_in (sight k).ground l ≡ Some (value.Mut r)
     was = walks.state.along.dirty_was l r there dirty
@@ -305,16 +301,15 @@ module _ (k : Cluster) (coherent : IsCoherent k) (few : FewEvents k) (s : Server
     issued_all = sound.words.are_issued
 
     -- the word is no first word of the reference
-    not_first : (x : MutRef) → value.Mut r ≡ value.Mut x → nw.word ≢ x.first
-    not_first x f z =
-        let same : r ≡ x = cc in
+    not_first : nw.word ≢ r.first
+    not_first z =
         let known : issued (sight k) r.first ≡ true = first_issued k issued_all l r (of_borrows (sight k).ground (record { at = l; holder = holder_of (sight k).ground l r.holder; reference = r }) (things_of k) (reference_there k l r was)).among in
-        let no : true ≡ false = sym known ∙ ap (issued (sight k)) (ap (λ (a : MutRef). a.first) same ∙ sym z) ∙ new in
+        let no : true ≡ false = sym known ∙ ap (issued (sight k)) (sym z) ∙ new in
         absurd (cc no)
 
     -- one pointer gets another word
     reworded : Reworded (Put h) (Put h2) l r.object nw.word
-    reworded = renewals_reword.slot k n s.threads (s.events + 1) h h2 (box_of r) nw j (value.Mut r) renewal e refl puts place_2 not_first
+    reworded = rewords renewal place_2 not_first
 
     -- which is alone
     rewrites : Rewrites (Put h) (Put h2) l r.object nw.word
@@ -327,9 +322,29 @@ module _ (k : Cluster) (coherent : IsCoherent k) (few : FewEvents k) (s : Server
       reworded = reworded;
     }
 
+    -- so the words hold
+    pub renewed_at : Renewed h h2 l r nw.word
+    renewed_at = record {
+      words = record {
+        has_words = (words_go_on (Put h) (Put h2) l r.object nw.word rewrites walks.state.along.words.has_words).after;
+        first_at_holder = holders_go_on (Put h) (Put h2) l r.object nw.word rewrites;
+        dirty_alone = dirty_goes_on (Put h) (Put h2) l r.object nw.word rewrites walks.state.along.words.dirty_alone;
+        past_words = past_goes_on (Put h) (Put h2) l r.object nw.word rewrites (no_first k (Put h) nw.word r.object issued_all new place_h walks.state.along) walks.state.along.words.past_words;
+      };
+      fresh = λ x. fresh (walks.state.along.fresher l (changed_rewords (Put h) (Put h2) l r.object nw.word rewrites r there (dirty_changed r dirty) l x));
+      now = now;
+      reworded = reworded;
+    }
+
+  -- in a slot
+  module _ (h h2 : Hand) (j : ℕ) (r : MutRef) (nw : NewWord) (walks : Walks k coherent s here t y at h) (g2 : Ok k coherent s here t y at h2) (part : h.work.rest.partition ≡ p) (e : slice_get h.thread.slots j ≡ Some (value.Mut r)) (dirty : r.dirty ≡ true)
+      (fresh : IsStale (sight k) (Some (at_slot h.thread.number j)) → ⊥) (under : LiesUnder k (box_of r)) (mine : (server_of r.word == h.work.rest.number) ≡ true) (issues : issue_renewal (box_of r) h.work ≡ Some nw) (puts : put_word (in_slot j) nw h ≡ Some h2) where
+    abbrev here_slot : Location
+    here_slot = at_slot h.thread.number j
+
     -- in that slot
-    wrote : SlotPut hm h2 j nw.word (value.Mut r)
-    wrote = word_put hm h2 j nw.word (value.Mut r) e puts
+    wrote : SlotPut (record h { work = nw.work }) h2 j nw.word (value.Mut r)
+    wrote = word_put (record h { work = nw.work }) h2 j nw.word (value.Mut r) e puts
 
     -- the thread has its number
     same_named : h2.thread.number ≡ h.thread.number
@@ -339,14 +354,9 @@ module _ (k : Cluster) (coherent : IsCoherent k) (few : FewEvents k) (s : Server
     slot_now : slice_get h2.thread.slots j ≡ Some (value.Mut (took r nw.word))
     slot_now = ap (λ (th : ThreadState). slice_get th.slots j) wrote.thread ∙ set_same h.thread.slots j (value.Mut r) wrote.new e ∙ sym wrote.worded
 
-    pub renewed_so : Renewed h2 l r nw.word
-    renewed_so = record {
-      words = record {
-        has_words = (words_go_on (Put h) (Put h2) l r.object nw.word rewrites walks.state.along.words.has_words).after;
-        first_at_holder = holders_go_on (Put h) (Put h2) l r.object nw.word rewrites;
-        dirty_alone = dirty_goes_on (Put h) (Put h2) l r.object nw.word rewrites walks.state.along.words.dirty_alone;
-        past_words = past_goes_on (Put h) (Put h2) l r.object nw.word rewrites (no_first k (Put h) nw.word r.object issued_all new place_h walks.state.along) walks.state.along.words.past_words;
-      };
-      fresh = λ x. fresh (walks.state.along.fresher l (changed_rewords (Put h) (Put h2) l r.object nw.word rewrites r there (dirty_changed r dirty) l x));
-      now = ap (λ i. value_in (sight (Put h2)).ground (at_slot i j)) (sym same_named) ∙ slot_stands k n s.threads (s.events + 1) h2 j (value.Mut (took r nw.word)) (stands k coherent s here t y at h2 g2) place_2 slot_now;
-    }
+    -- so it is renewed there
+    pub renewed_so : Renewed h h2 here_slot r nw.word
+    renewed_so =
+        renewed_at h h2 here_slot r nw walks g2 part (slot_stands k n s.threads (s.events + 1) h j (value.Mut r) (stands k coherent s here t y at h walks.state.ok) (places k coherent s here t y at h walks.state.ok) e) dirty fresh under mine issues
+        (λ renewal there other. renewals_reword.slot k n s.threads (s.events + 1) h h2 (box_of r) nw j (value.Mut r) renewal e refl puts there (λ x f z. (let same : r ≡ x = cc in other (z ∙ sym (ap (λ (a : MutRef). a.first) same)))))
+        (ap (λ i. value_in (sight (Put h2)).ground (at_slot i j)) (sym same_named) ∙ slot_stands k n s.threads (s.events + 1) h2 j (value.Mut (took r nw.word)) (stands k coherent s here t y at h2 g2) (places k coherent s here t y at h2 g2) slot_now)

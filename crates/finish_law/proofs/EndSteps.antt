@@ -53,6 +53,7 @@ word_leads w t (value.MutSlot i) new e = absurd cc
 word_leads w t (value.Shared r) new e = absurd cc
 word_leads w t (value.Held i) new e = absurd cc
 
+-- what is back leads where it led
 back_leads : (r : MutRef) (t : ℕ) (old new : Value) → GetsBack r old new → leads t (Some new) ≡ leads t (Some old)
 back_leads r t old new (as_it_was e same) = ap (λ v. leads t (Some v)) same
 back_leads r t old new (its_word n e) = word_leads r.word t old new e
@@ -73,6 +74,7 @@ pub record Finishes (code : List Instr) (n : ℕ) (x y : ThreadState) (from : He
   pub tails : Alike code (tail_of n x) (tail_of n y)
   pub owns : (o : ObjNo) → tot (owners o) (tail_of n y) ≡ tot (owners o) (tail_of n x)
 
+-- a slot is no temporary value
 no_slot_temp : {t u i j : ℕ} → at_slot t i ≡ at_temp u j → ⊥
 no_slot_temp e = absurd cc
 
@@ -86,16 +88,19 @@ module _ (a b : Cluster) (n : ℕ) (x y : ThreadState) (from : Here) (at h : Loc
 
   -- WHAT STANDS WHERE
 
+  -- what stands at a place of the thread before
   here_a : (m : Here) (l : Location) → located x.number m ≡ Some l → value_in ga l ≡ here x m
   here_a (slot i) l e = ap (value_in ga) (some_is (sym e)) ∙ ap (λ o. slot_of o i) (at_a a b n x y p.number s c d)
   here_a (temp i) l e = ap (value_in ga) (some_is (sym e)) ∙ ap (λ o. temp_of o i) (at_a a b n x y p.number s c d)
   here_a nowhere l e = absurd cc
 
+  -- and after
   here_b : (m : Here) (l : Location) → located x.number m ≡ Some l → value_in gb l ≡ here y m
   here_b (slot i) l e = ap (value_in gb) (some_is (sym e)) ∙ ap (λ o. slot_of o i) (at_b a b n x y p.number s c d)
   here_b (temp i) l e = ap (value_in gb) (some_is (sym e)) ∙ ap (λ o. temp_of o i) (at_b a b n x y p.number s c d)
   here_b nowhere l e = absurd cc
 
+  -- another location is another place
   not_from : (m : Here) (l : Location) → located x.number m ≡ Some l → (l ≡ at → ⊥) → m ≡ from → ⊥
   not_from m l e ne q = ne (some_is (sym e ∙ ap (located x.number) q ∙ p.place))
 
@@ -111,6 +116,7 @@ module _ (a b : Cluster) (n : ℕ) (x y : ThreadState) (from : Here) (at h : Loc
       e.2 ∙ p.temps i (not_from (temp i) (at_temp m i) (ap (λ q. Some (at_temp q i)) e.0) ne) ∙ sym e.1) (in_temps a b n x y p.number s c d m i)
   value_by go (in_cell o) ne = in_cells a b n x y p.number s c d o
 
+  -- elsewhere stands what stood there
   value_same : (l : Location) → (l ≡ at → ⊥) → (l ≡ h → ⊥) → value_in gb l ≡ value_in ga l
   value_same (at_slot m i) ne nh =
       ⊎_elim (λ (e : value_in gb (at_slot m i) ≡ value_in ga (at_slot m i)). e)
@@ -132,6 +138,7 @@ module _ (a b : Cluster) (n : ℕ) (x y : ThreadState) (from : Here) (at h : Loc
     stands : value_in gb h ≡ Some new
     back : GetsBack r old new
 
+  -- so it is
   back : Back
   back = by p.holder
     where
@@ -145,6 +152,7 @@ module _ (a b : Cluster) (n : ℕ) (x y : ThreadState) (from : Here) (at h : Loc
 
   -- WHERE PLACES LEAD
 
+  -- places lead where they led
   leads_same : (t : ℕ) (l : Location) → (l ≡ at → ⊥) → leads t (value_in gb l) ≡ leads t (value_in ga l)
   leads_same t l ne =
       ⊎_elim (λ (e : l ≡ h). ap (λ z. leads t (value_in gb z)) e ∙ ap (leads t) back.stands ∙ back_leads r t old back.new back.back ∙ sym (ap (leads t) stands_h) ∙ sym (ap (λ z. leads t (value_in ga z)) e))
@@ -153,9 +161,11 @@ module _ (a b : Cluster) (n : ℕ) (x y : ThreadState) (from : Here) (at h : Loc
   abbrev Follows : ℕ → ℕ → ℕ → Location → Type 0
   Follows t k e m = ((z : ℕ) × (z ≤ e) × (locate ga t k z ≡ Some at)) ⊎ ((locate gb t k e ≡ Some m) × (m ≡ at → ⊥))
 
+  -- a place ends there, or elsewhere
   ends_there : (t k e : ℕ) (m : Location) → locate ga t k e ≡ Some m → locate gb t k e ≡ Some m → Follows t k e m
   ends_there t k e m q w = ⊎_elim (λ (z : m ≡ at). inl (e, omega arith, q ∙ ap Some z)) (λ (z : m ≡ at → ⊥). inr (w, z)) (same_place m at)
 
+  -- a place is followed as before, or comes to what goes
   follow : (t k e : ℕ) (m : Location) → locate ga t k e ≡ Some m → Follows t k e m
   follow t k zero m q = ends_there t k zero m q q
   follow t k (suc e) m q = by (locate ga t k e) refl q (λ j w. follow t k e j w)
@@ -166,6 +176,7 @@ module _ (a b : Cluster) (n : ℕ) (x y : ThreadState) (from : Here) (at h : Loc
           ⊎_elim (λ (v : (u : ℕ) × (u ≤ e) × (locate ga t k u ≡ Some at)). inl (v.0, omega (arith, v.1), v.2))
           (λ (v : (locate gb t k e ≡ Some j) × (j ≡ at → ⊥)). ends_there t k (suc e) m q (ap (λ o. leads t (value_behind gb o)) v.0 ∙ leads_same t j v.1 ∙ g)) (go j z)
 
+  -- holders are where they were
   holder_so : (l m : Location) (q : MutRef) → value_in ga l ≡ Some (value.Mut q) → holder_of ga l q.holder ≡ Some m → holder_of gb l q.holder ≡ Some m
   holder_so (at_slot t j) m q e w =
       ⊎_elim (λ (v : (z : ℕ) × (z ≤ q.holder.depth) × (locate ga t q.holder.slot z ≡ Some at)). absurd (unpassed (at_slot t j) m q v.0 e w v.1 v.2)) (λ (v : (locate gb t q.holder.slot q.holder.depth ≡ Some m) × (m ≡ at → ⊥)). v.0)
@@ -185,15 +196,18 @@ module _ (a b : Cluster) (n : ℕ) (x y : ThreadState) (from : Here) (at h : Loc
       let none_some : None ≡ Some t = sym p.untaken ∙ ap (taking_of a.code) (sym (some_is same)) ∙ q.taking in
       absurd cc
 
+  -- what was taken passes nothing that goes
   not_come : (m : Here) (t : Taking) (z : ℕ) → located x.number m ≡ Some at → Among t (takings a.code ga.threads) → locate ga t.thread t.place.slot z ≡ Some at → ⊥
   not_come (slot i) t z e g q = another t g (own_slot ga t.thread t.place.slot z x.number i (q ∙ sym e))
   not_come (temp i) t z e g q = no_temp ga t.thread t.place.slot z x.number i (q ∙ sym e)
   not_come nowhere t z e g q = absurd cc
 
+  -- so its place leads where it led
   followed : (t : Taking) (e : ℕ) (m : Location) → Among t (takings a.code ga.threads) → locate ga t.thread t.place.slot e ≡ Some m → locate gb t.thread t.place.slot e ≡ Some m
   followed t e m g q =
       ⊎_elim (λ (v : (z : ℕ) × (z ≤ e) × (locate ga t.thread t.place.slot z ≡ Some at)). absurd (not_come from t v.0 p.place g v.2)) (λ (v : (locate gb t.thread t.place.slot e ≡ Some m) × (m ≡ at → ⊥)). v.0) (follow t.thread t.place.slot e m q)
 
+  -- also with a star less
   less_same : (t : Taking) (e : ℕ) (m : Location) → Among t (takings a.code ga.threads) → locate ga t.thread t.place.slot e ≡ Some m → one_star_less gb t.thread t.place.slot e ≡ one_star_less ga t.thread t.place.slot e
   less_same t zero m g q = refl
   less_same t (suc e) m g q = by (locate ga t.thread t.place.slot e) refl q
@@ -202,18 +216,23 @@ module _ (a b : Cluster) (n : ℕ) (x y : ThreadState) (from : Here) (at h : Loc
       by None z w = absurd cc
       by (Some j) z w = followed t e j g z ∙ sym z
 
+  -- so what was taken is where it was
   pub taken_same : (t : Taking) → Among t (takings a.code ga.threads) → (place_at gb t.thread t.place ≡ place_at ga t.thread t.place) × (one_star_less gb t.thread t.place.slot t.place.depth ≡ one_star_less ga t.thread t.place.slot t.place.depth)
   taken_same t g = let q = rooted t g in (followed t t.place.depth q.0 g q.1 ∙ sym q.1, less_same t t.place.depth q.0 g q.1)
 
+  -- and the same is taken
   pub same_takings : takings b.code gb.threads ≡ takings a.code ga.threads
   same_takings = ap (λ q. takings q gb.threads) code ∙ takings_same a b n x y p.number s c d a.code p.untaken p.untaken_after
 
+  -- the other way round
   turned_split : Split (things_of b) (things_of a) (thread_things n false y) (thread_things n false x)
   turned_split = record { left = s.left; right = s.right; before = s.after; after = s.before }
 
+  -- what points from elsewhere did before
   in_tail_a : (q : Pointer) → q.at ≡ None → Among q (standing_in (tail_of n y)) → Among q (standing_in (things_of a))
   in_tail_a q e m = of_thread a b n x y p.number s c d q (standing_turn a.code (tail_of n y) (tail_of n x) q p.tails.back e m)
 
+  -- and does after
   in_tail_b : (q : Pointer) → q.at ≡ None → Among q (standing_in (tail_of n x)) → Among q (standing_in (things_of b))
   in_tail_b q e m = of_thread b a n y x (sym p.number) turned_split d c q (standing_turn a.code (tail_of n x) (tail_of n y) q p.tails.on e m)
 
@@ -221,6 +240,7 @@ module _ (a b : Cluster) (n : ℕ) (x y : ThreadState) (from : Here) (at h : Loc
 
   module _ (clean : r.dirty ≡ false) (fresh : IsStale (sight a) (Some at) → ⊥) (only : (q : Reference) → Among q (references ga (things_of a)) → is_held_at h q.holder ≡ true → q.at ≡ at)
       (untaken : is_among h (lent_places a.code ga ga.threads) ≡ true → ⊥) (unmade : (q : Reference) → Among q (references ga (things_of a)) → is_held_at at q.holder ≡ true → ⊥) where
+    -- it is an end
     pub is_end : Ended a b at h r
     is_end = record {
       stood = here_a from at p.place ∙ p.stood;

@@ -47,13 +47,16 @@ one_object r q (Some (value.MutSlot i)) e f = absurd cc
 one_object r q (Some (value.Shared m)) e f = absurd cc
 one_object r q (Some (value.Held m)) e f = absurd cc
 
+-- what is tested
 is_so : (b : Bool) → other b ≡ 0 → b ≡ true
 is_so true e = refl
 is_so false e = absurd cc
 
+-- what is some is one reference
 some_mut : {r q : MutRef} → Some (value.Mut r) ≡ Some (value.Mut q) → r ≡ q
 some_mut e = cc
 
+-- or one location
 one_of : {l m : Location} → Some l ≡ Some m → l ≡ m
 one_of e = cc
 
@@ -63,27 +66,34 @@ module _ (k : Cluster) (c : HasPaths k) (d : HasPlaces k) (firsts : Holds k firs
   abbrev ground : Ground
   ground = (sight k).ground
 
+  -- references rank above what they were made from
   ranked : IsRanked k
   ranked = types_rank k c
 
+  -- the reference that ends is alone
   there : EndsAlone k r
   there = ended_are_alone k c x r g does_end
 
+  -- nothing stands above it
   nothing_above : (m : Location) → Above ground at m → ⊥
   nothing_above _ (made_from {m = m} q is e) = unheld m q is e
   nothing_above _ (made_below {m = m} {h = j} q is e rest) = nothing_above j rest
 
+  -- so it is the one that types mean
   same_place : at ≡ there.at
   same_place =
       let p : Pointer = record { at = Some at; word = r.word; object = r.object } in
       ⊎_elim (λ (e : at ≡ there.at). e) (λ (a : Above ground at there.at). absurd (nothing_above there.at a)) (there.alone.above p at (told k at (value.Mut r) p stood (inl refl)) refl refl)
 
+  -- it is alone there
   pub alone : IsAlone k at r.object
   alone = subst (λ l. IsAlone k l r.object) (sym same_place) there.alone
 
+  -- and isn't stale
   pub fresh : IsStale (sight k) (Some at) → ⊥
   fresh = subst (λ l. IsStale (sight k) (Some l) → ⊥) (sym same_place) there.fresh
 
+  -- what stands above ranks lower
   above_rank : (l m : Location) → Above ground l m → ranked.rank l < ranked.rank m
   above_rank l _ (made_from {m = m} q is e) = ranked.above m l q is e
   above_rank l _ (made_below {m = m} {h = j} q is e rest) = let a = ranked.above m j q is e in let b = above_rank l j rest in omega (arith, a, b)
@@ -102,6 +112,7 @@ module _ (k : Cluster) (c : HasPaths k) (d : HasPlaces k) (firsts : Holds k firs
       let z = ap ranked.rank same in
       omega (arith, a, z)
 
+  -- a reference knows the word at its holder
   first_there : (q : Reference) → Among q (references ground (things_of k)) → q.holder ≡ Some h → is_first q.reference (value_in ground h) ≡ true
   first_there q i e = is_so (is_first q.reference (value_in ground h)) (subst (λ o. other (is_first q.reference (value_behind ground o)) ≡ 0) e (none_at (other_first ground) q (references ground (things_of k)) firsts i))
 

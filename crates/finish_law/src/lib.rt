@@ -3,4 +3,4 @@
 
 mod laws;
 
-pub use laws::ends_at_hand_leave_words;
+pub use laws::{ends_at_hand_leave_words, flat_ends_keep};
