@@ -13,7 +13,7 @@ use Rattle.heap_law.specs.Stale.{Reference, references, is_among, holder_of}
 use Rattle.heap_law.specs.Sight.{Pointer, pointers_in, taken_pointers, word_of_object, is_word, cell_of_word, dirty_objects, if_dirty, is_object_among, sight, word}
 use Rattle.heap_law.specs.Words.{IsStale, Fresh, HasWords}
 use Rattle.heap_law.specs.Weights.{cells}
-use Rattle.heap_law.specs.Placing.{is_word_of, shared_words, same_words, unless_dirty, if_clean}
+use Rattle.heap_law.specs.Placing.{is_word_of, shared_words, same_words, unless_dirty, if_clean, clean_cell}
 use Rattle.heap_law.specs.Coherent.{IsSound}
 use Rattle.heap_law.proofs.Words.{none_at, named, itself, words_law, told as told_stale, not_told}
 use Rattle.path_law.proofs.Sole.{some_is}
@@ -29,7 +29,6 @@ use Rattle.stay_law.proofs.Alike.{Within}
 use Rattle.stay_law.proofs.Seen.{seen_alike}
 use Rattle.carry_law.proofs.Carrying.{fresh_on, fresh_back}
 use Rattle.carry_law.proofs.Hands.{GoesOver, words_go}
-use Rattle.copy_law.specs.Copies.{CellsStay}
 
 -- THE CELL OF A WORD
 
@@ -250,6 +249,10 @@ module _ (k : Cluster) (sound : IsSound k) where
       same_named _ (flying u) z = named d.object c.object (no_other (same_object d.object c.object) (word (sight k) d.object) (word (sight k) c.object) (is_word_told (word (sight k) d.object) w f) (is_word_told (word (sight k) c.object) w e) z)
 
 -- CELLS STAY
+
+-- each word has the clean cell that it had
+abbrev pub CellsStay : Cluster → Cluster → Type 0
+CellsStay k z = (w : ℕ) → clean_cell (sight z) w ≡ clean_cell (sight k) w
 
 -- the same cells, and the same objects are changed
 pub record KeepsClean (k z : Cluster) : Type 0 where

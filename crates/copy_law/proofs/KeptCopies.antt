@@ -18,16 +18,13 @@ use Rattle.server_model.specs.Work.{thread_in, then_some}
 use Rattle.server_model.specs.Places.{Spot, in_slot as spot_slot, on_top}
 use Rattle.server_model.specs.Prepare.{ending, assigned, access_of}
 use Rattle.server_model.specs.Clusters.{apply}
-use Rattle.heap_law.specs.Names.{tot, other, Among}
-use Rattle.heap_law.specs.Things.{Thing, lies, flies, copied, sent, things_of}
-use Rattle.heap_law.specs.Follow.{cells_in}
+use Rattle.heap_law.specs.Names.{tot, other}
+use Rattle.heap_law.specs.Things.{Thing, copied, sent, things_of}
 use Rattle.heap_law.specs.Sight.{sight, issued}
-use Rattle.heap_law.specs.Placing.{words, clean_cell, other_cell, other_copy, fetched_copy, unclean, unclean_request}
+use Rattle.heap_law.specs.Placing.{words, clean_cell, other_cell, other_copy, unclean, unclean_request}
 use Rattle.heap_law.specs.Coherent.{IsSound, Holds, copies_agree, served_are_clean}
 use Rattle.path_law.proofs.Sole.{some_is}
 use Rattle.word_law.specs.Reworded.{HasPlaces}
-use Rattle.word_law.proofs.Unmoved.{untouched_stays}
-use Rattle.word_law.proofs.Standing.{CellOf, lying, flying}
 use Rattle.event_law.specs.Kinds.{Kind, instr_kind, kind_of, kind_at}
 use Rattle.event_law.specs.Laws.{Gives, FewEvents}
 use Rattle.event_law.proofs.Results.{both_give, weaker}
@@ -35,8 +32,6 @@ use Rattle.event_law.proofs.Sending.{applied_part}
 use Rattle.event_law.proofs.MutexResults.{has}
 use Rattle.heap_law.proofs.Words.{none_at, none_all}
 use Rattle.stay_law.specs.Laws.{IsOfKind}
-use Rattle.stay_law.proofs.Alike.{Alike, Within}
-use Rattle.stay_law.proofs.Seen.{seen_alike}
 use Rattle.stay_law.proofs.StayKinds.{Stays, Seen, kind_seen}
 use Rattle.local_law.proofs.Small.{Follows}
 use Rattle.carry_law.specs.Steps.{CarriesOne, a_let, a_mutex, a_join, an_end, IsNoReference, GivesOwned, drops as owned_drops, drops_none as none_drops, puts_back as owned_back, IsOwnedOrGone, owns, gone}
@@ -44,8 +39,8 @@ use Rattle.carry_law.proofs.Events.{steps_go, discards_go}
 use Rattle.carry_law.proofs.Gives.{owned_go}
 use Rattle.carry_law.proofs.Assigns.{assigns_go}
 use Rattle.value_law.proofs.Sums.{sent_copy, copy_of}
-use Rattle.copy_law.specs.Copies.{CellsStay, CellsGoOn, CopiesComeFromCopies, CopiesAreRight, KeepCopies, StepsKeepCopies, DiscardsKeepCopies, LetsGo, drops, drops_none, puts_back, DropsKeepCopies, AssignsKeepCopies}
-use Rattle.copy_law.proofs.Clean.{Leaves, cells_stay, all_goes}
+use Rattle.copy_law.specs.Copies.{CellsGoOn, CopiesComeFromCopies, CopiesAreRight, KeepCopies, StepsKeepCopies, DiscardsKeepCopies, LetsGo, drops, drops_none, puts_back, DropsKeepCopies, AssignsKeepCopies}
+use Rattle.copy_law.proofs.Clean.{CellsStay, Leaves, cells_stay, all_goes}
 use Rattle.copy_law.proofs.Comes.{ServedWeighNothing, AskedWeighNothing, copies_come}
 use Rattle.copy_law.proofs.Served.{served_right}
 

@@ -23,11 +23,8 @@ use Rattle.event_law.specs.Laws.{Gives, FewEvents}
 use Rattle.stay_law.specs.Laws.{IsOfKind}
 use Rattle.carry_law.specs.Steps.{CarriesOne, IsNoReference, IsOwnedOrGone}
 
--- the live object that has a word, which isn't changed through a reference, is the same one with the same cell, whatever the word
-abbrev pub CellsStay : Cluster → Cluster → Type 0
-CellsStay k z = (w : ℕ) → clean_cell (sight z) w ≡ clean_cell (sight k) w
-
--- or there is none any more, as the object has another word, is changed through a reference or is gone, or the word is a new one
+-- the live object that has a word, which isn't changed through a reference, is the same one with the same cell, or there is none any more, as the object has another word, is changed through a
+-- reference or is gone, or the word is a new one
 abbrev pub CellsGoOn : Cluster → Cluster → Type 0
 CellsGoOn k z = (w : ℕ) → (clean_cell (sight z) w ≡ clean_cell (sight k) w) ⊎ ((clean_cell (sight z) w ≡ None) ⊎ (issued (sight k) w ≡ false))
 
