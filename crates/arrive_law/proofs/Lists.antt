@@ -1,5 +1,5 @@
 -- What lists of things have of threads, cells and loose things where a cell comes, or a message goes that has one.
-use Rattle.std.proofs.Common.{◌≡◌, ◌⊎◌, inl, inr, ⊎_elim, ℕ, zero, suc, ◌+◌, Bool, true, false, if◌then◌else◌, List, [], ◌∷◌, ◌++◌, Option, Some, None, refl, sym, ap, subst, ◌∙◌, arith}
+use Rattle.std.proofs.Common.{◌≡◌, ◌⊎◌, inl, inr, ⊎_elim, ℕ, zero, suc, ◌+◌, true, false, List, [], ◌∷◌, ◌++◌, Some, None, refl, sym, ap, subst, ◌∙◌, arith}
 use Rattle.std.specs.Prelude.{slice_index_or, slice_get, remove}
 use Rattle.fr_base.specs.declared.name.ObjNo.{ObjNo}
 use Rattle.heap_partition.specs.declared.value.Cell.{Cell}
@@ -8,7 +8,7 @@ use Rattle.owner_box.specs.Partition.{made, next_place}
 use Rattle.server_msgs.specs.declared.message.Message.{Message}
 use Rattle.server_msgs.specs.declared.message.Message.TheVariants.{Moved}
 use Rattle.heap_law.specs.Names.{Among, one, same_object}
-use Rattle.heap_law.specs.Things.{Thing, lies, flies, sent, vacant, retired, stands, counts, things_at, is_free, cell_things, free_things, partition_things, waiting_things}
+use Rattle.heap_law.specs.Things.{Thing, lies, flies, sent, things_at, partition_things, waiting_things}
 use Rattle.heap_law.specs.Follow.{threads_in}
 use Rattle.heap_law.specs.Weights.{cells}
 use Rattle.heap_law.proofs.Bags.{among_split}
@@ -17,7 +17,7 @@ use Rattle.path_law.proofs.Origins.{threads_joined, among_first, among_second}
 use Rattle.word_law.specs.Reworded.{is_loose}
 use Rattle.word_law.proofs.Standing.{CellOf, lying, flying}
 use Rattle.move_law.specs.Relaid.{NextIsVacant}
-use Rattle.move_law.proofs.Relaid.{Shifted, lies_at, at_lies, put_told, put_here, put_keeps}
+use Rattle.move_law.proofs.Relaid.{Shifted, lies_at, at_lies, put_told, put_here, put_keeps, Addresses, address_one, address_join, partition_addresses, address_threads, address_fixed, is_address}
 
 -- A CELL THAT COMES
 
@@ -131,51 +131,6 @@ shifted_beside {o = o} {a = a} {b = b} u x = record {
 }
 
 -- A PARTITION
-
--- all things of a partition are addresses
-abbrev is_address : Thing → Bool
-is_address (lies s a c) = true
-is_address (vacant s a n) = true
-is_address (retired s a) = true
-is_address (counts s a r t m e) = true
-is_address x = false
-
-abbrev Addresses : List Thing → Type 0
-Addresses b = (y : Thing) → Among y b → is_address y ≡ true
-
-address_one : (x : Thing) → is_address x ≡ true → Addresses (x ∷ [])
-address_one x e y (inl q) = subst (λ z. is_address z ≡ true) q e
-address_one x e y (inr h) = absurd h
-
-address_join : (a b : List Thing) → Addresses a → Addresses b → Addresses (a ++ b)
-address_join a b p q y h = ⊎_elim (λ (l : Among y a). p y l) (λ (r : Among y b). q y r) (among_split y a b h)
-
-address_all : {A : Type 0} (g : ℕ → A → List Thing) → ((i : ℕ) (x : A) → Addresses (g i x)) → (i : ℕ) (xs : List A) → Addresses (things_at g i xs)
-address_all g p i [] = λ y h. absurd h
-address_all g p i (x ∷ xs) = address_join (g i x) (things_at g (i + 1) xs) (p i x) (address_all g p (i + 1) xs)
-
-cell_address : (s : ℕ) (fs : List (ℕ × ℕ)) (i : ℕ) (c : Option Cell) → Addresses (cell_things s fs i c)
-cell_address s fs i (Some c) = address_one (lies s i c) refl
-cell_address s fs i None = by (is_free i fs)
-  where
-    by : (b : Bool) → Addresses (if b then [] else retired s i ∷ [])
-    by true = λ y h. absurd h
-    by false = address_one (retired s i) refl
-
-partition_addresses : (s : ℕ) (p : PartitionState) → Addresses (partition_things s p)
-partition_addresses s p = address_join (things_at (cell_things s p.free) 0 p.cells) (things_at (free_things s) 0 p.free) (address_all (cell_things s p.free) (cell_address s p.free) 0 p.cells) (address_all (free_things s) (λ i f. address_one (vacant s f.0 f.1) refl) 0 p.free)
-
-address_threads : (b : List Thing) → Addresses b → threads_in b ≡ []
-address_threads [] f = refl
-address_threads (stands s p t ∷ b) f = let q : false ≡ true = f (stands s p t) (inl refl) in absurd cc
-address_threads (_ ∷ b) f = address_threads b (λ y h. f y (inr h))
-
-address_fixed : (y : Thing) → is_address y ≡ true → is_loose y ≡ true → ⊥
-address_fixed (lies s a c) e f = absurd cc
-address_fixed (vacant s a n) e f = absurd cc
-address_fixed (retired s a) e f = absurd cc
-address_fixed (counts s a r t m e2) e f = absurd cc
-address_fixed _ e f = absurd cc
 
 module _ (n : ℕ) (p : PartitionState) (c : Cell) (room : NextIsVacant p) (x z : Thing) (x_counts : (is_address x ≡ true) × ((e : Cell) → CellOf e x → ⊥)) (z_counts : (is_address z ≡ true) × ((e : Cell) → CellOf e z → ⊥)) where
   abbrev before : List Thing

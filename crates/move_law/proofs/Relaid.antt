@@ -190,21 +190,21 @@ at_lies s p a c e =
     among_first (lies s a c) (things_at (cell_things s p.free) 0 p.cells) (things_at (free_things s) 0 p.free) (subst (λ m. Among (lies s m c) (things_at (cell_things s p.free) 0 p.cells)) number (lies_listed s p.free 0 a p.cells c e))
 
 -- all things of a partition are addresses
-abbrev is_address : Thing → Bool
+abbrev pub is_address : Thing → Bool
 is_address (lies s a c) = true
 is_address (vacant s a n) = true
 is_address (retired s a) = true
 is_address (counts s a r t m e) = true
 is_address x = false
 
-abbrev Addresses : List Thing → Type 0
+abbrev pub Addresses : List Thing → Type 0
 Addresses b = (y : Thing) → Among y b → is_address y ≡ true
 
-address_one : (x : Thing) → is_address x ≡ true → Addresses (x ∷ [])
+pub address_one : (x : Thing) → is_address x ≡ true → Addresses (x ∷ [])
 address_one x e y (inl q) = subst (λ z. is_address z ≡ true) q e
 address_one x e y (inr h) = absurd h
 
-address_join : (a b : List Thing) → Addresses a → Addresses b → Addresses (a ++ b)
+pub address_join : (a b : List Thing) → Addresses a → Addresses b → Addresses (a ++ b)
 address_join a b p q y h = ⊎_elim (λ (l : Among y a). p y l) (λ (r : Among y b). q y r) (among_split y a b h)
 
 address_all : {A : Type 0} (g : ℕ → A → List Thing) → ((i : ℕ) (x : A) → Addresses (g i x)) → (i : ℕ) (xs : List A) → Addresses (things_at g i xs)
@@ -219,15 +219,15 @@ cell_address s fs i None = by (is_free i fs)
     by true = λ y h. absurd h
     by false = address_one (retired s i) refl
 
-partition_addresses : (s : ℕ) (p : PartitionState) → Addresses (partition_things s p)
+pub partition_addresses : (s : ℕ) (p : PartitionState) → Addresses (partition_things s p)
 partition_addresses s p = address_join (things_at (cell_things s p.free) 0 p.cells) (things_at (free_things s) 0 p.free) (address_all (cell_things s p.free) (cell_address s p.free) 0 p.cells) (address_all (free_things s) (λ i f. address_one (vacant s f.0 f.1) refl) 0 p.free)
 
-address_threads : (b : List Thing) → Addresses b → threads_in b ≡ []
+pub address_threads : (b : List Thing) → Addresses b → threads_in b ≡ []
 address_threads [] f = refl
 address_threads (stands s p t ∷ b) f = let q : false ≡ true = f (stands s p t) (inl refl) in absurd cc
 address_threads (_ ∷ b) f = address_threads b (λ y h. f y (inr h))
 
-address_fixed : (y : Thing) → is_address y ≡ true → is_loose y ≡ true → ⊥
+pub address_fixed : (y : Thing) → is_address y ≡ true → is_loose y ≡ true → ⊥
 address_fixed (lies s a c) e f = absurd cc
 address_fixed (vacant s a n) e f = absurd cc
 address_fixed (retired s a) e f = absurd cc

@@ -1,5 +1,5 @@
 -- A thread that an object comes to waits for it on its path, and follows it by boxes and mutable references of its own alone.
-use Rattle.std.proofs.Common.{◌≡◌, ◌⊎◌, inl, inr, ◌≤◌, ◌<◌, ℕ, zero, suc, ◌+◌, ◌-◌, ◌*◌, ◌==◌, ◌&&◌, not, Bool, true, false, if◌then◌else◌, List, [], ◌∷◌, length, Option, Some, None, refl, sym, ap, subst, ◌∙◌, arith}
+use Rattle.std.proofs.Common.{◌≡◌, ◌⊎◌, inl, inr, ◌≤◌, ◌<◌, ℕ, zero, suc, ◌-◌, ◌==◌, ◌&&◌, Bool, true, false, if◌then◌else◌, List, [], ◌∷◌, length, Option, Some, None, refl, sym, ap, subst, ◌∙◌, arith}
 use Rattle.std.specs.Prelude.{slice_get}
 use Rattle.std.proofs.lemmas.Bool.{eqb-true}
 use Rattle.fr_base.specs.Lists.{last_of}
@@ -7,7 +7,6 @@ use Rattle.fr_base.specs.declared.name.ObjNo.{ObjNo}
 use Rattle.fr_base.specs.declared.place.Lval.{Lval}
 use Rattle.fr_base.specs.declared.instruction.Instr.{Instr}
 use Rattle.fr_base.specs.declared.instruction.Instr.TheVariants as instr
-use Rattle.fr_typing.proofs.PlaceLemmas.{eq_cases}
 use Rattle.fr_store.specs.Keys.{slot_k}
 use Rattle.fr_store.specs.Store.{at_key, at_object, Store, Place as StorePlace, walk}
 use Rattle.fr_store.specs.Typed.{KeyTypes}
@@ -21,18 +20,16 @@ use Rattle.thread_state.specs.declared.value.Value.{Value}
 use Rattle.thread_state.specs.declared.value.Value.TheVariants as value
 use Rattle.thread_state.specs.declared.phase.Phase.{Phase}
 use Rattle.thread_state.specs.declared.phase.Phase.TheVariants as phase
-use Rattle.server_msgs.specs.declared.message.Message.{Message}
 use Rattle.server_msgs.specs.declared.message.Message.TheVariants as message
 use Rattle.server_model.specs.Servers.{Cluster}
-use Rattle.heap_law.specs.Names.{tot, one, other, if_so, Among, same_object}
-use Rattle.heap_law.specs.Things.{Location, at_slot, at_temp, in_cell, Thing, flies, sent, stands, things_of}
+use Rattle.heap_law.specs.Names.{tot, other, Among, same_object}
+use Rattle.heap_law.specs.Things.{Location, at_slot, at_temp, in_cell, flies, sent, things_of}
 use Rattle.heap_law.specs.Follow.{Standing, Ground, thread_at, cell_of, value_in, value_behind, value_of, slot_of, leads, locate, place_at}
 use Rattle.heap_law.specs.Sight.{sight}
 use Rattle.heap_law.specs.Paths.{Path, reads, shares, lends, writes, ends, path_of, taking, assigning, ending, Awaited, to_read, to_write, to_clean, is_spent}
 use Rattle.heap_law.specs.Passing.{HopOf}
-use Rattle.heap_law.specs.Weights.{is_thread}
 use Rattle.heap_law.specs.Walking.{path, instr_of, asked_for, asks_for}
-use Rattle.heap_law.specs.Requests.{waits, halves, halves_to, halves_needed, message_answer, is_cell, in_phase, carries}
+use Rattle.heap_law.specs.Requests.{is_cell, in_phase, carries}
 use Rattle.heap_law.specs.Turn.{AwaitsAt, read_at, before_share, at_share, before_lend, at_lend, InTurn, by_read, by_share, by_lend, by_write, by_end, by_holder}
 use Rattle.heap_law.specs.Coherent.{IsSound}
 use Rattle.heap_law.proofs.Names.{and_left, and_right}
@@ -51,6 +48,7 @@ use Rattle.path_law.proofs.MayWrites.{may_write_there}
 use Rattle.path_law.proofs.Shown.{stands_there}
 use Rattle.result_law.proofs.Flights.{brought}
 use Rattle.result_law.proofs.Made.{temp_there, has_star, OwnedBy, own_path, own_reference}
+use Rattle.result_law.proofs.Alone.{strays, all_less, needed_less, is_asked}
 
 -- WHICH INSTRUCTION HAS THE PATH
 
@@ -353,61 +351,6 @@ module _ (k : Cluster) (c : HasPaths k) (z : Standing) (g : GoesOn k z) where
       let it = ended_there r (ender (instr_of (sight k) z) z.thread r e) in
       by_held it.0 r it.1 z.thread.passed f.asked.location f.asked.value a.object f.within f.asked.hop (write_owner f.asked.value a f.asked.asked)
 
--- WHO WAITS FOR WHAT IS UNDER WAY
-
-module _ (t : ℕ) (a : Awaited) (o : ObjNo) where
-  -- a message that brings the object to the thread without being what it asks for
-  abbrev strays_in : Message → ℕ
-  strays_in (message.Moved w c u) = one ((u == t && same_object c.object o) && not (asks_for t a (message.Moved w c u)))
-  strays_in m = 0
-
-  abbrev strays : Thing → ℕ
-  strays (sent r m) = strays_in m
-  strays x = 0
-
-  asked_less : (p q r : Bool) → 2 * one ((p && q) && r) ≤ if_so p 2
-  asked_less true q r = by (q && r)
-    where
-      by : (b : Bool) → 2 * one b ≤ 2
-      by true = omega arith
-      by false = omega arith
-  asked_less false q r = omega arith
-
-  moved_less : (p q r s : Bool) → 2 * one ((p && q) && r) + 2 * one ((p && s) && not ((p && q) && r)) ≤ if_so p 2
-  moved_less true q r s = by (q && r) s
-    where
-      by : (b d : Bool) → 2 * one b + 2 * one (d && not b) ≤ 2
-      by true true = omega arith
-      by true false = omega arith
-      by false true = omega arith
-      by false false = omega arith
-  moved_less false q r s = omega arith
-
-  message_counts : (m : Message) → 2 * one (asks_for t a m) + 2 * strays_in m ≤ halves t (message_answer m)
-  message_counts (message.Fetch w p s u) = omega (arith, asked_less (u == t) (not a.comes) (a.word == w && same_object p a.object))
-  message_counts (message.Fetched w c u) = omega (arith, asked_less (u == t) (not a.comes) (a.word == w && same_object c.object a.object))
-  message_counts (message.Move w p s u) = omega (arith, asked_less (u == t) a.comes (a.word == w && same_object p a.object))
-  message_counts (message.Moved w c u) = moved_less (u == t) a.comes (a.word == w && same_object c.object a.object) (same_object c.object o)
-  message_counts _ = omega arith
-
-  counts_less : (x : Thing) → 2 * asked_for t a x + 2 * strays x ≤ halves_to t x
-  counts_less (sent r m) = message_counts m
-  counts_less _ = omega arith
-
-  all_less : (b : List Thing) → 2 * tot (asked_for t a) b + 2 * tot strays b ≤ tot (halves_to t) b
-  all_less [] = omega arith
-  all_less (x ∷ b) = omega (arith, counts_less x, all_less b)
-
-  needed_less : (b : List Thing) → tot (halves_needed t) b ≤ 2 * tot (is_thread t) b
-  needed_less [] = omega arith
-  needed_less (stands s p x ∷ b) = omega (arith, needed_less b, by (x.number == t) (waits x.phase))
-    where
-      by : (p q : Bool) → if_so (p && q) 2 ≤ 2 * one p
-      by true true = omega arith
-      by true false = omega arith
-      by false q = omega arith
-  needed_less (_ ∷ b) = omega (arith, needed_less b)
-
 is_waiting : (p : Phase) (w : ℕ) → is_cell w p ≡ true → p ≡ phase.WaitCell w
 is_waiting (phase.WaitCell v) w e = ap phase.WaitCell (eqb-true v w e)
 is_waiting _ w e = absurd (cc e)
@@ -451,8 +394,3 @@ comes_to k c sound w d o flying_there object =
       waits_there = waits_now;
       owned_there = subst (OwnedBy k c z.0.thread.number) one (awaited_mine k c z.0 goes (path (sight k) z.0) refl v a (and_right (t == t) a.comes (and_left (t == t && a.comes) (a.word == v && same_object cell.object a.object) asks)) turn.turn);
     }
-  where
-    is_asked : (t : ℕ) (p q : Bool) → p ≡ true → one ((t == t && p) && not q) ≡ 0 → q ≡ true
-    is_asked t p true e z = refl
-    is_asked t true false e z = eq_cases (λ b. one ((b && true) && not false) ≡ 0 → false ≡ true) t t (λ q y. absurd (cc y)) (λ ne y. absurd (ne refl)) z
-    is_asked t false false e z = absurd (cc e)

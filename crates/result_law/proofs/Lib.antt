@@ -7,6 +7,7 @@ pub mod Lent
 pub mod Made
 pub mod Near
 pub mod Flights
+pub mod Alone
 pub mod Awaits
 pub mod Pointing
 pub mod Copied
