@@ -27,7 +27,7 @@ use Rattle.server_model.specs.Work.{Hand, push_temp, thread_in, without_thread, 
 use Rattle.server_model.specs.Clusters.{apply}
 use Rattle.server_model.specs.Places.{Spot, in_slot, value_at, load_at, pointer_of}
 use Rattle.server_model.specs.Prepare.{Prepared, ready, requested, nothing, LendTo, and_then, ask_object, request_by, read_stars, is_taken, lend_by, lend_value, lend_pointer}
-use Rattle.server_model.specs.Commit.{go_on, goes_on, lent_word, mutable_from, borrow_mut, borrow_mut_from, commit, settle}
+use Rattle.server_model.specs.Commit.{go_on, goes_on, lent_word, mutable_from, commit, settle}
 use Rattle.server_model.specs.Events.{enabled, begin_work, Stepped, done_step, committed, prepared, step, step_in, stepped, does}
 use Rattle.heap_law.specs.Names.{Among, same_object}
 use Rattle.heap_law.specs.Things.{Location, Thing, servers_things}
@@ -41,20 +41,13 @@ use Rattle.word_law.specs.Reworded.{HasPlaces}
 use Rattle.word_law.specs.Unmoved.{LeavesWords}
 use Rattle.word_law.proofs.Follows.{seen_places_lead}
 use Rattle.word_law.proofs.Standing.{pointer_at}
-use Rattle.word_law.proofs.Unmoved.{untouched_stays}
 use Rattle.event_law.specs.Laws.{Gives, FewEvents}
-use Rattle.event_law.proofs.Results.{weaker, over_gives, both_give}
-use Rattle.event_law.proofs.RulesKeep.{sums_kept}
+use Rattle.event_law.proofs.Results.{weaker, over_gives}
 use Rattle.event_law.proofs.Bags.{all_standing}
 use Rattle.event_law.proofs.Events.{others_of}
-use Rattle.event_law.proofs.AllSteps.{commits}
-use Rattle.event_law.proofs.Commits.{CommittedOk}
-use Rattle.event_law.proofs.Steps.{SteppedOk, committed_keeps}
 use Rattle.read_law.specs.Reading.{Reads, lends}
 use Rattle.still_law.proofs.Prepares.{Fine as Shown}
 use Rattle.still_law.proofs.Readied.{Readied}
-use Rattle.stay_law.proofs.Alike.{turned}
-use Rattle.stay_law.proofs.Seen.{seen_alike}
 use Rattle.stay_law.proofs.Sites.{HandAlike}
 use Rattle.stay_law.proofs.Steps.{TakesNoneHere, mut_slot_unseen, pushes, settles, goes_over}
 use Rattle.stay_law.proofs.StayKinds.{borrows_leave}
@@ -66,19 +59,16 @@ use Rattle.prepare_law.proofs.Hands.{Ok, State, Walks, put, places}
 use Rattle.prepare_law.proofs.Stars.{Spotted, asks_object, walks_loaded}
 use Rattle.prepare_law.proofs.Asking.{found_number}
 use Rattle.carry_law.proofs.Locks.{holds_on, Kept, kept_where}
-use Rattle.borrow_law.proofs.Pushed.{hands_alike}
 use Rattle.borrow_law.proofs.Sources as sources
 use Rattle.borrow_law.proofs.LentOne.{LentOne, lent_one_stays}
 use Rattle.borrow_law.proofs.OnTop.{same_takings, lent_on_top}
+use Rattle.borrow_law.proofs.Made as making
+use Rattle.borrow_law.proofs.Made.{Lendable, slot, box, reference, lendable}
 
 -- of a phase in which no object is taken the reference has its pointer's word
 word_as_it_is : (p : Phase) (r : MutRef) → ((v : ℕ) → p ≡ phase.Taken v → ⊥) → lent_word p r ≡ r
 word_as_it_is (phase.Taken v) r none = absurd (none v refl)
 word_as_it_is _ r none = refl
-
--- from what is no pointer nothing is made
-pub none_lent : (v u : Value) (p : Phase) (w : Lval) → mutable_from p w v ≡ None → mutable_from p w v ≡ Some u → ⊥
-none_lent v u p w e f = let z : None ≡ Some u = sym e ∙ f in absurd cc
 
 -- a box points somewhere
 pub points_somewhere : (b : BoxPtr) → Some b ≡ None → ⊥
@@ -212,15 +202,8 @@ module _ (k : Cluster) (coherent : IsCoherent k) (s : Server) (here : server_at 
 
   -- THE BORROW
 
-  -- words hold in a hand of which words see the same
-  record Ended (h2 : Hand) : Type 0 where
-    middle : Hand
-    ok : IsOk middle
-    words : WordsHold (Put middle)
-    alike : HandAlike k.code n [] middle h2
-
   abbrev Ends : Stepped → Type 0
-  Ends d = Ended d.hand
+  Ends = making.Ends k coherent s here t y at w m deep
 
   module _ (h : Hand) (sp : Spot) (q : Lends h sp) (shown : Readied h0 h) where
     -- the sums of the hand
@@ -274,55 +257,22 @@ module _ (k : Cluster) (coherent : IsCoherent k) (s : Server) (here : server_at 
         (λ d a. record { middle = h; ok = ok; words = q.walks.state.along.words; alike = a })
 
     -- from each value
-    pushed : (v u : Value) → Source h v ⊎ IsNone v → mutable_from h.thread.phase holder v ≡ Some u → IsOk (go_on (push_temp u h)) → Gives Ends (committed (goes_on (Some (push_temp u h))))
-    pushed (value.MutSlot j) u src made after = let same : value.MutSlot j ≡ u = cc in subst (λ x. Gives Ends (committed (goes_on (Some (push_temp x h))))) same (to_slot j)
-    pushed (value.Own (owned.Box p)) u (inl src) made after =
+    pushed_from : (v u : Value) → Lendable v → Source h v ⊎ IsNone v → mutable_from h.thread.phase holder v ≡ Some u → IsOk (go_on (push_temp u h)) → Gives Ends (committed (goes_on (Some (push_temp u h))))
+    pushed_from _ u (slot j) src made after = let same : value.MutSlot j ≡ u = cc in subst (λ x. Gives Ends (committed (goes_on (Some (push_temp x h))))) same (to_slot j)
+    pushed_from _ u (box p) (inl src) made after =
         referred_so (record { word = p.word; first = p.word; object = p.object; dirty = false; holder = holder }) refl (value.Own (owned.Box p)) u made src (inl refl) (its_first p.word p.object) refl (λ x e. absurd (own_no_mut (owned.Box p) x e)) (λ e. absurd cc) after
-    pushed (value.Own (owned.Box p)) u (inr src) made after = absurd (points_somewhere p src.2)
-    pushed (value.Mut r) u (inl src) made after =
+    pushed_from _ u (box p) (inr src) made after = absurd (points_somewhere p src.2)
+    pushed_from _ u (reference r) (inl src) made after =
         referred_so (record { word = r.word; first = r.word; object = r.object; dirty = r.dirty; holder = holder }) refl (value.Mut r) u made src (inl refl) (its_first r.word r.object) refl (λ x e. same_mark r x e) (λ e. (r, refl)) after
-    pushed (value.Mut r) u (inr src) made after = absurd (own_no_mut src.0 r (sym src.1))
-    pushed value.Gone u src made after = absurd (none_lent value.Gone u h.thread.phase holder refl made)
-    pushed (value.SharedSlot j) u src made after = absurd (none_lent (value.SharedSlot j) u h.thread.phase holder refl made)
-    pushed (value.Shared r) u src made after = absurd (none_lent (value.Shared r) u h.thread.phase holder refl made)
-    pushed (value.Held c) u src made after = absurd (none_lent (value.Held c) u h.thread.phase holder refl made)
-    pushed (value.Own owned.Nothing) u src made after = absurd (none_lent (value.Own owned.Nothing) u h.thread.phase holder refl made)
-    pushed (value.Own owned.Unit) u src made after = absurd (none_lent (value.Own owned.Unit) u h.thread.phase holder refl made)
-    pushed (value.Own (owned.Int z)) u src made after = absurd (none_lent (value.Own (owned.Int z)) u h.thread.phase holder refl made)
-    pushed (value.Own (owned.Mutex z)) u src made after = absurd (none_lent (value.Own (owned.Mutex z)) u h.thread.phase holder refl made)
-    pushed (value.Own (owned.Task z)) u src made after = absurd (none_lent (value.Own (owned.Task z)) u h.thread.phase holder refl made)
+    pushed_from _ u (reference r) (inr src) made after = absurd (own_no_mut src.0 r (sym src.1))
 
-    -- where one is made
-    made_from : (v : Value) → value_at h sp ≡ Some v → (o : Option Value) → mutable_from h.thread.phase holder v ≡ o → CommittedOk IsOk (goes_on (option_map (λ u. push_temp u h) o)) → Gives Ends (committed (goes_on (option_map (λ u. push_temp u h) o)))
-    made_from v e None f after = tt
-    made_from v e (Some u) f after = pushed v u (q.source v e) f after
+    -- from any value
+    pushed : (v u : Value) → Source h v ⊎ IsNone v → mutable_from h.thread.phase holder v ≡ Some u → IsOk (go_on (push_temp u h)) → Gives Ends (committed (goes_on (Some (push_temp u h))))
+    pushed v u src made = pushed_from v u (lendable h.thread.phase holder v u made) src made
 
-    -- where one stands
-    by_value : (o : Option Value) → value_at h sp ≡ o → CommittedOk IsOk (goes_on (then_some o (λ v. option_map (λ u. push_temp u h) (mutable_from h.thread.phase holder v))))
-        → Gives Ends (committed (goes_on (then_some o (λ v. option_map (λ u. push_temp u h) (mutable_from h.thread.phase holder v)))))
-    by_value None e after = tt
-    by_value (Some v) e after = made_from v e (mutable_from h.thread.phase holder v) refl after
-
-    -- the sums afterwards
-    all_ok : CommittedOk IsOk (goes_on (borrow_mut w sp h))
-    all_ok = commits sums_kept n s.events t b 0 i sp h tt (λ z. absurd z) ok
-
-    -- the borrow ends so
-    ended : Gives Ends (committed (goes_on (borrow_mut w sp h)))
-    ended =
-        subst (λ d. CommittedOk IsOk (goes_on (borrow_mut_from w d sp h)) → Gives Ends (committed (goes_on (borrow_mut_from w d sp h)))) (sym deep) (by_value (value_at h sp) refl) all_ok
-
-    -- with its thread put back
+    -- so words hold with its thread put back
     left : Gives (λ (d : Stepped). WordsHold (Put d.hand) × HasPlaces (Put d.hand)) (committed (commit 0 i sp h))
-    left =
-        both_give (SteppedOk sums_kept n s.events t b) Ends (λ (d : Stepped). WordsHold (Put d.hand) × HasPlaces (Put d.hand)) (committed (goes_on (borrow_mut w sp h)))
-        (committed_keeps sums_kept n s.events t b (goes_on (borrow_mut w sp h)) all_ok) ended
-        (λ d after x. (
-          holds_on
-              (untouched_stays (Put x.middle) (Put d.hand) (placed x.middle x.ok) (placed d.hand after)
-              (seen_alike (Put x.middle) (Put d.hand) (placed x.middle x.ok) (placed d.hand after) refl (turned (hands_alike k coherent s here t y at [] x.middle d.hand x.ok after x.alike)))) x.words,
-          placed d.hand after,
-        ))
+    left = making.left k coherent s here t y at w m deep h sp ok (λ u. Source h u ⊎ IsNone u) q.source pushed
 
   abbrev Left : Stepped → Type 0
   Left d = WordsHold (Put d.hand) × HasPlaces (Put d.hand)

@@ -6,6 +6,7 @@ pub mod Sources
 pub mod Shares
 pub mod LentOne
 pub mod OnTop
+pub mod Made
 pub mod Lends
 pub mod AtHand
 pub mod Takes

@@ -26,7 +26,7 @@ use Rattle.server_model.specs.Work.{Hand, push_temp, thread_in, without_thread, 
 use Rattle.server_model.specs.Clusters.{apply}
 use Rattle.server_model.specs.Places.{Spot, in_slot, took, value_at, load_at, pointer_of}
 use Rattle.server_model.specs.Prepare.{Prepared, ready, requested, nothing, ReadTo, LendTo, and_then, ask_object, request_by, read_stars, is_taken, lend_by, lend_value, lend_pointer}
-use Rattle.server_model.specs.Commit.{go_on, goes_on, lent_word, mutable_from, borrow_mut, borrow_mut_from, commit, settle}
+use Rattle.server_model.specs.Commit.{go_on, goes_on, lent_word, mutable_from, commit, settle}
 use Rattle.server_model.specs.Events.{enabled, begin_work, Stepped, done_step, committed, prepared, step, step_in, stepped, does}
 use Rattle.heap_law.specs.Names.{Among, one, other}
 use Rattle.heap_law.specs.Things.{Location, at_slot, in_cell, Thing, stands, servers_things, things_of}
@@ -42,21 +42,14 @@ use Rattle.word_law.specs.Reworded.{HasPlaces}
 use Rattle.word_law.specs.Unmoved.{Taking, taking_by, taking_of}
 use Rattle.word_law.proofs.Follows.{seen_places_lead}
 use Rattle.word_law.proofs.Standing.{pointer_at}
-use Rattle.word_law.proofs.Unmoved.{untouched_stays}
 use Rattle.event_law.specs.Laws.{Gives, FewEvents}
-use Rattle.event_law.proofs.Results.{over_gives, both_give}
-use Rattle.event_law.proofs.RulesKeep.{sums_kept}
+use Rattle.event_law.proofs.Results.{over_gives}
 use Rattle.event_law.proofs.Bags.{all_standing}
 use Rattle.event_law.proofs.Events.{others_of}
 use Rattle.event_law.proofs.GiftsTaken.{none_here}
-use Rattle.event_law.proofs.AllSteps.{commits}
-use Rattle.event_law.proofs.Commits.{CommittedOk}
-use Rattle.event_law.proofs.Steps.{SteppedOk, committed_keeps}
 use Rattle.read_law.specs.Reading.{Reads, lends}
 use Rattle.still_law.proofs.Prepares.{Fine as Shown}
 use Rattle.still_law.proofs.Readied.{Readied}
-use Rattle.stay_law.proofs.Alike.{turned}
-use Rattle.stay_law.proofs.Seen.{seen_alike}
 use Rattle.stay_law.proofs.Sites.{HandAlike}
 use Rattle.stay_law.proofs.Steps.{settles}
 use Rattle.turn_law.proofs.ReadWalk.{value_loaded}
@@ -70,11 +63,12 @@ use Rattle.carry_law.proofs.Locks.{holds_on, Kept, kept_where}
 use Rattle.ask_law.proofs.Unasked.{Unasked}
 use Rattle.borrow_law.specs.Borrows.{MutableBorrowsKeep}
 use Rattle.borrow_law.proofs.AtHand.{unasked}
-use Rattle.borrow_law.proofs.Pushed.{hands_alike}
 use Rattle.borrow_law.proofs.Sources as sources
 use Rattle.borrow_law.proofs.LentOne.{LentOne, lent_one_stays}
 use Rattle.borrow_law.proofs.OnTop.{takings_were, takings_but, taking_there, lent_on_top}
-use Rattle.borrow_law.proofs.Lends.{none_lent, points_somewhere, own_no_mut, its_first, untaken_borrows_keep}
+use Rattle.borrow_law.proofs.Lends.{points_somewhere, own_no_mut, its_first, untaken_borrows_keep}
+use Rattle.borrow_law.proofs.Made as making
+use Rattle.borrow_law.proofs.Made.{Lendable, slot, box, reference, lendable}
 
 -- what counts nothing isn't so
 counted_none : (b : Bool) → one b ≡ 0 → b ≡ false
@@ -224,15 +218,8 @@ module _ (k : Cluster) (coherent : IsCoherent k) (few : FewEvents k) (s : Server
 
   -- THE BORROW
 
-  -- words hold in a hand of which words see the same
-  record Ended (h2 : Hand) : Type 0 where
-    middle : Hand
-    ok : IsOk middle
-    words : WordsHold (Put middle)
-    alike : HandAlike k.code n [] middle h2
-
   abbrev Ends : Stepped → Type 0
-  Ends d = Ended d.hand
+  Ends = making.Ends k coherent s here t y at w m deep
 
   module _ (h : Hand) (sp : Spot) (q : Lends h sp) (shown : Readied h0 h) where
     -- the sums of the hand
@@ -317,59 +304,26 @@ module _ (k : Cluster) (coherent : IsCoherent k) (few : FewEvents k) (s : Server
         (sym (seen_places_lead (sight k).ground (sight (Put h)).ground q.walks.state.along.slots_lead q.walks.state.along.cells_lead y.number w.slot (suc m)) ∙ to_slot)
 
     -- from each value
-    pushed : (u z : Value) → Source h u ⊎ IsNone u → mutable_from h.thread.phase holder u ≡ Some z → IsOk (go_on (push_temp z h)) → Gives Ends (committed (goes_on (Some (push_temp z h))))
-    pushed (value.MutSlot j) z (inl src) made after = absurd (no_slot j src)
-    pushed (value.MutSlot j) z (inr src) made after = absurd (slot_no_own j src.0 src.1)
+    pushed_from : (u z : Value) → Lendable u → Source h u ⊎ IsNone u → mutable_from h.thread.phase holder u ≡ Some z → IsOk (go_on (push_temp z h)) → Gives Ends (committed (goes_on (Some (push_temp z h))))
+    pushed_from _ z (slot j) (inl src) made after = absurd (no_slot j src)
+    pushed_from _ z (slot j) (inr src) made after = absurd (slot_no_own j src.0 src.1)
       where
         slot_no_own : (c : ℕ) (o : Owned) → value.MutSlot c ≡ value.Own o → ⊥
         slot_no_own c o e = absurd cc
-    pushed (value.Own (owned.Box p)) z (inl src) made after =
+    pushed_from _ z (box p) (inl src) made after =
         referred_so (record { word = p.word; first = p.word; object = p.object; dirty = false; holder = holder }) refl (value.Own (owned.Box p)) z made src (inl refl) (its_first p.word p.object) (box_word p src) refl after
-    pushed (value.Own (owned.Box p)) z (inr src) made after = absurd (points_somewhere p src.2)
-    pushed (value.Mut r) z (inl src) made after =
+    pushed_from _ z (box p) (inr src) made after = absurd (points_somewhere p src.2)
+    pushed_from _ z (reference r) (inl src) made after =
         referred_so (record { word = r.word; first = r.word; object = r.object; dirty = r.dirty; holder = holder }) refl (value.Mut r) z made src (inl refl) (its_first r.word r.object) (mut_word r src) refl after
-    pushed (value.Mut r) z (inr src) made after = absurd (own_no_mut src.0 r (sym src.1))
-    pushed value.Gone z src made after = absurd (none_lent value.Gone z h.thread.phase holder refl made)
-    pushed (value.SharedSlot j) z src made after = absurd (none_lent (value.SharedSlot j) z h.thread.phase holder refl made)
-    pushed (value.Shared r) z src made after = absurd (none_lent (value.Shared r) z h.thread.phase holder refl made)
-    pushed (value.Held c) z src made after = absurd (none_lent (value.Held c) z h.thread.phase holder refl made)
-    pushed (value.Own owned.Nothing) z src made after = absurd (none_lent (value.Own owned.Nothing) z h.thread.phase holder refl made)
-    pushed (value.Own owned.Unit) z src made after = absurd (none_lent (value.Own owned.Unit) z h.thread.phase holder refl made)
-    pushed (value.Own (owned.Int c)) z src made after = absurd (none_lent (value.Own (owned.Int c)) z h.thread.phase holder refl made)
-    pushed (value.Own (owned.Mutex c)) z src made after = absurd (none_lent (value.Own (owned.Mutex c)) z h.thread.phase holder refl made)
-    pushed (value.Own (owned.Task c)) z src made after = absurd (none_lent (value.Own (owned.Task c)) z h.thread.phase holder refl made)
+    pushed_from _ z (reference r) (inr src) made after = absurd (own_no_mut src.0 r (sym src.1))
 
-    -- where one is made
-    made_from : (u : Value) → value_at h sp ≡ Some u → (o : Option Value) → mutable_from h.thread.phase holder u ≡ o → CommittedOk IsOk (goes_on (option_map (λ z. push_temp z h) o)) → Gives Ends (committed (goes_on (option_map (λ z. push_temp z h) o)))
-    made_from u e None f after = tt
-    made_from u e (Some z) f after = pushed u z (q.source u e) f after
+    -- from any value
+    pushed : (u z : Value) → Source h u ⊎ IsNone u → mutable_from h.thread.phase holder u ≡ Some z → IsOk (go_on (push_temp z h)) → Gives Ends (committed (goes_on (Some (push_temp z h))))
+    pushed u z src made = pushed_from u z (lendable h.thread.phase holder u z made) src made
 
-    -- where one stands
-    by_value : (o : Option Value) → value_at h sp ≡ o → CommittedOk IsOk (goes_on (then_some o (λ u. option_map (λ z. push_temp z h) (mutable_from h.thread.phase holder u))))
-        → Gives Ends (committed (goes_on (then_some o (λ u. option_map (λ z. push_temp z h) (mutable_from h.thread.phase holder u)))))
-    by_value None e after = tt
-    by_value (Some u) e after = made_from u e (mutable_from h.thread.phase holder u) refl after
-
-    -- the sums afterwards
-    all_ok : CommittedOk IsOk (goes_on (borrow_mut w sp h))
-    all_ok = commits sums_kept n s.events t b 0 i sp h tt (λ z. absurd z) ok
-
-    -- the borrow ends so
-    ended : Gives Ends (committed (goes_on (borrow_mut w sp h)))
-    ended =
-        subst (λ d. CommittedOk IsOk (goes_on (borrow_mut_from w d sp h)) → Gives Ends (committed (goes_on (borrow_mut_from w d sp h)))) (sym deep) (by_value (value_at h sp) refl) all_ok
-
-    -- with its thread put back
+    -- so words hold with its thread put back
     left : Gives (λ (d : Stepped). WordsHold (Put d.hand) × HasPlaces (Put d.hand)) (committed (commit 0 i sp h))
-    left =
-        both_give (SteppedOk sums_kept n s.events t b) Ends (λ (d : Stepped). WordsHold (Put d.hand) × HasPlaces (Put d.hand)) (committed (goes_on (borrow_mut w sp h)))
-        (committed_keeps sums_kept n s.events t b (goes_on (borrow_mut w sp h)) all_ok) ended
-        (λ d after z. (
-          holds_on
-              (untouched_stays (Put z.middle) (Put d.hand) (placed z.middle z.ok) (placed d.hand after)
-              (seen_alike (Put z.middle) (Put d.hand) (placed z.middle z.ok) (placed d.hand after) refl (turned (hands_alike k coherent s here t y at [] z.middle d.hand z.ok after z.alike)))) z.words,
-          placed d.hand after,
-        ))
+    left = making.left k coherent s here t y at w m deep h sp ok (λ u. Source h u ⊎ IsNone u) q.source pushed
 
   abbrev Left : Stepped → Type 0
   Left d = WordsHold (Put d.hand) × HasPlaces (Put d.hand)
