@@ -27,7 +27,7 @@ use std::marker::Model;
 /// output.
 /// Contracts see the plain state, and not what room there is. Peak memory per thread: one that goes on has room for 128 frames, 6 KB, and
 /// for its slots; one that has ended keeps neither, but its entry in the lists, with its result where somebody has its task: some 250 bytes
-/// (measured, with the room that these lists have for more). Each object that was made keeps its cell of the heap, and each mutex its entry.
+/// (measured, with the room that these lists have for more). An object that was dropped keeps nothing, and a mutex that is gone its name alone.
 #[derive(Drop)]
 pub struct Pool {
     alloc: Global,

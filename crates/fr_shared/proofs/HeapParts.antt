@@ -1,11 +1,9 @@
 -- The heap by places of threads.
-use Rattle.std.proofs.Common.{◌≡◌, ℕ, zero, suc, ◌<◌, ◌≤◌, List, [], ◌∷◌, ◌++◌, length, get_or, Option, Some, None, refl, sym, ap, ◌∙◌, subst, arith, ⊎_elim}
-use Rattle.std.specs.Prelude.{option_map, slice_get, slice_set, map, IsSome, if◌then◌else◌}
-use Rattle.std.proofs.lemmas.Bool.{cases_lt}
+use Rattle.std.proofs.Common.{◌≡◌, ℕ, zero, suc, ◌<◌, List, [], ◌∷◌, ◌++◌, length, get_or, Option, Some, None, refl, sym, ap, ◌∙◌, arith}
+use Rattle.std.specs.Prelude.{option_map, slice_get, slice_set, map, if◌then◌else◌}
 use Rattle.fr_base.specs.declared.label.Plain.{Plain}
 use Rattle.fr_base.specs.declared.name.ObjNo.{ObjNo}
 use Rattle.fr_plain.specs.Heap.{Heap, made_by, flat, cell_at, with_cells}
-use Rattle.fr_plain.proofs.HeapLemmas.{flat_is, flat_past}
 use Rattle.fr_shared.specs.Places.{place_of}
 use Rattle.fr_shared.specs.HeapRoom.{heap_by}
 use Rattle.fr_typing.proofs.PlaceLemmas.{eq_cases}
@@ -60,12 +58,6 @@ place_added (n ∷ ns) (c ∷ cs) t new h e =
 
 -- LISTS OF CELLS IN VECTORS
 
--- inside a list no default is used
-any_default : {A : Type 0} (xs : List A) (i : ℕ) (d e : A) → i < length xs → get_or xs i d ≡ get_or xs i e
-any_default [] i d e lt = absurd (omega arith)
-any_default (x ∷ xs) zero d e lt = refl
-any_default (x ∷ xs) (suc i) d e lt = any_default xs i d e (omega arith)
-
 module _ {V : Type 0} (f : V → List (Option Plain)) where
   length_map : (vs : List V) → length (map f vs) ≡ length vs
   length_map [] = refl
@@ -88,21 +80,6 @@ module _ {V : Type 0} (f : V → List (Option Plain)) where
   -- what the thread of a place has made
   pub made_there : (ns : List ℕ) (vs : List V) (t i : ℕ) (v : V) → place_of ns t ≡ Some i → length vs ≡ length ns → i < length ns → v ≡ get_or vs i v → made_by (heap_by ns (map f vs)) t ≡ f v
   made_there ns vs t i v h e lt is = place_made ns (map f vs) t i h (omega (arith, length_map vs, e)) ∙ get_map vs i v (omega (arith, e)) ∙ ap f (sym is)
-
-  -- an object's cell
-  pub cell_there : (ns : List ℕ) (vs : List V) (o : ObjNo) (i : ℕ) (v : V) (c : Option Plain) → place_of ns o.thread ≡ Some i → length vs ≡ length ns → i < length ns → v ≡ get_or vs i v → o.count < length (f v) → c ≡ get_or (f v) o.count c → cell_at (heap_by ns (map f vs)) o ≡ c
-  cell_there ns vs o i v c h e lt is in_it at =
-      ap (λ xs. flat (slice_get xs o.count)) (made_there ns vs o.thread i v h e lt is) ∙ flat_is (f v) o.count ∙ any_default (f v) o.count None c in_it ∙ sym at
-
-  -- past the end none lives
-  pub cell_past : (ns : List ℕ) (vs : List V) (o : ObjNo) (i : ℕ) (v : V) → place_of ns o.thread ≡ Some i → length vs ≡ length ns → i < length ns → v ≡ get_or vs i v → length (f v) ≤ o.count → cell_at (heap_by ns (map f vs)) o ≡ None
-  cell_past ns vs o i v h e lt is out =
-      ap (λ xs. flat (slice_get xs o.count)) (made_there ns vs o.thread i v h e lt is) ∙ flat_past (f v) o.count out
-
-  -- an object that lives was made
-  pub lives_there : (ns : List ℕ) (vs : List V) (o : ObjNo) (i : ℕ) (v : V) → place_of ns o.thread ≡ Some i → length vs ≡ length ns → i < length ns → v ≡ get_or vs i v → IsSome (cell_at (heap_by ns (map f vs)) o) → o.count < length (f v)
-  lives_there ns vs o i v h e lt is lives =
-      ⊎_elim (λ (b : o.count < length (f v)). b) (λ (a : length (f v) ≤ o.count). let no = subst (λ (c : Option Plain). IsSome c) (cell_past ns vs o i v h e lt is a) lives in absurd cc) (cases_lt o.count (length (f v)))
 
   -- other cells at the thread's place
   pub cells_set : (ns : List ℕ) (vs : List V) (t i : ℕ) (v : V) (new : List (Option Plain)) → place_of ns t ≡ Some i → length vs ≡ length ns → i < length ns → f v ≡ new → with_cells (heap_by ns (map f vs)) t new ≡ heap_by ns (map f (slice_set vs i v))

@@ -1,4 +1,5 @@
 pub mod PlaceLemmas
+pub mod ObjectParts
 pub mod HeapParts
 pub mod MutexParts
 pub mod PairParts

@@ -1,11 +1,11 @@
 -- Places of threads: the library's words for them.
 use Rattle.std.proofs.Common.{◌≡◌, ℕ, suc, ◌+◌, ◌<◌, ◌≤◌, Bool, true, false, List, [], ◌∷◌, ◌++◌, length, Option, Some, None, refl, sym, ap, ◌∙◌, arith, nat_eq, nat_lt, ⊎_elim}
-use Rattle.std.specs.Prelude.{◌==◌, ◌||◌, option_map, if◌then◌else◌, not}
+use Rattle.std.specs.Prelude.{◌==◌, ◌||◌, option_map, if◌then◌else◌, not, slice_get}
 use Rattle.std.specs.List.{list_any, position, position_or_len}
 use Rattle.std.proofs.lemmas.Bool.{cases_lt}
 use Rattle.std.proofs.lemmas.Bool.Decides.{nat_tests}
 use Rattle.indexmap.specs.IndexSet.{insert_key}
-use Rattle.fr_shared.specs.Places.{place_of}
+use Rattle.fr_shared.specs.Places.{place_of, is_first}
 use Rattle.fr_typing.proofs.PlaceLemmas.{eq_cases}
 
 -- a number below another, and one that isn't
@@ -59,3 +59,21 @@ new_last ns t h = ap (λ b. if b then ns else ns ++ t ∷ []) (none_any ns t h)
 pub later_place : (o : Option ℕ) (i : ℕ) → option_map (λ k. suc k) o ≡ Some i → (k : ℕ) × (o ≡ Some k) × (i ≡ suc k)
 later_place None i h = absurd cc
 later_place (Some k) i h = (k, refl, cc)
+
+-- THE FIRST PLACE
+
+pub first_is : (ns : List ℕ) (n t : ℕ) → Some n ≡ slice_get ns 0 → n == t ≡ is_first ns t
+first_is [] n t h = cc
+first_is (m ∷ ns) n t h = let e : n ≡ m = cc in ap (λ k. k == t) e
+
+pub none_first : (ns : List ℕ) (t : ℕ) → None ≡ slice_get ns 0 → false ≡ is_first ns t
+none_first [] t h = refl
+none_first (m ∷ ns) t h = cc
+
+pub first_place : (ns : List ℕ) (t : ℕ) → is_first ns t ≡ true → Some 0 ≡ place_of ns t
+first_place [] t h = cc
+first_place (n ∷ ns) t h = ap (λ b. if b then Some 0 else option_map (λ i. suc i) (place_of ns t)) (sym h)
+
+pub first_within : (ns : List ℕ) (t : ℕ) → is_first ns t ≡ true → 0 < length ns
+first_within [] t h = cc
+first_within (n ∷ ns) t h = omega arith

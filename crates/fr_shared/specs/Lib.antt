@@ -1,4 +1,6 @@
 pub mod Places
+pub mod ObjectRoom
+pub mod ObjectsInside
 pub mod HeapRoom
 pub mod HeapInside
 pub mod Releases

@@ -1,24 +1,25 @@
 //! The objects of all threads, and what goes last with a dropped value.
 
-ghost use Rattle.std.specs.Prelude.{◌≡◌, ◌+◌, ◌<◌, ◌≤◌, ◌==◌, [], ◌∷◌, Some, None, IfOk, OnOk, OnErr, IsSome};
+ghost use Rattle.std.specs.Prelude.{◌≡◌, ◌+◌, ◌<◌, ◌≤◌, ◌==◌, [], ◌∷◌, Some, None, IfOk, OnOk, OnErr, IsSome, IsTrue};
 ghost use Rattle.fr_plain.specs.Heap.{cell_at, with_cell, next_object, with_object, dropped, live, last_link};
 ghost use Rattle.fr_shared.specs.Releases.{released_of};
 
+use crate::objects::Objects;
 use crate::places::Places;
 use fr_base::{MutexNo, NoMemory, ObjNo, Plain, ThreadNo};
 use std::alloc::Global;
 use std::marker::Model;
 use std::mem;
 
-/// The objects that each thread has made, each at its count; nothing stands where one was dropped. The threads stand in
-/// the order in which they first made something. A look-up takes no time in the number of threads or objects.
+/// The objects that each thread has made, those of one thread after those of another. The threads stand in the order in which they first
+/// made something. An object that was dropped keeps nothing. A look-up takes no time in the number of threads or objects.
 /// Contracts see the one heap, and beside it the thread whose next object fits without memory.
 #[derive(Drop)]
 pub struct Heap {
     alloc: Global,
     places: Places,
-    cells: Vec<Vec<Option<Plain>>>,
-    first: Vec<Option<Plain>>,
+    objects: Vec<Objects>,
+    first: Objects,
     ready: Option<ThreadNo>,
 }
 
@@ -64,34 +65,47 @@ impl Heap {
         let mut places = Places::new(alloc);
         places.reserve()?;
         places.add(ThreadNo::new(0, 0));
-        let mut cells = Vec::new(alloc);
-        cells.reserve(1)?;
-        cells.push_reserved(Vec::new(alloc));
+        let mut objects = Vec::new(alloc);
+        objects.reserve(1)?;
+        objects.push_reserved(Objects::new(alloc));
         Ok(Heap {
             alloc,
             places,
-            cells,
-            first: Vec::new(alloc),
+            objects,
+            first: Objects::new(alloc),
             ready: None,
         })
     }
 
-    /// Makes room for the next object of a thread; a refusal changes no object.
+    // Whether the thread's next object is known to fit.
+    fn is_ready(&self, thread: ThreadNo) -> bool
+        ensures { IsTrue result → self.now.ready ≡ Some thread }
+    {
+        match self.ready {
+            Some(ready) => ready == thread,
+            None => false,
+        }
+    }
+
+    /// Makes room for the next object of a thread; a refusal changes no object. Where there is room already, nothing is looked up.
     pub fn reserve(&mut self, thread: ThreadNo) -> Result<(), NoMemory>
         ensures heap { self.new.heap ≡ self.old.heap }
         ensures ready { OnOk result (self.new.ready ≡ Some thread) }
     {
+        if self.is_ready(thread) {
+            return Ok(());
+        }
         self.ready = None;
-        self.places.reserve()?;
-        self.cells.reserve(1)?;
-        self.first.reserve(1)?;
         match self.places.at(thread) {
             Some(place) => {
-                self.cells[place].reserve(1)?;
+                self.objects[place].reserve()?;
                 self.ready = Some(thread);
                 Ok(())
             }
             None => {
+                self.places.reserve()?;
+                self.objects.reserve(1)?;
+                self.first.reserve()?;
                 self.ready = Some(thread);
                 Ok(())
             }
@@ -102,12 +116,10 @@ impl Heap {
     pub fn get(&self, object: &ObjNo) -> Option<Plain>
         ensures { result ≡ cell_at self.now.heap object.now }
     {
-        let Some(place) = self.places.at(object.thread) else {
-            return None;
-        };
-        let cells = &self.cells[place];
-        let at = object.count as usize;
-        if at < cells.len() { cells[at] } else { None }
+        match self.places.at(object.thread) {
+            Some(place) => self.objects[place].get(object.count),
+            None => None,
+        }
     }
 
     /// Puts another value into a living object's cell, or nothing, which is dropping it.
@@ -119,9 +131,8 @@ impl Heap {
         let Some(place) = self.places.at(object.thread) else {
             unreachable!()
         };
-        let at = object.count as usize;
-        let cells = &mut self.cells[place];
-        cells[at] = cell;
+        let objects = &mut self.objects[place];
+        objects.set(object.count, cell);
     }
 
     /// Makes an object of a thread with this value.
@@ -132,15 +143,14 @@ impl Heap {
     {
         self.ready = None;
         let Some(place) = self.places.at(thread) else {
-            let mut cells = mem::replace(&mut self.first, Vec::new(self.alloc));
-            cells.push_reserved(Some(value));
+            let mut objects = mem::replace(&mut self.first, Objects::new(self.alloc));
+            let count = objects.push(value);
             self.places.add(thread);
-            self.cells.push_reserved(cells);
-            return ObjNo { thread, count: 0 };
+            self.objects.push_reserved(objects);
+            return ObjNo { thread, count };
         };
-        let cells = &mut self.cells[place];
-        let count = cells.len() as u64;
-        cells.push_reserved(Some(value));
+        let objects = &mut self.objects[place];
+        let count = objects.push(value);
         ObjNo { thread, count }
     }
 

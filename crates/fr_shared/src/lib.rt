@@ -5,6 +5,7 @@
 mod heap;
 mod laws;
 mod mutexes;
+mod objects;
 mod pairs;
 mod places;
 #[cfg(test)]

@@ -1,12 +1,13 @@
 //! The mutexes of all threads.
 
-ghost use Rattle.std.specs.Prelude.{◌≡◌, ◌<◌, ◌≤◌, ◌^◌, ◌++◌, ◌∷◌, [], length, true, is_some, Some, None, OnOk};
+ghost use Rattle.std.specs.Prelude.{◌≡◌, ◌<◌, ◌≤◌, ◌^◌, ◌++◌, ◌∷◌, [], length, true, is_some, Some, None, IsSome, OnOk};
 ghost use Rattle.fr_plain.specs.MachineThreads.{mutex_at, mutex_there, with_mutex};
 ghost use Rattle.fr_shared.specs.MutexInside.{there_of, key_of};
 ghost use Rattle.fr_shared.specs.Shares.{changed, content_at, one_more, emptied, filled, one_less, left_at, can_share};
 
 use crate::places::Places;
 use fr_base::{MutexNo, NoMemory, Plain, ThreadNo};
+use indexmap::IndexMap;
 use std::alloc::Global;
 use std::marker::Model;
 
@@ -17,19 +18,13 @@ pub struct Shared {
     pub shares: u64,
 }
 
-/// A mutex whose name was given; nothing is there where its last share is gone.
-#[derive(Clone, Copy)]
-struct Entry {
-    number: MutexNo,
-    there: Option<Shared>,
-}
-
-/// The mutexes whose names were given, in this order. A look-up takes no time in their number.
+/// The mutexes whose names were given, in this order: each name as one number, and by it what a mutex with a share has. One that is gone keeps
+/// its name alone, as no name is given twice. A look-up takes no time in their number.
 /// Contracts see them as the plain machine has them, and beside them how many more names fit without memory.
 #[derive(Drop)]
 pub struct Mutexes {
     places: Places,
-    entries: Vec<Entry>,
+    living: IndexMap<u64, Shared>,
     spare: usize,
 }
 
@@ -59,7 +54,7 @@ impl Mutexes {
     {
         Mutexes {
             places: Places::new(alloc),
-            entries: Vec::new(alloc),
+            living: IndexMap::new(alloc),
             spare: 0,
         }
     }
@@ -71,7 +66,10 @@ impl Mutexes {
         ensures spare { self.old.spare ≤ self.new.spare }
     {
         self.places.reserve()?;
-        self.entries.reserve(1)?;
+        match self.living.reserve(1) {
+            Ok(()) => {}
+            Err(_) => return Err(NoMemory),
+        }
         if self.spare == 0 {
             self.spare = 1;
         }
@@ -83,7 +81,7 @@ impl Mutexes {
         ensures names { result ≡ length self.now.mutexes }
         ensures small { result < 2 ^ 63 }
     {
-        self.entries.len()
+        self.places.len()
     }
 
     /// Whether the name was given.
@@ -97,8 +95,10 @@ impl Mutexes {
     pub fn there(&self, mutex: MutexNo) -> Option<Shared>
         ensures { there_of result ≡ mutex_there self.now.mutexes mutex }
     {
-        match self.places.at(key(mutex)) {
-            Some(place) => self.entries[place].there,
+        // The check asks that each type inside a mutex is named where it is moved.
+        let _inside: Option<Plain> = None;
+        match self.living.get(&key(mutex).number()) {
+            Some(there) => Some(*there),
             None => None,
         }
     }
@@ -109,29 +109,40 @@ impl Mutexes {
         requires room { 0 < self.old.spare }
         ensures mutexes { self.new.mutexes ≡ self.old.mutexes ++ record { number = mutex; there = Some (record { content = Some content; shares = 1 }) } ∷ [] }
     {
-        // The check asks that each type inside an entry is named where an entry is moved.
         let _inside: Option<Plain> = None;
         self.spare -= 1;
-        self.places.add(key(mutex));
-        self.entries.push_reserved(Entry {
-            number: mutex,
-            there: Some(Shared {
-                content: Some(content),
-                shares: 1,
-            }),
-        });
+        let name = key(mutex);
+        self.places.add(name);
+        let there = Shared {
+            content: Some(content),
+            shares: 1,
+        };
+        match self.living.insert(name.number(), there) {
+            Ok(_) => {}
+            Err(_) => unreachable!(),
+        }
     }
 
-    // Another state of a mutex whose name was given; of another name nothing changes.
-    fn set(&mut self, mutex: MutexNo, there: Option<Shared>)
-        ensures mutexes { self.new.mutexes ≡ with_mutex self.old.mutexes mutex (there_of there) }
+    // Another state of a mutex that has a share.
+    fn set(&mut self, mutex: MutexNo, there: Shared)
+        requires lives { IsSome (mutex_there self.old.mutexes mutex) }
+        ensures mutexes { self.new.mutexes ≡ with_mutex self.old.mutexes mutex (there_of (Some there)) }
         ensures spare { self.new.spare ≡ self.old.spare }
     {
-        let Some(place) = self.places.at(key(mutex)) else {
-            return;
-        };
-        let entry = &mut self.entries[place];
-        entry.there = there;
+        let _inside: Option<Plain> = None;
+        match self.living.get_mut(&key(mutex).number()) {
+            Some(found) => *found = there,
+            None => unreachable!(),
+        }
+    }
+
+    // The last share of a mutex goes.
+    fn remove(&mut self, mutex: MutexNo)
+        ensures mutexes { self.new.mutexes ≡ with_mutex self.old.mutexes mutex None }
+        ensures spare { self.new.spare ≡ self.old.spare }
+    {
+        let _inside: Option<Plain> = None;
+        self.living.swap_remove(&key(mutex).number());
     }
 
     /// Whether a share more can be counted: not where there are 2^64 - 1.
@@ -155,10 +166,10 @@ impl Mutexes {
         };
         self.set(
             mutex,
-            Some(Shared {
+            Shared {
                 content: there.content,
                 shares: there.shares + 1,
-            }),
+            },
         );
     }
 
@@ -173,10 +184,10 @@ impl Mutexes {
         };
         self.set(
             mutex,
-            Some(Shared {
+            Shared {
                 content: None,
                 shares: there.shares,
-            }),
+            },
         );
         there.content
     }
@@ -191,10 +202,10 @@ impl Mutexes {
         };
         self.set(
             mutex,
-            Some(Shared {
+            Shared {
                 content: Some(content),
                 shares: there.shares,
-            }),
+            },
         );
     }
 
@@ -208,15 +219,15 @@ impl Mutexes {
             return None;
         };
         if there.shares < 2 {
-            self.set(mutex, None);
+            self.remove(mutex);
             return there.content;
         }
         self.set(
             mutex,
-            Some(Shared {
+            Shared {
                 content: there.content,
                 shares: there.shares - 1,
-            }),
+            },
         );
         None
     }

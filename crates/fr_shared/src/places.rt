@@ -1,7 +1,7 @@
 //! Where things of a thread stand that are kept in lists, a thread after another.
 
-ghost use Rattle.std.specs.Prelude.{◌≡◌, ◌+◌, ◌<◌, ◌≤◌, ◌++◌, ◌∷◌, [], length, None, OnOk, IfSome};
-ghost use Rattle.fr_shared.specs.Places.{place_of};
+ghost use Rattle.std.specs.Prelude.{◌≡◌, ◌+◌, ◌<◌, ◌≤◌, ◌^◌, ◌++◌, ◌∷◌, [], length, None, OnOk, IfSome};
+ghost use Rattle.fr_shared.specs.Places.{place_of, is_first};
 
 use fr_base::{NoMemory, ThreadNo};
 use indexmap::IndexSet;
@@ -55,13 +55,34 @@ impl Places {
         }
     }
 
+    /// How many threads have a place.
+    pub fn len(&self) -> usize
+        ensures numbers { result ≡ length self.now.numbers }
+        ensures small { result < 2 ^ 63 }
+    {
+        self.numbers.len()
+    }
+
     /// The place of a thread, where it has one.
     pub fn at(&self, thread: ThreadNo) -> Option<usize>
         ensures place { result ≡ place_of self.now.numbers thread }
         ensures within { IfSome result (λ i. i < length self.now.numbers) }
     {
         let number = thread.number();
+        if self.is_first(number) {
+            return Some(0);
+        }
         self.numbers.get_index_of(&number)
+    }
+
+    // Whether the number's thread came first. It is found with no look-up.
+    fn is_first(&self, number: u64) -> bool
+        ensures { result ≡ is_first self.now.numbers number }
+    {
+        match self.numbers.first() {
+            Some(first) => *first == number,
+            None => false,
+        }
     }
 
     /// Gives a thread the next place.

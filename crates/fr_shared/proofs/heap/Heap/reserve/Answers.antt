@@ -1,42 +1,33 @@
-use Rattle.std.proofs.Common.{◌≡◌, ℕ, ◌<◌, ◌-◌, Some, length, get_or, sym, ap, ap₂, ◌∙◌, subst, arith, vec_capacity}
-use Rattle.std.specs.Prelude.{vec_len, map, slice_set}
+use Rattle.std.proofs.Common.{◌<◌, get_or, sym, ap, ◌∙◌, subst, arith}
+use Rattle.std.specs.Prelude.{map, slice_set}
 use Rattle.fr_shared.specs.HeapRoom.{HeapRoom, heap_by}
+use Rattle.fr_shared.specs.HeapInside.{HasRoom}
 use Rattle.fr_shared.proofs.HeapParts.{same_cells, room_set, length_set}
 use Rattle.fr_shared.proofs.heap.Heap.reserve.Goals as goal
 
 pub returns-in_err-reserve-in-Some-clause-heap : goal.returns-in_err-reserve-in-Some-clause-heap
 returns-in_err-reserve-in-Some-clause-heap c =
-    let same = same_cells (λ cs. cs.items) c.reserve-2.new.self.items c.in-Some.place c.index_mut.result.now c.reserve-in-Some.new.self c.index_mut.ensures.value c.in_err-reserve-in-Some.ensures.items in
-    ap₂ heap_by c.in_ok-reserve.ensures.numbers (same ∙ ap (λ vs. map (λ cs. cs.items) vs) c.in_ok-reserve-2.ensures.items) ∙ ap (λ (v : HeapRoom). v.heap) c.self.view_is
+    let h = c.self.inside in
+    let same = same_cells (λ os. os.cells) h.objects.items c.in-Some.place c.index_mut.result.now c.reserve.new.self c.index_mut.ensures.value c.reserve.ensures.cells in
+    ap (heap_by h.places.numbers) same ∙ ap (λ (v : HeapRoom). v.heap) c.self.view_is
 
 pub returns-in_ok-reserve-in-Some-clause-heap : goal.returns-in_ok-reserve-in-Some-clause-heap
 returns-in_ok-reserve-in-Some-clause-heap c =
-    let same = same_cells (λ cs. cs.items) c.reserve-2.new.self.items c.in-Some.place c.index_mut.result.now c.reserve-in-Some.new.self c.index_mut.ensures.value c.in_ok-reserve-in-Some.ensures.items in
-    ap₂ heap_by c.in_ok-reserve.ensures.numbers (same ∙ ap (λ vs. map (λ cs. cs.items) vs) c.in_ok-reserve-2.ensures.items) ∙ ap (λ (v : HeapRoom). v.heap) c.self.view_is
+    let h = c.self.inside in
+    let same = same_cells (λ os. os.cells) h.objects.items c.in-Some.place c.index_mut.result.now c.reserve.new.self c.index_mut.ensures.value c.reserve.ensures.cells in
+    ap (heap_by h.places.numbers) same ∙ ap (λ (v : HeapRoom). v.heap) c.self.view_is
 
 pub invariant_of-self-in-Some : goal.invariant_of-self-in-Some
 invariant_of-self-in-Some c =
-    let cells = c.reserve-2.new.self.items in
-    let w = c.reserve-in-Some.new.self in
+    let h = c.self.inside in
+    let w = c.reserve.new.self in
     let at = c.in-Some.place in
-    let long = ap length c.in_ok-reserve-2.ensures.items in
-    let numbers = ap length c.in_ok-reserve.ensures.numbers in
-    let within : at < length cells = omega (arith, c.in-Some.ensures.within, long, numbers, c.self.invariant.same) in
-    let empty = c.in_ok-reserve-3.ensures.items ∙ c.self.invariant.empty in
-    let none = ap length empty in
-    let own : 0 < vec_capacity w - vec_len w = omega (arith, c.in_ok-reserve-in-Some.ensures.ok) in
+    let within = c.in-Some.ensures.within in
+    let room = c.in_ok-reserve-in-Some.ensures.room in
+    let objects = slice_set h.objects.items at w in
+    let own : 0 < get_or (map (λ os. os.spare) objects) at 1 = omega (arith, room, room_set (λ os. os.spare) h.objects.items at w (omega (arith, within, c.self.invariant.same))) in
     record {
-      same = length_set cells at w ∙ long ∙ c.self.invariant.same ∙ sym numbers;
-      empty = empty;
-      room = record {
-        first = omega (arith, c.in_ok-reserve-3.ensures.ok);
-        place = c.in_ok-reserve.ensures.room;
-        list = omega (arith, c.in_ok-reserve-2.ensures.ok);
-        own = λ i h.
-            let e : at ≡ i = some_same at i (sym c.in-Some.is ∙ c.at.ensures.place ∙ h) in
-            subst (λ k. 0 < get_or (map (λ cs. vec_capacity cs - vec_len cs) (slice_set cells at w)) k 1) e (omega (arith, own, room_set (λ cs. vec_capacity cs - vec_len cs) cells at w within));
-      };
+      same = length_set h.objects.items at w ∙ c.self.invariant.same;
+      empty = c.self.invariant.empty;
+      room = subst (HasRoom _ objects) (sym c.in-Some.is ∙ c.at.ensures.place) own;
     }
-  where
-    some_same : (a b : ℕ) → Some a ≡ Some b → a ≡ b
-    some_same a b e = cc

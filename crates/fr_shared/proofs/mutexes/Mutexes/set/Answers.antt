@@ -1,39 +1,29 @@
-use Rattle.std.proofs.Common.{◌<◌, length, sym, ap, ◌∙◌, arith}
-use Rattle.fr_plain.specs.MachineThreads.{with_mutex}
+use Rattle.std.proofs.Common.{ℕ, ◌≡◌, false, is_some, Option, Some, sym, ap, ◌∙◌, subst, nat_eq}
+use Rattle.std.specs.Prelude.{IsSome}
+use Rattle.indexmap.specs.IndexMap.{get}
+use Rattle.fr_plain.specs.MachineThreads.{with_mutex, mutex_there}
+use Rattle.fr_shared.specs.declared.mutexes.Shared.{Shared}
 use Rattle.fr_shared.specs.MutexRoom.{MutexRoom}
-use Rattle.fr_shared.specs.Places.{place_of}
-use Rattle.fr_shared.specs.MutexInside.{there_of, key_of}
-use Rattle.fr_shared.proofs.MutexParts.{set_nowhere, set_there, keys_set, small_set, length_keys}
+use Rattle.fr_shared.specs.MutexInside.{there_of, living_at}
+use Rattle.fr_shared.proofs.MutexParts.{set_there, lives_of}
 use Rattle.fr_shared.proofs.mutexes.Mutexes.set.Goals as goal
 
-pub returns-in_default-clause-mutexes : goal.returns-in_default-clause-mutexes
-returns-in_default-clause-mutexes c =
+pub unreachable-requires : goal.unreachable-requires
+unreachable-requires c =
     let m = c.self.inside in
     let n = c.args.mutex in
-    let at = ap (λ ks. place_of ks (key_of n)) (sym c.self.invariant.keys) ∙ ap (place_of m.places.numbers) (sym c.key.ensures.number) ∙ sym c.at.ensures.place ∙ c.in_default.is in
-    let same = ap (λ (v : MutexRoom). v.mutexes) c.self.view_is in
-    sym same ∙ sym (set_nowhere m.entries.items n (there_of c.args.there) c.self.invariant.small c.key.ensures.small at) ∙ ap (λ ms. with_mutex ms n (there_of c.args.there)) same
-
-pub index_mut-entry-requires : goal.index_mut-entry-requires
-index_mut-entry-requires c = omega (arith, c.in-Some.ensures.within, ap length c.self.invariant.keys, length_keys c.self.inside.entries.items, c.self.inside.entries.ok)
-
-pub invariant_of-self : goal.invariant_of-self
-invariant_of-self c =
-    let m = c.self.inside in
-    let e = c.index_mut-entry.result.now in
-    record {
-      keys = c.self.invariant.keys ∙ sym (keys_set m.entries.items c.in-Some.place e c.args.there c.index_mut-entry.ensures.value);
-      small = small_set m.entries.items c.in-Some.place e c.args.there c.index_mut-entry.ensures.value c.self.invariant.small;
-      place_room = c.self.invariant.place_room;
-      entry_room = c.self.invariant.entry_room;
-    }
+    let lives = subst (λ (v : MutexRoom). IsSome (mutex_there v.mutexes n)) (sym c.self.view_is) c.requires.lives in
+    let there = lives_of (living_at m) m.places.numbers n c.key.ensures.small c.self.invariant.named lives in
+    let none = c.in-None.ensures.value ∙ ap (get nat_eq m.living) (c.number.ensures.number ∙ c.key.ensures.number) in
+    let no = subst (λ (o : Option Shared). IsSome o) (sym none) there in
+    cc
 
 pub returns-clause-mutexes : goal.returns-clause-mutexes
 returns-clause-mutexes c =
     let m = c.self.inside in
     let n = c.args.mutex in
-    let e = c.index_mut-entry.result.now in
-    let at = ap (λ ks. place_of ks (key_of n)) (sym c.self.invariant.keys) ∙ ap (place_of m.places.numbers) (sym c.key.ensures.number) ∙ sym c.at.ensures.place ∙ c.in-Some.is in
-    let lt : c.in-Some.place < length m.entries.items = omega (arith, c.in-Some.ensures.within, ap length c.self.invariant.keys, length_keys m.entries.items) in
-    sym (set_there m.entries.items n c.in-Some.place e c.args.there c.self.invariant.small c.key.ensures.small at lt c.index_mut-entry.ensures.value)
-    ∙ ap (λ (v : MutexRoom). with_mutex v.mutexes n (there_of c.args.there)) c.self.view_is
+    let new = c.get_mut.follows.lender c.args.there in
+    let updates = (c.get_mut.follows.holds c.args.there).3 (ap is_some (sym c.in-Some.ensures.value)) in
+    let key = c.number.ensures.number ∙ c.key.ensures.number in
+    set_there (living_at m) (λ k. get nat_eq new k) m.places.numbers n (Some c.args.there) c.key.ensures.small c.self.invariant.apart (ap (get nat_eq new) (sym key) ∙ updates.1)
+    (subst (λ k. (q : ℕ) → nat_eq k q ≡ false → get nat_eq new q ≡ get nat_eq m.living q) key updates.2) ∙ ap (λ (v : MutexRoom). with_mutex v.mutexes n (there_of (Some c.args.there))) c.self.view_is
