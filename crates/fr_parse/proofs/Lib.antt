@@ -11,13 +11,6 @@ pub mod CaptureFront
 pub mod BranchLemmas
 pub mod FirstToken
 pub mod ReadableLemmas
-pub mod PrintExamples
-pub mod PrintWords
-pub mod PrintLemmas
-pub mod PrintTexts
-pub mod PrintTokens
-pub mod PrintLaw
-pub mod SourceTexts
 pub mod TableExamples
 pub mod TableLengths
 pub mod TableReading

@@ -3,6 +3,4 @@ pub mod Source
 pub mod Reading
 pub mod Growth
 pub mod Table
-pub mod Canonical
-pub mod Written
 pub mod Refusals

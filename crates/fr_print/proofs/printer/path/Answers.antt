@@ -1,9 +1,9 @@
 use Rattle.std.proofs.Common.{◌≡◌, ◌∷◌, [], replicate, string_bytes, codes, arith, subst}
 use Rattle.fr_syntax.specs.Arena.{text_of}
-use Rattle.fr_parse.specs.Canonical.{path_words}
-use Rattle.fr_parse.specs.Written.{IsWritten}
-use Rattle.fr_parse.proofs.PrintLemmas.{on_ok, star_written, path_written}
-use Rattle.fr_parse.proofs.printer.path.Goals as goal
+use Rattle.fr_print.specs.Canonical.{path_words}
+use Rattle.fr_print.specs.Written.{IsWritten}
+use Rattle.fr_print.proofs.PrintLemmas.{on_ok, star_written, path_written}
+use Rattle.fr_print.proofs.printer.path.Goals as goal
 
 pub stars-preserved : goal.stars-preserved
 stars-preserved c = star_written c.stars.counter (string_bytes c.args.text.now) (string_bytes c.stars.text) (string_bytes c.word.new.text) c.stars.invariant c.in_ok-word.ensures

@@ -7,11 +7,11 @@ use Rattle.fr_terms.specs.Terms.{Text, Spot, Captured, Term, block_t, let_t, ass
 use Rattle.fr_terms.specs.Limits.{levels, levels_of, HasShortPlaces, HaveShortPlaces, IsWithinLimits}
 use Rattle.fr_syntax.specs.declared.kind.TokenKind.TheVariants.{LetWord, MutWord, BoxWord, PrintWord, SpawnWord, JoinWord, ParWord, MutexWord, LockWord, AsWord, DupWord, OpenBrace, CloseBrace, OpenParen, CloseParen, Semicolon, Comma, Equals, Amp, Star, Plus, Minus}
 use Rattle.fr_syntax.specs.Tokens.{Leads, end_at}
-use Rattle.fr_parse.specs.Canonical.{path_words, place_words, other_words, name_words, capture_words, number_words, op_word, words, item_words, more_words, joined, canonical, IsName, AreNames, IsSpellable, AreSpellable, IsPrintable, forget, forget_captured, forget_items, IsSame}
+use Rattle.fr_print.specs.Canonical.{path_words, place_words, other_words, name_words, capture_words, number_words, op_word, words, item_words, more_words, joined, canonical, IsName, AreNames, IsSpellable, AreSpellable, IsPrintable, forget, forget_captured, forget_items, IsSame}
 use Rattle.fr_parse.specs.Source.{IsSource}
-use Rattle.fr_parse.proofs.PrintWords.{spelled, same_block}
-use Rattle.fr_parse.proofs.PrintTexts.{IsText, word_text, mark_text, name_text, number_text}
-use Rattle.fr_parse.proofs.PrintTokens.{AreTexts, texts_then, joined_behind, led}
+use Rattle.fr_print.proofs.PrintWords.{spelled, same_block}
+use Rattle.fr_print.proofs.PrintTexts.{IsText, word_text, mark_text, name_text, number_text}
+use Rattle.fr_print.proofs.PrintTokens.{AreTexts, texts_then, joined_behind, led}
 
 -- THE TEXTS OF A TERM'S WORDS
 

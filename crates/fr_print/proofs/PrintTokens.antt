@@ -11,9 +11,9 @@ use Rattle.fr_syntax.specs.Tokens.{unblanked, first_text, after_text, kind_at, n
 use Rattle.fr_syntax.specs.Names.{with_text}
 use Rattle.fr_syntax.specs.Words.{fixed_of, is_letter, is_blank}
 use Rattle.fr_syntax.specs.declared.token.Token.{Token}
-use Rattle.fr_parse.specs.Canonical.{joined}
-use Rattle.fr_parse.proofs.PrintWords.{Fit}
-use Rattle.fr_parse.proofs.PrintTexts.{Extends, IsText}
+use Rattle.fr_print.specs.Canonical.{joined}
+use Rattle.fr_print.proofs.PrintWords.{Fit}
+use Rattle.fr_print.proofs.PrintTexts.{Extends, IsText}
 
 -- these are texts of tokens
 abbrev pub AreTexts : List Text → Type 0

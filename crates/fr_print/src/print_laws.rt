@@ -2,7 +2,7 @@
 
 ghost use Rattle.std.specs.Prelude.{◌≡◌, ℕ, List};
 ghost use Rattle.fr_terms.specs.Terms.{Term};
-ghost use Rattle.fr_parse.specs.Canonical.{canonical, IsPrintable, IsSame};
+ghost use Rattle.fr_print.specs.Canonical.{canonical, IsPrintable, IsSame};
 ghost use Rattle.fr_parse.specs.Source.{IsSource};
 
 /// Printing and parsing gives the same term: the canonical text of a program is a source of one that is the same but for where

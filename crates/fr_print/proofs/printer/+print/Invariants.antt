@@ -1,8 +1,8 @@
 use Rattle.std.proofs.Common.{◌+◌, ◌*◌, take, string_bytes}
 use Rattle.fr_syntax.specs.Meanings.{meanings, items_at}
-use Rattle.fr_parse.specs.Canonical.{item_words}
-use Rattle.fr_parse.specs.Written.{IsWritten}
-use Rattle.fr_parse.proofs.printer.+print.Given as goal
+use Rattle.fr_print.specs.Canonical.{item_words}
+use Rattle.fr_print.specs.Written.{IsWritten}
+use Rattle.fr_print.proofs.printer.+print.Given as goal
 
 abbrev pub decreases-term : goal.decreases-term
 decreases-term l = 4 * l.at + 3

@@ -1,10 +1,10 @@
 use Rattle.std.proofs.Common.{◌≡◌, ◌∷◌, ◌++◌, [], ◌∙◌, string_bytes, codes, ap, sym, subst}
 use Rattle.fr_syntax.specs.declared.tree.Term.TheVariants.{Block}
 use Rattle.fr_syntax.specs.Meanings.{meanings, term_at, items_at, term_of}
-use Rattle.fr_parse.specs.Canonical.{item_words, words}
-use Rattle.fr_parse.specs.Written.{IsWritten}
-use Rattle.fr_parse.proofs.PrintLemmas.{words_here, program_written}
-use Rattle.fr_parse.proofs.printer.print.Goals as goal
+use Rattle.fr_print.specs.Canonical.{item_words, words}
+use Rattle.fr_print.specs.Written.{IsWritten}
+use Rattle.fr_print.proofs.PrintLemmas.{words_here, program_written}
+use Rattle.fr_print.proofs.printer.print.Goals as goal
 
 pub returns : goal.returns
 returns c =

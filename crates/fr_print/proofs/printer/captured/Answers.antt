@@ -1,7 +1,7 @@
 use Rattle.std.proofs.Common.{length, string_bytes}
 use Rattle.fr_syntax.specs.Meanings.{meanings, capture_s}
-use Rattle.fr_parse.proofs.PrintLemmas.{need_at, name_written}
-use Rattle.fr_parse.proofs.printer.captured.Goals as goal
+use Rattle.fr_print.proofs.PrintLemmas.{need_at, name_written}
+use Rattle.fr_print.proofs.printer.captured.Goals as goal
 
 pub capture-requires-clause-here : goal.capture-requires-clause-here
 capture-requires-clause-here c = (need_at (meanings c.args.tree.now) (length (meanings c.args.tree.now)) capture_s c.args.nodes.now.items c.captures-2.next c.in-Some.node.now c.requires.parts c.in-Some.ensures).0

@@ -6,8 +6,8 @@ ghost use Rattle.fr_terms.specs.Limits.{IsWithinLimits};
 ghost use Rattle.fr_syntax.specs.Arena.{text_of};
 ghost use Rattle.fr_syntax.specs.Meanings.{meanings, meaning_at, term_at, place_at, items_at, captures_at, as_capture, sort_of, term_of, term_s, place_s, capture_s, need, all_need, AreBelow, IsTree};
 ghost use Rattle.fr_parse.specs.Growth.{branch_parts};
-ghost use Rattle.fr_parse.specs.Canonical.{path_words, place_words, name_words, capture_words, number_words, words, item_words, op_word, canonical};
-ghost use Rattle.fr_parse.specs.Written.{IsWritten, mark_before};
+ghost use Rattle.fr_print.specs.Canonical.{path_words, place_words, name_words, capture_words, number_words, words, item_words, op_word, canonical};
+ghost use Rattle.fr_print.specs.Written.{IsWritten, mark_before};
 
 use fr_base::{NoMemory, Op};
 use fr_syntax::{Nodes, Term, Tree};

@@ -2,10 +2,10 @@ use Rattle.std.proofs.Common.{◌∷◌, [], length, string_bytes, codes, subst,
 use Rattle.fr_syntax.specs.declared.tree.Term.TheVariants.{Par}
 use Rattle.fr_syntax.specs.Arena.{text_of}
 use Rattle.fr_syntax.specs.Meanings.{meanings, term_at, place_at, items_at, captures_at, term_s, capture_s, need, all_need}
-use Rattle.fr_parse.specs.Canonical.{op_word, place_words, capture_words, item_words, words}
-use Rattle.fr_parse.specs.Written.{IsWritten}
-use Rattle.fr_parse.proofs.PrintLemmas.{on_ok, need_at, item_written, below_later, below_split, par_parts, words_here, written_then, enclosed, arith_written, par_written, lock_written}
-use Rattle.fr_parse.proofs.printer.+print.Goals as goal
+use Rattle.fr_print.specs.Canonical.{op_word, place_words, capture_words, item_words, words}
+use Rattle.fr_print.specs.Written.{IsWritten}
+use Rattle.fr_print.proofs.PrintLemmas.{on_ok, need_at, item_written, below_later, below_split, par_parts, words_here, written_then, enclosed, arith_written, par_written, lock_written}
+use Rattle.fr_print.proofs.printer.+print.Goals as goal
 
 pub term-branch-tree-requires-in-Par : goal.term-branch-tree-requires-in-Par
 term-branch-tree-requires-in-Par t c =

@@ -8,9 +8,9 @@ use Rattle.fr_base.specs.Rooms.{WithRoom}
 use Rattle.fr_syntax.specs.declared.tree.Term as tree
 use Rattle.fr_syntax.specs.declared.tree.Term.TheVariants.{Par}
 use Rattle.fr_syntax.specs.Meanings.{Meaning, Sort, Need, sort_of, meaning_at, term_at, items_at, captures_at, as_term, as_capture, term_s, capture_s, need, all_need, needs, stands_for, AreBelow}
-use Rattle.fr_parse.specs.Canonical.{path_words, other_words, name_words, words, item_words, more_words, joined}
+use Rattle.fr_print.specs.Canonical.{path_words, other_words, name_words, words, item_words, more_words, joined}
 use Rattle.fr_parse.specs.Growth.{branch_parts}
-use Rattle.fr_parse.specs.Written.{spaced, IsWritten, mark_before}
+use Rattle.fr_print.specs.Written.{spaced, IsWritten, mark_before}
 
 -- texts behind texts
 spaced-append : (ws vs : List Text) → spaced (ws ++ vs) ≡ spaced ws ++ spaced vs

@@ -20,8 +20,8 @@ use Rattle.fr_syntax.specs.Tokens.{kind_or, kind_at, free_at, names_after}
 use Rattle.fr_syntax.specs.Words.{fixed_of, word_of, mark_of, is_letter, is_digit, is_word_byte, is_blank}
 use Rattle.fr_syntax.specs.declared.kind.TokenKind.{TokenKind}
 use Rattle.fr_syntax.specs.declared.kind.TokenKind.TheVariants.{Name, Number}
-use Rattle.fr_parse.specs.Canonical.{IsName}
-use Rattle.fr_parse.proofs.PrintWords.{Fits}
+use Rattle.fr_print.specs.Canonical.{IsName}
+use Rattle.fr_print.proofs.PrintWords.{Fits}
 
 -- the names that were there stay, under their numbers
 pub record Extends (names more : List Text) : Type 0 where

@@ -17,11 +17,11 @@ use Rattle.fr_syntax.specs.declared.kind.TokenKind.TheVariants.{Name, Number, Le
 use Rattle.fr_syntax.specs.declared.token.Token.{Token}
 use Rattle.fr_syntax.specs.declared.token.TokenError.{TokenError}
 use Rattle.fr_syntax.specs.declared.token.TokenError.TheVariants.{BadByte, NameTooLong, NumberTooLarge}
-use Rattle.fr_parse.specs.Canonical.{IsName, AreNames, IsSpellable, AreSpellable, IsPrintable}
+use Rattle.fr_print.specs.Canonical.{IsName, AreNames, IsSpellable, AreSpellable, IsPrintable}
 use Rattle.fr_parse.specs.Grammar.{Has, SpellsName, SpellsPath, SpellsOthers, SpellsCaptures, SpellsNumber, mark_of_op, Spells, SpellsItems, SpellsMore}
 use Rattle.fr_parse.specs.Source.{IsSource}
-use Rattle.fr_parse.proofs.PrintTexts.{Extends, first, name_there}
-use Rattle.fr_parse.proofs.PrintTokens.{extends_refl, extends_trans, after_extends}
+use Rattle.fr_print.proofs.PrintTexts.{Extends, first, name_there}
+use Rattle.fr_print.proofs.PrintTokens.{extends_refl, extends_trans, after_extends}
 
 -- among these names: a name of the language, or a number of a size that can be written, or another token
 abbrev pub IsGood : List Text → TokenKind → Type 0

@@ -11,7 +11,7 @@ use Rattle.fr_syntax.specs.declared.kind.TokenKind.TheVariants.{Name, Number, Le
 use Rattle.fr_syntax.specs.declared.token.Token.{Token}
 use Rattle.fr_parse.specs.Grammar.{Has, IsAt, Begins, SpellsName, SpellsPath, SpellsPlace, SpellsOthers, SpellsCaptures, SpellsNumber, mark_of_op, Spells, SpellsItems, SpellsMore}
 use Rattle.fr_parse.specs.Reading.{place_of}
-use Rattle.fr_parse.specs.Canonical.{path_words, place_words, other_words, name_words, capture_words, number_words, op_word, words, item_words, more_words, IsName, AreNames, IsSpellable, AreSpellable, forget_spot, forget_captured, forget, forget_items}
+use Rattle.fr_print.specs.Canonical.{path_words, place_words, other_words, name_words, capture_words, number_words, op_word, words, item_words, more_words, IsName, AreNames, IsSpellable, AreSpellable, forget_spot, forget_captured, forget, forget_items}
 
 -- a token of this kind fits this text
 pub record Fits (names : List Text) (w : Text) (k : TokenKind) : Type 0 where

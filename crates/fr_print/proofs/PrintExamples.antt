@@ -3,7 +3,7 @@ use Rattle.std.proofs.Common.{◌≡◌, ℕ, pos, negsuc, [], ◌∷◌, refl, 
 use Rattle.std.specs.Fmt.{digits}
 use Rattle.fr_base.specs.declared.place.Op.TheVariants.{Add}
 use Rattle.fr_terms.specs.Terms.{Spot, Captured, Term, block_t, let_t, assign_t, read_t, borrow_t, borrow_mut_t, number_t, unit_t, box_t, print_t, arith_t, join_t, mutex_t, dup_t, lock_t, spawn_t, par_t, none, item}
-use Rattle.fr_parse.specs.Canonical.{canonical}
+use Rattle.fr_print.specs.Canonical.{canonical}
 
 -- names under so many stars, and a captured name
 abbrev x_under : ℕ → Spot

@@ -1,8 +1,8 @@
 use Rattle.std.proofs.Common.{string_bytes, codes}
 use Rattle.fr_syntax.specs.Meanings.{meanings, captures_at}
-use Rattle.fr_parse.specs.Canonical.{name_words}
-use Rattle.fr_parse.proofs.PrintLemmas.{on_ok, enclosed}
-use Rattle.fr_parse.proofs.printer.captures.Goals as goal
+use Rattle.fr_print.specs.Canonical.{name_words}
+use Rattle.fr_print.proofs.PrintLemmas.{on_ok, enclosed}
+use Rattle.fr_print.proofs.printer.captures.Goals as goal
 
 pub returns : goal.returns
 returns c =
