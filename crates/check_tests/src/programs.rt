@@ -7,26 +7,18 @@ use borrow_check::{CheckError, Checked, check};
 use fr_base::Lval;
 use fr_parse::parse;
 use fr_syntax::tokens;
-use fr_typing::Reason;
 use std::alloc::Global;
+use std::process::Abort;
 use std::test::Fail;
 
 // Programs of one thread, with the place and the reason of their first fault: operands are numbers, a lent box stays, a mutable
 // reference blocks reads, no reference leaves its block.
-const ALONE: [(&str, u32, Reason); 4] = [
-    ("{ print (1 - ()) }", 13, Reason::WrongType),
-    (
-        "{ let mut x = box 1; let mut r = &x; x }",
-        37,
-        Reason::WriteBlocked,
-    ),
-    (
-        "{ let mut x = 1; let mut r = &mut x; x }",
-        37,
-        Reason::ReadBlocked,
-    ),
-    ("{ { let mut y = 2; &y } }", 19, Reason::Outlives),
-];
+const ALONE: &str = "\
+{ print (1 - ()) }|byte 13: WrongType
+{ let mut x = box 1; let mut r = &x; x }|byte 37: WriteBlocked
+{ let mut x = 1; let mut r = &mut x; x }|byte 37: ReadBlocked
+{ { let mut y = 2; &y } }|byte 19: Outlives
+";
 
 // Places of an environment.
 const FIRST: Option<Lval> = Some(Lval { slot: 0, depth: 0 });
@@ -65,36 +57,36 @@ fn answer(alloc: Global, input: &[u8]) -> Result<Result<Checked, CheckError>, Fa
     Ok(check(alloc, tree))
 }
 
-#[test]
-fn programs(rt: HostRuntime) -> Result<(), Fail> {
-    for inputs in [TYPED.as_slice(), LOCKED.as_slice(), BESIDE.as_slice()] {
-        for input in inputs {
-            assert_eq!(rt;
-                answer(rt.alloc(), input.as_bytes())?.err(),
-                None,
-                "{input}"
-            );
-        }
-    }
-    for rows in [
-        ALONE.as_slice(),
-        FAULTS.as_slice(),
-        LOCK_FAULTS.as_slice(),
-        BESIDE_FAULTS.as_slice(),
-    ] {
-        for (input, place, reason) in rows {
-            let want = CheckError::Fault {
-                place: *place,
-                reason: *reason,
-            };
-            assert_eq!(rt;
-                answer(rt.alloc(), input.as_bytes())?.err(),
-                Some(want),
-                "{input}"
-            );
-        }
+// Each program has a type.
+fn have_types<R: Abort>(rt: &R, alloc: Global, rows: &str) -> Result<(), Fail> {
+    for input in rows.lines().filter(|row| !row.starts_with("# ")) {
+        assert_eq!(rt; answer(alloc, input.as_bytes())?.err(), None, "{input}");
     }
     Ok(())
+}
+
+// Each row's program has that first fault.
+fn have_faults<R: Abort>(rt: &R, alloc: Global, rows: &str) -> Result<(), Fail> {
+    for row in rows.lines().filter(|row| !row.starts_with("# ")) {
+        let (input, want) = row.split_once('|').expect(rt, "a fault");
+        let given = match answer(alloc, input.as_bytes())? {
+            Ok(_) => String::from_str(alloc, "a type")?,
+            Err(error) => format!(in alloc; "{error}")?,
+        };
+        assert_eq!(rt; given.as_str(), want, "{row}");
+    }
+    Ok(())
+}
+
+#[test]
+fn programs(rt: HostRuntime) -> Result<(), Fail> {
+    have_types(&rt, rt.alloc(), TYPED)?;
+    have_types(&rt, rt.alloc(), LOCKED)?;
+    have_types(&rt, rt.alloc(), BESIDE)?;
+    have_faults(&rt, rt.alloc(), ALONE)?;
+    have_faults(&rt, rt.alloc(), FAULTS)?;
+    have_faults(&rt, rt.alloc(), LOCK_FAULTS)?;
+    have_faults(&rt, rt.alloc(), BESIDE_FAULTS)
 }
 
 #[test]
