@@ -1,11 +1,8 @@
-//! Tests of the whole way from bytes to text, and of the plain machine on sources. They stand in a crate of their own, since tests
-//! within a crate prove its functions once more.
+//! Tests of the whole way from bytes to text. They stand in a crate of their own, since tests within a crate prove its functions once more.
 #![tactic(auto)]
 
 #[cfg(test)]
 mod answers;
-#[cfg(test)]
-mod machine;
 #[cfg(test)]
 mod order_cases;
 #[cfg(test)]

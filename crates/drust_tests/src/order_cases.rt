@@ -108,7 +108,7 @@ pub const ORDERS: [(&str, u8, &str); 41] = [
 
 /// Sources that start and join threads, each with an order, and the status and the text of its replay.
 #[rattlefmt::skip]
-pub const THREAD_ORDERS: [(&str, &str, u8, &str); 19] = [
+pub const THREAD_ORDERS: [(&str, &str, u8, &str); 20] = [
     // a thread is joined
     (JOINED, "0.0 thread 0.1\n0.0 1\n0.1 1\n0.0 5\n", 0, "ended finished\nprints 1\n3\nsteps 8\n"),
     (JOINED, "0.0 thread 0.1\n0.0 2\n0.1 1\n0.0 4\n", 0, "ended finished\nprints 1\n3\nsteps 8\n"),
@@ -130,6 +130,8 @@ pub const THREAD_ORDERS: [(&str, &str, u8, &str); 19] = [
     (READ, "0.0 2\n0.0 thread 1.1\n1.1 2\n0.0 2\n1.1 4\n0.0 4\n", 0, "ended finished\nprints 2\n5\n5\nsteps 15\n"),
     (BOTH, "0.0 3\n0.0 thread 0.1\n0.0 1\n0.1 7\n0.0 9\n", 0, "ended finished\nprints 3\n1\n2\n1\nsteps 21\n"),
     (LENT, "0.0 1\n0.0 thread 3.1\n3.1 7\n0.0 7\n", 0, "ended finished\nprints 1\n4\nsteps 16\n"),
+    // main waits for a thread that has ended
+    (JOINED, "0.0 thread 0.1\n0.0 2\n0.1 1\n", 2, "ended unfinished\nprints 0\nsteps 4\n"),
 ];
 
 /// Sources whose threads start threads or drop tasks, each with an order, and the status and the text of its replay.

@@ -1,8 +1,8 @@
-//! Replays of sources with mutexes and pairs of threads, with what a second interpreter, written for these tests alone, says that they
-//! write.
+//! Replays of sources with mutexes and pairs of threads, with what they write worked out by hand; a second interpreter, written for these
+//! tests alone, says the same.
 
 #[rattlefmt::skip]
-pub const COUNTED: &str = "{ let mut m = mutex 1; lock m as x { x = (x + 1); print x } }";
+pub const CHANGED: &str = "{ let mut m = mutex 1; lock m as x { x = (x + 1); print x } }";
 
 #[rattlefmt::skip]
 pub const LOCKED_TWICE: &str = "{ let mut m = mutex 1; lock m as a { lock m as b { print b } } }";
@@ -50,7 +50,7 @@ pub const SHARE_DROPPED: &str = "{ let mut m = mutex box 1; { let mut n = dup m 
 pub const REPLACED: &str = "{ let mut m = mutex 1; m = mutex 2; lock m as x { print x } }";
 
 #[rattlefmt::skip]
-pub const TASKS: &str = "{ let mut m = mutex spawn () { print 3 }; lock m as t { t = spawn () { print 4 } } }";
+pub const TASK_AS_CONTENT: &str = "{ let mut m = mutex spawn () { print 3 }; lock m as t { t = spawn () { print 4 } } }";
 
 #[rattlefmt::skip]
 pub const SIDE_BY_SIDE: &str = "{ par () { print 1 } () { print 2 } }";
@@ -68,24 +68,36 @@ pub const VIEWED_AGAIN: &str = "{ let mut b = box box 9; let mut r = &*b; par (r
 pub const BOTH_LOCK: &str = "{ let mut m = mutex 0; let mut n = dup m; par (m) { lock m as x { x = (x + 1); print x } } (n) { lock n as x { x = (x + 2); print x } } }";
 
 #[rattlefmt::skip]
-pub const PAIR_INSIDE: &str = "{ let mut m = mutex 8; let mut n = dup m; lock m as x { par (n) { lock n as y { print y } } () { print 7 } } }";
+pub const HELD: &str = "{ let mut m = mutex 8; let mut n = dup m; lock m as x { par (n) { lock n as y { print y } } () { print 7 } } }";
 
 #[rattlefmt::skip]
-pub const PAIRS: &str = "{ par () { par () { print 1 } () { print 2 } } () { print 3 } }";
+pub const PAIR_IN_PAIR: &str = "{ par () { par () { print 1 } () { print 2 } } () { print 3 } }";
 
 #[rattlefmt::skip]
 pub const SEEN_TWICE: &str = "{ let mut x = box 1; { let mut r = &*x; par (r) { print *r } (r) { print *r } }; *x = 2; { let mut s = &*x; par (s) { print *s } (s) { print *s } } }";
 
 #[rattlefmt::skip]
-pub const SEEN_BOTH: &str = "{ let mut x = box 1; let mut y = box 2; let mut a = &*x; let mut b = &*y; par (a, b) { print *a; print *b; print (*a + *b) } () { } }";
+pub const SEEN_SIDE_BY_SIDE: &str = "{ let mut x = box 1; let mut y = box 2; let mut a = &*x; let mut b = &*y; par (a, b) { print *a; print *b; print (*a + *b) } () { } }";
 
 #[rattlefmt::skip]
 pub const PAIR_JOINS: &str = "{ let mut h = spawn () { 5 }; par (h) { print join h } () { print 1 } }";
 
+#[rattlefmt::skip]
+pub const ENDED_FIRST: &str = "{ spawn () { let mut m = mutex 1; lock m as a { lock m as b { } } } }";
+
+#[rattlefmt::skip]
+pub const GONE: &str = "{ { let mut m = mutex 1 }; let mut n = mutex 2 }";
+
+#[rattlefmt::skip]
+pub const COPIED_IN: &str = "{ let mut x = 1; par (x) { print x } () { } }";
+
+#[rattlefmt::skip]
+pub const LEFT_FIRST: &str = "{ let mut m = mutex 1; print (lock m as x { x = (x + 1); x } - lock m as x { x }) }";
+
 /// Sources of one thread with mutexes, each with an order, and the status and the text of its replay.
 #[rattlefmt::skip]
-pub const MUTEX_ORDERS: [(&str, &str, u8, &str); 10] = [
-    (COUNTED, "0.0 mutex 0.1\n0.0 10\n", 0, "ended finished\nprints 1\n2\nsteps 11\n"),
+pub const MUTEX_ORDERS: [(&str, &str, u8, &str); 11] = [
+    (CHANGED, "0.0 mutex 0.1\n0.0 10\n", 0, "ended finished\nprints 1\n2\nsteps 11\n"),
     (LOCKED_TWICE, "0.0 mutex 0.1\n0.0 2\n", 1, "ended deadlocked\nprints 0\nsteps 3\n"),
     (EXCHANGED, "0.0 1\n0.0 mutex 0.1\n0.0 16\n", 0, "ended finished\nprints 1\n2\nsteps 18\n"),
     (BEHIND, "0.0 1\n0.0 mutex 0.1\n0.0 13\n", 0, "ended finished\nprints 1\n6\nsteps 15\n"),
@@ -94,12 +106,13 @@ pub const MUTEX_ORDERS: [(&str, &str, u8, &str); 10] = [
     (WITH_VALUE, "0.0 mutex 0.1\n0.0 10\n", 0, "ended finished\nprints 1\n6\nsteps 11\n"),
     (SHARE_DROPPED, "0.0 1\n0.0 mutex 0.1\n0.0 10\n", 0, "ended finished\nprints 1\n1\nsteps 12\n"),
     (REPLACED, "0.0 mutex 0.1\n0.0 1\n0.0 mutex 0.2\n0.0 7\n", 0, "ended finished\nprints 1\n2\nsteps 10\n"),
-    (COUNTED, "0.0 mutex 9.7\n0.0 2\n", 2, "ended unfinished\nprints 0\nsteps 3\n"),
+    (CHANGED, "0.0 mutex 9.7\n0.0 2\n", 2, "ended unfinished\nprints 0\nsteps 3\n"),
+    (LEFT_FIRST, "0.0 mutex 0.1\n0.0 14\n", 0, "ended finished\nprints 1\n0\nsteps 15\n"),
 ];
 
 /// Sources whose threads share mutexes, in the same way.
 #[rattlefmt::skip]
-pub const SHARED_ORDERS: [(&str, &str, u8, &str); 29] = [
+pub const SHARED_ORDERS: [(&str, &str, u8, &str); 30] = [
     (SHARED, "0.0 mutex 0.1\n0.0 3\n0.0 thread 0.1\n0.0 7\n0.1 7\n0.0 10\n", 0, "ended finished\nprints 1\n1\nsteps 29\n"),
     (SHARED, "0.0 mutex 0.1\n0.0 3\n0.0 thread 0.1\n0.1 7\n0.0 17\n", 0, "ended finished\nprints 1\n10\nsteps 29\n"),
     (SHARED, "0.0 mutex 0.1\n0.0 3\n0.0 thread 0.1\n0.1 1\n0.0 1\n0.1 6\n0.0 16\n", 0, "ended finished\nprints 1\n10\nsteps 29\n"),
@@ -122,23 +135,25 @@ pub const SHARED_ORDERS: [(&str, &str, u8, &str); 29] = [
     (RETURNED, "0.0 thread 0.1\n0.0 2\n0.1 mutex 0.1\n0.1 1\n0.0 9\n", 0, "ended finished\nprints 1\n5\nsteps 14\n"),
     (STARTED_INSIDE, "0.0 mutex 0.1\n0.0 2\n0.0 thread 0.1\n0.1 4\n0.0 12\n", 0, "ended finished\nprints 1\n2\nsteps 20\n"),
     (STARTED_INSIDE, "0.0 mutex 0.1\n0.0 2\n0.0 thread 0.1\n0.0 1\n0.1 4\n0.0 11\n", 0, "ended finished\nprints 1\n2\nsteps 20\n"),
-    (TASKS, "0.0 thread 0.1\n0.0 mutex 0.1\n0.0 2\n0.0 thread 0.2\n0.0 4\n0.2 2\n0.1 2\n", 0, "ended finished\nprints 2\n4\n3\nsteps 13\n"),
-    (TASKS, "0.0 thread 0.1\n0.0 mutex 0.1\n0.0 2\n0.0 thread 0.2\n0.2 2\n0.1 2\n0.0 4\n", 0, "ended finished\nprints 2\n4\n3\nsteps 13\n"),
-    (TASKS, "0.0 thread 0.1\n0.0 mutex 0.1\n0.0 2\n0.0 thread 0.2\n0.1 2\n0.2 2\n0.0 4\n", 0, "ended finished\nprints 2\n3\n4\nsteps 13\n"),
-    (TASKS, "0.0 thread 0.1\n0.0 mutex 0.1\n0.1 2\n0.0 2\n0.0 thread 0.2\n0.0 2\n0.2 2\n0.0 2\n", 0, "ended finished\nprints 2\n3\n4\nsteps 13\n"),
+    (TASK_AS_CONTENT, "0.0 thread 0.1\n0.0 mutex 0.1\n0.0 2\n0.0 thread 0.2\n0.0 4\n0.2 2\n0.1 2\n", 0, "ended finished\nprints 2\n4\n3\nsteps 13\n"),
+    (TASK_AS_CONTENT, "0.0 thread 0.1\n0.0 mutex 0.1\n0.0 2\n0.0 thread 0.2\n0.2 2\n0.1 2\n0.0 4\n", 0, "ended finished\nprints 2\n4\n3\nsteps 13\n"),
+    (TASK_AS_CONTENT, "0.0 thread 0.1\n0.0 mutex 0.1\n0.0 2\n0.0 thread 0.2\n0.1 2\n0.2 2\n0.0 4\n", 0, "ended finished\nprints 2\n3\n4\nsteps 13\n"),
+    (TASK_AS_CONTENT, "0.0 thread 0.1\n0.0 mutex 0.1\n0.1 2\n0.0 2\n0.0 thread 0.2\n0.0 2\n0.2 2\n0.0 2\n", 0, "ended finished\nprints 2\n3\n4\nsteps 13\n"),
     (SHARED, "0.0 mutex 0.1\n0.0 3\n0.0 thread 0.1\n0.1 1\n", 2, "ended unfinished\nprints 0\nsteps 6\n"),
     (LAST, "0.0 1\n0.0 mutex 5.5\n0.0 3\n0.0 thread 6.6\n6.6 2\n0.0 6\n", 2, "ended unfinished\nprints 1\n1\nsteps 14\n"),
     (CROSSED, "0.0 mutex 0.1\n0.0 1\n0.0 mutex 0.2\n0.0 5\n0.0 thread 0.1\n0.0 2\n", 2, "ended unfinished\nprints 0\nsteps 11\n"),
-    (TASKS, "0.0 thread 0.1\n0.0 mutex 0.1\n0.0 2\n0.0 thread 0.2\n0.0 4\n", 2, "ended unfinished\nprints 0\nsteps 9\n"),
+    (TASK_AS_CONTENT, "0.0 thread 0.1\n0.0 mutex 0.1\n0.0 2\n0.0 thread 0.2\n0.0 4\n", 2, "ended unfinished\nprints 0\nsteps 9\n"),
+    // main is over, and the thread waits for the mutex that it holds
+    (ENDED_FIRST, "0.0 thread 0.1\n0.0 1\n0.1 mutex 0.1\n0.1 2\n", 1, "ended deadlocked\nprints 0\nsteps 5\n"),
 ];
 
 /// Sources with pairs of threads, in the same way.
 #[rattlefmt::skip]
-pub const PAIR_ORDERS: [(&str, &str, u8, &str); 36] = [
+pub const PAIR_ORDERS: [(&str, &str, u8, &str); 39] = [
     (SEEN_TWICE, "0.0 4\n0.0 threads 0.1 0.2\n0.2 4\n0.1 4\n0.0 5\n0.0 threads 0.3 0.4\n0.3 4\n0.4 4\n0.0 4\n", 0, "ended finished\nprints 4\n1\n1\n2\n2\nsteps 31\n"),
     (SEEN_TWICE, "0.0 4\n0.0 threads 0.1 0.2\n0.2 2\n0.1 4\n0.2 2\n0.0 5\n0.0 threads 0.3 0.4\n0.3 4\n0.4 4\n0.0 4\n", 0, "ended finished\nprints 4\n1\n1\n2\n2\nsteps 31\n"),
-    (SEEN_BOTH, "0.0 8\n0.0 threads 0.1 0.2\n0.2 1\n0.1 11\n0.0 6\n", 0, "ended finished\nprints 3\n1\n2\n3\nsteps 27\n"),
-    (SEEN_BOTH, "0.0 8\n0.0 threads 0.1 0.2\n0.1 7\n0.2 1\n0.1 4\n0.0 6\n", 0, "ended finished\nprints 3\n1\n2\n3\nsteps 27\n"),
+    (SEEN_SIDE_BY_SIDE, "0.0 8\n0.0 threads 0.1 0.2\n0.2 1\n0.1 11\n0.0 6\n", 0, "ended finished\nprints 3\n1\n2\n3\nsteps 27\n"),
+    (SEEN_SIDE_BY_SIDE, "0.0 8\n0.0 threads 0.1 0.2\n0.1 7\n0.2 1\n0.1 4\n0.0 6\n", 0, "ended finished\nprints 3\n1\n2\n3\nsteps 27\n"),
     (SIDE_BY_SIDE, "0.0 threads 0.1 0.2\n0.1 2\n0.2 2\n0.0 2\n", 0, "ended finished\nprints 2\n1\n2\nsteps 7\n"),
     (SIDE_BY_SIDE, "0.0 threads 0.1 0.2\n0.2 2\n0.1 2\n0.0 2\n", 0, "ended finished\nprints 2\n2\n1\nsteps 7\n"),
     (BOTH_WAYS, "0.0 3\n0.0 threads 0.1 0.2\n0.2 4\n0.1 5\n0.0 6\n", 0, "ended finished\nprints 3\n2\n5\n1\nsteps 19\n"),
@@ -157,30 +172,34 @@ pub const PAIR_ORDERS: [(&str, &str, u8, &str); 36] = [
     (VIEWED_AGAIN, "0.0 5\n0.0 threads 0.1 0.2\n0.1 2\n0.1 threads 0.3 0.4\n0.3 1\n0.4 5\n0.3 3\n0.1 4\n0.2 2\n0.0 4\n", 0, "ended finished\nprints 3\n10\n9\n0\nsteps 28\n"),
     (BOTH_LOCK, "0.0 mutex 0.1\n0.0 3\n0.0 threads 0.1 0.2\n0.1 9\n0.2 9\n0.0 4\n", 0, "ended finished\nprints 2\n1\n3\nsteps 27\n"),
     (BOTH_LOCK, "0.0 mutex 0.1\n0.0 3\n0.0 threads 0.1 0.2\n0.2 9\n0.1 9\n0.0 4\n", 0, "ended finished\nprints 2\n2\n3\nsteps 27\n"),
-    (PAIR_INSIDE, "0.0 mutex 0.1\n0.0 4\n0.0 threads 0.1 0.2\n0.2 2\n", 1, "ended deadlocked\nprints 1\n7\nsteps 8\n"),
-    (PAIRS, "0.0 threads 0.1 0.2\n0.2 2\n0.1 threads 0.3 0.4\n0.3 2\n0.4 2\n0.1 2\n0.0 2\n", 0, "ended finished\nprints 3\n3\n1\n2\nsteps 12\n"),
-    (PAIRS, "0.0 threads 0.1 0.2\n0.1 threads 0.3 0.4\n0.4 2\n0.3 2\n0.1 2\n0.2 2\n0.0 2\n", 0, "ended finished\nprints 3\n2\n1\n3\nsteps 12\n"),
-    (PAIRS, "0.0 threads 0.1 0.2\n0.1 threads 0.3 0.4\n0.4 2\n0.2 2\n0.3 2\n0.1 2\n0.0 2\n", 0, "ended finished\nprints 3\n2\n3\n1\nsteps 12\n"),
-    (PAIRS, "0.0 threads 0.1 0.2\n0.1 threads 0.3 0.4\n0.3 2\n0.2 2\n0.4 2\n0.1 2\n0.0 2\n", 0, "ended finished\nprints 3\n1\n3\n2\nsteps 12\n"),
-    (PAIRS, "0.0 threads 0.1 0.2\n0.2 2\n0.1 threads 0.3 0.4\n0.4 2\n0.3 2\n0.1 2\n0.0 2\n", 0, "ended finished\nprints 3\n3\n2\n1\nsteps 12\n"),
-    (PAIRS, "0.0 threads 0.1 0.2\n0.1 threads 0.3 0.4\n0.2 2\n0.4 2\n0.3 2\n0.1 2\n0.0 2\n", 0, "ended finished\nprints 3\n3\n2\n1\nsteps 12\n"),
-    (PAIRS, "0.0 threads 0.1 0.2\n0.1 threads 0.3 0.4\n0.3 2\n0.4 2\n0.1 1\n0.2 1\n0.1 1\n0.2 1\n0.0 2\n", 0, "ended finished\nprints 3\n1\n2\n3\nsteps 12\n"),
+    (HELD, "0.0 mutex 0.1\n0.0 4\n0.0 threads 0.1 0.2\n0.2 2\n", 1, "ended deadlocked\nprints 1\n7\nsteps 8\n"),
+    (PAIR_IN_PAIR, "0.0 threads 0.1 0.2\n0.2 2\n0.1 threads 0.3 0.4\n0.3 2\n0.4 2\n0.1 2\n0.0 2\n", 0, "ended finished\nprints 3\n3\n1\n2\nsteps 12\n"),
+    (PAIR_IN_PAIR, "0.0 threads 0.1 0.2\n0.1 threads 0.3 0.4\n0.4 2\n0.3 2\n0.1 2\n0.2 2\n0.0 2\n", 0, "ended finished\nprints 3\n2\n1\n3\nsteps 12\n"),
+    (PAIR_IN_PAIR, "0.0 threads 0.1 0.2\n0.1 threads 0.3 0.4\n0.4 2\n0.2 2\n0.3 2\n0.1 2\n0.0 2\n", 0, "ended finished\nprints 3\n2\n3\n1\nsteps 12\n"),
+    (PAIR_IN_PAIR, "0.0 threads 0.1 0.2\n0.1 threads 0.3 0.4\n0.3 2\n0.2 2\n0.4 2\n0.1 2\n0.0 2\n", 0, "ended finished\nprints 3\n1\n3\n2\nsteps 12\n"),
+    (PAIR_IN_PAIR, "0.0 threads 0.1 0.2\n0.2 2\n0.1 threads 0.3 0.4\n0.4 2\n0.3 2\n0.1 2\n0.0 2\n", 0, "ended finished\nprints 3\n3\n2\n1\nsteps 12\n"),
+    (PAIR_IN_PAIR, "0.0 threads 0.1 0.2\n0.1 threads 0.3 0.4\n0.2 2\n0.4 2\n0.3 2\n0.1 2\n0.0 2\n", 0, "ended finished\nprints 3\n3\n2\n1\nsteps 12\n"),
+    (PAIR_IN_PAIR, "0.0 threads 0.1 0.2\n0.1 threads 0.3 0.4\n0.3 2\n0.4 2\n0.1 1\n0.2 1\n0.1 1\n0.2 1\n0.0 2\n", 0, "ended finished\nprints 3\n1\n2\n3\nsteps 12\n"),
     (PAIR_JOINS, "0.0 thread 0.1\n0.1 1\n0.0 1\n0.0 threads 0.2 0.3\n0.2 5\n0.3 2\n0.0 3\n", 0, "ended finished\nprints 2\n5\n1\nsteps 14\n"),
     (PAIR_JOINS, "0.0 thread 0.1\n0.0 1\n0.0 threads 0.2 0.3\n0.3 2\n0.1 1\n0.2 5\n0.0 3\n", 0, "ended finished\nprints 2\n1\n5\nsteps 14\n"),
     (PAIR_JOINS, "0.0 thread 0.1\n0.0 1\n0.0 threads 0.2 0.3\n0.2 1\n0.3 2\n0.1 1\n0.2 4\n0.0 3\n", 0, "ended finished\nprints 2\n1\n5\nsteps 14\n"),
     (SIDE_BY_SIDE, "0.0 threads 0.1 0.2\n0.1 2\n0.2 1\n", 2, "ended unfinished\nprints 2\n1\n2\nsteps 4\n"),
     (VIEWED, "0.0 4\n0.0 threads 3.1 2.1\n3.1 1\n2.1 1\n", 2, "ended unfinished\nprints 0\nsteps 7\n"),
     (BOTH_LOCK, "0.0 mutex 0.1\n0.0 3\n0.0 threads 0.1 0.2\n0.1 1\n", 2, "ended unfinished\nprints 0\nsteps 6\n"),
+    // the parent waits for threads that have ended
+    (SIDE_BY_SIDE, "0.0 threads 0.1 0.2\n0.1 2\n0.2 2\n", 2, "ended unfinished\nprints 2\n1\n2\nsteps 5\n"),
+    (COPIED_IN, "0.0 1\n0.0 threads 0.1 0.2\n0.1 4\n0.2 1\n0.0 3\n", 0, "ended finished\nprints 1\n1\nsteps 10\n"),
+    (VIEWED, "0.0 4\n0.0 threads 0.1 0.2\n0.1 1\n0.2 2\n0.1 3\n0.2 3\n0.0 6\n", 0, "ended finished\nprints 3\n6\n7\n6\nsteps 20\n"),
 ];
 
 /// Sources with mutexes and pairs of threads, each with an order of which a line is refused, and the status and the text.
 #[rattlefmt::skip]
-pub const REFUSED_SHARED_ORDERS: [(&str, &str, u8, &str); 34] = [
-    (COUNTED, "0.0 1\n", 10, "refused order at 63\n"),
-    (COUNTED, "0.0 thread 0.1\n", 10, "refused order at 63\n"),
-    (COUNTED, "0.0 threads 0.1 0.2\n", 10, "refused order at 63\n"),
-    (COUNTED, "0.0 mutex 0.1\n0.0 mutex 0.2\n", 10, "refused order at 77\n"),
-    (COUNTED, "0.0 mutex 0.1\n0.0 11\n", 10, "refused order at 77\n"),
+pub const REFUSED_SHARED_ORDERS: [(&str, &str, u8, &str); 37] = [
+    (CHANGED, "0.0 1\n", 10, "refused order at 63\n"),
+    (CHANGED, "0.0 thread 0.1\n", 10, "refused order at 63\n"),
+    (CHANGED, "0.0 threads 0.1 0.2\n", 10, "refused order at 63\n"),
+    (CHANGED, "0.0 mutex 0.1\n0.0 mutex 0.2\n", 10, "refused order at 77\n"),
+    (CHANGED, "0.0 mutex 0.1\n0.0 11\n", 10, "refused order at 77\n"),
     (LOCKED_TWICE, "0.0 mutex 0.1\n0.0 3\n", 10, "refused order at 80\n"),
     (LOCKED_TWICE, "0.0 mutex 0.1\n0.0 2\n0.0 1\n", 10, "refused order at 86\n"),
     (WITHIN, "0.0 mutex 0.1\n0.0 mutex 0.1\n", 10, "refused order at 93\n"),
@@ -204,10 +223,14 @@ pub const REFUSED_SHARED_ORDERS: [(&str, &str, u8, &str); 34] = [
     (SIDE_BY_SIDE, "0.0 threads 0.1 0.2\n0.2 2\n0.0 1\n", 10, "refused order at 65\n"),
     (SIDE_BY_SIDE, "0.0 threads 0.1 0.2\n0.1 3\n", 10, "refused order at 59\n"),
     (SIDE_BY_SIDE, "0.0 threads 0.1 0.2\n0.1 2\n0.2 2\n0.0 3\n", 10, "refused order at 71\n"),
-    (PAIRS, "0.0 threads 0.1 0.2\n0.1 threads 0.2 0.3\n", 10, "refused order at 85\n"),
-    (PAIRS, "0.0 threads 0.1 0.2\n0.1 threads 0.3 0.4\n0.3 2\n0.4 1\n0.1 1\n", 10, "refused order at 117\n"),
-    (PAIR_INSIDE, "0.0 mutex 0.1\n0.0 4\n0.0 threads 0.1 0.2\n0.1 1\n", 10, "refused order at 152\n"),
+    (PAIR_IN_PAIR, "0.0 threads 0.1 0.2\n0.1 threads 0.2 0.3\n", 10, "refused order at 85\n"),
+    (PAIR_IN_PAIR, "0.0 threads 0.1 0.2\n0.1 threads 0.3 0.4\n0.3 2\n0.4 1\n0.1 1\n", 10, "refused order at 117\n"),
+    (HELD, "0.0 mutex 0.1\n0.0 4\n0.0 threads 0.1 0.2\n0.1 1\n", 10, "refused order at 152\n"),
     (PAIR_JOINS, "0.0 thread 0.1\n0.0 1\n0.0 threads 0.1 0.2\n", 10, "refused order at 94\n"),
     (PAIR_JOINS, "0.0 thread 0.1\n0.0 1\n0.0 threads 0.2 0.3\n0.2 2\n", 10, "refused order at 114\n"),
     (VIEWED, "0.0 4\n0.0 threads 0.1 0.2\n0.1 4\n0.0 1\n", 10, "refused order at 127\n"),
+    // names that were given: of a mutex that is gone, and of a thread whose pair has ended; and two equal ones, of which an earlier line says it first
+    (GONE, "0.0 mutex 0.1\n0.0 2\n0.0 mutex 0.1\n", 10, "refused order at 70\n"),
+    (SEEN_TWICE, "0.0 4\n0.0 threads 0.1 0.2\n0.1 4\n0.2 4\n0.0 5\n0.0 threads 0.3 0.1\n", 10, "refused order at 195\n"),
+    (SIDE_BY_SIDE, "0.0 1\n0.0 threads 0.1 0.1\n", 10, "refused order at 39\n"),
 ];
