@@ -38,7 +38,7 @@ use Rattle.event_law.proofs.Bags.{counts_of}
 use Rattle.read_law.specs.Reading.{Reads}
 use Rattle.still_law.proofs.Alike.{Once}
 use Rattle.still_law.proofs.Prepares.{Fine}
-use Rattle.still_law.proofs.Readied.{Readied, same_rest}
+use Rattle.still_law.proofs.Readied.{Readied, readied_slots, readied_temps, same_rest}
 use Rattle.still_law.proofs.Sites.{Moves}
 use Rattle.still_law.proofs.Told.{told, ones}
 use Rattle.heap_law.proofs.Names.{same_mutexes}
@@ -214,10 +214,10 @@ module _ (k : Cluster) (co : IsCoherent k) (e : Event) (i : Instr) (single : is_
   lone1 = lone k co.sound e s a.here t y a.at a.number
 
   pub slots_plain : map plain_value h.thread.slots ≡ map plain_value y.slots
-  slots_plain = ap (λ (z : ThreadState). map plain_value z.slots) ready_h.thread ∙ ready_h.slots_plain
+  slots_plain = readied_slots ready_h
 
   pub temps_plain : map plain_value h.thread.temps ≡ map plain_value y.temps
-  temps_plain = ap (λ (z : ThreadState). map plain_value z.temps) ready_h.thread ∙ ready_h.temps_plain
+  temps_plain = readied_temps ready_h
 
   pub in_it : is_in_state s1 (mutex_n m) ≡ true
   in_it = place_in k co e i single s t y a m w.slot w.depth am.location am.located am.stands

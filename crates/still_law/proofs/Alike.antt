@@ -1,5 +1,5 @@
 -- Clusters whose things show alike stand for the same one heap, where each object, content and result is shown once and no two threads have one number.
-use Rattle.std.proofs.Common.{◌≡◌, ℕ, zero, ◌<◌, suc, ◌+◌, ◌≤◌, ◌==◌, ◌&&◌, ◌||◌, not, Bool, true, false, if◌then◌else◌, List, [], ◌∷◌, length, Option, Some, None, option_map, refl, sym, ap, ap₂, subst, ◌∙◌, arith}
+use Rattle.std.proofs.Common.{◌≡◌, ℕ, zero, ◌<◌, suc, ◌+◌, ◌≤◌, ◌==◌, ◌&&◌, ◌||◌, not, Bool, true, false, if◌then◌else◌, List, [], ◌∷◌, length, Option, Some, None, option_map, map, refl, sym, ap, ap₂, subst, ◌∙◌, arith}
 use Rattle.std.specs.Bool.{⊤}
 use Rattle.fr_store.proofs.Keys.{object_cases}
 use Rattle.std.specs.Prelude.{◌%◌, ◌^◌, slice_get, nat_le}
@@ -24,20 +24,20 @@ use Rattle.heap_law.specs.Names.{tot, one, other, if_so, some, same_object, same
 use Rattle.heap_law.specs.Things.{Location, at_slot, at_temp, in_cell, Spot, in_slot, in_temp, as_gift, as_content, as_result, in_hand, Thing, holds, lies, flies, stands, noted, things_of}
 use Rattle.heap_law.specs.Follow.{Standing, threads_in, thread_at, cells_in, cell_of, value_in, value_behind, leads, locate, value_at}
 use Rattle.heap_law.specs.Sight.{Sight, sight, with_things}
-use Rattle.heap_law.specs.Paths.{popped, task_in, joined_thread}
+use Rattle.heap_law.specs.Paths.{popped, task_in}
 use Rattle.heap_law.specs.Walking.{instr_of}
-use Rattle.heap_law.specs.Requests.{home_of, mutex_of, locked_mutex}
+use Rattle.heap_law.specs.Requests.{home_of, mutex_of}
 use Rattle.heap_law.specs.Sharing.{got_phase, has_ended}
 use Rattle.heap_law.specs.Naming.{started_at, made_at}
 use Rattle.heap_law.specs.Weights.{is_thread}
 use Rattle.heap_law.specs.OneHeap.{Node, object_n, mutex_n, task_n, Owner, inside, outside, content_owner, result_owner, gift_owner, gift_owner_of, spot_owner, owner_of, names, owner_in, named_in, any_named, in_state_by, is_in_state, if_in, cell_value, or_else, first_shown, object_value, is_content, content_value, share_in, if_there, plain_value, pair_note, pair_over, is_branch, branch_result, is_result, result_of, ended_with, going_on, running_at, life_of, life_at, made_of, pair_of, is_given_thread, is_given_mutex, if_given, one_heap, state_of}
 use Rattle.heap_law.proofs.Names.{if_not, same_number, same_mutexes}
-use Rattle.still_law.specs.Shows.{ShownThread, Sign, nothing, a_value, an_object, a_thread as a_shown_thread, a_branch, a_count, note_sign, sign_of, gift_spot_at, gift_spot_of, gift_spot, counted_at, is_named, held_branch, is_held, Counts, CountAlike, ShowAlike}
+use Rattle.still_law.specs.Shows.{plain_frame, ShownThread, Sign, nothing, a_value, an_object, a_thread as a_shown_thread, a_branch, a_count, note_sign, sign_of, gift_spot_at, gift_spot_of, gift_spot, counted_at, is_named, held_branch, is_held, Counts, CountAlike, ShowAlike}
 use Rattle.still_law.proofs.Tests.{plains, same_part, threads as thread_test}
 use Rattle.still_law.proofs.Rounds.{owner_same, named_alike, enough}
 use Rattle.still_law.proofs.Told.{at_most, tot_same, tot_but, told, ones, same_told, first_told, at_thread, thread_told, some_or}
 use Rattle.fr_plain.specs.MachineThreads.{loose, owing}
-use Rattle.still_law.proofs.PlainValues.{told_map, told_if, one_so, unnoted, plain_owns, owns_plain, unit_owns, plain_leads, plain_mutex, plain_task, leads_plain, mutex_plain, task_plain, popped_plain, pop_plain, cell_found, shown_of, slot_from, temp_from, slot_shown, temp_shown, owned_from, value_shown, got_of, got_is, code_running}
+use Rattle.still_law.proofs.PlainValues.{told_map, told_if, one_so, unnoted, plain_owns, owns_plain, unit_owns, plain_leads, plain_mutex, plain_task, leads_plain, mutex_plain, task_plain, popped_plain, pop_plain, cell_found, shown_of, all_framed, slot_from, temp_from, slot_shown, temp_shown, owned_from, value_shown, got_of, got_is, shown_running, running_shown}
 use Rattle.still_law.proofs.Counting.{shown_result, gifted, stray, no_stray, by_gift_spot, spot_owned, gift_owned, is_content_at, is_result_at, gift_is_content, gift_is_result, no_values, unnamed_out, none_some, got_at, got_held, held_branches, no_got, result_none, result_shown}
 
 -- what is shown of each object, thread, content and result is shown once
@@ -152,13 +152,13 @@ module _ (k c : Cluster) (a b : List Thing) (code : c.code ≡ k.code) (once : O
   behind_same None p = refl
   behind_same (Some l) p = value_same l p
 
-  place_same : (t slot n : ℕ) → ((m : ℕ) → m < n → SeenAt seen (locate s.ground t slot m)) → locate s.ground t slot n ≡ locate s2.ground t slot n
+  pub place_same : (t slot n : ℕ) → ((m : ℕ) → m < n → SeenAt seen (locate s.ground t slot m)) → locate s.ground t slot n ≡ locate s2.ground t slot n
   place_same t slot zero p = refl
   place_same t slot (suc n) p =
       let at : Option Location = locate s.ground t slot n in
       leads_plain t (value_behind s.ground at) ∙ ap (plain_leads t) (behind_same at (p n (omega arith))) ∙ sym (leads_plain t (value_behind s2.ground at)) ∙ ap (λ o. leads t (value_behind s2.ground o)) (place_same t slot n (λ m l. p m (omega (arith, l))))
 
-  mutex_same : (t : ℕ) (w : Lval) → ((n : ℕ) → n ≤ w.depth → SeenAt seen (locate s.ground t w.slot n)) → mutex_of (value_at s.ground t w) ≡ mutex_of (value_at s2.ground t w)
+  pub mutex_same : (t : ℕ) (w : Lval) → ((n : ℕ) → n ≤ w.depth → SeenAt seen (locate s.ground t w.slot n)) → mutex_of (value_at s.ground t w) ≡ mutex_of (value_at s2.ground t w)
   mutex_same t w p =
       let at : Option Location = locate s.ground t w.slot w.depth in
       mutex_plain (value_behind s.ground at) ∙ ap plain_mutex (behind_same at (p w.depth (omega arith))) ∙ sym (mutex_plain (value_behind s2.ground at))
@@ -178,7 +178,7 @@ module _ (k c : Cluster) (a b : List Thing) (code : c.code ≡ k.code) (once : O
 
     joined_at : (o : Operand) → task_in (popped o x.thread.temps) ≡ task_in (popped o y.thread.temps)
     joined_at o =
-        task_plain (popped o x.thread.temps) ∙ ap plain_task (pop_plain o x.thread.temps ∙ ap (λ (z : ShownThread). popped_plain o z.temps) q ∙ sym (pop_plain o y.thread.temps)) ∙ sym (task_plain (popped o y.thread.temps))
+        task_plain (popped o x.thread.temps) ∙ ap plain_task (pop_plain o x.thread.temps ∙ ap (popped_plain o) (sym (all_framed x.thread.temps) ∙ ap (λ (z : ShownThread). map plain_frame z.temps) q ∙ all_framed y.thread.temps) ∙ sym (pop_plain o y.thread.temps)) ∙ sym (task_plain (popped o y.thread.temps))
 
     owner_by : (i : Option Instr) → instr_of s x ≡ i → gift_owner s x i ≡ gift_owner s2 y i
     owner_by (Some (instr.Lock w)) e = ap content_owner (locked_at w e)
@@ -559,7 +559,7 @@ module _ (k c : Cluster) (a b : List Thing) (code : c.code ≡ k.code) (once : O
   life_by : (x y : Standing) → tot (has_ended x.thread.number) a ≤ one (is_over x.thread.phase) → shown_of x ≡ shown_of y → (q : Bool) → is_over x.thread.phase ≡ q → life_of s x.thread q ≡ life_of s2 y.thread q
   life_by x y ends e true over = ap ended_with (result_same x.thread.number ∙ ap (result_of s2) (ap (λ (z : ShownThread). z.number) e))
   life_by x y ends e false over =
-      going_same x.thread.number (running_at x.thread) (let none : one (is_over x.thread.phase) ≡ 0 = ap one over in omega (arith, ends, none)) ∙ ap₂ (going_on s2) (ap (λ (z : ShownThread). z.number) e) (ap (λ (z : ShownThread). code_running z.pc z.temps z.slots) e)
+      going_same x.thread.number (running_at x.thread) (let none : one (is_over x.thread.phase) ≡ 0 = ap one over in omega (arith, ends, none)) ∙ ap₂ (going_on s2) (ap (λ (z : ShownThread). z.number) e) (running_shown x ∙ ap shown_running e ∙ sym (running_shown y))
 
   -- a found thread that isn't main has ended where it is over
   ended_found : (t : ℕ) → tot (has_ended t) a ≤ told (λ z. one (is_over z.thread.phase)) (thread_at (threads_in a) t)

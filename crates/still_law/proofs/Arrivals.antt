@@ -1,7 +1,6 @@
 -- A thread that leaves as a parcel, or comes from one, shows what it showed.
 use Rattle.std.proofs.Common.{◌≡◌, ℕ, ◌+◌, Bool, true, false, if◌then◌else◌, List, [], ◌∷◌, ◌++◌, Some, None, refl, sym, ap, ap₂, ◌∙◌, arith}
 use Rattle.std.specs.Prelude.{slice_get, map, nat_lt}
-use Rattle.fr_plain.specs.declared.value.Value.{Value as PlainValue}
 use Rattle.mut_borrow.specs.declared.shared.SharedRef.{SharedRef}
 use Rattle.read_cache.specs.Cache.{Copy}
 use Rattle.thread_state.specs.View.{ThreadState}
@@ -18,12 +17,11 @@ use Rattle.server_model.specs.Joining.{arrive}
 use Rattle.server_model.specs.Events.{begin_at, left_by, received, does}
 use Rattle.heap_law.specs.Names.{tot}
 use Rattle.heap_law.specs.Things.{Spot, Location, in_slot, in_temp, at_slot, at_temp, Thing, uses, stands, things_at, pin_things, gift_things, walk_things, value_things, slot_things, temp_things, thread_things, message_things, copy_things, sent}
-use Rattle.heap_law.specs.OneHeap.{plain_value}
 use Rattle.event_law.specs.Laws.{Gives}
 use Rattle.event_law.proofs.Trades.{tot-append, tot-front, trade_whole}
 use Rattle.event_law.proofs.Results.{then_gives, over_gives, map_gives, stand_gives}
 use Rattle.event_law.proofs.Bags.{all_standing, rest_things, of_cache, tot-without, of_sending, sent_number}
-use Rattle.still_law.specs.Shows.{Sign, nothing, sign_of, has_both, shown_thread, ShowAlike, a_thread}
+use Rattle.still_law.specs.Shows.{Frame, frame_of, Sign, nothing, sign_of, has_both, shown_thread, ShowAlike, a_thread}
 use Rattle.still_law.proofs.Sites.{shown, site_things, begins, ends, Still, Moves, ServerStill, deliveries}
 
 -- A THREAD SHOWS THE SAME ANYWHERE, PINNED OR NOT
@@ -105,15 +103,15 @@ module _ (w : Sign → ℕ) (z : w nothing ≡ 0) where
         all_moved (λ i. in_temp t.number i) (λ i. at_temp t.number i) s r 0 t.temps,
       )
 
-  plain_unpinned : (vs : List Value) → map plain_value (map unpinned vs) ≡ map plain_value vs
-  plain_unpinned [] = refl
-  plain_unpinned (value.Shared q ∷ vs) = ap (λ l. plain_value (value.Shared q) ∷ l) (plain_unpinned vs)
-  plain_unpinned (value.Gone ∷ vs) = ap (λ l. plain_value value.Gone ∷ l) (plain_unpinned vs)
-  plain_unpinned (value.Own v ∷ vs) = ap (λ l. plain_value (value.Own v) ∷ l) (plain_unpinned vs)
-  plain_unpinned (value.SharedSlot i ∷ vs) = ap (λ l. plain_value (value.SharedSlot i) ∷ l) (plain_unpinned vs)
-  plain_unpinned (value.MutSlot i ∷ vs) = ap (λ l. plain_value (value.MutSlot i) ∷ l) (plain_unpinned vs)
-  plain_unpinned (value.Mut q ∷ vs) = ap (λ l. plain_value (value.Mut q) ∷ l) (plain_unpinned vs)
-  plain_unpinned (value.Held m ∷ vs) = ap (λ l. plain_value (value.Held m) ∷ l) (plain_unpinned vs)
+  frames_unpinned : (vs : List Value) → map frame_of (map unpinned vs) ≡ map frame_of vs
+  frames_unpinned [] = refl
+  frames_unpinned (value.Shared q ∷ vs) = ap (λ l. frame_of (value.Shared q) ∷ l) (frames_unpinned vs)
+  frames_unpinned (value.Gone ∷ vs) = ap (λ l. frame_of value.Gone ∷ l) (frames_unpinned vs)
+  frames_unpinned (value.Own v ∷ vs) = ap (λ l. frame_of (value.Own v) ∷ l) (frames_unpinned vs)
+  frames_unpinned (value.SharedSlot i ∷ vs) = ap (λ l. frame_of (value.SharedSlot i) ∷ l) (frames_unpinned vs)
+  frames_unpinned (value.MutSlot i ∷ vs) = ap (λ l. frame_of (value.MutSlot i) ∷ l) (frames_unpinned vs)
+  frames_unpinned (value.Mut q ∷ vs) = ap (λ l. frame_of (value.Mut q) ∷ l) (frames_unpinned vs)
+  frames_unpinned (value.Held m ∷ vs) = ap (λ l. frame_of (value.Held m) ∷ l) (frames_unpinned vs)
 
   abbrev as_parcel : ThreadState → ThreadState
   as_parcel t = packed (record t { moved_since_step = true })
@@ -121,7 +119,7 @@ module _ (w : Sign → ℕ) (z : w nothing ≡ 0) where
   pub thread_packed : (s r : ℕ) (p q : Bool) (t : ThreadState) → tot f (thread_things s p t) ≡ tot f (thread_things r q (as_parcel t))
   thread_packed s r p q t =
       let shows : f (stands s p t) ≡ f (stands r q (as_parcel t)) =
-      ap₂ (λ xs ys. w (sign_of_thread xs ys)) (sym (plain_unpinned t.slots)) (sym (plain_unpinned t.temps)) in
+      ap₂ (λ xs ys. w (sign_of_thread xs ys)) (sym (frames_unpinned t.slots)) (sym (frames_unpinned t.temps)) in
       omega (
         arith,
         thread_parts s p t,
@@ -131,7 +129,7 @@ module _ (w : Sign → ℕ) (z : w nothing ≡ 0) where
         all_same (λ i. in_temp t.number i) (λ i. at_temp t.number i) s r 0 t.temps,
       )
     where
-      sign_of_thread : List PlainValue → List PlainValue → Sign
+      sign_of_thread : List Frame → List Frame → Sign
       sign_of_thread xs ys = a_thread (record (shown_thread t) { slots = xs; temps = ys }) (has_both t.phase)
 
 -- A PARCEL COMES

@@ -1,18 +1,15 @@
 -- An object that goes is one that nothing names: its one owner is the message. Where the places of locks pass named objects alone it leaves the one heap as it was.
-use Rattle.std.proofs.Common.{◌≡◌, ℕ, ◌+◌, ◌≤◌, Bool, true, false, List, [], ◌∷◌, ◌++◌, Option, Some, None, refl, sym, ap, subst, ◌∙◌, arith}
+use Rattle.std.proofs.Common.{◌≡◌, ℕ, ◌+◌, ◌≤◌, Bool, false, List, [], ◌∷◌, Some, refl, ap, ◌∙◌, arith}
 use Rattle.std.specs.Prelude.{slice_get}
 use Rattle.fr_base.specs.declared.name.ObjNo.{ObjNo}
 use Rattle.fr_store.proofs.Keys.{object_cases}
 use Rattle.global_addr.specs.Words.{address_of}
 use Rattle.heap_partition.specs.Plain.{plain_of}
-use Rattle.heap_partition.specs.declared.value.Cell.{Cell}
 use Rattle.heap_partition.specs.declared.value.Owned.{Owned}
 use Rattle.heap_partition.specs.declared.value.Owned.TheVariants as owned
 use Rattle.owner_box.specs.Partition.{freed}
-use Rattle.server_msgs.specs.declared.message.Message.{Message}
 use Rattle.server_msgs.specs.declared.message.Message.TheVariants as message
 use Rattle.journal.specs.declared.act.Act.TheVariants as act
-use Rattle.server_model.specs.declared.event.What.{What}
 use Rattle.server_model.specs.declared.event.What.TheVariants.{Deliver}
 use Rattle.server_model.specs.Servers.{Rest, Server, Cluster, server_at}
 use Rattle.server_model.specs.Work.{Work, note, with_partition, look_object}
@@ -20,19 +17,18 @@ use Rattle.server_model.specs.Objects.{deliver_drop}
 use Rattle.server_model.specs.Events.{received, does}
 use Rattle.heap_law.specs.Names.{tot, one, some, boxes}
 use Rattle.heap_law.specs.Things.{Thing, holds, lies, flies, sent, message_things, server_things, things_of}
-use Rattle.heap_law.specs.Weights.{cells, drops, owners}
+use Rattle.heap_law.specs.Weights.{drops, owners}
 use Rattle.heap_law.specs.Sight.{sight}
 use Rattle.heap_law.specs.OneHeap.{object_n, owns, names}
 use Rattle.heap_law.specs.Coherent.{IsSound}
 use Rattle.event_law.specs.Laws.{Gives}
-use Rattle.event_law.proofs.Trades.{tot-append}
 use Rattle.event_law.proofs.Results.{map_gives, over_gives}
-use Rattle.event_law.proofs.Bags.{rest_things, of_partition}
+use Rattle.event_law.proofs.Bags.{of_partition}
 use Rattle.event_law.proofs.Cells.{looked, frees}
 use Rattle.event_law.proofs.MutexResults.{has}
 use Rattle.event_law.proofs.ObjectMessages.{looked_object}
-use Rattle.still_law.specs.Shows.{Sign, nothing, an_object, sign_of, is_named}
-use Rattle.still_law.proofs.Sites.{shown, Moves, AlikeBy, TakesBy, RestTakesBy, site_takes_by, deliveries_in}
+use Rattle.still_law.specs.Shows.{Sign, an_object, sign_of, is_named}
+use Rattle.still_law.proofs.Sites.{Moves, AlikeBy, TakesBy, RestTakesBy, site_takes_by, deliveries_in}
 use Rattle.still_law.proofs.Alike.{Heeds}
 use Rattle.still_law.proofs.Addresses.{address_unseen, in_place, lies_alone}
 use Rattle.still_law.proofs.Leaving.{others, placed_here}

@@ -1,5 +1,5 @@
 -- What a value shows tells what it owns and where it leads.
-use Rattle.std.proofs.Common.{◌≡◌, ℕ, ◌+◌, ◌-◌, ◌==◌, Bool, true, false, if◌then◌else◌, List, [], ◌∷◌, length, reverse, map, Option, Some, None, option_map, refl, sym, ap, ◌∙◌}
+use Rattle.std.proofs.Common.{◌≡◌, ℕ, ◌+◌, ◌-◌, ◌==◌, Bool, true, false, if◌then◌else◌, List, [], ◌∷◌, length, reverse, map, Option, Some, None, option_map, refl, sym, ap, ap₂, ◌∙◌}
 use Rattle.std.specs.Prelude.{slice_get}
 use Rattle.std.proofs.lemmas.Option.{slice_get-map}
 use Rattle.std.proofs.lemmas.List.{length-map}
@@ -28,8 +28,8 @@ use Rattle.heap_law.specs.Follow.{Standing, cells_in, cell_of, slot_of, temp_of,
 use Rattle.heap_law.specs.Paths.{popped, task_in}
 use Rattle.heap_law.specs.Requests.{mutex_of}
 use Rattle.heap_law.specs.Sharing.{got_phase}
-use Rattle.heap_law.specs.OneHeap.{Node, object_n, mutex_n, task_n, owns, if_in, cell_value, or_else, first_shown, plain_value, two_in}
-use Rattle.still_law.specs.Shows.{ShownThread, Sign, nothing, a_branch, has_both, shown_thread, note_sign}
+use Rattle.heap_law.specs.OneHeap.{Node, object_n, mutex_n, task_n, owns, if_in, cell_value, or_else, first_shown, plain_value, running_at, two_in}
+use Rattle.still_law.specs.Shows.{frame_of, plain_frame, ShownThread, Sign, nothing, a_branch, has_both, shown_thread, note_sign}
 use Rattle.still_law.proofs.Told.{told}
 
 -- WEIGHTS
@@ -177,21 +177,42 @@ cell_found o (_ ∷ b) = cell_found o b
 abbrev pub shown_of : Standing → ShownThread
 shown_of x = shown_thread x.thread
 
+-- a value shows by its frame
+pub framed : (v : Value) → plain_frame (frame_of v) ≡ plain_value v
+framed value.Gone = refl
+framed (value.Own v) = refl
+framed (value.SharedSlot i) = refl
+framed (value.MutSlot i) = refl
+framed (value.Shared r) = refl
+framed (value.Mut r) = refl
+framed (value.Held m) = refl
+
+pub all_framed : (vs : List Value) → map plain_frame (map frame_of vs) ≡ map plain_value vs
+all_framed [] = refl
+all_framed (v ∷ vs) = ap₂ (λ x xs. x ∷ xs) (framed v) (all_framed vs)
+
+-- values of the same frames show the same
+pub shown_by_frames : (vs ws : List Value) → map frame_of vs ≡ map frame_of ws → map plain_value vs ≡ map plain_value ws
+shown_by_frames vs ws e = sym (all_framed vs) ∙ ap (map plain_frame) e ∙ all_framed ws
+
+pub shown_by_frame : (v w : Value) → frame_of v ≡ frame_of w → plain_value v ≡ plain_value w
+shown_by_frame v w e = sym (framed v) ∙ ap plain_frame e ∙ framed w
+
 abbrev pub slot_from : Option ShownThread → ℕ → Option PlainValue
 slot_from None i = None
-slot_from (Some y) i = slice_get y.slots i
+slot_from (Some y) i = slice_get (map plain_frame y.slots) i
 
 abbrev pub temp_from : Option ShownThread → ℕ → Option PlainValue
 temp_from None i = None
-temp_from (Some y) i = slice_get y.temps i
+temp_from (Some y) i = slice_get (map plain_frame y.temps) i
 
 pub slot_shown : (o : Option Standing) (i : ℕ) → option_map plain_value (slot_of o i) ≡ slot_from (option_map shown_of o) i
 slot_shown None i = refl
-slot_shown (Some x) i = sym (slice_get-map plain_value x.thread.slots i)
+slot_shown (Some x) i = sym (slice_get-map plain_value x.thread.slots i) ∙ ap (λ vs. slice_get vs i) (sym (all_framed x.thread.slots))
 
 pub temp_shown : (o : Option Standing) (i : ℕ) → option_map plain_value (temp_of o i) ≡ temp_from (option_map shown_of o) i
 temp_shown None i = refl
-temp_shown (Some x) i = sym (slice_get-map plain_value x.thread.temps i)
+temp_shown (Some x) i = sym (slice_get-map plain_value x.thread.temps i) ∙ ap (λ vs. slice_get vs i) (sym (all_framed x.thread.temps))
 
 abbrev pub owned_from : Option Plain → Option PlainValue
 owned_from None = None
@@ -219,3 +240,10 @@ got_is t phase.Over = refl
 
 abbrev pub code_running : ℕ → List PlainValue → List PlainValue → CodeRunning
 code_running pc temps slots = record { place = record { pc = pc; temps = reverse temps }; slots = reverse slots }
+
+-- where a thread goes on, by what is shown of it
+abbrev pub shown_running : ShownThread → CodeRunning
+shown_running z = code_running z.pc (map plain_frame z.temps) (map plain_frame z.slots)
+
+pub running_shown : (x : Standing) → running_at x.thread ≡ shown_running (shown_of x)
+running_shown x = sym (ap₂ (code_running x.thread.pc) (all_framed x.thread.temps) (all_framed x.thread.slots))

@@ -2,7 +2,6 @@
 use Rattle.std.proofs.Common.{◌≡◌, ℕ, zero, suc, ◌+◌, nat_lt, Bool, false, List, [], ◌∷◌, ◌++◌, length, map, Option, Some, None, refl, sym, ap, ap₂, subst, ◌∙◌, arith}
 use Rattle.std.specs.Prelude.{slice_get, slice_set}
 use Rattle.fr_base.specs.Lists.{last_of}
-use Rattle.fr_plain.specs.declared.value.Value.{Value as PlainValue}
 use Rattle.heap_partition.specs.Plain.{plain_of}
 use Rattle.heap_partition.specs.declared.value.Cell.{Cell}
 use Rattle.heap_partition.specs.declared.value.Owned.{Owned}
@@ -26,7 +25,8 @@ use Rattle.event_law.proofs.Trades.{tot-append, tot-push, trade_at, trade_whole}
 use Rattle.event_law.proofs.Results.{then_gives, test_gives}
 use Rattle.event_law.proofs.Bags.{rest_things, of_partition}
 use Rattle.event_law.proofs.Values.{last_split, stores}
-use Rattle.still_law.specs.Shows.{Sign, nothing, an_object, a_thread, has_both, sign_of, shown_thread}
+use Rattle.still_law.specs.Shows.{Frame, frame_of, Sign, nothing, an_object, a_thread, has_both, sign_of, shown_thread}
+use Rattle.still_law.proofs.PlainValues.{shown_by_frame, shown_by_frames}
 use Rattle.still_law.proofs.Sites.{shown, Moves}
 use Rattle.still_law.proofs.Arrivals.{thread_parts, cache_shown, no_pin}
 use Rattle.still_law.proofs.Hands.{hand_things, HandStill}
@@ -41,10 +41,17 @@ pub record Readied (h h2 : Hand) : Type 0 where
   pub walk : List ℕ
   pub passed : ℕ
   pub thread : h2.thread ≡ record h.thread { slots = slots; temps = temps; walk = walk; passed = passed }
-  pub slots_plain : map plain_value slots ≡ map plain_value h.thread.slots
-  pub temps_plain : map plain_value temps ≡ map plain_value h.thread.temps
+  pub slots_framed : map frame_of slots ≡ map frame_of h.thread.slots
+  pub temps_framed : map frame_of temps ≡ map frame_of h.thread.temps
   pub slots_shown : (w : Sign → ℕ) → w nothing ≡ 0 → (n t : ℕ) → shown w (things_at (slot_things n t) 0 slots) ≡ shown w (things_at (slot_things n t) 0 h.thread.slots)
   pub temps_shown : (w : Sign → ℕ) → w nothing ≡ 0 → (n t : ℕ) → shown w (things_at (temp_things n t) 0 temps) ≡ shown w (things_at (temp_things n t) 0 h.thread.temps)
+
+-- so they show what they showed
+pub readied_slots : {h h2 : Hand} → Readied h h2 → map plain_value h2.thread.slots ≡ map plain_value h.thread.slots
+readied_slots {h} {h2} r = ap (λ (t : ThreadState). map plain_value t.slots) r.thread ∙ shown_by_frames r.slots h.thread.slots r.slots_framed
+
+pub readied_temps : {h h2 : Hand} → Readied h h2 → map plain_value h2.thread.temps ≡ map plain_value h.thread.temps
+readied_temps {h} {h2} r = ap (λ (t : ThreadState). map plain_value t.temps) r.thread ∙ shown_by_frames r.temps h.thread.temps r.temps_framed
 
 -- each address of the hand's server has one state
 abbrev pub IsPlaced : Hand → Type 0
@@ -70,8 +77,8 @@ same_ready h = record {
   walk = h.thread.walk;
   passed = h.thread.passed;
   thread = refl;
-  slots_plain = refl;
-  temps_plain = refl;
+  slots_framed = refl;
+  temps_framed = refl;
   slots_shown = λ w z n t. refl;
   temps_shown = λ w z n t. refl;
 }
@@ -86,8 +93,8 @@ then_ready a b c x y =
       walk = y.walk;
       passed = y.passed;
       thread = y.thread ∙ ap (λ (t : ThreadState). record t { slots = y.slots; temps = y.temps; walk = y.walk; passed = y.passed }) x.thread;
-      slots_plain = y.slots_plain ∙ ap (map plain_value) slots ∙ x.slots_plain;
-      temps_plain = y.temps_plain ∙ ap (map plain_value) temps ∙ x.temps_plain;
+      slots_framed = y.slots_framed ∙ ap (map frame_of) slots ∙ x.slots_framed;
+      temps_framed = y.temps_framed ∙ ap (map frame_of) temps ∙ x.temps_framed;
       slots_shown = λ w z n t. y.slots_shown w z n t ∙ ap (λ l. shown w (things_at (slot_things n t) 0 l)) slots ∙ x.slots_shown w z n t;
       temps_shown = λ w z n t. y.temps_shown w z n t ∙ ap (λ l. shown w (things_at (temp_things n t) 0 l)) temps ∙ x.temps_shown w z n t;
     }
@@ -106,7 +113,7 @@ ready_still h h2 r = record {
       let y = h.thread in
       let y2 : ThreadState = record y { slots = r.slots; temps = r.temps; walk = r.walk; passed = r.passed } in
       let there : shown w (hand_things n h2) ≡ shown w (thread_things n false y2 ++ rest_things n 0 h2.work.rest) = ap (λ (t : ThreadState). shown w (thread_things n false t ++ rest_things n 0 h2.work.rest)) r.thread in
-      let shows : w (sign_of (stands n false y2)) ≡ w (sign_of (stands n false y)) = ap₂ (λ a b. w (a_thread (record (shown_thread y) { slots = a; temps = b }) (has_both y.phase))) r.slots_plain r.temps_plain in
+      let shows : w (sign_of (stands n false y2)) ≡ w (sign_of (stands n false y)) = ap₂ (λ a b. w (a_thread (record (shown_thread y) { slots = a; temps = b }) (has_both y.phase))) r.slots_framed r.temps_framed in
       omega (
         arith,
         there,
@@ -135,8 +142,8 @@ work_ready h w m = record {
   walk = h.thread.walk;
   passed = h.thread.passed;
   thread = refl;
-  slots_plain = refl;
-  temps_plain = refl;
+  slots_framed = refl;
+  temps_framed = refl;
   slots_shown = λ w z n t. refl;
   temps_shown = λ w z n t. refl;
 }
@@ -151,8 +158,8 @@ copies_ready h cs walk = (
     walk = walk;
     passed = h.thread.passed;
     thread = refl;
-    slots_plain = refl;
-    temps_plain = refl;
+    slots_framed = refl;
+    temps_framed = refl;
     slots_shown = λ w z n t. refl;
     temps_shown = λ w z n t. refl;
   },
@@ -168,8 +175,8 @@ passes_ready m h = (
     walk = h.thread.walk;
     passed = m;
     thread = refl;
-    slots_plain = refl;
-    temps_plain = refl;
+    slots_framed = refl;
+    temps_framed = refl;
     slots_shown = λ w z n t. refl;
     temps_shown = λ w z n t. refl;
   },
@@ -179,38 +186,38 @@ passes_ready m h = (
 -- ANOTHER VALUE THAT SHOWS THE SAME
 
 pub record Rewords (v new : Value) : Type 0 where
-  pub plain : plain_value new ≡ plain_value v
+  pub frame : frame_of new ≡ frame_of v
   pub things : (w : Sign → ℕ) → w nothing ≡ 0 → (n : ℕ) (p : things.Spot) (l : Location) → shown w (value_things n p l new) ≡ shown w (value_things n p l v)
 
 some_same : {a b : Value} → Some a ≡ Some b → a ≡ b
 some_same e = cc
 
 worded : (u : ℕ) (v new : Value) → with_word u v ≡ Some new → Rewords v new
-worded u (value.Own (owned.Box b)) new e = subst (Rewords (value.Own (owned.Box b))) (some_same e) (record { plain = refl; things = λ w z n p l. refl })
-worded u (value.Mut r) new e = subst (Rewords (value.Mut r)) (some_same e) (record { plain = refl; things = λ w z n p l. refl })
+worded u (value.Own (owned.Box b)) new e = subst (Rewords (value.Own (owned.Box b))) (some_same e) (record { frame = refl; things = λ w z n p l. refl })
+worded u (value.Mut r) new e = subst (Rewords (value.Mut r)) (some_same e) (record { frame = refl; things = λ w z n p l. refl })
 worded u v new e = absurd (cc e)
 
 marked : (v : Value) → Rewords v (written v)
-marked (value.Mut r) = record { plain = refl; things = λ w z n p l. refl }
-marked value.Gone = record { plain = refl; things = λ w z n p l. refl }
-marked (value.Own v) = record { plain = refl; things = λ w z n p l. refl }
-marked (value.SharedSlot i) = record { plain = refl; things = λ w z n p l. refl }
-marked (value.MutSlot i) = record { plain = refl; things = λ w z n p l. refl }
-marked (value.Shared r) = record { plain = refl; things = λ w z n p l. refl }
-marked (value.Held m) = record { plain = refl; things = λ w z n p l. refl }
+marked (value.Mut r) = record { frame = refl; things = λ w z n p l. refl }
+marked value.Gone = record { frame = refl; things = λ w z n p l. refl }
+marked (value.Own v) = record { frame = refl; things = λ w z n p l. refl }
+marked (value.SharedSlot i) = record { frame = refl; things = λ w z n p l. refl }
+marked (value.MutSlot i) = record { frame = refl; things = λ w z n p l. refl }
+marked (value.Shared r) = record { frame = refl; things = λ w z n p l. refl }
+marked (value.Held m) = record { frame = refl; things = λ w z n p l. refl }
 
 -- a reference that pins its copy
 pub pinned : (r : SharedRef) (b : Bool) → Rewords (value.Shared r) (value.Shared (record r { pinned = b }))
-pinned r b = record { plain = refl; things = λ w z n p l. omega (arith, no_pin w z n r, no_pin w z n (record r { pinned = b })) }
+pinned r b = record { frame = refl; things = λ w z n p l. omega (arith, no_pin w z n r, no_pin w z n (record r { pinned = b })) }
 
-map_set : (xs : List Value) (i : ℕ) (v new : Value) → slice_get xs i ≡ Some v → plain_value new ≡ plain_value v → map plain_value (slice_set xs i new) ≡ map plain_value xs
+map_set : (xs : List Value) (i : ℕ) (v new : Value) → slice_get xs i ≡ Some v → frame_of new ≡ frame_of v → map frame_of (slice_set xs i new) ≡ map frame_of xs
 map_set [] i v new e p = cc
-map_set (x ∷ xs) zero v new e p = let same : v ≡ x = cc in ap (λ (y : PlainValue). y ∷ map plain_value xs) (p ∙ ap plain_value same)
-map_set (x ∷ xs) (suc i) v new e p = ap (λ ys. plain_value x ∷ ys) (map_set xs i v new e p)
+map_set (x ∷ xs) zero v new e p = let same : v ≡ x = cc in ap (λ (y : Frame). y ∷ map frame_of xs) (p ∙ ap frame_of same)
+map_set (x ∷ xs) (suc i) v new e p = ap (λ ys. frame_of x ∷ ys) (map_set xs i v new e p)
 
-map_last : (xs : List Value) (v new : Value) → plain_value new ≡ plain_value v → map plain_value (xs ++ new ∷ []) ≡ map plain_value (xs ++ v ∷ [])
-map_last [] v new p = ap (λ (y : PlainValue). y ∷ []) p
-map_last (x ∷ xs) v new p = ap (λ ys. plain_value x ∷ ys) (map_last xs v new p)
+map_last : (xs : List Value) (v new : Value) → frame_of new ≡ frame_of v → map frame_of (xs ++ new ∷ []) ≡ map frame_of (xs ++ v ∷ [])
+map_last [] v new p = ap (λ (y : Frame). y ∷ []) p
+map_last (x ∷ xs) v new p = ap (λ ys. frame_of x ∷ ys) (map_last xs v new p)
 
 slot_ready : (h : Hand) (i : ℕ) (v new : Value) → slice_get h.thread.slots i ≡ Some v → Rewords v new → Readied h (with_slots (slice_set h.thread.slots i new) h)
 slot_ready h i v new e r = record {
@@ -220,8 +227,8 @@ slot_ready h i v new e r = record {
   walk = h.thread.walk;
   passed = h.thread.passed;
   thread = refl;
-  slots_plain = map_set h.thread.slots i v new e r.plain;
-  temps_plain = refl;
+  slots_framed = map_set h.thread.slots i v new e r.frame;
+  temps_framed = refl;
   slots_shown = λ w z n t.
       let f : Thing → ℕ = λ x. w (sign_of x) in
       let g = slot_things n t in
@@ -240,8 +247,8 @@ top_ready h v new e r =
       walk = h.thread.walk;
       passed = h.thread.passed;
       thread = refl;
-      slots_plain = refl;
-      temps_plain = map_last front v new r.plain ∙ ap (map plain_value) (sym split);
+      slots_framed = refl;
+      temps_framed = map_last front v new r.frame ∙ ap (map frame_of) (sym split);
       slots_shown = λ w z n t. refl;
       temps_shown = λ w z n t.
           let f : Thing → ℕ = λ x. w (sign_of x) in
@@ -282,7 +289,7 @@ put_ready (in_cell u through) v (value.Own x) h e r = by (look h.work.rest.parti
     by (Some c) b d =
         let same : v ≡ value.Own c.value = cc in
         let q = h.work.rest.partition in
-        let plain : plain_of x ≡ plain_of c.value = owned_plain x c.value (r.plain ∙ ap plain_value same) in
+        let plain : plain_of x ≡ plain_of c.value = owned_plain x c.value (shown_by_frame (value.Own x) (value.Own c.value) (r.frame ∙ ap frame_of same)) in
         let h1 = working (with_partition (stored q u x)) h in
         test_gives (Kept h) (leads_here q u) _ (λ on. then_kept h h1 (note_write through h1) (work_ready h h1.work (cell_moves h.work.rest u c x b plain), stored_places h.work.rest.number q u c x b) (noted_ready through h1))
 put_ready (in_cell u through) v value.Gone h e r = tt

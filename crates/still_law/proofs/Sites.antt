@@ -200,8 +200,8 @@ module _ (Sort : EntryView → Type 0) (Class : (Sign → ℕ) → Type 0) where
   abbrev Goes : Cluster → Event → Server → Server × EntryView → Type 0
   Goes k e s r = GoTo (with_server k.servers e.server r.0) (drop (length s.rest.outbox) r.0.rest.outbox)
 
-  abbrev SameHeap : Cluster → Cluster × EntryView → Type 0
-  SameHeap k d = Sort d.1 → SameState (one_heap d.0) (one_heap k)
+  abbrev Leads : (Cluster → Type 0) → Cluster × EntryView → Type 0
+  Leads P d = Sort d.1 → P d.0
 
   handed_alike : (k : Cluster) (e : Event) (s : Server) → server_at k.servers e.server ≡ Some s → (r : Server × EntryView) → Goes k e s r → AlikeBy Class (server_things s) (server_things r.0)
       → AlikeBy Class (things_of k) (servers_things (hand_over_newer e.server (length s.rest.outbox) r.0 k.servers))
@@ -212,13 +212,18 @@ module _ (Sort : EntryView → Type 0) (Class : (Sign → ℕ) → Type 0) where
       let goes = go_with k.servers e.server r.0 (take older r.0.rest.outbox) (drop older r.0.rest.outbox) go in
       omega (arith, hand_over_newer_law f e.server older s r.0 k.servers here goes, t.0, t.1, u w z c)
 
-  pub leaves_heap_by : (k : Cluster) (e : Event) → IsSound k → FewEvents k → ((c : Cluster) → c.code ≡ k.code → AlikeBy Class (things_of k) (things_of c) → SameState (one_heap c) (one_heap k))
-      → ((s : Server) → server_at k.servers e.server ≡ Some s → enabled k.options s e.what ≡ true → Gives (StillThere s) (does k.code k.options s e.what)) → Gives (SameHeap k) (apply k e)
-  leaves_heap_by k e sound few same go =
-      then_gives (SameHeap k) (server_at k.servers e.server) _ (λ s here.
-      over_gives (λ r. Goes k e s r × StillThere s r) (SameHeap k) (done_at k e.what s) _
+  -- and whatever follows from that for the cluster afterwards
+  pub leads_by : (P : Cluster → Type 0) (k : Cluster) (e : Event) → IsSound k → FewEvents k → ((c : Cluster) → c.code ≡ k.code → AlikeBy Class (things_of k) (things_of c) → P c)
+      → ((s : Server) → server_at k.servers e.server ≡ Some s → enabled k.options s e.what ≡ true → Gives (StillThere s) (does k.code k.options s e.what)) → Gives (Leads P) (apply k e)
+  leads_by P k e sound few same go =
+      then_gives (Leads P) (server_at k.servers e.server) _ (λ s here.
+      over_gives (λ r. Goes k e s r × StillThere s r) (Leads P) (done_at k e.what s) _
       (both_give (Goes k e s) (StillThere s) (λ r. Goes k e s r × StillThere s r) (done_at k e.what s) (each_event_sends k e sound few s here) (test_gives (StillThere s) (enabled k.options s e.what) (does k.code k.options s e.what) (λ on. go s here on)) (λ r a b. (a, b)))
       (λ r u sort. same (record k { servers = hand_over_newer e.server (length s.rest.outbox) r.0 k.servers }) refl (handed_alike k e s here r u.0 (u.1 sort))))
+
+  pub leaves_heap_by : (k : Cluster) (e : Event) → IsSound k → FewEvents k → ((c : Cluster) → c.code ≡ k.code → AlikeBy Class (things_of k) (things_of c) → SameState (one_heap c) (one_heap k))
+      → ((s : Server) → server_at k.servers e.server ≡ Some s → enabled k.options s e.what ≡ true → Gives (StillThere s) (does k.code k.options s e.what)) → Gives (Leads (λ c. SameState (one_heap c) (one_heap k))) (apply k e)
+  leaves_heap_by k = leads_by (λ c. SameState (one_heap c) (one_heap k)) k
 
 pub leaves_heap_where : (Sort : EntryView → Type 0) → ((k : Cluster) → IsSound k → Once (sight k)) → (k : Cluster) (e : Event) → IsSound k → FewEvents k
     → ((s : Server) → server_at k.servers e.server ≡ Some s → enabled k.options s e.what ≡ true → Gives (λ r. Sort r.1 → ServerStill k s r) (does k.code k.options s e.what)) → Gives (λ d. Sort d.1 → SameState (one_heap d.0) (one_heap k)) (apply k e)

@@ -8,10 +8,9 @@ use Rattle.fr_base.specs.declared.label.Plain.TheVariants as plain
 use Rattle.fr_base.specs.declared.name.MutexNo.{MutexNo}
 use Rattle.fr_base.specs.declared.name.ObjNo.{ObjNo}
 use Rattle.fr_base.specs.Names.{same_object, same_mutex, same_plain}
-use Rattle.fr_plain.specs.declared.value.Value.{Value}
-use Rattle.fr_plain.specs.declared.value.Value.TheVariants.{Own, ToSlot, ToObject, Held}
+use Rattle.fr_base.specs.declared.place.Lval.{Lval}
 use Rattle.heap_law.proofs.Names.{and_left, and_right}
-use Rattle.still_law.specs.Shows.{ShownThread}
+use Rattle.still_law.specs.Shows.{ShownThread, Frame, moved_out, owning, shared_slot, mutable_slot, shared_object, mutable_object, marking}
 
 pub record IsTest {A : Type 0} (same : A → A → Bool) : Type 0 where
   pub itself : (x : A) → same x x ≡ true
@@ -79,27 +78,48 @@ plains = record { itself = itself; tells = tells }
     tells (plain.Task p) (plain.Task q) e = ap plain.Task (numbers.tells p q e)
     tells _ _ e = absurd (cc e)
 
-abbrev pub same_value : Value → Value → Bool
-same_value (Own v) (Own w) = same_plain v w
-same_value (ToSlot i) (ToSlot j) = i == j
-same_value (ToObject o) (ToObject p) = same_object o p
-same_value (Held m) (Held n) = same_mutex m n
-same_value _ _ = false
+abbrev pub same_place : Lval → Lval → Bool
+same_place p q = (p.slot == q.slot) && (p.depth == q.depth)
 
-pub values : IsTest same_value
-values = record { itself = itself; tells = tells }
+abbrev place_of : ℕ → ℕ → Lval
+place_of s d = record { slot = s; depth = d }
+
+pub places : IsTest same_place
+places = record {
+  itself = λ p. both_true (p.slot == p.slot) (p.depth == p.depth) (numbers.itself p.slot) (numbers.itself p.depth);
+  tells = λ p q e. ap₂ place_of (numbers.tells p.slot q.slot (and_left (p.slot == q.slot) (p.depth == q.depth) e)) (numbers.tells p.depth q.depth (and_right (p.slot == q.slot) (p.depth == q.depth) e));
+}
+
+abbrev pub same_frame : Frame → Frame → Bool
+same_frame moved_out moved_out = true
+same_frame (owning v) (owning w) = same_plain v w
+same_frame (shared_slot i) (shared_slot j) = i == j
+same_frame (mutable_slot i) (mutable_slot j) = i == j
+same_frame (shared_object o) (shared_object p) = same_object o p
+same_frame (mutable_object o v) (mutable_object p w) = same_object o p && same_place v w
+same_frame (marking m) (marking n) = same_mutex m n
+same_frame _ _ = false
+
+pub frames : IsTest same_frame
+frames = record { itself = itself; tells = tells }
   where
-    itself : (v : Value) → same_value v v ≡ true
-    itself (Own v) = plains.itself v
-    itself (ToSlot i) = numbers.itself i
-    itself (ToObject o) = objects.itself o
-    itself (Held m) = mutexes.itself m
+    itself : (v : Frame) → same_frame v v ≡ true
+    itself moved_out = refl
+    itself (owning v) = plains.itself v
+    itself (shared_slot i) = numbers.itself i
+    itself (mutable_slot i) = numbers.itself i
+    itself (shared_object o) = objects.itself o
+    itself (mutable_object o v) = both_true (same_object o o) (same_place v v) (objects.itself o) (places.itself v)
+    itself (marking m) = mutexes.itself m
 
-    tells : (v w : Value) → same_value v w ≡ true → v ≡ w
-    tells (Own v) (Own w) e = ap Own (plains.tells v w e)
-    tells (ToSlot i) (ToSlot j) e = ap ToSlot (numbers.tells i j e)
-    tells (ToObject o) (ToObject p) e = ap ToObject (objects.tells o p e)
-    tells (Held m) (Held n) e = ap Held (mutexes.tells m n e)
+    tells : (v w : Frame) → same_frame v w ≡ true → v ≡ w
+    tells moved_out moved_out e = refl
+    tells (owning v) (owning w) e = ap owning (plains.tells v w e)
+    tells (shared_slot i) (shared_slot j) e = ap shared_slot (numbers.tells i j e)
+    tells (mutable_slot i) (mutable_slot j) e = ap mutable_slot (numbers.tells i j e)
+    tells (shared_object o) (shared_object p) e = ap shared_object (objects.tells o p e)
+    tells (mutable_object o v) (mutable_object p w) e = ap₂ mutable_object (objects.tells o p (and_left (same_object o p) (same_place v w) e)) (places.tells v w (and_right (same_object o p) (same_place v w) e))
+    tells (marking m) (marking n) e = ap marking (mutexes.tells m n e)
     tells _ _ e = absurd (cc e)
 
 module _ {A : Type 0} (same : A → A → Bool) (test : IsTest same) where
@@ -139,16 +159,16 @@ pairs = record { itself = itself; tells = tells }
     tells None (Some q) e = absurd (cc e)
     tells (Some p) None e = absurd (cc e)
 
-abbrev pub same_values : List Value → List Value → Bool
-same_values xs ys = same_list same_value values xs ys
+abbrev pub same_frames : List Frame → List Frame → Bool
+same_frames xs ys = same_list same_frame frames xs ys
 
 abbrev pub same_part : ShownThread → ShownThread → Bool
 same_part x y =
     (x.number == y.number) && (same_truth x.is_over y.is_over && (same_pair x.pair y.pair
-    && ((x.pc == y.pc) && (same_values x.temps y.temps && (same_values x.slots y.slots && (x.made == y.made))))))
+    && ((x.pc == y.pc) && (same_frames x.temps y.temps && (same_frames x.slots y.slots && (x.made == y.made))))))
 
 -- all that is shown of a thread
-abbrev pub thread_of : ℕ → Bool → Option (ℕ × ℕ) → ℕ → List Value → List Value → ℕ → ShownThread
+abbrev pub thread_of : ℕ → Bool → Option (ℕ × ℕ) → ℕ → List Frame → List Frame → ℕ → ShownThread
 thread_of a b c d e f g = record { number = a; is_over = b; pair = c; pc = d; temps = e; slots = f; made = g }
 
 all_true : (p q : Bool) → (p && q) ≡ true → (p ≡ true) × (q ≡ true)
@@ -160,7 +180,7 @@ threads = record { itself = itself; tells = tells }
     itself : (x : ShownThread) → same_part x x ≡ true
     itself x =
         both_true _ _ (numbers.itself x.number) (both_true _ _ (truths.itself x.is_over) (both_true _ _ (pairs.itself x.pair)
-        (both_true _ _ (numbers.itself x.pc) (both_true _ _ (lists_itself same_value values x.temps) (both_true _ _ (lists_itself same_value values x.slots) (numbers.itself x.made))))))
+        (both_true _ _ (numbers.itself x.pc) (both_true _ _ (lists_itself same_frame frames x.temps) (both_true _ _ (lists_itself same_frame frames x.slots) (numbers.itself x.made))))))
 
     tells : (x y : ShownThread) → same_part x y ≡ true → x ≡ y
     tells x y e =
@@ -174,8 +194,8 @@ threads = record { itself = itself; tells = tells }
         let e2 : x.is_over ≡ y.is_over = truths.tells x.is_over y.is_over p2.0 in
         let e3 : x.pair ≡ y.pair = pairs.tells x.pair y.pair p3.0 in
         let e4 : x.pc ≡ y.pc = numbers.tells x.pc y.pc p4.0 in
-        let e5 : x.temps ≡ y.temps = lists_tell same_value values x.temps y.temps p5.0 in
-        let e6 : x.slots ≡ y.slots = lists_tell same_value values x.slots y.slots p6.0 in
+        let e5 : x.temps ≡ y.temps = lists_tell same_frame frames x.temps y.temps p5.0 in
+        let e6 : x.slots ≡ y.slots = lists_tell same_frame frames x.slots y.slots p6.0 in
         let e7 : x.made ≡ y.made = numbers.tells x.made y.made p6.1 in
         let same : thread_of x.number x.is_over x.pair x.pc x.temps x.slots x.made ≡ thread_of y.number y.is_over y.pair y.pc y.temps y.slots y.made = cc in
         same

@@ -8,8 +8,12 @@ use Rattle.fr_base.specs.declared.label.Plain.TheVariants as plain
 use Rattle.fr_base.specs.declared.instruction.Instr.{Instr}
 use Rattle.fr_base.specs.declared.instruction.Instr.TheVariants as instr
 use Rattle.fr_plain.specs.declared.value.Value.{Value as PlainValue}
+use Rattle.fr_plain.specs.declared.value.Value.TheVariants as shows
+use Rattle.fr_base.specs.declared.place.Lval.{Lval}
 use Rattle.heap_partition.specs.Plain.{plain_of}
 use Rattle.thread_state.specs.View.{ThreadState, is_over}
+use Rattle.thread_state.specs.declared.value.Value.{Value}
+use Rattle.thread_state.specs.declared.value.Value.TheVariants as value
 use Rattle.thread_state.specs.declared.phase.Phase.{Phase}
 use Rattle.thread_state.specs.declared.phase.Phase.TheVariants as phase
 use Rattle.join_home.specs.Tasks.{TaskState, in_pair}
@@ -21,7 +25,37 @@ use Rattle.heap_law.specs.Paths.{joined_thread}
 use Rattle.heap_law.specs.Walking.{instr_of}
 use Rattle.heap_law.specs.Requests.{locked_mutex}
 use Rattle.heap_law.specs.Sharing.{got_phase}
-use Rattle.heap_law.specs.OneHeap.{Node, mutex_n, task_n, names, pair_note, plain_value, two_in}
+use Rattle.heap_law.specs.OneHeap.{Node, mutex_n, task_n, names, pair_note, two_in}
+
+-- what a value of a slot or a temporary value is, whatever its word, its mark and its pin
+pub data Frame : Type 0 where
+  moved_out : Frame
+  owning : Plain → Frame
+  shared_slot : ℕ → Frame
+  mutable_slot : ℕ → Frame
+  shared_object : ObjNo → Frame
+  -- with the place of its holder
+  mutable_object : ObjNo → Lval → Frame
+  marking : MutexNo → Frame
+
+abbrev pub frame_of : Value → Frame
+frame_of value.Gone = moved_out
+frame_of (value.Own v) = owning (plain_of v)
+frame_of (value.SharedSlot i) = shared_slot i
+frame_of (value.MutSlot i) = mutable_slot i
+frame_of (value.Shared r) = shared_object r.object
+frame_of (value.Mut r) = mutable_object r.object r.holder
+frame_of (value.Held m) = marking m
+
+-- what it is on the plain machine
+abbrev pub plain_frame : Frame → PlainValue
+plain_frame moved_out = shows.Own plain.Nothing
+plain_frame (owning v) = shows.Own v
+plain_frame (shared_slot i) = shows.ToSlot i
+plain_frame (mutable_slot i) = shows.ToSlot i
+plain_frame (shared_object o) = shows.ToObject o
+plain_frame (mutable_object o w) = shows.ToObject o
+plain_frame (marking m) = shows.Held m
 
 -- a thread, wherever it stands
 pub record ShownThread : Type 0 where
@@ -30,8 +64,8 @@ pub record ShownThread : Type 0 where
   -- the two threads that it waits for, or that have both ended
   pub pair : Option (ℕ × ℕ)
   pub pc : ℕ
-  pub temps : List PlainValue
-  pub slots : List PlainValue
+  pub temps : List Frame
+  pub slots : List Frame
   pub made : ℕ
 
 pub data Sign : Type 0 where
@@ -56,8 +90,8 @@ shown_thread t = record {
   is_over = is_over t.phase;
   pair = two_in t.phase;
   pc = t.pc;
-  temps = map plain_value t.temps;
-  slots = map plain_value t.slots;
+  temps = map frame_of t.temps;
+  slots = map frame_of t.slots;
   made = t.made;
 }
 

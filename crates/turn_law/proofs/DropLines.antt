@@ -47,7 +47,7 @@ use Rattle.event_law.proofs.Values.{last_split}
 use Rattle.still_law.proofs.Addresses.{in_place}
 use Rattle.still_law.proofs.Leaving.{others, placed_here}
 use Rattle.still_law.proofs.Prepares.{Fine, prepare_shows}
-use Rattle.still_law.proofs.Readied.{Readied, same_ready, copies_ready, set_ready}
+use Rattle.still_law.proofs.Readied.{Readied, readied_slots, readied_temps, same_ready, copies_ready, set_ready}
 use Rattle.path_law.proofs.Shown.{shown_value}
 use Rattle.turn_law.specs.Turns.{lets_none_go, none_goes}
 use Rattle.turn_law.proofs.Parts.{value_owns, owned_in}
@@ -297,10 +297,10 @@ module _ (k : Cluster) (sound : IsSound k) (e : Event) (i : Instr) (s : Server) 
 
   module _ (h : Hand) (ready_h : Readied start h) (bare : h.work.labels ≡ []) where
     slots_plain : map plain_value h.thread.slots ≡ map plain_value y.slots
-    slots_plain = ap (λ (z : ThreadState). map plain_value z.slots) ready_h.thread ∙ ready_h.slots_plain
+    slots_plain = readied_slots ready_h
 
     temps_plain : map plain_value h.thread.temps ≡ map plain_value y.temps
-    temps_plain = ap (λ (z : ThreadState). map plain_value z.temps) ready_h.thread ∙ ready_h.temps_plain
+    temps_plain = readied_temps ready_h
 
     -- it is dropped from a hand with other slots and temporary values, and the plain machine does the same
     dropped_from : (mid : Hand) (sp : Spot) (v : Value) → mid.work.rest ≡ h.work.rest → mid.thread ≡ record h.thread { slots = mid.thread.slots; temps = mid.thread.temps } → mid.work.labels ≡ [] → lets_none_go v ≡ true

@@ -44,7 +44,7 @@ use Rattle.read_law.proofs.Lookups.{direct, copied_is, uncached}
 use Rattle.still_law.proofs.Addresses.{in_place}
 use Rattle.still_law.proofs.Leaving.{others, placed_here}
 use Rattle.still_law.proofs.Prepares.{Fine, prepare_shows}
-use Rattle.still_law.proofs.Readied.{Readied}
+use Rattle.still_law.proofs.Readied.{Readied, readied_slots, readied_temps}
 use Rattle.turn_law.proofs.Parts.{value_owns}
 use Rattle.turn_law.proofs.OneTurn.{after}
 use Rattle.turn_law.proofs.PlainTurn.{DoesIn, state_at, alone_does_in}
@@ -139,10 +139,10 @@ module _ (k : Cluster) (co : IsCoherent k) (e : Event) (i : Instr) (s : Server) 
   }
     where
       slots_plain : map plain_value h.thread.slots ≡ map plain_value y.slots
-      slots_plain = ap (λ (z : ThreadState). map plain_value z.slots) ready_h.thread ∙ ready_h.slots_plain
+      slots_plain = readied_slots ready_h
 
       temps_plain : map plain_value h.thread.temps ≡ map plain_value y.temps
-      temps_plain = ap (λ (z : ThreadState). map plain_value z.temps) ready_h.thread ∙ ready_h.temps_plain
+      temps_plain = readied_temps ready_h
 
 -- COPIES
 

@@ -26,7 +26,7 @@ use Rattle.event_law.specs.Laws.{Gives}
 use Rattle.event_law.proofs.Bags.{rest_things}
 use Rattle.still_law.specs.Shows.{Sign, nothing, sign_of}
 use Rattle.still_law.proofs.Sites.{shown, Moves}
-use Rattle.still_law.proofs.Readied.{Readied, then_ready, copies_ready}
+use Rattle.still_law.proofs.Readied.{Readied, readied_slots, readied_temps, then_ready, copies_ready}
 use Rattle.turn_law.proofs.Parts.{value_owns, owned_in}
 use Rattle.turn_law.proofs.OneTurn.{after}
 use Rattle.turn_law.proofs.PlainTurn.{DoesIn}
@@ -168,7 +168,7 @@ module _ (a : CodeState) (code : List Instr) (r : Rest) (x : ThreadState) where
   }
     where
       slots_plain : map plain_value h.thread.slots ≡ map plain_value mid.thread.slots
-      slots_plain = ap (λ (y : ThreadState). map plain_value y.slots) later.thread ∙ later.slots_plain
+      slots_plain = readied_slots later
 
       temps_plain : map plain_value h.thread.temps ≡ map plain_value mid.thread.temps
-      temps_plain = ap (λ (y : ThreadState). map plain_value y.temps) later.thread ∙ later.temps_plain
+      temps_plain = readied_temps later

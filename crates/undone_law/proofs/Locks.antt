@@ -1,9 +1,8 @@
 -- In a coherent cluster the place of a lock passes objects of the one heap alone, and each of these is named by something.
-use Rattle.std.proofs.Common.{◌≡◌, ℕ, ◌+◌, ◌≤◌, Bool, true, false, length, Option, Some, None, is_some, refl, sym, ap, subst, ◌∙◌, arith}
+use Rattle.std.proofs.Common.{◌≡◌, ℕ, ◌+◌, Bool, true, false, length, Option, Some, None, is_some, refl, sym, ap, ◌∙◌, arith}
 use Rattle.fr_base.specs.declared.name.ObjNo.{ObjNo}
 use Rattle.fr_base.specs.declared.label.Plain.{Plain}
 use Rattle.fr_base.specs.declared.place.Lval.{Lval}
-use Rattle.fr_base.specs.declared.instruction.Instr.{Instr}
 use Rattle.fr_base.specs.declared.instruction.Instr.TheVariants as instr
 use Rattle.fr_store.specs.Store.{Val}
 use Rattle.fr_sound.specs.Seen.{seen_cell}
@@ -11,7 +10,7 @@ use Rattle.thread_state.specs.View.{is_over}
 use Rattle.server_model.specs.Servers.{Cluster}
 use Rattle.heap_law.specs.Names.{other, if_so, one}
 use Rattle.heap_law.specs.Things.{Location, at_slot, at_temp, in_cell, things_of}
-use Rattle.heap_law.specs.Follow.{Standing, threads_in, thread_at, locate}
+use Rattle.heap_law.specs.Follow.{Standing, threads_in, locate}
 use Rattle.heap_law.specs.Sight.{sight}
 use Rattle.heap_law.specs.Walking.{instr_of}
 use Rattle.heap_law.specs.Rooted.{dressed, is_end}
@@ -20,7 +19,6 @@ use Rattle.path_law.specs.HeapStore.{GoesOn, HasPaths}
 use Rattle.path_law.proofs.Alike.{leads_in_heap, heap_of_shown}
 use Rattle.path_law.proofs.Contained.{among_thread}
 use Rattle.path_law.proofs.Forms.{none_of}
-use Rattle.still_law.specs.Shows.{is_named}
 use Rattle.still_law.proofs.Counting.{unnamed_out}
 use Rattle.still_law.proofs.Alike.{SeenAt, LocksSee}
 use Rattle.still_law.proofs.Drops.{named}
@@ -56,21 +54,16 @@ module _ (k : Cluster) (c : HasPaths k) where
           let ends : other (is_end (instr_of (sight k) x)) ≡ 1 = ap (λ i. other (is_end i)) at in
           absurd (omega (arith, all, ends))
 
-  -- what its place passes is in the one heap
-  pub locks_pass : LocksSee (λ o. is_some (object_value (sight k) o)) k
-  locks_pass t x w there at n within = by (locate (sight k).ground x.thread.number w.slot n) refl
+  -- what a place passes of a thread that goes on is in the one heap
+  places_pass : (x : Standing) → GoesOn k x → (slot n : ℕ) → SeenAt (λ o. is_some (object_value (sight k) o)) (locate (sight k).ground x.thread.number slot n)
+  places_pass x goes slot n = by (locate (sight k).ground x.thread.number slot n) refl
     where
-      goes : GoesOn k x
-      goes =
-          let among = (among_thread (threads_in (things_of k)) t x there).0 in
-          record { among = among; going = goes_on x w at (none_of (dressed (sight k)) x (sight k).ground.threads c.over_are_bare among) }
-
-      by : (l : Option Location) → locate (sight k).ground x.thread.number w.slot n ≡ l → SeenAt (λ o. is_some (object_value (sight k) o)) l
+      by : (l : Option Location) → locate (sight k).ground x.thread.number slot n ≡ l → SeenAt (λ o. is_some (object_value (sight k) o)) l
       by None e = tt
       by (Some (at_slot u i)) e = tt
       by (Some (at_temp u i)) e = tt
       by (Some (in_cell o)) e =
-          let shown = leads_in_heap k c x goes w.slot n (in_cell o) e in
+          let shown = leads_in_heap k c x goes slot n (in_cell o) e in
           let value = heap_of_shown k c x goes o shown.1 in
           seen (object_value (sight k) o) refl value.1
         where
@@ -78,6 +71,18 @@ module _ (k : Cluster) (c : HasPaths k) where
           seen None q r = absurd (cc r)
           seen (Some v) q r = ap is_some q
 
+  in_heap_named : (l : Option Location) → SeenAt (λ o. is_some (object_value (sight k) o)) l → SeenAt (named k) l
+  in_heap_named l p = seen_less (λ o. is_some (object_value (sight k) o)) (named k) (λ o h. in_heap o (object_value (sight k) o) refl h) l p
+
+  -- and is named
+  pub places_see : (x : Standing) → GoesOn k x → (slot n : ℕ) → SeenAt (named k) (locate (sight k).ground x.thread.number slot n)
+  places_see x goes slot n = in_heap_named (locate (sight k).ground x.thread.number slot n) (places_pass x goes slot n)
+
+  -- so is what the place of a lock passes
+  pub locks_pass : LocksSee (λ o. is_some (object_value (sight k) o)) k
+  locks_pass t x w there at n within =
+      let among = (among_thread (threads_in (things_of k)) t x there).0 in
+      places_pass x (record { among = among; going = goes_on x w at (none_of (dressed (sight k)) x (sight k).ground.threads c.over_are_bare among) }) w.slot n
+
   pub locks_see : LocksSee (named k) k
-  locks_see t x w there at n within =
-      seen_less (λ o. is_some (object_value (sight k) o)) (named k) (λ o h. in_heap o (object_value (sight k) o) refl h) (locate (sight k).ground x.thread.number w.slot n) (locks_pass t x w there at n within)
+  locks_see t x w there at n within = in_heap_named (locate (sight k).ground x.thread.number w.slot n) (locks_pass t x w there at n within)

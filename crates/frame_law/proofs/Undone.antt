@@ -1,0 +1,91 @@
+-- Event by event: whatever does no plain step leaves what types say of threads.
+use Rattle.std.proofs.Common.{◌≡◌, ℕ, ◌+◌, Bool, true, false, not, length, Option, Some, None, refl, sym, ap, ap₂, ◌∙◌, arith}
+use Rattle.std.specs.Prelude.{is_some}
+use Rattle.fr_base.specs.declared.name.ObjNo.{ObjNo}
+use Rattle.fr_base.specs.declared.place.Lval.{Lval}
+use Rattle.journal.specs.View.{EntryView}
+use Rattle.thread_state.specs.View.{is_over}
+use Rattle.server_model.specs.declared.event.Event.{Event}
+use Rattle.server_model.specs.Servers.{Cluster}
+use Rattle.server_model.specs.Clusters.{apply}
+use Rattle.heap_law.specs.Names.{tot, one, other, if_so, Among}
+use Rattle.heap_law.specs.Things.{Location, at_slot, at_temp, in_cell, things_of}
+use Rattle.heap_law.specs.Follow.{Standing, Ground, threads_in, locate}
+use Rattle.heap_law.specs.Sight.{sight}
+use Rattle.heap_law.specs.Rooted.{is_end, dressed}
+use Rattle.heap_law.specs.Walking.{instr_of}
+use Rattle.type_law.specs.Names.{names_of}
+use Rattle.type_law.specs.ClusterTypes.{Types, IsCoherent, leads_wrong, astray_of}
+use Rattle.path_law.specs.HeapStore.{GoesOn, HasPaths}
+use Rattle.path_law.proofs.Alike.{coherent_has_paths}
+use Rattle.path_law.proofs.Forms.{none_of}
+use Rattle.event_law.specs.Laws.{Gives, FewEvents, OneResult}
+use Rattle.event_law.proofs.Results.{both_give}
+use Rattle.event_law.proofs.TurnEvents.{asking_applied, result_once}
+use Rattle.still_law.proofs.Once.{shown_once}
+use Rattle.still_law.proofs.Drops.{named}
+use Rattle.still_law.proofs.Sites.{leads_by}
+use Rattle.still_law.proofs.Counting.{no_stray}
+use Rattle.still_law.proofs.Alike.{SeenAt, HeedAlike, Heeds, place_same, mutex_same}
+use Rattle.undone_law.proofs.Undone.{event_goes}
+use Rattle.undone_law.proofs.Locks.{locks_see, places_see}
+use Rattle.frame_law.specs.Threads.{TypesThreads, UndoneKeepsThreadTypes}
+use Rattle.frame_law.proofs.Twins.{same_sum, same_forms, same_locked, same_ends}
+use Rattle.frame_law.proofs.Leading.{LeadsAlike, astray_sees, astray_alike, none_astray}
+use Rattle.frame_law.proofs.Viewing.{all_none, views_on}
+
+-- a thread that is over has no values
+bare_slots : (k : Cluster) (x : Standing) → dressed (sight k) x ≡ 0 → is_over x.thread.phase ≡ true → (length x.thread.slots ≡ 0) × (length x.thread.temps ≡ 0)
+bare_slots k x none over =
+    let all : other (is_end (instr_of (sight k) x)) + length x.thread.slots + length x.thread.temps + one (is_some x.thread.gift) ≡ 0 =
+    sym (ap (λ b. if_so b (other (is_end (instr_of (sight k) x)) + length x.thread.slots + length x.thread.temps + one (is_some x.thread.gift))) over) ∙ none in
+    (omega (arith, all), omega (arith, all))
+
+module _ (k : Cluster) (co : IsCoherent k) (z : Cluster) (code : z.code ≡ k.code) (alike : HeedAlike (named k) (sight k) (things_of k) (things_of z)) (once : OneResult z) where
+  abbrev paths : HasPaths k
+  paths = coherent_has_paths k co
+
+  -- places of a thread that goes on lead alike
+  leads_alike : (x : Standing) → GoesOn k x → LeadsAlike (sight z).ground (sight k).ground x.thread.number
+  leads_alike x goes =
+      let t = x.thread.number in
+      let shown = shown_once k co.sound in
+      let see = locks_see k paths in
+      let kept = no_stray k shown.threads in record {
+        place = λ w. sym (place_same k z (things_of k) (things_of z) code shown (named k) (λ o h. h) see alike kept (no_stray z) t w.slot w.depth (λ m l. places_see k paths x goes w.slot m));
+        mutex = λ w. sym (mutex_same k z (things_of k) (things_of z) code shown (named k) (λ o h. h) see alike kept (no_stray z) t w (λ n l. places_see k paths x goes w.slot n));
+      }
+
+  -- so do its references
+  lead_on : (x : Standing) → Among x (sight k).ground.threads → astray_of co.types.typing.exact (sight k).ground x.thread ≡ 0 → astray_of co.types.typing.exact (sight z).ground x.thread ≡ 0
+  lead_on x a none = by (is_over x.thread.phase) refl
+    where
+      by : (q : Bool) → is_over x.thread.phase ≡ q → astray_of co.types.typing.exact (sight z).ground x.thread ≡ 0
+      by false e = astray_alike co.types.typing.exact (sight z).ground (sight k).ground x.thread (leads_alike x (record { among = a; going = e })) ∙ none
+      by true e =
+          let empty = bare_slots k x (none_of (dressed (sight k)) x (sight k).ground.threads paths.over_are_bare a) e in
+          none_astray co.types.typing.exact (sight z).ground x.thread empty.0 empty.1
+
+  types_threads : TypesThreads k co.types z
+  types_threads =
+      let c = co.types in
+      let names = names_of c.object c.typing.gives in
+      let exact = c.typing.exact in record {
+        forms = same_forms k z (named k) alike c.table names ∙ c.forms;
+        locked = same_locked k z (named k) alike c.table names ∙ c.locked;
+        lead =
+            same_sum k z (named k) alike (λ x. astray_of exact (sight z).ground x.thread) (astray_sees exact (sight z).ground)
+            ∙ all_none (λ x. astray_of exact (sight k).ground x.thread) (λ x. astray_of exact (sight z).ground x.thread) (threads_in (things_of k)) lead_on c.lead;
+        views = views_on k z (named k) alike once co.sound.names.numbers_differ c.table c.views;
+        ends = same_ends k z (named k) alike c.table names ∙ c.ends;
+      }
+
+pub undone_keep : UndoneKeepsThreadTypes
+undone_keep k e co few =
+    let sound = co.sound in
+    both_give (λ (d : Cluster × EntryView). OneResult d.0) (λ (d : Cluster × EntryView). d.1.done ≡ None → OneResult d.0 → TypesThreads k co.types d.0) (λ (d : Cluster × EntryView). d.1.done ≡ None → TypesThreads k co.types d.0) (apply k e)
+    (asking_applied OneResult result_once k e sound few)
+    (leads_by (λ (r : EntryView). r.done ≡ None) (λ w. Heeds (named k) (sight k) w) (λ z. OneResult z → TypesThreads k co.types z) k e sound few
+    (λ z code alike once. types_threads k co z code alike once)
+    (λ s here on. event_goes k sound e.server s here e.what on))
+    (λ d once leads none. leads none once)
