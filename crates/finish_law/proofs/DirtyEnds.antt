@@ -88,7 +88,7 @@ some_hand : {a b : Hand} → Some a ≡ Some b → a ≡ b
 some_hand e = cc
 
 -- what stands in the hand of a thread stands there in the cluster
-temp_stands : (k : Cluster) (n : ℕ) (ts : List ThreadState) (e : ℕ) (h : Hand) (i : ℕ) (v : Value) → StandsHere k n ts h → HasPlaces (put_in k n ts e h) → slice_get h.thread.temps i ≡ Some v → value_in (sight (put_in k n ts e h)).ground (at_temp h.thread.number i) ≡ Some v
+pub temp_stands : (k : Cluster) (n : ℕ) (ts : List ThreadState) (e : ℕ) (h : Hand) (i : ℕ) (v : Value) → StandsHere k n ts h → HasPlaces (put_in k n ts e h) → slice_get h.thread.temps i ≡ Some v → value_in (sight (put_in k n ts e h)).ground (at_temp h.thread.number i) ≡ Some v
 temp_stands k n ts e h i v here c at =
     let z = put_in k n ts e h in
     let split : Split (things_of z) (things_of z) (thread_things n false h.thread) (thread_things n false h.thread) = put_split k n ts e h h here refl refl in
@@ -120,13 +120,13 @@ module _ (k : Cluster) (coherent : IsCoherent k) (few : FewEvents k) (s : Server
   -- THE PLACE OF THE REFERENCE
 
   -- the spot shows it; with a word the thread is that other one, and all else is as it was
-  record Place (sp : Spot) (l : Location) (other : MutRef → ThreadState) (r : MutRef) : Type 0 where
-    shown : value_at start sp ≡ Some (value.Mut r)
-    there : value_in (sight (put start)).ground l ≡ Some (value.Mut r)
-    puts : (v : Work) (h2 : Hand) (w : ℕ) → set_pointer sp w (record start { work = v }) ≡ Some h2 → (h2.thread ≡ other (took r w)) × (h2.work.rest ≡ v.rest)
-    shows : (h2 : Hand) (q : MutRef) → h2.thread ≡ other q → value_at h2 sp ≡ Some (value.Mut q)
-    now : (h2 : Hand) (w : ℕ) → IsOk h2 → h2.thread ≡ other (took r w) → value_in (sight (put h2)).ground l ≡ Some (value.Mut (took r w))
-    rewords : (v : Work) (h2 : Hand) (w : ℕ) → v.rest.number ≡ n → set_pointer sp w (record start { work = v }) ≡ Some h2 → HasPlaces (put (record start { work = v })) → HasPlaces (put h2) → LeadsHome (put (record start { work = v })) (record { word = w; object = r.object }) → w ≢ r.first
+  pub record Place (sp : Spot) (l : Location) (other : MutRef → ThreadState) (r : MutRef) : Type 0 where
+    pub shown : value_at start sp ≡ Some (value.Mut r)
+    pub there : value_in (sight (put start)).ground l ≡ Some (value.Mut r)
+    pub puts : (v : Work) (h2 : Hand) (w : ℕ) → set_pointer sp w (record start { work = v }) ≡ Some h2 → (h2.thread ≡ other (took r w)) × (h2.work.rest ≡ v.rest)
+    pub shows : (h2 : Hand) (q : MutRef) → h2.thread ≡ other q → value_at h2 sp ≡ Some (value.Mut q)
+    pub now : (h2 : Hand) (w : ℕ) → IsOk h2 → h2.thread ≡ other (took r w) → value_in (sight (put h2)).ground l ≡ Some (value.Mut (took r w))
+    pub rewords : (v : Work) (h2 : Hand) (w : ℕ) → v.rest.number ≡ n → set_pointer sp w (record start { work = v }) ≡ Some h2 → HasPlaces (put (record start { work = v })) → HasPlaces (put h2) → LeadsHome (put (record start { work = v })) (record { word = w; object = r.object }) → w ≢ r.first
         → Reworded (put (record start { work = v })) (put h2) l r.object w
 
   -- the thread stands here, whatever is done at its server
@@ -146,7 +146,7 @@ module _ (k : Cluster) (coherent : IsCoherent k) (few : FewEvents k) (s : Server
   start_places = places k coherent s here_it t y at start (first_hand k coherent s here_it t y at).ok
 
   -- a slot
-  slot_place : (j : ℕ) (r : MutRef) → slice_get y.slots j ≡ Some (value.Mut r) → Place (in_slot j) (at_slot y.number j) (λ q. record y { slots = slice_set y.slots j (value.Mut q) }) r
+  pub slot_place : (j : ℕ) (r : MutRef) → slice_get y.slots j ≡ Some (value.Mut r) → Place (in_slot j) (at_slot y.number j) (λ q. record y { slots = slice_set y.slots j (value.Mut q) }) r
   slot_place j r e = record {
     shown = e;
     there = standing_now k n s.threads (s.events + 1) start j (value.Mut r) (here_start start.work refl) start_places e;
@@ -160,7 +160,7 @@ module _ (k : Cluster) (coherent : IsCoherent k) (few : FewEvents k) (s : Server
   }
 
   -- the top of the hand
-  top_place : (ts : List Value) (r : MutRef) → y.temps ≡ ts ++ value.Mut r ∷ [] → front_of y.temps ≡ ts → last_of y.temps ≡ Some (value.Mut r) → Place on_top (at_temp y.number (length ts)) (λ q. record y { temps = ts ++ value.Mut q ∷ [] }) r
+  pub top_place : (ts : List Value) (r : MutRef) → y.temps ≡ ts ++ value.Mut r ∷ [] → front_of y.temps ≡ ts → last_of y.temps ≡ Some (value.Mut r) → Place on_top (at_temp y.number (length ts)) (λ q. record y { temps = ts ++ value.Mut q ∷ [] }) r
   top_place ts r temps front last = record {
     shown = last;
     there = temp_stands k n s.threads (s.events + 1) start (length ts) (value.Mut r) (here_start start.work refl) start_places (ap (λ vs. slice_get vs (length ts)) temps ∙ end_is ts (value.Mut r));
@@ -208,13 +208,13 @@ module _ (k : Cluster) (coherent : IsCoherent k) (few : FewEvents k) (s : Server
     there = place.there
 
     -- the reference has that word
-    record Worded (h2 : Hand) (w : ℕ) : Type 0 where
-      ok : IsOk h2
-      thread : h2.thread ≡ other (took r w)
-      words : WordsHold (put h2)
-      fresh : IsStale (sight (put h2)) (Some l) → ⊥
-      reworded : Reworded (put start) (put h2) l r.object w
-      now : value_in (sight (put h2)).ground l ≡ Some (value.Mut (took r w))
+    pub record Worded (h2 : Hand) (w : ℕ) : Type 0 where
+      pub ok : IsOk h2
+      pub thread : h2.thread ≡ other (took r w)
+      pub words : WordsHold (put h2)
+      pub fresh : IsStale (sight (put h2)) (Some l) → ⊥
+      pub reworded : Reworded (put start) (put h2) l r.object w
+      pub now : value_in (sight (put h2)).ground l ≡ Some (value.Mut (took r w))
 
     -- the sums stay where a word is put
     put_ok : (nw : NewWord) (h2 : Hand) → IsOk (record start { work = nw.work }) → put_word sp nw start ≡ Some h2 → IsOk h2
@@ -253,7 +253,7 @@ module _ (k : Cluster) (coherent : IsCoherent k) (few : FewEvents k) (s : Server
         absurd (cc no)
 
     -- with the next colour
-    tint : (h2 : Hand) → put_word sp (issue_tint (box_of r) start.work) start ≡ Some h2 → Worded h2 (next_word r.word)
+    pub tint : (h2 : Hand) → put_word sp (issue_tint (box_of r) start.work) start ≡ Some h2 → Worded h2 (next_word r.word)
     tint h2 a = record {
       ok = ok;
       thread = both.0;
@@ -299,7 +299,7 @@ module _ (k : Cluster) (coherent : IsCoherent k) (few : FewEvents k) (s : Server
     -- A NEW ADDRESS
 
     -- with a new address
-    renew : (server_of r.word == n) ≡ true → (nw : NewWord) → issue_renewal (box_of r) start.work ≡ Some nw → (h2 : Hand) → put_word sp nw start ≡ Some h2 → Worded h2 nw.word
+    pub renew : (server_of r.word == n) ≡ true → (nw : NewWord) → issue_renewal (box_of r) start.work ≡ Some nw → (h2 : Hand) → put_word sp nw start ≡ Some h2 → Worded h2 nw.word
     renew mine nw issues h2 a = record {
       ok = ok;
       thread = both.0;

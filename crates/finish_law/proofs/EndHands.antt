@@ -67,7 +67,7 @@ pub newest_there : (xs : List Value) (v : Value) → last_of xs ≡ Some v → (
 newest_there xs v e = let parts = last_split xs v e in (ap (λ vs. slice_get vs (length (front_of xs))) parts ∙ end_is (front_of xs) v, ap length parts ∙ length_end (front_of xs) v)
 
 -- two slots that are set, either first
-set_apart : {A : Type 0} (xs : List A) (i j : ℕ) (a b : A) → (i ≡ j → ⊥) → slice_set (slice_set xs i a) j b ≡ slice_set (slice_set xs j b) i a
+pub set_apart : {A : Type 0} (xs : List A) (i j : ℕ) (a b : A) → (i ≡ j → ⊥) → slice_set (slice_set xs i a) j b ≡ slice_set (slice_set xs j b) i a
 set_apart [] i j a b ne = refl
 set_apart (x ∷ xs) zero zero a b ne = absurd (ne refl)
 set_apart (x ∷ xs) zero (suc j) a b ne = refl
@@ -75,7 +75,7 @@ set_apart (x ∷ xs) (suc i) zero a b ne = refl
 set_apart (x ∷ xs) (suc i) (suc j) a b ne = ap (λ l. x ∷ l) (set_apart xs i j a b (λ e. ne (ap suc e)))
 
 -- what is tested
-is_so : (b : Bool) → other b ≡ 0 → b ≡ true
+pub is_so : (b : Bool) → other b ≡ 0 → b ≡ true
 is_so true e = refl
 is_so false e = absurd cc
 
@@ -198,7 +198,7 @@ module _ (k : Cluster) (sound : IsSound k) (s : Server) (here_it : server_at k.s
         first_stands r (value_in gb h) (is_so (is_first r (value_in gb h)) (subst (λ o. other (is_first r (value_behind gb o)) ≡ 0) ended.held (none_at (other_first gb) q (references gb (things_of kb)) base.words.first_at_holder (reference_there kb l r ended.stood))))
 
     -- then the words stay
-    finishes : (x : ThreadState) → Finishes k.code n x0 x from l h r → Goes (changed_to x)
+    pub finishes : (x : ThreadState) → Finishes k.code n x0 x from l h r → Goes (changed_to x)
     finishes x p = record {
       number = base.number;
       named = p.number ∙ base.named;

@@ -44,7 +44,7 @@ cells_split s free i (suc a) (x ∷ xs) c d e =
     let number : i + 1 + a ≡ i + suc a = omega arith in
     split_left (cell_things s free i x) (subst (λ m. Split (things_at (cell_things s free) (i + 1) xs) (things_at (cell_things s free) (i + 1) (slice_set xs a (Some d))) (lies s m c ∷ []) (lies s m d ∷ [])) number (cells_split s free (i + 1) a xs c d e))
 
-stored_split : (r : Rest) (ts : List ThreadState) (e w : ℕ) (c : Cell) (v : Owned) → cell_under r.partition w ≡ Some c
+pub stored_split : (r : Rest) (ts : List ThreadState) (e w : ℕ) (c : Cell) (v : Owned) → cell_under r.partition w ≡ Some c
     → Split (server_things (record { rest = r; threads = ts; events = e })) (server_things (record { rest = record r { partition = stored r.partition w v }; threads = ts; events = e })) (lies r.number (address_of w) c ∷ [])
     (lies r.number (address_of w) (record c { value = v }) ∷ [])
 stored_split r ts e w c v at =
@@ -70,18 +70,18 @@ stored_split r ts e w c v at =
 -- WHAT IS AMONG TWO LISTS THAT DIFFER IN ONE PART
 
 -- among one it is in the part, or among the other one
-other_side : (a b c d : List Thing) → Split a b c d → (y : Thing) → Among y a → Among y c ⊎ Among y b
+pub other_side : (a b c d : List Thing) → Split a b c d → (y : Thing) → Among y a → Among y c ⊎ Among y b
 other_side a b c d s y h =
     ⊎_elim
     (λ (q : Among y (s.left ++ c)).
     ⊎_elim (λ (z : Among y s.left). inr (subst (λ l. Among y l) (sym s.after) (among_first y (s.left ++ d) s.right (among_first y s.left d z)))) (λ (z : Among y c). inl z) (among_split y s.left c q))
     (λ (q : Among y s.right). inr (subst (λ l. Among y l) (sym s.after) (among_second y (s.left ++ d) s.right q))) (among_split y (s.left ++ c) s.right (subst (λ l. Among y l) s.before h))
 
-back_split : {a b c d : List Thing} → Split a b c d → Split b a d c
+pub back_split : {a b c d : List Thing} → Split a b c d → Split b a d c
 back_split s = record { left = s.left; right = s.right; before = s.after; after = s.before }
 
 -- the part is among it
-part_among : (a b c d : List Thing) → Split a b c d → (y : Thing) → Among y c → Among y a
+pub part_among : (a b c d : List Thing) → Split a b c d → (y : Thing) → Among y c → Among y a
 part_among a b c d s y h = subst (λ l. Among y l) (sym s.before) (among_first y (s.left ++ c) s.right (among_second y s.left c h))
 
 alone_is : (x y : Thing) → Among y (x ∷ []) → x ≡ y

@@ -1,0 +1,35 @@
+-- EACH DISCARD, DROP OF A SLOT, ASSIGNMENT AND MOVE keeps the words (this project's rules), whatever stands there: a value that is owned, a reference, or none any more.
+use Rattle.std.specs.Prelude.{◌≡◌, ℕ, true, Some, slice_get}
+use Rattle.fr_base.specs.declared.instruction.Operand.{Operand}
+use Rattle.fr_base.specs.declared.instruction.Instr.{Instr}
+use Rattle.fr_base.specs.declared.instruction.Instr.TheVariants as instr
+use Rattle.fr_base.specs.declared.place.Lval.{Lval}
+use Rattle.journal.specs.View.{EntryView}
+use Rattle.thread_state.specs.View.{ThreadState}
+use Rattle.server_model.specs.declared.event.What.TheVariants.{Step}
+use Rattle.server_model.specs.Servers.{Server, Cluster, server_at}
+use Rattle.server_model.specs.Work.{thread_in}
+use Rattle.server_model.specs.Clusters.{apply}
+use Rattle.type_law.specs.ClusterTypes.{IsCoherent}
+use Rattle.event_law.specs.Laws.{Gives, FewEvents}
+use Rattle.prepare_law.specs.Requests.{WordsHold}
+
+-- from a coherent cluster the words hold once the messages of a step at that instruction are handed over, whether it does its plain step or asks
+abbrev pub StepsKeepWords : Instr → Type 0
+StepsKeepWords i = (k : Cluster) (number t : ℕ) (s : Server) (y : ThreadState) → IsCoherent k → FewEvents k → server_at k.servers number ≡ Some s → thread_in s.threads t ≡ Some y → slice_get k.code y.pc ≡ Some i
+    → Gives (λ (d : Cluster × EntryView). WordsHold d.0) (apply k (record { server = number; what = Step t }))
+
+-- a discard, and the drop of the newest slot
+abbrev pub DiscardsKeepWords : Type 0
+DiscardsKeepWords = StepsKeepWords instr.Discard
+
+abbrev pub DropsKeepWords : Type 0
+DropsKeepWords = StepsKeepWords instr.DropSlot
+
+-- an assignment, to a variable or through stars
+abbrev pub AssignmentsKeepWords : Type 0
+AssignmentsKeepWords = (w : Lval) (o : Operand) → StepsKeepWords (instr.Assign w o)
+
+-- a move, out of a variable or through stars
+abbrev pub MovesKeepWords : Type 0
+MovesKeepWords = (w : Lval) → StepsKeepWords (instr.Read w true)
