@@ -1,0 +1,11 @@
+//! Laws of words where an object goes.
+
+ghost use Rattle.free_law.specs.Drops.{DropsLeave};
+ghost use Rattle.free_law.specs.Freed.{FreedLeaves};
+
+/// Where an object goes to which no place leads, and what it owned points from no place then, each other object has the word that it had. So it is where a `drop` is
+/// delivered: the message is the object's one owner, so it isn't in the one heap, and no reference leads there.
+pub fn objects_go()
+    ensures freed { FreedLeaves }
+    ensures drops { DropsLeave }
+{}
