@@ -6,7 +6,7 @@ use Rattle.heap_law.specs.Things.{sent, things_of}
 use Rattle.heap_law.specs.Follow.{Standing}
 use Rattle.heap_law.specs.Sight.{sight}
 use Rattle.heap_law.specs.Walking.{asked_for, asks_for}
-use Rattle.heap_law.proofs.Names.{and_right}
+use Rattle.heap_law.proofs.Names.{and_left, and_right}
 use Rattle.heap_law.proofs.Words.{named, itself}
 use Rattle.event_law.proofs.MutexResults.{has}
 use Rattle.event_law.proofs.ThreadThere.{thread_there}
@@ -26,4 +26,11 @@ arrivals_awaited k number i old t s c y sound here q at waiting =
     let its : strays t a c.object (sent s.rest.number m) ≡ 0 = omega (arith, none, has k sound number s here i m q (strays t a c.object)) in
     let asks : asks_for t a m ≡ true = is_asked t (same_object c.object c.object) (asks_for t a m) (itself c.object c.object refl) its in
     let brings : (a.word == old && same_object c.object a.object) ≡ true = and_right (t == t && a.comes) (a.word == old && same_object c.object a.object) asks in
-    record { awaited = a; turn = turn.turn; word = turn.word; object = sym (named c.object a.object (and_right (a.word == old) (same_object c.object a.object) brings)) }
+    let mine : (t == t && a.comes) ≡ true = and_left (t == t && a.comes) (a.word == old && same_object c.object a.object) asks in
+    record {
+      awaited = a;
+      turn = turn.turn;
+      word = turn.word;
+      object = sym (named c.object a.object (and_right (a.word == old) (same_object c.object a.object) brings));
+      comes = and_right (t == t) a.comes mine;
+    }

@@ -1,5 +1,5 @@
 -- WHAT COMES IS AWAITED (this project's rule): the object that a message brings to a thread is that of the pointer that the thread waits at in turn.
-use Rattle.std.specs.Prelude.{◌≡◌, ℕ, false, Some, slice_get}
+use Rattle.std.specs.Prelude.{◌≡◌, ℕ, false, true, Some, slice_get}
 use Rattle.heap_partition.specs.declared.value.Cell.{Cell}
 use Rattle.thread_state.specs.View.{ThreadState}
 use Rattle.thread_state.specs.declared.phase.Phase.TheVariants as phase
@@ -13,12 +13,13 @@ use Rattle.heap_law.specs.Turn.{InTurn}
 use Rattle.heap_law.specs.Walking.{path}
 use Rattle.heap_law.specs.Coherent.{IsSound}
 
--- what the thread waits for in turn is that object, under that word
+-- what the thread waits for in turn is that object, under that word, and comes to its server
 pub record Awaits (k : Cluster) (x : Standing) (old : ℕ) (c : Cell) : Type 0 where
   pub awaited : Awaited
   pub turn : InTurn (sight k) x old awaited (path (sight k) x)
   pub word : awaited.word ≡ old
   pub object : awaited.object ≡ c.object
+  pub comes : awaited.comes ≡ true
 
 -- of a message at the server of its thread, which waits under that word
 abbrev pub ArrivalsAwaited : Type 0

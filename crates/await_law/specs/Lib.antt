@@ -1,1 +1,5 @@
-pub mod FirstArrivals
+pub mod WriteArrivals
+pub mod ReadArrivals
+pub mod TakenUp
+pub mod BorrowArrivals
+pub mod EndArrivals

@@ -59,7 +59,7 @@ no_reference : (u : Rattle.heap_partition.specs.declared.value.Owned.Owned) (r :
 no_reference u r e = absurd (cc e)
 
 -- what a renewal leaves
-renewed_work : (p : BoxPtr) (x : Work) (nw : NewWord) → issue_renewal p x ≡ Some nw → (nw.word ≡ new_word (freed x.rest.partition p.word)) × (nw.work.rest ≡ record x.rest { partition = renewed x.rest.partition p.word }) × (colour_of p.word + 1 ≡ x.rest.partition.limit)
+pub renewed_work : (p : BoxPtr) (x : Work) (nw : NewWord) → issue_renewal p x ≡ Some nw → (nw.word ≡ new_word (freed x.rest.partition p.word)) × (nw.work.rest ≡ record x.rest { partition = renewed x.rest.partition p.word }) × (colour_of p.word + 1 ≡ x.rest.partition.limit)
 renewed_work p x nw e = by (leads_here x.rest.partition p.word) (is_last x.rest.partition p.word) (can_grow x.rest.partition) refl e
   where
     by : (a b c : Bool) → is_last x.rest.partition p.word ≡ b

@@ -97,7 +97,7 @@ both_ways x p o r a w c d e f m n =
     absurd cc
 
 -- each object that lay lies
-lies_reworded : (x z : Cluster) (l : Location) (o : ObjNo) (w : ℕ) → HasPlaces x → Reworded x z l o w → (p : ObjNo) → Lies x p → Lies z p
+pub lies_reworded : (x z : Cluster) (l : Location) (o : ObjNo) (w : ℕ) → HasPlaces x → Reworded x z l o w → (p : ObjNo) → Lies x p → Lies z p
 lies_reworded x z l o w c r p q = by (cell_of (sight z).ground.cells p) refl there
   where
     cell : Cell

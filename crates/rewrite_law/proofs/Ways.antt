@@ -44,7 +44,7 @@ use Rattle.rewrite_law.proofs.Onward.{IsWritten}
 use Rattle.rewrite_law.proofs.Walks.{BoxAt, in_a_slot, in_a_cell}
 
 -- what leads to an object is a pointer to it
-leads_pointer : (t : ℕ) (v : Value) (o : ObjNo) → leads t (Some v) ≡ Some (in_cell o) → (p : BoxPtr) × (pointer_of v ≡ Some p) × (p.object ≡ o)
+pub leads_pointer : (t : ℕ) (v : Value) (o : ObjNo) → leads t (Some v) ≡ Some (in_cell o) → (p : BoxPtr) × (pointer_of v ≡ Some p) × (p.object ≡ o)
 leads_pointer t (value.Own (owned.Box p)) o e = (p, refl, cc)
 leads_pointer t (value.Shared r) o e = (record { word = r.word; object = r.object }, refl, cc)
 leads_pointer t (value.Mut r) o e = (record { word = r.word; object = r.object }, refl, cc)
