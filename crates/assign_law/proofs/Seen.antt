@@ -1,0 +1,61 @@
+-- The object at the end of a place that a thread writes: it is in the state, and no place of a lock passes it, with its cell in front of all other things too.
+use Rattle.std.proofs.Common.{◌≡◌, ℕ, not, Bool, true, false, Option, Some, None, option_map, refl, ap, subst, ◌∙◌}
+use Rattle.std.specs.Prelude.{slice_get}
+use Rattle.fr_base.specs.declared.label.Plain.{Plain}
+use Rattle.fr_base.specs.declared.place.Lval.{Lval}
+use Rattle.fr_base.specs.declared.instruction.Instr.{Instr}
+use Rattle.fr_base.specs.declared.instruction.Instr.TheVariants as instr
+use Rattle.heap_partition.specs.declared.value.Cell.{Cell}
+use Rattle.thread_state.specs.View.{ThreadState}
+use Rattle.server_model.specs.declared.event.Event.{Event}
+use Rattle.server_model.specs.Servers.{Server, Cluster}
+use Rattle.server_model.specs.Work.{look}
+use Rattle.heap_law.specs.Names.{same_object}
+use Rattle.heap_law.specs.Things.{in_cell, things_of}
+use Rattle.heap_law.specs.Follow.{Standing, threads_in, thread_at, locate}
+use Rattle.heap_law.specs.Sight.{Sight, sight, with_things}
+use Rattle.heap_law.specs.Walking.{instr_of}
+use Rattle.heap_law.specs.Requests.{is_par_end}
+use Rattle.heap_law.specs.OneHeap.{object_n, is_in_state, if_in, cell_value, first_shown}
+use Rattle.type_law.specs.ClusterTypes.{IsCoherent}
+use Rattle.event_law.specs.Laws.{FewEvents}
+use Rattle.still_law.specs.Shows.{ShownThread}
+use Rattle.still_law.proofs.Alike.{SeenAt, LocksSeeIn}
+use Rattle.still_law.proofs.PlainValues.{shown_of}
+use Rattle.turn_law.proofs.Events.{AtStep}
+use Rattle.lock_law.proofs.ThreadTurns.{quiet}
+use Rattle.rewrite_law.specs.Writing.{WritesThrough, assigns, moves}
+use Rattle.assign_law.proofs.CellApart as apart
+use Rattle.assign_law.proofs.Readies as readies
+use Rattle.assign_law.proofs.Untouched.{locks_pass_by}
+
+-- such an instruction ends no pair
+pub single : (i : Instr) (w : Lval) (d : ℕ) → WritesThrough i w d → is_par_end (Some i) ≡ false
+single _ w d (assigns o f) = refl
+single _ w d (moves f) = refl
+
+shown_in : (s : Sight) (p : Plain) (v : Option Plain) (b : Bool) → if_in b v ≡ Some p → b ≡ true
+shown_in s p v true e = refl
+shown_in s p v false e = absurd (cc e)
+
+module _ (k : Cluster) (co : IsCoherent k) (few : FewEvents k) (e : Event) (i : Instr) (s : Server) (t : ℕ) (y : ThreadState) (a : AtStep k e i s t y) (w : Lval) (d : ℕ) (through : WritesThrough i w d) (bare : y.gift ≡ None) (u : ℕ) (c : Cell) (there : look s.rest.partition u ≡ Some c)
+    (ends : locate (sight k).ground y.number w.slot w.depth ≡ Some (in_cell c.object)) (one : is_par_end (Some i) ≡ false) where
+  abbrev s1 : Sight
+  s1 = with_things k (apart.a k co.sound e i one s t y a bare u c there)
+
+  pub inner_at : is_in_state s1 (object_n c.object) ≡ true
+  inner_at =
+      let p = readies.end_shown k co few e i s t y a w d through c.object ends in
+      shown_in s1 p.0 (first_shown (cell_value c.object) s1.things) (is_in_state s1 (object_n c.object)) ((apart.state_before k co.sound e i one s t y a bare u c there).objects c.object ∙ p.1)
+
+  pub locks_at : LocksSeeIn (λ q. not (same_object q c.object)) s1
+  locks_at v x p found f m l = by (thread_at (threads_in (things_of k)) v) refl (apart.threads_before k co.sound e i one s t y a bare u c there v ∙ ap (option_map shown_of) found)
+    where
+      by : (z : Option Standing) → thread_at (threads_in (things_of k)) v ≡ z → option_map shown_of z ≡ Some (shown_of x) → SeenAt (λ q. not (same_object q c.object)) (locate s1.ground x.thread.number p.slot m)
+      by None q g = absurd (cc g)
+      by (Some z) q g =
+          let same : shown_of z ≡ shown_of x = cc in
+          let number : z.thread.number ≡ x.thread.number = ap (λ (b : ShownThread). b.number) same in
+          let code : instr_of (sight k) z ≡ Some (instr.Lock p) = ap (λ (b : ShownThread). slice_get k.code b.pc) same ∙ f in
+          let it : SeenAt (λ q. not (same_object q c.object)) (locate (sight k).ground z.thread.number p.slot m) = locks_pass_by k e.server t s y i (readies.step_here k co few e i s t y a w d through) w d through (quiet k co.sound e i one s t y a).alone c.object ends v z p q code m l in
+          subst (λ b. SeenAt (λ q. not (same_object q c.object)) b) (ap (λ b. locate (sight k).ground b p.slot m) number ∙ apart.places_before k co.sound e i one s t y a bare u c there x.thread.number p.slot m) it
