@@ -19,31 +19,13 @@ use Rattle.heap_law.specs.Balances.{AtMost, AtMostOne}
 use Rattle.heap_law.specs.Weights.{is_thread}
 use Rattle.heap_law.specs.Sharing.{got_phase, results, has_ended}
 use Rattle.heap_law.specs.OneHeap.{two_in}
-use Rattle.type_law.specs.ClusterTypes.{entry_wrong, unseen_slots, unseen_temps, views_wrong}
+use Rattle.type_law.specs.ClusterTypes.{entry_wrong, refers_to, parent_sees, unseen, unseen_slots, unseen_temps, views_wrong}
 use Rattle.event_law.proofs.KnownSound.{on_standing, sum_standing}
 use Rattle.still_law.proofs.Told.{at_most, tot_same}
 use Rattle.still_law.proofs.PlainValues.{shown_of}
 use Rattle.still_law.proofs.Alike.{HeedAlike}
 use Rattle.frame_law.proofs.Bare.{bared, all_bared, bared_twice, reversed}
 use Rattle.frame_law.proofs.Twins.{bare_standing, SeesFrames, over_shown, at_entry, same_sum}
-
--- WHO SEES A VIEW, as the sentence on views counts it
-
-abbrev waits_for : ℕ → Phase → Bool
-waits_for t (phase.WaitPar a b) = (a == t) || (b == t)
-waits_for t p = false
-
-abbrev refers_to : ObjNo → List Value → ℕ
-refers_to o [] = 0
-refers_to o (value.Shared r ∷ vs) = one (same_object r.object o) + refers_to o vs
-refers_to o (v ∷ vs) = refers_to o vs
-
-abbrev parent_sees : ℕ → ObjNo → Standing → ℕ
-parent_sees t o p = if_so (waits_for t p.thread.phase) (refers_to o p.thread.slots)
-
-abbrev unseen : Sight → ℕ → Piece → Value → ℕ
-unseen s t (whole (view o)) (value.Shared r) = other (some (tot (parent_sees t r.object) s.ground.threads))
-unseen s t p v = 0
 
 -- WORDS AREN'T SEEN
 

@@ -130,15 +130,18 @@ abbrev waits_for : ℕ → Phase → Bool
 waits_for t (phase.WaitPar a b) = (a == t) || (b == t)
 waits_for t p = false
 
-abbrev refers_to : ObjNo → List Value → ℕ
+-- how many shared references and views to the object are among these values
+abbrev pub refers_to : ObjNo → List Value → ℕ
 refers_to o [] = 0
 refers_to o (value.Shared r ∷ vs) = one (same_object r.object o) + refers_to o vs
 refers_to o (v ∷ vs) = refers_to o vs
 
-abbrev parent_sees : ℕ → ObjNo → Standing → ℕ
+-- how many of them are in the slots of a parent that waits for t
+abbrev pub parent_sees : ℕ → ObjNo → Standing → ℕ
 parent_sees t o p = if_so (waits_for t p.thread.phase) (refers_to o p.thread.slots)
 
-abbrev unseen : Sight → ℕ → Piece → Value → ℕ
+-- a view that no such parent sees
+abbrev pub unseen : Sight → ℕ → Piece → Value → ℕ
 unseen s t (whole (view o)) (value.Shared r) = other (some (sum_threads s (parent_sees t r.object)))
 unseen s t p v = 0
 
