@@ -1,0 +1,69 @@
+-- An event that does no plain step leaves contents, results and gifts at its server with what is wanted of them.
+use Rattle.std.proofs.Common.{◌≡◌, ℕ, true, List, Option, Some, None, refl}
+use Rattle.std.specs.Prelude.{slice_get, option_map}
+use Rattle.std.specs.List.{AllByRecursion}
+use Rattle.fr_base.specs.declared.settings.Options.{Options}
+use Rattle.fr_base.specs.declared.instruction.Instr.{Instr}
+use Rattle.read_cache.specs.Cache.{Copy, can_evict}
+use Rattle.migration.specs.Packing.{unpin_all, used_words, packed}
+use Rattle.thread_state.specs.View.{ThreadState}
+use Rattle.journal.specs.View.{EntryView}
+use Rattle.server_msgs.specs.declared.message.Message.{Message}
+use Rattle.server_msgs.specs.declared.message.Message.TheVariants as message
+use Rattle.server_model.specs.declared.event.What.{What}
+use Rattle.server_model.specs.declared.event.What.TheVariants.{Step, Deliver, Evict, Migrate}
+use Rattle.server_model.specs.Servers.{Server}
+use Rattle.server_model.specs.Work.{Work, then_some, thread_in, without_thread, beside_threads}
+use Rattle.server_model.specs.Moving.{migrate, depart}
+use Rattle.server_model.specs.Events.{begin_work, begin_at, left_by, received, deliver_message, evict_copy, does}
+use Rattle.event_law.specs.Laws.{Gives}
+use Rattle.event_law.proofs.Results.{then_gives, over_gives, test_gives, weaker}
+use Rattle.event_law.proofs.Known.{all_at}
+use Rattle.local_law.proofs.Threads.{remove_all, without_all, found_all}
+use Rattle.agree_law.proofs.Kept.{Wanted, GiftHas, MessageHas, sent_has}
+use Rattle.agree_law.proofs.Deliveries.{WorkHas, SiteHas, Comes, message_leaves}
+use Rattle.agree_law.proofs.Steps.{ServerHas, stepping}
+
+module _ (w : Wanted) (code : List Instr) (o : Options) (s : Server) (comes : Comes w s.threads) (g : ServerHas w s) where
+  abbrev Then : Server × EntryView → Type 0
+  Then r = ServerHas w r.0
+
+  -- a delivery
+  delivering : (i : ℕ) → Gives Then (does code o s (Deliver i))
+  delivering i = by (slice_get s.rest.inbox i) refl
+    where
+      by : (m : Option Message) → slice_get s.rest.inbox i ≡ m → Gives Then (option_map (left_by s.events None None) (then_some m (λ x. deliver_message code x (received i s))))
+      by None q = tt
+      by (Some m) q =
+          let r = g.0 in
+          over_gives (SiteHas w) Then (deliver_message code m (received i s)) (left_by s.events None None)
+          (message_leaves w code m (received i s) comes (all_at (MessageHas w) s.rest.inbox i m r.waiting q)
+          (record { contents = r.contents; notes = r.notes; waiting = remove_all (MessageHas w) s.rest.inbox i r.waiting; leaving = r.leaving }, g.1)) (λ x u. u)
+
+  -- an eviction
+  evicting : (c : ℕ) → Gives Then (does code o s (Evict c))
+  evicting c =
+      over_gives (SiteHas w) Then (beside_threads (evict_copy c) (begin_at s)) (left_by s.events None None)
+      (over_gives (WorkHas w) (SiteHas w) (evict_copy c (begin_work s.rest)) _ (test_gives (WorkHas w) (can_evict s.rest.cache c) _ (λ q. g.0)) (λ x u. (u, g.1))) (λ x u. u)
+
+  -- a migration
+  leaving : (t target : ℕ) → Gives Then (does code o s (Migrate t target))
+  leaving t target =
+      over_gives (SiteHas w) Then (migrate t target (begin_at s)) (left_by s.events (Some t) None)
+      (then_gives (SiteHas w) (thread_in s.threads t) _ (λ y q. by y (found_all (GiftHas w) s.threads t y g.1 q) (unpin_all (used_words y) s.rest.cache))) (λ x u. u)
+    where
+      by : (y : ThreadState) → GiftHas w y → (l : Option (List Copy))
+          → Gives (SiteHas w) (option_map (λ p. record { work = depart target (begin_work s.rest) p; threads = without_thread s.threads t }) (option_map (λ left. (packed (record y { moved_since_step = true }), left)) l))
+      by y has None = tt
+      by y has (Some cs) =
+          let r = g.0 in (
+            sent_has w target (message.Migrate (packed (record y { moved_since_step = true }))) (record s.rest { cache = cs }) has (record { contents = r.contents; notes = r.notes; waiting = r.waiting; leaving = r.leaving }),
+            without_all (GiftHas w) s.threads t g.1,
+          )
+
+  -- whatever a server does
+  pub event_leaves : (e : What) → Gives (λ (r : Server × EntryView). r.1.done ≡ None → ServerHas w r.0) (does code o s e)
+  event_leaves (Step t) = stepping w code o s t g
+  event_leaves (Deliver i) = weaker Then (λ (r : Server × EntryView). r.1.done ≡ None → ServerHas w r.0) (does code o s (Deliver i)) (delivering i) (λ r u none. u)
+  event_leaves (Evict c) = weaker Then (λ (r : Server × EntryView). r.1.done ≡ None → ServerHas w r.0) (does code o s (Evict c)) (evicting c) (λ r u none. u)
+  event_leaves (Migrate t target) = weaker Then (λ (r : Server × EntryView). r.1.done ≡ None → ServerHas w r.0) (does code o s (Migrate t target)) (leaving t target) (λ r u none. u)
