@@ -1,8 +1,10 @@
 //! The plain machine, step by step, on programs whose steps, waits and labels were worked out by hand.
 
-use drust_top::{Command, checked_source};
+use borrow_check::check;
 use fr_base::{Ending3, Fresh, MutexNo, ThreadNo, Wait};
 use fr_meaning::{Need, Pool, StepError};
+use fr_parse::parse;
+use fr_syntax::tokens;
 use std::alloc::Global;
 use std::process::Abort;
 use std::test::Fail;
@@ -19,7 +21,9 @@ const LOCKED_TWICE: &[u8] = b"{ let mut m = mutex 1; lock m as a { lock m as b {
 // The machine at the start of a source's program.
 fn pool_of<R: Abort>(rt: &R, alloc: Global, source: &[u8]) -> Result<Pool, Fail> {
     assert!(rt; source.len() <= 1_048_576);
-    let checked = checked_source(alloc, Command::Replay, source).expect(rt, "a typed program");
+    let tokens = tokens(alloc, source)?;
+    let tree = parse(alloc, &tokens)?;
+    let checked = check(alloc, tree)?;
     Ok(Pool::new(alloc, &checked)?)
 }
 
