@@ -1,22 +1,63 @@
 //! The plain machine, step by step, on programs whose steps, waits and labels were worked out by hand.
 
 use borrow_check::check;
-use fr_base::{Ending3, Fresh, MutexNo, ThreadNo, Wait};
-use fr_meaning::{Need, Pool, StepError};
+use fr_meaning::Pool;
 use fr_parse::parse;
 use fr_syntax::tokens;
+use journal::{OrderLine, read_order};
 use std::alloc::Global;
 use std::process::Abort;
 use std::test::Fail;
 
-const JOINED: &[u8] = b"{ let mut h = spawn () { 3 }; print join h }";
+// A row is a call of `step`, in the form of a line of an order, and what comes of it: how the machine stands and what the thread needs
+// before it, and how many labels the step gives or why it is refused. The tables are texts, since calls that are written one behind
+// another are proved one by one.
 
-// A thread of the pair waits for the mutex that its parent holds, which waits for the pair.
-const HELD: &[u8] =
-    b"{ let mut m = mutex 8; let mut n = dup m; lock m as x { par (n) { lock n as y { print y } } () { print 7 } } }";
+const JOINED: &str = "{ let mut h = spawn () { 3 }; print join h }";
+
+const JOINS: &str = "\
+0.1 1|Going None Err(NoThread)
+0.0 1|Going Some(Thread) Err(NameKind)
+0.0 thread 0.0|Going Some(Thread) Err(NameUsed)
+0.0 thread 0.1|Going Some(Thread) Ok(1)
+0.0 1|Going Some(Nothing) Ok(0)
+0.0 1|Going Some(Nothing) Ok(0)
+0.0 1|Going Some(Nothing) Err(Waits(Join(ThreadNo(1))))
+0.1 1|Going Some(Nothing) Ok(1)
+0.0 1|Going Some(Nothing) Ok(0)
+0.0 1|Going Some(Nothing) Ok(1)
+0.0 1|Going Some(Nothing) Ok(0)
+0.0 1|Going Some(Nothing) Ok(1)
+0.1 1|Finished None Err(Ended)
+0.0 1|Finished None Err(Ended)
+";
 
 // A thread waits for the mutex that it holds.
-const LOCKED_TWICE: &[u8] = b"{ let mut m = mutex 1; lock m as a { lock m as b { print b } } }";
+const LOCKED_TWICE: &str = "{ let mut m = mutex 1; lock m as a { lock m as b { print b } } }";
+
+const LOCKS: &str = "\
+0.0 mutex 0.1|Going Some(Mutex) Ok(0)
+0.0 1|Going Some(Nothing) Ok(0)
+0.0 1|Going Some(Nothing) Ok(1)
+0.0 1|Deadlocked Some(Nothing) Err(Waits(Lock(MutexNo { home: 0, count: 1 })))
+";
+
+// A thread of the pair waits for the mutex that its parent holds, which waits for the pair.
+const HELD: &str = "{ let mut m = mutex 8; let mut n = dup m; lock m as x { par (n) { lock n as y { print y } } () { print 7 } } }";
+
+const HOLDS: &str = "\
+0.0 mutex 0.1|Going Some(Mutex) Ok(0)
+0.0 1|Going Some(Nothing) Ok(0)
+0.0 1|Going Some(Nothing) Ok(0)
+0.0 1|Going Some(Nothing) Ok(0)
+0.0 1|Going Some(Nothing) Ok(1)
+0.0 threads 0.1 0.2|Going Some(Threads) Ok(2)
+0.2 1|Going Some(Nothing) Ok(1)
+0.2 1|Going Some(Nothing) Ok(1)
+0.0 1|Deadlocked Some(Nothing) Err(Waits(Par(ThreadNo(1), ThreadNo(2))))
+0.1 1|Deadlocked Some(Nothing) Err(Waits(Lock(MutexNo { home: 0, count: 1 })))
+0.2 1|Deadlocked None Err(Ended)
+";
 
 // The machine at the start of a source's program.
 fn pool_of<R: Abort>(rt: &R, alloc: Global, source: &[u8]) -> Result<Pool, Fail> {
@@ -27,100 +68,45 @@ fn pool_of<R: Abort>(rt: &R, alloc: Global, source: &[u8]) -> Result<Pool, Fail>
     Ok(Pool::new(alloc, &checked)?)
 }
 
-// A call of `step`: of the thread with that count, what the thread needs before it, the new names, and how many labels come or why none do.
-#[derive(Drop)]
-struct Turn {
-    thread: u32,
-    needs: Option<Need>,
-    fresh: Fresh,
-    given: Result<u64, StepError>,
+// What comes of a call.
+fn told(alloc: Global, pool: &mut Pool, call: &OrderLine) -> Result<String, Fail> {
+    let (stands, needs) = (pool.ending(), pool.needs(call.thread));
+    let given = match pool.step(call.thread, call.fresh) {
+        Ok(labels) => Ok(labels.len()),
+        Err(error) => Err(error),
+    };
+    Ok(format!(in alloc; "{stands:?} {needs:?} {given:?}")?)
 }
 
-// The machine stands so before each of these calls, and answers them.
-fn answers<R: Abort>(rt: &R, pool: &mut Pool, stands: Ending3, turns: &[Turn]) {
-    for turn in turns {
-        let thread = ThreadNo::new(0, turn.thread);
-        assert_eq!(rt; pool.ending(), stands);
-        assert_eq!(rt; pool.needs(thread), turn.needs);
-        let given = match pool.step(thread, turn.fresh) {
-            Ok(labels) => Ok(labels.len()),
-            Err(error) => Err(error),
-        };
-        assert_eq!(rt; given, turn.given);
+// The machine answers each call of the source's table as the row says.
+fn answers<R: Abort>(rt: &R, alloc: Global, source: &str, rows: &str) -> Result<Pool, Fail> {
+    let mut pool = pool_of(rt, alloc, source.as_bytes())?;
+    for row in rows.lines() {
+        let (call, want) = row.split_once('|').expect(rt, "an answer");
+        let order = read_order(alloc, format!(in alloc; "{call}\n")?.as_bytes(), 0)?;
+        let given = told(alloc, &mut pool, order.at(0).expect(rt, "a call"))?;
+        assert_eq!(rt; given.as_str(), want, "{row}");
     }
-}
-
-// A call that needs no new names, and whose step has that many labels.
-fn steps(thread: u32, labels: u64) -> Turn {
-    Turn { thread, needs: Some(Need::Nothing), fresh: Fresh::None, given: Ok(labels) }
-}
-
-// A call without new names that is refused.
-fn waits(thread: u32, needs: Option<Need>, why: StepError) -> Turn {
-    Turn { thread, needs, fresh: Fresh::None, given: Err(why) }
-}
-
-// A call with the new names that the thread needs.
-fn names(thread: u32, needs: Need, fresh: Fresh, labels: u64) -> Turn {
-    Turn { thread, needs: Some(needs), fresh, given: Ok(labels) }
+    Ok(pool)
 }
 
 #[test]
 fn a_thread_is_started_and_joined(rt: HostRuntime) -> Result<(), Fail> {
-    let mut pool = pool_of(&rt, rt.alloc(), JOINED)?;
-    let (main, other) = (ThreadNo::new(0, 0), ThreadNo::new(0, 1));
-    let used = Turn { thread: 0, needs: Some(Need::Thread), fresh: Fresh::Thread(main), given: Err(StepError::NameUsed) };
-    let joins = waits(0, Some(Need::Nothing), StepError::Waits(Wait::Join(other)));
-    answers(&rt, &mut pool, Ending3::Going, &[
-        waits(1, None, StepError::NoThread),
-        waits(0, Some(Need::Thread), StepError::NameKind),
-        used,
-        names(0, Need::Thread, Fresh::Thread(other), 1),
-        steps(0, 0),
-        steps(0, 0),
-        joins,
-        steps(1, 1),
-        steps(0, 0),
-        steps(0, 1),
-        steps(0, 0),
-        steps(0, 1),
-    ]);
-    answers(&rt, &mut pool, Ending3::Finished, &[waits(1, None, StepError::Ended), waits(0, None, StepError::Ended)]);
+    let pool = answers(&rt, rt.alloc(), JOINED, JOINS)?;
     assert_eq!(rt; pool.output(), [3].as_slice());
     Ok(())
 }
 
 #[test]
 fn a_thread_waits_for_itself(rt: HostRuntime) -> Result<(), Fail> {
-    let mut pool = pool_of(&rt, rt.alloc(), LOCKED_TWICE)?;
-    let mutex = MutexNo { home: 0, count: 1 };
-    answers(&rt, &mut pool, Ending3::Going, &[names(0, Need::Mutex, Fresh::Mutex(mutex), 0), steps(0, 0), steps(0, 1)]);
-    let locks = waits(0, Some(Need::Nothing), StepError::Waits(Wait::Lock(mutex)));
-    answers(&rt, &mut pool, Ending3::Deadlocked, &[locks]);
+    let pool = answers(&rt, rt.alloc(), LOCKED_TWICE, LOCKS)?;
     assert!(rt; pool.output().is_empty());
     Ok(())
 }
 
 #[test]
 fn a_branch_waits_for_its_parent(rt: HostRuntime) -> Result<(), Fail> {
-    let mut pool = pool_of(&rt, rt.alloc(), HELD)?;
-    let mutex = MutexNo { home: 0, count: 1 };
-    let (first, second) = (ThreadNo::new(0, 1), ThreadNo::new(0, 2));
-    answers(&rt, &mut pool, Ending3::Going, &[
-        names(0, Need::Mutex, Fresh::Mutex(mutex), 0),
-        steps(0, 0),
-        steps(0, 0),
-        steps(0, 0),
-        steps(0, 1),
-        names(0, Need::Threads, Fresh::Threads(first, second), 2),
-        steps(2, 1),
-        steps(2, 1),
-    ]);
-    answers(&rt, &mut pool, Ending3::Deadlocked, &[
-        waits(0, Some(Need::Nothing), StepError::Waits(Wait::Par(first, second))),
-        waits(1, Some(Need::Nothing), StepError::Waits(Wait::Lock(mutex))),
-        waits(2, None, StepError::Ended),
-    ]);
+    let pool = answers(&rt, rt.alloc(), HELD, HOLDS)?;
     assert_eq!(rt; pool.output(), [7].as_slice());
     Ok(())
 }
