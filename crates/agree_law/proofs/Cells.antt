@@ -1,8 +1,7 @@
 -- An event that does no plain step leaves cells in agreement with the types of their objects: each is as it was but for words, or is gone.
-use Rattle.std.proofs.Common.{◌≡◌, ℕ, ◌+◌, true, List, [], ◌∷◌, Option, Some, None, refl, sym, ap, subst, ◌∙◌, arith}
+use Rattle.std.proofs.Common.{◌≡◌, ℕ, true, List, [], ◌∷◌, Option, Some, None, refl, sym, subst, ◌∙◌, arith}
 use Rattle.std.specs.Prelude.{slice_get, option_map}
 use Rattle.fr_base.specs.declared.name.ObjNo.{ObjNo}
-use Rattle.fr_base.specs.declared.label.Plain.{Plain}
 use Rattle.fr_typing.specs.Kinds.{Owned as OwnedType, own}
 use Rattle.global_addr.specs.Words.{address_of}
 use Rattle.heap_partition.specs.Plain.{plain_of}
@@ -19,7 +18,7 @@ use Rattle.server_model.specs.declared.event.What.TheVariants.{Step, Deliver, Ev
 use Rattle.server_model.specs.Servers.{Rest, Server, Cluster, server_at}
 use Rattle.server_model.specs.Work.{Work, then_some, note, with_partition, look_object}
 use Rattle.server_model.specs.Objects.{deliver_drop}
-use Rattle.server_model.specs.Events.{begin_at, enabled, deliver_message, received, left_by, does}
+use Rattle.server_model.specs.Events.{enabled, deliver_message, received, left_by, does}
 use Rattle.heap_law.specs.Names.{tot, other}
 use Rattle.heap_law.specs.Things.{Thing, lies, flies, noted, message_things, server_things}
 use Rattle.heap_law.specs.Sight.{sight}
@@ -31,8 +30,8 @@ use Rattle.event_law.proofs.Bags.{all_standing, rest_things, of_partition, of_re
 use Rattle.event_law.proofs.Cells.{looked, frees}
 use Rattle.event_law.proofs.ObjectMessages.{looked_object}
 use Rattle.type_law.specs.Names.{NameTypes, fits}
-use Rattle.type_law.specs.ClusterTypes.{misfit, temps_wrong}
-use Rattle.still_law.specs.Shows.{Sign, nothing, an_object, sign_of}
+use Rattle.type_law.specs.ClusterTypes.{misfit}
+use Rattle.still_law.specs.Shows.{Sign, an_object, sign_of}
 use Rattle.still_law.proofs.Told.{tot_same}
 use Rattle.still_law.proofs.PlainValues.{unnoted}
 use Rattle.still_law.proofs.Counting.{no_values}

@@ -1,7 +1,6 @@
 -- An event that does no plain step leaves contents, results and gifts at its server with what is wanted of them.
 use Rattle.std.proofs.Common.{◌≡◌, ℕ, true, List, Option, Some, None, refl}
 use Rattle.std.specs.Prelude.{slice_get, option_map}
-use Rattle.std.specs.List.{AllByRecursion}
 use Rattle.fr_base.specs.declared.settings.Options.{Options}
 use Rattle.fr_base.specs.declared.instruction.Instr.{Instr}
 use Rattle.read_cache.specs.Cache.{Copy, can_evict}
@@ -13,7 +12,7 @@ use Rattle.server_msgs.specs.declared.message.Message.TheVariants as message
 use Rattle.server_model.specs.declared.event.What.{What}
 use Rattle.server_model.specs.declared.event.What.TheVariants.{Step, Deliver, Evict, Migrate}
 use Rattle.server_model.specs.Servers.{Server}
-use Rattle.server_model.specs.Work.{Work, then_some, thread_in, without_thread, beside_threads}
+use Rattle.server_model.specs.Work.{then_some, thread_in, without_thread, beside_threads}
 use Rattle.server_model.specs.Moving.{migrate, depart}
 use Rattle.server_model.specs.Events.{begin_work, begin_at, left_by, received, deliver_message, evict_copy, does}
 use Rattle.event_law.specs.Laws.{Gives}

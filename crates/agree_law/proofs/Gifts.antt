@@ -1,8 +1,7 @@
 -- What a thread's gift counts as: what comes to a thread that waits for it, and that it counts as the same after an event that does no plain step.
-use Rattle.std.proofs.Common.{◌≡◌, ℕ, ◌+◌, ◌≤◌, ◌==◌, Bool, true, false, List, map, Option, Some, None, option_map, refl, sym, ap, ap₂, ◌∙◌, subst, arith}
+use Rattle.std.proofs.Common.{◌≡◌, ℕ, ◌+◌, ◌≤◌, ◌==◌, Bool, true, false, List, map, Option, Some, None, option_map, refl, sym, ap, ap₂, ◌∙◌, arith}
 use Rattle.std.specs.Prelude.{slice_get}
 use Rattle.fr_base.specs.declared.name.MutexNo.{MutexNo}
-use Rattle.fr_base.specs.declared.name.ObjNo.{ObjNo}
 use Rattle.fr_base.specs.declared.place.Lval.{Lval}
 use Rattle.fr_base.specs.declared.instruction.Instr.{Instr}
 use Rattle.fr_base.specs.declared.instruction.Instr.TheVariants as instr
@@ -16,8 +15,8 @@ use Rattle.server_model.specs.Servers.{Server, Cluster, server_at}
 use Rattle.server_model.specs.Work.{thread_in}
 use Rattle.server_model.specs.Sharing.{waits_for_lock, waits_for_dup}
 use Rattle.server_model.specs.Joining.{waits_for_join}
-use Rattle.heap_law.specs.Names.{tot, one, other, if_so, Among}
-use Rattle.heap_law.specs.Things.{Spot, as_content, as_result, Thing, holds, stands, noted, things_of}
+use Rattle.heap_law.specs.Names.{tot, other, if_so, Among}
+use Rattle.heap_law.specs.Things.{Spot, as_content, as_result, Thing, stands, noted, things_of}
 use Rattle.heap_law.specs.Follow.{Standing, threads_in, thread_at, value_at}
 use Rattle.heap_law.specs.Sight.{Sight, sight}
 use Rattle.heap_law.specs.Paths.{popped, task_in, joined_thread}
@@ -30,11 +29,11 @@ use Rattle.event_law.proofs.Bags.{thread_number}
 use Rattle.event_law.proofs.ThreadThere.{thread_there}
 use Rattle.event_law.proofs.GiftsTaken.{none_here}
 use Rattle.type_law.specs.Names.{NameTypes}
-use Rattle.type_law.specs.ClusterTypes.{misfit, content_gift, result_gift, gift_misfit}
+use Rattle.type_law.specs.ClusterTypes.{content_gift, result_gift, gift_misfit}
 use Rattle.path_law.specs.HeapStore.{HasPaths}
-use Rattle.still_law.specs.Shows.{ShownThread, Sign, nothing, a_thread, plain_frame, sign_of, gift_spot_at, gift_spot_of, gift_spot}
+use Rattle.still_law.specs.Shows.{ShownThread, Sign, a_thread, plain_frame, sign_of, gift_spot_at, gift_spot_of, gift_spot}
 use Rattle.still_law.proofs.Tests.{same_part, threads as thread_test}
-use Rattle.still_law.proofs.Told.{told, ones, tot_same, same_told, at_thread, thread_told, found}
+use Rattle.still_law.proofs.Told.{ones, tot_same, same_told, at_thread, thread_told, found}
 use Rattle.still_law.proofs.PlainValues.{told_map, one_so, unnoted, plain_task, task_plain, popped_plain, pop_plain, shown_of, all_framed}
 use Rattle.still_law.proofs.Once.{shown_once}
 use Rattle.still_law.proofs.Drops.{named}

@@ -1,5 +1,5 @@
 -- Where an event leaves nothing of a weight at its server, it leaves nothing of it in the cluster, once its messages are handed over.
-use Rattle.std.proofs.Common.{◌≡◌, true, ℕ, ◌+◌, length, take, drop, Option, Some, refl, arith}
+use Rattle.std.proofs.Common.{◌≡◌, true, ℕ, length, take, drop, Some, arith}
 use Rattle.journal.specs.View.{EntryView}
 use Rattle.server_model.specs.declared.event.Event.{Event}
 use Rattle.server_model.specs.Servers.{Server, Cluster, server_at}

@@ -6,7 +6,7 @@ use Rattle.heap_partition.specs.declared.value.Owned.{Owned}
 use Rattle.mut_borrow.specs.declared.shared.SharedRef.{SharedRef}
 use Rattle.owner_box.specs.View.{PartitionState}
 use Rattle.mutex_home.specs.Mutexes.{Mutex}
-use Rattle.join_home.specs.Tasks.{Task, TaskState, going, let_go, kept, asked, in_pair}
+use Rattle.join_home.specs.Tasks.{TaskState, going, let_go, kept, asked, in_pair}
 use Rattle.thread_state.specs.View.{ThreadState}
 use Rattle.thread_state.specs.declared.value.Value.{Value}
 use Rattle.thread_state.specs.declared.value.Value.TheVariants as value

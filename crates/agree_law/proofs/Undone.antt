@@ -1,5 +1,5 @@
 -- Event by event: whatever does no plain step leaves a cluster that has types.
-use Rattle.std.proofs.Common.{◌≡◌, ℕ, ◌+◌, ◌≤◌, List, [], ◌∷◌, Option, Some, None, refl, sym, ap, ap₂, ◌∙◌, subst, arith}
+use Rattle.std.proofs.Common.{◌≡◌, ℕ, ◌+◌, ◌≤◌, List, [], ◌∷◌, Option, None, sym, ap₂, ◌∙◌, subst, arith}
 use Rattle.std.proofs.Math.Path.{fun_ext}
 use Rattle.fr_plain.specs.PlainState.{SameState}
 use Rattle.fr_code.specs.Machine.{CodeState}
@@ -7,9 +7,9 @@ use Rattle.fr_code.specs.CodeTable.{IsTable}
 use Rattle.heap_partition.specs.declared.value.Owned.{Owned}
 use Rattle.journal.specs.View.{EntryView}
 use Rattle.server_model.specs.declared.event.Event.{Event}
-use Rattle.server_model.specs.Servers.{Server, Cluster, server_at}
+use Rattle.server_model.specs.Servers.{Server, Cluster}
 use Rattle.server_model.specs.Clusters.{apply}
-use Rattle.heap_law.specs.Names.{tot, Among}
+use Rattle.heap_law.specs.Names.{tot}
 use Rattle.heap_law.specs.Things.{Spot, in_slot, in_temp, as_gift, as_content, as_result, in_hand, Thing, holds, lies, flies, stands, server_things, things_of}
 use Rattle.heap_law.specs.Follow.{Standing, threads_in}
 use Rattle.heap_law.specs.Sight.{sight}
