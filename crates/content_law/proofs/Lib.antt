@@ -1,0 +1,14 @@
+pub mod Weigh
+pub mod Mutexes
+pub mod Rests
+pub mod Marks
+pub mod Slots
+pub mod Says
+pub mod Deliveries
+pub mod Asked
+pub mod Unmarked
+pub mod Gifts
+pub mod Locks
+pub mod Steps
+pub mod Locked
+pub mod Contents
