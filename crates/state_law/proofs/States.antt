@@ -1,0 +1,100 @@
+-- Each event leaves a cluster whose one heap is typed: one plain step keeps types, and else it is as it was.
+use Rattle.std.proofs.Common.{◌≡◌, ℕ, length, option_map, Option, Some, None, refl, sym, ap, ap₂, subst, ◌∙◌}
+use Rattle.std.proofs.Math.Path.{fun_ext}
+use Rattle.fr_base.specs.declared.step.Fresh.{Fresh}
+use Rattle.fr_plain.specs.PlainState.{SameState, plain_state}
+use Rattle.fr_sound.specs.States.{Typing}
+use Rattle.fr_code.specs.CodeTable.{IsTable}
+use Rattle.fr_code.specs.Machine.{CodeState}
+use Rattle.fr_code.specs.TableStates.{CodeStateTypes}
+use Rattle.step_types.proofs.CodeSteps.{shown_steps_keep_types}
+use Rattle.journal.specs.View.{EntryView}
+use Rattle.server_model.specs.declared.event.Event.{Event}
+use Rattle.server_model.specs.Servers.{Server, Cluster, server_at}
+use Rattle.server_model.specs.Work.{then_some}
+use Rattle.server_model.specs.Clusters.{hand_over_newer, done_at, apply}
+use Rattle.heap_law.specs.Things.{things_of}
+use Rattle.heap_law.specs.Balances.{Agree, AtMostOne}
+use Rattle.heap_law.specs.Weights.{cells, owners, is_thread}
+use Rattle.heap_law.specs.Coherent.{Holds, names_counted, counts_from_one, over_are_bare}
+use Rattle.heap_law.specs.OneHeap.{one_heap}
+use Rattle.type_law.specs.ClusterTypes.{IsCoherent}
+use Rattle.event_law.specs.Laws.{Gives, FewEvents}
+use Rattle.event_law.proofs.Results.{map_gives, both_give}
+use Rattle.event_law.proofs.Sending.{applied_part}
+use Rattle.local_law.proofs.Bare.{bare_kept}
+use Rattle.value_law.proofs.Sentences.{names_kept, counts_kept}
+use Rattle.turn_law.specs.Turns.{StepsTo}
+use Rattle.assign_law.specs.Every.{IsStepOrStill}
+use Rattle.assign_law.proofs.Every.{each_is}
+use Rattle.typed_law.specs.Counted.{HasNumbers}
+use Rattle.state_law.specs.States.{HeapTyped, EventsKeepState}
+use Rattle.typed_law.proofs.Wholes.{heaps_are_whole}
+use Rattle.typed_law.proofs.Counts.{typed_heaps_count}
+
+-- states that show the same are the same
+same_is : (a b : CodeState) → SameState a b → a ≡ b
+same_is a b h =
+    ap₂ (λ f g. (let s : CodeState = record a { thread = f; made = g } in s)) (fun_ext h.threads) (fun_ext h.made)
+    ∙ ap₂ (λ f g. (let s : CodeState = record b { pair = f; object = g; mutex = a.mutex; is_given = a.is_given } in s)) (fun_ext h.pairs) (fun_ext h.objects)
+    ∙ ap₂ (λ f g. (let s : CodeState = record b { mutex = f; is_given = g } in s)) (fun_ext h.mutexes) (fun_ext h.given)
+
+-- an event changes no code
+code_kept : (k : Cluster) (e : Event) → Gives (λ (d : Cluster × EntryView). d.0.code ≡ k.code) (apply k e)
+code_kept k e = by (server_at k.servers e.server)
+  where
+    by : (o : Option Server) → Gives (λ (d : Cluster × EntryView). d.0.code ≡ k.code) (then_some o (λ s. option_map (λ (x : Server × EntryView). (record k { servers = hand_over_newer e.server (length s.rest.outbox) x.0 k.servers }, x.1)) (done_at k e.what s)))
+    by None = tt
+    by (Some s) =
+        map_gives (λ (d : Cluster × EntryView). d.0.code ≡ k.code) (done_at k e.what s) (λ (x : Server × EntryView). (record k { servers = hand_over_newer e.server (length s.rest.outbox) x.0 k.servers }, x.1)) (λ a f. refl)
+
+-- what threads are found by, and that each object has one home and one owner
+record HomesAndNumbers (k : Cluster) : Type 0 where
+  numbers : AtMostOne is_thread (things_of k)
+  homes : AtMostOne cells (things_of k)
+  owners_there : Agree owners cells (things_of k)
+
+also : {X : Type 0} (P Q : X → Type 0) (x : Option X) → Gives P x → Gives Q x → Gives (λ a. P a × Q a) x
+also P Q x p q = both_give P Q (λ a. P a × Q a) x p q (λ a b d. (b, d))
+
+-- each event keeps what threads are found by
+numbers_kept : (k : Cluster) (e : Event) → IsCoherent k → FewEvents k → Gives (λ (d : Cluster × EntryView). HasNumbers d.0) (apply k e)
+numbers_kept k e co few =
+    let names = also (λ (d : Cluster × EntryView). Holds d.0 names_counted) (λ (d : Cluster × EntryView). Holds d.0 counts_from_one) (apply k e) (names_kept k e co.sound few) (counts_kept k e co.sound few) in
+    let bare = also (λ (d : Cluster × EntryView). Holds d.0 names_counted × Holds d.0 counts_from_one) (λ (d : Cluster × EntryView). Holds d.0 over_are_bare) (apply k e) names (bare_kept k e co few) in
+    both_give (λ (d : Cluster × EntryView). HomesAndNumbers d.0) (λ (d : Cluster × EntryView). (Holds d.0 names_counted × Holds d.0 counts_from_one) × Holds d.0 over_are_bare) (λ (d : Cluster × EntryView). HasNumbers d.0) (apply k e)
+    (applied_part HomesAndNumbers (λ c g. record { numbers = g.numbers_differ; homes = g.home_of_each; owners_there = g.owner_of_each }) k e co.sound few) bare
+    (λ d a b. record { numbers_differ = a.numbers; names_counted = b.0.0; counts_from_one = b.0.1; over_are_bare = b.1; home_of_each = a.homes; owner_of_each = a.owners_there })
+
+module _ (k : Cluster) (co : IsCoherent k) where
+  abbrev Typed : Cluster → Type 0
+  Typed z = HeapTyped co.types.table z
+
+  table_there : (z : Cluster) → z.code ≡ k.code → IsTable z.code co.types.table
+  table_there z e = subst (λ c. IsTable c co.types.table) (sym e) co.types.is_table
+
+  -- with what follows of counts
+  counted : (z : Cluster) → HasNumbers z → z.code ≡ k.code → (y : Typing) → CodeStateTypes co.types.table y (one_heap z) → Typed z
+  counted z numbers e y state = record { is_table = table_there z e; typing = y; state = state; counts = typed_heaps_count z numbers co.types.table y state }
+
+  by_step : (d : Cluster × EntryView) → HasNumbers d.0 → d.0.code ≡ k.code → (names : Fresh) (t : ℕ) → ((c : _) → SameState (plain_state c) (one_heap k) → StepsTo k.code c t names (one_heap d.0) d.1.labels) → Typed d.0
+  by_step d numbers code names t go =
+      let shown = heaps_are_whole k co.sound in
+      let to = go shown.whole shown.shows in
+      let z = shown_steps_keep_types k.code co.types.table co.types.is_table co.types.typing (one_heap k) (one_heap d.0) co.types.state shown.whole shown.shows t names to.after to.steps to.same in
+      counted d.0 numbers code z.0 z.1
+
+  still : (d : Cluster × EntryView) → HasNumbers d.0 → d.0.code ≡ k.code → SameState (one_heap d.0) (one_heap k) → Typed d.0
+  still d numbers code same = counted d.0 numbers code co.types.typing (subst (CodeStateTypes co.types.table co.types.typing) (sym (same_is (one_heap d.0) (one_heap k) same)) co.types.state)
+
+  either : (d : Cluster × EntryView) → HasNumbers d.0 × (d.0.code ≡ k.code) → IsStepOrStill k d → Typed d.0
+  either d n h = by d.1.done refl
+    where
+      by : (o : Option Fresh) → d.1.done ≡ o → Typed d.0
+      by None e = still d n.0 n.1 (h.stays e)
+      by (Some names) e = let s = h.steps names e in by_step d n.0 n.1 names s.0 s.2
+
+pub events_keep : EventsKeepState
+events_keep k e co few =
+    both_give (λ (d : Cluster × EntryView). HasNumbers d.0 × (d.0.code ≡ k.code)) (IsStepOrStill k) (λ (d : Cluster × EntryView). HeapTyped co.types.table d.0) (apply k e)
+    (also (λ (d : Cluster × EntryView). HasNumbers d.0) (λ (d : Cluster × EntryView). d.0.code ≡ k.code) (apply k e) (numbers_kept k e co few) (code_kept k e)) (each_is k e co few) (λ d n h. either k co d n h)
