@@ -47,20 +47,20 @@ module _ (k : Cluster) (coherent : IsCoherent k) (few : FewEvents k) (s : Server
   abbrev i : Instr
   i = instr.BorrowMut w
 
-  abbrev z : Steps k n t s y i
+  abbrev pub z : Steps k n t s y i
   z = record { coherent = coherent; few = few; here = here; on = on; at = at; code = code }
 
-  abbrev x : Standing
+  abbrev pub x : Standing
   x = standing k n t s y i z
 
-  abbrev c : HasPaths k
+  abbrev pub c : HasPaths k
   c = paths k n t s y i z
 
   abbrev going : GoesOn k x
   going = goes k n t s y i z
 
   -- so it is here
-  short : w.depth ≤ 8
+  pub short : w.depth ≤ 8
   short =
       let at_it = typed k n t s y i z in
       let to = to_entry (types k n t s y i z).table y.pc (entry k n t s y i z) i at_it.0 at_it.1 (λ o e. cc) in
@@ -71,11 +71,11 @@ module _ (k : Cluster) (coherent : IsCoherent k) (few : FewEvents k) (s : Server
   may = may_write_there k c x going i w code lends
 
   -- the place is one that is followed
-  place : Place k c x true w
+  pub place : Place k c x true w
   place = record { free = λ j u is. may.free j true u is; base = may.base; boxes = may.boxes; type = may.type; resolves = may.resolves; unmarked = may.unmarked }
 
   -- what the thread has taken is the last pointer, and none before it
-  before_it : IsFree k n t s y i z true w place d
+  pub before_it : IsFree k n t s y i z true w place d
   before_it e lt under l located m u stands leads_on a p stars taken its depth2 there =
       let same_code : instr.BorrowMut w ≡ instr.BorrowMut p = some_is (sym code ∙ its) in
       let same : w ≡ p = cc in

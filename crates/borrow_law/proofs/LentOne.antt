@@ -271,7 +271,7 @@ module _ (k z : Cluster) (t j : ℕ) (h : Location) (r : MutRef) (c : HasPlaces 
   -- REFERENCES
 
   -- each reference that was there is
-  on_reference : (q : Reference) → Among q (references gk (things_of k)) → Among q (references gz (things_of z))
+  pub on_reference : (q : Reference) → Among q (references gk (things_of k)) → Among q (references gz (things_of z))
   on_reference q i =
       let y = of_borrows gk q (things_of k) i in
       let stood : value_in gk q.at ≡ Some (value.Mut q.reference) = borrow_stands k c q.at q.reference y.among in
@@ -279,16 +279,16 @@ module _ (k z : Cluster) (t j : ℕ) (h : Location) (r : MutRef) (c : HasPlaces 
       subst (λ (o : Option Location). Among (record { at = q.at; holder = o; reference = q.reference }) (references gz (things_of z))) (holders q.at q.reference.holder ∙ sym y.holder) there
 
   -- the new one is, with that holder
-  new_reference : Among (record { at = m; holder = Some h; reference = r }) (references gz (things_of z))
+  pub new_reference : Among (record { at = m; holder = Some h; reference = r }) (references gz (things_of z))
   new_reference = subst (λ (o : Option Location). Among (record { at = m; holder = o; reference = r }) (references gz (things_of z))) (holders m r.holder ∙ u.held) (reference_there z m r u.now)
 
-  record IsNew (q : Reference) : Type 0 where
-    at : q.at ≡ m
-    holder : q.holder ≡ Some h
-    reference : q.reference ≡ r
+  pub record IsNew (q : Reference) : Type 0 where
+    pub at : q.at ≡ m
+    pub holder : q.holder ≡ Some h
+    pub reference : q.reference ≡ r
 
   -- each reference is the new one or was there
-  back_reference : (q : Reference) → Among q (references gz (things_of z)) → IsNew q ⊎ Among q (references gk (things_of k))
+  pub back_reference : (q : Reference) → Among q (references gz (things_of z)) → IsNew q ⊎ Among q (references gk (things_of k))
   back_reference q i = by (same_place q.at m)
     where
       y : OfBorrows gz q (things_of z)
@@ -330,7 +330,7 @@ module _ (k z : Cluster) (t j : ℕ) (h : Location) (r : MutRef) (c : HasPlaces 
       (lent_or k z in_slots in_cells v.taking v.took l h v.lent e)) u.made
 
   -- what was stale is
-  on_stale : (l : Location) → IsStale (sight k) (Some l) → IsStale (sight z) (Some l)
+  pub on_stale : (l : Location) → IsStale (sight k) (Some l) → IsStale (sight z) (Some l)
   on_stale l (changed_above q i e s) = changed_above q (on_reference q i) e s
   on_stale l (stale_above q i e s) = stale_above q (on_reference q i) e (on_stale q.at s)
   on_stale l (taken_above e) = lent_on l e
@@ -341,7 +341,7 @@ module _ (k z : Cluster) (t j : ℕ) (h : Location) (r : MutRef) (c : HasPlaces 
   on_at (Some l) s = on_stale l s
 
   -- the reference isn't
-  awake : (l : Location) → l ≡ m → IsStale (sight z) (Some l) → ⊥
+  pub awake : (l : Location) → l ≡ m → IsStale (sight z) (Some l) → ⊥
   awake l s (changed_above q i e x) = unmade q i (ap (λ n. is_held_at n q.holder) (sym s) ∙ e)
   awake l s (stale_above q i e x) = unmade q i (ap (λ n. is_held_at n q.holder) (sym s) ∙ e)
   awake l s (taken_above e) =
@@ -353,7 +353,7 @@ module _ (k z : Cluster) (t j : ℕ) (h : Location) (r : MutRef) (c : HasPlaces 
   its_holder l q n e = some_is (sym (held_at l q.holder e) ∙ n.holder)
 
   -- what stands there
-  is_from : (q : Reference) → Among q (references gk (things_of k)) → q.at ≡ h → u.from ≡ value.Mut q.reference
+  pub is_from : (q : Reference) → Among q (references gk (things_of k)) → q.at ≡ h → u.from ≡ value.Mut q.reference
   is_from q i s =
       let y = of_borrows gk q (things_of k) i in
       let stood : value_in gk q.at ≡ Some (value.Mut q.reference) = borrow_stands k c q.at q.reference y.among in
@@ -365,7 +365,7 @@ module _ (k z : Cluster) (t j : ℕ) (h : Location) (r : MutRef) (c : HasPlaces 
       ⊎_elim (λ (a : MadeHere k z h r u.from). a.mark q.reference (is_from q i s) ∙ e) (λ (v : MadeOfTaken k z h r). let no : false ≡ true = sym v.clean ∙ e in absurd cc) u.made
 
   -- the holder was lent
-  was_lent : (v : MadeOfTaken k z h r) → is_among h (lent_places k.code gk gk.threads) ≡ true
+  pub was_lent : (v : MadeOfTaken k z h r) → is_among h (lent_places k.code gk gk.threads) ≡ true
   was_lent v = ap (is_among h) (lents_are k.code gk gk.threads) ∙ lent_listed gk h v.taking (takings k.code gk.threads) v.listed (ap (λ q. is_among h (with_place q [])) v.lent ∙ here_is h)
 
   new_above : (l : Location) → l ≡ h → changed r ≡ true → IsStale (sight k) (Some l) ⊎ ((l ≡ h) × (r.dirty ≡ true))
@@ -373,7 +373,7 @@ module _ (k z : Cluster) (t j : ℕ) (h : Location) (r : MutRef) (c : HasPlaces 
       ⊎_elim (λ (a : MadeHere k z h r u.from). inr (s, clean_or_dirty r e a.unchanged)) (λ (v : MadeOfTaken k z h r). inl (subst (λ q. IsStale (sight k) (Some q)) (sym s) (taken_above (was_lent v)))) u.made
 
   -- what is stale was, or it is the holder of a dirty reference
-  back_stale : (l : Location) → IsStale (sight z) (Some l) → IsStale (sight k) (Some l) ⊎ ((l ≡ h) × (r.dirty ≡ true))
+  pub back_stale : (l : Location) → IsStale (sight z) (Some l) → IsStale (sight k) (Some l) ⊎ ((l ≡ h) × (r.dirty ≡ true))
   back_stale l (changed_above q i e s) =
       ⊎_elim (λ (n : IsNew q). new_above l (its_holder l q n e) (ap changed (sym n.reference) ∙ s)) (λ (o : Among q (references gk (things_of k))). inl (changed_above q o e s)) (back_reference q i)
   back_stale l (stale_above q i e s) =

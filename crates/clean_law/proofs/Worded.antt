@@ -83,7 +83,7 @@ dirty_found z r o f e d =
     listed_dirty o (sight z).stale f.reference.at f.reference.reference (things_of z) (of_borrows (sight z).ground f.reference (things_of z) f.among).among (ap (λ (q : MutRef). q.object) f.same ∙ e) (ap (λ (q : MutRef). q.dirty) f.same ∙ d)
     (not_told z (Some f.reference.at) f.fresh)
 
-same_truth : (p q : Bool) → (p ≡ true → q ≡ true) → (q ≡ true → p ≡ true) → q ≡ p
+pub same_truth : (p q : Bool) → (p ≡ true → q ≡ true) → (q ≡ true → p ≡ true) → q ≡ p
 same_truth true true f g = refl
 same_truth false false f g = refl
 same_truth true false f g = absurd (cc (f refl))
@@ -91,7 +91,7 @@ same_truth false true f g = absurd (cc (g refl))
 
 -- WHAT A CLEAN CELL TELLS
 
-clean_told : (s : Sight) (v : ℕ) (c : Cell) → clean_cell s v ≡ Some c → (cell_of_word s.pointers s.ground.cells v ≡ Some c) × (is_object_among c.object s.dirty ≡ false)
+pub clean_told : (s : Sight) (v : ℕ) (c : Cell) → clean_cell s v ≡ Some c → (cell_of_word s.pointers s.ground.cells v ≡ Some c) × (is_object_among c.object s.dirty ≡ false)
 clean_told s v c e = by (cell_of_word s.pointers s.ground.cells v) refl e
   where
     at_mark : (d : Cell) → cell_of_word s.pointers s.ground.cells v ≡ Some d → (b : Bool) → is_object_among d.object s.dirty ≡ b → unless_dirty b d ≡ Some c → (cell_of_word s.pointers s.ground.cells v ≡ Some c) × (is_object_among c.object s.dirty ≡ false)
@@ -102,10 +102,10 @@ clean_told s v c e = by (cell_of_word s.pointers s.ground.cells v) refl e
     by None q f = absurd cc
     by (Some d) q f = at_mark d q (is_object_among d.object s.dirty) refl f
 
-clean_so : (s : Sight) (v : ℕ) (c : Cell) → cell_of_word s.pointers s.ground.cells v ≡ Some c → is_object_among c.object s.dirty ≡ false → clean_cell s v ≡ Some c
+pub clean_so : (s : Sight) (v : ℕ) (c : Cell) → cell_of_word s.pointers s.ground.cells v ≡ Some c → is_object_among c.object s.dirty ≡ false → clean_cell s v ≡ Some c
 clean_so s v c e d = ap (if_clean s) e ∙ ap (λ b. unless_dirty b c) d
 
-objects_differ : (p o : ObjNo) → (p ≡ o) ⊎ (p ≡ o → ⊥)
+pub objects_differ : (p o : ObjNo) → (p ≡ o) ⊎ (p ≡ o → ⊥)
 objects_differ p o = by (same_object p o) refl
   where
     by : (b : Bool) → same_object p o ≡ b → (p ≡ o) ⊎ (p ≡ o → ⊥)
@@ -203,7 +203,7 @@ is_so true e = refl
 is_so false e = absurd cc
 
 -- the word of a live object was
-live_issued : (k : Cluster) (sound : IsSound k) (c : Cell) → Among c (cells_in (things_of k)) → issued (sight k) (sound.words.have_words.word c.object) ≡ true
+pub live_issued : (k : Cluster) (sound : IsSound k) (c : Cell) → Among c (cells_in (things_of k)) → issued (sight k) (sound.words.have_words.word c.object) ≡ true
 live_issued k sound c m = let q = cell_thing (things_of k) c m in by q.0 q.2 q.1
   where
     h : HasWords (sight k)

@@ -76,14 +76,14 @@ body_leaves n w r c e =
 -- THE SERVER
 
 -- the object was at its server, and what it owned is in hand afterwards; no other cell of it was at that server
-record Goes (code : List Instr) (w : ℕ) (o : ObjNo) (s : Server) (d : Server × EntryView) : Type 0 where
-  cell : Cell
-  address : ℕ
-  mid : Server
-  object : cell.object ≡ o
-  before : Alike code (server_things s) (sent s.rest.number (message.Drop w o) ∷ lies s.rest.number address cell ∷ server_things mid)
-  after : Alike code (server_things d.0) (holds in_hand cell.value ∷ server_things mid)
-  fewer : tot (cells o) (server_things mid) + 1 ≤ tot (cells o) (server_things s)
+pub record Goes (code : List Instr) (w : ℕ) (o : ObjNo) (s : Server) (d : Server × EntryView) : Type 0 where
+  pub cell : Cell
+  pub address : ℕ
+  pub mid : Server
+  pub object : cell.object ≡ o
+  pub before : Alike code (server_things s) (sent s.rest.number (message.Drop w o) ∷ lies s.rest.number address cell ∷ server_things mid)
+  pub after : Alike code (server_things d.0) (holds in_hand cell.value ∷ server_things mid)
+  pub fewer : tot (cells o) (server_things mid) + 1 ≤ tot (cells o) (server_things s)
 
 module _ (k : Cluster) (sound : IsSound k) (number : ℕ) (s : Server) (here : server_at k.servers number ≡ Some s) (i w : ℕ) (o : ObjNo) (q : slice_get s.rest.inbox i ≡ Some (message.Drop w o)) where
   abbrev n : ℕ
@@ -137,7 +137,7 @@ module _ (k : Cluster) (sound : IsSound k) (number : ℕ) (s : Server) (here : s
         fewer = counted c e f;
       }
 
-  server_goes : Gives (Goes k.code w o s) (does k.code k.options s (Deliver i))
+  pub server_goes : Gives (Goes k.code w o s) (does k.code k.options s (Deliver i))
   server_goes =
       over_gives (λ (x : Site). Goes k.code w o s (left_by s.events None None x)) (Goes k.code w o s) (deliver k.code i s) (left_by s.events None None)
       (subst (λ x. Gives (λ (x : Site). Goes k.code w o s (left_by s.events None None x)) (then_some x (λ m. deliver_message k.code m (received i s)))) (sym q) (by (look_object p w o) refl)) (λ x g. g)
@@ -157,7 +157,7 @@ module _ (k : Cluster) (sound : IsSound k) (number : ℕ) (s : Server) (here : s
   is_drop (message.Drop v x) l = (v, ap (message.Drop v) (named x o (truly (same_object x o) l)))
   is_drop _ l = absurd (omega (arith, l))
 
-  message_there : (r v : ℕ) × Among (sent r (message.Drop v o)) (things_of k)
+  pub message_there : (r v : ℕ) × Among (sent r (message.Drop v o)) (things_of k)
   message_there = by f.0 f.1 f.2
     where
       some : 1 ≤ tot dropped (things_of k)
