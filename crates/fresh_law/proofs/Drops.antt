@@ -1,0 +1,175 @@
+-- Copies are right after the delivery of a `drop`: no place leads to the object that goes, so nobody has asked for a copy of it.
+use Rattle.std.proofs.Common.{◌≡◌, ◌≤◌, ℕ, zero, suc, ◌+◌, nat_lt, Bool, true, false, if◌then◌else◌, List, [], ◌∷◌, ◌++◌, Option, Some, None, option_map, refl, sym, ap, subst, arith, ◌∙◌, inl, inr, ⊎_elim}
+use Rattle.std.specs.Prelude.{slice_get, slice_set, length, take, drop as drop_first}
+use Rattle.fr_base.specs.declared.instruction.Instr.{Instr}
+use Rattle.fr_base.specs.declared.name.ObjNo.{ObjNo}
+use Rattle.global_addr.specs.Words.{address_of, colour_of}
+use Rattle.heap_partition.specs.declared.value.Cell.{Cell}
+use Rattle.owner_box.specs.View.{PartitionState}
+use Rattle.owner_box.specs.Partition.{freed}
+use Rattle.journal.specs.View.{EntryView}
+use Rattle.journal.specs.declared.act.Act.TheVariants as act
+use Rattle.server_msgs.specs.declared.message.Message.{Message}
+use Rattle.server_msgs.specs.declared.message.Message.TheVariants as message
+use Rattle.server_model.specs.declared.event.Event.{Event}
+use Rattle.server_model.specs.declared.event.What.TheVariants.{Deliver}
+use Rattle.server_model.specs.Servers.{Rest, Server, Cluster, server_at}
+use Rattle.server_model.specs.Work.{Work, Site, look, look_object, receive, then_some, note, with_partition}
+use Rattle.server_model.specs.Drop.{give_up}
+use Rattle.server_model.specs.Events.{enabled, does, left_by, received, deliver, deliver_message}
+use Rattle.server_model.specs.Clusters.{with_server, hand_over_newer, done_at, apply}
+use Rattle.heap_law.specs.Names.{Among, tot, one, same_object}
+use Rattle.heap_law.specs.Things.{Thing, holds, in_hand, lies, vacant, retired, sent, things_at, copy_things, mutex_things, task_things, message_things, leaving_things, waiting_things, cell_things, server_things, servers_things, things_of}
+use Rattle.heap_law.specs.Coherent.{IsSound}
+use Rattle.heap_law.specs.Weights.{cells, drops}
+use Rattle.heap_law.proofs.Sums.{server_parts}
+use Rattle.heap_law.proofs.Words.{itself as same_itself, named}
+use Rattle.type_law.specs.ClusterTypes.{IsCoherent}
+use Rattle.word_law.specs.Reworded.{HasPlaces}
+use Rattle.word_law.specs.Unmoved.{LeavesWords}
+use Rattle.event_law.specs.Laws.{Gives, GoTo, FewEvents}
+use Rattle.event_law.proofs.Results.{over_gives, test_gives, both_give}
+use Rattle.event_law.proofs.Bags.{all_standing, body_things}
+use Rattle.event_law.proofs.Cells.{left_by as place_left, looked, frees}
+use Rattle.event_law.proofs.Events.{tot-server}
+use Rattle.event_law.proofs.MutexResults.{has}
+use Rattle.event_law.proofs.ObjectMessages.{looked_object}
+use Rattle.event_law.proofs.Applied.{go_with}
+use Rattle.event_law.proofs.Sending.{applied_part, each_event_sends}
+use Rattle.event_law.proofs.Trades.{tot-remove}
+use Rattle.read_law.proofs.Flights.{truly}
+use Rattle.result_law.proofs.Flights.{weighs}
+use Rattle.still_law.proofs.Addresses.{in_place, lies_alone}
+use Rattle.still_law.proofs.Leaving.{others, placed_here}
+use Rattle.stay_law.proofs.Alike.{Alike, itself, turned as turned_round, chain}
+use Rattle.stay_law.proofs.Servers.{held, server_body, receives, given_up}
+use Rattle.stay_law.proofs.Sites.{ends_alike, servers_alike, replaced, handed_over}
+use Rattle.carry_law.proofs.Hands.{rooted}
+use Rattle.carry_law.proofs.Leaving.{one_cell, all_cells, none_blank, free_blank}
+use Rattle.free_law.proofs.Going.{freed_leaves}
+use Rattle.free_law.proofs.Lists.{NoneLeads, is_freed}
+use Rattle.free_law.proofs.Unled.{none_leads}
+use Rattle.heap_law.specs.Follow.{cells_in}
+use Rattle.heap_law.specs.Sight.{sight}
+use Rattle.heap_law.specs.Words.{HasWords}
+use Rattle.heap_law.proofs.Words.{none_at}
+use Rattle.path_law.specs.HeapStore.{HasPaths}
+use Rattle.path_law.proofs.Alike.{coherent_has_paths}
+use Rattle.made_law.proofs.Unnamed.{cell_weighs}
+use Rattle.free_law.specs.Freed.{Freed}
+use Rattle.free_law.proofs.Drops.{Goes, server_goes, message_there}
+use Rattle.copy_law.proofs.Clean.{cell_thing, cells_on}
+use Rattle.clean_law.proofs.Kept.{places_before, places_after}
+use Rattle.clean_law.proofs.Worded.{objects_differ}
+use Rattle.fresh_law.specs.Fresh.{DeliveredDropsKeepCopies}
+use Rattle.fresh_law.proofs.Turned.{Unasked, Same, Hidden, Turned, dirty_kept, none_idle, none_or_idle, turned_right}
+use Rattle.fresh_law.proofs.Asks.{delivery_asks}
+use Rattle.fresh_law.proofs.Beside.{SameBeside, beside_on, beside_back}
+use Rattle.fresh_law.proofs.Askers.{ReadsUnder, unasked_by, reads_to}
+
+-- an object that goes, beside all others
+module _ (k z : Cluster) (coherent : IsCoherent k) (cz : HasPlaces z) (x : ObjNo) (rest : List Thing) (n w m : ℕ) (e : Cell) (its : e.object ≡ x) (before : Alike k.code (things_of k) (sent n (message.Drop w x) ∷ lies n m e ∷ rest)) (v : Thing)
+    (after : Alike k.code (things_of z) (v ∷ rest)) (bare : cells_in (v ∷ rest) ≡ cells_in rest) (none : tot (cells x) rest ≡ 0) (unled : NoneLeads k x) (freed : Freed k z x) where
+  abbrev ck : HasPlaces k
+  ck = places_before k coherent.sound
+
+  abbrev paths : HasPaths k
+  paths = coherent_has_paths k coherent
+
+  abbrev words : HasWords (sight k)
+  words = coherent.sound.words.have_words
+
+  abbrev left : LeavesWords k z
+  left = freed_leaves k z x ck cz coherent.sound.words.first_at_holder freed
+
+  abbrev words_z : HasWords (sight z)
+  words_z = (left.words words).after
+
+  seen : SameBeside k z x
+  seen = record { stands = freed.stands; holders = λ l h r a b. (freed.holders l h r a b).0; taken = λ t i. (freed.taken t i).1; takes = freed.takes; took = freed.took }
+
+  -- its cell isn't there
+  none_there : (c : Cell) → c.object ≡ x → Among c (cells_in (things_of z)) → ⊥
+  none_there c o i =
+      let a : Among c (cells_in rest) = subst (λ l. Among c l) bare (cells_on k.code (things_of z) (v ∷ rest) after.on c i) in
+      let y = cell_thing rest c a in
+      cell_weighs x c y.0 y.2 o (none_at (cells x) y.0 rest none y.1)
+
+  -- and none of it was asked for
+  unasked : (c : Cell) → c.object ≡ x → Among c (cells_in (things_of k)) → Unasked k (words.word x)
+  unasked c o i =
+      subst (λ p. Unasked k (words.word p)) o
+      (unasked_by k paths coherent.sound c i (λ (r : ReadsUnder k paths coherent.sound (words.word c.object) c.object). subst (λ p. NoneLeads k p) (sym o) unled r.thread.thread.number r.location (reads_to k paths coherent.sound (words.word c.object) c.object r)))
+
+  goes : (p : ObjNo) → p ≡ x → Hidden k z words words_z p
+  goes p s = record {
+    hides = λ c o i. absurd (none_there c (o ∙ s) i);
+    unasked = λ c o i. inr (subst (λ q. Unasked k (words.word q)) (sym s) (unasked c (o ∙ s) i));
+  }
+
+  -- others stay
+  stays : (p : ObjNo) → (p ≡ x → ⊥) → Same k z words words_z p
+  stays p away = record {
+    word = (left.words words).same p;
+    on = λ c o i. cells_on k.code (v ∷ rest) (things_of z) after.back c (subst (λ l. Among c l) (sym bare) (other_one c o (cells_on k.code (things_of k) (sent n (message.Drop w x) ∷ lies n m e ∷ rest) before.on c i)));
+    back = λ c o i. cells_on k.code (sent n (message.Drop w x) ∷ lies n m e ∷ rest) (things_of k) before.back c (inr (subst (λ l. Among c l) bare (cells_on k.code (things_of z) (v ∷ rest) after.on c i)));
+    dirty = dirty_kept k z ck cz (beside_on k z x ck cz coherent.sound.words.first_at_holder seen) (beside_back k z x ck cz coherent.sound.words.first_at_holder seen) p;
+  }
+    where
+      other_one : (c : Cell) → c.object ≡ p → Among c (e ∷ cells_in rest) → Among c (cells_in rest)
+      other_one c o (inl s) = absurd (away (sym o ∙ ap (λ (y : Cell). y.object) (sym s) ∙ its))
+      other_one c o (inr i) = i
+
+  pub turned : Turned k z words
+  turned = record { after = words_z; each = λ p. ⊎_elim (λ (s : p ≡ x). inr (goes p s)) (λ (away : p ≡ x → ⊥). inl (stays p away)) (objects_differ p x) }
+
+-- IN ITS CLUSTER
+
+module _ (k : Cluster) (e : Event) (w : ℕ) (o : ObjNo) (coherent : IsCoherent k) (few : FewEvents k) (i : ℕ) (s : Server) (here : server_at k.servers e.server ≡ Some s) (q : slice_get s.rest.inbox i ≡ Some (message.Drop w o)) where
+  abbrev sound : IsSound k
+  sound = coherent.sound
+
+  abbrev Turns : Cluster × EntryView → Type 0
+  Turns d = Turned k d.0 coherent.sound.words.have_words
+
+  abbrev TurnsThere : Cluster × EntryView → Type 0
+  TurnsThere d = HasPlaces d.0 → Turns d
+
+  no_cells : (r : Server × EntryView) (g : Goes k.code w o s r) → cells_in (holds in_hand (g.cell).value ∷ servers_things (with_server k.servers e.server g.mid)) ≡ cells_in (servers_things (with_server k.servers e.server g.mid))
+  no_cells r g = refl
+
+  handed : (p : Option (Server × EntryView)) → Gives (Goes k.code w o s) p → Gives (λ (r : Server × EntryView). GoTo (with_server k.servers e.server r.0) (drop_first (length s.rest.outbox) r.0.rest.outbox)) p
+      → Gives TurnsThere (option_map (λ r. (record k { servers = hand_over_newer e.server (length s.rest.outbox) r.0 k.servers }, r.1)) p)
+  handed None g go = tt
+  handed (Some r) g go = λ places.
+      let older = length s.rest.outbox in
+      let end : Cluster = record k { servers = hand_over_newer e.server older r.0 k.servers } in
+      let rest : List Thing = servers_things (with_server k.servers e.server g.mid) in
+      let n = s.rest.number in
+      let x = g.cell.object in
+      let hand : List Thing = sent n (message.Drop w o) ∷ lies n g.address g.cell ∷ [] in
+      let before : Alike k.code (things_of k) (hand ++ rest) = chain (servers_alike e.server k.servers s s here (itself (server_things s))) (replaced e.server k.servers s s g.mid hand here g.before) in
+      let after : Alike k.code (things_of end) (holds in_hand g.cell.value ∷ rest) =
+      chain (turned_round (handed_over e.server older s r.0 k.servers here (go_with k.servers e.server r.0 (take older r.0.rest.outbox) (drop_first older r.0.rest.outbox) go))) (replaced e.server k.servers s r.0 g.mid (holds in_hand g.cell.value ∷ []) here g.after) in
+      let here_k : HasPlaces k = places_before k sound in
+      let none : tot (cells o) rest ≡ 0 = (let u = tot-server (cells o) k.servers e.server s g.mid here in omega (arith, u.0, u.1, g.fewer, sound.one_home.home_of_each o)) in
+      let none_x : tot (cells x) rest ≡ 0 = subst (λ y. tot (cells y) rest ≡ 0) (sym g.object) none in
+      let before_x : Alike k.code (things_of k) (sent n (message.Drop w x) ∷ lies n g.address g.cell ∷ rest) = subst (λ y. Alike k.code (things_of k) (sent n (message.Drop w y) ∷ lies n g.address g.cell ∷ rest)) (sym g.object) before in
+      let m = message_there k sound e.server s here i w o q in
+      let unled : NoneLeads k x = subst (λ y. NoneLeads k y) (sym g.object) (none_leads k coherent o m.0 m.1 m.2) in
+      let freed : Freed k end x = is_freed k end here_k places refl rest n n g.address w g.cell none_x before_x after unled (rooted k sound) in
+      turned k end coherent places x rest n w g.address g.cell refl before_x (holds in_hand g.cell.value) after refl none_x unled freed
+
+  done : e.what ≡ Deliver i → Gives (Goes k.code w o s) (done_at k e.what s)
+  done is = subst (λ p. Gives (Goes k.code w o s) (done_at k p s)) (sym is) (test_gives (Goes k.code w o s) (enabled k.options s (Deliver i)) (does k.code k.options s (Deliver i)) (λ on. server_goes k sound e.server s here i w o q))
+
+  turns : e.what ≡ Deliver i → Gives Turns (apply k e)
+  turns is =
+      both_give TurnsThere (λ (d : Cluster × EntryView). HasPlaces d.0) Turns (apply k e)
+      (subst (λ p. Gives TurnsThere (then_some p (λ x. option_map (λ d. (record k { servers = hand_over_newer e.server (length x.rest.outbox) d.0 k.servers }, d.1)) (done_at k e.what x)))) (sym here)
+      (handed (done_at k e.what s) (done is) (each_event_sends k e sound few s here)))
+      (places_after k e sound few) (λ d g c. g c)
+
+pub drops_keep : DeliveredDropsKeepCopies
+drops_keep k e w o d coherent few =
+    turned_right k e coherent.sound few (turns k e w o coherent few d.place d.server d.there d.message d.what) (delivery_asks (none_or_idle k) k e d.place d.what coherent.sound few (none_idle k coherent.sound))

@@ -1,0 +1,181 @@
+-- What a mutable borrow leaves of objects, where it is done: with each reference that it makes each object is what it was.
+use Rattle.std.proofs.Common.{◌≡◌, ◌⊎◌, inl, inr, ℕ, zero, suc, ◌==◌, ◌&&◌, Bool, true, false, if◌then◌else◌, List, [], ◌++◌, Option, Some, None, option_map, refl, sym, ap, ap₂, subst, ◌∙◌, ◌≢◌, ⊎_elim, ◌∷◌}
+use Rattle.std.specs.Prelude.{⊤, slice_get, length}
+use Rattle.std.proofs.lemmas.Bool.{eq-eqb}
+use Rattle.fr_base.specs.declared.name.ObjNo.{ObjNo}
+use Rattle.fr_base.specs.declared.place.Lval.{Lval}
+use Rattle.fr_base.specs.declared.instruction.Instr.{Instr}
+use Rattle.heap_partition.specs.declared.value.BoxPtr.{BoxPtr}
+use Rattle.heap_partition.specs.declared.value.Owned.{Owned}
+use Rattle.mut_borrow.specs.declared.mutable.MutRef.{MutRef}
+use Rattle.place_walk.specs.declared.hop.Hop.{Hop}
+use Rattle.place_walk.specs.Hops.{write_hop}
+use Rattle.journal.specs.View.{EntryView}
+use Rattle.thread_state.specs.View.{ThreadState}
+use Rattle.thread_state.specs.declared.phase.Phase.{Phase}
+use Rattle.thread_state.specs.declared.value.Value.{Value}
+use Rattle.server_model.specs.declared.event.Event.{Event}
+use Rattle.server_model.specs.declared.event.What.TheVariants.{Step}
+use Rattle.server_model.specs.Servers.{Server, Cluster, server_at}
+use Rattle.server_model.specs.Work.{Hand, push_temp, thread_in, without_thread, then_some}
+use Rattle.server_model.specs.Clusters.{apply}
+use Rattle.server_model.specs.Places.{Spot, in_slot, value_at, load_at, pointer_of, took}
+use Rattle.server_model.specs.Prepare.{Prepared, ready, requested, nothing, LendTo, and_then, ask_object, request_by, read_stars, is_taken, lend_by, lend_value, lend_pointer, ReadTo}
+use Rattle.server_model.specs.Commit.{go_on, goes_on, lent_word, mutable_from, commit, settle, borrow_mut, borrow_mut_from}
+use Rattle.server_model.specs.Events.{enabled, begin_work, Stepped, done_step, committed, prepared, step, step_in, stepped, does}
+use Rattle.heap_law.specs.Names.{Among, same_object, one, other}
+use Rattle.heap_law.specs.Things.{Location, Thing, servers_things, at_slot, in_cell, stands, things_of}
+use Rattle.heap_law.specs.Follow.{Ground, locate, Standing, value_behind, leads, place_at}
+use Rattle.heap_law.specs.Sight.{sight, taken_object, issued}
+use Rattle.heap_law.specs.Placing.{is_first, phase_word, words}
+use Rattle.heap_law.proofs.Words.{itself, none_at}
+use Rattle.type_law.specs.ClusterTypes.{IsCoherent}
+use Rattle.path_law.proofs.Sole.{some_is}
+use Rattle.word_law.specs.Reworded.{HasPlaces}
+use Rattle.word_law.specs.Unmoved.{LeavesWords, Taking, taking_by, taking_of}
+use Rattle.word_law.proofs.Follows.{seen_places_lead}
+use Rattle.word_law.proofs.Standing.{pointer_at}
+use Rattle.event_law.specs.Laws.{Gives, FewEvents}
+use Rattle.event_law.proofs.Results.{weaker, over_gives, both_give}
+use Rattle.event_law.proofs.Bags.{all_standing}
+use Rattle.event_law.proofs.Events.{others_of}
+use Rattle.read_law.specs.Reading.{Reads, lends}
+use Rattle.still_law.proofs.Prepares.{Fine as Shown}
+use Rattle.still_law.proofs.Readied.{Readied}
+use Rattle.stay_law.proofs.Sites.{HandAlike}
+use Rattle.stay_law.proofs.Steps.{TakesNoneHere, mut_slot_unseen, pushes, settles, goes_over}
+use Rattle.stay_law.specs.Laws.{mutable}
+use Rattle.turn_law.proofs.ReadWalk.{value_loaded}
+use Rattle.turn_law.proofs.StarLines.{shows}
+use Rattle.prepare_law.specs.Requests.{WordsHold}
+use Rattle.prepare_law.proofs.Hands.{Ok, State, Walks, put, places}
+use Rattle.prepare_law.proofs.Stars.{Spotted, asks_object, walks_loaded}
+use Rattle.prepare_law.proofs.Asking.{found_number}
+use Rattle.borrow_law.proofs.LentOne.{LentOne}
+use Rattle.borrow_law.proofs.OnTop.{same_takings, lent_on_top, takings_were, takings_but, taking_there}
+use Rattle.heap_law.specs.Requests.{has_word, last_hop, taken_again, old_word, lies_here, taken_there, taken_phase, lent_place}
+use Rattle.heap_law.specs.Stale.{one_star_less}
+use Rattle.event_law.proofs.GiftsTaken.{none_here}
+use Rattle.carry_law.proofs.Far.{thread_thing}
+use Rattle.ask_law.proofs.Unasked.{Unasked}
+use Rattle.borrow_law.proofs.AtHand.{unasked}
+use Rattle.word_law.proofs.Unmoved.{untouched_stays}
+use Rattle.event_law.proofs.RulesKeep.{sums_kept}
+use Rattle.event_law.proofs.AllSteps.{commits}
+use Rattle.event_law.proofs.Commits.{CommittedOk}
+use Rattle.event_law.proofs.Steps.{SteppedOk, committed_keeps}
+use Rattle.stay_law.proofs.Alike.{turned as turned_round}
+use Rattle.stay_law.proofs.Seen.{seen_alike}
+use Rattle.borrow_law.proofs.Pushed.{hands_alike}
+use Rattle.fr_base.specs.declared.step.Fresh.TheVariants as fresh
+use Rattle.fr_base.specs.declared.instruction.Instr.TheVariants as instr
+use Rattle.heap_partition.specs.declared.value.Owned.TheVariants as owned
+use Rattle.place_walk.specs.declared.hop.Hop.TheVariants as hop
+use Rattle.thread_state.specs.declared.phase.Phase.TheVariants as phase
+use Rattle.thread_state.specs.declared.value.Value.TheVariants as value
+use Rattle.borrow_law.proofs.Sources as sources
+use Rattle.borrow_law.proofs.Made.{Lendable, lendable}
+use Rattle.server_model.specs.Servers.{Rest}
+use Rattle.server_model.specs.Events.{wait_step}
+use Rattle.heap_law.specs.Words.{HasWords}
+use Rattle.local_law.proofs.Mail.{Mailed, mail_sent}
+use Rattle.local_law.proofs.Messages.{Light}
+use Rattle.copy_law.proofs.Clean.{Leaves, all_goes}
+use Rattle.clean_law.proofs.Asked.{asking, ready_asks}
+use Rattle.fresh_law.specs.Fresh.{LeavesRight}
+use Rattle.fresh_law.proofs.Turned.{Turned, turned_on, none_or_idle}
+use Rattle.fresh_law.proofs.Outcome.{Left, Sends, stayed, turned, right_by}
+
+-- what is shown under a premise
+pub under_premise : {A : Type 0} {X : Type 0} (P : X → Type 0) (o : Option X) → (A → Gives P o) → Gives (λ x. A → P x) o
+under_premise P None f = tt
+under_premise P (Some x) f = f
+
+module _ (k : Cluster) (coherent : IsCoherent k) (few : FewEvents k) (s : Server) (here : server_at k.servers s.rest.number ≡ Some s) (t : ℕ) (y : ThreadState) (at : thread_in s.threads t ≡ Some y) (w : Lval) (m : ℕ) (deep : w.depth ≡ suc m) (code : slice_get k.code y.pc ≡ Some (instr.BorrowMut w)) where
+  abbrev n : ℕ
+  n = s.rest.number
+
+  abbrev i : Instr
+  i = instr.BorrowMut w
+
+  abbrev IsOk : Hand → Type 0
+  IsOk = Ok k coherent s here t y at
+
+  abbrev Put : Hand → Cluster
+  Put = put k coherent s here t y at
+
+  abbrev b : List Thing
+  b = all_standing n (without_thread s.threads t) ++ servers_things (others_of k.servers n)
+
+  abbrev holder : Lval
+  holder = record w { depth = m }
+
+  -- the hand's cluster has places
+  placed : (h : Hand) → IsOk h → HasPlaces (Put h)
+  placed h q = places k coherent s here t y at h q
+
+  abbrev start : HasWords (sight k)
+  start = coherent.sound.words.have_words
+
+  abbrev pub Ends_well : Stepped → Type 0
+  Ends_well = Left k coherent.sound few s here t y at i code
+
+  abbrev pub Sent : (ℕ → ℕ) → Rest → Type 0
+  Sent f r = Mailed (Light (asking f)) n s.rest.outbox r
+
+  -- each object is what it was, or turned, in a hand of which words see the same
+  pub record Ended (h2 : Hand) : Type 0 where
+    pub middle : Hand
+    pub ok : IsOk middle
+    pub turned : Turned k (Put middle) start
+    pub alike : HandAlike k.code n [] middle h2
+
+  abbrev pub Ends : Stepped → Type 0
+  Ends d = Ended d.hand
+
+  -- from what stands there a reference is made, and with each one objects are so: so they are with its thread put back
+  module _ (h : Hand) (sp : Spot) (ok : IsOk h) (mails : (f : ℕ → ℕ) → Sent f s.rest → Sent f h.work.rest) (X : Value → Type 0) (found : (v : Value) → value_at h sp ≡ Some v → X v)
+      (pushed : (v u : Value) → X v → mutable_from h.thread.phase holder v ≡ Some u → IsOk (go_on (push_temp u h)) → Gives Ends (committed (goes_on (Some (push_temp u h))))) where
+    -- where one is made
+    made_from : (v : Value) → value_at h sp ≡ Some v → (o : Option Value) → mutable_from h.thread.phase holder v ≡ o → CommittedOk IsOk (goes_on (option_map (λ u. push_temp u h) o)) → Gives Ends (committed (goes_on (option_map (λ u. push_temp u h) o)))
+    made_from v e None f after = tt
+    made_from v e (Some u) f after = pushed v u (found v e) f after
+
+    -- where one stands
+    by_value : (o : Option Value) → value_at h sp ≡ o → CommittedOk IsOk (goes_on (then_some o (λ v. option_map (λ u. push_temp u h) (mutable_from h.thread.phase holder v))))
+        → Gives Ends (committed (goes_on (then_some o (λ v. option_map (λ u. push_temp u h) (mutable_from h.thread.phase holder v)))))
+    by_value None e after = tt
+    by_value (Some v) e after = made_from v e (mutable_from h.thread.phase holder v) refl after
+
+    -- the sums afterwards
+    all_ok : CommittedOk IsOk (goes_on (borrow_mut w sp h))
+    all_ok = commits sums_kept n s.events t b 0 i sp h tt (λ z. absurd z) ok
+
+    -- the borrow ends so
+    ended : Gives Ends (committed (goes_on (borrow_mut w sp h)))
+    ended =
+        subst (λ d. CommittedOk IsOk (goes_on (borrow_mut_from w d sp h)) → Gives Ends (committed (goes_on (borrow_mut_from w d sp h)))) (sym deep) (by_value (value_at h sp) refl) all_ok
+
+    abbrev done : Option Stepped
+    done = committed (goes_on (borrow_mut w sp h))
+
+    abbrev Mails : Stepped → Type 0
+    Mails = Sends k coherent.sound few s here t y at i code (none_or_idle k)
+
+    mailed : Gives Mails done
+    mailed = under_premise (λ (d : Stepped). Sent (none_or_idle k) d.hand.work.rest) done (λ mail. ready_asks (none_or_idle k) 0 n s.rest.outbox i sp h (mails (none_or_idle k) mail))
+
+    abbrev Both : Stepped → Type 0
+    Both d = Ends d × Mails d
+
+    -- with its thread put back
+    pub left : Gives Ends_well (committed (commit 0 i sp h))
+    left =
+        both_give (SteppedOk sums_kept n s.events t b) Both Ends_well done (committed_keeps sums_kept n s.events t b (goes_on (borrow_mut w sp h)) all_ok) (both_give Ends Mails Both done ended mailed (λ d a c. (a, c)))
+        (λ d after both.
+        let x = both.0 in (
+          turned
+              (turned_on k (Put x.middle) (Put d.hand) (placed x.middle x.ok) (placed d.hand after) start x.turned
+              (all_goes.seen (Put x.middle) (Put d.hand) (placed x.middle x.ok) (placed d.hand after) refl (turned_round (hands_alike k coherent s here t y at [] x.middle d.hand x.ok after x.alike)))) both.1,
+          placed d.hand after,
+        ))
