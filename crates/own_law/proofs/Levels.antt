@@ -1,12 +1,12 @@
 -- What an owned value names has a type of fewer levels.
-use Rattle.std.proofs.Common.{◌≡◌, ℕ, suc, ◌<◌, Bool, true, false, List, [], ◌∷◌, refl, ap, arith}
+use Rattle.std.proofs.Common.{◌≡◌, ℕ, suc, ◌<◌, true, List, [], ◌∷◌, refl, ap, arith}
 use Rattle.fr_base.specs.declared.name.MutexNo.{MutexNo}
 use Rattle.fr_typing.specs.Kinds.{Owned, unit, int, box, mutex, task, same_owned}
 use Rattle.fr_typing.specs.Checks.{owned_levels}
 use Rattle.heap_partition.specs.declared.value.BoxPtr.{BoxPtr}
 use Rattle.heap_partition.specs.declared.value.Owned.{Owned as Value}
 use Rattle.heap_partition.specs.declared.value.Owned.TheVariants as owned
-use Rattle.heap_law.specs.OneHeap.{Node, object_n, mutex_n, task_n, Owner, a_thread, inside, outside}
+use Rattle.heap_law.specs.OneHeap.{Node, object_n, mutex_n, task_n, Owner, inside}
 use Rattle.heap_law.specs.Ranks.{Step, Falls}
 use Rattle.type_law.specs.Names.{NameTypes, fits}
 

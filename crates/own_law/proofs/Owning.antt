@@ -1,5 +1,5 @@
 -- Where the types of names agree with what stands for them, going from owners to what they own comes to an end.
-use Rattle.std.proofs.Common.{◌≡◌, inl, inr, ℕ, ◌+◌, ◌<◌, ◌&&◌, Bool, true, false, nat_lt, List, [], ◌∷◌, ◌++◌, Option, Some, None, refl, sym, ap, subst, ◌∙◌, arith}
+use Rattle.std.proofs.Common.{◌≡◌, inl, inr, ℕ, ◌<◌, ◌&&◌, Bool, true, false, nat_lt, List, [], ◌∷◌, ◌++◌, Option, Some, None, refl, sym, ap, subst, ◌∙◌, arith}
 use Rattle.std.proofs.lemmas.Bool.Decides.{nat_tests}
 use Rattle.fr_base.specs.declared.name.MutexNo.{MutexNo}
 use Rattle.fr_base.specs.declared.instruction.Instr.{Instr}
@@ -16,13 +16,13 @@ use Rattle.heap_law.specs.Sight.{Sight, sight}
 use Rattle.heap_law.specs.Walking.{instr_of}
 use Rattle.heap_law.specs.Paths.{joined_thread}
 use Rattle.heap_law.specs.Requests.{locked_mutex}
-use Rattle.heap_law.specs.OneHeap.{Node, object_n, mutex_n, task_n, Owner, a_thread, inside, outside, content_owner, result_owner, gift_owner, gift_owner_of, spot_owner}
+use Rattle.heap_law.specs.OneHeap.{object_n, mutex_n, task_n, Owner, a_thread, inside, outside, content_owner, result_owner, gift_owner, gift_owner_of, spot_owner}
 use Rattle.heap_law.specs.Ranks.{Step, steps_of, Falls}
 use Rattle.heap_law.specs.Rooted.{ownings_of, ownings}
 use Rattle.heap_law.specs.Coherent.{Holds, none_owns_itself}
 use Rattle.heap_law.proofs.Names.{and_right}
 use Rattle.heap_law.proofs.Ranks.{nodes_none}
-use Rattle.event_law.specs.Laws.{Gives, NumbersDiffer}
+use Rattle.event_law.specs.Laws.{NumbersDiffer}
 use Rattle.event_law.proofs.Results.{weaker}
 use Rattle.event_law.proofs.Applied.{handed_part}
 use Rattle.event_law.proofs.Sending.{each_event_sends}
@@ -31,7 +31,7 @@ use Rattle.type_law.specs.ClusterTypes.{misfit, content_gift, result_gift, gift_
 use Rattle.type_law.proofs.Branches.{found}
 use Rattle.own_law.specs.Owning.{Agrees, AgreeingEnd, EventsThatAgreeEnd}
 use Rattle.own_law.proofs.Gifts.{placed, telling, gifts_told}
-use Rattle.own_law.proofs.Levels.{type_of, level, own_steps, inside_falls}
+use Rattle.own_law.proofs.Levels.{level, own_steps, inside_falls}
 
 is_so : (b : Bool) → other b ≡ 0 → b ≡ true
 is_so true z = refl
