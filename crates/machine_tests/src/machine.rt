@@ -1,6 +1,6 @@
 //! The plain machine, step by step, on programs whose steps, waits and labels were worked out by hand.
 
-use borrow_check::check;
+use borrow_check::{CheckError, Checked, check};
 use fr_meaning::Pool;
 use fr_parse::parse;
 use fr_syntax::tokens;
@@ -59,12 +59,19 @@ const HOLDS: &str = "\
 0.2 1|Deadlocked None Err(Ended)
 ";
 
-// The machine at the start of a source's program.
-fn pool_of<R: Abort>(rt: &R, alloc: Global, source: &[u8]) -> Result<Pool, Fail> {
-    assert!(rt; source.len() <= 1_048_576);
-    let tokens = tokens(alloc, source)?;
+// The checked program of a source. One that is too long has a fault that no test expects.
+fn checked(alloc: Global, input: &[u8]) -> Result<Result<Checked, CheckError>, Fail> {
+    if input.len() > 1_048_576 {
+        return Ok(Err(CheckError::NoMemory));
+    }
+    let tokens = tokens(alloc, input)?;
     let tree = parse(alloc, &tokens)?;
-    let checked = check(alloc, tree)?;
+    Ok(check(alloc, tree))
+}
+
+// The machine at the start of a source's program.
+fn pool_of(alloc: Global, source: &str) -> Result<Pool, Fail> {
+    let checked = checked(alloc, source.as_bytes())??;
     Ok(Pool::new(alloc, &checked)?)
 }
 
@@ -80,7 +87,7 @@ fn told(alloc: Global, pool: &mut Pool, call: &OrderLine) -> Result<String, Fail
 
 // The machine answers each call of the source's table as the row says.
 fn answers<R: Abort>(rt: &R, alloc: Global, source: &str, rows: &str) -> Result<Pool, Fail> {
-    let mut pool = pool_of(rt, alloc, source.as_bytes())?;
+    let mut pool = pool_of(alloc, source)?;
     for row in rows.lines() {
         let (call, want) = row.split_once('|').expect(rt, "an answer");
         let order = read_order(alloc, format!(in alloc; "{call}\n")?.as_bytes(), 0)?;
