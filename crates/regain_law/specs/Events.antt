@@ -1,0 +1,13 @@
+-- EACH EVENT KEEPS THE WORDS (this project's rule), whatever it is.
+use Rattle.journal.specs.View.{EntryView}
+use Rattle.server_model.specs.declared.event.Event.{Event}
+use Rattle.server_model.specs.Servers.{Cluster}
+use Rattle.server_model.specs.Clusters.{apply}
+use Rattle.type_law.specs.ClusterTypes.{IsCoherent}
+use Rattle.event_law.specs.Laws.{Gives, FewEvents}
+use Rattle.prepare_law.specs.Requests.{WordsHold}
+
+-- from a coherent cluster in which few events were done: after each event that has a result, its messages handed over, each object has a word, references know the words at
+-- their holders, dirty references are alone, and first words that were left are no words of today
+abbrev pub EventsKeepWords : Type 0
+EventsKeepWords = (k : Cluster) (e : Event) → IsCoherent k → FewEvents k → Gives (λ (d : Cluster × EntryView). WordsHold d.0) (apply k e)
