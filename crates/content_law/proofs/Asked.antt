@@ -1,18 +1,17 @@
 -- A thread whose step ends in a request for a copy or an object has the marks in its slots that it had.
-use Rattle.std.proofs.Common.{◌≡◌, ℕ, ◌+◌, true, false, List, [], ◌∷◌, ◌++◌, refl, ap, arith}
+use Rattle.std.proofs.Common.{◌≡◌, ℕ, ◌+◌, false, List, [], ◌∷◌, refl, arith}
 use Rattle.fr_base.specs.declared.name.MutexNo.{MutexNo}
 use Rattle.join_home.specs.Tasks.{TaskState, going, let_go, kept, asked, in_pair}
 use Rattle.thread_state.specs.View.{ThreadState}
 use Rattle.thread_state.specs.declared.value.Value.{Value}
 use Rattle.thread_state.specs.declared.value.Value.TheVariants as value
-use Rattle.server_model.specs.Servers.{Rest}
 use Rattle.server_model.specs.Work.{Hand}
 use Rattle.heap_law.specs.Names.{tot}
 use Rattle.heap_law.specs.Things.{at_slot, at_temp, in_cell, Thing, holds, shares, borrows, locks, lies, flies, vacant, retired, copied, uses, sent, stands, at_home, queued, noted, counts, thread_things}
 use Rattle.heap_law.specs.Sharing.{spot_mutex}
 use Rattle.heap_law.proofs.Sums.{tot-append}
 use Rattle.event_law.proofs.Bags.{rest_things}
-use Rattle.still_law.specs.Shows.{Sign, nothing, a_value, a_thread, sign_of, note_sign}
+use Rattle.still_law.specs.Shows.{Sign, a_value, a_thread, sign_of, note_sign}
 use Rattle.still_law.proofs.Sites.{shown}
 use Rattle.still_law.proofs.Hands.{hand_things, HandStill}
 use Rattle.content_law.proofs.Weigh.{mark, weight_of, weigh, body, thread_sum, rest_sum}

@@ -1,5 +1,5 @@
 -- The content of each mutex stands in exactly one place, after each event of a coherent cluster.
-use Rattle.std.proofs.Common.{◌≡◌, inl, inr, ℕ, ◌+◌, ◌==◌, ◌&&◌, Bool, true, false, is_some, List, [], ◌∷◌, Option, Some, None, refl, sym, ap, ap₂, subst, ◌∙◌, arith}
+use Rattle.std.proofs.Common.{◌≡◌, inl, inr, ℕ, ◌+◌, ◌==◌, ◌&&◌, Bool, true, false, is_some, List, [], ◌∷◌, Option, Some, None, refl, sym, ap, subst, ◌∙◌, arith}
 use Rattle.std.specs.Prelude.{slice_get}
 use Rattle.std.proofs.lemmas.Bool.{eq-eqb}
 use Rattle.fr_base.specs.declared.name.MutexNo.{MutexNo}
@@ -16,12 +16,11 @@ use Rattle.server_model.specs.Clusters.{done_at, act_at, apply}
 use Rattle.server_model.specs.Events.{enabled, does}
 use Rattle.heap_law.specs.Names.{tot, one, other, if_so, same_mutex, Among}
 use Rattle.heap_law.specs.Things.{Spot, in_slot, in_temp, as_gift, as_content, as_result, in_hand, at_slot, at_temp, in_cell, Thing, holds, shares, borrows, locks, lies, flies, vacant, retired, copied, uses, sent, stands, at_home, queued, noted, counts, things_of}
-use Rattle.heap_law.specs.Follow.{Standing, Ground, threads_in}
+use Rattle.heap_law.specs.Follow.{Standing, threads_in}
 use Rattle.heap_law.specs.Sight.{Sight, sight}
 use Rattle.heap_law.specs.Weights.{is_home_of}
 use Rattle.heap_law.specs.Requests.{is_mutex, locked_mutex}
-use Rattle.heap_law.specs.Sharing.{is_content_of, gift_content, contents, spot_mutex, some_mutex, held_mutexes, gift_mutex}
-use Rattle.heap_law.specs.Balances.{Agree}
+use Rattle.heap_law.specs.Sharing.{is_content_of, gift_content, contents, spot_mutex, some_mutex, held_mutexes}
 use Rattle.heap_law.specs.Coherent.{one_content}
 use Rattle.heap_law.proofs.Names.{same_mutexes}
 use Rattle.heap_law.proofs.Shown.{agree_none}
@@ -32,10 +31,9 @@ use Rattle.event_law.proofs.Events.{tot-server}
 use Rattle.event_law.proofs.Applied.{handed_on}
 use Rattle.event_law.proofs.Sending.{each_event_sends}
 use Rattle.local_law.specs.Laws.{EachCoherentEventKeeps}
-use Rattle.ask_law.specs.Standing.{locked, phase_off, gift_at, gift_off, off}
+use Rattle.ask_law.specs.Standing.{locked, gift_at, gift_off, off}
 use Rattle.content_law.specs.Contents.{OneContent, EachEventLeavesOneContent}
-use Rattle.content_law.proofs.Weigh.{mark, home, weight_of, weigh, body, server_sum, home_sum}
-use Rattle.content_law.proofs.Mutexes.{homes}
+use Rattle.content_law.proofs.Weigh.{weigh, server_sum, home_sum}
 use Rattle.content_law.proofs.Deliveries.{Then, delivers, evicts, migrates}
 use Rattle.content_law.proofs.Gifts.{gift_of, bare_gift, gifts}
 use Rattle.content_law.proofs.Steps.{steps}

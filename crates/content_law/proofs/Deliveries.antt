@@ -1,5 +1,5 @@
 -- A delivery, an eviction and a migration leave the contents and homes of a server balanced.
-use Rattle.std.proofs.Common.{◌≡◌, ℕ, zero, suc, ◌+◌, ◌-◌, ◌==◌, Bool, true, false, nat_lt, if◌then◌else◌, List, [], ◌∷◌, ◌++◌, map, Option, Some, None, refl, sym, ap, ap₂, subst, ◌∙◌, arith}
+use Rattle.std.proofs.Common.{◌≡◌, ℕ, zero, suc, ◌+◌, ◌-◌, ◌==◌, Bool, true, false, nat_lt, if◌then◌else◌, List, [], ◌∷◌, ◌++◌, Option, Some, None, refl, ap, ◌∙◌, arith}
 use Rattle.std.specs.Prelude.{slice_get, remove, option_map}
 use Rattle.fr_base.specs.Lists.{is_in}
 use Rattle.fr_base.specs.declared.name.MutexNo.{MutexNo}
@@ -11,11 +11,10 @@ use Rattle.heap_partition.specs.declared.value.Owned.{Owned}
 use Rattle.heap_partition.specs.declared.value.Owned.TheVariants as owned
 use Rattle.read_cache.specs.Cache.{Copy, can_pin, can_fill, can_evict}
 use Rattle.migration.specs.Packing.{unpin_all, used_words, packed}
-use Rattle.mutex_home.specs.Mutexes.{Mutex, Mutexes}
 use Rattle.join_home.specs.Tasks.{Task, ended}
 use Rattle.join_home.specs.declared.answers.EndedAs.{EndedAs}
 use Rattle.join_home.specs.declared.answers.EndedAs.TheVariants as over
-use Rattle.thread_state.specs.View.{ThreadState, new_thread}
+use Rattle.thread_state.specs.View.{ThreadState}
 use Rattle.thread_state.specs.declared.phase.Phase.{Phase}
 use Rattle.thread_state.specs.declared.phase.Phase.TheVariants as phase
 use Rattle.thread_state.specs.declared.value.Value.{Value}
@@ -34,18 +33,17 @@ use Rattle.server_model.specs.Prepare.{Access, ReadTo, ReadPointer, WriteTo, Len
 use Rattle.server_model.specs.Objects.{deliver_fetch, waits_for_cell, filled, deliver_fetched, deliver_move, chased, waits_under, arrived_at, arrived_slot, passed_spot, arrived_write, arrived_lend, arrived_end, arrived, instr_access, deliver_moved, deliver_drop}
 use Rattle.server_model.specs.Sharing.{given, deliver_lock, waits_for_lock, deliver_granted, deliver_unlock, deliver_dup, waits_for_dup, deliver_dupped}
 use Rattle.server_model.specs.Joining.{arrive, deliver_join, waits_for_join, deliver_joined, got_par, pair_over, end_answer, deliver_finished}
-use Rattle.server_model.specs.Events.{begin_work, begin_at, left_by, received, release, deliver_message, deliver, evict_copy, does}
+use Rattle.server_model.specs.Events.{begin_work, begin_at, left_by, received, release, deliver_message, evict_copy, does}
 use Rattle.heap_law.specs.Names.{tot}
 use Rattle.event_law.specs.Laws.{Gives}
 use Rattle.event_law.proofs.Results.{then_gives, map_gives, over_gives, bind_gives, both_give, test_gives, stand_gives, weaker}
 use Rattle.event_law.proofs.Bags.{thread_number}
 use Rattle.event_law.proofs.KnownPlaces.{Told, pointer_keeps}
-use Rattle.still_law.specs.Shows.{frame_of}
 use Rattle.still_law.proofs.Readied.{Readied, Kept, set_ready}
-use Rattle.content_law.proofs.Weigh.{mark, mail, mail_sent, weight_of, body}
+use Rattle.content_law.proofs.Weigh.{mark, mail, weight_of, body}
 use Rattle.content_law.proofs.Mutexes.{homes}
 use Rattle.content_law.proofs.Rests.{Balance, RestBalance, WorkBalance, says, says_none, gives_up, fetches, moves, drops, locks, unlocks, dups, releases, joins}
-use Rattle.content_law.proofs.Marks.{framed, unpinned_marks}
+use Rattle.content_law.proofs.Marks.{unpinned_marks}
 use Rattle.content_law.proofs.Slots.{ready_held}
 
 -- LISTS OF THREADS

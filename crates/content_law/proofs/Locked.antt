@@ -1,5 +1,5 @@
 -- The mutex at the place of a lock whose content has come is the one that was there, after each event.
-use Rattle.std.proofs.Common.{◌≡◌, ◌≢◌, inl, inr, ℕ, zero, suc, ◌+◌, ◌-◌, ◌%◌, ◌^◌, ◌≤◌, ◌==◌, ◌&&◌, ◌||◌, not, is_some, Bool, true, false, List, [], ◌∷◌, Option, Some, None, refl, sym, ap, subst, ◌∙◌, arith}
+use Rattle.std.proofs.Common.{◌≡◌, ◌≢◌, inl, inr, ℕ, zero, suc, ◌-◌, ◌%◌, ◌^◌, ◌≤◌, ◌==◌, ◌&&◌, ◌||◌, not, is_some, Bool, true, false, List, [], ◌∷◌, Option, Some, None, refl, sym, ap, subst, ◌∙◌, arith}
 use Rattle.std.specs.Prelude.{slice_get}
 use Rattle.std.proofs.lemmas.Bool.{eq-eqb}
 use Rattle.fr_typing.proofs.PlaceLemmas.{eq_cases}
@@ -10,7 +10,7 @@ use Rattle.fr_base.specs.declared.instruction.Instr.{Instr}
 use Rattle.fr_base.specs.declared.instruction.Instr.TheVariants as instr
 use Rattle.fr_plain.specs.PlainState.{SameState, place_in}
 use Rattle.heap_partition.specs.declared.value.Owned.{Owned}
-use Rattle.thread_state.specs.View.{ThreadState, is_over}
+use Rattle.thread_state.specs.View.{is_over}
 use Rattle.thread_state.specs.declared.phase.Phase.{Phase}
 use Rattle.thread_state.specs.declared.phase.Phase.TheVariants as phase
 use Rattle.journal.specs.View.{EntryView}
@@ -25,7 +25,7 @@ use Rattle.heap_law.specs.Sight.{sight}
 use Rattle.heap_law.specs.Weights.{is_thread}
 use Rattle.heap_law.specs.Walking.{instr_of}
 use Rattle.heap_law.specs.Naming.{threads, named_mutexes, started_at, zeroth_thread, zeroth_mutex, uncounted_thread, uncounted_mutex}
-use Rattle.heap_law.specs.Requests.{home_of, mutex_of, is_got, early_gift, locked_mutex}
+use Rattle.heap_law.specs.Requests.{home_of, mutex_of, is_got, early_gift}
 use Rattle.heap_law.specs.OneHeap.{one_heap, is_given_thread, running_at}
 use Rattle.heap_law.specs.Coherent.{Sentence, Holds, gifts_got, names_counted, counts_from_one}
 use Rattle.heap_law.proofs.Names.{left_none}
@@ -44,14 +44,14 @@ use Rattle.still_law.specs.Shows.{ShownThread, shown_thread}
 use Rattle.still_law.proofs.Told.{told, at_thread, thread_told, found}
 use Rattle.value_law.proofs.Sentences.{names_kept, counts_kept}
 use Rattle.undone_law.proofs.Undone.{each_undone}
-use Rattle.ask_law.specs.Standing.{locked, gift_at, gift_off, off, StandBy}
+use Rattle.ask_law.specs.Standing.{StandBy}
 use Rattle.ask_law.proofs.GiftsGot.{gifts_got_kept}
 use Rattle.ask_law.proofs.AtInstructions.{asked_there}
 use Rattle.ask_law.proofs.Parents.{named_none}
 use Rattle.ask_law.proofs.SameHeap.{Runs, running_place, runs, SeesSame}
 use Rattle.ask_law.proofs.SameHeap as same_heap
 use Rattle.wait_law.proofs.Commits.{is_calm}
-use Rattle.wait_law.proofs.Clusters.{Stepping, Leaves, Done, step_done}
+use Rattle.wait_law.proofs.Clusters.{Done, step_done}
 use Rattle.wait_law.proofs.Places.{StillThere, still_there, reads_apart}
 use Rattle.wait_law.proofs.Places as places_of
 

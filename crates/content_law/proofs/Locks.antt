@@ -7,7 +7,6 @@ use Rattle.fr_base.specs.declared.instruction.Instr.{Instr}
 use Rattle.fr_base.specs.declared.instruction.Instr.TheVariants as instr
 use Rattle.fr_base.specs.declared.step.Fresh.TheVariants as fresh
 use Rattle.fr_typing.specs.Kinds.{Owned as OwnedType, own, mutex, whole}
-use Rattle.fr_code.specs.CodeTypes.{Entry}
 use Rattle.fr_store.specs.Below.{ExactOf}
 use Rattle.fr_store.specs.Keys.{slot_k}
 use Rattle.heap_partition.specs.declared.value.Owned.{Owned}
@@ -17,15 +16,15 @@ use Rattle.read_cache.specs.Cache.{Copy}
 use Rattle.thread_state.specs.View.{ThreadState}
 use Rattle.thread_state.specs.declared.value.Value.{Value}
 use Rattle.thread_state.specs.declared.value.Value.TheVariants as value
-use Rattle.server_model.specs.Servers.{Rest, Server, Cluster}
+use Rattle.server_model.specs.Servers.{Server, Cluster}
 use Rattle.server_model.specs.Work.{Hand, mutex_of, then_some, with_cache}
 use Rattle.server_model.specs.Places.{Spot, in_slot, load_at}
 use Rattle.server_model.specs.Prepare.{Prepared, ready, requested, nothing, read_stars, access_of}
-use Rattle.server_model.specs.Commit.{waiting, go_on, goes_on, take_gift, ask_lock, push_content, mutex_at, lock, commit}
-use Rattle.server_model.specs.Events.{Stepped, begin_work, done_step, wait_step, committed, prepared, step}
+use Rattle.server_model.specs.Commit.{waiting, go_on, goes_on, take_gift, ask_lock, push_content, mutex_at, lock}
+use Rattle.server_model.specs.Events.{Stepped, begin_work, done_step, committed, prepared, step}
 use Rattle.heap_law.specs.Names.{tot}
 use Rattle.heap_law.specs.Things.{Location}
-use Rattle.heap_law.specs.Follow.{Standing, Ground, value_in, value_behind, locate, value_at}
+use Rattle.heap_law.specs.Follow.{Standing, Ground, value_in, value_behind, locate}
 use Rattle.heap_law.specs.Sight.{sight}
 use Rattle.heap_law.specs.Requests as requests
 use Rattle.heap_law.specs.Sharing.{some_mutex}

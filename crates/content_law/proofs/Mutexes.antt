@@ -1,5 +1,5 @@
 -- What the mutexes of a home weigh once one is asked for, comes back, or has another share: contents that are in, and homes.
-use Rattle.std.proofs.Common.{◌≡◌, ℕ, ◌+◌, ◌-◌, ◌^◌, ◌==◌, ◌&&◌, nat_lt, Bool, true, false, is_some, if◌then◌else◌, List, [], ◌∷◌, ◌++◌, Option, Some, None, refl, sym, ap, ap₂, subst, ◌∙◌, arith}
+use Rattle.std.proofs.Common.{◌≡◌, ℕ, ◌+◌, ◌-◌, ◌^◌, ◌==◌, ◌&&◌, nat_lt, Bool, true, false, is_some, if◌then◌else◌, List, [], ◌∷◌, ◌++◌, Option, Some, None, refl, sym, ap, subst, ◌∙◌, arith}
 use Rattle.fr_base.specs.declared.name.MutexNo.{MutexNo}
 use Rattle.fr_base.specs.Names.{same_mutex}
 use Rattle.heap_partition.specs.declared.value.Owned.{Owned}

@@ -1,6 +1,5 @@
 -- What is said at a server leaves its contents and homes balanced, but for a content that comes or goes with a message.
 use Rattle.std.proofs.Common.{◌≡◌, ℕ, ◌+◌, ◌==◌, Bool, true, false, if◌then◌else◌, List, [], ◌∷◌, ◌++◌, Option, Some, None, refl, arith}
-use Rattle.std.specs.Prelude.{option_map}
 use Rattle.fr_base.specs.declared.name.MutexNo.{MutexNo}
 use Rattle.fr_base.specs.declared.name.ObjNo.{ObjNo}
 use Rattle.fr_base.specs.declared.release.Released.{Released}
@@ -9,7 +8,7 @@ use Rattle.global_addr.specs.Words.{server_of}
 use Rattle.heap_partition.specs.declared.value.Owned.{Owned}
 use Rattle.heap_partition.specs.declared.value.Owned.TheVariants as owned
 use Rattle.owner_box.specs.Partition.{freed}
-use Rattle.mutex_home.specs.Mutexes.{Mutex, Mutexes, ask, give_back, more, less}
+use Rattle.mutex_home.specs.Mutexes.{Mutexes, ask, give_back, more, less}
 use Rattle.mutex_home.specs.declared.answers.Asked.{Asked}
 use Rattle.mutex_home.specs.declared.answers.Asked.TheVariants as asked
 use Rattle.mutex_home.specs.declared.answers.Back.{Back}
@@ -27,12 +26,11 @@ use Rattle.server_model.specs.Objects.{deliver_fetch, deliver_move, deliver_drop
 use Rattle.server_model.specs.Sharing.{answer_lock, deliver_lock, answer_back, deliver_unlock, deliver_dup, give_up_left}
 use Rattle.server_model.specs.Joining.{answer_join, deliver_join}
 use Rattle.server_model.specs.Events.{release}
-use Rattle.heap_law.specs.Names.{tot}
 use Rattle.heap_law.proofs.Sums.{tot-append}
 use Rattle.event_law.specs.Laws.{Gives}
-use Rattle.event_law.proofs.Results.{map_gives, over_gives, weaker}
-use Rattle.content_law.proofs.Weigh.{home, mail, mail_sent, weight}
-use Rattle.content_law.proofs.Mutexes.{ins, homes, given, again, Asks, asks, Backs, backs, Even, mores, Left, lesses}
+use Rattle.event_law.proofs.Results.{map_gives, over_gives}
+use Rattle.content_law.proofs.Weigh.{mail, mail_sent, weight}
+use Rattle.content_law.proofs.Mutexes.{homes, Asks, asks, Backs, backs, Even, mores, Left, lesses}
 
 module _ (c : MutexNo → ℕ) (b : ThreadState → ℕ) where
   -- so much more of contents than of homes: as a and h were

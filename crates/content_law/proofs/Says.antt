@@ -1,13 +1,12 @@
 -- What a step says: making a place ready says nothing but a request for a copy or an object, and the plain step of each instruction but an unlock leaves contents
 -- and homes balanced.
-use Rattle.std.proofs.Common.{◌≡◌, ℕ, ◌+◌, ◌==◌, Bool, true, false, if◌then◌else◌, List, [], ◌∷◌, ◌++◌, Option, Some, None, refl, sym, ap, subst, ◌∙◌, arith}
-use Rattle.fr_base.specs.Rooms.{WithRoom}
+use Rattle.std.proofs.Common.{◌≡◌, ℕ, ◌+◌, ◌==◌, Bool, true, false, if◌then◌else◌, List, [], ◌∷◌, ◌++◌, Option, refl, ap, ◌∙◌, arith}
 use Rattle.fr_base.specs.declared.name.MutexNo.{MutexNo}
 use Rattle.fr_base.specs.declared.instruction.Instr.{Instr}
 use Rattle.fr_base.specs.declared.instruction.Instr.TheVariants as instr
 use Rattle.global_addr.specs.Words.{server_of}
 use Rattle.heap_partition.specs.declared.value.Owned.{Owned}
-use Rattle.mutex_home.specs.Mutexes.{Mutexes, can_make, make}
+use Rattle.mutex_home.specs.Mutexes.{Mutexes, can_make}
 use Rattle.join_home.specs.Tasks.{can_begin, can_begin_pair}
 use Rattle.thread_state.specs.View.{ThreadState, new_thread}
 use Rattle.thread_state.specs.declared.phase.Phase.TheVariants as phase
@@ -17,7 +16,7 @@ use Rattle.server_msgs.specs.declared.message.Message.{Message}
 use Rattle.server_msgs.specs.declared.message.Message.TheVariants as message
 use Rattle.journal.specs.declared.act.Act.TheVariants as act
 use Rattle.server_model.specs.Servers.{Sent, Rest}
-use Rattle.server_model.specs.Work.{Work, Hand, sent_from, then_some, with_phase}
+use Rattle.server_model.specs.Work.{Work, Hand, sent_from, with_phase}
 use Rattle.server_model.specs.NewWords.{NewWord, can_grow, issue_placed}
 use Rattle.server_model.specs.Places.{Spot}
 use Rattle.server_model.specs.Start.{next_thread, server_for, start_thread, capture}

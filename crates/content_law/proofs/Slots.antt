@@ -1,7 +1,7 @@
 -- The plain step of each instruction but a lock and an unlock leaves the marks in its thread's slots, where it puts nothing over one.
-use Rattle.std.proofs.Common.{◌≡◌, ℕ, ℤ, zero, suc, ◌+◌, ◌==◌, Bool, true, false, nat_lt, if◌then◌else◌, List, [], ◌∷◌, ◌++◌, length, Option, Some, None, refl, sym, ap, ◌∙◌, arith}
+use Rattle.std.proofs.Common.{◌≡◌, ℕ, ℤ, zero, suc, ◌+◌, ◌==◌, Bool, true, false, nat_lt, if◌then◌else◌, List, [], length, Option, Some, None, refl, sym, ap, ◌∙◌, arith}
 use Rattle.std.specs.Bool.{⊤}
-use Rattle.std.specs.Prelude.{slice_get, slice_set, option_map}
+use Rattle.std.specs.Prelude.{slice_get, option_map}
 use Rattle.fr_base.specs.Lists.{last_of}
 use Rattle.fr_base.specs.Rooms.{WithRoom}
 use Rattle.fr_base.specs.declared.name.MutexNo.{MutexNo}
@@ -27,13 +27,13 @@ use Rattle.thread_state.specs.declared.phase.Phase.TheVariants as phase
 use Rattle.thread_state.specs.declared.value.Value.{Value}
 use Rattle.thread_state.specs.declared.value.Value.TheVariants as value
 use Rattle.journal.specs.declared.act.Act.TheVariants as act
-use Rattle.server_model.specs.Work.{Hand, Popped, push_temp, with_cache, with_phase, front_of, pop, pop_temp, pop_slot, pop_owned, pop_int, taken_as, owned_of, int_of, task_of, mutex_of, then_some, working, with_partition, leads_here, label_all}
-use Rattle.server_model.specs.NewWords.{NewWord, issue_placed}
+use Rattle.server_model.specs.Work.{Hand, Popped, push_temp, with_cache, with_phase, front_of, pop, pop_temp, pop_slot, pop_owned, pop_int, taken_as, owned_of, int_of, task_of, then_some, working, with_partition, leads_here, label_all}
+use Rattle.server_model.specs.NewWords.{issue_placed}
 use Rattle.server_model.specs.Places.{Spot, in_slot, on_top, in_cell, in_copy, nowhere, cell_at, value_at, load_at, note_slot, note_write, put_at, put_slot, second_of, written}
 use Rattle.server_model.specs.Drop.{unpin_ref, finished_at, drop_value}
 use Rattle.server_model.specs.Start.{next_thread, capture}
-use Rattle.server_model.specs.Commit.{next_object, push_box, Committed, done, waits, refused, done_where, go_on, goes_on, waiting, let_slot, label_dropped, replace_slot, store_labels, store_at, replace_at, assign, take_out, read, borrow_from, shared_from, borrow_mut_from, mutable_from, discard, drop_slot, make_box, box_up, arith as calculate, print, begun, spawn_with, ask_join, take_gift, join, pair_begun, par_with, par_end, end_with, end_thread, mutex_made, mutex, mutex_at, ask_dup, dup, ask_lock, push_content, lock, commit, settle}
-use Rattle.server_model.specs.Events.{Stepped, done_step, committed}
+use Rattle.server_model.specs.Commit.{next_object, push_box, Committed, done, waits, refused, done_where, go_on, goes_on, waiting, let_slot, label_dropped, replace_slot, store_labels, store_at, replace_at, assign, take_out, read, borrow_from, shared_from, borrow_mut_from, mutable_from, discard, drop_slot, make_box, arith as calculate, print, begun, spawn_with, ask_join, take_gift, join, pair_begun, par_with, par_end, end_with, mutex_at, dup, commit, settle}
+use Rattle.server_model.specs.Events.{Stepped, committed}
 use Rattle.mutex_home.specs.Mutexes.{can_make}
 use Rattle.join_home.specs.Tasks.{can_begin, can_begin_pair}
 use Rattle.heap_law.specs.Names.{tot}

@@ -1,6 +1,5 @@
 -- A step leaves the contents and homes of its server balanced: a mark comes where a content's gift goes, and goes where the content is sent.
-use Rattle.std.proofs.Common.{◌≡◌, ℕ, ◌+◌, ◌==◌, ◌&&◌, not, Bool, true, false, if◌then◌else◌, List, [], ◌∷◌, ◌++◌, map, Option, Some, None, refl, sym, ap, subst, ◌∙◌, arith}
-use Rattle.std.specs.Bool.{⊤}
+use Rattle.std.proofs.Common.{◌≡◌, ℕ, ◌+◌, Bool, true, false, List, [], ◌∷◌, ◌++◌, map, Option, Some, None, refl, ap, subst, ◌∙◌, arith}
 use Rattle.std.specs.Prelude.{slice_get, option_map, is_some}
 use Rattle.fr_base.specs.Lists.{last_of}
 use Rattle.fr_base.specs.declared.name.MutexNo.{MutexNo}
@@ -8,7 +7,6 @@ use Rattle.fr_base.specs.declared.place.Lval.{Lval}
 use Rattle.fr_base.specs.declared.instruction.Instr.{Instr}
 use Rattle.fr_base.specs.declared.instruction.Instr.TheVariants as instr
 use Rattle.fr_base.specs.declared.step.Fresh.TheVariants as fresh
-use Rattle.fr_base.specs.declared.settings.Options.{Options}
 use Rattle.heap_partition.specs.declared.value.Owned.{Owned}
 use Rattle.migration.specs.Packing.{unpin_all}
 use Rattle.read_cache.specs.Cache.{Copy}
@@ -21,13 +19,12 @@ use Rattle.server_msgs.specs.declared.message.Message.TheVariants as message
 use Rattle.journal.specs.View.{EntryView}
 use Rattle.server_model.specs.declared.event.What.TheVariants.{Step}
 use Rattle.server_model.specs.Servers.{Rest, Server, Cluster, server_at}
-use Rattle.server_model.specs.Work.{Hand, Popped, thread_in, set_thread, without_thread, then_some, front_of, pop_slot, taken_as, owned_of, with_cache, sent_from}
-use Rattle.server_model.specs.Prepare.{Prepared, ready, requested, nothing, access_of, prepare, read_stars}
-use Rattle.server_model.specs.Places.{nowhere, in_slot}
-use Rattle.server_model.specs.Commit.{Committed, done, waits, refused, goes_on, go_on, held_of, send_content, unlock, commit, settle}
-use Rattle.server_model.specs.Events.{can_step, enabled, Stepped, begin_work, done_step, wait_step, committed, prepared, step, step_in, stepped, does}
+use Rattle.server_model.specs.Work.{Hand, Popped, thread_in, then_some, pop_slot, taken_as, owned_of, with_cache, sent_from}
+use Rattle.server_model.specs.Prepare.{Prepared, ready, requested, nothing, access_of, prepare}
+use Rattle.server_model.specs.Commit.{Committed, done, waits, refused, goes_on, go_on, held_of, send_content, unlock, commit}
+use Rattle.server_model.specs.Events.{can_step, enabled, Stepped, begin_work, done_step, committed, prepared, step, step_in, stepped, does}
 use Rattle.heap_law.specs.Names.{tot, other, if_so}
-use Rattle.heap_law.specs.Things.{Thing, at_temp, things_at, gift_things, walk_things, slot_things, temp_things, thread_things, things_of}
+use Rattle.heap_law.specs.Things.{things_at, gift_things, walk_things, slot_things, temp_things, things_of}
 use Rattle.heap_law.specs.Sight.{sight}
 use Rattle.heap_law.specs.Requests.{is_par_end, is_par, same_truth, par_end}
 use Rattle.heap_law.specs.Sharing.{some_mutex, loose_mark}
@@ -40,7 +37,7 @@ use Rattle.event_law.proofs.Bags.{all_standing, rest_things, server_same, thread
 use Rattle.event_law.proofs.Events.{tot-server}
 use Rattle.event_law.proofs.GiftsTaken.{none_here, gift_fits}
 use Rattle.event_law.proofs.QuietSteps.{GiftFits}
-use Rattle.still_law.specs.Shows.{Frame, frame_of}
+use Rattle.still_law.specs.Shows.{frame_of}
 use Rattle.still_law.proofs.Addresses.{in_place}
 use Rattle.still_law.proofs.Leaving.{others, placed_here}
 use Rattle.still_law.proofs.Hands.{IsQuiet}
@@ -48,19 +45,19 @@ use Rattle.still_law.proofs.Readied.{Readied, IsPlaced}
 use Rattle.still_law.proofs.Prepares.{prepare_shows, Fine as Shows}
 use Rattle.still_law.proofs.Undone.{step_quiet}
 use Rattle.local_law.proofs.Small.{Made}
-use Rattle.local_law.proofs.Plainly.{Ends, EndsStep}
-use Rattle.local_law.proofs.Goes.{Left, Goes, IsAsking, on, waits_pair, is_over, asks_cell, asks_home, gets_cell, gets_gift, goes_pair, thread_goes}
+use Rattle.local_law.proofs.Plainly.{Ends}
+use Rattle.local_law.proofs.Goes.{Goes, IsAsking, on, waits_pair, is_over, asks_cell, asks_home, gets_cell, gets_gift, goes_pair, thread_goes}
 use Rattle.result_law.proofs.Known.{Steps, able}
 use Rattle.ask_law.specs.Standing.{locked}
 use Rattle.ask_law.proofs.GiftsGot.{Bare, left_none, steps_bare}
 use Rattle.content_law.proofs.Weigh.{mark, weight_of, body}
 use Rattle.content_law.proofs.Mutexes.{homes}
-use Rattle.content_law.proofs.Rests.{RestBalance, says}
+use Rattle.content_law.proofs.Rests.{RestBalance}
 use Rattle.content_law.proofs.Marks.{framed, last_sum}
 use Rattle.content_law.proofs.Slots.{ready_held, LocksNone, Slots, StepSlots, committing}
 use Rattle.content_law.proofs.Slots as slots
 use Rattle.content_law.proofs.Says.{F, L, sent_weight, sent_mutexes, same_weight, prepares, committed_balance}
-use Rattle.content_law.proofs.Deliveries.{Weighs, Then, set_threads}
+use Rattle.content_law.proofs.Deliveries.{Then, set_threads}
 use Rattle.content_law.proofs.Asked.{asked_held}
 use Rattle.content_law.proofs.Unmarked.{clear_for}
 use Rattle.content_law.proofs.Gifts.{gift_of, bare_gift, unlocked_gift, gifts}

@@ -1,5 +1,5 @@
 -- By the table of the code, no mark of a lock stands where an instruction puts something over what stands there, or lets it go.
-use Rattle.std.proofs.Common.{◌≡◌, ℕ, zero, suc, ◌-◌, ◌≤◌, Bool, true, false, List, [], ◌∷◌, length, map, Option, Some, None, is_some, refl, sym, ap, subst, ◌∙◌, arith}
+use Rattle.std.proofs.Common.{◌≡◌, ℕ, zero, suc, ◌-◌, true, false, List, [], ◌∷◌, length, map, Option, Some, refl, sym, ap, subst, ◌∙◌, arith}
 use Rattle.std.specs.Bool.{⊤}
 use Rattle.std.specs.Prelude.{slice_get, reverse}
 use Rattle.std.proofs.lemmas.List.{length-map}
@@ -12,7 +12,6 @@ use Rattle.fr_base.specs.declared.instruction.Instr.TheVariants as instr
 use Rattle.fr_typing.specs.Kinds.{own, shared, mutable, view, Piece, whole, gone, boxed}
 use Rattle.fr_code.specs.CodeTypes.{Entry, Table, InstrTypes, i_drop}
 use Rattle.fr_code.specs.CodeTable.{Leads}
-use Rattle.fr_store.specs.Keys.{slot_k}
 use Rattle.fr_store.proofs.Rows.{found_place}
 use Rattle.heap_partition.specs.declared.value.Cell.{Cell}
 use Rattle.owner_box.specs.View.{PartitionState}
@@ -22,14 +21,14 @@ use Rattle.thread_state.specs.declared.value.Value.TheVariants as value
 use Rattle.server_model.specs.Servers.{Server, Cluster}
 use Rattle.server_model.specs.Work.{Hand}
 use Rattle.server_model.specs.Places.{Spot, in_slot}
-use Rattle.server_model.specs.Prepare.{Prepared, ready, assigned, read_or_taken, access_of, prepare, read_stars, write_stars}
+use Rattle.server_model.specs.Prepare.{ready, assigned, read_or_taken, access_of, prepare, read_stars, write_stars}
 use Rattle.server_model.specs.Events.{begin_work}
 use Rattle.heap_law.specs.Things.{Location, at_slot}
 use Rattle.heap_law.specs.Follow.{Standing, locate}
 use Rattle.heap_law.specs.Sight.{sight}
 use Rattle.type_law.specs.Names.{NameTypes}
 use Rattle.type_law.specs.ClusterTypes.{has_form, slot_form, slots_wrong}
-use Rattle.path_law.specs.HeapStore.{heap_store, store_place, GoesOn, IsUnmarked, HasPaths}
+use Rattle.path_law.specs.HeapStore.{heap_store, store_place, IsUnmarked}
 use Rattle.path_law.specs.Pointing.{MayWrite, WritesTo, assigns as assigns_to, moves as moves_from}
 use Rattle.path_law.proofs.Alike.{leads_in_cluster}
 use Rattle.path_law.proofs.MayWrites.{may_write_there}

@@ -1,8 +1,6 @@
 -- What a server weighs by the contents of mutexes, list by list: its messages, its mutexes and its threads.
 use Rattle.std.proofs.Common.{◌≡◌, ℕ, ◌+◌, Bool, true, false, is_some, if◌then◌else◌, List, [], ◌∷◌, ◌++◌, Option, Some, None, refl, arith}
 use Rattle.fr_base.specs.declared.name.MutexNo.{MutexNo}
-use Rattle.fr_base.specs.declared.instruction.Instr.{Instr}
-use Rattle.std.specs.Prelude.{slice_get}
 use Rattle.heap_partition.specs.declared.value.Cell.{Cell}
 use Rattle.heap_partition.specs.declared.value.Owned.{Owned}
 use Rattle.mut_borrow.specs.declared.shared.SharedRef.{SharedRef}
@@ -16,9 +14,8 @@ use Rattle.server_msgs.specs.declared.message.Message.{Message}
 use Rattle.server_msgs.specs.declared.message.Message.TheVariants as message
 use Rattle.server_model.specs.Servers.{Sent, Rest, Server}
 use Rattle.heap_law.specs.Names.{tot, if_so, one, same_mutex}
-use Rattle.heap_law.specs.Things.{Spot, in_slot, in_temp, as_gift, as_content, as_result, Location, at_slot, at_temp, in_cell, Thing, holds, shares, borrows, locks, lies, flies, vacant, retired, copied, uses, sent, stands, at_home, queued, noted, counts, things_at, is_free, cell_things, free_things, partition_things, copy_things, content_things, queue_things, mutex_things, result_things, task_things, gift_things, walk_things, pin_things, value_things, slot_things, temp_things, thread_things, standing_things, message_things, waiting_things, leaving_things, server_things}
-use Rattle.heap_law.specs.Follow.{Ground}
-use Rattle.heap_law.specs.Sharing.{spot_mutex, some_mutex}
+use Rattle.heap_law.specs.Things.{at_slot, Thing, holds, locks, retired, uses, stands, noted, things_at, is_free, cell_things, free_things, partition_things, copy_things, content_things, queue_things, mutex_things, result_things, task_things, gift_things, walk_things, pin_things, slot_things, temp_things, thread_things, standing_things, message_things, waiting_things, leaving_things, server_things}
+use Rattle.heap_law.specs.Sharing.{spot_mutex}
 use Rattle.heap_law.specs.Weights.{is_home_of}
 use Rattle.heap_law.proofs.Sums.{tot-append, server_parts}
 use Rattle.event_law.proofs.Bags.{all_standing, rest_things, server_same}
