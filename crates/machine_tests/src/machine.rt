@@ -4,7 +4,7 @@ use borrow_check::{CheckError, Checked, check};
 use fr_meaning::Pool;
 use fr_parse::parse;
 use fr_syntax::tokens;
-use journal::{OrderLine, read_order};
+use journal::{Order, OrderLine, read_order};
 use std::alloc::Global;
 use std::process::Abort;
 use std::test::Fail;
@@ -85,35 +85,49 @@ fn told(alloc: Global, pool: &mut Pool, call: &OrderLine) -> Result<String, Fail
     Ok(format!(in alloc; "{stands:?} {needs:?} {given:?}")?)
 }
 
-// The machine answers each call of the source's table as the row says.
-fn answers<R: Abort>(rt: &R, alloc: Global, source: &str, rows: &str) -> Result<Pool, Fail> {
-    let mut pool = pool_of(alloc, source)?;
+// The call that a row makes.
+fn call_of(alloc: Global, text: &str) -> Result<Order, Fail> {
+    let line = format!(in alloc; "{text}\n")?;
+    Ok(read_order(alloc, line.as_bytes(), 0)?)
+}
+
+// The machine answers the row's call as the row says.
+fn tells<R: Abort>(rt: &R, alloc: Global, pool: &mut Pool, row: &str) -> Result<(), Fail> {
+    let (call, want) = row.split_once('|').expect(rt, "an answer");
+    let order = call_of(alloc, call)?;
+    let given = told(alloc, pool, order.at(0).expect(rt, "a call"))?;
+    assert_eq!(rt; given.as_str(), want, "{row}");
+    Ok(())
+}
+
+// It answers each row's.
+fn answers<R: Abort>(rt: &R, alloc: Global, pool: &mut Pool, rows: &str) -> Result<(), Fail> {
     for row in rows.lines() {
-        let (call, want) = row.split_once('|').expect(rt, "an answer");
-        let order = read_order(alloc, format!(in alloc; "{call}\n")?.as_bytes(), 0)?;
-        let given = told(alloc, &mut pool, order.at(0).expect(rt, "a call"))?;
-        assert_eq!(rt; given.as_str(), want, "{row}");
+        tells(rt, alloc, pool, row)?;
     }
-    Ok(pool)
+    Ok(())
 }
 
 #[test]
 fn a_thread_is_started_and_joined(rt: HostRuntime) -> Result<(), Fail> {
-    let pool = answers(&rt, rt.alloc(), JOINED, JOINS)?;
+    let mut pool = pool_of(rt.alloc(), JOINED)?;
+    answers(&rt, rt.alloc(), &mut pool, JOINS)?;
     assert_eq!(rt; pool.output(), [3].as_slice());
     Ok(())
 }
 
 #[test]
 fn a_thread_waits_for_itself(rt: HostRuntime) -> Result<(), Fail> {
-    let pool = answers(&rt, rt.alloc(), LOCKED_TWICE, LOCKS)?;
+    let mut pool = pool_of(rt.alloc(), LOCKED_TWICE)?;
+    answers(&rt, rt.alloc(), &mut pool, LOCKS)?;
     assert!(rt; pool.output().is_empty());
     Ok(())
 }
 
 #[test]
 fn a_branch_waits_for_its_parent(rt: HostRuntime) -> Result<(), Fail> {
-    let pool = answers(&rt, rt.alloc(), HELD, HOLDS)?;
+    let mut pool = pool_of(rt.alloc(), HELD)?;
+    answers(&rt, rt.alloc(), &mut pool, HOLDS)?;
     assert_eq!(rt; pool.output(), [7].as_slice());
     Ok(())
 }
