@@ -1,5 +1,5 @@
 -- Who a copy is asked for by: a thread that waits for it reads a pointer under its word. So none is asked for of an object to which no thread that waits for a copy reads a pointer.
-use Rattle.std.proofs.Common.{◌≡◌, ◌⊎◌, inl, inr, ◌≤◌, ◌<◌, ℕ, zero, suc, ◌*◌, ◌+◌, ◌-◌, ◌==◌, ◌&&◌, not, Bool, true, false, if◌then◌else◌, List, [], ◌∷◌, Option, Some, None, is_some, refl, sym, ap, ap₂, subst, ◌∙◌, arith}
+use Rattle.std.proofs.Common.{◌≡◌, inl, inr, ◌≤◌, ◌<◌, ℕ, zero, suc, ◌*◌, ◌+◌, ◌-◌, ◌==◌, ◌&&◌, not, Bool, true, false, if◌then◌else◌, List, [], ◌∷◌, Option, Some, None, is_some, refl, sym, ap, ap₂, subst, ◌∙◌, arith}
 use Rattle.std.proofs.lemmas.Bool.{eqb-true, eq-eqb}
 use Rattle.std.specs.Prelude.{slice_get}
 use Rattle.fr_base.specs.declared.name.ObjNo.{ObjNo}
@@ -15,7 +15,6 @@ use Rattle.heap_partition.specs.Same.{same_cell}
 use Rattle.heap_partition.specs.declared.value.BoxPtr.{BoxPtr}
 use Rattle.heap_partition.specs.declared.value.Cell.{Cell}
 use Rattle.heap_partition.specs.declared.value.Owned.TheVariants as owned
-use Rattle.mut_borrow.specs.declared.mutable.MutRef.{MutRef}
 use Rattle.thread_state.specs.View.{ThreadState, is_over}
 use Rattle.thread_state.specs.declared.value.Value.{Value}
 use Rattle.thread_state.specs.declared.value.Value.TheVariants as value
@@ -28,12 +27,10 @@ use Rattle.server_model.specs.Places.{pointer_of}
 use Rattle.heap_law.specs.Names.{tot, one, some, other, if_so, same_object, Among}
 use Rattle.heap_law.specs.Things.{Location, in_cell, Thing, lies, sent, things_of}
 use Rattle.heap_law.specs.Follow.{Standing, Ground, thread_at, cells_in, value_in, value_behind, leads, locate}
-use Rattle.heap_law.specs.Sight.{is_word, cell_of_word, sight, word}
-use Rattle.heap_law.specs.Words.{HasWords}
+use Rattle.heap_law.specs.Sight.{is_word, sight, word}
 use Rattle.heap_law.specs.Weights.{lies_under}
 use Rattle.heap_law.specs.Placing.{sum_over, other_cell, clean_cell, other_copy, unclean}
-use Rattle.heap_law.specs.Paths.{Path, reads, shares, lends, writes, ends, path_of, taking, assigning, ending, Awaited, to_read, to_write, to_clean, is_spent}
-use Rattle.heap_law.specs.Passing.{HopOf}
+use Rattle.heap_law.specs.Paths.{Path, reads, shares, lends, path_of, taking, assigning, ending, Awaited, to_read, to_write, to_clean, is_spent}
 use Rattle.heap_law.specs.Walking.{path, instr_of, asked_for, asks_for}
 use Rattle.heap_law.specs.Requests.{halves, halves_to, message_answer, is_cell, in_phase, phase_fits, carries, not_there}
 use Rattle.heap_law.specs.Turn.{IsAsked, AwaitsAt, read_at, before_share, at_share, before_lend, at_lend, InTurn, by_read, by_share, by_lend, by_write, by_end, by_holder}
@@ -42,7 +39,7 @@ use Rattle.heap_law.proofs.Names.{and_left, and_right}
 use Rattle.heap_law.proofs.Words.{named, none_at, none_all}
 use Rattle.heap_law.proofs.Passing.{paths_law}
 use Rattle.event_law.proofs.Askers.{other_none}
-use Rattle.path_law.specs.HeapStore.{in_store, heap_store, GoesOn, HasPaths}
+use Rattle.path_law.specs.HeapStore.{heap_store, GoesOn, HasPaths}
 use Rattle.path_law.proofs.Alike.{leads_in_heap}
 use Rattle.path_law.proofs.Circles.{shorter}
 use Rattle.path_law.proofs.Contained.{among_thread}

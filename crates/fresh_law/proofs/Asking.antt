@@ -39,9 +39,9 @@ use Rattle.clean_law.proofs.Kept.{has_none}
 use Rattle.clean_law.proofs.CleanReads.{clean_there}
 use Rattle.clean_law.proofs.ReadAsks.{Asked, Followed, for_copy, for_object, for_tinted}
 use Rattle.clean_law.proofs.ReadCommits.{asks_so}
-use Rattle.clean_law.proofs.Worded.{Worded, worded_on, has_none_but}
+use Rattle.clean_law.proofs.Worded.{worded_on, has_none_but}
 use Rattle.clean_law.proofs.WordedCopies.{new_asked}
-use Rattle.fresh_law.proofs.Outcome.{Left, stayed, one_worded, OneWorded}
+use Rattle.fresh_law.proofs.Outcome.{Left, stayed, one_worded}
 use Rattle.fresh_law.proofs.SlotWords.{its_cell, was_dirty, next_is_new, tint_ok, tint_wrote, tint_worded}
 use Rattle.fresh_law.proofs.Following.{Put, IsOk, its, X, alike_to, none_then, alike_leaves, walks_there, copy_alike, object_alike, mail_of}
 

@@ -1,5 +1,5 @@
 -- A delivery asks for no copy: each that is asked for afterwards was asked for before.
-use Rattle.std.proofs.Common.{◌≡◌, ℕ, ◌+◌, List, [], ◌∷◌, refl, sym, ◌∙◌, arith}
+use Rattle.std.proofs.Common.{◌≡◌, ℕ, List, [], ◌∷◌, refl, sym, ◌∙◌, arith}
 use Rattle.journal.specs.View.{EntryView}
 use Rattle.heap_partition.specs.declared.value.Cell.{Cell}
 use Rattle.server_msgs.specs.declared.message.Message.{Message}
@@ -14,7 +14,7 @@ use Rattle.heap_law.specs.Coherent.{IsSound}
 use Rattle.event_law.specs.Laws.{Gives, FewEvents}
 use Rattle.event_law.proofs.Results.{weaker}
 use Rattle.local_law.proofs.Messages.{on_sent}
-use Rattle.value_law.proofs.Sums.{copy_of, sent_copy}
+use Rattle.value_law.proofs.Sums.{copy_of}
 use Rattle.copy_law.proofs.Comes.{copies_come}
 use Rattle.clean_law.proofs.Asked.{asking}
 

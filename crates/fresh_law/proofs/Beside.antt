@@ -1,12 +1,12 @@
 -- Where a cell comes to which no place leads, or goes, changed references stay.
-use Rattle.std.proofs.Common.{◌≡◌, ⊎_elim, true, [], Option, Some, None, refl, sym, ap, subst, ◌∙◌}
+use Rattle.std.proofs.Common.{◌≡◌, true, [], Option, Some, None, refl, sym, ap, subst, ◌∙◌}
 use Rattle.fr_base.specs.declared.name.ObjNo.{ObjNo}
 use Rattle.mut_borrow.specs.declared.mutable.MutRef.{MutRef}
 use Rattle.server_model.specs.Servers.{Cluster}
 use Rattle.thread_state.specs.declared.value.Value.TheVariants as value
 use Rattle.heap_law.specs.Names.{Among}
 use Rattle.heap_law.specs.Things.{Location, in_cell, things_of}
-use Rattle.heap_law.specs.Follow.{Ground, cell_of, value_of, value_in, place_at}
+use Rattle.heap_law.specs.Follow.{Ground, cell_of, value_of, value_in}
 use Rattle.heap_law.specs.Stale.{is_among, Reference, references, holder_of, with_place, lent_places, one_star_less, changed_above, stale_above, taken_above}
 use Rattle.heap_law.specs.Sight.{sight}
 use Rattle.heap_law.specs.Placing.{other_first}

@@ -1,7 +1,6 @@
 -- A hand that makes an object: it has a word that wasn't issued, and all else is what it was.
-use Rattle.std.proofs.Common.{◌≡◌, ◌⊎◌, inl, inr, ⊎_elim, ℕ, ◌+◌, ◌≤◌, ◌&&◌, not, true, false, List, [], ◌∷◌, ◌++◌, Some, None, refl, sym, ap, ap₂, subst, ◌∙◌, arith}
+use Rattle.std.proofs.Common.{◌≡◌, ◌⊎◌, inl, inr, ⊎_elim, ℕ, ◌+◌, true, false, List, [], ◌∷◌, ◌++◌, Some, None, refl, sym, ap, subst, ◌∙◌, arith}
 use Rattle.std.specs.Prelude.{slice_get, length}
-use Rattle.std.proofs.lemmas.Bool.{eq-eqb}
 use Rattle.fr_base.specs.declared.name.ObjNo.{ObjNo}
 use Rattle.heap_partition.specs.declared.value.BoxPtr.{BoxPtr}
 use Rattle.heap_partition.specs.declared.value.Cell.{Cell}
@@ -18,24 +17,20 @@ use Rattle.server_model.specs.Servers.{Rest, Server, Cluster, server_at}
 use Rattle.server_model.specs.Work.{Hand, last_of, front_of, thread_in, without_thread, put_back, note, with_partition}
 use Rattle.server_model.specs.NewWords.{NewWord, can_grow, issue_placed}
 use Rattle.server_model.specs.Commit.{push_box, make_box}
-use Rattle.heap_law.specs.Names.{Among, tot, one}
-use Rattle.heap_law.specs.Things.{at_temp, in_hand, Thing, holds, lies, flies, stands, things_at, standing_things, thread_things, things_of}
-use Rattle.heap_law.specs.Follow.{Standing, threads_in, cells_in}
+use Rattle.heap_law.specs.Names.{Among, tot}
+use Rattle.heap_law.specs.Things.{at_temp, in_hand, Thing, holds, lies, flies, things_at, standing_things, thread_things, things_of}
+use Rattle.heap_law.specs.Follow.{cells_in}
 use Rattle.heap_law.specs.Sight.{issued, sight}
 use Rattle.heap_law.specs.Weights.{cells}
 use Rattle.heap_law.specs.Words.{HasWords}
 use Rattle.heap_law.specs.Coherent.{Holds, first_at_holder, IsSound}
 use Rattle.type_law.specs.ClusterTypes.{IsCoherent}
-use Rattle.path_law.proofs.Contained.{among_thread}
 use Rattle.event_law.specs.Laws.{Gives, FewEvents}
 use Rattle.event_law.proofs.Trades.{tot-append}
 use Rattle.event_law.proofs.Results.{over_gives, test_gives}
 use Rattle.event_law.proofs.Values.{last_split}
 use Rattle.event_law.proofs.Bags.{all_standing, body_things, rest_things, server_same}
-use Rattle.event_law.proofs.Boxes.{goes_as, all_new}
 use Rattle.event_law.proofs.Events.{tot-server}
-use Rattle.event_law.proofs.Sound.{sound_has_sums}
-use Rattle.event_law.proofs.ThreadThere.{thread_there}
 use Rattle.word_law.specs.Reworded.{HasPlaces}
 use Rattle.word_law.specs.Unmoved.{pointing, LeavesWords}
 use Rattle.word_law.specs.WordsAfter.{KeepsWords}
@@ -48,13 +43,11 @@ use Rattle.stay_law.proofs.Sites.{ends_alike, replaced}
 use Rattle.stay_law.proofs.Steps.{TakesNoneHere}
 use Rattle.carry_law.specs.Carried.{Carried}
 use Rattle.carry_law.specs.Made.{Made}
-use Rattle.carry_law.proofs.Carrying.{carried_stays}
 use Rattle.carry_law.proofs.Making.{made_keeps}
 use Rattle.carry_law.proofs.Replaced.{places_on}
 use Rattle.carry_law.proofs.Passing.{slot, temp, nowhere, Passes, is_carried, is_quiet}
 use Rattle.carry_law.proofs.Places.{temp_to_gift, gift_to_temp}
-use Rattle.carry_law.proofs.Hands.{RootedIn, leaves_chain, put, with_hand, places, stands_here, h0, its_number, first_ok, before, site_of, first_seen, first_leaves, first_rooted}
-use Rattle.carry_law.proofs.Far.{thread_thing}
+use Rattle.carry_law.proofs.Hands.{RootedIn, put, with_hand, places, stands_here, h0, its_number, first_ok, before, site_of, first_seen, first_leaves, first_rooted}
 use Rattle.made_law.proofs.Unnamed.{NonePoints, no_value, none_points, none_untouched, none_carried}
 use Rattle.made_law.proofs.Partition.{body_comes}
 use Rattle.made_law.proofs.NewCell.{is_made}

@@ -1,11 +1,10 @@
 -- Copies are right after a step that makes an object.
 use Rattle.std.proofs.Common.{◌≡◌, ℕ, ◌++◌, List, [], Option, Some, None, option_map, true, false, refl, sym, ap, subst, ◌∙◌, arith}
-use Rattle.std.specs.Prelude.{slice_get, length, take, drop as drop_first}
+use Rattle.std.specs.Prelude.{slice_get}
 use Rattle.fr_base.specs.declared.instruction.Operand.{Operand}
 use Rattle.fr_base.specs.declared.instruction.Operand.TheVariants as operand
 use Rattle.fr_base.specs.declared.instruction.Instr.TheVariants as instr
 use Rattle.fr_base.specs.declared.step.Fresh.TheVariants as fresh
-use Rattle.fr_base.specs.declared.name.ObjNo.{ObjNo}
 use Rattle.heap_partition.specs.declared.value.Owned.{Owned}
 use Rattle.heap_partition.specs.declared.value.Owned.TheVariants as owned
 use Rattle.journal.specs.View.{EntryView}
@@ -19,7 +18,7 @@ use Rattle.server_model.specs.Servers.{Server, Cluster, server_at}
 use Rattle.server_model.specs.Work.{Hand, Popped, last_of, front_of, thread_in, without_thread, then_some, owned_of, taken_as, with_temps}
 use Rattle.server_model.specs.Commit.{go_on, goes_on, next_object, make_box, box_up, settle}
 use Rattle.server_model.specs.Events.{can_step, has_phase, enabled, begin_work, begin_at, Stepped, done_step, committed, step, step_in, stepped, does}
-use Rattle.server_model.specs.Clusters.{with_server, hand_over_newer, done_at, apply}
+use Rattle.server_model.specs.Clusters.{apply}
 use Rattle.heap_law.specs.Names.{tot}
 use Rattle.heap_law.specs.Things.{in_hand, holds, Thing, server_things, servers_things, things_of}
 use Rattle.heap_law.specs.Weights.{cells, tasks_of}
@@ -27,9 +26,9 @@ use Rattle.heap_law.specs.Sight.{sight}
 use Rattle.heap_law.specs.Words.{HasWords}
 use Rattle.type_law.specs.ClusterTypes.{IsCoherent}
 use Rattle.path_law.proofs.Sole.{some_is}
-use Rattle.event_law.specs.Laws.{Gives, GoTo, FewEvents}
+use Rattle.event_law.specs.Laws.{Gives, FewEvents}
 use Rattle.event_law.proofs.Trades.{tot-append}
-use Rattle.event_law.proofs.Results.{over_gives, test_gives, both_give}
+use Rattle.event_law.proofs.Results.{over_gives, both_give}
 use Rattle.event_law.proofs.RulesKeep.{Counted, counted_kept}
 use Rattle.event_law.proofs.Bags.{HandOk, all_standing}
 use Rattle.event_law.proofs.Boxes.{New, new_kept, boxes_up}
@@ -39,24 +38,19 @@ use Rattle.event_law.proofs.Steps.{committed_keeps}
 use Rattle.event_law.proofs.Events.{others_of, tot-server, begins_site}
 use Rattle.event_law.proofs.Sound.{sound_has_sums}
 use Rattle.event_law.proofs.GiftsTaken.{gift_fits}
-use Rattle.event_law.proofs.Applied.{go_with}
-use Rattle.event_law.proofs.Sending.{applied_part, each_event_sends}
 use Rattle.word_law.specs.Reworded.{HasPlaces}
 use Rattle.word_law.specs.Unmoved.{taking_by}
-use Rattle.word_law.proofs.Unmoved.{untouched_stays}
-use Rattle.stay_law.proofs.Alike.{Alike, blank}
-use Rattle.stay_law.proofs.Sites.{HandAlike, handed_over}
-use Rattle.stay_law.proofs.Seen.{seen_alike}
+use Rattle.stay_law.proofs.Alike.{blank}
+use Rattle.stay_law.proofs.Sites.{HandAlike}
 use Rattle.stay_law.proofs.Steps.{TakesNoneHere, settles}
 use Rattle.prepare_law.proofs.Hands.{calm_goes}
 use Rattle.prepare_law.proofs.Asking.{found_number}
 use Rattle.carry_law.proofs.Hands.{put, places, h0, each_together, together_chain, puts_alike}
 use Rattle.carry_law.proofs.Steps.{goes_next}
 use Rattle.server_model.specs.Places.{nowhere as no_spot}
-use Rattle.server_model.specs.declared.event.Event.{Event}
 use Rattle.carry_law.proofs.Hands.{ThereBy}
 use Rattle.made_law.proofs.Boxing.{none_named}
-use Rattle.copy_law.proofs.Clean.{Leaves, all_goes}
+use Rattle.copy_law.proofs.Clean.{all_goes}
 use Rattle.clean_law.proofs.Asked.{ready_asks}
 use Rattle.clean_law.proofs.Kept.{step_asks, start_of}
 use Rattle.copy_law.specs.Copies.{CopiesAreRight}

@@ -15,7 +15,7 @@ use Rattle.server_model.specs.Work.{then_some}
 use Rattle.server_model.specs.Places.{owns_nothing}
 use Rattle.server_model.specs.Start.{captured, left_after, capture_from}
 use Rattle.heap_law.specs.Names.{Among, tot}
-use Rattle.heap_law.specs.Things.{Location, in_slot, at_slot, at_temp, Thing, holds, as_gift, shares, stands, counts, partition_things, copy_things, mutex_things, task_things, waiting_things, leaving_things, things_at, slot_things, temp_things, gift_things, walk_things, standing_things, thread_things, server_things, servers_things, things_of}
+use Rattle.heap_law.specs.Things.{Location, in_slot, at_slot, at_temp, Thing, holds, as_gift, shares, stands, things_at, slot_things, temp_things, gift_things, walk_things, standing_things, thread_things, things_of}
 use Rattle.heap_law.specs.Follow.{value_in}
 use Rattle.heap_law.specs.Sight.{sight}
 use Rattle.heap_law.specs.Weights.{cells, owners, is_thread}
@@ -26,12 +26,10 @@ use Rattle.word_law.specs.Reworded.{HasPlaces}
 use Rattle.word_law.specs.Unmoved.{pointing, taking_by}
 use Rattle.word_law.proofs.Put.{Split}
 use Rattle.word_law.proofs.Standing.{standing_among}
-use Rattle.event_law.proofs.Bags.{body_things, all_standing}
-use Rattle.event_law.proofs.Events.{others_of, tot-server}
+use Rattle.event_law.proofs.Bags.{all_standing}
 use Rattle.stay_law.proofs.Alike.{ShowsAs, Alike, Within, Seen, seen_itself, within_both, within_first, itself, turned, chain, beside, in_front, joined, alone}
-use Rattle.stay_law.proofs.Servers.{held, held_if, server_body}
+use Rattle.stay_law.proofs.Servers.{held, held_if}
 use Rattle.stay_law.proofs.Threads.{slots_of, temps_of, thread_alike}
-use Rattle.stay_law.proofs.Sites.{replaced}
 use Rattle.stay_law.proofs.Steps.{IsUnseen, owned_unseen, last_points}
 use Rattle.stay_law.proofs.Seen.{seen_alike}
 use Rattle.carry_law.specs.Carried.{Carried}

@@ -1,23 +1,21 @@
 -- A dirty reference gets a word that wasn't issued, wherever its object lies then: the object has that word and isn't changed through it any more, and all else is what it was.
-use Rattle.std.proofs.Common.{◌≡◌, inl, inr, ⊎_elim, ℕ, true, false, Option, Some, None, refl, sym, ap, ap₂, subst, ◌∙◌}
+use Rattle.std.proofs.Common.{◌≡◌, inl, ⊎_elim, ℕ, true, false, Option, Some, None, refl, sym, ap, ap₂, subst, ◌∙◌}
 use Rattle.fr_base.specs.declared.name.ObjNo.{ObjNo}
 use Rattle.heap_partition.specs.declared.value.Cell.{Cell}
 use Rattle.heap_partition.specs.declared.value.Owned.{Owned}
 use Rattle.server_model.specs.Places.{took}
 use Rattle.mut_borrow.specs.declared.mutable.MutRef.{MutRef}
-use Rattle.thread_state.specs.declared.value.Value.{Value}
 use Rattle.thread_state.specs.declared.value.Value.TheVariants as value
 use Rattle.server_model.specs.Servers.{Cluster}
 use Rattle.heap_law.specs.Names.{Among}
-use Rattle.heap_law.specs.Things.{Location, in_cell, Thing, things_of}
+use Rattle.heap_law.specs.Things.{Location, in_cell, things_of}
 use Rattle.heap_law.specs.Follow.{cell_of, cells_in, value_in, value_of}
 use Rattle.heap_law.specs.Stale.{Reference, references, holder_of, is_held_at}
-use Rattle.heap_law.specs.Sight.{Pointer, taken_pointers, is_object_among, sight, issued}
+use Rattle.heap_law.specs.Sight.{Pointer, taken_pointers, sight}
 use Rattle.heap_law.specs.Words.{IsStale, HasWords}
 use Rattle.heap_law.specs.Placing.{standing_in}
 use Rattle.heap_law.specs.Dirty.{DirtyAlone}
 use Rattle.heap_law.specs.Coherent.{Holds, IsSound, first_at_holder}
-use Rattle.path_law.proofs.Sole.{some_is}
 use Rattle.path_law.proofs.Origins.{among_first}
 use Rattle.path_law.proofs.Contained.{reference_there}
 use Rattle.path_law.proofs.FreshPaths.{same_is}

@@ -1,51 +1,31 @@
 -- Copies are right after the delivery of a `drop`: no place leads to the object that goes, so nobody has asked for a copy of it.
-use Rattle.std.proofs.Common.{◌≡◌, ◌≤◌, ℕ, zero, suc, ◌+◌, nat_lt, Bool, true, false, if◌then◌else◌, List, [], ◌∷◌, ◌++◌, Option, Some, None, option_map, refl, sym, ap, subst, arith, ◌∙◌, inl, inr, ⊎_elim}
-use Rattle.std.specs.Prelude.{slice_get, slice_set, length, take, drop as drop_first}
-use Rattle.fr_base.specs.declared.instruction.Instr.{Instr}
+use Rattle.std.proofs.Common.{◌≡◌, ℕ, List, [], ◌∷◌, ◌++◌, Option, Some, None, option_map, refl, sym, ap, subst, arith, ◌∙◌, inl, inr, ⊎_elim}
+use Rattle.std.specs.Prelude.{slice_get, length, take, drop as drop_first}
 use Rattle.fr_base.specs.declared.name.ObjNo.{ObjNo}
-use Rattle.global_addr.specs.Words.{address_of, colour_of}
 use Rattle.heap_partition.specs.declared.value.Cell.{Cell}
-use Rattle.owner_box.specs.View.{PartitionState}
-use Rattle.owner_box.specs.Partition.{freed}
 use Rattle.journal.specs.View.{EntryView}
-use Rattle.journal.specs.declared.act.Act.TheVariants as act
-use Rattle.server_msgs.specs.declared.message.Message.{Message}
 use Rattle.server_msgs.specs.declared.message.Message.TheVariants as message
 use Rattle.server_model.specs.declared.event.Event.{Event}
 use Rattle.server_model.specs.declared.event.What.TheVariants.{Deliver}
-use Rattle.server_model.specs.Servers.{Rest, Server, Cluster, server_at}
-use Rattle.server_model.specs.Work.{Work, Site, look, look_object, receive, then_some, note, with_partition}
-use Rattle.server_model.specs.Drop.{give_up}
-use Rattle.server_model.specs.Events.{enabled, does, left_by, received, deliver, deliver_message}
+use Rattle.server_model.specs.Servers.{Server, Cluster, server_at}
+use Rattle.server_model.specs.Work.{then_some}
+use Rattle.server_model.specs.Events.{enabled, does}
 use Rattle.server_model.specs.Clusters.{with_server, hand_over_newer, done_at, apply}
-use Rattle.heap_law.specs.Names.{Among, tot, one, same_object}
-use Rattle.heap_law.specs.Things.{Thing, holds, in_hand, lies, vacant, retired, sent, things_at, copy_things, mutex_things, task_things, message_things, leaving_things, waiting_things, cell_things, server_things, servers_things, things_of}
+use Rattle.heap_law.specs.Names.{Among, tot}
+use Rattle.heap_law.specs.Things.{Thing, holds, in_hand, lies, sent, server_things, servers_things, things_of}
 use Rattle.heap_law.specs.Coherent.{IsSound}
-use Rattle.heap_law.specs.Weights.{cells, drops}
-use Rattle.heap_law.proofs.Sums.{server_parts}
-use Rattle.heap_law.proofs.Words.{itself as same_itself, named}
+use Rattle.heap_law.specs.Weights.{cells}
 use Rattle.type_law.specs.ClusterTypes.{IsCoherent}
 use Rattle.word_law.specs.Reworded.{HasPlaces}
 use Rattle.word_law.specs.Unmoved.{LeavesWords}
 use Rattle.event_law.specs.Laws.{Gives, GoTo, FewEvents}
-use Rattle.event_law.proofs.Results.{over_gives, test_gives, both_give}
-use Rattle.event_law.proofs.Bags.{all_standing, body_things}
-use Rattle.event_law.proofs.Cells.{left_by as place_left, looked, frees}
+use Rattle.event_law.proofs.Results.{test_gives, both_give}
 use Rattle.event_law.proofs.Events.{tot-server}
-use Rattle.event_law.proofs.MutexResults.{has}
-use Rattle.event_law.proofs.ObjectMessages.{looked_object}
 use Rattle.event_law.proofs.Applied.{go_with}
-use Rattle.event_law.proofs.Sending.{applied_part, each_event_sends}
-use Rattle.event_law.proofs.Trades.{tot-remove}
-use Rattle.read_law.proofs.Flights.{truly}
-use Rattle.result_law.proofs.Flights.{weighs}
-use Rattle.still_law.proofs.Addresses.{in_place, lies_alone}
-use Rattle.still_law.proofs.Leaving.{others, placed_here}
+use Rattle.event_law.proofs.Sending.{each_event_sends}
 use Rattle.stay_law.proofs.Alike.{Alike, itself, turned as turned_round, chain}
-use Rattle.stay_law.proofs.Servers.{held, server_body, receives, given_up}
-use Rattle.stay_law.proofs.Sites.{ends_alike, servers_alike, replaced, handed_over}
+use Rattle.stay_law.proofs.Sites.{servers_alike, replaced, handed_over}
 use Rattle.carry_law.proofs.Hands.{rooted}
-use Rattle.carry_law.proofs.Leaving.{one_cell, all_cells, none_blank, free_blank}
 use Rattle.free_law.proofs.Going.{freed_leaves}
 use Rattle.free_law.proofs.Lists.{NoneLeads, is_freed}
 use Rattle.free_law.proofs.Unled.{none_leads}

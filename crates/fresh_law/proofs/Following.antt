@@ -1,53 +1,39 @@
 -- A step that reads the pointers of its place, up to some star: what its hand is there, whether the place is ready or something is asked for.
-use Rattle.std.proofs.Common.{◌≡◌, ℕ, ◌≤◌, true, false, [], ◌++◌, Option, Some, refl, sym, ap, subst, ◌∙◌, arith}
+use Rattle.std.proofs.Common.{◌≡◌, ℕ, ◌≤◌, true, false, [], ◌++◌, Some, refl, sym, subst, ◌∙◌, arith}
 use Rattle.std.specs.Bool.{⊤}
 use Rattle.std.specs.Prelude.{slice_get}
 use Rattle.fr_base.specs.declared.place.Lval.{Lval}
 use Rattle.fr_base.specs.declared.instruction.Instr.{Instr}
 use Rattle.fr_base.specs.declared.instruction.Instr.TheVariants as instr
-use Rattle.fr_typing.specs.Kinds.{Kind, own, mutex}
 use Rattle.fr_code.specs.CodeTypes.{Entry, Table, InstrTypes, i_copy, i_dup, i_lock, i_borrow, i_borrow_mut}
 use Rattle.global_addr.specs.Words.{server_of}
 use Rattle.heap_partition.specs.declared.value.BoxPtr.{BoxPtr}
-use Rattle.heap_partition.specs.declared.value.Owned.{Owned}
-use Rattle.mut_borrow.specs.declared.shared.SharedRef.{SharedRef}
 use Rattle.journal.specs.declared.act.Act.TheVariants as act
 use Rattle.thread_state.specs.View.{ThreadState}
 use Rattle.thread_state.specs.declared.phase.Phase.TheVariants as phase
-use Rattle.thread_state.specs.declared.value.Value.TheVariants as value
 use Rattle.server_msgs.specs.declared.message.Message.TheVariants as message
 use Rattle.server_model.specs.declared.event.What.TheVariants.{Step}
 use Rattle.server_model.specs.Servers.{Server, Cluster, server_at}
-use Rattle.server_model.specs.Work.{Hand, look, thread_in, without_thread}
-use Rattle.server_model.specs.Places.{Spot, in_slot, value_at, value_in as cell_value}
-use Rattle.server_model.specs.Prepare.{Prepared, ready, requested, nothing, ReadTo, access_of, ask_copy, ask_object, prepare, read_stars}
-use Rattle.server_model.specs.Commit.{commit}
-use Rattle.server_model.specs.Events.{enabled, begin_work, Stepped, wait_step, committed, prepared, step}
-use Rattle.heap_law.specs.Things.{Location, servers_things}
-use Rattle.heap_law.specs.Coherent.{Holds, first_at_holder}
+use Rattle.server_model.specs.Work.{Hand, thread_in, without_thread}
+use Rattle.server_model.specs.Places.{in_slot}
+use Rattle.server_model.specs.Prepare.{Prepared, ready, requested, nothing, ReadTo, ask_copy, ask_object, prepare, read_stars}
+use Rattle.server_model.specs.Events.{enabled, begin_work}
+use Rattle.heap_law.specs.Things.{servers_things}
 use Rattle.type_law.specs.ClusterTypes.{IsCoherent}
-use Rattle.path_law.proofs.Sole.{some_is}
-use Rattle.event_law.specs.Kinds.{instr_kind}
-use Rattle.event_law.specs.Laws.{Gives, FewEvents}
-use Rattle.event_law.proofs.Proved.{IsProvedKind}
-use Rattle.event_law.proofs.Results.{weaker}
-use Rattle.event_law.proofs.RulesKeep.{sums_kept, sums_spend}
+use Rattle.event_law.specs.Laws.{FewEvents}
+use Rattle.event_law.proofs.RulesKeep.{sums_kept}
 use Rattle.event_law.proofs.Bags.{all_standing}
 use Rattle.event_law.proofs.Events.{others_of}
 use Rattle.event_law.proofs.Prepares.{PreparedOk, prepares}
-use Rattle.event_law.proofs.Steps.{step_keeps}
 use Rattle.local_law.proofs.Small.{Made}
 use Rattle.result_law.proofs.Reading.{Reading}
-use Rattle.result_law.proofs.Starred.{bound, At, a_slot, a_cell, a_copy, Fine}
+use Rattle.result_law.proofs.Starred.{bound, Fine}
 use Rattle.stay_law.proofs.Sites.{HandAlike}
-use Rattle.stay_law.proofs.Seen.{seen_alike}
 use Rattle.stay_law.proofs.Steps.{TakesNoneHere, hand_chain, untaken_here}
-use Rattle.prepare_law.proofs.Asking.{read_all}
-use Rattle.carry_law.proofs.Hands.{RootedIn, rooted, rooted_on, Ok, Moved, seen, put, places, each_together, its_number, first_ok, first_seen, puts_alike, moved_goes, moved_over}
+use Rattle.carry_law.proofs.Hands.{Ok, seen, put, each_together, first_ok, moved_goes}
 use Rattle.copy_law.proofs.Clean.{Leaves, all_goes}
-use Rattle.clean_law.proofs.Changed.{all_chain}
 use Rattle.clean_law.proofs.ReadHands.{IsCalm, calm_start, calm_ready, read_takes, read_alike}
-use Rattle.clean_law.proofs.ReadAsks.{Asked, AsksSo, Known, stars_ask}
+use Rattle.clean_law.proofs.ReadAsks.{AsksSo, Known, stars_ask}
 use Rattle.result_law.proofs.Followed.{Place}
 use Rattle.fr_base.specs.declared.instruction.Operand.{Operand}
 use Rattle.read_law.specs.Reading.{MayRead, Reads, copies, shares, lends, dups, locks}

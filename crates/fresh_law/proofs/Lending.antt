@@ -1,90 +1,40 @@
 -- What a mutable borrow leaves of objects, where it is done: with each reference that it makes each object is what it was.
-use Rattle.std.proofs.Common.{◌≡◌, ◌⊎◌, inl, inr, ℕ, zero, suc, ◌==◌, ◌&&◌, Bool, true, false, if◌then◌else◌, List, [], ◌++◌, Option, Some, None, option_map, refl, sym, ap, ap₂, subst, ◌∙◌, ◌≢◌, ⊎_elim, ◌∷◌}
-use Rattle.std.specs.Prelude.{⊤, slice_get, length}
-use Rattle.std.proofs.lemmas.Bool.{eq-eqb}
-use Rattle.fr_base.specs.declared.name.ObjNo.{ObjNo}
+use Rattle.std.proofs.Common.{◌≡◌, ℕ, suc, List, [], ◌++◌, Option, Some, None, option_map, refl, sym, subst}
+use Rattle.std.specs.Prelude.{slice_get}
 use Rattle.fr_base.specs.declared.place.Lval.{Lval}
 use Rattle.fr_base.specs.declared.instruction.Instr.{Instr}
-use Rattle.heap_partition.specs.declared.value.BoxPtr.{BoxPtr}
-use Rattle.heap_partition.specs.declared.value.Owned.{Owned}
-use Rattle.mut_borrow.specs.declared.mutable.MutRef.{MutRef}
-use Rattle.place_walk.specs.declared.hop.Hop.{Hop}
-use Rattle.place_walk.specs.Hops.{write_hop}
-use Rattle.journal.specs.View.{EntryView}
 use Rattle.thread_state.specs.View.{ThreadState}
-use Rattle.thread_state.specs.declared.phase.Phase.{Phase}
 use Rattle.thread_state.specs.declared.value.Value.{Value}
-use Rattle.server_model.specs.declared.event.Event.{Event}
-use Rattle.server_model.specs.declared.event.What.TheVariants.{Step}
 use Rattle.server_model.specs.Servers.{Server, Cluster, server_at}
 use Rattle.server_model.specs.Work.{Hand, push_temp, thread_in, without_thread, then_some}
-use Rattle.server_model.specs.Clusters.{apply}
-use Rattle.server_model.specs.Places.{Spot, in_slot, value_at, load_at, pointer_of, took}
-use Rattle.server_model.specs.Prepare.{Prepared, ready, requested, nothing, LendTo, and_then, ask_object, request_by, read_stars, is_taken, lend_by, lend_value, lend_pointer, ReadTo}
-use Rattle.server_model.specs.Commit.{go_on, goes_on, lent_word, mutable_from, commit, settle, borrow_mut, borrow_mut_from}
-use Rattle.server_model.specs.Events.{enabled, begin_work, Stepped, done_step, committed, prepared, step, step_in, stepped, does}
-use Rattle.heap_law.specs.Names.{Among, same_object, one, other}
-use Rattle.heap_law.specs.Things.{Location, Thing, servers_things, at_slot, in_cell, stands, things_of}
-use Rattle.heap_law.specs.Follow.{Ground, locate, Standing, value_behind, leads, place_at}
-use Rattle.heap_law.specs.Sight.{sight, taken_object, issued}
-use Rattle.heap_law.specs.Placing.{is_first, phase_word, words}
-use Rattle.heap_law.proofs.Words.{itself, none_at}
+use Rattle.server_model.specs.Places.{Spot, value_at}
+use Rattle.server_model.specs.Commit.{go_on, goes_on, mutable_from, commit, borrow_mut, borrow_mut_from}
+use Rattle.server_model.specs.Events.{Stepped, committed}
+use Rattle.heap_law.specs.Things.{Thing, servers_things}
+use Rattle.heap_law.specs.Sight.{sight}
 use Rattle.type_law.specs.ClusterTypes.{IsCoherent}
-use Rattle.path_law.proofs.Sole.{some_is}
 use Rattle.word_law.specs.Reworded.{HasPlaces}
-use Rattle.word_law.specs.Unmoved.{LeavesWords, Taking, taking_by, taking_of}
-use Rattle.word_law.proofs.Follows.{seen_places_lead}
-use Rattle.word_law.proofs.Standing.{pointer_at}
 use Rattle.event_law.specs.Laws.{Gives, FewEvents}
-use Rattle.event_law.proofs.Results.{weaker, over_gives, both_give}
+use Rattle.event_law.proofs.Results.{both_give}
 use Rattle.event_law.proofs.Bags.{all_standing}
 use Rattle.event_law.proofs.Events.{others_of}
-use Rattle.read_law.specs.Reading.{Reads, lends}
-use Rattle.still_law.proofs.Prepares.{Fine as Shown}
-use Rattle.still_law.proofs.Readied.{Readied}
 use Rattle.stay_law.proofs.Sites.{HandAlike}
-use Rattle.stay_law.proofs.Steps.{TakesNoneHere, mut_slot_unseen, pushes, settles, goes_over}
-use Rattle.stay_law.specs.Laws.{mutable}
-use Rattle.turn_law.proofs.ReadWalk.{value_loaded}
-use Rattle.turn_law.proofs.StarLines.{shows}
-use Rattle.prepare_law.specs.Requests.{WordsHold}
-use Rattle.prepare_law.proofs.Hands.{Ok, State, Walks, put, places}
-use Rattle.prepare_law.proofs.Stars.{Spotted, asks_object, walks_loaded}
-use Rattle.prepare_law.proofs.Asking.{found_number}
-use Rattle.borrow_law.proofs.LentOne.{LentOne}
-use Rattle.borrow_law.proofs.OnTop.{same_takings, lent_on_top, takings_were, takings_but, taking_there}
-use Rattle.heap_law.specs.Requests.{has_word, last_hop, taken_again, old_word, lies_here, taken_there, taken_phase, lent_place}
-use Rattle.heap_law.specs.Stale.{one_star_less}
-use Rattle.event_law.proofs.GiftsTaken.{none_here}
-use Rattle.carry_law.proofs.Far.{thread_thing}
-use Rattle.ask_law.proofs.Unasked.{Unasked}
-use Rattle.borrow_law.proofs.AtHand.{unasked}
-use Rattle.word_law.proofs.Unmoved.{untouched_stays}
+use Rattle.prepare_law.proofs.Hands.{Ok, put, places}
 use Rattle.event_law.proofs.RulesKeep.{sums_kept}
 use Rattle.event_law.proofs.AllSteps.{commits}
 use Rattle.event_law.proofs.Commits.{CommittedOk}
 use Rattle.event_law.proofs.Steps.{SteppedOk, committed_keeps}
 use Rattle.stay_law.proofs.Alike.{turned as turned_round}
-use Rattle.stay_law.proofs.Seen.{seen_alike}
 use Rattle.borrow_law.proofs.Pushed.{hands_alike}
-use Rattle.fr_base.specs.declared.step.Fresh.TheVariants as fresh
 use Rattle.fr_base.specs.declared.instruction.Instr.TheVariants as instr
-use Rattle.heap_partition.specs.declared.value.Owned.TheVariants as owned
-use Rattle.place_walk.specs.declared.hop.Hop.TheVariants as hop
-use Rattle.thread_state.specs.declared.phase.Phase.TheVariants as phase
-use Rattle.thread_state.specs.declared.value.Value.TheVariants as value
-use Rattle.borrow_law.proofs.Sources as sources
-use Rattle.borrow_law.proofs.Made.{Lendable, lendable}
 use Rattle.server_model.specs.Servers.{Rest}
-use Rattle.server_model.specs.Events.{wait_step}
 use Rattle.heap_law.specs.Words.{HasWords}
-use Rattle.local_law.proofs.Mail.{Mailed, mail_sent}
+use Rattle.local_law.proofs.Mail.{Mailed}
 use Rattle.local_law.proofs.Messages.{Light}
-use Rattle.copy_law.proofs.Clean.{Leaves, all_goes}
+use Rattle.copy_law.proofs.Clean.{all_goes}
 use Rattle.clean_law.proofs.Asked.{asking, ready_asks}
-use Rattle.fresh_law.specs.Fresh.{LeavesRight}
 use Rattle.fresh_law.proofs.Turned.{Turned, turned_on, none_or_idle}
-use Rattle.fresh_law.proofs.Outcome.{Left, Sends, stayed, turned, right_by}
+use Rattle.fresh_law.proofs.Outcome.{Left, Sends, turned}
 
 -- what is shown under a premise
 pub under_premise : {A : Type 0} {X : Type 0} (P : X → Type 0) (o : Option X) → (A → Gives P o) → Gives (λ x. A → P x) o

@@ -1,13 +1,12 @@
 -- A mutable reference more leaves each object changed through a reference where it was: where it is made from a dirty one, that is stale from then on.
-use Rattle.std.proofs.Common.{◌≡◌, ◌⊎◌, inl, inr, ⊎_elim, ℕ, ◌==◌, ◌&&◌, true, false, Option, Some, refl, sym, ap, subst, ◌∙◌}
+use Rattle.std.proofs.Common.{◌≡◌, ◌⊎◌, inl, inr, ⊎_elim, ℕ, ◌==◌, true, false, Some, refl, sym, ap, subst, ◌∙◌}
 use Rattle.fr_base.specs.declared.name.ObjNo.{ObjNo}
-use Rattle.heap_partition.specs.declared.value.Cell.{Cell}
 use Rattle.mut_borrow.specs.declared.mutable.MutRef.{MutRef}
 use Rattle.thread_state.specs.declared.value.Value.TheVariants as value
 use Rattle.server_model.specs.Servers.{Cluster}
 use Rattle.heap_law.specs.Names.{Among, same_object}
 use Rattle.heap_law.specs.Things.{Location, at_temp, things_of}
-use Rattle.heap_law.specs.Follow.{cells_in, value_in}
+use Rattle.heap_law.specs.Follow.{cells_in}
 use Rattle.heap_law.specs.Stale.{Reference, references, holder_of, taken_above}
 use Rattle.heap_law.specs.Sight.{is_object_among, sight}
 use Rattle.heap_law.specs.Words.{IsStale, HasWords}

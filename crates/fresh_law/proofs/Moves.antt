@@ -1,5 +1,5 @@
 -- Copies are right after the delivery of a `move`: the object is under way with the word that it had.
-use Rattle.std.proofs.Common.{◌≡◌, inl, ⊎_elim, ℕ, zero, suc, ◌+◌, ◌&&◌, Bool, true, false, if◌then◌else◌, List, [], ◌∷◌, ◌++◌, Option, Some, None, option_map, refl, sym, ap, subst, ◌∙◌, arith}
+use Rattle.std.proofs.Common.{◌≡◌, inl, ⊎_elim, ℕ, zero, suc, ◌+◌, ◌&&◌, Bool, true, false, List, [], ◌∷◌, ◌++◌, Option, Some, None, option_map, refl, sym, ap, subst, ◌∙◌, arith}
 use Rattle.std.specs.Prelude.{slice_get, slice_set, length, take, drop as drop_first}
 use Rattle.fr_base.specs.declared.instruction.Instr.{Instr}
 use Rattle.fr_base.specs.declared.name.ObjNo.{ObjNo}
@@ -16,7 +16,7 @@ use Rattle.server_model.specs.Work.{Work, Site, look, look_object, receive, then
 use Rattle.server_model.specs.Events.{enabled, does, left_by, received, deliver, deliver_message}
 use Rattle.server_model.specs.Clusters.{with_server, hand_over_newer, done_at, apply}
 use Rattle.heap_law.specs.Names.{Among, other}
-use Rattle.heap_law.specs.Things.{Thing, lies, flies, sent, vacant, retired, things_at, is_free, cell_things, free_things, copy_things, mutex_things, task_things, waiting_things, leaving_things, message_things, server_things, servers_things, things_of}
+use Rattle.heap_law.specs.Things.{Thing, lies, flies, sent, things_at, cell_things, copy_things, mutex_things, task_things, waiting_things, leaving_things, message_things, server_things, servers_things, things_of}
 use Rattle.heap_law.specs.Sight.{Pointer, is_word, word, sight}
 use Rattle.heap_law.specs.Words.{IsStale, Fresh}
 use Rattle.heap_law.specs.Requests.{not_there}
@@ -24,7 +24,6 @@ use Rattle.heap_law.specs.Coherent.{IsSound}
 use Rattle.heap_law.proofs.Names.{same_number}
 use Rattle.heap_law.proofs.Words.{words_law}
 use Rattle.word_law.specs.Reworded.{HasPlaces}
-use Rattle.word_law.specs.Unmoved.{LeavesWords}
 use Rattle.word_law.specs.OneMore.{Beside}
 use Rattle.word_law.proofs.OneMore.{one_more_stays}
 use Rattle.event_law.specs.Laws.{Gives, GoTo, FewEvents}
@@ -34,16 +33,13 @@ use Rattle.event_law.proofs.Cells.{looked}
 use Rattle.event_law.proofs.ObjectMessages.{looked_object}
 use Rattle.event_law.proofs.MutexResults.{has}
 use Rattle.event_law.proofs.Applied.{go_with}
-use Rattle.event_law.proofs.Sending.{applied_part, each_event_sends}
-use Rattle.stay_law.proofs.Alike.{Alike, itself, turned, chain, beside, in_front, blank, blanks, goes}
+use Rattle.event_law.proofs.Sending.{each_event_sends}
+use Rattle.stay_law.proofs.Alike.{Alike, itself, turned, chain, beside, in_front, blank, goes}
 use Rattle.stay_law.proofs.Servers.{server_body, receives, sends}
 use Rattle.stay_law.proofs.Sites.{ends_alike, servers_alike, replaced, handed_over}
-use Rattle.carry_law.specs.Leaving.{MovesLeave}
 use Rattle.carry_law.proofs.Far.{leaves_old}
-use Rattle.heap_law.specs.Follow.{cells_in}
-use Rattle.heap_law.specs.Placing.{unclean}
-use Rattle.carry_law.proofs.Leaving.{none_blank, all_cells, one_cell, free_blank, moves_leave}
-use Rattle.copy_law.proofs.Clean.{KeepsClean, Leaves as StayAll, cells_on}
+use Rattle.carry_law.proofs.Leaving.{none_blank, all_cells, one_cell, free_blank}
+use Rattle.copy_law.proofs.Clean.{Leaves as StayAll, cells_on}
 use Rattle.clean_law.proofs.Changed.{SameSeen, changed_where, turned_seen}
 use Rattle.clean_law.proofs.Kept.{has_none, none_before, places_before, places_after, kept_where}
 use Rattle.fresh_law.specs.Fresh.{DeliveredMovesKeepCopies}
@@ -173,8 +169,7 @@ module _ (k : Cluster) (e : Event) (w : ℕ) (o : ObjNo) (a t : ℕ) (sound : Is
       let old : Pointer = record { at = None; word = w; object = g.cell.object } in
       let beside : Beside k old = subst (λ p. Beside k (record { at = None; word = w; object = p })) (sym g.object) (beside_old g.address g.cell there g.object) in
       let more = leaves_old k end here_k places refl rest s.rest.number g.address w g.cell before after beside in
-      let seen : SameSeen k end = record { stands = more.stands; takes = more.takes; took = more.took } in
-      (
+      let seen : SameSeen k end = record { stands = more.stands; takes = more.takes; took = more.took } in (
         one_more_stays k end old here_k places more,
         record {
           on = λ x m. cells_on k.code now (things_of end) after.back x (cells_on k.code (things_of k) was before.on x m);

@@ -1,5 +1,5 @@
 -- Copies are right after a shared borrow through stars, done or not.
-use Rattle.std.proofs.Common.{◌≡◌, ◌⊎◌, inl, inr, ⊎_elim, ℕ, zero, suc, ◌+◌, ◌==◌, Bool, true, false, if◌then◌else◌, List, [], ◌∷◌, ◌++◌, Option, Some, None, option_map, refl, sym, ap, subst, ◌∙◌}
+use Rattle.std.proofs.Common.{◌≡◌, ◌⊎◌, inl, inr, ⊎_elim, ℕ, zero, suc, ◌+◌, ◌==◌, Bool, true, false, if◌then◌else◌, List, [], ◌++◌, Option, Some, None, option_map, refl, sym, ap, subst, ◌∙◌}
 use Rattle.std.specs.Prelude.{⊤, slice_get, nat_lt}
 use Rattle.fr_base.specs.declared.place.Lval.{Lval}
 use Rattle.fr_base.specs.declared.instruction.Instr.{Instr}
@@ -12,7 +12,6 @@ use Rattle.mut_borrow.specs.Refs.{cleaned_answer}
 use Rattle.mut_borrow.specs.declared.mutable.MutRef.{MutRef}
 use Rattle.mut_borrow.specs.declared.mutable.Cleaned.TheVariants as cleaned
 use Rattle.mut_borrow.specs.declared.shared.SharedRef.{SharedRef}
-use Rattle.journal.specs.View.{EntryView}
 use Rattle.thread_state.specs.View.{ThreadState}
 use Rattle.thread_state.specs.declared.phase.Phase.TheVariants as phase
 use Rattle.thread_state.specs.declared.value.Value.{Value}
@@ -20,12 +19,11 @@ use Rattle.thread_state.specs.declared.value.Value.TheVariants as value
 use Rattle.server_model.specs.declared.event.What.TheVariants.{Step}
 use Rattle.server_model.specs.Servers.{Server, Cluster, server_at}
 use Rattle.server_model.specs.Work.{Hand, push_temp, thread_in, without_thread, then_some}
-use Rattle.server_model.specs.Clusters.{apply}
 use Rattle.server_model.specs.NewWords.{NewWord, issue_tint, issue_renewal}
 use Rattle.server_model.specs.Places.{Spot, in_slot, in_cell, in_copy, cell_at, value_at, value_in as cell_value, pointer_of, load_at, took, put_word}
 use Rattle.server_model.specs.Prepare.{Prepared, ready, requested, nothing, and_then, ready_at, ask_object, box_of, cleaned_by, clean_value, read_stars, read_pointer}
 use Rattle.server_model.specs.Commit.{goes_on, shared_from, borrow, borrow_from, commit}
-use Rattle.server_model.specs.Events.{enabled, begin_work, Stepped, committed, prepared, step, step_in, stepped, does}
+use Rattle.server_model.specs.Events.{enabled, begin_work, Stepped, committed, prepared, step}
 use Rattle.heap_law.specs.Things.{Location, at_slot, Thing, servers_things}
 use Rattle.heap_law.specs.Follow.{Ground, value_in, locate}
 use Rattle.heap_law.specs.Sight.{sight}
@@ -33,22 +31,18 @@ use Rattle.heap_law.specs.Words.{IsStale}
 use Rattle.type_law.specs.ClusterTypes.{IsCoherent}
 use Rattle.path_law.proofs.Sole.{some_is}
 use Rattle.word_law.specs.Reworded.{HasPlaces}
-use Rattle.word_law.specs.Unmoved.{LeavesWords}
 use Rattle.word_law.specs.OneMore.{IsClean, Beside}
 use Rattle.word_law.proofs.OneMore.{one_more_stays}
 use Rattle.word_law.proofs.Slots.{set_same}
-use Rattle.word_law.proofs.Tints.{slot_put, word_put}
-use Rattle.word_law.proofs.Unmoved.{untouched_stays}
+use Rattle.word_law.proofs.Tints.{word_put}
 use Rattle.event_law.specs.Laws.{Gives, FewEvents}
-use Rattle.event_law.proofs.Results.{given_by, weaker, over_gives, both_give}
+use Rattle.event_law.proofs.Results.{weaker, both_give}
 use Rattle.event_law.proofs.RulesKeep.{sums_kept}
 use Rattle.event_law.proofs.Bags.{all_standing}
 use Rattle.event_law.proofs.Events.{others_of}
-use Rattle.event_law.proofs.NewWords.{hand_renews, puts_word}
 use Rattle.event_law.proofs.AllSteps.{commits}
 use Rattle.event_law.proofs.Steps.{SteppedOk, committed_keeps}
 use Rattle.read_law.specs.Reading.{Reads, LiesUnder, shares as shares_it}
-use Rattle.stay_law.proofs.Seen.{seen_alike}
 use Rattle.stay_law.proofs.Sites.{HandAlike}
 use Rattle.stay_law.proofs.Steps.{TakesNoneHere, shared_slot_unseen, hand_itself, pushes, goes_over}
 use Rattle.stay_law.specs.Laws.{shared}
@@ -80,7 +74,6 @@ use Rattle.prepare_law.specs.Requests.{WordsHold}
 use Rattle.prepare_law.proofs.Hands.{Ok, State, Walks, put, places, cleans_at}
 use Rattle.prepare_law.proofs.Untaken.{not_taken}
 use Rattle.prepare_law.proofs.Asking.{found_number}
-use Rattle.carry_law.proofs.Locks.{holds_on}
 use Rattle.carry_law.proofs.Hands.{each_together, puts_alike}
 use Rattle.borrow_law.proofs.Renews.{renewed_so}
 use Rattle.copy_law.proofs.Clean.{Leaves, all_goes, cells_on}
@@ -90,10 +83,9 @@ use Rattle.clean_law.proofs.Kept.{has_none}
 use Rattle.clean_law.proofs.ReadCommits.{asks_so}
 use Rattle.clean_law.proofs.ReadAsks.{AsksSo}
 use Rattle.clean_law.proofs.Worded.{Worded, worded_on, has_none_but}
-use Rattle.clean_law.specs.Clean.{VariableBorrowsKeepCopies}
 use Rattle.clean_law.proofs.ReferenceCopies.{variable_borrows_keep}
 use Rattle.stay_law.specs.Laws.{shared}
-use Rattle.result_law.proofs.Starred.{Fine as Read_so, loaded}
+use Rattle.result_law.proofs.Starred.{Fine as Read_so}
 use Rattle.event_law.proofs.Prepares.{PreparedOk}
 use Rattle.local_law.proofs.Small.{Made}
 use Rattle.clean_law.proofs.ReadHands.{IsCalm}
@@ -473,8 +465,7 @@ module _ (k : Cluster) (coherent : IsCoherent k) (few : FewEvents k) (s : Server
   over_leaves h h2 q q2 (one_more l r beside clean a) =
       let al : Alike k.code (things_of (Put h2)) (coming l r ++ things_of (Put h)) = hands_alike k coherent s here t y at (coming l r) h h2 q q2 a in
       let more : OneMore (Put h) (Put h2) (shared_pointer r) = share_more (Put h) (Put h2) (placed h q) (placed h2 q2) refl l (record r { pinned = false }) al beside clean in
-      let seen : SameSeen (Put h) (Put h2) = record { stands = more.stands; takes = more.takes; took = more.took } in
-      (
+      let seen : SameSeen (Put h) (Put h2) = record { stands = more.stands; takes = more.takes; took = more.took } in (
         one_more_stays (Put h) (Put h2) (shared_pointer r) (placed h q) (placed h2 q2) more,
         record {
           on = λ x j. cells_on k.code (coming l r ++ things_of (Put h)) (things_of (Put h2)) al.back x j;

@@ -1,5 +1,5 @@
 -- A dirty reference in a slot that isn't stale gets the next colour, or at the last colour a new address: its object has a word then that wasn't issued, and isn't changed through it any more.
-use Rattle.std.proofs.Common.{◌≡◌, inl, ⊎_elim, ℕ, ◌+◌, ◌==◌, ◌&&◌, nat_lt, Bool, true, false, if◌then◌else◌, [], ◌∷◌, ◌++◌, Option, Some, None, refl, sym, ap, ap₂, subst, ◌∙◌, arith}
+use Rattle.std.proofs.Common.{◌≡◌, inl, ⊎_elim, ℕ, ◌+◌, ◌==◌, ◌&&◌, nat_lt, Bool, true, false, if◌then◌else◌, ◌∷◌, ◌++◌, Some, None, refl, sym, ap, ap₂, subst, ◌∙◌, arith}
 use Rattle.std.specs.Prelude.{slice_get, length}
 use Rattle.std.proofs.lemmas.Bool.Decides.{nat_tests}
 use Rattle.global_addr.specs.Words.{word_of, colour_of, server_of, address_of, next_word}
@@ -20,7 +20,7 @@ use Rattle.heap_law.specs.Names.{Among}
 use Rattle.heap_law.specs.Things.{Location, at_slot, lies, servers_things, things_of}
 use Rattle.heap_law.specs.Follow.{cells_in, value_in}
 use Rattle.heap_law.specs.Stale.{holder_of}
-use Rattle.heap_law.specs.Sight.{Pointer, pointers_in, taken_pointers, is_object_among, sight, issued}
+use Rattle.heap_law.specs.Sight.{pointers_in, taken_pointers, is_object_among, sight, issued}
 use Rattle.heap_law.specs.Words.{IsStale, HasWords, LeadsTo}
 use Rattle.heap_law.proofs.Names.{and_left, and_right}
 use Rattle.type_law.specs.ClusterTypes.{IsCoherent}
@@ -31,7 +31,7 @@ use Rattle.word_law.specs.PutBack.{LeadsHome}
 use Rattle.word_law.proofs.Standing.{lying, told}
 use Rattle.word_law.proofs.Grounds.{of_borrows}
 use Rattle.word_law.proofs.Slots.{set_same}
-use Rattle.word_law.proofs.Tints.{SlotPut, slot_put, word_put, slot_stands, tint_rewords}
+use Rattle.word_law.proofs.Tints.{SlotPut, slot_put, slot_stands, tint_rewords}
 use Rattle.word_law.proofs.NewWord.{is_new}
 use Rattle.word_law.proofs.Past.{first_issued}
 use Rattle.event_law.specs.Laws.{FewEvents}
@@ -43,7 +43,6 @@ use Rattle.event_law.proofs.Objects.{length_set}
 use Rattle.event_law.proofs.NewWords.{puts_word, hand_renews}
 use Rattle.read_law.specs.Reading.{LiesUnder}
 use Rattle.read_law.proofs.Lookups.{one_state}
-use Rattle.prepare_law.proofs.Along.{Along}
 use Rattle.prepare_law.proofs.Hands.{Ok, put, places, stands, Walks}
 use Rattle.made_law.proofs.Servers.{NextWord, next_word_is}
 use Rattle.borrow_law.proofs.Renews.{renewed_so}
@@ -63,9 +62,6 @@ not_less a b e = by (nat_lt a b) refl
     by : (c : Bool) → nat_lt a b ≡ c → c ≡ false
     by true q = absurd (grind (arith, nat_tests, e, q))
     by false q = refl
-
-
-
 
 module _ (k : Cluster) (coherent : IsCoherent k) (few : FewEvents k) (s : Server) (here : server_at k.servers s.rest.number ≡ Some s) (t : ℕ) (y : ThreadState) (at : thread_in s.threads t ≡ Some y)
     (h : Hand) (walks : Walks k coherent s here t y at h) (stay : Leaves k (put k coherent s here t y at h)) (j : ℕ) (q : MutRef) (e : slice_get h.thread.slots j ≡ Some (value.Mut q)) (dirty : q.dirty ≡ true)

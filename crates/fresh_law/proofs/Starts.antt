@@ -29,7 +29,6 @@ use Rattle.path_law.proofs.Alike.{coherent_has_paths}
 use Rattle.path_law.proofs.Contained.{among_thread}
 use Rattle.word_law.specs.Reworded.{HasPlaces}
 use Rattle.word_law.specs.Unmoved.{taking_by, Untouched}
-
 use Rattle.event_law.specs.Laws.{Gives, FewEvents}
 use Rattle.event_law.proofs.Results.{over_gives, both_give}
 use Rattle.event_law.proofs.Bags.{body_things, all_standing, tot-without, thread_number}
@@ -48,7 +47,6 @@ use Rattle.stay_law.proofs.Seen.{seen_alike}
 use Rattle.stay_law.proofs.Steps.{TakesNoneHere}
 use Rattle.prepare_law.proofs.Hands.{calm_goes}
 use Rattle.prepare_law.proofs.Asking.{found_number}
-
 use Rattle.refs_law.specs.Unpassed.{IsUnpassed}
 use Rattle.refs_law.specs.Starts.{StartsThreads, a_thread, a_pair}
 use Rattle.refs_law.proofs.Unpassed.{unnamed_are_unpassed}

@@ -1,8 +1,7 @@
 -- A mutable borrow whose object was taken: each object is what it was, and nothing is asked for.
-use Rattle.std.proofs.Common.{◌≡◌, ◌⊎◌, inl, inr, ℕ, zero, suc, ◌==◌, ◌&&◌, Bool, true, false, if◌then◌else◌, List, [], ◌++◌, Option, Some, None, option_map, refl, sym, ap, ap₂, subst, ◌∙◌, ◌≢◌, ⊎_elim, ◌∷◌, arith, ◌+◌}
+use Rattle.std.proofs.Common.{◌≡◌, ◌⊎◌, inl, inr, ℕ, suc, ◌==◌, Bool, true, false, if◌then◌else◌, List, [], ◌++◌, Option, Some, None, refl, sym, ap, ap₂, subst, ◌∙◌, ◌≢◌, ⊎_elim, ◌∷◌, arith, ◌+◌}
 use Rattle.std.specs.Prelude.{⊤, slice_get, length}
 use Rattle.std.proofs.lemmas.Bool.{eq-eqb}
-use Rattle.fr_base.specs.declared.name.ObjNo.{ObjNo}
 use Rattle.fr_base.specs.declared.place.Lval.{Lval}
 use Rattle.fr_base.specs.declared.instruction.Instr.{Instr}
 use Rattle.heap_partition.specs.declared.value.BoxPtr.{BoxPtr}
@@ -10,63 +9,50 @@ use Rattle.heap_partition.specs.declared.value.Owned.{Owned}
 use Rattle.mut_borrow.specs.declared.mutable.MutRef.{MutRef}
 use Rattle.place_walk.specs.declared.hop.Hop.{Hop}
 use Rattle.place_walk.specs.Hops.{write_hop}
-use Rattle.journal.specs.View.{EntryView}
 use Rattle.thread_state.specs.View.{ThreadState}
-use Rattle.thread_state.specs.declared.phase.Phase.{Phase}
 use Rattle.thread_state.specs.declared.value.Value.{Value}
 use Rattle.server_model.specs.declared.event.Event.{Event}
 use Rattle.server_model.specs.declared.event.What.TheVariants.{Step}
 use Rattle.server_model.specs.Servers.{Server, Cluster, server_at}
-use Rattle.server_model.specs.Work.{Hand, push_temp, thread_in, without_thread, then_some}
-use Rattle.server_model.specs.Clusters.{apply}
+use Rattle.server_model.specs.Work.{Hand, push_temp, thread_in, without_thread}
 use Rattle.server_model.specs.Places.{Spot, in_slot, value_at, load_at, pointer_of, took}
 use Rattle.server_model.specs.Prepare.{Prepared, ready, requested, nothing, LendTo, and_then, ask_object, request_by, read_stars, is_taken, lend_by, lend_value, lend_pointer, ReadTo}
-use Rattle.server_model.specs.Commit.{go_on, goes_on, lent_word, mutable_from, commit, settle, borrow_mut, borrow_mut_from}
-use Rattle.server_model.specs.Events.{enabled, begin_work, Stepped, done_step, committed, prepared, step, step_in, stepped, does}
-use Rattle.heap_law.specs.Names.{Among, same_object, one, other}
+use Rattle.server_model.specs.Commit.{go_on, goes_on, lent_word, mutable_from, commit, settle}
+use Rattle.server_model.specs.Events.{enabled, begin_work, Stepped, done_step, committed, prepared, step}
+use Rattle.heap_law.specs.Names.{Among, one, other}
 use Rattle.heap_law.specs.Things.{Location, Thing, servers_things, at_slot, in_cell, stands, things_of}
 use Rattle.heap_law.specs.Follow.{Ground, locate, Standing, value_behind, leads, place_at}
 use Rattle.heap_law.specs.Sight.{sight, taken_object, issued}
 use Rattle.heap_law.specs.Placing.{is_first, phase_word, words}
-use Rattle.heap_law.proofs.Words.{itself, none_at}
+use Rattle.heap_law.proofs.Words.{none_at}
 use Rattle.type_law.specs.ClusterTypes.{IsCoherent}
 use Rattle.path_law.proofs.Sole.{some_is}
 use Rattle.word_law.specs.Reworded.{HasPlaces}
-use Rattle.word_law.specs.Unmoved.{LeavesWords, Taking, taking_by, taking_of}
+use Rattle.word_law.specs.Unmoved.{Taking, taking_by, taking_of}
 use Rattle.word_law.proofs.Follows.{seen_places_lead}
 use Rattle.word_law.proofs.Standing.{pointer_at}
 use Rattle.event_law.specs.Laws.{Gives, FewEvents}
-use Rattle.event_law.proofs.Results.{weaker, over_gives, both_give}
+use Rattle.event_law.proofs.Results.{over_gives}
 use Rattle.event_law.proofs.Bags.{all_standing}
 use Rattle.event_law.proofs.Events.{others_of}
 use Rattle.read_law.specs.Reading.{Reads, lends}
 use Rattle.still_law.proofs.Prepares.{Fine as Shown}
 use Rattle.still_law.proofs.Readied.{Readied}
 use Rattle.stay_law.proofs.Sites.{HandAlike}
-use Rattle.stay_law.proofs.Steps.{TakesNoneHere, mut_slot_unseen, pushes, settles, goes_over}
-use Rattle.stay_law.specs.Laws.{mutable}
+use Rattle.stay_law.proofs.Steps.{settles}
 use Rattle.turn_law.proofs.ReadWalk.{value_loaded}
 use Rattle.turn_law.proofs.StarLines.{shows}
-use Rattle.prepare_law.specs.Requests.{WordsHold}
-use Rattle.prepare_law.proofs.Hands.{Ok, State, Walks, put, places}
-use Rattle.prepare_law.proofs.Stars.{Spotted, asks_object, walks_loaded}
-use Rattle.prepare_law.proofs.Asking.{found_number}
+use Rattle.prepare_law.proofs.Hands.{Ok, Walks, put, places}
+use Rattle.prepare_law.proofs.Stars.{Spotted, walks_loaded}
 use Rattle.borrow_law.proofs.LentOne.{LentOne}
-use Rattle.borrow_law.proofs.OnTop.{same_takings, lent_on_top, takings_were, takings_but, taking_there}
+use Rattle.borrow_law.proofs.OnTop.{lent_on_top, takings_were, takings_but, taking_there}
 use Rattle.heap_law.specs.Requests.{has_word, last_hop, taken_again, old_word, lies_here, taken_there, taken_phase, lent_place}
 use Rattle.heap_law.specs.Stale.{one_star_less}
 use Rattle.event_law.proofs.GiftsTaken.{none_here}
 use Rattle.carry_law.proofs.Far.{thread_thing}
 use Rattle.ask_law.proofs.Unasked.{Unasked}
 use Rattle.borrow_law.proofs.AtHand.{unasked}
-use Rattle.word_law.proofs.Unmoved.{untouched_stays}
 use Rattle.event_law.proofs.RulesKeep.{sums_kept}
-use Rattle.event_law.proofs.AllSteps.{commits}
-use Rattle.event_law.proofs.Commits.{CommittedOk}
-use Rattle.event_law.proofs.Steps.{SteppedOk, committed_keeps}
-use Rattle.stay_law.proofs.Alike.{turned as turned_round}
-use Rattle.stay_law.proofs.Seen.{seen_alike}
-use Rattle.borrow_law.proofs.Pushed.{hands_alike}
 use Rattle.fr_base.specs.declared.step.Fresh.TheVariants as fresh
 use Rattle.fr_base.specs.declared.instruction.Instr.TheVariants as instr
 use Rattle.heap_partition.specs.declared.value.Owned.TheVariants as owned
@@ -77,32 +63,22 @@ use Rattle.borrow_law.proofs.Sources as sources
 use Rattle.borrow_law.proofs.Made.{Lendable, slot, box, reference, lendable}
 use Rattle.borrow_law.proofs.Lends.{points_somewhere, own_no_mut, its_first}
 use Rattle.server_model.specs.Servers.{Rest}
-use Rattle.server_model.specs.Events.{wait_step}
 use Rattle.heap_law.specs.Words.{HasWords}
-use Rattle.local_law.proofs.Mail.{Mailed, mail_sent}
+use Rattle.local_law.proofs.Mail.{Mailed}
 use Rattle.local_law.proofs.Messages.{Light}
 use Rattle.copy_law.proofs.Clean.{Leaves, all_goes}
-use Rattle.clean_law.proofs.Asked.{asking, ready_asks}
-use Rattle.fresh_law.specs.Fresh.{LeavesRight}
-use Rattle.fresh_law.proofs.Turned.{Turned, turned_on, none_or_idle}
-use Rattle.fresh_law.proofs.Outcome.{Left, Sends, stayed, turned, right_by}
+use Rattle.clean_law.proofs.Asked.{asking}
+use Rattle.fresh_law.proofs.Outcome.{Left}
 use Rattle.word_law.proofs.Put.{put_split}
 use Rattle.carry_law.proofs.Replaced.{cells_same}
 use Rattle.carry_law.proofs.Hands.{each_together, stands_here}
-use Rattle.clean_law.proofs.Changed.{all_chain}
-use Rattle.clean_law.proofs.Kept.{has_none}
-use Rattle.clean_law.proofs.ReadCommits.{asks_so}
-use Rattle.clean_law.proofs.ReadAsks.{AsksSo}
 use Rattle.clean_law.proofs.ReadHands.{IsCalm, calm_start, calm_ready, read_alike}
 use Rattle.result_law.proofs.Starred.{Fine as Read_so, bound}
 use Rattle.result_law.proofs.Readers.{stars_fine}
 use Rattle.event_law.proofs.Prepares.{PreparedOk, prepares}
 use Rattle.local_law.proofs.Small.{Made as MadeSo}
-use Rattle.global_addr.specs.Words.{server_of}
-use Rattle.journal.specs.declared.act.Act.TheVariants as act
-use Rattle.server_msgs.specs.declared.message.Message.TheVariants as message
 use Rattle.heap_law.specs.Follow.{cells_in}
-use Rattle.fresh_law.proofs.LentMarks.{lent_turned, all_same}
+use Rattle.fresh_law.proofs.LentMarks.{lent_turned}
 use Rattle.result_law.proofs.Known.{Steps}
 use Rattle.result_law.proofs.Reading.{Reading}
 use Rattle.local_law.proofs.Mail.{Mail}
@@ -287,7 +263,7 @@ module _ (k : Cluster) (coherent : IsCoherent k) (few : FewEvents k) (s : Server
     stay = moved_goes k coherent.sound s here t y at all_goes h ok (seen (each_together (read_alike k.code n (bound k n t s y i its) m h0 h r calm)));
     mails = λ f mail.
         subst (λ x. Mail (Light (asking f)) n s.rest.outbox h.work.rest.number x h.work.rest.outbox) (sym calm.same_inbox)
-            (subst (λ x. Mail (Light (asking f)) n s.rest.outbox h.work.rest.number s.rest.inbox x) (sym calm.same_outbox) (subst (λ x. Mail (Light (asking f)) n s.rest.outbox x s.rest.inbox s.rest.outbox) (sym ok.number) mail));
+        (subst (λ x. Mail (Light (asking f)) n s.rest.outbox h.work.rest.number s.rest.inbox x) (sym calm.same_outbox) (subst (λ x. Mail (Light (asking f)) n s.rest.outbox x s.rest.inbox s.rest.outbox) (sym ok.number) mail));
   }
 
   -- so is the place

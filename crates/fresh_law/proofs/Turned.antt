@@ -1,9 +1,8 @@
 -- What becomes of clean cells where each object is what it was, or hidden: under a word that wasn't issued, or changed through a reference, and no copy of it was asked for.
-use Rattle.std.proofs.Common.{◌≡◌, ◌⊎◌, inl, inr, ⊎_elim, ℕ, zero, suc, ◌≤◌, ◌+◌, ◌==◌, Bool, true, false, List, [], ◌∷◌, Option, Some, None, is_some, refl, sym, ap, subst, ◌∙◌, arith}
+use Rattle.std.proofs.Common.{◌≡◌, ◌⊎◌, inl, inr, ⊎_elim, ℕ, zero, suc, ◌≤◌, ◌+◌, ◌==◌, true, false, List, Option, Some, None, is_some, refl, sym, ap, subst, ◌∙◌, arith}
 use Rattle.std.proofs.lemmas.Bool.{eqb-true, eq-eqb}
 use Rattle.fr_base.specs.declared.name.ObjNo.{ObjNo}
 use Rattle.heap_partition.specs.declared.value.Cell.{Cell}
-use Rattle.mut_borrow.specs.declared.mutable.MutRef.{MutRef}
 use Rattle.journal.specs.View.{EntryView}
 use Rattle.server_msgs.specs.declared.message.Message.{Message}
 use Rattle.server_msgs.specs.declared.message.Message.TheVariants as message
@@ -14,8 +13,8 @@ use Rattle.heap_law.specs.Names.{tot, one, other, some, Among}
 use Rattle.heap_law.specs.Things.{Thing, sent, things_of}
 use Rattle.heap_law.specs.Follow.{cells_in}
 use Rattle.heap_law.specs.Stale.{Reference, holder_of}
-use Rattle.heap_law.specs.Sight.{is_word, cell_of_word, is_object_among, sight, word, issued}
-use Rattle.heap_law.specs.Words.{IsStale, HasWords}
+use Rattle.heap_law.specs.Sight.{is_word, is_object_among, sight, word, issued}
+use Rattle.heap_law.specs.Words.{HasWords}
 use Rattle.heap_law.specs.Placing.{clean_cell, unclean, unclean_request}
 use Rattle.heap_law.specs.Coherent.{IsSound, Holds, copies_agree}
 use Rattle.heap_law.proofs.Words.{none_at, none_all, told as told_stale}
@@ -30,7 +29,7 @@ use Rattle.copy_law.specs.Copies.{CellsGoOn, CopiesAreRight}
 use Rattle.copy_law.proofs.Clean.{ChangedGo, Leaves, found_by, told, one_of_word}
 use Rattle.copy_law.proofs.KeptCopies.{come_from_copies}
 use Rattle.clean_law.proofs.Asked.{asking}
-use Rattle.clean_law.proofs.Kept.{has_none, none_before, places_before}
+use Rattle.clean_law.proofs.Kept.{has_none, none_before}
 use Rattle.clean_law.proofs.CleanReads.{finds_word, dirty_one}
 use Rattle.clean_law.proofs.Worded.{dirty_found, same_truth, clean_told, clean_so, live_issued}
 

@@ -3,4 +3,7 @@
 
 mod laws;
 
-pub use laws::{boxes_keep_copies, delivered_drops_keep_copies, delivered_moves_keep_copies, mutable_borrows_keep_copies, shared_borrows_keep_copies, starts_keep_copies};
+pub use laws::{
+    boxes_keep_copies, delivered_drops_keep_copies, delivered_moves_keep_copies,
+    mutable_borrows_keep_copies, shared_borrows_keep_copies, starts_keep_copies,
+};
