@@ -1,5 +1,5 @@
 -- Each event leaves a cluster whose one heap is typed: one plain step keeps types, and else it is as it was.
-use Rattle.std.proofs.Common.{◌≡◌, ℕ, length, option_map, Option, Some, None, refl, sym, ap, ap₂, subst, ◌∙◌}
+use Rattle.std.proofs.Common.{◌≡◌, ℕ, length, option_map, Option, Some, None, refl, sym, ap₂, subst, ◌∙◌}
 use Rattle.std.proofs.Math.Path.{fun_ext}
 use Rattle.fr_base.specs.declared.step.Fresh.{Fresh}
 use Rattle.fr_plain.specs.PlainState.{SameState, plain_state}
@@ -13,13 +13,10 @@ use Rattle.server_model.specs.declared.event.Event.{Event}
 use Rattle.server_model.specs.Servers.{Server, Cluster, server_at}
 use Rattle.server_model.specs.Work.{then_some}
 use Rattle.server_model.specs.Clusters.{hand_over_newer, done_at, apply}
-use Rattle.heap_law.specs.Things.{things_of}
-use Rattle.heap_law.specs.Balances.{Agree, AtMostOne}
-use Rattle.heap_law.specs.Weights.{cells, owners, is_thread}
 use Rattle.heap_law.specs.Coherent.{Holds, names_counted, counts_from_one, over_are_bare}
 use Rattle.heap_law.specs.OneHeap.{one_heap}
 use Rattle.type_law.specs.ClusterTypes.{IsCoherent}
-use Rattle.event_law.specs.Laws.{Gives, FewEvents}
+use Rattle.event_law.specs.Laws.{Gives, FewEvents, NumbersDiffer}
 use Rattle.event_law.proofs.Results.{map_gives, both_give}
 use Rattle.event_law.proofs.Sending.{applied_part}
 use Rattle.local_law.proofs.Bare.{bare_kept}
@@ -48,12 +45,6 @@ code_kept k e = by (server_at k.servers e.server)
     by (Some s) =
         map_gives (λ (d : Cluster × EntryView). d.0.code ≡ k.code) (done_at k e.what s) (λ (x : Server × EntryView). (record k { servers = hand_over_newer e.server (length s.rest.outbox) x.0 k.servers }, x.1)) (λ a f. refl)
 
--- what threads are found by, and that each object has one home and one owner
-record HomesAndNumbers (k : Cluster) : Type 0 where
-  numbers : AtMostOne is_thread (things_of k)
-  homes : AtMostOne cells (things_of k)
-  owners_there : Agree owners cells (things_of k)
-
 also : {X : Type 0} (P Q : X → Type 0) (x : Option X) → Gives P x → Gives Q x → Gives (λ a. P a × Q a) x
 also P Q x p q = both_give P Q (λ a. P a × Q a) x p q (λ a b d. (b, d))
 
@@ -62,9 +53,9 @@ numbers_kept : (k : Cluster) (e : Event) → IsCoherent k → FewEvents k → Gi
 numbers_kept k e co few =
     let names = also (λ (d : Cluster × EntryView). Holds d.0 names_counted) (λ (d : Cluster × EntryView). Holds d.0 counts_from_one) (apply k e) (names_kept k e co.sound few) (counts_kept k e co.sound few) in
     let bare = also (λ (d : Cluster × EntryView). Holds d.0 names_counted × Holds d.0 counts_from_one) (λ (d : Cluster × EntryView). Holds d.0 over_are_bare) (apply k e) names (bare_kept k e co few) in
-    both_give (λ (d : Cluster × EntryView). HomesAndNumbers d.0) (λ (d : Cluster × EntryView). (Holds d.0 names_counted × Holds d.0 counts_from_one) × Holds d.0 over_are_bare) (λ (d : Cluster × EntryView). HasNumbers d.0) (apply k e)
-    (applied_part HomesAndNumbers (λ c g. record { numbers = g.numbers_differ; homes = g.home_of_each; owners_there = g.owner_of_each }) k e co.sound few) bare
-    (λ d a b. record { numbers_differ = a.numbers; names_counted = b.0.0; counts_from_one = b.0.1; over_are_bare = b.1; home_of_each = a.homes; owner_of_each = a.owners_there })
+    both_give (λ (d : Cluster × EntryView). NumbersDiffer d.0) (λ (d : Cluster × EntryView). (Holds d.0 names_counted × Holds d.0 counts_from_one) × Holds d.0 over_are_bare) (λ (d : Cluster × EntryView). HasNumbers d.0) (apply k e)
+    (applied_part NumbersDiffer (λ c g. g.numbers_differ) k e co.sound few) bare
+    (λ d a b. record { numbers_differ = a; names_counted = b.0.0; counts_from_one = b.0.1; over_are_bare = b.1 })
 
 module _ (k : Cluster) (co : IsCoherent k) where
   abbrev Typed : Cluster → Type 0

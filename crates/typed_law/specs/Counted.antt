@@ -19,8 +19,8 @@ use Rattle.thread_state.specs.declared.value.Value.TheVariants as value
 use Rattle.server_model.specs.Servers.{Cluster}
 use Rattle.heap_law.specs.Names.{tot, other, if_so}
 use Rattle.heap_law.specs.Things.{things_of}
-use Rattle.heap_law.specs.Balances.{Agree, AtMostOne}
-use Rattle.heap_law.specs.Weights.{cells, owners, is_thread}
+use Rattle.heap_law.specs.Balances.{AtMostOne}
+use Rattle.heap_law.specs.Weights.{is_thread}
 use Rattle.heap_law.specs.Coherent.{Holds, names_counted, counts_from_one, over_are_bare}
 use Rattle.heap_law.specs.Sight.{Sight, sight}
 use Rattle.heap_law.specs.Walking.{sum_threads}
@@ -96,15 +96,12 @@ over_ends_wrong table n s = sum_threads s (λ x. if_so (is_over x.thread.phase) 
 
 -- THE LAW
 
--- that threads are found by their numbers, which were given, that a thread that is over has nothing, and that each object has one home and one owner: what
--- each event keeps
+-- that threads are found by their numbers, which were given, and that a thread that is over has nothing: what each event keeps
 pub record HasNumbers (k : Cluster) : Type 0 where
   pub numbers_differ : AtMostOne is_thread (things_of k)
   pub names_counted : Holds k names_counted
   pub counts_from_one : Holds k counts_from_one
   pub over_are_bare : Holds k over_are_bare
-  pub home_of_each : AtMostOne cells (things_of k)
-  pub owner_of_each : Agree owners cells (things_of k)
 
 -- these types of objects are those, of each object that is in the one heap
 abbrev pub AreTheseTypes : Cluster → (ObjNo → OwnedType) → (ObjNo → OwnedType) → Type 0
