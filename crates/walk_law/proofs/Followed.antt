@@ -1,0 +1,314 @@
+-- What is said of each thread but the one that stepped, by the pointers on its way: what it has followed, what it waits for, and what it has taken.
+use Rattle.std.proofs.Common.{◌≡◌, ◌≢◌, ℕ, zero, suc, ◌+◌, ◌≤◌, ◌<◌, ◌==◌, ◌&&◌, not, Bool, true, false, List, [], ◌∷◌, Option, Some, None, is_some, inl, inr, refl, sym, ap, subst, ◌∙◌, arith}
+use Rattle.std.specs.Prelude.{slice_get}
+use Rattle.std.proofs.lemmas.Bool.Decides.{nat_tests}
+use Rattle.fr_base.specs.Lists.{last_of}
+use Rattle.fr_base.specs.declared.place.Lval.{Lval}
+use Rattle.fr_base.specs.declared.instruction.Instr.{Instr}
+use Rattle.fr_base.specs.declared.instruction.Instr.TheVariants as instr
+use Rattle.heap_partition.specs.declared.value.Owned.{Owned}
+use Rattle.mut_borrow.specs.declared.mutable.MutRef.{MutRef}
+use Rattle.thread_state.specs.View.{ThreadState, is_over}
+use Rattle.thread_state.specs.declared.phase.Phase.{Phase}
+use Rattle.thread_state.specs.declared.phase.Phase.TheVariants as phase
+use Rattle.thread_state.specs.declared.value.Value.{Value}
+use Rattle.thread_state.specs.declared.value.Value.TheVariants as value
+use Rattle.server_msgs.specs.declared.message.Message.{Message}
+use Rattle.journal.specs.View.{EntryView}
+use Rattle.server_model.specs.declared.event.Event.{Event}
+use Rattle.server_model.specs.declared.event.What.TheVariants.{Step}
+use Rattle.server_model.specs.Servers.{Cluster, server_at}
+use Rattle.server_model.specs.Events.{is_ready}
+use Rattle.server_model.specs.Clusters.{done_at, apply}
+use Rattle.heap_law.specs.Names.{tot, one, other, if_so, Among}
+use Rattle.heap_law.specs.Things.{Thing, sent, lies, flies, stands, things_of}
+use Rattle.heap_law.specs.Follow.{Standing, Ground, threads_in, thread_at}
+use Rattle.heap_law.specs.Paths.{Path, no_path, reads, shares, lends, writes, ends, ending, taking, assigning, path_of, written_place, Awaited, followed}
+use Rattle.heap_law.specs.Sight.{Sight, sight}
+use Rattle.heap_law.specs.Walking.{instr_of, path, words_kept, loose_hop, asks_for, asked_for, in_walk, early, too_far, over_place, over_passed, away, has_gift_there, has_followed, lost_place, out_of_turn}
+use Rattle.heap_law.specs.Requests.{is_got, early_gift, old_word}
+use Rattle.heap_law.specs.Coherent.{Holds, IsSound, gifts_got, passed_in_a_walk}
+use Rattle.heap_law.proofs.Words.{none_at}
+use Rattle.type_law.specs.ClusterTypes.{IsCoherent}
+use Rattle.path_law.specs.HeapStore.{GoesOn, HasPaths}
+use Rattle.path_law.proofs.Contained.{among_thread}
+use Rattle.path_law.proofs.Sole.{some_is}
+use Rattle.word_law.specs.Reworded.{HasPlaces}
+use Rattle.event_law.specs.Laws.{Gives, FewEvents}
+use Rattle.event_law.proofs.Results.{then_gives, map_gives, both_give, weaker}
+use Rattle.still_law.proofs.Told.{tot_same, found}
+use Rattle.local_law.proofs.Sentences.{passed_kept}
+use Rattle.wait_law.specs.Places.{Follows}
+use Rattle.heap_law.specs.Passing.{FollowedLaw, PassedLaw}
+use Rattle.heap_law.specs.Turn.{TurnLaw}
+use Rattle.heap_law.proofs.Followed.{followed_law}
+use Rattle.heap_law.proofs.Passing.{passed_law}
+use Rattle.heap_law.proofs.Turn.{turn_law}
+use Rattle.walk_law.specs.Pointers.{SamePointers, OthersStepsKeep}
+use Rattle.walk_law.proofs.Cells.{Seeing, cell_weight}
+use Rattle.walk_law.proofs.Clusters.{Unseen, SeesOn, SeenIn}
+use Rattle.walk_law.proofs.Others.{places_of, Stays, stays, pointers_same, follows_apart, Known, known}
+use Rattle.walk_law.proofs.New.{newly, new_ones}
+use Rattle.walk_law.proofs.Sentences.{SameOn, lost_same, turn_kept, old_same}
+use Rattle.walk_law.proofs.Ways.{same_on}
+use Rattle.walk_law.proofs.Lying.{away_kept}
+
+-- WHO IS IDLE
+
+-- it does nothing any more, or nothing yet
+abbrev idle : Phase → Bool
+idle phase.Ready = true
+idle phase.Over = true
+idle q = false
+
+over_idle : (q : Phase) → is_over q ≡ true → idle q ≡ true
+over_idle phase.Over e = refl
+over_idle q e = absurd (cc e)
+
+over_got : (q : Phase) → is_over q ≡ true → is_got q ≡ false
+over_got phase.Over e = refl
+over_got q e = absurd (cc e)
+
+ready_idle : (q : Phase) → one (not (is_ready q)) ≡ 0 → idle q ≡ true
+ready_idle phase.Ready e = refl
+ready_idle phase.Got e = absurd (cc e)
+ready_idle (phase.Taken w) e = absurd (cc e)
+ready_idle (phase.WaitCell w) e = absurd (cc e)
+ready_idle (phase.WaitLock m) e = absurd (cc e)
+ready_idle (phase.WaitDup m) e = absurd (cc e)
+ready_idle (phase.WaitJoin u) e = absurd (cc e)
+ready_idle (phase.WaitPar u v) e = absurd (cc e)
+ready_idle (phase.GotPar u v) e = absurd (cc e)
+ready_idle phase.Over e = absurd (cc e)
+
+none_there : (v : Option Owned) → one (is_some v) ≡ 0 → v ≡ None
+none_there None e = refl
+none_there (Some v) e = absurd (cc e)
+
+no_gift : (v : Option Owned) (b : Bool) → b ≡ false → one (is_some v && not b) ≡ 0 → v ≡ None
+no_gift None b e z = refl
+no_gift (Some v) true e z = absurd (cc e)
+no_gift (Some v) false e z = absurd (cc z)
+
+idle_follows : (s : Sight) (x : Standing) (q : Phase) → idle q ≡ true → x.thread.gift ≡ None → has_followed s x q ≡ false
+idle_follows s x phase.Ready e g = ap (λ v. has_gift_there v (instr_of s x)) g
+idle_follows s x phase.Over e g = ap (λ v. has_gift_there v (instr_of s x)) g
+idle_follows s x phase.Got e g = absurd (cc e)
+idle_follows s x (phase.Taken w) e g = absurd (cc e)
+idle_follows s x (phase.WaitCell w) e g = absurd (cc e)
+idle_follows s x (phase.WaitLock m) e g = absurd (cc e)
+idle_follows s x (phase.WaitDup m) e g = absurd (cc e)
+idle_follows s x (phase.WaitJoin u) e g = absurd (cc e)
+idle_follows s x (phase.WaitPar u v) e g = absurd (cc e)
+idle_follows s x (phase.GotPar u v) e g = absurd (cc e)
+
+idle_turn : (s : Sight) (x : Standing) (q : Phase) → idle q ≡ true → out_of_turn s x q ≡ 0
+idle_turn s x (phase.WaitCell w) e = absurd (cc e)
+idle_turn s x phase.Ready e = refl
+idle_turn s x phase.Got e = refl
+idle_turn s x (phase.Taken w) e = refl
+idle_turn s x (phase.WaitLock m) e = refl
+idle_turn s x (phase.WaitDup m) e = refl
+idle_turn s x (phase.WaitJoin u) e = refl
+idle_turn s x (phase.WaitPar u v) e = refl
+idle_turn s x (phase.GotPar u v) e = refl
+idle_turn s x phase.Over e = refl
+
+idle_old : (s : Sight) (x : Standing) (q : Phase) → idle q ≡ true → old_word s x q ≡ 0
+idle_old s x (phase.Taken w) e = absurd (cc e)
+idle_old s x phase.Ready e = refl
+idle_old s x phase.Got e = refl
+idle_old s x (phase.WaitCell w) e = refl
+idle_old s x (phase.WaitLock m) e = refl
+idle_old s x (phase.WaitDup m) e = refl
+idle_old s x (phase.WaitJoin u) e = refl
+idle_old s x (phase.WaitPar u v) e = refl
+idle_old s x (phase.GotPar u v) e = refl
+idle_old s x phase.Over e = refl
+
+unpassed : (m : ℕ) (b : Bool) → (m == 0) ≡ b → one (true && not b) ≡ 0 → m ≡ 0
+unpassed m true f z = grind (arith, nat_tests, f)
+unpassed m false f z = absurd (cc z)
+
+idle_passed : (q : Phase) (m : ℕ) → idle q ≡ true → one (not (in_walk q) && not (m == 0)) ≡ 0 → m ≡ 0
+idle_passed phase.Ready m e z = unpassed m (m == 0) refl z
+idle_passed phase.Over m e z = unpassed m (m == 0) refl z
+idle_passed phase.Got m e z = absurd (cc e)
+idle_passed (phase.Taken w) m e z = absurd (cc e)
+idle_passed (phase.WaitCell w) m e z = absurd (cc e)
+idle_passed (phase.WaitLock n) m e z = absurd (cc e)
+idle_passed (phase.WaitDup n) m e z = absurd (cc e)
+idle_passed (phase.WaitJoin u) m e z = absurd (cc e)
+idle_passed (phase.WaitPar u v) m e z = absurd (cc e)
+idle_passed (phase.GotPar u v) m e z = absurd (cc e)
+
+none_passed : (s : Sight) (x : Standing) (o : Option Lval) → over_place s.ground x.thread.number 0 (away s x.server) o ≡ 0
+none_passed s x None = refl
+none_passed s x (Some w) = refl
+
+-- AFTERWARDS
+
+-- what is known of the cluster
+pub record After (k c : Cluster) (t : ℕ) (p : HasPaths k) : Type 0 where
+  pub code : c.code ≡ k.code
+  pub options : c.options ≡ k.options
+  pub places : HasPlaces c
+  pub sees : SeesOn k p t (things_of k) (things_of c)
+  pub new : tot (newly k) (threads_in (things_of c)) ≡ 0
+  pub walks : Holds c passed_in_a_walk
+
+module _ (k c : Cluster) (t : ℕ) (coherent : IsCoherent k) (p : HasPaths k) (a : After k c t p) where
+  abbrev G : Ground
+  G = (sight k).ground
+
+  abbrev G2 : Ground
+  G2 = (sight c).ground
+
+  -- no message went
+  asked_still : (n : ℕ) (b : Awaited) → tot (asked_for n b) (things_of k) ≤ tot (asked_for n b) (things_of c)
+  asked_still n b =
+      let see : Seeing = record { cells = λ r o v. 0; threads = λ r q u. 0; messages = λ r m. one (asks_for n b m) } in
+      omega (arith, a.sees see (record { thread = λ r q u e. refl; written = λ o h r v. refl }), tot_same (cell_weight see) (asked_for n b) so (things_of k), tot_same (cell_weight see) (asked_for n b) so (things_of c))
+    where
+      so : (x : Thing) → cell_weight (record { cells = λ r o v. 0; threads = λ r q u. 0; messages = λ r m. one (asks_for n b m) }) x ≡ asked_for n b x
+      so (sent r m) = refl
+      so (lies r q d) = refl
+      so (flies w d) = refl
+      so (stands r q u) = refl
+      so _ = refl
+
+  -- ONE THREAD
+
+  -- what of a thread may be wrong is nothing where it is idle and has no gift, and where it was nothing and the pointers on its way are the same
+  record Told (wrong : Sight → Standing → ℕ) : Type 0 where
+    before : (x : Standing) → Among x G.threads → wrong (sight k) x ≡ 0
+    kept : (x : Standing) → GoesOn k x → x.thread.number ≢ t → SameOn k c x.thread.number (path (sight k) x) → wrong (sight k) x ≡ 0 → wrong (sight c) x ≡ 0
+    rests : (x : Standing) → idle x.thread.phase ≡ true → x.thread.gift ≡ None → early x ≡ 0 → wrong (sight c) x ≡ 0
+
+  of_thread : (wrong : Sight → Standing → ℕ) → Told wrong → (y : Standing) → Among y (sight c).ground.threads → (y.thread.number ≡ t → ⊥) → wrong (sight c) y ≡ 0
+  of_thread wrong w y among ne = by (thread_at G.threads y.thread.number) refl
+    where
+      here : thread_at G2.threads y.thread.number ≡ Some y
+      here = let places = a.places in found y (things_of c) (places.numbers_differ y.thread.number) among
+
+      stood : (x : Standing) → Among x G.threads → x.thread.number ≡ y.thread.number → wrong (sight c) x ≡ 0
+      stood x listed number = going (is_over x.thread.phase) refl
+        where
+          off : x.thread.number ≢ t
+          off = λ (e : x.thread.number ≡ t). ne (sym number ∙ e)
+
+          going : (b : Bool) → is_over x.thread.phase ≡ b → wrong (sight c) x ≡ 0
+          going true e =
+              let soon : early_gift x ≡ 0 = none_at early_gift x G.threads coherent.sound.requests.gifts_got listed in
+              w.rests x (over_idle x.thread.phase e) (no_gift x.thread.gift (is_got x.thread.phase) (over_got x.thread.phase e) soon) (none_at early x G.threads coherent.sound.walks.passed_in_a_walk listed)
+          going false e =
+              let g : GoesOn k x = record { among = listed; going = e } in
+              w.kept x g off (same_on k c x (λ v f. pointers_same k c p t (places_of coherent) a.places a.sees x g off v (follows_apart k p x g v f))) (w.before x listed)
+
+      by : (o : Option Standing) → thread_at G.threads y.thread.number ≡ o → wrong (sight c) y ≡ 0
+      by None e =
+          let none : newly k y ≡ 0 = none_at (newly k) y (threads_in (things_of c)) a.new among in
+          let parts : one (not (is_ready y.thread.phase)) + one (is_some y.thread.gift) ≡ 0 = sym (ap (λ o. if_so (not (is_some o)) (one (not (is_ready y.thread.phase)) + one (is_some y.thread.gift))) e) ∙ none in
+          w.rests y (ready_idle y.thread.phase (omega (arith, parts))) (none_there y.thread.gift (omega (arith, parts))) (none_at early y (threads_in (things_of c)) a.walks among)
+      by (Some x) e =
+          let listed = among_thread G.threads y.thread.number x e in
+          let off : x.thread.number ≢ t = λ (q : x.thread.number ≡ t). ne (sym listed.1 ∙ q) in
+          let st : Stays k c p t (places_of coherent) a.places a.sees x = stays k c p t (places_of coherent) a.places a.sees x (ap (thread_at G.threads) listed.1 ∙ e) off in
+          let it : st.standing ≡ y = some_is (sym st.found ∙ ap (thread_at G2.threads) listed.1 ∙ here) in
+          ap (wrong (sight c)) (sym it) ∙ st.same (wrong (sight c)) ∙ stood x listed.0 listed.1
+
+  -- SENTENCES
+
+  lost_told : Told lost_place
+  lost_told = record {
+    before = λ x among. none_at (lost_place (sight k)) x G.threads (let law : FollowedLaw = followed_law in law.none_counted (sight k) coherent.sound.walks.have_followed) among;
+    kept = λ x g ne same z. lost_same k c x a.code a.options same ∙ z;
+    rests = λ x e g b. ap (λ b. if_so b (tot (loose_hop x.server (words_kept x.thread)) (followed G2 x.thread.number (path (sight c) x)))) (idle_follows (sight c) x x.thread.phase e g);
+  }
+
+  abbrev turn_at : Sight → Standing → ℕ
+  turn_at s x = out_of_turn s x x.thread.phase
+
+  turn_told : Told turn_at
+  turn_told = record {
+    before = λ x among. none_at (λ y. out_of_turn (sight k) y y.thread.phase) x G.threads (let law : TurnLaw = turn_law in law.none_counted (sight k) coherent.sound.walks.wait_in_turn) among;
+    kept = λ x g ne same z. turn_kept k c x a.code a.options same (λ b. asked_still x.thread.number b) x.thread.phase z;
+    rests = λ x e g b. idle_turn (sight c) x x.thread.phase e;
+  }
+
+  abbrev old_at : Sight → Standing → ℕ
+  old_at s x = old_word s x x.thread.phase
+
+  old_told : Told old_at
+  old_told = record {
+    before = λ x among. none_at (λ y. old_word (sight k) y y.thread.phase) x G.threads coherent.sound.requests.taken_is_new among;
+    kept = λ x g ne same z. old_same k c x a.code a.options same x.thread.phase ∙ z;
+    rests = λ x e g b. idle_old (sight c) x x.thread.phase e;
+  }
+
+  -- what it has passed lies there
+  abbrev away_at : Sight → Standing → ℕ
+  away_at s x = over_passed s (away s) x
+
+  away_told : Told away_at
+  away_told = record {
+    before = λ x among. (let law : PassedLaw = passed_law in let none = law.none_counted k coherent.sound.walks.have_passed in none_at (away_at (sight k)) x G.threads (omega (arith, none)) among);
+    kept = λ x g ne same z.
+        away_kept k c p t a.sees x g ne (λ w f. pointers_same k c p t (places_of coherent) a.places a.sees x g ne w (follows_apart k p x g w f)) a.code (none_at (too_far (sight k)) x G.threads coherent.sound.walks.passed_within g.among) z;
+    rests = λ x e g b. (let none = idle_passed x.thread.phase x.thread.passed e b in ap (λ m. over_place G2 x.thread.number m (away (sight c) x.server) (written_place (path (sight c) x))) none ∙ none_passed (sight c) x (written_place (path (sight c) x)));
+  }
+
+  pub all_told : (y : Standing) → Among y (sight c).ground.threads → (y.thread.number ≡ t → ⊥) → (lost_place (sight c) y ≡ 0) × (out_of_turn (sight c) y y.thread.phase ≡ 0) × (old_word (sight c) y y.thread.phase ≡ 0) × (over_passed (sight c) (away (sight c)) y ≡ 0)
+  all_told y among ne = (of_thread lost_place lost_told y among ne, of_thread turn_at turn_told y among ne, of_thread old_at old_told y among ne, of_thread away_at away_told y among ne)
+
+-- THE STEP
+
+-- an event leaves the code and the options
+pub same_settings : (k : Cluster) (e : Event) → Gives (λ (d : Cluster × EntryView). (d.0.code ≡ k.code) × (d.0.options ≡ k.options)) (apply k e)
+same_settings k e =
+    then_gives (λ (d : Cluster × EntryView). (d.0.code ≡ k.code) × (d.0.options ≡ k.options)) (server_at k.servers e.server) _ (λ s here.
+    map_gives (λ (d : Cluster × EntryView). (d.0.code ≡ k.code) × (d.0.options ≡ k.options)) (done_at k e.what s) _ (λ r q. (refl, refl)))
+
+module _ (k : Cluster) (e : Event) (t : ℕ) (is : e.what ≡ Step t) (coherent : IsCoherent k) (few : FewEvents k) where
+  abbrev Others : Cluster × EntryView → Type 0
+  Others d = (y : Standing) → Among y (sight d.0).ground.threads → (y.thread.number ≡ t → ⊥) → (lost_place (sight d.0) y ≡ 0) × (out_of_turn (sight d.0) y y.thread.phase ≡ 0) × (old_word (sight d.0) y y.thread.phase ≡ 0) × (over_passed (sight d.0) (away (sight d.0)) y ≡ 0)
+
+  abbrev Settings : Cluster × EntryView → Type 0
+  Settings d = (d.0.code ≡ k.code) × (d.0.options ≡ k.options)
+
+  abbrev New : Cluster × EntryView → Type 0
+  New d = tot (newly k) (threads_in (things_of d.0)) ≡ 0
+
+  abbrev Early : Cluster × EntryView → Type 0
+  Early d = Holds d.0 passed_in_a_walk
+
+  abbrev Rest : Cluster × EntryView → Type 0
+  Rest d = Settings d × (New d × Early d)
+
+  rest : Gives Rest (apply k e)
+  rest =
+      both_give Settings (λ d. New d × Early d) Rest (apply k e) (same_settings k e)
+      (both_give New Early (λ d. New d × Early d) (apply k e) (new_ones k coherent.sound e t is few) (passed_kept k e coherent.sound few) (λ d a b. (a, b))) (λ d a b. (a, b))
+
+  others : Gives Others (apply k e)
+  others =
+      both_give Rest (Known k e coherent few) Others (apply k e) rest (known k e coherent few)
+      (λ d a b y among ne. all_told k d.0 t coherent (b.1 t is).0 (record { code = a.0.0; options = a.0.1; places = b.0; sees = (b.1 t is).1; new = a.1.0; walks = a.1.1 }) y among ne)
+
+pub others_followed : OthersStepsKeep lost_place
+others_followed k e t is coherent few = weaker (Others k e t is coherent few) (λ (d : Cluster × EntryView). (x : Standing) → Among x (sight d.0).ground.threads → (x.thread.number ≡ t → ⊥) → lost_place (sight d.0) x ≡ 0) (apply k e) (others k e t is coherent few) (λ d f x among ne. (f x among ne).0)
+
+pub others_wait : OthersStepsKeep (λ s x. out_of_turn s x x.thread.phase)
+others_wait k e t is coherent few =
+    weaker (Others k e t is coherent few) (λ (d : Cluster × EntryView). (x : Standing) → Among x (sight d.0).ground.threads → (x.thread.number ≡ t → ⊥) → out_of_turn (sight d.0) x x.thread.phase ≡ 0) (apply k e) (others k e t is coherent few)
+    (λ d f x among ne. (f x among ne).1)
+
+pub others_taken : OthersStepsKeep (λ s x. old_word s x x.thread.phase)
+others_taken k e t is coherent few =
+    weaker (Others k e t is coherent few) (λ (d : Cluster × EntryView). (x : Standing) → Among x (sight d.0).ground.threads → (x.thread.number ≡ t → ⊥) → old_word (sight d.0) x x.thread.phase ≡ 0) (apply k e) (others k e t is coherent few)
+    (λ d f x among ne. (f x among ne).2)
+
+pub others_passed : OthersStepsKeep (λ s x. over_passed s (away s) x)
+others_passed k e t is coherent few =
+    weaker (Others k e t is coherent few) (λ (d : Cluster × EntryView). (x : Standing) → Among x (sight d.0).ground.threads → (x.thread.number ≡ t → ⊥) → over_passed (sight d.0) (away (sight d.0)) x ≡ 0) (apply k e) (others k e t is coherent few)
+    (λ d f x among ne. (f x among ne).3)

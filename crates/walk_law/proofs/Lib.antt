@@ -1,0 +1,15 @@
+pub mod Cells
+pub mod Ready
+pub mod Commits
+pub mod Steps
+pub mod Ended
+pub mod Whole
+pub mod Clusters
+pub mod Tests
+pub mod Others
+pub mod Sentences
+pub mod Ways
+pub mod Lying
+pub mod New
+pub mod Followed
+pub mod Steady
