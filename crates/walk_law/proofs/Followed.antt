@@ -1,8 +1,9 @@
--- What is said of each thread but the one that stepped, by the pointers on its way: what it has followed, what it waits for, and what it has taken.
+-- What is said of each thread but the event's own one, by the pointers on its way: what it has followed, what it waits for, and what it has taken.
 use Rattle.std.proofs.Common.{◌≡◌, ◌≢◌, ℕ, zero, suc, ◌+◌, ◌≤◌, ◌<◌, ◌==◌, ◌&&◌, not, Bool, true, false, List, [], ◌∷◌, Option, Some, None, is_some, inl, inr, refl, sym, ap, subst, ◌∙◌, arith}
 use Rattle.std.specs.Prelude.{slice_get}
 use Rattle.std.proofs.lemmas.Bool.Decides.{nat_tests}
 use Rattle.fr_base.specs.Lists.{last_of}
+use Rattle.fr_base.specs.declared.name.ObjNo.{ObjNo}
 use Rattle.fr_base.specs.declared.place.Lval.{Lval}
 use Rattle.fr_base.specs.declared.instruction.Instr.{Instr}
 use Rattle.fr_base.specs.declared.instruction.Instr.TheVariants as instr
@@ -21,8 +22,8 @@ use Rattle.server_model.specs.Servers.{Cluster, server_at}
 use Rattle.server_model.specs.Events.{is_ready}
 use Rattle.server_model.specs.Clusters.{done_at, apply}
 use Rattle.heap_law.specs.Names.{tot, one, other, if_so, Among}
-use Rattle.heap_law.specs.Things.{Thing, sent, lies, flies, stands, things_of}
-use Rattle.heap_law.specs.Follow.{Standing, Ground, threads_in, thread_at}
+use Rattle.heap_law.specs.Things.{in_cell, things_of}
+use Rattle.heap_law.specs.Follow.{Standing, Ground, threads_in, thread_at, locate}
 use Rattle.heap_law.specs.Paths.{Path, no_path, reads, shares, lends, writes, ends, ending, taking, assigning, path_of, written_place, Awaited, followed}
 use Rattle.heap_law.specs.Sight.{Sight, sight}
 use Rattle.heap_law.specs.Walking.{instr_of, path, words_kept, loose_hop, asks_for, asked_for, in_walk, early, too_far, over_place, over_passed, away, has_gift_there, has_followed, lost_place, out_of_turn}
@@ -39,6 +40,7 @@ use Rattle.event_law.proofs.Results.{then_gives, map_gives, both_give, weaker}
 use Rattle.still_law.proofs.Told.{tot_same, found}
 use Rattle.local_law.proofs.Sentences.{passed_kept}
 use Rattle.wait_law.specs.Places.{Follows}
+use Rattle.wait_law.proofs.Written.{Written}
 use Rattle.heap_law.specs.Passing.{FollowedLaw, PassedLaw}
 use Rattle.heap_law.specs.Turn.{TurnLaw}
 use Rattle.heap_law.proofs.Followed.{followed_law}
@@ -46,9 +48,10 @@ use Rattle.heap_law.proofs.Passing.{passed_law}
 use Rattle.heap_law.proofs.Turn.{turn_law}
 use Rattle.walk_law.specs.Pointers.{SamePointers, OthersStepsKeep}
 use Rattle.walk_law.proofs.Cells.{Seeing, cell_weight}
-use Rattle.walk_law.proofs.Clusters.{Unseen, SeesOn, SeenIn}
-use Rattle.walk_law.proofs.Others.{places_of, Stays, stays, pointers_same, follows_apart, Known, known}
-use Rattle.walk_law.proofs.New.{newly, new_ones}
+use Rattle.walk_law.proofs.Clusters.{SeesOn}
+use Rattle.walk_law.proofs.Still.{places_of, Lasts, Stays, stays, pointers_same}
+use Rattle.walk_law.proofs.Others.{Own, step_lasts, follows_apart, Known, known}
+use Rattle.walk_law.proofs.New.{newly, step_quiet, new_ones}
 use Rattle.walk_law.proofs.Sentences.{SameOn, lost_same, turn_kept, old_same}
 use Rattle.walk_law.proofs.Ways.{same_on}
 use Rattle.walk_law.proofs.Lying.{away_kept}
@@ -149,43 +152,44 @@ none_passed s x (Some w) = refl
 -- AFTERWARDS
 
 -- what is known of the cluster
-pub record After (k c : Cluster) (t : ℕ) (p : HasPaths k) : Type 0 where
+pub record After (k c : Cluster) (Own : ℕ → Type 0) (Changed : ObjNo → Type 0) : Type 0 where
   pub code : c.code ≡ k.code
   pub options : c.options ≡ k.options
   pub places : HasPlaces c
-  pub sees : SeesOn k p t (things_of k) (things_of c)
+  pub lasts : Lasts k c Own Changed
   pub new : tot (newly k) (threads_in (things_of c)) ≡ 0
   pub walks : Holds c passed_in_a_walk
 
-module _ (k c : Cluster) (t : ℕ) (coherent : IsCoherent k) (p : HasPaths k) (a : After k c t p) where
+-- its places pass no object that the event changes
+abbrev pub Aside : (k : Cluster) → (ℕ → Type 0) → (ObjNo → Type 0) → Type 0
+Aside k Own Changed = (x : Standing) → GoesOn k x → (Own x.thread.number → ⊥) → (w : Lval) → Follows k x w → (m : ℕ) (o : ObjNo) → m ≤ w.depth → locate (sight k).ground x.thread.number w.slot m ≡ Some (in_cell o) → Changed o → ⊥
+
+module _ (k c : Cluster) (Own : ℕ → Type 0) (Changed : ObjNo → Type 0) (coherent : IsCoherent k) (p : HasPaths k) (a : After k c Own Changed) (aside : Aside k Own Changed) where
   abbrev G : Ground
   G = (sight k).ground
 
   abbrev G2 : Ground
   G2 = (sight c).ground
 
-  -- no message went
-  asked_still : (n : ℕ) (b : Awaited) → tot (asked_for n b) (things_of k) ≤ tot (asked_for n b) (things_of c)
-  asked_still n b =
-      let see : Seeing = record { cells = λ r o v. 0; threads = λ r q u. 0; messages = λ r m. one (asks_for n b m) } in
-      omega (arith, a.sees see (record { thread = λ r q u e. refl; written = λ o h r v. refl }), tot_same (cell_weight see) (asked_for n b) so (things_of k), tot_same (cell_weight see) (asked_for n b) so (things_of c))
-    where
-      so : (x : Thing) → cell_weight (record { cells = λ r o v. 0; threads = λ r q u. 0; messages = λ r m. one (asks_for n b m) }) x ≡ asked_for n b x
-      so (sent r m) = refl
-      so (lies r q d) = refl
-      so (flies w d) = refl
-      so (stands r q u) = refl
-      so _ = refl
+  abbrev places : HasPlaces c
+  places = a.places
+
+  abbrev lasts : Lasts k c Own Changed
+  lasts = a.lasts
+
+  -- the pointers of a place that is followed
+  pub same_there : (x : Standing) → GoesOn k x → (Own x.thread.number → ⊥) → (w : Lval) → Follows k x w → SamePointers k c x.thread.number w
+  same_there x g ne w f = pointers_same k c Own Changed (places_of coherent) places lasts p x g ne w (aside x g ne w f)
 
   -- ONE THREAD
 
   -- what of a thread may be wrong is nothing where it is idle and has no gift, and where it was nothing and the pointers on its way are the same
-  record Told (wrong : Sight → Standing → ℕ) : Type 0 where
-    before : (x : Standing) → Among x G.threads → wrong (sight k) x ≡ 0
-    kept : (x : Standing) → GoesOn k x → x.thread.number ≢ t → SameOn k c x.thread.number (path (sight k) x) → wrong (sight k) x ≡ 0 → wrong (sight c) x ≡ 0
-    rests : (x : Standing) → idle x.thread.phase ≡ true → x.thread.gift ≡ None → early x ≡ 0 → wrong (sight c) x ≡ 0
+  pub record Told (wrong : Sight → Standing → ℕ) : Type 0 where
+    pub before : (x : Standing) → Among x G.threads → wrong (sight k) x ≡ 0
+    pub kept : (x : Standing) → GoesOn k x → (Own x.thread.number → ⊥) → SameOn k c x.thread.number (path (sight k) x) → wrong (sight k) x ≡ 0 → wrong (sight c) x ≡ 0
+    pub rests : (x : Standing) → idle x.thread.phase ≡ true → x.thread.gift ≡ None → early x ≡ 0 → wrong (sight c) x ≡ 0
 
-  of_thread : (wrong : Sight → Standing → ℕ) → Told wrong → (y : Standing) → Among y (sight c).ground.threads → (y.thread.number ≡ t → ⊥) → wrong (sight c) y ≡ 0
+  pub of_thread : (wrong : Sight → Standing → ℕ) → Told wrong → (y : Standing) → Among y (sight c).ground.threads → (Own y.thread.number → ⊥) → wrong (sight c) y ≡ 0
   of_thread wrong w y among ne = by (thread_at G.threads y.thread.number) refl
     where
       here : thread_at G2.threads y.thread.number ≡ Some y
@@ -194,8 +198,8 @@ module _ (k c : Cluster) (t : ℕ) (coherent : IsCoherent k) (p : HasPaths k) (a
       stood : (x : Standing) → Among x G.threads → x.thread.number ≡ y.thread.number → wrong (sight c) x ≡ 0
       stood x listed number = going (is_over x.thread.phase) refl
         where
-          off : x.thread.number ≢ t
-          off = λ (e : x.thread.number ≡ t). ne (sym number ∙ e)
+          off : Own x.thread.number → ⊥
+          off h = ne (subst Own number h)
 
           going : (b : Bool) → is_over x.thread.phase ≡ b → wrong (sight c) x ≡ 0
           going true e =
@@ -203,7 +207,7 @@ module _ (k c : Cluster) (t : ℕ) (coherent : IsCoherent k) (p : HasPaths k) (a
               w.rests x (over_idle x.thread.phase e) (no_gift x.thread.gift (is_got x.thread.phase) (over_got x.thread.phase e) soon) (none_at early x G.threads coherent.sound.walks.passed_in_a_walk listed)
           going false e =
               let g : GoesOn k x = record { among = listed; going = e } in
-              w.kept x g off (same_on k c x (λ v f. pointers_same k c p t (places_of coherent) a.places a.sees x g off v (follows_apart k p x g v f))) (w.before x listed)
+              w.kept x g off (same_on k c x (same_there x g off)) (w.before x listed)
 
       by : (o : Option Standing) → thread_at G.threads y.thread.number ≡ o → wrong (sight c) y ≡ 0
       by None e =
@@ -212,8 +216,8 @@ module _ (k c : Cluster) (t : ℕ) (coherent : IsCoherent k) (p : HasPaths k) (a
           w.rests y (ready_idle y.thread.phase (omega (arith, parts))) (none_there y.thread.gift (omega (arith, parts))) (none_at early y (threads_in (things_of c)) a.walks among)
       by (Some x) e =
           let listed = among_thread G.threads y.thread.number x e in
-          let off : x.thread.number ≢ t = λ (q : x.thread.number ≡ t). ne (sym listed.1 ∙ q) in
-          let st : Stays k c p t (places_of coherent) a.places a.sees x = stays k c p t (places_of coherent) a.places a.sees x (ap (thread_at G.threads) listed.1 ∙ e) off in
+          let off : Own x.thread.number → ⊥ = λ (q : Own x.thread.number). ne (subst Own listed.1 q) in
+          let st : Stays k c Own Changed (places_of coherent) places lasts x = stays k c Own Changed (places_of coherent) places lasts x (ap (thread_at G.threads) listed.1 ∙ e) off in
           let it : st.standing ≡ y = some_is (sym st.found ∙ ap (thread_at G2.threads) listed.1 ∙ here) in
           ap (wrong (sight c)) (sym it) ∙ st.same (wrong (sight c)) ∙ stood x listed.0 listed.1
 
@@ -232,7 +236,7 @@ module _ (k c : Cluster) (t : ℕ) (coherent : IsCoherent k) (p : HasPaths k) (a
   turn_told : Told turn_at
   turn_told = record {
     before = λ x among. none_at (λ y. out_of_turn (sight k) y y.thread.phase) x G.threads (let law : TurnLaw = turn_law in law.none_counted (sight k) coherent.sound.walks.wait_in_turn) among;
-    kept = λ x g ne same z. turn_kept k c x a.code a.options same (λ b. asked_still x.thread.number b) x.thread.phase z;
+    kept = λ x g ne same z. turn_kept k c x a.code a.options same (λ b. lasts.asked x.thread.number b) x.thread.phase z;
     rests = λ x e g b. idle_turn (sight c) x x.thread.phase e;
   }
 
@@ -246,22 +250,34 @@ module _ (k c : Cluster) (t : ℕ) (coherent : IsCoherent k) (p : HasPaths k) (a
     rests = λ x e g b. idle_old (sight c) x x.thread.phase e;
   }
 
+  pub all_told : (y : Standing) → Among y (sight c).ground.threads → (Own y.thread.number → ⊥) → (lost_place (sight c) y ≡ 0) × (out_of_turn (sight c) y y.thread.phase ≡ 0) × (old_word (sight c) y y.thread.phase ≡ 0)
+  all_told y among ne = (of_thread lost_place lost_told y among ne, of_thread turn_at turn_told y among ne, of_thread old_at old_told y among ne)
+
+-- THE STEP
+
+step_aside : (k : Cluster) (p : HasPaths k) (t : ℕ) → Aside k (Own t) (Written k p t)
+step_aside k p t x g ne w f m o le located h = ne (follows_apart k p x g w f m (in_cell o) le located t o refl h)
+
+module _ (k c : Cluster) (t : ℕ) (coherent : IsCoherent k) (p : HasPaths k) (sees : SeesOn k p t (things_of k) (things_of c)) (a : After k c (Own t) (Written k p t)) where
+  abbrev aside : Aside k (Own t) (Written k p t)
+  aside = step_aside k p t
+
   -- what it has passed lies there
   abbrev away_at : Sight → Standing → ℕ
   away_at s x = over_passed s (away s) x
 
-  away_told : Told away_at
+  away_told : Told k c (Own t) (Written k p t) coherent p a aside away_at
   away_told = record {
-    before = λ x among. (let law : PassedLaw = passed_law in let none = law.none_counted k coherent.sound.walks.have_passed in none_at (away_at (sight k)) x G.threads (omega (arith, none)) among);
+    before = λ x among. (let law : PassedLaw = passed_law in let none = law.none_counted k coherent.sound.walks.have_passed in none_at (away_at (sight k)) x (sight k).ground.threads (omega (arith, none)) among);
     kept = λ x g ne same z.
-        away_kept k c p t a.sees x g ne (λ w f. pointers_same k c p t (places_of coherent) a.places a.sees x g ne w (follows_apart k p x g w f)) a.code (none_at (too_far (sight k)) x G.threads coherent.sound.walks.passed_within g.among) z;
-    rests = λ x e g b. (let none = idle_passed x.thread.phase x.thread.passed e b in ap (λ m. over_place G2 x.thread.number m (away (sight c) x.server) (written_place (path (sight c) x))) none ∙ none_passed (sight c) x (written_place (path (sight c) x)));
+        away_kept k c p t sees x g ne (same_there k c (Own t) (Written k p t) coherent p a aside x g ne) a.code (none_at (too_far (sight k)) x (sight k).ground.threads coherent.sound.walks.passed_within g.among) z;
+    rests = λ x e g b. (let none = idle_passed x.thread.phase x.thread.passed e b in ap (λ m. over_place (sight c).ground x.thread.number m (away (sight c) x.server) (written_place (path (sight c) x))) none ∙ none_passed (sight c) x (written_place (path (sight c) x)));
   }
 
-  pub all_told : (y : Standing) → Among y (sight c).ground.threads → (y.thread.number ≡ t → ⊥) → (lost_place (sight c) y ≡ 0) × (out_of_turn (sight c) y y.thread.phase ≡ 0) × (old_word (sight c) y y.thread.phase ≡ 0) × (over_passed (sight c) (away (sight c)) y ≡ 0)
-  all_told y among ne = (of_thread lost_place lost_told y among ne, of_thread turn_at turn_told y among ne, of_thread old_at old_told y among ne, of_thread away_at away_told y among ne)
-
--- THE STEP
+  pub step_told : (y : Standing) → Among y (sight c).ground.threads → (y.thread.number ≡ t → ⊥) → (lost_place (sight c) y ≡ 0) × (out_of_turn (sight c) y y.thread.phase ≡ 0) × (old_word (sight c) y y.thread.phase ≡ 0) × (over_passed (sight c) (away (sight c)) y ≡ 0)
+  step_told y among ne =
+      let three = all_told k c (Own t) (Written k p t) coherent p a aside y among ne in
+      (three.0, three.1, three.2, of_thread k c (Own t) (Written k p t) coherent p a aside away_at away_told y among ne)
 
 -- an event leaves the code and the options
 pub same_settings : (k : Cluster) (e : Event) → Gives (λ (d : Cluster × EntryView). (d.0.code ≡ k.code) × (d.0.options ≡ k.options)) (apply k e)
@@ -288,12 +304,12 @@ module _ (k : Cluster) (e : Event) (t : ℕ) (is : e.what ≡ Step t) (coherent 
   rest : Gives Rest (apply k e)
   rest =
       both_give Settings (λ d. New d × Early d) Rest (apply k e) (same_settings k e)
-      (both_give New Early (λ d. New d × Early d) (apply k e) (new_ones k coherent.sound e t is few) (passed_kept k e coherent.sound few) (λ d a b. (a, b))) (λ d a b. (a, b))
+      (both_give New Early (λ d. New d × Early d) (apply k e) (new_ones k coherent.sound e (step_quiet k e t is) few) (passed_kept k e coherent.sound few) (λ d a b. (a, b))) (λ d a b. (a, b))
 
   others : Gives Others (apply k e)
   others =
       both_give Rest (Known k e coherent few) Others (apply k e) rest (known k e coherent few)
-      (λ d a b y among ne. all_told k d.0 t coherent (b.1 t is).0 (record { code = a.0.0; options = a.0.1; places = b.0; sees = (b.1 t is).1; new = a.1.0; walks = a.1.1 }) y among ne)
+      (λ d a b y among ne. step_told k d.0 t coherent (b.1 t is).0 (b.1 t is).1 (record { code = a.0.0; options = a.0.1; places = b.0; lasts = step_lasts k d.0 (b.1 t is).0 t (b.1 t is).1; new = a.1.0; walks = a.1.1 }) y among ne)
 
 pub others_followed : OthersStepsKeep lost_place
 others_followed k e t is coherent few = weaker (Others k e t is coherent few) (λ (d : Cluster × EntryView). (x : Standing) → Among x (sight d.0).ground.threads → (x.thread.number ≡ t → ⊥) → lost_place (sight d.0) x ≡ 0) (apply k e) (others k e t is coherent few) (λ d f x among ne. (f x among ne).0)

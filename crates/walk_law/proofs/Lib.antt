@@ -6,6 +6,7 @@ pub mod Ended
 pub mod Whole
 pub mod Clusters
 pub mod Tests
+pub mod Still
 pub mod Others
 pub mod Sentences
 pub mod Ways
@@ -13,3 +14,5 @@ pub mod Lying
 pub mod New
 pub mod Followed
 pub mod Steady
+pub mod Deliveries
+pub mod Delivered

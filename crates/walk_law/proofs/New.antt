@@ -1,8 +1,11 @@
--- Who stands after a step without having stood before has just started: it is ready and has no gift.
-use Rattle.std.proofs.Common.{◌≡◌, ℕ, ◌+◌, ◌==◌, not, Bool, true, false, List, [], ◌∷◌, Option, Some, None, is_some, inl, inr, refl, sym, ap, subst, ◌∙◌, arith}
+-- Who stands after an event that answers nobody, without having stood before, has just started: it is ready and has no gift.
+use Rattle.std.proofs.Common.{◌≡◌, ◌⊎◌, ℕ, ◌+◌, ◌==◌, not, Bool, true, false, List, [], ◌∷◌, Option, Some, None, is_some, inl, inr, refl, sym, ap, subst, ◌∙◌, arith}
+use Rattle.std.specs.Prelude.{slice_get}
 use Rattle.fr_base.specs.declared.instruction.Instr.{Instr}
 use Rattle.thread_state.specs.View.{ThreadState}
 use Rattle.journal.specs.View.{EntryView}
+use Rattle.heap_partition.specs.declared.value.Cell.{Cell}
+use Rattle.server_msgs.specs.declared.message.Message.TheVariants as message
 use Rattle.server_model.specs.declared.event.Event.{Event}
 use Rattle.server_model.specs.declared.event.What.{What}
 use Rattle.server_model.specs.declared.event.What.TheVariants.{Step, Deliver}
@@ -35,6 +38,14 @@ any_gives P (Some x) f = f x
 abbrev pub newly : Cluster → Standing → ℕ
 newly k x = if_so (not (is_some (thread_at (sight k).ground.threads x.thread.number))) (one (not (is_ready x.thread.phase)) + one (is_some x.thread.gift))
 
+-- the event brings no object and no copy to a thread
+abbrev pub IsQuiet : Cluster → Event → Type 0
+IsQuiet k e = (s : Server) → server_at k.servers e.server ≡ Some s → (i t v : ℕ) (c : Cell) → e.what ≡ Deliver i → (slice_get s.rest.inbox i ≡ Some (message.Moved v c t)) ⊎ (slice_get s.rest.inbox i ≡ Some (message.Fetched v c t)) → ⊥
+
+-- a step is such a one
+pub step_quiet : (k : Cluster) (e : Event) (t : ℕ) → e.what ≡ Step t → IsQuiet k e
+step_quiet k e t is s here i u v c f g = let h : Step t ≡ Deliver i = sym is ∙ f in absurd (cc h)
+
 module _ (k : Cluster) (sound : IsSound k) where
   -- who stood before isn't new
   stood : (x : Standing) → is_some (thread_at (sight k).ground.threads x.thread.number) ≡ true → newly k x ≡ 0
@@ -43,13 +54,10 @@ module _ (k : Cluster) (sound : IsSound k) where
   none_before : tot (newly k) (threads_in (things_of k)) ≡ 0
   none_before = none_all (newly k) (threads_in (things_of k)) (λ x among. stood x (ap is_some (found x (things_of k) (sound.names.numbers_differ x.thread.number) among)))
 
-  module _ (e : Event) (t0 : ℕ) (is_step : e.what ≡ Step t0) (s : Server) (here : server_at k.servers e.server ≡ Some s) where
+  module _ (e : Event) (quiet : IsQuiet k e) (s : Server) (here : server_at k.servers e.server ≡ Some s) where
     -- one of its threads
     its : (t : ℕ) (y : ThreadState) → thread_in s.threads t ≡ Some y → is_some (thread_at (sight k).ground.threads y.number) ≡ true
     its t y there = ap (λ n. is_some (thread_at (sight k).ground.threads n)) (thread_number s.threads t y there) ∙ ap is_some (thread_there k sound e.server s here t y there)
-
-    no_delivery : {i : ℕ} → e.what ≡ Deliver i → ⊥
-    no_delivery {i} f = let g : Step t0 ≡ Deliver i = sym is_step ∙ f in absurd (cc g)
 
     fates : Fates k.code k.options s e.what (Stood (newly k) s.rest.number) (InParcel (newly k))
     fates = record {
@@ -57,8 +65,8 @@ module _ (k : Cluster) (sound : IsSound k) where
           weaker (λ (d : Stepped). Goes k.code y d.hand.thread) (λ (d : Stepped). Stood (newly k) s.rest.number d.hand.thread) (step k.options.servers i (record { work = begin_work s.rest; thread = y }))
           (thread_goes k.code k.options.servers i y code s.rest (record { work = begin_work s.rest; thread = y }) refl)
           (λ d g. stood (record { server = s.rest.number; packed = false; thread = d.hand.thread }) (ap (λ n. is_some (thread_at (sight k).ground.threads n)) (goes_number g) ∙ its t y there));
-      comes = λ i t v c y is there at p. any_gives (λ (h : Hand). Stood (newly k) s.rest.number h.thread) (deliver_moved k.code v c (record { work = (received i s).work; thread = y })) (λ h. absurd (no_delivery is));
-      copied = λ i t v c y is there at p. any_gives (λ (h : Hand). Stood (newly k) s.rest.number h.thread) (deliver_fetched v c (record { work = (received i s).work; thread = y })) (λ h. absurd (no_delivery is));
+      comes = λ i t v c y is there at p. any_gives (λ (h : Hand). Stood (newly k) s.rest.number h.thread) (deliver_moved k.code v c (record { work = (received i s).work; thread = y })) (λ h. absurd (quiet s here i t v c is (inl there)));
+      copied = λ i t v c y is there at p. any_gives (λ (h : Hand). Stood (newly k) s.rest.number h.thread) (deliver_fetched v c (record { work = (received i s).work; thread = y })) (λ h. absurd (quiet s here i t v c is (inr there)));
       given_it = λ t y v there p a. stood (record { server = s.rest.number; packed = false; thread = record y { gift = Some v; phase = Rattle.thread_state.specs.declared.phase.Phase.TheVariants.Got } }) (its t y there);
       paired = λ t a b y there p q. stood (record { server = s.rest.number; packed = false; thread = record y { phase = Rattle.thread_state.specs.declared.phase.Phase.TheVariants.GotPar a b } }) (its t y there);
       arrives = λ t q. q;
@@ -70,5 +78,5 @@ module _ (k : Cluster) (sound : IsSound k) where
         none_weighs true = refl
         none_weighs false = refl
 
-  pub new_ones : (e : Event) (t : ℕ) → e.what ≡ Step t → FewEvents k → Gives (λ (d : Cluster × EntryView). tot (newly k) (threads_in (things_of d.0)) ≡ 0) (apply k e)
-  new_ones e t is few = fated (newly k) k e sound few none_before (λ s here. fates e t is s here)
+  pub new_ones : (e : Event) → IsQuiet k e → FewEvents k → Gives (λ (d : Cluster × EntryView). tot (newly k) (threads_in (things_of d.0)) ≡ 0) (apply k e)
+  new_ones e quiet few = fated (newly k) k e sound few none_before (λ s here. fates e quiet s here)

@@ -4,4 +4,4 @@
 
 mod laws;
 
-pub use laws::{followed_stays, others_stay, pointers_stay};
+pub use laws::{deliveries_keep, followed_stays, others_stay, pointers_stay};
