@@ -1,5 +1,5 @@
 -- After the step of a thread a weight that sees cells and threads, words included, sees no less, but for that thread and for what it writes.
-use Rattle.std.proofs.Common.{◌≡◌, ℕ, ◌+◌, ◌≤◌, Bool, true, false, List, [], ◌∷◌, ◌++◌, Option, Some, None, refl, sym, ap, subst, ◌∙◌, arith}
+use Rattle.std.proofs.Common.{◌≡◌, ℕ, ◌+◌, ◌≤◌, Bool, true, false, List, ◌++◌, Option, Some, None, refl, subst, ◌∙◌, arith}
 use Rattle.std.specs.Prelude.{slice_get, option_map, length, take, drop}
 use Rattle.fr_base.specs.declared.name.ObjNo.{ObjNo}
 use Rattle.fr_base.specs.declared.instruction.Instr.{Instr}
@@ -10,7 +10,7 @@ use Rattle.server_model.specs.declared.event.Event.{Event}
 use Rattle.server_model.specs.declared.event.What.{What}
 use Rattle.server_model.specs.declared.event.What.TheVariants.{Step, Deliver, Evict, Migrate}
 use Rattle.server_model.specs.Servers.{Server, Cluster, server_at}
-use Rattle.server_model.specs.Work.{Hand, thread_in, without_thread, set_thread, then_some}
+use Rattle.server_model.specs.Work.{Hand, thread_in, without_thread, then_some}
 use Rattle.server_model.specs.Clusters.{with_server, hand_over_newer, done_at, apply}
 use Rattle.server_model.specs.Events.{Stepped, enabled, begin_work, step, step_in, stepped, does}
 use Rattle.heap_law.specs.Names.{tot}

@@ -1,11 +1,9 @@
 -- What the plain step of an instruction leaves to a weight that sees cells alone, words included: no less than there was, where no cell that it sees gets another value.
-use Rattle.std.proofs.Common.{◌≡◌, ℕ, ℤ, zero, suc, ◌+◌, ◌≤◌, ◌==◌, ◌&&◌, nat_lt, is_some, Bool, true, false, if◌then◌else◌, List, [], ◌∷◌, ◌++◌, Option, Some, None, option_map, refl, sym, ap, subst, ◌∙◌, arith}
+use Rattle.std.proofs.Common.{◌≡◌, ℕ, zero, suc, ◌+◌, ◌==◌, nat_lt, Bool, true, false, if◌then◌else◌, List, [], Option, Some, None, option_map, refl, sym, subst, arith}
 use Rattle.std.specs.Prelude.{slice_get, length}
 use Rattle.std.specs.Bool.{⊤}
 use Rattle.fr_base.specs.Rooms.{WithRoom}
-use Rattle.fr_base.specs.declared.label.Plain.{Plain}
 use Rattle.fr_base.specs.declared.name.MutexNo.{MutexNo}
-use Rattle.fr_base.specs.declared.name.ObjNo.{ObjNo}
 use Rattle.fr_base.specs.declared.place.Lval.{Lval}
 use Rattle.fr_base.specs.declared.place.Op.{Op}
 use Rattle.fr_plain.specs.Acts.{result_of}
@@ -16,14 +14,12 @@ use Rattle.fr_base.specs.declared.instruction.Instr.{Instr}
 use Rattle.fr_base.specs.declared.instruction.Instr.TheVariants as instr
 use Rattle.fr_base.specs.declared.instruction.Operand.{Operand}
 use Rattle.fr_base.specs.declared.instruction.Operand.TheVariants as operand
-use Rattle.global_addr.specs.Words.{colour_of, server_of, address_of}
-use Rattle.heap_partition.specs.Plain.{plain_of}
+use Rattle.global_addr.specs.Words.{server_of}
 use Rattle.heap_partition.specs.declared.value.Cell.{Cell}
 use Rattle.heap_partition.specs.declared.value.Owned.{Owned}
 use Rattle.heap_partition.specs.declared.value.Owned.TheVariants as owned
-use Rattle.colour_retire.specs.Colours.{picked}
 use Rattle.owner_box.specs.View.{PartitionState}
-use Rattle.owner_box.specs.Partition.{cell_of, stored, made}
+use Rattle.owner_box.specs.Partition.{made}
 use Rattle.read_cache.specs.Cache.{Copy, can_unpin}
 use Rattle.mutex_home.specs.Mutexes.{can_make}
 use Rattle.join_home.specs.Tasks.{can_begin, can_begin_pair}
@@ -38,26 +34,21 @@ use Rattle.thread_state.specs.declared.value.Value.{Value}
 use Rattle.thread_state.specs.declared.value.Value.TheVariants as value
 use Rattle.server_msgs.specs.declared.message.Message.{Message}
 use Rattle.server_msgs.specs.declared.message.Message.TheVariants as message
-use Rattle.journal.specs.declared.act.Act.{Act}
 use Rattle.journal.specs.declared.act.Act.TheVariants as act
 use Rattle.server_model.specs.Servers.{Rest}
-use Rattle.server_model.specs.Work.{Work, Hand, Popped, last_of, front_of, sent_from, leads_here, look, push_slot, push_temp, pop_temp, pop_slot, pop, pop_owned, pop_int, taken_as, owned_of, int_of, task_of, then_some, note, label_all, working, with_partition, with_cache, with_phase}
+use Rattle.server_model.specs.Work.{Work, Hand, Popped, last_of, sent_from, push_temp, pop_temp, pop_slot, pop, pop_owned, pop_int, taken_as, owned_of, int_of, task_of, then_some, label_all, working, with_cache, with_phase}
 use Rattle.server_model.specs.NewWords.{NewWord, can_grow, issue_placed}
-use Rattle.server_model.specs.Places.{Spot, in_slot, on_top, in_cell, in_copy, nowhere, cell_at, value_at, load_at, note_slot, note_write, put_cell, put_slot, put_at, set_pointer, second_of}
-use Rattle.server_model.specs.Drop.{home_of, give_up, unpin_ref, finished_at, finish, drop_value}
+use Rattle.server_model.specs.Places.{Spot, in_slot, on_top, in_cell, in_copy, nowhere, cell_at, value_at, load_at, put_slot, second_of}
+use Rattle.server_model.specs.Drop.{home_of, give_up, unpin_ref, finished_at, drop_value}
 use Rattle.server_model.specs.Start.{next_thread, server_for, start_thread, capture}
-use Rattle.server_model.specs.Commit.{Committed, done, waits, refused, done_where, go_on, goes_on, waiting, let_slot, label_dropped, replace_slot, store_labels, store_at, replace_at, assign, take_out, read_as, read, shared_from, borrow_from, borrow, mutable_from, borrow_mut_from, borrow_mut, discard, drop_slot, next_object, push_box, make_box, box_up, arith as calculate, print, begun, spawn_with, spawn, ask_join, take_gift, join, pair_begun, par_with, par, par_end, end_with, end_thread, mutex_made, mutex, mutex_at, ask_dup, dup, ask_lock, push_content, lock, held_of, send_content, unlock, commit, settle}
-use Rattle.server_model.specs.Events.{Stepped, done_step, wait_step, committed}
-use Rattle.heap_law.specs.Names.{tot}
-use Rattle.heap_law.specs.Things.{Thing, partition_things}
-use Rattle.heap_law.proofs.Names.{and_left, and_right}
+use Rattle.server_model.specs.Commit.{done_where, go_on, waiting, let_slot, label_dropped, replace_slot, store_labels, store_at, replace_at, assign, take_out, read, shared_from, borrow_from, borrow, mutable_from, borrow_mut_from, borrow_mut, discard, drop_slot, next_object, push_box, make_box, box_up, arith as calculate, print, begun, spawn_with, ask_join, take_gift, join, pair_begun, par_with, par_end, end_with, mutex_made, mutex_at, ask_dup, dup, ask_lock, push_content, lock, held_of, send_content, unlock, commit, settle}
+use Rattle.server_model.specs.Events.{Stepped, done_step, committed}
+use Rattle.heap_law.specs.Things.{Thing}
 use Rattle.event_law.specs.Laws.{Gives}
-use Rattle.event_law.proofs.Results.{then_gives, map_gives, test_gives, bind_gives, over_gives, weaker}
-use Rattle.event_law.proofs.Bags.{rest_things, of_sending, sent_number}
-use Rattle.event_law.proofs.Values.{stores}
+use Rattle.event_law.proofs.Results.{then_gives, map_gives, test_gives, bind_gives, over_gives}
 use Rattle.event_law.proofs.Objects.{makes}
-use Rattle.still_law.proofs.Addresses.{InPlace, next_empty}
-use Rattle.walk_law.proofs.Cells.{Seeing, cell_weight, amount}
+use Rattle.still_law.proofs.Addresses.{next_empty}
+use Rattle.walk_law.proofs.Cells.{Seeing, cell_weight}
 use Rattle.walk_law.proofs.Ready as much
 use Rattle.walk_law.proofs.Ready.{Blind, place_unseen}
 

@@ -1,11 +1,10 @@
 -- After the delivery of a `move` or a `drop` each place of each thread leads where it led, over the same pointers, and what is said by these holds.
-use Rattle.std.proofs.Common.{◌≡◌, ◌⊎◌, inl, inr, ℕ, zero, suc, ◌+◌, ◌≤◌, Bool, true, false, List, [], ◌∷◌, Option, Some, None, refl, sym, ap, subst, ◌∙◌, arith}
+use Rattle.std.proofs.Common.{◌≡◌, ◌⊎◌, inl, inr, ℕ, zero, suc, ◌≤◌, Bool, true, false, Option, Some, None, refl, sym, ap, subst, ◌∙◌, arith}
 use Rattle.std.specs.Prelude.{slice_get}
 use Rattle.fr_base.specs.declared.name.ObjNo.{ObjNo}
 use Rattle.fr_base.specs.declared.place.Lval.{Lval}
 use Rattle.fr_base.specs.Names.{same_object}
 use Rattle.heap_partition.specs.declared.value.Cell.{Cell}
-use Rattle.thread_state.specs.View.{ThreadState}
 use Rattle.server_msgs.specs.declared.message.Message.{Message}
 use Rattle.server_msgs.specs.declared.message.Message.TheVariants as message
 use Rattle.journal.specs.View.{EntryView}
@@ -14,14 +13,13 @@ use Rattle.server_model.specs.declared.event.What.TheVariants.{Deliver}
 use Rattle.server_model.specs.Servers.{Server, Cluster, server_at}
 use Rattle.server_model.specs.Clusters.{apply}
 use Rattle.heap_law.specs.Names.{tot, one, Among}
-use Rattle.heap_law.specs.Things.{Location, at_slot, in_cell, Thing, sent, lies, flies, stands, message_things, server_things, things_of}
-use Rattle.heap_law.specs.Follow.{Standing, Ground, threads_in, value_in, value_behind, leads, locate}
+use Rattle.heap_law.specs.Things.{Location, in_cell, Thing, sent, things_of}
+use Rattle.heap_law.specs.Follow.{Standing, threads_in, value_behind, leads, locate}
 use Rattle.heap_law.specs.Sight.{sight}
 use Rattle.heap_law.specs.Walking.{lost_place, out_of_turn}
 use Rattle.heap_law.specs.Requests.{old_word}
 use Rattle.heap_law.specs.Coherent.{Holds, IsSound, passed_in_a_walk, place_followed, waits_in_turn, taken_is_new}
 use Rattle.heap_law.proofs.Words.{itself, named, none_all}
-use Rattle.heap_law.proofs.Sums.{tot-append}
 use Rattle.type_law.specs.ClusterTypes.{IsCoherent}
 use Rattle.path_law.specs.HeapStore.{GoesOn}
 use Rattle.path_law.proofs.Alike.{coherent_has_paths}
@@ -29,8 +27,6 @@ use Rattle.word_law.specs.Reworded.{HasPlaces}
 use Rattle.word_law.specs.Unmoved.{Delivers}
 use Rattle.event_law.specs.Laws.{Gives, FewEvents}
 use Rattle.event_law.proofs.Results.{both_give, weaker}
-use Rattle.event_law.proofs.Bags.{all_standing, rest_things, server_same, of_receiving}
-use Rattle.event_law.proofs.Events.{tot-server}
 use Rattle.event_law.proofs.MutexResults.{has}
 use Rattle.event_law.proofs.Sending.{applied_part}
 use Rattle.local_law.proofs.Sentences.{passed_kept}
@@ -42,7 +38,7 @@ use Rattle.walk_law.specs.Deliveries.{DeliveryLeavesPointers, DeliveryKeeps}
 use Rattle.walk_law.proofs.Still.{places_of, Lasts, pointers_same}
 use Rattle.walk_law.proofs.New.{newly, IsQuiet, new_ones}
 use Rattle.walk_law.proofs.Followed.{After, Aside, all_told, same_settings}
-use Rattle.walk_law.proofs.Deliveries.{message_there, None_own, None_changed, moves_last, drops_last}
+use Rattle.walk_law.proofs.Deliveries.{None_own, None_changed, moves_last, drops_last}
 
 -- THE MESSAGE
 
@@ -142,8 +138,7 @@ module _ (k : Cluster) (e : Event) (m : Message) (coherent : IsCoherent k) (few 
       (both_give (λ (d : Cluster × EntryView). tot (newly k) (threads_in (things_of d.0)) ≡ 0) (λ (d : Cluster × EntryView). Holds d.0 passed_in_a_walk) New (apply k e) (new_ones k coherent.sound e still few) (passed_kept k e coherent.sound few) (λ d a b. (a, b)))
       (λ d a b. (a, b))) (λ d a b. (a, b))) lasts
       (λ d a b.
-      let after : After k d.0 None_own Changed = record { code = a.0.0; options = a.0.1; places = a.1.0; lasts = b; new = a.1.1.0; walks = a.1.1.1 } in
-      (
+      let after : After k d.0 None_own Changed = record { code = a.0.0; options = a.0.1; places = a.1.0; lasts = b; new = a.1.1.0; walks = a.1.1.1 } in (
         none_all (lost_place (sight d.0)) (threads_in (things_of d.0)) (λ y among. (all_told k d.0 None_own Changed coherent (coherent_has_paths k coherent) after aside y among (λ h. h)).0),
         none_all (λ y. out_of_turn (sight d.0) y y.thread.phase) (threads_in (things_of d.0)) (λ y among. (all_told k d.0 None_own Changed coherent (coherent_has_paths k coherent) after aside y among (λ h. h)).1),
         none_all (λ y. old_word (sight d.0) y y.thread.phase) (threads_in (things_of d.0)) (λ y among. (all_told k d.0 None_own Changed coherent (coherent_has_paths k coherent) after aside y among (λ h. h)).2),

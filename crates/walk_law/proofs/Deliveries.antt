@@ -1,8 +1,7 @@
 -- The delivery of a `move` or a `drop` leaves each thread, each cell but that of a dropped object, and what is asked for.
-use Rattle.std.proofs.Common.{◌≡◌, ◌⊎◌, inl, inr, ℕ, zero, suc, ◌+◌, ◌≤◌, ◌==◌, ◌&&◌, nat_lt, Bool, true, false, if◌then◌else◌, List, [], ◌∷◌, ◌++◌, Option, Some, None, refl, sym, ap, subst, ◌∙◌, arith}
+use Rattle.std.proofs.Common.{◌≡◌, ℕ, ◌+◌, ◌≤◌, ◌==◌, ◌&&◌, nat_lt, Bool, true, false, if◌then◌else◌, ◌++◌, Option, Some, None, refl, sym, ap, subst, ◌∙◌, arith}
 use Rattle.std.specs.Prelude.{slice_get, option_map}
 use Rattle.fr_base.specs.declared.name.ObjNo.{ObjNo}
-use Rattle.fr_base.specs.declared.place.Lval.{Lval}
 use Rattle.fr_base.specs.declared.release.Released.TheVariants as released
 use Rattle.fr_base.specs.Names.{same_object}
 use Rattle.global_addr.specs.Words.{colour_of, server_of, address_of}
@@ -12,29 +11,25 @@ use Rattle.heap_partition.specs.declared.value.Owned.{Owned}
 use Rattle.heap_partition.specs.declared.value.Owned.TheVariants as owned
 use Rattle.owner_box.specs.View.{PartitionState}
 use Rattle.owner_box.specs.Partition.{freed}
-use Rattle.thread_state.specs.View.{ThreadState}
 use Rattle.server_msgs.specs.declared.message.Message.{Message}
 use Rattle.server_msgs.specs.declared.message.Message.TheVariants as message
 use Rattle.journal.specs.View.{EntryView}
 use Rattle.server_model.specs.declared.event.Event.{Event}
-use Rattle.server_model.specs.declared.event.What.{What}
 use Rattle.server_model.specs.declared.event.What.TheVariants.{Deliver}
 use Rattle.server_model.specs.Servers.{Rest, Server, Cluster, server_at}
-use Rattle.server_model.specs.Work.{Work, Site, receive, sent_from, look, look_object, then_some, beside_threads}
+use Rattle.server_model.specs.Work.{Work, receive, sent_from, look_object, then_some, beside_threads}
 use Rattle.server_model.specs.Drop.{home_of, give_up}
 use Rattle.server_model.specs.Objects.{deliver_move, deliver_drop}
 use Rattle.server_model.specs.Events.{enabled, received, left_by, deliver_message, does}
 use Rattle.server_model.specs.Clusters.{done_at, act_at, apply}
-use Rattle.heap_law.specs.Names.{tot, one, if_so, Among}
-use Rattle.heap_law.specs.Things.{Location, at_slot, in_cell, Thing, lies, flies, stands, sent, vacant, retired, partition_things, server_things, things_of}
-use Rattle.heap_law.specs.Follow.{Standing, Ground, value_in, value_behind, leads, locate}
+use Rattle.heap_law.specs.Names.{tot, one, if_so}
+use Rattle.heap_law.specs.Things.{Thing, lies, flies, stands, sent, vacant, retired, partition_things, server_things, things_of}
+use Rattle.heap_law.specs.Follow.{Standing}
 use Rattle.heap_law.specs.Paths.{Awaited}
-use Rattle.heap_law.specs.Sight.{sight}
 use Rattle.heap_law.specs.Walking.{asks_for, asked_for}
 use Rattle.heap_law.specs.Weights.{states}
 use Rattle.heap_law.specs.Coherent.{IsSound}
 use Rattle.heap_law.proofs.Sums.{tot-append}
-use Rattle.type_law.specs.ClusterTypes.{IsCoherent}
 use Rattle.word_law.specs.Unmoved.{Delivers}
 use Rattle.event_law.specs.Laws.{Gives, FewEvents}
 use Rattle.event_law.proofs.Results.{then_gives, map_gives, over_gives, test_gives}
@@ -109,8 +104,7 @@ module _ (k : Cluster) (sound : IsSound k) (number : ℕ) (s : Server) (here : s
       let r2 : Rest = record r0 { partition = freed p w } in
       let ti = of_receiving n 0 s.rest i (message.Move w o a t) q in
       let u = of_partition n 0 r0 (freed p w) (frees n p w c at (not_free n p (address_of w) c at (few_there w))) in
-      let v = of_sending n 0 r2 refl a (message.Moved w c t) in
-      (
+      let v = of_sending n 0 r2 refl a (message.Moved w c t) in (
         sent_number r2 a (message.Moved w c t),
         omega (
           arith,

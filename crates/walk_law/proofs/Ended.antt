@@ -1,36 +1,27 @@
 -- Where a step ends a mutable reference: it is cleaned, and its holder's place is followed over objects in chains of the thread's own slots.
-use Rattle.std.proofs.Common.{◌≡◌, inl, ◌≤◌, ◌<◌, ℕ, zero, suc, ◌+◌, ◌-◌, ◌^◌, ◌==◌, nat_lt, Bool, true, false, if◌then◌else◌, List, [], ◌∷◌, ◌++◌, length, Option, Some, None, IsSome, refl, sym, ap, subst, ◌∙◌, arith}
+use Rattle.std.proofs.Common.{◌≡◌, inl, ◌≤◌, ◌<◌, ℕ, zero, suc, ◌+◌, ◌-◌, ◌^◌, ◌==◌, nat_lt, Bool, true, false, if◌then◌else◌, List, [], ◌∷◌, ◌++◌, length, Option, Some, refl, sym, ap, subst, ◌∙◌, arith}
 use Rattle.std.specs.Prelude.{slice_get, slice_set}
 use Rattle.std.specs.Bool.{⊤}
-use Rattle.std.proofs.lemmas.Option.{slice_get_within}
 use Rattle.std.proofs.lemmas.Bool.Decides.{nat_tests}
 use Rattle.fr_base.specs.Lists.{last_of}
 use Rattle.fr_base.specs.declared.name.ObjNo.{ObjNo}
 use Rattle.fr_base.specs.declared.place.Lval.{Lval}
-use Rattle.fr_base.specs.declared.step.Fresh.TheVariants as fresh
 use Rattle.fr_base.specs.declared.instruction.Instr.{Instr}
 use Rattle.global_addr.specs.Words.{colour_of, server_of, next_word}
-use Rattle.heap_partition.specs.declared.value.BoxPtr.{BoxPtr}
 use Rattle.heap_partition.specs.declared.value.Cell.{Cell}
 use Rattle.heap_partition.specs.declared.value.Owned.{Owned}
-use Rattle.heap_partition.specs.declared.value.Owned.TheVariants as owned
-use Rattle.migration.specs.Packing.{unpin_all}
-use Rattle.mut_borrow.specs.Refs.{cleaned_answer, finish_word}
+use Rattle.mut_borrow.specs.Refs.{cleaned_answer}
 use Rattle.mut_borrow.specs.declared.mutable.MutRef.{MutRef}
 use Rattle.mut_borrow.specs.declared.mutable.Cleaned.TheVariants as cleaned
 use Rattle.owner_box.specs.View.{PartitionState}
-use Rattle.owner_box.specs.Partition.{stored}
 use Rattle.thread_state.specs.View.{ThreadState}
 use Rattle.thread_state.specs.declared.value.Value.{Value}
 use Rattle.thread_state.specs.declared.value.Value.TheVariants as value
 use Rattle.server_model.specs.Servers.{Rest, Server, Cluster}
-use Rattle.server_model.specs.Work.{Hand, with_slots, with_temps, with_partition, working, front_of, then_some}
+use Rattle.server_model.specs.Work.{Hand, with_temps, front_of, then_some}
 use Rattle.server_model.specs.NewWords.{NewWord, issue_tint, issue_renewal}
-use Rattle.server_model.specs.Places.{Spot, in_slot, on_top, in_cell, value_in as cell_value, value_at, note_write, put_at, with_word, took, put_word, set_pointer}
-use Rattle.server_model.specs.Prepare.{Prepared, ready, requested, nothing, and_then, ready_at, ask_object, box_of, cleaned_by, clean, clean_value, follow_holder, follow_ended, unlabelled, end_ref, write_stars}
-use Rattle.server_model.specs.Drop.{finished_at, finish}
-use Rattle.server_model.specs.Commit.{goes_on, go_on}
-use Rattle.server_model.specs.Events.{committed}
+use Rattle.server_model.specs.Places.{Spot, in_slot, on_top, value_at, put_at, with_word, took, put_word}
+use Rattle.server_model.specs.Prepare.{Prepared, ready, requested, nothing, ready_at, ask_object, box_of, cleaned_by, clean_value, write_stars}
 use Rattle.heap_law.specs.Things.{Location, at_slot, in_cell as in_object}
 use Rattle.heap_law.specs.Follow.{Standing}
 use Rattle.heap_law.specs.Paths.{ends}
@@ -38,7 +29,6 @@ use Rattle.heap_law.specs.Sight.{Pointer, sight}
 use Rattle.heap_law.specs.Walking.{path}
 use Rattle.heap_law.specs.Words.{IsStale}
 use Rattle.path_law.specs.HeapStore.{GoesOn, HasPaths}
-use Rattle.path_law.proofs.Sole.{some_is}
 use Rattle.word_law.proofs.Standing.{told, told_standing}
 use Rattle.read_law.specs.Reading.{LiesUnder}
 use Rattle.event_law.proofs.Objects.{length_set}
@@ -46,15 +36,14 @@ use Rattle.end_law.specs.Ending.{EndsAlone}
 use Rattle.end_law.proofs.Alone.{ended_are_alone}
 use Rattle.end_law.proofs.Ends.{EndsAt}
 use Rattle.end_law.proofs.Lying.{ended_lies_there}
-use Rattle.result_law.proofs.Usable.{walk_goes}
-use Rattle.result_law.proofs.Known.{settled, Steps, hand, standing, paths, goes, usable}
+use Rattle.result_law.proofs.Known.{Steps, hand, standing, paths, goes}
 use Rattle.result_law.proofs.Pointing.{Stands, its_partition, its_colour, leads_home}
 use Rattle.result_law.proofs.Borrowing.{puts_reference}
-use Rattle.write_law.proofs.Memory.{Leads, leads_on, looks, looked, Sane, renewal_issued}
-use Rattle.write_law.proofs.Route.{Route, Writing, begins, At, a_slot, a_cell, Fine, all_hops, rerouted, set_other}
+use Rattle.write_law.proofs.Memory.{Leads, looked, Sane, renewal_issued}
+use Rattle.write_law.proofs.Route.{Route, begins, a_slot, Fine, all_hops, rerouted, set_other}
 use Rattle.write_law.proofs.StepRoutes.{sane_there, roomy, awake}
-use Rattle.write_law.proofs.Holders.{C, at, short_holder, route, object_away, slot_away, TakesWord, Last, last_slot, last_cell, last_there}
-use Rattle.wait_law.proofs.Written.{InChain, chain_of_holder, Written}
+use Rattle.write_law.proofs.Holders.{C, at, short_holder, route, object_away, slot_away}
+use Rattle.wait_law.proofs.Written.{chain_of_holder, Written}
 use Rattle.write_law.proofs.Ends.{value_of_thread, RefAt as StandsAt, in_its_slot, on_its_top}
 use Rattle.walk_law.proofs.Cells.{Seeing}
 use Rattle.walk_law.proofs.Ready.{Blind}
@@ -269,7 +258,6 @@ module _ (k : Cluster) (n t : ℕ) (s : Server) (y : ThreadState) (i : Instr) (z
           (λ m j lt located. cl.slots m (λ e. slot_away k n t s y i z r is it m j (its_slot sp m at_it e) (omega (arith, lt)) located))
           (λ j v e le located l. cl.cells v e l (λ f. object_away k n t s y i z r is it j le (located ∙ ap (λ o. Some (in_object o)) f))) (λ less. cl.sane)
           (let a = cl.long in let b = roomy k n t s y i z in let d = short_holder k n t s y i z r is it in omega (arith, a, b, d))
-
 
     -- WHAT IS PUT OVER
 

@@ -1,34 +1,26 @@
 -- What is said of each thread but the event's own one, by the pointers on its way: what it has followed, what it waits for, and what it has taken.
-use Rattle.std.proofs.Common.{◌≡◌, ◌≢◌, ℕ, zero, suc, ◌+◌, ◌≤◌, ◌<◌, ◌==◌, ◌&&◌, not, Bool, true, false, List, [], ◌∷◌, Option, Some, None, is_some, inl, inr, refl, sym, ap, subst, ◌∙◌, arith}
-use Rattle.std.specs.Prelude.{slice_get}
+use Rattle.std.proofs.Common.{◌≡◌, ℕ, ◌+◌, ◌≤◌, ◌==◌, ◌&&◌, not, Bool, true, false, Option, Some, None, is_some, refl, sym, ap, subst, ◌∙◌, arith}
 use Rattle.std.proofs.lemmas.Bool.Decides.{nat_tests}
-use Rattle.fr_base.specs.Lists.{last_of}
 use Rattle.fr_base.specs.declared.name.ObjNo.{ObjNo}
 use Rattle.fr_base.specs.declared.place.Lval.{Lval}
-use Rattle.fr_base.specs.declared.instruction.Instr.{Instr}
-use Rattle.fr_base.specs.declared.instruction.Instr.TheVariants as instr
 use Rattle.heap_partition.specs.declared.value.Owned.{Owned}
-use Rattle.mut_borrow.specs.declared.mutable.MutRef.{MutRef}
-use Rattle.thread_state.specs.View.{ThreadState, is_over}
+use Rattle.thread_state.specs.View.{is_over}
 use Rattle.thread_state.specs.declared.phase.Phase.{Phase}
 use Rattle.thread_state.specs.declared.phase.Phase.TheVariants as phase
-use Rattle.thread_state.specs.declared.value.Value.{Value}
-use Rattle.thread_state.specs.declared.value.Value.TheVariants as value
-use Rattle.server_msgs.specs.declared.message.Message.{Message}
 use Rattle.journal.specs.View.{EntryView}
 use Rattle.server_model.specs.declared.event.Event.{Event}
 use Rattle.server_model.specs.declared.event.What.TheVariants.{Step}
 use Rattle.server_model.specs.Servers.{Cluster, server_at}
 use Rattle.server_model.specs.Events.{is_ready}
 use Rattle.server_model.specs.Clusters.{done_at, apply}
-use Rattle.heap_law.specs.Names.{tot, one, other, if_so, Among}
+use Rattle.heap_law.specs.Names.{tot, one, if_so, Among}
 use Rattle.heap_law.specs.Things.{in_cell, things_of}
 use Rattle.heap_law.specs.Follow.{Standing, Ground, threads_in, thread_at, locate}
-use Rattle.heap_law.specs.Paths.{Path, no_path, reads, shares, lends, writes, ends, ending, taking, assigning, path_of, written_place, Awaited, followed}
+use Rattle.heap_law.specs.Paths.{written_place, followed}
 use Rattle.heap_law.specs.Sight.{Sight, sight}
-use Rattle.heap_law.specs.Walking.{instr_of, path, words_kept, loose_hop, asks_for, asked_for, in_walk, early, too_far, over_place, over_passed, away, has_gift_there, has_followed, lost_place, out_of_turn}
+use Rattle.heap_law.specs.Walking.{instr_of, path, words_kept, loose_hop, in_walk, early, too_far, over_place, over_passed, away, has_gift_there, has_followed, lost_place, out_of_turn}
 use Rattle.heap_law.specs.Requests.{is_got, early_gift, old_word}
-use Rattle.heap_law.specs.Coherent.{Holds, IsSound, gifts_got, passed_in_a_walk}
+use Rattle.heap_law.specs.Coherent.{Holds, passed_in_a_walk}
 use Rattle.heap_law.proofs.Words.{none_at}
 use Rattle.type_law.specs.ClusterTypes.{IsCoherent}
 use Rattle.path_law.specs.HeapStore.{GoesOn, HasPaths}
@@ -37,7 +29,7 @@ use Rattle.path_law.proofs.Sole.{some_is}
 use Rattle.word_law.specs.Reworded.{HasPlaces}
 use Rattle.event_law.specs.Laws.{Gives, FewEvents}
 use Rattle.event_law.proofs.Results.{then_gives, map_gives, both_give, weaker}
-use Rattle.still_law.proofs.Told.{tot_same, found}
+use Rattle.still_law.proofs.Told.{found}
 use Rattle.local_law.proofs.Sentences.{passed_kept}
 use Rattle.wait_law.specs.Places.{Follows}
 use Rattle.wait_law.proofs.Written.{Written}
@@ -47,7 +39,6 @@ use Rattle.heap_law.proofs.Followed.{followed_law}
 use Rattle.heap_law.proofs.Passing.{passed_law}
 use Rattle.heap_law.proofs.Turn.{turn_law}
 use Rattle.walk_law.specs.Pointers.{SamePointers, OthersStepsKeep}
-use Rattle.walk_law.proofs.Cells.{Seeing, cell_weight}
 use Rattle.walk_law.proofs.Clusters.{SeesOn}
 use Rattle.walk_law.proofs.Still.{places_of, Lasts, Stays, stays, pointers_same}
 use Rattle.walk_law.proofs.Others.{Own, step_lasts, follows_apart, Known, known}

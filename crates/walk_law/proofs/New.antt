@@ -1,20 +1,18 @@
 -- Who stands after an event that answers nobody, without having stood before, has just started: it is ready and has no gift.
-use Rattle.std.proofs.Common.{◌≡◌, ◌⊎◌, ℕ, ◌+◌, ◌==◌, not, Bool, true, false, List, [], ◌∷◌, Option, Some, None, is_some, inl, inr, refl, sym, ap, subst, ◌∙◌, arith}
+use Rattle.std.proofs.Common.{◌≡◌, ◌⊎◌, ℕ, ◌+◌, not, Bool, true, false, Option, Some, None, is_some, inl, inr, refl, sym, ap, ◌∙◌}
 use Rattle.std.specs.Prelude.{slice_get}
-use Rattle.fr_base.specs.declared.instruction.Instr.{Instr}
 use Rattle.thread_state.specs.View.{ThreadState}
 use Rattle.journal.specs.View.{EntryView}
 use Rattle.heap_partition.specs.declared.value.Cell.{Cell}
 use Rattle.server_msgs.specs.declared.message.Message.TheVariants as message
 use Rattle.server_model.specs.declared.event.Event.{Event}
-use Rattle.server_model.specs.declared.event.What.{What}
 use Rattle.server_model.specs.declared.event.What.TheVariants.{Step, Deliver}
 use Rattle.server_model.specs.Servers.{Server, Cluster, server_at}
 use Rattle.server_model.specs.Work.{Hand, thread_in}
 use Rattle.server_model.specs.Events.{Stepped, begin_work, received, step, is_ready}
 use Rattle.server_model.specs.Objects.{deliver_fetched, deliver_moved}
 use Rattle.server_model.specs.Clusters.{apply}
-use Rattle.heap_law.specs.Names.{tot, one, if_so, Among}
+use Rattle.heap_law.specs.Names.{tot, one, if_so}
 use Rattle.heap_law.specs.Things.{things_of}
 use Rattle.heap_law.specs.Follow.{Standing, threads_in, thread_at}
 use Rattle.heap_law.specs.Sight.{sight}

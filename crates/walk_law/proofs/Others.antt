@@ -1,47 +1,33 @@
 -- What the step of one thread leaves of each other one: all of it, and the pointers on its way, words included.
-use Rattle.std.proofs.Common.{◌≡◌, ◌≢◌, inl, inr, ℕ, zero, suc, ◌+◌, ◌-◌, ◌≤◌, ◌==◌, ◌&&◌, Bool, true, false, List, [], ◌∷◌, Option, Some, None, refl, sym, ap, subst, ◌∙◌, arith}
-use Rattle.std.specs.Prelude.{slice_get}
+use Rattle.std.proofs.Common.{◌≡◌, ℕ, zero, suc, ◌-◌, ◌≤◌, ◌==◌, ◌&&◌, Bool, true, false, Some, refl, sym, ap, subst, ◌∙◌, arith}
 use Rattle.fr_typing.proofs.PlaceLemmas.{eq_cases}
 use Rattle.fr_base.specs.declared.place.Lval.{Lval}
 use Rattle.fr_base.specs.declared.name.ObjNo.{ObjNo}
-use Rattle.fr_base.specs.declared.label.Plain.{Plain}
 use Rattle.fr_base.specs.Names.{same_object}
-use Rattle.fr_sound.specs.Seen.{seen_cell}
 use Rattle.heap_partition.specs.Same.{same_owned}
-use Rattle.heap_partition.specs.declared.value.Cell.{Cell}
 use Rattle.heap_partition.specs.declared.value.Owned.{Owned}
-use Rattle.thread_state.specs.View.{ThreadState}
-use Rattle.thread_state.specs.declared.value.Value.{Value}
-use Rattle.thread_state.specs.declared.value.Value.TheVariants as value
 use Rattle.journal.specs.View.{EntryView}
 use Rattle.server_model.specs.declared.event.Event.{Event}
-use Rattle.server_model.specs.declared.event.What.TheVariants.{Step}
 use Rattle.server_model.specs.Servers.{Cluster}
 use Rattle.server_model.specs.Clusters.{apply}
-use Rattle.heap_law.specs.Names.{tot, one, if_so, Among}
+use Rattle.heap_law.specs.Names.{tot, one, if_so}
 use Rattle.heap_law.specs.Things.{Location, at_slot, in_cell, Thing, lies, flies, stands, sent, things_of}
-use Rattle.heap_law.specs.Follow.{Standing, Ground, threads_in, cells_in, thread_at, cell_of, slot_of, value_of, value_in, value_behind, leads, locate}
-use Rattle.heap_law.specs.Paths.{ends, Awaited}
+use Rattle.heap_law.specs.Follow.{Standing, locate}
+use Rattle.heap_law.specs.Paths.{Awaited}
 use Rattle.heap_law.specs.Sight.{sight}
-use Rattle.heap_law.specs.Walking.{path, asks_for, asked_for}
-use Rattle.heap_law.specs.OneHeap.{object_value}
-use Rattle.heap_law.proofs.Names.{and_left, and_right}
+use Rattle.heap_law.specs.Walking.{asks_for, asked_for}
 use Rattle.type_law.specs.ClusterTypes.{IsCoherent}
 use Rattle.path_law.specs.HeapStore.{GoesOn, HasPaths}
-use Rattle.path_law.proofs.Alike.{IsShown, a_slot, an_object, leads_in_heap}
 use Rattle.path_law.proofs.MayWrites.{may_write_there}
-use Rattle.path_law.proofs.Shown.{object_shown}
 use Rattle.path_law.proofs.Sole.{some_is}
 use Rattle.word_law.specs.Reworded.{HasPlaces}
-use Rattle.word_law.proofs.Standing.{CellOf, lying, flying, cell_among, cell_found}
 use Rattle.read_law.proofs.FreshReads.{reading_of}
 use Rattle.event_law.specs.Laws.{Gives, FewEvents}
 use Rattle.event_law.proofs.Results.{both_give, weaker}
 use Rattle.event_law.proofs.Sending.{applied_part}
 use Rattle.still_law.proofs.Tests.{IsTest, objects}
-use Rattle.still_law.proofs.Told.{tot_same, told, same_told, at_thread, thread_told, found}
+use Rattle.still_law.proofs.Told.{tot_same, at_thread}
 use Rattle.wait_law.specs.Places.{Follows, reads, writes, ends_at}
-use Rattle.wait_law.proofs.Found.{Weighing, weighing, among_weighs}
 use Rattle.wait_law.proofs.Places.{Apart, reads_apart, chain_apart}
 use Rattle.wait_law.proofs.Written.{Written, chain_of, chain_of_holder}
 use Rattle.walk_law.specs.Pointers.{SamePointers, OthersStepsLeavePointers}

@@ -4,7 +4,6 @@ use Rattle.std.specs.Prelude.{slice_get, slice_set}
 use Rattle.std.specs.Bool.{⊤}
 use Rattle.std.proofs.lemmas.Option.{slice_get_within}
 use Rattle.fr_typing.proofs.PlaceLemmas.{eq_cases}
-use Rattle.fr_base.specs.declared.name.ObjNo.{ObjNo}
 use Rattle.fr_base.specs.declared.place.Lval.{Lval}
 use Rattle.fr_base.specs.Lists.{is_in}
 use Rattle.global_addr.specs.Words.{colour_of, server_of, address_of}
@@ -30,7 +29,7 @@ use Rattle.place_walk.specs.declared.hop.Hop.{Hop}
 use Rattle.place_walk.specs.declared.hop.Hop.TheVariants as hop
 use Rattle.place_walk.specs.Hops.{read_hop, write_hop}
 use Rattle.server_model.specs.Servers.{Rest}
-use Rattle.server_model.specs.Work.{Work, Hand, sent_from, leads_here, look, note, with_cache, with_partition, working, then_some, used_once}
+use Rattle.server_model.specs.Work.{Hand, sent_from, leads_here, look, note, with_cache, with_partition, working, then_some, used_once}
 use Rattle.server_model.specs.NewWords.{NewWord, can_grow, is_last, issue_tint, issue_renewal, issue_colour}
 use Rattle.server_model.specs.Places.{Spot, in_slot, on_top, in_cell, in_copy, nowhere, value_in, value_at, load_at, note_write, put_cell, put_at, pointer_of, with_word, set_pointer, put_word}
 use Rattle.server_model.specs.Prepare.{Access, ReadTo, ReadPointer, WriteTo, LendTo, EndRef, Prepared, ready, requested, nothing, and_then, ready_at, ask_copy, ask_object, request_by, box_of, clean_last, cleaned_by, clean_value, pinned_once, use_copy, hopped, local, hit_by, read_by, read_value, read_clean, tinted_first, read_star, read_stars, passing, box_ready, colour_box, write_by, pass_by, write_value, write_star, write_stars, read_pointer, is_taken, lend_by, lend_value, lend_pointer, follow_holder, follow_ended, unlabelled, end_ref, prepare}

@@ -1,5 +1,5 @@
 -- What is said of a thread by the pointers on its way is the same where these are the same.
-use Rattle.std.proofs.Common.{◌≡◌, ℕ, zero, suc, ◌+◌, ◌-◌, ◌≤◌, ◌<◌, ◌==◌, ◌&&◌, nat_lt, Bool, true, false, if◌then◌else◌, List, [], ◌∷◌, ◌++◌, Option, Some, None, refl, sym, ap, subst, ◌∙◌, arith}
+use Rattle.std.proofs.Common.{◌≡◌, ℕ, zero, suc, ◌-◌, ◌≤◌, ◌<◌, ◌==◌, ◌&&◌, nat_lt, Bool, true, false, if◌then◌else◌, List, [], ◌∷◌, ◌++◌, Option, Some, None, refl, sym, ap, subst, ◌∙◌, arith}
 use Rattle.std.specs.Prelude.{slice_get, reverse, map}
 use Rattle.std.proofs.lemmas.List.{map-append, reverse-append}
 use Rattle.std.specs.Bool.{⊤}
@@ -8,7 +8,6 @@ use Rattle.fr_base.specs.declared.place.Lval.{Lval}
 use Rattle.fr_base.specs.declared.instruction.Instr.{Instr}
 use Rattle.fr_base.specs.declared.instruction.Instr.TheVariants as instr
 use Rattle.heap_partition.specs.declared.value.Owned.TheVariants as owned
-use Rattle.mut_borrow.specs.declared.mutable.MutRef.{MutRef}
 use Rattle.thread_state.specs.declared.phase.Phase.{Phase}
 use Rattle.thread_state.specs.declared.phase.Phase.TheVariants as phase
 use Rattle.thread_state.specs.declared.value.Value.{Value}
@@ -16,9 +15,9 @@ use Rattle.thread_state.specs.declared.value.Value.TheVariants as value
 use Rattle.server_model.specs.Servers.{Cluster}
 use Rattle.heap_law.specs.Names.{tot, one, other, if_so, some}
 use Rattle.heap_law.specs.Things.{things_of}
-use Rattle.heap_law.specs.Follow.{Standing, Ground, locate, hop_at, hops_from, hops}
+use Rattle.heap_law.specs.Follow.{Standing, Ground, hop_at, hops_from, hops}
 use Rattle.heap_law.specs.Paths.{Path, no_path, reads, shares, lends, writes, ends, path_of, Awaited, to_read, to_write, to_clean, all_to, borrow_to, awaited, followed, first_unreadable}
-use Rattle.heap_law.specs.Sight.{Sight, sight}
+use Rattle.heap_law.specs.Sight.{sight}
 use Rattle.heap_law.specs.Walking.{instr_of, path, words_kept, loose_hop, is_pull, has_gift_there, waits_for_lent, has_followed, lost_place, first_of, next_hop, in_turn, asked_for, not_asked, out_of_turn}
 use Rattle.heap_law.specs.Requests.{lent_place, has_word, last_hop, taken_again, old_word}
 use Rattle.heap_law.proofs.Names.{and_left, and_right}

@@ -1,5 +1,5 @@
 -- Events in which no object comes or goes leave the pointers of each thread, and what each has followed.
-use Rattle.std.proofs.Common.{◌≡◌, ◌⊎◌, inl, inr, ℕ, zero, suc, ◌+◌, ◌==◌, ◌&&◌, not, Bool, true, false, List, [], ◌∷◌, Option, Some, None, is_some, option_map, refl, sym, ap, subst, ◌∙◌, arith}
+use Rattle.std.proofs.Common.{◌≡◌, inl, inr, ℕ, zero, suc, ◌&&◌, not, Bool, true, false, Option, Some, None, is_some, option_map, refl, sym, ap, subst, ◌∙◌}
 use Rattle.std.specs.Prelude.{⊤, slice_get}
 use Rattle.fr_base.specs.declared.name.ObjNo.{ObjNo}
 use Rattle.fr_base.specs.declared.place.Lval.{Lval}
@@ -11,26 +11,24 @@ use Rattle.heap_partition.specs.declared.value.Owned.{Owned}
 use Rattle.heap_partition.specs.declared.value.Owned.TheVariants as owned
 use Rattle.read_cache.specs.Cache.{can_fill, can_pin}
 use Rattle.migration.specs.Packing.{packed}
-use Rattle.thread_state.specs.View.{ThreadState, new_thread}
+use Rattle.thread_state.specs.View.{ThreadState}
 use Rattle.thread_state.specs.declared.phase.Phase.{Phase}
 use Rattle.thread_state.specs.declared.phase.Phase.TheVariants as phase
 use Rattle.thread_state.specs.declared.value.Value.{Value}
 use Rattle.thread_state.specs.declared.value.Value.TheVariants as value
-use Rattle.server_msgs.specs.declared.message.Message.{Message}
 use Rattle.server_msgs.specs.declared.message.Message.TheVariants as message
 use Rattle.journal.specs.View.{EntryView}
 use Rattle.server_model.specs.declared.event.Event.{Event}
-use Rattle.server_model.specs.declared.event.What.{What}
 use Rattle.server_model.specs.declared.event.What.TheVariants.{Step, Deliver}
 use Rattle.server_model.specs.Servers.{Server, Cluster, server_at}
 use Rattle.server_model.specs.Work.{Hand, thread_in, then_some, used_once}
 use Rattle.server_model.specs.Prepare.{access_of}
-use Rattle.server_model.specs.Objects.{waits_for_cell, filled, deliver_fetched}
+use Rattle.server_model.specs.Objects.{waits_for_cell, filled}
 use Rattle.server_model.specs.Events.{Stepped, can_step, has_phase, is_ready, begin_work, received, step}
 use Rattle.server_model.specs.Clusters.{apply}
 use Rattle.heap_law.specs.Names.{tot, one, other, if_so, Among}
 use Rattle.heap_law.specs.Things.{Location, at_slot, at_temp, in_cell, things_of}
-use Rattle.heap_law.specs.Follow.{Standing, Ground, threads_in, thread_at, value_in, value_behind, leads, locate, hop_at}
+use Rattle.heap_law.specs.Follow.{Standing, Ground, threads_in, value_in, value_behind, leads, locate, hop_at}
 use Rattle.heap_law.specs.Paths.{Path, no_path, reads, shares, lends, writes, ends, path_of, joined_thread, followed}
 use Rattle.heap_law.specs.Passing.{FollowedLaw}
 use Rattle.heap_law.specs.Sight.{Sight, sight}
@@ -45,7 +43,6 @@ use Rattle.event_law.proofs.Results.{over_gives, test_gives, both_give, weaker}
 use Rattle.event_law.proofs.Sending.{applied_part}
 use Rattle.event_law.proofs.ThreadThere.{thread_there}
 use Rattle.path_law.proofs.Contained.{among_thread}
-use Rattle.path_law.proofs.Sole.{some_is}
 use Rattle.word_law.specs.Reworded.{HasPlaces}
 use Rattle.word_law.specs.Unmoved.{pointing, Untouched}
 use Rattle.word_law.proofs.Follows.{seen_places_lead}

@@ -1,8 +1,6 @@
 -- The step of a thread leaves each cell, words included, but for those of objects in chains of its own slots that nobody else reads.
-use Rattle.std.proofs.Common.{◌≡◌, ◌⊎◌, inl, inr, ℕ, zero, suc, ◌+◌, ◌≤◌, ◌<◌, true, false, Option, Some, None, is_some, refl, sym, ap, subst, ◌∙◌, arith}
-use Rattle.std.specs.Prelude.{slice_get, length, ◌-◌}
+use Rattle.std.proofs.Common.{◌≡◌, ◌⊎◌, inl, inr, ℕ, ◌≤◌, false, Option, Some, None, is_some, refl, sym, ap, subst, ◌∙◌, arith}
 use Rattle.std.specs.Bool.{⊤}
-use Rattle.fr_base.specs.Lists.{last_of}
 use Rattle.fr_base.specs.declared.name.ObjNo.{ObjNo}
 use Rattle.fr_base.specs.declared.place.Lval.{Lval}
 use Rattle.fr_base.specs.declared.instruction.Operand.{Operand}
@@ -11,38 +9,29 @@ use Rattle.fr_base.specs.declared.instruction.Instr.TheVariants as instr
 use Rattle.fr_code.specs.CodeTypes.{Entry, Table, InstrTypes, i_par_end}
 use Rattle.heap_partition.specs.declared.value.Cell.{Cell}
 use Rattle.heap_partition.specs.declared.value.Owned.{Owned}
-use Rattle.mut_borrow.specs.declared.mutable.MutRef.{MutRef}
 use Rattle.owner_box.specs.View.{PartitionState}
 use Rattle.thread_state.specs.View.{ThreadState}
-use Rattle.thread_state.specs.declared.value.Value.{Value}
-use Rattle.thread_state.specs.declared.value.Value.TheVariants as value
 use Rattle.server_model.specs.Servers.{Server, Cluster, Rest}
-use Rattle.server_model.specs.Work.{Hand, look}
-use Rattle.server_model.specs.Places.{Spot, in_slot, on_top, nowhere, in_cell as in_spot}
-use Rattle.server_model.specs.Prepare.{Access, WriteTo, EndRef, Prepared, ready, requested, nothing, ending, assigned, read_or_taken, access_of, prepare, read_stars, write_stars}
-use Rattle.server_model.specs.Events.{begin_work, prepared, step}
+use Rattle.server_model.specs.Work.{Hand}
+use Rattle.server_model.specs.Places.{Spot, in_slot}
+use Rattle.server_model.specs.Prepare.{ready, write_stars}
+use Rattle.server_model.specs.Events.{begin_work}
 use Rattle.heap_law.specs.Things.{Location, at_slot, in_cell}
-use Rattle.heap_law.specs.Follow.{Standing, locate}
+use Rattle.heap_law.specs.Follow.{Standing}
 use Rattle.heap_law.specs.OneHeap.{two_in, pair_of}
-use Rattle.heap_law.specs.Sight.{sight}
 use Rattle.path_law.specs.HeapStore.{GoesOn, HasPaths}
 use Rattle.path_law.proofs.Forms.{running_typed}
 use Rattle.path_law.proofs.Shown.{stands_there}
-use Rattle.path_law.proofs.Sole.{some_is}
 use Rattle.read_law.proofs.FreshReads.{chain_apart}
-use Rattle.event_law.specs.Laws.{Gives}
-use Rattle.still_law.proofs.Addresses.{InPlace}
 use Rattle.result_law.proofs.Known.{Steps, standing, paths, goes, types, entry, typed}
 use Rattle.result_law.proofs.Readers.{to_entry}
-use Rattle.write_law.proofs.Memory.{Leads, looks}
+use Rattle.write_law.proofs.Memory.{looks}
 use Rattle.write_law.proofs.Route.{Route, At, a_slot, a_cell, Fine, begins, all_hops}
 use Rattle.rewrite_law.specs.Writing.{WritesThrough, assigns, moves}
 use Rattle.rewrite_law.proofs.Ways.{may, cell_there, place, route}
 use Rattle.wait_law.proofs.Written.{InChain, chain_of, Written}
-use Rattle.walk_law.proofs.Cells.{Seeing, amount}
-use Rattle.walk_law.proofs.Ready as made
-use Rattle.walk_law.proofs.Ready.{Blind, prepares}
-use Rattle.walk_law.proofs.Commits.{Covers, EndsStep, commits}
+use Rattle.walk_law.proofs.Cells.{Seeing}
+use Rattle.walk_law.proofs.Ready.{Blind}
 
 pub same_cell : {a b : Cell} → Some a ≡ Some b → a ≡ b
 same_cell e = cc

@@ -1,5 +1,5 @@
 -- The step of each instruction leaves each cell, words included, but for those of objects in chains of its thread's own slots.
-use Rattle.std.proofs.Common.{◌≡◌, ◌⊎◌, inl, inr, ℕ, zero, suc, ◌+◌, ◌-◌, ◌≤◌, ◌<◌, true, false, List, Option, Some, None, length, refl, sym, ap, subst, ◌∙◌, arith}
+use Rattle.std.proofs.Common.{◌≡◌, ℕ, zero, suc, ◌-◌, true, false, Option, Some, None, length, refl, sym, ap, subst, ◌∙◌, arith}
 use Rattle.std.specs.Prelude.{slice_get}
 use Rattle.std.specs.Bool.{⊤}
 use Rattle.fr_base.specs.Lists.{last_of}
@@ -13,16 +13,15 @@ use Rattle.fr_store.specs.Typed.{KeyTypes, Unnamed}
 use Rattle.heap_partition.specs.declared.value.Owned.{Owned}
 use Rattle.mut_borrow.specs.Refs.{finish_word}
 use Rattle.mut_borrow.specs.declared.mutable.MutRef.{MutRef}
-use Rattle.owner_box.specs.View.{PartitionState}
 use Rattle.thread_state.specs.View.{ThreadState}
 use Rattle.thread_state.specs.declared.value.Value.{Value}
 use Rattle.thread_state.specs.declared.value.Value.TheVariants as value
 use Rattle.server_model.specs.Servers.{Server, Cluster}
-use Rattle.server_model.specs.Work.{Hand, working}
-use Rattle.server_model.specs.Places.{Spot, in_slot, on_top, nowhere, value_at}
-use Rattle.server_model.specs.Prepare.{Access, ReadTo, WriteTo, EndRef, Prepared, ready, requested, nothing, and_then, ending, assigned, read_or_taken, access_of, clean_value, follow_holder, follow_ended, unlabelled, end_ref, prepare, read_stars, write_stars}
-use Rattle.server_model.specs.Events.{Stepped, begin_work, prepared, step}
-use Rattle.heap_law.specs.Things.{Location, at_slot, at_temp}
+use Rattle.server_model.specs.Work.{Hand}
+use Rattle.server_model.specs.Places.{Spot, in_slot, on_top, value_at}
+use Rattle.server_model.specs.Prepare.{Access, WriteTo, EndRef, Prepared, ready, requested, nothing, and_then, ending, assigned, read_or_taken, access_of, clean_value, follow_holder, follow_ended, unlabelled, end_ref, prepare, read_stars, write_stars}
+use Rattle.server_model.specs.Events.{begin_work, prepared, step}
+use Rattle.heap_law.specs.Things.{at_slot, at_temp}
 use Rattle.heap_law.specs.Follow.{Standing, slot_of, temp_of}
 use Rattle.heap_law.specs.Paths as paths_of
 use Rattle.heap_law.specs.Paths.{ends, path_of, assigning}
