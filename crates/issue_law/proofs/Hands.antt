@@ -39,7 +39,6 @@ some_same e = cc
 -- POINTERS
 
 module _ (w : Weights) where
-
   worded_fits : (x : ℕ) (v new : Value) → WordFits w x → Fits w v → with_word x v ≡ Some new → Fits w new
   worded_fits x (value.Own (owned.Box b)) new k a e = subst (Fits w) (some_same e) (omega (arith, k, a))
   worded_fits x (value.Mut r) new k a e = subst (Fits w) (some_same e) (omega (arith, k, a))

@@ -43,7 +43,8 @@ const LOCKS: &str = "\
 ";
 
 // A thread of the pair waits for the mutex that its parent holds, which waits for the pair.
-const HELD: &str = "{ let mut m = mutex 8; let mut n = dup m; lock m as x { par (n) { lock n as y { print y } } () { print 7 } } }";
+const HELD: &str =
+    "{ let mut m = mutex 8; let mut n = dup m; lock m as x { par (n) { lock n as y { print y } } () { print 7 } } }";
 
 const HOLDS: &str = "\
 0.0 mutex 0.1|Going Some(Mutex) Ok(0)
