@@ -1,0 +1,205 @@
+-- Each event leaves a coherent cluster where what is left to show holds: every other sentence is kept by a law.
+use Rattle.std.proofs.Common.{◌≡◌, Option, Some, None, refl, subst}
+use Rattle.journal.specs.View.{EntryView}
+use Rattle.server_model.specs.declared.event.Event.{Event}
+use Rattle.server_model.specs.Servers.{Cluster}
+use Rattle.server_model.specs.Clusters.{apply}
+use Rattle.heap_law.specs.Coherent.{Sentence, Holds, none_owns_itself, walk_empty, join_walks_nothing, passed_in_a_walk, passed_within, parcels_ready, thread_homes, go_right, asks_others, options_in_range, at_their_home, queue_while_out, content_without_shares, par_ends, over_are_bare, below_limit, names_counted, counts_from_one, few_names, objects_made, askers_stand, return_right, marks_in_slots, holders_short, counts_bounded, parts_are_typed, carry_what_is_asked, pairs_go_on, branches_give_unit, parents_end, gifts_got, phases_stand, gifts_fit, OneHome, OneOwner, Users, IsSound}
+use Rattle.heap_law.specs.Following.{TasksNoted, MutexesNoted, FollowLaw}
+use Rattle.heap_law.specs.Rooted.{ownings, parents}
+use Rattle.heap_law.specs.Sight.{sight}
+use Rattle.heap_law.specs.Things.{things_of}
+use Rattle.heap_law.proofs.Ranks.{node_ends, number_ends}
+use Rattle.event_law.specs.Laws.{FewEvents, Gives, EachEventHandedOver, OneState, SharesCounted, OneTaskValue, TaskValuesOwed, NumbersDiffer, OneAnswer, PairsNoted, NotedGoOn, NotedAtHome, OneResult}
+use Rattle.type_law.specs.Names.{names_of}
+use Rattle.type_law.specs.ClusterTypes.{Types, IsCoherent}
+use Rattle.local_law.specs.Laws.{EachEventKeeps, EachCoherentEventKeeps}
+use Rattle.prepare_law.specs.Requests.{WordsHold}
+use Rattle.content_law.specs.Contents.{OneContent, EachEventLeavesOneContent}
+use Rattle.regain_law.specs.Events.{EventsKeepWords}
+use Rattle.own_law.specs.Owning.{Agrees, EventsThatAgreeEnd}
+use Rattle.agree_law.specs.Agrees.{UndoneKeepsTypes}
+use Rattle.coherence_law.specs.Left.{LeftToShow, EventsKeepTheRest, UndoneKeepTheRest}
+
+-- WHERE THERE IS A RESULT
+
+at_result : {X : Type 0} (P : X → Type 0) (o : Option X) → ((x : X) → o ≡ Some x → P x) → Gives P o
+at_result P None f = record {}
+at_result P (Some x) f = f x refl
+
+result_has : {X : Type 0} (P : X → Type 0) (o : Option X) (x : X) → o ≡ Some x → Gives P o → P x
+result_has P o x e p = subst (Gives P) e p
+
+-- THE LAWS
+
+-- what the laws say that each event keeps
+pub record EventLaws : Type 0 where
+  pub follow : FollowLaw
+  pub home : EachEventHandedOver OneHome
+  pub owner : EachEventHandedOver OneOwner
+  pub states : EachEventHandedOver OneState
+  pub users : EachEventHandedOver Users
+  pub shares : EachEventHandedOver SharesCounted
+  pub tasks : EachEventHandedOver OneTaskValue
+  pub threads : EachEventHandedOver NumbersDiffer
+  pub answers : EachEventHandedOver OneAnswer
+  pub pairs : EachEventHandedOver PairsNoted
+  pub going : EachEventHandedOver NotedGoOn
+  pub homes : EachEventHandedOver NotedAtHome
+  pub results : EachEventHandedOver OneResult
+  pub owed : EachEventHandedOver TaskValuesOwed
+  pub walk_empty : EachEventKeeps walk_empty
+  pub join_walks_nothing : EachEventKeeps join_walks_nothing
+  pub passed_in_a_walk : EachEventKeeps passed_in_a_walk
+  pub passed_within : EachEventKeeps passed_within
+  pub parcels_ready : EachEventKeeps parcels_ready
+  pub thread_homes : EachEventKeeps thread_homes
+  pub go_right : EachEventKeeps go_right
+  pub asks_others : EachEventKeeps asks_others
+  pub options_in_range : EachEventKeeps options_in_range
+  pub at_their_home : EachEventKeeps at_their_home
+  pub queue_while_out : EachEventKeeps queue_while_out
+  pub content_without_shares : EachEventKeeps content_without_shares
+  pub par_ends : EachCoherentEventKeeps par_ends
+  pub over_are_bare : EachCoherentEventKeeps over_are_bare
+  pub below_limit : EachEventKeeps below_limit
+  pub names_counted : EachEventKeeps names_counted
+  pub counts_from_one : EachEventKeeps counts_from_one
+  pub few_names : EachEventKeeps few_names
+  pub objects_made : EachEventKeeps objects_made
+  pub askers_stand : EachEventKeeps askers_stand
+  pub return_right : EachEventKeeps return_right
+  pub marks_in_slots : EachCoherentEventKeeps marks_in_slots
+  pub holders_short : EachCoherentEventKeeps holders_short
+  pub counts_bounded : EachCoherentEventKeeps counts_bounded
+  pub parts_are_typed : EachEventKeeps parts_are_typed
+  pub carry_what_is_asked : EachEventKeeps carry_what_is_asked
+  pub pairs_go_on : EachEventKeeps pairs_go_on
+  pub branches_give_unit : EachCoherentEventKeeps branches_give_unit
+  pub parents_end : EachEventKeeps parents_end
+  pub gifts_got : EachCoherentEventKeeps gifts_got
+  pub phases_stand : EachCoherentEventKeeps phases_stand
+  pub gifts_fit : EachCoherentEventKeeps gifts_fit
+  pub one_content : EachEventLeavesOneContent
+  pub words : EventsKeepWords
+  pub owners : EventsThatAgreeEnd
+
+module _ (l : EventLaws) (k : Cluster) (e : Event) (coherent : IsCoherent k) (few : FewEvents k) (d : Cluster × EntryView) (is : apply k e ≡ Some d) where
+  -- of the cluster afterwards: a part, and a sentence by a law that asks for a sound cluster, or for a coherent one
+  part : (P : Cluster → Type 0) → EachEventHandedOver P → P d.0
+  part P law = result_has (λ (x : Cluster × EntryView). P x.0) (apply k e) d is (law k e coherent.sound few)
+
+  kept : (n : Sentence) → EachEventKeeps n → Holds d.0 n
+  kept n law = result_has (λ (x : Cluster × EntryView). Holds x.0 n) (apply k e) d is (law k e coherent.sound few)
+
+  kept_typed : (n : Sentence) → EachCoherentEventKeeps n → Holds d.0 n
+  kept_typed n law = result_has (λ (x : Cluster × EntryView). Holds x.0 n) (apply k e) d is (law k e coherent few)
+
+  content : OneContent d.0
+  content = result_has (λ (x : Cluster × EntryView). OneContent x.0) (apply k e) d is (l.one_content k e coherent few)
+
+  noted : TasksNoted d.0
+  noted = record { numbers_differ = part NumbersDiffer l.threads; noted_go_on = part NotedGoOn l.going; one_result = part OneResult l.results; task_values_owed = part TaskValuesOwed l.owed }
+
+  mutexes : MutexesNoted d.0
+  mutexes = record {
+    at_their_home = kept at_their_home l.at_their_home;
+    one_content = content;
+    marks_in_slots = kept_typed marks_in_slots l.marks_in_slots;
+    shares_counted = part SharesCounted l.shares;
+    carry_what_is_asked = kept carry_what_is_asked l.carry_what_is_asked;
+    phases_stand = kept_typed phases_stand l.phases_stand;
+  }
+
+  words_hold : WordsHold d.0
+  words_hold = result_has (λ (x : Cluster × EntryView). WordsHold x.0) (apply k e) d is (l.words k e coherent few)
+
+  pub sound_then : LeftToShow d.0 → Types d.0 → IsSound d.0
+  sound_then left types = record {
+    one_home = part OneHome l.home;
+    one_owner = part OneOwner l.owner;
+    words = record {
+      are_issued = left.are_issued;
+      below_limit = kept below_limit l.below_limit;
+      have_words = words_hold.has_words;
+      one_state = part OneState l.states;
+      first_at_holder = words_hold.first_at_holder;
+      different_words = left.different_words;
+      dirty_alone = words_hold.dirty_alone;
+      past_words = words_hold.past_words;
+    };
+    copies = left.copies;
+    walks = record {
+      have_passed = left.have_passed;
+      passed_in_a_walk = kept passed_in_a_walk l.passed_in_a_walk;
+      passed_within = kept passed_within l.passed_within;
+      walk_empty = kept walk_empty l.walk_empty;
+      join_walks_nothing = kept join_walks_nothing l.join_walks_nothing;
+      parcels_ready = kept parcels_ready l.parcels_ready;
+      have_followed = left.have_followed;
+      wait_in_turn = left.wait_in_turn;
+      asks_others = kept asks_others l.asks_others;
+    };
+    users = part Users l.users;
+    requests = record {
+      one_answer = part OneAnswer l.answers;
+      carry_what_is_asked = kept carry_what_is_asked l.carry_what_is_asked;
+      go_right = kept go_right l.go_right;
+      return_right = kept return_right l.return_right;
+      askers_stand = kept askers_stand l.askers_stand;
+      objects_there = left.objects_there;
+      phases_stand = kept_typed phases_stand l.phases_stand;
+      par_ends = kept_typed par_ends l.par_ends;
+      pairs_noted = part PairsNoted l.pairs;
+      pairs_go_on = kept pairs_go_on l.pairs_go_on;
+      taken_stands = left.taken_stands;
+      taken_is_new = left.taken_is_new;
+      gifts_got = kept_typed gifts_got l.gifts_got;
+      gifts_fit = kept_typed gifts_fit l.gifts_fit;
+    };
+    mutexes_and_tasks = record {
+      named_are_there = l.follow.named_are_there d.0 mutexes;
+      at_their_home = kept at_their_home l.at_their_home;
+      one_content = content;
+      marks_in_slots = kept_typed marks_in_slots l.marks_in_slots;
+      shares_counted = part SharesCounted l.shares;
+      queue_while_out = kept queue_while_out l.queue_while_out;
+      content_without_shares = kept content_without_shares l.content_without_shares;
+      thread_homes = kept thread_homes l.thread_homes;
+      noted_go_on = part NotedGoOn l.going;
+      noted_at_home = part NotedAtHome l.homes;
+      one_task_value = part OneTaskValue l.tasks;
+      task_values_owed = part TaskValuesOwed l.owed;
+      one_result = part OneResult l.results;
+      pairs_unnamed = l.follow.pairs_unnamed d.0 noted;
+    };
+    rooted = record {
+      over_are_bare = kept_typed over_are_bare l.over_are_bare;
+      none_owns_itself = node_ends (ownings (sight d.0)) (result_has (λ (x : Cluster × EntryView). Agrees x.0 → Holds x.0 none_owns_itself) (apply k e) d is (l.owners k e coherent.sound few) (record { names = names_of types.object types.typing.gives; agree = types.agree }));
+      parents_end = number_ends (parents (things_of d.0)) (kept parents_end l.parents_end);
+      branches_give_unit = kept_typed branches_give_unit l.branches_give_unit;
+    };
+    names = record {
+      numbers_differ = part NumbersDiffer l.threads;
+      objects_made = kept objects_made l.objects_made;
+      names_counted = kept names_counted l.names_counted;
+      counts_from_one = kept counts_from_one l.counts_from_one;
+      few_names = kept few_names l.few_names;
+      counts_bounded = kept_typed counts_bounded l.counts_bounded;
+    };
+    parts = record { parts_are_typed = kept parts_are_typed l.parts_are_typed; options_in_range = kept options_in_range l.options_in_range; holders_short = kept_typed holders_short l.holders_short };
+  }
+
+-- with what is left to show and types an event leads to a coherent cluster
+pub keep_the_rest : EventLaws → EventsKeepTheRest
+keep_the_rest l k e coherent few =
+    at_result (λ d. LeftToShow d.0 → Types d.0 → IsCoherent d.0) (apply k e)
+    (λ d is left types. record { sound = sound_then l k e coherent few d is left types; types = types })
+
+-- and without a plain step it has types
+pub undone_rest : EventLaws → UndoneKeepsTypes → UndoneKeepTheRest
+undone_rest l undone k e coherent few =
+    at_result (λ d. d.1.done ≡ None → LeftToShow d.0 → IsCoherent d.0) (apply k e)
+    (λ d is not left.
+    let types = result_has (λ (x : Cluster × EntryView). x.1.done ≡ None → Types x.0) (apply k e) d is (undone k e coherent few) not in
+    record { sound = sound_then l k e coherent few d is left types; types = types })

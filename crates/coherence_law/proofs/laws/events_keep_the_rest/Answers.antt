@@ -1,0 +1,58 @@
+use Rattle.coherence_law.proofs.laws.events_keep_the_rest.Goals as goal
+use Rattle.coherence_law.proofs.Rest.{EventLaws, keep_the_rest, undone_rest}
+
+pub returns : goal.returns
+returns c =
+    let sums = c.each_event_handed_over.ensures in
+    let laws : EventLaws = record {
+      follow = c.some_follow.ensures;
+      home = sums.home;
+      owner = sums.owner;
+      states = sums.states;
+      users = sums.users;
+      shares = sums.shares;
+      tasks = sums.tasks;
+      threads = sums.threads;
+      answers = sums.answers;
+      pairs = sums.pairs;
+      going = sums.going;
+      homes = sums.homes;
+      results = sums.results;
+      owed = sums.owed;
+      walk_empty = c.threads_keep.ensures.walk_empty;
+      join_walks_nothing = c.threads_keep.ensures.join_walks_nothing;
+      passed_in_a_walk = c.threads_keep.ensures.passed_in_a_walk;
+      parcels_ready = c.threads_keep.ensures.parcels_ready;
+      thread_homes = c.threads_keep.ensures.thread_homes;
+      go_right = c.messages_keep.ensures.go_right;
+      asks_others = c.messages_keep.ensures.asks_others;
+      options_in_range = c.messages_keep.ensures.options_in_range;
+      at_their_home = c.servers_keep.ensures.at_their_home;
+      queue_while_out = c.servers_keep.ensures.queue_while_out;
+      content_without_shares = c.servers_keep.ensures.content_without_shares;
+      par_ends = c.threads_keep_to_code.ensures.par_ends;
+      over_are_bare = c.threads_keep_to_code.ensures.over_are_bare;
+      below_limit = c.names_keep.ensures.below_limit;
+      names_counted = c.names_keep.ensures.names_counted;
+      counts_from_one = c.names_keep.ensures.counts_from_one;
+      few_names = c.names_keep.ensures.few_names;
+      objects_made = c.names_keep.ensures.objects_made;
+      askers_stand = c.askers_keep.ensures.askers_stand;
+      return_right = c.askers_keep.ensures.return_right;
+      marks_in_slots = c.values_keep_to_code.ensures.marks_in_slots;
+      holders_short = c.values_keep_to_code.ensures.holders_short;
+      counts_bounded = c.counts_keep.ensures.counts_bounded;
+      passed_within = c.walks_keep.ensures.passed_within;
+      parts_are_typed = c.parts_keep.ensures.parts_are_typed;
+      carry_what_is_asked = c.answers_keep.ensures;
+      pairs_go_on = c.pairs_keep.ensures.pairs_go_on;
+      branches_give_unit = c.pairs_keep.ensures.branches_give_unit;
+      parents_end = c.pairs_keep.ensures.parents_end;
+      gifts_got = c.gifts_keep.ensures;
+      phases_stand = c.waits_keep.ensures.phases_stand;
+      gifts_fit = c.waits_keep.ensures.gifts_fit;
+      one_content = c.contents_keep.ensures.sums;
+      words = c.events_keep_words.ensures;
+      owners = c.owners_end.ensures.events;
+    } in
+    record { events = keep_the_rest laws; undone = undone_rest laws c.undone_events_keep_types.ensures }

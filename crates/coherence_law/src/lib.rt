@@ -1,0 +1,6 @@
+//! What each event of a coherent cluster keeps, with all laws of events together. There is no code here: a law is the contract of a function that calls other laws.
+#![tactic(auto)]
+
+mod laws;
+
+pub use laws::events_keep_the_rest;
