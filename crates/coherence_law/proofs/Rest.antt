@@ -13,6 +13,9 @@ use Rattle.heap_law.proofs.Ranks.{node_ends, number_ends}
 use Rattle.event_law.specs.Laws.{FewEvents, Gives, EachEventHandedOver, OneState, SharesCounted, OneTaskValue, TaskValuesOwed, NumbersDiffer, OneAnswer, PairsNoted, NotedGoOn, NotedAtHome, OneResult}
 use Rattle.type_law.specs.Names.{names_of}
 use Rattle.type_law.specs.ClusterTypes.{Types, IsCoherent}
+use Rattle.path_law.specs.HeapStore.{HasPaths}
+use Rattle.read_law.specs.Answering.{AnswersTold}
+use Rattle.end_law.specs.Objects.{ObjectsFollow}
 use Rattle.local_law.specs.Laws.{EachEventKeeps, EachCoherentEventKeeps}
 use Rattle.prepare_law.specs.Requests.{WordsHold}
 use Rattle.content_law.specs.Contents.{OneContent, EachEventLeavesOneContent}
@@ -83,6 +86,7 @@ pub record EventLaws : Type 0 where
   pub one_content : EachEventLeavesOneContent
   pub words : EventsKeepWords
   pub owners : EventsThatAgreeEnd
+  pub objects : ObjectsFollow
 
 module _ (l : EventLaws) (k : Cluster) (e : Event) (coherent : IsCoherent k) (few : FewEvents k) (d : Cluster × EntryView) (is : apply k e ≡ Some d) where
   -- of the cluster afterwards: a part, and a sentence by a law that asks for a sound cluster, or for a coherent one
@@ -113,6 +117,28 @@ module _ (l : EventLaws) (k : Cluster) (e : Event) (coherent : IsCoherent k) (fe
 
   words_hold : WordsHold d.0
   words_hold = result_has (λ (x : Cluster × EntryView). WordsHold x.0) (apply k e) d is (l.words k e coherent few)
+
+  paths : Types d.0 → HasPaths d.0
+  paths types =
+      let home = part OneHome l.home in
+      let owner = part OneOwner l.owner in
+      record {
+        types = types;
+        numbers_differ = part NumbersDiffer l.threads;
+        names_counted = kept names_counted l.names_counted;
+        counts_from_one = kept counts_from_one l.counts_from_one;
+        over_are_bare = kept_typed over_are_bare l.over_are_bare;
+        home_of_each = home.home_of_each;
+        owner_of_each = owner.owner_of_each;
+      }
+
+  told : LeftToShow d.0 → AnswersTold d.0
+  told left = record {
+    numbers_differ = part NumbersDiffer l.threads;
+    one_answer = part OneAnswer l.answers;
+    carry_what_is_asked = kept carry_what_is_asked l.carry_what_is_asked;
+    wait_in_turn = left.wait_in_turn;
+  }
 
   pub sound_then : LeftToShow d.0 → Types d.0 → IsSound d.0
   sound_then left types = record {
@@ -147,7 +173,7 @@ module _ (l : EventLaws) (k : Cluster) (e : Event) (coherent : IsCoherent k) (fe
       go_right = kept go_right l.go_right;
       return_right = kept return_right l.return_right;
       askers_stand = kept askers_stand l.askers_stand;
-      objects_there = left.objects_there;
+      objects_there = l.objects d.0 (paths types) words_hold.has_words (told left);
       phases_stand = kept_typed phases_stand l.phases_stand;
       par_ends = kept_typed par_ends l.par_ends;
       pairs_noted = part PairsNoted l.pairs;

@@ -4,7 +4,7 @@ use Rattle.journal.specs.View.{EntryView}
 use Rattle.server_model.specs.declared.event.Event.{Event}
 use Rattle.server_model.specs.Servers.{Cluster}
 use Rattle.server_model.specs.Clusters.{apply}
-use Rattle.heap_law.specs.Coherent.{Holds, Copies, are_issued, different_words, objects_there, taken_stands, taken_is_new}
+use Rattle.heap_law.specs.Coherent.{Holds, Copies, are_issued, different_words, taken_stands, taken_is_new}
 use Rattle.heap_law.specs.Passing.{HavePassed, HaveFollowed}
 use Rattle.heap_law.specs.Sight.{sight}
 use Rattle.heap_law.specs.Turn.{WaitInTurn}
@@ -25,8 +25,6 @@ pub record LeftToShow (k : Cluster) : Type 0 where
   pub have_followed : HaveFollowed (sight k)
   -- who waits for an object or a copy waits for the first hop that wants one
   pub wait_in_turn : WaitInTurn (sight k)
-  -- the object of a request has the message's word and lies where it leads
-  pub objects_there : Holds k objects_there
   -- what a thread has taken for a borrow is the word of the object to which its place leads, which lies there, and no pointer on the place has it
   pub taken_stands : Holds k taken_stands
   pub taken_is_new : Holds k taken_is_new

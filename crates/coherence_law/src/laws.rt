@@ -6,6 +6,7 @@ use agree_law::undone_events_keep_types;
 use ask_law::{answers_keep, gifts_keep, pairs_keep};
 use bound_law::{counts_keep, walks_keep};
 use content_law::contents_keep;
+use end_law::objects_follow;
 use event_law::every::each_event_handed_over;
 use heap_law::laws::some_follow;
 use local_law::{messages_keep, servers_keep, threads_keep, threads_keep_to_code};
@@ -15,7 +16,7 @@ use typed_parts_law::parts_keep;
 use value_law::{askers_keep, names_keep, values_keep_to_code};
 use wait_law::waits_keep;
 
-/// From a coherent cluster in which fewer than 2^31 - 1 events were done, each event of whatever kind, its messages handed over, leads to a coherent one where nine
+/// From a coherent cluster in which fewer than 2^31 - 1 events were done, each event of whatever kind, its messages handed over, leads to a coherent one where eight
 /// sentences hold afterwards, of which no law says yet that each event keeps them, and where it has types; and where no plain step is done it has types.
 pub fn events_keep_the_rest()
     ensures events { EventsKeepTheRest }
@@ -40,5 +41,6 @@ pub fn events_keep_the_rest()
     contents_keep();
     events_keep_words();
     owners_end();
+    objects_follow();
     undone_events_keep_types();
 }

@@ -54,5 +54,6 @@ returns c =
       one_content = c.contents_keep.ensures.sums;
       words = c.events_keep_words.ensures;
       owners = c.owners_end.ensures.events;
+      objects = c.objects_follow.ensures;
     } in
     record { events = keep_the_rest laws; undone = undone_rest laws c.undone_events_keep_types.ensures }
