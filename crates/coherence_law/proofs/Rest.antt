@@ -9,6 +9,7 @@ use Rattle.heap_law.specs.Following.{TasksNoted, MutexesNoted, FollowLaw}
 use Rattle.heap_law.specs.Rooted.{ownings, parents}
 use Rattle.heap_law.specs.Sight.{sight}
 use Rattle.heap_law.specs.Things.{things_of}
+use Rattle.heap_law.proofs.Passing.{passed_law}
 use Rattle.heap_law.proofs.Ranks.{node_ends, number_ends}
 use Rattle.event_law.specs.Laws.{FewEvents, Gives, EachEventHandedOver, OneState, SharesCounted, OneTaskValue, TaskValuesOwed, NumbersDiffer, OneAnswer, PairsNoted, NotedGoOn, NotedAtHome, OneResult}
 use Rattle.type_law.specs.Names.{names_of}
@@ -16,6 +17,7 @@ use Rattle.type_law.specs.ClusterTypes.{Types, IsCoherent}
 use Rattle.path_law.specs.HeapStore.{HasPaths}
 use Rattle.read_law.specs.Answering.{AnswersTold}
 use Rattle.end_law.specs.Objects.{ObjectsFollow}
+use Rattle.end_law.proofs.Passed.{passed_follows}
 use Rattle.local_law.specs.Laws.{EachEventKeeps, EachCoherentEventKeeps}
 use Rattle.prepare_law.specs.Requests.{WordsHold}
 use Rattle.content_law.specs.Contents.{OneContent, EachEventLeavesOneContent}
@@ -156,7 +158,7 @@ module _ (l : EventLaws) (k : Cluster) (e : Event) (coherent : IsCoherent k) (fe
     };
     copies = left.copies;
     walks = record {
-      have_passed = left.have_passed;
+      have_passed = passed_law.from_counts d.0 left.passed_lie_here left.passed_not_copied (passed_follows d.0 (paths types) (kept passed_in_a_walk l.passed_in_a_walk) (kept passed_within l.passed_within));
       passed_in_a_walk = kept passed_in_a_walk l.passed_in_a_walk;
       passed_within = kept passed_within l.passed_within;
       walk_empty = kept walk_empty l.walk_empty;

@@ -4,8 +4,8 @@ use Rattle.journal.specs.View.{EntryView}
 use Rattle.server_model.specs.declared.event.Event.{Event}
 use Rattle.server_model.specs.Servers.{Cluster}
 use Rattle.server_model.specs.Clusters.{apply}
-use Rattle.heap_law.specs.Coherent.{Holds, Copies, are_issued, different_words, taken_stands, taken_is_new}
-use Rattle.heap_law.specs.Passing.{HavePassed, HaveFollowed}
+use Rattle.heap_law.specs.Coherent.{Holds, Copies, are_issued, different_words, passed_lie_here, passed_not_copied, taken_stands, taken_is_new}
+use Rattle.heap_law.specs.Passing.{HaveFollowed}
 use Rattle.heap_law.specs.Sight.{sight}
 use Rattle.heap_law.specs.Turn.{WaitInTurn}
 use Rattle.event_law.specs.Laws.{FewEvents, Gives}
@@ -19,8 +19,9 @@ pub record LeftToShow (k : Cluster) : Type 0 where
   pub different_words : Holds k different_words
   -- copies are present cells, and each that is asked for is one of a clean object
   pub copies : Copies k
-  -- what a write has passed lies at its server, has no copy and isn't stale
-  pub have_passed : HavePassed (sight k)
+  -- what a write has passed lies at its server, and of a box no copy exists
+  pub passed_lie_here : Holds k passed_lie_here
+  pub passed_not_copied : Holds k passed_not_copied
   -- who has followed its place has at hand what it follows
   pub have_followed : HaveFollowed (sight k)
   -- who waits for an object or a copy waits for the first hop that wants one

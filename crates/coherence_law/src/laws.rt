@@ -16,7 +16,7 @@ use typed_parts_law::parts_keep;
 use value_law::{askers_keep, names_keep, values_keep_to_code};
 use wait_law::waits_keep;
 
-/// From a coherent cluster in which fewer than 2^31 - 1 events were done, each event of whatever kind, its messages handed over, leads to a coherent one where eight
+/// From a coherent cluster in which fewer than 2^31 - 1 events were done, each event of whatever kind, its messages handed over, leads to a coherent one where ten
 /// sentences hold afterwards, of which no law says yet that each event keeps them, and where it has types; and where no plain step is done it has types.
 pub fn events_keep_the_rest()
     ensures events { EventsKeepTheRest }
