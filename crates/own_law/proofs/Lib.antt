@@ -1,3 +1,2 @@
-pub mod Gifts
 pub mod Levels
 pub mod Owning

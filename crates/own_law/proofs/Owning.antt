@@ -30,7 +30,7 @@ use Rattle.type_law.specs.Names.{NameTypes, fits, is_there}
 use Rattle.type_law.specs.ClusterTypes.{misfit, content_gift, result_gift, gift_misfit}
 use Rattle.type_law.proofs.Branches.{found}
 use Rattle.own_law.specs.Owning.{Agrees, AgreeingEnd, EventsThatAgreeEnd}
-use Rattle.own_law.proofs.Gifts.{placed, telling, gifts_told}
+use Rattle.drop_law.proofs.GiftValues.{placed, telling, gifts_told}
 use Rattle.own_law.proofs.Levels.{level, own_steps, inside_falls}
 
 is_so : (b : Bool) → other b ≡ 0 → b ≡ true
