@@ -5,7 +5,7 @@ use crate::sharing_cases::{BESIDE, BESIDE_FAULTS, LOCK_FAULTS, LOCKED};
 use crate::thread_cases::{FAULTS, TYPED};
 use borrow_check::{CheckError, Checked, check};
 use fr_base::Lval;
-use fr_parse::parse;
+use fr_grammar::parse;
 use fr_syntax::tokens;
 use std::alloc::Global;
 use std::process::Abort;

@@ -7,7 +7,7 @@ use crate::rows::ROWS;
 use borrow_check::{CheckError, Checked, check};
 use fr_base::{Code, NoMemory};
 use fr_compile::compile;
-use fr_parse::parse;
+use fr_grammar::parse;
 use fr_syntax::{Nodes, Term, Tree, tokens};
 use std::alloc::Global;
 use std::test::Fail;

@@ -1,6 +1,2 @@
-pub mod Grammar
-pub mod Source
-pub mod Reading
-pub mod Growth
-pub mod Table
-pub mod Refusals
+pub mod Canonical
+pub mod Written

@@ -3,8 +3,7 @@
 ghost use Rattle.std.specs.Prelude.{◌≤◌, length};
 ghost use Rattle.fr_syntax.specs.Bounds.{most_bytes};
 
-use fr_parse::parse;
-use fr_print::print;
+use fr_parse::{parse, print};
 use fr_syntax::tokens;
 use std::alloc::Global;
 use std::process::Abort;

@@ -3,9 +3,9 @@ use Rattle.std.proofs.Common.{◌≡◌, ◌∙◌, ◌≤◌, ◌+◌, ℕ, zer
 use Rattle.std.proofs.lemmas.List.{append_assoc, append-nil}
 use Rattle.std.specs.Fmt.{digits}
 use Rattle.fr_terms.specs.Terms.{Text, Term, join_t, let_t, lock_t, print_t}
-use Rattle.fr_print.specs.Canonical.{canonical, words, item_words, more_words}
-use Rattle.fr_print.specs.Written.{spaced}
-use Rattle.fr_print.proofs.PrintLemmas.{program_written}
+use Rattle.fr_parse.specs.Canonical.{canonical, words, item_words, more_words}
+use Rattle.fr_parse.specs.Written.{spaced}
+use Rattle.fr_parse.proofs.PrintLemmas.{program_written}
 use Rattle.gen_load.specs.Pieces.{items_text, more_text, term_text}
 use Rattle.gen_load.specs.Programs.{add_locked, block, counter, counting, handed, handed_from, handing, items, place, print_end, read, shared_round, sharing, times}
 

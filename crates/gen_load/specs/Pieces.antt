@@ -1,8 +1,8 @@
 -- Pieces of a program's text.
 use Rattle.std.specs.Prelude.{ℕ, List}
 use Rattle.fr_terms.specs.Terms.{Term}
-use Rattle.fr_print.specs.Canonical.{words, item_words, more_words}
-use Rattle.fr_print.specs.Written.{spaced}
+use Rattle.fr_parse.specs.Canonical.{words, item_words, more_words}
+use Rattle.fr_parse.specs.Written.{spaced}
 use Rattle.gen_load.specs.Programs.{items}
 
 -- terms as a block's items behind a first one, each token with a space behind it

@@ -2,7 +2,7 @@
 use Rattle.std.specs.Prelude.{ℕ, ◌+◌, ◌/◌, ◌%◌, ◌==◌, zero, suc, pos, List, [], ◌∷◌, ◌++◌, codes, decimal, if◌then◌else◌}
 use Rattle.fr_base.specs.declared.place.Op.TheVariants.{Add}
 use Rattle.fr_terms.specs.Terms.{Text, Spot, Captured, Term, block_t, let_t, assign_t, read_t, borrow_t, number_t, box_t, print_t, arith_t, join_t, mutex_t, dup_t, lock_t, spawn_t, par_t, Items, none, item}
-use Rattle.fr_print.specs.Canonical.{canonical}
+use Rattle.fr_parse.specs.Canonical.{canonical}
 
 -- TERMS, none of which stands anywhere yet
 

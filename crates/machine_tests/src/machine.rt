@@ -1,8 +1,8 @@
 //! The plain machine, step by step, on programs whose steps, waits and labels were worked out by hand.
 
 use borrow_check::{CheckError, Checked, check};
+use fr_grammar::parse;
 use fr_meaning::Pool;
-use fr_parse::parse;
 use fr_syntax::tokens;
 use journal::{Order, OrderLine, read_order};
 use std::alloc::Global;

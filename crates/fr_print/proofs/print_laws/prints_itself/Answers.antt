@@ -1,7 +1,0 @@
-use Rattle.fr_parse.proofs.Programs.{source_once}
-use Rattle.fr_print.proofs.PrintLaw.{prints, read_again, text_tells, same_text}
-use Rattle.fr_print.proofs.SourceTexts.{source_printable}
-use Rattle.fr_print.proofs.print_laws.prints_itself.Goals as goal
-
-pub returns : goal.returns
-returns c = record { source = prints; only = read_again source_once; tells = text_tells source_once; printable = source_printable; same = same_text }

@@ -1,6 +1,0 @@
-use Rattle.std.proofs.Common.{replicate, string_bytes, codes}
-use Rattle.fr_print.specs.Written.{IsWritten}
-use Rattle.fr_print.proofs.printer.path.Given as goal
-
-abbrev pub invariant-stars : goal.invariant-stars
-invariant-stars l = IsWritten (string_bytes l.initial.text) (replicate l.counter (codes "*")) (string_bytes l.text)
