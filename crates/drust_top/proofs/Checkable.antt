@@ -6,7 +6,7 @@ use Rattle.fr_syntax.specs.declared.token.Token.{Token}
 use Rattle.fr_syntax.specs.Arena.{Arena}
 use Rattle.fr_syntax.specs.Meanings.{term_of, IsTree}
 use Rattle.fr_syntax.specs.Tokens.{AreTokens}
-use Rattle.fr_parse.specs.Source.{Spelled, IsSource}
+use Rattle.fr_grammar.specs.Source.{Spelled, IsSource}
 use Rattle.fr_syntax.proofs.NameTexts.{names_apart}
 use Rattle.borrow_check.specs.Rules.{AreDifferentTexts}
 use Rattle.borrow_check.specs.Programs.{IsCheckable}

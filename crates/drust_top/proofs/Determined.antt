@@ -10,7 +10,7 @@ use Rattle.fr_typing.specs.declared.reason.Reason.{Reason}
 use Rattle.fr_typing.proofs.Agree.{exactly_one_lem}
 use Rattle.fr_typing.specs.Finding.{typed, fault}
 use Rattle.fr_typing.specs.Typing.{typing}
-use Rattle.fr_parse.proofs.Programs.{source_once}
+use Rattle.fr_grammar.proofs.Programs.{source_once}
 use Rattle.fr_plain.specs.Run as run_terms
 use Rattle.fr_plain.specs.Run.{Life, alive, over, owing, loose}
 use Rattle.fr_plain.specs.Whole.{Thread, Whole, Stepped, thread_at, is_over, all_over, all_wait, step_of, step, then_labels, go_on, run, main_steps, ending_of, start}

@@ -8,9 +8,9 @@ use Rattle.fr_syntax.specs.declared.kind.TokenKind.TheVariants.{Name, End, LetWo
 use Rattle.fr_syntax.specs.declared.token.Token.{Token}
 use Rattle.fr_syntax.specs.Text.{blanks, text_len}
 use Rattle.fr_syntax.specs.Tokens.{unblanked, first_text, after_text, names_after, Leads, end_at, AreTokens}
-use Rattle.fr_parse.specs.Grammar.{mark_of_op, Has, SpellsPath, SpellsOthers, SpellsNames, SpellsCaptures, Spells, SpellsItems, SpellsMore}
-use Rattle.fr_parse.specs.Source.{IsSource}
-use Rattle.fr_parse.proofs.Complete.{takes_some}
+use Rattle.fr_grammar.specs.Grammar.{mark_of_op, Has, SpellsPath, SpellsOthers, SpellsNames, SpellsCaptures, Spells, SpellsItems, SpellsMore}
+use Rattle.fr_grammar.specs.Source.{IsSource}
+use Rattle.fr_grammar.proofs.Complete.{takes_some}
 use Rattle.fr_plain.specs.Run.{Run, temp, unit_c, number, read, borrow, box_r, arith as arith_r, bind, print, assign, block, spawn, join_r, mutex_r, dup, lock, locked, par, par_end, Parts, last, more, Now, going, constant, temporary, now, settle_more, settle_right, close_last, close, settle, settle_parts, alive, one_if_temporary, leaves, leaves_last, steps_left, steps_in, life_left}
 use Rattle.fr_typing.specs.Finding.{env_after}
 use Rattle.fr_typing.specs.Typing.{typing}

@@ -1,7 +1,7 @@
 -- Steps of orders, one after another.
 use Rattle.std.proofs.Common.{◌≡◌, ℕ, zero, suc, length, take, drop, ◌+◌, ◌-◌, ◌<◌, replicate, arith, List, [], ◌∷◌, ◌++◌, Option, Some, None, refl, sym, ap, ap₂, ◌∙◌, subst, ℤ}
 use Rattle.std.proofs.Common.{length-append}
-use Rattle.std.specs.Prelude.{option_map, slice_get}
+use Rattle.std.specs.Prelude.{option_map, slice_get, Result, Ok, Err, IfOk}
 use Rattle.std.proofs.lemmas.List.{append-nil, append_assoc, replicate-append-replicate, length-replicate, take-append-drop}
 use Rattle.std.proofs.lemmas.Grind.{flat_map-append}
 use Rattle.fr_base.specs.declared.label.Label.{Label}
@@ -19,7 +19,7 @@ use Rattle.fr_terms.specs.Terms.{Term}
 use Rattle.fr_plain.specs.Resolve.{program}
 use Rattle.fr_plain.specs.Whole.{start, ending_of}
 use Rattle.drust_top.specs.declared.words.Command.TheVariants.{Replay}
-use Rattle.drust_top.specs.Replay.{source_in, turns, status_of_ending, replay_text, HasLines, Replays}
+use Rattle.drust_top.specs.Replay.{source_in, turns, status_of_ending, replay_text, HasLines, Replays, ReplaysFrom}
 use Rattle.drust_top.specs.Typed.{IsTyped}
 use Rattle.drust_top.specs.declared.refused.Refused.{Refused}
 use Rattle.drust_top.specs.declared.refused.Refused.TheVariants.{Tokens, Grammar, Form, Fault, Order, NoMemory}
@@ -146,15 +146,18 @@ stops_in s m ls n l (Grammar e) h f g = absurd g
 stops_in s m ls n l (Form place) h f g = absurd g
 stops_in s m ls n l (Fault place why) h f g = absurd g
 
--- a typed program that follows an order is replayed
-pub replays_to : (bytes : List ℕ) (t : Term) (lines : List OrderLine) (from to : Whole) (steps : ℕ) (end : Ending3) (output : List ℤ) (status : ℕ) (text : List ℕ) → IsTyped Replay (source_in bytes) t → HasLines bytes lines → from ≡ start (program t) → Follows from (turns lines) to → steps ≡ length (turns lines) → end ≡ ending_of to → output ≡ to.output → status ≡ status_of_ending end → text ≡ replay_text end steps output → Replays bytes status text
-replays_to bytes t lines from to steps end output status text typed h begins goes counted ends printed is written =
+-- a state that follows an order is replayed from there
+pub replays_from : (from to : Whole) (lines : List OrderLine) (steps : ℕ) (end : Ending3) (output : List ℤ) (status : ℕ) (text : List ℕ) → Follows from (turns lines) to → steps ≡ length (turns lines) → end ≡ ending_of to → output ≡ to.output → status ≡ status_of_ending end → text ≡ replay_text end steps output → ReplaysFrom from lines status text
+replays_from from to lines steps end output status text goes counted ends printed is written =
     record {
-      term = t;
-      lines = lines;
-      order = record { typed = typed; behind = h };
       last = record { state = to; labels = goes.labels };
-      goes = subst (λ (s : Whole). run s (turns lines) ≡ Some (record { state = to; labels = goes.labels })) begins goes.is;
+      goes = goes.is;
       stands = is ∙ ap status_of_ending ends;
       written = written ∙ ap₂ (λ e k. replay_text e k output) ends counted ∙ ap (replay_text (ending_of to) (length (turns lines))) printed;
     }
+
+-- what is replayed from a typed program's start is its order
+pub all_replayed : {A : Type 0} (bytes : List ℕ) (t : Term) (lines : List OrderLine) (from : Whole) (r : Result A Refused) (status : A → ℕ) (text : A → List ℕ) → IsTyped Replay (source_in bytes) t → HasLines bytes lines → from ≡ start (program t) → IfOk r (λ x. ReplaysFrom from lines (status x) (text x)) → IfOk r (λ x. Replays bytes (status x) (text x))
+all_replayed bytes t lines from (Ok x) status text typed h begins is =
+    record { term = t; lines = lines; order = record { typed = typed; behind = h }; replayed = subst (λ (s : Whole). ReplaysFrom s lines (status x) (text x)) begins is }
+all_replayed bytes t lines from (Err why) status text typed h begins is = tt

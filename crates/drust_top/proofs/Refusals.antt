@@ -1,21 +1,22 @@
 -- Why a source has no run: causes, and that they exclude one another.
 use Rattle.std.proofs.Common.{◌≡◌, ◌≢◌, ℕ, List, [], Some, None, sym, ap, ap₂, ◌∙◌, refl, subst}
+use Rattle.std.specs.Prelude.{Result, Ok, Err, IfErr}
 use Rattle.fr_terms.specs.Terms.{Term}
 use Rattle.fr_typing.specs.declared.reason.Reason.{Reason}
 use Rattle.fr_typing.specs.Typing.{Faults}
 use Rattle.fr_typing.proofs.Outcomes.{one_outcome_lem}
 use Rattle.fr_syntax.proofs.OneReading.{one_tokens, one_refusal, never_both}
-use Rattle.fr_parse.specs.declared.fault.ParseError.{ParseError}
-use Rattle.fr_parse.specs.Table.{refusal}
-use Rattle.fr_parse.specs.Source.{IsSource}
-use Rattle.fr_parse.proofs.Programs.{source_once, refused_no_source}
-use Rattle.fr_parse.proofs.FirstRefusal.{spelled_unrefused}
+use Rattle.fr_grammar.specs.declared.fault.ParseError.{ParseError}
+use Rattle.fr_grammar.specs.Table.{refusal}
+use Rattle.fr_grammar.specs.Source.{IsSource}
+use Rattle.fr_grammar.proofs.Programs.{source_once, refused_no_source}
+use Rattle.fr_grammar.proofs.FirstRefusal.{spelled_unrefused}
 use Rattle.drust_top.specs.declared.refused.Refused.{Refused}
 use Rattle.drust_top.specs.declared.refused.Refused.TheVariants.{Tokens, Grammar, Form, Fault, Order, NoMemory}
 use Rattle.drust_top.specs.declared.words.Command.{Command}
 use Rattle.drust_top.specs.declared.words.Command.TheVariants.{Run, Replay}
 use Rattle.drust_top.specs.Forms.{first_later}
-use Rattle.fr_plain.specs.Whole.{start}
+use Rattle.fr_plain.specs.Whole.{Whole, start}
 use Rattle.fr_plain.specs.Resolve.{program}
 use Rattle.journal.specs.declared.order.OrderLine.{OrderLine}
 use Rattle.drust_top.specs.Replay.{source_in, source_length, HasLines, bad_step, IsBadBehind}
@@ -69,6 +70,11 @@ unfollowed_order bytes t lines (Grammar e) typed h s = absurd s
 unfollowed_order bytes t lines (Form place) typed h s = absurd s
 unfollowed_order bytes t lines (Fault place why) typed h s = absurd s
 unfollowed_order bytes t lines NoMemory typed h s = tt
+
+-- the same of what a call answers
+pub unfollowed_answer : {A : Type 0} (bytes : List ℕ) (t : Term) (lines : List OrderLine) (from : Whole) (r : Result A Refused) → IsTyped Replay (source_in bytes) t → HasLines bytes lines → from ≡ start (program t) → IfErr r (IsStoppedIn from lines) → IfErr r (IsUnfollowedBy bytes)
+unfollowed_answer bytes t lines from (Ok x) typed h begins s = tt
+unfollowed_answer bytes t lines from (Err why) typed h begins s = unfollowed_order bytes t lines why typed h (subst (λ (b : Whole). IsStoppedIn b lines why) begins s)
 
 -- bytes that have tokens of a program have no refusal in the table
 parsed : (bytes : List ℕ) (t : Term) (e : ParseError) → IsSource bytes t → IsUnparsed bytes e → ⊥

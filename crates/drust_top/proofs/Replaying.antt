@@ -2,7 +2,7 @@
 use Rattle.std.proofs.Common.{◌≡◌, ℕ, ◌+◌, Bool, true, false, List, [], ◌∷◌, ◌++◌, length, Option, Some, None, refl, sym, ap, ap₂, ◌∙◌, subst, ◌⊎◌, inl, inr}
 use Rattle.std.specs.Prelude.{◌==◌}
 use Rattle.fr_terms.specs.Terms.{Term}
-use Rattle.fr_parse.proofs.Programs.{source_once}
+use Rattle.fr_grammar.proofs.Programs.{source_once}
 use Rattle.fr_plain.specs.Resolve.{program}
 use Rattle.fr_plain.specs.Whole.{Whole, Stepped, then_labels, go_on, run, start, plain, ending_of}
 use Rattle.journal.specs.declared.order.OrderLine.{OrderLine}
@@ -37,9 +37,11 @@ one_replay : (bytes : List ℕ) (s t : ℕ) (x y : List ℕ) → Replays bytes s
 one_replay bytes s t x y h g =
     let term = source_once (source_in bytes) h.term g.term h.order.typed.source g.order.typed.source in
     let lines = lines_once bytes h.lines g.lines h.order.behind g.order.behind in
-    let last : h.last ≡ g.last = Some-same h.last g.last (sym h.goes ∙ ap₂ (λ p ls. plain (program p) (turns ls)) term lines ∙ g.goes) in (
-      h.stands ∙ ap (λ (e : Stepped). status_of_ending (ending_of e.state)) last ∙ sym g.stands,
-      h.written ∙ ap₂ (λ ls (e : Stepped). replay_text (ending_of e.state) (length (turns ls)) e.state.output) lines last ∙ sym g.written,
+    let a = h.replayed in
+    let b = g.replayed in
+    let last : a.last ≡ b.last = Some-same a.last b.last (sym a.goes ∙ ap₂ (λ p ls. plain (program p) (turns ls)) term lines ∙ b.goes) in (
+      a.stands ∙ ap (λ (e : Stepped). status_of_ending (ending_of e.state)) last ∙ sym b.stands,
+      a.written ∙ ap₂ (λ ls (e : Stepped). replay_text (ending_of e.state) (length (turns ls)) e.state.output) lines last ∙ sym b.written,
     )
 
 -- ONE PLACE
@@ -191,13 +193,13 @@ follows_unrefused bytes t ls x why h goes cause = by (of_order bytes why cause)
 -- an input has one reply
 pub one_replied : (bytes : List ℕ) (s t : ℕ) (x y : List ℕ) → Replayed bytes s x → Replayed bytes t y → (s ≡ t) × (x ≡ y)
 one_replied bytes s t x y (followed h) (followed g) = one_replay bytes s t x y h g
-one_replied bytes s t x y (followed h) (unfollowed why g) = absurd (follows_unrefused bytes h.term h.lines h.last why h.order h.goes g)
-one_replied bytes s t x y (unfollowed why h) (followed g) = absurd (follows_unrefused bytes g.term g.lines g.last why g.order g.goes h)
+one_replied bytes s t x y (followed h) (unfollowed why g) = absurd (follows_unrefused bytes h.term h.lines h.replayed.last why h.order h.replayed.goes g)
+one_replied bytes s t x y (unfollowed why h) (followed g) = absurd (follows_unrefused bytes g.term g.lines g.replayed.last why g.order g.replayed.goes h)
 one_replied bytes s t x y (unfollowed why h) (unfollowed other g) = let same = one_replay_cause bytes why other h g in (ap status_of same, ap text_of same)
 
 -- a source with an order of plain steps has the reply of its run
 pub follows_reply : (bytes : List ℕ) (p : Term) (ls : List OrderLine) (last : Stepped) (s : ℕ) (x : List ℕ) → HasOrder bytes p ls → plain (program p) (turns ls) ≡ Some last → Replayed bytes s x → s ≡ status_of_ending (ending_of last.state)
 follows_reply bytes p ls last s x h goes (followed r) =
     (one_replay bytes s (status_of_ending (ending_of last.state)) x (replay_text (ending_of last.state) (length (turns ls)) last.state.output) r
-    (record { term = p; lines = ls; order = h; last = last; goes = goes; stands = refl; written = refl })).0
+    (record { term = p; lines = ls; order = h; replayed = record { last = last; goes = goes; stands = refl; written = refl } })).0
 follows_reply bytes p ls last s x h goes (unfollowed why cause) = absurd (follows_unrefused bytes p ls last why h goes cause)

@@ -8,10 +8,10 @@ use Rattle.fr_syntax.specs.declared.token.Token.{Token}
 use Rattle.fr_syntax.specs.declared.token.TokenError.{TokenError}
 use Rattle.fr_syntax.specs.declared.token.TokenError.TheVariants as token
 use Rattle.fr_syntax.specs.Tokens.{AreTokens, IsRefused}
-use Rattle.fr_parse.specs.declared.fault.ParseError.{ParseError}
-use Rattle.fr_parse.specs.declared.fault.ParseError.TheVariants as parse
-use Rattle.fr_parse.specs.Table.{refusal}
-use Rattle.fr_parse.specs.Source.{IsSource}
+use Rattle.fr_grammar.specs.declared.fault.ParseError.{ParseError}
+use Rattle.fr_grammar.specs.declared.fault.ParseError.TheVariants as parse
+use Rattle.fr_grammar.specs.Table.{refusal}
+use Rattle.fr_grammar.specs.Source.{IsSource}
 use Rattle.drust_top.specs.declared.words.Command.{Command}
 use Rattle.drust_top.specs.declared.words.Command.TheVariants.{Run, Replay}
 use Rattle.drust_top.specs.Typed.{IsAccepted}

@@ -70,15 +70,19 @@ pub record HasOrder (bytes : List ℕ) (t : Term) (lines : List OrderLine) : Typ
   pub typed : IsTyped Replay (source_in bytes) t
   pub behind : HasLines bytes lines
 
--- each step of the order is a plain step of the program; the text tells the state that they lead to
+-- from this state each step of the lines is a plain step; the text tells the state that they lead to
+pub record ReplaysFrom (from : Whole) (lines : List OrderLine) (status : ℕ) (text : List ℕ) : Type 0 where
+  pub last : Stepped
+  pub goes : run from (turns lines) ≡ Some last
+  pub stands : status ≡ status_of_ending (ending_of last.state)
+  pub written : text ≡ replay_text (ending_of last.state) (length (turns lines)) last.state.output
+
+-- each step of the order is a plain step of the program, from its start
 pub record Replays (bytes : List ℕ) (status : ℕ) (text : List ℕ) : Type 0 where
   pub term : Term
   pub lines : List OrderLine
   pub order : HasOrder bytes term lines
-  pub last : Stepped
-  pub goes : plain (program term) (turns lines) ≡ Some last
-  pub stands : status ≡ status_of_ending (ending_of last.state)
-  pub written : text ≡ replay_text (ending_of last.state) (length (turns lines)) last.state.output
+  pub replayed : ReplaysFrom (start (program term)) lines status text
 
 -- WHERE AN ORDER IS REFUSED
 

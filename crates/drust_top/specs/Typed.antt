@@ -5,7 +5,7 @@ use Rattle.fr_typing.specs.Sequential.{IsSequential}
 use Rattle.fr_typing.specs.Kinds.{Kind}
 use Rattle.fr_typing.specs.Places.{Env}
 use Rattle.fr_typing.specs.Typing.{Types}
-use Rattle.fr_parse.specs.Source.{IsSource}
+use Rattle.fr_grammar.specs.Source.{IsSource}
 use Rattle.drust_top.specs.declared.words.Command.{Command}
 use Rattle.drust_top.specs.declared.words.Command.TheVariants.{Run, Replay}
 

@@ -6,7 +6,7 @@ ghost use Rattle.drust_top.specs.declared.refused.Refused.TheVariants.{Fault};
 
 use crate::report::add_count;
 use fr_base::NoMemory;
-use fr_parse::ParseError;
+use fr_grammar::ParseError;
 use fr_syntax::TokenError;
 use fr_typing::Reason;
 use std::alloc::Global;

@@ -4,7 +4,7 @@ ghost use Rattle.std.specs.Prelude.{◌≡◌, ◌≤◌, ◌<◌, ◌+◌, ◌^
 ghost use Rattle.journal.specs.OrderFaults.{IsRefusedOrNoMemory};
 ghost use Rattle.fr_meaning.specs.PoolView.{whole_of, steps_left_of};
 ghost use Rattle.drust_top.specs.Headline.{Replayed, limit};
-ghost use Rattle.drust_top.specs.Replay.{source_length as source_size, turns, ending_text as text_of_ending, replay_text as text_of_replay, status_of_ending, HasLines, Replays};
+ghost use Rattle.drust_top.specs.Replay.{source_length as source_size, turns, ending_text as text_of_ending, replay_text as text_of_replay, status_of_ending, HasLines, Replays, ReplaysFrom};
 ghost use Rattle.drust_top.specs.Runs.{Follows, IsUnfollowedBy, IsStop, IsStopped, IsStoppedIn, IsUnordered, AreNoLines};
 
 use crate::refused::Refused;
@@ -141,6 +141,18 @@ fn replay_text(
     Ok(text)
 }
 
+// The status and the text of a pool's run under an order. (It has the pool by reference, since each way out of a function that owns one drops all that it keeps.)
+fn follow_order(alloc: Global, pool: &mut Pool, order: &Order) -> Result<(u8, String), Refused>
+    requires few { steps_left_of pool.old < 2 ^ 64 }
+    ensures replays { IfOk result (λ r. ReplaysFrom (whole_of pool.old) order.now.items r.0 (string_bytes r.1)) }
+    ensures stopped { IfErr result (IsStoppedIn (whole_of pool.old) order.now.items) }
+{
+    let steps = follow(pool, order)?;
+    let ending = pool.ending();
+    let text = replay_text(alloc, ending, steps, pool.output())?;
+    Ok((status_of(ending), text))
+}
+
 // The status and the text of the run of a source's program under the order behind it.
 fn follow_source(alloc: Global, bytes: &[u8]) -> Result<(u8, String), Refused>
     requires { length bytes.now ≤ limit }
@@ -151,10 +163,7 @@ fn follow_source(alloc: Global, bytes: &[u8]) -> Result<(u8, String), Refused>
     let checked = checked_source(alloc, Command::Replay, &bytes[..source])?;
     let order = order_behind(alloc, bytes, source)?;
     let mut pool = Pool::new(alloc, &checked)?;
-    let steps = follow(&mut pool, &order)?;
-    let ending = pool.ending();
-    let text = replay_text(alloc, ending, steps, pool.output())?;
-    Ok((status_of(ending), text))
+    follow_order(alloc, &mut pool, &order)
 }
 
 /// The status and the text of a replay, or of the refusal of it. It takes time in the input and in the steps of the order up to
